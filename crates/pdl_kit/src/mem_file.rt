@@ -1,0 +1,10 @@
+// A file in memory.
+use crate::name::Name;
+use crate::seq::Seq;
+
+/// A file in memory.
+#[derive(Drop, Debug, Clone, PartialEq, Eq)]
+pub struct MemFile {
+    pub name: Name,
+    pub bytes: Seq<u8>,
+}

@@ -1,0 +1,11 @@
+// A memory's declaration.
+use crate::name::Name;
+
+/// A memory as it is declared: its name, the bits of a word (1 to 64), how many words it has, and whether its replies may be late.
+#[derive(Drop, Debug, Clone, PartialEq, Eq)]
+pub struct MemInfo {
+    pub name: Name,
+    pub width: u8,
+    pub depth: u32,
+    pub delayed: bool,
+}
