@@ -1,0 +1,82 @@
+-- Words of w bits: whole numbers below 2 ^ w, with arithmetic modulo 2 ^ w.
+use Rattle.std.specs.Prelude.{ℕ, zero, suc, ◌+◌, ◌-◌, ◌*◌, ◌/◌, ◌%◌, ◌^◌, ◌==◌, not, nat_lt, Bool, if◌then◌else◌, bit_and, bit_or, bit_xor}
+
+-- 1 where the test passes, else 0
+abbrev pub bit : Bool → ℕ
+bit b = if b then 1 else 0
+
+-- the largest word
+unfoldable pub mask : ℕ → ℕ
+mask w = 2 ^ w - 1
+
+unfoldable pub add : ℕ → ℕ → ℕ → ℕ
+add w a b = (a + b) % 2 ^ w
+
+unfoldable pub sub : ℕ → ℕ → ℕ → ℕ
+sub w a b = (a + 2 ^ w - b) % 2 ^ w
+
+unfoldable pub mul : ℕ → ℕ → ℕ → ℕ
+mul w a b = a * b % 2 ^ w
+
+-- each bit the other way
+unfoldable pub complement : ℕ → ℕ → ℕ
+complement w a = 2 ^ w - 1 - a
+
+-- bit by bit
+unfoldable pub and : ℕ → ℕ → ℕ
+and a b = bit_and a b
+
+unfoldable pub or : ℕ → ℕ → ℕ
+or a b = bit_or a b
+
+unfoldable pub xor : ℕ → ℕ → ℕ
+xor a b = bit_xor a b
+
+unfoldable pub equal : ℕ → ℕ → ℕ
+equal a b = bit (a == b)
+
+unfoldable pub differ : ℕ → ℕ → ℕ
+differ a b = bit (not (a == b))
+
+unfoldable pub less : ℕ → ℕ → ℕ
+less a b = bit (nat_lt a b)
+
+-- two's complement moved up by half of its range, which keeps its order
+abbrev pub raised : ℕ → ℕ → ℕ
+raised w a = (a + 2 ^ (w - 1)) % 2 ^ w
+
+-- less as two's complement
+unfoldable pub lts : ℕ → ℕ → ℕ → ℕ
+lts w a b = bit (nat_lt (raised w a) (raised w b))
+
+-- shifted by b places and filled with zeros; nothing is left where b is w or more
+unfoldable pub shl : ℕ → ℕ → ℕ → ℕ
+shl w a b = if nat_lt b w then a * 2 ^ b % 2 ^ w else 0
+
+unfoldable pub shr : ℕ → ℕ → ℕ → ℕ
+shr w a b = if nat_lt b w then a / 2 ^ b else 0
+
+-- the bits from high down to low
+unfoldable pub slice : ℕ → ℕ → ℕ → ℕ
+slice high low a = a / 2 ^ low % 2 ^ (high + 1 - low)
+
+-- a above the v bits of b
+unfoldable pub cat : ℕ → ℕ → ℕ → ℕ
+cat v a b = a * 2 ^ v + b
+
+-- zeros above
+unfoldable pub zext : ℕ → ℕ
+zext a = a
+
+-- the top bit of the w bits of a above them, n bits together
+unfoldable pub sext : ℕ → ℕ → ℕ → ℕ
+sext w n a = (raised w a + 2 ^ n - 2 ^ (w - 1)) % 2 ^ n
+
+-- the first where the choice is 1, else the second
+unfoldable pub mux : ℕ → ℕ → ℕ → ℕ
+mux c a b = if c == 1 then a else b
+
+-- k copies of the u bits of a, each above those before it
+unfoldable pub rep : ℕ → ℕ → ℕ → ℕ
+rep u zero a = 0
+rep u (suc k) a = rep u k a * 2 ^ u + a
