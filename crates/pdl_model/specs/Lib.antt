@@ -1,0 +1,12 @@
+pub mod Tree
+pub mod Flat
+pub mod Flatten
+pub mod Sequential
+pub mod Lines
+pub mod Stages
+pub mod Locks
+pub mod Machine
+pub mod Moves
+pub mod Cycle
+pub mod Promises
+pub mod Sound
