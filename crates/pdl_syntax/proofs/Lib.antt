@@ -1,0 +1,4 @@
+mod Examples
+mod Values
+mod Steps
+mod Places

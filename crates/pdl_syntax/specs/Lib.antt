@@ -1,0 +1,9 @@
+pub mod Tokens
+pub mod Cursor
+pub mod Fitting
+pub mod Pieces
+pub mod Spelt
+pub mod View
+pub mod Counter
+pub mod Text
+pub mod Read

@@ -1,0 +1,30 @@
+// Why a source text was not taken.
+ghost use Rattle.std.specs.Prelude.{◌≡◌};
+ghost use Rattle.pdl_syntax.specs.declared.error.ParseError.TheVariants.{NoMemory as no_memory};
+
+use pdl_kit::{NoMemory, Rule};
+use std::alloc::AllocError;
+
+/// Why a source text was not taken: the line (counted from 1) of the first token out of place (rule G1), a broken limit with its line, or want of memory.
+#[derive(Clone, Copy, PartialEq, Eq, Debug)]
+pub enum ParseError {
+    Grammar { line: u32 },
+    Limit { rule: Rule, line: u32 },
+    NoMemory,
+}
+
+impl From<NoMemory> for ParseError {
+    ghost from_gives = { λ _ e. e ≡ no_memory };
+
+    fn from(_e: NoMemory) -> ParseError {
+        ParseError::NoMemory
+    }
+}
+
+impl From<AllocError> for ParseError {
+    ghost from_gives = { λ _ e. e ≡ no_memory };
+
+    fn from(_e: AllocError) -> ParseError {
+        ParseError::NoMemory
+    }
+}
