@@ -1,0 +1,221 @@
+-- A source that is accepted, and for each rule one that breaks it, with the line; computed.
+use Prim.Native.String.{String}
+use Rattle.std.specs.Prelude.{true, false, ◌≡◌, ℕ, ◌+◌, List, [], ◌∷◌, ◌++◌, replicate, Option, Some, None, refl}
+use Rattle.pdl_kit.specs.declared.rule.Rule.{Rule}
+use Rattle.pdl_kit.specs.declared.rule.Rule.TheVariants.{Z4, Z7, N1, N2, N3, W1, W2, W3, W4, W5, W6, F5, L1, L3, L4, L5, L6, L7, S1}
+use Rattle.pdl_model.specs.Tree.{ZeroExtend, SignExtend, Cat, Choose, R, W, If, stmts_of, Pipe}
+use Rattle.pdl_rules.specs.Places.{Parameter, Statement}
+use Rattle.pdl_rules.specs.Limits.{breaks_z2, breaks_z5}
+use Rattle.pdl_rules.specs.Refusal.{Refused, refusal}
+use Rattle.pdl_rules.proofs.Texts.{on_line, number, literal, constant, variable, slice, plus, Line, bind, read, write, reserve, block, release, call, queue, param, comb, whole, pipe, from_line}
+
+-- the refusal of a short source
+abbrev of_pipe : Pipe → Option Refused
+of_pipe p = refusal [] p
+
+abbrev at_line : Rule → ℕ → Option Refused
+at_line r k = Some (record { rule = r; line = k })
+
+-- the body of a pipe that is accepted: the address, a write through the lock, and the call
+abbrev address : Line
+address = bind "a" (slice "n" 1 0)
+
+abbrev value : Line
+value = bind "v" (ZeroExtend (variable "n") (number 8))
+
+abbrev written : List Line
+written = reserve "m" "a" W ∷ block "m" "a" ∷ write "m" "a" (variable "v") ∷ release "m" "a" ∷ []
+
+abbrev next : Line
+next = call (plus (variable "n") (constant 4 1) ∷ [])
+
+accepted : of_pipe (pipe (address ∷ value ∷ written ++ next ∷ [])) ≡ None
+accepted = refl
+
+-- a read and a write, each with its reservation, and a read of the memory without lock
+reads_and_writes :
+    of_pipe (pipe (address ∷ reserve "m" "a" R ∷ block "m" "a" ∷ read "x" "m" "a" ∷ read "y" "t" "a" ∷ release "m" "a"
+    ∷ bind "b" (slice "n" 3 2) ∷ reserve "m" "b" W ∷ block "m" "b" ∷ write "m" "b" (plus (variable "x") (variable "y")) ∷ release "m" "b" ∷ next ∷ []))
+    ≡ None
+reads_and_writes = refl
+
+-- LIMITS
+
+seventeen_memories : of_pipe (whole (param "n" 4 ∷ []) (replicate 16 (comb 2 "m" 8 4 None) ++ comb 9 "m" 8 4 None ∷ []) (next ∷ []) (literal 4 0 ∷ [])) ≡ at_line Z4 9
+seventeen_memories = refl
+
+wide_parameter : of_pipe (whole (param "n" 65 ∷ []) [] (next ∷ []) (literal 4 0 ∷ [])) ≡ at_line Z7 1
+wide_parameter = refl
+
+no_power_of_two : of_pipe (whole (param "n" 4 ∷ []) (comb 2 "m" 8 4 None ∷ comb 5 "t" 8 6 None ∷ []) (next ∷ []) (literal 4 0 ∷ [])) ≡ at_line Z7 5
+no_power_of_two = refl
+
+no_size : of_pipe (whole (param "n" 4 ∷ []) (comb 2 "m" 8 4 (queue 3) ∷ []) (next ∷ []) (literal 4 0 ∷ [])) ≡ at_line Z7 2
+no_size = refl
+
+wide_literal : of_pipe (pipe (address ∷ bind "v" (constant 65 0) ∷ next ∷ [])) ≡ at_line Z7 4
+wide_literal = refl
+
+-- a limit is broken by the first place over it, and by no other
+first_over : breaks_z2 (replicate 1024 (Statement (next 7) [])) (Statement (next 8) []) ≡ true
+first_over = refl
+
+not_yet_over : breaks_z2 (replicate 1023 (Statement (next 7) [])) (Statement (next 8) []) ≡ false
+not_yet_over = refl
+
+one_binding_too_many : breaks_z5 (Parameter (param "n" 4) ∷ replicate 511 (Statement (address 7) [])) (Statement (address 8) []) ≡ true
+one_binding_too_many = refl
+
+-- NAMES
+
+no_variable : of_pipe (pipe (address ∷ bind "b" (variable "k") ∷ next ∷ [])) ≡ at_line N1 4
+no_variable = refl
+
+-- a variable where a memory has to stand
+no_memory : of_pipe (pipe (address ∷ read "x" "n" "a" ∷ next ∷ [])) ≡ at_line N1 4
+no_memory = refl
+
+twice_defined : of_pipe (pipe (address ∷ bind "b" (variable "n") ∷ address ∷ next ∷ [])) ≡ at_line N2 5
+twice_defined = refl
+
+named_as_the_pipe : of_pipe (pipe (bind "p" (variable "n") ∷ next ∷ [])) ≡ at_line N2 3
+named_as_the_pipe = refl
+
+-- a name of two kinds breaks the rule on definitions alone
+of_two_kinds : of_pipe (pipe (bind "m" (slice "n" 1 0) ∷ read "x" "m" "m" ∷ next ∷ [])) ≡ at_line N2 3
+of_two_kinds = refl
+
+used_before : of_pipe (pipe (bind "b" (variable "a") ∷ address ∷ next ∷ [])) ≡ at_line N3 3
+used_before = refl
+
+used_in_itself : of_pipe (pipe (bind "b" (variable "b") ∷ next ∷ [])) ≡ at_line N3 3
+used_in_itself = refl
+
+-- WIDTHS
+
+unequal : of_pipe (pipe (address ∷ call (plus (variable "n") (constant 8 1) ∷ []) ∷ [])) ≡ at_line W1 4
+unequal = refl
+
+too_large : of_pipe (pipe (address ∷ bind "b" (constant 4 16) ∷ next ∷ [])) ≡ at_line W2 4
+too_large = refl
+
+too_large_at_start : of_pipe (whole (param "n" 4 ∷ []) [] (next ∷ []) (literal 4 16 ∷ [])) ≡ at_line W2 5
+too_large_at_start = refl
+
+slice_past_the_end : of_pipe (pipe (bind "b" (slice "n" 4 0) ∷ next ∷ [])) ≡ at_line W2 3
+slice_past_the_end = refl
+
+slice_the_wrong_way : of_pipe (pipe (bind "b" (slice "n" 1 2) ∷ next ∷ [])) ≡ at_line W2 3
+slice_the_wrong_way = refl
+
+extended_to_less : of_pipe (pipe (bind "b" (ZeroExtend (variable "n") (number 3)) ∷ next ∷ [])) ≡ at_line W2 3
+extended_to_less = refl
+
+extended_too_far : of_pipe (pipe (bind "b" (SignExtend (variable "n") (number 65)) ∷ next ∷ [])) ≡ at_line W2 3
+extended_too_far = refl
+
+too_many_together : of_pipe (pipe (bind "b" (ZeroExtend (variable "n") (number 64)) ∷ bind "c" (Cat (variable "b") (variable "n")) ∷ next ∷ [])) ≡ at_line W2 4
+too_many_together = refl
+
+wide_condition : of_pipe (pipe (bind "b" (Choose (variable "n") (variable "n") (variable "n")) ∷ next ∷ [])) ≡ at_line W3 3
+wide_condition = refl
+
+wide_address : of_pipe (pipe (read "x" "t" "n" ∷ next ∷ [])) ≡ at_line W4 3
+wide_address = refl
+
+too_many_arguments : of_pipe (pipe (call (variable "n" ∷ variable "n" ∷ []) ∷ [])) ≡ at_line W5 3
+too_many_arguments = refl
+
+wide_argument_at_start : of_pipe (whole (param "n" 4 ∷ []) [] (next ∷ []) (literal 5 0 ∷ [])) ≡ at_line W5 5
+wide_argument_at_start = refl
+
+narrow_value : of_pipe (pipe (address ∷ write "m" "a" (variable "n") ∷ next ∷ [])) ≡ at_line W6 4
+narrow_value = refl
+
+-- LOCKS
+
+no_lock : of_pipe (pipe (address ∷ value ∷ reserve "t" "a" R ∷ next ∷ [])) ≡ at_line F5 5
+no_lock = refl
+
+write_without_lock : of_pipe (pipe (address ∷ value ∷ write "t" "a" (variable "v") ∷ next ∷ [])) ≡ at_line F5 5
+write_without_lock = refl
+
+read_without_block : of_pipe (pipe (address ∷ reserve "m" "a" R ∷ read "x" "m" "a" ∷ block "m" "a" ∷ release "m" "a" ∷ next ∷ [])) ≡ at_line L1 5
+read_without_block = refl
+
+read_of_a_write : of_pipe (pipe (address ∷ reserve "m" "a" W ∷ block "m" "a" ∷ read "x" "m" "a" ∷ next ∷ [])) ≡ at_line L1 6
+read_of_a_write = refl
+
+released_twice : of_pipe (pipe (address ∷ value ∷ written ++ release "m" "a" ∷ next ∷ [])) ≡ at_line L1 9
+released_twice = refl
+
+late_reservation : of_pipe (pipe (address ∷ value ∷ bind "b" (slice "n" 3 2) ∷ written ++ reserve "m" "b" R ∷ block "m" "b" ∷ release "m" "b" ∷ next ∷ [])) ≡ at_line L3 10
+late_reservation = refl
+
+read_after_write :
+    of_pipe (pipe (address ∷ value ∷ bind "b" (slice "n" 3 2) ∷ reserve "m" "b" R ∷ block "m" "b" ∷ written ++ read "x" "m" "b" ∷ release "m" "b" ∷ next ∷ []))
+    ≡ at_line L3 12
+read_after_write = refl
+
+two_writes :
+    of_pipe (pipe (address ∷ value ∷ bind "b" (slice "n" 3 2) ∷ written ++ reserve "m" "b" W ∷ block "m" "b" ∷ write "m" "b" (variable "v") ∷ release "m" "b" ∷ next ∷ []))
+    ≡ at_line L4 10
+two_writes = refl
+
+reserved_again : of_pipe (pipe (address ∷ reserve "m" "a" R ∷ reserve "m" "a" R ∷ block "m" "a" ∷ release "m" "a" ∷ next ∷ [])) ≡ at_line L5 5
+reserved_again = refl
+
+never_written : of_pipe (pipe (address ∷ reserve "m" "a" W ∷ block "m" "a" ∷ release "m" "a" ∷ next ∷ [])) ≡ at_line L6 6
+never_written = refl
+
+written_twice :
+    of_pipe (pipe (address ∷ value ∷ reserve "m" "a" W ∷ block "m" "a" ∷ write "m" "a" (variable "v") ∷ write "m" "a" (variable "v") ∷ release "m" "a" ∷ next ∷ []))
+    ≡ at_line L6 9
+written_twice = refl
+
+never_released : of_pipe (pipe (address ∷ reserve "m" "a" R ∷ next ∷ [])) ≡ at_line L7 6
+never_released = refl
+
+-- CALLS
+
+two_calls : of_pipe (pipe (next ∷ address ∷ next ∷ [])) ≡ at_line S1 5
+two_calls = refl
+
+no_call : of_pipe (pipe (address ∷ [])) ≡ at_line S1 4
+no_call = refl
+
+-- PATHS
+
+-- an `if` on the line k
+abbrev choice : String → List Line → List Line → Line
+choice g when otherwise k = If (on_line k) (variable g) (stmts_of (from_line (k + 10) when)) (stmts_of (from_line (k + 20) otherwise))
+
+-- what one branch leaves out is missing on its path
+blocked_on_one_path :
+    of_pipe (pipe (address ∷ bind "g" (slice "n" 0 0) ∷ reserve "m" "a" R ∷ choice "g" (block "m" "a" ∷ []) [] ∷ release "m" "a" ∷ next ∷ [])) ≡ at_line L1 7
+blocked_on_one_path = refl
+
+-- two choices on one variable go the same way
+same_way :
+    of_pipe (pipe (address ∷ bind "g" (slice "n" 0 0)
+    ∷ choice "g" (reserve "m" "a" R ∷ []) [] ∷ choice "g" (block "m" "a" ∷ release "m" "a" ∷ []) [] ∷ next ∷ []))
+    ≡ None
+same_way = refl
+
+defined_on_one_path :
+    of_pipe (pipe (bind "g" (slice "n" 0 0) ∷ choice "g" (address ∷ []) [] ∷ read "x" "t" "a" ∷ next ∷ [])) ≡ at_line N3 5
+defined_on_one_path = refl
+
+-- ORDER
+
+-- of two rules of one letter the lower, though its place is later
+lower_rule_first : of_pipe (pipe (bind "b" (constant 4 16) ∷ call (plus (variable "n") (constant 8 1) ∷ []) ∷ [])) ≡ at_line W1 4
+lower_rule_first = refl
+
+-- of two places the lower
+lower_place_first : of_pipe (pipe (bind "b" (constant 4 16) ∷ bind "c" (constant 4 17) ∷ next ∷ [])) ≡ at_line W2 3
+lower_place_first = refl
+
+-- of two letters the earlier
+earlier_letter_first : of_pipe (pipe (bind "b" (constant 4 16) ∷ next ∷ bind "c" (variable "k") ∷ next ∷ [])) ≡ at_line N1 5
+earlier_letter_first = refl

@@ -1,0 +1,91 @@
+-- Short words to write out a tree with its lines.
+use Prim.Native.String.{String}
+use Rattle.std.specs.Prelude.{ℕ, ◌+◌, false, List, [], ◌∷◌, Option, Some, None, codes, length}
+use Rattle.pdl_model.specs.Tree.{Span, Ident, Number, Literal, Add, Expr, Constant, Variable, Slice, Binary, Location, Kind, Stmt, CombRead, Bind, Write, Reserve, Block, Release, Call, stmts_of, Queue, LockDecl, Param, Mem, Pipe}
+
+-- the byte 0 of a line
+abbrev pub on_line : ℕ → Span
+on_line k = record { start = 0; end = 0; line = k }
+
+abbrev pub ident : ℕ → String → Ident
+ident k x = record { name = codes x; span = on_line k }
+
+abbrev pub number : ℕ → Number
+number n = record { value = n; span = on_line 0 }
+
+abbrev pub literal : ℕ → ℕ → Literal
+literal width value = record { width = width; value = Some value; span = on_line 0 }
+
+abbrev pub constant : ℕ → ℕ → Expr
+constant width value = Constant (literal width value)
+
+abbrev pub variable : String → Expr
+variable x = Variable (ident 0 x)
+
+abbrev pub slice : String → ℕ → ℕ → Expr
+slice x high low = Slice (ident 0 x) (number high) (number low)
+
+abbrev pub plus : Expr → Expr → Expr
+plus a b = Binary Add a b
+
+abbrev pub location : String → String → Location
+location m a = record { mem = ident 0 m; address = ident 0 a }
+
+-- STATEMENTS, each on the line that it is told
+
+abbrev pub Line : Type 0
+Line = ℕ → Stmt
+
+abbrev pub bind : String → Expr → Line
+bind x e k = Bind (on_line k) (ident k x) e
+
+abbrev pub read : String → String → String → Line
+read x m a k = CombRead (on_line k) (ident k x) (location m a)
+
+abbrev pub write : String → String → Expr → Line
+write m a e k = Write (on_line k) (location m a) e
+
+abbrev pub reserve : String → String → Kind → Line
+reserve m a kind k = Reserve (on_line k) (location m a) kind
+
+abbrev pub block : String → String → Line
+block m a k = Block (on_line k) (location m a)
+
+abbrev pub release : String → String → Line
+release m a k = Release (on_line k) (location m a)
+
+abbrev pub call : List Expr → Line
+call args k = Call (on_line k) args
+
+-- statements on the lines from k on, one a line
+abbrev pub from_line : ℕ → List Line → List Stmt
+from_line k [] = []
+from_line k (s ∷ ss) = s k ∷ from_line (k + 1) ss
+
+-- PIPES
+
+abbrev pub queue : ℕ → Option LockDecl
+queue size = Some (record { kind = Queue; size = number size })
+
+abbrev pub param : String → ℕ → Param
+param x width = record { name = ident 1 x; width = number width }
+
+abbrev pub comb : ℕ → String → ℕ → ℕ → Option LockDecl → Mem
+comb k m width depth lock =
+    record { name = ident k m; width = number width; depth = number depth; delayed = false; lock = lock }
+
+-- a pipe p with its parameters on line 1, its memories, its body from line 3 on, and its end and start clause on the lines after it
+abbrev pub whole : List Param → List Mem → List Line → List Literal → Pipe
+whole params mems body args =
+    record {
+      name = ident 1 "p";
+      params = params;
+      mems = mems;
+      body = stmts_of (from_line 3 body);
+      end = on_line (3 + length body);
+      start = record { span = on_line (4 + length body); name = ident (4 + length body) "p"; args = args };
+    }
+
+-- a pipe with a parameter n of 4 bits, a locked memory m and a memory t without lock, each of 4 words of 8 bits, and this body
+abbrev pub pipe : List Line → Pipe
+pipe body = whole (param "n" 4 ∷ []) (comb 2 "m" 8 4 (queue 1) ∷ comb 2 "t" 8 4 None ∷ []) body (literal 4 0 ∷ [])

@@ -1,0 +1,67 @@
+-- A source that is not refused breaks no rule at any place.
+use Rattle.std.proofs.Common.{◌≡◌, refl, ℕ, zero, suc, Bool, true, false, List, [], ◌∷◌, ◌++◌, get_or, Option, Some, None, if◌then◌else◌, subst}
+use Rattle.pdl_kit.specs.declared.rule.Rule.{Rule}
+use Rattle.pdl_kit.specs.declared.rule.Rule.TheVariants.{Z1, Z2, Z3, Z4, Z5, Z6, Z7, N1, N2, N3, W1, W2, W3, W4, W5, W6, F5, L1, L3, L4, L5, L6, L7, S1, S5}
+use Rattle.pdl_model.specs.Tree.{Pipe}
+use Rattle.pdl_rules.specs.Places.{Place, places, line_of}
+use Rattle.pdl_rules.specs.Limits.{is_too_long}
+use Rattle.pdl_rules.specs.Refusal.{breaks, limits, after_limits, broken_line, refused_at, Refused, first_broken, refusal, KeepsRules}
+use Rattle.pdl_rules.proofs.Straight.{Each, each_back}
+
+-- an answer that is none comes from neither side
+no_line : (b : Bool) (line : ℕ) (others : Option ℕ) → (if b then Some line else others) ≡ None → (b ≡ false) × (others ≡ None)
+no_line true line others e = cc
+no_line false line others e = (refl, e)
+
+no_refusal : (r : Rule) (line : Option ℕ) (others : Option Refused) → refused_at r line others ≡ None → (line ≡ None) × (others ≡ None)
+no_refusal r (Some line) others e = cc
+no_refusal r None others e = (refl, e)
+
+-- a rule that has no lowest place is broken nowhere
+each_unbroken : (r : Rule) (p : Pipe) (xs before : List Place) → broken_line r p before xs ≡ None → Each (λ front x. breaks r p front x ≡ false) before xs
+each_unbroken r p [] before e = tt
+each_unbroken r p (x ∷ xs) before e =
+    let parts = no_line (breaks r p before x) (line_of x) (broken_line r p (before ++ x ∷ []) xs) e in
+    (parts.0, each_unbroken r p xs (before ++ x ∷ []) parts.1)
+
+-- nor is the k-th of some rules, if none of them is broken first; a number past their end stands for a rule that is never broken
+unbroken : (p : Pipe) (rs : List Rule) (k : ℕ) → first_broken rs p ≡ None → (before : List Place) (x : Place) (later : List Place) → places p ≡ before ++ x ∷ later → breaks (get_or rs k S5) p before x ≡ false
+unbroken p [] k e before x later same = refl
+unbroken p (r ∷ rs) zero e before x later same =
+    let none = each_unbroken r p (places p) [] (no_refusal r (broken_line r p [] (places p)) (first_broken rs p) e).0 in
+    (each_back (λ front y. breaks r p front y ≡ false) before (x ∷ later) [] (subst (Each (λ front y. breaks r p front y ≡ false) []) same none)).0
+unbroken p (r ∷ rs) (suc k) e before x later same = unbroken p rs k (no_refusal r (broken_line r p [] (places p)) (first_broken rs p) e).1 before x later same
+
+pub keeps_unbroken : (p : Pipe) → first_broken (limits ++ after_limits) p ≡ None → KeepsRules p
+keeps_unbroken p e Z2 = unbroken p (limits ++ after_limits) 0 e
+keeps_unbroken p e Z3 = unbroken p (limits ++ after_limits) 1 e
+keeps_unbroken p e Z4 = unbroken p (limits ++ after_limits) 2 e
+keeps_unbroken p e Z5 = unbroken p (limits ++ after_limits) 3 e
+keeps_unbroken p e Z6 = unbroken p (limits ++ after_limits) 4 e
+keeps_unbroken p e Z7 = unbroken p (limits ++ after_limits) 5 e
+keeps_unbroken p e N1 = unbroken p (limits ++ after_limits) 6 e
+keeps_unbroken p e N2 = unbroken p (limits ++ after_limits) 7 e
+keeps_unbroken p e N3 = unbroken p (limits ++ after_limits) 8 e
+keeps_unbroken p e W1 = unbroken p (limits ++ after_limits) 9 e
+keeps_unbroken p e W2 = unbroken p (limits ++ after_limits) 10 e
+keeps_unbroken p e W3 = unbroken p (limits ++ after_limits) 11 e
+keeps_unbroken p e W4 = unbroken p (limits ++ after_limits) 12 e
+keeps_unbroken p e W5 = unbroken p (limits ++ after_limits) 13 e
+keeps_unbroken p e W6 = unbroken p (limits ++ after_limits) 14 e
+keeps_unbroken p e F5 = unbroken p (limits ++ after_limits) 15 e
+keeps_unbroken p e L1 = unbroken p (limits ++ after_limits) 16 e
+keeps_unbroken p e L3 = unbroken p (limits ++ after_limits) 17 e
+keeps_unbroken p e L4 = unbroken p (limits ++ after_limits) 18 e
+keeps_unbroken p e L5 = unbroken p (limits ++ after_limits) 19 e
+keeps_unbroken p e L6 = unbroken p (limits ++ after_limits) 20 e
+keeps_unbroken p e L7 = unbroken p (limits ++ after_limits) 21 e
+keeps_unbroken p e S1 = unbroken p (limits ++ after_limits) 22 e
+keeps_unbroken p e _ = λ before x later same. refl
+
+-- where nothing is refused, no rule is broken
+pub keeps_accepted : (source : List ℕ) (p : Pipe) → refusal source p ≡ None → KeepsRules p
+keeps_accepted source p e = keeps_unbroken p (go (is_too_long source) e)
+  where
+    go : (b : Bool) → (if b then Some (record { rule = Z1; line = 1 }) else first_broken (limits ++ after_limits) p) ≡ None → first_broken (limits ++ after_limits) p ≡ None
+    go true t = cc
+    go false t = t

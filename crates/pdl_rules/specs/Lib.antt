@@ -1,0 +1,9 @@
+pub mod Places
+pub mod Parts
+pub mod Limits
+pub mod Names
+pub mod Widths
+pub mod Locks
+pub mod Calls
+pub mod Refusal
+pub mod Typed

@@ -1,0 +1,114 @@
+-- Names: rules N1 to N3.
+use Rattle.std.specs.Prelude.{ℕ, Bool, true, false, not, ◌&&◌, ◌||◌, List, [], ◌∷◌, bytes_eq, Option, Some, None}
+use Rattle.std.specs.List.{list_any}
+use Rattle.pdl_model.specs.Tree.{Expr, Variable, Slice, Location, Stmt, CombRead, Bind, SpecCall, DelayedRead, Verify, Param, Pipe}
+use Rattle.pdl_rules.specs.Places.{Place, Parameter, Memory, Statement, StartClause, places, on_some_path}
+use Rattle.pdl_rules.specs.Parts.{some_part, some_expr_of, location_of, passes}
+use Rattle.pdl_rules.specs.Limits.{is_separator}
+
+-- DEFINITIONS
+
+-- the variable, the memory and the guess that a place defines
+abbrev pub bound_by : Stmt → Option (List ℕ)
+bound_by (CombRead _ x _) = Some x.name
+bound_by (Bind _ x _) = Some x.name
+bound_by (DelayedRead _ x _) = Some x.name
+bound_by _ = None
+
+abbrev pub variable_at : Place → Option (List ℕ)
+variable_at (Parameter a) = Some a.name.name
+variable_at (Statement s _) = bound_by s
+variable_at _ = None
+
+abbrev pub memory_at : Place → Option (List ℕ)
+memory_at (Memory m) = Some m.name.name
+memory_at _ = None
+
+abbrev pub guess_at : Place → Option (List ℕ)
+guess_at (Statement (SpecCall _ g _) _) = Some g.name
+guess_at _ = None
+
+-- the name that a place defines, of whatever kind
+abbrev pub name_at : Place → Option (List ℕ)
+name_at (Parameter a) = Some a.name.name
+name_at (Memory m) = Some m.name.name
+name_at (Statement (SpecCall _ g _) _) = Some g.name
+name_at (Statement s _) = bound_by s
+name_at _ = None
+
+-- USES
+
+-- the use of a name, with the kind of thing that it has to name
+pub data Use : Type 0 where
+  OfVariable : (name : List ℕ) → Use
+  OfMemory : (name : List ℕ) → Use
+  OfGuess : (name : List ℕ) → Use
+
+-- whether a place defines what is used
+abbrev pub defines : Use → Place → Bool
+defines (OfVariable x) d = passes (bytes_eq x) (variable_at d)
+defines (OfMemory m) d = passes (bytes_eq m) (memory_at d)
+defines (OfGuess g) d = passes (bytes_eq g) (guess_at d)
+
+-- whether an expression reads a variable whose use passes the test
+abbrev pub reads : (Use → Bool) → Expr → Bool
+reads test (Variable x) = test (OfVariable x.name)
+reads test (Slice x _ _) = test (OfVariable x.name)
+reads test _ = false
+
+abbrev pub in_location : (Use → Bool) → Location → Bool
+in_location test at = test (OfMemory at.mem.name) || test (OfVariable at.address.name)
+
+abbrev pub in_verify : (Use → Bool) → Stmt → Bool
+in_verify test (Verify _ g _) = test (OfGuess g.name)
+in_verify test _ = false
+
+-- whether a use at a place passes the test
+abbrev pub some_use : (Use → Bool) → Place → Bool
+some_use test (Statement s _) =
+    passes (in_location test) (location_of s)
+    || (in_verify test s || some_expr_of (some_part (reads test)) s)
+some_use test _ = false
+
+-- N1: a name that names nothing of the kind that stands there, anywhere in the text; the start clause has to name the pipe
+abbrev pub names_another_pipe : Pipe → Place → Bool
+names_another_pipe p (StartClause s) = not (bytes_eq s.name.name p.name.name)
+names_another_pipe p _ = false
+
+abbrev pub is_undefined : List Place → Use → Bool
+is_undefined ds u = not (list_any (defines u) ds)
+
+abbrev pub breaks_n1 : Pipe → Place → Bool
+breaks_n1 p x = names_another_pipe p x || some_use (is_undefined (places p)) x
+
+-- N2: the name of the pipe, or one that a place before defines
+abbrev pub is_taken_name : Pipe → List Place → List ℕ → Bool
+is_taken_name p before x = bytes_eq x p.name.name || list_any (λ d. passes (bytes_eq x) (name_at d)) before
+
+abbrev pub breaks_n2 : Pipe → List Place → Place → Bool
+breaks_n2 p before x = passes (is_taken_name p before) (name_at x)
+
+-- N3: a variable that is no parameter, or a guess, with no definition before it in the text, or none before it on some path, where that of a delayed read has a separator after it
+abbrev pub is_parameter : Pipe → List ℕ → Bool
+is_parameter p x = list_any (λ (a : Param). bytes_eq x a.name.name) p.params
+
+abbrev pub needs_definition : Pipe → Use → Bool
+needs_definition p (OfVariable x) = not (is_parameter p x)
+needs_definition p (OfMemory _) = false
+needs_definition p (OfGuess _) = true
+
+abbrev pub is_delayed : Place → Bool
+is_delayed (Statement (DelayedRead _ _ _) _) = true
+is_delayed _ = false
+
+-- whether one of these places gives what is used, to whoever stands behind the last of them
+abbrev pub is_given : List Place → Use → Bool
+is_given [] u = false
+is_given (d ∷ ds) u = (defines u d && (not (is_delayed d) || list_any is_separator ds)) || is_given ds u
+
+abbrev pub is_too_early : Pipe → List Place → Place → Use → Bool
+is_too_early p before x u =
+    needs_definition p u && (is_undefined before u || on_some_path (λ earlier. not (is_given earlier u)) p before x)
+
+abbrev pub breaks_n3 : Pipe → List Place → Place → Bool
+breaks_n3 p before x = some_use (is_too_early p before x) x

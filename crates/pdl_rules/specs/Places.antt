@@ -1,0 +1,119 @@
+-- The places of a source in text order, and its paths: the ways in which its `if`s can go.
+use Rattle.std.specs.Prelude.{ℕ, Bool, true, false, not, ◌&&◌, List, [], ◌∷◌, ◌++◌, map, filter, fold, if◌then◌else◌, ◌==◌, bytes_eq}
+use Rattle.std.specs.List.{list_any, list_all}
+use Rattle.pdl_model.specs.Tree.{Span, Expr, Variable, Stmt, Separator, CombRead, Bind, SpecCall, DelayedRead, Write, Reserve, Block, Release, If, Call, Verify, SpecCheck, SpecBarrier, Stmts, Nil, Cons, Param, Mem, Start, Pipe}
+
+-- GUARDS
+
+-- what decides an `if`: a variable, with every other `if` on that variable, or a condition of its own, known by the byte at which its `if` begins
+pub data Guard : Type 0 where
+  Shared : (name : List ℕ) → Guard
+  Own : (at : ℕ) → Guard
+
+abbrev pub guard_of : Span → Expr → Guard
+guard_of s (Variable x) = Shared x.name
+guard_of s _ = Own s.start
+
+abbrev pub same_guard : Guard → Guard → Bool
+same_guard (Shared x) (Shared y) = bytes_eq x y
+same_guard (Own m) (Own n) = m == n
+same_guard _ _ = false
+
+abbrev pub is_among : Guard → List Guard → Bool
+is_among g gs = list_any (same_guard g) gs
+
+-- a branch: it is taken where the guard has this truth value
+pub record Branch : Type 0 where
+  pub guard : Guard
+  pub truth : Bool
+
+-- PLACES
+
+-- a part of a source that a rule can name; a statement comes with the branches that it stands in, the outermost first
+pub data Place : Type 0 where
+  Parameter : (param : Param) → Place
+  Memory : (mem : Mem) → Place
+  Statement : (stmt : Stmt) (branches : List Branch) → Place
+  End : (at : Span) → Place
+  StartClause : (start : Start) → Place
+
+-- a statement, and what stands inside it after it
+abbrev mutual
+  pub with_inner : List Branch → Stmt → List Place
+  with_inner bs (If s c when otherwise) =
+      Statement (If s c when otherwise) bs
+      ∷ (statements (bs ++ record { guard = guard_of s c; truth = true } ∷ []) when
+      ++ statements (bs ++ record { guard = guard_of s c; truth = false } ∷ []) otherwise)
+  with_inner bs s = Statement s bs ∷ []
+
+  pub statements : List Branch → Stmts → List Place
+  statements bs Nil = []
+  statements bs (Cons s ss) = with_inner bs s ++ statements bs ss
+
+-- all places in text order
+abbrev pub places : Pipe → List Place
+places p =
+    map Parameter p.params
+    ++ map Memory p.mems
+    ++ statements [] p.body
+    ++ End p.end ∷ StartClause p.start ∷ []
+
+-- where a statement stands
+abbrev pub span_of : Stmt → Span
+span_of (Separator s) = s
+span_of (CombRead s _ _) = s
+span_of (Bind s _ _) = s
+span_of (SpecCall s _ _) = s
+span_of (DelayedRead s _ _) = s
+span_of (Write s _ _) = s
+span_of (Reserve s _ _) = s
+span_of (Block s _) = s
+span_of (Release s _) = s
+span_of (If s _ _ _) = s
+span_of (Call s _) = s
+span_of (Verify s _ _) = s
+span_of (SpecCheck s) = s
+span_of (SpecBarrier s) = s
+
+-- the line of a place's first token
+abbrev pub line_of : Place → ℕ
+line_of (Parameter a) = a.name.span.line
+line_of (Memory m) = m.name.span.line
+line_of (Statement s _) = (span_of s).line
+line_of (End s) = s.line
+line_of (StartClause s) = s.span.line
+
+-- PATHS
+
+-- the guards of these places, each once
+abbrev pub with_guard : List Guard → Place → List Guard
+with_guard gs (Statement (If s c _ _) _) = if is_among (guard_of s c) gs then gs else gs ++ guard_of s c ∷ []
+with_guard gs _ = gs
+
+abbrev pub guards : List Place → List Guard
+guards xs = fold with_guard [] xs
+
+-- all choices of some of these guards
+abbrev pub choices : List Guard → List (List Guard)
+choices [] = [] ∷ []
+choices (g ∷ gs) = choices gs ++ map (λ c. g ∷ c) (choices gs)
+
+-- each path, as the guards that are true on it
+abbrev pub paths : Pipe → List (List Guard)
+paths p = choices (guards (places p))
+
+abbrev pub same_truth : Bool → Bool → Bool
+same_truth true b = b
+same_truth false b = not b
+
+abbrev pub is_taken : List Guard → Branch → Bool
+is_taken path b = same_truth b.truth (is_among b.guard path)
+
+-- whether a path leads through a place
+abbrev pub on_path : List Guard → Place → Bool
+on_path path (Statement _ bs) = list_all (is_taken path) bs
+on_path path _ = true
+
+-- whether some path leads through the place x where what stands before x on that path passes the test
+abbrev pub on_some_path : (List Place → Bool) → Pipe → List Place → Place → Bool
+on_some_path test p before x = list_any (λ path. on_path path x && test (filter (on_path path) before)) (paths p)

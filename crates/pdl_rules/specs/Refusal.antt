@@ -1,0 +1,102 @@
+-- The refusal of a source: of all broken rules the lowest in the order of the rules, and then its lowest place.
+use Rattle.std.specs.Prelude.{◌≡◌, ℕ, Bool, true, false, not, ◌&&◌, List, [], ◌∷◌, ◌++◌, if◌then◌else◌, Option, Some, None}
+use Rattle.std.specs.List.{list_all}
+use Rattle.pdl_kit.specs.declared.rule.Rule.{Rule}
+use Rattle.pdl_kit.specs.declared.rule.Rule.TheVariants.{Z1, Z2, Z3, Z4, Z5, Z6, Z7, N1, N2, N3, W1, W2, W3, W4, W5, W6, F5, L1, L3, L4, L5, L6, L7, S1}
+use Rattle.pdl_model.specs.Tree.{Stmt, CombRead, Bind, Write, Reserve, Block, Release, Call, Stmts, Nil, Cons, Mem, Pipe}
+use Rattle.pdl_rules.specs.Places.{Place, places, line_of}
+use Rattle.pdl_rules.specs.Limits.{is_too_long, breaks_z2, breaks_z3, breaks_z4, breaks_z5, breaks_z6, breaks_z7}
+use Rattle.pdl_rules.specs.Names.{breaks_n1, breaks_n2, breaks_n3}
+use Rattle.pdl_rules.specs.Widths.{breaks_w1, breaks_w2, breaks_w3, breaks_w4, breaks_w5, breaks_w6}
+use Rattle.pdl_rules.specs.Locks.{breaks_f5, breaks_l1, breaks_l3, breaks_l4, breaks_l5, breaks_l6, breaks_l7}
+use Rattle.pdl_rules.specs.Calls.{breaks_s1}
+
+-- whether the place, with these places before it in the text, breaks a rule; rules that no pipe of one stage breaks are asked nowhere
+abbrev pub breaks : Rule → Pipe → List Place → Place → Bool
+breaks Z2 p before x = breaks_z2 before x
+breaks Z3 p before x = breaks_z3 before x
+breaks Z4 p before x = breaks_z4 before x
+breaks Z5 p before x = breaks_z5 before x
+breaks Z6 p before x = breaks_z6 before x
+breaks Z7 p before x = breaks_z7 x
+breaks N1 p before x = breaks_n1 p x
+breaks N2 p before x = breaks_n2 p before x
+breaks N3 p before x = breaks_n3 p before x
+breaks W1 p before x = breaks_w1 p x
+breaks W2 p before x = breaks_w2 p x
+breaks W3 p before x = breaks_w3 p x
+breaks W4 p before x = breaks_w4 p x
+breaks W5 p before x = breaks_w5 p x
+breaks W6 p before x = breaks_w6 p x
+breaks F5 p before x = breaks_f5 p x
+breaks L1 p before x = breaks_l1 p before x
+breaks L3 p before x = breaks_l3 p before x
+breaks L4 p before x = breaks_l4 p before x
+breaks L5 p before x = breaks_l5 p before x
+breaks L6 p before x = breaks_l6 p before x
+breaks L7 p before x = breaks_l7 p before x
+breaks S1 p before x = breaks_s1 p before x
+breaks _ p before x = false
+
+-- the rules of the tree in their order
+abbrev pub limits : List Rule
+limits = Z2 ∷ Z3 ∷ Z4 ∷ Z5 ∷ Z6 ∷ Z7 ∷ []
+
+abbrev pub after_limits : List Rule
+after_limits = N1 ∷ N2 ∷ N3 ∷ W1 ∷ W2 ∷ W3 ∷ W4 ∷ W5 ∷ W6 ∷ F5 ∷ L1 ∷ L3 ∷ L4 ∷ L5 ∷ L6 ∷ L7 ∷ S1 ∷ []
+
+-- a rule that is broken, and the line of its lowest place
+pub record Refused : Type 0 where
+  pub rule : Rule
+  pub line : ℕ
+
+-- the line of the first of these places that breaks the rule
+abbrev pub broken_line : Rule → Pipe → List Place → List Place → Option ℕ
+broken_line r p before [] = None
+broken_line r p before (x ∷ xs) = if breaks r p before x then Some (line_of x) else broken_line r p (before ++ x ∷ []) xs
+
+abbrev pub refused_at : Rule → Option ℕ → Option Refused → Option Refused
+refused_at r (Some line) later = Some (record { rule = r; line = line })
+refused_at r None later = later
+
+-- the first of these rules that is broken, at its lowest place
+abbrev pub first_broken : List Rule → Pipe → Option Refused
+first_broken [] p = None
+first_broken (r ∷ rs) p = refused_at r (broken_line r p [] (places p)) (first_broken rs p)
+
+-- the refusal by the limits alone; a source that is too long is refused at line 1
+abbrev pub limit_refusal : List ℕ → Pipe → Option Refused
+limit_refusal source p = if is_too_long source then Some (record { rule = Z1; line = 1 }) else first_broken limits p
+
+-- the refusal by all rules
+abbrev pub refusal : List ℕ → Pipe → Option Refused
+refusal source p =
+    if is_too_long source then Some (record { rule = Z1; line = 1 }) else first_broken (limits ++ after_limits) p
+
+-- no place breaks any rule
+abbrev pub KeepsRules : Pipe → Type 0
+KeepsRules p = (r : Rule) (before : List Place) (x : Place) (later : List Place) → places p ≡ before ++ x ∷ later → breaks r p before x ≡ false
+
+-- ONE STAGE
+
+-- statements of a pipe of one stage without choices, guesses or delayed reads
+abbrev pub is_straight : Stmt → Bool
+is_straight (CombRead _ _ _) = true
+is_straight (Bind _ _ _) = true
+is_straight (Write _ _ _) = true
+is_straight (Reserve _ _ _) = true
+is_straight (Block _ _) = true
+is_straight (Release _ _) = true
+is_straight (Call _ _) = true
+is_straight _ = false
+
+abbrev pub all_straight : Stmts → Bool
+all_straight Nil = true
+all_straight (Cons s ss) = is_straight s && all_straight ss
+
+abbrev pub is_comb : Mem → Bool
+is_comb m = not m.delayed
+
+-- whether the pipe is of that kind: it has one path
+abbrev pub is_one_stage : Pipe → Bool
+is_one_stage p = all_straight p.body && list_all is_comb p.mems
