@@ -1,0 +1,5 @@
+pub mod Literals
+pub mod OnePath
+pub mod Counter
+pub mod Sized
+pub mod Judged
