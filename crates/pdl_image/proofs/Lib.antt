@@ -1,0 +1,8 @@
+pub mod Parts
+pub mod Numbers
+pub mod LineWords
+pub mod MapSet
+pub mod Filling
+pub mod TakenLines
+pub mod Whole
+pub mod Rows

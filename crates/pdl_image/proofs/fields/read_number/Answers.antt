@@ -1,0 +1,20 @@
+use Rattle.std.proofs.Common.{arith}
+use Rattle.pdl_image.proofs.Numbers.{digits_next, next_below, next_fits}
+use Rattle.pdl_image.proofs.fields.read_number.Goals as goal
+
+pub overflow_mul-number : goal.overflow_mul-number
+overflow_mul-number c =
+    omega (arith, next_fits _ _ _ _ _ c.loop-byte.invariant.below c.in_ok-digit.ensures.2 (omega arith) c.requires.room)
+
+pub overflow_add-number : goal.overflow_add-number
+overflow_add-number c =
+    omega (arith, next_fits _ _ _ _ _ c.loop-byte.invariant.below c.in_ok-digit.ensures.2 (omega arith) c.requires.room)
+
+pub loop-byte-preserved : goal.loop-byte-preserved
+loop-byte-preserved c =
+    let f = digits_next _ _ _ _ _ c.loop-byte-test.true c.loop-byte.invariant.digits c.loop-byte.invariant.value c.in_ok-digit.ensures.0 c.in_ok-digit.ensures.1 in
+    record {
+      digits = f.0;
+      value = f.1;
+      below = next_below _ _ _ _ c.loop-byte.invariant.below c.in_ok-digit.ensures.2;
+    }

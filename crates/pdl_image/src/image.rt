@@ -1,0 +1,36 @@
+//! The words that memories have at the start.
+ghost use Rattle.std.specs.Prelude.{[], length, slice_index_or, ◌<◌, ◌≡◌};
+
+use pdl_kit::Seq;
+use std::marker::Model;
+
+/// The words that memories have at the start: one list for each memory, in the order of their declarations.
+#[derive(Drop, Debug)]
+pub struct Image {
+    words: Seq<Seq<u64>>,
+}
+
+impl Model for Image {
+    ghost use Rattle.std.specs.Prelude.{List, ℕ};
+
+    ghost Value = { List (List ℕ) };
+
+    ghost view = { λ i. i.words };
+}
+
+impl Image {
+    /// Makes an image of its lists, without taking memory.
+    pub(crate) fn from_lists(words: Seq<Seq<u64>>) -> Image
+        ensures { result ≡ words }
+    {
+        Image { words }
+    }
+
+    /// The words of the memory at place `m`, counted from 0, by ascending address.
+    pub fn words(&self, m: usize) -> &[u64]
+        requires { m < length self.now }
+        ensures { result.now ≡ slice_index_or self.now m [] }
+    {
+        self.words.as_slice()[m].as_slice()
+    }
+}

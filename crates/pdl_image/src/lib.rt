@@ -1,0 +1,16 @@
+//! Files that a run reads beside its source: images, which give the words of memories at the start.
+#![tactic(auto)]
+
+mod fields;
+pub mod file_error;
+pub mod image;
+mod lines;
+pub mod read;
+mod slots;
+#[cfg(test)]
+mod tests;
+mod word;
+
+pub use file_error::FileError;
+pub use image::Image;
+pub use read::read_image;
