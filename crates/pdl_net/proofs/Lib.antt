@@ -1,0 +1,7 @@
+pub mod Signals
+pub mod Well
+pub mod Keeps
+pub mod Fix
+pub mod Bounds
+pub mod Widths
+pub mod Examples

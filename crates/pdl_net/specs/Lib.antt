@@ -1,0 +1,9 @@
+pub mod Circuit
+pub mod Signal
+pub mod Meaning
+pub mod Well
+pub mod Growth
+pub mod Cycle
+pub mod Run
+pub mod Pipe
+pub mod Width

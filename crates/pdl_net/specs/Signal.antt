@@ -1,0 +1,98 @@
+-- A signal: a width in bits, and a value in each state.
+use Rattle.std.specs.Prelude.{ℕ, ◌+◌, ◌*◌, ◌-◌, slice_index, slice_index_or, []}
+use Rattle.pdl_word.specs.Words as words
+use Rattle.pdl_net.specs.declared.BinOp.{BinOp}
+use Rattle.pdl_net.specs.declared.BinOp.TheVariants.{Add, Sub, Mul, And, Or, Xor, Eq, Ne, Lt, Shl, Shr}
+use Rattle.pdl_net.specs.Circuit.{State}
+
+-- a number for each state
+abbrev pub Value : Type 0
+Value = State → ℕ
+
+pub record Signal : Type 0 where
+  pub width : ℕ
+  pub value : Value
+
+abbrev pub no_signal : Signal
+no_signal = record { width = 0; value = λ s. 0 }
+
+unfoldable pub input_value : ℕ → Value
+input_value i s = slice_index s.inputs i
+
+unfoldable pub reg_value : ℕ → Value
+reg_value r s = slice_index s.regs r
+
+unfoldable pub const_value : ℕ → Value
+const_value v s = v
+
+unfoldable pub not_value : ℕ → Value → Value
+not_value w a s = words.complement w (a s)
+
+-- what an operator makes of two words of w bits
+abbrev pub bin_word : BinOp → ℕ → ℕ → ℕ → ℕ
+bin_word Add w a b = words.add w a b
+bin_word Sub w a b = words.sub w a b
+bin_word Mul w a b = words.mul w a b
+bin_word And w a b = words.and a b
+bin_word Or w a b = words.or a b
+bin_word Xor w a b = words.xor a b
+bin_word Eq w a b = words.equal a b
+bin_word Ne w a b = words.differ a b
+bin_word Lt w a b = words.less a b
+bin_word Shl w a b = words.shl w a b
+bin_word Shr w a b = words.shr w a b
+
+unfoldable pub bin_value : BinOp → ℕ → Value → Value → Value
+bin_value op w a b s = bin_word op w (a s) (b s)
+
+unfoldable pub mux_value : Value → Value → Value → Value
+mux_value c a b s = words.mux (c s) (a s) (b s)
+
+unfoldable pub slice_value : ℕ → ℕ → Value → Value
+slice_value high low a s = words.slice high low (a s)
+
+unfoldable pub cat_value : ℕ → Value → Value → Value
+cat_value v a b s = words.cat v (a s) (b s)
+
+unfoldable pub rep_value : ℕ → ℕ → Value → Value
+rep_value u k a s = words.rep u k (a s)
+
+unfoldable pub read_value : ℕ → Value → Value
+read_value m a s = slice_index (slice_index_or s.arrays m []) (a s)
+
+-- the width of what an operator makes of words of w bits
+abbrev pub bin_width : BinOp → ℕ → ℕ
+bin_width Eq w = 1
+bin_width Ne w = 1
+bin_width Lt w = 1
+bin_width _ w = w
+
+abbrev pub input_signal : ℕ → ℕ → Signal
+input_signal w i = record { width = w; value = input_value i }
+
+abbrev pub reg_signal : ℕ → ℕ → Signal
+reg_signal w r = record { width = w; value = reg_value r }
+
+abbrev pub const_signal : ℕ → ℕ → Signal
+const_signal w v = record { width = w; value = const_value v }
+
+abbrev pub not_signal : Signal → Signal
+not_signal a = record { width = a.width; value = not_value a.width a.value }
+
+abbrev pub bin_signal : BinOp → Signal → Signal → Signal
+bin_signal op a b = record { width = bin_width op a.width; value = bin_value op a.width a.value b.value }
+
+abbrev pub mux_signal : Signal → Signal → Signal → Signal
+mux_signal c a b = record { width = a.width; value = mux_value c.value a.value b.value }
+
+abbrev pub slice_signal : ℕ → ℕ → Signal → Signal
+slice_signal high low a = record { width = high + 1 - low; value = slice_value high low a.value }
+
+abbrev pub cat_signal : Signal → Signal → Signal
+cat_signal a b = record { width = a.width + b.width; value = cat_value b.width a.value b.value }
+
+abbrev pub rep_signal : ℕ → Signal → Signal
+rep_signal k a = record { width = k * a.width; value = rep_value a.width k a.value }
+
+abbrev pub read_signal : ℕ → ℕ → Signal → Signal
+read_signal w m a = record { width = w; value = read_value m a.value }

@@ -1,0 +1,26 @@
+-- How a net's width comes from those of earlier nets.
+use Rattle.std.specs.Prelude.{◌≡◌, ℕ, ◌+◌, ◌*◌, ◌<◌, ◌≤◌}
+use Rattle.pdl_net.specs.declared.Net.{Net}
+use Rattle.pdl_net.specs.declared.Net.TheVariants.{Input, Reg as RegNet, Cell as CellNet}
+use Rattle.pdl_net.specs.declared.width.Width.{Width}
+use Rattle.pdl_net.specs.declared.width.Width.TheVariants.{Bits, Same, Sum, Times}
+use Rattle.pdl_net.specs.Circuit.{Circuit}
+use Rattle.pdl_net.specs.Meaning.{signal, IsThere}
+
+-- a net's place: the inputs and registers, then the cells in order
+abbrev pub place : Net → ℕ
+place (Input i) = 0
+place (RegNet r) = 0
+place (CellNet k) = k + 1
+
+-- a net that is there, before a place
+pub record IsBefore (c : Circuit) (a : Net) (n : ℕ) : Type 0 where
+  pub there : IsThere c a
+  pub before : place a < n
+
+-- a width comes so from those of nets before a place
+abbrev pub Widens : Circuit → ℕ → ℕ → Width → Type 0
+Widens c n w (Bits b) = w ≡ b
+Widens c n w (Same a) = IsBefore c a n × (w ≡ (signal c a).width)
+Widens c n w (Sum a b) = IsBefore c a n × IsBefore c b n × ((signal c a).width + (signal c b).width ≤ 64) × (w ≡ (signal c a).width + (signal c b).width)
+Widens c n w (Times k a) = IsBefore c a n × (k * (signal c a).width ≤ 64) × (w ≡ k * (signal c a).width)
