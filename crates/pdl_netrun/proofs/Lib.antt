@@ -1,0 +1,9 @@
+pub mod Looked
+pub mod Loops
+pub mod Writes
+pub mod Written
+pub mod Holds
+pub mod Loaded
+pub mod Stepped
+pub mod Sample
+pub mod Runs

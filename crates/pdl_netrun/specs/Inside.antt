@@ -1,0 +1,36 @@
+-- The fields of a simulator.
+use Rattle.std.specs.Prelude.{◌≡◌, ℕ, ◌<◌, ◌^◌, List, [], length, slice_index, slice_index_or, map, false}
+use Rattle.pdl_net.specs.Circuit.{Circuit, circuit_of, inputs_of, outputs_of, reg_at, array_at}
+use Rattle.pdl_net.specs.Well.{IsWell}
+use Rattle.pdl_netrun.specs.Values.{lists, HasWidths}
+use Rattle.pdl_netrun.specs.Places.{places_of}
+use Rattle.pdl_netrun.specs.Sim.{Run}
+use Rattle.pdl_netrun.specs.declared.sim.Sim.TheInside.{Inside}
+
+-- registers and arrays of the circuit, with values that fit their widths
+pub record Holds (c : Circuit) (regs : List ℕ) (arrays : List (List ℕ)) : Type 0 where
+  pub reg_count : length regs ≡ length c.regs
+  pub each : (r : ℕ) → r < length c.regs → slice_index regs r < 2 ^ (reg_at c r).width
+  pub array_count : length arrays ≡ length c.arrays
+  pub depth : (m : ℕ) → m < length c.arrays → length (slice_index_or arrays m []) ≡ (array_at c m).depth
+  pub words : (m : ℕ) → m < length c.arrays → (a : ℕ) → slice_index (slice_index_or arrays m []) a < 2 ^ (array_at c m).width
+
+-- no delayed memory stands outside, so nothing ever waits
+abbrev pub run_of : Inside → Run
+run_of a = record {
+  netlist = a.net.now;
+  held = record { regs = a.regs.items; arrays = lists a.arrays.items; stores = [] };
+  last = record { ports = a.outs.items; waited = false };
+}
+
+pub record IsReady (a : Inside) : Type 0 where
+  pub well : IsWell (circuit_of a.net.now)
+  pub inputs : inputs_of (circuit_of a.net.now) ≡ []
+  pub holds : Holds (circuit_of a.net.now) a.regs.items (lists a.arrays.items)
+  pub widths : HasWidths (circuit_of a.net.now) a.widths.items
+  pub cells : length a.widths.items ≡ length a.net.now.cells
+  pub values : length a.values.items ≡ length a.net.now.cells
+  pub next : length a.next.items ≡ length a.net.now.regs
+  pub drivers : a.drivers.items ≡ map (λ o. o.net) (outputs_of (circuit_of a.net.now))
+  pub outs : length a.outs.items ≡ length (outputs_of (circuit_of a.net.now))
+  pub commits : a.commits.items ≡ map (λ m. places_of (circuit_of a.net.now) m.name) a.net.now.mems

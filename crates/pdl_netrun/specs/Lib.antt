@@ -1,0 +1,5 @@
+pub mod Values
+pub mod Places
+pub mod Sim
+pub mod Inside
+pub mod Sample

@@ -1,0 +1,30 @@
+-- A netlist of one stage, for the tests: a register counts up from 1, and in each cycle in which it is odd the memory's word at its second bit grows by it.
+use Rattle.std.specs.Prelude.{ℕ, List, [], ◌∷◌, codes, false}
+use Rattle.pdl_net.specs.declared.Net.{Net}
+use Rattle.pdl_net.specs.declared.Net.TheVariants.{Reg as RegNet, Cell as CellNet}
+use Rattle.pdl_net.specs.declared.BinOp.TheVariants.{Add}
+use Rattle.pdl_net.specs.declared.Dir.TheVariants.{Out}
+use Rattle.pdl_net.specs.declared.Port.{Port}
+use Rattle.pdl_net.specs.declared.Cell.TheVariants.{Const, Bin, Slice, Read}
+use Rattle.pdl_net.specs.declared.WritePort.{WritePort}
+use Rattle.pdl_net.specs.declared.Array.{Array}
+use Rattle.pdl_net.specs.declared.Netlist.{Netlist}
+
+abbrev pub out : List ℕ → ℕ → Net → Port
+out name width net = record { name = name; width = width; dir = Out net }
+
+abbrev pub odd_write : WritePort
+odd_write = record { enable = CellNet 3; addr = CellNet 5; value = CellNet 7 }
+
+abbrev pub memory : Array
+memory = record { name = codes "m"; width = 4; depth = 2; writes = odd_write ∷ [] }
+
+abbrev pub sample : Netlist
+sample = record {
+  name = codes "sample";
+  ports = out (codes "v_0") 1 (CellNet 0) ∷ out (codes "g_0") 1 (CellNet 0) ∷ out (codes "c_m") 1 (CellNet 3) ∷ out (codes "ca_m") 1 (CellNet 5) ∷ out (codes "cd_m") 4 (CellNet 7) ∷ out (codes "ended") 1 (CellNet 0) ∷ out (codes "squash") 1 (CellNet 4) ∷ [];
+  regs = record { width = 4; reset = 1; next = CellNet 2 } ∷ [];
+  arrays = memory ∷ [];
+  cells = Const 1 1 ∷ Const 4 1 ∷ Bin Add (RegNet 0) (CellNet 1) ∷ Slice (RegNet 0) 0 0 ∷ Const 1 0 ∷ Slice (RegNet 0) 1 1 ∷ Read 0 (CellNet 5) ∷ Bin Add (CellNet 6) (RegNet 0) ∷ [];
+  mems = record { name = codes "m"; width = 4; depth = 2; delayed = false } ∷ [];
+}

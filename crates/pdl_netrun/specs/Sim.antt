@@ -1,0 +1,28 @@
+-- What a caller sees of a simulator.
+use Rattle.std.specs.Prelude.{ℕ, List, [], ◌∷◌, length, replicate, false}
+use Rattle.pdl_net.specs.declared.Netlist.{Netlist}
+use Rattle.pdl_net.specs.Circuit.{circuit_of, outputs_of}
+use Rattle.pdl_net.specs.Run.{Held, Shown, start, shown, next}
+
+-- the netlist, the state at the start of the next cycle, and what the last cycle showed
+pub record Run : Type 0 where
+  pub netlist : Netlist
+  pub held : Held
+  pub last : Shown
+
+-- before the first cycle all ports are 0 and nothing waits
+abbrev pub nothing : Netlist → Shown
+nothing n = record { ports = replicate (length (outputs_of (circuit_of n))) 0; waited = false }
+
+-- at the start of the first cycle
+abbrev pub started : Netlist → List (List ℕ) → Run
+started n image = record { netlist = n; held = start n image; last = nothing n }
+
+-- after a cycle with these reply bits
+abbrev pub stepped : Run → ℕ → Run
+stepped r bits = record { netlist = r.netlist; held = next r.netlist r.held bits; last = shown r.netlist r.held bits }
+
+-- after the cycles of a schedule
+abbrev pub after : Run → List ℕ → Run
+after r [] = r
+after r (bits ∷ schedule) = after (stepped r bits) schedule

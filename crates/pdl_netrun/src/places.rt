@@ -1,0 +1,100 @@
+// Where a memory's commit ports stand among the outputs.
+
+ghost use Rattle.std.specs.Prelude.{◌≡◌, ◌++◌, map, filter_map, bytes_eq, IfOk};
+ghost use Rattle.std.specs.List.{position_from};
+ghost use Rattle.pdl_net.specs.Circuit.{circuit_of, outputs_of, port_output};
+ghost use Rattle.pdl_net.specs.Run.{value_at, place_of as place_in};
+ghost use Rattle.pdl_netrun.specs.Places.{places_of};
+
+use pdl_kit::{MemInfo, Name, NoMemory};
+use pdl_net::{Dir, Net, Netlist, Port};
+use std::alloc::Global;
+
+/// The places of a memory's commit ports among the outputs, where they are.
+#[derive(Clone, Copy)]
+pub struct CommitPlaces {
+    pub commit: Option<usize>,
+    pub addr: Option<usize>,
+    pub value: Option<usize>,
+}
+
+/// The nets that drive the outputs, in order.
+pub fn all_drivers(alloc: Global, net: &Netlist) -> Result<Vec<Net>, NoMemory>
+    ensures { IfOk result (λ v. v.items ≡ map (λ o. o.net) (outputs_of (circuit_of net.now))) }
+{
+    let mut drivers = Vec::new(alloc);
+    for port in net.ports.as_slice() {
+        if let Dir::Out(driver) = port.dir {
+            drivers.push(driver)?;
+        }
+    }
+    Ok(drivers)
+}
+
+/// The places of all memories' commit ports, in the memories' order.
+pub fn all_places(alloc: Global, net: &Netlist) -> Result<Vec<CommitPlaces>, NoMemory>
+    ensures { IfOk result (λ v. v.items ≡ map (λ m. places_of (circuit_of net.now) m.name) net.now.mems) }
+{
+    let mut places = Vec::new(alloc);
+    for mem in net.mems.as_slice() {
+        let found = places_of_mem(alloc, net, mem)?;
+        places.push(found)?;
+    }
+    Ok(places)
+}
+
+fn places_of_mem(alloc: Global, net: &Netlist, mem: &MemInfo) -> Result<CommitPlaces, NoMemory>
+    ensures { IfOk result (λ p. p ≡ places_of (circuit_of net.now) mem.now.name) }
+{
+    let commit = prefixed_place(alloc, net, b"c_", &mem.name)?;
+    let addr = prefixed_place(alloc, net, b"ca_", &mem.name)?;
+    let value = prefixed_place(alloc, net, b"cd_", &mem.name)?;
+    Ok(CommitPlaces {
+        commit,
+        addr,
+        value,
+    })
+}
+
+/// The place of the output whose name is a prefix and then a memory's name.
+fn prefixed_place(
+    alloc: Global,
+    net: &Netlist,
+    prefix: &[u8],
+    mem: &Name,
+) -> Result<Option<usize>, NoMemory>
+    ensures { IfOk result (λ p. p ≡ place_in (circuit_of net.now) (prefix.now ++ mem.now)) }
+{
+    let mut name = Vec::from_slice(alloc, prefix)?;
+    name.extend_from_slice(mem.as_bytes())?;
+    Ok(place_of(net.ports.as_slice(), &name))
+}
+
+/// The place of the first output of a name.
+fn place_of(ports: &[Port], name: &[u8]) -> Option<usize>
+    ensures { result ≡ position_from (λ o. bytes_eq o.name name.now) 0 (filter_map port_output ports.now) }
+{
+    let mut place = 0;
+    for port in ports {
+        if let Dir::Out(_) = port.dir {
+            if port.name.as_bytes() == name {
+                return Some(place);
+            }
+            place += 1;
+        }
+    }
+    None
+}
+
+/// The value at a place among the outputs, 0 where there is none.
+pub fn value_at_place(ports: &[u64], place: Option<usize>) -> u64
+    ensures { result ≡ value_at ports.now place }
+{
+    match place {
+        Some(i) => match ports.get(i) {
+            Some(value) => *value,
+            None => 0,
+        },
+        None => 0,
+    }
+}
