@@ -1,0 +1,7 @@
+pub mod Grown
+pub mod Stored
+pub mod Widths
+pub mod Extensions
+pub mod Values
+pub mod Scopes
+pub mod Operands

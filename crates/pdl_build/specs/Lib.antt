@@ -1,0 +1,4 @@
+pub mod Parts
+pub mod Change
+pub mod Expr
+pub mod Env

@@ -1,0 +1,366 @@
+//! A builder of netlists: each call adds one thing, and all nets keep the values that they had.
+#![tactic(auto)]
+
+mod env;
+mod expr;
+mod extend;
+#[cfg(test)]
+mod tests;
+
+ghost use Rattle.std.specs.Prelude.{◌≡◌, ℕ, ◌+◌, ◌*◌, ◌^◌, ◌<◌, ◌≤◌, [], ◌∷◌, ◌++◌, length, IfOk, OnOk, OnErr};
+ghost use Rattle.pdl_net.specs.Circuit.{circuit_of, inputs_of, outputs_of, array_at, HasReg, reg_width, HasArray, array_width, array_depth};
+ghost use Rattle.pdl_net.specs.Signal.{input_signal, const_signal, not_signal, bin_signal, mux_signal, slice_signal, cat_signal, rep_signal, read_signal, bin_width as op_width};
+ghost use Rattle.pdl_net.specs.Meaning.{IsThere, Means, signal, cell_signal, next_signal, write_signal, write_signals};
+ghost use Rattle.pdl_net.specs.Well.{Fits, IsWell, IsDepth};
+ghost use Rattle.pdl_net.specs.Growth.{Extends, ExtendsBut, ExtendsPorts, ExtendsArrays};
+ghost use Rattle.pdl_build.specs.Change.{empty_circuit, with_cell, with_port, input_port, output_port, with_reg, with_next, new_shape, with_array, with_write, write_port, one_reg, one_array, IsNewReg, IsNewArray};
+
+pub use env::{Env, EnvEntry};
+use pdl_kit::{MemInfo, Name, NoMemory, Seq};
+use pdl_net::{Array, BinOp, Cell, Dir, Net, Netlist, Port, Reg, WritePort};
+use std::alloc::Global;
+use std::marker::Model;
+
+/// A netlist that grows.
+#[derive(Drop)]
+pub struct Builder {
+    alloc: Global,
+    ports: Vec<Port>,
+    regs: Vec<Reg>,
+    arrays: Vec<Array>,
+    cells: Vec<Cell>,
+    /// The width of each input and of each cell, in bits.
+    input_widths: Vec<u8>,
+    cell_widths: Vec<u8>,
+}
+
+impl Model for Builder {
+    ghost use Rattle.pdl_net.specs.Circuit.{Circuit};
+
+    ghost Value = { Circuit };
+
+    ghost use Rattle.pdl_build.specs.Parts.{circuit_of_parts, IsBuilt};
+
+    ghost view = { circuit_of_parts };
+
+    ghost invariant = { IsBuilt };
+}
+
+impl Builder {
+    /// A builder with nothing in it; what is added takes its memory from `alloc`.
+    pub fn new(alloc: Global) -> Builder
+        ensures { result ≡ empty_circuit }
+    {
+        Builder {
+            alloc,
+            ports: Vec::new(alloc),
+            regs: Vec::new(alloc),
+            arrays: Vec::new(alloc),
+            cells: Vec::new(alloc),
+            input_widths: Vec::new(alloc),
+            cell_widths: Vec::new(alloc),
+        }
+    }
+
+    /// How many registers there are.
+    pub fn reg_count(&self) -> usize
+        ensures { result ≡ length self.now.regs }
+    {
+        self.regs.len()
+    }
+
+    /// The width of a net in bits, 1 to 64.
+    pub fn width(&self, net: Net) -> u8
+        requires { IsThere self.now net }
+        ensures value { result ≡ (signal self.now net).width }
+        ensures low { 1 ≤ result }
+        ensures high { result ≤ 64 }
+    {
+        match net {
+            Net::Input(i) => self.input_widths[i],
+            Net::Reg(r) => self.regs[r].width,
+            Net::Cell(k) => self.cell_widths[k],
+        }
+    }
+
+    /// The width of what a cell gives, in bits.
+    fn cell_width(&self, cell: Cell) -> u8
+        requires { Fits self.now cell }
+        ensures { result ≡ (cell_signal self.now (signal self.now) cell).width }
+    {
+        match cell {
+            Cell::Const { width, .. } => width,
+            Cell::Not(a) => self.width(a),
+            Cell::Bin(op, a, _) => bin_width(op, self.width(a)),
+            Cell::Mux(_, a, _) => self.width(a),
+            Cell::Slice { high, low, .. } => high - low + 1,
+            Cell::Cat(a, b) => self.width(a) + self.width(b),
+            Cell::Rep { count, a } => count * self.width(a),
+            Cell::Read { array, .. } => self.arrays[array].width,
+        }
+    }
+
+    /// One more input, of 1 to 64 bits.
+    pub fn input(&mut self, name: &Name, width: u8) -> Result<Net, NoMemory>
+        requires low { 1 ≤ width }
+        requires high { width ≤ 64 }
+        ensures exact { OnOk result (self.new ≡ with_port self.old (input_port name.now width)) }
+        ensures place { IfOk result (λ x. x ≡ Net.Input (length (inputs_of self.old))) }
+        ensures means { IfOk result (λ x. Means self.new x (input_signal width (length (inputs_of self.old)))) }
+        ensures extends { OnOk result (ExtendsPorts self.old self.new (input_port name.now width ∷ [])) }
+        ensures err { OnErr result (self.new ≡ self.old) }
+    {
+        let at = self.input_widths.len();
+        self.input_widths.push(width)?;
+        match push_port(&mut self.ports, name, width, Dir::In) {
+            Ok(()) => Ok(Net::Input(at)),
+            Err(e) => {
+                self.input_widths.pop();
+                Err(e)
+            }
+        }
+    }
+
+    /// One more output, which shows a net; its number counts the outputs from 0.
+    pub fn output(&mut self, name: &Name, net: Net) -> Result<usize, NoMemory>
+        requires { IsThere self.old net }
+        ensures exact { OnOk result (self.new ≡ with_port self.old (output_port self.old name.now net)) }
+        ensures place { IfOk result (λ k. k ≡ length (outputs_of self.old)) }
+        ensures extends { OnOk result (ExtendsPorts self.old self.new (output_port self.old name.now net ∷ [])) }
+        ensures err { OnErr result (self.new ≡ self.old) }
+    {
+        let at = self.ports.len() - self.input_widths.len();
+        let width = self.width(net);
+        push_port(&mut self.ports, name, width, Dir::Out(net))?;
+        Ok(at)
+    }
+
+    /// One more register, of 1 to 64 bits; it keeps its value until `next` says otherwise.
+    pub fn reg(&mut self, width: u8, reset: u64) -> Result<usize, NoMemory>
+        requires low { 1 ≤ width }
+        requires high { width ≤ 64 }
+        requires fits { reset < 2 ^ width }
+        ensures exact { OnOk result (self.new ≡ with_reg self.old width reset) }
+        ensures place { IfOk result (λ r. r ≡ length self.old.regs) }
+        ensures has { IfOk result (λ r. IsNewReg self.new r width reset) }
+        ensures extends { Extends self.old self.new }
+        ensures err { OnErr result (self.new ≡ self.old) }
+    {
+        let at = self.regs.len();
+        let next = Net::Reg(at);
+        self.regs.push(Reg { width, reset, next })?;
+        Ok(at)
+    }
+
+    /// Sets what a register takes next.
+    pub fn next(&mut self, reg: usize, net: Net)
+        requires has { HasReg self.old reg }
+        requires there { IsThere self.old net }
+        requires width { (signal self.old net).width ≡ reg_width self.old reg }
+        ensures exact { self.new ≡ with_next self.old reg net }
+        ensures set { next_signal self.new reg ≡ signal self.old net }
+        ensures extends { ExtendsBut (one_reg reg) self.old self.new }
+    {
+        self.regs[reg].next = net;
+    }
+
+    /// One more array, of `depth` words of 1 to 64 bits; the depth is a power of two from 2 to 131,072.
+    pub fn array(&mut self, name: &Name, width: u8, depth: u32) -> Result<usize, NoMemory>
+        requires low { 1 ≤ width }
+        requires high { width ≤ 64 }
+        requires depth { IsDepth depth }
+        ensures exact { OnOk result (self.new ≡ with_array self.old name.now width depth) }
+        ensures place { IfOk result (λ m. m ≡ length self.old.arrays) }
+        ensures has { IfOk result (λ m. IsNewArray self.new m width depth) }
+        ensures extends { OnOk result (ExtendsArrays self.old self.new (new_shape name.now width depth ∷ [])) }
+        ensures err { OnErr result (self.new ≡ self.old) }
+    {
+        let at = self.arrays.len();
+        let name = name.clone()?;
+        let writes = Seq::new(self.alloc);
+        self.arrays.push(Array {
+            name,
+            width,
+            depth,
+            writes,
+        })?;
+        Ok(at)
+    }
+
+    /// One more write port of an array, later than each that it has; its number counts them from 0.
+    pub fn write(
+        &mut self,
+        array: usize,
+        enable: Net,
+        addr: Net,
+        value: Net,
+    ) -> Result<usize, NoMemory>
+        requires has { HasArray self.old array }
+        requires enable_there { IsThere self.old enable }
+        requires addr_there { IsThere self.old addr }
+        requires value_there { IsThere self.old value }
+        requires enable_one { (signal self.old enable).width ≡ 1 }
+        requires addr_reach { 2 ^ (signal self.old addr).width ≡ array_depth self.old array }
+        requires value_width { (signal self.old value).width ≡ array_width self.old array }
+        ensures exact { OnOk result (self.new ≡ with_write self.old array (write_port enable addr value)) }
+        ensures place { IfOk result (λ k. k ≡ length (array_at self.old array).writes) }
+        ensures writes { OnOk result (write_signals self.new array ≡ write_signals self.old array ++ write_signal self.old (write_port enable addr value) ∷ []) }
+        ensures extends { ExtendsBut (one_array array) self.old self.new }
+        ensures err { OnErr result (self.new ≡ self.old) }
+    {
+        let written = &mut self.arrays[array];
+        let at = written.writes.len();
+        written.writes.push(WritePort {
+            enable,
+            addr,
+            value,
+        })?;
+        Ok(at)
+    }
+
+    /// One more cell; the nets that it reads are there, with the widths that it takes.
+    pub fn cell(&mut self, cell: Cell) -> Result<Net, NoMemory>
+        requires { Fits self.old cell }
+        ensures exact { OnOk result (self.new ≡ with_cell self.old cell) }
+        ensures place { IfOk result (λ x. x ≡ Net.Cell (length self.old.cells)) }
+        ensures means { IfOk result (λ x. Means self.new x (cell_signal self.old (signal self.old) cell)) }
+        ensures extends { Extends self.old self.new }
+        ensures err { OnErr result (self.new ≡ self.old) }
+    {
+        let at = self.cells.len();
+        let width = self.cell_width(cell);
+        self.cell_widths.push(width)?;
+        match self.cells.push(cell) {
+            Ok(()) => Ok(Net::Cell(at)),
+            Err(_) => {
+                self.cell_widths.pop();
+                Err(NoMemory)
+            }
+        }
+    }
+
+    /// The whole netlist, with its name and the memories of its pipe.
+    pub fn finish(self, name: Name, mems: Seq<MemInfo>) -> Netlist
+        ensures value { circuit_of result ≡ self }
+        ensures name { result.name ≡ name }
+        ensures mems { result.mems ≡ mems }
+        ensures well { IsWell (circuit_of result) }
+    {
+        Netlist {
+            name,
+            ports: Seq::from_vec(self.ports),
+            regs: Seq::from_vec(self.regs),
+            arrays: Seq::from_vec(self.arrays),
+            cells: Seq::from_vec(self.cells),
+            mems,
+        }
+    }
+
+    /// A cell that is always this value, of 1 to 64 bits.
+    pub fn constant(&mut self, width: u8, value: u64) -> Result<Net, NoMemory>
+        requires low { 1 ≤ width }
+        requires high { width ≤ 64 }
+        requires fits { value < 2 ^ width }
+        ensures means { IfOk result (λ x. Means self.new x (const_signal width value)) }
+        ensures extends { Extends self.old self.new }
+    {
+        self.cell(Cell::Const { width, value })
+    }
+
+    /// Each bit of a net the other way.
+    pub fn not(&mut self, a: Net) -> Result<Net, NoMemory>
+        requires { IsThere self.old a }
+        ensures means { IfOk result (λ x. Means self.new x (not_signal (signal self.old a))) }
+        ensures extends { Extends self.old self.new }
+    {
+        self.cell(Cell::Not(a))
+    }
+
+    /// An operator on two nets of one width.
+    pub fn bin(&mut self, op: BinOp, a: Net, b: Net) -> Result<Net, NoMemory>
+        requires a_there { IsThere self.old a }
+        requires b_there { IsThere self.old b }
+        requires widths { (signal self.old a).width ≡ (signal self.old b).width }
+        ensures means { IfOk result (λ x. Means self.new x (bin_signal op (signal self.old a) (signal self.old b))) }
+        ensures extends { Extends self.old self.new }
+    {
+        self.cell(Cell::Bin(op, a, b))
+    }
+
+    /// The net `a` where `choice`, of 1 bit, is 1, else `b`.
+    pub fn mux(&mut self, choice: Net, a: Net, b: Net) -> Result<Net, NoMemory>
+        requires choice_there { IsThere self.old choice }
+        requires a_there { IsThere self.old a }
+        requires b_there { IsThere self.old b }
+        requires one { (signal self.old choice).width ≡ 1 }
+        requires widths { (signal self.old a).width ≡ (signal self.old b).width }
+        ensures means { IfOk result (λ x. Means self.new x (mux_signal (signal self.old choice) (signal self.old a) (signal self.old b))) }
+        ensures extends { Extends self.old self.new }
+    {
+        self.cell(Cell::Mux(choice, a, b))
+    }
+
+    /// The bits of a net from `high` down to `low`.
+    pub fn slice(&mut self, a: Net, high: u8, low: u8) -> Result<Net, NoMemory>
+        requires a_there { IsThere self.old a }
+        requires order { low ≤ high }
+        requires top { high < (signal self.old a).width }
+        ensures means { IfOk result (λ x. Means self.new x (slice_signal high low (signal self.old a))) }
+        ensures extends { Extends self.old self.new }
+    {
+        self.cell(Cell::Slice { a, high, low })
+    }
+
+    /// The net `a` above `b`, of at most 64 bits together.
+    pub fn cat(&mut self, a: Net, b: Net) -> Result<Net, NoMemory>
+        requires a_there { IsThere self.old a }
+        requires b_there { IsThere self.old b }
+        requires widths { (signal self.old a).width + (signal self.old b).width ≤ 64 }
+        ensures means { IfOk result (λ x. Means self.new x (cat_signal (signal self.old a) (signal self.old b))) }
+        ensures extends { Extends self.old self.new }
+    {
+        self.cell(Cell::Cat(a, b))
+    }
+
+    /// A net `count` times in a row, of at most 64 bits together.
+    pub fn rep(&mut self, count: u8, a: Net) -> Result<Net, NoMemory>
+        requires a_there { IsThere self.old a }
+        requires some { 1 ≤ count }
+        requires widths { count * (signal self.old a).width ≤ 64 }
+        ensures means { IfOk result (λ x. Means self.new x (rep_signal count (signal self.old a))) }
+        ensures extends { Extends self.old self.new }
+    {
+        self.cell(Cell::Rep { count, a })
+    }
+
+    /// The word of an array at an address.
+    pub fn read(&mut self, array: usize, addr: Net) -> Result<Net, NoMemory>
+        requires has { HasArray self.old array }
+        requires addr_there { IsThere self.old addr }
+        requires reach { 2 ^ (signal self.old addr).width ≡ array_depth self.old array }
+        ensures means { IfOk result (λ x. Means self.new x (read_signal (array_width self.old array) array (signal self.old addr))) }
+        ensures extends { Extends self.old self.new }
+    {
+        self.cell(Cell::Read { array, addr })
+    }
+}
+
+/// One more port.
+fn push_port(ports: &mut Vec<Port>, name: &Name, width: u8, dir: Dir) -> Result<(), NoMemory>
+    ensures ok { OnOk result (ports.new.items ≡ ports.old.items ++ record { name = name.now; width = width; dir = dir } ∷ []) }
+    ensures err { OnErr result (ports.new.items ≡ ports.old.items) }
+{
+    let name = name.clone()?;
+    ports.push(Port { name, width, dir })?;
+    Ok(())
+}
+
+/// The width of what an operator gives, of operands of `width` bits.
+fn bin_width(op: BinOp, width: u8) -> u8
+    ensures { result ≡ op_width op width }
+{
+    match op {
+        BinOp::Eq | BinOp::Ne | BinOp::Lt => 1,
+        _ => width,
+    }
+}
