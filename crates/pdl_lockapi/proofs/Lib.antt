@@ -1,0 +1,5 @@
+pub mod Kept
+pub mod Next
+pub mod Example
+pub mod Sequential
+pub mod Threads

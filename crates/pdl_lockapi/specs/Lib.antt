@@ -1,0 +1,4 @@
+pub mod Lock
+pub mod Laws
+pub mod Writer
+pub mod Forget
