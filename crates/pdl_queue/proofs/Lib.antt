@@ -1,0 +1,13 @@
+pub mod Kept
+pub mod Nums
+pub mod Looks
+pub mod Steps
+pub mod Law
+pub mod Reading
+pub mod Tops
+pub mod Whole
+pub mod Filled
+pub mod Final
+pub mod Made
+pub mod Sizes
+pub mod Module

@@ -1,0 +1,14 @@
+use Rattle.std.proofs.Common.{◌≡◌}
+use Rattle.pdl_net.specs.Growth.{Extends}
+use Rattle.pdl_net.specs.Meaning.{Means, signal}
+use Rattle.pdl_lockapi.specs.Laws.{step_signals}
+use Rattle.pdl_queue.specs.Steps.{filled_bit, filled_value}
+use Rattle.pdl_queue.proofs.fill.emit_fills.Given as goal
+
+abbrev pub invariant-loop-j : goal.invariant-loop-j
+invariant-loop-j l = record {
+  extends : Extends l.fn.b l.b;
+  bit : Means l.b l.bit (filled_bit l.l (step_signals l.fn.b l.p) l.k l.j);
+  value_width : (signal l.b l.value).width ≡ l.l.width;
+  value : Means l.b l.value (filled_value l.l (step_signals l.fn.b l.p) l.k l.j);
+}

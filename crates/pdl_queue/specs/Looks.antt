@@ -1,0 +1,41 @@
+-- The signals of looks, of room and of the next ticket.
+use Rattle.std.specs.Prelude.{◌≡◌, ℕ, zero, suc, ◌+◌, ◌-◌, ◌*◌, Option, Some, is_some}
+use Rattle.pdl_net.specs.declared.Net.{Net}
+use Rattle.pdl_net.specs.declared.BinOp.TheVariants.{Add, Sub, Eq, Lt}
+use Rattle.pdl_net.specs.Circuit.{Circuit}
+use Rattle.pdl_net.specs.Signal.{Signal, reg_signal, const_signal, bin_signal, mux_signal, read_signal}
+use Rattle.pdl_net.specs.Meaning.{IsThere, signal}
+use Rattle.pdl_queue.specs.declared.layout.Layout.{Layout}
+use Rattle.pdl_queue.specs.Slots.{valid_at, addr_at}
+
+-- slot k is valid, has the address, and is older: its number is less than the ticket's less the base
+abbrev pub hit_at : Layout → Signal → Signal → ℕ → Signal
+hit_at l a d k = mux_signal (reg_signal 1 (valid_at l k)) (mux_signal (bin_signal Eq (reg_signal l.bits (addr_at l k)) a) (bin_signal Lt (const_signal l.ticket k) d) (const_signal 1 0)) (const_signal 1 0)
+
+-- one of the first k slots is so
+unfoldable pub hit_signal : Layout → Signal → Signal → ℕ → Signal
+hit_signal l a d zero = const_signal 1 0
+hit_signal l a d (suc k) = mux_signal (hit_at l a d k) (const_signal 1 1) (hit_signal l a d k)
+
+-- a ticket less the base: the slot of its entry
+abbrev pub less_base : Layout → Signal → Signal
+less_base l t = bin_signal Sub t (reg_signal l.ticket l.from)
+
+-- a look is ready where no older slot has its address
+abbrev pub ready_signal : Layout → Signal → Signal → Signal
+ready_signal l a t = mux_signal (hit_signal l a (less_base l t) l.size) (const_signal 1 0) (const_signal 1 1)
+
+-- the base plus the number of valid slots among the first k
+unfoldable pub next_number : Layout → ℕ → Signal
+next_number l zero = reg_signal l.ticket l.from
+next_number l (suc k) = mux_signal (reg_signal 1 (valid_at l k)) (bin_signal Add (next_number l k) (const_signal l.ticket 1)) (next_number l k)
+
+-- room: the last slot is empty
+abbrev pub room_signal : Layout → Signal
+room_signal l = mux_signal (reg_signal 1 (l.from + 4 * l.size - 3)) (const_signal 1 0) (const_signal 1 1)
+
+-- what a look gives: the word of the array, where there is one
+pub record GivesWord (c : Circuit) (l : Layout) (a : Signal) (value : Option Net) : Type 0 where
+  pub some : is_some value ≡ is_some l.array
+  pub there : (x : Net) → value ≡ Some x → IsThere c x
+  pub same : (m : ℕ) (x : Net) → l.array ≡ Some m → value ≡ Some x → signal c x ≡ read_signal l.width m a
