@@ -1,0 +1,19 @@
+-- The command line in `clap`'s own words: one command, and a subcommand for each thing that it does.
+use Rattle.std.specs.Prelude.{true, Some, codes}
+use Rattle.clap.specs.Walk.{Rule, Text}
+use Rattle.clap.specs.Simple.{App, new_app, new_rule, with_rule, with_subcommand, on_top}
+use Rattle.clap.specs.declared.builder.action.ArgAction.TheVariants.{Set}
+
+-- a word that must be there
+abbrev pub word_rule : Text → Rule
+word_rule id = record (new_rule id) { required = true; action = Some Set }
+
+-- `run SRC IMG CYCLES`
+abbrev pub run_app : App
+run_app =
+    with_rule (with_rule (with_rule (new_app (codes "run"))
+    (word_rule (codes "source"))) (word_rule (codes "image"))) (word_rule (codes "cycles"))
+
+-- the command, over the words after the program's name
+abbrev pub pdl_app : App
+pdl_app = with_subcommand (on_top (λ s. record s { no_binary_name = true }) (new_app (codes "pdl"))) run_app.top

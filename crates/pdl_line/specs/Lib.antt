@@ -1,0 +1,4 @@
+pub mod App
+pub mod Number
+pub mod Line
+pub mod View

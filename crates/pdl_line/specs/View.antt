@@ -1,0 +1,8 @@
+-- The program's commands as those of the definition.
+use Rattle.pdl_line.specs.Line.{Command, run}
+use Rattle.pdl_line.specs.declared.line.Line as rust
+use Rattle.pdl_line.specs.declared.line.Line.TheVariants as code
+
+-- a command with the texts of its words
+abbrev pub view : rust.Line → Command
+view (code.Run source image cycles) = run source.now image.now cycles

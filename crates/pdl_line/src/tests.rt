@@ -1,0 +1,44 @@
+use crate::{Line, LineError, read_line};
+use std::alloc::Global;
+use std::test::Fail;
+
+fn texts(alloc: Global, words: &[&str]) -> Result<Vec<String>, Fail> {
+    let mut texts = Vec::new(alloc);
+    for word in words {
+        texts.push(String::from_str(alloc, word)?)?;
+    }
+    Ok(texts)
+}
+
+fn run<'a>(source: &'a str, image: &'a str, cycles: u32) -> Result<Line<'a>, LineError> {
+    Ok(Line::Run {
+        source,
+        image,
+        cycles,
+    })
+}
+
+#[test]
+fn reads_lines(rt: HostRuntime) -> Result<(), Fail> {
+    let usage = Err(LineError::Usage);
+    let table: [(&[&str], Result<Line<'_>, LineError>); 9] = [
+        (&["run", "a.pdl", "e.img", "17"], run("a.pdl", "e.img", 17)),
+        (&["run", "a", "b", "1000000"], run("a", "b", 1_000_000)),
+        (&["run", "", "-", "0000000"], run("", "-", 0)),
+        (&["run", "--", "-a", "--b", "5"], run("-a", "--b", 5)),
+        (&["run", "a", "b", "1000001"], usage),
+        (&["run", "a", "b", "00000001"], usage),
+        (&["run", "a", "b", "5", "6"], usage),
+        (&["--help"], usage),
+        (&[], usage),
+    ];
+    for (words, want) in &table {
+        let texts = texts(rt.alloc(), words)?;
+        assert_eq!(rt;
+            read_line(rt.alloc(), texts.as_slice()),
+            *want,
+            "at {words:?}"
+        );
+    }
+    Ok(())
+}
