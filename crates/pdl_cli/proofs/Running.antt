@@ -1,0 +1,50 @@
+-- One cycle more of a run.
+use Rattle.std.proofs.Common.{◌≡◌, ℕ, zero, suc, ◌+◌, ◌-◌, ◌<◌, List, ◌∷◌, ◌++◌, length, ◌≤◌, true, false, refl, sym, ap, subst, ◌∙◌, append_assoc, add-one, arith}
+use Rattle.std.specs.Prelude.{Bool, replicate, count_by, if◌then◌else◌}
+use Rattle.std.proofs.lemmas.List.{length-map}
+use Rattle.std.proofs.lemmas.List.Sums.{sum_by-cons}
+use Rattle.pdl_model.specs.Lines.{Column, Cycle, cycle_lines, lines_from}
+use Rattle.pdl_net.specs.declared.Netlist.{Netlist}
+use Rattle.pdl_net.specs.Run.{Held, shown, next, nports_from}
+use Rattle.pdl_netrun.specs.Sim.{Run, stepped}
+use Rattle.pdl_cli.specs.Printed.{cycle_of, cycles_from}
+use Rattle.pdl_cli.specs.Tally.{one_if}
+
+-- the cycles that are left of a run
+abbrev pub left : Netlist → Held → ℕ → List Cycle
+left n h k = cycles_from n h (replicate k 65535)
+
+pub left_step : (n : Netlist) (h : Held) (done cycles : ℕ) → done < cycles → left n h (cycles - done) ≡ cycle_of n (shown n h 65535) ∷ left n (next n h 65535) (cycles - (done + 1))
+left_step n h done cycles lt =
+    let e : cycles - done ≡ suc (cycles - (done + 1)) = omega arith in
+    rw e refl
+
+pub text_step : (number : ℕ) (ms : List Column) (c : Cycle) (cs rest : List Cycle) (old new all : List ℕ) → cs ≡ c ∷ rest
+    → new ≡ old ++ cycle_lines number ms c.puts → old ++ lines_from number ms cs ≡ all → new ++ lines_from (number + 1) ms rest ≡ all
+text_step number ms c cs rest old new all e n a =
+    rw (n, append_assoc, add-one) (ap (λ xs. old ++ lines_from number ms xs) (sym e) ∙ a)
+
+pub count_step : (test : Cycle → Bool) (c : Cycle) (cs rest : List Cycle) (old new all : ℕ) → cs ≡ c ∷ rest → new ≡ old + one_if (test c) → old + count_by test cs ≡ all → new + count_by test rest ≡ all
+count_step test c cs rest old new all e n a =
+    omega (arith, n, a, ap (count_by test) e, sum_by-cons (λ x. if test x then 1 else 0) c rest)
+
+-- the cycles that are left where a simulator has run one more
+pub sim_step : (old new : Run) (done cycles : ℕ) → new ≡ stepped old 65535 → done < cycles
+    → left old.netlist old.held (cycles - done) ≡ cycle_of new.netlist new.last ∷ left new.netlist new.held (cycles - (done + 1))
+sim_step old new done cycles e lt =
+    subst (λ (r : Run). left old.netlist old.held (cycles - done) ≡ cycle_of r.netlist r.last ∷ left r.netlist r.held (cycles - (done + 1))) (sym e) (left_step old.netlist old.held done cycles lt)
+
+at_most_one : (b : Bool) → one_if b ≤ 1
+at_most_one true = omega arith
+at_most_one false = omega arith
+
+pub few_more : (b : Bool) (old new done : ℕ) → new ≡ old + one_if b → old ≤ done → new ≤ done + 1
+few_more b old new done e h = omega (arith, e, at_most_one b)
+
+shown_length : (n : Netlist) (h : Held) (k : ℕ) → length (nports_from n h (replicate k 65535)) ≡ k
+shown_length n h zero = refl
+shown_length n h (suc k) = ap suc (shown_length n (next n h 65535) k)
+
+-- as many cycles as reply bits
+pub left_length : (n : Netlist) (h : Held) (k : ℕ) → length (cycles_from n h (replicate k 65535)) ≡ k
+left_length n h k = length-map (nports_from n h (replicate k 65535)) (cycle_of n) ∙ shown_length n h k

@@ -1,0 +1,7 @@
+pub mod Texts
+pub mod Failures
+pub mod Counter
+pub mod Printed
+pub mod Tally
+pub mod Commands
+pub mod Top

@@ -1,0 +1,161 @@
+// Why a command was not done, with its status and its text.
+ghost use Rattle.std.specs.Prelude.{◌≡◌, ◌≤◌, length};
+ghost use Rattle.pdl_kit.specs.Sinks.{TakesPrefix};
+ghost use Rattle.pdl_cli.specs.Texts.{Says};
+ghost use Rattle.pdl_cli.specs.Failures as spec;
+
+use crate::line_buffer::LineBuffer;
+use pdl_check::CheckError;
+use pdl_image::FileError;
+use pdl_kit::files::ReadError;
+use pdl_kit::sink::{Sink, WriteFailed, write_whole};
+use pdl_kit::{NoMemory, Rule};
+use pdl_line::LineError;
+
+/// Why a command was not done.
+#[derive(Clone, Copy, PartialEq, Eq, Debug)]
+pub enum Failure {
+    /// The words are no command.
+    Usage,
+    /// A file breaks a rule; the line is counted from 1.
+    Refused { rule: Rule, line: u32 },
+    /// A file could not be read.
+    ReadFault,
+    /// The output could not be written.
+    WriteFault,
+    NoMemory,
+}
+
+impl From<ReadError> for Failure {
+    ghost use Rattle.pdl_cli.specs.Failures.{of_read};
+    ghost use Rattle.std.specs.Prelude.{◌≡◌};
+
+    ghost from_gives = { λ e f. f ≡ of_read e };
+
+    fn from(e: ReadError) -> Failure {
+        match e {
+            ReadError::Failed => Failure::ReadFault,
+            ReadError::NoMemory => Failure::NoMemory,
+        }
+    }
+}
+
+impl From<WriteFailed> for Failure {
+    ghost use Rattle.std.specs.Prelude.{◌≡◌};
+    ghost use Rattle.pdl_cli.specs.declared.failure.Failure.TheVariants.{WriteFault};
+
+    ghost from_gives = { λ _ f. f ≡ WriteFault };
+
+    fn from(_: WriteFailed) -> Failure {
+        Failure::WriteFault
+    }
+}
+
+impl From<NoMemory> for Failure {
+    ghost use Rattle.std.specs.Prelude.{◌≡◌};
+    ghost use Rattle.pdl_cli.specs.declared.failure.Failure.TheVariants.{NoMemory as no_memory};
+
+    ghost from_gives = { λ _ f. f ≡ no_memory };
+
+    fn from(_: NoMemory) -> Failure {
+        Failure::NoMemory
+    }
+}
+
+impl From<CheckError> for Failure {
+    ghost use Rattle.std.specs.Prelude.{◌≡◌};
+    ghost use Rattle.pdl_cli.specs.Failures.{of_check};
+
+    ghost from_gives = { λ e f. f ≡ of_check e };
+
+    fn from(e: CheckError) -> Failure {
+        match e {
+            CheckError::Refused { rule, line } => Failure::Refused { rule, line },
+            CheckError::NoMemory => Failure::NoMemory,
+        }
+    }
+}
+
+impl From<FileError> for Failure {
+    ghost use Rattle.std.specs.Prelude.{◌≡◌};
+    ghost use Rattle.pdl_cli.specs.Failures.{of_file};
+
+    ghost from_gives = { λ e f. f ≡ of_file e };
+
+    fn from(e: FileError) -> Failure {
+        match e {
+            FileError::Refused { rule, line } => Failure::Refused { rule, line },
+            FileError::NoMemory => Failure::NoMemory,
+        }
+    }
+}
+
+impl From<LineError> for Failure {
+    ghost use Rattle.std.specs.Prelude.{◌≡◌};
+    ghost use Rattle.pdl_cli.specs.Failures.{of_line};
+
+    ghost from_gives = { λ e f. f ≡ of_line e };
+
+    fn from(e: LineError) -> Failure {
+        match e {
+            LineError::Usage => Failure::Usage,
+            LineError::NoMemory => Failure::NoMemory,
+        }
+    }
+}
+
+/// The exit status of what came of a command.
+pub fn status_of(outcome: Result<(), Failure>) -> u8
+    ensures { result ≡ spec.status_of outcome }
+{
+    match outcome {
+        Ok(()) => 0,
+        Err(Failure::Usage) => 1,
+        Err(Failure::Refused { .. }) => 2,
+        Err(Failure::ReadFault) => 3,
+        Err(Failure::WriteFault) => 4,
+        Err(Failure::NoMemory) => 5,
+    }
+}
+
+/// Writes the text of what came of a command; a fault on the way is passed over, since nothing is left to tell it to.
+pub fn report<E: Sink>(outcome: Result<(), Failure>, err: &mut E)
+    ensures { Says (E.written err.old) (E.written err.new) (E.faults err.old) (E.faults err.new) (spec.text_of outcome) }
+{
+    if let Err(failure) = outcome {
+        complain(failure, err);
+    }
+}
+
+// Writes the text of a failure.
+fn complain<E: Sink>(failure: Failure, err: &mut E)
+    ensures { Says (E.written err.old) (E.written err.new) (E.faults err.old) (E.faults err.new) (spec.failure_text failure) }
+{
+    match failure {
+        Failure::Usage => say(err, b"usage\n"),
+        Failure::Refused { rule, line } => say(err, refusal(rule, line).as_bytes()),
+        Failure::ReadFault => say(err, b"read fault\n"),
+        Failure::WriteFault => {}
+        Failure::NoMemory => say(err, b"no memory\n"),
+    }
+}
+
+// The text of a refusal.
+fn refusal(rule: Rule, line: u32) -> LineBuffer
+    ensures { result ≡ spec.failure_text (Failure.Refused rule line) }
+{
+    let mut text = LineBuffer::new();
+    text.push(b"refused ");
+    text.push(&rule.text());
+    text.push(b" line ");
+    text.push_decimal(u64::from(line));
+    text.push(b"\n");
+    text
+}
+
+// Writes a text, or a prefix of it where the sink fails.
+fn say<E: Sink>(err: &mut E, text: &[u8])
+    ensures { Says (E.written err.old) (E.written err.new) (E.faults err.old) (E.faults err.new) text.now }
+{
+    let _ = write_whole(err, text);
+}

@@ -1,0 +1,14 @@
+//! The whole program as one call: `top` reads the words, the files and writes the lines.
+#![tactic(auto)]
+
+mod counter;
+mod failure;
+mod line_buffer;
+mod lines;
+mod print;
+mod program;
+mod run;
+#[cfg(test)]
+mod tests;
+
+pub use program::top;

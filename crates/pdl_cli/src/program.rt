@@ -1,0 +1,105 @@
+// The whole program.
+ghost use Rattle.std.specs.Prelude.{◌≡◌, ◌≤◌, ℕ, List, Option, IsTrue, map, string_bytes};
+ghost use Rattle.std.specs.declared.result.Result.{Result};
+ghost use Rattle.std.specs.Prelude.{Some};
+ghost use Rattle.pdl_line.specs.Line as command;
+ghost use Rattle.pdl_line.specs.Line.{line};
+ghost use Rattle.pdl_line.specs.View.{view};
+ghost use Rattle.pdl_cli.specs.declared.failure.Failure.{Failure as failure};
+ghost use Rattle.pdl_cli.specs.Texts.{Says};
+ghost use Rattle.pdl_cli.specs.Failures.{status_of as status, text_of as text};
+ghost use Rattle.pdl_cli.specs.Top.{Allows, IsFew, Seen, Explains, Decides};
+
+use crate::failure::{Failure, report, status_of};
+use crate::run::prepare;
+use pdl_kit::files::Files;
+use pdl_kit::sink::{Sink, write_whole};
+use pdl_line::{Line, read_line};
+use std::alloc::Global;
+
+// Does what `run` asks for.
+fn run<F: Files, O: Sink>(
+    alloc: Global,
+    files: &mut F,
+    out: &mut O,
+    source: &str,
+    image: &str,
+    cycles: u32,
+) -> Result<(), Failure>
+    requires source { IsTrue (F.may files.old source.now) }
+    requires image { IsTrue (F.may files.old image.now) }
+    requires few { cycles ≤ 1000000 }
+    ensures explained { Explains (Some (command.run source.now image.now cycles)) (record { holds = F.holds files.old; reads = F.faults files.old; reads_now = F.faults files.new; written = O.written out.old; written_now = O.written out.new; writes = O.faults out.old; writes_now = O.faults out.new }) result }
+    ensures held { F.holds files.new ≡ F.holds files.old }
+{
+    match prepare(alloc, files, source, image, cycles) {
+        Ok(text) => match write_whole(out, text.as_slice()) {
+            Ok(()) => Ok(()),
+            Err(_) => Err(Failure::WriteFault),
+        },
+        Err(failure) => Err(failure),
+    }
+}
+
+// Does what a command asks for.
+fn obey_line<F: Files, O: Sink>(
+    alloc: Global,
+    line: Line<'_>,
+    files: &mut F,
+    out: &mut O,
+) -> Result<(), Failure>
+    requires allowed { Allows (F.may files.old) (Some (view line)) }
+    requires few { IsFew (view line) }
+    ensures explained { Explains (Some (view line.entry)) (record { holds = F.holds files.old; reads = F.faults files.old; reads_now = F.faults files.new; written = O.written out.old; written_now = O.written out.new; writes = O.faults out.old; writes_now = O.faults out.new }) result }
+    ensures held { F.holds files.new ≡ F.holds files.old }
+{
+    match line {
+        Line::Run {
+            source,
+            image,
+            cycles,
+        } => run(alloc, files, out, source, image, cycles),
+    }
+}
+
+// Does what the words ask for.
+#[tactic(auto, using(crate::proofs::Lined::few))]
+fn obey<F: Files, O: Sink>(
+    alloc: Global,
+    words: &Vec<String>,
+    files: &mut F,
+    out: &mut O,
+) -> Result<(), Failure>
+    requires { Allows (F.may files.old) (line (map string_bytes words.now.items)) }
+    ensures explained { Explains (line (map string_bytes words.now.items)) (record { holds = F.holds files.old; reads = F.faults files.old; reads_now = F.faults files.new; written = O.written out.old; written_now = O.written out.new; writes = O.faults out.old; writes_now = O.faults out.new }) result }
+    ensures held { F.holds files.new ≡ F.holds files.old }
+{
+    match read_line(alloc, words.as_slice()) {
+        Ok(line) => obey_line(alloc, line, files, out),
+        Err(error) => Err(Failure::from(error)),
+    }
+}
+
+/// Does all that the program does: reads the words after its name, the files that they name, writes to `out`, and says on `err` why it does not.
+///
+/// The status that it answers is 0 where all was done; 1 where the words are no command; 2 where the first wrong file is refused; 3 at a fault of the files; 4 at a fault of `out`; 5 where memory ran out.
+#[tactic(auto, using(crate::proofs::Decided::decided))]
+pub fn top<F: Files, O: Sink, E: Sink>(
+    alloc: Global,
+    words: &Vec<String>,
+    files: &mut F,
+    out: &mut O,
+    err: &mut E,
+) -> u8
+    requires { Allows (F.may files.old) (line (map string_bytes words.now.items)) }
+    // The status is that of an outcome, done or a failure, that what is seen explains; err has its text.
+    ensures outcome { (o : Result (Unit {0}) failure) × (result ≡ status o) × Explains (line (map string_bytes words.now.items)) (record { holds = F.holds files.old; reads = F.faults files.old; reads_now = F.faults files.new; written = O.written out.old; written_now = O.written out.new; writes = O.faults out.old; writes_now = O.faults out.new }) o × Says (E.written err.old) (E.written err.new) (E.faults err.old) (E.faults err.new) (text o) }
+    // What is seen decides the status, but that memory may have run out.
+    ensures decided { Decides (line (map string_bytes words.now.items)) (record { holds = F.holds files.old; reads = F.faults files.old; reads_now = F.faults files.new; written = O.written out.old; written_now = O.written out.new; writes = O.faults out.old; writes_now = O.faults out.new }) result }
+    // The files hold what they held.
+    ensures held { F.holds files.new ≡ F.holds files.old }
+{
+    let outcome = obey(alloc, words, files, out);
+    report(outcome, err);
+    status_of(outcome)
+}

@@ -1,0 +1,96 @@
+// The command `run`.
+ghost use Rattle.std.specs.Prelude.{◌≡◌, ◌≤◌, ◌<◌, IsTrue, IfOk, IfErr, OnOk, ℕ, List, length, replicate};
+ghost use Rattle.pdl_kit.specs.Files.{Gives};
+ghost use Rattle.pdl_model.specs.Lines.{sequential_lines};
+ghost use Rattle.pdl_syntax.specs.View.{pipe_view};
+ghost use Rattle.pdl_check.specs.Memories.{infos_of};
+ghost use Rattle.pdl_image.specs.Images.{IsImage, IsRefusal, image as image_words};
+ghost use Rattle.pdl_cli.specs.Commands.{IsAccepted, SourceFails, ImageFails, IsTaken, IsOutput, Fails};
+
+use crate::counter::compile;
+use crate::failure::Failure;
+use crate::print;
+use pdl_check::Accepted;
+use pdl_check::check::check;
+use pdl_image::{FileError, Image, read_image};
+use pdl_kit::NoMemory;
+use pdl_kit::files::{Files, LONGEST_FILE};
+use std::alloc::Global;
+
+// Reads and checks a source.
+fn accept<F: Files>(alloc: Global, files: &mut F, name: &str) -> Result<Accepted, Failure>
+    requires { IsTrue (F.may files.old name.now) }
+    ensures ok { IfOk result (λ a. (b : List ℕ) × Gives (F.holds files.old) name.now b × IsAccepted b (pipe_view a.pipe)) }
+    ensures err { IfErr result (SourceFails (F.holds files.old) (F.faults files.old) (F.faults files.new) name.now) }
+    ensures held { F.holds files.new ≡ F.holds files.old }
+    ensures allowed { (n : List ℕ) → F.may files.new n ≡ F.may files.old n }
+    ensures later { OnOk result (F.faults files.old ≤ F.faults files.new) }
+{
+    let source = files.read(name)?;
+    Ok(check(alloc, source.as_slice())?)
+}
+
+// Reads an image for the memories of a pipe.
+fn load<F: Files>(
+    alloc: Global,
+    files: &mut F,
+    name: &str,
+    accepted: &Accepted,
+) -> Result<Image, Failure>
+    requires may { IsTrue (F.may files.old name.now) }
+    requires accepted { (b : List ℕ) × IsAccepted b (pipe_view accepted.now.pipe) }
+    ensures ok { IfOk result (λ i. (b : List ℕ) × Gives (F.holds files.old) name.now b × IsTaken (pipe_view accepted.now.pipe) b i × IsImage (infos_of (pipe_view accepted.now.pipe).mems) i) }
+    ensures err { IfErr result (ImageFails (F.holds files.old) (F.faults files.old) (F.faults files.new) name.now (pipe_view accepted.now.pipe)) }
+    ensures held { F.holds files.new ≡ F.holds files.old }
+{
+    let text = files.read(name)?;
+    Ok(image_of(alloc, accepted, text.as_slice())?)
+}
+
+// The image of a text for the memories of a pipe.
+fn image_of(alloc: Global, accepted: &Accepted, text: &[u8]) -> Result<Image, FileError>
+    requires accepted { (b : List ℕ) × IsAccepted b (pipe_view accepted.now.pipe) }
+    requires short { length text.now ≤ LONGEST_FILE }
+    ensures ok { IfOk result (λ i. IsTaken (pipe_view accepted.now.pipe) text.now i × IsImage (infos_of (pipe_view accepted.now.pipe).mems) i) }
+    ensures err { IfErr result (IsRefusal (image_words (infos_of (pipe_view accepted.now.pipe).mems) text.now)) }
+{
+    read_image(alloc, accepted.mems(), text)
+}
+
+// The text of a run of an accepted pipe.
+fn text_of(
+    alloc: Global,
+    accepted: &Accepted,
+    image: &Image,
+    cycles: u32,
+) -> Result<Vec<u8>, NoMemory>
+    requires accepted { (b : List ℕ) × IsAccepted b (pipe_view accepted.now.pipe) }
+    requires image { IsImage (infos_of (pipe_view accepted.now.pipe).mems) image.now }
+    requires few { cycles ≤ 1000000 }
+    ensures { IfOk result (λ t. t.items ≡ sequential_lines (pipe_view accepted.now.pipe) image.now cycles) }
+{
+    let netlist = compile(alloc, accepted.pipe())?;
+    print::run(alloc, &netlist, image, cycles)
+}
+
+/// The text that `run` writes for a source and an image with these names, and so many cycles.
+pub fn prepare<F: Files>(
+    alloc: Global,
+    files: &mut F,
+    source: &str,
+    image: &str,
+    cycles: u32,
+) -> Result<Vec<u8>, Failure>
+    requires source { IsTrue (F.may files.old source.now) }
+    requires image { IsTrue (F.may files.old image.now) }
+    requires few { cycles ≤ 1000000 }
+    ensures ok { IfOk result (λ t. IsOutput (F.holds files.old) source.now image.now cycles t.items) }
+    ensures err { IfErr result (Fails (F.holds files.old) (F.faults files.old) (F.faults files.new) source.now image.now) }
+    ensures held { F.holds files.new ≡ F.holds files.old }
+{
+    let accepted = accept(alloc, files, source)?;
+    match load(alloc, files, image, &accepted) {
+        Ok(words) => Ok(text_of(alloc, &accepted, &words, cycles)?),
+        Err(failure) => Err(failure),
+    }
+}
