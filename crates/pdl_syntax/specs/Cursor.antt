@@ -1,6 +1,8 @@
--- The tokens that a cursor's parts stand for.
-use Rattle.std.specs.Prelude.{List, [], ◌∷◌, Option, Some, None}
+-- The tokens that a cursor's parts stand for, and what stands at their front.
+use Rattle.std.specs.Prelude.{ℕ, List, [], ◌∷◌, Option, Some, None}
+use Rattle.pdl_model.specs.Tree.{Span, Ident}
 use Rattle.pdl_syntax.specs.declared.token.Token as r
+use Rattle.pdl_syntax.specs.declared.token.TokenKind.{TokenKind}
 use Rattle.pdl_syntax.specs.View.{span_view}
 use Rattle.pdl_syntax.specs.Tokens.{Token}
 
@@ -24,3 +26,21 @@ first (t ∷ ts) = Some t
 abbrev pub next : List Token → List Token
 next [] = []
 next (t ∷ ts) = ts
+
+abbrev pub first_kind : List Token → Option TokenKind
+first_kind [] = None
+first_kind (t ∷ ts) = Some t.kind
+
+-- where the first token stands; nowhere if there is none
+abbrev pub first_span : List Token → Span
+first_span [] = record { start = 0; end = 0; line = 0 }
+first_span (t ∷ ts) = t.span
+
+-- the bytes of the first token; none if there is none
+abbrev pub first_text : List Token → List ℕ
+first_text [] = []
+first_text (t ∷ ts) = t.text
+
+-- the name that the first token is
+abbrev pub first_name : List Token → Ident
+first_name ts = record { name = first_text ts; span = first_span ts }

@@ -4,6 +4,10 @@ pub mod Fitting
 pub mod Pieces
 pub mod Spelt
 pub mod View
-pub mod Counter
+pub mod Grammar
+pub mod Limits
+pub mod Plain
 pub mod Text
+pub mod Reading
+pub mod Cut
 pub mod Read

@@ -1,18 +1,58 @@
--- What the parts of the parser answer.
-use Rattle.std.specs.Prelude.{◌≡◌, ℕ, List, map, Result, Ok, Err}
-use Rattle.pdl_syntax.specs.declared.token.Token as r
+-- What the parts of the parser ensure.
+use Rattle.std.specs.Prelude.{◌≡◌, ◌≢◌, ℕ, List, [], ◌∷◌, ◌++◌, Option, Some, None, Result, Ok, Err}
+use Rattle.pdl_model.specs.Tree.{Span, Location, Kind, Stmt, Stmts}
+use Rattle.pdl_syntax.specs.declared.item.Item.{Item}
+use Rattle.pdl_syntax.specs.declared.item.Item.TheVariants.{One, Two}
+use Rattle.pdl_syntax.specs.declared.item.Reserved as r_reserved
+use Rattle.pdl_syntax.specs.declared.item.Held as r_held
+use Rattle.pdl_syntax.specs.declared.stop.Stop.{Stop}
+use Rattle.pdl_syntax.specs.declared.stop.Stop.TheVariants.{NoMemory as no_memory}
 use Rattle.pdl_syntax.specs.declared.tree.Pipe as r_pipe
 use Rattle.pdl_syntax.specs.declared.error.ParseError.{ParseError}
 use Rattle.pdl_syntax.specs.declared.error.ParseError.TheVariants as error
-use Rattle.pdl_syntax.specs.Counter.{counter_tokens, MayStand}
-use Rattle.pdl_syntax.specs.Cursor.{token_view}
+use Rattle.pdl_syntax.specs.Grammar.{Row, prepend}
+use Rattle.pdl_syntax.specs.Reading.{Outcome}
 use Rattle.pdl_syntax.specs.Text.{IsText, IsOutOfPlace}
-use Rattle.pdl_syntax.specs.Tokens.{tokens}
-use Rattle.pdl_syntax.specs.View.{pipe_view}
+use Rattle.pdl_syntax.specs.View.{span_view, kind_view, location_view, stmt_view, pipe_view}
 
--- the tokens of the bytes, which may stand where the counter has others
-abbrev pub AreMatched : List ℕ → List r.Token → Type 0
-AreMatched bytes done = (map token_view done ≡ tokens bytes) × MayStand (tokens bytes) counter_tokens
+-- what is read is what the rule reads, or the tokens left begin with the one that it refuses, unless memory ran out
+abbrev pub Reads : {A B : Type 0} → (A → B) → Outcome B → Result A Stop → Row → Type 0
+Reads view outcome (Ok a) left = outcome ≡ Ok (view a, left)
+Reads view outcome (Err e) left = e ≢ no_memory → outcome ≡ Err left
+
+-- the statements of an item
+abbrev pub item_view : Item → List Stmt
+item_view (One s) = stmt_view s ∷ []
+item_view (Two s t) = stmt_view s ∷ stmt_view t ∷ []
+
+-- a location, what it is reserved for, and where the semicolon stands
+abbrev pub reserved_view : r_reserved.Reserved → Location × Kind × Span
+reserved_view v = (location_view v.at, kind_view v.kind, span_view v.end)
+
+-- a location, and where the semicolon stands
+abbrev pub held_view : r_held.Held → Location × Span
+held_view v = (location_view v.at, span_view v.end)
+
+-- the same of a whole text
+abbrev pub ReadsWhole : {A B : Type 0} → (A → B) → Result B Row → Result A Stop → Row → Type 0
+ReadsWhole view outcome (Ok a) left = outcome ≡ Ok (view a)
+ReadsWhole view outcome (Err e) left = e ≢ no_memory → outcome ≡ Err left
+
+-- the line at hand, or the next one, or the last
+abbrev pub line_at : Option ℕ → Option ℕ → ℕ → ℕ
+line_at (Some line) over last = line
+line_at None (Some line) last = line
+line_at None None last = last
+
+-- with values read before
+abbrev pub behind : {A : Type 0} → List A → Outcome (List A) → Outcome (List A)
+behind xs (Ok p) = Ok (xs ++ p.0, p.1)
+behind xs (Err ts) = Err ts
+
+-- with statements read before
+abbrev pub behind_stmts : List Stmt → Outcome Stmts → Outcome Stmts
+behind_stmts ss (Ok p) = Ok (prepend ss p.0, p.1)
+behind_stmts ss (Err ts) = Err ts
 
 -- a refusal at the first token out of place, or want of memory
 abbrev pub IsMisplaced : List ℕ → ParseError → Type 0

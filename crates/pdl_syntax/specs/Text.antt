@@ -7,21 +7,25 @@ use Rattle.pdl_syntax.specs.declared.tree.Pipe as r
 use Rattle.pdl_syntax.specs.declared.error.ParseError.{ParseError}
 use Rattle.pdl_syntax.specs.declared.error.ParseError.TheVariants as error
 use Rattle.pdl_syntax.specs.Tokens.{Token, tokens, last_line}
-use Rattle.pdl_syntax.specs.Counter.{counter_tokens, MayStand, counter_tree, span_at, value_at}
+use Rattle.pdl_syntax.specs.Grammar.{Text}
+use Rattle.pdl_syntax.specs.Limits.{AreWithin, at_start}
 use Rattle.pdl_syntax.specs.View.{pipe_view}
 
--- the tokens are a spelling of the pipe
+-- the tokens are a spelling of the pipe, within the limits
 pub record Spells (p : Pipe) (ts : List Token) : Type 0 where
-  pub stand : MayStand ts counter_tokens
-  pub tree : p ≡ counter_tree (span_at ts) (value_at ts 83) (value_at ts 90)
+  pub text : Text p ts []
+  pub within : AreWithin at_start ts
 
 -- the bytes are a source text of the pipe
 abbrev pub IsText : List ℕ → Pipe → Type 0
 IsText bytes p = Spells p (tokens bytes)
 
--- some text begins with the tokens
-abbrev pub Begins : List Token → Type 0
-Begins ts = (more : List Token) × (p : Pipe) × Spells p (ts ++ more)
+-- some text begins with the tokens, and so far they are within the limits
+pub record Begins (ts : List Token) : Type 0 where
+  pub more : List Token
+  pub pipe : Pipe
+  pub text : Text pipe (ts ++ more) []
+  pub within : AreWithin at_start ts
 
 -- the line of the first of the tokens, or the last line where none is left
 abbrev pub line_of : List Token → ℕ → ℕ

@@ -51,6 +51,10 @@ op_view r_ops.Less = tree.Less
 op_view r_ops.ShiftLeft = tree.ShiftLeft
 op_view r_ops.ShiftRight = tree.ShiftRight
 
+abbrev pub maybe_op_view : Option r_op.BinaryOp → Option BinaryOp
+maybe_op_view (Some op) = Some (op_view op)
+maybe_op_view None = None
+
 abbrev pub kind_view : r_kind.Kind → Kind
 kind_view r_kinds.R = tree.R
 kind_view r_kinds.W = tree.W

@@ -7,7 +7,7 @@ ghost use Rattle.pdl_syntax.specs.Fitting.{with_digit};
 use crate::bytes::{digit_length, hex_length, is_digit, is_hex};
 use crate::token::TokenKind;
 
-/// The value of a digit of base 10 or 16.
+// The value of a digit of base 10 or 16.
 fn digit_value(c: u8) -> u64
     ensures { result ≡ spec.digit_value c }
 {
@@ -20,14 +20,14 @@ fn digit_value(c: u8) -> u64
     }
 }
 
-/// The value with one more digit, where it fits.
+// The value with one more digit, where it fits.
 fn with_digit(value: Option<u64>, base: u64, c: u8) -> Option<u64>
     ensures { result ≡ with_digit base value c }
 {
     value?.checked_mul(base)?.checked_add(digit_value(c))
 }
 
-/// The value of digits, where it is below 2^64.
+// The value of digits, where it is below 2^64.
 fn digits_value(digits: &[u8], base: u64) -> Option<u64>
     requires { 1 ≤ base }
     ensures { result ≡ spec.fitting (spec.value_of base digits.now) }

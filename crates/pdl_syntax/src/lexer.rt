@@ -9,7 +9,7 @@ use crate::token::{Token, TokenKind};
 use crate::tree::Span;
 use std::marker::Model;
 
-/// What is left of a source text, which byte of it comes next, and on which line.
+// What is left of a source text, which byte of it comes next, and on which line.
 #[derive(Clone, Copy)]
 struct Place<'a> {
     rest: &'a [u8],
@@ -19,7 +19,7 @@ struct Place<'a> {
     ghost lines: { line ≤ start + 1 },
 }
 
-/// A token, if there is one, and the place behind it.
+// A token, if there is one, and the place behind it.
 #[derive(Clone, Copy)]
 struct Step<'a> {
     token: Option<Token<'a>>,
@@ -27,7 +27,7 @@ struct Step<'a> {
 }
 
 impl<'a> Place<'a> {
-    /// The place behind the piece at the front.
+    // The place behind the piece at the front.
     #[tactic(auto, using(crate::proofs::Steps::piece_fits))]
     fn behind(&self, piece: Piece) -> Place<'a>
         requires { IsFront self.now.rest.now (Some piece) }
@@ -48,7 +48,7 @@ impl<'a> Place<'a> {
         }
     }
 
-    /// The token of so many bytes that stands here.
+    // The token of so many bytes that stands here.
     fn token(&self, kind: TokenKind, size: usize, end: u32) -> Token<'a>
         requires { size ≤ length self.now.rest.now }
         ensures { token_view result ≡ record { kind = kind; text = take size self.now.rest.now; span = record { start = self.now.start; end = end; line = self.now.line } } }
@@ -65,7 +65,7 @@ impl<'a> Place<'a> {
         }
     }
 
-    /// The first token from here on.
+    // The first token from here on.
     fn step(&self) -> Step<'a>
         ensures { onto result.token (tokens_from 0 result.behind.start result.behind.line result.behind.rest.now) ≡ tokens_from 0 self.now.start self.now.line self.now.rest.now }
     {
@@ -129,6 +129,16 @@ impl<'a> Tokens<'a> {
         ensures { maybe_token_view result ≡ first self.now }
     {
         self.known
+    }
+
+    /// Another cursor at the same place.
+    pub fn ahead(&self) -> Tokens<'a>
+        ensures { result ≡ self.now }
+    {
+        Tokens {
+            known: self.known,
+            behind: self.behind,
+        }
     }
 
     /// Goes on to the next token, if there is one.

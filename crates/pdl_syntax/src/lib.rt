@@ -2,16 +2,24 @@
 #![tactic(auto)]
 
 mod bytes;
-mod counter;
+mod cursor;
+mod declaration;
 mod digits;
 pub mod error;
+mod expression;
+mod item;
 mod lexer;
+mod limits;
 pub mod parse;
 mod piece;
 mod spelling;
+mod statement;
+mod stop;
 #[cfg(test)]
 mod tests;
+mod text;
 pub mod token;
 pub mod tree;
+mod words;
 
 pub use error::ParseError;

@@ -1,46 +1,24 @@
 // The parser.
-ghost use Rattle.std.specs.Prelude.{◌≡◌, ◌≤◌, ◌+◌, ℕ, true, None, IfOk, map, length, MatchResult};
+ghost use Rattle.std.specs.Prelude.{◌≡◌, ◌≤◌, ℕ, None, IfOk, length};
 ghost use Rattle.pdl_model.specs.Tree as tree;
-ghost use Rattle.pdl_syntax.specs.Counter as spec;
-ghost use Rattle.pdl_syntax.specs.Cursor.{token_view};
-ghost use Rattle.pdl_syntax.specs.Read.{AreMatched, IsMisplaced, IsRead};
+ghost use Rattle.pdl_syntax.specs.Read.{IsRead, line_at};
 ghost use Rattle.pdl_syntax.specs.Text.{IsText, IsOutOfPlace, broken_limit, judged, Misplaced, Gives, IsRefused};
 ghost use Rattle.pdl_syntax.specs.Tokens as lexed;
 ghost use Rattle.pdl_syntax.specs.View.{pipe_view};
 
-use crate::counter::counter_tree;
+use crate::cursor::Cursor;
 use crate::error::ParseError;
-use crate::lexer::Tokens;
-use crate::token::{Token, TokenKind};
+use crate::limits::limited;
+use crate::stop::Stop;
+use crate::text::text;
 use crate::tree::Pipe;
-use pdl_kit::{Rule, Seq};
+use pdl_kit::Rule;
 use std::alloc::Global;
 
-/// The greatest length of a source text, in bytes.
+// The greatest length of a source text, in bytes.
 const LONGEST: usize = 1_048_576;
 
-/// The one pipe that the grammar has so far.
-const COUNTER: &[u8] =
-    b"pipe p(n: uint<4>)[m: uint<8>[4] comb lock queue(1)] { a = n[1:0]; v = zext(n, 8); reserve(m[a], W); block(m[a]); m[a] <- v; release(m[a]); call(n + 4'd1); } start p(4'd0);";
-
-/// A literal of 4 bits in decimal digits.
-fn is_four_bits(token: &Token<'_>) -> bool
-    ensures { result ≡ spec.is_four_bits (token_view token.now) }
-{
-    match token.kind {
-        TokenKind::Literal { .. } => token.text.starts_with(b"4'd"),
-        _ => false,
-    }
-}
-
-/// A token may stand where the counter has another.
-fn may_stand(token: &Token<'_>, counted: &Token<'_>) -> bool
-    ensures { result ≡ spec.may_stand (token_view token.now) (token_view counted.now) }
-{
-    *token.text == *counted.text || (is_four_bits(token) && is_four_bits(counted))
-}
-
-/// The line on which a text ends.
+// The line on which a text ends.
 fn last_line(source: &[u8]) -> u32
     requires { length source.now ≤ 268435456 }
     ensures { result ≡ lexed.last_line source.now }
@@ -49,57 +27,37 @@ fn last_line(source: &[u8]) -> u32
     ends as u32 + 1
 }
 
-/// The tokens of the counter.
-#[tactic(auto, unfolding(crate::specs::Counter::counter_tokens))]
-fn counter() -> Tokens<'static>
-    ensures { result ≡ spec.counter_tokens }
-{
-    Tokens::new(COUNTER)
-}
-
-/// The tokens of a text of the grammar.
-fn matched<'a>(alloc: Global, source: &'a [u8]) -> Result<Seq<Token<'a>>, ParseError>
+// The line of the first token out of place: of the one at the cursor, or past it of the first over a limit, or else the last line.
+fn line_of(source: &[u8], at: Option<u32>, over: Option<u32>) -> u32
     requires { length source.now ≤ 268435456 }
-    ensures { MatchResult result (λ done. AreMatched source.entry.now done) (λ e. IsMisplaced source.entry.now e) }
+    ensures { result ≡ line_at at over (lexed.last_line source.now) }
 {
-    let mut done = Seq::new(alloc);
-    let mut text = Tokens::new(source);
-    let mut counted = counter();
-    while let Some(next) = counted.peek() {
-        match text.peek() {
-            Some(token) => {
-                if !may_stand(&token, &next) {
-                    return Err(ParseError::Grammar {
-                        line: token.span.line,
-                    });
-                }
-                done.push(token)?;
-                text.skip();
-                counted.skip();
-            }
-            None => {
-                return Err(ParseError::Grammar {
-                    line: last_line(source),
-                });
-            }
-        }
-    }
-    match text.peek() {
-        Some(token) => Err(ParseError::Grammar {
-            line: token.span.line,
-        }),
-        None => Ok(done),
+    match at {
+        Some(line) => line,
+        None => match over {
+            Some(line) => line,
+            None => last_line(source),
+        },
     }
 }
 
-/// The tree of a text of the grammar, however long it is.
-#[tactic(auto, using(crate::proofs::Places::is_whole, crate::proofs::Places::spelt))]
+// The tree of a text of the grammar, however long it is.
 fn read(alloc: Global, source: &[u8]) -> Result<Pipe, ParseError>
     requires { length source.now ≤ 268435456 }
     ensures { IsRead source.now result }
 {
-    let tokens = matched(alloc, source)?;
-    Ok(counter_tree(alloc, tokens.as_slice())?)
+    let front = limited(source);
+    let mut tokens = Cursor::new(source, front.count);
+    match text(alloc, &mut tokens, front.count + 1) {
+        Ok(pipe) => match front.over {
+            Some(line) => Err(ParseError::Grammar { line }),
+            None => Ok(pipe),
+        },
+        Err(Stop::Misplaced) => Err(ParseError::Grammar {
+            line: line_of(source, tokens.line(), front.over),
+        }),
+        Err(Stop::NoMemory) => Err(ParseError::NoMemory),
+    }
 }
 
 /// Reads a source text of at most 268,435,456 bytes. A text with a token out of place is refused at the line of the first one, one that ends too early at the line on which it ends (G1); a text of the grammar over 1,048,576 bytes is refused at line 1 (Z1).

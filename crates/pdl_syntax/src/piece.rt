@@ -16,7 +16,7 @@ pub struct Piece {
     pub size: usize,
 }
 
-/// A keyword, or a name of at most 32 characters.
+// A keyword, or a name of at most 32 characters.
 fn word_kind(text: &[u8]) -> TokenKind
     ensures { result ≡ spec.word_kind text.now }
 {
@@ -39,7 +39,7 @@ fn word(bytes: &[u8]) -> Piece
     }
 }
 
-/// A number, or a literal where digits with their base follow it.
+// A number, or a literal where digits with their base follow it.
 fn number_or_literal(number: &[u8], decimal: &[u8], hex: &[u8]) -> Piece
     requires number { length number.now ≤ 268435456 }
     requires decimal { length decimal.now ≤ 268435456 }

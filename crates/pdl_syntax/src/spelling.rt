@@ -226,7 +226,7 @@ const SYMBOLS: [Spelling; 28] = [
     },
 ];
 
-/// The first of the spellings that is the text.
+// The first of the spellings that is the text.
 fn written(all: &[Spelling], text: &[u8]) -> Option<Spelling>
     ensures { found_view result ≡ spelling_of (spellings_view all.now) text.now }
 {
@@ -238,7 +238,7 @@ fn written(all: &[Spelling], text: &[u8]) -> Option<Spelling>
     None
 }
 
-/// The first of the spellings with which the bytes begin.
+// The first of the spellings with which the bytes begin.
 fn beginning(all: &[Spelling], bytes: &[u8]) -> Option<Spelling>
     ensures { found_view result ≡ spelling_at (spellings_view all.now) bytes.now }
 {

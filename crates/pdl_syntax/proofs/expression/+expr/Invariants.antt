@@ -1,0 +1,27 @@
+use Rattle.std.proofs.Common.{◌≡◌, ◌+◌, ◌*◌, ◌-◌}
+use Rattle.pdl_syntax.specs.Reading as spec
+use Rattle.pdl_syntax.specs.View.{expr_view}
+use Rattle.pdl_syntax.proofs.expression.+expr.Given as goal
+
+abbrev pub decreases-bracketed : goal.decreases-bracketed
+decreases-bracketed l = 16 * l.room + 2
+
+abbrev pub decreases-extension : goal.decreases-extension
+decreases-extension l = 16 * l.room + 2
+
+abbrev pub decreases-inside : goal.decreases-inside
+decreases-inside l = 16 * l.room + 1
+
+abbrev pub decreases-operand : goal.decreases-operand
+decreases-operand l = 16 * l.room + 3
+
+abbrev pub decreases-level : goal.decreases-level
+decreases-level l = 16 * l.room + (l.n + 4)
+
+abbrev pub decreases-expr : goal.decreases-expr
+decreases-expr l = 16 * l.room + 13
+
+-- what is read and what is to come are the whole
+abbrev pub invariant-level-loop-turn : goal.invariant-level-loop-turn
+invariant-level-loop-turn l = spec.level (spec.operand (spec.inside l.room)) l.room l.n l.fn.tokens
+    ≡ spec.chain (spec.level (spec.operand (spec.inside l.room)) l.room (l.n - 1)) (l.n - 1) (l.room - l._turn) (expr_view l.left) l.tokens
