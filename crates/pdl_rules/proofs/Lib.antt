@@ -7,3 +7,6 @@ pub mod Defined
 pub mod Memories
 pub mod Legal
 pub mod Unbroken
+pub mod Stages
+pub mod Variables
+pub mod OneStage

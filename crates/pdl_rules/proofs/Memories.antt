@@ -10,7 +10,7 @@ use Rattle.pdl_rules.specs.Limits.{depths, is_depth, is_width, is_wrong_lock, br
 use Rattle.pdl_rules.specs.Parts.{passes}
 use Rattle.pdl_rules.specs.Names.{OfMemory, defines, is_undefined}
 use Rattle.pdl_rules.specs.Widths.{mem_depth, address_bits}
-use Rattle.pdl_rules.specs.Refusal.{is_straight, all_straight}
+use Rattle.pdl_rules.specs.Refusal.{is_lined, all_lined}
 use Rattle.pdl_rules.specs.Typed.{is_memory, AreDistinct, IsSized, AreSized, AreParams}
 use Rattle.pdl_rules.proofs.Straight.{Each, Keeps, closing, row}
 use Rattle.pdl_rules.proofs.Once.{any_front, any_last, bytes_sym}
@@ -111,10 +111,10 @@ no_params : (m : List ℕ) (ps : List Param) → list_any (defines (OfMemory m))
 no_params m [] = refl
 no_params m (a ∷ ps) = no_params m ps
 
-no_stmts : (m : List ℕ) (ss : Stmts) → all_straight ss ≡ true → list_any (defines (OfMemory m)) (statements [] ss) ≡ false
+no_stmts : (m : List ℕ) (ss : Stmts) → all_lined ss ≡ true → list_any (defines (OfMemory m)) (statements [] ss) ≡ false
 no_stmts m Nil e = refl
 no_stmts m (Cons s ss) e =
-    let parts = and_parts (is_straight s) (all_straight ss) e in
+    let parts = and_parts (is_lined s) (all_lined ss) e in
     ap (list_any (defines (OfMemory m))) (row s ss parts.0) ∙ no_stmts m ss parts.1
 
 among_mems : (m : List ℕ) (ms : List Mem) → list_any (defines (OfMemory m)) (map Memory ms) ≡ true → IsTrue (is_memory ms m)
@@ -125,8 +125,8 @@ among_mems m (x ∷ ms) e =
     (λ t. or_right (bytes_eq x.name.name m) _ (among_mems m ms t))
     (or_cases (bytes_eq m x.name.name) _ e)
 
-pub memory_there : (p : Pipe) (m : List ℕ) → all_straight p.body ≡ true → is_undefined (places p) (OfMemory m) ≡ false → IsTrue (is_memory p.mems m)
-memory_there p m straight e = in_front (last (sym (list_any-append test (front ++ statements [] p.body) (closing p)) ∙ not-false _ e))
+pub memory_there : (p : Pipe) (m : List ℕ) → all_lined p.body ≡ true → is_undefined (places p) (OfMemory m) ≡ false → IsTrue (is_memory p.mems m)
+memory_there p m in_line e = in_front (last (sym (list_any-append test (front ++ statements [] p.body) (closing p)) ∙ not-false _ e))
   where
     test : Place → Bool
     test = defines (OfMemory m)
@@ -144,5 +144,5 @@ memory_there p m straight e = in_front (last (sym (list_any-append test (front +
         (λ b. absurd (both_ways _ (no_params m p.params) b))
         (λ b. among_mems m p.mems b)
         (or_cases (list_any test (map Parameter p.params)) (list_any test (map Memory p.mems)) (sym (list_any-append test (map Parameter p.params) (map Memory p.mems)) ∙ a)))
-        (λ a. absurd (both_ways _ (no_stmts m p.body straight) a))
+        (λ a. absurd (both_ways _ (no_stmts m p.body in_line) a))
         (or_cases (list_any test front) (list_any test (statements [] p.body)) (sym (list_any-append test front (statements [] p.body)) ∙ t))

@@ -1,7 +1,7 @@
 -- A memory is written once: two writes would go to the one location that is reserved for them, and its release is behind both or between them.
 use Rattle.std.proofs.Common.{◌≡◌, refl, sym, ap, ap₂, ◌∙◌, subst, ℕ, ◌+◌, ◌≤◌, ◌<◌, Bool, true, false, not, ◌&&◌, ◌||◌, List, [], ◌∷◌, ◌++◌, fold, cond, if◌then◌else◌, ◌==◌, bytes_eq, count_by, ◌⊎◌, arith, ⊎_elim, inl, inr}
 use mathlib.Core.Path.{fun_ext}
-use Rattle.std.proofs.lemmas.Bool.{false≢true, true≢false, and_parts, and_from, or_cases, or_left, or_right, cases_Bool, leb-false, eqb-true, not-false, both_ways}
+use Rattle.std.proofs.lemmas.Bool.{false≢true, true≢false, and_parts, and_from, or_cases, or_parts, or_left, or_right, cases_Bool, leb-false, eqb-true, not-false, both_ways}
 use Rattle.std.proofs.lemmas.List.Folds.{list_any-append, list_all-append}
 use Rattle.std.proofs.lemmas.List.Sums.{sum_by_push, sum_by-append, fold-append}
 use Rattle.std.proofs.lemmas.Slice.Eq.{bytes_eq-Decides}
@@ -54,6 +54,14 @@ counted f (x ∷ xs) e =
     at : (b : Bool) → (b || list_any f xs) ≡ true → (list_any f xs ≡ true → 1 ≤ count_by f xs) → 1 ≤ weight b + count_by f xs
     at true e h = omega arith
     at false e h = let one : 1 ≤ count_by f xs = h e in omega arith
+
+pub count_none : {X : Type 0} (f : X → Bool) (xs : List X) → list_any f xs ≡ false → count_by f xs ≡ 0
+count_none f [] h = refl
+count_none f (x ∷ xs) h =
+    let parts = or_parts (f x) (list_any f xs) h in
+    let here : weight (f x) ≡ 0 = ap weight parts.0 in
+    let rest : count_by f xs ≡ 0 = count_none f xs parts.1 in
+    omega (arith, count_cons f x xs)
 
 -- LOCATIONS
 

@@ -1,13 +1,14 @@
 -- A source that is accepted, and for each rule one that breaks it, with the line; computed.
 use Prim.Native.String.{String}
-use Rattle.std.specs.Prelude.{true, false, ◌≡◌, ℕ, ◌+◌, List, [], ◌∷◌, ◌++◌, replicate, Option, Some, None, refl}
+use Rattle.std.specs.Prelude.{Bool, true, false, ◌≡◌, ℕ, ◌+◌, List, [], ◌∷◌, ◌++◌, map, replicate, Option, Some, None, refl}
 use Rattle.pdl_kit.specs.declared.rule.Rule.{Rule}
-use Rattle.pdl_kit.specs.declared.rule.Rule.TheVariants.{Z4, Z7, N1, N2, N3, W1, W2, W3, W4, W5, W6, F5, L1, L3, L4, L5, L6, L7, S1}
+use Rattle.pdl_kit.specs.declared.rule.Rule.TheVariants.{Z4, Z7, N1, N2, N3, W1, W2, W3, W4, W5, W6, F5, L1, L2, L3, L4, L5, L6, L7, S1}
 use Rattle.pdl_model.specs.Tree.{ZeroExtend, SignExtend, Cat, Choose, R, W, If, stmts_of, Pipe}
 use Rattle.pdl_rules.specs.Places.{Parameter, Statement}
-use Rattle.pdl_rules.specs.Limits.{breaks_z2, breaks_z5}
-use Rattle.pdl_rules.specs.Refusal.{Refused, refusal}
-use Rattle.pdl_rules.proofs.Texts.{on_line, number, literal, constant, variable, slice, plus, Line, bind, read, write, reserve, block, release, call, queue, param, comb, whole, pipe, from_line}
+use Rattle.pdl_rules.specs.Limits.{breaks_z2, breaks_z3, breaks_z5}
+use Rattle.pdl_rules.specs.Stages.{breaks_l8}
+use Rattle.pdl_rules.specs.Refusal.{Refused, refusal, is_in_line}
+use Rattle.pdl_rules.proofs.Texts.{on_line, number, literal, constant, variable, slice, plus, Line, separator, bind, read, write, reserve, block, release, call, queue, param, comb, whole, pipe, from_line}
 
 -- the refusal of a short source
 abbrev of_pipe : Pipe → Option Refused
@@ -62,6 +63,13 @@ first_over = refl
 
 not_yet_over : breaks_z2 (replicate 1023 (Statement (next 7) [])) (Statement (next 8) []) ≡ false
 not_yet_over = refl
+
+-- 63 separators cut a pipe into 64 stages
+one_separator_too_many : breaks_z3 (replicate 63 (Statement (separator 7) [])) (Statement (separator 8) []) ≡ true
+one_separator_too_many = refl
+
+most_separators : breaks_z3 (replicate 62 (Statement (separator 7) [])) (Statement (separator 8) []) ≡ false
+most_separators = refl
 
 one_binding_too_many : breaks_z5 (Parameter (param "n" 4) ∷ replicate 511 (Statement (address 7) [])) (Statement (address 8) []) ≡ true
 one_binding_too_many = refl
@@ -175,6 +183,52 @@ written_twice = refl
 
 never_released : of_pipe (pipe (address ∷ reserve "m" "a" R ∷ next ∷ [])) ≡ at_line L7 6
 never_released = refl
+
+-- STAGES
+
+-- reserved in the first stage, blocked in the second, written and released in the third
+abbrev three_stages : List Line
+three_stages = address ∷ value ∷ reserve "m" "a" W ∷ separator ∷ block "m" "a" ∷ next ∷ separator ∷ write "m" "a" (variable "v") ∷ release "m" "a" ∷ []
+
+three_accepted : of_pipe (pipe three_stages) ≡ None
+three_accepted = refl
+
+three_in_line : is_in_line (pipe three_stages) ≡ true
+three_in_line = refl
+
+-- two reservations in one stage, two releases in another, with a stage between and a read there
+read_between :
+    of_pipe (pipe (address ∷ bind "b" (slice "n" 3 2) ∷ reserve "m" "a" R ∷ reserve "m" "b" W ∷ next ∷ separator ∷ block "m" "a" ∷ read "x" "m" "a"
+    ∷ separator ∷ block "m" "b" ∷ write "m" "b" (variable "x") ∷ release "m" "b" ∷ release "m" "a" ∷ []))
+    ≡ None
+read_between = refl
+
+reserved_in_two_stages :
+    of_pipe (pipe (address ∷ bind "b" (slice "n" 3 2) ∷ reserve "m" "a" R ∷ separator ∷ reserve "m" "b" R ∷ block "m" "a" ∷ block "m" "b" ∷ release "m" "a" ∷ release "m" "b" ∷ next ∷ []))
+    ≡ at_line L2 7
+reserved_in_two_stages = refl
+
+released_in_two_stages :
+    of_pipe (pipe (address ∷ bind "b" (slice "n" 3 2) ∷ reserve "m" "a" R ∷ reserve "m" "b" R ∷ block "m" "a" ∷ block "m" "b" ∷ release "m" "a" ∷ separator ∷ release "m" "b" ∷ next ∷ []))
+    ≡ at_line L2 11
+released_in_two_stages = refl
+
+-- whether a read of the memory behind these statements breaks L8
+abbrev is_late : String → List Line → Bool
+is_late m body = breaks_l8 (pipe (body ++ read "x" m "a" ∷ [])) (map (λ s. Statement s []) (from_line 3 body)) (Statement (read "x" m "a" 9) [])
+
+behind_release : is_late "m" (reserve "m" "a" R ∷ release "m" "a" ∷ separator ∷ []) ≡ true
+behind_release = refl
+
+-- in the stage of the releases a read is in time, and so it is before them, and of a memory without lock
+with_release : is_late "m" (reserve "m" "a" R ∷ separator ∷ release "m" "a" ∷ []) ≡ false
+with_release = refl
+
+never_released_yet : is_late "m" (reserve "m" "a" R ∷ separator ∷ []) ≡ false
+never_released_yet = refl
+
+without_lock : is_late "t" (release "t" "a" ∷ separator ∷ []) ≡ false
+without_lock = refl
 
 -- CALLS
 

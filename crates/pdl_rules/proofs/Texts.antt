@@ -1,7 +1,7 @@
 -- Short words to write out a tree with its lines.
 use Prim.Native.String.{String}
 use Rattle.std.specs.Prelude.{ℕ, ◌+◌, false, List, [], ◌∷◌, Option, Some, None, codes, length}
-use Rattle.pdl_model.specs.Tree.{Span, Ident, Number, Literal, Add, Expr, Constant, Variable, Slice, Binary, Location, Kind, Stmt, CombRead, Bind, Write, Reserve, Block, Release, Call, stmts_of, Queue, LockDecl, Param, Mem, Pipe}
+use Rattle.pdl_model.specs.Tree.{Span, Ident, Number, Literal, Add, Expr, Constant, Variable, Slice, Binary, Location, Kind, Stmt, Separator, CombRead, Bind, Write, Reserve, Block, Release, Call, stmts_of, Queue, LockDecl, Param, Mem, Pipe}
 
 -- the byte 0 of a line
 abbrev pub on_line : ℕ → Span
@@ -35,6 +35,9 @@ location m a = record { mem = ident 0 m; address = ident 0 a }
 
 abbrev pub Line : Type 0
 Line = ℕ → Stmt
+
+abbrev pub separator : Line
+separator k = Separator (on_line k)
 
 abbrev pub bind : String → Expr → Line
 bind x e k = Bind (on_line k) (ident k x) e

@@ -1,7 +1,7 @@
 -- A source that is not refused breaks no rule at any place.
 use Rattle.std.proofs.Common.{◌≡◌, refl, ℕ, zero, suc, Bool, true, false, List, [], ◌∷◌, ◌++◌, get_or, Option, Some, None, if◌then◌else◌, subst}
 use Rattle.pdl_kit.specs.declared.rule.Rule.{Rule}
-use Rattle.pdl_kit.specs.declared.rule.Rule.TheVariants.{Z1, Z2, Z3, Z4, Z5, Z6, Z7, N1, N2, N3, W1, W2, W3, W4, W5, W6, F5, L1, L3, L4, L5, L6, L7, S1, S5}
+use Rattle.pdl_kit.specs.declared.rule.Rule.TheVariants.{Z1, Z2, Z3, Z4, Z5, Z6, Z7, N1, N2, N3, W1, W2, W3, W4, W5, W6, F5, L1, L2, L3, L4, L5, L6, L7, L8, S1, S5}
 use Rattle.pdl_model.specs.Tree.{Pipe}
 use Rattle.pdl_rules.specs.Places.{Place, places, line_of}
 use Rattle.pdl_rules.specs.Limits.{is_too_long}
@@ -50,12 +50,14 @@ keeps_unbroken p e W5 = unbroken p (limits ++ after_limits) 13 e
 keeps_unbroken p e W6 = unbroken p (limits ++ after_limits) 14 e
 keeps_unbroken p e F5 = unbroken p (limits ++ after_limits) 15 e
 keeps_unbroken p e L1 = unbroken p (limits ++ after_limits) 16 e
-keeps_unbroken p e L3 = unbroken p (limits ++ after_limits) 17 e
-keeps_unbroken p e L4 = unbroken p (limits ++ after_limits) 18 e
-keeps_unbroken p e L5 = unbroken p (limits ++ after_limits) 19 e
-keeps_unbroken p e L6 = unbroken p (limits ++ after_limits) 20 e
-keeps_unbroken p e L7 = unbroken p (limits ++ after_limits) 21 e
-keeps_unbroken p e S1 = unbroken p (limits ++ after_limits) 22 e
+keeps_unbroken p e L2 = unbroken p (limits ++ after_limits) 17 e
+keeps_unbroken p e L3 = unbroken p (limits ++ after_limits) 18 e
+keeps_unbroken p e L4 = unbroken p (limits ++ after_limits) 19 e
+keeps_unbroken p e L5 = unbroken p (limits ++ after_limits) 20 e
+keeps_unbroken p e L6 = unbroken p (limits ++ after_limits) 21 e
+keeps_unbroken p e L7 = unbroken p (limits ++ after_limits) 22 e
+keeps_unbroken p e L8 = unbroken p (limits ++ after_limits) 23 e
+keeps_unbroken p e S1 = unbroken p (limits ++ after_limits) 24 e
 keeps_unbroken p e _ = λ before x later same. refl
 
 -- where nothing is refused, no rule is broken

@@ -4,6 +4,7 @@ pub mod Limits
 pub mod Names
 pub mod Widths
 pub mod Locks
+pub mod Stages
 pub mod Calls
 pub mod Refusal
 pub mod Typed

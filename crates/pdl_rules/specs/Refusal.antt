@@ -2,16 +2,17 @@
 use Rattle.std.specs.Prelude.{◌≡◌, ℕ, Bool, true, false, not, ◌&&◌, List, [], ◌∷◌, ◌++◌, if◌then◌else◌, Option, Some, None}
 use Rattle.std.specs.List.{list_all}
 use Rattle.pdl_kit.specs.declared.rule.Rule.{Rule}
-use Rattle.pdl_kit.specs.declared.rule.Rule.TheVariants.{Z1, Z2, Z3, Z4, Z5, Z6, Z7, N1, N2, N3, W1, W2, W3, W4, W5, W6, F5, L1, L3, L4, L5, L6, L7, S1}
-use Rattle.pdl_model.specs.Tree.{Stmt, CombRead, Bind, Write, Reserve, Block, Release, Call, Stmts, Nil, Cons, Mem, Pipe}
+use Rattle.pdl_kit.specs.declared.rule.Rule.TheVariants.{Z1, Z2, Z3, Z4, Z5, Z6, Z7, N1, N2, N3, W1, W2, W3, W4, W5, W6, F5, L1, L2, L3, L4, L5, L6, L7, L8, S1}
+use Rattle.pdl_model.specs.Tree.{Stmt, Separator, CombRead, Bind, Write, Reserve, Block, Release, Call, Stmts, Nil, Cons, Mem, Pipe}
 use Rattle.pdl_rules.specs.Places.{Place, places, line_of}
 use Rattle.pdl_rules.specs.Limits.{is_too_long, breaks_z2, breaks_z3, breaks_z4, breaks_z5, breaks_z6, breaks_z7}
 use Rattle.pdl_rules.specs.Names.{breaks_n1, breaks_n2, breaks_n3}
 use Rattle.pdl_rules.specs.Widths.{breaks_w1, breaks_w2, breaks_w3, breaks_w4, breaks_w5, breaks_w6}
 use Rattle.pdl_rules.specs.Locks.{breaks_f5, breaks_l1, breaks_l3, breaks_l4, breaks_l5, breaks_l6, breaks_l7}
+use Rattle.pdl_rules.specs.Stages.{breaks_l2, breaks_l8}
 use Rattle.pdl_rules.specs.Calls.{breaks_s1}
 
--- whether the place, with these places before it in the text, breaks a rule; rules that no pipe of one stage breaks are asked nowhere
+-- whether the place, with these places before it in the text, breaks a rule; rules that no pipe in line breaks are asked nowhere
 abbrev pub breaks : Rule → Pipe → List Place → Place → Bool
 breaks Z2 p before x = breaks_z2 before x
 breaks Z3 p before x = breaks_z3 before x
@@ -30,11 +31,13 @@ breaks W5 p before x = breaks_w5 p x
 breaks W6 p before x = breaks_w6 p x
 breaks F5 p before x = breaks_f5 p x
 breaks L1 p before x = breaks_l1 p before x
+breaks L2 p before x = breaks_l2 before x
 breaks L3 p before x = breaks_l3 p before x
 breaks L4 p before x = breaks_l4 p before x
 breaks L5 p before x = breaks_l5 p before x
 breaks L6 p before x = breaks_l6 p before x
 breaks L7 p before x = breaks_l7 p before x
+breaks L8 p before x = breaks_l8 p before x
 breaks S1 p before x = breaks_s1 p before x
 breaks _ p before x = false
 
@@ -43,7 +46,7 @@ abbrev pub limits : List Rule
 limits = Z2 ∷ Z3 ∷ Z4 ∷ Z5 ∷ Z6 ∷ Z7 ∷ []
 
 abbrev pub after_limits : List Rule
-after_limits = N1 ∷ N2 ∷ N3 ∷ W1 ∷ W2 ∷ W3 ∷ W4 ∷ W5 ∷ W6 ∷ F5 ∷ L1 ∷ L3 ∷ L4 ∷ L5 ∷ L6 ∷ L7 ∷ S1 ∷ []
+after_limits = N1 ∷ N2 ∷ N3 ∷ W1 ∷ W2 ∷ W3 ∷ W4 ∷ W5 ∷ W6 ∷ F5 ∷ L1 ∷ L2 ∷ L3 ∷ L4 ∷ L5 ∷ L6 ∷ L7 ∷ L8 ∷ S1 ∷ []
 
 -- a rule that is broken, and the line of its lowest place
 pub record Refused : Type 0 where
@@ -100,3 +103,18 @@ is_comb m = not m.delayed
 -- whether the pipe is of that kind: it has one path
 abbrev pub is_one_stage : Pipe → Bool
 is_one_stage p = all_straight p.body && list_all is_comb p.mems
+
+-- STAGES IN LINE
+
+-- a straight statement or a separator, and a body of such
+abbrev pub is_lined : Stmt → Bool
+is_lined (Separator _) = true
+is_lined s = is_straight s
+
+abbrev pub all_lined : Stmts → Bool
+all_lined Nil = true
+all_lined (Cons s ss) = is_lined s && all_lined ss
+
+-- whether the pipe has such a body: its stages stand in a line, and it has one path
+abbrev pub is_in_line : Pipe → Bool
+is_in_line p = all_lined p.body && list_all is_comb p.mems

@@ -1,7 +1,7 @@
--- What a pipe of one stage that breaks no rule gives a compiler: each name is there when it is used, with the widths that its use wants.
+-- What a pipe in line that breaks no rule gives a compiler: each name is there when it is used, with the widths that its use wants.
 use Rattle.std.specs.Prelude.{◌≡◌, ℕ, ◌+◌, ◌^◌, ◌<◌, ◌≤◌, Bool, true, false, IsTrue, IsFalse, List, [], ◌∷◌, ◌++◌, Option, Some, None, bytes_eq, ⊤}
 use Rattle.std.specs.List.{list_any}
-use Rattle.pdl_model.specs.Tree.{Literal, Expr, Constant, Variable, Slice, Not, Binary, Cat, LessSigned, ZeroExtend, SignExtend, Choose, Location, Stmt, CombRead, Bind, Write, Reserve, Block, Release, Call, Stmts, Nil, Cons, Param, Mem, Pipe}
+use Rattle.pdl_model.specs.Tree.{Literal, Expr, Constant, Variable, Slice, Not, Binary, Cat, LessSigned, ZeroExtend, SignExtend, Choose, Location, Stmt, Separator, CombRead, Bind, Write, Reserve, Block, Release, Call, Stmts, Nil, Cons, Param, Mem, Pipe}
 use Rattle.pdl_model.specs.Flatten.{Var, var_width, mem_width, width_of, params_of}
 use Rattle.pdl_rules.specs.Widths.{mem_depth}
 use Rattle.pdl_rules.specs.Locks.{is_locked}
@@ -61,6 +61,7 @@ pub record IsLocated (ms : List Mem) (vs : List Var) (at : Location) : Type 0 wh
 
 -- a statement behind these variables and behind writes to these memories: a memory is not read behind its write, and it is written once
 abbrev pub IsLegalStmt : Pipe → List Var → List (List ℕ) → Stmt → Type 0
+IsLegalStmt p vs written (Separator _) = ⊤
 IsLegalStmt p vs written (CombRead _ x at) = IsLocated p.mems vs at × IsFalse (is_among written at.mem.name)
 IsLegalStmt p vs written (Bind _ x e) = IsTyped vs e
 IsLegalStmt p vs written (Write _ at e) =
@@ -116,7 +117,7 @@ abbrev pub AreParams : List Param → Type 0
 AreParams [] = ⊤
 AreParams (a ∷ as') = (1 ≤ a.width.value) × (a.width.value ≤ 64) × AreParams as'
 
--- a pipe of one stage that can be compiled
+-- a pipe in line that can be compiled
 pub record IsLegal (p : Pipe) : Type 0 where
   pub params : AreParams p.params
   pub starts : AreStarts p.params p.start.args
