@@ -1,7 +1,6 @@
 -- From what the parser and the scan answer to what the check answers.
 use Rattle.std.specs.Prelude.{fold}
-use Rattle.std.proofs.Common.{◌≡◌, [], map, IfOk, IsTrue, refl, sym, ap, ◌∙◌, subst, ℕ, ◌++◌, Bool, true, false, not, cond, nat_le, nat_lt, List, length, Option, Some, None, Result, Ok, Err, inl, inr, if◌then◌else◌, arith}
-use Rattle.std.proofs.lemmas.Bool.Decides.{leb_tells}
+use Rattle.std.proofs.Common.{◌≡◌, [], map, IfOk, IsTrue, refl, sym, ap, ◌∙◌, subst, ℕ, ◌++◌, false, List, Option, Some, None, Result, Ok, Err, inl, inr, if◌then◌else◌}
 use Rattle.pdl_kit.specs.declared.rule.Rule.{Rule}
 use Rattle.pdl_kit.specs.declared.rule.Rule.TheVariants.{Z1, G1}
 use Rattle.pdl_model.specs.Tree.{Pipe}
@@ -19,72 +18,40 @@ use Rattle.pdl_rules.proofs.Legal.{legal}
 use Rattle.pdl_rules.proofs.Unbroken.{keeps_unbroken}
 use Rattle.pdl_check.specs.Scan as scan
 use Rattle.pdl_check.proofs.OnePath.{refusal-scan}
+use Rattle.pdl_check.proofs.Limited.{limit_refused}
 use Rattle.pdl_syntax.specs.Text as text
+use Rattle.pdl_limits.specs.Answers as limited
 use Rattle.pdl_syntax.specs.View.{pipe_view, mem_view}
 use Rattle.pdl_rules.specs.Limits.{is_too_long}
-use Rattle.pdl_rules.specs.Refusal.{Refused, refusal, first_broken, limits, after_limits, is_one_stage}
+use Rattle.pdl_rules.specs.Refusal.{Refused, limit_refusal, refusal, first_broken, limits, after_limits, is_one_stage}
 use Rattle.pdl_check.specs.declared.accepted.Accepted.{Accepted}
 use Rattle.pdl_check.specs.declared.error.CheckError.{CheckError}
 use Rattle.pdl_check.specs.declared.error.CheckError.TheVariants as error
 use Rattle.pdl_check.specs.Answers.{Refuses, answer_of, judged, Gives, IsRefused, IsJudged, IsScanned, refusal_of}
 
--- THE LIMIT OF BYTES
-
-over : (n : ℕ) → nat_lt 1048576 n ≡ not (nat_le n 1048576)
-over n = grind (arith, leb_tells n 1048576, leb_tells 1048577 n)
-
--- the limit that a source over it breaks
-abbrev limit_unless : Bool → Option (Rule × ℕ)
-limit_unless b = cond b None (Some (Z1, 1))
-
-within_bytes : (b : Bool) → limit_unless b ≡ None → b ≡ true
-within_bytes true e = refl
-within_bytes false e = cc
-
--- within the limit a source isn't too long
-pub not_too_long : (source : List ℕ) (p : Pipe) → text.broken_limit source p ≡ None → is_too_long source ≡ false
-not_too_long source p e = over (length source) ∙ ap not (within_bytes (nat_le (length source) 1048576) e)
-
-abbrev refused_by : Option (Rule × ℕ) → Option Refused
-refused_by None = None
-refused_by (Some l) = Some (record { rule = l.0; line = l.1 })
-
-long_refused : (b : Bool) (rule : Rule) (line : ℕ) (others : Option Refused) → limit_unless b ≡ Some (rule, line)
-    → if not b then Some (record { rule = Z1; line = 1 }) else others ≡ Some (record { rule = rule; line = line })
-long_refused true rule line others e = cc
-long_refused false rule line others e =
-    ap refused_by e
-
--- past it, it is refused by that limit
-pub limit_refused : (source : List ℕ) (p : Pipe) (rule : Rule) (line : ℕ) → text.broken_limit source p ≡ Some (rule, line)
-    → refusal source p ≡ Some (record { rule = rule; line = line })
-limit_refused source p rule line e =
-    ap (λ b. if b then Some (record { rule = Z1; line = 1 }) else first_broken (limits ++ after_limits) p) (over (length source))
-    ∙ long_refused (nat_le (length source) 1048576) rule line (first_broken (limits ++ after_limits) p) e
-
 -- THE PARSER'S ANSWERS
 
-pub text_ok : (source : List ℕ) (p : Pipe) (q : r_pipe.Pipe) → text.Gives (text.judged source p) (Ok q) → pipe_view q ≡ p
-text_ok source p q h = go (text.broken_limit source p) refl
+pub text_ok : (source : List ℕ) (p : Pipe) (q : r_pipe.Pipe) → text.Gives (limited.judged source p) (Ok q) → pipe_view q ≡ p
+text_ok source p q h = go (limit_refusal source p) refl
   where
-    go : (o : Option (Rule × ℕ)) → text.broken_limit source p ≡ o → pipe_view q ≡ p
+    go : (o : Option Refused) → limit_refusal source p ≡ o → pipe_view q ≡ p
     go None e = rw e at h
-    go (Some limit) e = absurd (rw e at h)
+    go (Some refused) e = absurd (rw e at h)
 
-pub text_limit : (source : List ℕ) (p : Pipe) (rule : Rule) (line : ℕ) → text.Gives (text.judged source p) (Err (parse_error.Limit rule line))
-    → text.broken_limit source p ≡ Some (rule, line)
-text_limit source p rule line h = go (text.broken_limit source p) refl
+pub text_limit : (source : List ℕ) (p : Pipe) (rule : Rule) (line : ℕ) → text.Gives (limited.judged source p) (Err (parse_error.Limit rule line))
+    → limit_refusal source p ≡ Some (record { rule = rule; line = line })
+text_limit source p rule line h = go (limit_refusal source p) refl
   where
-    go : (o : Option (Rule × ℕ)) → text.broken_limit source p ≡ o → text.broken_limit source p ≡ Some (rule, line)
+    go : (o : Option Refused) → limit_refusal source p ≡ o → limit_refusal source p ≡ Some (record { rule = rule; line = line })
     go None e = absurd (rw e at h)
-    go (Some limit) e = e ∙ ap Some (sym (rw e at h))
+    go (Some refused) e = e ∙ ap (λ l. Some (record { rule = l.0; line = l.1 })) (sym (rw e at h))
 
-pub text_grammar : (source : List ℕ) (p : Pipe) (line : ℕ) → text.Gives (text.judged source p) (Err (parse_error.Grammar line)) → ⊥
-text_grammar source p line h = go (text.broken_limit source p) refl
+pub text_grammar : (source : List ℕ) (p : Pipe) (line : ℕ) → text.Gives (limited.judged source p) (Err (parse_error.Grammar line)) → ⊥
+text_grammar source p line h = go (limit_refusal source p) refl
   where
-    go : (o : Option (Rule × ℕ)) → text.broken_limit source p ≡ o → ⊥
+    go : (o : Option Refused) → limit_refusal source p ≡ o → ⊥
     go None e = rw e at h
-    go (Some limit) e = rw e at h
+    go (Some refused) e = rw e at h
 
 -- THE CHECK'S ANSWERS
 
@@ -117,17 +84,17 @@ judged_kept source p (Err f) e j = tt
 
 -- of each text that the source is
 pub judged_only : (source : List ℕ) (q : r_pipe.Pipe) (r : Result Accepted CheckError) → is_too_long source ≡ false → IsJudged (pipe_view q) r
-    → (p : Pipe) → text.Gives (text.judged source p) (Ok q) → Gives (judged source p) r
+    → (p : Pipe) → text.Gives (limited.judged source p) (Ok q) → Gives (judged source p) r
 judged_only source q r e j p g =
     let P : Pipe → Type 0 = λ s. IsJudged s r in
     judged_gives source p r e (subst P (text_ok source p q g) j)
 
 -- WHAT THE PARSER DOESN'T TAKE
 
-pub refused_only : (source : List ℕ) (f : ParseError) (p : Pipe) → text.Gives (text.judged source p) (Err f) → Gives (judged source p) (Err (refusal_of f))
+pub refused_only : (source : List ℕ) (f : ParseError) (p : Pipe) → text.Gives (limited.judged source p) (Err f) → Gives (judged source p) (Err (refusal_of f))
 refused_only source (parse_error.Grammar line) p g = absurd (text_grammar source p line g)
 refused_only source (parse_error.Limit rule line) p g =
-    limit_gives source p rule line (limit_refused source p rule line (text_limit source p rule line g))
+    limit_gives source p rule line (limit_refused source p (record { rule = rule; line = line }) (text_limit source p rule line g))
 refused_only source parse_error.NoMemory p g = tt
 
 pub refused_exact : (f : ParseError) (line : ℕ) → text.Gives (text.Misplaced line) (Err f) → Gives (Refuses (record { rule = G1; line = line })) (Err (refusal_of f))
@@ -135,9 +102,9 @@ refused_exact (parse_error.Grammar n) line g = ap (λ k. record { rule = G1; lin
 refused_exact (parse_error.Limit rule n) line g = absurd g
 refused_exact parse_error.NoMemory line g = tt
 
-pub refused_why : (source : List ℕ) (f : ParseError) → text.IsRefused source (Err f) → IsRefused source (Err (refusal_of f))
+pub refused_why : (source : List ℕ) (f : ParseError) → limited.IsRefused source (Err f) → IsRefused source (Err (refusal_of f))
 refused_why source (parse_error.Grammar line) h = inl (refl, h)
-refused_why source (parse_error.Limit rule line) h = inr (h.0, h.1, limit_refused source h.0 rule line h.2)
+refused_why source (parse_error.Limit rule line) h = inr (h.0, h.1, limit_refused source h.0 (record { rule = rule; line = line }) h.2)
 refused_why source parse_error.NoMemory h = tt
 
 -- THE SCAN
@@ -150,11 +117,11 @@ scanned_names q ms ps qs vs e f g h =
     ∙ ap (λ xs. fold (after_place (map mem_view q.mems)) [] (map place_view xs)) f
     ∙ ap (λ xs. fold (after_place (map mem_view q.mems)) [] xs) g
 
-pub scanned_refusal : (q : r_pipe.Pipe) (ps qs : List r_place.Place) (vs : List Var) (o : Option Refused) → IsTrue (is_one_stage (pipe_view q))
+pub scanned_refusal : (q : r_pipe.Pipe) (ps qs : List r_place.Place) (vs : List Var) (o : Option Refused) → IsTrue (is_one_stage (pipe_view q)) → first_broken limits (pipe_view q) ≡ None
     → vs ≡ variables (pipe_view q) → qs ≡ ps → map place_view ps ≡ places (pipe_view q)
     → o ≡ scan.first_broken scan.order (pipe_view q) vs (map place_view qs) → first_broken (limits ++ after_limits) (pipe_view q) ≡ o
-scanned_refusal q ps qs vs o one named f g h =
-    refusal-scan (pipe_view q) vs (map place_view qs) one named (ap (map place_view) f ∙ g) ∙ sym h
+scanned_refusal q ps qs vs o one within named f g h =
+    refusal-scan (pipe_view q) vs (map place_view qs) one within named (ap (map place_view) f ∙ g) ∙ sym h
 
 pub judged_error : (p : Pipe) (f : CheckError) → IsScanned p (Err f) → IsJudged p (Err f)
 judged_error p error.NoMemory h = tt

@@ -1,5 +1,4 @@
-pub mod Literals
 pub mod OnePath
-pub mod Counter
+pub mod Limited
 pub mod Sized
 pub mod Judged

@@ -1,23 +1,25 @@
 -- In a pipe of one stage the rules are those that the scan asks.
-use Rattle.std.specs.Prelude.{count_by, ◌==◌}
-use Rattle.std.proofs.Common.{◌≡◌, refl, sym, ap, ap₂, ◌∙◌, Bool, true, false, not, ◌&&◌, ◌||◌, List, [], ◌∷◌, ◌++◌, map, filter, if◌then◌else◌, Some}
+use Rattle.std.proofs.Common.{◌≡◌, refl, sym, ap, ap₂, ◌∙◌, Bool, true, false, not, ◌&&◌, ◌||◌, List, [], ◌∷◌, ◌++◌, map, filter, if◌then◌else◌, Some, None}
 use mathlib.Core.Path.{fun_ext}
 use Rattle.std.proofs.lemmas.Bool.{false≢true, and_parts, and_from}
 use Rattle.std.proofs.lemmas.List.Folds.{list_all-append}
 use Rattle.std.specs.List.{list_any, list_all}
-use Rattle.pdl_model.specs.Tree.{Separator, If, DelayedRead, Pipe}
+use Rattle.pdl_model.specs.Tree.{DelayedRead, Pipe}
 use Rattle.pdl_model.specs.Flatten.{Var}
 use Rattle.pdl_rules.specs.Places.{Place, Statement, places, paths, choices, on_path, on_some_path, line_of}
-use Rattle.pdl_rules.specs.Limits.{is_separator, breaks_z6}
+use Rattle.pdl_rules.specs.Limits.{is_separator}
 use Rattle.pdl_rules.specs.Names.{Use, defines, is_undefined, is_delayed, is_given, is_too_early, needs_definition, some_use}
 use Rattle.pdl_rules.specs.Widths.{variables}
 use Rattle.pdl_rules.specs.Locks.{lacks_hold, is_late_read, is_one_too_many, is_reserved_again, is_not_written_once, ends_open}
 use Rattle.pdl_rules.specs.Calls.{is_wrong_call}
 use Rattle.pdl_rules.specs.Refusal.{refused_at, is_one_stage, all_straight, is_comb, breaks, broken_line, first_broken, limits, after_limits}
 use Rattle.pdl_rules.proofs.Straight.{is_plain, guards_kept, on_only, all_on, plain_places}
+use Rattle.pdl_rules.proofs.OneStage.{in_one_stage, one_stage_refusal}
 use Rattle.pdl_check.specs.declared.scan.Asked.{Asked}
-use Rattle.pdl_check.specs.declared.scan.Asked.TheVariants.{Z2, Z3, Z4, Z5, Z6, Z7, N1, N2, N3, W1, W2, W3, W4, W5, W6, F5, L1, L3, L4, L5, L6, L7, S1}
+use Rattle.pdl_check.specs.declared.scan.Asked.TheVariants.{N1, N2, N3, W1, W2, W3, W4, W5, W6, F5, L1, L3, L4, L5, L6, L7, S1}
+use Rattle.pdl_namerules.specs.Early.{is_early}
 use Rattle.pdl_check.specs.Scan as scan
+use Rattle.pdl_check.proofs.Limited.{behind_kept}
 
 or_false : (b : Bool) → (b || false) ≡ b
 or_false true = refl
@@ -57,33 +59,16 @@ given-defined u (d ∷ ds) e =
     and_true false = refl
 
 early : (p : Pipe) (before : List Place) (x : Place) → all_straight p.body ≡ true → is_plain x ≡ true → list_all is_plain before ≡ true
-    → (u : Use) → is_too_early p before x u ≡ scan.is_early p before u
+    → (u : Use) → is_too_early p before x u ≡ is_early p before u
 early p before x straight plain all u =
     ap (λ b. needs_definition p u && (is_undefined before u || b))
     (on_the_path (λ earlier. not (is_given earlier u)) p before x straight plain all ∙ ap not (given-defined u before all))
     ∙ ap (λ b. needs_definition p u && b) (same_or (is_undefined before u))
 
--- no separators and no guards
-no_separator : (x : Place) → is_plain x ≡ true → is_separator x ≡ false
-no_separator (Statement (Separator s) []) e = absurd (false≢true e)
-no_separator (Statement s (b ∷ bs)) e = absurd (false≢true e)
-no_separator _ e = refl
-
-no_guard : (before : List Place) (x : Place) → is_plain x ≡ true → breaks_z6 before x ≡ false
-no_guard before (Statement (If s c yes_part otherwise) []) e = absurd (false≢true e)
-no_guard before (Statement s (b ∷ bs)) e = absurd (false≢true e)
-no_guard before _ e = refl
-
 -- the scan asks each rule as it stands
 asked : (r : Asked) (p : Pipe) (before : List Place) (x : Place) → all_straight p.body ≡ true → is_plain x ≡ true → list_all is_plain before ≡ true
     → breaks (scan.rule_of r) p before x ≡ scan.breaks r p (variables p) (places p) before x
 unfolding scan.breaks
-asked Z2 p before x straight plain all = refl
-asked Z3 p before x straight plain all = ap (λ b. b && (count_by is_separator before == 63)) (no_separator x plain)
-asked Z4 p before x straight plain all = refl
-asked Z5 p before x straight plain all = refl
-asked Z6 p before x straight plain all = no_guard before x plain
-asked Z7 p before x straight plain all = refl
 asked N1 p before x straight plain all = refl
 asked N2 p before x straight plain all = refl
 asked N3 p before x straight plain all = ap (λ (test : Use → Bool). some_use test x) (fun_ext (early p before x straight plain all))
@@ -120,8 +105,11 @@ rules (r ∷ rs) p straight =
 straight_body : (p : Pipe) → is_one_stage p ≡ true → all_straight p.body ≡ true
 straight_body p e = (and_parts (all_straight p.body) (list_all is_comb p.mems) e).0
 
--- the refusal of a pipe of one stage is the scan's
-pub refusal-scan : (p : Pipe) (vs : List Var) (all : List Place) → is_one_stage p ≡ true → vs ≡ variables p → all ≡ places p
+-- the refusal of a pipe of one stage that keeps the limits is the scan's
+pub refusal-scan : (p : Pipe) (vs : List Var) (all : List Place) → is_one_stage p ≡ true → first_broken limits p ≡ None → vs ≡ variables p → all ≡ places p
     → first_broken (limits ++ after_limits) p ≡ scan.first_broken scan.order p vs all
-refusal-scan p vs all one named placed =
-    rules scan.order p (straight_body p one) ∙ ap₂ (λ us xs. scan.first_broken scan.order p us xs) (sym named) (sym placed)
+refusal-scan p vs all one within named placed =
+    one_stage_refusal p (straight_body p one)
+    ∙ behind_kept limits in_one_stage p within
+    ∙ rules scan.order p (straight_body p one)
+    ∙ ap₂ (λ us xs. scan.first_broken scan.order p us xs) (sym named) (sym placed)

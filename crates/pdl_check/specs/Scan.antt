@@ -1,32 +1,26 @@
--- The rules as the scan asks them, of a pipe of one path whose places and variables are told.
-use Rattle.std.specs.Prelude.{ℕ, Bool, false, ◌&&◌, ◌||◌, List, [], ◌∷◌, ◌++◌, if◌then◌else◌, Option, Some, None}
+-- The rules after the limits as the scan asks them, of a pipe of one path whose places and variables are told.
+use Rattle.std.specs.Prelude.{ℕ, Bool, ◌||◌, List, [], ◌∷◌, ◌++◌, if◌then◌else◌, Option, Some, None}
 use Rattle.pdl_kit.specs.declared.rule.Rule.{Rule}
 use Rattle.pdl_kit.specs.declared.rule.Rule.TheVariants as rules
 use Rattle.pdl_model.specs.Tree.{Pipe}
 use Rattle.pdl_model.specs.Flatten.{Var}
 use Rattle.pdl_rules.specs.Places.{Place, line_of}
 use Rattle.pdl_rules.specs.Parts.{some_part, some_expr, some_literal, some_location}
-use Rattle.pdl_rules.specs.Limits.{breaks_z2, breaks_z4, breaks_z5, breaks_z7}
-use Rattle.pdl_rules.specs.Names.{Use, names_another_pipe, some_use, is_undefined, breaks_n2, needs_definition}
+use Rattle.pdl_rules.specs.Names.{names_another_pipe, some_use, is_undefined, breaks_n2}
 use Rattle.pdl_rules.specs.Widths.{is_unequal, is_too_large, is_out_of_range, is_wide_if, is_wide_choice}
 use Rattle.pdl_rules.specs.Locks.{breaks_f5, lacks_hold, is_late_read, is_one_too_many, is_reserved_again, is_not_written_once, ends_open}
 use Rattle.pdl_rules.specs.Calls.{is_wrong_call}
 use Rattle.pdl_rules.specs.Refusal.{Refused, refused_at}
-use Rattle.pdl_check.specs.Widths.{is_wrong_address, has_wrong_arguments, is_wrong_value}
+use Rattle.pdl_namerules.specs.Early.{is_early}
+use Rattle.pdl_widthrules.specs.Widths.{is_wrong_address, has_wrong_arguments, is_wrong_value}
 use Rattle.pdl_check.specs.declared.scan.Asked.{Asked}
-use Rattle.pdl_check.specs.declared.scan.Asked.TheVariants.{Z2, Z3, Z4, Z5, Z6, Z7, N1, N2, N3, W1, W2, W3, W4, W5, W6, F5, L1, L3, L4, L5, L6, L7, S1}
-use Rattle.pdl_check.specs.declared.scan.Broken.{Broken}
+use Rattle.pdl_check.specs.declared.scan.Asked.TheVariants.{N1, N2, N3, W1, W2, W3, W4, W5, W6, F5, L1, L3, L4, L5, L6, L7, S1}
+use Rattle.pdl_limits.specs.declared.scan.Broken.{Broken}
 
 abbrev pub order : List Asked
-order = Z2 ∷ Z3 ∷ Z4 ∷ Z5 ∷ Z6 ∷ Z7 ∷ N1 ∷ N2 ∷ N3 ∷ W1 ∷ W2 ∷ W3 ∷ W4 ∷ W5 ∷ W6 ∷ F5 ∷ L1 ∷ L3 ∷ L4 ∷ L5 ∷ L6 ∷ L7 ∷ S1 ∷ []
+order = N1 ∷ N2 ∷ N3 ∷ W1 ∷ W2 ∷ W3 ∷ W4 ∷ W5 ∷ W6 ∷ F5 ∷ L1 ∷ L3 ∷ L4 ∷ L5 ∷ L6 ∷ L7 ∷ S1 ∷ []
 
 abbrev pub rule_of : Asked → Rule
-rule_of Z2 = rules.Z2
-rule_of Z3 = rules.Z3
-rule_of Z4 = rules.Z4
-rule_of Z5 = rules.Z5
-rule_of Z6 = rules.Z6
-rule_of Z7 = rules.Z7
 rule_of N1 = rules.N1
 rule_of N2 = rules.N2
 rule_of N3 = rules.N3
@@ -45,18 +39,8 @@ rule_of L6 = rules.L6
 rule_of L7 = rules.L7
 rule_of S1 = rules.S1
 
--- a use that needs a definition before and has none
-abbrev pub is_early : Pipe → List Place → Use → Bool
-is_early p before u = needs_definition p u && is_undefined before u
-
--- whether the place breaks the rule; there are no separators and no guards
+-- whether the place breaks the rule
 unfoldable pub breaks : Asked → Pipe → List Var → List Place → List Place → Place → Bool
-breaks Z2 p vs all before x = breaks_z2 before x
-breaks Z3 p vs all before x = false
-breaks Z4 p vs all before x = breaks_z4 before x
-breaks Z5 p vs all before x = breaks_z5 before x
-breaks Z6 p vs all before x = false
-breaks Z7 p vs all before x = breaks_z7 x
 breaks N1 p vs all before x = names_another_pipe p x || some_use (is_undefined all) x
 breaks N2 p vs all before x = breaks_n2 p before x
 breaks N3 p vs all before x = some_use (is_early p before) x

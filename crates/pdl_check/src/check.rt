@@ -4,16 +4,16 @@ ghost use Rattle.pdl_kit.specs.declared.rule.Rule.TheVariants as rules;
 ghost use Rattle.pdl_model.specs.Tree as tree;
 ghost use Rattle.pdl_syntax.specs.Text.{IsText, IsOutOfPlace};
 ghost use Rattle.pdl_syntax.specs.View.{pipe_view};
-ghost use Rattle.pdl_rules.specs.Refusal.{refusal, is_one_stage};
+ghost use Rattle.pdl_rules.specs.Refusal.{refusal, first_broken, limits, is_one_stage};
 ghost use Rattle.pdl_check.specs.Answers.{judged, Gives, Refuses, IsRefused, IsJudged, IsScanned, refusal_of as spec_refusal_of};
 
 use crate::accepted::Accepted;
 use crate::error::CheckError;
 use crate::infos::infos_of;
-use crate::scan::first_broken;
+use crate::scan::first_broken as first_of_rules;
 use pdl_kit::Rule;
+use pdl_limits::parse;
 use pdl_syntax::error::ParseError;
-use pdl_syntax::parse::parse;
 use pdl_syntax::tree::Pipe;
 use pdl_types::Names;
 use pdl_types::place::places;
@@ -52,9 +52,10 @@ fn refusal_of(error: ParseError) -> CheckError
     }
 }
 
-// Asks a pipe of one stage the rules of the tree.
+// Asks a pipe of one stage that keeps the limits the rules after them.
 fn judge(alloc: Global, pipe: Pipe) -> Result<Accepted, CheckError>
-    requires { IsTrue (is_one_stage (pipe_view pipe)) }
+    requires one_stage { IsTrue (is_one_stage (pipe_view pipe)) }
+    requires within { first_broken limits (pipe_view pipe) ≡ None }
     ensures { IsJudged (pipe_view pipe) result }
 {
     let names = scanned(alloc, &pipe)?;
@@ -64,12 +65,13 @@ fn judge(alloc: Global, pipe: Pipe) -> Result<Accepted, CheckError>
 
 // The variables of a pipe that breaks no rule.
 fn scanned(alloc: Global, pipe: &Pipe) -> Result<Names, CheckError>
-    requires { IsTrue (is_one_stage (pipe_view pipe.now)) }
+    requires one_stage { IsTrue (is_one_stage (pipe_view pipe.now)) }
+    requires within { first_broken limits (pipe_view pipe.now) ≡ None }
     ensures { IsScanned (pipe_view pipe.now) result }
 {
     let places = places(alloc, pipe)?;
     let names = Names::of(alloc, pipe.mems.as_slice(), places.as_slice())?;
-    match first_broken(pipe, &names, places.as_slice()) {
+    match first_of_rules(pipe, &names, places.as_slice()) {
         None => Ok(names),
         Some(broken) => Err(CheckError::Refused {
             rule: broken.rule,

@@ -8,7 +8,7 @@ use pdl_kit::{MemInfo, NoMemory, Seq};
 use pdl_syntax::tree::Mem;
 use std::alloc::Global;
 
-// The memories in declared order.
+/// The memories as later steps are told them, in declared order.
 pub fn infos_of(alloc: Global, mems: &[Mem]) -> Result<Seq<MemInfo>, NoMemory>
     requires { AreSized (map mem_view mems.now) }
     ensures { IfOk result (λ infos. infos ≡ spec.infos_of (map mem_view mems.now)) }

@@ -1,31 +1,23 @@
-// The scan: of the rules that the tree of a source may break, the lowest that it breaks, at its lowest place.
-ghost use Rattle.std.specs.Prelude.{◌≡◌, ◌<◌, length, map, take, drop, option_map, Some};
-ghost use Rattle.pdl_syntax.specs.View.{pipe_view, stmt_view};
-ghost use Rattle.pdl_rules.specs.Places as places_spec;
-ghost use Rattle.pdl_rules.specs.Refusal as spec;
-ghost use Rattle.pdl_rules.specs.Widths.{variables};
+// The scan: of the rules after the limits that the tree of a source may break, the lowest that it breaks, at its lowest place.
+ghost use Rattle.std.specs.Prelude.{◌≡◌, map, option_map};
+ghost use Rattle.pdl_syntax.specs.View.{pipe_view};
 ghost use Rattle.pdl_types.specs.View.{place_view};
 ghost use Rattle.pdl_check.specs.Scan as straight;
 
-use crate::calls::is_wrong_call;
-use crate::limits::{breaks_z2, breaks_z4, breaks_z5, breaks_z7};
-use crate::locks::{breaks_f5, is_late_read, is_one_too_many, is_reserved_again, lacks_hold};
-use crate::names::{breaks_n1, breaks_n2, breaks_n3};
-use crate::releases::{ends_open, is_not_written_once};
-use crate::widths::{breaks_w1, breaks_w2, breaks_w3, breaks_w4, breaks_w5, breaks_w6};
 use pdl_kit::Rule;
-use pdl_syntax::tree::{Pipe, Span, Stmt};
+use pdl_limits::{Broken, line_of};
+use pdl_lockrules::{
+    breaks_f5, ends_open, is_late_read, is_not_written_once, is_one_too_many, is_reserved_again,
+    is_wrong_call, lacks_hold,
+};
+use pdl_namerules::{breaks_n1, breaks_n2, breaks_n3};
+use pdl_syntax::tree::Pipe;
 use pdl_types::{Names, Place};
+use pdl_widthrules::{breaks_w1, breaks_w2, breaks_w3, breaks_w4, breaks_w5, breaks_w6};
 
-// The rules that the scan asks, in their order.
+/// The rules that the scan asks, in their order.
 #[derive(Clone, Copy, PartialEq, Eq)]
 pub enum Asked {
-    Z2,
-    Z3,
-    Z4,
-    Z5,
-    Z6,
-    Z7,
     N1,
     N2,
     N3,
@@ -45,13 +37,7 @@ pub enum Asked {
     S1,
 }
 
-const ORDER: [Asked; 23] = [
-    Asked::Z2,
-    Asked::Z3,
-    Asked::Z4,
-    Asked::Z5,
-    Asked::Z6,
-    Asked::Z7,
+const ORDER: [Asked; 17] = [
     Asked::N1,
     Asked::N2,
     Asked::N3,
@@ -76,12 +62,6 @@ fn rule_of(asked: Asked) -> Rule
     ensures { result ≡ straight.rule_of asked }
 {
     match asked {
-        Asked::Z2 => Rule::Z2,
-        Asked::Z3 => Rule::Z3,
-        Asked::Z4 => Rule::Z4,
-        Asked::Z5 => Rule::Z5,
-        Asked::Z6 => Rule::Z6,
-        Asked::Z7 => Rule::Z7,
         Asked::N1 => Rule::N1,
         Asked::N2 => Rule::N2,
         Asked::N3 => Rule::N3,
@@ -102,14 +82,7 @@ fn rule_of(asked: Asked) -> Rule
     }
 }
 
-// A broken rule, and the line of the place that breaks it.
-#[derive(Clone, Copy, PartialEq, Eq, Debug)]
-pub struct Broken {
-    pub rule: Rule,
-    pub line: u32,
-}
-
-// Whether a place breaks the rule; a pipe of one stage has no separators and no guards.
+// Whether a place breaks the rule, in a pipe of one stage.
 #[tactic(auto, unfolding(crate::specs::Scan::breaks))]
 fn breaks(
     asked: Asked,
@@ -122,11 +95,6 @@ fn breaks(
     ensures { result ≡ straight.breaks asked (pipe_view pipe.now) names.now (map place_view all.now) (map place_view before.now) (place_view place.now) }
 {
     match asked {
-        Asked::Z2 => breaks_z2(before, place),
-        Asked::Z3 | Asked::Z6 => false,
-        Asked::Z4 => breaks_z4(before, place),
-        Asked::Z5 => breaks_z5(before, place),
-        Asked::Z7 => breaks_z7(names, place),
         Asked::N1 => breaks_n1(pipe, all, place),
         Asked::N2 => breaks_n2(pipe, before, place),
         Asked::N3 => breaks_n3(pipe, before, place),
@@ -160,7 +128,7 @@ fn broken_line(asked: Asked, pipe: &Pipe, names: &Names, all: &[Place<'_>]) -> O
     None
 }
 
-// The lowest rule of the order that is broken.
+/// The lowest rule of the order that is broken, with its lowest place.
 pub fn first_broken(pipe: &Pipe, names: &Names, all: &[Place<'_>]) -> Option<Broken>
     ensures { option_map straight.refused_of result ≡ straight.first_broken straight.order (pipe_view pipe.now) names.now (map place_view all.now) }
 {
@@ -180,63 +148,4 @@ fn first_of(rules: &[Asked], pipe: &Pipe, names: &Names, all: &[Place<'_>]) -> O
         }
     }
     None
-}
-
-// The line of a place's first token.
-fn line_of(place: &Place<'_>) -> u32
-    ensures { result ≡ places_spec.line_of (place_view place.now) }
-{
-    match place {
-        Place::Parameter(param) => param.name.span.line,
-        Place::Memory(mem) => mem.name.span.line,
-        Place::Statement(stmt) => span_of(stmt).line,
-        Place::End(span) => span.line,
-        Place::StartClause(start) => start.span.line,
-    }
-}
-
-fn span_of(stmt: &Stmt) -> Span
-    ensures { result.line ≡ (places_spec.span_of (stmt_view stmt.now)).line }
-{
-    match stmt {
-        Stmt::Separator { span } => *span,
-        Stmt::CombRead {
-            span,
-            x: _,
-            from: _,
-        } => *span,
-        Stmt::Bind { span, x: _, e: _ } => *span,
-        Stmt::SpecCall {
-            span,
-            guess: _,
-            args: _,
-        } => *span,
-        Stmt::DelayedRead {
-            span,
-            x: _,
-            from: _,
-        } => *span,
-        Stmt::Write { span, to: _, e: _ } => *span,
-        Stmt::Reserve {
-            span,
-            at: _,
-            kind: _,
-        } => *span,
-        Stmt::Block { span, at: _ } => *span,
-        Stmt::Release { span, at: _ } => *span,
-        Stmt::If {
-            span,
-            condition: _,
-            then: _,
-            otherwise: _,
-        } => *span,
-        Stmt::Call { span, args: _ } => *span,
-        Stmt::Verify {
-            span,
-            guess: _,
-            args: _,
-        } => *span,
-        Stmt::SpecCheck { span } => *span,
-        Stmt::SpecBarrier { span } => *span,
-    }
 }

@@ -6,13 +6,13 @@ use Rattle.pdl_check.proofs.Judged.{sized_memories}
 use Rattle.pdl_check.proofs.check.judge.Goals as goal
 
 pub infos_of-requires : goal.infos_of-requires
-infos_of-requires c = sized_memories c.args.pipe _ c.as_slice.ensures c.requires c.in_ok-names.ensures.1
+infos_of-requires c = sized_memories c.args.pipe _ c.as_slice.ensures c.requires.one_stage c.in_ok-names.ensures.1
 
 pub invariant_of-result : goal.invariant_of-result
 invariant_of-result c =
     record {
       kept = keeps_unbroken (pipe_view c.args.pipe) c.in_ok-names.ensures.1;
-      one_stage = c.requires;
+      one_stage = c.requires.one_stage;
       named = c.in_ok-names.ensures.0;
       told = c.in_ok-mems.ensures ∙ ap (λ ms. infos_of (map mem_view ms)) c.as_slice.ensures;
     }

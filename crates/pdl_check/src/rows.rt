@@ -1,0 +1,273 @@
+// Sources, each with the rule that it breaks and the line of the lowest place that breaks it, or none where it is accepted.
+use pdl_kit::Rule;
+
+/// A source or its statements, and the answer.
+pub type Row = (&'static [u8], Option<(Rule, u32)>);
+
+/// Names: statements of which some break N1, N2 or N3.
+pub const NAMES: [Row; 15] = [
+    (b"x = n;\ny = r[k];\ncall(n, k);\n", None),
+    (b"x = n;\ny = z;\ncall(n, k);\n", Some((Rule::N1, 4))),
+    (b"x = n;\ny = q[k];\ncall(n, k);\n", Some((Rule::N1, 4))),
+    (b"x = n;\ny = r[z];\ncall(n, k);\n", Some((Rule::N1, 4))),
+    (b"x = n;\ny = n[k];\ncall(n, k);\n", Some((Rule::N1, 4))),
+    (b"x = n;\ny = m;\ncall(n, k);\n", Some((Rule::N1, 4))),
+    (b"x = n;\ny = x;\ncall(n, k);\n", None),
+    (
+        b"x = n;\ny = n;\nx = n;\ncall(n, k);\n",
+        Some((Rule::N2, 5)),
+    ),
+    (b"x = n;\nn = x;\ncall(n, k);\n", Some((Rule::N2, 4))),
+    (b"x = n;\nm = n;\ncall(n, k);\n", Some((Rule::N2, 4))),
+    (b"x = n;\np = n;\ncall(n, k);\n", Some((Rule::N2, 4))),
+    (b"y = n;\nx = y;\ncall(n, k);\n", None),
+    (
+        b"z = n;\nx = y;\ny = n;\ncall(n, k);\n",
+        Some((Rule::N3, 4)),
+    ),
+    (b"x = n;\ny = y;\ncall(n, k);\n", Some((Rule::N3, 4))),
+    (b"x = r[a];\na = k;\ncall(n, k);\n", Some((Rule::N3, 3))),
+];
+
+/// Widths: W1, W2, W4, W5 and W6.
+pub const WIDTHS: [Row; 19] = [
+    (b"x = n + 4'd15;\ny = zext(n + n, 8);\ncall(n, k);\n", None),
+    (
+        b"x = n + 4'd1;\ny = zext(n, 8) + n;\ncall(n, k);\n",
+        Some((Rule::W1, 4)),
+    ),
+    (
+        b"x = n + k;\ny = n + k;\ncall(n, k);\n",
+        Some((Rule::W1, 3)),
+    ),
+    (
+        b"x = n[3:0];\ny = zext(n, 64);\nz = zext(n, 4) + 4'hf;\ncall(n, k);\n",
+        None,
+    ),
+    (
+        b"x = n[3:0];\ny = n[4:0];\ncall(n, k);\n",
+        Some((Rule::W2, 4)),
+    ),
+    (
+        b"x = n[0:0];\ny = n[0:1];\ncall(n, k);\n",
+        Some((Rule::W2, 4)),
+    ),
+    (
+        b"x = zext(n, 4);\ny = zext(n, 3);\ncall(n, k);\n",
+        Some((Rule::W2, 4)),
+    ),
+    (
+        b"x = zext(n, 64);\ny = zext(n, 65);\ncall(n, k);\n",
+        Some((Rule::W2, 4)),
+    ),
+    (
+        b"x = 4'd15;\ny = 4'd16;\ncall(n, k);\n",
+        Some((Rule::W2, 4)),
+    ),
+    (
+        b"x = 64'd18446744073709551615;\ny = 64'd18446744073709551616;\ncall(n, k);\n",
+        Some((Rule::W2, 4)),
+    ),
+    (b"a = n[1:0];\nx = r[a];\ncall(n, k);\n", None),
+    (
+        b"a = n[2:0];\nx = r[k];\ny = r[a];\ncall(n, k);\n",
+        Some((Rule::W4, 5)),
+    ),
+    (
+        b"a = n[0:0];\nx = r[a];\ncall(n, k);\n",
+        Some((Rule::W4, 4)),
+    ),
+    (b"x = n;\ncall(x + n, n[1:0]);\n", None),
+    (b"x = n;\ncall(x);\n", Some((Rule::W5, 4))),
+    (b"x = n;\ncall(x, k, k);\n", Some((Rule::W5, 4))),
+    (b"x = n;\ncall(k, x);\n", Some((Rule::W5, 4))),
+    (
+        b"acquire(m[k], W);\nm[k] <- zext(n, 8);\nrelease(m[k]);\ncall(n, k);\n",
+        None,
+    ),
+    (
+        b"acquire(m[k], W);\nm[k] <- n;\nrelease(m[k]);\ncall(n, k);\n",
+        Some((Rule::W6, 4)),
+    ),
+];
+
+/// Locks: F5, L1 and L3.
+pub const LOCKS: [Row; 15] = [
+    (b"x = r[k];\ncall(n, k);\n", None),
+    (
+        b"x = n;\nreserve(r[k], R);\ncall(n, k);\n",
+        Some((Rule::F5, 4)),
+    ),
+    (b"x = n;\nblock(r[k]);\ncall(n, k);\n", Some((Rule::F5, 4))),
+    (
+        b"x = n;\nr[k] <- zext(n, 8);\ncall(n, k);\n",
+        Some((Rule::F5, 4)),
+    ),
+    (
+        b"x = n;\nrelease(r[k]);\ncall(n, k);\n",
+        Some((Rule::F5, 4)),
+    ),
+    (
+        b"acquire(m[k], R);\nx = m[k];\nrelease(m[k]);\ncall(n, k);\n",
+        None,
+    ),
+    (b"x = n;\nblock(m[k]);\ncall(n, k);\n", Some((Rule::L1, 4))),
+    (
+        b"reserve(m[k], R);\nx = m[k];\nblock(m[k]);\nrelease(m[k]);\ncall(n, k);\n",
+        Some((Rule::L1, 4)),
+    ),
+    (
+        b"acquire(m[k], W);\nx = m[k];\nm[k] <- x;\nrelease(m[k]);\ncall(n, k);\n",
+        Some((Rule::L1, 4)),
+    ),
+    (
+        b"acquire(m[k], R);\nm[k] <- zext(n, 8);\nrelease(m[k]);\ncall(n, k);\n",
+        Some((Rule::L1, 4)),
+    ),
+    (
+        b"reserve(m[k], R);\nrelease(m[k]);\ncall(n, k);\n",
+        Some((Rule::L1, 4)),
+    ),
+    (
+        b"acquire(m[k], R);\nrelease(m[k]);\nrelease(m[k]);\ncall(n, k);\n",
+        Some((Rule::L1, 5)),
+    ),
+    (
+        b"a = n[3:2];\nacquire(m[k], R);\nx = m[k];\nacquire(m[a], W);\nm[a] <- x;\nrelease(m[k]);\nrelease(m[a]);\ncall(n, k);\n",
+        None,
+    ),
+    (
+        b"a = n[3:2];\nacquire(m[k], R);\nacquire(m[a], W);\nm[a] <- zext(n, 8);\nx = m[k];\nrelease(m[k]);\nrelease(m[a]);\ncall(n, k);\n",
+        Some((Rule::L3, 7)),
+    ),
+    (
+        b"a = n[3:2];\nacquire(m[a], W);\nacquire(m[k], R);\nx = m[k];\nm[a] <- x;\nrelease(m[k]);\nrelease(m[a]);\ncall(n, k);\n",
+        Some((Rule::L3, 5)),
+    ),
+];
+
+/// Reservations, releases and calls: L4 to L7 and S1.
+pub const RESERVATIONS: [Row; 13] = [
+    (
+        b"b = k; c = k; d = k;\nacquire(m[k], R); acquire(m[b], R);\nacquire(m[c], R); acquire(m[d], R);\nrelease(m[k]); release(m[b]); release(m[c]); release(m[d]);\ncall(n, k);\n",
+        None,
+    ),
+    (
+        b"b = k; c = k; d = k; e = k;\nacquire(m[k], R); acquire(m[b], R);\nacquire(m[c], R); acquire(m[d], R);\nacquire(m[e], R);\nrelease(m[k]); release(m[b]); release(m[c]); release(m[d]); release(m[e]);\ncall(n, k);\n",
+        Some((Rule::L4, 6)),
+    ),
+    (
+        b"b = k; v = zext(n, 8);\nacquire(m[k], W); m[k] <- v; release(m[k]);\nacquire(m[b], W); m[b] <- v; release(m[b]);\ncall(n, k);\n",
+        Some((Rule::L4, 5)),
+    ),
+    (
+        b"b = k;\nacquire(m[k], R); release(m[k]);\nacquire(m[b], R); release(m[b]);\ncall(n, k);\n",
+        None,
+    ),
+    (
+        b"b = k;\nacquire(m[k], R); release(m[k]);\nacquire(m[k], R); release(m[k]);\ncall(n, k);\n",
+        Some((Rule::L5, 5)),
+    ),
+    (
+        b"acquire(m[k], R); x = m[k]; release(m[k]);\nacquire(m[k], W); m[k] <- x; release(m[k]);\ncall(n, k);\n",
+        Some((Rule::L5, 4)),
+    ),
+    (
+        b"acquire(m[k], W);\nrelease(m[k]);\ncall(n, k);\n",
+        Some((Rule::L6, 4)),
+    ),
+    (
+        b"v = zext(n, 8);\nacquire(m[k], W); m[k] <- v;\nm[k] <- v;\nrelease(m[k]);\ncall(n, k);\n",
+        Some((Rule::L6, 6)),
+    ),
+    (
+        b"v = zext(n, 8);\nacquire(m[k], W);\nm[k] <- v;\nrelease(m[k]);\ncall(n, k);\n",
+        None,
+    ),
+    (
+        b"acquire(m[k], R);\nx = m[k];\ncall(n, k);\n",
+        Some((Rule::L7, 6)),
+    ),
+    (b"call(n, k);\nx = n;\n", None),
+    (b"call(n, k);\ncall(n, k);\n", Some((Rule::S1, 4))),
+    (b"x = n;\n", Some((Rule::S1, 4))),
+];
+
+/// Two broken rules, of one letter or of two: the lower one, wherever its place stands.
+pub const TWO_RULES: [Row; 7] = [
+    (
+        b"x = n[2:0];\ny = r[x];\nz = n + k;\ncall(n, k);\n",
+        Some((Rule::W1, 5)),
+    ),
+    (
+        b"acquire(m[k], W);\nrelease(m[k]);\nblock(m[k]);\ncall(n, k);\n",
+        Some((Rule::L1, 5)),
+    ),
+    (
+        b"x = n + k;\ny = z;\nz = n;\ncall(n, k);\n",
+        Some((Rule::N3, 4)),
+    ),
+    (b"x = z;\ny = 65'd0;\ncall(n, k);\n", Some((Rule::Z7, 4))),
+    (b"acquire(m[k], R);\nx = n;\n", Some((Rule::L7, 5))),
+    (
+        b"call(n, k);\ncall(n, k);\nreserve(r[k], R);\n",
+        Some((Rule::F5, 5)),
+    ),
+    (b"x = n + k;\ny = ;\ncall(n, k);\n", Some((Rule::G1, 4))),
+];
+
+/// Whole sources: what stands before the statements and after them.
+pub const WHOLE: [Row; 13] = [
+    (
+        b"pipe p(n: uint<64>)\n[m: uint<64>[65536] comb lock queue(16), r: uint<1>[2] comb]\n{ x = 64'd0; call(n); }\nstart p(64'd18446744073709551615);",
+        None,
+    ),
+    (
+        b"pipe p(n: uint<64>,\nk: uint<0>)\n[r: uint<1>[2] comb] { call(n, k); }\nstart p(64'd0, 1'd0);",
+        Some((Rule::Z7, 2)),
+    ),
+    (
+        b"pipe p(n: uint<1>)\n[m: uint<65>[2] comb] { call(n); }\nstart p(1'd0);",
+        Some((Rule::Z7, 2)),
+    ),
+    (
+        b"pipe p(n: uint<1>)\n[m: uint<1>[2] comb,\nr: uint<1>[3] comb] { call(n); }\nstart p(1'd0);",
+        Some((Rule::Z7, 3)),
+    ),
+    (
+        b"pipe p(n: uint<1>)\n[m: uint<1>[131072] comb] { call(n); }\nstart p(1'd0);",
+        Some((Rule::Z7, 2)),
+    ),
+    (
+        b"pipe p(n: uint<1>)\n[m: uint<1>[2] comb lock queue(3)] { call(n); }\nstart p(1'd0);",
+        Some((Rule::Z7, 2)),
+    ),
+    (
+        b"pipe p(n: uint<1>)\n[m: uint<1>[2] comb] { call(n); }\nstart p(0'd0);",
+        Some((Rule::Z7, 3)),
+    ),
+    (
+        b"pipe p(n: uint<1>)\n[m: uint<1>[2] comb] { call(n); }\nstart q(1'd0);",
+        Some((Rule::N1, 3)),
+    ),
+    (
+        b"pipe p(n: uint<1>)\n[n: uint<1>[2] comb] { call(n); }\nstart p(1'd0);",
+        Some((Rule::N2, 2)),
+    ),
+    (
+        b"pipe p(n: uint<1>)\n[m: uint<1>[2] comb] { call(n); }\nstart p(1'd2);",
+        Some((Rule::W2, 3)),
+    ),
+    (
+        b"pipe p(n: uint<1>)\n[m: uint<1>[2] comb] { call(n); }\nstart p(1'd0, 1'd0);",
+        Some((Rule::W5, 3)),
+    ),
+    (
+        b"pipe p(n: uint<1>)\n[m: uint<1>[2] comb] { call(n); }\nstart p(2'd0);",
+        Some((Rule::W5, 3)),
+    ),
+    (
+        b"pipe p(n: uint<1>)\n[m: uint<1>[2] comb] { call(n); }\nstart p(1'd0)\n\n",
+        Some((Rule::G1, 5)),
+    ),
+];

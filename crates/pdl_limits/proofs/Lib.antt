@@ -1,0 +1,3 @@
+pub mod OneStage
+pub mod OnePath
+pub mod Judged
