@@ -54,6 +54,7 @@ impl Builder {
         requires fits { Holds l.now.value l.now.width }
         ensures means { IfOk result (λ x. Means self.new x (spec.expr_signal [] (tree.Constant (literal_view l.now)))) }
         ensures extends { Extends self.old self.new }
+        ensures regs { self.new.regs ≡ self.old.regs }
     {
         match l.value {
             Some(value) => self.constant(l.width as u8, value),
@@ -69,6 +70,7 @@ impl Builder {
         requires top { high < (named (scope self.old env.now.vars) x.now.name).width }
         ensures means { IfOk result (λ y. Means self.new y (slice_signal high low (named (scope self.old env.now.vars) x.now.name))) }
         ensures extends { Extends self.old self.new }
+        ensures regs { self.new.regs ≡ self.old.regs }
     {
         let a = self.variable(x, env);
         let width = self.width(a);
@@ -84,6 +86,7 @@ impl Builder {
         requires typed { IsTyped (vars_of (scope self.old env.now.vars)) (expr_view e.now) }
         ensures means { IfOk result (λ x. Means self.new x (spec.expr_signal (scope self.old env.now.vars) (expr_view e.now))) }
         ensures extends { Extends self.old self.new }
+        ensures regs { self.new.regs ≡ self.old.regs }
     {
         match e {
             Expr::Constant(l) => self.literal(l),

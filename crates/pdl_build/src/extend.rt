@@ -19,6 +19,7 @@ impl Builder {
         requires high { width ≤ 64 }
         ensures means { IfOk result (λ x. Means self.new x (zext_signal width (signal self.old a))) }
         ensures extends { Extends self.old self.new }
+        ensures regs { self.new.regs ≡ self.old.regs }
     {
         let narrow = self.width(a);
         if width == narrow {
@@ -36,6 +37,7 @@ impl Builder {
         requires high { width ≤ 64 }
         ensures means { IfOk result (λ x. Means self.new x (sext_signal width (signal self.old a))) }
         ensures extends { Extends self.old self.new }
+        ensures regs { self.new.regs ≡ self.old.regs }
     {
         let narrow = self.width(a);
         if width == narrow {
@@ -54,6 +56,7 @@ impl Builder {
         requires widths { (signal self.old a).width ≡ (signal self.old b).width }
         ensures means { IfOk result (λ x. Means self.new x (bin_signal net_op.Lt (raised_signal (signal self.old a)) (raised_signal (signal self.old b)))) }
         ensures extends { Extends self.old self.new }
+        ensures regs { self.new.regs ≡ self.old.regs }
     {
         let x = self.raise(a)?;
         let y = self.raise(b)?;
@@ -66,6 +69,7 @@ impl Builder {
         requires { IsThere self.old a }
         ensures means { IfOk result (λ x. Means self.new x (raised_signal (signal self.old a))) }
         ensures extends { Extends self.old self.new }
+        ensures regs { self.new.regs ≡ self.old.regs }
     {
         let width = self.width(a);
         let half = self.constant(width, 1 << (width - 1))?;

@@ -225,6 +225,7 @@ impl Builder {
         ensures place { IfOk result (λ x. x ≡ Net.Cell (length self.old.cells)) }
         ensures means { IfOk result (λ x. Means self.new x (cell_signal self.old (signal self.old) cell)) }
         ensures extends { Extends self.old self.new }
+        ensures regs { self.new.regs ≡ self.old.regs }
         ensures err { OnErr result (self.new ≡ self.old) }
     {
         let at = self.cells.len();
@@ -263,6 +264,7 @@ impl Builder {
         requires fits { value < 2 ^ width }
         ensures means { IfOk result (λ x. Means self.new x (const_signal width value)) }
         ensures extends { Extends self.old self.new }
+        ensures regs { self.new.regs ≡ self.old.regs }
     {
         self.cell(Cell::Const { width, value })
     }
@@ -272,6 +274,7 @@ impl Builder {
         requires { IsThere self.old a }
         ensures means { IfOk result (λ x. Means self.new x (not_signal (signal self.old a))) }
         ensures extends { Extends self.old self.new }
+        ensures regs { self.new.regs ≡ self.old.regs }
     {
         self.cell(Cell::Not(a))
     }
@@ -283,6 +286,7 @@ impl Builder {
         requires widths { (signal self.old a).width ≡ (signal self.old b).width }
         ensures means { IfOk result (λ x. Means self.new x (bin_signal op (signal self.old a) (signal self.old b))) }
         ensures extends { Extends self.old self.new }
+        ensures regs { self.new.regs ≡ self.old.regs }
     {
         self.cell(Cell::Bin(op, a, b))
     }
@@ -296,6 +300,7 @@ impl Builder {
         requires widths { (signal self.old a).width ≡ (signal self.old b).width }
         ensures means { IfOk result (λ x. Means self.new x (mux_signal (signal self.old choice) (signal self.old a) (signal self.old b))) }
         ensures extends { Extends self.old self.new }
+        ensures regs { self.new.regs ≡ self.old.regs }
     {
         self.cell(Cell::Mux(choice, a, b))
     }
@@ -307,6 +312,7 @@ impl Builder {
         requires top { high < (signal self.old a).width }
         ensures means { IfOk result (λ x. Means self.new x (slice_signal high low (signal self.old a))) }
         ensures extends { Extends self.old self.new }
+        ensures regs { self.new.regs ≡ self.old.regs }
     {
         self.cell(Cell::Slice { a, high, low })
     }
@@ -318,6 +324,7 @@ impl Builder {
         requires widths { (signal self.old a).width + (signal self.old b).width ≤ 64 }
         ensures means { IfOk result (λ x. Means self.new x (cat_signal (signal self.old a) (signal self.old b))) }
         ensures extends { Extends self.old self.new }
+        ensures regs { self.new.regs ≡ self.old.regs }
     {
         self.cell(Cell::Cat(a, b))
     }
@@ -329,6 +336,7 @@ impl Builder {
         requires widths { count * (signal self.old a).width ≤ 64 }
         ensures means { IfOk result (λ x. Means self.new x (rep_signal count (signal self.old a))) }
         ensures extends { Extends self.old self.new }
+        ensures regs { self.new.regs ≡ self.old.regs }
     {
         self.cell(Cell::Rep { count, a })
     }
@@ -340,6 +348,7 @@ impl Builder {
         requires reach { 2 ^ (signal self.old addr).width ≡ array_depth self.old array }
         ensures means { IfOk result (λ x. Means self.new x (read_signal (array_width self.old array) array (signal self.old addr))) }
         ensures extends { Extends self.old self.new }
+        ensures regs { self.new.regs ≡ self.old.regs }
     {
         self.cell(Cell::Read { array, addr })
     }
