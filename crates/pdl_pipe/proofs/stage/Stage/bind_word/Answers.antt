@@ -1,0 +1,20 @@
+use Rattle.std.proofs.Common.{map}
+use Rattle.pdl_syntax.specs.View.{ident_view, location_view, mem_view}
+use Rattle.pdl_build.specs.Env.{scope}
+use Rattle.pdl_pipe.specs.Walk.{read_of}
+use Rattle.pdl_pipe.proofs.Kept.{on_ok, bound_there, bound_walk}
+use Rattle.pdl_pipe.proofs.stage.Stage.bind_word.Goals as goal
+
+pub returns-clause-there : goal.returns-clause-there
+returns-clause-there c =
+    on_ok c.bind.result
+    (λ h. bound_there c.args.b.now c.read.new.b c.args.self.now c.bind.new.self (ident_view c.args.x.now).name c.in_ok-net.net (read_of (map mem_view c.args.mems.now) (scope c.args.b.now c.args.self.now.env.vars) (location_view c.args.from.now))
+    c.read.ensures.extends c.requires.there c.in_ok-net.ensures.means h c.bind.ensures.puts c.bind.ensures.args)
+    c.bind.ensures.ok
+
+pub returns-clause-walk : goal.returns-clause-walk
+returns-clause-walk c =
+    on_ok c.bind.result
+    (λ h. bound_walk c.args.b.now c.read.new.b c.args.self.now c.bind.new.self (ident_view c.args.x.now).name c.in_ok-net.net (read_of (map mem_view c.args.mems.now) (scope c.args.b.now c.args.self.now.env.vars) (location_view c.args.from.now))
+    c.read.ensures.extends c.requires.there c.in_ok-net.ensures.means h c.bind.ensures.puts c.bind.ensures.args)
+    c.bind.ensures.ok
