@@ -1,96 +1,59 @@
--- What an accepted counter gives the compiler.
-use Rattle.std.proofs.Common.{◌≡◌, ◌≢◌, ℕ, zero, suc, false, [], codes, ◌<◌, ◌≤◌, Option, Some, None, List, length, All, AllPairs, refl, sym, ap, ◌∙◌, subst, arith, lit≤}
-use Rattle.std.specs.Prelude.{unwrap_or, replicate}
+-- What an accepted pipe gives the run of its netlist.
+use Rattle.std.proofs.Common.{◌≡◌, ◌≢◌, ℕ, zero, suc, [], ◌∷◌, ◌≤◌, List, length, map, All, AllPairs, refl, ap, ap₂, ◌∙◌, subst, inl, inr}
+use Rattle.std.specs.Prelude.{replicate, IsTrue}
 use Rattle.pdl_kit.specs.declared.mem_info.MemInfo.{MemInfo}
-use Rattle.pdl_model.specs.Tree.{Span, Pipe}
-use Rattle.pdl_model.specs.Lines.{sequential_lines}
-use Rattle.pdl_syntax.specs.Tokens.{tokens}
-use Rattle.pdl_syntax.specs.Counter.{counter_tree, span_at, value_at}
-use Rattle.pdl_rules.specs.Typed.{IsLegal, Holds}
-use Rattle.pdl_rules.specs.Refusal.{KeepsRules}
-use Rattle.pdl_rules.proofs.Legal.{legal}
-use Rattle.pdl_rules.proofs.Unbroken.{keeps_accepted}
+use Rattle.pdl_model.specs.Tree.{Mem, Pipe}
+use Rattle.pdl_model.specs.Flat.{arrays_of}
+use Rattle.pdl_model.specs.Flatten.{flat}
+use Rattle.pdl_model.specs.Sequential.{threads}
+use Rattle.pdl_model.specs.Lines.{columns, thread_cycles, sequential_lines, lines}
+use Rattle.pdl_rules.specs.Refusal.{KeepsRules, is_one_stage}
 use Rattle.pdl_check.specs.Memories.{infos_of}
+use Rattle.pdl_image.specs.Images.{IsImage}
 use Rattle.pdl_net.specs.declared.Netlist.{Netlist}
-use Rattle.pdl_net.specs.Pipe.{IsWellFormed}
-use Rattle.pdl_net.specs.Run.{delayed_mems}
-use Rattle.pdl_cli.specs.Counter.{netlist_of, counter_mems}
+use Rattle.pdl_pipe.specs.Runs.{column_of, ShowsThreads}
+use Rattle.pdl_pipe.proofs.WellNames.{Among}
+use Rattle.pdl_pipe.proofs.Well as well
 use Rattle.pdl_cli.specs.Commands.{IsAccepted}
-use Rattle.pdl_cli.specs.Printed.{run_text, output_count}
-use Rattle.pdl_cli.proofs.CounterRuns.{same_text}
-use Rattle.pdl_cli.proofs.CounterWell.{counter_well}
+use Rattle.pdl_cli.specs.Printed.{run_text}
+use Rattle.pdl_cli.proofs.ShortNames.{HaveShortNames, short_names}
 
--- the tree of an accepted source, with values that fit
-pub record IsCounter (p : Pipe) : Type 0 where
-  pub at : ℕ → Span
-  pub step : Option ℕ
-  pub first : Option ℕ
-  pub tree : p ≡ counter_tree at step first
-  pub step_fits : unwrap_or step 0 < 16
-  pub first_fits : unwrap_or first 0 < 16
+-- ---- its memories
 
-held_fits : (v : Option ℕ) → Holds v 4 → unwrap_or v 0 < 16
-held_fits None h = absurd h
-held_fits (Some v) h = h
+-- nothing but memories
+abbrev told : List MemInfo → Netlist
+told ms = record { name = []; ports = []; regs = []; arrays = []; cells = []; mems = ms }
 
-fits : (at : ℕ → Span) (s f : Option ℕ) → IsLegal (counter_tree at s f) → (unwrap_or s 0 < 16) × (unwrap_or f 0 < 16)
-fits at s f h = (held_fits s h.body.1.1.1.1.1.1.0.0.1.2, held_fits f h.starts.1)
+pub names_differ : (p : Pipe) (ms : List MemInfo) → IsTrue (is_one_stage p) → KeepsRules p → ms ≡ infos_of p.mems → AllPairs (λ a b. a.name ≢ b.name) ms
+names_differ p ms one kept e = well.names_differ p (told ms) one kept e
 
-pub counter : (b : List ℕ) (p : Pipe) → IsAccepted b p → IsCounter p
-counter b p a =
-    let at = span_at (tokens b) in
-    let s = value_at (tokens b) 83 in
-    let f = value_at (tokens b) 90 in
-    let tree : p ≡ counter_tree at s f = a.text.tree in
-    let keeps : KeepsRules (counter_tree at s f) = subst KeepsRules tree (keeps_accepted b p a.kept) in
-    let both = fits at s f (legal (counter_tree at s f) refl keeps) in
-    record { at = at; step = s; first = f; tree = tree; step_fits = both.0; first_fits = both.1 }
+pub widths_low : (p : Pipe) (ms : List MemInfo) → IsTrue (is_one_stage p) → KeepsRules p → ms ≡ infos_of p.mems → All (λ m. 1 ≤ m.width) ms
+widths_low p ms one kept e = well.widths_low p (told ms) one kept e
 
--- its netlist can be run
-pub runs_well : (p : Pipe) (n : Netlist) → IsCounter p → n ≡ netlist_of p → IsWellFormed n
-runs_well p n c e =
-    subst IsWellFormed (sym (e ∙ ap netlist_of c.tree)) (counter_well (unwrap_or c.step 0) (unwrap_or c.first 0) c.step_fits c.first_fits)
+pub widths_high : (p : Pipe) (ms : List MemInfo) → IsTrue (is_one_stage p) → KeepsRules p → ms ≡ infos_of p.mems → All (λ m. m.width ≤ 64) ms
+widths_high p ms one kept e = well.widths_high p (told ms) one kept e
 
-pub nothing_delayed : (p : Pipe) (n : Netlist) → n ≡ netlist_of p → delayed_mems n ≡ []
-nothing_delayed p n e = ap delayed_mems e
+short_one : (ms : List Mem) → HaveShortNames ms → (m : Mem) → Among m ms → length m.name.name ≤ 32
+short_one [] h m a = absurd a
+short_one (x ∷ ms) h m (inl e) = subst (λ (y : Mem). length y.name.name ≤ 32) e h.0
+short_one (x ∷ ms) h m (inr a) = short_one ms h.1 m a
 
-pub enough_outputs : (p : Pipe) (n : Netlist) → n ≡ netlist_of p → 2 ≤ output_count n
-enough_outputs p n e = omega (arith, ap output_count e)
+pub names_short : (b : List ℕ) (p : Pipe) (ms : List MemInfo) → IsAccepted b p → ms ≡ infos_of p.mems → All (λ m. length m.name ≤ 32) ms
+names_short b p ms a e = well.mems_all (λ m. length m.name ≤ 32) p (told ms) e (short_one p.mems (short_names b p a.text))
 
-pub same_mems : (p : Pipe) (n : Netlist) → IsCounter p → n ≡ netlist_of p → n.mems ≡ infos_of p.mems
-same_mems p n c e = ap (λ (m : Netlist). m.mems) e ∙ ap (λ (q : Pipe). infos_of q.mems) (sym c.tree)
+-- ---- its lines
+
+told_columns : (ms : List Mem) → map column_of (infos_of ms) ≡ columns ms
+told_columns [] = refl
+told_columns (m ∷ ms) = ap (λ cs. record { name = m.name.name; width = m.width.value } ∷ cs) (told_columns ms)
 
 bits_of_replies : (k : ℕ) → length {A = ℕ} (replicate k 65535) ≡ k
 bits_of_replies zero = refl
 bits_of_replies (suc k) = ap suc (bits_of_replies k)
 
-pub prints : (p : Pipe) (n : Netlist) (image : List (List ℕ)) (cycles : ℕ) → IsCounter p → n ≡ netlist_of p
+-- a netlist that shows the threads of the pipe prints the lines of the sequential run
+pub prints : (p : Pipe) (n : Netlist) (image : List (List ℕ)) (cycles : ℕ) → n.mems ≡ infos_of p.mems → IsImage n.mems image → ShowsThreads p n
     → run_text n image (replicate cycles 65535) ≡ sequential_lines p image cycles
-prints p n image cycles c e =
-    ap (λ (m : Netlist). run_text m image (replicate cycles 65535)) (e ∙ ap netlist_of c.tree)
-    ∙ same_text c.at c.step c.first image (replicate cycles 65535)
-    ∙ ap (sequential_lines (counter_tree c.at c.step c.first) image) (bits_of_replies cycles)
-    ∙ ap (λ (q : Pipe). sequential_lines q image cycles) (sym c.tree)
-
--- its one memory
-one_name : (ms : List MemInfo) → ms ≡ counter_mems → AllPairs (λ a b. a.name ≢ b.name) ms
-one_name ms e = λ i j d l m. let n = ap length e in absurd (omega (arith, n))
-
-one_of : (P : MemInfo → Type 0) → P (record { name = codes "m"; width = 8; depth = 4; delayed = false }) → All P counter_mems
-one_of P h zero d l = h
-one_of P h (suc k) d l = absurd (omega arith)
-
-pub mems_are : (p : Pipe) → IsCounter p → infos_of p.mems ≡ counter_mems
-mems_are p c = ap (λ (q : Pipe). infos_of q.mems) c.tree
-
-pub names_differ : (ms : List MemInfo) → ms ≡ counter_mems → AllPairs (λ a b. a.name ≢ b.name) ms
-names_differ ms e = one_name ms e
-
-pub widths_low : (ms : List MemInfo) → ms ≡ counter_mems → All (λ m. 1 ≤ m.width) ms
-widths_low ms e = subst (λ (xs : List MemInfo). All (λ m. 1 ≤ m.width) xs) (sym e) (one_of (λ m. 1 ≤ m.width) (lit≤ tt))
-
-pub widths_high : (ms : List MemInfo) → ms ≡ counter_mems → All (λ m. m.width ≤ 64) ms
-widths_high ms e = subst (λ (xs : List MemInfo). All (λ m. m.width ≤ 64) xs) (sym e) (one_of (λ m. m.width ≤ 64) (lit≤ tt))
-
-pub names_short : (ms : List MemInfo) → ms ≡ counter_mems → All (λ m. length m.name ≤ 32) ms
-names_short ms e = subst (λ (xs : List MemInfo). All (λ m. length m.name ≤ 32) xs) (sym e) (one_of (λ m. length m.name ≤ 32) (lit≤ tt))
+prints p n image cycles e i h =
+    ap₂ lines (ap (map column_of) e ∙ told_columns p.mems)
+    (h image (replicate cycles 65535) i ∙ ap (λ k. thread_cycles (columns p.mems) (threads (flat p) (arrays_of image) k)) (bits_of_replies cycles))

@@ -4,6 +4,7 @@ use Rattle.pdl_kit.specs.declared.rule.Rule.{Rule}
 use Rattle.pdl_kit.specs.Files.{Held, Gives}
 use Rattle.pdl_model.specs.Tree.{Pipe}
 use Rattle.pdl_syntax.specs.Text.{IsText}
+use Rattle.pdl_syntax.proofs.Places.{one_tree}
 use Rattle.pdl_rules.specs.Refusal.{refusal}
 use Rattle.pdl_check.specs.Memories.{infos_of}
 use Rattle.pdl_image.specs.Images.{image}
@@ -18,14 +19,11 @@ use Rattle.pdl_cli.specs.Top.{Seen, Explains, IsDecided, Decides}
 one_text : (held : Held) (name b c : List ℕ) → Gives (Some held) name b → Gives (Some held) name c → b ≡ c
 one_text held name b c g h = let k : Some b ≡ Some c = sym g ∙ h in cc
 
-one_pipe : (b : List ℕ) (p q : Pipe) → IsText b p → IsText b q → p ≡ q
-one_pipe b p q t u = t.tree ∙ sym u.tree
-
 kept_unrefused : (b : List ℕ) (p : Pipe) (rule : Rule) (line : ℕ) → IsAccepted b p → SourceRefused b rule line → ⊥
 kept_unrefused b p rule line a (inl w) = w.1.no_text p a.text
 kept_unrefused b p rule line a (inr w) =
     let k : refusal b p ≡ Some (record { rule = rule; line = line }) =
-    subst (λ (q : Pipe). refusal b q ≡ Some (record { rule = rule; line = line })) (one_pipe b w.0 p w.1 a.text) w.2 in
+    subst (λ (q : Pipe). refusal b q ≡ Some (record { rule = rule; line = line })) (one_tree b w.0 p w.1 a.text) w.2 in
     let n : refusal b p ≡ None = a.kept in absurd cc
 
 source_right : (held : Held) (source : List ℕ) (rule : Rule) (line : ℕ) (b : List ℕ) (p : Pipe)
@@ -38,7 +36,7 @@ image_right : (held : Held) (source image' : List ℕ) (rule : Rule) (line : ℕ
 image_right held source image' rule line p words l w =
     let b : w.source_text ≡ l.source_text = one_text held source w.source_text l.source_text w.source_given l.source_given in
     let t : IsText l.source_text w.pipe = subst (λ (s : List ℕ). IsText s w.pipe) b w.accepted.text in
-    let q : w.pipe ≡ p = one_pipe l.source_text w.pipe p t l.accepted.text in
+    let q : w.pipe ≡ p = one_tree l.source_text w.pipe p t l.accepted.text in
     let i : w.image_text ≡ l.image_text = one_text held image' w.image_text l.image_text w.image_given l.image_given in
     let r : image (infos_of p.mems) l.image_text ≡ Err (file.Refused rule line) =
     subst (λ (s : List ℕ). image (infos_of p.mems) s ≡ Err (file.Refused rule line)) i

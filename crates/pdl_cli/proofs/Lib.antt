@@ -1,6 +1,5 @@
 pub mod Accepting
-pub mod CounterRuns
-pub mod CounterWell
+pub mod ShortNames
 pub mod Decided
 pub mod Lined
 pub mod Preparing

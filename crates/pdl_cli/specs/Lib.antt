@@ -1,6 +1,5 @@
 pub mod Texts
 pub mod Failures
-pub mod Counter
 pub mod Printed
 pub mod Tally
 pub mod Commands

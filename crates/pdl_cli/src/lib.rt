@@ -1,7 +1,6 @@
 //! The whole program as one call: `top` reads the words, the files and writes the lines.
 #![tactic(auto)]
 
-mod counter;
 mod failure;
 mod line_buffer;
 mod lines;

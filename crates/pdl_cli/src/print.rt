@@ -3,7 +3,8 @@ ghost use Rattle.std.specs.Prelude.{◌≡◌, ◌≤◌, ◌<◌, ◌+◌, ◌-
 ghost use Rattle.pdl_model.specs.Lines.{mem_lines, cycle_lines, lines_from, lines, end_line as end_text};
 ghost use Rattle.pdl_net.specs.Circuit.{circuit_of, outputs_of};
 ghost use Rattle.pdl_net.specs.Run.{commit_of};
-ghost use Rattle.pdl_cli.specs.Printed.{column_of, puts_of, cycle_of, cycles_from, output_count, run_text};
+ghost use Rattle.pdl_pipe.specs.Runs.{column_of, puts_of, cycle_of, output_count};
+ghost use Rattle.pdl_cli.specs.Printed.{cycles_from, run_text};
 ghost use Rattle.pdl_net.specs.Pipe.{IsWellFormed};
 ghost use Rattle.pdl_net.specs.Run.{delayed_mems};
 ghost use Rattle.pdl_image.specs.Images.{IsImage};

@@ -7,7 +7,6 @@ ghost use Rattle.pdl_check.specs.Memories.{infos_of};
 ghost use Rattle.pdl_image.specs.Images.{IsImage, IsRefusal, image as image_words};
 ghost use Rattle.pdl_cli.specs.Commands.{IsAccepted, SourceFails, ImageFails, IsTaken, IsOutput, Fails};
 
-use crate::counter::compile;
 use crate::failure::Failure;
 use crate::print;
 use pdl_check::Accepted;
@@ -15,6 +14,7 @@ use pdl_check::check::check;
 use pdl_image::{FileError, Image, read_image};
 use pdl_kit::NoMemory;
 use pdl_kit::files::{Files, LONGEST_FILE};
+use pdl_pipe::compile;
 use std::alloc::Global;
 
 // Reads and checks a source.
@@ -69,7 +69,7 @@ fn text_of(
     requires few { cycles ≤ 1000000 }
     ensures { IfOk result (λ t. t.items ≡ sequential_lines (pipe_view accepted.now.pipe) image.now cycles) }
 {
-    let netlist = compile(alloc, accepted.pipe())?;
+    let netlist = compile(alloc, accepted)?;
     print::run(alloc, &netlist, image, cycles)
 }
 

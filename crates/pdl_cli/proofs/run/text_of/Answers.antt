@@ -1,18 +1,25 @@
-use Rattle.std.proofs.Common.{◌∙◌, ap}
+use Rattle.std.proofs.Common.{◌≡◌, ◌∙◌, sym, subst}
 use Rattle.std.proofs.lemmas.Result.{IfOk-weaker}
 use Rattle.pdl_syntax.specs.View.{pipe_view}
-use Rattle.pdl_cli.specs.Counter.{netlist_of}
-use Rattle.pdl_cli.proofs.Accepting.{counter, runs_well, prints}
+use Rattle.pdl_check.specs.Memories.{infos_of}
+use Rattle.pdl_image.specs.Images.{IsImage}
+use Rattle.pdl_cli.proofs.Accepting.{names_short, widths_high, prints}
 use Rattle.pdl_cli.proofs.run.text_of.Goals as goal
 
-pub run-requires-clause-well : goal.run-requires-clause-well
-run-requires-clause-well c =
-    let p = pipe_view c.args.accepted.now.pipe in
-    let made = c.in_ok-netlist.ensures ∙ ap (λ q. netlist_of (pipe_view q)) c.pipe.ensures in
-    runs_well p c.in_ok-netlist.netlist (counter c.requires.accepted.0 p c.requires.accepted.1) made
+pub run-requires-clause-image : goal.run-requires-clause-image
+run-requires-clause-image c = subst (λ ms. IsImage ms c.args.image.now) (sym (c.in_ok-netlist.ensures.mems ∙ c.args.accepted.now.told)) c.requires.image
+
+pub run-requires-clause-names : goal.run-requires-clause-names
+run-requires-clause-names c =
+    names_short c.requires.accepted.0 (pipe_view c.args.accepted.now.pipe) c.in_ok-netlist.netlist.mems c.requires.accepted.1 (c.in_ok-netlist.ensures.mems ∙ c.args.accepted.now.told)
+
+pub run-requires-clause-widths : goal.run-requires-clause-widths
+run-requires-clause-widths c =
+    widths_high (pipe_view c.args.accepted.now.pipe) c.in_ok-netlist.netlist.mems c.args.accepted.now.one_stage c.args.accepted.now.kept (c.in_ok-netlist.ensures.mems ∙ c.args.accepted.now.told)
 
 pub returns : goal.returns
 returns c =
     let p = pipe_view c.args.accepted.now.pipe in
-    let made = c.in_ok-netlist.ensures ∙ ap (λ q. netlist_of (pipe_view q)) c.pipe.ensures in
-    IfOk-weaker c.run.result _ _ (λ t h. h ∙ prints p c.in_ok-netlist.netlist c.args.image.now c.args.cycles (counter c.requires.accepted.0 p c.requires.accepted.1) made) c.run.ensures
+    let told : c.in_ok-netlist.netlist.mems ≡ infos_of p.mems = c.in_ok-netlist.ensures.mems ∙ c.args.accepted.now.told in
+    let image : IsImage c.in_ok-netlist.netlist.mems c.args.image.now = subst (λ ms. IsImage ms c.args.image.now) (sym told) c.requires.image in
+    IfOk-weaker c.run.result _ _ (λ t h. h ∙ prints p c.in_ok-netlist.netlist c.args.image.now c.args.cycles told image c.in_ok-netlist.ensures.shows) c.run.ensures
