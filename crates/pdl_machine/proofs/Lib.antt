@@ -1,0 +1,14 @@
+mod Acting
+mod Bounds
+mod Cutting
+mod Deciding
+mod Deeds
+mod Fitting
+mod Memories
+mod More
+mod Moving
+mod Ordered
+mod Parted
+mod Held
+mod Puts
+mod Sweeps

@@ -1,0 +1,10 @@
+pub mod Values
+pub mod Pending
+pub mod Memory
+pub mod Stage
+pub mod Order
+pub mod State
+pub mod Parts
+pub mod Acts
+pub mod Fitting
+pub mod Lists

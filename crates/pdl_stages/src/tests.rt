@@ -1,0 +1,41 @@
+use crate::stage_graph;
+use pdl_kit::{Name, Seq};
+use pdl_syntax::tree::{Ident, Pipe, Span, Start};
+use std::alloc::Global;
+use std::test::Fail;
+
+const NOWHERE: Span = Span {
+    start: 0,
+    end: 0,
+    line: 1,
+};
+
+fn ident(alloc: Global, name: &[u8]) -> Result<Ident, Fail> {
+    Ok(Ident {
+        name: Name::copy_of(alloc, name)?,
+        span: NOWHERE,
+    })
+}
+
+#[test]
+fn one_stage(rt: HostRuntime) -> Result<(), Fail> {
+    let alloc = rt.alloc();
+    let pipe = Pipe {
+        name: ident(alloc, b"p")?,
+        params: Seq::new(alloc),
+        mems: Seq::new(alloc),
+        body: Seq::new(alloc),
+        end: NOWHERE,
+        start: Start {
+            span: NOWHERE,
+            name: ident(alloc, b"p")?,
+            args: Seq::new(alloc),
+        },
+    };
+    let graph = stage_graph(alloc, &pipe)?;
+    assert_eq!(rt; graph.count(), 1);
+    assert_eq!(rt; graph.depth(), 1);
+    assert_eq!(rt; graph.next(0), None);
+    assert!(rt; graph.is_trunk(0));
+    Ok(())
+}
