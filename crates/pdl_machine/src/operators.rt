@@ -7,7 +7,7 @@ ghost use Rattle.pdl_syntax.specs.View.{op_view};
 
 use pdl_syntax::tree::BinaryOp;
 
-// An operator on two words of a width, with its range.
+/// An operator on two words of a width, with its range.
 #[tactic(auto, using(crate::proofs::Bounds::applied_below))]
 pub fn binary(op: BinaryOp, width: u8, a: u64, b: u64) -> u64
     requires low { 1 ≤ width }
@@ -44,7 +44,7 @@ fn apply(op: BinaryOp, width: u8, a: u64, b: u64) -> u64
     }
 }
 
-// The other bits.
+/// The other bits.
 #[tactic(auto, using(crate::proofs::Bounds::complement_fits))]
 pub fn complement(width: u8, a: u64) -> u64
     requires low { 1 ≤ width }
@@ -56,7 +56,7 @@ pub fn complement(width: u8, a: u64) -> u64
     pdl_word::complement(width, a)
 }
 
-// The bits from high down to low.
+/// The bits from high down to low.
 #[tactic(auto, using(crate::proofs::Bounds::slice_fits))]
 pub fn slice(high: u8, low: u8, a: u64) -> u64
     requires order { low ≤ high }
@@ -67,7 +67,7 @@ pub fn slice(high: u8, low: u8, a: u64) -> u64
     pdl_word::slice(high, low, a)
 }
 
-// One word above another.
+/// One word above another.
 #[tactic(auto, using(crate::proofs::Bounds::cat_fits, crate::proofs::Bounds::above_fits))]
 pub fn cat(high_width: u8, low_width: u8, a: u64, b: u64) -> u64
     requires some { 1 ≤ high_width }
@@ -81,7 +81,7 @@ pub fn cat(high_width: u8, low_width: u8, a: u64, b: u64) -> u64
     pdl_word::cat(low_width, a, b)
 }
 
-// Whether a word is less than another in two's complement.
+/// Whether a word is less than another in two's complement.
 #[tactic(auto, using(crate::proofs::Bounds::lts_fits))]
 pub fn less_signed(width: u8, a: u64, b: u64) -> u64
     requires low { 1 ≤ width }
@@ -92,7 +92,7 @@ pub fn less_signed(width: u8, a: u64, b: u64) -> u64
     pdl_word::lts(width, a, b)
 }
 
-// Zeros above a word.
+/// Zeros above a word.
 #[tactic(auto, using(crate::proofs::Bounds::zext_fits))]
 pub fn zero_extend(width: u8, wide: u8, a: u64) -> u64
     requires order { width ≤ wide }
@@ -104,7 +104,7 @@ pub fn zero_extend(width: u8, wide: u8, a: u64) -> u64
     pdl_word::zext(a)
 }
 
-// The top bit above a word.
+/// The top bit above a word.
 #[tactic(auto, using(crate::proofs::Bounds::sext_fits))]
 pub fn sign_extend(width: u8, wide: u8, a: u64) -> u64
     requires low { 1 ≤ width }
@@ -117,7 +117,7 @@ pub fn sign_extend(width: u8, wide: u8, a: u64) -> u64
     pdl_word::sext(width, wide, a)
 }
 
-// One of two words of a width.
+/// One of two words of a width.
 #[tactic(auto, using(crate::proofs::Bounds::mux_fits))]
 pub fn choose(width: u8, choice: u64, a: u64, b: u64) -> u64
     requires high { width ≤ 64 }
