@@ -14,7 +14,7 @@ use Rattle.pdl_model.specs.Flatten.{Var}
 use Rattle.pdl_rules.specs.Places.{places}
 use Rattle.pdl_rules.specs.Widths.{variables, after_place}
 use Rattle.pdl_rules.specs.Typed.{AreSized, IsLegal}
-use Rattle.pdl_rules.proofs.Legal.{legal}
+use Rattle.pdl_rules.proofs.Legal.{legal_in_line}
 use Rattle.pdl_rules.proofs.Unbroken.{keeps_unbroken}
 use Rattle.pdl_check.specs.Scan as scan
 use Rattle.pdl_check.proofs.OnePath.{refusal-scan}
@@ -23,7 +23,7 @@ use Rattle.pdl_syntax.specs.Text as text
 use Rattle.pdl_limits.specs.Answers as limited
 use Rattle.pdl_syntax.specs.View.{pipe_view, mem_view}
 use Rattle.pdl_rules.specs.Limits.{is_too_long}
-use Rattle.pdl_rules.specs.Refusal.{Refused, limit_refusal, refusal, first_broken, limits, after_limits, is_one_stage}
+use Rattle.pdl_rules.specs.Refusal.{Refused, limit_refusal, refusal, first_broken, limits, after_limits, is_in_line}
 use Rattle.pdl_check.specs.declared.accepted.Accepted.{Accepted}
 use Rattle.pdl_check.specs.declared.error.CheckError.{CheckError}
 use Rattle.pdl_check.specs.declared.error.CheckError.TheVariants as error
@@ -117,19 +117,19 @@ scanned_names q ms ps qs vs e f g h =
     ∙ ap (λ xs. fold (after_place (map mem_view q.mems)) [] (map place_view xs)) f
     ∙ ap (λ xs. fold (after_place (map mem_view q.mems)) [] xs) g
 
-pub scanned_refusal : (q : r_pipe.Pipe) (ps qs : List r_place.Place) (vs : List Var) (o : Option Refused) → IsTrue (is_one_stage (pipe_view q)) → first_broken limits (pipe_view q) ≡ None
+pub scanned_refusal : (q : r_pipe.Pipe) (ps qs : List r_place.Place) (vs : List Var) (o : Option Refused) → IsTrue (is_in_line (pipe_view q)) → first_broken limits (pipe_view q) ≡ None
     → vs ≡ variables (pipe_view q) → qs ≡ ps → map place_view ps ≡ places (pipe_view q)
     → o ≡ scan.first_broken scan.order (pipe_view q) vs (map place_view qs) → first_broken (limits ++ after_limits) (pipe_view q) ≡ o
-scanned_refusal q ps qs vs o one within named f g h =
-    refusal-scan (pipe_view q) vs (map place_view qs) one within named (ap (map place_view) f ∙ g) ∙ sym h
+scanned_refusal q ps qs vs o in_line within named f g h =
+    refusal-scan (pipe_view q) vs (map place_view qs) in_line within named (ap (map place_view) f ∙ g) ∙ sym h
 
 pub judged_error : (p : Pipe) (f : CheckError) → IsScanned p (Err f) → IsJudged p (Err f)
 judged_error p error.NoMemory h = tt
 judged_error p (error.Refused rule line) h = h
 
-pub sized_memories : (q : r_pipe.Pipe) (ms : List r_mem.Mem) → ms ≡ q.mems → IsTrue (is_one_stage (pipe_view q)) → first_broken (limits ++ after_limits) (pipe_view q) ≡ None
+pub sized_memories : (q : r_pipe.Pipe) (ms : List r_mem.Mem) → ms ≡ q.mems → IsTrue (is_in_line (pipe_view q)) → first_broken (limits ++ after_limits) (pipe_view q) ≡ None
     → AreSized (map mem_view ms)
-sized_memories q ms e one none =
-    let all : IsLegal (pipe_view q) = legal (pipe_view q) one (keeps_unbroken (pipe_view q) none) in
+sized_memories q ms e in_line none =
+    let all : IsLegal (pipe_view q) = legal_in_line (pipe_view q) in_line (keeps_unbroken (pipe_view q) none) in
     let P : List r_mem.Mem → Type 0 = λ xs. AreSized (map mem_view xs) in
     subst P (sym e) all.sized

@@ -1,3 +1,4 @@
 pub mod Scan
 pub mod Memories
 pub mod Answers
+pub mod Queues

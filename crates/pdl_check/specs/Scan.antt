@@ -9,16 +9,18 @@ use Rattle.pdl_rules.specs.Parts.{some_part, some_expr, some_literal, some_locat
 use Rattle.pdl_rules.specs.Names.{names_another_pipe, some_use, is_undefined, breaks_n2}
 use Rattle.pdl_rules.specs.Widths.{is_unequal, is_too_large, is_out_of_range, is_wide_if, is_wide_choice}
 use Rattle.pdl_rules.specs.Locks.{breaks_f5, lacks_hold, is_late_read, is_one_too_many, is_reserved_again, is_not_written_once, ends_open}
+use Rattle.pdl_rules.specs.Stages.{breaks_l2}
 use Rattle.pdl_rules.specs.Calls.{is_wrong_call}
 use Rattle.pdl_rules.specs.Refusal.{Refused, refused_at}
 use Rattle.pdl_namerules.specs.Early.{is_early}
+use Rattle.pdl_lockrules.specs.Stages.{breaks_l8}
 use Rattle.pdl_widthrules.specs.Widths.{is_wrong_address, has_wrong_arguments, is_wrong_value}
 use Rattle.pdl_check.specs.declared.scan.Asked.{Asked}
-use Rattle.pdl_check.specs.declared.scan.Asked.TheVariants.{N1, N2, N3, W1, W2, W3, W4, W5, W6, F5, L1, L3, L4, L5, L6, L7, S1}
+use Rattle.pdl_check.specs.declared.scan.Asked.TheVariants.{N1, N2, N3, W1, W2, W3, W4, W5, W6, F5, L1, L2, L3, L4, L5, L6, L7, L8, S1}
 use Rattle.pdl_limits.specs.declared.scan.Broken.{Broken}
 
 abbrev pub order : List Asked
-order = N1 ∷ N2 ∷ N3 ∷ W1 ∷ W2 ∷ W3 ∷ W4 ∷ W5 ∷ W6 ∷ F5 ∷ L1 ∷ L3 ∷ L4 ∷ L5 ∷ L6 ∷ L7 ∷ S1 ∷ []
+order = N1 ∷ N2 ∷ N3 ∷ W1 ∷ W2 ∷ W3 ∷ W4 ∷ W5 ∷ W6 ∷ F5 ∷ L1 ∷ L2 ∷ L3 ∷ L4 ∷ L5 ∷ L6 ∷ L7 ∷ L8 ∷ S1 ∷ []
 
 abbrev pub rule_of : Asked → Rule
 rule_of N1 = rules.N1
@@ -32,11 +34,13 @@ rule_of W5 = rules.W5
 rule_of W6 = rules.W6
 rule_of F5 = rules.F5
 rule_of L1 = rules.L1
+rule_of L2 = rules.L2
 rule_of L3 = rules.L3
 rule_of L4 = rules.L4
 rule_of L5 = rules.L5
 rule_of L6 = rules.L6
 rule_of L7 = rules.L7
+rule_of L8 = rules.L8
 rule_of S1 = rules.S1
 
 -- whether the place breaks the rule
@@ -52,11 +56,13 @@ breaks W5 p vs all before x = has_wrong_arguments vs p.params x
 breaks W6 p vs all before x = is_wrong_value vs p.mems x
 breaks F5 p vs all before x = breaks_f5 p x
 breaks L1 p vs all before x = lacks_hold p before x
+breaks L2 p vs all before x = breaks_l2 before x
 breaks L3 p vs all before x = is_late_read before x
 breaks L4 p vs all before x = is_one_too_many before x
 breaks L5 p vs all before x = is_reserved_again before x
 breaks L6 p vs all before x = is_not_written_once before x
 breaks L7 p vs all before x = ends_open before x
+breaks L8 p vs all before x = breaks_l8 p.mems all before x
 breaks S1 p vs all before x = is_wrong_call before x
 
 -- the line of the first of these places that breaks the rule

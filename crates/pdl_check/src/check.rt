@@ -4,7 +4,8 @@ ghost use Rattle.pdl_kit.specs.declared.rule.Rule.TheVariants as rules;
 ghost use Rattle.pdl_model.specs.Tree as tree;
 ghost use Rattle.pdl_syntax.specs.Text.{IsText, IsOutOfPlace};
 ghost use Rattle.pdl_syntax.specs.View.{pipe_view};
-ghost use Rattle.pdl_rules.specs.Refusal.{refusal, first_broken, limits, is_one_stage};
+ghost use Rattle.pdl_rules.specs.Refusal.{refusal, first_broken, limits, is_in_line};
+ghost use Rattle.pdl_check.specs.Queues.{all_queued};
 ghost use Rattle.pdl_check.specs.Answers.{judged, Gives, Refuses, IsRefused, IsJudged, IsScanned, refusal_of as spec_refusal_of};
 
 use crate::accepted::Accepted;
@@ -13,6 +14,7 @@ use crate::infos::infos_of;
 use crate::scan::first_broken as first_of_rules;
 use pdl_kit::Rule;
 use pdl_limits::parse;
+use pdl_stages::stage_graph;
 use pdl_syntax::error::ParseError;
 use pdl_syntax::tree::Pipe;
 use pdl_types::Names;
@@ -52,20 +54,27 @@ fn refusal_of(error: ParseError) -> CheckError
     }
 }
 
-// Asks a pipe of one stage that keeps the limits the rules after them.
+// Asks a pipe in line that keeps the limits the rules after them.
 fn judge(alloc: Global, pipe: Pipe) -> Result<Accepted, CheckError>
-    requires one_stage { IsTrue (is_one_stage (pipe_view pipe)) }
+    requires in_line { IsTrue (is_in_line (pipe_view pipe)) }
+    requires queues { IsTrue (all_queued (pipe_view pipe).mems) }
     requires within { first_broken limits (pipe_view pipe) ≡ None }
     ensures { IsJudged (pipe_view pipe) result }
 {
     let names = scanned(alloc, &pipe)?;
     let mems = infos_of(alloc, pipe.mems.as_slice())?;
-    Ok(Accepted { pipe, names, mems })
+    let graph = stage_graph(alloc, &pipe)?;
+    Ok(Accepted {
+        pipe,
+        names,
+        mems,
+        graph,
+    })
 }
 
 // The variables of a pipe that breaks no rule.
 fn scanned(alloc: Global, pipe: &Pipe) -> Result<Names, CheckError>
-    requires one_stage { IsTrue (is_one_stage (pipe_view pipe.now)) }
+    requires in_line { IsTrue (is_in_line (pipe_view pipe.now)) }
     requires within { first_broken limits (pipe_view pipe.now) ≡ None }
     ensures { IsScanned (pipe_view pipe.now) result }
 {

@@ -193,6 +193,92 @@ pub const RESERVATIONS: [Row; 13] = [
     (b"x = n;\n", Some((Rule::S1, 4))),
 ];
 
+/// Stages: names, widths, locks and calls over several of them, and L2.
+pub const STAGES: [Row; 25] = [
+    (
+        b"acquire(m[k], W);\nm[k] <- zext(n, 8);\nrelease(m[k]);\n---\ncall(n, k);\n",
+        None,
+    ),
+    (
+        b"b = k;\nacquire(m[k], R);\nreserve(m[b], W);\nx = m[k];\n---\ny = x + 8'd1;\nblock(m[b]);\nm[b] <- y;\n---\nrelease(m[k]);\nrelease(m[b]);\ncall(n, k);\n",
+        None,
+    ),
+    (b"call(n, k);\n---\nx = n;\n---\n", None),
+    (
+        b"b = k;\nacquire(m[k], R);\nacquire(m[b], R);\n---\nrelease(m[k]);\nrelease(m[b]);\ncall(n, k);\n",
+        None,
+    ),
+    (
+        b"b = k;\nacquire(m[k], R);\n---\nacquire(m[b], R);\nrelease(m[k]);\nrelease(m[b]);\ncall(n, k);\n",
+        Some((Rule::L2, 6)),
+    ),
+    (
+        b"b = k;\nacquire(m[k], R);\n---\n---\nreserve(m[b], W);\ncall(n, k);\n",
+        Some((Rule::L2, 7)),
+    ),
+    (
+        b"b = k;\nacquire(m[k], R);\nacquire(m[b], R);\nrelease(m[k]);\n---\nrelease(m[b]);\ncall(n, k);\n",
+        Some((Rule::L2, 8)),
+    ),
+    (
+        b"b = k;\nacquire(m[k], R);\nacquire(m[b], R);\nrelease(m[k]);\n---\nx = m[b];\nrelease(m[b]);\ncall(n, k);\n",
+        Some((Rule::L2, 9)),
+    ),
+    (
+        b"b = k;\nacquire(m[k], R);\nacquire(m[b], R);\nrelease(m[k]);\n---\nx = m[b];\ncall(n, k);\n",
+        Some((Rule::L7, 10)),
+    ),
+    (
+        b"---\nx = n;\n---\ny = q[k];\ncall(n, k);\n",
+        Some((Rule::N1, 6)),
+    ),
+    (b"x = n;\n---\nx = n;\ncall(n, k);\n", Some((Rule::N2, 5))),
+    (
+        b"x = n;\n---\ny = z;\n---\nz = n;\ncall(n, k);\n",
+        Some((Rule::N3, 5)),
+    ),
+    (
+        b"x = n;\n---\ny = x + k;\ncall(n, k);\n",
+        Some((Rule::W1, 5)),
+    ),
+    (b"x = n;\n---\ncall(k, x);\n", Some((Rule::W5, 5))),
+    (
+        b"x = n;\n---\nreserve(r[k], R);\ncall(n, k);\n",
+        Some((Rule::F5, 5)),
+    ),
+    (
+        b"reserve(m[k], R);\n---\nx = m[k];\n---\nblock(m[k]);\nrelease(m[k]);\ncall(n, k);\n",
+        Some((Rule::L1, 5)),
+    ),
+    (
+        b"b = k;\nacquire(m[k], R);\nacquire(m[b], W);\n---\nm[b] <- zext(n, 8);\n---\nx = m[k];\nrelease(m[k]);\nrelease(m[b]);\ncall(n, k);\n",
+        Some((Rule::L3, 9)),
+    ),
+    (
+        b"b = k;\nv = zext(n, 8);\nacquire(m[k], W);\nacquire(m[b], W);\n---\nm[k] <- v;\nm[b] <- v;\n---\nrelease(m[k]);\nrelease(m[b]);\ncall(n, k);\n",
+        Some((Rule::L4, 6)),
+    ),
+    (
+        b"acquire(m[k], R);\nacquire(m[k], R);\n---\nrelease(m[k]);\ncall(n, k);\n",
+        Some((Rule::L5, 4)),
+    ),
+    (
+        b"acquire(m[k], W);\n---\nrelease(m[k]);\ncall(n, k);\n",
+        Some((Rule::L6, 5)),
+    ),
+    (
+        b"v = zext(n, 8);\nacquire(m[k], W);\nm[k] <- v;\n---\nm[k] <- v;\n---\nrelease(m[k]);\ncall(n, k);\n",
+        Some((Rule::L6, 9)),
+    ),
+    (
+        b"acquire(m[k], R);\n---\nx = m[k];\n---\ncall(n, k);\n",
+        Some((Rule::L7, 8)),
+    ),
+    (b"call(n, k);\n---\ncall(n, k);\n", Some((Rule::S1, 5))),
+    (b"---\n---\n", Some((Rule::S1, 5))),
+    (b"---\n;\ncall(n, k);\n", Some((Rule::G1, 4))),
+];
+
 /// Two broken rules, of one letter or of two: the lower one, wherever its place stands.
 pub const TWO_RULES: [Row; 7] = [
     (
@@ -217,7 +303,7 @@ pub const TWO_RULES: [Row; 7] = [
 ];
 
 /// Whole sources: what stands before the statements and after them.
-pub const WHOLE: [Row; 13] = [
+pub const WHOLE: [Row; 14] = [
     (
         b"pipe p(n: uint<64>)\n[m: uint<64>[65536] comb lock queue(16), r: uint<1>[2] comb]\n{ x = 64'd0; call(n); }\nstart p(64'd18446744073709551615);",
         None,
@@ -225,6 +311,10 @@ pub const WHOLE: [Row; 13] = [
     (
         b"pipe p(n: uint<64>,\nk: uint<0>)\n[r: uint<1>[2] comb] { call(n, k); }\nstart p(64'd0, 1'd0);",
         Some((Rule::Z7, 2)),
+    ),
+    (
+        b"pipe p(n: uint<1>)\n[m: uint<1>[2] comb lock queue(1), q: uint<1>[2] comb lock queue(1)] {\nacquire(m[n], R);\n---\nacquire(q[n], R);\nrelease(m[n]);\n---\nrelease(q[n]);\ncall(n); }\nstart p(1'd0);",
+        None,
     ),
     (
         b"pipe p(n: uint<1>)\n[m: uint<65>[2] comb] { call(n); }\nstart p(1'd0);",

@@ -7,8 +7,8 @@ ghost use Rattle.pdl_check.specs.Scan as straight;
 use pdl_kit::Rule;
 use pdl_limits::{Broken, line_of};
 use pdl_lockrules::{
-    breaks_f5, ends_open, is_late_read, is_not_written_once, is_one_too_many, is_reserved_again,
-    is_wrong_call, lacks_hold,
+    breaks_f5, breaks_l2, breaks_l8, ends_open, is_late_read, is_not_written_once, is_one_too_many,
+    is_reserved_again, is_wrong_call, lacks_hold,
 };
 use pdl_namerules::{breaks_n1, breaks_n2, breaks_n3};
 use pdl_syntax::tree::Pipe;
@@ -29,15 +29,17 @@ pub enum Asked {
     W6,
     F5,
     L1,
+    L2,
     L3,
     L4,
     L5,
     L6,
     L7,
+    L8,
     S1,
 }
 
-const ORDER: [Asked; 17] = [
+const ORDER: [Asked; 19] = [
     Asked::N1,
     Asked::N2,
     Asked::N3,
@@ -49,11 +51,13 @@ const ORDER: [Asked; 17] = [
     Asked::W6,
     Asked::F5,
     Asked::L1,
+    Asked::L2,
     Asked::L3,
     Asked::L4,
     Asked::L5,
     Asked::L6,
     Asked::L7,
+    Asked::L8,
     Asked::S1,
 ];
 
@@ -73,16 +77,18 @@ fn rule_of(asked: Asked) -> Rule
         Asked::W6 => Rule::W6,
         Asked::F5 => Rule::F5,
         Asked::L1 => Rule::L1,
+        Asked::L2 => Rule::L2,
         Asked::L3 => Rule::L3,
         Asked::L4 => Rule::L4,
         Asked::L5 => Rule::L5,
         Asked::L6 => Rule::L6,
         Asked::L7 => Rule::L7,
+        Asked::L8 => Rule::L8,
         Asked::S1 => Rule::S1,
     }
 }
 
-// Whether a place breaks the rule, in a pipe of one stage.
+// Whether a place breaks the rule, in a pipe in line.
 #[tactic(auto, unfolding(crate::specs::Scan::breaks))]
 fn breaks(
     asked: Asked,
@@ -106,11 +112,13 @@ fn breaks(
         Asked::W6 => breaks_w6(names, pipe.mems.as_slice(), place),
         Asked::F5 => breaks_f5(pipe, place),
         Asked::L1 => lacks_hold(pipe, before, place),
+        Asked::L2 => breaks_l2(before, place),
         Asked::L3 => is_late_read(before, place),
         Asked::L4 => is_one_too_many(before, place),
         Asked::L5 => is_reserved_again(before, place),
         Asked::L6 => is_not_written_once(before, place),
         Asked::L7 => ends_open(before, place),
+        Asked::L8 => breaks_l8(pipe.mems.as_slice(), all, before, place),
         Asked::S1 => is_wrong_call(before, place),
     }
 }

@@ -1,6 +1,6 @@
 use crate::CheckError;
 use crate::check::check;
-use crate::rows::{LOCKS, NAMES, RESERVATIONS, TWO_RULES, WHOLE, WIDTHS};
+use crate::rows::{LOCKS, NAMES, RESERVATIONS, STAGES, TWO_RULES, WHOLE, WIDTHS};
 use pdl_kit::{Name, Rule};
 use std::alloc::{AllocError, Global};
 use std::test::Fail;
@@ -92,6 +92,7 @@ fn statements(rt: HostRuntime) -> Result<(), Fail> {
         &WIDTHS[..],
         &LOCKS[..],
         &RESERVATIONS[..],
+        &STAGES[..],
         &TWO_RULES[..],
     ] {
         for (body, answer) in rows {

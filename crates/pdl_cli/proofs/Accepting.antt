@@ -1,21 +1,25 @@
 -- What an accepted pipe gives the run of its netlist.
 use Rattle.std.proofs.Common.{◌≡◌, ◌≢◌, ℕ, zero, suc, [], ◌∷◌, ◌≤◌, List, length, map, All, AllPairs, refl, ap, ap₂, ◌∙◌, subst, inl, inr}
-use Rattle.std.specs.Prelude.{replicate, IsTrue}
+use Rattle.std.specs.Prelude.{Option, IsTrue}
 use Rattle.pdl_kit.specs.declared.mem_info.MemInfo.{MemInfo}
+use Rattle.pdl_kit.specs.Files.{Held}
 use Rattle.pdl_model.specs.Tree.{Mem, Pipe}
 use Rattle.pdl_model.specs.Flat.{arrays_of}
 use Rattle.pdl_model.specs.Flatten.{flat}
-use Rattle.pdl_model.specs.Sequential.{threads}
-use Rattle.pdl_model.specs.Lines.{columns, thread_cycles, sequential_lines, lines}
-use Rattle.pdl_rules.specs.Refusal.{KeepsRules, is_one_stage}
+use Rattle.pdl_model.specs.Lines.{columns, lines, run_lines}
+use Rattle.pdl_rules.specs.Refusal.{KeepsRules, is_in_line}
 use Rattle.pdl_check.specs.Memories.{infos_of}
 use Rattle.pdl_image.specs.Images.{IsImage}
 use Rattle.pdl_net.specs.declared.Netlist.{Netlist}
-use Rattle.pdl_pipe.specs.Runs.{column_of, ShowsThreads}
-use Rattle.pdl_pipe.proofs.WellNames.{Among}
-use Rattle.pdl_pipe.proofs.Well as well
-use Rattle.pdl_cli.specs.Commands.{IsAccepted}
-use Rattle.pdl_cli.specs.Printed.{run_text}
+use Rattle.pdl_net.specs.Pipe.{IsWellFormed}
+use Rattle.pdl_refine.specs.Accepted.{Checked, Text}
+use Rattle.pdl_refine.proofs.Runs.{stated_refines, stated_advances, stated_paces}
+use Rattle.pdl_promise.proofs.InLine.{checked_of, text_of}
+use Rattle.pdl_trunk.specs.Runs.{column_of, ShowsMachine, ShowsTurns}
+use Rattle.pdl_trunk.proofs.WellFormedNames.{Among}
+use Rattle.pdl_trunk.proofs.WellFormed as well
+use Rattle.pdl_cli.specs.Commands.{IsAccepted, IsLoaded, IsOutput, replies}
+use Rattle.pdl_cli.specs.Printed.{run_text, schedule}
 use Rattle.pdl_cli.proofs.ShortNames.{HaveShortNames, short_names}
 
 -- ---- its memories
@@ -24,14 +28,14 @@ use Rattle.pdl_cli.proofs.ShortNames.{HaveShortNames, short_names}
 abbrev told : List MemInfo → Netlist
 told ms = record { name = []; ports = []; regs = []; arrays = []; cells = []; mems = ms }
 
-pub names_differ : (p : Pipe) (ms : List MemInfo) → IsTrue (is_one_stage p) → KeepsRules p → ms ≡ infos_of p.mems → AllPairs (λ a b. a.name ≢ b.name) ms
-names_differ p ms one kept e = well.names_differ p (told ms) one kept e
+pub names_differ : (p : Pipe) (ms : List MemInfo) → IsTrue (is_in_line p) → KeepsRules p → ms ≡ infos_of p.mems → AllPairs (λ a b. a.name ≢ b.name) ms
+names_differ p ms in_line kept e = well.names_differ p (told ms) in_line kept e
 
-pub widths_low : (p : Pipe) (ms : List MemInfo) → IsTrue (is_one_stage p) → KeepsRules p → ms ≡ infos_of p.mems → All (λ m. 1 ≤ m.width) ms
-widths_low p ms one kept e = well.widths_low p (told ms) one kept e
+pub widths_low : (p : Pipe) (ms : List MemInfo) → IsTrue (is_in_line p) → KeepsRules p → ms ≡ infos_of p.mems → All (λ m. 1 ≤ m.width) ms
+widths_low p ms in_line kept e = well.widths_low p (told ms) in_line kept e
 
-pub widths_high : (p : Pipe) (ms : List MemInfo) → IsTrue (is_one_stage p) → KeepsRules p → ms ≡ infos_of p.mems → All (λ m. m.width ≤ 64) ms
-widths_high p ms one kept e = well.widths_high p (told ms) one kept e
+pub widths_high : (p : Pipe) (ms : List MemInfo) → IsTrue (is_in_line p) → KeepsRules p → ms ≡ infos_of p.mems → All (λ m. m.width ≤ 64) ms
+widths_high p ms in_line kept e = well.widths_high p (told ms) in_line kept e
 
 short_one : (ms : List Mem) → HaveShortNames ms → (m : Mem) → Among m ms → length m.name.name ≤ 32
 short_one [] h m a = absurd a
@@ -47,13 +51,34 @@ told_columns : (ms : List Mem) → map column_of (infos_of ms) ≡ columns ms
 told_columns [] = refl
 told_columns (m ∷ ms) = ap (λ cs. record { name = m.name.name; width = m.width.value } ∷ cs) (told_columns ms)
 
-bits_of_replies : (k : ℕ) → length {A = ℕ} (replicate k 65535) ≡ k
-bits_of_replies zero = refl
-bits_of_replies (suc k) = ap suc (bits_of_replies k)
+same_length : (k : ℕ) → length (replies k) ≡ length (schedule k)
+same_length zero = refl
+same_length (suc k) = ap suc (same_length k)
 
--- a netlist that shows the threads of the pipe prints the lines of the sequential run
-pub prints : (p : Pipe) (n : Netlist) (image : List (List ℕ)) (cycles : ℕ) → n.mems ≡ infos_of p.mems → IsImage n.mems image → ShowsThreads p n
-    → run_text n image (replicate cycles 65535) ≡ sequential_lines p image cycles
-prints p n image cycles e i h =
-    ap₂ lines (ap (map column_of) e ∙ told_columns p.mems)
-    (h image (replicate cycles 65535) i ∙ ap (λ k. thread_cycles (columns p.mems) (threads (flat p) (arrays_of image) k)) (bits_of_replies cycles))
+-- a netlist that shows the turns of the machine of the pipe prints its lines
+pub prints : (p : Pipe) (n : Netlist) (image : List (List ℕ)) (cycles : ℕ) → n.mems ≡ infos_of p.mems → IsImage n.mems image → ShowsTurns p n
+    → run_text n image (schedule cycles) ≡ run_lines p image (replies cycles)
+prints p n image cycles e i h = ap₂ lines (ap (map column_of) e ∙ told_columns p.mems) (h image (schedule cycles) (replies cycles) i (same_length cycles))
+
+-- and what it prints is the output of a run of the pipe
+pub is_output : (p : Pipe) (n : Netlist) (words : List (List ℕ)) (cycles : ℕ) (text : List ℕ) → IsTrue (is_in_line p) → KeepsRules p
+    → IsWellFormed n → n.name ≡ p.name.name → n.mems ≡ infos_of p.mems → IsImage n.mems words → ShowsMachine p n → ShowsTurns p n → text ≡ run_text n words (schedule cycles)
+    → (holds : Option Held) (source image' : List ℕ) → IsLoaded holds source image' p words → IsOutput holds source image' cycles text
+is_output p n words cycles text in_line kept well name mems image ports turns printed holds source image' loaded =
+    let checked : Checked (flat p) = checked_of p in_line kept in
+    let told : Text (flat p) = text_of p in_line kept in
+    record {
+      pipe = p;
+      words = words;
+      loaded = loaded;
+      lines = printed ∙ prints p n words cycles mems image turns;
+      netlist = n;
+      well = well;
+      name = name;
+      mems = mems;
+      ports = ports;
+      printed = printed;
+      refines = stated_refines (flat p) checked told (arrays_of words) (replies cycles);
+      moves = λ k low. stated_advances (flat p) checked told (arrays_of words) (replies k) [];
+      pace = stated_paces (flat p) checked told (arrays_of words) (replies cycles);
+    }

@@ -7,7 +7,7 @@ use Rattle.pdl_model.specs.Lines.{Column, Cycle, cycle_lines, lines_from}
 use Rattle.pdl_net.specs.declared.Netlist.{Netlist}
 use Rattle.pdl_net.specs.Run.{Held, shown, next, nports_from}
 use Rattle.pdl_netrun.specs.Sim.{Run, stepped}
-use Rattle.pdl_pipe.specs.Runs.{cycle_of}
+use Rattle.pdl_trunk.specs.Runs.{cycle_of}
 use Rattle.pdl_cli.specs.Printed.{cycles_from}
 use Rattle.pdl_cli.specs.Tally.{one_if}
 

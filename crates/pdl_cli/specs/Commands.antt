@@ -1,18 +1,25 @@
 -- What `run` does with the files that it names.
-use Rattle.std.specs.Prelude.{◌≡◌, ℕ, ◌⊎◌, List, Option, Some, None, Ok, Err}
+use Rattle.std.specs.Prelude.{◌≡◌, ℕ, ◌<◌, ◌⊎◌, Bool, List, [], replicate, Option, Some, None, Ok, Err}
 use Rattle.pdl_kit.specs.declared.rule.Rule.{Rule}
 use Rattle.pdl_kit.specs.declared.rule.Rule.TheVariants.{G1}
 use Rattle.pdl_kit.specs.Files.{Held, Gives}
 use Rattle.pdl_kit.specs.Counts.{Rose}
 use Rattle.pdl_model.specs.Tree.{Pipe}
-use Rattle.pdl_model.specs.Lines.{sequential_lines}
+use Rattle.pdl_model.specs.Flat.{arrays_of}
+use Rattle.pdl_model.specs.Flatten.{flat}
+use Rattle.pdl_model.specs.Lines.{run_lines}
+use Rattle.pdl_model.specs.Promises.{Refines, Advances, KeepsPace}
 use Rattle.pdl_syntax.specs.Text.{IsText, IsOutOfPlace}
 use Rattle.pdl_rules.specs.Refusal.{refusal}
 use Rattle.pdl_check.specs.Memories.{infos_of}
+use Rattle.pdl_net.specs.declared.Netlist.{Netlist}
+use Rattle.pdl_net.specs.Pipe.{IsWellFormed}
+use Rattle.pdl_trunk.specs.Runs.{ShowsMachine}
 use Rattle.pdl_image.specs.Images.{image}
 use Rattle.pdl_image.specs.declared.file_error.FileError.TheVariants as file
 use Rattle.pdl_cli.specs.declared.failure.Failure.{Failure}
 use Rattle.pdl_cli.specs.declared.failure.Failure.TheVariants as failure
+use Rattle.pdl_cli.specs.Printed.{run_text, schedule}
 
 -- ONE FILE
 
@@ -80,12 +87,30 @@ IsWrong holds source image' rule line = IsWrongSource holds source rule line ⊎
 
 -- WHAT A COMMAND DOES
 
--- the text that a command writes where all is well: that of the sequential run
+-- the replies of some cycles: the pipe has no delayed memory, so each cycle has no reply bit
+abbrev pub replies : ℕ → List (List Bool)
+replies cycles = replicate cycles []
+
+-- the text that a command writes where all is well: the lines of the machine of the pipe, which a netlist shows
 pub record IsOutput (holds : Option Held) (source image' : List ℕ) (cycles : ℕ) (text : List ℕ) : Type 0 where
   pub pipe : Pipe
   pub words : List (List ℕ)
   pub loaded : IsLoaded holds source image' pipe words
-  pub lines : text ≡ sequential_lines pipe words cycles
+  -- the text has the lines of the machine's ports
+  pub lines : text ≡ run_lines pipe words (replies cycles)
+  -- and is what the netlist of the pipe commits, of which each port in each cycle is the machine's, for each image and schedule
+  pub netlist : Netlist
+  pub well : IsWellFormed netlist
+  pub name : netlist.name ≡ pipe.name.name
+  pub mems : netlist.mems ≡ infos_of pipe.mems
+  pub ports : ShowsMachine pipe netlist
+  pub printed : text ≡ run_text netlist words (schedule cycles)
+  -- each memory's commits have the sequential writes of the threads that ended, and are a prefix of the sequential writes
+  pub refines : Refines (flat pipe) (arrays_of words) (replies cycles)
+  -- in each cycle that is no wait the oldest thread moves
+  pub moves : (n : ℕ) → n < cycles → Advances (flat pipe) (arrays_of words) (replies n) []
+  -- and so enough threads end
+  pub pace : KeepsPace (flat pipe) (arrays_of words) (replies cycles)
 
 -- why a command fails before anything is written
 abbrev pub Fails : Option Held → ℕ → ℕ → List ℕ → List ℕ → Failure → Type 0

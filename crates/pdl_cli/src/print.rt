@@ -3,8 +3,8 @@ ghost use Rattle.std.specs.Prelude.{◌≡◌, ◌≤◌, ◌<◌, ◌+◌, ◌-
 ghost use Rattle.pdl_model.specs.Lines.{mem_lines, cycle_lines, lines_from, lines, end_line as end_text};
 ghost use Rattle.pdl_net.specs.Circuit.{circuit_of, outputs_of};
 ghost use Rattle.pdl_net.specs.Run.{commit_of};
-ghost use Rattle.pdl_pipe.specs.Runs.{column_of, puts_of, cycle_of, output_count};
-ghost use Rattle.pdl_cli.specs.Printed.{cycles_from, run_text};
+ghost use Rattle.pdl_trunk.specs.Runs.{column_of, puts_of, cycle_of, output_count};
+ghost use Rattle.pdl_cli.specs.Printed.{cycles_from, run_text, schedule};
 ghost use Rattle.pdl_net.specs.Pipe.{IsWellFormed};
 ghost use Rattle.pdl_net.specs.Run.{delayed_mems};
 ghost use Rattle.pdl_image.specs.Images.{IsImage};
@@ -91,8 +91,8 @@ fn run_cycles(
     requires outputs { outputs ≡ output_count sim.old.netlist }
     requires two { 2 ≤ outputs }
     requires few { cycles ≤ 1000000 }
-    ensures text { OnOk result (text.new.items ≡ text.old.items ++ lines_from 1 (map column_of mems.now) (cycles_from sim.old.netlist sim.old.held (replicate cycles 65535))) }
-    ensures counts { IfOk result (λ c. c ≡ counts_of (cycles_from sim.old.netlist sim.old.held (replicate cycles 65535))) }
+    ensures text { OnOk result (text.new.items ≡ text.old.items ++ lines_from 1 (map column_of mems.now) (cycles_from sim.old.netlist sim.old.held (schedule cycles))) }
+    ensures counts { IfOk result (λ c. c ≡ counts_of (cycles_from sim.old.netlist sim.old.held (schedule cycles))) }
 {
     let mut counts = Counts {
         ended: 0,
@@ -122,7 +122,7 @@ fn print_run(
     requires outputs { outputs ≡ output_count sim.old.netlist }
     requires two { 2 ≤ outputs }
     requires few { cycles ≤ 1000000 }
-    ensures { IfOk result (λ t. t.items ≡ lines (map column_of mems.now) (cycles_from sim.old.netlist sim.old.held (replicate cycles 65535))) }
+    ensures { IfOk result (λ t. t.items ≡ lines (map column_of mems.now) (cycles_from sim.old.netlist sim.old.held (schedule cycles))) }
 {
     let mut text = Vec::new(alloc);
     let counts = run_cycles(&mut text, sim, mems, outputs, cycles)?;
@@ -153,7 +153,7 @@ pub fn run(alloc: Global, net: &Netlist, image: &Image, cycles: u32) -> Result<V
     requires widths { All (λ m. m.width ≤ 64) net.now.mems }
     requires two { 2 ≤ output_count net.now }
     requires few { cycles ≤ 1000000 }
-    ensures { IfOk result (λ t. t.items ≡ run_text net.now image.now (replicate cycles 65535)) }
+    ensures { IfOk result (λ t. t.items ≡ run_text net.now image.now (schedule cycles)) }
 {
     let mut sim = Sim::new(alloc, net, image)?;
     print_run(

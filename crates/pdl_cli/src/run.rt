@@ -1,11 +1,10 @@
 // The command `run`.
-ghost use Rattle.std.specs.Prelude.{◌≡◌, ◌≤◌, ◌<◌, IsTrue, IfOk, IfErr, OnOk, ℕ, List, length, replicate};
-ghost use Rattle.pdl_kit.specs.Files.{Gives};
-ghost use Rattle.pdl_model.specs.Lines.{sequential_lines};
+ghost use Rattle.std.specs.Prelude.{◌≡◌, ◌≤◌, IsTrue, IfOk, IfErr, OnOk, ℕ, List, Option, length};
+ghost use Rattle.pdl_kit.specs.Files.{Held, Gives};
 ghost use Rattle.pdl_syntax.specs.View.{pipe_view};
 ghost use Rattle.pdl_check.specs.Memories.{infos_of};
 ghost use Rattle.pdl_image.specs.Images.{IsImage, IsRefusal, image as image_words};
-ghost use Rattle.pdl_cli.specs.Commands.{IsAccepted, SourceFails, ImageFails, IsTaken, IsOutput, Fails};
+ghost use Rattle.pdl_cli.specs.Commands.{IsAccepted, SourceFails, ImageFails, IsTaken, IsLoaded, IsOutput, Fails};
 
 use crate::failure::Failure;
 use crate::print;
@@ -47,8 +46,8 @@ fn load<F: Files>(
     Ok(image_of(alloc, accepted, text.as_slice())?)
 }
 
-// The image of a text for the memories of a pipe.
-fn image_of(alloc: Global, accepted: &Accepted, text: &[u8]) -> Result<Image, FileError>
+/// The image of a text for the memories of a pipe.
+pub fn image_of(alloc: Global, accepted: &Accepted, text: &[u8]) -> Result<Image, FileError>
     requires accepted { (b : List ℕ) × IsAccepted b (pipe_view accepted.now.pipe) }
     requires short { length text.now ≤ LONGEST_FILE }
     ensures ok { IfOk result (λ i. IsTaken (pipe_view accepted.now.pipe) text.now i × IsImage (infos_of (pipe_view accepted.now.pipe).mems) i) }
@@ -57,7 +56,7 @@ fn image_of(alloc: Global, accepted: &Accepted, text: &[u8]) -> Result<Image, Fi
     read_image(alloc, accepted.mems(), text)
 }
 
-// The text of a run of an accepted pipe.
+// The text of a run of an accepted pipe: the output for whatever files give the pipe and the image.
 fn text_of(
     alloc: Global,
     accepted: &Accepted,
@@ -67,7 +66,7 @@ fn text_of(
     requires accepted { (b : List ℕ) × IsAccepted b (pipe_view accepted.now.pipe) }
     requires image { IsImage (infos_of (pipe_view accepted.now.pipe).mems) image.now }
     requires few { cycles ≤ 1000000 }
-    ensures { IfOk result (λ t. t.items ≡ sequential_lines (pipe_view accepted.now.pipe) image.now cycles) }
+    ensures { IfOk result (λ t. (holds : Option Held) (source image' : List ℕ) → IsLoaded holds source image' (pipe_view accepted.now.pipe) image.now → IsOutput holds source image' cycles t.items) }
 {
     let netlist = compile(alloc, accepted)?;
     print::run(alloc, &netlist, image, cycles)

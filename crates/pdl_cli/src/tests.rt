@@ -1,6 +1,19 @@
 // What the program answers, rows by hand.
+ghost use Rattle.std.specs.Prelude.{◌≤◌, length};
+ghost use Rattle.pdl_syntax.specs.View.{pipe_view};
+ghost use Rattle.pdl_check.specs.Memories.{infos_of};
+ghost use Rattle.pdl_image.specs.Images.{IsImage};
+
+use crate::failure::Failure;
+use crate::lines::{commit_line, end_line};
+use crate::run::image_of;
 use crate::top;
-use pdl_kit::{MemFile, MemFiles, MemSink, Name, Seq};
+use pdl_check::Accepted;
+use pdl_check::check::check;
+use pdl_image::Image;
+use pdl_kit::files::LONGEST_FILE;
+use pdl_kit::{MemFile, MemFiles, MemSink, Name, NoMemory, Seq};
+use pdl_machine::Machine;
 use std::alloc::Global;
 use std::process::Abort;
 use std::test::Fail;
@@ -46,6 +59,34 @@ const DOWN: &[u8] =
 
 const SEVENTEEN: &[u8] =
     b"1 m 0 00\n2 m 1 01\n3 m 2 02\n4 m 3 03\n5 m 0 04\n6 m 1 05\n7 m 2 06\n8 m 3 07\n9 m 0 08\n10 m 1 09\n11 m 2 0a\n12 m 3 0b\n13 m 0 0c\n14 m 1 0d\n15 m 2 0e\n16 m 3 0f\n17 m 0 00\nend cycles 17 ended 17 waits 0 squashes 0\n";
+
+// Four stages, over which each thread reads a word and writes it back with 1 more, so that it waits for the thread before it.
+const CHAIN: &[u8] =
+    b"pipe p(n: uint<2>)[m: uint<8>[4] comb lock queue(4)] { a = 2'd0; b = 2'd0; reserve(m[a], R); reserve(m[b], W); call(n + 2'd1); --- block(m[a]); x = m[a]; --- block(m[b]); m[b] <- x + 8'd1; --- release(m[a]); release(m[b]); } start p(2'd0);";
+
+const CHAINED: &[u8] = b"4 m 0 01\n7 m 0 02\n10 m 0 03\nend cycles 10 ended 3 waits 0 squashes 0\n";
+
+// The same with room for one pending write, so that a thread moves only once the one before it has ended.
+const NARROW: &[u8] =
+    b"pipe p(n: uint<2>)[m: uint<8>[4] comb lock queue(1)] { a = 2'd0; b = 2'd0; reserve(m[a], R); reserve(m[b], W); call(n + 2'd1); --- block(m[a]); x = m[a]; --- block(m[b]); m[b] <- x + 8'd1; --- release(m[a]); release(m[b]); } start p(2'd0);";
+
+const NARROWED: &[u8] = b"4 m 0 01\n8 m 0 02\nend cycles 8 ended 2 waits 0 squashes 0\n";
+
+// Five stages: each thread reads three memories and writes them elsewhere, each in stages of its own.
+const FIVE: &[u8] =
+    b"pipe five(n: uint<8>, s: uint<8>)\n[a: uint<8>[8] comb lock queue(1), b: uint<8>[16] comb lock queue(2), c: uint<4>[4] comb lock queue(16)] {\n  i = n[2:0]; k = s[2:0];\n  reserve(a[i], R); reserve(a[k], W);\n  call(n + 8'd3, s + n);\n  ---\n  block(a[i]); x = a[i];\n  j = n[3:0]; l = s[4:1];\n  reserve(b[j], R); reserve(b[l], W);\n  ---\n  block(b[j]); y = b[j];\n  q = y[1:0]; r = x[1:0];\n  reserve(c[r], R); reserve(c[q], W);\n  block(a[k]); a[k] <- x + y;\n  ---\n  release(a[i]); release(a[k]);\n  block(b[l]); b[l] <- y + x + 8'd1; release(b[j]); release(b[l]);\n  block(c[r]); z = c[r];\n  ---\n  block(c[q]); c[q] <- z + x[3:0] + 4'd1; release(c[r]); release(c[q]);\n} start five(8'd0, 8'd1);\n";
+
+const FIVE_IMAGE: &[u8] = b"image 1\na 0 11\na 3 7\nb 2 2f\nc 1 9\n";
+
+// The counter up to its call, and the rest.
+const WRITES: &[u8] =
+    b"pipe p(n: uint<4>)[m: uint<8>[4] comb lock queue(1)] { a = n[1:0]; v = zext(n, 8); reserve(m[a], W); block(m[a]); m[a] <- v; release(m[a]);";
+
+const CALLS: &[u8] = b" call(n + 4'd1); } start p(4'd0);";
+
+const EVERY_OTHER: &[u8] = b"1 m 0 00\n3 m 1 01\nend cycles 3 ended 1 waits 0 squashes 0\n";
+
+const SIXTY_FIVE: &[u8] = b"1 m 0 00\n65 m 1 01\nend cycles 65 ended 1 waits 0 squashes 0\n";
 
 // One run: the words, the bytes of a.pdl and of e.img, and what is seen.
 #[derive(Drop)]
@@ -154,9 +195,134 @@ fn prints_rows(rt: HostRuntime) -> Result<(), Fail> {
     answers(&rt, rt.alloc(), &rows)
 }
 
-/// Sources and images that are refused.
+// An output of the machine in its last cycle, 0 where there is none at this place.
+fn shown(machine: &Machine<'_>, i: usize) -> u64 {
+    if i < machine.port_count() {
+        machine.port(i)
+    } else {
+        0
+    }
+}
+
+// The line of what a memory commits, whose three outputs begin at this place, if it does.
+fn push_ports(
+    text: &mut Vec<u8>,
+    cycle: u32,
+    machine: &Machine<'_>,
+    mem: &[u8],
+    width: u8,
+    at: usize,
+) -> Result<(), NoMemory>
+    requires name { length mem.now ≤ 32 }
+    requires width { width ≤ 64 }
+    requires low { at ≤ 64 }
+{
+    if shown(machine, at) == 1 {
+        let (address, value) = (shown(machine, at + 1), shown(machine, at + 2));
+        let line = commit_line(cycle, mem, address, value, width);
+        text.extend_from_slice(line.as_bytes())?;
+    }
+    Ok(())
+}
+
+// The lines of the machine of the pipe of five stages, whose first ten outputs are those of the stages.
+fn machine_lines(
+    alloc: Global,
+    accepted: &Accepted,
+    image: &Image,
+    cycles: u32,
+) -> Result<Vec<u8>, NoMemory>
+    requires image { IsImage (infos_of (pipe_view accepted.now.pipe).mems) image.now }
+    requires few { cycles ≤ 1000000 }
+{
+    let mut machine = Machine::new(alloc, accepted, image)?;
+    let mut text = Vec::new(alloc);
+    let mut ended = 0;
+    for done in 0..cycles {
+        machine.cycle(u16::MAX);
+        push_ports(&mut text, done + 1, &machine, b"a", 8, 10)?;
+        push_ports(&mut text, done + 1, &machine, b"b", 8, 13)?;
+        push_ports(&mut text, done + 1, &machine, b"c", 4, 16)?;
+        if shown(&machine, 19) == 1 {
+            ended += 1;
+        }
+    }
+    let line = end_line(cycles, ended, 0, 0);
+    text.extend_from_slice(line.as_bytes())?;
+    Ok(text)
+}
+
+// The same of its source and its image.
+fn machine_text(alloc: Global, source: &[u8], image: &[u8], cycles: u32) -> Result<Vec<u8>, Failure>
+    requires source { length source.now ≤ LONGEST_FILE }
+    requires image { length image.now ≤ LONGEST_FILE }
+    requires few { cycles ≤ 1000000 }
+{
+    let accepted = check(alloc, source)?;
+    match image_of(alloc, &accepted, image) {
+        Ok(words) => Ok(machine_lines(alloc, &accepted, &words, cycles)?),
+        Err(failure) => Err(Failure::from(failure)),
+    }
+}
+
+/// What is printed of a pipe of five stages is what its machine shows.
 #[test]
-fn refuses_rows(rt: HostRuntime) -> Result<(), Fail> {
+fn prints_the_machine(rt: HostRuntime) -> Result<(), Fail> {
+    let alloc = rt.alloc();
+    match machine_text(alloc, FIVE, FIVE_IMAGE, 200) {
+        Ok(text) => {
+            let words = ["run", "a.pdl", "e.img", "200"];
+            let rows = [at(&words, FIVE, FIVE_IMAGE, text.as_slice())];
+            answers(&rt, alloc, &rows)?;
+        }
+        Err(_) => assert!(rt; false, "not accepted"),
+    }
+    Ok(())
+}
+
+// The counter with its call so many stages behind its write.
+fn late_call(alloc: Global, separators: u32) -> Result<Vec<u8>, Fail> {
+    let mut source = Vec::new(alloc);
+    source.extend_from_slice(WRITES)?;
+    for _ in 0..separators {
+        source.extend_from_slice(b" ---")?;
+    }
+    source.extend_from_slice(CALLS)?;
+    Ok(source)
+}
+
+/// Pipes of several stages.
+#[test]
+fn runs_stages(rt: HostRuntime) -> Result<(), Fail> {
+    let alloc = rt.alloc();
+    let one = late_call(alloc, 1)?;
+    let most = late_call(alloc, 63)?;
+    let too_many = late_call(alloc, 64)?;
+    let three = ["run", "a.pdl", "e.img", "3"];
+    let rows = [
+        at(&["run", "a.pdl", "e.img", "10"], CHAIN, EMPTY, CHAINED),
+        at(&["run", "a.pdl", "e.img", "8"], NARROW, EMPTY, NARROWED),
+        at(&three, one.as_slice(), EMPTY, EVERY_OTHER),
+        at(
+            &["run", "a.pdl", "e.img", "65"],
+            most.as_slice(),
+            EMPTY,
+            SIXTY_FIVE,
+        ),
+        not(
+            &three,
+            too_many.as_slice(),
+            EMPTY,
+            2,
+            b"refused Z3 line 1\n",
+        ),
+    ];
+    answers(&rt, alloc, &rows)
+}
+
+/// Sources that are refused.
+#[test]
+fn refuses_sources(rt: HostRuntime) -> Result<(), Fail> {
     let run = ["run", "a.pdl", "e.img", "3"];
     let rows = [
         not(&run, TOO_WIDE, EMPTY, 2, b"refused W2 line 1\n"),
@@ -165,6 +331,23 @@ fn refuses_rows(rt: HostRuntime) -> Result<(), Fail> {
         not(&run, WIDE_PARAMETER, EMPTY, 2, b"refused Z7 line 1\n"),
         not(&run, b"", EMPTY, 2, b"refused G1 line 1\n"),
         not(&run, ON_LINE_3, EMPTY, 2, b"refused G1 line 3\n"),
+        not(&run, b"", b"", 2, b"refused G1 line 1\n"),
+        not(
+            &["run", "a.pdl", "f.img", "3"],
+            b"",
+            b"",
+            2,
+            b"refused G1 line 1\n",
+        ),
+    ];
+    answers(&rt, rt.alloc(), &rows)
+}
+
+/// Images that are refused.
+#[test]
+fn refuses_images(rt: HostRuntime) -> Result<(), Fail> {
+    let run = ["run", "a.pdl", "e.img", "3"];
+    let rows = [
         not(&run, COUNTER, b"", 2, b"refused I1 line 1\n"),
         not(&run, COUNTER, b"image ", 2, b"refused I1 line 1\n"),
         not(&run, COUNTER, b"image 1\nm 0\n", 2, b"refused I2 line 2\n"),
@@ -196,19 +379,11 @@ fn refuses_rows(rt: HostRuntime) -> Result<(), Fail> {
             2,
             b"refused I6 line 3\n",
         ),
-        not(&run, b"", b"", 2, b"refused G1 line 1\n"),
-        not(
-            &["run", "a.pdl", "f.img", "3"],
-            b"",
-            b"",
-            2,
-            b"refused G1 line 1\n",
-        ),
     ];
     answers(&rt, rt.alloc(), &rows)
 }
 
-/// Words that are no command, and files that are not there.
+/// Words that are no command.
 #[test]
 fn answers_wrong_words(rt: HostRuntime) -> Result<(), Fail> {
     let rows = [
@@ -235,20 +410,18 @@ fn answers_wrong_words(rt: HostRuntime) -> Result<(), Fail> {
             b"usage\n",
         ),
         not(&["--help"], COUNTER, EMPTY, 1, b"usage\n"),
-        not(
-            &["run", "", "e.img", "17"],
-            COUNTER,
-            EMPTY,
-            3,
-            b"read fault\n",
-        ),
-        not(
-            &["run", "b.pdl", "e.img", "3"],
-            COUNTER,
-            EMPTY,
-            3,
-            b"read fault\n",
-        ),
+    ];
+    answers(&rt, rt.alloc(), &rows)
+}
+
+/// Files that are not there.
+#[test]
+fn answers_missing_files(rt: HostRuntime) -> Result<(), Fail> {
+    let none = ["run", "", "e.img", "17"];
+    let other = ["run", "b.pdl", "e.img", "3"];
+    let rows = [
+        not(&none, COUNTER, EMPTY, 3, b"read fault\n"),
+        not(&other, COUNTER, EMPTY, 3, b"read fault\n"),
     ];
     answers(&rt, rt.alloc(), &rows)
 }

@@ -12,7 +12,7 @@ use Rattle.pdl_types.specs.View.{place_view}
 use Rattle.pdl_syntax.specs.Text as text
 use Rattle.pdl_syntax.specs.View.{pipe_view}
 use Rattle.pdl_rules.specs.Places.{places}
-use Rattle.pdl_rules.specs.Refusal.{Refused, limit_refusal, first_broken, limits, is_one_stage}
+use Rattle.pdl_rules.specs.Refusal.{Refused, limit_refusal, first_broken, limits, is_in_line}
 use Rattle.pdl_limits.specs.Answers.{answer_of, judged, IsRefused, IsLimited}
 use Rattle.pdl_limits.specs.Scan as scan
 use Rattle.pdl_limits.proofs.OnePath.{limits-scan}
@@ -124,6 +124,6 @@ refused_why source error.NoMemory h = tt
 
 -- THE SCAN
 
-pub scanned_limits : (q : r_pipe.Pipe) (ps qs : List r_place.Place) (o : Option Refused) → IsTrue (is_one_stage (pipe_view q)) → qs ≡ ps → map place_view ps ≡ places (pipe_view q)
+pub scanned_limits : (q : r_pipe.Pipe) (ps qs : List r_place.Place) (o : Option Refused) → IsTrue (is_in_line (pipe_view q)) → qs ≡ ps → map place_view ps ≡ places (pipe_view q)
     → o ≡ scan.first_broken scan.order (map place_view qs) → first_broken limits (pipe_view q) ≡ o
-scanned_limits q ps qs o one f g h = limits-scan (pipe_view q) (map place_view qs) one (ap (map place_view) f ∙ g) ∙ sym h
+scanned_limits q ps qs o in_line f g h = limits-scan (pipe_view q) (map place_view qs) in_line (ap (map place_view) f ∙ g) ∙ sym h

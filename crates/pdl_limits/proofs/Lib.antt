@@ -1,3 +1,3 @@
-pub mod OneStage
+pub mod InLine
 pub mod OnePath
 pub mod Judged

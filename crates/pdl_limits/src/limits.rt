@@ -1,4 +1,4 @@
-// The limits of a source: rules Z2, Z4, Z5 and Z7.
+// The limits of a source: rules Z2 to Z5 and Z7.
 ghost use Rattle.std.specs.Prelude.{◌≡◌, map, count_by};
 ghost use Rattle.pdl_syntax.specs.View.{lock_kind_view, lock_view, mem_view, stmt_view};
 ghost use Rattle.pdl_rules.specs.Limits as spec;
@@ -6,6 +6,7 @@ ghost use Rattle.pdl_rules.specs.Parts.{passes};
 ghost use Rattle.pdl_types.specs.View.{place_view};
 
 use crate::literals::{has_wrong_literal, in_statement, is_width};
+use pdl_lockrules::{is_separator, stage_behind};
 use pdl_syntax::tree::{LockDecl, LockKind, Mem, Stmt};
 use pdl_types::Place;
 use pdl_widthrules::is_depth;
@@ -36,6 +37,13 @@ fn count_statements(earlier: &[Place<'_>]) -> usize
         }
     }
     count
+}
+
+/// Whether the place is one separator too many.
+pub fn breaks_z3(before: &[Place<'_>], place: &Place<'_>) -> bool
+    ensures { result ≡ spec.breaks_z3 (map place_view before.now) (place_view place.now) }
+{
+    is_separator(place) && stage_behind(before) == 63
 }
 
 /// Whether the place is one memory too many.

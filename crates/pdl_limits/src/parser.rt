@@ -3,7 +3,7 @@ ghost use Rattle.std.specs.Prelude.{◌≡◌, ◌≤◌, ℕ, None, IfOk, IsTru
 ghost use Rattle.pdl_model.specs.Tree as tree;
 ghost use Rattle.pdl_syntax.specs.Text.{IsText, IsOutOfPlace, Gives, Misplaced};
 ghost use Rattle.pdl_syntax.specs.View.{pipe_view};
-ghost use Rattle.pdl_rules.specs.Refusal.{limit_refusal, is_one_stage};
+ghost use Rattle.pdl_rules.specs.Refusal.{limit_refusal, is_in_line};
 ghost use Rattle.pdl_limits.specs.Answers.{judged, IsRefused, IsLimited, IsWithin};
 
 use crate::scan::first_over;
@@ -13,7 +13,7 @@ use pdl_syntax::tree::Pipe;
 use pdl_types::place::places;
 use std::alloc::Global;
 
-/// Reads a source text of at most 268,435,456 bytes: it gives its tree where it is one of the grammar and keeps all limits. A text with a token out of place is refused at the line of the first one, one that ends too early at the line on which it ends (G1); a text of the grammar is refused by the lowest limit that it breaks (Z1, Z2, Z4, Z5 or Z7), at the line of that limit's lowest place.
+/// Reads a source text of at most 268,435,456 bytes: it gives its tree where it is one of the grammar and keeps all limits. A text with a token out of place is refused at the line of the first one, one that ends too early at the line on which it ends (G1); a text of the grammar is refused by the lowest limit that it breaks (Z1 to Z5 or Z7), at the line of that limit's lowest place.
 pub fn parse(alloc: Global, source: &[u8]) -> Result<Pipe, ParseError>
     requires { length source.now ≤ 268435456 }
     // What is read is the pipe of the text, and it keeps the limits.
@@ -32,9 +32,9 @@ pub fn parse(alloc: Global, source: &[u8]) -> Result<Pipe, ParseError>
     }
 }
 
-// The pipe of one stage, or the lowest limit of the tree that it breaks.
+// The pipe in line, or the lowest limit of the tree that it breaks.
 fn limited(alloc: Global, pipe: Pipe) -> Result<Pipe, ParseError>
-    requires { IsTrue (is_one_stage (pipe_view pipe)) }
+    requires { IsTrue (is_in_line (pipe_view pipe)) }
     ensures { IsLimited (pipe_view pipe) result }
 {
     within(alloc, &pipe)?;
@@ -43,7 +43,7 @@ fn limited(alloc: Global, pipe: Pipe) -> Result<Pipe, ParseError>
 
 // Whether the pipe keeps the limits of the tree.
 fn within(alloc: Global, pipe: &Pipe) -> Result<(), ParseError>
-    requires { IsTrue (is_one_stage (pipe_view pipe.now)) }
+    requires { IsTrue (is_in_line (pipe_view pipe.now)) }
     ensures { IsWithin (pipe_view pipe.now) result }
 {
     let places = places(alloc, pipe)?;

@@ -3,7 +3,7 @@ ghost use Rattle.std.specs.Prelude.{◌≡◌, map, option_map};
 ghost use Rattle.pdl_types.specs.View.{place_view};
 ghost use Rattle.pdl_limits.specs.Scan as straight;
 
-use crate::limits::{breaks_z2, breaks_z4, breaks_z5, breaks_z7};
+use crate::limits::{breaks_z2, breaks_z3, breaks_z4, breaks_z5, breaks_z7};
 use crate::line::line_of;
 use pdl_kit::Rule;
 use pdl_types::Place;
@@ -12,12 +12,13 @@ use pdl_types::Place;
 #[derive(Clone, Copy, PartialEq, Eq)]
 pub enum Limit {
     Z2,
+    Z3,
     Z4,
     Z5,
     Z7,
 }
 
-const ORDER: [Limit; 4] = [Limit::Z2, Limit::Z4, Limit::Z5, Limit::Z7];
+const ORDER: [Limit; 5] = [Limit::Z2, Limit::Z3, Limit::Z4, Limit::Z5, Limit::Z7];
 
 // The limit by its name.
 fn rule_of(limit: Limit) -> Rule
@@ -25,6 +26,7 @@ fn rule_of(limit: Limit) -> Rule
 {
     match limit {
         Limit::Z2 => Rule::Z2,
+        Limit::Z3 => Rule::Z3,
         Limit::Z4 => Rule::Z4,
         Limit::Z5 => Rule::Z5,
         Limit::Z7 => Rule::Z7,
@@ -45,6 +47,7 @@ fn breaks(limit: Limit, before: &[Place<'_>], place: &Place<'_>) -> bool
 {
     match limit {
         Limit::Z2 => breaks_z2(before, place),
+        Limit::Z3 => breaks_z3(before, place),
         Limit::Z4 => breaks_z4(before, place),
         Limit::Z5 => breaks_z5(before, place),
         Limit::Z7 => breaks_z7(place),

@@ -71,6 +71,10 @@ fn long_bodies(rt: HostRuntime) -> Result<(), Fail> {
     for (count, line, answer) in [
         (1024, b"block(m[n]);\n".as_slice(), None),
         (1025, b"block(m[n]);\n".as_slice(), Some((Rule::Z2, 1027))),
+        (63, b"---\n".as_slice(), None),
+        (64, b"---\n".as_slice(), Some((Rule::Z3, 66))),
+        (65, b"---\n".as_slice(), Some((Rule::Z3, 66))),
+        (1025, b"---\n".as_slice(), Some((Rule::Z2, 1027))),
         (511, b"x = n;\n".as_slice(), None),
         (512, b"x = n;\n".as_slice(), Some((Rule::Z5, 514))),
         // Of 1,025 bindings the last is a statement too many.

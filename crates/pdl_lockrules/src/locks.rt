@@ -12,8 +12,8 @@ use pdl_kit::Name;
 use pdl_syntax::tree::{Kind, Location, Mem, Pipe, Stmt};
 use pdl_types::Place;
 
-// Whether a memory has a lock.
-fn is_locked(mems: &[Mem], name: &Name) -> bool
+/// Whether a memory has a lock.
+pub fn is_locked(mems: &[Mem], name: &Name) -> bool
     ensures { result ≡ spec.is_locked (map mem_view mems.now) name.now }
 {
     for mem in mems {

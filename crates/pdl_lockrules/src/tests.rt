@@ -1,6 +1,6 @@
 use crate::{
-    breaks_f5, ends_open, is_late_read, is_not_written_once, is_one_too_many, is_reserved_again,
-    is_wrong_call, lacks_hold,
+    breaks_f5, breaks_l2, breaks_l8, ends_open, is_late_read, is_not_written_once, is_one_too_many,
+    is_reserved_again, is_separator, is_wrong_call, lacks_hold, stage_behind,
 };
 use pdl_kit::{Name, Seq};
 use pdl_syntax::tree::{
@@ -124,5 +124,65 @@ fn one_write(rt: HostRuntime) -> Result<(), Fail> {
     assert!(rt; is_not_written_once(&places[..2], &places[3]));
     assert!(rt; ends_open(&places[..3], &places[5]));
     assert!(rt; is_wrong_call(&places[..4], &places[5]));
+    Ok(())
+}
+
+// A reserve and a release in a stage, and a read and others of both in the next one.
+fn two_stages(alloc: Global) -> Result<Seq<Stmt>, Fail> {
+    let mut stmts = Seq::new(alloc);
+    stmts.push(Stmt::Reserve {
+        span: NOWHERE,
+        at: location(alloc)?,
+        kind: Kind::R,
+    })?;
+    stmts.push(Stmt::Release {
+        span: NOWHERE,
+        at: location(alloc)?,
+    })?;
+    stmts.push(Stmt::Separator { span: NOWHERE })?;
+    stmts.push(Stmt::CombRead {
+        span: NOWHERE,
+        x: ident(alloc, b"x")?,
+        from: location(alloc)?,
+    })?;
+    stmts.push(Stmt::Reserve {
+        span: NOWHERE,
+        at: location(alloc)?,
+        kind: Kind::W,
+    })?;
+    stmts.push(Stmt::Release {
+        span: NOWHERE,
+        at: location(alloc)?,
+    })?;
+    Ok(stmts)
+}
+
+// A reserve, a release and a read in another stage than the first of their kind.
+#[test]
+fn stages(rt: HostRuntime) -> Result<(), Fail> {
+    let alloc = rt.alloc();
+    let pipe = pipe(alloc)?;
+    let mems = pipe.mems.as_slice();
+    let stmts = two_stages(alloc)?;
+    let stmts = stmts.as_slice();
+    assert!(rt; stmts.len() == 6);
+    let places = [
+        Place::Statement(&stmts[0]),
+        Place::Statement(&stmts[1]),
+        Place::Statement(&stmts[2]),
+        Place::Statement(&stmts[3]),
+        Place::Statement(&stmts[4]),
+        Place::Statement(&stmts[5]),
+    ];
+    assert_eq!(rt; stage_behind(&places[..2]), 0);
+    assert_eq!(rt; stage_behind(&places), 1);
+    for (k, place) in places.iter().enumerate() {
+        assert_eq!(rt; is_separator(place), k == 2);
+        assert_eq!(rt; breaks_l2(&places[..k], place), k >= 4);
+        assert_eq!(rt; breaks_l8(mems, &places, &places[..k], place), k == 3);
+    }
+    assert!(rt; !breaks_l8(mems, &places, &places[..2], &places[3]));
+    assert!(rt; !breaks_l8(mems, &places[..1], &places[..3], &places[3]));
+    assert!(rt; !breaks_l8(&[], &places, &places[..3], &places[3]));
     Ok(())
 }

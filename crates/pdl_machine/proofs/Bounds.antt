@@ -9,7 +9,7 @@ use Rattle.pdl_model.specs.Flatten.{op_width}
 along : (r x n : ℕ) → r ≡ x → x < n → r < n
 along r x n e h = subst (λ y. y < n) (sym e) h
 
-applied_fits : (op : BinaryOp) (w a b : ℕ) → a < 2 ^ w → b < 2 ^ w → applied op w a b < 2 ^ op_width op w
+pub applied_fits : (op : BinaryOp) (w a b : ℕ) → a < 2 ^ w → b < 2 ^ w → applied op w a b < 2 ^ op_width op w
 applied_fits Add w a b f g = bounds.add_below w a b
 applied_fits Sub w a b f g = bounds.sub_below w a b
 applied_fits Mul w a b f g = bounds.mul_below w a b

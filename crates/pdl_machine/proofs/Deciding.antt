@@ -15,6 +15,7 @@ use Rattle.pdl_machine.specs.Order.{AreInOrder}
 use Rattle.pdl_machine.specs.State.{Shows, Decides}
 use Rattle.pdl_machine.specs.Acts.{slot_view, IsAfter, AreAfter, AreLong}
 use Rattle.pdl_machine.specs.Lists.{lists}
+use Rattle.pdl_machine.specs.Slots.{AreAllFit}
 use Rattle.pdl_machine.proofs.Deeds.{IsAlike}
 use Rattle.pdl_machine.proofs.Moving.{stages-line, deeds-fails}
 use Rattle.pdl_machine.proofs.Acting.{AreDecided, decided_more}
@@ -23,6 +24,16 @@ pub fit_at : (vs : List Var) (slots : List r_slot.Slot) (i : ℕ) (d : r_slot.Sl
 fit_at vs [] i d f h = absurd (omega arith)
 fit_at vs (x ∷ slots) zero d f h = f.0
 fit_at vs (x ∷ slots) (suc i) d f h = fit_at vs slots i d f.1 (omega arith)
+
+pub fits_at : (vs : List Var) (all : List (Vec ℕ Global)) (i : ℕ) (d : Vec ℕ Global) → AreAllFit vs (lists all) → i < length all → Fit vs (get_or all i d).items
+fits_at vs [] i d f h = absurd (omega arith)
+fits_at vs (x ∷ all) zero d f h = f.0
+fits_at vs (x ∷ all) (suc i) d f h = fits_at vs all i d f.1 (omega arith)
+
+pub fits_set : (vs : List Var) (all : List (Vec ℕ Global)) (i : ℕ) (v : Vec ℕ Global) → AreAllFit vs (lists all) → Fit vs v.items → AreAllFit vs (lists (set all i v))
+fits_set vs [] i v f h = f
+fits_set vs (x ∷ all) zero v f h = (h, f.1)
+fits_set vs (x ∷ all) (suc i) v f h = (f.0, fits_set vs all i v f.1 h)
 
 pub long_at : (n : ℕ) (all : List (Vec ℕ Global)) (i : ℕ) (d : Vec ℕ Global) → AreLong n (lists all) → i < length all → length (get_or all i d).items ≡ n
 long_at n [] i d f h = absurd (omega arith)

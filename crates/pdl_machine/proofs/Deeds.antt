@@ -66,7 +66,7 @@ verified_env : (b : Bool) (args : List ℕ) (d : Deeds) → (if b then d else re
 verified_env true args d = refl
 verified_env false args d = refl
 
-does-env : (read : ℕ → ℕ → ℕ) (o : Op) (d : Deeds) → (does read o d).env ≡ after_op read o d.env
+pub does-env : (read : ℕ → ℕ → ℕ) (o : Op) (d : Deeds) → (does read o d).env ≡ after_op read o d.env
 does-env read (Bind x e) d = refl
 does-env read (CombRead x m a) d = refl
 does-env read (DelayedRead x m a) d = refl

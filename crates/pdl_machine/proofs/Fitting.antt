@@ -89,10 +89,10 @@ op_high ShiftRight w h = h
 if_false : {b : Bool} (m n : ℕ) → b ≡ false → (if b then m else n) ≡ n
 if_false m n e = rw e refl
 
-slice_width : (high low : ℕ) → low ≤ high → (if nat_lt high low then 1 else high + 1 - low) ≡ high + 1 - low
+pub slice_width : (high low : ℕ) → low ≤ high → (if nat_lt high low then 1 else high + 1 - low) ≡ high + 1 - low
 slice_width high low h = grind (arith)
 
-cat_width : (m n : ℕ) → m + n ≤ 64 → (if nat_lt widest (m + n) then 1 else m + n) ≡ m + n
+pub cat_width : (m n : ℕ) → m + n ≤ 64 → (if nat_lt widest (m + n) then 1 else m + n) ≡ m + n
 cat_width m n h = grind (arith)
 
 module _ (vs : List Var) (xs : List ℕ) (f : Fit vs xs) where

@@ -22,14 +22,15 @@ use Rattle.pdl_machine.proofs.Deeds.{IsAlike, stage_ops, start, as_ops}
 
 -- OPERATIONS OF A LINE
 
--- an operation that asks for nothing, fails nowhere and is no barrier
-abbrev IsPlain : Op → Type 0
+-- an operation that asks for nothing, guesses nothing, fails nowhere and is no barrier
+abbrev pub IsPlain : Op → Type 0
 IsPlain (flat.DelayedRead x m a) = ⊥
+IsPlain (flat.SpecCall args) = ⊥
 IsPlain (flat.Verify args) = ⊥
 IsPlain flat.SpecBarrier = ⊥
 IsPlain _ = Unit {0}
 
-abbrev ArePlain : List Op → Type 0
+abbrev pub ArePlain : List Op → Type 0
 ArePlain [] = Unit {0}
 ArePlain (o ∷ os) = IsPlain o × ArePlain os
 
@@ -57,16 +58,16 @@ plain_one ms vs (Verify _ _ _) = tt
 plain_one ms vs (SpecCheck _) = tt
 plain_one ms vs (SpecBarrier _) = tt
 
-plain_all : (ms : List Mem) (vs : List Var) (ss : List Stmt) → ArePlain (all_ops ms vs ss)
+pub plain_all : (ms : List Mem) (vs : List Var) (ss : List Stmt) → ArePlain (all_ops ms vs ss)
 plain_all ms vs [] = tt
 plain_all ms vs (s ∷ ss) = plain_append (ops_of ms vs s) (all_ops ms vs ss) (plain_one ms vs s) (plain_all ms vs ss)
 
 -- what no plain operation changes
-does_all-same : {X : Type 0} (f : Deeds → X) (t : Pipe) (read : ℕ → ℕ → ℕ) (k : ℕ) → ((o : Op) (d : Deeds) → IsPlain o → f (does read o d) ≡ f d) → (os : List Op) (d : Deeds) → ArePlain os → f (does_all read (staged t k os) d) ≡ f d
+pub does_all-same : {X : Type 0} (f : Deeds → X) (t : Pipe) (read : ℕ → ℕ → ℕ) (k : ℕ) → ((o : Op) (d : Deeds) → IsPlain o → f (does read o d) ≡ f d) → (os : List Op) (d : Deeds) → ArePlain os → f (does_all read (staged t k os) d) ≡ f d
 does_all-same f t read k one [] d h = refl
 does_all-same f t read k one (o ∷ os) d h = does_all-same f t read k one os (does read o d) h.1 ∙ one o d h.0
 
-same_asks : (read : ℕ → ℕ → ℕ) (o : Op) (d : Deeds) → IsPlain o → (does read o d).asks ≡ d.asks
+pub same_asks : (read : ℕ → ℕ → ℕ) (o : Op) (d : Deeds) → IsPlain o → (does read o d).asks ≡ d.asks
 same_asks read (flat.Bind x e) d h = refl
 same_asks read (flat.CombRead x m a) d h = refl
 same_asks read (flat.DelayedRead x m a) d h = absurd h
@@ -80,6 +81,21 @@ same_asks read (flat.SpecCall args) d h = refl
 same_asks read (flat.Verify args) d h = absurd h
 same_asks read flat.SpecCheck d h = refl
 same_asks read flat.SpecBarrier d h = absurd h
+
+pub same_guess : (read : ℕ → ℕ → ℕ) (o : Op) (d : Deeds) → IsPlain o → (does read o d).guess ≡ d.guess
+same_guess read (flat.Bind x e) d h = refl
+same_guess read (flat.CombRead x m a) d h = refl
+same_guess read (flat.DelayedRead x m a) d h = absurd h
+same_guess read (flat.Write m a e) d h = refl
+same_guess read (flat.ReserveRead m a) d h = refl
+same_guess read (flat.ReserveWrite m a) d h = refl
+same_guess read (flat.Block m a) d h = refl
+same_guess read (flat.Release m a) d h = refl
+same_guess read (flat.Call args) d h = refl
+same_guess read (flat.SpecCall args) d h = absurd h
+same_guess read (flat.Verify args) d h = absurd h
+same_guess read flat.SpecCheck d h = refl
+same_guess read flat.SpecBarrier d h = absurd h
 
 same_barrier : (read : ℕ → ℕ → ℕ) (o : Op) (d : Deeds) → IsPlain o → (does read o d).barrier ≡ d.barrier
 same_barrier read (flat.Bind x e) d h = refl
@@ -96,7 +112,7 @@ same_barrier read (flat.Verify args) d h = absurd h
 same_barrier read flat.SpecCheck d h = refl
 same_barrier read flat.SpecBarrier d h = absurd h
 
-same_fails : (read : ℕ → ℕ → ℕ) (o : Op) (d : Deeds) → IsPlain o → (does read o d).fails ≡ d.fails
+pub same_fails : (read : ℕ → ℕ → ℕ) (o : Op) (d : Deeds) → IsPlain o → (does read o d).fails ≡ d.fails
 same_fails read (flat.Bind x e) d h = refl
 same_fails read (flat.CombRead x m a) d h = refl
 same_fails read (flat.DelayedRead x m a) d h = absurd h

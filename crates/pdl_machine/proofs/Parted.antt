@@ -47,7 +47,7 @@ parts-separator (SpecCheck _) ss h = cc
 parts-separator (SpecBarrier _) ss h = cc
 
 -- there is a part
-abbrev IsSome : List (List Stmt) → Type 0
+abbrev pub IsSome : List (List Stmt) → Type 0
 IsSome [] = ⊥
 IsSome (x ∷ xs) = Unit {0}
 
@@ -59,15 +59,15 @@ some_more : (b : Bool) (s : Stmt) (ss : List Stmt) → is_separator s ≡ b → 
 some_more true s ss e h = subst IsSome (sym (parts-separator s ss e)) tt
 some_more false s ss e h = subst IsSome (sym (parts-first s ss e)) (some_first s (parts ss) h)
 
-some_part : (ss : List Stmt) → IsSome (parts ss)
+pub some_part : (ss : List Stmt) → IsSome (parts ss)
 some_part [] = tt
 some_part (s ∷ ss) = some_more (is_separator s) s ss refl (some_part ss)
 
-first_zero : (s : Stmt) (xs : List (List Stmt)) → IsSome xs → slice_index_or (with_first s xs) 0 [] ≡ s ∷ slice_index_or xs 0 []
+pub first_zero : (s : Stmt) (xs : List (List Stmt)) → IsSome xs → slice_index_or (with_first s xs) 0 [] ≡ s ∷ slice_index_or xs 0 []
 first_zero s [] h = absurd h
 first_zero s (x ∷ xs) h = refl
 
-first_suc : (s : Stmt) (xs : List (List Stmt)) (i : ℕ) → slice_index_or (with_first s xs) (suc i) [] ≡ slice_index_or xs (suc i) []
+pub first_suc : (s : Stmt) (xs : List (List Stmt)) (i : ℕ) → slice_index_or (with_first s xs) (suc i) [] ≡ slice_index_or xs (suc i) []
 first_suc s [] i = refl
 first_suc s (x ∷ xs) i = refl
 
@@ -95,11 +95,11 @@ in_stage-other k j (o ∷ os) xs p h =
 
 module _ (p : Pipe) where
   -- the flat statements behind these variables, in stage j and later ones
-  abbrev flat_from : List Var → ℕ → List Stmt → List flat.Stmt
+  abbrev pub flat_from : List Var → ℕ → List Stmt → List flat.Stmt
   flat_from vs j ss = flat_stmts p.mems [] (stmts_of ss) (there vs j)
 
   -- the first statement and the others, by the numbers of all variables
-  flat_split : (vs all : List Var) (j : ℕ) (s : Stmt) (ss : List Stmt) → IsInOrder p vs s → Grows (vars_after p.mems vs s) all
+  pub flat_split : (vs all : List Var) (j : ℕ) (s : Stmt) (ss : List Stmt) → IsInOrder p vs s → Grows (vars_after p.mems vs s) all
       → flat_from vs j (s ∷ ss) ≡ staged p j (ops_of p.mems all s) ++ flat_from (vars_after p.mems vs s) (after j s) ss
   flat_split vs all j s ss t g =
       ap₂ (λ (a b : List flat.Stmt). a ++ b)
@@ -172,7 +172,7 @@ module _ (p : Pipe) where
       ∙ h (suc i)
       ∙ ap (λ (xs : List Stmt). staged p (j + suc i) (all_ops p.mems all xs)) (sym (first_suc s (parts ss) i) ∙ ap (λ (xs : List (List Stmt)). slice_index_or xs (suc i) []) (sym (parts-first s ss e)))
 
-  no_ops : (all : List Var) (s : Stmt) → is_separator s ≡ true → ops_of p.mems all s ≡ []
+  pub no_ops : (all : List Var) (s : Stmt) → is_separator s ≡ true → ops_of p.mems all s ≡ []
   no_ops all (Separator _) e = refl
   no_ops all (CombRead _ _ _) e = cc
   no_ops all (Bind _ _ _) e = cc

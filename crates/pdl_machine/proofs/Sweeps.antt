@@ -33,8 +33,11 @@ module _ {X Y : Type 0} (view : X → Y) (now all : List X) (i : ℕ) (x d : X) 
 
 -- A VECTOR THAT IS LENT AS A SLICE
 
-pub items_written : (v : Vec ℕ Global) (ws : List ℕ) → length ws ≡ length v.items → (with_items v ws).items ≡ ws
-items_written v ws h =
+pub all_written : {X : Type 0} (v : Vec X Global) (ws : List X) → length ws ≡ length v.items → (with_items v ws).items ≡ ws
+all_written v ws h =
     let n : length ws ≡ v.len = h ∙ sym v.ok.0 in
     let e : ws ++ drop (length ws) v.items ≡ ws = ap (λ xs. ws ++ xs) (drop_all (length ws) v.items (omega (arith, h))) ∙ append-nil ws in
     ap (λ xs. take v.len xs) e ∙ take_all v.len ws (omega (arith, n))
+
+pub items_written : (v : Vec ℕ Global) (ws : List ℕ) → length ws ≡ length v.items → (with_items v ws).items ≡ ws
+items_written v ws h = all_written v ws h

@@ -8,3 +8,11 @@ pub mod Parts
 pub mod Acts
 pub mod Fitting
 pub mod Lists
+pub mod Running
+pub mod Effects
+pub mod Rows
+pub mod Slots
+pub mod Setup
+pub mod Outputs
+pub mod Ready
+pub mod Inside

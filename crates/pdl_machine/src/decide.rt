@@ -13,6 +13,7 @@ ghost use Rattle.pdl_machine.specs.State.{Shows, Decides};
 ghost use Rattle.pdl_machine.specs.Parts.{parts_view};
 ghost use Rattle.pdl_machine.specs.Acts.{slot_view, acts_with, IsAfter, AreAfter, AreLong};
 ghost use Rattle.pdl_machine.specs.Lists.{lists};
+ghost use Rattle.pdl_machine.specs.Slots.{AreAllFit};
 
 use crate::memory::Memory;
 use crate::slot::Slot;
@@ -38,6 +39,8 @@ fn decide_stage(
     requires fit { Fit names.now slot.now.values.items }
     requires kept { AreKept (pipe_view pipe.now).mems (map memory_view memories.now) }
     requires long { length after.old ≡ length slot.now.values.items }
+    requires fits { Fit names.now after.old }
+    ensures fits { Fit names.now after.new }
     ensures after { IsAfter (flat (pipe_view pipe.now)) (map memory_view memories.now) stage slot.now after.new }
     ensures moves { (number : ℕ) → slot.now.number ≡ Some number → Decides (flat (pipe_view pipe.now)) (map memory_view memories.now) stage number slot.now.values.items free result }
     ensures empty { slot.now.number ≡ None → result ≡ false }
@@ -78,11 +81,13 @@ pub fn decide(
     requires kept { AreKept (pipe_view pipe.now).mems (map memory_view memories.now) }
     requires after_stages { length after.old ≡ length slots.now }
     requires after_long { AreLong (length names.now) (lists after.old) }
+    requires after_fit { AreAllFit names.now (lists after.old) }
     requires moves_stages { length moves.old ≡ length slots.now }
     // In each state with these memories and threads the same threads move by the stated machine.
     ensures acts { (st : State) (bits : List Bool) → Shows (flat (pipe_view pipe.now)) (map memory_view memories.now) st → st.stages ≡ map slot_view slots.now → all_acts (flat (pipe_view pipe.now)) st bits ≡ acts_with (flat (pipe_view pipe.now)) st 0 (map slot_view slots.now) moves.new }
     ensures after { AreAfter (flat (pipe_view pipe.now)) (map memory_view memories.now) 0 slots.now (lists after.new) }
     ensures long { AreLong (length names.now) (lists after.new) }
+    ensures fit { AreAllFit names.now (lists after.new) }
 {
     let mut free = true;
     let mut stage = slots.len();

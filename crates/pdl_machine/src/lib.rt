@@ -1,14 +1,24 @@
 //! The pipeline machine of a pipe.
 #![tactic(auto)]
 
-pub mod decide;
-pub mod memory;
+mod calls;
+mod commits;
+mod decide;
+mod locks;
+mod machine;
+mod memory;
+mod moves;
 mod operators;
-pub mod parts;
-pub mod pending;
-pub mod slot;
-pub mod stage;
+mod parts;
+mod pending;
+mod releases;
+mod setup;
+mod slot;
+mod stage;
+mod step;
 #[cfg(test)]
 mod tests;
-pub mod thread;
-pub mod value;
+mod thread;
+mod value;
+
+pub use machine::Machine;

@@ -1,48 +1,40 @@
--- What the registers and arrays of a stage take next.
-use Rattle.std.specs.Prelude.{◌≡◌, ℕ, ◌^◌, ◌<◌, List, [], map, length, slice_index, slice_index_or, Some}
-use Rattle.pdl_net.specs.Circuit.{Circuit, reg_width, array_width, array_depth}
-use Rattle.pdl_net.specs.Growth.{Own}
-use Rattle.pdl_net.specs.Meaning.{next_signal, write_signals}
-use Rattle.pdl_net.specs.Signal.{Signal, no_signal}
-use Rattle.pdl_model.specs.Tree.{Mem}
-use Rattle.pdl_pipe.specs.Walk.{Put}
-use Rattle.pdl_pipe.specs.Stage.{put_to, writes_of, name_of_mem}
-use Rattle.pdl_pipe.specs.Nets.{width_of_mem, depth_of_mem}
+-- What the registers of the stages take next.
+use Rattle.std.specs.Prelude.{◌≡◌, ℕ, ◌+◌, ◌<◌, ◌≤◌, List, length}
+use Rattle.pdl_net.specs.Circuit.{Circuit, HasReg, reg_width}
+use Rattle.pdl_net.specs.Signal.{Signal, mux_signal, reg_signal}
+use Rattle.pdl_net.specs.Meaning.{next_signal}
+use Rattle.pdl_trunk.specs.Walk.{one, zero_bit}
+use Rattle.pdl_trunk.specs.Views.{View, view_at, comes, next_valid, brings, brings_tickets}
+use Rattle.pdl_trunk.specs.Compiled.{HasHeld, TakeNext}
+use Rattle.pdl_pipe.specs.declared.nets.StageNets.{StageNets}
 
--- the first n registers and no array, and the first n arrays and no register
-abbrev pub first_registers : ℕ → Own
-first_registers n = record { from = 0; to = n; first = 0; last = 0 }
+-- a stage's registers have the widths of what a thread brings into it, and stand in order
+pub record IsFit (c : Circuit) (s : StageNets) (fs gs : List Signal) : Type 0 where
+  pub valid : HasReg c s.valid
+  pub valid_width : reg_width c s.valid ≡ 1
+  pub vars : HasHeld c s.vars fs
+  pub tickets : HasHeld c s.tickets gs
+  pub valid_first : s.valid < s.vars
+  pub vars_first : s.vars + length fs ≤ s.tickets
 
-abbrev pub first_arrays : ℕ → Own
-first_arrays n = record { from = 0; to = 0; first = 0; last = n }
+-- they take that next where a thread comes
+pub record IsConnected (c : Circuit) (s : StageNets) (come move : Signal) (fs gs : List Signal) : Type 0 where
+  pub valid : next_signal c s.valid ≡ mux_signal come one (mux_signal move zero_bit (reg_signal 1 s.valid))
+  pub vars : TakeNext c s.vars come fs
+  pub tickets : TakeNext c s.tickets come gs
 
-abbrev pub signal_at : List Signal → ℕ → Signal
-signal_at fs i = slice_index_or fs i no_signal
+-- the registers of all stages do, and those of a stage stand before those of the later ones
+pub record AreFitStages (c : Circuit) (vs : List View) : Type 0 where
+  pub valid : (k : ℕ) → k < length vs → HasReg c (view_at vs k).valid
+  pub valid_width : (k : ℕ) → k < length vs → reg_width c (view_at vs k).valid ≡ 1
+  pub vars : (k : ℕ) → k < length vs → HasHeld c (view_at vs k).vars (brings vs k)
+  pub tickets : (k : ℕ) → k < length vs → HasHeld c (view_at vs k).tickets (brings_tickets vs k)
+  pub valid_first : (k : ℕ) → k < length vs → (view_at vs k).valid < (view_at vs k).vars
+  pub vars_first : (k : ℕ) → k < length vs → (view_at vs k).vars + length (brings vs k) ≤ (view_at vs k).tickets
+  pub apart : (j k : ℕ) → j < k → k < length vs → (view_at vs j).tickets + length (brings_tickets vs j) ≤ (view_at vs k).valid
 
--- the signals have the widths of the first registers
-abbrev pub FitRegisters : Circuit → List Signal → Type 0
-FitRegisters c fs = (i : ℕ) → i < length fs → (signal_at fs i).width ≡ reg_width c i
-
--- the first registers take these next
-abbrev pub TakeNext : Circuit → List Signal → Type 0
-TakeNext c fs = (i : ℕ) → i < length fs → next_signal c i ≡ signal_at fs i
-
-abbrev pub name_at : List Mem → ℕ → List ℕ
-name_at ms m = slice_index_or (map name_of_mem ms) m []
-
--- the first write to a memory reaches its words and has its width
-pub record IsFitting (ms : List Mem) (m : ℕ) (x : Put) : Type 0 where
-  pub reach : 2 ^ x.addr.width ≡ slice_index (map depth_of_mem ms) m
-  pub width : x.value.width ≡ slice_index (map width_of_mem ms) m
-
-abbrev pub FitArrays : List Mem → List Put → Type 0
-FitArrays ms xs = (m : ℕ) (x : Put) → m < length ms → put_to xs (name_at ms m) ≡ Some x → IsFitting ms m x
-
--- and a write reaches the words of an array and has its width
-pub record FitsArray (c : Circuit) (m : ℕ) (x : Put) : Type 0 where
-  pub reach : 2 ^ x.addr.width ≡ array_depth c m
-  pub width : x.value.width ≡ array_width c m
-
--- each memory's array takes the first write to it
-abbrev pub TakeWrites : Circuit → List Mem → List Put → Type 0
-TakeWrites c ms xs = (m : ℕ) → m < length ms → write_signals c m ≡ writes_of (put_to xs (name_at ms m))
+-- what a stage's registers take next
+pub record TakesNext (c : Circuit) (vs : List View) (k : ℕ) : Type 0 where
+  pub valid : next_signal c (view_at vs k).valid ≡ next_valid vs k
+  pub vars : TakeNext c (view_at vs k).vars (comes vs k) (brings vs k)
+  pub tickets : TakeNext c (view_at vs k).tickets (comes vs k) (brings_tickets vs k)

@@ -1,15 +1,16 @@
 -- Outputs that are to be added, with their nets.
-use Rattle.std.specs.Prelude.{◌≡◌, ℕ, ◌^◌, List, [], ◌∷◌, map, ⊤, Option, Some, None, if◌then◌else◌, bytes_eq}
-use Rattle.pdl_model.specs.Tree.{Mem}
-use Rattle.pdl_rules.specs.Widths.{address_bits}
-use Rattle.pdl_rules.specs.Typed.{IsSized}
+use Rattle.std.specs.Prelude.{ℕ, suc, ◌-◌, List, [], ◌∷◌, ◌++◌, map, length, slice_index_or, Option, Some, None, is_some, if◌then◌else◌, codes, decimal, ⊤}
+use Rattle.pdl_syntax.specs.declared.tree.Mem as r_mem
+use Rattle.pdl_syntax.specs.View.{mem_view}
+use Rattle.pdl_net.specs.declared.Net.{Net}
+use Rattle.pdl_net.specs.declared.Net.TheVariants.{Reg}
 use Rattle.pdl_net.specs.Circuit.{Circuit, Output}
 use Rattle.pdl_net.specs.Meaning.{IsThere}
+use Rattle.pdl_lockapi.specs.declared.LockNets.{LockNets}
+use Rattle.pdl_trunk.specs.Ports.{Shown}
+use Rattle.pdl_trunk.specs.Compiled.{shown_in}
+use Rattle.pdl_pipe.specs.declared.nets.StageNets.{StageNets}
 use Rattle.pdl_pipe.specs.declared.outputs.OutNet.{OutNet}
-use Rattle.pdl_pipe.specs.declared.stage.PutNets.{PutNets}
-use Rattle.pdl_net.specs.Signal.{Signal, const_signal}
-use Rattle.pdl_pipe.specs.Walk.{Put}
-use Rattle.pdl_pipe.specs.Stage.{Shown, one, zero, shown_in}
 
 -- an output of a circuit
 abbrev pub output_of : OutNet → Output
@@ -23,27 +24,44 @@ OutsThere c (o ∷ os) = IsThere c o.net × OutsThere c os
 abbrev pub shown_by : Circuit → List OutNet → List Shown
 shown_by c os = map (shown_in c) (map output_of os)
 
--- a memory of allowed sizes, whose address bits reach each of its words and no more
-pub record IsReached (m : Mem) : Type 0 where
-  pub sized : IsSized m
-  pub reach : 2 ^ address_bits m.depth.value ≡ m.depth.value
+-- the nets of what a memory commits are there
+abbrev pub CommitThere : Circuit → Option LockNets → Type 0
+CommitThere c None = ⊤
+CommitThere c (Some n) = IsThere c n.commit × IsThere c n.addr × IsThere c n.value
 
-abbrev pub AreReached : List Mem → Type 0
-AreReached [] = ⊤
-AreReached (m ∷ ms) = IsReached m × AreReached ms
+abbrev pub CommitsThere : Circuit → List (Option LockNets) → Type 0
+CommitsThere c [] = ⊤
+CommitsThere c (n ∷ ns) = CommitThere c n × CommitsThere c ns
 
--- the first write to a memory of this name
-abbrev pub nets_to : List PutNets → List ℕ → Option PutNets
-nets_to [] m = None
-nets_to (x ∷ xs) m = if bytes_eq x.mem m then Some x else nets_to xs m
+abbrev pub out : List ℕ → Net → OutNet
+out n x = record { name = n; net = x }
 
--- what a memory commits: whether, where and what
-pub record Commit : Type 0 where
-  pub enable : Signal
-  pub addr : Signal
-  pub value : Signal
+-- of each stage whether it holds a thread and whether that moves; the first has the number k
+abbrev pub stages_outs : ℕ → List StageNets → List Net → List OutNet
+stages_outs k [] xs = []
+stages_outs k (s ∷ ss) [] = []
+stages_outs k (s ∷ ss) (x ∷ xs) = out (codes "v_" ++ decimal k) (Reg s.valid) ∷ out (codes "g_" ++ decimal k) x ∷ stages_outs (suc k) ss xs
 
--- zeros where the stage doesn't write it
-abbrev pub commit_signals : Mem → Option Put → Commit
-commit_signals m None = record { enable = zero; addr = const_signal (address_bits m.depth.value) 0; value = const_signal m.width.value 0 }
-commit_signals m (Some x) = record { enable = one; addr = x.addr; value = x.value }
+-- what a memory commits, zeros where it has no nets
+abbrev pub nets_or : Net → Option LockNets → LockNets
+nets_or zero None = record { commit = zero; addr = zero; value = zero }
+nets_or zero (Some n) = n
+
+abbrev pub commit_outs : List ℕ → LockNets → List OutNet
+commit_outs name n = out (codes "c_" ++ name) n.commit ∷ out (codes "ca_" ++ name) n.addr ∷ out (codes "cd_" ++ name) n.value ∷ []
+
+-- that of a memory with a lock; another one has none
+abbrev pub commit_if : Net → r_mem.Mem → Option LockNets → List OutNet
+commit_if zero m n = if is_some (mem_view m).lock then commit_outs m.name.name (nets_or zero n) else []
+
+abbrev pub commits_outs : Net → List r_mem.Mem → List (Option LockNets) → List OutNet
+commits_outs zero [] ns = []
+commits_outs zero (m ∷ ms) [] = []
+commits_outs zero (m ∷ ms) (n ∷ ns) = commit_if zero m n ++ commits_outs zero ms ns
+
+-- the net of the last stage
+abbrev pub last_net : List Net → Net → Net
+last_net xs zero = slice_index_or xs (length xs - 1) zero
+
+abbrev pub all_outs : List r_mem.Mem → List StageNets → List Net → List (Option LockNets) → Net → List OutNet
+all_outs ms ss xs ns zero = (stages_outs 0 ss xs ++ commits_outs zero ms ns) ++ out (codes "ended") (last_net xs zero) ∷ out (codes "squash") zero ∷ []

@@ -1,86 +1,227 @@
-// What the registers and arrays of a stage take next.
-ghost use Rattle.std.specs.Prelude.{◌≡◌, ◌≤◌, ◌<◌, ℕ, [], OnOk, map, length, get_or, Some};
-ghost use Rattle.pdl_syntax.specs.View.{mem_view};
-ghost use Rattle.pdl_net.specs.Circuit.{HasReg, HasArray};
-ghost use Rattle.pdl_net.specs.Meaning.{Means, IsThere, signal, write_signals};
+// What the registers of the stages take next.
+ghost use Rattle.std.specs.Prelude.{◌≡◌, ◌<◌, ◌≤◌, ◌+◌, ◌-◌, ℕ, [], OnOk, length, map, slice_index_or};
+ghost use Rattle.pdl_net.specs.Circuit.{HasReg, reg_width};
+ghost use Rattle.pdl_net.specs.Signal.{const_signal, mux_signal, reg_signal};
+ghost use Rattle.pdl_net.specs.Meaning.{Means, IsThere, signal, next_signal};
 ghost use Rattle.pdl_net.specs.Growth.{ExtendsBut};
-ghost use Rattle.pdl_build.specs.Change.{one_array};
-ghost use Rattle.pdl_pipe.specs.Walk.{Put};
-ghost use Rattle.pdl_pipe.specs.Stage.{one as one_signal, put_to as spec_put_to, writes_of};
-ghost use Rattle.pdl_pipe.specs.Nets.{NetsThere, PutsThere, put_in, HasMems};
-ghost use Rattle.pdl_pipe.specs.Connected.{first_registers, first_arrays, FitRegisters, TakeNext, FitsArray, FitArrays, TakeWrites};
+ghost use Rattle.pdl_build.specs.Change.{one_reg};
+ghost use Rattle.pdl_build.specs.Env.{scope, AreThere};
+ghost use Rattle.pdl_trunk.specs.Views.{view_at, moves_at, signals_named, signals_ticket};
+ghost use Rattle.pdl_trunk.specs.Compiled.{HasHeld, TakeNext as TakesHeld};
+ghost use Rattle.pdl_pipe.specs.Nets.{NetsThere, TicketsThere, ticket_in, IsThereWalk, walk_in, AreThereStages};
+ghost use Rattle.pdl_pipe.specs.Sized.{ends_in, net_at, registers_from};
+ghost use Rattle.pdl_pipe.specs.Connected.{IsFit, IsConnected, AreFitStages, TakesNext};
 
-use crate::outputs::put_to;
-use crate::stage::PutNets;
-use pdl_build::Builder;
+use crate::moves::{args, called};
+use crate::nets::{StageNets, TicketNet, WalkNets};
+use pdl_build::{Builder, EnvEntry};
 use pdl_kit::NoMemory;
 use pdl_net::Net;
-use pdl_syntax::tree::Mem;
 
-/// The net of a number.
-fn net_of(nets: &[Net], i: usize) -> Net
-    requires { i < length nets.now }
-    ensures { result ≡ get_or nets.now i result }
+/// A register takes a net where `comes` is 1, and else keeps what it holds.
+#[tactic(auto, using(crate::proofs::MovesNets::reg_there, crate::proofs::MovesNets::reg_means))]
+fn take(b: &mut Builder, r: usize, comes: Net, net: Net) -> Result<(), NoMemory>
+    requires has { HasReg b.old r }
+    requires comes { IsThere b.old comes }
+    requires comes_one { (signal b.old comes).width ≡ 1 }
+    requires net { IsThere b.old net }
+    requires width { reg_width b.old r ≡ (signal b.old net).width }
+    ensures next { OnOk result (next_signal b.new r ≡ mux_signal (signal b.old comes) (signal b.old net) (reg_signal (signal b.old net).width r)) }
+    ensures extends { ExtendsBut (one_reg r) b.old b.new }
 {
-    nets[i]
+    let next = b.mux(comes, net, Net::Reg(r))?;
+    b.next(r, next);
+    Ok(())
 }
 
-/// The first registers take these nets next, in order.
-pub fn connect_registers(b: &mut Builder, nets: &[Net])
-    requires there { NetsThere b.old nets.now }
-    requires has { (i : ℕ) → i < length nets.now → HasReg b.old i }
-    requires fit { FitRegisters b.old (map (signal b.old) nets.now) }
-    ensures extends { ExtendsBut (first_registers (length nets.now)) b.old b.new }
-    ensures next { TakeNext b.new (map (signal b.old) nets.now) }
-    ensures count { length b.new.regs ≡ length b.old.regs }
-{
-    for i in 0..nets.len() {
-        let net = net_of(nets, i);
-        b.next(i, net);
-    }
-}
-
-/// The array of a memory takes the first write to it in each cycle; `one` is always 1.
-fn connect_array(
+/// The register that tells whether a stage holds a thread: it does where one comes, and where its own doesn't move.
+#[tactic(auto, using(crate::proofs::MovesNets::reg_there, crate::proofs::MovesNets::reg_means))]
+fn take_valid(
     b: &mut Builder,
-    m: usize,
-    mem: &Mem,
+    r: usize,
+    comes: Net,
+    moves: Net,
     one: Net,
-    puts: &[PutNets],
+    zero: Net,
 ) -> Result<(), NoMemory>
-    requires puts { PutsThere b.old puts.now }
-    requires one { Means b.old one one_signal }
-    requires has { HasArray b.old m }
-    requires unwritten { write_signals b.old m ≡ [] }
-    requires fit { (x : Put) → spec_put_to (map (put_in b.old) puts.now) mem.now.name.name ≡ Some x → FitsArray b.old m x }
-    ensures extends { ExtendsBut (one_array m) b.old b.new }
-    ensures writes { OnOk result (write_signals b.new m ≡ writes_of (spec_put_to (map (put_in b.old) puts.now) mem.now.name.name)) }
-    ensures regs { b.new.regs ≡ b.old.regs }
+    requires has { HasReg b.old r }
+    requires width { reg_width b.old r ≡ 1 }
+    requires comes { IsThere b.old comes }
+    requires comes_one { (signal b.old comes).width ≡ 1 }
+    requires moves { IsThere b.old moves }
+    requires moves_one { (signal b.old moves).width ≡ 1 }
+    requires one { Means b.old one (const_signal 1 1) }
+    requires zero { Means b.old zero (const_signal 1 0) }
+    ensures next { OnOk result (next_signal b.new r ≡ mux_signal (signal b.old comes) (const_signal 1 1) (mux_signal (signal b.old moves) (const_signal 1 0) (reg_signal 1 r))) }
+    ensures extends { ExtendsBut (one_reg r) b.old b.new }
 {
-    if let Some(x) = put_to(puts, &mem.name.name) {
-        b.write(m, one, x.addr, x.value)?;
+    let stays = b.mux(moves, zero, Net::Reg(r))?;
+    let next = b.mux(comes, one, stays)?;
+    b.next(r, next);
+    Ok(())
+}
+
+/// The registers from `from` on take these nets where `comes` is 1.
+fn take_nets(b: &mut Builder, from: usize, comes: Net, nets: &[Net]) -> Result<(), NoMemory>
+    requires there { NetsThere b.old nets.now }
+    requires comes { IsThere b.old comes }
+    requires comes_one { (signal b.old comes).width ≡ 1 }
+    requires held { HasHeld b.old from (map (signal b.old) nets.now) }
+    ensures next { OnOk result (TakesHeld b.new from (signal b.old comes) (map (signal b.old) nets.now)) }
+    ensures extends { ExtendsBut (registers_from from (from + length nets.now)) b.old b.new }
+{
+    let regs = b.reg_count();
+    for i in 0..nets.len() {
+        let r = from + i;
+        prove!(r < regs);
+        let net = net_of(nets, i);
+        take(b, r, comes, net)?;
     }
     Ok(())
 }
 
-/// The array of each memory takes the first write to it in each cycle; `one` is always 1.
-pub fn connect_arrays(
-    b: &mut Builder,
-    mems: &[Mem],
-    one: Net,
-    puts: &[PutNets],
-) -> Result<(), NoMemory>
-    requires puts { PutsThere b.old puts.now }
-    requires one { Means b.old one one_signal }
-    requires mems { HasMems b.old (map mem_view mems.now) }
-    requires unwritten { (m : ℕ) → m < length mems.now → write_signals b.old m ≡ [] }
-    requires fit { FitArrays (map mem_view mems.now) (map (put_in b.old) puts.now) }
-    ensures extends { ExtendsBut (first_arrays (length mems.now)) b.old b.new }
-    ensures writes { OnOk result (TakeWrites b.new (map mem_view mems.now) (map (put_in b.old) puts.now)) }
-    ensures regs { b.new.regs ≡ b.old.regs }
+/// The net of a number.
+fn net_of(nets: &[Net], k: usize) -> Net
+    requires { k < length nets.now }
+    ensures { result ≡ slice_index_or nets.now k result }
 {
-    for (i, mem) in mems.iter().enumerate() {
-        connect_array(b, i, mem, one, puts)?;
+    nets[k]
+}
+
+/// The registers from `from` on take these variables where `comes` is 1.
+fn take_vars(b: &mut Builder, from: usize, comes: Net, vars: &[EnvEntry]) -> Result<(), NoMemory>
+    requires there { AreThere b.old vars.now }
+    requires comes { IsThere b.old comes }
+    requires comes_one { (signal b.old comes).width ≡ 1 }
+    requires held { HasHeld b.old from (signals_named (scope b.old vars.now)) }
+    ensures next { OnOk result (TakesHeld b.new from (signal b.old comes) (signals_named (scope b.old vars.now))) }
+    ensures extends { ExtendsBut (registers_from from (from + length vars.now)) b.old b.new }
+{
+    let regs = b.reg_count();
+    for (i, v) in vars.iter().enumerate() {
+        let r = from + i;
+        prove!(r < regs);
+        take(b, r, comes, v.net)?;
+    }
+    Ok(())
+}
+
+/// The ticket of a number.
+fn ticket_of(tickets: &[TicketNet], k: usize) -> TicketNet
+    requires { k < length tickets.now }
+    ensures { result ≡ slice_index_or tickets.now k result }
+{
+    tickets[k]
+}
+
+/// The registers from `from` on take these tickets where `comes` is 1.
+fn take_tickets(
+    b: &mut Builder,
+    from: usize,
+    comes: Net,
+    tickets: &[TicketNet],
+) -> Result<(), NoMemory>
+    requires there { TicketsThere b.old tickets.now }
+    requires comes { IsThere b.old comes }
+    requires comes_one { (signal b.old comes).width ≡ 1 }
+    requires held { HasHeld b.old from (signals_ticket (map (ticket_in b.old) tickets.now)) }
+    ensures next { OnOk result (TakesHeld b.new from (signal b.old comes) (signals_ticket (map (ticket_in b.old) tickets.now))) }
+    ensures extends { ExtendsBut (registers_from from (from + length tickets.now)) b.old b.new }
+{
+    let regs = b.reg_count();
+    for i in 0..tickets.len() {
+        let r = from + i;
+        prove!(r < regs);
+        let ticket = ticket_of(tickets, i);
+        take(b, r, comes, ticket.net)?;
+    }
+    Ok(())
+}
+
+/// The nets that tell whether a thread comes into a stage, and whether the stage's own moves; `one` is always 1, and `zero` always 0.
+#[derive(Clone, Copy)]
+struct Gates {
+    comes: Net,
+    moves: Net,
+    one: Net,
+    zero: Net,
+}
+
+/// The first stage, into which a thread comes with the arguments of the call.
+fn connect_first(b: &mut Builder, s: &StageNets, gates: Gates, args: &[Net]) -> Result<(), NoMemory>
+    requires there { NetsThere b.old args.now }
+    requires fit { IsFit b.old s.now (map (signal b.old) args.now) [] }
+    requires comes { IsThere b.old gates.comes }
+    requires comes_one { (signal b.old gates.comes).width ≡ 1 }
+    requires moves { IsThere b.old gates.moves }
+    requires moves_one { (signal b.old gates.moves).width ≡ 1 }
+    requires one { Means b.old gates.one (const_signal 1 1) }
+    requires zero { Means b.old gates.zero (const_signal 1 0) }
+    ensures connected { OnOk result (IsConnected b.new s.now (signal b.old gates.comes) (signal b.old gates.moves) (map (signal b.old) args.now) []) }
+    ensures extends { ExtendsBut (registers_from s.now.valid s.now.tickets) b.old b.new }
+{
+    take_valid(b, s.valid, gates.comes, gates.moves, gates.one, gates.zero)?;
+    take_nets(b, s.vars, gates.comes, args)
+}
+
+/// A stage behind another one, which ends so: from there a thread comes with all that it has.
+fn connect_behind(
+    b: &mut Builder,
+    s: &StageNets,
+    gates: Gates,
+    before: &WalkNets,
+) -> Result<(), NoMemory>
+    requires there { IsThereWalk b.old before.now }
+    requires fit { IsFit b.old s.now (signals_named (walk_in b.old before.now).vars) (signals_ticket (walk_in b.old before.now).tickets) }
+    requires comes { IsThere b.old gates.comes }
+    requires comes_one { (signal b.old gates.comes).width ≡ 1 }
+    requires moves { IsThere b.old gates.moves }
+    requires moves_one { (signal b.old gates.moves).width ≡ 1 }
+    requires one { Means b.old gates.one (const_signal 1 1) }
+    requires zero { Means b.old gates.zero (const_signal 1 0) }
+    ensures connected { OnOk result (IsConnected b.new s.now (signal b.old gates.comes) (signal b.old gates.moves) (signals_named (walk_in b.old before.now).vars) (signals_ticket (walk_in b.old before.now).tickets)) }
+    ensures extends { ExtendsBut (registers_from s.now.valid (s.now.tickets + length before.now.tickets)) b.old b.new }
+{
+    take_valid(b, s.valid, gates.comes, gates.moves, gates.one, gates.zero)?;
+    take_vars(b, s.vars, gates.comes, before.env.vars.as_slice())?;
+    take_tickets(b, s.tickets, gates.comes, before.tickets.as_slice())
+}
+
+/// What the registers of all stages take next; `moves` tell which threads move, `one` is always 1, and `zero` always 0.
+pub fn connect(
+    b: &mut Builder,
+    stages: &[StageNets],
+    moves: &[Net],
+    one: Net,
+    zero: Net,
+) -> Result<(), NoMemory>
+    requires there { AreThereStages b.old stages.now }
+    requires fit { AreFitStages b.old (ends_in b.old stages.now) }
+    requires moves_count { length moves.now ≡ length stages.now }
+    requires moves { (k : ℕ) → k < length stages.now → Means b.old (net_at moves.now k) (moves_at (ends_in b.old stages.now) k) }
+    requires one { Means b.old one (const_signal 1 1) }
+    requires zero { Means b.old zero (const_signal 1 0) }
+    ensures next { OnOk result ((k : ℕ) → k < length stages.now → TakesNext b.new (ends_in b.old stages.now) k) }
+    ensures extends { ExtendsBut (registers_from (view_at (ends_in b.old stages.now) 0).valid (length b.old.regs)) b.old b.new }
+{
+    if stages.is_empty() {
+        return Ok(());
+    }
+    let first = Gates {
+        comes: called(stages, moves, zero),
+        moves: net_of(moves, 0),
+        one,
+        zero,
+    };
+    connect_first(b, &stages[0], first, args(stages))?;
+    for k in 1..stages.len() {
+        let gates = Gates {
+            comes: net_of(moves, k - 1),
+            moves: net_of(moves, k),
+            one,
+            zero,
+        };
+        connect_behind(b, &stages[k], gates, &stages[k - 1].end)?;
     }
     Ok(())
 }

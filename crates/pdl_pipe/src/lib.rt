@@ -1,14 +1,21 @@
-//! The compiler: the netlist of an accepted pipe.
-//!
-//! A pipe of one stage has a register for each parameter, which holds the argument of the thread that the cycle runs, and an array for each memory. Its statements become cells, once; what the thread writes reaches the arrays at the end of the cycle, and the arguments of its call the registers.
+//! The netlist of a pipe in line, made round any lock module.
 #![tactic(auto)]
 
+mod any;
 mod begin;
 mod connect;
+mod locks;
+mod lookups;
+mod memories;
+mod moves;
 mod netlist;
+mod nets;
 mod outputs;
-mod stage;
+mod stages;
+mod steps;
 #[cfg(test)]
 mod tests;
+mod walk;
 
+pub use any::AnyLock;
 pub use netlist::compile;

@@ -1,18 +1,22 @@
-// The outputs of a stage.
-ghost use Rattle.std.specs.Prelude.{◌≡◌, ◌≤◌, ◌∷◌, ◌++◌, ℕ, [], IfOk, OnOk, map, length, codes, if◌then◌else◌};
-ghost use Rattle.std.specs.Option.{is_some, option_copied};
+// What the netlist shows.
+ghost use Rattle.std.specs.Prelude.{◌≡◌, ◌<◌, ◌-◌, ◌∷◌, ◌++◌, ℕ, [], IfOk, OnOk, map, length, slice_index_or, None, codes, decimal};
 ghost use Rattle.pdl_syntax.specs.View.{mem_view};
-ghost use Rattle.pdl_rules.specs.Widths as rules;
-ghost use Rattle.pdl_net.specs.Meaning.{Means, IsThere, signal};
+ghost use Rattle.pdl_net.specs.declared.Net.TheVariants.{Reg};
+ghost use Rattle.pdl_net.specs.Meaning.{Means};
 ghost use Rattle.pdl_net.specs.Signal.{const_signal};
-ghost use Rattle.pdl_net.specs.Growth.{Extends, ExtendsPorts};
-ghost use Rattle.pdl_pipe.specs.Stage.{Shown, one as one_signal, zero as zero_signal, commit_of, commits_of, outputs_of_stage, port_in, put_to as spec_put_to};
-ghost use Rattle.pdl_pipe.specs.Nets.{PutsThere, put_in};
-ghost use Rattle.pdl_pipe.specs.Outputs.{output_of, OutsThere, shown_by, IsReached, AreReached, nets_to, commit_signals};
+ghost use Rattle.pdl_net.specs.Growth.{ExtendsPorts};
+ghost use Rattle.pdl_trunk.specs.Views.{moves_at};
+ghost use Rattle.pdl_trunk.specs.Ports.{all_shown};
+ghost use Rattle.pdl_trunk.specs.Compiled.{port_in};
+ghost use Rattle.pdl_pipe.specs.Sized.{ends_in, net_at, commits_in};
+ghost use Rattle.pdl_pipe.specs.Moved.{AreGated};
+ghost use Rattle.pdl_pipe.specs.Outputs.{output_of, OutsThere, shown_by, CommitsThere, stages_outs, nets_or, commit_outs, commit_if, commits_outs, last_net, all_outs};
 
-use crate::stage::PutNets;
+use crate::nets::StageNets;
+use itoa::Buffer;
 use pdl_build::Builder;
 use pdl_kit::{Name, NoMemory, Seq};
+use pdl_lockapi::LockNets;
 use pdl_net::Net;
 use pdl_syntax::tree::Mem;
 use std::alloc::Global;
@@ -24,30 +28,22 @@ pub struct OutNet {
     pub net: Net,
 }
 
-/// The nets of what a memory commits: whether it does, the address and the value.
-#[derive(Clone, Copy, PartialEq, Eq, Debug)]
-struct CommitNets {
-    enable: Net,
-    addr: Net,
-    value: Net,
-}
-
-/// The bits of an address of a memory, 1 to 16.
-fn address_bits(m: &Mem) -> u8
-    requires { IsReached (mem_view m.now) }
-    ensures value { result ≡ rules.address_bits m.now.depth.value }
-    ensures low { 1 ≤ result }
-    ensures high { result ≤ 16 }
-{
-    m.depth.value.ilog2() as u8
-}
-
 /// A name with a prefix.
 fn prefixed(alloc: Global, prefix: &[u8], name: &Name) -> Result<Name, NoMemory>
     ensures { IfOk result (λ n. n ≡ prefix.now ++ name.now) }
 {
     let mut bytes = Vec::from_slice(alloc, prefix)?;
     bytes.extend_from_slice(name.as_bytes())?;
+    Ok(Name::from_vec(bytes))
+}
+
+/// A number in decimal with a prefix.
+fn numbered(alloc: Global, prefix: &[u8], k: usize) -> Result<Name, NoMemory>
+    ensures { IfOk result (λ n. n ≡ prefix.now ++ decimal k) }
+{
+    let mut buffer = Buffer::new();
+    let mut bytes = Vec::from_slice(alloc, prefix)?;
+    bytes.extend_from_slice(buffer.format(k).as_bytes())?;
     Ok(Name::from_vec(bytes))
 }
 
@@ -59,146 +55,131 @@ fn push(outs: &mut Seq<OutNet>, name: Name, net: Net) -> Result<(), NoMemory>
     Ok(())
 }
 
-/// What a memory commits where the stage doesn't write it: zeros.
-fn no_commit(b: &mut Builder, m: &Mem) -> Result<CommitNets, NoMemory>
-    requires { IsReached (mem_view m.now) }
-    ensures enable { IfOk result (λ c. Means b.new c.enable zero_signal) }
-    ensures addr { IfOk result (λ c. Means b.new c.addr (const_signal (rules.address_bits m.now.depth.value) 0)) }
-    ensures value { IfOk result (λ c. Means b.new c.value (const_signal m.now.width.value 0)) }
-    ensures extends { Extends b.old b.new }
-    ensures regs { b.new.regs ≡ b.old.regs }
+/// The two outputs of a stage: whether it holds a thread, and whether that moves.
+fn push_stage(
+    alloc: Global,
+    outs: &mut Seq<OutNet>,
+    k: usize,
+    valid: Net,
+    moves: Net,
+) -> Result<(), NoMemory>
+    ensures { OnOk result (outs.new ≡ outs.old ++ record { name = codes "v_" ++ decimal k; net = valid } ∷ record { name = codes "g_" ++ decimal k; net = moves } ∷ []) }
 {
-    let enable = b.constant(1, 0)?;
-    let addr = b.constant(address_bits(m), 0)?;
-    let value = b.constant(m.width.value as u8, 0)?;
-    Ok(CommitNets {
-        enable,
-        addr,
-        value,
-    })
+    let name = numbered(alloc, b"v_", k)?;
+    push(outs, name, valid)?;
+    let name = numbered(alloc, b"g_", k)?;
+    push(outs, name, moves)
 }
 
-/// The first write to a memory of a name.
-pub fn put_to<'a>(puts: &'a [PutNets], name: &Name) -> Option<&'a PutNets>
-    ensures { option_copied result ≡ nets_to puts.now name.now }
+/// The net of a number.
+fn net_of(nets: &[Net], k: usize) -> Net
+    requires { k < length nets.now }
+    ensures { result ≡ slice_index_or nets.now k result }
 {
-    for x in puts {
-        if x.mem == *name {
-            return Some(x);
-        }
+    nets[k]
+}
+
+/// The outputs of the stages.
+fn push_stages(
+    alloc: Global,
+    outs: &mut Seq<OutNet>,
+    stages: &[StageNets],
+    moves: &[Net],
+) -> Result<(), NoMemory>
+    requires { length moves.now ≡ length stages.now }
+    ensures { OnOk result (outs.new ≡ outs.old ++ stages_outs 0 stages.now moves.now) }
+{
+    for (k, s) in stages.iter().enumerate() {
+        let net = net_of(moves, k);
+        push_stage(alloc, outs, k, Net::Reg(s.valid), net)?;
     }
-    None
+    Ok(())
 }
 
-/// The nets of what a memory commits; `one` is always 1.
-fn commit_nets(b: &mut Builder, m: &Mem, one: Net, puts: &[PutNets]) -> Result<CommitNets, NoMemory>
-    requires reached { IsReached (mem_view m.now) }
-    requires one { Means b.old one one_signal }
-    requires puts { PutsThere b.old puts.now }
-    ensures enable { IfOk result (λ c. Means b.new c.enable (commit_signals (mem_view m.now) (spec_put_to (map (put_in b.old) puts.now) m.now.name.name)).enable) }
-    ensures addr { IfOk result (λ c. Means b.new c.addr (commit_signals (mem_view m.now) (spec_put_to (map (put_in b.old) puts.now) m.now.name.name)).addr) }
-    ensures value { IfOk result (λ c. Means b.new c.value (commit_signals (mem_view m.now) (spec_put_to (map (put_in b.old) puts.now) m.now.name.name)).value) }
-    ensures extends { Extends b.old b.new }
-    ensures regs { b.new.regs ≡ b.old.regs }
+/// The nets of what a memory commits, `zero` where it has none.
+fn commit_nets(nets: Option<LockNets>, zero: Net) -> LockNets
+    ensures { result ≡ nets_or zero nets }
 {
-    match put_to(puts, &m.name.name) {
-        Some(x) => Ok(CommitNets {
-            enable: one,
-            addr: x.addr,
-            value: x.value,
-        }),
-        None => no_commit(b, m),
+    match nets {
+        Some(nets) => nets,
+        None => LockNets {
+            commit: zero,
+            addr: zero,
+            value: zero,
+        },
     }
 }
 
-/// The three outputs of a memory.
+/// The three outputs of a memory: whether it commits a write, the address and the value.
 fn push_commit(
     alloc: Global,
     outs: &mut Seq<OutNet>,
     m: &Mem,
-    nets: CommitNets,
+    nets: LockNets,
 ) -> Result<(), NoMemory>
-    ensures { OnOk result (outs.new ≡ outs.old ++ record { name = codes "c_" ++ m.now.name.name; net = nets.enable } ∷ record { name = codes "ca_" ++ m.now.name.name; net = nets.addr } ∷ record { name = codes "cd_" ++ m.now.name.name; net = nets.value } ∷ []) }
+    ensures { OnOk result (outs.new ≡ outs.old ++ commit_outs m.now.name.name nets) }
 {
     let name = prefixed(alloc, b"c_", &m.name.name)?;
-    push(outs, name, nets.enable)?;
+    push(outs, name, nets.commit)?;
     let name = prefixed(alloc, b"ca_", &m.name.name)?;
     push(outs, name, nets.addr)?;
     let name = prefixed(alloc, b"cd_", &m.name.name)?;
     push(outs, name, nets.value)
 }
 
-/// The outputs of a memory.
-fn commit(
-    alloc: Global,
-    b: &mut Builder,
-    outs: &mut Seq<OutNet>,
-    m: &Mem,
-    one: Net,
-    puts: &[PutNets],
-) -> Result<(), NoMemory>
-    requires there { OutsThere b.old outs.old }
-    requires reached { IsReached (mem_view m.now) }
-    requires one { Means b.old one one_signal }
-    requires puts { PutsThere b.old puts.now }
-    ensures there { OnOk result (OutsThere b.new outs.new) }
-    ensures shown { OnOk result (shown_by b.new outs.new ≡ shown_by b.old outs.old ++ commit_of (mem_view m.now) (spec_put_to (map (put_in b.old) puts.now) m.now.name.name)) }
-    ensures extends { Extends b.old b.new }
-    ensures regs { b.new.regs ≡ b.old.regs }
-{
-    let nets = commit_nets(b, m, one, puts)?;
-    push_commit(alloc, outs, m, nets)
-}
-
 /// The outputs of a memory with a lock; another one has none.
-fn commit_if_locked(
+fn push_locked(
     alloc: Global,
-    b: &mut Builder,
     outs: &mut Seq<OutNet>,
     m: &Mem,
-    one: Net,
-    puts: &[PutNets],
+    nets: Option<LockNets>,
+    zero: Net,
 ) -> Result<(), NoMemory>
-    requires there { OutsThere b.old outs.old }
-    requires reached { IsReached (mem_view m.now) }
-    requires one { Means b.old one one_signal }
-    requires puts { PutsThere b.old puts.now }
-    ensures there { OnOk result (OutsThere b.new outs.new) }
-    ensures shown { OnOk result (shown_by b.new outs.new ≡ shown_by b.old outs.old ++ (if is_some (mem_view m.now).lock then commit_of (mem_view m.now) (spec_put_to (map (put_in b.old) puts.now) m.now.name.name) else [])) }
-    ensures extends { Extends b.old b.new }
-    ensures regs { b.new.regs ≡ b.old.regs }
+    ensures { OnOk result (outs.new ≡ outs.old ++ commit_if zero m.now nets) }
 {
     match m.lock {
-        Some(_) => commit(alloc, b, outs, m, one, puts),
+        Some(_) => push_commit(alloc, outs, m, commit_nets(nets, zero)),
         None => Ok(()),
     }
 }
 
+/// The lock's nets of a memory's number.
+fn nets_of(nets: &[Option<LockNets>], m: usize) -> Option<LockNets>
+    requires { m < length nets.now }
+    ensures { result ≡ slice_index_or nets.now m result }
+{
+    nets[m]
+}
+
 /// The outputs of all memories with a lock, in order.
-fn commits(
+fn push_commits(
     alloc: Global,
-    b: &mut Builder,
     outs: &mut Seq<OutNet>,
     mems: &[Mem],
-    one: Net,
-    puts: &[PutNets],
+    nets: &[Option<LockNets>],
+    zero: Net,
 ) -> Result<(), NoMemory>
-    requires there { OutsThere b.old outs.old }
-    requires reached { AreReached (map mem_view mems.now) }
-    requires one { Means b.old one one_signal }
-    requires puts { PutsThere b.old puts.now }
-    ensures there { OnOk result (OutsThere b.new outs.new) }
-    ensures shown { OnOk result (shown_by b.new outs.new ≡ shown_by b.old outs.old ++ commits_of (map mem_view mems.now) (map (put_in b.old) puts.now)) }
-    ensures extends { Extends b.old b.new }
-    ensures regs { b.new.regs ≡ b.old.regs }
+    requires { length nets.now ≡ length mems.now }
+    ensures { OnOk result (outs.new ≡ outs.old ++ commits_outs zero mems.now nets.now) }
 {
-    for m in mems {
-        commit_if_locked(alloc, b, outs, m, one, puts)?;
+    for (i, m) in mems.iter().enumerate() {
+        let commit = nets_of(nets, i);
+        push_locked(alloc, outs, m, commit, zero)?;
     }
     Ok(())
 }
 
-/// One more output, of a name without a memory.
+/// The net of the last stage, `zero` where there is none.
+fn last_of(moves: &[Net], zero: Net) -> Net
+    ensures { result ≡ last_net moves.now zero }
+{
+    if moves.is_empty() {
+        return zero;
+    }
+    moves[moves.len() - 1]
+}
+
+/// One more output, of a name without a number.
 fn push_named(alloc: Global, outs: &mut Seq<OutNet>, name: &[u8], net: Net) -> Result<(), NoMemory>
     ensures { OnOk result (outs.new ≡ outs.old ++ record { name = name.now; net = net } ∷ []) }
 {
@@ -206,46 +187,49 @@ fn push_named(alloc: Global, outs: &mut Seq<OutNet>, name: &[u8], net: Net) -> R
     push(outs, name, net)
 }
 
-/// The outputs of the stage itself, which holds a thread that moves in each cycle.
-fn begin(alloc: Global, one: Net) -> Result<Seq<OutNet>, NoMemory>
-    ensures { IfOk result (λ os. os ≡ record { name = codes "v_0"; net = one } ∷ record { name = codes "g_0"; net = one } ∷ []) }
-{
-    let mut outs = Seq::new(alloc);
-    push_named(alloc, &mut outs, b"v_0", one)?;
-    push_named(alloc, &mut outs, b"g_0", one)?;
-    Ok(outs)
-}
-
-/// The last two outputs: a thread ends in each cycle, and nothing is squashed.
-fn end(alloc: Global, outs: &mut Seq<OutNet>, one: Net, zero: Net) -> Result<(), NoMemory>
-    ensures { OnOk result (outs.new ≡ outs.old ++ record { name = codes "ended"; net = one } ∷ record { name = codes "squash"; net = zero } ∷ []) }
-{
-    push_named(alloc, outs, b"ended", one)?;
-    push_named(alloc, outs, b"squash", zero)
-}
-
-/// The outputs of a stage with these memories and writes; `one` is always 1, and `zero` always 0.
-pub fn outputs(
+/// All outputs, with their nets.
+fn all(
     alloc: Global,
-    b: &mut Builder,
     mems: &[Mem],
-    puts: &[PutNets],
-    one: Net,
+    stages: &[StageNets],
+    moves: &[Net],
+    nets: &[Option<LockNets>],
     zero: Net,
 ) -> Result<Seq<OutNet>, NoMemory>
-    requires reached { AreReached (map mem_view mems.now) }
-    requires one { Means b.old one one_signal }
-    requires zero { Means b.old zero zero_signal }
-    requires puts { PutsThere b.old puts.now }
-    ensures there { IfOk result (λ os. OutsThere b.new os) }
-    ensures shown { IfOk result (λ os. shown_by b.new os ≡ outputs_of_stage (map mem_view mems.now) (map (put_in b.old) puts.now)) }
-    ensures extends { Extends b.old b.new }
-    ensures regs { b.new.regs ≡ b.old.regs }
+    requires moves { length moves.now ≡ length stages.now }
+    requires nets { length nets.now ≡ length mems.now }
+    ensures { IfOk result (λ os. os ≡ all_outs mems.now stages.now moves.now nets.now zero) }
 {
-    let mut outs = begin(alloc, one)?;
-    commits(alloc, b, &mut outs, mems, one, puts)?;
-    end(alloc, &mut outs, one, zero)?;
+    let mut outs = Seq::new(alloc);
+    push_stages(alloc, &mut outs, stages, moves)?;
+    push_commits(alloc, &mut outs, mems, nets, zero)?;
+    push_named(alloc, &mut outs, b"ended", last_of(moves, zero))?;
+    push_named(alloc, &mut outs, b"squash", zero)?;
     Ok(outs)
+}
+
+/// The outputs of a pipe with these memories and stages: of each stage whether it holds a thread and whether that moves, of each memory with a lock what it commits, whether a thread ends, and whether one is squashed.
+///
+/// `moves` tell which threads move, `nets` what the memories commit, and `zero` is always 0.
+pub fn outputs(
+    alloc: Global,
+    _b: &Builder,
+    mems: &[Mem],
+    stages: &[StageNets],
+    moves: &[Net],
+    nets: &[Option<LockNets>],
+    zero: Net,
+) -> Result<Seq<OutNet>, NoMemory>
+    requires gated { AreGated _b.now stages.now }
+    requires moves_count { length moves.now ≡ length stages.now }
+    requires moves { (k : ℕ) → k < length stages.now → Means _b.now (net_at moves.now k) (moves_at (ends_in _b.now stages.now) k) }
+    requires nets_count { length nets.now ≡ length mems.now }
+    requires nets { CommitsThere _b.now nets.now }
+    requires zero { Means _b.now zero (const_signal 1 0) }
+    ensures there { IfOk result (λ os. OutsThere _b.now os) }
+    ensures shown { IfOk result (λ os. shown_by _b.now os ≡ all_shown (commits_in _b.now nets.now) (map mem_view mems.now) (ends_in _b.now stages.now)) }
+{
+    all(alloc, mems, stages, moves, nets, zero)
 }
 
 /// Adds the outputs to the netlist, in order.

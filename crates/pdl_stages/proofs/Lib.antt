@@ -1,3 +1,5 @@
 pub mod Lines
 pub mod InLine
 mod Seen
+pub mod Begins
+pub mod Cutting

@@ -7,7 +7,7 @@ use Rattle.pdl_syntax.specs.declared.token.TokenKind.{TokenKind}
 use Rattle.pdl_syntax.specs.declared.token.TokenKind.TheVariants as kind
 use Rattle.pdl_syntax.specs.Cursor.{first_kind}
 use Rattle.pdl_syntax.specs.Tokens.{Token}
-use Rattle.pdl_syntax.specs.Grammar.{Row, Word, on, at, ident, located, mark_of, Listed, last, further, Full, Item, reading, binding, writing, reserving, acquiring, blocking, releasing, calling, Items, none, more, prepend}
+use Rattle.pdl_syntax.specs.Grammar.{Row, Word, on, at, ident, located, mark_of, Listed, last, further, Full, Item, separating, reading, binding, writing, reserving, acquiring, blocking, releasing, calling, Items, none, more, prepend}
 use Rattle.pdl_syntax.specs.Reading.{Outcome, Parser, and_then, ◌>>=◌, pure, is_mark, goes_on, listed, listed_by, expr, begins_place, is_place, read_of, bind_of, assigned, named_by, named, reserved, held, item_by, item, items}
 use Rattle.pdl_syntax.proofs.Machine.{Sym, a, a_name, an_access, operand, slicing, rest, after_name, assigned_name, in_square, Listing, closer, first_of, Closer, semicolon, round, comma, in_args, closing, act_on, Stack, run, moved}
 use Rattle.pdl_syntax.proofs.Machine as m
@@ -209,6 +209,7 @@ Item_good n ts o us = Good (λ s r. Item s ts r × (length r < n)) (m.items ∷ 
 
 item_at : (top : ℕ) (k : TokenKind) (w : Word) (ts : Row) → length (on w k ∷ ts) ≤ top → is_mark mark.CloseBrace (Some k) ≡ false → Item_good (length (on w k ∷ ts)) (on w k ∷ ts) (item_by top (Some k) (on w k ∷ ts)) (on w k ∷ ts)
 item_at top kind.Name w ts le e = step refl (under (m.items ∷ []) (alone_good (weaker (λ s r p le2. (p, omega arith)) (named_good top w ts (omega arith)))))
+item_at top (kind.Mark mark.Separator) w ts le e = step refl (reads (separating, omega arith) (omega arith) (λ below. refl))
 item_at top (kind.Mark mark.Reserve) w ts le e = step refl
     (then _ _ (reserved_good ts) (λ v r p le2. reads (rw p.is reserving, omega arith) (omega arith) (λ below. refl)))
 item_at top (kind.Mark mark.Acquire) w ts le e = step refl

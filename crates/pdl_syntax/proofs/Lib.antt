@@ -15,4 +15,4 @@ mod Only
 mod Refused
 mod Within
 pub mod Places
-pub mod OneStage
+pub mod InLine

@@ -111,6 +111,7 @@ held between = a mark.OpenRound ∷ a_name ∷ a mark.OpenSquare ∷ a_name ∷ 
 
 abbrev pub act_items : TokenKind → Option Stack
 act_items kind.Name = Some (after_name ∷ items ∷ [])
+act_items (kind.Mark mark.Separator) = Some (items ∷ [])
 act_items (kind.Mark mark.Reserve) = Some (held (a mark.Comma ∷ an_access ∷ []) ++ (items ∷ []))
 act_items (kind.Mark mark.Acquire) = Some (held (a mark.Comma ∷ an_access ∷ []) ++ (items ∷ []))
 act_items (kind.Mark mark.Block) = Some (held [] ++ (items ∷ []))

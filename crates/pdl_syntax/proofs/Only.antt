@@ -8,7 +8,7 @@ use Rattle.pdl_syntax.specs.declared.token.Mark.TheVariants as mark
 use Rattle.pdl_syntax.specs.declared.token.TokenKind.{TokenKind}
 use Rattle.pdl_syntax.specs.declared.token.TokenKind.TheVariants as kind
 use Rattle.pdl_syntax.specs.Cursor.{next, first_kind}
-use Rattle.pdl_syntax.specs.Grammar.{Row, Word, at, operator_of, loose, levels, mark_of, Listed, last, further, Level, Full, constant, variable, sliced, bracketed, extended, tighter, joined, whole, Item, reading, binding, writing, reserving, acquiring, blocking, releasing, calling, Items, none, more, Parameter, parameter, Lock, unlocked, queued, Memory, memory, Given, given, Starting, starting, Text, text}
+use Rattle.pdl_syntax.specs.Grammar.{Row, Word, at, operator_of, loose, levels, mark_of, Listed, last, further, Level, Full, constant, variable, sliced, bracketed, extended, tighter, joined, whole, Item, separating, reading, binding, writing, reserving, acquiring, blocking, releasing, calling, Items, none, more, Parameter, parameter, Lock, unlocked, queued, Memory, memory, Given, given, Starting, starting, Text, text}
 use Rattle.pdl_syntax.specs.Reading.{Parser, is_mark, goes_on, listed, op_in, op_by, chain, level, full, inside, expr, begins_place, is_place, item, items, pipe}
 use Rattle.pdl_syntax.specs.Reading as spec
 
@@ -36,6 +36,7 @@ shorter_listed f (last h) = let k = f _ _ _ h in omega arith
 shorter_listed f (further h i) = let k = f _ _ _ h in let j = shorter_listed f i in omega arith
 
 shorter_item : {s : List Stmt} {ts r : Row} → Item s ts r → length r < length ts
+shorter_item separating = omega arith
 shorter_item reading = omega arith
 shorter_item (binding h) = let k = shorter_full h in omega arith
 shorter_item (writing h) = let k = shorter_full h in omega arith
@@ -187,11 +188,13 @@ only_access R w r = refl
 only_access W w r = refl
 
 not_closed : {s : List Stmt} {ts r : Row} → Item s ts r → is_mark mark.CloseBrace (first_kind ts) ≡ false
+not_closed separating = refl
 not_closed reading = refl
 not_closed _ = refl
 
 only_item : {s : List Stmt} {ts r : Row} → Item s ts r → (k : ℕ) → length ts ≤ k → item k ts ≡ Ok (s, r)
 unfolding item spec.named spec.reserved spec.held spec.place spec.take spec.name
+only_item separating k le = refl
 only_item reading k le = refl
 only_item (binding h) k le = rw (no_place_full h refl) (rw (only_full h k (omega arith) (after_mark levels _ mark.Semicolon _ refl refl)) refl)
 only_item (writing h) k le = rw (only_full h k (omega arith) (after_mark levels _ mark.Semicolon _ refl refl)) refl

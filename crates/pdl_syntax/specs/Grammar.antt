@@ -1,6 +1,6 @@
 -- The grammar. `Rule value before after` says that the tokens `before` are a spelling of the value, and then `after`; each constructor is an alternative.
 use Rattle.std.specs.Prelude.{◌≡◌, ℕ, suc, false, List, [], ◌∷◌, Option, Some, None}
-use Rattle.pdl_model.specs.Tree.{Span, Ident, Number, Literal, BinaryOp, Add, Sub, Mul, And, Or, Xor, Equal, Differ, Less, ShiftLeft, ShiftRight, Expr, Constant, Variable, Slice, Binary, ZeroExtend, Location, Kind, R, W, Stmt, CombRead, Bind, Write, Reserve, Block, Release, Call, Stmts, Nil, Cons, Param, Queue, LockDecl, Mem, Start, Pipe}
+use Rattle.pdl_model.specs.Tree.{Span, Ident, Number, Literal, BinaryOp, Add, Sub, Mul, And, Or, Xor, Equal, Differ, Less, ShiftLeft, ShiftRight, Expr, Constant, Variable, Slice, Binary, ZeroExtend, Location, Kind, R, W, Stmt, Separator, CombRead, Bind, Write, Reserve, Block, Release, Call, Stmts, Nil, Cons, Param, Queue, LockDecl, Mem, Start, Pipe}
 use Rattle.pdl_syntax.specs.declared.token.Mark.{Mark}
 use Rattle.pdl_syntax.specs.declared.token.Mark.TheVariants as mark
 use Rattle.pdl_syntax.specs.declared.token.TokenKind.{TokenKind}
@@ -110,8 +110,9 @@ abbrev pub mark_of : Kind → Mark
 mark_of R = mark.R
 mark_of W = mark.W
 
--- what stands up to a semicolon, and it: one statement, or two
+-- what stands up to a semicolon, and it: one statement, or two; or a separator alone, which begins the next stage
 pub data Item : List Stmt → Row → Row → Type 0 where
+  separating : {w : Word} {r : Row} → Item (Separator w.span ∷ []) (at w mark.Separator ∷ r) r
   reading : {x q m o a c e : Word} {r : Row} → Item (CombRead (across x.span e.span) (ident x) (location m a) ∷ [])
       (on x kind.Name ∷ at q mark.Assign ∷ located m o a c (at e mark.Semicolon ∷ r)) r
   binding : {x q e : Word} {v : Expr} {b r : Row} → Full v b (at e mark.Semicolon ∷ r) → Item (Bind (across x.span e.span) (ident x) v ∷ [])

@@ -18,7 +18,7 @@ closed c = record { brackets = c.brackets - 1; operators = c.operators }
 abbrev pub applied : Counts → Counts
 applied c = record { brackets = c.brackets; operators = c.operators + 1 }
 
--- the next statement begins
+-- the next statement begins, or a separator stands
 abbrev pub afresh : Counts → Counts
 afresh c = record { brackets = c.brackets; operators = 0 }
 
@@ -31,6 +31,7 @@ counted c (kind.Mark mark.CloseRound) = closed c
 counted c (kind.Mark mark.CloseSquare) = closed c
 counted c (kind.Mark mark.CloseBrace) = afresh (closed c)
 counted c (kind.Mark mark.Semicolon) = afresh c
+counted c (kind.Mark mark.Separator) = afresh c
 counted c (kind.Mark mark.Plus) = applied c
 counted c (kind.Mark mark.ZeroExtend) = applied c
 counted c _ = c

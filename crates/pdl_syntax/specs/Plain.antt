@@ -1,10 +1,11 @@
 -- The statements and the memories that texts have.
 use Rattle.std.specs.Prelude.{Bool, true, false, not, ◌&&◌, IsTrue}
 use Rattle.std.specs.List.{list_all}
-use Rattle.pdl_model.specs.Tree.{Stmt, CombRead, Bind, Write, Reserve, Block, Release, Call, Stmts, Nil, Cons, Mem, Pipe}
+use Rattle.pdl_model.specs.Tree.{Stmt, Separator, CombRead, Bind, Write, Reserve, Block, Release, Call, Stmts, Nil, Cons, Mem, Pipe}
 
--- a statement of one stage that is no choice, guess or delayed read
+-- a separator, or a statement that is no choice, guess or delayed read
 abbrev pub is_plain : Stmt → Bool
+is_plain (Separator _) = true
 is_plain (CombRead _ _ _) = true
 is_plain (Bind _ _ _) = true
 is_plain (Write _ _ _) = true

@@ -1,7 +1,7 @@
 -- How tokens are read: a value and the tokens after it, or the tokens from the one out of place on.
 use Rattle.std.specs.Prelude.{ℕ, zero, suc, Bool, true, false, List, [], ◌∷◌, length, Option, Some, None, Result, Ok, Err, cond, nat_eq}
 use denote.Enum.Bare.{sameb}
-use Rattle.pdl_model.specs.Tree.{Span, Ident, Number, Literal, BinaryOp, Expr, Constant, Variable, Slice, Binary, ZeroExtend, Location, Kind, R, W, Stmt, CombRead, Bind, Write, Reserve, Block, Release, Call, Stmts, Nil, Param, Queue, LockDecl, Mem, Start, Pipe}
+use Rattle.pdl_model.specs.Tree.{Span, Ident, Number, Literal, BinaryOp, Expr, Constant, Variable, Slice, Binary, ZeroExtend, Location, Kind, R, W, Stmt, Separator, CombRead, Bind, Write, Reserve, Block, Release, Call, Stmts, Nil, Param, Queue, LockDecl, Mem, Start, Pipe}
 use Rattle.pdl_syntax.specs.contracts.token.Mark.{the_type}
 use Rattle.pdl_syntax.specs.declared.token.Mark.{Mark}
 use Rattle.pdl_syntax.specs.declared.token.Mark.TheVariants as mark
@@ -294,6 +294,7 @@ alone p = p >>= (λ s. pure (s ∷ []))
 
 -- by what the first token is
 abbrev pub item_by : ℕ → Option TokenKind → Parser (List Stmt)
+item_by room (Some (kind.Mark mark.Separator)) = λ ts. Ok (Separator (first_span ts) ∷ [], next ts)
 item_by room (Some kind.Name) = λ ts. alone (named (expr room) (first_name ts)) (next ts)
 item_by room (Some (kind.Mark mark.Reserve)) = λ ts. reserve_of (first_span ts) (next ts)
 item_by room (Some (kind.Mark mark.Acquire)) = λ ts. acquire_of (first_span ts) (next ts)
@@ -302,7 +303,7 @@ item_by room (Some (kind.Mark mark.Release)) = λ ts. release_of (first_span ts)
 item_by room (Some (kind.Mark mark.Call)) = λ ts. call_of (listed (expr room) mark.CloseRound room) (first_span ts) (next ts)
 item_by room _ = refuse
 
--- what stands up to a semicolon, and it
+-- what stands up to a semicolon, and it; or a separator
 unfoldable pub item : ℕ → Parser (List Stmt)
 item room = λ ts. item_by room (first_kind ts) ts
 

@@ -1,7 +1,7 @@
 // Parts of statements.
 use crate::tree::{Kind, Location, Span, Stmt};
 
-/// What stands up to a semicolon: a statement, or two.
+/// What stands up to a semicolon: a statement, or two; a separator stands alone.
 #[derive(Drop)]
 pub enum Item {
     One(Stmt),

@@ -86,6 +86,7 @@ fn counted(counts: Counts, kind: TokenKind) -> Counts
         TokenKind::Mark(Mark::CloseSquare) => closed(counts),
         TokenKind::Mark(Mark::CloseBrace) => afresh(closed(counts)),
         TokenKind::Mark(Mark::Semicolon) => afresh(counts),
+        TokenKind::Mark(Mark::Separator) => afresh(counts),
         TokenKind::Mark(Mark::Plus) => applied(counts),
         TokenKind::Mark(Mark::ZeroExtend) => applied(counts),
         _ => counts,

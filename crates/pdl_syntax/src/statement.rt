@@ -200,7 +200,7 @@ fn call(alloc: Global, tokens: &mut Cursor<'_>, room: usize, word: Span) -> Resu
     }))
 }
 
-// What stands up to a semicolon, and it.
+// What stands up to a semicolon, and it; or a separator.
 #[tactic(auto, unfolding(crate::specs::Reading::item))]
 fn item(alloc: Global, tokens: &mut Cursor<'_>, room: usize) -> Result<Item, Stop>
     ensures { Reads item_view (spec.item room tokens.old) result tokens.new }
@@ -211,6 +211,10 @@ fn item(alloc: Global, tokens: &mut Cursor<'_>, room: usize) -> Result<Item, Sto
             let x = tokens.name(alloc)?;
             tokens.skip();
             Ok(Item::One(named(alloc, tokens, room, x)?))
+        }
+        Some(TokenKind::Mark(Mark::Separator)) => {
+            tokens.skip();
+            Ok(Item::One(Stmt::Separator { span }))
         }
         Some(TokenKind::Mark(Mark::Reserve)) => {
             tokens.skip();

@@ -154,6 +154,10 @@ fn write_stmt(alloc: Global, out: &mut Vec<u8>, stmt: &Stmt) -> Result<(), Alloc
             }
             Ok(())
         }
+        Stmt::Separator { span } => {
+            write_span(alloc, out, *span)?;
+            out.extend_from_slice(b"--- ")
+        }
         _ => write_lock(alloc, out, stmt),
     }
 }
@@ -207,6 +211,10 @@ fn reads_trees(rt: HostRuntime) -> Result<(), Fail> {
         (
             b"pipe two(a: uint<04>,\nb_1: uint<65>)[x: uint<8>[3] comb, y: uint<0>[4] comb lock queue(9)] {\n  acquire(x[a], R);\n  u = x[a];\n  v = a[3:0] + (b_1 + 8'hff) +\n zext((u), 09) + 4'd1; release(x[a]); x[b] <- zext(u + v, 1);\n  reserve(y[a], W);\n call(u, v + u);\n}\nstart\nq(5'd1, 64'h10);",
             b"two(a 4 b_1 65 [x 8 3 y 0 4 9 {3:95-112 reserve R x/a 3:95-112 block x/a 4:115-124 u read x/a 5:127-178 v=+++a:3 0 +b_1 #8 255 z9 u #4 1 6:179-193 release x/a 6:194-217 write x/b z1 +u v 7:220-237 reserve W y/a 8:239-254 call u +v u }9:255-256 10:257-279 q#5 1 #64 16 ",
+        ),
+        (
+            b"pipe s(n: uint<4>)[m: uint<8>[4] comb] {---\n  x = n; ---\n---// a comment\n\n\tcall(x);---\n}\nstart s(4'd0);",
+            b"s(n 4 [m 8 4 {1:40-43 --- 2:46-52 x=n 2:53-56 --- 3:57-60 --- 5:75-83 call x 5:83-86 --- }6:87-88 7:89-103 s#4 0 ",
         ),
     ] {
         match parse(alloc, source) {
@@ -263,7 +271,15 @@ fn finds_the_first_token_out_of_place(rt: HostRuntime) -> Result<(), Fail> {
         (b"call(n,\n);".as_slice(), 3),
         (b"call(n)\n".as_slice(), 3),
         (b"if (n) {}".as_slice(), 2),
-        (b"\n---".as_slice(), 3),
+        (b"---".as_slice(), 0),
+        (b"--- x = n; --- --- call(x); ---".as_slice(), 0),
+        (b"---\n;".as_slice(), 3),
+        (b"x = n; --- x = n\n---".as_slice(), 3),
+        (b"x =\n--- n;".as_slice(), 3),
+        (b"---\n----".as_slice(), 3),
+        (b"acquire(m[a], R)\n---".as_slice(), 3),
+        (b"call(n,\n---);".as_slice(), 3),
+        (b"---\nif (n) { --- }".as_slice(), 3),
         (b";".as_slice(), 2),
         (b"verify(x, n);".as_slice(), 2),
         (b"x = 5;".as_slice(), 2),
@@ -277,7 +293,14 @@ fn finds_the_first_token_out_of_place(rt: HostRuntime) -> Result<(), Fail> {
             0,
         ),
         (b"pipe p(\n)".as_slice(), 2),
+        (b"pipe p(\n---)".as_slice(), 2),
+        (b"pipe p(n: uint<4>\n---, k: uint<4>)".as_slice(), 2),
         (b"pipe p(n: uint<4>)[\n]".as_slice(), 2),
+        (b"pipe p(n: uint<4>)[m: uint<8>[4] comb\n---]".as_slice(), 2),
+        (
+            b"pipe p(n: uint<4>)[m: uint<8>[4] comb] {---}\n--- start p(4'd0);".as_slice(),
+            2,
+        ),
         (b"pipe p(n: uint<4>)[m: uint<8>[4] \ndelayed]".as_slice(), 2),
         (
             b"pipe p(n: uint<4>)[m: uint<8>[4] comb lock \nbypass(1)]".as_slice(),
@@ -329,6 +352,27 @@ fn keeps_the_limits(rt: HostRuntime) -> Result<(), Fail> {
     for (depth, operators, line) in [(63, 256, 0), (64, 0, 2), (0, 257, 2)] {
         let text = sum_of(alloc, depth, operators)?;
         assert_eq!(rt; line_of(alloc, &text), line, "at {depth} and {operators}");
+    }
+    Ok(())
+}
+
+// `x = ` and so many operators, between two separators, so many times, on a line each.
+fn stages_of(alloc: Global, stages: usize, operators: usize) -> Result<Vec<u8>, AllocError> {
+    let mut items = Vec::new(alloc);
+    for _turn in 0..stages {
+        items.extend_from_slice(b"--- x = n")?;
+        add_times(&mut items, b"+n", operators)?;
+        items.extend_from_slice(b"; ---\n")?;
+    }
+    with_items(alloc, &items)
+}
+
+#[test]
+fn counts_the_operators_of_each_statement(rt: HostRuntime) -> Result<(), Fail> {
+    let alloc = rt.alloc();
+    for (stages, operators, line) in [(3, 256, 0), (3, 257, 2), (100, 1, 0)] {
+        let text = stages_of(alloc, stages, operators)?;
+        assert_eq!(rt; line_of(alloc, &text), line, "{stages} times {operators}");
     }
     Ok(())
 }

@@ -2,7 +2,7 @@
 ghost use Rattle.std.specs.Prelude.{◌≡◌, true, ◌++◌, map, IfOk, OnOk};
 ghost use Rattle.pdl_syntax.specs.View.{pipe_view};
 ghost use Rattle.pdl_rules.specs.Places as rules;
-ghost use Rattle.pdl_rules.specs.Refusal.{is_one_stage};
+ghost use Rattle.pdl_rules.specs.Refusal.{is_in_line};
 ghost use Rattle.pdl_types.specs.View.{place_view, parameter, memory, straight};
 
 use pdl_kit::NoMemory;
@@ -21,7 +21,7 @@ pub enum Place<'a> {
 
 /// The places of a pipe in text order.
 pub fn places(alloc: Global, pipe: &Pipe) -> Result<Vec<Place<'_>>, NoMemory>
-    requires { is_one_stage (pipe_view pipe.now) ≡ true }
+    requires { is_in_line (pipe_view pipe.now) ≡ true }
     ensures { IfOk result (λ ps. map place_view ps.items ≡ rules.places (pipe_view pipe.now)) }
 {
     let mut places = Vec::new(alloc);

@@ -3,7 +3,8 @@ use Rattle.pdl_kit.specs.declared.rule.Rule.TheVariants.{G1}
 use Rattle.pdl_syntax.specs.View.{pipe_view}
 use Rattle.pdl_check.specs.declared.error.CheckError.{CheckError}
 use Rattle.pdl_check.specs.Answers.{judged, Gives, Refuses, IsRefused}
-use Rattle.pdl_limits.proofs.OneStage.{text_is_one_stage}
+use Rattle.pdl_limits.proofs.InLine.{text_is_in_line}
+use Rattle.pdl_check.proofs.Queued.{text_is_queued}
 use Rattle.pdl_check.proofs.Limited.{not_too_long, tree_within}
 use Rattle.pdl_check.proofs.Judged.{judged_found, judged_kept, judged_only, judged_refused, refused_only, refused_exact, refused_why}
 use Rattle.pdl_check.proofs.check.check.Goals as goal
@@ -11,7 +12,8 @@ use Rattle.pdl_check.proofs.check.check.Goals as goal
 pub judge-requires : goal.judge-requires
 judge-requires c =
     record {
-      one_stage = text_is_one_stage c.args.source.now (pipe_view c.in-Ok.pipe) c.in-Ok.ensures.found;
+      in_line = text_is_in_line c.args.source.now (pipe_view c.in-Ok.pipe) c.in-Ok.ensures.found;
+      queues = text_is_queued c.args.source.now (pipe_view c.in-Ok.pipe) c.in-Ok.ensures.found;
       within = tree_within c.args.source.now (pipe_view c.in-Ok.pipe) c.in-Ok.ensures.within;
     }
 

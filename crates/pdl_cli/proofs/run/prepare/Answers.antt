@@ -12,13 +12,9 @@ pub returns-in-Ok-clause-ok : goal.returns-in-Ok-clause-ok
 returns-in-Ok-clause-ok g c =
     let a = c.in_ok-accepted.ensures.ok in
     let i = c.in-Ok.ensures.ok in
-    record {
-      pipe = pipe_view c.in_ok-accepted.accepted.pipe;
-      words = c.in-Ok.words;
-      loaded = loaded (g.F.Files.holds c.args.files.now) (g.F.Files.holds c.accept.new.files) c.args.source.now c.args.image.now a.0 i.0 (pipe_view c.in_ok-accepted.accepted.pipe) c.in-Ok.words
-          c.accept.ensures.held a.1 a.2 i.1 i.2;
-      lines = c.in_ok-text_of-in-Ok.ensures;
-    }
+    c.in_ok-text_of-in-Ok.ensures (g.F.Files.holds c.args.files.now) c.args.source.now c.args.image.now
+    (loaded (g.F.Files.holds c.args.files.now) (g.F.Files.holds c.accept.new.files) c.args.source.now c.args.image.now a.0 i.0 (pipe_view c.in_ok-accepted.accepted.pipe) c.in-Ok.words
+    c.accept.ensures.held a.1 a.2 i.1 i.2)
 
 pub returns-clause-err : goal.returns-clause-err
 returns-clause-err g c =

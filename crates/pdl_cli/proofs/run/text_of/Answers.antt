@@ -3,7 +3,7 @@ use Rattle.std.proofs.lemmas.Result.{IfOk-weaker}
 use Rattle.pdl_syntax.specs.View.{pipe_view}
 use Rattle.pdl_check.specs.Memories.{infos_of}
 use Rattle.pdl_image.specs.Images.{IsImage}
-use Rattle.pdl_cli.proofs.Accepting.{names_short, widths_high, prints}
+use Rattle.pdl_cli.proofs.Accepting.{names_short, widths_high, is_output}
 use Rattle.pdl_cli.proofs.run.text_of.Goals as goal
 
 pub run-requires-clause-image : goal.run-requires-clause-image
@@ -15,11 +15,14 @@ run-requires-clause-names c =
 
 pub run-requires-clause-widths : goal.run-requires-clause-widths
 run-requires-clause-widths c =
-    widths_high (pipe_view c.args.accepted.now.pipe) c.in_ok-netlist.netlist.mems c.args.accepted.now.one_stage c.args.accepted.now.kept (c.in_ok-netlist.ensures.mems ∙ c.args.accepted.now.told)
+    widths_high (pipe_view c.args.accepted.now.pipe) c.in_ok-netlist.netlist.mems c.args.accepted.now.in_line c.args.accepted.now.kept (c.in_ok-netlist.ensures.mems ∙ c.args.accepted.now.told)
 
 pub returns : goal.returns
 returns c =
     let p = pipe_view c.args.accepted.now.pipe in
-    let told : c.in_ok-netlist.netlist.mems ≡ infos_of p.mems = c.in_ok-netlist.ensures.mems ∙ c.args.accepted.now.told in
-    let image : IsImage c.in_ok-netlist.netlist.mems c.args.image.now = subst (λ ms. IsImage ms c.args.image.now) (sym told) c.requires.image in
-    IfOk-weaker c.run.result _ _ (λ t h. h ∙ prints p c.in_ok-netlist.netlist c.args.image.now c.args.cycles told image c.in_ok-netlist.ensures.shows) c.run.ensures
+    let n = c.in_ok-netlist in
+    let told : n.netlist.mems ≡ infos_of p.mems = n.ensures.mems ∙ c.args.accepted.now.told in
+    let image : IsImage n.netlist.mems c.args.image.now = subst (λ ms. IsImage ms c.args.image.now) (sym told) c.requires.image in
+    IfOk-weaker c.run.result _ _
+    (λ t printed. is_output p n.netlist c.args.image.now c.args.cycles t.items c.args.accepted.now.in_line c.args.accepted.now.kept n.ensures.well n.ensures.name told image n.ensures.follows n.ensures.turns printed)
+    c.run.ensures

@@ -1,10 +1,10 @@
 use Rattle.pdl_syntax.specs.View.{pipe_view}
-use Rattle.pdl_limits.proofs.OneStage.{text_is_one_stage}
+use Rattle.pdl_limits.proofs.InLine.{text_is_in_line}
 use Rattle.pdl_limits.proofs.Judged.{limited_found, limited_within, limited_only, limited_refused, refused_only, refused_why}
 use Rattle.pdl_limits.proofs.parser.parse.Goals as goal
 
 pub limited-requires : goal.limited-requires
-limited-requires c = text_is_one_stage c.args.source.now (pipe_view c.in-Ok.pipe) c.in-Ok.ensures.found
+limited-requires c = text_is_in_line c.args.source.now (pipe_view c.in-Ok.pipe) c.in-Ok.ensures.found
 
 pub returns-in-Ok-clause-found : goal.returns-in-Ok-clause-found
 returns-in-Ok-clause-found c = limited_found c.args.source.now (pipe_view c.in-Ok.pipe) c.limited.result c.in-Ok.ensures.found c.limited.ensures

@@ -12,7 +12,7 @@ use Rattle.pdl_syntax.specs.View.{pipe_view, stmt_view}
 use Rattle.pdl_machine.specs.Memory.{memory_view}
 use Rattle.pdl_machine.specs.Acts.{AreAfter, IsAfter, slot_view}
 use Rattle.pdl_machine.proofs.Acting.{AreDecided}
-use Rattle.pdl_machine.proofs.Deciding.{fit_at, long_at, long_set, after_more, stage_more}
+use Rattle.pdl_machine.proofs.Deciding.{fit_at, fits_at, fits_set, long_at, long_set, after_more, stage_more}
 use Rattle.pdl_machine.proofs.Fitting.{fit_count}
 use Rattle.pdl_machine.proofs.Parted.{parts_count}
 use Rattle.pdl_machine.proofs.Held.{all_alike}
@@ -35,6 +35,11 @@ decide_stage-moved-requires-clause-long c =
     ap (λ xs. length xs) c.deref_mut.ensures.value
     ∙ long_at (length c.args.names.now) c.loop-stage.after (c.loop-stage.stage - 1) r c.loop-stage.invariant.long there
     ∙ sym (fit_count c.args.names.now x.values.items fits)
+
+pub decide_stage-moved-requires-clause-fits : goal.decide_stage-moved-requires-clause-fits
+decide_stage-moved-requires-clause-fits c =
+    let there : c.loop-stage.stage - 1 < length c.loop-stage.after = omega arith in
+    subst (Fit c.args.names.now) (sym c.deref_mut.ensures.value) (fits_at c.args.names.now c.loop-stage.after (c.loop-stage.stage - 1) c.index-after-stage.result c.loop-stage.invariant.fit there)
 
 pub loop-stage-preserved : goal.loop-stage-preserved
 loop-stage-preserved c =
@@ -66,4 +71,5 @@ loop-stage-preserved c =
           after_more (flat t) xs i c.args.slots.now x c.loop-stage.after v here there c.index-slots-stage.is (subst (λ (ys : List ℕ). IsAfter (flat t) xs i x ys) (sym written) c.decide_stage-moved.ensures.after)
           (subst (λ (k : ℕ). AreAfter (flat t) xs k (drop k c.args.slots.now) (drop k (lists c.loop-stage.after))) next c.loop-stage.invariant.after);
       long = long_set (length c.args.names.now) c.loop-stage.after i v c.loop-stage.invariant.long long;
+      fit = fits_set c.args.names.now c.loop-stage.after i v c.loop-stage.invariant.fit (subst (Fit c.args.names.now) (sym written) c.decide_stage-moved.ensures.fits);
     }

@@ -1,5 +1,5 @@
 use Rattle.std.proofs.Common.{◌≡◌}
-use Rattle.pdl_pipe.proofs.Shows.{AreAdded}
+use Rattle.pdl_pipe.proofs.OutShows.{AreAdded}
 use Rattle.pdl_pipe.proofs.outputs.show.Given as goal
 
 abbrev pub invariant-loop-o : goal.invariant-loop-o

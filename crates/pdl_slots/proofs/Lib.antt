@@ -1,0 +1,13 @@
+pub mod Fitted
+pub mod StagewiseDeeds
+pub mod StagewiseActs
+pub mod StagewisePorts
+pub mod Stagewise
+pub mod UsingTurn
+pub mod UsingStands
+pub mod UsingLists
+pub mod UsingLives
+pub mod UsingReads
+pub mod UsingEarly
+pub mod UsingCall
+pub mod Using

@@ -1,0 +1,278 @@
+-- The ports of a pipe in line: their names, directions and widths.
+use Rattle.std.proofs.Common.{◌≡◌, ◌≢◌, inl, inr, ℕ, zero, suc, ◌+◌, ◌-◌, ◌<◌, ◌≤◌, Bool, true, false, if◌then◌else◌, List, [], ◌∷◌, ◌++◌, length, drop, map, Option, Some, None, codes, decimal, bytes_eq, refl, sym, ap, ap₂, ◌∙◌, subst, arith, append_assoc, append-nil}
+use Rattle.std.specs.Prelude.{⊤, flat_map, find}
+use Rattle.std.specs.List.{range_with_len}
+use Rattle.std.specs.Option.{is_some}
+use Rattle.std.proofs.lemmas.List.{map-append}
+use Rattle.std.proofs.lemmas.Fmt.{decimal_injective}
+use Rattle.pdl_model.specs.Tree.{Mem}
+use Rattle.pdl_rules.specs.Typed.{AreDistinct}
+use Rattle.pdl_rules.specs.Widths.{address_bits}
+use Rattle.pdl_net.specs.declared.Port.{Port}
+use Rattle.pdl_net.specs.Circuit.{Circuit, Output}
+use Rattle.pdl_net.specs.Pipe.{Head, PortMem, head_of, output, stage_ports, commit_ports, pipe_ports}
+use Rattle.pdl_trunk.specs.Views.{View, moves_first, free}
+use Rattle.pdl_trunk.specs.Ports.{Shown, Commit, stages_shown, commit_shown, commits_shown, all_shown}
+use Rattle.pdl_trunk.specs.Compiled.{shown_in, port_in}
+use Rattle.pdl_trunk.proofs.WellFormedNames.{Among, IsNone, AllDiffer, name_of_mem, name_itself, name_differs, name_turned, among_other, mem_none}
+
+-- ---- the locked memories
+
+-- a memory as its ports tell it
+abbrev pub port_mem : Mem → PortMem
+port_mem m = record { name = m.name.name; width = m.width.value; bits = address_bits m.depth.value }
+
+-- what stands for a memory in a list of the locked ones
+abbrev pub if_locked : {X : Type 0} → Mem → List X → List X
+if_locked m xs = if is_some m.lock then xs else []
+
+-- the memories with a lock, in order
+abbrev pub locked_of : List Mem → List PortMem
+locked_of [] = []
+locked_of (m ∷ ms) = if_locked m (port_mem m ∷ []) ++ locked_of ms
+
+-- the locked memory of a name, if that memory has a lock
+abbrev pub if_some : Mem → Option PortMem
+if_some m = if is_some m.lock then Some (port_mem m) else None
+
+-- the locked memory of a name, if there is one
+abbrev pub locked_named : List Mem → List ℕ → Option PortMem
+locked_named ms n = find (λ (l : PortMem). bytes_eq l.name n) (locked_of ms)
+
+found_first : (b : Bool) (l : PortMem) (ls : List PortMem) (n : List ℕ) → bytes_eq l.name n ≡ false → find (λ (k : PortMem). bytes_eq k.name n) ((if b then l ∷ [] else []) ++ ls) ≡ find (λ (k : PortMem). bytes_eq k.name n) ls
+found_first true l ls n e = ap (λ c. if c then Some l else find (λ (k : PortMem). bytes_eq k.name n) ls) e
+found_first false l ls n e = refl
+
+none_named : (ms : List Mem) (n : List ℕ) → IsNone n (map name_of_mem ms) → locked_named ms n ≡ None
+none_named [] n h = refl
+none_named (m ∷ ms) n h = found_first (is_some m.lock) (port_mem m) (locked_of ms) n (name_differs m.name.name n (λ s. h.0 (sym s))) ∙ none_named ms n h.1
+
+found_here : (b : Bool) (l : PortMem) (ls : List PortMem) → find (λ (k : PortMem). bytes_eq k.name l.name) ls ≡ None
+    → find (λ (k : PortMem). bytes_eq k.name l.name) ((if b then l ∷ [] else []) ++ ls) ≡ (if b then Some l else None)
+found_here true l ls h = ap (λ c. if c then Some l else find (λ (k : PortMem). bytes_eq k.name l.name) ls) (name_itself l.name)
+found_here false l ls h = h
+
+-- the locked memory of a memory's name is that memory, if it has a lock
+pub found : (ms : List Mem) → AreDistinct ms → (m : Mem) → Among m ms → locked_named ms m.name.name ≡ if_some m
+found [] h m a = absurd a
+found (x ∷ xs) h m (inl s) = subst (λ (y : Mem). locked_named (x ∷ xs) y.name.name ≡ if_some y) s (found_here (is_some x.lock) (port_mem x) (locked_of xs) (none_named xs x.name.name (mem_none x.name.name xs h.0)))
+found (x ∷ xs) h m (inr a) =
+    found_first (is_some x.lock) (port_mem x) (locked_of xs) m.name.name (name_turned m.name.name x.name.name (among_other x.name.name xs m h.0 a))
+    ∙ found xs h.1 m a
+
+-- ---- heads
+
+-- an output as its port tells it
+abbrev pub head_shown : Shown → Head
+head_shown s = output s.name s.signal.width
+
+-- ports made of outputs are told by what is shown
+pub heads_of : (c : Circuit) (outs : List Output) → map head_of (map (port_in c) outs) ≡ map head_shown (map (shown_in c) outs)
+heads_of c [] = refl
+heads_of c (o ∷ outs) = ap (λ l. head_shown (shown_in c o) ∷ l) (heads_of c outs)
+
+-- ---- stages
+
+-- whether a stage is free, and whether its thread moves, is one bit
+free_one : (vs : List View) → (free vs).width ≡ 1
+free_one [] = refl
+free_one (v ∷ vs) = free_one vs
+
+moves_one : (vs : List View) → (moves_first vs).width ≡ 1
+moves_one [] = refl
+moves_one (v ∷ vs) = free_one vs
+
+-- the outputs of the stages are their ports
+stages_heads : (k : ℕ) (vs : List View) → map head_shown (stages_shown k vs) ≡ flat_map stage_ports (range_with_len k (length vs))
+stages_heads k [] = refl
+stages_heads k (v ∷ vs) =
+    let next : suc k ≡ k + 1 = omega arith in
+    ap (λ w. output (codes "v_" ++ decimal k) 1 ∷ output (codes "g_" ++ decimal k) w ∷ map head_shown (stages_shown (suc k) vs)) (moves_one (v ∷ vs))
+    ∙ ap (λ l. output (codes "v_" ++ decimal k) 1 ∷ output (codes "g_" ++ decimal k) 1 ∷ l) (stages_heads (suc k) vs ∙ ap (λ j. flat_map stage_ports (range_with_len j (length vs))) next)
+
+-- ---- commits
+
+-- what a memory commits has 1 bit, the bits of its addresses, and those of its words
+pub record HasWidths (m : Mem) (x : Commit) : Type 0 where
+  pub enable : x.enable.width ≡ 1
+  pub address : x.addr.width ≡ address_bits m.depth.value
+  pub value : x.value.width ≡ m.width.value
+
+-- what each memory with a lock commits does, where the first memory has the number m
+abbrev pub HaveWidths : (ℕ → Commit) → ℕ → List Mem → Type 0
+HaveWidths commits m [] = ⊤
+HaveWidths commits m (x ∷ xs) = (is_some x.lock ≡ true → HasWidths x (commits m)) × HaveWidths commits (suc m) xs
+
+commit_head : (m : Mem) (x : Commit) → HasWidths m x → map head_shown (commit_shown m.name.name x) ≡ commit_ports (port_mem m)
+commit_head m x w =
+    ap (λ e. output (codes "c_" ++ m.name.name) e ∷ output (codes "ca_" ++ m.name.name) x.addr.width ∷ output (codes "cd_" ++ m.name.name) x.value.width ∷ []) w.enable
+    ∙ ap₂ (λ a v. output (codes "c_" ++ m.name.name) 1 ∷ output (codes "ca_" ++ m.name.name) a ∷ output (codes "cd_" ++ m.name.name) v ∷ []) w.address w.value
+
+commit_heads_if : (b : Bool) (xs : List Shown) (l : PortMem) (rest : List Shown) (ls : List PortMem) → (b ≡ true → map head_shown xs ≡ commit_ports l) → map head_shown rest ≡ flat_map commit_ports ls
+    → map head_shown ((if b then xs else []) ++ rest) ≡ flat_map commit_ports ((if b then l ∷ [] else []) ++ ls)
+commit_heads_if true xs l rest ls e f = map-append head_shown xs rest ∙ ap₂ (λ a b. a ++ b) (e refl) f
+commit_heads_if false xs l rest ls e f = f
+
+commit_heads : (commits : ℕ → Commit) (m : ℕ) (ms : List Mem) → HaveWidths commits m ms → map head_shown (commits_shown commits m ms) ≡ flat_map commit_ports (locked_of ms)
+commit_heads commits m [] h = refl
+commit_heads commits m (x ∷ xs) h =
+    commit_heads_if (is_some x.lock) (commit_shown x.name.name (commits m)) (port_mem x) (commits_shown commits (suc m) xs) (locked_of xs)
+    (λ e. commit_head x (commits m) (h.0 e))
+    (commit_heads commits (suc m) xs h.1)
+
+-- the last two ports
+abbrev last_heads : List Head
+last_heads = output (codes "ended") 1 ∷ output (codes "squash") 1 ∷ []
+
+-- the ports of a pipe without delayed memories
+ports_plain : (k : ℕ) (locked : List PortMem) → pipe_ports k [] locked ≡ flat_map stage_ports (range_with_len 0 k) ++ (flat_map commit_ports locked ++ last_heads)
+ports_plain k locked =
+    ap (λ l. l ++ last_heads) (append-nil (flat_map stage_ports (range_with_len 0 k) ++ flat_map commit_ports locked))
+    ∙ append_assoc (flat_map stage_ports (range_with_len 0 k)) (flat_map commit_ports locked) last_heads
+
+-- the outputs of the stages and of the memories are the ports of a pipe
+pub all_heads : (commits : ℕ → Commit) (ms : List Mem) (vs : List View) → HaveWidths commits 0 ms → map head_shown (all_shown commits ms vs) ≡ pipe_ports (length vs) [] (locked_of ms)
+all_heads commits ms vs h =
+    map-append head_shown (stages_shown 0 vs) _
+    ∙ ap₂ (λ a b. a ++ b) (stages_heads 0 vs)
+    (map-append head_shown (commits_shown commits 0 ms) _
+    ∙ ap₂ (λ a w. a ++ output (codes "ended") w ∷ output (codes "squash") 1 ∷ []) (commit_heads commits 0 ms h) (moves_one (drop (length vs - 1) vs)))
+    ∙ sym (ports_plain (length vs) (locked_of ms))
+
+-- ---- names
+
+-- the names of the ports behind those of the stages, by the names of the locked memories
+abbrev pub commit_names : List PortMem → List (List ℕ)
+commit_names [] = codes "ended" ∷ codes "squash" ∷ []
+commit_names (l ∷ ls) = (codes "c_" ++ l.name) ∷ (codes "ca_" ++ l.name) ∷ (codes "cd_" ++ l.name) ∷ commit_names ls
+
+-- the name of a port
+abbrev name_of_head : Head → List ℕ
+name_of_head h = h.name
+
+commit_names_are : (ls : List PortMem) → map name_of_head (flat_map commit_ports ls ++ last_heads) ≡ commit_names ls
+commit_names_are [] = refl
+commit_names_are (l ∷ ls) = ap (λ n. (codes "c_" ++ l.name) ∷ (codes "ca_" ++ l.name) ∷ (codes "cd_" ++ l.name) ∷ n) (commit_names_are ls)
+
+names_of_heads : (ps : List Port) → map (λ (p : Port). p.name) ps ≡ map name_of_head (map head_of ps)
+names_of_heads [] = refl
+names_of_heads (p ∷ ps) = ap (λ l. p.name ∷ l) (names_of_heads ps)
+
+-- the names of the ports of n stages, of which the first is k, and of others behind them
+abbrev pub stage_names : ℕ → ℕ → List (List ℕ) → List (List ℕ)
+stage_names k zero rest = rest
+stage_names k (suc n) rest = (codes "v_" ++ decimal k) ∷ (codes "g_" ++ decimal k) ∷ stage_names (suc k) n rest
+
+stage_names_are : (k n : ℕ) (hs : List Head) → map name_of_head (flat_map stage_ports (range_with_len k n) ++ hs) ≡ stage_names k n (map name_of_head hs)
+stage_names_are k zero hs = refl
+stage_names_are k (suc n) hs =
+    let next : k + 1 ≡ suc k = omega arith in
+    ap (λ l. (codes "v_" ++ decimal k) ∷ (codes "g_" ++ decimal k) ∷ l)
+    (ap (λ j. map name_of_head (flat_map stage_ports (range_with_len j n) ++ hs)) next ∙ stage_names_are (suc k) n hs)
+
+-- the names of such ports
+pub names_are : (ps : List Port) (k : ℕ) (locked : List PortMem) → map head_of ps ≡ pipe_ports k [] locked → map (λ (p : Port). p.name) ps ≡ stage_names 0 k (commit_names locked)
+names_are ps k locked e =
+    names_of_heads ps ∙ ap (map name_of_head) (e ∙ ports_plain k locked)
+    ∙ stage_names_are 0 k (flat_map commit_ports locked ++ last_heads)
+    ∙ ap (stage_names 0 k) (commit_names_are locked)
+
+-- a name that begins with other letters is no port's of these memories
+heads_apart : (a b : ℕ) (x y : List ℕ) → a ≢ b → a ∷ x ≢ b ∷ y
+heads_apart a b x y d e = d (cc e)
+
+tails_apart : (a : ℕ) (x y : List ℕ) → x ≢ y → a ∷ x ≢ a ∷ y
+tails_apart a x y d e = d (cc e)
+
+letter_none : (a : ℕ) (x : List ℕ) (ls : List PortMem) → a ≢ 99 → a ∷ x ≢ codes "ended" → a ∷ x ≢ codes "squash" → IsNone (a ∷ x) (commit_names ls)
+letter_none a x [] d e s = (e, (s, tt))
+letter_none a x (l ∷ ls) d e s = (heads_apart a 99 x _ d, (heads_apart a 99 x _ d, (heads_apart a 99 x _ d, letter_none a x ls d e s)))
+
+-- the names of these locked memories are none of them this one
+abbrev IsFree : List ℕ → List PortMem → Type 0
+IsFree n [] = ⊤
+IsFree n (l ∷ ls) = (n ≢ l.name) × IsFree n ls
+
+-- no two of these locked memories have one name
+abbrev AreFree : List PortMem → Type 0
+AreFree [] = ⊤
+AreFree (l ∷ ls) = IsFree l.name ls × AreFree ls
+
+commit_none : (n : List ℕ) (ls : List PortMem) → IsFree n ls → IsNone (codes "c_" ++ n) (commit_names ls)
+commit_none n [] f = (heads_apart 99 101 _ _ (λ e. omega arith), (heads_apart 99 115 _ _ (λ e. omega arith), tt))
+commit_none n (l ∷ ls) f = (
+  tails_apart 99 _ _ (tails_apart 95 _ _ f.0),
+  (tails_apart 99 _ _ (heads_apart 95 97 _ _ (λ e. omega arith)), (tails_apart 99 _ _ (heads_apart 95 100 _ _ (λ e. omega arith)), commit_none n ls f.1)),
+)
+
+address_none : (n : List ℕ) (ls : List PortMem) → IsFree n ls → IsNone (codes "ca_" ++ n) (commit_names ls)
+address_none n [] f = (heads_apart 99 101 _ _ (λ e. omega arith), (heads_apart 99 115 _ _ (λ e. omega arith), tt))
+address_none n (l ∷ ls) f = (
+  tails_apart 99 _ _ (heads_apart 97 95 _ _ (λ e. omega arith)),
+  (tails_apart 99 _ _ (tails_apart 97 _ _ (tails_apart 95 _ _ f.0)), (tails_apart 99 _ _ (heads_apart 97 100 _ _ (λ e. omega arith)), address_none n ls f.1)),
+)
+
+value_none : (n : List ℕ) (ls : List PortMem) → IsFree n ls → IsNone (codes "cd_" ++ n) (commit_names ls)
+value_none n [] f = (heads_apart 99 101 _ _ (λ e. omega arith), (heads_apart 99 115 _ _ (λ e. omega arith), tt))
+value_none n (l ∷ ls) f = (
+  tails_apart 99 _ _ (heads_apart 100 95 _ _ (λ e. omega arith)),
+  (tails_apart 99 _ _ (heads_apart 100 97 _ _ (λ e. omega arith)), (tails_apart 99 _ _ (tails_apart 100 _ _ (tails_apart 95 _ _ f.0)), value_none n ls f.1)),
+)
+
+commits_differ : (ls : List PortMem) → AreFree ls → AllDiffer (commit_names ls)
+commits_differ [] f = ((heads_apart 101 115 _ _ (λ e. omega arith), tt), (tt, tt))
+commits_differ (l ∷ ls) f = (
+  (tails_apart 99 _ _ (heads_apart 95 97 _ _ (λ e. omega arith)), (tails_apart 99 _ _ (heads_apart 95 100 _ _ (λ e. omega arith)), commit_none l.name ls f.0)),
+  ((tails_apart 99 _ _ (heads_apart 97 100 _ _ (λ e. omega arith)), address_none l.name ls f.0), (value_none l.name ls f.0, commits_differ ls f.1)),
+)
+
+locked_free : (n : List ℕ) (ms : List Mem) → IsNone n (map name_of_mem ms) → IsFree n (locked_of ms)
+locked_free n [] h = tt
+locked_free n (m ∷ ms) h = go (is_some m.lock) (locked_free n ms h.1)
+  where
+    go : (b : Bool) → IsFree n (locked_of ms) → IsFree n ((if b then port_mem m ∷ [] else []) ++ locked_of ms)
+    go true f = (h.0, f)
+    go false f = f
+
+all_free : (ms : List Mem) → AreDistinct ms → AreFree (locked_of ms)
+all_free [] h = tt
+all_free (m ∷ ms) h = go (is_some m.lock) (locked_free m.name.name ms (mem_none m.name.name ms h.0)) (all_free ms h.1)
+  where
+    go : (b : Bool) → IsFree m.name.name (locked_of ms) → AreFree (locked_of ms) → AreFree ((if b then port_mem m ∷ [] else []) ++ locked_of ms)
+    go true f fs = (f, fs)
+    go false f fs = fs
+
+-- ---- names of stages
+
+-- the names of two stages differ
+stages_apart : (j k : ℕ) → j < k → k ≤ 64 → decimal j ≢ decimal k
+stages_apart j k l h e = let same : j ≡ k = decimal_injective j k (omega arith) (omega arith) e in absurd (omega arith)
+
+valid_none : (j k n : ℕ) (rest : List (List ℕ)) → j < k → k + n ≤ 64 → IsNone (codes "v_" ++ decimal j) rest → IsNone (codes "v_" ++ decimal j) (stage_names k n rest)
+valid_none j k zero rest l h r = r
+valid_none j k (suc n) rest l h r = (
+  tails_apart 118 _ _ (tails_apart 95 _ _ (stages_apart j k l (omega arith))),
+  (heads_apart 118 103 _ _ (λ e. omega arith), valid_none j (suc k) n rest (omega arith) (omega arith) r),
+)
+
+moves_none : (j k n : ℕ) (rest : List (List ℕ)) → j < k → k + n ≤ 64 → IsNone (codes "g_" ++ decimal j) rest → IsNone (codes "g_" ++ decimal j) (stage_names k n rest)
+moves_none j k zero rest l h r = r
+moves_none j k (suc n) rest l h r = (
+  heads_apart 103 118 _ _ (λ e. omega arith),
+  (tails_apart 103 _ _ (tails_apart 95 _ _ (stages_apart j k l (omega arith))), moves_none j (suc k) n rest (omega arith) (omega arith) r),
+)
+
+stages_differ : (k n : ℕ) (rest : List (List ℕ)) → k + n ≤ 64 → ((j : ℕ) → IsNone (codes "v_" ++ decimal j) rest) → ((j : ℕ) → IsNone (codes "g_" ++ decimal j) rest) → AllDiffer rest → AllDiffer (stage_names k n rest)
+stages_differ k zero rest h v g r = r
+stages_differ k (suc n) rest h v g r = (
+  (heads_apart 118 103 _ _ (λ e. omega arith), valid_none k (suc k) n rest (omega arith) (omega arith) (v k)),
+  (moves_none k (suc k) n rest (omega arith) (omega arith) (g k), stages_differ (suc k) n rest (omega arith) v g r),
+)
+
+-- no two ports have one name
+pub port_names_differ : (n : ℕ) (ms : List Mem) → n ≤ 64 → AreDistinct ms → AllDiffer (stage_names 0 n (commit_names (locked_of ms)))
+port_names_differ n ms l h =
+    stages_differ 0 n (commit_names (locked_of ms)) (omega arith)
+    (λ j. letter_none 118 _ (locked_of ms) (λ e. omega arith) (heads_apart 118 101 _ _ (λ e. omega arith)) (heads_apart 118 115 _ _ (λ e. omega arith)))
+    (λ j. letter_none 103 _ (locked_of ms) (λ e. omega arith) (heads_apart 103 101 _ _ (λ e. omega arith)) (heads_apart 103 115 _ _ (λ e. omega arith)))
+    (commits_differ (locked_of ms) (all_free ms h))
