@@ -1,3 +1,4 @@
+mod Kept
 pub mod OnePath
 pub mod Limited
 pub mod Sized

@@ -4,23 +4,24 @@ use mathlib.Core.Path.{fun_ext}
 use Rattle.std.proofs.lemmas.Bool.{false≢true, and_parts, and_from}
 use Rattle.std.proofs.lemmas.List.Folds.{list_all-append}
 use Rattle.std.specs.List.{list_any, list_all}
-use Rattle.pdl_model.specs.Tree.{CombRead, DelayedRead, Pipe}
+use Rattle.pdl_model.specs.Tree.{SpecCall, DelayedRead, Call, Verify, Pipe}
 use Rattle.pdl_model.specs.Flatten.{Var}
-use Rattle.pdl_rules.specs.Places.{Place, Statement, places, paths, choices, on_path, on_some_path, line_of}
+use Rattle.pdl_rules.specs.Places.{Place, Statement, StartClause, places, paths, on_path, on_some_path, line_of}
 use Rattle.pdl_rules.specs.Limits.{is_separator}
 use Rattle.pdl_rules.specs.Names.{Use, defines, is_undefined, is_delayed, is_given, is_too_early, needs_definition, some_use}
-use Rattle.pdl_rules.specs.Widths.{variables}
+use Rattle.pdl_rules.specs.Widths.{variables, breaks_w5}
+use Rattle.pdl_widthrules.specs.Widths.{has_wrong_arguments}
 use Rattle.pdl_rules.specs.Locks.{lacks_hold, is_late_read, is_one_too_many, is_reserved_again, is_not_written_once, ends_open}
-use Rattle.pdl_rules.specs.Stages.{breaks_l8}
-use Rattle.pdl_lockrules.specs.Stages as told
 use Rattle.pdl_rules.specs.Calls.{is_wrong_call}
 use Rattle.pdl_rules.specs.Refusal.{refused_at, is_in_line, all_lined, is_comb, breaks, broken_line, first_broken, limits, after_limits}
-use Rattle.pdl_rules.proofs.Straight.{is_lone, guards_alone, on_alone, all_alone, lone_places}
+use Rattle.pdl_rules.proofs.InLine.{one_path, l2_alone, l8_alone}
+use Rattle.pdl_rules.proofs.Straight.{is_lone, on_alone, all_alone, lone_places}
 use Rattle.pdl_check.specs.declared.scan.Asked.{Asked}
 use Rattle.pdl_check.specs.declared.scan.Asked.TheVariants.{N1, N2, N3, W1, W2, W3, W4, W5, W6, F5, L1, L2, L3, L4, L5, L6, L7, L8, S1}
 use Rattle.pdl_namerules.specs.Early.{is_early}
 use Rattle.pdl_check.specs.Scan as scan
 use Rattle.pdl_check.proofs.Limited.{behind_kept}
+use Rattle.pdl_check.proofs.Kept.{asked_decide}
 
 or_false : (b : Bool) → (b || false) ≡ b
 or_false true = refl
@@ -29,10 +30,6 @@ or_false false = refl
 same_or : (b : Bool) → (b || b) ≡ b
 same_or true = refl
 same_or false = refl
-
--- there is one path
-one_path : (p : Pipe) → all_lined p.body ≡ true → paths p ≡ [] ∷ []
-one_path p lined = ap choices (guards_alone [] (places p) (lone_places p lined))
 
 -- a test on some path is a test of what stands before
 on_the_path : (test : List Place → Bool) (p : Pipe) (before : List Place) (x : Place) → all_lined p.body ≡ true → is_lone x ≡ true → list_all is_lone before ≡ true
@@ -66,11 +63,13 @@ early p before x lined lone all u =
     (on_the_path (λ earlier. not (is_given earlier u)) p before x lined lone all ∙ ap not (given-defined u before all))
     ∙ ap (λ b. needs_definition p u && b) (same_or (is_undefined before u))
 
--- a read is bound late among the places that are told
-late : (p : Pipe) (before : List Place) (x : Place) → breaks_l8 p before x ≡ told.breaks_l8 p.mems (places p) before x
-late p before (Statement (CombRead s v at) bs) = refl
-late p before (Statement (DelayedRead s v at) bs) = refl
-late p before _ = refl
+-- arguments are asked by the kinds of statement that have some
+arguments : (p : Pipe) (x : Place) → breaks_w5 p x ≡ has_wrong_arguments (variables p) p.params x
+arguments p (Statement (SpecCall s g args) bs) = refl
+arguments p (Statement (Call s args) bs) = refl
+arguments p (Statement (Verify s g args) bs) = refl
+arguments p (StartClause s) = refl
+arguments p _ = refl
 
 -- the scan asks each rule as it stands
 asked : (r : Asked) (p : Pipe) (before : List Place) (x : Place) → all_lined p.body ≡ true → is_lone x ≡ true → list_all is_lone before ≡ true
@@ -83,17 +82,17 @@ asked W1 p before x lined lone all = refl
 asked W2 p before x lined lone all = refl
 asked W3 p before x lined lone all = refl
 asked W4 p before x lined lone all = refl
-asked W5 p before x lined lone all = refl
+asked W5 p before x lined lone all = arguments p x
 asked W6 p before x lined lone all = refl
 asked F5 p before x lined lone all = refl
 asked L1 p before x lined lone all = on_the_path (λ earlier. lacks_hold p earlier x) p before x lined lone all
-asked L2 p before x lined lone all = refl
+asked L2 p before x lined lone all = l2_alone before x lone all
 asked L3 p before x lined lone all = on_the_path (λ earlier. is_late_read earlier x) p before x lined lone all
 asked L4 p before x lined lone all = on_the_path (λ earlier. is_one_too_many earlier x) p before x lined lone all
 asked L5 p before x lined lone all = on_the_path (λ earlier. is_reserved_again earlier x) p before x lined lone all
 asked L6 p before x lined lone all = on_the_path (λ earlier. is_not_written_once earlier x) p before x lined lone all
 asked L7 p before x lined lone all = on_the_path (λ earlier. ends_open earlier x) p before x lined lone all
-asked L8 p before x lined lone all = late p before x
+asked L8 p before x lined lone all = l8_alone p before x lined lone all
 asked S1 p before x lined lone all = on_the_path (λ earlier. is_wrong_call earlier x) p before x lined lone all
 
 -- and finds the same line
@@ -119,5 +118,6 @@ pub refusal-scan : (p : Pipe) (vs : List Var) (all : List Place) → is_in_line 
     → first_broken (limits ++ after_limits) p ≡ scan.first_broken scan.order p vs all
 refusal-scan p vs all in_line within named placed =
     behind_kept limits after_limits p within
+    ∙ asked_decide p in_line
     ∙ rules scan.order p (lined_body p in_line)
     ∙ ap₂ (λ us xs. scan.first_broken scan.order p us xs) (sym named) (sym placed)

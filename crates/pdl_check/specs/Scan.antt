@@ -9,11 +9,10 @@ use Rattle.pdl_rules.specs.Parts.{some_part, some_expr, some_literal, some_locat
 use Rattle.pdl_rules.specs.Names.{names_another_pipe, some_use, is_undefined, breaks_n2}
 use Rattle.pdl_rules.specs.Widths.{is_unequal, is_too_large, is_out_of_range, is_wide_if, is_wide_choice}
 use Rattle.pdl_rules.specs.Locks.{breaks_f5, lacks_hold, is_late_read, is_one_too_many, is_reserved_again, is_not_written_once, ends_open}
-use Rattle.pdl_rules.specs.Stages.{breaks_l2}
+use Rattle.pdl_rules.specs.InLine.{breaks_l2, breaks_l8}
 use Rattle.pdl_rules.specs.Calls.{is_wrong_call}
 use Rattle.pdl_rules.specs.Refusal.{Refused, refused_at}
 use Rattle.pdl_namerules.specs.Early.{is_early}
-use Rattle.pdl_lockrules.specs.Stages.{breaks_l8}
 use Rattle.pdl_widthrules.specs.Widths.{is_wrong_address, has_wrong_arguments, is_wrong_value}
 use Rattle.pdl_check.specs.declared.scan.Asked.{Asked}
 use Rattle.pdl_check.specs.declared.scan.Asked.TheVariants.{N1, N2, N3, W1, W2, W3, W4, W5, W6, F5, L1, L2, L3, L4, L5, L6, L7, L8, S1}

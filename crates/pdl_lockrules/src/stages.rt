@@ -4,9 +4,9 @@ ghost use Rattle.pdl_syntax.specs.View.{mem_view, stmt_view};
 ghost use Rattle.pdl_rules.specs.Limits as limits;
 ghost use Rattle.pdl_rules.specs.Parts.{passes};
 ghost use Rattle.pdl_rules.specs.Places.{Statement};
-ghost use Rattle.pdl_rules.specs.Stages as spec;
+ghost use Rattle.pdl_rules.specs.InLine as spec;
+ghost use Rattle.pdl_rules.specs.Stages as stages;
 ghost use Rattle.pdl_types.specs.View.{place_view};
-ghost use Rattle.pdl_lockrules.specs.Stages as told;
 
 use crate::locks::is_locked;
 use pdl_kit::Name;
@@ -37,7 +37,7 @@ fn stmt_is_separator(stmt: &Stmt) -> bool
 
 /// The stage of what stands behind these places.
 pub fn stage_behind(before: &[Place<'_>]) -> usize
-    ensures { result ≡ spec.stage_behind (map place_view before.now) }
+    ensures { result ≡ stages.stage_behind (map place_view before.now) }
 {
     let mut count = 0;
     for place in before {
@@ -77,14 +77,14 @@ fn stmt_breaks_l2(before: &[Place<'_>], stmt: &Stmt) -> bool
 
 // Whether the first of the places that reserves the memory stands in another stage than what stands behind them.
 fn is_reserved_elsewhere(before: &[Place<'_>], m: &Name) -> bool
-    ensures { result ≡ spec.is_elsewhere (spec.reserves_memory m.now) (map place_view before.now) }
+    ensures { result ≡ spec.is_elsewhere (stages.reserves_memory m.now) (map place_view before.now) }
 {
     is_another(first_reserve(before, m), stage_behind(before))
 }
 
 // Whether the first of the places that releases the memory does.
 fn is_released_elsewhere(before: &[Place<'_>], m: &Name) -> bool
-    ensures { result ≡ spec.is_elsewhere (spec.releases_memory m.now) (map place_view before.now) }
+    ensures { result ≡ spec.is_elsewhere (stages.releases_memory m.now) (map place_view before.now) }
 {
     is_another(first_release(before, m), stage_behind(before))
 }
@@ -101,7 +101,7 @@ fn is_another(first: Option<usize>, stage: usize) -> bool
 
 // The stage of the first of the places that reserves the memory.
 fn first_reserve(places: &[Place<'_>], m: &Name) -> Option<usize>
-    ensures { result ≡ spec.first_stage (spec.reserves_memory m.now) [] (map place_view places.now) }
+    ensures { result ≡ spec.first_stage (stages.reserves_memory m.now) [] (map place_view places.now) }
 {
     for (k, place) in places.iter().enumerate() {
         if reserves_memory(m, place) {
@@ -113,7 +113,7 @@ fn first_reserve(places: &[Place<'_>], m: &Name) -> Option<usize>
 
 // The stage of the first of the places that releases the memory.
 fn first_release(places: &[Place<'_>], m: &Name) -> Option<usize>
-    ensures { result ≡ spec.first_stage (spec.releases_memory m.now) [] (map place_view places.now) }
+    ensures { result ≡ spec.first_stage (stages.releases_memory m.now) [] (map place_view places.now) }
 {
     for (k, place) in places.iter().enumerate() {
         if releases_memory(m, place) {
@@ -124,7 +124,7 @@ fn first_release(places: &[Place<'_>], m: &Name) -> Option<usize>
 }
 
 fn reserves_memory(m: &Name, place: &Place<'_>) -> bool
-    ensures { result ≡ spec.reserves_memory m.now (place_view place.now) }
+    ensures { result ≡ stages.reserves_memory m.now (place_view place.now) }
 {
     match place {
         Place::Statement(stmt) => stmt_reserves_memory(m, stmt),
@@ -133,7 +133,7 @@ fn reserves_memory(m: &Name, place: &Place<'_>) -> bool
 }
 
 fn stmt_reserves_memory(m: &Name, stmt: &Stmt) -> bool
-    ensures { result ≡ spec.reserves_memory m.now (Statement (stmt_view stmt.now) []) }
+    ensures { result ≡ stages.reserves_memory m.now (Statement (stmt_view stmt.now) []) }
 {
     match stmt {
         Stmt::Reserve {
@@ -149,7 +149,7 @@ fn stmt_reserves_memory(m: &Name, stmt: &Stmt) -> bool
 }
 
 fn releases_memory(m: &Name, place: &Place<'_>) -> bool
-    ensures { result ≡ spec.releases_memory m.now (place_view place.now) }
+    ensures { result ≡ stages.releases_memory m.now (place_view place.now) }
 {
     match place {
         Place::Statement(stmt) => stmt_releases_memory(m, stmt),
@@ -158,7 +158,7 @@ fn releases_memory(m: &Name, place: &Place<'_>) -> bool
 }
 
 fn stmt_releases_memory(m: &Name, stmt: &Stmt) -> bool
-    ensures { result ≡ spec.releases_memory m.now (Statement (stmt_view stmt.now) []) }
+    ensures { result ≡ stages.releases_memory m.now (Statement (stmt_view stmt.now) []) }
 {
     match stmt {
         Stmt::Release { span: _, at } => at.mem.name == *m,
@@ -171,7 +171,7 @@ fn stmt_releases_memory(m: &Name, stmt: &Stmt) -> bool
 
 /// Whether the place is a read of a locked memory that is bound behind the stage of the memory's releases; it is bound in its stage, a delayed one in the next. `all` are the places of the pipe.
 pub fn breaks_l8(mems: &[Mem], all: &[Place<'_>], before: &[Place<'_>], place: &Place<'_>) -> bool
-    ensures { result ≡ told.breaks_l8 (map mem_view mems.now) (map place_view all.now) (map place_view before.now) (place_view place.now) }
+    ensures { result ≡ spec.breaks_l8 (map mem_view mems.now) (map place_view all.now) (map place_view before.now) (place_view place.now) }
 {
     match place {
         Place::Statement(stmt) => stmt_breaks_l8(mems, all, before, stmt),
@@ -180,7 +180,7 @@ pub fn breaks_l8(mems: &[Mem], all: &[Place<'_>], before: &[Place<'_>], place: &
 }
 
 fn stmt_breaks_l8(mems: &[Mem], all: &[Place<'_>], before: &[Place<'_>], stmt: &Stmt) -> bool
-    ensures { result ≡ told.breaks_l8 (map mem_view mems.now) (map place_view all.now) (map place_view before.now) (Statement (stmt_view stmt.now) []) }
+    ensures { result ≡ spec.breaks_l8 (map mem_view mems.now) (map place_view all.now) (map place_view before.now) (Statement (stmt_view stmt.now) []) }
 {
     match stmt {
         Stmt::CombRead {
@@ -202,14 +202,14 @@ fn stmt_breaks_l8(mems: &[Mem], all: &[Place<'_>], before: &[Place<'_>], stmt: &
 
 // Whether the memory is released in an earlier stage than that of what stands behind `before`.
 fn is_released_before(all: &[Place<'_>], before: &[Place<'_>], m: &Name) -> bool
-    ensures { result ≡ passes (λ c. nat_lt c (spec.stage_behind (map place_view before.now))) (spec.first_stage (spec.releases_memory m.now) [] (map place_view all.now)) }
+    ensures { result ≡ passes (λ c. nat_lt c (stages.stage_behind (map place_view before.now))) (spec.first_stage (stages.releases_memory m.now) [] (map place_view all.now)) }
 {
     is_behind(first_release(all, m), stage_behind(before))
 }
 
 // Whether it is released in an earlier stage than the next one.
 fn is_released_by(all: &[Place<'_>], before: &[Place<'_>], m: &Name) -> bool
-    ensures { result ≡ passes (λ c. nat_lt c (suc (spec.stage_behind (map place_view before.now)))) (spec.first_stage (spec.releases_memory m.now) [] (map place_view all.now)) }
+    ensures { result ≡ passes (λ c. nat_lt c (suc (stages.stage_behind (map place_view before.now)))) (spec.first_stage (stages.releases_memory m.now) [] (map place_view all.now)) }
 {
     is_not_before(first_release(all, m), stage_behind(before))
 }

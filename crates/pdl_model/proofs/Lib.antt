@@ -1,6 +1,8 @@
 pub mod Texts
 pub mod Pipes
+pub mod Features
 mod SequentialRows
 pub mod MachineRows
 pub mod WrongMachines
+pub mod FeatureRows
 mod SoundRows

@@ -1,9 +1,12 @@
 -- What the machine prints for written pipes.
-use Rattle.std.proofs.Common.{◌≡◌, refl, ℕ, zero, suc, Bool, true, false, List, [], ◌∷◌, ◌++◌, codes, replicate}
+use Rattle.std.proofs.Common.{◌≡◌, refl, ℕ, zero, suc, Bool, true, false, List, [], ◌∷◌, ◌++◌, codes, replicate, Option, Some, None}
 use Rattle.std.specs.Fmt.{digits}
 use Rattle.pdl_word.specs.Words.{add, slice, zext, complement}
 use Rattle.pdl_model.specs.Tree.{Queue, Bypass, Rename}
 use Rattle.pdl_model.specs.Lines.{run_lines, view_lines, accepted_line}
+use Rattle.pdl_model.specs.Flat.{arrays_of}
+use Rattle.pdl_model.specs.Flatten.{flat}
+use Rattle.pdl_model.specs.Cycle.{Turn, turns}
 use Rattle.pdl_model.proofs.Pipes.{one_stage, two_stages, under_guard, shared_guard, count_late, count_up, guess, guess_reserved, copy, copy_guessed, two_branches, one_branch, count_slow, barrier}
 
 abbrev pub zeros : List ℕ
@@ -144,3 +147,13 @@ stages_in_line = refl
 one_stage_alone : accepted_line shared_guard ≡ codes "accepted stages 1 depth 1\n"
 unfolding digits
 one_stage_alone = refl
+
+-- the addresses that the machine asks delayed memories for: an orphan's answer lets the next address through
+abbrev asked : List Turn → List (List (Option ℕ))
+asked [] = []
+asked (t ∷ ts) = t.ports.requests ∷ asked ts
+
+addresses_asked : asked (turns (flat copy_guessed) (arrays_of copied) (bits (1 ∷ 1 ∷ 0 ∷ 0 ∷ 1 ∷ 1 ∷ []))) ≡
+    (Some 0 ∷ None ∷ []) ∷ (Some 1 ∷ None ∷ []) ∷ (None ∷ None ∷ []) ∷ (None ∷ None ∷ []) ∷ (Some 2 ∷ None ∷ []) ∷ (Some 3 ∷ None ∷ []) ∷ []
+unfolding add slice zext
+addresses_asked = refl

@@ -119,3 +119,11 @@ far_barrier =
     (spec_barrier ∷ reserve "m" "n" W ∷ spec_call "s" (plus (variable "n") (constant 2 1)) ∷ block "m" "n"
     ∷ write "m" "n" (constant 8 7) ∷ release "m" "n" ∷ separator ∷ separator ∷ separator
     ∷ verify "s" (plus (variable "n") (constant 2 2)) ∷ [])
+
+-- the same with a check in place of the barrier, which isn't accepted
+abbrev pub without_barrier : Pipe
+without_barrier =
+    pipe 2 (comb "m" 4 (lock Queue 2) ∷ [])
+    (spec_check ∷ reserve "m" "n" W ∷ spec_call "s" (plus (variable "n") (constant 2 1)) ∷ block "m" "n"
+    ∷ write "m" "n" (constant 8 7) ∷ release "m" "n" ∷ separator ∷ separator ∷ separator
+    ∷ verify "s" (plus (variable "n") (constant 2 2)) ∷ [])

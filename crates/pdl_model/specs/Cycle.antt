@@ -214,10 +214,19 @@ first p image =
 
 -- THE PORTS
 
+-- a write as a port shows it
+pub record PortWrite : Type 0 where
+  pub address : ℕ
+  pub value : ℕ
+
+abbrev pub port_write : Option Pending → Option PortWrite
+port_write None = None
+port_write (Some e) = Some (record { address = e.address; value = commit_value e.value })
+
 pub record Ports : Type 0 where
   pub valid : List Bool  -- for each stage: it holds a thread at the start
   pub moves : List Bool  -- for each stage: its thread moves
-  pub commits : List (Option Pending)  -- for each memory: the write that is released
+  pub commits : List (Option PortWrite)  -- for each memory: the write that is released
   pub requests : List (Option ℕ)  -- for each memory: the address of the request
   pub ended : Bool  -- a thread moved out of the last stage
   pub squash : Bool  -- a failing verify moved
@@ -235,7 +244,7 @@ ports_these p st these ms =
     record {
       valid = for_stages (λ s. list_any (λ a. a.stage == s) these) 0 p.stages;
       moves = for_stages (λ s. list_any (λ a. a.stage == s) ms) 0 p.stages;
-      commits = for_mems (λ m. taken_out st ms m) 0 p.mems;
+      commits = for_mems (λ m. port_write (taken_out st ms m)) 0 p.mems;
       requests = for_mems (λ m. asked_in ms m) 0 p.mems;
       ended = list_any (λ a. is_none (next_stage p a.stage a.does)) ms;
       squash = is_some (squasher ms);
@@ -290,9 +299,9 @@ abbrev pub squashes_in : List Turn → ℕ
 squashes_in ts = count (λ t. t.ports.squash) ts
 
 -- the commits of a memory, in cycle order
-abbrev pub shown : ℕ → Option Pending → List Commit
+abbrev pub shown : ℕ → Option PortWrite → List Commit
 shown m None = []
-shown m (Some e) = record { mem = m; address = e.address; value = commit_value e.value } ∷ []
+shown m (Some w) = record { mem = m; address = w.address; value = w.value } ∷ []
 
 abbrev pub commits : ℕ → List Turn → List Commit
 commits m [] = []

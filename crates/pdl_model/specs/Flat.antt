@@ -117,10 +117,9 @@ pub record Pipe : Type 0 where
   pub stages : List Stage
   -- the first thread's arguments
   pub start : List ℕ
-  -- R(m) of each memory, the stage of its reserves, 0 where it has none
-  pub reserves_at : List ℕ
-  -- C(m) of each memory, the stage of its releases, the number of stages where it has none
-  pub releases_at : List ℕ
+  -- for each memory the stage of its reserves, and that of its releases, where it has some
+  pub reserves_at : List (Option ℕ)
+  pub releases_at : List (Option ℕ)
 
 -- whether each element passes the test
 abbrev pub list_all : {X : Type 0} → (X → Bool) → List X → Bool

@@ -260,15 +260,15 @@ stages_of p =
     let g = graph p.mems None Flat.Ends p.body (at_start p) in
     record { next = g.next; branch = None; merges = None } ∷ g.later
 
--- the stage of the first statement of this kind, or another number where there is none
-abbrev pub first_stage : (Flat.Op → Bool) → ℕ → List Flat.Stmt → ℕ
-first_stage test none [] = none
-first_stage test none (x ∷ xs) = if test x.op then x.stage else first_stage test none xs
+-- the stage of the first statement of this kind, where there is one
+abbrev pub first_stage : (Flat.Op → Bool) → List Flat.Stmt → Option ℕ
+first_stage test [] = None
+first_stage test (x ∷ xs) = if test x.op then Some x.stage else first_stage test xs
 
 -- that of each memory, of which the first has the number m
-abbrev pub first_stages : (ℕ → Flat.Op → Bool) → ℕ → List Flat.Stmt → ℕ → List Mem → List ℕ
-first_stages test none xs m [] = []
-first_stages test none xs m (x ∷ ms) = first_stage (test m) none xs ∷ first_stages test none xs (suc m) ms
+abbrev pub first_stages : (ℕ → Flat.Op → Bool) → List Flat.Stmt → ℕ → List Mem → List (Option ℕ)
+first_stages test xs m [] = []
+first_stages test xs m (x ∷ ms) = first_stage (test m) xs ∷ first_stages test xs (suc m) ms
 
 abbrev pub flat : Pipe → Flat.Pipe
 flat p =
@@ -279,6 +279,6 @@ flat p =
       stmts = stmts;
       stages = stages_of p;
       start = start_of p.start.args;
-      reserves_at = first_stages is_reserve 0 stmts 0 p.mems;
-      releases_at = first_stages is_release (length (stages_of p)) stmts 0 p.mems;
+      reserves_at = first_stages is_reserve stmts 0 p.mems;
+      releases_at = first_stages is_release stmts 0 p.mems;
     }

@@ -5,9 +5,7 @@ use Rattle.pdl_model.specs.Flat.{Commit, of_mem, arrays_of}
 use Rattle.pdl_model.specs.Flatten.{flat}
 use Rattle.pdl_model.specs.Sequential.{threads}
 use Rattle.pdl_model.specs.Stages.{depth}
-use Rattle.pdl_model.specs.Locks.{commit_value}
-use Rattle.pdl_model.specs.Machine.{Pending}
-use Rattle.pdl_model.specs.Cycle.{Turn, turns, view}
+use Rattle.pdl_model.specs.Cycle.{PortWrite, Turn, turns, view}
 
 -- a lower hexadecimal digit
 abbrev pub hex_digit : ℕ → ℕ
@@ -123,11 +121,11 @@ seq_lines p image k =
 -- RUNS OF THE MACHINE
 
 -- the word that a release puts into its array
-abbrev pub put_of : Option Pending → List Put
+abbrev pub put_of : Option PortWrite → List Put
 put_of None = []
-put_of (Some e) = record { address = e.address; value = commit_value e.value } ∷ []
+put_of (Some w) = record { address = w.address; value = w.value } ∷ []
 
-abbrev pub puts_in : List (Option Pending) → List (List Put)
+abbrev pub puts_in : List (Option PortWrite) → List (List Put)
 puts_in [] = []
 puts_in (e ∷ es) = put_of e ∷ puts_in es
 

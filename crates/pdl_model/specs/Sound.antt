@@ -1,5 +1,5 @@
 -- Sound state: what holds, between cycles, in every state that a run of an accepted pipe comes to. Each point is a test, so that it computes. A turn is a thread of the sequential run.
-use Rattle.std.specs.Prelude.{IsTrue, ℕ, zero, suc, Bool, true, false, ◌&&◌, ◌||◌, not, List, [], ◌∷◌, ◌++◌, Option, Some, None, is_none, if◌then◌else◌, nat_lt, nat_le, ◌==◌, slice_index, length}
+use Rattle.std.specs.Prelude.{IsTrue, ℕ, zero, suc, ◌+◌, count_by, Bool, true, false, ◌&&◌, ◌||◌, not, List, [], ◌∷◌, ◌++◌, Option, Some, None, is_none, if◌then◌else◌, nat_lt, nat_le, ◌==◌, slice_index, length}
 use Rattle.pdl_model.specs.Flat.{Arrays, list_all, Op, Bind, CombRead, DelayedRead, Write, ReserveWrite, Block, Release, Call, SpecCall, SpecBarrier, Stmt, Mem, Branch, Pipe, value_of, values_of, start_env, word_at, Commit, of_mem}
 use Rattle.pdl_model.specs.Stages.{list_any, onpath, stage_at, goes_to, is_verify, verify_stage}
 use Rattle.pdl_model.specs.Sequential.{Run, run_all, thread, seqwrites, after_turns}
@@ -176,7 +176,7 @@ same_sides (a ∷ xs) (b ∷ ys) = (if a then b else not b) && same_sides xs ys
 same_sides _ _ = false
 
 abbrev pub in_order : Pipe → State → Bool
-in_order p st = all_pairs (is_behind p) (live st) && all_from (λ f. same_sides (fork_of st f) (sides_in p f (live st))) 0 p.stages
+in_order p st = all_pairs (λ older younger. nat_lt older.thread.number younger.thread.number && is_behind p older younger) (live st) && all_from (λ f. same_sides (fork_of st f) (sides_in p f (live st))) 0 p.stages
 
 -- 2. CHAIN. At least one thread lives; each but the youngest has made its successor, the youngest hasn't
 
@@ -283,10 +283,15 @@ abbrev pub is_kept_or_awaited : Thread → Op → Bool
 is_kept_or_awaited t (DelayedRead x m a) = list_any (λ k. k.var == x) t.kept || list_any (λ r. (r.var == x) && (r.mem == m)) t.awaits
 is_kept_or_awaited t _ = true
 
+abbrev pub is_fetch : Op → Bool
+is_fetch (DelayedRead x m a) = true
+is_fetch _ = false
+
 abbrev pub asks_right : Pipe → State → Live → Bool
 asks_right p st l =
     list_all (λ x. not (is_here p l x) || is_kept_or_awaited l.thread x.op) (past_stmts p l)
     && list_all (λ r. is_owner l.thread.number (request_of st r.mem)) l.thread.awaits
+    && (length l.thread.awaits + length l.thread.kept == count_by (λ (x : Stmt). is_here p l x && is_fetch x.op) (past_stmts p l))
 
 -- and each outstanding request that is no orphan is awaited by its owner
 abbrev pub has_owner : State → ℕ → Request → Bool

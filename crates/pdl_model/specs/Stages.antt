@@ -1,5 +1,5 @@
 -- Stages and paths of a pipe in flat form. A path is a truth value for each guard: a list of values of all variables, of which those of guards count.
-use Rattle.std.specs.Prelude.{ℕ, zero, suc, max, Bool, true, false, ◌||◌, List, [], ◌∷◌, ◌++◌, Option, Some, None, if◌then◌else◌, ◌==◌, slice_index, slice_index_or, slice_set, length, take, count_by}
+use Rattle.std.specs.Prelude.{ℕ, zero, suc, max, Bool, true, false, ◌||◌, List, [], ◌∷◌, ◌++◌, Option, Some, None, if◌then◌else◌, ◌==◌, slice_index, slice_index_or, slice_set, length, take, count_by, unwrap_or}
 use Rattle.pdl_model.specs.Flat.{Op, ReserveRead, ReserveWrite, Release, Verify, Stmt, Plain, Mem, Next, Ends, Goes, Forks, Branch, Stage, Pipe, taken, start_env}
 
 -- whether some element passes the test
@@ -53,12 +53,12 @@ merges_fork (Some g) f = g == f
 abbrev pub reply_place : Pipe → ℕ → ℕ
 reply_place p m = count_by (λ x. x.delayed) (take m p.mems)
 
--- R(m), the stage of m's reserves, and C(m), that of its releases
+-- R(m), the stage of m's reserves, 0 where it has none; and C(m), that of its releases, the number of stages where it has none
 abbrev pub reserve_stage : Pipe → ℕ → ℕ
-reserve_stage p m = slice_index_or p.reserves_at m 0
+reserve_stage p m = unwrap_or (slice_index_or p.reserves_at m None) 0
 
 abbrev pub commit_stage : Pipe → ℕ → ℕ
-commit_stage p m = slice_index_or p.releases_at m (length p.stages)
+commit_stage p m = unwrap_or (slice_index_or p.releases_at m None) (length p.stages)
 
 abbrev pub is_reserve : ℕ → Op → Bool
 is_reserve m (ReserveRead n a) = n == m

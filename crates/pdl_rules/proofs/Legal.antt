@@ -6,7 +6,7 @@ use Rattle.std.proofs.lemmas.List.Folds.{list_any-append}
 use Rattle.std.specs.List.{list_any, list_all}
 use Rattle.pdl_model.specs.Tree.{Location, Stmt, Separator, CombRead, Bind, SpecCall, DelayedRead, Write, Reserve, Block, Release, If, Call, Stmts, Nil, Cons, Param, Mem, Pipe}
 use Rattle.pdl_model.specs.Flatten.{Var, var_width, mem_width, width_of, params_of}
-use Rattle.pdl_rules.specs.Places.{Place, Parameter, Memory, Statement, statements, places, on_some_path}
+use Rattle.pdl_rules.specs.Places.{Place, Parameter, Memory, Statement, StartClause, statements, places, on_some_path}
 use Rattle.pdl_rules.specs.Parts.{location_of, passes}
 use Rattle.pdl_rules.specs.Names.{OfVariable, OfMemory, in_location, is_undefined, is_parameter, is_given, is_too_early}
 use Rattle.pdl_rules.specs.Widths.{variables, mem_depth, address_bits, is_wrong_address}
@@ -15,7 +15,7 @@ use Rattle.pdl_rules.specs.Calls.{is_call}
 use Rattle.pdl_rules.specs.Refusal.{KeepsRules, all_straight, is_lined, all_lined, is_comb, is_one_stage, is_in_line}
 use Rattle.pdl_rules.specs.Typed.{is_named, is_memory, is_among, IsLocated, IsLegalStmt, vars_after, written_after, AreLegal, calls, IsLegal}
 use Rattle.pdl_rules.proofs.Straight.{Each, each_front, each_back, Keeps, each_in_line, closing, row, lined_all}
-use Rattle.pdl_rules.proofs.Once.{any_front, any_last, bytes_sym, AreBacked, none_backed, backed_next, written_once}
+use Rattle.pdl_rules.proofs.Once.{any_front, any_last, bytes_sym, AreBacked, none_backed, backed_next, written_once, keeps_locks, each_locks}
 use Rattle.pdl_rules.proofs.Typing.{fits_at, typed, arguments, starts}
 use Rattle.pdl_rules.proofs.Defined.{Stays, stays_more, AreKnown, none_known, known_same, known_more, known_stay, known_params, known_mems, params_named}
 use Rattle.pdl_rules.proofs.Memories.{has_depth, bits_reach, sized, all_deep, deep, params_sized, distinct, memory_there}
@@ -53,7 +53,7 @@ pub ready_next : (p : Pipe) (vs : List Var) (written : List (List ℕ)) (before 
     → IsReady p vs written before → IsReady p (vars_after p.mems vs s) (written_after written s) (before ++ Statement s [] ∷ [])
 ready_next p vs written before s e keeps r = record {
   known = known_next p vs before s e keeps r.known;
-  backed = backed_next p before (Statement s []) keeps r.backed;
+  backed = backed_next p before (Statement s []) (keeps_locks p before _ keeps) r.backed;
   params = λ x t. (stays_next p.mems vs s x (r.params x t)).0;
   wrote = wrote_next written before s r.wrote;
 }
@@ -105,7 +105,7 @@ module _ (p : Pipe) (in_line : all_lined p.body ≡ true) (depth : list_all has_
         fits.0,
         sym fits.1 ∙ eqb-true _ _ (not-false _ each.0.w6),
         not-false _ each.0.f5,
-        false_from_ne_true _ (λ t. both_ways _ (written_once p s at v before xs _ p.end r.backed each) (r.wrote at.mem.name t)),
+        false_from_ne_true _ (λ t. both_ways _ (written_once p s at v [] before xs (StartClause p.start ∷ []) p.end r.backed (each_locks p (Statement (Write s at v) [] ∷ (xs ++ closing p)) before each)) (r.wrote at.mem.name t)),
       )
   legal_stmt vs written before (Reserve s at k) xs e r stays each = tt
   legal_stmt vs written before (Block s at) xs e r stays each = tt
@@ -156,7 +156,7 @@ front_of p = map Parameter p.params ++ map Memory p.mems
 
 backed_all : (p : Pipe) (xs before : List Place) → Each (Keeps p) before xs → AreBacked before → AreBacked (before ++ xs)
 backed_all p [] before each b = subst AreBacked (sym (append-nil before)) b
-backed_all p (x ∷ xs) before each b = subst AreBacked (append_assoc before (x ∷ []) xs) (backed_all p xs (before ++ x ∷ []) each.1 (backed_next p before x each.0 b))
+backed_all p (x ∷ xs) before each b = subst AreBacked (append_assoc before (x ∷ []) xs) (backed_all p xs (before ++ x ∷ []) each.1 (backed_next p before x (keeps_locks p before x each.0) b))
 
 none_written : (before : List Place) (m : List ℕ) → is_among [] m ≡ true → list_any (writes m) before ≡ true
 none_written before m e = absurd (false≢true e)

@@ -1,5 +1,9 @@
 pub mod Texts
 mod Rows
+mod ForkRows
+mod GuessRows
+pub mod Lone
+pub mod Counts
 pub mod Straight
 pub mod Once
 pub mod Typing
@@ -8,5 +12,5 @@ pub mod Memories
 pub mod Legal
 pub mod Unbroken
 pub mod Stages
+pub mod InLine
 pub mod Variables
-pub mod OneStage

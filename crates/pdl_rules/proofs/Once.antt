@@ -3,13 +3,24 @@ use Rattle.std.proofs.Common.{◌≡◌, refl, sym, ap, ap₂, ◌∙◌, subst,
 use mathlib.Core.Path.{fun_ext}
 use Rattle.std.proofs.lemmas.Bool.{false≢true, true≢false, and_parts, and_from, or_cases, or_parts, or_left, or_right, cases_Bool, leb-false, eqb-true, not-false, both_ways}
 use Rattle.std.proofs.lemmas.List.Folds.{list_any-append, list_all-append}
-use Rattle.std.proofs.lemmas.List.Sums.{sum_by_push, sum_by-append, fold-append}
+use Rattle.std.proofs.lemmas.List.Sums.{fold-append}
 use Rattle.std.proofs.lemmas.Slice.Eq.{bytes_eq-Decides}
 use Rattle.std.specs.List.{list_any, list_all}
 use Rattle.pdl_model.specs.Tree.{Span, Expr, Location, R, W, Write, Reserve, Block, Release, Pipe}
-use Rattle.pdl_rules.specs.Places.{Place, Statement, End}
-use Rattle.pdl_rules.specs.Locks.{same_location, same_kind, Hold, Nothing, Reserved, Blocked, Released, blocked, after_place, held, is_blocked_for, is_held_for, lacks_hold, reserves, writes, is_one_too_many, reserves_location, writes_location, leaves_open}
+use Rattle.pdl_rules.specs.Places.{Place, Statement, End, Branch}
+use Rattle.pdl_rules.specs.Locks.{same_location, same_kind, Hold, Nothing, Reserved, Blocked, Released, blocked, after_place, held, is_blocked_for, is_held_for, lacks_hold, is_late_read, reserves, writes, is_one_too_many, is_reserved_again, is_not_written_once, ends_open, reserves_location, writes_location, leaves_open}
 use Rattle.pdl_rules.proofs.Straight.{Each, Keeps}
+pub use Rattle.pdl_rules.proofs.Counts.{weight, count_push, count_cons, counted, count_none}
+use Rattle.pdl_rules.proofs.Counts.{weight, count_push, count_cons, counted}
+
+-- what the rules of locks say of a place, with the places before it on a path
+pub record KeepsLocks (p : Pipe) (before : List Place) (x : Place) : Type 0 where
+  pub l1 : lacks_hold p before x ≡ false
+  pub l3 : is_late_read before x ≡ false
+  pub l4 : is_one_too_many before x ≡ false
+  pub l5 : is_reserved_again before x ≡ false
+  pub l6 : is_not_written_once before x ≡ false
+  pub l7 : ends_open before x ≡ false
 
 -- LISTS
 
@@ -33,35 +44,6 @@ any_last f xs x e = list_any-append f xs (x ∷ []) ∙ or_right (list_any f xs)
 
 pub fold_push : {A B : Type 0} (f : B → A → B) (a : B) (xs : List A) (x : A) → fold f a (xs ++ x ∷ []) ≡ f (fold f a xs) x
 fold_push f a xs x = fold-append f a xs (x ∷ [])
-
--- what an element adds to a count
-abbrev pub weight : Bool → ℕ
-weight b = cond b 1 0
-
-pub count_push : {X : Type 0} (f : X → Bool) (xs : List X) (x : X) → count_by f (xs ++ x ∷ []) ≡ count_by f xs + weight (f x)
-count_push f xs x = sum_by_push (λ y. weight (f y)) xs x
-
-pub count_cons : {X : Type 0} (f : X → Bool) (x : X) (xs : List X) → count_by f (x ∷ xs) ≡ weight (f x) + count_by f xs
-count_cons f x xs = let e = sum_by-append (λ y. weight (f y)) (x ∷ []) xs in omega arith
-
-pub counted : {X : Type 0} (f : X → Bool) (xs : List X) → list_any f xs ≡ true → 1 ≤ count_by f xs
-counted f [] e = absurd (false≢true e)
-counted f (x ∷ xs) e =
-    let sum = count_cons f x xs in
-    let more : 1 ≤ weight (f x) + count_by f xs = at (f x) e (counted f xs) in
-    omega arith
-  where
-    at : (b : Bool) → (b || list_any f xs) ≡ true → (list_any f xs ≡ true → 1 ≤ count_by f xs) → 1 ≤ weight b + count_by f xs
-    at true e h = omega arith
-    at false e h = let one : 1 ≤ count_by f xs = h e in omega arith
-
-pub count_none : {X : Type 0} (f : X → Bool) (xs : List X) → list_any f xs ≡ false → count_by f xs ≡ 0
-count_none f [] h = refl
-count_none f (x ∷ xs) h =
-    let parts = or_parts (f x) (list_any f xs) h in
-    let here : weight (f x) ≡ 0 = ap weight parts.0 in
-    let rest : count_by f xs ≡ 0 = count_none f xs parts.1 in
-    omega (arith, count_cons f x xs)
 
 -- LOCATIONS
 
@@ -197,6 +179,14 @@ pub record AreBacked (before : List Place) : Type 0 where
   pub single : (m : List ℕ) → count_by (reserves W m) before ≤ 1
   pub backed : list_all (is_backed before) before ≡ true
 
+-- in line
+pub keeps_locks : (p : Pipe) (before : List Place) (x : Place) → Keeps p before x → KeepsLocks p before x
+keeps_locks p before x k = record { l1 = k.l1; l3 = k.l3; l4 = k.l4; l5 = k.l5; l6 = k.l6; l7 = k.l7 }
+
+pub each_locks : (p : Pipe) (xs before : List Place) → Each (Keeps p) before xs → Each (KeepsLocks p) before xs
+each_locks p [] before each = tt
+each_locks p (x ∷ xs) before each = (keeps_locks p before x each.0, each_locks p xs (before ++ x ∷ []) each.1)
+
 pub none_backed : AreBacked []
 none_backed = record { single = λ m. omega arith; backed = refl }
 
@@ -226,7 +216,7 @@ backed_here : (p : Pipe) (before : List Place) (x : Place) → lacks_hold p befo
 backed_here p before (Statement (Write s l v) bs) e = reserved_if_blocked l before (held_if_blocked _ (not-false _ e))
 backed_here p before _ e = refl
 
-pub backed_next : (p : Pipe) (before : List Place) (x : Place) → Keeps p before x → AreBacked before → AreBacked (before ++ x ∷ [])
+pub backed_next : (p : Pipe) (before : List Place) (x : Place) → KeepsLocks p before x → AreBacked before → AreBacked (before ++ x ∷ [])
 backed_next p before x k b = record {
   single = λ m. single m (reserves W m x) refl;
   backed = list_all-append _ before (x ∷ []) ∙ and_from _ _
@@ -266,7 +256,7 @@ record IsStuck (l : Location) (before : List Place) : Type 0 where
   reserved : list_any (reserves_location l) before ≡ true
   many : 2 ≤ count_by (writes_location l) before
 
-stays_held : (p : Pipe) (l : Location) (before : List Place) (x : Place) → Keeps p before x → IsStuck l before → after_place l (Blocked W) x ≡ Blocked W
+stays_held : (p : Pipe) (l : Location) (before : List Place) (x : Place) → KeepsLocks p before x → IsStuck l before → after_place l (Blocked W) x ≡ Blocked W
 stays_held p l before (Statement (Reserve s at k) bs) keeps stuck = go (same_location at l) refl
   where
     go : (b : Bool) → same_location at l ≡ b → (if b then Reserved k else Blocked W) ≡ Blocked W
@@ -290,7 +280,7 @@ stays_held p l before (Statement (Release s at) bs) keeps stuck = go (same_locat
     go false e = refl
 stays_held p l before _ keeps stuck = refl
 
-stuck_next : (p : Pipe) (l : Location) (before : List Place) (x : Place) → Keeps p before x → IsStuck l before → IsStuck l (before ++ x ∷ [])
+stuck_next : (p : Pipe) (l : Location) (before : List Place) (x : Place) → KeepsLocks p before x → IsStuck l before → IsStuck l (before ++ x ∷ [])
 stuck_next p l before x keeps stuck = record {
   holds = fold_push (after_place l) Nothing before x ∙ ap (λ h. after_place l h x) stuck.holds ∙ stays_held p l before x keeps stuck;
   reserved = any_front (reserves_location l) before x stuck.reserved;
@@ -303,14 +293,14 @@ pub left_open : (before : List Place) (l : Location) → held l before ≡ Block
 left_open before l e (Statement (Reserve s at k) bs) same = rw (held_alike at l same before, e) refl
 left_open before l e _ same = absurd (false≢true same)
 
-stuck_at_end : (p : Pipe) (l : Location) (xs later before : List Place) (s : Span) → IsStuck l before → Each (Keeps p) before (xs ++ End s ∷ later) → ⊥
+stuck_at_end : (p : Pipe) (l : Location) (xs later before : List Place) (s : Span) → IsStuck l before → Each (KeepsLocks p) before (xs ++ End s ∷ later) → ⊥
 stuck_at_end p l [] later before s stuck each = both_ways _ each.0.l7 (any_weaker _ _ (left_open before l stuck.holds) before stuck.reserved)
 stuck_at_end p l (x ∷ xs) later before s stuck each = stuck_at_end p l xs later (before ++ x ∷ []) s (stuck_next p l before x each.0 stuck) each.1
 
 -- no write of a memory stands behind a write of it
-pub written_once : (p : Pipe) (s : Span) (l : Location) (v : Expr) (before xs later : List Place) (end : Span) → AreBacked before
-    → Each (Keeps p) before (Statement (Write s l v) [] ∷ (xs ++ End end ∷ later)) → list_any (writes l.mem.name) before ≡ false
-written_once p s l v before xs later end b each = go (list_any (writes l.mem.name) before) refl
+pub written_once : (p : Pipe) (s : Span) (l : Location) (v : Expr) (bs : List Branch) (before xs later : List Place) (end : Span) → AreBacked before
+    → Each (KeepsLocks p) before (Statement (Write s l v) bs ∷ (xs ++ End end ∷ later)) → list_any (writes l.mem.name) before ≡ false
+written_once p s l v bs before xs later end b each = go (list_any (writes l.mem.name) before) refl
   where
     here : held l before ≡ Blocked W
     here = held_if_blocked _ (not-false _ each.0.l1)
@@ -318,14 +308,14 @@ written_once p s l v before xs later end b each = go (list_any (writes l.mem.nam
     asked : list_any (reserves_to_write l) before ≡ true
     asked = reserved_if_blocked l before here
 
-    stuck : list_any (writes l.mem.name) before ≡ true → IsStuck l (before ++ Statement (Write s l v) [] ∷ [])
+    stuck : list_any (writes l.mem.name) before ≡ true → IsStuck l (before ++ Statement (Write s l v) bs ∷ [])
     stuck e = record {
-      holds = fold_push (after_place l) Nothing before (Statement (Write s l v) []) ∙ here;
+      holds = fold_push (after_place l) Nothing before (Statement (Write s l v) bs) ∙ here;
       reserved = any_front (reserves_location l) before _ (any_weaker _ _ (reserves_some l) before asked);
       many =
           let one : 1 ≤ count_by (writes_location l) before = counted (writes_location l) before (all_there before l b asked before b.backed e) in
-          let this : weight (writes_location l (Statement (Write s l v) [])) ≡ 1 = ap weight (location_refl l) in
-          omega (arith, count_push (writes_location l) before (Statement (Write s l v) []));
+          let this : weight (writes_location l (Statement (Write s l v) bs)) ≡ 1 = ap weight (location_refl l) in
+          omega (arith, count_push (writes_location l) before (Statement (Write s l v) bs));
     }
 
     go : (b : Bool) → list_any (writes l.mem.name) before ≡ b → b ≡ false

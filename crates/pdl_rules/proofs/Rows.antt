@@ -3,12 +3,12 @@ use Prim.Native.String.{String}
 use Rattle.std.specs.Prelude.{Bool, true, false, ◌≡◌, ℕ, ◌+◌, List, [], ◌∷◌, ◌++◌, map, replicate, Option, Some, None, refl}
 use Rattle.pdl_kit.specs.declared.rule.Rule.{Rule}
 use Rattle.pdl_kit.specs.declared.rule.Rule.TheVariants.{Z4, Z7, N1, N2, N3, W1, W2, W3, W4, W5, W6, F5, L1, L2, L3, L4, L5, L6, L7, S1}
-use Rattle.pdl_model.specs.Tree.{ZeroExtend, SignExtend, Cat, Choose, R, W, If, stmts_of, Pipe}
+use Rattle.pdl_model.specs.Tree.{ZeroExtend, SignExtend, Cat, Choose, R, W, Pipe}
 use Rattle.pdl_rules.specs.Places.{Parameter, Statement}
 use Rattle.pdl_rules.specs.Limits.{breaks_z2, breaks_z3, breaks_z5}
 use Rattle.pdl_rules.specs.Stages.{breaks_l8}
 use Rattle.pdl_rules.specs.Refusal.{Refused, refusal, is_in_line}
-use Rattle.pdl_rules.proofs.Texts.{on_line, number, literal, constant, variable, slice, plus, Line, separator, bind, read, write, reserve, block, release, call, queue, param, comb, whole, pipe, from_line}
+use Rattle.pdl_rules.proofs.Texts.{on_line, number, literal, constant, variable, slice, plus, Line, separator, choice, bind, read, write, reserve, block, release, call, queue, param, comb, whole, pipe, from_line}
 
 -- the refusal of a short source
 abbrev of_pipe : Pipe → Option Refused
@@ -239,10 +239,6 @@ no_call : of_pipe (pipe (address ∷ [])) ≡ at_line S1 4
 no_call = refl
 
 -- PATHS
-
--- an `if` on the line k
-abbrev choice : String → List Line → List Line → Line
-choice g when otherwise k = If (on_line k) (variable g) (stmts_of (from_line (k + 10) when)) (stmts_of (from_line (k + 20) otherwise))
 
 -- what one branch leaves out is missing on its path
 blocked_on_one_path :

@@ -7,7 +7,8 @@ use Rattle.pdl_model.specs.Tree.{Pipe}
 use Rattle.pdl_rules.specs.Places.{Place, places}
 use Rattle.pdl_rules.specs.Parts.{passes}
 use Rattle.pdl_rules.specs.Limits.{is_separator}
-use Rattle.pdl_rules.specs.Stages.{stage_behind, first_stage, is_elsewhere}
+use Rattle.pdl_rules.specs.Stages.{stage_behind}
+use Rattle.pdl_rules.specs.InLine.{first_stage, is_elsewhere}
 use Rattle.pdl_rules.proofs.Once.{weight}
 
 -- a place that passes with none before it

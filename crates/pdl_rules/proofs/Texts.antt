@@ -1,7 +1,7 @@
 -- Short words to write out a tree with its lines.
 use Prim.Native.String.{String}
-use Rattle.std.specs.Prelude.{ℕ, ◌+◌, false, List, [], ◌∷◌, Option, Some, None, codes, length}
-use Rattle.pdl_model.specs.Tree.{Span, Ident, Number, Literal, Add, Expr, Constant, Variable, Slice, Binary, Location, Kind, Stmt, Separator, CombRead, Bind, Write, Reserve, Block, Release, Call, stmts_of, Queue, LockDecl, Param, Mem, Pipe}
+use Rattle.std.specs.Prelude.{ℕ, ◌+◌, true, false, List, [], ◌∷◌, Option, Some, None, codes, length}
+use Rattle.pdl_model.specs.Tree.{Span, Ident, Number, Literal, Add, Expr, Constant, Variable, Slice, Binary, Location, Kind, Stmt, Separator, CombRead, Bind, SpecCall, DelayedRead, Write, Reserve, Block, Release, If, Call, Verify, SpecCheck, SpecBarrier, stmts_of, Queue, LockDecl, Param, Mem, Pipe}
 
 -- the byte 0 of a line
 abbrev pub on_line : ℕ → Span
@@ -60,10 +60,29 @@ release m a k = Release (on_line k) (location m a)
 abbrev pub call : List Expr → Line
 call args k = Call (on_line k) args
 
+abbrev pub delayed_read : String → String → String → Line
+delayed_read x m a k = DelayedRead (on_line k) (ident k x) (location m a)
+
+abbrev pub spec_call : String → List Expr → Line
+spec_call s args k = SpecCall (on_line k) (ident k s) args
+
+abbrev pub verify : String → List Expr → Line
+verify s args k = Verify (on_line k) (ident k s) args
+
+abbrev pub spec_check : Line
+spec_check k = SpecCheck (on_line k)
+
+abbrev pub spec_barrier : Line
+spec_barrier k = SpecBarrier (on_line k)
+
 -- statements on the lines from k on, one a line
 abbrev pub from_line : ℕ → List Line → List Stmt
 from_line k [] = []
 from_line k (s ∷ ss) = s k ∷ from_line (k + 1) ss
+
+-- an `if` on the line k, with its branches on the lines from k + 10 and from k + 20 on
+abbrev pub choice : String → List Line → List Line → Line
+choice g when otherwise k = If (on_line k) (variable g) (stmts_of (from_line (k + 10) when)) (stmts_of (from_line (k + 20) otherwise))
 
 -- PIPES
 
@@ -76,6 +95,10 @@ param x width = record { name = ident 1 x; width = number width }
 abbrev pub comb : ℕ → String → ℕ → ℕ → Option LockDecl → Mem
 comb k m width depth lock =
     record { name = ident k m; width = number width; depth = number depth; delayed = false; lock = lock }
+
+abbrev pub slow : ℕ → String → ℕ → ℕ → Option LockDecl → Mem
+slow k m width depth lock =
+    record { name = ident k m; width = number width; depth = number depth; delayed = true; lock = lock }
 
 -- a pipe p with its parameters on line 1, its memories, its body from line 3 on, and its end and start clause on the lines after it
 abbrev pub whole : List Param → List Mem → List Line → List Literal → Pipe

@@ -1,7 +1,7 @@
 -- A source that is not refused breaks no rule at any place.
 use Rattle.std.proofs.Common.{◌≡◌, refl, ℕ, zero, suc, Bool, true, false, List, [], ◌∷◌, ◌++◌, get_or, Option, Some, None, if◌then◌else◌, subst}
 use Rattle.pdl_kit.specs.declared.rule.Rule.{Rule}
-use Rattle.pdl_kit.specs.declared.rule.Rule.TheVariants.{Z1, Z2, Z3, Z4, Z5, Z6, Z7, N1, N2, N3, W1, W2, W3, W4, W5, W6, F5, L1, L2, L3, L4, L5, L6, L7, L8, S1, S5}
+use Rattle.pdl_kit.specs.declared.rule.Rule.TheVariants.{G1, Z1, Z2, Z3, Z4, Z5, Z6, Z7, N1, N2, N3, W1, W2, W3, W4, W5, W6, F1, F2, F3, F4, F5, L1, L2, L3, L4, L5, L6, L7, L8, S1, S2, S3, S4, S5}
 use Rattle.pdl_model.specs.Tree.{Pipe}
 use Rattle.pdl_rules.specs.Places.{Place, places, line_of}
 use Rattle.pdl_rules.specs.Limits.{is_too_long}
@@ -24,8 +24,8 @@ each_unbroken r p (x ∷ xs) before e =
     let parts = no_line (breaks r p before x) (line_of x) (broken_line r p (before ++ x ∷ []) xs) e in
     (parts.0, each_unbroken r p xs (before ++ x ∷ []) parts.1)
 
--- nor is the k-th of some rules, if none of them is broken first; a number past their end stands for a rule that is never broken
-unbroken : (p : Pipe) (rs : List Rule) (k : ℕ) → first_broken rs p ≡ None → (before : List Place) (x : Place) (later : List Place) → places p ≡ before ++ x ∷ later → breaks (get_or rs k S5) p before x ≡ false
+-- nor is the k-th of some rules, if none of them is broken first; a number past their end stands for a rule that no tree breaks
+unbroken : (p : Pipe) (rs : List Rule) (k : ℕ) → first_broken rs p ≡ None → (before : List Place) (x : Place) (later : List Place) → places p ≡ before ++ x ∷ later → breaks (get_or rs k G1) p before x ≡ false
 unbroken p [] k e before x later same = refl
 unbroken p (r ∷ rs) zero e before x later same =
     let none = each_unbroken r p (places p) [] (no_refusal r (broken_line r p [] (places p)) (first_broken rs p) e).0 in
@@ -48,16 +48,24 @@ keeps_unbroken p e W3 = unbroken p (limits ++ after_limits) 11 e
 keeps_unbroken p e W4 = unbroken p (limits ++ after_limits) 12 e
 keeps_unbroken p e W5 = unbroken p (limits ++ after_limits) 13 e
 keeps_unbroken p e W6 = unbroken p (limits ++ after_limits) 14 e
-keeps_unbroken p e F5 = unbroken p (limits ++ after_limits) 15 e
-keeps_unbroken p e L1 = unbroken p (limits ++ after_limits) 16 e
-keeps_unbroken p e L2 = unbroken p (limits ++ after_limits) 17 e
-keeps_unbroken p e L3 = unbroken p (limits ++ after_limits) 18 e
-keeps_unbroken p e L4 = unbroken p (limits ++ after_limits) 19 e
-keeps_unbroken p e L5 = unbroken p (limits ++ after_limits) 20 e
-keeps_unbroken p e L6 = unbroken p (limits ++ after_limits) 21 e
-keeps_unbroken p e L7 = unbroken p (limits ++ after_limits) 22 e
-keeps_unbroken p e L8 = unbroken p (limits ++ after_limits) 23 e
-keeps_unbroken p e S1 = unbroken p (limits ++ after_limits) 24 e
+keeps_unbroken p e F1 = unbroken p (limits ++ after_limits) 15 e
+keeps_unbroken p e F2 = unbroken p (limits ++ after_limits) 16 e
+keeps_unbroken p e F3 = unbroken p (limits ++ after_limits) 17 e
+keeps_unbroken p e F4 = unbroken p (limits ++ after_limits) 18 e
+keeps_unbroken p e F5 = unbroken p (limits ++ after_limits) 19 e
+keeps_unbroken p e L1 = unbroken p (limits ++ after_limits) 20 e
+keeps_unbroken p e L2 = unbroken p (limits ++ after_limits) 21 e
+keeps_unbroken p e L3 = unbroken p (limits ++ after_limits) 22 e
+keeps_unbroken p e L4 = unbroken p (limits ++ after_limits) 23 e
+keeps_unbroken p e L5 = unbroken p (limits ++ after_limits) 24 e
+keeps_unbroken p e L6 = unbroken p (limits ++ after_limits) 25 e
+keeps_unbroken p e L7 = unbroken p (limits ++ after_limits) 26 e
+keeps_unbroken p e L8 = unbroken p (limits ++ after_limits) 27 e
+keeps_unbroken p e S1 = unbroken p (limits ++ after_limits) 28 e
+keeps_unbroken p e S2 = unbroken p (limits ++ after_limits) 29 e
+keeps_unbroken p e S3 = unbroken p (limits ++ after_limits) 30 e
+keeps_unbroken p e S4 = unbroken p (limits ++ after_limits) 31 e
+keeps_unbroken p e S5 = unbroken p (limits ++ after_limits) 32 e
 keeps_unbroken p e _ = λ before x later same. refl
 
 -- where nothing is refused, no rule is broken

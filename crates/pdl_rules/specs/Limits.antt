@@ -1,9 +1,10 @@
 -- The limits of a source: rules Z1 to Z7. Of each number it is the first place over the limit that breaks the rule.
 use Rattle.std.specs.Prelude.{ℕ, Bool, true, false, not, ◌&&◌, ◌||◌, ◌==◌, nat_lt, nat_le, List, [], ◌∷◌, length, count_by}
 use Rattle.std.specs.List.{list_any}
-use Rattle.pdl_model.specs.Tree.{Literal, Stmt, Separator, CombRead, Bind, SpecCall, DelayedRead, If, Mem, LockKind, Queue, Bypass, Rename, LockDecl}
+use Rattle.std.specs.Option.{is_some}
+use Rattle.pdl_model.specs.Tree.{Literal, Stmt, Separator, If, Mem, LockKind, Queue, Bypass, Rename, LockDecl}
 use Rattle.pdl_rules.specs.Places.{Place, Parameter, Memory, Statement, guard_of, is_among, guards}
-use Rattle.pdl_rules.specs.Parts.{some_literal, passes}
+use Rattle.pdl_rules.specs.Parts.{parts_of, some_literal, passes}
 
 -- Z1: the bytes of a source
 abbrev pub is_too_long : List ℕ → Bool
@@ -35,11 +36,7 @@ breaks_z4 before x = is_memory x && (count_by is_memory before == 16)
 
 -- Z5: parameters, bound names and guesses
 abbrev pub binds : Stmt → Bool
-binds (CombRead _ _ _) = true
-binds (Bind _ _ _) = true
-binds (SpecCall _ _ _) = true
-binds (DelayedRead _ _ _) = true
-binds _ = false
+binds s = is_some (parts_of s).variable || is_some (parts_of s).guess
 
 abbrev pub is_binding : Place → Bool
 is_binding (Parameter _) = true

@@ -1,19 +1,20 @@
 -- Names: rules N1 to N3.
 use Rattle.std.specs.Prelude.{ℕ, Bool, true, false, not, ◌&&◌, ◌||◌, List, [], ◌∷◌, bytes_eq, Option, Some, None}
 use Rattle.std.specs.List.{list_any}
-use Rattle.pdl_model.specs.Tree.{Expr, Variable, Slice, Location, Stmt, CombRead, Bind, SpecCall, DelayedRead, Verify, Param, Pipe}
+use Rattle.pdl_model.specs.Tree.{Ident, Expr, Variable, Slice, Location, Stmt, DelayedRead, Param, Pipe}
 use Rattle.pdl_rules.specs.Places.{Place, Parameter, Memory, Statement, StartClause, places, on_some_path}
-use Rattle.pdl_rules.specs.Parts.{some_part, some_expr_of, location_of, passes}
+use Rattle.pdl_rules.specs.Parts.{some_part, parts_of, some_expr_of, location_of, passes}
 use Rattle.pdl_rules.specs.Limits.{is_separator}
 
 -- DEFINITIONS
 
+abbrev pub name_of : Option Ident → Option (List ℕ)
+name_of None = None
+name_of (Some x) = Some x.name
+
 -- the variable, the memory and the guess that a place defines
 abbrev pub bound_by : Stmt → Option (List ℕ)
-bound_by (CombRead _ x _) = Some x.name
-bound_by (Bind _ x _) = Some x.name
-bound_by (DelayedRead _ x _) = Some x.name
-bound_by _ = None
+bound_by s = name_of (parts_of s).variable
 
 abbrev pub variable_at : Place → Option (List ℕ)
 variable_at (Parameter a) = Some a.name.name
@@ -25,15 +26,18 @@ memory_at (Memory m) = Some m.name.name
 memory_at _ = None
 
 abbrev pub guess_at : Place → Option (List ℕ)
-guess_at (Statement (SpecCall _ g _) _) = Some g.name
+guess_at (Statement s _) = name_of (parts_of s).guess
 guess_at _ = None
 
 -- the name that a place defines, of whatever kind
+abbrev pub either_name : Option (List ℕ) → Option (List ℕ) → Option (List ℕ)
+either_name None y = y
+either_name (Some x) y = Some x
+
 abbrev pub name_at : Place → Option (List ℕ)
 name_at (Parameter a) = Some a.name.name
 name_at (Memory m) = Some m.name.name
-name_at (Statement (SpecCall _ g _) _) = Some g.name
-name_at (Statement s _) = bound_by s
+name_at (Statement s _) = either_name (bound_by s) (name_of (parts_of s).guess)
 name_at _ = None
 
 -- USES
@@ -60,8 +64,7 @@ abbrev pub in_location : (Use → Bool) → Location → Bool
 in_location test at = test (OfMemory at.mem.name) || test (OfVariable at.address.name)
 
 abbrev pub in_verify : (Use → Bool) → Stmt → Bool
-in_verify test (Verify _ g _) = test (OfGuess g.name)
-in_verify test _ = false
+in_verify test s = passes (λ (g : Ident). test (OfGuess g.name)) (parts_of s).verified
 
 -- whether a use at a place passes the test
 abbrev pub some_use : (Use → Bool) → Place → Bool

@@ -1,7 +1,7 @@
 -- The parts of a place that rules look at.
-use Rattle.std.specs.Prelude.{Bool, false, ◌||◌, Option, Some, None}
+use Rattle.std.specs.Prelude.{Bool, false, ◌||◌, List, [], ◌∷◌, Option, Some, None}
 use Rattle.std.specs.List.{list_any}
-use Rattle.pdl_model.specs.Tree.{Literal, Expr, Constant, Variable, Slice, Not, Binary, Cat, LessSigned, ZeroExtend, SignExtend, Choose, Location, Stmt, CombRead, Bind, SpecCall, DelayedRead, Write, Reserve, Block, Release, If, Call, Verify}
+use Rattle.pdl_model.specs.Tree.{Ident, Literal, Expr, Constant, Variable, Slice, Not, Binary, Cat, LessSigned, ZeroExtend, SignExtend, Choose, Location, Stmt, Separator, CombRead, Bind, SpecCall, DelayedRead, Write, Reserve, Block, Release, If, Call, Verify, SpecCheck, SpecBarrier, Stmts}
 use Rattle.pdl_rules.specs.Places.{Place, Statement, StartClause}
 
 -- whether an expression or a part of it passes the test
@@ -17,15 +17,55 @@ some_part test (ZeroExtend a n) = test (ZeroExtend a n) || some_part test a
 some_part test (SignExtend a n) = test (SignExtend a n) || some_part test a
 some_part test (Choose c a b) = test (Choose c a b) || (some_part test c || (some_part test a || some_part test b))
 
--- whether an expression that stands at the place passes the test
+-- THE PARTS OF A STATEMENT
+
+-- the expressions at a statement: its value or its condition alone, or its arguments
+pub data Expressions : Type 0 where
+  NoExpressions : Expressions
+  One : (e : Expr) → Expressions
+  Arguments : (es : List Expr) → Expressions
+
+pub record StmtParts : Type 0 where
+  pub variable : Option Ident  -- that it binds
+  pub guess : Option Ident  -- that it makes
+  pub verified : Option Ident  -- the guess that it verifies
+  pub location : Option Location
+  pub expressions : Expressions
+  pub branches : List Stmts  -- what stands inside it
+
+abbrev pub no_parts : StmtParts
+no_parts = record { variable = None; guess = None; verified = None; location = None; expressions = NoExpressions; branches = [] }
+
+abbrev pub parts_of : Stmt → StmtParts
+parts_of (Separator _) = no_parts
+parts_of (CombRead _ x at) = record no_parts { variable = Some x; location = Some at }
+parts_of (Bind _ x e) = record no_parts { variable = Some x; expressions = One e }
+parts_of (SpecCall _ g args) = record no_parts { guess = Some g; expressions = Arguments args }
+parts_of (DelayedRead _ x at) = record no_parts { variable = Some x; location = Some at }
+parts_of (Write _ at e) = record no_parts { location = Some at; expressions = One e }
+parts_of (Reserve _ at _) = record no_parts { location = Some at }
+parts_of (Block _ at) = record no_parts { location = Some at }
+parts_of (Release _ at) = record no_parts { location = Some at }
+parts_of (If _ c when otherwise) = record no_parts { expressions = One c; branches = when ∷ otherwise ∷ [] }
+parts_of (Call _ args) = record no_parts { expressions = Arguments args }
+parts_of (Verify _ g args) = record no_parts { verified = Some g; expressions = Arguments args }
+parts_of (SpecCheck _) = no_parts
+parts_of (SpecBarrier _) = no_parts
+
+-- TESTS OF PARTS
+
+abbrev pub passes : {T : Type 0} → (T → Bool) → Option T → Bool
+passes test None = false
+passes test (Some x) = test x
+
+-- whether an expression that stands at the statement, or at the place, passes the test
+abbrev pub some_of : (Expr → Bool) → Expressions → Bool
+some_of test NoExpressions = false
+some_of test (One e) = test e
+some_of test (Arguments es) = list_any test es
+
 abbrev pub some_expr_of : (Expr → Bool) → Stmt → Bool
-some_expr_of test (Bind _ _ e) = test e
-some_expr_of test (SpecCall _ _ args) = list_any test args
-some_expr_of test (Write _ _ e) = test e
-some_expr_of test (If _ c _ _) = test c
-some_expr_of test (Call _ args) = list_any test args
-some_expr_of test (Verify _ _ args) = list_any test args
-some_expr_of test _ = false
+some_expr_of test s = some_of test (parts_of s).expressions
 
 abbrev pub some_expr : (Expr → Bool) → Place → Bool
 some_expr test (Statement s _) = some_expr_of test s
@@ -41,19 +81,9 @@ abbrev pub some_literal : (Literal → Bool) → Place → Bool
 some_literal test (StartClause s) = list_any test s.args
 some_literal test x = some_expr (some_part (of_constant test)) x
 
--- the location at a place, where there is one
+-- the location at a statement, where there is one
 abbrev pub location_of : Stmt → Option Location
-location_of (CombRead _ _ at) = Some at
-location_of (DelayedRead _ _ at) = Some at
-location_of (Write _ at _) = Some at
-location_of (Reserve _ at _) = Some at
-location_of (Block _ at) = Some at
-location_of (Release _ at) = Some at
-location_of _ = None
-
-abbrev pub passes : {T : Type 0} → (T → Bool) → Option T → Bool
-passes test None = false
-passes test (Some x) = test x
+location_of s = (parts_of s).location
 
 -- whether the location at a place passes the test
 abbrev pub some_location : (Location → Bool) → Place → Bool

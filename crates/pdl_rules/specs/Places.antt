@@ -1,5 +1,5 @@
 -- The places of a source in text order, and its paths: the ways in which its `if`s can go.
-use Rattle.std.specs.Prelude.{ℕ, Bool, true, false, not, ◌&&◌, List, [], ◌∷◌, ◌++◌, map, filter, fold, if◌then◌else◌, ◌==◌, bytes_eq}
+use Rattle.std.specs.Prelude.{ℕ, suc, Bool, true, false, not, ◌&&◌, List, [], ◌∷◌, ◌++◌, map, filter, fold, drop, length, if◌then◌else◌, ◌==◌, bytes_eq}
 use Rattle.std.specs.List.{list_any, list_all}
 use Rattle.pdl_model.specs.Tree.{Span, Expr, Variable, Stmt, Separator, CombRead, Bind, SpecCall, DelayedRead, Write, Reserve, Block, Release, If, Call, Verify, SpecCheck, SpecBarrier, Stmts, Nil, Cons, Param, Mem, Start, Pipe}
 
@@ -22,10 +22,11 @@ same_guard _ _ = false
 abbrev pub is_among : Guard → List Guard → Bool
 is_among g gs = list_any (same_guard g) gs
 
--- a branch: it is taken where the guard has this truth value
+-- a branch: it is taken where the guard has this truth value; and the statements inside it
 pub record Branch : Type 0 where
   pub guard : Guard
   pub truth : Bool
+  pub inside : Stmts
 
 -- PLACES
 
@@ -42,8 +43,8 @@ abbrev mutual
   pub with_inner : List Branch → Stmt → List Place
   with_inner bs (If s c when otherwise) =
       Statement (If s c when otherwise) bs
-      ∷ (statements (bs ++ record { guard = guard_of s c; truth = true } ∷ []) when
-      ++ statements (bs ++ record { guard = guard_of s c; truth = false } ∷ []) otherwise)
+      ∷ (statements (bs ++ record { guard = guard_of s c; truth = true; inside = when } ∷ []) when
+      ++ statements (bs ++ record { guard = guard_of s c; truth = false; inside = otherwise } ∷ []) otherwise)
   with_inner bs s = Statement s bs ∷ []
 
   pub statements : List Branch → Stmts → List Place
@@ -57,6 +58,10 @@ places p =
     ++ map Memory p.mems
     ++ statements [] p.body
     ++ End p.end ∷ StartClause p.start ∷ []
+
+-- the places behind one that has these before it
+abbrev pub behind : Pipe → List Place → List Place
+behind p before = drop (suc (length before)) (places p)
 
 -- where a statement stands
 abbrev pub span_of : Stmt → Span

@@ -2,7 +2,7 @@
 use Rattle.std.specs.Prelude.{◌≡◌, ℕ, Bool, true, false, not, ◌&&◌, List, [], ◌∷◌, ◌++◌, if◌then◌else◌, Option, Some, None}
 use Rattle.std.specs.List.{list_all}
 use Rattle.pdl_kit.specs.declared.rule.Rule.{Rule}
-use Rattle.pdl_kit.specs.declared.rule.Rule.TheVariants.{Z1, Z2, Z3, Z4, Z5, Z6, Z7, N1, N2, N3, W1, W2, W3, W4, W5, W6, F5, L1, L2, L3, L4, L5, L6, L7, L8, S1}
+use Rattle.pdl_kit.specs.declared.rule.Rule.TheVariants.{G1, Z1, Z2, Z3, Z4, Z5, Z6, Z7, N1, N2, N3, W1, W2, W3, W4, W5, W6, F1, F2, F3, F4, F5, L1, L2, L3, L4, L5, L6, L7, L8, S1, S2, S3, S4, S5, I1, I2, I3, I4, I5, I6, Y1, Y2, Y3, V1, V2, V3, V4, V5, B1, B2, B3, B4, B5, A1, A2, A3, A4, A5, A6, A7, A8}
 use Rattle.pdl_model.specs.Tree.{Stmt, Separator, CombRead, Bind, Write, Reserve, Block, Release, Call, Stmts, Nil, Cons, Mem, Pipe}
 use Rattle.pdl_rules.specs.Places.{Place, places, line_of}
 use Rattle.pdl_rules.specs.Limits.{is_too_long, breaks_z2, breaks_z3, breaks_z4, breaks_z5, breaks_z6, breaks_z7}
@@ -10,10 +10,14 @@ use Rattle.pdl_rules.specs.Names.{breaks_n1, breaks_n2, breaks_n3}
 use Rattle.pdl_rules.specs.Widths.{breaks_w1, breaks_w2, breaks_w3, breaks_w4, breaks_w5, breaks_w6}
 use Rattle.pdl_rules.specs.Locks.{breaks_f5, breaks_l1, breaks_l3, breaks_l4, breaks_l5, breaks_l6, breaks_l7}
 use Rattle.pdl_rules.specs.Stages.{breaks_l2, breaks_l8}
+use Rattle.pdl_rules.specs.Forks.{breaks_f1, breaks_f2, breaks_f3, breaks_f4}
 use Rattle.pdl_rules.specs.Calls.{breaks_s1}
+use Rattle.pdl_rules.specs.Speculation.{breaks_s2, breaks_s3, breaks_s4, breaks_s5}
 
--- whether the place, with these places before it in the text, breaks a rule; rules that no pipe in line breaks are asked nowhere
+-- whether the place, with these places before it in the text, breaks a rule; no tree breaks the rules of bytes and tokens, G1 and Z1, nor those of other files
 abbrev pub breaks : Rule → Pipe → List Place → Place → Bool
+breaks G1 p before x = false
+breaks Z1 p before x = false
 breaks Z2 p before x = breaks_z2 before x
 breaks Z3 p before x = breaks_z3 before x
 breaks Z4 p before x = breaks_z4 before x
@@ -29,6 +33,10 @@ breaks W3 p before x = breaks_w3 p x
 breaks W4 p before x = breaks_w4 p x
 breaks W5 p before x = breaks_w5 p x
 breaks W6 p before x = breaks_w6 p x
+breaks F1 p before x = breaks_f1 x
+breaks F2 p before x = breaks_f2 p before x
+breaks F3 p before x = breaks_f3 p before x
+breaks F4 p before x = breaks_f4 p x
 breaks F5 p before x = breaks_f5 p x
 breaks L1 p before x = breaks_l1 p before x
 breaks L2 p before x = breaks_l2 before x
@@ -39,14 +47,44 @@ breaks L6 p before x = breaks_l6 p before x
 breaks L7 p before x = breaks_l7 p before x
 breaks L8 p before x = breaks_l8 p before x
 breaks S1 p before x = breaks_s1 p before x
-breaks _ p before x = false
+breaks S2 p before x = breaks_s2 p before x
+breaks S3 p before x = breaks_s3 before x
+breaks S4 p before x = breaks_s4 p before x
+breaks S5 p before x = breaks_s5 p before x
+breaks I1 p before x = false
+breaks I2 p before x = false
+breaks I3 p before x = false
+breaks I4 p before x = false
+breaks I5 p before x = false
+breaks I6 p before x = false
+breaks Y1 p before x = false
+breaks Y2 p before x = false
+breaks Y3 p before x = false
+breaks V1 p before x = false
+breaks V2 p before x = false
+breaks V3 p before x = false
+breaks V4 p before x = false
+breaks V5 p before x = false
+breaks B1 p before x = false
+breaks B2 p before x = false
+breaks B3 p before x = false
+breaks B4 p before x = false
+breaks B5 p before x = false
+breaks A1 p before x = false
+breaks A2 p before x = false
+breaks A3 p before x = false
+breaks A4 p before x = false
+breaks A5 p before x = false
+breaks A6 p before x = false
+breaks A7 p before x = false
+breaks A8 p before x = false
 
 -- the rules of the tree in their order
 abbrev pub limits : List Rule
 limits = Z2 ∷ Z3 ∷ Z4 ∷ Z5 ∷ Z6 ∷ Z7 ∷ []
 
 abbrev pub after_limits : List Rule
-after_limits = N1 ∷ N2 ∷ N3 ∷ W1 ∷ W2 ∷ W3 ∷ W4 ∷ W5 ∷ W6 ∷ F5 ∷ L1 ∷ L2 ∷ L3 ∷ L4 ∷ L5 ∷ L6 ∷ L7 ∷ L8 ∷ S1 ∷ []
+after_limits = N1 ∷ N2 ∷ N3 ∷ W1 ∷ W2 ∷ W3 ∷ W4 ∷ W5 ∷ W6 ∷ F1 ∷ F2 ∷ F3 ∷ F4 ∷ F5 ∷ L1 ∷ L2 ∷ L3 ∷ L4 ∷ L5 ∷ L6 ∷ L7 ∷ L8 ∷ S1 ∷ S2 ∷ S3 ∷ S4 ∷ S5 ∷ []
 
 -- a rule that is broken, and the line of its lowest place
 pub record Refused : Type 0 where

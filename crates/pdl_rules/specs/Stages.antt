@@ -1,19 +1,58 @@
--- Stages: rules L2 and L8. The stages of a pipe stand in a line: a place's stage is the number of separators before it in the text.
-use Rattle.std.specs.Prelude.{ℕ, suc, Bool, false, not, ◌&&◌, ◌==◌, nat_lt, List, [], ◌∷◌, ◌++◌, count_by, if◌then◌else◌, bytes_eq, Option, Some, None}
+-- Stages: rules L2 and L8. The stage of a place goes by the text: the k-th separator begins stage k.
+use Rattle.std.specs.Prelude.{ℕ, suc, Bool, true, false, not, ◌&&◌, ◌==◌, nat_lt, List, [], ◌∷◌, ◌++◌, count_by, if◌then◌else◌, bytes_eq, Option, Some, None}
+use Rattle.std.specs.List.{list_any}
 use Rattle.pdl_model.specs.Tree.{CombRead, DelayedRead, Reserve, Release, Pipe}
-use Rattle.pdl_rules.specs.Places.{Place, Statement, places}
+use Rattle.pdl_rules.specs.Places.{Place, Statement, Guard, Branch, same_guard, same_truth, on_path, paths, places, behind}
 use Rattle.pdl_rules.specs.Parts.{passes}
 use Rattle.pdl_rules.specs.Limits.{is_separator}
 use Rattle.pdl_rules.specs.Locks.{is_locked}
 
--- the stage of what stands behind these places
+-- how many stages have begun after stage 0 by these places
 abbrev pub stage_behind : List Place → ℕ
 stage_behind before = count_by is_separator before
+
+-- the branches that a place stands in
+abbrev pub branches_of : Place → List Branch
+branches_of (Statement s bs) = bs
+branches_of _ = []
+
+abbrev pub same_branch : Branch → Branch → Bool
+same_branch a b = same_guard a.guard b.guard && same_truth a.truth b.truth
+
+-- whether what stands in the branches bs stands in these too
+abbrev pub are_outer : List Branch → List Branch → Bool
+are_outer [] bs = true
+are_outer (a ∷ xs) [] = false
+are_outer (a ∷ xs) (b ∷ bs) = same_branch a b && are_outer xs bs
+
+-- the stage of what stands in the branches bs: that of the last separator before it whose branches it stands in too, else the first; `begun` stages have begun, and the last such one is `found`
+abbrev pub stage_from : ℕ → ℕ → List Branch → List Place → ℕ
+stage_from begun found bs [] = found
+stage_from begun found bs (x ∷ xs) =
+    if is_separator x
+    then stage_from (suc begun) (if are_outer (branches_of x) bs then suc begun else found) bs xs
+    else stage_from begun found bs xs
+
+abbrev pub stage_in : List Place → List Branch → ℕ
+stage_in before bs = stage_from 0 0 bs before
+
+abbrev pub stage_of : List Place → Place → ℕ
+stage_of before x = stage_in before (branches_of x)
 
 -- the stage of the first of these places that passes the test; the others stand before them
 abbrev pub first_stage : (Place → Bool) → List Place → List Place → Option ℕ
 first_stage test before [] = None
-first_stage test before (x ∷ xs) = if test x then Some (stage_behind before) else first_stage test (before ++ x ∷ []) xs
+first_stage test before (x ∷ xs) = if test x then Some (stage_of before x) else first_stage test (before ++ x ∷ []) xs
+
+-- and the stages of all that pass it
+abbrev pub stages_that : (Place → Bool) → List Place → List Place → List ℕ
+stages_that test before [] = []
+stages_that test before (x ∷ xs) =
+    if test x then stage_of before x ∷ stages_that test (before ++ x ∷ []) xs else stages_that test (before ++ x ∷ []) xs
+
+-- whether a place in stage s has one before it that passes the test, the first of them in another stage
+abbrev pub is_elsewhere : (Place → Bool) → List Place → ℕ → Bool
+is_elsewhere test before s = passes (λ k. not (k == s)) (first_stage test [] before)
 
 -- whether a place reserves the memory, and whether it releases it
 abbrev pub reserves_memory : List ℕ → Place → Bool
@@ -25,19 +64,26 @@ releases_memory m (Statement (Release _ at) _) = bytes_eq at.mem.name m
 releases_memory m _ = false
 
 -- L2: a reserve of a memory in another stage than its first reserve, or a release in another one than its first release
-abbrev pub is_elsewhere : (Place → Bool) → List Place → Bool
-is_elsewhere test before = passes (λ s. not (s == stage_behind before)) (first_stage test [] before)
-
 abbrev pub breaks_l2 : List Place → Place → Bool
-breaks_l2 before (Statement (Reserve _ at _) _) = is_elsewhere (reserves_memory at.mem.name) before
-breaks_l2 before (Statement (Release _ at) _) = is_elsewhere (releases_memory at.mem.name) before
+breaks_l2 before (Statement (Reserve _ at _) bs) = is_elsewhere (reserves_memory at.mem.name) before (stage_in before bs)
+breaks_l2 before (Statement (Release _ at) bs) = is_elsewhere (releases_memory at.mem.name) before (stage_in before bs)
 breaks_l2 before _ = false
 
--- L8: a read of a locked memory that is bound behind the stage of its releases; it is bound in its stage, a delayed one in the next
+-- the stage that the next separator on a path begins, of which this many began before; 0 where there is none
+abbrev pub next_on : List Guard → ℕ → List Place → ℕ
+next_on path begun [] = 0
+next_on path begun (x ∷ xs) =
+    if is_separator x then (if on_path path x then suc begun else next_on path (suc begun) xs) else next_on path begun xs
+
+-- L8: on some path a read of a locked memory that is bound behind the stage of its releases; a comb read is bound in its stage, a delayed one in the next on the path
 abbrev pub is_bound_late : Pipe → List ℕ → ℕ → Bool
 is_bound_late p m s = is_locked p.mems m && passes (λ c. nat_lt c s) (first_stage (releases_memory m) [] (places p))
 
+abbrev pub bound_late : Pipe → List Guard → List Place → Place → Bool
+bound_late p path before (Statement (CombRead _ _ at) bs) = is_bound_late p at.mem.name (stage_in before bs)
+bound_late p path before (Statement (DelayedRead _ _ at) bs) =
+    is_bound_late p at.mem.name (next_on path (stage_behind before) (behind p before))
+bound_late p path before _ = false
+
 abbrev pub breaks_l8 : Pipe → List Place → Place → Bool
-breaks_l8 p before (Statement (CombRead _ _ at) _) = is_bound_late p at.mem.name (stage_behind before)
-breaks_l8 p before (Statement (DelayedRead _ _ at) _) = is_bound_late p at.mem.name (suc (stage_behind before))
-breaks_l8 p before _ = false
+breaks_l8 p before x = list_any (λ path. on_path path x && bound_late p path before x) (paths p)

@@ -2,10 +2,10 @@
 use Rattle.std.specs.Prelude.{ℕ, ◌+◌, ◌^◌, Bool, true, false, not, ◌||◌, ◌==◌, nat_eq, nat_lt, nat_le, List, [], ◌∷◌, ◌++◌, map, fold, count_by, if◌then◌else◌, bytes_eq, Option, Some, None}
 use Rattle.std.specs.Cmp.Lexicographic.{pointwise}
 use Rattle.std.specs.List.{list_any}
-use Rattle.pdl_model.specs.Tree.{Literal, Expr, Slice, Binary, Cat, LessSigned, ZeroExtend, SignExtend, Choose, Location, CombRead, Bind, SpecCall, DelayedRead, Write, If, Call, Verify, Param, Mem, Pipe}
+use Rattle.pdl_model.specs.Tree.{Literal, Expr, Slice, Binary, Cat, LessSigned, ZeroExtend, SignExtend, Choose, Location, CombRead, Bind, DelayedRead, Write, If, Param, Mem, Pipe}
 use Rattle.pdl_model.specs.Flatten.{Var, var_width, mem_width, width_of}
 use Rattle.pdl_rules.specs.Places.{Place, Parameter, Statement, StartClause, places}
-use Rattle.pdl_rules.specs.Parts.{some_part, some_expr, some_literal, some_location}
+use Rattle.pdl_rules.specs.Parts.{NoExpressions, One, Arguments, Expressions, parts_of, some_part, some_expr, some_literal, some_location}
 use Rattle.pdl_rules.specs.Limits.{depths}
 
 -- VARIABLES
@@ -93,10 +93,13 @@ breaks_w4 p x = some_location (is_wrong_address p) x
 abbrev pub are_no_arguments : Pipe → List ℕ → Bool
 are_no_arguments p ws = not (pointwise nat_eq ws (map (λ (a : Param). a.width.value) p.params))
 
+abbrev pub has_wrong_arguments : Pipe → Expressions → Bool
+has_wrong_arguments p NoExpressions = false
+has_wrong_arguments p (One e) = false
+has_wrong_arguments p (Arguments es) = are_no_arguments p (map (width_of (variables p)) es)
+
 abbrev pub breaks_w5 : Pipe → Place → Bool
-breaks_w5 p (Statement (SpecCall _ _ args) _) = are_no_arguments p (map (width_of (variables p)) args)
-breaks_w5 p (Statement (Call _ args) _) = are_no_arguments p (map (width_of (variables p)) args)
-breaks_w5 p (Statement (Verify _ _ args) _) = are_no_arguments p (map (width_of (variables p)) args)
+breaks_w5 p (Statement s _) = has_wrong_arguments p (parts_of s).expressions
 breaks_w5 p (StartClause s) = are_no_arguments p (map (λ (l : Literal). l.width) s.args)
 breaks_w5 p _ = false
 

@@ -1,6 +1,7 @@
 use Rattle.std.proofs.Common.{◌≡◌, map, take, drop, []}
 use Rattle.pdl_types.specs.View.{place_view}
-use Rattle.pdl_rules.specs.Stages.{first_stage, releases_memory}
+use Rattle.pdl_rules.specs.Stages.{releases_memory}
+use Rattle.pdl_rules.specs.InLine.{first_stage}
 use Rattle.pdl_lockrules.proofs.stages.first_release.Given as goal
 
 -- none of those so far does

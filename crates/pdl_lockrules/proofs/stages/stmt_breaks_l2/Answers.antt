@@ -1,6 +1,6 @@
 use Rattle.std.proofs.Common.{ap, sym, ◌∙◌, map, []}
 use Rattle.pdl_rules.specs.Places.{Statement}
-use Rattle.pdl_rules.specs.Stages as spec
+use Rattle.pdl_rules.specs.InLine as spec
 use Rattle.pdl_syntax.specs.View.{stmt_view}
 use Rattle.pdl_types.specs.View.{place_view}
 use Rattle.pdl_lockrules.proofs.Views.{reserve_view, release_view}

@@ -1,0 +1,74 @@
+-- Guesses: rules S2 to S5. V is the stage of the first `verify` in the text.
+use Rattle.std.specs.Prelude.{ℕ, Bool, true, false, not, ◌&&◌, ◌==◌, nat_lt, List, [], ◌∷◌, bytes_eq, Option}
+use Rattle.std.specs.List.{list_any}
+use Rattle.pdl_model.specs.Tree.{W, SpecCall, Reserve, Release, Verify, SpecCheck, SpecBarrier, Pipe}
+use Rattle.pdl_rules.specs.Places.{Place, Statement, Guard, on_path, paths, on_some_path, places}
+use Rattle.pdl_rules.specs.Parts.{passes}
+use Rattle.pdl_rules.specs.Locks.{held, is_held_for}
+use Rattle.pdl_rules.specs.Stages.{stage_in, stage_of, first_stage, stages_that, is_elsewhere}
+
+abbrev pub is_verify : Place → Bool
+is_verify (Statement (Verify _ _ _) _) = true
+is_verify _ = false
+
+-- V, none in a pipe without a `verify`
+abbrev pub verify_stage : Pipe → Option ℕ
+verify_stage p = first_stage is_verify [] (places p)
+
+abbrev pub is_before_verify : Pipe → ℕ → Bool
+is_before_verify p s = passes (λ v. nat_lt s v) (verify_stage p)
+
+-- S2: on some path a guess that isn't verified exactly once, or not in a later stage
+abbrev pub verifies : List ℕ → Place → Bool
+verifies guess (Statement (Verify _ g _) _) = bytes_eq g.name guess
+verifies guess _ = false
+
+abbrev pub verify_stages : Pipe → List Guard → List ℕ → List ℕ
+verify_stages p path guess = stages_that (λ y. on_path path y && verifies guess y) [] (places p)
+
+abbrev pub is_once_after : ℕ → List ℕ → Bool
+is_once_after s (v ∷ []) = nat_lt s v
+is_once_after s _ = false
+
+abbrev pub is_unverified : Pipe → List Guard → List Place → Place → Bool
+is_unverified p path before (Statement (SpecCall _ g _) bs) = not (is_once_after (stage_in before bs) (verify_stages p path g.name))
+is_unverified p path before _ = false
+
+abbrev pub breaks_s2 : Pipe → List Place → Place → Bool
+breaks_s2 p before x = list_any (λ path. on_path path x && is_unverified p path before x) (paths p)
+
+-- S3: a `verify` in another stage than the first one
+abbrev pub breaks_s3 : List Place → Place → Bool
+breaks_s3 before x = is_verify x && is_elsewhere is_verify before (stage_of before x)
+
+-- S4: on some path the release of a write reservation in a stage before V with no `spec_barrier` before it on the path
+abbrev pub is_barrier : Place → Bool
+is_barrier (Statement (SpecBarrier _) _) = true
+is_barrier _ = false
+
+abbrev pub releases_unsure : List Place → Place → Bool
+releases_unsure earlier (Statement (Release _ at) _) = is_held_for W (held at earlier) && not (list_any is_barrier earlier)
+releases_unsure earlier _ = false
+
+abbrev pub breaks_s4 : Pipe → List Place → Place → Bool
+breaks_s4 p before x = is_before_verify p (stage_of before x) && on_some_path (λ earlier. releases_unsure earlier x) p before x
+
+-- S5: on some path a reserve or a `spec_call` in a stage before V with no `spec_check` or `spec_barrier` before it in that stage
+abbrev pub needs_check : Place → Bool
+needs_check (Statement (Reserve _ _ _) _) = true
+needs_check (Statement (SpecCall _ _ _) _) = true
+needs_check _ = false
+
+abbrev pub is_check : Place → Bool
+is_check (Statement (SpecCheck _) _) = true
+is_check (Statement (SpecBarrier _) _) = true
+is_check _ = false
+
+-- whether one of these places on the path is a check in stage s
+abbrev pub is_checked : List Guard → List Place → ℕ → Bool
+is_checked path before s = list_any (λ k. k == s) (stages_that (λ y. on_path path y && is_check y) [] before)
+
+abbrev pub breaks_s5 : Pipe → List Place → Place → Bool
+breaks_s5 p before x =
+    needs_check x && is_before_verify p (stage_of before x)
+    && list_any (λ path. on_path path x && not (is_checked path before (stage_of before x))) (paths p)
