@@ -1,5 +1,5 @@
 -- A pipe in line that breaks no rule passes the tests of the facts that the theorems take.
-use Rattle.std.proofs.Common.{◌≡◌, refl, sym, ap, ap₂, ◌∙◌, subst, ℕ, suc, ◌+◌, ◌<◌, Bool, true, false, ◌||◌, not, List, [], ◌∷◌, ◌++◌, length, map, nat_lt, nat_le, ◌==◌, arith, eq-eqb, le-leb, lt-ltb, append_assoc, ⊎_elim}
+use Rattle.std.proofs.Common.{◌≡◌, refl, sym, ap, ap₂, ◌∙◌, subst, ℕ, suc, ◌+◌, ◌<◌, Bool, true, false, ◌&&◌, ◌||◌, not, List, [], ◌∷◌, ◌++◌, length, map, nat_lt, nat_le, ◌==◌, arith, eq-eqb, le-leb, lt-ltb, append_assoc, ⊎_elim}
 use Rattle.std.specs.Prelude.{IsTrue}
 use Rattle.std.proofs.lemmas.Bool.{and_parts, and_from, or_left, or_right, cases_Bool}
 use Rattle.std.proofs.lemmas.List.Folds.{list_any-append}
@@ -9,10 +9,11 @@ use Rattle.pdl_model.specs.Flat
 use Rattle.pdl_model.specs.Flatten.{Var, flat, at_start, params_of, mems_of, start_of, past_all, first_stages, mem_of, separators}
 use Rattle.pdl_model.specs.Flatten
 use Rattle.pdl_model.specs.Stages
-use Rattle.pdl_model.specs.Stages.{mem_at, reserve_stage, commit_stage, is_reserve, is_release, is_verify}
+use Rattle.pdl_model.specs.Stages.{mem_at, reserve_stage, commit_stage, is_reserve, is_release, is_verify, verify_stage}
 use Rattle.pdl_rules.specs.Places.{Place, Parameter, Memory, statements, places}
 use Rattle.pdl_rules.specs.Limits.{is_separator}
-use Rattle.pdl_rules.specs.Stages.{stage_behind, first_stage, reserves_memory, releases_memory}
+use Rattle.pdl_rules.specs.Stages.{stage_behind, reserves_memory, releases_memory}
+use Rattle.pdl_rules.specs.InLine.{first_stage}
 use Rattle.pdl_rules.specs.Locks.{reserves, writes, reserves_location}
 use Rattle.pdl_rules.specs.Calls
 use Rattle.pdl_rules.specs.Refusal.{KeepsRules, all_straight, is_comb, is_one_stage, all_lined, is_in_line}
@@ -23,11 +24,13 @@ use Rattle.pdl_rules.proofs.Stages.{first_behind, first_nowhere}
 use Rattle.pdl_rules.proofs.Memories.{all_deep, has_depth, distinct}
 use Rattle.pdl_rules.proofs.Legal.{front_of, at_body, at_mems, ready_first}
 use Rattle.pdl_refine.specs.Scans.{is_plain, none_of, all_at, reads_ok, no_scan, phases_ok, phase_all, Fresh, is_over, called, is_fetch}
-use Rattle.pdl_refine.specs.Checks.{in_text_order, knows, makes_once, on_paths, mem_passes, path_passes, stage_passes, lock_passes, stages_pass, locks_pass, stmts_pass, passes}
+use Rattle.pdl_refine.specs.Certain.{Unmade, makings_ok, making_all, is_made, all_sure}
+use Rattle.pdl_refine.specs.Checks.{in_text_order, knows, makes_once, is_guess, is_below, on_paths, mem_passes, path_passes, stage_passes, lock_passes, stages_pass, locks_pass, stmts_pass, passes}
 use Rattle.pdl_refine.specs.Accepted.{Checked, Text}
 use Rattle.pdl_refine.proofs.Passes.{checked, text}
+use Rattle.pdl_refine.proofs.Texts.{calls_certain, all_certain, no_verify}
 use Rattle.pdl_promise.proofs.Numbers.{mem_low}
-use Rattle.pdl_promise.proofs.Rows.{op_of, row, rows, stage_or, rows_are, cuts, cuts_are, no_cuts, link, stages_from, line_is, stages_long, leads, stage_leads, in_order, unguarded, none_is, all_is, no_fetch_op, no_verify_op, first_none}
+use Rattle.pdl_promise.proofs.Rows.{op_of, row, rows, stage_or, rows_are, cuts, cuts_are, no_cuts, link, stages_from, line_is, stages_long, leads, stage_leads, in_order, unguarded, none_is, all_is, no_fetch_op, no_verify_op, no_guess_op, first_none}
 use Rattle.pdl_promise.proofs.Walk.{IsFrom, AtEach, each_row}
 use Rattle.pdl_promise.proofs.ReadsKept.{reads_kept, none_scanned}
 use Rattle.pdl_promise.proofs.Sites.{site_from, site_all, reserve_agrees, release_agrees, reserve_stands, release_stands}
@@ -45,8 +48,8 @@ formed p stmts stages =
       stmts = stmts;
       stages = stages;
       start = start_of p.start.args;
-      reserves_at = first_stages is_reserve 0 stmts 0 p.mems;
-      releases_at = first_stages is_release (length stages) stmts 0 p.mems;
+      reserves_at = first_stages is_reserve stmts 0 p.mems;
+      releases_at = first_stages is_release stmts 0 p.mems;
     }
 
 abbrev pub body_rows : Pipe → List Flat.Stmt
@@ -114,14 +117,14 @@ module _ (p : Pipe) (in_line : all_lined p.body ≡ true) (each : Each (Keeps p)
 
   reserve_is : (n : List ℕ) → is_memory p.mems n ≡ true → reserve_stage q (mem_of p.mems n) ≡ stage_or 0 (first_stage (reserves_memory n) [] (places p))
   reserve_is n h =
-      stage_at is_reserve 0 0 (body_rows p) (mem_of p.mems n) p.mems (mem_low p.mems n h)
+      ap (stage_or 0) (stage_at is_reserve (body_rows p) (mem_of p.mems n) p.mems (mem_low p.mems n h))
       ∙ site_from p (reserves_memory n) (is_reserve (mem_of p.mems n)) (reserve_agrees p in_line depth n h) refl refl refl 0 0 (params_of p.params) [] (front_of p) p.body from_start
       ∙ ap (stage_or 0) (sym (behind_front p (reserves_memory n) (λ a. refl) (λ m. refl)))
 
   commit_is : (n : List ℕ) → is_memory p.mems n ≡ true → commit_stage q (mem_of p.mems n) ≡ stage_or (suc (cuts p.body)) (first_stage (releases_memory n) [] (places p))
   commit_is n h =
-      stage_at is_release (length (stages_from 0 p.body)) (length (stages_from 0 p.body)) (body_rows p) (mem_of p.mems n) p.mems (mem_low p.mems n h)
-      ∙ ap (λ d. Flatten.first_stage (is_release (mem_of p.mems n)) d (body_rows p)) long
+      ap (stage_or (length (stages_from 0 p.body))) (stage_at is_release (body_rows p) (mem_of p.mems n) p.mems (mem_low p.mems n h))
+      ∙ ap (λ d. stage_or d (Flatten.first_stage (is_release (mem_of p.mems n)) (body_rows p))) long
       ∙ site_from p (releases_memory n) (is_release (mem_of p.mems n)) (release_agrees p in_line depth n h) refl refl refl (suc (cuts p.body)) 0 (params_of p.params) [] (front_of p) p.body from_start
       ∙ ap (stage_or (suc (cuts p.body))) (sym (behind_front p (releases_memory n) (λ a. refl) (λ m. refl)))
 
@@ -150,12 +153,12 @@ module _ (p : Pipe) (in_line : all_lined p.body ≡ true) (each : Each (Keeps p)
 
   plain_from : (m : ℕ) → m < length p.mems → is_plain (mem_at q m).lock ≡ true → reserve_stage q m ≡ 0
   plain_from m low plain =
-      stage_at is_reserve 0 0 (body_rows p) m p.mems low
+      ap (stage_or 0) (stage_at is_reserve (body_rows p) m p.mems low)
       ∙ first_none (is_reserve m) 0 (body_rows p) (none_reserved m plain)
 
   plain_to : (m : ℕ) → m < length p.mems → is_plain (mem_at q m).lock ≡ true → commit_stage q m ≡ length (stages_from 0 p.body)
   plain_to m low plain =
-      stage_at is_release (length (stages_from 0 p.body)) (length (stages_from 0 p.body)) (body_rows p) m p.mems low
+      ap (stage_or (length (stages_from 0 p.body))) (stage_at is_release (body_rows p) m p.mems low)
       ∙ first_none (is_release m) (length (stages_from 0 p.body)) (body_rows p) (none_released m plain)
 
   plain_or : (m : ℕ) (b : Bool) → (is_plain (mem_at q m).lock ≡ true → b ≡ true) → (not (is_plain (mem_at q m).lock) || b) ≡ true
@@ -203,6 +206,18 @@ module _ (p : Pipe) (in_line : all_lined p.body ≡ true) (each : Each (Keeps p)
   called_once : (makes_once false (body_rows p) ≡ true) × (called false (body_rows p) ≡ true)
   called_once = one_call p 0 (params_of p.params) [] (front_of p) p.body from_start false (none_front p Calls.is_call (λ a. refl) (λ m. refl))
 
+  unguessed : none_of is_guess (body_rows p) ≡ true
+  unguessed = none_is is_guess (body_rows p) (each_passes (λ x. not (is_guess x.op)) (λ k vs written before later s h. no_guess_op p.mems vs s))
+
+  unverified : none_of is_verify (body_rows p) ≡ true
+  unverified = none_is is_verify (body_rows p) (each_passes (λ x. not (is_verify x.op)) (λ k vs written before later s h. no_verify_op p.mems vs s))
+
+  -- without guesses all is certain
+  certain : (makings_ok (verify_stage (body_rows p)) Unmade (body_rows p) && (is_made (making_all Unmade (body_rows p)) && all_sure (verify_stage (body_rows p)) false no_scan (body_rows p))) ≡ true
+  certain =
+      let c = calls_certain (verify_stage (body_rows p)) false (body_rows p) unguessed called_once.0 called_once.1 in
+      and_from _ _ c.0 (and_from _ _ c.1 (ap (λ v. all_sure v false no_scan (body_rows p)) (no_verify (body_rows p) unverified) ∙ all_certain false no_scan (body_rows p)))
+
   path_ok : path_passes q (body_rows p) ≡ true
   path_ok =
       and_from _ _ ordered
@@ -210,7 +225,7 @@ module _ (p : Pipe) (in_line : all_lined p.body ≡ true) (each : Each (Keeps p)
       (and_from _ _ stmts_known
       (and_from _ _ reads
       (and_from _ _ (below_all (mem_passes q (body_rows p)) (length (mems_of p.mems)) (λ m low. mem_ok m (subst (λ n. m < n) (mems_length p.mems) low)))
-      (and_from _ _ called_once.0 called_once.1)))))
+      certain))))
 
   -- THE TEXT
 
@@ -220,13 +235,13 @@ module _ (p : Pipe) (in_line : all_lined p.body ≡ true) (each : Each (Keeps p)
       and_from _ _ (lt-ltb 0 (length (stages_from 0 p.body)) (omega arith))
       (below_all (stage_passes q) (length (stages_from 0 p.body)) (λ s low. subst (λ n. leads (length (stages_from 0 p.body)) n (Stages.stage_at q s) ≡ true) (let i : 0 + s ≡ s = omega arith in i) (stage_leads (length (stages_from 0 p.body)) 0 s p.body (omega arith) (omega arith))))
 
-  stages_short : (test : ℕ → Flat.Op → Bool) (k : ℕ) → nat_le (length (first_stages test k (body_rows p) 0 p.mems)) (length (mems_of p.mems)) ≡ true
-  stages_short test k = le-leb _ _ (let e = stages_length test k (body_rows p) 0 p.mems in let f = mems_length p.mems in omega arith)
+  stages_short : (test : ℕ → Flat.Op → Bool) → nat_le (length (first_stages test (body_rows p) 0 p.mems)) (length (mems_of p.mems)) ≡ true
+  stages_short test = le-leb _ _ (let e = stages_length test (body_rows p) 0 p.mems in let f = mems_length p.mems in omega arith)
 
   locks_ok : locks_pass q ≡ true
   locks_ok =
-      and_from _ _ (stages_short is_reserve 0)
-      (and_from _ _ (stages_short is_release (length (stages_from 0 p.body)))
+      and_from _ _ (stages_short is_reserve)
+      (and_from _ _ (stages_short is_release)
       (below_all (lock_passes q) (length (mems_of p.mems)) (λ m low. lock_ok m (subst (λ n. m < n) (mems_length p.mems) low))))
 
   stmts_ok : stmts_pass q ≡ true
@@ -234,7 +249,7 @@ module _ (p : Pipe) (in_line : all_lined p.body ≡ true) (each : Each (Keeps p)
       and_from _ _ ordered
       (and_from _ _ stmts_known
       (and_from _ _ (none_is is_fetch (body_rows p) (each_passes (λ x. not (is_fetch x.op)) (λ k vs written before later s h. no_fetch_op p.mems vs s)))
-      (and_from _ _ (none_is is_verify (body_rows p) (each_passes (λ x. not (is_verify x.op)) (λ k vs written before later s h. no_verify_op p.mems vs s)))
+      (and_from _ _ (ap (is_below (length (stages_from 0 p.body))) (no_verify (body_rows p) unverified))
       (unguarded 0 p.mems (params_of p.params) p.body).1)))
 
   formed_passes : passes q ≡ true
@@ -257,7 +272,9 @@ pub checked_of : (p : Pipe) → IsTrue (is_in_line p) → KeepsRules p → Check
 checked_of p e rules = checked (flat p) (in_line_passes p e rules)
 
 pub text_of : (p : Pipe) → IsTrue (is_in_line p) → KeepsRules p → Text (flat p)
-text_of p e rules = text (flat p) (in_line_passes p e rules)
+text_of p e rules =
+    let in_line = lined_body p e in
+    text (flat p) (in_line_passes p e rules) (subst (λ (q : Flat.Pipe). none_of is_verify q.stmts ≡ true) (sym (flat_is p in_line)) (unverified p in_line (each_in_line p in_line rules)))
 
 -- it has a stage more than separators
 pub stages_in_line : (p : Pipe) → IsTrue (is_in_line p) → length (flat p).stages ≡ suc (separators p.body)

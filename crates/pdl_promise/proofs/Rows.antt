@@ -1,5 +1,5 @@
 -- The flat form of a body in line: one row for each statement that is no separator, and a stage more than there are separators.
-use Rattle.std.proofs.Common.{◌≡◌, refl, ap, ap₂, ◌∙◌, subst, ℕ, zero, suc, ◌+◌, ◌≤◌, Bool, true, false, ◌&&◌, ◌||◌, not, List, [], ◌∷◌, ◌++◌, length, Option, None, unwrap_or, is_none, cond, ◌==◌, slice_index_or, arith, eq-eqb, le-leb, lt-ltb}
+use Rattle.std.proofs.Common.{◌≡◌, refl, ap, ap₂, ◌∙◌, subst, ℕ, zero, suc, ◌+◌, ◌≤◌, Bool, true, false, ◌&&◌, ◌||◌, not, List, [], ◌∷◌, ◌++◌, length, Option, Some, None, unwrap_or, is_none, cond, ◌==◌, slice_index_or, arith, eq-eqb, le-leb, lt-ltb}
 use Rattle.std.proofs.lemmas.Bool.{false≢true, and_parts, and_from}
 use Rattle.pdl_model.specs.Tree.{R, W, Stmt, Separator, CombRead, Bind, DelayedRead, Write, Reserve, Block, Release, If, Call, Stmts, Nil, Cons, Mem}
 use Rattle.pdl_model.specs.Flat
@@ -9,7 +9,7 @@ use Rattle.pdl_model.specs.Stages.{last_stage, is_verify}
 use Rattle.pdl_rules.specs.Refusal.{is_straight, all_straight, is_lined, all_lined}
 use Rattle.pdl_rules.specs.Typed.{vars_after}
 use Rattle.pdl_refine.specs.Scans.{none_of, all_at, is_fetch, fixed}
-use Rattle.pdl_refine.specs.Checks.{in_text_order, guard_vars, leads_on}
+use Rattle.pdl_refine.specs.Checks.{in_text_order, guard_vars, leads_on, is_guess}
 
 -- behind these variables, in stage k
 abbrev pub behind : ℕ → List Var → Flatten.Place
@@ -154,10 +154,15 @@ no_verify_op ms vs (Reserve _ at R) = refl
 no_verify_op ms vs (Reserve _ at W) = refl
 no_verify_op ms vs _ = refl
 
-pub first_none : (test : Flat.Op → Bool) (k : ℕ) (xs : List Flat.Stmt) → none_of test xs ≡ true → Flatten.first_stage test k xs ≡ k
+pub no_guess_op : (ms : List Mem) (vs : List Var) (s : Stmt) → not (is_guess (op_of ms vs s)) ≡ true
+no_guess_op ms vs (Reserve _ at R) = refl
+no_guess_op ms vs (Reserve _ at W) = refl
+no_guess_op ms vs _ = refl
+
+pub first_none : (test : Flat.Op → Bool) (k : ℕ) (xs : List Flat.Stmt) → none_of test xs ≡ true → stage_or k (Flatten.first_stage test xs) ≡ k
 first_none test k [] h = refl
 first_none test k (x ∷ xs) h = at (test x.op) (and_parts (not (test x.op)) (none_of test xs) h).0 (first_none test k xs (and_parts (not (test x.op)) (none_of test xs) h).1)
   where
-    at : (b : Bool) → not b ≡ true → Flatten.first_stage test k xs ≡ k → cond b x.stage (Flatten.first_stage test k xs) ≡ k
+    at : (b : Bool) → not b ≡ true → stage_or k (Flatten.first_stage test xs) ≡ k → stage_or k (cond b (Some x.stage) (Flatten.first_stage test xs)) ≡ k
     at true e i = absurd (false≢true e)
     at false e i = i

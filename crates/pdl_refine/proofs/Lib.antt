@@ -1,3 +1,4 @@
+mod Released
 pub mod Writes
 pub mod Stages
 pub mod Alike
@@ -7,12 +8,31 @@ pub mod Related
 pub mod Marks
 pub mod Turn
 pub mod Whole
+pub mod Guesses
+pub mod Makes
+pub mod Astray
 pub mod Pending
 pub mod Paths
 pub mod Turns
 pub mod TurnFacts
 pub mod Lives
 pub mod Strays
+pub mod Under
+pub mod Answering
+pub mod Courses
+pub mod Spots
+pub mod Wander
+pub mod Cycles
+pub mod Turning
+pub mod Follows
+pub mod Looks
+pub mod Asking
+pub mod Sounds
+pub mod Roams
+pub mod CourseOf
+pub mod Rates
+pub mod Sounded
+mod SoundExamples
 pub mod Cycle
 pub mod Refine
 pub mod Instance
@@ -31,7 +51,24 @@ pub mod Step
 pub mod Runs
 pub mod Pace
 mod SameRows
-mod Texts
+pub mod Texts
 pub mod Passes
 mod Examples
 pub mod OneStages
+pub mod FlowFacts
+pub mod Shapes
+pub mod Seats
+pub mod Choices
+pub mod Telling
+pub mod Turned
+pub mod Onward
+pub mod Placed
+pub mod Asked
+pub mod Together
+pub mod Swapped
+pub mod Forked
+pub mod Flowing
+pub mod Carried
+pub mod Ruled
+pub mod Joined
+pub mod Stated

@@ -6,7 +6,8 @@ use Rattle.pdl_model.specs.Stages.{list_any, mem_at, reserve_stage, commit_stage
 use Rattle.pdl_model.specs.Locks.{has_room}
 use Rattle.pdl_model.specs.Machine.{answers, State, Pending, Deeds, lock_of, request_of, word_for}
 use Rattle.pdl_model.specs.Moves.{block_ready, is_free, movers}
-use Rattle.pdl_model.specs.Cycle.{new_entries, appended, put, put_all, filled, releases, oldest, but_oldest, shown}
+use Rattle.pdl_model.specs.Cycle.{new_entries, appended, put, put_all, filled, releases, oldest, but_oldest}
+use Rattle.pdl_refine.proofs.Released.{released}
 use Rattle.pdl_model.specs.Machine
 use Rattle.pdl_model.specs.Moves
 use Rattle.pdl_refine.specs.Derived.{Entry, Work, works, around, commits_of}
@@ -19,7 +20,7 @@ use Rattle.pdl_refine.proofs.Decide.{Same, AllSame, Known, AllKnown, fit_all}
 use Rattle.pdl_refine.specs.Accepted.{Text}
 use Rattle.pdl_refine.proofs.Own.{Own, Worked, pend_own}
 
-foreign_append : (k : ℕ) (xs ys : List Pending) → Foreign k xs → Foreign k ys → Foreign k (xs ++ ys)
+pub foreign_append : (k : ℕ) (xs ys : List Pending) → Foreign k xs → Foreign k ys → Foreign k (xs ++ ys)
 foreign_append k [] ys f g = g
 foreign_append k (x ∷ xs) ys f g = (f.0, foreign_append k xs ys f.1 g)
 
@@ -27,11 +28,11 @@ foreign_if : (k n : ℕ) (b : Bool) (e : Pending) → n ≢ k → e.thread ≡ n
 foreign_if k n true e h f = (ne_eqb e.thread k (λ i. h (sym f ∙ i)), tt)
 foreign_if k n false e h f = tt
 
-foreign_pend : (k m n : ℕ) (es : List Entry) → n ≢ k → Foreign k (pend m n es)
+pub foreign_pend : (k m n : ℕ) (es : List Entry) → n ≢ k → Foreign k (pend m n es)
 foreign_pend k m n [] h = tt
 foreign_pend k m n (e ∷ es) h = foreign_append k (pend m n es) _ (foreign_pend k m n es h) (foreign_if k n (e.mem == m) (own n e) h refl)
 
-foreign_new : (k m n : ℕ) (rs : List Machine.Reserved) → n ≢ k → Foreign k (new_entries m n rs)
+pub foreign_new : (k m n : ℕ) (rs : List Machine.Reserved) → n ≢ k → Foreign k (new_entries m n rs)
 foreign_new k m n [] h = tt
 foreign_new k m n (r ∷ rs) h = foreign_append k _ (new_entries m n rs) (foreign_if k n (r.mem == m) (record { thread = n; address = r.address; value = None }) h refl) (foreign_new k m n rs h)
 
@@ -43,7 +44,7 @@ foreign_put k n v (x ∷ xs) f = (at (x.thread == n), foreign_put k n v xs f.1)
     at true = f.0
     at false = f.0
 
-foreign_put_all : (k m n : ℕ) (ws : List Machine.Written) (xs : List Pending) → Foreign k xs → Foreign k (put_all m n ws xs)
+pub foreign_put_all : (k m n : ℕ) (ws : List Machine.Written) (xs : List Pending) → Foreign k xs → Foreign k (put_all m n ws xs)
 foreign_put_all k m n [] xs f = f
 foreign_put_all k m n (w ∷ ws) xs f = foreign_put_all k m n ws (if w.mem == m then put n w.value xs else xs) (at (w.mem == m))
   where
@@ -51,7 +52,7 @@ foreign_put_all k m n (w ∷ ws) xs f = foreign_put_all k m n ws (if w.mem == m 
     at true = foreign_put k n w.value xs f
     at false = f
 
-commits_more : (xs : List Derived.Act) (b : Derived.Act) → commits_of (xs ++ b ∷ []) ≡ commits_of xs ++ (if b.moves then b.work.commits else [])
+pub commits_more : (xs : List Derived.Act) (b : Derived.Act) → commits_of (xs ++ b ∷ []) ≡ commits_of xs ++ (if b.moves then b.work.commits else [])
 commits_more [] b = at b.moves
   where
     at : (c : Bool) → cond c (b.work.commits ++ []) [] ≡ cond c b.work.commits []
@@ -68,15 +69,15 @@ commits_more (x ∷ xs) b = at x.moves (commits_more xs b)
 pub record Out (m : ℕ) (some : Bool) (two three : List Pending) (commits : List Commit) : Type 0 where
   pub left : (if some then but_oldest two else two) ≡ three
   pub full : some ≡ true → (x : Pending) × (rest : List Pending) × (two ≡ x ∷ rest)
-  pub shows : commits ≡ shown m (if some then oldest two else None)
+  pub shows : commits ≡ released m (if some then oldest two else None)
 
 -- what nobody takes anything out of
 abbrev pub Still : Bool → List Pending → List Pending → List Commit → Type 0
 Still some two three commits = (some ≡ false) × (two ≡ []) × (three ≡ []) × (commits ≡ [])
 
 -- one more thread behind
-out_more : (m : ℕ) (some rel : Bool) (two three mine mine' : List Pending) (cs c : List Commit) → Out m some two three cs
-    → mine' ≡ (if rel then but_oldest mine else mine) → (rel ≡ true → (x : Pending) × (mine ≡ x ∷ [])) → c ≡ shown m (if rel then oldest mine else None)
+pub out_more : (m : ℕ) (some rel : Bool) (two three mine mine' : List Pending) (cs c : List Commit) → Out m some two three cs
+    → mine' ≡ (if rel then but_oldest mine else mine) → (rel ≡ true → (x : Pending) × (mine ≡ x ∷ [])) → c ≡ released m (if rel then oldest mine else None)
     → (rel ≡ true → Still some two three cs)
     → Out m (rel || some) (two ++ mine) (three ++ mine') (cs ++ c)
 out_more m some true two three mine mine' cs c out e f g h =
@@ -85,14 +86,14 @@ out_more m some true two three mine mine' cs c out e f g h =
     record {
       left = ap (λ l. but_oldest (l ++ mine)) s.1 ∙ sym e ∙ ap (λ l. l ++ mine') (sym s.2);
       full = λ i. (x.0, [], ap₂ (λ a b. a ++ b) s.1 x.1);
-      shows = ap₂ (λ a b. a ++ b) s.3 g ∙ ap (λ l. shown m (oldest (l ++ mine))) (sym s.1);
+      shows = ap₂ (λ a b. a ++ b) s.3 g ∙ ap (λ l. released m (oldest (l ++ mine))) (sym s.1);
     }
 out_more m true false two three mine mine' cs c out e f g h =
     let x = out.full refl in
     record {
       left = ap (λ l. but_oldest (l ++ mine)) x.2 ∙ ap₂ (λ a b. a ++ b) (ap but_oldest (sym x.2) ∙ out.left) (sym e);
       full = λ i. (x.0, x.1 ++ mine, ap (λ l. l ++ mine) x.2);
-      shows = ap₂ (λ a b. a ++ b) (out.shows ∙ ap (λ l. shown m (oldest l)) x.2) g ∙ ap (λ l. shown m (oldest (l ++ mine))) (sym x.2);
+      shows = ap₂ (λ a b. a ++ b) (out.shows ∙ ap (λ l. released m (oldest l)) x.2) g ∙ ap (λ l. released m (oldest (l ++ mine))) (sym x.2);
     }
 out_more m false false two three mine mine' cs c out e f g h =
     record {
@@ -241,7 +242,7 @@ module _ (p : Pipe) (text : Text p) (st : State) (d : Derived.State) (bits : Lis
         ap₂ (λ x y. x || y) keeps s.0,
         ap₂ (λ x y. x ++ y) s.1 empty,
         ap₂ (λ x y. x ++ y) s.2 (w.after ∙ ap₂ (λ b l. cond b (but_oldest l) l) keeps empty),
-        e ∙ ap₂ (λ x y. x ++ y) s.3 (w.commits ∙ ap (λ b. shown m (cond b (oldest (part m l)) None)) keeps),
+        e ∙ ap₂ (λ x y. x ++ y) s.3 (w.commits ∙ ap (λ b. released m (cond b (oldest (part m l)) None)) keeps),
       )
       at false e s = (s.0, ap₂ (λ x y. x ++ y) s.1 none, ap₂ (λ x y. x ++ y) s.2 none, e ∙ append-nil _ ∙ s.3)
 

@@ -1,12 +1,13 @@
 -- What the simulation takes of a thread on its turn: the locations that it holds, when it has entries of a memory, and what its stage does to them.
 use Rattle.pdl_model.specs.Sequential
-use Rattle.std.proofs.Common.{◌≡◌, ◌≢◌, refl, sym, ap, ap₂, ◌∙◌, subst, ℕ, suc, ◌≤◌, ◌<◌, inl, inr, Bool, true, false, ◌&&◌, not, List, [], ◌∷◌, ◌++◌, length, Option, Some, None, ◌==◌, nat_lt, cond, if◌then◌else◌, eq-eqb, slice_index, append-nil, ltb-true, ltb-false, lt-ltb, arith}
+use Rattle.std.proofs.Common.{◌≡◌, ◌||◌, ◌≢◌, refl, sym, ap, ap₂, ◌∙◌, subst, ℕ, suc, ◌≤◌, ◌<◌, inl, inr, Bool, true, false, ◌&&◌, not, List, [], ◌∷◌, ◌++◌, length, Option, Some, None, ◌==◌, nat_lt, cond, if◌then◌else◌, eq-eqb, slice_index, append-nil, ltb-true, ltb-false, lt-ltb, arith}
 use Rattle.std.proofs.lemmas.Bool.{eqb-true, eqb-false}
 use Rattle.pdl_model.specs.Flat.{Arrays, Commit, of_mem, Op, DelayedRead, Write, ReserveWrite, Release, Verify, Stmt, Guard, Pipe, value_of, values_of, taken}
-use Rattle.pdl_model.specs.Stages.{list_any, onpath, in_stage, is_reserve, is_release, reserve_stage, commit_stage}
+use Rattle.pdl_model.specs.Stages.{list_any, onpath, in_stage, is_reserve, is_release, is_verify, verify_stage, reserve_stage, commit_stage}
 use Rattle.pdl_model.specs.Machine.{Ask, same_args, Pending, Place, Blocked, Reserved, Deeds, held_after, held_before, does_all}
 use Rattle.pdl_model.specs.Locks.{commit_value}
-use Rattle.pdl_model.specs.Cycle.{new_entries, put_all, oldest, but_oldest, shown}
+use Rattle.pdl_model.specs.Cycle.{new_entries, put_all, oldest, but_oldest}
+use Rattle.pdl_refine.proofs.Released.{released}
 use Rattle.pdl_model.specs.Machine
 use Rattle.pdl_refine.specs.Derived.{Entry, Work, Around, does, do_all, works}
 use Rattle.pdl_refine.specs.Alone.{alone, before, looked, start_work, so_far, placed, misses}
@@ -14,7 +15,7 @@ use Rattle.pdl_refine.specs.Derived
 use Rattle.pdl_refine.proofs.Writes.{and_left, and_right}
 use Rattle.pdl_refine.proofs.Entries.{entries_of, entry, write_of, filled_own, filled_other, without_other, addresses, lacks, without_own}
 use Rattle.pdl_refine.proofs.Phases.{Tied}
-use Rattle.pdl_refine.specs.Scans.{Phase, Fresh, Held, Written, Done, after_release, next_phase, none_of, from, phases_ok, phase_all, is_over, no_scan, opens_all, binds, fixed, free_of}
+use Rattle.pdl_refine.specs.Scans.{Phase, Fresh, Held, Written, Done, after_release, next_phase, none_of, from, phases_ok, phase_all, is_over, no_scan, opens_all, binds, fixed, free_of, is_dead, keeps_guards}
 use Rattle.pdl_refine.proofs.Stages.{step, reset}
 use Rattle.pdl_refine.proofs.Paths.{Fixed, fixed_all, all_stays, taken_stays, before_path, stage_path}
 use Rattle.pdl_refine.proofs.Turn.{none_in_stage, none_before, none_from}
@@ -24,6 +25,9 @@ use Rattle.pdl_refine.proofs.Steps.{Staged, Gone, steps_all, new_more}
 use Rattle.pdl_refine.specs.Accepted.{Text, Checked, along}
 use Rattle.pdl_refine.proofs.Turns
 use Rattle.pdl_refine.proofs.Whole
+use Rattle.pdl_refine.proofs.Guesses.{unfailed}
+use Rattle.pdl_refine.specs.Certain.{stands_at}
+use Rattle.pdl_refine.proofs.Makes
 
 -- lists of entries of one memory
 pub pend_own : (m n : ℕ) (es : List Entry) → pend m n es ≡ pend m n (entries_of m es)
@@ -41,9 +45,9 @@ pend_one m n x a v = ap (λ b. cond b (own n (entry m x a v) ∷ []) []) (eq-eqb
 pub record Worked (m n : ℕ) (start : List Pending) (d : Deeds) (w : Work) : Type 0 where
   pub after : pend m n w.entries ≡ (if list_any (λ k. k == m) d.releases then but_oldest (put_all m n d.writes (start ++ new_entries m n d.reserves)) else put_all m n d.writes (start ++ new_entries m n d.reserves))
   pub full : list_any (λ k. k == m) d.releases ≡ true → (x : Pending) × (put_all m n d.writes (start ++ new_entries m n d.reserves) ≡ x ∷ [])
-  pub commits : of_mem m w.commits ≡ shown m (if list_any (λ k. k == m) d.releases then oldest (put_all m n d.writes (start ++ new_entries m n d.reserves)) else None)
+  pub commits : of_mem m w.commits ≡ released m (if list_any (λ k. k == m) d.releases then oldest (put_all m n d.writes (start ++ new_entries m n d.reserves)) else None)
 
-worked : (m n : ℕ) (start : List Pending) (d : Deeds) (w : Work) (ph : Phase)
+pub worked : (m n : ℕ) (start : List Pending) (d : Deeds) (w : Work) (ph : Phase)
     → Staged m n ph (entries_of m w.entries) (of_mem m w.commits) (start ++ new_entries m n d.reserves) d.writes (list_any (λ k. k == m) d.releases) → Worked m n start d w
 worked m n start d w ph g = at ph g
   where
@@ -51,7 +55,7 @@ worked m n start d w ph g = at ph g
     stays e f h = record {
       after = sym e ∙ ap (λ b. cond b (but_oldest (put_all m n d.writes (start ++ new_entries m n d.reserves))) (put_all m n d.writes (start ++ new_entries m n d.reserves))) (sym f);
       full = λ i. absurd (clash (sym f ∙ i));
-      commits = h ∙ ap (λ b. shown m (cond b (oldest (put_all m n d.writes (start ++ new_entries m n d.reserves))) None)) (sym f);
+      commits = h ∙ ap (λ b. released m (cond b (oldest (put_all m n d.writes (start ++ new_entries m n d.reserves))) None)) (sym f);
     }
       where
         clash : false ≡ true → ⊥
@@ -68,7 +72,7 @@ worked m n start d w ph g = at ph g
         by (inr h) = record {
           after = pend_own m n w.entries ∙ ap (pend m n) g.0 ∙ ap₂ (λ b l. cond b (but_oldest l) l) (sym h.4) (sym h.3);
           full = λ i. (own n (entry m 0 h.0 (Some h.1)), h.3);
-          commits = h.2 ∙ ap₂ (λ b l. shown m (cond b (oldest l) None)) (sym h.4) (sym h.3);
+          commits = h.2 ∙ ap₂ (λ b l. released m (cond b (oldest l) None)) (sym h.4) (sym h.3);
         }
 
 -- guards stay over statements that don't bind them
@@ -76,7 +80,7 @@ none_first : (test : Op → Bool) (xs ys : List Stmt) → none_of test (xs ++ ys
 none_first test [] ys h = refl
 none_first test (x ∷ xs) ys h = ap₂ (λ a b. a && b) (and_left (not (test x.op)) _ h) (none_first test xs ys (and_right _ _ h))
 
-none_second : (test : Op → Bool) (xs ys : List Stmt) → none_of test (xs ++ ys) ≡ true → none_of test ys ≡ true
+pub none_second : (test : Op → Bool) (xs ys : List Stmt) → none_of test (xs ++ ys) ≡ true → none_of test ys ≡ true
 none_second test [] ys h = h
 none_second test (x ∷ xs) ys h = none_second test xs ys (and_right _ _ h)
 
@@ -84,9 +88,16 @@ free_front : (gs : List Guard) (xs ys : List Stmt) → free_of gs (xs ++ ys) ≡
 free_front [] xs ys h = refl
 free_front (g ∷ gs) xs ys h = ap₂ (λ a b. a && b) (none_first (binds g.var) xs ys (and_left _ _ h)) (free_front gs xs ys (and_right _ _ h))
 
-fixed_front : (xs ys : List Stmt) → fixed (xs ++ ys) ≡ true → fixed xs ≡ true
+keeps_front : (gs : List Guard) (xs ys : List Stmt) → keeps_guards gs (xs ++ ys) ≡ true → keeps_guards gs xs ≡ true
+keeps_front gs xs ys h = at (is_dead gs) h
+  where
+    at : (b : Bool) → (b || free_of gs (xs ++ ys)) ≡ true → (b || free_of gs xs) ≡ true
+    at true k = refl
+    at false k = free_front gs xs ys k
+
+pub fixed_front : (xs ys : List Stmt) → fixed (xs ++ ys) ≡ true → fixed xs ≡ true
 fixed_front [] ys h = refl
-fixed_front (x ∷ xs) ys h = ap₂ (λ a b. a && b) (free_front x.guards (x ∷ xs) ys (and_left _ _ h)) (fixed_front xs ys (and_right _ _ h))
+fixed_front (x ∷ xs) ys h = ap₂ (λ a b. a && b) (keeps_front x.guards (x ∷ xs) ys (and_left _ _ h)) (fixed_front xs ys (and_right _ _ h))
 
 none_of_before : (s : ℕ) (test : Op → Bool) → ((op : Op) → test (looked op) ≡ test op) → (xs : List Stmt) → none_of test xs ≡ true → none_of test (before s xs) ≡ true
 none_of_before s test g [] h = refl
@@ -96,12 +107,12 @@ none_of_before s test g (x ∷ xs) h = at (nat_lt x.stage s) (none_of_before s t
     at true k = ap₂ (λ a b. not a && b) (g x.op) k ∙ ap (λ a. a && true) (and_left (not (test x.op)) _ h)
     at false k = k
 
-fixed_second : (xs ys : List Stmt) → fixed (xs ++ ys) ≡ true → fixed ys ≡ true
+pub fixed_second : (xs ys : List Stmt) → fixed (xs ++ ys) ≡ true → fixed ys ≡ true
 fixed_second [] ys h = h
 fixed_second (x ∷ xs) ys h = fixed_second xs ys (and_right _ _ h)
 
 -- statements are carried out as the values at their end, or behind later ones, tell
-fixed_to : (path : List ℕ) (o : Around) (xs ys : List Stmt) (w : Work) → fixed (xs ++ ys) ≡ true
+pub fixed_to : (path : List ℕ) (o : Around) (xs ys : List Stmt) (w : Work) → fixed (xs ++ ys) ≡ true
     → ((g : ℕ) → none_of (binds g) ys ≡ true → slice_index path g ≡ slice_index (do_all o xs w).env g) → Fixed path o xs w
 fixed_to path o [] ys w h e = tt
 fixed_to path o (x ∷ xs) ys w h e = (
@@ -159,7 +170,7 @@ quiet_op m n read (Verify args) d h k = at (same_args (values_of args d.env) d.g
     at false = k
 quiet_op m n read _ d h k = k
 
-quiet_reserves : (m n : ℕ) (read : ℕ → ℕ → ℕ) (xs : List Stmt) (d : Deeds) → none_of (is_reserve m) xs ≡ true → new_entries m n d.reserves ≡ [] → new_entries m n (does_all read xs d).reserves ≡ []
+pub quiet_reserves : (m n : ℕ) (read : ℕ → ℕ → ℕ) (xs : List Stmt) (d : Deeds) → none_of (is_reserve m) xs ≡ true → new_entries m n d.reserves ≡ [] → new_entries m n (does_all read xs d).reserves ≡ []
 quiet_reserves m n read [] d h k = k
 quiet_reserves m n read (x ∷ xs) d h k = quiet_reserves m n read xs (if taken x.guards d.env then Machine.does read x.op d else d) (and_right _ _ h) (at (taken x.guards d.env))
   where
@@ -243,6 +254,23 @@ over_early m (x ∷ xs) ph h k = at (is_over ph) refl (over_early m xs (next_pha
     at true e i = e
     at false e i = absurd (cc (sym i ∙ stuck m x.op ph e (and_left _ _ h)))
 
+pub none_in_all : (test : Op → Bool) (s : ℕ) (xs : List Stmt) → none_of test xs ≡ true → none_of test (in_stage s xs) ≡ true
+none_in_all test s [] h = refl
+none_in_all test s (x ∷ xs) h = at (x.stage == s) (none_in_all test s xs (and_right (not (test x.op)) _ h))
+  where
+    at : (b : Bool) → none_of test (in_stage s xs) ≡ true → none_of test (cond b (x ∷ in_stage s xs) (in_stage s xs)) ≡ true
+    at true k = ap₂ (λ a b. a && b) (and_left (not (test x.op)) _ h) k
+    at false k = k
+
+-- a text without V has no verify
+unverified_text : (xs : List Stmt) → verify_stage xs ≡ None → none_of is_verify xs ≡ true
+unverified_text [] h = refl
+unverified_text (x ∷ xs) h = at (is_verify x.op) h (unverified_text xs)
+  where
+    at : (b : Bool) → cond b (Some x.stage) (verify_stage xs) ≡ None → (verify_stage xs ≡ None → none_of is_verify xs ≡ true) → (not b && none_of is_verify xs) ≡ true
+    at true e f = absurd (cc e)
+    at false e f = f e
+
 module _ (p : Pipe) (acc : Checked p) (text : Text p) (arrays : Arrays) (args : List ℕ) (s : ℕ) where
   fixed_before : fixed (before (suc s) p.stmts) ≡ true
   fixed_before = fixed_front (before (suc s) p.stmts) (from (suc s) p.stmts) (subst (λ l. fixed l ≡ true) (acc.ordered (suc s)) acc.fixed_guards)
@@ -265,12 +293,12 @@ module _ (p : Pipe) (acc : Checked p) (text : Text p) (arrays : Arrays) (args : 
   late m h = at (nat_lt (reserve_stage p m) s) refl
     where
       q : Pipe
-      q = along (Turns.path p acc arrays args) p
+      q = along (Turns.path p (Turns.core p acc) arrays args) p
 
       at : (b : Bool) → nat_lt (reserve_stage p m) s ≡ b → entries_of m (so_far p arrays args s).entries ≡ []
       at true e =
-          ap (λ (w : Work). entries_of m w.entries) (Turns.so_path p acc arrays args s)
-          ∙ no_entries _ (λ a. Whole.pending_places (along (Turns.path p acc arrays args) p) (acc.paths (Turns.path p acc arrays args)) arrays args s m a (ltb-true _ _ e) ∙ ap (λ b. misses a (cond b [] (of_mem m (Sequential.thread (along (Turns.path p acc arrays args) p) arrays args).writes))) (lt-ltb _ _ h))
+          ap (λ (w : Work). entries_of m w.entries) (Turns.so_path p (Turns.core p acc) arrays args s)
+          ∙ no_entries _ (λ a. Whole.pending_places (along (Turns.path p (Turns.core p acc) arrays args) p) (acc.paths (Turns.path p (Turns.core p acc) arrays args)) arrays args s m a (ltb-true _ _ e) ∙ ap (λ b. misses a (cond b [] (of_mem m (Sequential.thread (along (Turns.path p (Turns.core p acc) arrays args) p) arrays args).writes))) (lt-ltb _ _ h))
       at false e = early m (ltb-false _ _ e)
 
   -- the deeds with which its stage begins
@@ -368,12 +396,16 @@ module _ (p : Pipe) (acc : Checked p) (text : Text p) (arrays : Arrays) (args : 
   -- it asks for nothing, fails no verify, and makes no second thread
   pub stage_simple : (o : Around) → ((works p o (placed p arrays args s)).asks ≡ []) × ((works p o (placed p arrays args s)).fails ≡ false)
   stage_simple o =
-      let path : List ℕ = (works p o (placed p arrays args s)).env in
-      let h = Whole.simple (along path p) (opens_all (before s (along path p).stmts) no_scan) o (in_stage s (along path p).stmts) (reset (so_far (along path p) arrays args s)) (Whole.reads_here _ (acc.paths path) arrays args s) in
-      (ap (λ (w : Work). w.asks) (own_path o) ∙ h.0, ap (λ (w : Work). w.fails) (own_path o) ∙ h.1)
+      let path : List ℕ = (works p o (placed p arrays args s)).env in (
+        ap (λ (w : Work). w.asks) (own_path o)
+            ∙ Whole.simple (along path p) (opens_all (before s (along path p).stmts) no_scan) o (in_stage s (along path p).stmts) (reset (so_far (along path p) arrays args s)) (Whole.reads_here _ (acc.paths path) arrays args s),
+        unfailed o (in_stage s p.stmts) (reset (so_far p arrays args s)) (none_in_all is_verify s p.stmts (unverified_text p.stmts text.no_verify)),
+      )
 
   pub stage_once : (o : Around) (x : List ℕ) → (so_far p arrays args s).child ≡ Some x → (works p o (placed p arrays args s)).child ≡ None
-  stage_once o x h = ap (λ (w : Work). w.child) (own_path o) ∙ Whole.no_second _ (acc.paths (works p o (placed p arrays args s)).env) arrays args o s x (ap (λ (w : Work). w.child) (sym (so_along o)) ∙ h)
+  stage_once o x h =
+      ap (λ (w : Work). w.child) (own_path o)
+      ∙ (Makes.no_second p (Turns.core p acc) (works p o (placed p arrays args s)).env arrays args o s x (ap (λ (w : Work). w.child) (sym (so_along o)) ∙ h) (ap (λ v. stands_at v s) text.no_verify)).0
 
   pub stage_quiet : (read : ℕ → ℕ → ℕ) (m n : ℕ) → s ≢ reserve_stage p m → new_entries m n (does_all read (in_stage s p.stmts) start_deeds).reserves ≡ []
   stage_quiet read m n h = quiet_reserves m n read (in_stage s p.stmts) start_deeds (none_in_stage (is_reserve m) (reserve_stage p m) s p.stmts (text.reserves m) h) refl
@@ -388,7 +420,7 @@ module _ (p : Pipe) (acc : Checked p) (text : Text p) (arrays : Arrays) (args : 
       at true e = eqb-true _ _ e
       at false e =
           let f = w.full h in
-          absurd (clash f.0 (sym (w.commits ∙ ap₂ (λ b l. shown m (cond b (oldest l) None)) h f.1) ∙ Turns.quiet_at p acc arrays args o (placed p arrays args s) m (eqb-false _ _ e)))
+          absurd (clash f.0 (sym (w.commits ∙ ap₂ (λ b l. released m (cond b (oldest l) None)) h f.1) ∙ Turns.quiet_at p (Turns.core p acc) arrays args o (placed p arrays args s) m (eqb-false _ _ e)))
 
 -- all of this of a thread
 abbrev pub deeds_start : Pipe → Derived.Thread → Deeds

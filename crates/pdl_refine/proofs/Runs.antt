@@ -4,7 +4,7 @@ use Rattle.std.proofs.lemmas.Bool.{eqb-true, eqb-false}
 use Rattle.pdl_model.specs.Flat.{Arrays, Pipe, Stage, Mem, Commit, of_mem}
 use Rattle.pdl_model.specs.Stages.{list_any, stage_at, goes_to, depth}
 use Rattle.pdl_model.specs.Machine.{State}
-use Rattle.pdl_model.specs.Cycle.{for_mems, for_stages, shown, commits, taken_out, squasher}
+use Rattle.pdl_model.specs.Cycle.{for_mems, for_stages, port_write, shown, commits, taken_out, squasher}
 use Rattle.pdl_model.specs.Moves.{movers, next_stage}
 use Rattle.pdl_model.specs.Promises.{KeepsPace, older_of, oldest_act, it_moves, row, wrote, IsPrefix}
 use Rattle.pdl_model.specs.Sequential.{seqwrites}
@@ -115,7 +115,7 @@ module _ (p : Pipe) (acc : Checked p) (text : Text p) (st : State) (d : Derived.
         valid = flags _ (rev (dacts p d bits (l ∷ ls))) _ 0 p.stages (λ q. any_pair (λ a. a.stage == q) (λ a. (a.before.stage == q) && true) (λ ks k h. and_true (k.thread.stage == q)) (l ∷ ls) h ∙ sym (any_rev _ (dacts p d bits (l ∷ ls))));
         moves = flags _ (rev (dacts p d bits (l ∷ ls))) _ 0 p.stages (λ q. any_movers (λ a. a.stage == q) (sacts p st bits (l ∷ ls)) ∙ any_pair (λ a. a.moves && (a.stage == q)) (λ a. (a.before.stage == q) && a.moves) (λ ks k h. ap (λ b. b && (k.thread.stage == q)) h.moves ∙ and_comm _ (k.thread.stage == q)) (l ∷ ls) h ∙ sym (any_rev _ (dacts p d bits (l ∷ ls))));
         commits = commits_here;
-        requests = (mems_same _ _ 0 p.mems (λ m. asks_in m (l ∷ ls) o h), asks_none p text st d bits arrays (l ∷ ls) o h);
+        requests = mems_same _ _ 0 p.mems (λ m. asks_in m (l ∷ ls) o h ∙ ap (λ q. Derived.find_ask q m) (sym (asks_none p text st d bits arrays (l ∷ ls) o h)));
         ended = any_movers (λ a. is_none (next_stage p a.stage a.does)) (sacts p st bits (l ∷ ls))
             ∙ any_pair (λ a. a.moves && is_none (next_stage p a.stage a.does)) (λ a. a.moves && is_none (Derived.exit_of p a)) (λ ks k h. λ i. h.moves i && is_none (goes_to (stage_at p (sym h.now i).stage).next (sym h.told.is i).env)) (l ∷ ls) h
             ∙ sym (any_rev _ (dacts p d bits (l ∷ ls)));
@@ -129,15 +129,15 @@ module _ (p : Pipe) (acc : Checked p) (text : Text p) (st : State) (d : Derived.
       o : AllOwn p text st d bits arrays (l ∷ ls)
       o = own p acc text st d bits arrays l ls sim alive
 
-      commits_here : (m : ℕ) → shown m (slice_index_or (for_mems (λ j. taken_out st (movers (sacts p st bits (l ∷ ls))) j) 0 p.mems) m None) ≡ of_mem m (commits_of (rev (dacts p d bits (l ∷ ls))))
+      commits_here : (m : ℕ) → shown m (slice_index_or (for_mems (λ j. port_write (taken_out st (movers (sacts p st bits (l ∷ ls))) j)) 0 p.mems) m None) ≡ of_mem m (commits_of (rev (dacts p d bits (l ∷ ls))))
       commits_here m = at (nat_lt m (length p.mems)) refl
         where
-          at : (b : Bool) → nat_lt m (length p.mems) ≡ b → shown m (slice_index_or (for_mems (λ j. taken_out st (movers (sacts p st bits (l ∷ ls))) j) 0 p.mems) m None) ≡ of_mem m (commits_of (rev (dacts p d bits (l ∷ ls))))
+          at : (b : Bool) → nat_lt m (length p.mems) ≡ b → shown m (slice_index_or (for_mems (λ j. port_write (taken_out st (movers (sacts p st bits (l ∷ ls))) j)) 0 p.mems) m None) ≡ of_mem m (commits_of (rev (dacts p d bits (l ∷ ls))))
           at true e =
-              ap (shown m) (at_mem (λ j. taken_out st (movers (sacts p st bits (l ∷ ls))) j) 0 p.mems m None (ltb-true _ _ e) ∙ ap (λ j. taken_out st (movers (sacts p st bits (l ∷ ls))) j) (zero-add m))
+              ap (shown m) (at_mem (λ j. port_write (taken_out st (movers (sacts p st bits (l ∷ ls))) j)) 0 p.mems m None (ltb-true _ _ e) ∙ ap (λ j. port_write (taken_out st (movers (sacts p st bits (l ∷ ls))) j)) (zero-add m))
               ∙ sym (commits_are p acc text st d bits arrays l ls sim alive m)
           at false e =
-              ap (shown m) (past_mems (λ j. taken_out st (movers (sacts p st bits (l ∷ ls))) j) 0 p.mems m None (ltb-false _ _ e) ∙ sym (never p acc text st d bits arrays l ls sim alive m (ltb-false _ _ e)))
+              ap (shown m) (past_mems (λ j. port_write (taken_out st (movers (sacts p st bits (l ∷ ls))) j)) 0 p.mems m None (ltb-false _ _ e) ∙ ap port_write (sym (never p acc text st d bits arrays l ls sim alive m (ltb-false _ _ e))))
               ∙ sym (commits_are p acc text st d bits arrays l ls sim alive m)
 
   -- it is no wait, and there is no squash

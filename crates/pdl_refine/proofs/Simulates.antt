@@ -3,7 +3,8 @@ use Rattle.std.proofs.Common.{◌≡◌, refl, sym, ap, ap₂, ◌∙◌, subst,
 use Rattle.std.proofs.lemmas.Bool.{eqb-true, eqb-false, ne_eqb}
 use Rattle.pdl_model.specs.Flat.{Arrays, Array, Pipe, Mem, Commit, of_mem, with_value}
 use Rattle.pdl_model.specs.Machine.{State, Pending, lock_of}
-use Rattle.pdl_model.specs.Cycle.{for_mems, for_stages, taken_out, with_commit, with_commits, shown}
+use Rattle.pdl_model.specs.Cycle.{for_mems, for_stages, taken_out, with_commit, with_commits}
+use Rattle.pdl_refine.proofs.Released.{released}
 use Rattle.pdl_model.specs.Moves.{movers}
 use Rattle.pdl_model.specs.Sequential.{thread, after_turns}
 use Rattle.pdl_model.specs.Promises.{wrote}
@@ -15,7 +16,7 @@ use Rattle.pdl_refine.specs.Alone.{so_far, placed}
 use Rattle.pdl_refine.specs.Derived
 use Rattle.pdl_refine.proofs.TurnFacts.{right_guess}
 use Rattle.pdl_refine.proofs.Lives.{placed_all, Standing, Tail, Last, Writes, Marks, is_nil}
-use Rattle.pdl_refine.proofs.Instance.{facts, no_stray}
+use Rattle.pdl_refine.proofs.Instance.{facts}
 use Rattle.pdl_refine.proofs.Pending.{marks}
 use Rattle.pdl_refine.proofs.Refine.{Runs}
 use Rattle.pdl_refine.proofs.Slots.{Live, find, threads_of, Rises, rev}
@@ -82,21 +83,26 @@ module _ (p : Pipe) (acc : Checked p) (text : Text p) where
         behinds_more p (rev (placed_all p (thread p arrays args).arrays (thread p arrays args).next (s' ∷ ss))) (placed p arrays args s) k.2 (no_child arrays args s _ refl h.0.linked),
       )
 
-  no_strays : (arrays : Arrays) (args : List ℕ) (ss : List ℕ) (strays : List Derived.Thread) → Tail p (facts p acc).stray (facts p acc).made arrays args ss strays → strays ≡ []
-  no_strays arrays args [] strays h = h
-  no_strays arrays args (s ∷ []) strays h = at (so_far p arrays args s).child strays h
+  -- without V no guess is wrong
+  no_strays : (past w : Writes) (v : Marks) (arrays : Arrays) (args : List ℕ) (bound : ℕ) (ss : List ℕ) (strays : List Derived.Thread) → Standing p past w v arrays args bound ss
+      → Tail p (facts p acc).stray (facts p acc).made arrays args ss strays → strays ≡ []
+  no_strays past w v arrays args bound [] strays k h = h
+  no_strays past w v arrays args bound (s ∷ []) strays k h = at (so_far p arrays args s).child refl k.0.linked strays h
     where
-      at : (c : Option (List ℕ)) (ts : List Derived.Thread) → Last p (facts p acc).stray (facts p acc).made s c ts → ts ≡ []
-      at None ts h = h
-      at (Some x) [] h = refl
-      at (Some x) (t ∷ ts) h = absurd (no_stray p acc t h.0)
-  no_strays arrays args (s ∷ s' ∷ ss) strays h = no_strays (thread p arrays args).arrays (thread p arrays args).next (s' ∷ ss) strays h
+      at : (c : Option (List ℕ)) → (so_far p arrays args s).child ≡ c → right_guess c (thread p arrays args).next ≡ false → (ts : List Derived.Thread) → Last p (facts p acc).stray (facts p acc).made s c ts → ts ≡ []
+      at None e g ts h = h
+      at (Some x) e g ts h = absurd (clash (sym text.no_verify ∙ ((facts p acc).wrong_made arrays args s x e g).1))
+        where
+          clash : {n : ℕ} → None ≡ Some n → ⊥
+          clash i = cc
+  no_strays past w v arrays args bound (s ∷ s' ∷ ss) strays k h =
+      no_strays past (λ m. w m ++ of_mem m (thread p arrays args).writes) (λ m. v m ++ marks p arrays args s m) (thread p arrays args).arrays (thread p arrays args).next s (s' ∷ ss) strays k.1 h
 
   -- the live threads of a state that a run of the derived machine comes to
   pub alive : (image : Arrays) (n : ℕ) (past : List Commit) (d : Derived.State) → Runs p (facts p acc).stray (facts p acc).made image n past d → Alive p (rev d.threads)
   alive image n past d r =
       let e : d.threads ≡ placed_all p (after_turns p image n).arrays (after_turns p image n).next r.stages =
-      r.threads ∙ ap (λ l. placed_all p (after_turns p image n).arrays (after_turns p image n).next r.stages ++ l) (no_strays _ _ r.stages r.strays r.tail) ∙ append-nil _ in
+      r.threads ∙ ap (λ l. placed_all p (after_turns p image n).arrays (after_turns p image n).next r.stages ++ l) (no_strays _ _ _ _ _ _ r.stages r.strays r.standing r.tail) ∙ append-nil _ in
       let k = alive_placed _ _ _ (after_turns p image n).arrays (after_turns p image n).next (length p.stages) r.stages r.standing in
       subst (λ ts. Alive p (rev ts)) (sym e) (record { ranks = k.0; owns = k.1; mades = k.2; some = somebody r.stages r.live })
     where
@@ -142,7 +148,7 @@ mems_same f g k [] h = refl
 mems_same f g k (x ∷ xs) h = ap₂ (λ a l. a ∷ l) (h k) (mems_same f g (suc k) xs h)
 
 -- the arrays after the commits of all memories
-wrote_shown : (words : Array) (m : ℕ) (o : Option Pending) (arrays : Arrays) → words ≡ arrays m → with_commit arrays m o m ≡ wrote words (shown m o)
+wrote_shown : (words : Array) (m : ℕ) (o : Option Pending) (arrays : Arrays) → words ≡ arrays m → with_commit arrays m o m ≡ wrote words (released m o)
 wrote_shown words m None arrays h = sym h
 wrote_shown words m (Some e) arrays h = ap (λ b. cond b (with_value (arrays m) e.address (Locks.commit_value e.value)) (arrays m)) (eq-eqb m m refl) ∙ ap (λ w. with_value w e.address (Locks.commit_value e.value)) (sym h)
 
@@ -154,19 +160,19 @@ before_commits : (st : State) (ms : List Moves.Act) (k n : ℕ) (xs : List Mem) 
 before_commits st ms k n [] arrays h = refl
 before_commits st ms k n (x ∷ xs) arrays h = before_commits st ms (suc k) n xs (with_commit arrays k (taken_out st ms k)) (omega arith) ∙ other_commit k n (taken_out st ms k) arrays (ne_eqb n k (λ e. absurd (omega arith)))
 
-pub row_commits : (st : State) (ms : List Moves.Act) (k n : ℕ) (xs : List Mem) (arrays : Arrays) → k ≤ n → n < k + length xs → with_commits st ms k xs arrays n ≡ wrote (arrays n) (shown n (taken_out st ms n))
+pub row_commits : (st : State) (ms : List Moves.Act) (k n : ℕ) (xs : List Mem) (arrays : Arrays) → k ≤ n → n < k + length xs → with_commits st ms k xs arrays n ≡ wrote (arrays n) (released n (taken_out st ms n))
 row_commits st ms k n [] arrays h i = absurd (omega arith)
 row_commits st ms k n (x ∷ xs) arrays h i = at (n == k) refl (λ j. row_commits st ms (suc k) n xs (with_commit arrays k (taken_out st ms k)) j (omega arith))
   where
-    at : (b : Bool) → (n == k) ≡ b → (k < n → with_commits st ms (suc k) xs (with_commit arrays k (taken_out st ms k)) n ≡ wrote (with_commit arrays k (taken_out st ms k) n) (shown n (taken_out st ms n)))
-        → with_commits st ms (suc k) xs (with_commit arrays k (taken_out st ms k)) n ≡ wrote (arrays n) (shown n (taken_out st ms n))
+    at : (b : Bool) → (n == k) ≡ b → (k < n → with_commits st ms (suc k) xs (with_commit arrays k (taken_out st ms k)) n ≡ wrote (with_commit arrays k (taken_out st ms k) n) (released n (taken_out st ms n)))
+        → with_commits st ms (suc k) xs (with_commit arrays k (taken_out st ms k)) n ≡ wrote (arrays n) (released n (taken_out st ms n))
     at true e f =
         let same : n ≡ k = eqb-true n k e in
         before_commits st ms (suc k) n xs (with_commit arrays k (taken_out st ms k)) (omega arith)
         ∙ ap (λ j. with_commit arrays j (taken_out st ms j) n) (sym same) ∙ wrote_shown (arrays n) n (taken_out st ms n) arrays refl
     at false e f =
         f (let j = eqb-false n k e in omega arith)
-        ∙ ap (λ (w : Array). wrote w (shown n (taken_out st ms n))) (other_commit k n (taken_out st ms k) arrays e)
+        ∙ ap (λ (w : Array). wrote w (released n (taken_out st ms n))) (other_commit k n (taken_out st ms k) arrays e)
 
 pub past_commits : (st : State) (ms : List Moves.Act) (k n : ℕ) (xs : List Mem) (arrays : Arrays) → k + length xs ≤ n → with_commits st ms k xs arrays n ≡ arrays n
 past_commits st ms k n [] arrays h = refl

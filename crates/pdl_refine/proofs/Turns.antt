@@ -1,6 +1,6 @@
 -- One turn of a pipe with guards, by its path: the facts that the pipeline's proof takes of it.
-use Rattle.std.proofs.Common.{◌≡◌, ◌≢◌, refl, sym, ap, ap₂, ◌∙◌, subst, ℕ, suc, ◌<◌, true, false, List, [], length, Some, None, nat_lt, cond}
-use Rattle.pdl_model.specs.Flat.{Arrays, Pipe, of_mem}
+use Rattle.std.proofs.Common.{◌≡◌, ◌≢◌, refl, sym, ap, ap₂, ◌∙◌, subst, ℕ, suc, ◌<◌, ◌≤◌, Bool, true, false, ◌&&◌, not, List, [], ◌∷◌, ◌++◌, length, ◌==◌, nat_lt, nat_le, cond, arith, slice_index, append_assoc, leb-true, leb-false}
+use Rattle.pdl_model.specs.Flat.{Arrays, Op, Stmt, Pipe, taken, of_mem}
 use Rattle.pdl_model.specs.Stages.{onpath, in_stage, mem_at, commit_stage, reserve_stage, is_release}
 use Rattle.pdl_model.specs.Locks.{Latest}
 use Rattle.pdl_model.specs.Sequential.{Run, thread}
@@ -8,18 +8,80 @@ use Rattle.pdl_model.specs.Promises.{wrote, row}
 use Rattle.pdl_refine.specs.Derived.{Work, Around, Thread, works, do_all, latest_in, has}
 use Rattle.pdl_refine.specs.Alone.{alone, before, start_work, so_far, placed}
 use Rattle.pdl_refine.proofs.Entries.{entries_of}
-use Rattle.pdl_refine.proofs.Stages.{or_else, next_piece, rejoined, reset}
-use Rattle.pdl_refine.specs.Scans.{from, is_plain, no_scan, opens_all, reads_ok, opened}
-use Rattle.pdl_refine.specs.Accepted.{Accepted, along, Checked}
+use Rattle.pdl_refine.proofs.Stages.{or_else, next_piece, joined, reset}
+use Rattle.pdl_refine.specs.Scans.{from, is_plain, none_of, binds, fixed, no_scan, opens_all, reads_ok, opened}
+use Rattle.pdl_refine.specs.Accepted.{Accepted, along, Pathwise, Checked}
 use Rattle.pdl_refine.proofs.Alike.{Surrounds, Right, alike, in_stage_all, covers_all}
-use Rattle.pdl_refine.proofs.Paths.{Fixed, run_path, fixed_path, fixed_all, fixed_first, fixed_second, fixed_joined, before_path, stage_path}
+use Rattle.pdl_refine.proofs.Paths.{Fixed, run_path, fixed_path_to, fixed_all, all_stays, before_path, stage_path}
+use Rattle.pdl_refine.proofs.Writes.{and_left, and_right}
+use Rattle.std.proofs.lemmas.Bool.{eqb-true, eqb-false}
 use Rattle.pdl_refine.proofs.Turn.{quiet, none_in_stage}
 use Rattle.pdl_refine.proofs.Marks.{seen, strips, Later, marked}
 use Rattle.pdl_refine.proofs.Pending.{marks, has_value}
 use Rattle.pdl_refine.proofs.Pending
 use Rattle.pdl_refine.proofs.Whole
 
-module _ (p : Pipe) (acc : Checked p) (arrays : Arrays) (args : List ℕ) where
+-- what holds of a stage and of those behind it holds of all from it on
+pub none_parts : (test : Op → Bool) (s : ℕ) (xs : List Stmt) → none_of test (in_stage s xs ++ from (suc s) xs) ≡ true → none_of test (from s xs) ≡ true
+none_parts test s xs h = both xs (none_first test (in_stage s xs) (from (suc s) xs) h) (none_second test (in_stage s xs) (from (suc s) xs) h)
+  where
+    none_first : (test : Op → Bool) (us vs : List Stmt) → none_of test (us ++ vs) ≡ true → none_of test us ≡ true
+    none_first test [] vs k = refl
+    none_first test (u ∷ us) vs k = ap₂ (λ a b. a && b) (and_left (not (test u.op)) _ k) (none_first test us vs (and_right _ _ k))
+
+    none_second : (test : Op → Bool) (us vs : List Stmt) → none_of test (us ++ vs) ≡ true → none_of test vs ≡ true
+    none_second test [] vs k = k
+    none_second test (u ∷ us) vs k = none_second test us vs (and_right _ _ k)
+
+    both : (ys : List Stmt) → none_of test (in_stage s ys) ≡ true → none_of test (from (suc s) ys) ≡ true → none_of test (from s ys) ≡ true
+    both [] h k = refl
+    both (y ∷ ys) h k = at (y.stage == s) refl (nat_le (suc s) y.stage) refl (nat_le s y.stage) refl h k (both ys)
+      where
+        at : (b : Bool) → (y.stage == s) ≡ b → (c : Bool) → nat_le (suc s) y.stage ≡ c → (d : Bool) → nat_le s y.stage ≡ d
+            → none_of test (cond b (y ∷ in_stage s ys) (in_stage s ys)) ≡ true → none_of test (cond c (y ∷ from (suc s) ys) (from (suc s) ys)) ≡ true
+            → (none_of test (in_stage s ys) ≡ true → none_of test (from (suc s) ys) ≡ true → none_of test (from s ys) ≡ true) → none_of test (cond d (y ∷ from s ys) (from s ys)) ≡ true
+        at true e true f d g i j go = absurd (let x : y.stage ≡ s = eqb-true _ _ e in let z : suc s ≤ y.stage = leb-true _ _ f in omega arith)
+        at true e false f true g i j go = ap₂ (λ a b. a && b) (and_left (not (test y.op)) _ i) (go (and_right (not (test y.op)) _ i) j)
+        at true e false f false g i j go = absurd (let x : y.stage ≡ s = eqb-true _ _ e in let z : y.stage < s = leb-false _ _ g in omega arith)
+        at false e true f true g i j go = ap₂ (λ a b. a && b) (and_left (not (test y.op)) _ j) (go i (and_right (not (test y.op)) _ j))
+        at false e true f false g i j go = absurd (let x : suc s ≤ y.stage = leb-true _ _ f in let z : y.stage < s = leb-false _ _ g in omega arith)
+        at false e false f true g i j go = absurd (apart (eqb-false _ _ e) (leb-false _ _ f) (leb-true _ _ g))
+          where
+            apart : y.stage ≢ s → y.stage < suc s → s ≤ y.stage → ⊥
+            apart u v w = u (omega arith)
+        at false e false f false g i j go = go i j
+
+pub none_from_path : (test : Op → Bool) (path : List ℕ) (s : ℕ) (xs : List Stmt) → none_of test (from s xs) ≡ true → none_of test (from s (onpath path xs)) ≡ true
+none_from_path test path s [] h = refl
+none_from_path test path s (x ∷ xs) h = at (nat_le s x.stage) refl (taken x.guards path) h (none_from_path test path s xs)
+  where
+    at : (b : Bool) → nat_le s x.stage ≡ b → (c : Bool) → none_of test (cond b (x ∷ from s xs) (from s xs)) ≡ true → (none_of test (from s xs) ≡ true → none_of test (from s (onpath path xs)) ≡ true)
+        → none_of test (from s (cond c (record x { guards = [] } ∷ onpath path xs) (onpath path xs))) ≡ true
+    at true e true k f = ap (λ b. none_of test (cond b (record x { guards = [] } ∷ from s (onpath path xs)) (from s (onpath path xs)))) e ∙ ap₂ (λ a d. a && d) (and_left (not (test x.op)) _ k) (f (and_right (not (test x.op)) _ k))
+    at false e true k f = ap (λ b. none_of test (cond b (record x { guards = [] } ∷ from s (onpath path xs)) (from s (onpath path xs)))) e ∙ f k
+    at true e false k f = f (and_right (not (test x.op)) _ k)
+    at false e false k f = f k
+
+pub fixed_behind : (xs ys : List Stmt) → fixed (xs ++ ys) ≡ true → fixed ys ≡ true
+fixed_behind [] ys h = h
+fixed_behind (x ∷ xs) ys h = fixed_behind xs ys (and_right _ _ h)
+
+-- the facts of paths
+pub core : (p : Pipe) → Checked p → Pathwise p
+core p acc =
+    record {
+      some_stage = acc.some_stage;
+      fixed_guards = acc.fixed_guards;
+      fixed_by = λ s. subst (λ l. fixed l ≡ true) (acc.ordered (suc s) ∙ ap (λ l. l ++ from (suc s) p.stmts) (acc.pieces s) ∙ append_assoc (before s p.stmts) (in_stage s p.stmts) (from (suc s) p.stmts)) acc.fixed_guards;
+      releases = acc.releases;
+      verify_inside = acc.verify_inside;
+      paths = acc.paths;
+      makings = acc.makings;
+      made = acc.made;
+      sure = acc.sure;
+    }
+
+module _ (p : Pipe) (acc : Pathwise p) (arrays : Arrays) (args : List ℕ) where
   abbrev pub path : List ℕ
   path = (thread p arrays args).env
 
@@ -29,30 +91,33 @@ module _ (p : Pipe) (acc : Checked p) (arrays : Arrays) (args : List ℕ) where
   pub accq : Accepted (along (thread p arrays args).env p)
   accq = acc.paths (thread p arrays args).env
 
-  thread_path : thread p arrays args ≡ thread (along (thread p arrays args).env p) arrays args
+  pub thread_path : thread p arrays args ≡ thread (along (thread p arrays args).env p) arrays args
   thread_path = run_path (thread p arrays args).env p.stmts (Whole.start_run p arrays args) acc.fixed_guards refl
 
-  fixed_whole : Fixed (thread p arrays args).env (alone arrays) p.stmts (start_work p args)
-  fixed_whole =
-      fixed_path (thread p arrays args).env (alone arrays) p.stmts (start_work p args) acc.fixed_guards
-      ((Whole.related_whole (along (thread p arrays args).env p) accq arrays args).env ∙ ap (λ (r : Run). r.env) (sym thread_path))
+  -- a variable that is bound no more has its value of the path
+  pub value_kept : (s g : ℕ) → none_of (binds g) (from s p.stmts) ≡ true → slice_index (so_far (along (thread p arrays args).env p) arrays args s).env g ≡ slice_index (thread p arrays args).env g
+  value_kept s g h =
+      sym (all_stays g (alone arrays) (from s (onpath (thread p arrays args).env p.stmts)) (so_far (along (thread p arrays args).env p) arrays args s) (none_from_path (binds g) (thread p arrays args).env s p.stmts h))
+      ∙ ap (λ (w : Work). slice_index w.env g) (sym (Whole.rest_of (along (thread p arrays args).env p) accq arrays args s))
+      ∙ ap (λ l. slice_index l g) ((Whole.related_whole (along (thread p arrays args).env p) accq arrays args).env ∙ ap (λ (r : Run). r.env) (sym thread_path))
 
-  fixed_before : (s : ℕ) → Fixed (thread p arrays args).env (alone arrays) (before s p.stmts) (start_work p args)
-  fixed_before s = fixed_first (thread p arrays args).env (alone arrays) (before s p.stmts) (from s p.stmts) (start_work p args) (subst (λ l. Fixed (thread p arrays args).env (alone arrays) l (start_work p args)) (acc.ordered s) fixed_whole)
+  pub fixed_before : (s : ℕ) → Fixed (thread p arrays args).env (alone arrays) (before s p.stmts) (start_work p args)
+  fixed_before s =
+      fixed_path_to (thread p arrays args).env (alone arrays) (before s p.stmts) (in_stage s p.stmts ++ from (suc s) p.stmts) (start_work p args) (acc.fixed_by s)
+      (λ g k. ap (λ l. slice_index (do_all (alone arrays) l (start_work p args)).env g) (sym (before_path (thread p arrays args).env s p.stmts)) ∙ value_kept s g (none_parts (binds g) s p.stmts k))
 
   pub so_path : (s : ℕ) → so_far p arrays args s ≡ so_far (along (thread p arrays args).env p) arrays args s
   so_path s =
       fixed_all (thread p arrays args).env (alone arrays) (before s p.stmts) (start_work p args) (fixed_before s)
       ∙ ap (λ l. do_all (alone arrays) l (start_work p args)) (sym (before_path (thread p arrays args).env s p.stmts))
 
-  fixed_stage : (s : ℕ) → Fixed (thread p arrays args).env (alone arrays) (in_stage s p.stmts) (reset (so_far p arrays args s))
+  pub fixed_stage : (s : ℕ) → Fixed (thread p arrays args).env (alone arrays) (in_stage s p.stmts) (reset (so_far p arrays args s))
   fixed_stage s =
-      fixed_joined (thread p arrays args).env (alone arrays) (in_stage s p.stmts) (so_far p arrays args s) (reset (so_far p arrays args s))
-      (subst (λ w. Fixed (thread p arrays args).env (alone arrays) (in_stage s p.stmts) w) (rejoined (so_far p arrays args s))
-      (fixed_second (thread p arrays args).env (alone arrays) (before s p.stmts) (in_stage s p.stmts) (start_work p args)
-      (subst (λ l. Fixed (thread p arrays args).env (alone arrays) l (start_work p args)) (acc.pieces s) (fixed_before (suc s)))))
+      fixed_path_to (thread p arrays args).env (alone arrays) (in_stage s p.stmts) (from (suc s) p.stmts) (reset (so_far p arrays args s)) (fixed_behind (before s p.stmts) (in_stage s p.stmts ++ from (suc s) p.stmts) (acc.fixed_by s))
+      (λ g k. (λ i. slice_index (do_all (alone arrays) (sym (stage_path (thread p arrays args).env s p.stmts) i) (reset (so_path s i))).env g)
+      ∙ ap (λ (w : Work). slice_index w.env g) (sym (next_piece (along (thread p arrays args).env p) arrays args s (accq.pieces s))) ∙ value_kept (suc s) g k)
 
-  works_path : (s : ℕ) → works p (alone arrays) (placed p arrays args s) ≡ works (along (thread p arrays args).env p) (alone arrays) (placed (along (thread p arrays args).env p) arrays args s)
+  pub works_path : (s : ℕ) → works p (alone arrays) (placed p arrays args s) ≡ works (along (thread p arrays args).env p) (alone arrays) (placed (along (thread p arrays args).env p) arrays args s)
   works_path s =
       fixed_all (thread p arrays args).env (alone arrays) (in_stage s p.stmts) (reset (so_far p arrays args s)) (fixed_stage s)
       ∙ ap₂ (λ l (w : Work). do_all (alone arrays) l (reset w)) (sym (stage_path (thread p arrays args).env s p.stmts)) (so_path s)
@@ -92,25 +157,20 @@ module _ (p : Pipe) (acc : Checked p) (arrays : Arrays) (args : List ℕ) where
   pub row_after : (m : ℕ) → row (thread p arrays args).arrays m ≡ wrote (row arrays m) (of_mem m (thread p arrays args).writes)
   row_after m = ap (λ (r : Run). row r.arrays m) thread_path ∙ Whole.row_after _ accq arrays args m ∙ ap (λ (r : Run). wrote (row arrays m) (of_mem m r.writes)) (sym thread_path)
 
-  pub child_is : (s : ℕ) (x : List ℕ) → (so_far p arrays args s).child ≡ Some x → x ≡ (thread p arrays args).next
-  child_is s x h = (Whole.child_is _ accq arrays args s x (ap (λ (w : Work). w.child) (sym (so_path s)) ∙ h)).0 ∙ ap (λ (r : Run). r.next) (sym thread_path)
-
-  pub no_second : (s : ℕ) (x : List ℕ) → (so_far p arrays args s).child ≡ Some x → (works p (alone arrays) (placed p arrays args s)).child ≡ None
-  no_second s x h = ap (λ (w : Work). w.child) (works_path s) ∙ Whole.no_second _ accq arrays args (alone arrays) s x (ap (λ (w : Work). w.child) (sym (so_path s)) ∙ h)
-
-  pub child_in_end : (so_far p arrays args (length p.stages)).child ≡ Some (thread p arrays args).next
-  child_in_end = ap (λ (w : Work). w.child) (so_path (length p.stages)) ∙ Whole.child_in_end _ accq arrays args ∙ ap (λ (r : Run). Some r.next) (sym thread_path)
-
-  pub simple : (s : ℕ) → ((works p (alone arrays) (placed p arrays args s)).asks ≡ []) × ((works p (alone arrays) (placed p arrays args s)).fails ≡ false)
+  pub simple : (s : ℕ) → (works p (alone arrays) (placed p arrays args s)).asks ≡ []
   simple s =
-      let h = Whole.simple (along (thread p arrays args).env p) (opens_all (before s (along (thread p arrays args).env p).stmts) no_scan) (alone arrays) (in_stage s (along (thread p arrays args).env p).stmts) (reset (so_far (along (thread p arrays args).env p) arrays args s)) (Whole.reads_here _ accq arrays args s) in
-      (ap (λ (w : Work). w.asks) (works_path s) ∙ h.0, ap (λ (w : Work). w.fails) (works_path s) ∙ h.1)
+      ap (λ (w : Work). w.asks) (works_path s)
+      ∙ Whole.simple (along (thread p arrays args).env p) (opens_all (before s (along (thread p arrays args).env p).stmts) no_scan) (alone arrays) (in_stage s (along (thread p arrays args).env p).stmts) (reset (so_far (along (thread p arrays args).env p) arrays args s)) (Whole.reads_here _ accq arrays args s)
+
+  -- its stage's work is a piece of the whole thread's
+  pub piece : (s : ℕ) → so_far p arrays args (suc s) ≡ joined (so_far p arrays args s) (works p (alone arrays) (placed p arrays args s))
+  piece s = so_path (suc s) ∙ next_piece (along (thread p arrays args).env p) arrays args s (accq.pieces s) ∙ ap₂ joined (sym (so_path s)) (sym (works_path s))
 
   pub placed_next : (s : ℕ) → placed p arrays args (suc s) ≡ (let w = works p (alone arrays) (placed p arrays args s) in record { stage = suc s; env = w.env; entries = w.entries; guess = w.guess; awaits = [] })
-  placed_next s = ap (λ (w : Work). record { stage = suc s; env = w.env; entries = w.entries; guess = w.guess; awaits = [] }) (next_piece p arrays args s (acc.pieces s))
+  placed_next s = ap (λ (w : Work). record { stage = suc s; env = w.env; entries = w.entries; guess = w.guess; awaits = [] }) (piece s)
 
   pub child_next : (s : ℕ) → (so_far p arrays args (suc s)).child ≡ or_else (works p (alone arrays) (placed p arrays args s)).child (so_far p arrays args s).child
-  child_next s = ap (λ (w : Work). w.child) (next_piece p arrays args s (acc.pieces s))
+  child_next s = ap (λ (w : Work). w.child) (piece s)
 
   -- the locations that it has blocked for reading before stage s
   pub blocked_next : (s : ℕ) → opens_all (before (suc s) (onpath (thread p arrays args).env p.stmts)) no_scan ≡ opens_all (onpath (thread p arrays args).env (in_stage s p.stmts)) (opens_all (before s (onpath (thread p arrays args).env p.stmts)) no_scan)

@@ -9,7 +9,7 @@ use Rattle.pdl_model.specs.Stages.{list_any}
 use Rattle.pdl_model.specs.Machine.{Thread, State, Pending, Request, NoRequest, Ask, lock_of, request_of, answers}
 use Rattle.pdl_model.specs.Locks.{commit_value}
 use Rattle.pdl_model.specs.Moves.{Act, next_stage, all_acts, movers}
-use Rattle.pdl_model.specs.Cycle.{after_these, cycle, first, state_after, for_mems, list_three, taken_out, with_commit, with_commits, entries_left, request_left, request_next, asked_by, asked_of, awaited_of, moved, or_then, if_stays, born, child_of, stands, squasher, stage_next, waits_from}
+use Rattle.pdl_model.specs.Cycle.{after_these, cycle, first, state_after, for_mems, list_three, taken_out, port_write, with_commit, with_commits, entries_left, request_left, request_next, asked_by, asked_of, awaited_of, moved, or_then, if_stays, born, child_of, stands, squasher, stage_next, waits_from}
 use Rattle.pdl_rules.specs.Refusal.{KeepsRules, is_in_line}
 use Rattle.pdl_refine.specs.Accepted.{Text, Checked}
 use Rattle.pdl_refine.proofs.Simulates.{at_mem, mems_same}
@@ -129,7 +129,7 @@ module _ (p : Pipe) (acc : Checked p) (text : Text p) (st : State) (calm : IsCal
         movers = movers_here;
         valid = stages_below _ _ 0 p.stages (λ s h i. ap (list_any (λ (a : Act). a.stage == s)) these_are ∙ valid_at p acc text st (length p.stages) 0 s h i);
         moves = stages_below _ _ 0 p.stages (λ s h i. ap (list_any (λ (a : Act). a.stage == s)) movers_here ∙ moves_at p acc text st (length p.stages) 0 s h i);
-        commits = ap (λ ms. for_mems (λ m. taken_out st ms m) 0 p.mems) movers_here;
+        commits = ap (λ ms. for_mems (λ m. port_write (taken_out st ms m)) 0 p.mems) movers_here;
         ended = ended_is;
         squash = ap is_some nobody_squashes;
         wait = ap (waits_from p bits 0) calm.requests ∙ none_waits p bits 0 p.mems;

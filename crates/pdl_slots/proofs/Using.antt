@@ -29,13 +29,14 @@ use Rattle.pdl_slots.specs.Slots.{slot, goes, mover, movers_from, moving}
 use Rattle.pdl_slots.specs.Ports.{bit}
 use Rattle.pdl_slots.specs.Use.{is_early, IsInUse}
 use Rattle.pdl_slots.proofs.Stagewise.{by_stages}
-use Rattle.pdl_slots.proofs.UsingTurn.{Bare, writes_to, one_path}
+use Rattle.pdl_slots.proofs.UsingTurn.{Bare, bare_path, writes_to, one_path}
 use Rattle.pdl_slots.proofs.UsingStands.{Goods, reached}
 use Rattle.pdl_slots.proofs.UsingLists.{count_filled, has_right, has_left, has_appended, within_ordered}
 use Rattle.pdl_slots.proofs.UsingLives.{find_case, ms, all_own, within_pends, within_appended, all_older, length_one, count_behind, has_one, Taken, taken, none_plain}
 use Rattle.pdl_slots.proofs.UsingReads.{reads_ready}
 use Rattle.pdl_slots.proofs.UsingEarly.{early_in_line}
 use Rattle.pdl_slots.proofs.UsingCall.{bare_flat, one_child}
+use Rattle.pdl_refine.specs.Certain.{Unmade, makings_ok}
 
 -- STAGES
 
@@ -206,7 +207,7 @@ module _ (p : Pipe) (acc : Checked p) (text : Text p) (bare : Bare p.stmts) (ear
       behind = behind_here;
       releaser = λ m h. let q = taken_here m h in (own q.number (entry m 0 q.address (Some q.value)), q.rest, q.value, two_here m ∙ q.list, refl);
       shifts = shifts_here;
-      once = one_child p (one_path p acc bare) st;
+      once = one_child p (one_path p acc bare) ((λ i. makings_ok (sym text.no_verify i) Unmade (sym (bare_path [] p.stmts bare) i)) ∙ acc.makings []) st;
       reads = λ k t h. reads_ready p (one_path p acc bare) bare st k st.next t (l ∷ os) sim.locks goods sim.falls (found k t h);
     }
 

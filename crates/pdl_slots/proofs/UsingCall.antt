@@ -10,7 +10,9 @@ use Rattle.pdl_model.specs.Machine.{State, Thread, Deeds, does, does_all, deeds,
 use Rattle.pdl_rules.specs.Refusal.{all_lined}
 use Rattle.pdl_rules.specs.Typed.{vars_after}
 use Rattle.pdl_refine.specs.Alone.{before, is_call}
-use Rattle.pdl_refine.specs.Scans.{Scan, none_of, from, called, makes, opens, op_ok, reads_ok, no_scan}
+use Rattle.pdl_refine.specs.Scans.{none_of, from, called, makes}
+use Rattle.pdl_refine.specs.Certain.{Making, Unmade, Made, next_making, making_all, is_guessed, making_ok, makings_ok}
+use Rattle.pdl_refine.proofs.Guesses.{makings_first, makings_second}
 use Rattle.pdl_refine.specs.Accepted.{Accepted}
 use Rattle.pdl_refine.proofs.Writes.{and_left, and_right}
 use Rattle.pdl_promise.proofs.Rows.{rows}
@@ -62,26 +64,59 @@ called_stays : (xs : List Stmt) → called true xs ≡ true
 called_stays [] = refl
 called_stays (x ∷ xs) = called_stays xs
 
--- without a call nothing makes a thread
-none_made : (p : Pipe) (c : Scan) (xs : List Stmt) → called false xs ≡ false → reads_ok p c xs ≡ true → none_of makes xs ≡ true
-none_made p c [] h r = refl
-none_made p c (x ∷ xs) h r = at (is_call x.op) refl h (none_made p (opens x.op c) xs)
+-- without V only calls make threads, and one of them at most
+none_now : (xs : List Stmt) → makings_ok None Made xs ≡ true → none_of makes xs ≡ true
+none_now [] h = refl
+none_now (x ∷ xs) h = at x.op (and_left (making_ok None Made x.stage x.op) _ h) (λ e. none_now xs (subst (λ k. makings_ok None k xs ≡ true) e (and_right (making_ok None Made x.stage x.op) _ h)))
   where
-    alike : (op : Op) → is_call op ≡ false → op_ok p x.stage c op ≡ true → not (makes op) ≡ true
-    alike (Call args) e k = absurd (clash (sym e))
-    alike (SpecCall args) e k = absurd (clash k)
-    alike (Verify args) e k = absurd (clash k)
-    alike _ e k = refl
+    at : (op : Op) → making_ok None Made x.stage op ≡ true → (next_making Made op ≡ Made → none_of makes xs ≡ true) → (not (makes op) && none_of makes xs) ≡ true
+    at (Call args) k go = absurd (clash k)
+    at (SpecCall args) k go = absurd (clash k)
+    at (Verify args) k go = absurd (clash k)
+    at _ k go = go refl
 
-    at : (b : Bool) → is_call x.op ≡ b → called b xs ≡ false → (called false xs ≡ false → reads_ok p (opens x.op c) xs ≡ true → none_of makes xs ≡ true) → (not (makes x.op) && none_of makes xs) ≡ true
-    at true e k go = absurd (clash (sym k ∙ called_stays xs))
-    at false e k go = ap₂ (λ a b. a && b) (alike x.op e (and_right _ (op_ok p x.stage c x.op) (and_left _ _ r))) (go k (and_right _ (reads_ok p (opens x.op c) xs) r))
-
-pub one_child : (p : Pipe) → Accepted p → (st : State) (j k : ℕ) (t u : Thread) → j < k → is_some (deeds p st j t).child ≡ true → (deeds p st k u).child ≡ None
-one_child p acc st j k t u i h = at (called false (before (suc j) p.stmts)) refl
+none_made : (k : Making) (xs : List Stmt) → makings_ok None k xs ≡ true → called false xs ≡ false → none_of makes xs ≡ true
+none_made k [] h c = refl
+none_made k (x ∷ xs) h c = at x.op (and_left (making_ok None k x.stage x.op) _ h) c (none_made (next_making k x.op) xs (and_right (making_ok None k x.stage x.op) _ h))
   where
+    at : (op : Op) → making_ok None k x.stage op ≡ true → called (is_call op) xs ≡ false → (called false xs ≡ false → none_of makes xs ≡ true) → (not (makes op) && none_of makes xs) ≡ true
+    at (Call args) j e go = absurd (clash (sym e ∙ called_stays xs))
+    at (SpecCall args) j e go = absurd (clash (sym e ∙ called_stays xs))
+    at (Verify args) j e go = absurd (clash (and_right (is_guessed k) false j))
+    at _ j e go = go e
+
+made_stays : (xs : List Stmt) → makings_ok None Made xs ≡ true → making_all Made xs ≡ Made
+made_stays [] h = refl
+made_stays (x ∷ xs) h = at x.op (and_left (making_ok None Made x.stage x.op) _ h) (λ e. made_stays xs (subst (λ k. makings_ok None k xs ≡ true) e (and_right (making_ok None Made x.stage x.op) _ h)))
+  where
+    at : (op : Op) → making_ok None Made x.stage op ≡ true → (next_making Made op ≡ Made → making_all Made xs ≡ Made) → making_all (next_making Made op) xs ≡ Made
+    at (Call args) k go = absurd (clash k)
+    at (SpecCall args) k go = absurd (clash k)
+    at (Verify args) k go = absurd (clash k)
+    at _ k go = go refl
+
+called_made : (xs : List Stmt) → makings_ok None Unmade xs ≡ true → called false xs ≡ true → making_all Unmade xs ≡ Made
+called_made [] h c = absurd (clash c)
+called_made (x ∷ xs) h c = at x.op (and_left (making_ok None Unmade x.stage x.op) _ h) (and_right (making_ok None Unmade x.stage x.op) _ h) c (called_made xs)
+  where
+    at : (op : Op) → making_ok None Unmade x.stage op ≡ true → makings_ok None (next_making Unmade op) xs ≡ true → called (is_call op) xs ≡ true → (makings_ok None Unmade xs ≡ true → called false xs ≡ true → making_all Unmade xs ≡ Made) → making_all (next_making Unmade op) xs ≡ Made
+    at (Call args) j r e go = made_stays xs r
+    at (SpecCall args) j r e go = absurd (clash j)
+    at (Verify args) j r e go = absurd (clash j)
+    at _ j r e go = go r e
+
+pub one_child : (p : Pipe) → Accepted p → makings_ok None Unmade p.stmts ≡ true → (st : State) (j k : ℕ) (t u : Thread) → j < k → is_some (deeds p st j t).child ≡ true → (deeds p st k u).child ≡ None
+one_child p acc ok st j k t u i h = at (called false (before (suc j) p.stmts)) refl
+  where
+    whole : makings_ok None Unmade (before (suc j) p.stmts ++ from (suc j) p.stmts) ≡ true
+    whole = subst (λ l. makings_ok None Unmade l ≡ true) (acc.ordered (suc j)) ok
+
+    first : makings_ok None Unmade (before (suc j) p.stmts) ≡ true
+    first = makings_first None Unmade (before (suc j) p.stmts) (from (suc j) p.stmts) whole
+
     at : (b : Bool) → called false (before (suc j) p.stmts) ≡ b → (deeds p st k u).child ≡ None
-    at true e = child_kept (word_for st u.number) (in_stage k p.stmts) _ (none_from makes (suc j) k p.stmts i (acc.once (suc j) e))
+    at true e = child_kept (word_for st u.number) (in_stage k p.stmts) _ (none_from makes (suc j) k p.stmts i
+        (none_now (from (suc j) p.stmts) (subst (λ m. makings_ok None m (from (suc j) p.stmts) ≡ true) (called_made (before (suc j) p.stmts) first e) (makings_second None Unmade (before (suc j) p.stmts) (from (suc j) p.stmts) whole))))
     at false e =
-        let none : none_of makes (in_stage j p.stmts) ≡ true = none_second makes (before j p.stmts) (in_stage j p.stmts) (subst (λ l. none_of makes l ≡ true) (acc.pieces j) (none_made p no_scan (before (suc j) p.stmts) e (acc.reads (suc j)))) in
+        let none : none_of makes (in_stage j p.stmts) ≡ true = none_second makes (before j p.stmts) (in_stage j p.stmts) (subst (λ l. none_of makes l ≡ true) (acc.pieces j) (none_made Unmade (before (suc j) p.stmts) first e)) in
         absurd (clash (ap is_some (sym (child_kept (word_for st t.number) (in_stage j p.stmts) _ none)) ∙ h))

@@ -2,10 +2,10 @@
 use Rattle.std.proofs.Common.{◌≡◌, ◌≢◌, refl, sym, ap, ap₂, ◌∙◌, subst, ℕ, ◌≤◌, ◌<◌, Bool, true, false, ◌&&◌, ◌||◌, not, List, [], ◌∷◌, ◌++◌, Some, ◌==◌, cond, arith, nat_lt, nat_le, slice_index, slice_set, ltb-true, le_refl}
 use Rattle.std.proofs.lemmas.List.{get_or-set_other}
 use Rattle.std.proofs.lemmas.Bool.{eqb-true, eqb-false, leb-true}
-use Rattle.pdl_model.specs.Flat.{list_all, Op, Bind, CombRead, DelayedRead, ReserveWrite, Block, Release, SpecCall, Verify, Stmt, Lock, Plain, Queue, Bypass, Rename, Pipe, taken, value_of}
+use Rattle.pdl_model.specs.Flat.{list_all, Op, Bind, CombRead, DelayedRead, ReserveWrite, Block, Release, Verify, Stmt, Lock, Plain, Queue, Bypass, Rename, Pipe, taken, value_of, values_of}
 use Rattle.pdl_model.specs.Stages.{in_stage, mem_at, reserve_stage, commit_stage}
 use Rattle.pdl_model.specs.Locks.{Latest, Nothing, read_ready, write_ready}
-use Rattle.pdl_model.specs.Machine.{State, Thread, Place, Blocked, Deeds, does, is_held, let_go, held_after, held_before, older_write, word_for, youngest, lock_of}
+use Rattle.pdl_model.specs.Machine.{State, Thread, Place, Blocked, Deeds, does, is_held, let_go, held_after, held_before, older_write, word_for, youngest, lock_of, same_args}
 use Rattle.pdl_model.specs.Moves.{block_ready, blocks_ready, have_room}
 use Rattle.pdl_refine.specs.Derived.{latest}
 use Rattle.pdl_refine.specs.Derived
@@ -140,8 +140,11 @@ module _ (p : Pipe) (st : State) (n : ℕ) where
 
   covers_next : (s : ℕ) (c : Scan) (op : Op) (d : Deeds) → op_ok p s c op ≡ true → Covers c.held d.held → Covers (opens op c).held (does (word_for st n) op d).held
   covers_next s c (DelayedRead x m a) d h f = absurd (clash h)
-  covers_next s c (SpecCall args) d h f = absurd (clash h)
-  covers_next s c (Verify args) d h f = absurd (clash h)
+  covers_next s c (Verify args) d h f = at (same_args (values_of args d.env) d.guess)
+    where
+      at : (b : Bool) → Covers c.held (cond b d (record d { child = Some (values_of args d.env); fails = true })).held
+      at true = f
+      at false = f
   covers_next s c (ReserveWrite m a) d h f = covers_op c (ReserveWrite m a) d.held f
   covers_next s c (Release m a) d h f = covers_op c (Release m a) d.held f
   covers_next s c (Block m a) d h f = covers_op c (Block m a) d.held f
@@ -151,8 +154,11 @@ module _ (p : Pipe) (st : State) (n : ℕ) where
   right_next s c (Bind x e) d h f r = λ k. right_set p s Clean c.blocked d.env x (value_of e d.env) h (r k)
   right_next s c (CombRead x m a) d h f r = λ k. right_set p s Clean c.blocked d.env x (word_for st n m (slice_index d.env a)) (and_left (not (uses c.blocked x)) _ h) (r k)
   right_next s c (DelayedRead x m a) d h f r = absurd (clash h)
-  right_next s c (SpecCall args) d h f r = absurd (clash h)
-  right_next s c (Verify args) d h f r = absurd (clash h)
+  right_next s c (Verify args) d h f r = at (same_args (values_of args d.env) d.guess)
+    where
+      at : (b : Bool) → RightIf s c (cond b d (record d { child = Some (values_of args d.env); fails = true }))
+      at true = r
+      at false = r
   right_next s c (ReserveWrite m a) d h f r = λ k. r (ap₂ (λ x y. x && y) (and_left (blocks_ready p st n d) _ k) (all_more _ d.reserves _ (and_right (blocks_ready p st n d) _ k)).0)
   right_next s c (Block m a) d h f r = λ k.
       let b : Blocked = record { mem = m; address = slice_index d.env a; writes = is_held d.held m a } in

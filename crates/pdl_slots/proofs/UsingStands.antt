@@ -1,5 +1,5 @@
 -- The live threads of each state that a run comes to: each is the thread of a turn, and what it has blocked is ready among the older ones.
-use Rattle.std.proofs.Common.{◌≡◌, refl, sym, ap, ◌∙◌, subst, ℕ, ◌≤◌, ◌<◌, Bool, true, List, [], ◌∷◌, ◌++◌, length, Option, Some, None, arith, append-nil, append_assoc, le_refl}
+use Rattle.std.proofs.Common.{◌≡◌, false, refl, sym, ap, ◌∙◌, subst, ℕ, ◌≤◌, ◌<◌, Bool, true, List, [], ◌∷◌, ◌++◌, length, Option, Some, None, arith, append-nil, append_assoc, le_refl}
 use Rattle.pdl_model.specs.Flat.{Arrays, Pipe, Commit, of_mem}
 use Rattle.pdl_model.specs.Stages.{mem_at, reserve_stage}
 use Rattle.pdl_model.specs.Locks.{Nothing, read_ready}
@@ -16,7 +16,8 @@ use Rattle.pdl_refine.proofs.Marks.{seen, seen_append}
 use Rattle.pdl_refine.proofs.Pending.{marks}
 use Rattle.pdl_refine.proofs.TurnFacts.{blocked_at}
 use Rattle.pdl_refine.proofs.Lives.{Writes, Marks, placed_all, Standing, Tail, Last}
-use Rattle.pdl_refine.proofs.Instance.{facts, no_stray}
+use Rattle.pdl_refine.proofs.Instance.{facts}
+use Rattle.pdl_refine.proofs.TurnFacts.{right_guess}
 use Rattle.pdl_refine.proofs.Refine.{Runs, run_of}
 use Rattle.pdl_refine.proofs.Slots.{Live, threads_of, rev}
 use Rattle.pdl_refine.proofs.Next.{rev_append}
@@ -53,7 +54,7 @@ module _ (p : Pipe) (acc : Checked p) (text : Text p) (bare : Bare p.stmts) wher
 
       more : (m a : ℕ) → reserve_stage p m < s → latest (placed p arrays args s ∷ older) m a ≡ seen a (v m ++ marks p arrays args s m) Nothing
       more m a i =
-          Turns.marks_seen p acc arrays args s m a (latest older m a) i
+          Turns.marks_seen p (Turns.core p acc) arrays args s m a (latest older m a) i
           ∙ ap (seen a (marks p arrays args s m)) (f m a (let j = low in omega arith))
           ∙ sym (seen_append a (v m) (marks p arrays args s m) Nothing)
 
@@ -70,20 +71,24 @@ module _ (p : Pipe) (acc : Checked p) (text : Text p) (bare : Bare p.stmts) wher
             (λ m a i r. ap (read_ready (mem_at p m).lock) (f m a (let j = low in omega arith)) ∙ r) h.0.clean);
       }
 
-  no_strays : (arrays : Arrays) (args : List ℕ) (ss : List ℕ) (strays : List Derived.Thread) → Tail p (facts p acc).stray (facts p acc).made arrays args ss strays → strays ≡ []
-  no_strays arrays args [] strays h = h
-  no_strays arrays args (s ∷ []) strays h = at (so_far p arrays args s).child strays h
+  no_strays : (past w : Writes) (v : Marks) (arrays : Arrays) (args : List ℕ) (bound : ℕ) (ss : List ℕ) (strays : List Derived.Thread) → Standing p past w v arrays args bound ss
+      → Tail p (facts p acc).stray (facts p acc).made arrays args ss strays → strays ≡ []
+  no_strays past w v arrays args bound [] strays k h = h
+  no_strays past w v arrays args bound (s ∷ []) strays k h = at (so_far p arrays args s).child refl k.0.linked strays h
     where
-      at : (c : Option (List ℕ)) (ts : List Derived.Thread) → Last p (facts p acc).stray (facts p acc).made s c ts → ts ≡ []
-      at None ts h = h
-      at (Some x) [] h = refl
-      at (Some x) (t ∷ ts) h = absurd (no_stray p acc t h.0)
-  no_strays arrays args (s ∷ s' ∷ ss) strays h = no_strays (thread p arrays args).arrays (thread p arrays args).next (s' ∷ ss) strays h
+      at : (c : Option (List ℕ)) → (so_far p arrays args s).child ≡ c → right_guess c (thread p arrays args).next ≡ false → (ts : List Derived.Thread) → Last p (facts p acc).stray (facts p acc).made s c ts → ts ≡ []
+      at None e g ts h = h
+      at (Some x) e g ts h = absurd (none (sym text.no_verify ∙ ((facts p acc).wrong_made arrays args s x e g).1))
+        where
+          none : {n : ℕ} → None ≡ Some n → ⊥
+          none i = cc
+  no_strays past w v arrays args bound (s ∷ s' ∷ ss) strays k h =
+      no_strays past (λ m. w m ++ of_mem m (thread p arrays args).writes) (λ m. v m ++ marks p arrays args s m) (thread p arrays args).arrays (thread p arrays args).next s (s' ∷ ss) strays k.1 h
 
   goods_run : (image : Arrays) (n : ℕ) (past : List Commit) (d : Derived.State) → Runs p (facts p acc).stray (facts p acc).made image n past d → Goods p (rev d.threads)
   goods_run image n past d r =
       let e : d.threads ≡ placed_all p (after_turns p image n).arrays (after_turns p image n).next r.stages =
-      r.threads ∙ ap (λ l. placed_all p (after_turns p image n).arrays (after_turns p image n).next r.stages ++ l) (no_strays _ _ r.stages r.strays r.tail) ∙ append-nil _ in
+      r.threads ∙ ap (λ l. placed_all p (after_turns p image n).arrays (after_turns p image n).next r.stages ++ l) (no_strays _ _ _ _ _ _ r.stages r.strays r.standing r.tail) ∙ append-nil _ in
       subst (λ ts. Goods p (rev ts)) (sym e) (subst (Goods p) (append-nil _) (goods_all _ _ _ (after_turns p image n).arrays (after_turns p image n).next (length p.stages) r.stages [] (λ m a h. refl) r.standing tt))
 
 -- a state of a run, with its live threads, the youngest first

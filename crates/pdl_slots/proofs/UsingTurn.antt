@@ -1,8 +1,8 @@
 -- What a thread's stage does to its pending writes of one memory, in a pipe without guards.
 use Rattle.std.proofs.Common.{◌≡◌, refl, sym, ap, ◌∙◌, subst, ℕ, suc, ◌≤◌, inl, inr, Bool, true, false, ◌&&◌, ◌||◌, not, List, [], ◌∷◌, ◌++◌, length, Option, Some, None, ◌==◌, cond, if◌then◌else◌, arith, eq-eqb, slice_index, append-nil, append_assoc, nat_lt, ltb-true, ltb-false}
-use Rattle.pdl_model.specs.Flat.{Arrays, Commit, of_mem, Op, DelayedRead, Write, ReserveWrite, CombRead, Block, Release, SpecCall, Verify, Stmt, Guard, Pipe, taken, value_of}
+use Rattle.pdl_model.specs.Flat.{Arrays, Commit, of_mem, Op, DelayedRead, Write, ReserveWrite, CombRead, Block, Release, Verify, Stmt, Guard, Pipe, taken, value_of, values_of}
 use Rattle.pdl_model.specs.Stages.{list_any, onpath, in_stage, is_reserve, mem_at, reserve_stage, commit_stage}
-use Rattle.pdl_model.specs.Machine.{Pending, Written, Deeds, does, does_all}
+use Rattle.pdl_model.specs.Machine.{Pending, Written, Deeds, does, does_all, same_args}
 use Rattle.pdl_model.specs.Cycle.{new_entries, put, put_all}
 use Rattle.pdl_refine.specs.Derived.{Entry, Work, Around}
 use Rattle.pdl_refine.specs.Derived
@@ -142,8 +142,11 @@ module _ (read : ℕ → ℕ → ℕ) (m n : ℕ) (start : List Pending) where
   wrote_next (ReserveWrite j a) ph d es cs k g w = λ h. subst (λ l. some (start ++ l) ≡ true) (sym (new_more m n d.reserves (record { mem = j; address = slice_index d.env a })))
       (subst (λ l. some l ≡ true) (append_assoc start (new_entries m n d.reserves) _) (some_more (start ++ new_entries m n d.reserves) _ (w h)))
   wrote_next (DelayedRead x j a) ph d es cs k g w = absurd (clash k)
-  wrote_next (SpecCall args) ph d es cs k g w = absurd (clash k)
-  wrote_next (Verify args) ph d es cs k g w = absurd (clash k)
+  wrote_next (Verify args) ph d es cs k g w = at (same_args (values_of args d.env) d.guess)
+    where
+      at : (b : Bool) → Wrote (cond b d (record d { child = Some (values_of args d.env); fails = true }))
+      at true = w
+      at false = w
   wrote_next _ ph d es cs k g w = w
 
   -- at the end

@@ -4,7 +4,7 @@ use Rattle.pdl_model.specs.Flat.{Pipe}
 use Rattle.pdl_model.specs.Machine.{State, lock_of}
 use Rattle.pdl_model.specs.Moves.{all_acts}
 use Rattle.pdl_model.specs.Moves as model
-use Rattle.pdl_model.specs.Cycle.{Ports, cycle, for_mems, for_stages, list_three, taken_out, with_commit, or_then, born, child_of, is_wait}
+use Rattle.pdl_model.specs.Cycle.{Ports, cycle, for_mems, for_stages, list_three, taken_out, port_write, with_commit, or_then, born, child_of, is_wait}
 use Rattle.pdl_model.specs.Cycle as model_cycle
 use Rattle.pdl_slots.specs.Slots.{slot, goes, moving, passes, stays}
 
@@ -17,7 +17,7 @@ pub record IsByStages (p : Pipe) (st : State) (bits : List Bool) : Type 0 where
   -- the ports
   pub valid : (ports_of p st bits).valid ≡ for_stages (λ k. is_some (slot st k)) 0 p.stages
   pub moves : (ports_of p st bits).moves ≡ for_stages (λ k. goes p st k) 0 p.stages
-  pub commits : (ports_of p st bits).commits ≡ for_mems (λ m. taken_out st (moving p st) m) 0 p.mems
+  pub commits : (ports_of p st bits).commits ≡ for_mems (λ m. port_write (taken_out st (moving p st) m)) 0 p.mems
   pub ended : (ports_of p st bits).ended ≡ goes p st (length p.stages - 1)
   pub squash : (ports_of p st bits).squash ≡ false
   pub wait : is_wait p st bits ≡ false

@@ -1,0 +1,31 @@
+-- What holds of each tree that is read from a source, besides the rules: where its `if`s begin.
+use Rattle.std.specs.Prelude.{ℕ, Bool, true, false, not, ◌&&◌, List, [], ◌∷◌, Option, Some, None}
+use Rattle.std.specs.List.{list_any}
+use Rattle.pdl_model.specs.Tree.{If, Pipe}
+use Rattle.pdl_rules.specs.Places.{Place, Statement, Guard, Shared, Own, guard_of, same_guard, places}
+
+-- whether a place is an `if` on an expression that begins at byte n
+abbrev pub begins_at : ℕ → Place → Bool
+begins_at n (Statement (If s c _ _) _) = same_guard (Own n) (guard_of s c)
+begins_at n _ = false
+
+-- where an `if` on an expression begins
+abbrev pub start_of : Guard → Option ℕ
+start_of (Shared x) = None
+start_of (Own n) = Some n
+
+abbrev pub own_start : Place → Option ℕ
+own_start (Statement (If s c _ _) _) = start_of (guard_of s c)
+own_start _ = None
+
+abbrev pub is_new : Option ℕ → List Place → Bool
+is_new None xs = true
+is_new (Some n) xs = not (list_any (begins_at n) xs)
+
+-- no two of them begin at one byte
+abbrev pub are_apart : List Place → Bool
+are_apart [] = true
+are_apart (x ∷ xs) = is_new (own_start x) xs && are_apart xs
+
+abbrev pub is_source : Pipe → Bool
+is_source p = are_apart (places p)

@@ -1,0 +1,2 @@
+pub mod StageFacts
+pub mod Visits
