@@ -11,7 +11,7 @@ use Rattle.pdl_net.specs.Well.{IsWell, IsWellWrite, Suits}
 use Rattle.pdl_net.specs.declared.Array.{Array}
 use Rattle.pdl_net.proofs.Bounds.{bounded}
 use Rattle.pdl_netrun.specs.Inside.{Holds}
-use Rattle.pdl_netrun.proofs.Writes.{arrays_at, arrays_length}
+use Rattle.pdl_netrun.proofs.Arrays.{arrays_at, arrays_length}
 
 -- where there are no inputs
 pub suits_of : (c : Circuit) (regs : List ℕ) (arrays : List (List ℕ)) → Holds c regs arrays → inputs_of c ≡ [] → Suits c (record { inputs = []; regs = regs; arrays = arrays })

@@ -17,7 +17,7 @@ use Rattle.pdl_net.specs.Well.{IsWell}
 use Rattle.pdl_net.specs.Run.{delayed_mems, filled, loaded, no_mem}
 use Rattle.pdl_net.specs.Pipe.{Head, head_of, is_input, PortMem, stage_ports, commit_ports, pipe_ports, comb_info, mems_of, IsPipe, IsWellFormed}
 use Rattle.pdl_image.specs.Images.{IsImage}
-use Rattle.pdl_netrun.specs.Values.{ImageFits}
+use Rattle.pdl_netrun.specs.Plan.{ImageFits}
 use Rattle.pdl_netrun.specs.Inside.{Holds}
 
 pub ruleset resets = (map_more)

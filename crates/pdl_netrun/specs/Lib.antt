@@ -1,4 +1,5 @@
-pub mod Values
+pub mod Steps
+pub mod Plan
 pub mod Places
 pub mod Sim
 pub mod Inside

@@ -14,6 +14,10 @@ pub record Run : Type 0 where
 abbrev pub nothing : Netlist → Shown
 nothing n = record { ports = replicate (length (outputs_of (circuit_of n))) 0; waited = false }
 
+-- before the first cycle, where registers and arrays hold this
+abbrev pub begun : Netlist → List ℕ → List (List ℕ) → Run
+begun n regs arrays = record { netlist = n; held = record { regs = regs; arrays = arrays; stores = [] }; last = nothing n }
+
 -- at the start of the first cycle
 abbrev pub started : Netlist → List (List ℕ) → Run
 started n image = record { netlist = n; held = start n image; last = nothing n }

@@ -2,12 +2,12 @@
 
 ghost use Rattle.std.specs.Prelude.{◌≡◌, ◌++◌, map, filter_map, bytes_eq, IfOk};
 ghost use Rattle.std.specs.List.{position_from};
-ghost use Rattle.pdl_net.specs.Circuit.{circuit_of, outputs_of, port_output};
+ghost use Rattle.pdl_net.specs.Circuit.{circuit_of, port_output};
 ghost use Rattle.pdl_net.specs.Run.{value_at, place_of as place_in};
 ghost use Rattle.pdl_netrun.specs.Places.{places_of};
 
 use pdl_kit::{MemInfo, Name, NoMemory};
-use pdl_net::{Dir, Net, Netlist, Port};
+use pdl_net::{Dir, Netlist, Port};
 use std::alloc::Global;
 
 /// The places of a memory's commit ports among the outputs, where they are.
@@ -16,19 +16,6 @@ pub struct CommitPlaces {
     pub commit: Option<usize>,
     pub addr: Option<usize>,
     pub value: Option<usize>,
-}
-
-/// The nets that drive the outputs, in order.
-pub fn all_drivers(alloc: Global, net: &Netlist) -> Result<Vec<Net>, NoMemory>
-    ensures { IfOk result (λ v. v.items ≡ map (λ o. o.net) (outputs_of (circuit_of net.now))) }
-{
-    let mut drivers = Vec::new(alloc);
-    for port in net.ports.as_slice() {
-        if let Dir::Out(driver) = port.dir {
-            drivers.push(driver)?;
-        }
-    }
-    Ok(drivers)
 }
 
 /// The places of all memories' commit ports, in the memories' order.

@@ -1,36 +1,47 @@
 // The simulator.
 
-ghost use Rattle.std.specs.Prelude.{◌≡◌, ◌<◌, ◌-◌, [], length, slice_index, IfOk};
-ghost use Rattle.pdl_net.specs.Circuit.{circuit_of, outputs_of};
+ghost use Rattle.std.specs.Prelude.{◌≡◌, ◌+◌, ◌++◌, ◌<◌, ◌≤◌, [], drop, length, slice_index, take, IfOk};
+ghost use Rattle.pdl_net.specs.Circuit.{circuit_of, inputs_of, outputs_of};
+ghost use Rattle.pdl_net.specs.Well.{IsWell};
 ghost use Rattle.pdl_net.specs.Run.{delayed_mems, committed_by};
 ghost use Rattle.pdl_net.specs.Pipe.{IsWellFormed};
 ghost use Rattle.pdl_image.specs.Images.{IsImage};
-ghost use Rattle.pdl_netrun.specs.Sim.{started, stepped};
+ghost use Rattle.pdl_netrun.specs.Sim.{begun, started, stepped};
+ghost use Rattle.pdl_netrun.specs.Steps.{lists};
+ghost use Rattle.pdl_netrun.specs.Plan.{HasConstants, layout_of, value_count};
+ghost use Rattle.pdl_netrun.specs.Inside.{Holds, registers};
 
-use crate::arrays::write_arrays;
-use crate::cells::{read_all, step_regs, walk};
-use crate::places::{CommitPlaces, all_drivers, all_places, value_at_place};
-use crate::start::{all_arrays, all_resets, all_widths};
+use crate::places::{CommitPlaces, all_places, value_at_place};
+use crate::plan::{
+    Layout, all_drivers, all_nexts, all_steps, all_writes, put_constants, put_inputs, put_resets,
+};
+use crate::start::all_arrays;
+use crate::step::{Step, read_places, take_steps};
+use crate::widths::all_widths;
+use crate::writes::{ArrayWrite, write_words};
 use pdl_image::Image;
 use pdl_kit::NoMemory;
-use pdl_net::{Net, Netlist};
+use pdl_net::Netlist;
 use std::alloc::Global;
 use std::marker::Model;
-use std::mem;
 
 /// A netlist that runs, cycle by cycle, with room made for all that its calls use.
 ///
-/// It holds the values of registers and arrays at the start of the next cycle, and those of the outputs in the last one.
+/// Its plan is made once: one list of values for inputs, registers and cells, and for each cell a step over places in that list, so that a cycle looks up no net and no width.
+/// Between cycles it holds the values of registers and arrays at the start of the next cycle, and those of the outputs in the last one.
 #[derive(Drop)]
 pub struct Sim<'a> {
     net: &'a Netlist,
-    widths: Vec<u8>,
-    drivers: Vec<Net>,
+    first_reg: usize,
+    first_cell: usize,
+    steps: Vec<Step>,
+    nexts: Vec<usize>,
+    drivers: Vec<usize>,
+    writes: Vec<ArrayWrite>,
     commits: Vec<CommitPlaces>,
-    regs: Vec<u64>,
-    next: Vec<u64>,
-    arrays: Vec<Vec<u64>>,
     values: Vec<u64>,
+    arrays: Vec<Vec<u64>>,
+    next: Vec<u64>,
     outs: Vec<u64>,
 }
 
@@ -56,61 +67,68 @@ impl<'a> Sim<'a> {
         requires here { delayed_mems net.now ≡ [] }
         ensures { IfOk result (λ sim. sim ≡ started net.now image.now) }
     {
-        let widths = all_widths(alloc, net)?;
-        let drivers = all_drivers(alloc, net)?;
-        let commits = all_places(alloc, net)?;
-        let regs = all_resets(alloc, net)?;
+        let mut values = Vec::new(alloc);
+        put_inputs(net, &mut values)?;
+        let regs = values.len();
+        put_resets(net, &mut values)?;
+        let cells = values.len();
+        put_constants(net, &mut values)?;
+        let layout = Layout { regs, cells };
         let arrays = all_arrays(alloc, net, image)?;
-        let next = vec![in alloc; 0; net.regs.len()]?;
-        let values = vec![in alloc; 0; net.cells.len()]?;
+        Sim::planned(alloc, net, layout, values, arrays)
+    }
+
+    /// The plan of a netlist, with its values and arrays at the start.
+    fn planned(
+        alloc: Global,
+        net: &'a Netlist,
+        layout: Layout,
+        values: Vec<u64>,
+        arrays: Vec<Vec<u64>>,
+    ) -> Result<Sim<'a>, NoMemory>
+        requires well { IsWell (circuit_of net.now) }
+        requires inputs { inputs_of (circuit_of net.now) ≡ [] }
+        requires layout { layout ≡ layout_of (circuit_of net.now) }
+        requires room { length values.items ≡ value_count (circuit_of net.now) }
+        requires constants { HasConstants (circuit_of net.now) values.items }
+        requires holds { Holds (circuit_of net.now) (registers (circuit_of net.now) values.items) (lists arrays.items) }
+        ensures { IfOk result (λ sim. sim ≡ begun net.now (registers (circuit_of net.now) values.items) (lists arrays.items)) }
+    {
+        let widths = all_widths(alloc, net)?;
+        let steps = all_steps(alloc, net, layout, &widths)?;
+        let nexts = all_nexts(alloc, net, layout)?;
+        let drivers = all_drivers(alloc, net, layout)?;
+        let writes = all_writes(alloc, net, layout)?;
+        let commits = all_places(alloc, net)?;
+        let next = vec![in alloc; 0; nexts.len()]?;
         let outs = vec![in alloc; 0; drivers.len()]?;
         Ok(Sim {
             net,
-            widths,
+            first_reg: layout.regs,
+            first_cell: layout.cells,
+            steps,
+            nexts,
             drivers,
+            writes,
             commits,
-            regs,
-            next,
-            arrays,
             values,
+            arrays,
+            next,
             outs,
         })
     }
 
     /// Runs one cycle; bit j of `replies` belongs to the j-th delayed memory, and bits past the last one are ignored.
-    #[tactic(auto, using(crate::proofs::Holds::holds))]
     pub fn cycle(&mut self, replies: u16)
         ensures { self.new ≡ stepped self.old replies }
     {
         // No memory is delayed, so no reply bit is asked.
         let _ = replies;
-        walk(
-            self.net,
-            &self.widths,
-            &[],
-            &self.regs,
-            &self.arrays,
-            &mut self.values,
-        );
-        read_all(
-            self.net,
-            &[],
-            &self.regs,
-            &self.arrays,
-            &self.values,
-            &self.drivers,
-            &mut self.outs,
-        );
-        step_regs(
-            self.net,
-            &[],
-            &self.regs,
-            &self.arrays,
-            &self.values,
-            &mut self.next,
-        );
-        write_arrays(self.net, &[], &self.regs, &self.values, &mut self.arrays);
-        mem::swap(&mut self.regs, &mut self.next);
+        take_steps(&self.steps, self.first_cell, &self.arrays, &mut self.values);
+        read_places(&self.drivers, &self.values, &mut self.outs);
+        read_places(&self.nexts, &self.values, &mut self.next);
+        write_words(&self.writes, &self.values, &mut self.arrays);
+        put_words(&self.next, self.first_reg, &mut self.values);
     }
 
     /// The value of an output in the last cycle, 0 before the first one; outputs are counted from 0 in their order.
@@ -145,4 +163,12 @@ impl<'a> Sim<'a> {
         let _ = &self.net;
         false
     }
+}
+
+/// Puts words into a list, from a place on.
+fn put_words(words: &[u64], at: usize, values: &mut [u64])
+    requires { at + length words.now ≤ length values.old }
+    ensures { values.new ≡ take at values.old ++ words.now ++ drop (at + length words.now) values.old }
+{
+    values[at..at + words.len()].copy_from_slice(words);
 }

@@ -1,6 +1,6 @@
 use Rattle.std.proofs.Common.{◌≡◌, ◌++◌, drop}
 use Rattle.pdl_net.specs.Run.{loaded}
-use Rattle.pdl_netrun.specs.Values.{lists}
+use Rattle.pdl_netrun.specs.Steps.{lists}
 use Rattle.pdl_netrun.proofs.start.all_arrays.Given as goal
 
 abbrev pub invariant-loop-m : goal.invariant-loop-m

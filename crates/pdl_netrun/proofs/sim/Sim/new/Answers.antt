@@ -1,21 +1,25 @@
-use Rattle.std.proofs.Common.{arith}
+use Rattle.std.proofs.Common.{◌≡◌, arith, subst}
+use Rattle.std.specs.Prelude.{IfOk}
 use Rattle.std.proofs.lemmas.Grind.{common_steps}
-use Rattle.pdl_netrun.proofs.Loaded.{image_fits, no_inputs, holds_start}
+use Rattle.pdl_net.specs.Circuit.{circuit_of}
+use Rattle.pdl_netrun.specs.Sim.{Run}
+use Rattle.pdl_netrun.proofs.Loaded.{image_fits, no_inputs}
+use Rattle.pdl_netrun.proofs.Begun.{constants_first, begun_is, holds_first}
 use Rattle.pdl_netrun.proofs.sim.Sim.new.Goals as goal
 
 pub all_arrays-requires : goal.all_arrays-requires
 all_arrays-requires c = image_fits c.args.net.now c.args.image.now c.requires.well c.requires.image c.requires.here
 
-pub invariant_of-result : goal.invariant_of-result
-invariant_of-result c = record {
-  well = c.requires.well.well;
-  inputs = no_inputs c.args.net.now c.requires.well c.requires.here;
-  holds = holds_start c.args.net.now c.args.image.now _ _ c.requires.well.well (image_fits c.args.net.now c.args.image.now c.requires.well c.requires.image c.requires.here) c.in_ok-regs.ensures c.in_ok-arrays.ensures;
-  widths = c.in_ok-widths.ensures.widths;
-  cells = c.in_ok-widths.ensures.cells;
-  values = grind (arith, common_steps);
-  next = grind (arith, common_steps);
-  drivers = c.in_ok-drivers.ensures;
-  outs = grind (arith, common_steps);
-  commits = c.in_ok-commits.ensures;
-}
+pub planned-requires-clause-inputs : goal.planned-requires-clause-inputs
+planned-requires-clause-inputs c = no_inputs c.args.net.now c.requires.well c.requires.here
+
+pub planned-requires-clause-constants : goal.planned-requires-clause-constants
+planned-requires-clause-constants c = constants_first (circuit_of c.args.net.now) c.put_constants.new.values.items (grind (arith, common_steps))
+
+pub planned-requires-clause-holds : goal.planned-requires-clause-holds
+planned-requires-clause-holds c =
+    holds_first c.args.net.now c.args.image.now c.put_constants.new.values.items _ c.requires.well.well (image_fits c.args.net.now c.args.image.now c.requires.well c.requires.image c.requires.here) (grind (arith, common_steps)) (grind (arith, common_steps))
+
+pub returns : goal.returns
+returns c =
+    subst (λ (r : Run). IfOk c.planned.result (λ sim. sim ≡ r)) (begun_is c.args.net.now c.args.image.now c.put_constants.new.values.items _ c.requires.here (grind (arith, common_steps)) (grind (arith, common_steps))) c.planned.ensures
