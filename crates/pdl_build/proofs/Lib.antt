@@ -5,3 +5,4 @@ pub mod Extensions
 pub mod Values
 pub mod Scopes
 pub mod Operands
+pub mod Equal

@@ -1,13 +1,16 @@
-//! A builder of netlists: each call adds one thing, and all nets keep the values that they had.
+//! A builder of netlists: each call adds what it is told, and all nets keep the values that they had.
+//!
+//! Of equal cells only the first is made, but by `cell`, which always makes one.
 #![tactic(auto)]
 
 mod env;
 mod expr;
 mod extend;
+mod same;
 #[cfg(test)]
 mod tests;
 
-ghost use Rattle.std.specs.Prelude.{◌≡◌, ℕ, ◌+◌, ◌*◌, ◌^◌, ◌<◌, ◌≤◌, [], ◌∷◌, ◌++◌, length, IfOk, OnOk, OnErr};
+ghost use Rattle.std.specs.Prelude.{◌≡◌, ℕ, ◌+◌, ◌*◌, ◌^◌, ◌<◌, ◌≤◌, [], ◌∷◌, ◌++◌, length, IfOk, IfSome, OnOk, OnErr};
 ghost use Rattle.pdl_net.specs.Circuit.{circuit_of, inputs_of, outputs_of, array_at, HasReg, reg_width, HasArray, array_width, array_depth};
 ghost use Rattle.pdl_net.specs.Signal.{input_signal, const_signal, not_signal, bin_signal, mux_signal, slice_signal, cat_signal, rep_signal, read_signal, bin_width as op_width};
 ghost use Rattle.pdl_net.specs.Meaning.{IsThere, Means, signal, cell_signal, next_signal, write_signal, write_signals};
@@ -16,8 +19,10 @@ ghost use Rattle.pdl_net.specs.Growth.{Extends, ExtendsBut, ExtendsPorts, Extend
 ghost use Rattle.pdl_build.specs.Change.{empty_circuit, with_cell, with_port, input_port, output_port, with_reg, with_next, new_shape, with_array, with_write, write_port, one_reg, one_array, IsNewReg, IsNewArray};
 
 pub use env::{Env, EnvEntry};
+use indexmap::IndexMap;
 use pdl_kit::{MemInfo, Name, NoMemory, Seq};
 use pdl_net::{Array, BinOp, Cell, Dir, Net, Netlist, Port, Reg, WritePort};
+use same::is_same_cell;
 use std::alloc::Global;
 use std::marker::Model;
 
@@ -32,6 +37,8 @@ pub struct Builder {
     /// The width of each input and of each cell, in bits.
     input_widths: Vec<u8>,
     cell_widths: Vec<u8>,
+    /// Where a cell may be found again; what stands there is compared before it is used.
+    places: IndexMap<Cell, usize>,
 }
 
 impl Model for Builder {
@@ -59,6 +66,7 @@ impl Builder {
             cells: Vec::new(alloc),
             input_widths: Vec::new(alloc),
             cell_widths: Vec::new(alloc),
+            places: IndexMap::new(alloc),
         }
     }
 
@@ -240,6 +248,32 @@ impl Builder {
         }
     }
 
+    /// The net of an equal cell, where one is known.
+    fn equal(&self, cell: Cell) -> Option<Net>
+        ensures { IfSome result (λ x. Means self.now x (cell_signal self.now (signal self.now) cell)) }
+    {
+        let at = *self.places.get(&cell)?;
+        if at < self.cells.len() && is_same_cell(self.cells[at], cell) {
+            Some(Net::Cell(at))
+        } else {
+            None
+        }
+    }
+
+    /// The net of an equal cell, where one is known, else of one more cell.
+    fn once(&mut self, cell: Cell) -> Result<Net, NoMemory>
+        requires { Fits self.old cell }
+        ensures means { IfOk result (λ x. Means self.new x (cell_signal self.old (signal self.old) cell)) }
+        ensures extends { Extends self.old self.new }
+        ensures regs { self.new.regs ≡ self.old.regs }
+    {
+        if let Some(net) = self.equal(cell) {
+            return Ok(net);
+        }
+        self.places.insert(cell, self.cells.len())?;
+        self.cell(cell)
+    }
+
     /// The whole netlist, with its name and the memories of its pipe.
     pub fn finish(self, name: Name, mems: Seq<MemInfo>) -> Netlist
         ensures value { circuit_of result ≡ self }
@@ -266,7 +300,7 @@ impl Builder {
         ensures extends { Extends self.old self.new }
         ensures regs { self.new.regs ≡ self.old.regs }
     {
-        self.cell(Cell::Const { width, value })
+        self.once(Cell::Const { width, value })
     }
 
     /// Each bit of a net the other way.
@@ -276,7 +310,7 @@ impl Builder {
         ensures extends { Extends self.old self.new }
         ensures regs { self.new.regs ≡ self.old.regs }
     {
-        self.cell(Cell::Not(a))
+        self.once(Cell::Not(a))
     }
 
     /// An operator on two nets of one width.
@@ -288,7 +322,7 @@ impl Builder {
         ensures extends { Extends self.old self.new }
         ensures regs { self.new.regs ≡ self.old.regs }
     {
-        self.cell(Cell::Bin(op, a, b))
+        self.once(Cell::Bin(op, a, b))
     }
 
     /// The net `a` where `choice`, of 1 bit, is 1, else `b`.
@@ -302,7 +336,7 @@ impl Builder {
         ensures extends { Extends self.old self.new }
         ensures regs { self.new.regs ≡ self.old.regs }
     {
-        self.cell(Cell::Mux(choice, a, b))
+        self.once(Cell::Mux(choice, a, b))
     }
 
     /// The bits of a net from `high` down to `low`.
@@ -314,7 +348,7 @@ impl Builder {
         ensures extends { Extends self.old self.new }
         ensures regs { self.new.regs ≡ self.old.regs }
     {
-        self.cell(Cell::Slice { a, high, low })
+        self.once(Cell::Slice { a, high, low })
     }
 
     /// The net `a` above `b`, of at most 64 bits together.
@@ -326,7 +360,7 @@ impl Builder {
         ensures extends { Extends self.old self.new }
         ensures regs { self.new.regs ≡ self.old.regs }
     {
-        self.cell(Cell::Cat(a, b))
+        self.once(Cell::Cat(a, b))
     }
 
     /// A net `count` times in a row, of at most 64 bits together.
@@ -338,7 +372,7 @@ impl Builder {
         ensures extends { Extends self.old self.new }
         ensures regs { self.new.regs ≡ self.old.regs }
     {
-        self.cell(Cell::Rep { count, a })
+        self.once(Cell::Rep { count, a })
     }
 
     /// The word of an array at an address.
@@ -350,7 +384,7 @@ impl Builder {
         ensures extends { Extends self.old self.new }
         ensures regs { self.new.regs ≡ self.old.regs }
     {
-        self.cell(Cell::Read { array, addr })
+        self.once(Cell::Read { array, addr })
     }
 }
 

@@ -1,5 +1,5 @@
 -- What the calls of a lock module ensure.
-use Rattle.std.specs.Prelude.{◌≡◌, ℕ, ◌+◌, ◌%◌, ◌^◌, ◌<◌, ◌≤◌, List, [], ◌∷◌, length, map, slice_index, slice_index_or, slice_set, ◌==◌, if◌then◌else◌, true, Option, Some, None}
+use Rattle.std.specs.Prelude.{◌≡◌, ◌≢◌, ℕ, ◌+◌, ◌%◌, ◌^◌, ◌<◌, ◌≤◌, List, [], ◌∷◌, length, map, slice_index, slice_index_or, slice_set, ◌==◌, if◌then◌else◌, true, Option, Some, None}
 use Rattle.pdl_word.specs.Words.{bit}
 use Rattle.pdl_kit.specs.declared.mem_info.MemInfo.{MemInfo}
 use Rattle.pdl_model.specs.Tree.{LockKind, Rename}
@@ -8,13 +8,14 @@ use Rattle.pdl_net.specs.Circuit.{Circuit, State, Shape, HasReg, reg_reset, HasA
 use Rattle.pdl_net.specs.Signal.{Signal, const_signal}
 use Rattle.pdl_net.specs.Meaning.{IsThere, signal, next_signal, WriteSignal, write_signals}
 use Rattle.pdl_net.specs.Growth.{Own}
+use Rattle.pdl_net.specs.Run.{filled}
 use Rattle.pdl_lockapi.specs.declared.Kind.{Kind}
 use Rattle.pdl_lockapi.specs.declared.Kind.TheVariants.{R, W}
 use Rattle.pdl_lockapi.specs.declared.LockRegs.{LockRegs}
 use Rattle.pdl_lockapi.specs.declared.ReservePort.{ReservePort}
 use Rattle.pdl_lockapi.specs.declared.TicketWrite.{TicketWrite}
 use Rattle.pdl_lockapi.specs.declared.LockPorts.{LockPorts}
-use Rattle.pdl_lockapi.specs.Lock.{LockState, Act, act_at, start, step, is_ready, read, has_room, next_ticket, commit_addr, commit_value, Covered, Proper}
+use Rattle.pdl_lockapi.specs.Lock.{LockState, Act, entry_at, act_at, start, step, is_ready, read, has_room, next_ticket, commit_addr, commit_value, Covered, Proper}
 
 -- the registers of a lock: from this number up to that one
 abbrev pub first_reg : LockRegs → ℕ
@@ -59,6 +60,10 @@ abbrev pub words_of : LockKind → ℕ → ℕ
 words_of Rename d = d + d
 words_of _ d = d
 
+-- the array, where there is one, has the image in front, and zeros behind it
+abbrev pub HasImage : LockKind → Option ℕ → State → List ℕ → Type 0
+HasImage k array s image = HasWords array s (filled (words_of k (length image)) image)
+
 abbrev pub arrays_of : LockKind → MemInfo → List Shape
 arrays_of k m = if m.delayed then [] else record { name = m.name; width = m.width; depth = words_of k m.depth } ∷ []
 
@@ -83,9 +88,27 @@ pub record HasRegNets (w : ℕ) (c : Circuit) (r : LockRegs) : Type 0 where
   pub ticket_there : IsThere c r.ticket
   pub ticket_width : (signal c r.ticket).width ≡ w
 
--- registers at reset, and an array that holds the image, stand for the lock at its start
-pub record StartLaw (stands : State → LockState → Type 0) (c : Circuit) (r : LockRegs) : Type 0 where
-  pub starts : (s : State) (image : List ℕ) → IsReset c (first_reg r) (end_reg r) s → HasWords r.array s image → stands s (start image)
+-- registers at reset, and an array that holds a whole image, stand for the lock at its start
+pub record StartLaw (stands : State → LockState → Type 0) (k : LockKind) (c : Circuit) (r : LockRegs) : Type 0 where
+  pub starts : (s : State) (image : List ℕ) → IsReset c (first_reg r) (end_reg r) s → length image ≡ 2 ^ r.bits → HasImage k r.array s image → stands s (start image)
+
+-- where the array of a renaming lock has the word of each address and the value of each pending write that has one, all at different places
+pub record HasPlaces (bits m : ℕ) (s : State) (x : LockState) : Type 0 where
+  pub word : ℕ → ℕ
+  pub value : ℕ → ℕ
+  pub depth : length (slice_index_or s.arrays m []) ≡ 2 ^ bits + 2 ^ bits
+  pub word_in : (a : ℕ) → a < 2 ^ bits → word a < 2 ^ bits + 2 ^ bits
+  pub value_in : (k : ℕ) → k < length x.entries → value k < 2 ^ bits + 2 ^ bits
+  pub words : (a : ℕ) → a < 2 ^ bits → slice_index (slice_index_or s.arrays m []) (word a) ≡ slice_index x.words a
+  pub values : (k v : ℕ) → k < length x.entries → (entry_at x.entries k).value ≡ Some v → slice_index (slice_index_or s.arrays m []) (value k) ≡ v
+  pub words_apart : (a b : ℕ) → a < 2 ^ bits → b < 2 ^ bits → word a ≡ word b → a ≡ b
+  pub values_apart : (j k : ℕ) → j < length x.entries → k < length x.entries → value j ≡ value k → j ≡ k
+  pub apart : (a k : ℕ) → a < 2 ^ bits → k < length x.entries → word a ≢ value k
+
+-- a renaming lock keeps words and values in its array
+abbrev pub PlacesLaw : (State → LockState → Type 0) → LockKind → LockRegs → Type 0
+PlacesLaw stands Rename r = (m : ℕ) (s : State) (x : LockState) → r.array ≡ Some m → stands s x → HasPlaces r.bits m s x
+PlacesLaw stands _ r = Unit {0}
 
 -- the net of room says whether there is room
 pub record RoomLaw (stands : State → LockState → Type 0) (n : ℕ) (room : Signal) : Type 0 where
@@ -99,10 +122,14 @@ holds_ticket w f s t = f.value s ≡ t % 2 ^ w
 pub record TicketLaw (stands : State → LockState → Type 0) (w : ℕ) (ticket : Signal) : Type 0 where
   pub holds : (s : State) (x : LockState) → stands s x → holds_ticket w ticket s (next_ticket x)
 
--- a look of a covered ticket says whether it is ready, and gives the value of a ready read
+-- a signal's value fits its width
+abbrev pub FitsIn : Signal → State → Type 0
+FitsIn f s = f.value s < 2 ^ f.width
+
+-- a look of a covered ticket says whether it is ready, and at an address that fits it gives the value of a ready read
 pub record LookLaw (stands : State → LockState → Type 0) (k : LockKind) (w : ℕ) (u : Kind) (addr ticket ready : Signal) (value : Option Signal) : Type 0 where
   pub answers : (s : State) (x : LockState) (t : ℕ) → stands s x → Covered x t → holds_ticket w ticket s t → ready.value s ≡ bit (is_ready k u x t (addr.value s))
-  pub gives : (f : Signal) → value ≡ Some f → (s : State) (x : LockState) (t : ℕ) → stands s x → Covered x t → holds_ticket w ticket s t → is_ready k R x t (addr.value s) ≡ true → f.value s ≡ read x t (addr.value s)
+  pub gives : (f : Signal) → value ≡ Some f → (s : State) (x : LockState) (t : ℕ) → stands s x → Covered x t → holds_ticket w ticket s t → FitsIn addr s → is_ready k R x t (addr.value s) ≡ true → f.value s ≡ read x t (addr.value s)
 
 -- the net of a look's value, where there is one
 pub record HasValueNet (c : Circuit) (width : ℕ) (value : Option Net) : Type 0 where
@@ -166,6 +193,7 @@ asked s (f ∷ fs) = if f.enable.value s == 1 then f.addr.value s ∷ asked s fs
 -- in this state the ports' nets do this to the lock
 pub record Drives (w : ℕ) (f : StepSignals) (s : State) (a : Act) : Type 0 where
   pub reserves : a.reserves ≡ asked s f.reserves
+  pub fits : (k : ℕ) → k < length f.reserves → (reserve_at f.reserves k).enable.value s ≡ 1 → FitsIn (reserve_at f.reserves k).addr s
   pub count : length a.writes ≡ length f.writes
   pub on : (k : ℕ) → k < length a.writes → (ticket_at f.writes k).enable.value s ≡ bit (act_at a.writes k).on
   pub ticket : (k : ℕ) → k < length a.writes → (act_at a.writes k).on ≡ true → holds_ticket w (ticket_at f.writes k).ticket s (act_at a.writes k).ticket
@@ -180,6 +208,26 @@ pub record StepLaw (stands : State → LockState → Type 0) (n w : ℕ) (o : Ow
   pub commits_addr : (s : State) (x : LockState) (a : Act) → stands s x → Drives w f s a → Proper n x a → addr.value s ≡ commit_addr x a
   pub commits_value : (s : State) (x : LockState) (a : Act) → stands s x → Drives w f s a → Proper n x a → value.value s ≡ commit_value x a
   pub next : (s t : State) (x : LockState) (a : Act) → stands s x → Drives w f s a → Proper n x a → IsNext c o s t → stands t (step x a)
+
+-- two states in which a lock's registers are the same, and the nets of a step's ports but for the written values
+pub record SameButValues (o : Own) (f : StepSignals) (s t : State) : Type 0 where
+  pub regs : (k : ℕ) → o.from ≤ k → k < o.to → slice_index s.regs k ≡ slice_index t.regs k
+  pub ask : (k : ℕ) → k < length f.reserves → (reserve_at f.reserves k).enable.value s ≡ (reserve_at f.reserves k).enable.value t
+  pub addr : (k : ℕ) → k < length f.reserves → (reserve_at f.reserves k).addr.value s ≡ (reserve_at f.reserves k).addr.value t
+  pub enable : (k : ℕ) → k < length f.writes → (ticket_at f.writes k).enable.value s ≡ (ticket_at f.writes k).enable.value t
+  pub ticket : (k : ℕ) → k < length f.writes → (ticket_at f.writes k).ticket.value s ≡ (ticket_at f.writes k).ticket.value t
+  pub release : f.release.value s ≡ f.release.value t
+  pub squash : f.squash.value s ≡ f.squash.value t
+  pub tail : f.tail.value s ≡ f.tail.value t
+
+-- in the next states the registers are the same again
+pub record HidesValues (c : Circuit) (o : Own) (f : StepSignals) : Type 0 where
+  pub same : (s t u v : State) → SameButValues o f s t → IsNext c o s u → IsNext c o t v → (k : ℕ) → o.from ≤ k → k < o.to → slice_index u.regs k ≡ slice_index v.regs k
+
+-- no written value comes into a register of a renaming lock
+abbrev pub HidesLaw : LockKind → Circuit → Own → StepSignals → Type 0
+HidesLaw Rename c o f = HidesValues c o f
+HidesLaw _ c o f = Unit {0}
 
 -- the nets of a commit: 1 bit, an address, a value
 pub record HasCommitNets (c : Circuit) (bits width : ℕ) (commit addr value : Net) : Type 0 where

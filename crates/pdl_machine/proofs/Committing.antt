@@ -7,7 +7,7 @@ use Rattle.pdl_model.specs.Flat.{Mem, Array, Arrays, arrays_of, with_value}
 use Rattle.pdl_model.specs.Locks.{commit_value}
 use Rattle.pdl_model.specs.Machine.{Pending, State, lock_of}
 use Rattle.pdl_model.specs.Moves.{Act}
-use Rattle.pdl_model.specs.Cycle.{filled, list_two, list_three, taken_out, with_commit, with_commits, entries_left, for_mems}
+use Rattle.pdl_model.specs.Cycle.{filled, list_two, list_three, taken_out, port_write, with_commit, with_commits, entries_left, for_mems}
 use Rattle.pdl_slots.specs.Ports.{commit_values, all_commit_values}
 use Rattle.pdl_machine.specs.Memory.{Memory}
 use Rattle.pdl_machine.specs.Stage.{memory_at}
@@ -65,13 +65,13 @@ module _ (r : Rows) (released : List (List ℕ)) (st : State) (acts : List Act) 
   out_at m x h = out_is m ∙ ap (λ es. out_of (any_releases r.movers released m) (both r m es)) h
 
   pub commits_after : (m : ℕ) (ds : List Mem) (xs : List Memory) → length ds ≡ length xs → Locked m xs → ((i : ℕ) (d : Mem) → i < length ds → (slice_index_or ds i d).lock ≡ (memory_at xs i).lock)
-      → all_commit_values ds (for_mems (λ n. taken_out st acts n) m ds) ≡ commits_shown r released m xs
+      → all_commit_values ds (for_mems (λ n. port_write (taken_out st acts n)) m ds) ≡ commits_shown r released m xs
   commits_after m [] [] n h k = refl
   commits_after m [] (x ∷ xs) n h k = absurd (omega arith)
   commits_after m (d ∷ ds) [] n h k = absurd (omega arith)
   commits_after m (d ∷ ds) (x ∷ xs) n h k =
       ap₂ (λ (a b : List ℕ). a ++ b)
-      (ap₂ commit_values (k 0 d (omega arith)) (out_at m x (ap (lock_of st) (still m) ∙ h 0)))
+      (ap₂ commit_values (k 0 d (omega arith)) (ap port_write (out_at m x (ap (lock_of st) (still m) ∙ h 0))))
       (commits_after (suc m) ds xs (omega arith) (λ i. ap (lock_of st) (shift m i) ∙ h (suc i)) (λ i c less. k (suc i) c (omega arith)))
 
   -- THE ARRAYS

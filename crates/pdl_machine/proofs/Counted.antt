@@ -3,9 +3,9 @@ use Rattle.std.proofs.Common.{◌≡◌, refl, ap₂, ◌∙◌, ℕ, suc, ◌+�
 use Rattle.pdl_model.specs.Tree.{Queue, Bypass, Rename, LockDecl, Mem, Pipe}
 use Rattle.pdl_model.specs.Flat.{Stage}
 use Rattle.pdl_model.specs.Flatten.{flat, lock_of, mems_of}
-use Rattle.pdl_model.specs.Machine.{Pending, State}
+use Rattle.pdl_model.specs.Machine.{State}
 use Rattle.pdl_model.specs.Moves.{Act}
-use Rattle.pdl_model.specs.Cycle.{for_stages, for_mems}
+use Rattle.pdl_model.specs.Cycle.{PortWrite, for_stages, for_mems}
 use Rattle.pdl_model.specs.Cycle as stated
 use Rattle.pdl_slots.specs.Ports.{bit, stage_values, commit_values, all_commit_values, port_values}
 use Rattle.pdl_machine.specs.Outputs.{commit_count, all_commit_count, output_count}
@@ -14,11 +14,11 @@ stages_counted : (f g : ℕ → Bool) (k : ℕ) (ys : List Stage) → length (st
 stages_counted f g k [] = refl
 stages_counted f g k (y ∷ ys) = let rest = stages_counted f g (suc k) ys in omega (arith, rest)
 
-one_counted : (l : Option LockDecl) (e : Option Pending) → length (commit_values (lock_of l) e) ≡ commit_count l
+one_counted : (l : Option LockDecl) (e : Option PortWrite) → length (commit_values (lock_of l) e) ≡ commit_count l
 one_counted None e = refl
 one_counted (Some l) e = locked l.kind e
   where
-    locked : (kind : _) (e : Option Pending) → length (commit_values (lock_of (Some (record l { kind = kind }))) e) ≡ 3
+    locked : (kind : _) (e : Option PortWrite) → length (commit_values (lock_of (Some (record l { kind = kind }))) e) ≡ 3
     locked Queue None = refl
     locked Queue (Some e) = refl
     locked Bypass None = refl
@@ -26,7 +26,7 @@ one_counted (Some l) e = locked l.kind e
     locked Rename None = refl
     locked Rename (Some e) = refl
 
-commits_counted : (f : ℕ → Option Pending) (k : ℕ) (ms : List Mem) → length (all_commit_values (mems_of ms) (for_mems f k (mems_of ms))) ≡ all_commit_count ms
+commits_counted : (f : ℕ → Option PortWrite) (k : ℕ) (ms : List Mem) → length (all_commit_values (mems_of ms) (for_mems f k (mems_of ms))) ≡ all_commit_count ms
 commits_counted f k [] = refl
 commits_counted f k (m ∷ ms) =
     let here = one_counted m.lock (f k) in

@@ -7,6 +7,7 @@ use Rattle.pdl_model.specs.Tree.{Span, Literal, Mem, Stmt}
 use Rattle.pdl_model.specs.Flatten.{start_of}
 use Rattle.pdl_model.specs.Machine as machine
 use Rattle.pdl_model.specs.Machine.{Place, Pending, Thread}
+use Rattle.pdl_model.specs.Cycle.{PortWrite, port_write}
 use Rattle.pdl_slots.specs.Ports.{commit_values}
 use Rattle.pdl_machine.specs.declared.memory.Memory as r_memory
 use Rattle.pdl_machine.specs.declared.slot.Slot as r_slot
@@ -19,7 +20,7 @@ use Rattle.pdl_machine.specs.Effects.{reserve_count}
 
 -- MEMORIES
 
-pub three : (l : Lock) (e : Option Pending) → length (commit_values l e) ≤ 3
+pub three : (l : Lock) (e : Option PortWrite) → length (commit_values l e) ≤ 3
 three Plain None = omega arith
 three Plain (Some e) = omega arith
 three (Queue n) None = omega arith
@@ -29,7 +30,7 @@ three (Bypass n) (Some e) = omega arith
 three (Rename n) None = omega arith
 three (Rename n) (Some e) = omega arith
 
-pub commit_most : (l : Lock) (e : Option Pending) (shown new : List ℕ) → new ≡ shown ++ commit_values l e → length new ≤ length shown + 3
+pub commit_most : (l : Lock) (e : Option PortWrite) (shown new : List ℕ) → new ≡ shown ++ commit_values l e → length new ≤ length shown + 3
 commit_most l e shown new is = omega (arith, ap (λ (xs : List ℕ). length xs) is, length-append shown (commit_values l e), three l e)
 
 module _ (r : Rows) (released : List (List ℕ)) (now all : List r_memory.Memory) (i : ℕ) (d : r_memory.Memory) (h : i < length now) (n : length now ≡ length all) (left : drop i now ≡ drop i all) where
@@ -61,10 +62,10 @@ module _ (r : Rows) (released : List (List ℕ)) (now all : List r_memory.Memory
       ∙ ap (λ (xs : List Memory). map memory_view (take i now) ++ memories_after r released i xs) (sym rest)
       ∙ before
 
-  pub shown_more : (shown new total : List ℕ) → new ≡ shown ++ commit_values (lock_of (get_or now i d).room) (entry_out r released i (memory_view (get_or now i d)))
+  pub shown_more : (shown new total : List ℕ) → new ≡ shown ++ commit_values (lock_of (get_or now i d).room) (port_write (entry_out r released i (memory_view (get_or now i d))))
       → shown ++ commits_shown r released i (map memory_view (drop i all)) ≡ total → new ++ commits_shown r released (i + 1) (map memory_view (drop (i + 1) all)) ≡ total
   shown_more shown new total e before =
-      let one = λ (x : r_memory.Memory). commit_values (lock_of x.room) (entry_out r released i (memory_view x)) in
+      let one = λ (x : r_memory.Memory). commit_values (lock_of x.room) (port_write (entry_out r released i (memory_view x))) in
       ap₂ (λ (xs : List ℕ) (k : ℕ). xs ++ commits_shown r released k (map memory_view (drop (i + 1) all))) (e ∙ ap (λ (x : r_memory.Memory). shown ++ one x) same_here) next
       ∙ append_assoc shown (one (get_or all i d)) (commits_shown r released (suc i) (map memory_view (drop (i + 1) all)))
       ∙ ap (λ (xs : List Memory). shown ++ commits_shown r released i xs) (sym rest)

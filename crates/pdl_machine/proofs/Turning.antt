@@ -14,6 +14,7 @@ use Rattle.pdl_model.specs.Machine.{Thread, Pending, State, lock_of}
 use Rattle.pdl_model.specs.Moves.{Act, movers, all_acts}
 use Rattle.pdl_model.specs.Cycle.{or_then, born}
 use Rattle.pdl_model.specs.Cycle as stated
+use Rattle.pdl_model.specs.Cycle.{port_write}
 use Rattle.pdl_slots.specs.Ports.{bit, stage_values, commit_values, port_values}
 use Rattle.pdl_syntax.specs.declared.tree.Pipe as r_pipe
 use Rattle.pdl_syntax.specs.declared.tree.Stmt as r_stmt
@@ -83,7 +84,7 @@ stage_most (a ∷ as') (b ∷ bs) = omega (arith, stage_most as' bs)
 pub commits_most : (r : Rows) (released : List (List ℕ)) (m : ℕ) (xs : List Memory) → length (commits_shown r released m xs) ≤ 3 * length xs
 commits_most r released m [] = omega arith
 commits_most r released m (x ∷ xs) =
-    omega (arith, length-append (commit_values x.lock (entry_out r released m x)) (commits_shown r released (suc m) xs), three x.lock (entry_out r released m x), commits_most r released (suc m) xs)
+    omega (arith, length-append (commit_values x.lock (port_write (entry_out r released m x))) (commits_shown r released (suc m) xs), three x.lock (port_write (entry_out r released m x)), commits_most r released (suc m) xs)
 
 out_within : (n : ℕ) (b : Bool) (es : List Pending) → IfSome (stated.oldest es) (λ e. e.address < n) → IfSome (out_of b es) (λ e. e.address < n)
 out_within n true es h = h

@@ -11,6 +11,7 @@ use Rattle.pdl_model.specs.Cycle.{new_entries, put_all, oldest, but_oldest, or_t
 use Rattle.pdl_syntax.specs.declared.tree.Pipe as r_pipe
 use Rattle.pdl_syntax.specs.declared.tree.Stmt as r_stmt
 use Rattle.pdl_syntax.specs.View.{pipe_view}
+use Rattle.pdl_model.specs.Cycle.{port_write}
 use Rattle.pdl_slots.specs.Ports.{commit_values}
 use Rattle.pdl_machine.specs.declared.memory.Memory as r_memory
 use Rattle.pdl_machine.specs.Values.{Fit}
@@ -148,7 +149,7 @@ memories_after r released m (x ∷ xs) = memory_after r released m x ∷ memorie
 
 abbrev pub commits_shown : Rows → List (List ℕ) → ℕ → List Memory → List ℕ
 commits_shown r released m [] = []
-commits_shown r released m (x ∷ xs) = commit_values x.lock (entry_out r released m x) ++ commits_shown r released (suc m) xs
+commits_shown r released m (x ∷ xs) = commit_values x.lock (port_write (entry_out r released m x)) ++ commits_shown r released (suc m) xs
 
 -- there is room for the reservations, and each released entry is of a word that is there
 pub record CanStep (r : Rows) (m : ℕ) (x : Memory) (capacity : ℕ) : Type 0 where

@@ -2,6 +2,7 @@
 ghost use Rattle.std.specs.Prelude.{◌≡◌, ◌≤◌, ◌<◌, ◌+◌, ◌*◌, ◌++◌, [], ◌∷◌, map, length, IfSome, vec_len, vec_capacity};
 ghost use Rattle.pdl_model.specs.Cycle as stated;
 ghost use Rattle.pdl_syntax.specs.View.{pipe_view};
+ghost use Rattle.pdl_model.specs.Cycle.{port_write};
 ghost use Rattle.pdl_slots.specs.Ports.{commit_values};
 ghost use Rattle.pdl_machine.specs.Pending.{pending_view};
 ghost use Rattle.pdl_machine.specs.Memory.{memory_view, lock_of, entry_view};
@@ -69,7 +70,7 @@ fn step_memory(
 // Shows the commit of a memory with a lock: whether there is one, its address and its value.
 fn show_commit(room: Option<usize>, entry: Option<Pending>, shown: &mut Vec<u64>)
     requires room { vec_len shown.old + 3 ≤ vec_capacity shown.old }
-    ensures shown { shown.new.items ≡ shown.old.items ++ commit_values (lock_of room) (entry_view entry) }
+    ensures shown { shown.new.items ≡ shown.old.items ++ commit_values (lock_of room) (port_write (entry_view entry)) }
     ensures capacity { vec_capacity shown.new ≡ vec_capacity shown.old }
 {
     if room.is_some() {

@@ -8,7 +8,7 @@ use pdl_kit::{MemInfo, Name, Seq};
 /// What a cell, a register, an array or an output reads: an input, a register or a cell, each counted from 0.
 ///
 /// `Input(i)` is the i-th input of `ports`; the clock and the reset are no inputs in this sense.
-#[derive(Clone, Copy, PartialEq, Eq, Debug)]
+#[derive(Clone, Copy, PartialEq, Eq, Hash, Debug)]
 pub enum Net {
     Input(usize),
     Reg(usize),
@@ -18,7 +18,7 @@ pub enum Net {
 /// An operator on two words of one width (IEEE 1364-2005, clause 5.1, for unsigned operands).
 ///
 /// The comparisons give 1 bit, the others the width of their operands.
-#[derive(Clone, Copy, PartialEq, Eq, Debug)]
+#[derive(Clone, Copy, PartialEq, Eq, Hash, Debug)]
 pub enum BinOp {
     Add,
     Sub,
@@ -34,7 +34,7 @@ pub enum BinOp {
 }
 
 /// A cell: one value made of the values of inputs, registers, arrays and earlier cells.
-#[derive(Clone, Copy, PartialEq, Eq, Debug)]
+#[derive(Clone, Copy, PartialEq, Eq, Hash, Debug)]
 pub enum Cell {
     /// A constant of a width of 1 to 64 bits, with a value that fits it.
     Const { width: u8, value: u64 },

@@ -67,10 +67,10 @@ module _ {T : Type 0} (placed : T → Circuit → LockRegs → Type 0) (stands :
       let ticket : signal a r.ticket ≡ ts.ticket m = ap (λ (h : Head). h.ticket) (sym (head_is r f)) in
       let step : step_with m (signal a r.ticket) us ≡ step_of ts vs m = ap (λ t. step_with m t us) ticket ∙ same in
       let commit : commit_of c (Some n) ≡ commits_in c ns m = ap (commit_of c) (sym q) in
-      let start_r : (s : State) (image : List ℕ) → IsReset c (own r).from (own r).to s → HasWords (Some m) s image → stands l r s (start image) =
-      λ s image z w. it.start.starts s image (record { regs = λ i lo hi. z.regs i lo hi ∙ k.reset i (it.regs i lo hi) }) (subst (λ x. HasWords x s image) (sym is_in.array) w) in
-      let A : (State → LockState → Type 0) → Type 0 = λ st. (s : State) (image : List ℕ) → IsReset c (own r).from (own r).to s → HasWords (Some m) s image → st s (start image) in
-      let B : Own → Type 0 = λ o. (s : State) (image : List ℕ) → IsReset c o.from o.to s → HasWords (Some m) s image → ts.stands m s (start image) in
+      let start_r : (s : State) (image : List ℕ) → IsReset c (own r).from (own r).to s → length image ≡ (slice_index_or (mems_of p.mems) m plain_mem).depth → HasWords (Some m) s image → stands l r s (start image) =
+      λ s image z long w. it.start.starts s image (record { regs = λ i lo hi. z.regs i lo hi ∙ k.reset i (it.regs i lo hi) }) (long ∙ sym (is_in.bits ∙ flat_depth p.mems m low)) (subst (λ x. HasWords x s image) (sym is_in.array) w) in
+      let A : (State → LockState → Type 0) → Type 0 = λ st. (s : State) (image : List ℕ) → IsReset c (own r).from (own r).to s → length image ≡ (slice_index_or (mems_of p.mems) m plain_mem).depth → HasWords (Some m) s image → st s (start image) in
+      let B : Own → Type 0 = λ o. (s : State) (image : List ℕ) → IsReset c o.from o.to s → length image ≡ (slice_index_or (mems_of p.mems) m plain_mem).depth → HasWords (Some m) s image → ts.stands m s (start image) in
       let it_is = step_in l r n e f q in
       let law = it_is.law in
       let S1 : (State → LockState → Type 0) → Type 0 = λ st. StepLaw st (size l) (tickets l) (own r) c (step_with m (signal a r.ticket) us) (signal c n.commit) (signal c n.addr) (signal c n.value) in

@@ -1,16 +1,17 @@
 -- A new lock, and that what is known of a lock stays where its circuit grows.
-use Rattle.std.proofs.Common.{◌≡◌, ℕ, ◌+◌, ◌-◌, ◌^◌, ◌<◌, ◌≤◌, ◌∙◌, true, List, [], ◌∷◌, length, length-append, get_or, refl, sym, ap, subst, arith}
-use Rattle.std.specs.Prelude.{Option, Some, None, is_some}
+use Rattle.std.proofs.Common.{◌≡◌, ℕ, ◌+◌, ◌-◌, ◌^◌, ◌<◌, ◌≤◌, ◌∙◌, true, List, [], ◌∷◌, ◌++◌, length, append-nil, length-append, get_or, refl, sym, ap, subst, arith}
+use Rattle.std.specs.Prelude.{Option, Some, None, is_some, replicate}
 use Rattle.std.proofs.lemmas.List.{get_or-map, length-map}
 use Rattle.pdl_model.specs.Tree.{LockKind, Mem}
 use Rattle.pdl_net.specs.Circuit.{Circuit, State, Shape, shape_of, shapes_of, no_array, HasReg, HasArray, array_width, array_depth}
 use Rattle.pdl_net.specs.Meaning.{signal, write_signals}
 use Rattle.pdl_net.specs.Growth.{Keeps, Extends, ExtendsArrays}
+use Rattle.pdl_net.specs.Run.{filled}
 use Rattle.pdl_lockapi.specs.declared.LockRegs.{LockRegs}
 use Rattle.pdl_lockapi.specs.Lock.{LockState}
-use Rattle.pdl_lockapi.specs.Laws.{first_reg, end_reg, IsFragment, HasRegNets, HasNoPorts, StartLaw, RoomLaw, TicketLaw}
+use Rattle.pdl_lockapi.specs.Laws.{first_reg, end_reg, words_of, HasWords, IsFragment, HasRegNets, HasNoPorts, StartLaw, RoomLaw, TicketLaw}
 use Rattle.pdl_pipe.specs.Made.{IsLockIn, AreMade}
-use Rattle.pdl_pipe.specs.Locked.{IsLocked, IsNewLock, AreLocked, AreUnwritten}
+use Rattle.pdl_pipe.specs.Locked.{StartsWhole, IsLocked, IsNewLock, AreLocked, AreUnwritten}
 
 -- ---- arrays by their shapes
 
@@ -48,11 +49,22 @@ new_array old new r e n f = at r.array refl
         let same : m ≡ length old.arrays = omega (arith, n, lo, hi) in
         h ∙ ap Some same
 
-pub new_lock : (placed : Circuit → LockRegs → Type 0) (stands : State → LockState → Type 0) (size tickets : ℕ) (old new : Circuit) (width depth : ℕ) (r : LockRegs)
+filled_whole : (ws : List ℕ) → filled (length ws) ws ≡ ws
+filled_whole ws = let z : length ws - length ws ≡ 0 = omega arith in ap (λ n. ws ++ replicate n 0) z ∙ append-nil ws
+
+-- an image that fills the array is all of it
+starts_whole : (stands : State → LockState → Type 0) (kind : LockKind) (c : Circuit) (r : LockRegs) → ((d : ℕ) → words_of kind d ≡ d) → StartLaw stands kind c r → StartsWhole stands c r
+starts_whole stands kind c r whole law = record {
+  starts = λ s image z long words.
+      let full : image ≡ filled (words_of kind (length image)) image = sym (ap (λ n. filled n image) (whole (length image)) ∙ filled_whole image) in
+      law.starts s image z long (subst (HasWords r.array s) full words);
+}
+
+pub new_lock : (placed : Circuit → LockRegs → Type 0) (stands : State → LockState → Type 0) (kind : LockKind) (size tickets : ℕ) (old new : Circuit) (width depth : ℕ) (r : LockRegs)
     → r.width ≡ width → 2 ^ r.bits ≡ depth → is_some r.array ≡ true → length new.arrays ≡ length old.arrays + 1
-    → placed new r → IsFragment old new r → HasRegNets tickets new r → StartLaw stands new r → RoomLaw stands size (signal new r.room) → TicketLaw stands tickets (signal new r.ticket)
+    → placed new r → IsFragment old new r → HasRegNets tickets new r → StartLaw stands kind new r → ((d : ℕ) → words_of kind d ≡ d) → RoomLaw stands size (signal new r.room) → TicketLaw stands tickets (signal new r.ticket)
     → IsNewLock placed stands size tickets old new width depth r
-new_lock placed stands size tickets old new width depth r w d a n p f x start room ticket = record {
+new_lock placed stands kind size tickets old new width depth r w d a n p f x start whole room ticket = record {
   is_in = record {
     is_placed = p;
     room_there = x.room_there;
@@ -63,7 +75,7 @@ new_lock placed stands size tickets old new width depth r w d a n p f x start ro
     bits = d;
     array = new_array old new r a n f;
   };
-  laws = record { some = f.some; regs = f.has_reg; start = start; room = room; ticket = ticket };
+  laws = record { some = f.some; regs = f.has_reg; start = starts_whole stands kind new r whole start; room = room; ticket = ticket };
   above = f.above;
 }
 
@@ -77,7 +89,7 @@ pub laws_kept : (stands : State → LockState → Type 0) (size tickets : ℕ) (
 laws_kept stands size tickets placed a b m width depth r k i x = record {
   some = x.some;
   regs = λ n lo hi. k.has_reg n (x.regs n lo hi);
-  start = record { starts = λ s image z words. x.start.starts s image (record { regs = λ n lo hi. z.regs n lo hi ∙ k.reset n (x.regs n lo hi) }) words };
+  start = record { starts = λ s image z long words. x.start.starts s image (record { regs = λ n lo hi. z.regs n lo hi ∙ k.reset n (x.regs n lo hi) }) long words };
   room = subst (λ f. RoomLaw stands size f) (sym (k.kept r.room i.room_there)) x.room;
   ticket = subst (λ f. TicketLaw stands tickets f) (sym (k.kept r.ticket i.ticket_there)) x.ticket;
 }

@@ -25,7 +25,7 @@ use Rattle.pdl_pipe.proofs.LockNew.{regs_end}
 pub are_suited : {T : Type 0} (suits : T → MemInfo → Type 0) (kind : T → LockKind) (size : T → ℕ) (ms : List Mem) (infos : List MemInfo) (ls : List (Option T))
     → infos ≡ infos_of ms → length ls ≡ length ms → ((m : ℕ) → m < length ms → is_some (some_at ls m) ≡ has_lock ms m)
     → ((m : ℕ) (l : T) (none : MemInfo) → m < length ms → some_at ls m ≡ Some l → suits l (slice_index_or (infos_of ms) m none))
-    → ((l : T) (d : ℕ) → words_of (kind l) d ≡ d)
+    → ((m : ℕ) (l : T) → m < length ms → some_at ls m ≡ Some l → (d : ℕ) → words_of (kind l) d ≡ d)
     → ((m : ℕ) (l : T) → m < length ms → some_at ls m ≡ Some l → (slice_index_or (mems_of ms) m plain_mem).lock ≡ as_lock (kind l) (size l))
     → AreSuited suits kind size ms infos ls
 are_suited suits kind size ms infos ls e n h s w k = record {
@@ -33,7 +33,7 @@ are_suited suits kind size ms infos ls e n h s w k = record {
   locked = h;
   suited = λ m info low i. record {
     suits_it = λ l f. subst (suits l) (ap (λ xs. slice_index_or xs m info) (sym e) ∙ i) (s m l info low f);
-    words = λ l f d. w l d;
+    words = λ l f d. w m l low f d;
   };
   kinds = k;
 }

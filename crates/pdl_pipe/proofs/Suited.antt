@@ -19,14 +19,12 @@ use Rattle.pdl_rules.proofs.Straight.{Each, Keeps, each_in_line}
 use Rattle.pdl_rules.proofs.Legal.{at_mems, legal_in_line}
 use Rattle.pdl_lockapi.specs.Laws.{words_of}
 use Rattle.pdl_lockapi.specs.Forget.{as_lock}
-use Rattle.pdl_queue.specs.Slots.{IsSize, Suits}
-use Rattle.pdl_queue.specs.declared.QueueLock.{QueueLock}
+use Rattle.pdl_entries.specs.Slots.{IsSize}
+use Rattle.pdl_anylock.specs.declared.AnyLock.{AnyLock}
+use Rattle.pdl_anylock.specs.Any.{any_kind, any_size, any_suits}
 use Rattle.pdl_check.specs.Memories.{info_of, infos_of}
 use Rattle.pdl_check.specs.Queues.{is_queue, is_queued, all_queued}
 use Rattle.pdl_trunk.specs.Walk.{has_lock}
-use Rattle.pdl_pipe.specs.declared.any.AnyLock.{AnyLock}
-use Rattle.pdl_pipe.specs.declared.any.AnyLock.TheVariants as any
-use Rattle.pdl_pipe.specs.Any.{chosen}
 use Rattle.pdl_pipe.specs.Made.{some_at}
 use Rattle.pdl_pipe.specs.Locked.{AreSuited}
 use Rattle.pdl_pipe.proofs.LockUse.{are_suited}
@@ -49,10 +47,10 @@ asked_locked (x ∷ ms) (suc m) l = asked_locked ms m (omega (arith, l))
 some_same : {T : Type 0} {x y : T} → Some x ≡ Some y → x ≡ y
 some_same e = cc
 
-kind_is : (d : Option LockDecl) (l : AnyLock) → is_queued d ≡ true → lock_asked d ≡ Some l → Flatten.lock_of d ≡ as_lock (chosen (λ (q : QueueLock). Queue) l) (chosen (λ (q : QueueLock). q.size) l)
+kind_is : (d : Option LockDecl) (l : AnyLock) → is_queued d ≡ true → lock_asked d ≡ Some l → Flatten.lock_of d ≡ as_lock (any_kind l) (any_size l)
 kind_is None l q e = cc
 kind_is (Some d) l q e =
-    subst (λ (x : AnyLock). Flatten.lock_of (Some d) ≡ as_lock (chosen (λ (y : QueueLock). Queue) x) (chosen (λ (y : QueueLock). y.size) x)) (some_same e)
+    subst (λ (x : AnyLock). Flatten.lock_of (Some d) ≡ as_lock (any_kind x) (any_size x)) (some_same e)
     (queue_is d.kind d.size q)
   where
     queue_is : (k : LockKind) (n : Number) → is_queue k ≡ true → Flatten.lock_of (Some (record { kind = k; size = n })) ≡ Flat.Queue n.value
@@ -61,7 +59,7 @@ kind_is (Some d) l q e =
     queue_is Rename n q = absurd (false≢true q)
 
 pub asked_kind : (ms : List Mem) (m : ℕ) (l : AnyLock) → all_queued ms ≡ true → m < length ms → some_at (locks_asked ms) m ≡ Some l
-    → (slice_index_or (mems_of ms) m plain_mem).lock ≡ as_lock (chosen (λ (q : QueueLock). Queue) l) (chosen (λ (q : QueueLock). q.size) l)
+    → (slice_index_or (mems_of ms) m plain_mem).lock ≡ as_lock (any_kind l) (any_size l)
 asked_kind [] m l q low e = absurd (omega (arith, low))
 asked_kind (x ∷ ms) zero l q low e = kind_is x.lock l (and_parts (is_queued x.lock) (all_queued ms) q).0 e
 asked_kind (x ∷ ms) (suc m) l q low e = asked_kind ms m l (and_parts (is_queued x.lock) (all_queued ms) q).1 (omega (arith, low)) e
@@ -114,30 +112,37 @@ sized_locks p e rules = sized_all p p.mems (map Parameter p.params) (at_mems p (
 
 -- ---- memories
 
-suits_one : (m : Mem) (l : AnyLock) → IsSizedLock m.lock → IsSized m → lock_asked m.lock ≡ Some l → chosen Suits l (info_of m)
+suits_one : (m : Mem) (l : AnyLock) → IsSizedLock m.lock → IsSized m → lock_asked m.lock ≡ Some l → any_suits l (info_of m)
 suits_one m l h s e = at m.lock l h e
   where
-    at : (d : Option LockDecl) (l : AnyLock) → IsSizedLock d → lock_asked d ≡ Some l → chosen Suits l (info_of m)
+    at : (d : Option LockDecl) (l : AnyLock) → IsSizedLock d → lock_asked d ≡ Some l → any_suits l (info_of m)
     at None l h e = cc
     at (Some d) l h e =
-        subst (λ (x : AnyLock). chosen Suits x (info_of m)) (some_same e)
+        subst (λ (x : AnyLock). any_suits x (info_of m)) (some_same e)
         (record { size = h; width_low = s.low; width_high = s.high; depth = record { bits = s.bits; low = s.some; high = s.few; power = s.power } })
 
-pub asked_suited : (ms : List Mem) (m : ℕ) (l : AnyLock) (none : MemInfo) → AreSizedLocks ms → AreSized ms → m < length ms → some_at (locks_asked ms) m ≡ Some l → chosen Suits l (slice_index_or (infos_of ms) m none)
+pub asked_suited : (ms : List Mem) (m : ℕ) (l : AnyLock) (none : MemInfo) → AreSizedLocks ms → AreSized ms → m < length ms → some_at (locks_asked ms) m ≡ Some l → any_suits l (slice_index_or (infos_of ms) m none)
 asked_suited [] m l none h s low e = absurd (omega (arith, low))
 asked_suited (x ∷ ms) zero l none h s low e = suits_one x l h.0 s.0 e
 asked_suited (x ∷ ms) (suc m) l none h s low e = asked_suited ms m l none h.1 s.1 (omega (arith, low)) e
 
 -- ---- the whole
 
-words_kept : (l : AnyLock) (d : ℕ) → words_of (chosen (λ (q : QueueLock). Queue) l) d ≡ d
-words_kept (any.Queue q) d = refl
+words_one : (d : Option LockDecl) (l : AnyLock) (n : ℕ) → lock_asked d ≡ Some l → words_of (any_kind l) n ≡ n
+words_one None l n e = cc
+words_one (Some d) l n e = subst (λ (x : AnyLock). words_of (any_kind x) n ≡ n) (some_same e) refl
+
+-- the array of a queue has as many words as its memory
+words_kept : (ms : List Mem) (m : ℕ) (l : AnyLock) (n : ℕ) → m < length ms → some_at (locks_asked ms) m ≡ Some l → words_of (any_kind l) n ≡ n
+words_kept [] m l n low e = absurd (omega (arith, low))
+words_kept (x ∷ ms) zero l n low e = words_one x.lock l n e
+words_kept (x ∷ ms) (suc m) l n low e = words_kept ms m l n (omega (arith, low)) e
 
 pub any_suited : (p : Pipe) (infos : List MemInfo) (ls : List (Option AnyLock)) → IsTrue (is_in_line p) → KeepsRules p → all_queued p.mems ≡ true → infos ≡ infos_of p.mems → ls ≡ locks_asked p.mems
-    → AreSuited (chosen Suits) (chosen (λ (q : QueueLock). Queue)) (chosen (λ (q : QueueLock). q.size)) p.mems infos ls
+    → AreSuited any_suits any_kind any_size p.mems infos ls
 any_suited p infos ls in_line rules queued e f =
-    subst (λ (xs : List (Option AnyLock)). AreSuited (chosen Suits) (chosen (λ (q : QueueLock). Queue)) (chosen (λ (q : QueueLock). q.size)) p.mems infos xs) (sym f)
-    (are_suited (chosen Suits) (chosen (λ (q : QueueLock). Queue)) (chosen (λ (q : QueueLock). q.size)) p.mems infos (locks_asked p.mems) e (asked_count p.mems) (asked_locked p.mems)
+    subst (λ (xs : List (Option AnyLock)). AreSuited any_suits any_kind any_size p.mems infos xs) (sym f)
+    (are_suited any_suits any_kind any_size p.mems infos (locks_asked p.mems) e (asked_count p.mems) (asked_locked p.mems)
     (λ m l none low g. asked_suited p.mems m l none (sized_locks p in_line rules) (legal_in_line p in_line rules).sized low g)
-    words_kept
+    (λ m l low g n. words_kept p.mems m l n low g)
     (λ m l low g. asked_kind p.mems m l queued low g))

@@ -1,9 +1,9 @@
 -- The locks that the memories of a pipe ask for.
 use Rattle.std.specs.Prelude.{List, [], ◌∷◌, map, Option, Some, None, ⊤}
 use Rattle.pdl_model.specs.Tree.{LockDecl, Mem}
-use Rattle.pdl_queue.specs.Slots.{IsSize}
-use Rattle.pdl_pipe.specs.declared.any.AnyLock.{AnyLock}
-use Rattle.pdl_pipe.specs.declared.any.AnyLock.TheVariants.{Queue}
+use Rattle.pdl_entries.specs.Slots.{IsSize}
+use Rattle.pdl_anylock.specs.declared.AnyLock.{AnyLock}
+use Rattle.pdl_anylock.specs.declared.AnyLock.TheVariants.{Queue}
 
 abbrev pub lock_asked : Option LockDecl → Option AnyLock
 lock_asked None = None

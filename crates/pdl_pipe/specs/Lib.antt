@@ -2,7 +2,6 @@ pub mod Begun
 pub mod Made
 pub mod Nets
 pub mod Sized
-pub mod Any
 pub mod Asked
 pub mod Locked
 pub mod Moved

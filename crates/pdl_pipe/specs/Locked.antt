@@ -14,8 +14,8 @@ use Rattle.pdl_lockapi.specs.declared.LockRegs.{LockRegs}
 use Rattle.pdl_lockapi.specs.declared.LockNets.{LockNets}
 use Rattle.pdl_lockapi.specs.declared.ReservePort.{ReservePort}
 use Rattle.pdl_lockapi.specs.declared.TicketWrite.{TicketWrite}
-use Rattle.pdl_lockapi.specs.Lock.{LockState}
-use Rattle.pdl_lockapi.specs.Laws.{first_reg, end_reg, own, words_of, StartLaw, RoomLaw, TicketLaw, StepLaw, StepSignals}
+use Rattle.pdl_lockapi.specs.Lock.{LockState, start}
+use Rattle.pdl_lockapi.specs.Laws.{first_reg, end_reg, own, words_of, IsReset, HasWords, RoomLaw, TicketLaw, StepLaw, StepSignals}
 use Rattle.pdl_lockapi.specs.Forget.{as_lock}
 use Rattle.pdl_trunk.specs.Walk.{Reservation, Put, has_lock, zero_bit}
 use Rattle.pdl_trunk.specs.Views.{View, moves_at}
@@ -43,11 +43,15 @@ pub record AreSuited {T : Type 0} (suits : T → MemInfo → Type 0) (kind : T �
 
 -- ---- a lock
 
+-- registers at reset, and an array that holds a whole image and no more, stand for the lock at its start
+pub record StartsWhole (stands : State → LockState → Type 0) (c : Circuit) (r : LockRegs) : Type 0 where
+  pub starts : (s : State) (image : List ℕ) → IsReset c (first_reg r) (end_reg r) s → length image ≡ 2 ^ r.bits → HasWords r.array s image → stands s (start image)
+
 -- its registers are there, and its laws hold
 pub record IsLocked (stands : State → LockState → Type 0) (size tickets : ℕ) (c : Circuit) (r : LockRegs) : Type 0 where
   pub some : 1 ≤ length r.regs
   pub regs : (k : ℕ) → first_reg r ≤ k → k < end_reg r → HasReg c k
-  pub start : StartLaw stands c r
+  pub start : StartsWhole stands c r
   pub room : RoomLaw stands size (signal c r.room)
   pub ticket : TicketLaw stands tickets (signal c r.ticket)
 

@@ -1,7 +1,6 @@
 //! The netlist of a pipe in line, made round any lock module.
 #![tactic(auto)]
 
-mod any;
 mod begin;
 mod connect;
 mod locks;
@@ -17,5 +16,5 @@ mod steps;
 mod tests;
 mod walk;
 
-pub use any::AnyLock;
 pub use netlist::compile;
+pub use pdl_anylock::AnyLock;

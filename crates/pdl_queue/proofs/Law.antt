@@ -1,244 +1,32 @@
--- What a step's nets make of the pending entries: values alone.
-use Rattle.std.proofs.Common.{◌≡◌, ◌≢◌, ℕ, zero, suc, ◌+◌, ◌-◌, ◌<◌, ◌≤◌, ◌⊎◌, inl, inr, List, [], ◌∷◌, ◌++◌, length, set, take, drop, refl, sym, ap, ◌∙◌, subst, arith, ⊎_elim, length-append, length-drop, length-take, length-set, ne_eqb, lt-ltb, le-ltb, get_or-take, get_or-set_same, get_or-set_other}
-use Rattle.std.specs.Prelude.{◌==◌, if◌then◌else◌, Bool, true, false, Some}
-use Rattle.std.proofs.lemmas.Bool.{cases_lt, cases_eq}
-use Rattle.std.proofs.lemmas.List.{append-nil, get_or_append_left, get_or_push, get_or-drop}
+-- The law of a queue's look.
+use Rattle.std.proofs.Common.{◌≡◌, ◌-◌, length-take, sym, ap, ◌∙◌, arith}
+use Rattle.std.specs.Prelude.{Some, take, slice_index, option_map, Option}
+use Rattle.std.proofs.lemmas.List.{take_all}
 use Rattle.pdl_word.specs.Words as words
-use Rattle.pdl_word.specs.Words.{bit}
-use Rattle.std.specs.Prelude.{is_some}
-use Rattle.pdl_lockapi.specs.Lock.{Entry, WriteAct, entry_at, no_entry, fresh, given, appended, put, written}
-use Rattle.pdl_queue.specs.Slots.{Holds}
+use Rattle.pdl_model.specs.Tree.{Queue}
+use Rattle.pdl_net.specs.declared.Net.{Net}
+use Rattle.pdl_net.specs.Circuit.{Circuit}
+use Rattle.pdl_net.specs.Meaning.{signal}
+use Rattle.pdl_net.specs.Signal.{Signal, const_value, mux_value}
+use Rattle.pdl_lockapi.specs.declared.Kind.{Kind}
+use Rattle.pdl_lockapi.specs.Lock.{or_zero, older}
+use Rattle.pdl_lockapi.specs.Laws.{LookLaw}
+use Rattle.pdl_entries.specs.declared.layout.Layout.{Layout}
+use Rattle.pdl_entries.specs.Slots.{IsSized, Stands, content_signal}
+use Rattle.pdl_entries.specs.Looks.{less_base, ready_signal, GivesWord}
+use Rattle.pdl_entries.proofs.Reading.{taken, hit_value, less_value, free_taken, free_youngest, word_given}
 
-pub if_one : {A : Type 0} (c : ℕ) (x y : A) → c ≡ 1 → (if c == 1 then x else y) ≡ x
-if_one c x y e = rw e refl
-
-pub if_other : {A : Type 0} (c : ℕ) (x y : A) → c ≢ 1 → (if c == 1 then x else y) ≡ y
-if_other c x y n = ap (λ (t : Bool). if t then x else y) (ne_eqb _ _ n)
-
-pub if_zero : {A : Type 0} (c : ℕ) (x y : A) → c ≡ 0 → (if c == 1 then x else y) ≡ y
-if_zero c x y e = rw e refl
-
--- a net that holds a bit, as a test
-pub test_bit : (v : ℕ) (t : Bool) → v ≡ bit t → (v == 1) ≡ t
-test_bit v true e = rw e refl
-test_bit v false e = rw e refl
-
-pub if_true : {A : Type 0} (t : Bool) (x y : A) → t ≡ true → (if t then x else y) ≡ x
-if_true t x y e = rw e refl
-
-pub if_false : {A : Type 0} (t : Bool) (x y : A) → t ≡ false → (if t then x else y) ≡ y
-if_false t x y e = rw e refl
-
-pub true_or_false : (t : Bool) → (t ≡ true) ⊎ (t ≡ false)
-true_or_false true = inl refl
-true_or_false false = inr refl
-
--- the same slots by other functions
-pub holds_same : (n : ℕ) (V A H X V' A' H' X' : ℕ → ℕ) (xs : List Entry) → ((k : ℕ) → k < n → V' k ≡ V k) → ((k : ℕ) → k < n → A' k ≡ A k) → ((k : ℕ) → k < n → H' k ≡ H k) → ((k : ℕ) → k < n → X' k ≡ X k)
-    → Holds n V A H X xs → Holds n V' A' H' X' xs
-holds_same n V A H X V' A' H' X' xs v a f x h = record {
-  room = h.room;
-  is_valid = λ k l. v k (omega (arith, h.room)) ∙ h.is_valid k l;
-  is_empty = λ k l m. v k m ∙ h.is_empty k l m;
-  has_addr = λ k l. a k (omega (arith, h.room)) ∙ h.has_addr k l;
-  is_full = λ k l. f k (omega (arith, h.room)) ∙ h.is_full k l;
-  has_value = λ k w l e. x k (omega (arith, h.room)) ∙ h.has_value k w l e;
+pub look_law : (c : Circuit) (l : Layout) (u : Kind) (a t : Signal) (v : Option Net) → IsSized l → t.width ≡ l.ticket → GivesWord c l a v
+    → LookLaw (Stands l) Queue l.ticket u a t (ready_signal l a t) (option_map (signal c) v)
+unfolding mux_value const_value words.mux
+look_law c l u a t v z w g = record {
+  answers = λ s x n h k e.
+      let i = h.entries in
+      let d : (less_base l t).value s ≡ n - x.base = less_value l (content_signal l) s x t n z i w k.from (omega (arith, k.to, i.slots.room)) e in
+      ap (λ m. words.mux m 0 1) (hit_value l (content_signal l) s x a (less_base l t) i (omega (arith, d, k.from, k.to)) l.size (omega arith)
+      ∙ ap (λ zs. taken zs (a.value s)) (take_all l.size (take ((less_base l t).value s) x.entries) (omega (arith, length-take ((less_base l t).value s) x.entries, i.slots.room)))
+      ∙ ap (λ m. taken (take m x.entries) (a.value s)) d)
+      ∙ free_taken (older x n) (a.value s);
+  gives = λ f i s x n h k e fit ready.
+      word_given c l a v f s x.words g i h.words ∙ sym (ap or_zero (free_youngest (older x n) (a.value s) (Some (slice_index x.words (a.value s))) ready));
 }
-
--- 1 where there is an element, and the last one
-abbrev pub some : List ℕ → ℕ
-some [] = 0
-some (y ∷ ys) = 1
-
-abbrev pub last_or : List ℕ → ℕ → ℕ
-last_or [] d = d
-last_or (y ∷ ys) d = last_or ys y
-
-before_one : (V B : ℕ → ℕ) (n : ℕ) → B 0 ≡ 1 → ((k : ℕ) → B (suc k) ≡ V k) → ((k : ℕ) → k < n → V k ≡ 1) → B n ≡ 1
-before_one V B zero z s v = z
-before_one V B (suc n) z s v = s n ∙ v n (omega arith)
-
-before_none : (V B : ℕ → ℕ) (n m k : ℕ) → ((k : ℕ) → B (suc k) ≡ V k) → ((k : ℕ) → n ≤ k → k < m → V k ≡ 0) → n < k → k < m → B k ≡ 0
-before_none V B n m zero s v a b = absurd (omega arith)
-before_none V B n m (suc k) s v a b = s k ∙ v k (omega arith) (omega arith)
-
-one_more : (n a : ℕ) (V A H X B : ℕ → ℕ) (xs : List Entry) → B 0 ≡ 1 → ((k : ℕ) → B (suc k) ≡ V k) → length xs + 1 ≤ n → Holds n V A H X xs
-    → Holds n (λ k. words.mux (V k) 1 (words.mux 1 (B k) 0)) (λ k. words.mux (V k) (A k) a) (λ k. words.mux (V k) (H k) 0) X (xs ++ fresh a ∷ [])
-unfolding words.equal words.less words.mux
-one_more n a V A H X B xs z s room h =
-    let len : length (xs ++ fresh a ∷ []) ≡ length xs + 1 = length-append xs (fresh a ∷ []) in
-    let left = λ (k : ℕ) (l : k < length xs). get_or_append_left xs (fresh a ∷ []) no_entry k l in
-    let last = λ (k : ℕ) (e : length xs ≡ k). get_or_push xs (fresh a) no_entry k e in
-    let v0 = λ (k : ℕ) (e : length xs ≡ k). let g : V k ≡ 0 = h.is_empty k (omega arith) (omega arith) in g in
-    record {
-      room = omega (arith, len);
-      is_valid = λ k l. ⊎_elim
-          (λ (i : k < length xs). ap (λ v. words.mux v 1 (words.mux 1 (B k) 0)) (h.is_valid k i))
-          (λ (i : length xs ≤ k). let e : length xs ≡ k = omega (arith, len) in ap (λ v. words.mux v 1 (words.mux 1 (B k) 0)) (v0 k e) ∙ (let P : ℕ → Type 0 = λ m. B m ≡ 1 in subst P e (before_one V B (length xs) z s h.is_valid)))
-          (cases_lt k (length xs));
-      is_empty = λ k l m. ap (λ v. words.mux v 1 (words.mux 1 (B k) 0)) (h.is_empty k (omega (arith, len)) m) ∙ before_none V B (length xs) n k s h.is_empty (omega (arith, len)) m;
-      has_addr = λ k l. ⊎_elim
-          (λ (i : k < length xs). ap (λ v. words.mux v (A k) a) (h.is_valid k i) ∙ h.has_addr k i ∙ ap (λ (e : Entry). e.addr) (sym (left k i)))
-          (λ (i : length xs ≤ k). let e : length xs ≡ k = omega (arith, len) in ap (λ v. words.mux v (A k) a) (v0 k e) ∙ ap (λ (e : Entry). e.addr) (sym (last k e)))
-          (cases_lt k (length xs));
-      is_full = λ k l. ⊎_elim
-          (λ (i : k < length xs). ap (λ v. words.mux v (H k) 0) (h.is_valid k i) ∙ h.is_full k i ∙ ap (λ (e : Entry). bit (is_some e.value)) (sym (left k i)))
-          (λ (i : length xs ≤ k). let e : length xs ≡ k = omega (arith, len) in ap (λ v. words.mux v (H k) 0) (v0 k e) ∙ ap (λ (e : Entry). bit (is_some e.value)) (sym (last k e)))
-          (cases_lt k (length xs));
-      has_value = λ k w l f. ⊎_elim
-          (λ (i : k < length xs). h.has_value k w i (ap (λ (e : Entry). e.value) (sym (left k i)) ∙ f))
-          (λ (i : length xs ≤ k). let e : length xs ≡ k = omega (arith, len) in let g : (fresh a).value ≡ Some w = ap (λ (e : Entry). e.value) (sym (last k e)) ∙ f in absurd (cc g))
-          (cases_lt k (length xs));
-    }
-
-no_more : (n : ℕ) (V A H X B : ℕ → ℕ) (xs : List Entry) → Holds n V A H X xs
-    → Holds n (λ k. words.mux (V k) 1 (words.mux 0 (B k) 0)) (λ k. words.mux (V k) (A k) 0) (λ k. words.mux (V k) (H k) 0) X xs
-unfolding words.equal words.less words.mux
-no_more n V A H X B xs h = record {
-  room = h.room;
-  is_valid = λ k l. ap (λ v. words.mux v 1 (words.mux 0 (B k) 0)) (h.is_valid k l);
-  is_empty = λ k l m. ap (λ v. words.mux v 1 (words.mux 0 (B k) 0)) (h.is_empty k l m);
-  has_addr = λ k l. ap (λ v. words.mux v (A k) 0) (h.is_valid k l) ∙ h.has_addr k l;
-  is_full = λ k l. ap (λ v. words.mux v (H k) 0) (h.is_valid k l) ∙ h.is_full k l;
-  has_value = h.has_value;
-}
-
-pub append_holds : (n : ℕ) (V A H X B : ℕ → ℕ) (xs : List Entry) (ys : List ℕ) → B 0 ≡ 1 → ((k : ℕ) → B (suc k) ≡ V k) → length ys ≤ 1 → length xs + length ys ≤ n → Holds n V A H X xs
-    → Holds n (λ k. words.mux (V k) 1 (words.mux (some ys) (B k) 0)) (λ k. words.mux (V k) (A k) (last_or ys 0)) (λ k. words.mux (V k) (H k) 0) X (appended ys xs)
-unfolding words.equal words.less words.mux
-append_holds n V A H X B xs [] z s one room h =
-    let P : List Entry → Type 0 = λ l. Holds n (λ k. words.mux (V k) 1 (words.mux 0 (B k) 0)) (λ k. words.mux (V k) (A k) 0) (λ k. words.mux (V k) (H k) 0) X l in
-    subst P (sym (append-nil xs)) (no_more n V A H X B xs h)
-append_holds n V A H X B xs (y ∷ []) z s one room h = one_more n y V A H X B xs z s (omega arith) h
-append_holds n V A H X B xs (y ∷ y' ∷ ys) z s one room h = absurd (omega arith)
-
-eq_one : (i k : ℕ) → i ≡ k → words.equal i k ≡ 1
-unfolding words.equal words.less words.mux
-eq_one i k e = grind arith
-
-eq_none : (i k : ℕ) → i ≢ k → words.equal i k ≡ 0
-unfolding words.equal words.less words.mux
-eq_none i k n = ap (λ (t : Bool). if t then 1 else 0) (ne_eqb _ _ n)
-
--- a write of entry i
-set_holds : (n i w : ℕ) (V A H X E : ℕ → ℕ) (xs : List Entry) → i < length xs → ((k : ℕ) → E k ≡ words.equal i k) → Holds n V A H X xs
-    → Holds n V A (λ k. words.mux (E k) 1 (H k)) (λ k. words.mux (E k) w (X k)) (set xs i (given (entry_at xs i) w))
-unfolding words.equal words.less words.mux
-set_holds n i w V A H X E xs l e h =
-    let g = given (entry_at xs i) w in
-    let len : length (set xs i g) ≡ length xs = length-set xs i g in
-    let here = λ (k : ℕ) (q : i ≡ k). let z : entry_at (set xs i g) k ≡ g = (let P : ℕ → Type 0 = λ j. entry_at (set xs i g) j ≡ g in subst P q (get_or-set_same xs i g no_entry l)) in z in
-    let there = λ (k : ℕ) (q : k ≢ i). let z : entry_at (set xs i g) k ≡ entry_at xs k = get_or-set_other xs i k g no_entry q in z in
-    record {
-      room = omega (arith, len, h.room);
-      is_valid = λ k m. h.is_valid k (omega (arith, len));
-      is_empty = λ k m o. h.is_empty k (omega (arith, len)) o;
-      has_addr = λ k m. h.has_addr k (omega (arith, len)) ∙ ⊎_elim
-          (λ (q : k ≡ i). ap (λ j. (entry_at xs j).addr) q ∙ ap (λ (e : Entry). e.addr) (sym (here k (sym q))))
-          (λ (q : k ≢ i). ap (λ (e : Entry). e.addr) (sym (there k q)))
-          (cases_eq k i);
-      is_full = λ k m. ⊎_elim
-          (λ (q : k ≡ i). ap (λ v. words.mux v 1 (H k)) (e k ∙ eq_one i k (sym q)) ∙ ap (λ (e : Entry). bit (is_some e.value)) (sym (here k (sym q))))
-          (λ (q : k ≢ i). ap (λ v. words.mux v 1 (H k)) (e k ∙ eq_none i k (λ z. q (sym z))) ∙ h.is_full k (omega (arith, len)) ∙ ap (λ (e : Entry). bit (is_some e.value)) (sym (there k q)))
-          (cases_eq k i);
-      has_value = λ k v m f. ⊎_elim
-          (λ (q : k ≡ i). let z : Some w ≡ Some v = ap (λ (e : Entry). e.value) (sym (here k (sym q))) ∙ f in ap (λ t. words.mux t w (X k)) (e k ∙ eq_one i k (sym q)) ∙ (cc z))
-          (λ (q : k ≢ i). ap (λ t. words.mux t w (X k)) (e k ∙ eq_none i k (λ z. q (sym z))) ∙ h.has_value k v (omega (arith, len)) (ap (λ (e : Entry). e.value) (sym (there k q)) ∙ f))
-          (cases_eq k i);
-    }
-
-none_holds : (n w : ℕ) (V A H X E : ℕ → ℕ) (xs : List Entry) → ((k : ℕ) → E k ≡ 0) → Holds n V A H X xs → Holds n V A (λ k. words.mux (E k) 1 (H k)) (λ k. words.mux (E k) w (X k)) xs
-unfolding words.equal words.less words.mux
-none_holds n w V A H X E xs e h = record {
-  room = h.room;
-  is_valid = h.is_valid;
-  is_empty = h.is_empty;
-  has_addr = h.has_addr;
-  is_full = λ k l. ap (λ v. words.mux v 1 (H k)) (e k) ∙ h.is_full k l;
-  has_value = λ k v l f. ap (λ t. words.mux t w (X k)) (e k) ∙ h.has_value k v l f;
-}
-
-pub put_holds : (n base : ℕ) (w : WriteAct) (V A H X E : ℕ → ℕ) (xs : List Entry) → (w.on ≡ true → w.ticket - base < length xs) → ((k : ℕ) → w.on ≡ true → E k ≡ words.equal (w.ticket - base) k) → ((k : ℕ) → w.on ≡ false → E k ≡ 0)
-    → Holds n V A H X xs → Holds n V A (λ k. words.mux (E k) 1 (H k)) (λ k. words.mux (E k) w.value (X k)) (put base w xs)
-unfolding words.equal words.less words.mux
-put_holds n base w V A H X E xs i y z h =
-    let P : List Entry → Type 0 = λ l. Holds n V A (λ k. words.mux (E k) 1 (H k)) (λ k. words.mux (E k) w.value (X k)) l in
-    ⊎_elim
-    (λ (o : w.on ≡ true). subst P (sym (if_true w.on _ xs o)) (set_holds n (w.ticket - base) w.value V A H X E xs (i o) (λ k. y k o) h))
-    (λ (o : w.on ≡ false). subst P (sym (if_false w.on _ xs o)) (none_holds n w.value V A H X E xs (λ k. z k o) h))
-    (true_or_false w.on)
-
-pub written-push : (base : ℕ) (ws : List WriteAct) (w : WriteAct) (xs : List Entry) → written base (ws ++ w ∷ []) xs ≡ put base w (written base ws xs)
-written-push base [] w xs = refl
-written-push base (v ∷ ws) w xs = written-push base ws w (put base v xs)
-
-length-put : (base : ℕ) (w : WriteAct) (xs : List Entry) → length (put base w xs) ≡ length xs
-length-put base w xs = ⊎_elim
-    (λ (o : w.on ≡ true). ap length (if_true w.on (set xs (w.ticket - base) (given (entry_at xs (w.ticket - base)) w.value)) xs o) ∙ length-set xs (w.ticket - base) _)
-    (λ (o : w.on ≡ false). ap length (if_false w.on (set xs (w.ticket - base) (given (entry_at xs (w.ticket - base)) w.value)) xs o))
-    (true_or_false w.on)
-
-pub length-written : (base : ℕ) (ws : List WriteAct) (xs : List Entry) → length (written base ws xs) ≡ length xs
-length-written base [] xs = refl
-length-written base (w ∷ ws) xs = length-written base ws (put base w xs) ∙ length-put base w xs
-
-lt_one : (a b : ℕ) → a < b → words.less a b ≡ 1
-unfolding words.equal words.less words.mux
-lt_one a b h = rw (lt-ltb a b h) refl
-
-lt_none : (a b : ℕ) → b ≤ a → words.less a b ≡ 0
-unfolding words.equal words.less words.mux
-lt_none a b h = rw (le-ltb a b h) refl
-
--- the entries below d
-take_holds : (n d : ℕ) (V A H X : ℕ → ℕ) (xs : List Entry) → Holds n V A H X xs → Holds n (λ k. words.mux (words.less k d) (V k) 0) A H X (take d xs)
-unfolding words.equal words.less words.mux
-take_holds n d V A H X xs h =
-    let len = length-take d xs in
-    let at = λ (k : ℕ) (l : k < d). get_or-take d xs k no_entry l in
-    record {
-      room = omega (arith, len, h.room);
-      is_valid = λ k l. ap (λ t. words.mux t (V k) 0) (lt_one k d (omega (arith, len))) ∙ h.is_valid k (omega (arith, len));
-      is_empty = λ k l m. ⊎_elim
-          (λ (i : k < d). ap (λ t. words.mux t (V k) 0) (lt_one k d i) ∙ h.is_empty k (omega (arith, len)) m)
-          (λ (i : d ≤ k). ap (λ t. words.mux t (V k) 0) (lt_none k d i))
-          (cases_lt k d);
-      has_addr = λ k l. h.has_addr k (omega (arith, len)) ∙ ap (λ (e : Entry). e.addr) (sym (at k (omega (arith, len))));
-      is_full = λ k l. h.is_full k (omega (arith, len)) ∙ ap (λ (e : Entry). bit (is_some e.value)) (sym (at k (omega (arith, len))));
-      has_value = λ k v l f. h.has_value k v (omega (arith, len)) (ap (λ (e : Entry). e.value) (sym (at k (omega (arith, len)))) ∙ f);
-    }
-
--- the entries below d where q is 1
-pub keep_holds : (n q d : ℕ) (V A H X : ℕ → ℕ) (xs : List Entry) → Holds n V A H X xs → Holds n (λ k. words.mux q (words.mux (words.less k d) (V k) 0) (V k)) A H X (if q == 1 then take d xs else xs)
-unfolding words.equal words.less words.mux
-keep_holds n q d V A H X xs h = ⊎_elim
-    (λ (e : q ≡ 1). let P : List Entry → Type 0 = λ l. Holds n (λ k. words.mux q (words.mux (words.less k d) (V k) 0) (V k)) A H X l in
-    subst P (sym (if_one q (take d xs) xs e)) (holds_same n (λ k. words.mux (words.less k d) (V k) 0) A H X _ A H X (take d xs) (λ k l. if_one q _ _ e) (λ k l. refl) (λ k l. refl) (λ k l. refl) (take_holds n d V A H X xs h)))
-    (λ (e : q ≢ 1). let P : List Entry → Type 0 = λ l. Holds n (λ k. words.mux q (words.mux (words.less k d) (V k) 0) (V k)) A H X l in
-    subst P (sym (if_other q (take d xs) xs e)) (holds_same n V A H X _ A H X xs (λ k l. if_other q _ _ e) (λ k l. refl) (λ k l. refl) (λ k l. refl) h))
-    (cases_eq q 1)
-
--- the oldest taken out
-drop_holds : (n : ℕ) (V A H X UV UA UH UX : ℕ → ℕ) (xs : List Entry) → ((k : ℕ) → k + 1 < n → UV k ≡ V (k + 1)) → ((k : ℕ) → n ≤ k + 1 → UV k ≡ 0) → ((k : ℕ) → k + 1 < n → UA k ≡ A (k + 1)) → ((k : ℕ) → k + 1 < n → UH k ≡ H (k + 1)) → ((k : ℕ) → k + 1 < n → UX k ≡ X (k + 1))
-    → Holds n V A H X xs → Holds n UV UA UH UX (drop 1 xs)
-drop_holds n V A H X UV UA UH UX xs v e a f x h =
-    let len = length-drop 1 xs in
-    let at = λ (k : ℕ). let z : entry_at (drop 1 xs) k ≡ entry_at xs (k + 1) = get_or-drop 1 xs k no_entry ∙ ap (entry_at xs) (omega arith) in z in
-    record {
-      room = omega (arith, len, h.room);
-      is_valid = λ k l. v k (omega (arith, len, h.room)) ∙ h.is_valid (k + 1) (omega (arith, len));
-      is_empty = λ k l m. ⊎_elim (λ (i : k + 1 < n). v k i ∙ h.is_empty (k + 1) (omega (arith, len)) i) (λ (i : n ≤ k + 1). e k i) (cases_lt (k + 1) n);
-      has_addr = λ k l. a k (omega (arith, len, h.room)) ∙ h.has_addr (k + 1) (omega (arith, len)) ∙ ap (λ (e : Entry). e.addr) (sym (at k));
-      is_full = λ k l. f k (omega (arith, len, h.room)) ∙ h.is_full (k + 1) (omega (arith, len)) ∙ ap (λ (e : Entry). bit (is_some e.value)) (sym (at k));
-      has_value = λ k w l g. x k (omega (arith, len, h.room)) ∙ h.has_value (k + 1) w (omega (arith, len)) (ap (λ (e : Entry). e.value) (sym (at k)) ∙ g);
-    }
-
-pub shift_holds : (n q : ℕ) (V A H X UV UA UH UX : ℕ → ℕ) (xs : List Entry) → ((k : ℕ) → k + 1 < n → UV k ≡ V (k + 1)) → ((k : ℕ) → n ≤ k + 1 → UV k ≡ 0) → ((k : ℕ) → k + 1 < n → UA k ≡ A (k + 1)) → ((k : ℕ) → k + 1 < n → UH k ≡ H (k + 1)) → ((k : ℕ) → k + 1 < n → UX k ≡ X (k + 1))
-    → Holds n V A H X xs → Holds n (λ k. words.mux q (UV k) (V k)) (λ k. words.mux q (UA k) (A k)) (λ k. words.mux q (UH k) (H k)) (λ k. words.mux q (UX k) (X k)) (if q == 1 then drop 1 xs else xs)
-unfolding words.equal words.less words.mux
-shift_holds n q V A H X UV UA UH UX xs v e a f x h =
-    let P : List Entry → Type 0 = λ l. Holds n (λ k. words.mux q (UV k) (V k)) (λ k. words.mux q (UA k) (A k)) (λ k. words.mux q (UH k) (H k)) (λ k. words.mux q (UX k) (X k)) l in
-    ⊎_elim
-    (λ (o : q ≡ 1). subst P (sym (if_one q (drop 1 xs) xs o)) (holds_same n UV UA UH UX _ _ _ _ (drop 1 xs) (λ k l. if_one q _ _ o) (λ k l. if_one q _ _ o) (λ k l. if_one q _ _ o) (λ k l. if_one q _ _ o) (drop_holds n V A H X UV UA UH UX xs v e a f x h)))
-    (λ (o : q ≢ 1). subst P (sym (if_other q (drop 1 xs) xs o)) (holds_same n V A H X _ _ _ _ xs (λ k l. if_other q _ _ o) (λ k l. if_other q _ _ o) (λ k l. if_other q _ _ o) (λ k l. if_other q _ _ o) h))
-    (cases_eq q 1)

@@ -7,9 +7,9 @@ use Rattle.pdl_model.specs.Flat
 use Rattle.pdl_model.specs.Flat.{Arrays, Op, Bind, CombRead, DelayedRead, Write, ReserveRead, ReserveWrite, Block, Release, Call, SpecCall, Verify, SpecCheck, SpecBarrier, taken, values_of}
 use Rattle.pdl_model.specs.Flatten.{flat, params_of}
 use Rattle.pdl_model.specs.Stages.{list_any, in_stage, mem_at, plain_mem, is_release}
-use Rattle.pdl_model.specs.Machine.{Thread, Pending, State, Deeds, same_args, is_held, verifies, does, does_all, deeds, word_for, with_answers}
+use Rattle.pdl_model.specs.Machine.{Thread, State, Deeds, same_args, is_held, verifies, does, does_all, deeds, word_for, with_answers}
 use Rattle.pdl_model.specs.Moves.{Act, act, acts, all_acts, movers}
-use Rattle.pdl_model.specs.Cycle.{releases, oldest, list_two, taken_out, for_mems, for_stages, Ports, ports, Turn, turns_from, turns, after, first}
+use Rattle.pdl_model.specs.Cycle.{PortWrite, releases, oldest, list_two, taken_out, port_write, for_mems, for_stages, Ports, ports, Turn, turns_from, turns, after, first}
 use Rattle.pdl_rules.specs.Places.{Parameter, statements, places}
 use Rattle.pdl_rules.specs.Refusal.{KeepsRules, all_lined, is_in_line}
 use Rattle.pdl_rules.proofs.Straight.{Each, Keeps, each_in_line, closing}
@@ -116,7 +116,7 @@ module _ (q : Flat.Pipe) (m : ℕ) (none : none_of (is_release m) q.stmts ≡ tr
 -- ---- ports
 
 -- what each memory commits, where one without lock commits nothing
-abbrev pub AreCommits : List Flat.Mem → List (Option Pending) → Type 0
+abbrev pub AreCommits : List Flat.Mem → List (Option PortWrite) → Type 0
 AreCommits [] [] = ⊤
 AreCommits (m ∷ ms) (e ∷ es) = (is_plain m.lock ≡ true → e ≡ None) × AreCommits ms es
 AreCommits _ _ = ⊥
@@ -135,7 +135,7 @@ stages_long : {X : Type 0} (f : ℕ → X) (k : ℕ) (xs : List Flat.Stage) → 
 stages_long f k [] = refl
 stages_long f k (x ∷ xs) = ap suc (stages_long f (suc k) xs)
 
-commits_from : (f : ℕ → Option Pending) (k : ℕ) (ms : List Flat.Mem) → ((i : ℕ) → is_plain (slice_index_or ms i plain_mem).lock ≡ true → f (k + i) ≡ None) → AreCommits ms (for_mems f k ms)
+commits_from : (f : ℕ → Option PortWrite) (k : ℕ) (ms : List Flat.Mem) → ((i : ℕ) → is_plain (slice_index_or ms i plain_mem).lock ≡ true → f (k + i) ≡ None) → AreCommits ms (for_mems f k ms)
 commits_from f k [] h = tt
 commits_from f k (m ∷ ms) h = (
   λ e. let here : k ≡ k + 0 = omega arith in ap f here ∙ h 0 e,
@@ -147,7 +147,7 @@ module _ (q : Flat.Pipe) (none : (m : ℕ) → is_plain (mem_at q m).lock ≡ tr
   shaped st bits = record {
     valid = stages_long _ 0 q.stages;
     moves = stages_long _ 0 q.stages;
-    commits = commits_from _ 0 q.mems (λ i e. let z : 0 + i ≡ i = omega arith in ap (taken_out st (movers (all_acts q st bits))) z ∙ taken_none q i (none i e) st bits);
+    commits = commits_from _ 0 q.mems (λ i e. let z : 0 + i ≡ i = omega arith in ap port_write (ap (taken_out st (movers (all_acts q st bits))) z ∙ taken_none q i (none i e) st bits));
   }
 
   shaped_from : (st : State) (schedule : List (List Bool)) → AllShaped q (turns_from q st schedule)

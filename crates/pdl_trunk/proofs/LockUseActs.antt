@@ -30,7 +30,7 @@ use Rattle.pdl_trunk.specs.Ports.{puts_to, all_puts, step_of}
 use Rattle.pdl_trunk.specs.Stands.{StandsLock, KnowsTickets, AreTicketed, written_in}
 use Rattle.pdl_trunk.proofs.RunMoves.{AreSeen, IsSeen, EachView, first_moves, ready_of}
 use Rattle.pdl_trunk.proofs.LockUse.{IsAlike, alike, same_count, all_new, appended_is, new_count, writes_to, write_acts, written_append, none_written, stage_written, count_below}
-use Rattle.pdl_trunk.proofs.LockUseDrives.{moves_or_not, no_mover, one_mover, reserves_are, release_is, AreDriven, driven_append, driven_count, driven_at, driven_stage}
+use Rattle.pdl_trunk.proofs.LockUseDrives.{moves_or_not, no_mover, one_mover, reserves_are, reserves_fit, release_is, AreDriven, driven_append, driven_count, driven_at, driven_stage}
 use Rattle.pdl_trunk.proofs.LockUseEarly.{stage_early, write_among}
 
 -- a stage's writes go through the ticket of its thread, which has a pending write
@@ -134,6 +134,7 @@ module _ (p : Pipe) (ls : Locks) (s : State) (st : machine.State) (m base : ℕ)
       let same : moving (flat p) st ≡ movers_from (flat p) st (length vs) 0 = ap (λ i. movers_from (flat p) st i 0) (sym n) in
       record {
         reserves = ap (addresses m) same ∙ reserves_are p ls s st m vs 0 h n';
+        fits = reserves_fit p ls s st m vs 0 h n';
         count = driven_count (ls.bits m) s (acts_of 0 vs) (all_puts m vs) d;
         on = λ k l. (driven_at (ls.bits m) s (acts_of 0 vs) (all_puts m vs) d k l).on;
         ticket = λ k l. (driven_at (ls.bits m) s (acts_of 0 vs) (all_puts m vs) d k l).ticket;

@@ -15,13 +15,13 @@ use Rattle.pdl_net.specs.Circuit.{State}
 use Rattle.pdl_net.specs.Signal.{Signal, const_value, mux_signal}
 use Rattle.pdl_lockapi.specs.Lock.{WriteAct}
 use Rattle.pdl_lockapi.specs.Lock as lock
-use Rattle.pdl_lockapi.specs.Laws.{ReserveSignal, TicketSignal, holds_ticket, ticket_at, asked}
+use Rattle.pdl_lockapi.specs.Laws.{ReserveSignal, TicketSignal, FitsIn, holds_ticket, reserve_at, ticket_at, asked}
 use Rattle.pdl_lockapi.specs.Forget.{addresses, addresses_of}
 use Rattle.pdl_slots.specs.Slots.{slot, goes, mover, movers_from, act_at}
 use Rattle.pdl_trunk.specs.Walk.{Locks, Reservation, Put, Ticket, ticket_of, one}
 use Rattle.pdl_trunk.specs.Views.{View, moves_first}
 use Rattle.pdl_trunk.specs.Ports.{reserves_to, all_reserves, puts_to, released}
-use Rattle.pdl_trunk.specs.Stands.{reserved_in, AreTicketed}
+use Rattle.pdl_trunk.specs.Stands.{reserved_in, AreTicketed, AddressesFit}
 use Rattle.pdl_trunk.proofs.RunMoves.{mux_at, AreSeen, first_moves, ready_of, none_goes}
 use Rattle.pdl_trunk.proofs.LockUse.{writes_to, write_acts}
 
@@ -91,6 +91,44 @@ reserves_are p ls s st m (v ∷ vs) k h n =
     (ap (addresses_of m) ((h.0.follows f.0 f.1).reserves (ready_of p ls s st k f.0 f.1 f.2)) ∙ asked_stage s m moves (e ∙ ap bit f.2) v.ended.reserves)
     ∙ back)
     (moves_or_not p ls s st k)
+
+-- the address of each reservation that is made fits
+abbrev AreFitting : State → List ReserveSignal → Type 0
+AreFitting s [] = ⊤
+AreFitting s (f ∷ fs) = (f.enable.value s ≡ 1 → FitsIn f.addr s) × AreFitting s fs
+
+fitting_append : (s : State) (fs gs : List ReserveSignal) → AreFitting s fs → AreFitting s gs → AreFitting s (fs ++ gs)
+fitting_append s [] gs h i = i
+fitting_append s (f ∷ fs) gs h i = (h.0, fitting_append s fs gs h.1 i)
+
+fitting_at : (s : State) (fs : List ReserveSignal) → AreFitting s fs → (k : ℕ) → k < length fs → (reserve_at fs k).enable.value s ≡ 1 → FitsIn (reserve_at fs k).addr s
+fitting_at s [] h k l = absurd (omega arith)
+fitting_at s (f ∷ fs) h zero l = h.0
+fitting_at s (f ∷ fs) h (suc k) l = fitting_at s fs h.1 k (omega arith)
+
+fitting_stage : (s : State) (m : ℕ) (moves : Signal) (rs : List Reservation) → (moves.value s ≡ 1 → AddressesFit s rs) → AreFitting s (reserves_to m moves rs)
+fitting_stage s m moves [] h = tt
+fitting_stage s m moves (r ∷ rs) h = at (fitting_stage s m moves rs (λ e. (h e).1)) (r.mem == m)
+  where
+    at : AreFitting s (reserves_to m moves rs) → (b : Bool) → AreFitting s (if b then record { enable = moves; addr = r.addr } ∷ reserves_to m moves rs else reserves_to m moves rs)
+    at i true = (λ e. (h e).0, i)
+    at i false = i
+
+fitting : (p : Pipe) (ls : Locks) (s : State) (st : machine.State) (m : ℕ) (vs : List View) (k : ℕ) → AreSeen p ls s st k vs → k + length vs ≡ length (flat p).stages → AreFitting s (all_reserves m vs)
+fitting p ls s st m [] k h n = tt
+fitting p ls s st m (v ∷ vs) k h n =
+    let e = first_moves p ls s st v vs k h n in
+    let moves = moves_first (v ∷ vs) in
+    fitting_append s (all_reserves m vs) (reserves_to m moves v.ended.reserves)
+    (fitting p ls s st m vs (suc k) h.1 (omega (arith, n)))
+    (fitting_stage s m moves v.ended.reserves (λ on. elim (moves_or_not p ls s st k) [
+      | inl f ↦ (let z : moves.value s ≡ 0 = e ∙ ap bit f in absurd (omega (arith, z, on)))
+      | inr f ↦ (h.0.follows f.0 f.1).addresses
+    ]))
+
+pub reserves_fit : (p : Pipe) (ls : Locks) (s : State) (st : machine.State) (m : ℕ) (vs : List View) (k : ℕ) → AreSeen p ls s st k vs → k + length vs ≡ length (flat p).stages
+    → (i : ℕ) → i < length (all_reserves m vs) → (reserve_at (all_reserves m vs) i).enable.value s ≡ 1 → FitsIn (reserve_at (all_reserves m vs) i).addr s
+reserves_fit p ls s st m vs k h n = fitting_at s (all_reserves m vs) (fitting p ls s st m vs k h n)
 
 -- RELEASES
 

@@ -12,7 +12,7 @@ use Rattle.pdl_model.specs.Stages.{mem_at}
 use Rattle.pdl_model.specs.Locks.{commit_value}
 use Rattle.pdl_model.specs.Machine as machine
 use Rattle.pdl_model.specs.Machine.{Pending}
-use Rattle.pdl_model.specs.Cycle.{releases, list_two, list_three, but_oldest, oldest, taken_out, with_commit, filled}
+use Rattle.pdl_model.specs.Cycle.{releases, list_two, list_three, but_oldest, oldest, taken_out, port_write, with_commit, filled}
 use Rattle.pdl_net.specs.Circuit.{Circuit, State}
 use Rattle.pdl_net.specs.Growth.{Own}
 use Rattle.pdl_lockapi.specs.Lock.{Entry, LockState, entry_at, or_zero, step}
@@ -65,11 +65,11 @@ commit_by true xs es some e =
     ∙ ap (λ v. 1 ∷ f.0.address ∷ v ∷ []) (or_zero_is f.0.value)
     ∙ ap (λ l. commit_shows (oldest l)) (sym f.2)
 
-pub commit_as : (k : LockKind) (n : ℕ) (l : model.Lock) (o : Option Pending) → l ≡ as_lock k n → commit_values l o ≡ commit_shows o
+pub commit_as : (k : LockKind) (n : ℕ) (l : model.Lock) (o : Option Pending) → l ≡ as_lock k n → commit_values l (port_write o) ≡ commit_shows o
 unfolding commit_shows
-commit_as k n l o e = ap (λ x. commit_values x o) e ∙ at k o
+commit_as k n l o e = ap (λ x. commit_values x (port_write o)) e ∙ at k o
   where
-    at : (k : LockKind) (o : Option Pending) → commit_values (as_lock k n) o ≡ commit_shows o
+    at : (k : LockKind) (o : Option Pending) → commit_values (as_lock k n) (port_write o) ≡ commit_shows o
     at Queue None = refl
     at Queue (Some e) = refl
     at Bypass None = refl

@@ -8,7 +8,7 @@ use Rattle.pdl_model.specs.Flat as model
 use Rattle.pdl_model.specs.Flatten.{flat, mems_of, lock_of}
 use Rattle.pdl_model.specs.Stages.{plain_mem}
 use Rattle.pdl_model.specs.Machine as machine
-use Rattle.pdl_model.specs.Cycle.{for_stages, for_mems, taken_out}
+use Rattle.pdl_model.specs.Cycle.{for_stages, for_mems, taken_out, port_write}
 use Rattle.pdl_model.specs.Cycle as model_cycle
 use Rattle.pdl_net.specs.Circuit.{Circuit, State, Output}
 use Rattle.pdl_net.specs.Signal.{const_value, reg_value}
@@ -59,29 +59,29 @@ abbrev commit_words : State → Commit → List ℕ
 commit_words s x = x.enable.value s ∷ x.addr.value s ∷ x.value.value s ∷ []
 
 commits_are : (s : State) (st : machine.State) (ms : List Rattle.pdl_model.specs.Moves.Act) (commits : ℕ → Commit) (m : ℕ) (xs : List Mem)
-    → ((i : ℕ) → i < length xs → has_lock xs i ≡ true → commit_words s (commits (m + i)) ≡ commit_values (slice_index_or (mems_of xs) i plain_mem).lock (taken_out st ms (m + i)))
-    → map (shown_value s) (commits_shown commits m xs) ≡ all_commit_values (mems_of xs) (for_mems (λ i. taken_out st ms i) m (mems_of xs))
+    → ((i : ℕ) → i < length xs → has_lock xs i ≡ true → commit_words s (commits (m + i)) ≡ commit_values (slice_index_or (mems_of xs) i plain_mem).lock (port_write (taken_out st ms (m + i))))
+    → map (shown_value s) (commits_shown commits m xs) ≡ all_commit_values (mems_of xs) (for_mems (λ i. port_write (taken_out st ms i)) m (mems_of xs))
 commits_are s st ms commits m [] h = refl
 commits_are s st ms commits m (x ∷ xs) h =
     map-append (shown_value s) (if is_some x.lock then commit_shown x.name.name (commits m) else []) (commits_shown commits (suc m) xs)
     ∙ ap₂ (λ a b. a ++ b) (here x.lock (λ e. at (h 0 (omega arith) e)))
     (commits_are s st ms commits (suc m) xs (λ i l e. later i (h (suc i) (omega (arith, l)) e)))
   where
-    at : commit_words s (commits (m + 0)) ≡ commit_values (lock_of x.lock) (taken_out st ms (m + 0)) → commit_words s (commits m) ≡ commit_values (lock_of x.lock) (taken_out st ms m)
-    at e = ap (λ i. commit_words s (commits i)) (sym (add-zero m)) ∙ e ∙ ap (λ i. commit_values (lock_of x.lock) (taken_out st ms i)) (add-zero m)
+    at : commit_words s (commits (m + 0)) ≡ commit_values (lock_of x.lock) (port_write (taken_out st ms (m + 0))) → commit_words s (commits m) ≡ commit_values (lock_of x.lock) (port_write (taken_out st ms m))
+    at e = ap (λ i. commit_words s (commits i)) (sym (add-zero m)) ∙ e ∙ ap (λ i. commit_values (lock_of x.lock) (port_write (taken_out st ms i))) (add-zero m)
 
-    here : (o : Option LockDecl) → (is_some o ≡ true → commit_words s (commits m) ≡ commit_values (lock_of o) (taken_out st ms m)) → map (shown_value s) (if is_some o then commit_shown x.name.name (commits m) else []) ≡ commit_values (lock_of o) (taken_out st ms m)
+    here : (o : Option LockDecl) → (is_some o ≡ true → commit_words s (commits m) ≡ commit_values (lock_of o) (port_write (taken_out st ms m))) → map (shown_value s) (if is_some o then commit_shown x.name.name (commits m) else []) ≡ commit_values (lock_of o) (port_write (taken_out st ms m))
     here None g = refl
     here (Some l) g = g refl
 
-    later : (i : ℕ) → commit_words s (commits (m + suc i)) ≡ commit_values (slice_index_or (mems_of xs) i plain_mem).lock (taken_out st ms (m + suc i)) → commit_words s (commits (suc m + i)) ≡ commit_values (slice_index_or (mems_of xs) i plain_mem).lock (taken_out st ms (suc m + i))
-    later i e = let z : m + suc i ≡ suc m + i = omega arith in subst (λ j. commit_words s (commits j) ≡ commit_values (slice_index_or (mems_of xs) i plain_mem).lock (taken_out st ms j)) z e
+    later : (i : ℕ) → commit_words s (commits (m + suc i)) ≡ commit_values (slice_index_or (mems_of xs) i plain_mem).lock (port_write (taken_out st ms (m + suc i))) → commit_words s (commits (suc m + i)) ≡ commit_values (slice_index_or (mems_of xs) i plain_mem).lock (port_write (taken_out st ms (suc m + i)))
+    later i e = let z : m + suc i ≡ suc m + i = omega arith in subst (λ j. commit_words s (commits j) ≡ commit_values (slice_index_or (mems_of xs) i plain_mem).lock (port_write (taken_out st ms j))) z e
 
 -- ALL
 
 module _ (p : Pipe) (ss : List Stmt) (ls : Locks) (c : Circuit) (made : IsCompiled p ss ls c) (placed : (k : ℕ) → k < length made.views → IsStageAt p ss ls c k (view_at made.views k)) (knows : (k : ℕ) → k < length made.views → KnowsTickets p ls k (view_at made.views k)) (some : 1 ≤ length made.views)
     (s : State) (st : machine.State) (bits : List Bool) (h : IsCycle p ls c (parts ss) made.views s st bits) (used : IsInUse (flat p) st) (used' : IsInUse (flat p) (model_cycle.cycle (flat p) st bits)) (few : AreFew p ss ls c made placed knows st) where
-  commit_at : (m : ℕ) → m < length p.mems → has_lock p.mems m ≡ true → commit_words s (made.commits m) ≡ commit_values (slice_index_or (mems_of p.mems) m plain_mem).lock (taken_out st (moving (flat p) st) m)
+  commit_at : (m : ℕ) → m < length p.mems → has_lock p.mems m ≡ true → commit_words s (made.commits m) ≡ commit_values (slice_index_or (mems_of p.mems) m plain_mem).lock (port_write (taken_out st (moving (flat p) st) m))
   commit_at m l e =
       let x = made.locks m l e in
       let stand = h.stands.locks m l e in
@@ -106,6 +106,6 @@ module _ (p : Pipe) (ss : List Stmt) (ls : Locks) (c : Circuit) (made : IsCompil
       ∙ ap₂ (λ a b. a ++ b) valids (map-append value commits _ ∙ ap₂ (λ a b. a ++ b) taken (ap₂ (λ a b. a ∷ b ∷ []) ended squash))
       ∙ sym (append_assoc (stage_values o.valid o.moves) (all_commit_values (flat p).mems o.commits) (bit o.ended ∷ bit o.squash ∷ []))
     where
-      zero_plus : (i : ℕ) → commit_words s (made.commits i) ≡ commit_values (slice_index_or (mems_of p.mems) i plain_mem).lock (taken_out st (moving (flat p) st) i)
-          → commit_words s (made.commits (0 + i)) ≡ commit_values (slice_index_or (mems_of p.mems) i plain_mem).lock (taken_out st (moving (flat p) st) (0 + i))
-      zero_plus i e = let z : i ≡ 0 + i = omega arith in subst (λ j. commit_words s (made.commits j) ≡ commit_values (slice_index_or (mems_of p.mems) i plain_mem).lock (taken_out st (moving (flat p) st) j)) z e
+      zero_plus : (i : ℕ) → commit_words s (made.commits i) ≡ commit_values (slice_index_or (mems_of p.mems) i plain_mem).lock (port_write (taken_out st (moving (flat p) st) i))
+          → commit_words s (made.commits (0 + i)) ≡ commit_values (slice_index_or (mems_of p.mems) i plain_mem).lock (port_write (taken_out st (moving (flat p) st) (0 + i)))
+      zero_plus i e = let z : i ≡ 0 + i = omega arith in subst (λ j. commit_words s (made.commits j) ≡ commit_values (slice_index_or (mems_of p.mems) i plain_mem).lock (port_write (taken_out st (moving (flat p) st) j))) z e

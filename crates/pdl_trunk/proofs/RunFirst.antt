@@ -154,18 +154,19 @@ module _ (p : Pipe) (ss : List Stmt) (ls : Locks) (c : Circuit) (made : IsCompil
       let n = arrays_long in
       let none = lock_first (flat p) (arrays_of image) m in
       let reset = is_reset c (made.owns m).from (made.owns m).to s x.regs regs in
-      let stands = x.starts s words reset refl in
+      let long = deep m (omega (arith, n, l)) ∙ depth_is m l in
+      let stands = x.starts s words reset long refl in
       record {
         base = 0;
         words = words;
-        long = deep m (omega (arith, n, l)) ∙ depth_is m l;
+        long = long;
         same = λ a low. word_first m a l;
         stands = subst (λ es. ls.stands m s (lock_of 0 es words)) (sym none) stands;
         tickets = λ k u here early.
             (let low = slot_low st k u here in
-            let long = stages_count (λ i. if i == 0 then born (flat p) 1 (Some (flat p).start) else None) 0 (flat p).stages in
-            let f = is_first (flat p) (arrays_of image) k u (omega (arith, low, long)) here in
-            let begun = ap (λ (w : Walk). w.tickets) (begun_first c p.mems ls (entry p) (parts ss) vs made.walks (omega (arith, low, long, count))) in
+            let count_is = stages_count (λ i. if i == 0 then born (flat p) 1 (Some (flat p).start) else None) 0 (flat p).stages in
+            let f = is_first (flat p) (arrays_of image) k u (omega (arith, low, count_is)) here in
+            let begun = ap (λ (w : Walk). w.tickets) (begun_first c p.mems ls (entry p) (parts ss) vs made.walks (omega (arith, low, count_is, count))) in
             ap (λ i. (ticket_of ls (view_at vs i).begun.tickets m).value s) f.0
             ∙ ap (λ ts. (ticket_of ls ts m).value s) begun
             ∙ x.ticket.holds s (start words) stands

@@ -25,7 +25,7 @@ use Rattle.pdl_trunk.specs.Walk.{Locks, Walk, has_lock, mem_in, addr_at, ticket_
 use Rattle.pdl_trunk.specs.Views.{View, held_vars, begun_behind, entry, AreViews, view_at, signals_named}
 use Rattle.pdl_trunk.specs.Ports.{Commit}
 use Rattle.pdl_trunk.specs.Compiled.{HasHeld, HasStage, HasLock}
-use Rattle.pdl_trunk.specs.Stands.{env_in, StandsFor, IsStageAt, reserved_in, written_in, child_in, StageFollows}
+use Rattle.pdl_trunk.specs.Stands.{env_in, StandsFor, IsStageAt, reserved_in, written_in, child_in, AddressesFit, StageFollows}
 use Rattle.pdl_trunk.proofs.StageVars.{held_bounded}
 use Rattle.pdl_trunk.proofs.StageStep.{place, is_fine, IsAround, Follows, follows_step}
 
@@ -185,6 +185,7 @@ follows_begun p ss ls c vs s st k t fits at kept env = record {
   ready = ap (λ (f : Signal). f.value s) at.fresh.0;
   env = λ r. ap (λ (ks : List Kept). with_kept ks t.env) kept ∙ env;
   reserves = λ r. sym (ap (map (reserved_in s)) at.fresh.1);
+  addresses = subst (AddressesFit s) (sym at.fresh.1) tt;
   writes = λ r. sym (ap (map (written_in s)) at.fresh.2);
   child = λ r. sym (ap (child_in s) at.fresh.4);
   held = at.held t.env;
@@ -219,4 +220,4 @@ stage_follows p ss ls c vs owns commits s st k t well suits views stage locks st
     (let e = length-map v.ended.vars var_of_named in omega (arith, e, at.total))
     begun in
     let r = subst (λ (xs : List flat_form.Stmt). Follows p ls s st t.number v.begun.tickets v.ended (does_all (word_for st t.number) xs (before_stage (flat p) k t))) same q in
-    record { ready = r.ready; env = r.env; reserves = r.reserves; writes = r.writes; child = r.child; releases = r.releases }
+    record { ready = r.ready; env = r.env; reserves = r.reserves; addresses = r.addresses; writes = r.writes; child = r.child; releases = r.releases }

@@ -21,7 +21,7 @@ use Rattle.pdl_net.specs.Circuit.{State}
 use Rattle.pdl_net.specs.Signal.{Signal, const_value, mux_value, read_value, read_signal}
 use Rattle.pdl_build.specs.Expr.{Named, named, vars_of}
 use Rattle.pdl_build.proofs.Values.{AreBounded, named_width}
-use Rattle.pdl_lockapi.specs.Laws.{holds_ticket, RoomLaw}
+use Rattle.pdl_lockapi.specs.Laws.{FitsIn, holds_ticket, RoomLaw}
 use Rattle.pdl_lockapi.specs.Lock.{LockState, is_ready, Covered}
 use Rattle.pdl_lockapi.specs.Forget.{forget, as_lock, AreOrdered, count_older, lock_of}
 use Rattle.pdl_lockapi.proofs.Threads.{same_meaning, ticket_covered}
@@ -134,11 +134,11 @@ module _ (p : Pipe) (ls : Locks) (vs : List View) (s : State) (st : machine.Stat
     block_is u addr f h = h.tells s state_of (number_of t.number) stands.stands (covered t.number) ticket_holds ∙ ap bit (look_same u (addr.value s))
 
     -- a ready read gives the word that the thread finds
-    pub read_is : (addr f : Signal) (width : ℕ) → Gives ls m addr ticket width f → IsTrue (finds p st t.number m false (addr.value s)) → addr.value s < (mem_at (flat p) m).depth → f.value s ≡ word_for st t.number m (addr.value s)
-    read_is addr f width h ready below =
+    pub read_is : (addr f : Signal) (width : ℕ) → Gives ls m addr ticket width f → IsTrue (finds p st t.number m false (addr.value s)) → FitsIn addr s → addr.value s < (mem_at (flat p) m).depth → f.value s ≡ word_for st t.number m (addr.value s)
+    read_is addr f width h ready fit below =
         let a = addr.value s in
         let r = look_same false a ∙ ready in
-        h.gives s state_of (number_of t.number) stands.stands (covered t.number) ticket_holds r
+        h.gives s state_of (number_of t.number) stands.stands (covered t.number) ticket_holds fit r
         ∙ (same_meaning (ls.kind m) (ls.size m) stands.base 0 t.number a (machine.lock_of st m) stands.words ordered).2 r
         ∙ ap (value_or (older_write st t.number m a)) (sym (stands.same a (omega (arith, below, stands.long))))
 

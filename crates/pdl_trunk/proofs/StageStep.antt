@@ -22,14 +22,14 @@ use Rattle.pdl_net.specs.Well.{IsWell, Suits, IsBounded}
 use Rattle.pdl_net.proofs.Bounds.{bounded}
 use Rattle.pdl_build.specs.Expr.{vars_of, expr_signal}
 use Rattle.pdl_build.proofs.Values.{AreBounded, expr_bounded}
-use Rattle.pdl_lockapi.specs.Laws.{RoomLaw}
+use Rattle.pdl_lockapi.specs.Laws.{FitsIn, RoomLaw}
 use Rattle.pdl_lockapi.specs.Forget.{as_lock}
 use Rattle.pdl_slots.specs.Slots.{slot, is_ready}
 use Rattle.pdl_slots.specs.Use.{AreReadsReady, is_early, IsInUse}
 use Rattle.pdl_slots.specs.Fit.{IsFit}
-use Rattle.pdl_trunk.specs.Walk.{Locks, Ticket, Walk, both, has_lock, ticket_of, look_of, Tells, IsWord, mem_in, var_at, addr_at, ticket_in, is_held_at, IsNet, IsLooked, after}
+use Rattle.pdl_trunk.specs.Walk.{Locks, Ticket, Reservation, Walk, both, has_lock, ticket_of, look_of, Tells, IsWord, mem_in, var_at, addr_at, ticket_in, is_held_at, IsNet, IsLooked, after}
 use Rattle.pdl_trunk.specs.Views.{View, view_at}
-use Rattle.pdl_trunk.specs.Stands.{env_in, StandsFor, reserved_in, written_in, child_in}
+use Rattle.pdl_trunk.specs.Stands.{env_in, StandsFor, reserved_in, written_in, child_in, AddressesFit}
 use Rattle.pdl_trunk.proofs.StageVars.{env_push, address_is, value_is, values_are, bounded_push}
 use Rattle.pdl_trunk.proofs.StageLooks.{both_value, found, plain_at, address_below, ticket_kept, finds, room_is, block_is, read_is, word_is}
 
@@ -57,6 +57,7 @@ pub record Follows (p : Pipe) (ls : Locks) (s : State) (st : machine.State) (thr
   pub ready : w.ready.value s ≡ bit (is_ready (flat p) st thread d)
   pub env : is_ready (flat p) st thread d ≡ true → d.env ≡ env_in s w.vars (flat p).vars
   pub reserves : is_ready (flat p) st thread d ≡ true → d.reserves ≡ map (reserved_in s) w.reserves
+  pub addresses : AddressesFit s w.reserves
   pub writes : is_ready (flat p) st thread d ≡ true → d.writes ≡ map (written_in s) w.puts
   pub child : is_ready (flat p) st thread d ≡ true → d.child ≡ child_in s w.call
   pub held : d.held ≡ w.held
@@ -90,6 +91,11 @@ reserve_more : (a r x : Bool) → (a && (r && x)) ≡ ((a && r) && x)
 reserve_more true r x = refl
 reserve_more false r x = refl
 
+-- with a reservation more whose address fits all fit
+addresses_push : (s : State) (rs : List Reservation) (r : Reservation) → AddressesFit s rs → FitsIn r.addr s → AddressesFit s (rs ++ r ∷ [])
+addresses_push s [] r h f = (f, tt)
+addresses_push s (q ∷ rs) r h f = (h.0, addresses_push s rs r h.1 f)
+
 early_of : (j k n : ℕ) → (((j == k) && nat_le j n) && true) ≡ true → k ≤ n
 early_of j k n h =
     let a = and_parts ((j == k) && nat_le j n) true h in
@@ -122,6 +128,7 @@ module _ (p : Pipe) (ls : Locks) (c : Circuit) (vs : List View) (s : State) (st 
     ready = q.ready;
     env = λ r. ap (λ n. slice_set n (length (vars_of w.vars)) v) (q.env r) ∙ env_push s w.vars (record { name = x; signal = f }) (flat p).vars v l (e r);
     reserves = q.reserves;
+    addresses = q.addresses;
     writes = q.writes;
     child = q.child;
     held = q.held;
@@ -142,7 +149,7 @@ module _ (p : Pipe) (ls : Locks) (c : Circuit) (vs : List View) (s : State) (st 
       let m = mem_in p.mems at in
       let i = (found p.mems at.mem.name l.memory).below in
       read_is p ls vs s st m (h.kind m i e) (h.stands.locks m i e) (h.used.ordered m) k t h.here early (ticket_in p.mems ls w at) (q.tickets_kept m)
-      (addr_at w at) f (mem_width p.mems at.mem.name) look ready (address_below p s w.vars at q.fits l)
+      (addr_at w at) f (mem_width p.mems at.mem.name) look ready (q.fits at.address.name l.address).fits (address_below p s w.vars at q.fits l)
   word_at_look w d at f false e l look early ready q =
       let m = mem_in p.mems at in
       let i = (found p.mems at.mem.name l.memory).below in
@@ -165,6 +172,7 @@ module _ (p : Pipe) (ls : Locks) (c : Circuit) (vs : List View) (s : State) (st 
     ready = both_value s w.ready f (ready_with d) (block_ready (flat p) st t.number more) q.ready tells ∙ ap bit (sym split);
     env = λ r. q.env (so_far r);
     reserves = λ r. q.reserves (so_far r);
+    addresses = q.addresses;
     writes = λ r. q.writes (so_far r);
     child = λ r. q.child (so_far r);
     held = q.held;
@@ -204,6 +212,7 @@ module _ (p : Pipe) (ls : Locks) (c : Circuit) (vs : List View) (s : State) (st 
     reserves = λ r.
         ap₂ (λ (l : List Reserved) (v : ℕ). l ++ record { mem = m; address = v } ∷ []) (q.reserves (so_far r)) (address_at w d at q (so_far r))
         ∙ sym (map-append (reserved_in s) w.reserves (record { mem = m; addr = addr_at w at } ∷ []));
+    addresses = addresses_push s w.reserves (record { mem = m; addr = addr_at w at }) q.addresses (q.fits at.address.name l.address).fits;
     writes = λ r. q.writes (so_far r);
     child = λ r. q.child (so_far r);
     held = ap (λ (l : List machine.Place). record { mem = m; var = var_at w at } ∷ l) q.held;
@@ -266,6 +275,7 @@ module _ (p : Pipe) (ls : Locks) (c : Circuit) (vs : List View) (s : State) (st 
     ready = q.ready;
     env = q.env;
     reserves = q.reserves;
+    addresses = q.addresses;
     writes = λ r.
         ap₂ (λ (l : List machine.Written) (v : ℕ). l ++ record { mem = mem_in p.mems at; value = v } ∷ []) (q.writes r) (value_is s w.vars (flat p).vars d.env e q.fits fit.1 (q.env r))
         ∙ sym (map-append (written_in s) w.puts (record { mem = mem_in p.mems at; ticket = ticket_in p.mems ls w at; value = expr_signal w.vars e } ∷ []));
@@ -279,6 +289,7 @@ module _ (p : Pipe) (ls : Locks) (c : Circuit) (vs : List View) (s : State) (st 
     ready = q.ready;
     env = q.env;
     reserves = q.reserves;
+    addresses = q.addresses;
     writes = q.writes;
     child = q.child;
     held = q.held;
@@ -293,6 +304,7 @@ module _ (p : Pipe) (ls : Locks) (c : Circuit) (vs : List View) (s : State) (st 
     ready = q.ready;
     env = q.env;
     reserves = q.reserves;
+    addresses = q.addresses;
     writes = q.writes;
     child = q.child;
     held = ap (λ ps. machine.let_go ps (mem_in p.mems at) (var_at w at)) q.held;
@@ -304,6 +316,7 @@ module _ (p : Pipe) (ls : Locks) (c : Circuit) (vs : List View) (s : State) (st 
     ready = q.ready;
     env = q.env;
     reserves = q.reserves;
+    addresses = q.addresses;
     writes = q.writes;
     child = λ r. ap (λ (l : List ℕ). Some l) (values_are s w.vars (flat p).vars d.env p.params args q.fits fit (q.env r));
     held = q.held;

@@ -1,5 +1,5 @@
 -- The tickets of the stages of a pipe in line: of a memory there is one where a reserve of it stands in an earlier stage.
-use Rattle.std.proofs.Common.{◌≡◌, refl, sym, ap, ap₂, ◌∙◌, subst, ℕ, zero, suc, ◌+◌, ◌<◌, ◌≤◌, Bool, true, false, ◌&&◌, ◌||◌, not, List, [], ◌∷◌, ◌++◌, length, cond, ◌==◌, nat_lt, nat_le, slice_index_or, arith, lt-ltb, le-ltb}
+use Rattle.std.proofs.Common.{◌≡◌, refl, sym, ap, ap₂, ◌∙◌, subst, ℕ, zero, suc, ◌+◌, ◌<◌, ◌≤◌, Bool, true, false, ◌&&◌, ◌||◌, not, List, [], ◌∷◌, ◌++◌, length, unwrap_or, Some, None, cond, ◌==◌, nat_lt, nat_le, slice_index_or, arith, lt-ltb, le-ltb}
 use Rattle.std.proofs.lemmas.Bool.{false≢true, and_parts, and_from, or_parts, or_left, eqb-true, ltb-true, ltb-false, leb-true}
 use Rattle.pdl_model.specs.Tree.{R, W, Stmt, Write, Reserve, stmts_of, Mem, Pipe}
 use Rattle.pdl_model.specs.Flat
@@ -67,7 +67,7 @@ none_reserved k m (x ∷ xs) e =
     and_from _ _ (ap (λ b. not b) h.0) (none_reserved k m xs h.1)
 
 -- where one does, the first one does
-first_early : (k m none : ℕ) (l : ℕ) (xs : List Flat.Stmt) → in_text_order l xs ≡ true → is_reserved k m xs ≡ true → (first_stage (is_reserve m) none xs < k) × (l < k)
+first_early : (k m none : ℕ) (l : ℕ) (xs : List Flat.Stmt) → in_text_order l xs ≡ true → is_reserved k m xs ≡ true → (unwrap_or (first_stage (is_reserve m) xs) none < k) × (l < k)
 first_early k m none l [] o e = absurd (false≢true e)
 first_early k m none l (x ∷ xs) o e = at (is_reserve m x.op) refl (first_early k m none x.stage xs order.1)
   where
@@ -84,7 +84,7 @@ first_early k m none l (x ∷ xs) o e = at (is_reserve m x.op) refl (first_early
     here true f g later = ltb-true x.stage k f
     here false f g later = later g
 
-    at : (b : Bool) → is_reserve m x.op ≡ b → (is_reserved k m xs ≡ true → (first_stage (is_reserve m) none xs < k) × (x.stage < k)) → (cond b x.stage (first_stage (is_reserve m) none xs) < k) × (l < k)
+    at : (b : Bool) → is_reserve m x.op ≡ b → (is_reserved k m xs ≡ true → (unwrap_or (first_stage (is_reserve m) xs) none < k) × (x.stage < k)) → (unwrap_or (cond b (Some x.stage) (first_stage (is_reserve m) xs)) none < k) × (l < k)
     at true f later =
         let h = here (nat_lt x.stage k) refl (ap (λ c. (c && nat_lt x.stage k) || is_reserved k m xs) (sym f) ∙ e) (λ g. (later g).1) in
         (h, early h)
@@ -92,21 +92,21 @@ first_early k m none l (x ∷ xs) o e = at (is_reserve m x.op) refl (first_early
         let h = later (ap (λ c. (c && nat_lt x.stage k) || is_reserved k m xs) (sym f) ∙ e) in
         (h.0, early h.1)
 
-stage_past : (test : ℕ → Flat.Op → Bool) (none : ℕ) (xs : List Flat.Stmt) (j i d : ℕ) (ms : List Mem) → length ms ≤ i → slice_index_or (first_stages test none xs j ms) i d ≡ d
-stage_past test none xs j i d [] h = refl
-stage_past test none xs j zero d (m ∷ ms) h = absurd (omega arith)
-stage_past test none xs j (suc i) d (m ∷ ms) h = stage_past test none xs (suc j) i d ms (omega arith)
+stage_past : (test : ℕ → Flat.Op → Bool) (xs : List Flat.Stmt) (j i : ℕ) (ms : List Mem) → length ms ≤ i → slice_index_or (first_stages test xs j ms) i None ≡ None
+stage_past test xs j i [] h = refl
+stage_past test xs j zero (m ∷ ms) h = absurd (omega arith)
+stage_past test xs j (suc i) (m ∷ ms) h = stage_past test xs (suc j) i ms (omega arith)
 
 -- then the stage of the memory's reserves is earlier
 reserved_early : (p : Pipe) (k m : ℕ) → in_text_order 0 (flat p).stmts ≡ true → is_reserved k m (flat p).stmts ≡ true → reserve_stage (flat p) m < k
 reserved_early p k m o e = at (nat_lt m (length p.mems)) refl
   where
-    early : (first_stage (is_reserve m) 0 (flat p).stmts < k) × (0 < k)
+    early : (unwrap_or (first_stage (is_reserve m) (flat p).stmts) 0 < k) × (0 < k)
     early = first_early k m 0 0 (flat p).stmts o e
 
     at : (b : Bool) → nat_lt m (length p.mems) ≡ b → reserve_stage (flat p) m < k
-    at true f = let h = stage_at is_reserve 0 0 (flat p).stmts m p.mems (ltb-true m (length p.mems) f) in let g = early.0 in omega (arith, h, g)
-    at false f = let h = stage_past is_reserve 0 (flat p).stmts 0 m 0 p.mems (ltb-false m (length p.mems) f) in let g = early.1 in omega (arith, h, g)
+    at true f = let h = ap (λ o. unwrap_or o 0) (stage_at is_reserve (flat p).stmts m p.mems (ltb-true m (length p.mems) f)) in let g = early.0 in omega (arith, h, g)
+    at false f = let h = ap (λ o. unwrap_or o 0) (stage_past is_reserve (flat p).stmts 0 m p.mems (ltb-false m (length p.mems) f)) in let g = early.1 in omega (arith, h, g)
 
 -- TICKETS
 

@@ -46,7 +46,7 @@ pub record HasLock (p : Pipe) (ls : Locks) (vs : List View) (c : Circuit) (own :
   pub regs : (r : ℕ) → own.from ≤ r → r < own.to → HasReg c r
   pub first : own.first ≡ m
   pub last : own.last ≡ m + 1
-  pub starts : (s : State) (image : List ℕ) → IsReset c own.from own.to s → HasWords (Some m) s image → ls.stands m s (start image)
+  pub starts : (s : State) (image : List ℕ) → IsReset c own.from own.to s → length image ≡ (slice_index_or (mems_of p.mems) m plain_mem).depth → HasWords (Some m) s image → ls.stands m s (start image)
   pub room : RoomLaw (ls.stands m) (ls.size m) (ls.room m)
   pub ticket : TicketLaw (ls.stands m) (ls.bits m) (ls.ticket m)
   pub step : StepLaw (ls.stands m) (ls.size m) (ls.bits m) own c (step_of ls vs m) commit.enable commit.addr commit.value

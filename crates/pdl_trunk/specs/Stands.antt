@@ -11,7 +11,7 @@ use Rattle.pdl_stages.specs.Parts.{part_at}
 use Rattle.pdl_net.specs.Circuit.{Circuit, State}
 use Rattle.pdl_net.specs.Signal.{Signal}
 use Rattle.pdl_build.specs.Expr.{Named, vars_of, values_in}
-use Rattle.pdl_lockapi.specs.Laws.{holds_ticket}
+use Rattle.pdl_lockapi.specs.Laws.{FitsIn, holds_ticket}
 use Rattle.pdl_lockapi.specs.Forget.{lock_of, count_older}
 use Rattle.pdl_slots.specs.Slots.{slot, is_ready}
 use Rattle.pdl_slots.specs.Use.{is_unreserved}
@@ -67,11 +67,17 @@ abbrev pub AreTicketed : Locks → List Ticket → List Put → Type 0
 AreTicketed ls ts [] = ⊤
 AreTicketed ls ts (x ∷ xs) = (x.ticket ≡ ticket_of ls ts x.mem) × AreTicketed ls ts xs
 
+-- the reservations' addresses fit
+abbrev pub AddressesFit : State → List Reservation → Type 0
+AddressesFit s [] = ⊤
+AddressesFit s (r ∷ rs) = FitsIn r.addr s × AddressesFit s rs
+
 -- the signals behind a stage's statements are what its thread does, as far as the locks let it move
 pub record StageFollows (p : Pipe) (ls : Locks) (s : State) (st : machine.State) (k : ℕ) (t : Thread) (v : View) : Type 0 where
   pub ready : v.ended.ready.value s ≡ bit (is_ready (flat p) st t.number (deeds (flat p) st k t))
   pub env : is_ready (flat p) st t.number (deeds (flat p) st k t) ≡ true → (deeds (flat p) st k t).env ≡ env_in s v.ended.vars (flat p).vars
   pub reserves : is_ready (flat p) st t.number (deeds (flat p) st k t) ≡ true → (deeds (flat p) st k t).reserves ≡ map (reserved_in s) v.ended.reserves
+  pub addresses : AddressesFit s v.ended.reserves
   pub writes : is_ready (flat p) st t.number (deeds (flat p) st k t) ≡ true → (deeds (flat p) st k t).writes ≡ map (written_in s) v.ended.puts
   pub child : is_ready (flat p) st t.number (deeds (flat p) st k t) ≡ true → (deeds (flat p) st k t).child ≡ child_in s v.ended.call
   pub releases : (deeds (flat p) st k t).releases ≡ v.ended.releases

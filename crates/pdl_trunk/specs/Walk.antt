@@ -13,7 +13,7 @@ use Rattle.pdl_build.specs.Expr.{Named, named, vars_of, expr_signal}
 use Rattle.pdl_lockapi.specs.declared.Kind.{Kind as LookKind}
 use Rattle.pdl_lockapi.specs.declared.Kind.TheVariants as look_kind
 use Rattle.pdl_lockapi.specs.Lock.{LockState, is_ready, read, Covered}
-use Rattle.pdl_lockapi.specs.Laws.{holds_ticket}
+use Rattle.pdl_lockapi.specs.Laws.{FitsIn, holds_ticket}
 
 -- what is known of the locks, by the numbers of their memories: which states of the circuit stand for which of the lock, its kind, how many writes may be pending, the bits of a ticket, and the signals of room and of the next ticket
 pub record Locks : Type 1 where
@@ -92,10 +92,10 @@ pub record Tells (ls : Locks) (m : ℕ) (u : LookKind) (addr ticket f : Signal) 
   pub one : f.width ≡ 1
   pub tells : (s : State) (x : LockState) (t : ℕ) → ls.stands m s x → Covered x t → holds_ticket (ls.bits m) ticket s t → f.value s ≡ bit (is_ready (ls.kind m) u x t (addr.value s))
 
--- a signal gives the value of a ready read of a ticket
+-- a signal gives the value of a ready read of a ticket at an address that fits
 pub record Gives (ls : Locks) (m : ℕ) (addr ticket : Signal) (width : ℕ) (f : Signal) : Type 0 where
   pub wide : f.width ≡ width
-  pub gives : (s : State) (x : LockState) (t : ℕ) → ls.stands m s x → Covered x t → holds_ticket (ls.bits m) ticket s t → is_ready (ls.kind m) look_kind.R x t (addr.value s) ≡ true → f.value s ≡ read x t (addr.value s)
+  pub gives : (s : State) (x : LockState) (t : ℕ) → ls.stands m s x → Covered x t → holds_ticket (ls.bits m) ticket s t → FitsIn addr s → is_ready (ls.kind m) look_kind.R x t (addr.value s) ≡ true → f.value s ≡ read x t (addr.value s)
 
 -- the signal of a read: of a memory with a lock through a look, of any other the word of its array
 abbrev pub IsWord : Bool → Locks → ℕ → Signal → Signal → ℕ → Signal → Type 0

@@ -2,6 +2,7 @@ use Rattle.std.proofs.Common.{◌≡◌, ◌<◌, ◌≤◌, ◌∙◌, ◌+◌,
 use Rattle.std.specs.Prelude.{vec_len, vec_capacity}
 use Rattle.std.proofs.Math.ListN.{length-set}
 use Rattle.pdl_model.specs.Machine.{Pending}
+use Rattle.pdl_model.specs.Cycle.{port_write}
 use Rattle.pdl_slots.specs.Ports.{commit_values}
 use Rattle.pdl_machine.specs.Lists.{lists}
 use Rattle.pdl_machine.specs.Memory.{memory_view, lock_of, entry_view}
@@ -22,8 +23,8 @@ loop-m-preserved c =
     let here : i < length now = omega arith in
     let n : length now ≡ length all = c.loop-m.auto.memories in
     let left = c.loop-m.invariant.left in
-    let shown : c.show_commit.new.shown.items ≡ c.loop-m.shown.items ++ commit_values (lock_of (get_or now i d).room) (entry_view c.step_memory-entry.result) = c.show_commit.ensures.shown in
-    let most = commit_most (lock_of (get_or now i d).room) (entry_view c.step_memory-entry.result) c.loop-m.shown.items c.show_commit.new.shown.items shown in
+    let shown : c.show_commit.new.shown.items ≡ c.loop-m.shown.items ++ commit_values (lock_of (get_or now i d).room) (port_write (entry_view c.step_memory-entry.result)) = c.show_commit.ensures.shown in
+    let most = commit_most (lock_of (get_or now i d).room) (port_write (entry_view c.step_memory-entry.result)) c.loop-m.shown.items c.show_commit.new.shown.items shown in
     let before : vec_len c.loop-m.shown ≡ length c.loop-m.shown.items = c.loop-m.shown.ok.0 in
     let after : vec_len c.show_commit.new.shown ≡ length c.show_commit.new.shown.items = c.show_commit.new.shown.ok.0 in
     let long : length (set now i y) ≡ length now = length-set now i y in
@@ -36,7 +37,7 @@ loop-m-preserved c =
       capacities = capacities_same now i y d here c.step_memory-entry.ensures.capacity ∙ c.loop-m.invariant.capacities;
       shown =
           shown_more r rel now all i d here n left c.loop-m.shown.items c.show_commit.new.shown.items (c.args.shown.now.items ++ commits_shown r rel 0 (map memory_view all))
-          (shown ∙ ap (λ (e : Option Pending). c.loop-m.shown.items ++ commit_values (lock_of (get_or now i d).room) e) c.step_memory-entry.ensures.result) c.loop-m.invariant.shown;
+          (shown ∙ ap (λ (e : Option Pending). c.loop-m.shown.items ++ commit_values (lock_of (get_or now i d).room) (port_write e)) c.step_memory-entry.ensures.result) c.loop-m.invariant.shown;
       room = omega arith;
       capacity = c.show_commit.ensures.capacity ∙ c.loop-m.invariant.capacity;
     }

@@ -21,9 +21,9 @@ returns-clause-lock g c =
     let shape = arrays_are (L.kind_of l) c.args.info.now m c.requires.info c.requires.comb (c.requires.suited.words l refl) in
     let grows : ExtendsArrays old new (shape_of_mem m ∷ []) = subst (λ (fs : List Shape). ExtendsArrays old new fs) shape s.extends in
     let comb : is_some r.array ≡ true = s.array ∙ ap (λ (x : MemInfo). not x.delayed) c.requires.info ∙ ap not c.requires.comb in
-    new_lock (L.placed l) (L.stands l r) (L.size l) (L.tickets l) old new m.width.value m.depth.value r
+    new_lock (L.placed l) (L.stands l r) (L.kind_of l) (L.size l) (L.tickets l) old new m.width.value m.depth.value r
     (s.width ∙ ap (λ (x : MemInfo). x.width) c.requires.info) (s.bits ∙ ap (λ (x : MemInfo). x.depth) c.requires.info) comb (array_more old new (shape_of_mem m) grows)
-    s.placed s.fragment s.nets s.start s.room s.ticket
+    s.placed s.fragment s.nets s.start (c.requires.suited.words l refl) s.room s.ticket
 
 pub returns-clause-unwritten : goal.returns-clause-unwritten
 returns-clause-unwritten g c =
