@@ -1,0 +1,7 @@
+pub mod Bits
+pub mod Examples
+pub mod Fits
+pub mod Operands
+pub mod Steps
+pub mod Taking
+pub mod Trimming

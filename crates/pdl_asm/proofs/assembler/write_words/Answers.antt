@@ -1,0 +1,113 @@
+use Rattle.std.proofs.Common.{◌≡◌, ℕ, ◌-◌, ◌+◌, [], ◌∷◌, List, sym, ap, subst, ◌∙◌, arith, pos, refl, length, rules}
+use Rattle.std.proofs.lemmas.Int.{ints}
+use Rattle.std.specs.Int.{cast_signed, cast_unsigned, w128}
+use Rattle.std.proofs.lemmas.Bool.{eqb-true}
+use Rattle.pdl_asm.specs.Places.{IsNear}
+use Rattle.pdl_image.specs.Lines.{lines}
+use Rattle.pdl_asm.specs.Values.{Labels}
+use Rattle.pdl_asm.specs.Assembly.{Placed, placed}
+use Rattle.pdl_asm.proofs.Steps.{near_later, placed_first}
+use Rattle.pdl_asm.proofs.Taking.{Taken, all_taken, none_left_of, rule_by, taken_more, taken_none, words_by, wrong_found}
+use Rattle.pdl_asm.proofs.assembler.write_words.Goals as goal
+
+pub loop-rest-init : goal.loop-rest-init
+loop-rest-init c =
+    let all = placed c.args.table.now (pos 0) (lines c.args.text.now) in
+    let P : Labels → Type 0 = λ b. Taken c.args.table.now c.args.labels.now all 1 all b c.in_ok-words.words in
+    record {
+      room = omega arith;
+      near = (omega (arith, ints), omega (arith, ints));
+      count = omega arith;
+      taken = subst P (sym c.new-before.ensures) (taken_none c.args.table.now c.args.labels.now all c.in_ok-words.words c.in_ok-words.ensures);
+    }
+
+pub loop-rest-preserved : goal.loop-rest-preserved
+loop-rest-preserved c =
+    let t = c.args.table.now in
+    let ls = c.args.labels.now in
+    let all = placed t (pos 0) (lines c.args.text.now) in
+    let later = lines c.split_line.result.1.now in
+    let place = cast_signed w128 c.loop-rest.place-bits in
+    let z : cast_signed w128 (cast_unsigned w128 c.after_line-place.result) ≡ c.after_line-place.result = search rules in
+    let e = placed_first t place _ c.split_line.result.0.now later (lines c.loop-rest.rest.now) c.in_ok-line.line
+    c.split_line.ensures.value c.in_ok-line.ensures (z ∙ c.after_line-place.ensures.value) in
+    let P : List Placed → Type 0 = λ r. Taken t ls all c.loop-rest.number r c.loop-rest.before c.loop-rest.words in
+    record {
+      room = omega (arith, c.split_line.ensures.shorter);
+      near = subst (IsNear (length c.args.text.now - length c.split_line.result.1.now)) (sym z)
+          (near_later (length c.args.text.now - length c.loop-rest.rest.now + 1) _ _ (c.after_line-place.ensures.near _ c.loop-rest.invariant.near) (omega (arith, c.split_line.ensures.shorter, c.loop-rest.invariant.room)));
+      count = omega (arith, c.split_line.ensures.shorter);
+      taken = taken_more t ls all _ c.loop-rest.number place c.in_ok-line.line c.loop-rest.before _ c.loop-rest.words _
+          (subst P e c.loop-rest.invariant.taken)
+          (rule_by t ls c.loop-rest.before place c.in_ok-line.line _ _ _ c.is_taken-taken.ensures c.in_default.ensures)
+          c.in_ok-define_label.ensures
+          (words_by t ls place c.in_ok-line.line c.loop-rest.words _ _ c.write.ensures c.line_word.ensures);
+    }
+
+pub loop-rest-preserved-in_ok-define_label : goal.loop-rest-preserved-in_ok-define_label
+loop-rest-preserved-in_ok-define_label c =
+    let t = c.args.table.now in
+    let ls = c.args.labels.now in
+    let all = placed t (pos 0) (lines c.args.text.now) in
+    let later = lines c.split_line.result.1.now in
+    let place = cast_signed w128 c.loop-rest.place-bits in
+    let z : cast_signed w128 (cast_unsigned w128 c.after_line-place.result) ≡ c.after_line-place.result = search rules in
+    let e = placed_first t place _ c.split_line.result.0.now later (lines c.loop-rest.rest.now) c.in_ok-line.line
+    c.split_line.ensures.value c.in_ok-line.ensures (z ∙ c.after_line-place.ensures.value) in
+    let P : List Placed → Type 0 = λ r. Taken t ls all c.loop-rest.number r c.loop-rest.before c.loop-rest.words in
+    record {
+      room = omega (arith, c.split_line.ensures.shorter);
+      near = subst (IsNear (length c.args.text.now - length c.split_line.result.1.now)) (sym z)
+          (near_later (length c.args.text.now - length c.loop-rest.rest.now + 1) _ _ (c.after_line-place.ensures.near _ c.loop-rest.invariant.near) (omega (arith, c.split_line.ensures.shorter, c.loop-rest.invariant.room)));
+      count = omega (arith, c.split_line.ensures.shorter);
+      taken = taken_more t ls all _ c.loop-rest.number place c.in_ok-line.line c.loop-rest.before _ c.loop-rest.words _
+          (subst P e c.loop-rest.invariant.taken)
+          (rule_by t ls c.loop-rest.before place c.in_ok-line.line _ _ _ c.is_taken-taken.ensures c.in_default.ensures)
+          c.in_ok-define_label.ensures
+          (words_by t ls place c.in_ok-line.line c.loop-rest.words _ _ c.write.ensures c.line_word.ensures);
+    }
+
+pub loop-rest-preserved-in_ok-define_label-2 : goal.loop-rest-preserved-in_ok-define_label-2
+loop-rest-preserved-in_ok-define_label-2 c =
+    let t = c.args.table.now in
+    let ls = c.args.labels.now in
+    let all = placed t (pos 0) (lines c.args.text.now) in
+    let later = lines c.split_line.result.1.now in
+    let place = cast_signed w128 c.loop-rest.place-bits in
+    let z : cast_signed w128 (cast_unsigned w128 c.after_line-place.result) ≡ c.after_line-place.result = search rules in
+    let e = placed_first t place _ c.split_line.result.0.now later (lines c.loop-rest.rest.now) c.in_ok-line.line
+    c.split_line.ensures.value c.in_ok-line.ensures (z ∙ c.after_line-place.ensures.value) in
+    let P : List Placed → Type 0 = λ r. Taken t ls all c.loop-rest.number r c.loop-rest.before c.loop-rest.words in
+    record {
+      room = omega (arith, c.split_line.ensures.shorter);
+      near = subst (IsNear (length c.args.text.now - length c.split_line.result.1.now)) (sym z)
+          (near_later (length c.args.text.now - length c.loop-rest.rest.now + 1) _ _ (c.after_line-place.ensures.near _ c.loop-rest.invariant.near) (omega (arith, c.split_line.ensures.shorter, c.loop-rest.invariant.room)));
+      count = omega (arith, c.split_line.ensures.shorter);
+      taken = taken_more t ls all _ c.loop-rest.number place c.in_ok-line.line c.loop-rest.before _ c.loop-rest.words _
+          (subst P e c.loop-rest.invariant.taken)
+          (rule_by t ls c.loop-rest.before place c.in_ok-line.line _ _ _ c.is_taken-taken.ensures c.in_default.ensures)
+          c.in_ok-define_label.ensures
+          (words_by t ls place c.in_ok-line.line c.loop-rest.words _ _ c.write.ensures c.line_word.ensures);
+    }
+
+pub returns-in-Some : goal.returns-in-Some
+returns-in-Some c =
+    let t = c.args.table.now in
+    let ls = c.args.labels.now in
+    let all = placed t (pos 0) (lines c.args.text.now) in
+    let later = lines c.split_line.result.1.now in
+    let place = cast_signed w128 c.loop-rest.place-bits in
+    let e = placed_first t place _ c.split_line.result.0.now later (lines c.loop-rest.rest.now) c.in_ok-line.line c.split_line.ensures.value c.in_ok-line.ensures refl in
+    let P : List Placed → Type 0 = λ r. Taken t ls all c.loop-rest.number r c.loop-rest.before c.loop-rest.words in
+    wrong_found t ls all _ c.loop-rest.number place c.in_ok-line.line c.loop-rest.before c.loop-rest.words c.in-Some.rule
+    (subst P e c.loop-rest.invariant.taken)
+    (rule_by t ls c.loop-rest.before place c.in_ok-line.line _ _ _ c.is_taken-taken.ensures c.in-Some.ensures)
+
+pub returns : goal.returns
+returns c =
+    let t = c.args.table.now in
+    let ls = c.args.labels.now in
+    let all = placed t (pos 0) (lines c.args.text.now) in
+    let P : List Placed → Type 0 = λ r. Taken t ls all c.loop-rest.number r c.loop-rest.before c.loop-rest.words in
+    all_taken t ls all c.loop-rest.number c.loop-rest.before c.loop-rest.words
+    (subst P (none_left_of t _ c.loop-rest.rest.now (eqb-true _ 0 (sym c.loop-rest-test.ensures))) c.loop-rest.invariant.taken)

@@ -1,0 +1,18 @@
+use Rattle.std.proofs.Common.{◌≡◌, ◌+◌, ◌-◌, ◌≤◌, length, pos}
+use Rattle.pdl_image.specs.Lines.{lines}
+use Rattle.pdl_asm.specs.Assembly.{placed}
+use Rattle.pdl_asm.specs.Places.{IsNear}
+use Rattle.pdl_asm.proofs.Taking.{Taken}
+use Rattle.pdl_asm.proofs.assembler.write_words.Given as goal
+
+-- the lines so far were taken
+abbrev pub invariant-loop-rest : goal.invariant-loop-rest
+invariant-loop-rest l = record {
+  room : length l.rest ≤ length l.text;
+  near : IsNear (length l.text - length l.rest) l.place;
+  count : l.number + length l.rest ≤ length l.text + 1;
+  taken : Taken l.table l.labels (placed l.table (pos 0) (lines l.text)) l.number (placed l.table l.place (lines l.rest)) l.before l.words;
+}
+
+abbrev pub decreases-loop-rest : goal.decreases-loop-rest
+decreases-loop-rest l = length l.rest

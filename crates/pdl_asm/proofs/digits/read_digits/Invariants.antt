@@ -1,0 +1,13 @@
+use Rattle.std.proofs.Common.{◌≡◌, ◌<◌, ◌^◌, true, take}
+use Rattle.std.specs.List.{list_all}
+use Rattle.std.specs.Str.Parse.{digits_value}
+use Rattle.pdl_image.specs.Images.{is_digit_of}
+use Rattle.pdl_asm.proofs.digits.read_digits.Given as goal
+
+-- the number is that of the digits so far
+abbrev pub invariant-loop-byte : goal.invariant-loop-byte
+invariant-loop-byte l = record {
+  digits : list_all (is_digit_of l.base) (take l.byte-index l.digits) ≡ true;
+  value : l.number ≡ digits_value l.base (take l.byte-index l.digits);
+  below : l.number < l.base ^ l.byte-index;
+}

@@ -1,0 +1,10 @@
+use Rattle.std.proofs.Common.{◌≡◌, length}
+use Rattle.pdl_asm.specs.Lines.{trim_end}
+use Rattle.pdl_asm.proofs.text.trim_end.Given as goal
+
+-- what was cut off is blank
+abbrev pub invariant-loop-rest : goal.invariant-loop-rest
+invariant-loop-rest l = trim_end l.rest ≡ trim_end l.fn.text
+
+abbrev pub decreases-loop-rest : goal.decreases-loop-rest
+decreases-loop-rest l = length l.rest

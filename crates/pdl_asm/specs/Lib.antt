@@ -1,0 +1,5 @@
+pub mod Lines
+pub mod Values
+pub mod Assembly
+pub mod Slots
+pub mod Places

@@ -1,0 +1,6 @@
+-- How far a place can be from 0.
+use Rattle.std.specs.Prelude.{ℕ, ◌+◌, ◌^◌, pos, neg_ℤ, ◌≤ℤ◌, ℤ}
+
+-- a place that so many lines can come to
+abbrev pub IsNear : ℕ → ℤ → Type 0
+IsNear count place = (neg_ℤ (pos (2 ^ 67)) ≤ℤ place) × (place ≤ℤ pos (2 ^ 67 + count))

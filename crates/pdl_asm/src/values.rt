@@ -1,0 +1,162 @@
+// The values of operands.
+ghost use Rattle.std.specs.Prelude.{◌≡◌, ◌≤◌, ◌<◌, ◌^◌, ◌-ℤ◌, IfOk, IfSome, Some, None, length};
+ghost use Rattle.std.specs.Option.{option_copied};
+ghost use Rattle.pdl_asm.specs.Values.{amount as amount_of, argument_value as argument_value_of, field_bits as field_bits_of, in_word as in_word_of, operand_value as operand_value_of, or_a5 as or_a5_of, reg_value, signed as signed_of, unsigned as unsigned_of};
+
+use crate::line::Operand;
+use crate::sign::{below_minus_one, magnitude, power};
+use pdl_asmtable::{Arg, Dictionary, Kind, Table};
+use pdl_kit::Rule;
+
+// A number in a field of so many bits: 0 to 2^f - 1.
+fn unsigned(field: u8, number: i128) -> Option<u64>
+    requires { field ≤ 64 }
+    ensures { result ≡ unsigned_of field number }
+{
+    if number < 0 {
+        return None;
+    }
+    let n = magnitude(number);
+    if n < power(field) {
+        Some(n as u64)
+    } else {
+        None
+    }
+}
+
+// A number in two's complement in a field of so many bits: -2^(f-1) to 2^(f-1) - 1.
+fn signed(field: u8, number: i128) -> Option<u64>
+    requires { field ≤ 64 }
+    ensures { result ≡ signed_of field number }
+{
+    let half = power(field.saturating_sub(1));
+    if number < 0 {
+        let n = below_minus_one(number);
+        if n < half {
+            return Some((power(field) - 1 - n) as u64);
+        }
+        return None;
+    }
+    let n = magnitude(number);
+    if n < half { Some(n as u64) } else { None }
+}
+
+/// A number in a word of so many bits: -2^(bits-1) to 2^bits - 1.
+pub fn in_word(bits: u8, number: i128) -> Option<u64>
+    requires { bits ≤ 64 }
+    ensures { result ≡ in_word_of bits number }
+{
+    if number < 0 {
+        signed(bits, number)
+    } else {
+        unsigned(bits, number)
+    }
+}
+
+// A value, or that there is none in the field.
+fn or_a5(value: Option<u64>) -> Result<u64, Rule>
+    ensures { result ≡ or_a5_of value }
+{
+    match value {
+        Some(value) => Ok(value),
+        None => Err(Rule::A5),
+    }
+}
+
+// A number, or the place of a label.
+fn amount(labels: &Dictionary<i128>, operand: &Operand) -> Option<i128>
+    ensures { result ≡ amount_of labels.now operand.now }
+{
+    match operand {
+        Operand::Label(name) => match labels.get(name) {
+            Some(place) => Some(*place),
+            None => None,
+        },
+        Operand::Number(number) => Some(number.get()),
+    }
+}
+
+// The value of a register in a field.
+fn register(field: u8, number: Option<u32>) -> Result<u64, Rule>
+    requires { field ≤ 64 }
+    ensures { result ≡ reg_value field number }
+{
+    match number {
+        Some(number) => or_a5(unsigned(field, i128::from(number))),
+        None => Err(Rule::A4),
+    }
+}
+
+// A number less a place, in two's complement in a field.
+fn relative(field: u8, number: i128, place: i128) -> Option<u64>
+    requires { field ≤ 64 }
+    ensures { result ≡ signed_of field (number -ℤ place) }
+{
+    match number.checked_sub(place) {
+        Some(distance) => signed(field, distance),
+        None => None,
+    }
+}
+
+/// The value of an operand in a field of so many bits of the word at a place, or the rule that it breaks.
+pub fn operand_value(
+    table: &Table,
+    labels: &Dictionary<i128>,
+    place: i128,
+    field: u8,
+    kind: Kind,
+    operand: &Operand,
+) -> Result<u64, Rule>
+    requires { field ≤ 64 }
+    ensures { result ≡ operand_value_of table.now labels.now place field kind operand.now }
+{
+    match kind {
+        Kind::Reg => match operand {
+            Operand::Label(name) => register(field, table.reg(name)),
+            Operand::Number(_) => Err(Rule::A4),
+        },
+        Kind::Uint => match amount(labels, operand) {
+            Some(number) => or_a5(unsigned(field, number)),
+            None => Err(Rule::A6),
+        },
+        Kind::Sint => match operand {
+            Operand::Label(_) => Err(Rule::A5),
+            Operand::Number(number) => or_a5(signed(field, number.get())),
+        },
+        Kind::Rel => match amount(labels, operand) {
+            Some(number) => or_a5(relative(field, number, place)),
+            None => Err(Rule::A6),
+        },
+    }
+}
+
+/// How many bits of an instruction's are those of a letter.
+pub fn field_bits(bits: &[u8], letter: u8) -> u8
+    requires { length bits.now ≤ 64 }
+    ensures value { result ≡ field_bits_of bits.now letter }
+    ensures few { result ≤ length bits.now }
+{
+    let mut count = 0;
+    for bit in bits {
+        if *bit == letter {
+            count += 1;
+        }
+    }
+    count
+}
+
+/// The value of an argument's operand, or the rule that it breaks.
+pub fn argument_value(
+    table: &Table,
+    labels: &Dictionary<i128>,
+    place: i128,
+    bits: &[u8],
+    arg: Arg,
+    operand: &Operand,
+) -> Result<u64, Rule>
+    requires { length bits.now ≤ 64 }
+    ensures { result ≡ argument_value_of table.now labels.now place bits.now arg operand.now }
+{
+    let field = field_bits(bits, arg.letter);
+    operand_value(table, labels, place, field, arg.kind, operand)
+}

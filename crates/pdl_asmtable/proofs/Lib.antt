@@ -1,0 +1,5 @@
+pub mod Examples
+pub mod Entries
+pub mod Joins
+pub mod Meeting
+pub mod Members

@@ -1,0 +1,4 @@
+pub mod Dictionaries
+pub mod Names
+pub mod Tables
+pub mod Documents

@@ -1,0 +1,57 @@
+// Values by name.
+ghost use Rattle.std.specs.Prelude.{◌≡◌, ℕ, List, [], OnOk};
+ghost use Rattle.std.specs.Option.{option_copied};
+ghost use Rattle.pdl_asmtable.specs.Dictionaries.{value_of, defined};
+
+use indexmap::IndexMap;
+use pdl_kit::{Name, NoMemory};
+use std::alloc::Global;
+use std::marker::Model;
+
+/// Values by name, in the order of their definitions, of which each name has its first.
+#[derive(Drop)]
+pub struct Dictionary<T> {
+    values: IndexMap<Name, T>,
+}
+
+impl<T> Model for Dictionary<T> {
+    ghost use Rattle.std.specs.Prelude.{List, ℕ};
+    ghost use Rattle.std.specs.Coded.{coded_list, coded×, coded_ℕ};
+
+    ghost Value = { List (List ℕ × T) };
+
+    ghost coded = { coded_list (coded× (coded_list coded_ℕ) T.code) };
+
+    ghost view = { λ d. d.values.entries };
+}
+
+impl<T> Dictionary<T> {
+    /// No name is defined yet.
+    pub fn new(alloc: Global) -> Dictionary<T>
+        ensures { result ≡ [] }
+    {
+        Dictionary {
+            values: IndexMap::new(alloc),
+        }
+    }
+
+    /// The value of a name, if it is defined.
+    pub fn get(&self, name: &Name) -> Option<&T>
+        ensures { option_copied result ≡ value_of self.now name.now }
+    {
+        self.values.get(name)
+    }
+}
+
+impl<T: Drop> Dictionary<T> {
+    /// Defines a name, unless it is defined. Where memory runs out, the value is dropped.
+    pub fn define(&mut self, name: Name, value: T) -> Result<(), NoMemory>
+        ensures { OnOk result (self.new ≡ defined self.old name value) }
+    {
+        if self.values.get(&name).is_some() {
+            return Ok(());
+        }
+        self.values.insert(name, value)?;
+        Ok(())
+    }
+}

@@ -1,0 +1,80 @@
+// A line of text in a buffer of fixed size, so that printing takes no memory.
+ghost use Rattle.std.specs.Prelude.{◌≡◌, ◌+◌, ◌*◌, ◌≤◌, ◌<◌, ◌^◌, ◌++◌, [], ◌∷◌, length, decimal};
+ghost use Rattle.pdl_model.specs.Lines as text;
+
+use crate::digits::hex_digit;
+use itoa::Buffer;
+use std::marker::Model;
+
+/// A line of up to 128 bytes, its line feed included, seen as those bytes.
+#[derive(Drop)]
+pub struct Line {
+    bytes: [u8; 128],
+    len: usize,
+}
+
+impl Model for Line {
+    ghost use Rattle.std.specs.Prelude.{List, ℕ, ◌≤◌, take};
+
+    ghost Value = { List ℕ };
+
+    ghost view = { λ l. take l.len l.bytes };
+
+    ghost invariant = { λ l. l.len ≤ 128 };
+}
+
+impl Line {
+    /// An empty line.
+    pub(crate) fn new() -> Line
+        ensures { result ≡ [] }
+    {
+        Line {
+            bytes: [0; 128],
+            len: 0,
+        }
+    }
+
+    /// The line's bytes.
+    pub fn as_bytes(&self) -> &[u8]
+        ensures { result.now ≡ self.now }
+    {
+        &self.bytes[..self.len]
+    }
+
+    /// These bytes after those before them.
+    pub(crate) fn push(&mut self, piece: &[u8])
+        requires { length self.old + length piece.now ≤ 128 }
+        ensures text { self.new ≡ self.old ++ piece.now }
+        ensures len { length self.new ≡ length self.old + length piece.now }
+    {
+        let start = self.len;
+        let end = start + piece.len();
+        self.bytes[start..end].copy_from_slice(piece);
+        self.len = end;
+    }
+
+    /// A number in decimal, of at most 20 digits.
+    pub(crate) fn push_decimal(&mut self, n: u64)
+        requires { length self.old + 20 ≤ 128 }
+        ensures text { self.new ≡ self.old ++ decimal n }
+        ensures len { length self.new ≤ length self.old + 20 }
+    {
+        let mut buffer = Buffer::new();
+        self.push(buffer.format(n).as_bytes());
+    }
+}
+
+impl Line {
+    /// The `count` lowest hexadecimal digits of a value, most significant first.
+    pub(crate) fn push_hex(&mut self, count: u8, value: u64)
+        requires digits { count ≤ 16 }
+        requires room { length self.old + 16 ≤ 128 }
+        ensures text { self.new ≡ self.old ++ text.hex count value }
+        ensures len { length self.new ≡ length self.old + count }
+    {
+        for done in 0..count {
+            let place = count - 1 - done;
+            self.push(&[hex_digit((value >> (4 * place)) % 16)]);
+        }
+    }
+}

@@ -1,0 +1,72 @@
+// The lines of runs.
+ghost use Rattle.std.specs.Prelude.{◌≡◌, ◌≤◌, ◌<◌, ◌^◌, ◌++◌, codes, decimal, length};
+ghost use Rattle.pdl_model.specs.Lines as text;
+
+use crate::line::Line;
+use pdl_kit::Name;
+
+/// The line of an image that gives a word: `<mem> <address> <hex>`.
+///
+/// The memory's name has at most 32 bytes, its words have 1 to 64 bits, and the value fits them. The value is written in lower hexadecimal with a digit for each four bits or part of four.
+pub fn word_line(mem: &Name, address: u64, value: u64, width: u8) -> Line
+    requires name { length mem.now ≤ 32 }
+    requires width { width ≤ 64 }
+    ensures { result ≡ mem.now ++ codes " " ++ decimal address ++ codes " " ++ text.hex (text.hex_digits width) value ++ codes "\n" }
+{
+    let mut line = Line::new();
+    line.push(mem.as_bytes());
+    line.push(b" ");
+    line.push_decimal(address);
+    line.push(b" ");
+    line.push_hex(width.div_ceil(4), value);
+    line.push(b"\n");
+    line
+}
+
+/// The line of a write in the cycle, or by the thread, of this number: `<number> <mem> <address> <value>`.
+///
+/// The memory's name has at most 32 bytes, its words have 1 to 64 bits, and the value fits them. The value is written in lower hexadecimal with a digit for each four bits or part of four.
+pub fn commit_line(number: u32, mem: &Name, address: u64, value: u64, width: u8) -> Line
+    requires name { length mem.now ≤ 32 }
+    requires width { width ≤ 64 }
+    ensures { result ≡ text.put_line number (record { name = mem.now; width = width }) (record { address = address; value = value }) }
+{
+    let mut line = Line::new();
+    line.push_decimal(u64::from(number));
+    line.push(b" ");
+    line.push(mem.as_bytes());
+    line.push(b" ");
+    line.push_decimal(address);
+    line.push(b" ");
+    line.push_hex(width.div_ceil(4), value);
+    line.push(b"\n");
+    line
+}
+
+/// The end line of a run of so many cycles: `end cycles C ended N waits W squashes Q`, with the numbers of cycles in which a thread ended, in which a request stayed unanswered, and in which there was a squash.
+pub fn end_line(cycles: u32, ended: u32, waits: u32, squashes: u32) -> Line
+    ensures { result ≡ text.end_line cycles ended waits squashes }
+{
+    let mut line = Line::new();
+    line.push(b"end cycles ");
+    line.push_decimal(u64::from(cycles));
+    line.push(b" ended ");
+    line.push_decimal(u64::from(ended));
+    line.push(b" waits ");
+    line.push_decimal(u64::from(waits));
+    line.push(b" squashes ");
+    line.push_decimal(u64::from(squashes));
+    line.push(b"\n");
+    line
+}
+
+/// The last line of a sequential run of so many threads: `end threads k`.
+pub fn threads_line(threads: u32) -> Line
+    ensures { result ≡ codes "end threads " ++ decimal threads ++ codes "\n" }
+{
+    let mut line = Line::new();
+    line.push(b"end threads ");
+    line.push_decimal(u64::from(threads));
+    line.push(b"\n");
+    line
+}
