@@ -1,0 +1,7 @@
+use Rattle.std.proofs.Common.{◌≡◌, ◌*◌, ◌-◌, ◌/◌, ◌^◌, ◌++◌}
+use Rattle.pdl_vlog.specs.Digits.{hex}
+use Rattle.pdl_vlog.proofs.text.Text.push_hex.Given as goal
+
+-- the highest digits are there
+abbrev pub invariant-loop-done : goal.invariant-loop-done
+invariant-loop-done l = l.self ≡ l.fn.self ++ hex l.done (l.value / 2 ^ (4 * (l.count - l.done)))

@@ -1,0 +1,10 @@
+use Rattle.std.proofs.Common.{◌≡◌, length}
+use Rattle.pdl_net.specs.Circuit.{circuit_of}
+use Rattle.pdl_vlog.specs.Widths.{HasWidths}
+use Rattle.pdl_vlog.proofs.widths.all_widths.Given as goal
+
+abbrev pub invariant-loop-k : goal.invariant-loop-k
+invariant-loop-k l = record {
+  widths : HasWidths (circuit_of l.n) l.widths.items;
+  count : length l.widths.items ≡ l.k;
+}

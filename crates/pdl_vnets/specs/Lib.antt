@@ -1,0 +1,3 @@
+pub mod Wired
+pub mod Places
+pub mod Scopes

@@ -1,0 +1,11 @@
+//! The nets that the names of a file stand for, or the first name that stands for nothing of its kind.
+#![tactic(auto)]
+
+pub mod passes;
+pub mod places;
+pub mod scope;
+pub mod wiring;
+
+pub use passes::{Stop, wire};
+pub use places::Places;
+pub use wiring::{ArrayWrite, OutputDrive, RegDrive, Wiring};

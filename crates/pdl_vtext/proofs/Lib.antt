@@ -1,0 +1,5 @@
+pub mod Steps
+pub mod Digits
+pub mod Rules
+pub mod Complete
+pub mod Place

@@ -1,0 +1,163 @@
+-- Rules taken one after another.
+use Rattle.std.proofs.Common.{◌≡◌, ◌≢◌, ℕ, suc, ◌+◌, ◌<◌, ◌≤◌, Bool, true, false, cond, List, [], ◌∷◌, ◌++◌, length, take, map, get_or, flat_map, Option, Some, None, Result, Ok, Err, refl, sym, ap, ◌∙◌, subst, arith, append_assoc, append-nil, length-append, drop}
+use Rattle.std.proofs.lemmas.List.{take_more, take_all, take-append-drop, drop_more, map-append}
+use Rattle.pdl_vtext.specs.declared.field.Field.{Field}
+use Rattle.pdl_vtext.specs.declared.rule.Part.{Part}
+use Rattle.pdl_vtext.specs.declared.rule.Part.TheVariants as p
+use Rattle.pdl_vtext.specs.declared.rule.Rule.{Rule}
+use Rattle.pdl_vtext.specs.declared.draft.Draft.{Draft}
+use Rattle.pdl_vtext.specs.Tokens.{Token}
+use Rattle.pdl_vtext.specs.Grammar.{Row, Taken, AllFit, none, more, fits, fields, chosen, begins_with, begins_fields, first_with, is_finished, rules, next}
+use Rattle.pdl_vtext.specs.Drafts.{no_draft, taken, all_taken}
+use Rattle.pdl_vtext.specs.declared.token.Token as r
+use Rattle.pdl_vtext.specs.declared.read.Stop.{Stop}
+use Rattle.pdl_vtext.specs.declared.read.Stop.TheVariants as stop
+use Rattle.pdl_vtext.specs.Cursor.{token_view, next as skipped}
+use Rattle.pdl_vtext.specs.Read.{IsFitting, Sentence, TakesRules, IsUnfit, Found, Stopped, Comes, Leads, here, further, all_found, chosen_at, IsStuck, nothing, inside, AreTaken, AreStopped}
+
+-- ---- the tokens of one rule
+
+pub one_fits : (gs : List Field) (ts : Row) (g : Field) (t : Token) → AllFit gs ts → fits g t.text ≡ true → AllFit (gs ++ g ∷ []) (ts ++ t ∷ [])
+one_fits _ _ g t none e = more e none
+one_fits _ _ g t (more {gs = hs} {ts = us} d a) e = more d (one_fits hs us g t a e)
+
+-- the first rule whose first token a word may be has it as its first token
+found_begins : (rs : List Rule) (t : List ℕ) (r : Rule) → first_with rs t ≡ Some r → begins_with r t ≡ true
+found_begins [] t r e = cc
+found_begins (s ∷ rs) t r e = go (begins_with s t) refl e (found_begins rs t r)
+  where
+    go : (b : Bool) → begins_with s t ≡ b → cond b (Some s) (first_with rs t) ≡ Some r → (first_with rs t ≡ Some r → begins_with r t ≡ true) → begins_with r t ≡ true
+    go true is e f = let k : s ≡ r = cc in subst (λ x. begins_with x t ≡ true) k is
+    go false is e f = f e
+
+pub chosen_begins : (part : Part) (t : List ℕ) (r : Rule) → chosen part t ≡ Some r → begins_with r t ≡ true
+unfolding chosen
+chosen_begins part t r e = found_begins (rules part) t r e
+
+-- ---- rules so far
+
+pub record AreSoFar (old new : Row) (part : Part) (d : Draft) : Type 0 where
+  pub rules : List Taken
+  pub leads : Leads rules part
+  pub split : old ≡ all_found rules ++ new
+  pub draft : d ≡ all_taken no_draft rules
+
+pub none_yet : (ts : Row) → AreSoFar ts ts p.Start no_draft
+unfolding all_taken
+none_yet ts = record { rules = []; leads = here; split = refl; draft = refl }
+
+all_taken_more : (d : Draft) (ts : List Taken) (t : Taken) → all_taken d (ts ++ t ∷ []) ≡ taken (all_taken d ts) t.rule t.found
+unfolding all_taken
+all_taken_more d [] t = refl
+all_taken_more d (u ∷ us) t = all_taken_more (taken d u.rule u.found) us t
+
+pub all_found_more : (ts : List Taken) (t : Taken) → all_found (ts ++ t ∷ []) ≡ all_found ts ++ t.found
+all_found_more [] t = append-nil t.found
+all_found_more (u ∷ us) t = ap (λ x. u.found ++ x) (all_found_more us t) ∙ sym (append_assoc u.found (all_found us) t.found)
+
+-- the tokens behind a part, from which a rule's were taken
+pub comes : (part : Part) (rule : Rule) (old found new : Row) → chosen_at part old ≡ Some rule → Found (fields rule) old found new → Comes part (record { rule = rule; found = found })
+comes part rule [] found new e f = cc
+comes part rule (t ∷ ts) [] new e f = absurd (no_tokens (fields rule) (chosen_begins part t.text rule e) f.fit)
+  where
+    no_tokens : (gs : List Field) → begins_fields gs t.text ≡ true → AllFit gs [] → ⊥
+    no_tokens [] b a = cc
+    no_tokens (_ ∷ _) b a = elim a [ ]
+comes part rule (t ∷ ts) (u ∷ us) new e f =
+    let k : t ≡ u = cc in
+    record { token = u; more = us; found = refl; chosen = subst (λ x. chosen part x.text ≡ Some rule) k e; fit = f.fit }
+
+pub one_more_rule : (old mid found new : Row) (part : Part) (rule : Rule) (d : Draft) → AreSoFar old mid part d → chosen_at part mid ≡ Some rule → Found (fields rule) mid found new
+    → AreSoFar old new (next rule) (taken d rule found)
+one_more_rule old mid found new part rule d h e f =
+    let t : Taken = record { rule = rule; found = found } in
+    record {
+      rules = h.rules ++ t ∷ [];
+      leads = further t h.leads (comes part rule mid found new e f);
+      split = h.split ∙ (ap (λ x. all_found h.rules ++ x) f.split ∙ (sym (append_assoc (all_found h.rules) found new) ∙ ap (λ x. x ++ new) (sym (all_found_more h.rules t))));
+      draft = ap (λ x. taken x rule found) h.draft ∙ sym (all_taken_more no_draft h.rules t);
+    }
+
+pub fewer_left : (part : Part) (rule : Rule) (old found new : Row) → chosen_at part old ≡ Some rule → Found (fields rule) old found new → length new < length old
+fewer_left part rule old found new e f =
+    let k = comes part rule old found new e f in
+    let l : length old ≡ length (found ++ new) = ap length f.split in
+    let m : length found ≡ suc (length k.more) = ap length k.found in
+    omega (arith, l, m, length-append found new)
+
+not_finished : (part : Part) → is_finished part ≡ false → part ≢ p.Finished
+not_finished part h = λ e. let k : true ≡ false = subst (λ x. is_finished x ≡ false) e h in cc
+
+it_is_finished : (part : Part) → is_finished part ≡ true → part ≡ p.Finished
+it_is_finished p.Finished e = refl
+it_is_finished _ e = cc
+
+pub no_rule : (old mid : Row) (part : Part) (d : Draft) → AreSoFar old mid part d → is_finished part ≡ false → chosen_at part mid ≡ None → AreStopped old mid
+no_rule old mid part d h n e = record { rules = h.rules; part = part; leads = h.leads; front = []; split = h.split; stuck = nothing (not_finished part n) e }
+
+pub no_more : (old mid found new : Row) (part : Part) (rule : Rule) (d : Draft) → AreSoFar old mid part d → chosen_at part mid ≡ Some rule → Stopped (fields rule) mid found new → AreStopped old new
+no_more old mid found new part rule d h e s =
+    record { rules = h.rules; part = part; leads = h.leads; front = found; split = h.split ∙ ap (λ x. all_found h.rules ++ x) s.split; stuck = inside e s }
+
+pub all_done : (old new : Row) (part : Part) (d : Draft) → AreSoFar old new part d → is_finished part ≡ true → AreTaken old new d
+all_done old new part d h e = record { rules = h.rules; leads = subst (Leads h.rules) (it_is_finished part e) h.leads; split = h.split; draft = h.draft }
+
+-- ---- steps of the reader
+
+abbrev views : List r.Token → Row
+views ts = map token_view ts
+
+pub record AreFitting (gs : List Field) (old found new : Row) : Type 0 where
+  pub fit : AllFit gs found
+  pub split : old ≡ found ++ new
+
+pub nothing_found : (ts : Row) (items : List r.Token) → items ≡ [] → (AllFit [] (views items)) × (ts ≡ views items ++ ts)
+nothing_found ts items e = (subst (λ x. AllFit [] (views x)) (sym e) none, ap (λ x. views x ++ ts) (sym e))
+
+pub one_more_token : (gs : List Field) (i : ℕ) (d : Field) (old mid new : Row) (items others : List r.Token) (t : r.Token) → i < length gs → AllFit (take i gs) (views items) → old ≡ views items ++ mid
+    → IsFitting mid (get_or gs i d) (Some t) → new ≡ skipped mid → others ≡ items ++ t ∷ [] → (AllFit (take (i + 1) gs) (views others)) × (old ≡ views others ++ new)
+one_more_token gs i d old [] new items others t l a s f n m = absurd f
+one_more_token gs i d old (u ∷ us) new items others t l a s f n m =
+    let g = get_or gs i d in
+    let v : views others ≡ views items ++ u ∷ [] = ap views m ∙ (map-append token_view items (t ∷ []) ∙ ap (λ x. views items ++ x ∷ []) f.0) in
+    let k : take (i + 1) gs ≡ take i gs ++ g ∷ [] = take_more gs i d l in
+    let b : AllFit (take i gs ++ g ∷ []) (views items ++ u ∷ []) = one_fits (take i gs) (views items) g u a f.1 in (
+      subst (λ x. AllFit x (views others)) (sym k) (subst (AllFit (take i gs ++ g ∷ [])) (sym v) b),
+      s ∙ (sym (append_assoc (views items) (u ∷ []) us) ∙ (ap (λ x. x ++ us) (sym v) ∙ ap (λ x. views others ++ x) (sym n))),
+    )
+
+pub no_more_token : (gs : List Field) (i : ℕ) (d : Field) (old mid : Row) (items : List r.Token) → i < length gs → AllFit (take i gs) (views items) → old ≡ views items ++ mid
+    → IsFitting mid (get_or gs i d) None → Stopped gs old (views items) mid
+no_more_token gs i d old mid items l a s f = record {
+  done = take i gs;
+  field = get_or gs i d;
+  later = drop (i + 1) gs;
+  parts = sym (take-append-drop i gs) ∙ ap (λ x. take i gs ++ x) (drop_more gs i d l);
+  fit = a;
+  split = s;
+  unfit = unfit_of mid (get_or gs i d) f;
+}
+  where
+    unfit_of : (m : Row) (h : Field) → IsFitting m h None → IsUnfit h m
+    unfit_of [] h x = x
+    unfit_of (u ∷ us) h x = x
+
+pub all_found_whole : (gs : List Field) (i : ℕ) (old new : Row) (items : List r.Token) → length gs ≤ i → AllFit (take i gs) (views items) → old ≡ views items ++ new → Found gs old (views items) new
+all_found_whole gs i old new items l a s = record { fit = subst (λ x. AllFit x (views items)) (take_all i gs l) a; split = s }
+
+pub begun : (ts : Row) (d : Draft) → d ≡ no_draft → AreSoFar ts ts p.Start d
+begun ts d e = subst (AreSoFar ts ts p.Start) (sym e) (none_yet ts)
+
+pub gone_on : (old mid found new : Row) (part part2 : Part) (rule : Rule) (gs : List Field) (d d2 : Draft) → AreSoFar old mid part d → Some rule ≡ chosen_at part mid → gs ≡ fields rule → Found gs mid found new
+    → part2 ≡ next rule → d2 ≡ taken d rule found → AreSoFar old new part2 d2
+gone_on old mid found new part part2 rule gs d d2 h c g f e k =
+    let o = one_more_rule old mid found new part rule d h (sym c) (subst (λ y. Found y mid found new) g f) in
+    subst (λ x. AreSoFar old new x d2) (sym e) (subst (AreSoFar old new (next rule)) (sym k) o)
+
+pub fewer : (part : Part) (rule : Rule) (gs : List Field) (old found new : Row) → Some rule ≡ chosen_at part old → gs ≡ fields rule → Found gs old found new → length new < length old
+fewer part rule gs old found new e g f = fewer_left part rule old found new (sym e) (subst (λ y. Found y old found new) g f)
+
+pub stopped_so : (old mid found new : Row) (part : Part) (rule : Rule) (gs : List Field) (d : Draft) (e : Stop) → AreSoFar old mid part d → Some rule ≡ chosen_at part mid → gs ≡ fields rule
+    → Sentence gs mid found new (Err e) → TakesRules old new (Err e)
+stopped_so old mid found new part rule gs d stop.NoMemory h c g s = tt
+stopped_so old mid found new part rule gs d stop.Misplaced h c g s = no_more old mid found new part rule d h (sym c) (subst (λ y. Stopped y mid found new) g s)

@@ -1,0 +1,325 @@
+//! A file while its rules are taken one after another.
+ghost use Rattle.std.specs.Prelude.{◌≡◌, IfOk, OnOk, drop, map};
+ghost use Rattle.pdl_vtext.specs.Cursor.{token_view};
+ghost use Rattle.pdl_vtext.specs.Drafts as spec;
+
+use crate::field::operator_of;
+use crate::file::{
+    ArrayBlock, ArrayDecl, CellDecl, File, OutputDecl, PortDecl, RegBlock, RegDecl, Term, WriteDecl,
+};
+use crate::numbers::{Constant, constant_of, number_of};
+use crate::rule::Rule;
+use crate::token::Token;
+use pdl_kit::{Name, NoMemory, Seq};
+use pdl_net::BinOp;
+use std::alloc::Global;
+use std::mem;
+
+/// What was declared so far, and of a declaration that isn't whole its line, name, highest bit, target and first operand, or its writes.
+#[derive(Drop)]
+pub struct Draft {
+    pub file: File,
+    pub line: u32,
+    pub high: u32,
+    pub name: Name,
+    pub target: Name,
+    pub operand: Name,
+    pub writes: Seq<WriteDecl>,
+}
+
+fn text_at<'a>(found: &[Token<'a>], i: usize) -> &'a [u8]
+    ensures { result.now ≡ spec.text_at (map token_view found.now) i }
+{
+    match found.get(i) {
+        Some(token) => token.text,
+        None => &[],
+    }
+}
+
+fn line_at(found: &[Token<'_>], i: usize) -> u32
+    ensures { result ≡ spec.line_at (map token_view found.now) i }
+{
+    match found.get(i) {
+        Some(token) => token.line,
+        None => 0,
+    }
+}
+
+fn number_at(found: &[Token<'_>], i: usize) -> u32
+    ensures { result ≡ spec.number_at (map token_view found.now) i }
+{
+    number_of(text_at(found, i)).unwrap_or(0)
+}
+
+fn constant_at(found: &[Token<'_>], i: usize) -> Constant
+    ensures { result ≡ spec.constant_at (map token_view found.now) i }
+{
+    constant_of(text_at(found, i)).unwrap_or(Constant { width: 0, value: 0 })
+}
+
+fn operator_at(found: &[Token<'_>], i: usize) -> BinOp
+    ensures { result ≡ spec.operator_at (map token_view found.now) i }
+{
+    operator_of(text_at(found, i)).unwrap_or(BinOp::Add)
+}
+
+fn name_at(alloc: Global, found: &[Token<'_>], i: usize) -> Result<Name, NoMemory>
+    ensures { IfOk result (λ n. n ≡ spec.text_at (map token_view found.now) i) }
+{
+    Name::copy_of(alloc, text_at(found, i))
+}
+
+// The name of a module without `pdl_`.
+fn module_at(alloc: Global, found: &[Token<'_>], i: usize) -> Result<Name, NoMemory>
+    ensures { IfOk result (λ n. n ≡ drop 4 (spec.text_at (map token_view found.now) i)) }
+{
+    let text = text_at(found, i);
+    match text.get(4..) {
+        Some(name) => Name::copy_of(alloc, name),
+        None => Name::copy_of(alloc, &[]),
+    }
+}
+
+impl File {
+    // Nothing is declared.
+    fn new(alloc: Global) -> File
+        ensures { result ≡ spec.no_file }
+    {
+        File {
+            line: 0,
+            name: Name::from_vec(Vec::new(alloc)),
+            reset_line: 0,
+            reset_high: 0,
+            ports: Seq::new(alloc),
+            regs: Seq::new(alloc),
+            arrays: Seq::new(alloc),
+            cells: Seq::new(alloc),
+            outputs: Seq::new(alloc),
+            reg_blocks: Seq::new(alloc),
+            array_blocks: Seq::new(alloc),
+        }
+    }
+}
+
+impl Draft {
+    /// Nothing is taken yet.
+    pub fn new(alloc: Global) -> Draft
+        ensures { result ≡ spec.no_draft }
+    {
+        Draft {
+            file: File::new(alloc),
+            line: 0,
+            high: 0,
+            name: Name::from_vec(Vec::new(alloc)),
+            target: Name::from_vec(Vec::new(alloc)),
+            operand: Name::from_vec(Vec::new(alloc)),
+            writes: Seq::new(alloc),
+        }
+    }
+
+    /// Takes the tokens of a rule.
+    pub fn take(&mut self, alloc: Global, rule: Rule, found: &[Token<'_>]) -> Result<(), NoMemory>
+        ensures { OnOk result (self.new ≡ spec.taken self.old rule (map token_view found.now)) }
+    {
+        match rule {
+            Rule::Opening => self.open(alloc, found),
+            Rule::InputPort => self.port(alloc, found, true),
+            Rule::OutputPort => self.port(alloc, found, false),
+            Rule::RegRange | Rule::ArrayRange => self.range(found),
+            Rule::RegDeclared => self.reg(alloc, found),
+            Rule::ArrayDeclared => self.array(alloc, found),
+            Rule::CellHead => self.cell_head(alloc, found),
+            Rule::FirstOperand => self.first_operand(alloc, found),
+            Rule::ConstTerm
+            | Rule::NotTerm
+            | Rule::ReadTerm
+            | Rule::BinTerm
+            | Rule::MuxTerm
+            | Rule::SliceTerm
+            | Rule::CatTerm
+            | Rule::RepTerm => self.cell(alloc, rule, found),
+            Rule::OutputDriven => self.output(alloc, found),
+            Rule::BlockHead | Rule::ArrayHead => self.block_head(found),
+            Rule::RegDriven => self.reg_block(alloc, found),
+            Rule::Written => self.write(alloc, found),
+            Rule::ArrayEnd => self.array_block(alloc),
+            Rule::NextPort | Rule::Closing | Rule::OpenTerm | Rule::ArrayBegin | Rule::Ending => Ok(
+                (),
+            ),
+        }
+    }
+
+    // The module and the reset.
+    fn open(&mut self, alloc: Global, found: &[Token<'_>]) -> Result<(), NoMemory>
+        ensures { OnOk result (self.new ≡ spec.opened self.old (map token_view found.now)) }
+    {
+        self.file.name = module_at(alloc, found, 1)?;
+        self.file.line = line_at(found, 0);
+        self.file.reset_line = line_at(found, 7);
+        self.file.reset_high = number_at(found, 10);
+        Ok(())
+    }
+
+    fn port(&mut self, alloc: Global, found: &[Token<'_>], input: bool) -> Result<(), NoMemory>
+        ensures { OnOk result (self.new ≡ spec.with_port self.old input (map token_view found.now)) }
+    {
+        self.file.ports.push(PortDecl {
+            line: line_at(found, 0),
+            name: name_at(alloc, found, 7)?,
+            high: number_at(found, 3),
+            input,
+        })
+    }
+
+    fn range(&mut self, found: &[Token<'_>]) -> Result<(), NoMemory>
+        ensures { OnOk result (self.new ≡ spec.with_range self.old (map token_view found.now)) }
+    {
+        self.line = line_at(found, 0);
+        self.high = number_at(found, 2);
+        Ok(())
+    }
+
+    fn reg(&mut self, alloc: Global, found: &[Token<'_>]) -> Result<(), NoMemory>
+        ensures { OnOk result (self.new ≡ spec.with_reg self.old (map token_view found.now)) }
+    {
+        self.file.regs.push(RegDecl {
+            line: self.line,
+            name: name_at(alloc, found, 0)?,
+            high: self.high,
+        })
+    }
+
+    fn array(&mut self, alloc: Global, found: &[Token<'_>]) -> Result<(), NoMemory>
+        ensures { OnOk result (self.new ≡ spec.with_array self.old (map token_view found.now)) }
+    {
+        self.file.arrays.push(ArrayDecl {
+            line: self.line,
+            name: name_at(alloc, found, 0)?,
+            high: self.high,
+            last: number_at(found, 4),
+        })
+    }
+
+    fn cell_head(&mut self, alloc: Global, found: &[Token<'_>]) -> Result<(), NoMemory>
+        ensures { OnOk result (self.new ≡ spec.with_head self.old (map token_view found.now)) }
+    {
+        self.name = name_at(alloc, found, 6)?;
+        self.target = name_at(alloc, found, 9)?;
+        self.line = line_at(found, 8);
+        self.high = number_at(found, 2);
+        Ok(())
+    }
+
+    fn first_operand(&mut self, alloc: Global, found: &[Token<'_>]) -> Result<(), NoMemory>
+        ensures { OnOk result (self.new ≡ spec.with_operand self.old (map token_view found.now)) }
+    {
+        self.operand = name_at(alloc, found, 0)?;
+        Ok(())
+    }
+
+    // The term that a rule ends.
+    fn term(&self, alloc: Global, rule: Rule, found: &[Token<'_>]) -> Result<Term, NoMemory>
+        ensures { IfOk result (λ t. t ≡ spec.term self.now.operand rule (map token_view found.now)) }
+    {
+        Ok(match rule {
+            Rule::NotTerm => Term::Not(name_at(alloc, found, 1)?),
+            Rule::ReadTerm => Term::Read {
+                array: name_at(alloc, found, 0)?,
+                addr: name_at(alloc, found, 2)?,
+            },
+            Rule::CatTerm => Term::Cat(name_at(alloc, found, 0)?, name_at(alloc, found, 2)?),
+            Rule::RepTerm => Term::Rep {
+                count: number_at(found, 0),
+                a: name_at(alloc, found, 2)?,
+            },
+            Rule::BinTerm => Term::Bin(
+                operator_at(found, 0),
+                self.operand.clone()?,
+                name_at(alloc, found, 1)?,
+            ),
+            Rule::MuxTerm => Term::Mux(
+                self.operand.clone()?,
+                name_at(alloc, found, 1)?,
+                name_at(alloc, found, 3)?,
+            ),
+            Rule::SliceTerm => Term::Slice {
+                a: self.operand.clone()?,
+                high: number_at(found, 1),
+                low: number_at(found, 3),
+            },
+            _ => {
+                let constant = constant_at(found, 0);
+                Term::Const {
+                    width: constant.width,
+                    value: constant.value,
+                }
+            }
+        })
+    }
+
+    fn cell(&mut self, alloc: Global, rule: Rule, found: &[Token<'_>]) -> Result<(), NoMemory>
+        ensures { OnOk result (self.new ≡ spec.with_cell self.old rule (map token_view found.now)) }
+    {
+        let term = self.term(alloc, rule, found)?;
+        self.file.cells.push(CellDecl {
+            line: self.line,
+            name: self.name.clone()?,
+            high: self.high,
+            target: self.target.clone()?,
+            term,
+        })
+    }
+
+    fn output(&mut self, alloc: Global, found: &[Token<'_>]) -> Result<(), NoMemory>
+        ensures { OnOk result (self.new ≡ spec.with_output self.old (map token_view found.now)) }
+    {
+        self.file.outputs.push(OutputDecl {
+            line: line_at(found, 0),
+            port: name_at(alloc, found, 1)?,
+            source: name_at(alloc, found, 3)?,
+        })
+    }
+
+    fn block_head(&mut self, found: &[Token<'_>]) -> Result<(), NoMemory>
+        ensures { OnOk result (self.new ≡ spec.with_block self.old (map token_view found.now)) }
+    {
+        self.line = line_at(found, 0);
+        Ok(())
+    }
+
+    fn reg_block(&mut self, alloc: Global, found: &[Token<'_>]) -> Result<(), NoMemory>
+        ensures { OnOk result (self.new ≡ spec.with_reg_block self.old (map token_view found.now)) }
+    {
+        let constant = constant_at(found, 4);
+        self.file.reg_blocks.push(RegBlock {
+            line: self.line,
+            reg: name_at(alloc, found, 0)?,
+            width: constant.width,
+            reset: constant.value,
+            source: name_at(alloc, found, 6)?,
+        })
+    }
+
+    fn write(&mut self, alloc: Global, found: &[Token<'_>]) -> Result<(), NoMemory>
+        ensures { OnOk result (self.new ≡ spec.with_write self.old (map token_view found.now)) }
+    {
+        self.writes.push(WriteDecl {
+            line: line_at(found, 0),
+            enable: name_at(alloc, found, 2)?,
+            array: name_at(alloc, found, 4)?,
+            addr: name_at(alloc, found, 6)?,
+            value: name_at(alloc, found, 9)?,
+        })
+    }
+
+    // Ends a block that writes to an array.
+    fn array_block(&mut self, alloc: Global) -> Result<(), NoMemory>
+        ensures { OnOk result (self.new ≡ spec.with_array_block self.old) }
+    {
+        let writes = mem::replace(&mut self.writes, Seq::new(alloc));
+        self.file.array_blocks.push(ArrayBlock {
+            line: self.line,
+            writes,
+        })
+    }
+}
