@@ -12,8 +12,8 @@ use Rattle.pdl_check.specs.Memories.{infos_of}
 use Rattle.pdl_image.specs.Images.{IsImage}
 use Rattle.pdl_net.specs.declared.Netlist.{Netlist}
 use Rattle.pdl_net.specs.Pipe.{IsWellFormed}
-use Rattle.pdl_refine.specs.Accepted.{Checked, Text}
-use Rattle.pdl_refine.proofs.Runs.{stated_refines, stated_advances, stated_paces}
+use Rattle.pdl_facts.specs.Accepted.{Checked, Text}
+use Rattle.pdl_linear.proofs.Runs.{stated_refines, stated_advances, stated_paces}
 use Rattle.pdl_promise.proofs.InLine.{checked_of, text_of}
 use Rattle.pdl_trunk.specs.Runs.{column_of, ShowsMachine, ShowsTurns}
 use Rattle.pdl_trunk.proofs.WellFormedNames.{Among}

@@ -5,17 +5,17 @@ use Rattle.pdl_model.specs.Stages.{list_any, verify_stage, stage_at}
 use Rattle.pdl_model.specs.Machine.{State, Request, NoRequest, Owned, Orphan, Pending, lock_of, request_of}
 use Rattle.pdl_model.specs.Sound.{live, all_pairs, all_from, in_order, linked, certain_after, asks_right, is_barrier, stays_ready, on_path, has_done, past_stmts}
 use Rattle.pdl_model.specs.Sound
-use Rattle.pdl_refine.specs.Derived.{latest}
-use Rattle.pdl_refine.specs.Derived
-use Rattle.pdl_refine.specs.Facts.{Sound}
-use Rattle.pdl_refine.proofs.CourseOf
-use Rattle.pdl_refine.proofs.Joined.{sound_flows}
-use Rattle.pdl_refine.proofs.Lists.{pend}
-use Rattle.pdl_refine.proofs.Shapes.{Behind, on_way}
-use Rattle.pdl_refine.proofs.Seats.{Live, Each, each_map, Ordered, Falls, falls_each, pends, befores_are}
-use Rattle.pdl_refine.proofs.Choices.{AllKnown, Seated, Matched}
-use Rattle.pdl_refine.proofs.Telling.{sides}
-use Rattle.pdl_refine.proofs.Together.{Sim, HaveMade, known}
+use Rattle.pdl_derived.specs.Derived.{latest}
+use Rattle.pdl_derived.specs.Derived
+use Rattle.pdl_facts.specs.Facts.{Sound}
+use Rattle.pdl_turns.proofs.CourseOf
+use Rattle.pdl_simulation.proofs.Joined.{sound_flows}
+use Rattle.pdl_derived.proofs.Lists.{pend}
+use Rattle.pdl_simulation.proofs.Stretches.{Behind, on_way}
+use Rattle.pdl_simulation.proofs.Seats.{Live, Each, each_map, Ordered, Falls, falls_each, pends, befores_are}
+use Rattle.pdl_simulation.proofs.Choices.{AllKnown, Seated, Matched}
+use Rattle.pdl_simulation.proofs.Telling.{sides}
+use Rattle.pdl_simulation.proofs.Together.{Sim, HaveMade, known}
 use Rattle.pdl_invariant.proofs.OldestFirst.{told, oldest_first, live_is, all_each, Pairwise, pairs_all}
 use Rattle.pdl_invariant.proofs.Stage.{barred}
 use Rattle.pdl_invariant.proofs.Lasting.{Lasting, Along}

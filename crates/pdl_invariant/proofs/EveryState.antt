@@ -5,26 +5,26 @@ use Rattle.pdl_model.specs.Stages.{verify_stage}
 use Rattle.pdl_model.specs.Machine.{State, request_of, lock_of}
 use Rattle.pdl_model.specs.Cycle.{first, state_after}
 use Rattle.pdl_model.specs.Sound.{live, all_pairs, all_from, in_order, linked, certain_after, asks_right, has_owner, stays_ready, past_stmts, on_path}
-use Rattle.pdl_refine.specs.Derived
-use Rattle.pdl_refine.specs.Facts.{Sound}
-use Rattle.pdl_refine.proofs.CourseOf.{course}
-use Rattle.pdl_refine.proofs.Follows
-use Rattle.pdl_refine.proofs.Spots.{Spot, seats, is_nil}
-use Rattle.pdl_refine.proofs.Slots.{rev}
-use Rattle.pdl_refine.proofs.Seats.{Live, threads_of}
-use Rattle.pdl_refine.proofs.Together.{Sim}
+use Rattle.pdl_derived.specs.Derived
+use Rattle.pdl_facts.specs.Facts.{Sound}
+use Rattle.pdl_turns.proofs.CourseOf.{course}
+use Rattle.pdl_refinement.proofs.Follows
+use Rattle.pdl_refinement.proofs.Spots.{Spot, seats, is_nil}
+use Rattle.pdl_derived.proofs.Slots.{rev}
+use Rattle.pdl_simulation.proofs.Seats.{Live, threads_of}
+use Rattle.pdl_simulation.proofs.Together.{Sim}
 use Rattle.pdl_model.specs.Machine.{same_args}
 use Rattle.pdl_model.specs.Sound
 use Rattle.pdl_model.specs.Cycle
 use Rattle.pdl_model.specs.Sequential.{after_turns, writes_from}
 use Rattle.pdl_model.specs.Sound.{Follower, followers, followers_of, once_answered, turn_so_far}
 use Rattle.pdl_model.specs.Flat.{of_mem, Commit}
-use Rattle.pdl_refine.proofs.Writes.{row_committed}
-use Rattle.pdl_refine.proofs.Joined.{sound_flows}
-use Rattle.pdl_refine.proofs.Carried.{ended_same}
-use Rattle.pdl_refine.proofs.Together.{same_turns}
-use Rattle.pdl_refine.proofs.Lives.{RowsAt}
-use Rattle.pdl_refine.proofs.Choices.{Seated}
+use Rattle.pdl_derived.proofs.Writes.{row_committed}
+use Rattle.pdl_simulation.proofs.Joined.{sound_flows}
+use Rattle.pdl_simulation.proofs.Carried.{ended_same}
+use Rattle.pdl_simulation.proofs.Together.{same_turns}
+use Rattle.pdl_turns.proofs.Lives.{RowsAt}
+use Rattle.pdl_simulation.proofs.Choices.{Seated}
 use Rattle.pdl_model.specs.Promises.{row}
 use Rattle.pdl_invariant.specs.Strict.{Strict}
 use Rattle.pdl_invariant.proofs.Reached.{Whole, reached}

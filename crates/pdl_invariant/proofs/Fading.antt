@@ -5,21 +5,22 @@ use Rattle.pdl_model.specs.Flat.{Pipe, Op, Bind, CombRead, DelayedRead, Write, R
 use Rattle.pdl_model.specs.Stages.{in_stage, stage_at, goes_to, is_reserve, is_release, reserve_stage, commit_stage}
 use Rattle.pdl_model.specs.Locks.{Latest, Nothing, as_latest, is_nothing, is_coming, read_ready, write_ready}
 use Rattle.pdl_model.specs.Machine.{State, same_args}
-use Rattle.pdl_refine.specs.Derived.{Entry, Work, Around, does, do_all, filled, without, latest_in, latest, works, around}
-use Rattle.pdl_refine.specs.Derived
-use Rattle.pdl_refine.specs.Scans.{none_of, Phase, Fresh, Held, Written, Done}
-use Rattle.pdl_refine.proofs.FlowFacts.{Flows, stage_or}
-use Rattle.pdl_refine.proofs.Writes.{and_left, and_right}
-use Rattle.pdl_refine.proofs.Entries.{entries_of, filled_own, filled_other, without_own, without_other}
-use Rattle.pdl_refine.proofs.Marks.{latest_own}
-use Rattle.pdl_refine.proofs.Stages.{step}
-use Rattle.pdl_refine.proofs.Turn.{none_in_stage}
-use Rattle.pdl_refine.proofs.Shapes.{Shape, Behind, late, start_of}
-use Rattle.pdl_refine.proofs.Seats.{Live, threads_of, Each, Ordered, dacts, did, now_of, work_of_live}
-use Rattle.pdl_refine.proofs.Choices.{AllKnown, ends_here}
-use Rattle.pdl_refine.proofs.Turned.{fell, moved_live, stood, go_on}
-use Rattle.pdl_refine.proofs.Placed.{ways_on, behind_stay}
-use Rattle.pdl_refine.proofs.Placed
+use Rattle.pdl_derived.specs.Derived.{Entry, Work, Around, does, do_all, filled, without, latest_in, latest, works, around}
+use Rattle.pdl_derived.specs.Derived
+use Rattle.pdl_facts.specs.Scans.{none_of, Phase, Fresh, Held, Written, Done}
+use Rattle.pdl_simulation.proofs.FlowFacts.{Flows, stage_or}
+use Rattle.pdl_derived.proofs.Writes.{and_left, and_right}
+use Rattle.pdl_derived.proofs.Entries.{entries_of, filled_own, filled_other, without_own, without_other}
+use Rattle.pdl_turns.proofs.Marks.{latest_own}
+use Rattle.pdl_derived.proofs.Stages.{step}
+use Rattle.pdl_turns.proofs.Turn.{none_in_stage}
+use Rattle.pdl_simulation.proofs.Shapes.{Shape}
+use Rattle.pdl_simulation.proofs.Stretches.{Behind, late, start_of}
+use Rattle.pdl_simulation.proofs.Seats.{Live, threads_of, Each, Ordered, dacts, did, now_of, work_of_live}
+use Rattle.pdl_simulation.proofs.Choices.{AllKnown, ends_here}
+use Rattle.pdl_simulation.proofs.Turned.{fell, moved_live, stood, go_on}
+use Rattle.pdl_simulation.proofs.Placed.{ways_on, behind_stay}
+use Rattle.pdl_simulation.proofs.Placed
 
 -- the second says no less ready a thing than the first
 abbrev pub Calm : Latest → Latest → Type 0

@@ -11,27 +11,27 @@ use Rattle.pdl_model.specs.Sequential.{Run, thread, after_turns, writes_from}
 use Rattle.pdl_model.specs.Promises.{wrote, row}
 use Rattle.pdl_model.specs.Sound.{Follower, followers_of, guessed_wrong, has_done, is_spec_call, once_answered, awaited_words, request_address, turn_so_far}
 use Rattle.pdl_model.specs.Sound
-use Rattle.pdl_refine.specs.Derived.{asked_at}
-use Rattle.pdl_refine.specs.Derived
-use Rattle.pdl_refine.specs.Alone.{so_far}
-use Rattle.pdl_refine.specs.Scans.{is_plain}
-use Rattle.pdl_refine.specs.Facts.{Sound, at_once}
-use Rattle.pdl_refine.proofs.Writes.{wrote_append}
-use Rattle.pdl_refine.proofs.Whole
-use Rattle.pdl_refine.proofs.Slots.{rev}
-use Rattle.pdl_refine.proofs.Guesses.{same_args_refl}
-use Rattle.pdl_refine.proofs.Marks.{seen, strips, ready_value}
-use Rattle.pdl_refine.proofs.Pending.{marks}
-use Rattle.pdl_refine.proofs.TurnFacts.{right_guess}
-use Rattle.pdl_refine.proofs.Answering.{AllAsks, caught}
-use Rattle.pdl_refine.proofs.Sounds.{caught_other}
-use Rattle.pdl_refine.proofs.CourseOf.{course}
-use Rattle.pdl_refine.proofs.Lives.{Writes, Marks, RowsAt}
-use Rattle.pdl_refine.proofs.Cycles.{rows_next}
-use Rattle.pdl_refine.proofs.Spots.{Spot, seat, seats, Sure, Here, Standing, Tail, Last, exact_none}
-use Rattle.pdl_refine.proofs.Shapes.{on_way, awaits_var}
-use Rattle.pdl_refine.proofs.Seats.{Live, threads_of, Each}
-use Rattle.pdl_refine.proofs.Choices.{Seated, Matched, OwnedBy, AllOwned}
+use Rattle.pdl_derived.specs.Derived.{asked_at}
+use Rattle.pdl_derived.specs.Derived
+use Rattle.pdl_derived.specs.Alone.{so_far}
+use Rattle.pdl_facts.specs.Scans.{is_plain}
+use Rattle.pdl_facts.specs.Facts.{Sound, at_once}
+use Rattle.pdl_derived.proofs.Writes.{wrote_append}
+use Rattle.pdl_turns.proofs.Whole
+use Rattle.pdl_derived.proofs.Slots.{rev}
+use Rattle.pdl_turns.proofs.Guesses.{same_args_refl}
+use Rattle.pdl_turns.proofs.Marks.{seen, strips, ready_value}
+use Rattle.pdl_turns.proofs.Pending.{marks}
+use Rattle.pdl_turns.proofs.TurnFacts.{right_guess}
+use Rattle.pdl_derived.proofs.Answering.{AllAsks, caught}
+use Rattle.pdl_turns.proofs.Sounds.{caught_other}
+use Rattle.pdl_turns.proofs.CourseOf.{course}
+use Rattle.pdl_turns.proofs.Lives.{Writes, Marks, RowsAt}
+use Rattle.pdl_refinement.proofs.Cycles.{rows_next}
+use Rattle.pdl_refinement.proofs.Spots.{Spot, seat, seats, Sure, Here, Standing, Tail, Last, exact_none}
+use Rattle.pdl_simulation.proofs.Stretches.{on_way, awaits_var}
+use Rattle.pdl_simulation.proofs.Seats.{Live, threads_of, Each}
+use Rattle.pdl_simulation.proofs.Choices.{Seated, Matched, OwnedBy, AllOwned}
 use Rattle.pdl_invariant.proofs.OldestFirst.{told, oldest_first}
 use Rattle.pdl_invariant.proofs.OnTurn.{turn_way, turn_env, turn_guess, turn_wrong}
 

@@ -4,14 +4,14 @@ use Rattle.pdl_model.specs.Flat.{Pipe}
 use Rattle.pdl_model.specs.Machine.{State, Pending, Place, lock_of, same_args}
 use Rattle.pdl_model.specs.Sound.{live, all_from, held_of, holders, owners, holds}
 use Rattle.pdl_model.specs.Sound
-use Rattle.pdl_refine.specs.Derived.{Entry}
-use Rattle.pdl_refine.specs.Derived
-use Rattle.pdl_refine.specs.Facts.{Sound}
-use Rattle.pdl_refine.proofs.Guesses.{same_args_refl}
-use Rattle.pdl_refine.proofs.Deeds.{places}
-use Rattle.pdl_refine.proofs.Lists.{own, pend}
-use Rattle.pdl_refine.proofs.Seats.{Live, Each, each_map, pends}
-use Rattle.pdl_refine.proofs.Together.{Sim}
+use Rattle.pdl_derived.specs.Derived.{Entry}
+use Rattle.pdl_derived.specs.Derived
+use Rattle.pdl_facts.specs.Facts.{Sound}
+use Rattle.pdl_turns.proofs.Guesses.{same_args_refl}
+use Rattle.pdl_derived.proofs.Deeds.{places}
+use Rattle.pdl_derived.proofs.Lists.{own, pend}
+use Rattle.pdl_simulation.proofs.Seats.{Live, Each, each_map, pends}
+use Rattle.pdl_simulation.proofs.Together.{Sim}
 use Rattle.pdl_invariant.proofs.OldestFirst.{told, oldest_first}
 use Rattle.pdl_invariant.proofs.Order.{from_all}
 use Rattle.pdl_invariant.proofs.Reached.{Whole}

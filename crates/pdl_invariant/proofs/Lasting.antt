@@ -9,22 +9,22 @@ use Rattle.pdl_model.specs.Cycle.{awaited_of, squasher, stays}
 use Rattle.pdl_model.specs.Sound.{is_barrier}
 use Rattle.pdl_model.specs.Cycle
 use Rattle.pdl_model.specs.Machine
-use Rattle.pdl_refine.specs.Derived.{Work, Around, works, around, befores, still, find_ask, latest}
-use Rattle.pdl_refine.specs.Derived
-use Rattle.pdl_refine.specs.Scans.{none_of}
-use Rattle.pdl_refine.specs.Facts.{Sound, trunk_only}
-use Rattle.pdl_refine.proofs.Writes.{and_left, and_right}
-use Rattle.pdl_refine.proofs.FlowFacts.{Flows}
-use Rattle.pdl_refine.proofs.Joined.{sound_flows}
-use Rattle.pdl_refine.proofs.Answering.{AllAsks, found}
-use Rattle.pdl_refine.proofs.CourseOf.{apart_asks}
-use Rattle.pdl_refine.proofs.Shapes.{Behind, AsksFrom, AllFetched, fixed_here, start_of, on_way, Keeps}
-use Rattle.pdl_refine.proofs.Seats.{Live, threads_of, Each, each_map, Ordered, dacts, lacts, did, now_of, work_of_live, befores_are}
-use Rattle.pdl_refine.proofs.Choices.{Known, AllKnown, keeps_now, told_here, asks_here}
-use Rattle.pdl_refine.proofs.Turned.{fell, moved_one, stood, next_live, go_on}
-use Rattle.pdl_refine.proofs.Placed.{each_append, each_next, leads_of}
-use Rattle.pdl_refine.proofs.Asked.{asking}
-use Rattle.pdl_refine.proofs.Together.{Sim, fetch_low, request_stays, request_made}
+use Rattle.pdl_derived.specs.Derived.{Work, Around, works, around, befores, still, find_ask, latest}
+use Rattle.pdl_derived.specs.Derived
+use Rattle.pdl_facts.specs.Scans.{none_of}
+use Rattle.pdl_facts.specs.Facts.{Sound, trunk_only}
+use Rattle.pdl_derived.proofs.Writes.{and_left, and_right}
+use Rattle.pdl_simulation.proofs.FlowFacts.{Flows}
+use Rattle.pdl_simulation.proofs.Joined.{sound_flows}
+use Rattle.pdl_derived.proofs.Answering.{AllAsks, found}
+use Rattle.pdl_turns.proofs.CourseOf.{apart_asks}
+use Rattle.pdl_simulation.proofs.Stretches.{Behind, AsksFrom, AllFetched, fixed_here, start_of, on_way, Keeps}
+use Rattle.pdl_simulation.proofs.Seats.{Live, threads_of, Each, each_map, Ordered, dacts, lacts, did, now_of, work_of_live, befores_are}
+use Rattle.pdl_simulation.proofs.Choices.{Known, AllKnown, keeps_now, told_here, asks_here}
+use Rattle.pdl_simulation.proofs.Turned.{fell, moved_one, stood, next_live, go_on}
+use Rattle.pdl_simulation.proofs.Placed.{each_append, each_next, leads_of}
+use Rattle.pdl_simulation.proofs.Asked.{asking}
+use Rattle.pdl_simulation.proofs.Together.{Sim, fetch_low, request_stays, request_made}
 use Rattle.pdl_invariant.specs.Strict.{Strict}
 use Rattle.pdl_invariant.proofs.Past.{AllOps, ops_map, ops_both, onto, BlockOk, Past, Kind}
 use Rattle.pdl_invariant.proofs.Trails.{AllStmts, stmts_map, stmts_both, ops_stmts, Among, among_low}

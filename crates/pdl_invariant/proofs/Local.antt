@@ -9,19 +9,20 @@ use Rattle.pdl_model.specs.Machine.{Ask, Awaited, Kept, same_args, with_kept, St
 use Rattle.pdl_model.specs.Cycle.{awaited_of}
 use Rattle.pdl_model.specs.Sound.{one_of, is_fetch, stages_from}
 use Rattle.pdl_model.specs.Machine
-use Rattle.pdl_refine.specs.Derived.{Entry, Work, Around, does, do_all, works}
-use Rattle.pdl_refine.specs.Derived
-use Rattle.pdl_refine.specs.Alone.{is_call}
-use Rattle.pdl_refine.specs.Scans.{none_of, binds, called}
-use Rattle.pdl_refine.specs.Facts.{Sound, fetches}
-use Rattle.pdl_refine.proofs.Writes.{and_left}
-use Rattle.pdl_refine.proofs.FlowFacts.{Flows, calls_ok, next_of, stage_or}
-use Rattle.pdl_refine.proofs.Stages.{step}
-use Rattle.pdl_refine.proofs.Paths.{Fixed, all_stays}
-use Rattle.pdl_refine.proofs.Answering.{AllAsks, all_more}
-use Rattle.pdl_refine.proofs.Sounds.{asks_each, not_fetched}
-use Rattle.pdl_refine.proofs.Roams.{none_stage_from, fetch_binds}
-use Rattle.pdl_refine.proofs.Shapes.{Keeps, on_way, start_of, fixed_here, way_next, calls_front, calls_back}
+use Rattle.pdl_derived.specs.Derived.{Entry, Work, Around, does, do_all, works}
+use Rattle.pdl_derived.specs.Derived
+use Rattle.pdl_derived.specs.Alone.{is_call}
+use Rattle.pdl_facts.specs.Scans.{none_of, binds, called}
+use Rattle.pdl_facts.specs.Facts.{Sound, fetches}
+use Rattle.pdl_derived.proofs.Writes.{and_left}
+use Rattle.pdl_simulation.proofs.FlowFacts.{Flows, calls_ok, next_of, stage_or}
+use Rattle.pdl_derived.proofs.Stages.{step}
+use Rattle.pdl_turns.proofs.Paths.{Fixed, all_stays}
+use Rattle.pdl_derived.proofs.Answering.{AllAsks, all_more}
+use Rattle.pdl_turns.proofs.Sounds.{asks_each, not_fetched}
+use Rattle.pdl_turns.proofs.Roams.{none_stage_from, fetch_binds}
+use Rattle.pdl_simulation.proofs.Shapes.{calls_front, calls_back}
+use Rattle.pdl_simulation.proofs.Stretches.{Keeps, on_way, start_of, fixed_here, way_next}
 use Rattle.pdl_invariant.specs.Strict.{Strict, all_new}
 use Rattle.pdl_invariant.proofs.Past.{AllOps, ops_both, onto, onto_append, all_new_append, all_new_front, touches, none_touched, Done, done_agrees, set_agrees, AskedBy, AllPlaced, placed_set, BlockOk, Past, Kind, past_all}
 use Rattle.pdl_invariant.proofs.Trails.{AllStmts, stmts_append, stmts_map, stage_stmts, Trail, Among, Steady, trail_same, among_low, among_next}

@@ -5,28 +5,28 @@ use Rattle.pdl_model.specs.Stages.{list_any, onpath, in_stage, is_verify, verify
 use Rattle.pdl_model.specs.Machine.{same_args}
 use Rattle.pdl_model.specs.Sequential.{Run, runs, run_all, thread}
 use Rattle.pdl_model.specs.Sound.{stages_before, is_right_entry, is_write, is_spec_call}
-use Rattle.pdl_refine.specs.Derived.{Entry, Work, does, do_all}
-use Rattle.pdl_refine.specs.Alone.{alone, before, looked, start_work, so_far}
-use Rattle.pdl_refine.specs.Certain.{Making, Unmade, Guessed, Made, next_making, making_all, makings_ok, making_ok, is_guessed, is_unmade}
-use Rattle.pdl_refine.specs.Scans.{Phase, Fresh, Held, Written, Done, next_phase, phase_all, phase_ok, phases_ok, is_fresh, after_release, none_of, binds, fixed, from, no_guards}
-use Rattle.pdl_refine.specs.Facts.{Sound, looked_all, at_once}
-use Rattle.pdl_refine.specs.Accepted.{Accepted, along}
-use Rattle.pdl_refine.proofs.Writes.{and_left, and_right}
-use Rattle.pdl_refine.proofs.Entries.{entries_of, entry, addresses, places}
-use Rattle.pdl_refine.proofs.Phases.{Tied}
-use Rattle.pdl_refine.proofs.Related.{Related, related_step}
-use Rattle.pdl_refine.proofs.Paths.{Fixed, taken_stays, before_path}
-use Rattle.pdl_refine.proofs.Own.{none_second}
-use Rattle.pdl_refine.proofs.Looks.{before_looked, run_looked}
-use Rattle.pdl_refine.proofs.Pending.{is_settled, settled_whole}
-use Rattle.pdl_refine.proofs.Lists.{own}
-use Rattle.pdl_refine.proofs.TurnFacts.{right_guess}
-use Rattle.pdl_refine.proofs.Guesses.{Calls, same_args_refl}
-use Rattle.pdl_refine.proofs.Shapes.{on_way}
-use Rattle.pdl_refine.proofs.Makes
-use Rattle.pdl_refine.proofs.Sounds
-use Rattle.pdl_refine.proofs.Turns
-use Rattle.pdl_refine.proofs.Whole
+use Rattle.pdl_derived.specs.Derived.{Entry, Work, does, do_all}
+use Rattle.pdl_derived.specs.Alone.{alone, before, looked, start_work, so_far}
+use Rattle.pdl_facts.specs.Certain.{Making, Unmade, Guessed, Made, next_making, making_all, makings_ok, making_ok, is_guessed, is_unmade}
+use Rattle.pdl_facts.specs.Scans.{Phase, Fresh, Held, Written, Done, next_phase, phase_all, phase_ok, phases_ok, is_fresh, after_release, none_of, binds, fixed, from, no_guards}
+use Rattle.pdl_facts.specs.Facts.{Sound, looked_all, at_once}
+use Rattle.pdl_facts.specs.Accepted.{Accepted, along}
+use Rattle.pdl_derived.proofs.Writes.{and_left, and_right}
+use Rattle.pdl_derived.proofs.Entries.{entries_of, entry, addresses, places}
+use Rattle.pdl_turns.proofs.Phases.{Tied}
+use Rattle.pdl_turns.proofs.Related.{Related, related_step}
+use Rattle.pdl_turns.proofs.Paths.{Fixed, taken_stays, before_path}
+use Rattle.pdl_turns.proofs.Own.{none_second}
+use Rattle.pdl_turns.proofs.Looks.{before_looked, run_looked}
+use Rattle.pdl_turns.proofs.Pending.{is_settled, settled_whole}
+use Rattle.pdl_derived.proofs.Lists.{own}
+use Rattle.pdl_turns.proofs.TurnFacts.{right_guess}
+use Rattle.pdl_turns.proofs.Guesses.{Calls, same_args_refl}
+use Rattle.pdl_simulation.proofs.Stretches.{on_way}
+use Rattle.pdl_turns.proofs.Makes
+use Rattle.pdl_turns.proofs.Sounds
+use Rattle.pdl_turns.proofs.Turns
+use Rattle.pdl_turns.proofs.Whole
 use Rattle.pdl_invariant.proofs.Stage.{before_stages, way_looked}
 
 -- PATHS

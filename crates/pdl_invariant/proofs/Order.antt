@@ -5,10 +5,10 @@ use Rattle.pdl_model.specs.Flat.{Pipe, Branch}
 use Rattle.pdl_model.specs.Stages.{stage_at}
 use Rattle.pdl_model.specs.Sound.{all_from, other_branch, side_in, sides_in, same_sides}
 use Rattle.pdl_model.specs.Sound
-use Rattle.pdl_refine.proofs.FlowFacts.{Ways}
-use Rattle.pdl_refine.proofs.Shapes.{Behind}
-use Rattle.pdl_refine.proofs.Seats.{Live}
-use Rattle.pdl_refine.proofs.Telling.{sides}
+use Rattle.pdl_simulation.proofs.FlowFacts.{Ways}
+use Rattle.pdl_simulation.proofs.Stretches.{Behind}
+use Rattle.pdl_simulation.proofs.Seats.{Live}
+use Rattle.pdl_simulation.proofs.Telling.{sides}
 use Rattle.pdl_invariant.proofs.OldestFirst.{told, oldest_first}
 use Rattle.pdl_invariant.proofs.Trails.{Trail}
 

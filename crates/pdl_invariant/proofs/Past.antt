@@ -7,15 +7,15 @@ use Rattle.pdl_model.specs.Flat.{Op, Bind, CombRead, DelayedRead, Write, Reserve
 use Rattle.pdl_model.specs.Stages.{onpath}
 use Rattle.pdl_model.specs.Machine.{Ask, same_args}
 use Rattle.pdl_model.specs.Sound.{is_release_at}
-use Rattle.pdl_refine.specs.Derived.{Entry, Work, Around, does, do_all, without, filled, has}
-use Rattle.pdl_refine.specs.Alone.{is_call}
-use Rattle.pdl_refine.specs.Facts.{uses_in, uses_any, mentions, asks_for, silent_on, unseen_op, unseen}
-use Rattle.pdl_refine.specs.Scans.{is_dead}
-use Rattle.pdl_refine.proofs.Writes.{and_left, and_right}
-use Rattle.pdl_refine.proofs.FlowFacts.{call_ok, calls_ok}
-use Rattle.pdl_refine.proofs.Stages.{was_ready}
-use Rattle.pdl_refine.proofs.Paths.{Fixed, dead_none}
-use Rattle.pdl_refine.proofs.Answering.{AllAsks, all_more, all_both, all_snoc}
+use Rattle.pdl_derived.specs.Derived.{Entry, Work, Around, does, do_all, without, filled, has}
+use Rattle.pdl_derived.specs.Alone.{is_call}
+use Rattle.pdl_facts.specs.Facts.{uses_in, uses_any, mentions, asks_for, silent_on, unseen_op, unseen}
+use Rattle.pdl_facts.specs.Scans.{is_dead}
+use Rattle.pdl_derived.proofs.Writes.{and_left, and_right}
+use Rattle.pdl_simulation.proofs.FlowFacts.{call_ok, calls_ok}
+use Rattle.pdl_derived.proofs.Stages.{was_ready}
+use Rattle.pdl_turns.proofs.Paths.{Fixed, dead_none}
+use Rattle.pdl_derived.proofs.Answering.{AllAsks, all_more, all_both, all_snoc}
 use Rattle.pdl_invariant.specs.Strict.{bound_by, uses_own, mentioned, is_new, all_new}
 
 -- LISTS OF STATEMENTS

@@ -7,19 +7,19 @@ use Rattle.pdl_model.specs.Machine.{State, Awaited, Kept, Pending, Place, lock_o
 use Rattle.pdl_model.specs.Moves.{block_ready}
 use Rattle.pdl_model.specs.Sound.{live, all_pairs, all_from, in_order, linked, certain_after, is_kept_or_awaited, asks_right, is_owner, is_barrier, is_release_at, stays_ready, on_path, is_done, right_place, comes_to, is_fetch, holds, has_done}
 use Rattle.pdl_model.specs.Sound
-use Rattle.pdl_refine.specs.Derived.{Entry, has, latest, awaits_mem}
-use Rattle.pdl_refine.specs.Alone.{is_call}
-use Rattle.pdl_refine.specs.Scans.{called}
-use Rattle.pdl_refine.specs.Facts.{Sound}
-use Rattle.pdl_refine.proofs.Joined.{sound_flows}
-use Rattle.pdl_refine.proofs.Guesses.{same_args_refl}
-use Rattle.pdl_refine.proofs.Deeds.{places, places_has}
-use Rattle.pdl_refine.proofs.Lists.{own, pend}
-use Rattle.pdl_refine.proofs.Shapes.{on_way, has_made}
-use Rattle.pdl_refine.proofs.Seats.{Live, threads_of, Each, each_map}
-use Rattle.pdl_refine.proofs.Choices.{Known, AllKnown, Seated, Matched}
-use Rattle.pdl_refine.proofs.Choices
-use Rattle.pdl_refine.proofs.Together.{HaveMade}
+use Rattle.pdl_derived.specs.Derived.{Entry, has, latest, awaits_mem}
+use Rattle.pdl_derived.specs.Alone.{is_call}
+use Rattle.pdl_facts.specs.Scans.{called}
+use Rattle.pdl_facts.specs.Facts.{Sound}
+use Rattle.pdl_simulation.proofs.Joined.{sound_flows}
+use Rattle.pdl_turns.proofs.Guesses.{same_args_refl}
+use Rattle.pdl_derived.proofs.Deeds.{places, places_has}
+use Rattle.pdl_derived.proofs.Lists.{own, pend}
+use Rattle.pdl_simulation.proofs.Stretches.{on_way, has_made}
+use Rattle.pdl_simulation.proofs.Seats.{Live, threads_of, Each, each_map}
+use Rattle.pdl_simulation.proofs.Choices.{Known, AllKnown, Seated, Matched}
+use Rattle.pdl_simulation.proofs.Choices
+use Rattle.pdl_simulation.proofs.Together.{HaveMade}
 use Rattle.pdl_invariant.proofs.OldestFirst.{told, oldest_first, AllLive, live_each}
 use Rattle.pdl_invariant.proofs.Past.{AllOps, onto, BlockOk, Done, AllPlaced, is_released}
 use Rattle.pdl_invariant.proofs.Trails.{AllStmts, stmts_map, stmts_ops, trail_comes}

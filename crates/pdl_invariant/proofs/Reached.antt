@@ -6,24 +6,25 @@ use Rattle.pdl_model.specs.Machine.{State}
 use Rattle.pdl_model.specs.Moves.{movers}
 use Rattle.pdl_model.specs.Cycle.{squasher, stays, state_after, cycle, first}
 use Rattle.pdl_model.specs.Cycle
-use Rattle.pdl_refine.specs.Derived.{Work, find_ask, fresh, around}
-use Rattle.pdl_refine.specs.Derived
-use Rattle.pdl_refine.specs.Alone.{is_call}
-use Rattle.pdl_refine.specs.Certain.{Unmade, next_making, making_all, is_made}
-use Rattle.pdl_refine.specs.Scans.{called}
-use Rattle.pdl_refine.specs.Facts.{Sound}
-use Rattle.pdl_refine.proofs.Writes.{and_left, and_right}
-use Rattle.pdl_refine.proofs.FlowFacts.{call_ok, calls_ok, next_of, stage_or}
-use Rattle.pdl_refine.proofs.Joined.{sound_flows}
-use Rattle.pdl_refine.proofs.Looks.{path_looked}
-use Rattle.pdl_refine.proofs.Roams.{making_looked}
-use Rattle.pdl_refine.proofs.Shapes.{on_way, has_made, way_next, called_append, fixed_here, start_of}
-use Rattle.pdl_refine.proofs.Seats.{Live, threads_of, Ordered, dacts, lacts, did, now_of, work_of_live}
-use Rattle.pdl_refine.proofs.Choices.{Known, AllKnown, keeps_now}
-use Rattle.pdl_refine.proofs.Turned.{fell, moved_live, stood, go_on, Agrees}
-use Rattle.pdl_refine.proofs.Onward.{made, childed_here, born_live, lives_next}
-use Rattle.pdl_refine.proofs.Asked.{Asker, asking, one_asks, first_of}
-use Rattle.pdl_refine.proofs.Together.{Sim, known, fit, after_is, cycle_sim, first_sim, first_live}
+use Rattle.pdl_derived.specs.Derived.{Work, find_ask, fresh, around}
+use Rattle.pdl_derived.specs.Derived
+use Rattle.pdl_derived.specs.Alone.{is_call}
+use Rattle.pdl_facts.specs.Certain.{Unmade, next_making, making_all, is_made}
+use Rattle.pdl_facts.specs.Scans.{called}
+use Rattle.pdl_facts.specs.Facts.{Sound}
+use Rattle.pdl_derived.proofs.Writes.{and_left, and_right}
+use Rattle.pdl_simulation.proofs.FlowFacts.{call_ok, calls_ok, next_of, stage_or}
+use Rattle.pdl_simulation.proofs.Joined.{sound_flows}
+use Rattle.pdl_turns.proofs.Looks.{path_looked}
+use Rattle.pdl_turns.proofs.Roams.{making_looked}
+use Rattle.pdl_simulation.proofs.Shapes.{called_append}
+use Rattle.pdl_simulation.proofs.Stretches.{on_way, has_made, way_next, fixed_here, start_of}
+use Rattle.pdl_simulation.proofs.Seats.{Live, threads_of, Ordered, dacts, lacts, did, now_of, work_of_live}
+use Rattle.pdl_simulation.proofs.Choices.{Known, AllKnown, keeps_now}
+use Rattle.pdl_simulation.proofs.Turned.{fell, moved_live, stood, go_on, Agrees}
+use Rattle.pdl_simulation.proofs.Onward.{made, childed_here, born_live, lives_next}
+use Rattle.pdl_simulation.proofs.Asked.{Asker, asking, one_asks, first_of}
+use Rattle.pdl_simulation.proofs.Together.{Sim, known, fit, after_is, cycle_sim, first_sim, first_live}
 use Rattle.pdl_invariant.specs.Strict.{Strict}
 use Rattle.pdl_invariant.proofs.Past.{AllOps, onto, BlockOk}
 use Rattle.pdl_invariant.proofs.Local.{local_fresh}

@@ -5,17 +5,17 @@ use Rattle.pdl_model.specs.Stages.{onpath, reserve_stage, mem_at}
 use Rattle.pdl_model.specs.Locks.{read_ready, write_ready}
 use Rattle.pdl_model.specs.Machine.{Kept, same_args, with_kept}
 use Rattle.pdl_model.specs.Sound.{stages_before, is_barrier}
-use Rattle.pdl_refine.specs.Derived.{Entry, Work, Around, does, do_all, has, latest}
-use Rattle.pdl_refine.specs.Derived
-use Rattle.pdl_refine.specs.Alone.{is_call, before, looked}
-use Rattle.pdl_refine.specs.Scans.{Scan, no_scan, opens, op_ok, reads_ok, no_guards, called}
-use Rattle.pdl_refine.specs.Facts.{Sound, looked_all, at_once}
-use Rattle.pdl_refine.specs.Accepted.{along}
-use Rattle.pdl_refine.proofs.Writes.{and_left, and_right}
-use Rattle.pdl_refine.proofs.Stages.{step, was_ready}
-use Rattle.pdl_refine.proofs.Paths.{Fixed, before_path}
-use Rattle.pdl_refine.proofs.Looks.{look, path_looked, before_looked}
-use Rattle.pdl_refine.proofs.Shapes.{on_way}
+use Rattle.pdl_derived.specs.Derived.{Entry, Work, Around, does, do_all, has, latest}
+use Rattle.pdl_derived.specs.Derived
+use Rattle.pdl_derived.specs.Alone.{is_call, before, looked}
+use Rattle.pdl_facts.specs.Scans.{Scan, no_scan, opens, op_ok, reads_ok, no_guards, called}
+use Rattle.pdl_facts.specs.Facts.{Sound, looked_all, at_once}
+use Rattle.pdl_facts.specs.Accepted.{along}
+use Rattle.pdl_derived.proofs.Writes.{and_left, and_right}
+use Rattle.pdl_derived.proofs.Stages.{step, was_ready}
+use Rattle.pdl_turns.proofs.Paths.{Fixed, before_path}
+use Rattle.pdl_turns.proofs.Looks.{look, path_looked, before_looked}
+use Rattle.pdl_simulation.proofs.Stretches.{on_way}
 use Rattle.pdl_invariant.proofs.Past.{AllOps, ops_both, touches, onto, BlockOk, block_set}
 use Rattle.pdl_invariant.proofs.Trails.{AllStmts}
 use Rattle.pdl_invariant.proofs.Local.{AllKept}

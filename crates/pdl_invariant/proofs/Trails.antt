@@ -4,7 +4,7 @@ use Rattle.std.proofs.lemmas.Bool.{eqb-true}
 use Rattle.pdl_model.specs.Flat.{Op, Stmt, Pipe, Next, Ends, Goes, Forks, taken}
 use Rattle.pdl_model.specs.Stages.{onpath, in_stage, stage_at, goes_to}
 use Rattle.pdl_model.specs.Sound.{one_of, comes_to}
-use Rattle.pdl_refine.proofs.FlowFacts.{Ways}
+use Rattle.pdl_simulation.proofs.FlowFacts.{Ways}
 use Rattle.pdl_invariant.proofs.Past.{AllOps, onto}
 
 -- STATEMENTS

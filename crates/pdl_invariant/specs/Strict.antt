@@ -3,8 +3,8 @@ use Rattle.std.specs.Prelude.{◌≡◌, ℕ, Bool, true, false, ◌&&◌, ◌||
 use Rattle.pdl_model.specs.Flat.{Op, Bind, CombRead, DelayedRead, Block, Stmt, Pipe, start_env}
 use Rattle.pdl_model.specs.Stages.{list_any, onpath}
 use Rattle.pdl_model.specs.Sound.{is_release_at}
-use Rattle.pdl_refine.specs.Facts.{uses_in, mentions}
-use Rattle.pdl_refine.specs.SoundChecks.{all_paths, all_guards}
+use Rattle.pdl_facts.specs.Facts.{uses_in, mentions}
+use Rattle.pdl_facts.specs.SoundChecks.{all_paths, all_guards}
 
 -- the variable that a statement binds
 abbrev pub bound_by : Op → Option ℕ

@@ -9,7 +9,7 @@ ghost use Rattle.pdl_model.specs.Stages.{verify_stage};
 ghost use Rattle.pdl_model.specs.Machine.{request_of, lock_of, same_args};
 ghost use Rattle.pdl_model.specs.Cycle.{first, state_after, turns, ended_in};
 ghost use Rattle.pdl_model.specs.Sound.{live, all_pairs, all_from, in_order, linked, certain_after, asks_right, has_owner, stays_ready, past_stmts, on_path, owners, holders, followers, once_answered, turn_so_far};
-ghost use Rattle.pdl_refine.specs.Facts.{Sound};
+ghost use Rattle.pdl_facts.specs.Facts.{Sound};
 ghost use Rattle.pdl_invariant.specs.Strict.{Strict};
 
 /// The points of Sound state that hold of all live threads, whatever their guess: their order and the forks' lists, who has made its successor, certainty behind a barrier, requests, blocks that stay ready, and each thread's path.

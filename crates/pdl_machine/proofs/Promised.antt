@@ -10,7 +10,7 @@ use Rattle.pdl_model.specs.Machine.{State}
 use Rattle.pdl_model.specs.Cycle as stated
 use Rattle.pdl_rules.specs.Refusal.{KeepsRules, is_in_line}
 use Rattle.pdl_model.specs.Promises.{Refines, Advances, KeepsPace}
-use Rattle.pdl_refine.proofs.Runs.{stated_refines, stated_advances, stated_paces}
+use Rattle.pdl_linear.proofs.Runs.{stated_refines, stated_advances, stated_paces}
 use Rattle.pdl_promise.proofs.InLine.{checked_of, text_of}
 use Rattle.pdl_check.specs.Queues.{is_queue, is_queued, all_queued}
 use Rattle.pdl_machine.specs.Setup.{IsQueue, AreQueues}

@@ -7,8 +7,8 @@ use Rattle.pdl_model.specs.Flatten.{Var, var_of, mem_of, flat_expr, flat_exprs, 
 use Rattle.pdl_model.specs.Flatten
 use Rattle.pdl_model.specs.Stages.{onpath}
 use Rattle.pdl_rules.specs.Places.{Place, Guard, on_path}
-use Rattle.pdl_refine.specs.Alone.{looked}
-use Rattle.pdl_refine.specs.Facts.{looked_all}
+use Rattle.pdl_derived.specs.Alone.{looked}
+use Rattle.pdl_facts.specs.Facts.{looked_all}
 use Rattle.pdl_stagefacts.proofs.Sites.{Site, place_of, own_of, own, owns, All}
 
 -- WHAT A STATEMENT DOES

@@ -14,8 +14,8 @@ use Rattle.pdl_rules.specs.Stages.{stages_that, stage_of}
 use Rattle.pdl_rules.specs.Speculation.{is_verify, verifies, is_once_after}
 use Rattle.pdl_rules.proofs.Once.{any_weaker, any_front, any_last, bytes_same, bytes_refl, bytes_sym, counted, count_push, count_cons, weight}
 use Rattle.pdl_rules.proofs.Defined.{any_split}
-use Rattle.pdl_refine.specs.Alone.{looked}
-use Rattle.pdl_refine.specs.Certain.{Making, Unmade, Guessed, Made, next_making, making_all, is_unmade, is_guessed, is_made, making_ok, makings_ok, stands_at, stands_before}
+use Rattle.pdl_derived.specs.Alone.{looked}
+use Rattle.pdl_facts.specs.Certain.{Making, Unmade, Guessed, Made, next_making, making_all, is_unmade, is_guessed, is_made, making_ok, makings_ok, stands_at, stands_before}
 use Rattle.pdl_pathfacts.proofs.Along
 use Rattle.pdl_pathfacts.proofs.Along.{ops_of, seen_ops}
 

@@ -19,9 +19,9 @@ use Rattle.pdl_rules.specs.Speculation
 use Rattle.pdl_rules.specs.Refusal.{KeepsRules}
 use Rattle.pdl_rules.proofs.Once.{any_weaker, counted, count_push, count_cons, count_none, weight, bytes_same, bytes_refl}
 use Rattle.pdl_rules.proofs.Defined.{any_split}
-use Rattle.pdl_refine.specs.Scans
-use Rattle.pdl_refine.specs.Certain.{stands_at, stands_before}
-use Rattle.pdl_refine.proofs.Texts.{no_verify}
+use Rattle.pdl_facts.specs.Scans
+use Rattle.pdl_facts.specs.Certain.{stands_at, stands_before}
+use Rattle.pdl_facts.proofs.Texts.{no_verify}
 use Rattle.pdl_stagefacts.proofs.Sites.{Site, sites_of, front_of, closing, place_of, owns, All, places_all, stmts_are}
 use Rattle.pdl_stagefacts.proofs.Staged.{Staged}
 use Rattle.pdl_model.specs.Flatten.{flat, at_start}

@@ -18,7 +18,7 @@ use Rattle.pdl_rules.specs.Refusal.{KeepsRules}
 use Rattle.pdl_rules.specs.Typed.{is_memory, AreDistinct}
 use Rattle.pdl_rules.proofs.Once.{any_front, any_last, bytes_same, bytes_refl}
 use Rattle.pdl_rules.proofs.Defined.{takes_name}
-use Rattle.pdl_refine.specs.Scans.{is_plain, none_of}
+use Rattle.pdl_facts.specs.Scans.{is_plain, none_of}
 use Rattle.pdl_stagefacts.proofs.Sites.{closing}
 
 -- NUMBERS

@@ -23,13 +23,13 @@ use Rattle.pdl_rules.specs.Refusal.{KeepsRules}
 use Rattle.pdl_rules.specs.Typed.{is_memory}
 use Rattle.pdl_rules.proofs.Straight.{Each}
 use Rattle.pdl_rules.proofs.Once.{KeepsLocks, AreBacked, none_backed, backed_next, reserves_to_write, bytes_same, count_none}
-use Rattle.pdl_refine.specs.Scans.{is_plain, none_of, all_at, reads_ok, no_scan, phases_ok, phase_all, Fresh, is_over}
-use Rattle.pdl_refine.specs.Alone
-use Rattle.pdl_refine.specs.Certain
-use Rattle.pdl_refine.specs.Certain.{Unmade, makings_ok, making_all, is_made, all_sure}
-use Rattle.pdl_refine.specs.Checks.{in_text_order, knows, is_below, mem_passes, path_passes, lock_passes, locks_pass}
-use Rattle.pdl_refine.specs.Facts.{looked_all, at_once}
-use Rattle.pdl_refine.proofs.Passes.{Parts}
+use Rattle.pdl_facts.specs.Scans.{is_plain, none_of, all_at, reads_ok, no_scan, phases_ok, phase_all, Fresh, is_over}
+use Rattle.pdl_derived.specs.Alone
+use Rattle.pdl_facts.specs.Certain
+use Rattle.pdl_facts.specs.Certain.{Unmade, makings_ok, making_all, is_made, all_sure}
+use Rattle.pdl_facts.specs.Checks.{in_text_order, knows, is_below, mem_passes, path_passes, lock_passes, locks_pass}
+use Rattle.pdl_facts.specs.Facts.{looked_all, at_once}
+use Rattle.pdl_facts.proofs.Passes.{Parts}
 use Rattle.pdl_stagefacts.proofs.Sites.{Site, sites_of, front_of, closing, place_of, owns, All, stmts_are}
 use Rattle.pdl_stagefacts.proofs.Staged.{Staged, all_staged}
 use Rattle.pdl_stagefacts.proofs.Standing.{all_both, all_map}

@@ -15,9 +15,9 @@ use Rattle.pdl_rules.specs.Stages.{reserves_memory}
 use Rattle.pdl_rules.specs.Typed.{is_named, is_memory}
 use Rattle.pdl_rules.proofs.Once.{KeepsLocks, any_weaker, any_front, any_last, bytes_same, bytes_refl, held_alike, fold_push, reserves_to_write, reserves_some, reserves_alike}
 use Rattle.pdl_rules.proofs.Defined.{any_split}
-use Rattle.pdl_refine.specs.Alone
-use Rattle.pdl_refine.specs.Alone.{looked}
-use Rattle.pdl_refine.specs.Scans.{is_plain, uses, opened, Scan, opens, op_ok, reads_ok}
+use Rattle.pdl_derived.specs.Alone
+use Rattle.pdl_derived.specs.Alone.{looked}
+use Rattle.pdl_facts.specs.Scans.{is_plain, uses, opened, Scan, opens, op_ok, reads_ok}
 use Rattle.pdl_pathfacts.proofs.Numbers.{var_low, var_same, var_stays, mem_same}
 use Rattle.pdl_pathfacts.proofs.Along
 use Rattle.pdl_pathfacts.proofs.Along.{ops_of, seen_ops}

@@ -18,9 +18,9 @@ use Rattle.pdl_rules.specs.Typed.{is_memory}
 use Rattle.pdl_rules.proofs.Straight.{Each}
 use Rattle.pdl_rules.proofs.Once.{KeepsLocks, AreBacked, backed_next, bytes_same}
 use Rattle.pdl_rules.proofs.Defined.{any_split}
-use Rattle.pdl_refine.specs.Scans.{is_plain, Scan, reads_ok, Phase, phases_ok, phase_all, is_over}
-use Rattle.pdl_refine.specs.Certain.{Making, makings_ok, making_all, stands_before, all_sure}
-use Rattle.pdl_refine.specs.Checks.{in_text_order, knows}
+use Rattle.pdl_facts.specs.Scans.{is_plain, Scan, reads_ok, Phase, phases_ok, phase_all, is_over}
+use Rattle.pdl_facts.specs.Certain.{Making, makings_ok, making_all, stands_before, all_sure}
+use Rattle.pdl_facts.specs.Checks.{in_text_order, knows}
 use Rattle.pdl_stagefacts.proofs.Sites.{Site, closing, place_of, All}
 use Rattle.pdl_pathfacts.proofs.Along
 use Rattle.pdl_pathfacts.proofs.Along.{ops_of, ops, seen_ops, seen}

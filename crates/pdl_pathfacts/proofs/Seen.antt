@@ -8,10 +8,10 @@ use Rattle.pdl_model.specs.Stages.{is_reserve, is_release, is_verify, verify_sta
 use Rattle.pdl_rules.specs.Places.{Guard, on_path}
 use Rattle.pdl_rules.specs.Parts.{location_of}
 use Rattle.pdl_rules.specs.Typed.{is_memory}
-use Rattle.pdl_refine.specs.Alone.{looked}
-use Rattle.pdl_refine.specs.Scans.{none_of, all_at, is_fetch}
-use Rattle.pdl_refine.specs.Checks.{knows, is_below}
-use Rattle.pdl_refine.specs.Facts.{looked_all}
+use Rattle.pdl_derived.specs.Alone.{looked}
+use Rattle.pdl_facts.specs.Scans.{none_of, all_at, is_fetch}
+use Rattle.pdl_facts.specs.Checks.{knows, is_below}
+use Rattle.pdl_facts.specs.Facts.{looked_all}
 use Rattle.pdl_stagefacts.proofs.Sites.{Site, place_of, own, owns, All}
 use Rattle.pdl_pathfacts.proofs.Along
 use Rattle.pdl_pathfacts.proofs.Along.{ops_of, ops, stmts_at, own_is, seen_ops, seen, on_sites}

@@ -13,7 +13,7 @@ use Rattle.pdl_rules.specs.Parts.{passes}
 use Rattle.pdl_rules.specs.Limits.{is_separator}
 use Rattle.pdl_rules.specs.Stages.{stage_in, stage_of, first_stage, stages_that}
 use Rattle.pdl_rules.specs.Refusal.{KeepsRules}
-use Rattle.pdl_refine.specs.Scans.{none_of, all_at}
+use Rattle.pdl_facts.specs.Scans.{none_of, all_at}
 use Rattle.pdl_stagefacts.proofs.Sites.{Site, sites_of, front_of, closing, place_of, own, owns, All, stmts_are}
 use Rattle.pdl_stagefacts.proofs.Staged.{Staged}
 use Rattle.pdl_pathfacts.proofs.Along.{ops_of, ops, stmts_at, own_is}

@@ -12,9 +12,9 @@ use Rattle.pdl_rules.specs.Locks.{Hold, Nothing, Reserved, Blocked, Released, he
 use Rattle.pdl_rules.specs.Speculation.{releases_unsure}
 use Rattle.pdl_rules.specs.Speculation
 use Rattle.pdl_rules.proofs.Once.{KeepsLocks}
-use Rattle.pdl_refine.specs.Alone.{looked}
-use Rattle.pdl_refine.specs.Scans.{opened, opens, Scan}
-use Rattle.pdl_refine.specs.Certain.{stands_before, is_barrier, is_sure, all_sure}
+use Rattle.pdl_derived.specs.Alone.{looked}
+use Rattle.pdl_facts.specs.Scans.{opened, opens, Scan}
+use Rattle.pdl_facts.specs.Certain.{stands_before, is_barrier, is_sure, all_sure}
 use Rattle.pdl_pathfacts.proofs.Along
 use Rattle.pdl_pathfacts.proofs.Along.{ops_of, seen_ops}
 use Rattle.pdl_pathfacts.proofs.Variables.{IsNamed}

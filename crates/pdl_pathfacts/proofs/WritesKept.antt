@@ -13,8 +13,8 @@ use Rattle.pdl_rules.specs.Locks.{same_location, Hold, Nothing, Reserved, Blocke
 use Rattle.pdl_rules.specs.Typed.{is_named, is_memory}
 use Rattle.pdl_rules.proofs.Straight.{Each}
 use Rattle.pdl_rules.proofs.Once.{KeepsLocks, AreBacked, any_weaker, any_front, any_last, bytes_same, bytes_refl, location_refl, held_alike, reserves_alike, reserves_to_write, reserves_some, reserves_mem, unique, held_if_blocked, reserved_if_blocked, counted, count_none, written_once}
-use Rattle.pdl_refine.specs.Alone.{looked}
-use Rattle.pdl_refine.specs.Scans.{Phase, Fresh, Held, Written, Done, after_release, next_phase, holds, is_fresh, may_read, phase_ok, phases_ok, phase_all, is_over}
+use Rattle.pdl_derived.specs.Alone.{looked}
+use Rattle.pdl_facts.specs.Scans.{Phase, Fresh, Held, Written, Done, after_release, next_phase, holds, is_fresh, may_read, phase_ok, phases_ok, phase_all, is_over}
 use Rattle.pdl_stagefacts.proofs.Sites.{closing}
 use Rattle.pdl_pathfacts.proofs.Numbers.{var_low, var_same, var_stays, mem_is}
 use Rattle.pdl_pathfacts.proofs.Along

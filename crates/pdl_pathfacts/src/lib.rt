@@ -8,10 +8,10 @@ ghost use Rattle.pdl_model.specs.Tree.{Pipe};
 ghost use Rattle.pdl_model.specs.Flatten.{flat};
 ghost use Rattle.pdl_model.specs.Stages.{onpath, verify_stage};
 ghost use Rattle.pdl_rules.specs.Refusal.{KeepsRules};
-ghost use Rattle.pdl_refine.specs.Scans.{no_scan};
-ghost use Rattle.pdl_refine.specs.Certain.{Unmade, makings_ok, making_all, is_made, all_sure};
-ghost use Rattle.pdl_refine.specs.Facts.{at_once};
-ghost use Rattle.pdl_refine.specs.Accepted.{Accepted, along};
+ghost use Rattle.pdl_facts.specs.Scans.{no_scan};
+ghost use Rattle.pdl_facts.specs.Certain.{Unmade, makings_ok, making_all, is_made, all_sure};
+ghost use Rattle.pdl_facts.specs.Facts.{at_once};
+ghost use Rattle.pdl_facts.specs.Accepted.{Accepted, along};
 ghost use Rattle.pdl_pathfacts.specs.Source.{is_source};
 
 /// The statements on each path: in the order of their stages, with locks, calls, guesses and releases as the rules have them.

@@ -23,12 +23,12 @@ use Rattle.pdl_rules.proofs.Once.{reserves_to_write, count_none}
 use Rattle.pdl_rules.proofs.Stages.{first_behind, first_nowhere}
 use Rattle.pdl_rules.proofs.Memories.{all_deep, has_depth, distinct}
 use Rattle.pdl_rules.proofs.Legal.{front_of, at_body, at_mems, ready_first}
-use Rattle.pdl_refine.specs.Scans.{is_plain, none_of, all_at, reads_ok, no_scan, phases_ok, phase_all, Fresh, is_over, called, is_fetch}
-use Rattle.pdl_refine.specs.Certain.{Unmade, makings_ok, making_all, is_made, all_sure}
-use Rattle.pdl_refine.specs.Checks.{in_text_order, knows, makes_once, is_guess, is_below, on_paths, mem_passes, path_passes, stage_passes, lock_passes, stages_pass, locks_pass, stmts_pass, passes}
-use Rattle.pdl_refine.specs.Accepted.{Checked, Text}
-use Rattle.pdl_refine.proofs.Passes.{checked, text}
-use Rattle.pdl_refine.proofs.Texts.{calls_certain, all_certain, no_verify}
+use Rattle.pdl_facts.specs.Scans.{is_plain, none_of, all_at, reads_ok, no_scan, phases_ok, phase_all, Fresh, is_over, called, is_fetch}
+use Rattle.pdl_facts.specs.Certain.{Unmade, makings_ok, making_all, is_made, all_sure}
+use Rattle.pdl_facts.specs.Checks.{in_text_order, knows, makes_once, is_guess, is_below, on_paths, mem_passes, path_passes, stage_passes, lock_passes, stages_pass, locks_pass, stmts_pass, passes}
+use Rattle.pdl_facts.specs.Accepted.{Checked, Text}
+use Rattle.pdl_facts.proofs.Passes.{checked, text}
+use Rattle.pdl_facts.proofs.Texts.{calls_certain, all_certain, no_verify}
 use Rattle.pdl_promise.proofs.Numbers.{mem_low}
 use Rattle.pdl_promise.proofs.Rows.{op_of, row, rows, stage_or, rows_are, cuts, cuts_are, no_cuts, link, stages_from, line_is, stages_long, leads, stage_leads, in_order, unguarded, none_is, all_is, no_fetch_op, no_verify_op, no_guess_op, first_none}
 use Rattle.pdl_promise.proofs.Walk.{IsFrom, AtEach, each_row}

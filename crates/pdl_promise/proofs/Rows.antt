@@ -8,8 +8,8 @@ use Rattle.pdl_model.specs.Flatten
 use Rattle.pdl_model.specs.Stages.{last_stage, is_verify}
 use Rattle.pdl_rules.specs.Refusal.{is_straight, all_straight, is_lined, all_lined}
 use Rattle.pdl_rules.specs.Typed.{vars_after}
-use Rattle.pdl_refine.specs.Scans.{none_of, all_at, is_fetch, fixed}
-use Rattle.pdl_refine.specs.Checks.{in_text_order, guard_vars, leads_on, is_guess}
+use Rattle.pdl_facts.specs.Scans.{none_of, all_at, is_fetch, fixed}
+use Rattle.pdl_facts.specs.Checks.{in_text_order, guard_vars, leads_on, is_guess}
 
 -- behind these variables, in stage k
 abbrev pub behind : ℕ → List Var → Flatten.Place

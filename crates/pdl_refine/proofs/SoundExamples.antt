@@ -6,13 +6,13 @@ use Rattle.pdl_model.specs.Flatten.{flat}
 use Rattle.pdl_model.proofs.Pipes.{one_stage, shared_guard, count_up, guess, far_barrier, copy, copy_guessed, count_slow, two_branches, one_branch, forked}
 use Rattle.pdl_model.proofs.Texts.{constant, variable, slice, plus, separator, bind, delayed_read, write, reserve, block, release, call, spec_call, verify, spec_check, spec_barrier, if_else, lock, comb, slow, pipe}
 use Rattle.pdl_model.specs.Flat.{Arrays, Pipe}
-use Rattle.pdl_refine.specs.Alone.{Refines, Advances, KeepsPace}
-use Rattle.pdl_refine.specs.SoundChecks.{sounds}
-use Rattle.pdl_refine.proofs.Courses.{Course}
-use Rattle.pdl_refine.proofs.CourseOf.{course}
-use Rattle.pdl_refine.proofs.Follows.{refines, advances}
-use Rattle.pdl_refine.proofs.Rates.{keeps_pace}
-use Rattle.pdl_refine.proofs.Sounded.{sounded}
+use Rattle.pdl_derived.specs.Alone.{Refines, Advances, KeepsPace}
+use Rattle.pdl_facts.specs.SoundChecks.{sounds}
+use Rattle.pdl_turns.proofs.Courses.{Course}
+use Rattle.pdl_turns.proofs.CourseOf.{course}
+use Rattle.pdl_refinement.proofs.Follows.{refines, advances}
+use Rattle.pdl_progress.proofs.Rates.{keeps_pace}
+use Rattle.pdl_progress.proofs.Sounded.{sounded}
 use Rattle.pdl_refine.proofs.Stated.{whole_refines, whole_advances, whole_paces}
 use Rattle.pdl_model.specs.Promises
 

@@ -11,8 +11,8 @@ use Rattle.pdl_model.specs.Locks.{commit_value}
 use Rattle.pdl_model.specs.Moves.{Act, next_stage, all_acts, movers}
 use Rattle.pdl_model.specs.Cycle.{after_these, cycle, first, state_after, for_mems, list_three, taken_out, port_write, with_commit, with_commits, entries_left, request_left, request_next, asked_by, asked_of, awaited_of, moved, or_then, if_stays, born, child_of, stands, squasher, stage_next, waits_from}
 use Rattle.pdl_rules.specs.Refusal.{KeepsRules, is_in_line}
-use Rattle.pdl_refine.specs.Accepted.{Text, Checked}
-use Rattle.pdl_refine.proofs.Simulates.{at_mem, mems_same}
+use Rattle.pdl_facts.specs.Accepted.{Text, Checked}
+use Rattle.pdl_linear.proofs.Simulates.{at_mem, mems_same}
 use Rattle.pdl_promise.proofs.InLine.{checked_of, text_of}
 use Rattle.pdl_slots.specs.Slots
 use Rattle.pdl_slots.specs.Slots.{slot, goes, act_at, mover, movers_from, moving}

@@ -5,7 +5,7 @@ use Rattle.pdl_model.specs.Flat.{Pipe, Next, list_all}
 use Rattle.pdl_model.specs.Stages.{stage_at, goes_to}
 use Rattle.pdl_model.specs.Machine.{Thread, State, Ask, Deeds, deeds, request_of, answers, with_answers, unanswered, answered}
 use Rattle.pdl_model.specs.Moves.{Act, act_of, acts, movers, moves, no_failure, blocks_ready, have_room, is_empty, is_free, ports_free, none_up_to, barrier_clear, can_enter, may_merge, merges_well, next_stage}
-use Rattle.pdl_refine.specs.Accepted.{Text, Checked}
+use Rattle.pdl_facts.specs.Accepted.{Text, Checked}
 use Rattle.pdl_slots.specs.Slots.{slot, may_go, goes_from, goes, mover, movers_from}
 use Rattle.pdl_slots.proofs.StagewiseDeeds.{no_asks, no_fails}
 

@@ -6,7 +6,7 @@ use Rattle.pdl_model.specs.Stages.{stage_at, goes_to, list_any}
 use Rattle.pdl_model.specs.Machine.{Thread, State, deeds}
 use Rattle.pdl_model.specs.Moves.{Act, next_stage}
 use Rattle.pdl_model.specs.Cycle.{for_stages, is_stage, moved, stands, or_then, squasher}
-use Rattle.pdl_refine.specs.Accepted.{Text, Checked}
+use Rattle.pdl_facts.specs.Accepted.{Text, Checked}
 use Rattle.pdl_slots.specs.Slots
 use Rattle.pdl_slots.specs.Slots.{slot, goes_from, goes, act_at, mover, movers_from}
 use Rattle.pdl_slots.proofs.StagewiseDeeds.{no_fails}

@@ -13,16 +13,16 @@ use Rattle.pdl_model.specs.Moves.{Act, all_acts}
 use Rattle.pdl_model.specs.Moves as model
 use Rattle.pdl_model.specs.Cycle.{for_stages, new_entries, appended, filled, releases, but_oldest, list_two, list_three, state_after, first}
 use Rattle.pdl_rules.specs.Refusal.{KeepsRules, all_lined, is_comb, is_in_line}
-use Rattle.pdl_refine.specs.Derived
-use Rattle.pdl_refine.specs.Accepted.{Checked, Text}
-use Rattle.pdl_refine.proofs.Entries.{entry}
-use Rattle.pdl_refine.proofs.Slots.{Live, find, threads_of, Rises}
-use Rattle.pdl_refine.proofs.Lists.{own, pends}
-use Rattle.pdl_refine.proofs.Decide.{AllKnown, AllSame, same_all}
-use Rattle.pdl_refine.proofs.Locks.{AllOwn, two, two_is}
-use Rattle.pdl_refine.proofs.Next.{known_all}
-use Rattle.pdl_refine.proofs.Simulates.{Sim, Alive, rises_of}
-use Rattle.pdl_refine.proofs.Step.{acts_are}
+use Rattle.pdl_derived.specs.Derived
+use Rattle.pdl_facts.specs.Accepted.{Checked, Text}
+use Rattle.pdl_derived.proofs.Entries.{entry}
+use Rattle.pdl_derived.proofs.Slots.{Live, find, threads_of, Rises}
+use Rattle.pdl_derived.proofs.Lists.{own, pends}
+use Rattle.pdl_linear.proofs.Decide.{AllKnown, AllSame, same_all}
+use Rattle.pdl_linear.proofs.Locks.{AllOwn, two, two_is}
+use Rattle.pdl_linear.proofs.Next.{known_all}
+use Rattle.pdl_linear.proofs.Simulates.{Sim, Alive, rises_of}
+use Rattle.pdl_linear.proofs.Step.{acts_are}
 use Rattle.pdl_promise.proofs.InLine.{checked_of, text_of}
 use Rattle.pdl_lockapi.specs.Forget.{AreOrdered, count_older, has_thread, addresses}
 use Rattle.pdl_slots.specs.Slots.{slot, goes, mover, movers_from, moving}
@@ -36,7 +36,7 @@ use Rattle.pdl_slots.proofs.UsingLives.{find_case, ms, all_own, within_pends, wi
 use Rattle.pdl_slots.proofs.UsingReads.{reads_ready}
 use Rattle.pdl_slots.proofs.UsingEarly.{early_in_line}
 use Rattle.pdl_slots.proofs.UsingCall.{bare_flat, one_child}
-use Rattle.pdl_refine.specs.Certain.{Unmade, makings_ok}
+use Rattle.pdl_facts.specs.Certain.{Unmade, makings_ok}
 
 -- STAGES
 

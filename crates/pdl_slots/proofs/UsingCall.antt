@@ -9,12 +9,12 @@ use Rattle.pdl_model.specs.Stages.{in_stage}
 use Rattle.pdl_model.specs.Machine.{State, Thread, Deeds, does, does_all, deeds, word_for}
 use Rattle.pdl_rules.specs.Refusal.{all_lined}
 use Rattle.pdl_rules.specs.Typed.{vars_after}
-use Rattle.pdl_refine.specs.Alone.{before, is_call}
-use Rattle.pdl_refine.specs.Scans.{none_of, from, called, makes}
-use Rattle.pdl_refine.specs.Certain.{Making, Unmade, Made, next_making, making_all, is_guessed, making_ok, makings_ok}
-use Rattle.pdl_refine.proofs.Guesses.{makings_first, makings_second}
-use Rattle.pdl_refine.specs.Accepted.{Accepted}
-use Rattle.pdl_refine.proofs.Writes.{and_left, and_right}
+use Rattle.pdl_derived.specs.Alone.{before, is_call}
+use Rattle.pdl_facts.specs.Scans.{none_of, from, called, makes}
+use Rattle.pdl_facts.specs.Certain.{Making, Unmade, Made, next_making, making_all, is_guessed, making_ok, makings_ok}
+use Rattle.pdl_turns.proofs.Guesses.{makings_first, makings_second}
+use Rattle.pdl_facts.specs.Accepted.{Accepted}
+use Rattle.pdl_derived.proofs.Writes.{and_left, and_right}
 use Rattle.pdl_promise.proofs.Rows.{rows}
 use Rattle.pdl_promise.proofs.InLine.{flat_is}
 use Rattle.pdl_slots.proofs.UsingTurn.{Bare}

@@ -7,17 +7,17 @@ use Rattle.pdl_model.specs.Machine.{State, Thread, Pending, Deeds, word_for}
 use Rattle.pdl_model.specs.Machine
 use Rattle.pdl_model.specs.Moves.{Act, movers}
 use Rattle.pdl_model.specs.Cycle.{new_entries, appended, releases}
-use Rattle.pdl_refine.specs.Derived.{around}
-use Rattle.pdl_refine.specs.Derived
-use Rattle.pdl_refine.specs.Alone.{before, looked}
-use Rattle.pdl_refine.specs.Scans.{none_of, is_plain}
-use Rattle.pdl_refine.specs.Accepted.{Checked, Text}
-use Rattle.pdl_refine.proofs.Entries.{entries_of, entry}
-use Rattle.pdl_refine.proofs.Slots.{Live, seat, find, threads_of, sacts, dacts, Rises, find_none}
-use Rattle.pdl_refine.proofs.Lists.{own, pend, pends, Falls, Reserveless, appended_back}
-use Rattle.pdl_refine.proofs.Decide.{AllSame, AllKnown}
-use Rattle.pdl_refine.proofs.Own.{Own, own_placed, pend_own, deeds_start}
-use Rattle.pdl_refine.proofs.Locks.{AllOwn, act_here, deeds_here, part, two, worked_here, gone}
+use Rattle.pdl_derived.specs.Derived.{around}
+use Rattle.pdl_derived.specs.Derived
+use Rattle.pdl_derived.specs.Alone.{before, looked}
+use Rattle.pdl_facts.specs.Scans.{none_of, is_plain}
+use Rattle.pdl_facts.specs.Accepted.{Checked, Text}
+use Rattle.pdl_derived.proofs.Entries.{entries_of, entry}
+use Rattle.pdl_derived.proofs.Slots.{Live, seat, find, threads_of, sacts, dacts, Rises, find_none}
+use Rattle.pdl_derived.proofs.Lists.{own, pend, pends, Falls, Reserveless, appended_back}
+use Rattle.pdl_linear.proofs.Decide.{AllSame, AllKnown}
+use Rattle.pdl_turns.proofs.Own.{Own, own_placed, pend_own, deeds_start}
+use Rattle.pdl_linear.proofs.Locks.{AllOwn, act_here, deeds_here, part, two, worked_here, gone}
 use Rattle.pdl_lockapi.specs.Forget.{count_older, has_thread, addresses, addresses_of}
 use Rattle.pdl_slots.specs.Use.{is_unreserved}
 use Rattle.pdl_slots.proofs.UsingTurn.{Bare, Used, used, unreserved, unlocked, writes_to, some}

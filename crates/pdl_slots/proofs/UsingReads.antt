@@ -7,16 +7,16 @@ use Rattle.pdl_model.specs.Stages.{in_stage, mem_at, reserve_stage, commit_stage
 use Rattle.pdl_model.specs.Locks.{Latest, Nothing, read_ready, write_ready}
 use Rattle.pdl_model.specs.Machine.{State, Thread, Place, Blocked, Deeds, does, is_held, let_go, held_after, held_before, older_write, word_for, youngest, lock_of, same_args}
 use Rattle.pdl_model.specs.Moves.{block_ready, blocks_ready, have_room}
-use Rattle.pdl_refine.specs.Derived.{latest}
-use Rattle.pdl_refine.specs.Derived
-use Rattle.pdl_refine.specs.Alone.{Location, before, looked}
-use Rattle.pdl_refine.specs.Scans.{Scan, is_plain, uses, opened, opens, opens_all, op_ok, reads_ok, no_scan, location}
-use Rattle.pdl_refine.specs.Accepted.{Accepted}
-use Rattle.pdl_refine.proofs.Writes.{and_left, and_right}
-use Rattle.pdl_refine.proofs.Alike.{Right, AllIn, in_stage_all}
-use Rattle.pdl_refine.proofs.Slots.{Live, seat, find, threads_of}
-use Rattle.pdl_refine.proofs.Lists.{pend, pends, Falls, youngest_append, youngest_other, youngest_all}
-use Rattle.pdl_refine.proofs.Whole
+use Rattle.pdl_derived.specs.Derived.{latest}
+use Rattle.pdl_derived.specs.Derived
+use Rattle.pdl_derived.specs.Alone.{Location, before, looked}
+use Rattle.pdl_facts.specs.Scans.{Scan, is_plain, uses, opened, opens, opens_all, op_ok, reads_ok, no_scan, location}
+use Rattle.pdl_facts.specs.Accepted.{Accepted}
+use Rattle.pdl_derived.proofs.Writes.{and_left, and_right}
+use Rattle.pdl_turns.proofs.Alike.{Right, AllIn, in_stage_all}
+use Rattle.pdl_derived.proofs.Slots.{Live, seat, find, threads_of}
+use Rattle.pdl_derived.proofs.Lists.{pend, pends, Falls, youngest_append, youngest_other, youngest_all}
+use Rattle.pdl_turns.proofs.Whole
 use Rattle.pdl_slots.specs.Slots.{is_ready}
 use Rattle.pdl_slots.specs.Use.{before_stage, IsReadReady, AreReadsReady}
 use Rattle.pdl_slots.proofs.UsingTurn.{Bare}

@@ -6,24 +6,24 @@ use Rattle.pdl_model.specs.Locks.{Nothing, read_ready}
 use Rattle.pdl_model.specs.Machine.{State}
 use Rattle.pdl_model.specs.Cycle.{state_after, first}
 use Rattle.pdl_model.specs.Sequential.{thread, after_turns}
-use Rattle.pdl_refine.specs.Derived.{latest}
-use Rattle.pdl_refine.specs.Derived
-use Rattle.pdl_refine.specs.Alone.{Location, before, so_far, placed}
-use Rattle.pdl_refine.specs.Scans.{no_scan, opens_all}
-use Rattle.pdl_refine.specs.Accepted.{Checked, Text}
-use Rattle.pdl_refine.proofs.Alike.{Right}
-use Rattle.pdl_refine.proofs.Marks.{seen, seen_append}
-use Rattle.pdl_refine.proofs.Pending.{marks}
-use Rattle.pdl_refine.proofs.TurnFacts.{blocked_at}
-use Rattle.pdl_refine.proofs.Lives.{Writes, Marks, placed_all, Standing, Tail, Last}
-use Rattle.pdl_refine.proofs.Instance.{facts}
-use Rattle.pdl_refine.proofs.TurnFacts.{right_guess}
-use Rattle.pdl_refine.proofs.Refine.{Runs, run_of}
-use Rattle.pdl_refine.proofs.Slots.{Live, threads_of, rev}
-use Rattle.pdl_refine.proofs.Next.{rev_append}
-use Rattle.pdl_refine.proofs.Simulates.{Sim, Alive}
-use Rattle.pdl_refine.proofs.Runs.{run_same}
-use Rattle.pdl_refine.proofs.Turns
+use Rattle.pdl_derived.specs.Derived.{latest}
+use Rattle.pdl_derived.specs.Derived
+use Rattle.pdl_derived.specs.Alone.{Location, before, so_far, placed}
+use Rattle.pdl_facts.specs.Scans.{no_scan, opens_all}
+use Rattle.pdl_facts.specs.Accepted.{Checked, Text}
+use Rattle.pdl_turns.proofs.Alike.{Right}
+use Rattle.pdl_turns.proofs.Marks.{seen, seen_append}
+use Rattle.pdl_turns.proofs.Pending.{marks}
+use Rattle.pdl_turns.proofs.TurnFacts.{blocked_at}
+use Rattle.pdl_turns.proofs.Lives.{Writes, Marks, placed_all, Standing, Tail, Last}
+use Rattle.pdl_linear.proofs.Instance.{facts}
+use Rattle.pdl_turns.proofs.TurnFacts.{right_guess}
+use Rattle.pdl_refinement.proofs.Refine.{Runs, run_of}
+use Rattle.pdl_derived.proofs.Slots.{Live, threads_of, rev}
+use Rattle.pdl_linear.proofs.Next.{rev_append}
+use Rattle.pdl_linear.proofs.Simulates.{Sim, Alive}
+use Rattle.pdl_linear.proofs.Runs.{run_same}
+use Rattle.pdl_turns.proofs.Turns
 use Rattle.pdl_slots.proofs.UsingTurn.{Bare, bare_path}
 
 -- a thread of a turn behind these older ones, the youngest of them first

@@ -4,19 +4,19 @@ use Rattle.pdl_model.specs.Flat.{Arrays, Commit, of_mem, Op, DelayedRead, Write,
 use Rattle.pdl_model.specs.Stages.{list_any, onpath, in_stage, is_reserve, mem_at, reserve_stage, commit_stage}
 use Rattle.pdl_model.specs.Machine.{Pending, Written, Deeds, does, does_all, same_args}
 use Rattle.pdl_model.specs.Cycle.{new_entries, put, put_all}
-use Rattle.pdl_refine.specs.Derived.{Entry, Work, Around}
-use Rattle.pdl_refine.specs.Derived
-use Rattle.pdl_refine.specs.Alone.{before, so_far, placed, misses}
-use Rattle.pdl_refine.specs.Scans.{Phase, Fresh, Held, Written as Filled, Done, next_phase, holds, none_of, phase_ok, phases_ok, phase_all, is_plain}
-use Rattle.pdl_refine.specs.Accepted.{Accepted, Checked, Text}
-use Rattle.pdl_refine.proofs.Writes.{and_left, and_right}
-use Rattle.pdl_refine.proofs.Entries.{entries_of, entry, addresses, lacks}
-use Rattle.pdl_refine.proofs.Phases.{Tied}
-use Rattle.pdl_refine.proofs.Deeds.{places, work_of, Fits, told_step}
-use Rattle.pdl_refine.proofs.Lists.{own, pend}
-use Rattle.pdl_refine.proofs.Steps.{Staged, Gone, Here, steps_all, new_more}
-use Rattle.pdl_refine.proofs.Own.{pend_own, deeds_start, own_placed}
-use Rattle.pdl_refine.proofs.Whole
+use Rattle.pdl_derived.specs.Derived.{Entry, Work, Around}
+use Rattle.pdl_derived.specs.Derived
+use Rattle.pdl_derived.specs.Alone.{before, so_far, placed, misses}
+use Rattle.pdl_facts.specs.Scans.{Phase, Fresh, Held, Written as Filled, Done, next_phase, holds, none_of, phase_ok, phases_ok, phase_all, is_plain}
+use Rattle.pdl_facts.specs.Accepted.{Accepted, Checked, Text}
+use Rattle.pdl_derived.proofs.Writes.{and_left, and_right}
+use Rattle.pdl_derived.proofs.Entries.{entries_of, entry, addresses, lacks}
+use Rattle.pdl_turns.proofs.Phases.{Tied}
+use Rattle.pdl_derived.proofs.Deeds.{places, work_of, Fits, told_step}
+use Rattle.pdl_derived.proofs.Lists.{own, pend}
+use Rattle.pdl_turns.proofs.Steps.{Staged, Gone, Here, steps_all, new_more}
+use Rattle.pdl_turns.proofs.Own.{pend_own, deeds_start, own_placed}
+use Rattle.pdl_turns.proofs.Whole
 
 -- statements that stand under no guard
 abbrev pub Bare : List Stmt → Type 0

@@ -6,7 +6,7 @@ use Rattle.pdl_model.specs.Flat
 use Rattle.pdl_model.specs.Flatten.{flat}
 use Rattle.pdl_model.specs.Stages.{in_stage, mem_at}
 use Rattle.pdl_rules.specs.Refusal.{KeepsRules}
-use Rattle.pdl_refine.specs.Facts.{is_exact, Found}
+use Rattle.pdl_facts.specs.Facts.{is_exact, Found}
 use Rattle.pdl_stagefacts.specs.StageFacts.{StageFacts, FoundIf, AllFound}
 use Rattle.pdl_stagefacts.proofs.Fine.{Each, each_in_stage}
 use Rattle.pdl_stagefacts.proofs.Trunks

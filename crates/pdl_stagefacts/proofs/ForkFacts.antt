@@ -14,8 +14,8 @@ use Rattle.pdl_rules.specs.Parts.{passes}
 use Rattle.pdl_rules.specs.Limits.{is_separator}
 use Rattle.pdl_rules.specs.Names.{OfVariable, defines, name_at, is_undefined, is_parameter, is_delayed, is_given, is_too_early}
 use Rattle.pdl_rules.specs.Refusal.{KeepsRules}
-use Rattle.pdl_refine.specs.Scans.{none_of, binds, from}
-use Rattle.pdl_refine.specs.Facts.{fetches}
+use Rattle.pdl_facts.specs.Scans.{none_of, binds, from}
+use Rattle.pdl_facts.specs.Facts.{fetches}
 use Rattle.pdl_stagefacts.proofs.Sites.{Site, sites_of, front_of, place_of, All, closing}
 use Rattle.pdl_stagefacts.proofs.Walks.{cut, cut_append, names, names_at, names_by, names_append, told_past_all, at_front}
 use Rattle.pdl_stagefacts.proofs.Formed.{body_forked, body_groups}

@@ -13,7 +13,7 @@ use Rattle.pdl_rules.specs.Parts.{passes}
 use Rattle.pdl_rules.specs.Limits.{is_separator}
 use Rattle.pdl_rules.specs.Names.{Use, OfVariable, defines, name_at, is_taken_name, is_delayed, is_given}
 use Rattle.pdl_rules.specs.Refusal.{KeepsRules}
-use Rattle.pdl_refine.specs.Scans.{none_of, binds, from}
+use Rattle.pdl_facts.specs.Scans.{none_of, binds, from}
 use Rattle.pdl_stagefacts.proofs.Sites.{branch, sites_of, front_of, All}
 use Rattle.pdl_stagefacts.proofs.Walks.{holds_all, guard_begun, guard_stage, past_begun, past_all_begun, cut, cut_append, names, names_at, told}
 use Rattle.pdl_stagefacts.proofs.Firsts.{same_text, text_sym}

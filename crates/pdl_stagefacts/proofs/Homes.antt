@@ -15,8 +15,8 @@ use Rattle.pdl_rules.specs.Stages.{reserves_memory, releases_memory, is_elsewher
 use Rattle.pdl_rules.specs.Speculation
 use Rattle.pdl_rules.specs.Forks.{fetches, is_delayed_memory}
 use Rattle.pdl_rules.specs.Refusal.{KeepsRules}
-use Rattle.pdl_refine.specs.Scans.{none_of, all_at, is_fetch}
-use Rattle.pdl_refine.specs.Facts.{is_exact}
+use Rattle.pdl_facts.specs.Scans.{none_of, all_at, is_fetch}
+use Rattle.pdl_facts.specs.Facts.{is_exact}
 use Rattle.pdl_stagefacts.proofs.Sites.{Site, sites_of, place_of, All, front_of, closing}
 use Rattle.pdl_stagefacts.proofs.Walks.{cut, cut_append, cut_all, at_front}
 use Rattle.pdl_stagefacts.proofs.Formed.{body_forked}

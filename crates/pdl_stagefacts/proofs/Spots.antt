@@ -5,7 +5,7 @@ use Rattle.std.proofs.lemmas.List.{get_or_past}
 use Rattle.pdl_model.specs.Flat
 use Rattle.pdl_model.specs.Flatten.{entry, side}
 use Rattle.pdl_model.specs.Stages.{last_stage, stage_at}
-use Rattle.pdl_refine.specs.Graphs.{Trunk, In}
+use Rattle.pdl_facts.specs.Graphs.{Trunk, In}
 use Rattle.pdl_stagefacts.proofs.Shapes.{Shape, Last, Cut, Fork, stage, leads, row, leads_on, after}
 
 -- each fork has a branch stage

@@ -7,7 +7,7 @@ use Rattle.pdl_model.specs.Tree.{Span, Expr, Stmt, Separator, If, Stmts, Nil, Co
 use Rattle.pdl_model.specs.Flat
 use Rattle.pdl_model.specs.Flatten.{with_guard, past, past_all, at_otherwise, under, guard_of, separators_in, separators, at_start, flat, side}
 use Rattle.pdl_model.specs.Flatten
-use Rattle.pdl_refine.specs.Graphs.{Trunk, In}
+use Rattle.pdl_facts.specs.Graphs.{Trunk, In}
 use Rattle.pdl_rules.specs.Places.{Place, Statement, Branch, with_inner, statements}
 use Rattle.pdl_rules.specs.Forks.{holds_separator}
 use Rattle.pdl_stagefacts.proofs.Sites.{Site, branch, sites_in, sites, sites_of, front_of, All, all_append}

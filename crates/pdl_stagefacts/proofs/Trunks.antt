@@ -10,10 +10,10 @@ use Rattle.pdl_model.specs.Stages.{last_stage, stage_at, in_stage, onpath, is_in
 use Rattle.pdl_model.specs.Cycle.{merges_by}
 use Rattle.pdl_rules.specs.Forks.{is_trunk_only}
 use Rattle.pdl_rules.specs.Refusal.{KeepsRules}
-use Rattle.pdl_refine.specs.Alone.{before, looked}
-use Rattle.pdl_refine.specs.Scans.{none_of}
-use Rattle.pdl_refine.specs.Graphs.{Trunk, In, next_of, stage_or, goes_by, on_side, Graph, Branches}
-use Rattle.pdl_refine.specs.Facts.{trunk_only, visits, comes_by}
+use Rattle.pdl_derived.specs.Alone.{before, looked}
+use Rattle.pdl_facts.specs.Scans.{none_of}
+use Rattle.pdl_facts.specs.Graphs.{Trunk, In, next_of, stage_or, goes_by, on_side, Graph, Branches}
+use Rattle.pdl_facts.specs.Facts.{trunk_only, visits, comes_by}
 use Rattle.pdl_stagefacts.proofs.Sites.{Site, place_of}
 use Rattle.pdl_stagefacts.proofs.Shapes.{Shape, Last, Cut, Fork}
 use Rattle.pdl_stagefacts.proofs.Spots.{merge_at, start, long, Groups, group_trunk, group_merge, group_fork, group_inside, Forked, Spot, between_in, not_trunk, none_some, past_trunk, inside_of, fork_same, split}

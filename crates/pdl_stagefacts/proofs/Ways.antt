@@ -3,7 +3,7 @@ use Rattle.std.proofs.Common.{◌≡◌, refl, sym, ap, ap₂, ◌∙◌, subst,
 use Rattle.pdl_model.specs.Flat
 use Rattle.pdl_model.specs.Flatten.{entry}
 use Rattle.pdl_model.specs.Stages.{stage_at, goes_to, is_inside, is_branch_of, commit_stage, reserve_stage}
-use Rattle.pdl_refine.specs.Graphs.{Trunk, In, next_of, stage_or, Below, Graph, Branches, goes_by, on_side}
+use Rattle.pdl_facts.specs.Graphs.{Trunk, In, next_of, stage_or, Below, Graph, Branches, goes_by, on_side}
 use Rattle.pdl_stagefacts.proofs.Shapes.{leads}
 use Rattle.pdl_stagefacts.proofs.Spots.{merge_at, start, long, Forked, Spot, Final, Line, AtFork, Inner, between_in, not_trunk, none_some, past_trunk, inside_of, fork_same, split, fork_in, first_in}
 

@@ -3,10 +3,10 @@ use Rattle.std.specs.Prelude.{◌≡◌, ℕ, suc, ◌≤◌, ◌<◌, true, fal
 use Rattle.pdl_model.specs.Flat.{list_all, Op, DelayedRead, Stmt, Branch, Forks, Pipe}
 use Rattle.pdl_model.specs.Stages.{is_inside, is_reserve, is_release, is_verify, onpath, in_stage, stage_at, verify_stage, commit_stage, reserve_stage}
 use Rattle.pdl_model.specs.Cycle.{merges_by}
-use Rattle.pdl_refine.specs.Alone.{before}
-use Rattle.pdl_refine.specs.Scans.{from, none_of, all_at, binds, is_fetch}
-use Rattle.pdl_refine.specs.Graphs.{next_of, Graph, In, Branches}
-use Rattle.pdl_refine.specs.Facts.{trunk_only, fetches, visits, Found}
+use Rattle.pdl_derived.specs.Alone.{before}
+use Rattle.pdl_facts.specs.Scans.{from, none_of, all_at, binds, is_fetch}
+use Rattle.pdl_facts.specs.Graphs.{next_of, Graph, In, Branches}
+use Rattle.pdl_facts.specs.Facts.{trunk_only, fetches, visits, Found}
 
 -- what is known of the delayed reads of stage s
 abbrev pub FoundIf : Pipe → (ℕ → ℕ) → ℕ → Op → Type 0

@@ -14,7 +14,7 @@ use Rattle.pdl_rules.specs.Places.{Parameter, statements, places}
 use Rattle.pdl_rules.specs.Refusal.{KeepsRules, all_lined, is_in_line}
 use Rattle.pdl_rules.proofs.Straight.{Each, Keeps, each_in_line, closing}
 use Rattle.pdl_rules.proofs.Legal.{front_of, at_body, ready_first}
-use Rattle.pdl_refine.specs.Scans.{is_plain, none_of}
+use Rattle.pdl_facts.specs.Scans.{is_plain, none_of}
 use Rattle.pdl_promise.proofs.Rows.{rows, cuts, none_is}
 use Rattle.pdl_promise.proofs.Walk.{IsFrom, each_row}
 use Rattle.pdl_promise.proofs.Rest.{unreleased}

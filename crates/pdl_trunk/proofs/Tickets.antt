@@ -6,7 +6,7 @@ use Rattle.pdl_model.specs.Flat
 use Rattle.pdl_model.specs.Flatten.{Var, flat, first_stage, first_stages, params_of}
 use Rattle.pdl_model.specs.Stages.{is_reserve, reserve_stage}
 use Rattle.pdl_rules.specs.Typed.{vars_after}
-use Rattle.pdl_refine.specs.Checks.{in_text_order}
+use Rattle.pdl_facts.specs.Checks.{in_text_order}
 use Rattle.pdl_net.specs.Circuit.{Circuit}
 use Rattle.pdl_net.specs.Signal.{Signal}
 use Rattle.pdl_build.specs.Expr.{vars_of}

@@ -1,6 +1,6 @@
 use Rattle.pdl_model.specs.Flatten.{flat}
-use Rattle.pdl_refine.specs.Facts.{at_once}
-use Rattle.pdl_refine.proofs.Passes
+use Rattle.pdl_facts.specs.Facts.{at_once}
+use Rattle.pdl_facts.proofs.Passes
 use Rattle.pdl_pathfacts.proofs.Passing.{parts}
 use Rattle.pdl_pathfacts.proofs.paths.Goals as goal
 

@@ -1,0 +1,10 @@
+pub mod Writes
+pub mod Stages
+pub mod Entries
+pub mod Answering
+pub mod Oldest
+pub mod Requests
+pub mod Deeds
+pub mod Slots
+pub mod Lists
+pub mod SameRows

@@ -1,0 +1,64 @@
+-- Facts on arrays and lists of writes.
+use Rattle.std.proofs.Common.{◌≡◌, ◌≢◌, refl, sym, ap, ◌∙◌, ℕ, Bool, true, false, ◌&&◌, not, List, [], ◌∷◌, ◌++◌, ◌==◌, cond, arith, eq-eqb}
+use Rattle.std.proofs.lemmas.Bool.{eqb-true, eqb-false, ne_eqb}
+use Rattle.std.proofs.lemmas.Bool.Decides.{eqb_tells}
+use Rattle.std.proofs.Math.Bool.{and_assoc}
+use Rattle.pdl_model.specs.Flat.{Arrays, Array, with_value, Commit, of_mem, committed, with_word}
+use Rattle.pdl_model.specs.Promises.{wrote, row}
+use Rattle.pdl_derived.specs.Alone.{misses}
+
+pub row_same : (arrays : Arrays) (m a v : ℕ) → row (with_word arrays m a v) m ≡ with_value (row arrays m) a v
+row_same arrays m a v = ap (λ c. cond c (with_value (arrays m) a v) (arrays m)) (eq-eqb m m refl)
+
+pub row_other : (arrays : Arrays) (m n a v : ℕ) → n ≢ m → row (with_word arrays m a v) n ≡ row arrays n
+row_other arrays m n a v h = ap (λ c. cond c (with_value (arrays m) a v) (arrays n)) (ne_eqb n m h)
+
+-- the words of m after some writes are its words with the writes to m
+pub row_committed : (m : ℕ) (cs : List Commit) (arrays : Arrays) → row (committed arrays cs) m ≡ wrote (row arrays m) (of_mem m cs)
+row_committed m [] arrays = refl
+row_committed m (c ∷ cs) arrays = row_committed m cs (with_word arrays c.mem c.address c.value) ∙ at (c.mem == m) refl
+  where
+    at : (b : Bool) → (c.mem == m) ≡ b → wrote (row (with_word arrays c.mem c.address c.value) m) (of_mem m cs) ≡ wrote (row arrays m) (cond b (c ∷ of_mem m cs) (of_mem m cs))
+    at true e = ap (λ w. wrote w (of_mem m cs)) (here (eqb-true c.mem m e))
+      where
+        here : c.mem ≡ m → row (with_word arrays c.mem c.address c.value) m ≡ with_value (row arrays m) c.address c.value
+        here h = ap (λ n. row (with_word arrays n c.address c.value) m) h ∙ row_same arrays m c.address c.value
+    at false e = ap (λ w. wrote w (of_mem m cs)) (row_other arrays c.mem m c.address c.value (λ h. eqb-false c.mem m e (sym h)))
+
+pub wrote_append : (xs ys : List Commit) (words : Array) → wrote words (xs ++ ys) ≡ wrote (wrote words xs) ys
+wrote_append [] ys words = refl
+wrote_append (x ∷ xs) ys words = wrote_append xs ys (with_value words x.address x.value)
+
+cons_append : (b : Bool) (x : Commit) (us vs ws : List Commit) → us ≡ vs ++ ws → cond b (x ∷ us) us ≡ cond b (x ∷ vs) vs ++ ws
+cons_append true x us vs ws e = ap (λ l. x ∷ l) e
+cons_append false x us vs ws e = e
+
+pub of_mem_append : (m : ℕ) (xs ys : List Commit) → of_mem m (xs ++ ys) ≡ of_mem m xs ++ of_mem m ys
+of_mem_append m [] ys = refl
+of_mem_append m (x ∷ xs) ys = cons_append (x.mem == m) x _ _ _ (of_mem_append m xs ys)
+
+pub misses_append : (a : ℕ) (xs ys : List Commit) → misses a (xs ++ ys) ≡ (misses a xs && misses a ys)
+misses_append a [] ys = refl
+misses_append a (x ∷ xs) ys = ap (λ b. not (x.address == a) && b) (misses_append a xs ys) ∙ sym (and_assoc (not (x.address == a)) (misses a xs) (misses a ys))
+
+pub and_left : (b c : Bool) → (b && c) ≡ true → b ≡ true
+and_left true c e = refl
+and_left false c e = e
+
+pub and_right : (b c : Bool) → (b && c) ≡ true → c ≡ true
+and_right true c e = e
+and_right false c e = cc
+
+-- writes that miss an address leave its word
+pub misses_word : (a : ℕ) (cs : List Commit) (words : Array) → misses a cs ≡ true → wrote words cs a ≡ words a
+misses_word a [] words h = refl
+misses_word a (c ∷ cs) words h =
+    misses_word a cs (with_value words c.address c.value) (and_right (not (c.address == a)) (misses a cs) h)
+    ∙ ap (λ b. cond b c.value (words a)) (ne_eqb a c.address (apart (and_left (not (c.address == a)) (misses a cs) h)))
+  where
+    apart : not (c.address == a) ≡ true → a ≢ c.address
+    apart t e = grind (arith, eqb_tells)
+
+pub committed_append : (xs ys : List Commit) (arrays : Arrays) → committed arrays (xs ++ ys) ≡ committed (committed arrays xs) ys
+committed_append [] ys arrays = refl
+committed_append (x ∷ xs) ys arrays = committed_append xs ys (with_word arrays x.mem x.address x.value)

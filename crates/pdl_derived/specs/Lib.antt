@@ -1,0 +1,4 @@
+pub mod Derived
+pub mod Alone
+pub mod Simulation
+pub mod OneStage

@@ -1,0 +1,7 @@
+pub mod Scans
+pub mod Certain
+pub mod Graphs
+pub mod Facts
+pub mod SoundChecks
+pub mod Accepted
+pub mod Checks

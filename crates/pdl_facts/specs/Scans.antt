@@ -1,0 +1,167 @@
+-- Scans over the statements of one path, and over a text, that tell whether locks and values are used as the rules of the language say.
+use Rattle.std.specs.Prelude.{ℕ, Bool, true, false, ◌&&◌, ◌||◌, not, List, [], ◌∷◌, if◌then◌else◌, ◌==◌, nat_le}
+use Rattle.pdl_model.specs.Flat.{Op, Bind, CombRead, DelayedRead, Write, ReserveWrite, Block, Release, Call, SpecCall, Verify, Stmt, Guard, Pipe, Lock, Plain}
+use Rattle.pdl_model.specs.Stages.{mem_at, commit_stage, reserve_stage}
+use Rattle.pdl_derived.specs.Alone.{Location, is_call}
+
+abbrev pub no_guards : List Guard → Bool
+no_guards [] = true
+no_guards (g ∷ gs) = false
+
+abbrev pub is_plain : Lock → Bool
+is_plain Plain = true
+is_plain _ = false
+
+-- whether a variable is the address of one of these locations, and whether this location is among them
+abbrev pub uses : List Location → ℕ → Bool
+uses [] x = false
+uses (l ∷ ls) x = (l.var == x) || uses ls x
+
+abbrev pub opened : List Location → ℕ → ℕ → Bool
+opened [] m a = false
+opened (l ∷ ls) m a = ((l.mem == m) && (l.var == a)) || opened ls m a
+
+-- the locations that were reserved for writing, and those that were blocked for reading
+pub record Scan : Type 0 where
+  pub held : List Location
+  pub blocked : List Location
+
+abbrev pub no_scan : Scan
+no_scan = record { held = []; blocked = [] }
+
+abbrev pub location : ℕ → ℕ → Location
+location m a = record { mem = m; var = a }
+
+abbrev pub opens : Op → Scan → Scan
+opens (Block m a) c = if opened c.held m a then c else record { held = c.held; blocked = location m a ∷ c.blocked }
+opens (ReserveWrite m a) c = record { held = location m a ∷ c.held; blocked = c.blocked }
+opens _ c = c
+
+abbrev pub opens_all : List Stmt → Scan → Scan
+opens_all [] c = c
+opens_all (x ∷ xs) c = opens_all xs (opens x.op c)
+
+-- a statement of stage s behind such statements: a variable that is the address of a blocked read is not bound again, a block stands no earlier than the reserves, and a read of a lock is blocked for reading and stands no later than the releases
+abbrev pub op_ok : Pipe → ℕ → Scan → Op → Bool
+op_ok p s c (Bind x e) = not (uses c.blocked x)
+op_ok p s c (CombRead x m a) =
+    not (uses c.blocked x) && (is_plain (mem_at p m).lock || (opened c.blocked m a && nat_le s (commit_stage p m)))
+op_ok p s c (Block m a) = nat_le (reserve_stage p m) s
+op_ok p s c (DelayedRead x m a) = false
+op_ok p s c _ = true
+
+abbrev pub reads_ok : Pipe → Scan → List Stmt → Bool
+reads_ok p c [] = true
+reads_ok p c (x ∷ xs) = (no_guards x.guards && op_ok p x.stage c x.op) && reads_ok p (opens x.op c) xs
+
+-- each statement of memory m's kind stands in this stage
+abbrev pub all_at : (Op → Bool) → ℕ → List Stmt → Bool
+all_at test s [] = true
+all_at test s (x ∷ xs) = (not (test x.op) || (x.stage == s)) && all_at test s xs
+
+abbrev pub none_of : (Op → Bool) → List Stmt → Bool
+none_of test [] = true
+none_of test (x ∷ xs) = not (test x.op) && none_of test xs
+
+-- the statements of stage s and the later ones
+abbrev pub from : ℕ → List Stmt → List Stmt
+from s [] = []
+from s (x ∷ xs) = if nat_le s x.stage then x ∷ from s xs else from s xs
+
+-- how far a thread is with its write to a memory; x is the location's variable
+pub data Phase : Type 0 where
+  Fresh : Phase
+  Held : (x : ℕ) → Phase
+  Written : (x : ℕ) → Phase
+  Done : Phase
+
+abbrev pub after_release : Phase → ℕ → Phase
+after_release Fresh a = Fresh
+after_release (Held x) a = Held x
+after_release (Written x) a = if x == a then Done else Written x
+after_release Done a = Done
+
+abbrev pub next_phase : ℕ → Phase → Op → Phase
+next_phase m ph (ReserveWrite n a) = if n == m then Held a else ph
+next_phase m ph (Write n a e) = if n == m then Written a else ph
+next_phase m ph (Release n a) = if n == m then after_release ph a else ph
+next_phase m ph _ = ph
+
+abbrev pub holds : Phase → ℕ → Bool
+holds (Held y) x = y == x
+holds _ x = false
+
+abbrev pub may_read : Phase → Bool
+may_read Fresh = true
+may_read (Held x) = true
+may_read _ = false
+
+abbrev pub is_fresh : Phase → Bool
+is_fresh Fresh = true
+is_fresh _ = false
+
+-- a statement in this phase of m: a location's variable is not bound again before the write, a read precedes it, at most one reservation, one write through it, and no release before it
+abbrev pub phase_ok : ℕ → Phase → Op → Bool
+phase_ok m ph (Bind x e) = not (holds ph x)
+phase_ok m ph (CombRead x n a) = not (holds ph x) && (not (n == m) || may_read ph)
+phase_ok m ph (DelayedRead x n a) = false
+phase_ok m ph (Write n a e) = not (n == m) || holds ph a
+phase_ok m ph (ReserveWrite n a) = not (n == m) || is_fresh ph
+phase_ok m ph (Release n a) = not (n == m) || not (holds ph a)
+phase_ok m ph _ = true
+
+abbrev pub phases_ok : ℕ → Phase → List Stmt → Bool
+phases_ok m ph [] = true
+phases_ok m ph (x ∷ xs) = (no_guards x.guards && phase_ok m ph x.op) && phases_ok m (next_phase m ph x.op) xs
+
+abbrev pub phase_all : ℕ → Phase → List Stmt → Phase
+phase_all m ph [] = ph
+phase_all m ph (x ∷ xs) = phase_all m (next_phase m ph x.op) xs
+
+abbrev pub is_over : Phase → Bool
+is_over Fresh = true
+is_over Done = true
+is_over _ = false
+
+abbrev pub called : Bool → List Stmt → Bool
+called c [] = c
+called c (x ∷ xs) = called (c || is_call x.op) xs
+
+-- a statement that makes the next thread
+abbrev pub makes : Op → Bool
+makes (Call args) = true
+makes (SpecCall args) = true
+makes (Verify args) = true
+makes _ = false
+
+abbrev pub binds : ℕ → Op → Bool
+binds g (Bind x e) = x == g
+binds g (CombRead x m a) = x == g
+binds g (DelayedRead x m a) = x == g
+binds g _ = false
+
+-- a guard's variable is not bound where it is tested or later
+abbrev pub free_of : List Guard → List Stmt → Bool
+free_of [] xs = true
+free_of (g ∷ gs) xs = none_of (binds g.var) xs && free_of gs xs
+
+-- whether guards contradict one another, so that the statement stands on no path
+abbrev pub against : Guard → List Guard → Bool
+against g [] = false
+against g (h ∷ hs) = ((g.var == h.var) && (if g.first then not h.first else h.first)) || against g hs
+
+abbrev pub is_dead : List Guard → Bool
+is_dead [] = false
+is_dead (g ∷ gs) = against g gs || is_dead gs
+
+-- or the statement is never carried out
+abbrev pub keeps_guards : List Guard → List Stmt → Bool
+keeps_guards gs xs = is_dead gs || free_of gs xs
+
+abbrev pub fixed : List Stmt → Bool
+fixed [] = true
+fixed (x ∷ xs) = keeps_guards x.guards (x ∷ xs) && fixed xs
+
+abbrev pub is_fetch : Op → Bool
+is_fetch (DelayedRead x m a) = true
+is_fetch _ = false

@@ -1,0 +1,2 @@
+//! The oldest thread of the machine that the proofs use advances, and enough threads end.
+#![tactic(auto)]

@@ -1,0 +1,2 @@
+//! The live threads of the machine that the proofs use follow the sequential turns, and what it commits is what they write.
+#![tactic(auto)]

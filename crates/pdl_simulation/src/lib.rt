@@ -1,0 +1,2 @@
+//! The stated machine and the one that the proofs use show the same turns, and what holds of the one holds of the other.
+#![tactic(auto)]
