@@ -1,5 +1,5 @@
 -- WHAT IS TAKEN OF AN ACCEPTED PIPE OF THE WHOLE LANGUAGE: facts that the rules of the language give, of its text, of its stage graph, and of the statements of each path.
-use Rattle.std.specs.Prelude.{◌≡◌, ℕ, suc, ◌≤◌, ◌<◌, Bool, true, false, ◌&&◌, ◌||◌, not, List, [], ◌∷◌, Option, Some, None, ◌==◌, length, nat_lt, nat_le}
+use Rattle.std.specs.Prelude.{◌≡◌, ℕ, suc, ◌≤◌, ◌<◌, Bool, true, false, ◌&&◌, ◌||◌, not, List, [], ◌∷◌, Option, Some, None, ◌==◌, length, nat_lt, nat_le, slice_index}
 use Rattle.pdl_model.specs.Flat.{list_all, Op, Bind, CombRead, DelayedRead, Write, ReserveRead, ReserveWrite, Block, Release, Call, SpecCall, Verify, SpecCheck, SpecBarrier, Expr, Constant, Variable, Slice, Not, Binary, Cat, LessSigned, ZeroExtend, SignExtend, Choose, Guard, Stmt, Lock, Plain, Queue, Forks, Branch, Pipe}
 use Rattle.pdl_model.specs.Stages.{is_inside, is_reserve, is_verify, onpath, in_stage, stage_at, mem_at, verify_stage, commit_stage, reserve_stage}
 use Rattle.pdl_derived.specs.Alone.{before, looked}
@@ -44,11 +44,7 @@ abbrev pub asks_for : ℕ → List Guard → Bool
 asks_for x [] = false
 asks_for x (g ∷ gs) = (g.var == x) || asks_for x gs
 
--- no statement of a path has a guard on x, and none has anything to do with x
-abbrev pub blind_to : ℕ → List Stmt → Bool
-blind_to x [] = true
-blind_to x (y ∷ ys) = (is_dead y.guards || not (asks_for x y.guards)) && blind_to x ys
-
+-- no statement of a path has a guard on x or anything to do with it
 abbrev pub silent_on : ℕ → List Stmt → Bool
 silent_on x [] = true
 silent_on x (y ∷ ys) = (is_dead y.guards || (not (asks_for x y.guards) && not (mentions x y.op))) && silent_on x ys
@@ -113,8 +109,6 @@ pub record FetchOk (p : Pipe) (fetch : ℕ → ℕ) (s x m : ℕ) : Type 0 where
   pub exact : is_exact (mem_at p m).lock ≡ true
   -- L8: it is bound no later than the releases
   pub early : (env : List ℕ) → next_of p s env ≤ commit_stage p m
-  -- N3: no statement of a stage before the one where it is bound has a guard on its variable
-  pub blind : (env : List ℕ) → blind_to x (before (next_of p s env) p.stmts) ≡ true
 
 abbrev pub FetchIf : Pipe → (ℕ → ℕ) → ℕ → List Guard → Op → Type 0
 FetchIf p fetch s gs (DelayedRead x m a) = Found p fetch s m × (is_dead gs ≡ false → FetchOk p fetch s x m)
@@ -127,6 +121,10 @@ AllFetches p fetch s (y ∷ ys) = FetchIf p fetch s y.guards y.op × AllFetches 
 abbrev pub fetches : ℕ → Op → Bool
 fetches x (DelayedRead y m a) = y == x
 fetches x _ = false
+
+-- values that differ in what these statements read delayed, and in nothing else
+abbrev pub DifferIn : List Stmt → List ℕ → List ℕ → Type 0
+DifferIn ys env env' = (x : ℕ) → none_of (fetches x) ys ≡ true → slice_index env' x ≡ slice_index env x
 
 -- GUARDS
 
@@ -191,6 +189,8 @@ pub record Sound (p : Pipe) : Type 0 where
   -- delayed reads
   pub fetch : ℕ → ℕ
   pub fetch_ok : (s : ℕ) → AllFetches p fetch s (in_stage s p.stmts)
+  -- N3: what a stage reads delayed decides no guard on a path before the stage where it is bound
+  pub fetch_blind : (s : ℕ) (env env' : List ℕ) → DifferIn (in_stage s p.stmts) env env' → onpath env' (before (next_of p s env) p.stmts) ≡ onpath env (before (next_of p s env) p.stmts)
   pub fetch_unseen : (s : ℕ) → unseen (in_stage s p.stmts) ≡ true
   pub fetch_alone : (s : ℕ) → fetch_apart (in_stage s p.stmts) ≡ true
   -- F3: none stands in the last stage

@@ -1,13 +1,13 @@
 -- The facts of an accepted pipe of the whole language, as tests that compute.
 use Rattle.std.specs.Prelude.{ℕ, suc, Bool, true, false, ◌&&◌, ◌||◌, not, List, [], ◌∷◌, ◌++◌, Option, Some, None, is_none, if◌then◌else◌, nat_lt, nat_le, ◌==◌, length, slice_set}
-use Rattle.pdl_model.specs.Flat.{list_all, Op, DelayedRead, Guard, Stmt, Next, Ends, Goes, Forks, Branch, Pipe, start_env}
+use Rattle.pdl_model.specs.Flat.{list_all, Op, DelayedRead, Guard, Stmt, Next, Ends, Goes, Forks, Branch, Pipe, taken, start_env}
 use Rattle.pdl_model.specs.Stages.{onpath, in_stage, stage_at, is_inside, mem_at, commit_stage, reserve_stage, verify_stage, is_verify, fork_guards}
 use Rattle.pdl_model.specs.Sound.{all_below}
 use Rattle.pdl_derived.specs.Alone.{before}
 use Rattle.pdl_facts.specs.Scans.{from, none_of, all_at, binds, is_fetch}
 use Rattle.pdl_model.specs.Cycle.{merges_by}
 use Rattle.pdl_facts.specs.Graphs.{next_of}
-use Rattle.pdl_facts.specs.Facts.{trunk_only, is_dead, late_for, blind_to, unseen, fetch_apart, is_exact, fetches, visits, at_once}
+use Rattle.pdl_facts.specs.Facts.{trunk_only, is_dead, late_for, unseen, fetch_apart, is_exact, fetches, visits, at_once}
 use Rattle.pdl_facts.specs.Checks.{guard_vars, paths_pass}
 
 -- THE STAGE GRAPH
@@ -149,8 +149,21 @@ fetch_sound p s gs (DelayedRead x m a) =
     (fetch_stage m p.stmts == s)
     && (nat_lt m (length p.mems)
     && (is_exact (mem_at p m).lock
-    && (is_dead gs || (list_all (λ n. nat_le n (commit_stage p m)) (nexts p s) && list_all (λ n. blind_to x (before n p.stmts)) (nexts p s)))))
+    && (is_dead gs || list_all (λ n. nat_le n (commit_stage p m)) (nexts p s))))
 fetch_sound p s gs _ = true
+
+-- the guards on variables that these statements don't read delayed
+abbrev pub unfetched : List Stmt → List Guard → List Guard
+unfetched ys [] = []
+unfetched ys (g ∷ gs) = if none_of (fetches g.var) ys then g ∷ unfetched ys gs else unfetched ys gs
+
+-- a path takes none of these statements that has another guard, whatever the values of those variables
+abbrev pub none_hangs : List ℕ → List Stmt → List Stmt → Bool
+none_hangs path ys [] = true
+none_hangs path ys (z ∷ zs) = (list_all (λ g. none_of (fetches g.var) ys) z.guards || not (taken (unfetched ys z.guards) path)) && none_hangs path ys zs
+
+abbrev pub blind_passes : Pipe → List ℕ → Bool
+blind_passes p path = all_below (λ s. none_hangs path (in_stage s p.stmts) (before (next_of p s path) p.stmts)) (length p.stages)
 
 -- all tests
 abbrev pub tests : Pipe → List Bool
@@ -172,6 +185,7 @@ tests p =
     ∷ verifies_at p (verify_stage p.stmts)
     ∷ list_all (λ z. is_dead z.guards || late_for z p.stmts) p.stmts
     ∷ all_below (λ s. not (suc s == length p.stages) || none_of is_fetch (in_stage s p.stmts)) (length p.stages)
+    ∷ all_paths (all_guards p) (blind_passes p) (start_env p [])
     ∷ []
 
 abbrev pub sounds : Pipe → Bool

@@ -1,18 +1,16 @@
 -- On each path the next thread is made once: by a call, or by a guess that is verified once behind it.
-use Rattle.std.proofs.Common.{◌≡◌, refl, sym, ap, ap₂, ◌∙◌, subst, ℕ, zero, suc, ◌+◌, ◌≤◌, ◌<◌, Bool, true, false, ◌&&◌, ◌||◌, not, List, [], ◌∷◌, ◌++◌, length, map, filter, cond, if◌then◌else◌, ◌==◌, nat_lt, bytes_eq, count_by, Option, Some, None, arith, eq-eqb, append_assoc, append-nil, ⊎_elim, ltb-true, lt-ltb}
-use Rattle.std.proofs.lemmas.Bool.{false≢true, and_parts, and_from, or_parts, or_cases, or_left, or_right, both_ways, false_from_ne_true, not-false, cases_Bool}
+use Rattle.std.proofs.Common.{◌≡◌, refl, sym, ap₂, ◌∙◌, subst, ℕ, Bool, true, false, ◌&&◌, ◌||◌, List, [], ◌∷◌, ◌++◌, bytes_eq, Option, ⊎_elim}
+use Rattle.std.proofs.lemmas.Bool.{false≢true, and_parts, and_from, both_ways}
 use Rattle.std.proofs.lemmas.List.Folds.{list_any-append}
-use Rattle.std.proofs.lemmas.List.Sums.{sum_by-append}
-use Rattle.std.specs.List.{list_any, list_all}
-use Rattle.pdl_model.specs.Tree.{Span, Ident, Expr, Variable, R, W, Stmt, Separator, CombRead, Bind, SpecCall, DelayedRead, Write, Reserve, Block, Release, If, Call, Verify, SpecCheck, SpecBarrier, Mem, Pipe}
+use Rattle.std.specs.List.{list_any}
+use Rattle.pdl_model.specs.Tree.{Span, Ident, Expr, Variable, R, W, Stmt, Separator, CombRead, Bind, SpecCall, DelayedRead, Write, Reserve, Block, Release, If, Call, Verify, SpecCheck, SpecBarrier, Mem}
 use Rattle.pdl_model.specs.Flat
 use Rattle.pdl_model.specs.Flatten.{Var}
-use Rattle.pdl_rules.specs.Places.{Place, Statement, End, StartClause, Guard, Branch, places, on_path}
-use Rattle.pdl_rules.specs.Names.{OfGuess, defines, is_given}
-use Rattle.pdl_rules.specs.Calls.{is_call, is_wrong_call}
-use Rattle.pdl_rules.specs.Stages.{stages_that, stage_of}
-use Rattle.pdl_rules.specs.Speculation.{is_verify, verifies, is_once_after}
-use Rattle.pdl_rules.proofs.Once.{any_weaker, any_front, any_last, bytes_same, bytes_refl, bytes_sym, counted, count_push, count_cons, weight}
+use Rattle.pdl_rules.specs.Places.{Place, Statement, Branch}
+use Rattle.pdl_rules.specs.Names.{OfGuess, defines}
+use Rattle.pdl_rules.specs.Calls.{is_call}
+use Rattle.pdl_rules.specs.Speculation.{is_verify, verifies}
+use Rattle.pdl_rules.proofs.Once.{any_weaker, any_front, any_last, bytes_refl}
 use Rattle.pdl_rules.proofs.Defined.{any_split}
 use Rattle.pdl_derived.specs.Alone.{looked}
 use Rattle.pdl_facts.specs.Certain.{Making, Unmade, Guessed, Made, next_making, making_all, is_unmade, is_guessed, is_made, making_ok, makings_ok, stands_at, stands_before}

@@ -1,12 +1,12 @@
 -- The paths of the rules: each choice of truth values for the guards of a text is one of them, and what no path breaks holds of the places on that one.
-use Rattle.std.proofs.Common.{◌≡◌, refl, sym, ap, ap₂, ◌∙◌, subst, Bool, true, false, ◌&&◌, ◌||◌, List, [], ◌∷◌, ◌++◌, map, filter, fold, cond, if◌then◌else◌, ◌⊎◌, bytes_eq, ◌==◌, ℕ, append_assoc, append-nil, eq-eqb, ⊎_elim}
-use Rattle.std.proofs.lemmas.Bool.{false≢true, and_parts, and_from, or_parts, or_cases, or_left, or_right, cases_Bool, both_ways, eqb-true}
+use Rattle.std.proofs.Common.{◌≡◌, refl, sym, ap, ap₂, ◌∙◌, subst, Bool, true, false, ◌&&◌, ◌||◌, List, [], ◌∷◌, ◌++◌, map, filter, fold, cond, if◌then◌else◌, ◌⊎◌, append_assoc, append-nil, eq-eqb, ⊎_elim}
+use Rattle.std.proofs.lemmas.Bool.{false≢true, or_parts, or_left, or_right, cases_Bool, both_ways, eqb-true}
 use Rattle.std.proofs.lemmas.List.Folds.{list_any-append}
-use Rattle.std.specs.List.{list_any, list_all}
-use Rattle.pdl_model.specs.Tree.{Span, Expr, Stmt, Stmts, If, Pipe}
-use Rattle.pdl_rules.specs.Places.{Place, Parameter, Memory, Statement, End, StartClause, Guard, Shared, Own, Branch, guard_of, same_guard, is_among, places, with_guard, guards, choices, paths, on_path, on_some_path}
+use Rattle.std.specs.List.{list_any}
+use Rattle.pdl_model.specs.Tree.{Span, Expr, Stmts, If, Pipe}
+use Rattle.pdl_rules.specs.Places.{Place, Statement, Guard, Shared, Own, Branch, guard_of, same_guard, is_among, places, with_guard, guards, choices, on_path, on_some_path}
 use Rattle.pdl_rules.proofs.Straight.{Each}
-use Rattle.pdl_rules.proofs.Once.{bytes_same, bytes_refl, bytes_sym}
+use Rattle.pdl_rules.proofs.Once.{bytes_same, bytes_refl}
 
 -- GUARDS
 

@@ -1,6 +1,6 @@
 -- The variables behind each site are those before it, with what it binds, and more: along the text and along each path.
-use Rattle.std.proofs.Common.{◌≡◌, refl, sym, ap, ◌∙◌, subst, ℕ, Bool, true, false, List, [], ◌∷◌, ◌++◌, if◌then◌else◌, append_assoc, append-nil}
-use Rattle.pdl_model.specs.Tree.{Span, Expr, Variable, Stmt, Separator, CombRead, Bind, SpecCall, DelayedRead, Write, Reserve, Block, Release, If, Call, Verify, SpecCheck, SpecBarrier, Stmts, Nil, Cons, Mem, Pipe}
+use Rattle.std.proofs.Common.{◌≡◌, refl, sym, ap, ◌∙◌, subst, Bool, true, false, List, [], ◌∷◌, ◌++◌, if◌then◌else◌, append_assoc, append-nil}
+use Rattle.pdl_model.specs.Tree.{Expr, Variable, Stmt, CombRead, Bind, DelayedRead, If, Stmts, Nil, Cons, Mem, Pipe}
 use Rattle.pdl_model.specs.Flat
 use Rattle.pdl_model.specs.Flatten.{Var, mem_width, width_of, at_start, params_of, with_guard, past, past_all, at_otherwise, under}
 use Rattle.pdl_model.specs.Flatten

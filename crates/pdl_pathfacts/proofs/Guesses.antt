@@ -1,19 +1,18 @@
 -- What the rules of calls, guesses and releases ask of each site on a path.
-use Rattle.std.proofs.Common.{◌≡◌, refl, sym, ap, ap₂, ◌∙◌, subst, ℕ, zero, suc, ◌+◌, ◌≤◌, ◌<◌, ◌⊎◌, inl, inr, Bool, true, false, ◌&&◌, ◌||◌, not, List, [], ◌∷◌, ◌++◌, length, map, filter, cond, if◌then◌else◌, ◌==◌, nat_lt, bytes_eq, count_by, Option, Some, None, arith, append_assoc, append-nil, ltb-true, lt-ltb, eq-eqb, ⊎_elim}
-use Rattle.std.proofs.lemmas.Bool.{false≢true, and_parts, and_from, or_parts, or_cases, or_left, or_right, both_ways, false_from_ne_true, not-false, cases_Bool}
+use Rattle.std.proofs.Common.{◌≡◌, refl, sym, ap, ap₂, ◌∙◌, subst, ℕ, suc, ◌+◌, ◌≤◌, ◌<◌, ◌⊎◌, inl, inr, Bool, true, false, ◌&&◌, ◌||◌, not, List, [], ◌∷◌, ◌++◌, length, map, filter, cond, if◌then◌else◌, nat_lt, count_by, Option, Some, None, arith, append_assoc, append-nil, ltb-true, lt-ltb, eq-eqb, ⊎_elim}
+use Rattle.std.proofs.lemmas.Bool.{false≢true, and_parts, and_from, or_parts, or_cases, or_left, or_right, false_from_ne_true, not-false, cases_Bool}
 use Rattle.std.proofs.lemmas.List.Folds.{list_any-append}
 use Rattle.std.proofs.lemmas.List.Sums.{sum_by-append}
 use Rattle.std.specs.List.{list_any}
 use Rattle.pdl_model.specs.Tree.{Span, Ident, Expr, Variable, R, W, Stmt, Separator, CombRead, Bind, SpecCall, DelayedRead, Write, Reserve, Block, Release, If, Call, Verify, SpecCheck, SpecBarrier, Param, Mem, Pipe}
-use Rattle.pdl_model.specs.Flat
 use Rattle.pdl_model.specs.Stages
 use Rattle.pdl_kit.specs.declared.rule.Rule.TheVariants.{N3, S2, S4}
-use Rattle.pdl_rules.specs.Places.{Place, Parameter, Memory, Statement, End, StartClause, Guard, Branch, places, statements, guards, on_path, on_some_path}
+use Rattle.pdl_rules.specs.Places.{Place, Parameter, Memory, Statement, Guard, places, guards, on_path}
 use Rattle.pdl_rules.specs.Parts.{passes, location_of, some_expr_of, some_part}
-use Rattle.pdl_rules.specs.Names.{OfGuess, Use, defines, is_given, is_undefined, is_too_early, is_delayed, in_location, in_verify, reads, some_use}
+use Rattle.pdl_rules.specs.Names.{OfGuess, Use, defines, is_given, is_undefined, is_too_early, is_delayed, in_location, in_verify, reads}
 use Rattle.pdl_rules.specs.Limits.{is_separator}
 use Rattle.pdl_rules.specs.Calls.{is_call, is_wrong_call}
-use Rattle.pdl_rules.specs.Stages.{stage_in, stage_of, first_stage, stages_that}
+use Rattle.pdl_rules.specs.Stages.{stage_of, first_stage, stages_that}
 use Rattle.pdl_rules.specs.Speculation.{is_verify, verifies, verify_stages, is_once_after, is_unverified, releases_unsure, is_before_verify}
 use Rattle.pdl_rules.specs.Speculation
 use Rattle.pdl_rules.specs.Refusal.{KeepsRules}
@@ -22,14 +21,14 @@ use Rattle.pdl_rules.proofs.Defined.{any_split}
 use Rattle.pdl_facts.specs.Scans
 use Rattle.pdl_facts.specs.Certain.{stands_at, stands_before}
 use Rattle.pdl_facts.proofs.Texts.{no_verify}
-use Rattle.pdl_stagefacts.proofs.Sites.{Site, sites_of, front_of, closing, place_of, owns, All, places_all, stmts_are}
+use Rattle.pdl_stagefacts.proofs.Sites.{Site, sites_of, front_of, closing, place_of, All, stmts_are}
 use Rattle.pdl_stagefacts.proofs.Staged.{Staged}
-use Rattle.pdl_model.specs.Flatten.{flat, at_start}
+use Rattle.pdl_model.specs.Flatten.{flat}
 use Rattle.pdl_pathfacts.proofs.Choices.{path_of, unbroken_on, by_choice}
 use Rattle.pdl_pathfacts.proofs.Along
 use Rattle.pdl_pathfacts.proofs.Along.{ops}
 use Rattle.pdl_pathfacts.proofs.Variables.{Here}
-use Rattle.pdl_pathfacts.proofs.Walk.{InText, all_in_text, OnPath, calls_right, text_places}
+use Rattle.pdl_pathfacts.proofs.Walk.{all_in_text, OnPath, calls_right, text_places}
 use Rattle.pdl_pathfacts.proofs.Sited.{first_skip, first_sited, each_sited, some_op, none_sited}
 use Rattle.pdl_pathfacts.proofs.Calls.{Asked, guess_calls}
 use Rattle.pdl_pathfacts.proofs.Scanning.{AllAsked, AllSure}

@@ -17,3 +17,15 @@ pub mod Memories
 pub mod Seen
 pub mod Passing
 pub mod Late
+pub mod Live
+pub mod Coming
+pub mod Known
+pub mod Guarded
+pub mod Fixed
+pub mod GuardFacts
+pub mod Uses
+pub mod Fetching
+pub mod Blind
+pub mod Early
+pub mod Whole
+pub mod Ascending

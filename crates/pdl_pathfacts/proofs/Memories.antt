@@ -1,9 +1,9 @@
 -- The memories of a source that breaks no rule: their locks, their names, and the stages of their reserves and releases.
-use Rattle.std.proofs.Common.{◌≡◌, refl, sym, ap, ap₂, ◌∙◌, subst, ℕ, zero, suc, ◌+◌, ◌<◌, ◌≤◌, Bool, true, false, ◌&&◌, ◌||◌, not, List, [], ◌∷◌, ◌++◌, length, map, Option, None, Some, unwrap_or, cond, if◌then◌else◌, nat_lt, ◌==◌, bytes_eq, slice_index_or, arith, lt-ltb, append_assoc, append-nil}
+use Rattle.std.proofs.Common.{◌≡◌, refl, sym, ap, ◌∙◌, subst, ℕ, zero, suc, ◌+◌, ◌<◌, Bool, true, false, ◌&&◌, not, List, [], ◌∷◌, ◌++◌, length, map, Option, None, Some, cond, if◌then◌else◌, nat_lt, bytes_eq, slice_index_or, arith, lt-ltb, append_assoc}
 use Rattle.std.specs.Option.{is_some}
-use Rattle.std.proofs.lemmas.Bool.{false≢true, and_parts, and_from, or_parts, or_left, or_right, or_from, ne_eqb, not-false, both_ways, false_from_ne_true}
+use Rattle.std.proofs.lemmas.Bool.{false≢true, and_parts, or_parts, or_left, or_right, or_from, not-false, both_ways, false_from_ne_true}
 use Rattle.std.specs.List.{list_any}
-use Rattle.pdl_model.specs.Tree.{LockKind, Queue, Bypass, Rename, LockDecl, Param, Mem, Pipe}
+use Rattle.pdl_model.specs.Tree.{LockKind, Queue, Bypass, Rename, LockDecl, Mem, Pipe}
 use Rattle.pdl_model.specs.Flat
 use Rattle.pdl_model.specs.Flatten.{mem_of, mems_of, lock_of, first_stage, first_stages}
 use Rattle.pdl_model.specs.Stages.{plain_mem}

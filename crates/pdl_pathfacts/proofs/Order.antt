@@ -1,13 +1,13 @@
 -- On a path the sites stand in the order of their stages, and each separator begins a later one.
-use Rattle.std.proofs.Common.{◌≡◌, refl, sym, ap, ap₂, ◌∙◌, subst, ℕ, suc, ◌+◌, ◌≤◌, ◌<◌, ◌⊎◌, inl, inr, Bool, true, false, ◌&&◌, not, List, [], ◌∷◌, ◌++◌, cond, if◌then◌else◌, ◌==◌, arith}
-use Rattle.std.proofs.lemmas.Bool.{false≢true, and_parts, cases_Bool, eqb-true}
+use Rattle.std.proofs.Common.{◌≡◌, refl, sym, ap, ◌∙◌, subst, ℕ, suc, ◌+◌, ◌≤◌, ◌⊎◌, inl, inr, Bool, true, false, ◌&&◌, not, List, [], ◌∷◌, ◌++◌, cond, if◌then◌else◌, arith}
+use Rattle.std.proofs.lemmas.Bool.{false≢true, and_parts, eqb-true}
 use Rattle.std.proofs.lemmas.List.Folds.{list_all-append}
 use Rattle.std.specs.List.{list_all}
-use Rattle.pdl_model.specs.Tree.{Span, Expr, Stmt, Separator, CombRead, Bind, SpecCall, DelayedRead, Write, Reserve, Block, Release, If, Call, Verify, SpecCheck, SpecBarrier, Stmts, Nil, Cons, Mem, Pipe}
+use Rattle.pdl_model.specs.Tree.{Span, Expr, Stmt, Separator, If, Stmts, Nil, Cons, Mem, Pipe}
 use Rattle.pdl_model.specs.Flat
 use Rattle.pdl_model.specs.Flatten.{at_start, with_guard, past, past_all, at_otherwise, under, separators_in, separators}
 use Rattle.pdl_model.specs.Flatten
-use Rattle.pdl_rules.specs.Places.{Place, Statement, Guard, Branch, guard_of, is_among, same_truth, is_taken, with_inner, statements, on_path}
+use Rattle.pdl_rules.specs.Places.{Place, Statement, Guard, Branch, guard_of, is_among, is_taken, with_inner, statements, on_path}
 use Rattle.pdl_rules.specs.Limits.{is_separator}
 use Rattle.pdl_stagefacts.proofs.Sites
 use Rattle.pdl_stagefacts.proofs.Sites.{Site, branch, sites_in, sites, sites_of, front_of, place_of, All}

@@ -1,33 +1,30 @@
 -- Each path of a source that breaks no rule passes the tests of paths.
-use Rattle.std.proofs.Common.{◌≡◌, refl, sym, ap, ap₂, ◌∙◌, subst, ℕ, zero, suc, ◌+◌, ◌≤◌, ◌<◌, ◌⊎◌, inl, inr, Bool, true, false, ◌&&◌, ◌||◌, not, List, [], ◌∷◌, ◌++◌, length, map, filter, cond, if◌then◌else◌, ◌==◌, nat_lt, nat_le, bytes_eq, count_by, unwrap_or, Option, Some, None, arith, append_assoc, append-nil, eq-eqb, le-leb, lt-ltb, ltb-false, ⊎_elim}
-use Rattle.std.proofs.lemmas.Bool.{false≢true, and_parts, and_from, or_parts, or_cases, or_left, or_right, both_ways, false_from_ne_true, not-false, cases_Bool, ne_eqb}
+use Rattle.std.proofs.Common.{◌≡◌, refl, sym, ap, ap₂, ◌∙◌, subst, ℕ, zero, suc, ◌≤◌, ◌<◌, Bool, true, false, ◌&&◌, ◌||◌, not, List, [], ◌∷◌, ◌++◌, length, map, filter, ◌==◌, nat_lt, unwrap_or, Option, Some, None, arith, append_assoc, append-nil, eq-eqb, le-leb, ⊎_elim}
+use Rattle.std.proofs.lemmas.Bool.{false≢true, and_parts, and_from, or_left, or_right, both_ways, not-false, cases_Bool, ne_eqb}
 use Rattle.std.proofs.lemmas.List.Folds.{list_any-append}
 use Rattle.std.specs.List.{list_any}
-use Rattle.pdl_model.specs.Tree.{Span, Ident, Location, Kind, R, W, Stmt, CombRead, DelayedRead, Reserve, Release, Verify, Param, Mem, Pipe}
+use Rattle.pdl_model.specs.Tree.{Location, W, Stmt, Reserve, Release, Verify, Param, Mem, Pipe}
 use Rattle.pdl_model.specs.Flat
-use Rattle.pdl_model.specs.Flatten.{Var, flat, at_start, params_of, mem_of, mems_of}
+use Rattle.pdl_model.specs.Flatten.{flat, params_of, mem_of}
 use Rattle.pdl_model.specs.Stages
 use Rattle.pdl_model.specs.Stages.{mem_at, reserve_stage, commit_stage, is_reserve, is_release, onpath}
-use Rattle.pdl_model.specs.Locks.{has_room}
 use Rattle.pdl_model.specs.Sound.{all_below}
-use Rattle.pdl_kit.specs.declared.rule.Rule.TheVariants.{F5, L8}
-use Rattle.pdl_rules.specs.Places.{Place, Parameter, Memory, Statement, End, StartClause, Guard, guards, statements, places, on_path}
-use Rattle.pdl_rules.specs.Parts.{location_of, passes}
+use Rattle.pdl_kit.specs.declared.rule.Rule.TheVariants.{F5}
+use Rattle.pdl_rules.specs.Places.{Place, Parameter, Memory, Statement, End, StartClause, Guard, statements, places, on_path}
 use Rattle.pdl_rules.specs.Locks
 use Rattle.pdl_rules.specs.Locks.{is_locked, reserves, writes, reserves_location}
-use Rattle.pdl_rules.specs.Stages.{reserves_memory, releases_memory, first_stage, bound_late, is_bound_late}
+use Rattle.pdl_rules.specs.Stages.{reserves_memory, releases_memory}
 use Rattle.pdl_rules.specs.Names.{OfGuess, defines}
 use Rattle.pdl_rules.specs.Calls.{is_call, is_wrong_call}
 use Rattle.pdl_rules.specs.Speculation
 use Rattle.pdl_rules.specs.Refusal.{KeepsRules}
-use Rattle.pdl_rules.specs.Typed.{is_memory}
 use Rattle.pdl_rules.proofs.Straight.{Each}
 use Rattle.pdl_rules.proofs.Once.{KeepsLocks, AreBacked, none_backed, backed_next, reserves_to_write, bytes_same, count_none}
 use Rattle.pdl_facts.specs.Scans.{is_plain, none_of, all_at, reads_ok, no_scan, phases_ok, phase_all, Fresh, is_over}
 use Rattle.pdl_derived.specs.Alone
 use Rattle.pdl_facts.specs.Certain
 use Rattle.pdl_facts.specs.Certain.{Unmade, makings_ok, making_all, is_made, all_sure}
-use Rattle.pdl_facts.specs.Checks.{in_text_order, knows, is_below, mem_passes, path_passes, lock_passes, locks_pass}
+use Rattle.pdl_facts.specs.Checks.{knows, mem_passes, path_passes, lock_passes, locks_pass}
 use Rattle.pdl_facts.specs.Facts.{looked_all, at_once}
 use Rattle.pdl_facts.proofs.Passes.{Parts}
 use Rattle.pdl_stagefacts.proofs.Sites.{Site, sites_of, front_of, closing, place_of, owns, All, stmts_are}
@@ -38,16 +35,14 @@ use Rattle.pdl_stagefacts.proofs.Fine.{Fine, all_fine, stage_count}
 use Rattle.pdl_stagefacts.proofs.Firsts.{any_params, any_mems}
 use Rattle.pdl_stagefacts.proofs.Homes.{reserves_in, releases_in, verifies_in}
 use Rattle.pdl_pathfacts.specs.Source.{are_apart}
-use Rattle.pdl_pathfacts.proofs.Choices.{path_of, by_choice}
+use Rattle.pdl_pathfacts.proofs.Choices.{path_of}
 use Rattle.pdl_pathfacts.proofs.Along.{ops, ops_of, seen, on_sites, path_is}
-use Rattle.pdl_pathfacts.proofs.Numbers.{mem_low, mem_is}
 use Rattle.pdl_pathfacts.proofs.Variables.{Here, all_here, located}
-use Rattle.pdl_pathfacts.proofs.Walk
 use Rattle.pdl_pathfacts.proofs.Walk.{all_in_text, OnPath, on_the_path, filter_append, all_on, keeps_all, path_text, calls_right}
 use Rattle.pdl_pathfacts.proofs.Growth.{grows_all, grows_on}
 use Rattle.pdl_pathfacts.proofs.Order.{all_rise}
 use Rattle.pdl_pathfacts.proofs.Same.{value, all_alike}
-use Rattle.pdl_pathfacts.proofs.Sited.{some_op, all_sited, first_sited, first_skip, none_sited, no_verifies}
+use Rattle.pdl_pathfacts.proofs.Sited.{some_op, all_sited, none_sited, no_verifies}
 use Rattle.pdl_pathfacts.proofs.ReadsKept
 use Rattle.pdl_pathfacts.proofs.ReadsKept.{reads_at, none_scanned}
 use Rattle.pdl_pathfacts.proofs.Late.{late_along}
@@ -155,7 +150,7 @@ module _ (p : Pipe) (rules : KeepsRules p) where
       at_stmt t h s e = ap (λ x. Locks.breaks_f5 p (Statement x t.branches)) (sym e) ∙ rules F5 t.front (place_of t) h.later h.whole
 
   -- the releases of a memory, by its name
-  named_release : (m : List ℕ) → All (λ t. releases_memory m (place_of t) ≡ true → t.walk.stage ≡ commit_stage q (mem_of p.mems m)) (sites_of p)
+  pub named_release : (m : List ℕ) → All (λ t. releases_memory m (place_of t) ≡ true → t.walk.stage ≡ commit_stage q (mem_of p.mems m)) (sites_of p)
   named_release m =
       all_map (λ t. some_op (is_release (mem_of p.mems m)) (ops p.mems t) ≡ true → t.walk.stage ≡ commit_stage q (mem_of p.mems m)) (λ t. releases_memory m (place_of t) ≡ true → t.walk.stage ≡ commit_stage q (mem_of p.mems m))
       (λ t h e. h (does t e)) (sites_of p) (release_home (mem_of p.mems m))

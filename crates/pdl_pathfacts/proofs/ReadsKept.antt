@@ -1,10 +1,10 @@
 -- On each path of a source that breaks no rule, each read of a lock was blocked for reading, and no address of it is bound again.
-use Rattle.std.proofs.Common.{◌≡◌, refl, sym, ap, ap₂, ◌∙◌, subst, ℕ, suc, ◌<◌, ◌≤◌, Bool, true, false, ◌&&◌, ◌||◌, not, List, [], ◌∷◌, ◌++◌, length, fold, if◌then◌else◌, nat_lt, nat_le, ◌==◌, bytes_eq, arith, ltb-false, ◌⊎◌, inl, inr, ⊎_elim, eq-eqb, le-leb, length-append, append-nil, Option, Some, None}
+use Rattle.std.proofs.Common.{◌≡◌, refl, sym, ap, ap₂, ◌∙◌, subst, ℕ, suc, ◌<◌, ◌≤◌, Bool, true, false, ◌&&◌, ◌||◌, not, List, [], ◌∷◌, ◌++◌, length, fold, if◌then◌else◌, nat_le, ◌==◌, bytes_eq, arith, ◌⊎◌, inl, inr, ⊎_elim, eq-eqb, le-leb, length-append, append-nil, Option, Some, None}
 use Rattle.std.proofs.lemmas.Bool.{false≢true, and_parts, and_from, or_parts, or_cases, or_left, or_right, eqb-true, ne_eqb, not-false, both_ways, cases_Bool}
 use Rattle.std.proofs.lemmas.List.Folds.{list_any-append}
-use Rattle.std.specs.List.{list_any, list_all}
+use Rattle.std.specs.List.{list_any}
 use mathlib.Core.Path.{fun_ext}
-use Rattle.pdl_model.specs.Tree.{Span, Ident, Expr, Variable, Location, Kind, R, W, Stmt, Separator, CombRead, Bind, SpecCall, DelayedRead, Write, Reserve, Block, Release, If, Call, Verify, SpecCheck, SpecBarrier, Mem, Pipe}
+use Rattle.pdl_model.specs.Tree.{Span, Expr, Variable, Location, Kind, R, W, Stmt, Separator, CombRead, Bind, SpecCall, DelayedRead, Write, Reserve, Block, Release, If, Call, Verify, SpecCheck, SpecBarrier, Mem, Pipe}
 use Rattle.pdl_model.specs.Flat
 use Rattle.pdl_model.specs.Flatten.{Var, var_of, mem_of}
 use Rattle.pdl_model.specs.Stages.{mem_at, reserve_stage, commit_stage}

@@ -1,26 +1,24 @@
 -- Each path of the flat form is a path of the rules: the same branches are taken.
-use Rattle.std.proofs.Common.{◌≡◌, refl, sym, ap, ap₂, ◌∙◌, subst, ℕ, zero, suc, ◌+◌, Bool, true, false, ◌&&◌, ◌||◌, not, List, [], ◌∷◌, ◌++◌, length, map, cond, if◌then◌else◌, ◌==◌, slice_index, Option, Some, None, arith, append_assoc, length-append, eq-eqb}
-use Rattle.std.proofs.lemmas.Bool.{false≢true, and_parts, and_from, or_parts, or_left, or_right, both_ways, cases_Bool, not-false, eqb-true, not-true}
+use Rattle.std.proofs.Common.{◌≡◌, refl, sym, ap, ap₂, ◌∙◌, subst, ℕ, ◌+◌, Bool, true, false, ◌&&◌, ◌||◌, not, List, [], ◌∷◌, ◌++◌, length, map, if◌then◌else◌, ◌==◌, slice_index, Some, append_assoc, length-append, eq-eqb}
+use Rattle.std.proofs.lemmas.Bool.{false≢true, and_parts, or_parts, or_left, or_right, eqb-true}
 use Rattle.std.proofs.lemmas.List.Folds.{list_any-append}
 use Rattle.std.specs.List.{list_any, list_all}
 use Rattle.pdl_model.specs.Tree.{Span, Ident, Stmts, Expr, Constant, Variable, Slice, Not, Binary, Cat, LessSigned, ZeroExtend, SignExtend, Choose, Stmt, If, Param, Mem, Pipe}
-use Rattle.pdl_model.specs.Flat
 use Rattle.pdl_model.specs.Flat.{taken, takes}
 use Rattle.pdl_model.specs.Flatten.{Var, var_of}
 use Rattle.pdl_model.specs.Flatten
 use Rattle.pdl_kit.specs.declared.rule.Rule.TheVariants.{N3}
-use Rattle.pdl_rules.specs.Places.{Place, Parameter, Memory, Statement, End, StartClause, Guard, Shared, Own, Branch, guard_of, same_guard, is_among, same_truth, is_taken, places, guards, statements, on_path}
-use Rattle.pdl_rules.specs.Names.{OfVariable, is_too_early, some_use}
+use Rattle.pdl_rules.specs.Places.{Place, Parameter, Memory, Statement, Guard, Shared, Own, Branch, guard_of, same_guard, is_among, same_truth, is_taken, places, guards, statements}
+use Rattle.pdl_rules.specs.Names.{is_too_early, some_use}
 use Rattle.pdl_rules.specs.Refusal.{KeepsRules}
 use Rattle.pdl_stagefacts.proofs.Sites
 use Rattle.pdl_stagefacts.proofs.Sites.{Site, sites_of, front_of, closing, All}
-use Rattle.pdl_stagefacts.proofs.Walks.{told, names, names_at, names_append, Named, Choice, its_if, flat_guard, rule_branch, Chosen, AllChosen, Under}
+use Rattle.pdl_stagefacts.proofs.Walks.{names, names_at, names_append, Named, Choice, its_if, flat_guard, rule_branch, AllChosen}
 use Rattle.pdl_pathfacts.specs.Source
 use Rattle.pdl_pathfacts.specs.Source.{begins_at, own_start, is_new, are_apart}
 use Rattle.pdl_pathfacts.proofs.Choices.{path_of, among_chosen, if_among}
 use Rattle.pdl_pathfacts.proofs.Along.{Alike}
-use Rattle.pdl_pathfacts.proofs.Numbers.{is_in, place_of, in_stays, var_place, var_names}
-use Rattle.pdl_pathfacts.proofs.Numbers
+use Rattle.pdl_pathfacts.proofs.Numbers.{place_of, in_stays, var_place}
 use Rattle.pdl_pathfacts.proofs.Variables.{Here, all_here, Behind, known, named_is, told_is}
 
 -- BEHIND THE MEMORIES
@@ -50,7 +48,7 @@ none_params [] (m ∷ ms) = none_params [] ms
 none_params (a ∷ ps) ms = none_params ps ms
 
 -- a statement stands behind the parameters and the memories
-behind_of : (p : Pipe) (hf later : List Place) (s : Stmt) (bs : List Branch) → places p ≡ hf ++ Statement s bs ∷ later → Behind p hf
+pub behind_of : (p : Pipe) (hf later : List Place) (s : Stmt) (bs : List Branch) → places p ≡ hf ++ Statement s bs ∷ later → Behind p hf
 behind_of p hf later s bs e =
     split_front (front_of p) (statements [] p.body ++ closing p) hf later s bs (none_params p.params p.mems) (sym (append_assoc (front_of p) (statements [] p.body) (closing p)) ∙ e)
 
@@ -75,7 +73,7 @@ own_found n (y ∷ before) later x h e =
     ∙ sym (length-append (names_at y) (names before))
 
 -- what begins at a byte is an `if` with that start
-starts_there : (n : ℕ) (y : Place) → begins_at n y ≡ true → own_start y ≡ Some n
+pub starts_there : (n : ℕ) (y : Place) → begins_at n y ≡ true → own_start y ≡ Some n
 starts_there n (Statement (If s c when otherwise) bs) e = at (guard_of s c) e
   where
     at : (g : Guard) → same_guard (Own n) g ≡ true → Source.start_of g ≡ Some n
@@ -83,7 +81,7 @@ starts_there n (Statement (If s c when otherwise) bs) e = at (guard_of s c) e
     at (Own m) f = ap Some (sym (eqb-true n m f))
 starts_there n _ e = absurd (false≢true e)
 
-apart_before : (n : ℕ) (before later : List Place) (x : Place) → are_apart (before ++ x ∷ later) ≡ true → begins_at n x ≡ true → list_any (begins_at n) before ≡ false
+pub apart_before : (n : ℕ) (before later : List Place) (x : Place) → are_apart (before ++ x ∷ later) ≡ true → begins_at n x ≡ true → list_any (begins_at n) before ≡ false
 apart_before n [] later x h e = refl
 apart_before n (y ∷ before) later x h e =
     let parts = and_parts (is_new (own_start y) (before ++ x ∷ later)) (are_apart (before ++ x ∷ later)) h in

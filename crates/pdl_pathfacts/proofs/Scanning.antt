@@ -1,31 +1,29 @@
 -- The scans of the statements on a path of a source that breaks no rule.
-use Rattle.std.proofs.Common.{◌≡◌, refl, sym, ap, ap₂, ◌∙◌, subst, ℕ, suc, ◌+◌, ◌≤◌, ◌<◌, ◌⊎◌, inl, inr, Bool, true, false, ◌&&◌, ◌||◌, not, List, [], ◌∷◌, ◌++◌, length, map, cond, if◌then◌else◌, ◌==◌, nat_lt, nat_le, bytes_eq, Option, Some, None, arith, append_assoc, append-nil, le-leb, leb-true, lt-ltb, eq-eqb, ⊎_elim}
-use Rattle.std.proofs.lemmas.Bool.{false≢true, and_parts, and_from, or_left, both_ways, false_from_ne_true}
+use Rattle.std.proofs.Common.{◌≡◌, refl, sym, ap, ◌∙◌, subst, ℕ, suc, ◌≤◌, ◌<◌, ◌⊎◌, inl, inr, Bool, true, false, ◌&&◌, not, List, [], ◌∷◌, ◌++◌, length, map, nat_lt, nat_le, bytes_eq, Option, Some, arith, append_assoc, append-nil, le-leb, leb-true, lt-ltb, eq-eqb, ⊎_elim}
+use Rattle.std.proofs.lemmas.Bool.{false≢true, and_parts, and_from, or_left}
 use Rattle.std.specs.List.{list_any}
-use Rattle.pdl_model.specs.Tree.{Span, Expr, Variable, Location, Kind, R, W, Stmt, Separator, CombRead, Bind, SpecCall, DelayedRead, Write, Reserve, Block, Release, If, Call, Verify, SpecCheck, SpecBarrier, Mem, Pipe}
+use Rattle.pdl_model.specs.Tree.{Location, R, W, Stmt, Separator, Reserve, Mem, Pipe}
 use Rattle.pdl_model.specs.Flat
 use Rattle.pdl_model.specs.Flatten.{Var, mem_of}
 use Rattle.pdl_model.specs.Stages.{mem_at, is_reserve, reserve_stage, commit_stage}
-use Rattle.pdl_rules.specs.Places.{Place, Statement, Branch, Guard, End}
+use Rattle.pdl_rules.specs.Places.{Place, Statement, Branch}
 use Rattle.pdl_rules.specs.Parts.{location_of}
 use Rattle.pdl_rules.specs.Limits.{is_separator}
 use Rattle.pdl_rules.specs.Locks.{is_locked}
 use Rattle.pdl_rules.specs.Stages.{reserves_memory}
 use Rattle.pdl_rules.specs.Speculation.{releases_unsure}
 use Rattle.pdl_rules.specs.Speculation
-use Rattle.pdl_rules.specs.Calls.{is_call}
 use Rattle.pdl_rules.specs.Typed.{is_memory}
 use Rattle.pdl_rules.proofs.Straight.{Each}
 use Rattle.pdl_rules.proofs.Once.{KeepsLocks, AreBacked, backed_next, bytes_same}
 use Rattle.pdl_rules.proofs.Defined.{any_split}
 use Rattle.pdl_facts.specs.Scans.{is_plain, Scan, reads_ok, Phase, phases_ok, phase_all, is_over}
 use Rattle.pdl_facts.specs.Certain.{Making, makings_ok, making_all, stands_before, all_sure}
-use Rattle.pdl_facts.specs.Checks.{in_text_order, knows}
+use Rattle.pdl_facts.specs.Checks.{in_text_order}
 use Rattle.pdl_stagefacts.proofs.Sites.{Site, closing, place_of, All}
-use Rattle.pdl_pathfacts.proofs.Along
 use Rattle.pdl_pathfacts.proofs.Along.{ops_of, ops, seen_ops, seen}
 use Rattle.pdl_pathfacts.proofs.Variables.{IsNamed}
-use Rattle.pdl_pathfacts.proofs.Growth.{vars_past, Grown, Grows}
+use Rattle.pdl_pathfacts.proofs.Growth.{vars_past, Grows}
 use Rattle.pdl_pathfacts.proofs.Order.{Next, Rises}
 use Rattle.pdl_pathfacts.proofs.Sited.{some_op}
 use Rattle.pdl_pathfacts.proofs.ReadsKept.{Scanned, scanned_grown, scanned_next, scan_ok, reads_append, reads_at, opens_ops}

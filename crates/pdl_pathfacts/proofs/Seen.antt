@@ -1,7 +1,7 @@
 -- Tests of the flat statements on a path, and of those of a text where delayed reads are reads, from tests of the sites.
-use Rattle.std.proofs.Common.{◌≡◌, refl, sym, ap, ap₂, ◌∙◌, subst, ℕ, ◌≤◌, ◌<◌, Bool, true, false, ◌&&◌, ◌||◌, not, List, [], ◌∷◌, ◌++◌, length, ◌==◌, nat_lt, Option, Some, None, if◌then◌else◌, arith, eq-eqb, ltb-true, lt-ltb}
-use Rattle.std.proofs.lemmas.Bool.{false≢true, and_parts, and_from, or_parts, or_left, or_right}
-use Rattle.pdl_model.specs.Tree.{Span, Expr, Variable, Location, Kind, R, W, Stmt, CombRead, DelayedRead, Write, Reserve, Block, Release, Call, If, Mem}
+use Rattle.std.proofs.Common.{◌≡◌, refl, ap, ap₂, ◌∙◌, ℕ, ◌<◌, Bool, true, false, ◌&&◌, ◌||◌, not, List, [], ◌∷◌, ◌++◌, length, ◌==◌, nat_lt, Some, if◌then◌else◌, eq-eqb, lt-ltb}
+use Rattle.std.proofs.lemmas.Bool.{and_parts, and_from, or_parts, or_left, or_right}
+use Rattle.pdl_model.specs.Tree.{Span, Variable, Location, Kind, R, W, Stmt, CombRead, DelayedRead, Write, Reserve, Block, Release, If, Mem}
 use Rattle.pdl_model.specs.Flat
 use Rattle.pdl_model.specs.Flatten.{Var, mem_of}
 use Rattle.pdl_model.specs.Stages.{is_reserve, is_release, is_verify, verify_stage}
@@ -13,7 +13,6 @@ use Rattle.pdl_facts.specs.Scans.{none_of, all_at, is_fetch}
 use Rattle.pdl_facts.specs.Checks.{knows, is_below}
 use Rattle.pdl_facts.specs.Facts.{looked_all}
 use Rattle.pdl_stagefacts.proofs.Sites.{Site, place_of, own, owns, All}
-use Rattle.pdl_pathfacts.proofs.Along
 use Rattle.pdl_pathfacts.proofs.Along.{ops_of, ops, stmts_at, own_is, seen_ops, seen, on_sites}
 use Rattle.pdl_pathfacts.proofs.Numbers.{mem_low}
 use Rattle.pdl_pathfacts.proofs.Sited.{some_op}

@@ -1,22 +1,16 @@
 -- The stages of the sites of a source that breaks no rule: those of its reserves, its releases and its verifies, and the reads before the releases.
-use Rattle.std.proofs.Common.{◌≡◌, refl, sym, ap, ap₂, ◌∙◌, subst, ℕ, suc, ◌+◌, ◌≤◌, ◌<◌, ◌⊎◌, inl, inr, Bool, true, false, ◌&&◌, ◌||◌, not, List, [], ◌∷◌, ◌++◌, length, map, cond, if◌then◌else◌, ◌==◌, nat_lt, bytes_eq, Option, Some, None, arith, append_assoc, append-nil, ltb-false, eq-eqb, ⊎_elim}
-use Rattle.std.proofs.lemmas.Bool.{false≢true, and_parts, and_from, or_parts, or_left, or_right, eqb-true, not-false, both_ways}
-use Rattle.std.proofs.lemmas.List.Folds.{list_any-append}
+use Rattle.std.proofs.Common.{◌≡◌, refl, sym, ap, ap₂, ◌∙◌, ℕ, ◌⊎◌, inl, inr, Bool, true, false, ◌&&◌, ◌||◌, not, List, [], ◌∷◌, ◌++◌, map, if◌then◌else◌, ◌==◌, Some, None, append_assoc, append-nil}
+use Rattle.std.proofs.lemmas.Bool.{false≢true, and_parts, and_from, or_parts, eqb-true}
 use Rattle.std.specs.List.{list_any}
-use Rattle.pdl_model.specs.Tree.{Span, Ident, Expr, Variable, Location, Kind, R, W, Stmt, CombRead, DelayedRead, Reserve, Release, Verify, Param, Mem, Pipe}
+use Rattle.pdl_model.specs.Tree.{Mem}
 use Rattle.pdl_model.specs.Flat
-use Rattle.pdl_model.specs.Flatten.{flat, mem_of}
-use Rattle.pdl_model.specs.Flatten
-use Rattle.pdl_model.specs.Stages.{is_reserve, is_release, is_verify, verify_stage, reserve_stage, commit_stage}
-use Rattle.pdl_rules.specs.Places.{Place, Parameter, Memory, Statement, End, StartClause, places, on_path}
-use Rattle.pdl_rules.specs.Parts.{passes}
-use Rattle.pdl_rules.specs.Limits.{is_separator}
+use Rattle.pdl_model.specs.Stages.{is_verify, verify_stage}
+use Rattle.pdl_rules.specs.Places.{Place}
 use Rattle.pdl_rules.specs.Stages.{stage_in, stage_of, first_stage, stages_that}
-use Rattle.pdl_rules.specs.Refusal.{KeepsRules}
 use Rattle.pdl_facts.specs.Scans.{none_of, all_at}
-use Rattle.pdl_stagefacts.proofs.Sites.{Site, sites_of, front_of, closing, place_of, own, owns, All, stmts_are}
+use Rattle.pdl_stagefacts.proofs.Sites.{Site, place_of, own, owns, All}
 use Rattle.pdl_stagefacts.proofs.Staged.{Staged}
-use Rattle.pdl_pathfacts.proofs.Along.{ops_of, ops, stmts_at, own_is}
+use Rattle.pdl_pathfacts.proofs.Along.{ops, stmts_at, own_is}
 use Rattle.pdl_pathfacts.proofs.Walk.{InText}
 
 -- FROM THE FLAT STATEMENTS TO THE SITES

@@ -1,20 +1,19 @@
 -- The names that a site uses are those of memories and of variables before it.
-use Rattle.std.proofs.Common.{◌≡◌, refl, sym, ap, ap₂, ◌∙◌, subst, ℕ, suc, ◌+◌, ◌<◌, ◌≤◌, Bool, true, false, not, ◌&&◌, ◌||◌, List, [], ◌∷◌, ◌++◌, length, map, Option, Some, None, if◌then◌else◌, bytes_eq, arith, append_assoc, append-nil, ⊎_elim}
-use Rattle.std.proofs.lemmas.Bool.{false≢true, and_parts, and_cases, or_parts, or_cases, or_left, or_right, both_ways, not-false}
+use Rattle.std.proofs.Common.{◌≡◌, refl, sym, ap, ap₂, ◌∙◌, ℕ, Bool, true, false, not, ◌||◌, List, [], ◌∷◌, ◌++◌, map, Some, bytes_eq, append_assoc, append-nil, ⊎_elim}
+use Rattle.std.proofs.lemmas.Bool.{false≢true, and_cases, or_parts, or_cases, or_left, or_right, not-false}
 use Rattle.std.proofs.lemmas.List.Folds.{list_any-append}
 use Rattle.std.specs.List.{list_any}
-use Rattle.pdl_model.specs.Tree.{Span, Expr, Variable, Slice, Location, Stmt, Separator, CombRead, Bind, SpecCall, DelayedRead, Write, Reserve, Block, Release, If, Call, Verify, SpecCheck, SpecBarrier, Stmts, Nil, Cons, Param, Mem, Pipe}
-use Rattle.pdl_model.specs.Flat
+use Rattle.pdl_model.specs.Tree.{Location, Stmt, Separator, CombRead, Bind, SpecCall, DelayedRead, Write, Reserve, Block, Release, If, Call, Verify, SpecCheck, SpecBarrier, Stmts, Nil, Cons, Param, Mem, Pipe}
 use Rattle.pdl_model.specs.Flatten.{Var, var_of, at_start, past, with_guard, at_otherwise, under}
 use Rattle.pdl_model.specs.Flatten
-use Rattle.pdl_kit.specs.declared.rule.Rule.TheVariants.{N1, N2, N3}
+use Rattle.pdl_kit.specs.declared.rule.Rule.TheVariants.{N1, N3}
 use Rattle.pdl_rules.specs.Places.{Place, Parameter, Memory, Statement, End, StartClause, Branch, with_inner, statements, places, on_some_path}
 use Rattle.pdl_rules.specs.Parts.{location_of, passes, some_part, some_expr_of}
 use Rattle.pdl_rules.specs.Names.{OfVariable, OfMemory, Use, defines, in_location, is_undefined, is_parameter, is_given, is_too_early, some_use, in_verify, reads, names_another_pipe}
 use Rattle.pdl_rules.specs.Refusal.{KeepsRules}
 use Rattle.pdl_rules.specs.Typed.{is_named, is_memory}
 use Rattle.pdl_rules.proofs.Once.{bytes_sym}
-use Rattle.pdl_stagefacts.proofs.Sites.{Site, branch, sites, sites_of, front_of, closing, place_of, All, Stands, all_stand}
+use Rattle.pdl_stagefacts.proofs.Sites.{Site, branch, sites_of, front_of, closing, place_of, All, Stands, all_stand}
 use Rattle.pdl_stagefacts.proofs.Walks.{told, names, names_at, names_append, Named, At, holds_all, all_at}
 use Rattle.pdl_pathfacts.proofs.Numbers.{is_in, var_names, var_place}
 

@@ -1,7 +1,6 @@
 -- A walk over the sites on a path of a source that breaks no rule: what holds at each, of the places before it on the path.
-use Rattle.std.proofs.Common.{◌≡◌, refl, sym, ap, ap₂, ◌∙◌, subst, ℕ, suc, ◌+◌, ◌≤◌, ◌<◌, Bool, true, false, ◌&&◌, ◌||◌, not, List, [], ◌∷◌, ◌++◌, filter, map, cond, if◌then◌else◌, length, Some, append_assoc, append-nil, arith}
-use Rattle.std.specs.List.{list_any}
-use Rattle.pdl_model.specs.Tree.{Span, Expr, Variable, Constant, Slice, Not, Binary, Cat, LessSigned, ZeroExtend, SignExtend, Choose, Location, Stmt, Separator, CombRead, Bind, SpecCall, DelayedRead, Write, Reserve, Block, Release, If, Call, Verify, SpecCheck, SpecBarrier, Stmts, Nil, Cons, Mem, Pipe}
+use Rattle.std.proofs.Common.{◌≡◌, refl, sym, ap, ◌∙◌, subst, Bool, true, false, List, [], ◌∷◌, ◌++◌, filter, map, cond, if◌then◌else◌, append_assoc, append-nil}
+use Rattle.pdl_model.specs.Tree.{Stmt, If, Stmts, Nil, Cons, Mem, Pipe}
 use Rattle.pdl_model.specs.Flat
 use Rattle.pdl_model.specs.Flatten.{Var, mem_width, width_of, at_start, with_guard, past, past_all, at_otherwise, back_in, under}
 use Rattle.pdl_model.specs.Flatten
@@ -12,7 +11,7 @@ use Rattle.pdl_rules.specs.Calls.{is_wrong_call}
 use Rattle.pdl_rules.specs.Refusal.{KeepsRules}
 use Rattle.pdl_rules.proofs.Straight.{Each}
 use Rattle.pdl_rules.proofs.Once.{KeepsLocks}
-use Rattle.pdl_stagefacts.proofs.Sites.{Site, site, branch, sites_in, sites, sites_of, front_of, closing, place_of, All, all_append, Stands, all_stand, places_in, places_all}
+use Rattle.pdl_stagefacts.proofs.Sites.{Site, branch, sites_in, sites, sites_of, front_of, closing, place_of, All, places_in, places_all}
 use Rattle.pdl_pathfacts.proofs.Choices.{path_of, unbroken_on}
 use Rattle.pdl_pathfacts.proofs.Along.{on_sites}
 use Rattle.pdl_pathfacts.proofs.Variables.{Here, all_here}

@@ -1,7 +1,8 @@
--- What holds of each tree that is read from a source, besides the rules: where its `if`s begin.
+-- What holds of each tree that is read from a source, besides the rules: where its `if`s begin, and that its names have letters.
 use Rattle.std.specs.Prelude.{ℕ, Bool, true, false, not, ◌&&◌, List, [], ◌∷◌, Option, Some, None}
 use Rattle.std.specs.List.{list_any}
 use Rattle.pdl_model.specs.Tree.{If, Pipe}
+use Rattle.pdl_rules.specs.Names.{OfVariable, defines}
 use Rattle.pdl_rules.specs.Places.{Place, Statement, Guard, Shared, Own, guard_of, same_guard, places}
 
 -- whether a place is an `if` on an expression that begins at byte n
@@ -29,3 +30,7 @@ are_apart (x ∷ xs) = is_new (own_start x) xs && are_apart xs
 
 abbrev pub is_source : Pipe → Bool
 is_source p = are_apart (places p)
+
+-- no variable has the empty name, which the guard of an `if` on an expression has in the flat form
+abbrev pub is_named : Pipe → Bool
+is_named p = not (list_any (defines (OfVariable [])) (places p))

@@ -1,6 +1,6 @@
 //! What the rules of the language say of the statements on each path of an accepted pipe.
 //!
-//! The functions do nothing: the clauses are facts of every pipe that breaks no rule, on each path of its flat form, where a delayed read is a read. No two `if`s on expressions may begin at one byte, as in every tree that is read from a source.
+//! The functions do nothing: the clauses are facts of every pipe that breaks no rule, on each path of its flat form, where a delayed read is a read; and so all facts that the theorems on the whole language take. No two `if`s on expressions may begin at one byte, and for all facts no variable may have the empty name: so it is in every tree that is read from a source.
 #![tactic(auto)]
 
 ghost use Rattle.std.specs.Prelude.{ℕ, false, IsTrue, List};
@@ -10,9 +10,9 @@ ghost use Rattle.pdl_model.specs.Stages.{onpath, verify_stage};
 ghost use Rattle.pdl_rules.specs.Refusal.{KeepsRules};
 ghost use Rattle.pdl_facts.specs.Scans.{no_scan};
 ghost use Rattle.pdl_facts.specs.Certain.{Unmade, makings_ok, making_all, is_made, all_sure};
-ghost use Rattle.pdl_facts.specs.Facts.{at_once};
+ghost use Rattle.pdl_facts.specs.Facts.{at_once, Sound};
 ghost use Rattle.pdl_facts.specs.Accepted.{Accepted, along};
-ghost use Rattle.pdl_pathfacts.specs.Source.{is_source};
+ghost use Rattle.pdl_pathfacts.specs.Source.{is_source, is_named};
 
 /// The statements on each path: in the order of their stages, with locks, calls, guesses and releases as the rules have them.
 pub fn paths()
@@ -20,4 +20,9 @@ pub fn paths()
     ensures makings { (p : Pipe) → KeepsRules p → IsTrue (is_source p) → (path : List ℕ) → IsTrue (makings_ok (verify_stage (at_once (flat p)).stmts) Unmade (onpath path (at_once (flat p)).stmts)) }
     ensures made { (p : Pipe) → KeepsRules p → IsTrue (is_source p) → (path : List ℕ) → IsTrue (is_made (making_all Unmade (onpath path (at_once (flat p)).stmts))) }
     ensures sure { (p : Pipe) → KeepsRules p → IsTrue (is_source p) → (path : List ℕ) → IsTrue (all_sure (verify_stage (at_once (flat p)).stmts) false no_scan (onpath path (at_once (flat p)).stmts)) }
+{}
+
+/// All facts of an accepted pipe that the theorems on the whole language take.
+pub fn sound()
+    ensures { (p : Pipe) → KeepsRules p → IsTrue (is_source p) → IsTrue (is_named p) → Sound (flat p) }
 {}

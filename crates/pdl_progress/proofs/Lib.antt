@@ -1,2 +1,3 @@
 pub mod Rates
 pub mod Sounded
+pub mod Tried

@@ -1,7 +1,7 @@
 -- A pipe that passes the tests of the whole language has the facts that the theorems take.
-use Rattle.std.proofs.Common.{◌≡◌, refl, sym, ap, ap₂, ◌∙◌, subst, ℕ, zero, suc, ◌-◌, ◌≤◌, ◌<◌, ◌⊎◌, inl, inr, Bool, true, false, ◌&&◌, ◌||◌, not, List, [], ◌∷◌, length, Option, Some, None, is_none, nat_lt, nat_le, ◌==◌, cond, if◌then◌else◌, arith, slice_index, slice_set, replicate, ltb-true, ltb-false, leb-true, leb-false, lt-ltb, le_refl, eq-eqb}
+use Rattle.std.proofs.Common.{◌≡◌, refl, sym, ap, ap₂, ◌∙◌, subst, ℕ, zero, suc, ◌-◌, ◌≤◌, ◌<◌, ◌⊎◌, inl, inr, Bool, true, false, ◌&&◌, ◌||◌, not, List, [], ◌∷◌, length, Option, Some, None, is_none, nat_lt, nat_le, ◌==◌, cond, if◌then◌else◌, arith, slice_index, replicate, ltb-true, ltb-false, leb-true, lt-ltb, le_refl, eq-eqb}
 use Rattle.std.proofs.lemmas.Bool.{eqb-true, ne_eqb}
-use Rattle.pdl_model.specs.Flat.{list_all, Op, DelayedRead, Stmt, Guard, Next, Ends, Goes, Forks, Branch, Stage, Pipe, taken, start_env}
+use Rattle.pdl_model.specs.Flat.{list_all, Op, DelayedRead, Stmt, Guard, Next, Ends, Goes, Forks, Branch, Stage, Pipe, start_env}
 use Rattle.pdl_model.specs.Stages.{onpath, in_stage, stage_at, last_stage, is_inside, is_branch_of, is_reserve, mem_at, goes_to, commit_stage, reserve_stage, verify_stage, fork_guards}
 use Rattle.pdl_model.specs.Sound.{all_below}
 use Rattle.pdl_derived.specs.Alone.{before, looked}
@@ -10,28 +10,14 @@ use Rattle.pdl_model.specs.Cycle.{merges_by}
 use Rattle.pdl_facts.specs.Facts.{trunk_only}
 use Rattle.pdl_turns.proofs.Sounds.{none_looked}
 use Rattle.pdl_facts.specs.Graphs.{Trunk, stage_or, next_of, Below, Graph, on_side, goes_by, In, Branches}
-use Rattle.pdl_facts.specs.Facts.{looked_all, blind_to, unseen, fetch_apart, is_exact, is_dead, fetches, comes_by, visits, FetchIf, AllFetches, at_once, Sound}
-use Rattle.pdl_facts.specs.Checks.{vars_of, guard_vars}
-use Rattle.pdl_facts.specs.SoundChecks.{is_last_of, merge_sound, branch_whole, forks_whole, verifies_at, nexts_of, nexts, is_trunk, same_branch, leads_in, any_below, is_passed, is_in_merge, enters, next_passes, branch_passes, side_is, no_side, side_passes, stage_sound, fork_sound, all_paths, none_between, skip_passes, all_guards, fetch_stage, fetch_sound, tests, sounds}
+use Rattle.pdl_facts.specs.Facts.{DifferIn, looked_all, unseen, fetch_apart, is_exact, is_dead, fetches, comes_by, visits, FetchIf, AllFetches, at_once, Sound}
+use Rattle.pdl_facts.specs.Checks.{guard_vars}
+use Rattle.pdl_facts.specs.SoundChecks.{none_hangs, blind_passes, is_last_of, merge_sound, branch_whole, forks_whole, verifies_at, nexts_of, nexts, is_trunk, same_branch, leads_in, any_below, is_passed, is_in_merge, enters, next_passes, branch_passes, side_is, no_side, side_passes, stage_sound, fork_sound, none_between, skip_passes, all_guards, fetch_stage, fetch_sound, tests, sounds}
 use Rattle.pdl_derived.proofs.Writes.{and_left, and_right}
 use Rattle.pdl_facts.proofs.Texts.{below_at, past_end, none_there, where_true, no_reserve}
 use Rattle.pdl_facts.proofs.Passes.{known, reserves, pathwise_paths, parts_paths, reserve_past, commit_past}
-use Rattle.pdl_progress.proofs.Rates.{picks, among, among_append, picked, fork_among}
-
-clash : false ≡ true → ⊥
-clash k = cc
-
-not_true : (b : Bool) → not b ≡ true → b ≡ false
-not_true true h = absurd (cc h)
-not_true false h = refl
-
-by_or : (b c : Bool) (R : Type 0) → (b || c) ≡ true → (b ≡ true → R) → (c ≡ true → R) → R
-by_or true c R h f g = f refl
-by_or false c R h f g = g h
-
-by_bool : (b : Bool) (R : Type 0) → (b ≡ true → R) → (b ≡ false → R) → R
-by_bool true R f g = f refl
-by_bool false R f g = g refl
+use Rattle.pdl_progress.proofs.Rates.{picks, among, among_append, fork_among}
+use Rattle.pdl_progress.proofs.Tried.{clash, not_true, by_or, or_more, by_bool, all_picks, Agree, path_agree, between_none, AllTrue, parts, agree_picks, hangs_none, before_among, all_same}
 
 by_branch : (o : Option Branch) (R : Type 0) → (o ≡ None → R) → ((c : Branch) → o ≡ Some c → R) → R
 by_branch None R f g = f refl
@@ -80,75 +66,6 @@ is_same o c e = ap (λ x. same_branch x c) e ∙ ap₂ (λ a b. a && b) (eq-eqb 
     at : (b : Bool) → (if b then b else not b) ≡ true
     at true = refl
     at false = refl
-
--- PATHS BY THEIR GUARDS
-
-all_picks : (test : List ℕ → Bool) (path : List ℕ) (gs e : List ℕ) → all_paths gs test e ≡ true → test (picks path gs e) ≡ true
-all_picks test path [] e h = h
-all_picks test path (g ∷ gs) e h = at (slice_index path g == 1) (all_picks test path gs (slice_set e g 0) (and_left _ _ h)) (all_picks test path gs (slice_set e g 1) (and_right (all_paths gs test (slice_set e g 0)) _ h))
-  where
-    at : (b : Bool) → test (picks path gs (slice_set e g 0)) ≡ true → test (picks path gs (slice_set e g 1)) ≡ true → test (picks path gs (slice_set e g (if b then 1 else 0))) ≡ true
-    at true i j = j
-    at false i j = i
-
--- two lists of values that agree on guards
-abbrev Agree : List ℕ → List ℕ → List ℕ → Type 0
-Agree gs e f = (g : ℕ) → among g gs ≡ true → (slice_index e g == 1) ≡ (slice_index f g == 1)
-
-taken_agree : (gs : List ℕ) (e f : List ℕ) (hs : List Guard) → Agree gs e f → ((g : ℕ) → among g (vars_of hs) ≡ true → among g gs ≡ true) → taken hs e ≡ taken hs f
-taken_agree gs e f [] a i = refl
-taken_agree gs e f (h ∷ hs) a i =
-    ap₂ (λ b c. b && c) (ap (λ b. if h.first then b else not b) (a h.var (i h.var (ap (λ b. b || among h.var (vars_of hs)) (eq-eqb h.var h.var refl)))))
-    (taken_agree gs e f hs a (λ g k. i g (or_more (h.var == g) k)))
-  where
-    or_more : (b : Bool) {c : Bool} → c ≡ true → (b || c) ≡ true
-    or_more true k = refl
-    or_more false k = k
-
-path_agree : (gs : List ℕ) (e f : List ℕ) (xs : List Stmt) → Agree gs e f → ((g : ℕ) → among g (guard_vars xs) ≡ true → among g gs ≡ true) → onpath e xs ≡ onpath f xs
-path_agree gs e f [] a i = refl
-path_agree gs e f (x ∷ xs) a i =
-    ap₂ (λ b l. cond b (record x { guards = [] } ∷ l) l) (taken_agree gs e f x.guards a (λ g k. i g (among_append g (vars_of x.guards) (guard_vars xs) ∙ ap (λ b. b || among g (guard_vars xs)) k)))
-    (path_agree gs e f xs a (λ g k. i g (among_append g (vars_of x.guards) (guard_vars xs) ∙ or_more (among g (vars_of x.guards)) k)))
-  where
-    or_more : (b : Bool) {c : Bool} → c ≡ true → (b || c) ≡ true
-    or_more true k = refl
-    or_more false k = k
-
--- nothing stands between two stages
-between_none : (a b : ℕ) (xs : List Stmt) → a ≤ b → none_between a b xs ≡ true → before b xs ≡ before a xs
-between_none a b [] low h = refl
-between_none a b (x ∷ xs) low h = ap₂ (λ c l. cond c (record x { op = Rattle.pdl_derived.specs.Alone.looked x.op } ∷ l) l) (at (nat_lt x.stage b) refl (nat_lt x.stage a) refl) (between_none a b xs low (and_right (not (nat_le a x.stage && nat_lt x.stage b)) _ h))
-  where
-    at : (c : Bool) → nat_lt x.stage b ≡ c → (d : Bool) → nat_lt x.stage a ≡ d → c ≡ d
-    at true e true f = refl
-    at false e false f = refl
-    at false e true f = absurd (let i : b ≤ x.stage = ltb-false _ _ e in let j : x.stage < a = ltb-true _ _ f in omega arith)
-    at true e false f = absurd (cc (sym (ap₂ (λ u v. not (u && v)) (le-leb' a x.stage (ltb-false _ _ f)) e) ∙ and_left (not (nat_le a x.stage && nat_lt x.stage b)) _ h))
-      where
-        le-leb' : (m n : ℕ) → m ≤ n → nat_le m n ≡ true
-        le-leb' m n k = by_bool (nat_le m n) (nat_le m n ≡ true) (λ i. i) (λ i. absurd (let j : n < m = leb-false _ _ i in omega arith))
-
--- each test of several
-abbrev AllTrue : List Bool → Type 0
-AllTrue [] = Unit {0}
-AllTrue (b ∷ bs) = (b ≡ true) × AllTrue bs
-
-parts : (bs : List Bool) → list_all (λ b. b) bs ≡ true → AllTrue bs
-parts [] h = tt
-parts (b ∷ bs) h = (and_left b _ h, parts bs (and_right b _ h))
-
--- a path's guards may be picked
-agree_picks : (path gs e : List ℕ) → list_all (λ g. nat_lt g (length e)) gs ≡ true → Agree gs (picks path gs e) path
-agree_picks path gs e h g k = picked path gs e g (below gs h k) k
-  where
-    below : (xs : List ℕ) → list_all (λ g. nat_lt g (length e)) xs ≡ true → among g xs ≡ true → g < length e
-    below [] i j = absurd (cc j)
-    below (x ∷ xs) i j = at (x == g) refl j (below xs (and_right (nat_lt x (length e)) _ i))
-      where
-        at : (b : Bool) → (x == g) ≡ b → (b || among g xs) ≡ true → (among g xs ≡ true → g < length e) → g < length e
-        at true f l go = subst (λ n. n < length e) (eqb-true x g f) (ltb-true _ _ (and_left (nat_lt x (length e)) _ i))
-        at false f l go = go l
 
 -- READS AT ONCE
 
@@ -421,10 +338,6 @@ module _ (p : Pipe) (h : sounds p ≡ true) where
   agrees : (path : List ℕ) → Agree (all_guards p) (picks path (all_guards p) (start_env p [])) path
   agrees path = agree_picks path (all_guards p) (start_env p []) (subst (λ n. list_all (λ g. nat_lt g n) (all_guards p) ≡ true) (sym start_long) all.1.1.1.1.1.1.0)
 
-  or_more : (b : Bool) {c : Bool} → c ≡ true → (b || c) ≡ true
-  or_more true k = refl
-  or_more false k = k
-
   fork_guard : (s x a b : ℕ) → (stage_at p s).next ≡ Forks x a b → among x (all_guards p) ≡ true
   fork_guard s x a b e = among_append x (guard_vars p.stmts) (fork_guards p.stages) ∙ or_more (among x (guard_vars p.stmts)) (fork_among p.stages s x a b e)
 
@@ -461,6 +374,25 @@ module _ (p : Pipe) (h : sounds p ≡ true) where
 
   -- DELAYED READS
 
+  -- no statement stands past the last stage
+  none_past : (s : ℕ) (xs : List Stmt) → length p.stages ≤ s → list_all (λ y. nat_lt y.stage (length p.stages)) xs ≡ true → in_stage s xs ≡ []
+  none_past s [] low k = refl
+  none_past s (x ∷ xs) low k =
+      let i : x.stage < length p.stages = ltb-true _ _ (and_left (nat_lt x.stage (length p.stages)) _ k) in
+      ap (λ b. cond b (x ∷ in_stage s xs) (in_stage s xs)) (ne_eqb x.stage s (λ e. absurd (omega arith))) ∙ none_past s xs low (and_right (nat_lt x.stage (length p.stages)) _ k)
+
+  fetch_blind : (s : ℕ) (env env' : List ℕ) → DifferIn (in_stage s p.stmts) env env' → onpath env' (before (next_of p s env) p.stmts) ≡ onpath env (before (next_of p s env) p.stmts)
+  fetch_blind s env env' d =
+      by_bool (nat_lt s (length p.stages)) _
+      (λ i.
+      let k : none_hangs (picks env (all_guards p) (start_env p [])) (in_stage s p.stmts) (before (next_of p s env) p.stmts) ≡ true =
+      subst (λ n. none_hangs (picks env (all_guards p) (start_env p [])) (in_stage s p.stmts) (before n p.stmts) ≡ true) (next_same env s)
+      (below_at (λ s. none_hangs (picks env (all_guards p) (start_env p [])) (in_stage s p.stmts) (before (next_of p s (picks env (all_guards p) (start_env p []))) p.stmts)) (length p.stages) s
+      (all_picks (blind_passes p) env (all_guards p) (start_env p []) all.1.1.1.1.1.1.1.1.1.1.1.1.1.1.1.1.1.0) (ltb-true _ _ i)) in
+      hangs_none (all_guards p) (picks env (all_guards p) (start_env p [])) env env' (in_stage s p.stmts) (before (next_of p s env) p.stmts) (agrees env)
+      (λ g j. among_append g (guard_vars p.stmts) (fork_guards p.stages) ∙ ap (λ b. b || among g (fork_guards p.stages)) (before_among (next_of p s env) g p.stmts j)) d k)
+      (λ i. all_same env env' (before (next_of p s env) p.stmts) (λ x. d x (ap (none_of (fetches x)) (none_past s p.stmts (ltb-false _ _ i) all.1.1.1.1.1.1.1.1.1.0))))
+
   fetch_here : (s : ℕ) (gs : List Guard) (op : Op) → fetch_sound p s gs op ≡ true → FetchIf p (λ m. fetch_stage m p.stmts) s gs op
   fetch_here s gs (DelayedRead x m a) k =
       let k1 = and_right (fetch_stage m p.stmts == s) _ k in
@@ -471,13 +403,12 @@ module _ (p : Pipe) (h : sounds p ≡ true) where
       let exact : is_exact (mem_at p m).lock ≡ true = and_left (is_exact (mem_at p m).lock) _ k2 in (
         (here, known, exact),
         λ d.
-            let k4 = alone_live (is_dead gs) (list_all (λ n. nat_le n (commit_stage p m)) (nexts p s) && list_all (λ n. blind_to x (before n p.stmts)) (nexts p s)) d k3 in
+            let k4 = alone_live (is_dead gs) (list_all (λ n. nat_le n (commit_stage p m)) (nexts p s)) d k3 in
             record {
               here = here;
               known = known;
               exact = exact;
-              early = λ env. leb-true _ _ (next_in p (λ n. nat_le n (commit_stage p m)) s env (and_left (list_all (λ n. nat_le n (commit_stage p m)) (nexts p s)) _ k4));
-              blind = λ env. next_in p (λ n. blind_to x (before n p.stmts)) s env (and_right (list_all (λ n. nat_le n (commit_stage p m)) (nexts p s)) _ k4);
+              early = λ env. leb-true _ _ (next_in p (λ n. nat_le n (commit_stage p m)) s env k4);
             },
       )
     where
@@ -493,13 +424,6 @@ module _ (p : Pipe) (h : sounds p ≡ true) where
       at : (b : Bool) → (x.stage == s) ≡ b → AllFetches p (λ m. fetch_stage m p.stmts) s (in_stage s xs) → AllFetches p (λ m. fetch_stage m p.stmts) s (cond b (x ∷ in_stage s xs) (in_stage s xs))
       at true e r = (fetch_here s x.guards x.op (subst (λ n. fetch_sound p n x.guards x.op ≡ true) (eqb-true x.stage s e) (and_left (fetch_sound p x.stage x.guards x.op) _ k)), r)
       at false e r = r
-
-  -- no statement stands past the last stage
-  none_past : (s : ℕ) (xs : List Stmt) → length p.stages ≤ s → list_all (λ y. nat_lt y.stage (length p.stages)) xs ≡ true → in_stage s xs ≡ []
-  none_past s [] low k = refl
-  none_past s (x ∷ xs) low k =
-      let i : x.stage < length p.stages = ltb-true _ _ (and_left (nat_lt x.stage (length p.stages)) _ k) in
-      ap (λ b. cond b (x ∷ in_stage s xs) (in_stage s xs)) (ne_eqb x.stage s (λ e. absurd (omega arith))) ∙ none_past s xs low (and_right (nat_lt x.stage (length p.stages)) _ k)
 
   in_each : (test : List Stmt → Bool) → test [] ≡ true → all_below (λ s. test (in_stage s p.stmts)) (length p.stages) ≡ true → (s : ℕ) → test (in_stage s p.stmts) ≡ true
   in_each test none k s =
@@ -528,6 +452,7 @@ module _ (p : Pipe) (h : sounds p ≡ true) where
         fork_seen = λ s x a b e. and_right (none_of (binds x) (from (suc s) p.stmts)) _ (and_right (nat_lt x p.vars) _ (fork_ok s x a b e));
         fetch = λ m. fetch_stage m p.stmts;
         fetch_ok = λ s. fetch_all s p.stmts all.1.1.1.1.1.1.1.1.0;
+        fetch_blind = fetch_blind;
         fetch_unseen = in_each unseen refl all.1.1.1.1.1.1.1.1.1.1.0;
         fetch_alone = in_each fetch_apart refl all.1.1.1.1.1.1.1.1.1.1.1.0;
         fetch_inside = λ s e. where_true (suc s == length p.stages) _ (below_at (λ s. not (suc s == length p.stages) || none_of is_fetch (in_stage s p.stmts)) (length p.stages) s all.1.1.1.1.1.1.1.1.1.1.1.1.1.1.1.1.0 (omega arith)) (eq-eqb _ _ e);

@@ -1,2 +1,2 @@
-mod SoundExamples
+pub mod SoundExamples
 pub mod Stated

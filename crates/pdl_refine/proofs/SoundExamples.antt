@@ -4,7 +4,7 @@ use Rattle.pdl_model.specs.Tree.{R, W, Queue, Bypass}
 use Rattle.pdl_model.specs.Tree
 use Rattle.pdl_model.specs.Flatten.{flat}
 use Rattle.pdl_model.proofs.Pipes.{one_stage, shared_guard, count_up, guess, far_barrier, copy, copy_guessed, count_slow, two_branches, one_branch, forked}
-use Rattle.pdl_model.proofs.Texts.{constant, variable, slice, plus, separator, bind, delayed_read, write, reserve, block, release, call, spec_call, verify, spec_check, spec_barrier, if_else, lock, comb, slow, pipe}
+use Rattle.pdl_model.proofs.Texts.{number, constant, variable, slice, plus, separator, bind, delayed_read, write, reserve, block, release, call, spec_call, verify, spec_check, spec_barrier, if_else, lock, comb, slow, pipe}
 use Rattle.pdl_model.specs.Flat.{Arrays, Pipe}
 use Rattle.pdl_derived.specs.Alone.{Refines, Advances, KeepsPace}
 use Rattle.pdl_facts.specs.SoundChecks.{sounds}
@@ -71,6 +71,20 @@ dead_read =
 
 dead_read_sounds : sounds (flat dead_read) ≡ true
 dead_read_sounds = refl
+
+-- a delayed read before a fork, whose first branch has an `if` on it in a stage that the second passes over
+abbrev pub passed_by : Tree.Pipe
+passed_by =
+    pipe 2 (record (slow "d" 4 None) { width = number 1 } ∷ [])
+    (bind "g" (slice "n" 0 0) ∷ delayed_read "x" "d" "n" ∷ call (plus (variable "n") (constant 2 1))
+    ∷ if_else (variable "g") (separator ∷ if_else (variable "x") (bind "y" (constant 1 1) ∷ []) [] ∷ []) (separator ∷ separator ∷ []) ∷ separator ∷ [])
+
+passed_by_sounds : sounds (flat passed_by) ≡ true
+passed_by_sounds = refl
+
+-- an `if` on a delayed read in its stage breaks a rule
+early_guard_fails : sounds (flat (pipe 2 (record (slow "d" 4 None) { width = number 1 } ∷ []) (delayed_read "x" "d" "n" ∷ call (plus (variable "n") (constant 2 1)) ∷ if_else (variable "x") (bind "y" (constant 1 1) ∷ []) [] ∷ separator ∷ []))) ≡ false
+early_guard_fails = refl
 
 -- a barrier in a branch breaks a rule
 branch_barrier_fails : sounds (flat (forked (separator ∷ spec_barrier ∷ separator ∷ []) [])) ≡ false

@@ -123,7 +123,7 @@ abbrev pub Each : (Flat.Stmt → Type 0) → List Flat.Stmt → Type 0
 Each P [] = Unit {0}
 Each P (y ∷ ys) = P y × Each P ys
 
-each_append : (P : Flat.Stmt → Type 0) (xs ys : List Flat.Stmt) → Each P xs → Each P ys → Each P (xs ++ ys)
+pub each_append : (P : Flat.Stmt → Type 0) (xs ys : List Flat.Stmt) → Each P xs → Each P ys → Each P (xs ++ ys)
 each_append P [] ys h k = k
 each_append P (x ∷ xs) ys h k = (h.0, each_append P xs ys h.1 k)
 

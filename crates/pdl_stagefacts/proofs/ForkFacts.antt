@@ -33,7 +33,7 @@ same_bytes : (x : List ℕ) → bytes_eq x x ≡ true
 same_bytes [] = refl
 same_bytes (c ∷ cs) = and_from (c == c) (bytes_eq cs cs) (eq-eqb c c refl) (same_bytes cs)
 
-any_param : (x : List ℕ) (ps : List Param) → list_any (λ (a : Param). bytes_eq x a.name.name) ps ≡ true → list_any (defines (OfVariable x)) (map Parameter ps) ≡ true
+pub any_param : (x : List ℕ) (ps : List Param) → list_any (λ (a : Param). bytes_eq x a.name.name) ps ≡ true → list_any (defines (OfVariable x)) (map Parameter ps) ≡ true
 any_param x [] e = e
 any_param x (a ∷ ps) e = at (bytes_eq x a.name.name) e (any_param x ps)
   where

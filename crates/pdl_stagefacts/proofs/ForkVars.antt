@@ -140,7 +140,7 @@ none_given u test (x ∷ xs) e = at (test x) (none_given u test xs parts.1)
     at true k = ap (λ d. (d && (not (is_delayed x) || list_any is_separator (filter test xs))) || is_given (filter test xs) u) parts.0 ∙ k
     at false k = k
 
-some_filter : (q test : Place → Bool) (xs : List Place) → list_any q (filter test xs) ≡ true → list_any q xs ≡ true
+pub some_filter : (q test : Place → Bool) (xs : List Place) → list_any q (filter test xs) ≡ true → list_any q xs ≡ true
 some_filter q test [] e = e
 some_filter q test (x ∷ xs) e = at (test x) e (some_filter q test xs)
   where
@@ -183,7 +183,7 @@ some_cut (x ∷ xs) e = at (is_separator x) refl e (some_cut xs)
     at false f g k = let a = cut_append (x ∷ []) xs in let l = k g in omega arith
 
 -- a place that defines a variable has its name
-variable_name : (x : List ℕ) (d : Place) → defines (OfVariable x) d ≡ true → name_at d ≡ Some x
+pub variable_name : (x : List ℕ) (d : Place) → defines (OfVariable x) d ≡ true → name_at d ≡ Some x
 variable_name x (Parameter a) e = ap Some (sym (same_text x a.name.name e))
 variable_name x (Memory m) e = absurd (false≢true e)
 variable_name x (Statement (CombRead sp y l) bs) e = ap Some (sym (same_text x y.name e))

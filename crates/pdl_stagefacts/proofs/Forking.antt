@@ -147,14 +147,14 @@ tail_is x y xs ys e = ap tail e
     tail (z ∷ zs) = zs
 
 -- of two places the one that stands before the other
-before_is : (xs ys later more : List Place) (x y : Place) → xs ++ x ∷ later ≡ ys ++ y ∷ more → length xs < length ys → (m : List Place) × (ys ≡ xs ++ x ∷ m)
+pub before_is : (xs ys later more : List Place) (x y : Place) → xs ++ x ∷ later ≡ ys ++ y ∷ more → length xs < length ys → (m : List Place) × (ys ≡ xs ++ x ∷ m)
 before_is xs [] later more x y e l = absurd (omega arith)
 before_is [] (z ∷ ys) later more x y e l = (ys, ap (λ u. u ∷ ys) (sym (head_is x z later (ys ++ y ∷ more) e)))
 before_is (u ∷ xs) (z ∷ ys) later more x y e l =
     let r = before_is xs ys later more x y (tail_is u z (xs ++ x ∷ later) (ys ++ y ∷ more) e) (omega arith) in
     (r.0, ap₂ (λ a b. a ∷ b) (sym (head_is u z (xs ++ x ∷ later) (ys ++ y ∷ more) e)) r.1)
 
-same_is : (xs ys later more : List Place) (x y : Place) → xs ++ x ∷ later ≡ ys ++ y ∷ more → length xs ≡ length ys → (xs ≡ ys) × (x ≡ y)
+pub same_is : (xs ys later more : List Place) (x y : Place) → xs ++ x ∷ later ≡ ys ++ y ∷ more → length xs ≡ length ys → (xs ≡ ys) × (x ≡ y)
 same_is [] [] later more x y e l = (refl, head_is x y later more e)
 same_is [] (z ∷ ys) later more x y e l = absurd (let k : 0 ≡ suc (length ys) = l in omega arith)
 same_is (u ∷ xs) [] later more x y e l = absurd (let k : suc (length xs) ≡ 0 = l in omega arith)

@@ -249,7 +249,7 @@ module _ (p : Pipe) (rules : KeepsRules p) where
           (rules F3 t.front (Statement (DelayedRead sp x l) t.branches) h.later (h.whole ∙ ap (λ s. t.front ++ Statement s t.branches ∷ h.later) e))).1)
       at s e g = absurd (false≢true g)
 
-  fetch_named : (t : Site) → Fine p t → (m : ℕ) (op : Flat.Op) → op_of p.mems t.walk.vars t.stmt ≡ Some op → is_fetch_of m op ≡ true → (n : List ℕ) × (is_known p.mems n ≡ true) × (mem_of p.mems n ≡ m) × (fetches n (place_of t) ≡ true)
+  pub fetch_named : (t : Site) → Fine p t → (m : ℕ) (op : Flat.Op) → op_of p.mems t.walk.vars t.stmt ≡ Some op → is_fetch_of m op ≡ true → (n : List ℕ) × (is_known p.mems n ≡ true) × (mem_of p.mems n ≡ m) × (fetches n (place_of t) ≡ true)
   fetch_named t h m op e f = at t.stmt refl (ap (from_op (is_fetch_of m)) e ∙ f)
     where
       at : (s : Stmt) → t.stmt ≡ s → from_op (is_fetch_of m) (op_of p.mems t.walk.vars s) ≡ true → (n : List ℕ) × (is_known p.mems n ≡ true) × (mem_of p.mems n ≡ m) × (fetches n (Statement s t.branches) ≡ true)

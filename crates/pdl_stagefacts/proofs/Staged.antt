@@ -42,7 +42,7 @@ sides_differ sp c when otherwise xs more = at (same_guard (branch sp c true when
 
 -- STAGES BY THE TEXT
 
-from_append : (begun found : ℕ) (bs : List Branch) (xs ys : List Place) → stage_from begun found bs (xs ++ ys) ≡ stage_from (begun + cut xs) (stage_from begun found bs xs) bs ys
+pub from_append : (begun found : ℕ) (bs : List Branch) (xs ys : List Place) → stage_from begun found bs (xs ++ ys) ≡ stage_from (begun + cut xs) (stage_from begun found bs xs) bs ys
 from_append begun found bs [] ys = ap (λ n. stage_from n found bs ys) (let e : begun ≡ begun + 0 = omega arith in e)
 from_append begun found bs (x ∷ xs) ys =
     at (is_separator x) refl (from_append (suc begun) (if are_outer (branches_of x) bs then suc begun else found) bs xs ys) (from_append begun found bs xs ys)
@@ -60,7 +60,7 @@ from_append begun found bs (x ∷ xs) ys =
         (let f = cut_append (x ∷ []) xs in let g : cut (x ∷ []) ≡ 0 = ap (λ b. 0 + cond b 1 0) e in let i : begun + cut xs ≡ begun + cut (x ∷ xs) = omega arith in i)
 
 -- without a separator nothing new is found
-from_none : (begun found : ℕ) (bs : List Branch) (xs : List Place) → cut xs ≡ 0 → stage_from begun found bs xs ≡ found
+pub from_none : (begun found : ℕ) (bs : List Branch) (xs : List Place) → cut xs ≡ 0 → stage_from begun found bs xs ≡ found
 from_none begun found bs [] e = refl
 from_none begun found bs (x ∷ xs) e = at (is_separator x) refl (from_none begun found bs xs)
   where

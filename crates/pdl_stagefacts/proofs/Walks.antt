@@ -238,12 +238,18 @@ abbrev pub AllChosen : List Place → List Choice → Type 0
 AllChosen front [] = Unit {0}
 AllChosen front (h ∷ hs) = Chosen front h × AllChosen front hs
 
+-- each `if` stands in the branches of those before it
+abbrev pub Nested : List Branch → List Choice → Type 0
+Nested bs [] = Unit {0}
+Nested bs (h ∷ hs) = (h.branches ≡ bs) × Nested (bs ++ rule_branch h ∷ []) hs
+
 -- guards and branches are those of the same choices
 pub record Under (front : List Place) (gs : List Flat.Guard) (bs : List Branch) : Type 0 where
   pub choices : List Choice
   pub guards_are : gs ≡ map flat_guard choices
   pub branches_are : bs ≡ map rule_branch choices
   pub chosen : AllChosen front choices
+  pub nested : Nested [] choices
 
 chosen_more : (front more : List Place) (hs : List Choice) → AllChosen front hs → AllChosen (front ++ more) hs
 chosen_more front more [] h = tt
@@ -261,14 +267,19 @@ map_push f [] x = refl
 map_push f (y ∷ ys) x = ap (λ l. f y ∷ l) (map_push f ys x)
 
 under_more : (front more : List Place) (gs : List Flat.Guard) (bs : List Branch) → Under front gs bs → Under (front ++ more) gs bs
-under_more front more gs bs u = record { choices = u.choices; guards_are = u.guards_are; branches_are = u.branches_are; chosen = chosen_more front more u.choices u.chosen }
+under_more front more gs bs u = record { choices = u.choices; guards_are = u.guards_are; branches_are = u.branches_are; chosen = chosen_more front more u.choices u.chosen; nested = u.nested }
 
-under_push : (front : List Place) (gs : List Flat.Guard) (bs : List Branch) (x : Choice) → Under front gs bs → Chosen front x → Under front (gs ++ flat_guard x ∷ []) (bs ++ rule_branch x ∷ [])
-under_push front gs bs x u k = record {
+nested_push : (bs : List Branch) (hs : List Choice) (x : Choice) → Nested bs hs → x.branches ≡ bs ++ map rule_branch hs → Nested bs (hs ++ x ∷ [])
+nested_push bs [] x h e = (e ∙ append-nil bs, tt)
+nested_push bs (y ∷ ys) x h e = (h.0, nested_push (bs ++ rule_branch y ∷ []) ys x h.1 (e ∙ sym (append_assoc bs (rule_branch y ∷ []) (map rule_branch ys))))
+
+under_push : (front : List Place) (gs : List Flat.Guard) (bs : List Branch) (x : Choice) → Under front gs bs → Chosen front x → x.branches ≡ bs → Under front (gs ++ flat_guard x ∷ []) (bs ++ rule_branch x ∷ [])
+under_push front gs bs x u k e = record {
   choices = u.choices ++ x ∷ [];
   guards_are = ap (λ l. l ++ flat_guard x ∷ []) u.guards_are ∙ sym (map_push flat_guard u.choices x);
   branches_are = ap (λ l. l ++ rule_branch x ∷ []) u.branches_are ∙ sym (map_push rule_branch u.choices x);
   chosen = chosen_push front u.choices x u.chosen k;
+  nested = nested_push [] u.choices x u.nested (e ∙ u.branches_are);
 }
 
 -- ALL TOGETHER
@@ -295,7 +306,7 @@ at_first front w gs bs sp c when otherwise h = record {
       under_push (front ++ Statement (If sp c when otherwise) bs ∷ []) gs bs
       (record { front = front; walk = w; branches = bs; span = sp; condition = c; when = when; otherwise = otherwise; truth = true })
       (under_more front (Statement (If sp c when otherwise) bs ∷ []) gs bs h.under)
-      ([], refl, h.named);
+      ([], refl, h.named) refl;
 }
 
 at_second : (ms : List Mem) (front : List Place) (w : Flatten.Place) (gs : List Flat.Guard) (bs : List Branch) (sp : Span) (c : Expr) (when otherwise : Stmts) → At front w gs bs
@@ -307,7 +318,7 @@ at_second ms front w gs bs sp c when otherwise h = record {
       under_push (front ++ Statement (If sp c when otherwise) bs ∷ statements (bs ++ branch sp c true when ∷ []) when) gs bs
       (record { front = front; walk = w; branches = bs; span = sp; condition = c; when = when; otherwise = otherwise; truth = false })
       (under_more front (Statement (If sp c when otherwise) bs ∷ statements (bs ++ branch sp c true when ∷ []) when) gs bs h.under)
-      (statements (bs ++ branch sp c true when ∷ []) when, refl, h.named);
+      (statements (bs ++ branch sp c true when ∷ []) when, refl, h.named) refl;
 }
 
 -- before the statements
@@ -341,7 +352,7 @@ pub at_front : (p : Pipe) → At (front_of p) (at_start p) [] []
 at_front p = record {
   begun = sym (front_cut p);
   named = front_named p;
-  under = record { choices = []; guards_are = refl; branches_are = refl; chosen = tt };
+  under = record { choices = []; guards_are = refl; branches_are = refl; chosen = tt; nested = tt };
 }
 
 -- each site of a source is so

@@ -4,13 +4,14 @@ use Rattle.pdl_model.specs.Flat.{Stmt, Pipe, Branch, Next, Ends, Goes, Forks, ta
 use Rattle.pdl_model.specs.Stages.{onpath, in_stage, stage_at, is_verify, verify_stage}
 use Rattle.pdl_model.specs.Machine.{Ask, Awaited, answers}
 use Rattle.pdl_model.specs.Cycle.{awaited_of}
-use Rattle.pdl_derived.specs.Derived.{Work, Around, Thread, State, does, do_all, works, has, fresh, answered, with_answers, still, word_of, asked_at}
+use Rattle.pdl_derived.specs.Derived.{Work, Around, Thread, State, do_all, works, has, fresh, answered, with_answers, still, word_of, asked_at}
 use Rattle.pdl_derived.specs.Alone.{before}
 use Rattle.pdl_facts.specs.Scans.{Scan, no_scan, opens_all, from, none_of, binds, fixed}
 use Rattle.pdl_facts.specs.Certain.{stands_at, stands_before, Making, Unmade, Guessed, Made, making_all, is_unmade, makings_ok, all_sure}
-use Rattle.pdl_facts.specs.Facts.{asks_for, is_dead, blind_to, looked_all, at_once, fetches, comes_by, visits, FetchOk, Sound}
+use Rattle.pdl_facts.specs.Facts.{looked_all, at_once, fetches, comes_by, visits, Sound}
 use Rattle.pdl_facts.specs.Graphs.{next_of, goes_by, In}
-use Rattle.std.proofs.lemmas.Bool.{ne_eqb}
+use Rattle.std.proofs.lemmas.List.{get_or-set_other}
+use Rattle.std.proofs.lemmas.Bool.{eqb-false, ne_eqb, or_parts, not-true}
 use Rattle.pdl_derived.proofs.Writes.{and_left, and_right}
 use Rattle.pdl_turns.proofs.Paths.{fixed_all, all_stays, taken_stays, before_path, stage_path}
 use Rattle.pdl_turns.proofs.Alike.{AllIn, in_stage_all, Covers}
@@ -19,23 +20,26 @@ use Rattle.pdl_turns.proofs.Guesses.{unguarded, settled, unfailed, unverified, b
 use Rattle.pdl_turns.proofs.Astray.{some_barrier, barred_append, sure_first, sure_second}
 use Rattle.pdl_derived.proofs.Answering.{AllAsks}
 use Rattle.pdl_turns.proofs.Courses.{onward}
-use Rattle.pdl_turns.proofs.Looks.{dead_none, taken_unused, before_looked, stage_looked, path_looked}
-use Rattle.pdl_turns.proofs.Sounds.{EachFetch, asks_each, fetch_each, not_fetched}
+use Rattle.pdl_turns.proofs.Looks.{before_looked, stage_looked, path_looked}
+use Rattle.pdl_turns.proofs.Sounds.{EachFetch, asks_each, not_fetched}
 use Rattle.pdl_turns.proofs.Makes
 use Rattle.pdl_turns.proofs.Whole
 use Rattle.pdl_turns.proofs.Roams.{clash, making_looked, ok_looked, opens_looked, barred_looked, sure_looked, fixed_looked, looked_append, looked_before, verify_looked, Barred, roam_all, steers_by, steers, side_same, Aside, AllAside, visits_answers, still_aside, aside_asks, none_stage_from, fetch_binds, before_none}
 
 -- ROAMING THREADS
 
--- no guard of the stages before this one has an awaited variable
-abbrev pub AllBlind : List Stmt → List Awaited → Type 0
-AllBlind xs [] = Unit {0}
-AllBlind xs (r ∷ rs) = (blind_to r.var xs ≡ true) × AllBlind xs rs
+-- no statement of the stages before this one hangs on an awaited variable
+abbrev pub awaits_var : ℕ → List Awaited → Bool
+awaits_var x [] = false
+awaits_var x (r ∷ rs) = (r.var == x) || awaits_var x rs
+
+abbrev pub Blind : List Stmt → List Awaited → List ℕ → Type 0
+Blind xs rs env = (env' : List ℕ) → ((x : ℕ) → awaits_var x rs ≡ false → slice_index env' x ≡ slice_index env x) → onpath env' xs ≡ onpath env xs
 
 pub record Roams (p : Pipe) (t : Thread) : Type 0 where
   pub covers : Covers (opens_all (onpath t.env (before t.stage p.stmts)) no_scan).held t.entries
   pub barred : some_barrier false (onpath t.env (before t.stage p.stmts)) ≡ false
-  pub blind : AllBlind (before t.stage p.stmts) t.awaits
+  pub blind : Blind (before t.stage p.stmts) t.awaits t.env
   pub on : visits p t.env t.stage ≡ true
   pub aside : AllAside p t.stage t.awaits
 
@@ -43,59 +47,46 @@ pub record Roams (p : Pipe) (t : Thread) : Type 0 where
 abbrev pub has_made : Pipe → Thread → Bool
 has_made p t = not (is_unmade (making_all Unmade (onpath t.env (before t.stage p.stmts))))
 
--- a path does not hang on a variable that no guard has
-blind_path : (x v : ℕ) (xs : List Stmt) (env : List ℕ) → blind_to x xs ≡ true → onpath (slice_set env x v) xs ≡ onpath env xs
-blind_path x v [] env h = refl
-blind_path x v (y ∷ ys) env h =
-    ap₂ (λ b l. cond b (record y { guards = [] } ∷ l) l) (at (is_dead y.guards) refl (and_left _ _ h)) (blind_path x v ys env (and_right (is_dead y.guards || not (asks_for x y.guards)) _ h))
+-- answers are for awaited variables
+answers_other : (p : Pipe) (st : State) (bits : List Bool) (x : ℕ) (rs : List Awaited) (env : List ℕ) → awaits_var x rs ≡ false → slice_index (with_answers p st bits rs env) x ≡ slice_index env x
+answers_other p st bits x [] env h = refl
+answers_other p st bits x (r ∷ rs) env h =
+    answers_other p st bits x rs (if answers p bits r.mem then slice_set env r.var (word_of st.arrays r.mem (asked_at st r.mem)) else env) (or_parts (r.var == x) (awaits_var x rs) h).1 ∙ at (answers p bits r.mem)
   where
-    at : (b : Bool) → is_dead y.guards ≡ b → (b || not (asks_for x y.guards)) ≡ true → taken y.guards (slice_set env x v) ≡ taken y.guards env
-    at true e i = dead_none y.guards (slice_set env x v) e ∙ sym (dead_none y.guards env e)
-    at false e i = taken_unused x v y.guards env i
-
-answers_path : (p : Pipe) (st : State) (bits : List Bool) (xs : List Stmt) (rs : List Awaited) (env : List ℕ) → AllBlind xs rs → onpath (with_answers p st bits rs env) xs ≡ onpath env xs
-answers_path p st bits xs [] env h = refl
-answers_path p st bits xs (r ∷ rs) env h =
-    answers_path p st bits xs rs (if answers p bits r.mem then slice_set env r.var (word_of st.arrays r.mem (asked_at st r.mem)) else env) h.1 ∙ at (answers p bits r.mem)
-  where
-    at : (b : Bool) → onpath (if b then slice_set env r.var (word_of st.arrays r.mem (asked_at st r.mem)) else env) xs ≡ onpath env xs
-    at true = blind_path r.var (word_of st.arrays r.mem (asked_at st r.mem)) xs env h.0
+    at : (b : Bool) → slice_index (if b then slice_set env r.var (word_of st.arrays r.mem (asked_at st r.mem)) else env) x ≡ slice_index env x
+    at true = get_or-set_other env r.var x (word_of st.arrays r.mem (asked_at st r.mem)) 0 (λ e. eqb-false r.var x (or_parts (r.var == x) (awaits_var x rs) h).0 (sym e))
     at false = refl
 
-still_blind : (p : Pipe) (bits : List Bool) (xs : List Stmt) (rs : List Awaited) → AllBlind xs rs → AllBlind xs (still p bits rs)
-still_blind p bits xs [] h = tt
-still_blind p bits xs (r ∷ rs) h = at (answers p bits r.mem) (still_blind p bits xs rs h.1)
+still_awaits : (p : Pipe) (bits : List Bool) (x : ℕ) (rs : List Awaited) → awaits_var x rs ≡ false → awaits_var x (still p bits rs) ≡ false
+still_awaits p bits x [] h = refl
+still_awaits p bits x (r ∷ rs) h = at (answers p bits r.mem) (still_awaits p bits x rs (or_parts (r.var == x) (awaits_var x rs) h).1)
   where
-    at : (b : Bool) → AllBlind xs (still p bits rs) → AllBlind xs (cond b (still p bits rs) (r ∷ still p bits rs))
+    at : (b : Bool) → awaits_var x (still p bits rs) ≡ false → awaits_var x (cond b (still p bits rs) (r ∷ still p bits rs)) ≡ false
     at true k = k
-    at false k = (h.0, k)
+    at false k = ap₂ (λ a b. a || b) (or_parts (r.var == x) (awaits_var x rs) h).0 k
 
 -- answers leave it on its path
 pub roams_answered : (p : Pipe) (st : State) (bits : List Bool) (t : Thread) → Roams p t → Roams p (answered p st bits t) × (has_made p (answered p st bits t) ≡ has_made p t)
 roams_answered p st bits t r =
-    let same = answers_path p st bits (before t.stage p.stmts) t.awaits t.env r.blind in (
+    let same = r.blind (with_answers p st bits t.awaits t.env) (λ x h. answers_other p st bits x t.awaits t.env h) in (
       record {
         covers = subst (λ l. Covers (opens_all l no_scan).held t.entries) (sym same) r.covers;
         barred = ap (some_barrier false) same ∙ r.barred;
-        blind = still_blind p bits (before t.stage p.stmts) t.awaits r.blind;
+        blind = λ env' f. r.blind env' (λ x h. f x (still_awaits p bits x t.awaits h) ∙ answers_other p st bits x t.awaits t.env h) ∙ sym same;
         on = visits_answers p st bits t.stage t.awaits t.env r.aside ∙ r.on;
         aside = still_aside p bits t.stage t.awaits r.aside;
       },
       ap (λ l. not (is_unmade (making_all Unmade l))) same,
     )
 
-blind_asks : (xs : List Stmt) (qs : List Ask) → AllAsks (λ q. blind_to q.var xs ≡ true) qs → AllBlind xs (awaited_of qs)
-blind_asks xs [] h = tt
-blind_asks xs (q ∷ qs) h = (h.0, blind_asks xs qs h.1)
-
-each_blind : (p : Pipe) (fetch : ℕ → ℕ) (s : ℕ) (env : List ℕ) (ys : List Stmt) → EachFetch (λ x m. FetchOk p fetch s x m) ys → EachFetch (λ x m. blind_to x (before (next_of p s env) p.stmts) ≡ true) ys
-each_blind p fetch s env [] h = tt
-each_blind p fetch s env (y ∷ ys) h = ((λ d x m a e. (h.0 d x m a e).blind env), each_blind p fetch s env ys h.1)
+not_asked : (x : ℕ) (qs : List Ask) → AllAsks (λ q. not (q.var == x) ≡ true) qs → awaits_var x (awaited_of qs) ≡ false
+not_asked x [] h = refl
+not_asked x (q ∷ qs) h = ap₂ (λ a b. a || b) (not-true (q.var == x) h.0) (not_asked x qs h.1)
 
 module _ (p : Pipe) (acc : Sound p) where
   pub fresh_roams : (args : List ℕ) → Roams p (fresh p args) × (has_made p (fresh p args) ≡ false)
   fresh_roams args = (
-    record { covers = λ m a h. absurd (cc h); barred = ap (λ l. some_barrier false (onpath (fresh p args).env l)) none; blind = tt; on = ap (comes_by p (fresh p args).env) acc.graph.trunk_start; aside = tt },
+    record { covers = λ m a h. absurd (cc h); barred = ap (λ l. some_barrier false (onpath (fresh p args).env l)) none; blind = λ env' f. ap (onpath env') none ∙ sym (ap (onpath (fresh p args).env) none); on = ap (comes_by p (fresh p args).env) acc.graph.trunk_start; aside = tt },
     ap (λ l. not (is_unmade (making_all Unmade (onpath (fresh p args).env l)))) none,
   )
     where
@@ -295,8 +286,7 @@ module _ (p : Pipe) (acc : Sound p) where
                 (subst (λ (w : Work). Covers (opens_all (onpath (works p o t).env (in_stage t.stage p.stmts)) (opens_all (onpath (works p o t).env (before t.stage p.stmts)) no_scan)).held w.entries) (sym along_path) h.2);
             barred = ap (some_barrier false) piece ∙ barred_append false (onpath (works p o t).env (before t.stage p.stmts)) (looked_all (onpath (works p o t).env (in_stage t.stage p.stmts)))
                 ∙ ap (λ b. some_barrier b (looked_all (onpath (works p o t).env (in_stage t.stage p.stmts)))) unbarred ∙ barred_looked false (onpath (works p o t).env (in_stage t.stage p.stmts)) ∙ h.1;
-            blind = blind_asks (before (next_of p t.stage (works p o t).env) p.stmts) (works p o t).asks
-                (asks_each (λ x m. blind_to x (before (next_of p t.stage (works p o t).env) p.stmts) ≡ true) o (in_stage t.stage p.stmts) _ (each_blind p acc.fetch t.stage (works p o t).env (in_stage t.stage p.stmts) (fetch_each p acc.fetch t.stage (in_stage t.stage p.stmts) (acc.fetch_ok t.stage))) tt);
+            blind = λ env' f. acc.fetch_blind t.stage (works p o t).env env' (λ x h. f x (not_asked x (works p o t).asks (asks_each (λ y m. not (y == x) ≡ true) o (in_stage t.stage p.stmts) _ (not_fetched x (in_stage t.stage p.stmts) h) tt)));
             on = on_then on_path inside;
             aside = aside_asks p (next_of p t.stage (works p o t).env) (works p o t).asks (aside_then inside);
           },
