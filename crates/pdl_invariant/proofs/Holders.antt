@@ -48,6 +48,9 @@ owners_are p m (l ∷ ls) h =
     ∙ ap₂ (λ a b. a ++ b) (owners_are p m ls h.1) (own_held m l.number l.thread.entries ∙ ap (held_of m l.number) h.0)
     ∙ sym (holders_snoc p m (oldest_first ls) (told l))
 
-pub holders_point : (p : Pipe) → Sound p → (st : State) (d : Derived.State) (ls : List Live) → Sim p st d ls → Whole p st ls → all_from (λ m. same_args (owners (lock_of st m)) (holders p m (live st))) 0 p.mems ≡ true
-holders_point p sound st d ls sim whole =
-    from_all _ 0 p.mems (λ m. ap₂ same_args (ap owners (sim.locks m) ∙ owners_are p m ls (each_map (λ l s. s.keeps_on.held) ls sim.seated)) (ap (holders p m) (live_here p sound st d ls sim whole)) ∙ same_args_refl (holders p m (oldest_first ls)))
+module _ (p : Pipe) (sound : Sound p) (st : State) (d : Derived.State) (ls : List Live) (sim : Sim p st d ls) (whole : Whole p st ls) where
+  pub holders_same : (m : ℕ) → same_args (owners (lock_of st m)) (holders p m (live st)) ≡ true
+  holders_same m = ap₂ same_args (ap owners (sim.locks m) ∙ owners_are p m ls (each_map (λ l s. s.keeps_on.held) ls sim.seated)) (ap (holders p m) (live_here p sound st d ls sim whole)) ∙ same_args_refl (holders p m (oldest_first ls))
+
+  pub holders_point : all_from (λ m. same_args (owners (lock_of st m)) (holders p m (live st))) 0 p.mems ≡ true
+  holders_point = from_all _ 0 p.mems holders_same

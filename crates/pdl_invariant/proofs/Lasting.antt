@@ -47,7 +47,7 @@ abbrev pub Along : (Live → List Live → Type 0) → List Live → Type 0
 Along P [] = Unit {0}
 Along P (l ∷ ls) = P l ls × Along P ls
 
-any_ask_map : {P Q : Ask → Type 0} → ((q : Ask) → P q → Q q) → (qs : List Ask) → AnyAsk P qs → AnyAsk Q qs
+pub any_ask_map : {P Q : Ask → Type 0} → ((q : Ask) → P q → Q q) → (qs : List Ask) → AnyAsk P qs → AnyAsk Q qs
 any_ask_map f [] h = h
 any_ask_map f (q ∷ qs) (inl h) = inl (f q h)
 any_ask_map f (q ∷ qs) (inr h) = inr (any_ask_map f qs h)

@@ -12,5 +12,14 @@ pub mod Points
 pub mod AllThreads
 mod EveryState
 pub mod OnTurn
+mod Mine
+mod Releases
+mod StillLooks
+mod TurnByTurn
+mod PendingLists
+mod OwnWrites
+mod LockCycle
+mod LockRelease
+mod LockUse
 pub mod Holders
 pub mod Followers

@@ -192,7 +192,7 @@ pub record Local (p : Pipe) (env : List ℕ) (kept : List Kept) (t : Derived.Thr
 
 -- ANSWERS
 
-any_of : (P Q : Ask → Type 0) (qs : List Ask) → AllAsks P qs → AnyAsk Q qs → (q : Ask) × P q × Q q
+pub any_of : (P Q : Ask → Type 0) (qs : List Ask) → AllAsks P qs → AnyAsk Q qs → (q : Ask) × P q × Q q
 any_of P Q [] h k = absurd k
 any_of P Q (q ∷ qs) h (inl k) = (q, h.0, k)
 any_of P Q (q ∷ qs) h (inr k) = any_of P Q qs h.1 k
@@ -337,7 +337,7 @@ pub kept_other : (z : ℕ) (kept : List Kept) (env : List ℕ) → AllKept (λ k
 kept_other z [] env h = refl
 kept_other z (k ∷ kept) env h = kept_other z kept (slice_set env k.var k.word) h.1 ∙ get_or-set_other env k.var z k.word 0 h.0
 
-kept_map : {P Q : Kept → Type 0} → ((k : Kept) → P k → Q k) → (ks : List Kept) → AllKept P ks → AllKept Q ks
+pub kept_map : {P Q : Kept → Type 0} → ((k : Kept) → P k → Q k) → (ks : List Kept) → AllKept P ks → AllKept Q ks
 kept_map f [] h = tt
 kept_map f (k ∷ ks) h = (f k h.0, kept_map f ks h.1)
 

@@ -74,11 +74,11 @@ or_no : (a b : Bool) → (a || b) ≡ false → (a ≡ false) × (b ≡ false)
 or_no true b h = absurd (cc h)
 or_no false b h = (refl, h)
 
-or_yes : (a b : Bool) → b ≡ true → (a || b) ≡ true
+pub or_yes : (a b : Bool) → b ≡ true → (a || b) ≡ true
 or_yes true b h = refl
 or_yes false b h = h
 
-or_first : (a b : Bool) → a ≡ true → (a || b) ≡ true
+pub or_first : (a b : Bool) → a ≡ true → (a || b) ≡ true
 or_first true b h = refl
 or_first false b h = absurd (cc h)
 

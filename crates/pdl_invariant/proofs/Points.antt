@@ -56,7 +56,7 @@ any_onto test some f (x ∷ xs) past h = at (test x.op) refl h (λ k. any_onto t
     at true e k g = keep xs (x.op ∷ past) (f x.op past ∙ or_first (test x.op) _ e)
     at false e k g = g k
 
-onto_any : (test : Op → Bool) (some : List Op → Bool) → ((op : Op) (ops : List Op) → some (op ∷ ops) ≡ (test op || some ops)) → (xs : List Stmt) (past : List Op) → some (onto xs past) ≡ true → (list_any (λ (x : Stmt). test x.op) xs ≡ true) ⊎ (some past ≡ true)
+pub onto_any : (test : Op → Bool) (some : List Op → Bool) → ((op : Op) (ops : List Op) → some (op ∷ ops) ≡ (test op || some ops)) → (xs : List Stmt) (past : List Op) → some (onto xs past) ≡ true → (list_any (λ (x : Stmt). test x.op) xs ≡ true) ⊎ (some past ≡ true)
 onto_any test some f [] past h = inr h
 onto_any test some f (x ∷ xs) past h = at (onto_any test some f xs (x.op ∷ past) h)
   where

@@ -1,16 +1,18 @@
-//! Sound state: what holds, between cycles, in every state that a run of an accepted pipe comes to.
+//! Sound state: what holds, between cycles, in every state that a run of an accepted pipe comes to; and how its threads use the locks there.
 //!
 //! The functions do nothing: each clause is a theorem on the states that runs of the machine of `pdl_model` come to, of any flat pipe with the facts of an accepted one (`Sound` and `Strict`), any image and any replies of delayed memories.
 #![tactic(auto)]
 
-ghost use Rattle.std.specs.Prelude.{IsTrue, ℕ, Bool, List, ◌&&◌};
+ghost use Rattle.std.specs.Prelude.{IsTrue, ℕ, Bool, List, ◌&&◌, not};
 ghost use Rattle.pdl_model.specs.Flat.{Arrays, Pipe, Stmt, list_all};
-ghost use Rattle.pdl_model.specs.Stages.{verify_stage};
+ghost use Rattle.pdl_model.specs.Stages.{verify_stage, reserve_stage};
+ghost use Rattle.pdl_model.specs.Moves.{all_acts};
 ghost use Rattle.pdl_model.specs.Machine.{request_of, lock_of, same_args};
 ghost use Rattle.pdl_model.specs.Cycle.{first, state_after, turns, ended_in};
-ghost use Rattle.pdl_model.specs.Sound.{live, all_pairs, all_from, in_order, linked, certain_after, asks_right, has_owner, stays_ready, past_stmts, on_path, owners, holders, followers, once_answered, turn_so_far};
+ghost use Rattle.pdl_model.specs.Sound.{live, all_pairs, all_from, in_order, linked, certain_after, asks_right, has_owner, stays_ready, past_stmts, on_path, owners, holders, followers, follows_values, pending_right, arrays_right, still_looks, has_released, is_sound};
 ghost use Rattle.pdl_facts.specs.Facts.{Sound};
 ghost use Rattle.pdl_invariant.specs.Strict.{Strict};
+ghost use Rattle.pdl_invariant.specs.Use.{AreOrdered, AllActs, FindsOlder, Reserves, KeepsPlace, ShiftsPlace};
 
 /// The points of Sound state that hold of all live threads, whatever their guess: their order and the forks' lists, who has made its successor, certainty behind a barrier, requests, blocks that stay ready, and each thread's path.
 pub fn every_thread()
@@ -24,7 +26,24 @@ pub fn every_thread()
     ensures paths { (p : Pipe) → Sound p → Strict p → (image : Arrays) (schedule : List (List Bool)) → IsTrue (list_all (on_path p (state_after p (first p image) schedule)) (live (state_after p (first p image) schedule))) }
 {}
 
-/// The values of the threads up to the first wrong guess: once their awaited reads are answered, they are those of their turns.
-pub fn followers_values()
-    ensures { (p : Pipe) → Sound p → Strict p → (image : Arrays) (schedule : List (List Bool)) → IsTrue (list_all (λ f. same_args (once_answered (state_after p (first p image) schedule) f.live.thread) (turn_so_far p f).env) (followers p image (ended_in (turns p image schedule)) (state_after p (first p image) schedule))) }
+/// The points of Sound state on the threads that follow their turns, up to the first wrong guess, and on the arrays: their values once answered and the addresses that they await, their pending writes, what they have released, and that nobody behind one that still looks at a memory has released a write of it.
+pub fn following_threads()
+    ensures values { (p : Pipe) → Sound p → Strict p → (image : Arrays) (schedule : List (List Bool)) → IsTrue (list_all (follows_values p (state_after p (first p image) schedule)) (followers p image (ended_in (turns p image schedule)) (state_after p (first p image) schedule))) }
+    ensures pending { (p : Pipe) → Sound p → Strict p → (image : Arrays) (schedule : List (List Bool)) → IsTrue (all_from (pending_right p image (ended_in (turns p image schedule)) (state_after p (first p image) schedule)) 0 p.mems) }
+    ensures arrays { (p : Pipe) → Sound p → Strict p → (image : Arrays) (schedule : List (List Bool)) → IsTrue (arrays_right p image (ended_in (turns p image schedule)) (state_after p (first p image) schedule) 0 p.mems) }
+    ensures looks { (p : Pipe) → Sound p → Strict p → (image : Arrays) (schedule : List (List Bool)) → IsTrue (all_from (λ m. all_pairs (λ older younger. not (still_looks m p older && has_released m p younger.live)) (followers p image (ended_in (turns p image schedule)) (state_after p (first p image) schedule))) 0 p.mems) }
+{}
+
+/// Every state that a run comes to passes the whole test of Sound state, with as many turns ended as threads.
+pub fn sound_state()
+    ensures { (p : Pipe) → Sound p → Strict p → (image : Arrays) (schedule : List (List Bool)) → IsTrue (is_sound p image (ended_in (turns p image schedule)) (state_after p (first p image) schedule)) }
+{}
+
+/// How the threads use the locks in each state that a run comes to, and in a cycle from it, whatever the replies: pending writes stand in the order of their threads, also with the one at most that the cycle reserves; a thread up to the stage of the reserves finds all of them older, and from there on its place among them is kept by what is reserved, and up to the stage of the releases shifts by one where a write is released.
+pub fn pending_writes()
+    ensures ordered { (p : Pipe) → Sound p → Strict p → (image : Arrays) (schedule : List (List Bool)) (m : ℕ) → AreOrdered 0 (lock_of (state_after p (first p image) schedule) m) }
+    ensures older { (p : Pipe) → Sound p → Strict p → (image : Arrays) (schedule : List (List Bool)) (bits : List Bool) (m : ℕ) → AllActs (FindsOlder (state_after p (first p image) schedule) m (reserve_stage p m)) (all_acts p (state_after p (first p image) schedule) bits) }
+    ensures reserves { (p : Pipe) → Sound p → Strict p → (image : Arrays) (schedule : List (List Bool)) (bits : List Bool) (m : ℕ) → Reserves p (state_after p (first p image) schedule) bits m }
+    ensures places { (p : Pipe) → Sound p → Strict p → (image : Arrays) (schedule : List (List Bool)) (bits : List Bool) (m : ℕ) → AllActs (KeepsPlace p (state_after p (first p image) schedule) bits m) (all_acts p (state_after p (first p image) schedule) bits) }
+    ensures shifts { (p : Pipe) → Sound p → Strict p → (image : Arrays) (schedule : List (List Bool)) (bits : List Bool) (m : ℕ) → AllActs (ShiftsPlace p (state_after p (first p image) schedule) bits m) (all_acts p (state_after p (first p image) schedule) bits) }
 {}

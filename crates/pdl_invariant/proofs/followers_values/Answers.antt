@@ -1,5 +1,0 @@
-use Rattle.pdl_invariant.proofs.EveryState.{values}
-use Rattle.pdl_invariant.proofs.followers_values.Goals as goal
-
-pub returns : goal.returns
-returns c = values

@@ -1,0 +1,90 @@
+-- How the threads use the locks, in each state of a run of any pipe: with guesses and squashes, forks, and delayed memories.
+use Rattle.std.specs.Prelude.{◌≡◌, ℕ, suc, ◌+◌, ◌≤◌, Bool, true, false, List, [], ◌∷◌, Some, length, if◌then◌else◌, nat_lt, ◌==◌}
+use Rattle.pdl_model.specs.Flat.{Pipe}
+use Rattle.pdl_model.specs.Stages.{reserve_stage, commit_stage, verify_stage}
+use Rattle.pdl_model.specs.Machine.{State, Pending, Reserved, lock_of}
+use Rattle.pdl_model.specs.Moves.{Act, all_acts, movers}
+use Rattle.pdl_model.specs.Cycle.{appended, releases, list_two, list_three}
+
+-- PENDING WRITES
+
+-- the threads of some pending writes are these, from a number on, in order and each once
+abbrev pub AreOrdered : ℕ → List Pending → Type 0
+AreOrdered t [] = Unit {0}
+AreOrdered t (e ∷ es) = (t ≤ e.thread) × AreOrdered (e.thread + 1) es
+
+-- how many of them are of threads older than this one
+abbrev pub count_older : ℕ → List Pending → ℕ
+count_older t [] = 0
+count_older t (e ∷ es) = if nat_lt e.thread t then suc (count_older t es) else count_older t es
+
+-- THREADS
+
+-- something that holds of each thread in a cycle
+abbrev pub AllActs : (Act → Type 0) → List Act → Type 0
+AllActs P [] = Unit {0}
+AllActs P (a ∷ these) = P a × AllActs P these
+
+-- until it has left the stage of the reserves, a thread finds all pending writes older
+abbrev pub FindsOlder : State → ℕ → ℕ → Act → Type 0
+FindsOlder st m r a = a.stage ≤ r → count_older a.thread.number (lock_of st m) ≡ length (lock_of st m)
+
+-- A CYCLE
+
+-- the threads that move
+abbrev pub moving : Pipe → State → List Bool → List Act
+moving p st bits = movers (all_acts p st bits)
+
+-- a lock's list with what the cycle appends, with what it writes, and after its release
+abbrev pub with_new : Pipe → State → List Bool → ℕ → List Pending
+with_new p st bits m = appended m (moving p st bits) (lock_of st m)
+
+abbrev pub with_values : Pipe → State → List Bool → ℕ → List Pending
+with_values p st bits m = list_two st (moving p st bits) m
+
+abbrev pub with_release : Pipe → State → List Bool → ℕ → List Pending
+with_release p st bits m = list_three st (moving p st bits) m
+
+abbrev pub bit : Bool → ℕ
+bit b = if b then 1 else 0
+
+-- how many writes of a memory a thread reserves
+abbrev pub reserved_in : ℕ → List Reserved → ℕ
+reserved_in m [] = 0
+reserved_in m (r ∷ rs) = if r.mem == m then suc (reserved_in m rs) else reserved_in m rs
+
+abbrev pub reserved : ℕ → List Act → ℕ
+reserved m [] = 0
+reserved m (a ∷ ms) = reserved m ms + reserved_in m a.does.reserves
+
+-- a lock in a cycle: at most one write is reserved, and the list stays in order
+pub record Reserves (p : Pipe) (st : State) (bits : List Bool) (m : ℕ) : Type 0 where
+  pub one : reserved m (moving p st bits) ≤ 1
+  pub ordered : AreOrdered 0 (with_new p st bits m)
+
+-- a thread and a lock in a cycle. The thread's place among the pending writes is the number of those of older threads: from the stage of the reserves on nothing older is appended
+abbrev pub KeepsPlace : Pipe → State → List Bool → ℕ → Act → Type 0
+KeepsPlace p st bits m a = reserve_stage p m ≤ a.stage → count_older a.thread.number (with_new p st bits m) ≡ count_older a.thread.number (lock_of st m)
+
+-- a pending write that is released has its value, which may come in this cycle
+pub record Released (list : List Pending) : Type 0 where
+  pub entry : Pending
+  pub rest : List Pending
+  pub value : ℕ
+  pub is : list ≡ entry ∷ rest
+  pub written : entry.value ≡ Some value
+
+abbrev pub ReleasesWritten : Pipe → State → List Bool → ℕ → Type 0
+ReleasesWritten p st bits m = releases m (moving p st bits) ≡ true → Released (with_values p st bits m)
+
+-- up to the stage of the releases, until the thread itself moves out of it, its place shifts by one where a write is released
+abbrev pub ShiftsPlace : Pipe → State → List Bool → ℕ → Act → Type 0
+ShiftsPlace p st bits m a =
+    a.stage ≤ commit_stage p m → (a.stage ≡ commit_stage p m → a.moves ≡ false)
+    → count_older a.thread.number (with_release p st bits m) + bit (releases m (moving p st bits)) ≡ count_older a.thread.number (with_new p st bits m)
+
+-- up to V so does the place behind it, where its squash cuts the list, whoever releases
+abbrev pub ShiftsTail : Pipe → State → List Bool → ℕ → Act → Type 0
+ShiftsTail p st bits m a =
+    (v : ℕ) → verify_stage p.stmts ≡ Some v → a.stage ≤ v
+    → count_older (suc a.thread.number) (with_release p st bits m) + bit (releases m (moving p st bits)) ≡ count_older (suc a.thread.number) (with_new p st bits m)
