@@ -1,0 +1,135 @@
+-- Lists of pending writes by their threads.
+use Rattle.std.proofs.Common.{◌≡◌, refl, ap, ap₂, ◌∙◌, ℕ, suc, ◌+◌, ◌≤◌, ◌<◌, Bool, true, false, List, [], ◌∷◌, ◌++◌, length, Some, None, ◌==◌, cond, if◌then◌else◌, arith, append-nil, nat_lt, lt-ltb, le-ltb, eq-eqb}
+use Rattle.pdl_model.specs.Machine.{Pending, Reserved, Written}
+use Rattle.pdl_model.specs.Moves.{Act}
+use Rattle.pdl_model.specs.Cycle.{new_entries, appended, put, put_all, filled}
+use Rattle.pdl_derived.specs.Derived.{Entry}
+use Rattle.pdl_derived.proofs.Lists.{own, pend, Reserveless}
+use Rattle.pdl_lockapi.specs.Forget.{AreOrdered, count_older, has_thread, addresses_of}
+use Rattle.pdl_machine_facts.proofs.UsingTurn.{some}
+
+-- how many are older
+pub count_append : (t : ℕ) (xs ys : List Pending) → count_older t (xs ++ ys) ≡ count_older t xs + count_older t ys
+count_append t [] ys = omega arith
+count_append t (x ∷ xs) ys = at (nat_lt x.thread t) (count_append t xs ys)
+  where
+    at : (b : Bool) → count_older t (xs ++ ys) ≡ count_older t xs + count_older t ys → cond b (suc (count_older t (xs ++ ys))) (count_older t (xs ++ ys)) ≡ cond b (suc (count_older t xs)) (count_older t xs) + count_older t ys
+    at true h = omega arith
+    at false h = h
+
+count_put : (t n v : ℕ) (xs : List Pending) → count_older t (put n v xs) ≡ count_older t xs
+count_put t n v [] = refl
+count_put t n v (x ∷ xs) = ap₂ (λ b k. cond b (suc k) k) (at (x.thread == n)) (count_put t n v xs)
+  where
+    at : (b : Bool) → nat_lt (cond b (record x { value = Some v }) x).thread t ≡ nat_lt x.thread t
+    at true = refl
+    at false = refl
+
+count_put_all : (t m n : ℕ) (ws : List Written) (xs : List Pending) → count_older t (put_all m n ws xs) ≡ count_older t xs
+count_put_all t m n [] xs = refl
+count_put_all t m n (w ∷ ws) xs = count_put_all t m n ws (if w.mem == m then put n w.value xs else xs) ∙ at (w.mem == m)
+  where
+    at : (b : Bool) → count_older t (cond b (put n w.value xs) xs) ≡ count_older t xs
+    at true = count_put t n w.value xs
+    at false = refl
+
+pub count_filled : (t m : ℕ) (ms : List Act) (xs : List Pending) → count_older t (filled m ms xs) ≡ count_older t xs
+count_filled t m [] xs = refl
+count_filled t m (a ∷ ms) xs = count_put_all t m a.thread.number a.does.writes (filled m ms xs) ∙ count_filled t m ms xs
+
+-- whether one is of a thread
+pub has_left : (t : ℕ) (xs ys : List Pending) → has_thread t xs ≡ true → has_thread t (xs ++ ys) ≡ true
+has_left t [] ys h = absurd (cc h)
+has_left t (x ∷ xs) ys h = at (x.thread == t) h (has_left t xs ys)
+  where
+    at : (b : Bool) → cond b true (has_thread t xs) ≡ true → (has_thread t xs ≡ true → has_thread t (xs ++ ys) ≡ true) → cond b true (has_thread t (xs ++ ys)) ≡ true
+    at true k f = refl
+    at false k f = f k
+
+pub has_right : (t : ℕ) (xs ys : List Pending) → has_thread t ys ≡ true → has_thread t (xs ++ ys) ≡ true
+has_right t [] ys h = h
+has_right t (x ∷ xs) ys h = at (x.thread == t) (has_right t xs ys h)
+  where
+    at : (b : Bool) → has_thread t (xs ++ ys) ≡ true → cond b true (has_thread t (xs ++ ys)) ≡ true
+    at true k = refl
+    at false k = k
+
+pub has_appended : (t m : ℕ) (ms : List Act) (xs : List Pending) → has_thread t xs ≡ true → has_thread t (appended m ms xs) ≡ true
+has_appended t m [] xs h = h
+has_appended t m (a ∷ ms) xs h = has_left t (appended m ms xs) (new_entries m a.thread.number a.does.reserves) (has_appended t m ms xs h)
+
+-- pending writes of one thread
+abbrev pub AllOf : ℕ → List Pending → Type 0
+AllOf k [] = Unit {0}
+AllOf k (x ∷ xs) = (x.thread ≡ k) × AllOf k xs
+
+pub of_append : (k : ℕ) (xs ys : List Pending) → AllOf k xs → AllOf k ys → AllOf k (xs ++ ys)
+of_append k [] ys f g = g
+of_append k (x ∷ xs) ys f g = (f.0, of_append k xs ys f.1 g)
+
+of_if : (k : ℕ) (b : Bool) (e : Pending) → e.thread ≡ k → AllOf k (cond b (e ∷ []) [])
+of_if k true e h = (h, tt)
+of_if k false e h = tt
+
+pub of_pend : (m n : ℕ) (es : List Entry) → AllOf n (pend m n es)
+of_pend m n [] = tt
+of_pend m n (e ∷ es) = of_append n (pend m n es) _ (of_pend m n es) (of_if n (e.mem == m) (own n e) refl)
+
+pub of_new : (m n : ℕ) (rs : List Reserved) → AllOf n (new_entries m n rs)
+of_new m n [] = tt
+of_new m n (r ∷ rs) = of_append n _ (new_entries m n rs) (of_if n (r.mem == m) _ refl) (of_new m n rs)
+
+pub none_older : (t k : ℕ) (xs : List Pending) → AllOf k xs → t ≤ k → count_older t xs ≡ 0
+none_older t k [] f h = refl
+none_older t k (x ∷ xs) f h = ap (λ b. cond b (suc (count_older t xs)) (count_older t xs)) (le-ltb x.thread t (let e = f.0 in omega arith)) ∙ none_older t k xs f.1 h
+
+pub has_own : (k : ℕ) (xs : List Pending) → AllOf k xs → some xs ≡ true → has_thread k xs ≡ true
+has_own k [] f h = absurd (cc h)
+has_own k (x ∷ xs) f h = ap (λ b. cond b true (has_thread k xs)) (eq-eqb x.thread k f.0)
+
+-- in the order of their threads, each once, from a on and below b
+abbrev pub Within : ℕ → ℕ → List Pending → Type 0
+Within a b [] = a ≤ b
+Within a b (x ∷ xs) = (a ≤ x.thread) × Within (x.thread + 1) b xs
+
+within_low : (a b c : ℕ) (xs : List Pending) → a ≤ b → Within b c xs → Within a c xs
+within_low a b c [] h w = omega arith
+within_low a b c (x ∷ xs) h w = (let i = w.0 in omega arith, w.1)
+
+pub within_append : (a b c : ℕ) (xs ys : List Pending) → Within a b xs → Within b c ys → Within a c (xs ++ ys)
+within_append a b c [] ys v w = within_low a b c ys v w
+within_append a b c (x ∷ xs) ys v w = (v.0, within_append (x.thread + 1) b c xs ys v.1 w)
+
+pub within_one : (a b n : ℕ) (xs : List Pending) → a ≤ n → n < b → AllOf n xs → length xs ≤ 1 → Within a b xs
+within_one a b n [] h i f k = omega arith
+within_one a b n (x ∷ []) h i f k = (let e = f.0 in omega arith, let e = f.0 in omega arith)
+within_one a b n (x ∷ y ∷ xs) h i f k = absurd (omega arith)
+
+pub within_ordered : (a b : ℕ) (xs : List Pending) → Within a b xs → AreOrdered a xs
+within_ordered a b [] w = tt
+within_ordered a b (x ∷ xs) w = (w.0, within_ordered (x.thread + 1) b xs w.1)
+
+within_order : (a b : ℕ) (xs : List Pending) → Within a b xs → a ≤ b
+within_order a b [] w = w
+within_order a b (x ∷ xs) w = let h = within_order (x.thread + 1) b xs w.1 in let i = w.0 in omega arith
+
+pub within_count : (a b t : ℕ) (xs : List Pending) → Within a b xs → b ≤ t → count_older t xs ≡ length xs
+within_count a b t [] w h = refl
+within_count a b t (x ∷ xs) w h =
+    ap (λ c. cond c (suc (count_older t xs)) (count_older t xs)) (lt-ltb x.thread t (let i = within_order (x.thread + 1) b xs w.1 in omega arith))
+    ∙ ap suc (within_count (x.thread + 1) b t xs w.1 h)
+
+-- movers that reserve nothing append nothing
+pub appended_none : (m : ℕ) (ms : List Act) (list : List Pending) → Reserveless m ms → appended m ms list ≡ list
+appended_none m [] list h = refl
+appended_none m (a ∷ ms) list h = ap₂ (λ x y. x ++ y) (appended_none m ms list h.1) h.0 ∙ append-nil list
+
+-- as many addresses as new entries
+pub as_many : (m n : ℕ) (rs : List Reserved) → length (addresses_of m rs) ≡ length (new_entries m n rs)
+as_many m n [] = refl
+as_many m n (r ∷ rs) = at (r.mem == m) (as_many m n rs)
+  where
+    at : (b : Bool) → length (addresses_of m rs) ≡ length (new_entries m n rs)
+        → length (cond b (r.address ∷ []) [] ++ addresses_of m rs) ≡ length (cond b (record { thread = n; address = r.address; value = None } ∷ []) [] ++ new_entries m n rs)
+    at true h = ap suc h
+    at false h = h

@@ -1,0 +1,24 @@
+-- The values of the ports of a pipe without delayed memories, in their order.
+use Rattle.std.specs.Prelude.{ℕ, Bool, List, [], ◌∷◌, ◌++◌, Option, Some, None}
+use Rattle.pdl_word.specs.Words.{bit}
+use Rattle.pdl_model.specs.Flat.{Lock, Plain, Mem, Pipe}
+use Rattle.pdl_model.specs.Cycle.{PortWrite, Ports}
+
+-- of each stage whether it holds a thread and whether that moves
+abbrev pub stage_values : List Bool → List Bool → List ℕ
+stage_values (v ∷ vs) (m ∷ ms) = bit v ∷ bit m ∷ stage_values vs ms
+stage_values _ _ = []
+
+-- of a locked memory whether it has a commit, with address and value, 0 where there is none
+abbrev pub commit_values : Lock → Option PortWrite → List ℕ
+commit_values Plain e = []
+commit_values _ None = 0 ∷ 0 ∷ 0 ∷ []
+commit_values _ (Some w) = 1 ∷ w.address ∷ w.value ∷ []
+
+abbrev pub all_commit_values : List Mem → List (Option PortWrite) → List ℕ
+all_commit_values (m ∷ ms) (e ∷ es) = commit_values m.lock e ++ all_commit_values ms es
+all_commit_values _ _ = []
+
+abbrev pub port_values : Pipe → Ports → List ℕ
+port_values p o =
+    stage_values o.valid o.moves ++ all_commit_values p.mems o.commits ++ bit o.ended ∷ bit o.squash ∷ []

@@ -1,0 +1,199 @@
+-- How the parts of a compiled netlist are established: registers, constants, conditions, values, looks.
+use Rattle.std.proofs.Common.{◌≡◌, refl, sym, ap, ap₂, ◌∙◌, subst, ℕ, ◌<◌, Bool, true, false, ◌&&◌, ◌||◌, not, List, [], ◌∷◌, ◌++◌, map, ◌==◌, arith}
+use mathlib.Core.Path.{fun_ext}
+use Rattle.std.specs.Prelude.{Option, Some, if◌then◌else◌, slice_index, slice_index_or, ◌^◌, ◌≤◌}
+use Rattle.std.proofs.lemmas.List.{get_or-map}
+use Rattle.std.proofs.lemmas.Bool.{false≢true, or_left, or_right}
+use Rattle.pdl_word.specs.Words as words
+use Rattle.pdl_word.specs.Words.{bit, mux}
+use Rattle.pdl_model.specs.Tree as tree
+use Rattle.pdl_model.specs.Flat.{Expr, Constant, Variable, Slice, Not, Binary, Cat, LessSigned, ZeroExtend, SignExtend, Choose, Guard, Pipe, applied, takes, value_of}
+use Rattle.pdl_model.specs.Flatten.{flat_expr}
+use Rattle.pdl_model.specs.Stages.{mem_at}
+use Rattle.pdl_rules.specs.Typed.{IsTyped}
+use Rattle.pdl_net.specs.declared.Reg.{Reg}
+use Rattle.pdl_net.specs.Circuit.{Circuit, State, HasReg, reg_reset, no_reg, array_depth}
+use Rattle.pdl_net.specs.Signal.{Signal, const_value, reg_value, mux_value, const_signal, reg_signal, mux_signal}
+use Rattle.pdl_net.specs.Meaning.{next_signal}
+use Rattle.pdl_net.proofs.Keeps.{next_reg}
+use Rattle.pdl_build.specs.Expr.{Named, vars_of, values_in, expr_signal}
+use Rattle.pdl_build.proofs.Values.{AreBounded, expr_value}
+use Rattle.pdl_lockapi.specs.declared.Kind.TheVariants as look_kind
+use Rattle.pdl_lockapi.specs.Lock.{is_ready}
+use Rattle.pdl_lockapi.specs.declared.LockRegs.{LockRegs}
+use Rattle.pdl_lockapi.specs.Forget.{as_lock}
+use Rattle.pdl_lockapi.specs.Laws.{first_reg, end_reg, first_array, end_array, own, words_of, HasImage, FitsIn, StartLaw, RoomLaw, TicketLaw, LookLaw, StepLaw}
+use Rattle.pdl_pipe_law.specs.Lives.{uses}
+use Rattle.pdl_pipe_law.specs.Walk.{Locks, Walk, is_locked, one, zero_bit, both, if_on, is_on, taken_in, HasValue, look_of, ThroughLock, IsWord}
+use Rattle.pdl_pipe_law.specs.Views.{View, Gates, Comer, picked}
+use Rattle.pdl_pipe_law.specs.Compiled.{Becomes, StartsAs, HasLock}
+use Rattle.pdl_pipe_law.specs.Ports.{Commit, step_of}
+use Rattle.pdl_pipe_law.proofs.Signals.{mux_by, both_at, one_is, zero_is, on_is}
+
+-- REGISTERS AND CONSTANTS
+
+-- a register becomes what it takes next
+pub becomes_reg : (c : Circuit) (w r : ℕ) (f : Signal) → HasReg c r → next_signal c r ≡ f → Becomes c (reg_signal w r) f
+unfolding reg_value
+becomes_reg c w r f h e s t suits regs = ap (λ l. slice_index l r) regs ∙ next_reg c s r h ∙ ap (λ (g : Signal). g.value s) e
+
+-- and starts as its reset value
+pub starts_reg : (c : Circuit) (w r : ℕ) → HasReg c r → StartsAs c (reg_signal w r) (reg_reset c r)
+unfolding HasReg reg_reset reg_value
+starts_reg c w r h s regs = ap (λ l. slice_index l r) regs ∙ get_or-map (λ (g : Reg). g.reset) c.regs r no_reg 0 h
+
+-- what all bring alike stays, so it needs no register: as zero of a variable that is nowhere bound before
+abbrev pub AllBring : (Comer → Signal) → ℕ → List Comer → Type 0
+AllBring of v [] = Unit {0}
+AllBring of v (o ∷ os) = ((s : State) → (of o).value s ≡ v) × AllBring of v os
+
+pub picked_same : (of : Comer → Signal) (v : ℕ) (os : List Comer) (f : Signal) (s : State) → AllBring of v os → f.value s ≡ v → (picked of os f).value s ≡ v
+picked_same of v [] f s h e = e
+picked_same of v (o ∷ os) f s h e = mux_by s o.comes (of o) (picked of os f) ∙ at (is_on o.comes s) (picked_same of v os f s h.1 e)
+  where
+    at : (b : Bool) → (picked of os f).value s ≡ v → (if b then (of o).value s else (picked of os f).value s) ≡ v
+    at true g = h.0 s
+    at false g = g
+
+pub becomes_const : (c : Circuit) (w v : ℕ) (of : Comer → Signal) (os : List Comer) → AllBring of v os → Becomes c (const_signal w v) (picked of os (const_signal w v))
+unfolding const_value
+becomes_const c w v of os h s t suits regs = sym (picked_same of v os (const_signal w v) s h refl)
+
+pub starts_const : (c : Circuit) (w v : ℕ) → StartsAs c (const_signal w v) v
+unfolding const_value
+starts_const c w v s regs = refl
+
+-- CONDITIONS THAT COST NO CELL
+
+pub mux_one : (a b : Signal) → mux_signal one a b ≡ a
+unfolding mux_value const_value mux
+mux_one a b = refl
+
+pub mux_zero : (a b : Signal) → a.width ≡ b.width → mux_signal zero_bit a b ≡ b
+unfolding mux_value const_value mux
+mux_zero a b e = ap (λ w. record { width = w; value = b.value }) e
+
+pub both_one : (f : Signal) → both one f ≡ f
+both_one f = mux_one f zero_bit
+
+pub if_on_one : (f : Signal) → if_on one f ≡ f
+if_on_one f = mux_one f one
+
+-- signals of the same width and values are the same
+pub same_signal : (f g : Signal) → f.width ≡ g.width → ((s : State) → f.value s ≡ g.value s) → f ≡ g
+same_signal f g w h = ap₂ (λ n v. record { width = n; value = v }) w (fun_ext h)
+
+-- what is never chosen costs no cell
+pub never : (c a b : Signal) → a.width ≡ b.width → ((s : State) → is_on c s ≡ false) → mux_signal c a b ≡ b
+never c a b w off = same_signal (mux_signal c a b) b w (λ s. mux_by s c a b ∙ ap (λ x. if x then a.value s else b.value s) (off s))
+
+either : (b : Bool) (n : ℕ) → (if b then n else n) ≡ n
+either true n = refl
+either false n = refl
+
+-- so the release of a location that is only read costs none
+pub quiet_letting : (moves on held rest : Signal) → 1 ≡ rest.width → ((s : State) → held.value s ≡ 0) → mux_signal (both moves (both on held)) one rest ≡ rest
+quiet_letting moves on held rest w off = never (both moves (both on held)) one rest w (λ s. on_is s (both moves (both on held)) false (quiet s))
+  where
+    inner : (s : State) → (both on held).value s ≡ 0
+    inner s = mux_by s on held zero_bit ∙ ap₂ (λ a b. if is_on on s then a else b) (off s) (zero_is s) ∙ either (is_on on s) 0
+
+    quiet : (s : State) → (both moves (both on held)).value s ≡ 0
+    quiet s = mux_by s moves (both on held) zero_bit ∙ ap₂ (λ a b. if is_on moves s then a else b) (inner s) (zero_is s) ∙ either (is_on moves s) 0
+
+-- GUARDS
+
+-- whether a branch is taken
+abbrev pub literal : Bool → Signal → Signal
+literal true f = mux_signal f one zero_bit
+literal false f = mux_signal f zero_bit one
+
+pub literal_is : (first : Bool) (f : Signal) (s : State) → (literal first f).value s ≡ bit (takes first (f.value s))
+literal_is true f s = mux_by s f one zero_bit ∙ ap₂ (λ a b. if f.value s == 1 then a else b) (one_is s) (zero_is s)
+literal_is false f s = mux_by s f zero_bit one ∙ ap₂ (λ a b. if f.value s == 1 then a else b) (zero_is s) (one_is s) ∙ at (f.value s == 1)
+  where
+    at : (b : Bool) → (if b then 0 else 1) ≡ bit (not b)
+    at true = refl
+    at false = refl
+
+-- and whether all are
+abbrev pub all_taken : List Guard → Walk → Signal
+all_taken [] w = one
+all_taken (g ∷ gs) w = both (literal g.first (w.vars g.var)) (all_taken gs w)
+
+pub taken_is : (gs : List Guard) (w : Walk) (s : State) → (all_taken gs w).value s ≡ bit (taken_in gs w s)
+taken_is [] w s = one_is s
+taken_is (g ∷ gs) w s = both_at s (literal g.first (w.vars g.var)) (all_taken gs w) (takes g.first ((w.vars g.var).value s)) (taken_in gs w s) (literal_is g.first (w.vars g.var) s) (λ e. taken_is gs w s)
+
+-- VALUES
+
+-- a value depends on the variables that its expression uses
+pub value_agrees : (e : Expr) (env other : List ℕ) → ((x : ℕ) → uses e x ≡ true → slice_index env x ≡ slice_index other x) → value_of e env ≡ value_of e other
+value_agrees (Constant v) env other h = refl
+value_agrees (Variable x) env other h = h x (Rattle.std.proofs.Common.eq-eqb x x refl)
+value_agrees (Slice x high low) env other h = ap (words.slice high low) (h x (Rattle.std.proofs.Common.eq-eqb x x refl))
+value_agrees (Not w a) env other h = ap (words.complement w) (value_agrees a env other h)
+value_agrees (Binary op w a b) env other h = ap₂ (applied op w) (value_agrees a env other (λ x u. h x (or_left (uses a x) (uses b x) u))) (value_agrees b env other (λ x u. h x (or_right (uses a x) (uses b x) u)))
+value_agrees (Cat a w b) env other h = ap₂ (words.cat w) (value_agrees a env other (λ x u. h x (or_left (uses a x) (uses b x) u))) (value_agrees b env other (λ x u. h x (or_right (uses a x) (uses b x) u)))
+value_agrees (LessSigned w a b) env other h = ap₂ (words.lts w) (value_agrees a env other (λ x u. h x (or_left (uses a x) (uses b x) u))) (value_agrees b env other (λ x u. h x (or_right (uses a x) (uses b x) u)))
+value_agrees (ZeroExtend a) env other h = ap words.zext (value_agrees a env other h)
+value_agrees (SignExtend w wide a) env other h = ap (words.sext w wide) (value_agrees a env other h)
+value_agrees (Choose c a b) env other h =
+    rw (value_agrees c env other (λ x u. h x (or_left (uses c x) (uses a x || uses b x) u)), value_agrees a env other (λ x u. h x (or_right (uses c x) (uses a x || uses b x) (or_left (uses a x) (uses b x) u))), value_agrees b env other (λ x u. h x (or_right (uses c x) (uses a x || uses b x) (or_right (uses a x) (uses b x) u)))) refl
+
+-- the signal that the builder makes of an expression has its value, where the walk's variables are those of the builder as far as the expression uses them
+pub has_value : (s : State) (vs : List Named) (e : tree.Expr) (w : Walk) → AreBounded s vs → IsTyped (vars_of vs) e → ((x : ℕ) → uses (flat_expr (vars_of vs) e) x ≡ true → (w.vars x).value s ≡ slice_index (values_in s vs) x) → HasValue (flat_expr (vars_of vs) e) w (expr_signal vs e) s
+has_value s vs e w b t h env g = expr_value s vs b e t ∙ sym (value_agrees (flat_expr (vars_of vs) e) env (values_in s vs) (λ x u. g x u ∙ h x u))
+
+-- LOOKS
+
+-- a block whose kind is the same wherever it is on the path takes one look
+pub block_one : (ls : Locks) (m : ℕ) (addr ticket f held : Signal) (value : Option Signal) (u : Bool) (s : State) → LookLaw (ls.stands m) (ls.kind m) (ls.bits m) (look_of u) addr ticket f value → is_on held s ≡ u
+    → ThroughLock ls m ticket s (λ x t. f.value s ≡ bit (is_ready (ls.kind m) (look_of (is_on held s)) x t (addr.value s)))
+block_one ls m addr ticket f held value u s law e x t stands covered holds = law.answers s x t stands covered holds ∙ ap (λ b. bit (is_ready (ls.kind m) (look_of b) x t (addr.value s))) (sym e)
+
+-- and one whose kind depends on the path two
+pub block_two : (ls : Locks) (m : ℕ) (addr ticket f g held : Signal) (v u : Option Signal) (s : State) → LookLaw (ls.stands m) (ls.kind m) (ls.bits m) look_kind.W addr ticket f v → LookLaw (ls.stands m) (ls.kind m) (ls.bits m) look_kind.R addr ticket g u
+    → ThroughLock ls m ticket s (λ x t. (mux_signal held f g).value s ≡ bit (is_ready (ls.kind m) (look_of (is_on held s)) x t (addr.value s)))
+block_two ls m addr ticket f g held v u s write read x t stands covered holds = mux_by s held f g ∙ at (is_on held s)
+  where
+    at : (b : Bool) → (if b then f.value s else g.value s) ≡ bit (is_ready (ls.kind m) (look_of b) x t (addr.value s))
+    at true = write.answers s x t stands covered holds
+    at false = read.answers s x t stands covered holds
+
+-- a read through a look gives the word of an address that fits
+pub word_locked : (p : Pipe) (ls : Locks) (m : ℕ) (addr ticket ready f : Signal) (s : State) → is_locked p m ≡ true → LookLaw (ls.stands m) (ls.kind m) (ls.bits m) look_kind.R addr ticket ready (Some f) → 2 ^ addr.width ≡ (mem_at p m).depth → FitsIn addr s
+    → IsWord p ls m addr ticket f s
+word_locked p ls m addr ticket ready f s e law deep fits = record {
+  reach = subst (λ n. addr.value s < n) deep fits;
+  plain = λ g. absurd (false≢true (sym g ∙ e));
+  locked = λ g x t stands covered holds looked. law.gives f refl s x t stands covered holds fits looked;
+}
+
+-- and of a memory without lock its array gives it
+pub word_plain : (p : Pipe) (ls : Locks) (m : ℕ) (addr ticket f : Signal) (s : State) → is_locked p m ≡ false → f.value s ≡ slice_index (slice_index_or s.arrays (ls.array m) []) (addr.value s) → 2 ^ addr.width ≡ (mem_at p m).depth → FitsIn addr s
+    → IsWord p ls m addr ticket f s
+word_plain p ls m addr ticket f s e word deep fits = record {
+  reach = subst (λ n. addr.value s < n) deep fits;
+  plain = λ g. word;
+  locked = λ g. absurd (false≢true (sym e ∙ g));
+}
+
+-- LOCKS
+
+-- what is asked of a memory's lock are the laws of its module
+pub lock_made : (p : Pipe) (ls : Locks) (c : Circuit) (vs : ℕ → View) (gates : Gates) (moves : ℕ → Signal) (r : LockRegs) (commit : Commit) (m : ℕ) → (mem_at p m).lock ≡ as_lock (ls.kind m) (ls.size m)
+    → ((k : ℕ) → first_reg r ≤ k → k < end_reg r → HasReg c k) → r.array ≡ Some (ls.array m) → 2 ^ r.bits ≡ (mem_at p m).depth → array_depth c (ls.array m) ≡ words_of (ls.kind m) (mem_at p m).depth
+    → StartLaw (ls.stands m) (ls.kind m) c r → RoomLaw (ls.stands m) (ls.size m) (ls.room m) → TicketLaw (ls.stands m) (ls.bits m) (ls.ticket m) → StepLaw (ls.stands m) (ls.size m) (ls.bits m) (own r) c (step_of p vs gates moves m) commit.enable commit.addr commit.value
+    → HasLock p ls c vs gates moves (own r) commit m
+lock_made p ls c vs gates moves r commit m kind regs array bits deep start room ticket step = record {
+  kind = kind;
+  regs = regs;
+  first = ap first_array array;
+  last = ap end_array array;
+  deep = deep;
+  starts = λ s image reset long has. start.starts s image reset (long ∙ sym bits) (subst (λ o. HasImage (ls.kind m) o s image) (sym array) has);
+  room = room;
+  ticket = ticket;
+  step = step;
+}

@@ -1,0 +1,180 @@
+-- The first state of a compiled netlist stands for the machine's first state.
+use Rattle.std.proofs.Common.{◌≡◌, refl, sym, ap, ◌∙◌, subst, ℕ, zero, suc, ◌+◌, ◌-◌, ◌%◌, ◌^◌, ◌==◌, ◌<◌, ◌≤◌, Bool, true, false, List, [], ◌∷◌, ◌++◌, length, map, drop, get_or, Some, None, is_some, arith, ⊎_elim, length-append}
+use Rattle.std.specs.Prelude.{if◌then◌else◌, slice_index, slice_index_or, replicate}
+use Rattle.std.proofs.lemmas.Bool.{cases_lt, ne_eqb}
+use Rattle.std.proofs.lemmas.List.{get_or-drop, get_or_past, get_or-replicate, length-replicate}
+use Rattle.pdl_word.specs.Words.{bit}
+use Rattle.pdl_model.specs.Flat as model
+use Rattle.pdl_model.specs.Flat.{Pipe, arrays_of, start_env}
+use Rattle.pdl_model.specs.Stages.{mem_at, reserve_stage}
+use Rattle.pdl_model.specs.Machine as machine
+use Rattle.pdl_model.specs.Machine.{Thread, Pending, is_held, with_kept}
+use Rattle.pdl_model.specs.Cycle.{first, born, for_mems}
+use Rattle.pdl_net.specs.declared.Reg.{Reg}
+use Rattle.pdl_net.specs.declared.Array.{Array}
+use Rattle.pdl_net.specs.Circuit.{Circuit, State, HasArray, array_depth, no_array}
+use Rattle.pdl_net.specs.Signal.{Signal}
+use Rattle.pdl_net.specs.Well.{Suits}
+use Rattle.pdl_net.specs.Run.{filled, loaded}
+use Rattle.pdl_lockapi.specs.Lock.{start}
+use Rattle.pdl_lockapi.specs.Laws.{words_of, HasImage}
+use Rattle.pdl_lockapi.specs.Forget.{lock_of, count_older}
+use Rattle.pdl_lockapi.proofs.Next.{is_reset}
+use Rattle.pdl_machine_facts.specs.Slots.{slot}
+use Rattle.pdl_machine_facts.proofs.StagewisePorts.{at_stage, past_stage}
+use Rattle.pdl_pipe_law.specs.Lives.{lives, holds}
+use Rattle.pdl_pipe_law.specs.Walk.{Locks, is_locked}
+use Rattle.pdl_pipe_law.specs.Views.{Gates, View}
+use Rattle.pdl_pipe_law.specs.Compiled.{IsCompiled}
+use Rattle.pdl_pipe_law.specs.Stands.{IsEnv, IsHolding, StandsLock, StandsFor, IsGuess}
+use Rattle.pdl_pipe_law.proofs.Comers.{held_first, signals_are}
+use Rattle.pdl_pipe_law.proofs.Next.{mem_there, lock_there}
+
+-- THE IMAGE
+
+zeros_at : (n i : ℕ) → slice_index (replicate n 0) i ≡ 0
+zeros_at n i = ⊎_elim (λ (lt : i < n). get_or-replicate n i 0 0 lt) (λ (ge : n ≤ i). get_or_past (replicate n 0) i 0 (let e = length-replicate {A = ℕ} n 0 in omega (arith, e))) (cases_lt i n)
+
+padded_at : (xs : List ℕ) (n i : ℕ) → slice_index (xs ++ replicate n 0) i ≡ slice_index xs i
+padded_at [] n i = zeros_at n i
+padded_at (x ∷ xs) n zero = refl
+padded_at (x ∷ xs) n (suc i) = padded_at xs n i
+
+loaded_at : (rest : List Array) (image : List (List ℕ)) (m : ℕ) → m < length rest → get_or (loaded rest image) m [] ≡ filled (get_or rest m no_array).depth (get_or image m [])
+loaded_at [] image m h = absurd (omega arith)
+loaded_at (a ∷ rest) image zero h = refl
+loaded_at (a ∷ rest) image (suc m) h =
+    let e : 1 + m ≡ suc m = omega arith in
+    loaded_at rest (drop 1 image) m (omega arith) ∙ ap (filled (get_or rest m no_array).depth) (get_or-drop 1 image m [] ∙ ap (λ i. get_or image i []) e)
+
+-- each array has the words of the image
+word_loaded : (rest : List Array) (image : List (List ℕ)) (m a : ℕ) → m < length rest → arrays_of image m a ≡ slice_index (get_or (loaded rest image) m []) a
+word_loaded rest image m a l =
+    let ws = get_or image m [] in
+    sym (ap (λ xs. slice_index xs a) (loaded_at rest image m l) ∙ padded_at ws ((get_or rest m no_array).depth - length ws) a)
+
+-- THE MACHINE'S FIRST STATE
+
+none_first : (xs : List model.Mem) (k m : ℕ) → slice_index_or (for_mems {X = List Pending} (λ i. []) k xs) m [] ≡ []
+none_first [] k m = refl
+none_first (x ∷ xs) k zero = refl
+none_first (x ∷ xs) k (suc m) = none_first xs (suc k) m
+
+lock_first : (q : Pipe) (image : model.Arrays) (m : ℕ) → machine.lock_of (first q image) m ≡ []
+lock_first q image m = none_first q.mems 0 m
+
+slot_first : (q : Pipe) (image : model.Arrays) (k : ℕ) → k < length q.stages → slot (first q image) k ≡ (if k == 0 then born q 1 (Some q.start) else None)
+slot_first q image k l = let z : 0 + k ≡ k = omega arith in at_stage (λ i. if i == 0 then born q 1 (Some q.start) else None) 0 q.stages k None l ∙ ap (λ i. if i == 0 then born q 1 (Some q.start) else None) z
+
+holds_first : (q : Pipe) (b : Bool) → (if b then 1 else 0) ≡ bit (is_some (if b then born q 1 (Some q.start) else None))
+holds_first q true = refl
+holds_first q false = refl
+
+-- a thread in it is the first one
+is_first : (q : Pipe) (image : model.Arrays) (k : ℕ) (u : Thread) → slot (first q image) k ≡ Some u → (k ≡ 0) × (u.env ≡ start_env q q.start) × (0 < length q.stages) × (u.guess ≡ []) × (u.kept ≡ [])
+is_first q image k u e = ⊎_elim
+    (λ (l : k < length q.stages). at k l e)
+    (λ (l : length q.stages ≤ k). absurd (none_some (sym (past_stage (λ i. if i == 0 then born q 1 (Some q.start) else None) 0 q.stages k None l) ∙ e)))
+    (cases_lt k (length q.stages))
+  where
+    none_some : None ≡ Some u → ⊥
+    none_some h = cc h
+
+    at : (k : ℕ) → k < length q.stages → slot (first q image) k ≡ Some u → (k ≡ 0) × (u.env ≡ start_env q q.start) × (0 < length q.stages) × (u.guess ≡ []) × (u.kept ≡ [])
+    at zero l e = let z = sym (slot_first q image 0 l) ∙ e in (refl, cc z, omega (arith, l), cc z, cc z)
+    at (suc k) l e =
+        let n : (suc k == 0) ≡ false = ne_eqb (suc k) 0 (λ h. omega (arith, h)) in
+        absurd (none_some (ap (λ b. if b then born q 1 (Some q.start) else None) (sym n) ∙ sym (slot_first q image (suc k) l) ∙ e))
+
+module _ (p : Pipe) (names : ℕ → List ℕ) (ls : Locks) (vs : ℕ → View) (gates : Gates) (moves : ℕ → Signal) (c : Circuit) (made : IsCompiled p names ls vs gates moves c) (in_order : (m : ℕ) → m < length p.mems → ls.array m ≡ m) (image : List (List ℕ)) (whole : (m : ℕ) → m < length p.mems → length (get_or image m []) ≡ (mem_at p m).depth) (s : State) (suits : Suits c s)
+    (regs : s.regs ≡ map (λ (r : Reg). r.reset) c.regs) (arrays : s.arrays ≡ loaded c.arrays image) where
+  abbrev st : machine.State
+  st = first p (arrays_of image)
+
+  valid_first : (k : ℕ) → k < length p.stages → (vs k).valid.value s ≡ bit (is_some (slot st k))
+  valid_first k l = (made.stages k l).valid_start s regs ∙ holds_first p (k == 0) ∙ ap (λ o. bit (is_some o)) (sym (slot_first p (arrays_of image) k l))
+
+  long_first : (k : ℕ) (u : Thread) → slot st k ≡ Some u → length u.env ≡ p.vars
+  long_first k u h =
+      let f = is_first p (arrays_of image) k u h in
+      let short = made.begins.long in
+      ap length f.1 ∙ (let e = length-append p.start (replicate (p.vars - length p.start) 0) in let z = length-replicate {A = ℕ} (p.vars - length p.start) 0 in omega (arith, e, z, short))
+
+  env_first : (k : ℕ) (u : Thread) → slot st k ≡ Some u → IsEnv p k s (vs k).kept (with_kept u.kept u.env)
+  env_first k u h x live =
+      let f = is_first p (arrays_of image) k u h in
+      ap (λ ks. slice_index (with_kept ks u.env) x) f.4
+      ∙ ap (λ e. slice_index e x) f.1
+      ∙ sym (made.begins.vars x (subst (λ i. lives p i x ≡ true) f.0 live) s regs)
+      ∙ ap (λ i. ((vs i).kept x).value s) (sym f.0)
+
+  held_at_first : (k : ℕ) (u : Thread) → slot st k ≡ Some u → IsHolding p k s (vs k).begun.held (machine.held_before k u.env p.stmts [])
+  held_at_first k u h m a live =
+      let f = is_first p (arrays_of image) k u h in
+      ap (λ i. ((vs i).begun.held m a).value s) f.0
+      ∙ made.begins.held m a (subst (λ i. holds p i m a ≡ true) f.0 live) s regs
+      ∙ ap (λ l. bit (is_held l m a)) (sym (held_first u.env p.stmts []))
+      ∙ ap (λ i. bit (is_held (machine.held_before i u.env p.stmts []) m a)) (sym f.0)
+
+  guess_first : (k : ℕ) (u : Thread) → slot st k ≡ Some u → IsGuess p k s (vs k).begun.guess u.guess
+  guess_first k u h v long =
+      let f = is_first p (arrays_of image) k u h in
+      let none = ap length f.3 in
+      let l : k < length p.stages = subst (λ i. i < length p.stages) (sym f.0) f.2 in
+      signals_are s (vs k).begun.guess u.guess (long ∙ sym (made.stages k l).guess_long) (λ i m. absurd (let z = (made.stages k l).guess_long in omega (arith, m, z, long, none)))
+
+  word_first : (m a : ℕ) → m < length p.mems → st.arrays m a ≡ slice_index (slice_index_or s.arrays (ls.array m) []) a
+  unfolding HasArray
+  word_first m a l =
+      word_loaded c.arrays image m a (subst (λ i. i < length c.arrays) (in_order m l) (there m l))
+      ∙ ap (λ xs. slice_index (get_or xs m []) a) (sym arrays)
+      ∙ ap (λ i. slice_index (slice_index_or s.arrays i []) a) (sym (in_order m l))
+    where
+      there : (m : ℕ) → m < length p.mems → ls.array m < length c.arrays
+      there m l = made.arrays m l
+
+  -- the array of a lock has the image in front
+  image_there : (m : ℕ) → (e : is_locked p m ≡ true) → m < length p.mems → HasImage (ls.kind m) (Some (ls.array m)) s (get_or image m [])
+  unfolding HasArray array_depth
+  image_there m e l =
+      let there : m < length c.arrays = subst (λ i. i < length c.arrays) (in_order m l) (made.arrays m l) in
+      let deep : (get_or c.arrays m no_array).depth ≡ words_of (ls.kind m) (length (get_or image m [])) =
+      ap (λ i. (get_or c.arrays i no_array).depth) (sym (in_order m l)) ∙ (made.locks m e).deep ∙ ap (words_of (ls.kind m)) (sym (whole m l)) in
+      ap (λ xs. get_or xs (ls.array m) []) arrays
+      ∙ ap (λ i. get_or (loaded c.arrays image) i []) (in_order m l)
+      ∙ loaded_at c.arrays image m there
+      ∙ ap (λ d. filled d (get_or image m [])) deep
+
+  lock_at_first : (m : ℕ) → is_locked p m ≡ true → StandsLock p ls vs s st m
+  lock_at_first m e =
+      let x = made.locks m e in
+      let l = lock_there p m e in
+      let none = lock_first p (arrays_of image) m in
+      let reset = is_reset c (made.owns m).from (made.owns m).to s x.regs regs in
+      let words = get_or image m [] in
+      let stands = x.starts s words reset (whole m l) (image_there m e l) in
+      record {
+        base = 0;
+        words = words;
+        long = (let z = whole m l in omega (arith, z));
+        same = λ a low. refl;
+        stands = subst (λ es. ls.stands m s (lock_of 0 es words)) (sym none) stands;
+        few = (let z = ap length none in omega (arith, z));
+        tickets = λ k u h early.
+            (let f = is_first p (arrays_of image) k u h in
+            let low : k ≤ reserve_stage p m = omega (arith, f.0) in
+            (made.stages k (subst (λ i. i < length p.stages) (sym f.0) f.2)).tickets_first m e low s suits
+            ∙ x.ticket.holds s (start words) stands
+            ∙ ap (λ es. (0 + count_older u.number es) % 2 ^ ls.bits m) (sym none));
+      }
+
+  pub stands_first : StandsFor p ls vs s st
+  stands_first = record {
+    valid = valid_first;
+    long = long_first;
+    env = env_first;
+    held = held_at_first;
+    guess = guess_first;
+    words = λ m e a low. word_first m a (mem_there p m a low);
+    locks = lock_at_first;
+  }

@@ -1,0 +1,133 @@
+-- A netlist that shows the machine of a pipe has the machine's lines: what its outputs say by their names and places is what the machine does.
+use Rattle.std.proofs.Common.{◌≡◌, ℕ, ◌+◌, ◌-◌, ◌==◌, Bool, true, false, List, [], ◌∷◌, ◌++◌, length, map, codes, refl, sym, ap, ap₂, ◌∙◌, subst, arith, append_assoc}
+use Rattle.std.specs.Prelude.{slice_index}
+use Rattle.std.proofs.lemmas.List.{length-map, length-append, get_or_at}
+use Rattle.pdl_word.specs.Words.{bit}
+use Rattle.pdl_kit.specs.declared.mem_info.MemInfo.{MemInfo}
+use Rattle.pdl_model.specs.Tree.{Mem}
+use Rattle.pdl_model.specs.Flat.{Pipe, arrays_of}
+use Rattle.pdl_model.specs.Flat
+use Rattle.pdl_model.specs.Flatten.{mems_of}
+use Rattle.pdl_model.specs.Cycle.{Ports, Turn, turns}
+use Rattle.pdl_model.specs.Lines.{Put, Cycle, put_of, puts_in, turn_cycle, turn_cycles}
+use Rattle.pdl_rules.specs.Typed.{AreDistinct}
+use Rattle.pdl_net.specs.declared.Netlist.{Netlist}
+use Rattle.pdl_net.specs.Circuit.{circuit_of, outputs_of}
+use Rattle.pdl_net.specs.Run.{Shown, nports, commit_of, port_value}
+use Rattle.pdl_machine_facts.specs.Ports.{stage_values, all_commit_values, port_values}
+use Rattle.pdl_net.specs.Signal.{Signal}
+use Rattle.pdl_pipe_law.specs.Walk.{Locks}
+use Rattle.pdl_pipe_law.specs.Views.{Gates, View}
+use Rattle.pdl_pipe_law.specs.Declared.{info_of, locked_of, mem_names}
+use Rattle.pdl_machine_facts.specs.Fit.{IsFit}
+use Rattle.pdl_pipe_law.specs.Compiled.{IsCompiled}
+use Rattle.pdl_pipe_law.specs.Runs.{Seen, seen_of, had, ShowsMachine, puts_of, output_count, cycle_of, ShowsTurns}
+use Rattle.pdl_pipe_law.proofs.WellFormedPorts.{stage_names, commit_names}
+use Rattle.pdl_pipe_law.proofs.LinesMachine.{AreCommits, IsShaped, AllShaped, turns_shaped}
+use Rattle.pdl_pipe_law.proofs.LinesNames.{name_of_output, HasNames, names_made}
+use Rattle.pdl_pipe_law.proofs.LinesPorts.{named_value, port_is, past_stages, stages_same, behind, behind_same, found, flag_is, addr_is, word_is, put_in, put_cases, same_put, each_found}
+
+-- functions that are the same at each element
+map_same : {X Y : Type 0} (f g : X → Y) → ((x : X) → f x ≡ g x) → (xs : List X) → map f xs ≡ map g xs
+map_same f g h [] = refl
+map_same f g h (x ∷ xs) = ap₂ (λ y ys. y ∷ ys) (h x) (map_same f g h xs)
+
+bit_one : (b : Bool) → (bit b == 1) ≡ b
+bit_one true = refl
+bit_one false = refl
+
+-- of a list that ends in two numbers the last but one, and the last
+last_two : (xs : List ℕ) (a b n : ℕ) → length (xs ++ a ∷ b ∷ []) ≡ n → (slice_index (xs ++ a ∷ b ∷ []) (n - 2) ≡ a) × (slice_index (xs ++ a ∷ b ∷ []) (n - 1) ≡ b)
+last_two xs a b n e =
+    let long : length (xs ++ a ∷ b ∷ []) ≡ length xs + 2 = length-append xs (a ∷ b ∷ []) in
+    let more : length (xs ++ a ∷ []) ≡ length xs + 1 = length-append xs (a ∷ []) in (
+      get_or_at xs a (b ∷ []) 0 (n - 2) (omega (arith, e, long)),
+      ap (λ l. slice_index l (n - 1)) (sym (append_assoc xs (a ∷ []) (b ∷ []))) ∙ get_or_at (xs ++ a ∷ []) b [] 0 (n - 1) (omega (arith, e, long, more)),
+    )
+
+-- a cycle by its parts
+abbrev cycle : List (List Put) → Bool → Bool → Bool → Cycle
+cycle puts ended wait squash = record { puts = puts; ended = ended; wait = wait; squash = squash }
+
+module _ (p : Pipe) (ms : List Mem) (same : p.mems ≡ mems_of ms) (n : Netlist) (distinct : AreDistinct ms) (mems : n.mems ≡ map info_of ms) (named : HasNames p ms n) where
+  -- ---- one cycle
+
+  module _ (o : Ports) (shape : IsShaped p o) where
+    -- the values behind those of the stages
+    abbrev rest : List ℕ
+    rest = behind ms o.commits (bit o.ended) (bit o.squash)
+
+    commits : AreCommits (mems_of ms) o.commits
+    commits = subst (λ (l : List Flat.Mem). AreCommits l o.commits) same shape.commits
+
+    values : port_values p o ≡ stage_values o.valid o.moves ++ rest
+    values = ap (λ (l : List Flat.Mem). stage_values o.valid o.moves ++ all_commit_values l o.commits ++ bit o.ended ∷ bit o.squash ∷ []) same ∙ append_assoc (stage_values o.valid o.moves) (all_commit_values (mems_of ms) o.commits) (bit o.ended ∷ bit o.squash ∷ [])
+
+    count : length (port_values p o) ≡ length (outputs_of (circuit_of n))
+    count =
+        ap length values
+        ∙ stages_same 0 (length p.stages) (commit_names (locked_of ms)) o.valid o.moves rest shape.valid shape.moves (behind_same ms o.commits (bit o.ended) (bit o.squash) commits)
+        ∙ ap length (sym named.names)
+        ∙ length-map (outputs_of (circuit_of n)) name_of_output
+
+    -- a port that is no stage's is looked up behind those of the stages
+    look : (x : List ℕ) → ((names : List (List ℕ)) (vals : List ℕ) → length vals ≡ length names → named_value (stage_names 0 (length p.stages) names) (stage_values o.valid o.moves ++ vals) x ≡ named_value names vals x)
+        → port_value (circuit_of n) (port_values p o) x ≡ named_value (commit_names (locked_of ms)) rest x
+    look x pass =
+        port_is (circuit_of n) (port_values p o) x count
+        ∙ ap₂ (λ names vals. named_value names vals x) named.names values
+        ∙ pass (commit_names (locked_of ms)) rest (behind_same ms o.commits (bit o.ended) (bit o.squash) commits)
+
+    -- what a memory commits, by its name
+    commit_found : (m : List ℕ) → commit_of (circuit_of n) (port_values p o) m ≡ put_in (found ms o.commits m)
+    commit_found m =
+        put_cases (found ms o.commits m) (port_value (circuit_of n) (port_values p o) (codes "c_" ++ m)) (port_value (circuit_of n) (port_values p o) (codes "ca_" ++ m)) (port_value (circuit_of n) (port_values p o) (codes "cd_" ++ m))
+        (look (codes "c_" ++ m) (λ names vals l. past_stages (codes "c_" ++ m) (λ j. refl) (λ j. refl) 0 (length p.stages) names o.valid o.moves vals shape.valid shape.moves)
+        ∙ flag_is ms o.commits (bit o.ended) (bit o.squash) m commits)
+        (look (codes "ca_" ++ m) (λ names vals l. past_stages (codes "ca_" ++ m) (λ j. refl) (λ j. refl) 0 (length p.stages) names o.valid o.moves vals shape.valid shape.moves)
+        ∙ addr_is ms o.commits (bit o.ended) (bit o.squash) m commits)
+        (look (codes "cd_" ++ m) (λ names vals l. past_stages (codes "cd_" ++ m) (λ j. refl) (λ j. refl) 0 (length p.stages) names o.valid o.moves vals shape.valid shape.moves)
+        ∙ word_is ms o.commits (bit o.ended) (bit o.squash) m commits)
+
+    -- and memory by memory
+    commits_are : map (λ (m : MemInfo). puts_of (commit_of (circuit_of n) (port_values p o) m.name)) n.mems ≡ puts_in o.commits
+    commits_are =
+        ap (map (λ (m : MemInfo). puts_of (commit_of (circuit_of n) (port_values p o) m.name))) mems
+        ∙ map_same _ (λ (m : MemInfo). put_of (found ms o.commits m.name)) (λ m. ap puts_of (commit_found m.name) ∙ same_put (found ms o.commits m.name)) (map info_of ms)
+        ∙ each_found (found ms o.commits) ms o.commits distinct commits (λ m a. refl)
+
+    last_are : (slice_index (port_values p o) (output_count n - 2) ≡ bit o.ended) × (slice_index (port_values p o) (output_count n - 1) ≡ bit o.squash)
+    last_are = last_two (stage_values o.valid o.moves ++ all_commit_values p.mems o.commits) (bit o.ended) (bit o.squash) (output_count n) count
+
+  -- what is seen of a cycle is the machine's
+  cycle_is : (x : Shown) (t : Turn) → IsShaped p t.ports → seen_of x ≡ had p t → cycle_of n x ≡ turn_cycle t
+  cycle_is x t shape e =
+      let ports : x.ports ≡ port_values p t.ports = ap (λ (s : Seen). s.ports) e in
+      let wait : x.waited ≡ t.wait = ap (λ (s : Seen). s.wait) e in
+      let last = last_are t.ports shape in
+      ap₂ (λ ps w. cycle (map (λ (m : MemInfo). puts_of (commit_of (circuit_of n) ps m.name)) n.mems) (slice_index ps (output_count n - 2) == 1) w (slice_index ps (output_count n - 1) == 1)) ports wait
+      ∙ ap (λ puts. cycle puts (slice_index (port_values p t.ports) (output_count n - 2) == 1) t.wait (slice_index (port_values p t.ports) (output_count n - 1) == 1)) (commits_are t.ports shape)
+      ∙ ap₂ (λ a b. cycle (puts_in t.ports.commits) (a == 1) t.wait (b == 1)) last.0 last.1
+      ∙ ap₂ (λ a b. cycle (puts_in t.ports.commits) a t.wait b) (bit_one t.ports.ended) (bit_one t.ports.squash)
+
+  -- ---- all cycles
+
+  cycles_are : (xs : List Shown) (ts : List Turn) → AllShaped p ts → map seen_of xs ≡ map (had p) ts → map (cycle_of n) xs ≡ turn_cycles ts
+  cycles_are [] [] h e = refl
+  cycles_are [] (t ∷ ts) h e = absurd (cc e)
+  cycles_are (x ∷ xs) [] h e = absurd (cc e)
+  cycles_are (x ∷ xs) (t ∷ ts) h e =
+      let first : seen_of x ≡ had p t = cc e in
+      let others : map seen_of xs ≡ map (had p) ts = cc e in
+      ap₂ (λ y ys. y ∷ ys) (cycle_is x t h.0 first) (cycles_are xs ts h.1 others)
+
+-- a netlist that shows the machine, with the names of its ports, has the machine's lines
+pub shows_turns : (p : Pipe) (ms : List Mem) → p.mems ≡ mems_of ms → AreDistinct ms → IsFit p → (n : Netlist) → n.mems ≡ map info_of ms → HasNames p ms n → ShowsMachine p n → ShowsTurns p n
+shows_turns p ms same distinct fit n mems named shows image schedule replies is_image l =
+    cycles_are p ms same n distinct mems named (nports n image schedule) (turns p (arrays_of image) replies)
+    (turns_shaped p fit (arrays_of image) replies)
+    (shows image schedule replies is_image l)
+
+-- a compiled one has those names
+pub shows_turns_made : (p : Pipe) (ms : List Mem) → p.mems ≡ mems_of ms → AreDistinct ms → IsFit p → (ls : Locks) (vs : ℕ → View) (gates : Gates) (moves : ℕ → Signal) (n : Netlist) → n.mems ≡ map info_of ms → IsCompiled p (mem_names ms) ls vs gates moves (circuit_of n) → ShowsMachine p n → ShowsTurns p n
+shows_turns_made p ms same distinct fit ls vs gates moves n mems made = shows_turns p ms same distinct fit n mems (names_made p ms same ls vs gates moves n made)

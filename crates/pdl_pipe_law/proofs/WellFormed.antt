@@ -1,0 +1,125 @@
+-- The netlist of a compiled pipe is well formed.
+use Rattle.std.proofs.Common.{◌≡◌, ◌≢◌, inl, inr, ℕ, zero, suc, bytes_eq, ◌<◌, ◌≤◌, true, false, List, [], ◌∷◌, length, get_or, map, filter, AllPairs, refl, sym, ap, ap₂, ◌∙◌, subst, arith}
+use Rattle.std.proofs.lemmas.List.{length-map, get_or-map}
+use Rattle.std.proofs.lemmas.List.Elements.{All-from_get_or}
+use Rattle.std.specs.List.{AllByRecursion}
+use Rattle.std.proofs.lemmas.Bool.{or_parts}
+use Rattle.pdl_kit.specs.declared.mem_info.MemInfo.{MemInfo}
+use Rattle.std.specs.List.{list_all}
+use Rattle.pdl_model.specs.Tree.{Mem}
+use Rattle.pdl_model.specs.Flat.{Pipe}
+use Rattle.pdl_model.specs.Flatten.{mems_of}
+use Rattle.pdl_rules.specs.Refusal.{is_comb}
+use Rattle.pdl_rules.specs.Typed.{is_memory, AreDistinct}
+use Rattle.pdl_net.specs.declared.Array.{Array}
+use Rattle.pdl_net.specs.declared.Netlist.{Netlist}
+use Rattle.pdl_net.specs.Circuit.{Shape, shape_of, circuit_of, no_array}
+use Rattle.pdl_net.specs.Signal.{Signal}
+use Rattle.pdl_net.specs.Well.{IsWell}
+use Rattle.pdl_net.specs.Pipe.{IsAddress, IsPipeArray, IsKept, IsPipe, IsWellFormed, head_of, pipe_ports}
+use Rattle.pdl_net.specs.Run.{delayed_mems}
+use Rattle.pdl_pipe_law.specs.Walk.{Locks}
+use Rattle.pdl_pipe_law.specs.Views.{Gates, View}
+use Rattle.pdl_pipe_law.specs.Declared.{info_of, port_mem, locked_of, mem_names, shape_of_mem, AreDeclared, CommitsFit, AreBitsWide}
+use Rattle.pdl_pipe_law.specs.Compiled.{IsCompiled}
+use Rattle.pdl_pipe_law.proofs.WellFormedNames.{Among, name_of_mem, name_apart, all_pairs, mem_names_differ}
+use Rattle.pdl_pipe_law.proofs.WellFormedPorts.{heads_of, head_shown, all_heads, names_are, stage_names, commit_names, port_names_differ}
+use Rattle.pdl_pipe_law.proofs.WellFormedMems.{never_delayed, none_delayed, Reaches, reaches_all, sized_among, IsAddressed, addressed}
+use Rattle.pdl_pipe_law.proofs.WellFormedArrays.{array_mem, mem_array, never_written, locked_all, pipe_array, infos_same}
+
+-- ---- memories
+
+-- the name of an array
+abbrev name_of_array : Array → List ℕ
+name_of_array a = a.name
+
+array_names_are : (ars : List Array) (ms : List Mem) → map shape_of ars ≡ map shape_of_mem ms → map name_of_array ars ≡ map name_of_mem ms
+array_names_are [] [] e = refl
+array_names_are [] (m ∷ ms) e = absurd (cc e)
+array_names_are (a ∷ ars) [] e = absurd (cc e)
+array_names_are (a ∷ ars) (m ∷ ms) e =
+    let here : shape_of a ≡ shape_of_mem m = cc e in
+    let rest : map shape_of ars ≡ map shape_of_mem ms = cc e in
+    ap₂ (λ x xs. x ∷ xs) (ap (λ (s : Shape). s.name) here) (array_names_are ars ms rest)
+
+-- no memory of the netlist is delayed
+pub nothing_delayed : (ms : List Mem) (n : Netlist) → list_all is_comb ms ≡ true → n.mems ≡ map info_of ms → delayed_mems n ≡ []
+nothing_delayed ms n comb e = ap (filter (λ (m : MemInfo). m.delayed)) e ∙ none_delayed ms comb
+
+-- what holds of each memory holds of it as it is told
+infos_all : (P : MemInfo → Type 0) (ms : List Mem) → ((m : Mem) → Among m ms → P (info_of m)) → AllByRecursion P (map info_of ms)
+infos_all P [] h = tt
+infos_all P (m ∷ ms) h = (h m (inl refl), infos_all P ms (λ k a. h k (inr a)))
+
+-- no two memories have one name
+infos_none : (n : List ℕ) (ms : List Mem) → is_memory ms n ≡ false → (j : ℕ) (d : MemInfo) → j < length (map info_of ms) → n ≢ (get_or (map info_of ms) j d).name
+infos_none n [] e j d l s = absurd (omega arith)
+infos_none n (m ∷ ms) e zero d l s = name_apart m.name.name n (or_parts (bytes_eq m.name.name n) (is_memory ms n) e).0 (sym s)
+infos_none n (m ∷ ms) e (suc j) d l s = infos_none n ms (or_parts (bytes_eq m.name.name n) (is_memory ms n) e).1 j d (omega arith) s
+
+infos_differ : (ms : List Mem) → AreDistinct ms → AllPairs (λ (a b : MemInfo). a.name ≢ b.name) (map info_of ms)
+infos_differ [] h i j d l k = absurd (omega arith)
+infos_differ (m ∷ ms) h zero zero d l k = absurd (omega arith)
+infos_differ (m ∷ ms) h zero (suc j) d l k = infos_none m.name.name ms h.0 j d (omega arith)
+infos_differ (m ∷ ms) h (suc i) zero d l k = absurd (omega arith)
+infos_differ (m ∷ ms) h (suc i) (suc j) d l k = infos_differ ms h.1 i j d (omega arith) (omega arith)
+
+-- ---- the whole
+
+module _ (p : Pipe) (ms : List Mem) (declared : AreDeclared ms) (same : p.mems ≡ mems_of ms) (some : 1 ≤ length p.stages) (most : length p.stages ≤ 64) (ls : Locks) (vs : ℕ → View) (gates : Gates) (moves : ℕ → Signal) (n : Netlist) (well : IsWell (circuit_of n)) (made : IsCompiled p (mem_names ms) ls vs gates moves (circuit_of n))
+    (in_order : (m : ℕ) → m < length p.mems → ls.array m ≡ m) (shapes : map shape_of n.arrays ≡ map shape_of_mem ms) (wide : AreBitsWide vs gates moves (length p.stages)) (fit : CommitsFit made.commits 0 ms) (mems : n.mems ≡ map info_of ms) where
+  reach : (m : Mem) → Among m ms → Reaches m
+  reach m h = reaches_all ms declared.reach m h
+
+  size : (m : Mem) → Among m ms → IsAddressed m
+  size m h = addressed m (reach m h) (sized_among ms declared.sized m h)
+
+  pub ports : map head_of n.ports ≡ pipe_ports (length p.stages) [] (locked_of ms)
+  ports =
+      ap (map head_of) made.ports
+      ∙ heads_of (circuit_of n) made.outs
+      ∙ ap (map head_shown) made.shown
+      ∙ all_heads p ms same some made.commits vs gates moves wide reach fit
+
+  array_at_most : (k : ℕ) → k < length n.arrays → IsPipeArray [] (locked_of ms) (get_or n.arrays k no_array)
+  array_at_most k l =
+      let w = array_mem n.arrays ms shapes k no_array l in
+      pipe_array ms k (get_or n.arrays k no_array) w.0 declared.distinct reach (size w.0 w.1.among)
+      (never_written p ms (mem_names ms) ls vs gates moves (circuit_of n) made same in_order shapes k w.0 l w.1) w.1
+
+  kept : (m : Mem) → Among m ms → IsKept [] n.arrays (port_mem m)
+  kept m h =
+      let w = mem_array n.arrays ms shapes m h no_array in
+      let low : w.0 < length n.arrays = w.1 in
+      let many = length-map n.arrays name_of_array in
+      inr (w.0, omega arith, get_or-map name_of_array n.arrays w.0 no_array m.name.name w.1 ∙ ap (λ (x : Shape). x.name) w.2.shape)
+
+  is_pipe : IsPipe n
+  is_pipe = record {
+    stages = length p.stages;
+    delayed = [];
+    locked = locked_of ms;
+    few = some;
+    many = most;
+    ports = ports;
+    delayed_addresses = λ k d l. absurd (omega arith);
+    locked_addresses = locked_all IsAddress ms (λ m h. record { low = (size m h).low; high = (size m h).high });
+    agree = λ d l h i e. let none = h.1 in absurd (omega (arith, none));
+    arrays = All-from_get_or (IsPipeArray [] (locked_of ms)) n.arrays no_array array_at_most;
+    kept = locked_all (IsKept [] n.arrays) ms kept;
+    mems = mems ∙ infos_same n.arrays ms declared.distinct reach (never_delayed ms declared.comb) shapes;
+    count = let few = declared.few in let same = ap length mems in let many = length-map ms info_of in omega (arith, few, same, many);
+  }
+
+  -- the names of its ports
+  pub port_names : map (λ q. q.name) n.ports ≡ stage_names 0 (length p.stages) (commit_names (locked_of ms))
+  port_names = names_are n.ports (length p.stages) (locked_of ms) ports
+
+  -- a compiled pipe is a well formed netlist
+  pub well_formed : IsWellFormed n
+  well_formed = record {
+    well = well;
+    port_names = subst (AllPairs (λ a b. a ≢ b)) (sym port_names) (all_pairs _ (port_names_differ (length p.stages) ms most declared.distinct));
+    array_names = subst (AllPairs (λ a b. a ≢ b)) (sym (array_names_are n.arrays ms shapes)) (all_pairs (map name_of_mem ms) (mem_names_differ ms declared.distinct));
+    pipe = is_pipe;
+  }

@@ -1,0 +1,182 @@
+-- The arrays of a compiled pipe: one for each memory, with its name and sizes, written only where the memory has a lock.
+use Rattle.std.proofs.Common.{◌≡◌, ◌≢◌, ◌⊎◌, inl, inr, ℕ, zero, suc, ◌*◌, ◌^◌, ◌<◌, ◌≤◌, Bool, true, false, if◌then◌else◌, List, [], ◌∷◌, ◌++◌, length, get_or, map, All, Option, Some, None, refl, sym, ap, ap₂, ◌∙◌, subst, arith}
+use Rattle.std.specs.Option.{is_some}
+use Rattle.std.specs.Prelude.{slice_index_or}
+use Rattle.std.specs.List.{AllByRecursion}
+use Rattle.std.proofs.lemmas.Bool.{false≢true}
+use Rattle.std.proofs.lemmas.List.Elements.{All-from_recursion, recursion_from_All}
+use Rattle.std.proofs.lemmas.List.{length-map}
+use Rattle.pdl_kit.specs.declared.mem_info.MemInfo.{MemInfo}
+use Rattle.pdl_model.specs.Tree.{LockDecl, Mem}
+use Rattle.pdl_model.specs.Flat.{Pipe}
+use Rattle.pdl_model.specs.Flatten.{mems_of}
+use Rattle.pdl_model.specs.Stages.{plain_mem}
+use Rattle.pdl_rules.specs.Typed.{AreDistinct}
+use Rattle.pdl_net.specs.declared.Array.{Array}
+use Rattle.pdl_net.specs.declared.WritePort.{WritePort}
+use Rattle.pdl_net.specs.Circuit.{Circuit, Shape, shape_of, array_at}
+use Rattle.pdl_net.specs.Meaning.{write_signal, write_signals}
+use Rattle.pdl_net.specs.Pipe.{PortMem, IsPipeArray, comb_info}
+use Rattle.pdl_net.specs.Signal.{Signal}
+use Rattle.pdl_machine_facts.proofs.LockKinds.{once_or_twice}
+use Rattle.pdl_pipe_law.specs.Walk.{Locks, has_kind}
+use Rattle.pdl_pipe_law.specs.Views.{Gates, View}
+use Rattle.pdl_pipe_law.specs.Declared.{info_of, port_mem, locked_of, has_lock, array_words, shape_of_mem}
+use Rattle.pdl_pipe_law.specs.Compiled.{IsCompiled}
+use Rattle.pdl_pipe_law.proofs.WellFormedNames.{Among, among_one}
+use Rattle.pdl_pipe_law.proofs.WellFormedPorts.{locked_named, found, kind_same}
+use Rattle.pdl_pipe_law.proofs.WellFormedMems.{Reaches, IsAddressed}
+
+-- ---- the array of a memory
+
+-- the k-th array is that of the k-th memory
+pub record IsArrayOf (ms : List Mem) (k : ℕ) (a : Array) (m : Mem) : Type 0 where
+  pub shape : shape_of a ≡ shape_of_mem m
+  pub among : Among m ms
+  pub lock : has_lock ms k ≡ is_some m.lock
+
+-- each array is that of a memory
+pub array_mem : (ars : List Array) (ms : List Mem) → map shape_of ars ≡ map shape_of_mem ms → (k : ℕ) (d : Array) → k < length ars → (m : Mem) × IsArrayOf ms k (get_or ars k d) m
+array_mem [] ms e k d l = absurd (omega arith)
+array_mem (a ∷ ars) [] e k d l = absurd (cc e)
+array_mem (a ∷ ars) (m ∷ ms) e zero d l = (m, record { shape = cc e; among = inl refl; lock = refl })
+array_mem (a ∷ ars) (m ∷ ms) e (suc k) d l =
+    let rest : map shape_of ars ≡ map shape_of_mem ms = cc e in
+    let w = array_mem ars ms rest k d (omega arith) in
+    (w.0, record { shape = w.1.shape; among = inr w.1.among; lock = w.1.lock })
+
+-- each memory has an array
+pub mem_array : (ars : List Array) (ms : List Mem) → map shape_of ars ≡ map shape_of_mem ms → (m : Mem) → Among m ms → (d : Array) → (k : ℕ) × (k < length ars) × IsArrayOf ms k (get_or ars k d) m
+mem_array [] [] e m h d = absurd h
+mem_array (a ∷ ars) [] e m h d = absurd h
+mem_array [] (x ∷ xs) e m h d = absurd (cc e)
+mem_array (a ∷ ars) (x ∷ xs) e m (inl s) d = (0, (omega arith), subst (λ (y : Mem). IsArrayOf (x ∷ xs) 0 a y) s (record { shape = cc e; among = inl refl; lock = refl }))
+mem_array (a ∷ ars) (x ∷ xs) e m (inr h) d =
+    let rest : map shape_of ars ≡ map shape_of_mem xs = cc e in
+    let w = mem_array ars xs rest m h d in
+    let low : w.0 < length ars = w.1 in
+    (suc w.0, (omega arith), record { shape = w.2.shape; among = inr w.2.among; lock = w.2.lock })
+
+-- ---- writes
+
+no_write : (c : Circuit) (ws : List WritePort) → map (write_signal c) ws ≡ [] → ws ≡ []
+no_write c [] e = refl
+no_write c (w ∷ ws) e = absurd (cc e)
+
+-- a memory's lock by its number
+pub lock_same : (ms : List Mem) (k : ℕ) → has_kind (slice_index_or (mems_of ms) k plain_mem).lock ≡ has_lock ms k
+lock_same [] k = refl
+lock_same (m ∷ ms) zero = kind_same m.lock
+lock_same (m ∷ ms) (suc k) = lock_same ms k
+
+pub mems_long : (ms : List Mem) → length (mems_of ms) ≡ length ms
+mems_long [] = refl
+mems_long (m ∷ ms) = ap suc (mems_long ms)
+
+module _ (p : Pipe) (ms : List Mem) (names : ℕ → List ℕ) (ls : Locks) (vs : ℕ → View) (gates : Gates) (moves : ℕ → Signal) (c : Circuit) (made : IsCompiled p names ls vs gates moves c) (same : p.mems ≡ mems_of ms) (in_order : (m : ℕ) → m < length p.mems → ls.array m ≡ m) (shapes : map shape_of c.arrays ≡ map shape_of_mem ms) where
+  -- there are as many arrays as memories
+  pub as_many : length c.arrays ≡ length ms
+  as_many = sym (length-map c.arrays shape_of) ∙ ap length shapes ∙ length-map ms shape_of_mem
+
+  -- an array whose memory has no lock has no write port
+  pub never_written : (k : ℕ) (m : Mem) → k < length c.arrays → IsArrayOf ms k (array_at c k) m → is_some m.lock ≡ false → (array_at c k).writes ≡ []
+  unfolding write_signals
+  never_written k m l h e =
+      let n = as_many in
+      let long = ap length same ∙ mems_long ms in
+      let low : k < length p.mems = omega (arith, n, long, l) in
+      let none = made.unwritten k low (ap (λ l. has_kind (slice_index_or l k plain_mem).lock) same ∙ lock_same ms k ∙ h.lock ∙ e) in
+      no_write c (array_at c k).writes (ap (λ i. map (write_signal c) (array_at c i).writes) (sym (in_order k low)) ∙ none)
+
+-- what holds of each locked memory
+locked_rec : (P : PortMem → Type 0) (ms : List Mem) → ((m : Mem) → Among m ms → P (port_mem m)) → AllByRecursion P (locked_of ms)
+locked_rec P [] h = tt
+locked_rec P (m ∷ ms) h = go (is_some m.lock) (h m (inl refl)) (locked_rec P ms (λ k a. h k (inr a)))
+  where
+    go : (b : Bool) → P (port_mem m) → AllByRecursion P (locked_of ms) → AllByRecursion P ((if b then port_mem m ∷ [] else []) ++ locked_of ms)
+    go true x xs = (x, xs)
+    go false x xs = xs
+
+pub locked_all : (P : PortMem → Type 0) (ms : List Mem) → ((m : Mem) → Among m ms → P (port_mem m)) → All P (locked_of ms)
+locked_all P ms h = All-from_recursion P (locked_of ms) (locked_rec P ms h)
+
+locked_at : (P : PortMem → Type 0) (ms : List Mem) (m : Mem) → Among m ms → is_some m.lock ≡ true → AllByRecursion P (locked_of ms) → P (port_mem m)
+locked_at P [] m a e h = absurd a
+locked_at P (x ∷ xs) m (inl s) e h = subst (λ (y : Mem). P (port_mem y)) s (go (is_some x.lock) (ap (λ (y : Mem). is_some y.lock) s ∙ e) h)
+  where
+    go : (b : Bool) → b ≡ true → AllByRecursion P ((if b then port_mem x ∷ [] else []) ++ locked_of xs) → P (port_mem x)
+    go true t g = g.0
+    go false t g = absurd (false≢true t)
+locked_at P (x ∷ xs) m (inr a) e h = locked_at P xs m a e (go (is_some x.lock) h)
+  where
+    go : (b : Bool) → AllByRecursion P ((if b then port_mem x ∷ [] else []) ++ locked_of xs) → AllByRecursion P (locked_of xs)
+    go true g = g.1
+    go false g = g
+
+-- a memory without lock has an array of its own words
+shallow : (l : Option LockDecl) (d : ℕ) → is_some l ≡ false → array_words l d ≡ d
+shallow None d e = refl
+shallow (Some l) d e = absurd (false≢true (sym e))
+
+-- an array of a memory is one of a pipe
+pub pipe_array : (ms : List Mem) (k : ℕ) (a : Array) (m : Mem) → AreDistinct ms → ((y : Mem) → Among y ms → Reaches y) → IsAddressed m → (is_some m.lock ≡ false → a.writes ≡ []) → IsArrayOf ms k a m → IsPipeArray [] (locked_of ms) a
+pipe_array ms k a m distinct reach size free h = record {
+  inside = λ j d l. absurd (omega arith);
+  width = locked_all (λ l. l.name ≡ a.name → a.width ≡ l.width) ms (λ y among e. width ∙ ap (λ (x : Mem). x.width.value) (sym (same y among e)));
+  depth = locked_all (λ l. l.name ≡ a.name → (a.depth ≡ 2 ^ l.bits) ⊎ (a.depth ≡ 2 * 2 ^ l.bits)) ms (λ y among e. deep m.lock (2 ^ (port_mem y).bits) (sym (reach y among ∙ ap (λ (x : Mem). x.depth.value) (same y among e))) depth);
+  unlocked = λ none. let e = lockless (is_some m.lock) refl none in (subst (λ n. n ≤ 65536) (sym (depth ∙ shallow m.lock m.depth.value e)) size.shallow, free e);
+}
+  where
+    name : a.name ≡ m.name.name
+    name = ap (λ (s : Shape). s.name) h.shape
+
+    width : a.width ≡ m.width.value
+    width = ap (λ (s : Shape). s.width) h.shape
+
+    depth : a.depth ≡ array_words m.lock m.depth.value
+    depth = ap (λ (s : Shape). s.depth) h.shape
+
+    deep : (l : Option LockDecl) (n : ℕ) → m.depth.value ≡ n → a.depth ≡ array_words l m.depth.value → (a.depth ≡ n) ⊎ (a.depth ≡ 2 * n)
+    deep None n e f = inl (f ∙ e)
+    deep (Some l) n e f = elim (once_or_twice l.kind m.depth.value) [
+      | inl g ↦ inl (f ∙ g ∙ e)
+      | inr g ↦ inr (f ∙ g ∙ ap (λ i. 2 * i) e)
+    ]
+
+    same : (y : Mem) → Among y ms → y.name.name ≡ a.name → y ≡ m
+    same y among e = among_one ms distinct y m among h.among (e ∙ name)
+
+    lockless : (b : Bool) → is_some m.lock ≡ b → All (λ l. l.name ≢ a.name) (locked_of ms) → is_some m.lock ≡ false
+    lockless true e none = absurd (locked_at (λ l. l.name ≢ a.name) ms m h.among e (recursion_from_All (λ l. l.name ≢ a.name) (locked_of ms) none) (sym name))
+    lockless false e none = e
+
+-- ---- memories as later steps are told them
+
+-- a memory as it is told, by its fields
+abbrev info_with : List ℕ → ℕ → ℕ → Bool → MemInfo
+info_with x w d s = record { name = x; width = w; depth = d; delayed = s }
+
+info_same : (x y : List ℕ) (a b c d : ℕ) (s t : Bool) → x ≡ y → a ≡ b → c ≡ d → s ≡ t → info_with x a c s ≡ info_with y b d t
+info_same x y a b c d s t e f g h = cc
+
+info_if : (b : Bool) (a : Array) (m : Mem) → is_some m.lock ≡ b → shape_of a ≡ shape_of_mem m → Reaches m → m.delayed ≡ false → info_of m ≡ comb_info a (if b then Some (port_mem m) else None)
+info_if true a m l e r d = info_same m.name.name a.name m.width.value m.width.value m.depth.value _ m.delayed false (sym (ap (λ (s : Shape). s.name) e)) refl (sym r) d
+info_if false a m l e r d = info_same m.name.name a.name m.width.value a.width m.depth.value a.depth m.delayed false (sym (ap (λ (s : Shape). s.name) e)) (sym (ap (λ (s : Shape). s.width) e)) (sym (ap (λ (s : Shape). s.depth) e ∙ shallow m.lock m.depth.value l)) d
+
+infos_from : (all : List Mem) (ars : List Array) (ms : List Mem) → AreDistinct all → ((m : Mem) → Among m all → Reaches m) → ((m : Mem) → Among m all → m.delayed ≡ false) → ((m : Mem) → Among m ms → Among m all) → map shape_of ars ≡ map shape_of_mem ms
+    → map info_of ms ≡ map (λ (a : Array). comb_info a (locked_named all a.name)) ars
+infos_from all [] [] h r d i e = refl
+infos_from all [] (m ∷ ms) h r d i e = absurd (cc e)
+infos_from all (a ∷ ars) [] h r d i e = absurd (cc e)
+infos_from all (a ∷ ars) (m ∷ ms) h r d i e =
+    let here : shape_of a ≡ shape_of_mem m = cc e in
+    let rest : map shape_of ars ≡ map shape_of_mem ms = cc e in
+    let am = i m (inl refl) in
+    let one : info_of m ≡ comb_info a (locked_named all a.name) =
+    info_if (is_some m.lock) a m refl here (r m am) (d m am) ∙ ap (comb_info a) (sym (found all h m am) ∙ ap (locked_named all) (sym (ap (λ (s : Shape). s.name) here))) in
+    ap₂ (λ x xs. x ∷ xs) one (infos_from all ars ms h r d (λ y g. i y (inr g)) rest)
+
+-- the memories are what the ports and arrays tell
+pub infos_same : (ars : List Array) (ms : List Mem) → AreDistinct ms → ((m : Mem) → Among m ms → Reaches m) → ((m : Mem) → Among m ms → m.delayed ≡ false) → map shape_of ars ≡ map shape_of_mem ms
+    → map info_of ms ≡ map (λ (a : Array). comb_info a (locked_named ms a.name)) ars
+infos_same ars ms h r d e = infos_from ms ars ms h r d (λ m g. g) e

@@ -1,0 +1,123 @@
+-- The names of ports and of memories: which differ, and which memory has a name.
+use Rattle.std.proofs.Common.{◌≡◌, ◌≢◌, ◌⊎◌, inl, inr, ℕ, zero, suc, ◌<◌, true, false, List, [], ◌∷◌, ◌++◌, length, get_or, map, AllPairs, codes, bytes_eq, refl, sym, ap, ◌∙◌, arith}
+use Rattle.std.specs.Prelude.{⊤}
+use Rattle.std.proofs.lemmas.Bool.{false≢true, or_parts, false_from_ne_true}
+use Rattle.std.proofs.lemmas.Slice.Eq.{bytes_eq-Decides}
+use Rattle.pdl_model.specs.Tree.{Mem}
+use Rattle.pdl_rules.specs.Typed.{is_memory, AreDistinct}
+
+-- ---- equal names
+
+-- a test of equal names decides them
+pub name_itself : (x : List ℕ) → bytes_eq x x ≡ true
+name_itself x = (bytes_eq-Decides x x).1 refl
+
+pub name_same : (x y : List ℕ) → bytes_eq x y ≡ true → x ≡ y
+name_same x y e = (bytes_eq-Decides x y).0 e
+
+pub name_apart : (x y : List ℕ) → bytes_eq x y ≡ false → x ≢ y
+name_apart x y e s = false≢true (sym e ∙ (bytes_eq-Decides x y).1 s)
+
+pub name_differs : (x y : List ℕ) → x ≢ y → bytes_eq x y ≡ false
+name_differs x y d = false_from_ne_true (bytes_eq x y) (λ e. d (name_same x y e))
+
+pub name_turned : (x y : List ℕ) → bytes_eq x y ≡ false → bytes_eq y x ≡ false
+name_turned x y e = name_differs y x (λ s. name_apart x y e (sym s))
+
+-- ---- names of ports
+
+-- whether a port commits a memory of this name: the tests of three kinds of names compute
+pub commit_is : (a b : List ℕ) → bytes_eq (codes "c_" ++ a) (codes "c_" ++ b) ≡ bytes_eq a b
+commit_is a b = refl
+
+pub address_is : (a b : List ℕ) → bytes_eq (codes "ca_" ++ a) (codes "ca_" ++ b) ≡ bytes_eq a b
+address_is a b = refl
+
+pub value_is : (a b : List ℕ) → bytes_eq (codes "cd_" ++ a) (codes "cd_" ++ b) ≡ bytes_eq a b
+value_is a b = refl
+
+-- no port of one kind has the name of a port of another
+pub commit_no_address : (a b : List ℕ) → bytes_eq (codes "c_" ++ a) (codes "ca_" ++ b) ≡ false
+commit_no_address a b = refl
+
+pub commit_no_value : (a b : List ℕ) → bytes_eq (codes "c_" ++ a) (codes "cd_" ++ b) ≡ false
+commit_no_value a b = refl
+
+pub address_no_commit : (a b : List ℕ) → bytes_eq (codes "ca_" ++ a) (codes "c_" ++ b) ≡ false
+address_no_commit a b = refl
+
+pub address_no_value : (a b : List ℕ) → bytes_eq (codes "ca_" ++ a) (codes "cd_" ++ b) ≡ false
+address_no_value a b = refl
+
+pub value_no_commit : (a b : List ℕ) → bytes_eq (codes "cd_" ++ a) (codes "c_" ++ b) ≡ false
+value_no_commit a b = refl
+
+pub value_no_address : (a b : List ℕ) → bytes_eq (codes "cd_" ++ a) (codes "ca_" ++ b) ≡ false
+value_no_address a b = refl
+
+-- ---- memories
+
+abbrev pub name_of_mem : Mem → List ℕ
+name_of_mem m = m.name.name
+
+-- the memory is one of these
+abbrev pub Among : Mem → List Mem → Type 0
+Among m [] = ⊥
+Among m (x ∷ xs) = (x ≡ m) ⊎ Among m xs
+
+-- the memory at a place is one of them
+pub among_at : (ms : List Mem) (i : ℕ) (d : Mem) → i < length ms → Among (get_or ms i d) ms
+among_at [] i d l = absurd (omega arith)
+among_at (m ∷ ms) zero d l = inl refl
+among_at (m ∷ ms) (suc i) d l = inr (among_at ms i d (omega arith))
+
+-- a memory behind one with a name that none of them has, has another name
+pub among_other : (n : List ℕ) (ms : List Mem) (m : Mem) → is_memory ms n ≡ false → Among m ms → bytes_eq m.name.name n ≡ false
+among_other n [] m e a = absurd a
+among_other n (x ∷ xs) m e (inl s) = ap (λ (y : Mem). bytes_eq y.name.name n) (sym s) ∙ (or_parts (bytes_eq x.name.name n) (is_memory xs n) e).0
+among_other n (x ∷ xs) m e (inr a) = among_other n xs m (or_parts (bytes_eq x.name.name n) (is_memory xs n) e).1 a
+
+-- two of the memories with one name are the same
+pub among_one : (ms : List Mem) → AreDistinct ms → (a b : Mem) → Among a ms → Among b ms → a.name.name ≡ b.name.name → a ≡ b
+among_one [] h a b p q e = absurd p
+among_one (x ∷ xs) h a b (inl s) (inl t) e = sym s ∙ t
+among_one (x ∷ xs) h a b (inl s) (inr q) e = absurd (name_apart b.name.name x.name.name (among_other x.name.name xs b h.0 q) (sym e ∙ ap (λ (y : Mem). y.name.name) (sym s)))
+among_one (x ∷ xs) h a b (inr p) (inl t) e = absurd (name_apart a.name.name x.name.name (among_other x.name.name xs a h.0 p) (e ∙ ap (λ (y : Mem). y.name.name) (sym t)))
+among_one (x ∷ xs) h a b (inr p) (inr q) e = among_one xs h.1 a b p q e
+
+-- ---- lists of names
+
+-- no element is this name
+abbrev pub IsNone : List ℕ → List (List ℕ) → Type 0
+IsNone x [] = ⊤
+IsNone x (y ∷ ys) = (x ≢ y) × IsNone x ys
+
+-- all names differ
+abbrev pub AllDiffer : List (List ℕ) → Type 0
+AllDiffer [] = ⊤
+AllDiffer (x ∷ xs) = IsNone x xs × AllDiffer xs
+
+-- the same, by a place in the list
+pub none_at : (x : List ℕ) (ys : List (List ℕ)) → IsNone x ys → (j : ℕ) (d : List ℕ) → j < length ys → x ≢ get_or ys j d
+none_at x [] h j d l = absurd (omega arith)
+none_at x (y ∷ ys) h zero d l = h.0
+none_at x (y ∷ ys) h (suc j) d l = none_at x ys h.1 j d (omega arith)
+
+-- names that all differ, by two places
+pub all_pairs : (xs : List (List ℕ)) → AllDiffer xs → AllPairs (λ a b. a ≢ b) xs
+all_pairs [] h i j d l m = absurd (omega arith)
+all_pairs (x ∷ xs) h zero zero d l m = absurd (omega arith)
+all_pairs (x ∷ xs) h zero (suc j) d l m = none_at x xs h.0 j d (omega arith)
+all_pairs (x ∷ xs) h (suc i) zero d l m = absurd (omega arith)
+all_pairs (x ∷ xs) h (suc i) (suc j) d l m = all_pairs xs h.1 i j d (omega arith) (omega arith)
+
+-- the names of distinct memories differ
+pub mem_none : (n : List ℕ) (ms : List Mem) → is_memory ms n ≡ false → IsNone n (map name_of_mem ms)
+mem_none n [] e = tt
+mem_none n (m ∷ ms) e =
+    let parts = or_parts (bytes_eq m.name.name n) (is_memory ms n) e in
+    ((λ s. name_apart m.name.name n parts.0 (sym s)), mem_none n ms parts.1)
+
+pub mem_names_differ : (ms : List Mem) → AreDistinct ms → AllDiffer (map name_of_mem ms)
+mem_names_differ [] h = tt
+mem_names_differ (m ∷ ms) h = (mem_none m.name.name ms h.0, mem_names_differ ms h.1)

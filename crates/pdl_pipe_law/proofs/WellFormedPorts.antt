@@ -1,0 +1,265 @@
+-- The ports of a pipe without delayed memories: their names, directions and widths.
+use Rattle.std.proofs.Common.{◌≡◌, ◌≢◌, inl, inr, ℕ, zero, suc, ◌+◌, ◌-◌, ◌<◌, ◌≤◌, Bool, true, false, not, if◌then◌else◌, List, [], ◌∷◌, ◌++◌, length, map, Option, Some, None, codes, decimal, bytes_eq, refl, sym, ap, ap₂, ◌∙◌, subst, arith, append_assoc, append-nil}
+use Rattle.std.specs.Prelude.{⊤, flat_map, find}
+use Rattle.std.specs.List.{range_with_len}
+use Rattle.std.specs.Option.{is_some}
+use Rattle.std.proofs.lemmas.List.{map-append}
+use Rattle.std.proofs.lemmas.Fmt.{decimal_injective}
+use Rattle.pdl_model.specs.Tree.{LockDecl, Mem}
+use Rattle.pdl_model.specs.Flat.{Pipe}
+use Rattle.pdl_model.specs.Flatten.{mems_of, lock_of}
+use Rattle.pdl_rules.specs.Typed.{AreDistinct}
+use Rattle.pdl_net.specs.declared.Port.{Port}
+use Rattle.pdl_net.specs.Circuit.{Circuit, Output}
+use Rattle.pdl_net.specs.Pipe.{Head, PortMem, head_of, output, stage_ports, commit_ports, pipe_ports}
+use Rattle.pdl_net.specs.Signal.{Signal}
+use Rattle.pdl_machine_facts.proofs.LockKinds.{lock_is, locked_is}
+use Rattle.pdl_pipe_law.specs.Walk.{has_kind}
+use Rattle.pdl_pipe_law.specs.Views.{Gates, View}
+use Rattle.pdl_pipe_law.specs.Declared.{port_mem, locked_of, mem_names, FitsMem, CommitsFit, AreBitsWide}
+use Rattle.pdl_pipe_law.proofs.WellFormedMems.{Reaches, power_one}
+use Rattle.pdl_pipe_law.specs.Ports.{Shown, Commit, stages_shown, commit_shown, commits_shown, all_shown}
+use Rattle.pdl_pipe_law.specs.Compiled.{shown_in, port_in}
+use Rattle.pdl_pipe_law.proofs.WellFormedNames.{Among, IsNone, AllDiffer, name_of_mem, name_itself, name_differs, name_turned, among_other, mem_none}
+
+-- ---- the locked memories
+
+-- the locked memory of a name, if that memory has a lock
+abbrev pub if_some : Mem → Option PortMem
+if_some m = if is_some m.lock then Some (port_mem m) else None
+
+-- the locked memory of a name, if there is one
+abbrev pub locked_named : List Mem → List ℕ → Option PortMem
+locked_named ms n = find (λ (l : PortMem). bytes_eq l.name n) (locked_of ms)
+
+found_first : (b : Bool) (l : PortMem) (ls : List PortMem) (n : List ℕ) → bytes_eq l.name n ≡ false → find (λ (k : PortMem). bytes_eq k.name n) ((if b then l ∷ [] else []) ++ ls) ≡ find (λ (k : PortMem). bytes_eq k.name n) ls
+found_first true l ls n e = ap (λ c. if c then Some l else find (λ (k : PortMem). bytes_eq k.name n) ls) e
+found_first false l ls n e = refl
+
+none_named : (ms : List Mem) (n : List ℕ) → IsNone n (map name_of_mem ms) → locked_named ms n ≡ None
+none_named [] n h = refl
+none_named (m ∷ ms) n h = found_first (is_some m.lock) (port_mem m) (locked_of ms) n (name_differs m.name.name n (λ s. h.0 (sym s))) ∙ none_named ms n h.1
+
+found_here : (b : Bool) (l : PortMem) (ls : List PortMem) → find (λ (k : PortMem). bytes_eq k.name l.name) ls ≡ None
+    → find (λ (k : PortMem). bytes_eq k.name l.name) ((if b then l ∷ [] else []) ++ ls) ≡ (if b then Some l else None)
+found_here true l ls h = ap (λ c. if c then Some l else find (λ (k : PortMem). bytes_eq k.name l.name) ls) (name_itself l.name)
+found_here false l ls h = h
+
+-- the locked memory of a memory's name is that memory, if it has a lock
+pub found : (ms : List Mem) → AreDistinct ms → (m : Mem) → Among m ms → locked_named ms m.name.name ≡ if_some m
+found [] h m a = absurd a
+found (x ∷ xs) h m (inl s) = subst (λ (y : Mem). locked_named (x ∷ xs) y.name.name ≡ if_some y) s (found_here (is_some x.lock) (port_mem x) (locked_of xs) (none_named xs x.name.name (mem_none x.name.name xs h.0)))
+found (x ∷ xs) h m (inr a) =
+    found_first (is_some x.lock) (port_mem x) (locked_of xs) m.name.name (name_turned m.name.name x.name.name (among_other x.name.name xs m h.0 a))
+    ∙ found xs h.1 m a
+
+-- ---- heads
+
+-- an output as its port tells it
+abbrev pub head_shown : Shown → Head
+head_shown s = output s.name s.signal.width
+
+-- ports made of outputs are told by what is shown
+pub heads_of : (c : Circuit) (outs : List Output) → map head_of (map (port_in c) outs) ≡ map head_shown (map (shown_in c) outs)
+heads_of c [] = refl
+heads_of c (o ∷ outs) = ap (λ l. head_shown (shown_in c o) ∷ l) (heads_of c outs)
+
+-- ---- stages
+
+-- the outputs of the stages are their ports
+stages_heads : (vs : ℕ → View) (gates : Gates) (moves : ℕ → Signal) (total n k : ℕ) → k + n ≡ total → AreBitsWide vs gates moves total → map head_shown (stages_shown vs moves n k) ≡ flat_map stage_ports (range_with_len k n)
+stages_heads vs gates moves total zero k e h = refl
+stages_heads vs gates moves total (suc n) k e h =
+    let next : suc k ≡ k + 1 = omega arith in
+    let w = h.stages k (omega (arith, e)) in
+    ap₂ (λ v g. output (codes "v_" ++ decimal k) v ∷ output (codes "g_" ++ decimal k) g ∷ map head_shown (stages_shown vs moves n (suc k))) w.0 w.1
+    ∙ ap (λ l. output (codes "v_" ++ decimal k) 1 ∷ output (codes "g_" ++ decimal k) 1 ∷ l) (stages_heads vs gates moves total n (suc k) (omega (arith, e)) h ∙ ap (λ j. flat_map stage_ports (range_with_len j n)) next)
+
+-- ---- commits
+
+commit_head : (m : Mem) (x : Commit) → Reaches m → FitsMem m x → map head_shown (commit_shown m.name.name x) ≡ commit_ports (port_mem m)
+commit_head m x r w =
+    ap (λ e. output (codes "c_" ++ m.name.name) e ∷ output (codes "ca_" ++ m.name.name) x.addr.width ∷ output (codes "cd_" ++ m.name.name) x.value.width ∷ []) w.enable
+    ∙ ap₂ (λ a v. output (codes "c_" ++ m.name.name) 1 ∷ output (codes "ca_" ++ m.name.name) a ∷ output (codes "cd_" ++ m.name.name) v ∷ []) (power_one _ _ (w.reach ∙ sym r)) w.value
+
+commit_heads_if : (b : Bool) (xs : List Shown) (l : PortMem) (rest : List Shown) (ls : List PortMem) → (b ≡ true → map head_shown xs ≡ commit_ports l) → map head_shown rest ≡ flat_map commit_ports ls
+    → map head_shown ((if b then xs else []) ++ rest) ≡ flat_map commit_ports ((if b then l ∷ [] else []) ++ ls)
+commit_heads_if true xs l rest ls e f = map-append head_shown xs rest ∙ ap₂ (λ a b. a ++ b) (e refl) f
+commit_heads_if false xs l rest ls e f = f
+
+-- whether a memory has a lock is the same in the flat form
+pub kind_same : (l : Option LockDecl) → has_kind (lock_of l) ≡ is_some l
+kind_same None = refl
+kind_same (Some l) = let k = lock_is l in ap has_kind k.1 ∙ ap not (locked_is l.kind k.0)
+
+commit_heads : (names : ℕ → List ℕ) (commits : ℕ → Commit) (k : ℕ) (ms : List Mem) → ((i : ℕ) → i < length ms → names (k + i) ≡ mem_names ms i) → ((m : Mem) → Among m ms → Reaches m) → CommitsFit commits k ms → map head_shown (commits_shown names commits k (mems_of ms)) ≡ flat_map commit_ports (locked_of ms)
+commit_heads names commits k [] f r h = refl
+commit_heads names commits k (x ∷ xs) f r h =
+    let here : names k ≡ x.name.name = ap names (let z : k ≡ k + 0 = omega arith in z) ∙ f 0 (omega arith) in
+    ap (λ b. map head_shown ((if b then commit_shown (names k) (commits k) else []) ++ commits_shown names commits (suc k) (mems_of xs))) (kind_same x.lock)
+    ∙ ap (λ n. map head_shown ((if is_some x.lock then commit_shown n (commits k) else []) ++ commits_shown names commits (suc k) (mems_of xs))) here
+    ∙ commit_heads_if (is_some x.lock) (commit_shown x.name.name (commits k)) (port_mem x) (commits_shown names commits (suc k) (mems_of xs)) (locked_of xs)
+    (λ e. commit_head x (commits k) (r x (inl refl)) (h.0 e))
+    (commit_heads names commits (suc k) xs (λ i l. ap names (let z : suc k + i ≡ k + suc i = omega arith in z) ∙ f (suc i) (omega (arith, l))) (λ m a. r m (inr a)) h.1)
+
+-- the last two ports
+abbrev last_heads : List Head
+last_heads = output (codes "ended") 1 ∷ output (codes "squash") 1 ∷ []
+
+-- the ports of a pipe without delayed memories
+ports_plain : (k : ℕ) (locked : List PortMem) → pipe_ports k [] locked ≡ flat_map stage_ports (range_with_len 0 k) ++ (flat_map commit_ports locked ++ last_heads)
+ports_plain k locked =
+    ap (λ l. l ++ last_heads) (append-nil (flat_map stage_ports (range_with_len 0 k) ++ flat_map commit_ports locked))
+    ∙ append_assoc (flat_map stage_ports (range_with_len 0 k)) (flat_map commit_ports locked) last_heads
+
+-- the outputs of the stages and of the memories are the ports of a pipe
+pub all_heads : (p : Pipe) (ms : List Mem) → p.mems ≡ mems_of ms → 1 ≤ length p.stages → (commits : ℕ → Commit) (vs : ℕ → View) (gates : Gates) (moves : ℕ → Signal) → AreBitsWide vs gates moves (length p.stages) → ((m : Mem) → Among m ms → Reaches m) → CommitsFit commits 0 ms
+    → map head_shown (all_shown p (mem_names ms) commits vs gates moves) ≡ pipe_ports (length p.stages) [] (locked_of ms)
+all_heads p ms same some commits vs gates moves wide r h =
+    let n = length p.stages in
+    map-append head_shown (stages_shown vs moves n 0) _
+    ∙ ap₂ (λ a b. a ++ b) (stages_heads vs gates moves n n 0 (omega arith) wide)
+    (map-append head_shown (commits_shown (mem_names ms) commits 0 p.mems) _
+    ∙ ap (λ w. map head_shown (commits_shown (mem_names ms) commits 0 p.mems) ++ output (codes "ended") (moves (n - 1)).width ∷ output (codes "squash") w ∷ []) wide.squash
+    ∙ ap₂ (λ a w. a ++ output (codes "ended") w ∷ output (codes "squash") 1 ∷ [])
+    (ap (λ l. map head_shown (commits_shown (mem_names ms) commits 0 l)) same ∙ commit_heads (mem_names ms) commits 0 ms (λ i l. ap (mem_names ms) (let z : 0 + i ≡ i = omega arith in z)) r h)
+    (wide.stages (n - 1) (omega (arith, some))).1)
+    ∙ sym (ports_plain n (locked_of ms))
+
+-- ---- names
+
+-- the names of the ports behind those of the stages, by the names of the locked memories
+abbrev pub commit_names : List PortMem → List (List ℕ)
+commit_names [] = codes "ended" ∷ codes "squash" ∷ []
+commit_names (l ∷ ls) = (codes "c_" ++ l.name) ∷ (codes "ca_" ++ l.name) ∷ (codes "cd_" ++ l.name) ∷ commit_names ls
+
+-- the name of a port
+abbrev name_of_head : Head → List ℕ
+name_of_head h = h.name
+
+commit_names_are : (ls : List PortMem) → map name_of_head (flat_map commit_ports ls ++ last_heads) ≡ commit_names ls
+commit_names_are [] = refl
+commit_names_are (l ∷ ls) = ap (λ n. (codes "c_" ++ l.name) ∷ (codes "ca_" ++ l.name) ∷ (codes "cd_" ++ l.name) ∷ n) (commit_names_are ls)
+
+names_of_heads : (ps : List Port) → map (λ (p : Port). p.name) ps ≡ map name_of_head (map head_of ps)
+names_of_heads [] = refl
+names_of_heads (p ∷ ps) = ap (λ l. p.name ∷ l) (names_of_heads ps)
+
+-- the names of the ports of n stages, of which the first is k, and of others behind them
+abbrev pub stage_names : ℕ → ℕ → List (List ℕ) → List (List ℕ)
+stage_names k zero rest = rest
+stage_names k (suc n) rest = (codes "v_" ++ decimal k) ∷ (codes "g_" ++ decimal k) ∷ stage_names (suc k) n rest
+
+stage_names_are : (k n : ℕ) (hs : List Head) → map name_of_head (flat_map stage_ports (range_with_len k n) ++ hs) ≡ stage_names k n (map name_of_head hs)
+stage_names_are k zero hs = refl
+stage_names_are k (suc n) hs =
+    let next : k + 1 ≡ suc k = omega arith in
+    ap (λ l. (codes "v_" ++ decimal k) ∷ (codes "g_" ++ decimal k) ∷ l)
+    (ap (λ j. map name_of_head (flat_map stage_ports (range_with_len j n) ++ hs)) next ∙ stage_names_are (suc k) n hs)
+
+-- the names of such ports
+pub names_are : (ps : List Port) (k : ℕ) (locked : List PortMem) → map head_of ps ≡ pipe_ports k [] locked → map (λ (p : Port). p.name) ps ≡ stage_names 0 k (commit_names locked)
+names_are ps k locked e =
+    names_of_heads ps ∙ ap (map name_of_head) (e ∙ ports_plain k locked)
+    ∙ stage_names_are 0 k (flat_map commit_ports locked ++ last_heads)
+    ∙ ap (stage_names 0 k) (commit_names_are locked)
+
+-- a name that begins with other letters is no port's of these memories
+heads_apart : (a b : ℕ) (x y : List ℕ) → a ≢ b → a ∷ x ≢ b ∷ y
+heads_apart a b x y d e = d (cc e)
+
+tails_apart : (a : ℕ) (x y : List ℕ) → x ≢ y → a ∷ x ≢ a ∷ y
+tails_apart a x y d e = d (cc e)
+
+letter_none : (a : ℕ) (x : List ℕ) (ls : List PortMem) → a ≢ 99 → a ∷ x ≢ codes "ended" → a ∷ x ≢ codes "squash" → IsNone (a ∷ x) (commit_names ls)
+letter_none a x [] d e s = (e, (s, tt))
+letter_none a x (l ∷ ls) d e s = (heads_apart a 99 x _ d, (heads_apart a 99 x _ d, (heads_apart a 99 x _ d, letter_none a x ls d e s)))
+
+-- the names of these locked memories are none of them this one
+abbrev IsFree : List ℕ → List PortMem → Type 0
+IsFree n [] = ⊤
+IsFree n (l ∷ ls) = (n ≢ l.name) × IsFree n ls
+
+-- no two of these locked memories have one name
+abbrev AreFree : List PortMem → Type 0
+AreFree [] = ⊤
+AreFree (l ∷ ls) = IsFree l.name ls × AreFree ls
+
+commit_none : (n : List ℕ) (ls : List PortMem) → IsFree n ls → IsNone (codes "c_" ++ n) (commit_names ls)
+commit_none n [] f = (heads_apart 99 101 _ _ (λ e. omega arith), (heads_apart 99 115 _ _ (λ e. omega arith), tt))
+commit_none n (l ∷ ls) f = (
+  tails_apart 99 _ _ (tails_apart 95 _ _ f.0),
+  (tails_apart 99 _ _ (heads_apart 95 97 _ _ (λ e. omega arith)), (tails_apart 99 _ _ (heads_apart 95 100 _ _ (λ e. omega arith)), commit_none n ls f.1)),
+)
+
+address_none : (n : List ℕ) (ls : List PortMem) → IsFree n ls → IsNone (codes "ca_" ++ n) (commit_names ls)
+address_none n [] f = (heads_apart 99 101 _ _ (λ e. omega arith), (heads_apart 99 115 _ _ (λ e. omega arith), tt))
+address_none n (l ∷ ls) f = (
+  tails_apart 99 _ _ (heads_apart 97 95 _ _ (λ e. omega arith)),
+  (tails_apart 99 _ _ (tails_apart 97 _ _ (tails_apart 95 _ _ f.0)), (tails_apart 99 _ _ (heads_apart 97 100 _ _ (λ e. omega arith)), address_none n ls f.1)),
+)
+
+value_none : (n : List ℕ) (ls : List PortMem) → IsFree n ls → IsNone (codes "cd_" ++ n) (commit_names ls)
+value_none n [] f = (heads_apart 99 101 _ _ (λ e. omega arith), (heads_apart 99 115 _ _ (λ e. omega arith), tt))
+value_none n (l ∷ ls) f = (
+  tails_apart 99 _ _ (heads_apart 100 95 _ _ (λ e. omega arith)),
+  (tails_apart 99 _ _ (heads_apart 100 97 _ _ (λ e. omega arith)), (tails_apart 99 _ _ (tails_apart 100 _ _ (tails_apart 95 _ _ f.0)), value_none n ls f.1)),
+)
+
+commits_differ : (ls : List PortMem) → AreFree ls → AllDiffer (commit_names ls)
+commits_differ [] f = ((heads_apart 101 115 _ _ (λ e. omega arith), tt), (tt, tt))
+commits_differ (l ∷ ls) f = (
+  (tails_apart 99 _ _ (heads_apart 95 97 _ _ (λ e. omega arith)), (tails_apart 99 _ _ (heads_apart 95 100 _ _ (λ e. omega arith)), commit_none l.name ls f.0)),
+  ((tails_apart 99 _ _ (heads_apart 97 100 _ _ (λ e. omega arith)), address_none l.name ls f.0), (value_none l.name ls f.0, commits_differ ls f.1)),
+)
+
+locked_free : (n : List ℕ) (ms : List Mem) → IsNone n (map name_of_mem ms) → IsFree n (locked_of ms)
+locked_free n [] h = tt
+locked_free n (m ∷ ms) h = go (is_some m.lock) (locked_free n ms h.1)
+  where
+    go : (b : Bool) → IsFree n (locked_of ms) → IsFree n ((if b then port_mem m ∷ [] else []) ++ locked_of ms)
+    go true f = (h.0, f)
+    go false f = f
+
+all_free : (ms : List Mem) → AreDistinct ms → AreFree (locked_of ms)
+all_free [] h = tt
+all_free (m ∷ ms) h = go (is_some m.lock) (locked_free m.name.name ms (mem_none m.name.name ms h.0)) (all_free ms h.1)
+  where
+    go : (b : Bool) → IsFree m.name.name (locked_of ms) → AreFree (locked_of ms) → AreFree ((if b then port_mem m ∷ [] else []) ++ locked_of ms)
+    go true f fs = (f, fs)
+    go false f fs = fs
+
+-- ---- names of stages
+
+-- the names of two stages differ
+stages_apart : (j k : ℕ) → j < k → k ≤ 64 → decimal j ≢ decimal k
+stages_apart j k l h e = let same : j ≡ k = decimal_injective j k (omega arith) (omega arith) e in absurd (omega arith)
+
+valid_none : (j k n : ℕ) (rest : List (List ℕ)) → j < k → k + n ≤ 64 → IsNone (codes "v_" ++ decimal j) rest → IsNone (codes "v_" ++ decimal j) (stage_names k n rest)
+valid_none j k zero rest l h r = r
+valid_none j k (suc n) rest l h r = (
+  tails_apart 118 _ _ (tails_apart 95 _ _ (stages_apart j k l (omega arith))),
+  (heads_apart 118 103 _ _ (λ e. omega arith), valid_none j (suc k) n rest (omega arith) (omega arith) r),
+)
+
+moves_none : (j k n : ℕ) (rest : List (List ℕ)) → j < k → k + n ≤ 64 → IsNone (codes "g_" ++ decimal j) rest → IsNone (codes "g_" ++ decimal j) (stage_names k n rest)
+moves_none j k zero rest l h r = r
+moves_none j k (suc n) rest l h r = (
+  heads_apart 103 118 _ _ (λ e. omega arith),
+  (tails_apart 103 _ _ (tails_apart 95 _ _ (stages_apart j k l (omega arith))), moves_none j (suc k) n rest (omega arith) (omega arith) r),
+)
+
+stages_differ : (k n : ℕ) (rest : List (List ℕ)) → k + n ≤ 64 → ((j : ℕ) → IsNone (codes "v_" ++ decimal j) rest) → ((j : ℕ) → IsNone (codes "g_" ++ decimal j) rest) → AllDiffer rest → AllDiffer (stage_names k n rest)
+stages_differ k zero rest h v g r = r
+stages_differ k (suc n) rest h v g r = (
+  (heads_apart 118 103 _ _ (λ e. omega arith), valid_none k (suc k) n rest (omega arith) (omega arith) (v k)),
+  (moves_none k (suc k) n rest (omega arith) (omega arith) (g k), stages_differ (suc k) n rest (omega arith) v g r),
+)
+
+-- no two ports have one name
+pub port_names_differ : (n : ℕ) (ms : List Mem) → n ≤ 64 → AreDistinct ms → AllDiffer (stage_names 0 n (commit_names (locked_of ms)))
+port_names_differ n ms l h =
+    stages_differ 0 n (commit_names (locked_of ms)) (omega arith)
+    (λ j. letter_none 118 _ (locked_of ms) (λ e. omega arith) (heads_apart 118 101 _ _ (λ e. omega arith)) (heads_apart 118 115 _ _ (λ e. omega arith)))
+    (λ j. letter_none 103 _ (locked_of ms) (λ e. omega arith) (heads_apart 103 101 _ _ (λ e. omega arith)) (heads_apart 103 115 _ _ (λ e. omega arith)))
+    (commits_differ (locked_of ms) (all_free ms h))

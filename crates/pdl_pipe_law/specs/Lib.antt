@@ -1,0 +1,10 @@
+pub mod Lives
+pub mod Walk
+pub mod Views
+pub mod Ports
+pub mod Compiled
+pub mod Stands
+pub mod Beside
+pub mod Declared
+pub mod Runs
+pub mod Follows

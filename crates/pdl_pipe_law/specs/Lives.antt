@@ -1,0 +1,55 @@
+-- Which variables, and which held locations, the rows from a stage on still use.
+use Rattle.std.specs.Prelude.{ℕ, Bool, false, ◌==◌, ◌&&◌, ◌||◌, List, [], ◌∷◌, nat_le, drop}
+use Rattle.pdl_model.specs.Flat.{Expr, Op, Bind, CombRead, DelayedRead, Write, ReserveWrite, Block, Release, Call, SpecCall, Verify, Guard, Stmt, Next, Forks, Stage, Pipe}
+use Rattle.pdl_model.specs.Stages.{list_any, is_verify}
+use Rattle.pdl_facts.specs.Facts.{uses_in, uses_any}
+
+-- whether an expression uses a variable, and whether one of some does
+abbrev pub uses : Expr → ℕ → Bool
+uses e x = uses_in x e
+
+abbrev pub are_using : List Expr → ℕ → Bool
+are_using es x = uses_any x es
+
+-- whether a statement uses a variable; a write and a release find their location without its address
+abbrev pub op_uses : Op → ℕ → Bool
+op_uses (Bind y e) x = uses e x
+op_uses (CombRead y m a) x = a == x
+op_uses (DelayedRead y m a) x = a == x
+op_uses (Write m a e) x = uses e x
+op_uses (ReserveWrite m a) x = a == x
+op_uses (Block m a) x = a == x
+op_uses (Call args) x = are_using args x
+op_uses (SpecCall args) x = are_using args x
+op_uses (Verify args) x = are_using args x
+op_uses _ x = false
+
+abbrev pub guards_use : List Guard → ℕ → Bool
+guards_use [] x = false
+guards_use (g ∷ gs) x = (g.var == x) || guards_use gs x
+
+abbrev pub row_uses : Stmt → ℕ → Bool
+row_uses r x = guards_use r.guards x || op_uses r.op x
+
+-- whether a stage forks by a variable
+abbrev pub forks_by : Next → ℕ → Bool
+forks_by (Forks y first second) x = y == x
+forks_by _ x = false
+
+-- a row or a fork of a stage from k on uses the variable
+abbrev pub lives : Pipe → ℕ → ℕ → Bool
+lives p k x = list_any (λ (r : Stmt). nat_le k r.stage && row_uses r x) p.stmts || list_any (λ (s : Stage). forks_by s.next x) (drop k p.stages)
+
+-- a row asks whether a location is held
+abbrev pub asks_held : Op → ℕ → ℕ → Bool
+asks_held (Block n b) m a = (n == m) && (b == a)
+asks_held (Release n b) m a = (n == m) && (b == a)
+asks_held _ m a = false
+
+-- one of a stage from k on does
+abbrev pub holds : Pipe → ℕ → ℕ → ℕ → Bool
+holds p k m a = list_any (λ (r : Stmt). nat_le k r.stage && asks_held r.op m a) p.stmts
+
+-- a row of a stage from k on verifies the guess
+abbrev pub verifies : Pipe → ℕ → Bool
+verifies p k = list_any (λ (r : Stmt). nat_le k r.stage && is_verify r.op) p.stmts

@@ -1,0 +1,78 @@
+-- What the stages do to each lock, and what the netlist shows.
+use Rattle.std.specs.Prelude.{ℕ, zero, suc, ◌==◌, List, [], ◌∷◌, ◌++◌, length, if◌then◌else◌, ◌-◌, codes, decimal}
+use Rattle.pdl_model.specs.Flat.{Mem, Pipe}
+use Rattle.pdl_net.specs.Signal.{Signal, mux_signal}
+use Rattle.pdl_lockapi.specs.Laws.{ReserveSignal, TicketSignal, StepSignals}
+use Rattle.pdl_pipe_law.specs.Walk.{Reservation, Put, Letting, has_kind, one, zero_bit, both}
+use Rattle.pdl_pipe_law.specs.Views.{View, Gates}
+
+-- ---- the ports of a memory's lock over n stages, of which the first is k; those of the last stage stand first
+
+abbrev pub reserves_to : ℕ → Signal → List Reservation → List ReserveSignal
+reserves_to m moves [] = []
+reserves_to m moves (r ∷ rs) = if r.mem == m then record { enable = both moves r.on; addr = r.addr } ∷ reserves_to m moves rs else reserves_to m moves rs
+
+abbrev pub all_reserves : ℕ → (ℕ → View) → (ℕ → Signal) → ℕ → ℕ → List ReserveSignal
+all_reserves m vs moves zero k = []
+all_reserves m vs moves (suc n) k = all_reserves m vs moves n (suc k) ++ reserves_to m (moves k) (vs k).ended.reserves
+
+abbrev pub puts_to : ℕ → Signal → Signal → List Put → List TicketSignal
+puts_to m moves ticket [] = []
+puts_to m moves ticket (x ∷ xs) = if x.mem == m then record { enable = both moves x.on; ticket = ticket; value = x.value } ∷ puts_to m moves ticket xs else puts_to m moves ticket xs
+
+abbrev pub all_puts : ℕ → (ℕ → View) → (ℕ → Signal) → ℕ → ℕ → List TicketSignal
+all_puts m vs moves zero k = []
+all_puts m vs moves (suc n) k = all_puts m vs moves n (suc k) ++ puts_to m (moves k) ((vs k).tickets m) (vs k).ended.puts
+
+-- whether a thread moves that releases its write reservation of the memory, else this
+abbrev pub lets : ℕ → Signal → List Letting → Signal → Signal
+lets m moves [] rest = rest
+lets m moves (l ∷ ls) rest = if l.mem == m then mux_signal (both moves l.on) one (lets m moves ls rest) else lets m moves ls rest
+
+abbrev pub released : ℕ → (ℕ → View) → (ℕ → Signal) → ℕ → ℕ → Signal
+released m vs moves zero k = zero_bit
+released m vs moves (suc n) k = lets m (moves k) (vs k).ended.lettings (released m vs moves n (suc k))
+
+-- all that a cycle does to a lock
+abbrev pub step_of : Pipe → (ℕ → View) → Gates → (ℕ → Signal) → ℕ → StepSignals
+step_of p vs gates moves m = record {
+  reserves = all_reserves m vs moves (length p.stages) 0;
+  writes = all_puts m vs moves (length p.stages) 0;
+  release = released m vs moves (length p.stages) 0;
+  squash = gates.squash;
+  tail = gates.tail m;
+}
+
+-- ---- outputs
+
+-- an output with its signal
+pub record Shown : Type 0 where
+  pub name : List ℕ
+  pub signal : Signal
+
+abbrev pub shows : List ℕ → Signal → Shown
+shows x f = record { name = x; signal = f }
+
+-- what a memory commits: whether, where and what
+pub record Commit : Type 0 where
+  pub enable : Signal
+  pub addr : Signal
+  pub value : Signal
+
+-- of each of n stages whether it holds a thread and whether that moves; the first has the number k
+abbrev pub stages_shown : (ℕ → View) → (ℕ → Signal) → ℕ → ℕ → List Shown
+stages_shown vs moves zero k = []
+stages_shown vs moves (suc n) k = shows (codes "v_" ++ decimal k) (vs k).valid ∷ shows (codes "g_" ++ decimal k) (moves k) ∷ stages_shown vs moves n (suc k)
+
+abbrev pub commit_shown : List ℕ → Commit → List Shown
+commit_shown name c = shows (codes "c_" ++ name) c.enable ∷ shows (codes "ca_" ++ name) c.addr ∷ shows (codes "cd_" ++ name) c.value ∷ []
+
+-- of each memory with a lock, of which the first has the number m, by the memories' names
+abbrev pub commits_shown : (ℕ → List ℕ) → (ℕ → Commit) → ℕ → List Mem → List Shown
+commits_shown names commits m [] = []
+commits_shown names commits m (x ∷ xs) = (if has_kind x.lock then commit_shown (names m) (commits m) else []) ++ commits_shown names commits (suc m) xs
+
+abbrev pub all_shown : Pipe → (ℕ → List ℕ) → (ℕ → Commit) → (ℕ → View) → Gates → (ℕ → Signal) → List Shown
+all_shown p names commits vs gates moves =
+    stages_shown vs moves (length p.stages) 0
+    ++ (commits_shown names commits 0 p.mems ++ shows (codes "ended") (moves (length p.stages - 1)) ∷ shows (codes "squash") gates.squash ∷ [])

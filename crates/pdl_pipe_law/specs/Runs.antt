@@ -1,0 +1,68 @@
+-- A netlist shows what the machine of a pipe shows.
+use Rattle.std.specs.Prelude.{◌≡◌, ℕ, ◌-◌, ◌==◌, ◌<◌, Bool, List, [], ◌∷◌, Option, Some, None, map, length, slice_index, slice_index_or}
+use Rattle.pdl_kit.specs.declared.mem_info.MemInfo.{MemInfo}
+use Rattle.pdl_model.specs.Flat.{Pipe, arrays_of}
+use Rattle.pdl_model.specs.Stages.{mem_at}
+use Rattle.pdl_model.specs.Cycle.{Turn, turns}
+use Rattle.pdl_model.specs.Lines.{Column, Put, Cycle, turn_cycles}
+use Rattle.pdl_net.specs.declared.Netlist.{Netlist}
+use Rattle.pdl_net.specs.Circuit.{circuit_of, outputs_of}
+use Rattle.pdl_net.specs.Run.{Shown, nports, commit_of}
+use Rattle.pdl_image.specs.Images.{IsImage}
+use Rattle.pdl_machine_facts.specs.Ports.{port_values}
+use Rattle.pdl_pipe_law.specs.Walk.{Locks}
+
+-- what is seen of a cycle, and what the machine has
+pub record Seen : Type 0 where
+  pub ports : List ℕ
+  pub wait : Bool
+
+abbrev pub seen_of : Shown → Seen
+seen_of x = record { ports = x.ports; wait = x.waited }
+
+abbrev pub had : Pipe → Turn → Seen
+had p t = record { ports = port_values p t.ports; wait = t.wait }
+
+-- the netlist's memories are the pipe's, with their depths, and each has the array of its number
+pub record HasMems (p : Pipe) (ls : Locks) (n : Netlist) : Type 0 where
+  pub in_order : (m : ℕ) → m < length p.mems → ls.array m ≡ m
+  pub count : length n.mems ≡ length p.mems
+  pub depth : (m : ℕ) (d : MemInfo) → m < length p.mems → (slice_index_or n.mems m d).depth ≡ (mem_at p m).depth
+
+-- from each image and with each schedule each port of each cycle is the machine's
+abbrev pub ShowsMachine : Pipe → Netlist → Type 0
+ShowsMachine p n =
+    (image : List (List ℕ)) (schedule : List ℕ) (replies : List (List Bool))
+    → IsImage n.mems image
+    → length replies ≡ length schedule
+    → map seen_of (nports n image schedule) ≡ map (had p) (turns p (arrays_of image) replies)
+
+-- a memory as lines show it
+abbrev pub column_of : MemInfo → Column
+column_of m = record { name = m.name; width = m.width }
+
+-- what a memory commits in a cycle, as lines show it
+abbrev pub puts_of : Option (ℕ × ℕ) → List Put
+puts_of None = []
+puts_of (Some (address, value)) = record { address = address; value = value } ∷ []
+
+-- how many outputs there are; `ended` and `squash` are the last two of them
+abbrev pub output_count : Netlist → ℕ
+output_count n = length (outputs_of (circuit_of n))
+
+-- a cycle as lines show it
+abbrev pub cycle_of : Netlist → Shown → Cycle
+cycle_of n seen = record {
+  puts = map (λ (m : MemInfo). puts_of (commit_of (circuit_of n) seen.ports m.name)) n.mems;
+  ended = slice_index seen.ports (output_count n - 2) == 1;
+  wait = seen.waited;
+  squash = slice_index seen.ports (output_count n - 1) == 1;
+}
+
+-- and so each cycle has the machine's lines
+abbrev pub ShowsTurns : Pipe → Netlist → Type 0
+ShowsTurns p n =
+    (image : List (List ℕ)) (schedule : List ℕ) (replies : List (List Bool))
+    → IsImage n.mems image
+    → length replies ≡ length schedule
+    → map (cycle_of n) (nports n image schedule) ≡ turn_cycles (turns p (arrays_of image) replies)
