@@ -1,0 +1,13 @@
+mod Inside
+mod Rows
+mod Top
+mod Automaton
+mod Good
+mod GoodExpr
+mod GoodItems
+mod GoodBranches
+mod GoodText
+mod Only
+mod Refused
+mod Within
+pub mod Places

@@ -1,0 +1,123 @@
+-- The place of a refusal: what the reader tells is the first token out of place, and there is one tree and one place.
+use Rattle.std.proofs.Common.{◌≡◌, ℕ, zero, suc, ◌+◌, ◌-◌, ◌<◌, ◌≤◌, List, [], ◌∷◌, ◌++◌, length, Result, Option, Some, None, IfOk, Ok, Err, refl, sym, ap, ◌∙◌, subst, arith, append_assoc, length-append}
+use Rattle.pdl_model.specs.Tree.{Pipe}
+use Rattle.pdl_tree.specs.declared.tree.Pipe as r_pipe
+use Rattle.pdl_tree.specs.View.{pipe_view}
+use Rattle.pdl_tokens.specs.declared.token.TokenKind.{TokenKind}
+use Rattle.pdl_tokens.specs.Tokens.{Token, Piece, piece_at, placed, line_after, tokens_from, tokens, last_line}
+use Rattle.pdl_grammar.specs.declared.error.ReadError.{ReadError}
+use Rattle.pdl_grammar.specs.declared.error.ReadError.TheVariants as error
+use Rattle.pdl_tokens.specs.Tokens.{Row}
+use Rattle.pdl_grammar.specs.Grammar.{Text}
+use Rattle.pdl_cursor.specs.Limits.{at_start}
+use Rattle.pdl_cursor.specs.Marked.{marked, first_line}
+use Rattle.pdl_grammar.specs.Read.{IsRead, line_at}
+use Rattle.pdl_grammar.specs.Reading.{parse}
+use Rattle.pdl_grammar.specs.Text.{IsText, Begins, line_of, IsOutOfPlace, Tree, Misplaced, Gives, IsRefused}
+use Rattle.pdl_grammar.specs.Automaton.{run, whole}
+use Rattle.pdl_grammar.proofs.Refused.{is_text, stopped, same_pipe}
+use Rattle.pdl_grammar.proofs.Within.{IsOut, out, spelt, text_found, text_refused, front_within}
+
+-- ---- no more tokens than bytes
+
+placed_one : (p : Piece) (start line : ℕ) (bytes : List ℕ) → length (placed p start line bytes) ≤ 1
+placed_one p start line bytes = go p.kind refl
+  where
+    go : (o : Option TokenKind) → p.kind ≡ o → length (placed p start line bytes) ≤ 1
+    go None e = rw e (omega arith)
+    go (Some k) e = rw e (omega arith)
+
+from_fewer : (inside start line : ℕ) (bytes : List ℕ) → length (tokens_from inside start line bytes) ≤ length bytes
+from_fewer inside start line [] = omega arith
+from_fewer (suc k) start line (c ∷ cs) = let h = from_fewer k (start + 1) line cs in omega (arith, h)
+from_fewer zero start line (c ∷ cs) = let p = piece_at c (c ∷ cs) in
+    let h = from_fewer (p.size - 1) (start + 1) (line_after c line) cs in
+    omega (arith, h, placed_one p start line (c ∷ cs), length-append (placed p start line (c ∷ cs)) (tokens_from (p.size - 1) (start + 1) (line_after c line) cs))
+
+enough : (bytes : List ℕ) (room : ℕ) → room ≡ length bytes + 1 → length (tokens bytes) < room
+enough bytes room e = let h = from_fewer 0 0 1 bytes in omega (arith, h, e)
+
+-- ---- what the reader tells
+
+pub read_whole : (bytes : List ℕ) (room : ℕ) (p : Pipe) → room ≡ length bytes + 1 → parse room (marked at_start (tokens bytes)) ≡ Ok p → IsText bytes p
+read_whole bytes room p le e = text_found room (tokens bytes) p (enough bytes room le) e
+
+line_is : (left : Row) (last : ℕ) → line_at (first_line left) last ≡ line_of left last
+line_is [] last = refl
+line_is (t ∷ ts) last = refl
+
+place_of : (bytes : List ℕ) (left : Row) (line : ℕ) → IsOut (tokens bytes) left → line ≡ line_of left (last_line bytes) → IsOutOfPlace bytes line
+place_of bytes left line h place = record { front = h.front; behind = h.behind; split = h.split; place = place ∙ h.line (last_line bytes); begins = h.begins; bad = h.bad; no_text = h.no_text }
+
+pub read_misplaced : (bytes : List ℕ) (room : ℕ) (left : Row) (line : ℕ) → room ≡ length bytes + 1 → parse room (marked at_start (tokens bytes)) ≡ Err left →
+    line ≡ line_at (first_line left) (last_line bytes) → IsOutOfPlace bytes line
+read_misplaced bytes room left line le e place = place_of bytes left line (text_refused room (tokens bytes) left (enough bytes room le) e) (place ∙ line_is left (last_line bytes))
+
+-- ---- what the automaton tells
+
+pub recognised : (bytes : List ℕ) → run (marked at_start (tokens bytes)) whole ≡ None → (p : Pipe) × IsText bytes p
+recognised bytes e = let t = is_text (marked at_start (tokens bytes)) e in (t.0, spelt (tokens bytes) t.0 t.1)
+
+pub stopped_at : (bytes : List ℕ) (left : Row) (line : ℕ) → run (marked at_start (tokens bytes)) whole ≡ Some left → line ≡ line_of left (last_line bytes) → IsOutOfPlace bytes line
+stopped_at bytes left line e place = place_of bytes left line (out (tokens bytes) left (stopped (marked at_start (tokens bytes)) left e)) place
+
+-- ---- one tree, one place
+
+pub one_tree : (bytes : List ℕ) (p q : Pipe) → IsText bytes p → IsText bytes q → p ≡ q
+one_tree bytes p q h k = same_pipe (tokens bytes) p q h.text k.text
+
+pub apart : (bytes : List ℕ) (p : Pipe) (line : ℕ) → IsText bytes p → IsOutOfPlace bytes line → ⊥
+apart bytes p line h k = k.no_text p h
+
+front_begins : (xs ys : Row) → Begins (xs ++ ys) → Begins xs
+front_begins xs ys b = record { more = ys ++ b.more; pipe = b.pipe; text = subst (λ x. Text b.pipe x []) (append_assoc xs ys b.more) b.text; within = front_within at_start xs ys b.within }
+
+-- of two fronts of one list the second is longer, with the same tokens behind, or they are the same
+record Longer (f1 b1 f2 b2 : Row) : Type 0 where
+  t : Token
+  more : Row
+  front : f1 ≡ f2 ++ t ∷ more
+  behind : b2 ≡ t ∷ (more ++ b1)
+
+longer : (f1 b1 f2 b2 : Row) → f1 ++ b1 ≡ f2 ++ b2 → length b1 < length b2 → Longer f1 b1 f2 b2
+longer [] b1 f2 b2 e le = let k : length b1 ≡ length (f2 ++ b2) = ap length e in let j = length-append f2 b2 in absurd (omega arith)
+longer (x ∷ f1) b1 [] b2 e le = record { t = x; more = f1; front = refl; behind = sym e }
+longer (x ∷ f1) b1 (y ∷ f2) b2 e le = let k : f1 ++ b1 ≡ f2 ++ b2 = cc in let j : x ≡ y = cc in let h = longer f1 b1 f2 b2 k le in
+    record { t = h.t; more = h.more; front = let i = h.front in cc; behind = h.behind }
+
+not_before : (bytes : List ℕ) (n m : ℕ) (h : IsOutOfPlace bytes n) (i : IsOutOfPlace bytes m) → length h.behind < length i.behind → ⊥
+not_before bytes n m h i le =
+    let k = longer h.front h.behind i.front i.behind (sym h.split ∙ i.split) le in
+    i.bad k.t (k.more ++ h.behind) k.behind (front_begins (i.front ++ k.t ∷ []) k.more (subst Begins (k.front ∙ sym (append_assoc i.front (k.t ∷ []) k.more)) h.begins))
+
+same_behind : (f1 b1 f2 b2 : Row) → f1 ++ b1 ≡ f2 ++ b2 → length b1 ≡ length b2 → b1 ≡ b2
+same_behind [] b1 [] b2 e le = e
+same_behind [] b1 (y ∷ f2) b2 e le = let k : length b1 ≡ length (y ∷ (f2 ++ b2)) = ap length e in let j = length-append f2 b2 in absurd (omega arith)
+same_behind (x ∷ f1) b1 [] b2 e le = let k : length (x ∷ (f1 ++ b1)) ≡ length b2 = ap length e in let j = length-append f1 b1 in absurd (omega arith)
+same_behind (x ∷ f1) b1 (y ∷ f2) b2 e le = let k : f1 ++ b1 ≡ f2 ++ b2 = cc in same_behind f1 b1 f2 b2 k le
+
+pub one_place : (bytes : List ℕ) (n m : ℕ) → IsOutOfPlace bytes n → IsOutOfPlace bytes m → n ≡ m
+one_place bytes n m h i =
+    let le : length h.behind ≡ length i.behind = grind (arith, not_before bytes n m h i, not_before bytes m n i h) in
+    h.place ∙ (ap (λ b. line_of b (last_line bytes)) (same_behind h.front h.behind i.front i.behind (sym h.split ∙ i.split) le) ∙ sym i.place)
+
+-- ---- what is answered
+
+pub answer_found : (bytes : List ℕ) (x : Result r_pipe.Pipe ReadError) → IsRead bytes x → IfOk x (λ p. IsText bytes (pipe_view p))
+answer_found bytes (Ok p) h = h
+answer_found bytes (Err e) h = tt
+
+pub answer_only : (bytes : List ℕ) (x : Result r_pipe.Pipe ReadError) (p : Pipe) → IsRead bytes x → IsText bytes p → Gives (Tree p) x
+answer_only bytes (Ok q) p h k = one_tree bytes (pipe_view q) p h k
+answer_only bytes (Err (error.Misplaced line)) p h k = absurd (apart bytes p line k h)
+answer_only bytes (Err error.NoMemory) p h k = tt
+
+pub answer_exact : (bytes : List ℕ) (x : Result r_pipe.Pipe ReadError) (line : ℕ) → IsRead bytes x → IsOutOfPlace bytes line → Gives (Misplaced line) x
+answer_exact bytes (Ok q) line h k = absurd (apart bytes (pipe_view q) line h k)
+answer_exact bytes (Err (error.Misplaced n)) line h k = one_place bytes n line h k
+answer_exact bytes (Err error.NoMemory) line h k = tt
+
+pub answer_refused : (bytes : List ℕ) (x : Result r_pipe.Pipe ReadError) → IsRead bytes x → IsRefused bytes x
+answer_refused bytes (Ok q) h = tt
+answer_refused bytes (Err (error.Misplaced line)) h = h
+answer_refused bytes (Err error.NoMemory) h = tt

@@ -1,0 +1,36 @@
+use Rattle.std.proofs.Common.{◌≡◌, ◌+◌, ◌*◌, ◌-◌}
+use Rattle.pdl_grammar.specs.Reading as spec
+use Rattle.pdl_tree.specs.View.{expr_view}
+use Rattle.pdl_grammar.proofs.expression.+expr.Given as goal
+
+abbrev pub decreases-arms : goal.decreases-arms
+decreases-arms l = 16 * l.room + 2
+
+abbrev pub decreases-bracketed : goal.decreases-bracketed
+decreases-bracketed l = 16 * l.room + 2
+
+abbrev pub decreases-pair : goal.decreases-pair
+decreases-pair l = 16 * l.room + 2
+
+abbrev pub decreases-sized : goal.decreases-sized
+decreases-sized l = 16 * l.room + 2
+
+abbrev pub decreases-inside : goal.decreases-inside
+decreases-inside l = 16 * l.room + 1
+
+abbrev pub decreases-operand_inside : goal.decreases-operand_inside
+decreases-operand_inside l = 16 * l.room + 1
+
+abbrev pub decreases-operand : goal.decreases-operand
+decreases-operand l = 16 * l.room + 3
+
+abbrev pub decreases-level : goal.decreases-level
+decreases-level l = 16 * l.room + (l.n + 4)
+
+abbrev pub decreases-expr : goal.decreases-expr
+decreases-expr l = 16 * l.room + 13
+
+-- what is read and what is to come are the whole
+abbrev pub invariant-level-loop-turn : goal.invariant-level-loop-turn
+invariant-level-loop-turn l = spec.level (spec.operand (spec.inside l.room)) l.room l.n l.fn.tokens
+    ≡ spec.chain (spec.level (spec.operand (spec.inside l.room)) l.room (l.n - 1)) (l.n - 1) (l.room - l._turn) (expr_view l.left) l.tokens

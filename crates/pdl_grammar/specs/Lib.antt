@@ -1,0 +1,5 @@
+pub mod Grammar
+pub mod Text
+pub mod Reading
+pub mod Automaton
+pub mod Read

@@ -1,0 +1,533 @@
+-- How tokens are read: a value and the tokens after it, or the tokens from the one out of place on.
+use Rattle.std.specs.Prelude.{ℕ, zero, suc, Bool, true, false, List, [], ◌∷◌, Option, Some, None, Result, Ok, Err, cond, nat_eq}
+use Rattle.pdl_model.specs.Tree.{Span, Ident, Number, Literal, BinaryOp, Expr, Constant, Variable, Slice, Not, Binary, Cat, LessSigned, ZeroExtend, SignExtend, Choose, Location, Kind, R, W, Stmt, Separator, CombRead, Bind, SpecCall, DelayedRead, Write, Reserve, Block, Release, If, Call, Verify, SpecCheck, SpecBarrier, Stmts, Nil, Param, LockKind, Queue, Bypass, Rename, LockDecl, Mem, Start, Pipe}
+use Rattle.pdl_tokens.specs.declared.token.Mark.{Mark}
+use Rattle.pdl_tokens.specs.declared.token.Mark.TheVariants as mark
+use Rattle.pdl_tokens.specs.declared.token.TokenKind.{TokenKind}
+use Rattle.pdl_tokens.specs.declared.token.TokenKind.TheVariants as kind
+use Rattle.pdl_tokens.specs.Cursor.{next, first_kind, first_span, first_name}
+use Rattle.pdl_cursor.specs.Looks.{is_mark, begins_place}
+use Rattle.pdl_tokens.specs.Tokens.{Row}
+use Rattle.pdl_grammar.specs.Grammar.{across, operator_of, loose, levels, prepend}
+
+-- ---- what every rule is made of
+
+-- what comes of reading a value
+abbrev pub Outcome : Type 0 → Type 0
+Outcome A = Result (A × Row) Row
+
+-- a way to read a value
+abbrev pub Parser : Type 0 → Type 0
+Parser A = Row → Outcome A
+
+-- one reading after another, unless the first was refused
+abbrev pub and_then : {A B : Type 0} → Outcome A → (A → Parser B) → Outcome B
+and_then (Ok p) f = f p.0 p.1
+and_then (Err ts) f = Err ts
+
+-- the same of readers
+infixl 10 ◌>>=◌
+abbrev pub ◌>>=◌ : {A B : Type 0} → Parser A → (A → Parser B) → Parser B
+p >>= f = λ ts. and_then (p ts) f
+
+-- a value from no tokens
+abbrev pub pure : {A : Type 0} → A → Parser A
+pure a = λ ts. Ok (a, ts)
+
+-- no value: the first token is out of place
+abbrev pub refuse : {A : Type 0} → Parser A
+refuse = λ ts. Err ts
+
+-- a keyword or a symbol, and where it stands
+unfoldable pub take : Mark → Parser Span
+take m = λ ts. cond (is_mark m (first_kind ts)) (Ok (first_span ts, next ts)) (Err ts)
+
+-- by what the first token is
+abbrev pub name_by : Option TokenKind → Parser Ident
+name_by (Some kind.Name) = λ ts. Ok (first_name ts, next ts)
+name_by _ = refuse
+
+-- a name
+unfoldable pub name : Parser Ident
+name = λ ts. name_by (first_kind ts) ts
+
+-- by what the first token is
+abbrev pub number_by : Option TokenKind → Parser Number
+number_by (Some (kind.Number n)) = λ ts. Ok (record { value = n; span = first_span ts }, next ts)
+number_by _ = refuse
+
+-- a number
+unfoldable pub number : Parser Number
+number = λ ts. number_by (first_kind ts) ts
+
+-- the literal of a width and a value at the front
+abbrev pub first_literal : ℕ → Option ℕ → Row → Literal
+first_literal w v ts = record { width = w; value = v; span = first_span ts }
+
+-- by what the first token is
+abbrev pub literal_by : Option TokenKind → Parser Literal
+literal_by (Some (kind.Literal w v)) = λ ts. Ok (first_literal w v ts, next ts)
+literal_by _ = refuse
+
+-- a literal
+unfoldable pub literal : Parser Literal
+literal = λ ts. literal_by (first_kind ts) ts
+
+-- by what the first token is
+abbrev pub access_by : Option TokenKind → Parser Kind
+access_by (Some (kind.Mark mark.R)) = λ ts. Ok (R, next ts)
+access_by (Some (kind.Mark mark.W)) = λ ts. Ok (W, next ts)
+access_by _ = refuse
+
+-- an `R` or a `W`
+unfoldable pub access : Parser Kind
+access = λ ts. access_by (first_kind ts) ts
+
+-- a location
+unfoldable pub place : Parser Location
+place = do
+  m ← name
+  _ ← take mark.OpenSquare
+  a ← name
+  _ ← take mark.CloseSquare
+  pure (record { mem = m; address = a })
+
+-- ---- values with commas between them
+
+-- a comma: more comes; the closing mark: nothing more
+abbrev pub goes_on : Mark → Option TokenKind → Option Bool
+goes_on close k = cond (is_mark mark.Comma k) (Some true) (cond (is_mark close k) (Some false) None)
+
+-- after a value, by whether more come
+abbrev pub listed_by : {A : Type 0} → Parser (List A) → A → Option Bool → Parser (List A)
+listed_by others x None = refuse
+listed_by others x (Some false) = λ ts. Ok (x ∷ [], next ts)
+listed_by others x (Some true) = λ ts. (others >>= (λ xs. pure (x ∷ xs))) (next ts)
+
+-- at most n values
+unfoldable pub listed : {A : Type 0} → Parser A → Mark → ℕ → Parser (List A)
+listed p close zero = refuse
+listed p close (suc n) = p >>= (λ x ts. listed_by (listed p close n) x (goes_on close (first_kind ts)) ts)
+
+-- ---- expressions
+
+-- a slice, after the name and the bracket
+abbrev pub slice_of : Ident → Parser Expr
+slice_of x = do
+  h ← number
+  _ ← take mark.Colon
+  l ← number
+  _ ← take mark.CloseSquare
+  pure (Slice x h l)
+
+-- a slice or a variable, after the name
+abbrev pub after_name : Ident → Parser Expr
+after_name x = λ ts. cond (is_mark mark.OpenSquare (first_kind ts)) (slice_of x (next ts)) (Ok (Variable x, ts))
+
+-- what stands in round brackets, after the first
+abbrev pub bracketed : Parser Expr → Parser Expr
+bracketed full = do
+  e ← full
+  _ ← take mark.CloseRound
+  pure e
+
+-- an expression and a number, in brackets, after a function word
+abbrev pub sized : Parser Expr → Parser (Expr × Number)
+sized full = do
+  _ ← take mark.OpenRound
+  e ← full
+  _ ← take mark.Comma
+  n ← number
+  _ ← take mark.CloseRound
+  pure (e, n)
+
+-- two expressions, in brackets, after a function word
+abbrev pub pair : Parser Expr → Parser (Expr × Expr)
+pair full = do
+  _ ← take mark.OpenRound
+  a ← full
+  _ ← take mark.Comma
+  b ← full
+  _ ← take mark.CloseRound
+  pure (a, b)
+
+-- the readers of what stands inside an expression: an operand, or an expression
+pub record Inner : Type 0 where
+  pub operand : Parser Expr
+  pub full : Parser Expr
+
+-- by what the first token is
+abbrev pub operand_by : Inner → Option TokenKind → Parser Expr
+operand_by inner (Some (kind.Literal w v)) = λ ts. Ok (Constant (first_literal w v ts), next ts)
+operand_by inner (Some kind.Name) = λ ts. after_name (first_name ts) (next ts)
+operand_by inner (Some (kind.Mark mark.OpenRound)) = λ ts. bracketed inner.full (next ts)
+operand_by inner (Some (kind.Mark mark.Tilde)) = λ ts. (inner.operand >>= (λ e. pure (Not e))) (next ts)
+operand_by inner (Some (kind.Mark mark.Cat)) = λ ts. (pair inner.full >>= (λ p. pure (Cat p.0 p.1))) (next ts)
+operand_by inner (Some (kind.Mark mark.LessSigned)) = λ ts. (pair inner.full >>= (λ p. pure (LessSigned p.0 p.1))) (next ts)
+operand_by inner (Some (kind.Mark mark.ZeroExtend)) = λ ts. (sized inner.full >>= (λ p. pure (ZeroExtend p.0 p.1))) (next ts)
+operand_by inner (Some (kind.Mark mark.SignExtend)) = λ ts. (sized inner.full >>= (λ p. pure (SignExtend p.0 p.1))) (next ts)
+operand_by inner _ = refuse
+
+-- what stands between operators
+unfoldable pub operand : Inner → Parser Expr
+operand inner = λ ts. operand_by inner (first_kind ts) ts
+
+-- the operator where it has this looseness
+abbrev pub op_by : ℕ → Option BinaryOp → Option BinaryOp
+op_by n (Some op) = cond (nat_eq (loose op) n) (Some op) None
+op_by n None = None
+
+-- an operator of this looseness
+abbrev pub op_in : ℕ → Option TokenKind → Option BinaryOp
+op_in n (Some (kind.Mark m)) = op_by n (operator_of m)
+op_in n _ = None
+
+-- after a left side, by the operator that comes
+abbrev pub joins : Parser Expr → (Expr → Parser Expr) → Expr → Option BinaryOp → Parser Expr
+joins p on_with x None = pure x
+joins p on_with x (Some op) = λ ts. (p >>= (λ y. on_with (Binary op x y))) (next ts)
+
+-- at most m more operators of a looseness and their right sides
+unfoldable pub chain : Parser Expr → ℕ → ℕ → Expr → Parser Expr
+chain p n zero x = pure x
+chain p n (suc m) x = λ ts. joins p (chain p n m) x (op_in n (first_kind ts)) ts
+
+-- at most `room` operators at each level up to n
+unfoldable pub level : Parser Expr → ℕ → ℕ → Parser Expr
+level p room zero = p
+level p room (suc n) = level p room n >>= chain (level p room n) n room
+
+-- the arms of a choice, after its `?`
+abbrev pub arms : Parser Expr → Expr → Parser Expr
+arms full c = do
+  x ← full
+  _ ← take mark.Colon
+  y ← full
+  pure (Choose c x y)
+
+-- a choice, where its `?` comes
+abbrev pub choose : Parser Expr → Expr → Parser Expr
+choose full c = λ ts. cond (is_mark mark.Question (first_kind ts)) (arms full c (next ts)) (Ok (c, ts))
+
+-- an expression, by the readers of what stands inside
+unfoldable pub full : Inner → ℕ → Parser Expr
+full inner room = level (operand inner) room levels >>= choose inner.full
+
+-- no room for anything inside
+abbrev pub nothing_inside : Inner
+nothing_inside = record { operand = refuse; full = refuse }
+
+-- what stands inside, of at most n tokens
+unfoldable pub inside : ℕ → Inner
+inside zero = nothing_inside
+inside (suc n) = record { operand = operand (inside n); full = full (inside n) n }
+
+-- an expression of at most `room` tokens
+abbrev pub expr : ℕ → Parser Expr
+expr room = full (inside room) room
+
+-- expressions with commas between them, up to a closing bracket, and it
+abbrev pub args : ℕ → Parser (List Expr)
+args room = listed (expr room) mark.CloseRound room
+
+-- ---- statements
+
+-- a read of a memory, after `x =`
+abbrev pub read_of : Ident → Parser Stmt
+read_of x = do
+  l ← place
+  e ← take mark.Semicolon
+  pure (CombRead (across x.span e) x l)
+
+-- a binding, after `x =`
+abbrev pub bind_of : Parser Expr → Ident → Parser Stmt
+bind_of full x = do
+  v ← full
+  e ← take mark.Semicolon
+  pure (Bind (across x.span e) x v)
+
+-- a guess, after `x = spec_call`
+abbrev pub guess_of : ℕ → Ident → Parser Stmt
+guess_of room x = do
+  _ ← take mark.OpenRound
+  es ← args room
+  e ← take mark.Semicolon
+  pure (SpecCall (across x.span e) x es)
+
+-- a guess or a binding, after `x =`
+abbrev pub computed : ℕ → Ident → Parser Stmt
+computed room x = λ ts. cond (is_mark mark.SpecCall (first_kind ts)) (guess_of room x (next ts)) (bind_of (expr room) x ts)
+
+-- after `x =`
+abbrev pub assigned : ℕ → Ident → Parser Stmt
+assigned room x = λ ts. cond (begins_place ts) (read_of x ts) (computed room x ts)
+
+-- a read of a delayed memory, after `x <-`
+abbrev pub fetch_of : Ident → Parser Stmt
+fetch_of x = do
+  l ← place
+  e ← take mark.Semicolon
+  pure (DelayedRead (across x.span e) x l)
+
+-- after `m [`
+abbrev pub write_of : Parser Expr → Ident → Parser Stmt
+write_of full m = do
+  a ← name
+  _ ← take mark.CloseSquare
+  _ ← take mark.Arrow
+  v ← full
+  e ← take mark.Semicolon
+  pure (Write (across m.span e) (record { mem = m; address = a }) v)
+
+-- by what comes after the name
+abbrev pub named_by : ℕ → Ident → Option TokenKind → Parser Stmt
+named_by room x (Some (kind.Mark mark.Assign)) = λ ts. assigned room x (next ts)
+named_by room x (Some (kind.Mark mark.Arrow)) = λ ts. fetch_of x (next ts)
+named_by room x (Some (kind.Mark mark.OpenSquare)) = λ ts. write_of (expr room) x (next ts)
+named_by room x _ = refuse
+
+-- after the name that a statement begins with
+unfoldable pub named : ℕ → Ident → Parser Stmt
+named room x = λ ts. named_by room x (first_kind ts) ts
+
+-- a location and what it is reserved for, in brackets, and where the statement ends
+unfoldable pub reserved : Parser (Location × Kind × Span)
+reserved = do
+  _ ← take mark.OpenRound
+  l ← place
+  _ ← take mark.Comma
+  k ← access
+  _ ← take mark.CloseRound
+  e ← take mark.Semicolon
+  pure (l, k, e)
+
+-- a location in brackets, and where the statement ends
+unfoldable pub held : Parser (Location × Span)
+held = do
+  _ ← take mark.OpenRound
+  l ← place
+  _ ← take mark.CloseRound
+  e ← take mark.Semicolon
+  pure (l, e)
+
+-- a reservation, after its word
+abbrev pub reserve_of : Span → Parser (List Stmt)
+reserve_of s = reserved >>= (λ v. pure (Reserve (across s v.2) v.0 v.1 ∷ []))
+
+-- a reservation and the wait for it, after their word
+abbrev pub acquire_of : Span → Parser (List Stmt)
+acquire_of s = reserved >>= (λ v. pure (Reserve (across s v.2) v.0 v.1 ∷ Block (across s v.2) v.0 ∷ []))
+
+-- a wait, after its word
+abbrev pub block_of : Span → Parser (List Stmt)
+block_of s = held >>= (λ v. pure (Block (across s v.1) v.0 ∷ []))
+
+-- a release, after its word
+abbrev pub release_of : Span → Parser (List Stmt)
+release_of s = held >>= (λ v. pure (Release (across s v.1) v.0 ∷ []))
+
+-- a call, after its word
+abbrev pub call_of : ℕ → Span → Parser (List Stmt)
+call_of room s = do
+  _ ← take mark.OpenRound
+  es ← args room
+  e ← take mark.Semicolon
+  pure (Call (across s e) es ∷ [])
+
+-- a test of a guess, after its word
+abbrev pub verify_of : ℕ → Span → Parser (List Stmt)
+verify_of room s = do
+  _ ← take mark.OpenRound
+  g ← name
+  _ ← take mark.Comma
+  es ← args room
+  e ← take mark.Semicolon
+  pure (Verify (across s e) g es ∷ [])
+
+-- empty brackets, and where the statement ends
+unfoldable pub bare : Parser Span
+bare = do
+  _ ← take mark.OpenRound
+  _ ← take mark.CloseRound
+  e ← take mark.Semicolon
+  pure e
+
+-- a check, after its word
+abbrev pub check_of : Span → Parser (List Stmt)
+check_of s = bare >>= (λ e. pure (SpecCheck (across s e) ∷ []))
+
+-- a barrier, after its word
+abbrev pub barrier_of : Span → Parser (List Stmt)
+barrier_of s = bare >>= (λ e. pure (SpecBarrier (across s e) ∷ []))
+
+-- the statements of a branch and where its closing brace stands, after the opening one
+abbrev pub branch : Parser Stmts → Parser (Stmts × Span)
+branch items = do
+  ss ← items
+  e ← take mark.CloseBrace
+  pure (ss, e)
+
+-- the other branch, after the first one's closing brace: none where no `else` comes
+abbrev pub otherwise : Parser Stmts → Span → Parser (Stmts × Span)
+otherwise items end = λ ts. cond (is_mark mark.Else (first_kind ts)) ((take mark.OpenBrace >>= (λ _. branch items)) (next ts)) (Ok ((Nil, end), ts))
+
+-- a condition, up to the brace behind it
+unfoldable pub condition : ℕ → Parser Expr
+condition room = do
+  _ ← take mark.OpenRound
+  c ← expr room
+  _ ← take mark.CloseRound
+  _ ← take mark.OpenBrace
+  pure c
+
+-- an `if`, after its word
+abbrev pub if_of : ℕ → Parser Stmts → Span → Parser (List Stmt)
+if_of room items s = do
+  c ← condition room
+  first ← branch items
+  second ← otherwise items first.1
+  pure (If (across s second.1) c first.0 second.0 ∷ [])
+
+-- one statement as an item
+abbrev pub alone : Parser Stmt → Parser (List Stmt)
+alone p = p >>= (λ s. pure (s ∷ []))
+
+-- a statement on a lock, by what the first token is
+abbrev pub locking_by : Option TokenKind → Parser (List Stmt)
+locking_by (Some (kind.Mark mark.Reserve)) = λ ts. reserve_of (first_span ts) (next ts)
+locking_by (Some (kind.Mark mark.Acquire)) = λ ts. acquire_of (first_span ts) (next ts)
+locking_by (Some (kind.Mark mark.Block)) = λ ts. block_of (first_span ts) (next ts)
+locking_by (Some (kind.Mark mark.Release)) = λ ts. release_of (first_span ts) (next ts)
+locking_by _ = refuse
+
+-- a statement on a lock
+unfoldable pub locking : Parser (List Stmt)
+locking = λ ts. locking_by (first_kind ts) ts
+
+-- by what the first token is
+abbrev pub plain_by : ℕ → Option TokenKind → Parser (List Stmt)
+plain_by room (Some kind.Name) = λ ts. alone (named room (first_name ts)) (next ts)
+plain_by room (Some (kind.Mark mark.Separator)) = λ ts. Ok (Separator (first_span ts) ∷ [], next ts)
+plain_by room (Some (kind.Mark mark.Call)) = λ ts. call_of room (first_span ts) (next ts)
+plain_by room (Some (kind.Mark mark.Verify)) = λ ts. verify_of room (first_span ts) (next ts)
+plain_by room (Some (kind.Mark mark.SpecCheck)) = λ ts. check_of (first_span ts) (next ts)
+plain_by room (Some (kind.Mark mark.SpecBarrier)) = λ ts. barrier_of (first_span ts) (next ts)
+plain_by room _ = locking
+
+-- an item without statements inside
+unfoldable pub plain : ℕ → Parser (List Stmt)
+plain room = λ ts. plain_by room (first_kind ts) ts
+
+-- an item of the grammar, by a reader of the statements inside
+unfoldable pub item : ℕ → Parser Stmts → Parser (List Stmt)
+item room items = λ ts. cond (is_mark mark.If (first_kind ts)) (if_of room items (first_span ts) (next ts)) (plain room ts)
+
+-- by whether the closing brace comes
+abbrev pub items_by : ℕ → Parser Stmts → Parser Stmts
+items_by room items = λ ts. cond (is_mark mark.CloseBrace (first_kind ts)) (Ok (Nil, ts)) ((item room items >>= (λ s. items >>= (λ ss. pure (prepend s ss)))) ts)
+
+-- items up to a closing brace, at most n, each with fewer inside
+unfoldable pub items : ℕ → ℕ → Parser Stmts
+items room zero = refuse
+items room (suc n) = items_by room (items room n)
+
+-- ---- texts
+
+-- a type, after the name and the colon
+unfoldable pub width : Parser Number
+width = do
+  _ ← take mark.Uint
+  _ ← take mark.Less
+  n ← number
+  _ ← take mark.Greater
+  pure n
+
+-- a parameter
+unfoldable pub param : Parser Param
+param = do
+  x ← name
+  _ ← take mark.Colon
+  w ← width
+  pure (record { name = x; width = w })
+
+-- by what the first token is
+abbrev pub lock_kind_by : Option TokenKind → Parser LockKind
+lock_kind_by (Some (kind.Mark mark.Queue)) = λ ts. Ok (Queue, next ts)
+lock_kind_by (Some (kind.Mark mark.Bypass)) = λ ts. Ok (Bypass, next ts)
+lock_kind_by (Some (kind.Mark mark.Rename)) = λ ts. Ok (Rename, next ts)
+lock_kind_by _ = refuse
+
+-- a kind of lock
+unfoldable pub lock_kind : Parser LockKind
+lock_kind = λ ts. lock_kind_by (first_kind ts) ts
+
+-- a lock, after `lock`
+abbrev pub lock_of : Parser (Option LockDecl)
+lock_of = do
+  k ← lock_kind
+  _ ← take mark.OpenRound
+  n ← number
+  _ ← take mark.CloseRound
+  pure (Some (record { kind = k; size = n }))
+
+-- a lock or none
+unfoldable pub lock : Parser (Option LockDecl)
+lock = λ ts. cond (is_mark mark.Lock (first_kind ts)) (lock_of (next ts)) (Ok (None, ts))
+
+-- by what the first token is
+abbrev pub pace_by : Option TokenKind → Parser Bool
+pace_by (Some (kind.Mark mark.Comb)) = λ ts. Ok (false, next ts)
+pace_by (Some (kind.Mark mark.Delayed)) = λ ts. Ok (true, next ts)
+pace_by _ = refuse
+
+-- whether a memory answers in a later cycle
+unfoldable pub pace : Parser Bool
+pace = λ ts. pace_by (first_kind ts) ts
+
+-- a memory
+unfoldable pub mem : Parser Mem
+mem = do
+  x ← name
+  _ ← take mark.Colon
+  w ← width
+  _ ← take mark.OpenSquare
+  n ← number
+  _ ← take mark.CloseSquare
+  d ← pace
+  l ← lock
+  pure (record { name = x; width = w; depth = n; delayed = d; lock = l })
+
+-- the start clause
+unfoldable pub start : ℕ → Parser Start
+start room = do
+  s ← take mark.Start
+  x ← name
+  _ ← take mark.OpenRound
+  args ← listed literal mark.CloseRound room
+  e ← take mark.Semicolon
+  pure (record { span = across s e; name = x; args = args })
+
+-- a pipe and its start clause
+unfoldable pub pipe : ℕ → Parser Pipe
+pipe room = do
+  _ ← take mark.Pipe
+  x ← name
+  _ ← take mark.OpenRound
+  params ← listed param mark.CloseRound room
+  _ ← take mark.OpenSquare
+  mems ← listed mem mark.CloseSquare room
+  _ ← take mark.OpenBrace
+  body ← items room room
+  e ← take mark.CloseBrace
+  s ← start room
+  pure (record { name = x; params = params; mems = mems; body = body; end = e; start = s })
+
+-- a text up to the end of the tokens
+abbrev pub whole_of : Outcome Pipe → Result Pipe Row
+whole_of (Ok (p, [])) = Ok p
+whole_of (Ok (p, t ∷ ts)) = Err (t ∷ ts)
+whole_of (Err ts) = Err ts
+
+-- the pipe that the tokens are, fewer than `room`, or the tokens from the first out of place on
+unfoldable pub parse : ℕ → Row → Result Pipe Row
+parse room ts = whole_of (pipe room ts)

@@ -1,0 +1,288 @@
+// Expressions.
+ghost use Rattle.std.specs.Prelude.{◌≡◌, ◌≤◌, IfOk, map};
+ghost use Rattle.pdl_model.specs.Tree as tree;
+ghost use Rattle.pdl_grammar.specs.Grammar.{operator_of, loose, levels};
+ghost use Rattle.pdl_grammar.specs.Read.{Reads, pair_view, sized_view};
+ghost use Rattle.pdl_grammar.specs.Reading as spec;
+ghost use Rattle.pdl_tokens.specs.Cursor.{first_kind};
+ghost use Rattle.pdl_tree.specs.View.{ident_view, op_view, expr_view, maybe_op_view};
+
+use crate::item::{Pair, Sized};
+use crate::stop::Stop;
+use crate::words::{goes_on, literal, number, take};
+use pdl_cursor::Cursor;
+use pdl_kit::{Boxed, NoMemory, Seq};
+use pdl_tokens::{Mark, TokenKind};
+use pdl_tree::{BinaryOp, Expr, Ident};
+use std::alloc::Global;
+
+// How many kinds of binding the operators have.
+const LEVELS: u32 = 8;
+
+// A slice, after the name and the bracket.
+fn slice(tokens: &mut Cursor<'_>, x: Ident) -> Result<Expr, Stop>
+    ensures { Reads expr_view (spec.slice_of (ident_view x) tokens.old) result tokens.new }
+{
+    let high = number(tokens)?;
+    take(tokens, Mark::Colon)?;
+    let low = number(tokens)?;
+    take(tokens, Mark::CloseSquare)?;
+    Ok(Expr::Slice { x, high, low })
+}
+
+// A variable or a slice of it, after the name.
+fn after_name(tokens: &mut Cursor<'_>, x: Ident) -> Result<Expr, Stop>
+    ensures { Reads expr_view (spec.after_name (ident_view x) tokens.old) result tokens.new }
+{
+    if tokens.is(Mark::OpenSquare) {
+        tokens.skip();
+        slice(tokens, x)
+    } else {
+        Ok(Expr::Variable(x))
+    }
+}
+
+fn binary(alloc: Global, op: BinaryOp, a: Expr, b: Expr) -> Result<Expr, NoMemory>
+    ensures { IfOk result (λ e. expr_view e ≡ tree.Binary (op_view op) (expr_view a) (expr_view b)) }
+{
+    Ok(Expr::Binary {
+        op,
+        a: Boxed::new(alloc, a)?,
+        b: Boxed::new(alloc, b)?,
+    })
+}
+
+fn choice(alloc: Global, c: Expr, a: Expr, b: Expr) -> Result<Expr, NoMemory>
+    ensures { IfOk result (λ e. expr_view e ≡ tree.Choose (expr_view c) (expr_view a) (expr_view b)) }
+{
+    let c = Boxed::new(alloc, c)?;
+    let a = Boxed::new(alloc, a)?;
+    Ok(Expr::Choose(c, a, Boxed::new(alloc, b)?))
+}
+
+// What stands between round brackets, after the first.
+#[cycle(expr)]
+fn bracketed(alloc: Global, tokens: &mut Cursor<'_>, room: usize) -> Result<Expr, Stop>
+    ensures { Reads expr_view (spec.bracketed (spec.inside room).full tokens.old) result tokens.new }
+{
+    let e = inside(alloc, tokens, room)?;
+    take(tokens, Mark::CloseRound)?;
+    Ok(e)
+}
+
+// Two expressions in brackets, after a function word.
+#[cycle(expr)]
+fn pair(alloc: Global, tokens: &mut Cursor<'_>, room: usize) -> Result<Pair, Stop>
+    ensures { Reads pair_view (spec.pair (spec.inside room).full tokens.old) result tokens.new }
+{
+    take(tokens, Mark::OpenRound)?;
+    let a = inside(alloc, tokens, room)?;
+    take(tokens, Mark::Comma)?;
+    let b = inside(alloc, tokens, room)?;
+    take(tokens, Mark::CloseRound)?;
+    Ok(Pair { a, b })
+}
+
+// An expression and a number in brackets, after a function word.
+#[cycle(expr)]
+fn sized(alloc: Global, tokens: &mut Cursor<'_>, room: usize) -> Result<Sized, Stop>
+    ensures { Reads sized_view (spec.sized (spec.inside room).full tokens.old) result tokens.new }
+{
+    take(tokens, Mark::OpenRound)?;
+    let e = inside(alloc, tokens, room)?;
+    take(tokens, Mark::Comma)?;
+    let width = number(tokens)?;
+    take(tokens, Mark::CloseRound)?;
+    Ok(Sized { e, width })
+}
+
+// An expression that stands inside another.
+#[cycle(expr)]
+#[tactic(auto, using(crate::proofs::Inside::inside_more, crate::proofs::Inside::inside_none))]
+fn inside(alloc: Global, tokens: &mut Cursor<'_>, room: usize) -> Result<Expr, Stop>
+    ensures { Reads expr_view ((spec.inside room).full tokens.old) result tokens.new }
+{
+    if room == 0 {
+        return Err(Stop::Misplaced);
+    }
+    expr(alloc, tokens, room - 1)
+}
+
+// An operand that stands inside another.
+#[cycle(expr)]
+#[tactic(auto, using(crate::proofs::Inside::operand_more, crate::proofs::Inside::operand_none))]
+fn operand_inside(alloc: Global, tokens: &mut Cursor<'_>, room: usize) -> Result<Expr, Stop>
+    ensures { Reads expr_view ((spec.inside room).operand tokens.old) result tokens.new }
+{
+    if room == 0 {
+        return Err(Stop::Misplaced);
+    }
+    operand(alloc, tokens, room - 1)
+}
+
+// What stands between operators.
+#[cycle(expr)]
+#[tactic(auto, unfolding(crate::specs::Reading::operand, crate::specs::Reading::literal))]
+fn operand(alloc: Global, tokens: &mut Cursor<'_>, room: usize) -> Result<Expr, Stop>
+    ensures { Reads expr_view (spec.operand (spec.inside room) tokens.old) result tokens.new }
+{
+    match tokens.kind() {
+        Some(TokenKind::Literal { .. }) => Ok(Expr::Constant(literal(tokens)?)),
+        Some(TokenKind::Name) => {
+            let x = tokens.name(alloc)?;
+            tokens.skip();
+            after_name(tokens, x)
+        }
+        Some(TokenKind::Mark(Mark::OpenRound)) => {
+            tokens.skip();
+            bracketed(alloc, tokens, room)
+        }
+        Some(TokenKind::Mark(Mark::Tilde)) => {
+            tokens.skip();
+            let e = operand_inside(alloc, tokens, room)?;
+            Ok(Expr::Not(Boxed::new(alloc, e)?))
+        }
+        Some(TokenKind::Mark(Mark::Cat)) => {
+            tokens.skip();
+            let Pair { a, b } = pair(alloc, tokens, room)?;
+            Ok(Expr::Cat(Boxed::new(alloc, a)?, Boxed::new(alloc, b)?))
+        }
+        Some(TokenKind::Mark(Mark::LessSigned)) => {
+            tokens.skip();
+            let Pair { a, b } = pair(alloc, tokens, room)?;
+            Ok(Expr::LessSigned(Boxed::new(alloc, a)?, Boxed::new(alloc, b)?))
+        }
+        Some(TokenKind::Mark(Mark::ZeroExtend)) => {
+            tokens.skip();
+            let Sized { e, width } = sized(alloc, tokens, room)?;
+            Ok(Expr::ZeroExtend(Boxed::new(alloc, e)?, width))
+        }
+        Some(TokenKind::Mark(Mark::SignExtend)) => {
+            tokens.skip();
+            let Sized { e, width } = sized(alloc, tokens, room)?;
+            Ok(Expr::SignExtend(Boxed::new(alloc, e)?, width))
+        }
+        _ => Err(Stop::Misplaced),
+    }
+}
+
+// The operator between operands that a mark is, if it is one.
+fn operator(mark: Mark) -> Option<BinaryOp>
+    ensures { maybe_op_view result ≡ operator_of mark }
+{
+    match mark {
+        Mark::Star => Some(BinaryOp::Mul),
+        Mark::Plus => Some(BinaryOp::Add),
+        Mark::Minus => Some(BinaryOp::Sub),
+        Mark::ShiftLeft => Some(BinaryOp::ShiftLeft),
+        Mark::ShiftRight => Some(BinaryOp::ShiftRight),
+        Mark::Less => Some(BinaryOp::Less),
+        Mark::Equal => Some(BinaryOp::Equal),
+        Mark::Differ => Some(BinaryOp::Differ),
+        Mark::Ampersand => Some(BinaryOp::And),
+        Mark::Caret => Some(BinaryOp::Xor),
+        Mark::Bar => Some(BinaryOp::Or),
+        _ => None,
+    }
+}
+
+// How loosely an operator binds.
+fn looseness(op: BinaryOp) -> u32
+    ensures { result ≡ loose (op_view op) }
+{
+    match op {
+        BinaryOp::Mul => 0,
+        BinaryOp::Add | BinaryOp::Sub => 1,
+        BinaryOp::ShiftLeft | BinaryOp::ShiftRight => 2,
+        BinaryOp::Less => 3,
+        BinaryOp::Equal | BinaryOp::Differ => 4,
+        BinaryOp::And => 5,
+        BinaryOp::Xor => 6,
+        BinaryOp::Or => 7,
+    }
+}
+
+// The operator of a looseness that comes, if it does.
+fn operator_at(tokens: &Cursor<'_>, n: u32) -> Option<BinaryOp>
+    ensures { maybe_op_view result ≡ spec.op_in n (first_kind tokens.now) }
+{
+    match tokens.kind() {
+        Some(TokenKind::Mark(mark)) => match operator(mark) {
+            Some(op) => { if looseness(op) == n { Some(op) } else { None } }
+            None => None,
+        },
+        _ => None,
+    }
+}
+
+// Operands, and the operators that bind tighter than looseness n, which group to the left.
+#[cycle(expr)]
+#[tactic(auto, using(crate::proofs::Inside::level_none, crate::proofs::Inside::level_more, crate::proofs::Inside::level_fails), unfolding(crate::specs::Reading::chain))]
+fn level(alloc: Global, tokens: &mut Cursor<'_>, room: usize, n: u32) -> Result<Expr, Stop>
+    requires { n ≤ levels }
+    ensures { Reads expr_view (spec.level (spec.operand (spec.inside room)) room n tokens.old) result tokens.new }
+{
+    if n == 0 {
+        return operand(alloc, tokens, room);
+    }
+    let mut left = level(alloc, tokens, room, n - 1)?;
+    for _turn in 0..room {
+        match operator_at(tokens, n - 1) {
+            Some(op) => {
+                tokens.skip();
+                let right = level(alloc, tokens, room, n - 1)?;
+                left = binary(alloc, op, left, right)?;
+            }
+            None => return Ok(left),
+        }
+    }
+    Ok(left)
+}
+
+// The arms of a choice, after its `?`.
+#[cycle(expr)]
+fn arms(alloc: Global, tokens: &mut Cursor<'_>, room: usize, c: Expr) -> Result<Expr, Stop>
+    ensures { Reads expr_view (spec.arms (spec.inside room).full (expr_view c) tokens.old) result tokens.new }
+{
+    let a = inside(alloc, tokens, room)?;
+    take(tokens, Mark::Colon)?;
+    let b = inside(alloc, tokens, room)?;
+    Ok(choice(alloc, c, a, b)?)
+}
+
+/// An expression of at most `room` tokens.
+#[cycle(expr)]
+#[tactic(auto, unfolding(crate::specs::Reading::full))]
+pub fn expr(alloc: Global, tokens: &mut Cursor<'_>, room: usize) -> Result<Expr, Stop>
+    ensures { Reads expr_view (spec.expr room tokens.old) result tokens.new }
+{
+    let e = level(alloc, tokens, room, LEVELS)?;
+    if tokens.is(Mark::Question) {
+        tokens.skip();
+        arms(alloc, tokens, room, e)
+    } else {
+        Ok(e)
+    }
+}
+
+/// Expressions with commas between them, up to a closing round bracket.
+#[tactic(auto, using(crate::proofs::Rows::listed_none, crate::proofs::Rows::behind_nothing))]
+pub fn args(alloc: Global, tokens: &mut Cursor<'_>, room: usize) -> Result<Seq<Expr>, Stop>
+    ensures { Reads (map expr_view) (spec.args room tokens.old) result tokens.new }
+{
+    let mut done = Seq::new(alloc);
+    for _turn in 0..room {
+        let next = expr(alloc, tokens, room)?;
+        done.push(next)?;
+        match goes_on(tokens, Mark::CloseRound) {
+            Some(more) => {
+                tokens.skip();
+                if !more {
+                    return Ok(done);
+                }
+            }
+            None => return Err(Stop::Misplaced),
+        }
+    }
+    Err(Stop::Misplaced)
+}

@@ -1,0 +1,352 @@
+// Statements without others inside.
+ghost use Rattle.std.specs.Prelude.{◌≡◌, IfOk};
+ghost use Rattle.pdl_grammar.specs.Grammar.{across};
+ghost use Rattle.pdl_grammar.specs.Read.{Reads, item_view, reserved_view, held_view};
+ghost use Rattle.pdl_grammar.specs.Reading as spec;
+ghost use Rattle.pdl_tree.specs.View.{span_view, ident_view, location_view, stmt_view};
+
+use crate::expression::{args, expr};
+use crate::item::{Held, Item, Reserved};
+use crate::stop::Stop;
+use crate::words::{access, name, place, take};
+use pdl_cursor::Cursor;
+use pdl_kit::NoMemory;
+use pdl_tokens::{Mark, TokenKind};
+use pdl_tree::{Ident, Location, Span, Stmt};
+use std::alloc::Global;
+
+/// From the beginning of the first to the end of the second.
+pub fn across(first: Span, last: Span) -> Span
+    ensures { span_view result ≡ across (span_view first) (span_view last) }
+{
+    Span {
+        start: first.start,
+        end: last.end,
+        line: first.line,
+    }
+}
+
+// A read of a memory, after `x =`.
+fn read(alloc: Global, tokens: &mut Cursor<'_>, x: Ident) -> Result<Stmt, Stop>
+    ensures { Reads stmt_view (spec.read_of (ident_view x) tokens.old) result tokens.new }
+{
+    let from = place(alloc, tokens)?;
+    let end = take(tokens, Mark::Semicolon)?;
+    Ok(Stmt::CombRead {
+        span: across(x.span, end),
+        x,
+        from,
+    })
+}
+
+// A binding of an expression, after `x =`.
+fn bind(alloc: Global, tokens: &mut Cursor<'_>, room: usize, x: Ident) -> Result<Stmt, Stop>
+    ensures { Reads stmt_view (spec.bind_of (spec.expr room) (ident_view x) tokens.old) result tokens.new }
+{
+    let e = expr(alloc, tokens, room)?;
+    let end = take(tokens, Mark::Semicolon)?;
+    Ok(Stmt::Bind {
+        span: across(x.span, end),
+        x,
+        e,
+    })
+}
+
+// A guess, after `x = spec_call`.
+fn guess(alloc: Global, tokens: &mut Cursor<'_>, room: usize, x: Ident) -> Result<Stmt, Stop>
+    ensures { Reads stmt_view (spec.guess_of room (ident_view x) tokens.old) result tokens.new }
+{
+    take(tokens, Mark::OpenRound)?;
+    let args = args(alloc, tokens, room)?;
+    let end = take(tokens, Mark::Semicolon)?;
+    Ok(Stmt::SpecCall {
+        span: across(x.span, end),
+        guess: x,
+        args,
+    })
+}
+
+// A guess or a binding, after `x =`.
+fn computed(alloc: Global, tokens: &mut Cursor<'_>, room: usize, x: Ident) -> Result<Stmt, Stop>
+    ensures { Reads stmt_view (spec.computed room (ident_view x) tokens.old) result tokens.new }
+{
+    if tokens.is(Mark::SpecCall) {
+        tokens.skip();
+        guess(alloc, tokens, room, x)
+    } else {
+        bind(alloc, tokens, room, x)
+    }
+}
+
+// What stands after `x =`.
+fn assigned(alloc: Global, tokens: &mut Cursor<'_>, room: usize, x: Ident) -> Result<Stmt, Stop>
+    ensures { Reads stmt_view (spec.assigned room (ident_view x) tokens.old) result tokens.new }
+{
+    if tokens.begins_place() {
+        read(alloc, tokens, x)
+    } else {
+        computed(alloc, tokens, room, x)
+    }
+}
+
+// A read of a delayed memory, after `x <-`.
+fn fetch(alloc: Global, tokens: &mut Cursor<'_>, x: Ident) -> Result<Stmt, Stop>
+    ensures { Reads stmt_view (spec.fetch_of (ident_view x) tokens.old) result tokens.new }
+{
+    let from = place(alloc, tokens)?;
+    let end = take(tokens, Mark::Semicolon)?;
+    Ok(Stmt::DelayedRead {
+        span: across(x.span, end),
+        x,
+        from,
+    })
+}
+
+// A write, after `m [`.
+fn write(alloc: Global, tokens: &mut Cursor<'_>, room: usize, mem: Ident) -> Result<Stmt, Stop>
+    ensures { Reads stmt_view (spec.write_of (spec.expr room) (ident_view mem) tokens.old) result tokens.new }
+{
+    let address = name(alloc, tokens)?;
+    take(tokens, Mark::CloseSquare)?;
+    take(tokens, Mark::Arrow)?;
+    let e = expr(alloc, tokens, room)?;
+    let end = take(tokens, Mark::Semicolon)?;
+    Ok(Stmt::Write {
+        span: across(mem.span, end),
+        to: Location { mem, address },
+        e,
+    })
+}
+
+// What stands after the name with which a statement begins.
+#[tactic(auto, unfolding(crate::specs::Reading::named))]
+fn named(alloc: Global, tokens: &mut Cursor<'_>, room: usize, x: Ident) -> Result<Stmt, Stop>
+    ensures { Reads stmt_view (spec.named room (ident_view x) tokens.old) result tokens.new }
+{
+    match tokens.kind() {
+        Some(TokenKind::Mark(Mark::Assign)) => {
+            tokens.skip();
+            assigned(alloc, tokens, room, x)
+        }
+        Some(TokenKind::Mark(Mark::Arrow)) => {
+            tokens.skip();
+            fetch(alloc, tokens, x)
+        }
+        Some(TokenKind::Mark(Mark::OpenSquare)) => {
+            tokens.skip();
+            write(alloc, tokens, room, x)
+        }
+        _ => Err(Stop::Misplaced),
+    }
+}
+
+// A location and what it is reserved for, up to the semicolon.
+#[tactic(auto, unfolding(crate::specs::Reading::reserved))]
+fn reserved(alloc: Global, tokens: &mut Cursor<'_>) -> Result<Reserved, Stop>
+    ensures { Reads reserved_view (spec.reserved tokens.old) result tokens.new }
+{
+    take(tokens, Mark::OpenRound)?;
+    let at = place(alloc, tokens)?;
+    take(tokens, Mark::Comma)?;
+    let kind = access(tokens)?;
+    take(tokens, Mark::CloseRound)?;
+    let end = take(tokens, Mark::Semicolon)?;
+    Ok(Reserved { at, kind, end })
+}
+
+// A location up to the semicolon.
+#[tactic(auto, unfolding(crate::specs::Reading::held))]
+fn held(alloc: Global, tokens: &mut Cursor<'_>) -> Result<Held, Stop>
+    ensures { Reads held_view (spec.held tokens.old) result tokens.new }
+{
+    take(tokens, Mark::OpenRound)?;
+    let at = place(alloc, tokens)?;
+    take(tokens, Mark::CloseRound)?;
+    let end = take(tokens, Mark::Semicolon)?;
+    Ok(Held { at, end })
+}
+
+fn copy_of_ident(x: &Ident) -> Result<Ident, NoMemory>
+    ensures { IfOk result (λ y. ident_view y ≡ ident_view x.now) }
+{
+    Ok(Ident {
+        name: x.name.clone()?,
+        span: x.span,
+    })
+}
+
+fn copy_of(at: &Location) -> Result<Location, NoMemory>
+    ensures { IfOk result (λ copy. location_view copy ≡ location_view at.now) }
+{
+    Ok(Location {
+        mem: copy_of_ident(&at.mem)?,
+        address: copy_of_ident(&at.address)?,
+    })
+}
+
+// A reservation, after its word.
+fn reserve(alloc: Global, tokens: &mut Cursor<'_>, word: Span) -> Result<Item, Stop>
+    ensures { Reads item_view (spec.reserve_of (span_view word) tokens.old) result tokens.new }
+{
+    let Reserved { at, kind, end } = reserved(alloc, tokens)?;
+    Ok(Item::One(Stmt::Reserve {
+        span: across(word, end),
+        at,
+        kind,
+    }))
+}
+
+// A reservation and the wait for it, after their word: two statements.
+fn acquire(alloc: Global, tokens: &mut Cursor<'_>, word: Span) -> Result<Item, Stop>
+    ensures { Reads item_view (spec.acquire_of (span_view word) tokens.old) result tokens.new }
+{
+    let Reserved { at, kind, end } = reserved(alloc, tokens)?;
+    let span = across(word, end);
+    let again = copy_of(&at)?;
+    let first = Stmt::Reserve { span, at, kind };
+    Ok(Item::Two(first, Stmt::Block { span, at: again }))
+}
+
+// A wait, after its word.
+fn block(alloc: Global, tokens: &mut Cursor<'_>, word: Span) -> Result<Item, Stop>
+    ensures { Reads item_view (spec.block_of (span_view word) tokens.old) result tokens.new }
+{
+    let Held { at, end } = held(alloc, tokens)?;
+    Ok(Item::One(Stmt::Block {
+        span: across(word, end),
+        at,
+    }))
+}
+
+// A release, after its word.
+fn release(alloc: Global, tokens: &mut Cursor<'_>, word: Span) -> Result<Item, Stop>
+    ensures { Reads item_view (spec.release_of (span_view word) tokens.old) result tokens.new }
+{
+    let Held { at, end } = held(alloc, tokens)?;
+    Ok(Item::One(Stmt::Release {
+        span: across(word, end),
+        at,
+    }))
+}
+
+// A call, after its word.
+fn call(alloc: Global, tokens: &mut Cursor<'_>, room: usize, word: Span) -> Result<Item, Stop>
+    ensures { Reads item_view (spec.call_of room (span_view word) tokens.old) result tokens.new }
+{
+    take(tokens, Mark::OpenRound)?;
+    let args = args(alloc, tokens, room)?;
+    let end = take(tokens, Mark::Semicolon)?;
+    Ok(Item::One(Stmt::Call {
+        span: across(word, end),
+        args,
+    }))
+}
+
+// A test of a guess, after its word.
+fn verify(alloc: Global, tokens: &mut Cursor<'_>, room: usize, word: Span) -> Result<Item, Stop>
+    ensures { Reads item_view (spec.verify_of room (span_view word) tokens.old) result tokens.new }
+{
+    take(tokens, Mark::OpenRound)?;
+    let guess = name(alloc, tokens)?;
+    take(tokens, Mark::Comma)?;
+    let args = args(alloc, tokens, room)?;
+    let end = take(tokens, Mark::Semicolon)?;
+    Ok(Item::One(Stmt::Verify {
+        span: across(word, end),
+        guess,
+        args,
+    }))
+}
+
+// Empty brackets up to the semicolon, and where it stands.
+#[tactic(auto, unfolding(crate::specs::Reading::bare))]
+fn bare(tokens: &mut Cursor<'_>) -> Result<Span, Stop>
+    ensures { Reads span_view (spec.bare tokens.old) result tokens.new }
+{
+    take(tokens, Mark::OpenRound)?;
+    take(tokens, Mark::CloseRound)?;
+    take(tokens, Mark::Semicolon)
+}
+
+// A check of the guess that began the thread, after its word.
+fn check(tokens: &mut Cursor<'_>, word: Span) -> Result<Item, Stop>
+    ensures { Reads item_view (spec.check_of (span_view word) tokens.old) result tokens.new }
+{
+    let end = bare(tokens)?;
+    Ok(Item::One(Stmt::SpecCheck {
+        span: across(word, end),
+    }))
+}
+
+// A barrier, after its word.
+fn barrier(tokens: &mut Cursor<'_>, word: Span) -> Result<Item, Stop>
+    ensures { Reads item_view (spec.barrier_of (span_view word) tokens.old) result tokens.new }
+{
+    let end = bare(tokens)?;
+    Ok(Item::One(Stmt::SpecBarrier {
+        span: across(word, end),
+    }))
+}
+
+// A statement on a lock.
+#[tactic(auto, unfolding(crate::specs::Reading::locking))]
+fn locking(alloc: Global, tokens: &mut Cursor<'_>) -> Result<Item, Stop>
+    ensures { Reads item_view (spec.locking tokens.old) result tokens.new }
+{
+    let word = tokens.span();
+    match tokens.kind() {
+        Some(TokenKind::Mark(Mark::Reserve)) => {
+            tokens.skip();
+            reserve(alloc, tokens, word)
+        }
+        Some(TokenKind::Mark(Mark::Acquire)) => {
+            tokens.skip();
+            acquire(alloc, tokens, word)
+        }
+        Some(TokenKind::Mark(Mark::Block)) => {
+            tokens.skip();
+            block(alloc, tokens, word)
+        }
+        Some(TokenKind::Mark(Mark::Release)) => {
+            tokens.skip();
+            release(alloc, tokens, word)
+        }
+        _ => Err(Stop::Misplaced),
+    }
+}
+
+/// An item without statements inside: a separator, or what stands up to a semicolon.
+#[tactic(auto, unfolding(crate::specs::Reading::plain))]
+pub fn plain(alloc: Global, tokens: &mut Cursor<'_>, room: usize) -> Result<Item, Stop>
+    ensures { Reads item_view (spec.plain room tokens.old) result tokens.new }
+{
+    let span = tokens.span();
+    match tokens.kind() {
+        Some(TokenKind::Name) => {
+            let x = tokens.name(alloc)?;
+            tokens.skip();
+            Ok(Item::One(named(alloc, tokens, room, x)?))
+        }
+        Some(TokenKind::Mark(Mark::Separator)) => {
+            tokens.skip();
+            Ok(Item::One(Stmt::Separator { span }))
+        }
+        Some(TokenKind::Mark(Mark::Call)) => {
+            tokens.skip();
+            call(alloc, tokens, room, span)
+        }
+        Some(TokenKind::Mark(Mark::Verify)) => {
+            tokens.skip();
+            verify(alloc, tokens, room, span)
+        }
+        Some(TokenKind::Mark(Mark::SpecCheck)) => {
+            tokens.skip();
+            check(tokens, span)
+        }
+        Some(TokenKind::Mark(Mark::SpecBarrier)) => {
+            tokens.skip();
+            barrier(tokens, span)
+        }
+        _ => locking(alloc, tokens),
+    }
+}

@@ -1,0 +1,3 @@
+mod Stacks
+mod Operators
+mod Running

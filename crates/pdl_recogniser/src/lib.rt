@@ -1,0 +1,10 @@
+//! Whether a text is one of the grammar, found token by token, without its tree and with a stack that the limits of the grammar bound.
+//! The layers above may use `misplaced` for texts of which no tree is wanted.
+#![tactic(auto)]
+
+mod expecting;
+pub mod misplaced;
+mod stack;
+mod symbol;
+#[cfg(test)]
+mod tests;

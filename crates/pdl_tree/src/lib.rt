@@ -1,0 +1,10 @@
+//! The syntax tree of a source text, with the places where its words stand, and the tree of the definitions that it stands for.
+//! The layers above read the tree by its types, and speak of it in contracts by the views.
+#![tactic(auto)]
+
+pub mod tree;
+
+pub use tree::{
+    BinaryOp, Expr, Ident, Kind, Literal, Location, LockDecl, LockKind, Mem, Number, Param, Pipe,
+    Span, Start, Stmt,
+};

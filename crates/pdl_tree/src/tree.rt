@@ -1,0 +1,203 @@
+// The syntax tree, with the places where its words stand.
+use pdl_kit::{Boxed, Name, Seq};
+
+/// Where words stand in the source: the bytes from `start` up to `end`, counted from 0, the last one left out, and the line of the first, counted from 1.
+#[derive(Clone, Copy, PartialEq, Eq, Debug)]
+pub struct Span {
+    pub start: u32,
+    pub end: u32,
+    pub line: u32,
+}
+
+/// A name, and where it stands.
+#[derive(Drop, Debug)]
+pub struct Ident {
+    pub name: Name,
+    pub span: Span,
+}
+
+/// A decimal number of 1 to 10 digits.
+#[derive(Clone, Copy, PartialEq, Eq, Debug)]
+pub struct Number {
+    pub value: u64,
+    pub span: Span,
+}
+
+/// A literal with its width in bits; a value of 2^64 or more, which fits no width, is none.
+#[derive(Clone, Copy, PartialEq, Eq, Debug)]
+pub struct Literal {
+    pub width: u64,
+    pub value: Option<u64>,
+    pub span: Span,
+}
+
+/// An operator between two operands of one width.
+#[derive(Clone, Copy, PartialEq, Eq, Debug)]
+pub enum BinaryOp {
+    Add,
+    Sub,
+    Mul,
+    And,
+    Or,
+    Xor,
+    Equal,
+    Differ,
+    Less,
+    ShiftLeft,
+    ShiftRight,
+}
+
+/// An expression; brackets group and leave no trace.
+#[derive(Drop)]
+pub enum Expr {
+    Constant(Literal),
+    Variable(Ident),
+    Slice {
+        x: Ident,
+        high: Number,
+        low: Number,
+    },
+    Not(Boxed<Expr>),
+    Binary {
+        op: BinaryOp,
+        a: Boxed<Expr>,
+        b: Boxed<Expr>,
+    },
+    Cat(Boxed<Expr>, Boxed<Expr>),
+    LessSigned(Boxed<Expr>, Boxed<Expr>),
+    ZeroExtend(Boxed<Expr>, Number),
+    SignExtend(Boxed<Expr>, Number),
+    Choose(Boxed<Expr>, Boxed<Expr>, Boxed<Expr>),
+}
+
+/// A location of a memory: its name, and the variable that holds the address.
+#[derive(Drop, Debug)]
+pub struct Location {
+    pub mem: Ident,
+    pub address: Ident,
+}
+
+/// What a location is reserved for: to be read or to be written.
+#[derive(Clone, Copy, PartialEq, Eq, Debug)]
+pub enum Kind {
+    R,
+    W,
+}
+
+/// A statement, with the span from its first word to its last. `acquire` is a `Reserve` and a `Block` with one span, and a missing `else` is an empty branch.
+#[derive(Drop)]
+pub enum Stmt {
+    Separator {
+        span: Span,
+    },
+    CombRead {
+        span: Span,
+        x: Ident,
+        from: Location,
+    },
+    Bind {
+        span: Span,
+        x: Ident,
+        e: Expr,
+    },
+    SpecCall {
+        span: Span,
+        guess: Ident,
+        args: Seq<Expr>,
+    },
+    DelayedRead {
+        span: Span,
+        x: Ident,
+        from: Location,
+    },
+    Write {
+        span: Span,
+        to: Location,
+        e: Expr,
+    },
+    Reserve {
+        span: Span,
+        at: Location,
+        kind: Kind,
+    },
+    Block {
+        span: Span,
+        at: Location,
+    },
+    Release {
+        span: Span,
+        at: Location,
+    },
+    If {
+        span: Span,
+        condition: Expr,
+        then: Seq<Stmt>,
+        otherwise: Seq<Stmt>,
+    },
+    Call {
+        span: Span,
+        args: Seq<Expr>,
+    },
+    Verify {
+        span: Span,
+        guess: Ident,
+        args: Seq<Expr>,
+    },
+    SpecCheck {
+        span: Span,
+    },
+    SpecBarrier {
+        span: Span,
+    },
+}
+
+/// A parameter of the pipe, with its width in bits.
+#[derive(Drop, Debug)]
+pub struct Param {
+    pub name: Ident,
+    pub width: Number,
+}
+
+/// The three kinds of lock.
+#[derive(Clone, Copy, PartialEq, Eq, Debug)]
+pub enum LockKind {
+    Queue,
+    Bypass,
+    Rename,
+}
+
+/// A memory's lock, with how many writes may be pending.
+#[derive(Clone, Copy, PartialEq, Eq, Debug)]
+pub struct LockDecl {
+    pub kind: LockKind,
+    pub size: Number,
+}
+
+/// A memory: the width of its words in bits, how many words it has, whether it answers in a later cycle, and its lock or none.
+#[derive(Drop, Debug)]
+pub struct Mem {
+    pub name: Ident,
+    pub width: Number,
+    pub depth: Number,
+    pub delayed: bool,
+    pub lock: Option<LockDecl>,
+}
+
+/// The start clause: the pipe that it names and the first thread's arguments; its span begins at `start`.
+#[derive(Drop, Debug)]
+pub struct Start {
+    pub span: Span,
+    pub name: Ident,
+    pub args: Seq<Literal>,
+}
+
+/// A whole source; `end` is where the `}` of the body stands.
+#[derive(Drop)]
+pub struct Pipe {
+    pub name: Ident,
+    pub params: Seq<Param>,
+    pub mems: Seq<Mem>,
+    pub body: Seq<Stmt>,
+    pub end: Span,
+    pub start: Start,
+}
