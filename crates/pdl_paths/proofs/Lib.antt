@@ -1,0 +1,9 @@
+mod Bits
+mod Chosen
+pub mod Choices
+mod Allowed
+pub mod Distinct
+mod EachPath
+mod Walks
+mod Numbers
+mod Seen

@@ -1,0 +1,6 @@
+pub mod Actions
+pub mod Guards
+pub mod Kept
+pub mod Masks
+pub mod Shown
+pub mod Paths

@@ -1,0 +1,23 @@
+-- Places with their masks.
+use Rattle.std.specs.Prelude.{List}
+use Rattle.pdl_rules.specs.Places.{Guard, Place, Parameter, Memory}
+use Rattle.pdl_tree.specs.declared.tree.Param.{Param}
+use Rattle.pdl_tree.specs.declared.tree.Mem.{Mem}
+use Rattle.pdl_tree.specs.View.{param_view, mem_view}
+use Rattle.pdl_paths.specs.declared.mask.Mask.{Mask}
+use Rattle.pdl_paths.specs.declared.place.Place as r_place
+use Rattle.pdl_paths.specs.Actions.{place_view}
+use Rattle.pdl_paths.specs.Masks.{everywhere, mask_in}
+
+abbrev pub shown : r_place.Place → Place × Mask
+shown x = (place_view x, x.mask)
+
+abbrev pub masked : List Guard → Place → Place × Mask
+masked gs x = (x, mask_in gs x)
+
+-- a parameter and a memory
+unfoldable pub parameter : Param → Place × Mask
+parameter a = (Parameter (param_view a), everywhere)
+
+unfoldable pub memory : Mem → Place × Mask
+memory m = (Memory (mem_view m), everywhere)

@@ -1,0 +1,112 @@
+// What stands at a place.
+ghost use Rattle.std.specs.Prelude.{◌≡◌, List};
+ghost use Rattle.pdl_tree.specs.View.{span_view, stmt_view};
+ghost use Rattle.pdl_rules.specs.Places as rules;
+ghost use Rattle.pdl_paths.specs.Actions.{place_at};
+
+use pdl_tree::{Expr, Ident, Kind, Location, Mem, Param, Span, Start, Stmt};
+
+/// What stands at a place: a parameter, a memory, one of the kinds of statement with its parts, the end of the body or the start clause.
+#[derive(Clone, Copy)]
+pub enum Action<'a> {
+    Parameter(&'a Param),
+    Memory(&'a Mem),
+    Separator,
+    CombRead(&'a Ident, &'a Location),
+    Bind(&'a Ident, &'a Expr),
+    SpecCall(&'a Ident, &'a [Expr]),
+    DelayedRead(&'a Ident, &'a Location),
+    Write(&'a Location, &'a Expr),
+    Reserve(&'a Location, Kind),
+    Block(&'a Location),
+    Release(&'a Location),
+    If(&'a Expr, &'a [Stmt], &'a [Stmt]),
+    Call(&'a [Expr]),
+    Verify(&'a Ident, &'a [Expr]),
+    SpecCheck,
+    SpecBarrier,
+    End,
+    StartClause(&'a Start),
+}
+
+/// The action of a statement.
+pub fn action_of(stmt: &Stmt) -> Action<'_>
+    ensures { (bs : List rules.Branch) → place_at (rules.span_of (stmt_view stmt.now)) bs result ≡ rules.Statement (stmt_view stmt.now) bs }
+{
+    match stmt {
+        Stmt::Separator { span: _ } => Action::Separator,
+        Stmt::CombRead { span: _, x, from } => Action::CombRead(x, from),
+        Stmt::Bind { span: _, x, e } => Action::Bind(x, e),
+        Stmt::SpecCall {
+            span: _,
+            guess,
+            args,
+        } => Action::SpecCall(guess, args.as_slice()),
+        Stmt::DelayedRead { span: _, x, from } => Action::DelayedRead(x, from),
+        Stmt::Write { span: _, to, e } => Action::Write(to, e),
+        Stmt::Reserve { span: _, at, kind } => Action::Reserve(at, *kind),
+        Stmt::Block { span: _, at } => Action::Block(at),
+        Stmt::Release { span: _, at } => Action::Release(at),
+        Stmt::If {
+            span: _,
+            condition,
+            then,
+            otherwise,
+        } => Action::If(condition, then.as_slice(), otherwise.as_slice()),
+        Stmt::Call { span: _, args } => Action::Call(args.as_slice()),
+        Stmt::Verify {
+            span: _,
+            guess,
+            args,
+        } => Action::Verify(guess, args.as_slice()),
+        Stmt::SpecCheck { span: _ } => Action::SpecCheck,
+        Stmt::SpecBarrier { span: _ } => Action::SpecBarrier,
+    }
+}
+
+/// Where a statement stands.
+pub fn span_of(stmt: &Stmt) -> Span
+    ensures { span_view result ≡ rules.span_of (stmt_view stmt.now) }
+{
+    match stmt {
+        Stmt::Separator { span } => *span,
+        Stmt::CombRead {
+            span,
+            x: _,
+            from: _,
+        } => *span,
+        Stmt::Bind { span, x: _, e: _ } => *span,
+        Stmt::SpecCall {
+            span,
+            guess: _,
+            args: _,
+        } => *span,
+        Stmt::DelayedRead {
+            span,
+            x: _,
+            from: _,
+        } => *span,
+        Stmt::Write { span, to: _, e: _ } => *span,
+        Stmt::Reserve {
+            span,
+            at: _,
+            kind: _,
+        } => *span,
+        Stmt::Block { span, at: _ } => *span,
+        Stmt::Release { span, at: _ } => *span,
+        Stmt::If {
+            span,
+            condition: _,
+            then: _,
+            otherwise: _,
+        } => *span,
+        Stmt::Call { span, args: _ } => *span,
+        Stmt::Verify {
+            span,
+            guess: _,
+            args: _,
+        } => *span,
+        Stmt::SpecCheck { span } => *span,
+        Stmt::SpecBarrier { span } => *span,
+    }
+}

@@ -1,0 +1,137 @@
+// The guards of a pipe.
+ghost use Rattle.std.specs.Prelude.{◌≡◌, ◌^◌, ◌≤◌, [], IfOk, OnOk, length, map};
+ghost use Rattle.pdl_rules.specs.Places as rules;
+ghost use Rattle.pdl_paths.specs.Actions.{place_view};
+ghost use Rattle.pdl_paths.specs.Guards.{guard_view};
+ghost use Rattle.pdl_paths.specs.Kept.{kept_view};
+ghost use Rattle.pdl_paths.specs.Masks.{number_of, with_new};
+
+use crate::action::Action;
+use crate::branch::{Guard, guard_of};
+use crate::place::Place;
+use pdl_kit::{Name, NoMemory};
+use std::alloc::Global;
+use std::marker::Model;
+
+// A guard that keeps its name.
+#[derive(Drop, Debug)]
+enum Kept {
+    Shared(Name),
+    Own(u32),
+}
+
+/// Guards in text order, each once; each is known by its number, counted from 0.
+#[derive(Drop, Debug)]
+pub struct Guards {
+    items: Vec<Kept>,
+}
+
+impl Model for Guards {
+    ghost use Rattle.std.specs.Prelude.{List, map};
+    ghost use Rattle.pdl_rules.specs.Places as rules;
+    ghost use Rattle.pdl_paths.specs.Kept.{kept_view};
+
+    ghost Value = { List rules.Guard };
+
+    ghost view = { λ s. map kept_view s.items.items };
+}
+
+impl Guards {
+    /// No guards.
+    pub fn new(alloc: Global) -> Guards
+        ensures { result ≡ [] }
+    {
+        Guards {
+            items: Vec::new(alloc),
+        }
+    }
+
+    /// The guards of these places.
+    pub fn of(alloc: Global, places: &[Place<'_>]) -> Result<Guards, NoMemory>
+        ensures { IfOk result (λ gs. gs ≡ rules.guards (map place_view places.now)) }
+    {
+        let mut guards = Guards::new(alloc);
+        for place in places {
+            guards.add(place)?;
+        }
+        Ok(guards)
+    }
+
+    /// Adds the guard of an `if`, unless it is there; any other place has none.
+    pub fn add(&mut self, place: &Place<'_>) -> Result<(), NoMemory>
+        ensures { OnOk result (self.new ≡ rules.with_guard self.old (place_view place.now)) }
+    {
+        match place.action {
+            Action::If(condition, _, _) => self.define(guard_of(place.span, condition)),
+            Action::Parameter(_) | Action::Memory(_) | Action::Separator => Ok(()),
+            Action::CombRead(_, _) | Action::Bind(_, _) | Action::SpecCall(_, _) => Ok(()),
+            Action::DelayedRead(_, _) | Action::Write(_, _) | Action::Reserve(_, _) => Ok(()),
+            Action::Block(_) | Action::Release(_) | Action::Call(_) | Action::Verify(_, _) => Ok(
+                (),
+            ),
+            Action::SpecCheck | Action::SpecBarrier | Action::End | Action::StartClause(_) => Ok(
+                (),
+            ),
+        }
+    }
+
+    // Adds a guard, unless it is there.
+    fn define(&mut self, guard: Guard<'_>) -> Result<(), NoMemory>
+        ensures { OnOk result (self.new ≡ with_new (guard_view guard.entry) self.old) }
+    {
+        if self.number(guard) < self.len() {
+            return Ok(());
+        }
+        self.items.push(keep(guard)?)?;
+        Ok(())
+    }
+
+    /// How many guards there are.
+    pub fn len(&self) -> usize
+        ensures { result ≡ length self.now }
+    {
+        self.items.len()
+    }
+
+    /// How many paths at most ten guards have.
+    pub fn path_count(&self) -> u32
+        requires { length self.now ≤ 10 }
+        ensures { result ≡ 2 ^ length self.now }
+    {
+        1u32 << self.items.len()
+    }
+
+    /// The number of a guard; how many there are where it is none of them.
+    pub fn number(&self, guard: Guard<'_>) -> usize
+        ensures { result ≡ number_of (guard_view guard.entry) self.now }
+    {
+        let mut number = 0;
+        for kept in &self.items {
+            if is_same(guard, kept) {
+                return number;
+            }
+            number += 1;
+        }
+        number
+    }
+}
+
+// Whether a guard is the kept one.
+fn is_same(guard: Guard<'_>, kept: &Kept) -> bool
+    ensures { result ≡ rules.same_guard (guard_view guard.entry) (kept_view kept.now) }
+{
+    match (guard, kept) {
+        (Guard::Shared(x), Kept::Shared(y)) => *x == *y,
+        (Guard::Own(m), Kept::Own(n)) => m == *n,
+        (Guard::Shared(_), Kept::Own(_)) | (Guard::Own(_), Kept::Shared(_)) => false,
+    }
+}
+
+fn keep(guard: Guard<'_>) -> Result<Kept, NoMemory>
+    ensures { IfOk result (λ kept. kept_view kept ≡ guard_view guard.entry) }
+{
+    match guard {
+        Guard::Shared(x) => Ok(Kept::Shared(x.clone()?)),
+        Guard::Own(at) => Ok(Kept::Own(at)),
+    }
+}

@@ -1,0 +1,204 @@
+// The places of a pipe.
+ghost use Rattle.std.specs.Prelude.{◌≡◌, ◌++◌, List, [], ◌∷◌, map, IfOk, OnOk};
+ghost use Rattle.pdl_tree.specs.View.{pipe_view, span_view, stmt_view, stmts_view};
+ghost use Rattle.pdl_rules.specs.Places as rules;
+ghost use Rattle.pdl_paths.specs.Actions.{place_at, place_view};
+ghost use Rattle.pdl_paths.specs.Guards.{branch_view};
+ghost use Rattle.pdl_paths.specs.Masks.{AreMasked, everywhere, mask_of};
+ghost use Rattle.pdl_paths.specs.Shown.{shown, masked, parameter, memory};
+
+use crate::action::{Action, action_of, span_of};
+use crate::branch::{Branch, guard_of};
+use crate::guards::Guards;
+use crate::mask::{EVERYWHERE, Mask};
+use crate::place::Place;
+use pdl_kit::{NoMemory, Seq};
+use pdl_tree::{Mem, Param, Pipe, Span, Stmt};
+use std::alloc::Global;
+
+/// The places of a pipe in text order, with masks of these guards.
+pub fn places<'a>(
+    alloc: Global,
+    pipe: &'a Pipe,
+    guards: &Guards,
+) -> Result<Vec<Place<'a>>, NoMemory>
+    ensures places { IfOk result (λ ps. map place_view ps.items ≡ rules.places (pipe_view pipe.now)) }
+    ensures masks { IfOk result (λ ps. AreMasked guards.now ps.items) }
+{
+    let mut places = Vec::new(alloc);
+    add_params(alloc, &mut places, pipe.params.as_slice())?;
+    add_mems(alloc, &mut places, pipe.mems.as_slice())?;
+    let outer = Vec::new(alloc);
+    add_stmts(
+        alloc,
+        guards,
+        &mut places,
+        outer.as_slice(),
+        EVERYWHERE,
+        pipe.body.as_slice(),
+    )?;
+    places.push(bare(alloc, Action::End, pipe.end))?;
+    places.push(bare(alloc, Action::StartClause(&pipe.start), pipe.start.span))?;
+    Ok(places)
+}
+
+/// The guards of a pipe, of however many `if`s.
+pub fn guards_of(alloc: Global, pipe: &Pipe) -> Result<Guards, NoMemory>
+    ensures { IfOk result (λ gs. gs ≡ rules.guards (rules.places (pipe_view pipe.now))) }
+{
+    let none = Guards::new(alloc);
+    let places = places(alloc, pipe, &none)?;
+    Guards::of(alloc, places.as_slice())
+}
+
+// A place that stands in no branch.
+fn bare<'a>(alloc: Global, action: Action<'a>, span: Span) -> Place<'a>
+    ensures { shown result ≡ (place_at (span_view span) [] action.entry, everywhere) }
+{
+    Place {
+        action,
+        span,
+        branches: Seq::new(alloc),
+        mask: EVERYWHERE,
+    }
+}
+
+fn add_params<'a>(
+    alloc: Global,
+    places: &mut Vec<Place<'a>>,
+    params: &'a [Param],
+) -> Result<(), NoMemory>
+    ensures { OnOk result (map shown places.new.items ≡ map shown places.old.items ++ map parameter params.now) }
+{
+    for param in params {
+        places.push(bare(alloc, Action::Parameter(param), param.name.span))?;
+    }
+    Ok(())
+}
+
+fn add_mems<'a>(alloc: Global, places: &mut Vec<Place<'a>>, mems: &'a [Mem]) -> Result<(), NoMemory>
+    ensures { OnOk result (map shown places.new.items ≡ map shown places.old.items ++ map memory mems.now) }
+{
+    for mem in mems {
+        places.push(bare(alloc, Action::Memory(mem), mem.name.span))?;
+    }
+    Ok(())
+}
+
+// Adds a statement and what stands inside it.
+#[cycle(walk)]
+fn add_stmt<'a>(
+    alloc: Global,
+    guards: &Guards,
+    places: &mut Vec<Place<'a>>,
+    outer: &[Branch<'a>],
+    mask: Mask,
+    stmt: &'a Stmt,
+) -> Result<(), NoMemory>
+    requires { mask ≡ mask_of guards.now (map branch_view outer.now) }
+    ensures { OnOk result (map shown places.new.items ≡ map shown places.old.items ++ map (masked guards.now) (rules.with_inner (map branch_view outer.now) (stmt_view stmt.now))) }
+{
+    push_stmt(places, outer, mask, stmt, alloc)?;
+    match stmt {
+        Stmt::If {
+            span,
+            condition,
+            then,
+            otherwise,
+        } => {
+            let guard = guard_of(*span, condition);
+            let number = guards.number(guard);
+            let first = further_in(
+                alloc,
+                outer,
+                Branch {
+                    guard,
+                    truth: true,
+                    inside: then.as_slice(),
+                },
+            )?;
+            add_stmts(
+                alloc,
+                guards,
+                places,
+                first.as_slice(),
+                mask.with(number, true),
+                then.as_slice(),
+            )?;
+            let second = further_in(
+                alloc,
+                outer,
+                Branch {
+                    guard,
+                    truth: false,
+                    inside: otherwise.as_slice(),
+                },
+            )?;
+            add_stmts(
+                alloc,
+                guards,
+                places,
+                second.as_slice(),
+                mask.with(number, false),
+                otherwise.as_slice(),
+            )
+        }
+        Stmt::Separator { .. } | Stmt::CombRead { .. } | Stmt::Bind { .. } => Ok(()),
+        Stmt::SpecCall { .. } | Stmt::DelayedRead { .. } | Stmt::Write { .. } => Ok(()),
+        Stmt::Reserve { .. } | Stmt::Block { .. } | Stmt::Release { .. } => Ok(()),
+        Stmt::Call { .. } | Stmt::Verify { .. } | Stmt::SpecCheck { .. } => Ok(()),
+        Stmt::SpecBarrier { .. } => Ok(()),
+    }
+}
+
+// The same of statements in a row.
+#[cycle(walk)]
+fn add_stmts<'a>(
+    alloc: Global,
+    guards: &Guards,
+    places: &mut Vec<Place<'a>>,
+    outer: &[Branch<'a>],
+    mask: Mask,
+    stmts: &'a [Stmt],
+) -> Result<(), NoMemory>
+    requires { mask ≡ mask_of guards.now (map branch_view outer.now) }
+    ensures { OnOk result (map shown places.new.items ≡ map shown places.old.items ++ map (masked guards.now) (rules.statements (map branch_view outer.now) (stmts_view stmts.now))) }
+{
+    for stmt in stmts {
+        add_stmt(alloc, guards, places, outer, mask, stmt)?;
+    }
+    Ok(())
+}
+
+// Adds a statement alone.
+fn push_stmt<'a>(
+    places: &mut Vec<Place<'a>>,
+    outer: &[Branch<'a>],
+    mask: Mask,
+    stmt: &'a Stmt,
+    alloc: Global,
+) -> Result<(), NoMemory>
+    ensures { OnOk result (map shown places.new.items ≡ map shown places.old.items ++ (rules.Statement (stmt_view stmt.now) (map branch_view outer.now), mask) ∷ []) }
+{
+    let branches = Seq::copy_of(alloc, outer)?;
+    places.push(Place {
+        action: action_of(stmt),
+        span: span_of(stmt),
+        branches,
+        mask,
+    })?;
+    Ok(())
+}
+
+// The branches of what stands in one more.
+fn further_in<'a>(
+    alloc: Global,
+    outer: &[Branch<'a>],
+    branch: Branch<'a>,
+) -> Result<Vec<Branch<'a>>, NoMemory>
+    ensures { IfOk result (λ bs. bs.items ≡ outer.now ++ branch.entry ∷ []) }
+{
+    let mut branches = Vec::from_slice(alloc, outer)?;
+    branches.push(branch)?;
+    Ok(branches)
+}
