@@ -2,7 +2,7 @@
 ghost use Rattle.std.specs.Prelude.{◌≡◌, ℕ, ◌≤◌, ◌<◌, ◌^◌, [], IfOk, IsTrue};
 ghost use Rattle.pdl_model.specs.Tree as tree;
 ghost use Rattle.pdl_model.specs.Flatten.{width_of};
-ghost use Rattle.pdl_syntax.specs.View.{expr_view, op_view, literal_view};
+ghost use Rattle.pdl_tree.specs.View.{expr_view, op_view, literal_view};
 ghost use Rattle.pdl_rules.specs.Typed.{IsTyped, Holds, is_named};
 ghost use Rattle.pdl_net.specs.Signal.{const_signal, slice_signal};
 ghost use Rattle.pdl_net.specs.Meaning.{IsThere, Means, signal};
@@ -15,7 +15,7 @@ use crate::Builder;
 use crate::env::{Env, net_of};
 use pdl_kit::NoMemory;
 use pdl_net::{BinOp, Net};
-use pdl_syntax::tree::{BinaryOp, Expr, Ident, Literal};
+use pdl_tree::tree::{BinaryOp, Expr, Ident, Literal};
 
 // The operator of a cell.
 fn bin_op(op: BinaryOp) -> BinOp

@@ -2,8 +2,8 @@
 use denote.Bor.{Bor}
 use Rattle.std.specs.Prelude.{ℕ, List, [], ◌∷◌, map, slice_index_or}
 use Rattle.pdl_model.specs.Tree.{Stmt, Separator}
-use Rattle.pdl_syntax.specs.declared.tree.Stmt as r_stmt
-use Rattle.pdl_syntax.specs.View.{stmt_view}
+use Rattle.pdl_tree.specs.declared.tree.Stmt as r_stmt
+use Rattle.pdl_tree.specs.View.{stmt_view}
 
 -- the first part begins with a statement more
 abbrev pub with_first : Stmt → List (List Stmt) → List (List Stmt)

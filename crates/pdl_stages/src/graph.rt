@@ -3,12 +3,12 @@ ghost use Rattle.std.specs.Prelude.{◌≡◌, ◌<◌, ◌≤◌, ◌+◌, ◌�
 ghost use Rattle.pdl_model.specs.Flat.{Stmt as FlatStmt};
 ghost use Rattle.pdl_model.specs.Flatten.{flat, separators};
 ghost use Rattle.pdl_model.specs.Stages.{goes_to, last_stage};
-ghost use Rattle.pdl_syntax.specs.View.{pipe_view, stmt_view};
+ghost use Rattle.pdl_tree.specs.View.{pipe_view, stmt_view};
 ghost use Rattle.pdl_stages.specs.Graph.{graph_of, is_in_line, but_separators};
 ghost use Rattle.pdl_stages.specs.Line.{after};
 
 use pdl_kit::NoMemory;
-use pdl_syntax::tree::{Pipe, Stmt};
+use pdl_tree::tree::{Pipe, Stmt};
 use std::alloc::Global;
 use std::marker::Model;
 

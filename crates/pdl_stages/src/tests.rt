@@ -1,6 +1,6 @@
 use crate::stage_graph;
 use pdl_kit::{Name, Seq};
-use pdl_syntax::tree::{Ident, Pipe, Span, Start};
+use pdl_tree::tree::{Ident, Pipe, Span, Start};
 use std::alloc::Global;
 use std::test::Fail;
 

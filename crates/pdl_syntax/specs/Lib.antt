@@ -1,13 +1,1 @@
-pub mod Tokens
-pub mod Cursor
-pub mod Fitting
-pub mod Pieces
-pub mod Spelt
-pub mod View
-pub mod Grammar
-pub mod Limits
-pub mod Plain
 pub mod Text
-pub mod Reading
-pub mod Cut
-pub mod Read

@@ -1,46 +1,20 @@
--- Which texts are pipes, and which token of any other text is the first out of place.
-use Rattle.std.specs.Prelude.{◌≡◌, ℕ, nat_le, cond, List, [], ◌∷◌, ◌++◌, length, Option, Some, None, Result, Ok, Err}
+-- What the parser answers.
+use Rattle.std.specs.Prelude.{◌≡◌, ℕ, nat_le, cond, List, length, Option, Some, None, Result, Ok, Err}
 use Rattle.pdl_kit.specs.declared.rule.Rule.{Rule}
 use Rattle.pdl_kit.specs.declared.rule.Rule.TheVariants.{Z1}
 use Rattle.pdl_model.specs.Tree.{Pipe}
-use Rattle.pdl_syntax.specs.declared.tree.Pipe as r
+use Rattle.pdl_tree.specs.declared.tree.Pipe as r
+use Rattle.pdl_tree.specs.View.{pipe_view}
+use Rattle.pdl_grammar.specs.declared.error.ReadError.{ReadError}
+use Rattle.pdl_grammar.specs.declared.error.ReadError.TheVariants as read
+use Rattle.pdl_grammar.specs.Text.{IsText, IsOutOfPlace}
 use Rattle.pdl_syntax.specs.declared.error.ParseError.{ParseError}
 use Rattle.pdl_syntax.specs.declared.error.ParseError.TheVariants as error
-use Rattle.pdl_syntax.specs.Tokens.{Token, tokens, last_line}
-use Rattle.pdl_syntax.specs.Grammar.{Text}
-use Rattle.pdl_syntax.specs.Limits.{AreWithin, at_start}
-use Rattle.pdl_syntax.specs.View.{pipe_view}
 
--- the tokens are a spelling of the pipe, within the limits
-pub record Spells (p : Pipe) (ts : List Token) : Type 0 where
-  pub text : Text p ts []
-  pub within : AreWithin at_start ts
-
--- the bytes are a source text of the pipe
-abbrev pub IsText : List ℕ → Pipe → Type 0
-IsText bytes p = Spells p (tokens bytes)
-
--- some text begins with the tokens, and so far they are within the limits
-pub record Begins (ts : List Token) : Type 0 where
-  pub more : List Token
-  pub pipe : Pipe
-  pub text : Text pipe (ts ++ more) []
-  pub within : AreWithin at_start ts
-
--- the line of the first of the tokens, or the last line where none is left
-abbrev pub line_of : List Token → ℕ → ℕ
-line_of [] last = last
-line_of (t ∷ ts) last = t.span.line
-
--- the bytes are no text, and the first of their tokens with which no text begins stands on the line; or each of them is in place and the text ends there too early
-pub record IsOutOfPlace (bytes : List ℕ) (line : ℕ) : Type 0 where
-  pub front : List Token
-  pub behind : List Token
-  pub split : tokens bytes ≡ front ++ behind
-  pub place : line ≡ line_of behind (last_line bytes)
-  pub begins : Begins front
-  pub bad : (t : Token) (more : List Token) → behind ≡ t ∷ more → Begins (front ++ t ∷ []) → ⊥
-  pub no_text : (p : Pipe) → IsText bytes p → ⊥
+-- the refusal that a text out of the grammar gets
+abbrev pub refusal : ReadError → ParseError
+refusal (read.Misplaced line) = error.Grammar line
+refusal read.NoMemory = error.NoMemory
 
 -- the lowest limit that the text of a pipe breaks, and the line of its lowest place
 abbrev pub broken_limit : List ℕ → Pipe → Option (Rule × ℕ)
@@ -69,8 +43,16 @@ Gives (Over limit) (Err (error.Limit rule n)) = (rule, n) ≡ limit
 Gives a result = ⊥
 
 -- why a result is an error, unless memory ran out
+abbrev pub IsRefusal : List ℕ → ParseError → Type 0
+IsRefusal bytes error.NoMemory = Unit {0}
+IsRefusal bytes (error.Grammar line) = IsOutOfPlace bytes line
+IsRefusal bytes (error.Limit rule line) = (p : Pipe) × IsText bytes p × (broken_limit bytes p ≡ Some (rule, line))
+
 abbrev pub IsRefused : List ℕ → Result r.Pipe ParseError → Type 0
 IsRefused bytes (Ok p) = Unit {0}
-IsRefused bytes (Err error.NoMemory) = Unit {0}
-IsRefused bytes (Err (error.Grammar line)) = IsOutOfPlace bytes line
-IsRefused bytes (Err (error.Limit rule line)) = (p : Pipe) × IsText bytes p × (broken_limit bytes p ≡ Some (rule, line))
+IsRefused bytes (Err e) = IsRefusal bytes e
+
+-- the tree of a text that keeps the limits, or a refusal that tells why
+abbrev pub IsParsed : List ℕ → Result r.Pipe ParseError → Type 0
+IsParsed bytes (Ok p) = IsText bytes (pipe_view p) × (broken_limit bytes (pipe_view p) ≡ None)
+IsParsed bytes (Err e) = IsRefusal bytes e

@@ -1,7 +1,9 @@
 // Why a source text was not taken.
 ghost use Rattle.std.specs.Prelude.{◌≡◌};
 ghost use Rattle.pdl_syntax.specs.declared.error.ParseError.TheVariants.{NoMemory as no_memory};
+ghost use Rattle.pdl_syntax.specs.Text.{refusal};
 
+use pdl_grammar::ReadError;
 use pdl_kit::{NoMemory, Rule};
 use std::alloc::AllocError;
 
@@ -18,6 +20,17 @@ impl From<NoMemory> for ParseError {
 
     fn from(_e: NoMemory) -> ParseError {
         ParseError::NoMemory
+    }
+}
+
+impl From<ReadError> for ParseError {
+    ghost from_gives = { λ e p. p ≡ refusal e };
+
+    fn from(e: ReadError) -> ParseError {
+        match e {
+            ReadError::Misplaced { line } => ParseError::Grammar { line },
+            ReadError::NoMemory => ParseError::NoMemory,
+        }
     }
 }
 

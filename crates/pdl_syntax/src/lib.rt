@@ -1,25 +1,10 @@
-//! The source text of a pipe: its tokens, its syntax tree, and the parser.
+//! The one parser of source texts: a tree, a token out of place, or a broken limit.
+//! The layers above may use `parse`, and the tokens and the tree of the crates below.
 #![tactic(auto)]
 
-mod bytes;
-mod cursor;
-mod declaration;
-mod digits;
 pub mod error;
-mod expression;
-mod item;
-mod lexer;
-mod limits;
 pub mod parse;
-mod piece;
-mod spelling;
-mod statement;
-mod stop;
 #[cfg(test)]
 mod tests;
-mod text;
-pub mod token;
-pub mod tree;
-mod words;
 
 pub use error::ParseError;

@@ -3,11 +3,11 @@ use Rattle.std.proofs.Common.{◌≡◌, true, false, Bool, ◌&&◌, List, [], 
 use Rattle.pdl_model.specs.Tree.{Stmt, Separator, CombRead, Bind, SpecCall, DelayedRead, Write, Reserve, Block, Release, If, Call, Verify, SpecCheck, SpecBarrier, stmts_of}
 use Rattle.pdl_rules.specs.Places.{Parameter, Memory, Statement, End, StartClause, statements, places}
 use Rattle.pdl_rules.specs.Refusal.{all_lined, is_in_line}
-use Rattle.pdl_syntax.specs.declared.tree.Stmt as r_stmt
-use Rattle.pdl_syntax.specs.declared.tree.Param as r_param
-use Rattle.pdl_syntax.specs.declared.tree.Mem as r_mem
-use Rattle.pdl_syntax.specs.declared.tree.Pipe as r_pipe
-use Rattle.pdl_syntax.specs.View.{param_view, mem_view, stmt_view, pipe_view}
+use Rattle.pdl_tree.specs.declared.tree.Stmt as r_stmt
+use Rattle.pdl_tree.specs.declared.tree.Param as r_param
+use Rattle.pdl_tree.specs.declared.tree.Mem as r_mem
+use Rattle.pdl_tree.specs.declared.tree.Pipe as r_pipe
+use Rattle.pdl_tree.specs.View.{param_view, mem_view, stmt_view, pipe_view}
 use Rattle.pdl_types.specs.View.{parameter, memory, straight}
 
 pub statements-lined : (ss : List Stmt) → all_lined (stmts_of ss) ≡ true → statements [] (stmts_of ss) ≡ map (λ s. Statement s []) ss

@@ -2,10 +2,10 @@
 use Rattle.std.specs.Prelude.{[]}
 use Rattle.pdl_types.specs.declared.place.Place as r_place
 use Rattle.pdl_types.specs.declared.place.Place.TheVariants as r_places
-use Rattle.pdl_syntax.specs.declared.tree.Param.{Param}
-use Rattle.pdl_syntax.specs.declared.tree.Mem.{Mem}
-use Rattle.pdl_syntax.specs.declared.tree.Stmt.{Stmt}
-use Rattle.pdl_syntax.specs.View.{param_view, mem_view, stmt_view, span_view, start_view}
+use Rattle.pdl_tree.specs.declared.tree.Param.{Param}
+use Rattle.pdl_tree.specs.declared.tree.Mem.{Mem}
+use Rattle.pdl_tree.specs.declared.tree.Stmt.{Stmt}
+use Rattle.pdl_tree.specs.View.{param_view, mem_view, stmt_view, span_view, start_view}
 use Rattle.pdl_rules.specs.Places as rules
 
 -- a statement of a pipe without choices stands in no branch

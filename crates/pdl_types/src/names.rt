@@ -1,7 +1,7 @@
 // The variables of a pipe.
 ghost use Rattle.std.specs.Prelude.{◌≡◌, ℕ, List, [], OnOk, OnErr, IfOk, position, unwrap_or, bytes_eq, map, fold};
 ghost use Rattle.pdl_model.specs.Flatten.{Var, var_width};
-ghost use Rattle.pdl_syntax.specs.View.{mem_view, stmt_view};
+ghost use Rattle.pdl_tree.specs.View.{mem_view, stmt_view};
 ghost use Rattle.pdl_rules.specs.Places.{Statement};
 ghost use Rattle.pdl_rules.specs.Widths.{with_variable, after_place};
 ghost use Rattle.pdl_types.specs.Names.{vars_of};
@@ -11,7 +11,7 @@ use crate::place::Place;
 use crate::width::{mem_width, width_of};
 use indexmap::IndexMap;
 use pdl_kit::{Name, NoMemory};
-use pdl_syntax::tree::{Mem, Stmt};
+use pdl_tree::tree::{Mem, Stmt};
 use std::alloc::Global;
 use std::marker::Model;
 

@@ -1,12 +1,12 @@
 // Places.
 ghost use Rattle.std.specs.Prelude.{◌≡◌, true, ◌++◌, map, IfOk, OnOk};
-ghost use Rattle.pdl_syntax.specs.View.{pipe_view};
+ghost use Rattle.pdl_tree.specs.View.{pipe_view};
 ghost use Rattle.pdl_rules.specs.Places as rules;
 ghost use Rattle.pdl_rules.specs.Refusal.{is_in_line};
 ghost use Rattle.pdl_types.specs.View.{place_view, parameter, memory, straight};
 
 use pdl_kit::NoMemory;
-use pdl_syntax::tree::{Mem, Param, Pipe, Span, Start, Stmt};
+use pdl_tree::tree::{Mem, Param, Pipe, Span, Start, Stmt};
 use std::alloc::Global;
 
 /// A part of a source that a rule can name.

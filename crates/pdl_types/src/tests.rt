@@ -1,7 +1,7 @@
 use crate::Names;
 use crate::place::places;
 use pdl_kit::{Name, Seq};
-use pdl_syntax::tree::{Ident, Number, Param, Pipe, Span, Start};
+use pdl_tree::tree::{Ident, Number, Param, Pipe, Span, Start};
 use std::alloc::Global;
 use std::test::Fail;
 

@@ -1,11 +1,11 @@
 // The widths of expressions.
 ghost use Rattle.std.specs.Prelude.{◌≡◌, ◌+◌, ◌-◌, if◌then◌else◌, nat_lt, map};
 ghost use Rattle.pdl_model.specs.Flatten as spec;
-ghost use Rattle.pdl_syntax.specs.View.{expr_view, mem_view, op_view};
+ghost use Rattle.pdl_tree.specs.View.{expr_view, mem_view, op_view};
 
 use crate::names::Names;
 use pdl_kit::Name;
-use pdl_syntax::tree::{BinaryOp, Expr, Mem};
+use pdl_tree::tree::{BinaryOp, Expr, Mem};
 
 /// The width of an expression in bits, defined also where it breaks a rule.
 pub fn width_of(names: &Names, e: &Expr) -> u128

@@ -3,8 +3,8 @@ use Rattle.std.proofs.Common.{◌≡◌, ◌≤◌, rules, refl, sym, ap, ap₂,
 use Rattle.std.proofs.lemmas.Result.{IfOk-weaker}
 use Rattle.pdl_model.specs.Tree as tree
 use Rattle.pdl_model.specs.Flatten.{width_of}
-use Rattle.pdl_syntax.specs.View.{expr_view, op_view, ident_view, number_view}
-use Rattle.pdl_syntax.specs.declared.tree.Expr.{the_lemmas}
+use Rattle.pdl_tree.specs.View.{expr_view, op_view, ident_view, number_view}
+use Rattle.pdl_tree.specs.declared.tree.Expr.{the_lemmas}
 use Rattle.pdl_net.specs.Circuit.{Circuit}
 use Rattle.pdl_net.specs.Signal.{bin_signal, cat_signal, mux_signal}
 use Rattle.pdl_net.specs.declared.BinOp.TheVariants as net_op

@@ -1,7 +1,7 @@
 use Rattle.std.proofs.Common.{◌≡◌, ℕ, ◌≤◌, ◌<◌, ◌^◌, [], IfOk, IsTrue, ◌+◌, ◌-◌, ◌*◌, length}
 use Rattle.pdl_model.specs.Tree as tree
 use Rattle.pdl_model.specs.Flatten.{width_of}
-use Rattle.pdl_syntax.specs.View.{expr_view, op_view, literal_view}
+use Rattle.pdl_tree.specs.View.{expr_view, op_view, literal_view}
 use Rattle.pdl_rules.specs.Typed.{IsTyped, Holds, is_named}
 use Rattle.pdl_net.specs.Signal.{const_signal, slice_signal}
 use Rattle.pdl_net.specs.Meaning.{IsThere, Means, signal}

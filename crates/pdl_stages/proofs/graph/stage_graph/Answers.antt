@@ -3,7 +3,7 @@ use Rattle.std.proofs.lemmas.List.{append-nil, drop_all}
 use Rattle.std.proofs.Common.{true, rules}
 use Rattle.pdl_model.specs.Tree.{Stmt, Stmts, stmts_of}
 use Rattle.pdl_model.specs.Flatten.{separators}
-use Rattle.pdl_syntax.specs.View.{stmt_view, pipe_view}
+use Rattle.pdl_tree.specs.View.{stmt_view, pipe_view}
 use Rattle.pdl_stages.specs.Line.{seen, AreUpTo}
 use Rattle.pdl_stages.specs.Graph.{but_separators, is_in_line}
 use Rattle.pdl_stages.proofs.InLine.{counted, last_of, last_of-separators, counted_up_to, seen_whole, flat_stages}

@@ -1,5 +1,5 @@
 use Rattle.std.proofs.Common.{◌≡◌, ◌≤◌, ◌++◌, map, drop}
-use Rattle.pdl_syntax.specs.View.{stmt_view}
+use Rattle.pdl_tree.specs.View.{stmt_view}
 use Rattle.pdl_stages.proofs.InLine.{counted, last_of}
 use Rattle.pdl_stages.proofs.graph.stage_graph.Given as goal
 

@@ -1,6 +1,6 @@
 use Rattle.std.proofs.Common.{◌≡◌, map, drop}
 use Rattle.pdl_model.specs.Flatten as spec
-use Rattle.pdl_syntax.specs.View.{mem_view}
+use Rattle.pdl_tree.specs.View.{mem_view}
 use Rattle.pdl_types.proofs.width.mem_width.Given as goal
 
 -- those before aren't named so

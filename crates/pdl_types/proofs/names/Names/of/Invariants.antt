@@ -1,6 +1,6 @@
 use Rattle.std.proofs.Common.{◌≡◌, [], map, take}
 use Rattle.std.specs.Prelude.{fold}
-use Rattle.pdl_syntax.specs.View.{mem_view}
+use Rattle.pdl_tree.specs.View.{mem_view}
 use Rattle.pdl_rules.specs.Widths.{after_place}
 use Rattle.pdl_types.specs.View.{place_view}
 use Rattle.pdl_types.proofs.names.Names.of.Given as goal
