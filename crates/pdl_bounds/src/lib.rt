@@ -1,0 +1,13 @@
+//! The limits of a source: the lowest that its tree breaks, Z2 to Z7, at its lowest place.
+#![tactic(auto)]
+
+mod counts;
+pub mod limits;
+mod lines;
+mod literals;
+mod over;
+mod sizes;
+#[cfg(test)]
+mod tests;
+
+pub use limits::check_limits;

@@ -1,0 +1,31 @@
+-- Comparisons of numbers.
+use Rattle.std.proofs.Common.{◌≡◌, refl, sym, ℕ, suc, ◌<◌, ◌≤◌, Bool, true, false, not, nat_lt, nat_le, arith}
+use Rattle.std.proofs.lemmas.Bool.{lt-ltb, le-ltb, ltb-true}
+use Rattle.std.proofs.lemmas.Bool.Decides.{leb_tells}
+
+pub same_bools : (a b : Bool) → (a ≡ true → b ≡ true) → (b ≡ true → a ≡ true) → a ≡ b
+same_bools true true f g = refl
+same_bools false false f g = refl
+same_bools true false f g = sym (f refl)
+same_bools false true f g = g refl
+
+up : (i k : ℕ) → i < k → suc i < suc k
+up i k l = omega (arith, l)
+
+down : (i k : ℕ) → suc i < suc k → i < k
+down i k l = omega (arith, l)
+
+pub less_more : (i k : ℕ) → nat_lt i k ≡ nat_lt (suc i) (suc k)
+less_more i k = same_bools _ _ (λ e. lt-ltb (suc i) (suc k) (up i k (ltb-true i k e))) (λ e. lt-ltb i k (down i k (ltb-true (suc i) (suc k) e)))
+
+pub zero_less : (k : ℕ) → true ≡ nat_lt 0 (suc k)
+zero_less k = sym (lt-ltb 0 (suc k) (omega arith))
+
+pub none_less : (n : ℕ) → false ≡ nat_lt n 0
+none_less n = sym (le-ltb n 0 (omega arith))
+
+pub not_below : (d k : ℕ) → k ≤ d → nat_lt d k ≡ false
+not_below d k l = le-ltb d k l
+
+pub not_less : (d n : ℕ) → nat_le n d ≡ not (nat_lt d n)
+not_less d n = grind (arith, leb_tells n d, leb_tells (suc d) n)

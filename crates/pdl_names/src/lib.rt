@@ -1,0 +1,15 @@
+//! The names of a pipe: which place defines each, and the rules on names, N1 to N3.
+#![tactic(auto)]
+
+mod branches;
+mod early;
+mod first;
+mod index;
+pub mod names;
+mod passed;
+mod rules;
+#[cfg(test)]
+mod tests;
+mod uses;
+
+pub use names::check_names;

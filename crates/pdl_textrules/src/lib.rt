@@ -1,0 +1,14 @@
+//! Rules that are asked at each place of a text, by the places before it: the first place that breaks one.
+#![tactic(auto)]
+
+pub mod broken;
+pub mod first_line;
+pub mod lowest;
+#[cfg(test)]
+mod tests;
+pub mod text_rule;
+
+pub use broken::{Broken, lowest_of};
+pub use first_line::noted;
+pub use lowest::line_broken;
+pub use text_rule::TextRule;

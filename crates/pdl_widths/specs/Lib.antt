@@ -1,0 +1,4 @@
+pub mod Variables
+pub mod Rules
+pub mod Order
+pub mod Lines

@@ -1,0 +1,15 @@
+-- Variables as entries of a map.
+use Rattle.std.specs.Prelude.{ℕ, List, [], ◌∷◌, map, bytes_eq, if◌then◌else◌, Option, Some, None}
+use Rattle.pdl_model.specs.Flatten.{Var}
+
+-- the variable of an entry: its name with its width
+abbrev pub var_of : List ℕ × ℕ → Var
+var_of e = record { name = e.0; width = e.1 }
+
+abbrev pub vars_of : List (List ℕ × ℕ) → List Var
+vars_of es = map var_of es
+
+-- the width of a variable by its name, none where there is none
+abbrev pub width_among : List Var → List ℕ → Option ℕ
+width_among [] x = None
+width_among (v ∷ vs) x = if bytes_eq v.name x then Some v.width else width_among vs x

@@ -1,0 +1,14 @@
+//! The widths of a pipe: its variables with theirs, and the rules on widths, W1 to W6.
+#![tactic(auto)]
+
+mod arguments;
+mod faults;
+mod lines;
+mod measure;
+mod memories;
+pub mod variables;
+mod width;
+pub mod widths;
+
+pub use variables::Variables;
+pub use widths::check_widths;
