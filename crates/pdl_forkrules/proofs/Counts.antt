@@ -1,0 +1,80 @@
+-- Counts of separators and of places inside branches.
+use Rattle.std.proofs.Common.{◌≡◌, refl, sym, ap, ap₂, ◌∙◌, ℕ, zero, suc, ◌+◌, ◌-◌, ◌==◌, Bool, true, false, not, ◌||◌, ◌<◌, List, [], ◌∷◌, ◌++◌, map, drop, get_or, length, arith, length-append}
+use Rattle.std.proofs.lemmas.Bool.Decides.{eqb_tells}
+use Rattle.std.specs.List.{list_any}
+use Rattle.pdl_model.specs.Tree.{Span, Expr, Stmt, If, Stmts, Nil, Cons}
+use Rattle.pdl_rules.specs.Places.{Place, Branch, guard_of, with_inner, statements}
+use Rattle.pdl_rules.specs.Limits.{is_separator}
+use Rattle.pdl_rules.specs.Forks.{starts_with_separator}
+use Rattle.pdl_forkrules.proofs.Steps.{drop_next}
+
+-- SEPARATORS
+
+pub some_either : (a b : ℕ) → not (a + b == 0) ≡ (not (a == 0) || not (b == 0))
+some_either a b = grind (arith, eqb_tells a 0, eqb_tells b 0, eqb_tells (a + b) 0)
+
+pub some_first : (a b : ℕ) → not (a == 0) ≡ true → not (a + b == 0) ≡ true
+some_first a b e = some_either a b ∙ ap (λ c. c || not (b == 0)) e
+
+pub some_rest : (a b : ℕ) → not (a == 0) ≡ false → not (a + b == 0) ≡ not (b == 0)
+some_rest a b e = some_either a b ∙ ap (λ c. c || not (b == 0)) e
+
+-- PLACES
+
+-- the number of places goes by the statements alone
+mutual
+  long_in : (bs cs : List Branch) (s : Stmt) → length (with_inner bs s) ≡ length (with_inner cs s)
+  long_in bs cs (If sp c when otherwise) =
+      ap suc (length-append (statements (bs ++ record { guard = guard_of sp c; truth = true; inside = when } ∷ []) when) _
+      ∙ ap₂ (λ m n. m + n) (long_all _ _ when) (long_all _ _ otherwise)
+      ∙ sym (length-append (statements (cs ++ record { guard = guard_of sp c; truth = true; inside = when } ∷ []) when) _))
+  long_in bs cs _ = refl
+
+  pub long_all : (bs cs : List Branch) (ss : Stmts) → length (statements bs ss) ≡ length (statements cs ss)
+  long_all bs cs Nil = refl
+  long_all bs cs (Cons s ss) =
+      length-append (with_inner bs s) (statements bs ss)
+      ∙ ap₂ (λ m n. m + n) (long_in bs cs s) (long_all bs cs ss)
+      ∙ sym (length-append (with_inner cs s) (statements cs ss))
+
+-- what an `if` and its branches leave
+pub left_if : (sp : Span) (c : Expr) (when otherwise : Stmts) (left : ℕ)
+    → left - 1 - length (statements [] when) - length (statements [] otherwise) ≡ left - length (with_inner [] (If sp c when otherwise))
+left_if sp c when otherwise left =
+    let first = statements (record { guard = guard_of sp c; truth = true; inside = when } ∷ []) when in
+    let second = statements (record { guard = guard_of sp c; truth = false; inside = otherwise } ∷ []) otherwise in
+    let both = length-append first second in
+    let a = long_all (record { guard = guard_of sp c; truth = true; inside = when } ∷ []) [] when in
+    let b = long_all (record { guard = guard_of sp c; truth = false; inside = otherwise } ∷ []) [] otherwise in
+    omega arith
+
+-- THE PLACE BEHIND
+
+-- the n-th place is the first of those behind
+first_behind : {A : Type 0} (f : A → Place) (xs : List A) (n : ℕ) (x : A) → n < length xs → x ≡ get_or xs n x
+    → starts_with_separator (drop n (map f xs)) ≡ is_separator (f x)
+first_behind f [] n x h e = absurd (omega arith)
+first_behind f (y ∷ ys) zero x h e = ap (λ z. is_separator (f z)) (sym e)
+first_behind f (y ∷ ys) (suc n) x h e = first_behind f ys n x (omega arith) e
+
+pub next_is : {A : Type 0} (f : A → Place) (xs : List A) (n left : ℕ) (x : A) → left ≡ length xs - n → (left ≡ 0 → ⊥) → x ≡ get_or xs (length xs - left) x
+    → starts_with_separator (drop n (map f xs)) ≡ is_separator (f x)
+next_is f xs n left x is other e = first_behind f xs n x low (e ∙ ap (λ k. get_or xs k x) same)
+  where
+    low : n < length xs
+    low = grind (arith, other, is)
+
+    same : length xs - left ≡ n
+    same = omega (arith, is, low)
+
+-- ONE OF SOME
+
+pub any_found : {A B : Type 0} (f : B → Bool) (g : A → B) (xs : List A) (k : ℕ) (x : A) (whole : Bool) → k < length xs → x ≡ get_or xs k x → f (g x) ≡ true
+    → list_any f (map g (drop k xs)) ≡ whole → true ≡ whole
+any_found f g xs k x whole h e is inv = sym (ap (λ b. b || list_any f (map g (drop (k + 1) xs))) is)
+    ∙ sym (ap (λ ys. list_any f (map g ys)) (drop_next xs k x h e)) ∙ inv
+
+pub any_passed : {A B : Type 0} (f : B → Bool) (g : A → B) (xs : List A) (k : ℕ) (x : A) (whole : Bool) → k < length xs → x ≡ get_or xs k x → f (g x) ≡ false
+    → list_any f (map g (drop k xs)) ≡ whole → list_any f (map g (drop (k + 1) xs)) ≡ whole
+any_passed f g xs k x whole h e is inv = sym (ap (λ b. b || list_any f (map g (drop (k + 1) xs))) is)
+    ∙ sym (ap (λ ys. list_any f (map g ys)) (drop_next xs k x h e)) ∙ inv

@@ -1,0 +1,3 @@
+mod Steps
+pub mod Lines
+pub mod Counts

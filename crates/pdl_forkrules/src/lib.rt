@@ -1,0 +1,10 @@
+//! The rules on forks, delayed reads and memories without lock, F1 to F5: the lowest that a pipe breaks, at its lowest place.
+#![tactic(auto)]
+
+pub mod inside;
+pub mod rules;
+pub mod scan;
+#[cfg(test)]
+mod tests;
+
+pub use scan::{Broken, forks_broken};

@@ -1,0 +1,21 @@
+use Rattle.std.proofs.Common.{◌<◌, ◌≤◌, length, arith}
+use Rattle.pdl_paths.specs.Actions.{place_view}
+use Rattle.pdl_locks.specs.declared.numbers.Keys.TheVariants.{Locations}
+use Rattle.pdl_locks.specs.Uses.{IsUsed}
+use Rattle.pdl_locks.proofs.Kept.{stepped, unstepped}
+use Rattle.pdl_locks.proofs.Done.{location_laws}
+use Rattle.pdl_locks.proofs.at_locations.pass.Goals as goal
+
+pub returns-then-number-len : goal.returns-then-number-len
+returns-then-number-len c rows path before later s e is_on h =
+    let number = c.number_of-number.result in
+    let below : number < length c.args.uses.now.items = omega (arith, c.if-number-len.true, c.len.ensures) in
+    stepped Locations IsUsed location_laws rows c.args.first.now path before later (place_view c.args.place.now) c.args.k number c.args.uses.now.items
+    c.behind.result c.index.result.now s e is_on h c.number_of-number.ensures below c.index.ensures c.behind.ensures
+
+pub returns-else-number-len : goal.returns-else-number-len
+returns-else-number-len c rows path before later s e is_on h =
+    let number = c.number_of-number.result in
+    let past : length c.args.uses.now.items ≤ number = omega (arith, c.if-number-len.false, c.len.ensures) in
+    unstepped Locations IsUsed location_laws rows c.args.first.now path before later (place_view c.args.place.now) c.args.k number c.args.uses.now.items
+    s e is_on h c.number_of-number.ensures past

@@ -1,0 +1,11 @@
+-- What is held of locations.
+use Rattle.pdl_tree.specs.View.{kind_view}
+use Rattle.pdl_rules.specs.Locks as spec
+use Rattle.pdl_locks.specs.declared.hold.Hold.{Hold}
+use Rattle.pdl_locks.specs.declared.hold.Hold.TheVariants.{Nothing, Reserved, Blocked, Released}
+
+abbrev pub hold_view : Hold → spec.Hold
+hold_view Nothing = spec.Nothing
+hold_view (Reserved k) = spec.Reserved (kind_view k)
+hold_view (Blocked k) = spec.Blocked (kind_view k)
+hold_view Released = spec.Released

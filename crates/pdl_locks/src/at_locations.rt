@@ -1,0 +1,217 @@
+// Rules on what is done at a location: L1, L5, L6 and L7.
+ghost use Rattle.std.specs.Prelude.{◌≡◌, ◌≤◌, ℕ, ◌&&◌, true, [], ◌∷◌, ◌++◌, List, filter, map, length, IfOk};
+ghost use Rattle.std.specs.List.{list_any};
+ghost use Rattle.pdl_tree.specs.View.{mem_view, pipe_view};
+ghost use Rattle.pdl_rules.specs.Places as rules;
+ghost use Rattle.pdl_rules.specs.Places.{on_path, places as spec_places, guards as spec_guards};
+ghost use Rattle.pdl_rules.specs.Refusal.{broken_line};
+ghost use Rattle.pdl_rules.specs.Locks as spec;
+ghost use Rattle.pdl_paths.specs.declared.place.Place.{Place as Row};
+ghost use Rattle.pdl_paths.specs.Actions.{place_view};
+ghost use Rattle.pdl_paths.specs.Masks.{AreMasked};
+ghost use Rattle.pdl_locks.specs.declared.numbers.Keys.TheVariants as keys;
+ghost use Rattle.pdl_locks.specs.Uses.{AreKept, IsOwn, IsUsed, is_open as spec_is_open};
+ghost use Rattle.pdl_locks.specs.Numbers.{AreNumbered};
+ghost use Rattle.pdl_locks.specs.Passed.{passed_by};
+ghost use Rattle.pdl_locks.specs.Asked.{breaks_at_location, rule_of};
+
+use crate::numbers::number_of;
+use crate::uses::{LocationUse, use_at};
+use pdl_kit::{Name, NoMemory};
+use pdl_pathrules::{PathRule, broken_at};
+use pdl_paths::{Action, Guards, Path, Place};
+use pdl_tree::{Kind, Mem, Pipe};
+use std::alloc::Global;
+
+/// What is asked of the places at one location.
+#[derive(Clone, Copy, Debug)]
+pub enum LocationRule {
+    /// L1: each statement has the hold that it needs.
+    Held,
+    /// L5: it is reserved once.
+    ReservedOnce,
+    /// L6: a reservation to write is released behind exactly one write.
+    WrittenOnce,
+    /// L7: at the end it is released, if it was reserved.
+    Released,
+}
+
+/// A rule on the places at each location of a pipe.
+#[derive(Clone, Copy)]
+pub struct AtLocations<'a, 'p> {
+    pub pipe: &'a Pipe,
+    /// The places of the pipe.
+    pub places: &'a [Place<'p>],
+    /// For each of them the number of the first one at its location.
+    pub first: &'a [usize],
+    pub rule: LocationRule,
+}
+
+impl PathRule for AtLocations<'_, '_> {
+    // What was done at each location, by the number of its first place.
+    type State = Vec<LocationUse>;
+
+    ghost suits = { λ rule gs xs. AreNumbered keys.Locations rule.places.now rule.first.now xs };
+
+    ghost breaks_on = { λ rule path before x. breaks_at_location rule.rule (pipe_view rule.pipe.now) (filter (on_path path) before) x };
+
+    ghost stands = { λ rule path before state. AreKept keys.Locations IsUsed (map place_view rule.places.now) (filter (on_path path) before) state.items };
+
+    fn start(&self, alloc: Global, _path: Path) -> Result<Vec<LocationUse>, NoMemory> {
+        Ok(vec![in alloc; LocationUse::none(); self.places.len()]?)
+    }
+
+    fn breaks(&self, state: &Vec<LocationUse>, k: usize, place: &Place<'_>) -> bool {
+        let used = use_at(state, number_of(self.first, k), LocationUse::none());
+        match self.rule {
+            LocationRule::Held => lacks_hold(self.pipe, used, place),
+            LocationRule::ReservedOnce => is_reserved_again(used, place),
+            LocationRule::WrittenOnce => is_not_written_once(used, place),
+            LocationRule::Released => is_end(place) && is_some_open(self.first, state),
+        }
+    }
+
+    fn step(
+        &self,
+        state: &mut Vec<LocationUse>,
+        k: usize,
+        place: &Place<'_>,
+    ) -> Result<(), NoMemory> {
+        pass(self.first, state, k, place);
+        Ok(())
+    }
+
+    ghost skips = { λ rule path before x state off stands. passed_by keys.Locations IsUsed (map place_view rule.places.now) path before x state.items off stands };
+}
+
+/// Passes the k-th place of a text, with what it does at its location.
+///
+/// `first` has for each place the number of the first one at its location.
+pub fn pass(first: &[usize], uses: &mut Vec<LocationUse>, k: usize, place: &Place<'_>)
+    ensures { (rows : List Row) (path : List rules.Guard) (before later : List rules.Place) → AreNumbered keys.Locations rows first.now (before ++ place_view place.now ∷ later) → k ≡ length before → on_path path (place_view place.now) ≡ true → AreKept keys.Locations IsUsed (map place_view rows) (filter (on_path path) before) uses.old.items → AreKept keys.Locations IsUsed (map place_view rows) (filter (on_path path) (before ++ place_view place.now ∷ [])) uses.new.items }
+{
+    let number = number_of(first, k);
+    if number < uses.len() {
+        uses[number] = uses[number].behind(place);
+    }
+}
+
+// Whether a place with this use of its location lacks the hold that it needs.
+fn lacks_hold(pipe: &Pipe, used: LocationUse, place: &Place<'_>) -> bool
+    ensures { (earlier : List rules.Place) → IsOwn IsUsed used earlier (place_view place.now) → result ≡ spec.lacks_hold (pipe_view pipe.now) earlier (place_view place.now) }
+{
+    let mems = pipe.mems.as_slice();
+    let hold = used.hold;
+    match place.action {
+        Action::Block(_) => !hold.is_reserved(),
+        Action::CombRead(_, at) => is_locked(mems, &at.mem.name) && !hold.is_blocked_for(Kind::R),
+        Action::DelayedRead(_, at) => {
+            is_locked(mems, &at.mem.name) && !hold.is_blocked_for(Kind::R)
+        }
+        Action::Write(_, _) => !hold.is_blocked_for(Kind::W),
+        Action::Release(_) => !hold.is_blocked(),
+        Action::Parameter(_) | Action::Memory(_) | Action::Separator | Action::Bind(_, _) => false,
+        Action::SpecCall(_, _) | Action::Reserve(_, _) | Action::If(_, _, _) => false,
+        Action::Call(_) | Action::Verify(_, _) | Action::SpecCheck => false,
+        Action::SpecBarrier | Action::End | Action::StartClause(_) => false,
+    }
+}
+
+fn is_reserved_again(used: LocationUse, place: &Place<'_>) -> bool
+    ensures { (earlier : List rules.Place) → IsOwn IsUsed used earlier (place_view place.now) → result ≡ spec.is_reserved_again earlier (place_view place.now) }
+{
+    match place.action {
+        Action::Reserve(_, _) => used.reserved,
+        Action::Parameter(_) | Action::Memory(_) | Action::Separator | Action::Bind(_, _) => false,
+        Action::CombRead(_, _) | Action::DelayedRead(_, _) | Action::Write(_, _) => false,
+        Action::SpecCall(_, _) | Action::Block(_) | Action::Release(_) => false,
+        Action::If(_, _, _) | Action::Call(_) | Action::Verify(_, _) | Action::SpecCheck => false,
+        Action::SpecBarrier | Action::End | Action::StartClause(_) => false,
+    }
+}
+
+fn is_not_written_once(used: LocationUse, place: &Place<'_>) -> bool
+    ensures { (earlier : List rules.Place) → IsOwn IsUsed used earlier (place_view place.now) → result ≡ spec.is_not_written_once earlier (place_view place.now) }
+{
+    match place.action {
+        Action::Release(_) => used.hold.is_held_for(Kind::W) && used.writes != 1,
+        Action::Parameter(_) | Action::Memory(_) | Action::Separator | Action::Bind(_, _) => false,
+        Action::CombRead(_, _) | Action::DelayedRead(_, _) | Action::Write(_, _) => false,
+        Action::SpecCall(_, _) | Action::Block(_) | Action::Reserve(_, _) => false,
+        Action::If(_, _, _) | Action::Call(_) | Action::Verify(_, _) | Action::SpecCheck => false,
+        Action::SpecBarrier | Action::End | Action::StartClause(_) => false,
+    }
+}
+
+fn is_end(place: &Place<'_>) -> bool
+    ensures { (earlier : List rules.Place) → spec.ends_open earlier (place_view place.now) ≡ (result && list_any (spec.leaves_open earlier) earlier) }
+{
+    match place.action {
+        Action::End => true,
+        Action::Parameter(_) | Action::Memory(_) | Action::Separator | Action::Bind(_, _) => false,
+        Action::CombRead(_, _) | Action::DelayedRead(_, _) | Action::Write(_, _) => false,
+        Action::SpecCall(_, _) | Action::Block(_) | Action::Reserve(_, _) => false,
+        Action::Release(_) | Action::If(_, _, _) | Action::Call(_) | Action::Verify(_, _) => false,
+        Action::SpecCheck | Action::SpecBarrier | Action::StartClause(_) => false,
+    }
+}
+
+// Whether one of the locations with these numbers is reserved and not released.
+fn is_some_open(numbers: &[usize], uses: &[LocationUse]) -> bool
+    ensures { result ≡ list_any (spec_is_open uses.now) numbers.now }
+{
+    for number in numbers {
+        if is_open(uses, *number) {
+            return true;
+        }
+    }
+    false
+}
+
+fn is_open(uses: &[LocationUse], number: usize) -> bool
+    ensures { result ≡ spec_is_open uses.now number }
+{
+    match uses.get(number) {
+        Some(used) => used.hold.is_unreleased(),
+        None => false,
+    }
+}
+
+/// Whether a memory has a lock.
+pub fn is_locked(mems: &[Mem], name: &Name) -> bool
+    ensures { result ≡ spec.is_locked (map mem_view mems.now) name.now }
+{
+    for mem in mems {
+        if mem.name.name == *name {
+            return mem.lock.is_some();
+        }
+    }
+    false
+}
+
+/// The line at which a pipe breaks a rule on its locations, none where it keeps it.
+///
+/// `first` has for each place the number of the first one at its location.
+pub fn location_line<'a, 'p>(
+    alloc: Global,
+    rule: LocationRule,
+    pipe: &'a Pipe,
+    guards: &Guards,
+    places: &'a [Place<'p>],
+    first: &'a [usize],
+) -> Result<Option<u32>, NoMemory>
+    requires few { length guards.now ≤ 10 }
+    requires own { guards.now ≡ spec_guards (map place_view places.now) }
+    requires masks { AreMasked guards.now places.now }
+    requires of { map place_view places.now ≡ spec_places (pipe_view pipe.now) }
+    requires first { AreNumbered keys.Locations places.now first.now (map place_view places.now) }
+    ensures { IfOk result (λ line. line ≡ broken_line (rule_of rule) (pipe_view pipe.now) [] (spec_places (pipe_view pipe.now))) }
+{
+    let asked = AtLocations {
+        pipe,
+        places,
+        first,
+        rule,
+    };
+    broken_at(alloc, &asked, guards, places)
+}

@@ -1,0 +1,22 @@
+//! The rules on locks that are asked on each path of a pipe, and what was done on a path so far.
+#![tactic(auto)]
+
+pub mod at_locations;
+pub mod at_memories;
+pub mod bound;
+pub mod check;
+pub mod hold;
+pub mod numbers;
+pub mod plan;
+#[cfg(test)]
+mod tests;
+pub mod uses;
+
+pub use at_locations::{AtLocations, LocationRule, is_locked, location_line, pass};
+pub use at_memories::{AtMemories, MemoryRule, memory_line};
+pub use bound::{BoundInTime, bound_line};
+pub use check::{check_locks, refuse};
+pub use hold::Hold;
+pub use numbers::{Keys, first_places, number_of};
+pub use plan::LockPlan;
+pub use uses::{LocationUse, MemoryUse, use_at};

@@ -1,0 +1,4 @@
+pub mod Verified
+pub mod Sure
+pub mod Checked
+pub mod Plan
