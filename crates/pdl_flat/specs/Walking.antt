@@ -1,0 +1,62 @@
+-- A walk over the statements of a pipe: what it has made, and how the stages that it has begun are closed.
+use Rattle.std.specs.Prelude.{◌≡◌, ℕ, zero, suc, ◌≤◌, Bool, true, false, List, [], ◌∷◌, ◌++◌, Some, length, slice_index_or}
+use Rattle.pdl_model.specs.Tree.{Stmt, Separator, CombRead, Bind, DelayedRead, If}
+use Rattle.pdl_model.specs.Flat as flat
+use Rattle.pdl_model.specs.Flat.{Op, Next, Stage}
+use Rattle.pdl_model.specs.Flatten.{Place, Graph, merging}
+use Rattle.pdl_model.specs.Stages.{last_stage}
+use Rattle.pdl_flat.specs.declared.walk.Walk.{Walk}
+
+-- where a walk is
+abbrev pub place_of : Walk → Place
+place_of w = record { vars = w.vars; stage = w.stage; begun = w.begun }
+
+-- each stage that has begun stands in its list, and the walk is in one of them
+pub record IsWhole (w : Walk) : Type 0 where
+  pub begun : length w.stages.items ≡ suc w.begun
+  pub stage : w.stage ≤ w.begun
+
+-- the stages, where stage k leads elsewhere
+abbrev pub leading : ℕ → Next → List Stage → List Stage
+leading k n [] = []
+leading zero n (x ∷ xs) = record x { next = n } ∷ xs
+leading (suc k) n (x ∷ xs) = x ∷ leading k n xs
+
+-- the stages, where stage k is the merge of this fork
+abbrev pub marked : ℕ → ℕ → List Stage → List Stage
+marked k f [] = []
+marked zero f (x ∷ xs) = record x { merges = Some f } ∷ xs
+marked (suc k) f (x ∷ xs) = x ∷ marked k f xs
+
+-- where stage k leads
+abbrev pub next_at : ℕ → List Stage → Next
+next_at k xs = (slice_index_or xs k last_stage).next
+
+-- these stages, of which k is the last one of its list of statements, with what the later statements give; where a fork stands in k, its way on is known, and the next stage of the list is the merge
+abbrev pub closed : ℕ → Bool → List Stage → Graph → List Stage
+closed k false xs g = leading k g.next xs ++ g.later
+closed k true xs g = xs ++ merging k g.later
+
+-- the stages after both branches of an `if` in stage k, which led so before; where a stage has begun after the first n + 1, the `if` is a fork, and where a fork stood in k before, the first of these new stages is its merge
+abbrev pub settled : Bool → Bool → ℕ → ℕ → Next → Next → List Stage → List Stage
+settled true forked k n before fork xs = leading k before xs
+settled false false k n before fork xs = leading k fork xs
+settled false true k n before fork xs = marked (suc n) k (leading k before xs)
+
+-- a statement that is neither a separator nor an `if`
+abbrev pub is_plain : Stmt → Bool
+is_plain (Separator _) = false
+is_plain (If _ _ _ _) = false
+is_plain _ = true
+
+-- one of these that binds nothing
+abbrev pub is_act : Stmt → Bool
+is_act (CombRead _ _ _) = false
+is_act (Bind _ _ _) = false
+is_act (DelayedRead _ _ _) = false
+is_act s = is_plain s
+
+-- a read, delayed or not
+abbrev pub read_op : Bool → ℕ → ℕ → ℕ → Op
+read_op true x m a = flat.DelayedRead x m a
+read_op false x m a = flat.CombRead x m a

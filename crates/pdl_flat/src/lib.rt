@@ -1,0 +1,16 @@
+//! The flat form of a pipe, made from its tree: names become numbers, each statement gets its stage and its guards, and the separators give the stages.
+#![tactic(auto)]
+
+pub mod body;
+pub mod count;
+pub mod expr;
+pub mod mems;
+pub mod parts;
+pub mod pipe;
+pub mod row;
+#[cfg(test)]
+mod tests;
+pub mod vars;
+pub mod walk;
+
+pub use pipe::lower;

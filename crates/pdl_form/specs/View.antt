@@ -1,0 +1,94 @@
+-- The flat form that values of the program stand for.
+use Rattle.std.specs.Prelude.{ℕ, List, map, Option, Some, None}
+use Rattle.pdl_tree.specs.View.{op_view}
+use Rattle.pdl_form.specs.declared.form.Expr as r_expr
+use Rattle.pdl_form.specs.declared.form.Expr.TheOpen.{Expr-F}
+use Rattle.pdl_form.specs.declared.form.Op as r_op
+use Rattle.pdl_form.specs.declared.form.Op.TheVariants as r_ops
+use Rattle.pdl_form.specs.declared.form.Guard as r_guard
+use Rattle.pdl_form.specs.declared.form.Stmt as r_stmt
+use Rattle.pdl_form.specs.declared.form.Lock as r_lock
+use Rattle.pdl_form.specs.declared.form.Lock.TheVariants as r_locks
+use Rattle.pdl_form.specs.declared.form.Mem as r_mem
+use Rattle.pdl_form.specs.declared.form.Next as r_next
+use Rattle.pdl_form.specs.declared.form.Next.TheVariants as r_nexts
+use Rattle.pdl_form.specs.declared.form.Branch as r_branch
+use Rattle.pdl_form.specs.declared.form.Stage as r_stage
+use Rattle.pdl_model.specs.Flat as flat
+use Rattle.pdl_model.specs.Flat.{Expr, Op, Guard, Stmt, Lock, Mem, Next, Branch, Stage}
+
+abbrev pub expr_step : Expr-F Expr → Expr
+expr_step (Expr-F.Constant width value) = flat.Constant value
+expr_step (Expr-F.Variable x) = flat.Variable x
+expr_step (Expr-F.Slice x high low) = flat.Slice x high low
+expr_step (Expr-F.Not width a) = flat.Not width a
+expr_step (Expr-F.Binary op width a b) = flat.Binary (op_view op) width a b
+expr_step (Expr-F.Cat a width b) = flat.Cat a width b
+expr_step (Expr-F.LessSigned width a b) = flat.LessSigned width a b
+expr_step (Expr-F.ZeroExtend wide a) = flat.ZeroExtend a
+expr_step (Expr-F.SignExtend width wide a) = flat.SignExtend width wide a
+expr_step (Expr-F.Choose c a b) = flat.Choose c a b
+
+abbrev pub expr_view : r_expr.Expr → Expr
+expr_view = r_expr.fold-Expr Expr expr_step
+
+abbrev pub exprs_view : List r_expr.Expr → List Expr
+exprs_view es = map expr_view es
+
+abbrev pub act_view : r_op.Op → Op
+act_view (r_ops.Bind x e) = flat.Bind x (expr_view e)
+act_view (r_ops.CombRead x m a) = flat.CombRead x m a
+act_view (r_ops.DelayedRead x m a) = flat.DelayedRead x m a
+act_view (r_ops.Write m a e) = flat.Write m a (expr_view e)
+act_view (r_ops.ReserveRead m a) = flat.ReserveRead m a
+act_view (r_ops.ReserveWrite m a) = flat.ReserveWrite m a
+act_view (r_ops.Block m a) = flat.Block m a
+act_view (r_ops.Release m a) = flat.Release m a
+act_view (r_ops.Call args) = flat.Call (exprs_view args)
+act_view (r_ops.SpecCall args) = flat.SpecCall (exprs_view args)
+act_view (r_ops.Verify args) = flat.Verify (exprs_view args)
+act_view r_ops.SpecCheck = flat.SpecCheck
+act_view r_ops.SpecBarrier = flat.SpecBarrier
+
+abbrev pub guard_view : r_guard.Guard → Guard
+guard_view g = record { var = g.var; first = g.first }
+
+abbrev pub guards_view : List r_guard.Guard → List Guard
+guards_view gs = map guard_view gs
+
+abbrev pub stmt_view : r_stmt.Stmt → Stmt
+stmt_view s = record { stage = s.stage; guards = guards_view s.guards; op = act_view s.op }
+
+abbrev pub stmts_view : List r_stmt.Stmt → List Stmt
+stmts_view ss = map stmt_view ss
+
+abbrev pub lock_view : r_lock.Lock → Lock
+lock_view r_locks.Plain = flat.Plain
+lock_view (r_locks.Queue size) = flat.Queue size
+lock_view (r_locks.Bypass size) = flat.Bypass size
+lock_view (r_locks.Rename size) = flat.Rename size
+
+abbrev pub mem_view : r_mem.Mem → Mem
+mem_view m = record { width = m.width; depth = m.depth; delayed = m.delayed; lock = lock_view m.lock }
+
+abbrev pub mems_view : List r_mem.Mem → List Mem
+mems_view ms = map mem_view ms
+
+abbrev pub next_view : r_next.Next → Next
+next_view r_nexts.Ends = flat.Ends
+next_view (r_nexts.Goes to) = flat.Goes to
+next_view (r_nexts.Forks x first second) = flat.Forks x first second
+
+abbrev pub branch_view : Option r_branch.Branch → Option Branch
+branch_view None = None
+branch_view (Some b) = Some (record { fork = b.fork; first = b.first })
+
+abbrev pub stage_view : r_stage.Stage → Stage
+stage_view s = record { next = next_view s.next; branch = branch_view s.branch; merges = s.merges }
+
+abbrev pub stages_view : List r_stage.Stage → List Stage
+stages_view ss = map stage_view ss
+
+-- the names of the program's memories
+abbrev pub mem_names : List r_mem.Mem → List (List ℕ)
+mem_names ms = map (λ (m : r_mem.Mem). m.name) ms

@@ -1,0 +1,25 @@
+// A flat form as the program keeps it.
+ghost use Rattle.std.specs.Prelude.{◌≡◌, length};
+ghost use Rattle.pdl_model.specs.Stages.{verify_stage};
+ghost use Rattle.pdl_form.specs.View.{stmts_view};
+ghost use Rattle.pdl_form.specs.Form.{rows_below};
+
+use crate::form::{Mem, Stage, Stmt};
+use pdl_kit::Seq;
+
+/// A pipe in flat form: what its threads, its machine and its circuit are made from.
+#[derive(Drop)]
+pub struct FlatPipe {
+    pub(crate) widths: Vec<u8>,
+    pub(crate) mems: Vec<Mem>,
+    pub(crate) stmts: Vec<Stmt>,
+    pub(crate) stages: Vec<Stage>,
+    pub(crate) start: Vec<u64>,
+    pub(crate) reserved: Vec<Option<usize>>,
+    pub(crate) released: Vec<Option<usize>>,
+    pub(crate) verified: Option<usize>,
+    // The numbers of the statements of each stage.
+    pub(crate) rows: Vec<Seq<usize>>,
+    pub ghost told: { verified ≡ verify_stage (stmts_view stmts.items) },
+    pub ghost by_stage: { rows.items ≡ rows_below (length stages.items) (stmts_view stmts.items) },
+}

@@ -1,0 +1,131 @@
+// The parts of a flat form. Variables, memories and stages are numbers, counted from 0.
+use pdl_kit::{Boxed, Name, Seq};
+use pdl_tree::BinaryOp;
+
+/// An expression over numbered variables, with the widths in bits that its value needs: `width` is that of the operands, in `Constant` that of the value, and `wide` that of an extended value. In `Cat` it is that of `b`, the lower part.
+#[derive(Drop)]
+pub enum Expr {
+    Constant {
+        width: u8,
+        value: u64,
+    },
+    Variable(usize),
+    Slice {
+        x: usize,
+        high: u8,
+        low: u8,
+    },
+    Not {
+        width: u8,
+        a: Boxed<Expr>,
+    },
+    Binary {
+        op: BinaryOp,
+        width: u8,
+        a: Boxed<Expr>,
+        b: Boxed<Expr>,
+    },
+    Cat {
+        a: Boxed<Expr>,
+        width: u8,
+        b: Boxed<Expr>,
+    },
+    LessSigned {
+        width: u8,
+        a: Boxed<Expr>,
+        b: Boxed<Expr>,
+    },
+    ZeroExtend {
+        wide: u8,
+        a: Boxed<Expr>,
+    },
+    SignExtend {
+        width: u8,
+        wide: u8,
+        a: Boxed<Expr>,
+    },
+    Choose {
+        c: Boxed<Expr>,
+        a: Boxed<Expr>,
+        b: Boxed<Expr>,
+    },
+}
+
+/// What a statement does, with the variable `x` that it binds, its memory `m` and the variable `a` of its address. An `if` on an expression binds its guard.
+#[derive(Drop)]
+pub enum Op {
+    Bind { x: usize, e: Expr },
+    CombRead { x: usize, m: usize, a: usize },
+    DelayedRead { x: usize, m: usize, a: usize },
+    Write { m: usize, a: usize, e: Expr },
+    ReserveRead { m: usize, a: usize },
+    ReserveWrite { m: usize, a: usize },
+    Block { m: usize, a: usize },
+    Release { m: usize, a: usize },
+    Call(Seq<Expr>),
+    SpecCall(Seq<Expr>),
+    Verify(Seq<Expr>),
+    SpecCheck,
+    SpecBarrier,
+}
+
+/// A branch of an `if`, with the variable of its truth value: the first branch is taken where that is 1, the second where it isn't.
+#[derive(Clone, Copy, PartialEq, Eq, Debug)]
+pub struct Guard {
+    pub var: usize,
+    pub first: bool,
+}
+
+/// A statement with its stage and the guards that it stands under, the outermost first.
+#[derive(Drop)]
+pub struct Stmt {
+    pub stage: usize,
+    pub guards: Seq<Guard>,
+    pub op: Op,
+}
+
+/// A memory's lock with how many writes may be pending, or none.
+#[derive(Clone, Copy, PartialEq, Eq, Debug)]
+pub enum Lock {
+    Plain,
+    Queue(u8),
+    Bypass(u8),
+    Rename(u8),
+}
+
+/// A memory, with the width of its words in bits, how many words it has, and whether it answers in a later cycle.
+#[derive(Drop, Debug)]
+pub struct Mem {
+    pub name: Name,
+    pub width: u8,
+    pub depth: u32,
+    pub delayed: bool,
+    pub lock: Lock,
+}
+
+/// Where a thread goes from a stage: out of the pipe, to one stage, or where `x` is 1 to the first stage, else to the second.
+#[derive(Clone, Copy, PartialEq, Eq, Debug)]
+pub enum Next {
+    Ends,
+    Goes(usize),
+    Forks {
+        x: usize,
+        first: usize,
+        second: usize,
+    },
+}
+
+/// One of the two branches of the fork in this stage.
+#[derive(Clone, Copy, PartialEq, Eq, Debug)]
+pub struct Branch {
+    pub fork: usize,
+    pub first: bool,
+}
+
+/// A stage: where it leads, the branch that it stands in, and the fork stage whose branches meet in it.
+#[derive(Clone, Copy, PartialEq, Eq, Debug)]
+pub struct Stage {
+    pub next: Next,
+    pub branch: Option<Branch>,
+    pub merges: Option<usize>,
+}

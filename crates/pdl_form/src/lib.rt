@@ -1,0 +1,13 @@
+//! The flat form of a pipe: its statements in text order over numbered variables and memories, each with its stage and its guards, and its stages.
+#![tactic(auto)]
+
+pub mod flat;
+pub mod form;
+pub mod pipe;
+pub mod rows;
+pub mod stmts;
+#[cfg(test)]
+mod tests;
+
+pub use flat::FlatPipe;
+pub use form::{Branch, Expr, Guard, Lock, Mem, Next, Op, Stage, Stmt};

@@ -1,0 +1,121 @@
+// Making a flat form, and reading it.
+ghost use Rattle.std.specs.Prelude.{◌≡◌, ◌<◌, ℕ, map, length, slice_index, slice_index_or, None, IfOk};
+ghost use Rattle.pdl_model.specs.Stages.{in_stage, verify_stage};
+ghost use Rattle.pdl_form.specs.View.{stmts_view, stages_view, mems_view, mem_names};
+ghost use Rattle.pdl_form.specs.Form.{formed, rows_in, stmt_at};
+ghost use Rattle.pdl_form.specs.Whole.{form};
+
+use crate::flat::FlatPipe;
+use crate::form::{Mem, Stage, Stmt};
+use crate::rows::{all_rows, releases, reserves};
+use crate::stmts::verified;
+use pdl_kit::NoMemory;
+use std::alloc::Global;
+
+impl FlatPipe {
+    /// A flat form of these parts: the widths of the variables in bits, the memories in declared order, the statements in text order, the stages by their numbers, and the first thread's arguments.
+    pub fn new(
+        alloc: Global,
+        widths: Vec<u8>,
+        mems: Vec<Mem>,
+        stmts: Vec<Stmt>,
+        stages: Vec<Stage>,
+        start: Vec<u64>,
+    ) -> Result<FlatPipe, NoMemory>
+        ensures { IfOk result (λ f. form f ≡ formed widths.items (mems_view mems.items) (mem_names mems.items) (stmts_view stmts.items) (stages_view stages.items) start.items) }
+    {
+        let reserved = reserves(alloc, stmts.as_slice(), mems.as_slice())?;
+        let released = releases(alloc, stmts.as_slice(), mems.as_slice())?;
+        let rows = all_rows(alloc, stmts.as_slice(), stages.len())?;
+        let verified = verified(stmts.as_slice());
+        Ok(FlatPipe {
+            widths,
+            mems,
+            stmts,
+            stages,
+            start,
+            reserved,
+            released,
+            verified,
+            rows,
+        })
+    }
+
+    /// How many variables there are.
+    pub fn vars(&self) -> usize
+        ensures { result ≡ (form self.now).pipe.vars }
+    {
+        self.widths.len()
+    }
+
+    /// The width of a variable in bits.
+    pub fn width(&self, x: usize) -> u8
+        requires { x < (form self.now).pipe.vars }
+        ensures { result ≡ slice_index (form self.now).widths x }
+    {
+        self.widths[x]
+    }
+
+    /// Lends the memories in declared order.
+    pub fn mems(&self) -> &[Mem]
+        ensures mems { mems_view result.now ≡ (form self.now).pipe.mems }
+        ensures names { mem_names result.now ≡ (form self.now).names }
+    {
+        self.mems.as_slice()
+    }
+
+    /// Lends the statements in text order.
+    pub fn stmts(&self) -> &[Stmt]
+        ensures { stmts_view result.now ≡ (form self.now).pipe.stmts }
+    {
+        self.stmts.as_slice()
+    }
+
+    /// Lends the numbers of the statements of a stage, in text order.
+    pub fn rows(&self, stage: usize) -> &[usize]
+        requires { stage < length (form self.now).pipe.stages }
+        ensures value { result.now ≡ rows_in stage 0 (form self.now).pipe.stmts }
+        ensures stmts { map (stmt_at (form self.now).pipe.stmts) result.now ≡ in_stage stage (form self.now).pipe.stmts }
+        ensures within { (j : ℕ) → j < length result.now → slice_index result.now j < length (form self.now).pipe.stmts }
+    {
+        let rows = &self.rows[stage];
+        rows.as_slice()
+    }
+
+    /// Lends the stages by their numbers.
+    pub fn stages(&self) -> &[Stage]
+        ensures { stages_view result.now ≡ (form self.now).pipe.stages }
+    {
+        self.stages.as_slice()
+    }
+
+    /// Lends the first thread's arguments.
+    pub fn start(&self) -> &[u64]
+        ensures { result.now ≡ (form self.now).pipe.start }
+    {
+        self.start.as_slice()
+    }
+
+    /// The stage of a memory's reserves, where it has some.
+    pub fn reserved(&self, mem: usize) -> Option<usize>
+        requires { mem < length (form self.now).pipe.reserves_at }
+        ensures { result ≡ slice_index_or (form self.now).pipe.reserves_at mem None }
+    {
+        self.reserved[mem]
+    }
+
+    /// The stage of a memory's releases, where it has some.
+    pub fn released(&self, mem: usize) -> Option<usize>
+        requires { mem < length (form self.now).pipe.releases_at }
+        ensures { result ≡ slice_index_or (form self.now).pipe.releases_at mem None }
+    {
+        self.released[mem]
+    }
+
+    /// The stage of the verifies, where there are some.
+    pub fn verified(&self) -> Option<usize>
+        ensures { result ≡ verify_stage (form self.now).pipe.stmts }
+    {
+        self.verified
+    }
+}

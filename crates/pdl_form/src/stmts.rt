@@ -1,0 +1,83 @@
+// Statements of a flat form by stage, and the stages of reserves, releases and verifies.
+ghost use Rattle.std.specs.Prelude.{◌≡◌, ℕ, map, length, IfOk};
+ghost use Rattle.pdl_model.specs.Flatten.{first_stage};
+ghost use Rattle.pdl_model.specs.Stages as stages;
+ghost use Rattle.pdl_form.specs.View.{act_view, stmts_view};
+ghost use Rattle.pdl_form.specs.Form.{rows_in};
+
+use crate::form::{Op, Stmt};
+use pdl_kit::NoMemory;
+use std::alloc::Global;
+
+/// The numbers of the statements of a stage.
+pub fn rows(alloc: Global, stmts: &[Stmt], stage: usize) -> Result<Vec<usize>, NoMemory>
+    ensures { IfOk result (λ r. r.items ≡ rows_in stage 0 (stmts_view stmts.now)) }
+{
+    let mut rows = Vec::new(alloc);
+    for (i, stmt) in stmts.iter().enumerate() {
+        if stmt.stage == stage {
+            rows.push(i)?;
+        }
+    }
+    Ok(rows)
+}
+
+fn reserves(op: &Op, mem: usize) -> bool
+    ensures { result ≡ stages.is_reserve mem (act_view op.now) }
+{
+    match op {
+        Op::ReserveRead { m, .. } | Op::ReserveWrite { m, .. } => *m == mem,
+        _ => false,
+    }
+}
+
+fn releases(op: &Op, mem: usize) -> bool
+    ensures { result ≡ stages.is_release mem (act_view op.now) }
+{
+    match op {
+        Op::Release { m, .. } => *m == mem,
+        _ => false,
+    }
+}
+
+fn verifies(op: &Op) -> bool
+    ensures { result ≡ stages.is_verify (act_view op.now) }
+{
+    matches!(op, Op::Verify(_))
+}
+
+/// The stage of a memory's reserves: that of the first one in the text.
+pub fn reserved(stmts: &[Stmt], mem: usize) -> Option<usize>
+    ensures { result ≡ first_stage (stages.is_reserve mem) (stmts_view stmts.now) }
+{
+    for stmt in stmts {
+        if reserves(&stmt.op, mem) {
+            return Some(stmt.stage);
+        }
+    }
+    None
+}
+
+/// The stage of a memory's releases: that of the first one in the text.
+pub fn released(stmts: &[Stmt], mem: usize) -> Option<usize>
+    ensures { result ≡ first_stage (stages.is_release mem) (stmts_view stmts.now) }
+{
+    for stmt in stmts {
+        if releases(&stmt.op, mem) {
+            return Some(stmt.stage);
+        }
+    }
+    None
+}
+
+/// The stage of the verifies: that of the first one in the text.
+pub fn verified(stmts: &[Stmt]) -> Option<usize>
+    ensures { result ≡ stages.verify_stage (stmts_view stmts.now) }
+{
+    for stmt in stmts {
+        if verifies(&stmt.op) {
+            return Some(stmt.stage);
+        }
+    }
+    None
+}

@@ -1,0 +1,6 @@
+/// A fork: its stage, and the stage in which its branches meet.
+#[derive(Clone, Copy, PartialEq, Eq, Debug)]
+pub struct Fork {
+    pub stage: usize,
+    pub merge: usize,
+}

@@ -1,0 +1,11 @@
+//! The stages of a pipe: where each leads, its forks, the stage of each place, and the greatest number of stages on a path.
+#![tactic(auto)]
+
+pub mod depth;
+pub mod fork;
+pub mod graph;
+#[cfg(test)]
+mod tests;
+
+pub use fork::Fork;
+pub use graph::{StageGraph, stage_graph};
