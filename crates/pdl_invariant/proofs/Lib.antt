@@ -10,16 +10,16 @@ pub mod Reached
 pub mod Order
 pub mod Points
 pub mod AllThreads
-mod EveryState
+pub mod EveryState
 pub mod OnTurn
 mod Mine
-mod Releases
+pub mod Releases
 mod StillLooks
 mod TurnByTurn
-mod PendingLists
-mod OwnWrites
-mod LockCycle
-mod LockRelease
-mod LockUse
+pub mod PendingLists
+pub mod OwnWrites
+pub mod LockCycle
+pub mod LockRelease
+pub mod LockUse
 pub mod Holders
 pub mod Followers

@@ -48,11 +48,11 @@ as_many m n (r ∷ rs) = at (r.mem == m) (as_many m n rs)
     at false h = h
 
 -- what is appended behind older threads' entries
-abbrev NoOlder : ℕ → ℕ → List Act → Type 0
+abbrev pub NoOlder : ℕ → ℕ → List Act → Type 0
 NoOlder t m [] = Unit {0}
 NoOlder t m (a ∷ these) = ((new_entries m a.thread.number a.does.reserves ≡ []) ⊎ (t ≤ a.thread.number)) × NoOlder t m these
 
-movers_no_older : (t m : ℕ) (these : List Act) → NoOlder t m these → NoOlder t m (movers these)
+pub movers_no_older : (t m : ℕ) (these : List Act) → NoOlder t m these → NoOlder t m (movers these)
 movers_no_older t m [] h = tt
 movers_no_older t m (a ∷ these) h = at a.moves (movers_no_older t m these h.1)
   where
@@ -60,7 +60,7 @@ movers_no_older t m (a ∷ these) h = at a.moves (movers_no_older t m these h.1)
     at true k = (h.0, k)
     at false k = k
 
-count_appended : (t m : ℕ) (ms : List Act) (list : List Pending) → NoOlder t m ms → count_older t (appended m ms list) ≡ count_older t list
+pub count_appended : (t m : ℕ) (ms : List Act) (list : List Pending) → NoOlder t m ms → count_older t (appended m ms list) ≡ count_older t list
 count_appended t m [] list h = refl
 count_appended t m (a ∷ ms) list h =
     let e = count_append t (appended m ms list) (new_entries m a.thread.number a.does.reserves) in let f = count_appended t m ms list h.1 in let g = none h.0 in omega arith
@@ -71,10 +71,10 @@ count_appended t m (a ∷ ms) list h =
 
 module _ (p : Pipe) (flows : Flows p) (st : State) (d : Derived.State) (bits : List Bool) (arrays : st.arrays ≡ d.arrays) (m : ℕ) where
   -- a thread reserves in one stage alone
-  quiet_new : (l : Live) → l.thread.stage ≢ reserve_stage p m → new_entries m l.number (deeds_of p st bits l).reserves ≡ []
+  pub quiet_new : (l : Live) → l.thread.stage ≢ reserve_stage p m → new_entries m l.number (deeds_of p st bits l).reserves ≡ []
   quiet_new l h = quiet_reserves m l.number (word_for st l.number) (in_stage l.thread.stage p.stmts) _ (none_in_stage (is_reserve m) (reserve_stage p m) l.thread.stage p.stmts (flows.reserves m) h) refl
 
-  past_new : (l : Live) → reserve_stage p m < l.thread.stage → new_entries m l.number (deeds_of p st bits l).reserves ≡ []
+  pub past_new : (l : Live) → reserve_stage p m < l.thread.stage → new_entries m l.number (deeds_of p st bits l).reserves ≡ []
   past_new l h = quiet_new l (λ e. absurd (let i = h in omega arith))
 
   -- with what it reserves it has at most one pending write
@@ -98,7 +98,7 @@ module _ (p : Pipe) (flows : Flows p) (st : State) (d : Derived.State) (bits : L
       at true e = subst (λ es. length es ≤ 1) (sym (w.full e).1) (omega arith)
       at false e = subst (λ es. length es ≤ 1) (w.after ∙ ap (λ b. cond b (but_oldest (put_all m l.number (deeds_of p st bits l).writes (pend m l.number l.thread.entries ++ new_entries m l.number (deeds_of p st bits l).reserves))) (put_all m l.number (deeds_of p st bits l).writes (pend m l.number l.thread.entries ++ new_entries m l.number (deeds_of p st bits l).reserves))) e) short
 
-  older_past : (l : Live) (ls : List Live) → Each (λ k. Behind p l.thread.stage k.thread.stage) ls → reserve_stage p m ≤ l.thread.stage → Each (λ k. reserve_stage p m < k.thread.stage) ls
+  pub older_past : (l : Live) (ls : List Live) → Each (λ k. Behind p l.thread.stage k.thread.stage) ls → reserve_stage p m ≤ l.thread.stage → Each (λ k. reserve_stage p m < k.thread.stage) ls
   older_past l ls b h = each_map (λ k i. i.trunk (reserve_stage p m) (flows.trunk_reserve m) h) ls b
 
   reserveless : (ls : List Live) → Each (λ k. reserve_stage p m < k.thread.stage) ls → Reserveless m (movers (lacts p st d bits ls))

@@ -78,7 +78,7 @@ module _ (p : Pipe) (flows : Flows p) (st : State) (d : Derived.State) (bits : L
   abbrev pub Stays : Pair → Type 0
   Stays x = (x.live.thread.stage ≤ commit_stage p m) × (x.live.thread.stage ≡ commit_stage p m → (did p d bits x.older x.live).moves ≡ false)
 
-  first_low : (a b : ℕ) (xs : List Pending) (e : Pending) (rest : List Pending) → xs ≡ e ∷ rest → Within a b xs → e.thread < b
+  pub first_low : (a b : ℕ) (xs : List Pending) (e : Pending) (rest : List Pending) → xs ≡ e ∷ rest → Within a b xs → e.thread < b
   first_low a b xs e rest h w = at (subst (Within a b) h w)
     where
       up : (a b : ℕ) (xs : List Pending) → Within a b xs → a ≤ b

@@ -30,7 +30,7 @@ module _ (p : Pipe) (sound : Sound p) (st : State) (d : Derived.State) (bits : L
   acts_each P [] h = tt
   acts_each P (x ∷ xs) h = (h.0, acts_each P xs h.1)
 
-  all_each : (P : Act → Type 0) → EachPair (λ x. P (lact p st d bits x.older x.live)) (pairs ls) → AllActs P (all_acts p st bits)
+  pub all_each : (P : Act → Type 0) → EachPair (λ x. P (lact p st d bits x.older x.live)) (pairs ls) → AllActs P (all_acts p st bits)
   all_each P h = subst (AllActs P) (sym (acts_are p (sound_flows p sound) st d bits ls sim)) (acts_each P (sorted ls) (sorted_each (λ x. P (lact p st d bits x.older x.live)) ls h))
 
   pub finds_older : AllActs (FindsOlder st m (reserve_stage p m)) (all_acts p st bits)
@@ -39,10 +39,10 @@ module _ (p : Pipe) (sound : Sound p) (st : State) (d : Derived.State) (bits : L
 
   -- A CYCLE
 
-  swaps : Swaps p (sound_flows p sound) st d bits sim.arrays ls
+  pub swaps : Swaps p (sound_flows p sound) st d bits sim.arrays ls
   swaps = swaps_all p (sound_flows p sound) st d bits sim.arrays st.next ls (known p (sound_flows p sound) st d bits ls sim) sim.ordered sim.falls
 
-  with_new_is : with_new p st bits m ≡ appended m (movers (lacts p st d bits ls)) (pends m ls)
+  pub with_new_is : with_new p st bits m ≡ appended m (movers (lacts p st d bits ls)) (pends m ls)
   with_new_is =
       ap (λ these. appended m (movers these) (lock_of st m)) (acts_are p (sound_flows p sound) st d bits ls sim)
       ∙ same_appended p (sound_flows p sound) st d bits sim.arrays m (lock_of st m) ls swaps
@@ -61,7 +61,7 @@ module _ (p : Pipe) (sound : Sound p) (st : State) (d : Derived.State) (bits : L
       (places_kept p (sound_flows p sound) st d bits sim.arrays m st.next ls (pends m ls) sim.ordered sim.falls))
 
   -- places shift
-  releases_are : releases m (moving p st bits) ≡ releases m (movers (lacts p st d bits ls))
+  pub releases_are : releases m (moving p st bits) ≡ releases m (movers (lacts p st d bits ls))
   releases_are =
       ap (λ these. releases m (movers these)) (acts_are p (sound_flows p sound) st d bits ls sim)
       ∙ same_any p (sound_flows p sound) st d bits sim.arrays (λ (a : Act). list_any (λ n. n == m) a.does.releases) ls swaps

@@ -204,7 +204,7 @@ phase_looked : (m : ℕ) (ph : Phase) (op : Op) → next_phase m ph (looked op) 
 phase_looked m ph (DelayedRead x n a) = refl
 phase_looked m ph _ = refl
 
-phases_looked : (m : ℕ) (ph : Phase) (xs : List Stmt) → phase_all m ph (looked_all xs) ≡ phase_all m ph xs
+pub phases_looked : (m : ℕ) (ph : Phase) (xs : List Stmt) → phase_all m ph (looked_all xs) ≡ phase_all m ph xs
 phases_looked m ph [] = refl
 phases_looked m ph (x ∷ xs) = ap (λ q. phase_all m q (looked_all xs)) (phase_looked m ph x.op) ∙ phases_looked m (next_phase m ph x.op) xs
 
@@ -228,7 +228,7 @@ module _ (p : Pipe) (sound : Sound p) (arrays : Arrays) (args : List ℕ) where
 -- A THREAD AFTER A WRONG GUESS
 
 -- a write under way has its location among those that were opened
-abbrev Opened : ℕ → Phase → Scan → Type 0
+abbrev pub Opened : ℕ → Phase → Scan → Type 0
 Opened m Fresh c = Unit {0}
 Opened m (Held x) c = opened c.held m x ≡ true
 Opened m (Written x) c = opened c.held m x ≡ true
@@ -292,7 +292,7 @@ barred_stays : (xs : List Stmt) → some_barrier true xs ≡ true
 barred_stays [] = refl
 barred_stays (x ∷ xs) = barred_stays xs
 
-sure_done : (m v : ℕ) (c : Scan) (ph : Phase) (xs : List Stmt) → phases_ok m ph xs ≡ true → all_sure (Some v) false c xs ≡ true → some_barrier false xs ≡ false → AllStmts (λ x. nat_lt x.stage v ≡ true) xs → Opened m ph c → is_done ph ≡ false → is_done (phase_all m ph xs) ≡ false
+pub sure_done : (m v : ℕ) (c : Scan) (ph : Phase) (xs : List Stmt) → phases_ok m ph xs ≡ true → all_sure (Some v) false c xs ≡ true → some_barrier false xs ≡ false → AllStmts (λ x. nat_lt x.stage v ≡ true) xs → Opened m ph c → is_done ph ≡ false → is_done (phase_all m ph xs) ≡ false
 sure_done m v c ph [] k u b low o d = d
 sure_done m v c ph (x ∷ xs) k u b low o d =
     let one = sure_op m v x.stage c ph x.op (and_right (no_guards x.guards) _ (and_left _ _ k)) (and_left _ _ u) low.0 o d in
@@ -302,7 +302,7 @@ sure_done m v c ph (x ∷ xs) k u b low o d =
     at true e j i f = absurd (cc (sym (barred_stays xs) ∙ j))
     at false e j i f = f (subst (λ t. all_sure (Some v) t (opens x.op c) xs ≡ true) e i) j
 
-low_stages : (path : List ℕ) (s : ℕ) (xs : List Stmt) → AllStmts (λ x. x.stage < s) (onpath path (stages_before s xs))
+pub low_stages : (path : List ℕ) (s : ℕ) (xs : List Stmt) → AllStmts (λ x. x.stage < s) (onpath path (stages_before s xs))
 low_stages path s [] = tt
 low_stages path s (x ∷ xs) = at (nat_lt x.stage s) refl (low_stages path s xs)
   where
@@ -314,7 +314,7 @@ low_stages path s (x ∷ xs) = at (nat_lt x.stage s) refl (low_stages path s xs)
     at true e h = by (taken x.guards path) (ltb-true _ _ e) h
     at false e h = h
 
-stages_looked : (P : ℕ → Type 0) (xs : List Stmt) → AllStmts (λ x. P x.stage) xs → AllStmts (λ x. P x.stage) (looked_all xs)
+pub stages_looked : (P : ℕ → Type 0) (xs : List Stmt) → AllStmts (λ x. P x.stage) xs → AllStmts (λ x. P x.stage) (looked_all xs)
 stages_looked P [] h = tt
 stages_looked P (x ∷ xs) h = (h.0, stages_looked P xs h.1)
 
@@ -333,7 +333,7 @@ barrier_looked (SpecCall args) = refl
 barrier_looked (Verify args) = refl
 barrier_looked SpecCheck = refl
 
-unbarred : (xs : List Stmt) → list_any (λ (x : Stmt). Sound.is_barrier x.op) xs ≡ false → some_barrier false (looked_all xs) ≡ false
+pub unbarred : (xs : List Stmt) → list_any (λ (x : Stmt). Sound.is_barrier x.op) xs ≡ false → some_barrier false (looked_all xs) ≡ false
 unbarred [] h = refl
 unbarred (x ∷ xs) h = ap (λ b. some_barrier b (looked_all xs)) (barrier_looked x.op) ∙ at (Sound.is_barrier x.op) h (unbarred xs)
   where

@@ -1,3 +1,3 @@
 mod Fresh
 mod LetGo
-mod Paths
+pub mod Paths

@@ -1,0 +1,86 @@
+-- What a squash leaves of the pending writes of a lock: those up to a thread that it leaves, and of a list in the order of its threads a front.
+use Rattle.std.proofs.Common.{◌≡◌, refl, sym, ap, ◌∙◌, ℕ, zero, suc, ◌+◌, ◌≤◌, ◌<◌, Bool, true, false, List, [], ◌∷◌, take, Option, Some, None, ◌==◌, cond, if◌then◌else◌, arith, nat_lt, nat_le, leb-true, leb-false, le-ltb, lt-ltb}
+use Rattle.pdl_model.specs.Machine.{Pending, Written}
+use Rattle.pdl_model.specs.Moves.{Act}
+use Rattle.pdl_model.specs.Cycle.{put, put_all, filled, but_oldest, stays, entries_left}
+use Rattle.pdl_invariant.specs.Use.{AreOrdered, count_older}
+
+-- THE ORDER OF A LIST
+
+order_low : (s t : ℕ) (es : List Pending) → s ≤ t → AreOrdered t es → AreOrdered s es
+order_low s t [] h o = tt
+order_low s t (e ∷ es) h o = (let i = o.0 in omega (arith, h, i), o.1)
+
+order_put : (t n v : ℕ) (es : List Pending) → AreOrdered t es → AreOrdered t (put n v es)
+order_put t n v [] o = tt
+order_put t n v (e ∷ es) o = at (e.thread == n) (order_put (e.thread + 1) n v es o.1)
+  where
+    at : (b : Bool) → AreOrdered (e.thread + 1) (put n v es) → AreOrdered t (cond b (record e { value = Some v }) e ∷ put n v es)
+    at true r = (o.0, r)
+    at false r = (o.0, r)
+
+order_put_all : (m t n : ℕ) (ws : List Written) (es : List Pending) → AreOrdered t es → AreOrdered t (put_all m n ws es)
+order_put_all m t n [] es o = o
+order_put_all m t n (w ∷ ws) es o = order_put_all m t n ws (if w.mem == m then put n w.value es else es) (at (w.mem == m))
+  where
+    at : (b : Bool) → AreOrdered t (cond b (put n w.value es) es)
+    at true = order_put t n w.value es o
+    at false = o
+
+pub order_filled : (m t : ℕ) (ms : List Act) (es : List Pending) → AreOrdered t es → AreOrdered t (filled m ms es)
+order_filled m t [] es o = o
+order_filled m t (a ∷ ms) es o = order_put_all m t a.thread.number a.does.writes (filled m ms es) (order_filled m t ms es o)
+
+pub order_behind : (t : ℕ) (es : List Pending) → AreOrdered t es → AreOrdered t (but_oldest es)
+order_behind t [] o = tt
+order_behind t (e ∷ es) o = order_low t (e.thread + 1) es (let i = o.0 in omega (arith, i)) o.1
+
+-- WHAT IS LEFT
+
+-- a squash that leaves a thread leaves its pending writes and those of older ones
+pub tail_left : (sq : Option ℕ) (n : ℕ) (es : List Pending) → stays sq n ≡ true → count_older (suc n) (entries_left sq es) ≡ count_older (suc n) es
+tail_left sq n [] h = refl
+tail_left sq n (e ∷ es) h = at (stays sq e.thread) refl (tail_left sq n es h)
+  where
+    beyond : (q : Option ℕ) → stays q n ≡ true → stays q e.thread ≡ false → nat_lt e.thread (suc n) ≡ false
+    beyond None i j = absurd (cc j)
+    beyond (Some q) i j = le-ltb e.thread (suc n) (let a = leb-true n q i in let b = leb-false e.thread q j in omega (arith, a, b))
+
+    at : (b : Bool) → stays sq e.thread ≡ b → count_older (suc n) (entries_left sq es) ≡ count_older (suc n) es
+        → count_older (suc n) (cond b (e ∷ entries_left sq es) (entries_left sq es)) ≡ count_older (suc n) (e ∷ es)
+    at true i r = ap (λ k. if nat_lt e.thread (suc n) then suc k else k) r
+    at false i r = r ∙ ap (λ b. cond b (suc (count_older (suc n) es)) (count_older (suc n) es)) (sym (beyond sq h i))
+
+-- behind a younger thread nothing is left
+none_left : (t : ℕ) (from : ℕ) (es : List Pending) → t < from → AreOrdered from es → (entries_left (Some t) es ≡ []) × (count_older (suc t) es ≡ 0)
+none_left t from [] h o = (refl, refl)
+none_left t from (e ∷ es) h o =
+    let r = none_left t (e.thread + 1) es (let i = o.0 in omega (arith, h, i)) o.1 in (
+      ap (λ b. cond b (e ∷ entries_left (Some t) es) (entries_left (Some t) es)) (gone (nat_le e.thread t) refl) ∙ r.0,
+      ap (λ b. cond b (suc (count_older (suc t) es)) (count_older (suc t) es)) (le-ltb e.thread (suc t) (let i = o.0 in omega (arith, h, i))) ∙ r.1,
+    )
+  where
+    gone : (b : Bool) → nat_le e.thread t ≡ b → nat_le e.thread t ≡ false
+    gone true i = absurd (let j = leb-true e.thread t i in let k = o.0 in omega (arith, h, j, k))
+    gone false i = i
+
+take_nil : (k : ℕ) → take {A = Pending} k [] ≡ []
+take_nil zero = refl
+take_nil (suc k) = refl
+
+-- a squash leaves a front
+pub front_left : (t from : ℕ) (es : List Pending) → AreOrdered from es → entries_left (Some t) es ≡ take (count_older (suc t) es) es
+front_left t from [] o = sym (take_nil (count_older (suc t) []))
+front_left t from (e ∷ es) o = at (nat_le e.thread t) refl (front_left t (e.thread + 1) es o.1)
+  where
+    at : (b : Bool) → nat_le e.thread t ≡ b → entries_left (Some t) es ≡ take (count_older (suc t) es) es
+        → cond b (e ∷ entries_left (Some t) es) (entries_left (Some t) es) ≡ take (count_older (suc t) (e ∷ es)) (e ∷ es)
+    at true i r =
+        ap (λ l. e ∷ l) r
+        ∙ ap (λ b. take (cond b (suc (count_older (suc t) es)) (count_older (suc t) es)) (e ∷ es))
+        (sym (lt-ltb e.thread (suc t) (let j = leb-true e.thread t i in omega (arith, j))))
+    at false i k =
+        let r = none_left t (e.thread + 1) es (let j = leb-false e.thread t i in omega (arith, j)) o.1 in
+        r.0
+        ∙ ap (λ k. take k (e ∷ es))
+        (sym (ap (λ b. cond b (suc (count_older (suc t) es)) (count_older (suc t) es)) (le-ltb e.thread (suc t) (let j = leb-false e.thread t i in omega (arith, j))) ∙ r.1))

@@ -1,0 +1,21 @@
+pub mod Acts
+pub mod Paths
+pub mod Clean
+pub mod Fine
+pub mod LetIn
+pub mod Begins
+pub mod OwnWrite
+pub mod Certain
+pub mod Tails
+pub mod Owns
+pub mod Cuts
+pub mod Awaits
+pub mod InUse
+pub mod InRuns
+pub mod BlockedFirst
+pub mod FromRules
+pub mod Fits
+pub mod Tried
+mod Examples
+pub mod Slotwise
+pub mod Timely

@@ -1,0 +1,4 @@
+pub mod Careful
+pub mod Use
+pub mod Cut
+pub mod Runs
