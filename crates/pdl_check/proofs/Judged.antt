@@ -1,131 +1,154 @@
--- From what the parser and the scan answer to what the check answers.
+-- From what the reader and the scan answer to what the check answers.
 use Rattle.std.specs.Prelude.{fold}
-use Rattle.std.proofs.Common.{◌≡◌, [], map, IfOk, IsTrue, refl, sym, ap, ◌∙◌, subst, ℕ, ◌++◌, false, List, Option, Some, None, Result, Ok, Err, inl, inr, if◌then◌else◌}
+use Rattle.std.proofs.Common.{◌≡◌, [], map, IfOk, IsTrue, refl, sym, ap, ◌∙◌, subst, ℕ, ◌++◌, Bool, true, false, not, cond, nat_le, nat_lt, List, length, Option, Some, None, Result, Ok, Err, inl, inr, if◌then◌else◌, arith}
+use Rattle.std.proofs.lemmas.Bool.Decides.{leb_tells}
 use Rattle.pdl_kit.specs.declared.rule.Rule.{Rule}
 use Rattle.pdl_kit.specs.declared.rule.Rule.TheVariants.{Z1, G1}
 use Rattle.pdl_model.specs.Tree.{Pipe}
-use Rattle.pdl_syntax.specs.declared.tree.Pipe as r_pipe
-use Rattle.pdl_syntax.specs.declared.tree.Mem as r_mem
-use Rattle.pdl_syntax.specs.declared.error.ParseError.{ParseError}
+use Rattle.pdl_model.specs.Flatten.{Var}
+use Rattle.pdl_tree.specs.declared.tree.Pipe as r_pipe
+use Rattle.pdl_tree.specs.declared.tree.Mem as r_mem
+use Rattle.pdl_tree.specs.View.{pipe_view, mem_view}
+use Rattle.pdl_grammar.specs.Text.{IsText, IsOutOfPlace}
+use Rattle.pdl_grammar.proofs.Places.{one_tree, apart, one_place}
 use Rattle.pdl_syntax.specs.declared.error.ParseError.TheVariants as parse_error
+use Rattle.pdl_syntax.specs.Text as text
 use Rattle.pdl_types.specs.declared.place.Place as r_place
 use Rattle.pdl_types.specs.View.{place_view}
-use Rattle.pdl_model.specs.Flatten.{Var}
 use Rattle.pdl_rules.specs.Places.{places}
 use Rattle.pdl_rules.specs.Widths.{variables, after_place}
 use Rattle.pdl_rules.specs.Typed.{AreSized, IsLegal}
+use Rattle.pdl_rules.specs.Limits.{is_too_long}
+use Rattle.pdl_rules.specs.Refusal.{Refused, refused_at, refusal, first_broken, limits, after_limits, is_in_line}
 use Rattle.pdl_rules.proofs.Legal.{legal_in_line}
 use Rattle.pdl_rules.proofs.Unbroken.{keeps_unbroken}
-use Rattle.pdl_check.specs.Scan as scan
-use Rattle.pdl_check.proofs.OnePath.{refusal-scan}
-use Rattle.pdl_check.proofs.Limited.{limit_refused}
-use Rattle.pdl_syntax.specs.Text as text
-use Rattle.pdl_limits.specs.Answers as limited
-use Rattle.pdl_syntax.specs.View.{pipe_view, mem_view}
-use Rattle.pdl_rules.specs.Limits.{is_too_long}
-use Rattle.pdl_rules.specs.Refusal.{Refused, limit_refusal, refusal, first_broken, limits, after_limits, is_in_line}
 use Rattle.pdl_check.specs.declared.accepted.Accepted.{Accepted}
-use Rattle.pdl_check.specs.declared.error.CheckError.{CheckError}
-use Rattle.pdl_check.specs.declared.error.CheckError.TheVariants as error
-use Rattle.pdl_check.specs.Answers.{Refuses, answer_of, judged, Gives, IsRefused, IsJudged, IsScanned, refusal_of}
+use Rattle.pdl_kit.specs.declared.refusal.Refusal.{Refusal}
+use Rattle.pdl_kit.specs.declared.refusal.Refusal.TheVariants as error
+use Rattle.pdl_locks.specs.Plan.{Tells}
+use Rattle.pdl_check.specs.Gate.{gated_line}
+use Rattle.pdl_check.specs.Answers.{source_refusal, Refuses, answer_of, judged, Gives, IsCause, IsRefused, IsChecked, IsRead, IsBroken, IsJudged}
 
--- THE PARSER'S ANSWERS
+-- THE LENGTH
 
-pub text_ok : (source : List ℕ) (p : Pipe) (q : r_pipe.Pipe) → text.Gives (limited.judged source p) (Ok q) → pipe_view q ≡ p
-text_ok source p q h = go (limit_refusal source p) refl
-  where
-    go : (o : Option Refused) → limit_refusal source p ≡ o → pipe_view q ≡ p
-    go None e = rw e at h
-    go (Some refused) e = absurd (rw e at h)
+over : (n : ℕ) → nat_lt 1048576 n ≡ not (nat_le n 1048576)
+over n = grind (arith, leb_tells n 1048576, leb_tells 1048577 n)
 
-pub text_limit : (source : List ℕ) (p : Pipe) (rule : Rule) (line : ℕ) → text.Gives (limited.judged source p) (Err (parse_error.Limit rule line))
-    → limit_refusal source p ≡ Some (record { rule = rule; line = line })
-text_limit source p rule line h = go (limit_refusal source p) refl
-  where
-    go : (o : Option Refused) → limit_refusal source p ≡ o → limit_refusal source p ≡ Some (record { rule = rule; line = line })
-    go None e = absurd (rw e at h)
-    go (Some refused) e = e ∙ ap (λ l. Some (record { rule = l.0; line = l.1 })) (sym (rw e at h))
+-- the limit that a length over it breaks
+abbrev limit_unless : Bool → Option (Rule × ℕ)
+limit_unless b = cond b None (Some (Z1, 1))
 
-pub text_grammar : (source : List ℕ) (p : Pipe) (line : ℕ) → text.Gives (limited.judged source p) (Err (parse_error.Grammar line)) → ⊥
-text_grammar source p line h = go (limit_refusal source p) refl
-  where
-    go : (o : Option Refused) → limit_refusal source p ≡ o → ⊥
-    go None e = rw e at h
-    go (Some refused) e = rw e at h
+short_unless : (b : Bool) → limit_unless b ≡ None → not b ≡ false
+short_unless true e = refl
+short_unless false e = absurd (cc e)
 
--- THE CHECK'S ANSWERS
+abbrev refused_by : Option (Rule × ℕ) → Option Refused
+refused_by None = None
+refused_by (Some l) = Some (record { rule = l.0; line = l.1 })
 
-short : (source : List ℕ) (p : Pipe) → is_too_long source ≡ false → refusal source p ≡ first_broken (limits ++ after_limits) p
-short source p e = ap (λ b. if b then Some (record { rule = Z1; line = 1 }) else first_broken (limits ++ after_limits) p) e
+abbrev unless_long : Bool → Option Refused → Option Refused
+unless_long b later = if b then Some (record { rule = Z1; line = 1 }) else later
 
-pub judged_gives : (source : List ℕ) (p : Pipe) (r : Result Accepted CheckError) → is_too_long source ≡ false → IsJudged p r → Gives (judged source p) r
-judged_gives source p (Ok a) e j =
-    let P : Option Refused → Type 0 = λ o. Gives (answer_of p o) (Ok a) in subst P (sym (short source p e ∙ j.1)) j.0
-judged_gives source p (Err error.NoMemory) e j = tt
-judged_gives source p (Err (error.Refused rule line)) e j =
-    let P : Option Refused → Type 0 = λ o. Gives (answer_of p o) (Err (error.Refused rule line)) in subst P (sym (short source p e ∙ j)) refl
+long_unless : (b : Bool) (rule : Rule) (line : ℕ) (later : Option Refused) → limit_unless b ≡ Some (rule, line) → unless_long (not b) later ≡ Some (record { rule = rule; line = line })
+long_unless true rule line later e = absurd (cc e)
+long_unless false rule line later e = ap refused_by e
 
-limit_gives : (source : List ℕ) (p : Pipe) (rule : Rule) (line : ℕ) → refusal source p ≡ Some (record { rule = rule; line = line })
-    → Gives (judged source p) (Err (error.Refused rule line))
-limit_gives source p rule line e = let P : Option Refused → Type 0 = λ o. Gives (answer_of p o) (Err (error.Refused rule line)) in subst P (sym e) refl
+not_too_long : (source : List ℕ) (p : Pipe) → text.broken_limit source p ≡ None → is_too_long source ≡ false
+not_too_long source p e = over (length source) ∙ short_unless (nat_le (length source) 1048576) e
 
-pub judged_refused : (source : List ℕ) (p : Pipe) (r : Result Accepted CheckError) → text.IsText source p → is_too_long source ≡ false → IsJudged p r → IsRefused source r
-judged_refused source p (Ok a) t e j = tt
-judged_refused source p (Err error.NoMemory) t e j = tt
-judged_refused source p (Err (error.Refused rule line)) t e j = inr (p, t, short source p e ∙ j)
+too_long : (source : List ℕ) (p : Pipe) (rule : Rule) (line : ℕ) → text.broken_limit source p ≡ Some (rule, line) → refusal source p ≡ Some (record { rule = rule; line = line })
+too_long source p rule line e =
+    ap (λ b. unless_long b (first_broken (limits ++ after_limits) p)) (over (length source))
+    ∙ long_unless (nat_le (length source) 1048576) rule line (first_broken (limits ++ after_limits) p) e
 
-pub judged_found : (source : List ℕ) (p : Pipe) (r : Result Accepted CheckError) → text.IsText source p → IsJudged p r → IfOk r (λ a. text.IsText source (pipe_view a.pipe))
-judged_found source p (Ok a) t j = let P : Pipe → Type 0 = λ q. text.IsText source q in subst P (sym j.0) t
-judged_found source p (Err e) t j = tt
+-- THE GATE
 
-pub judged_kept : (source : List ℕ) (p : Pipe) (r : Result Accepted CheckError) → is_too_long source ≡ false → IsJudged p r → IfOk r (λ a. refusal source (pipe_view a.pipe) ≡ None)
-judged_kept source p (Ok a) e j = let P : Pipe → Type 0 = λ q. refusal source q ≡ None in subst P (sym j.0) (short source p e ∙ j.1)
-judged_kept source p (Err f) e j = tt
+gated : (source : List ℕ) (p : Pipe) (line : ℕ) → Some line ≡ gated_line source → source_refusal source p ≡ Some (record { rule = G1; line = line })
+gated source p line e = ap (λ o. refused_at G1 o (refusal source p)) (sym e)
 
--- of each text that the source is
-pub judged_only : (source : List ℕ) (q : r_pipe.Pipe) (r : Result Accepted CheckError) → is_too_long source ≡ false → IsJudged (pipe_view q) r
-    → (p : Pipe) → text.Gives (limited.judged source p) (Ok q) → Gives (judged source p) r
-judged_only source q r e j p g =
-    let P : Pipe → Type 0 = λ s. IsJudged s r in
-    judged_gives source p r e (subst P (text_ok source p q g) j)
+ungated : (source : List ℕ) (p : Pipe) → None ≡ gated_line source → source_refusal source p ≡ refusal source p
+ungated source p e = ap (λ o. refused_at G1 o (refusal source p)) (sym e)
 
--- WHAT THE PARSER DOESN'T TAKE
+neither : (o : Option ℕ) (later : Option Refused) → refused_at G1 o later ≡ None → (o ≡ None) × (later ≡ None)
+neither None later e = (refl, e)
+neither (Some line) later e = absurd (cc e)
 
-pub refused_only : (source : List ℕ) (f : ParseError) (p : Pipe) → text.Gives (limited.judged source p) (Err f) → Gives (judged source p) (Err (refusal_of f))
-refused_only source (parse_error.Grammar line) p g = absurd (text_grammar source p line g)
-refused_only source (parse_error.Limit rule line) p g =
-    limit_gives source p rule line (limit_refused source p (record { rule = rule; line = line }) (text_limit source p rule line g))
-refused_only source parse_error.NoMemory p g = tt
+-- THE READER'S ANSWERS
 
-pub refused_exact : (f : ParseError) (line : ℕ) → text.Gives (text.Misplaced line) (Err f) → Gives (Refuses (record { rule = G1; line = line })) (Err (refusal_of f))
-refused_exact (parse_error.Grammar n) line g = ap (λ k. record { rule = G1; line = k }) (sym g)
-refused_exact (parse_error.Limit rule n) line g = absurd g
-refused_exact parse_error.NoMemory line g = tt
+pub read_pipe : (source : List ℕ) (p : r_pipe.Pipe) → IsText source (pipe_view p) → text.broken_limit source (pipe_view p) ≡ None → None ≡ gated_line source → IsRead source (Ok p)
+read_pipe source p t w e = (t, sym e, not_too_long source (pipe_view p) w)
 
-pub refused_why : (source : List ℕ) (f : ParseError) → limited.IsRefused source (Err f) → IsRefused source (Err (refusal_of f))
-refused_why source (parse_error.Grammar line) h = inl (refl, h)
-refused_why source (parse_error.Limit rule line) h = inr (h.0, h.1, limit_refused source h.0 (record { rule = rule; line = line }) h.2)
-refused_why source parse_error.NoMemory h = tt
+pub read_gated : (source : List ℕ) (p : Pipe) (line : ℕ) → IsText source p → Some line ≡ gated_line source → IsCause source (error.Refused G1 line)
+read_gated source p line t e = inr (p, t, gated source p line e)
 
--- THE SCAN
+pub read_misplaced : (source : List ℕ) (line : ℕ) → IsOutOfPlace source line → IsCause source (error.Refused G1 line)
+read_misplaced source line h = inl (refl, h)
 
-pub scanned_names : (q : r_pipe.Pipe) (ms : List r_mem.Mem) (ps qs : List r_place.Place) (vs : List Var) → ms ≡ q.mems → qs ≡ ps → map place_view ps ≡ places (pipe_view q)
+pub read_long : (source : List ℕ) (rule : Rule) (line : ℕ) → text.IsRefusal source (parse_error.Limit rule line) → None ≡ gated_line source → IsCause source (error.Refused rule line)
+read_long source rule line h e = inr (h.0, h.1, ungated source h.0 e ∙ too_long source h.0 rule line h.2)
+
+pub read_long_gated : (source : List ℕ) (rule : Rule) (n line : ℕ) → text.IsRefusal source (parse_error.Limit rule n) → Some line ≡ gated_line source → IsCause source (error.Refused G1 line)
+read_long_gated source rule n line h e = read_gated source h.0 line h.1 e
+
+-- WHAT IS CHECKED
+
+short : (source : List ℕ) (p : Pipe) → gated_line source ≡ None → is_too_long source ≡ false → source_refusal source p ≡ first_broken (limits ++ after_limits) p
+short source p g e = ungated source p (sym g) ∙ ap (λ b. unless_long b (first_broken (limits ++ after_limits) p)) e
+
+pub judged_checked : (source : List ℕ) (p : Pipe) (r : Result Accepted Refusal) → IsText source p → gated_line source ≡ None → is_too_long source ≡ false → IsJudged p r → IsChecked source r
+judged_checked source p (Ok a) t g e j =
+    let P : Pipe → Type 0 = λ q. IsText source q × (source_refusal source q ≡ None) in
+    subst P (sym j.0) (t, short source p g e ∙ j.1)
+judged_checked source p (Err error.NoMemory) t g e j = tt
+judged_checked source p (Err (error.Refused rule line)) t g e j = inr (p, t, short source p g e ∙ j)
+
+pub checked_found : (source : List ℕ) (r : Result Accepted Refusal) → IsChecked source r → IfOk r (λ a. IsText source (pipe_view a.pipe))
+checked_found source (Ok a) h = h.0
+checked_found source (Err e) h = tt
+
+pub checked_passed : (source : List ℕ) (r : Result Accepted Refusal) → IsChecked source r → IfOk r (λ _. gated_line source ≡ None)
+checked_passed source (Ok a) h = (neither _ _ h.1).0
+checked_passed source (Err e) h = tt
+
+pub checked_kept : (source : List ℕ) (r : Result Accepted Refusal) → IsChecked source r → IfOk r (λ a. refusal source (pipe_view a.pipe) ≡ None)
+checked_kept source (Ok a) h = (neither _ _ h.1).1
+checked_kept source (Err e) h = tt
+
+gives_refusal : (source : List ℕ) (p : Pipe) (rule : Rule) (line : ℕ) → source_refusal source p ≡ Some (record { rule = rule; line = line }) → Gives (judged source p) (Err (error.Refused rule line))
+gives_refusal source p rule line e = let P : Option Refused → Type 0 = λ o. Gives (answer_of p o) (Err (error.Refused rule line)) in subst P (sym e) refl
+
+gives_pipe : (source : List ℕ) (p : Pipe) (a : Accepted) → source_refusal source p ≡ None → pipe_view a.pipe ≡ p → Gives (judged source p) (Ok a)
+gives_pipe source p a e same = let P : Option Refused → Type 0 = λ o. Gives (answer_of p o) (Ok a) in subst P (sym e) same
+
+pub checked_only : (source : List ℕ) (r : Result Accepted Refusal) (p : Pipe) → IsChecked source r → IsText source p → Gives (judged source p) r
+checked_only source (Ok a) p h t =
+    let same : pipe_view a.pipe ≡ p = one_tree source (pipe_view a.pipe) p h.0 t in
+    gives_pipe source p a (subst (λ q. source_refusal source q ≡ None) same h.1) same
+checked_only source (Err error.NoMemory) p h t = tt
+checked_only source (Err (error.Refused rule line)) p (inl h) t = absurd (apart source p line t h.1)
+checked_only source (Err (error.Refused rule line)) p (inr h) t =
+    let P : Pipe → Type 0 = λ q. source_refusal source q ≡ Some (record { rule = rule; line = line }) in
+    gives_refusal source p rule line (subst P (one_tree source h.0 p h.1 t) h.2)
+
+pub checked_exact : (source : List ℕ) (r : Result Accepted Refusal) (line : ℕ) → IsChecked source r → IsOutOfPlace source line → Gives (Refuses (record { rule = G1; line = line })) r
+checked_exact source (Ok a) line h k = absurd (apart source (pipe_view a.pipe) line h.0 k)
+checked_exact source (Err error.NoMemory) line h k = tt
+checked_exact source (Err (error.Refused rule n)) line (inl h) k = let same : n ≡ line = one_place source n line h.1 k in let is : rule ≡ G1 = h.0 in cc
+checked_exact source (Err (error.Refused rule n)) line (inr h) k = absurd (apart source h.0 line h.1 k)
+
+pub checked_refused : (source : List ℕ) (r : Result Accepted Refusal) → IsChecked source r → IsRefused source r
+checked_refused source (Ok a) h = tt
+checked_refused source (Err e) h = h
+
+-- WHAT IS TOLD OF A PIPE THAT KEEPS THE RULES
+
+pub named_variables : (q : r_pipe.Pipe) (ms : List r_mem.Mem) (ps qs : List r_place.Place) (vs : List Var) → ms ≡ q.mems → qs ≡ ps → map place_view ps ≡ places (pipe_view q)
     → vs ≡ fold (after_place (map mem_view ms)) [] (map place_view qs) → vs ≡ variables (pipe_view q)
-scanned_names q ms ps qs vs e f g h =
+named_variables q ms ps qs vs e f g h =
     h
     ∙ ap (λ xs. fold (after_place (map mem_view xs)) [] (map place_view qs)) e
     ∙ ap (λ xs. fold (after_place (map mem_view q.mems)) [] (map place_view xs)) f
     ∙ ap (λ xs. fold (after_place (map mem_view q.mems)) [] xs) g
-
-pub scanned_refusal : (q : r_pipe.Pipe) (ps qs : List r_place.Place) (vs : List Var) (o : Option Refused) → IsTrue (is_in_line (pipe_view q)) → first_broken limits (pipe_view q) ≡ None
-    → vs ≡ variables (pipe_view q) → qs ≡ ps → map place_view ps ≡ places (pipe_view q)
-    → o ≡ scan.first_broken scan.order (pipe_view q) vs (map place_view qs) → first_broken (limits ++ after_limits) (pipe_view q) ≡ o
-scanned_refusal q ps qs vs o in_line within named f g h =
-    refusal-scan (pipe_view q) vs (map place_view qs) in_line within named (ap (map place_view) f ∙ g) ∙ sym h
-
-pub judged_error : (p : Pipe) (f : CheckError) → IsScanned p (Err f) → IsJudged p (Err f)
-judged_error p error.NoMemory h = tt
-judged_error p (error.Refused rule line) h = h
 
 pub sized_memories : (q : r_pipe.Pipe) (ms : List r_mem.Mem) → ms ≡ q.mems → IsTrue (is_in_line (pipe_view q)) → first_broken (limits ++ after_limits) (pipe_view q) ≡ None
     → AreSized (map mem_view ms)
@@ -133,3 +156,8 @@ sized_memories q ms e in_line none =
     let all : IsLegal (pipe_view q) = legal_in_line (pipe_view q) in_line (keeps_unbroken (pipe_view q) none) in
     let P : List r_mem.Mem → Type 0 = λ xs. AreSized (map mem_view xs) in
     subst P (sym e) all.sized
+
+-- the refusal of the rules is that of the pipe
+pub judged_error : (p : Pipe) (e : Refusal) → Tells (limits ++ after_limits) p e → IsBroken p e
+judged_error p (error.Refused rule line) h = h
+judged_error p error.NoMemory h = tt

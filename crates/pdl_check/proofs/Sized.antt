@@ -2,8 +2,8 @@
 use Rattle.std.proofs.Common.{◌≡◌, ℕ, zero, suc, ◌^◌, ◌<◌, ◌≤◌, List, [], ◌∷◌, map, length, get_or, sym, subst, arith}
 use Rattle.std.proofs.Math.Pow.{pow_mono}
 use Rattle.pdl_model.specs.Tree.{Mem}
-use Rattle.pdl_syntax.specs.declared.tree.Mem as r_mem
-use Rattle.pdl_syntax.specs.View.{mem_view}
+use Rattle.pdl_tree.specs.declared.tree.Mem as r_mem
+use Rattle.pdl_tree.specs.View.{mem_view}
 use Rattle.pdl_rules.specs.Typed.{IsSized, AreSized}
 
 pub sized_here : (xs : List r_mem.Mem) (i : ℕ) (x : r_mem.Mem) → AreSized (map mem_view xs) → i < length xs → x ≡ get_or xs i x → IsSized (mem_view x)

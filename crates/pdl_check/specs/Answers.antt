@@ -1,17 +1,20 @@
 -- What may be answered to a source.
-use Rattle.std.specs.Prelude.{◌≡◌, ℕ, ◌⊎◌, ◌++◌, List, Option, Some, None, Result, Ok, Err}
+use Rattle.std.specs.Prelude.{◌≡◌, ℕ, false, ◌⊎◌, ◌++◌, List, Option, Some, None, Result, Ok, Err}
 use Rattle.pdl_kit.specs.declared.rule.Rule.TheVariants.{G1}
 use Rattle.pdl_model.specs.Tree.{Pipe}
-use Rattle.pdl_syntax.specs.Text.{IsText, IsOutOfPlace}
-use Rattle.pdl_syntax.specs.View.{pipe_view}
-use Rattle.pdl_model.specs.Flatten.{Var}
-use Rattle.pdl_rules.specs.Widths.{variables}
-use Rattle.pdl_rules.specs.Refusal.{Refused, refusal, limits, after_limits, first_broken}
-use Rattle.pdl_syntax.specs.declared.error.ParseError.{ParseError}
-use Rattle.pdl_syntax.specs.declared.error.ParseError.TheVariants as parse_error
+use Rattle.pdl_tree.specs.declared.tree.Pipe as r
+use Rattle.pdl_tree.specs.View.{pipe_view}
+use Rattle.pdl_grammar.specs.Text.{IsText, IsOutOfPlace}
+use Rattle.pdl_rules.specs.Limits.{is_too_long}
+use Rattle.pdl_rules.specs.Refusal.{Refused, refused_at, refusal, limits, after_limits, first_broken}
+use Rattle.pdl_check.specs.Gate.{gated_line}
 use Rattle.pdl_check.specs.declared.accepted.Accepted.{Accepted}
-use Rattle.pdl_check.specs.declared.error.CheckError.{CheckError}
-use Rattle.pdl_check.specs.declared.error.CheckError.TheVariants as error
+use Rattle.pdl_kit.specs.declared.refusal.Refusal.{Refusal}
+use Rattle.pdl_kit.specs.declared.refusal.Refusal.TheVariants as error
+
+-- the refusal of the text of a pipe: at its first form that isn't compiled yet (G1), or else by the rules
+abbrev pub source_refusal : List ℕ → Pipe → Option Refused
+source_refusal source p = refused_at G1 (gated_line source) (refusal source p)
 
 -- the pipe is accepted, or a rule is broken
 pub data Answer : Type 0 where
@@ -24,37 +27,43 @@ answer_of p (Some r) = Refuses r
 
 -- the answer to the text of a pipe
 abbrev pub judged : List ℕ → Pipe → Answer
-judged source p = answer_of p (refusal source p)
+judged source p = answer_of p (source_refusal source p)
 
 -- a result is the answer, or memory ran out
-abbrev pub Gives : Answer → Result Accepted CheckError → Type 0
+abbrev pub Gives : Answer → Result Accepted Refusal → Type 0
 Gives a (Err error.NoMemory) = Unit {0}
 Gives (Accepts p) (Ok a) = pipe_view a.pipe ≡ p
 Gives (Refuses r) (Err (error.Refused rule line)) = r ≡ record { rule = rule; line = line }
 Gives a result = ⊥
 
--- why a result is a refusal
-abbrev pub IsRefused : List ℕ → Result Accepted CheckError → Type 0
-IsRefused source (Ok a) = Unit {0}
-IsRefused source (Err error.NoMemory) = Unit {0}
-IsRefused source (Err (error.Refused rule line)) =
+-- why a source is refused, unless memory ran out: a token out of place, or a form or a rule in the text of a pipe
+abbrev pub IsCause : List ℕ → Refusal → Type 0
+IsCause source error.NoMemory = Unit {0}
+IsCause source (error.Refused rule line) =
     ((rule ≡ G1) × IsOutOfPlace source line)
-    ⊎ ((p : Pipe) × IsText source p × (refusal source p ≡ Some (record { rule = rule; line = line })))
+    ⊎ ((p : Pipe) × IsText source p × (source_refusal source p ≡ Some (record { rule = rule; line = line })))
 
--- a result is the pipe where it breaks no rule, or the lowest rule that it breaks at its lowest place
-abbrev pub IsJudged : Pipe → Result Accepted CheckError → Type 0
+-- why a result is a refusal
+abbrev pub IsRefused : List ℕ → Result Accepted Refusal → Type 0
+IsRefused source (Ok a) = Unit {0}
+IsRefused source (Err e) = IsCause source e
+
+-- a result is the pipe of the text where nothing refuses it, or the cause of its refusal
+abbrev pub IsChecked : List ℕ → Result Accepted Refusal → Type 0
+IsChecked source (Ok a) = IsText source (pipe_view a.pipe) × (source_refusal source (pipe_view a.pipe) ≡ None)
+IsChecked source (Err e) = IsCause source e
+
+-- the pipe of a text that isn't too long and passes the gate, or the cause of its refusal
+abbrev pub IsRead : List ℕ → Result r.Pipe Refusal → Type 0
+IsRead source (Ok p) = IsText source (pipe_view p) × (gated_line source ≡ None) × (is_too_long source ≡ false)
+IsRead source (Err e) = IsCause source e
+
+-- an error is the lowest rule of the tree that the pipe breaks, at its lowest place
+abbrev pub IsBroken : Pipe → Refusal → Type 0
+IsBroken p error.NoMemory = Unit {0}
+IsBroken p (error.Refused rule line) = first_broken (limits ++ after_limits) p ≡ Some (record { rule = rule; line = line })
+
+-- a result is the pipe where it breaks no rule, or the lowest rule that it breaks
+abbrev pub IsJudged : Pipe → Result Accepted Refusal → Type 0
 IsJudged p (Ok a) = (pipe_view a.pipe ≡ p) × (first_broken (limits ++ after_limits) p ≡ None)
-IsJudged p (Err error.NoMemory) = Unit {0}
-IsJudged p (Err (error.Refused rule line)) = first_broken (limits ++ after_limits) p ≡ Some (record { rule = rule; line = line })
-
--- the variables of the pipe where it breaks no rule, or the lowest rule that it breaks at its lowest place
-abbrev pub IsScanned : Pipe → Result (List Var) CheckError → Type 0
-IsScanned p (Ok vs) = (vs ≡ variables p) × (first_broken (limits ++ after_limits) p ≡ None)
-IsScanned p (Err error.NoMemory) = Unit {0}
-IsScanned p (Err (error.Refused rule line)) = first_broken (limits ++ after_limits) p ≡ Some (record { rule = rule; line = line })
-
--- the parser's refusal as the check's
-abbrev pub refusal_of : ParseError → CheckError
-refusal_of (parse_error.Grammar line) = error.Refused G1 line
-refusal_of (parse_error.Limit rule line) = error.Refused rule line
-refusal_of parse_error.NoMemory = error.NoMemory
+IsJudged p (Err e) = IsBroken p e

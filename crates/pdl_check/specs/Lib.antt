@@ -1,4 +1,4 @@
-pub mod Scan
 pub mod Memories
+pub mod Gate
 pub mod Answers
 pub mod Queues

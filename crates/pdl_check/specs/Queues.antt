@@ -1,4 +1,4 @@
--- Locks of the kinds that sources can name: queues.
+-- Locks of the kind that pipes which pass the gate have: queues.
 use Rattle.std.specs.Prelude.{Bool, true, false, List, Option, Some, None}
 use Rattle.std.specs.List.{list_all}
 use Rattle.pdl_model.specs.Tree.{LockKind, Queue, LockDecl, Mem}

@@ -3,13 +3,14 @@
 
 pub mod accepted;
 pub mod check;
-pub mod error;
+mod gate;
 mod infos;
 #[cfg(test)]
+mod long_tests;
+mod read;
+#[cfg(test)]
 mod rows;
-mod scan;
 #[cfg(test)]
 mod tests;
 
 pub use accepted::Accepted;
-pub use error::CheckError;

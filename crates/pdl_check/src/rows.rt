@@ -279,6 +279,51 @@ pub const STAGES: [Row; 25] = [
     (b"---\n;\ncall(n, k);\n", Some((Rule::G1, 4))),
 ];
 
+/// Statements, some of a form that isn't compiled yet: the first of these in text order, before any rule.
+pub const GATED: [Row; 17] = [
+    (
+        b"if (n == 4'd0) { x = n; }\ncall(n, k);\n",
+        Some((Rule::G1, 3)),
+    ),
+    (
+        b"x = n;\nif (n == 4'd0) {\n---\n} else { y = n; }\n---\ncall(n, k);\n",
+        Some((Rule::G1, 4)),
+    ),
+    (b"x\n<- r[k];\n---\ncall(n, k);\n", Some((Rule::G1, 4))),
+    (b"s =\nspec_call(n, k);\n", Some((Rule::G1, 4))),
+    (b"call(n, k);\nverify(s, n, k);\n", Some((Rule::G1, 4))),
+    (b"x = n;\nspec_check();\n", Some((Rule::G1, 4))),
+    (b"x = n;\nspec_barrier();\n", Some((Rule::G1, 4))),
+    (
+        b"x = n;\nspec_check();\nif (n == 4'd0) {\nspec_barrier();\n}\n",
+        Some((Rule::G1, 4)),
+    ),
+    (b"if (n == 4'd0) { }\nx = ;\n", Some((Rule::G1, 4))),
+    (b"x = 65'd0;\nspec_check();\n", Some((Rule::G1, 4))),
+    (b"x = z;\nspec_check();\n", Some((Rule::G1, 4))),
+    (b"x = n;\n// if (n) { }\ncall(n, k);\n", None),
+    (
+        b"x = n == 4'd0 ? ~n * n - n : sext(n[1:0], 4);\ncall(x, k);\n",
+        None,
+    ),
+    (
+        b"x = lts(n, n) | n < n & n != n ^ 1'd1;\ny = cat(n, n) >> 8'd1 << 8'd2;\ncall(n, k);\n",
+        None,
+    ),
+    (
+        b"x = n;\ny = n ? n : x;\ncall(n, k);\n",
+        Some((Rule::W3, 4)),
+    ),
+    (
+        b"x = n;\ny = lts(n, k);\ncall(n, k);\n",
+        Some((Rule::W1, 4)),
+    ),
+    (
+        b"x = n;\ny = sext(n, 3);\ncall(n, k);\n",
+        Some((Rule::W2, 4)),
+    ),
+];
+
 /// Two broken rules, of one letter or of two: the lower one, wherever its place stands.
 pub const TWO_RULES: [Row; 7] = [
     (
@@ -303,7 +348,23 @@ pub const TWO_RULES: [Row; 7] = [
 ];
 
 /// Whole sources: what stands before the statements and after them.
-pub const WHOLE: [Row; 14] = [
+pub const WHOLE: [Row; 18] = [
+    (
+        b"pipe p(n: uint<1>)\n[m: uint<1>[2]\ndelayed lock\nqueue(1)] { call(n); }\nstart p(1'd0);",
+        Some((Rule::G1, 3)),
+    ),
+    (
+        b"pipe p(n: uint<1>)\n[m: uint<65>[2] comb lock\nbypass(1)] { call(n); }\nstart p(1'd0);",
+        Some((Rule::G1, 3)),
+    ),
+    (
+        b"pipe p(n: uint<1>)\n[m: uint<1>[2] comb lock\nrename(1)] {\nif (n) { } call(n); }\nstart p(1'd0);",
+        Some((Rule::G1, 3)),
+    ),
+    (
+        b"pipe p(n: uint<1>)\n[m: uint<1>[2]\ndelayed] { call(n); }\nstart p(n);",
+        Some((Rule::G1, 4)),
+    ),
     (
         b"pipe p(n: uint<64>)\n[m: uint<64>[65536] comb lock queue(16), r: uint<1>[2] comb]\n{ x = 64'd0; call(n); }\nstart p(64'd18446744073709551615);",
         None,

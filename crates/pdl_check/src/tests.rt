@@ -1,7 +1,6 @@
-use crate::CheckError;
 use crate::check::check;
-use crate::rows::{LOCKS, NAMES, RESERVATIONS, STAGES, TWO_RULES, WHOLE, WIDTHS};
-use pdl_kit::{Name, Rule};
+use crate::rows::{GATED, LOCKS, NAMES, RESERVATIONS, STAGES, TWO_RULES, WHOLE, WIDTHS};
+use pdl_kit::{Name, Refusal, Rule};
 use std::alloc::{AllocError, Global};
 use std::test::Fail;
 
@@ -12,8 +11,8 @@ fn refusal(alloc: Global, source: &[u8]) -> Option<(Rule, u32)> {
     }
     match check(alloc, source) {
         Ok(_) => None,
-        Err(CheckError::Refused { rule, line }) => Some((rule, line)),
-        Err(CheckError::NoMemory) => Some((Rule::Z1, 0)),
+        Err(Refusal::Refused { rule, line }) => Some((rule, line)),
+        Err(Refusal::NoMemory) => Some((Rule::Z1, 0)),
     }
 }
 
@@ -94,6 +93,7 @@ fn statements(rt: HostRuntime) -> Result<(), Fail> {
         &RESERVATIONS[..],
         &STAGES[..],
         &TWO_RULES[..],
+        &GATED[..],
     ] {
         for (body, answer) in rows {
             let source = with_body(alloc, body)?;

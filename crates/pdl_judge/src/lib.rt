@@ -1,0 +1,8 @@
+//! All rules of the language asked of the tree of a pipe: the lowest that it breaks, at its lowest place, or the stages of its locks and of its verifies.
+#![tactic(auto)]
+
+pub mod order;
+#[cfg(test)]
+mod tests;
+
+pub use order::{Plans, judge};

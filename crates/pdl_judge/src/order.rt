@@ -1,0 +1,219 @@
+// The rules of the tree in their order.
+ghost use Rattle.std.specs.Prelude.{◌≡◌, ◌≤◌, ◌++◌, None, IfOk, map, length, option_map};
+ghost use Rattle.pdl_kit.specs.declared.refusal.Refusal.{Refusal as told};
+ghost use Rattle.pdl_model.specs.Tree as tree;
+ghost use Rattle.pdl_tree.specs.View.{pipe_view};
+ghost use Rattle.pdl_rules.specs.Places.{places as spec_places, guards as spec_guards};
+ghost use Rattle.pdl_rules.specs.Refusal.{Refused, first_broken, limits, after_limits};
+ghost use Rattle.pdl_rules.specs.Speculation.{verify_stage};
+ghost use Rattle.pdl_paths.specs.Actions.{place_view};
+ghost use Rattle.pdl_paths.specs.Masks.{AreMasked};
+ghost use Rattle.pdl_names.specs.Order.{name_rules};
+ghost use Rattle.pdl_widths.specs.Order.{width_rules};
+ghost use Rattle.pdl_locks.specs.Plan.{plan_of};
+ghost use Rattle.pdl_spec.specs.Plan.{spec_rules};
+ghost use Rattle.pdl_judge.specs.Told.{Answers, fork_rules, after_names, after_widths, after_forks};
+
+use pdl_bounds::check_limits;
+use pdl_forkrules::forks_broken;
+use pdl_kit::{NoMemory, Refusal, Rule};
+use pdl_locks::{LockPlan, check_locks};
+use pdl_names::check_names;
+use pdl_paths::{Guards, Place, guards_of, places};
+use pdl_spec::{SpecPlan, check_spec};
+use pdl_tree::Pipe;
+use pdl_widths::check_widths;
+use std::alloc::Global;
+
+/// What a pipe that keeps all rules is planned by: for each memory the stages of its reserves and releases, and the stage of the verifies.
+#[derive(Drop)]
+pub struct Plans {
+    pub locks: LockPlan,
+    pub spec: SpecPlan,
+}
+
+/// Asks a pipe all rules of the tree, Z2 to S5: the lowest that it breaks, at its lowest place, or the plans.
+pub fn judge(alloc: Global, pipe: &Pipe) -> Result<Plans, Refusal>
+    ensures answers { Answers (limits ++ after_limits) (pipe_view pipe.now) result }
+    ensures locks { IfOk result (λ plans. plans.locks ≡ plan_of (pipe_view pipe.now)) }
+    ensures spec { IfOk result (λ plans. plans.spec ≡ verify_stage (pipe_view pipe.now)) }
+{
+    match bounded(alloc, pipe) {
+        Ok(()) => within(alloc, pipe),
+        Err(refusal) => Err(refusal),
+    }
+}
+
+// Asks the limits. They are asked of places that know no guards, since a pipe may have any number of them.
+fn bounded(alloc: Global, pipe: &Pipe) -> Result<(), Refusal>
+    ensures { Answers limits (pipe_view pipe.now) result }
+{
+    let none = Guards::new(alloc);
+    let places = places(alloc, pipe, &none)?;
+    match check_limits(alloc, places.as_slice())? {
+        Some(broken) => Err(refused(broken.rule, broken.line)),
+        None => Ok(()),
+    }
+}
+
+// Asks a pipe that keeps the limits the other rules.
+fn within(alloc: Global, pipe: &Pipe) -> Result<Plans, Refusal>
+    requires { first_broken limits (pipe_view pipe.now) ≡ None }
+    ensures answers { Answers after_limits (pipe_view pipe.now) result }
+    ensures locks { IfOk result (λ plans. plans.locks ≡ plan_of (pipe_view pipe.now)) }
+    ensures spec { IfOk result (λ plans. plans.spec ≡ verify_stage (pipe_view pipe.now)) }
+{
+    let guards = guards_of(alloc, pipe)?;
+    let places = places(alloc, pipe, &guards)?;
+    from_names(alloc, pipe, &guards, places.as_slice())
+}
+
+// Asks the rules on names and those behind them.
+fn from_names(
+    alloc: Global,
+    pipe: &Pipe,
+    guards: &Guards,
+    places: &[Place<'_>],
+) -> Result<Plans, Refusal>
+    requires few { length guards.now ≤ 10 }
+    requires own { guards.now ≡ spec_guards (map place_view places.now) }
+    requires masks { AreMasked guards.now places.now }
+    requires of { map place_view places.now ≡ spec_places (pipe_view pipe.now) }
+    ensures answers { Answers after_limits (pipe_view pipe.now) result }
+    ensures locks { IfOk result (λ plans. plans.locks ≡ plan_of (pipe_view pipe.now)) }
+    ensures spec { IfOk result (λ plans. plans.spec ≡ verify_stage (pipe_view pipe.now)) }
+{
+    match named(alloc, pipe, guards, places) {
+        Ok(()) => from_widths(alloc, pipe, guards, places),
+        Err(refusal) => Err(refusal),
+    }
+}
+
+// Asks the rules on widths and those behind them.
+fn from_widths(
+    alloc: Global,
+    pipe: &Pipe,
+    guards: &Guards,
+    places: &[Place<'_>],
+) -> Result<Plans, Refusal>
+    requires few { length guards.now ≤ 10 }
+    requires own { guards.now ≡ spec_guards (map place_view places.now) }
+    requires masks { AreMasked guards.now places.now }
+    requires of { map place_view places.now ≡ spec_places (pipe_view pipe.now) }
+    ensures answers { Answers after_names (pipe_view pipe.now) result }
+    ensures locks { IfOk result (λ plans. plans.locks ≡ plan_of (pipe_view pipe.now)) }
+    ensures spec { IfOk result (λ plans. plans.spec ≡ verify_stage (pipe_view pipe.now)) }
+{
+    match fitted(alloc, pipe, places) {
+        Ok(()) => from_forks(alloc, pipe, guards, places),
+        Err(refusal) => Err(refusal),
+    }
+}
+
+// Asks the rules on forks and those behind them.
+fn from_forks(
+    alloc: Global,
+    pipe: &Pipe,
+    guards: &Guards,
+    places: &[Place<'_>],
+) -> Result<Plans, Refusal>
+    requires few { length guards.now ≤ 10 }
+    requires own { guards.now ≡ spec_guards (map place_view places.now) }
+    requires masks { AreMasked guards.now places.now }
+    requires of { map place_view places.now ≡ spec_places (pipe_view pipe.now) }
+    ensures answers { Answers after_widths (pipe_view pipe.now) result }
+    ensures locks { IfOk result (λ plans. plans.locks ≡ plan_of (pipe_view pipe.now)) }
+    ensures spec { IfOk result (λ plans. plans.spec ≡ verify_stage (pipe_view pipe.now)) }
+{
+    match forked(pipe, places) {
+        Ok(()) => from_locks(alloc, pipe, guards, places),
+        Err(refusal) => Err(refusal),
+    }
+}
+
+// Asks the rules on locks and those behind them.
+fn from_locks(
+    alloc: Global,
+    pipe: &Pipe,
+    guards: &Guards,
+    places: &[Place<'_>],
+) -> Result<Plans, Refusal>
+    requires few { length guards.now ≤ 10 }
+    requires own { guards.now ≡ spec_guards (map place_view places.now) }
+    requires masks { AreMasked guards.now places.now }
+    requires of { map place_view places.now ≡ spec_places (pipe_view pipe.now) }
+    ensures answers { Answers after_forks (pipe_view pipe.now) result }
+    ensures locks { IfOk result (λ plans. plans.locks ≡ plan_of (pipe_view pipe.now)) }
+    ensures spec { IfOk result (λ plans. plans.spec ≡ verify_stage (pipe_view pipe.now)) }
+{
+    match check_locks(alloc, pipe, guards, places) {
+        Ok(locks) => from_calls(alloc, pipe, guards, places, locks),
+        Err(refusal) => Err(refusal),
+    }
+}
+
+// Asks the rules on calls and guesses of a pipe whose locks are planned so.
+fn from_calls(
+    alloc: Global,
+    pipe: &Pipe,
+    guards: &Guards,
+    places: &[Place<'_>],
+    locks: LockPlan,
+) -> Result<Plans, Refusal>
+    requires few { length guards.now ≤ 10 }
+    requires own { guards.now ≡ spec_guards (map place_view places.now) }
+    requires masks { AreMasked guards.now places.now }
+    requires of { map place_view places.now ≡ spec_places (pipe_view pipe.now) }
+    requires locks { locks ≡ plan_of (pipe_view pipe.now) }
+    ensures answers { Answers spec_rules (pipe_view pipe.now) result }
+    ensures locks { IfOk result (λ plans. plans.locks ≡ plan_of (pipe_view pipe.now)) }
+    ensures spec { IfOk result (λ plans. plans.spec ≡ verify_stage (pipe_view pipe.now)) }
+{
+    match check_spec(alloc, pipe, guards, places) {
+        Ok(spec) => Ok(Plans { locks, spec }),
+        Err(refusal) => Err(refusal),
+    }
+}
+
+// Asks the rules on names.
+fn named(alloc: Global, pipe: &Pipe, guards: &Guards, places: &[Place<'_>]) -> Result<(), Refusal>
+    requires few { length guards.now ≤ 10 }
+    requires own { guards.now ≡ spec_guards (map place_view places.now) }
+    requires masks { AreMasked guards.now places.now }
+    requires of { map place_view places.now ≡ spec_places (pipe_view pipe.now) }
+    ensures { Answers name_rules (pipe_view pipe.now) result }
+{
+    match check_names(alloc, pipe, guards, places)? {
+        Some(broken) => Err(refused(broken.rule, broken.line)),
+        None => Ok(()),
+    }
+}
+
+// Asks the rules on widths.
+fn fitted(alloc: Global, pipe: &Pipe, places: &[Place<'_>]) -> Result<(), Refusal>
+    requires { map place_view places.now ≡ spec_places (pipe_view pipe.now) }
+    ensures { Answers width_rules (pipe_view pipe.now) result }
+{
+    match check_widths(alloc, pipe, places)? {
+        Some(broken) => Err(refused(broken.rule, broken.line)),
+        None => Ok(()),
+    }
+}
+
+// Asks the rules on forks.
+fn forked(pipe: &Pipe, places: &[Place<'_>]) -> Result<(), Refusal>
+    requires { map place_view places.now ≡ spec_places (pipe_view pipe.now) }
+    ensures { Answers fork_rules (pipe_view pipe.now) result }
+{
+    match forks_broken(pipe, places) {
+        Some(broken) => Err(refused(broken.rule, broken.line)),
+        None => Ok(()),
+    }
+}
+
+// The refusal by a rule at a line.
+fn refused(rule: Rule, line: u32) -> Refusal
+    ensures { result ≡ told.Refused rule line }
+{
+    Refusal::Refused { rule, line }
+}

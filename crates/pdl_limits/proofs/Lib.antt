@@ -1,3 +1,0 @@
-pub mod InLine
-pub mod OnePath
-pub mod Judged

@@ -1,8 +1,0 @@
-use Rattle.std.proofs.Common.{◌≡◌, map, drop}
-use Rattle.pdl_syntax.specs.View.{mem_view}
-use Rattle.pdl_rules.specs.Locks.{is_locked}
-use Rattle.pdl_lockrules.proofs.locks.is_locked.Given as goal
-
--- those so far give nothing
-abbrev pub invariant-loop-mem : goal.invariant-loop-mem
-invariant-loop-mem l = is_locked (map mem_view (drop l.mem-index l.mems)) l.name ≡ is_locked (map mem_view l.mems) l.name
