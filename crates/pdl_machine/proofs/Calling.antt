@@ -6,8 +6,8 @@ use Rattle.pdl_model.specs.Tree.{Expr, Param, Stmt, Pipe}
 use Rattle.pdl_model.specs.Flat.{value_of, values_of}
 use Rattle.pdl_model.specs.Flatten.{Var, flat_expr, flat_exprs}
 use Rattle.pdl_model.specs.Machine.{Pending}
-use Rattle.pdl_syntax.specs.declared.tree.Stmt as r_stmt
-use Rattle.pdl_syntax.specs.View.{stmt_view}
+use Rattle.pdl_tree.specs.declared.tree.Stmt as r_stmt
+use Rattle.pdl_tree.specs.View.{stmt_view}
 use Rattle.pdl_rules.specs.Typed.{IsTyped, AreArguments}
 use Rattle.pdl_machine.specs.Values.{Fit}
 use Rattle.pdl_machine.specs.Stage.{AreRunnable}

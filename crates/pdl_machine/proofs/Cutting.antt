@@ -2,8 +2,8 @@
 use Rattle.std.proofs.Common.{◌≡◌, refl, sym, ap, ap₂, ◌∙◌, ℕ, ◌+◌, ◌-◌, ◌<◌, ◌≤◌, true, false, List, [], ◌∷◌, ◌++◌, map, take, drop, length, get_or, slice_range, append_assoc, arith}
 use denote.Bor.{Bor}
 use Rattle.std.proofs.lemmas.List.{append-nil, map-append, drop_more, take_more, get_or-drop, length-drop}
-use Rattle.pdl_syntax.specs.declared.tree.Stmt as r_stmt
-use Rattle.pdl_syntax.specs.View.{stmt_view}
+use Rattle.pdl_tree.specs.declared.tree.Stmt as r_stmt
+use Rattle.pdl_tree.specs.View.{stmt_view}
 use Rattle.pdl_machine.specs.Parts.{parts_view}
 use Rattle.pdl_model.specs.Tree.{Stmt}
 use Rattle.pdl_stages.specs.Line.{is_separator}

@@ -3,8 +3,8 @@ use denote.Bor.{Bor}
 use Rattle.std.proofs.Common.{◌≡◌, sym, ap, ap₂, ◌∙◌, subst, ℕ, zero, suc, ◌<◌, List, [], ◌∷◌, Option, Some, None, map, length, get_or}
 use Rattle.pdl_model.specs.Tree.{Stmt, Pipe}
 use Rattle.pdl_model.specs.Flatten.{Var, params_of}
-use Rattle.pdl_syntax.specs.declared.tree.Stmt as r_stmt
-use Rattle.pdl_syntax.specs.View.{stmt_view}
+use Rattle.pdl_tree.specs.declared.tree.Stmt as r_stmt
+use Rattle.pdl_tree.specs.View.{stmt_view}
 use Rattle.pdl_machine.specs.declared.memory.Memory as r_memory
 use Rattle.pdl_machine.specs.Memory.{memory_view, lock_of}
 use Rattle.pdl_machine.specs.Stage.{memory_at, AreRunnable, all_ops}

@@ -9,9 +9,9 @@ use Rattle.pdl_model.specs.Flat.{arrays_of, Stage, start_env}
 use Rattle.pdl_model.specs.Flatten.{Var, params_of, start_of, flat}
 use Rattle.pdl_model.specs.Cycle.{born, for_mems, for_stages}
 use Rattle.pdl_model.specs.Cycle as stated
-use Rattle.pdl_syntax.specs.declared.tree.Pipe as r_pipe
-use Rattle.pdl_syntax.specs.declared.tree.Stmt as r_stmt
-use Rattle.pdl_syntax.specs.View.{pipe_view, stmt_view}
+use Rattle.pdl_tree.specs.declared.tree.Pipe as r_pipe
+use Rattle.pdl_tree.specs.declared.tree.Stmt as r_stmt
+use Rattle.pdl_tree.specs.View.{pipe_view, stmt_view}
 use Rattle.pdl_rules.specs.Places.{Parameter, Statement}
 use Rattle.pdl_rules.specs.Widths.{after_place}
 use Rattle.pdl_rules.specs.Refusal.{KeepsRules, is_in_line}

@@ -4,14 +4,19 @@ use Rattle.std.specs.Prelude.{IsTrue}
 use Rattle.std.proofs.lemmas.Bool.{false≢true, and_parts}
 use Rattle.pdl_model.specs.Tree.{Queue, Bypass, Rename, LockKind, LockDecl, Mem, Pipe}
 use Rattle.pdl_model.specs.Flat
-use Rattle.pdl_model.specs.Flat.{Arrays}
-use Rattle.pdl_model.specs.Flatten.{flat}
 use Rattle.pdl_model.specs.Machine.{State}
 use Rattle.pdl_model.specs.Cycle as stated
-use Rattle.pdl_rules.specs.Refusal.{KeepsRules, is_in_line}
+use Rattle.pdl_model.specs.Flat.{Arrays}
+use Rattle.pdl_model.specs.Flatten.{flat}
 use Rattle.pdl_model.specs.Promises.{Refines, Advances, KeepsPace}
-use Rattle.pdl_linear.proofs.Runs.{stated_refines, stated_advances, stated_paces}
-use Rattle.pdl_promise.proofs.InLine.{checked_of, text_of}
+use Rattle.pdl_model.specs.Sound.{is_sound}
+use Rattle.pdl_facts.specs.Facts.{Sound}
+use Rattle.pdl_rules.specs.Refusal.{KeepsRules}
+use Rattle.pdl_pathfacts.specs.Source.{is_source, is_named}
+use Rattle.pdl_refine.proofs.Stated.{whole_refines, whole_advances, whole_paces}
+use Rattle.pdl_pathfacts.proofs.Whole.{of_source}
+use Rattle.pdl_strict.proofs.Paths.{paths_strict}
+use Rattle.pdl_invariant.proofs.EveryState
 use Rattle.pdl_check.specs.Queues.{is_queue, is_queued, all_queued}
 use Rattle.pdl_machine.specs.Setup.{IsQueue, AreQueues}
 
@@ -33,12 +38,18 @@ pub run_on : (p : Flat.Pipe) (st : State) (schedule : List (List Bool)) (bits : 
 run_on p st [] bits = refl
 run_on p st (b ∷ schedule) bits = run_on p (stated.cycle p st b) schedule bits
 
-module _ (p : Pipe) (in_line : IsTrue (is_in_line p)) (kept : KeepsRules p) (image : Arrays) (schedule : List (List Bool)) where
+module _ (p : Pipe) (source : IsTrue (is_source p)) (letters : IsTrue (is_named p)) (kept : KeepsRules p) (image : Arrays) (schedule : List (List Bool)) where
+  facts : Sound (flat p)
+  facts = of_source p kept source letters
+
   pub refines : Refines (flat p) image schedule
-  refines = stated_refines (flat p) (checked_of p in_line kept) (text_of p in_line kept) image schedule
+  refines = whole_refines (flat p) facts image schedule
 
   pub advances : (bits : List Bool) → Advances (flat p) image schedule bits
-  advances bits = stated_advances (flat p) (checked_of p in_line kept) (text_of p in_line kept) image schedule bits
+  advances bits = whole_advances (flat p) facts image schedule bits
 
   pub paces : KeepsPace (flat p) image schedule
-  paces = stated_paces (flat p) (checked_of p in_line kept) (text_of p in_line kept) image schedule
+  paces = whole_paces (flat p) facts image schedule
+
+  pub stays_sound : IsTrue (is_sound (flat p) image (stated.ended_in (stated.turns (flat p) image schedule)) (stated.state_after (flat p) (stated.first (flat p) image) schedule))
+  stays_sound = EveryState.sound_state (flat p) facts (paths_strict p kept source) image schedule

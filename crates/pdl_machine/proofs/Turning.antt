@@ -16,9 +16,9 @@ use Rattle.pdl_model.specs.Cycle.{or_then, born}
 use Rattle.pdl_model.specs.Cycle as stated
 use Rattle.pdl_model.specs.Cycle.{port_write}
 use Rattle.pdl_slots.specs.Ports.{bit, stage_values, commit_values, port_values}
-use Rattle.pdl_syntax.specs.declared.tree.Pipe as r_pipe
-use Rattle.pdl_syntax.specs.declared.tree.Stmt as r_stmt
-use Rattle.pdl_syntax.specs.View.{pipe_view, stmt_view}
+use Rattle.pdl_tree.specs.declared.tree.Pipe as r_pipe
+use Rattle.pdl_tree.specs.declared.tree.Stmt as r_stmt
+use Rattle.pdl_tree.specs.View.{pipe_view, stmt_view}
 use Rattle.pdl_stages.proofs.InLine.{last_of}
 use Rattle.pdl_machine.specs.declared.memory.Memory as r_memory
 use Rattle.pdl_machine.specs.declared.slot.Slot as r_slot

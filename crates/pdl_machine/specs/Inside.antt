@@ -1,7 +1,8 @@
 -- The fields of a machine.
 use Rattle.std.specs.Prelude.{◌≡◌, ◌≤◌, ◌+◌, ◌*◌, IsTrue, map, length, vec_capacity}
-use Rattle.pdl_syntax.specs.View.{pipe_view}
+use Rattle.pdl_tree.specs.View.{pipe_view}
 use Rattle.pdl_rules.specs.Refusal.{KeepsRules, is_in_line}
+use Rattle.pdl_pathfacts.specs.Source.{is_source, is_named}
 use Rattle.pdl_machine.specs.declared.machine.Machine.TheInside.{Inside}
 use Rattle.pdl_machine.specs.Pending.{pending_view}
 use Rattle.pdl_machine.specs.Acts.{slot_view}
@@ -21,9 +22,11 @@ running m =
       shown = m.shown.items;
     }
 
--- its pipe breaks no rule, it can run, and it has room for a cycle
+-- its pipe is as those of texts are and breaks no rule, it can run, and it has room for a cycle
 pub record IsReady (m : Inside) : Type 0 where
   pub in_line : IsTrue (is_in_line (pipe_view m.pipe.now))
+  pub source : IsTrue (is_source (pipe_view m.pipe.now))
+  pub letters : IsTrue (is_named (pipe_view m.pipe.now))
   pub kept : KeepsRules (pipe_view m.pipe.now)
   pub ready : AreReady m.pipe.now m.names m.parts.items m.releases.items m.memories.items m.slots.items m.after.items
   pub moves : length m.moves.items ≡ length m.parts.items

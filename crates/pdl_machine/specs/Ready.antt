@@ -8,9 +8,9 @@ use Rattle.pdl_model.specs.Flatten.{Var, params_of, flat}
 use Rattle.pdl_model.specs.Flatten as flatten
 use Rattle.pdl_model.specs.Machine.{Pending, NoRequest, State}
 use Rattle.pdl_model.specs.Cycle.{for_mems, for_stages}
-use Rattle.pdl_syntax.specs.declared.tree.Pipe as r_pipe
-use Rattle.pdl_syntax.specs.declared.tree.Stmt as r_stmt
-use Rattle.pdl_syntax.specs.View.{pipe_view, stmt_view}
+use Rattle.pdl_tree.specs.declared.tree.Pipe as r_pipe
+use Rattle.pdl_tree.specs.declared.tree.Stmt as r_stmt
+use Rattle.pdl_tree.specs.View.{pipe_view, stmt_view}
 use Rattle.pdl_slots.specs.Fit.{AreFit}
 use Rattle.pdl_machine.specs.declared.memory.Memory as r_memory
 use Rattle.pdl_machine.specs.declared.slot.Slot as r_slot

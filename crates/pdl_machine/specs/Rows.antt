@@ -8,9 +8,9 @@ use Rattle.pdl_model.specs.Flatten.{Var}
 use Rattle.pdl_model.specs.Locks.{commit_value}
 use Rattle.pdl_model.specs.Machine.{Thread, Pending}
 use Rattle.pdl_model.specs.Cycle.{new_entries, put_all, oldest, but_oldest, or_then}
-use Rattle.pdl_syntax.specs.declared.tree.Pipe as r_pipe
-use Rattle.pdl_syntax.specs.declared.tree.Stmt as r_stmt
-use Rattle.pdl_syntax.specs.View.{pipe_view}
+use Rattle.pdl_tree.specs.declared.tree.Pipe as r_pipe
+use Rattle.pdl_tree.specs.declared.tree.Stmt as r_stmt
+use Rattle.pdl_tree.specs.View.{pipe_view}
 use Rattle.pdl_model.specs.Cycle.{port_write}
 use Rattle.pdl_slots.specs.Ports.{commit_values}
 use Rattle.pdl_machine.specs.declared.memory.Memory as r_memory

@@ -6,8 +6,8 @@ use Rattle.pdl_model.specs.Flatten as flatten
 use Rattle.pdl_model.specs.Machine.{Thread, Pending, NoRequest, State}
 use Rattle.pdl_model.specs.Cycle.{for_mems, for_stages}
 use Rattle.pdl_model.specs.Cycle as stated
-use Rattle.pdl_syntax.specs.declared.tree.Pipe as r_pipe
-use Rattle.pdl_syntax.specs.View.{pipe_view}
+use Rattle.pdl_tree.specs.declared.tree.Pipe as r_pipe
+use Rattle.pdl_tree.specs.View.{pipe_view}
 
 -- its pipe, the thread in each stage, the words and the pending writes of each memory, the next thread's number, how many cycles were run, and what the ports showed in the last one
 pub record Running : Type 0 where

@@ -2,7 +2,7 @@
 ghost use Rattle.std.specs.Prelude.{◌≡◌, ◌≤◌, ◌||◌, map, length, slice_index, Some, None, is_some};
 ghost use Rattle.pdl_model.specs.Flat.{values_of};
 ghost use Rattle.pdl_model.specs.Flatten.{flat_exprs};
-ghost use Rattle.pdl_syntax.specs.View.{expr_view, pipe_view, stmt_view};
+ghost use Rattle.pdl_tree.specs.View.{expr_view, pipe_view, stmt_view};
 ghost use Rattle.pdl_rules.specs.Typed.{AreArguments};
 ghost use Rattle.pdl_machine.specs.Values.{Fit};
 ghost use Rattle.pdl_machine.specs.Stage.{IsRunnable, AreRunnable};
@@ -13,7 +13,7 @@ ghost use Rattle.pdl_machine.specs.Slots.{child_thread};
 
 use crate::slot::Slot;
 use crate::value::value_of;
-use pdl_syntax::tree::{Expr, Pipe, Stmt};
+use pdl_tree::tree::{Expr, Pipe, Stmt};
 use pdl_types::Names;
 
 // The value of the argument at a place, 0 behind the last one.

@@ -1,7 +1,7 @@
 // The commits of a cycle.
 ghost use Rattle.std.specs.Prelude.{◌≡◌, ◌≤◌, ◌<◌, ◌+◌, ◌*◌, ◌++◌, [], ◌∷◌, map, length, IfSome, vec_len, vec_capacity};
 ghost use Rattle.pdl_model.specs.Cycle as stated;
-ghost use Rattle.pdl_syntax.specs.View.{pipe_view};
+ghost use Rattle.pdl_tree.specs.View.{pipe_view};
 ghost use Rattle.pdl_model.specs.Cycle.{port_write};
 ghost use Rattle.pdl_slots.specs.Ports.{commit_values};
 ghost use Rattle.pdl_machine.specs.Pending.{pending_view};
@@ -12,7 +12,7 @@ ghost use Rattle.pdl_machine.specs.Rows.{CanRun, rows_of, left_of, out_of, commi
 use crate::locks::step_pending;
 use crate::memory::Memory;
 use crate::pending::Pending;
-use pdl_syntax::tree::{Pipe, Stmt};
+use pdl_tree::tree::{Pipe, Stmt};
 use pdl_types::Names;
 
 // Takes the oldest entry out and puts its value into the array.

@@ -3,7 +3,7 @@ ghost use Rattle.std.specs.Prelude.{◌≡◌, ◌<◌, ◌||◌, ℕ, Bool, fal
 ghost use Rattle.pdl_model.specs.Flatten.{flat, params_of};
 ghost use Rattle.pdl_model.specs.Machine.{State, deeds};
 ghost use Rattle.pdl_model.specs.Moves.{all_acts};
-ghost use Rattle.pdl_syntax.specs.View.{pipe_view, stmt_view};
+ghost use Rattle.pdl_tree.specs.View.{pipe_view, stmt_view};
 ghost use Rattle.pdl_machine.specs.Values.{Fit};
 ghost use Rattle.pdl_machine.specs.Fitting.{AllFit};
 ghost use Rattle.pdl_machine.specs.Memory.{memory_view};
@@ -18,7 +18,7 @@ ghost use Rattle.pdl_machine.specs.Slots.{AreAllFit};
 use crate::memory::Memory;
 use crate::slot::Slot;
 use crate::thread::decide_thread;
-use pdl_syntax::tree::{Pipe, Stmt};
+use pdl_tree::tree::{Pipe, Stmt};
 use pdl_types::Names;
 
 // The statements of a stage are carried out on a copy of its thread's values; whether there is a thread that moves.

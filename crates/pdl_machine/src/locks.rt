@@ -3,7 +3,7 @@ ghost use Rattle.std.specs.Prelude.{◌≡◌, ◌≤◌, ◌+◌, ◌++◌, ◌
 ghost use Rattle.pdl_model.specs.Cycle as stated;
 ghost use Rattle.pdl_model.specs.Stages.{list_any};
 ghost use Rattle.pdl_model.specs.Flatten.{var_of, mem_of};
-ghost use Rattle.pdl_syntax.specs.View.{pipe_view, stmt_view};
+ghost use Rattle.pdl_tree.specs.View.{pipe_view, stmt_view};
 ghost use Rattle.pdl_rules.specs.Typed.{is_named};
 ghost use Rattle.pdl_machine.specs.Values.{Fit};
 ghost use Rattle.pdl_machine.specs.Pending.{pending_view};
@@ -15,7 +15,7 @@ ghost use Rattle.pdl_machine.specs.Rows.{CanRun, rows_of, entries_of, puts_of, r
 use crate::pending::{Pending, put};
 use crate::stage::mem_number;
 use crate::value::{value_of, variable};
-use pdl_syntax::tree::{Kind, Location, Pipe, Stmt};
+use pdl_tree::tree::{Kind, Location, Pipe, Stmt};
 use pdl_types::Names;
 
 // Appends an entry for the write reservation of a location, where that is in the m-th memory.

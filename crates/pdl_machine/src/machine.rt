@@ -4,10 +4,12 @@ ghost use Rattle.pdl_model.specs.Flat.{arrays_of};
 ghost use Rattle.pdl_model.specs.Flatten.{flat};
 ghost use Rattle.pdl_model.specs.Moves.{all_acts};
 ghost use Rattle.pdl_model.specs.Cycle as stated;
-ghost use Rattle.pdl_syntax.specs.View.{pipe_view};
+ghost use Rattle.pdl_tree.specs.View.{pipe_view};
 ghost use Rattle.pdl_rules.specs.Refusal.{KeepsRules, is_in_line};
 ghost use Rattle.pdl_model.specs.Promises.{Refines, Advances, KeepsPace};
+ghost use Rattle.pdl_model.specs.Sound.{is_sound};
 ghost use Rattle.pdl_check.specs.Memories.{infos_of};
+ghost use Rattle.pdl_pathfacts.specs.Source.{is_source, is_named};
 ghost use Rattle.pdl_image.specs.Images.{IsImage};
 ghost use Rattle.pdl_slots.specs.Ports.{port_values};
 ghost use Rattle.pdl_machine.specs.Setup.{AreQueues};
@@ -26,7 +28,7 @@ use crate::step::step;
 use pdl_check::Accepted;
 use pdl_image::Image;
 use pdl_kit::NoMemory;
-use pdl_syntax::tree::{Pipe, Stmt};
+use pdl_tree::tree::{Pipe, Stmt};
 use pdl_types::Names;
 use std::alloc::Global;
 use std::marker::Model;
@@ -52,8 +54,8 @@ pub struct Machine<'a> {
 impl<'a> Model for Machine<'a> {
     ghost use Rattle.std.specs.Prelude.{map};
     ghost use Rattle.std.specs.Coded.{codes};
-    ghost use Rattle.pdl_syntax.specs.contracts.tree.Stmt as stmt;
-    ghost use Rattle.pdl_syntax.specs.contracts.tree.Expr as expr;
+    ghost use Rattle.pdl_tree.specs.contracts.tree.Stmt as stmt;
+    ghost use Rattle.pdl_tree.specs.contracts.tree.Expr as expr;
     ghost use Rattle.pdl_machine.specs.Running.{Running};
 
     ghost Value = { Running };
@@ -84,9 +86,11 @@ impl<'a> Machine<'a> {
         Machine::of_pipe(alloc, accepted.pipe(), image)
     }
 
-    // The machine of a pipe that breaks no rule and whose locks are queues.
+    // The machine of a pipe that is as those of texts are, breaks no rule and whose locks are queues.
     fn of_pipe(alloc: Global, pipe: &'a Pipe, image: &Image) -> Result<Machine<'a>, NoMemory>
         requires in_line { IsTrue (is_in_line (pipe_view pipe.now)) }
+        requires source { IsTrue (is_source (pipe_view pipe.now)) }
+        requires letters { IsTrue (is_named (pipe_view pipe.now)) }
         requires kept { KeepsRules (pipe_view pipe.now) }
         requires queues { AreQueues (pipe_view pipe.now).mems }
         requires image { IsImage (infos_of (pipe_view pipe.now).mems) image.now }
@@ -138,6 +142,8 @@ impl<'a> Machine<'a> {
         ensures refines { (image : List (List ℕ)) (schedule : List (List Bool)) → HasRun self.new image schedule → Refines (flat_of self.new) (arrays_of image) schedule }
         ensures moves { (image : List (List ℕ)) (schedule : List (List Bool)) (bits : List Bool) → HasRun self.old image schedule → Advances (flat_of self.old) (arrays_of image) schedule bits }
         ensures pace { (image : List (List ℕ)) (schedule : List (List Bool)) → HasRun self.new image schedule → KeepsPace (flat_of self.new) (arrays_of image) schedule }
+        // Its state is sound: it passes the whole test of Sound state, with as many turns of the sequential run as threads have ended.
+        ensures sound { (image : List (List ℕ)) (schedule : List (List Bool)) → HasRun self.new image schedule → IsTrue (is_sound (flat_of self.new) (arrays_of image) (stated.ended_in (stated.turns (flat_of self.new) (arrays_of image) schedule)) (state_of self.new)) }
     {
         let called = step(
             self.pipe,

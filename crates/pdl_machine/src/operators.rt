@@ -3,9 +3,9 @@ ghost use Rattle.std.specs.Prelude.{◌≡◌, ◌≤◌, ◌<◌, ◌^◌, ◌+
 ghost use Rattle.pdl_word.specs.Words as words;
 ghost use Rattle.pdl_model.specs.Flat.{applied};
 ghost use Rattle.pdl_model.specs.Flatten.{op_width};
-ghost use Rattle.pdl_syntax.specs.View.{op_view};
+ghost use Rattle.pdl_tree.specs.View.{op_view};
 
-use pdl_syntax::tree::BinaryOp;
+use pdl_tree::tree::BinaryOp;
 
 /// An operator on two words of a width, with its range.
 #[tactic(auto, using(crate::proofs::Bounds::applied_below))]

@@ -1,12 +1,12 @@
 // The statements of each stage.
 ghost use Rattle.std.specs.Prelude.{◌≡◌, map, IfOk};
-ghost use Rattle.pdl_syntax.specs.View.{stmt_view};
+ghost use Rattle.pdl_tree.specs.View.{stmt_view};
 ghost use Rattle.pdl_stages.specs.Line.{is_separator as spec_is_separator};
 ghost use Rattle.pdl_machine.specs.Order.{parts as spec_parts};
 ghost use Rattle.pdl_machine.specs.Parts.{parts_view};
 
 use pdl_kit::NoMemory;
-use pdl_syntax::tree::Stmt;
+use pdl_tree::tree::Stmt;
 use std::alloc::Global;
 
 /// The statements of each stage of a pipe without `if`: those between two neighbouring `---` of its body.

@@ -3,7 +3,7 @@ ghost use Rattle.std.specs.Prelude.{◌≡◌, ◌++◌, [], ◌∷◌, map, OnO
 ghost use Rattle.pdl_model.specs.Flat as flat;
 ghost use Rattle.pdl_model.specs.Machine as machine;
 ghost use Rattle.pdl_model.specs.Flatten.{var_of, mem_of};
-ghost use Rattle.pdl_syntax.specs.View.{location_view, pipe_view, stmt_view};
+ghost use Rattle.pdl_tree.specs.View.{location_view, pipe_view, stmt_view};
 ghost use Rattle.pdl_machine.specs.Stage.{IsPlaced, IsRunnable, AreRunnable, ops_of, all_ops};
 ghost use Rattle.pdl_machine.specs.Parts.{parts_view};
 ghost use Rattle.pdl_machine.specs.Lists.{lists};
@@ -13,7 +13,7 @@ ghost use Rattle.pdl_machine.specs.Setup.{held_view, held_index, AllRun};
 use crate::stage::mem_number;
 use crate::value::number_of;
 use pdl_kit::NoMemory;
-use pdl_syntax::tree::{Kind, Location, Pipe, Stmt};
+use pdl_tree::tree::{Kind, Location, Pipe, Stmt};
 use pdl_types::Names;
 use std::alloc::Global;
 

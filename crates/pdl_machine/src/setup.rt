@@ -2,7 +2,7 @@
 ghost use Rattle.std.specs.Prelude.{◌≡◌, ◌≤◌, ◌<◌, ◌+◌, ◌-◌, ◌*◌, ◌++◌, ◌∷◌, [], map, length, fold, replicate, slice_index_or, vec_capacity, IfOk, OnOk, Some, None};
 ghost use Rattle.pdl_model.specs.Tree as tree;
 ghost use Rattle.pdl_model.specs.Flatten.{start_of};
-ghost use Rattle.pdl_syntax.specs.View.{literal_view, mem_view, param_view, pipe_view, stmt_view};
+ghost use Rattle.pdl_tree.specs.View.{literal_view, mem_view, param_view, pipe_view, stmt_view};
 ghost use Rattle.pdl_rules.specs.Places.{Parameter, Statement};
 ghost use Rattle.pdl_rules.specs.Widths.{after_place};
 ghost use Rattle.pdl_machine.specs.Memory.{memory_view};
@@ -20,7 +20,7 @@ use crate::slot::Slot;
 use crate::stage::mem_number;
 use pdl_image::Image;
 use pdl_kit::NoMemory;
-use pdl_syntax::tree::{Kind, Literal, Mem, Param, Pipe, Stmt};
+use pdl_tree::tree::{Kind, Literal, Mem, Param, Pipe, Stmt};
 use pdl_types::{Names, Place};
 use std::alloc::Global;
 

@@ -2,7 +2,7 @@
 ghost use Rattle.std.specs.Prelude.{◌≡◌, ◌<◌, ◌^◌, IsTrue, map, length, slice_index, slice_index_or, slice_set};
 ghost use Rattle.pdl_model.specs.Flat as flat;
 ghost use Rattle.pdl_model.specs.Flatten.{flat_expr, var_of, var_width, mem_of, mem_width, width_of};
-ghost use Rattle.pdl_syntax.specs.View.{expr_view, kind_view, location_view, mem_view, pipe_view, stmt_view};
+ghost use Rattle.pdl_tree.specs.View.{expr_view, kind_view, location_view, mem_view, pipe_view, stmt_view};
 ghost use Rattle.pdl_rules.specs.Typed.{is_named, is_memory, IsTyped};
 ghost use Rattle.pdl_machine.specs.Values.{Fit};
 ghost use Rattle.pdl_machine.specs.Memory.{memory_view};
@@ -11,7 +11,7 @@ ghost use Rattle.pdl_machine.specs.Stage.{IsPlaced, IsRunnable, AreRunnable, Are
 use crate::memory::Memory;
 use crate::value::{number_of, value_of, variable};
 use pdl_kit::Name;
-use pdl_syntax::tree::{Expr, Ident, Kind, Location, Mem, Pipe, Stmt};
+use pdl_tree::tree::{Expr, Ident, Kind, Location, Mem, Pipe, Stmt};
 use pdl_types::Names;
 
 /// The number of a memory, that of all memories where none has the name.

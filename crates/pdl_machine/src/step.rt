@@ -3,7 +3,7 @@ ghost use Rattle.std.specs.Prelude.{◌≡◌, ◌≤◌, ◌<◌, ◌+◌, ◌*
 ghost use Rattle.pdl_model.specs.Flatten.{flat};
 ghost use Rattle.pdl_model.specs.Moves.{all_acts};
 ghost use Rattle.pdl_model.specs.Cycle as stated;
-ghost use Rattle.pdl_syntax.specs.View.{pipe_view};
+ghost use Rattle.pdl_tree.specs.View.{pipe_view};
 ghost use Rattle.pdl_slots.specs.Ports.{port_values, bit};
 ghost use Rattle.pdl_machine.specs.Ready.{AreReady, state_from};
 
@@ -13,7 +13,7 @@ use crate::decide::decide;
 use crate::memory::Memory;
 use crate::moves::{find_movers, move_on, show_stages};
 use crate::slot::Slot;
-use pdl_syntax::tree::{Pipe, Stmt};
+use pdl_tree::tree::{Pipe, Stmt};
 use pdl_types::Names;
 
 // Shows whether a thread ended: it moved out of the last stage. There is no squash.

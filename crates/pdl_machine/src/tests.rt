@@ -3,7 +3,7 @@ use crate::parts::parts;
 use crate::pending::{Pending, put};
 use crate::value::value_of;
 use pdl_kit::Seq;
-use pdl_syntax::tree::{Expr, Literal, Span, Stmt};
+use pdl_tree::tree::{Expr, Literal, Span, Stmt};
 use pdl_types::Names;
 use std::test::Fail;
 

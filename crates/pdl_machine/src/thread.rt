@@ -2,7 +2,7 @@
 ghost use Rattle.std.specs.Prelude.{◌≡◌, ◌<◌, ◌&&◌, map, length};
 ghost use Rattle.pdl_model.specs.Flatten.{flat, params_of};
 ghost use Rattle.pdl_model.specs.Machine.{State, deeds};
-ghost use Rattle.pdl_syntax.specs.View.{pipe_view, stmt_view};
+ghost use Rattle.pdl_tree.specs.View.{pipe_view, stmt_view};
 ghost use Rattle.pdl_machine.specs.Values.{Fit};
 ghost use Rattle.pdl_machine.specs.Memory.{memory_view};
 ghost use Rattle.pdl_machine.specs.Stage.{AreKept};
@@ -12,7 +12,7 @@ ghost use Rattle.pdl_machine.specs.Parts.{parts_view};
 
 use crate::memory::Memory;
 use crate::stage::run_stage;
-use pdl_syntax::tree::{Pipe, Stmt};
+use pdl_tree::tree::{Pipe, Stmt};
 use pdl_types::Names;
 
 /// The statements of a stage are carried out on the values of the thread in it; whether the locks let the thread move: its blocks are ready, and its write reservations have room.

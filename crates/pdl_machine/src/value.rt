@@ -2,13 +2,13 @@
 ghost use Rattle.std.specs.Prelude.{◌≡◌, ◌≤◌, ◌<◌, ◌^◌, ◌+◌, IsTrue, slice_index, length};
 ghost use Rattle.pdl_model.specs.Flat as flat;
 ghost use Rattle.pdl_model.specs.Flatten.{flat_expr, width_of as spec_width_of, var_of, var_width};
-ghost use Rattle.pdl_syntax.specs.View.{expr_view, literal_view};
+ghost use Rattle.pdl_tree.specs.View.{expr_view, literal_view};
 ghost use Rattle.pdl_rules.specs.Typed.{IsTyped, is_named};
 ghost use Rattle.pdl_machine.specs.Values.{Fit};
 
 use crate::operators;
 use pdl_kit::Name;
-use pdl_syntax::tree::Expr;
+use pdl_tree::tree::Expr;
 use pdl_types::Names;
 use pdl_types::width::width_of;
 

@@ -1,7 +1,7 @@
 -- The locks that are asked for, memory by memory.
 use Rattle.std.proofs.Common.{◌≡◌, ℕ, zero, suc, ◌<◌, List, [], ◌∷◌, map, length, get_or, sym, subst, arith}
-use Rattle.pdl_syntax.specs.declared.tree.Mem as r_mem
-use Rattle.pdl_syntax.specs.View.{mem_view}
+use Rattle.pdl_tree.specs.declared.tree.Mem as r_mem
+use Rattle.pdl_tree.specs.View.{mem_view}
 use Rattle.pdl_pipe.specs.Asked.{IsSizedLock, AreSizedLocks}
 
 size_at : (ms : List r_mem.Mem) (i : ℕ) (d : r_mem.Mem) → AreSizedLocks (map mem_view ms) → i < length ms → IsSizedLock (mem_view (get_or ms i d)).lock

@@ -4,9 +4,9 @@ use Rattle.std.proofs.lemmas.List.{drop_more, length-map}
 use Rattle.std.specs.Prelude.{slice_index}
 use Rattle.pdl_model.specs.Tree.{Literal, Param}
 use Rattle.pdl_model.specs.Flatten.{start_of}
-use Rattle.pdl_syntax.specs.declared.tree.Param as r_param
-use Rattle.pdl_syntax.specs.declared.tree.Literal as r_literal
-use Rattle.pdl_syntax.specs.View.{literal_view, param_view}
+use Rattle.pdl_tree.specs.declared.tree.Param as r_param
+use Rattle.pdl_tree.specs.declared.tree.Literal as r_literal
+use Rattle.pdl_tree.specs.View.{literal_view, param_view}
 use Rattle.pdl_rules.specs.Typed.{Holds, AreParams, AreStarts}
 
 -- as many arguments as parameters

@@ -4,8 +4,8 @@ use Rattle.std.proofs.lemmas.Bool.Decides.{leb_tells}
 use Rattle.std.proofs.lemmas.List.{drop_more, drop_all, get_or-map, length-map}
 use Rattle.std.specs.Prelude.{slice_index}
 use Rattle.pdl_model.specs.Flatten.{Var, params_of}
-use Rattle.pdl_syntax.specs.declared.tree.Param as r_param
-use Rattle.pdl_syntax.specs.View.{param_view}
+use Rattle.pdl_tree.specs.declared.tree.Param as r_param
+use Rattle.pdl_tree.specs.View.{param_view}
 use Rattle.pdl_net.specs.declared.Net.TheVariants.{Reg as RegNet}
 use Rattle.pdl_net.specs.Circuit.{Circuit, HasReg, reg_width}
 use Rattle.pdl_net.specs.Signal.{Signal, reg_signal}

@@ -6,8 +6,8 @@ use Rattle.std.specs.List.{list_all}
 use Rattle.std.proofs.lemmas.List.{get_or-map, get_or_append_left, get_or_push, drop_more, drop_all, length-map}
 use Rattle.pdl_kit.specs.declared.mem_info.MemInfo.{MemInfo}
 use Rattle.pdl_model.specs.Tree.{LockKind, Mem}
-use Rattle.pdl_syntax.specs.declared.tree.Mem as r_mem
-use Rattle.pdl_syntax.specs.View.{mem_view}
+use Rattle.pdl_tree.specs.declared.tree.Mem as r_mem
+use Rattle.pdl_tree.specs.View.{mem_view}
 use Rattle.pdl_rules.specs.Typed.{IsSized, AreSized}
 use Rattle.pdl_rules.specs.Refusal.{is_comb}
 use Rattle.pdl_check.specs.Memories.{info_of, infos_of}

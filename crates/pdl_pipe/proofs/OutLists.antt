@@ -2,8 +2,8 @@
 use Rattle.std.proofs.Common.{◌≡◌, ℕ, suc, ◌+◌, ◌-◌, ◌<◌, Bool, true, false, List, [], ◌∷◌, ◌++◌, map, length, get_or, if◌then◌else◌, codes, decimal, refl, sym, ap, ap₂, ◌∙◌, subst, arith, append_assoc}
 use Rattle.std.specs.Prelude.{Option, Some, None, is_some}
 use Rattle.std.proofs.lemmas.List.{map-append, get_or_default}
-use Rattle.pdl_syntax.specs.declared.tree.Mem as r_mem
-use Rattle.pdl_syntax.specs.View.{mem_view}
+use Rattle.pdl_tree.specs.declared.tree.Mem as r_mem
+use Rattle.pdl_tree.specs.View.{mem_view}
 use Rattle.pdl_net.specs.declared.Net.{Net}
 use Rattle.pdl_net.specs.declared.Net.TheVariants.{Input}
 use Rattle.pdl_net.specs.declared.Port.{Port}

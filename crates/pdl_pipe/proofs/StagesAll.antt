@@ -6,7 +6,7 @@ use Rattle.std.proofs.lemmas.List.{length_push, length-map}
 use Rattle.std.specs.Prelude.{slice_index, ⊤}
 use Rattle.pdl_model.specs.Tree.{Stmt, stmts_of, Pipe}
 use Rattle.pdl_model.specs.Flatten.{Var, params_of, start_of}
-use Rattle.pdl_syntax.specs.declared.tree.Stmt as r_stmt
+use Rattle.pdl_tree.specs.declared.tree.Stmt as r_stmt
 use Rattle.pdl_net.specs.Circuit.{Circuit, reg_reset}
 use Rattle.pdl_net.specs.Growth.{Keeps}
 use Rattle.pdl_build.specs.Expr.{vars_of, var_of_named}

@@ -3,8 +3,8 @@ use Rattle.std.proofs.Common.{◌≡◌, ℕ, ◌+◌, ◌<◌, List, [], ◌∷
 use Rattle.std.proofs.lemmas.List.{map-append, drop_more}
 use Rattle.std.specs.Prelude.{Option, Some, None, Result, Ok, Err, OnOk}
 use Rattle.pdl_kit.specs.declared.no_memory.NoMemory.{NoMemory}
-use Rattle.pdl_syntax.specs.declared.tree.Expr as r_expr
-use Rattle.pdl_syntax.specs.View.{expr_view, exprs_view}
+use Rattle.pdl_tree.specs.declared.tree.Expr as r_expr
+use Rattle.pdl_tree.specs.View.{expr_view, exprs_view}
 use Rattle.pdl_model.specs.Flatten.{Var}
 use Rattle.pdl_rules.specs.Typed.{IsTyped}
 use Rattle.pdl_net.specs.declared.Net.{Net}

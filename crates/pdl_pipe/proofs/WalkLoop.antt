@@ -4,8 +4,8 @@ use Rattle.std.proofs.lemmas.List.{drop_more, take_more, map-append}
 use Rattle.std.specs.Prelude.{Option}
 use Rattle.pdl_model.specs.Tree.{LockKind, Stmt, stmts_of, CombRead, Block, Mem, Pipe}
 use Rattle.pdl_model.specs.Flatten.{Var}
-use Rattle.pdl_syntax.specs.declared.tree.Stmt as r_stmt
-use Rattle.pdl_syntax.specs.View.{stmt_view, stmts_view}
+use Rattle.pdl_tree.specs.declared.tree.Stmt as r_stmt
+use Rattle.pdl_tree.specs.View.{stmt_view, stmts_view}
 use Rattle.pdl_net.specs.Circuit.{Circuit, State}
 use Rattle.pdl_net.specs.Signal.{Signal}
 use Rattle.pdl_net.specs.Growth.{Extends}

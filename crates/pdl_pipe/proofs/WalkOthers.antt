@@ -2,17 +2,17 @@
 use Rattle.std.proofs.Common.{◌≡◌, List, map, refl, sym, subst}
 use Rattle.pdl_model.specs.Tree.{Stmt, Pipe}
 use Rattle.pdl_model.specs.Flatten.{Var}
-use Rattle.pdl_syntax.specs.declared.tree.Span as r_span
-use Rattle.pdl_syntax.specs.declared.tree.Ident as r_ident
-use Rattle.pdl_syntax.specs.declared.tree.Location as r_location
-use Rattle.pdl_syntax.specs.declared.tree.Kind as r_kind
-use Rattle.pdl_syntax.specs.declared.tree.Expr as r_expr
-use Rattle.pdl_syntax.specs.declared.tree.Stmt as r_stmt
-use Rattle.pdl_syntax.specs.declared.tree.Stmt.TheOpen.{Stmt-F}
-use Rattle.pdl_syntax.specs.declared.tree.Stmt.TheViews.{roll-Stmt}
-use Rattle.pdl_syntax.specs.declared.tree.Stmt.TheFolds.{fold-roll-Stmt, ind-Stmt, map-Stmt}
-use Rattle.pdl_syntax.specs.declared.tree.Stmt.TheVariants as r_stmts
-use Rattle.pdl_syntax.specs.View.{stmt_step, stmt_view}
+use Rattle.pdl_tree.specs.declared.tree.Span as r_span
+use Rattle.pdl_tree.specs.declared.tree.Ident as r_ident
+use Rattle.pdl_tree.specs.declared.tree.Location as r_location
+use Rattle.pdl_tree.specs.declared.tree.Kind as r_kind
+use Rattle.pdl_tree.specs.declared.tree.Expr as r_expr
+use Rattle.pdl_tree.specs.declared.tree.Stmt as r_stmt
+use Rattle.pdl_tree.specs.declared.tree.Stmt.TheOpen.{Stmt-F}
+use Rattle.pdl_tree.specs.declared.tree.Stmt.TheViews.{roll-Stmt}
+use Rattle.pdl_tree.specs.declared.tree.Stmt.TheFolds.{fold-roll-Stmt, ind-Stmt, map-Stmt}
+use Rattle.pdl_tree.specs.declared.tree.Stmt.TheVariants as r_stmts
+use Rattle.pdl_tree.specs.View.{stmt_step, stmt_view}
 use Rattle.pdl_net.specs.Circuit.{Circuit}
 use Rattle.pdl_net.specs.Signal.{no_signal}
 use Rattle.pdl_slots.specs.Fit.{IsFit}

@@ -4,9 +4,9 @@ use Rattle.std.proofs.lemmas.List.{map-append}
 use Rattle.std.specs.Prelude.{Option, Some}
 use Rattle.pdl_model.specs.Tree.{Location, Reserve, Mem}
 use Rattle.pdl_model.specs.Machine.{Place}
-use Rattle.pdl_syntax.specs.declared.tree.Kind as r_kind
-use Rattle.pdl_syntax.specs.declared.tree.Kind.TheVariants as r_kinds
-use Rattle.pdl_syntax.specs.View.{kind_view}
+use Rattle.pdl_tree.specs.declared.tree.Kind as r_kind
+use Rattle.pdl_tree.specs.declared.tree.Kind.TheVariants as r_kinds
+use Rattle.pdl_tree.specs.View.{kind_view}
 use Rattle.pdl_net.specs.declared.Net.{Net}
 use Rattle.pdl_net.specs.Circuit.{Circuit}
 use Rattle.pdl_net.specs.Signal.{Signal}

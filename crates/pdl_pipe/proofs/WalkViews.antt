@@ -4,15 +4,15 @@ use Rattle.std.specs.Prelude.{Some, if◌then◌else◌}
 use Rattle.pdl_model.specs.Tree.{Span, Kind, R, W, Expr, Ident, Location, Stmt, Bind, Write, Reserve, Release, Call, Param, Mem, Pipe}
 use Rattle.pdl_model.specs.Flatten.{Var}
 use Rattle.pdl_model.specs.Machine.{let_go}
-use Rattle.pdl_syntax.specs.declared.tree.Span as r_span
-use Rattle.pdl_syntax.specs.declared.tree.Ident as r_ident
-use Rattle.pdl_syntax.specs.declared.tree.Location as r_location
-use Rattle.pdl_syntax.specs.declared.tree.Kind as r_kind
-use Rattle.pdl_syntax.specs.declared.tree.Expr as r_expr
-use Rattle.pdl_syntax.specs.declared.tree.Stmt as r_stmt
-use Rattle.pdl_syntax.specs.declared.tree.Stmt.{Stmt-F}
-use Rattle.pdl_syntax.specs.declared.tree.Stmt.TheVariants as r_stmts
-use Rattle.pdl_syntax.specs.View.{span_view, ident_view, location_view, kind_view, expr_view, exprs_view, stmt_step, stmt_view}
+use Rattle.pdl_tree.specs.declared.tree.Span as r_span
+use Rattle.pdl_tree.specs.declared.tree.Ident as r_ident
+use Rattle.pdl_tree.specs.declared.tree.Location as r_location
+use Rattle.pdl_tree.specs.declared.tree.Kind as r_kind
+use Rattle.pdl_tree.specs.declared.tree.Expr as r_expr
+use Rattle.pdl_tree.specs.declared.tree.Stmt as r_stmt
+use Rattle.pdl_tree.specs.declared.tree.Stmt.{Stmt-F}
+use Rattle.pdl_tree.specs.declared.tree.Stmt.TheVariants as r_stmts
+use Rattle.pdl_tree.specs.View.{span_view, ident_view, location_view, kind_view, expr_view, exprs_view, stmt_step, stmt_view}
 use Rattle.pdl_rules.specs.Typed.{AreArguments}
 use Rattle.pdl_net.specs.Circuit.{Circuit}
 use Rattle.pdl_net.specs.Signal.{no_signal}

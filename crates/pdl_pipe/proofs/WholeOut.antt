@@ -1,8 +1,8 @@
 -- What the outputs of a pipe in line rest on, and that the netlist is compiled once they are added.
 use Rattle.std.proofs.Common.{◌≡◌, ℕ, ◌<◌, ◌∙◌, List, map, length, sym, ap, arith}
 use Rattle.std.specs.Prelude.{Option, Some, IsTrue, is_some}
-use Rattle.pdl_syntax.specs.declared.tree.Mem as r_mem
-use Rattle.pdl_syntax.specs.View.{mem_view}
+use Rattle.pdl_tree.specs.declared.tree.Mem as r_mem
+use Rattle.pdl_tree.specs.View.{mem_view}
 use Rattle.pdl_model.specs.Tree.{Stmt, stmts_of, Param, Pipe}
 use Rattle.pdl_rules.specs.Refusal.{KeepsRules, is_in_line}
 use Rattle.pdl_net.specs.Circuit.{Circuit}

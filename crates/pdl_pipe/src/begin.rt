@@ -1,7 +1,7 @@
 // What a stage begins with: registers for all that its thread comes with.
 ghost use Rattle.std.specs.Prelude.{◌≡◌, ◌≤◌, ◌<◌, get_or, ◌+◌, ◌∷◌, ◌++◌, ℕ, [], IfOk, OnOk, map, length, slice_index, unwrap_or};
 ghost use Rattle.pdl_model.specs.Flatten.{params_of, start_of as starts_of};
-ghost use Rattle.pdl_syntax.specs.View.{literal_view, param_view, pipe_view};
+ghost use Rattle.pdl_tree.specs.View.{literal_view, param_view, pipe_view};
 ghost use Rattle.pdl_rules.specs.Typed.{Holds, AreParams, AreStarts};
 ghost use Rattle.pdl_net.specs.Circuit.{reg_reset};
 ghost use Rattle.pdl_net.specs.Signal.{const_signal};
@@ -19,7 +19,7 @@ use crate::nets::{StageNets, TicketNet, WalkNets};
 use pdl_build::{Builder, Env, EnvEntry};
 use pdl_kit::{NoMemory, Seq};
 use pdl_net::Net;
-use pdl_syntax::tree::{Literal, Param, Pipe};
+use pdl_tree::tree::{Literal, Param, Pipe};
 use std::alloc::Global;
 
 /// The value of a literal, 0 where it fits no width.

@@ -1,6 +1,6 @@
 // The locks that the memories of a pipe ask for.
 ghost use Rattle.std.specs.Prelude.{◌≡◌, IfOk, map};
-ghost use Rattle.pdl_syntax.specs.View.{mem_view, lock_view, maybe_lock_view};
+ghost use Rattle.pdl_tree.specs.View.{mem_view, lock_view, maybe_lock_view};
 ghost use Rattle.pdl_entries.specs.Slots.{IsSize};
 ghost use Rattle.pdl_pipe.specs.Asked.{lock_asked, locks_asked, IsSizedLock, AreSizedLocks};
 ghost use Rattle.pdl_anylock.specs.declared.AnyLock.TheVariants.{Queue};
@@ -8,7 +8,7 @@ ghost use Rattle.pdl_anylock.specs.declared.AnyLock.TheVariants.{Queue};
 use pdl_anylock::AnyLock;
 use pdl_kit::NoMemory;
 use pdl_queue::QueueLock;
-use pdl_syntax::tree::{LockDecl, Mem};
+use pdl_tree::tree::{LockDecl, Mem};
 use std::alloc::Global;
 
 /// The module of a lock.

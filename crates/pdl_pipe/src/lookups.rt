@@ -2,7 +2,7 @@
 ghost use Rattle.std.specs.Prelude.{◌≡◌, ◌^◌, ◌<◌, IfOk, true, map, length, Some, is_some, slice_index};
 ghost use Rattle.pdl_model.specs.Flatten.{mem_of};
 ghost use Rattle.pdl_model.specs.Machine.{is_held, let_go};
-ghost use Rattle.pdl_syntax.specs.View.{mem_view};
+ghost use Rattle.pdl_tree.specs.View.{mem_view};
 ghost use Rattle.pdl_net.specs.Meaning.{IsThere, signal};
 ghost use Rattle.pdl_net.specs.Growth.{Extends};
 ghost use Rattle.pdl_trunk.specs.Walk.{Tells, Gives, has_lock, look_of};
@@ -15,7 +15,7 @@ use pdl_build::{Builder, EnvEntry};
 use pdl_kit::{Name, NoMemory};
 use pdl_lockapi::{Kind, LockModule, LockRegs, Look};
 use pdl_net::Net;
-use pdl_syntax::tree::Mem;
+use pdl_tree::tree::Mem;
 
 /// The number of a memory, by its name.
 pub fn number_of(mems: &[Mem], name: &Name) -> usize

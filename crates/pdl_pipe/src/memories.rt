@@ -1,7 +1,7 @@
 // The arrays of the memories, and the registers of their locks.
 ghost use Rattle.std.specs.Prelude.{◌≡◌, ℕ, ◌<◌, ◌∷◌, [], Some, true, false, IfOk, OnOk, map, length, get_or};
 ghost use Rattle.std.specs.List.{list_all};
-ghost use Rattle.pdl_syntax.specs.View.{mem_view};
+ghost use Rattle.pdl_tree.specs.View.{mem_view};
 ghost use Rattle.pdl_rules.specs.Typed.{IsSized, AreSized};
 ghost use Rattle.pdl_rules.specs.Refusal.{is_comb};
 ghost use Rattle.pdl_check.specs.Memories.{info_of, infos_of};
@@ -16,7 +16,7 @@ ghost use Rattle.pdl_pipe.specs.Locked.{IsSuited, AreSuited, IsNewLock, IsNewMem
 use pdl_build::Builder;
 use pdl_kit::{MemInfo, NoMemory, Seq};
 use pdl_lockapi::{LockModule, LockRegs};
-use pdl_syntax::tree::Mem;
+use pdl_tree::tree::Mem;
 use std::alloc::Global;
 
 /// The array of a memory without lock.

@@ -2,7 +2,7 @@
 ghost use Rattle.std.specs.Prelude.{◌≡◌, ◌≤◌, ◌<◌, ℕ, List, [], Option, Some, true, IfOk, OnOk, IsTrue, map, length};
 ghost use Rattle.std.specs.List.{list_all};
 ghost use Rattle.pdl_kit.specs.declared.mem_info.MemInfo.{MemInfo};
-ghost use Rattle.pdl_syntax.specs.View.{pipe_view, mem_view, stmt_view};
+ghost use Rattle.pdl_tree.specs.View.{pipe_view, mem_view, stmt_view};
 ghost use Rattle.pdl_model.specs.Flatten.{params_of};
 ghost use Rattle.pdl_rules.specs.Refusal.{KeepsRules, is_in_line, is_comb};
 ghost use Rattle.pdl_rules.specs.Typed.{AreParams, AreStarts, AreSized};
@@ -34,7 +34,7 @@ use pdl_check::Accepted;
 use pdl_kit::{MemInfo, NoMemory, Seq};
 use pdl_lockapi::{LockModule, LockNets, LockRegs};
 use pdl_net::{Net, Netlist};
-use pdl_syntax::tree::Pipe;
+use pdl_tree::tree::Pipe;
 use std::alloc::Global;
 
 /// The registers of the locks, the stages, and nets that are always 1 and always 0.

@@ -1,6 +1,6 @@
 // What the netlist shows.
 ghost use Rattle.std.specs.Prelude.{◌≡◌, ◌<◌, ◌-◌, ◌∷◌, ◌++◌, ℕ, [], IfOk, OnOk, map, length, slice_index_or, None, codes, decimal};
-ghost use Rattle.pdl_syntax.specs.View.{mem_view};
+ghost use Rattle.pdl_tree.specs.View.{mem_view};
 ghost use Rattle.pdl_net.specs.declared.Net.TheVariants.{Reg};
 ghost use Rattle.pdl_net.specs.Meaning.{Means};
 ghost use Rattle.pdl_net.specs.Signal.{const_signal};
@@ -18,7 +18,7 @@ use pdl_build::Builder;
 use pdl_kit::{Name, NoMemory, Seq};
 use pdl_lockapi::LockNets;
 use pdl_net::Net;
-use pdl_syntax::tree::Mem;
+use pdl_tree::tree::Mem;
 use std::alloc::Global;
 
 /// An output that is to be added: its name and its net.

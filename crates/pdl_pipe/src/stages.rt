@@ -1,7 +1,7 @@
 // All stages of a pipe in line.
 ghost use Rattle.std.specs.Prelude.{◌≡◌, ◌≤◌, ◌<◌, ◌+◌, ◌-◌, get_or, ℕ, [], IfOk, OnOk, map, length, slice_index, slice_index_or};
 ghost use Rattle.pdl_model.specs.Flatten.{params_of, start_of};
-ghost use Rattle.pdl_syntax.specs.View.{stmt_view, stmts_view, pipe_view};
+ghost use Rattle.pdl_tree.specs.View.{stmt_view, stmts_view, pipe_view};
 ghost use Rattle.pdl_rules.specs.Typed.{AreParams, AreStarts as AreStarting};
 ghost use Rattle.pdl_net.specs.Circuit.{reg_reset};
 ghost use Rattle.pdl_net.specs.Signal.{const_signal};
@@ -23,7 +23,7 @@ use pdl_kit::NoMemory;
 use pdl_lockapi::{LockModule, LockRegs};
 use pdl_net::Net;
 use pdl_stages::parts;
-use pdl_syntax::tree::{Pipe, Stmt};
+use pdl_tree::tree::{Pipe, Stmt};
 use std::alloc::Global;
 
 /// The last stage.

@@ -1,7 +1,7 @@
 // What the locks of the memories take next.
 ghost use Rattle.std.specs.Prelude.{◌≡◌, ℕ, ◌<◌, ◌∷◌, ◌++◌, ◌^◌, ◌==◌, [], Some, true, IfOk, OnOk, map, length, get_or, if◌then◌else◌};
 ghost use Rattle.std.specs.List.{list_any};
-ghost use Rattle.pdl_syntax.specs.View.{mem_view};
+ghost use Rattle.pdl_tree.specs.View.{mem_view};
 ghost use Rattle.pdl_net.specs.Circuit.{HasArray};
 ghost use Rattle.pdl_net.specs.Meaning.{Means, IsThere, signal, write_signals};
 ghost use Rattle.pdl_net.specs.Signal.{mux_signal};
@@ -19,7 +19,7 @@ use pdl_build::Builder;
 use pdl_kit::{NoMemory, Seq};
 use pdl_lockapi::{Kind, LockModule, LockNets, LockPorts, LockRegs, ReservePort, TicketWrite};
 use pdl_net::Net;
-use pdl_syntax::tree::Mem;
+use pdl_tree::tree::Mem;
 use std::alloc::Global;
 
 /// The stage of a number.

@@ -3,7 +3,7 @@ ghost use Rattle.std.specs.Prelude.{◌≡◌, ◌<◌, ◌∷◌, ◌++◌, [],
 ghost use Rattle.pdl_model.specs.Tree as tree;
 ghost use Rattle.pdl_model.specs.Flatten.{mem_of, mem_width, var_of};
 ghost use Rattle.pdl_model.specs.Machine.{is_held, let_go};
-ghost use Rattle.pdl_syntax.specs.View.{expr_view, exprs_view, stmt_view, stmts_view, ident_view, location_view, kind_view, mem_view, pipe_view};
+ghost use Rattle.pdl_tree.specs.View.{expr_view, exprs_view, stmt_view, stmts_view, ident_view, location_view, kind_view, mem_view, pipe_view};
 ghost use Rattle.pdl_rules.specs.Locks.{is_locked};
 ghost use Rattle.pdl_rules.specs.Typed.{IsTyped, IsLocated};
 ghost use Rattle.pdl_net.specs.Signal.{no_signal};
@@ -28,7 +28,7 @@ use pdl_build::{Builder, Env, EnvEntry};
 use pdl_kit::{NoMemory, Seq};
 use pdl_lockapi::{LockModule, LockRegs};
 use pdl_net::Net;
-use pdl_syntax::tree::{Expr, Ident, Kind, Location, Mem, Pipe, Stmt};
+use pdl_tree::tree::{Expr, Ident, Kind, Location, Mem, Pipe, Stmt};
 use std::alloc::Global;
 
 /// A net that is 1 where both of two nets of 1 bit are.

@@ -1,5 +1,5 @@
 use Rattle.std.proofs.Common.{◌≡◌, ◌∙◌, sym, ap, ap₂, Bool, ◌||◌, None, Option, List, ℕ, map, take, is_some, length}
-use Rattle.pdl_syntax.specs.View.{pipe_view, stmt_view}
+use Rattle.pdl_tree.specs.View.{pipe_view, stmt_view}
 use Rattle.pdl_machine.specs.Effects.{call_of, child_in}
 use Rattle.pdl_machine.specs.Rows.{values_after}
 use Rattle.pdl_machine.proofs.Calling.{some_or, after_or, child_more, runnable_rest}

@@ -1,5 +1,5 @@
 use Rattle.std.proofs.Common.{◌≡◌, None, map, take, drop, is_some}
-use Rattle.pdl_syntax.specs.View.{pipe_view, stmt_view}
+use Rattle.pdl_tree.specs.View.{pipe_view, stmt_view}
 use Rattle.pdl_machine.specs.Stage.{AreRunnable}
 use Rattle.pdl_machine.specs.Effects.{child_in}
 use Rattle.pdl_machine.specs.Rows.{values_after}

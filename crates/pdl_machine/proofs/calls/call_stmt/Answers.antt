@@ -1,8 +1,8 @@
 use Rattle.std.proofs.Common.{◌≡◌, ap, subst, map, length, rules, arith}
 use Rattle.std.proofs.lemmas.List.{length-map}
 use Rattle.pdl_model.specs.Tree as tree
-use Rattle.pdl_syntax.specs.declared.tree.Stmt.{the_lemmas}
-use Rattle.pdl_syntax.specs.View.{expr_view, span_view, pipe_view, stmt_view}
+use Rattle.pdl_tree.specs.declared.tree.Stmt.{the_lemmas}
+use Rattle.pdl_tree.specs.View.{expr_view, span_view, pipe_view, stmt_view}
 use Rattle.pdl_machine.specs.Stage.{IsRunnable}
 use Rattle.pdl_machine.proofs.Calling.{args_count}
 use Rattle.pdl_machine.proofs.calls.call_stmt.Goals as goal

@@ -2,7 +2,7 @@ use Rattle.std.proofs.Common.{◌≡◌, ap, ◌∙◌, Some, map, length, ◌-�
 use Rattle.std.proofs.lemmas.List.{length-map}
 use Rattle.pdl_model.specs.Flat.{values_of}
 use Rattle.pdl_model.specs.Flatten.{flat_exprs}
-use Rattle.pdl_syntax.specs.View.{expr_view}
+use Rattle.pdl_tree.specs.View.{expr_view}
 use Rattle.pdl_machine.specs.Rows.{values_after}
 use Rattle.pdl_machine.proofs.Calling.{values_count, after_count, index_zeros, fill_more, fill_all}
 use Rattle.pdl_machine.proofs.calls.fill.Goals as goal

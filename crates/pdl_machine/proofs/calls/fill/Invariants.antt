@@ -1,7 +1,7 @@
 use Rattle.std.proofs.Common.{◌≡◌, map, take, Some}
 use Rattle.pdl_model.specs.Flat.{values_of}
 use Rattle.pdl_model.specs.Flatten.{flat_exprs}
-use Rattle.pdl_syntax.specs.View.{expr_view}
+use Rattle.pdl_tree.specs.View.{expr_view}
 use Rattle.pdl_machine.specs.Rows.{values_after}
 use Rattle.pdl_machine.proofs.calls.fill.Given as goal
 

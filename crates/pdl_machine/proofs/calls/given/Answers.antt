@@ -3,7 +3,7 @@ use Rattle.std.proofs.lemmas.List.{length-map}
 use Rattle.pdl_model.specs.Tree.{Expr}
 use Rattle.pdl_model.specs.Flat.{value_of}
 use Rattle.pdl_model.specs.Flatten.{flat_expr}
-use Rattle.pdl_syntax.specs.View.{expr_view, param_view}
+use Rattle.pdl_tree.specs.View.{expr_view, param_view}
 use Rattle.pdl_rules.specs.Typed.{IsTyped}
 use Rattle.pdl_machine.proofs.Memories.{seen_at}
 use Rattle.pdl_machine.proofs.Calling.{args_count, typed_at, value_at, value_past}

@@ -8,7 +8,7 @@ use Rattle.pdl_machine.specs.Values.{Fit}
 use Rattle.pdl_machine.specs.Parts.{parts_view}
 use Rattle.pdl_machine.specs.Order.{parts}
 use Rattle.pdl_machine.specs.Lists.{lists}
-use Rattle.pdl_syntax.specs.View.{pipe_view, stmt_view}
+use Rattle.pdl_tree.specs.View.{pipe_view, stmt_view}
 use Rattle.pdl_machine.specs.Memory.{memory_view}
 use Rattle.pdl_machine.specs.Acts.{AreAfter, IsAfter, slot_view}
 use Rattle.pdl_machine.proofs.Acting.{AreDecided}

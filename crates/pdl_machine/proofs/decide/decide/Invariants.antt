@@ -1,7 +1,7 @@
 use Rattle.std.proofs.Common.{◌≤◌, Bool, List, map, drop, length}
 use Rattle.pdl_model.specs.Flatten.{flat}
 use Rattle.pdl_model.specs.Machine.{State}
-use Rattle.pdl_syntax.specs.View.{pipe_view}
+use Rattle.pdl_tree.specs.View.{pipe_view}
 use Rattle.pdl_machine.specs.Memory.{memory_view}
 use Rattle.pdl_machine.specs.State.{Shows}
 use Rattle.pdl_machine.specs.Acts.{slot_view, AreAfter, AreLong}

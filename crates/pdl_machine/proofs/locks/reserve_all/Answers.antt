@@ -2,7 +2,7 @@ use Rattle.std.proofs.Common.{◌≡◌, ◌∙◌, sym, ap, ap₂, ℕ, suc, �
 use Rattle.std.proofs.lemmas.List.{length-map}
 use Rattle.pdl_model.specs.Tree.{Stmt}
 use Rattle.pdl_model.specs.Machine.{Pending}
-use Rattle.pdl_syntax.specs.View.{pipe_view, stmt_view}
+use Rattle.pdl_tree.specs.View.{pipe_view, stmt_view}
 use Rattle.pdl_machine.specs.Lists.{lists}
 use Rattle.pdl_machine.specs.Parts.{parts_view}
 use Rattle.pdl_machine.specs.Rows.{rows_of, mover_at, after_at, stmts_at, entries_of, appended_from}

@@ -1,7 +1,7 @@
 use Rattle.std.proofs.Common.{◌≡◌, ◌≤◌, ◌+◌, ◌++◌, map, drop, length}
 use Rattle.std.specs.Prelude.{vec_len, vec_capacity}
 use Rattle.pdl_model.specs.Cycle.{new_entries}
-use Rattle.pdl_syntax.specs.View.{pipe_view, stmt_view}
+use Rattle.pdl_tree.specs.View.{pipe_view, stmt_view}
 use Rattle.pdl_machine.specs.Pending.{pending_view}
 use Rattle.pdl_machine.specs.Stage.{AreRunnable}
 use Rattle.pdl_machine.specs.Effects.{reserves_in}

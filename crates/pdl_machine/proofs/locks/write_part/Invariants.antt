@@ -1,6 +1,6 @@
 use Rattle.std.proofs.Common.{◌≡◌, map, drop}
 use Rattle.pdl_model.specs.Cycle.{put_all}
-use Rattle.pdl_syntax.specs.View.{pipe_view, stmt_view}
+use Rattle.pdl_tree.specs.View.{pipe_view, stmt_view}
 use Rattle.pdl_machine.specs.Pending.{pending_view}
 use Rattle.pdl_machine.specs.Stage.{AreRunnable}
 use Rattle.pdl_machine.specs.Effects.{writes_in}

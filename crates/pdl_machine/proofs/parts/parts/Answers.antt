@@ -1,7 +1,7 @@
 use denote.Bor.{Bor}
 use Rattle.std.proofs.Common.{refl, sym, ap, ap₂, ◌∙◌, ℕ, ◌+◌, List, map, arith}
-use Rattle.pdl_syntax.specs.declared.tree.Stmt as r_stmt
-use Rattle.pdl_syntax.specs.View.{stmt_view}
+use Rattle.pdl_tree.specs.declared.tree.Stmt as r_stmt
+use Rattle.pdl_tree.specs.View.{stmt_view}
 use Rattle.pdl_machine.specs.Order.{parts}
 use Rattle.pdl_machine.proofs.Cutting.{has, cut_separator, cut_plain}
 use Rattle.pdl_machine.proofs.parts.parts.Goals as goal

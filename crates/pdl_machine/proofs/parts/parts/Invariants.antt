@@ -1,5 +1,5 @@
 use Rattle.std.proofs.Common.{◌≡◌, ◌≤◌, ◌++◌, map, drop, slice_range}
-use Rattle.pdl_syntax.specs.View.{stmt_view}
+use Rattle.pdl_tree.specs.View.{stmt_view}
 use Rattle.pdl_machine.specs.Order.{parts}
 use Rattle.pdl_machine.specs.Parts.{parts_view}
 use Rattle.pdl_machine.proofs.Cutting.{led}

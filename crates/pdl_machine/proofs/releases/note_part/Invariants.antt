@@ -1,5 +1,5 @@
 use Rattle.std.proofs.Common.{◌≡◌, ◌++◌, map, drop}
-use Rattle.pdl_syntax.specs.View.{pipe_view, stmt_view}
+use Rattle.pdl_tree.specs.View.{pipe_view, stmt_view}
 use Rattle.pdl_machine.specs.Stage.{AreRunnable, all_ops}
 use Rattle.pdl_machine.specs.Effects.{held_ops, released_ops}
 use Rattle.pdl_machine.specs.Setup.{held_view}

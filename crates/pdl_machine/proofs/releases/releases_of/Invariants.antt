@@ -1,5 +1,5 @@
 use Rattle.std.proofs.Common.{◌≡◌, ◌++◌, [], map, drop}
-use Rattle.pdl_syntax.specs.View.{pipe_view}
+use Rattle.pdl_tree.specs.View.{pipe_view}
 use Rattle.pdl_machine.specs.Lists.{lists}
 use Rattle.pdl_machine.specs.Parts.{parts_view}
 use Rattle.pdl_machine.specs.Effects.{released_parts}

@@ -1,5 +1,5 @@
 use Rattle.std.proofs.Common.{◌≡◌, ◌≤◌, ◌+◌, map, drop}
-use Rattle.pdl_syntax.specs.View.{stmt_view}
+use Rattle.pdl_tree.specs.View.{stmt_view}
 use Rattle.pdl_machine.specs.Setup.{bound_count}
 use Rattle.pdl_machine.proofs.setup.all_bound.Given as goal
 

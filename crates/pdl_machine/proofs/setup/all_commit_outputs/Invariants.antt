@@ -1,5 +1,5 @@
 use Rattle.std.proofs.Common.{◌≡◌, ◌≤◌, ◌+◌, ◌*◌, map, drop}
-use Rattle.pdl_syntax.specs.View.{mem_view}
+use Rattle.pdl_tree.specs.View.{mem_view}
 use Rattle.pdl_machine.specs.Outputs.{all_commit_count}
 use Rattle.pdl_machine.proofs.setup.all_commit_outputs.Given as goal
 

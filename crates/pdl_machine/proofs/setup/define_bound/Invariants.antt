@@ -1,5 +1,5 @@
 use Rattle.std.proofs.Common.{◌≡◌, [], map, fold, drop}
-use Rattle.pdl_syntax.specs.View.{mem_view, stmt_view}
+use Rattle.pdl_tree.specs.View.{mem_view, stmt_view}
 use Rattle.pdl_rules.specs.Places.{Statement}
 use Rattle.pdl_rules.specs.Widths.{after_place}
 use Rattle.pdl_machine.proofs.setup.define_bound.Given as goal

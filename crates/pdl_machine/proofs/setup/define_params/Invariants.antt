@@ -1,5 +1,5 @@
 use Rattle.std.proofs.Common.{◌≡◌, map, fold, drop}
-use Rattle.pdl_syntax.specs.View.{mem_view, param_view}
+use Rattle.pdl_tree.specs.View.{mem_view, param_view}
 use Rattle.pdl_rules.specs.Places.{Parameter}
 use Rattle.pdl_rules.specs.Widths.{after_place}
 use Rattle.pdl_machine.proofs.setup.define_params.Given as goal

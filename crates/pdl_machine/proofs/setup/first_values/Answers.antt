@@ -1,7 +1,7 @@
 use Rattle.std.proofs.Common.{◌≡◌, ◌∙◌, ◌-◌, ◌++◌, ap, ℕ, List, map, length, replicate}
 use Rattle.pdl_model.specs.Flatten.{start_of}
-use Rattle.pdl_syntax.specs.declared.tree.Literal as r_literal
-use Rattle.pdl_syntax.specs.View.{literal_view}
+use Rattle.pdl_tree.specs.declared.tree.Literal as r_literal
+use Rattle.pdl_tree.specs.View.{literal_view}
 use Rattle.pdl_machine.proofs.Rounds.{start_count}
 use Rattle.pdl_machine.proofs.setup.first_values.Goals as goal
 

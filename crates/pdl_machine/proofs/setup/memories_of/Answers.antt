@@ -2,7 +2,7 @@ use Rattle.std.proofs.Common.{◌≡◌, ◌<◌, ◌∙◌, ◌+◌, ◌++◌, 
 use Rattle.std.specs.Prelude.{vec_capacity}
 use Rattle.std.proofs.lemmas.List.{length-map, map-append, drop-map}
 use Rattle.pdl_model.specs.Tree as tree
-use Rattle.pdl_syntax.specs.View.{mem_view, stmt_view}
+use Rattle.pdl_tree.specs.View.{mem_view, stmt_view}
 use Rattle.pdl_machine.specs.declared.memory.Memory as r_memory
 use Rattle.pdl_machine.specs.Memory.{Memory, memory_view}
 use Rattle.pdl_machine.specs.Rows.{capacities}

@@ -1,5 +1,5 @@
 use Rattle.std.proofs.Common.{◌≡◌, ◌++◌, map, drop}
-use Rattle.pdl_syntax.specs.View.{mem_view, pipe_view, stmt_view}
+use Rattle.pdl_tree.specs.View.{mem_view, pipe_view, stmt_view}
 use Rattle.pdl_machine.specs.Memory.{memory_view}
 use Rattle.pdl_machine.specs.Rows.{capacities}
 use Rattle.pdl_machine.specs.Setup.{first_memories, first_capacities}

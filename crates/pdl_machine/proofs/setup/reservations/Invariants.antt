@@ -1,5 +1,5 @@
 use Rattle.std.proofs.Common.{◌≡◌, ◌≤◌, ◌+◌, map, drop}
-use Rattle.pdl_syntax.specs.View.{mem_view, stmt_view}
+use Rattle.pdl_tree.specs.View.{mem_view, stmt_view}
 use Rattle.pdl_machine.specs.Effects.{reserve_count}
 use Rattle.pdl_machine.proofs.setup.reservations.Given as goal
 

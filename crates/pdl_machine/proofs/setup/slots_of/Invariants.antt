@@ -1,6 +1,6 @@
 use Rattle.std.proofs.Common.{◌≡◌, ◌≤◌, ◌-◌, ◌∷◌, ◌++◌, Some, None, map, length, replicate}
 use Rattle.pdl_model.specs.Flatten.{start_of}
-use Rattle.pdl_syntax.specs.View.{pipe_view}
+use Rattle.pdl_tree.specs.View.{pipe_view}
 use Rattle.pdl_machine.specs.State.{thread_of}
 use Rattle.pdl_machine.specs.Acts.{slot_view}
 use Rattle.pdl_machine.specs.Slots.{slot_values}

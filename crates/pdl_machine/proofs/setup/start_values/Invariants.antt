@@ -1,6 +1,6 @@
 use Rattle.std.proofs.Common.{◌≡◌, ◌++◌, map, drop}
 use Rattle.pdl_model.specs.Flatten.{start_of}
-use Rattle.pdl_syntax.specs.View.{literal_view}
+use Rattle.pdl_tree.specs.View.{literal_view}
 use Rattle.pdl_machine.proofs.setup.start_values.Given as goal
 
 -- those that are left give the rest

@@ -1,6 +1,6 @@
 use Rattle.std.proofs.Common.{ap, ◌∙◌, map, arith}
 use Rattle.pdl_model.specs.Flatten.{mem_of}
-use Rattle.pdl_syntax.specs.View.{mem_view}
+use Rattle.pdl_tree.specs.View.{mem_view}
 use Rattle.pdl_machine.specs.Memory.{memory_view}
 use Rattle.pdl_machine.specs.Stage.{no_memory, memory_at}
 use Rattle.pdl_machine.proofs.Memories.{memory_within, seen_at}

@@ -1,6 +1,6 @@
 use Rattle.std.proofs.Common.{refl, sym, subst, Bool, map}
 use Rattle.pdl_model.specs.Flatten.{flat}
-use Rattle.pdl_syntax.specs.View.{pipe_view, stmt_view}
+use Rattle.pdl_tree.specs.View.{pipe_view, stmt_view}
 use Rattle.pdl_machine.specs.Memory.{memory_view}
 use Rattle.pdl_machine.specs.State.{Decides}
 use Rattle.pdl_machine.proofs.Moving.{deciding}

@@ -1,5 +1,5 @@
 use Rattle.std.proofs.Common.{refl, sym, ap, ◌∙◌, map}
-use Rattle.pdl_syntax.specs.View.{pipe_view, stmt_view}
+use Rattle.pdl_tree.specs.View.{pipe_view, stmt_view}
 use Rattle.pdl_machine.specs.Memory.{memory_view}
 use Rattle.pdl_machine.specs.Stage.{after_ops, all_let_move, word_of}
 use Rattle.pdl_machine.proofs.Deeds.{deeds-values, deeds-let}

@@ -1,7 +1,7 @@
 use Rattle.std.proofs.Common.{◌≡◌, rules, subst, arith}
 use Rattle.pdl_model.specs.Tree as tree
-use Rattle.pdl_syntax.specs.View.{expr_view, ident_view, number_view}
-use Rattle.pdl_syntax.specs.declared.tree.Expr.{the_lemmas}
+use Rattle.pdl_tree.specs.View.{expr_view, ident_view, number_view}
+use Rattle.pdl_tree.specs.declared.tree.Expr.{the_lemmas}
 use Rattle.pdl_rules.specs.Typed.{IsTyped}
 use Rattle.pdl_machine.proofs.Fitting.{var_high}
 use Rattle.pdl_machine.proofs.value.+value_of.Goals as goal

@@ -1,6 +1,6 @@
 use Rattle.std.proofs.Common.{◌≡◌, [], map, length, refl, sym, ap, ap₂, ◌∙◌, arith}
 use Rattle.pdl_model.specs.Flatten.{params_of}
-use Rattle.pdl_syntax.specs.View.{param_view, pipe_view}
+use Rattle.pdl_tree.specs.View.{param_view, pipe_view}
 use Rattle.pdl_net.proofs.Keeps.{extends_trans, extends_keeps, means_keeps}
 use Rattle.pdl_build.specs.Expr.{vars_of}
 use Rattle.pdl_trunk.specs.Views.{entry}

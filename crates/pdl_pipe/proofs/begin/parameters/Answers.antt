@@ -1,7 +1,7 @@
 use Rattle.std.proofs.Common.{◌≡◌, ◌+◌, ◌<◌, ◌++◌, map, length, drop, sym, ap, ◌∙◌, subst, arith, unwrap_or}
 use Rattle.std.specs.Prelude.{slice_index}
 use Rattle.pdl_model.specs.Flatten.{Var, params_of, start_of}
-use Rattle.pdl_syntax.specs.View.{literal_view, param_view}
+use Rattle.pdl_tree.specs.View.{literal_view, param_view}
 use Rattle.pdl_net.specs.declared.Net.TheVariants.{Reg as RegNet}
 use Rattle.pdl_net.specs.Circuit.{reg_reset}
 use Rattle.pdl_net.proofs.Keeps.{extends_refl, extends_trans}

@@ -1,7 +1,7 @@
 use Rattle.std.proofs.Common.{◌≡◌, ◌+◌, ◌++◌, ◌<◌, ℕ, map, drop, length}
 use Rattle.std.specs.Prelude.{slice_index}
 use Rattle.pdl_model.specs.Flatten.{params_of, start_of}
-use Rattle.pdl_syntax.specs.View.{literal_view, param_view}
+use Rattle.pdl_tree.specs.View.{literal_view, param_view}
 use Rattle.pdl_net.specs.Circuit.{reg_reset}
 use Rattle.pdl_net.specs.Growth.{Extends}
 use Rattle.pdl_pipe.specs.Begun.{var_regs, width_of_var, AreRegs}

@@ -1,5 +1,5 @@
 use Rattle.std.proofs.Common.{◌≡◌, ◌++◌, drop, map}
-use Rattle.pdl_syntax.specs.View.{mem_view}
+use Rattle.pdl_tree.specs.View.{mem_view}
 use Rattle.pdl_pipe.specs.Asked.{locks_asked}
 use Rattle.pdl_pipe.proofs.locks.locks_of.Given as goal
 

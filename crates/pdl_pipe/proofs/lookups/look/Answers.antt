@@ -1,6 +1,6 @@
 use Rattle.std.proofs.Common.{◌∙◌, ap, sym, map}
 use Rattle.std.specs.Prelude.{slice_index, is_some}
-use Rattle.pdl_syntax.specs.View.{mem_view}
+use Rattle.pdl_tree.specs.View.{mem_view}
 use Rattle.pdl_net.specs.Meaning.{signal}
 use Rattle.pdl_pipe.specs.Made.{heads_in, width_of_mem}
 use Rattle.pdl_pipe.proofs.WalkMems.{in_low}

@@ -1,6 +1,6 @@
 use Rattle.std.proofs.Common.{◌≡◌, ◌+◌, map, drop}
 use Rattle.pdl_model.specs.Flatten.{mem_of}
-use Rattle.pdl_syntax.specs.View.{mem_view}
+use Rattle.pdl_tree.specs.View.{mem_view}
 use Rattle.pdl_pipe.proofs.lookups.number_of.Given as goal
 
 abbrev pub invariant-loop-i : goal.invariant-loop-i

@@ -1,7 +1,7 @@
 use Rattle.std.proofs.Common.{◌≡◌, ◌∙◌, [], ◌∷◌, true, refl, ap, subst, List}
 use Rattle.std.specs.Prelude.{is_some, not}
 use Rattle.pdl_kit.specs.declared.mem_info.MemInfo.{MemInfo}
-use Rattle.pdl_syntax.specs.View.{mem_view}
+use Rattle.pdl_tree.specs.View.{mem_view}
 use Rattle.pdl_net.specs.Circuit.{Shape}
 use Rattle.pdl_net.specs.Growth.{ExtendsArrays}
 use Rattle.pdl_trunk.specs.Compiled.{shape_of_mem}

@@ -2,7 +2,7 @@ use Rattle.std.proofs.Common.{◌+◌, ◌<◌, length, map, List, sym, subst, a
 use Rattle.std.specs.Prelude.{Option}
 use Rattle.std.proofs.lemmas.List.{length-map}
 use Rattle.pdl_lockapi.specs.declared.LockRegs.{LockRegs}
-use Rattle.pdl_syntax.specs.View.{mem_view}
+use Rattle.pdl_tree.specs.View.{mem_view}
 use Rattle.pdl_pipe.proofs.LockMade.{AreMadeTo, mem_is, sized_at, comb_at, info_is, made_none, made_more, made_all}
 use Rattle.pdl_pipe.proofs.memories.memories.Goals as goal
 

@@ -1,5 +1,5 @@
 use Rattle.std.proofs.Common.{map}
-use Rattle.pdl_syntax.specs.View.{mem_view}
+use Rattle.pdl_tree.specs.View.{mem_view}
 use Rattle.pdl_pipe.proofs.LockMade.{AreMadeTo}
 use Rattle.pdl_pipe.proofs.memories.memories.Given as goal
 

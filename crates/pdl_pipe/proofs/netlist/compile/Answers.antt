@@ -1,7 +1,7 @@
 use Rattle.std.proofs.Common.{◌≡◌, true, sym, ap, subst, map, ◌∙◌}
 use Rattle.std.specs.Prelude.{IsTrue}
-use Rattle.pdl_syntax.specs.declared.tree.Pipe as r_pipe
-use Rattle.pdl_syntax.specs.View.{pipe_view, mem_view}
+use Rattle.pdl_tree.specs.declared.tree.Pipe as r_pipe
+use Rattle.pdl_tree.specs.View.{pipe_view, mem_view}
 use Rattle.pdl_rules.specs.Refusal.{KeepsRules, is_in_line}
 use Rattle.pdl_check.specs.Memories.{infos_of}
 use Rattle.pdl_check.specs.Queues.{all_queued}

@@ -1,5 +1,5 @@
 use Rattle.std.proofs.Common.{refl, sym, subst, map, ◌∙◌}
-use Rattle.pdl_syntax.specs.View.{pipe_view, stmt_view}
+use Rattle.pdl_tree.specs.View.{pipe_view, stmt_view}
 use Rattle.pdl_net.specs.Circuit.{Circuit}
 use Rattle.pdl_trunk.specs.Compiled.{IsCompiled}
 use Rattle.pdl_pipe.specs.Front.{Members, locks_in}

@@ -2,7 +2,7 @@ use Rattle.std.proofs.Common.{refl, sym, ap, ◌∙◌, subst, ◌≡◌, ℕ, �
 use Rattle.std.proofs.lemmas.List.{length-map}
 use Rattle.pdl_net.specs.declared.Net.{Net}
 use Rattle.pdl_net.specs.Meaning.{Means}
-use Rattle.pdl_syntax.specs.View.{pipe_view, mem_view, stmt_view}
+use Rattle.pdl_tree.specs.View.{pipe_view, mem_view, stmt_view}
 use Rattle.pdl_trunk.specs.Views.{entry, no_walk, view_at, moves_at}
 use Rattle.pdl_pipe.specs.declared.nets.StageNets.{StageNets}
 use Rattle.pdl_pipe.specs.Moved.{AreGated}

@@ -1,8 +1,8 @@
 use Rattle.std.proofs.Common.{◌≡◌, List, map, length, refl, sym, subst}
 use Rattle.std.specs.Prelude.{Option}
 use Rattle.std.proofs.lemmas.List.{length-map}
-use Rattle.pdl_syntax.specs.declared.tree.Mem as r_mem
-use Rattle.pdl_syntax.specs.View.{pipe_view, mem_view, stmt_view}
+use Rattle.pdl_tree.specs.declared.tree.Mem as r_mem
+use Rattle.pdl_tree.specs.View.{pipe_view, mem_view, stmt_view}
 use Rattle.pdl_net.proofs.Keeps.{extends_keeps, extends_trans, means_keeps}
 use Rattle.pdl_rules.specs.Typed.{AreSized}
 use Rattle.pdl_rules.proofs.Legal.{legal_in_line}

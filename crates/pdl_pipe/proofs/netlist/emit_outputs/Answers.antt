@@ -1,7 +1,7 @@
 use Rattle.std.proofs.Common.{◌≡◌, List, map, refl, sym, subst}
 use Rattle.std.proofs.lemmas.Result.{on_ok_weaker}
 use Rattle.std.specs.Prelude.{Option}
-use Rattle.pdl_syntax.specs.View.{pipe_view, stmt_view}
+use Rattle.pdl_tree.specs.View.{pipe_view, stmt_view}
 use Rattle.pdl_net.specs.Growth.{ExtendsPorts}
 use Rattle.pdl_lockapi.specs.declared.LockNets.{LockNets}
 use Rattle.pdl_trunk.specs.Ports.{all_shown}

@@ -1,6 +1,6 @@
 use Rattle.std.proofs.Common.{◌≡◌, ◌∙◌, List, sym, subst, ap, map}
 use Rattle.std.proofs.lemmas.Result.{IfOk-weaker}
-use Rattle.pdl_syntax.specs.View.{mem_view}
+use Rattle.pdl_tree.specs.View.{mem_view}
 use Rattle.pdl_pipe.specs.declared.outputs.OutNet.{OutNet}
 use Rattle.pdl_pipe.specs.Sized.{ends_in, commits_in}
 use Rattle.pdl_trunk.specs.Ports.{all_shown}

@@ -1,5 +1,5 @@
 use Rattle.std.proofs.Common.{◌≡◌, ℕ, suc, ◌-◌, length, sym, ap, ◌∙◌, subst, arith, IfOk}
-use Rattle.pdl_syntax.specs.View.{pipe_view}
+use Rattle.pdl_tree.specs.View.{pipe_view}
 use Rattle.pdl_trunk.specs.Walk.{Walk}
 use Rattle.pdl_trunk.specs.Views.{entry}
 use Rattle.pdl_pipe.specs.declared.nets.StageNets.{StageNets}

@@ -1,6 +1,6 @@
 use Rattle.std.proofs.Common.{List, map, length, sym, subst}
 use Rattle.pdl_model.specs.Flatten.{Var}
-use Rattle.pdl_syntax.specs.View.{stmt_view, stmts_view, pipe_view}
+use Rattle.pdl_tree.specs.View.{stmt_view, stmts_view, pipe_view}
 use Rattle.pdl_net.proofs.Keeps.{extends_keeps, extends_trans}
 use Rattle.pdl_slots.specs.Fit.{AreFit}
 use Rattle.pdl_trunk.specs.Walk.{AreSteps}

@@ -1,7 +1,7 @@
 use Rattle.std.proofs.Common.{◌≡◌, ◌+◌, ◌<◌, ◌≤◌, ◌∷◌, ◌++◌, [], List, map, length, get_or, take, drop, refl, sym, ap, ◌∙◌, subst, arith}
 use Rattle.std.proofs.lemmas.List.{take_more, drop_more, take_all}
 use Rattle.pdl_model.specs.Tree.{Stmt}
-use Rattle.pdl_syntax.specs.View.{stmt_view, pipe_view}
+use Rattle.pdl_tree.specs.View.{stmt_view, pipe_view}
 use Rattle.pdl_net.proofs.Keeps.{extends_keeps, extends_trans, extends_refl}
 use Rattle.pdl_stages.specs.Parts.{parts, parts_view}
 use Rattle.pdl_trunk.specs.Views.{entry}

@@ -1,5 +1,5 @@
 use Rattle.std.proofs.Common.{◌≡◌, take, drop, length}
-use Rattle.pdl_syntax.specs.View.{pipe_view}
+use Rattle.pdl_tree.specs.View.{pipe_view}
 use Rattle.pdl_net.specs.Growth.{Extends}
 use Rattle.pdl_stages.specs.Parts.{parts_view}
 use Rattle.pdl_pipe.specs.Made.{AreMade, locks_with, heads_in}

@@ -1,7 +1,7 @@
 use Rattle.std.proofs.Common.{◌≡◌, ◌^◌, ◌<◌, map, length, sym, ap, ◌∙◌, arith}
 use Rattle.std.specs.Prelude.{Some}
 use Rattle.std.proofs.lemmas.List.{length-map}
-use Rattle.pdl_syntax.specs.View.{mem_view}
+use Rattle.pdl_tree.specs.View.{mem_view}
 use Rattle.pdl_lockapi.specs.Laws.{own}
 use Rattle.pdl_net.specs.Meaning.{signal}
 use Rattle.pdl_pipe.specs.Made.{some_at, of_lock, heads_in, locks_with}

@@ -1,5 +1,5 @@
 use Rattle.std.proofs.Common.{map}
-use Rattle.pdl_syntax.specs.View.{mem_view}
+use Rattle.pdl_tree.specs.View.{mem_view}
 use Rattle.pdl_pipe.specs.Sized.{ends_in}
 use Rattle.pdl_pipe.specs.Locked.{AreStepped, ExtendsLocks}
 use Rattle.pdl_pipe.proofs.steps.steps.Given as goal

@@ -1,5 +1,5 @@
 use Rattle.std.proofs.Common.{◌∙◌, sym, subst, map}
-use Rattle.pdl_syntax.specs.View.{exprs_view}
+use Rattle.pdl_tree.specs.View.{exprs_view}
 use Rattle.pdl_build.specs.Expr.{vars_of, expr_signal}
 use Rattle.pdl_build.specs.Env.{scope}
 use Rattle.pdl_build.proofs.Scopes.{scope_kept, there_kept}

@@ -1,5 +1,5 @@
 use Rattle.std.proofs.Common.{◌≡◌, ◌++◌, map, drop}
-use Rattle.pdl_syntax.specs.View.{exprs_view}
+use Rattle.pdl_tree.specs.View.{exprs_view}
 use Rattle.pdl_net.specs.Meaning.{signal}
 use Rattle.pdl_net.specs.Growth.{Extends}
 use Rattle.pdl_build.specs.Expr.{vars_of, expr_signal}

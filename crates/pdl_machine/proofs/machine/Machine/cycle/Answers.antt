@@ -1,4 +1,7 @@
+use Rattle.std.specs.Prelude.{IsTrue}
 use Rattle.pdl_model.specs.Promises.{Advances}
+use Rattle.pdl_model.specs.Machine.{State}
+use Rattle.pdl_model.specs.Sound.{is_sound}
 use Rattle.pdl_model.specs.Flat.{arrays_of}
 use Rattle.std.proofs.Common.{◌≡◌, ap, ap₂, ◌∙◌, List, length, Vec, Global, arith, rules, sym, subst, ℕ, Bool, [], ◌∷◌, ◌++◌}
 use Rattle.std.specs.Vec.{with_items}
@@ -6,13 +9,13 @@ use Rattle.pdl_model.specs.Flatten.{flat}
 use Rattle.pdl_model.specs.Moves.{all_acts}
 use Rattle.pdl_model.specs.Cycle as stated
 use Rattle.pdl_slots.specs.Ports.{port_values}
-use Rattle.pdl_syntax.specs.View.{pipe_view}
+use Rattle.pdl_tree.specs.View.{pipe_view}
 use Rattle.pdl_machine.specs.declared.memory.Memory as r_memory
 use Rattle.pdl_machine.specs.declared.slot.Slot as r_slot
 use Rattle.pdl_machine.specs.Ready.{state_from}
 use Rattle.pdl_machine.specs.Running.{Running, flat_of, state_of}
 use Rattle.pdl_machine.proofs.Counted.{ports_counted}
-use Rattle.pdl_machine.proofs.Promised.{run_on, refines, advances, paces}
+use Rattle.pdl_machine.proofs.Promised.{run_on, refines, advances, paces, stays_sound}
 use Rattle.pdl_machine.proofs.Turning.{ready_of}
 use Rattle.pdl_machine.proofs.Sweeps.{all_written}
 use Rattle.pdl_machine.proofs.machine.Machine.cycle.Goals as goal
@@ -57,6 +60,8 @@ invariant_of-self c =
     let many : length new.memories ≡ length m.memories.items = c.step-called.auto.memories ∙ ap (λ (xs : List r_memory.Memory). length xs) c.deref_mut.ensures.value in
     record {
       in_line = v.in_line;
+      source = v.source;
+      letters = v.letters;
       kept = v.kept;
       ready = ready_of m.pipe.now m.names c.deref.ensures.value c.deref-2.ensures.value (sym memories) (sym slots) (sym after) c.step-called.ensures.ready;
       moves = ap (λ (xs : List Bool). length xs) moves ∙ moved ∙ v.moves;
@@ -76,11 +81,23 @@ returns-clause-run c image schedule bits h =
     ∙ ap (λ (r : Running). stated.state_after (flat_of r) (stated.first (flat_of r) (arrays_of image)) (schedule ++ bits ∷ [])) (sym c.self.view_is)
 
 pub returns-clause-refines : goal.returns-clause-refines
-returns-clause-refines c image schedule h = refines (pipe_view c.self.inside.pipe.now) c.self.invariant.in_line c.self.invariant.kept (arrays_of image) schedule
+returns-clause-refines c image schedule h =
+    let v = c.self.invariant in
+    refines (pipe_view c.self.inside.pipe.now) v.source v.letters v.kept (arrays_of image) schedule
 
 pub returns-clause-moves : goal.returns-clause-moves
 returns-clause-moves c image schedule bits h =
-    subst (λ (r : Running). Advances (flat_of r) (arrays_of image) schedule bits) c.self.view_is (advances (pipe_view c.self.inside.pipe.now) c.self.invariant.in_line c.self.invariant.kept (arrays_of image) schedule bits)
+    let v = c.self.invariant in
+    subst (λ (r : Running). Advances (flat_of r) (arrays_of image) schedule bits) c.self.view_is (advances (pipe_view c.self.inside.pipe.now) v.source v.letters v.kept (arrays_of image) schedule bits)
 
 pub returns-clause-pace : goal.returns-clause-pace
-returns-clause-pace c image schedule h = paces (pipe_view c.self.inside.pipe.now) c.self.invariant.in_line c.self.invariant.kept (arrays_of image) schedule
+returns-clause-pace c image schedule h =
+    let v = c.self.invariant in
+    paces (pipe_view c.self.inside.pipe.now) v.source v.letters v.kept (arrays_of image) schedule
+
+pub returns-clause-sound : goal.returns-clause-sound
+returns-clause-sound c image schedule h =
+    let v = c.self.invariant in
+    let p = flat (pipe_view c.self.inside.pipe.now) in
+    subst (λ (st : State). IsTrue (is_sound p (arrays_of image) (stated.ended_in (stated.turns p (arrays_of image) schedule)) st)) (sym h)
+    (stays_sound (pipe_view c.self.inside.pipe.now) v.source v.letters v.kept (arrays_of image) schedule)

@@ -3,9 +3,9 @@ use Rattle.std.proofs.Common.{◌≡◌, ◌-◌, ap, ◌∙◌, ℕ, List, [], 
 use Rattle.std.specs.Prelude.{vec_len}
 use Rattle.std.proofs.lemmas.List.{length-map, length-replicate}
 use Rattle.pdl_model.specs.Flatten.{start_of}
-use Rattle.pdl_syntax.specs.declared.tree.Mem as r_mem
-use Rattle.pdl_syntax.specs.declared.tree.Stmt as r_stmt
-use Rattle.pdl_syntax.specs.View.{literal_view, mem_view, pipe_view, stmt_view}
+use Rattle.pdl_tree.specs.declared.tree.Mem as r_mem
+use Rattle.pdl_tree.specs.declared.tree.Stmt as r_stmt
+use Rattle.pdl_tree.specs.View.{literal_view, mem_view, pipe_view, stmt_view}
 use Rattle.pdl_machine.specs.Memory.{memory_view}
 use Rattle.pdl_machine.specs.Lists.{lists}
 use Rattle.pdl_machine.specs.Order.{parts}
@@ -72,6 +72,8 @@ invariant_of-result c =
     let shown : vec_len c.in_ok-shown.shown ≡ length c.in_ok-shown.shown.items = c.in_ok-shown.shown.ok.0 in
     record {
       in_line = c.requires.in_line;
+      source = c.requires.source;
+      letters = c.requires.letters;
       kept = c.requires.kept;
       ready = ready;
       moves = c.in_ok-moves.ensures ∙ long3;

@@ -1,4 +1,4 @@
-use Rattle.pdl_syntax.specs.View.{ident_view, expr_view}
+use Rattle.pdl_tree.specs.View.{ident_view, expr_view}
 use Rattle.pdl_build.specs.Expr.{expr_signal}
 use Rattle.pdl_build.specs.Env.{scope}
 use Rattle.pdl_pipe.proofs.WalkKept.{on_ok}

@@ -1,5 +1,5 @@
 use Rattle.std.proofs.Common.{refl}
-use Rattle.pdl_syntax.specs.View.{ident_view}
+use Rattle.pdl_tree.specs.View.{ident_view}
 use Rattle.pdl_net.specs.Meaning.{signal, Means}
 use Rattle.pdl_pipe.proofs.WalkKept.{on_ok}
 use Rattle.pdl_pipe.proofs.WalkSteps.{bound_there, bound_walk}

@@ -1,6 +1,6 @@
 use Rattle.std.proofs.Common.{map, refl}
 use Rattle.std.specs.Prelude.{Some}
-use Rattle.pdl_syntax.specs.View.{exprs_view}
+use Rattle.pdl_tree.specs.View.{exprs_view}
 use Rattle.pdl_build.specs.Expr.{expr_signal}
 use Rattle.pdl_build.specs.Env.{scope}
 use Rattle.pdl_pipe.proofs.WalkSteps.{called_there, called_walk}

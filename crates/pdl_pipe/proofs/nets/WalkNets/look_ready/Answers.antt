@@ -1,5 +1,5 @@
 use Rattle.std.proofs.Common.{◌≡◌, ◌∙◌, ◌<◌, ap, ap₂, sym, subst, map}
-use Rattle.pdl_syntax.specs.View.{location_view, mem_view}
+use Rattle.pdl_tree.specs.View.{location_view, mem_view}
 use Rattle.pdl_net.specs.Meaning.{signal, IsThere}
 use Rattle.pdl_build.specs.Expr.{vars_of, named}
 use Rattle.pdl_build.specs.Env.{scope}

@@ -1,5 +1,5 @@
 use Rattle.std.proofs.Common.{◌∙◌, sym, map, refl}
-use Rattle.pdl_syntax.specs.View.{location_view, mem_view}
+use Rattle.pdl_tree.specs.View.{location_view, mem_view}
 use Rattle.pdl_model.specs.Flatten.{mem_of}
 use Rattle.pdl_net.specs.Signal.{no_signal}
 use Rattle.pdl_net.proofs.Keeps.{extends_refl}

@@ -1,6 +1,6 @@
 use Rattle.std.proofs.Common.{◌≡◌, ◌∙◌, ◌<◌, List, [], ◌∷◌, ◌++◌, ap, ap₂, sym, subst, map}
 use Rattle.std.specs.Prelude.{Some}
-use Rattle.pdl_syntax.specs.View.{location_view, mem_view}
+use Rattle.pdl_tree.specs.View.{location_view, mem_view}
 use Rattle.pdl_net.specs.Meaning.{signal}
 use Rattle.pdl_build.specs.Expr.{vars_of, named}
 use Rattle.pdl_build.specs.Env.{scope}

@@ -3,9 +3,9 @@ use Rattle.std.specs.Prelude.{if◌then◌else◌}
 use Rattle.pdl_model.specs.Tree.{Write, Reserve, Call}
 use Rattle.pdl_model.specs.Flatten.{mem_of, var_of}
 use Rattle.pdl_model.specs.Machine.{is_held, let_go}
-use Rattle.pdl_syntax.specs.declared.tree.Expr as r_expr
-use Rattle.pdl_syntax.specs.declared.tree.Mem as r_mem
-use Rattle.pdl_syntax.specs.View.{span_view, ident_view, location_view, kind_view, expr_view, exprs_view, stmt_view, mem_view, pipe_view}
+use Rattle.pdl_tree.specs.declared.tree.Expr as r_expr
+use Rattle.pdl_tree.specs.declared.tree.Mem as r_mem
+use Rattle.pdl_tree.specs.View.{span_view, ident_view, location_view, kind_view, expr_view, exprs_view, stmt_view, mem_view, pipe_view}
 use Rattle.pdl_net.specs.Signal.{no_signal}
 use Rattle.pdl_net.proofs.Keeps.{extends_refl}
 use Rattle.pdl_build.specs.Expr.{vars_of}

@@ -1,5 +1,5 @@
 use Rattle.std.proofs.Common.{◌∙◌, List, sym, subst}
-use Rattle.pdl_syntax.specs.View.{stmt_view, pipe_view}
+use Rattle.pdl_tree.specs.View.{stmt_view, pipe_view}
 use Rattle.pdl_net.proofs.Keeps.{extends_keeps, extends_trans}
 use Rattle.pdl_build.specs.Expr.{vars_of}
 use Rattle.pdl_build.specs.Env.{scope}

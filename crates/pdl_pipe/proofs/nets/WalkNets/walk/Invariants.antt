@@ -1,5 +1,5 @@
 use Rattle.std.proofs.Common.{◌≡◌, map, drop, take}
-use Rattle.pdl_syntax.specs.View.{stmt_view, stmts_view, pipe_view}
+use Rattle.pdl_tree.specs.View.{stmt_view, stmts_view, pipe_view}
 use Rattle.pdl_net.specs.Growth.{Extends}
 use Rattle.pdl_build.specs.Expr.{vars_of}
 use Rattle.pdl_build.specs.Env.{scope}

@@ -1,6 +1,6 @@
 use Rattle.std.proofs.Common.{◌≡◌, ◌∙◌, ◌<◌, ap, sym, subst, map, true, false}
 use Rattle.std.specs.Prelude.{slice_index}
-use Rattle.pdl_syntax.specs.View.{location_view, mem_view}
+use Rattle.pdl_tree.specs.View.{location_view, mem_view}
 use Rattle.pdl_net.specs.Circuit.{array_width}
 use Rattle.pdl_net.specs.Meaning.{signal, IsThere}
 use Rattle.pdl_build.specs.Expr.{vars_of, named}

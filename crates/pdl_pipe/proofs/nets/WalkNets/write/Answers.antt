@@ -1,5 +1,5 @@
 use Rattle.std.proofs.Common.{◌≡◌, ◌∙◌, ◌<◌, ap, sym, subst, map}
-use Rattle.pdl_syntax.specs.View.{location_view, expr_view, mem_view}
+use Rattle.pdl_tree.specs.View.{location_view, expr_view, mem_view}
 use Rattle.pdl_net.specs.Meaning.{signal, IsThere}
 use Rattle.pdl_build.specs.Expr.{vars_of, expr_signal}
 use Rattle.pdl_build.specs.Env.{scope}
