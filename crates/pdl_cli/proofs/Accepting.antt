@@ -12,9 +12,7 @@ use Rattle.pdl_check.specs.Memories.{infos_of}
 use Rattle.pdl_image.specs.Images.{IsImage}
 use Rattle.pdl_net.specs.declared.Netlist.{Netlist}
 use Rattle.pdl_net.specs.Pipe.{IsWellFormed}
-use Rattle.pdl_facts.specs.Accepted.{Checked, Text}
-use Rattle.pdl_linear.proofs.Runs.{stated_refines, stated_advances, stated_paces}
-use Rattle.pdl_promise.proofs.InLine.{checked_of, text_of}
+use Rattle.pdl_sources.proofs.Promised.{refines, advances, paces}
 use Rattle.pdl_trunk.specs.Runs.{column_of, ShowsMachine, ShowsTurns}
 use Rattle.pdl_trunk.proofs.WellFormedNames.{Among}
 use Rattle.pdl_trunk.proofs.WellFormed as well
@@ -65,8 +63,7 @@ pub is_output : (p : Pipe) (n : Netlist) (words : List (List ℕ)) (cycles : ℕ
     → IsWellFormed n → n.name ≡ p.name.name → n.mems ≡ infos_of p.mems → IsImage n.mems words → ShowsMachine p n → ShowsTurns p n → text ≡ run_text n words (schedule cycles)
     → (holds : Option Held) (source image' : List ℕ) → IsLoaded holds source image' p words → IsOutput holds source image' cycles text
 is_output p n words cycles text in_line kept well name mems image ports turns printed holds source image' loaded =
-    let checked : Checked (flat p) = checked_of p in_line kept in
-    let told : Text (flat p) = text_of p in_line kept in
+    let read = loaded.accepted.text in
     record {
       pipe = p;
       words = words;
@@ -78,7 +75,7 @@ is_output p n words cycles text in_line kept well name mems image ports turns pr
       mems = mems;
       ports = ports;
       printed = printed;
-      refines = stated_refines (flat p) checked told (arrays_of words) (replies cycles);
-      moves = λ k low. stated_advances (flat p) checked told (arrays_of words) (replies k) [];
-      pace = stated_paces (flat p) checked told (arrays_of words) (replies cycles);
+      refines = refines loaded.source_text p read kept (arrays_of words) (replies cycles);
+      moves = λ k low. advances loaded.source_text p read kept (arrays_of words) (replies k) [];
+      pace = paces loaded.source_text p read kept (arrays_of words) (replies cycles);
     }

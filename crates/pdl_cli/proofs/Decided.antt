@@ -1,19 +1,29 @@
--- Where the files are told, a run that has an output has no wrong file; so what is seen decides the status, but for want of memory.
-use Rattle.std.proofs.Common.{◌≡◌, ℕ, List, Option, Some, None, Result, Ok, Err, inl, inr, refl, sym, subst, ◌∙◌}
+-- Where the files are told, a command that writes its text has no wrong file; so what is seen decides the status, but for want of memory.
+use Rattle.std.proofs.Common.{◌≡◌, ℕ, List, Option, Some, None, Result, Ok, Err, inl, inr, refl, sym, ap, subst, ◌∙◌}
 use Rattle.pdl_kit.specs.declared.rule.Rule.{Rule}
+use Rattle.pdl_kit.specs.declared.rule.Rule.TheVariants.{G1}
 use Rattle.pdl_kit.specs.Files.{Held, Gives}
 use Rattle.pdl_model.specs.Tree.{Pipe}
-use Rattle.pdl_syntax.specs.Text.{IsText}
-use Rattle.pdl_syntax.proofs.Places.{one_tree}
-use Rattle.pdl_rules.specs.Refusal.{refusal}
+use Rattle.pdl_grammar.specs.Text.{IsText}
+use Rattle.pdl_grammar.proofs.Places.{one_tree}
+use Rattle.pdl_rules.specs.Refusal.{refused_at, refusal}
+use Rattle.pdl_check.specs.Answers.{source_refusal}
 use Rattle.pdl_check.specs.Memories.{infos_of}
 use Rattle.pdl_image.specs.Images.{image}
 use Rattle.pdl_image.specs.declared.file_error.FileError.TheVariants as file
-use Rattle.pdl_line.specs.Line.{Command, run}
+use Rattle.pdl_asmtable.specs.declared.table_error.TableError.TheVariants as table_error
+use Rattle.pdl_asmtable.specs.Tables.{TableValue}
+use Rattle.pdl_asmtable.specs.Documents as documents
+use Rattle.pdl_asm.specs.declared.asm_error.AsmError.TheVariants as asm_error
+use Rattle.pdl_asm.specs.Assembly as assembly
+use Rattle.pdl_line.specs.Line.{Command, check, run, asm}
+use Rattle.pdl_cli.specs.declared.failure.Position.{Position}
+use Rattle.pdl_cli.specs.declared.failure.Position.TheVariants.{Line, Insn}
 use Rattle.pdl_cli.specs.declared.failure.Failure.{Failure}
 use Rattle.pdl_cli.specs.declared.failure.Failure.TheVariants.{Usage, Refused, ReadFault, WriteFault, NoMemory}
 use Rattle.pdl_cli.specs.Failures.{status_of}
-use Rattle.pdl_cli.specs.Commands.{SourceRefused, IsAccepted, IsLoaded, IsWrongSource, IsWrongImage, IsWrong, IsOutput}
+use Rattle.pdl_cli.specs.Assembled.{IsTabled, IsWrongTable, IsWrongText, IsAssembled}
+use Rattle.pdl_cli.specs.Commands.{SourceRefused, IsAccepted, IsLoaded, IsWrongSource, IsWrongImage, IsWrong, IsWrongFor, Writes}
 use Rattle.pdl_cli.specs.Top.{Seen, Explains, IsDecided, Decides}
 
 one_text : (held : Held) (name b c : List ℕ) → Gives (Some held) name b → Gives (Some held) name c → b ≡ c
@@ -22,9 +32,9 @@ one_text held name b c g h = let k : Some b ≡ Some c = sym g ∙ h in cc
 kept_unrefused : (b : List ℕ) (p : Pipe) (rule : Rule) (line : ℕ) → IsAccepted b p → SourceRefused b rule line → ⊥
 kept_unrefused b p rule line a (inl w) = w.1.no_text p a.text
 kept_unrefused b p rule line a (inr w) =
-    let k : refusal b p ≡ Some (record { rule = rule; line = line }) =
-    subst (λ (q : Pipe). refusal b q ≡ Some (record { rule = rule; line = line })) (one_tree b w.0 p w.1 a.text) w.2 in
-    let n : refusal b p ≡ None = a.kept in absurd cc
+    let k : source_refusal b p ≡ Some (record { rule = rule; line = line }) =
+    subst (λ (q : Pipe). source_refusal b q ≡ Some (record { rule = rule; line = line })) (one_tree b w.0 p w.1 a.text) w.2 in
+    let n : source_refusal b p ≡ None = ap (λ o. refused_at G1 o (refusal b p)) a.passed ∙ a.kept in absurd cc
 
 source_right : (held : Held) (source : List ℕ) (rule : Rule) (line : ℕ) (b : List ℕ) (p : Pipe)
     → Gives (Some held) source b → IsAccepted b p → IsWrongSource (Some held) source rule line → ⊥
@@ -48,43 +58,74 @@ none_wrong : (held : Held) (source image' : List ℕ) (rule : Rule) (line : ℕ)
 none_wrong held source image' rule line p words l (inl w) = source_right held source rule line l.source_text p l.source_given l.accepted w
 none_wrong held source image' rule line p words l (inr w) = image_right held source image' rule line p words l w
 
-exclusive : (holds : Option Held) (held : Held) (source image' : List ℕ) (cycles : ℕ) (text : List ℕ) (rule : Rule) (line : ℕ)
-    → holds ≡ Some held → IsOutput holds source image' cycles text → IsWrong (Some held) source image' rule line → ⊥
-exclusive holds held source image' cycles text rule line h o w =
-    none_wrong held source image' rule line o.pipe o.words (subst (λ (k : Option Held). IsLoaded k source image' o.pipe o.words) h o.loaded) w
+-- a table is one value, and a program one image
+one_table : (held : Held) (table : List ℕ) (v w : TableValue) → IsTabled (Some held) table v → IsTabled (Some held) table w → v ≡ w
+one_table held table v w a b =
+    let t : a.table_text ≡ b.table_text = one_text held table a.table_text b.table_text a.table_given b.table_given in
+    let k : documents.table b.table_text ≡ Ok v = subst (λ (x : List ℕ). documents.table x ≡ Ok v) t a.taken in
+    let l : documents.table b.table_text ≡ Ok w = b.taken in cc
 
-of_run : (source image' : List ℕ) (cycles : ℕ) (s : Seen) (o : Result (Unit {0}) Failure) → Explains (Some (run source image' cycles)) s o → IsDecided source image' s (status_of o)
-of_run source image' cycles s (Ok x) e = record {
+table_right : (held : Held) (table : List ℕ) (rule : Rule) (insn : ℕ) (v : TableValue) → IsTabled (Some held) table v → IsWrongTable (Some held) table rule insn → ⊥
+table_right held table rule insn v a w =
+    let t : w.table_text ≡ a.table_text = one_text held table w.table_text a.table_text w.table_given a.table_given in
+    let k : documents.table a.table_text ≡ Err (table_error.Refused rule insn) = subst (λ (x : List ℕ). documents.table x ≡ Err (table_error.Refused rule insn)) t w.refused in
+    let l : documents.table a.table_text ≡ Ok v = a.taken in absurd cc
+
+program_right : (held : Held) (table program text : List ℕ) (rule : Rule) (line : ℕ) → IsAssembled (Some held) table program text → IsWrongText (Some held) table program rule line → ⊥
+program_right held table program text rule line a w =
+    let v : w.value ≡ a.value = one_table held table w.value a.value w.tabled a.tabled in
+    let t : w.program_text ≡ a.program_text = one_text held program w.program_text a.program_text w.program_given a.program_given in
+    let k : assembly.image a.value a.program_text ≡ Err (asm_error.Refused rule line) =
+    subst (λ (x : TableValue). assembly.image x a.program_text ≡ Err (asm_error.Refused rule line)) v
+    (subst (λ (x : List ℕ). assembly.image w.value x ≡ Err (asm_error.Refused rule line)) t w.refused) in
+    let l : assembly.image a.value a.program_text ≡ Ok text = a.made in absurd cc
+
+-- a command that writes its text has no wrong file
+exclusive_told : (held : Held) (command : Command) (text : List ℕ) (rule : Rule) (position : Position) → Writes (Some held) command text → IsWrongFor (Some held) command rule position → ⊥
+exclusive_told held (check source) text rule (Line n) o w = source_right held source rule n o.source_text o.pipe o.source_given o.accepted w
+exclusive_told held (check source) text rule (Insn n) o w = w
+exclusive_told held (run source image' cycles) text rule (Line n) o w = none_wrong held source image' rule n o.pipe o.words o.loaded w
+exclusive_told held (run source image' cycles) text rule (Insn n) o w = w
+exclusive_told held (asm table program) text rule (Line n) o (inl w) = w
+exclusive_told held (asm table program) text rule (Line n) o (inr w) = program_right held table program text rule n o w
+exclusive_told held (asm table program) text rule (Insn n) o (inl w) = table_right held table rule n o.value o.tabled w
+exclusive_told held (asm table program) text rule (Insn n) o (inr w) = w
+
+exclusive : (holds : Option Held) (held : Held) (command : Command) (text : List ℕ) (rule : Rule) (position : Position) → holds ≡ Some held → Writes holds command text → IsWrongFor (Some held) command rule position → ⊥
+exclusive holds held command text rule position h o w = exclusive_told held command text rule position (subst (λ (k : Option Held). Writes k command text) h o) w
+
+of_command : (command : Command) (s : Seen) (o : Result (Unit {0}) Failure) → Explains (Some command) s o → IsDecided command s (status_of o)
+of_command command s (Ok x) e = record {
   usage = λ u. absurd (cc u);
-  wrong = λ held rule line h w no. absurd (exclusive s.holds held source image' cycles e.0 rule line h e.1 w);
+  wrong = λ held rule position h w no. absurd (exclusive s.holds held command e.0 rule position h e.1 w);
   right = λ no reads writes. inl refl;
 }
-of_run source image' cycles s (Err Usage) e = absurd e
-of_run source image' cycles s (Err (Refused rule line)) e = record {
+of_command command s (Err Usage) e = absurd e
+of_command command s (Err (Refused rule position)) e = record {
   usage = λ u. absurd (cc u);
   wrong = λ held r l h w no. inl refl;
-  right = λ no reads writes. absurd (no rule line e.0);
+  right = λ no reads writes. absurd (no rule position e.0);
 }
-of_run source image' cycles s (Err ReadFault) e = record {
+of_command command s (Err ReadFault) e = record {
   usage = λ u. absurd (cc u);
-  wrong = λ held rule line h w no. absurd (no e.0);
+  wrong = λ held rule position h w no. absurd (no e.0);
   right = λ no reads writes. absurd (reads e.0);
 }
-of_run source image' cycles s (Err WriteFault) e = record {
+of_command command s (Err WriteFault) e = record {
   usage = λ u. absurd (cc u);
-  wrong = λ held rule line h w no. absurd (exclusive s.holds held source image' cycles e.1 rule line h e.2 w);
+  wrong = λ held rule position h w no. absurd (exclusive s.holds held command e.1 rule position h e.2 w);
   right = λ no reads writes. absurd (writes e.0);
 }
-of_run source image' cycles s (Err NoMemory) e = record {
+of_command command s (Err NoMemory) e = record {
   usage = λ u. absurd (cc u);
-  wrong = λ held rule line h w no. inr refl;
+  wrong = λ held rule position h w no. inr refl;
   right = λ no reads writes. inr refl;
 }
 
 of_none : (s : Seen) (o : Result (Unit {0}) Failure) → Explains None s o → Decides None s (status_of o)
 of_none s (Ok x) e = absurd e
 of_none s (Err Usage) e = inl refl
-of_none s (Err (Refused rule line)) e = absurd e
+of_none s (Err (Refused rule position)) e = absurd e
 of_none s (Err ReadFault) e = absurd e
 of_none s (Err WriteFault) e = absurd e
 of_none s (Err NoMemory) e = inr refl
@@ -92,4 +133,4 @@ of_none s (Err NoMemory) e = inr refl
 -- what explains an outcome decides its status
 pub decided : (command : Option Command) (s : Seen) (o : Result (Unit {0}) Failure) → Explains command s o → Decides command s (status_of o)
 decided None s o e = of_none s o e
-decided (Some (run source image' cycles)) s o e = of_run source image' cycles s o e
+decided (Some command) s o e = of_command command s o e

@@ -11,7 +11,7 @@ use Rattle.clap.specs.Kinds.{Kinds}
 use Rattle.pdl_line.specs.App.{pdl_app}
 use Rattle.pdl_line.specs.Number.{number_of, is_numeral_of}
 use Rattle.pdl_cli.specs.Top.{IsFew}
-use Rattle.pdl_line.specs.Line.{Command, run, run_of, command_of, where_taken, line}
+use Rattle.pdl_line.specs.Line.{Command, check, run, asm, check_of, asm_of, run_of, command_of, where_taken, line}
 
 tested : (a b : Bool) (n m : ℕ) → (b ≡ true → n ≤ m) → (c : ℕ) → (if a && b then Some n else None) ≡ Some c → c ≤ m
 tested true true n m h c e = let s : n ≡ c = cc e in rw (← s) (h refl)
@@ -31,15 +31,35 @@ of_run (Some s) None c x y n e = absurd (cc e)
 of_run (Some s) (Some i) None x y n e = absurd (cc e)
 of_run (Some s) (Some i) (Some c) x y n e = run_small (Some s) (Some i) (number_of 7 1000000 c) x y s i n (number_small 7 1000000 c) e
 
-of_if : (b : Bool) (o : Option Command) (x y : Text) (n : ℕ) → (o ≡ Some (run x y n) → n ≤ 1000000) → (if b then o else None) ≡ Some (run x y n) → n ≤ 1000000
-of_if true o x y n h e = h e
-of_if false o x y n h e = absurd (cc e)
+of_check : (s : Option Text) (x y : Text) (n : ℕ) → check_of s ≡ Some (run x y n) → n ≤ 1000000
+of_check None x y n e = absurd (cc e)
+of_check (Some s) x y n e = absurd (cc e)
+
+of_if : (b : Bool) (o rest : Option Command) (x y : Text) (n : ℕ) → (o ≡ Some (run x y n) → n ≤ 1000000) → (rest ≡ Some (run x y n) → n ≤ 1000000) → (if b then o else rest) ≡ Some (run x y n) → n ≤ 1000000
+of_if true o rest x y n h k e = h e
+of_if false o rest x y n h k e = k e
+
+of_asm : (t s : Option Text) (x y : Text) (n : ℕ) → asm_of t s ≡ Some (run x y n) → n ≤ 1000000
+of_asm None s x y n e = absurd (cc e)
+of_asm (Some t) None x y n e = absurd (cc e)
+of_asm (Some t) (Some s) x y n e = absurd (cc e)
+
+of_none : (x y : Text) (n : ℕ) → None ≡ Some (run x y n) → n ≤ 1000000
+of_none x y n e = absurd (cc e)
 
 of_found : (found : Option (Text × List Row)) (x y : Text) (n : ℕ) → option_and_then command_of found ≡ Some (run x y n) → n ≤ 1000000
 of_found None x y n e = absurd (cc e)
 of_found (Some f) x y n e =
-    of_if (bytes_eq f.0 (codes "run")) (run_of (first_of (codes "source") f.1) (first_of (codes "image") f.1) (first_of (codes "cycles") f.1)) x y n
-    (of_run (first_of (codes "source") f.1) (first_of (codes "image") f.1) (first_of (codes "cycles") f.1) x y n) e
+    let source : Option Text = first_of (codes "source") f.1 in
+    let image : Option Text = first_of (codes "image") f.1 in
+    let cycles : Option Text = first_of (codes "cycles") f.1 in
+    let table : Option Text = first_of (codes "table") f.1 in
+    let text : Option Text = first_of (codes "text") f.1 in
+    let assembled : Option Command = if bytes_eq f.0 (codes "asm") then asm_of table text else None in
+    let ran : Option Command = if bytes_eq f.0 (codes "run") then run_of source image cycles else assembled in
+    of_if (bytes_eq f.0 (codes "check")) (check_of source) ran x y n (of_check source x y n)
+    (of_if (bytes_eq f.0 (codes "run")) (run_of source image cycles) assembled x y n (of_run source image cycles x y n)
+    (of_if (bytes_eq f.0 (codes "asm")) (asm_of table text) None x y n (of_asm table text x y n) (of_none x y n))) e
 
 of_taken : (kinds : Kinds) (found : Option (Text × List Row)) (x y : Text) (n : ℕ) → where_taken kinds found ≡ Some (run x y n) → n ≤ 1000000
 of_taken [] found x y n e = of_found found x y n e
@@ -51,4 +71,6 @@ unfolding line
 few_cycles words x y n e = of_taken (fault_of pdl_app words) (subcommand_of pdl_app words) x y n e
 
 pub few : (words : List Text) (command : Command) → line words ≡ Some command → IsFew command
+few words (check x) e = tt
+few words (asm t x) e = tt
 few words (run x y n) e = few_cycles words x y n e

@@ -3,21 +3,24 @@ use Rattle.std.proofs.Common.{◌≡◌, ℕ, ◌≤◌, List, Option, inr, subs
 use Rattle.pdl_kit.specs.Counts.{Rose}
 use Rattle.pdl_kit.specs.Files.{Held, Gives}
 use Rattle.pdl_model.specs.Tree.{Pipe}
+use Rattle.pdl_cli.specs.declared.failure.Position.TheVariants.{Line, Insn}
 use Rattle.pdl_cli.specs.declared.failure.Failure.{Failure}
 use Rattle.pdl_cli.specs.declared.failure.Failure.TheVariants.{Usage, Refused, ReadFault, WriteFault, NoMemory}
-use Rattle.pdl_cli.specs.Commands.{IsAccepted, IsTaken, IsLoaded, ImageFails, Fails}
+use Rattle.pdl_line.specs.Line.{run}
+use Rattle.pdl_cli.specs.Commands.{IsAccepted, IsTaken, IsLoaded, ImageFails, SourceFails, Fails}
 
 pub rose_before : (before mid now : ℕ) → before ≤ mid → Rose mid now → Rose before now
 rose_before before mid now h r = omega (arith, r)
 
-pub image_fails : (holds after : Option Held) (before mid now : ℕ) (source image' text : List ℕ) (p : Pipe) → after ≡ holds → before ≤ mid → Gives holds source text → IsAccepted text p
-    → (f : Failure) → ImageFails after mid now image' p f → Fails holds before now source image' f
-image_fails holds after before mid now source image' text p e h given a Usage w = w
-image_fails holds after before mid now source image' text p e h given a (Refused rule line) w =
+pub image_fails : (holds after : Option Held) (before mid now : ℕ) (source image' text : List ℕ) (cycles : ℕ) (p : Pipe) → after ≡ holds → before ≤ mid → Gives holds source text → IsAccepted text p
+    → (f : Failure) → ImageFails after mid now image' p f → Fails holds before now (run source image' cycles) f
+image_fails holds after before mid now source image' text cycles p e h given a Usage w = w
+image_fails holds after before mid now source image' text cycles p e h given a (Refused rule (Insn n)) w = w
+image_fails holds after before mid now source image' text cycles p e h given a (Refused rule (Line n)) w =
     inr (record { source_text = text; source_given = given; pipe = p; accepted = a; image_text = w.0; image_given = subst (λ (o : Option Held). Gives o image' w.0) e w.1; refused = w.2 })
-image_fails holds after before mid now source image' text p e h given a ReadFault w = rose_before before mid now h w
-image_fails holds after before mid now source image' text p e h given a WriteFault w = w
-image_fails holds after before mid now source image' text p e h given a NoMemory w = tt
+image_fails holds after before mid now source image' text cycles p e h given a ReadFault w = rose_before before mid now h w
+image_fails holds after before mid now source image' text cycles p e h given a WriteFault w = w
+image_fails holds after before mid now source image' text cycles p e h given a NoMemory w = tt
 
 pub loaded : (holds after : Option Held) (source image' text img : List ℕ) (p : Pipe) (words : List (List ℕ)) → after ≡ holds → Gives holds source text → IsAccepted text p
     → Gives after image' img → IsTaken p img words → IsLoaded holds source image' p words

@@ -5,12 +5,12 @@ use Rattle.std.specs.List.{starts_with}
 use Rattle.std.proofs.lemmas.List.{length-take}
 use Rattle.std.proofs.lemmas.List.Folds.{length-prefix_len}
 use Rattle.pdl_model.specs.Tree.{LockDecl, Mem, Param, Pipe}
-use Rattle.pdl_syntax.specs.declared.token.Mark.{Mark}
-use Rattle.pdl_syntax.specs.declared.token.TokenKind.{TokenKind}
-use Rattle.pdl_syntax.specs.declared.token.TokenKind.TheVariants as kind
-use Rattle.pdl_syntax.specs.Tokens.{Token, Piece, Spelling, tokens, tokens_from, placed, piece_at, word_at, keyword_or_name, spelling_of, keywords, number_or_literal, mark_or_bad, blank_of, is_word, is_blank, is_lower, is_digit, symbols, spelling_at, line_after}
-use Rattle.pdl_syntax.specs.Grammar.{Row, Listed, last, further, Memory, memory, Parameter, parameter, Lock, unlocked, queued, Text, text}
-use Rattle.pdl_syntax.specs.Text.{IsText}
+use Rattle.pdl_tokens.specs.declared.token.Mark.{Mark}
+use Rattle.pdl_tokens.specs.declared.token.TokenKind.{TokenKind}
+use Rattle.pdl_tokens.specs.declared.token.TokenKind.TheVariants as kind
+use Rattle.pdl_tokens.specs.Tokens.{Token, Row, Piece, Spelling, tokens, tokens_from, placed, piece_at, word_at, keyword_or_name, spelling_of, keywords, number_or_literal, mark_or_bad, blank_of, is_word, is_blank, is_lower, is_digit, symbols, spelling_at, line_after}
+use Rattle.pdl_grammar.specs.Grammar.{Listed, last, further, Memory, memory, Parameter, parameter, Lock, unlocked, locked, Text, text}
+use Rattle.pdl_grammar.specs.Text.{IsText}
 
 -- ---- pieces
 
@@ -98,7 +98,7 @@ HaveShortNames (m ∷ ms) = (length m.name.name ≤ 32) × HaveShortNames ms
 
 lock_rest : (l : Option LockDecl) (a r : Row) → Lock l a r → AreShort a → AreShort r
 lock_rest l a r unlocked t = t
-lock_rest l a r queued t = t.1.1.1.1.1
+lock_rest l a r locked t = t.1.1.1.1.1
 
 memory_short : (m : Mem) (a r : Row) → Memory m a r → AreShort a → (length m.name.name ≤ 32) × AreShort r
 memory_short m a r (memory k) t = (t.0 refl, lock_rest _ _ _ k t.1.1.1.1.1.1.1.1.1.1)

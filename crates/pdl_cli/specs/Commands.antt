@@ -1,4 +1,4 @@
--- What `run` does with the files that it names.
+-- What the commands do with the files that they name.
 use Rattle.std.specs.Prelude.{◌≡◌, ℕ, ◌<◌, ◌⊎◌, Bool, List, [], replicate, Option, Some, None, Ok, Err}
 use Rattle.pdl_kit.specs.declared.rule.Rule.{Rule}
 use Rattle.pdl_kit.specs.declared.rule.Rule.TheVariants.{G1}
@@ -7,31 +7,48 @@ use Rattle.pdl_kit.specs.Counts.{Rose}
 use Rattle.pdl_model.specs.Tree.{Pipe}
 use Rattle.pdl_model.specs.Flat.{arrays_of}
 use Rattle.pdl_model.specs.Flatten.{flat}
-use Rattle.pdl_model.specs.Lines.{run_lines}
+use Rattle.pdl_model.specs.Lines.{accepted_line, run_lines}
 use Rattle.pdl_model.specs.Promises.{Refines, Advances, KeepsPace}
-use Rattle.pdl_syntax.specs.Text.{IsText, IsOutOfPlace}
+use Rattle.pdl_grammar.specs.Text.{IsText, IsOutOfPlace}
 use Rattle.pdl_rules.specs.Refusal.{refusal}
+use Rattle.pdl_check.specs.Gate.{gated_line}
+use Rattle.pdl_check.specs.Answers.{source_refusal}
 use Rattle.pdl_check.specs.Memories.{infos_of}
 use Rattle.pdl_net.specs.declared.Netlist.{Netlist}
 use Rattle.pdl_net.specs.Pipe.{IsWellFormed}
 use Rattle.pdl_trunk.specs.Runs.{ShowsMachine}
 use Rattle.pdl_image.specs.Images.{image}
 use Rattle.pdl_image.specs.declared.file_error.FileError.TheVariants as file
+use Rattle.pdl_line.specs.Line.{Command, check, run, asm}
+use Rattle.pdl_cli.specs.declared.failure.Position.{Position}
+use Rattle.pdl_cli.specs.declared.failure.Position.TheVariants.{Line, Insn}
 use Rattle.pdl_cli.specs.declared.failure.Failure.{Failure}
 use Rattle.pdl_cli.specs.declared.failure.Failure.TheVariants as failure
+use Rattle.pdl_cli.specs.Assembled.{IsWrongTable, IsWrongText, IsAssembled}
 use Rattle.pdl_cli.specs.Printed.{run_text, schedule}
 
 -- ONE FILE
 
--- the source is refused by the rule at the line
+-- a refusal at a line
+abbrev pub AtLine : (ℕ → Type 0) → Position → Type 0
+AtLine refused (Line n) = refused n
+AtLine refused (Insn n) = ⊥
+
+-- a refusal at an instruction
+abbrev pub AtInsn : (ℕ → Type 0) → Position → Type 0
+AtInsn refused (Line n) = ⊥
+AtInsn refused (Insn n) = refused n
+
+-- the source is refused by the rule at the line: it is no text of the grammar, or one with a form that isn't compiled yet, or one that breaks the rule
 abbrev pub SourceRefused : List ℕ → Rule → ℕ → Type 0
 SourceRefused source rule line =
     ((rule ≡ G1) × IsOutOfPlace source line)
-    ⊎ ((p : Pipe) × IsText source p × (refusal source p ≡ Some (record { rule = rule; line = line })))
+    ⊎ ((p : Pipe) × IsText source p × (source_refusal source p ≡ Some (record { rule = rule; line = line })))
 
--- the source is the text of the pipe, which breaks no rule
+-- the source is the text of the pipe, which passes the gate and breaks no rule
 pub record IsAccepted (source : List ℕ) (p : Pipe) : Type 0 where
   pub text : IsText source p
+  pub passed : gated_line source ≡ None
   pub kept : refusal source p ≡ None
 
 -- the image text gives these words for the pipe's memories
@@ -41,12 +58,12 @@ IsTaken p text words = image (infos_of p.mems) text ≡ Ok words
 -- why an image for a pipe is not there
 abbrev pub ImageFails : Option Held → ℕ → ℕ → List ℕ → Pipe → Failure → Type 0
 ImageFails holds before now name p failure.Usage = ⊥
-ImageFails holds before now name p (failure.Refused rule line) = (text : List ℕ) × Gives holds name text × (image (infos_of p.mems) text ≡ Err (file.Refused rule line))
+ImageFails holds before now name p (failure.Refused rule position) = AtLine (λ line. (text : List ℕ) × Gives holds name text × (image (infos_of p.mems) text ≡ Err (file.Refused rule line))) position
 ImageFails holds before now name p failure.ReadFault = Rose before now
 ImageFails holds before now name p failure.WriteFault = ⊥
 ImageFails holds before now name p failure.NoMemory = Unit {0}
 
--- THE FILES OF A RUN, where files are told
+-- THE FILES OF A COMMAND, where files are told
 
 -- the source and the image of a run with these names, both taken
 pub record IsLoaded (holds : Option Held) (source image' : List ℕ) (p : Pipe) (words : List (List ℕ)) : Type 0 where
@@ -66,7 +83,7 @@ pub record IsWrongSource (holds : Option Held) (source : List ℕ) (rule : Rule)
 -- why a source is not there
 abbrev pub SourceFails : Option Held → ℕ → ℕ → List ℕ → Failure → Type 0
 SourceFails holds before now name failure.Usage = ⊥
-SourceFails holds before now name (failure.Refused rule line) = IsWrongSource holds name rule line
+SourceFails holds before now name (failure.Refused rule position) = AtLine (IsWrongSource holds name rule) position
 SourceFails holds before now name failure.ReadFault = Rose before now
 SourceFails holds before now name failure.WriteFault = ⊥
 SourceFails holds before now name failure.NoMemory = Unit {0}
@@ -91,7 +108,15 @@ IsWrong holds source image' rule line = IsWrongSource holds source rule line ⊎
 abbrev pub replies : ℕ → List (List Bool)
 replies cycles = replicate cycles []
 
--- the text that a command writes where all is well: the lines of the machine of the pipe, which a netlist shows
+-- the text that `check` writes where all is well: how many stages the pipe of the source has, and the greatest number of them on a path
+pub record IsVerdict (holds : Option Held) (source : List ℕ) (text : List ℕ) : Type 0 where
+  pub pipe : Pipe
+  pub source_text : List ℕ
+  pub source_given : Gives holds source source_text
+  pub accepted : IsAccepted source_text pipe
+  pub line : text ≡ accepted_line pipe
+
+-- the text that `run` writes where all is well: the lines of the machine of the pipe, which a netlist shows
 pub record IsOutput (holds : Option Held) (source image' : List ℕ) (cycles : ℕ) (text : List ℕ) : Type 0 where
   pub pipe : Pipe
   pub words : List (List ℕ)
@@ -112,10 +137,30 @@ pub record IsOutput (holds : Option Held) (source image' : List ℕ) (cycles : �
   -- and so enough threads end
   pub pace : KeepsPace (flat pipe) (arrays_of words) (replies cycles)
 
+-- the text that a command writes where all is well
+abbrev pub Writes : Option Held → Command → List ℕ → Type 0
+Writes holds (check source) text = IsVerdict holds source text
+Writes holds (run source image' cycles) text = IsOutput holds source image' cycles text
+Writes holds (asm table program) text = IsAssembled holds table program text
+
+-- of the files that a command names, in order, the first wrong one is refused by the rule at the position
+abbrev pub IsWrongFor : Option Held → Command → Rule → Position → Type 0
+IsWrongFor holds (check source) rule position = AtLine (IsWrongSource holds source rule) position
+IsWrongFor holds (run source image' cycles) rule position = AtLine (IsWrong holds source image' rule) position
+IsWrongFor holds (asm table program) rule position = AtInsn (IsWrongTable holds table rule) position ⊎ AtLine (IsWrongText holds table program rule) position
+
+-- why the table of an instruction set is not there
+abbrev pub TableFails : Option Held → ℕ → ℕ → List ℕ → Failure → Type 0
+TableFails holds before now name failure.Usage = ⊥
+TableFails holds before now name (failure.Refused rule position) = AtInsn (IsWrongTable holds name rule) position
+TableFails holds before now name failure.ReadFault = Rose before now
+TableFails holds before now name failure.WriteFault = ⊥
+TableFails holds before now name failure.NoMemory = Unit {0}
+
 -- why a command fails before anything is written
-abbrev pub Fails : Option Held → ℕ → ℕ → List ℕ → List ℕ → Failure → Type 0
-Fails holds before now source image' failure.Usage = ⊥
-Fails holds before now source image' (failure.Refused rule line) = IsWrong holds source image' rule line
-Fails holds before now source image' failure.ReadFault = Rose before now
-Fails holds before now source image' failure.WriteFault = ⊥
-Fails holds before now source image' failure.NoMemory = Unit {0}
+abbrev pub Fails : Option Held → ℕ → ℕ → Command → Failure → Type 0
+Fails holds before now command failure.Usage = ⊥
+Fails holds before now command (failure.Refused rule position) = IsWrongFor holds command rule position
+Fails holds before now command failure.ReadFault = Rose before now
+Fails holds before now command failure.WriteFault = ⊥
+Fails holds before now command failure.NoMemory = Unit {0}

@@ -2,5 +2,6 @@ pub mod Texts
 pub mod Failures
 pub mod Printed
 pub mod Tally
+pub mod Assembled
 pub mod Commands
 pub mod Top

@@ -9,6 +9,10 @@ use Rattle.pdl_kit.specs.Sinks.{TakesPrefix, with_bytes}
 abbrev pub refusal_text : Rule → ℕ → List ℕ
 refusal_text rule line = codes "refused " ++ text_of rule ++ codes " line " ++ decimal line ++ codes "\n"
 
+-- a rule that a table breaks, and the instruction
+abbrev pub refused_insn_text : Rule → ℕ → List ℕ
+refused_insn_text rule insn = codes "refused " ++ text_of rule ++ codes " insn " ++ decimal insn ++ codes "\n"
+
 -- a text was written, whole where the sink's count of faults did not rise, else a prefix of it
 pub record Says (before now : Option (List ℕ)) (faults faults_now : ℕ) (text : List ℕ) : Type 0 where
   pub later : faults ≤ faults_now

@@ -4,19 +4,24 @@ use Rattle.pdl_kit.specs.declared.rule.Rule.{Rule}
 use Rattle.pdl_kit.specs.Counts.{Rose}
 use Rattle.pdl_kit.specs.Files.{Held}
 use Rattle.pdl_kit.specs.Sinks.{TakesPrefix, with_bytes}
-use Rattle.pdl_line.specs.Line.{Command, run}
+use Rattle.pdl_line.specs.Line.{Command, check, run, asm}
+use Rattle.pdl_cli.specs.declared.failure.Position.{Position}
 use Rattle.pdl_cli.specs.declared.failure.Failure.{Failure}
 use Rattle.pdl_cli.specs.declared.failure.Failure.TheVariants.{Usage, Refused, ReadFault, WriteFault, NoMemory}
-use Rattle.pdl_cli.specs.Commands.{IsWrong, IsOutput}
+use Rattle.pdl_cli.specs.Commands.{IsWrongFor, Writes}
 
 -- the files that a command names may be read
 abbrev pub Allows : (List ℕ → Bool) → Option Command → Type 0
 Allows may None = ⊤
+Allows may (Some (check source)) = IsTrue (may source)
 Allows may (Some (run source image cycles)) = IsTrue (may source) × IsTrue (may image)
+Allows may (Some (asm table program)) = IsTrue (may table) × IsTrue (may program)
 
 -- a run is of at most 1,000,000 cycles
 abbrev pub IsFew : Command → Type 0
+IsFew (check source) = ⊤
 IsFew (run source image cycles) = cycles ≤ 1000000
+IsFew (asm table program) = ⊤
 
 -- what is seen from outside, before and after: what the files hold and their count of faults, what out has and its count of faults
 pub record Seen : Type 0 where
@@ -28,10 +33,10 @@ pub record Seen : Type 0 where
   pub writes : ℕ
   pub writes_now : ℕ
 
--- all is done: both files are read to their ends and accepted, and out has the whole text
+-- all is done: the named files are read to their ends and accepted, and out has the whole text
 abbrev pub IsDone : Option Command → Seen → Type 0
 IsDone None s = ⊥
-IsDone (Some (run source image cycles)) s = (text : List ℕ) × IsOutput s.holds source image cycles text × (s.written_now ≡ with_bytes text s.written)
+IsDone (Some command) s = (text : List ℕ) × Writes s.holds command text × (s.written_now ≡ with_bytes text s.written)
 
 -- out has what it had
 abbrev pub IsSilent : Seen → Type 0
@@ -41,11 +46,10 @@ IsSilent s = s.written_now ≡ s.written
 abbrev pub FailsAs : Option Command → Seen → Failure → Type 0
 FailsAs None s Usage = IsSilent s
 FailsAs None s NoMemory = IsSilent s
-FailsAs (Some (run source image cycles)) s (Refused rule line) = IsWrong s.holds source image rule line × IsSilent s
-FailsAs (Some (run source image cycles)) s ReadFault = Rose s.reads s.reads_now × IsSilent s
-FailsAs (Some (run source image cycles)) s WriteFault =
-    Rose s.writes s.writes_now × (text : List ℕ) × IsOutput s.holds source image cycles text × TakesPrefix s.written s.written_now text
-FailsAs (Some (run source image cycles)) s NoMemory = IsSilent s
+FailsAs (Some command) s (Refused rule position) = IsWrongFor s.holds command rule position × IsSilent s
+FailsAs (Some command) s ReadFault = Rose s.reads s.reads_now × IsSilent s
+FailsAs (Some command) s WriteFault = Rose s.writes s.writes_now × (text : List ℕ) × Writes s.holds command text × TakesPrefix s.written s.written_now text
+FailsAs (Some command) s NoMemory = IsSilent s
 FailsAs _ s _ = ⊥
 
 -- what came of a command is explained by what is seen
@@ -53,13 +57,13 @@ abbrev pub Explains : {T : Type 0} → Option Command → Seen → Result T Fail
 Explains command s (Ok x) = IsDone command s
 Explains command s (Err f) = FailsAs command s f
 
--- the status of a run is decided by what is seen: not 1; 2 where a told file is wrong and no reading failed; 0 where no file is wrong and nothing failed; where it isn't, memory ran out
-pub record IsDecided (source image' : List ℕ) (s : Seen) (status : ℕ) : Type 0 where
+-- the status of a command is decided by what is seen: not 1; 2 where a told file is wrong and no reading failed; 0 where no file is wrong and nothing failed; where it isn't, memory ran out
+pub record IsDecided (command : Command) (s : Seen) (status : ℕ) : Type 0 where
   pub usage : status ≡ 1 → ⊥
-  pub wrong : (held : Held) (rule : Rule) (line : ℕ) → s.holds ≡ Some held → IsWrong (Some held) source image' rule line → (Rose s.reads s.reads_now → ⊥) → (status ≡ 2) ⊎ (status ≡ 5)
-  pub right : ((rule : Rule) (line : ℕ) → IsWrong s.holds source image' rule line → ⊥) → (Rose s.reads s.reads_now → ⊥) → (Rose s.writes s.writes_now → ⊥) → (status ≡ 0) ⊎ (status ≡ 5)
+  pub wrong : (held : Held) (rule : Rule) (position : Position) → s.holds ≡ Some held → IsWrongFor (Some held) command rule position → (Rose s.reads s.reads_now → ⊥) → (status ≡ 2) ⊎ (status ≡ 5)
+  pub right : ((rule : Rule) (position : Position) → IsWrongFor s.holds command rule position → ⊥) → (Rose s.reads s.reads_now → ⊥) → (Rose s.writes s.writes_now → ⊥) → (status ≡ 0) ⊎ (status ≡ 5)
 
 -- the status is decided by what is seen: 1 where the words are no command
 abbrev pub Decides : Option Command → Seen → ℕ → Type 0
 Decides None s status = (status ≡ 1) ⊎ (status ≡ 5)
-Decides (Some (run source image cycles)) s status = IsDecided source image s status
+Decides (Some command) s status = IsDecided command s status

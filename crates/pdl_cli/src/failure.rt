@@ -2,23 +2,34 @@
 ghost use Rattle.std.specs.Prelude.{◌≡◌, ◌≤◌, length};
 ghost use Rattle.pdl_kit.specs.Sinks.{TakesPrefix};
 ghost use Rattle.pdl_cli.specs.Texts.{Says};
+ghost use Rattle.pdl_cli.specs.Failures.{refused_at};
 ghost use Rattle.pdl_cli.specs.Failures as spec;
 
-use crate::line_buffer::LineBuffer;
-use pdl_check::CheckError;
+use pdl_asm::AsmError;
+use pdl_asmtable::TableError;
 use pdl_image::FileError;
 use pdl_kit::files::ReadError;
 use pdl_kit::sink::{Sink, WriteFailed, write_whole};
-use pdl_kit::{NoMemory, Rule};
+use pdl_kit::{NoMemory, Refusal, Rule};
 use pdl_line::LineError;
+use pdl_trace::{refused_insn, refused_line};
+
+/// Where a file breaks a rule.
+#[derive(Clone, Copy, PartialEq, Eq, Debug)]
+pub enum Position {
+    /// A line, counted from 1.
+    Line(u32),
+    /// An instruction of a table, counted from 1; 0 is what stands in none.
+    Insn(usize),
+}
 
 /// Why a command was not done.
 #[derive(Clone, Copy, PartialEq, Eq, Debug)]
 pub enum Failure {
     /// The words are no command.
     Usage,
-    /// A file breaks a rule; the line is counted from 1.
-    Refused { rule: Rule, line: u32 },
+    /// A file breaks a rule.
+    Refused { rule: Rule, position: Position },
     /// A file could not be read.
     ReadFault,
     /// The output could not be written.
@@ -62,16 +73,19 @@ impl From<NoMemory> for Failure {
     }
 }
 
-impl From<CheckError> for Failure {
+impl From<Refusal> for Failure {
     ghost use Rattle.std.specs.Prelude.{◌≡◌};
     ghost use Rattle.pdl_cli.specs.Failures.{of_check};
 
     ghost from_gives = { λ e f. f ≡ of_check e };
 
-    fn from(e: CheckError) -> Failure {
+    fn from(e: Refusal) -> Failure {
         match e {
-            CheckError::Refused { rule, line } => Failure::Refused { rule, line },
-            CheckError::NoMemory => Failure::NoMemory,
+            Refusal::Refused { rule, line } => Failure::Refused {
+                rule,
+                position: Position::Line(line),
+            },
+            Refusal::NoMemory => Failure::NoMemory,
         }
     }
 }
@@ -84,8 +98,45 @@ impl From<FileError> for Failure {
 
     fn from(e: FileError) -> Failure {
         match e {
-            FileError::Refused { rule, line } => Failure::Refused { rule, line },
+            FileError::Refused { rule, line } => Failure::Refused {
+                rule,
+                position: Position::Line(line),
+            },
             FileError::NoMemory => Failure::NoMemory,
+        }
+    }
+}
+
+impl From<TableError> for Failure {
+    ghost use Rattle.std.specs.Prelude.{◌≡◌};
+    ghost use Rattle.pdl_cli.specs.Failures.{of_table};
+
+    ghost from_gives = { λ e f. f ≡ of_table e };
+
+    fn from(e: TableError) -> Failure {
+        match e {
+            TableError::Refused { rule, insn } => Failure::Refused {
+                rule,
+                position: Position::Insn(insn),
+            },
+            TableError::NoMemory => Failure::NoMemory,
+        }
+    }
+}
+
+impl From<AsmError> for Failure {
+    ghost use Rattle.std.specs.Prelude.{◌≡◌};
+    ghost use Rattle.pdl_cli.specs.Failures.{of_asm};
+
+    ghost from_gives = { λ e f. f ≡ of_asm e };
+
+    fn from(e: AsmError) -> Failure {
+        match e {
+            AsmError::Refused { rule, line } => Failure::Refused {
+                rule,
+                position: Position::Line(line),
+            },
+            AsmError::NoMemory => Failure::NoMemory,
         }
     }
 }
@@ -133,24 +184,21 @@ fn complain<E: Sink>(failure: Failure, err: &mut E)
 {
     match failure {
         Failure::Usage => say(err, b"usage\n"),
-        Failure::Refused { rule, line } => say(err, refusal(rule, line).as_bytes()),
+        Failure::Refused { rule, position } => refuse(rule, position, err),
         Failure::ReadFault => say(err, b"read fault\n"),
         Failure::WriteFault => {}
         Failure::NoMemory => say(err, b"no memory\n"),
     }
 }
 
-// The text of a refusal.
-fn refusal(rule: Rule, line: u32) -> LineBuffer
-    ensures { result ≡ spec.failure_text (Failure.Refused rule line) }
+// Writes the text of a refusal.
+fn refuse<E: Sink>(rule: Rule, position: Position, err: &mut E)
+    ensures { Says (E.written err.old) (E.written err.new) (E.faults err.old) (E.faults err.new) (refused_at rule position) }
 {
-    let mut text = LineBuffer::new();
-    text.push(b"refused ");
-    text.push(&rule.text());
-    text.push(b" line ");
-    text.push_decimal(u64::from(line));
-    text.push(b"\n");
-    text
+    match position {
+        Position::Line(line) => say(err, refused_line(rule, line).as_bytes()),
+        Position::Insn(insn) => say(err, refused_insn(rule, insn).as_bytes()),
+    }
 }
 
 // Writes a text, or a prefix of it where the sink fails.

@@ -1,9 +1,8 @@
 //! The whole program as one call: `top` reads the words, the files and writes the lines.
 #![tactic(auto)]
 
+mod assembly;
 mod failure;
-mod line_buffer;
-mod lines;
 mod print;
 mod program;
 mod run;

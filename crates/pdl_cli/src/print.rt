@@ -10,11 +10,11 @@ ghost use Rattle.pdl_net.specs.Run.{delayed_mems};
 ghost use Rattle.pdl_image.specs.Images.{IsImage};
 ghost use Rattle.pdl_cli.specs.Tally.{tallied_of, counts_of};
 
-use crate::lines::{commit_line, end_line};
 use pdl_image::Image;
 use pdl_kit::{MemInfo, NoMemory};
 use pdl_net::{Dir, Netlist};
 use pdl_netrun::Sim;
+use pdl_trace::{commit_line, end_line};
 use std::alloc::Global;
 
 /// How many cycles a run has had, in how many a thread ended, a request stayed unanswered, and a squash happened.
@@ -37,7 +37,7 @@ fn push_commit(
     ensures { OnOk result (text.new.items ≡ text.old.items ++ mem_lines cycle (column_of mem.now) (puts_of commit)) }
 {
     if let Some((address, value)) = commit {
-        let line = commit_line(cycle, mem.name.as_bytes(), address, value, mem.width);
+        let line = commit_line(cycle, &mem.name, address, value, mem.width);
         text.extend_from_slice(line.as_bytes())?;
     }
     Ok(())

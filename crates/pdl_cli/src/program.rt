@@ -1,43 +1,39 @@
 // The whole program.
-ghost use Rattle.std.specs.Prelude.{◌≡◌, ◌≤◌, ℕ, List, Option, IsTrue, map, string_bytes};
+ghost use Rattle.std.specs.Prelude.{◌≡◌, ◌≤◌, ℕ, List, Option, IsTrue, IfOk, IfErr, map, string_bytes};
 ghost use Rattle.std.specs.declared.result.Result.{Result};
 ghost use Rattle.std.specs.Prelude.{Some};
-ghost use Rattle.pdl_line.specs.Line as command;
 ghost use Rattle.pdl_line.specs.Line.{line};
 ghost use Rattle.pdl_line.specs.View.{view};
 ghost use Rattle.pdl_cli.specs.declared.failure.Failure.{Failure as failure};
 ghost use Rattle.pdl_cli.specs.Texts.{Says};
+ghost use Rattle.pdl_cli.specs.Commands.{Writes, Fails};
 ghost use Rattle.pdl_cli.specs.Failures.{status_of as status, text_of as text};
 ghost use Rattle.pdl_cli.specs.Top.{Allows, IsFew, Seen, Explains, Decides};
 
+use crate::assembly::assembled;
 use crate::failure::{Failure, report, status_of};
-use crate::run::prepare;
+use crate::run::{prepare, verdict};
 use pdl_kit::files::Files;
 use pdl_kit::sink::{Sink, write_whole};
 use pdl_line::{Line, read_line};
 use std::alloc::Global;
 
-// Does what `run` asks for.
-fn run<F: Files, O: Sink>(
-    alloc: Global,
-    files: &mut F,
-    out: &mut O,
-    source: &str,
-    image: &str,
-    cycles: u32,
-) -> Result<(), Failure>
-    requires source { IsTrue (F.may files.old source.now) }
-    requires image { IsTrue (F.may files.old image.now) }
-    requires few { cycles ≤ 1000000 }
-    ensures explained { Explains (Some (command.run source.now image.now cycles)) (record { holds = F.holds files.old; reads = F.faults files.old; reads_now = F.faults files.new; written = O.written out.old; written_now = O.written out.new; writes = O.faults out.old; writes_now = O.faults out.new }) result }
+// The text of what a command asks for.
+fn text_of<F: Files>(alloc: Global, line: Line<'_>, files: &mut F) -> Result<Vec<u8>, Failure>
+    requires allowed { Allows (F.may files.old) (Some (view line)) }
+    requires few { IsFew (view line) }
+    ensures ok { IfOk result (λ t. Writes (F.holds files.old) (view line.entry) t.items) }
+    ensures err { IfErr result (Fails (F.holds files.old) (F.faults files.old) (F.faults files.new) (view line.entry)) }
     ensures held { F.holds files.new ≡ F.holds files.old }
 {
-    match prepare(alloc, files, source, image, cycles) {
-        Ok(text) => match write_whole(out, text.as_slice()) {
-            Ok(()) => Ok(()),
-            Err(_) => Err(Failure::WriteFault),
-        },
-        Err(failure) => Err(failure),
+    match line {
+        Line::Check { source } => verdict(alloc, files, source),
+        Line::Run {
+            source,
+            image,
+            cycles,
+        } => prepare(alloc, files, source, image, cycles),
+        Line::Asm { table, text } => assembled(alloc, files, table, text),
     }
 }
 
@@ -53,12 +49,12 @@ fn obey_line<F: Files, O: Sink>(
     ensures explained { Explains (Some (view line.entry)) (record { holds = F.holds files.old; reads = F.faults files.old; reads_now = F.faults files.new; written = O.written out.old; written_now = O.written out.new; writes = O.faults out.old; writes_now = O.faults out.new }) result }
     ensures held { F.holds files.new ≡ F.holds files.old }
 {
-    match line {
-        Line::Run {
-            source,
-            image,
-            cycles,
-        } => run(alloc, files, out, source, image, cycles),
+    match text_of(alloc, line, files) {
+        Ok(text) => match write_whole(out, text.as_slice()) {
+            Ok(()) => Ok(()),
+            Err(_) => Err(Failure::WriteFault),
+        },
+        Err(failure) => Err(failure),
     }
 }
 

@@ -1,10 +1,12 @@
-// The command `run`.
+// The texts that the commands `check` and `run` write.
 ghost use Rattle.std.specs.Prelude.{◌≡◌, ◌≤◌, IsTrue, IfOk, IfErr, OnOk, ℕ, List, Option, length};
 ghost use Rattle.pdl_kit.specs.Files.{Held, Gives};
-ghost use Rattle.pdl_syntax.specs.View.{pipe_view};
+ghost use Rattle.pdl_tree.specs.View.{pipe_view};
+ghost use Rattle.pdl_model.specs.Lines.{accepted_line as accepted_text};
 ghost use Rattle.pdl_check.specs.Memories.{infos_of};
 ghost use Rattle.pdl_image.specs.Images.{IsImage, IsRefusal, image as image_words};
-ghost use Rattle.pdl_cli.specs.Commands.{IsAccepted, SourceFails, ImageFails, IsTaken, IsLoaded, IsOutput, Fails};
+ghost use Rattle.pdl_line.specs.Line as command;
+ghost use Rattle.pdl_cli.specs.Commands.{IsAccepted, SourceFails, ImageFails, IsTaken, IsLoaded, IsVerdict, IsOutput, Fails};
 
 use crate::failure::Failure;
 use crate::print;
@@ -14,6 +16,7 @@ use pdl_image::{FileError, Image, read_image};
 use pdl_kit::NoMemory;
 use pdl_kit::files::{Files, LONGEST_FILE};
 use pdl_pipe::compile;
+use pdl_trace::accepted_line;
 use std::alloc::Global;
 
 // Reads and checks a source.
@@ -72,6 +75,30 @@ fn text_of(
     print::run(alloc, &netlist, image, cycles)
 }
 
+// What is said of an accepted pipe.
+fn verdict_of(alloc: Global, accepted: &Accepted) -> Result<Vec<u8>, NoMemory>
+    ensures { IfOk result (λ t. t.items ≡ accepted_text (pipe_view accepted.now.pipe)) }
+{
+    let line = accepted_line(accepted.graph().count(), accepted.depth());
+    let mut text = Vec::new(alloc);
+    text.extend_from_slice(line.as_bytes())?;
+    Ok(text)
+}
+
+/// The text that `check` writes for a source with this name.
+pub fn verdict<F: Files>(alloc: Global, files: &mut F, source: &str) -> Result<Vec<u8>, Failure>
+    requires { IsTrue (F.may files.old source.now) }
+    ensures ok { IfOk result (λ t. IsVerdict (F.holds files.old) source.now t.items) }
+    ensures err { IfErr result (Fails (F.holds files.old) (F.faults files.old) (F.faults files.new) (command.check source.now)) }
+    ensures held { F.holds files.new ≡ F.holds files.old }
+{
+    let accepted = accept(alloc, files, source)?;
+    match verdict_of(alloc, &accepted) {
+        Ok(text) => Ok(text),
+        Err(_) => Err(Failure::NoMemory),
+    }
+}
+
 /// The text that `run` writes for a source and an image with these names, and so many cycles.
 pub fn prepare<F: Files>(
     alloc: Global,
@@ -84,7 +111,7 @@ pub fn prepare<F: Files>(
     requires image { IsTrue (F.may files.old image.now) }
     requires few { cycles ≤ 1000000 }
     ensures ok { IfOk result (λ t. IsOutput (F.holds files.old) source.now image.now cycles t.items) }
-    ensures err { IfErr result (Fails (F.holds files.old) (F.faults files.old) (F.faults files.new) source.now image.now) }
+    ensures err { IfErr result (Fails (F.holds files.old) (F.faults files.old) (F.faults files.new) (command.run source.now image.now cycles)) }
     ensures held { F.holds files.new ≡ F.holds files.old }
 {
     let accepted = accept(alloc, files, source)?;

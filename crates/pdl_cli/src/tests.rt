@@ -1,11 +1,10 @@
 // What the program answers, rows by hand.
 ghost use Rattle.std.specs.Prelude.{◌≤◌, length};
-ghost use Rattle.pdl_syntax.specs.View.{pipe_view};
+ghost use Rattle.pdl_tree.specs.View.{pipe_view};
 ghost use Rattle.pdl_check.specs.Memories.{infos_of};
 ghost use Rattle.pdl_image.specs.Images.{IsImage};
 
 use crate::failure::Failure;
-use crate::lines::{commit_line, end_line};
 use crate::run::image_of;
 use crate::top;
 use pdl_check::Accepted;
@@ -14,6 +13,7 @@ use pdl_image::Image;
 use pdl_kit::files::LONGEST_FILE;
 use pdl_kit::{MemFile, MemFiles, MemSink, Name, NoMemory, Seq};
 use pdl_machine::Machine;
+use pdl_trace::{commit_line, end_line};
 use std::alloc::Global;
 use std::process::Abort;
 use std::test::Fail;
@@ -28,6 +28,18 @@ const LATE_START: &[u8] =
     b"pipe p(n: uint<4>)[m: uint<8>[4] comb lock queue(1)] { a = n[1:0]; v = zext(n, 8);\n reserve(m[a], W); block(m[a]); m[a] <- v; release(m[a]); // any bytes\n call(n + 4'd15); } start p(4'd2);";
 
 const ON_LINE_3: &[u8] = b"pipe p(n: uint<4>)\n[m: uint<8>[4]\n comb look";
+
+const BRANCH_ON_LINE_3: &[u8] =
+    b"pipe p(n: uint<4>)\n[m: uint<8>[4] comb] {\nif (n == 4'd0) { x = n; } call(n + 4'd1);\n} start p(4'd0);";
+
+const BYPASS_ON_LINE_2: &[u8] =
+    b"pipe p(n: uint<4>)[m: uint<8>[4] comb lock\nbypass(1)] { call(n + k); } start p(4'd0);";
+
+// Writes twice the number of the thread, and 255 where that is 2.
+const EXPRESSIONS: &[u8] =
+    b"pipe p(n: uint<4>)[m: uint<8>[4] comb lock queue(1)] { a = n[1:0]; v = n * 4'd2 == 4'd2 ? ~8'd0 : cat(4'd0, n << 4'd1); acquire(m[a], W); m[a] <- v; release(m[a]); call(n - 4'hf); } start p(4'd0);";
+
+const EXPRESSED: &[u8] = b"1 m 0 00\n2 m 1 ff\n3 m 2 04\nend cycles 3 ended 3 waits 0 squashes 0\n";
 
 const WIDE_STEP: &[u8] =
     b"pipe p(n: uint<4>)[m: uint<8>[4] comb lock queue(1)] { a = n[1:0]; v = zext(n, 8); reserve(m[a], W); block(m[a]); m[a] <- v; release(m[a]); call(n + 8'd1); } start p(4'd0);";
@@ -87,6 +99,26 @@ const CALLS: &[u8] = b" call(n + 4'd1); } start p(4'd0);";
 const EVERY_OTHER: &[u8] = b"1 m 0 00\n3 m 1 01\nend cycles 3 ended 1 waits 0 squashes 0\n";
 
 const SIXTY_FIVE: &[u8] = b"1 m 0 00\n65 m 1 01\nend cycles 65 ended 1 waits 0 squashes 0\n";
+
+// A small instruction set.
+const TABLE: &[u8] = b"word = 8
+mem = \"im\"
+[regs]
+r0 = 0
+r1 = 1
+[[insn]]
+name = \"add\"
+args = [\"d:reg\", \"i:sint\"]
+bits = \"01 d iiiii\"
+[[insn]]
+name = \"b\"
+args = [\"t:rel\"]
+bits = \"100 ttttt\"
+";
+
+const PROGRAM: &[u8] = b"top: add r1, -2\nb top\n";
+
+const ASSEMBLED: &[u8] = b"image 1\nim 0 7e\nim 1 9f\n";
 
 // One run: the words, the bytes of a.pdl and of e.img, and what is seen.
 #[derive(Drop)]
@@ -209,7 +241,7 @@ fn push_ports(
     text: &mut Vec<u8>,
     cycle: u32,
     machine: &Machine<'_>,
-    mem: &[u8],
+    mem: &Name,
     width: u8,
     at: usize,
 ) -> Result<(), NoMemory>
@@ -235,14 +267,17 @@ fn machine_lines(
     requires image { IsImage (infos_of (pipe_view accepted.now.pipe).mems) image.now }
     requires few { cycles ≤ 1000000 }
 {
+    let a = Name::copy_of(alloc, b"a")?;
+    let b = Name::copy_of(alloc, b"b")?;
+    let c = Name::copy_of(alloc, b"c")?;
     let mut machine = Machine::new(alloc, accepted, image)?;
     let mut text = Vec::new(alloc);
     let mut ended = 0;
     for done in 0..cycles {
         machine.cycle(u16::MAX);
-        push_ports(&mut text, done + 1, &machine, b"a", 8, 10)?;
-        push_ports(&mut text, done + 1, &machine, b"b", 8, 13)?;
-        push_ports(&mut text, done + 1, &machine, b"c", 4, 16)?;
+        push_ports(&mut text, done + 1, &machine, &a, 8, 10)?;
+        push_ports(&mut text, done + 1, &machine, &b, 8, 13)?;
+        push_ports(&mut text, done + 1, &machine, &c, 4, 16)?;
         if shown(&machine, 19) == 1 {
             ended += 1;
         }
@@ -302,6 +337,12 @@ fn runs_stages(rt: HostRuntime) -> Result<(), Fail> {
     let rows = [
         at(&["run", "a.pdl", "e.img", "10"], CHAIN, EMPTY, CHAINED),
         at(&["run", "a.pdl", "e.img", "8"], NARROW, EMPTY, NARROWED),
+        at(
+            &["run", "a.pdl", "e.img", "3"],
+            EXPRESSIONS,
+            EMPTY,
+            EXPRESSED,
+        ),
         at(&three, one.as_slice(), EMPTY, EVERY_OTHER),
         at(
             &["run", "a.pdl", "e.img", "65"],
@@ -320,6 +361,49 @@ fn runs_stages(rt: HostRuntime) -> Result<(), Fail> {
     answers(&rt, alloc, &rows)
 }
 
+/// Sources that are checked: accepted with their stages, or refused.
+#[test]
+fn checks_sources(rt: HostRuntime) -> Result<(), Fail> {
+    let alloc = rt.alloc();
+    let two = late_call(alloc, 1)?;
+    let check = ["check", "a.pdl"];
+    let rows = [
+        at(&check, COUNTER, EMPTY, b"accepted stages 1 depth 1\n"),
+        at(
+            &check,
+            two.as_slice(),
+            EMPTY,
+            b"accepted stages 2 depth 2\n",
+        ),
+        at(&check, FIVE, b"", b"accepted stages 5 depth 5\n"),
+        not(&check, b"", EMPTY, 2, b"refused G1 line 1\n"),
+        not(&check, WIDE_PARAMETER, EMPTY, 2, b"refused Z7 line 1\n"),
+        not(&check, WIDE_STEP, EMPTY, 2, b"refused W1 line 1\n"),
+        not(&check, UNKNOWN_STEP, EMPTY, 2, b"refused N1 line 1\n"),
+        not(&["check", "b.pdl"], COUNTER, EMPTY, 3, b"read fault\n"),
+        not(&["check", "a.pdl", "e.img"], COUNTER, EMPTY, 1, b"usage\n"),
+        not(&["check"], COUNTER, EMPTY, 1, b"usage\n"),
+    ];
+    answers(&rt, alloc, &rows)
+}
+
+/// Programs that are assembled, or refused: the table first, at an instruction, and then the program, at a line.
+#[test]
+fn assembles_programs(rt: HostRuntime) -> Result<(), Fail> {
+    let asm = ["asm", "a.pdl", "e.img"];
+    let twice: &[u8] = b".word 1\n.at 0\n.word 1";
+    let rows = [
+        at(&asm, TABLE, PROGRAM, ASSEMBLED),
+        at(&asm, TABLE, b"", b"image 1\n"),
+        not(&asm, b"word = 0", PROGRAM, 2, b"refused B2 insn 0\n"),
+        not(&asm, b"word", twice, 2, b"refused B1 insn 0\n"),
+        not(&asm, TABLE, twice, 2, b"refused A8 line 3\n"),
+        not(&["asm", "a.pdl", "p"], TABLE, PROGRAM, 3, b"read fault\n"),
+        not(&["asm", "a.pdl"], TABLE, PROGRAM, 1, b"usage\n"),
+    ];
+    answers(&rt, rt.alloc(), &rows)
+}
+
 /// Sources that are refused.
 #[test]
 fn refuses_sources(rt: HostRuntime) -> Result<(), Fail> {
@@ -331,6 +415,8 @@ fn refuses_sources(rt: HostRuntime) -> Result<(), Fail> {
         not(&run, WIDE_PARAMETER, EMPTY, 2, b"refused Z7 line 1\n"),
         not(&run, b"", EMPTY, 2, b"refused G1 line 1\n"),
         not(&run, ON_LINE_3, EMPTY, 2, b"refused G1 line 3\n"),
+        not(&run, BRANCH_ON_LINE_3, EMPTY, 2, b"refused G1 line 3\n"),
+        not(&run, BYPASS_ON_LINE_2, EMPTY, 2, b"refused G1 line 2\n"),
         not(&run, b"", b"", 2, b"refused G1 line 1\n"),
         not(
             &["run", "a.pdl", "f.img", "3"],

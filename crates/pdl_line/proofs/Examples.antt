@@ -1,7 +1,7 @@
 -- What single lists of words are.
 use Rattle.std.proofs.Common.{◌≡◌, [], ◌∷◌, Some, None, codes, refl}
 use Rattle.clap.proofs.OnLiterals.{clap_on_literals}
-use Rattle.pdl_line.specs.Line.{line, run}
+use Rattle.pdl_line.specs.Line.{line, check, run, asm}
 
 ran : line (codes "run" ∷ codes "a.pdl" ∷ codes "e.img" ∷ codes "17" ∷ []) ≡ Some (run (codes "a.pdl") (codes "e.img") 17)
 unfolding clap_on_literals line
@@ -146,3 +146,31 @@ an_option_with_value = refl
 a_letter : line (codes "run" ∷ codes "-x" ∷ codes "a" ∷ codes "b" ∷ codes "5" ∷ []) ≡ None
 unfolding clap_on_literals line
 a_letter = refl
+
+checked : line (codes "check" ∷ codes "a.pdl" ∷ []) ≡ Some (check (codes "a.pdl"))
+unfolding clap_on_literals line
+checked = refl
+
+check_alone : line (codes "check" ∷ []) ≡ None
+unfolding clap_on_literals line
+check_alone = refl
+
+check_two : line (codes "check" ∷ codes "a.pdl" ∷ codes "e.img" ∷ []) ≡ None
+unfolding clap_on_literals line
+check_two = refl
+
+help_of_check : line (codes "help" ∷ codes "check" ∷ []) ≡ None
+unfolding clap_on_literals line
+help_of_check = refl
+
+assembled : line (codes "asm" ∷ codes "t.toml" ∷ codes "p.s" ∷ []) ≡ Some (asm (codes "t.toml") (codes "p.s"))
+unfolding clap_on_literals line
+assembled = refl
+
+asm_one : line (codes "asm" ∷ codes "t.toml" ∷ []) ≡ None
+unfolding clap_on_literals line
+asm_one = refl
+
+asm_three : line (codes "asm" ∷ codes "a" ∷ codes "b" ∷ codes "c" ∷ []) ≡ None
+unfolding clap_on_literals line
+asm_three = refl

@@ -8,12 +8,22 @@ use Rattle.clap.specs.declared.builder.action.ArgAction.TheVariants.{Set}
 abbrev pub word_rule : Text → Rule
 word_rule id = record (new_rule id) { required = true; action = Some Set }
 
+-- `check SRC`
+abbrev pub check_app : App
+check_app = with_rule (new_app (codes "check")) (word_rule (codes "source"))
+
 -- `run SRC IMG CYCLES`
 abbrev pub run_app : App
 run_app =
     with_rule (with_rule (with_rule (new_app (codes "run"))
     (word_rule (codes "source"))) (word_rule (codes "image"))) (word_rule (codes "cycles"))
 
+-- `asm TABLE TEXT`
+abbrev pub asm_app : App
+asm_app = with_rule (with_rule (new_app (codes "asm")) (word_rule (codes "table"))) (word_rule (codes "text"))
+
 -- the command, over the words after the program's name
 abbrev pub pdl_app : App
-pdl_app = with_subcommand (on_top (λ s. record s { no_binary_name = true }) (new_app (codes "pdl"))) run_app.top
+pdl_app =
+    with_subcommand (with_subcommand (with_subcommand (on_top (λ s. record s { no_binary_name = true }) (new_app (codes "pdl")))
+    check_app.top) run_app.top) asm_app.top

@@ -3,7 +3,7 @@ ghost use Rattle.std.specs.Prelude.{◌≡◌, false, IfOk};
 ghost use Rattle.clap.specs.Walk.{rule_of};
 ghost use Rattle.clap.specs.Words.{app_of};
 ghost use Rattle.clap.specs.declared.builder.command.Command.TheViews.{out-Command as fields_of};
-ghost use Rattle.pdl_line.specs.App.{pdl_app, run_app, word_rule};
+ghost use Rattle.pdl_line.specs.App.{pdl_app, check_app, run_app, asm_app, word_rule};
 
 use clap::{Arg, ArgAction, Command};
 use std::alloc::{AllocError, Global};
@@ -16,6 +16,14 @@ fn word<'a>(alloc: Global, id: &'a str) -> Arg<'a>
     Arg::new(alloc, id).required(true).action(ArgAction::Set)
 }
 
+// `check SRC`
+fn check_command<'a>(alloc: Global) -> Result<Command<'a>, AllocError>
+    ensures { IfOk result (λ c. (app_of c ≡ check_app) × ((fields_of c).has_globals ≡ false)) }
+{
+    let all = Command::new(alloc, "check").arg(word(alloc, "source"))?;
+    Ok(all)
+}
+
 // `run SRC IMG CYCLES`
 fn run_command<'a>(alloc: Global) -> Result<Command<'a>, AllocError>
     ensures { IfOk result (λ c. (app_of c ≡ run_app) × ((fields_of c).has_globals ≡ false)) }
@@ -26,11 +34,24 @@ fn run_command<'a>(alloc: Global) -> Result<Command<'a>, AllocError>
     Ok(all)
 }
 
+// `asm TABLE TEXT`
+fn asm_command<'a>(alloc: Global) -> Result<Command<'a>, AllocError>
+    ensures { IfOk result (λ c. (app_of c ≡ asm_app) × ((fields_of c).has_globals ≡ false)) }
+{
+    let one = Command::new(alloc, "asm").arg(word(alloc, "table"))?;
+    let all = one.arg(word(alloc, "text"))?;
+    Ok(all)
+}
+
 pub(crate) fn command<'a>(alloc: Global) -> Result<Command<'a>, AllocError>
     ensures { IfOk result (λ c. app_of c ≡ pdl_app) }
 {
+    let check = check_command(alloc)?;
     let run = run_command(alloc)?;
     let bare = Command::new(alloc, "pdl").no_binary_name(true);
-    let all = bare.subcommand(run)?;
+    let asm = asm_command(alloc)?;
+    let one = bare.subcommand(check)?;
+    let two = one.subcommand(run)?;
+    let all = two.subcommand(asm)?;
     Ok(all)
 }

@@ -1,7 +1,7 @@
 // The command that a list of words is.
 ghost use Rattle.std.specs.Prelude.{◌≡◌, ◌≢◌, map, IfOk, Some, None, IsErrOf, string_bytes, option_map};
 ghost use Rattle.clap.specs.Words.{found_of, rows_of, first_of};
-ghost use Rattle.pdl_line.specs.Line.{line, command_of, run_of};
+ghost use Rattle.pdl_line.specs.Line.{line, command_of, check_of, run_of, asm_of};
 ghost use Rattle.pdl_line.specs.View.{view};
 ghost use Rattle.pdl_line.specs.declared.line.LineError.TheVariants.{NoMemory as no_memory};
 
@@ -14,11 +14,20 @@ use std::alloc::{AllocError, Global};
 /// A command with its words.
 #[derive(Clone, Copy, PartialEq, Eq, Debug)]
 pub enum Line<'a> {
+    /// `check SRC`: the name of a source.
+    Check {
+        source: &'a str,
+    },
     /// `run SRC IMG CYCLES`: the names of two files, and how many cycles to run, up to 1,000,000.
     Run {
         source: &'a str,
         image: &'a str,
         cycles: u32,
+    },
+    /// `asm TABLE TEXT`: the names of the table of an instruction set and of an assembly text.
+    Asm {
+        table: &'a str,
+        text: &'a str,
     },
 }
 
@@ -63,12 +72,18 @@ fn command_line<'a>(name: &str, inner: &ArgMatches<'a>) -> Result<Line<'a>, Line
     ensures usage { IsErrOf result LineError.Usage → command_of (name.now, rows_of (found_of inner.now)) ≡ None }
     ensures memory { result ≢ Err LineError.NoMemory }
 {
+    if name == "check" {
+        return check_line(value(inner, "source"));
+    }
     if name == "run" {
         return run_line(
             value(inner, "source"),
             value(inner, "image"),
             value(inner, "cycles"),
         );
+    }
+    if name == "asm" {
+        return asm_line(value(inner, "table"), value(inner, "text"));
     }
     Err(LineError::Usage)
 }
@@ -78,6 +93,17 @@ fn value<'a>(inner: &ArgMatches<'a>, id: &str) -> Option<&'a str>
     ensures { option_map (λ s. s.now) result ≡ first_of id.now (rows_of (found_of inner.now)) }
 {
     inner.get_str(id)
+}
+
+fn check_line<'a>(source: Option<&'a str>) -> Result<Line<'a>, LineError>
+    ensures ok { IfOk result (λ l. check_of (option_map (λ s. s.now) source.entry) ≡ Some (view l)) }
+    ensures usage { IsErrOf result LineError.Usage → check_of (option_map (λ s. s.now) source.entry) ≡ None }
+    ensures memory { result ≢ Err LineError.NoMemory }
+{
+    match source {
+        Some(source) => Ok(Line::Check { source }),
+        None => Err(LineError::Usage),
+    }
 }
 
 fn run_line<'a>(
@@ -106,4 +132,18 @@ fn run_line<'a>(
         image,
         cycles,
     })
+}
+
+fn asm_line<'a>(table: Option<&'a str>, text: Option<&'a str>) -> Result<Line<'a>, LineError>
+    ensures ok { IfOk result (λ l. asm_of (option_map (λ s. s.now) table.entry) (option_map (λ s. s.now) text.entry) ≡ Some (view l)) }
+    ensures usage { IsErrOf result LineError.Usage → asm_of (option_map (λ s. s.now) table.entry) (option_map (λ s. s.now) text.entry) ≡ None }
+    ensures memory { result ≢ Err LineError.NoMemory }
+{
+    let Some(table) = table else {
+        return Err(LineError::Usage);
+    };
+    let Some(text) = text else {
+        return Err(LineError::Usage);
+    };
+    Ok(Line::Asm { table, text })
 }

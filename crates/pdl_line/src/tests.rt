@@ -18,10 +18,24 @@ fn run<'a>(source: &'a str, image: &'a str, cycles: u32) -> Result<Line<'a>, Lin
     })
 }
 
+fn check<'a>(source: &'a str) -> Result<Line<'a>, LineError> {
+    Ok(Line::Check { source })
+}
+
+fn asm<'a>(table: &'a str, text: &'a str) -> Result<Line<'a>, LineError> {
+    Ok(Line::Asm { table, text })
+}
+
 #[test]
 fn reads_lines(rt: HostRuntime) -> Result<(), Fail> {
     let usage = Err(LineError::Usage);
-    let table: [(&[&str], Result<Line<'_>, LineError>); 9] = [
+    let table: [(&[&str], Result<Line<'_>, LineError>); 15] = [
+        (&["asm", "t", "p"], asm("t", "p")),
+        (&["asm", "t"], usage),
+        (&["check", "a.pdl"], check("a.pdl")),
+        (&["check", "--", "-a"], check("-a")),
+        (&["check"], usage),
+        (&["check", "a", "b"], usage),
         (&["run", "a.pdl", "e.img", "17"], run("a.pdl", "e.img", 17)),
         (&["run", "a", "b", "1000000"], run("a", "b", 1_000_000)),
         (&["run", "", "-", "0000000"], run("", "-", 0)),

@@ -1,4 +1,4 @@
-//! The lines that runs print, as bytes: commit lines, end lines, the last line of a sequential run, and the lines of images.
+//! The lines that the program prints, as bytes: commit lines, end lines, the last line of a sequential run, the lines of images, what is said of an accepted source, and refusals.
 //! The layer above may use the calls that make a line; none of them takes memory or fails.
 #![tactic(auto)]
 
@@ -9,4 +9,6 @@ pub mod lines;
 mod tests;
 
 pub use line::Line;
-pub use lines::{commit_line, end_line, threads_line, word_line};
+pub use lines::{
+    accepted_line, commit_line, end_line, refused_insn, refused_line, threads_line, word_line,
+};

@@ -1,9 +1,10 @@
-// The lines of runs.
+// The lines of runs and of checks.
 ghost use Rattle.std.specs.Prelude.{◌≡◌, ◌≤◌, ◌<◌, ◌^◌, ◌++◌, codes, decimal, length};
 ghost use Rattle.pdl_model.specs.Lines as text;
+ghost use Rattle.pdl_kit.specs.Rules.{text_of};
 
 use crate::line::Line;
-use pdl_kit::Name;
+use pdl_kit::{Name, Rule};
 
 /// The line of an image that gives a word: `<mem> <address> <hex>`.
 ///
@@ -67,6 +68,45 @@ pub fn threads_line(threads: u32) -> Line
     let mut line = Line::new();
     line.push(b"end threads ");
     line.push_decimal(u64::from(threads));
+    line.push(b"\n");
+    line
+}
+
+/// The line of an accepted source: `accepted stages K depth D`, with the number of its pipe's stages and the greatest number of them on a path.
+pub fn accepted_line(stages: usize, depth: usize) -> Line
+    ensures { result ≡ codes "accepted stages " ++ decimal stages ++ codes " depth " ++ decimal depth ++ codes "\n" }
+{
+    let mut line = Line::new();
+    line.push(b"accepted stages ");
+    line.push_decimal(stages as u64);
+    line.push(b" depth ");
+    line.push_decimal(depth as u64);
+    line.push(b"\n");
+    line
+}
+
+/// The line of a refused file: `refused RULE line N`, with the rule's name of two characters and the line counted from 1.
+pub fn refused_line(rule: Rule, line_number: u32) -> Line
+    ensures { result ≡ codes "refused " ++ text_of rule ++ codes " line " ++ decimal line_number ++ codes "\n" }
+{
+    let mut line = Line::new();
+    line.push(b"refused ");
+    line.push(&rule.text());
+    line.push(b" line ");
+    line.push_decimal(u64::from(line_number));
+    line.push(b"\n");
+    line
+}
+
+/// The line of a refused table of an instruction set: `refused RULE insn N`, with the instruction counted from 1; 0 is what stands in none.
+pub fn refused_insn(rule: Rule, insn: usize) -> Line
+    ensures { result ≡ codes "refused " ++ text_of rule ++ codes " insn " ++ decimal insn ++ codes "\n" }
+{
+    let mut line = Line::new();
+    line.push(b"refused ");
+    line.push(&rule.text());
+    line.push(b" insn ");
+    line.push_decimal(insn as u64);
     line.push(b"\n");
     line
 }

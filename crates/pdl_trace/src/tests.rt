@@ -2,7 +2,7 @@
 ghost use Rattle.std.specs.Prelude.{◌≤◌, ◌<◌, length};
 
 use super::*;
-use pdl_kit::{Name, NoMemory};
+use pdl_kit::{Name, NoMemory, Rule};
 use std::test::Fail;
 
 #[test]
@@ -39,5 +39,18 @@ fn end_lines(rt: HostRuntime) {
     assert_eq!(rt; line.as_bytes(), text);
     let line = threads_line(2);
     let text: &[u8] = b"end threads 2\n";
+    assert_eq!(rt; line.as_bytes(), text);
+}
+
+#[test]
+fn check_lines(rt: HostRuntime) {
+    let line = accepted_line(6, 5);
+    let text: &[u8] = b"accepted stages 6 depth 5\n";
+    assert_eq!(rt; line.as_bytes(), text);
+    let line = refused_line(Rule::W1, 4);
+    let text: &[u8] = b"refused W1 line 4\n";
+    assert_eq!(rt; line.as_bytes(), text);
+    let line = refused_insn(Rule::B1, 0);
+    let text: &[u8] = b"refused B1 insn 0\n";
     assert_eq!(rt; line.as_bytes(), text);
 }

@@ -1,5 +1,5 @@
 use Rattle.std.proofs.Common.{◌∙◌}
-use Rattle.pdl_syntax.specs.View.{pipe_view}
+use Rattle.pdl_tree.specs.View.{pipe_view}
 use Rattle.pdl_cli.proofs.Accepting.{names_differ, widths_low, widths_high}
 use Rattle.pdl_cli.proofs.run.image_of.Goals as goal
 

@@ -1,4 +1,4 @@
-use Rattle.pdl_syntax.specs.View.{pipe_view}
+use Rattle.pdl_tree.specs.View.{pipe_view}
 use Rattle.pdl_cli.proofs.Preparing.{image_fails, loaded}
 use Rattle.pdl_cli.proofs.run.prepare.Goals as goal
 
@@ -20,4 +20,4 @@ pub returns-clause-err : goal.returns-clause-err
 returns-clause-err g c =
     let a = c.in_ok-accepted.ensures.ok in
     image_fails (g.F.Files.holds c.args.files.now) (g.F.Files.holds c.accept.new.files) (g.F.Files.faults c.args.files.now) (g.F.Files.faults c.accept.new.files) (g.F.Files.faults c.load.new.files)
-    c.args.source.now c.args.image.now a.0 (pipe_view c.in_ok-accepted.accepted.pipe) c.accept.ensures.held c.in_ok-accepted.ensures.later a.1 a.2 c.in-Err.failure c.in-Err.ensures.err
+    c.args.source.now c.args.image.now a.0 c.args.cycles (pipe_view c.in_ok-accepted.accepted.pipe) c.accept.ensures.held c.in_ok-accepted.ensures.later a.1 a.2 c.in-Err.failure c.in-Err.ensures.err
