@@ -12,14 +12,14 @@ use Rattle.pdl_facts.specs.Accepted.{Pathwise}
 -- USES OF A VARIABLE
 
 abbrev pub uses_in : ℕ → Expr → Bool
-uses_in x (Constant v) = false
+uses_in x (Constant w v) = false
 uses_in x (Variable y) = y == x
 uses_in x (Slice y high low) = y == x
 uses_in x (Not w a) = uses_in x a
 uses_in x (Binary op w a b) = uses_in x a || uses_in x b
 uses_in x (Cat a w b) = uses_in x a || uses_in x b
 uses_in x (LessSigned w a b) = uses_in x a || uses_in x b
-uses_in x (ZeroExtend a) = uses_in x a
+uses_in x (ZeroExtend wide a) = uses_in x a
 uses_in x (SignExtend w wide a) = uses_in x a
 uses_in x (Choose c a b) = uses_in x c || (uses_in x a || uses_in x b)
 

@@ -21,7 +21,7 @@ pub struct Wide {
 
 fn constant(l: &Literal) -> Wide
     requires { l.now.width ≤ 64 }
-    ensures form { expr_view result.e ≡ flat.Constant (unwrap_or l.now.value 0) }
+    ensures form { expr_view result.e ≡ flat.Constant l.now.width (unwrap_or l.now.value 0) }
     ensures width { result.width ≡ l.now.width }
 {
     let width = l.width as u8;
@@ -156,7 +156,7 @@ fn less_signed(alloc: Global, a: Wide, b: Wide) -> Result<Wide, NoMemory>
 
 fn zero_extend(alloc: Global, a: Wide, wide: u64) -> Result<Wide, NoMemory>
     requires { wide ≤ 64 }
-    ensures form { IfOk result (λ r. expr_view r.e ≡ flat.ZeroExtend (expr_view a.e)) }
+    ensures form { IfOk result (λ r. expr_view r.e ≡ flat.ZeroExtend wide (expr_view a.e)) }
     ensures width { IfOk result (λ r. r.width ≡ wide) }
 {
     let wide = wide as u8;

@@ -18,14 +18,14 @@ use Rattle.pdl_model.specs.Flat as flat
 use Rattle.pdl_model.specs.Flat.{Expr, Op, Guard, Stmt, Lock, Mem, Next, Branch, Stage}
 
 abbrev pub expr_step : Expr-F Expr → Expr
-expr_step (Expr-F.Constant width value) = flat.Constant value
+expr_step (Expr-F.Constant width value) = flat.Constant width value
 expr_step (Expr-F.Variable x) = flat.Variable x
 expr_step (Expr-F.Slice x high low) = flat.Slice x high low
 expr_step (Expr-F.Not width a) = flat.Not width a
 expr_step (Expr-F.Binary op width a b) = flat.Binary (op_view op) width a b
 expr_step (Expr-F.Cat a width b) = flat.Cat a width b
 expr_step (Expr-F.LessSigned width a b) = flat.LessSigned width a b
-expr_step (Expr-F.ZeroExtend wide a) = flat.ZeroExtend a
+expr_step (Expr-F.ZeroExtend wide a) = flat.ZeroExtend wide a
 expr_step (Expr-F.SignExtend width wide a) = flat.SignExtend width wide a
 expr_step (Expr-F.Choose c a b) = flat.Choose c a b
 

@@ -86,14 +86,14 @@ clash : {A : Type 0} → false ≡ true → A
 clash h = absurd (cc h)
 
 pub value_agree : (e : Expr) (env env' : List ℕ) → ((g : ℕ) → uses_in g e ≡ true → slice_index env g ≡ slice_index env' g) → value_of e env ≡ value_of e env'
-value_agree (Constant v) env env' f = refl
+value_agree (Constant w v) env env' f = refl
 value_agree (Variable x) env env' f = f x (eq-eqb x x refl)
 value_agree (Slice x high low) env env' f = ap (Words.slice high low) (f x (eq-eqb x x refl))
 value_agree (Not w a) env env' f = ap (Words.complement w) (value_agree a env env' f)
 value_agree (Binary op w a b) env env' f = ap₂ (applied op w) (value_agree a env env' (λ g h. f g (or_first _ _ h))) (value_agree b env env' (λ g h. f g (or_yes (uses_in g a) _ h)))
 value_agree (Cat a w b) env env' f = ap₂ (Words.cat w) (value_agree a env env' (λ g h. f g (or_first _ _ h))) (value_agree b env env' (λ g h. f g (or_yes (uses_in g a) _ h)))
 value_agree (LessSigned w a b) env env' f = ap₂ (Words.lts w) (value_agree a env env' (λ g h. f g (or_first _ _ h))) (value_agree b env env' (λ g h. f g (or_yes (uses_in g a) _ h)))
-value_agree (ZeroExtend a) env env' f = ap Words.zext (value_agree a env env' f)
+value_agree (ZeroExtend wide a) env env' f = ap Words.zext (value_agree a env env' f)
 value_agree (SignExtend w wide a) env env' f = ap (Words.sext w wide) (value_agree a env env' f)
 value_agree (Choose c a b) env env' f =
     let k = value_agree c env env' (λ g h. f g (or_first _ _ h)) in

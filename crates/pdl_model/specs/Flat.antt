@@ -3,16 +3,16 @@ use Rattle.std.specs.Prelude.{ℕ, ◌-◌, Bool, true, ◌&&◌, not, List, [],
 use Rattle.pdl_word.specs.Words
 use Rattle.pdl_model.specs.Tree.{BinaryOp, Add, Sub, Mul, And, Or, Xor, Equal, Differ, Less, ShiftLeft, ShiftRight}
 
--- an expression over numbered variables, with the widths that its value needs
+-- an expression over numbered variables, with the widths of its parts: `width` is that of the operands, in `Constant` that of the value, and `wide` that of an extended value; in `Cat` it is that of b, the lower part
 pub data Expr : Type 0 where
-  Constant : (value : ℕ) → Expr
+  Constant : (width value : ℕ) → Expr
   Variable : (x : ℕ) → Expr
   Slice : (x high low : ℕ) → Expr
   Not : (width : ℕ) (a : Expr) → Expr
   Binary : (op : BinaryOp) (width : ℕ) (a b : Expr) → Expr
   Cat : (a : Expr) (width : ℕ) (b : Expr) → Expr
   LessSigned : (width : ℕ) (a b : Expr) → Expr
-  ZeroExtend : (a : Expr) → Expr
+  ZeroExtend : (wide : ℕ) (a : Expr) → Expr
   SignExtend : (width wide : ℕ) (a : Expr) → Expr
   Choose : (c a b : Expr) → Expr
 
@@ -32,14 +32,14 @@ applied ShiftRight w a b = Words.shr w a b
 
 -- the value of an expression where the variables have these values
 abbrev pub value_of : Expr → List ℕ → ℕ
-value_of (Constant v) env = v
+value_of (Constant w v) env = v
 value_of (Variable x) env = slice_index env x
 value_of (Slice x high low) env = Words.slice high low (slice_index env x)
 value_of (Not w a) env = Words.complement w (value_of a env)
 value_of (Binary op w a b) env = applied op w (value_of a env) (value_of b env)
 value_of (Cat a w b) env = Words.cat w (value_of a env) (value_of b env)
 value_of (LessSigned w a b) env = Words.lts w (value_of a env) (value_of b env)
-value_of (ZeroExtend a) env = Words.zext (value_of a env)
+value_of (ZeroExtend wide a) env = Words.zext (value_of a env)
 value_of (SignExtend w wide a) env = Words.sext w wide (value_of a env)
 value_of (Choose c a b) env = Words.mux (value_of c env) (value_of a env) (value_of b env)
 

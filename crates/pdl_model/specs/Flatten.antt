@@ -55,14 +55,14 @@ width_of vs (Choose c a b) = width_of vs a
 
 -- an expression over the variables' numbers
 abbrev pub flat_expr : List Var → Expr → Flat.Expr
-flat_expr vs (Constant l) = Flat.Constant (unwrap_or l.value 0)
+flat_expr vs (Constant l) = Flat.Constant l.width (unwrap_or l.value 0)
 flat_expr vs (Variable x) = Flat.Variable (var_of vs x.name)
 flat_expr vs (Slice x high low) = Flat.Slice (var_of vs x.name) high.value low.value
 flat_expr vs (Not a) = Flat.Not (width_of vs a) (flat_expr vs a)
 flat_expr vs (Binary op a b) = Flat.Binary op (width_of vs a) (flat_expr vs a) (flat_expr vs b)
 flat_expr vs (Cat a b) = Flat.Cat (flat_expr vs a) (width_of vs b) (flat_expr vs b)
 flat_expr vs (LessSigned a b) = Flat.LessSigned (width_of vs a) (flat_expr vs a) (flat_expr vs b)
-flat_expr vs (ZeroExtend a width) = Flat.ZeroExtend (flat_expr vs a)
+flat_expr vs (ZeroExtend a width) = Flat.ZeroExtend width.value (flat_expr vs a)
 flat_expr vs (SignExtend a width) = Flat.SignExtend (width_of vs a) width.value (flat_expr vs a)
 flat_expr vs (Choose c a b) = Flat.Choose (flat_expr vs c) (flat_expr vs a) (flat_expr vs b)
 

@@ -129,14 +129,14 @@ taken_is (g ∷ gs) w s = both_at s (literal g.first (w.vars g.var)) (all_taken 
 
 -- a value depends on the variables that its expression uses
 pub value_agrees : (e : Expr) (env other : List ℕ) → ((x : ℕ) → uses e x ≡ true → slice_index env x ≡ slice_index other x) → value_of e env ≡ value_of e other
-value_agrees (Constant v) env other h = refl
+value_agrees (Constant w v) env other h = refl
 value_agrees (Variable x) env other h = h x (Rattle.std.proofs.Common.eq-eqb x x refl)
 value_agrees (Slice x high low) env other h = ap (words.slice high low) (h x (Rattle.std.proofs.Common.eq-eqb x x refl))
 value_agrees (Not w a) env other h = ap (words.complement w) (value_agrees a env other h)
 value_agrees (Binary op w a b) env other h = ap₂ (applied op w) (value_agrees a env other (λ x u. h x (or_left (uses a x) (uses b x) u))) (value_agrees b env other (λ x u. h x (or_right (uses a x) (uses b x) u)))
 value_agrees (Cat a w b) env other h = ap₂ (words.cat w) (value_agrees a env other (λ x u. h x (or_left (uses a x) (uses b x) u))) (value_agrees b env other (λ x u. h x (or_right (uses a x) (uses b x) u)))
 value_agrees (LessSigned w a b) env other h = ap₂ (words.lts w) (value_agrees a env other (λ x u. h x (or_left (uses a x) (uses b x) u))) (value_agrees b env other (λ x u. h x (or_right (uses a x) (uses b x) u)))
-value_agrees (ZeroExtend a) env other h = ap words.zext (value_agrees a env other h)
+value_agrees (ZeroExtend wide a) env other h = ap words.zext (value_agrees a env other h)
 value_agrees (SignExtend w wide a) env other h = ap (words.sext w wide) (value_agrees a env other h)
 value_agrees (Choose c a b) env other h =
     rw (value_agrees c env other (λ x u. h x (or_left (uses c x) (uses a x || uses b x) u)), value_agrees a env other (λ x u. h x (or_right (uses c x) (uses a x || uses b x) (or_left (uses a x) (uses b x) u))), value_agrees b env other (λ x u. h x (or_right (uses c x) (uses a x || uses b x) (or_right (uses a x) (uses b x) u)))) refl

@@ -34,14 +34,14 @@ padded_at (x ∷ xs) n (suc i) = padded_at xs n i
 
 -- expressions have the same values
 value_padded : (e : Expr) (xs : List ℕ) (n : ℕ) → value_of e (xs ++ zeros n) ≡ value_of e xs
-value_padded (Constant v) xs n = refl
+value_padded (Constant w v) xs n = refl
 value_padded (Variable x) xs n = padded_at xs n x
 value_padded (Slice x high low) xs n = ap (words.slice high low) (padded_at xs n x)
 value_padded (Not w a) xs n = ap (words.complement w) (value_padded a xs n)
 value_padded (Binary op w a b) xs n = ap₂ (applied op w) (value_padded a xs n) (value_padded b xs n)
 value_padded (Cat a w b) xs n = ap₂ (words.cat w) (value_padded a xs n) (value_padded b xs n)
 value_padded (LessSigned w a b) xs n = ap₂ (words.lts w) (value_padded a xs n) (value_padded b xs n)
-value_padded (ZeroExtend a) xs n = ap words.zext (value_padded a xs n)
+value_padded (ZeroExtend wide a) xs n = ap words.zext (value_padded a xs n)
 value_padded (SignExtend w wide a) xs n = ap (words.sext w wide) (value_padded a xs n)
 value_padded (Choose c a b) xs n = rw (value_padded c xs n, value_padded a xs n, value_padded b xs n) refl
 

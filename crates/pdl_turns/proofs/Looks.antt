@@ -41,14 +41,14 @@ other : (env : List ℕ) (x v y : ℕ) → not (y == x) ≡ true → slice_index
 other env x v y h = get_or-set_other env x y v 0 (λ e. apart x y h (sym e))
 
 pub value_unused : (x v : ℕ) (e : Expr) (env : List ℕ) → not (uses_in x e) ≡ true → value_of e (slice_set env x v) ≡ value_of e env
-value_unused x v (Constant n) env h = refl
+value_unused x v (Constant w n) env h = refl
 value_unused x v (Variable y) env h = other env x v y h
 value_unused x v (Slice y high low) env h = ap (Words.slice high low) (other env x v y h)
 value_unused x v (Not w a) env h = ap (Words.complement w) (value_unused x v a env h)
 value_unused x v (Binary op w a b) env h = let n = not_or (uses_in x a) (uses_in x b) h in ap₂ (applied op w) (value_unused x v a env n.0) (value_unused x v b env n.1)
 value_unused x v (Cat a w b) env h = let n = not_or (uses_in x a) (uses_in x b) h in ap₂ (Words.cat w) (value_unused x v a env n.0) (value_unused x v b env n.1)
 value_unused x v (LessSigned w a b) env h = let n = not_or (uses_in x a) (uses_in x b) h in ap₂ (Words.lts w) (value_unused x v a env n.0) (value_unused x v b env n.1)
-value_unused x v (ZeroExtend a) env h = ap Words.zext (value_unused x v a env h)
+value_unused x v (ZeroExtend wide a) env h = ap Words.zext (value_unused x v a env h)
 value_unused x v (SignExtend w wide a) env h = ap (Words.sext w wide) (value_unused x v a env h)
 value_unused x v (Choose c a b) env h =
     let n = not_or (uses_in x c) (uses_in x a || uses_in x b) h in
