@@ -1,0 +1,11 @@
+pub mod Same
+pub mod Found
+pub mod Values
+pub mod Memories
+pub mod Behind
+pub mod Standing
+pub mod Growing
+pub mod Starting
+pub mod Single
+pub mod Walking
+pub mod Whole

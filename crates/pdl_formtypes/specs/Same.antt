@@ -1,0 +1,101 @@
+-- Whether two flat forms are the same.
+use Rattle.std.specs.Prelude.{ℕ, Bool, true, false, ◌&&◌, ◌==◌, List, [], ◌∷◌, Option, Some, None, bytes_eq}
+use Rattle.pdl_model.specs.Tree.{BinaryOp, Add, Sub, Mul, And, Or, Xor, Equal, Differ, Less, ShiftLeft, ShiftRight}
+use Rattle.pdl_model.specs.Flat.{Expr, Constant, Variable, Slice, Not, Binary, Cat, LessSigned, ZeroExtend, SignExtend, Choose, Op, Bind, CombRead, DelayedRead, Write, ReserveRead, ReserveWrite, Block, Release, Call, SpecCall, Verify, SpecCheck, SpecBarrier, Guard, Stmt, Lock, Plain, Queue, Bypass, Rename, Mem, Next, Ends, Goes, Forks, Branch, Stage, Pipe}
+use Rattle.pdl_form.specs.Form.{Form}
+
+-- element by element
+abbrev pub same_list : {X : Type 0} → (X → X → Bool) → List X → List X → Bool
+same_list same [] [] = true
+same_list same (x ∷ xs) (y ∷ ys) = same x y && same_list same xs ys
+same_list same _ _ = false
+
+abbrev pub same_option : {X : Type 0} → (X → X → Bool) → Option X → Option X → Bool
+same_option same None None = true
+same_option same (Some x) (Some y) = same x y
+same_option same _ _ = false
+
+abbrev pub same_bool : Bool → Bool → Bool
+same_bool true true = true
+same_bool false false = true
+same_bool _ _ = false
+
+abbrev pub same_number : ℕ → ℕ → Bool
+same_number m n = m == n
+
+-- the operators by number
+abbrev pub number_of : BinaryOp → ℕ
+number_of Add = 0
+number_of Sub = 1
+number_of Mul = 2
+number_of And = 3
+number_of Or = 4
+number_of Xor = 5
+number_of Equal = 6
+number_of Differ = 7
+number_of Less = 8
+number_of ShiftLeft = 9
+number_of ShiftRight = 10
+
+abbrev pub same_expr : Expr → Expr → Bool
+same_expr (Constant w v) (Constant w' v') = (w == w') && (v == v')
+same_expr (Variable x) (Variable x') = x == x'
+same_expr (Slice x high low) (Slice x' high' low') = (x == x') && ((high == high') && (low == low'))
+same_expr (Not w a) (Not w' a') = (w == w') && same_expr a a'
+same_expr (Binary op w a b) (Binary op' w' a' b') = (number_of op == number_of op') && ((w == w') && (same_expr a a' && same_expr b b'))
+same_expr (Cat a w b) (Cat a' w' b') = same_expr a a' && ((w == w') && same_expr b b')
+same_expr (LessSigned w a b) (LessSigned w' a' b') = (w == w') && (same_expr a a' && same_expr b b')
+same_expr (ZeroExtend wide a) (ZeroExtend wide' a') = (wide == wide') && same_expr a a'
+same_expr (SignExtend w wide a) (SignExtend w' wide' a') = (w == w') && ((wide == wide') && same_expr a a')
+same_expr (Choose c a b) (Choose c' a' b') = same_expr c c' && (same_expr a a' && same_expr b b')
+same_expr _ _ = false
+
+abbrev pub same_op : Op → Op → Bool
+same_op (Bind x e) (Bind x' e') = (x == x') && same_expr e e'
+same_op (CombRead x m a) (CombRead x' m' a') = (x == x') && ((m == m') && (a == a'))
+same_op (DelayedRead x m a) (DelayedRead x' m' a') = (x == x') && ((m == m') && (a == a'))
+same_op (Write m a e) (Write m' a' e') = (m == m') && ((a == a') && same_expr e e')
+same_op (ReserveRead m a) (ReserveRead m' a') = (m == m') && (a == a')
+same_op (ReserveWrite m a) (ReserveWrite m' a') = (m == m') && (a == a')
+same_op (Block m a) (Block m' a') = (m == m') && (a == a')
+same_op (Release m a) (Release m' a') = (m == m') && (a == a')
+same_op (Call es) (Call es') = same_list same_expr es es'
+same_op (SpecCall es) (SpecCall es') = same_list same_expr es es'
+same_op (Verify es) (Verify es') = same_list same_expr es es'
+same_op SpecCheck SpecCheck = true
+same_op SpecBarrier SpecBarrier = true
+same_op _ _ = false
+
+abbrev pub same_guard : Guard → Guard → Bool
+same_guard g h = (g.var == h.var) && same_bool g.first h.first
+
+abbrev pub same_stmt : Stmt → Stmt → Bool
+same_stmt x y = (x.stage == y.stage) && (same_list same_guard x.guards y.guards && same_op x.op y.op)
+
+abbrev pub same_lock : Lock → Lock → Bool
+same_lock Plain Plain = true
+same_lock (Queue n) (Queue n') = n == n'
+same_lock (Bypass n) (Bypass n') = n == n'
+same_lock (Rename n) (Rename n') = n == n'
+same_lock _ _ = false
+
+abbrev pub same_mem : Mem → Mem → Bool
+same_mem x y = (x.width == y.width) && ((x.depth == y.depth) && (same_bool x.delayed y.delayed && same_lock x.lock y.lock))
+
+abbrev pub same_next : Next → Next → Bool
+same_next Ends Ends = true
+same_next (Goes k) (Goes k') = k == k'
+same_next (Forks x k l) (Forks x' k' l') = (x == x') && ((k == k') && (l == l'))
+same_next _ _ = false
+
+abbrev pub same_branch : Branch → Branch → Bool
+same_branch x y = (x.fork == y.fork) && same_bool x.first y.first
+
+abbrev pub same_stage : Stage → Stage → Bool
+same_stage x y = same_next x.next y.next && (same_option same_branch x.branch y.branch && same_option same_number x.merges y.merges)
+
+abbrev pub same_pipe : Pipe → Pipe → Bool
+same_pipe p q = (p.vars == q.vars) && (same_list same_mem p.mems q.mems && (same_list same_stmt p.stmts q.stmts && (same_list same_stage p.stages q.stages && (bytes_eq p.start q.start && (same_list (same_option same_number) p.reserves_at q.reserves_at && same_list (same_option same_number) p.releases_at q.releases_at)))))
+
+abbrev pub same_form : Form → Form → Bool
+same_form f g = same_pipe f.pipe g.pipe && (bytes_eq f.widths g.widths && same_list bytes_eq f.names g.names)
