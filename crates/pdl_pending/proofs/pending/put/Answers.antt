@@ -1,0 +1,16 @@
+use Rattle.std.proofs.Common.{◌<◌, length, arith}
+use Rattle.pdl_model.specs.Cycle as cycle
+use Rattle.pdl_pending.specs.View.{pending_view}
+use Rattle.pdl_pending.proofs.Puts.{put-append}
+use Rattle.pdl_pending.proofs.Sweeps.{swept_left, swept_done}
+use Rattle.pdl_pending.proofs.pending.put.Goals as goal
+
+pub loop-i-preserved : goal.loop-i-preserved
+loop-i-preserved c =
+    let here : c.loop-i.i < length c.loop-i.pending = omega arith in
+    record {
+      done =
+          swept_done pending_view c.loop-i.pending c.args.pending.now c.loop-i.i c.filled-entry.result _ here c.loop-i.auto.pending c.loop-i.invariant.left
+          (cycle.put c.args.thread c.args.value) (put-append c.args.thread c.args.value) c.loop-i.invariant.done c.filled-entry.ensures;
+      left = swept_left pending_view c.loop-i.pending c.args.pending.now c.loop-i.i c.filled-entry.result c.filled-entry.result here c.loop-i.auto.pending c.loop-i.invariant.left;
+    }

@@ -1,0 +1,22 @@
+-- Memories as they run.
+use Rattle.std.specs.Prelude.{ℕ, Bool, true, false, List, Option, Some, None, slice_set}
+use Rattle.pdl_model.specs.Flat.{Lock, Plain}
+use Rattle.pdl_model.specs.Locks.{commit_value}
+use Rattle.pdl_model.specs.Machine.{Pending}
+
+-- a memory: its words, its lock, its pending writes, oldest first, and for how many of these it has room
+pub record Memory : Type 0 where
+  pub words : List ℕ
+  pub lock : Lock
+  pub pending : List Pending
+  pub capacity : ℕ
+
+-- the words after a pending write has reached them
+abbrev pub committed_to : List ℕ → Option Pending → List ℕ
+committed_to words None = words
+committed_to words (Some e) = slice_set words e.address (commit_value e.value)
+
+-- whether there is a lock
+abbrev pub has_lock : Lock → Bool
+has_lock Plain = false
+has_lock _ = true

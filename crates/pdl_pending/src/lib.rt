@@ -1,0 +1,11 @@
+//! A memory with its pending writes, and what each kind of lock says of them.
+#![tactic(auto)]
+
+mod latest;
+mod memory;
+mod pending;
+#[cfg(test)]
+mod tests;
+
+pub use memory::Memory;
+pub use pending::{Pending, Reserved, Written};

@@ -1,0 +1,8 @@
+use Rattle.std.proofs.Common.{◌≡◌, drop}
+use Rattle.pdl_model.specs.Cycle as stated
+use Rattle.pdl_run.specs.Acts.{acts_of}
+use Rattle.pdl_run.proofs.step.is_released.Given as goal
+
+-- the stages left decide
+abbrev pub invariant-loop-stage : goal.invariant-loop-stage
+invariant-loop-stage l = stated.releases l.m (acts_of l.stage-index (drop l.stage-index l.stages)) ≡ stated.releases l.m (acts_of 0 l.stages)

@@ -1,0 +1,10 @@
+pub mod View
+pub mod Places
+pub mod Doing
+pub mod Room
+pub mod Typed
+pub mod Acts
+pub mod Ready
+pub mod Running
+pub mod Outputs
+pub mod Runs

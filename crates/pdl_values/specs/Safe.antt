@@ -1,0 +1,24 @@
+-- Expressions of which each operator finds operands of its width.
+use Rattle.std.specs.Prelude.{ℕ, ◌-◌, ◌^◌, ◌<◌, ◌≤◌, List, [], ◌∷◌, ⊤}
+use Rattle.pdl_model.specs.Flat.{Expr, Constant, Variable, Slice, Not, Binary, Cat, LessSigned, ZeroExtend, SignExtend, Choose, value_of}
+
+-- a width in bits
+abbrev pub IsWidth : ℕ → Type 0
+IsWidth w = (1 ≤ w) × (w ≤ 64)
+
+-- where the variables have these values
+abbrev pub IsSafe : Expr → List ℕ → Type 0
+IsSafe (Constant w v) env = ⊤
+IsSafe (Variable x) env = ⊤
+IsSafe (Slice x high low) env = (low ≤ high) × (high < 64)
+IsSafe (Not w a) env = IsSafe a env × IsWidth w × (value_of a env < 2 ^ w)
+IsSafe (Binary op w a b) env = IsSafe a env × IsSafe b env × IsWidth w × (value_of a env < 2 ^ w) × (value_of b env < 2 ^ w)
+IsSafe (Cat a w b) env = IsSafe a env × IsSafe b env × (1 ≤ w) × (w < 64) × (value_of a env < 2 ^ (64 - w)) × (value_of b env < 2 ^ w)
+IsSafe (LessSigned w a b) env = IsSafe a env × IsSafe b env × IsWidth w
+IsSafe (ZeroExtend wide a) env = IsSafe a env
+IsSafe (SignExtend w wide a) env = IsSafe a env × (1 ≤ w) × (w ≤ wide) × (wide ≤ 64) × (value_of a env < 2 ^ w)
+IsSafe (Choose c a b) env = IsSafe c env × IsSafe a env × IsSafe b env
+
+abbrev pub AreSafe : List Expr → List ℕ → Type 0
+AreSafe [] env = ⊤
+AreSafe (e ∷ es) env = IsSafe e env × AreSafe es env

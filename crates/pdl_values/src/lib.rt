@@ -1,0 +1,11 @@
+//! What flat expressions, arguments and guards say where the variables have their values.
+#![tactic(auto)]
+
+mod guards;
+mod operators;
+#[cfg(test)]
+mod tests;
+mod value;
+
+pub use guards::are_taken;
+pub use value::{value_of, values_of, variable};
