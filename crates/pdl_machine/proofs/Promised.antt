@@ -1,13 +1,12 @@
--- What an accepted pipe gives its machine, and what a run of it promises.
-use Rattle.std.proofs.Common.{◌≡◌, refl, Bool, List, [], ◌∷◌, ◌++◌, Option, Some, None}
+-- What a run of an accepted pipe promises.
+use Rattle.std.proofs.Common.{◌≡◌, refl, Bool, List, [], ◌∷◌, ◌++◌}
 use Rattle.std.specs.Prelude.{IsTrue}
-use Rattle.std.proofs.lemmas.Bool.{false≢true, and_parts}
-use Rattle.pdl_model.specs.Tree.{Queue, Bypass, Rename, LockKind, LockDecl, Mem, Pipe}
+use Rattle.pdl_model.specs.Tree.{Pipe}
 use Rattle.pdl_model.specs.Flat
-use Rattle.pdl_model.specs.Machine.{State}
-use Rattle.pdl_model.specs.Cycle as stated
 use Rattle.pdl_model.specs.Flat.{Arrays}
 use Rattle.pdl_model.specs.Flatten.{flat}
+use Rattle.pdl_model.specs.Machine.{State}
+use Rattle.pdl_model.specs.Cycle as stated
 use Rattle.pdl_model.specs.Promises.{Refines, Advances, KeepsPace}
 use Rattle.pdl_model.specs.Sound.{is_sound}
 use Rattle.pdl_facts.specs.Facts.{Sound}
@@ -17,21 +16,6 @@ use Rattle.pdl_refine.proofs.Stated.{whole_refines, whole_advances, whole_paces}
 use Rattle.pdl_pathfacts.proofs.Whole.{of_source}
 use Rattle.pdl_strict.proofs.Paths.{paths_strict}
 use Rattle.pdl_invariant.proofs.EveryState
-use Rattle.pdl_check.specs.Queues.{is_queue, is_queued, all_queued}
-use Rattle.pdl_machine.specs.Setup.{IsQueue, AreQueues}
-
-kind_queued : (k : LockKind) → IsTrue (is_queue k) → k ≡ Queue
-kind_queued Queue h = refl
-kind_queued Bypass h = absurd (false≢true h)
-kind_queued Rename h = absurd (false≢true h)
-
-lock_queued : (l : Option LockDecl) → IsTrue (is_queued l) → IsQueue l
-lock_queued None h = tt
-lock_queued (Some l) h = kind_queued l.kind h
-
-pub queued : (ms : List Mem) → IsTrue (all_queued ms) → AreQueues ms
-queued [] h = tt
-queued (m ∷ ms) h = let both = and_parts (is_queued m.lock) (all_queued ms) h in (lock_queued m.lock both.0, queued ms both.1)
 
 -- one cycle more
 pub run_on : (p : Flat.Pipe) (st : State) (schedule : List (List Bool)) (bits : List Bool) → stated.state_after p st (schedule ++ bits ∷ []) ≡ stated.cycle p (stated.state_after p st schedule) bits

@@ -1,20 +1,43 @@
-use Rattle.std.proofs.Common.{sym, subst}
-use Rattle.pdl_tree.specs.declared.tree.Pipe as r_pipe
+use Rattle.std.proofs.Common.{◌≡◌, sym, subst, replicate, arith}
+use Rattle.pdl_model.specs.Flat.{arrays_of}
+use Rattle.pdl_model.specs.Cycle as stated
 use Rattle.pdl_tree.specs.View.{pipe_view}
-use Rattle.std.specs.Prelude.{IsTrue}
-use Rattle.pdl_pathfacts.specs.Source.{is_source, is_named}
-use Rattle.pdl_machine.specs.Setup.{AreQueues}
-use Rattle.pdl_machine.proofs.Promised.{queued}
+use Rattle.pdl_form.specs.Form.{Form}
+use Rattle.pdl_run.specs.Running.{IsRunnable, AreImages}
+use Rattle.pdl_run.specs.Outputs.{output_count}
+use Rattle.pdl_run.specs.Runs.{state_in}
+use Rattle.pdl_machine.proofs.Seen.{form_is}
+use Rattle.pdl_machine.proofs.Accepting.{runnable, images}
 use Rattle.pdl_machine.proofs.machine.Machine.new.Goals as goal
 
-pub of_pipe-requires-clause-queues : goal.of_pipe-requires-clause-queues
-of_pipe-requires-clause-queues c =
-    subst (λ (p : r_pipe.Pipe). AreQueues (pipe_view p).mems) (sym c.pipe.ensures) (queued (pipe_view c.args.accepted.now.pipe).mems c.args.accepted.now.queues)
+pub new-requires-clause-run : goal.new-requires-clause-run
+new-requires-clause-run c =
+    let a = c.args.accepted.now in
+    subst IsRunnable (sym (form_is a)) (runnable (pipe_view a.pipe) a.kept a.source a.letters a.in_line (c.typed_form.ensures (pipe_view a.pipe) a.kept a.letters))
 
-pub of_pipe-requires-clause-source : goal.of_pipe-requires-clause-source
-of_pipe-requires-clause-source c =
-    subst (λ (p : r_pipe.Pipe). IsTrue (is_source (pipe_view p))) (sym c.pipe.ensures) c.args.accepted.now.source
+pub new-requires-clause-image : goal.new-requires-clause-image
+new-requires-clause-image c =
+    let a = c.args.accepted.now in
+    subst (λ (f : Form). AreImages f.pipe c.args.image.now) (sym (form_is a)) (images (pipe_view a.pipe) c.args.image.now c.requires)
 
-pub of_pipe-requires-clause-letters : goal.of_pipe-requires-clause-letters
-of_pipe-requires-clause-letters c =
-    subst (λ (p : r_pipe.Pipe). IsTrue (is_named (pipe_view p))) (sym c.pipe.ensures) c.args.accepted.now.letters
+pub returns-clause-first : goal.returns-clause-first
+returns-clause-first c =
+    subst (λ (f : Form). state_in f.pipe c.in_ok-run.run' ≡ stated.first f.pipe (arrays_of c.args.image.now)) (form_is c.args.accepted.now) c.in_ok-run.ensures.first
+
+pub returns-clause-run : goal.returns-clause-run
+returns-clause-run c =
+    subst (λ (f : Form). state_in f.pipe c.in_ok-run.run' ≡ stated.first f.pipe (arrays_of c.args.image.now)) (form_is c.args.accepted.now) c.in_ok-run.ensures.first
+
+pub returns-clause-shown : goal.returns-clause-shown
+returns-clause-shown c =
+    subst (λ (f : Form). c.in_ok-run.run'.shown.items ≡ replicate (output_count f.pipe) 0) (form_is c.args.accepted.now) c.in_ok-run.ensures.shown
+
+pub invariant_of-result : goal.invariant_of-result
+invariant_of-result c =
+    let a = c.args.accepted.now in
+    let first : c.in_ok-run.run'.next ≡ 2 = c.in_ok-run.ensures.next in
+    record {
+      runnable = subst IsRunnable (sym (form_is a)) (runnable (pipe_view a.pipe) a.kept a.source a.letters a.in_line (c.typed_form.ensures (pipe_view a.pipe) a.kept a.letters));
+      runs = c.in_ok-run.ensures.runs;
+      next = omega arith;
+    }

@@ -1,0 +1,74 @@
+-- The machine runs each accepted pipe, with each image of it.
+use Rattle.std.proofs.Common.{◌≡◌, refl, sym, ap, ◌∙◌, subst, ℕ, zero, suc, ◌^◌, ◌<◌, true, false, not, List, [], ◌∷◌, length, slice_index, slice_index_or, arith}
+use Rattle.std.specs.Prelude.{IsTrue}
+use Rattle.std.proofs.lemmas.Bool.{and_parts, and_from}
+use Rattle.pdl_model.specs.Tree.{Mem, Pipe}
+use Rattle.pdl_model.specs.Flat
+use Rattle.pdl_model.specs.Flatten.{mems_of, flat}
+use Rattle.pdl_model.specs.Stages.{is_verify, plain_mem}
+use Rattle.pdl_facts.specs.Scans.{none_of}
+use Rattle.pdl_facts.specs.Checks.{is_guess}
+use Rattle.pdl_rules.specs.Refusal.{KeepsRules, is_in_line}
+use Rattle.pdl_pathfacts.specs.Source.{is_source, is_named}
+use Rattle.pdl_pathfacts.proofs.Whole.{of_source}
+use Rattle.pdl_strict.proofs.Paths.{paths_strict}
+use Rattle.pdl_machine_facts.proofs.Fits.{simple_source}
+use Rattle.pdl_form.specs.Form.{form_of}
+use Rattle.pdl_formtypes.specs.Stmts.{IsTypedForm}
+use Rattle.pdl_kit.specs.declared.mem_info.MemInfo.{MemInfo}
+use Rattle.pdl_image.specs.Images.{IsImage}
+use Rattle.pdl_check.specs.Memories.{infos_of}
+use Rattle.pdl_run.specs.Running.{IsRunnable, AreImages}
+use Rattle.pdl_machine.proofs.InLine.{linear, comb, sure}
+
+sure_op : (op : Flat.Op) → not (is_guess op) ≡ true → not (is_verify op) ≡ true
+sure_op (Flat.Verify args) h = h
+sure_op _ h = refl
+
+certain : (xs : List Flat.Stmt) → none_of is_guess xs ≡ true → none_of is_verify xs ≡ true
+certain [] h = refl
+certain (x ∷ xs) h =
+    let both = and_parts (not (is_guess x.op)) (none_of is_guess xs) h in
+    and_from _ _ (sure_op x.op both.0) (certain xs both.1)
+
+-- THE PIPE
+
+pub runnable : (p : Pipe) → KeepsRules p → IsTrue (is_source p) → IsTrue (is_named p) → IsTrue (is_in_line p) → IsTypedForm (form_of p) → IsRunnable (form_of p)
+runnable p kept source letters in_line typed =
+    let no_guess = sure p in_line in
+    record {
+      simple = simple_source p kept source (linear p in_line) (comb p in_line) (certain (flat p).stmts no_guess) (of_source p kept source letters);
+      strict = paths_strict p kept source;
+      no_guess = no_guess;
+      typed = typed;
+    }
+
+-- IMAGES
+
+no_info : MemInfo
+no_info = record { name = []; width = 0; depth = 0; delayed = false }
+
+infos_count : (ms : List Mem) → length (infos_of ms) ≡ length (mems_of ms)
+infos_count [] = refl
+infos_count (m ∷ ms) = ap suc (infos_count ms)
+
+info_depth : (ms : List Mem) (m : ℕ) → m < length (infos_of ms) → (slice_index_or (infos_of ms) m no_info).depth ≡ (slice_index_or (mems_of ms) m plain_mem).depth
+info_depth [] m h = absurd (omega arith)
+info_depth (x ∷ ms) zero h = refl
+info_depth (x ∷ ms) (suc m) h = info_depth ms m (omega arith)
+
+info_width : (ms : List Mem) (m : ℕ) → m < length (infos_of ms) → (slice_index_or (infos_of ms) m no_info).width ≡ (slice_index_or (mems_of ms) m plain_mem).width
+info_width [] m h = absurd (omega arith)
+info_width (x ∷ ms) zero h = refl
+info_width (x ∷ ms) (suc m) h = info_width ms m (omega arith)
+
+pub images : (p : Pipe) (image : List (List ℕ)) → IsImage (infos_of p.mems) image → AreImages (flat p) image
+images p image is =
+    let count = infos_count p.mems in
+    record {
+      count = is.count ∙ count;
+      depth = λ m h. is.depth m no_info (subst (λ n. m < n) (sym count) h) ∙ info_depth p.mems m (subst (λ n. m < n) (sym count) h);
+      words = λ m a h.
+          subst (λ w. slice_index (slice_index_or image m []) a < 2 ^ w) (info_width p.mems m (subst (λ n. m < n) (sym count) h))
+          (is.width m no_info (subst (λ n. m < n) (sym count) h) a);
+    }
