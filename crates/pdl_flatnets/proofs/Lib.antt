@@ -1,0 +1,4 @@
+pub mod NetLists
+pub mod Picks
+pub mod Guarded
+pub mod Operands

@@ -1,0 +1,3 @@
+pub mod Nets
+pub mod Conditions
+pub mod Values

@@ -1,0 +1,256 @@
+-- The memories, one after the other.
+use Rattle.std.proofs.Common.{◌≡◌, ℕ, zero, suc, ◌+◌, ◌<◌, ◌≤◌, ◌∙◌, false, List, [], ◌∷◌, ◌++◌, length, length-append, map, drop, get_or, refl, sym, ap, ap₂, subst, arith, append_assoc, append-nil}
+use borrow.Author.Count.{below_more}
+use Rattle.std.specs.Prelude.{Option, Some, None, is_some}
+use Rattle.std.proofs.lemmas.List.{get_or-map, get_or_append_left, get_or_push, drop_more, drop_all, length-map}
+use Rattle.pdl_kit.specs.declared.mem_info.MemInfo.{MemInfo}
+use Rattle.pdl_model.specs.Flat.{Mem, Pipe}
+use Rattle.pdl_model.specs.Stages.{plain_mem, mem_at}
+use Rattle.pdl_net.specs.Circuit.{Circuit, Shape, shape_of, shapes_of, HasReg, array_depth}
+use Rattle.pdl_net.specs.Meaning.{write_signals}
+use Rattle.pdl_net.specs.Growth.{Keeps, ExtendsArrays}
+use Rattle.pdl_net.proofs.Keeps.{arrays_keeps, arrays_trans}
+use Rattle.pdl_lockapi.specs.Laws.{first_reg, end_reg}
+use Rattle.pdl_lockapi.specs.Forget.{as_lock}
+use Rattle.pdl_form.specs.Form.{Form}
+use Rattle.pdl_form.specs.declared.form.Mem as r_mem
+use Rattle.pdl_form.specs.View.{mem_view, mems_view, mem_names}
+use Rattle.pdl_formtypes.specs.Stmts.{IsTypedMem, AreTypedMems}
+use Rattle.pdl_pipe_law.specs.Walk.{has_kind}
+use Rattle.pdl_stagenets.specs.declared.locks.MemLock.{MemLock}
+use Rattle.pdl_stagenets.specs.Locked.{Members, some_at, IsLockIn, AreLocked}
+use Rattle.pdl_locknets.specs.Suited.{words_in, shape_in, shapes_in, AreComb, AreSuited}
+use Rattle.pdl_locknets.specs.Lawful.{IsLawfulLock, AreLawful, AreUnwritten}
+use Rattle.pdl_locknets.specs.Made.{AreServed, IsNewMemory}
+use Rattle.pdl_locknets.proofs.LocksKept.{Stays, lock_kept, lawful_kept, regs_end}
+use Rattle.pdl_locknets.proofs.NewLock.{array_count, array_more, there_by_shape, width_by_shape, depth_by_shape, words_are, words_plain}
+
+-- ---- the memory of a number
+
+pub mem_is : (p : Pipe) (ms : List r_mem.Mem) (i : ℕ) (d : r_mem.Mem) → mems_view ms ≡ p.mems → i < length ms → d ≡ get_or ms i d → mem_view d ≡ mem_at p i
+mem_is p ms i d e h q = ap mem_view q ∙ sym (get_or-map mem_view ms i d plain_mem h) ∙ ap (λ xs. get_or xs i plain_mem) e
+
+pub mem_count : (p : Pipe) (ms : List r_mem.Mem) → mems_view ms ≡ p.mems → length ms ≡ length p.mems
+mem_count p ms e = sym (length-map ms mem_view) ∙ ap length e
+
+pub name_count : (names : List (List ℕ)) (p : Pipe) (ms : List r_mem.Mem) → mem_names ms ≡ names → mems_view ms ≡ p.mems → length names ≡ length p.mems
+name_count names p ms e h = sym (ap length e) ∙ length-map ms (λ (m : r_mem.Mem). m.name) ∙ mem_count p ms h
+
+pub name_is : (names : List (List ℕ)) (ms : List r_mem.Mem) (i : ℕ) (d : r_mem.Mem) → mem_names ms ≡ names → i < length ms → d ≡ get_or ms i d → d.name ≡ get_or names i []
+name_is names ms i d e h q = ap (λ (m : r_mem.Mem). m.name) q ∙ sym (get_or-map (λ (m : r_mem.Mem). m.name) ms i d [] h) ∙ ap (λ xs. get_or xs i []) e
+
+pub typed_at : (ms : List Mem) (i : ℕ) → i < length ms → AreTypedMems ms → IsTypedMem (get_or ms i plain_mem)
+typed_at [] i h s = absurd (omega (arith, h))
+typed_at (m ∷ ms) zero h s = s.0
+typed_at (m ∷ ms) (suc i) h s = typed_at ms i (omega (arith, h)) s.1
+
+pub comb_at : (ms : List Mem) (i : ℕ) → i < length ms → AreComb ms → (get_or ms i plain_mem).delayed ≡ false
+comb_at [] i h s = absurd (omega (arith, h))
+comb_at (m ∷ ms) zero h s = s.0
+comb_at (m ∷ ms) (suc i) h s = comb_at ms i (omega (arith, h)) s.1
+
+pub served_at : {T : Type 0} (suits : T → MemInfo → Type 0) (l : Members T) (f : Form) (ls : List (Option T)) (i : ℕ) (name : List ℕ) (mem : Mem) (o : Option T) → AreSuited suits l f ls → i < length f.pipe.mems → name ≡ get_or f.names i [] → mem ≡ mem_at f.pipe i → o ≡ some_at ls i
+    → AreServed suits l name mem o
+served_at {T} suits l f ls i name mem o s low a b e =
+    let here : AreServed suits l (get_or f.names i []) (mem_at f.pipe i) (some_at ls i) = record { locked = s.locked i low; lock = λ y q. record { suited = s.suited i y low q; kind = s.kinds i y low q } } in
+    let P : List ℕ → Type 0 = λ x. AreServed suits l x (mem_at f.pipe i) (some_at ls i) in
+    let Q : Mem → Type 0 = λ x. AreServed suits l name x (some_at ls i) in
+    subst (λ (x : Option T). AreServed suits l name mem x) (sym e) (subst Q (sym b) (subst P (sym a) here))
+
+-- ---- the first i memories
+
+pub record IsMadeLock {T : Type 0} (l : Members T) (a c : Circuit) (m : ℕ) (mem : Mem) (x : MemLock T) : Type 0 where
+  pub is_in : IsLockIn l c m mem x
+  pub laws : IsLawfulLock l c x
+  pub kind : mem.lock ≡ as_lock (l.kind x.lock) (l.size x.lock)
+  pub above : length a.regs ≤ first_reg x.regs
+
+pub record IsMadeMemory {T : Type 0} (l : Members T) (a c : Circuit) (m : ℕ) (mem : Mem) (o : Option (MemLock T)) : Type 0 where
+  pub locked : is_some o ≡ has_kind mem.lock
+  pub lock : (x : MemLock T) → o ≡ Some x → IsMadeLock l a c m mem x
+
+pub record AreMadeTo {T : Type 0} (l : Members T) (a c : Circuit) (names : List (List ℕ)) (p : Pipe) (xs : List (Option (MemLock T))) (i : ℕ) : Type 0 where
+  pub count : length xs ≡ i
+  pub arrays : length c.arrays ≡ i
+  pub added : List Shape
+  pub extends : ExtendsArrays a c added
+  pub whole : added ++ shapes_in (drop i names) (drop i p.mems) ≡ shapes_in names p.mems
+  pub unwritten : AreUnwritten c i
+  pub each : (m : ℕ) → m < i → IsMadeMemory l a c m (mem_at p m) (some_at xs m)
+  pub apart : (n : ℕ) → n < i → (m : ℕ) (x y : MemLock T) → m < n → some_at xs m ≡ Some x → some_at xs n ≡ Some y → end_reg x.regs ≤ first_reg y.regs
+
+arrays_refl : (c : Circuit) → ExtendsArrays c c []
+arrays_refl c = record {
+  there = λ x h. h;
+  kept = λ x h. refl;
+  has_reg = λ r h. h;
+  width = λ r h. refl;
+  reset = λ r h. refl;
+  has_array = λ m h. h;
+  word = λ m h. refl;
+  depth = λ m h. refl;
+  nexts = λ r h. refl;
+  writes = λ m h. refl;
+  ports = refl;
+  shapes = sym (append-nil (shapes_of c));
+}
+
+pub made_none : {T : Type 0} (l : Members T) (a : Circuit) (names : List (List ℕ)) (p : Pipe) → a.arrays ≡ [] → AreMadeTo l a a names p [] 0
+made_none l a names p e = record {
+  count = refl;
+  arrays = ap length e;
+  added = [];
+  extends = arrays_refl a;
+  whole = refl;
+  unwritten = λ m h. absurd (omega (arith, h));
+  each = λ m h. absurd (omega (arith, h));
+  apart = λ m h. absurd (omega (arith, h));
+}
+
+regs_grow : (a b : Circuit) → Keeps a b → length a.regs ≤ length b.regs
+unfolding HasReg
+regs_grow a b k = at (length a.regs) refl
+  where
+    at : (n : ℕ) → length a.regs ≡ n → n ≤ length b.regs
+    at zero e = omega arith
+    at (suc n) e = let h = k.has_reg n (omega (arith, e)) in omega (arith, h)
+
+made_lock_kept : {T : Type 0} (l : Members T) (stays : Stays l) (a b c : Circuit) (m : ℕ) (mem : Mem) (x : MemLock T) → Keeps b c → IsMadeLock l a b m mem x → IsMadeLock l a c m mem x
+made_lock_kept l stays a b c m mem x k h = record {
+  is_in = lock_kept l b c m mem x k stays h.is_in;
+  laws = lawful_kept (l.stands x.lock x.regs) (l.kind x.lock) (l.size x.lock) (l.tickets x.lock) b c x.regs k h.is_in.room_there h.is_in.ticket_there h.laws;
+  kind = h.kind;
+  above = h.above;
+}
+
+some_before : {X : Type 0} (xs : List (Option X)) (x : Option X) (m : ℕ) → m < length xs → some_at (xs ++ x ∷ []) m ≡ some_at xs m
+some_before xs x m h = get_or_append_left xs (x ∷ []) None m h
+
+some_last : {X : Type 0} (xs : List (Option X)) (x : Option X) (i : ℕ) → length xs ≡ i → some_at (xs ++ x ∷ []) i ≡ x
+some_last xs x i h = get_or_push xs x None i h
+
+module _ {T : Type 0} (l : Members T) (stays : Stays l) (a b c : Circuit) (names : List (List ℕ)) (p : Pipe) (xs : List (Option (MemLock T))) (i : ℕ) (name : List ℕ) (mem : Mem) (o : Option (MemLock T))
+    (low : i < length p.mems) (named : i < length names) (name_at : name ≡ get_or names i []) (at_mem : mem ≡ mem_at p i)
+    (grows : ExtendsArrays b c (shape_in name mem ∷ [])) (free : write_signals c (length b.arrays) ≡ []) (new : IsNewMemory l b c mem o) (h : AreMadeTo l a b names p xs i) where
+  keeps : Keeps b c
+  keeps = arrays_keeps b c (shape_in name mem ∷ []) grows
+
+  before : (m : ℕ) → m < i → some_at (xs ++ o ∷ []) m ≡ some_at xs m
+  before m k = some_before xs o m (omega (arith, k, h.count))
+
+  here : some_at (xs ++ o ∷ []) i ≡ o
+  here = some_last xs o i h.count
+
+  whole_here : (h.added ++ shape_in name mem ∷ []) ++ shapes_in (drop (i + 1) names) (drop (i + 1) p.mems) ≡ shapes_in names p.mems
+  whole_here =
+      let rest = shapes_in (drop (i + 1) names) (drop (i + 1) p.mems) in
+      let e : shapes_in (drop i names) (drop i p.mems) ≡ shape_in name mem ∷ rest =
+      ap₂ shapes_in (drop_more names i [] named) (drop_more p.mems i plain_mem low) ∙ ap₂ (λ x y. shape_in x y ∷ rest) (sym name_at) (sym at_mem) in
+      append_assoc h.added (shape_in name mem ∷ []) rest ∙ ap (λ ys. h.added ++ ys) (sym e) ∙ h.whole
+
+  lock_here : (x : MemLock T) → o ≡ Some x → IsMadeLock l a c i mem x
+  lock_here x e =
+      let n = new.lock x e in
+      record {
+        is_in = subst (λ k. IsLockIn l c k mem x) h.arrays n.is_in;
+        laws = n.laws;
+        kind = n.kind;
+        above = let g = regs_grow a b (arrays_keeps a b h.added h.extends) in omega (arith, g, n.above);
+      }
+
+  memory_here : IsMadeMemory l a c i (mem_at p i) (some_at (xs ++ o ∷ []) i)
+  memory_here =
+      let P : Mem → Type 0 = λ x. IsMadeMemory l a c i x o in
+      subst (λ (x : Option (MemLock T)). IsMadeMemory l a c i (mem_at p i) x) (sym here) (subst P at_mem (record { locked = new.locked; lock = lock_here }))
+
+  memory_before : (m : ℕ) → m < i → IsMadeMemory l a c m (mem_at p m) (some_at (xs ++ o ∷ []) m)
+  memory_before m k =
+      let x = h.each m k in
+      subst (λ (y : Option (MemLock T)). IsMadeMemory l a c m (mem_at p m) y) (sym (before m k)) (record { locked = x.locked; lock = λ y e. made_lock_kept l stays a b c m (mem_at p m) y keeps (x.lock y e) })
+
+  apart_here : (m : ℕ) (x y : MemLock T) → m < i → some_at (xs ++ o ∷ []) m ≡ Some x → some_at (xs ++ o ∷ []) i ≡ Some y → end_reg x.regs ≤ first_reg y.regs
+  apart_here m x y k e f =
+      let it = (h.each m k).lock x (sym (before m k) ∙ e) in
+      let ends = regs_end (l.stands x.lock x.regs) (l.kind x.lock) (l.size x.lock) (l.tickets x.lock) b x.regs it.laws in
+      let begins = (new.lock y (sym here ∙ f)).above in
+      omega (arith, ends, begins)
+
+  pub made_more : AreMadeTo l a c names p (xs ++ o ∷ []) (i + 1)
+  made_more = record {
+    count = length-append xs (o ∷ []) ∙ ap (λ n. n + 1) h.count;
+    arrays = array_more b c (shape_in name mem) grows ∙ ap (λ n. n + 1) h.arrays;
+    added = h.added ++ shape_in name mem ∷ [];
+    extends = arrays_trans a b c h.added (shape_in name mem ∷ []) h.extends grows;
+    whole = whole_here;
+    unwritten = below_more (λ m. write_signals c m ≡ []) i (λ m k. grows.writes m (there_by_shape b m (omega (arith, k, h.arrays, array_count b))) ∙ h.unwritten m k) (subst (λ n. write_signals c n ≡ []) h.arrays free);
+    each = below_more (λ m. IsMadeMemory l a c m (mem_at p m) (some_at (xs ++ o ∷ []) m)) i memory_before memory_here;
+    apart = below_more (λ n. (m : ℕ) (x y : MemLock T) → m < n → some_at (xs ++ o ∷ []) m ≡ Some x → some_at (xs ++ o ∷ []) n ≡ Some y → end_reg x.regs ≤ first_reg y.regs) i
+        (λ n k m x y q e f. h.apart n k m x y q (sym (before m (omega (arith, q, k))) ∙ e) (sym (before n k) ∙ f)) (λ m x y k e f. apart_here m x y k e f);
+  }
+
+-- ---- all memories
+
+shape_at : (names : List (List ℕ)) (ms : List Mem) (m : ℕ) (d : Shape) → length names ≡ length ms → m < length ms → get_or (shapes_in names ms) m d ≡ shape_in (get_or names m []) (get_or ms m plain_mem)
+shape_at names [] m d n h = absurd (omega (arith, h))
+shape_at [] (x ∷ ms) m d n h = absurd (omega (arith, n))
+shape_at (a ∷ names) (x ∷ ms) zero d n h = refl
+shape_at (a ∷ names) (x ∷ ms) (suc m) d n h = shape_at names ms m d (omega (arith, n)) (omega (arith, h))
+
+shapes_count : (names : List (List ℕ)) (ms : List Mem) → length names ≡ length ms → length (shapes_in names ms) ≡ length ms
+shapes_count [] [] n = refl
+shapes_count (a ∷ names) [] n = absurd (omega (arith, n))
+shapes_count [] (x ∷ ms) n = absurd (omega (arith, n))
+shapes_count (a ∷ names) (x ∷ ms) n = ap suc (shapes_count names ms (omega (arith, n)))
+
+no_shapes : (c : Circuit) → c.arrays ≡ [] → shapes_of c ≡ []
+unfolding shapes_of
+no_shapes c e = ap (map shape_of) e
+
+module _ {T : Type 0} (l : Members T) (a c : Circuit) (names : List (List ℕ)) (p : Pipe) (xs : List (Option (MemLock T))) (i : ℕ) (none : a.arrays ≡ []) (named : length names ≡ length p.mems) (all : i ≡ length p.mems) (h : AreMadeTo l a c names p xs i) where
+  added_all : h.added ≡ shapes_in names p.mems
+  added_all =
+      let ns : drop i names ≡ [] = drop_all i names (omega (arith, named, all)) in
+      let ms : drop i p.mems ≡ [] = drop_all i p.mems (omega (arith, all)) in
+      sym (append-nil h.added) ∙ ap (λ ys. h.added ++ ys) (sym (ap₂ shapes_in ns ms)) ∙ h.whole
+
+  pub all_extends : ExtendsArrays a c (shapes_in names p.mems)
+  all_extends = subst (λ (fs : List Shape). ExtendsArrays a c fs) added_all h.extends
+
+  shapes : shapes_of c ≡ shapes_in names p.mems
+  shapes = all_extends.shapes ∙ ap (λ fs. fs ++ shapes_in names p.mems) (no_shapes a none)
+
+  no_shape : Shape
+  no_shape = record { name = []; width = 0; depth = 0 }
+
+  in_shapes : (m : ℕ) → m < length p.mems → m < length (shapes_of c)
+  in_shapes m k = omega (arith, k, ap length shapes, shapes_count names p.mems named)
+
+  shape_is : (m : ℕ) → m < length p.mems → get_or (shapes_of c) m no_shape ≡ shape_in (get_or names m []) (mem_at p m)
+  shape_is m k = ap (λ fs. get_or fs m no_shape) shapes ∙ shape_at names p.mems m no_shape named k
+
+  deep_at : (m : ℕ) → m < length p.mems → array_depth c m ≡ words_in (mem_at p m).lock (mem_at p m).depth
+  deep_at m k = depth_by_shape c m no_shape (in_shapes m k) ∙ ap (λ (s : Shape). s.depth) (shape_is m k)
+
+  pub all_locked : AreLocked l c p xs
+  all_locked = record {
+    count = h.count ∙ all;
+    locked = λ m k. (h.each m (omega (arith, k, all))).locked;
+    locks = λ m x k e. ((h.each m (omega (arith, k, all))).lock x e).is_in;
+    has_array = λ m k. there_by_shape c m (in_shapes m k);
+    width = λ m k. width_by_shape c m no_shape (in_shapes m k) ∙ ap (λ (s : Shape). s.width) (shape_is m k);
+    depth = λ m k e. deep_at m k ∙ words_plain (mem_at p m).lock (mem_at p m).depth e;
+  }
+
+  pub all_lawful : AreLawful l c p xs
+  all_lawful = record {
+    laws = λ m x k e. ((h.each m (omega (arith, k, all))).lock x e).laws;
+    kinds = λ m x k e. ((h.each m (omega (arith, k, all))).lock x e).kind;
+    deep = λ m x k e. deep_at m k ∙ ap (λ y. words_in y (mem_at p m).depth) ((h.each m (omega (arith, k, all))).lock x e).kind ∙ words_are (l.kind x.lock) (l.size x.lock) (mem_at p m).depth;
+    apart = λ m n x y q k e f. h.apart n (omega (arith, k, all)) m x y q e f;
+  }
+
+  pub all_unwritten : AreUnwritten c (length p.mems)
+  all_unwritten m k = h.unwritten m (omega (arith, k, all))
+
+  pub all_above : (m : ℕ) (x : MemLock T) → m < length p.mems → some_at xs m ≡ Some x → length a.regs ≤ first_reg x.regs
+  all_above m x k e = ((h.each m (omega (arith, k, all))).lock x e).above

@@ -1,0 +1,174 @@
+-- What is known of each lock in the whole netlist.
+use Rattle.std.proofs.Common.{◌≡◌, ℕ, ◌+◌, ◌^◌, ◌<◌, ◌≤◌, ◌∙◌, true, false, List, [], length, refl, sym, ap, ap₂, subst, arith, inl, inr}
+use Rattle.std.specs.Prelude.{Option, Some, None, is_some}
+use Rattle.std.proofs.lemmas.Bool.{cases_lt, false≢true}
+use Rattle.pdl_model.specs.Tree.{Queue}
+use Rattle.pdl_model.specs.Flat.{Pipe}
+use Rattle.pdl_model.specs.Stages.{mem_at}
+use Rattle.pdl_net.specs.Circuit.{Circuit, State, HasReg, HasArray}
+use Rattle.pdl_net.specs.Signal.{Signal}
+use Rattle.pdl_net.specs.Meaning.{signal, next_signal, write_signals}
+use Rattle.pdl_net.specs.Growth.{Own, Outside, Keeps, ExtendsBut}
+use Rattle.pdl_lockapi.specs.declared.LockNets.{LockNets}
+use Rattle.pdl_lockapi.specs.Lock.{LockState}
+use Rattle.pdl_lockapi.specs.Laws.{first_array, end_array, own, words_of, OwnKept, StartLaw, RoomLaw, TicketLaw, StepLaw, ReserveSignal, TicketSignal, StepSignals}
+use Rattle.pdl_lockapi.specs.Forget.{as_lock}
+use Rattle.pdl_pipe_law.specs.Walk.{Walk, is_locked, zero_bit}
+use Rattle.pdl_pipe_law.specs.Views.{View, no_gates}
+use Rattle.pdl_pipe_law.specs.Ports.{Commit, step_of}
+use Rattle.pdl_pipe_law.specs.Compiled.{HasLock}
+use Rattle.pdl_pipe_law.proofs.Establish.{lock_made}
+use Rattle.pdl_stagenets.specs.declared.locks.MemLock.{MemLock}
+use Rattle.pdl_stagenets.specs.Locked.{Members, some_at, of_lock, locks_in, AreLocked}
+use Rattle.pdl_locknets.specs.declared.deeds.StageDeeds.{StageDeeds}
+use Rattle.pdl_locknets.specs.Lawful.{AreLawful}
+use Rattle.pdl_locknets.specs.Deeds.{views_in, moves_in, AreOf}
+use Rattle.pdl_locknets.specs.Stepped.{own_of, AreStepped, ExtendsLocks, commit_of, commits_in}
+use Rattle.pdl_locknets.proofs.PortStages.{same_reserves, same_puts, same_released}
+use Rattle.pdl_locknets.proofs.LocksKept.{Stays, laws_kept, locked_kept, regs_end, ticket_kept}
+use Rattle.pdl_locknets.proofs.LockSteps.{stepped_kept}
+
+-- the stages of a netlist do to a lock what their nets do
+pub step_is : {T : Type 0} (l : Members T) (a s : Circuit) (p : Pipe) (xs : List (Option (MemLock T))) (ds : List StageDeeds) (vs : ℕ → View) (goes : ℕ → Signal) (m : ℕ) → Keeps a s → AreLocked l a p xs → length ds ≡ length p.stages → m < length p.mems → AreOf s ds vs goes
+    → step_of p (views_in s ds) (no_gates (locks_in l s xs)) (moves_in s ds) m ≡ step_of p vs (no_gates (locks_in l a xs)) goes m
+step_is l a s p xs ds vs goes m k h count low of =
+    let n = length p.stages in
+    let moves : (j : ℕ) → j < 0 + n → moves_in s ds j ≡ goes j = λ j u. sym (of.moves j (omega (arith, u, count))) in
+    let ended : (j : ℕ) → j < 0 + n → (views_in s ds j).ended ≡ (vs j).ended = λ j u. sym (of.ended j (omega (arith, u, count))) in
+    let tickets : (j : ℕ) → j < 0 + n → (views_in s ds j).tickets m ≡ (vs j).tickets m = λ j u. sym (of.tickets j m (omega (arith, u, count))) in
+    let reserves = same_reserves m (views_in s ds) vs (moves_in s ds) goes n 0 moves (λ j u. ap (λ (w : Walk). w.reserves) (ended j u)) in
+    let puts = same_puts m (views_in s ds) vs (moves_in s ds) goes n 0 moves tickets (λ j u. ap (λ (w : Walk). w.puts) (ended j u)) in
+    let release = same_released m (views_in s ds) vs (moves_in s ds) goes n 0 moves (λ j u. ap (λ (w : Walk). w.lettings) (ended j u)) in
+    let F = λ (r : List ReserveSignal) (w : List TicketSignal) (x z : Signal). (let f : StepSignals = record { reserves = r; writes = w; release = x; squash = zero_bit; tail = z } in f) in
+    ap₂ (λ (r : List ReserveSignal) (w : List TicketSignal). F r w (step_of p (views_in s ds) (no_gates (locks_in l s xs)) (moves_in s ds) m).release ((locks_in l s xs).ticket m)) reserves puts
+    ∙ ap₂ (F (step_of p vs (no_gates (locks_in l a xs)) goes m).reserves (step_of p vs (no_gates (locks_in l a xs)) goes m).writes) release (ticket_kept l a s p xs m k h low)
+
+-- the locks' signals as they are in the circuit a, their steps begun in s and made in b, and the whole netlist c
+module _ {T : Type 0} (l : Members T) (stays : Stays l) (p : Pipe) (xs : List (Option (MemLock T))) (ds : List StageDeeds) (ns : List (Option LockNets)) (vs : ℕ → View) (goes : ℕ → Signal) (a s b c : Circuit)
+    (locked : AreLocked l a p xs) (lawful : AreLawful l a p xs) (count : length ds ≡ length p.stages) (of : AreOf s ds vs goes) (before : Keeps a s)
+    (stepped : AreStepped l b p (step_of p (views_in s ds) (no_gates (locks_in l s xs)) (moves_in s ds)) xs ns (length p.mems))
+    (whole : Keeps a c) (after : Keeps b c) (m : ℕ) (low : m < length p.mems) (kept : OwnKept (own_of (some_at xs m)) b c) where
+  has_lock_of : (x : MemLock T) (n : LockNets) → some_at xs m ≡ Some x → some_at ns m ≡ Some n → HasLock p (locks_in l a xs) c vs (no_gates (locks_in l a xs)) goes (own_of (some_at xs m)) (commits_in c ns m) m
+  has_lock_of x n e q =
+      let ls = locks_in l a xs in
+      let it = (locked_kept l a c p xs whole stays locked).locks m x low e in
+      let law = (laws_kept l a c p xs whole locked lawful).laws m x low e in
+      let own_is : own x.regs ≡ own_of (some_at xs m) = ap own_of (sym e) in
+      let stands : l.stands x.lock x.regs ≡ ls.stands m = ap (of_lock (λ (y : MemLock T). l.stands y.lock y.regs) (λ s y. Unit {0})) (sym e) in
+      let size : l.size x.lock ≡ ls.size m = ap (of_lock (λ (y : MemLock T). l.size y.lock) 1) (sym e) in
+      let bits : l.tickets x.lock ≡ ls.bits m = ap (of_lock (λ (y : MemLock T). l.tickets y.lock) 1) (sym e) in
+      let kind : l.kind x.lock ≡ ls.kind m = ap (of_lock (λ (y : MemLock T). l.kind y.lock) Queue) (sym e) in
+      let room : signal c x.regs.room ≡ ls.room m = whole.kept x.regs.room (locked.locks m x low e).room_there ∙ ap (of_lock (λ (y : MemLock T). signal a y.regs.room) zero_bit) (sym e) in
+      let ticket : signal c x.regs.ticket ≡ ls.ticket m = whole.kept x.regs.ticket (locked.locks m x low e).ticket_there ∙ ap (of_lock (λ (y : MemLock T). signal a y.regs.ticket) zero_bit) (sym e) in
+      let commit : commit_of c (Some n) ≡ commits_in c ns m = ap (commit_of c) (sym q) in
+      let f = step_of p (views_in s ds) (no_gates (locks_in l s xs)) (moves_in s ds) m in
+      let same : f ≡ step_of p vs (no_gates ls) goes m = step_is l a s p xs ds vs goes m before locked count low of in
+      let own_kept : OwnKept (own x.regs) b c = subst (λ (o : Own). OwnKept o b c) (sym own_is) kept in
+      let step = (stepped_kept l b c (mem_at p m) f x n after own_kept ((stepped.each m low).lock x n e q)).law in
+      let S1 : (State → LockState → Type 0) → Type 0 = λ st. StepLaw st (l.size x.lock) (l.tickets x.lock) (own x.regs) c f (signal c n.commit) (signal c n.addr) (signal c n.value) in
+      let S2 : ℕ → Type 0 = λ k. StepLaw (ls.stands m) k (l.tickets x.lock) (own x.regs) c f (signal c n.commit) (signal c n.addr) (signal c n.value) in
+      let S3 : ℕ → Type 0 = λ k. StepLaw (ls.stands m) (ls.size m) k (own x.regs) c f (signal c n.commit) (signal c n.addr) (signal c n.value) in
+      let S4 : StepSignals → Type 0 = λ g. StepLaw (ls.stands m) (ls.size m) (ls.bits m) (own x.regs) c g (signal c n.commit) (signal c n.addr) (signal c n.value) in
+      let S5 : Commit → Type 0 = λ y. StepLaw (ls.stands m) (ls.size m) (ls.bits m) (own x.regs) c (step_of p vs (no_gates ls) goes m) y.enable y.addr y.value in
+      let R1 : (State → LockState → Type 0) → Type 0 = λ st. RoomLaw st (l.size x.lock) (signal c x.regs.room) in
+      let R2 : ℕ → Type 0 = λ k. RoomLaw (ls.stands m) k (signal c x.regs.room) in
+      let R3 : Signal → Type 0 = λ g. RoomLaw (ls.stands m) (ls.size m) g in
+      let T1 : (State → LockState → Type 0) → Type 0 = λ st. TicketLaw st (l.tickets x.lock) (signal c x.regs.ticket) in
+      let T2 : ℕ → Type 0 = λ k. TicketLaw (ls.stands m) k (signal c x.regs.ticket) in
+      let T3 : Signal → Type 0 = λ g. TicketLaw (ls.stands m) (ls.bits m) g in
+      let A1 : (State → LockState → Type 0) → Type 0 = λ st. StartLaw st (l.kind x.lock) c x.regs in
+      let start : StartLaw (ls.stands m) (ls.kind m) c x.regs = subst (λ k. StartLaw (ls.stands m) k c x.regs) kind (subst A1 stands law.start) in
+      let made = lock_made p ls c vs (no_gates ls) goes x.regs (commits_in c ns m) m
+      (lawful.kinds m x low e ∙ ap₂ as_lock kind size) law.regs it.array it.bits
+      ((laws_kept l a c p xs whole locked lawful).deep m x low e ∙ ap (λ k. words_of k (mem_at p m).depth) kind)
+      start
+      (subst R3 room (subst R2 size (subst R1 stands law.room)))
+      (subst T3 ticket (subst T2 bits (subst T1 stands law.ticket)))
+      (subst S5 commit (subst S4 same (subst S3 bits (subst S2 size (subst S1 stands step))))) in
+      subst (λ (o : Own). HasLock p ls c vs (no_gates ls) goes o (commits_in c ns m) m) own_is made
+
+  some_of : {X : Type 0} (o : Option X) → is_some o ≡ true → (x : X) × (o ≡ Some x)
+  some_of None e = absurd (cc e)
+  some_of (Some x) e = (x, refl)
+
+  pub has_lock : is_locked p m ≡ true → HasLock p (locks_in l a xs) c vs (no_gates (locks_in l a xs)) goes (own_of (some_at xs m)) (commits_in c ns m) m
+  has_lock h =
+      let (x, e) = some_of (some_at xs m) (locked.locked m low ∙ h) in
+      let (n, q) = some_of (some_at ns m) ((stepped.each m low).has ∙ locked.locked m low ∙ h) in
+      has_lock_of x n e q
+
+  -- what the memory commits has the memory's widths
+  fits_of : (x : MemLock T) (n : LockNets) → some_at xs m ≡ Some x → some_at ns m ≡ Some n → ((commits_in c ns m).enable.width ≡ 1) × (2 ^ (commits_in c ns m).addr.width ≡ (mem_at p m).depth) × ((commits_in c ns m).value.width ≡ (mem_at p m).width)
+  fits_of x n e q =
+      let it = (stepped.each m low).lock x n e q in
+      let P : Commit → Type 0 = λ y. (y.enable.width ≡ 1) × (2 ^ y.addr.width ≡ (mem_at p m).depth) × (y.value.width ≡ (mem_at p m).width) in
+      let here : P (commit_of c (Some n)) = (ap (λ (f : Signal). f.width) (after.kept n.commit it.commit_there) ∙ it.commit_one, ap (λ (f : Signal). 2 ^ f.width) (after.kept n.addr it.addr_there) ∙ it.addr_reach, ap (λ (f : Signal). f.width) (after.kept n.value it.value_there) ∙ it.value_wide) in
+      subst P (ap (commit_of c) (sym q)) here
+
+  pub commit_fits : is_locked p m ≡ true → ((commits_in c ns m).enable.width ≡ 1) × (2 ^ (commits_in c ns m).addr.width ≡ (mem_at p m).depth) × ((commits_in c ns m).value.width ≡ (mem_at p m).width)
+  commit_fits h =
+      let (x, e) = some_of (some_at xs m) (locked.locked m low ∙ h) in
+      let (n, q) = some_of (some_at ns m) ((stepped.each m low).has ∙ locked.locked m low ∙ h) in
+      fits_of x n e q
+
+-- ---- what the steps leave as it was
+
+module _ {T : Type 0} (l : Members T) (a : Circuit) (p : Pipe) (xs : List (Option (MemLock T))) (locked : AreLocked l a p xs) (lawful : AreLawful l a p xs) where
+  -- the registers of each lock end where those of its circuit end, at the latest
+  pub locks_end : (m : ℕ) → m < length p.mems → (own_of (some_at xs m)).to ≤ length a.regs
+  locks_end m low = at (some_at xs m) refl
+    where
+      at : (o : Option (MemLock T)) → some_at xs m ≡ o → (own_of o).to ≤ length a.regs
+      at None e = omega arith
+      at (Some x) e = regs_end (l.stands x.lock x.regs) (l.kind x.lock) (l.size x.lock) (l.tickets x.lock) a x.regs (lawful.laws m x low e)
+
+  -- registers behind those of the locks take next what they took before the steps
+  pub nexts_behind : (b c : Circuit) (k : ℕ) → ExtendsLocks xs (length p.mems) b c → HasReg b k → length a.regs ≤ k → next_signal c k ≡ next_signal b k
+  nexts_behind b c k x h low = x.nexts k h (λ m u. let d = locks_end m u in inr (omega (arith, d, low)))
+
+  -- nothing writes the array of a memory without lock
+  pub plain_unwritten : (b c : Circuit) (m : ℕ) → Keeps a b → ExtendsLocks xs (length p.mems) b c → write_signals b m ≡ [] → m < length p.mems → is_locked p m ≡ false → write_signals c m ≡ []
+  plain_unwritten b c m k x e low h = x.writes m (k.has_array m (locked.has_array m low)) (λ j u. outside j u (some_at xs j) refl) ∙ e
+    where
+      outside : (j : ℕ) → j < length p.mems → (o : Option (MemLock T)) → some_at xs j ≡ o → Outside (own_of o).first (own_of o).last m
+      outside j u None f = inr (omega arith)
+      outside j u (Some y) f =
+          let array = (locked.locks j y u f).array in
+          let P : Option ℕ → Type 0 = λ z. Outside (first_array z) (end_array z) m in
+          let differ : Outside j (j + 1) m = elim (cases_lt m j) [
+            | inl lt ↦ inl lt
+            | inr ge ↦ elim (cases_lt j m) [
+              | inl lt ↦ inr (omega (arith, lt))
+              | inr le ↦ let same : j ≡ m = omega (arith, ge, le) in absurd (false≢true (sym h ∙ sym (locked.locked m low) ∙ ap is_some (ap (some_at xs) (sym same) ∙ f)))
+            ]
+          ] in
+          subst P (sym array) differ
+
+  -- a lock stays as it is while only registers behind those of the locks change
+  pub own_behind : (m : ℕ) (b c : Circuit) (o : Own) → m < length p.mems → Keeps a b → ExtendsBut o b c → length a.regs ≤ o.from → o.last ≤ o.first → OwnKept (own_of (some_at xs m)) b c
+  own_behind m b c o low k x from none = at (some_at xs m) refl
+    where
+      at : (y : Option (MemLock T)) → some_at xs m ≡ y → OwnKept (own_of y) b c
+      at None e = record {
+        has_reg = λ i lo hi. absurd (omega (arith, hi));
+        nexts = λ i lo hi. absurd (omega (arith, hi));
+        has_array = λ i lo hi. absurd (omega (arith, hi));
+        writes = λ i lo hi. absurd (omega (arith, hi));
+      }
+      at (Some y) e =
+          let law = lawful.laws m y low e in
+          let it = locked.locks m y low e in
+          let ends = regs_end (l.stands y.lock y.regs) (l.kind y.lock) (l.size y.lock) (l.tickets y.lock) a y.regs law in
+          let there : (i : ℕ) → first_array y.regs.array ≤ i → i < end_array y.regs.array → HasArray a i = λ i lo hi.
+          let lo' : m ≤ i = subst (λ z. first_array z ≤ i) it.array lo in
+          let hi' : i < m + 1 = subst (λ z. i < end_array z) it.array hi in
+          locked.has_array i (omega (arith, lo', hi', low)) in
+          record {
+            has_reg = λ i lo hi. x.has_reg i (k.has_reg i (law.regs i lo hi));
+            nexts = λ i lo hi. x.nexts i (k.has_reg i (law.regs i lo hi)) (inl (omega (arith, hi, ends, from)));
+            has_array = λ i lo hi. x.has_array i (k.has_array i (there i lo hi));
+            writes = λ i lo hi. x.writes i (k.has_array i (there i lo hi)) (outside i);
+          }
+        where
+          outside : (i : ℕ) → Outside o.first o.last i
+          outside i = elim (cases_lt i o.first) [ inl lt ↦ inl lt | inr ge ↦ inr (omega (arith, ge, none)) ]

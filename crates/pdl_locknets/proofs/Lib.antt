@@ -1,0 +1,10 @@
+pub mod PortLists
+pub mod PortStages
+pub mod Releases
+pub mod PortsFit
+pub mod DeedsFit
+pub mod LocksKept
+pub mod LockSteps
+pub mod NewLock
+pub mod AllMade
+pub mod Law

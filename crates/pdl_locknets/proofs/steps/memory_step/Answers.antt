@@ -1,0 +1,63 @@
+use Rattle.std.proofs.Common.{sym, ◌∙◌, arith, subst}
+use Rattle.pdl_form.specs.Whole.{form}
+use Rattle.pdl_model.specs.Stages.{mem_at}
+use Rattle.pdl_net.specs.Meaning.{signal}
+use Rattle.pdl_lockapi.specs.Laws.{StepSignals, StepLaw, own}
+use Rattle.pdl_pipe_law.specs.Views.{no_gates}
+use Rattle.pdl_pipe_law.specs.Ports.{step_of}
+use Rattle.pdl_stagenets.specs.Locked.{Members, some_at, locks_in}
+use Rattle.pdl_locknets.specs.Deeds.{views_in, moves_in}
+use Rattle.pdl_locknets.proofs.DeedsFit.{all_given, signals_fit}
+use Rattle.pdl_locknets.proofs.LocksKept.{signals_are}
+use Rattle.pdl_locknets.proofs.LockSteps.{is_stepped, stepped_some, stepped_not}
+use Rattle.pdl_locknets.proofs.steps.memory_step.Goals as goal
+
+pub returns-in-None-clause-stepped : goal.returns-in-None-clause-stepped
+returns-in-None-clause-stepped g c =
+    let L = g.L.LockModule in
+    let l : Members g.row.L.Denot = record { placed = L.placed; stands = L.stands; kind = L.kind_of; size = L.size; tickets = L.tickets } in
+    let p = (form c.args._pipe.now).pipe in
+    let a = c.args.b.now in
+    let xs = c.args.locks.now in
+    let ds = c.args.deeds.now in
+    stepped_not l a (mem_at p c.args.m) (step_of p (views_in a ds) (no_gates (locks_in l a xs)) (moves_in a ds) c.args.m) (some_at xs c.args.m) (sym c.lock_at.ensures ∙ c.in-None.is)
+
+pub lock_step-requires-clause-array : goal.lock_step-requires-clause-array
+lock_step-requires-clause-array g c = (c.requires.locked.locks c.args.m c.in-Some.x c.requires.low (sym c.lock_at.ensures ∙ c.in-Some.is)).array
+
+pub lock_step-requires-clause-ticket : goal.lock_step-requires-clause-ticket
+lock_step-requires-clause-ticket g c = (c.requires.locked.locks c.args.m c.in-Some.x c.requires.low (sym c.lock_at.ensures ∙ c.in-Some.is)).ticket_there
+
+pub lock_step-requires-clause-given : goal.lock_step-requires-clause-given
+lock_step-requires-clause-given g c =
+    let L = g.L.LockModule in
+    let l : Members g.row.L.Denot = record { placed = L.placed; stands = L.stands; kind = L.kind_of; size = L.size; tickets = L.tickets } in
+    let f = form c.args._pipe.now in
+    all_given l c.args.b.now f.pipe f.widths c.args.locks.now c.args.m c.args.deeds.now (omega (arith, c.requires.low, c.requires.locked.count)) c.requires.deeds.each
+
+pub lock_step-requires-clause-fit : goal.lock_step-requires-clause-fit
+lock_step-requires-clause-fit g c =
+    let L = g.L.LockModule in
+    let l : Members g.row.L.Denot = record { placed = L.placed; stands = L.stands; kind = L.kind_of; size = L.size; tickets = L.tickets } in
+    let f = form c.args._pipe.now in
+    let e = sym c.lock_at.ensures ∙ c.in-Some.is in
+    signals_fit l c.args.b.now f.pipe f.widths c.args.locks.now c.args.m c.in-Some.x c.args.deeds.now (omega (arith, c.requires.low, c.requires.locked.count)) e (c.requires.locked.locks c.args.m c.in-Some.x c.requires.low e) c.requires.deeds.each
+
+pub returns-in_ok-nets-in-Some-clause-stepped : goal.returns-in_ok-nets-in-Some-clause-stepped
+returns-in_ok-nets-in-Some-clause-stepped g c =
+    let L = g.L.LockModule in
+    let l : Members g.row.L.Denot = record { placed = L.placed; stands = L.stands; kind = L.kind_of; size = L.size; tickets = L.tickets } in
+    let f = form c.args._pipe.now in
+    let p = f.pipe in
+    let a = c.args.b.now in
+    let d = c.lock_step.new.b in
+    let m = c.args.m in
+    let xs = c.args.locks.now in
+    let ds = c.args.deeds.now in
+    let x = c.in-Some.x in
+    let n = c.in_ok-nets-in-Some.nets in
+    let h = c.in_ok-nets-in-Some.ensures in
+    let e = sym c.lock_at.ensures ∙ c.in-Some.is in
+    let signals = step_of p (views_in a ds) (no_gates (locks_in l a xs)) (moves_in a ds) m in
+    let law = subst (λ (s : StepSignals). StepLaw (L.stands x.lock x.regs) (L.size x.lock) (L.tickets x.lock) (own x.regs) d s (signal d n.commit) (signal d n.addr) (signal d n.value)) (signals_are l a p f.widths xs ds m x e c.requires.deeds) h.law in
+    stepped_some l d (mem_at p m) signals (some_at xs m) x n e (is_stepped l a d m (mem_at p m) signals x n (c.requires.locked.locks m x c.requires.low e) h.nets law)

@@ -1,0 +1,11 @@
+//! The arrays of the memories, the registers of their locks, and what these take next.
+#![tactic(auto)]
+
+pub mod arrays;
+pub mod deeds;
+mod ports;
+pub mod steps;
+
+pub use arrays::{info, memories};
+pub use deeds::StageDeeds;
+pub use steps::step;

@@ -1,0 +1,113 @@
+// What the locks of the memories take next.
+ghost use Rattle.std.specs.Prelude.{◌≡◌, ℕ, ◌<◌, [], Some, IfOk, OnOk, length};
+ghost use Rattle.pdl_model.specs.Stages.{mem_at};
+ghost use Rattle.pdl_form.specs.Whole.{form};
+ghost use Rattle.pdl_net.specs.Circuit.{HasArray};
+ghost use Rattle.pdl_net.specs.Meaning.{IsThere, signal, write_signals};
+ghost use Rattle.pdl_net.specs.Growth.{ExtendsBut};
+ghost use Rattle.pdl_lockapi.specs.Laws.{own, HasCommitNets, StepLaw};
+ghost use Rattle.pdl_flatnets.specs.Conditions.{AreBits};
+ghost use Rattle.pdl_stagenets.specs.Parts.{Each};
+ghost use Rattle.pdl_stagenets.specs.Locked.{members, some_at, AreLocked};
+ghost use Rattle.pdl_locknets.specs.Lawful.{AreLawful, AreUnwritten};
+ghost use Rattle.pdl_locknets.specs.Deeds.{steps_in, AreDeeds};
+ghost use Rattle.pdl_locknets.specs.Ports.{IsGiven, SignalsFit, signals_of};
+ghost use Rattle.pdl_locknets.specs.Stepped.{own_of, IsSteppedMemory, AreStepped, ExtendsLocks};
+
+use crate::deeds::StageDeeds;
+use crate::ports::lock_ports;
+use pdl_build::Builder;
+use pdl_flatnets::Bits;
+use pdl_form::FlatPipe;
+use pdl_kit::NoMemory;
+use pdl_lockapi::{LockModule, LockNets};
+use pdl_stagenets::MemLock;
+use std::alloc::Global;
+
+// The step of a memory's lock.
+fn lock_step<'d, L: LockModule>(
+    alloc: Global,
+    b: &mut Builder,
+    bits: Bits,
+    x: &MemLock<L>,
+    deeds: &[StageDeeds<'d>],
+    m: usize,
+) -> Result<LockNets, NoMemory>
+    requires bits { AreBits b.old bits }
+    requires placed { L.placed x.now.lock b.old x.now.regs }
+    requires array { x.now.regs.array ≡ Some m }
+    requires has { HasArray b.old m }
+    requires unwritten { write_signals b.old m ≡ [] }
+    requires ticket { IsThere b.old x.now.regs.ticket }
+    requires given { Each (IsGiven b.old m) deeds.now }
+    requires fit { SignalsFit x.now.regs.bits x.now.regs.width (L.tickets x.now.lock) (signals_of b.old deeds.now m (signal b.old x.now.regs.ticket)) }
+    ensures nets { IfOk result (λ n. HasCommitNets b.new x.now.regs.bits x.now.regs.width n.commit n.addr n.value) }
+    ensures law { IfOk result (λ n. StepLaw (L.stands x.now.lock x.now.regs) (L.size x.now.lock) (L.tickets x.now.lock) (own x.now.regs) b.new (signals_of b.old deeds.now m (signal b.old x.now.regs.ticket)) (signal b.new n.commit) (signal b.new n.addr) (signal b.new n.value)) }
+    ensures extends { OnOk result (ExtendsBut (own x.now.regs) b.old b.new) }
+{
+    let ports = lock_ports(alloc, b, bits, deeds, m, x.regs.ticket)?;
+    let nets = x.lock.emit_step(b, &x.regs, &ports)?;
+    Ok(nets)
+}
+
+// The lock of a memory, where it has one.
+fn lock_at<L>(locks: &[Option<MemLock<L>>], m: usize) -> &Option<MemLock<L>>
+    requires { m < length locks.now }
+    ensures { result.now ≡ some_at locks.now m }
+{
+    &locks[m]
+}
+
+// The step of a memory's lock, where it has one.
+fn memory_step<'d, L: LockModule>(
+    alloc: Global,
+    b: &mut Builder,
+    _pipe: &FlatPipe,
+    bits: Bits,
+    locks: &[Option<MemLock<L>>],
+    deeds: &[StageDeeds<'d>],
+    m: usize,
+) -> Result<Option<LockNets>, NoMemory>
+    requires low { m < length (form _pipe.now).pipe.mems }
+    requires bits { AreBits b.old bits }
+    requires locked { AreLocked (members L.LockModule) b.old (form _pipe.now).pipe locks.now }
+    requires unwritten { write_signals b.old m ≡ [] }
+    requires deeds { AreDeeds (members L.LockModule) b.old (form _pipe.now).pipe (form _pipe.now).widths locks.now deeds.now }
+    ensures stepped { IfOk result (λ n. IsSteppedMemory (members L.LockModule) b.new (mem_at (form _pipe.now).pipe m) (steps_in (members L.LockModule) b.old (form _pipe.now).pipe locks.now deeds.now m) (some_at locks.now m) n) }
+    ensures extends { OnOk result (ExtendsBut (own_of (some_at locks.now m)) b.old b.new) }
+{
+    match lock_at(locks, m) {
+        None => Ok(None),
+        Some(x) => {
+            let nets = lock_step(alloc, b, bits, x, deeds, m)?;
+            Ok(Some(nets))
+        }
+    }
+}
+
+/// The steps of the locks of all memories, in declared order: the nets of what each memory with a lock commits.
+///
+/// `deeds` has one for each stage, in order; no array was written before.
+pub fn step<'d, L: LockModule>(
+    alloc: Global,
+    b: &mut Builder,
+    pipe: &FlatPipe,
+    bits: Bits,
+    locks: &[Option<MemLock<L>>],
+    deeds: &[StageDeeds<'d>],
+) -> Result<Vec<Option<LockNets>>, NoMemory>
+    requires bits { AreBits b.old bits }
+    requires locked { AreLocked (members L.LockModule) b.old (form pipe.now).pipe locks.now }
+    requires lawful { AreLawful (members L.LockModule) b.old (form pipe.now).pipe locks.now }
+    requires unwritten { AreUnwritten b.old (length (form pipe.now).pipe.mems) }
+    requires deeds { AreDeeds (members L.LockModule) b.old (form pipe.now).pipe (form pipe.now).widths locks.now deeds.now }
+    ensures stepped { IfOk result (λ ns. AreStepped (members L.LockModule) b.new (form pipe.now).pipe (steps_in (members L.LockModule) b.old (form pipe.now).pipe locks.now deeds.now) locks.now ns.items (length (form pipe.now).pipe.mems)) }
+    ensures extends { OnOk result (ExtendsLocks locks.now (length (form pipe.now).pipe.mems) b.old b.new) }
+{
+    let mut nets = Vec::new(alloc);
+    for m in 0..pipe.mems().len() {
+        let net = memory_step(alloc, b, pipe, bits, locks, deeds, m)?;
+        nets.push(net)?;
+    }
+    Ok(nets)
+}

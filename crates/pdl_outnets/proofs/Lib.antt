@@ -1,0 +1,2 @@
+pub mod OutLists
+pub mod OutShows

@@ -1,0 +1,60 @@
+-- What outputs are told, and what they show of it.
+use Rattle.std.specs.Prelude.{◌≡◌, ℕ, ◌<◌, List, [], ◌∷◌, map, length, slice_index_or, Option, Some, None, is_some, ⊤}
+use Rattle.pdl_model.specs.Flat.{Pipe}
+use Rattle.pdl_net.specs.declared.Net.{Net}
+use Rattle.pdl_net.specs.Circuit.{Circuit, Output}
+use Rattle.pdl_net.specs.Signal.{Signal, no_signal}
+use Rattle.pdl_net.specs.Meaning.{signal, IsThere}
+use Rattle.pdl_lockapi.specs.declared.LockNets.{LockNets}
+use Rattle.pdl_pipe_law.specs.Walk.{is_locked}
+use Rattle.pdl_pipe_law.specs.Views.{View, Gates}
+use Rattle.pdl_pipe_law.specs.Ports.{Shown}
+use Rattle.pdl_pipe_law.specs.Compiled.{shown_in}
+use Rattle.pdl_outnets.specs.declared.outputs.StageNets.{StageNets}
+use Rattle.pdl_outnets.specs.declared.outputs.OutNet.{OutNet}
+
+-- ---- what is told
+
+-- a stage's nets are there
+abbrev pub AreThereStages : Circuit → List StageNets → Type 0
+AreThereStages c [] = ⊤
+AreThereStages c (s ∷ ss) = IsThere c s.valid × IsThere c s.moves × AreThereStages c ss
+
+-- the nets of what a memory commits are there
+abbrev pub IsThereCommit : Circuit → Option LockNets → Type 0
+IsThereCommit c None = ⊤
+IsThereCommit c (Some n) = IsThere c n.commit × IsThere c n.addr × IsThere c n.value
+
+-- the memories with a lock have such nets
+pub record AreCommits (c : Circuit) (p : Pipe) (ns : List (Option LockNets)) : Type 0 where
+  pub count : length ns ≡ length p.mems
+  pub locked : (m : ℕ) → m < length p.mems → is_some (slice_index_or ns m None) ≡ is_locked p m
+  pub there : (m : ℕ) → m < length p.mems → IsThereCommit c (slice_index_or ns m None)
+
+-- ---- as the law of a netlist sees it
+
+abbrev pub valid_in : Circuit → List StageNets → ℕ → Signal
+valid_in c ss k = slice_index_or (map (λ (s : StageNets). signal c s.valid) ss) k no_signal
+
+abbrev pub moves_in : Circuit → List StageNets → ℕ → Signal
+moves_in c ss k = slice_index_or (map (λ (s : StageNets). signal c s.moves) ss) k no_signal
+
+-- the stages, the net of squashes and the memories' names are those of a netlist
+pub record AreOf (c : Circuit) (ss : List StageNets) (x : Net) (told : List (List ℕ)) (vs : ℕ → View) (gates : Gates) (goes : ℕ → Signal) (name : ℕ → List ℕ) : Type 0 where
+  pub valid : (k : ℕ) → k < length ss → (vs k).valid ≡ valid_in c ss k
+  pub moves : (k : ℕ) → k < length ss → goes k ≡ moves_in c ss k
+  pub squash : gates.squash ≡ signal c x
+  pub names : (m : ℕ) → m < length told → name m ≡ slice_index_or told m []
+
+-- ---- outputs
+
+abbrev pub output_of : OutNet → Output
+output_of o = record { name = o.name; net = o.net }
+
+abbrev pub OutsThere : Circuit → List OutNet → Type 0
+OutsThere c [] = ⊤
+OutsThere c (o ∷ os) = IsThere c o.net × OutsThere c os
+
+-- what outputs show
+abbrev pub shown_by : Circuit → List OutNet → List Shown
+shown_by c os = map (shown_in c) (map output_of os)

@@ -1,0 +1,6 @@
+//! The outputs of a pipe's netlist.
+#![tactic(auto)]
+
+pub mod outputs;
+
+pub use outputs::{OutNet, StageNets, show, shown};

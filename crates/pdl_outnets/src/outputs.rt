@@ -1,0 +1,215 @@
+// What the netlist shows.
+ghost use Rattle.std.specs.Prelude.{◌≡◌, ◌<◌, ◌≤◌, ◌∷◌, ◌++◌, ℕ, List, [], Some, IfOk, OnOk, map, length, slice_index_or, codes, decimal};
+ghost use Rattle.pdl_form.specs.Whole.{form};
+ghost use Rattle.pdl_form.specs.View.{mem_names};
+ghost use Rattle.pdl_net.specs.Meaning.{IsThere};
+ghost use Rattle.pdl_net.specs.Growth.{ExtendsPorts};
+ghost use Rattle.pdl_pipe_law.specs.Views.{View, Gates};
+ghost use Rattle.pdl_pipe_law.specs.Ports.{all_shown};
+ghost use Rattle.pdl_pipe_law.specs.Compiled.{port_in};
+ghost use Rattle.pdl_net.specs.Signal.{Signal};
+ghost use Rattle.pdl_locknets.specs.Stepped.{commits_in};
+ghost use Rattle.pdl_outnets.specs.Told.{AreThereStages, AreCommits, AreOf, output_of, OutsThere, shown_by};
+ghost use Rattle.pdl_outnets.specs.Listed.{stages_outs, commit_outs, commits_outs, last_moves, all_outs};
+
+use itoa::Buffer;
+use pdl_build::Builder;
+use pdl_form::{FlatPipe, Mem};
+use pdl_kit::{Name, NoMemory, Seq};
+use pdl_lockapi::LockNets;
+use pdl_net::Net;
+use std::alloc::Global;
+
+/// Whether a stage holds a thread, and whether that moves, 1 bit each.
+#[derive(Clone, Copy, Debug)]
+pub struct StageNets {
+    pub valid: Net,
+    pub moves: Net,
+}
+
+/// An output that is to be added: its name and its net.
+#[derive(Drop)]
+pub struct OutNet {
+    pub name: Name,
+    pub net: Net,
+}
+
+// A name with a prefix.
+fn prefixed(alloc: Global, prefix: &[u8], name: &Name) -> Result<Name, NoMemory>
+    ensures { IfOk result (λ n. n ≡ prefix.now ++ name.now) }
+{
+    let mut bytes = Vec::from_slice(alloc, prefix)?;
+    bytes.extend_from_slice(name.as_bytes())?;
+    Ok(Name::from_vec(bytes))
+}
+
+// A number in decimal with a prefix.
+fn numbered(alloc: Global, prefix: &[u8], k: usize) -> Result<Name, NoMemory>
+    ensures { IfOk result (λ n. n ≡ prefix.now ++ decimal k) }
+{
+    let mut buffer = Buffer::new();
+    let mut bytes = Vec::from_slice(alloc, prefix)?;
+    bytes.extend_from_slice(buffer.format(k).as_bytes())?;
+    Ok(Name::from_vec(bytes))
+}
+
+// One more output.
+fn push(outs: &mut Seq<OutNet>, name: Name, net: Net) -> Result<(), NoMemory>
+    ensures { OnOk result (outs.new ≡ outs.old ++ record { name = name; net = net } ∷ []) }
+{
+    outs.push(OutNet { name, net })?;
+    Ok(())
+}
+
+// The two outputs of a stage.
+fn push_stage(
+    alloc: Global,
+    outs: &mut Seq<OutNet>,
+    k: usize,
+    stage: &StageNets,
+) -> Result<(), NoMemory>
+    ensures { OnOk result (outs.new ≡ outs.old ++ stages_outs k (stage.now ∷ [])) }
+{
+    let name = numbered(alloc, b"v_", k)?;
+    push(outs, name, stage.valid)?;
+    let name = numbered(alloc, b"g_", k)?;
+    push(outs, name, stage.moves)
+}
+
+// The outputs of the stages.
+fn push_stages(alloc: Global, outs: &mut Seq<OutNet>, stages: &[StageNets]) -> Result<(), NoMemory>
+    ensures { OnOk result (outs.new ≡ outs.old ++ stages_outs 0 stages.now) }
+{
+    for (k, stage) in stages.iter().enumerate() {
+        push_stage(alloc, outs, k, stage)?;
+    }
+    Ok(())
+}
+
+// The three outputs of a memory: whether it commits a write, the address and the value.
+fn push_commit(
+    alloc: Global,
+    outs: &mut Seq<OutNet>,
+    name: &Name,
+    nets: LockNets,
+) -> Result<(), NoMemory>
+    ensures { OnOk result (outs.new ≡ outs.old ++ commit_outs name.now (Some nets)) }
+{
+    let commit = prefixed(alloc, b"c_", name)?;
+    push(outs, commit, nets.commit)?;
+    let addr = prefixed(alloc, b"ca_", name)?;
+    push(outs, addr, nets.addr)?;
+    let value = prefixed(alloc, b"cd_", name)?;
+    push(outs, value, nets.value)
+}
+
+// The outputs of a memory with a lock; another one has none.
+fn push_memory(
+    alloc: Global,
+    outs: &mut Seq<OutNet>,
+    m: &Mem,
+    nets: Option<LockNets>,
+) -> Result<(), NoMemory>
+    ensures { OnOk result (outs.new ≡ outs.old ++ commit_outs m.now.name nets) }
+{
+    match nets {
+        Some(nets) => push_commit(alloc, outs, &m.name, nets),
+        None => Ok(()),
+    }
+}
+
+// What the memory of a number commits.
+fn nets_at(nets: &[Option<LockNets>], m: usize) -> Option<LockNets>
+    requires { m < length nets.now }
+    ensures { result ≡ slice_index_or nets.now m result }
+{
+    nets[m]
+}
+
+// The outputs of all memories with a lock, in order.
+fn push_memories(
+    alloc: Global,
+    outs: &mut Seq<OutNet>,
+    mems: &[Mem],
+    nets: &[Option<LockNets>],
+) -> Result<(), NoMemory>
+    requires { length nets.now ≡ length mems.now }
+    ensures { OnOk result (outs.new ≡ outs.old ++ commits_outs (mem_names mems.now) nets.now) }
+{
+    for (i, m) in mems.iter().enumerate() {
+        push_memory(alloc, outs, m, nets_at(nets, i))?;
+    }
+    Ok(())
+}
+
+// Whether the thread of the last stage moves, `none` where there is no stage.
+fn last_of(stages: &[StageNets], none: Net) -> Net
+    ensures { result ≡ last_moves stages.now none }
+{
+    let mut last = none;
+    for stage in stages {
+        last = stage.moves;
+    }
+    last
+}
+
+// One more output, of a name without a number.
+fn push_named(alloc: Global, outs: &mut Seq<OutNet>, name: &[u8], net: Net) -> Result<(), NoMemory>
+    ensures { OnOk result (outs.new ≡ outs.old ++ record { name = name.now; net = net } ∷ []) }
+{
+    let name = Name::copy_of(alloc, name)?;
+    push(outs, name, net)
+}
+
+// All outputs, with their nets.
+fn all(
+    alloc: Global,
+    mems: &[Mem],
+    stages: &[StageNets],
+    nets: &[Option<LockNets>],
+    squash: Net,
+) -> Result<Seq<OutNet>, NoMemory>
+    requires { length nets.now ≡ length mems.now }
+    ensures { IfOk result (λ os. os ≡ all_outs (mem_names mems.now) stages.now nets.now squash) }
+{
+    let mut outs = Seq::new(alloc);
+    push_stages(alloc, &mut outs, stages)?;
+    push_memories(alloc, &mut outs, mems, nets)?;
+    push_named(alloc, &mut outs, b"ended", last_of(stages, squash))?;
+    push_named(alloc, &mut outs, b"squash", squash)?;
+    Ok(outs)
+}
+
+/// The outputs of a pipe: of each stage whether it holds a thread and whether that moves, of each memory with a lock what it commits, whether a thread ends, and whether one is squashed.
+///
+/// `stages` has one for each stage and `nets` one for each memory, in order.
+pub fn shown(
+    alloc: Global,
+    _b: &Builder,
+    pipe: &FlatPipe,
+    stages: &[StageNets],
+    nets: &[Option<LockNets>],
+    squash: Net,
+) -> Result<Seq<OutNet>, NoMemory>
+    requires some { 1 ≤ length stages.now }
+    requires count { length stages.now ≡ length (form pipe.now).pipe.stages }
+    requires stages { AreThereStages _b.now stages.now }
+    requires commits { AreCommits _b.now (form pipe.now).pipe nets.now }
+    requires squash { IsThere _b.now squash }
+    ensures there { IfOk result (λ os. OutsThere _b.now os) }
+    ensures shown { IfOk result (λ os. (vs : ℕ → View) (gates : Gates) (moves : ℕ → Signal) (names : ℕ → List ℕ) → AreOf _b.now stages.now squash (form pipe.now).names vs gates moves names → shown_by _b.now os ≡ all_shown (form pipe.now).pipe names (commits_in _b.now nets.now) vs gates moves) }
+{
+    all(alloc, pipe.mems(), stages, nets, squash)
+}
+
+/// Adds the outputs to the netlist, in order.
+pub fn show(b: &mut Builder, outs: &[OutNet]) -> Result<(), NoMemory>
+    requires there { OutsThere b.old outs.now }
+    ensures ports { OnOk result (ExtendsPorts b.old b.new (map (port_in b.old) (map output_of outs.now))) }
+    ensures regs { b.new.regs ≡ b.old.regs }
+{
+    for o in outs {
+        b.output(&o.name, o.net)?;
+    }
+    Ok(())
+}

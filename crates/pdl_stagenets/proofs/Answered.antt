@@ -1,0 +1,164 @@
+-- The nets of a walk behind each change, as the changes make them.
+use Rattle.std.proofs.Common.{◌≡◌, ℕ, ◌<◌, ◌^◌, List, [], ◌∷◌, ◌++◌, length, refl, sym, ap, ap₂, ◌∙◌, subst}
+use Rattle.std.specs.Prelude.{take, slice_index, slice_set, Result, Ok, Err, OnOk}
+use Rattle.pdl_kit.specs.declared.no_memory.NoMemory.{NoMemory}
+use Rattle.pdl_model.specs.Flat.{Pipe}
+use Rattle.pdl_model.specs.Stages.{mem_at}
+use Rattle.pdl_net.specs.declared.Net.{Net}
+use Rattle.pdl_net.specs.Circuit.{Circuit}
+use Rattle.pdl_net.specs.Signal.{Signal, mux_signal}
+use Rattle.pdl_net.specs.Meaning.{signal, IsThere, Means}
+use Rattle.pdl_net.specs.Growth.{Extends}
+use Rattle.pdl_net.proofs.Keeps.{extends_keeps}
+use Rattle.pdl_flatnets.specs.Nets.{NetsThere, signals_in, signal_at, widths_of}
+use Rattle.pdl_pipe_law.specs.Walk.{one, both, if_on}
+use Rattle.pdl_stagenets.specs.declared.nets.HeldNet.{HeldNet}
+use Rattle.pdl_stagenets.specs.declared.nets.ReserveNet.{ReserveNet}
+use Rattle.pdl_stagenets.specs.declared.nets.PutNet.{PutNet}
+use Rattle.pdl_stagenets.specs.declared.nets.LettingNet.{LettingNet}
+use Rattle.pdl_stagenets.specs.declared.nets.BirthNet.{BirthNet}
+use Rattle.pdl_stagenets.specs.declared.nets.WalkNets.{WalkNets}
+use Rattle.pdl_stagenets.specs.Parts.{Each, Parts, held_of, reservation_in, letting_in, parts_in, IsThereWalk}
+use Rattle.pdl_stagenets.specs.Sized.{IsSized, IsWalk}
+use Rattle.pdl_stagenets.specs.Steps.{with_var, with_put, with_held, with_reserve, with_call}
+use Rattle.pdl_stagenets.proofs.Lists.{each_more, there_set}
+use Rattle.pdl_stagenets.proofs.Kept.{there_walk}
+use Rattle.pdl_stagenets.proofs.Updates.{vars_parts, ready_parts, held_parts, reserve_parts, put_parts, letting_parts, birth_parts, sized_var, sized_ready, sized_held, sized_put, sized_reserve, sized_letting, sized_call}
+
+-- a part of what an equal value has
+as_sized : (p : Pipe) (ws : List ℕ) (q r : Parts) → q ≡ r → IsSized p ws r → IsSized p ws q
+as_sized p ws q r e h = subst (IsSized p ws) (sym e) h
+
+module _ (a b : Circuit) (e : Extends a b) (p : Pipe) (ws : List ℕ) (w : WalkNets) (h : IsWalk a p ws w) where
+  there : IsThereWalk b w
+  there = there_walk a b (extends_keeps a b e) w h.there
+
+  -- another variable
+  module _ (new : WalkNets) (x : ℕ) (n : Net) (on f : Signal) (m : Means b n (mux_signal on f (signal_at (signals_in a w.vars.items) x)))
+      (e1 : new.vars.items ≡ slice_set w.vars.items x n) (e2 : new.held ≡ w.held) (e3 : new.ready ≡ w.ready) (e4 : new.reserves ≡ w.reserves) (e5 : new.puts ≡ w.puts) (e6 : new.lettings ≡ w.lettings) (e7 : new.births ≡ w.births) (e8 : new.guess ≡ w.guess) where
+    pub set_parts : parts_in b new ≡ with_var x on f (parts_in a w)
+    set_parts = vars_parts a b (extends_keeps a b e) w h.there new x n (mux_signal on f (signal_at (signals_in a w.vars.items) x)) m.same e1 e2 e3 e4 e5 e6 e7 e8
+
+    pub set_walk : f.width ≡ slice_index ws x → IsWalk b p ws new
+    set_walk k = record {
+      there = record {
+        vars = subst (λ (l : List Net). NetsThere b l) (sym e1) (there_set b w.vars.items x n there.vars m.there);
+        held = subst (λ l. Each (λ (y : HeldNet). IsThere b y.net) l.items) (sym e2) there.held;
+        ready = subst (IsThere b) (sym e3) there.ready;
+        reserves = subst (λ (l : List ReserveNet). Each (λ (y : ReserveNet). IsThere b y.on × IsThere b y.addr) l) (sym e4) there.reserves;
+        puts = subst (λ (l : List PutNet). Each (λ (y : PutNet). IsThere b y.on × IsThere b y.value) l) (sym e5) there.puts;
+        lettings = subst (λ (l : List LettingNet). Each (λ (y : LettingNet). IsThere b y.on) l) (sym e6) there.lettings;
+        births = subst (λ l. Each (λ (y : BirthNet). IsThere b y.on × NetsThere b y.args) l.items) (sym e7) there.births;
+        guess = subst (λ (l : List Net). NetsThere b l) (sym e8) there.guess;
+      };
+      sized = as_sized p ws (parts_in b new) (with_var x on f (parts_in a w)) set_parts (sized_var p ws (parts_in a w) h.sized x on f k);
+    }
+
+  -- another ready net
+  module _ (n : Net) (on f : Signal) (t : IsThere b n) (s : signal b n ≡ both (parts_in a w).ready (if_on on f)) where
+    pub wait_parts : parts_in b (record w { ready = n }) ≡ record (parts_in a w) { ready = both (parts_in a w).ready (if_on on f) }
+    wait_parts = ready_parts a b (extends_keeps a b e) w h.there (record w { ready = n }) (both (parts_in a w).ready (if_on on f)) s refl refl refl refl refl refl refl
+
+    pub wait_walk : f.width ≡ 1 → IsWalk b p ws (record w { ready = n })
+    wait_walk k = record {
+      there = record { vars = there.vars; held = there.held; ready = t; reserves = there.reserves; puts = there.puts; lettings = there.lettings; births = there.births; guess = there.guess };
+      sized = as_sized p ws (parts_in b (record w { ready = n })) (record (parts_in a w) { ready = both (parts_in a w).ready (if_on on f) }) wait_parts (sized_ready p ws (parts_in a w) h.sized on f k);
+    }
+
+  -- one more held location
+  module _ (new : WalkNets) (mem var : ℕ) (n : Net) (on bit : Signal) (m : Means b n (mux_signal on bit (held_of (parts_in a w).held mem var)))
+      (e1 : new.held.items ≡ record { mem = mem; var = var; net = n } ∷ w.held.items) (e2 : new.vars ≡ w.vars) (e3 : new.ready ≡ w.ready) (e4 : new.reserves ≡ w.reserves) (e5 : new.puts ≡ w.puts) (e6 : new.lettings ≡ w.lettings) (e7 : new.births ≡ w.births) (e8 : new.guess ≡ w.guess) where
+    pub hold_parts : parts_in b new ≡ with_held mem var on bit (parts_in a w)
+    hold_parts = held_parts a b (extends_keeps a b e) w h.there new mem var n (mux_signal on bit (held_of (parts_in a w).held mem var)) m.same e1 e2 e3 e4 e5 e6 e7 e8
+
+    pub hold_walk : bit.width ≡ 1 → IsWalk b p ws new
+    hold_walk k = record {
+      there = record {
+        vars = subst (λ l. NetsThere b l.items) (sym e2) there.vars;
+        held = subst (λ (l : List HeldNet). Each (λ (y : HeldNet). IsThere b y.net) l) (sym e1) (m.there, there.held);
+        ready = subst (IsThere b) (sym e3) there.ready;
+        reserves = subst (λ (l : List ReserveNet). Each (λ (y : ReserveNet). IsThere b y.on × IsThere b y.addr) l) (sym e4) there.reserves;
+        puts = subst (λ (l : List PutNet). Each (λ (y : PutNet). IsThere b y.on × IsThere b y.value) l) (sym e5) there.puts;
+        lettings = subst (λ (l : List LettingNet). Each (λ (y : LettingNet). IsThere b y.on) l) (sym e6) there.lettings;
+        births = subst (λ l. Each (λ (y : BirthNet). IsThere b y.on × NetsThere b y.args) l.items) (sym e7) there.births;
+        guess = subst (λ (l : List Net). NetsThere b l) (sym e8) there.guess;
+      };
+      sized = as_sized p ws (parts_in b new) (with_held mem var on bit (parts_in a w)) hold_parts (sized_held p ws (parts_in a w) h.sized mem var on bit k);
+    }
+
+-- one more of each kind, in the same circuit
+module _ (b : Circuit) (p : Pipe) (ws : List ℕ) (w : WalkNets) (h : IsWalk b p ws w) where
+  pub put_walk : (m : ℕ) (on value : Net) → IsThere b on → IsThere b value → m < length p.mems → (signal b on).width ≡ 1 → (signal b value).width ≡ (mem_at p m).width → IsWalk b p ws (record w { puts = w.puts ++ record { mem = m; on = on; value = value } ∷ [] })
+  put_walk m on value t u l o k = let n : PutNet = record { mem = m; on = on; value = value } in let s = h.there in record {
+    there = record { vars = s.vars; held = s.held; ready = s.ready; reserves = s.reserves; lettings = s.lettings; births = s.births; guess = s.guess; puts = each_more (λ (y : PutNet). IsThere b y.on × IsThere b y.value) w.puts n s.puts (t, u) };
+    sized = as_sized p ws (parts_in b (record w { puts = w.puts ++ n ∷ [] })) (with_put m (signal b on) (signal b value) (parts_in b w)) (put_parts b w n) (sized_put p ws (parts_in b w) h.sized m (signal b on) (signal b value) l o k);
+  }
+
+  pub reserve_walk : (m : ℕ) (on addr : Net) → IsThere b on → IsThere b addr → m < length p.mems → (signal b on).width ≡ 1 → 2 ^ (signal b addr).width ≡ (mem_at p m).depth → IsWalk b p ws (record w { reserves = w.reserves ++ record { mem = m; on = on; addr = addr } ∷ [] })
+  reserve_walk m on addr t u l o k = let n : ReserveNet = record { mem = m; on = on; addr = addr } in let s = h.there in record {
+    there = record { vars = s.vars; held = s.held; ready = s.ready; puts = s.puts; lettings = s.lettings; births = s.births; guess = s.guess; reserves = each_more (λ (y : ReserveNet). IsThere b y.on × IsThere b y.addr) w.reserves n s.reserves (t, u) };
+    sized = as_sized p ws (parts_in b (record w { reserves = w.reserves ++ n ∷ [] })) (record (parts_in b w) { reserves = (parts_in b w).reserves ++ reservation_in b n ∷ [] }) (reserve_parts b w n) (sized_reserve p ws (parts_in b w) h.sized m (signal b on) (signal b addr) l o k);
+  }
+
+  pub letting_walk : (m : ℕ) (on : Net) → IsThere b on → (signal b on).width ≡ 1 → IsWalk b p ws (record w { lettings = w.lettings ++ record { mem = m; on = on } ∷ [] })
+  letting_walk m on t o = let n : LettingNet = record { mem = m; on = on } in let s = h.there in record {
+    there = record { vars = s.vars; held = s.held; ready = s.ready; reserves = s.reserves; puts = s.puts; births = s.births; guess = s.guess; lettings = each_more (λ (y : LettingNet). IsThere b y.on) w.lettings n s.lettings t };
+    sized = as_sized p ws (parts_in b (record w { lettings = w.lettings ++ n ∷ [] })) (record (parts_in b w) { lettings = (parts_in b w).lettings ++ letting_in b n ∷ [] }) (letting_parts b w n) (sized_letting p ws (parts_in b w) h.sized m (signal b on) o);
+  }
+
+-- ---- what equal parts make of equal changes
+
+pub var_same : (x : ℕ) (o o' f f' : Signal) (q q' : Parts) → o ≡ o' → f ≡ f' → q ≡ q' → with_var x o f q ≡ with_var x o' f' q'
+var_same x o o' f f' q q' e g h = ap₂ (λ i k. with_var x i k q) e g ∙ ap (with_var x o' f') h
+
+pub put_same : (m : ℕ) (o o' f f' : Signal) (q q' : Parts) → o ≡ o' → f ≡ f' → q ≡ q' → with_put m o f q ≡ with_put m o' f' q'
+put_same m o o' f f' q q' e g h = ap₂ (λ i k. with_put m i k q) e g ∙ ap (with_put m o' f') h
+
+pub held_same : (m a : ℕ) (o o' f f' : Signal) (q q' : Parts) → o ≡ o' → f ≡ f' → q ≡ q' → with_held m a o f q ≡ with_held m a o' f' q'
+held_same m a o o' f f' q q' e g h = ap₂ (λ i k. with_held m a i k q) e g ∙ ap (with_held m a o' f') h
+
+-- a choice between a new net and the old one
+pub set_means : (a b : Circuit) (n : Net) (on f old known : Signal) → old ≡ known → Means b n (mux_signal on f old) → Means b n (mux_signal on f known)
+set_means a b n on f old known e m = record { there = m.there; same = m.same ∙ ap (mux_signal on f) e }
+
+-- the ready net behind a wait
+pub wait_signal : (a b1 b2 : Circuit) (ready asked r bit : Net) (on f : Signal) → Extends a b1 → IsThere a ready → signal a bit ≡ one → Means b1 asked (mux_signal on f (signal a bit)) → Means b2 r (both (signal b1 ready) (signal b1 asked)) → signal b2 r ≡ both (signal a ready) (if_on on f)
+wait_signal a b1 b2 ready asked r bit on f e t o m n = n.same ∙ ap₂ both (e.kept ready t) (m.same ∙ ap (mux_signal on f) o)
+
+-- a result that goes well where both did
+pub birth_made : (b : Circuit) (r : Result (Unit {0}) NoMemory) (p : Pipe) (ws : List ℕ) (w new : WalkNets) (on : Net) (args : List Net) → IsWalk b p ws w → IsThere b on → (signal b on).width ≡ 1 → NetsThere b args → widths_of (signals_in b args) ≡ take (length p.start) ws
+    → OnOk r (new.births.items ≡ record { on = on; args = args } ∷ w.births.items) → new.vars ≡ w.vars → new.held ≡ w.held → new.ready ≡ w.ready → new.reserves ≡ w.reserves → new.puts ≡ w.puts → new.lettings ≡ w.lettings → new.guess ≡ w.guess
+    → OnOk r (IsWalk b p ws new × (parts_in b new ≡ with_call (signal b on) (signals_in b args) (parts_in b w)))
+birth_made b (Err x) p ws w new on args h t o u k e1 e2 e3 e4 e5 e6 e7 e8 = e1
+birth_made b (Ok x) p ws w new on args h t o u k e1 e2 e3 e4 e5 e6 e7 e8 =
+    let same = birth_parts b w new (record { on = on; args = args }) e1 e2 e3 e4 e5 e6 e7 e8 in
+    let s = h.there in (
+      record {
+        there = record {
+          vars = subst (λ l. NetsThere b l.items) (sym e2) s.vars;
+          held = subst (λ l. Each (λ (y : HeldNet). IsThere b y.net) l.items) (sym e3) s.held;
+          ready = subst (IsThere b) (sym e4) s.ready;
+          reserves = subst (λ (l : List ReserveNet). Each (λ (y : ReserveNet). IsThere b y.on × IsThere b y.addr) l) (sym e5) s.reserves;
+          puts = subst (λ (l : List PutNet). Each (λ (y : PutNet). IsThere b y.on × IsThere b y.value) l) (sym e6) s.puts;
+          lettings = subst (λ (l : List LettingNet). Each (λ (y : LettingNet). IsThere b y.on) l) (sym e7) s.lettings;
+          births = subst (λ (l : List BirthNet). Each (λ (y : BirthNet). IsThere b y.on × NetsThere b y.args) l) (sym e1) ((t, u), s.births);
+          guess = subst (λ (l : List Net). NetsThere b l) (sym e8) s.guess;
+        };
+        sized = as_sized p ws (parts_in b new) (with_call (signal b on) (signals_in b args) (parts_in b w)) same (sized_call p ws (parts_in b w) h.sized (signal b on) (signals_in b args) o k);
+      },
+      same,
+    )
+
+pub call_same : (o o' : Signal) (f f' : List Signal) (q q' : Parts) → o ≡ o' → f ≡ f' → q ≡ q' → with_call o f q ≡ with_call o' f' q'
+call_same o o' f f' q q' e g h = ap₂ (λ i k. with_call i k q) e g ∙ ap (with_call o' f') h
+
+pub ready_same : (o o' f : Signal) (q q' : Parts) → o ≡ o' → q ≡ q' → record q { ready = both q.ready (if_on o f) } ≡ record q' { ready = both q'.ready (if_on o' f) }
+ready_same o o' f q q' e h = ap₂ (λ i (k : Parts). record k { ready = both k.ready (if_on i f) }) e h
+
+pub release_same : (m a : ℕ) (o o' z : Signal) (lets lets' : Signal) (q q' : Parts) → o ≡ o' → lets ≡ lets' → q ≡ q' → record (with_held m a o z q) { lettings = q.lettings ++ record { mem = m; on = lets } ∷ [] } ≡ record (with_held m a o' z q') { lettings = q'.lettings ++ record { mem = m; on = lets' } ∷ [] }
+release_same m a o o' z lets lets' q q' e l h =
+    ap (λ i. record (with_held m a i z q) { lettings = q.lettings ++ record { mem = m; on = lets } ∷ [] }) e ∙ ap₂ (λ i (k : Parts). record (with_held m a o' z k) { lettings = k.lettings ++ record { mem = m; on = i } ∷ [] }) l h
+
+pub reserve_made : (m a : ℕ) (q3 q2 q1 q0 : Parts) (o1 o2 o3 on r room bit addr : Signal) → q3 ≡ record q2 { ready = both q2.ready (if_on o2 r) } → q2 ≡ with_held m a o1 bit q1 → q1 ≡ q0 → o1 ≡ on → o2 ≡ on → o3 ≡ on → r ≡ room → bit ≡ one → addr ≡ signal_at q0.vars a
+    → record q3 { reserves = q3.reserves ++ record { mem = m; on = o3; addr = addr } ∷ [] } ≡ with_reserve m a on room q0
+reserve_made m a q3 q2 q1 q0 o1 o2 o3 on r room bit addr h3 h2 h1 e1 e2 e3 er eb ea = rw (h3, h2, h1, e1, e2, e3, er, eb, ea) refl

@@ -1,0 +1,69 @@
+-- Pipes without variables and memories, as tests take them.
+use Rattle.std.proofs.Common.{◌≡◌, ℕ, List, [], ◌∷◌, map, length, refl, sym, ap, ◌∙◌, subst, arith}
+use Rattle.std.specs.Prelude.{Option, take}
+use Rattle.pdl_model.specs.Flat.{Call, Stmt, Pipe}
+use Rattle.pdl_form.specs.Form.{Form}
+use Rattle.pdl_formtypes.specs.Stmts.{AreArguments}
+use Rattle.pdl_net.specs.declared.Net.{Net}
+use Rattle.pdl_net.specs.Circuit.{Circuit}
+use Rattle.pdl_net.specs.Meaning.{signal, IsThere}
+use Rattle.pdl_flatnets.specs.Nets.{NetsThere, signals_in, widths_of}
+use Rattle.pdl_pipe_law.specs.Walk.{Letting}
+use Rattle.pdl_stagenets.specs.declared.locks.MemLock.{MemLock}
+use Rattle.pdl_stagenets.specs.declared.nets.HeldNet.{HeldNet}
+use Rattle.pdl_stagenets.specs.declared.nets.ReserveNet.{ReserveNet}
+use Rattle.pdl_stagenets.specs.declared.nets.PutNet.{PutNet}
+use Rattle.pdl_stagenets.specs.declared.nets.LettingNet.{LettingNet}
+use Rattle.pdl_stagenets.specs.declared.nets.BirthNet.{BirthNet}
+use Rattle.pdl_stagenets.specs.declared.nets.WalkNets.{WalkNets}
+use Rattle.pdl_stagenets.specs.Parts.{Each, Held, held_in, reservation_in, put_in, letting_in, birth_in}
+use Rattle.pdl_stagenets.specs.Locked.{Members, AreLocked, AreTickets}
+use Rattle.pdl_stagenets.specs.Sized.{IsSizedReserve, IsSizedPut, IsSizedBirth, IsWalk, AreWalked}
+
+-- a call without arguments
+pub call_walked : (f : Form) (k : ℕ) (xs : List Stmt) → xs ≡ record { stage = k; guards = []; op = Call [] } ∷ [] → f.pipe.start ≡ [] → AreWalked f xs
+call_walked f k xs e s =
+    let none : AreArguments f.widths (take (length f.pipe.start) f.widths) [] = subst (λ (l : List ℕ). AreArguments f.widths (take (length l) f.widths) []) (sym s) tt in
+    subst (AreWalked f) (sym e) (((tt, none), refl), tt)
+
+-- no memories
+pub no_locks : {T : Type 0} (l : Members T) (c : Circuit) (p : Pipe) (xs : List (Option (MemLock T))) → xs ≡ [] → p.mems ≡ [] → AreLocked l c p xs
+no_locks l c p xs e n = record {
+  count = ap length e ∙ sym (ap length n);
+  locked = λ m low. absurd (omega (arith, low, ap length n));
+  locks = λ m x low s. absurd (omega (arith, low, ap length n));
+  has_array = λ m low. absurd (omega (arith, low, ap length n));
+  width = λ m low. absurd (omega (arith, low, ap length n));
+  depth = λ m low u. absurd (omega (arith, low, ap length n));
+}
+
+pub no_tickets : {T : Type 0} (l : Members T) (c : Circuit) (xs : List (Option (MemLock T))) (ts : List Net) → xs ≡ [] → ts ≡ [] → AreTickets l c xs ts
+no_tickets l c xs ts e n = record {
+  there = subst (NetsThere c) (sym n) tt;
+  count = ap length n ∙ sym (ap length e);
+  wide = λ m x low s. absurd (omega (arith, low, ap length e));
+}
+
+-- no variables, and nothing done yet
+pub bare_walk : (c : Circuit) (p : Pipe) (ws : List ℕ) (w : WalkNets) → ws ≡ [] → w.vars.items ≡ [] → w.held.items ≡ [] → IsThere c w.ready → (signal c w.ready).width ≡ 1 → w.reserves ≡ [] → w.puts ≡ [] → w.lettings ≡ [] → w.births.items ≡ [] → w.guess ≡ [] → IsWalk c p ws w
+bare_walk c p ws w e e1 e2 t o e4 e5 e6 e7 e8 = record {
+  there = record {
+    vars = subst (NetsThere c) (sym e1) tt;
+    held = subst (λ (l : List HeldNet). Each (λ (h : HeldNet). IsThere c h.net) l) (sym e2) tt;
+    ready = t;
+    reserves = subst (λ (l : List ReserveNet). Each (λ (r : ReserveNet). IsThere c r.on × IsThere c r.addr) l) (sym e4) tt;
+    puts = subst (λ (l : List PutNet). Each (λ (x : PutNet). IsThere c x.on × IsThere c x.value) l) (sym e5) tt;
+    lettings = subst (λ (l : List LettingNet). Each (λ (x : LettingNet). IsThere c x.on) l) (sym e6) tt;
+    births = subst (λ (l : List BirthNet). Each (λ (x : BirthNet). IsThere c x.on × NetsThere c x.args) l) (sym e7) tt;
+    guess = subst (NetsThere c) (sym e8) tt;
+  };
+  sized = record {
+    vars = ap (λ (l : List Net). widths_of (signals_in c l)) e1 ∙ sym e;
+    held = subst (λ (l : List HeldNet). Each (λ (h : Held). h.signal.width ≡ 1) (map (held_in c) l)) (sym e2) tt;
+    ready = o;
+    reserves = subst (λ (l : List ReserveNet). Each (IsSizedReserve p) (map (reservation_in c) l)) (sym e4) tt;
+    puts = subst (λ (l : List PutNet). Each (IsSizedPut p) (map (put_in c) l)) (sym e5) tt;
+    lettings = subst (λ (l : List LettingNet). Each (λ (x : Letting). x.on.width ≡ 1) (map (letting_in c) l)) (sym e6) tt;
+    births = subst (λ (l : List BirthNet). Each (IsSizedBirth p ws) (map (birth_in c) l)) (sym e7) tt;
+  };
+}

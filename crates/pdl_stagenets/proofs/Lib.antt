@@ -1,0 +1,13 @@
+pub mod Lists
+pub mod Kept
+pub mod Arguments
+pub mod Updates
+pub mod Growing
+pub mod Answered
+pub mod Conditions
+pub mod Values
+pub mod Made
+pub mod MadeLocks
+pub mod OneByOne
+pub mod Ended
+pub mod Bare

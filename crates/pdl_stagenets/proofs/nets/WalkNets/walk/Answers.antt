@@ -1,0 +1,25 @@
+use Rattle.std.proofs.Common.{List, ◌∙◌, sym, ap, subst}
+use Rattle.std.specs.Prelude.{map, OnOk}
+use Rattle.pdl_model.specs.Flat.{Stmt}
+use Rattle.pdl_form.specs.Whole.{form}
+use Rattle.pdl_form.specs.Form.{stmt_at}
+use Rattle.pdl_stagenets.specs.Parts.{walk_in}
+use Rattle.pdl_stagenets.specs.Locked.{members, locks_in, tickets_in}
+use Rattle.pdl_stagenets.specs.Sized.{AreWalkedRows}
+use Rattle.pdl_stagenets.specs.Steps.{AreSteps}
+use Rattle.pdl_stagenets.proofs.OneByOne.{rows_walked}
+use Rattle.pdl_stagenets.proofs.nets.WalkNets.walk.Goals as goal
+
+pub walk_rows-requires-clause-typed : goal.walk_rows-requires-clause-typed
+walk_rows-requires-clause-typed g c =
+    subst (λ (xs : List Stmt). AreWalkedRows (form c.args.pipe.now) xs c.rows-rows.result.now) (sym c.stmts.ensures)
+    (rows_walked (form c.args.pipe.now) (form c.args.pipe.now).pipe.stmts c.rows-rows.result.now c.requires.typed c.rows-rows.ensures.within)
+
+pub returns-clause-steps : goal.returns-clause-steps
+returns-clause-steps g c =
+    let a = c.args.b.now in
+    let b = c.walk_rows.new.b in
+    let ls = locks_in (members g.L.LockModule) a c.args.locks.now in
+    let same = ap (λ (xs : List Stmt). map (stmt_at xs) c.rows-rows.result.now) c.stmts.ensures ∙ c.rows-rows.ensures.stmts in
+    subst (λ (xs : List Stmt). OnOk c.walk_rows.result (AreSteps b (form c.args.pipe.now).pipe ls (tickets_in a c.args.tickets.now) xs (walk_in a c.args.self.now) (walk_in b c.walk_rows.new.self))) same
+    c.walk_rows.ensures.steps

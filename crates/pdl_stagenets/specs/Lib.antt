@@ -1,0 +1,6 @@
+pub mod Parts
+pub mod Locked
+pub mod Sized
+pub mod Finding
+pub mod Steps
+pub mod Words

@@ -1,0 +1,62 @@
+-- Widths of what stands in a stage, and statements that can be walked.
+use Rattle.std.specs.Prelude.{◌≡◌, ℕ, ◌^◌, ◌<◌, Bool, true, false, List, length, take}
+use Rattle.pdl_model.specs.Flat.{Op, DelayedRead, SpecCall, Verify, SpecCheck, SpecBarrier, Stmt, Pipe}
+use Rattle.pdl_model.specs.Stages.{mem_at}
+use Rattle.pdl_form.specs.Form.{Form, stmt_at}
+use Rattle.pdl_formtypes.specs.Stmts.{IsTypedStmt}
+use Rattle.pdl_net.specs.Circuit.{Circuit}
+use Rattle.pdl_flatnets.specs.Nets.{widths_of}
+use Rattle.pdl_pipe_law.specs.Walk.{Reservation, Put, Letting, Birth}
+use Rattle.pdl_stagenets.specs.declared.nets.WalkNets.{WalkNets}
+use Rattle.pdl_stagenets.specs.Parts.{Each, Held, Parts, parts_in, IsThereWalk}
+
+-- conditions have 1 bit, an address reaches each word of its memory and no more, a value has its memory's width
+abbrev pub IsSizedReserve : Pipe → Reservation → Type 0
+IsSizedReserve p r = (r.mem < length p.mems) × (r.on.width ≡ 1) × (2 ^ r.addr.width ≡ (mem_at p r.mem).depth)
+
+abbrev pub IsSizedPut : Pipe → Put → Type 0
+IsSizedPut p x = (x.mem < length p.mems) × (x.on.width ≡ 1) × (x.value.width ≡ (mem_at p x.mem).width)
+
+-- a call's arguments have the widths of the first variables
+abbrev pub IsSizedBirth : Pipe → List ℕ → Birth → Type 0
+IsSizedBirth p ws x = (x.on.width ≡ 1) × (widths_of x.args ≡ take (length p.start) ws)
+
+-- the variables have these widths
+pub record IsSized (p : Pipe) (ws : List ℕ) (w : Parts) : Type 0 where
+  pub vars : widths_of w.vars ≡ ws
+  pub held : Each (λ (h : Held). h.signal.width ≡ 1) w.held
+  pub ready : w.ready.width ≡ 1
+  pub reserves : Each (IsSizedReserve p) w.reserves
+  pub puts : Each (IsSizedPut p) w.puts
+  pub lettings : Each (λ (x : Letting). x.on.width ≡ 1) w.lettings
+  pub births : Each (IsSizedBirth p ws) w.births
+
+-- a stage's nets are there, with their widths
+pub record IsWalk (c : Circuit) (p : Pipe) (ws : List ℕ) (w : WalkNets) : Type 0 where
+  pub there : IsThereWalk c w
+  pub sized : IsSized p ws (parts_in c w)
+
+-- those of a stage of a flat form
+abbrev pub IsWalkOf : Form → Circuit → WalkNets → Type 0
+IsWalkOf f c w = IsWalk c f.pipe f.widths w
+
+-- ---- statements
+
+-- statements of which nets are made here: none of them has to do with guesses or delayed memories
+abbrev pub is_walked : Op → Bool
+is_walked (DelayedRead x m a) = false
+is_walked (SpecCall args) = false
+is_walked (Verify args) = false
+is_walked SpecCheck = false
+is_walked SpecBarrier = false
+is_walked _ = true
+
+abbrev pub IsWalked : Form → Stmt → Type 0
+IsWalked f x = IsTypedStmt f x × (is_walked x.op ≡ true)
+
+abbrev pub AreWalked : Form → List Stmt → Type 0
+AreWalked f xs = Each (IsWalked f) xs
+
+-- each of these numbers is that of such a statement
+abbrev pub AreWalkedRows : Form → List Stmt → List ℕ → Type 0
+AreWalkedRows f xs is = Each (λ (i : ℕ). (i < length xs) × IsWalked f (stmt_at xs i)) is

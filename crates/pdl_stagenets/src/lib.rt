@@ -1,0 +1,13 @@
+//! The statements of a stage as nets.
+#![tactic(auto)]
+
+pub mod locks;
+pub mod nets;
+pub mod rows;
+#[cfg(test)]
+mod tests;
+pub mod update;
+pub mod vars;
+
+pub use locks::MemLock;
+pub use nets::{BirthNet, HeldNet, LettingNet, PutNet, ReserveNet, WalkNets};

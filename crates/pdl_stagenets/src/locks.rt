@@ -1,0 +1,161 @@
+// Looks at the locks, and words of memories.
+ghost use Rattle.std.specs.Prelude.{◌≡◌, ◌^◌, ◌<◌, true, Some, IfOk, length, is_some, option_map};
+ghost use Rattle.pdl_form.specs.Whole.{form};
+ghost use Rattle.pdl_model.specs.Stages.{mem_at};
+ghost use Rattle.pdl_net.specs.Meaning.{IsThere, Means, signal};
+ghost use Rattle.pdl_net.specs.Growth.{Extends};
+ghost use Rattle.pdl_lockapi.specs.declared.Kind.TheVariants as look_kind;
+ghost use Rattle.pdl_lockapi.specs.Laws.{HasValueNet};
+ghost use Rattle.pdl_flatnets.specs.Nets.{signals_in, signal_at};
+ghost use Rattle.pdl_flatnets.specs.Conditions.{AreBits};
+ghost use Rattle.pdl_pipe_law.specs.Walk.{is_locked};
+ghost use Rattle.pdl_stagenets.specs.Locked.{members, some_at, AreLocked, room_net, locks_in};
+ghost use Rattle.pdl_stagenets.specs.Words.{IsLookOf, IsWordSignal, IsLooked};
+
+use pdl_build::Builder;
+use pdl_flatnets::{Bits, are_same};
+use pdl_form::FlatPipe;
+use pdl_kit::NoMemory;
+use pdl_lockapi::{Kind, LockModule, LockRegs, Look};
+use pdl_net::Net;
+
+/// The lock of a memory: what makes it, and its part of the circuit.
+#[derive(Drop)]
+pub struct MemLock<L> {
+    pub lock: L,
+    pub regs: LockRegs,
+}
+
+// The lock of a memory that has one.
+fn lock_of<L>(locks: &[Option<MemLock<L>>], m: usize) -> &MemLock<L>
+    requires low { m < length locks.now }
+    requires some { is_some (some_at locks.now m) ≡ true }
+    ensures { some_at locks.now m ≡ Some result.now }
+{
+    match &locks[m] {
+        Some(x) => x,
+        None => unreachable!(),
+    }
+}
+
+// Whether a memory has a lock.
+fn has_lock<L>(locks: &[Option<MemLock<L>>], m: usize) -> bool
+    requires { m < length locks.now }
+    ensures { result ≡ is_some (some_at locks.now m) }
+{
+    locks[m].is_some()
+}
+
+// The value of a look.
+fn value_of(look: Look) -> Net
+    requires { is_some look.value ≡ true }
+    ensures { look.value ≡ Some result }
+{
+    match look.value {
+        Some(x) => x,
+        None => unreachable!(),
+    }
+}
+
+/// A look through the lock of a memory, at an address with a ticket.
+pub(crate) fn look<L: LockModule>(
+    b: &mut Builder,
+    pipe: &FlatPipe,
+    locks: &[Option<MemLock<L>>],
+    m: usize,
+    kind: Kind,
+    addr: Net,
+    ticket: Net,
+) -> Result<Look, NoMemory>
+    requires locks { AreLocked (members L.LockModule) b.old (form pipe.now).pipe locks.now }
+    requires low { m < length (form pipe.now).pipe.mems }
+    requires locked { is_locked (form pipe.now).pipe m ≡ true }
+    requires addr_there { IsThere b.old addr }
+    requires addr_reach { 2 ^ (signal b.old addr).width ≡ (mem_at (form pipe.now).pipe m).depth }
+    requires ticket_there { IsThere b.old ticket }
+    requires ticket_wide { (signal b.old ticket).width ≡ (locks_in (members L.LockModule) b.old locks.now).bits m }
+    ensures ready_there { IfOk result (λ l. IsThere b.new l.ready) }
+    ensures ready_one { IfOk result (λ l. (signal b.new l.ready).width ≡ 1) }
+    ensures has_value { IfOk result (λ l. is_some l.value ≡ true) }
+    ensures value { IfOk result (λ l. HasValueNet b.new (mem_at (form pipe.now).pipe m).width l.value) }
+    ensures law { IfOk result (λ l. IsLookOf (locks_in (members L.LockModule) b.old locks.now) m kind (signal b.old addr) (signal b.old ticket) (signal b.new l.ready) (option_map (signal b.new) l.value)) }
+    ensures extends { Extends b.old b.new }
+{
+    let x = lock_of(locks, m);
+    x.lock.emit_look(b, &x.regs, kind, addr, ticket)
+}
+
+/// The word of a memory at the address that a variable holds.
+pub(crate) fn word<L: LockModule>(
+    b: &mut Builder,
+    pipe: &FlatPipe,
+    locks: &[Option<MemLock<L>>],
+    m: usize,
+    addr: Net,
+    ticket: Net,
+) -> Result<Net, NoMemory>
+    requires locks { AreLocked (members L.LockModule) b.old (form pipe.now).pipe locks.now }
+    requires low { m < length (form pipe.now).pipe.mems }
+    requires addr_there { IsThere b.old addr }
+    requires addr_reach { 2 ^ (signal b.old addr).width ≡ (mem_at (form pipe.now).pipe m).depth }
+    requires ticket_there { IsThere b.old ticket }
+    requires ticket_wide { is_locked (form pipe.now).pipe m ≡ true → (signal b.old ticket).width ≡ (locks_in (members L.LockModule) b.old locks.now).bits m }
+    ensures there { IfOk result (λ x. IsThere b.new x) }
+    ensures wide { IfOk result (λ x. (signal b.new x).width ≡ (mem_at (form pipe.now).pipe m).width) }
+    ensures word { IfOk result (λ x. IsWordSignal (form pipe.now).pipe (locks_in (members L.LockModule) b.old locks.now) m (signal b.old addr) (signal b.old ticket) (signal b.new x)) }
+    ensures extends { Extends b.old b.new }
+{
+    if has_lock(locks, m) {
+        let look = look(b, pipe, locks, m, Kind::R, addr, ticket)?;
+        Ok(value_of(look))
+    } else {
+        b.read(m, addr)
+    }
+}
+
+/// Whether a reservation for writing has room.
+pub(crate) fn room<L: LockModule>(locks: &[Option<MemLock<L>>], m: usize) -> Net
+    requires low { m < length locks.now }
+    requires some { is_some (some_at locks.now m) ≡ true }
+    ensures { result ≡ room_net (some_at locks.now m) }
+{
+    lock_of(locks, m).regs.room
+}
+
+/// Whether a look is ready, for writing where `held` is 1 and else for reading.
+pub(crate) fn look_held<L: LockModule>(
+    b: &mut Builder,
+    pipe: &FlatPipe,
+    bits: Bits,
+    locks: &[Option<MemLock<L>>],
+    m: usize,
+    held: Net,
+    addr: Net,
+    ticket: Net,
+) -> Result<Net, NoMemory>
+    requires locks { AreLocked (members L.LockModule) b.old (form pipe.now).pipe locks.now }
+    requires low { m < length (form pipe.now).pipe.mems }
+    requires locked { is_locked (form pipe.now).pipe m ≡ true }
+    requires bits { AreBits b.old bits }
+    requires held_there { IsThere b.old held }
+    requires held_one { (signal b.old held).width ≡ 1 }
+    requires addr_there { IsThere b.old addr }
+    requires addr_reach { 2 ^ (signal b.old addr).width ≡ (mem_at (form pipe.now).pipe m).depth }
+    requires ticket_there { IsThere b.old ticket }
+    requires ticket_wide { (signal b.old ticket).width ≡ (locks_in (members L.LockModule) b.old locks.now).bits m }
+    ensures there { IfOk result (λ x. IsThere b.new x) }
+    ensures one { IfOk result (λ x. (signal b.new x).width ≡ 1) }
+    ensures looked { IfOk result (λ x. IsLooked (locks_in (members L.LockModule) b.old locks.now) m (signal b.old held) (signal b.old addr) (signal b.old ticket) (signal b.new x)) }
+    ensures extends { Extends b.old b.new }
+{
+    if are_same(held, bits.one) {
+        let write = look(b, pipe, locks, m, Kind::W, addr, ticket)?;
+        return Ok(write.ready);
+    }
+    let read = look(b, pipe, locks, m, Kind::R, addr, ticket)?;
+    if are_same(held, bits.zero) {
+        return Ok(read.ready);
+    }
+    let write = look(b, pipe, locks, m, Kind::W, addr, ticket)?;
+    bits.pick(b, held, write.ready, read.ready)
+}

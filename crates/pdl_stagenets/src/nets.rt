@@ -1,0 +1,57 @@
+// The nets of a stage on the way through its statements.
+use pdl_kit::Seq;
+use pdl_net::Net;
+
+/// Whether a location, by its memory and the variable of its address, is reserved for writing and not yet released, 1 bit.
+#[derive(Clone, Copy, Debug)]
+pub struct HeldNet {
+    pub mem: usize,
+    pub var: usize,
+    pub net: Net,
+}
+
+/// A reservation for writing: whether it is made, 1 bit, and its address.
+#[derive(Clone, Copy, Debug)]
+pub struct ReserveNet {
+    pub mem: usize,
+    pub on: Net,
+    pub addr: Net,
+}
+
+/// A write: whether it is made, 1 bit, and its value.
+#[derive(Clone, Copy, Debug)]
+pub struct PutNet {
+    pub mem: usize,
+    pub on: Net,
+    pub value: Net,
+}
+
+/// A release of a write reservation: whether it is made, 1 bit.
+#[derive(Clone, Copy, Debug)]
+pub struct LettingNet {
+    pub mem: usize,
+    pub on: Net,
+}
+
+/// A call: whether it is made, 1 bit, and its arguments.
+#[derive(Drop)]
+pub struct BirthNet {
+    pub on: Net,
+    pub args: Seq<Net>,
+}
+
+/// A stage on the way through its statements: its variables by their numbers, what it holds for writing, whether the locks let its thread move so far (1 bit), and what it does.
+#[derive(Drop)]
+pub struct WalkNets {
+    pub vars: Vec<Net>,
+    /// Of two entries of one location the first counts; a location without entry is not held.
+    pub held: Vec<HeldNet>,
+    pub ready: Net,
+    pub reserves: Seq<ReserveNet>,
+    pub puts: Seq<PutNet>,
+    pub lettings: Seq<LettingNet>,
+    /// The latest first.
+    pub births: Vec<BirthNet>,
+    /// The arguments of the guess.
+    pub guess: Seq<Net>,
+}
