@@ -1,0 +1,7 @@
+use Rattle.pdl_gen.proofs.Numbering.{three_pieces}
+use Rattle.pdl_gen.proofs.text.write_reads.Goals as goal
+
+pub returns : goal.returns
+returns c =
+    three_pieces c.args.text.now.items _ _ _ c.extend_from_slice.new.self.items c.write_decimal.new.text.items c.extend_from_slice-2.new.self.items
+    c.in_ok-extend_from_slice.ensures.items c.in_ok-write_decimal.ensures c.in_ok-extend_from_slice-2.ensures.items

@@ -1,0 +1,12 @@
+pub mod Writing
+pub mod Counting
+pub mod Few
+pub mod Fitting
+pub mod Safety
+pub mod Turning
+pub mod Threads
+pub mod Putting
+pub mod Limits
+pub mod First
+pub mod Telling
+pub mod Imaging

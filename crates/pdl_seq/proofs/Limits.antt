@@ -1,0 +1,36 @@
+-- A pipe that keeps the rules has at most 16 memories.
+use Rattle.std.proofs.Common.{◌≡◌, ◌≢◌, refl, sym, ap, ◌∙◌, ℕ, suc, ◌+◌, ◌≤◌, List, [], ◌∷◌, ◌++◌, map, length, append_assoc, arith}
+use Rattle.std.specs.Prelude.{count_by}
+use Rattle.std.proofs.lemmas.Bool.{eqb-false}
+use Rattle.pdl_kit.specs.declared.rule.Rule.TheVariants.{Z4}
+use Rattle.pdl_model.specs.Tree.{Param, Mem, Pipe}
+use Rattle.pdl_model.specs.Flatten.{mems_of}
+use Rattle.pdl_rules.specs.Places.{Place, Parameter, Memory, statements, places}
+use Rattle.pdl_rules.specs.Limits.{is_memory}
+use Rattle.pdl_rules.specs.Refusal.{KeepsRules}
+use Rattle.pdl_rules.proofs.Counts.{count_push, count_cons}
+use Rattle.pdl_rules.proofs.Straight.{closing}
+use Rattle.pdl_formtypes.proofs.Behind.{by_params}
+
+no_params : (ps : List Param) → count_by is_memory (map Parameter ps) ≡ 0
+no_params [] = refl
+no_params (a ∷ ps) = let one = count_cons is_memory (Parameter a) (map Parameter ps) in let rest = no_params ps in omega arith
+
+as_many : (ms : List Mem) → length (mems_of ms) ≡ length ms
+as_many [] = refl
+as_many (m ∷ ms) = ap suc (as_many ms)
+
+module _ (p : Pipe) (rules : KeepsRules p) where
+  few_from : (ms : List Mem) (before later : List Place) (k : ℕ) → places p ≡ before ++ (map Memory ms ++ later) → count_by is_memory before ≡ k → k ≤ 16 → k + length ms ≤ 16
+  few_from [] before later k e n h = omega arith
+  few_from (m ∷ ms) before later k e n h =
+      let not_full : count_by is_memory before ≢ 16 = eqb-false _ 16 (rules Z4 before (Memory m) _ e) in
+      let one : count_by is_memory (before ++ Memory m ∷ []) ≡ k + 1 = count_push is_memory before (Memory m) ∙ ap (λ i. i + 1) n in
+      let rest : k + 1 + length ms ≤ 16 = few_from ms (before ++ Memory m ∷ []) later (k + 1) (e ∙ sym (append_assoc before (Memory m ∷ []) (map Memory ms ++ later))) one (omega arith) in
+      omega arith
+
+  pub few_mems : length (mems_of p.mems) ≤ 16
+  few_mems =
+      let same = as_many p.mems in
+      let few : 0 + length p.mems ≤ 16 = few_from p.mems (map Parameter p.params) (statements [] p.body ++ closing p) 0 (by_params p rules) (no_params p.params) (omega arith) in
+      omega arith

@@ -1,0 +1,5 @@
+use Rattle.pdl_seq.proofs.Limits.{few_mems}
+use Rattle.pdl_seq.proofs.accepted.runnable.Goals as goal
+
+pub returns : goal.returns
+returns c = λ p rules source named. record { typed = c.typed_form.ensures p rules named; sound = c.sound.ensures p rules source named; few = few_mems p rules }

@@ -1,0 +1,75 @@
+use Rattle.std.proofs.Common.{◌≡◌, ◌≤◌, ◌+◌, ◌++◌, ◌∙◌, List, refl, sym, ap, subst, suc, map, length, arith}
+use Rattle.std.specs.Prelude.{vec_capacity}
+use Rattle.pdl_model.specs.Flat.{arrays_of}
+use Rattle.pdl_model.specs.Sequential.{Run, run_all, thread}
+use Rattle.pdl_form.specs.Whole.{form}
+use Rattle.pdl_seq.specs.Turns.{Rooms, rooms, commits_view, run_view}
+use Rattle.pdl_seq.specs.Runs.{Running, HasRun, told}
+use Rattle.pdl_seq.specs.declared.commit.Commit as r_commit
+use Rattle.pdl_seq.proofs.Few.{few, few_lent}
+use Rattle.pdl_seq.proofs.Telling.{told_more}
+use Rattle.pdl_seq.proofs.Threads.{arrays_next, args_next, writes_next}
+use Rattle.pdl_seq.proofs.run.SeqRun.next_thread.Goals as goal
+
+pub run_turn-requires-clause-room : goal.run_turn-requires-clause-room
+run_turn-requires-clause-room c =
+    let f = form c.self.inside.pipe.now in
+    let begun : length (run_all f.pipe.stmts (run_view c.begin.new.turn)).writes ≡ length (thread f.pipe (arrays_of c.self.inside.turn.memories.items) c.self.inside.turn.next.items).writes =
+    ap (λ (r : Run). length (run_all f.pipe.stmts r).writes) c.begin.ensures.run in
+    let most = few f c.self.invariant.runnable (arrays_of c.self.inside.turn.memories.items) c.self.inside.turn.next.items in
+    let same : vec_capacity c.begin.new.turn.commits ≡ vec_capacity c.self.inside.turn.commits = ap (λ (r : Rooms). r.commits) c.begin.ensures.rooms in
+    let room : 16 ≤ vec_capacity c.self.inside.turn.commits = c.self.invariant.commits in
+    omega arith
+
+pub tell-requires : goal.tell-requires
+tell-requires c =
+    let p = (form c.self.inside.pipe.now).pipe in
+    let ran : run_view c.run_turn.new.turn ≡ thread p (arrays_of c.self.inside.turn.memories.items) c.self.inside.turn.next.items = c.run_turn.ensures.run ∙ ap (run_all p.stmts) c.begin.ensures.run in
+    let most = few_lent (form c.self.inside.pipe.now) c.self.invariant.runnable _ _ (run_view c.run_turn.new.turn) c.run_turn.new.turn.commits.items c.as_slice.result.now ran refl c.as_slice.ensures.value in
+    let run : c.self.inside.run ≡ c.args.self.now.run = ap (λ (r : Running). r.run) c.self.view_is in
+    let threads : c.self.inside.threads ≡ c.args.self.now.threads = ap (λ (r : Running). r.threads) c.self.view_is in
+    let left = c.requires in
+    let room = c.self.invariant.writes in
+    record { room = omega arith }
+
+pub invariant_of-self : goal.invariant_of-self
+invariant_of-self c =
+    let f = form c.self.inside.pipe.now in
+    let ran : run_view c.run_turn.new.turn ≡ thread f.pipe (arrays_of c.self.inside.turn.memories.items) c.self.inside.turn.next.items = c.run_turn.ensures.run ∙ ap (run_all f.pipe.stmts) c.begin.ensures.run in
+    let most = few_lent f c.self.invariant.runnable _ _ (run_view c.run_turn.new.turn) c.run_turn.new.turn.commits.items c.as_slice.result.now ran refl c.as_slice.ensures.value in
+    let run : c.self.inside.run ≡ c.args.self.now.run = ap (λ (r : Running). r.run) c.self.view_is in
+    let threads : c.self.inside.threads ≡ c.args.self.now.threads = ap (λ (r : Running). r.threads) c.self.view_is in
+    let left = c.requires in
+    let room = c.self.invariant.writes in
+    let count = c.tell.ensures.count in
+    let capacity = c.tell.ensures.room in
+    let same : rooms c.run_turn.new.turn ≡ rooms c.self.inside.turn = c.run_turn.ensures.rooms ∙ c.begin.ensures.rooms in
+    record {
+      runnable = c.self.invariant.runnable;
+      fit = c.run_turn.ensures.fit;
+      next = subst (λ (r : Rooms). length f.pipe.start ≤ r.next) (sym same) c.self.invariant.next;
+      commits = subst (λ (r : Rooms). 16 ≤ r.commits) (sym same) c.self.invariant.commits;
+      writes = omega arith;
+      count = omega arith;
+      told =
+          told_more f.pipe (c.self.inside.run + 1) c.self.inside.writes.items c.tell.new.writes.items c.as_slice.result.now c.run_turn.new.turn.commits.items c.tell.ensures.writes c.as_slice.ensures.value c.self.invariant.told
+          c.run_turn.ensures.fit.fitting.commits;
+    }
+
+pub returns-clause-run : goal.returns-clause-run
+returns-clause-run c = λ image h.
+    let p = (form c.self.inside.pipe.now).pipe in
+    let k = c.self.inside.run in
+    let old = subst (λ (r : Running). HasRun r image) (sym c.self.view_is) h in
+    let start = arrays_of image in
+    let more : k + 1 ≡ suc k = omega arith in
+    let arrays = arrays_of c.self.inside.turn.memories.items in
+    let args = c.self.inside.turn.next.items in
+    let ran : run_view c.run_turn.new.turn ≡ thread p arrays args = c.run_turn.ensures.run ∙ ap (run_all p.stmts) c.begin.ensures.run in
+    record {
+      writes =
+          writes_next p start k (k + 1) more arrays args (run_view c.run_turn.new.turn) old.memories old.next ran c.self.inside.writes.items c.tell.new.writes.items old.writes
+          (c.tell.ensures.writes ∙ ap (λ (cs : List r_commit.Commit). c.self.inside.writes.items ++ map (told (k + 1)) (commits_view cs)) c.as_slice.ensures.value);
+      memories = arrays_next p start k (k + 1) more arrays args (run_view c.run_turn.new.turn) old.memories old.next ran;
+      next = args_next p start k (k + 1) more arrays args (run_view c.run_turn.new.turn) old.memories old.next ran;
+    }

@@ -1,0 +1,28 @@
+-- The fields of a sequential run.
+use Rattle.std.specs.Prelude.{◌+◌, ◌*◌, ◌-◌, ◌≤◌, length, vec_len, vec_capacity}
+use Rattle.pdl_form.specs.Whole.{form}
+use Rattle.pdl_seq.specs.declared.run.SeqRun.TheInside.{Inside}
+use Rattle.pdl_seq.specs.Turns.{rooms}
+use Rattle.pdl_seq.specs.Fits.{IsFit, AreWrites}
+use Rattle.pdl_seq.specs.Runs.{IsRunnable, Running}
+
+abbrev pub running : Inside → Running
+running r =
+    record {
+      pipe = r.pipe.now;
+      memories = r.turn.memories.items;
+      next = r.turn.next.items;
+      writes = r.writes.items;
+      run = r.run;
+      threads = r.threads;
+    }
+
+-- its pipe can be run, and there is room for the threads that are left
+pub record IsReady (r : Inside) : Type 0 where
+  pub runnable : IsRunnable (form r.pipe.now)
+  pub fit : IsFit (form r.pipe.now) r.turn
+  pub next : length (form r.pipe.now).pipe.start ≤ (rooms r.turn).next
+  pub commits : 16 ≤ (rooms r.turn).commits
+  pub writes : vec_len r.writes + 16 * (r.threads - r.run) ≤ vec_capacity r.writes
+  pub count : r.run ≤ r.threads
+  pub told : AreWrites (form r.pipe.now).pipe r.writes.items

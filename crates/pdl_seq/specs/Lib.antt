@@ -1,0 +1,4 @@
+pub mod Turns
+pub mod Fits
+pub mod Runs
+pub mod Inside

@@ -1,0 +1,45 @@
+-- What a sequential run has done after some threads.
+use Rattle.std.specs.Prelude.{◌≡◌, ℕ, suc, ◌≤◌, List, [], ◌∷◌, ◌++◌, map, length}
+use Rattle.pdl_model.specs.Flat.{Commit, arrays_of}
+use Rattle.pdl_model.specs.Sequential.{threads, after_turns}
+use Rattle.pdl_model.specs.Lines.{Column, column_at, put_line}
+use Rattle.pdl_facts.specs.Facts.{Sound}
+use Rattle.pdl_form.specs.Form.{Form}
+use Rattle.pdl_form.specs.declared.flat.FlatPipe as r_pipe
+use Rattle.pdl_form.specs.Whole.{form}
+use Rattle.pdl_formtypes.specs.Stmts.{IsTypedForm}
+use Rattle.pdl_seq.specs.declared.commit.Write as r_write
+
+-- a pipe that can be run thread by thread: its flat form is typed and has the facts of an accepted pipe, and it has at most 16 memories
+pub record IsRunnable (f : Form) : Type 0 where
+  pub typed : IsTypedForm f
+  pub sound : Sound f.pipe
+  pub few : length f.pipe.mems ≤ 16
+
+-- a write with the number of its thread
+abbrev pub told : ℕ → Commit → r_write.Write
+told n c = record { thread = n; mem = c.mem; addr = c.address; value = c.value }
+
+-- the writes of threads, of which the first has this number
+abbrev pub numbered : ℕ → List (List Commit) → List r_write.Write
+numbered n [] = []
+numbered n (cs ∷ rest) = map (told n) cs ++ numbered (suc n) rest
+
+-- the line of a write, where the memories are these
+abbrev pub write_line : List Column → r_write.Write → List ℕ
+write_line ms w = put_line w.thread (column_at ms w.mem) (record { address = w.addr; value = w.value })
+
+-- a run: its pipe, the words of the memories, the next thread's arguments, the writes, and how many threads were run, and may be
+pub record Running : Type 0 where
+  pub pipe : r_pipe.FlatPipe
+  pub memories : List (List ℕ)
+  pub next : List ℕ
+  pub writes : List r_write.Write
+  pub run : ℕ
+  pub threads : ℕ
+
+-- it has run its threads from this image: its writes are theirs, and it stands where they have come to
+pub record HasRun (r : Running) (image : List (List ℕ)) : Type 0 where
+  pub writes : r.writes ≡ numbered 1 (threads (form r.pipe).pipe (arrays_of image) r.run)
+  pub memories : arrays_of r.memories ≡ (after_turns (form r.pipe).pipe (arrays_of image) r.run).arrays
+  pub next : r.next ≡ (after_turns (form r.pipe).pipe (arrays_of image) r.run).next

@@ -1,0 +1,18 @@
+// Writes.
+
+/// A write that a thread has done: its memory, the address there and the value.
+#[derive(Clone, Copy, PartialEq, Eq, Debug)]
+pub struct Commit {
+    pub mem: usize,
+    pub addr: u32,
+    pub value: u64,
+}
+
+/// A write of a run: the number of its thread, counted from 1, its memory, counted from 0 in declared order, the address there and the value.
+#[derive(Clone, Copy, PartialEq, Eq, Debug)]
+pub struct Write {
+    pub thread: u32,
+    pub mem: usize,
+    pub addr: u32,
+    pub value: u64,
+}

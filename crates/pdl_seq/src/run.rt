@@ -1,0 +1,92 @@
+// A sequential run.
+ghost use Rattle.std.specs.Prelude.{◌≡◌, ◌<◌, ◌+◌, [], List, ℕ, IfOk};
+ghost use Rattle.pdl_form.specs.Whole.{form};
+ghost use Rattle.pdl_seq.specs.Fits.{IsImageFor, AreWrites};
+ghost use Rattle.pdl_seq.specs.Runs.{IsRunnable, HasRun};
+
+use crate::begin::{begin, tell};
+use crate::commit::Write;
+use crate::setup::{MOST_WRITES, before_all};
+use crate::turn::{Turn, run_turn};
+use pdl_form::FlatPipe;
+use pdl_image::Image;
+use pdl_kit::NoMemory;
+use std::alloc::Global;
+use std::marker::Model;
+
+/// A run of a pipe's threads, one after another.
+#[derive(Drop)]
+pub struct SeqRun<'p> {
+    pipe: &'p FlatPipe,
+    turn: Turn,
+    writes: Vec<Write>,
+    run: u32,
+    threads: u32,
+}
+
+impl<'p> Model for SeqRun<'p> {
+    ghost use Rattle.std.specs.Coded.{codes};
+    ghost use Rattle.pdl_form.specs.contracts.form.Expr as expr;
+    ghost use Rattle.pdl_seq.specs.Runs.{Running};
+
+    ghost Value = { Running };
+
+    ghost coded = { Prim.hlevel (codes, expr.the_row.coded) };
+
+    ghost use Rattle.pdl_seq.specs.Inside.{running, IsReady};
+
+    ghost view = { running };
+
+    ghost invariant = { IsReady };
+}
+
+impl<'p> SeqRun<'p> {
+    /// The run of a pipe whose memories hold the image, with room for so many threads, of which none was run.
+    pub fn new(
+        alloc: Global,
+        pipe: &'p FlatPipe,
+        image: &Image,
+        threads: u32,
+    ) -> Result<SeqRun<'p>, NoMemory>
+        requires run { IsRunnable (form pipe.now) }
+        requires image { IsImageFor (form pipe.now).pipe image.now }
+        ensures run { IfOk result (λ r. HasRun r image.now) }
+        ensures pipe { IfOk result (λ r. r.pipe ≡ pipe.now) }
+        ensures count { IfOk result (λ r. r.run ≡ 0) }
+        ensures threads { IfOk result (λ r. r.threads ≡ threads) }
+        ensures writes { IfOk result (λ r. r.writes ≡ []) }
+    {
+        let turn = before_all(alloc, pipe, image)?;
+        let writes = Vec::with_capacity(alloc, MOST_WRITES * threads as usize)?;
+        Ok(SeqRun {
+            pipe,
+            turn,
+            writes,
+            run: 0,
+            threads,
+        })
+    }
+
+    /// Runs the next thread to its end, without taking memory.
+    pub fn next_thread(&mut self)
+        requires { self.old.run < self.old.threads }
+        // Whatever image the threads so far ran from, this one runs on from.
+        ensures run { (image : List (List ℕ)) → HasRun self.old image → HasRun self.new image }
+        ensures pipe { self.new.pipe ≡ self.old.pipe }
+        ensures count { self.new.run ≡ self.old.run + 1 }
+        ensures threads { self.new.threads ≡ self.old.threads }
+    {
+        begin(self.pipe, &mut self.turn);
+        run_turn(self.pipe, &mut self.turn);
+        self.run += 1;
+        tell(self.run, self.turn.commits.as_slice(), &mut self.writes);
+    }
+
+    /// Lends the writes of the threads that were run, thread by thread, each thread's in text order.
+    pub fn writes(&self) -> &[Write]
+        ensures writes { result.now ≡ self.now.writes }
+        ensures words { AreWrites (form self.now.pipe).pipe result.now }
+    {
+        self.writes.as_slice()
+    }
+}

@@ -1,0 +1,65 @@
+// What a run begins with.
+ghost use Rattle.std.specs.Prelude.{◌≡◌, ◌≤◌, [], length, replicate, IfOk, vec_capacity};
+ghost use Rattle.pdl_form.specs.Whole.{form};
+ghost use Rattle.pdl_seq.specs.Turns.{rooms};
+
+use crate::turn::Turn;
+use crate::words::Words;
+use pdl_form::FlatPipe;
+use pdl_image::Image;
+use pdl_kit::NoMemory;
+use std::alloc::Global;
+
+/// How many writes a thread has at most.
+pub const MOST_WRITES: usize = 16;
+
+// The memories with the words of an image.
+fn memories(alloc: Global, image: &Image, count: usize) -> Result<Vec<Words>, NoMemory>
+    requires { count ≡ length image.now }
+    ensures { IfOk result (λ v. v.items ≡ image.now) }
+{
+    let mut memories = Vec::new(alloc);
+    for m in 0..count {
+        memories.push(Words::new(alloc, image.words(m))?)?;
+    }
+    Ok(memories)
+}
+
+// So many zeros.
+fn zeros(alloc: Global, count: usize) -> Result<Vec<u64>, NoMemory>
+    ensures { IfOk result (λ v. v.items ≡ replicate count 0) }
+{
+    let mut words = Vec::new(alloc);
+    words.resize(count, 0)?;
+    Ok(words)
+}
+
+// The arguments of the first thread.
+fn first_args(alloc: Global, start: &[u64]) -> Result<Vec<u64>, NoMemory>
+    ensures items { IfOk result (λ v. v.items ≡ start.now) }
+    ensures room { IfOk result (λ v. length start.now ≤ vec_capacity v) }
+{
+    Ok(Vec::from_slice(alloc, start)?)
+}
+
+/// What threads run on, before the first one begins.
+pub fn before_all(alloc: Global, pipe: &FlatPipe, image: &Image) -> Result<Turn, NoMemory>
+    requires { length image.now ≡ length (form pipe.now).pipe.mems }
+    ensures memories { IfOk result (λ t. t.memories.items ≡ image.now) }
+    ensures values { IfOk result (λ t. t.values.items ≡ replicate (form pipe.now).pipe.vars 0) }
+    ensures next { IfOk result (λ t. t.next.items ≡ (form pipe.now).pipe.start) }
+    ensures args { IfOk result (λ t. length (form pipe.now).pipe.start ≤ (rooms t).next) }
+    ensures none { IfOk result (λ t. t.commits.items ≡ []) }
+    ensures commits { IfOk result (λ t. 16 ≤ (rooms t).commits) }
+{
+    let memories = memories(alloc, image, pipe.mems().len())?;
+    let values = zeros(alloc, pipe.vars())?;
+    let next = first_args(alloc, pipe.start())?;
+    let commits = Vec::with_capacity(alloc, MOST_WRITES)?;
+    Ok(Turn {
+        memories,
+        values,
+        next,
+        commits,
+    })
+}
