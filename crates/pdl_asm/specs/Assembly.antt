@@ -3,7 +3,7 @@ use Rattle.std.specs.Prelude.{◌≡◌, ℕ, ℤ, pos, negsuc, ◌+ℤ◌, ◌+
 use Rattle.std.specs.List.{range_with_len}
 use Rattle.pdl_kit.specs.declared.rule.Rule.{Rule}
 use Rattle.pdl_kit.specs.declared.rule.Rule.TheVariants.{A1, A2, A5, A6, A7, A8}
-use Rattle.pdl_model.specs.Lines.{hex, hex_digits}
+use Rattle.pdl_semantics.specs.Lines.{hex, hex_digits}
 use Rattle.pdl_image.specs.Lines.{lines}
 use Rattle.pdl_asmtable.specs.Dictionaries.{value_of, defined}
 use Rattle.pdl_asmtable.specs.declared.table.Insn.{Insn as TableInsn}

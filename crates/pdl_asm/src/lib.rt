@@ -14,8 +14,6 @@ mod operation;
 mod place;
 mod rules;
 mod sign;
-#[cfg(test)]
-mod tests;
 mod text;
 mod values;
 mod words;

@@ -10,8 +10,6 @@ pub mod names;
 pub mod read;
 pub mod table;
 pub mod table_error;
-#[cfg(test)]
-mod tests;
 
 pub use dictionary::Dictionary;
 pub use names::is_name;

@@ -1,7 +1,7 @@
 -- Guards, with one place more.
 use Rattle.std.proofs.Common.{◌≡◌, refl, sym, ap, ◌∙◌, ℕ, suc, ◌+◌, Bool, true, false, ◌&&◌, ◌||◌, ◌==◌, not, nat_le, List, [], ◌∷◌, take, length, slice_get, Option, Some, None, if◌then◌else◌, arith}
 use Rattle.std.proofs.lemmas.Bool.Decides.{leb_tells}
-use Rattle.pdl_model.specs.Tree.{If}
+use Rattle.pdl_semantics.specs.Tree.{If}
 use Rattle.pdl_rules.specs.Places.{Place, Statement, Guard, same_guard, is_among, with_guard, guards}
 use Rattle.pdl_rules.specs.Limits.{breaks_z6}
 use Rattle.pdl_rules.proofs.Once.{fold_push}

@@ -1,7 +1,7 @@
 -- The lowest rule of some lines.
 use Rattle.std.proofs.Common.{◌≡◌, refl, ap₂, ◌∙◌, [], None}
 use Rattle.pdl_kit.specs.declared.rule.Rule.TheVariants.{Z2, Z3, Z4, Z5, Z6, Z7}
-use Rattle.pdl_model.specs.Tree.{Pipe}
+use Rattle.pdl_semantics.specs.Tree.{Pipe}
 use Rattle.pdl_rules.specs.Places.{places}
 use Rattle.pdl_rules.specs.Refusal.{refused_at, first_broken, limits}
 use Rattle.pdl_pathrules.proofs.Lines.{rule_lines}

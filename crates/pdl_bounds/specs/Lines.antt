@@ -1,7 +1,7 @@
 -- The lines of the places that are over a limit first.
 use Rattle.std.specs.Prelude.{◌≡◌, List, []}
 use Rattle.pdl_kit.specs.declared.rule.Rule.TheVariants as rules
-use Rattle.pdl_model.specs.Tree.{Pipe}
+use Rattle.pdl_semantics.specs.Tree.{Pipe}
 use Rattle.pdl_rules.specs.Places.{Place}
 use Rattle.pdl_rules.specs.Refusal.{breaks}
 use Rattle.pdl_pathrules.specs.Lowest.{line_where}

@@ -1,6 +1,6 @@
 -- New guards.
 use Rattle.std.specs.Prelude.{Bool, false, not, List}
-use Rattle.pdl_model.specs.Tree.{If}
+use Rattle.pdl_semantics.specs.Tree.{If}
 use Rattle.pdl_rules.specs.Places.{Place, Statement, Guard, guard_of, is_among}
 
 -- whether a place is an `if` whose guard is none of these

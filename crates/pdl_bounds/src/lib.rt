@@ -7,7 +7,5 @@ mod lines;
 mod literals;
 mod over;
 mod sizes;
-#[cfg(test)]
-mod tests;
 
 pub use limits::check_limits;

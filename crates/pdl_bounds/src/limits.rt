@@ -1,6 +1,6 @@
 // The limits of a tree.
 ghost use Rattle.std.specs.Prelude.{◌≡◌, ◌+◌, ◌<◌, None, IfOk, OnOk, map, length, take, option_map};
-ghost use Rattle.pdl_model.specs.Tree.{Pipe};
+ghost use Rattle.pdl_semantics.specs.Tree.{Pipe};
 ghost use Rattle.pdl_rules.specs.Places as rules;
 ghost use Rattle.pdl_rules.specs.Refusal.{first_broken, limits as spec_limits};
 ghost use Rattle.pdl_paths.specs.Actions.{place_view};

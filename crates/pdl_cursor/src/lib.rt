@@ -4,7 +4,5 @@
 
 pub mod cursor;
 pub mod limits;
-#[cfg(test)]
-mod tests;
 
 pub use cursor::Cursor;

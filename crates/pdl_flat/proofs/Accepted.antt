@@ -6,8 +6,8 @@ use Rattle.std.proofs.lemmas.List.Folds.{list_any-append, list_all-append}
 use Rattle.std.proofs.lemmas.List.Sums.{sum_by-append, fold-append}
 use Rattle.std.specs.List.{list_any, list_all}
 use Rattle.pdl_kit.specs.declared.rule.Rule.TheVariants.{Z3, Z7, N2, N3, W1, W2, W3}
-use Rattle.pdl_model.specs.Tree.{Expr, Stmt, Separator, CombRead, Bind, SpecCall, DelayedRead, Write, Reserve, Block, Release, If, Call, Verify, SpecCheck, SpecBarrier, Stmts, Nil, Cons, Param, LockDecl, Mem, Pipe}
-use Rattle.pdl_model.specs.Flatten.{Var, width_of, mem_width, params_of, separators, separators_in}
+use Rattle.pdl_semantics.specs.Tree.{Expr, Stmt, Separator, CombRead, Bind, SpecCall, DelayedRead, Write, Reserve, Block, Release, If, Call, Verify, SpecCheck, SpecBarrier, Stmts, Nil, Cons, Param, LockDecl, Mem, Pipe}
+use Rattle.pdl_semantics.specs.Flatten.{Var, width_of, mem_width, params_of, separators, separators_in}
 use Rattle.pdl_rules.specs.Places.{Place, Parameter, Memory, Statement, End, StartClause, Branch, guard_of, with_inner, statements, places, on_some_path}
 use Rattle.pdl_rules.specs.Parts.{some_part, some_expr_of, of_constant, passes}
 use Rattle.pdl_rules.specs.Limits.{is_separator, depths, is_depth, is_size, is_width, allows, is_wrong_lock, is_wrong_literal, breaks_z7}

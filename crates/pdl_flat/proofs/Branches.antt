@@ -2,9 +2,9 @@
 use Rattle.std.proofs.Common.{◌≡◌, ℕ, zero, suc, ◌+◌, ◌≤◌, ◌<◌, ◌==◌, Bool, true, false, if◌then◌else◌, List, [], ◌∷◌, ◌++◌, length, refl, ap, ap₂, sym, ◌∙◌, Option, arith, append_assoc, append-nil, length-append, eqb-true}
 use Rattle.std.proofs.Common.{inl, inr}
 use Rattle.std.proofs.lemmas.Bool.Decides.{eqb_tells}
-use Rattle.pdl_model.specs.Tree.{Span, Expr, Variable, Stmt, Separator, CombRead, Bind, SpecCall, DelayedRead, Write, Reserve, Block, Release, If, Call, Verify, SpecCheck, SpecBarrier, Stmts, Nil, Cons, Mem}
-use Rattle.pdl_model.specs.Flat.{Next, Forks, Goes, Stage, Branch}
-use Rattle.pdl_model.specs.Flatten.{Place, Graph, merging, entry, forks, joined, graph, past, past_all, separators, separators_in, with_guard, at_otherwise, guard_of, side}
+use Rattle.pdl_semantics.specs.Tree.{Span, Expr, Variable, Stmt, Separator, CombRead, Bind, SpecCall, DelayedRead, Write, Reserve, Block, Release, If, Call, Verify, SpecCheck, SpecBarrier, Stmts, Nil, Cons, Mem}
+use Rattle.pdl_semantics.specs.Flat.{Next, Forks, Goes, Stage, Branch}
+use Rattle.pdl_semantics.specs.Flatten.{Place, Graph, merging, entry, forks, joined, graph, past, past_all, separators, separators_in, with_guard, at_otherwise, guard_of, side}
 use Rattle.pdl_flat.specs.Walking.{leading, marked, next_at, closed, settled}
 use Rattle.pdl_flat.proofs.Leading.{leading-append, leading-twice, leading-same, length-leading, next-leading, marked-behind, merging-append}
 

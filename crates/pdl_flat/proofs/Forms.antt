@@ -1,9 +1,9 @@
 -- A flat form from its parts.
 use Rattle.std.proofs.Common.{◌≡◌, ℕ, suc, Bool, List, [], ◌∷◌, map, length, Option, refl, ap, ap₂, ◌∙◌}
-use Rattle.pdl_model.specs.Tree as tree
-use Rattle.pdl_model.specs.Flat.{Op, Mem, Stmt, Stage}
-use Rattle.pdl_model.specs.Flatten.{Var, past_all, at_start, flat_stmts, stages_of, mems_of, start_of, first_stage, first_stages}
-use Rattle.pdl_model.specs.Stages.{is_reserve, is_release}
+use Rattle.pdl_semantics.specs.Tree as tree
+use Rattle.pdl_semantics.specs.Flat.{Op, Mem, Stmt, Stage}
+use Rattle.pdl_semantics.specs.Flatten.{Var, past_all, at_start, flat_stmts, stages_of, mems_of, start_of, first_stage, first_stages}
+use Rattle.pdl_semantics.specs.Stages.{is_reserve, is_release}
 use Rattle.pdl_form.specs.Form.{Form, formed, form_of, names_of, stage_of_each}
 
 long_widths : (vs : List Var) → length (map (λ (v : Var). v.width) vs) ≡ length vs

@@ -1,7 +1,7 @@
 -- Lists of stages of which one leads elsewhere.
 use Rattle.std.proofs.Common.{◌≡◌, ℕ, zero, suc, ◌≤◌, ◌<◌, Bool, true, false, List, [], ◌∷◌, ◌++◌, map, length, get_or, set, Option, Some, None, refl, ap, ap₂, sym, ◌∙◌, arith, append_assoc, length-append}
-use Rattle.pdl_model.specs.Flat.{Next, Ends, Goes, Stage, Branch}
-use Rattle.pdl_model.specs.Flatten.{Graph, merging}
+use Rattle.pdl_semantics.specs.Flat.{Next, Ends, Goes, Stage, Branch}
+use Rattle.pdl_semantics.specs.Flatten.{Graph, merging}
 use Rattle.pdl_form.specs.declared.form.Stage as r_stage
 use Rattle.pdl_form.specs.declared.form.Next as r_next
 use Rattle.pdl_form.specs.View.{stage_view, stages_view, next_view}

@@ -6,7 +6,7 @@ use Rattle.std.specs.Map.{lookup}
 use Rattle.std.proofs.lemmas.Slice.Eq.{bytes_eq-Decides}
 use Rattle.std.proofs.lemmas.Bool.Decides.{same_from_decides}
 use Rattle.indexmap.specs.IndexMap.{insert_entry}
-use Rattle.pdl_model.specs.Flatten.{Var, var_of, var_width}
+use Rattle.pdl_semantics.specs.Flatten.{Var, var_of, var_width}
 use Rattle.pdl_flat.specs.declared.vars.Variable.{Variable}
 use Rattle.pdl_flat.specs.Variables.{vars_of, var_view, number_in, AreNumbered}
 

@@ -1,7 +1,7 @@
 -- No variable or expression of a pipe that keeps the rules is wider than 64 bits.
 use Rattle.std.proofs.Common.{ℕ, ◌+◌, ◌-◌, ◌≤◌, ◌<◌, Bool, true, false, List, [], ◌∷◌, ◌++◌, if◌then◌else◌, nat_lt, bytes_eq, arith}
-use Rattle.pdl_model.specs.Tree.{BinaryOp, Add, Sub, Mul, And, Or, Xor, Equal, Differ, Less, ShiftLeft, ShiftRight, Expr, Constant, Variable, Slice, Not, Binary, Cat, LessSigned, ZeroExtend, SignExtend, Choose, Mem}
-use Rattle.pdl_model.specs.Flatten.{Var, widest, var_width, mem_width, op_width, width_of}
+use Rattle.pdl_semantics.specs.Tree.{BinaryOp, Add, Sub, Mul, And, Or, Xor, Equal, Differ, Less, ShiftLeft, ShiftRight, Expr, Constant, Variable, Slice, Not, Binary, Cat, LessSigned, ZeroExtend, SignExtend, Choose, Mem}
+use Rattle.pdl_semantics.specs.Flatten.{Var, widest, var_width, mem_width, op_width, width_of}
 use Rattle.pdl_rules.specs.Typed.{IsTyped}
 use Rattle.pdl_flat.specs.Sized.{IsSized, AreSizedMems}
 

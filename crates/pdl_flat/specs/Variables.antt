@@ -3,7 +3,7 @@ use Rattle.std.specs.Prelude.{◌≡◌, ℕ, suc, ◌≤◌, nat_eq, bytes_eq, 
 use Rattle.std.specs.Map.{lookup}
 use Rattle.std.specs.Cmp.Lexicographic.{pointwise}
 use Rattle.std.specs.Option.{option_map}
-use Rattle.pdl_model.specs.Flatten.{Var, var_width}
+use Rattle.pdl_semantics.specs.Flatten.{Var, var_width}
 use Rattle.pdl_flat.specs.declared.vars.Variable.{Variable}
 
 abbrev pub var_view : Variable → Var

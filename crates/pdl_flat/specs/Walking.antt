@@ -1,10 +1,10 @@
 -- A walk over the statements of a pipe: what it has made, and how the stages that it has begun are closed.
 use Rattle.std.specs.Prelude.{◌≡◌, ℕ, zero, suc, ◌≤◌, Bool, true, false, List, [], ◌∷◌, ◌++◌, Some, length, slice_index_or}
-use Rattle.pdl_model.specs.Tree.{Stmt, Separator, CombRead, Bind, DelayedRead, If}
-use Rattle.pdl_model.specs.Flat as flat
-use Rattle.pdl_model.specs.Flat.{Op, Next, Stage}
-use Rattle.pdl_model.specs.Flatten.{Place, Graph, merging}
-use Rattle.pdl_model.specs.Stages.{last_stage}
+use Rattle.pdl_semantics.specs.Tree.{Stmt, Separator, CombRead, Bind, DelayedRead, If}
+use Rattle.pdl_semantics.specs.Flat as flat
+use Rattle.pdl_semantics.specs.Flat.{Op, Next, Stage}
+use Rattle.pdl_semantics.specs.Flatten.{Place, Graph, merging}
+use Rattle.pdl_semantics.specs.Stages.{last_stage}
 use Rattle.pdl_flat.specs.declared.walk.Walk.{Walk}
 
 -- where a walk is

@@ -1,7 +1,7 @@
 // The walk over the statements of a pipe.
 ghost use Rattle.std.specs.Prelude.{◌≡◌, ◌≤◌, ◌<◌, ◌++◌, ◌+◌, ◌==◌, suc, true, false, [], ◌∷◌, map, IfOk, OnOk, length, if◌then◌else◌};
-ghost use Rattle.pdl_model.specs.Flat as flat;
-ghost use Rattle.pdl_model.specs.Flatten as spec;
+ghost use Rattle.pdl_semantics.specs.Flat as flat;
+ghost use Rattle.pdl_semantics.specs.Flatten as spec;
 ghost use Rattle.pdl_tree.specs.View as tree;
 ghost use Rattle.pdl_form.specs.View.{guards_view, stmts_view, stages_view, next_view, branch_view};
 ghost use Rattle.pdl_flat.specs.Sized.{IsSized, IsSizedStmt, AreSizedStmts, AreSizedMems};

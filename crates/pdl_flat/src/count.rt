@@ -1,6 +1,6 @@
 // How many stages begin in some statements.
 ghost use Rattle.std.specs.Prelude.{◌≡◌, ◌≤◌};
-ghost use Rattle.pdl_model.specs.Flatten as spec;
+ghost use Rattle.pdl_semantics.specs.Flatten as spec;
 ghost use Rattle.pdl_tree.specs.View.{stmt_view, stmts_view};
 
 use pdl_tree::Stmt;

@@ -1,7 +1,7 @@
 // Expressions over numbered variables.
 ghost use Rattle.std.specs.Prelude.{◌≡◌, ℕ, ◌+◌, ◌-◌, ◌≤◌, if◌then◌else◌, nat_lt, unwrap_or, map, IfOk};
-ghost use Rattle.pdl_model.specs.Flat as flat;
-ghost use Rattle.pdl_model.specs.Flatten as spec;
+ghost use Rattle.pdl_semantics.specs.Flat as flat;
+ghost use Rattle.pdl_semantics.specs.Flatten as spec;
 ghost use Rattle.pdl_tree.specs.View.{expr_view as tree_view, exprs_view as trees_view, op_view};
 ghost use Rattle.pdl_form.specs.View.{expr_view};
 ghost use Rattle.pdl_flat.specs.Sized.{IsSized, AreSized};

@@ -8,8 +8,6 @@ pub mod mems;
 pub mod parts;
 pub mod pipe;
 pub mod row;
-#[cfg(test)]
-mod tests;
 pub mod vars;
 pub mod walk;
 

@@ -1,6 +1,6 @@
 // Memories by number.
 ghost use Rattle.std.specs.Prelude.{◌≡◌, ◌≤◌, map};
-ghost use Rattle.pdl_model.specs.Flatten as spec;
+ghost use Rattle.pdl_semantics.specs.Flatten as spec;
 ghost use Rattle.pdl_tree.specs.View.{mem_view};
 ghost use Rattle.pdl_flat.specs.Sized.{AreSizedMems};
 

@@ -1,6 +1,6 @@
 // The parts of a pipe round its body.
 ghost use Rattle.std.specs.Prelude.{◌≡◌, map, unwrap_or, IfOk};
-ghost use Rattle.pdl_model.specs.Flatten as spec;
+ghost use Rattle.pdl_semantics.specs.Flatten as spec;
 ghost use Rattle.pdl_tree.specs.View as tree;
 ghost use Rattle.pdl_form.specs.View.{mem_view, mems_view, lock_view, mem_names};
 ghost use Rattle.pdl_form.specs.Form.{names_of};

@@ -1,6 +1,6 @@
 // The flat form of a whole pipe.
 ghost use Rattle.std.specs.Prelude.{◌≡◌, ◌≤◌, [], IfOk};
-ghost use Rattle.pdl_model.specs.Flatten as spec;
+ghost use Rattle.pdl_semantics.specs.Flatten as spec;
 ghost use Rattle.pdl_tree.specs.View.{pipe_view};
 ghost use Rattle.pdl_form.specs.View.{stmts_view, stages_view};
 ghost use Rattle.pdl_form.specs.Form.{form_of};

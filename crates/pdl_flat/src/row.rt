@@ -1,7 +1,7 @@
 // Statements that stand in a stage: all but separators and `if`s.
 ghost use Rattle.std.specs.Prelude.{◌≡◌, ◌∷◌, [], ◌++◌, IsTrue, map, length, IfOk, OnOk, List, ℕ};
-ghost use Rattle.pdl_model.specs.Flat as flat;
-ghost use Rattle.pdl_model.specs.Flatten as spec;
+ghost use Rattle.pdl_semantics.specs.Flat as flat;
+ghost use Rattle.pdl_semantics.specs.Flatten as spec;
 ghost use Rattle.pdl_tree.specs.View as tree;
 ghost use Rattle.pdl_form.specs.View.{guards_view, stmts_view, act_view, expr_view};
 ghost use Rattle.pdl_flat.specs.Sized.{IsSized, IsSizedStmt, AreSizedMems};

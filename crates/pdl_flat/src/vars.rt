@@ -1,6 +1,6 @@
 // Variables by number.
 ghost use Rattle.std.specs.Prelude.{◌≡◌, ◌<◌, ◌≤◌, [], ◌∷◌, ◌++◌, map, IfOk, OnOk, length, slice_index_or};
-ghost use Rattle.pdl_model.specs.Flatten.{Var, var_of, var_width};
+ghost use Rattle.pdl_semantics.specs.Flatten.{Var, var_of, var_width};
 ghost use Rattle.pdl_flat.specs.declared.vars.Variable.{Variable};
 
 use indexmap::IndexMap;
@@ -25,7 +25,7 @@ pub struct Vars {
 
 impl Model for Vars {
     ghost use Rattle.std.specs.Prelude.{List};
-    ghost use Rattle.pdl_model.specs.Flatten.{Var};
+    ghost use Rattle.pdl_semantics.specs.Flatten.{Var};
     ghost use Rattle.pdl_flat.specs.Variables.{vars_of, AreNumbered};
 
     ghost Value = { List Var };

@@ -1,6 +1,6 @@
 // What a walk over the statements of a pipe makes, and how it goes from stage to stage.
 ghost use Rattle.std.specs.Prelude.{◌≡◌, ◌<◌, true, false, length, OnOk};
-ghost use Rattle.pdl_model.specs.Flatten as spec;
+ghost use Rattle.pdl_semantics.specs.Flatten as spec;
 ghost use Rattle.pdl_form.specs.View.{stages_view, next_view, branch_view};
 ghost use Rattle.pdl_flat.specs.Walking.{place_of, IsWhole, closed, leading, marked};
 

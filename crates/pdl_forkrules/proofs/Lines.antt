@@ -1,6 +1,6 @@
 -- The rules as they are asked are those of the language.
 use Rattle.std.proofs.Common.{◌≡◌, refl, sym, ap, ap₂, ◌∙◌, ℕ, zero, suc, ◌+◌, ◌-◌, ◌<◌, ◌≤◌, true, false, get_or, List, [], ◌∷◌, ◌++◌, map, take, drop, length, if◌then◌else◌, Some, arith}
-use Rattle.pdl_model.specs.Tree.{Pipe}
+use Rattle.pdl_semantics.specs.Tree.{Pipe}
 use Rattle.pdl_rules.specs.Places.{Place, places, behind, line_of}
 use Rattle.pdl_rules.specs.Refusal.{refused_at, breaks, broken_line, first_broken}
 use Rattle.pdl_forkrules.specs.declared.scan.ForkRule.{ForkRule}

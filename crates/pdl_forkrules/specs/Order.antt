@@ -2,7 +2,7 @@
 use Rattle.std.specs.Prelude.{ℕ, ◌+◌, Bool, not, ◌&&◌, ◌||◌, List, [], ◌∷◌, ◌++◌, if◌then◌else◌, drop, length, Option, Some, None}
 use Rattle.pdl_kit.specs.declared.rule.Rule.{Rule}
 use Rattle.pdl_kit.specs.declared.rule.Rule.TheVariants as rules
-use Rattle.pdl_model.specs.Tree.{Stmts, Pipe}
+use Rattle.pdl_semantics.specs.Tree.{Stmts, Pipe}
 use Rattle.pdl_rules.specs.Places.{Place, Branch, line_of, statements}
 use Rattle.pdl_rules.specs.Forks.{holds_separator, starts_with_separator, is_in_branch, breaks_f1, breaks_f2, breaks_f3, breaks_f4}
 use Rattle.pdl_rules.specs.Locks.{breaks_f5}

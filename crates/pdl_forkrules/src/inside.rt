@@ -1,6 +1,6 @@
 // What stands inside branches.
 ghost use Rattle.std.specs.Prelude.{◌≡◌, ◌-◌, ◌==◌, [], not, length};
-ghost use Rattle.pdl_model.specs.Flatten.{separators_in};
+ghost use Rattle.pdl_semantics.specs.Flatten.{separators_in};
 ghost use Rattle.pdl_tree.specs.View.{stmt_view, stmts_view};
 ghost use Rattle.pdl_rules.specs.Places.{with_inner, statements};
 ghost use Rattle.pdl_rules.specs.Forks as forks;

@@ -4,7 +4,5 @@
 pub mod inside;
 pub mod rules;
 pub mod scan;
-#[cfg(test)]
-mod tests;
 
 pub use scan::{Broken, forks_broken};

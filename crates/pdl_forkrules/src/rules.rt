@@ -1,7 +1,7 @@
 // The rules F1 to F5 of a place.
 ghost use Rattle.std.specs.Prelude.{◌≡◌, map, List};
 ghost use Rattle.std.specs.List.{list_any};
-ghost use Rattle.pdl_model.specs.Tree as tree;
+ghost use Rattle.pdl_semantics.specs.Tree as tree;
 ghost use Rattle.pdl_tree.specs.View.{pipe_view, mem_view, stmts_view};
 ghost use Rattle.pdl_rules.specs.Places as spec;
 ghost use Rattle.pdl_rules.specs.Forks as forks;

@@ -1,7 +1,7 @@
 -- The statements of each stage by their numbers.
 use Rattle.std.proofs.Common.{◌≡◌, ℕ, zero, suc, ◌+◌, ◌<◌, ◌==◌, Bool, true, false, if◌then◌else◌, List, [], ◌∷◌, ◌++◌, map, length, get_or, refl, ap, ap₂, sym, ◌∙◌, subst, arith, append_assoc, length-append, ◌⊎◌, inl, inr}
-use Rattle.pdl_model.specs.Flat.{Stmt}
-use Rattle.pdl_model.specs.Stages.{in_stage}
+use Rattle.pdl_semantics.specs.Flat.{Stmt}
+use Rattle.pdl_semantics.specs.Stages.{in_stage}
 use Rattle.pdl_form.specs.declared.form.Stage as r_stage
 use Rattle.pdl_form.specs.View.{stages_view}
 use Rattle.pdl_form.specs.Form.{rows_in, rows_below, stmt_at}

@@ -1,9 +1,9 @@
 -- What callers see of a flat form: the semantics' one, and what the circuit and its ports need beside it.
 use Rattle.std.specs.Prelude.{ℕ, zero, suc, Bool, List, [], ◌∷◌, ◌++◌, map, Option, if◌then◌else◌, ◌==◌, slice_index_or, length}
-use Rattle.pdl_model.specs.Tree as tree
-use Rattle.pdl_model.specs.Flat.{Op, Stmt, SpecCheck, Mem, Stage, Pipe}
-use Rattle.pdl_model.specs.Flatten.{Var, past_all, at_start, first_stage, flat}
-use Rattle.pdl_model.specs.Stages.{is_reserve, is_release}
+use Rattle.pdl_semantics.specs.Tree as tree
+use Rattle.pdl_semantics.specs.Flat.{Op, Stmt, SpecCheck, Mem, Stage, Pipe}
+use Rattle.pdl_semantics.specs.Flatten.{Var, past_all, at_start, first_stage, flat}
+use Rattle.pdl_semantics.specs.Stages.{is_reserve, is_release}
 
 pub record Form : Type 0 where
   pub pipe : Pipe

@@ -14,8 +14,8 @@ use Rattle.pdl_form.specs.declared.form.Next as r_next
 use Rattle.pdl_form.specs.declared.form.Next.TheVariants as r_nexts
 use Rattle.pdl_form.specs.declared.form.Branch as r_branch
 use Rattle.pdl_form.specs.declared.form.Stage as r_stage
-use Rattle.pdl_model.specs.Flat as flat
-use Rattle.pdl_model.specs.Flat.{Expr, Op, Guard, Stmt, Lock, Mem, Next, Branch, Stage}
+use Rattle.pdl_semantics.specs.Flat as flat
+use Rattle.pdl_semantics.specs.Flat.{Expr, Op, Guard, Stmt, Lock, Mem, Next, Branch, Stage}
 
 abbrev pub expr_step : Expr-F Expr → Expr
 expr_step (Expr-F.Constant width value) = flat.Constant width value

@@ -1,6 +1,6 @@
 // A flat form as the program keeps it.
 ghost use Rattle.std.specs.Prelude.{◌≡◌, length};
-ghost use Rattle.pdl_model.specs.Stages.{verify_stage};
+ghost use Rattle.pdl_semantics.specs.Stages.{verify_stage};
 ghost use Rattle.pdl_form.specs.View.{stmts_view};
 ghost use Rattle.pdl_form.specs.Form.{rows_below};
 

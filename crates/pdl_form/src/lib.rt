@@ -6,8 +6,6 @@ pub mod form;
 pub mod pipe;
 pub mod rows;
 pub mod stmts;
-#[cfg(test)]
-mod tests;
 
 pub use flat::FlatPipe;
 pub use form::{Branch, Expr, Guard, Lock, Mem, Next, Op, Stage, Stmt};

@@ -1,6 +1,6 @@
 // Making a flat form, and reading it.
 ghost use Rattle.std.specs.Prelude.{◌≡◌, ◌<◌, ℕ, map, length, slice_index, slice_index_or, None, IfOk};
-ghost use Rattle.pdl_model.specs.Stages.{in_stage, verify_stage};
+ghost use Rattle.pdl_semantics.specs.Stages.{in_stage, verify_stage};
 ghost use Rattle.pdl_form.specs.View.{stmts_view, stages_view, mems_view, mem_names};
 ghost use Rattle.pdl_form.specs.Form.{formed, rows_in, stmt_at};
 ghost use Rattle.pdl_form.specs.Whole.{form};

@@ -1,6 +1,6 @@
 // What is worked out of the statements of a flat form, stage by stage and memory by memory.
 ghost use Rattle.std.specs.Prelude.{◌≡◌, IfOk};
-ghost use Rattle.pdl_model.specs.Stages as stages;
+ghost use Rattle.pdl_semantics.specs.Stages as stages;
 ghost use Rattle.pdl_form.specs.View.{stmts_view, mems_view};
 ghost use Rattle.pdl_form.specs.Form.{rows_below, stage_of_each};
 

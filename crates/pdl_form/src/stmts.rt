@@ -1,7 +1,7 @@
 // Statements of a flat form by stage, and the stages of reserves, releases and verifies.
 ghost use Rattle.std.specs.Prelude.{◌≡◌, ℕ, map, length, IfOk};
-ghost use Rattle.pdl_model.specs.Flatten.{first_stage};
-ghost use Rattle.pdl_model.specs.Stages as stages;
+ghost use Rattle.pdl_semantics.specs.Flatten.{first_stage};
+ghost use Rattle.pdl_semantics.specs.Stages as stages;
 ghost use Rattle.pdl_form.specs.View.{act_view, stmts_view};
 ghost use Rattle.pdl_form.specs.Form.{rows_in};
 

@@ -5,8 +5,8 @@ use Rattle.std.specs.List.{list_any}
 use Rattle.std.proofs.lemmas.Bool.{and_cases, or_parts, or_cases, or_left, or_right, both_ways, not-false, not-true, false_from_ne_true}
 use Rattle.std.proofs.lemmas.List.Folds.{list_any-append}
 use Rattle.pdl_kit.specs.declared.rule.Rule.TheVariants.{Z7, N2}
-use Rattle.pdl_model.specs.Tree.{Param, Pipe}
-use Rattle.pdl_model.specs.Flatten.{Var, params_of}
+use Rattle.pdl_semantics.specs.Tree.{Param, Pipe}
+use Rattle.pdl_semantics.specs.Flatten.{Var, params_of}
 use Rattle.pdl_rules.specs.Places.{Place, Parameter, Memory, statements, places, on_some_path}
 use Rattle.pdl_rules.specs.Parts.{passes}
 use Rattle.pdl_rules.specs.Names.{OfVariable, defines, variable_at, name_at, is_undefined, is_taken_name, is_parameter, is_given, is_too_early, breaks_n2}

@@ -2,7 +2,7 @@
 use Rattle.std.proofs.Common.{◌≡◌, refl, sym, ap, ◌∙◌, subst, ℕ, suc, ◌<◌, Bool, true, false, ◌||◌, if◌then◌else◌, List, [], ◌∷◌, ◌++◌, map, length, slice_index, bytes_eq, append_assoc, arith, ⊎_elim}
 use Rattle.std.specs.Prelude.{IsTrue}
 use Rattle.std.proofs.lemmas.Bool.{false≢true, true≢false, both_ways}
-use Rattle.pdl_model.specs.Flatten.{Var, var_of, var_width}
+use Rattle.pdl_semantics.specs.Flatten.{Var, var_of, var_width}
 use Rattle.pdl_rules.specs.Typed.{is_named}
 use Rattle.pdl_rules.proofs.Once.{any_last, bytes_same}
 use Rattle.pdl_rules.proofs.Defined.{Stays, stays_more, any_split}

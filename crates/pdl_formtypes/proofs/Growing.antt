@@ -1,7 +1,7 @@
 -- The walk of the flat form puts variables behind those that are there.
 use Rattle.std.proofs.Common.{◌≡◌, sym, ap, ◌∙◌, subst, ◌<◌, List, [], ◌∷◌, ◌++◌, length, slice_index, append-nil}
-use Rattle.pdl_model.specs.Tree.{Expr, Variable, Stmt, CombRead, Bind, DelayedRead, If, Stmts, Nil, Cons, Mem}
-use Rattle.pdl_model.specs.Flatten.{Var, Place, with_guard, past, past_all}
+use Rattle.pdl_semantics.specs.Tree.{Expr, Variable, Stmt, CombRead, Bind, DelayedRead, If, Stmts, Nil, Cons, Mem}
+use Rattle.pdl_semantics.specs.Flatten.{Var, Place, with_guard, past, past_all}
 use Rattle.pdl_formtypes.proofs.Found.{Begins, begins_self, begins_then, widths_of, last_low, last_width}
 
 pub begins_same : (vs : List Var) → Begins vs vs

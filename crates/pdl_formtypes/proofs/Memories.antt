@@ -5,10 +5,11 @@ use Rattle.std.specs.List.{list_any, list_all}
 use Rattle.std.proofs.lemmas.Bool.{false≢true, true≢false, and_parts, and_from, or_parts, or_cases, or_left, or_right, eqb-true, not-false}
 use Rattle.std.proofs.lemmas.List.Folds.{list_any-append}
 use Rattle.pdl_kit.specs.declared.rule.Rule.TheVariants.{Z7}
-use Rattle.pdl_model.specs.Tree.{Stmt, If, Stmts, Nil, Cons, Param, LockKind, Queue, Bypass, Rename, LockDecl, Mem, Pipe}
-use Rattle.pdl_model.specs.Flat as flat
-use Rattle.pdl_model.specs.Flatten.{mem_of, mem_width, lock_of, mems_of}
-use Rattle.pdl_model.specs.Stages.{plain_mem}
+use Rattle.pdl_semantics.specs.Tree.{Stmt, If, Stmts, Nil, Cons, Param, LockKind, Queue, Bypass, Rename, LockDecl, Mem, Pipe}
+use Rattle.pdl_semantics.specs.Flat as flat
+use Rattle.pdl_semantics.specs.Flat.{has_lock}
+use Rattle.pdl_semantics.specs.Flatten.{mem_of, mem_width, lock_of, mems_of}
+use Rattle.pdl_semantics.specs.Stages.{plain_mem}
 use Rattle.pdl_rules.specs.Places.{Place, Memory, Parameter, Branch, guard_of, with_inner, statements, places}
 use Rattle.pdl_rules.specs.Parts.{passes}
 use Rattle.pdl_rules.specs.Limits.{depths, is_width, is_wrong_lock, breaks_z7}
@@ -20,7 +21,7 @@ use Rattle.pdl_rules.specs.Typed.{is_memory}
 use Rattle.pdl_rules.proofs.Once.{bytes_sym}
 use Rattle.pdl_rules.proofs.Straight.{closing}
 use Rattle.pdl_rules.proofs.Memories.{has_depth, bits_reach}
-use Rattle.pdl_formtypes.specs.Stmts.{has_lock, IsTypedMem, AreTypedMems}
+use Rattle.pdl_formtypes.specs.Stmts.{IsTypedMem, AreTypedMems}
 use Rattle.pdl_formtypes.proofs.Values.{IsWide}
 
 -- SIZES

@@ -4,10 +4,10 @@ use Rattle.std.specs.List.{list_any}
 use Rattle.std.specs.Cmp.Lexicographic.{pointwise}
 use Rattle.std.proofs.lemmas.Bool.{true≢false, eqb-true, not-false}
 use Rattle.pdl_kit.specs.declared.rule.Rule.TheVariants.{N2, W5, W6, F5}
-use Rattle.pdl_model.specs.Tree.{Expr, Location, R, W, Stmt, Separator, CombRead, Bind, SpecCall, DelayedRead, Write, Reserve, Block, Release, If, Call, Verify, SpecCheck, SpecBarrier, Param, Pipe}
-use Rattle.pdl_model.specs.Flat as flat
-use Rattle.pdl_model.specs.Flatten.{Var, var_of, mem_of, mems_of, mem_width, width_of, flat_expr, flat_exprs, flat_stmt, past, past_all, at_start}
-use Rattle.pdl_model.specs.Flatten
+use Rattle.pdl_semantics.specs.Tree.{Expr, Location, R, W, Stmt, Separator, CombRead, Bind, SpecCall, DelayedRead, Write, Reserve, Block, Release, If, Call, Verify, SpecCheck, SpecBarrier, Param, Pipe}
+use Rattle.pdl_semantics.specs.Flat as flat
+use Rattle.pdl_semantics.specs.Flatten.{Var, var_of, mem_of, mems_of, mem_width, width_of, flat_expr, flat_exprs, flat_stmt, past, past_all, at_start}
+use Rattle.pdl_semantics.specs.Flatten
 use Rattle.pdl_form.specs.Form.{form_of}
 use Rattle.pdl_rules.specs.Places.{Place, Statement, Branch, places}
 use Rattle.pdl_rules.specs.Parts.{location_of}

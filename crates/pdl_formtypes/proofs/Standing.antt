@@ -5,9 +5,10 @@ use Rattle.std.specs.List.{list_any, list_all}
 use Rattle.std.specs.Cmp.Lexicographic.{pointwise}
 use Rattle.std.proofs.lemmas.Bool.{or_parts, eqb-true, not-false}
 use Rattle.pdl_kit.specs.declared.rule.Rule.TheVariants.{Z7, N1, N3, W1, W2, W3, W4}
-use Rattle.pdl_model.specs.Tree.{Expr, Location, Stmt, Param, Pipe}
-use Rattle.pdl_model.specs.Flatten.{Var, var_of, var_width, mem_of, width_of, flat}
-use Rattle.pdl_model.specs.Stages.{mem_at}
+use Rattle.pdl_semantics.specs.Tree.{Expr, Location, Stmt, Param, Pipe}
+use Rattle.pdl_semantics.specs.Flat.{has_lock}
+use Rattle.pdl_semantics.specs.Flatten.{Var, var_of, var_width, mem_of, width_of, flat}
+use Rattle.pdl_semantics.specs.Stages.{mem_at}
 use Rattle.pdl_rules.specs.Places.{Place, Parameter, Statement, Branch, statements, places}
 use Rattle.pdl_rules.specs.Parts.{location_of, passes, some_part, some_expr_of}
 use Rattle.pdl_rules.specs.Names.{Use, OfMemory, reads, in_location, in_verify, some_use, is_undefined, names_another_pipe, is_too_early}
@@ -20,7 +21,7 @@ use Rattle.pdl_rules.proofs.Straight.{closing}
 use Rattle.pdl_rules.proofs.Typing.{Fits, of_one, typed, arguments}
 use Rattle.pdl_rules.proofs.Defined.{Stays, known_stay}
 use Rattle.pdl_rules.proofs.Memories.{has_depth, bits_reach, deep}
-use Rattle.pdl_formtypes.specs.Stmts.{IsLocation, has_lock}
+use Rattle.pdl_formtypes.specs.Stmts.{IsLocation}
 use Rattle.pdl_formtypes.proofs.Found.{Found}
 use Rattle.pdl_formtypes.proofs.Memories.{memory_there, mem_low, found_depth, found_lock}
 use Rattle.pdl_formtypes.proofs.Memories as memories

@@ -3,8 +3,8 @@ use Rattle.std.proofs.Common.{◌≡◌, refl, sym, ap, ◌∙◌, subst, subst�
 use Rattle.std.proofs.lemmas.Bool.{or_parts, not-false}
 use Rattle.std.specs.List.{list_any}
 use Rattle.pdl_kit.specs.declared.rule.Rule.TheVariants.{W2, W5}
-use Rattle.pdl_model.specs.Tree.{Param, Pipe}
-use Rattle.pdl_model.specs.Flatten.{Var, params_of, start_of, past_all, at_start}
+use Rattle.pdl_semantics.specs.Tree.{Param, Pipe}
+use Rattle.pdl_semantics.specs.Flatten.{Var, params_of, start_of, past_all, at_start}
 use Rattle.pdl_form.specs.Form.{form_of}
 use Rattle.pdl_rules.specs.Places.{Parameter, Memory, End, StartClause, statements, places}
 use Rattle.pdl_rules.specs.Widths.{is_too_large}

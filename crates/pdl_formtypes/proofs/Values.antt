@@ -1,8 +1,8 @@
 -- Expressions of the tree that are typed have typed flat expressions, of the same width.
 use Rattle.std.proofs.Common.{◌≡◌, refl, sym, ap, ap₂, ◌∙◌, subst, ℕ, zero, suc, ◌+◌, ◌-◌, ◌^◌, ◌<◌, ◌≤◌, if◌then◌else◌, nat_lt, List, [], ◌∷◌, map, slice_index, length, Option, Some, None, unwrap_or, arith}
-use Rattle.pdl_model.specs.Tree.{BinaryOp, Add, Sub, Mul, And, Or, Xor, Equal, Differ, Less, ShiftLeft, ShiftRight, Expr, Constant, Variable, Slice, Not, Binary, Cat, LessSigned, ZeroExtend, SignExtend, Choose, Literal, Param}
-use Rattle.pdl_model.specs.Flat as flat
-use Rattle.pdl_model.specs.Flatten.{Var, widest, op_width, width_of, flat_expr, flat_exprs, start_of}
+use Rattle.pdl_semantics.specs.Tree.{BinaryOp, Add, Sub, Mul, And, Or, Xor, Equal, Differ, Less, ShiftLeft, ShiftRight, Expr, Constant, Variable, Slice, Not, Binary, Cat, LessSigned, ZeroExtend, SignExtend, Choose, Literal, Param}
+use Rattle.pdl_semantics.specs.Flat as flat
+use Rattle.pdl_semantics.specs.Flatten.{Var, widest, op_width, width_of, flat_expr, flat_exprs, start_of}
 use Rattle.pdl_rules.specs.Typed.{Holds, AreStarts}
 use Rattle.pdl_rules.specs.Typed as tree
 use Rattle.pdl_formtypes.specs.Exprs.{width_in, IsTyped}

@@ -2,11 +2,11 @@
 use Rattle.std.proofs.Common.{◌≡◌, refl, sym, ap, ◌∙◌, subst, ℕ, suc, ◌+◌, ◌<◌, Bool, true, false, ◌==◌, if◌then◌else◌, List, [], ◌∷◌, ◌++◌, length, slice_index, Option, append_assoc, append-nil}
 use Rattle.std.proofs.lemmas.Bool.{or_parts, eqb-true, not-false}
 use Rattle.pdl_kit.specs.declared.rule.Rule.TheVariants.{W3}
-use Rattle.pdl_model.specs.Tree.{Span, Expr, Variable, Stmt, If, Stmts, Nil, Cons, Pipe}
-use Rattle.pdl_model.specs.Tree
-use Rattle.pdl_model.specs.Flat as flat
-use Rattle.pdl_model.specs.Flatten.{Graph, guard_of, with_guard, back_in, at_otherwise, past, past_all, binds_guard, under, flat_stmt, flat_stmts, separators, entry, side, merging, forks, begins, joined, graph, mems_of, width_of}
-use Rattle.pdl_model.specs.Flatten
+use Rattle.pdl_semantics.specs.Tree.{Span, Expr, Variable, Stmt, If, Stmts, Nil, Cons, Pipe}
+use Rattle.pdl_semantics.specs.Tree
+use Rattle.pdl_semantics.specs.Flat as flat
+use Rattle.pdl_semantics.specs.Flatten.{Graph, guard_of, with_guard, back_in, at_otherwise, past, past_all, binds_guard, under, flat_stmt, flat_stmts, separators, entry, side, merging, forks, begins, joined, graph, mems_of, width_of}
+use Rattle.pdl_semantics.specs.Flatten
 use Rattle.pdl_form.specs.Form.{form_of}
 use Rattle.pdl_rules.specs.Places.{Place, Statement, Branch, with_inner, statements, places}
 use Rattle.pdl_rules.specs.Places

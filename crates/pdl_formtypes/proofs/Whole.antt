@@ -1,8 +1,8 @@
 -- The flat form of a pipe that keeps the rules is typed.
 use Rattle.std.proofs.Common.{◌≡◌, sym, [], ◌++◌, map, true}
-use Rattle.pdl_model.specs.Tree.{Pipe}
-use Rattle.pdl_model.specs.Flat as flat
-use Rattle.pdl_model.specs.Flatten.{mems_of, at_start}
+use Rattle.pdl_semantics.specs.Tree.{Pipe}
+use Rattle.pdl_semantics.specs.Flat as flat
+use Rattle.pdl_semantics.specs.Flatten.{mems_of, at_start}
 use Rattle.pdl_form.specs.Form.{form_of}
 use Rattle.pdl_rules.specs.Places.{Memory, Parameter, statements, places}
 use Rattle.pdl_rules.specs.Names.{OfVariable, is_undefined}

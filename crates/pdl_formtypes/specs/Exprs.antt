@@ -1,7 +1,7 @@
 -- Widths of expressions over numbered variables.
 use Rattle.std.specs.Prelude.{◌≡◌, ℕ, ◌+◌, ◌-◌, ◌^◌, ◌<◌, ◌≤◌, List, [], ◌∷◌, length, slice_index, ⊤}
-use Rattle.pdl_model.specs.Flat.{Expr, Constant, Variable, Slice, Not, Binary, Cat, LessSigned, ZeroExtend, SignExtend, Choose}
-use Rattle.pdl_model.specs.Flatten.{op_width}
+use Rattle.pdl_semantics.specs.Flat.{Expr, Constant, Variable, Slice, Not, Binary, Cat, LessSigned, ZeroExtend, SignExtend, Choose}
+use Rattle.pdl_semantics.specs.Flatten.{op_width}
 
 -- the width of a value, where the variables have these widths
 abbrev pub width_in : List ℕ → Expr → ℕ

@@ -1,7 +1,7 @@
 -- A flat form whose statements find variables, memories and locks, with the widths that they want.
 use Rattle.std.specs.Prelude.{◌≡◌, ℕ, ◌^◌, ◌<◌, ◌≤◌, Bool, true, false, List, [], ◌∷◌, length, take, slice_index, ⊤}
-use Rattle.pdl_model.specs.Flat.{Expr, Op, Bind, CombRead, DelayedRead, Write, ReserveRead, ReserveWrite, Block, Release, Call, SpecCall, Verify, SpecCheck, SpecBarrier, Guard, Stmt, Lock, Plain, Mem, Next, Ends, Goes, Forks, Stage, Pipe}
-use Rattle.pdl_model.specs.Stages.{mem_at}
+use Rattle.pdl_semantics.specs.Flat.{Expr, Op, Bind, CombRead, DelayedRead, Write, ReserveRead, ReserveWrite, Block, Release, Call, SpecCall, Verify, SpecCheck, SpecBarrier, Guard, Stmt, has_lock, Mem, Next, Ends, Goes, Forks, Stage, Pipe}
+use Rattle.pdl_semantics.specs.Stages.{mem_at}
 use Rattle.pdl_form.specs.Form.{Form}
 use Rattle.pdl_formtypes.specs.Exprs.{width_in, IsTyped}
 
@@ -19,11 +19,6 @@ pub record IsLocation (p : Pipe) (ws : List ℕ) (m a : ℕ) : Type 0 where
   pub memory : m < length p.mems
   pub var : a < length ws
   pub reach : 2 ^ slice_index ws a ≡ (mem_at p m).depth
-
--- whether a memory has a lock
-abbrev pub has_lock : Lock → Bool
-has_lock Plain = false
-has_lock _ = true
 
 -- the memory of this number has a lock
 abbrev pub IsLockedMem : Pipe → ℕ → Type 0

@@ -4,7 +4,7 @@
 #![tactic(auto)]
 
 ghost use Rattle.std.specs.Prelude.{IsTrue, List, []};
-ghost use Rattle.pdl_model.specs.Tree.{Pipe};
+ghost use Rattle.pdl_semantics.specs.Tree.{Pipe};
 ghost use Rattle.pdl_rules.specs.Places.{places};
 ghost use Rattle.pdl_rules.specs.Names.{OfVariable, is_undefined};
 ghost use Rattle.pdl_rules.specs.Refusal.{KeepsRules};

@@ -1,7 +1,7 @@
 -- One number more, and one separator more.
-use Rattle.std.proofs.Common.{◌≡◌, ◌≢◌, refl, sym, ap, ◌∙◌, ℕ, suc, ◌+◌, ◌%◌, Bool, true, false, cond, ◌==◌, List, [], ◌++◌, codes, append_assoc, eq-eqb, arith}
+use Rattle.std.proofs.Common.{◌≡◌, ◌≢◌, refl, sym, ap, ◌∙◌, ℕ, suc, ◌+◌, ◌%◌, Bool, true, false, cond, ◌==◌, List, [], ◌++◌, append_assoc, eq-eqb, arith}
 use Rattle.std.proofs.lemmas.Bool.{eqb-true}
-use Rattle.pdl_gen.specs.Generated.{next, number, made_odd, separators}
+use Rattle.pdl_gen.specs.Generated.{next, number, made_odd}
 
 pub number_more : (n i j : ℕ) → j ≡ suc i → number n j ≡ next (number n i)
 unfolding number
@@ -10,9 +10,6 @@ number_more n i j e = ap (number n) e
 pub first_number : (n : ℕ) → number n 1 ≡ next n
 unfolding number
 first_number n = refl
-
-pub separators_more : (k j : ℕ) → j ≡ suc k → separators j ≡ separators k ++ codes "---\n"
-separators_more k j e = ap separators e
 
 -- a byte that is odd, or the next one
 pub odd_kept : (y z : ℕ) → y ≡ z → y % 2 ≡ 1 → y ≡ made_odd z
@@ -29,7 +26,3 @@ even_raised y z e h = ap (λ v. v + 1) e ∙ at (z % 2 == 1) refl
 pub three_pieces : (old a b c one two three : List ℕ) → one ≡ old ++ a → two ≡ one ++ b → three ≡ two ++ c → three ≡ old ++ (a ++ (b ++ c))
 three_pieces old a b c one two three e f g =
     g ∙ ap (λ l. l ++ c) (f ∙ ap (λ l. l ++ b) e ∙ append_assoc old a b) ∙ append_assoc old (a ++ b) c ∙ ap (λ l. old ++ l) (append_assoc a b c)
-
-pub four_pieces : (a b c d one two three four : List ℕ) → one ≡ [] ++ a → two ≡ one ++ b → three ≡ two ++ c → four ≡ three ++ d → four ≡ a ++ (b ++ (c ++ d))
-four_pieces a b c d one two three four e f g h =
-    h ∙ ap (λ l. l ++ d) (three_pieces [] a b c one two three e f g) ∙ append_assoc a (b ++ c) d ∙ ap (λ l. a ++ l) (append_assoc b c d)

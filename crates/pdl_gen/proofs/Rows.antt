@@ -1,7 +1,7 @@
 -- The first generated runs.
 use Rattle.std.proofs.Common.{◌≡◌, refl, List, [], ◌∷◌, ◌++◌, codes}
 use Rattle.std.specs.Fmt.{digits}
-use Rattle.pdl_model.specs.Tree.{Queue, Bypass, Rename}
+use Rattle.pdl_semantics.specs.Tree.{Queue, Bypass, Rename}
 use Rattle.pdl_gen.specs.Generated.{number, byte, stages, kind, step, source, words}
 
 two_stages : stages 0 ≡ 2

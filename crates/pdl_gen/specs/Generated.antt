@@ -1,7 +1,7 @@
 -- The generated run of a number: the source of a pipe, and the words of its memory.
 use Rattle.std.specs.Prelude.{ℕ, zero, suc, ◌+◌, ◌-◌, ◌*◌, ◌/◌, ◌%◌, ◌==◌, List, [], ◌∷◌, ◌++◌, map, codes, decimal, if◌then◌else◌}
 use Rattle.std.specs.List.{range_with_len}
-use Rattle.pdl_model.specs.Tree.{LockKind, Queue, Bypass, Rename}
+use Rattle.pdl_semantics.specs.Tree.{LockKind, Queue, Bypass, Rename}
 
 -- THE NUMBERS
 

@@ -3,8 +3,6 @@
 
 mod numbers;
 mod pipe;
-#[cfg(test)]
-mod tests;
 mod text;
 
 pub use numbers::words;

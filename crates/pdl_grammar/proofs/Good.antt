@@ -1,7 +1,7 @@
 -- A reader does what the automaton does, and what it finds is so.
 use Rattle.std.proofs.Common.{◌≡◌, ℕ, ◌≤◌, Bool, true, false, List, [], ◌∷◌, ◌++◌, length, Option, Some, None, Ok, Err, cond, refl, ap, sym, ◌∙◌, append_assoc, arith}
 use denote.Enum.Bare.{same_true}
-use Rattle.pdl_model.specs.Tree.{Span, Ident, Number, Literal, Location, LockKind, Kind}
+use Rattle.pdl_semantics.specs.Tree.{Span, Ident, Number, Literal, Location, LockKind, Kind}
 use Rattle.pdl_tokens.specs.contracts.token.Mark.{the_type}
 use Rattle.pdl_tokens.specs.declared.token.Mark.{Mark}
 use Rattle.pdl_tokens.specs.declared.token.Mark.TheVariants as mark

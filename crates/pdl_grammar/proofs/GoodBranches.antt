@@ -1,6 +1,6 @@
 -- Items with others inside are read as the automaton takes them, and what is read is so.
 use Rattle.std.proofs.Common.{◌≡◌, ℕ, zero, suc, ◌≤◌, ◌<◌, true, false, List, [], ◌∷◌, length, Some, Ok, cond, refl, ap, sym, subst, arith}
-use Rattle.pdl_model.specs.Tree.{Span, Expr, If, Stmts, Nil}
+use Rattle.pdl_semantics.specs.Tree.{Span, Expr, If, Stmts, Nil}
 use Rattle.pdl_tokens.specs.declared.token.Mark.TheVariants as mark
 use Rattle.pdl_tokens.specs.declared.token.TokenKind.{TokenKind}
 use Rattle.pdl_tokens.specs.declared.token.TokenKind.TheVariants as kind

@@ -1,7 +1,7 @@
 -- Expressions are read as the automaton takes them, and what is read is so.
 use Rattle.std.proofs.Common.{◌≡◌, ◌⊎◌, inl, inr, ℕ, zero, suc, ◌≤◌, ◌<◌, Bool, true, false, List, [], ◌∷◌, length, Option, Some, None, Ok, cond, nat_eq, refl, ap, sym, subst, ◌∙◌, arith}
 use Rattle.std.proofs.lemmas.Bool.{eqb-true}
-use Rattle.pdl_model.specs.Tree.{BinaryOp, Mul, Add, Sub, And, Or, Xor, Equal, Differ, Less, ShiftLeft, ShiftRight, Number, Expr, Variable, Binary}
+use Rattle.pdl_semantics.specs.Tree.{BinaryOp, Mul, Add, Sub, And, Or, Xor, Equal, Differ, Less, ShiftLeft, ShiftRight, Number, Expr, Variable, Binary}
 use Rattle.pdl_tokens.specs.declared.token.Mark.{Mark}
 use Rattle.pdl_tokens.specs.declared.token.Mark.TheVariants as mark
 use Rattle.pdl_tokens.specs.declared.token.TokenKind.{TokenKind}

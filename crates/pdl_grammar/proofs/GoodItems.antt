@@ -1,6 +1,6 @@
 -- Items without others inside are read as the automaton takes them, and what is read is so.
 use Rattle.std.proofs.Common.{◌≡◌, ℕ, zero, suc, ◌≤◌, ◌<◌, Bool, true, false, List, [], ◌∷◌, length, Option, Some, None, Ok, cond, refl, ap, sym, subst, arith}
-use Rattle.pdl_model.specs.Tree.{Span, Location, Kind, Stmt}
+use Rattle.pdl_semantics.specs.Tree.{Span, Location, Kind, Stmt}
 use Rattle.pdl_tokens.specs.declared.token.Mark.{Mark}
 use Rattle.pdl_tokens.specs.declared.token.Mark.TheVariants as mark
 use Rattle.pdl_tokens.specs.declared.token.TokenKind.{TokenKind}

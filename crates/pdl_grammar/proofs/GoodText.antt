@@ -1,6 +1,6 @@
 -- Texts are read as the automaton takes them, and what is read is so.
 use Rattle.std.proofs.Common.{◌≡◌, ℕ, ◌<◌, false, List, [], ◌∷◌, length, Some, None, Ok, cond, refl, sym, subst, arith}
-use Rattle.pdl_model.specs.Tree.{Number, Literal}
+use Rattle.pdl_semantics.specs.Tree.{Number, Literal}
 use Rattle.pdl_tokens.specs.declared.token.Mark.TheVariants as mark
 use Rattle.pdl_tokens.specs.declared.token.TokenKind.{TokenKind}
 use Rattle.pdl_tokens.specs.declared.token.TokenKind.TheVariants as kind

@@ -1,6 +1,6 @@
 -- What stands inside, by its depth, and the levels of operators.
 use Rattle.std.proofs.Common.{◌≡◌, ◌≢◌, ℕ, zero, suc, ◌+◌, ◌-◌, Some, Ok, Err, refl, ap, sym, subst, ◌∙◌, arith}
-use Rattle.pdl_model.specs.Tree.{Expr, Binary, BinaryOp}
+use Rattle.pdl_semantics.specs.Tree.{Expr, Binary, BinaryOp}
 use Rattle.pdl_tokens.specs.Cursor.{next, first_kind}
 use Rattle.pdl_tokens.specs.Tokens.{Row}
 use Rattle.pdl_grammar.specs.Reading.{Outcome, Parser, and_then, op_in, operand, inside, expr, level, chain}

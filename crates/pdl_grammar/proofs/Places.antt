@@ -1,6 +1,6 @@
 -- The place of a refusal: what the reader tells is the first token out of place, and there is one tree and one place.
 use Rattle.std.proofs.Common.{◌≡◌, ℕ, zero, suc, ◌+◌, ◌-◌, ◌<◌, ◌≤◌, List, [], ◌∷◌, ◌++◌, length, Result, Option, Some, None, IfOk, Ok, Err, refl, sym, ap, ◌∙◌, subst, arith, append_assoc, length-append}
-use Rattle.pdl_model.specs.Tree.{Pipe}
+use Rattle.pdl_semantics.specs.Tree.{Pipe}
 use Rattle.pdl_tree.specs.declared.tree.Pipe as r_pipe
 use Rattle.pdl_tree.specs.View.{pipe_view}
 use Rattle.pdl_tokens.specs.declared.token.TokenKind.{TokenKind}

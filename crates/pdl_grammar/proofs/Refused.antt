@@ -1,6 +1,6 @@
 -- The three laws of the reader of a text.
 use Rattle.std.proofs.Common.{◌≡◌, ℕ, suc, ◌<◌, [], ◌∷◌, ◌++◌, length, Result, Option, Some, None, Ok, Err, refl, ap, subst, ◌∙◌, append_assoc, arith}
-use Rattle.pdl_model.specs.Tree.{Pipe}
+use Rattle.pdl_semantics.specs.Tree.{Pipe}
 use Rattle.pdl_tokens.specs.Tokens.{Row}
 use Rattle.pdl_grammar.specs.Grammar.{Text}
 use Rattle.pdl_grammar.specs.Reading.{Outcome, pipe, whole_of, parse}

@@ -1,7 +1,7 @@
 -- Values and statements one after another.
 use Rattle.std.proofs.Common.{◌≡◌, ◌≢◌, ℕ, zero, suc, ◌+◌, ◌-◌, ◌≤◌, map, true, false, List, [], ◌∷◌, ◌++◌, Some, None, Ok, Err, append_assoc, refl, ap, sym, subst, ◌∙◌, arith}
 use Rattle.std.proofs.lemmas.List.{map-append}
-use Rattle.pdl_model.specs.Tree.{Stmt, Stmts, Nil, Cons, stmts_of}
+use Rattle.pdl_semantics.specs.Tree.{Stmt, Stmts, Nil, Cons, stmts_of}
 use Rattle.pdl_tokens.specs.declared.token.Mark.{Mark}
 use Rattle.pdl_tokens.specs.declared.token.Mark.TheVariants as mark
 use Rattle.pdl_tokens.specs.Cursor.{next, first_kind}

@@ -1,6 +1,6 @@
 -- A whole text.
 use Rattle.std.proofs.Common.{◌≡◌, ℕ, [], ◌∷◌, Some, None, Ok, Err, refl}
-use Rattle.pdl_model.specs.Tree.{Pipe}
+use Rattle.pdl_semantics.specs.Tree.{Pipe}
 use Rattle.pdl_tokens.specs.declared.token.TokenKind.{TokenKind}
 use Rattle.pdl_tokens.specs.Cursor.{first_kind}
 use Rattle.pdl_tokens.specs.Tokens.{Row}

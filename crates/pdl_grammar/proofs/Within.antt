@@ -1,6 +1,6 @@
 -- The laws of the reader with the limits.
 use Rattle.std.proofs.Common.{◌≡◌, ℕ, suc, ◌<◌, Bool, true, false, [], ◌∷◌, ◌++◌, length, Option, Some, None, Ok, Err, refl, ap, sym, subst, ◌∙◌, append-nil}
-use Rattle.pdl_model.specs.Tree.{Pipe}
+use Rattle.pdl_semantics.specs.Tree.{Pipe}
 use Rattle.pdl_tokens.specs.declared.token.TokenKind.TheVariants as kind
 use Rattle.pdl_tokens.specs.Tokens.{Token}
 use Rattle.pdl_cursor.specs.declared.limits.Counts.{Counts}

@@ -1,6 +1,6 @@
 -- An automaton that takes one token after another: what it still expects is a stack of symbols. It knows no levels and no trees, and says where a token is out of place.
 use Rattle.std.specs.Prelude.{Bool, true, false, List, [], ◌∷◌, ◌++◌, Option, Some, None, cond}
-use Rattle.pdl_model.specs.Tree.{BinaryOp}
+use Rattle.pdl_semantics.specs.Tree.{BinaryOp}
 use Rattle.pdl_tokens.specs.declared.token.Mark.{Mark}
 use Rattle.pdl_tokens.specs.declared.token.Mark.TheVariants as mark
 use Rattle.pdl_tokens.specs.declared.token.TokenKind.{TokenKind}

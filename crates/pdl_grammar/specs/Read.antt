@@ -1,6 +1,6 @@
 -- What the parts of the parser ensure.
 use Rattle.std.specs.Prelude.{◌≡◌, ◌≢◌, ℕ, List, [], ◌∷◌, ◌++◌, Option, Some, None, Result, Ok, Err}
-use Rattle.pdl_model.specs.Tree.{Span, Number, Expr, Location, Kind, Stmt, Stmts}
+use Rattle.pdl_semantics.specs.Tree.{Span, Number, Expr, Location, Kind, Stmt, Stmts}
 use Rattle.pdl_grammar.specs.declared.item.Item.{Item}
 use Rattle.pdl_grammar.specs.declared.item.Item.TheVariants.{One, Two}
 use Rattle.pdl_grammar.specs.declared.item.Reserved as r_reserved

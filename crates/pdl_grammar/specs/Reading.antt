@@ -1,6 +1,6 @@
 -- How tokens are read: a value and the tokens after it, or the tokens from the one out of place on.
 use Rattle.std.specs.Prelude.{ℕ, zero, suc, Bool, true, false, List, [], ◌∷◌, Option, Some, None, Result, Ok, Err, cond, nat_eq}
-use Rattle.pdl_model.specs.Tree.{Span, Ident, Number, Literal, BinaryOp, Expr, Constant, Variable, Slice, Not, Binary, Cat, LessSigned, ZeroExtend, SignExtend, Choose, Location, Kind, R, W, Stmt, Separator, CombRead, Bind, SpecCall, DelayedRead, Write, Reserve, Block, Release, If, Call, Verify, SpecCheck, SpecBarrier, Stmts, Nil, Param, LockKind, Queue, Bypass, Rename, LockDecl, Mem, Start, Pipe}
+use Rattle.pdl_semantics.specs.Tree.{Span, Ident, Number, Literal, BinaryOp, Expr, Constant, Variable, Slice, Not, Binary, Cat, LessSigned, ZeroExtend, SignExtend, Choose, Location, Kind, R, W, Stmt, Separator, CombRead, Bind, SpecCall, DelayedRead, Write, Reserve, Block, Release, If, Call, Verify, SpecCheck, SpecBarrier, Stmts, Nil, Param, LockKind, Queue, Bypass, Rename, LockDecl, Mem, Start, Pipe}
 use Rattle.pdl_tokens.specs.declared.token.Mark.{Mark}
 use Rattle.pdl_tokens.specs.declared.token.Mark.TheVariants as mark
 use Rattle.pdl_tokens.specs.declared.token.TokenKind.{TokenKind}

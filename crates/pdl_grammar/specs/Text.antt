@@ -1,6 +1,6 @@
 -- Which texts are pipes, and which token of any other text is the first out of place.
 use Rattle.std.specs.Prelude.{◌≡◌, ℕ, List, [], ◌∷◌, ◌++◌, Result, Ok, Err}
-use Rattle.pdl_model.specs.Tree.{Pipe}
+use Rattle.pdl_semantics.specs.Tree.{Pipe}
 use Rattle.pdl_tree.specs.declared.tree.Pipe as r
 use Rattle.pdl_tree.specs.View.{pipe_view}
 use Rattle.pdl_grammar.specs.declared.error.ReadError.{ReadError}

@@ -1,6 +1,6 @@
 // Expressions.
 ghost use Rattle.std.specs.Prelude.{◌≡◌, ◌≤◌, IfOk, map};
-ghost use Rattle.pdl_model.specs.Tree as tree;
+ghost use Rattle.pdl_semantics.specs.Tree as tree;
 ghost use Rattle.pdl_grammar.specs.Grammar.{operator_of, loose, levels};
 ghost use Rattle.pdl_grammar.specs.Read.{Reads, pair_view, sized_view};
 ghost use Rattle.pdl_grammar.specs.Reading as spec;

@@ -8,12 +8,8 @@ pub mod error;
 mod expression;
 mod item;
 pub mod read;
-#[cfg(test)]
-mod shown;
 mod statement;
 mod stop;
-#[cfg(test)]
-mod tests;
 mod text;
 mod words;
 

@@ -1,6 +1,6 @@
 // The reader of source texts.
 ghost use Rattle.std.specs.Prelude.{◌≡◌, ◌≤◌, ℕ, IfOk, length};
-ghost use Rattle.pdl_model.specs.Tree as tree;
+ghost use Rattle.pdl_semantics.specs.Tree as tree;
 ghost use Rattle.pdl_tree.specs.View.{pipe_view};
 ghost use Rattle.pdl_tokens.specs.Tokens as lexed;
 ghost use Rattle.pdl_grammar.specs.Read.{IsRead, line_at};

@@ -19,8 +19,8 @@ impl Model for Image {
 }
 
 impl Image {
-    /// Makes an image of its lists, without taking memory.
-    pub(crate) fn from_lists(words: Seq<Seq<u64>>) -> Image
+    /// An image of the words of each memory, in the order of the memories; it takes no memory.
+    pub fn from_lists(words: Seq<Seq<u64>>) -> Image
         ensures { result ≡ words }
     {
         Image { words }

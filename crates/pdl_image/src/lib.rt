@@ -7,8 +7,6 @@ pub mod image;
 mod lines;
 pub mod read;
 mod slots;
-#[cfg(test)]
-mod tests;
 mod word;
 
 pub use file_error::FileError;

@@ -1,7 +1,7 @@
 -- The lowest broken rule of a list of rules is that of its first part, or else that of the rest.
 use Rattle.std.proofs.Common.{◌≡◌, refl, ℕ, List, [], ◌∷◌, ◌++◌, Option, Some, None}
 use Rattle.pdl_kit.specs.declared.rule.Rule.{Rule}
-use Rattle.pdl_model.specs.Tree.{Pipe}
+use Rattle.pdl_semantics.specs.Tree.{Pipe}
 use Rattle.pdl_rules.specs.Places.{places}
 use Rattle.pdl_rules.specs.Refusal.{Refused, broken_line, refused_at, first_broken}
 

@@ -3,7 +3,7 @@ use Rattle.std.specs.Prelude.{◌≡◌, List, [], ◌∷◌, ◌++◌, None, Re
 use Rattle.pdl_kit.specs.declared.rule.Rule.{Rule}
 use Rattle.pdl_kit.specs.declared.rule.Rule.TheVariants.{F1, F2, F3, F4, F5}
 use Rattle.pdl_kit.specs.declared.refusal.Refusal.{Refusal}
-use Rattle.pdl_model.specs.Tree.{Pipe}
+use Rattle.pdl_semantics.specs.Tree.{Pipe}
 use Rattle.pdl_rules.specs.Refusal.{first_broken}
 use Rattle.pdl_widths.specs.Order.{width_rules}
 use Rattle.pdl_locks.specs.Plan.{Tells, lock_rules}

@@ -2,7 +2,5 @@
 #![tactic(auto)]
 
 pub mod order;
-#[cfg(test)]
-mod tests;
 
 pub use order::{Plans, judge};

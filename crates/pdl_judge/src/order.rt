@@ -1,7 +1,7 @@
 // The rules of the tree in their order.
 ghost use Rattle.std.specs.Prelude.{◌≡◌, ◌≤◌, ◌++◌, None, IfOk, map, length, option_map};
 ghost use Rattle.pdl_kit.specs.declared.refusal.Refusal.{Refusal as told};
-ghost use Rattle.pdl_model.specs.Tree as tree;
+ghost use Rattle.pdl_semantics.specs.Tree as tree;
 ghost use Rattle.pdl_tree.specs.View.{pipe_view};
 ghost use Rattle.pdl_rules.specs.Places.{places as spec_places, guards as spec_guards};
 ghost use Rattle.pdl_rules.specs.Refusal.{Refused, first_broken, limits, after_limits};

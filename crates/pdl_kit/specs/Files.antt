@@ -1,5 +1,5 @@
 -- What a read gives of the files that are held, and when it fails.
-use Rattle.std.specs.Prelude.{◌≡◌, ℕ, ◌≤◌, List, Option, Some, None, Result, Err}
+use Rattle.std.specs.Prelude.{◌≡◌, ℕ, List, Option, Some, None, Result, Err, ⊤}
 use Rattle.std.specs.Ordering.{nat_cmp}
 use Rattle.std.specs.Cmp.Lexicographic.{slice_cmp}
 use Rattle.std.specs.FinMap as map
@@ -20,7 +20,7 @@ abbrev pub Gives : Option Held → List ℕ → List ℕ → Type 0
 Gives None name bytes = Unit {0}
 Gives (Some held) name bytes = bytes_of held name ≡ Some bytes
 
--- the count has not fallen, and rose where the answer is `Failed`
+-- the count rose where the answer is `Failed`
 abbrev pub ReadHasCause : {T : Type 0} → ℕ → ℕ → Result T ReadError → Type 0
 ReadHasCause before now (Err Failed) = Rose before now
-ReadHasCause before now _ = before ≤ now
+ReadHasCause before now _ = ⊤

@@ -39,11 +39,12 @@ pub trait Files {
 
     /// Reads a file to its end.
     ///
-    /// `Failed` comes only where the count of faults rose. A name that isn't there is a fault, and so is a file of more than `LONGEST_FILE` bytes. Want of memory may come at any call.
+    /// The count of faults never falls, and `Failed` comes only where it rose. A name that isn't there is a fault, and so is a file of more than `LONGEST_FILE` bytes. Want of memory may come at any call.
     fn read(&mut self, name: &str) -> Result<Vec<u8>, ReadError>
         requires { IsTrue (may self.old name.now) }
         ensures bytes { IfOk result (λ b. Gives (holds self.old) name.now b.items) }
         ensures bound { IfOk result (λ b. vec_len b ≤ LONGEST_FILE) }
+        ensures later { faults self.old ≤ faults self.new }
         ensures cause { ReadHasCause (faults self.old) (faults self.new) result }
         ensures held { holds self.new ≡ holds self.old }
         ensures allowed { (n : List ℕ) → may self.new n ≡ may self.old n };

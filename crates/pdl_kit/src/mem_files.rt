@@ -44,6 +44,7 @@ impl MemFiles {
     // A fault is counted.
     fn fault(&mut self) -> ReadError
         ensures state { self.new ≡ record self.old { faults = raised self.old.faults } }
+        ensures later { self.old.faults ≤ self.new.faults }
         ensures failed { result ≡ ReadError.Failed }
     {
         self.faults = self.faults.saturating_add(1);
@@ -84,6 +85,7 @@ impl Files for MemFiles {
         ensures state { self.new ≡ after_read self.old result }
         ensures bytes { IfOk result (λ b. Gives (Some (held_of self.old.files)) name.now b.items) }
         ensures bound { IfOk result (λ b. vec_len b ≤ LONGEST_FILE) }
+        ensures later { self.old.faults ≤ self.new.faults }
         ensures cause { ReadHasCause self.old.faults self.new.faults result }
     {
         self.calls = self.calls.saturating_add(1);

@@ -1,5 +1,5 @@
 // The files of the system.
-ghost use Rattle.std.specs.Prelude.{◌≡◌, None, true};
+ghost use Rattle.std.specs.Prelude.{◌≡◌, ◌≤◌, None, true};
 ghost use Rattle.pdl_kit.specs.Counts.{raised};
 
 use crate::files::{Files, LONGEST_FILE, ReadError};
@@ -32,6 +32,7 @@ impl<R: std::rt::Files + AllocGlobal> RealFiles<R> {
     // A fault is counted.
     fn fault(&mut self) -> ReadError
         ensures state { self.new ≡ record self.old { faults = raised self.old.faults } }
+        ensures later { self.old.faults ≤ self.new.faults }
         ensures failed { result ≡ ReadError.Failed }
     {
         self.faults = self.faults.saturating_add(1);

@@ -3,7 +3,7 @@ use Rattle.std.proofs.Common.{◌≡◌, refl, sym, ap, ◌∙◌, ℕ, ◌+◌,
 use mathlib.Core.Path.{fun_ext}
 use Rattle.std.specs.List.{list_any}
 use Rattle.std.proofs.lemmas.List.Folds.{list_any-append}
-use Rattle.pdl_model.specs.Tree.{Location, Kind, R, W, Reserve, Block, Release, Write}
+use Rattle.pdl_semantics.specs.Tree.{Location, Kind, R, W, Reserve, Block, Release, Write}
 use Rattle.pdl_rules.specs.Places.{Place, Statement}
 use Rattle.pdl_rules.specs.Locks as spec
 use Rattle.pdl_rules.specs.Locks.{held, after_place, reserves_location, writes_location, reserves, writes, same_kind}

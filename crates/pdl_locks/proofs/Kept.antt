@@ -3,7 +3,7 @@ use Rattle.std.proofs.Common.{◌≡◌, refl, sym, ap, ◌∙◌, subst, ℕ, �
 use Rattle.std.proofs.lemmas.Bool.{false≢true}
 use Rattle.std.proofs.lemmas.List.{get_or-set_other, length-set, get_or-replicate, length-replicate}
 use Rattle.std.proofs.lemmas.Grind.{get_or-set_at}
-use Rattle.pdl_model.specs.Tree.{Location}
+use Rattle.pdl_semantics.specs.Tree.{Location}
 use Rattle.pdl_rules.specs.Places.{Place, Guard, on_path}
 use Rattle.pdl_rules.specs.Parts.{passes}
 use Rattle.pdl_paths.specs.declared.place.Place as r_place

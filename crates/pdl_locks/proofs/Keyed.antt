@@ -4,7 +4,7 @@ use mathlib.Core.Path.{fun_ext}
 use Rattle.std.specs.List.{position_or_len}
 use Rattle.std.proofs.lemmas.Bool.{false≢true}
 use Rattle.std.proofs.lemmas.List.Sums.{passes_at_first}
-use Rattle.pdl_model.specs.Tree.{Location}
+use Rattle.pdl_semantics.specs.Tree.{Location}
 use Rattle.pdl_rules.specs.Places.{Place}
 use Rattle.pdl_rules.specs.Parts.{passes}
 use Rattle.pdl_rules.proofs.Once.{bytes_same, bytes_refl, bytes_sym, location_refl, location_sym, same_right}

@@ -1,7 +1,7 @@
 -- The lines of the rules.
 use Rattle.std.proofs.Common.{◌≡◌, [], filter}
 use Rattle.pdl_kit.specs.declared.rule.Rule.TheVariants.{L1, L3, L4, L5, L6, L7}
-use Rattle.pdl_model.specs.Tree.{Pipe}
+use Rattle.pdl_semantics.specs.Tree.{Pipe}
 use Rattle.pdl_rules.specs.Places.{places, guards, on_path}
 use Rattle.pdl_rules.specs.Refusal.{broken_line}
 use Rattle.pdl_pathrules.specs.Lowest.{line_where, on_some}

@@ -5,7 +5,7 @@ use Rattle.std.specs.Cmp.{both_ways}
 use Rattle.std.proofs.lemmas.Option.{slice_get-get_or}
 use Rattle.std.proofs.lemmas.Bool.{false≢true, or_left, or_right}
 use Rattle.std.proofs.lemmas.List.Folds.{list_any-append}
-use Rattle.pdl_model.specs.Tree.{Location, Reserve, Block, Release}
+use Rattle.pdl_semantics.specs.Tree.{Location, Reserve, Block, Release}
 use Rattle.pdl_rules.specs.Places.{Place, Guard, Statement, on_path}
 use Rattle.pdl_rules.specs.Parts.{passes}
 use Rattle.pdl_rules.specs.Locks as spec

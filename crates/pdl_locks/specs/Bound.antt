@@ -1,6 +1,6 @@
 -- The stages in which locked memories are released, and what L8 asks with them.
 use Rattle.std.specs.Prelude.{◌≡◌, ℕ, ◌-◌, ◌^◌, List, [], map, length, if◌then◌else◌, Option, Some, None}
-use Rattle.pdl_model.specs.Tree.{Location, Pipe}
+use Rattle.pdl_semantics.specs.Tree.{Location, Pipe}
 use Rattle.pdl_rules.specs.Places.{Place, Guard, places}
 use Rattle.pdl_rules.specs.Locks.{is_locked}
 use Rattle.pdl_rules.specs.Stages.{first_stage, releases_memory}

@@ -1,7 +1,7 @@
 -- Numbers of locations and of memories.
 use Rattle.std.specs.Prelude.{◌≡◌, ℕ, Bool, List, map, length, Option, Some, None, bytes_eq}
 use Rattle.std.specs.List.{position_or_len}
-use Rattle.pdl_model.specs.Tree.{Location}
+use Rattle.pdl_semantics.specs.Tree.{Location}
 use Rattle.pdl_rules.specs.Places.{Place}
 use Rattle.pdl_rules.specs.Parts.{passes}
 use Rattle.pdl_rules.specs.Locks.{same_location}

@@ -1,6 +1,6 @@
 -- A place that isn't on the path.
 use Rattle.std.proofs.Common.{◌≡◌, sym, subst, false, List, [], ◌∷◌, ◌++◌, filter}
-use Rattle.pdl_model.specs.Tree.{Location}
+use Rattle.pdl_semantics.specs.Tree.{Location}
 use Rattle.pdl_rules.specs.Places.{Place, Guard, on_path}
 use Rattle.pdl_pathrules.specs.Earlier.{earlier_same}
 use Rattle.pdl_locks.specs.declared.numbers.Keys.{Keys}

@@ -4,7 +4,7 @@ use Rattle.pdl_kit.specs.declared.rule.Rule.{Rule}
 use Rattle.pdl_kit.specs.declared.rule.Rule.TheVariants.{L1, L2, L3, L4, L5, L6, L7, L8}
 use Rattle.pdl_kit.specs.declared.refusal.Refusal.{Refusal}
 use Rattle.pdl_kit.specs.declared.refusal.Refusal.TheVariants.{Refused, NoMemory}
-use Rattle.pdl_model.specs.Tree.{Mem, Pipe}
+use Rattle.pdl_semantics.specs.Tree.{Mem, Pipe}
 use Rattle.pdl_rules.specs.Places.{places}
 use Rattle.pdl_rules.specs.Stages.{first_stage, reserves_memory, releases_memory}
 use Rattle.pdl_rules.specs.Refusal as rules

@@ -1,7 +1,7 @@
 -- What was done so far at a location, and with a memory.
 use Rattle.std.specs.Prelude.{◌≡◌, ℕ, ◌<◌, Bool, List, length, get_or, min, count_by, slice_get, Some}
 use Rattle.std.specs.List.{list_any}
-use Rattle.pdl_model.specs.Tree.{Location, R, W}
+use Rattle.pdl_semantics.specs.Tree.{Location, R, W}
 use Rattle.pdl_rules.specs.Places.{Place}
 use Rattle.pdl_rules.specs.Parts.{passes}
 use Rattle.pdl_rules.specs.Locks as spec

@@ -8,8 +8,6 @@ pub mod check;
 pub mod hold;
 pub mod numbers;
 pub mod plan;
-#[cfg(test)]
-mod tests;
 pub mod uses;
 
 pub use at_locations::{AtLocations, LocationRule, is_locked, location_line, pass};

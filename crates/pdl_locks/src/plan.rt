@@ -1,6 +1,6 @@
 // The stages in which memories are reserved and released.
 ghost use Rattle.std.specs.Prelude.{◌≡◌, map, slice_get, IfOk};
-ghost use Rattle.pdl_model.specs.Tree as tree;
+ghost use Rattle.pdl_semantics.specs.Tree as tree;
 ghost use Rattle.pdl_tree.specs.View.{mem_view, pipe_view};
 ghost use Rattle.pdl_rules.specs.Places.{places as spec_places};
 ghost use Rattle.pdl_paths.specs.Actions.{place_view};

@@ -1,6 +1,6 @@
 // What was done so far on a path, at a location and with a memory.
 ghost use Rattle.std.specs.Prelude.{◌≡◌, ℕ, ◌+◌, [], ◌∷◌, ◌++◌, List, cond, min, get_or, Some};
-ghost use Rattle.pdl_model.specs.Tree.{Location as SpecLocation};
+ghost use Rattle.pdl_semantics.specs.Tree.{Location as SpecLocation};
 ghost use Rattle.pdl_tree.specs.View.{kind_view};
 ghost use Rattle.pdl_rules.specs.Places as rules;
 ghost use Rattle.pdl_rules.specs.Locks as spec;

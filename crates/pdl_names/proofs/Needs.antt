@@ -2,7 +2,7 @@
 use Rattle.std.proofs.Common.{◌≡◌, sym, ap, ◌∙◌, subst, ℕ, ◌<◌, ◌≤◌, Bool, true, false, ◌&&◌, not, List, [], ◌∷◌, ◌++◌, map, length, take, slice_get, nat_le, bytes_eq, Some, None, append_assoc}
 use Rattle.std.specs.List.{list_any}
 use Rattle.std.proofs.lemmas.Bool.{or_left, and_from, lt-ltb}
-use Rattle.pdl_model.specs.Tree.{Param, Pipe}
+use Rattle.pdl_semantics.specs.Tree.{Param, Pipe}
 use Rattle.pdl_rules.specs.Places.{Place, Parameter, Memory, End, StartClause, statements, places}
 use Rattle.pdl_rules.specs.Parts.{passes}
 use Rattle.pdl_rules.specs.Names.{Use, OfVariable, OfMemory, OfGuess, defines, is_undefined, is_parameter, is_too_early}

@@ -3,7 +3,7 @@ use Rattle.std.proofs.Common.{◌≡◌, refl, sym, ap, ap₂, ◌∙◌, subst,
 use Rattle.std.specs.List.{list_any}
 use Rattle.std.proofs.lemmas.Bool.{or_left, or_right, both_ways, false_from_ne_true, lt-ltb}
 use Rattle.pdl_kit.specs.declared.rule.Rule.TheVariants.{N2}
-use Rattle.pdl_model.specs.Tree.{Pipe}
+use Rattle.pdl_semantics.specs.Tree.{Pipe}
 use Rattle.pdl_rules.specs.Places.{Place, Guard, places, guards, on_path, on_some_path}
 use Rattle.pdl_rules.specs.Names.{Use, defines, is_undefined, is_given, is_delayed}
 use Rattle.pdl_rules.specs.Refusal.{broken_line}

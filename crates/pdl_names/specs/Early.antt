@@ -1,6 +1,6 @@
 -- Uses that come before what they use.
 use Rattle.std.specs.Prelude.{◌<◌, Bool, ℕ, List, length, map, take, slice_get}
-use Rattle.pdl_model.specs.Tree.{Pipe}
+use Rattle.pdl_semantics.specs.Tree.{Pipe}
 use Rattle.pdl_tree.specs.View.{pipe_view}
 use Rattle.pdl_rules.specs.Places.{Place, places, guards}
 use Rattle.pdl_rules.specs.Parts.{passes}

@@ -8,8 +8,6 @@ mod index;
 pub mod names;
 mod passed;
 mod rules;
-#[cfg(test)]
-mod tests;
 mod uses;
 
 pub use names::check_names;

@@ -8,8 +8,6 @@ mod plan;
 mod sim;
 mod start;
 mod step;
-#[cfg(test)]
-mod tests;
 mod widths;
 mod writes;
 

@@ -4,8 +4,6 @@
 pub mod lowest;
 pub mod one_call;
 pub mod path_rule;
-#[cfg(test)]
-mod tests;
 
 pub use lowest::broken_at;
 pub use one_call::{OneCall, calls_broken_at};

@@ -2,7 +2,7 @@
 ghost use Rattle.std.specs.Prelude.{◌≡◌, ◌≤◌, [], filter, map, length, ⊤, IfOk};
 ghost use Rattle.std.specs.List.{list_any};
 ghost use Rattle.pdl_kit.specs.declared.rule.Rule.TheVariants as names;
-ghost use Rattle.pdl_model.specs.Tree.{Pipe};
+ghost use Rattle.pdl_semantics.specs.Tree.{Pipe};
 ghost use Rattle.pdl_rules.specs.Places.{on_path, places as spec_places, guards as spec_guards};
 ghost use Rattle.pdl_rules.specs.Refusal.{broken_line};
 ghost use Rattle.pdl_rules.specs.Calls as calls;

@@ -2,7 +2,7 @@
 use Rattle.std.proofs.Common.{◌≡◌, refl, sym, ap, ap₂, ◌∙◌, subst, Bool, true, false, ◌||◌, not, List, [], ◌∷◌, ◌++◌, fold, if◌then◌else◌}
 use Rattle.std.proofs.lemmas.Bool.{and_parts, and_from, or_parts, both_ways, false_from_ne_true}
 use Rattle.std.proofs.lemmas.List.Folds.{list_any-append}
-use Rattle.pdl_model.specs.Tree.{If}
+use Rattle.pdl_semantics.specs.Tree.{If}
 use Rattle.pdl_rules.specs.Places.{Place, Statement, Guard, guard_of, same_guard, is_among, with_guard, guards}
 use Rattle.pdl_paths.specs.Masks.{are_distinct}
 use Rattle.pdl_paths.proofs.Chosen.{guard_refl, guard_same, opposite}

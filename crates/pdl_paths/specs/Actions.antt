@@ -1,7 +1,7 @@
 -- The place at which an action stands.
 use Rattle.std.specs.Prelude.{List, map, Option, None}
-use Rattle.pdl_model.specs.Tree as tree
-use Rattle.pdl_model.specs.Tree.{Span, Location}
+use Rattle.pdl_semantics.specs.Tree as tree
+use Rattle.pdl_semantics.specs.Tree.{Span, Location}
 use Rattle.pdl_rules.specs.Places.{Branch, Place, Parameter, Memory, Statement, End, StartClause}
 use Rattle.pdl_rules.specs.Parts.{location_of}
 use Rattle.pdl_tree.specs.View.{span_view, param_view, mem_view, start_view, ident_view, location_view, kind_view, expr_view, exprs_view, stmts_view}

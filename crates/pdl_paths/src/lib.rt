@@ -8,8 +8,6 @@ pub mod mask;
 pub mod path;
 pub mod place;
 pub mod readers;
-#[cfg(test)]
-mod tests;
 pub mod walk;
 
 pub use action::Action;

@@ -1,7 +1,7 @@
 -- The words that reads find are below the bound of all words and pending values.
 use Rattle.std.proofs.Common.{ℕ, ◌<◌, Bool, true, false, ◌&&◌, if◌then◌else◌, ◌==◌, nat_lt, List, [], ◌∷◌, Option, Some, None, slice_index}
-use Rattle.pdl_model.specs.Locks.{Latest, Nothing, Coming, Known, as_latest, value_or}
-use Rattle.pdl_model.specs.Machine.{Pending, youngest}
+use Rattle.pdl_semantics.specs.Locks.{Latest, Nothing, Coming, Known, as_latest, value_or}
+use Rattle.pdl_semantics.specs.Machine.{Pending, youngest}
 use Rattle.pdl_pending.specs.Memory.{Memory}
 use Rattle.pdl_pending.specs.Kept.{IsBelow, AreKept, IsKept}
 

@@ -1,7 +1,7 @@
 -- Values put into entries.
 use Rattle.std.proofs.Common.{◌≡◌, refl, ap, ℕ, List, [], ◌∷◌, ◌++◌, Some, if◌then◌else◌, ◌==◌}
-use Rattle.pdl_model.specs.Machine.{Pending}
-use Rattle.pdl_model.specs.Cycle.{put}
+use Rattle.pdl_semantics.specs.Machine.{Pending}
+use Rattle.pdl_semantics.specs.Cycle.{put}
 
 pub put-append : (t v : ℕ) (a b : List Pending) → put t v (a ++ b) ≡ put t v a ++ put t v b
 put-append t v [] b = refl

@@ -1,6 +1,6 @@
 -- Words and pending writes that a memory can hold.
 use Rattle.std.specs.Prelude.{◌≡◌, ℕ, ◌<◌, List, [], ◌∷◌, Option, Some, None, length, slice_index, ⊤}
-use Rattle.pdl_model.specs.Machine.{Pending}
+use Rattle.pdl_semantics.specs.Machine.{Pending}
 use Rattle.pdl_pending.specs.Memory.{Memory}
 
 -- a value below n, as far as it is known

@@ -1,8 +1,8 @@
 -- Memories as they run.
-use Rattle.std.specs.Prelude.{ℕ, Bool, true, false, List, Option, Some, None, slice_set}
-use Rattle.pdl_model.specs.Flat.{Lock, Plain}
-use Rattle.pdl_model.specs.Locks.{commit_value}
-use Rattle.pdl_model.specs.Machine.{Pending}
+use Rattle.std.specs.Prelude.{ℕ, List, Option, Some, None, slice_set}
+use Rattle.pdl_semantics.specs.Flat.{Lock}
+use Rattle.pdl_semantics.specs.Locks.{commit_value}
+use Rattle.pdl_semantics.specs.Machine.{Pending}
 
 -- a memory: its words, its lock, its pending writes, oldest first, and for how many of these it has room
 pub record Memory : Type 0 where
@@ -15,8 +15,3 @@ pub record Memory : Type 0 where
 abbrev pub committed_to : List ℕ → Option Pending → List ℕ
 committed_to words None = words
 committed_to words (Some e) = slice_set words e.address (commit_value e.value)
-
--- whether there is a lock
-abbrev pub has_lock : Lock → Bool
-has_lock Plain = false
-has_lock _ = true

@@ -1,7 +1,7 @@
 -- What values of the program stand for.
 use Rattle.std.specs.Prelude.{Option, Some, None}
-use Rattle.pdl_model.specs.Locks as locks
-use Rattle.pdl_model.specs.Machine.{Pending, Reserved, Written}
+use Rattle.pdl_semantics.specs.Locks as locks
+use Rattle.pdl_semantics.specs.Machine.{Pending, Reserved, Written}
 use Rattle.pdl_pending.specs.declared.pending.Pending as r_pending
 use Rattle.pdl_pending.specs.declared.pending.Reserved as r_reserved
 use Rattle.pdl_pending.specs.declared.pending.Written as r_written

@@ -1,7 +1,7 @@
 // What the youngest of older threads' pending writes says of an address, and what the kinds of lock make of it.
 ghost use Rattle.std.specs.Prelude.{◌≡◌, ◌&&◌, ◌==◌, nat_lt, if◌then◌else◌, map};
-ghost use Rattle.pdl_model.specs.Locks as locks;
-ghost use Rattle.pdl_model.specs.Machine as machine;
+ghost use Rattle.pdl_semantics.specs.Locks as locks;
+ghost use Rattle.pdl_semantics.specs.Machine as machine;
 ghost use Rattle.pdl_form.specs.View.{lock_view};
 ghost use Rattle.pdl_pending.specs.View.{pending_view, latest_view};
 

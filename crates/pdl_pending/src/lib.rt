@@ -4,8 +4,6 @@
 mod latest;
 mod memory;
 mod pending;
-#[cfg(test)]
-mod tests;
 
 pub use memory::Memory;
 pub use pending::{Pending, Reserved, Written};

@@ -1,11 +1,12 @@
 // A memory as it runs.
 ghost use Rattle.std.specs.Prelude.{◌≡◌, ◌≤◌, ◌<◌, ◌+◌, ◌++◌, [], if◌then◌else◌, length, map, slice_index, IfOk, IfSome};
-ghost use Rattle.pdl_model.specs.Locks as locks;
-ghost use Rattle.pdl_model.specs.Machine as machine;
-ghost use Rattle.pdl_model.specs.Cycle as cycle;
+ghost use Rattle.pdl_semantics.specs.Locks as locks;
+ghost use Rattle.pdl_semantics.specs.Machine as machine;
+ghost use Rattle.pdl_semantics.specs.Cycle as cycle;
 ghost use Rattle.pdl_form.specs.View.{lock_view};
 ghost use Rattle.pdl_pending.specs.View.{latest_view, entry_view, reserved_view, written_view};
-ghost use Rattle.pdl_pending.specs.Memory.{committed_to, has_lock};
+ghost use Rattle.pdl_semantics.specs.Flat.{has_lock};
+ghost use Rattle.pdl_pending.specs.Memory.{committed_to};
 
 use crate::latest::{Latest, youngest};
 use crate::pending::{Pending, Reserved, Written, append, fill};

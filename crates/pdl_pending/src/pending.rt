@@ -1,6 +1,6 @@
 // Pending writes of a lock, oldest first, and what threads do to them.
 ghost use Rattle.std.specs.Prelude.{◌≡◌, ◌≤◌, ◌+◌, ◌++◌, ◌==◌, if◌then◌else◌, [], ◌∷◌, map, length, vec_len, vec_capacity};
-ghost use Rattle.pdl_model.specs.Cycle as cycle;
+ghost use Rattle.pdl_semantics.specs.Cycle as cycle;
 ghost use Rattle.pdl_pending.specs.View.{pending_view, reserved_view, written_view};
 
 /// A pending write: the number of its thread, its address, and its value or none.

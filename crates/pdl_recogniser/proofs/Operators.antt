@@ -1,6 +1,6 @@
 -- What a token brings: one that is the symbol itself, the end of a list, or an operator.
 use Rattle.std.proofs.Common.{◌≡◌, Bool, true, false, [], ◌∷◌, Option, Some, None, is_some, Ok, cond, refl, sym}
-use Rattle.pdl_model.specs.Tree.{BinaryOp}
+use Rattle.pdl_semantics.specs.Tree.{BinaryOp}
 use Rattle.pdl_tokens.specs.declared.token.Mark.{Mark}
 use Rattle.pdl_tokens.specs.declared.token.Mark.TheVariants as mark
 use Rattle.pdl_tokens.specs.declared.token.TokenKind.{TokenKind}

@@ -1,7 +1,7 @@
 -- The automaton's run, a token at a time, and what it tells.
 use Rattle.std.proofs.Common.{◌≡◌, ℕ, ◌<◌, Bool, true, false, List, [], ◌∷◌, ◌++◌, length, Option, Some, None, Result, IfOk, Ok, Err, refl, sym, ap, ◌∙◌, arith}
 use Rattle.pdl_kit.specs.declared.no_memory.NoMemory.{NoMemory}
-use Rattle.pdl_model.specs.Tree.{Pipe}
+use Rattle.pdl_semantics.specs.Tree.{Pipe}
 use Rattle.pdl_tokens.specs.declared.token.TokenKind.{TokenKind}
 use Rattle.pdl_tokens.specs.Cursor.{next, first_kind}
 use Rattle.pdl_tokens.specs.Tokens.{Row, tokens, last_line}

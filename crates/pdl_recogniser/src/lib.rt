@@ -6,5 +6,3 @@ mod expecting;
 pub mod misplaced;
 mod stack;
 mod symbol;
-#[cfg(test)]
-mod tests;

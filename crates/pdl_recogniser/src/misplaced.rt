@@ -2,7 +2,7 @@
 ghost use Rattle.std.specs.Prelude.{◌≡◌, ◌≤◌, ℕ, Some, None, IfOk, length};
 ghost use Rattle.pdl_grammar.specs.Automaton as spec;
 ghost use Rattle.pdl_grammar.specs.Text.{IsText, IsOutOfPlace};
-ghost use Rattle.pdl_model.specs.Tree as tree;
+ghost use Rattle.pdl_semantics.specs.Tree as tree;
 ghost use Rattle.pdl_recogniser.specs.Answers.{IsRecognised, StepsTo, taken};
 
 use crate::expecting::{first_of, takes};

@@ -5,8 +5,8 @@ use Rattle.std.proofs.lemmas.Bool.{false≢true, or_parts, or_cases, or_left, or
 use Rattle.std.proofs.lemmas.List.Folds.{list_any-append}
 use Rattle.std.proofs.lemmas.List.Sums.{fold-append}
 use Rattle.std.specs.List.{list_any}
-use Rattle.pdl_model.specs.Tree.{CombRead, Bind, DelayedRead, Param, Mem, Pipe}
-use Rattle.pdl_model.specs.Flatten.{Var, var_width, mem_width, width_of, params_of}
+use Rattle.pdl_semantics.specs.Tree.{CombRead, Bind, DelayedRead, Param, Mem, Pipe}
+use Rattle.pdl_semantics.specs.Flatten.{Var, var_width, mem_width, width_of, params_of}
 use Rattle.pdl_rules.specs.Places.{Place, Parameter, Memory, Statement, places}
 use Rattle.pdl_rules.specs.Parts.{passes}
 use Rattle.pdl_rules.specs.Names.{variable_at, name_at, is_taken_name, breaks_n2}

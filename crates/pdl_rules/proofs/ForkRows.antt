@@ -2,7 +2,7 @@
 use Rattle.std.specs.Prelude.{◌≡◌, ℕ, List, [], ◌∷◌, ◌++◌, Option, Some, None, refl}
 use Rattle.pdl_kit.specs.declared.rule.Rule.{Rule}
 use Rattle.pdl_kit.specs.declared.rule.Rule.TheVariants.{N3, F1, F2, F3, F4, L2, L8}
-use Rattle.pdl_model.specs.Tree.{ZeroExtend, R, W}
+use Rattle.pdl_semantics.specs.Tree.{ZeroExtend, R, W}
 use Rattle.pdl_rules.specs.Refusal.{Refused, refusal}
 use Rattle.pdl_rules.proofs.Texts.{number, literal, constant, variable, slice, plus, Line, separator, choice, bind, read, delayed_read, write, reserve, block, release, call, spec_check, queue, param, comb, slow, whole}
 

@@ -2,7 +2,7 @@
 use Rattle.std.specs.Prelude.{◌≡◌, ℕ, List, [], ◌∷◌, ◌++◌, Option, Some, None, refl}
 use Rattle.pdl_kit.specs.declared.rule.Rule.{Rule}
 use Rattle.pdl_kit.specs.declared.rule.Rule.TheVariants.{N1, N3, S1, S2, S3, S4, S5}
-use Rattle.pdl_model.specs.Tree.{ZeroExtend, R, W}
+use Rattle.pdl_semantics.specs.Tree.{ZeroExtend, R, W}
 use Rattle.pdl_rules.specs.Refusal.{Refused, refusal}
 use Rattle.pdl_rules.proofs.Texts.{number, constant, variable, slice, plus, Line, separator, choice, bind, write, reserve, block, release, call, spec_call, verify, spec_check, spec_barrier, pipe}
 

@@ -4,7 +4,7 @@ use Rattle.std.proofs.lemmas.Bool.{false≢true, and_parts, and_from, or_from, o
 use Rattle.std.proofs.lemmas.List.Folds.{list_all-append}
 use Rattle.std.specs.List.{list_any, list_all}
 use Rattle.pdl_kit.specs.declared.rule.Rule.TheVariants.{F1, F2, F3, F4, L2, L8, S2, S3, S4, S5}
-use Rattle.pdl_model.specs.Tree.{Separator, CombRead, DelayedRead, SpecCall, Reserve, Release, If, Verify, Mem, Pipe}
+use Rattle.pdl_semantics.specs.Tree.{Separator, CombRead, DelayedRead, SpecCall, Reserve, Release, If, Verify, Mem, Pipe}
 use Rattle.pdl_rules.specs.Places.{Place, Statement, Memory, Guard, on_path, on_some_path, paths, choices, places}
 use Rattle.pdl_rules.specs.Parts.{passes}
 use Rattle.pdl_rules.specs.Limits.{is_separator}

@@ -4,8 +4,8 @@ use Rattle.std.specs.Prelude.{IsTrue}
 use Rattle.std.proofs.lemmas.Bool.{false≢true, and_parts, and_from, or_parts, or_cases, or_from, both_ways, and_cases, false_from_ne_true, eqb-true, not-false}
 use Rattle.std.proofs.lemmas.List.Folds.{list_any-append}
 use Rattle.std.specs.List.{list_any, list_all}
-use Rattle.pdl_model.specs.Tree.{Location, Stmt, Separator, CombRead, Bind, SpecCall, DelayedRead, Write, Reserve, Block, Release, If, Call, Stmts, Nil, Cons, Param, Mem, Pipe}
-use Rattle.pdl_model.specs.Flatten.{Var, var_width, mem_width, width_of, params_of}
+use Rattle.pdl_semantics.specs.Tree.{Location, Stmt, Separator, CombRead, Bind, SpecCall, DelayedRead, Write, Reserve, Block, Release, If, Call, Stmts, Nil, Cons, Param, Mem, Pipe}
+use Rattle.pdl_semantics.specs.Flatten.{Var, var_width, mem_width, width_of, params_of}
 use Rattle.pdl_rules.specs.Places.{Place, Parameter, Memory, Statement, StartClause, statements, places, on_some_path}
 use Rattle.pdl_rules.specs.Parts.{location_of, passes}
 use Rattle.pdl_rules.specs.Names.{OfVariable, OfMemory, in_location, is_undefined, is_parameter, is_given, is_too_early}

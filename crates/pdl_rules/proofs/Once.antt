@@ -6,7 +6,7 @@ use Rattle.std.proofs.lemmas.List.Folds.{list_any-append, list_all-append}
 use Rattle.std.proofs.lemmas.List.Sums.{fold-append}
 use Rattle.std.proofs.lemmas.Slice.Eq.{bytes_eq-Decides}
 use Rattle.std.specs.List.{list_any, list_all}
-use Rattle.pdl_model.specs.Tree.{Span, Expr, Location, R, W, Write, Reserve, Block, Release, Pipe}
+use Rattle.pdl_semantics.specs.Tree.{Span, Expr, Location, R, W, Write, Reserve, Block, Release, Pipe}
 use Rattle.pdl_rules.specs.Places.{Place, Statement, End, Branch}
 use Rattle.pdl_rules.specs.Locks.{same_location, same_kind, Hold, Nothing, Reserved, Blocked, Released, blocked, after_place, held, is_blocked_for, is_held_for, lacks_hold, is_late_read, reserves, writes, is_one_too_many, is_reserved_again, is_not_written_once, ends_open, reserves_location, writes_location, leaves_open}
 use Rattle.pdl_rules.proofs.Straight.{Each, Keeps}

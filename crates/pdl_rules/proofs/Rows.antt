@@ -3,7 +3,7 @@ use Prim.Native.String.{String}
 use Rattle.std.specs.Prelude.{Bool, true, false, ◌≡◌, ℕ, ◌+◌, List, [], ◌∷◌, ◌++◌, map, replicate, Option, Some, None, refl}
 use Rattle.pdl_kit.specs.declared.rule.Rule.{Rule}
 use Rattle.pdl_kit.specs.declared.rule.Rule.TheVariants.{Z4, Z7, N1, N2, N3, W1, W2, W3, W4, W5, W6, F5, L1, L2, L3, L4, L5, L6, L7, S1}
-use Rattle.pdl_model.specs.Tree.{ZeroExtend, SignExtend, Cat, Choose, R, W, Pipe}
+use Rattle.pdl_semantics.specs.Tree.{ZeroExtend, SignExtend, Cat, Choose, R, W, Pipe}
 use Rattle.pdl_rules.specs.Places.{Parameter, Statement}
 use Rattle.pdl_rules.specs.Limits.{breaks_z2, breaks_z3, breaks_z5}
 use Rattle.pdl_rules.specs.Stages.{breaks_l8}

@@ -4,7 +4,7 @@ use Rattle.std.proofs.lemmas.Bool.{and_parts}
 use Rattle.std.proofs.lemmas.List.Folds.{list_all-append}
 use Rattle.std.specs.List.{list_all}
 use Rattle.pdl_kit.specs.declared.rule.Rule.TheVariants.{Z7, N1, N2, N3, W1, W2, W3, W4, W5, W6, F5, L1, L2, L3, L4, L5, L6, L7, L8, S1}
-use Rattle.pdl_model.specs.Tree.{Pipe}
+use Rattle.pdl_semantics.specs.Tree.{Pipe}
 use Rattle.pdl_rules.specs.Places.{Place, places, choices}
 use Rattle.pdl_rules.specs.Limits.{breaks_z7}
 use Rattle.pdl_rules.specs.Names.{breaks_n1, breaks_n2, breaks_n3}

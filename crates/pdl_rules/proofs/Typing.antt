@@ -4,8 +4,8 @@ use Rattle.std.specs.Prelude.{IsTrue}
 use Rattle.std.specs.Cmp.Lexicographic.{pointwise}
 use Rattle.std.proofs.lemmas.Bool.{false≢true, true≢false, and_parts, or_parts, eqb-true, not-false}
 use Rattle.std.specs.List.{list_any}
-use Rattle.pdl_model.specs.Tree.{Span, Literal, Expr, Constant, Variable, Slice, Not, Binary, Cat, LessSigned, ZeroExtend, SignExtend, Choose, Stmt, Param, Pipe}
-use Rattle.pdl_model.specs.Flatten.{Var, widest, var_width, op_width, width_of}
+use Rattle.pdl_semantics.specs.Tree.{Span, Literal, Expr, Constant, Variable, Slice, Not, Binary, Cat, LessSigned, ZeroExtend, SignExtend, Choose, Stmt, Param, Pipe}
+use Rattle.pdl_semantics.specs.Flatten.{Var, widest, var_width, op_width, width_of}
 use Rattle.pdl_rules.specs.Places.{Place, Statement}
 use Rattle.pdl_rules.specs.Parts.{some_part, some_expr_of, of_constant}
 use Rattle.pdl_rules.specs.Limits.{is_width, is_wrong_literal}

@@ -4,9 +4,9 @@ use Rattle.std.specs.Prelude.{IsTrue}
 use Rattle.std.proofs.lemmas.Bool.{false≢true, and_parts}
 use Rattle.std.proofs.lemmas.List.Sums.{fold-append}
 use Rattle.std.specs.List.{list_all}
-use Rattle.pdl_model.specs.Tree.{Stmt, DelayedRead, If, Stmts, Nil, Cons, Mem, Pipe}
-use Rattle.pdl_model.specs.Flatten.{Var, at_start, past, past_all}
-use Rattle.pdl_model.specs.Flatten
+use Rattle.pdl_semantics.specs.Tree.{Stmt, DelayedRead, If, Stmts, Nil, Cons, Mem, Pipe}
+use Rattle.pdl_semantics.specs.Flatten.{Var, at_start, past, past_all}
+use Rattle.pdl_semantics.specs.Flatten
 use Rattle.pdl_rules.specs.Places.{Place, Statement, statements, places}
 use Rattle.pdl_rules.specs.Widths.{after_place, variables}
 use Rattle.pdl_rules.specs.Refusal.{KeepsRules, is_lined, all_lined, is_comb, is_in_line}

@@ -1,7 +1,7 @@
 -- The call of the next thread: rule S1.
 use Rattle.std.specs.Prelude.{Bool, true, false, not, List}
 use Rattle.std.specs.List.{list_any}
-use Rattle.pdl_model.specs.Tree.{SpecCall, Call, Pipe}
+use Rattle.pdl_semantics.specs.Tree.{SpecCall, Call, Pipe}
 use Rattle.pdl_rules.specs.Places.{Place, Statement, End, on_some_path}
 
 abbrev pub is_call : Place → Bool

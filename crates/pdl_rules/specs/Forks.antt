@@ -1,8 +1,8 @@
 -- Forks and delayed reads: rules F1 to F4. A fork is an `if` that holds a separator.
 use Rattle.std.specs.Prelude.{ℕ, ◌+◌, Bool, true, false, not, ◌&&◌, ◌||◌, ◌==◌, List, [], ◌∷◌, drop, length, if◌then◌else◌, bytes_eq}
 use Rattle.std.specs.List.{list_any}
-use Rattle.pdl_model.specs.Tree.{Stmt, Separator, CombRead, Bind, SpecCall, DelayedRead, Write, Reserve, Block, Release, If, Call, Verify, SpecCheck, SpecBarrier, Stmts, Mem, Pipe}
-use Rattle.pdl_model.specs.Flatten.{separators}
+use Rattle.pdl_semantics.specs.Tree.{Stmt, Separator, CombRead, Bind, SpecCall, DelayedRead, Write, Reserve, Block, Release, If, Call, Verify, SpecCheck, SpecBarrier, Stmts, Mem, Pipe}
+use Rattle.pdl_semantics.specs.Flatten.{separators}
 use Rattle.pdl_rules.specs.Places.{Place, Statement, Branch, statements, places, behind}
 use Rattle.pdl_rules.specs.Parts.{parts_of}
 use Rattle.pdl_rules.specs.Limits.{is_separator}

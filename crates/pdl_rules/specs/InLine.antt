@@ -1,6 +1,6 @@
 -- Rules L2 and L8 of a pipe whose stages stand in a line: there a place's stage is the number of separators before it.
 use Rattle.std.specs.Prelude.{ℕ, suc, Bool, false, not, ◌&&◌, ◌==◌, nat_lt, List, [], ◌∷◌, ◌++◌, if◌then◌else◌, Option, Some, None}
-use Rattle.pdl_model.specs.Tree.{CombRead, DelayedRead, Reserve, Release, Mem}
+use Rattle.pdl_semantics.specs.Tree.{CombRead, DelayedRead, Reserve, Release, Mem}
 use Rattle.pdl_rules.specs.Places.{Place, Statement}
 use Rattle.pdl_rules.specs.Parts.{passes}
 use Rattle.pdl_rules.specs.Locks.{is_locked}

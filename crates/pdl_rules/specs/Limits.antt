@@ -2,7 +2,7 @@
 use Rattle.std.specs.Prelude.{ℕ, Bool, true, false, not, ◌&&◌, ◌||◌, ◌==◌, nat_lt, nat_le, List, [], ◌∷◌, length, count_by}
 use Rattle.std.specs.List.{list_any}
 use Rattle.std.specs.Option.{is_some}
-use Rattle.pdl_model.specs.Tree.{Literal, Stmt, Separator, If, Mem, LockKind, Queue, Bypass, Rename, LockDecl}
+use Rattle.pdl_semantics.specs.Tree.{Literal, Stmt, Separator, If, Mem, LockKind, Queue, Bypass, Rename, LockDecl}
 use Rattle.pdl_rules.specs.Places.{Place, Parameter, Memory, Statement, guard_of, is_among, guards}
 use Rattle.pdl_rules.specs.Parts.{parts_of, some_literal, passes}
 

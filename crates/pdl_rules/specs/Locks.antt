@@ -2,7 +2,7 @@
 use Rattle.std.specs.Prelude.{ℕ, Bool, true, false, not, ◌&&◌, ◌==◌, nat_le, List, [], ◌∷◌, fold, count_by, if◌then◌else◌, bytes_eq}
 use Rattle.std.specs.List.{list_any}
 use Rattle.std.specs.Option.{is_some}
-use Rattle.pdl_model.specs.Tree.{Location, Kind, R, W, CombRead, DelayedRead, Write, Reserve, Block, Release, Mem, Pipe}
+use Rattle.pdl_semantics.specs.Tree.{Location, Kind, R, W, CombRead, DelayedRead, Write, Reserve, Block, Release, Mem, Pipe}
 use Rattle.pdl_rules.specs.Places.{Place, Statement, End, on_some_path}
 
 -- whether a memory has a lock, by its name

@@ -1,7 +1,7 @@
 -- Names: rules N1 to N3.
 use Rattle.std.specs.Prelude.{ℕ, Bool, true, false, not, ◌&&◌, ◌||◌, List, [], ◌∷◌, bytes_eq, Option, Some, None}
 use Rattle.std.specs.List.{list_any}
-use Rattle.pdl_model.specs.Tree.{Ident, Expr, Variable, Slice, Location, Stmt, DelayedRead, Param, Pipe}
+use Rattle.pdl_semantics.specs.Tree.{Ident, Expr, Variable, Slice, Location, Stmt, DelayedRead, Param, Pipe}
 use Rattle.pdl_rules.specs.Places.{Place, Parameter, Memory, Statement, StartClause, places, on_some_path}
 use Rattle.pdl_rules.specs.Parts.{some_part, parts_of, some_expr_of, location_of, passes}
 use Rattle.pdl_rules.specs.Limits.{is_separator}

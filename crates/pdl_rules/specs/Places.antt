@@ -1,7 +1,7 @@
 -- The places of a source in text order, and its paths: the ways in which its `if`s can go.
 use Rattle.std.specs.Prelude.{ℕ, suc, Bool, true, false, not, ◌&&◌, List, [], ◌∷◌, ◌++◌, map, filter, fold, drop, length, if◌then◌else◌, ◌==◌, bytes_eq}
 use Rattle.std.specs.List.{list_any, list_all}
-use Rattle.pdl_model.specs.Tree.{Span, Expr, Variable, Stmt, Separator, CombRead, Bind, SpecCall, DelayedRead, Write, Reserve, Block, Release, If, Call, Verify, SpecCheck, SpecBarrier, Stmts, Nil, Cons, Param, Mem, Start, Pipe}
+use Rattle.pdl_semantics.specs.Tree.{Span, Expr, Variable, Stmt, Separator, CombRead, Bind, SpecCall, DelayedRead, Write, Reserve, Block, Release, If, Call, Verify, SpecCheck, SpecBarrier, Stmts, Nil, Cons, Param, Mem, Start, Pipe}
 
 -- GUARDS
 

@@ -1,7 +1,7 @@
 -- Guesses: rules S2 to S5. V is the stage of the first `verify` in the text.
 use Rattle.std.specs.Prelude.{ℕ, Bool, true, false, not, ◌&&◌, ◌==◌, nat_lt, List, [], ◌∷◌, bytes_eq, Option}
 use Rattle.std.specs.List.{list_any}
-use Rattle.pdl_model.specs.Tree.{W, SpecCall, Reserve, Release, Verify, SpecCheck, SpecBarrier, Pipe}
+use Rattle.pdl_semantics.specs.Tree.{W, SpecCall, Reserve, Release, Verify, SpecCheck, SpecBarrier, Pipe}
 use Rattle.pdl_rules.specs.Places.{Place, Statement, Guard, on_path, paths, on_some_path, places}
 use Rattle.pdl_rules.specs.Parts.{passes}
 use Rattle.pdl_rules.specs.Locks.{held, is_held_for}

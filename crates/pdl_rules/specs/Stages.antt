@@ -1,7 +1,7 @@
 -- Stages: rules L2 and L8. The stage of a place goes by the text: the k-th separator begins stage k.
 use Rattle.std.specs.Prelude.{ℕ, suc, Bool, true, false, not, ◌&&◌, ◌==◌, nat_lt, List, [], ◌∷◌, ◌++◌, count_by, if◌then◌else◌, bytes_eq, Option, Some, None}
 use Rattle.std.specs.List.{list_any}
-use Rattle.pdl_model.specs.Tree.{CombRead, DelayedRead, Reserve, Release, Pipe}
+use Rattle.pdl_semantics.specs.Tree.{CombRead, DelayedRead, Reserve, Release, Pipe}
 use Rattle.pdl_rules.specs.Places.{Place, Statement, Guard, Branch, same_guard, same_truth, on_path, paths, places, behind}
 use Rattle.pdl_rules.specs.Parts.{passes}
 use Rattle.pdl_rules.specs.Limits.{is_separator}

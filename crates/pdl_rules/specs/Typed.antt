@@ -1,8 +1,8 @@
 -- What a pipe in line that breaks no rule gives a compiler: each name is there when it is used, with the widths that its use wants.
 use Rattle.std.specs.Prelude.{◌≡◌, ℕ, ◌+◌, ◌^◌, ◌<◌, ◌≤◌, Bool, true, false, IsTrue, IsFalse, List, [], ◌∷◌, ◌++◌, Option, Some, None, bytes_eq, ⊤}
 use Rattle.std.specs.List.{list_any}
-use Rattle.pdl_model.specs.Tree.{Literal, Expr, Constant, Variable, Slice, Not, Binary, Cat, LessSigned, ZeroExtend, SignExtend, Choose, Location, Stmt, Separator, CombRead, Bind, Write, Reserve, Block, Release, Call, Stmts, Nil, Cons, Param, Mem, Pipe}
-use Rattle.pdl_model.specs.Flatten.{Var, var_width, mem_width, width_of, params_of}
+use Rattle.pdl_semantics.specs.Tree.{Literal, Expr, Constant, Variable, Slice, Not, Binary, Cat, LessSigned, ZeroExtend, SignExtend, Choose, Location, Stmt, Separator, CombRead, Bind, Write, Reserve, Block, Release, Call, Stmts, Nil, Cons, Param, Mem, Pipe}
+use Rattle.pdl_semantics.specs.Flatten.{Var, var_width, mem_width, width_of, params_of}
 use Rattle.pdl_rules.specs.Widths.{mem_depth}
 use Rattle.pdl_rules.specs.Locks.{is_locked}
 

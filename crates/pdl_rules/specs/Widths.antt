@@ -2,8 +2,8 @@
 use Rattle.std.specs.Prelude.{ℕ, ◌+◌, ◌^◌, Bool, true, false, not, ◌||◌, ◌==◌, nat_eq, nat_lt, nat_le, List, [], ◌∷◌, ◌++◌, map, fold, count_by, if◌then◌else◌, bytes_eq, Option, Some, None}
 use Rattle.std.specs.Cmp.Lexicographic.{pointwise}
 use Rattle.std.specs.List.{list_any}
-use Rattle.pdl_model.specs.Tree.{Literal, Expr, Slice, Binary, Cat, LessSigned, ZeroExtend, SignExtend, Choose, Location, CombRead, Bind, DelayedRead, Write, If, Param, Mem, Pipe}
-use Rattle.pdl_model.specs.Flatten.{Var, var_width, mem_width, width_of}
+use Rattle.pdl_semantics.specs.Tree.{Literal, Expr, Slice, Binary, Cat, LessSigned, ZeroExtend, SignExtend, Choose, Location, CombRead, Bind, DelayedRead, Write, If, Param, Mem, Pipe}
+use Rattle.pdl_semantics.specs.Flatten.{Var, var_width, mem_width, width_of}
 use Rattle.pdl_rules.specs.Places.{Place, Parameter, Statement, StartClause, places}
 use Rattle.pdl_rules.specs.Parts.{NoExpressions, One, Arguments, Expressions, parts_of, some_part, some_expr, some_literal, some_location}
 use Rattle.pdl_rules.specs.Limits.{depths}

@@ -2,7 +2,7 @@
 use Rattle.std.proofs.Common.{◌≡◌, refl, ap, ◌∙◌, ℕ, Bool, true, false, not, ◌&&◌, ◌||◌, List, [], ◌∷◌, filter, Option}
 use Rattle.std.specs.List.{list_any}
 use Rattle.pdl_kit.specs.declared.rule.Rule.TheVariants.{S4, S5}
-use Rattle.pdl_model.specs.Tree.{Pipe}
+use Rattle.pdl_semantics.specs.Tree.{Pipe}
 use Rattle.pdl_rules.specs.Places.{Guard, on_path, guards, places, paths}
 use Rattle.pdl_rules.specs.Stages.{stage_of}
 use Rattle.pdl_rules.specs.Speculation.{verify_stage, releases_unsure, needs_check, is_checked, breaks_s4, breaks_s5}

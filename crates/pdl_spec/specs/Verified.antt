@@ -1,6 +1,6 @@
 -- What S2 is asked with.
 use Rattle.std.specs.Prelude.{◌≡◌, ℕ, ◌-◌, ◌^◌, List, [], ◌∷◌, map, length, Option, Some, None}
-use Rattle.pdl_model.specs.Tree.{Pipe}
+use Rattle.pdl_semantics.specs.Tree.{Pipe}
 use Rattle.pdl_rules.specs.Places.{Place, Guard, places}
 use Rattle.pdl_paths.specs.declared.place.Place as r_place
 use Rattle.pdl_paths.specs.Actions.{place_view}

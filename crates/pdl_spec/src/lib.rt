@@ -5,8 +5,6 @@ pub mod check;
 pub mod checked;
 pub mod plan;
 pub mod sure;
-#[cfg(test)]
-mod tests;
 pub mod verified;
 
 pub use check::check_spec;

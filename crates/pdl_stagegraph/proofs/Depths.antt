@@ -3,8 +3,8 @@ use Rattle.std.proofs.Common.{◌≡◌, ◌≢◌, ℕ, zero, suc, ◌+◌, ◌
 use Rattle.std.specs.List.{list_any}
 use Rattle.std.proofs.lemmas.Bool.{false≢true, true≢false}
 use Rattle.std.proofs.lemmas.List.{set-set, set_comm}
-use Rattle.pdl_model.specs.Flat.{Pipe}
-use Rattle.pdl_model.specs.Stages.{longest, stages_on, onward, goes_to, stage_at}
+use Rattle.pdl_semantics.specs.Flat.{Pipe}
+use Rattle.pdl_semantics.specs.Stages.{longest, stages_on, onward, goes_to, stage_at}
 use Rattle.pdl_stagegraph.specs.Graph.{of_stages}
 
 -- the same value of x, set once more

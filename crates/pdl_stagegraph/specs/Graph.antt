@@ -1,8 +1,8 @@
 -- The stages of a pipe, as callers see them.
 use Rattle.std.specs.Prelude.{ℕ, suc, Bool, List, [], ◌∷◌, ◌++◌, Option, Some, None, if◌then◌else◌}
-use Rattle.pdl_model.specs.Flat
-use Rattle.pdl_model.specs.Flat.{Next, Ends, Goes, Forks, Stage}
-use Rattle.pdl_model.specs.Stages as stages
+use Rattle.pdl_semantics.specs.Flat
+use Rattle.pdl_semantics.specs.Flat.{Next, Ends, Goes, Forks, Stage}
+use Rattle.pdl_semantics.specs.Stages as stages
 use Rattle.pdl_rules.specs.Places.{Place}
 use Rattle.pdl_textstages.specs.Stages.{stages_in}
 

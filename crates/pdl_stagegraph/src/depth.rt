@@ -1,6 +1,6 @@
 // The greatest number of stages on a path.
 ghost use Rattle.std.specs.Prelude.{◌≡◌, ◌<◌, ◌∷◌, length, slice_set, IfOk};
-ghost use Rattle.pdl_model.specs.Stages as stages;
+ghost use Rattle.pdl_semantics.specs.Stages as stages;
 ghost use Rattle.pdl_form.specs.View.{stages_view, next_view};
 ghost use Rattle.pdl_form.specs.Whole.{form};
 ghost use Rattle.pdl_stagegraph.specs.Graph.{of_stages};

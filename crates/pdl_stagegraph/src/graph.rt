@@ -1,6 +1,6 @@
 // The stages of a pipe.
 ghost use Rattle.std.specs.Prelude.{◌≡◌, ◌<◌, map, length, slice_index, slice_index_or, is_none, IfOk};
-ghost use Rattle.pdl_model.specs.Stages.{last_stage};
+ghost use Rattle.pdl_semantics.specs.Stages.{last_stage};
 ghost use Rattle.pdl_paths.specs.Actions.{place_view};
 ghost use Rattle.pdl_form.specs.Whole.{form};
 ghost use Rattle.pdl_form.specs.View.{stages_view, next_view};

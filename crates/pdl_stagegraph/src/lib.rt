@@ -4,8 +4,6 @@
 pub mod depth;
 pub mod fork;
 pub mod graph;
-#[cfg(test)]
-mod tests;
 
 pub use fork::Fork;
 pub use graph::{StageGraph, stage_graph};

@@ -4,7 +4,5 @@
 
 pub mod error;
 pub mod parse;
-#[cfg(test)]
-mod tests;
 
 pub use error::ParseError;

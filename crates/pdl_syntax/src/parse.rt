@@ -1,6 +1,6 @@
 // The parser.
 ghost use Rattle.std.specs.Prelude.{◌≡◌, ◌≤◌, ◌<◌, ℕ, None, Err, IfOk, length};
-ghost use Rattle.pdl_model.specs.Tree as tree;
+ghost use Rattle.pdl_semantics.specs.Tree as tree;
 ghost use Rattle.pdl_grammar.specs.Text.{IsText, IsOutOfPlace};
 ghost use Rattle.pdl_syntax.specs.Text.{broken_limit, judged, Misplaced, Gives, IsRefusal, IsRefused, IsParsed};
 ghost use Rattle.pdl_tree.specs.View.{pipe_view};

@@ -4,8 +4,6 @@
 pub mod broken;
 pub mod first_line;
 pub mod lowest;
-#[cfg(test)]
-mod tests;
 pub mod text_rule;
 
 pub use broken::{Broken, lowest_of};

@@ -6,8 +6,6 @@ pub mod astray;
 pub mod branches;
 pub mod first;
 pub mod stages;
-#[cfg(test)]
-mod tests;
 
 pub use along::{all_true, among, begun_before, next_on};
 pub use astray::{Kinds, astray_line};

@@ -1,6 +1,6 @@
 -- What stands at the front of tokens, and the tokens that values of the program stand for.
 use Rattle.std.specs.Prelude.{ℕ, List, [], ◌∷◌, Option, Some, None}
-use Rattle.pdl_model.specs.Tree.{Span, Ident}
+use Rattle.pdl_semantics.specs.Tree.{Span, Ident}
 use Rattle.pdl_tokens.specs.declared.token.Token as r
 use Rattle.pdl_tokens.specs.declared.token.TokenKind.{TokenKind}
 use Rattle.pdl_tree.specs.View.{span_view}

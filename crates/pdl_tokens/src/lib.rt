@@ -7,8 +7,6 @@ mod digits;
 pub mod lexer;
 mod piece;
 mod spelling;
-#[cfg(test)]
-mod tests;
 pub mod token;
 
 pub use lexer::{Tokens, last_line};

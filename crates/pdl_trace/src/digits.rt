@@ -1,6 +1,6 @@
 // Hexadecimal digits.
 ghost use Rattle.std.specs.Prelude.{◌≡◌, ◌<◌};
-ghost use Rattle.pdl_model.specs.Lines as text;
+ghost use Rattle.pdl_semantics.specs.Lines as text;
 
 /// The lower hexadecimal digit of a number below 16.
 pub fn hex_digit(n: u64) -> u8

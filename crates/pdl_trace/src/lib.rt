@@ -5,8 +5,6 @@
 mod digits;
 pub mod line;
 pub mod lines;
-#[cfg(test)]
-mod tests;
 
 pub use line::Line;
 pub use lines::{

@@ -1,6 +1,6 @@
 // A line of text in a buffer of fixed size, so that printing takes no memory.
 ghost use Rattle.std.specs.Prelude.{◌≡◌, ◌+◌, ◌*◌, ◌≤◌, ◌<◌, ◌^◌, ◌++◌, [], ◌∷◌, length, decimal};
-ghost use Rattle.pdl_model.specs.Lines as text;
+ghost use Rattle.pdl_semantics.specs.Lines as text;
 
 use crate::digits::hex_digit;
 use itoa::Buffer;

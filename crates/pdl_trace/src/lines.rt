@@ -1,6 +1,6 @@
 // The lines of runs and of checks.
 ghost use Rattle.std.specs.Prelude.{◌≡◌, ◌≤◌, ◌<◌, ◌^◌, ◌++◌, codes, decimal, length};
-ghost use Rattle.pdl_model.specs.Lines as text;
+ghost use Rattle.pdl_semantics.specs.Lines as text;
 ghost use Rattle.pdl_kit.specs.Rules.{text_of};
 
 use crate::line::Line;

@@ -20,8 +20,8 @@ use Rattle.pdl_tree.specs.declared.tree.LockDecl as r_lock
 use Rattle.pdl_tree.specs.declared.tree.Mem as r_mem
 use Rattle.pdl_tree.specs.declared.tree.Start as r_start
 use Rattle.pdl_tree.specs.declared.tree.Pipe as r_pipe
-use Rattle.pdl_model.specs.Tree as tree
-use Rattle.pdl_model.specs.Tree.{Span, Ident, Number, Literal, BinaryOp, Expr, Location, Kind, Stmt, Stmts, stmts_of, Param, LockKind, LockDecl, Mem, Start, Pipe}
+use Rattle.pdl_semantics.specs.Tree as tree
+use Rattle.pdl_semantics.specs.Tree.{Span, Ident, Number, Literal, BinaryOp, Expr, Location, Kind, Stmt, Stmts, stmts_of, Param, LockKind, LockDecl, Mem, Start, Pipe}
 
 abbrev pub span_view : r_span.Span → Span
 span_view s = record { start = s.start; end = s.end; line = s.line }

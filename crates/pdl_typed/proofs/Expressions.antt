@@ -2,8 +2,8 @@
 use Rattle.std.proofs.Common.{◌≡◌, refl, ℕ, ◌+◌, ◌-◌, ◌<◌, ◌≤◌, Bool, true, false, ◌||◌, List, nat_lt, nat_le, if◌then◌else◌, arith, leb-false, ltb-false}
 use Rattle.std.specs.Prelude.{IsTrue}
 use Rattle.std.proofs.lemmas.Bool.{or_parts}
-use Rattle.pdl_model.specs.Tree.{BinaryOp, Add, Sub, Mul, And, Or, Xor, Equal, Differ, Less, ShiftLeft, ShiftRight, Expr, Constant, Variable, Slice, Not, Binary, Cat, LessSigned, ZeroExtend, SignExtend, Choose}
-use Rattle.pdl_model.specs.Flatten.{Var, widest, var_width, op_width, width_of}
+use Rattle.pdl_semantics.specs.Tree.{BinaryOp, Add, Sub, Mul, And, Or, Xor, Equal, Differ, Less, ShiftLeft, ShiftRight, Expr, Constant, Variable, Slice, Not, Binary, Cat, LessSigned, ZeroExtend, SignExtend, Choose}
+use Rattle.pdl_semantics.specs.Flatten.{Var, widest, var_width, op_width, width_of}
 use Rattle.pdl_rules.specs.Parts.{some_part, of_constant}
 use Rattle.pdl_rules.specs.Limits.{is_wrong_literal}
 use Rattle.pdl_rules.specs.Names.{Use, OfVariable, reads}

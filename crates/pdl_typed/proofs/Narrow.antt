@@ -5,8 +5,8 @@ use Rattle.std.specs.List.{list_any}
 use Rattle.std.proofs.lemmas.Bool.{or_parts, and_parts, and_from, le-leb, not-false, or_left}
 use Rattle.std.proofs.lemmas.List.Folds.{list_any-append}
 use Rattle.pdl_kit.specs.declared.rule.Rule.TheVariants.{Z7, N2, N3, W2}
-use Rattle.pdl_model.specs.Tree.{Ident, Expr, Span, Separator, CombRead, Bind, SpecCall, DelayedRead, Write, Reserve, Block, Release, If, Call, Verify, SpecCheck, SpecBarrier, Param, Mem, Pipe}
-use Rattle.pdl_model.specs.Flatten.{Var, var_width, mem_width, width_of}
+use Rattle.pdl_semantics.specs.Tree.{Ident, Expr, Span, Separator, CombRead, Bind, SpecCall, DelayedRead, Write, Reserve, Block, Release, If, Call, Verify, SpecCheck, SpecBarrier, Param, Mem, Pipe}
+use Rattle.pdl_semantics.specs.Flatten.{Var, var_width, mem_width, width_of}
 use Rattle.pdl_rules.specs.Places.{Place, Branch, Parameter, Memory, Statement, End, StartClause, statements, places, line_of}
 use Rattle.pdl_rules.specs.Limits.{breaks_z7, is_width, is_depth}
 use Rattle.pdl_rules.specs.Names.{OfVariable, defines, variable_at, name_at, is_parameter, is_too_early, breaks_n2}

@@ -1,9 +1,9 @@
 -- Expressions that are typed have values of their width, and their operators find operands of theirs.
 use Rattle.std.proofs.Common.{◌≡◌, sym, subst, ℕ, suc, zero, ◌^◌, ◌<◌, List, [], ◌∷◌, length, slice_index, arith}
 use Rattle.pdl_word.proofs.Bounds as bounds
-use Rattle.pdl_model.specs.Tree.{BinaryOp, Add, Sub, Mul, And, Or, Xor, Equal, Differ, Less, ShiftLeft, ShiftRight}
-use Rattle.pdl_model.specs.Flat.{Expr, Constant, Variable, Slice, Not, Binary, Cat, LessSigned, ZeroExtend, SignExtend, Choose, applied, value_of}
-use Rattle.pdl_model.specs.Flatten.{op_width}
+use Rattle.pdl_semantics.specs.Tree.{BinaryOp, Add, Sub, Mul, And, Or, Xor, Equal, Differ, Less, ShiftLeft, ShiftRight}
+use Rattle.pdl_semantics.specs.Flat.{Expr, Constant, Variable, Slice, Not, Binary, Cat, LessSigned, ZeroExtend, SignExtend, Choose, applied, value_of}
+use Rattle.pdl_semantics.specs.Flatten.{op_width}
 use Rattle.pdl_formtypes.specs.Exprs.{width_in, IsTyped}
 use Rattle.pdl_formtypes.specs.Stmts.{AreWidths, AreArguments}
 use Rattle.pdl_values.specs.Safe.{IsWidth, IsSafe, AreSafe}

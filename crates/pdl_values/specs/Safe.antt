@@ -1,6 +1,6 @@
 -- Expressions of which each operator finds operands of its width.
 use Rattle.std.specs.Prelude.{ℕ, ◌-◌, ◌^◌, ◌<◌, ◌≤◌, List, [], ◌∷◌, ⊤}
-use Rattle.pdl_model.specs.Flat.{Expr, Constant, Variable, Slice, Not, Binary, Cat, LessSigned, ZeroExtend, SignExtend, Choose, value_of}
+use Rattle.pdl_semantics.specs.Flat.{Expr, Constant, Variable, Slice, Not, Binary, Cat, LessSigned, ZeroExtend, SignExtend, Choose, value_of}
 
 -- a width in bits
 abbrev pub IsWidth : ℕ → Type 0

@@ -1,6 +1,6 @@
 // Guards of statements.
 ghost use Rattle.std.specs.Prelude.{◌≡◌, slice_index};
-ghost use Rattle.pdl_model.specs.Flat.{takes, taken};
+ghost use Rattle.pdl_semantics.specs.Flat.{takes, taken};
 ghost use Rattle.pdl_form.specs.View.{guards_view};
 
 use crate::value::variable;

@@ -3,8 +3,6 @@
 
 mod guards;
 mod operators;
-#[cfg(test)]
-mod tests;
 mod value;
 
 pub use guards::are_taken;

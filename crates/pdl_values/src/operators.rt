@@ -1,6 +1,6 @@
 // Operators on words of a width that is known when they run.
 ghost use Rattle.std.specs.Prelude.{◌≡◌, ◌≤◌, ◌<◌, ◌^◌};
-ghost use Rattle.pdl_model.specs.Flat.{applied};
+ghost use Rattle.pdl_semantics.specs.Flat.{applied};
 ghost use Rattle.pdl_tree.specs.View.{op_view};
 
 use pdl_tree::BinaryOp;

@@ -1,6 +1,6 @@
 // The values of expressions.
 ghost use Rattle.std.specs.Prelude.{◌≡◌, ◌≤◌, slice_index, length, vec_capacity};
-ghost use Rattle.pdl_model.specs.Flat as flat;
+ghost use Rattle.pdl_semantics.specs.Flat as flat;
 ghost use Rattle.pdl_form.specs.View.{expr_view, exprs_view};
 ghost use Rattle.pdl_values.specs.Safe.{IsSafe, AreSafe};
 

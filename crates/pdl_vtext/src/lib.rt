@@ -11,8 +11,6 @@ mod numbers;
 mod piece;
 pub mod read;
 pub mod rule;
-#[cfg(test)]
-mod tests;
 pub mod token;
 
 pub use file::{

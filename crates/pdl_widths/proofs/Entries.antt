@@ -7,8 +7,8 @@ use Rattle.std.proofs.lemmas.Slice.Eq.{bytes_eq-Decides}
 use Rattle.std.proofs.lemmas.Bool.Decides.{same_from_decides}
 use Rattle.std.specs.Map.{lookup}
 use Rattle.indexmap.specs.IndexMap.{insert_entry}
-use Rattle.pdl_model.specs.Flatten.{Var, var_width}
-use Rattle.pdl_model.specs.Tree.{Mem}
+use Rattle.pdl_semantics.specs.Flatten.{Var, var_width}
+use Rattle.pdl_semantics.specs.Tree.{Mem}
 use Rattle.pdl_rules.specs.Places.{Place}
 use Rattle.pdl_rules.specs.Widths.{with_variable, after_place}
 use Rattle.pdl_rules.proofs.Once.{fold_push}

@@ -4,7 +4,7 @@ use Rattle.std.proofs.Math.Nat.{div-eq_of_lt, div-lt_iff_lt-mul, one-le-pow}
 use Rattle.std.proofs.Math.Pow.{pow_mono}
 use Rattle.std.proofs.lemmas.Bool.{cases_lt}
 use Rattle.std.proofs.lemmas.Bool.Decides.{eqb_tells, leb_tells}
-use Rattle.pdl_model.specs.Tree.{Literal}
+use Rattle.pdl_semantics.specs.Tree.{Literal}
 use Rattle.pdl_rules.specs.Widths.{is_too_large}
 
 -- a quotient by a power is 0 exactly where the number is below it

@@ -1,7 +1,7 @@
 -- The lowest rule of some lines.
 use Rattle.std.proofs.Common.{◌≡◌, refl, ap₂, ◌∙◌, [], None}
 use Rattle.pdl_kit.specs.declared.rule.Rule.TheVariants.{W1, W2, W3, W4, W5, W6}
-use Rattle.pdl_model.specs.Tree.{Pipe}
+use Rattle.pdl_semantics.specs.Tree.{Pipe}
 use Rattle.pdl_rules.specs.Places.{places}
 use Rattle.pdl_rules.specs.Refusal.{refused_at, first_broken}
 use Rattle.pdl_pathrules.proofs.Lines.{rule_lines}

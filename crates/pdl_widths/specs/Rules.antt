@@ -1,8 +1,8 @@
 -- The rules on widths of a place, where the variables, the memories and the parameters are told.
 use Rattle.std.specs.Prelude.{◌≡◌, ℕ, Bool, false, not, ◌||◌, ◌==◌, nat_eq, List, map}
 use Rattle.std.specs.Cmp.Lexicographic.{pointwise}
-use Rattle.pdl_model.specs.Tree.{Literal, Location, Write, Param, Mem}
-use Rattle.pdl_model.specs.Flatten.{Var, var_width, mem_width, width_of}
+use Rattle.pdl_semantics.specs.Tree.{Literal, Location, Write, Param, Mem}
+use Rattle.pdl_semantics.specs.Flatten.{Var, var_width, mem_width, width_of}
 use Rattle.pdl_rules.specs.Places.{Place, Statement, StartClause}
 use Rattle.pdl_rules.specs.Parts.{Expressions, NoExpressions, One, Arguments, parts_of, some_part, some_expr, some_literal, some_location}
 use Rattle.pdl_rules.specs.Widths.{address_bits, mem_depth, is_unequal, is_too_large, is_out_of_range, is_wide_if, is_wide_choice}

@@ -1,6 +1,6 @@
 -- Variables as entries of a map.
 use Rattle.std.specs.Prelude.{ℕ, List, [], ◌∷◌, map, bytes_eq, if◌then◌else◌, Option, Some, None}
-use Rattle.pdl_model.specs.Flatten.{Var}
+use Rattle.pdl_semantics.specs.Flatten.{Var}
 
 -- the variable of an entry: its name with its width
 abbrev pub var_of : List ℕ × ℕ → Var

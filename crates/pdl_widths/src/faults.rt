@@ -1,8 +1,8 @@
 // The rules on widths that a place breaks.
 ghost use Rattle.std.specs.Prelude.{◌≡◌, ◌||◌, ◌==◌, false, not, map};
 ghost use Rattle.std.specs.List.{list_any};
-ghost use Rattle.pdl_model.specs.Flatten as flatten;
-ghost use Rattle.pdl_model.specs.Tree as tree;
+ghost use Rattle.pdl_semantics.specs.Flatten as flatten;
+ghost use Rattle.pdl_semantics.specs.Tree as tree;
 ghost use Rattle.pdl_tree.specs.View.{expr_view, exprs_view, literal_view, location_view, mem_view, param_view};
 ghost use Rattle.pdl_rules.specs.Parts.{some_part, of_constant};
 ghost use Rattle.pdl_rules.specs.Widths as spec;

@@ -1,7 +1,7 @@
 // What the rules on widths ask of expressions.
 ghost use Rattle.std.specs.Prelude.{◌≡◌, ◌||◌, ◌==◌, ◌+◌, false, not, nat_lt, if◌then◌else◌};
 ghost use Rattle.std.specs.List.{list_any};
-ghost use Rattle.pdl_model.specs.Flatten as flatten;
+ghost use Rattle.pdl_semantics.specs.Flatten as flatten;
 ghost use Rattle.pdl_tree.specs.View.{expr_view, exprs_view, literal_view};
 ghost use Rattle.pdl_rules.specs.Parts.{some_part, of_constant};
 ghost use Rattle.pdl_rules.specs.Widths as spec;

@@ -1,7 +1,7 @@
 // Memories by their names: their depths, their words and their addresses.
 ghost use Rattle.std.specs.Prelude.{◌≡◌, map};
 ghost use Rattle.pdl_tree.specs.View.{mem_view};
-ghost use Rattle.pdl_model.specs.Flatten as flatten;
+ghost use Rattle.pdl_semantics.specs.Flatten as flatten;
 ghost use Rattle.pdl_rules.specs.Widths as widths;
 
 use pdl_kit::Name;

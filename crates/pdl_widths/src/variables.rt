@@ -1,6 +1,6 @@
 // The variables of a pipe.
 ghost use Rattle.std.specs.Prelude.{◌≡◌, List, [], OnOk, IfOk, map, fold};
-ghost use Rattle.pdl_model.specs.Flatten.{Var, var_width};
+ghost use Rattle.pdl_semantics.specs.Flatten.{Var, var_width};
 ghost use Rattle.pdl_tree.specs.View.{mem_view};
 ghost use Rattle.pdl_rules.specs.Widths.{with_variable, after_place};
 ghost use Rattle.pdl_paths.specs.Actions.{place_view};
@@ -23,7 +23,7 @@ pub struct Variables {
 
 impl Model for Variables {
     ghost use Rattle.std.specs.Prelude.{List};
-    ghost use Rattle.pdl_model.specs.Flatten.{Var};
+    ghost use Rattle.pdl_semantics.specs.Flatten.{Var};
     ghost use Rattle.pdl_widths.specs.Variables.{vars_of};
 
     ghost Value = { List Var };

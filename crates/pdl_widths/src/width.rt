@@ -1,6 +1,6 @@
 // The widths of expressions.
 ghost use Rattle.std.specs.Prelude.{◌≡◌, ◌+◌, ◌-◌, if◌then◌else◌, nat_lt};
-ghost use Rattle.pdl_model.specs.Flatten as spec;
+ghost use Rattle.pdl_semantics.specs.Flatten as spec;
 ghost use Rattle.pdl_tree.specs.View.{expr_view, op_view};
 
 use crate::variables::Variables;

@@ -1,5 +1,5 @@
 use Rattle.std.proofs.Common.{◌≡◌, None, map, take}
-use Rattle.pdl_model.specs.Tree.{Pipe}
+use Rattle.pdl_semantics.specs.Tree.{Pipe}
 use Rattle.pdl_rules.specs.Places as rules
 use Rattle.pdl_paths.specs.Actions.{place_view}
 use Rattle.pdl_bounds.specs.Counts.{AreCounts}

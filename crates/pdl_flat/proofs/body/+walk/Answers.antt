@@ -2,9 +2,9 @@ use Rattle.std.proofs.Common.{◌≡◌, ◌<◌, ◌+◌, ◌==◌, ◌++◌, s
 use Rattle.pdl_tree.specs.declared.tree.Stmt as r_stmt
 use Rattle.pdl_tree.specs.declared.tree.Stmt.TheVariants as r_stmts
 use Rattle.pdl_tree.specs.declared.tree.Stmt.TheOpen.{Stmt-F}
-use Rattle.pdl_model.specs.Tree as Tree
-use Rattle.pdl_model.specs.Flat.{Goes}
-use Rattle.pdl_model.specs.Flatten as spec
+use Rattle.pdl_semantics.specs.Tree as Tree
+use Rattle.pdl_semantics.specs.Flat.{Goes}
+use Rattle.pdl_semantics.specs.Flatten as spec
 use Rattle.pdl_tree.specs.View as tree
 use Rattle.pdl_form.specs.View.{stages_view, next_view, branch_view}
 use Rattle.pdl_flat.specs.Walking.{place_of, next_at, closed}

@@ -1,5 +1,5 @@
 use Rattle.std.proofs.Common.{◌≡◌, ◌+◌, ◌≤◌, ◌++◌, map, drop, false}
-use Rattle.pdl_model.specs.Flatten as spec
+use Rattle.pdl_semantics.specs.Flatten as spec
 use Rattle.pdl_tree.specs.View as tree
 use Rattle.pdl_form.specs.View.{guards_view, stmts_view, stages_view, next_view, branch_view}
 use Rattle.pdl_flat.specs.Sized.{AreSizedStmts}

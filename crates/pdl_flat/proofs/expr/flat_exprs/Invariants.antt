@@ -1,5 +1,5 @@
 use Rattle.std.proofs.Common.{◌≡◌, ◌++◌, map, drop}
-use Rattle.pdl_model.specs.Flatten as spec
+use Rattle.pdl_semantics.specs.Flatten as spec
 use Rattle.pdl_tree.specs.View.{exprs_view as trees_view}
 use Rattle.pdl_form.specs.View.{expr_view}
 use Rattle.pdl_flat.specs.Sized.{AreSized}

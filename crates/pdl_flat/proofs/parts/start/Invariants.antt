@@ -1,5 +1,5 @@
 use Rattle.std.proofs.Common.{◌≡◌, ◌++◌, map, drop}
-use Rattle.pdl_model.specs.Flatten as spec
+use Rattle.pdl_semantics.specs.Flatten as spec
 use Rattle.pdl_tree.specs.View as tree
 use Rattle.pdl_flat.proofs.parts.start.Given as goal
 

@@ -1,5 +1,5 @@
 use Rattle.std.proofs.Common.{◌≡◌, map, ap, ◌∙◌}
-use Rattle.pdl_model.specs.Flatten.{Var, mems_of, start_of}
+use Rattle.pdl_semantics.specs.Flatten.{Var, mems_of, start_of}
 use Rattle.pdl_tree.specs.View as tree
 use Rattle.pdl_form.specs.View.{mems_view, mem_names, stmts_view, stages_view}
 use Rattle.pdl_form.specs.Form.{names_of}

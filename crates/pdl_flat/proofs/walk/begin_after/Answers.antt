@@ -1,5 +1,5 @@
 use Rattle.std.proofs.Common.{◌≡◌, ◌<◌, ◌++◌, suc, length, sym, ap, ◌∙◌, arith}
-use Rattle.pdl_model.specs.Flat.{Goes}
+use Rattle.pdl_semantics.specs.Flat.{Goes}
 use Rattle.pdl_form.specs.View.{stages_view, branch_view}
 use Rattle.pdl_flat.specs.Walking.{leading}
 use Rattle.pdl_flat.proofs.Leading.{begun_after, length_stages, stages_push}

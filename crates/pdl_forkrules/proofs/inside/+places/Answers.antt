@@ -2,7 +2,7 @@ use Rattle.std.proofs.Common.{◌≡◌, ◌-◌, [], length, sym, ap, ap₂, �
 use Rattle.pdl_tree.specs.declared.tree.Stmt as r_stmt
 use Rattle.pdl_tree.specs.declared.tree.Stmt.TheVariants as r_stmts
 use Rattle.pdl_tree.specs.declared.tree.Stmt.TheOpen.{Stmt-F}
-use Rattle.pdl_model.specs.Tree as Tree
+use Rattle.pdl_semantics.specs.Tree as Tree
 use Rattle.pdl_tree.specs.View as tree
 use Rattle.pdl_rules.specs.Places.{with_inner, statements}
 use Rattle.pdl_forkrules.proofs.Counts.{left_if}

@@ -1,5 +1,5 @@
 use Rattle.std.proofs.Common.{◌≡◌, ◌++◌, map, drop}
-use Rattle.pdl_model.specs.Stages as stages
+use Rattle.pdl_semantics.specs.Stages as stages
 use Rattle.pdl_form.specs.View.{stmts_view, mems_view}
 use Rattle.pdl_form.specs.Form.{stage_of_each}
 use Rattle.pdl_form.proofs.rows.releases.Given as goal

@@ -1,6 +1,6 @@
 use Rattle.std.proofs.Common.{◌≡◌, drop}
-use Rattle.pdl_model.specs.Flatten.{first_stage}
-use Rattle.pdl_model.specs.Stages as stages
+use Rattle.pdl_semantics.specs.Flatten.{first_stage}
+use Rattle.pdl_semantics.specs.Stages as stages
 use Rattle.pdl_form.specs.View.{stmts_view}
 use Rattle.pdl_form.proofs.stmts.reserved.Given as goal
 

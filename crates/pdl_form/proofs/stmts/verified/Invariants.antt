@@ -1,5 +1,5 @@
 use Rattle.std.proofs.Common.{◌≡◌, drop}
-use Rattle.pdl_model.specs.Stages as stages
+use Rattle.pdl_semantics.specs.Stages as stages
 use Rattle.pdl_form.specs.View.{stmts_view}
 use Rattle.pdl_form.proofs.stmts.verified.Given as goal
 

@@ -1,6 +1,6 @@
 use Rattle.std.proofs.Common.{◌≡◌, map, drop}
-use Rattle.pdl_model.specs.Locks.{Nothing}
-use Rattle.pdl_model.specs.Machine as machine
+use Rattle.pdl_semantics.specs.Locks.{Nothing}
+use Rattle.pdl_semantics.specs.Machine as machine
 use Rattle.pdl_pending.specs.View.{pending_view, latest_view}
 use Rattle.pdl_pending.proofs.latest.youngest.Given as goal
 

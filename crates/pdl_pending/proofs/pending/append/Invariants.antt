@@ -1,6 +1,6 @@
 use Rattle.std.proofs.Common.{◌≡◌, ◌≤◌, ◌+◌, ◌++◌, map, drop, length}
 use Rattle.std.specs.Prelude.{vec_len, vec_capacity}
-use Rattle.pdl_model.specs.Cycle as cycle
+use Rattle.pdl_semantics.specs.Cycle as cycle
 use Rattle.pdl_pending.specs.View.{pending_view, reserved_view}
 use Rattle.pdl_pending.proofs.pending.append.Given as goal
 

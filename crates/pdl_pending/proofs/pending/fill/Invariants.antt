@@ -1,5 +1,5 @@
 use Rattle.std.proofs.Common.{◌≡◌, map, drop}
-use Rattle.pdl_model.specs.Cycle as cycle
+use Rattle.pdl_semantics.specs.Cycle as cycle
 use Rattle.pdl_pending.specs.View.{pending_view, written_view}
 use Rattle.pdl_pending.proofs.pending.fill.Given as goal
 

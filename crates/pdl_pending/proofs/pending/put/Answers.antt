@@ -1,5 +1,5 @@
 use Rattle.std.proofs.Common.{◌<◌, length, arith}
-use Rattle.pdl_model.specs.Cycle as cycle
+use Rattle.pdl_semantics.specs.Cycle as cycle
 use Rattle.pdl_pending.specs.View.{pending_view}
 use Rattle.pdl_pending.proofs.Puts.{put-append}
 use Rattle.pdl_pending.proofs.Sweeps.{swept_left, swept_done}

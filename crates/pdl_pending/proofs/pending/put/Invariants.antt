@@ -1,5 +1,5 @@
 use Rattle.std.proofs.Common.{◌≡◌, map, take, drop}
-use Rattle.pdl_model.specs.Cycle as cycle
+use Rattle.pdl_semantics.specs.Cycle as cycle
 use Rattle.pdl_pending.specs.View.{pending_view}
 use Rattle.pdl_pending.proofs.pending.put.Given as goal
 

@@ -1,6 +1,6 @@
 use Rattle.std.proofs.Common.{◌≡◌, ◌∙◌, sym, ap, ap₂, [], ◌-◌, rules, arith, replicate}
-use Rattle.pdl_model.specs.Flat.{start_env}
-use Rattle.pdl_model.specs.Stages.{longest, fork_guards}
+use Rattle.pdl_semantics.specs.Flat.{start_env}
+use Rattle.pdl_semantics.specs.Stages.{longest, fork_guards}
 use Rattle.pdl_form.specs.View.{stages_view}
 use Rattle.pdl_form.specs.Whole.{form}
 use Rattle.pdl_stagegraph.specs.Graph.{of_stages}

@@ -1,5 +1,5 @@
 use Rattle.std.proofs.Common.{◌≡◌, ◌+◌, ◌-◌, length}
-use Rattle.pdl_model.specs.Stages as stages
+use Rattle.pdl_semantics.specs.Stages as stages
 use Rattle.pdl_form.specs.View.{stages_view}
 use Rattle.pdl_stagegraph.specs.Graph.{of_stages}
 use Rattle.pdl_stagegraph.proofs.depth.stages_on.Given as goal

@@ -1,5 +1,5 @@
 use Rattle.std.proofs.Common.{◌≡◌, drop}
-use Rattle.pdl_model.specs.Flat.{taken}
+use Rattle.pdl_semantics.specs.Flat.{taken}
 use Rattle.pdl_form.specs.View.{guards_view}
 use Rattle.pdl_values.proofs.guards.are_taken.Given as goal
 

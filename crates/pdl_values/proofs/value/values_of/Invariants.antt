@@ -1,6 +1,6 @@
 use Rattle.std.proofs.Common.{◌≡◌, ◌++◌, drop}
 use Rattle.std.specs.Prelude.{vec_len, vec_capacity}
-use Rattle.pdl_model.specs.Flat as flat
+use Rattle.pdl_semantics.specs.Flat as flat
 use Rattle.pdl_form.specs.View.{exprs_view}
 use Rattle.pdl_values.specs.Safe.{AreSafe}
 use Rattle.pdl_values.proofs.value.values_of.Given as goal

@@ -1,8 +1,8 @@
 use Rattle.std.proofs.Common.{◌≡◌, map, drop}
 use Rattle.std.proofs.Common.{nat_eq, length}
 use Rattle.std.specs.Cmp.Lexicographic.{pointwise}
-use Rattle.pdl_model.specs.Tree.{Param}
-use Rattle.pdl_model.specs.Flatten.{width_of}
+use Rattle.pdl_semantics.specs.Tree.{Param}
+use Rattle.pdl_semantics.specs.Flatten.{width_of}
 use Rattle.pdl_tree.specs.View.{expr_view, param_view}
 use Rattle.pdl_widths.proofs.arguments.call_fits.Given as goal
 

@@ -1,7 +1,7 @@
 use Rattle.std.proofs.Common.{◌≡◌, map, drop}
 use Rattle.std.proofs.Common.{nat_eq, length}
 use Rattle.std.specs.Cmp.Lexicographic.{pointwise}
-use Rattle.pdl_model.specs.Tree.{Literal, Param}
+use Rattle.pdl_semantics.specs.Tree.{Literal, Param}
 use Rattle.pdl_tree.specs.View.{literal_view, param_view}
 use Rattle.pdl_widths.proofs.arguments.start_fits.Given as goal
 

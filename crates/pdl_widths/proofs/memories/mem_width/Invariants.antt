@@ -1,5 +1,5 @@
 use Rattle.std.proofs.Common.{◌≡◌, map, drop}
-use Rattle.pdl_model.specs.Flatten as spec
+use Rattle.pdl_semantics.specs.Flatten as spec
 use Rattle.pdl_tree.specs.View.{mem_view}
 use Rattle.pdl_widths.proofs.memories.mem_width.Given as goal
 

@@ -1,5 +1,5 @@
 use Rattle.std.proofs.Common.{◌≡◌, sym, ap, ◌∙◌, arith}
-use Rattle.pdl_model.specs.Flatten.{var_width}
+use Rattle.pdl_semantics.specs.Flatten.{var_width}
 use Rattle.pdl_flat.specs.Variables.{vars_of}
 use Rattle.pdl_flat.specs.declared.vars.Variable.{Variable}
 use Rattle.pdl_flat.proofs.Numbering.{number_below, width_found, width_missing}

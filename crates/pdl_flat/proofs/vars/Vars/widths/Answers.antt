@@ -1,5 +1,5 @@
 use Rattle.std.proofs.Common.{ap, map, ◌∙◌}
-use Rattle.pdl_model.specs.Flatten.{Var}
+use Rattle.pdl_semantics.specs.Flatten.{Var}
 use Rattle.pdl_flat.specs.declared.vars.Variable.{Variable}
 use Rattle.pdl_flat.proofs.Numbering.{widths_seen}
 use Rattle.pdl_flat.proofs.vars.Vars.widths.Goals as goal

@@ -2,7 +2,7 @@ use Rattle.std.proofs.Common.{◌≡◌, ◌+◌, ◌*◌, ◌-◌, ◌/◌, ◌
 use Rattle.std.proofs.lemmas.Grind.{common_steps}
 use Rattle.std.proofs.Math.Nat.{div-div-eq-div-mul}
 use Rattle.std.proofs.Math.Pow.{pow-add}
-use Rattle.pdl_model.specs.Lines.{hex, hex_digit}
+use Rattle.pdl_semantics.specs.Lines.{hex, hex_digit}
 use Rattle.pdl_trace.proofs.line.Line.push_hex.Goals as goal
 
 -- four bits more

@@ -1,5 +1,5 @@
 use Rattle.std.proofs.Common.{◌≡◌, ◌+◌, ◌*◌, ◌-◌, ◌/◌, ◌^◌, ◌++◌, length}
-use Rattle.pdl_model.specs.Lines.{hex}
+use Rattle.pdl_semantics.specs.Lines.{hex}
 use Rattle.pdl_trace.proofs.line.Line.push_hex.Given as goal
 
 -- the highest digits are there

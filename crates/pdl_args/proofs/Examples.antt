@@ -1,0 +1,176 @@
+-- What single lists of words are.
+use Rattle.std.proofs.Common.{◌≡◌, [], ◌∷◌, Some, None, codes, refl}
+use Rattle.clap.proofs.OnLiterals.{clap_on_literals}
+use Rattle.pdl_args.specs.Line.{line, check, run, asm}
+
+ran : line (codes "run" ∷ codes "a.pdl" ∷ codes "e.img" ∷ codes "17" ∷ []) ≡ Some (run (codes "a.pdl") (codes "e.img") 17)
+unfolding clap_on_literals line
+ran = refl
+
+most_cycles : line (codes "run" ∷ codes "a" ∷ codes "b" ∷ codes "1000000" ∷ []) ≡ Some (run (codes "a") (codes "b") 1000000)
+unfolding clap_on_literals line
+most_cycles = refl
+
+no_cycles : line (codes "run" ∷ codes "a" ∷ codes "b" ∷ codes "0" ∷ []) ≡ Some (run (codes "a") (codes "b") 0)
+unfolding clap_on_literals line
+no_cycles = refl
+
+seven_digits : line (codes "run" ∷ codes "a" ∷ codes "b" ∷ codes "0000000" ∷ []) ≡ Some (run (codes "a") (codes "b") 0)
+unfolding clap_on_literals line
+seven_digits = refl
+
+eight_digits : line (codes "run" ∷ codes "a" ∷ codes "b" ∷ codes "00000001" ∷ []) ≡ None
+unfolding clap_on_literals line
+eight_digits = refl
+
+above_most : line (codes "run" ∷ codes "a" ∷ codes "b" ∷ codes "1000001" ∷ []) ≡ None
+unfolding clap_on_literals line
+above_most = refl
+
+signed : line (codes "run" ∷ codes "a" ∷ codes "b" ∷ codes "+5" ∷ []) ≡ None
+unfolding clap_on_literals line
+signed = refl
+
+minus : line (codes "run" ∷ codes "a" ∷ codes "b" ∷ codes "-5" ∷ []) ≡ None
+unfolding clap_on_literals line
+minus = refl
+
+no_number : line (codes "run" ∷ codes "a" ∷ codes "b" ∷ codes "5x" ∷ []) ≡ None
+unfolding clap_on_literals line
+no_number = refl
+
+empty_number : line (codes "run" ∷ codes "a" ∷ codes "b" ∷ codes "" ∷ []) ≡ None
+unfolding clap_on_literals line
+empty_number = refl
+
+empty_names : line (codes "run" ∷ codes "" ∷ codes "" ∷ codes "5" ∷ []) ≡ Some (run (codes "") (codes "") 5)
+unfolding clap_on_literals line
+empty_names = refl
+
+dash_names : line (codes "run" ∷ codes "-" ∷ codes "-" ∷ codes "5" ∷ []) ≡ Some (run (codes "-") (codes "-") 5)
+unfolding clap_on_literals line
+dash_names = refl
+
+after_dashes : line (codes "run" ∷ codes "--" ∷ codes "-a" ∷ codes "--b" ∷ codes "5" ∷ []) ≡ Some (run (codes "-a") (codes "--b") 5)
+unfolding clap_on_literals line
+after_dashes = refl
+
+dashes_between : line (codes "run" ∷ codes "a" ∷ codes "--" ∷ codes "-b" ∷ codes "5" ∷ []) ≡ Some (run (codes "a") (codes "-b") 5)
+unfolding clap_on_literals line
+dashes_between = refl
+
+dashes_at_the_end : line (codes "run" ∷ codes "a" ∷ codes "b" ∷ codes "5" ∷ codes "--" ∷ []) ≡ Some (run (codes "a") (codes "b") 5)
+unfolding clap_on_literals line
+dashes_at_the_end = refl
+
+dashes_alone : line (codes "run" ∷ codes "a" ∷ codes "b" ∷ codes "--" ∷ codes "--" ∷ []) ≡ None
+unfolding clap_on_literals line
+dashes_alone = refl
+
+dashes_before : line (codes "--" ∷ codes "run" ∷ codes "a" ∷ codes "b" ∷ codes "5" ∷ []) ≡ None
+unfolding clap_on_literals line
+dashes_before = refl
+
+help_flag : line (codes "--help" ∷ []) ≡ None
+unfolding clap_on_literals line
+help_flag = refl
+
+help_letter : line (codes "-h" ∷ []) ≡ None
+unfolding clap_on_literals line
+help_letter = refl
+
+help_word : line (codes "help" ∷ []) ≡ None
+unfolding clap_on_literals line
+help_word = refl
+
+help_of_run : line (codes "help" ∷ codes "run" ∷ []) ≡ None
+unfolding clap_on_literals line
+help_of_run = refl
+
+help_below : line (codes "run" ∷ codes "a" ∷ codes "b" ∷ codes "5" ∷ codes "--help" ∷ []) ≡ None
+unfolding clap_on_literals line
+help_below = refl
+
+help_letter_below : line (codes "run" ∷ codes "-h" ∷ []) ≡ None
+unfolding clap_on_literals line
+help_letter_below = refl
+
+version : line (codes "--version" ∷ []) ≡ None
+unfolding clap_on_literals line
+version = refl
+
+version_below : line (codes "run" ∷ codes "a" ∷ codes "b" ∷ codes "5" ∷ codes "-V" ∷ []) ≡ None
+unfolding clap_on_literals line
+version_below = refl
+
+no_words : line [] ≡ None
+unfolding clap_on_literals line
+no_words = refl
+
+no_command : line (codes "a" ∷ []) ≡ None
+unfolding clap_on_literals line
+no_command = refl
+
+another_case : line (codes "Run" ∷ codes "a" ∷ codes "b" ∷ codes "5" ∷ []) ≡ None
+unfolding clap_on_literals line
+another_case = refl
+
+start_of_a_name : line (codes "ru" ∷ codes "a" ∷ codes "b" ∷ codes "5" ∷ []) ≡ None
+unfolding clap_on_literals line
+start_of_a_name = refl
+
+command_alone : line (codes "run" ∷ []) ≡ None
+unfolding clap_on_literals line
+command_alone = refl
+
+one_word : line (codes "run" ∷ codes "a" ∷ []) ≡ None
+unfolding clap_on_literals line
+one_word = refl
+
+two_words : line (codes "run" ∷ codes "a" ∷ codes "b" ∷ []) ≡ None
+unfolding clap_on_literals line
+two_words = refl
+
+four_words : line (codes "run" ∷ codes "a" ∷ codes "b" ∷ codes "5" ∷ codes "6" ∷ []) ≡ None
+unfolding clap_on_literals line
+four_words = refl
+
+an_option : line (codes "run" ∷ codes "a" ∷ codes "b" ∷ codes "5" ∷ codes "--delays" ∷ []) ≡ None
+unfolding clap_on_literals line
+an_option = refl
+
+an_option_with_value : line (codes "run" ∷ codes "--delays=f" ∷ codes "a" ∷ codes "b" ∷ codes "5" ∷ []) ≡ None
+unfolding clap_on_literals line
+an_option_with_value = refl
+
+a_letter : line (codes "run" ∷ codes "-x" ∷ codes "a" ∷ codes "b" ∷ codes "5" ∷ []) ≡ None
+unfolding clap_on_literals line
+a_letter = refl
+
+checked : line (codes "check" ∷ codes "a.pdl" ∷ []) ≡ Some (check (codes "a.pdl"))
+unfolding clap_on_literals line
+checked = refl
+
+check_alone : line (codes "check" ∷ []) ≡ None
+unfolding clap_on_literals line
+check_alone = refl
+
+check_two : line (codes "check" ∷ codes "a.pdl" ∷ codes "e.img" ∷ []) ≡ None
+unfolding clap_on_literals line
+check_two = refl
+
+help_of_check : line (codes "help" ∷ codes "check" ∷ []) ≡ None
+unfolding clap_on_literals line
+help_of_check = refl
+
+assembled : line (codes "asm" ∷ codes "t.toml" ∷ codes "p.s" ∷ []) ≡ Some (asm (codes "t.toml") (codes "p.s"))
+unfolding clap_on_literals line
+assembled = refl
+
+asm_one : line (codes "asm" ∷ codes "t.toml" ∷ []) ≡ None
+unfolding clap_on_literals line
+asm_one = refl
+
+asm_three : line (codes "asm" ∷ codes "a" ∷ codes "b" ∷ codes "c" ∷ []) ≡ None
+unfolding clap_on_literals line
+asm_three = refl

@@ -1,0 +1,52 @@
+-- The command that a list of words is.
+use Rattle.std.specs.Prelude.{ℕ, List, [], ◌∷◌, Option, Some, None, codes, option_map, option_and_then, if◌then◌else◌}
+use Rattle.std.specs.Str.{bytes_eq}
+use Rattle.clap.specs.Walk.{Row, Text, first_of}
+use Rattle.clap.specs.Simple.{subcommand_of}
+use Rattle.clap.specs.Faults.{fault_of}
+use Rattle.clap.specs.Kinds.{Kinds}
+use Rattle.pdl_args.specs.App.{pdl_app}
+use Rattle.pdl_args.specs.Number.{number_of}
+
+-- a command with its words
+pub data Command : Type 0 where
+  check : (source : Text) → Command
+  run : (source image : Text) (cycles : ℕ) → Command
+  asm : (table text : Text) → Command
+
+-- `check`
+abbrev pub check_of : Option Text → Option Command
+check_of (Some source) = Some (check source)
+check_of None = None
+
+-- `run`, with a number of cycles up to 1,000,000
+abbrev pub run_of : Option Text → Option Text → Option Text → Option Command
+run_of (Some source) (Some image) (Some cycles) = option_map (run source image) (number_of 7 1000000 cycles)
+run_of _ _ _ = None
+
+-- `asm`
+abbrev pub asm_of : Option Text → Option Text → Option Command
+asm_of (Some table) (Some text) = Some (asm table text)
+asm_of _ _ = None
+
+-- the command of a subcommand's name with the words that it was given
+abbrev pub command_of : Text × List Row → Option Command
+command_of (name, rows) =
+    if bytes_eq name (codes "check")
+    then check_of (first_of (codes "source") rows)
+    else
+    if bytes_eq name (codes "run")
+    then run_of (first_of (codes "source") rows) (first_of (codes "image") rows) (first_of (codes "cycles") rows)
+    else
+    if bytes_eq name (codes "asm")
+    then asm_of (first_of (codes "table") rows) (first_of (codes "text") rows)
+    else None
+
+-- the command of a subcommand, where `clap` has no fault to name
+abbrev pub where_taken : Kinds → Option (Text × List Row) → Option Command
+where_taken [] found = option_and_then command_of found
+where_taken (k ∷ ks) found = None
+
+-- the command that the words are, by what `clap` takes
+unfoldable pub line : List Text → Option Command
+line words = where_taken (fault_of pdl_app words) (subcommand_of pdl_app words)

@@ -1,0 +1,10 @@
+-- The program's commands as those of the definition.
+use Rattle.pdl_args.specs.Line.{Command, check, run, asm}
+use Rattle.pdl_args.specs.declared.line.Line as rust
+use Rattle.pdl_args.specs.declared.line.Line.TheVariants as code
+
+-- a command with the texts of its words
+abbrev pub view : rust.Line → Command
+view (code.Check source) = check source.now
+view (code.Run source image cycles) = run source.now image.now cycles
+view (code.Asm table text) = asm table.now text.now

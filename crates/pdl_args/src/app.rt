@@ -1,0 +1,57 @@
+// The command line as `clap` is told it: one command, whose subcommands take words in fixed places.
+ghost use Rattle.std.specs.Prelude.{◌≡◌, false, IfOk};
+ghost use Rattle.clap.specs.Walk.{rule_of};
+ghost use Rattle.clap.specs.Words.{app_of};
+ghost use Rattle.clap.specs.declared.builder.command.Command.TheViews.{out-Command as fields_of};
+ghost use Rattle.pdl_args.specs.App.{pdl_app, check_app, run_app, asm_app, word_rule};
+
+use clap::{Arg, ArgAction, Command};
+use std::alloc::{AllocError, Global};
+
+// A word that must be there.
+fn word<'a>(alloc: Global, id: &'a str) -> Arg<'a>
+    ensures rule { rule_of result ≡ word_rule id.entry.now }
+    ensures local { result.global ≡ false }
+{
+    Arg::new(alloc, id).required(true).action(ArgAction::Set)
+}
+
+// `check SRC`
+fn check_command<'a>(alloc: Global) -> Result<Command<'a>, AllocError>
+    ensures { IfOk result (λ c. (app_of c ≡ check_app) × ((fields_of c).has_globals ≡ false)) }
+{
+    let all = Command::new(alloc, "check").arg(word(alloc, "source"))?;
+    Ok(all)
+}
+
+// `run SRC IMG CYCLES`
+fn run_command<'a>(alloc: Global) -> Result<Command<'a>, AllocError>
+    ensures { IfOk result (λ c. (app_of c ≡ run_app) × ((fields_of c).has_globals ≡ false)) }
+{
+    let one = Command::new(alloc, "run").arg(word(alloc, "source"))?;
+    let two = one.arg(word(alloc, "image"))?;
+    let all = two.arg(word(alloc, "cycles"))?;
+    Ok(all)
+}
+
+// `asm TABLE TEXT`
+fn asm_command<'a>(alloc: Global) -> Result<Command<'a>, AllocError>
+    ensures { IfOk result (λ c. (app_of c ≡ asm_app) × ((fields_of c).has_globals ≡ false)) }
+{
+    let one = Command::new(alloc, "asm").arg(word(alloc, "table"))?;
+    let all = one.arg(word(alloc, "text"))?;
+    Ok(all)
+}
+
+pub(crate) fn command<'a>(alloc: Global) -> Result<Command<'a>, AllocError>
+    ensures { IfOk result (λ c. app_of c ≡ pdl_app) }
+{
+    let check = check_command(alloc)?;
+    let run = run_command(alloc)?;
+    let bare = Command::new(alloc, "pdl").no_binary_name(true);
+    let asm = asm_command(alloc)?;
+    let one = bare.subcommand(check)?;
+    let two = one.subcommand(run)?;
+    let all = two.subcommand(asm)?;
+    Ok(all)
+}

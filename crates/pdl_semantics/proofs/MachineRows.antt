@@ -1,0 +1,159 @@
+-- What the machine prints for written pipes.
+use Rattle.std.proofs.Common.{◌≡◌, refl, ℕ, zero, suc, Bool, true, false, List, [], ◌∷◌, ◌++◌, codes, replicate, Option, Some, None}
+use Rattle.std.specs.Fmt.{digits}
+use Rattle.pdl_word.specs.Words.{add, slice, zext, complement}
+use Rattle.pdl_semantics.specs.Tree.{Queue, Bypass, Rename}
+use Rattle.pdl_semantics.specs.Lines.{run_lines, view_lines, accepted_line}
+use Rattle.pdl_semantics.specs.Flat.{arrays_of}
+use Rattle.pdl_semantics.specs.Flatten.{flat}
+use Rattle.pdl_semantics.specs.Cycle.{Turn, turns}
+use Rattle.pdl_semantics.proofs.Pipes.{one_stage, two_stages, under_guard, shared_guard, count_late, count_up, guess, guess_reserved, copy, copy_guessed, two_branches, one_branch, count_slow, barrier}
+
+abbrev pub zeros : List ℕ
+zeros = 0 ∷ 0 ∷ 0 ∷ 0 ∷ []
+
+-- no replies for so many cycles
+abbrev pub idle : ℕ → List (List Bool)
+idle n = replicate n []
+
+-- a reply bit for one delayed memory
+abbrev pub bits : List ℕ → List (List Bool)
+bits [] = []
+bits (zero ∷ xs) = (false ∷ []) ∷ bits xs
+bits (suc n ∷ xs) = (true ∷ []) ∷ bits xs
+
+-- the words of the delayed memory that is copied, and of the other
+abbrev pub copied : List (List ℕ)
+copied = (10 ∷ 11 ∷ 12 ∷ 0 ∷ []) ∷ zeros ∷ []
+
+one_stage_runs : run_lines one_stage (zeros ∷ []) (idle 3) ≡ codes "1 m 0 00\n2 m 1 01\n3 m 2 02\nend cycles 3 ended 3 waits 0 squashes 0\n"
+unfolding digits add slice zext
+one_stage_runs = refl
+
+no_cycle : run_lines one_stage (zeros ∷ []) [] ≡ codes "end cycles 0 ended 0 waits 0 squashes 0\n"
+unfolding digits add slice zext
+no_cycle = refl
+
+arguments_wrap : run_lines one_stage (zeros ∷ []) (idle 17) ≡
+    codes "1 m 0 00\n2 m 1 01\n3 m 2 02\n4 m 3 03\n5 m 0 04\n6 m 1 05\n7 m 2 06\n8 m 3 07\n"
+    ++ codes "9 m 0 08\n10 m 1 09\n11 m 2 0a\n12 m 3 0b\n13 m 0 0c\n14 m 1 0d\n15 m 2 0e\n16 m 3 0f\n17 m 0 00\n"
+    ++ codes "end cycles 17 ended 17 waits 0 squashes 0\n"
+unfolding digits add slice zext
+arguments_wrap = refl
+
+queue_waits : run_lines (count_up Queue 4) (zeros ∷ []) (idle 10) ≡ codes "4 m 0 01\n7 m 0 02\n10 m 0 03\nend cycles 10 ended 3 waits 0 squashes 0\n"
+unfolding digits add slice zext
+queue_waits = refl
+
+bypass_forwards : run_lines (count_up Bypass 4) (zeros ∷ []) (idle 8) ≡ codes "4 m 0 01\n6 m 0 02\n8 m 0 03\nend cycles 8 ended 3 waits 0 squashes 0\n"
+unfolding digits add slice zext
+bypass_forwards = refl
+
+rename_forwards : run_lines (count_up Rename 4) (zeros ∷ []) (idle 8) ≡ codes "4 m 0 01\n6 m 0 02\n8 m 0 03\nend cycles 8 ended 3 waits 0 squashes 0\n"
+unfolding digits add slice zext
+rename_forwards = refl
+
+-- with room for one write alone
+full_queue_waits : run_lines (count_up Queue 1) (zeros ∷ []) (idle 8) ≡ codes "4 m 0 01\n8 m 0 02\nend cycles 8 ended 2 waits 0 squashes 0\n"
+unfolding digits add slice zext
+full_queue_waits = refl
+
+forwards_late : run_lines count_late (zeros ∷ []) (idle 10) ≡ codes "5 m 0 01\n7 m 0 02\n9 m 0 03\nend cycles 10 ended 3 waits 0 squashes 0\n"
+unfolding digits add slice zext
+forwards_late = refl
+
+call_in_second_stage : run_lines two_stages (zeros ∷ []) (idle 3) ≡ codes "1 m 0 00\n3 m 1 01\nend cycles 3 ended 1 waits 0 squashes 0\n"
+unfolding digits add slice zext
+call_in_second_stage = refl
+
+every_other_writes : run_lines under_guard (zeros ∷ []) (idle 4) ≡ codes "2 m 1 05\n4 m 3 05\nend cycles 4 ended 4 waits 0 squashes 0\n"
+unfolding digits add slice zext
+every_other_writes = refl
+
+-- the arguments are 0, 1, 2, 1, 2: the second bit decides which branch makes the next thread
+either_branch_calls : run_lines shared_guard (zeros ∷ []) (idle 5) ≡ codes "2 m 1 01\n4 m 1 01\nend cycles 5 ended 5 waits 0 squashes 0\n"
+unfolding digits add slice complement
+either_branch_calls = refl
+
+right_guesses : run_lines (guess 1) (zeros ∷ []) (idle 5) ≡ codes "3 m 0 00\n4 m 1 01\n5 m 2 02\nend cycles 5 ended 3 waits 0 squashes 0\n"
+unfolding digits add slice zext
+right_guesses = refl
+
+wrong_guesses : run_lines (guess 2) (zeros ∷ []) (idle 9) ≡ codes "3 m 0 00\n6 m 2 02\n9 m 0 04\nend cycles 9 ended 3 waits 0 squashes 3\n"
+unfolding digits add slice zext
+wrong_guesses = refl
+
+wrong_guesses_reserved : run_lines (guess_reserved 2) (zeros ∷ []) (idle 9) ≡ codes "3 m 0 00\n6 m 2 02\n9 m 0 04\nend cycles 9 ended 3 waits 0 squashes 3\n"
+unfolding digits add slice zext
+wrong_guesses_reserved = refl
+
+-- cycle 1 is no wait, since nothing is outstanding at its start
+late_replies : run_lines copy copied (bits (0 ∷ 0 ∷ 0 ∷ 1 ∷ 1 ∷ 1 ∷ [])) ≡ codes "4 m 0 0a\n5 m 1 0b\n6 m 2 0c\nend cycles 6 ended 3 waits 2 squashes 0\n"
+unfolding digits add slice zext
+late_replies = refl
+
+prompt_replies : run_lines copy copied (bits (1 ∷ 1 ∷ 1 ∷ 1 ∷ [])) ≡ codes "2 m 0 0a\n3 m 1 0b\n4 m 2 0c\nend cycles 4 ended 3 waits 0 squashes 0\n"
+unfolding digits add slice zext
+prompt_replies = refl
+
+-- the answer of an orphan is dropped, and the next address is asked for in that cycle
+orphan_dropped : run_lines copy_guessed copied (bits (1 ∷ 1 ∷ 0 ∷ 0 ∷ 1 ∷ 1 ∷ 1 ∷ [])) ≡ codes "3 m 0 0a\n7 m 2 0c\nend cycles 7 ended 2 waits 2 squashes 2\n"
+unfolding digits add slice zext
+orphan_dropped = refl
+
+-- the orphan is answered in the very cycle in which the oldest thread asks
+orphan_answered : run_lines copy_guessed copied (bits (1 ∷ 1 ∷ 0 ∷ 1 ∷ 1 ∷ 1 ∷ [])) ≡ codes "3 m 0 0a\n6 m 2 0c\nend cycles 6 ended 2 waits 1 squashes 2\n"
+unfolding digits add slice zext
+orphan_answered = refl
+
+branches_meet : run_lines two_branches (zeros ∷ []) (idle 8) ≡ codes "5 m 0 00\n6 m 1 01\n7 m 2 02\n8 m 3 03\nend cycles 8 ended 4 waits 0 squashes 0\n"
+unfolding digits add slice zext
+branches_meet = refl
+
+straight_way_waits : run_lines one_branch (zeros ∷ []) (idle 11) ≡ codes "5 m 0 00\n6 m 1 01\n10 m 2 02\n11 m 3 03\nend cycles 11 ended 4 waits 0 squashes 0\n"
+unfolding digits add slice zext
+straight_way_waits = refl
+
+viewed : view_lines (guess 2) (zeros ∷ []) (idle 4) ≡ codes "1 M..\n2 MM.\n3 SSM\n4 M..\n"
+unfolding digits add slice zext
+viewed = refl
+
+-- each thread but the first waits one cycle for the value of the one before it
+forwarding_viewed : view_lines (count_up Bypass 4) (zeros ∷ []) (idle 8) ≡ codes "1 M...\n2 MM..\n3 SSM.\n4 MM.M\n5 SSM.\n6 MM.M\n7 SSM.\n8 MM.M\n"
+unfolding digits add slice zext
+forwarding_viewed = refl
+
+delayed_and_locked : run_lines count_slow ((0 ∷ 0 ∷ []) ∷ []) (bits (1 ∷ 1 ∷ 1 ∷ 1 ∷ 1 ∷ 1 ∷ [])) ≡ codes "3 m 0 01\n5 m 0 02\nend cycles 6 ended 2 waits 0 squashes 0\n"
+unfolding digits add slice zext
+delayed_and_locked = refl
+
+-- in cycle 2 the barrier finds the first thread in stage 1
+barrier_waits : run_lines barrier (zeros ∷ []) (idle 3) ≡ codes "1 m 0 07\n3 m 1 07\nend cycles 3 ended 1 waits 0 squashes 0\n"
+unfolding digits add slice zext
+barrier_waits = refl
+
+stages_of_branches : accepted_line two_branches ≡ codes "accepted stages 6 depth 5\n"
+unfolding digits
+stages_of_branches = refl
+
+stages_of_barrier : accepted_line barrier ≡ codes "accepted stages 2 depth 2\n"
+unfolding digits
+stages_of_barrier = refl
+
+stages_in_line : accepted_line two_stages ≡ codes "accepted stages 2 depth 2\n"
+unfolding digits
+stages_in_line = refl
+
+one_stage_alone : accepted_line shared_guard ≡ codes "accepted stages 1 depth 1\n"
+unfolding digits
+one_stage_alone = refl
+
+-- the addresses that the machine asks delayed memories for: an orphan's answer lets the next address through
+abbrev asked : List Turn → List (List (Option ℕ))
+asked [] = []
+asked (t ∷ ts) = t.ports.requests ∷ asked ts
+
+addresses_asked : asked (turns (flat copy_guessed) (arrays_of copied) (bits (1 ∷ 1 ∷ 0 ∷ 0 ∷ 1 ∷ 1 ∷ []))) ≡
+    (Some 0 ∷ None ∷ []) ∷ (Some 1 ∷ None ∷ []) ∷ (None ∷ None ∷ []) ∷ (None ∷ None ∷ []) ∷ (Some 2 ∷ None ∷ []) ∷ (Some 3 ∷ None ∷ []) ∷ []
+unfolding add slice zext
+addresses_asked = refl

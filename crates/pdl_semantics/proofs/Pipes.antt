@@ -1,0 +1,129 @@
+-- Pipes on which the definitions are computed, as trees.
+use Rattle.std.specs.Prelude.{ℕ, List, [], ◌∷◌, ◌++◌, None}
+use Rattle.pdl_semantics.specs.Tree.{Not, ZeroExtend, R, W, LockKind, Queue, Bypass, Stmt, Pipe}
+use Rattle.pdl_semantics.proofs.Texts.{number, constant, variable, slice, plus, separator, bind, comb_read, delayed_read, write, reserve, block, release, call, spec_call, verify, spec_check, spec_barrier, if_else, lock, comb, slow, pipe}
+
+-- one stage: each thread writes its argument
+abbrev pub one_stage : Pipe
+one_stage =
+    pipe 4 (comb "m" 4 (lock Queue 1) ∷ [])
+    (bind "a" (slice "n" 1 0) ∷ bind "v" (ZeroExtend (variable "n") (number 8)) ∷ reserve "m" "a" W ∷ block "m" "a"
+    ∷ write "m" "a" (variable "v") ∷ release "m" "a" ∷ call (plus (variable "n") (constant 4 1)) ∷ [])
+
+-- the same with a second stage, from which the next thread is made
+abbrev pub two_stages : Pipe
+two_stages =
+    pipe 4 (comb "m" 4 (lock Queue 1) ∷ [])
+    (bind "a" (slice "n" 1 0) ∷ bind "v" (ZeroExtend (variable "n") (number 8)) ∷ reserve "m" "a" W ∷ block "m" "a"
+    ∷ write "m" "a" (variable "v") ∷ release "m" "a" ∷ separator ∷ call (plus (variable "n") (constant 4 1)) ∷ [])
+
+-- every other thread writes
+abbrev pub under_guard : Pipe
+under_guard =
+    pipe 2 (comb "m" 4 (lock Queue 1) ∷ [])
+    (bind "g" (slice "n" 0 0)
+    ∷ if_else (variable "g") (reserve "m" "n" W ∷ block "m" "n" ∷ write "m" "n" (constant 8 5) ∷ release "m" "n" ∷ []) []
+    ∷ call (plus (variable "n") (constant 2 1)) ∷ [])
+
+-- two `if`s on one variable share its guard; the next thread is made in either branch of a third
+abbrev pub shared_guard : Pipe
+shared_guard =
+    pipe 2 (comb "m" 4 (lock Queue 1) ∷ [])
+    (bind "g" (slice "n" 0 0) ∷ bind "h" (slice "n" 1 1)
+    ∷ if_else (variable "g") (reserve "m" "n" W ∷ block "m" "n" ∷ write "m" "n" (constant 8 1) ∷ []) []
+    ∷ if_else (variable "g") (release "m" "n" ∷ []) []
+    ∷ if_else (Not (variable "h")) (call (plus (variable "n") (constant 2 1)) ∷ []) (call (plus (variable "n") (constant 2 3)) ∷ []) ∷ [])
+
+-- four stages: each thread adds 1 to word 0; n writes may be pending
+abbrev pub count_behind : List Stmt → LockKind → ℕ → Pipe
+count_behind gap kind n =
+    pipe 2 (comb "m" 4 (lock kind n) ∷ [])
+    (bind "a" (constant 2 0) ∷ bind "b" (constant 2 0) ∷ reserve "m" "a" R ∷ reserve "m" "b" W
+    ∷ call (plus (variable "n") (constant 2 1)) ∷ separator ∷ (gap ++ block "m" "a" ∷ comb_read "x" "m" "a" ∷ separator ∷ block "m" "b"
+    ∷ write "m" "b" (plus (variable "x") (constant 8 1)) ∷ separator ∷ release "m" "a" ∷ release "m" "b" ∷ []))
+
+abbrev pub count_up : LockKind → ℕ → Pipe
+count_up kind n = count_behind [] kind n
+
+-- with an empty stage before the read
+abbrev pub count_late : Pipe
+count_late = count_behind (separator ∷ []) Bypass 4
+
+-- each thread guesses that the next one's argument is one more, where it is k more
+abbrev pub guess : ℕ → Pipe
+guess k =
+    pipe 8 (comb "m" 4 (lock Queue 1) ∷ [])
+    (spec_check ∷ spec_call "s" (plus (variable "n") (constant 8 1)) ∷ separator ∷ bind "t" (plus (variable "n") (constant 8 k))
+    ∷ separator ∷ verify "s" (variable "t") ∷ bind "a" (slice "n" 1 0) ∷ reserve "m" "a" W ∷ block "m" "a"
+    ∷ write "m" "a" (variable "n") ∷ release "m" "a" ∷ [])
+
+-- the same with the reservation before the guess
+abbrev pub guess_reserved : ℕ → Pipe
+guess_reserved k =
+    pipe 8 (comb "m" 4 (lock Queue 2) ∷ [])
+    (spec_check ∷ bind "a" (slice "n" 1 0) ∷ reserve "m" "a" W ∷ spec_call "s" (plus (variable "n") (constant 8 1)) ∷ separator
+    ∷ bind "t" (plus (variable "n") (constant 8 k)) ∷ separator ∷ verify "s" (variable "t") ∷ block "m" "a"
+    ∷ write "m" "a" (variable "n") ∷ release "m" "a" ∷ [])
+
+-- a delayed memory is copied
+abbrev pub copy : Pipe
+copy =
+    pipe 2 (slow "d" 4 None ∷ comb "m" 4 (lock Queue 1) ∷ [])
+    (delayed_read "x" "d" "n" ∷ call (plus (variable "n") (constant 2 1)) ∷ separator ∷ reserve "m" "n" W ∷ block "m" "n"
+    ∷ write "m" "n" (variable "x") ∷ release "m" "n" ∷ [])
+
+-- every other word of a delayed memory is copied, with wrong guesses
+abbrev pub copy_guessed : Pipe
+copy_guessed =
+    pipe 2 (slow "d" 4 None ∷ comb "m" 4 (lock Queue 1) ∷ [])
+    (spec_check ∷ delayed_read "x" "d" "n" ∷ spec_call "s" (plus (variable "n") (constant 2 1)) ∷ separator
+    ∷ bind "t" (plus (variable "n") (constant 2 2)) ∷ bind "y" (variable "x") ∷ separator ∷ verify "s" (variable "t")
+    ∷ reserve "m" "n" W ∷ block "m" "n" ∷ write "m" "n" (variable "y") ∷ release "m" "n" ∷ [])
+
+-- a fork with these branches between a write's reservation and its release
+abbrev pub forked : List Stmt → List Stmt → Pipe
+forked first second =
+    pipe 2 (comb "m" 4 (lock Bypass 4) ∷ [])
+    (bind "g" (slice "n" 0 0) ∷ bind "z" (ZeroExtend (variable "n") (number 8)) ∷ reserve "m" "n" W
+    ∷ call (plus (variable "n") (constant 2 1)) ∷ if_else (variable "g") first second ∷ separator ∷ block "m" "n"
+    ∷ write "m" "n" (variable "z") ∷ release "m" "n" ∷ [])
+
+-- a short branch and a long one
+abbrev pub two_branches : Pipe
+two_branches = forked (separator ∷ []) (separator ∷ separator ∷ separator ∷ [])
+
+-- a way straight to the merge, and a long branch
+abbrev pub one_branch : Pipe
+one_branch = forked [] (separator ∷ separator ∷ separator ∷ [])
+
+-- a delayed memory with a lock
+abbrev pub count_slow : Pipe
+count_slow =
+    pipe 1 (slow "m" 2 (lock Queue 2) ∷ [])
+    (bind "a" (constant 1 0) ∷ bind "b" (constant 1 0) ∷ reserve "m" "a" R ∷ reserve "m" "b" W
+    ∷ call (plus (variable "n") (constant 1 1)) ∷ separator ∷ block "m" "a" ∷ delayed_read "x" "m" "a" ∷ separator
+    ∷ bind "y" (plus (variable "x") (constant 8 1)) ∷ block "m" "b" ∷ write "m" "b" (variable "y")
+    ∷ release "m" "a" ∷ release "m" "b" ∷ [])
+
+-- a barrier before a release
+abbrev pub barrier : Pipe
+barrier =
+    pipe 2 (comb "m" 4 (lock Queue 2) ∷ [])
+    (spec_barrier ∷ reserve "m" "n" W ∷ spec_call "s" (plus (variable "n") (constant 2 1)) ∷ block "m" "n"
+    ∷ write "m" "n" (constant 8 7) ∷ release "m" "n" ∷ separator ∷ verify "s" (plus (variable "n") (constant 2 1)) ∷ [])
+
+-- a barrier three stages before the verify, and guesses that are all wrong
+abbrev pub far_barrier : Pipe
+far_barrier =
+    pipe 2 (comb "m" 4 (lock Queue 2) ∷ [])
+    (spec_barrier ∷ reserve "m" "n" W ∷ spec_call "s" (plus (variable "n") (constant 2 1)) ∷ block "m" "n"
+    ∷ write "m" "n" (constant 8 7) ∷ release "m" "n" ∷ separator ∷ separator ∷ separator
+    ∷ verify "s" (plus (variable "n") (constant 2 2)) ∷ [])
+
+-- the same with a check in place of the barrier, which isn't accepted
+abbrev pub without_barrier : Pipe
+without_barrier =
+    pipe 2 (comb "m" 4 (lock Queue 2) ∷ [])
+    (spec_check ∷ reserve "m" "n" W ∷ spec_call "s" (plus (variable "n") (constant 2 1)) ∷ block "m" "n"
+    ∷ write "m" "n" (constant 8 7) ∷ release "m" "n" ∷ separator ∷ separator ∷ separator
+    ∷ verify "s" (plus (variable "n") (constant 2 2)) ∷ [])

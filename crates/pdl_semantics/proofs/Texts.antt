@@ -1,0 +1,98 @@
+-- Short words to write a tree out; nothing stands anywhere in particular.
+use Prim.Native.String.{String}
+use Rattle.std.specs.Prelude.{ℕ, true, false, List, [], ◌∷◌, Option, Some, codes}
+use Rattle.pdl_semantics.specs.Tree.{Span, Ident, Number, Literal, Add, Expr, Constant, Variable, Slice, Binary, Location, Kind, Stmt, Separator, CombRead, Bind, SpecCall, DelayedRead, Write, Reserve, Block, Release, If, Call, Verify, SpecCheck, SpecBarrier, stmts_of, LockKind, LockDecl, Mem, Pipe}
+
+abbrev pub nowhere : Span
+nowhere = record { start = 0; end = 0; line = 1 }
+
+abbrev pub ident : String → Ident
+ident x = record { name = codes x; span = nowhere }
+
+abbrev pub number : ℕ → Number
+number n = record { value = n; span = nowhere }
+
+abbrev pub literal : ℕ → ℕ → Literal
+literal width value = record { width = width; value = Some value; span = nowhere }
+
+abbrev pub constant : ℕ → ℕ → Expr
+constant width value = Constant (literal width value)
+
+abbrev pub variable : String → Expr
+variable x = Variable (ident x)
+
+abbrev pub slice : String → ℕ → ℕ → Expr
+slice x high low = Slice (ident x) (number high) (number low)
+
+abbrev pub plus : Expr → Expr → Expr
+plus a b = Binary Add a b
+
+abbrev pub location : String → String → Location
+location m a = record { mem = ident m; address = ident a }
+
+abbrev pub separator : Stmt
+separator = Separator nowhere
+
+abbrev pub bind : String → Expr → Stmt
+bind x e = Bind nowhere (ident x) e
+
+abbrev pub comb_read : String → String → String → Stmt
+comb_read x m a = CombRead nowhere (ident x) (location m a)
+
+abbrev pub delayed_read : String → String → String → Stmt
+delayed_read x m a = DelayedRead nowhere (ident x) (location m a)
+
+abbrev pub write : String → String → Expr → Stmt
+write m a e = Write nowhere (location m a) e
+
+abbrev pub reserve : String → String → Kind → Stmt
+reserve m a kind = Reserve nowhere (location m a) kind
+
+abbrev pub block : String → String → Stmt
+block m a = Block nowhere (location m a)
+
+abbrev pub release : String → String → Stmt
+release m a = Release nowhere (location m a)
+
+abbrev pub call : Expr → Stmt
+call e = Call nowhere (e ∷ [])
+
+abbrev pub spec_call : String → Expr → Stmt
+spec_call s e = SpecCall nowhere (ident s) (e ∷ [])
+
+abbrev pub verify : String → Expr → Stmt
+verify s e = Verify nowhere (ident s) (e ∷ [])
+
+abbrev pub spec_check : Stmt
+spec_check = SpecCheck nowhere
+
+abbrev pub spec_barrier : Stmt
+spec_barrier = SpecBarrier nowhere
+
+abbrev pub if_else : Expr → List Stmt → List Stmt → Stmt
+if_else c first second = If nowhere c (stmts_of first) (stmts_of second)
+
+-- a lock with its size
+abbrev pub lock : LockKind → ℕ → Option LockDecl
+lock kind size = Some (record { kind = kind; size = number size })
+
+-- a comb memory and a delayed one of words of 8 bits
+abbrev pub comb : String → ℕ → Option LockDecl → Mem
+comb m depth with_lock =
+    record { name = ident m; width = number 8; depth = number depth; delayed = false; lock = with_lock }
+
+abbrev pub slow : String → ℕ → Option LockDecl → Mem
+slow m depth with_lock =
+    record { name = ident m; width = number 8; depth = number depth; delayed = true; lock = with_lock }
+
+-- a pipe p with one parameter n of this width, started with 0
+abbrev pub pipe : ℕ → List Mem → List Stmt → Pipe
+pipe width mems body =
+    record {
+      name = ident "p";
+      params = record { name = ident "n"; width = number width } ∷ [];
+      mems = mems;
+      body = stmts_of body;
+      end = nowhere;
+      start = record { span = nowhere; name = ident "p"; args = literal width 0 ∷ [] };
+    }

@@ -1,0 +1,322 @@
+-- What a cycle does, its ports, and whole runs. `these` are the acts of all threads, `ms` those of the threads that move.
+use Rattle.std.specs.Prelude.{ℕ, suc, Bool, true, false, ◌&&◌, ◌||◌, not, List, [], ◌∷◌, ◌++◌, Option, Some, None, is_some, is_none, if◌then◌else◌, nat_le, ◌==◌, slice_index_or, take}
+use Rattle.pdl_semantics.specs.Flat.{Arrays, Mem, Branch, Stage, Pipe, start_env, with_word, Commit}
+use Rattle.pdl_semantics.specs.Stages.{list_any, stage_at, is_branch_of, merges_fork, verify_stage}
+use Rattle.pdl_semantics.specs.Locks.{commit_value}
+use Rattle.pdl_semantics.specs.Machine.{Ask, Awaited, Thread, Pending, Request, NoRequest, Owned, Orphan, State, lock_of, fork_of, request_of, Reserved, Written, answers}
+use Rattle.pdl_semantics.specs.Moves.{Act, next_stage, all_acts, movers}
+
+-- 1. reservations for writing append an entry without a value
+abbrev pub new_entries : ℕ → ℕ → List Reserved → List Pending
+new_entries m thread [] = []
+new_entries m thread (r ∷ rs) =
+    (if r.mem == m then record { thread = thread; address = r.address; value = None } ∷ [] else [])
+    ++ new_entries m thread rs
+
+abbrev pub appended : ℕ → List Act → List Pending → List Pending
+appended m [] list = list
+appended m (a ∷ ms) list = appended m ms list ++ new_entries m a.thread.number a.does.reserves
+
+-- 2. writes put their value into their thread's entry
+abbrev pub put : ℕ → ℕ → List Pending → List Pending
+put thread v [] = []
+put thread v (e ∷ es) = (if e.thread == thread then record e { value = Some v } else e) ∷ put thread v es
+
+abbrev pub put_all : ℕ → ℕ → List Written → List Pending → List Pending
+put_all m thread [] list = list
+put_all m thread (w ∷ ws) list = put_all m thread ws (if w.mem == m then put thread w.value list else list)
+
+abbrev pub filled : ℕ → List Act → List Pending → List Pending
+filled m [] list = list
+filled m (a ∷ ms) list = put_all m a.thread.number a.does.writes (filled m ms list)
+
+-- 3. a release of a write reservation takes the oldest entry out
+abbrev pub releases : ℕ → List Act → Bool
+releases m ms = list_any (λ a. list_any (λ n. n == m) a.does.releases) ms
+
+abbrev pub oldest : List Pending → Option Pending
+oldest [] = None
+oldest (e ∷ es) = Some e
+
+abbrev pub but_oldest : List Pending → List Pending
+but_oldest [] = []
+but_oldest (e ∷ es) = es
+
+-- a lock's list after steps 1 and 2, and after step 3, and the entry that step 3 takes out
+abbrev pub list_two : State → List Act → ℕ → List Pending
+list_two st ms m = filled m ms (appended m ms (lock_of st m))
+
+abbrev pub list_three : State → List Act → ℕ → List Pending
+list_three st ms m = if releases m ms then but_oldest (list_two st ms m) else list_two st ms m
+
+abbrev pub taken_out : State → List Act → ℕ → Option Pending
+taken_out st ms m = if releases m ms then oldest (list_two st ms m) else None
+
+-- and puts its value into the array
+abbrev pub with_commit : Arrays → ℕ → Option Pending → Arrays
+with_commit arrays m None = arrays
+with_commit arrays m (Some e) = with_word arrays m e.address (commit_value e.value)
+
+abbrev pub with_commits : State → List Act → ℕ → List Mem → Arrays → Arrays
+with_commits st ms m [] arrays = arrays
+with_commits st ms m (x ∷ xs) arrays = with_commits st ms (suc m) xs (with_commit arrays m (taken_out st ms m))
+
+-- 4. who moves from a fork into a branch appends it to the fork's list; who moves from a branch into the merge takes the first out
+abbrev pub goes_into : Pipe → ℕ → Option ℕ → List Bool
+goes_into p f None = []
+goes_into p f (Some q) = into (stage_at p q).branch
+  where
+    into : Option Branch → List Bool
+    into None = []
+    into (Some b) = if b.fork == f then b.first ∷ [] else []
+
+abbrev pub entered : Pipe → ℕ → List Act → List Bool
+entered p f [] = []
+entered p f (a ∷ ms) = entered p f ms ++ (if a.stage == f then goes_into p f (next_stage p a.stage a.does) else [])
+
+abbrev pub goes_out : Pipe → ℕ → Option ℕ → Bool
+goes_out p f None = false
+goes_out p f (Some q) = merges_fork (stage_at p q).merges f
+
+abbrev pub left : Pipe → ℕ → List Act → Bool
+left p f ms = list_any (λ a. is_branch_of (stage_at p a.stage).branch f && goes_out p f (next_stage p a.stage a.does)) ms
+
+abbrev pub but_first : List Bool → List Bool
+but_first [] = []
+but_first (b ∷ bs) = bs
+
+abbrev pub fork_next : Pipe → State → List Act → ℕ → List Bool
+fork_next p st ms f = (if left p f ms then but_first (fork_of st f) else fork_of st f) ++ entered p f ms
+
+-- 5. who moves stands in its next stage, and ends after the last; who doesn't move stays
+abbrev pub awaited_of : List Ask → List Awaited
+awaited_of [] = []
+awaited_of (q ∷ qs) = record { mem = q.mem; var = q.var } ∷ awaited_of qs
+
+abbrev pub moved : Act → Thread
+moved a =
+    record { number = a.thread.number; env = a.does.env; guess = a.does.guess; awaits = awaited_of a.does.asks; kept = [] }
+
+abbrev pub is_stage : ℕ → Option ℕ → Bool
+is_stage q None = false
+is_stage q (Some r) = r == q
+
+abbrev pub comes : Pipe → ℕ → Act → Option Thread
+comes p q a =
+    if a.moves
+    then (if is_stage q (next_stage p a.stage a.does) then Some (moved a) else None)
+    else (if a.stage == q then Some a.thread else None)
+
+abbrev pub or_then : Option Thread → Option Thread → Option Thread
+or_then None k = k
+or_then (Some t) k = Some t
+
+abbrev pub stands : Pipe → ℕ → List Act → Option Thread
+stands p q [] = None
+stands p q (a ∷ these) = or_then (comes p q a) (stands p q these)
+
+-- the requests: an answered one is over, a new one is its maker's
+abbrev pub asked_of : ℕ → ℕ → List Ask → Request → Request
+asked_of m thread [] old = old
+asked_of m thread (q ∷ qs) old = if q.mem == m then Owned thread q.address else asked_of m thread qs old
+
+abbrev pub asked_by : ℕ → List Act → Request → Request
+asked_by m [] old = old
+asked_by m (a ∷ ms) old = asked_of m a.thread.number a.does.asks (asked_by m ms old)
+
+abbrev pub request_next : Pipe → State → List Bool → List Act → ℕ → Request
+request_next p st bits ms m = asked_by m ms (if answers p bits m then NoRequest else request_of st m)
+
+-- 6. a squash: the number of the thread that moves with a failing verify
+abbrev pub squasher : List Act → Option ℕ
+squasher [] = None
+squasher (a ∷ ms) = if a.does.fails then Some a.thread.number else squasher ms
+
+-- it removes every younger thread
+abbrev pub stays : Option ℕ → ℕ → Bool
+stays None thread = true
+stays (Some squasher) thread = nat_le thread squasher
+
+abbrev pub if_stays : Option ℕ → Option Thread → Option Thread
+if_stays sq None = None
+if_stays sq (Some t) = if stays sq t.number then Some t else None
+
+-- and drops their entries
+abbrev pub entries_left : Option ℕ → List Pending → List Pending
+entries_left sq [] = []
+entries_left sq (e ∷ es) = if stays sq e.thread then e ∷ entries_left sq es else entries_left sq es
+
+-- the lists of forks whose merge stage is V or before V become empty
+abbrev pub merges_by : Pipe → ℕ → Option ℕ → Bool
+merges_by p f None = false
+merges_by p f (Some v) = list_any (λ x. merges_fork x.merges f) (take (suc v) p.stages)
+
+abbrev pub branches_left : Pipe → Option ℕ → ℕ → List Bool → List Bool
+branches_left p sq f list = if is_some sq && merges_by p f (verify_stage p.stmts) then [] else list
+
+-- an unanswered request of a removed thread becomes an orphan
+abbrev pub request_left : Option ℕ → Request → Request
+request_left sq (Owned owner a) = if stays sq owner then Owned owner a else Orphan a
+request_left sq r = r
+
+-- 7. the new thread stands in stage 0
+abbrev pub child_of : List Act → Option (List ℕ)
+child_of [] = None
+child_of (a ∷ ms) = if is_some a.does.child then a.does.child else child_of ms
+
+abbrev pub born : Pipe → ℕ → Option (List ℕ) → Option Thread
+born p number None = None
+born p number (Some args) =
+    Some (record { number = number; env = start_env p args; guess = []; awaits = []; kept = [] })
+
+abbrev pub stage_next : Pipe → State → List Act → Option ℕ → ℕ → Option Thread
+stage_next p st these sq q =
+    or_then (if q == 0 then born p st.next (child_of (movers these)) else None) (if_stays sq (stands p q these))
+
+-- the same for each memory and for each stage
+abbrev pub for_mems : {X : Type 0} → (ℕ → X) → ℕ → List Mem → List X
+for_mems f m [] = []
+for_mems f m (x ∷ xs) = f m ∷ for_mems f (suc m) xs
+
+abbrev pub for_stages : {X : Type 0} → (ℕ → X) → ℕ → List Stage → List X
+for_stages f s [] = []
+for_stages f s (x ∷ xs) = f s ∷ for_stages f (suc s) xs
+
+-- the state after a cycle of these acts
+abbrev pub after_these : Pipe → State → List Bool → List Act → List Act → Option ℕ → State
+after_these p st bits these ms sq =
+    record {
+      stages = for_stages (λ q. stage_next p st these sq q) 0 p.stages;
+      arrays = with_commits st ms 0 p.mems st.arrays;
+      locks = for_mems (λ m. entries_left sq (list_three st ms m)) 0 p.mems;
+      forks = for_stages (λ f. branches_left p sq f (fork_next p st ms f)) 0 p.stages;
+      requests = for_mems (λ m. request_left sq (request_next p st bits ms m)) 0 p.mems;
+      next = if is_some (child_of ms) then suc st.next else st.next;
+    }
+
+abbrev pub after : Pipe → State → List Bool → List Act → State
+after p st bits these = after_these p st bits these (movers these) (squasher (movers these))
+
+abbrev pub cycle : Pipe → State → List Bool → State
+cycle p st bits = after p st bits (all_acts p st bits)
+
+-- thread 1 with the start arguments in stage 0, the image in the arrays, all else empty
+abbrev pub first : Pipe → Arrays → State
+first p image =
+    record {
+      stages = for_stages (λ q. if q == 0 then born p 1 (Some p.start) else None) 0 p.stages;
+      arrays = image;
+      locks = for_mems (λ m. []) 0 p.mems;
+      forks = for_stages (λ f. []) 0 p.stages;
+      requests = for_mems (λ m. NoRequest) 0 p.mems;
+      next = 2;
+    }
+
+-- THE PORTS
+
+-- a write as a port shows it
+pub record PortWrite : Type 0 where
+  pub address : ℕ
+  pub value : ℕ
+
+abbrev pub port_write : Option Pending → Option PortWrite
+port_write None = None
+port_write (Some e) = Some (record { address = e.address; value = commit_value e.value })
+
+pub record Ports : Type 0 where
+  pub valid : List Bool  -- for each stage: it holds a thread at the start
+  pub moves : List Bool  -- for each stage: its thread moves
+  pub commits : List (Option PortWrite)  -- for each memory: the write that is released
+  pub requests : List (Option ℕ)  -- for each memory: the address of the request
+  pub ended : Bool  -- a thread moved out of the last stage
+  pub squash : Bool  -- a failing verify moved
+
+abbrev pub address_of : ℕ → List Ask → Option ℕ → Option ℕ
+address_of m [] rest = rest
+address_of m (q ∷ qs) rest = if q.mem == m then Some q.address else address_of m qs rest
+
+abbrev pub asked_in : List Act → ℕ → Option ℕ
+asked_in [] m = None
+asked_in (a ∷ ms) m = address_of m a.does.asks (asked_in ms m)
+
+abbrev pub ports_these : Pipe → State → List Act → List Act → Ports
+ports_these p st these ms =
+    record {
+      valid = for_stages (λ s. list_any (λ a. a.stage == s) these) 0 p.stages;
+      moves = for_stages (λ s. list_any (λ a. a.stage == s) ms) 0 p.stages;
+      commits = for_mems (λ m. port_write (taken_out st ms m)) 0 p.mems;
+      requests = for_mems (λ m. asked_in ms m) 0 p.mems;
+      ended = list_any (λ a. is_none (next_stage p a.stage a.does)) ms;
+      squash = is_some (squasher ms);
+    }
+
+abbrev pub ports : Pipe → State → List Act → Ports
+ports p st these = ports_these p st these (movers these)
+
+-- a wait: some request, an orphan included, is outstanding at the start and isn't answered
+abbrev pub is_outstanding : Request → Bool
+is_outstanding NoRequest = false
+is_outstanding _ = true
+
+abbrev pub waits_from : Pipe → List Bool → ℕ → List Request → Bool
+waits_from p bits m [] = false
+waits_from p bits m (r ∷ rs) = (is_outstanding r && not (answers p bits m)) || waits_from p bits (suc m) rs
+
+abbrev pub is_wait : Pipe → State → List Bool → Bool
+is_wait p st bits = waits_from p bits 0 st.requests
+
+-- A RUN
+
+pub record Turn : Type 0 where
+  pub ports : Ports
+  pub wait : Bool
+
+abbrev pub turns_from : Pipe → State → List (List Bool) → List Turn
+turns_from p st [] = []
+turns_from p st (bits ∷ schedule) =
+    let these = all_acts p st bits in
+    record { ports = ports p st these; wait = is_wait p st bits } ∷ turns_from p (after p st bits these) schedule
+
+abbrev pub turns : Pipe → Arrays → List (List Bool) → List Turn
+turns p image schedule = turns_from p (first p image) schedule
+
+abbrev pub state_after : Pipe → State → List (List Bool) → State
+state_after p st [] = st
+state_after p st (bits ∷ schedule) = state_after p (cycle p st bits) schedule
+
+-- how many threads ended, how many cycles were waits, how many had a squash
+abbrev pub count : (Turn → Bool) → List Turn → ℕ
+count test [] = 0
+count test (t ∷ ts) = if test t then suc (count test ts) else count test ts
+
+abbrev pub ended_in : List Turn → ℕ
+ended_in ts = count (λ t. t.ports.ended) ts
+
+abbrev pub waits_in : List Turn → ℕ
+waits_in ts = count (λ t. t.wait) ts
+
+abbrev pub squashes_in : List Turn → ℕ
+squashes_in ts = count (λ t. t.ports.squash) ts
+
+-- the commits of a memory, in cycle order
+abbrev pub shown : ℕ → Option PortWrite → List Commit
+shown m None = []
+shown m (Some w) = record { mem = m; address = w.address; value = w.value } ∷ []
+
+abbrev pub commits : ℕ → List Turn → List Commit
+commits m [] = []
+commits m (t ∷ ts) = shown m (slice_index_or t.ports.commits m None) ++ commits m ts
+
+-- the letters of `view`: no thread, one that moves, one that stands
+abbrev pub letter : Bool → Bool → ℕ
+letter false moves = 46
+letter true true = 77
+letter true false = 83
+
+abbrev pub letters : List Bool → List Bool → List ℕ
+letters (v ∷ vs) (m ∷ ms) = letter v m ∷ letters vs ms
+letters _ _ = []
+
+abbrev pub view : List Turn → List (List ℕ)
+view [] = []
+view (t ∷ ts) = letters t.ports.valid t.ports.moves ∷ view ts

@@ -1,0 +1,284 @@
+-- The flat form of a tree: names become numbers, each statement gets its stage and its guards, and the separators give the stage graph. Total; a tree that breaks a rule of the language gets a flat form that nobody uses.
+use Rattle.std.specs.Prelude.{ℕ, suc, ◌+◌, ◌-◌, Bool, true, false, List, [], ◌∷◌, ◌++◌, Option, Some, None, unwrap_or, if◌then◌else◌, ◌==◌, nat_lt, bytes_eq, length}
+use Rattle.pdl_semantics.specs.Tree.{Literal, BinaryOp, Equal, Differ, Less, Expr, Constant, Variable, Slice, Not, Binary, Cat, LessSigned, ZeroExtend, SignExtend, Choose, Kind, R, W, Stmt, Separator, CombRead, Bind, SpecCall, DelayedRead, Write, Reserve, Block, Release, If, Call, Verify, SpecCheck, SpecBarrier, Stmts, Nil, Cons, Param, LockKind, Queue, Bypass, Rename, LockDecl, Mem, Pipe}
+use Rattle.pdl_semantics.specs.Flat
+use Rattle.pdl_semantics.specs.Stages.{is_reserve, is_release}
+
+-- the greatest width of a value in bits
+abbrev pub widest : ℕ
+widest = 64
+
+-- a variable with its width; the guard of an `if` on an expression is a variable without name
+pub record Var : Type 0 where
+  pub name : List ℕ
+  pub width : ℕ
+
+-- the number of a variable, and its width
+abbrev pub var_of : List Var → List ℕ → ℕ
+var_of [] x = 0
+var_of (v ∷ vs) x = if bytes_eq v.name x then 0 else suc (var_of vs x)
+
+abbrev pub var_width : List Var → List ℕ → ℕ
+var_width [] x = 0
+var_width (v ∷ vs) x = if bytes_eq v.name x then v.width else var_width vs x
+
+-- the number of a memory, and the width of its words
+abbrev pub mem_of : List Mem → List ℕ → ℕ
+mem_of [] m = 0
+mem_of (x ∷ xs) m = if bytes_eq x.name.name m then 0 else suc (mem_of xs m)
+
+abbrev pub mem_width : List Mem → List ℕ → ℕ
+mem_width [] m = 0
+mem_width (x ∷ xs) m = if bytes_eq x.name.name m then x.width.value else mem_width xs m
+
+-- EXPRESSIONS
+
+-- the width of an operator's value, by its operands' width
+abbrev pub op_width : BinaryOp → ℕ → ℕ
+op_width Equal w = 1
+op_width Differ w = 1
+op_width Less w = 1
+op_width _ w = w
+
+-- the width of an expression; a slice of no bits, and bits side by side that are too many, count as one
+abbrev pub width_of : List Var → Expr → ℕ
+width_of vs (Constant l) = l.width
+width_of vs (Variable x) = var_width vs x.name
+width_of vs (Slice x high low) = if nat_lt high.value low.value then 1 else high.value + 1 - low.value
+width_of vs (Not a) = width_of vs a
+width_of vs (Binary op a b) = op_width op (width_of vs a)
+width_of vs (Cat a b) = if nat_lt widest (width_of vs a + width_of vs b) then 1 else width_of vs a + width_of vs b
+width_of vs (LessSigned a b) = 1
+width_of vs (ZeroExtend a width) = width.value
+width_of vs (SignExtend a width) = width.value
+width_of vs (Choose c a b) = width_of vs a
+
+-- an expression over the variables' numbers
+abbrev pub flat_expr : List Var → Expr → Flat.Expr
+flat_expr vs (Constant l) = Flat.Constant l.width (unwrap_or l.value 0)
+flat_expr vs (Variable x) = Flat.Variable (var_of vs x.name)
+flat_expr vs (Slice x high low) = Flat.Slice (var_of vs x.name) high.value low.value
+flat_expr vs (Not a) = Flat.Not (width_of vs a) (flat_expr vs a)
+flat_expr vs (Binary op a b) = Flat.Binary op (width_of vs a) (flat_expr vs a) (flat_expr vs b)
+flat_expr vs (Cat a b) = Flat.Cat (flat_expr vs a) (width_of vs b) (flat_expr vs b)
+flat_expr vs (LessSigned a b) = Flat.LessSigned (width_of vs a) (flat_expr vs a) (flat_expr vs b)
+flat_expr vs (ZeroExtend a width) = Flat.ZeroExtend width.value (flat_expr vs a)
+flat_expr vs (SignExtend a width) = Flat.SignExtend (width_of vs a) width.value (flat_expr vs a)
+flat_expr vs (Choose c a b) = Flat.Choose (flat_expr vs c) (flat_expr vs a) (flat_expr vs b)
+
+abbrev pub flat_exprs : List Var → List Expr → List Flat.Expr
+flat_exprs vs [] = []
+flat_exprs vs (e ∷ es) = flat_expr vs e ∷ flat_exprs vs es
+
+-- A WALK OVER THE STATEMENTS
+
+-- where a walk is: the variables defined so far, the stage, and the last stage that has begun
+pub record Place : Type 0 where
+  pub vars : List Var
+  pub stage : ℕ
+  pub begun : ℕ
+
+-- one more variable, and a new stage
+abbrev pub with_var : List ℕ → ℕ → Place → Place
+with_var x width at' = record at' { vars = at'.vars ++ record { name = x; width = width } ∷ [] }
+
+abbrev pub next_place : Place → Place
+next_place at' = record at' { stage = suc at'.begun; begun = suc at'.begun }
+
+-- back in the stage of an `if`
+abbrev pub back_in : ℕ → Place → Place
+back_in s at' = record at' { stage = s }
+
+-- the guard of a condition: the plain variable itself, else the variable of its own that the `if` binds
+abbrev pub guard_of : List Var → Expr → ℕ
+guard_of vs (Variable x) = var_of vs x.name
+guard_of vs _ = length vs
+
+abbrev pub with_guard : Expr → Place → Place
+with_guard (Variable x) at' = at'
+with_guard _ at' = with_var [] 1 at'
+
+-- the place after a statement, and after some; a branch begins in the stage of its `if`
+abbrev mutual
+  pub past : List Mem → Stmt → Place → Place
+  past ms (Separator _) at' = next_place at'
+  past ms (CombRead _ x from) at' = with_var x.name (mem_width ms from.mem.name) at'
+  past ms (Bind _ x e) at' = with_var x.name (width_of at'.vars e) at'
+  past ms (DelayedRead _ x from) at' = with_var x.name (mem_width ms from.mem.name) at'
+  past ms (If _ c when otherwise) at' =
+      back_in at'.stage (past_all ms otherwise (back_in at'.stage (past_all ms when (with_guard c at'))))
+  past ms _ at' = at'
+
+  pub past_all : List Mem → Stmts → Place → Place
+  past_all ms Nil at' = at'
+  past_all ms (Cons s ss) at' = past_all ms ss (past ms s at')
+
+-- where the second branch of an `if` begins
+abbrev pub at_otherwise : List Mem → Expr → Stmts → Place → Place
+at_otherwise ms c when at' = back_in at'.stage (past_all ms when (with_guard c at'))
+
+-- STATEMENTS
+
+abbrev pub at_place : List Flat.Guard → Place → Flat.Op → List Flat.Stmt
+at_place gs at' op = record { stage = at'.stage; guards = gs; op = op } ∷ []
+
+-- an `if` on an expression binds its guard
+abbrev pub binds_guard : List Flat.Guard → Place → Expr → List Flat.Stmt
+binds_guard gs at' (Variable x) = []
+binds_guard gs at' e = at_place gs at' (Flat.Bind (length at'.vars) (flat_expr at'.vars e))
+
+-- under one branch more
+abbrev pub under : List Flat.Guard → List Var → Expr → Bool → List Flat.Guard
+under gs vs c first = gs ++ record { var = guard_of vs c; first = first } ∷ []
+
+abbrev pub reserves : Kind → ℕ → ℕ → Flat.Op
+reserves R m a = Flat.ReserveRead m a
+reserves W m a = Flat.ReserveWrite m a
+
+abbrev mutual
+  pub flat_stmt : List Mem → List Flat.Guard → Stmt → Place → List Flat.Stmt
+  flat_stmt ms gs (Separator _) at' = []
+  flat_stmt ms gs (CombRead _ x from) at' =
+      at_place gs at' (Flat.CombRead (length at'.vars) (mem_of ms from.mem.name) (var_of at'.vars from.address.name))
+  flat_stmt ms gs (Bind _ x e) at' = at_place gs at' (Flat.Bind (length at'.vars) (flat_expr at'.vars e))
+  flat_stmt ms gs (SpecCall _ guess args) at' = at_place gs at' (Flat.SpecCall (flat_exprs at'.vars args))
+  flat_stmt ms gs (DelayedRead _ x from) at' =
+      at_place gs at' (Flat.DelayedRead (length at'.vars) (mem_of ms from.mem.name) (var_of at'.vars from.address.name))
+  flat_stmt ms gs (Write _ to e) at' =
+      at_place gs at' (Flat.Write (mem_of ms to.mem.name) (var_of at'.vars to.address.name) (flat_expr at'.vars e))
+  flat_stmt ms gs (Reserve _ at kind) at' =
+      at_place gs at' (reserves kind (mem_of ms at.mem.name) (var_of at'.vars at.address.name))
+  flat_stmt ms gs (Block _ at) at' = at_place gs at' (Flat.Block (mem_of ms at.mem.name) (var_of at'.vars at.address.name))
+  flat_stmt ms gs (Release _ at) at' = at_place gs at' (Flat.Release (mem_of ms at.mem.name) (var_of at'.vars at.address.name))
+  flat_stmt ms gs (If _ c when otherwise) at' =
+      binds_guard gs at' c
+      ++ flat_stmts ms (under gs at'.vars c true) when (with_guard c at')
+      ++ flat_stmts ms (under gs at'.vars c false) otherwise (at_otherwise ms c when at')
+  flat_stmt ms gs (Call _ args) at' = at_place gs at' (Flat.Call (flat_exprs at'.vars args))
+  flat_stmt ms gs (Verify _ guess args) at' = at_place gs at' (Flat.Verify (flat_exprs at'.vars args))
+  flat_stmt ms gs (SpecCheck _) at' = at_place gs at' Flat.SpecCheck
+  flat_stmt ms gs (SpecBarrier _) at' = at_place gs at' Flat.SpecBarrier
+
+  pub flat_stmts : List Mem → List Flat.Guard → Stmts → Place → List Flat.Stmt
+  flat_stmts ms gs Nil at' = []
+  flat_stmts ms gs (Cons s ss) at' = flat_stmt ms gs s at' ++ flat_stmts ms gs ss (past ms s at')
+
+-- THE STAGE GRAPH
+
+-- how many stages begin in some statements
+abbrev mutual
+  pub separators_in : Stmt → ℕ
+  separators_in (Separator _) = 1
+  separators_in (If _ c when otherwise) = separators when + separators otherwise
+  separators_in _ = 0
+
+  pub separators : Stmts → ℕ
+  separators Nil = 0
+  separators (Cons s ss) = separators_in s + separators ss
+
+-- what some statements give: where the stage in which they begin leads, and the stages that begin in them
+pub record Graph : Type 0 where
+  pub next : Flat.Next
+  pub later : List Flat.Stage
+
+-- the stage that a branch enters first
+abbrev pub entry : Flat.Next → ℕ
+entry Flat.Ends = 0
+entry (Flat.Goes to) = to
+entry (Flat.Forks x a b) = 0
+
+-- the first of these stages merges the fork
+abbrev pub merging : ℕ → List Flat.Stage → List Flat.Stage
+merging f [] = []
+merging f (x ∷ xs) = record x { merges = Some f } ∷ xs
+
+abbrev pub side : ℕ → Bool → Option Flat.Branch
+side f first = Some (record { fork = f; first = first })
+
+-- a new stage
+abbrev pub begins : Option Flat.Branch → Place → Graph → Graph
+begins branch at' rest =
+    record {
+      next = Flat.Goes (suc at'.begun);
+      later = record { next = rest.next; branch = branch; merges = None } ∷ rest.later;
+    }
+
+-- a fork on the variable x with these branches
+abbrev pub forks : ℕ → ℕ → Graph → Graph → Graph → Graph
+forks f x first second rest =
+    record { next = Flat.Forks x (entry first.next) (entry second.next); later = first.later ++ second.later ++ merging f rest.later }
+
+-- the graph of statements in this branch that lead to `exit`; a branch of a fork leads to the stage that begins after both, the merge
+abbrev mutual
+  pub joined : List Mem → Option Flat.Branch → Stmt → Place → Graph → Graph
+  joined ms branch (Separator _) at' rest = begins branch at' rest
+  joined ms branch (If _ c when otherwise) at' rest =
+      if separators when + separators otherwise == 0
+      then rest
+      else
+      (let merge = Flat.Goes (suc (at'.begun + separators when + separators otherwise)) in
+      forks at'.stage (guard_of at'.vars c)
+      (graph ms (side at'.stage true) merge when (with_guard c at'))
+      (graph ms (side at'.stage false) merge otherwise (at_otherwise ms c when at'))
+      rest)
+  joined ms branch _ at' rest = rest
+
+  pub graph : List Mem → Option Flat.Branch → Flat.Next → Stmts → Place → Graph
+  graph ms branch exit Nil at' = record { next = exit; later = [] }
+  graph ms branch exit (Cons s ss) at' = joined ms branch s at' (graph ms branch exit ss (past ms s at'))
+
+-- THE WHOLE
+
+abbrev pub params_of : List Param → List Var
+params_of [] = []
+params_of (x ∷ xs) = record { name = x.name.name; width = x.width.value } ∷ params_of xs
+
+abbrev pub lock_of : Option LockDecl → Flat.Lock
+lock_of None = Flat.Plain
+lock_of (Some l) = of_kind l.kind l.size.value
+  where
+    of_kind : LockKind → ℕ → Flat.Lock
+    of_kind Queue n = Flat.Queue n
+    of_kind Bypass n = Flat.Bypass n
+    of_kind Rename n = Flat.Rename n
+
+abbrev pub mems_of : List Mem → List Flat.Mem
+mems_of [] = []
+mems_of (m ∷ ms) = record { width = m.width.value; depth = m.depth.value; delayed = m.delayed; lock = lock_of m.lock } ∷ mems_of ms
+
+-- the start arguments
+abbrev pub start_of : List Literal → List ℕ
+start_of [] = []
+start_of (l ∷ ls) = unwrap_or l.value 0 ∷ start_of ls
+
+-- where the body begins: the parameters stand, and stage 0 has begun
+abbrev pub at_start : Pipe → Place
+at_start p = record { vars = params_of p.params; stage = 0; begun = 0 }
+
+abbrev pub stages_of : Pipe → List Flat.Stage
+stages_of p =
+    let g = graph p.mems None Flat.Ends p.body (at_start p) in
+    record { next = g.next; branch = None; merges = None } ∷ g.later
+
+-- the stage of the first statement of this kind, where there is one
+abbrev pub first_stage : (Flat.Op → Bool) → List Flat.Stmt → Option ℕ
+first_stage test [] = None
+first_stage test (x ∷ xs) = if test x.op then Some x.stage else first_stage test xs
+
+-- that of each memory, of which the first has the number m
+abbrev pub first_stages : (ℕ → Flat.Op → Bool) → List Flat.Stmt → ℕ → List Mem → List (Option ℕ)
+first_stages test xs m [] = []
+first_stages test xs m (x ∷ ms) = first_stage (test m) xs ∷ first_stages test xs (suc m) ms
+
+abbrev pub flat : Pipe → Flat.Pipe
+flat p =
+    let stmts = flat_stmts p.mems [] p.body (at_start p) in
+    record {
+      vars = length (past_all p.mems p.body (at_start p)).vars;
+      mems = mems_of p.mems;
+      stmts = stmts;
+      stages = stages_of p;
+      start = start_of p.start.args;
+      reserves_at = first_stages is_reserve stmts 0 p.mems;
+      releases_at = first_stages is_release stmts 0 p.mems;
+    }

@@ -1,0 +1,51 @@
+-- What the kinds of lock make of the pending writes of older threads.
+use Rattle.std.specs.Prelude.{ℕ, Bool, true, false, not, Option, Some, None, nat_lt}
+use Rattle.pdl_semantics.specs.Flat.{Lock, Plain, Queue, Bypass, Rename}
+
+-- what the youngest of these pending writes says of an address: there is none, its value is still to come, or its value
+pub data Latest : Type 0 where
+  Nothing : Latest
+  Coming : Latest
+  Known : (value : ℕ) → Latest
+
+abbrev pub as_latest : Option ℕ → Latest
+as_latest None = Coming
+as_latest (Some v) = Known v
+
+abbrev pub is_nothing : Latest → Bool
+is_nothing Nothing = true
+is_nothing _ = false
+
+abbrev pub is_coming : Latest → Bool
+is_coming Coming = true
+is_coming _ = false
+
+-- the value of a ready read: the pending one, or the array's word where there is none
+abbrev pub value_or : Latest → ℕ → ℕ
+value_or Nothing v = v
+value_or Coming v = v
+value_or (Known w) v = w
+
+-- a queue's read waits until no older write of the address is pending, the others' until its value is known
+abbrev pub read_ready : Lock → Latest → Bool
+read_ready Plain l = true
+read_ready (Queue size) l = is_nothing l
+read_ready (Bypass size) l = not (is_coming l)
+read_ready (Rename size) l = not (is_coming l)
+
+-- a queue's write waits likewise, the others' never
+abbrev pub write_ready : Lock → Latest → Bool
+write_ready (Queue size) l = is_nothing l
+write_ready _ l = true
+
+-- whether there is room beside n pending writes
+abbrev pub has_room : Lock → ℕ → Bool
+has_room Plain n = true
+has_room (Queue size) n = nat_lt n size
+has_room (Bypass size) n = nat_lt n size
+has_room (Rename size) n = nat_lt n size
+
+-- the value that a release puts into the array
+abbrev pub commit_value : Option ℕ → ℕ
+commit_value None = 0
+commit_value (Some v) = v

@@ -1,0 +1,228 @@
+-- The state of the pipeline machine, and what a thread's stage does in it: a numbered thread in each stage, the pending writes of each lock, the branches taken in each fork, the requests.
+use Rattle.std.specs.Prelude.{ℕ, Bool, true, false, ◌&&◌, ◌||◌, List, [], ◌∷◌, ◌++◌, Option, Some, None, is_some, if◌then◌else◌, nat_lt, ◌==◌, slice_index, slice_index_or, slice_set}
+use Rattle.pdl_semantics.specs.Flat.{Arrays, Op, Bind, CombRead, DelayedRead, Write, ReserveRead, ReserveWrite, Block, Release, Call, SpecCall, Verify, SpecCheck, SpecBarrier, Stmt, Pipe, value_of, values_of, taken, word_at}
+use Rattle.pdl_semantics.specs.Stages.{in_stage, reply_place}
+use Rattle.pdl_semantics.specs.Locks.{Latest, Nothing, as_latest, value_or}
+
+-- THE STATE
+
+-- a read that awaits its answer, and the variable that it binds
+pub record Awaited : Type 0 where
+  pub mem : ℕ
+  pub var : ℕ
+
+-- an answer that came while its thread couldn't move: the variable that it is for, and its word
+pub record Kept : Type 0 where
+  pub var : ℕ
+  pub word : ℕ
+
+-- a thread: its number, its values (arguments, bound variables and truth values of guards), the arguments of its guess, the reads that it still awaits, and its kept answers
+pub record Thread : Type 0 where
+  pub number : ℕ
+  pub env : List ℕ
+  pub guess : List ℕ
+  pub awaits : List Awaited
+  pub kept : List Kept
+
+-- a pending write: its thread, its address, and its value or none
+pub record Pending : Type 0 where
+  pub thread : ℕ
+  pub address : ℕ
+  pub value : Option ℕ
+
+-- a delayed memory has no request, one with its owner and address, or an orphan with its address
+pub data Request : Type 0 where
+  NoRequest : Request
+  Owned : (owner address : ℕ) → Request
+  Orphan : (address : ℕ) → Request
+
+pub record State : Type 0 where
+  pub stages : List (Option Thread)  -- for each stage at most one thread
+  pub arrays : Arrays
+  pub locks : List (List Pending)  -- for each memory its pending writes, oldest first
+  pub forks : List (List Bool)  -- for each stage that forks the branches taken by the threads inside, oldest first; true is the first branch
+  pub requests : List Request  -- for each memory
+  pub next : ℕ  -- the next thread's number
+
+abbrev pub lock_of : State → ℕ → List Pending
+lock_of st m = slice_index_or st.locks m []
+
+abbrev pub fork_of : State → ℕ → List Bool
+fork_of st f = slice_index_or st.forks f []
+
+abbrev pub request_of : State → ℕ → Request
+request_of st m = slice_index_or st.requests m NoRequest
+
+-- WHAT A STAGE'S STATEMENTS DO
+
+-- a request that a thread makes as it moves
+pub record Ask : Type 0 where
+  pub mem : ℕ
+  pub var : ℕ
+  pub address : ℕ
+
+abbrev pub same_args : List ℕ → List ℕ → Bool
+same_args [] [] = true
+same_args (x ∷ xs) (y ∷ ys) = (x == y) && same_args xs ys
+same_args _ _ = false
+
+-- a location: a memory and the variable of its address
+pub record Place : Type 0 where
+  pub mem : ℕ
+  pub var : ℕ
+
+-- the locations that are reserved for writing and not yet released, after a statement
+abbrev pub is_held : List Place → ℕ → ℕ → Bool
+is_held [] m a = false
+is_held (l ∷ ls) m a = ((l.mem == m) && (l.var == a)) || is_held ls m a
+
+abbrev pub let_go : List Place → ℕ → ℕ → List Place
+let_go [] m a = []
+let_go (l ∷ ls) m a = if (l.mem == m) && (l.var == a) then ls else l ∷ let_go ls m a
+
+abbrev pub held_after : Op → List Place → List Place
+held_after (ReserveWrite m a) ls = record { mem = m; var = a } ∷ ls
+held_after (Release m a) ls = let_go ls m a
+held_after _ ls = ls
+
+-- after the statements of the path in the stages before s
+abbrev pub held_before : ℕ → List ℕ → List Stmt → List Place → List Place
+held_before s path [] ls = ls
+held_before s path (x ∷ xs) ls =
+    held_before s path xs (if nat_lt x.stage s && taken x.guards path then held_after x.op ls else ls)
+
+-- a block: its memory and address, and whether the location is reserved for writing
+pub record Blocked : Type 0 where
+  pub mem : ℕ
+  pub address : ℕ
+  pub writes : Bool
+
+-- a write reservation, and a value written through it
+pub record Reserved : Type 0 where
+  pub mem : ℕ
+  pub address : ℕ
+
+pub record Written : Type 0 where
+  pub mem : ℕ
+  pub value : ℕ
+
+-- what the statements of a stage on the thread's path do, in text order
+pub record Deeds : Type 0 where
+  pub env : List ℕ  -- the values after them
+  pub guess : List ℕ
+  pub held : List Place
+  pub blocks : List Blocked
+  pub reserves : List Reserved
+  pub writes : List Written
+  pub releases : List ℕ  -- the memories whose write reservation is released
+  pub asks : List Ask  -- the delayed reads
+  pub barrier : Bool  -- whether there is a spec_barrier
+  pub child : Option (List ℕ)  -- the new thread's arguments
+  pub fails : Bool  -- whether a verify fails
+
+abbrev pub verifies : List ℕ → Deeds → Deeds
+verifies args d = if same_args args d.guess then d else record d { child = Some args; fails = true }
+
+-- one statement, where `read` gives the words that reads find
+abbrev pub does : (ℕ → ℕ → ℕ) → Op → Deeds → Deeds
+does read (Bind x e) d = record d { env = slice_set d.env x (value_of e d.env) }
+does read (CombRead x m a) d = record d { env = slice_set d.env x (read m (slice_index d.env a)) }
+does read (DelayedRead x m a) d = record d { asks = d.asks ++ record { mem = m; var = x; address = slice_index d.env a } ∷ [] }
+does read (Write m a e) d = record d { writes = d.writes ++ record { mem = m; value = value_of e d.env } ∷ [] }
+does read (ReserveRead m a) d = d
+does read (ReserveWrite m a) d =
+    record d {
+      held = held_after (ReserveWrite m a) d.held;
+      reserves = d.reserves ++ record { mem = m; address = slice_index d.env a } ∷ [];
+    }
+does read (Block m a) d =
+    record d { blocks = d.blocks ++ record { mem = m; address = slice_index d.env a; writes = is_held d.held m a } ∷ [] }
+does read (Release m a) d =
+    record d {
+      held = held_after (Release m a) d.held;
+      releases = d.releases ++ (if is_held d.held m a then m ∷ [] else []);
+    }
+does read (Call args) d = record d { child = Some (values_of args d.env) }
+does read (SpecCall args) d = record d { child = Some (values_of args d.env); guess = values_of args d.env }
+does read (Verify args) d = verifies (values_of args d.env) d
+does read SpecCheck d = d
+does read SpecBarrier d = record d { barrier = true }
+
+abbrev pub does_all : (ℕ → ℕ → ℕ) → List Stmt → Deeds → Deeds
+does_all read [] d = d
+does_all read (x ∷ xs) d = does_all read xs (if taken x.guards d.env then does read x.op d else d)
+
+-- LOCKS AND ANSWERS AT THE START OF A CYCLE
+
+-- the reply bit of a memory
+abbrev pub answers : Pipe → List Bool → ℕ → Bool
+answers p bits m = slice_index_or bits (reply_place p m) false
+
+-- the youngest of the older threads' pending writes of an address
+abbrev pub youngest : List Pending → ℕ → ℕ → Latest → Latest
+youngest [] thread a found = found
+youngest (e ∷ es) thread a found =
+    youngest es thread a (if nat_lt e.thread thread && (e.address == a) then as_latest e.value else found)
+
+abbrev pub older_write : State → ℕ → ℕ → ℕ → Latest
+older_write st thread m a = youngest (lock_of st m) thread a Nothing
+
+-- the word that a read finds
+abbrev pub word_for : State → ℕ → ℕ → ℕ → ℕ
+word_for st thread m a = value_or (older_write st thread m a) (word_at st.arrays m a)
+
+-- the answer that a thread's request of m has in this cycle
+abbrev pub answer_to : State → ℕ → ℕ → Request → Bool → Option ℕ
+answer_to st thread m (Owned owner a) bit = if bit && (owner == thread) then Some (word_at st.arrays m a) else None
+answer_to st thread m _ bit = None
+
+abbrev pub answer_for : Pipe → State → List Bool → ℕ → ℕ → Option ℕ
+answer_for p st bits thread m = answer_to st thread m (request_of st m) (answers p bits m)
+
+abbrev pub keeps : ℕ → Option ℕ → List Kept
+keeps x None = []
+keeps x (Some word) = record { var = x; word = word } ∷ []
+
+-- the reads that are awaited beyond this cycle, and its answers
+abbrev pub unanswered : Pipe → State → List Bool → ℕ → List Awaited → List Awaited
+unanswered p st bits thread [] = []
+unanswered p st bits thread (r ∷ rs) =
+    (if is_some (answer_for p st bits thread r.mem) then [] else r ∷ []) ++ unanswered p st bits thread rs
+
+abbrev pub answered : Pipe → State → List Bool → ℕ → List Awaited → List Kept
+answered p st bits thread [] = []
+answered p st bits thread (r ∷ rs) = keeps r.var (answer_for p st bits thread r.mem) ++ answered p st bits thread rs
+
+-- a thread with this cycle's answers
+abbrev pub with_answers : Pipe → State → List Bool → Thread → Thread
+with_answers p st bits t =
+    record t {
+      awaits = unanswered p st bits t.number t.awaits;
+      kept = t.kept ++ answered p st bits t.number t.awaits;
+    }
+
+-- the values with the answers
+abbrev pub with_kept : List Kept → List ℕ → List ℕ
+with_kept [] env = env
+with_kept (k ∷ ks) env = with_kept ks (slice_set env k.var k.word)
+
+-- what a thread's stage does where reads find these words
+abbrev pub deeds_with : (ℕ → ℕ → ℕ) → Pipe → ℕ → Thread → Deeds
+deeds_with read p s t =
+    does_all read (in_stage s p.stmts) (record {
+      env = with_kept t.kept t.env;
+      guess = t.guess;
+      held = held_before s t.env p.stmts [];
+      blocks = [];
+      reserves = [];
+      writes = [];
+      releases = [];
+      asks = [];
+      barrier = false;
+      child = None;
+      fails = false;
+    })
+
+-- what it does in this state
+abbrev pub deeds : Pipe → State → ℕ → Thread → Deeds
+deeds p st s t = deeds_with (word_for st t.number) p s t

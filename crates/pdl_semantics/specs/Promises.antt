@@ -1,0 +1,53 @@
+-- Pipeline refinement and Progress, as statements about the runs of the machine.
+use Rattle.std.specs.Prelude.{◌≡◌, IsTrue, IsFalse, ℕ, ◌+◌, ◌-◌, ◌/◌, ◌≤◌, Bool, false, List, [], ◌∷◌, ◌++◌, Option, Some, None, if◌then◌else◌, nat_lt, length}
+use Rattle.pdl_semantics.specs.Flat.{Arrays, Array, with_value, Plain, Pipe, Commit}
+use Rattle.pdl_semantics.specs.Stages.{mem_at, depth}
+use Rattle.pdl_semantics.specs.Sequential.{seqwrites}
+use Rattle.pdl_semantics.specs.Moves.{Act, all_acts}
+use Rattle.pdl_semantics.specs.Cycle.{first, turns, state_after, ended_in, waits_in, is_wait, commits}
+
+-- a memory's words, and these after some writes to it
+abbrev pub row : Arrays → ℕ → Array
+row arrays m = arrays m
+
+abbrev pub wrote : Array → List Commit → Array
+wrote words [] = words
+wrote words (c ∷ cs) = wrote (with_value words c.address c.value) cs
+
+abbrev pub IsPrefix : List Commit → List Commit → Type 0
+IsPrefix xs ys = (rest : List Commit) × (xs ++ rest ≡ ys)
+
+-- PIPELINE REFINEMENT
+
+-- each memory's commits have all sequential writes of the threads that ended, and are a prefix of the sequential writes; a memory without lock has none; in the end its array is the image with them in order
+pub record Refines (p : Pipe) (image : Arrays) (schedule : List (List Bool)) : Type 0 where
+  pub whole : (m : ℕ) → IsPrefix (seqwrites p image m (ended_in (turns p image schedule))) (commits m (turns p image schedule))
+  pub prefix : (m : ℕ) → IsPrefix (commits m (turns p image schedule)) (seqwrites p image m (ended_in (turns p image schedule) + length p.stages))
+  pub unlocked : (m : ℕ) → (mem_at p m).lock ≡ Plain → commits m (turns p image schedule) ≡ []
+  pub end : (m : ℕ) → row (state_after p (first p image) schedule).arrays m ≡ wrote (row image m) (commits m (turns p image schedule))
+
+-- PROGRESS
+
+-- the act of the thread with the lowest number
+abbrev pub older_of : Act → Option Act → Act
+older_of a None = a
+older_of a (Some b) = if nat_lt b.thread.number a.thread.number then b else a
+
+abbrev pub oldest_act : List Act → Option Act
+oldest_act [] = None
+oldest_act (a ∷ these) = Some (older_of a (oldest_act these))
+
+abbrev pub it_moves : Option Act → Bool
+it_moves None = false
+it_moves (Some a) = a.moves
+
+-- after any schedule the oldest live thread moves in a cycle that is no wait
+abbrev pub Advances : Pipe → Arrays → List (List Bool) → List Bool → Type 0
+Advances p image schedule bits =
+    IsFalse (is_wait p (state_after p (first p image) schedule) bits)
+    → IsTrue (it_moves (oldest_act (all_acts p (state_after p (first p image) schedule) bits)))
+
+-- as many threads end as cycles that are no waits, divided by the depth
+abbrev pub KeepsPace : Pipe → Arrays → List (List Bool) → Type 0
+KeepsPace p image schedule =
+    (length schedule - waits_in (turns p image schedule)) / depth p ≤ ended_in (turns p image schedule)

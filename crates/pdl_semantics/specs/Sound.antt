@@ -1,0 +1,356 @@
+-- Sound state: what holds, between cycles, in every state that a run of an accepted pipe comes to. Each point is a test, so that it computes. A turn is a thread of the sequential run.
+use Rattle.std.specs.Prelude.{IsTrue, ℕ, zero, suc, ◌+◌, count_by, Bool, true, false, ◌&&◌, ◌||◌, not, List, [], ◌∷◌, ◌++◌, Option, Some, None, is_none, if◌then◌else◌, nat_lt, nat_le, ◌==◌, slice_index, length}
+use Rattle.pdl_semantics.specs.Flat.{Arrays, list_all, Op, Bind, CombRead, DelayedRead, Write, ReserveWrite, Block, Release, Call, SpecCall, SpecBarrier, Stmt, Mem, Branch, Pipe, value_of, values_of, start_env, word_at, Commit, of_mem}
+use Rattle.pdl_semantics.specs.Stages.{list_any, onpath, stage_at, goes_to, is_verify, verify_stage}
+use Rattle.pdl_semantics.specs.Sequential.{Run, run_all, thread, seqwrites, after_turns}
+use Rattle.pdl_semantics.specs.Machine.{Awaited, Kept, Thread, Pending, Request, NoRequest, Owned, Orphan, State, lock_of, fork_of, request_of, Place, is_held, held_before, same_args, with_kept}
+use Rattle.pdl_semantics.specs.Moves.{block_ready}
+use Rattle.pdl_semantics.specs.Promises.{row, wrote}
+
+-- LIVE THREADS
+
+-- a live thread with its stage
+pub record Live : Type 0 where
+  pub stage : ℕ
+  pub thread : Thread
+
+abbrev pub number_of : Live → ℕ
+number_of l = l.thread.number
+
+-- a thread put among others in the order of their numbers, the oldest first
+abbrev pub put_in : Live → List Live → List Live
+put_in l [] = l ∷ []
+put_in l (k ∷ ks) = if nat_lt l.thread.number k.thread.number then l ∷ k ∷ ks else k ∷ put_in l ks
+
+-- the threads of these stages, of which the first is s, and all of a state, oldest first
+abbrev pub live_from : ℕ → List (Option Thread) → List Live
+live_from s [] = []
+live_from s (None ∷ xs) = live_from (suc s) xs
+live_from s (Some t ∷ xs) = put_in (record { stage = s; thread = t }) (live_from (suc s) xs)
+
+abbrev pub live : State → List Live
+live st = live_from 0 st.stages
+
+-- whether a test holds of each older and younger one of two
+abbrev pub all_pairs : {X : Type 0} → (X → X → Bool) → List X → Bool
+all_pairs test [] = true
+all_pairs test (x ∷ xs) = list_all (test x) xs && all_pairs test xs
+
+-- whether it holds of each number from m on, one for each element
+abbrev pub all_from : {X : Type 0} → (ℕ → Bool) → ℕ → List X → Bool
+all_from test m [] = true
+all_from test m (x ∷ xs) = test m && all_from test (suc m) xs
+
+-- and of each number below
+abbrev pub all_below : (ℕ → Bool) → ℕ → Bool
+all_below test zero = true
+all_below test (suc n) = all_below test n && test n
+
+-- the statements in stages before s, and from s on
+abbrev pub stages_before : ℕ → List Stmt → List Stmt
+stages_before s [] = []
+stages_before s (x ∷ xs) = if nat_lt x.stage s then x ∷ stages_before s xs else stages_before s xs
+
+abbrev pub stages_from : ℕ → List Stmt → List Stmt
+stages_from s [] = []
+stages_from s (x ∷ xs) = if nat_le s x.stage then x ∷ stages_from s xs else stages_from s xs
+
+-- what a live thread has carried out: the statements on its path in the stages that it has left
+abbrev pub past_stmts : Pipe → Live → List Stmt
+past_stmts p l = onpath l.thread.env (stages_before l.stage p.stmts)
+
+abbrev pub has_done : (Op → Bool) → Pipe → Live → Bool
+has_done test p l = list_any (λ x. test x.op) (past_stmts p l)
+
+-- the locations that it holds for writing
+abbrev pub holds : Pipe → Live → List Place
+holds p l = held_before l.stage l.thread.env p.stmts []
+
+abbrev pub holds_mem : ℕ → Pipe → Live → Bool
+holds_mem m p l = list_any (λ h. h.mem == m) (holds p l)
+
+-- KINDS OF STATEMENT
+
+abbrev pub is_call : Op → Bool
+is_call (Call args) = true
+is_call (SpecCall args) = true
+is_call _ = false
+
+abbrev pub is_spec_call : Op → Bool
+is_spec_call (SpecCall args) = true
+is_spec_call _ = false
+
+abbrev pub is_barrier : Op → Bool
+is_barrier SpecBarrier = true
+is_barrier _ = false
+
+abbrev pub is_write : ℕ → Op → Bool
+is_write m (Write n a e) = n == m
+is_write m _ = false
+
+abbrev pub is_write_reserve : ℕ → Op → Bool
+is_write_reserve m (ReserveWrite n a) = n == m
+is_write_reserve m _ = false
+
+abbrev pub is_release_at : ℕ → ℕ → Op → Bool
+is_release_at m a (Release n b) = (n == m) && (b == a)
+is_release_at m a _ = false
+
+-- a block or a read of m
+abbrev pub looks_at : ℕ → Op → Bool
+looks_at m (Block n a) = n == m
+looks_at m (CombRead x n a) = n == m
+looks_at m (DelayedRead x n a) = n == m
+looks_at m _ = false
+
+-- a thread has released a write of m
+abbrev pub has_released : ℕ → Pipe → Live → Bool
+has_released m p l = has_done (is_write_reserve m) p l && not (holds_mem m p l)
+
+-- TURNS
+
+-- a live thread that follows the turn which begins with these arrays and arguments
+pub record Follower : Type 0 where
+  pub live : Live
+  pub arrays : Arrays
+  pub args : List ℕ
+
+-- it has guessed other arguments than its turn passes on, and hasn't verified them
+abbrev pub guessed_wrong : Pipe → List ℕ → Live → Bool
+guessed_wrong p next l = has_done is_spec_call p l && not (has_done is_verify p l) && not (same_args l.thread.guess next)
+
+-- t_1 to t_f: the live threads, one turn each, up to the first with a wrong guess
+abbrev pub followers_of : Pipe → Arrays → List ℕ → List Live → List Follower
+followers_of p arrays args [] = []
+followers_of p arrays args (l ∷ ls) =
+    record { live = l; arrays = arrays; args = args }
+    ∷ (if guessed_wrong p (thread p arrays args).next l then [] else followers_of p (thread p arrays args).arrays (thread p arrays args).next ls)
+
+-- those behind
+abbrev pub strays_of : Pipe → Arrays → List ℕ → List Live → List Live
+strays_of p arrays args [] = []
+strays_of p arrays args (l ∷ ls) =
+    if guessed_wrong p (thread p arrays args).next l then ls else strays_of p (thread p arrays args).arrays (thread p arrays args).next ls
+
+-- of a state in which n threads have ended
+abbrev pub followers : Pipe → Arrays → ℕ → State → List Follower
+followers p image n st = followers_of p (after_turns p image n).arrays (after_turns p image n).next (live st)
+
+abbrev pub strays : Pipe → Arrays → ℕ → State → List Live
+strays p image n st = strays_of p (after_turns p image n).arrays (after_turns p image n).next (live st)
+
+-- the whole turn, its writes to m, and the turn before the follower's stage
+abbrev pub turn_of : Pipe → Follower → Run
+turn_of p f = thread p f.arrays f.args
+
+abbrev pub turn_writes : ℕ → Pipe → Follower → List Commit
+turn_writes m p f = of_mem m (turn_of p f).writes
+
+abbrev pub turn_so_far : Pipe → Follower → Run
+turn_so_far p f =
+    run_all (stages_before f.live.stage p.stmts)
+    (record { arrays = f.arrays; env = start_env p f.args; writes = []; next = [] })
+
+-- 1. ORDER. Of two live threads the older stands in the greater stage, or they stand in the two branches of one fork
+
+abbrev pub other_branch : Option Branch → Option Branch → Bool
+other_branch (Some a) (Some b) = (a.fork == b.fork) && (if a.first then not b.first else b.first)
+other_branch _ _ = false
+
+abbrev pub is_behind : Pipe → Live → Live → Bool
+is_behind p older younger =
+    nat_lt younger.stage older.stage || other_branch (stage_at p older.stage).branch (stage_at p younger.stage).branch
+
+-- a fork's list holds the branches of just the threads inside, oldest first
+abbrev pub side_in : ℕ → Option Branch → List Bool
+side_in f None = []
+side_in f (Some b) = if b.fork == f then b.first ∷ [] else []
+
+abbrev pub sides_in : Pipe → ℕ → List Live → List Bool
+sides_in p f [] = []
+sides_in p f (l ∷ ls) = side_in f (stage_at p l.stage).branch ++ sides_in p f ls
+
+abbrev pub same_sides : List Bool → List Bool → Bool
+same_sides [] [] = true
+same_sides (a ∷ xs) (b ∷ ys) = (if a then b else not b) && same_sides xs ys
+same_sides _ _ = false
+
+abbrev pub in_order : Pipe → State → Bool
+in_order p st = all_pairs (λ older younger. nat_lt older.thread.number younger.thread.number && is_behind p older younger) (live st) && all_from (λ f. same_sides (fork_of st f) (sides_in p f (live st))) 0 p.stages
+
+-- 2. CHAIN. At least one thread lives; each but the youngest has made its successor, the youngest hasn't
+
+abbrev pub linked : Pipe → List Live → Bool
+linked p [] = false
+linked p (l ∷ []) = not (has_done is_call p l)
+linked p (l ∷ k ∷ ls) = has_done is_call p l && linked p (k ∷ ls)
+
+-- 3. VALUES. A follower's values, once its awaited reads are answered, are those of its turn, and so are the addresses that it awaits
+
+abbrev pub request_address : Request → ℕ
+request_address NoRequest = 0
+request_address (Owned owner a) = a
+request_address (Orphan a) = a
+
+abbrev pub awaited_word : State → Awaited → Kept
+awaited_word st r = record { var = r.var; word = word_at st.arrays r.mem (request_address (request_of st r.mem)) }
+
+abbrev pub awaited_words : State → List Awaited → List Kept
+awaited_words st [] = []
+awaited_words st (r ∷ rs) = awaited_word st r ∷ awaited_words st rs
+
+abbrev pub once_answered : State → Thread → List ℕ
+once_answered st t = with_kept (awaited_words st t.awaits) (with_kept t.kept t.env)
+
+abbrev pub has_asked : List ℕ → ℕ → ℕ → ℕ → Op → Bool
+has_asked env x m address (DelayedRead y n a) = (y == x) && (n == m) && (slice_index env a == address)
+has_asked env x m address _ = false
+
+abbrev pub follows_values : Pipe → State → Follower → Bool
+follows_values p st f =
+    same_args (once_answered st f.live.thread) (turn_so_far p f).env
+    && list_all (λ r. has_done (has_asked (turn_so_far p f).env r.var r.mem (request_address (request_of st r.mem))) p f.live) f.live.thread.awaits
+
+-- 4. PENDING WRITES. A lock's list has one entry for each location that a live thread holds for writing, in thread order
+
+abbrev pub held_of : ℕ → ℕ → List Place → List ℕ
+held_of m thread [] = []
+held_of m thread (h ∷ hs) = if h.mem == m then thread ∷ held_of m thread hs else held_of m thread hs
+
+abbrev pub holders : Pipe → ℕ → List Live → List ℕ
+holders p m [] = []
+holders p m (l ∷ ls) = held_of m l.thread.number (holds p l) ++ holders p m ls
+
+abbrev pub owners : List Pending → List ℕ
+owners [] = []
+owners (e ∷ es) = e.thread ∷ owners es
+
+-- a follower's entries have its turn's address and, once written, its value
+abbrev pub has_value : Option ℕ → ℕ → Bool
+has_value None v = false
+has_value (Some w) v = w == v
+
+abbrev pub is_right_entry : Bool → List Commit → Pending → Bool
+is_right_entry written [] e = false
+is_right_entry written (c ∷ cs) e =
+    (e.address == c.address) && (if written then has_value e.value c.value else is_none e.value)
+
+abbrev pub right_entries : Pipe → State → ℕ → Follower → Bool
+right_entries p st m f =
+    list_all (λ e. not (e.thread == f.live.thread.number) || is_right_entry (has_done (is_write m) p f.live) (turn_writes m p f) e) (lock_of st m)
+
+abbrev pub pending_right : Pipe → Arrays → ℕ → State → ℕ → Bool
+pending_right p image n st m =
+    same_args (owners (lock_of st m)) (holders p m (live st)) && list_all (right_entries p st m) (followers p image n st)
+
+-- 5. ARRAYS. An array is the image with, in order, the writes of the ended turns and the released ones of followers; no later thread has released a write
+
+abbrev pub released_by : ℕ → Pipe → List Follower → List Commit
+released_by m p [] = []
+released_by m p (f ∷ fs) = (if has_released m p f.live then turn_writes m p f else []) ++ released_by m p fs
+
+abbrev pub array_right : Pipe → Arrays → ℕ → State → ℕ → ℕ → Bool
+array_right p image n st m depth =
+    all_below (λ a. word_at st.arrays m a == wrote (row image m) (seqwrites p image m n ++ released_by m p (followers p image n st)) a) depth
+    && list_all (λ l. not (has_released m p l)) (strays p image n st)
+
+abbrev pub arrays_right : Pipe → Arrays → ℕ → State → ℕ → List Mem → Bool
+arrays_right p image n st m [] = true
+arrays_right p image n st m (x ∷ xs) = array_right p image n st m x.depth && arrays_right p image n st (suc m) xs
+
+-- 6. CERTAINTY. A thread that has moved on from a barrier, or stands after V, has only older threads that stand after V
+
+abbrev pub certain_after : Pipe → Option ℕ → Live → Live → Bool
+certain_after p None older younger = true
+certain_after p (Some v) older younger = not (nat_lt v younger.stage || has_done is_barrier p younger) || nat_lt v older.stage
+
+-- 7. REQUESTS. What a thread asked for in its last stage is kept, or awaited with its request outstanding
+
+abbrev pub one_of : (ℕ → Bool) → Option ℕ → Bool
+one_of test None = false
+one_of test (Some q) = test q
+
+-- whether a statement's next stage is the one in which the thread stands
+abbrev pub is_here : Pipe → Live → Stmt → Bool
+is_here p l x = one_of (λ q. q == l.stage) (goes_to (stage_at p x.stage).next l.thread.env)
+
+abbrev pub is_owner : ℕ → Request → Bool
+is_owner thread NoRequest = false
+is_owner thread (Owned owner a) = owner == thread
+is_owner thread (Orphan a) = false
+
+abbrev pub is_kept_or_awaited : Thread → Op → Bool
+is_kept_or_awaited t (DelayedRead x m a) = list_any (λ k. k.var == x) t.kept || list_any (λ r. (r.var == x) && (r.mem == m)) t.awaits
+is_kept_or_awaited t _ = true
+
+abbrev pub is_fetch : Op → Bool
+is_fetch (DelayedRead x m a) = true
+is_fetch _ = false
+
+abbrev pub asks_right : Pipe → State → Live → Bool
+asks_right p st l =
+    list_all (λ x. not (is_here p l x) || is_kept_or_awaited l.thread x.op) (past_stmts p l)
+    && list_all (λ r. is_owner l.thread.number (request_of st r.mem)) l.thread.awaits
+    && (length l.thread.awaits + length l.thread.kept == count_by (λ (x : Stmt). is_here p l x && is_fetch x.op) (past_stmts p l))
+
+-- and each outstanding request that is no orphan is awaited by its owner
+abbrev pub has_owner : State → ℕ → Request → Bool
+has_owner st m NoRequest = true
+has_owner st m (Owned owner a) = list_any (λ l. (l.thread.number == owner) && list_any (λ r. r.mem == m) l.thread.awaits) (live st)
+has_owner st m (Orphan a) = true
+
+-- 8. READS BEFORE COMMITS. While a thread has a block or a read of m to do, or a read of m to bind, no younger one has released a write of m
+
+abbrev pub is_delayed_read : ℕ → Op → Bool
+is_delayed_read m (DelayedRead x n a) = n == m
+is_delayed_read m _ = false
+
+abbrev pub still_looks : ℕ → Pipe → Follower → Bool
+still_looks m p f =
+    list_any (λ x. looks_at m x.op) (onpath (turn_of p f).env (stages_from f.live.stage p.stmts))
+    || list_any (λ x. is_here p f.live x && is_delayed_read m x.op) (past_stmts p f.live)
+
+-- 9. BLOCKS. A block that a live thread has moved on from is still ready for it until it releases that location
+
+abbrev pub stays_ready : Pipe → State → Live → Op → Bool
+stays_ready p st l (Block m a) =
+    has_done (is_release_at m a) p l
+    || block_ready p st l.thread.number (record { mem = m; address = slice_index l.thread.env a; writes = is_held (holds p l) m a })
+stays_ready p st l _ = true
+
+-- WHAT THE INDUCTION NEEDS BESIDE. A thread stands on a stage of its path, and has done just what the statements of its earlier stages say
+
+abbrev pub comes_to : Pipe → List ℕ → ℕ → ℕ → ℕ → Bool
+comes_to p path q zero s = false
+comes_to p path q (suc limit) s = (s == q) || one_of (comes_to p path q limit) (goes_to (stage_at p s).next path)
+
+abbrev pub is_done : State → Live → Op → Bool
+is_done st l (Bind x e) = slice_index l.thread.env x == value_of e l.thread.env
+is_done st l (SpecCall args) = same_args l.thread.guess (values_of args l.thread.env)
+is_done st l _ = true
+
+abbrev pub right_place : State → Live → Place → Bool
+right_place st l h = list_any (λ e. (e.thread == l.thread.number) && (e.address == slice_index l.thread.env h.var)) (lock_of st h.mem)
+
+abbrev pub on_path : Pipe → State → Live → Bool
+on_path p st l =
+    comes_to p l.thread.env l.stage (length p.stages) 0 && list_all (λ x. is_done st l x.op) (past_stmts p l)
+    && list_all (right_place st l) (holds p l) && nat_lt l.thread.number st.next
+
+-- THE WHOLE, of a state that a run from this image comes to, in which n threads have ended
+abbrev pub is_sound : Pipe → Arrays → ℕ → State → Bool
+is_sound p image n st =
+    in_order p st
+    && linked p (live st)
+    && list_all (follows_values p st) (followers p image n st)
+    && all_from (pending_right p image n st) 0 p.mems
+    && arrays_right p image n st 0 p.mems
+    && all_pairs (certain_after p (verify_stage p.stmts)) (live st)
+    && list_all (asks_right p st) (live st)
+    && all_from (λ m. has_owner st m (request_of st m)) 0 p.mems
+    && all_from (λ m. all_pairs (λ older younger. not (still_looks m p older && has_released m p younger.live)) (followers p image n st)) 0 p.mems
+    && list_all (λ l. list_all (λ x. stays_ready p st l x.op) (past_stmts p l)) (live st)
+    && list_all (on_path p st) (live st)
+
+abbrev pub Sound : Pipe → Arrays → ℕ → State → Type 0
+Sound p image n st = IsTrue (is_sound p image n st)

@@ -1,0 +1,110 @@
+-- Stages and paths of a pipe in flat form. A path is a truth value for each guard: a list of values of all variables, of which those of guards count.
+use Rattle.std.specs.Prelude.{ℕ, zero, suc, max, Bool, true, false, ◌||◌, List, [], ◌∷◌, ◌++◌, Option, Some, None, if◌then◌else◌, ◌==◌, slice_index, slice_index_or, slice_set, length, take, count_by, unwrap_or}
+use Rattle.pdl_semantics.specs.Flat.{Op, ReserveRead, ReserveWrite, Release, Verify, Stmt, Plain, Mem, Next, Ends, Goes, Forks, Branch, Stage, Pipe, taken, start_env}
+
+-- whether some element passes the test
+abbrev pub list_any : {X : Type 0} → (X → Bool) → List X → Bool
+list_any test [] = false
+list_any test (x ∷ xs) = test x || list_any test xs
+
+-- the statements on a path, in text order
+abbrev pub onpath : List ℕ → List Stmt → List Stmt
+onpath path [] = []
+onpath path (x ∷ xs) = if taken x.guards path then record x { guards = [] } ∷ onpath path xs else onpath path xs
+
+-- the statements of a stage, in text order
+abbrev pub in_stage : ℕ → List Stmt → List Stmt
+in_stage s [] = []
+in_stage s (x ∷ xs) = if x.stage == s then x ∷ in_stage s xs else in_stage s xs
+
+-- the memory, and the stage, of this number
+abbrev pub plain_mem : Mem
+plain_mem = record { width = 0; depth = 0; delayed = false; lock = Plain }
+
+abbrev pub mem_at : Pipe → ℕ → Mem
+mem_at p m = slice_index_or p.mems m plain_mem
+
+abbrev pub last_stage : Stage
+last_stage = record { next = Ends; branch = None; merges = None }
+
+abbrev pub stage_at : Pipe → ℕ → Stage
+stage_at p s = slice_index_or p.stages s last_stage
+
+-- the stage that a thread goes to, none from the last one
+abbrev pub goes_to : Next → List ℕ → Option ℕ
+goes_to Ends env = None
+goes_to (Goes to) env = Some to
+goes_to (Forks x first second) env = Some (if slice_index env x == 1 then first else second)
+
+-- whether a stage stands in a branch of this fork
+abbrev pub is_branch_of : Option Branch → ℕ → Bool
+is_branch_of None f = false
+is_branch_of (Some b) f = b.fork == f
+
+abbrev pub is_inside : Pipe → ℕ → ℕ → Bool
+is_inside p f s = is_branch_of (stage_at p s).branch f
+
+-- whether it merges this fork
+abbrev pub merges_fork : Option ℕ → ℕ → Bool
+merges_fork None f = false
+merges_fork (Some g) f = g == f
+
+-- the place of a delayed memory among the delayed ones
+abbrev pub reply_place : Pipe → ℕ → ℕ
+reply_place p m = count_by (λ x. x.delayed) (take m p.mems)
+
+-- R(m), the stage of m's reserves, 0 where it has none; and C(m), that of its releases, the number of stages where it has none
+abbrev pub reserve_stage : Pipe → ℕ → ℕ
+reserve_stage p m = unwrap_or (slice_index_or p.reserves_at m None) 0
+
+abbrev pub commit_stage : Pipe → ℕ → ℕ
+commit_stage p m = unwrap_or (slice_index_or p.releases_at m None) (length p.stages)
+
+abbrev pub is_reserve : ℕ → Op → Bool
+is_reserve m (ReserveRead n a) = n == m
+is_reserve m (ReserveWrite n a) = n == m
+is_reserve m _ = false
+
+abbrev pub is_release : ℕ → Op → Bool
+is_release m (Release n a) = n == m
+is_release m _ = false
+
+-- V, the stage of the verifies
+abbrev pub is_verify : Op → Bool
+is_verify (Verify args) = true
+is_verify _ = false
+
+abbrev pub verify_stage : List Stmt → Option ℕ
+verify_stage [] = None
+verify_stage (x ∷ xs) = if is_verify x.op then Some x.stage else verify_stage xs
+
+-- DEPTH
+
+-- what comes of a stage where there is one
+abbrev pub onward : (ℕ → ℕ) → Option ℕ → ℕ
+onward f None = 0
+onward f (Some s) = f s
+
+-- how many stages a thread comes to from this one on a path, or the limit
+abbrev pub stages_on : Pipe → List ℕ → ℕ → ℕ → ℕ
+stages_on p path zero s = 0
+stages_on p path (suc limit) s = suc (onward (stages_on p path limit) (goes_to (stage_at p s).next path))
+
+-- the guards of forks
+abbrev pub guard_of_fork : Next → List ℕ
+guard_of_fork Ends = []
+guard_of_fork (Goes to) = []
+guard_of_fork (Forks x first second) = x ∷ []
+
+abbrev pub fork_guards : List Stage → List ℕ
+fork_guards [] = []
+fork_guards (x ∷ xs) = guard_of_fork x.next ++ fork_guards xs
+
+-- the greatest number of stages over all truth values of these guards
+abbrev pub longest : Pipe → List ℕ → List ℕ → ℕ
+longest p path [] = stages_on p path (length p.stages) 0
+longest p path (x ∷ xs) = max (longest p (slice_set path x 0) xs) (longest p (slice_set path x 1) xs)
+
+-- D, the greatest number of stages on a path
+abbrev pub depth : Pipe → ℕ
+depth p = longest p (start_env p []) (fork_guards p.stages)

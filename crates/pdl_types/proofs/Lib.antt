@@ -1,3 +1,0 @@
-pub mod Straight
-pub mod Entries
-pub mod Walks

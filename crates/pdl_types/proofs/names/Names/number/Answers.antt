@@ -1,5 +1,0 @@
-use Rattle.pdl_types.proofs.Entries.{number_found}
-use Rattle.pdl_types.proofs.names.Names.number.Goals as goal
-
-pub returns : goal.returns
-returns c = number_found c.self.inside.widths.entries _ _ _ c.get_index_of.ensures.index c.self.view_is
