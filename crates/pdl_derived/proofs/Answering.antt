@@ -2,11 +2,11 @@
 use Rattle.std.proofs.Common.{◌≡◌, ◌≢◌, refl, sym, ap, ap₂, ◌∙◌, ℕ, zero, suc, ◌+◌, ◌<◌, Bool, true, false, ◌&&◌, ◌||◌, not, List, [], ◌∷◌, ◌++◌, length, Option, Some, None, is_none, ◌==◌, cond, if◌then◌else◌, arith, eq-eqb, slice_index, slice_index_or, slice_set, zero-add, add-suc, suc-add}
 use Rattle.std.proofs.lemmas.List.{set_comm}
 use Rattle.std.proofs.lemmas.Bool.{eqb-true, ne_eqb}
-use Rattle.pdl_model.specs.Flat.{Arrays, Op, DelayedRead, Verify, Stmt, Pipe, list_all, values_of, taken, word_at}
-use Rattle.pdl_model.specs.Stages.{in_stage}
-use Rattle.pdl_model.specs.Machine.{Ask, answers, same_args}
-use Rattle.pdl_model.specs.Cycle.{awaited_of}
-use Rattle.pdl_model.specs.Moves.{is_empty}
+use Rattle.pdl_semantics.specs.Flat.{Arrays, Op, DelayedRead, Verify, Stmt, Pipe, list_all, values_of, taken, word_at}
+use Rattle.pdl_semantics.specs.Stages.{in_stage}
+use Rattle.pdl_semantics.specs.Machine.{Ask, answers, same_args}
+use Rattle.pdl_semantics.specs.Cycle.{awaited_of}
+use Rattle.pdl_semantics.specs.Moves.{is_empty}
 use Rattle.pdl_derived.specs.Derived.{Work, Around, Thread, State, Act, does, do_all, around, act, acts, asked_at, word_of, still, with_answers, awaits_mem, port_free, asks_of, find_ask, next_ask, next_asks}
 use Rattle.pdl_derived.proofs.Writes.{and_left, and_right}
 use Rattle.pdl_derived.proofs.Stages.{step, was_ready}
@@ -15,10 +15,6 @@ use Rattle.pdl_derived.proofs.Stages.{step, was_ready}
 abbrev pub caught : Arrays → List Ask → List ℕ → List ℕ
 caught arrays [] env = env
 caught arrays (q ∷ qs) env = caught arrays qs (slice_set env q.var (word_at arrays q.mem q.address))
-
-pub caught_append : (arrays : Arrays) (qs rs : List Ask) (env : List ℕ) → caught arrays (qs ++ rs) env ≡ caught arrays rs (caught arrays qs env)
-caught_append arrays [] rs env = refl
-caught_append arrays (q ∷ qs) rs env = caught_append arrays qs rs (slice_set env q.var (word_at arrays q.mem q.address))
 
 -- those that this cycle doesn't answer
 abbrev pub still_asks : Pipe → List Bool → List Ask → List Ask

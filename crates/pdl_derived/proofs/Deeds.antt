@@ -1,9 +1,9 @@
 -- The deeds of a stage's statements and the derived work of the same statements. Of the whole language.
 use Rattle.std.proofs.Common.{◌≡◌, refl, sym, ap, ◌∙◌, subst, ℕ, Bool, true, false, ◌&&◌, ◌||◌, not, List, [], ◌∷◌, ◌++◌, ◌==◌, cond, if◌then◌else◌, Some, None, slice_index, slice_set}
 use Rattle.std.proofs.Math.Bool.{and_assoc}
-use Rattle.pdl_model.specs.Flat.{Commit, list_all, Op, Bind, CombRead, DelayedRead, Write, ReserveRead, ReserveWrite, Block, Release, Call, SpecCall, Verify, SpecCheck, SpecBarrier, Stmt, value_of, values_of, taken}
-use Rattle.pdl_model.specs.Machine.{Ask, same_args, Place, Blocked, Reserved, Deeds, is_held, let_go, held_after, does_all, verifies}
-use Rattle.pdl_model.specs.Machine
+use Rattle.pdl_semantics.specs.Flat.{Commit, list_all, Op, Bind, CombRead, DelayedRead, Write, ReserveRead, ReserveWrite, Block, Release, Call, SpecCall, Verify, SpecCheck, SpecBarrier, Stmt, value_of, values_of, taken}
+use Rattle.pdl_semantics.specs.Machine.{Ask, same_args, Place, Blocked, Reserved, Deeds, is_held, let_go, held_after, does_all, verifies}
+use Rattle.pdl_semantics.specs.Machine
 use Rattle.pdl_derived.specs.Derived.{Entry, Work, Around, does, do_all, has, without, filled}
 
 -- the locations of pending writes

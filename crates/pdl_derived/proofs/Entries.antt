@@ -1,7 +1,7 @@
 -- A thread's pending writes of one memory.
-use Rattle.std.proofs.Common.{◌≡◌, ◌≢◌, refl, ℕ, Bool, true, ◌&&◌, not, List, [], ◌∷◌, Option, Some, ◌==◌, if◌then◌else◌, arith}
+use Rattle.std.proofs.Common.{◌≡◌, ◌≢◌, refl, ℕ, List, [], ◌∷◌, Option, Some, ◌==◌, if◌then◌else◌, arith}
 use Rattle.std.proofs.lemmas.Bool.Decides.{eqb_tells}
-use Rattle.pdl_model.specs.Flat.{Commit, of_mem}
+use Rattle.pdl_semantics.specs.Flat.{Commit, of_mem}
 use Rattle.pdl_derived.specs.Derived.{Entry, without, filled, released}
 
 abbrev pub entries_of : ℕ → List Entry → List Entry
@@ -65,7 +65,3 @@ addresses (e ∷ es) = e.address ∷ addresses es
 abbrev pub places : List Commit → List ℕ
 places [] = []
 places (c ∷ cs) = c.address ∷ places cs
-
-abbrev pub lacks : ℕ → List ℕ → Bool
-lacks a [] = true
-lacks a (b ∷ bs) = not (b == a) && lacks a bs

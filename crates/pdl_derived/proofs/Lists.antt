@@ -1,13 +1,11 @@
 -- The list of a lock's pending writes is the live threads' entries, the oldest thread's first.
-use Rattle.std.proofs.Common.{◌≡◌, refl, sym, ap, ap₂, ◌∙◌, ℕ, ◌+◌, ◌<◌, ◌⊎◌, inl, inr, Bool, true, false, ◌&&◌, List, [], ◌∷◌, ◌++◌, length, Some, ◌==◌, cond, if◌then◌else◌, arith, nat_lt, lt-ltb, append-nil, append_assoc, length-append}
-use Rattle.pdl_model.specs.Locks.{Latest, Nothing, as_latest}
-use Rattle.pdl_model.specs.Machine.{State, Pending, Deeds, youngest}
-use Rattle.pdl_model.specs.Moves.{movers}
-use Rattle.pdl_model.specs.Cycle.{new_entries, appended, put, put_all, filled}
-use Rattle.pdl_model.specs.Machine
-use Rattle.pdl_model.specs.Moves
-use Rattle.pdl_derived.specs.Derived.{Entry, latest, latest_in, pending, count_in}
-use Rattle.pdl_derived.proofs.Slots.{Live, threads_of}
+use Rattle.std.proofs.Common.{◌≡◌, refl, sym, ap, ap₂, ◌∙◌, ℕ, ◌+◌, ◌⊎◌, inl, inr, Bool, true, false, ◌&&◌, List, [], ◌∷◌, ◌++◌, length, Some, ◌==◌, cond, if◌then◌else◌, arith, nat_lt, append-nil, append_assoc, length-append}
+use Rattle.pdl_semantics.specs.Locks.{Latest, as_latest}
+use Rattle.pdl_semantics.specs.Machine.{Pending, youngest}
+use Rattle.pdl_semantics.specs.Cycle.{new_entries, appended, put, put_all, filled}
+use Rattle.pdl_semantics.specs.Machine
+use Rattle.pdl_semantics.specs.Moves
+use Rattle.pdl_derived.specs.Derived.{Entry, latest_in, count_in}
 
 abbrev pub own : ℕ → Entry → Pending
 own n e = record { thread = n; address = e.address; value = e.value }
@@ -16,15 +14,6 @@ own n e = record { thread = n; address = e.address; value = e.value }
 abbrev pub pend : ℕ → ℕ → List Entry → List Pending
 pend m n [] = []
 pend m n (e ∷ es) = pend m n es ++ (if e.mem == m then own n e ∷ [] else [])
-
-abbrev pub pends : ℕ → List Live → List Pending
-pends m [] = []
-pends m (l ∷ ls) = pends m ls ++ pend m l.number l.thread.entries
-
--- numbers fall towards the older ones
-abbrev pub Falls : ℕ → List Live → Type 0
-Falls bound [] = Unit {0}
-Falls bound (l ∷ ls) = (l.number < bound) × Falls l.number ls
 
 pub youngest_append : (xs ys : List Pending) (n a : ℕ) (f : Latest) → youngest (xs ++ ys) n a f ≡ youngest ys n a (youngest xs n a f)
 youngest_append [] ys n a f = refl
@@ -50,17 +39,6 @@ youngest_other m k n a (e ∷ es) f h = youngest_append (pend m k es) _ n a f �
     at true = ap (λ c. cond (c && (e.address == a)) (as_latest e.value) (youngest (pend m k es) n a f)) h
     at false = refl
 
-pub youngest_all : (m n a : ℕ) (ls : List Live) → Falls n ls → youngest (pends m ls) n a Nothing ≡ latest (threads_of ls) m a
-youngest_all m n a [] h = refl
-youngest_all m n a (l ∷ ls) h =
-    youngest_append (pends m ls) (pend m l.number l.thread.entries) n a Nothing
-    ∙ youngest_older m l.number n a l.thread.entries _ (lt-ltb _ _ h.0)
-    ∙ ap (latest_in l.thread.entries m a) (youngest_all m n a ls (lower l.number n ls h.0 h.1))
-  where
-    lower : (k n : ℕ) (ls : List Live) → k < n → Falls k ls → Falls n ls
-    lower k n [] h f = tt
-    lower k n (l ∷ ls) h f = (let i = f.0 in omega arith, f.1)
-
 -- how many are pending
 pub length_pend : (m n : ℕ) (es : List Entry) → length (pend m n es) ≡ count_in es m
 length_pend m n [] = refl
@@ -69,13 +47,6 @@ length_pend m n (e ∷ es) = length-append (pend m n es) _ ∙ at (e.mem == m) �
     at : (b : Bool) → length (pend m n es) + length (cond b (own n e ∷ []) []) ≡ cond b (1 + length (pend m n es)) (length (pend m n es))
     at true = omega arith
     at false = omega arith
-
-pub length_pends : (m : ℕ) (ls : List Live) → length (pends m ls) ≡ pending (threads_of ls) m
-length_pends m [] = refl
-length_pends m (l ∷ ls) = length-append (pends m ls) _ ∙ ap₂ (λ a b. a + b) (length_pends m ls) (length_pend m l.number l.thread.entries) ∙ flip (pending (threads_of ls) m) (count_in l.thread.entries m)
-  where
-    flip : (a b : ℕ) → a + b ≡ b + a
-    flip a b = omega arith
 
 -- the steps of a lock on a list in two parts
 put_append : (n v : ℕ) (xs ys : List Pending) → put n v (xs ++ ys) ≡ put n v xs ++ put n v ys

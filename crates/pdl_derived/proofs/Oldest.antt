@@ -1,10 +1,10 @@
 -- In a cycle that is no wait the oldest thread moves. Of any pipe of the whole language.
 use Rattle.std.proofs.Common.{◌≡◌, refl, sym, ap, ap₂, ◌∙◌, subst, ℕ, zero, suc, ◌+◌, Bool, true, false, ◌&&◌, ◌||◌, not, List, [], ◌∷◌, Option, Some, None, is_none, is_some, cond, arith, slice_index, slice_index_or, zero-add, add-suc, suc-add}
-use Rattle.pdl_model.specs.Flat.{Op, DelayedRead, ReserveWrite, Block, Verify, SpecBarrier, Stmt, Pipe, Lock, Plain, Queue, Bypass, Rename, taken, values_of}
-use Rattle.pdl_model.specs.Stages.{in_stage, mem_at, stage_at, verify_stage}
-use Rattle.pdl_model.specs.Machine.{Awaited, answers, same_args}
-use Rattle.pdl_model.specs.Moves.{is_empty}
-use Rattle.pdl_model.specs.Locks.{has_room, read_ready, write_ready, Nothing}
+use Rattle.pdl_semantics.specs.Flat.{Op, DelayedRead, ReserveWrite, Block, Verify, SpecBarrier, Stmt, Pipe, Lock, Plain, Queue, Bypass, Rename, taken, values_of}
+use Rattle.pdl_semantics.specs.Stages.{in_stage, mem_at, stage_at, verify_stage}
+use Rattle.pdl_semantics.specs.Machine.{Awaited, answers, same_args}
+use Rattle.pdl_semantics.specs.Moves.{is_empty}
+use Rattle.pdl_semantics.specs.Locks.{has_room, read_ready, write_ready, Nothing}
 use Rattle.pdl_derived.specs.Derived.{Work, Around, Thread, State, does, do_all, around, act, asked_at, still, has, port_free, barrier_clear, can_enter, fork_clear, is_wait, waits_from}
 use Rattle.pdl_derived.proofs.Stages.{step}
 

@@ -1,8 +1,8 @@
 -- Each awaited read has its request outstanding, in every state of a run of any pipe of the whole language.
 use Rattle.std.proofs.Common.{◌≡◌, refl, sym, ap, ◌∙◌, subst, ℕ, zero, suc, ◌+◌, ◌<◌, Bool, true, false, List, [], ◌∷◌, ◌++◌, length, Option, Some, None, is_some, ◌==◌, cond, if◌then◌else◌, arith, slice_index_or, zero-add, add-suc, suc-add, eq-eqb}
-use Rattle.pdl_model.specs.Flat.{Pipe}
-use Rattle.pdl_model.specs.Machine.{Ask, Awaited, answers}
-use Rattle.pdl_model.specs.Cycle.{awaited_of}
+use Rattle.pdl_semantics.specs.Flat.{Pipe}
+use Rattle.pdl_semantics.specs.Machine.{Ask, Awaited, answers}
+use Rattle.pdl_semantics.specs.Cycle.{awaited_of}
 use Rattle.pdl_derived.specs.Derived.{Work, Around, Thread, State, Act, around, act, acts, all_acts, works, still, answered, survivors, moved_to, born, asks_of, find_ask, next_ask, next_asks, cycle, exit_of}
 use Rattle.pdl_derived.proofs.Oldest.{Asked}
 

@@ -2,17 +2,17 @@
 use Rattle.std.proofs.Common.{◌≡◌, refl, ℕ, suc, Bool, true, false, ◌&&◌, ◌||◌, not, List, [], ◌∷◌, Option, Some, None, ◌==◌, bytes_eq}
 use Rattle.std.specs.Fmt.{digits}
 use Rattle.pdl_word.specs.Words.{add, slice, zext, complement}
-use Rattle.pdl_model.specs.Tree
-use Rattle.pdl_model.specs.Tree.{Queue, Bypass, Rename}
-use Rattle.pdl_model.specs.Flat.{Commit, of_mem, arrays_of}
-use Rattle.pdl_model.specs.Flatten.{flat}
-use Rattle.pdl_model.specs.Lines.{Column, columns, lines, by_mem, run_lines}
-use Rattle.pdl_model.specs.Lines
-use Rattle.pdl_model.specs.Machine.{Ask}
-use Rattle.pdl_model.specs.Cycle.{PortWrite, shown, turns}
-use Rattle.pdl_model.specs.Cycle
-use Rattle.pdl_model.proofs.Pipes.{one_stage, two_stages, under_guard, shared_guard, count_up, count_late, guess, guess_reserved, copy, copy_guessed, two_branches, one_branch, count_slow, barrier, far_barrier}
-use Rattle.pdl_model.proofs.MachineRows.{zeros, idle, bits, copied}
+use Rattle.pdl_semantics.specs.Tree
+use Rattle.pdl_semantics.specs.Tree.{Queue, Bypass, Rename}
+use Rattle.pdl_semantics.specs.Flat.{Commit, of_mem, arrays_of}
+use Rattle.pdl_semantics.specs.Flatten.{flat}
+use Rattle.pdl_semantics.specs.Lines.{Column, columns, lines, by_mem, run_lines}
+use Rattle.pdl_semantics.specs.Lines
+use Rattle.pdl_semantics.specs.Machine.{Ask}
+use Rattle.pdl_semantics.specs.Cycle.{PortWrite, shown, turns}
+use Rattle.pdl_semantics.specs.Cycle
+use Rattle.pdl_semantics.proofs.Pipes.{one_stage, two_stages, under_guard, shared_guard, count_up, count_late, guess, guess_reserved, copy, copy_guessed, two_branches, one_branch, count_slow, barrier, far_barrier}
+use Rattle.pdl_semantics.proofs.MachineRows.{zeros, idle, bits, copied}
 use Rattle.pdl_derived.specs.Derived
 
 -- PORTS

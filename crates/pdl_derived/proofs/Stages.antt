@@ -1,9 +1,9 @@
 -- A stage's work is a piece of the whole thread's.
 use Rattle.std.proofs.Common.{◌≡◌, refl, sym, ap, ◌∙◌, ℕ, suc, Bool, true, false, ◌&&◌, ◌||◌, List, [], ◌∷◌, ◌++◌, Option, Some, None, slice_index, slice_set, cond, if◌then◌else◌, append_assoc, append-nil}
 use Rattle.std.proofs.Math.Bool.{and_assoc, and-true}
-use Rattle.pdl_model.specs.Flat.{Arrays, Op, CombRead, DelayedRead, ReserveWrite, Block, Release, Verify, SpecBarrier, Stmt, Pipe, values_of, taken, word_at}
-use Rattle.pdl_model.specs.Stages.{in_stage}
-use Rattle.pdl_model.specs.Machine.{same_args}
+use Rattle.pdl_semantics.specs.Flat.{Arrays, Op, CombRead, DelayedRead, ReserveWrite, Block, Release, Verify, SpecBarrier, Stmt, Pipe, values_of, taken, word_at}
+use Rattle.pdl_semantics.specs.Stages.{in_stage}
+use Rattle.pdl_semantics.specs.Machine.{same_args}
 use Rattle.pdl_derived.specs.Derived.{Work, Around, does, do_all, works, has, released}
 use Rattle.pdl_derived.specs.Alone.{alone, before, start_work, so_far, placed}
 use Rattle.pdl_derived.proofs.Writes.{and_left}

@@ -1,11 +1,8 @@
 -- Facts on arrays and lists of writes.
-use Rattle.std.proofs.Common.{◌≡◌, ◌≢◌, refl, sym, ap, ◌∙◌, ℕ, Bool, true, false, ◌&&◌, not, List, [], ◌∷◌, ◌++◌, ◌==◌, cond, arith, eq-eqb}
+use Rattle.std.proofs.Common.{◌≡◌, ◌≢◌, refl, sym, ap, ◌∙◌, ℕ, Bool, true, false, ◌&&◌, List, [], ◌∷◌, ◌++◌, ◌==◌, cond, eq-eqb}
 use Rattle.std.proofs.lemmas.Bool.{eqb-true, eqb-false, ne_eqb}
-use Rattle.std.proofs.lemmas.Bool.Decides.{eqb_tells}
-use Rattle.std.proofs.Math.Bool.{and_assoc}
-use Rattle.pdl_model.specs.Flat.{Arrays, Array, with_value, Commit, of_mem, committed, with_word}
-use Rattle.pdl_model.specs.Promises.{wrote, row}
-use Rattle.pdl_derived.specs.Alone.{misses}
+use Rattle.pdl_semantics.specs.Flat.{Arrays, Array, with_value, Commit, of_mem, committed, with_word}
+use Rattle.pdl_semantics.specs.Promises.{wrote, row}
 
 pub row_same : (arrays : Arrays) (m a v : ℕ) → row (with_word arrays m a v) m ≡ with_value (row arrays m) a v
 row_same arrays m a v = ap (λ c. cond c (with_value (arrays m) a v) (arrays m)) (eq-eqb m m refl)
@@ -37,10 +34,6 @@ pub of_mem_append : (m : ℕ) (xs ys : List Commit) → of_mem m (xs ++ ys) ≡ 
 of_mem_append m [] ys = refl
 of_mem_append m (x ∷ xs) ys = cons_append (x.mem == m) x _ _ _ (of_mem_append m xs ys)
 
-pub misses_append : (a : ℕ) (xs ys : List Commit) → misses a (xs ++ ys) ≡ (misses a xs && misses a ys)
-misses_append a [] ys = refl
-misses_append a (x ∷ xs) ys = ap (λ b. not (x.address == a) && b) (misses_append a xs ys) ∙ sym (and_assoc (not (x.address == a)) (misses a xs) (misses a ys))
-
 pub and_left : (b c : Bool) → (b && c) ≡ true → b ≡ true
 and_left true c e = refl
 and_left false c e = e
@@ -48,16 +41,6 @@ and_left false c e = e
 pub and_right : (b c : Bool) → (b && c) ≡ true → c ≡ true
 and_right true c e = e
 and_right false c e = cc
-
--- writes that miss an address leave its word
-pub misses_word : (a : ℕ) (cs : List Commit) (words : Array) → misses a cs ≡ true → wrote words cs a ≡ words a
-misses_word a [] words h = refl
-misses_word a (c ∷ cs) words h =
-    misses_word a cs (with_value words c.address c.value) (and_right (not (c.address == a)) (misses a cs) h)
-    ∙ ap (λ b. cond b c.value (words a)) (ne_eqb a c.address (apart (and_left (not (c.address == a)) (misses a cs) h)))
-  where
-    apart : not (c.address == a) ≡ true → a ≢ c.address
-    apart t e = grind (arith, eqb_tells)
 
 pub committed_append : (xs ys : List Commit) (arrays : Arrays) → committed arrays (xs ++ ys) ≡ committed (committed arrays xs) ys
 committed_append [] ys arrays = refl

@@ -1,9 +1,9 @@
 -- A thread that runs alone in the machine that the proofs use, and what that machine's runs are shown to do.
 use Rattle.std.specs.Prelude.{◌≡◌, ℕ, ◌+◌, ◌-◌, ◌/◌, ◌≤◌, Bool, true, false, ◌&&◌, not, List, [], ◌∷◌, None, if◌then◌else◌, nat_lt, ◌==◌, IsTrue, IsFalse, length}
-use Rattle.pdl_model.specs.Flat.{Arrays, Op, CombRead, DelayedRead, Call, SpecCall, Stmt, Pipe, start_env, word_at, Commit, of_mem, committed}
-use Rattle.pdl_model.specs.Stages.{commit_stage, depth}
-use Rattle.pdl_model.specs.Sequential.{thread, seqwrites}
-use Rattle.pdl_model.specs.Promises.{IsPrefix}
+use Rattle.pdl_semantics.specs.Flat.{Arrays, Op, CombRead, DelayedRead, Call, SpecCall, Stmt, Pipe, start_env, word_at, Commit, of_mem, committed}
+use Rattle.pdl_semantics.specs.Stages.{commit_stage, depth}
+use Rattle.pdl_semantics.specs.Sequential.{thread, seqwrites}
+use Rattle.pdl_semantics.specs.Promises.{IsPrefix}
 use Rattle.pdl_derived.specs.Derived.{Thread, Work, Around, do_all, Act, all_acts, all_commits, turns, commits, ended_in, waits_in, is_wait, state_after, first}
 
 -- the surroundings of a thread that runs alone on these arrays: nothing holds it up

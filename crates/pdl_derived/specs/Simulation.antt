@@ -1,8 +1,8 @@
 -- What it means that both machines do the same.
 use Rattle.std.specs.Prelude.{◌≡◌, ℕ, List, [], ◌∷◌, None, slice_index_or}
-use Rattle.pdl_model.specs.Flat.{Pipe, of_mem}
-use Rattle.pdl_model.specs.Cycle.{for_mems, shown}
-use Rattle.pdl_model.specs.Cycle
+use Rattle.pdl_semantics.specs.Flat.{Pipe, of_mem}
+use Rattle.pdl_semantics.specs.Cycle.{for_mems, shown}
+use Rattle.pdl_semantics.specs.Cycle
 use Rattle.pdl_derived.specs.Derived.{find_ask}
 use Rattle.pdl_derived.specs.Derived
 

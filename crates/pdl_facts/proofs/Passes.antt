@@ -1,28 +1,17 @@
 -- A pipe that passes the tests has the facts of an accepted pipe.
-use Rattle.std.proofs.Common.{◌≡◌, refl, ap, ap₂, ◌∙◌, subst, ℕ, suc, ◌<◌, ◌≤◌, Bool, true, false, ◌&&◌, ◌||◌, not, List, [], ◌∷◌, ◌++◌, length, unwrap_or, Some, None, is_none, nat_lt, nat_le, ◌==◌, arith, ltb-true, ltb-false, leb-true, append-nil, cond, lt-ltb}
+use Rattle.std.proofs.Common.{◌≡◌, refl, ap, ap₂, ◌∙◌, subst, ℕ, suc, ◌<◌, ◌≤◌, Bool, true, false, ◌&&◌, ◌||◌, not, List, [], ◌∷◌, ◌++◌, length, unwrap_or, Some, None, nat_lt, nat_le, ◌==◌, arith, ltb-true, ltb-false, leb-true, append-nil, cond, lt-ltb}
 use Rattle.std.proofs.lemmas.Bool.{eqb-true, ne_eqb}
-use Rattle.pdl_model.specs.Flat.{list_all, Next, Ends, Goes, Forks, Stmt, Mem, Stage, Pipe}
-use Rattle.pdl_model.specs.Stages.{onpath, in_stage, stage_at, last_stage, mem_at, plain_mem, commit_stage, reserve_stage, is_reserve, is_release, is_verify, verify_stage}
-use Rattle.pdl_model.specs.Locks.{has_room}
-use Rattle.pdl_model.specs.Sound.{all_below}
+use Rattle.pdl_semantics.specs.Flat.{list_all, Stmt, Mem, Pipe}
+use Rattle.pdl_semantics.specs.Stages.{onpath, in_stage, mem_at, plain_mem, commit_stage, reserve_stage, is_reserve, is_release, verify_stage}
+use Rattle.pdl_semantics.specs.Locks.{has_room}
+use Rattle.pdl_semantics.specs.Sound.{all_below}
 use Rattle.pdl_derived.specs.Alone.{before}
 use Rattle.pdl_facts.specs.Scans.{from, is_plain, none_of, all_at, reads_ok, no_scan, phases_ok, phase_all, Fresh, is_over, fixed, is_fetch}
 use Rattle.pdl_facts.specs.Certain.{Unmade, makings_ok, making_all, is_made, all_sure}
-use Rattle.pdl_facts.specs.Checks.{in_text_order, knows, on_paths, guard_vars, mem_passes, path_passes, leads_on, stage_passes, lock_passes, is_below, stages_pass, locks_pass, stmts_pass, text_passes, paths_pass, passes}
-use Rattle.pdl_facts.specs.Accepted.{Accepted, Pathwise, Checked, Text, along}
+use Rattle.pdl_facts.specs.Checks.{in_text_order, knows, on_paths, guard_vars, mem_passes, path_passes, lock_passes, is_below, locks_pass, text_passes, paths_pass}
+use Rattle.pdl_facts.specs.Accepted.{Accepted, Pathwise, along}
 use Rattle.pdl_derived.proofs.Writes.{and_left, and_right}
-use Rattle.pdl_facts.proofs.Texts.{below_at, past_end, none_there, where_true, none_before, pieces, ordered, whole, reads_first, no_fetch, no_verify, all_at_none, no_reserve, no_release, stays_fresh, on_each_path}
-
--- a stage and what stands behind the last one
-leads_next : (k s : ℕ) (n : Next) → leads_on k s n ≡ true → suc s < k → n ≡ Goes (suc s)
-leads_next k s Ends h low = absurd (let e : suc s ≡ k = eqb-true _ _ h in omega arith)
-leads_next k s (Goes to) h low = ap Goes (eqb-true to (suc s) (and_right (nat_lt (suc s) k) _ h))
-leads_next k s (Forks x a b) h low = absurd (cc h)
-
-leads_out : (k s : ℕ) (n : Next) → leads_on k s n ≡ true → suc s ≡ k → n ≡ Ends
-leads_out k s Ends h e = refl
-leads_out k s (Goes to) h e = absurd (let i : suc s < k = ltb-true _ _ (and_left _ (to == suc s) h) in omega arith)
-leads_out k s (Forks x a b) h e = absurd (cc h)
+use Rattle.pdl_facts.proofs.Texts.{below_at, past_end, where_true, none_before, pieces, ordered, whole, reads_first, no_fetch, all_at_none, no_reserve, no_release, stays_fresh, on_each_path}
 
 -- what holds of each number below a bound, and behind it
 pub by_bound : (n m : ℕ) (R : Type 0) → (m < n → R) → (n ≤ m → R) → R
@@ -292,92 +281,3 @@ module _ (p : Pipe) (h : paths_pass p ≡ true) where
 
   pub pathwise_paths : Pathwise p
   pathwise_paths = pathwise p parts_paths (and_left (fixed p.stmts) _ after_below) fixed_each
-
-module _ (p : Pipe) (h : passes p ≡ true) where
-  stages_ok : stages_pass p ≡ true
-  stages_ok = and_left _ _ h
-
-  -- behind the stages
-  locks_here : locks_pass p ≡ true
-  locks_here = and_left (locks_pass p) _ (and_right (stages_pass p) _ h)
-
-  stmts_ok : stmts_pass p ≡ true
-  stmts_ok = and_left (stmts_pass p) _ (and_right (locks_pass p) _ (and_right (stages_pass p) _ h))
-
-  in_order : in_text_order 0 p.stmts ≡ true
-  in_order = and_left _ _ stmts_ok
-
-  after_order : (list_all (λ x. knows (length p.mems) x.op) p.stmts && (none_of is_fetch p.stmts && (is_below (length p.stages) (verify_stage p.stmts) && fixed p.stmts))) ≡ true
-  after_order = and_right (in_text_order 0 p.stmts) _ stmts_ok
-
-  plain_rest : (none_of is_fetch p.stmts && (is_below (length p.stages) (verify_stage p.stmts) && fixed p.stmts)) ≡ true
-  plain_rest = and_right (list_all (λ x. knows (length p.mems) x.op) p.stmts) _ after_order
-
-  fixed_here : fixed p.stmts ≡ true
-  fixed_here = and_right (is_below (length p.stages) (verify_stage p.stmts)) _ (and_right (none_of is_fetch p.stmts) _ plain_rest)
-
-  parts_all : Parts p
-  parts_all =
-      record {
-        some = ltb-true _ _ (and_left (nat_lt 0 (length p.stages)) _ stages_ok);
-        locks = locks_here;
-        known = and_left (list_all (λ x. knows (length p.mems) x.op) p.stmts) _ after_order;
-        unfetched = and_left (none_of is_fetch p.stmts) _ plain_rest;
-        below = and_left (is_below (length p.stages) (verify_stage p.stmts)) _ (and_right (none_of is_fetch p.stmts) _ plain_rest);
-        paths = each_passes p (and_right (stmts_pass p) _ (and_right (locks_pass p) _ (and_right (stages_pass p) _ h)));
-      }
-
-  -- STAGES
-  stage_ok : (s : ℕ) → s < length p.stages → stage_passes p s ≡ true
-  stage_ok s low = below_at (stage_passes p) (length p.stages) s (and_right (nat_lt 0 (length p.stages)) _ stages_ok) low
-
-  goes_on : (s : ℕ) → suc s < length p.stages → (stage_at p s).next ≡ Goes (suc s)
-  goes_on s low = leads_next (length p.stages) s (stage_at p s).next (and_left (leads_on (length p.stages) s (stage_at p s).next) _ (stage_ok s (omega arith))) low
-
-  ends : (s : ℕ) → suc s ≡ length p.stages → (stage_at p s).next ≡ Ends
-  ends s e = leads_out (length p.stages) s (stage_at p s).next (and_left (leads_on (length p.stages) s (stage_at p s).next) _ (stage_ok s (omega arith))) e
-
-  no_branch : (s : ℕ) → (stage_at p s).branch ≡ None
-  no_branch s =
-      by_bound (length p.stages) s ((stage_at p s).branch ≡ None)
-      (λ low. none_there (stage_at p s).branch (and_left (is_none (stage_at p s).branch) _ (and_right (leads_on (length p.stages) s (stage_at p s).next) _ (stage_ok s low))))
-      (λ past. ap (λ (x : Stage). x.branch) (past_end p.stages s last_stage past))
-
-  no_merge : (s : ℕ) → (stage_at p s).merges ≡ None
-  no_merge s =
-      by_bound (length p.stages) s ((stage_at p s).merges ≡ None)
-      (λ low. none_there (stage_at p s).merges (and_right (is_none (stage_at p s).branch) _ (and_right (leads_on (length p.stages) s (stage_at p s).next) _ (stage_ok s low))))
-      (λ past. ap (λ (x : Stage). x.merges) (past_end p.stages s last_stage past))
-
-  pub text : none_of is_verify p.stmts ≡ true → Text p
-  text unguessed =
-      record {
-        reserves = reserves p parts_all;
-        unknown = λ m past. no_reserve m _ p.stmts (known p parts_all) past;
-        unreleased = λ m past. let e = commit_past p parts_all m past in omega arith;
-        no_fetch = unfetched p parts_all;
-        no_verify = no_verify p.stmts unguessed;
-        no_merge = no_merge;
-      }
-
-  pub checked : Checked p
-  checked =
-      record {
-        pieces = λ s. pieces s 0 p.stmts in_order (unfetched p parts_all);
-        ordered = λ s. ordered s 0 p.stmts in_order (unfetched p parts_all);
-        start_first = none_before 0 0 p.stmts in_order (omega arith);
-        goes_on = goes_on;
-        ends = ends;
-        some_stage = parts_all.some;
-        no_branch = no_branch;
-        locks = locks p parts_all;
-        fixed_guards = fixed_here;
-        releases = releases p parts_all;
-        plain_from = plain_from p parts_all;
-        plain_to = plain_to p parts_all;
-        verify_inside = verify_low p parts_all;
-        paths = accepted p parts_all;
-        makings = path_makings p parts_all;
-        made = path_made p parts_all;
-        sure = path_sure p parts_all;
-      }

@@ -1,14 +1,13 @@
 -- What tests of statements tell: their order, what they make, which memories they know, and each path.
 use Rattle.std.proofs.Common.{◌≡◌, refl, sym, ap, ap₂, ◌∙◌, subst, ℕ, zero, suc, ◌<◌, ◌≤◌, Bool, true, false, ◌&&◌, ◌||◌, not, List, [], ◌∷◌, ◌++◌, length, Option, Some, None, is_none, nat_lt, ◌==◌, cond, arith, slice_index, slice_index_or, ltb-true, ltb-false, le-ltb, leb-true, le-leb}
 use Rattle.std.proofs.lemmas.Bool.{eqb-true, eqb-false, ne_eqb, lt-leb}
-use Rattle.pdl_model.specs.Flat.{list_all, takes, taken, Op, Bind, CombRead, DelayedRead, Write, ReserveRead, ReserveWrite, Block, Release, Call, SpecCall, Verify, SpecCheck, SpecBarrier, Stmt, Guard, Pipe}
-use Rattle.pdl_model.specs.Stages.{onpath, in_stage, is_reserve, is_release, is_verify, verify_stage}
-use Rattle.pdl_model.specs.Sound.{all_below}
-use Rattle.pdl_derived.specs.Alone.{before, looked, is_call}
-use Rattle.pdl_facts.specs.Scans.{from, no_guards, none_of, all_at, Scan, opened, called, makes, opens, op_ok, reads_ok, Phase, Fresh, next_phase, phase_ok, phases_ok, phase_all, is_fetch}
+use Rattle.pdl_semantics.specs.Flat.{list_all, takes, taken, Op, Bind, CombRead, DelayedRead, Write, ReserveRead, ReserveWrite, Block, Release, Call, SpecCall, Verify, SpecCheck, SpecBarrier, Stmt, Guard, Pipe}
+use Rattle.pdl_semantics.specs.Stages.{onpath, in_stage, is_reserve, is_release, is_verify, verify_stage}
+use Rattle.pdl_semantics.specs.Sound.{all_below}
+use Rattle.pdl_derived.specs.Alone.{before, looked}
+use Rattle.pdl_facts.specs.Scans.{from, no_guards, none_of, all_at, Scan, opens, op_ok, reads_ok, Fresh, next_phase, phase_ok, phases_ok, phase_all, is_fetch}
 use Rattle.pdl_facts.specs.Scans
-use Rattle.pdl_facts.specs.Certain.{Making, Unmade, Made, next_making, making_all, is_made, making_ok, makings_ok, is_barrier, is_sure, all_sure}
-use Rattle.pdl_facts.specs.Checks.{in_text_order, knows, makes_once, is_guess, alike, stays, without, choose, on_paths}
+use Rattle.pdl_facts.specs.Checks.{in_text_order, knows, alike, stays, without, choose, on_paths}
 use Rattle.pdl_derived.proofs.Writes.{and_left, and_right}
 
 -- NUMBERS AND LISTS
@@ -135,38 +134,6 @@ no_verify (x ∷ xs) h = at (is_verify x.op) (and_left _ _ h) (no_verify xs (and
     at : (b : Bool) → not b ≡ true → verify_stage xs ≡ None → cond b (Some x.stage) (verify_stage xs) ≡ None
     at true e k = absurd (cc e)
     at false e k = k
-
--- a path whose one call is no guess
-abbrev called_now : Bool → Making
-called_now true = Made
-called_now false = Unmade
-
-call_certain : (v : Option ℕ) (b : Bool) (s : ℕ) (op : Op) → not (is_guess op) ≡ true → not (b && makes op) ≡ true → (making_ok v (called_now b) s op ≡ true) × (next_making (called_now b) op ≡ called_now (b || makes op)) × (is_call op ≡ makes op)
-call_certain v true s (Call args) n h = absurd (cc h)
-call_certain v false s (Call args) n h = (refl, refl, refl)
-call_certain v b s (SpecCall args) n h = absurd (cc n)
-call_certain v b s (Verify args) n h = absurd (cc n)
-call_certain v true s _ n h = (refl, refl, refl)
-call_certain v false s _ n h = (refl, refl, refl)
-
-pub calls_certain : (v : Option ℕ) (b : Bool) (xs : List Stmt) → none_of is_guess xs ≡ true → makes_once b xs ≡ true → called b xs ≡ true → (makings_ok v (called_now b) xs ≡ true) × (is_made (making_all (called_now b) xs) ≡ true)
-calls_certain v true [] n h c = (refl, refl)
-calls_certain v false [] n h c = absurd (cc c)
-calls_certain v b (x ∷ xs) n h c =
-    let one = call_certain v b x.stage x.op (and_left (not (is_guess x.op)) _ n) (and_left (not (b && makes x.op)) _ h) in
-    let rest = calls_certain v (b || makes x.op) xs (and_right (not (is_guess x.op)) _ n) (and_right (not (b && makes x.op)) _ h) (subst (λ m. called (b || m) xs ≡ true) one.2 c) in (
-      and_both _ _ one.0 (subst (λ k. makings_ok v k xs ≡ true) (sym one.1) rest.0),
-      subst (λ k. is_made (making_all k xs) ≡ true) (sym one.1) rest.1,
-    )
-
--- without V all is certain
-sure_op : (b : Bool) (c : Scan) (s : ℕ) (op : Op) → is_sure None b c s op ≡ true
-sure_op b c s (Release m a) = or_second b _ (or_second (not (opened c.held m a)) true refl)
-sure_op b c s _ = refl
-
-pub all_certain : (b : Bool) (c : Scan) (xs : List Stmt) → all_sure None b c xs ≡ true
-all_certain b c [] = refl
-all_certain b c (x ∷ xs) = and_both _ _ (sure_op b c x.stage x.op) (all_certain (b || is_barrier x.op) (opens x.op c) xs)
 
 -- MEMORIES THAT ARE NOT THERE
 

@@ -1,6 +1,6 @@
 -- Facts of an accepted pipe on guesses: scans over the statements of one path that tell who makes the next thread, and that nothing is released before it is certain.
 use Rattle.std.specs.Prelude.{ℕ, Bool, true, false, ◌&&◌, ◌||◌, not, List, [], ◌∷◌, Option, Some, None, ◌==◌, nat_lt}
-use Rattle.pdl_model.specs.Flat.{Op, Release, Call, SpecCall, Verify, SpecBarrier, Stmt}
+use Rattle.pdl_semantics.specs.Flat.{Op, Release, Call, SpecCall, Verify, SpecBarrier, Stmt}
 use Rattle.pdl_facts.specs.Scans.{opened, opens, Scan}
 
 -- whether a stage is V, and whether it stands before V

@@ -1,11 +1,11 @@
--- The facts of an accepted pipe whose stages stand in a line, as tests that compute.
-use Rattle.std.specs.Prelude.{ℕ, suc, Bool, true, false, ◌&&◌, ◌||◌, not, List, [], ◌∷◌, ◌++◌, Option, Some, None, is_none, if◌then◌else◌, nat_lt, nat_le, ◌==◌, length}
-use Rattle.pdl_model.specs.Flat.{list_all, Op, CombRead, DelayedRead, Write, ReserveRead, ReserveWrite, Block, Release, SpecCall, Verify, Stmt, Guard, Next, Ends, Goes, Forks, Pipe}
+-- The facts of an accepted pipe's text and of each of its paths, as tests that compute.
+use Rattle.std.specs.Prelude.{ℕ, suc, Bool, true, false, ◌&&◌, ◌||◌, not, List, [], ◌∷◌, ◌++◌, Option, Some, None, if◌then◌else◌, nat_lt, nat_le, ◌==◌, length}
+use Rattle.pdl_semantics.specs.Flat.{list_all, Op, CombRead, DelayedRead, Write, ReserveRead, ReserveWrite, Block, Release, SpecCall, Verify, Stmt, Guard, Pipe}
 use Rattle.pdl_derived.specs.Alone.{before}
-use Rattle.pdl_model.specs.Stages.{in_stage, stage_at, mem_at, commit_stage, reserve_stage, is_reserve, is_release, verify_stage}
-use Rattle.pdl_model.specs.Locks.{has_room}
-use Rattle.pdl_model.specs.Sound.{all_below}
-use Rattle.pdl_facts.specs.Scans.{from, is_plain, none_of, reads_ok, no_scan, phases_ok, phase_all, Fresh, is_over, all_at, makes, fixed, is_fetch}
+use Rattle.pdl_semantics.specs.Stages.{in_stage, mem_at, commit_stage, reserve_stage, is_reserve, is_release, verify_stage}
+use Rattle.pdl_semantics.specs.Locks.{has_room}
+use Rattle.pdl_semantics.specs.Sound.{all_below}
+use Rattle.pdl_facts.specs.Scans.{from, is_plain, none_of, reads_ok, no_scan, phases_ok, phase_all, Fresh, is_over, all_at, fixed, is_fetch}
 use Rattle.pdl_facts.specs.Certain.{Unmade, makings_ok, making_all, is_made, all_sure}
 
 -- statements stand in the order of their stages, the first in stage s or behind it
@@ -23,11 +23,6 @@ knows n (ReserveWrite m a) = nat_lt m n
 knows n (Block m a) = nat_lt m n
 knows n (Release m a) = nat_lt m n
 knows n _ = true
-
--- nothing makes another thread once one was made
-abbrev pub makes_once : Bool → List Stmt → Bool
-makes_once been [] = true
-makes_once been (x ∷ xs) = not (been && makes x.op) && makes_once (been || makes x.op) xs
 
 -- a guess, and its verify
 abbrev pub is_guess : Op → Bool
@@ -83,15 +78,6 @@ path_passes p xs =
 
 -- THE TEXT
 
--- a stage leads to the next one, the last of k out of the pipe
-abbrev pub leads_on : ℕ → ℕ → Next → Bool
-leads_on k s Ends = suc s == k
-leads_on k s (Goes to) = nat_lt (suc s) k && (to == suc s)
-leads_on k s (Forks x first second) = false
-
-abbrev pub stage_passes : Pipe → ℕ → Bool
-stage_passes p s = leads_on (length p.stages) s (stage_at p s).next && (is_none (stage_at p s).branch && is_none (stage_at p s).merges)
-
 abbrev pub lock_passes : Pipe → ℕ → Bool
 lock_passes p m =
     has_room (mem_at p m).lock 0
@@ -104,21 +90,12 @@ abbrev pub is_below : ℕ → Option ℕ → Bool
 is_below k None = true
 is_below k (Some s) = nat_lt s k
 
--- what is asked of the stages, of the locks, of the statements, and the whole
-abbrev pub stages_pass : Pipe → Bool
-stages_pass p = nat_lt 0 (length p.stages) && all_below (stage_passes p) (length p.stages)
-
+-- what is asked of the locks
 abbrev pub locks_pass : Pipe → Bool
 locks_pass p =
     nat_le (length p.reserves_at) (length p.mems) && (nat_le (length p.releases_at) (length p.mems) && all_below (lock_passes p) (length p.mems))
 
-abbrev pub stmts_pass : Pipe → Bool
-stmts_pass p =
-    in_text_order 0 p.stmts
-    && (list_all (λ x. knows (length p.mems) x.op) p.stmts
-    && (none_of is_fetch p.stmts && (is_below (length p.stages) (verify_stage p.stmts) && fixed p.stmts)))
-
--- of the locks, the text and its paths, whatever the stage graph; with forks the text need not stand in the order of stages
+-- of the text, which with forks need not stand in the order of stages
 abbrev pub text_passes : Pipe → Bool
 text_passes p =
     list_all (λ x. knows (length p.mems) x.op) p.stmts
@@ -129,6 +106,3 @@ text_passes p =
 
 abbrev pub paths_pass : Pipe → Bool
 paths_pass p = nat_lt 0 (length p.stages) && (locks_pass p && (text_passes p && on_paths (guard_vars p.stmts) (path_passes p) p.stmts))
-
-abbrev pub passes : Pipe → Bool
-passes p = stages_pass p && (locks_pass p && (stmts_pass p && on_paths (guard_vars p.stmts) (path_passes p) p.stmts))

@@ -1,11 +1,11 @@
 -- WHAT IS TAKEN OF AN ACCEPTED PIPE OF THE WHOLE LANGUAGE: facts that the rules of the language give, of its text, of its stage graph, and of the statements of each path.
 use Rattle.std.specs.Prelude.{◌≡◌, ℕ, suc, ◌≤◌, ◌<◌, Bool, true, false, ◌&&◌, ◌||◌, not, List, [], ◌∷◌, Option, Some, None, ◌==◌, length, nat_lt, nat_le, slice_index}
-use Rattle.pdl_model.specs.Flat.{list_all, Op, Bind, CombRead, DelayedRead, Write, ReserveRead, ReserveWrite, Block, Release, Call, SpecCall, Verify, SpecCheck, SpecBarrier, Expr, Constant, Variable, Slice, Not, Binary, Cat, LessSigned, ZeroExtend, SignExtend, Choose, Guard, Stmt, Lock, Plain, Queue, Forks, Branch, Pipe}
-use Rattle.pdl_model.specs.Stages.{is_inside, is_reserve, is_verify, onpath, in_stage, stage_at, mem_at, verify_stage, commit_stage, reserve_stage}
+use Rattle.pdl_semantics.specs.Flat.{list_all, Op, Bind, CombRead, DelayedRead, Write, ReserveRead, ReserveWrite, Block, Release, Call, SpecCall, Verify, SpecCheck, SpecBarrier, Expr, Constant, Variable, Slice, Not, Binary, Cat, LessSigned, ZeroExtend, SignExtend, Choose, Guard, Stmt, Lock, Plain, Queue, Forks, Branch, Pipe}
+use Rattle.pdl_semantics.specs.Stages.{is_inside, is_reserve, is_verify, onpath, in_stage, stage_at, mem_at, verify_stage, commit_stage, reserve_stage}
 use Rattle.pdl_derived.specs.Alone.{before, looked}
 use Rattle.pdl_facts.specs.Scans.{from, none_of, all_at, binds, is_fetch}
 pub use Rattle.pdl_facts.specs.Scans.{against, is_dead}
-use Rattle.pdl_model.specs.Cycle.{merges_by}
+use Rattle.pdl_semantics.specs.Cycle.{merges_by}
 use Rattle.pdl_facts.specs.Graphs.{next_of, Graph, In, Branches, goes_by}
 use Rattle.pdl_facts.specs.Accepted.{Pathwise}
 

@@ -1,7 +1,7 @@
 -- Scans over the statements of one path, and over a text, that tell whether locks and values are used as the rules of the language say.
 use Rattle.std.specs.Prelude.{ℕ, Bool, true, false, ◌&&◌, ◌||◌, not, List, [], ◌∷◌, if◌then◌else◌, ◌==◌, nat_le}
-use Rattle.pdl_model.specs.Flat.{Op, Bind, CombRead, DelayedRead, Write, ReserveWrite, Block, Release, Call, SpecCall, Verify, Stmt, Guard, Pipe, Lock, Plain}
-use Rattle.pdl_model.specs.Stages.{mem_at, commit_stage, reserve_stage}
+use Rattle.pdl_semantics.specs.Flat.{Op, Bind, CombRead, DelayedRead, Write, ReserveWrite, Block, Release, Call, SpecCall, Verify, Stmt, Guard, Pipe, Lock, Plain}
+use Rattle.pdl_semantics.specs.Stages.{mem_at, commit_stage, reserve_stage}
 use Rattle.pdl_derived.specs.Alone.{Location, is_call}
 
 abbrev pub no_guards : List Guard → Bool

@@ -1,11 +1,11 @@
 -- The facts of an accepted pipe of the whole language, as tests that compute.
 use Rattle.std.specs.Prelude.{ℕ, suc, Bool, true, false, ◌&&◌, ◌||◌, not, List, [], ◌∷◌, ◌++◌, Option, Some, None, is_none, if◌then◌else◌, nat_lt, nat_le, ◌==◌, length, slice_set}
-use Rattle.pdl_model.specs.Flat.{list_all, Op, DelayedRead, Guard, Stmt, Next, Ends, Goes, Forks, Branch, Pipe, taken, start_env}
-use Rattle.pdl_model.specs.Stages.{onpath, in_stage, stage_at, is_inside, mem_at, commit_stage, reserve_stage, verify_stage, is_verify, fork_guards}
-use Rattle.pdl_model.specs.Sound.{all_below}
+use Rattle.pdl_semantics.specs.Flat.{list_all, Op, DelayedRead, Guard, Stmt, Next, Ends, Goes, Forks, Branch, Pipe, taken, start_env}
+use Rattle.pdl_semantics.specs.Stages.{onpath, in_stage, stage_at, is_inside, mem_at, commit_stage, reserve_stage, verify_stage, is_verify, fork_guards}
+use Rattle.pdl_semantics.specs.Sound.{all_below}
 use Rattle.pdl_derived.specs.Alone.{before}
 use Rattle.pdl_facts.specs.Scans.{from, none_of, all_at, binds, is_fetch}
-use Rattle.pdl_model.specs.Cycle.{merges_by}
+use Rattle.pdl_semantics.specs.Cycle.{merges_by}
 use Rattle.pdl_facts.specs.Graphs.{next_of}
 use Rattle.pdl_facts.specs.Facts.{trunk_only, is_dead, late_for, unseen, fetch_apart, is_exact, fetches, visits, at_once}
 use Rattle.pdl_facts.specs.Checks.{guard_vars, paths_pass}

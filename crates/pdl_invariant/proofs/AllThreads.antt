@@ -1,10 +1,10 @@
 -- Sound state's points on all live threads, of every state that a run comes to.
 use Rattle.std.proofs.Common.{◌≡◌, refl, ap, ap₂, ◌∙◌, subst, ℕ, ◌<◌, Bool, true, false, ◌&&◌, ◌||◌, not, List, [], ◌∷◌, Option, Some, None, ◌==◌, nat_lt, ltb-true, lt-ltb, le_of_lt}
-use Rattle.pdl_model.specs.Flat.{Pipe, Stmt, list_all}
-use Rattle.pdl_model.specs.Stages.{list_any, verify_stage, stage_at}
-use Rattle.pdl_model.specs.Machine.{State, Request, NoRequest, Owned, Orphan, Pending, lock_of, request_of}
-use Rattle.pdl_model.specs.Sound.{live, all_pairs, all_from, in_order, linked, certain_after, asks_right, is_barrier, stays_ready, on_path, has_done, past_stmts}
-use Rattle.pdl_model.specs.Sound
+use Rattle.pdl_semantics.specs.Flat.{Pipe, Stmt, list_all}
+use Rattle.pdl_semantics.specs.Stages.{list_any, verify_stage, stage_at}
+use Rattle.pdl_semantics.specs.Machine.{State, Request, NoRequest, Owned, Orphan, Pending, lock_of, request_of}
+use Rattle.pdl_semantics.specs.Sound.{live, all_pairs, all_from, in_order, linked, certain_after, asks_right, is_barrier, stays_ready, on_path, has_done, past_stmts}
+use Rattle.pdl_semantics.specs.Sound
 use Rattle.pdl_derived.specs.Derived.{latest}
 use Rattle.pdl_derived.specs.Derived
 use Rattle.pdl_facts.specs.Facts.{Sound}

@@ -1,10 +1,10 @@
 -- Sound state's points on all live threads, as the clauses say them.
 use Rattle.std.proofs.Common.{◌≡◌, refl, sym, ap, ap₂, ◌∙◌, length, ℕ, zero, suc, Bool, true, false, ◌&&◌, not, ◌==◌, eq-eqb, List, [], ◌∷◌, ◌++◌, IsTrue}
-use Rattle.pdl_model.specs.Flat.{Arrays, Array, Pipe, Stmt, Mem, list_all, word_at}
-use Rattle.pdl_model.specs.Stages.{verify_stage}
-use Rattle.pdl_model.specs.Machine.{State, request_of, lock_of}
-use Rattle.pdl_model.specs.Cycle.{first, state_after}
-use Rattle.pdl_model.specs.Sound.{live, all_pairs, all_from, in_order, linked, certain_after, asks_right, has_owner, stays_ready, past_stmts, on_path}
+use Rattle.pdl_semantics.specs.Flat.{Arrays, Array, Pipe, Stmt, Mem, list_all, word_at}
+use Rattle.pdl_semantics.specs.Stages.{verify_stage}
+use Rattle.pdl_semantics.specs.Machine.{State, request_of, lock_of}
+use Rattle.pdl_semantics.specs.Cycle.{first, state_after}
+use Rattle.pdl_semantics.specs.Sound.{live, all_pairs, all_from, in_order, linked, certain_after, asks_right, has_owner, stays_ready, past_stmts, on_path}
 use Rattle.pdl_derived.specs.Derived
 use Rattle.pdl_facts.specs.Facts.{Sound}
 use Rattle.pdl_turns.proofs.CourseOf.{course}
@@ -13,19 +13,19 @@ use Rattle.pdl_refinement.proofs.Spots.{Spot, seats, is_nil}
 use Rattle.pdl_derived.proofs.Slots.{rev}
 use Rattle.pdl_simulation.proofs.Seats.{Live, threads_of, Each}
 use Rattle.pdl_simulation.proofs.Together.{Sim}
-use Rattle.pdl_model.specs.Machine.{same_args}
-use Rattle.pdl_model.specs.Sound
-use Rattle.pdl_model.specs.Cycle
-use Rattle.pdl_model.specs.Sequential.{after_turns, writes_from, seqwrites}
-use Rattle.pdl_model.specs.Sound.{Follower, followers, followers_of, strays, strays_of, follows_values, pending_right, right_entries, released_by, has_released, still_looks, all_below, arrays_right, is_sound}
-use Rattle.pdl_model.specs.Flat.{of_mem, Commit}
+use Rattle.pdl_semantics.specs.Machine.{same_args}
+use Rattle.pdl_semantics.specs.Sound
+use Rattle.pdl_semantics.specs.Cycle
+use Rattle.pdl_semantics.specs.Sequential.{after_turns, writes_from, seqwrites}
+use Rattle.pdl_semantics.specs.Sound.{Follower, followers, followers_of, strays, strays_of, follows_values, pending_right, right_entries, released_by, has_released, still_looks, all_below, arrays_right, is_sound}
+use Rattle.pdl_semantics.specs.Flat.{of_mem, Commit}
 use Rattle.pdl_derived.proofs.Writes.{row_committed}
 use Rattle.pdl_simulation.proofs.Joined.{sound_flows}
 use Rattle.pdl_simulation.proofs.Carried.{ended_same}
 use Rattle.pdl_simulation.proofs.Together.{same_turns}
 use Rattle.pdl_turns.proofs.Lives.{RowsAt}
 use Rattle.pdl_simulation.proofs.Choices.{Seated}
-use Rattle.pdl_model.specs.Promises.{row, wrote}
+use Rattle.pdl_semantics.specs.Promises.{row, wrote}
 use Rattle.pdl_invariant.specs.Strict.{Strict}
 use Rattle.pdl_invariant.proofs.Reached.{Whole, reached}
 use Rattle.pdl_invariant.proofs.Mine.{Mine, each_mine}

@@ -1,8 +1,8 @@
 -- Written pipes pass the tests.
 use Rattle.std.proofs.Common.{◌≡◌, refl, true}
-use Rattle.pdl_model.specs.Tree.{Queue}
-use Rattle.pdl_model.specs.Flatten.{flat}
-use Rattle.pdl_model.proofs.Pipes.{one_stage, two_stages, under_guard, shared_guard, count_up, count_late, guess, guess_reserved, far_barrier, copy, copy_guessed, count_slow, two_branches, one_branch}
+use Rattle.pdl_semantics.specs.Tree.{Queue}
+use Rattle.pdl_semantics.specs.Flatten.{flat}
+use Rattle.pdl_semantics.proofs.Pipes.{one_stage, two_stages, under_guard, shared_guard, count_up, count_late, guess, guess_reserved, far_barrier, copy, copy_guessed, count_slow, two_branches, one_branch}
 use Rattle.pdl_invariant.specs.Strict.{is_strict}
 
 one_stage_strict : is_strict (flat one_stage) ≡ true

@@ -1,10 +1,10 @@
 -- What older threads' pending writes say of an address grows only more ready, where they are past the reserves.
 use Rattle.std.proofs.Common.{◌≡◌, ◌≢◌, refl, sym, ap, ◌∙◌, subst, ℕ, ◌≤◌, ◌<◌, ◌⊎◌, inl, inr, Bool, true, false, ◌&&◌, ◌||◌, not, List, [], ◌∷◌, ◌++◌, length, Option, Some, None, is_none, ◌==◌, cond, if◌then◌else◌, arith, eq-eqb, slice_index}
 use Rattle.std.proofs.lemmas.Bool.{eqb-true, eqb-false}
-use Rattle.pdl_model.specs.Flat.{Pipe, Op, Bind, CombRead, DelayedRead, Write, ReserveRead, ReserveWrite, Block, Release, Call, SpecCall, Verify, SpecCheck, SpecBarrier, Stmt, Lock, Plain, Queue, Bypass, Rename, value_of, values_of, taken}
-use Rattle.pdl_model.specs.Stages.{in_stage, stage_at, goes_to, is_reserve, is_release, reserve_stage, commit_stage}
-use Rattle.pdl_model.specs.Locks.{Latest, Nothing, as_latest, is_nothing, is_coming, read_ready, write_ready}
-use Rattle.pdl_model.specs.Machine.{State, same_args}
+use Rattle.pdl_semantics.specs.Flat.{Pipe, Op, Bind, CombRead, DelayedRead, Write, ReserveRead, ReserveWrite, Block, Release, Call, SpecCall, Verify, SpecCheck, SpecBarrier, Stmt, Lock, Plain, Queue, Bypass, Rename, value_of, values_of, taken}
+use Rattle.pdl_semantics.specs.Stages.{in_stage, stage_at, goes_to, is_reserve, is_release, reserve_stage, commit_stage}
+use Rattle.pdl_semantics.specs.Locks.{Latest, Nothing, as_latest, is_nothing, is_coming, read_ready, write_ready}
+use Rattle.pdl_semantics.specs.Machine.{State, same_args}
 use Rattle.pdl_derived.specs.Derived.{Entry, Work, Around, does, do_all, filled, without, latest_in, latest, works, around}
 use Rattle.pdl_derived.specs.Derived
 use Rattle.pdl_facts.specs.Scans.{none_of, Phase, Fresh, Held, Written, Done}

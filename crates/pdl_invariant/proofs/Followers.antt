@@ -1,17 +1,17 @@
 -- The live threads up to the first wrong guess follow their turns: their values, once answered, are the turn's.
 use Rattle.std.proofs.Common.{◌≡◌, ◌≢◌, refl, sym, ap, ap₂, ◌∙◌, subst, ℕ, ◌≤◌, ◌⊎◌, inl, inr, Bool, true, false, ◌&&◌, ◌||◌, not, List, [], ◌∷◌, ◌++◌, Option, Some, None, is_some, ◌==◌, nat_lt, cond, if◌then◌else◌, slice_index, slice_set, eq-eqb, ltb-true, ltb-false}
 use Rattle.std.proofs.lemmas.Bool.{eqb-false}
-use Rattle.pdl_model.specs.Flat.{Arrays, Array, Pipe, Op, DelayedRead, Stmt, of_mem, word_at, list_all}
-use Rattle.pdl_model.specs.Stages
-use Rattle.pdl_model.specs.Stages.{list_any, onpath, is_verify, mem_at, is_reserve, reserve_stage}
-use Rattle.pdl_model.specs.Locks.{Nothing, value_or}
-use Rattle.pdl_model.specs.Machine.{Ask, Awaited, State, Pending, Owned, lock_of, request_of, same_args, with_kept}
-use Rattle.pdl_model.specs.Cycle.{awaited_of}
-use Rattle.pdl_model.specs.Sequential
-use Rattle.pdl_model.specs.Sequential.{Run, thread, after_turns, writes_from}
-use Rattle.pdl_model.specs.Promises.{wrote, row}
-use Rattle.pdl_model.specs.Sound.{Follower, followers_of, guessed_wrong, has_done, is_spec_call, is_write, once_answered, awaited_words, request_address, has_asked, stages_before, stages_from, is_right_entry, right_entries, turn_writes, turn_so_far}
-use Rattle.pdl_model.specs.Sound
+use Rattle.pdl_semantics.specs.Flat.{Arrays, Array, Pipe, Op, DelayedRead, Stmt, of_mem, word_at, list_all}
+use Rattle.pdl_semantics.specs.Stages
+use Rattle.pdl_semantics.specs.Stages.{list_any, onpath, is_verify, mem_at, is_reserve, reserve_stage}
+use Rattle.pdl_semantics.specs.Locks.{Nothing, value_or}
+use Rattle.pdl_semantics.specs.Machine.{Ask, Awaited, State, Pending, Owned, lock_of, request_of, same_args, with_kept}
+use Rattle.pdl_semantics.specs.Cycle.{awaited_of}
+use Rattle.pdl_semantics.specs.Sequential
+use Rattle.pdl_semantics.specs.Sequential.{Run, thread, after_turns, writes_from}
+use Rattle.pdl_semantics.specs.Promises.{wrote, row}
+use Rattle.pdl_semantics.specs.Sound.{Follower, followers_of, guessed_wrong, has_done, is_spec_call, is_write, once_answered, awaited_words, request_address, has_asked, stages_before, stages_from, is_right_entry, right_entries, turn_writes, turn_so_far}
+use Rattle.pdl_semantics.specs.Sound
 use Rattle.pdl_derived.specs.Derived.{Entry, asked_at}
 use Rattle.pdl_derived.specs.Derived
 use Rattle.pdl_derived.specs.Alone.{so_far}

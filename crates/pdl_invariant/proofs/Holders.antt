@@ -1,9 +1,9 @@
 -- A lock's list has one entry for each location that a live thread holds for writing, in thread order.
 use Rattle.std.proofs.Common.{◌≡◌, refl, sym, ap, ap₂, ◌∙◌, ℕ, Bool, true, false, List, [], ◌∷◌, ◌++◌, ◌==◌, cond, append-nil, append_assoc}
-use Rattle.pdl_model.specs.Flat.{Pipe}
-use Rattle.pdl_model.specs.Machine.{State, Pending, Place, lock_of, same_args}
-use Rattle.pdl_model.specs.Sound.{live, all_from, held_of, holders, owners, holds}
-use Rattle.pdl_model.specs.Sound
+use Rattle.pdl_semantics.specs.Flat.{Pipe}
+use Rattle.pdl_semantics.specs.Machine.{State, Pending, Place, lock_of, same_args}
+use Rattle.pdl_semantics.specs.Sound.{live, all_from, held_of, holders, owners, holds}
+use Rattle.pdl_semantics.specs.Sound
 use Rattle.pdl_derived.specs.Derived.{Entry}
 use Rattle.pdl_derived.specs.Derived
 use Rattle.pdl_facts.specs.Facts.{Sound}

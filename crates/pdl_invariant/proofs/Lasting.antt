@@ -1,14 +1,14 @@
 -- What holds of each live thread beside the simulation, whatever its guess: it keeps to one path, owns what it awaits, is certain behind a barrier, and its blocks stay ready.
 use Rattle.std.proofs.Common.{◌≡◌, refl, sym, subst, ℕ, ◌≤◌, ◌<◌, ◌⊎◌, inl, inr, Bool, true, false, ◌||◌, not, List, [], ◌∷◌, ◌++◌, Option, Some, None, nat_lt, nat_le, cond, if◌then◌else◌, arith, slice_index, ltb-true, leb-true, le_refl}
-use Rattle.pdl_model.specs.Flat.{Pipe, Op, SpecBarrier, Block, Stmt, Branch, taken}
-use Rattle.pdl_model.specs.Stages.{onpath, in_stage, stage_at, goes_to, verify_stage, reserve_stage, mem_at}
-use Rattle.pdl_model.specs.Locks.{read_ready, write_ready}
-use Rattle.pdl_model.specs.Machine.{Ask, Awaited, Kept, answers, State, Owned, request_of, with_answers, with_kept}
-use Rattle.pdl_model.specs.Moves.{movers}
-use Rattle.pdl_model.specs.Cycle.{awaited_of, squasher, stays}
-use Rattle.pdl_model.specs.Sound.{is_barrier}
-use Rattle.pdl_model.specs.Cycle
-use Rattle.pdl_model.specs.Machine
+use Rattle.pdl_semantics.specs.Flat.{Pipe, Op, SpecBarrier, Block, Stmt, Branch, taken}
+use Rattle.pdl_semantics.specs.Stages.{onpath, in_stage, stage_at, goes_to, verify_stage, reserve_stage, mem_at}
+use Rattle.pdl_semantics.specs.Locks.{read_ready, write_ready}
+use Rattle.pdl_semantics.specs.Machine.{Ask, Awaited, Kept, answers, State, Owned, request_of, with_answers, with_kept}
+use Rattle.pdl_semantics.specs.Moves.{movers}
+use Rattle.pdl_semantics.specs.Cycle.{awaited_of, squasher, stays}
+use Rattle.pdl_semantics.specs.Sound.{is_barrier}
+use Rattle.pdl_semantics.specs.Cycle
+use Rattle.pdl_semantics.specs.Machine
 use Rattle.pdl_derived.specs.Derived.{Work, Around, works, around, befores, still, find_ask, latest}
 use Rattle.pdl_derived.specs.Derived
 use Rattle.pdl_facts.specs.Scans.{none_of}

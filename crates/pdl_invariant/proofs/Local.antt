@@ -3,12 +3,12 @@ use Rattle.std.proofs.Common.{◌≡◌, ◌≢◌, refl, sym, ap, ap₂, ◌∙
 use Rattle.std.proofs.lemmas.List.{get_or-set_other, length-replicate}
 use Rattle.std.proofs.lemmas.Bool.{ne_eqb}
 use Rattle.std.proofs.lemmas.List.Recursion.{is_count_by}
-use Rattle.pdl_model.specs.Flat.{Op, Bind, CombRead, DelayedRead, Write, ReserveRead, ReserveWrite, Block, Release, Call, SpecCall, Verify, SpecCheck, SpecBarrier, Stmt, Pipe, Forks, values_of, taken, start_env}
-use Rattle.pdl_model.specs.Stages.{list_any, onpath, in_stage, stage_at, goes_to}
-use Rattle.pdl_model.specs.Machine.{Ask, Awaited, Kept, same_args, with_kept, State, answer_for, keeps, unanswered}
-use Rattle.pdl_model.specs.Cycle.{awaited_of}
-use Rattle.pdl_model.specs.Sound.{one_of, is_fetch, stages_from}
-use Rattle.pdl_model.specs.Machine
+use Rattle.pdl_semantics.specs.Flat.{Op, Bind, CombRead, DelayedRead, Write, ReserveRead, ReserveWrite, Block, Release, Call, SpecCall, Verify, SpecCheck, SpecBarrier, Stmt, Pipe, Forks, values_of, taken, start_env}
+use Rattle.pdl_semantics.specs.Stages.{list_any, onpath, in_stage, stage_at, goes_to}
+use Rattle.pdl_semantics.specs.Machine.{Ask, Awaited, Kept, same_args, with_kept, State, answer_for, keeps, unanswered}
+use Rattle.pdl_semantics.specs.Cycle.{awaited_of}
+use Rattle.pdl_semantics.specs.Sound.{one_of, is_fetch, stages_from}
+use Rattle.pdl_semantics.specs.Machine
 use Rattle.pdl_derived.specs.Derived.{Entry, Work, Around, does, do_all, works}
 use Rattle.pdl_derived.specs.Derived
 use Rattle.pdl_derived.specs.Alone.{is_call}

@@ -1,11 +1,11 @@
 -- What a cycle's release does to the list of a lock: a thread's place shifts by one.
 use Rattle.std.proofs.Common.{◌≡◌, refl, sym, ap, ◌∙◌, subst, ℕ, suc, ◌+◌, ◌≤◌, ◌<◌, Bool, true, false, ◌||◌, List, [], ◌∷◌, ◌++◌, Some, ◌==◌, cond, arith, lt-ltb}
-use Rattle.pdl_model.specs.Flat.{Pipe}
-use Rattle.pdl_model.specs.Stages
-use Rattle.pdl_model.specs.Stages.{reserve_stage, commit_stage}
-use Rattle.pdl_model.specs.Machine.{State, Pending, Written}
-use Rattle.pdl_model.specs.Moves.{Act, movers}
-use Rattle.pdl_model.specs.Cycle.{appended, put, put_all, filled, but_oldest, releases}
+use Rattle.pdl_semantics.specs.Flat.{Pipe}
+use Rattle.pdl_semantics.specs.Stages
+use Rattle.pdl_semantics.specs.Stages.{reserve_stage, commit_stage}
+use Rattle.pdl_semantics.specs.Machine.{State, Pending, Written}
+use Rattle.pdl_semantics.specs.Moves.{Act, movers}
+use Rattle.pdl_semantics.specs.Cycle.{appended, put, put_all, filled, but_oldest, releases}
 use Rattle.pdl_derived.specs.Derived
 use Rattle.pdl_simulation.proofs.FlowFacts.{Flows}
 use Rattle.pdl_derived.proofs.Lists.{pend}

@@ -1,10 +1,10 @@
 -- How the threads use the locks in each state of a run.
 use Rattle.std.proofs.Common.{◌≡◌, refl, sym, subst, ap, ◌∙◌, ℕ, ◌+◌, ◌≤◌, ◌<◌, Bool, true, false, List, [], ◌∷◌, length, cond, ◌==◌, arith}
-use Rattle.pdl_model.specs.Flat.{Arrays, Pipe}
-use Rattle.pdl_model.specs.Stages.{list_any, reserve_stage}
-use Rattle.pdl_model.specs.Machine.{State, Pending, lock_of}
-use Rattle.pdl_model.specs.Moves.{Act, all_acts, movers}
-use Rattle.pdl_model.specs.Cycle.{first, state_after, appended, filled, list_two, but_oldest, releases}
+use Rattle.pdl_semantics.specs.Flat.{Arrays, Pipe}
+use Rattle.pdl_semantics.specs.Stages.{list_any, reserve_stage}
+use Rattle.pdl_semantics.specs.Machine.{State, Pending, lock_of}
+use Rattle.pdl_semantics.specs.Moves.{Act, all_acts, movers}
+use Rattle.pdl_semantics.specs.Cycle.{first, state_after, appended, filled, list_two, but_oldest, releases}
 use Rattle.pdl_derived.specs.Derived
 use Rattle.pdl_facts.specs.Facts.{Sound}
 use Rattle.pdl_simulation.proofs.Joined.{sound_flows}

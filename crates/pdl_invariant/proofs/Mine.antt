@@ -1,8 +1,8 @@
 -- What is each live thread's own: the reads that it awaits, and its entries in the locks' lists.
 use Rattle.std.proofs.Common.{◌≡◌, ◌≢◌, refl, ap, ap₂, ◌∙◌, ℕ, ◌<◌, Bool, true, false, ◌&&◌, ◌||◌, not, List, [], ◌∷◌, ◌++◌, ◌==◌, cond, arith}
 use Rattle.std.proofs.lemmas.Bool.{ne_eqb}
-use Rattle.pdl_model.specs.Flat.{Pipe, list_all}
-use Rattle.pdl_model.specs.Machine.{State, Pending, lock_of}
+use Rattle.pdl_semantics.specs.Flat.{Pipe, list_all}
+use Rattle.pdl_semantics.specs.Machine.{State, Pending, lock_of}
 use Rattle.pdl_derived.specs.Derived.{Entry}
 use Rattle.pdl_derived.proofs.Writes.{and_left, and_right}
 use Rattle.pdl_derived.proofs.Lists.{own, pend}

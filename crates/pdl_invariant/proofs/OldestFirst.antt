@@ -1,11 +1,11 @@
 -- The live threads of a stated state, oldest first, are those of the simulation in the other order.
 use Rattle.std.proofs.Common.{◌≡◌, refl, sym, ap, ap₂, ◌∙◌, subst, ℕ, suc, ◌+◌, ◌<◌, Bool, true, false, ◌&&◌, List, [], ◌∷◌, ◌++◌, length, Some, None, ◌==◌, nat_lt, cond, arith, zero-add, add-suc, suc-add, ltb-true, ltb-false, lt-ltb}
 use Rattle.std.proofs.lemmas.Bool.{eqb-true, eqb-false, ne_eqb}
-use Rattle.pdl_model.specs.Flat.{Pipe, Stage, list_all}
-use Rattle.pdl_model.specs.Machine.{State}
-use Rattle.pdl_model.specs.Cycle.{for_stages}
-use Rattle.pdl_model.specs.Sound.{put_in, live_from, live, all_pairs}
-use Rattle.pdl_model.specs.Sound
+use Rattle.pdl_semantics.specs.Flat.{Pipe, Stage, list_all}
+use Rattle.pdl_semantics.specs.Machine.{State}
+use Rattle.pdl_semantics.specs.Cycle.{for_stages}
+use Rattle.pdl_semantics.specs.Sound.{put_in, live_from, live, all_pairs}
+use Rattle.pdl_semantics.specs.Sound
 use Rattle.pdl_derived.proofs.Writes.{and_left, and_right}
 use Rattle.pdl_derived.proofs.Slots.{stages_same}
 use Rattle.pdl_simulation.proofs.Seats.{Live, seat, find, Each, Ordered, Rises, Falls, falls_each, rises_hi, rises_from, find_none}

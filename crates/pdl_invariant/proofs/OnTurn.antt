@@ -1,10 +1,10 @@
 -- A thread of a turn in a stage: its way is the turn's path, its values and pending writes are the turn's, and its guess is wrong just where its successor isn't the next turn.
 use Rattle.std.proofs.Common.{◌≡◌, refl, sym, ap, ap₂, ◌∙◌, subst, ℕ, suc, ◌<◌, Bool, true, false, ◌&&◌, ◌||◌, not, List, [], ◌∷◌, ◌++◌, Option, Some, None, is_some, ◌==◌, cond, slice_index, eq-eqb}
-use Rattle.pdl_model.specs.Flat.{Arrays, Pipe, Op, Bind, CombRead, DelayedRead, Write, ReserveRead, ReserveWrite, Block, Release, Call, SpecCall, Verify, SpecCheck, SpecBarrier, Stmt, taken, Commit, of_mem}
-use Rattle.pdl_model.specs.Stages.{list_any, onpath, in_stage, is_verify, verify_stage, reserve_stage}
-use Rattle.pdl_model.specs.Machine.{same_args}
-use Rattle.pdl_model.specs.Sequential.{Run, runs, run_all, thread}
-use Rattle.pdl_model.specs.Sound.{stages_before, is_right_entry, is_write, is_spec_call}
+use Rattle.pdl_semantics.specs.Flat.{Arrays, Pipe, Op, Bind, CombRead, DelayedRead, Write, ReserveRead, ReserveWrite, Block, Release, Call, SpecCall, Verify, SpecCheck, SpecBarrier, Stmt, taken, Commit, of_mem}
+use Rattle.pdl_semantics.specs.Stages.{list_any, onpath, in_stage, is_verify, verify_stage, reserve_stage}
+use Rattle.pdl_semantics.specs.Machine.{same_args}
+use Rattle.pdl_semantics.specs.Sequential.{Run, runs, run_all, thread}
+use Rattle.pdl_semantics.specs.Sound.{stages_before, is_right_entry, is_write, is_spec_call}
 use Rattle.pdl_derived.specs.Derived.{Entry, Work, does, do_all}
 use Rattle.pdl_derived.specs.Alone.{alone, before, looked, start_work, so_far}
 use Rattle.pdl_facts.specs.Certain.{Making, Unmade, Guessed, Made, next_making, making_all, makings_ok, making_ok, is_guessed, is_unmade}

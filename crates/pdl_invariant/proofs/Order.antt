@@ -1,10 +1,10 @@
 -- Live threads stand in order: the older one in the greater stage, or in the other branch of a fork.
 use Rattle.std.proofs.Common.{◌≡◌, ◌≢◌, refl, sym, ap, ap₂, ◌∙◌, ℕ, suc, ◌≤◌, ◌<◌, ◌⊎◌, inl, inr, Bool, true, false, ◌&&◌, ◌||◌, not, List, [], ◌∷◌, ◌++◌, Option, Some, None, ◌==◌, nat_lt, if◌then◌else◌, arith, eq-eqb, ltb-true, ltb-false, lt-ltb, le_refl, append-nil, append_assoc}
 use Rattle.std.proofs.lemmas.Bool.{eqb-true, eqb-false}
-use Rattle.pdl_model.specs.Flat.{Pipe, Branch}
-use Rattle.pdl_model.specs.Stages.{stage_at}
-use Rattle.pdl_model.specs.Sound.{all_from, other_branch, side_in, sides_in, same_sides}
-use Rattle.pdl_model.specs.Sound
+use Rattle.pdl_semantics.specs.Flat.{Pipe, Branch}
+use Rattle.pdl_semantics.specs.Stages.{stage_at}
+use Rattle.pdl_semantics.specs.Sound.{all_from, other_branch, side_in, sides_in, same_sides}
+use Rattle.pdl_semantics.specs.Sound
 use Rattle.pdl_simulation.proofs.FlowFacts.{Ways}
 use Rattle.pdl_simulation.proofs.Stretches.{Behind}
 use Rattle.pdl_simulation.proofs.Seats.{Live}

@@ -1,8 +1,8 @@
 -- The pending writes of the live threads, of whatever guess.
 use Rattle.std.proofs.Common.{◌≡◌, refl, sym, ap, ◌∙◌, subst, ℕ, ◌≤◌, ◌<◌, Bool, true, false, List, [], ◌∷◌, ◌++◌, length, ◌==◌, cond, nat_le, arith, append-nil, length-append, le_refl, leb-true, leb-false}
-use Rattle.pdl_model.specs.Flat.{Pipe}
-use Rattle.pdl_model.specs.Stages.{reserve_stage}
-use Rattle.pdl_model.specs.Machine.{State}
+use Rattle.pdl_semantics.specs.Flat.{Pipe}
+use Rattle.pdl_semantics.specs.Stages.{reserve_stage}
+use Rattle.pdl_semantics.specs.Machine.{State}
 use Rattle.pdl_derived.specs.Derived.{Entry}
 use Rattle.pdl_facts.specs.Scans.{Phase, Fresh, Held, Written, Done, phase_all}
 use Rattle.pdl_simulation.proofs.FlowFacts.{Flows}

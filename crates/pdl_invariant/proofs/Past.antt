@@ -3,10 +3,10 @@ use Rattle.std.proofs.Common.{◌≡◌, refl, sym, ap, ap₂, ◌∙◌, subst,
 use Rattle.std.proofs.lemmas.List.{get_or-set_other, get_or-set_same, length-set}
 use Rattle.std.proofs.lemmas.Bool.{eqb-true}
 use Rattle.pdl_word.specs.Words
-use Rattle.pdl_model.specs.Flat.{Op, Bind, CombRead, DelayedRead, Write, ReserveRead, ReserveWrite, Block, Release, Call, SpecCall, Verify, SpecCheck, SpecBarrier, Expr, Constant, Variable, Slice, Not, Binary, Cat, LessSigned, ZeroExtend, SignExtend, Choose, Stmt, value_of, values_of, applied, taken}
-use Rattle.pdl_model.specs.Stages.{onpath}
-use Rattle.pdl_model.specs.Machine.{Ask, same_args}
-use Rattle.pdl_model.specs.Sound.{is_release_at}
+use Rattle.pdl_semantics.specs.Flat.{Op, Bind, CombRead, DelayedRead, Write, ReserveRead, ReserveWrite, Block, Release, Call, SpecCall, Verify, SpecCheck, SpecBarrier, Expr, Constant, Variable, Slice, Not, Binary, Cat, LessSigned, ZeroExtend, SignExtend, Choose, Stmt, value_of, values_of, applied, taken}
+use Rattle.pdl_semantics.specs.Stages.{onpath}
+use Rattle.pdl_semantics.specs.Machine.{Ask, same_args}
+use Rattle.pdl_semantics.specs.Sound.{is_release_at}
 use Rattle.pdl_derived.specs.Derived.{Entry, Work, Around, does, do_all, without, filled, has}
 use Rattle.pdl_derived.specs.Alone.{is_call}
 use Rattle.pdl_facts.specs.Facts.{uses_in, uses_any, mentions, asks_for, silent_on, unseen_op, unseen}

@@ -1,8 +1,8 @@
 -- Lists of pending writes by their threads.
 use Rattle.std.proofs.Common.{◌≡◌, refl, ap, ap₂, ◌∙◌, ℕ, suc, ◌+◌, ◌≤◌, ◌<◌, Bool, true, false, List, [], ◌∷◌, ◌++◌, length, Some, ◌==◌, cond, if◌then◌else◌, arith, nat_lt, lt-ltb, le-ltb}
-use Rattle.pdl_model.specs.Machine.{Pending, Reserved, Written}
-use Rattle.pdl_model.specs.Moves.{Act}
-use Rattle.pdl_model.specs.Cycle.{new_entries, put, put_all, filled}
+use Rattle.pdl_semantics.specs.Machine.{Pending, Reserved, Written}
+use Rattle.pdl_semantics.specs.Moves.{Act}
+use Rattle.pdl_semantics.specs.Cycle.{new_entries, put, put_all, filled}
 use Rattle.pdl_derived.specs.Derived.{Entry}
 use Rattle.pdl_derived.proofs.Lists.{own, pend}
 use Rattle.pdl_invariant.specs.Use.{AreOrdered, count_older}

@@ -1,12 +1,12 @@
 -- The points of Sound state that hold of all live threads alike.
 use Rattle.std.proofs.Common.{◌≡◌, refl, sym, ap, ap₂, ◌∙◌, subst, ℕ, ◌<◌, ◌⊎◌, inl, inr, Bool, true, false, ◌&&◌, ◌||◌, not, List, [], ◌∷◌, ◌++◌, length, ◌==◌, cond, arith, slice_index, eq-eqb, lt-ltb}
-use Rattle.pdl_model.specs.Flat.{Pipe, Op, Bind, CombRead, DelayedRead, Write, ReserveRead, ReserveWrite, Block, Release, Call, SpecCall, Verify, SpecCheck, SpecBarrier, Stmt, list_all, values_of}
-use Rattle.pdl_model.specs.Stages.{list_any, mem_at}
-use Rattle.pdl_model.specs.Locks.{read_ready, write_ready}
-use Rattle.pdl_model.specs.Machine.{State, Awaited, Kept, Pending, Place, lock_of, request_of, same_args, is_held, held_before, older_write}
-use Rattle.pdl_model.specs.Moves.{block_ready}
-use Rattle.pdl_model.specs.Sound.{live, all_pairs, all_from, in_order, linked, certain_after, is_kept_or_awaited, asks_right, is_owner, is_barrier, is_release_at, stays_ready, on_path, is_done, right_place, comes_to, is_fetch, holds, has_done}
-use Rattle.pdl_model.specs.Sound
+use Rattle.pdl_semantics.specs.Flat.{Pipe, Op, Bind, CombRead, DelayedRead, Write, ReserveRead, ReserveWrite, Block, Release, Call, SpecCall, Verify, SpecCheck, SpecBarrier, Stmt, list_all, values_of}
+use Rattle.pdl_semantics.specs.Stages.{list_any, mem_at}
+use Rattle.pdl_semantics.specs.Locks.{read_ready, write_ready}
+use Rattle.pdl_semantics.specs.Machine.{State, Awaited, Kept, Pending, Place, lock_of, request_of, same_args, is_held, held_before, older_write}
+use Rattle.pdl_semantics.specs.Moves.{block_ready}
+use Rattle.pdl_semantics.specs.Sound.{live, all_pairs, all_from, in_order, linked, certain_after, is_kept_or_awaited, asks_right, is_owner, is_barrier, is_release_at, stays_ready, on_path, is_done, right_place, comes_to, is_fetch, holds, has_done}
+use Rattle.pdl_semantics.specs.Sound
 use Rattle.pdl_derived.specs.Derived.{Entry, has, latest, awaits_mem}
 use Rattle.pdl_derived.specs.Alone.{is_call}
 use Rattle.pdl_facts.specs.Scans.{called}

@@ -1,11 +1,11 @@
 -- Every state that a run of the stated machine comes to: the simulation, what holds of each live thread, and the youngest without a successor.
 use Rattle.std.proofs.Common.{◌≡◌, refl, sym, ap, ap₂, ◌∙◌, subst, ℕ, Bool, true, false, ◌&&◌, ◌||◌, not, List, [], ◌∷◌, ◌++◌, length, Option, Some, None, is_some, cond, if◌then◌else◌}
-use Rattle.pdl_model.specs.Flat.{Arrays, Pipe, Op, Call, SpecCall, Verify, Stmt, start_env}
-use Rattle.pdl_model.specs.Stages.{onpath, in_stage, stage_at, goes_to}
-use Rattle.pdl_model.specs.Machine.{State}
-use Rattle.pdl_model.specs.Moves.{movers}
-use Rattle.pdl_model.specs.Cycle.{squasher, stays, state_after, cycle, first}
-use Rattle.pdl_model.specs.Cycle
+use Rattle.pdl_semantics.specs.Flat.{Arrays, Pipe, Op, Call, SpecCall, Verify, Stmt, start_env}
+use Rattle.pdl_semantics.specs.Stages.{onpath, in_stage, stage_at, goes_to}
+use Rattle.pdl_semantics.specs.Machine.{State}
+use Rattle.pdl_semantics.specs.Moves.{movers}
+use Rattle.pdl_semantics.specs.Cycle.{squasher, stays, state_after, cycle, first}
+use Rattle.pdl_semantics.specs.Cycle
 use Rattle.pdl_derived.specs.Derived.{Work, find_ask, fresh, around}
 use Rattle.pdl_derived.specs.Derived
 use Rattle.pdl_derived.specs.Alone.{is_call}

@@ -1,13 +1,13 @@
 -- Who has released a write of a memory: only threads past the stage of its releases, all threads of turns past it that write, and none after a wrong guess.
 use Rattle.std.proofs.Common.{◌≡◌, refl, sym, ap, ap₂, ◌∙◌, subst, ℕ, ◌<◌, Bool, true, false, ◌&&◌, ◌||◌, not, List, [], ◌∷◌, Some, ◌==◌, nat_lt, cond, arith, eq-eqb, ltb-true, ltb-false, lt-ltb}
 use Rattle.std.proofs.lemmas.Bool.{eqb-true}
-use Rattle.pdl_model.specs.Flat.{Arrays, Pipe, Op, Bind, CombRead, DelayedRead, Write, ReserveRead, ReserveWrite, Block, Release, Call, SpecCall, Verify, SpecCheck, SpecBarrier, Stmt, Commit, taken, of_mem}
-use Rattle.pdl_model.specs.Stages.{list_any, onpath, is_release, commit_stage, verify_stage}
-use Rattle.pdl_model.specs.Machine.{State, Place}
-use Rattle.pdl_model.specs.Sequential.{Run, thread}
-use Rattle.pdl_model.specs.Sound.{stages_before, stages_from, is_write_reserve, has_released}
+use Rattle.pdl_semantics.specs.Flat.{Arrays, Pipe, Op, Bind, CombRead, DelayedRead, Write, ReserveRead, ReserveWrite, Block, Release, Call, SpecCall, Verify, SpecCheck, SpecBarrier, Stmt, Commit, taken, of_mem}
+use Rattle.pdl_semantics.specs.Stages.{list_any, onpath, is_release, commit_stage, verify_stage}
+use Rattle.pdl_semantics.specs.Machine.{State, Place}
+use Rattle.pdl_semantics.specs.Sequential.{Run, thread}
+use Rattle.pdl_semantics.specs.Sound.{stages_before, stages_from, is_write_reserve, has_released}
 use Rattle.pdl_derived.specs.Derived.{Entry}
-use Rattle.pdl_model.specs.Sound
+use Rattle.pdl_semantics.specs.Sound
 use Rattle.pdl_derived.specs.Alone.{before, looked}
 use Rattle.pdl_facts.specs.Scans.{Phase, Fresh, Held, Written, Done, next_phase, phase_all, phase_ok, phases_ok, after_release, holds, is_fresh, none_of, from, Scan, no_scan, opened, opens, no_guards}
 use Rattle.pdl_facts.specs.Certain.{is_barrier, is_sure, all_sure}

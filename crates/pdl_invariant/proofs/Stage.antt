@@ -1,10 +1,10 @@
 -- What a thread's stage tells of barriers, blocks and calls.
 use Rattle.std.proofs.Common.{◌≡◌, refl, sym, ap, ◌∙◌, subst, ℕ, ◌≤◌, ◌⊎◌, inl, inr, Bool, true, false, ◌&&◌, ◌||◌, List, [], ◌∷◌, Option, Some, None, is_some, nat_lt, cond, slice_index, slice_set, leb-true}
-use Rattle.pdl_model.specs.Flat.{Op, Bind, CombRead, DelayedRead, Write, ReserveRead, ReserveWrite, Block, Release, Call, SpecCall, Verify, SpecCheck, SpecBarrier, Stmt, Pipe, values_of, taken}
-use Rattle.pdl_model.specs.Stages.{onpath, reserve_stage, mem_at}
-use Rattle.pdl_model.specs.Locks.{read_ready, write_ready}
-use Rattle.pdl_model.specs.Machine.{Kept, same_args, with_kept}
-use Rattle.pdl_model.specs.Sound.{stages_before, is_barrier}
+use Rattle.pdl_semantics.specs.Flat.{Op, Bind, CombRead, DelayedRead, Write, ReserveRead, ReserveWrite, Block, Release, Call, SpecCall, Verify, SpecCheck, SpecBarrier, Stmt, Pipe, values_of, taken}
+use Rattle.pdl_semantics.specs.Stages.{onpath, reserve_stage, mem_at}
+use Rattle.pdl_semantics.specs.Locks.{read_ready, write_ready}
+use Rattle.pdl_semantics.specs.Machine.{Kept, same_args, with_kept}
+use Rattle.pdl_semantics.specs.Sound.{stages_before, is_barrier}
 use Rattle.pdl_derived.specs.Derived.{Entry, Work, Around, does, do_all, has, latest}
 use Rattle.pdl_derived.specs.Derived
 use Rattle.pdl_derived.specs.Alone.{is_call, before, looked}

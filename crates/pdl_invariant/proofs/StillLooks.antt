@@ -1,9 +1,9 @@
 -- A thread with a block or a read of a memory still to do, or a read to bind, is not past the stage of the memory's releases.
 use Rattle.std.proofs.Common.{◌≡◌, refl, ap, ◌∙◌, subst, ℕ, ◌≤◌, ◌<◌, Bool, true, false, ◌&&◌, ◌||◌, not, List, [], ◌∷◌, ◌++◌, length, Option, Some, None, ◌==◌, nat_lt, nat_le, cond, arith, eq-eqb, ltb-true, ltb-false, leb-true}
 use Rattle.std.proofs.lemmas.Bool.{eqb-true}
-use Rattle.pdl_model.specs.Flat.{Pipe, Op, Bind, CombRead, DelayedRead, Write, ReserveRead, ReserveWrite, Block, Release, Call, SpecCall, Verify, SpecCheck, SpecBarrier, Stmt, taken}
-use Rattle.pdl_model.specs.Stages.{list_any, onpath, in_stage, is_release, commit_stage, mem_at, stage_at, goes_to}
-use Rattle.pdl_model.specs.Sound.{stages_before, stages_from, looks_at, is_release_at, is_delayed_read, one_of}
+use Rattle.pdl_semantics.specs.Flat.{Pipe, Op, Bind, CombRead, DelayedRead, Write, ReserveRead, ReserveWrite, Block, Release, Call, SpecCall, Verify, SpecCheck, SpecBarrier, Stmt, taken}
+use Rattle.pdl_semantics.specs.Stages.{list_any, onpath, in_stage, is_release, commit_stage, mem_at, stage_at, goes_to}
+use Rattle.pdl_semantics.specs.Sound.{stages_before, stages_from, looks_at, is_release_at, is_delayed_read, one_of}
 use Rattle.pdl_derived.specs.Alone.{looked}
 use Rattle.pdl_facts.specs.Scans.{is_plain, none_of, Scan, no_scan, opens, op_ok, reads_ok, opened, no_guards}
 use Rattle.pdl_facts.specs.Facts.{Sound, FetchOk, FetchIf, AllFetches, looked_all, at_once}

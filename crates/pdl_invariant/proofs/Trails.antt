@@ -1,9 +1,9 @@
 -- The stages that a live thread came through, and the statements that it carried out in them.
 use Rattle.std.proofs.Common.{◌≡◌, ◌≢◌, refl, sym, ap, ◌∙◌, subst, ℕ, zero, suc, ◌+◌, ◌≤◌, ◌<◌, ◌⊎◌, inl, inr, Bool, true, false, ◌||◌, List, [], ◌∷◌, ◌++◌, length, Option, Some, None, ◌==◌, cond, if◌then◌else◌, arith, slice_index}
 use Rattle.std.proofs.lemmas.Bool.{eqb-true}
-use Rattle.pdl_model.specs.Flat.{Op, Stmt, Pipe, Next, Ends, Goes, Forks, taken}
-use Rattle.pdl_model.specs.Stages.{onpath, in_stage, stage_at, goes_to}
-use Rattle.pdl_model.specs.Sound.{one_of, comes_to}
+use Rattle.pdl_semantics.specs.Flat.{Op, Stmt, Pipe, Next, Ends, Goes, Forks, taken}
+use Rattle.pdl_semantics.specs.Stages.{onpath, in_stage, stage_at, goes_to}
+use Rattle.pdl_semantics.specs.Sound.{one_of, comes_to}
 use Rattle.pdl_simulation.proofs.FlowFacts.{Ways}
 use Rattle.pdl_invariant.proofs.Past.{AllOps, onto}
 

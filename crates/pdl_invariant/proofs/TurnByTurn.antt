@@ -1,11 +1,11 @@
 -- The followers are the threads of the turns, one by one: the arrays have what they have released, and who still looks at a memory has nobody behind it who has released a write of it.
 use Rattle.std.proofs.Common.{◌≡◌, refl, sym, ap, ap₂, ◌∙◌, subst, ℕ, ◌≤◌, ◌<◌, Bool, true, false, ◌&&◌, ◌||◌, not, List, [], ◌∷◌, ◌++◌, Option, Some, None, is_some, nat_lt, cond, if◌then◌else◌, arith, append-nil, append_assoc, le_of_lt, ltb-true, ltb-false}
-use Rattle.pdl_model.specs.Flat.{Arrays, Pipe, Stmt, of_mem, list_all}
-use Rattle.pdl_model.specs.Stages.{list_any, onpath, stage_at, commit_stage, verify_stage}
-use Rattle.pdl_model.specs.Machine.{State}
-use Rattle.pdl_model.specs.Sequential.{thread}
-use Rattle.pdl_model.specs.Sound.{Follower, followers_of, strays_of, guessed_wrong, all_pairs, has_done, is_barrier, certain_after, has_released, released_by, still_looks, stages_from, looks_at, is_delayed_read, turn_of, turn_writes}
-use Rattle.pdl_model.specs.Sound
+use Rattle.pdl_semantics.specs.Flat.{Arrays, Pipe, Stmt, of_mem, list_all}
+use Rattle.pdl_semantics.specs.Stages.{list_any, onpath, stage_at, commit_stage, verify_stage}
+use Rattle.pdl_semantics.specs.Machine.{State}
+use Rattle.pdl_semantics.specs.Sequential.{thread}
+use Rattle.pdl_semantics.specs.Sound.{Follower, followers_of, strays_of, guessed_wrong, all_pairs, has_done, is_barrier, certain_after, has_released, released_by, still_looks, stages_from, looks_at, is_delayed_read, turn_of, turn_writes}
+use Rattle.pdl_semantics.specs.Sound
 use Rattle.pdl_derived.specs.Derived
 use Rattle.pdl_derived.specs.Alone.{so_far}
 use Rattle.pdl_facts.specs.Scans.{phase_all, Fresh}

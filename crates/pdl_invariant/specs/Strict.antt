@@ -1,8 +1,8 @@
 -- What Sound state takes of an accepted pipe beside the facts of a sound one: each path binds a variable before it is used, and lets go of each location that it blocks.
 use Rattle.std.specs.Prelude.{◌≡◌, ℕ, Bool, true, false, ◌&&◌, ◌||◌, not, List, [], ◌∷◌, Option, Some, None, ◌==◌, nat_lt}
-use Rattle.pdl_model.specs.Flat.{Op, Bind, CombRead, DelayedRead, Block, Stmt, Pipe, start_env}
-use Rattle.pdl_model.specs.Stages.{list_any, onpath}
-use Rattle.pdl_model.specs.Sound.{is_release_at}
+use Rattle.pdl_semantics.specs.Flat.{Op, Bind, CombRead, DelayedRead, Block, Stmt, Pipe, start_env}
+use Rattle.pdl_semantics.specs.Stages.{list_any, onpath}
+use Rattle.pdl_semantics.specs.Sound.{is_release_at}
 use Rattle.pdl_facts.specs.Facts.{uses_in, mentions}
 use Rattle.pdl_facts.specs.SoundChecks.{all_paths, all_guards}
 

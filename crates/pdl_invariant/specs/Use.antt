@@ -1,10 +1,10 @@
 -- How the threads use the locks, in each state of a run of any pipe: with guesses and squashes, forks, and delayed memories.
 use Rattle.std.specs.Prelude.{◌≡◌, ℕ, suc, ◌+◌, ◌≤◌, Bool, true, false, List, [], ◌∷◌, Some, length, if◌then◌else◌, nat_lt, ◌==◌}
-use Rattle.pdl_model.specs.Flat.{Pipe}
-use Rattle.pdl_model.specs.Stages.{reserve_stage, commit_stage, verify_stage}
-use Rattle.pdl_model.specs.Machine.{State, Pending, Reserved, lock_of}
-use Rattle.pdl_model.specs.Moves.{Act, all_acts, movers}
-use Rattle.pdl_model.specs.Cycle.{appended, releases, list_two, list_three}
+use Rattle.pdl_semantics.specs.Flat.{Pipe}
+use Rattle.pdl_semantics.specs.Stages.{reserve_stage, commit_stage, verify_stage}
+use Rattle.pdl_semantics.specs.Machine.{State, Pending, Reserved, lock_of}
+use Rattle.pdl_semantics.specs.Moves.{Act, all_acts, movers}
+use Rattle.pdl_semantics.specs.Cycle.{appended, releases, list_two, list_three}
 
 -- PENDING WRITES
 

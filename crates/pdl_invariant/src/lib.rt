@@ -1,15 +1,15 @@
 //! Sound state: what holds, between cycles, in every state that a run of an accepted pipe comes to; and how its threads use the locks there.
 //!
-//! The functions do nothing: each clause is a theorem on the states that runs of the machine of `pdl_model` come to, of any flat pipe with the facts of an accepted one (`Sound` and `Strict`), any image and any replies of delayed memories.
+//! The functions do nothing: each clause is a theorem on the states that runs of the machine of `pdl_semantics` come to, of any flat pipe with the facts of an accepted one (`Sound` and `Strict`), any image and any replies of delayed memories.
 #![tactic(auto)]
 
 ghost use Rattle.std.specs.Prelude.{IsTrue, ℕ, Bool, List, ◌&&◌, not};
-ghost use Rattle.pdl_model.specs.Flat.{Arrays, Pipe, Stmt, list_all};
-ghost use Rattle.pdl_model.specs.Stages.{verify_stage, reserve_stage};
-ghost use Rattle.pdl_model.specs.Moves.{all_acts};
-ghost use Rattle.pdl_model.specs.Machine.{request_of, lock_of, same_args};
-ghost use Rattle.pdl_model.specs.Cycle.{first, state_after, turns, ended_in};
-ghost use Rattle.pdl_model.specs.Sound.{live, all_pairs, all_from, in_order, linked, certain_after, asks_right, has_owner, stays_ready, past_stmts, on_path, owners, holders, followers, follows_values, pending_right, arrays_right, still_looks, has_released, is_sound};
+ghost use Rattle.pdl_semantics.specs.Flat.{Arrays, Pipe, Stmt, list_all};
+ghost use Rattle.pdl_semantics.specs.Stages.{verify_stage, reserve_stage};
+ghost use Rattle.pdl_semantics.specs.Moves.{all_acts};
+ghost use Rattle.pdl_semantics.specs.Machine.{request_of, lock_of, same_args};
+ghost use Rattle.pdl_semantics.specs.Cycle.{first, state_after, turns, ended_in};
+ghost use Rattle.pdl_semantics.specs.Sound.{live, all_pairs, all_from, in_order, linked, certain_after, asks_right, has_owner, stays_ready, past_stmts, on_path, owners, holders, followers, follows_values, pending_right, arrays_right, still_looks, has_released, is_sound};
 ghost use Rattle.pdl_facts.specs.Facts.{Sound};
 ghost use Rattle.pdl_invariant.specs.Strict.{Strict};
 ghost use Rattle.pdl_invariant.specs.Use.{AreOrdered, AllActs, FindsOlder, Reserves, KeepsPlace, ShiftsPlace};

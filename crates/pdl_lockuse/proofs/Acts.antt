@@ -1,9 +1,9 @@
 -- From what holds of each act of a cycle to the thread in each stage, and what two layers count alike.
 use Rattle.std.proofs.Common.{◌≡◌, refl, sym, subst, ap, ap₂, ◌∙◌, ℕ, zero, suc, ◌+◌, Bool, true, false, List, [], ◌∷◌, ◌++◌, length, drop, Option, Some, None, ◌==◌, cond, if◌then◌else◌, arith, nat_lt, length-append, slice_index_or}
 use Rattle.pdl_word.specs.Words
-use Rattle.pdl_model.specs.Flat.{Pipe}
-use Rattle.pdl_model.specs.Machine.{State, Thread, Pending, Reserved, with_answers, deeds}
-use Rattle.pdl_model.specs.Moves.{Act, act, acts, all_acts}
+use Rattle.pdl_semantics.specs.Flat.{Pipe}
+use Rattle.pdl_semantics.specs.Machine.{State, Thread, Pending, Reserved, with_answers, deeds}
+use Rattle.pdl_semantics.specs.Moves.{Act, act, acts, all_acts}
 use Rattle.pdl_lockapi.specs.Forget as forget
 use Rattle.pdl_machine_facts.specs.Slots.{slot, with_now, here, goes, goes_of, behind}
 use Rattle.pdl_invariant.specs.Use.{AllActs, AreOrdered, count_older, bit, reserved_in, reserved}

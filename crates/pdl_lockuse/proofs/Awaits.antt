@@ -1,10 +1,10 @@
 -- A read that awaits its answer is bound no later than the releases of its memory; so what is released meanwhile is no younger.
 use Rattle.std.proofs.Common.{◌≡◌, refl, sym, ap, ◌∙◌, subst, ℕ, ◌≤◌, inl, inr, Bool, true, false, ◌&&◌, ◌||◌, not, List, [], ◌∷◌, ◌++◌, is_some, ◌==◌, nat_lt, cond, eq-eqb}
 use Rattle.std.proofs.lemmas.Bool.{false≢true, eqb-true}
-use Rattle.pdl_model.specs.Flat.{Pipe, Op, DelayedRead, Stmt, Guard, taken}
-use Rattle.pdl_model.specs.Stages.{list_any, onpath, in_stage, commit_stage}
-use Rattle.pdl_model.specs.Machine.{State, Awaited, Ask, answer_for, unanswered}
-use Rattle.pdl_model.specs.Sound.{stages_before}
+use Rattle.pdl_semantics.specs.Flat.{Pipe, Op, DelayedRead, Stmt, Guard, taken}
+use Rattle.pdl_semantics.specs.Stages.{list_any, onpath, in_stage, commit_stage}
+use Rattle.pdl_semantics.specs.Machine.{State, Awaited, Ask, answer_for, unanswered}
+use Rattle.pdl_semantics.specs.Sound.{stages_before}
 use Rattle.pdl_facts.specs.Scans.{none_of, is_dead}
 use Rattle.pdl_facts.specs.Graphs.{next_of, stage_or}
 use Rattle.pdl_facts.specs.Facts.{Sound, FetchOk, FetchIf, AllFetches}
@@ -115,7 +115,7 @@ module _ (p : Pipe) (sound : Sound p) (st : State) (older : List Live) (l : Live
       at : (b : Bool) → (r.mem == m) ≡ b → (b || list_any (λ (r : Awaited). r.mem == m) rs) ≡ true
           → (list_any (λ (r : Awaited). r.mem == m) rs ≡ true → l.thread.stage ≤ commit_stage p m) → l.thread.stage ≤ commit_stage p m
       at true e i go =
-          let q = any_of (AskedBy l.env (past_of p l.env l.thread.stage)) (λ q. (q.var ≡ r.var) × (q.mem ≡ r.mem) × (Rattle.pdl_model.specs.Machine.request_of st r.mem ≡ Rattle.pdl_model.specs.Machine.Owned l.number q.address)) lasting.local.asks lasting.local.asked o.0 in
+          let q = any_of (AskedBy l.env (past_of p l.env l.thread.stage)) (λ q. (q.var ≡ r.var) × (q.mem ≡ r.mem) × (Rattle.pdl_semantics.specs.Machine.request_of st r.mem ≡ Rattle.pdl_semantics.specs.Machine.Owned l.number q.address)) lasting.local.asks lasting.local.asked o.0 in
           bound_by_commit m (subst (λ n. Fetched p l.thread.stage n) (eqb-true r.mem m e) f.0) q.0 (q.2.1 ∙ eqb-true r.mem m e) q.1
       at false e i go = go i
 

@@ -1,15 +1,15 @@
 -- What holds of a thread as its stage begins: its blocks for reading are ready, it holds at most one location of a memory, and a guess has as many arguments as it should. So the statements of its stage are fine.
 use Rattle.std.proofs.Common.{◌≡◌, refl, sym, ap, ap₂, ◌∙◌, subst, ℕ, suc, ◌≤◌, ◌<◌, inl, inr, Bool, true, false, ◌&&◌, ◌||◌, not, List, [], ◌∷◌, ◌++◌, length, None, ◌==◌, cond, if◌then◌else◌, arith, slice_index}
 use Rattle.std.proofs.lemmas.Bool.{false≢true, eqb-true}
-use Rattle.pdl_model.specs.Flat.{list_all, Op, Bind, CombRead, DelayedRead, Write, ReserveRead, ReserveWrite, Block, Release, Call, SpecCall, Verify, SpecCheck, SpecBarrier, Stmt, Pipe, Commit, taken}
-use Rattle.pdl_model.specs.Stages.{onpath, in_stage, mem_at, reserve_stage, commit_stage, is_release, verify_stage}
-use Rattle.pdl_model.specs.Locks.{read_ready, write_ready}
-use Rattle.pdl_model.specs.Machine.{State, Thread, Pending, Place, Blocked, Reserved, Ask, Deeds, does, does_all, is_held, let_go, held_after, held_before, older_write, word_for, with_answers, with_kept}
-use Rattle.pdl_model.specs.Machine
-use Rattle.pdl_model.specs.Sound.{stages_before, is_release_at}
-use Rattle.pdl_model.specs.Moves.{block_ready}
-use Rattle.pdl_model.specs.Locks.{has_room}
-use Rattle.pdl_model.specs.Machine.{lock_of}
+use Rattle.pdl_semantics.specs.Flat.{list_all, Op, Bind, CombRead, DelayedRead, Write, ReserveRead, ReserveWrite, Block, Release, Call, SpecCall, Verify, SpecCheck, SpecBarrier, Stmt, Pipe, Commit, taken}
+use Rattle.pdl_semantics.specs.Stages.{onpath, in_stage, mem_at, reserve_stage, commit_stage, is_release, verify_stage}
+use Rattle.pdl_semantics.specs.Locks.{read_ready, write_ready}
+use Rattle.pdl_semantics.specs.Machine.{State, Thread, Pending, Place, Blocked, Reserved, Ask, Deeds, does, does_all, is_held, let_go, held_after, held_before, older_write, word_for, with_answers, with_kept}
+use Rattle.pdl_semantics.specs.Machine
+use Rattle.pdl_semantics.specs.Sound.{stages_before, is_release_at}
+use Rattle.pdl_semantics.specs.Moves.{block_ready}
+use Rattle.pdl_semantics.specs.Locks.{has_room}
+use Rattle.pdl_semantics.specs.Machine.{lock_of}
 use Rattle.pdl_derived.specs.Derived.{Entry, Work, Around, do_all, has, latest, around, port_free}
 use Rattle.pdl_derived.specs.Derived
 use Rattle.pdl_derived.specs.Alone.{looked}

@@ -1,10 +1,10 @@
 -- A thread that releases a write before V has passed a barrier, so that all older ones stand after V.
 use Rattle.std.proofs.Common.{◌≡◌, refl, sym, ap, ◌∙◌, subst, ℕ, ◌<◌, Bool, true, false, ◌&&◌, ◌||◌, not, List, [], ◌∷◌, ◌++◌, Option, Some, None, ◌==◌, nat_lt, nat_le, cond, arith, le_refl, ltb-true, leb-true, lt-ltb}
 use Rattle.std.proofs.lemmas.Bool.{false≢true}
-use Rattle.pdl_model.specs.Flat.{list_all, Pipe, Branch, Op, Block, SpecBarrier, Stmt, taken}
-use Rattle.pdl_model.specs.Stages.{list_any, onpath, in_stage, stage_at, verify_stage}
-use Rattle.pdl_model.specs.Machine.{State}
-use Rattle.pdl_model.specs.Sound
+use Rattle.pdl_semantics.specs.Flat.{list_all, Pipe, Branch, Op, Block, SpecBarrier, Stmt, taken}
+use Rattle.pdl_semantics.specs.Stages.{list_any, onpath, in_stage, stage_at, verify_stage}
+use Rattle.pdl_semantics.specs.Machine.{State}
+use Rattle.pdl_semantics.specs.Sound
 use Rattle.pdl_derived.specs.Derived
 use Rattle.pdl_derived.specs.Derived.{Around, around, befores}
 use Rattle.pdl_facts.specs.Scans.{Fresh, phase_all, phases_ok, no_scan, none_of, from}

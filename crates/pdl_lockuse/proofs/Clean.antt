@@ -2,9 +2,9 @@
 use Rattle.std.proofs.Common.{◌≡◌, ◌≢◌, refl, sym, ap, ◌∙◌, subst, ℕ, suc, ◌≤◌, Bool, true, false, ◌&&◌, ◌||◌, not, List, [], ◌∷◌, Some, ◌==◌, cond, if◌then◌else◌, arith, slice_index, slice_set}
 use Rattle.std.proofs.lemmas.List.{get_or-set_other}
 use Rattle.std.proofs.lemmas.Bool.{false≢true, or_right, eqb-true, eqb-false}
-use Rattle.pdl_model.specs.Flat.{Op, DelayedRead, Write, ReserveWrite, Block, Release, Verify, Pipe, values_of}
-use Rattle.pdl_model.specs.Stages.{commit_stage}
-use Rattle.pdl_model.specs.Machine.{Place, Deeds, does, is_held, let_go, held_after, same_args}
+use Rattle.pdl_semantics.specs.Flat.{Op, DelayedRead, Write, ReserveWrite, Block, Release, Verify, Pipe, values_of}
+use Rattle.pdl_semantics.specs.Stages.{commit_stage}
+use Rattle.pdl_semantics.specs.Machine.{Place, Deeds, does, is_held, let_go, held_after, same_args}
 use Rattle.pdl_derived.specs.Alone.{Location, looked}
 use Rattle.pdl_facts.specs.Scans.{Phase, Fresh, Held, Written, Done, after_release, next_phase, is_fresh, Scan, uses, opened, opens, location}
 use Rattle.pdl_derived.proofs.Writes.{and_left}

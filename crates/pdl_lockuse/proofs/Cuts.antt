@@ -1,8 +1,8 @@
 -- What a squash leaves of the pending writes of a lock: those up to a thread that it leaves, and of a list in the order of its threads a front.
 use Rattle.std.proofs.Common.{◌≡◌, refl, sym, ap, ◌∙◌, ℕ, zero, suc, ◌+◌, ◌≤◌, ◌<◌, Bool, true, false, List, [], ◌∷◌, take, Option, Some, None, ◌==◌, cond, if◌then◌else◌, arith, nat_lt, nat_le, leb-true, leb-false, le-ltb, lt-ltb}
-use Rattle.pdl_model.specs.Machine.{Pending, Written}
-use Rattle.pdl_model.specs.Moves.{Act}
-use Rattle.pdl_model.specs.Cycle.{put, put_all, filled, but_oldest, stays, entries_left}
+use Rattle.pdl_semantics.specs.Machine.{Pending, Written}
+use Rattle.pdl_semantics.specs.Moves.{Act}
+use Rattle.pdl_semantics.specs.Cycle.{put, put_all, filled, but_oldest, stays, entries_left}
 use Rattle.pdl_invariant.specs.Use.{AreOrdered, count_older}
 
 -- THE ORDER OF A LIST

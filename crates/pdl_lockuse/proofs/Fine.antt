@@ -1,11 +1,11 @@
 -- The statements of a thread's stage, one after another: reads are ready where its blocks are, what is released is held no more, and a verify has as many arguments as the guess.
 use Rattle.std.proofs.Common.{◌≡◌, refl, sym, ap, ap₂, ◌∙◌, subst, ℕ, suc, Bool, true, false, ◌&&◌, ◌||◌, not, List, [], ◌∷◌, ◌++◌, length, Option, Some, cond, nat_le, slice_index}
 use Rattle.std.proofs.lemmas.Bool.{false≢true, leb-true, eqb-true}
-use Rattle.pdl_model.specs.Flat.{list_all, Op, Bind, CombRead, DelayedRead, ReserveWrite, Block, Release, Call, SpecCall, Verify, Stmt, Expr, Lock, Pipe, taken, value_of, values_of}
-use Rattle.pdl_model.specs.Stages.{onpath, mem_at, reserve_stage, commit_stage}
-use Rattle.pdl_model.specs.Locks.{Latest, read_ready, write_ready}
-use Rattle.pdl_model.specs.Machine.{State, Blocked, Deeds, does, is_held, older_write, word_for, same_args}
-use Rattle.pdl_model.specs.Moves.{block_ready, blocks_ready, have_room}
+use Rattle.pdl_semantics.specs.Flat.{list_all, Op, Bind, CombRead, DelayedRead, ReserveWrite, Block, Release, Call, SpecCall, Verify, Stmt, Expr, Lock, Pipe, taken, value_of, values_of}
+use Rattle.pdl_semantics.specs.Stages.{onpath, mem_at, reserve_stage, commit_stage}
+use Rattle.pdl_semantics.specs.Locks.{Latest, read_ready, write_ready}
+use Rattle.pdl_semantics.specs.Machine.{State, Blocked, Deeds, does, is_held, older_write, word_for, same_args}
+use Rattle.pdl_semantics.specs.Moves.{block_ready, blocks_ready, have_room}
 use Rattle.pdl_derived.specs.Alone.{looked}
 use Rattle.pdl_facts.specs.Scans.{no_guards, Phase, next_phase, Scan, is_plain, uses, opened, opens, op_ok, reads_ok, location}
 use Rattle.pdl_facts.specs.Certain.{Making, next_making, making_ok, makings_ok, is_guessed, stands_at}

@@ -1,15 +1,16 @@
 -- Which pipes are fit for a netlist: a cycle without a wait is calm, and a pipe without delayed reads never waits.
-use Rattle.std.proofs.Common.{◌≡◌, refl, sym, ap, ap₂, ◌∙◌, ℕ, zero, suc, Bool, true, false, List, [], ◌∷◌, Option, Some, None, if◌then◌else◌, cond, slice_index_or}
-use Rattle.pdl_model.specs.Flat.{Arrays, Mem, Pipe}
-use Rattle.pdl_model.specs.Machine.{State, Thread, Request, NoRequest, request_of, answers, with_answers}
-use Rattle.pdl_model.specs.Moves.{Act, acts, all_acts, movers}
-use Rattle.pdl_model.specs.Cycle.{for_mems, asked_of, asked_by, request_left, squasher, stays, is_wait, waits_from, cycle, first, state_after}
+use Rattle.std.proofs.Common.{◌≡◌, refl, sym, ap, ap₂, ◌∙◌, ℕ, suc, Bool, true, false, List, [], ◌∷◌, Option, Some, None, if◌then◌else◌, cond, slice_index_or}
+use Rattle.pdl_semantics.specs.Flat.{Arrays, Mem, Pipe}
+use Rattle.pdl_semantics.specs.Machine.{State, Thread, Request, NoRequest, request_of, answers, with_answers}
+use Rattle.pdl_semantics.specs.Moves.{Act, acts, all_acts, movers}
+use Rattle.pdl_semantics.specs.Cycle.{for_mems, asked_of, asked_by, request_left, squasher, stays, is_wait, waits_from, cycle, first, state_after}
 use Rattle.pdl_facts.specs.Scans.{none_of, is_fetch}
 use Rattle.pdl_facts.specs.Facts.{Sound}
 use Rattle.pdl_simulation.proofs.Joined.{sound_flows}
 use Rattle.pdl_machine_facts.specs.Cycle.{IsCalm}
 use Rattle.pdl_machine_facts.specs.Fit.{IsFit}
 use Rattle.pdl_machine_facts.proofs.StagewiseDeeds.{no_asks}
+use Rattle.pdl_machine_facts.proofs.Still.{none_requested}
 use Rattle.pdl_invariant.specs.Strict.{Strict}
 use Rattle.pdl_invariant.specs.Use.{AllActs}
 use Rattle.pdl_lockuse.specs.Careful.{Careful}
@@ -19,11 +20,6 @@ use Rattle.pdl_lockuse.proofs.InUse.{leads_sound}
 use Rattle.pdl_lockuse.proofs.InRuns.{in_use_here, stages_here, spared_here}
 
 -- WAITS
-
-none_requested : (k m : ℕ) (xs : List Mem) → slice_index_or (for_mems (λ m. NoRequest) k xs) m NoRequest ≡ NoRequest
-none_requested k m [] = refl
-none_requested k zero (x ∷ xs) = refl
-none_requested k (suc m) (x ∷ xs) = none_requested (suc k) m xs
 
 none_waits : (p : Pipe) (bits : List Bool) (m : ℕ) (xs : List Mem) → waits_from p bits m (for_mems (λ n. NoRequest) m xs) ≡ false
 none_waits p bits m [] = refl

@@ -6,10 +6,10 @@ use Rattle.std.specs.Cmp.Lexicographic.{pointwise}
 use Rattle.std.proofs.lemmas.List.{length-map}
 use Rattle.std.specs.Prelude.{nat_eq, bytes_eq}
 use Rattle.pdl_kit.specs.declared.rule.Rule.TheVariants.{W5}
-use Rattle.pdl_model.specs.Tree.{Span, Location, R, W, Stmt, Separator, CombRead, Bind, SpecCall, DelayedRead, Write, Reserve, Block, Release, If, Call, Verify, SpecCheck, SpecBarrier, Expr, Variable, Literal, Param, Pipe}
-use Rattle.pdl_model.specs.Flat
-use Rattle.pdl_model.specs.Flatten.{Var, var_of, mem_of, flat, flat_exprs, start_of, params_of, width_of}
-use Rattle.pdl_model.specs.Stages.{onpath}
+use Rattle.pdl_semantics.specs.Tree.{Span, Location, R, W, Stmt, Separator, CombRead, Bind, SpecCall, DelayedRead, Write, Reserve, Block, Release, If, Call, Verify, SpecCheck, SpecBarrier, Expr, Variable, Literal, Param, Pipe}
+use Rattle.pdl_semantics.specs.Flat
+use Rattle.pdl_semantics.specs.Flatten.{Var, var_of, mem_of, flat, flat_exprs, start_of, params_of, width_of}
+use Rattle.pdl_semantics.specs.Stages.{onpath}
 use Rattle.pdl_rules.specs.Places.{on_path, Place, Statement, StartClause, End, places}
 use Rattle.pdl_rules.specs.Parts.{location_of}
 use Rattle.pdl_rules.specs.Locks

@@ -1,9 +1,9 @@
 -- The same of each state that a run comes to.
 use Rattle.std.proofs.Common.{refl, ℕ, Bool, List, Some}
-use Rattle.pdl_model.specs.Flat.{Arrays, Pipe}
-use Rattle.pdl_model.specs.Machine.{State}
-use Rattle.pdl_model.specs.Moves.{all_acts}
-use Rattle.pdl_model.specs.Cycle.{first, state_after}
+use Rattle.pdl_semantics.specs.Flat.{Arrays, Pipe}
+use Rattle.pdl_semantics.specs.Machine.{State}
+use Rattle.pdl_semantics.specs.Moves.{all_acts}
+use Rattle.pdl_semantics.specs.Cycle.{first, state_after}
 use Rattle.pdl_derived.specs.Derived
 use Rattle.pdl_facts.specs.Facts.{Sound}
 use Rattle.pdl_machine_facts.specs.Cycle.{IsByStages}

@@ -3,12 +3,12 @@ use Rattle.std.proofs.Common.{◌≡◌, refl, sym, ap, ap₂, ◌∙◌, subst,
 use Rattle.std.specs.Prelude.{Contains}
 use Rattle.std.proofs.lemmas.Bool.{false≢true, ne_eqb}
 use Rattle.pdl_word.specs.Words
-use Rattle.pdl_model.specs.Flat.{Arrays, Pipe, Plain, Stmt, list_all}
-use Rattle.pdl_model.specs.Stages.{list_any, onpath, in_stage, stage_at, goes_to, mem_at, is_release, reserve_stage, commit_stage, verify_stage}
-use Rattle.pdl_model.specs.Machine.{State, Thread, Pending, Deeds, lock_of, deeds, held_before, with_answers}
-use Rattle.pdl_model.specs.Sound.{stages_from}
-use Rattle.pdl_model.specs.Moves.{Act, acts, all_acts, movers, moves, next_stage, no_failure, blocks_ready, have_room}
-use Rattle.pdl_model.specs.Cycle.{appended, filled, oldest, but_oldest, releases, list_two, list_three, taken_out, stays, is_stage, squasher}
+use Rattle.pdl_semantics.specs.Flat.{Arrays, Pipe, Plain, Stmt, list_all}
+use Rattle.pdl_semantics.specs.Stages.{list_any, onpath, in_stage, stage_at, goes_to, mem_at, is_release, reserve_stage, commit_stage, verify_stage}
+use Rattle.pdl_semantics.specs.Machine.{State, Thread, Pending, Deeds, lock_of, deeds, held_before, with_answers}
+use Rattle.pdl_semantics.specs.Sound.{stages_from}
+use Rattle.pdl_semantics.specs.Moves.{Act, acts, all_acts, movers, moves, next_stage, no_failure, blocks_ready, have_room}
+use Rattle.pdl_semantics.specs.Cycle.{appended, filled, oldest, but_oldest, releases, list_two, list_three, taken_out, stays, is_stage, squasher}
 use Rattle.pdl_derived.specs.Derived
 use Rattle.pdl_facts.specs.Scans.{is_plain, none_of, Fresh, phase_all, is_over}
 use Rattle.pdl_facts.specs.Facts.{Sound, looked_all}
@@ -81,8 +81,8 @@ none_looked : (m : ℕ) (xs : List Stmt) → none_of (is_release m) (looked_all 
 none_looked m [] = refl
 none_looked m (x ∷ xs) = ap₂ (λ a b. not a && b) (one x.op) (none_looked m xs)
   where
-    one : (op : Rattle.pdl_model.specs.Flat.Op) → is_release m (looked op) ≡ is_release m op
-    one (Rattle.pdl_model.specs.Flat.DelayedRead x n a) = refl
+    one : (op : Rattle.pdl_semantics.specs.Flat.Op) → is_release m (looked op) ≡ is_release m op
+    one (Rattle.pdl_semantics.specs.Flat.DelayedRead x n a) = refl
     one _ = refl
 
 none_back : (m : ℕ) (xs ys : List Stmt) → none_of (is_release m) (xs ++ ys) ≡ true → none_of (is_release m) ys ≡ true

@@ -1,11 +1,11 @@
 -- A read and a write find the blocks of their locations ready: those of the stage since the thread moves, earlier ones since they stay so.
 use Rattle.std.proofs.Common.{◌≡◌, refl, sym, ap, ap₂, ◌∙◌, subst, ℕ, ◌≤◌, inl, inr, Bool, true, false, ◌&&◌, ◌||◌, not, List, [], ◌∷◌, ◌++◌, Some, ◌==◌, cond, slice_index}
 use Rattle.std.proofs.lemmas.Bool.{false≢true, leb-true}
-use Rattle.pdl_model.specs.Flat.{list_all, Op, Bind, CombRead, DelayedRead, Write, ReserveWrite, Block, Verify, Stmt, Pipe, taken, value_of, values_of}
-use Rattle.pdl_model.specs.Stages.{onpath, mem_at, reserve_stage, commit_stage}
-use Rattle.pdl_model.specs.Locks.{read_ready, write_ready}
-use Rattle.pdl_model.specs.Machine.{State, Blocked, Deeds, does, is_held, older_write, word_for, same_args}
-use Rattle.pdl_model.specs.Moves.{block_ready, blocks_ready, have_room}
+use Rattle.pdl_semantics.specs.Flat.{list_all, Op, Bind, CombRead, DelayedRead, Write, ReserveWrite, Block, Verify, Stmt, Pipe, taken, value_of, values_of}
+use Rattle.pdl_semantics.specs.Stages.{onpath, mem_at, reserve_stage, commit_stage}
+use Rattle.pdl_semantics.specs.Locks.{read_ready, write_ready}
+use Rattle.pdl_semantics.specs.Machine.{State, Blocked, Deeds, does, is_held, older_write, word_for, same_args}
+use Rattle.pdl_semantics.specs.Moves.{block_ready, blocks_ready, have_room}
 use Rattle.pdl_derived.specs.Derived.{Around, Entry, has}
 use Rattle.pdl_derived.specs.Alone.{Location, looked}
 use Rattle.pdl_facts.specs.Scans.{no_guards, Scan, uses, opened, opens, op_ok, reads_ok, location}

@@ -15,6 +15,7 @@ pub mod InRuns
 pub mod BlockedFirst
 pub mod FromRules
 pub mod Fits
+pub mod Sources
 pub mod Tried
 mod Examples
 pub mod Slotwise

@@ -1,12 +1,12 @@
 -- What a thread's stage does to its pending writes of one memory: who writes has one, once, and what is released has its value.
 use Rattle.std.proofs.Common.{◌≡◌, refl, sym, ap, ap₂, ◌∙◌, subst, ℕ, suc, ◌+◌, ◌≤◌, inl, inr, Bool, true, false, ◌&&◌, ◌||◌, not, List, [], ◌∷◌, ◌++◌, length, Option, Some, None, ◌==◌, cond, arith, eq-eqb, slice_index, append_assoc, nat_le}
 use Rattle.std.proofs.lemmas.Bool.{false≢true, leb-true, eqb-true}
-use Rattle.pdl_model.specs.Flat.{Pipe, Op, Write, ReserveWrite, Release, Verify, Stmt, Commit, of_mem, list_all, taken, value_of, values_of}
-use Rattle.pdl_model.specs.Stages.{list_any, onpath, in_stage, mem_at, goes_to, stage_at, commit_stage}
-use Rattle.pdl_model.specs.Locks.{has_room}
-use Rattle.pdl_model.specs.Machine.{State, Pending, Blocked, Reserved, Written, Ask, Deeds, does, does_all, is_held, held_before, lock_of, same_args, word_for}
-use Rattle.pdl_model.specs.Moves.{block_ready, next_stage}
-use Rattle.pdl_model.specs.Cycle.{new_entries, put, put_all, is_stage}
+use Rattle.pdl_semantics.specs.Flat.{Pipe, Op, Write, ReserveWrite, Release, Verify, Stmt, Commit, of_mem, list_all, taken, value_of, values_of}
+use Rattle.pdl_semantics.specs.Stages.{list_any, onpath, in_stage, mem_at, goes_to, stage_at, commit_stage}
+use Rattle.pdl_semantics.specs.Locks.{has_room}
+use Rattle.pdl_semantics.specs.Machine.{State, Pending, Blocked, Reserved, Written, Ask, Deeds, does, does_all, is_held, held_before, lock_of, same_args, word_for}
+use Rattle.pdl_semantics.specs.Moves.{block_ready, next_stage}
+use Rattle.pdl_semantics.specs.Cycle.{new_entries, put, put_all, is_stage}
 use Rattle.pdl_derived.specs.Derived
 use Rattle.pdl_derived.specs.Derived.{Entry, Work, Around, do_all, around, port_free}
 use Rattle.pdl_facts.specs.Scans.{Phase, Fresh, Held, Written as Filled, Done, after_release, next_phase, phase_all, holds, is_fresh}

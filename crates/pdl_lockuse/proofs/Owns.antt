@@ -2,11 +2,11 @@
 use Rattle.std.proofs.Common.{◌≡◌, refl, sym, ap, ap₂, ◌∙◌, ℕ, zero, suc, ◌<◌, Bool, true, false, ◌&&◌, ◌||◌, List, [], ◌∷◌, ◌++◌, length, Some, None, is_none, ◌==◌, cond, if◌then◌else◌, arith, eq-eqb, slice_index_or}
 use Rattle.std.specs.Prelude.{Contains}
 use Rattle.std.proofs.lemmas.Bool.{false≢true}
-use Rattle.pdl_model.specs.Flat.{Pipe}
-use Rattle.pdl_model.specs.Stages.{list_any, commit_stage}
-use Rattle.pdl_model.specs.Machine.{State, Pending, Written}
-use Rattle.pdl_model.specs.Moves.{Act, movers}
-use Rattle.pdl_model.specs.Cycle.{appended, new_entries, oldest, but_oldest}
+use Rattle.pdl_semantics.specs.Flat.{Pipe}
+use Rattle.pdl_semantics.specs.Stages.{list_any, commit_stage}
+use Rattle.pdl_semantics.specs.Machine.{State, Pending, Written}
+use Rattle.pdl_semantics.specs.Moves.{Act, movers}
+use Rattle.pdl_semantics.specs.Cycle.{appended, new_entries, oldest, but_oldest}
 use Rattle.pdl_derived.specs.Derived
 use Rattle.pdl_facts.specs.Facts.{Sound}
 use Rattle.pdl_derived.proofs.Lists.{pend}

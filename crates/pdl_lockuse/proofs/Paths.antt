@@ -1,10 +1,10 @@
 -- What the facts of an accepted pipe say of the statements that a thread has behind it, and of those of its stage, on the path that it takes.
 use Rattle.std.proofs.Common.{◌≡◌, refl, sym, ap, ap₂, ◌∙◌, subst, ℕ, ◌<◌, Bool, true, false, ◌&&◌, ◌||◌, not, List, [], ◌∷◌, ◌++◌, length, Option, ◌==◌, nat_lt, nat_le, cond, arith, append_assoc, eq-eqb, leb-false, le-leb}
 use Rattle.std.proofs.lemmas.Bool.{false≢true}
-use Rattle.pdl_model.specs.Flat.{Pipe, Op, CombRead, DelayedRead, Write, Block, Release, Stmt, Expr, list_all, taken}
-use Rattle.pdl_model.specs.Stages.{list_any, onpath, in_stage, mem_at, is_release, commit_stage, verify_stage}
-use Rattle.pdl_model.specs.Machine.{State}
-use Rattle.pdl_model.specs.Sound.{stages_before, stages_from, is_release_at}
+use Rattle.pdl_semantics.specs.Flat.{Pipe, Op, CombRead, DelayedRead, Write, Block, Release, Stmt, Expr, list_all, taken}
+use Rattle.pdl_semantics.specs.Stages.{list_any, onpath, in_stage, mem_at, is_release, commit_stage, verify_stage}
+use Rattle.pdl_semantics.specs.Machine.{State}
+use Rattle.pdl_semantics.specs.Sound.{stages_before, stages_from, is_release_at}
 use Rattle.pdl_derived.specs.Derived
 use Rattle.pdl_derived.specs.Derived.{Around, around}
 use Rattle.pdl_derived.specs.Alone.{looked}

@@ -1,9 +1,9 @@
 -- Where a squash cuts a lock's list, stage by stage.
 use Rattle.std.proofs.Common.{◌≡◌, sym, ap, ap₂, ◌∙◌, ℕ, suc, ◌+◌, Bool, List, length, take, Some}
 use Rattle.pdl_word.specs.Words
-use Rattle.pdl_model.specs.Flat.{Arrays, Pipe}
-use Rattle.pdl_model.specs.Machine.{State, lock_of}
-use Rattle.pdl_model.specs.Cycle.{appended, releases, list_three, entries_left, squasher, first, state_after}
+use Rattle.pdl_semantics.specs.Flat.{Arrays, Pipe}
+use Rattle.pdl_semantics.specs.Machine.{State, lock_of}
+use Rattle.pdl_semantics.specs.Cycle.{appended, releases, list_three, entries_left, squasher, first, state_after}
 use Rattle.pdl_facts.specs.Facts.{Sound}
 use Rattle.pdl_lockapi.specs.Forget as forget
 use Rattle.pdl_machine_facts.specs.Slots

@@ -1,10 +1,10 @@
 -- On each path a memory is blocked, read and written no later than the stage of its releases; so what is released while that is to come is no younger.
 use Rattle.std.proofs.Common.{◌≡◌, refl, sym, ap, ap₂, ◌∙◌, subst, ℕ, ◌≤◌, ◌<◌, Bool, true, false, ◌&&◌, ◌||◌, not, List, [], ◌∷◌, ◌++◌, length, ◌==◌, nat_lt, nat_le, cond, arith, eq-eqb, ltb-true, ltb-false, leb-true, le_refl, le-leb, le-ltb}
 use Rattle.std.proofs.lemmas.Bool.{false≢true, eqb-true}
-use Rattle.pdl_model.specs.Flat.{Pipe, Op, CombRead, DelayedRead, Write, Block, Stmt, Expr, list_all, taken}
-use Rattle.pdl_model.specs.Stages.{list_any, onpath, is_release, commit_stage}
-use Rattle.pdl_model.specs.Machine.{State}
-use Rattle.pdl_model.specs.Moves.{Act}
+use Rattle.pdl_semantics.specs.Flat.{Pipe, Op, CombRead, DelayedRead, Write, Block, Stmt, Expr, list_all, taken}
+use Rattle.pdl_semantics.specs.Stages.{list_any, onpath, is_release, commit_stage}
+use Rattle.pdl_semantics.specs.Machine.{State}
+use Rattle.pdl_semantics.specs.Moves.{Act}
 use Rattle.pdl_derived.specs.Alone.{before, looked}
 use Rattle.pdl_facts.specs.Scans.{no_guards, Phase, Fresh, Written, next_phase, phase_all, is_over, Scan, no_scan, opens, op_ok, reads_ok, all_at, none_of, from}
 use Rattle.pdl_facts.specs.Facts.{Sound, looked_all, at_once}
@@ -126,7 +126,7 @@ module _ (p : Pipe) (sound : Sound p) (path : List ℕ) where
   accepted : Accepted (along path (at_once p))
   accepted = sound.pathwise.paths path
 
-  plain_to : (m : ℕ) → Rattle.pdl_facts.specs.Scans.is_plain (Rattle.pdl_model.specs.Stages.mem_at (along path (at_once p)) m).lock ≡ true
+  plain_to : (m : ℕ) → Rattle.pdl_facts.specs.Scans.is_plain (Rattle.pdl_semantics.specs.Stages.mem_at (along path (at_once p)) m).lock ≡ true
       → commit_stage p m ≡ length p.stages
   plain_to m e = accepted.plain_to m e
 

@@ -1,7 +1,7 @@
 -- A pipe that passes the tests has the facts, and is fit where it has no delayed reads.
 use Rattle.std.proofs.Common.{◌≡◌, sym, ap, ◌∙◌, ℕ, Bool, true, ◌&&◌, ◌||◌, List, [], length, nat_lt}
-use Rattle.pdl_model.specs.Flat.{Pipe, Stmt, list_all, start_env}
-use Rattle.pdl_model.specs.Stages.{onpath, fork_guards}
+use Rattle.pdl_semantics.specs.Flat.{Pipe, Stmt, list_all, start_env}
+use Rattle.pdl_semantics.specs.Stages.{onpath, fork_guards, is_verify}
 use Rattle.pdl_facts.specs.Checks.{guard_vars}
 use Rattle.pdl_facts.specs.Scans.{none_of, is_fetch}
 use Rattle.pdl_facts.specs.SoundChecks.{sounds, all_paths, all_guards}
@@ -10,6 +10,7 @@ use Rattle.pdl_progress.proofs.Rates.{picks, among, among_append}
 use Rattle.pdl_progress.proofs.Tried.{all_picks, path_agree, agree_picks}
 use Rattle.pdl_progress.proofs.Sounded.{sounded}
 use Rattle.pdl_machine_facts.specs.Fit.{IsFit}
+use Rattle.pdl_machine_facts.specs.Linear.{IsLinear, IsSimple}
 use Rattle.pdl_invariant.specs.Strict.{Strict, is_strict, all_new, all_let_go}
 use Rattle.pdl_lockuse.specs.Careful.{Careful, is_careful, all_keep_kind, all_let_in}
 use Rattle.pdl_lockuse.proofs.Fits.{fit_sound}
@@ -47,3 +48,14 @@ pub fit_tested : (p : Pipe) → sounds p ≡ true → is_strict p ≡ true → i
 fit_tested p facts strict careful answered =
     let low = and_left _ _ (and_left _ _ careful) in
     fit_sound p (sounded p facts) (strict_tested p low strict) (careful_tested p low careful) answered
+
+-- and simple where it has no verifies and its stages stand in a line
+pub simple_tested : (p : Pipe) → sounds p ≡ true → is_strict p ≡ true → is_careful p ≡ true → none_of is_fetch p.stmts ≡ true → none_of is_verify p.stmts ≡ true → IsLinear p → IsSimple p
+simple_tested p facts strict careful answered certain linear =
+    record {
+      sound = sounded p facts;
+      linear = linear;
+      fit = fit_tested p facts strict careful answered;
+      no_fetch = answered;
+      no_verify = certain;
+    }

@@ -1,7 +1,7 @@
 -- What the use of the locks takes of an accepted pipe beside the facts of a sound and strict one: a location that was blocked for reading is not reserved for writing later, one that is written was blocked before, and guesses have as many arguments as their verifies.
 use Rattle.std.specs.Prelude.{◌≡◌, ℕ, Bool, true, false, ◌&&◌, ◌||◌, List, [], ◌∷◌, length, nat_lt, ◌==◌}
-use Rattle.pdl_model.specs.Flat.{list_all, Op, Write, ReserveWrite, Block, SpecCall, Verify, Stmt, Pipe, start_env}
-use Rattle.pdl_model.specs.Stages.{onpath}
+use Rattle.pdl_semantics.specs.Flat.{list_all, Op, Write, ReserveWrite, Block, SpecCall, Verify, Stmt, Pipe, start_env}
+use Rattle.pdl_semantics.specs.Stages.{onpath}
 use Rattle.pdl_facts.specs.Scans.{none_of}
 use Rattle.pdl_facts.specs.SoundChecks.{all_paths, all_guards}
 

@@ -1,10 +1,10 @@
 -- The same of squashes, stage by stage, as the law of a netlist takes the use of the locks.
 use Rattle.std.specs.Prelude.{◌≡◌, ℕ, suc, ◌+◌, ◌≤◌, ◌<◌, Bool, true, List, Some, length, take}
 use Rattle.pdl_word.specs.Words.{bit}
-use Rattle.pdl_model.specs.Flat.{Pipe}
-use Rattle.pdl_model.specs.Stages.{reserve_stage, verify_stage}
-use Rattle.pdl_model.specs.Machine.{Thread, State, lock_of}
-use Rattle.pdl_model.specs.Cycle.{appended, releases, list_three, stays, entries_left, squasher}
+use Rattle.pdl_semantics.specs.Flat.{Pipe}
+use Rattle.pdl_semantics.specs.Stages.{reserve_stage, verify_stage}
+use Rattle.pdl_semantics.specs.Machine.{Thread, State, lock_of}
+use Rattle.pdl_semantics.specs.Cycle.{appended, releases, list_three, stays, entries_left, squasher}
 use Rattle.pdl_lockapi.specs.Forget.{count_older}
 use Rattle.pdl_machine_facts.specs.Slots.{slot, moving}
 

@@ -1,9 +1,9 @@
 -- What holds in each cycle of each run, whatever the image and the replies, and of each thread in it.
 use Rattle.std.specs.Prelude.{Bool, List}
-use Rattle.pdl_model.specs.Flat.{Arrays, Pipe}
-use Rattle.pdl_model.specs.Machine.{State}
-use Rattle.pdl_model.specs.Moves.{Act, all_acts}
-use Rattle.pdl_model.specs.Cycle.{first, state_after}
+use Rattle.pdl_semantics.specs.Flat.{Arrays, Pipe}
+use Rattle.pdl_semantics.specs.Machine.{State}
+use Rattle.pdl_semantics.specs.Moves.{Act, all_acts}
+use Rattle.pdl_semantics.specs.Cycle.{first, state_after}
 use Rattle.pdl_invariant.specs.Use.{AllActs}
 
 -- of the state before the cycle and the replies in it

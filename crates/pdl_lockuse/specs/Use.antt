@@ -1,11 +1,11 @@
 -- How the threads use the locks in a cycle, of any pipe, beside what the law of a netlist takes: room, whose write is released, and where a squash cuts the list of pending writes.
 use Rattle.std.specs.Prelude.{◌≡◌, ℕ, suc, ◌+◌, ◌≤◌, ◌<◌, Bool, true, false, ◌&&◌, List, [], ◌∷◌, Some, is_none, nat_le, length, take, if◌then◌else◌, ◌==◌, slice_index, Contains, IsTrue, ⊤}
-use Rattle.pdl_model.specs.Flat.{Op, CombRead, DelayedRead, Write, Block, Stmt, Pipe, taken}
-use Rattle.pdl_model.specs.Stages.{list_any, onpath, in_stage, mem_at, reserve_stage, commit_stage}
-use Rattle.pdl_model.specs.Machine.{Awaited, State, Pending, Written, Deeds, does, lock_of, older_write, word_for}
-use Rattle.pdl_model.specs.Locks.{read_ready, write_ready}
-use Rattle.pdl_model.specs.Moves.{Act, have_room}
-use Rattle.pdl_model.specs.Cycle.{releases, stays, entries_left, squasher}
+use Rattle.pdl_semantics.specs.Flat.{Op, CombRead, DelayedRead, Write, Block, Stmt, Pipe, taken}
+use Rattle.pdl_semantics.specs.Stages.{list_any, onpath, in_stage, mem_at, reserve_stage, commit_stage}
+use Rattle.pdl_semantics.specs.Machine.{Awaited, State, Pending, Written, Deeds, does, lock_of, older_write, word_for}
+use Rattle.pdl_semantics.specs.Locks.{read_ready, write_ready}
+use Rattle.pdl_semantics.specs.Moves.{Act, have_room}
+use Rattle.pdl_semantics.specs.Cycle.{releases, stays, entries_left, squasher}
 use Rattle.pdl_machine_facts.specs.Slots.{is_ready}
 use Rattle.pdl_machine_facts.specs.Use.{before_stage}
 use Rattle.pdl_invariant.specs.Use.{moving, with_new, with_values, with_release, count_older, bit}

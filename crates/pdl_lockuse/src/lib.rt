@@ -1,14 +1,14 @@
 //! How the threads of any accepted pipe use the locks, in each cycle of each run: with guesses and squashes, forks, and delayed memories.
 //!
-//! The functions do nothing: each clause is a theorem on the runs of the machine of `pdl_model`, of any flat pipe with the facts of an accepted one (`Sound`, `Strict` and `Careful`), any image and any replies of delayed memories.
+//! The functions do nothing: each clause is a theorem on the runs of the machine of `pdl_semantics`, of any flat pipe with the facts of an accepted one (`Sound`, `Strict` and `Careful`), any image and any replies of delayed memories.
 #![tactic(auto)]
 
 ghost use Rattle.std.specs.Prelude.{◌≡◌, IsTrue, ℕ, false};
 ghost use Rattle.std.specs.List.{list_all};
-ghost use Rattle.pdl_model.specs.Tree;
-ghost use Rattle.pdl_model.specs.Flat.{Pipe};
-ghost use Rattle.pdl_model.specs.Flatten.{flat};
-ghost use Rattle.pdl_model.specs.Cycle.{is_wait};
+ghost use Rattle.pdl_semantics.specs.Tree;
+ghost use Rattle.pdl_semantics.specs.Flat.{Pipe};
+ghost use Rattle.pdl_semantics.specs.Flatten.{flat};
+ghost use Rattle.pdl_semantics.specs.Cycle.{is_wait};
 ghost use Rattle.pdl_rules.specs.Refusal.{KeepsRules, is_comb};
 ghost use Rattle.pdl_facts.specs.Scans.{none_of, is_fetch};
 ghost use Rattle.pdl_facts.specs.SoundChecks.{sounds};
@@ -84,8 +84,4 @@ pub fn fit()
     ensures by_facts { (p : Pipe) → Sound p → Strict p → Careful p → IsTrue (none_of is_fetch p.stmts) → IsFit p }
     ensures by_tests { (p : Pipe) → IsTrue (sounds p) → IsTrue (is_strict p) → IsTrue (is_careful p) → IsTrue (none_of is_fetch p.stmts) → IsFit p }
     ensures by_rules { (p : Tree.Pipe) → KeepsRules p → IsTrue (is_source p) → IsTrue (is_named p) → IsTrue (list_all is_comb p.mems) → IsFit (flat p) }
-{
-    pdl_pathfacts::sound();
-    pdl_strict::strict();
-    careful();
-}
+{}

@@ -2,8 +2,8 @@
 use Rattle.std.proofs.Common.{◌≡◌, refl, sym, ap, ◌∙◌, ℕ, Bool, true, false, not, if◌then◌else◌, List, [], ◌∷◌, bytes_eq}
 use Rattle.std.specs.List.{list_all}
 use Rattle.std.proofs.lemmas.Bool.{false≢true, and_parts, not-false}
-use Rattle.pdl_model.specs.Tree.{Expr, Variable, R, W, Stmt, DelayedRead, Reserve, If, Mem, Pipe}
-use Rattle.pdl_model.specs.Flatten.{Var, flat}
+use Rattle.pdl_semantics.specs.Tree.{Expr, Variable, R, W, Stmt, DelayedRead, Reserve, If, Mem, Pipe}
+use Rattle.pdl_semantics.specs.Flatten.{Var, flat}
 use Rattle.pdl_kit.specs.declared.rule.Rule.TheVariants.{F4}
 use Rattle.pdl_rules.specs.Places.{Statement}
 use Rattle.pdl_rules.specs.Forks.{is_delayed_memory, breaks_f4}

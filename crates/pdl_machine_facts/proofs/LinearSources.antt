@@ -1,16 +1,15 @@
 -- The flat form of a source in which no `if` holds a separator is linear.
-use Rattle.std.proofs.Common.{◌≡◌, refl, sym, ap, ap₂, ◌∙◌, subst, ℕ, zero, suc, ◌+◌, ◌<◌, Bool, true, false, if◌then◌else◌, List, [], ◌∷◌, ◌++◌, length, None, slice_index_or, ◌==◌, arith, le-leb}
-use Rattle.std.proofs.lemmas.Bool.{false≢true, and_parts, and_from, eqb-true}
-use Rattle.pdl_model.specs.Tree.{Stmt, Separator, If, Stmts, Nil, Cons, Expr, Variable, Mem, Pipe}
-use Rattle.pdl_model.specs.Flat
-use Rattle.pdl_model.specs.Flat.{Ends, Goes, Stage}
-use Rattle.pdl_model.specs.Stages.{last_stage, stage_at}
-use Rattle.pdl_model.specs.Flatten.{Place, Graph, flat, flat_stmt, flat_stmts, binds_guard, under, past, past_all, with_guard, at_otherwise, begins, graph, separators, separators_in, at_start}
+use Rattle.std.proofs.Common.{◌≡◌, refl, sym, ap, ap₂, ◌∙◌, subst, ℕ, zero, suc, ◌+◌, ◌<◌, ◌≤◌, Bool, true, false, if◌then◌else◌, List, [], ◌∷◌, ◌++◌, length, None, slice_index_or, ◌==◌, nat_le, arith, le-leb}
+use Rattle.std.proofs.lemmas.Bool.{false≢true, and_parts, and_from, eqb-true, leb-true}
+use Rattle.pdl_semantics.specs.Tree.{Stmt, Separator, If, Stmts, Nil, Cons, Expr, Variable, Mem, Pipe}
+use Rattle.pdl_semantics.specs.Flat
+use Rattle.pdl_semantics.specs.Flat.{Ends, Goes, Stage}
+use Rattle.pdl_semantics.specs.Stages.{last_stage, stage_at}
+use Rattle.pdl_semantics.specs.Flatten.{Place, Graph, flat, flat_stmt, flat_stmts, binds_guard, under, past, past_all, with_guard, at_otherwise, begins, graph, separators, separators_in, at_start}
 use Rattle.pdl_facts.specs.Checks.{in_text_order}
 use Rattle.pdl_turns.proofs.Alike.{AllIn}
 use Rattle.pdl_stagefacts.proofs.Walks.{past_begun, guard_stage}
 use Rattle.pdl_machine_facts.specs.Linear.{is_linear, IsLinear}
-use Rattle.pdl_machine_facts.proofs.Timely.{lower}
 
 -- STAGES
 
@@ -94,6 +93,13 @@ mutual
         all_append w.stage (flat_stmt ms gs s w) _ first.0 (subst (λ k. AllIn k (flat_stmts ms gs ss (past ms s w))) first.1 later.0),
         later.1 ∙ first.1,
       )
+
+lower : (l k : ℕ) (xs : List Flat.Stmt) → l ≤ k → in_text_order k xs ≡ true → in_text_order l xs ≡ true
+lower l k [] i h = refl
+lower l k (x ∷ xs) i h =
+    let parts = and_parts (nat_le k x.stage) (in_text_order x.stage xs) h in
+    let low = leb-true k x.stage parts.0 in
+    and_from _ _ (le-leb l x.stage (omega (arith, i, low))) parts.1
 
 order_behind : (k : ℕ) (xs ys : List Flat.Stmt) → AllIn k xs → in_text_order k ys ≡ true → in_text_order k (xs ++ ys) ≡ true
 order_behind k [] ys f h = h

@@ -1,11 +1,11 @@
 -- What is known of a lock by its kind: all that the proofs here, and those on netlists, ask of kinds.
 use Rattle.std.proofs.Common.{◌≡◌, refl, ℕ, ◌+◌, ◌*◌, ◌<◌, ◌⊎◌, inl, inr, true, false, List, [], ◌∷◌, Option, Some, None, arith, ltb-true}
-use Rattle.pdl_model.specs.Tree.{LockKind, Queue, Bypass, Rename, LockDecl}
-use Rattle.pdl_model.specs.Flat as flat
-use Rattle.pdl_model.specs.Flat.{Lock}
-use Rattle.pdl_model.specs.Flatten.{lock_of}
-use Rattle.pdl_model.specs.Locks.{has_room}
-use Rattle.pdl_model.specs.Cycle.{PortWrite}
+use Rattle.pdl_semantics.specs.Tree.{LockKind, Queue, Bypass, Rename, LockDecl}
+use Rattle.pdl_semantics.specs.Flat as flat
+use Rattle.pdl_semantics.specs.Flat.{Lock}
+use Rattle.pdl_semantics.specs.Flatten.{lock_of}
+use Rattle.pdl_semantics.specs.Locks.{has_room}
+use Rattle.pdl_semantics.specs.Cycle.{PortWrite}
 use Rattle.pdl_facts.specs.Scans.{is_plain}
 use Rattle.pdl_lockapi.specs.Laws.{words_of}
 use Rattle.pdl_lockapi.specs.Forget.{as_lock}

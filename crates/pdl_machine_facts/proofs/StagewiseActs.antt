@@ -2,9 +2,9 @@
 use Rattle.std.proofs.Common.{◌≡◌, refl, sym, ap, ap₂, ◌∙◌, ℕ, zero, suc, ◌+◌, ◌-◌, ◌≤◌, ◌<◌, Bool, true, false, ◌&&◌, ◌||◌, not, List, [], ◌∷◌, ◌++◌, length, drop, Option, Some, None, is_none, is_some, ◌==◌, arith, slice_index_or, eq-eqb, ne_eqb}
 use Rattle.std.proofs.lemmas.Bool.{eqb-true, eqb-false}
 use Rattle.std.proofs.lemmas.List.{length-drop}
-use Rattle.pdl_model.specs.Flat.{Pipe, list_all}
-use Rattle.pdl_model.specs.Machine.{Thread, State, Deeds, deeds, with_answers}
-use Rattle.pdl_model.specs.Moves.{Act, act_of, acts, all_acts, movers, no_failure, blocks_ready, have_room, is_empty, ports_free, barrier_clear, can_enter, merges_well, next_stage}
+use Rattle.pdl_semantics.specs.Flat.{Pipe, list_all}
+use Rattle.pdl_semantics.specs.Machine.{Thread, State, Deeds, deeds, with_answers}
+use Rattle.pdl_semantics.specs.Moves.{Act, act_of, acts, all_acts, movers, no_failure, blocks_ready, have_room, is_empty, ports_free, barrier_clear, can_enter, merges_well, next_stage}
 use Rattle.pdl_machine_facts.specs.Slots.{LeadsOn, slot, with_now, here, behind, is_ready, may_pass, goes_of, goes, may_enter, mover, movers_from}
 
 pub eqb_self : (k : ℕ) → (k == k) ≡ true

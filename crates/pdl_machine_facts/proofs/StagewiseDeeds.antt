@@ -1,9 +1,9 @@
 -- A stage without delayed reads and verifies asks for nothing, and nothing fails in it.
-use Rattle.std.proofs.Common.{◌≡◌, refl, ◌∙◌, ℕ, Bool, true, false, ◌&&◌, not, List, [], ◌∷◌, Some, None, cond}
+use Rattle.std.proofs.Common.{◌≡◌, refl, ◌∙◌, ℕ, Bool, true, false, not, List, [], ◌∷◌, Some, cond}
 use Rattle.std.proofs.lemmas.Bool.{and_parts}
-use Rattle.pdl_model.specs.Flat.{Op, Bind, CombRead, DelayedRead, Write, ReserveRead, ReserveWrite, Block, Release, Call, SpecCall, Verify, SpecCheck, SpecBarrier, Stmt, Pipe, values_of, taken}
-use Rattle.pdl_model.specs.Stages.{in_stage, is_verify, verify_stage}
-use Rattle.pdl_model.specs.Machine.{State, Thread, Deeds, same_args, does, does_all, deeds, word_for}
+use Rattle.pdl_semantics.specs.Flat.{Op, Bind, CombRead, DelayedRead, Write, ReserveRead, ReserveWrite, Block, Release, Call, SpecCall, Verify, SpecCheck, SpecBarrier, Stmt, Pipe, values_of, taken}
+use Rattle.pdl_semantics.specs.Stages.{in_stage, is_verify}
+use Rattle.pdl_semantics.specs.Machine.{State, Thread, Deeds, same_args, does, does_all, deeds, word_for}
 use Rattle.pdl_facts.specs.Scans.{none_of, is_fetch}
 use Rattle.pdl_simulation.proofs.Shapes.{none_stage}
 
@@ -57,22 +57,10 @@ left_alone f test read one (x ∷ xs) d h =
     at true = one x.op d (no_more (test x.op) (and_parts (not (test x.op)) (none_of test xs) h).0)
     at false = refl
 
--- there is no verify where no stage has one
-no_verifies : (xs : List Stmt) → verify_stage xs ≡ None → none_of is_verify xs ≡ true
-no_verifies [] h = refl
-no_verifies (x ∷ xs) h = at (is_verify x.op) h (λ e. no_verifies xs e)
-  where
-    at : (b : Bool) → cond b (Some x.stage) (verify_stage xs) ≡ None → (verify_stage xs ≡ None → none_of is_verify xs ≡ true) → (not b && none_of is_verify xs) ≡ true
-    at true e f = absurd (cc e)
-    at false e f = f e
-
-pub none_verified : (p : Pipe) (k : ℕ) → verify_stage p.stmts ≡ None → none_of is_verify (in_stage k p.stmts) ≡ true
-none_verified p k h = none_stage is_verify k p.stmts (no_verifies p.stmts h)
-
 pub no_asks : (p : Pipe) (st : State) (k : ℕ) (t : Thread) → none_of is_fetch p.stmts ≡ true → (deeds p st k t).asks ≡ []
 no_asks p st k t h =
     left_alone (λ (d : Deeds). d.asks) is_fetch (word_for st t.number) (same_asks (word_for st t.number)) (in_stage k p.stmts) _ (none_stage is_fetch k p.stmts h)
 
-pub no_fails : (p : Pipe) (st : State) (k : ℕ) (t : Thread) → verify_stage p.stmts ≡ None → (deeds p st k t).fails ≡ false
+pub no_fails : (p : Pipe) (st : State) (k : ℕ) (t : Thread) → none_of is_verify p.stmts ≡ true → (deeds p st k t).fails ≡ false
 no_fails p st k t h =
-    left_alone (λ (d : Deeds). d.fails) is_verify (word_for st t.number) (same_fails (word_for st t.number)) (in_stage k p.stmts) _ (none_verified p k h)
+    left_alone (λ (d : Deeds). d.fails) is_verify (word_for st t.number) (same_fails (word_for st t.number)) (in_stage k p.stmts) _ (none_stage is_verify k p.stmts h)

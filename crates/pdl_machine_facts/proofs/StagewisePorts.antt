@@ -1,11 +1,11 @@
 -- What the acts of a cycle show stage by stage, and who comes into a stage.
 use Rattle.std.proofs.Common.{◌≡◌, refl, sym, ap, ap₂, ◌∙◌, ℕ, zero, suc, ◌+◌, ◌-◌, ◌≤◌, ◌<◌, Bool, true, false, ◌&&◌, ◌||◌, List, [], ◌∷◌, ◌++◌, length, Option, Some, None, is_some, is_none, ◌==◌, nat_lt, cond, if◌then◌else◌, arith, slice_index_or, add-zero, add-suc, suc-add}
 use Rattle.std.proofs.lemmas.Bool.{eqb-true, eqb-false}
-use Rattle.pdl_model.specs.Flat.{Pipe, Next, Ends, Goes, Forks, Stage}
-use Rattle.pdl_model.specs.Stages.{stage_at, goes_to, list_any}
-use Rattle.pdl_model.specs.Machine.{Thread, State, deeds}
-use Rattle.pdl_model.specs.Moves.{Act, next_stage}
-use Rattle.pdl_model.specs.Cycle.{for_stages, is_stage, moved, stands, or_then}
+use Rattle.pdl_semantics.specs.Flat.{Pipe, Next, Ends, Goes, Forks, Stage}
+use Rattle.pdl_semantics.specs.Stages.{stage_at, goes_to, list_any}
+use Rattle.pdl_semantics.specs.Machine.{Thread, State, deeds}
+use Rattle.pdl_semantics.specs.Moves.{Act, next_stage}
+use Rattle.pdl_semantics.specs.Cycle.{for_stages, is_stage, moved, stands, or_then}
 use Rattle.pdl_machine_facts.specs.Slots
 use Rattle.pdl_machine_facts.specs.Slots.{LeadsOn, slot, here, goes, act_at, mover, movers_from, reaches, ways_from, ways, first_of, passes, passed, arrives}
 use Rattle.pdl_machine_facts.proofs.StagewiseActs.{eqb_self, eqb_other, seen, line_acts, some_here, someone}

@@ -1,11 +1,11 @@
 -- What a cycle does, stage by stage and memory by memory.
 use Rattle.std.specs.Prelude.{◌≡◌, ℕ, ◌-◌, ◌<◌, Bool, true, false, ◌&&◌, List, Option, Some, None, is_some, length, if◌then◌else◌, ◌==◌}
-use Rattle.pdl_model.specs.Flat.{Pipe}
-use Rattle.pdl_model.specs.Machine.{Thread, State, lock_of, deeds}
-use Rattle.pdl_model.specs.Moves.{next_stage, is_empty, all_acts}
-use Rattle.pdl_model.specs.Moves as model
-use Rattle.pdl_model.specs.Cycle.{Ports, cycle, for_mems, for_stages, list_three, taken_out, port_write, with_commit, entries_left, or_then, if_stays, born, child_of, squasher, is_wait}
-use Rattle.pdl_model.specs.Cycle as model_cycle
+use Rattle.pdl_semantics.specs.Flat.{Pipe}
+use Rattle.pdl_semantics.specs.Machine.{Thread, State, lock_of, deeds}
+use Rattle.pdl_semantics.specs.Moves.{next_stage, is_empty, all_acts}
+use Rattle.pdl_semantics.specs.Moves as model
+use Rattle.pdl_semantics.specs.Cycle.{Ports, cycle, for_mems, for_stages, list_three, taken_out, port_write, with_commit, entries_left, or_then, if_stays, born, child_of, squasher, is_wait}
+use Rattle.pdl_semantics.specs.Cycle as model_cycle
 use Rattle.pdl_machine_facts.specs.Slots.{slot, here, behind, is_ready, may_pass, goes, may_enter, moving, arrives, stays}
 
 -- the ports of a cycle from a state

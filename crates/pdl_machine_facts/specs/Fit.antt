@@ -1,7 +1,7 @@
 -- What the law of a netlist takes of a pipe: what holds of its stages, and of each cycle of its runs.
 use Rattle.std.specs.Prelude.{◌≤◌, Bool, List, length}
-use Rattle.pdl_model.specs.Flat.{Arrays, Pipe}
-use Rattle.pdl_model.specs.Cycle.{first, state_after}
+use Rattle.pdl_semantics.specs.Flat.{Arrays, Pipe}
+use Rattle.pdl_semantics.specs.Cycle.{first, state_after}
 use Rattle.pdl_machine_facts.specs.Slots.{LeadsOn}
 use Rattle.pdl_machine_facts.specs.Cycle.{IsByStages, IsCalm}
 use Rattle.pdl_machine_facts.specs.Use.{IsInUse}

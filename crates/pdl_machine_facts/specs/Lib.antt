@@ -2,5 +2,5 @@ pub mod Slots
 pub mod Ports
 pub mod Cycle
 pub mod Use
-pub mod Linear
 pub mod Fit
+pub mod Linear

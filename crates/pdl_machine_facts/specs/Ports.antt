@@ -1,8 +1,8 @@
 -- The values of the ports of a pipe without delayed memories, in their order.
 use Rattle.std.specs.Prelude.{ℕ, Bool, List, [], ◌∷◌, ◌++◌, Option, Some, None}
 use Rattle.pdl_word.specs.Words.{bit}
-use Rattle.pdl_model.specs.Flat.{Lock, Plain, Mem, Pipe}
-use Rattle.pdl_model.specs.Cycle.{PortWrite, Ports}
+use Rattle.pdl_semantics.specs.Flat.{Lock, Plain, Mem, Pipe}
+use Rattle.pdl_semantics.specs.Cycle.{PortWrite, Ports}
 
 -- of each stage whether it holds a thread and whether that moves
 abbrev pub stage_values : List Bool → List Bool → List ℕ

@@ -1,12 +1,12 @@
 -- How the threads of a pipe use the locks, in each state of a run.
 use Rattle.std.specs.Prelude.{◌≡◌, ℕ, ◌+◌, ◌≤◌, Bool, true, false, IsTrue, List, [], ◌∷◌, Some, None, length, slice_index, nat_le, if◌then◌else◌, Contains, ⊤}
 use Rattle.pdl_word.specs.Words.{bit}
-use Rattle.pdl_model.specs.Flat.{Op, CombRead, Write, Block, Release, Verify, Stmt, Plain, Pipe, taken}
-use Rattle.pdl_model.specs.Stages.{in_stage, mem_at, reserve_stage, commit_stage}
-use Rattle.pdl_model.specs.Locks.{read_ready}
-use Rattle.pdl_model.specs.Machine.{Thread, State, Pending, lock_of, Deeds, deeds, does, held_before, is_held, let_go, with_kept, older_write, word_for}
-use Rattle.pdl_model.specs.Moves.{next_stage}
-use Rattle.pdl_model.specs.Cycle.{is_stage, appended, releases, list_two, list_three}
+use Rattle.pdl_semantics.specs.Flat.{Op, CombRead, Write, Block, Release, Verify, Stmt, Plain, Pipe, taken}
+use Rattle.pdl_semantics.specs.Stages.{in_stage, mem_at, reserve_stage, commit_stage}
+use Rattle.pdl_semantics.specs.Locks.{read_ready}
+use Rattle.pdl_semantics.specs.Machine.{Thread, State, Pending, lock_of, Deeds, deeds, does, held_before, is_held, let_go, with_kept, older_write, word_for}
+use Rattle.pdl_semantics.specs.Moves.{next_stage}
+use Rattle.pdl_semantics.specs.Cycle.{is_stage, appended, releases, list_two, list_three}
 use Rattle.pdl_lockapi.specs.Forget.{AreOrdered, count_older, has_thread, addresses}
 use Rattle.pdl_machine_facts.specs.Slots.{slot, here, goes, is_ready, moving}
 

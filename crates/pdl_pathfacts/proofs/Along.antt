@@ -1,11 +1,11 @@
 -- The sites on a path, and the flat statements there: guards are gone, and delayed reads are reads.
 use Rattle.std.proofs.Common.{◌≡◌, refl, ap, ap₂, ◌∙◌, ℕ, Bool, true, false, List, [], ◌∷◌, ◌++◌, length, if◌then◌else◌, cond}
-use Rattle.pdl_model.specs.Tree.{Expr, Variable, Stmt, Separator, CombRead, Bind, SpecCall, DelayedRead, Write, Reserve, Block, Release, If, Call, Verify, SpecCheck, SpecBarrier, Mem}
-use Rattle.pdl_model.specs.Flat
-use Rattle.pdl_model.specs.Flat.{taken}
-use Rattle.pdl_model.specs.Flatten.{Var, var_of, mem_of, flat_expr, flat_exprs, reserves, binds_guard}
-use Rattle.pdl_model.specs.Flatten
-use Rattle.pdl_model.specs.Stages.{onpath}
+use Rattle.pdl_semantics.specs.Tree.{Expr, Variable, Stmt, Separator, CombRead, Bind, SpecCall, DelayedRead, Write, Reserve, Block, Release, If, Call, Verify, SpecCheck, SpecBarrier, Mem}
+use Rattle.pdl_semantics.specs.Flat
+use Rattle.pdl_semantics.specs.Flat.{taken}
+use Rattle.pdl_semantics.specs.Flatten.{Var, var_of, mem_of, flat_expr, flat_exprs, reserves, binds_guard}
+use Rattle.pdl_semantics.specs.Flatten
+use Rattle.pdl_semantics.specs.Stages.{onpath}
 use Rattle.pdl_rules.specs.Places.{Guard, on_path}
 use Rattle.pdl_derived.specs.Alone.{looked}
 use Rattle.pdl_facts.specs.Facts.{looked_all}

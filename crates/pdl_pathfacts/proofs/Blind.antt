@@ -2,11 +2,11 @@
 use Rattle.std.proofs.Common.{◌≡◌, refl, sym, ap, ap₂, ◌∙◌, subst, ℕ, suc, ◌<◌, Bool, true, false, ◌&&◌, List, [], ◌∷◌, ◌++◌, length, Some, cond, if◌then◌else◌, ◌==◌, nat_lt, slice_index, arith, ltb-true, lt-ltb}
 use Rattle.std.proofs.lemmas.Bool.{false≢true, and_parts, both_ways}
 use Rattle.std.specs.List.{list_any}
-use Rattle.pdl_model.specs.Tree.{Pipe}
-use Rattle.pdl_model.specs.Flat
-use Rattle.pdl_model.specs.Flat.{taken, takes}
-use Rattle.pdl_model.specs.Flatten.{flat}
-use Rattle.pdl_model.specs.Stages.{onpath, in_stage, stage_at, goes_to}
+use Rattle.pdl_semantics.specs.Tree.{Pipe}
+use Rattle.pdl_semantics.specs.Flat
+use Rattle.pdl_semantics.specs.Flat.{taken, takes}
+use Rattle.pdl_semantics.specs.Flatten.{flat}
+use Rattle.pdl_semantics.specs.Stages.{onpath, in_stage, stage_at, goes_to}
 use Rattle.pdl_rules.specs.Places.{places}
 use Rattle.pdl_rules.specs.Names.{OfVariable, defines}
 use Rattle.pdl_rules.specs.Refusal.{KeepsRules}

@@ -3,7 +3,7 @@ use Rattle.std.proofs.Common.{◌≡◌, refl, sym, ap, ap₂, ◌∙◌, subst,
 use Rattle.std.proofs.lemmas.Bool.{false≢true, or_parts, or_left, or_right, cases_Bool, both_ways, eqb-true}
 use Rattle.std.proofs.lemmas.List.Folds.{list_any-append}
 use Rattle.std.specs.List.{list_any}
-use Rattle.pdl_model.specs.Tree.{Span, Expr, Stmts, If, Pipe}
+use Rattle.pdl_semantics.specs.Tree.{Span, Expr, Stmts, If, Pipe}
 use Rattle.pdl_rules.specs.Places.{Place, Statement, Guard, Shared, Own, Branch, guard_of, same_guard, is_among, places, with_guard, guards, choices, on_path, on_some_path}
 use Rattle.pdl_rules.proofs.Straight.{Each}
 use Rattle.pdl_rules.proofs.Once.{bytes_same, bytes_refl}

@@ -3,11 +3,11 @@ use Rattle.std.proofs.Common.{◌≡◌, refl, sym, ap, ap₂, ◌∙◌, subst,
 use Rattle.std.proofs.lemmas.Bool.{false≢true, and_parts, or_parts, both_ways}
 use Rattle.std.proofs.lemmas.List.Folds.{list_any-append}
 use Rattle.std.specs.List.{list_any}
-use Rattle.pdl_model.specs.Tree.{Span, Ident, Location, R, W, Variable, Stmt, Separator, DelayedRead, Reserve, Release, If, Stmts, Nil, Cons, Pipe}
-use Rattle.pdl_model.specs.Flat
-use Rattle.pdl_model.specs.Flat.{taken}
-use Rattle.pdl_model.specs.Flatten.{flat, mem_of}
-use Rattle.pdl_model.specs.Stages.{is_release, commit_stage}
+use Rattle.pdl_semantics.specs.Tree.{Span, Ident, Location, R, W, Variable, Stmt, Separator, DelayedRead, Reserve, Release, If, Stmts, Nil, Cons, Pipe}
+use Rattle.pdl_semantics.specs.Flat
+use Rattle.pdl_semantics.specs.Flat.{taken}
+use Rattle.pdl_semantics.specs.Flatten.{flat, mem_of}
+use Rattle.pdl_semantics.specs.Stages.{is_release, commit_stage}
 use Rattle.pdl_kit.specs.declared.rule.Rule.TheVariants.{F3, F5, L8}
 use Rattle.pdl_rules.specs.Places.{Place, Parameter, Memory, Statement, Guard, Branch, with_inner, statements, places, behind, guards, on_path}
 use Rattle.pdl_rules.specs.Parts.{location_of, passes}

@@ -3,11 +3,11 @@ use Rattle.std.proofs.Common.{◌≡◌, refl, sym, ap, ◌∙◌, subst, ℕ, s
 use Rattle.std.proofs.lemmas.Bool.{false≢true, and_from, or_parts, or_left, or_right, eqb-true, both_ways}
 use Rattle.std.proofs.lemmas.List.Folds.{list_any-append}
 use Rattle.std.specs.List.{list_any}
-use Rattle.pdl_model.specs.Tree.{R, W, Variable, Stmt, DelayedRead, Reserve, If, Mem, Pipe}
-use Rattle.pdl_model.specs.Flat
-use Rattle.pdl_model.specs.Flat.{taken}
-use Rattle.pdl_model.specs.Flatten.{Var, mem_width, flat, params_of}
-use Rattle.pdl_model.specs.Stages.{in_stage}
+use Rattle.pdl_semantics.specs.Tree.{R, W, Variable, Stmt, DelayedRead, Reserve, If, Mem, Pipe}
+use Rattle.pdl_semantics.specs.Flat
+use Rattle.pdl_semantics.specs.Flat.{taken}
+use Rattle.pdl_semantics.specs.Flatten.{Var, mem_width, flat, params_of}
+use Rattle.pdl_semantics.specs.Stages.{in_stage}
 use Rattle.pdl_kit.specs.declared.rule.Rule.TheVariants.{N3, F3}
 use Rattle.pdl_rules.specs.Places.{Statement, places}
 use Rattle.pdl_rules.specs.Names.{OfVariable, defines, is_delayed, is_too_early, some_use}

@@ -1,8 +1,8 @@
 -- Where no statement binds a guard's variable where it is tested or later in the text, nor in a later stage, none does so in the order of stages.
 use Rattle.std.proofs.Common.{◌≡◌, refl, sym, ap, ap₂, ◌∙◌, ℕ, suc, ◌≤◌, ◌<◌, Bool, true, false, ◌||◌, not, List, [], ◌∷◌, ◌++◌, cond, ◌==◌, nat_lt, nat_le, arith, ltb-true, leb-true}
 use Rattle.std.proofs.lemmas.Bool.{and_parts, and_from, or_parts, eqb-true, not-true}
-use Rattle.pdl_model.specs.Flat.{Guard, Stmt, Op, list_all}
-use Rattle.pdl_model.specs.Stages.{in_stage}
+use Rattle.pdl_semantics.specs.Flat.{Guard, Stmt, Op, list_all}
+use Rattle.pdl_semantics.specs.Stages.{in_stage}
 use Rattle.pdl_derived.specs.Alone.{before, looked}
 use Rattle.pdl_facts.specs.Scans.{from, none_of, binds, free_of, is_dead, keeps_guards, fixed}
 use Rattle.pdl_facts.specs.Facts.{binds_guard}

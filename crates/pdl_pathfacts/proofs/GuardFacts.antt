@@ -2,10 +2,10 @@
 use Rattle.std.proofs.Common.{◌≡◌, refl, sym, ap, ◌∙◌, ℕ, ◌≤◌, ◌<◌, Bool, true, false, ◌||◌, not, List, [], ◌∷◌, ◌++◌, length, length-append, Option, Some, None, nat_lt, nat_le, arith, le-leb, lt-ltb}
 use Rattle.std.proofs.lemmas.Bool.{false≢true, and_from, or_right}
 use Rattle.std.specs.List.{list_any}
-use Rattle.pdl_model.specs.Tree.{R, W, Variable, Stmt, Separator, DelayedRead, Reserve, If, Mem, Pipe}
-use Rattle.pdl_model.specs.Flat
-use Rattle.pdl_model.specs.Flat.{list_all}
-use Rattle.pdl_model.specs.Flatten.{Var, flat, params_of}
+use Rattle.pdl_semantics.specs.Tree.{R, W, Variable, Stmt, Separator, DelayedRead, Reserve, If, Mem, Pipe}
+use Rattle.pdl_semantics.specs.Flat
+use Rattle.pdl_semantics.specs.Flat.{list_all}
+use Rattle.pdl_semantics.specs.Flatten.{Var, flat, params_of}
 use Rattle.pdl_rules.specs.Places.{Statement, Branch, places}
 use Rattle.pdl_rules.specs.Limits.{is_separator}
 use Rattle.pdl_rules.specs.Names.{OfVariable, defines, is_delayed}

@@ -3,11 +3,11 @@ use Rattle.std.proofs.Common.{◌≡◌, refl, sym, ap, ◌∙◌, subst, ℕ, �
 use Rattle.std.proofs.lemmas.Bool.{false≢true, and_parts, and_cases, or_parts, or_left, or_right, both_ways, not-false}
 use Rattle.std.proofs.lemmas.List.Folds.{list_any-append, list_all-append}
 use Rattle.std.specs.List.{list_any, list_all}
-use Rattle.pdl_model.specs.Tree.{Ident, Expr, Constant, Variable, Slice, Not, Binary, Cat, LessSigned, ZeroExtend, SignExtend, Choose, If, Pipe}
-use Rattle.pdl_model.specs.Flat
-use Rattle.pdl_model.specs.Flat.{taken}
-use Rattle.pdl_model.specs.Flatten.{var_of}
-use Rattle.pdl_model.specs.Flatten
+use Rattle.pdl_semantics.specs.Tree.{Ident, Expr, Constant, Variable, Slice, Not, Binary, Cat, LessSigned, ZeroExtend, SignExtend, Choose, If, Pipe}
+use Rattle.pdl_semantics.specs.Flat
+use Rattle.pdl_semantics.specs.Flat.{taken}
+use Rattle.pdl_semantics.specs.Flatten.{var_of}
+use Rattle.pdl_semantics.specs.Flatten
 use Rattle.pdl_kit.specs.declared.rule.Rule.TheVariants.{N3}
 use Rattle.pdl_rules.specs.Places.{Place, Parameter, Memory, Statement, Branch, statements, places, is_taken, on_path, on_some_path}
 use Rattle.pdl_rules.specs.Limits.{is_separator}

@@ -4,8 +4,8 @@ use Rattle.std.proofs.lemmas.Bool.{false≢true, and_parts, and_from, or_parts, 
 use Rattle.std.proofs.lemmas.List.Folds.{list_any-append}
 use Rattle.std.proofs.lemmas.List.Sums.{sum_by-append}
 use Rattle.std.specs.List.{list_any}
-use Rattle.pdl_model.specs.Tree.{Span, Ident, Expr, Variable, R, W, Stmt, Separator, CombRead, Bind, SpecCall, DelayedRead, Write, Reserve, Block, Release, If, Call, Verify, SpecCheck, SpecBarrier, Param, Mem, Pipe}
-use Rattle.pdl_model.specs.Stages
+use Rattle.pdl_semantics.specs.Tree.{Span, Ident, Expr, Variable, R, W, Stmt, Separator, CombRead, Bind, SpecCall, DelayedRead, Write, Reserve, Block, Release, If, Call, Verify, SpecCheck, SpecBarrier, Param, Mem, Pipe}
+use Rattle.pdl_semantics.specs.Stages
 use Rattle.pdl_kit.specs.declared.rule.Rule.TheVariants.{N3, S2, S4}
 use Rattle.pdl_rules.specs.Places.{Place, Parameter, Memory, Statement, Guard, places, guards, on_path}
 use Rattle.pdl_rules.specs.Parts.{passes, location_of, some_expr_of, some_part}
@@ -23,7 +23,7 @@ use Rattle.pdl_facts.specs.Certain.{stands_at, stands_before}
 use Rattle.pdl_facts.proofs.Texts.{no_verify}
 use Rattle.pdl_stagefacts.proofs.Sites.{Site, sites_of, front_of, closing, place_of, All, stmts_are}
 use Rattle.pdl_stagefacts.proofs.Staged.{Staged}
-use Rattle.pdl_model.specs.Flatten.{flat}
+use Rattle.pdl_semantics.specs.Flatten.{flat}
 use Rattle.pdl_pathfacts.proofs.Choices.{path_of, unbroken_on, by_choice}
 use Rattle.pdl_pathfacts.proofs.Along
 use Rattle.pdl_pathfacts.proofs.Along.{ops}

@@ -3,10 +3,10 @@ use Rattle.std.proofs.Common.{◌≡◌, refl, sym, ap, ap₂, ◌∙◌, subst,
 use Rattle.std.proofs.lemmas.Bool.{false≢true, and_parts, and_from, or_parts, or_cases, or_left, or_right, both_ways, not-true}
 use Rattle.std.proofs.lemmas.List.Folds.{list_any-append}
 use Rattle.std.specs.List.{list_any}
-use Rattle.pdl_model.specs.Tree.{R, W, Variable, Stmt, Separator, CombRead, Bind, DelayedRead, Reserve, If, Mem, Pipe}
-use Rattle.pdl_model.specs.Tree
-use Rattle.pdl_model.specs.Flat.{taken}
-use Rattle.pdl_model.specs.Flatten.{Var, var_of}
+use Rattle.pdl_semantics.specs.Tree.{R, W, Variable, Stmt, Separator, CombRead, Bind, DelayedRead, Reserve, If, Mem, Pipe}
+use Rattle.pdl_semantics.specs.Tree
+use Rattle.pdl_semantics.specs.Flat.{taken}
+use Rattle.pdl_semantics.specs.Flatten.{Var, var_of}
 use Rattle.pdl_rules.specs.Places.{Place, Parameter, Memory, Statement, Guard, places, on_path}
 use Rattle.pdl_rules.specs.Parts.{passes}
 use Rattle.pdl_rules.specs.Limits.{is_separator}

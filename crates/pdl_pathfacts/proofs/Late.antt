@@ -1,7 +1,7 @@
 -- On a path a location that is blocked to be read is released behind, so no read of a lock stands behind the releases.
 use Rattle.std.proofs.Common.{◌≡◌, refl, sym, ap, ◌∙◌, subst, ℕ, suc, ◌≤◌, ◌⊎◌, inl, inr, Bool, true, false, ◌&&◌, not, List, [], ◌∷◌, ◌++◌, map, if◌then◌else◌, Some, None, arith}
 use Rattle.std.proofs.lemmas.Bool.{false≢true, and_parts, both_ways, not-false}
-use Rattle.pdl_model.specs.Tree.{Location, R, Stmt, Separator, CombRead, DelayedRead, Reserve, Block, Release, Pipe}
+use Rattle.pdl_semantics.specs.Tree.{Location, R, Stmt, Separator, CombRead, DelayedRead, Reserve, Block, Release, Pipe}
 use Rattle.pdl_rules.specs.Places.{Place, Statement, Branch}
 use Rattle.pdl_rules.specs.Limits.{is_separator}
 use Rattle.pdl_rules.specs.Locks

@@ -2,7 +2,7 @@
 use Rattle.std.proofs.Common.{◌≡◌, refl, sym, ap, ◌∙◌, ℕ, zero, suc, ◌+◌, ◌<◌, ◌≤◌, Bool, true, false, ◌&&◌, not, List, [], ◌∷◌, length, replicate, if◌then◌else◌, ◌==◌, slice_index, slice_set, arith}
 use Rattle.std.proofs.lemmas.Bool.{false≢true, and_from, or_parts, eqb-true, eqb-false}
 use Rattle.std.proofs.lemmas.List.{get_or-set_same, get_or-set_other, length-set}
-use Rattle.pdl_model.specs.Flat.{Guard, taken, takes}
+use Rattle.pdl_semantics.specs.Flat.{Guard, taken, takes}
 use Rattle.pdl_facts.specs.Scans.{against, is_dead}
 
 -- something that holds of each guard

@@ -3,11 +3,11 @@ use Rattle.std.proofs.Common.{◌≡◌, refl, sym, ap, ◌∙◌, subst, ℕ, z
 use Rattle.std.specs.Option.{is_some}
 use Rattle.std.proofs.lemmas.Bool.{false≢true, and_parts, or_parts, or_left, or_right, or_from, not-false, both_ways, false_from_ne_true}
 use Rattle.std.specs.List.{list_any}
-use Rattle.pdl_model.specs.Tree.{LockKind, Queue, Bypass, Rename, LockDecl, Mem, Pipe}
-use Rattle.pdl_model.specs.Flat
-use Rattle.pdl_model.specs.Flatten.{mem_of, mems_of, lock_of, first_stage, first_stages}
-use Rattle.pdl_model.specs.Stages.{plain_mem}
-use Rattle.pdl_model.specs.Locks.{has_room}
+use Rattle.pdl_semantics.specs.Tree.{LockKind, Queue, Bypass, Rename, LockDecl, Mem, Pipe}
+use Rattle.pdl_semantics.specs.Flat
+use Rattle.pdl_semantics.specs.Flatten.{mem_of, mems_of, lock_of, first_stage, first_stages}
+use Rattle.pdl_semantics.specs.Stages.{plain_mem}
+use Rattle.pdl_semantics.specs.Locks.{has_room}
 use Rattle.pdl_kit.specs.declared.rule.Rule.TheVariants.{Z7, N2}
 use Rattle.pdl_rules.specs.Places.{Place, Parameter, Memory, statements, places}
 use Rattle.pdl_rules.specs.Parts

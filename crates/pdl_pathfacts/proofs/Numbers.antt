@@ -2,8 +2,8 @@
 use Rattle.std.proofs.Common.{◌≡◌, refl, sym, ap, ◌∙◌, ℕ, suc, ◌<◌, Bool, true, false, ◌||◌, List, [], ◌∷◌, ◌++◌, length, cond, if◌then◌else◌, bytes_eq, ◌==◌, arith, subst, eq-eqb}
 use Rattle.std.proofs.lemmas.Bool.{false≢true, ne_eqb, both_ways}
 use Rattle.std.specs.List.{list_any}
-use Rattle.pdl_model.specs.Tree.{Mem}
-use Rattle.pdl_model.specs.Flatten.{Var, var_of, mem_of}
+use Rattle.pdl_semantics.specs.Tree.{Mem}
+use Rattle.pdl_semantics.specs.Flatten.{Var, var_of, mem_of}
 use Rattle.pdl_rules.specs.Typed.{is_named, is_memory}
 use Rattle.pdl_rules.proofs.Once.{bytes_same, bytes_refl}
 

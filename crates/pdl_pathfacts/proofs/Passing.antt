@@ -3,12 +3,12 @@ use Rattle.std.proofs.Common.{◌≡◌, refl, sym, ap, ap₂, ◌∙◌, subst,
 use Rattle.std.proofs.lemmas.Bool.{false≢true, and_parts, and_from, or_left, or_right, both_ways, not-false, cases_Bool, ne_eqb}
 use Rattle.std.proofs.lemmas.List.Folds.{list_any-append}
 use Rattle.std.specs.List.{list_any}
-use Rattle.pdl_model.specs.Tree.{Location, W, Stmt, Reserve, Release, Verify, Param, Mem, Pipe}
-use Rattle.pdl_model.specs.Flat
-use Rattle.pdl_model.specs.Flatten.{flat, params_of, mem_of}
-use Rattle.pdl_model.specs.Stages
-use Rattle.pdl_model.specs.Stages.{mem_at, reserve_stage, commit_stage, is_reserve, is_release, onpath}
-use Rattle.pdl_model.specs.Sound.{all_below}
+use Rattle.pdl_semantics.specs.Tree.{Location, W, Stmt, Reserve, Release, Verify, Param, Mem, Pipe}
+use Rattle.pdl_semantics.specs.Flat
+use Rattle.pdl_semantics.specs.Flatten.{flat, params_of, mem_of}
+use Rattle.pdl_semantics.specs.Stages
+use Rattle.pdl_semantics.specs.Stages.{mem_at, reserve_stage, commit_stage, is_reserve, is_release, onpath}
+use Rattle.pdl_semantics.specs.Sound.{all_below}
 use Rattle.pdl_kit.specs.declared.rule.Rule.TheVariants.{F5}
 use Rattle.pdl_rules.specs.Places.{Place, Parameter, Memory, Statement, End, StartClause, Guard, statements, places, on_path}
 use Rattle.pdl_rules.specs.Locks

@@ -4,10 +4,10 @@ use Rattle.std.proofs.lemmas.Bool.{false≢true, and_parts, and_from, or_parts, 
 use Rattle.std.proofs.lemmas.List.Folds.{list_any-append}
 use Rattle.std.specs.List.{list_any}
 use mathlib.Core.Path.{fun_ext}
-use Rattle.pdl_model.specs.Tree.{Span, Expr, Variable, Location, Kind, R, W, Stmt, Separator, CombRead, Bind, SpecCall, DelayedRead, Write, Reserve, Block, Release, If, Call, Verify, SpecCheck, SpecBarrier, Mem, Pipe}
-use Rattle.pdl_model.specs.Flat
-use Rattle.pdl_model.specs.Flatten.{Var, var_of, mem_of}
-use Rattle.pdl_model.specs.Stages.{mem_at, reserve_stage, commit_stage}
+use Rattle.pdl_semantics.specs.Tree.{Span, Expr, Variable, Location, Kind, R, W, Stmt, Separator, CombRead, Bind, SpecCall, DelayedRead, Write, Reserve, Block, Release, If, Call, Verify, SpecCheck, SpecBarrier, Mem, Pipe}
+use Rattle.pdl_semantics.specs.Flat
+use Rattle.pdl_semantics.specs.Flatten.{Var, var_of, mem_of}
+use Rattle.pdl_semantics.specs.Stages.{mem_at, reserve_stage, commit_stage}
 use Rattle.pdl_rules.specs.Places.{Place, Statement, Branch}
 use Rattle.pdl_rules.specs.Locks.{is_locked, same_location, same_kind, Hold, Nothing, Reserved, Blocked, Released, blocked, after_place, held, is_reserved, is_blocked_for, is_held_for, is_unreleased, reserves_location}
 use Rattle.pdl_rules.specs.Parts.{location_of}

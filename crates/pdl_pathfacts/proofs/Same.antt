@@ -3,10 +3,10 @@ use Rattle.std.proofs.Common.{◌≡◌, refl, sym, ap, ap₂, ◌∙◌, subst,
 use Rattle.std.proofs.lemmas.Bool.{false≢true, and_parts, or_parts, or_left, or_right, eqb-true}
 use Rattle.std.proofs.lemmas.List.Folds.{list_any-append}
 use Rattle.std.specs.List.{list_any, list_all}
-use Rattle.pdl_model.specs.Tree.{Span, Ident, Stmts, Expr, Constant, Variable, Slice, Not, Binary, Cat, LessSigned, ZeroExtend, SignExtend, Choose, Stmt, If, Param, Mem, Pipe}
-use Rattle.pdl_model.specs.Flat.{taken, takes}
-use Rattle.pdl_model.specs.Flatten.{Var, var_of}
-use Rattle.pdl_model.specs.Flatten
+use Rattle.pdl_semantics.specs.Tree.{Span, Ident, Stmts, Expr, Constant, Variable, Slice, Not, Binary, Cat, LessSigned, ZeroExtend, SignExtend, Choose, Stmt, If, Param, Mem, Pipe}
+use Rattle.pdl_semantics.specs.Flat.{taken, takes}
+use Rattle.pdl_semantics.specs.Flatten.{Var, var_of}
+use Rattle.pdl_semantics.specs.Flatten
 use Rattle.pdl_kit.specs.declared.rule.Rule.TheVariants.{N3}
 use Rattle.pdl_rules.specs.Places.{Place, Parameter, Memory, Statement, Guard, Shared, Own, Branch, guard_of, same_guard, is_among, same_truth, is_taken, places, guards, statements}
 use Rattle.pdl_rules.specs.Names.{is_too_early, some_use}

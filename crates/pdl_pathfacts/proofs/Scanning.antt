@@ -2,10 +2,10 @@
 use Rattle.std.proofs.Common.{◌≡◌, refl, sym, ap, ◌∙◌, subst, ℕ, suc, ◌≤◌, ◌<◌, ◌⊎◌, inl, inr, Bool, true, false, ◌&&◌, not, List, [], ◌∷◌, ◌++◌, length, map, nat_lt, nat_le, bytes_eq, Option, Some, arith, append_assoc, append-nil, le-leb, leb-true, lt-ltb, eq-eqb, ⊎_elim}
 use Rattle.std.proofs.lemmas.Bool.{false≢true, and_parts, and_from, or_left}
 use Rattle.std.specs.List.{list_any}
-use Rattle.pdl_model.specs.Tree.{Location, R, W, Stmt, Separator, Reserve, Mem, Pipe}
-use Rattle.pdl_model.specs.Flat
-use Rattle.pdl_model.specs.Flatten.{Var, mem_of}
-use Rattle.pdl_model.specs.Stages.{mem_at, is_reserve, reserve_stage, commit_stage}
+use Rattle.pdl_semantics.specs.Tree.{Location, R, W, Stmt, Separator, Reserve, Mem, Pipe}
+use Rattle.pdl_semantics.specs.Flat
+use Rattle.pdl_semantics.specs.Flatten.{Var, mem_of}
+use Rattle.pdl_semantics.specs.Stages.{mem_at, is_reserve, reserve_stage, commit_stage}
 use Rattle.pdl_rules.specs.Places.{Place, Statement, Branch}
 use Rattle.pdl_rules.specs.Parts.{location_of}
 use Rattle.pdl_rules.specs.Limits.{is_separator}

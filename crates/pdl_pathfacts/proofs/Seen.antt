@@ -1,10 +1,10 @@
 -- Tests of the flat statements on a path, and of those of a text where delayed reads are reads, from tests of the sites.
 use Rattle.std.proofs.Common.{◌≡◌, refl, ap, ap₂, ◌∙◌, ℕ, ◌<◌, Bool, true, false, ◌&&◌, ◌||◌, not, List, [], ◌∷◌, ◌++◌, length, ◌==◌, nat_lt, Some, if◌then◌else◌, eq-eqb, lt-ltb}
 use Rattle.std.proofs.lemmas.Bool.{and_parts, and_from, or_parts, or_left, or_right}
-use Rattle.pdl_model.specs.Tree.{Span, Variable, Location, Kind, R, W, Stmt, CombRead, DelayedRead, Write, Reserve, Block, Release, If, Mem}
-use Rattle.pdl_model.specs.Flat
-use Rattle.pdl_model.specs.Flatten.{Var, mem_of}
-use Rattle.pdl_model.specs.Stages.{is_reserve, is_release, is_verify, verify_stage}
+use Rattle.pdl_semantics.specs.Tree.{Span, Variable, Location, Kind, R, W, Stmt, CombRead, DelayedRead, Write, Reserve, Block, Release, If, Mem}
+use Rattle.pdl_semantics.specs.Flat
+use Rattle.pdl_semantics.specs.Flatten.{Var, mem_of}
+use Rattle.pdl_semantics.specs.Stages.{is_reserve, is_release, is_verify, verify_stage}
 use Rattle.pdl_rules.specs.Places.{Guard, on_path}
 use Rattle.pdl_rules.specs.Parts.{location_of}
 use Rattle.pdl_rules.specs.Typed.{is_memory}

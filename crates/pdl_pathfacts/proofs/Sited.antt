@@ -2,9 +2,9 @@
 use Rattle.std.proofs.Common.{◌≡◌, refl, sym, ap, ap₂, ◌∙◌, ℕ, ◌⊎◌, inl, inr, Bool, true, false, ◌&&◌, ◌||◌, not, List, [], ◌∷◌, ◌++◌, map, if◌then◌else◌, ◌==◌, Some, None, append_assoc, append-nil}
 use Rattle.std.proofs.lemmas.Bool.{false≢true, and_parts, and_from, or_parts, eqb-true}
 use Rattle.std.specs.List.{list_any}
-use Rattle.pdl_model.specs.Tree.{Mem}
-use Rattle.pdl_model.specs.Flat
-use Rattle.pdl_model.specs.Stages.{is_verify, verify_stage}
+use Rattle.pdl_semantics.specs.Tree.{Mem}
+use Rattle.pdl_semantics.specs.Flat
+use Rattle.pdl_semantics.specs.Stages.{is_verify, verify_stage}
 use Rattle.pdl_rules.specs.Places.{Place}
 use Rattle.pdl_rules.specs.Stages.{stage_in, stage_of, first_stage, stages_that}
 use Rattle.pdl_facts.specs.Scans.{none_of, all_at}

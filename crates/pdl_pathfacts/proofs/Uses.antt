@@ -2,8 +2,8 @@
 use Rattle.std.proofs.Common.{◌≡◌, ℕ, ◌⊎◌, inl, inr, Bool, true, false, ◌||◌, List, [], ◌∷◌, length, ◌==◌, ⊎_elim}
 use Rattle.std.proofs.lemmas.Bool.{false≢true, or_cases, or_left, or_right, eqb-true}
 use Rattle.std.specs.List.{list_any}
-use Rattle.pdl_model.specs.Tree.{R, W, Expr, Constant, Variable, Slice, Not, Binary, Cat, LessSigned, ZeroExtend, SignExtend, Choose, Location, Stmt, Separator, CombRead, Bind, SpecCall, DelayedRead, Write, Reserve, Block, Release, If, Call, Verify, SpecCheck, SpecBarrier, Mem}
-use Rattle.pdl_model.specs.Flatten.{Var, var_of, flat_expr, flat_exprs}
+use Rattle.pdl_semantics.specs.Tree.{R, W, Expr, Constant, Variable, Slice, Not, Binary, Cat, LessSigned, ZeroExtend, SignExtend, Choose, Location, Stmt, Separator, CombRead, Bind, SpecCall, DelayedRead, Write, Reserve, Block, Release, If, Call, Verify, SpecCheck, SpecBarrier, Mem}
+use Rattle.pdl_semantics.specs.Flatten.{Var, var_of, flat_expr, flat_exprs}
 use Rattle.pdl_rules.specs.Places.{Statement, Branch}
 use Rattle.pdl_rules.specs.Parts.{some_part}
 use Rattle.pdl_rules.specs.Names.{Use, OfVariable, OfMemory, OfGuess, reads, some_use}

@@ -2,10 +2,10 @@
 use Rattle.std.proofs.Common.{◌≡◌, refl, sym, ◌∙◌, ℕ, ◌≤◌, ◌<◌, ◌⊎◌, inl, inr, true, false, List, [], ◌∷◌, length, nat_lt, arith, ltb-true}
 use Rattle.std.proofs.lemmas.Bool.{not-true}
 use Rattle.std.specs.List.{list_any}
-use Rattle.pdl_model.specs.Tree.{Pipe}
-use Rattle.pdl_model.specs.Flat
-use Rattle.pdl_model.specs.Flatten.{flat}
-use Rattle.pdl_model.specs.Stages.{in_stage, commit_stage}
+use Rattle.pdl_semantics.specs.Tree.{Pipe}
+use Rattle.pdl_semantics.specs.Flat
+use Rattle.pdl_semantics.specs.Flatten.{flat}
+use Rattle.pdl_semantics.specs.Stages.{in_stage, commit_stage}
 use Rattle.pdl_rules.specs.Places.{places}
 use Rattle.pdl_rules.specs.Names.{OfVariable, defines}
 use Rattle.pdl_rules.specs.Refusal.{KeepsRules}

@@ -1,7 +1,7 @@
 -- What holds of each tree that is read from a source, besides the rules: where its `if`s begin, and that its names have letters.
 use Rattle.std.specs.Prelude.{ℕ, Bool, true, false, not, ◌&&◌, List, [], ◌∷◌, Option, Some, None}
 use Rattle.std.specs.List.{list_any}
-use Rattle.pdl_model.specs.Tree.{If, Pipe}
+use Rattle.pdl_semantics.specs.Tree.{If, Pipe}
 use Rattle.pdl_rules.specs.Names.{OfVariable, defines}
 use Rattle.pdl_rules.specs.Places.{Place, Statement, Guard, Shared, Own, guard_of, same_guard, places}
 

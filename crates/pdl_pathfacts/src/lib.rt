@@ -4,9 +4,9 @@
 #![tactic(auto)]
 
 ghost use Rattle.std.specs.Prelude.{ℕ, false, IsTrue, List};
-ghost use Rattle.pdl_model.specs.Tree.{Pipe};
-ghost use Rattle.pdl_model.specs.Flatten.{flat};
-ghost use Rattle.pdl_model.specs.Stages.{onpath, verify_stage};
+ghost use Rattle.pdl_semantics.specs.Tree.{Pipe};
+ghost use Rattle.pdl_semantics.specs.Flatten.{flat};
+ghost use Rattle.pdl_semantics.specs.Stages.{onpath, verify_stage};
 ghost use Rattle.pdl_rules.specs.Refusal.{KeepsRules};
 ghost use Rattle.pdl_facts.specs.Scans.{no_scan};
 ghost use Rattle.pdl_facts.specs.Certain.{Unmade, makings_ok, making_all, is_made, all_sure};

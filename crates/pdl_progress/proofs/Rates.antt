@@ -3,9 +3,9 @@ use Rattle.std.proofs.Common.{◌≡◌, refl, sym, ap, ap₂, ◌∙◌, subst,
 use Rattle.std.proofs.Math.Nat.{suc-mul}
 use Rattle.std.proofs.lemmas.List.{get_or-set_other, get_or-set_same, length-set}
 use Rattle.std.proofs.lemmas.Bool.{eqb-true, eqb-false}
-use Rattle.pdl_model.specs.Flat.{Arrays, Pipe, Stage, Next, Ends, Goes, Forks, Commit, start_env, of_mem}
-use Rattle.pdl_model.specs.Stages.{last_stage, stage_at, goes_to, onward, stages_on, guard_of_fork, fork_guards, longest, depth}
-use Rattle.pdl_model.specs.Sequential.{thread, writes_from, after_turns}
+use Rattle.pdl_semantics.specs.Flat.{Arrays, Pipe, Stage, Next, Ends, Goes, Forks, Commit, start_env, of_mem}
+use Rattle.pdl_semantics.specs.Stages.{last_stage, stage_at, goes_to, onward, stages_on, guard_of_fork, fork_guards, longest, depth}
+use Rattle.pdl_semantics.specs.Sequential.{thread, writes_from, after_turns}
 use Rattle.pdl_derived.specs.Derived.{Work, Thread, State, Act, act, acts, all_acts, survivors, moved_to, born, exit_of, cycle, turns_from, ended_in, waits_in, is_wait, commits_of, first, turns}
 use Rattle.pdl_derived.specs.Alone.{KeepsPace, oldest_moves}
 use Rattle.pdl_facts.specs.Graphs.{stage_or, next_of}

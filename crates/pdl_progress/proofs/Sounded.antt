@@ -1,12 +1,12 @@
 -- A pipe that passes the tests of the whole language has the facts that the theorems take.
 use Rattle.std.proofs.Common.{◌≡◌, refl, sym, ap, ap₂, ◌∙◌, subst, ℕ, zero, suc, ◌-◌, ◌≤◌, ◌<◌, ◌⊎◌, inl, inr, Bool, true, false, ◌&&◌, ◌||◌, not, List, [], ◌∷◌, length, Option, Some, None, is_none, nat_lt, nat_le, ◌==◌, cond, if◌then◌else◌, arith, slice_index, replicate, ltb-true, ltb-false, leb-true, lt-ltb, le_refl, eq-eqb}
 use Rattle.std.proofs.lemmas.Bool.{eqb-true, ne_eqb}
-use Rattle.pdl_model.specs.Flat.{list_all, Op, DelayedRead, Stmt, Guard, Next, Ends, Goes, Forks, Branch, Stage, Pipe, start_env}
-use Rattle.pdl_model.specs.Stages.{onpath, in_stage, stage_at, last_stage, is_inside, is_branch_of, is_reserve, mem_at, goes_to, commit_stage, reserve_stage, verify_stage, fork_guards}
-use Rattle.pdl_model.specs.Sound.{all_below}
+use Rattle.pdl_semantics.specs.Flat.{list_all, Op, DelayedRead, Stmt, Guard, Next, Ends, Goes, Forks, Branch, Stage, Pipe, start_env}
+use Rattle.pdl_semantics.specs.Stages.{onpath, in_stage, stage_at, last_stage, is_inside, is_branch_of, is_reserve, mem_at, goes_to, commit_stage, reserve_stage, verify_stage, fork_guards}
+use Rattle.pdl_semantics.specs.Sound.{all_below}
 use Rattle.pdl_derived.specs.Alone.{before, looked}
 use Rattle.pdl_facts.specs.Scans.{from, none_of, all_at, binds, is_fetch}
-use Rattle.pdl_model.specs.Cycle.{merges_by}
+use Rattle.pdl_semantics.specs.Cycle.{merges_by}
 use Rattle.pdl_facts.specs.Facts.{trunk_only}
 use Rattle.pdl_turns.proofs.Sounds.{none_looked}
 use Rattle.pdl_facts.specs.Graphs.{Trunk, stage_or, next_of, Below, Graph, on_side, goes_by, In, Branches}
@@ -35,9 +35,6 @@ any_at test (suc n) R h f = by_bool (test n) R (λ t. f n (omega arith) t) (λ e
         at true true k i = absurd (cc k)
         at true false k i = absurd (cc i)
         at false b k i = refl
-
-list_at : {X : Type 0} → (test : X → Bool) (x : X) (xs : List X) → list_all test (x ∷ xs) ≡ true → (test x ≡ true) × (list_all test xs ≡ true)
-list_at test x xs h = (and_left (test x) _ h, and_right (test x) _ h)
 
 -- what holds of the stages that may come next holds of the next one
 next_in : (p : Pipe) (test : ℕ → Bool) (s : ℕ) (env : List ℕ) → list_all test (nexts p s) ≡ true → test (next_of p s env) ≡ true
@@ -323,10 +320,6 @@ module _ (p : Pipe) (h : sounds p ≡ true) where
   unmerged : (v f b : ℕ) → verify_stage p.stmts ≡ Some v → is_inside p f b ≡ true → merges_by p f (Some v) ≡ false → v ≤ f
   unmerged v f b e i m =
       of_fork f b i (λ c j k. subst (λ g. v ≤ g) k (leb-true v c.fork (sym (ap (λ t. if t then nat_lt b v else nat_le v c.fork) (ap (λ g. merges_by p g (Some v)) k ∙ m)) ∙ whole_at v b c e j)))
-
-  -- a path agrees with one that was tried
-  picked_path : List ℕ → List ℕ
-  picked_path path = picks path (all_guards p) (start_env p [])
 
   zeros : (n : ℕ) → length {A = ℕ} (replicate n 0) ≡ n
   zeros zero = refl

@@ -1,8 +1,8 @@
 -- Paths by the values of their guards: each agrees with one that a test goes through.
 use Rattle.std.proofs.Common.{◌≡◌, refl, sym, ap, ap₂, ◌∙◌, subst, ℕ, ◌≤◌, ◌<◌, Bool, true, false, ◌&&◌, ◌||◌, not, List, [], ◌∷◌, length, nat_lt, nat_le, ◌==◌, cond, if◌then◌else◌, arith, slice_index, slice_set, ltb-true, ltb-false, leb-false, eq-eqb}
 use Rattle.std.proofs.lemmas.Bool.{eqb-true}
-use Rattle.pdl_model.specs.Flat.{list_all, Stmt, Guard, takes, taken}
-use Rattle.pdl_model.specs.Stages.{onpath}
+use Rattle.pdl_semantics.specs.Flat.{list_all, Stmt, Guard, takes, taken}
+use Rattle.pdl_semantics.specs.Stages.{onpath}
 use Rattle.pdl_derived.specs.Alone.{before, looked}
 use Rattle.pdl_facts.specs.Scans.{none_of}
 use Rattle.pdl_facts.specs.Facts.{DifferIn, fetches}

@@ -2,14 +2,14 @@
 use Rattle.std.proofs.Common.{◌≡◌, ◌≢◌, refl, sym, ap, ap₂, ◌∙◌, subst, ℕ, ◌≤◌, ◌<◌, ◌⊎◌, inl, inr, Bool, true, false, ◌&&◌, ◌||◌, not, List, [], ◌∷◌, ◌++◌, length, Option, Some, None, ◌==◌, nat_lt, cond, arith, append_assoc, is_none, is_some}
 use Rattle.std.proofs.lemmas.Bool.{eqb-true, eqb-false}
 use Rattle.std.proofs.Common.{ltb-false, lt-ltb, le_of_eq, le_refl, le_of_lt, lt_of_lt_of_le}
-use Rattle.pdl_model.specs.Flat.{Arrays, Pipe, Branch, of_mem, list_all, start_env}
-use Rattle.pdl_model.specs.Stages.{stage_at, mem_at, goes_to, commit_stage, reserve_stage}
-use Rattle.pdl_model.specs.Locks.{Nothing}
-use Rattle.pdl_model.specs.Machine.{Ask, answers}
-use Rattle.pdl_model.specs.Cycle.{awaited_of}
-use Rattle.pdl_model.specs.Moves.{is_empty}
-use Rattle.pdl_model.specs.Sequential.{thread}
-use Rattle.pdl_model.specs.Promises.{wrote, row}
+use Rattle.pdl_semantics.specs.Flat.{Arrays, Pipe, Branch, of_mem, list_all, start_env}
+use Rattle.pdl_semantics.specs.Stages.{stage_at, mem_at, goes_to, commit_stage, reserve_stage}
+use Rattle.pdl_semantics.specs.Locks.{Nothing}
+use Rattle.pdl_semantics.specs.Machine.{Ask, answers}
+use Rattle.pdl_semantics.specs.Cycle.{awaited_of}
+use Rattle.pdl_semantics.specs.Moves.{is_empty}
+use Rattle.pdl_semantics.specs.Sequential.{thread}
+use Rattle.pdl_semantics.specs.Promises.{wrote, row}
 use Rattle.pdl_derived.specs.Derived.{Work, Thread, State, Act, works, around, act, acts, latest, latest_in, befores, can_enter, commits_of, asks_of, find_ask, next_asks, moved_to, fresh, answered, awaits_mem}
 use Rattle.pdl_derived.specs.Alone.{so_far, placed}
 use Rattle.pdl_derived.proofs.Writes.{and_left, and_right, wrote_append}
@@ -23,10 +23,6 @@ use Rattle.pdl_turns.proofs.Courses.{Course, AskOk, onward}
 use Rattle.pdl_turns.proofs.Under.{Under, AllUnder, Stepped, all_low, all_grow, all_step, not_next, fresh_under}
 use Rattle.pdl_derived.proofs.Answering.{apart_still, AllAsks, all_more, all_both, all_still, Out, new_out, all_out, or_ask, find_append, found, held_port, answers_caught}
 use Rattle.pdl_refinement.proofs.Spots.{Spot, seat, now_spot, Sure, Waits, Here, Standing, Behind, plain_clean, surrounds, words_right, whole_now}
-
-by_bool : (b : Bool) (R : Type 0) → (b ≡ true → R) → (b ≡ false → R) → R
-by_bool true R f g = f refl
-by_bool false R f g = g refl
 
 clash : false ≡ true → ⊥
 clash k = cc

@@ -4,12 +4,12 @@ use Rattle.std.specs.List.{AllByRecursion, IsDistinct, list_any}
 use Rattle.std.proofs.lemmas.Map.Steps.{length-le_from_distinct_below}
 use Rattle.std.proofs.lemmas.Bool.{eqb-true, ne_eqb}
 use Rattle.std.proofs.Common.{eqb}
-use Rattle.pdl_model.specs.Flat.{Arrays, Pipe, Mem, Branch, Commit, of_mem, committed}
-use Rattle.pdl_model.specs.Stages.{mem_at, commit_stage}
-use Rattle.pdl_model.specs.Cycle.{awaited_of}
-use Rattle.pdl_model.specs.Machine.{Ask}
-use Rattle.pdl_model.specs.Sequential.{thread, writes_from, seqwrites, after_turns}
-use Rattle.pdl_model.specs.Promises.{wrote, row, IsPrefix}
+use Rattle.pdl_semantics.specs.Flat.{Arrays, Pipe, Mem, Branch, Commit, of_mem, committed}
+use Rattle.pdl_semantics.specs.Stages.{mem_at, commit_stage}
+use Rattle.pdl_semantics.specs.Cycle.{awaited_of}
+use Rattle.pdl_semantics.specs.Machine.{Ask}
+use Rattle.pdl_semantics.specs.Sequential.{thread, writes_from, seqwrites, after_turns}
+use Rattle.pdl_semantics.specs.Promises.{wrote, row, IsPrefix}
 use Rattle.pdl_derived.specs.Derived.{Work, Thread, State, Act, acts, all_acts, survivors, commits_of, asks_of, next_asks, cycle, after, first, nothing_asked, turns, turns_from, state_after, all_commits, ended_in, is_wait}
 use Rattle.pdl_derived.specs.Alone.{so_far, Refines, Advances, oldest_moves}
 use Rattle.pdl_facts.specs.Scans.{is_plain}

@@ -4,5 +4,4 @@ pub mod Cycles
 pub mod Turning
 pub mod Follows
 pub mod Cycle
-pub mod LastTurn
 pub mod Refine

@@ -1,13 +1,13 @@
 -- The live threads in the whole language: each on its turn, in a stage of its path, with the answers that it still awaits.
 use Rattle.std.proofs.Common.{◌≡◌, refl, sym, ap, ap₂, ◌∙◌, ℕ, ◌≤◌, ◌<◌, Bool, true, false, not, List, [], ◌∷◌, ◌++◌, length, Option, Some, None, is_some, nat_lt, if◌then◌else◌, arith}
-use Rattle.pdl_model.specs.Flat.{Arrays, Array, Pipe, Lock, Plain, Queue, Bypass, Rename, of_mem, word_at}
-use Rattle.pdl_model.specs.Stages.{mem_at, commit_stage, reserve_stage}
-use Rattle.pdl_model.specs.Locks.{Latest, Nothing, Coming, Known, value_or, read_ready, is_nothing}
-use Rattle.pdl_model.specs.Machine.{Ask}
-use Rattle.pdl_model.specs.Cycle.{awaited_of}
-use Rattle.pdl_model.specs.Moves.{is_empty}
-use Rattle.pdl_model.specs.Sequential.{thread}
-use Rattle.pdl_model.specs.Promises.{wrote, row}
+use Rattle.pdl_semantics.specs.Flat.{Arrays, Array, Pipe, Lock, Plain, Queue, Bypass, Rename, of_mem, word_at}
+use Rattle.pdl_semantics.specs.Stages.{mem_at, commit_stage, reserve_stage}
+use Rattle.pdl_semantics.specs.Locks.{Latest, Nothing, Coming, Known, value_or, read_ready, is_nothing}
+use Rattle.pdl_semantics.specs.Machine.{Ask}
+use Rattle.pdl_semantics.specs.Cycle.{awaited_of}
+use Rattle.pdl_semantics.specs.Moves.{is_empty}
+use Rattle.pdl_semantics.specs.Sequential.{thread}
+use Rattle.pdl_semantics.specs.Promises.{wrote, row}
 use Rattle.pdl_derived.specs.Derived.{Thread, State, Act, around, latest, befores, answered, with_answers}
 use Rattle.pdl_derived.specs.Alone.{so_far, placed}
 use Rattle.pdl_derived.proofs.Writes.{wrote_append}

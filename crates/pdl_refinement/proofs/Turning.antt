@@ -3,10 +3,10 @@ use Rattle.std.proofs.Common.{◌≡◌, ◌≢◌, refl, sym, ap, ap₂, ◌∙
 use Rattle.std.proofs.lemmas.Bool.Decides.{leb_tells}
 use Rattle.std.proofs.Math.Bool.{or-false}
 use Rattle.std.proofs.Common.{ltb-true, ltb-false, lt-ltb, le_refl, le_of_lt, lt_of_le_of_lt}
-use Rattle.pdl_model.specs.Flat.{Arrays, Pipe, of_mem}
-use Rattle.pdl_model.specs.Stages.{stage_at, goes_to, commit_stage}
-use Rattle.pdl_model.specs.Machine.{Ask, same_args}
-use Rattle.pdl_model.specs.Sequential.{thread}
+use Rattle.pdl_semantics.specs.Flat.{Arrays, Pipe, of_mem}
+use Rattle.pdl_semantics.specs.Stages.{stage_at, goes_to, commit_stage}
+use Rattle.pdl_semantics.specs.Machine.{Ask, same_args}
+use Rattle.pdl_semantics.specs.Sequential.{thread}
 use Rattle.pdl_derived.specs.Derived.{Work, Thread, State, Act, act, acts, befores, survivors, commits_of, next_asks, moved_to, born, fresh, exit_of, barrier_clear}
 use Rattle.pdl_derived.specs.Alone.{so_far}
 use Rattle.pdl_derived.proofs.Stages.{or_else}

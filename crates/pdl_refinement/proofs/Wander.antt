@@ -1,9 +1,9 @@
 -- Threads after a wrong guess, in the whole language, commit nothing, and stay behind the thread that guessed.
 use Rattle.std.proofs.Common.{◌≡◌, refl, sym, ap, ap₂, ◌∙◌, subst, ℕ, ◌≤◌, ◌<◌, Bool, true, false, ◌&&◌, ◌||◌, not, List, [], ◌∷◌, ◌++◌, length, Option, Some, None, is_none, is_some, nat_lt, cond, if◌then◌else◌, arith, le_of_lt, le_refl, ltb-true, ltb-false, lt_of_lt_of_le, lt-ltb}
-use Rattle.pdl_model.specs.Flat.{Pipe}
-use Rattle.pdl_model.specs.Stages.{list_any, verify_stage}
-use Rattle.pdl_model.specs.Machine.{Awaited}
-use Rattle.pdl_model.specs.Moves.{is_empty}
+use Rattle.pdl_semantics.specs.Flat.{Pipe}
+use Rattle.pdl_semantics.specs.Stages.{list_any, verify_stage}
+use Rattle.pdl_semantics.specs.Machine.{Awaited}
+use Rattle.pdl_semantics.specs.Moves.{is_empty}
 use Rattle.pdl_derived.specs.Derived.{Thread, State, Act, works, around, act, acts, befores, survivors, commits_of, moved_to, born, exit_of, barrier_clear, answered}
 use Rattle.pdl_derived.proofs.Writes.{and_left, and_right}
 use Rattle.pdl_turns.proofs.TurnFacts.{Below, Trunk, next_of}

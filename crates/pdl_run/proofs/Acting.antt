@@ -1,10 +1,10 @@
 -- The acts of those who move, by the stated machine and as the program keeps them, and what depends on no more of them than the program keeps.
 use Rattle.std.proofs.Common.{◌≡◌, refl, sym, ap, ap₂, ◌∙◌, ℕ, suc, Bool, true, false, ◌||◌, if◌then◌else◌, ◌==◌, List, [], ◌∷◌, ◌++◌, map, Option, Some, None, is_some, length}
 use Rattle.std.proofs.lemmas.List.{map-append}
-use Rattle.pdl_model.specs.Stages.{list_any}
-use Rattle.pdl_model.specs.Machine.{Pending, Request, Thread, State, Deeds}
-use Rattle.pdl_model.specs.Moves.{Act}
-use Rattle.pdl_model.specs.Cycle.{new_entries, appended, put_all, filled, releases, squasher, child_of, asked_of, asked_by}
+use Rattle.pdl_semantics.specs.Stages.{list_any}
+use Rattle.pdl_semantics.specs.Machine.{Pending, Request, Thread, State, Deeds}
+use Rattle.pdl_semantics.specs.Moves.{Act}
+use Rattle.pdl_semantics.specs.Cycle.{new_entries, appended, put_all, filled, releases, squasher, child_of, asked_of, asked_by}
 use Rattle.pdl_machine_facts.specs.Slots.{slot, here, goes, with_now, mover, movers_from}
 use Rattle.pdl_form.specs.Form.{Form}
 use Rattle.pdl_pending.specs.Memory.{Memory}

@@ -2,11 +2,11 @@
 use Rattle.std.proofs.Common.{◌≡◌, refl, sym, ap₂, ◌∙◌, ℕ, suc, ◌+◌, ◌*◌, ◌≤◌, Bool, true, false, if◌then◌else◌, List, [], ◌∷◌, ◌++◌, Option, Some, None, length, length-append, take, drop, Vec, Global, ap, arith}
 use Rattle.std.specs.Vec.{with_items}
 use Rattle.std.proofs.lemmas.List.{append-nil, drop_all, take_all}
-use Rattle.pdl_model.specs.Flat.{Lock, Plain, Queue, Bypass, Rename, Mem, Stage, Pipe}
-use Rattle.pdl_model.specs.Machine.{State}
-use Rattle.pdl_model.specs.Moves.{Act}
-use Rattle.pdl_model.specs.Cycle.{PortWrite, for_stages, for_mems}
-use Rattle.pdl_model.specs.Cycle as stated
+use Rattle.pdl_semantics.specs.Flat.{Lock, Plain, Queue, Bypass, Rename, Mem, Stage, Pipe}
+use Rattle.pdl_semantics.specs.Machine.{State}
+use Rattle.pdl_semantics.specs.Moves.{Act}
+use Rattle.pdl_semantics.specs.Cycle.{PortWrite, for_stages, for_mems}
+use Rattle.pdl_semantics.specs.Cycle as stated
 use Rattle.pdl_word.specs.Words.{bit}
 use Rattle.pdl_machine_facts.specs.Ports.{stage_values, commit_values, all_commit_values, port_values}
 use Rattle.pdl_run.specs.Outputs.{commit_count, all_commit_count, output_count}

@@ -2,18 +2,17 @@
 use Rattle.std.proofs.Common.{◌≡◌, refl, sym, ap, ap₂, ◌∙◌, subst, ℕ, zero, suc, ◌+◌, ◌-◌, ◌<◌, ◌≤◌, Bool, false, if◌then◌else◌, List, [], ◌∷◌, ◌++◌, map, Option, Some, None, is_some, length, slice_index, slice_index_or, arith}
 use Rattle.std.proofs.lemmas.List.{length-map}
 use Rattle.pdl_word.specs.Words.{bit}
-use Rattle.pdl_model.specs.Flat.{Mem, Stage, arrays_of, Pipe}
-use Rattle.pdl_model.specs.Stages.{plain_mem}
-use Rattle.pdl_model.specs.Machine.{Thread, Request, NoRequest, State, lock_of}
-use Rattle.pdl_model.specs.Moves.{Act, all_acts}
-use Rattle.pdl_model.specs.Moves as model
-use Rattle.pdl_model.specs.Cycle.{for_mems, for_stages, or_then, born, child_of, squasher, asked_by, with_commits, entries_left, list_three, taken_out, port_write, fork_next, branches_left, request_next, request_left, after_these, cycle, Ports, ports_these}
-use Rattle.pdl_model.specs.Cycle as stated
+use Rattle.pdl_semantics.specs.Flat.{Mem, Stage, arrays_of, Pipe}
+use Rattle.pdl_semantics.specs.Stages.{plain_mem}
+use Rattle.pdl_semantics.specs.Machine.{Thread, Request, NoRequest, State, lock_of}
+use Rattle.pdl_semantics.specs.Moves.{Act, all_acts}
+use Rattle.pdl_semantics.specs.Moves as model
+use Rattle.pdl_semantics.specs.Cycle.{for_mems, for_stages, or_then, born, child_of, squasher, asked_by, with_commits, entries_left, list_three, taken_out, port_write, fork_next, branches_left, request_next, request_left, after_these, cycle, Ports, ports_these}
+use Rattle.pdl_semantics.specs.Cycle as stated
 use Rattle.pdl_machine_facts.specs.Slots.{slot, goes, movers_from, moving}
 use Rattle.pdl_machine_facts.specs.Cycle.{IsByStages, ports_of}
 use Rattle.pdl_machine_facts.specs.Ports.{stage_values, all_commit_values, port_values}
 use Rattle.pdl_machine_facts.proofs.StagewisePorts.{stages_below}
-use Rattle.pdl_machine_facts.proofs.Fits.{fit_simple}
 use Rattle.pdl_form.specs.Form.{Form}
 use Rattle.pdl_pending.specs.Memory.{Memory}
 use Rattle.pdl_run.specs.declared.stage.Stage as r_stage
@@ -208,7 +207,7 @@ module _ (f : Form) (run : IsRunnable f) (zs : List r_stage.Stage) (xs : List Me
         ap₂ stage_values (sym (holds_at 0 zs p.stages (sym count) at)) (sym (moves_at 0 zs p.stages (sym count) go)) ∙ ap₂ stage_values (sym by.valid) (sym by.moves) in
         let second : commits_shown 0 ms xs ≡ all_commit_values p.mems o.commits =
         sym (commits_after st movers ms kept_movers 0 p.mems xs mems locked (λ i e less. kinds i e less)) in
-        let some : 1 ≤ length zs = subst (λ n. 1 ≤ n) (sym count) (fit_simple p run.simple).some in
+        let some : 1 ≤ length zs = subst (λ n. 1 ≤ n) (sym count) run.simple.fit.some in
         let third : bit (slice_index_or (movings zs) (length zs - 1) false) ∷ 0 ∷ [] ≡ bit o.ended ∷ bit o.squash ∷ [] =
         ap₂ (λ (b c : Bool). bit b ∷ bit c ∷ [])
         (sym (go_last some) ∙ sym by.ended)

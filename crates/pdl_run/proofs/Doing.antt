@@ -1,7 +1,7 @@
 -- What the statements of a stage do, one after the other.
 use Rattle.std.proofs.Common.{◌≡◌, refl, sym, ap, ap₂, ◌∙◌, ℕ, Bool, true, false, ◌&&◌, if◌then◌else◌, List, [], ◌∷◌, Some}
-use Rattle.pdl_model.specs.Flat.{Op, Bind, CombRead, DelayedRead, Write, ReserveRead, ReserveWrite, Block, Release, Call, SpecCall, Verify, SpecCheck, SpecBarrier, Stmt, taken, values_of}
-use Rattle.pdl_model.specs.Machine.{Deeds, same_args, does, does_all}
+use Rattle.pdl_semantics.specs.Flat.{Op, Bind, CombRead, DelayedRead, Write, ReserveRead, ReserveWrite, Block, Release, Call, SpecCall, Verify, SpecCheck, SpecBarrier, Stmt, taken, values_of}
+use Rattle.pdl_semantics.specs.Machine.{Deeds, same_args, does, does_all}
 use Rattle.pdl_pending.specs.Memory.{Memory}
 use Rattle.pdl_run.specs.Doing.{word_of, strip, lets_move, all_let_move}
 

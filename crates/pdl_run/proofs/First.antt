@@ -1,10 +1,10 @@
 -- What a machine begins with.
 use Rattle.std.proofs.Common.{◌≡◌, refl, sym, ap, ap₂, ◌∙◌, subst, ℕ, zero, suc, ◌+◌, ◌^◌, ◌<◌, ◌≤◌, Bool, false, if◌then◌else◌, ◌==◌, List, [], ◌∷◌, ◌++◌, map, Option, Some, None, length, replicate, slice_index, slice_index_or, get_or, ◌⊎◌, inl, inr, arith}
 use Rattle.std.proofs.lemmas.List.{length-map, length-replicate}
-use Rattle.pdl_model.specs.Flat.{Lock, Mem, Stage, Pipe, arrays_of, start_env}
-use Rattle.pdl_model.specs.Stages.{plain_mem, mem_at}
-use Rattle.pdl_model.specs.Machine.{Thread, Pending, NoRequest}
-use Rattle.pdl_model.specs.Cycle.{born, first, for_mems, for_stages}
+use Rattle.pdl_semantics.specs.Flat.{Lock, Mem, Stage, Pipe, arrays_of, start_env}
+use Rattle.pdl_semantics.specs.Stages.{plain_mem, mem_at}
+use Rattle.pdl_semantics.specs.Machine.{Thread, Pending, NoRequest}
+use Rattle.pdl_semantics.specs.Cycle.{born, first, for_mems, for_stages}
 use Rattle.pdl_form.specs.declared.form.Mem as r_mem
 use Rattle.pdl_form.specs.View.{mem_view, mems_view, lock_view}
 use Rattle.pdl_form.specs.Form.{Form}

@@ -2,9 +2,9 @@
 use Rattle.std.proofs.Common.{◌≡◌, ◌≢◌, refl, sym, ap, ◌∙◌, subst, ℕ, zero, suc, ◌^◌, ◌<◌, ◌≤◌, Bool, true, false, if◌then◌else◌, ◌==◌, List, [], ◌∷◌, ◌++◌, length, take, slice_index, slice_set, arith}
 use Rattle.std.proofs.lemmas.List.{length-set, get_or-set_same, get_or-set_other}
 use Rattle.std.proofs.lemmas.Bool.{eqb-true}
-use Rattle.pdl_model.specs.Flat.{Expr, Op, Bind, CombRead, DelayedRead, Write, ReserveRead, ReserveWrite, Block, Release, Call, SpecCall, Verify, SpecCheck, SpecBarrier, Stmt, Pipe, taken, value_of, values_of}
-use Rattle.pdl_model.specs.Stages.{in_stage, mem_at}
-use Rattle.pdl_model.specs.Machine.{Deeds, Reserved, Written, does, does_all}
+use Rattle.pdl_semantics.specs.Flat.{Expr, Op, Bind, CombRead, DelayedRead, Write, ReserveRead, ReserveWrite, Block, Release, Call, SpecCall, Verify, SpecCheck, SpecBarrier, Stmt, Pipe, taken, value_of, values_of}
+use Rattle.pdl_semantics.specs.Stages.{in_stage, mem_at}
+use Rattle.pdl_semantics.specs.Machine.{Deeds, Reserved, Written, does, does_all}
 use Rattle.pdl_form.specs.Form.{Form, stmt_at}
 use Rattle.pdl_formtypes.specs.Stmts.{param_widths, AreWidths, AreArguments}
 use Rattle.pdl_values.specs.Widths.{Fit}

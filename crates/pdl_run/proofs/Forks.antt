@@ -1,9 +1,9 @@
 -- What doesn't change where stages stand in a line and memories answer at once: forks and requests.
 use Rattle.std.proofs.Common.{◌≡◌, refl, ap, ap₂, ◌∙◌, ℕ, zero, suc, Bool, true, false, if◌then◌else◌, ◌==◌, List, [], ◌∷◌, ◌++◌, Option, Some, None, slice_index_or}
-use Rattle.pdl_model.specs.Flat.{Mem, Stage, Pipe}
-use Rattle.pdl_model.specs.Machine.{State, Request, NoRequest, fork_of, request_of, answers}
-use Rattle.pdl_model.specs.Moves.{Act, next_stage}
-use Rattle.pdl_model.specs.Cycle.{for_stages, for_mems, goes_into, entered, left, but_first, fork_next, branches_left, asked_by, request_next, request_left}
+use Rattle.pdl_semantics.specs.Flat.{Mem, Stage, Pipe}
+use Rattle.pdl_semantics.specs.Machine.{State, Request, NoRequest, fork_of, request_of, answers}
+use Rattle.pdl_semantics.specs.Moves.{Act, next_stage}
+use Rattle.pdl_semantics.specs.Cycle.{for_stages, for_mems, goes_into, entered, left, but_first, fork_next, branches_left, asked_by, request_next, request_left}
 use Rattle.pdl_machine_facts.specs.Linear.{IsLinear}
 
 empty_fork : (ys : List Stage) (k f : ℕ) → slice_index_or {A = List Bool} (for_stages (λ i. []) k ys) f [] ≡ []

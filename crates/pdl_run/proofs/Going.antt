@@ -1,10 +1,10 @@
 -- Which threads move, by the stated machine and as the program decides it.
 use Rattle.std.proofs.Common.{◌≡◌, refl, sym, ap, ap₂, ◌∙◌, ℕ, suc, ◌+◌, ◌<◌, Bool, true, false, ◌&&◌, ◌||◌, not, List, [], ◌∷◌, Option, Some, None, is_none, drop, length, slice_index_or, arith}
 use Rattle.std.specs.Prelude.{⊤}
-use Rattle.pdl_model.specs.Flat.{list_all}
-use Rattle.pdl_model.specs.Stages.{in_stage, stage_at, goes_to, verify_stage}
-use Rattle.pdl_model.specs.Machine.{Ask, Thread, State, Deeds, deeds, word_for, with_answers, held_before, request_of, answers, Place}
-use Rattle.pdl_model.specs.Moves.{Act, next_stage, acts, moves, no_failure, none_up_to, merges_well, may_merge, is_free}
+use Rattle.pdl_semantics.specs.Flat.{list_all}
+use Rattle.pdl_semantics.specs.Stages.{in_stage, stage_at, goes_to, verify_stage}
+use Rattle.pdl_semantics.specs.Machine.{Ask, Thread, State, Deeds, deeds, word_for, with_answers, held_before, request_of, answers, Place}
+use Rattle.pdl_semantics.specs.Moves.{Act, next_stage, acts, moves, no_failure, none_up_to, merges_well, may_merge, is_free}
 use Rattle.pdl_machine_facts.specs.Slots.{slot, here, behind, goes, goes_of, with_now, may_pass, may_enter, is_ready}
 use Rattle.pdl_machine_facts.specs.Cycle.{IsByStages}
 use Rattle.pdl_machine_facts.specs.Linear.{IsLinear}

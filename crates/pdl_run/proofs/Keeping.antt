@@ -4,12 +4,12 @@ use Rattle.std.specs.Prelude.{⊤, IfSome}
 use Rattle.std.proofs.lemmas.List.{length-set}
 use Rattle.std.proofs.lemmas.Nat.{pow_pos}
 use Rattle.std.proofs.lemmas.Bool.{eqb-true, ltb-true}
-use Rattle.pdl_model.specs.Flat.{list_all, Lock, Plain, Queue, Bypass, Rename, Pipe}
-use Rattle.pdl_model.specs.Stages.{in_stage, mem_at}
-use Rattle.pdl_model.specs.Locks.{has_room, commit_value}
-use Rattle.pdl_model.specs.Machine.{Pending, Reserved, Written, State, Deeds, lock_of, does_all}
-use Rattle.pdl_model.specs.Moves.{Act, blocks_ready, have_room}
-use Rattle.pdl_model.specs.Cycle.{new_entries, appended, put, put_all, filled, releases, oldest, but_oldest}
+use Rattle.pdl_semantics.specs.Flat.{list_all, Lock, Plain, Queue, Bypass, Rename, Pipe}
+use Rattle.pdl_semantics.specs.Stages.{in_stage, mem_at}
+use Rattle.pdl_semantics.specs.Locks.{has_room, commit_value}
+use Rattle.pdl_semantics.specs.Machine.{Pending, Reserved, Written, State, Deeds, lock_of, does_all}
+use Rattle.pdl_semantics.specs.Moves.{Act, blocks_ready, have_room}
+use Rattle.pdl_semantics.specs.Cycle.{new_entries, appended, put, put_all, filled, releases, oldest, but_oldest}
 use Rattle.pdl_lockapi.specs.Forget.{addresses_of, addresses}
 use Rattle.pdl_machine_facts.specs.Slots.{is_ready}
 use Rattle.pdl_machine_facts.proofs.UsingLists.{as_many}

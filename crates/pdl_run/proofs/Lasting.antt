@@ -3,12 +3,12 @@ use Rattle.std.proofs.Common.{◌≡◌, refl, sym, ap, ◌∙◌, subst, ℕ, z
 use Rattle.std.specs.Prelude.{IfSome}
 use Rattle.std.proofs.lemmas.List.{length-replicate}
 use Rattle.std.proofs.lemmas.Nat.{pow_pos}
-use Rattle.pdl_model.specs.Flat.{Op, Stmt, Pipe, taken, start_env}
-use Rattle.pdl_model.specs.Flat as flat
-use Rattle.pdl_model.specs.Stages.{in_stage}
-use Rattle.pdl_model.specs.Machine.{Place, Thread, State, Deeds, deeds, does_all, let_go, held_after, held_before}
-use Rattle.pdl_model.specs.Moves.{Act, next_stage}
-use Rattle.pdl_model.specs.Cycle.{is_stage, child_of}
+use Rattle.pdl_semantics.specs.Flat.{Op, Stmt, Pipe, taken, start_env}
+use Rattle.pdl_semantics.specs.Flat as flat
+use Rattle.pdl_semantics.specs.Stages.{in_stage}
+use Rattle.pdl_semantics.specs.Machine.{Place, Thread, State, Deeds, deeds, does_all, let_go, held_after, held_before}
+use Rattle.pdl_semantics.specs.Moves.{Act, next_stage}
+use Rattle.pdl_semantics.specs.Cycle.{is_stage, child_of}
 use Rattle.pdl_machine_facts.specs.Slots.{slot, with_now}
 use Rattle.pdl_machine_facts.specs.Linear.{IsLinear}
 use Rattle.pdl_machine_facts.specs.Use.{IsInUse}

@@ -1,9 +1,9 @@
 -- Who stands in each stage after a cycle.
 use Rattle.std.proofs.Common.{◌≡◌, refl, sym, ap, ap₂, ◌∙◌, subst, ℕ, zero, suc, ◌+◌, ◌<◌, Bool, true, false, if◌then◌else◌, ◌==◌, List, [], ◌∷◌, map, Option, Some, None, length, slice_index_or, arith}
 use Rattle.std.proofs.lemmas.Bool.{eqb-true, false_from_ne_true}
-use Rattle.pdl_model.specs.Stages.{in_stage, stage_at}
-use Rattle.pdl_model.specs.Machine.{Ask, Place, Thread, State, Deeds, deeds, does_all, held_before, word_for}
-use Rattle.pdl_model.specs.Cycle.{or_then, if_stays, is_stage, moved, awaited_of, born, child_of, squasher, cycle}
+use Rattle.pdl_semantics.specs.Stages.{in_stage, stage_at}
+use Rattle.pdl_semantics.specs.Machine.{Ask, Place, Thread, State, Deeds, deeds, does_all, held_before, word_for}
+use Rattle.pdl_semantics.specs.Cycle.{or_then, if_stays, is_stage, moved, awaited_of, born, child_of, squasher, cycle}
 use Rattle.pdl_machine_facts.specs.Slots.{slot, here, goes, with_now, act_at, reaches, ways_from, ways, passed, passes, first_of, arrives, stays}
 use Rattle.pdl_machine_facts.specs.Slots as stated
 use Rattle.pdl_machine_facts.specs.Cycle.{newborn, IsByStages}

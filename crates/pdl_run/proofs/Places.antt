@@ -1,8 +1,8 @@
 -- Where a location stands, by whether it is held.
 use Rattle.std.proofs.Common.{◌≡◌, refl, sym, ap, ap₂, ◌∙◌, ℕ, suc, ◌+◌, ◌<◌, ◌≤◌, Bool, true, false, ◌&&◌, ◌||◌, if◌then◌else◌, ◌==◌, List, [], ◌∷◌, ◌++◌, map, take, drop, length, arith}
 use Rattle.std.proofs.lemmas.List.{length-map, map-append, take-map, drop-map}
-use Rattle.pdl_model.specs.Machine.{Place}
-use Rattle.pdl_model.specs.Machine as machine
+use Rattle.pdl_semantics.specs.Machine.{Place}
+use Rattle.pdl_semantics.specs.Machine as machine
 use Rattle.pdl_run.specs.declared.place.Place as r_place
 use Rattle.pdl_run.specs.View.{place_view}
 use Rattle.pdl_run.specs.Places.{place_index}

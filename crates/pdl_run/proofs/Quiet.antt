@@ -1,8 +1,8 @@
 -- In a typed pipe nothing fails, nothing is asked for, and nobody guesses.
 use Rattle.std.proofs.Common.{◌≡◌, refl, ℕ, Bool, true, false, if◌then◌else◌, ◌==◌, List, [], ◌∷◌, None}
-use Rattle.pdl_model.specs.Flat.{Op, Bind, CombRead, DelayedRead, Write, ReserveRead, ReserveWrite, Block, Release, Call, SpecCall, Verify, SpecCheck, SpecBarrier, Stmt, taken}
-use Rattle.pdl_model.specs.Stages.{in_stage, is_verify, verify_stage}
-use Rattle.pdl_model.specs.Machine.{Deeds, does, does_all}
+use Rattle.pdl_semantics.specs.Flat.{Op, Bind, CombRead, DelayedRead, Write, ReserveRead, ReserveWrite, Block, Release, Call, SpecCall, Verify, SpecCheck, SpecBarrier, Stmt, taken}
+use Rattle.pdl_semantics.specs.Stages.{in_stage, is_verify, verify_stage}
+use Rattle.pdl_semantics.specs.Machine.{Deeds, does, does_all}
 use Rattle.pdl_form.specs.Form.{Form}
 use Rattle.pdl_run.specs.Typed.{IsServed, AreServed}
 

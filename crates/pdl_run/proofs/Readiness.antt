@@ -1,11 +1,11 @@
 -- What a thread's statements find in a state of the stated machine, and whether its locks let the thread move, is what the program finds in its memories.
 use Rattle.std.proofs.Common.{◌≡◌, refl, sym, ap, ap₂, ◌∙◌, ℕ, Bool, true, false, ◌&&◌, if◌then◌else◌, List, [], ◌∷◌, ◌++◌, length, slice_index}
 use mathlib.Core.Path.{fun_ext}
-use Rattle.pdl_model.specs.Flat.{list_all, Op, Bind, CombRead, DelayedRead, Write, ReserveRead, ReserveWrite, Block, Release, Call, SpecCall, Verify, SpecCheck, SpecBarrier, Lock, Stmt, Pipe, taken}
-use Rattle.pdl_model.specs.Stages.{mem_at, in_stage}
-use Rattle.pdl_model.specs.Locks.{Latest, Nothing, value_or, read_ready, write_ready, has_room}
-use Rattle.pdl_model.specs.Machine.{Pending, State, lock_of, Deeds, Place, Blocked, Reserved, youngest, does, does_all, word_for, older_write, deeds, is_held, held_before}
-use Rattle.pdl_model.specs.Moves.{block_ready, blocks_ready, have_room}
+use Rattle.pdl_semantics.specs.Flat.{list_all, Op, Bind, CombRead, DelayedRead, Write, ReserveRead, ReserveWrite, Block, Release, Call, SpecCall, Verify, SpecCheck, SpecBarrier, Lock, Stmt, Pipe, taken}
+use Rattle.pdl_semantics.specs.Stages.{mem_at, in_stage}
+use Rattle.pdl_semantics.specs.Locks.{Latest, Nothing, value_or, read_ready, write_ready, has_room}
+use Rattle.pdl_semantics.specs.Machine.{Pending, State, lock_of, Deeds, Place, Blocked, Reserved, youngest, does, does_all, word_for, older_write, deeds, is_held, held_before}
+use Rattle.pdl_semantics.specs.Moves.{block_ready, blocks_ready, have_room}
 use Rattle.pdl_machine_facts.specs.Slots.{is_ready}
 use Rattle.pdl_form.specs.Form.{Form}
 use Rattle.pdl_pending.specs.Memory.{Memory}

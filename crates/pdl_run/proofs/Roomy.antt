@@ -1,17 +1,16 @@
 -- The memories before a cycle can take it, and have their widths and their room after it.
 use Rattle.std.proofs.Common.{◌≡◌, refl, sym, ap, ◌∙◌, subst, ℕ, zero, suc, ◌+◌, ◌^◌, ◌<◌, ◌≤◌, Bool, true, false, if◌then◌else◌, List, [], ◌∷◌, ◌++◌, Option, None, length, ◌⊎◌, inl, inr, arith}
 use Rattle.std.specs.Prelude.{IfSome}
-use Rattle.pdl_model.specs.Flat.{Lock, Plain, Pipe}
-use Rattle.pdl_model.specs.Stages.{mem_at}
-use Rattle.pdl_model.specs.Machine.{Pending, State, lock_of}
-use Rattle.pdl_model.specs.Moves.{Act, all_acts}
-use Rattle.pdl_model.specs.Moves as model
-use Rattle.pdl_model.specs.Cycle.{releases, oldest, entries_left, list_three, cycle, first, state_after}
+use Rattle.pdl_semantics.specs.Flat.{Lock, Plain, Pipe}
+use Rattle.pdl_semantics.specs.Stages.{mem_at}
+use Rattle.pdl_semantics.specs.Machine.{Pending, State, lock_of}
+use Rattle.pdl_semantics.specs.Moves.{Act, all_acts}
+use Rattle.pdl_semantics.specs.Moves as model
+use Rattle.pdl_semantics.specs.Cycle.{releases, oldest, entries_left, list_three, cycle, first, state_after}
 use Rattle.pdl_lockapi.specs.Forget.{addresses_of, addresses}
 use Rattle.pdl_machine_facts.specs.Slots.{moving}
 use Rattle.pdl_machine_facts.specs.Cycle.{IsByStages}
 use Rattle.pdl_machine_facts.specs.Use.{IsInUse}
-use Rattle.pdl_machine_facts.proofs.Fits.{fit_simple}
 use Rattle.pdl_form.specs.Form.{Form}
 use Rattle.pdl_pending.specs.Memory.{Memory}
 use Rattle.pdl_pending.specs.Kept.{IsKept}
@@ -38,10 +37,10 @@ reached_next p st bits r = (r.0, r.1 ++ bits ∷ [], ap (λ (s : State). cycle p
 
 module _ (f : Form) (run : IsRunnable f) (st : State) (bits : List Bool) (r : IsReached f.pipe st) where
   pub by_run : IsByStages f.pipe st bits
-  by_run = subst (λ (s : State). IsByStages f.pipe s bits) (sym r.2) ((fit_simple f.pipe run.simple).by r.0 r.1 bits)
+  by_run = subst (λ (s : State). IsByStages f.pipe s bits) (sym r.2) (run.simple.fit.by r.0 r.1 bits)
 
   pub used_run : IsInUse f.pipe st bits
-  used_run = subst (λ (s : State). IsInUse f.pipe s bits) (sym r.2) ((fit_simple f.pipe run.simple).used r.0 r.1 bits)
+  used_run = subst (λ (s : State). IsInUse f.pipe s bits) (sym r.2) (run.simple.fit.used r.0 r.1 bits)
 
 -- MEMORIES AFTER A CYCLE
 

@@ -3,9 +3,9 @@ use Rattle.std.proofs.Common.{◌≡◌, sym, ap, ◌∙◌, subst, ℕ, ◌+◌
 use Rattle.std.specs.Prelude.{vec_len, vec_capacity}
 use Rattle.std.proofs.Math.ListN.{get_or-map}
 use Rattle.std.proofs.lemmas.List.{get_or_default, length-map, drop_more}
-use Rattle.pdl_model.specs.Flat.{Stmt, SpecCheck}
-use Rattle.pdl_model.specs.Stages.{in_stage}
-use Rattle.pdl_model.specs.Machine.{Place}
+use Rattle.pdl_semantics.specs.Flat.{Stmt, SpecCheck}
+use Rattle.pdl_semantics.specs.Stages.{in_stage}
+use Rattle.pdl_semantics.specs.Machine.{Place}
 use Rattle.pdl_form.specs.declared.form.Stmt as r_stmt
 use Rattle.pdl_form.specs.View.{stmt_view, stmts_view}
 use Rattle.pdl_form.specs.Form.{Form, stmt_at}

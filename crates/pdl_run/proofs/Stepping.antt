@@ -1,9 +1,9 @@
 -- Reservations and writes of those who move, stage by stage.
 use Rattle.std.proofs.Common.{◌≡◌, refl, sym, ap, ◌∙◌, ℕ, zero, suc, ◌+◌, ◌<◌, ◌≤◌, List, [], ◌∷◌, ◌++◌, drop, length, length-append, Option, Some, None, get_or, arith}
 use Rattle.std.proofs.lemmas.List.{drop_more}
-use Rattle.pdl_model.specs.Machine.{Pending}
-use Rattle.pdl_model.specs.Moves.{Act}
-use Rattle.pdl_model.specs.Cycle.{new_entries, appended}
+use Rattle.pdl_semantics.specs.Machine.{Pending}
+use Rattle.pdl_semantics.specs.Moves.{Act}
+use Rattle.pdl_semantics.specs.Cycle.{new_entries, appended}
 use Rattle.pdl_run.specs.declared.stage.Stage as r_stage
 use Rattle.pdl_run.specs.Acts.{mover_of, act_of, acts_of}
 

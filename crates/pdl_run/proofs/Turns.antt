@@ -3,10 +3,10 @@ use Rattle.std.proofs.Common.{◌≡◌, refl, sym, ap, ap₂, ◌∙◌, subst,
 use Rattle.std.specs.Prelude.{IfSome}
 use Rattle.std.proofs.lemmas.List.{length-map}
 use Rattle.pdl_word.specs.Words.{bit}
-use Rattle.pdl_model.specs.Flat.{Lock, Plain, Queue, Bypass, Rename, Pipe}
-use Rattle.pdl_model.specs.Moves.{Act, all_acts}
-use Rattle.pdl_model.specs.Cycle.{PortWrite, port_write, child_of, cycle}
-use Rattle.pdl_model.specs.Cycle as stated
+use Rattle.pdl_semantics.specs.Flat.{Lock, Plain, Queue, Bypass, Rename, Pipe}
+use Rattle.pdl_semantics.specs.Moves.{Act, all_acts}
+use Rattle.pdl_semantics.specs.Cycle.{PortWrite, port_write, child_of, cycle}
+use Rattle.pdl_semantics.specs.Cycle as stated
 use Rattle.pdl_machine_facts.specs.Ports.{stage_values, commit_values, port_values}
 use Rattle.pdl_form.specs.Form.{Form}
 use Rattle.pdl_values.specs.Widths.{Fit}

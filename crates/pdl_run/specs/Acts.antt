@@ -1,11 +1,11 @@
 -- The threads in the stages: which move, what they do, and what stands in each stage after them.
 use Rattle.std.specs.Prelude.{◌≡◌, ℕ, suc, Bool, true, false, ◌&&◌, ◌||◌, if◌then◌else◌, List, [], ◌∷◌, ◌++◌, map, Option, Some, None, is_none, is_some, ⊤}
-use Rattle.pdl_model.specs.Flat.{Pipe, start_env}
-use Rattle.pdl_model.specs.Stages.{in_stage}
-use Rattle.pdl_model.specs.Machine.{Deeds, does_all}
-use Rattle.pdl_model.specs.Moves.{Act}
-use Rattle.pdl_model.specs.Cycle.{appended, filled, releases, but_oldest, oldest, port_write}
-use Rattle.pdl_model.specs.Machine.{Pending}
+use Rattle.pdl_semantics.specs.Flat.{Pipe, start_env}
+use Rattle.pdl_semantics.specs.Stages.{in_stage}
+use Rattle.pdl_semantics.specs.Machine.{Deeds, does_all}
+use Rattle.pdl_semantics.specs.Moves.{Act}
+use Rattle.pdl_semantics.specs.Cycle.{appended, filled, releases, but_oldest, oldest, port_write}
+use Rattle.pdl_semantics.specs.Machine.{Pending}
 use Rattle.pdl_machine_facts.specs.Ports.{commit_values}
 use Rattle.pdl_pending.specs.Memory.{Memory, committed_to}
 use Rattle.pdl_run.specs.declared.stage.Stage as r_stage

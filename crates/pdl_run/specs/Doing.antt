@@ -1,8 +1,8 @@
 -- What a stage's statements find in the memories, and whether these let its thread move.
 use Rattle.std.specs.Prelude.{ℕ, ◌<◌, ◌≤◌, Bool, true, false, ◌&&◌, if◌then◌else◌, List, [], ◌∷◌, slice_index, slice_index_or, length, ⊤}
-use Rattle.pdl_model.specs.Flat.{Op, Bind, CombRead, DelayedRead, Write, ReserveRead, ReserveWrite, Block, Release, Call, SpecCall, Verify, SpecCheck, SpecBarrier, Plain, Stmt, taken}
-use Rattle.pdl_model.specs.Locks.{Latest, Nothing, value_or, read_ready, write_ready, has_room}
-use Rattle.pdl_model.specs.Machine.{Deeds, youngest, is_held, does}
+use Rattle.pdl_semantics.specs.Flat.{Op, Bind, CombRead, DelayedRead, Write, ReserveRead, ReserveWrite, Block, Release, Call, SpecCall, Verify, SpecCheck, SpecBarrier, Plain, Stmt, taken}
+use Rattle.pdl_semantics.specs.Locks.{Latest, Nothing, value_or, read_ready, write_ready, has_room}
+use Rattle.pdl_semantics.specs.Machine.{Deeds, youngest, is_held, does}
 use Rattle.pdl_values.specs.Safe.{IsSafe, AreSafe}
 use Rattle.pdl_pending.specs.Memory.{Memory}
 

@@ -1,6 +1,6 @@
 -- How many outputs a pipe without delayed memories has.
 use Rattle.std.specs.Prelude.{ℕ, ◌+◌, ◌*◌, List, [], ◌∷◌, length}
-use Rattle.pdl_model.specs.Flat.{Lock, Plain, Mem, Pipe}
+use Rattle.pdl_semantics.specs.Flat.{Lock, Plain, Mem, Pipe}
 
 -- three for the commits of a memory with a lock
 abbrev pub commit_count : Lock → ℕ

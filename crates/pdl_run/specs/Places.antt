@@ -1,6 +1,6 @@
 -- Where a location stands among those that are held.
 use Rattle.std.specs.Prelude.{ℕ, suc, ◌&&◌, ◌==◌, if◌then◌else◌, List, [], ◌∷◌}
-use Rattle.pdl_model.specs.Machine.{Place}
+use Rattle.pdl_semantics.specs.Machine.{Place}
 
 -- the index of the first of these, their number where there is none
 abbrev pub place_index : List Place → ℕ → ℕ → ℕ

@@ -1,9 +1,9 @@
 -- Stages that are wide enough for the threads of a pipe, and memories that can take what a cycle does to them.
 use Rattle.std.specs.Prelude.{◌≡◌, ℕ, suc, ◌*◌, ◌<◌, ◌≤◌, List, [], ◌∷◌, Option, Some, None, IfSome, length, vec_capacity, ⊤}
-use Rattle.pdl_model.specs.Flat.{Pipe}
-use Rattle.pdl_model.specs.Machine.{held_before}
-use Rattle.pdl_model.specs.Moves.{Act}
-use Rattle.pdl_model.specs.Cycle.{appended, oldest}
+use Rattle.pdl_semantics.specs.Flat.{Pipe}
+use Rattle.pdl_semantics.specs.Machine.{held_before}
+use Rattle.pdl_semantics.specs.Moves.{Act}
+use Rattle.pdl_semantics.specs.Cycle.{appended, oldest}
 use Rattle.pdl_form.specs.Form.{Form}
 use Rattle.pdl_values.specs.Widths.{Fit}
 use Rattle.pdl_pending.specs.Memory.{Memory}

@@ -1,9 +1,9 @@
 -- A machine that runs, between two cycles.
 use Rattle.std.specs.Prelude.{◌≡◌, ℕ, zero, suc, ◌+◌, ◌<◌, ◌≤◌, Bool, true, List, [], ◌∷◌, map, Option, Some, None, replicate, length, slice_index, slice_index_or, ◌^◌}
-use Rattle.pdl_model.specs.Flat.{Lock, Plain, Queue, Bypass, Rename, Arrays, arrays_of, Pipe}
-use Rattle.pdl_model.specs.Stages.{mem_at}
-use Rattle.pdl_model.specs.Machine.{NoRequest, State}
-use Rattle.pdl_model.specs.Cycle.{first, for_mems, for_stages, state_after}
+use Rattle.pdl_semantics.specs.Flat.{Lock, Plain, Queue, Bypass, Rename, Arrays, arrays_of, Pipe}
+use Rattle.pdl_semantics.specs.Stages.{mem_at}
+use Rattle.pdl_semantics.specs.Machine.{NoRequest, State}
+use Rattle.pdl_semantics.specs.Cycle.{first, for_mems, for_stages, state_after}
 use Rattle.pdl_invariant.specs.Strict.{Strict}
 use Rattle.pdl_facts.specs.Scans.{none_of}
 use Rattle.pdl_facts.specs.Checks.{is_guess}

@@ -1,7 +1,7 @@
 -- A run, as callers see it.
 use Rattle.std.specs.Prelude.{◌≡◌, ◌+◌, ◌*◌, ◌≤◌, length, vec_capacity}
-use Rattle.pdl_model.specs.Flat.{Pipe}
-use Rattle.pdl_model.specs.Machine.{State}
+use Rattle.pdl_semantics.specs.Flat.{Pipe}
+use Rattle.pdl_semantics.specs.Machine.{State}
 use Rattle.pdl_form.specs.Form.{Form}
 use Rattle.pdl_run.specs.declared.running.Run.{Run}
 use Rattle.pdl_run.specs.View.{seats}

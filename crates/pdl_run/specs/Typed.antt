@@ -1,8 +1,8 @@
 -- Statements that the machine serves; values, reservations and writes of their widths.
 use Rattle.std.specs.Prelude.{◌≡◌, ℕ, ◌^◌, ◌<◌, List, [], ◌∷◌, length, IfSome, ⊤}
-use Rattle.pdl_model.specs.Flat.{Op, DelayedRead, SpecCall, Verify, Stmt, Pipe}
-use Rattle.pdl_model.specs.Stages.{mem_at}
-use Rattle.pdl_model.specs.Machine.{Deeds, Reserved, Written}
+use Rattle.pdl_semantics.specs.Flat.{Op, DelayedRead, SpecCall, Verify, Stmt, Pipe}
+use Rattle.pdl_semantics.specs.Stages.{mem_at}
+use Rattle.pdl_semantics.specs.Machine.{Deeds, Reserved, Written}
 use Rattle.pdl_form.specs.Form.{Form}
 use Rattle.pdl_formtypes.specs.Stmts.{param_widths, IsTypedOp}
 use Rattle.pdl_values.specs.Widths.{Fit}

@@ -1,6 +1,6 @@
 -- What values of the program stand for: what a thread holds, what a stage does, and who stands in it.
 use Rattle.std.specs.Prelude.{ℕ, Bool, true, false, List, [], map, Option, Some, None}
-use Rattle.pdl_model.specs.Machine.{Thread, Place, Deeds}
+use Rattle.pdl_semantics.specs.Machine.{Thread, Place, Deeds}
 use Rattle.pdl_pending.specs.View.{reserved_view, written_view}
 use Rattle.pdl_run.specs.declared.place.Place as r_place
 use Rattle.pdl_run.specs.declared.stage.Slot as r_slot

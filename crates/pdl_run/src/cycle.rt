@@ -1,8 +1,8 @@
 // A cycle, on what the machine holds.
 ghost use Rattle.std.specs.Prelude.{◌≡◌, ◌≤◌, ◌+◌, ◌*◌, ◌-◌, ◌++◌, ◌∷◌, [], suc, Bool, false, List, if◌then◌else◌, length, slice_index_or, vec_len, vec_capacity};
 ghost use Rattle.pdl_word.specs.Words.{bit};
-ghost use Rattle.pdl_model.specs.Moves.{all_acts};
-ghost use Rattle.pdl_model.specs.Cycle as stated;
+ghost use Rattle.pdl_semantics.specs.Moves.{all_acts};
+ghost use Rattle.pdl_semantics.specs.Cycle as stated;
 ghost use Rattle.pdl_machine_facts.specs.Ports.{port_values};
 ghost use Rattle.pdl_form.specs.Whole.{form};
 ghost use Rattle.pdl_run.specs.View.{seats};

@@ -1,7 +1,7 @@
 // Where the threads that move go, what the ports show of them, and the new thread.
 ghost use Rattle.std.specs.Prelude.{◌≡◌, ◌≤◌, ◌<◌, ◌+◌, ◌-◌, ◌*◌, ◌++◌, ◌∷◌, [], map, length, replicate, is_some, IfSome, Some, None, vec_len, vec_capacity};
-ghost use Rattle.pdl_model.specs.Flat.{Pipe};
-ghost use Rattle.pdl_model.specs.Cycle as stated;
+ghost use Rattle.pdl_semantics.specs.Flat.{Pipe};
+ghost use Rattle.pdl_semantics.specs.Cycle as stated;
 ghost use Rattle.pdl_machine_facts.specs.Ports.{stage_values};
 ghost use Rattle.pdl_form.specs.Form.{Form};
 ghost use Rattle.pdl_run.specs.View.{standing_view, seats};

@@ -1,6 +1,6 @@
 // Locations that a thread holds for writing, the youngest first.
 ghost use Rattle.std.specs.Prelude.{◌≡◌, ◌≤◌, ◌<◌, ◌∷◌, map, vec_len, vec_capacity};
-ghost use Rattle.pdl_model.specs.Machine as machine;
+ghost use Rattle.pdl_semantics.specs.Machine as machine;
 ghost use Rattle.pdl_run.specs.View.{place_view};
 ghost use Rattle.pdl_run.specs.Places.{place_index};
 

@@ -1,9 +1,9 @@
 // A pipe as it runs.
 ghost use Rattle.std.specs.Prelude.{◌≡◌, ◌<◌, ◌≤◌, ◌+◌, ◌*◌, ◌^◌, ℕ, Bool, suc, List, [], if◌then◌else◌, IfOk, length, replicate, slice_index_or, vec_capacity};
-ghost use Rattle.pdl_model.specs.Flat.{arrays_of};
-ghost use Rattle.pdl_model.specs.Stages.{mem_at};
-ghost use Rattle.pdl_model.specs.Moves.{all_acts};
-ghost use Rattle.pdl_model.specs.Cycle as stated;
+ghost use Rattle.pdl_semantics.specs.Flat.{arrays_of};
+ghost use Rattle.pdl_semantics.specs.Stages.{mem_at};
+ghost use Rattle.pdl_semantics.specs.Moves.{all_acts};
+ghost use Rattle.pdl_semantics.specs.Cycle as stated;
 ghost use Rattle.pdl_machine_facts.specs.Ports.{port_values};
 ghost use Rattle.pdl_form.specs.Whole.{form};
 ghost use Rattle.pdl_run.specs.View.{seats};

@@ -1,6 +1,6 @@
 // What a machine begins with.
 ghost use Rattle.std.specs.Prelude.{◌≡◌, ◌≤◌, ◌<◌, ◌+◌, ◌*◌, ℕ, [], None, Some, length, replicate, slice_index_or, vec_capacity, IfOk};
-ghost use Rattle.pdl_model.specs.Stages.{mem_at};
+ghost use Rattle.pdl_semantics.specs.Stages.{mem_at};
 ghost use Rattle.pdl_form.specs.View.{lock_view, mems_view};
 ghost use Rattle.pdl_form.specs.Whole.{form};
 ghost use Rattle.pdl_run.specs.View.{standing_view, seats};

@@ -1,7 +1,7 @@
 // What the threads that move do to the memories.
 ghost use Rattle.std.specs.Prelude.{◌≡◌, ◌≤◌, ◌<◌, ◌+◌, ◌*◌, ◌++◌, [], ◌∷◌, ℕ, if◌then◌else◌, length, vec_len, vec_capacity, ◌==◌};
-ghost use Rattle.pdl_model.specs.Stages.{list_any};
-ghost use Rattle.pdl_model.specs.Cycle as stated;
+ghost use Rattle.pdl_semantics.specs.Stages.{list_any};
+ghost use Rattle.pdl_semantics.specs.Cycle as stated;
 ghost use Rattle.pdl_machine_facts.specs.Ports.{commit_values};
 ghost use Rattle.pdl_pending.specs.View.{entry_view};
 ghost use Rattle.pdl_run.specs.Acts.{mover_of, act_of, acts_of, out_of, memory_after, memories_after, commits_shown};

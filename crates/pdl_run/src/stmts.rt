@@ -1,8 +1,8 @@
 // The statements of a stage, carried out for its thread.
 ghost use Rattle.std.specs.Prelude.{◌≡◌, ◌≤◌, ◌<◌, ◌&&◌, ◌∷◌, [], ◌++◌, ℕ, suc, Some, true, if◌then◌else◌, length, map, slice_index, slice_set, vec_len, vec_capacity};
-ghost use Rattle.pdl_model.specs.Flat.{taken, value_of as spec_value_of, values_of as spec_values_of};
-ghost use Rattle.pdl_model.specs.Stages.{in_stage};
-ghost use Rattle.pdl_model.specs.Machine.{does, does_all, is_held as spec_is_held, let_go as spec_let_go};
+ghost use Rattle.pdl_semantics.specs.Flat.{taken, value_of as spec_value_of, values_of as spec_values_of};
+ghost use Rattle.pdl_semantics.specs.Stages.{in_stage};
+ghost use Rattle.pdl_semantics.specs.Machine.{does, does_all, is_held as spec_is_held, let_go as spec_let_go};
 ghost use Rattle.pdl_form.specs.View.{expr_view, exprs_view, act_view, stmt_view, guards_view};
 ghost use Rattle.pdl_values.specs.Safe.{IsSafe, AreSafe};
 ghost use Rattle.pdl_run.specs.View.{deeds_view};

@@ -2,7 +2,7 @@
 use Rattle.std.proofs.Common.{◌≡◌, ◌≢◌, refl, ap, ◌∙◌, ℕ, zero, suc, ◌+◌, ◌<◌, ◌≤◌, Bool, true, false, cond, if◌then◌else◌, ◌==◌, List, [], ◌∷◌, length, arith}
 use Rattle.std.proofs.lemmas.Bool.{eqb-true, eqb-false}
 use Rattle.std.specs.Prelude.{⊤}
-use Rattle.pdl_model.specs.Flat.{Commit, of_mem}
+use Rattle.pdl_semantics.specs.Flat.{Commit, of_mem}
 
 -- each of them is to one of the first n memories
 abbrev pub AreKnown : ℕ → List Commit → Type 0

@@ -1,9 +1,9 @@
 -- A thread of a pipe that can be run writes at most 16 times.
 use Rattle.std.proofs.Common.{◌≡◌, sym, ap, ◌∙◌, subst, ℕ, ◌<◌, ◌≤◌, Bool, true, false, if◌then◌else◌, List, [], ◌∷◌, ◌++◌, length, arith}
 use Rattle.std.proofs.lemmas.List.{length-map}
-use Rattle.pdl_model.specs.Flat.{Op, Bind, CombRead, DelayedRead, Write, ReserveRead, ReserveWrite, Block, Release, Call, SpecCall, Verify, SpecCheck, SpecBarrier, Stmt, Arrays, Commit, of_mem, taken, start_env}
-use Rattle.pdl_model.specs.Stages.{onpath}
-use Rattle.pdl_model.specs.Sequential.{Run, runs, run_all, thread}
+use Rattle.pdl_semantics.specs.Flat.{Op, Bind, CombRead, DelayedRead, Write, ReserveRead, ReserveWrite, Block, Release, Call, SpecCall, Verify, SpecCheck, SpecBarrier, Stmt, Arrays, Commit, of_mem, taken, start_env}
+use Rattle.pdl_semantics.specs.Stages.{onpath}
+use Rattle.pdl_semantics.specs.Sequential.{Run, runs, run_all, thread}
 use Rattle.pdl_facts.specs.Scans.{Fresh}
 use Rattle.pdl_facts.specs.Facts.{looked_all}
 use Rattle.pdl_turns.proofs.Paths.{run_path}

@@ -1,9 +1,9 @@
 -- An image for the memories of a tree is one for its flat form.
 use Rattle.std.proofs.Common.{◌≡◌, refl, sym, ap, ◌∙◌, subst, ℕ, zero, suc, ◌^◌, ◌<◌, false, List, [], ◌∷◌, length, slice_index, slice_index_or, arith}
 use Rattle.pdl_kit.specs.declared.mem_info.MemInfo.{MemInfo}
-use Rattle.pdl_model.specs.Tree.{Mem, Pipe}
-use Rattle.pdl_model.specs.Flatten.{mems_of, flat}
-use Rattle.pdl_model.specs.Stages.{plain_mem}
+use Rattle.pdl_semantics.specs.Tree.{Mem, Pipe}
+use Rattle.pdl_semantics.specs.Flatten.{mems_of, flat}
+use Rattle.pdl_semantics.specs.Stages.{plain_mem}
 use Rattle.pdl_image.specs.Images.{IsImage}
 use Rattle.pdl_seq.specs.Turns.{list_at}
 use Rattle.pdl_seq.specs.Fits.{infos_of, IsImageFor}

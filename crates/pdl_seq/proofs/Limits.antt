@@ -3,8 +3,8 @@ use Rattle.std.proofs.Common.{◌≡◌, ◌≢◌, refl, sym, ap, ◌∙◌, �
 use Rattle.std.specs.Prelude.{count_by}
 use Rattle.std.proofs.lemmas.Bool.{eqb-false}
 use Rattle.pdl_kit.specs.declared.rule.Rule.TheVariants.{Z4}
-use Rattle.pdl_model.specs.Tree.{Param, Mem, Pipe}
-use Rattle.pdl_model.specs.Flatten.{mems_of}
+use Rattle.pdl_semantics.specs.Tree.{Param, Mem, Pipe}
+use Rattle.pdl_semantics.specs.Flatten.{mems_of}
 use Rattle.pdl_rules.specs.Places.{Place, Parameter, Memory, statements, places}
 use Rattle.pdl_rules.specs.Limits.{is_memory}
 use Rattle.pdl_rules.specs.Refusal.{KeepsRules}

@@ -1,9 +1,9 @@
 -- A statement that is typed can be carried out on what fits.
 use Rattle.std.proofs.Common.{◌≡◌, sym, subst, ℕ, zero, suc, ◌^◌, ◌<◌, ◌≤◌, List, [], ◌∷◌, length, slice_index, arith}
 use Rattle.std.proofs.Math.Pow.{pow_mono}
-use Rattle.pdl_model.specs.Flat.{Op, Bind, CombRead, DelayedRead, Write, ReserveRead, ReserveWrite, Block, Release, Call, SpecCall, Verify, SpecCheck, SpecBarrier, Mem, Pipe}
-use Rattle.pdl_model.specs.Stages.{mem_at}
-use Rattle.pdl_model.specs.Sequential.{Run}
+use Rattle.pdl_semantics.specs.Flat.{Op, Bind, CombRead, DelayedRead, Write, ReserveRead, ReserveWrite, Block, Release, Call, SpecCall, Verify, SpecCheck, SpecBarrier, Mem, Pipe}
+use Rattle.pdl_semantics.specs.Stages.{mem_at}
+use Rattle.pdl_semantics.specs.Sequential.{Run}
 use Rattle.pdl_form.specs.Form.{Form}
 use Rattle.pdl_formtypes.specs.Stmts.{param_widths, IsTypedMem, AreTypedMems, IsTypedOp, IsTypedForm}
 use Rattle.pdl_values.proofs.Fitting.{safe, all_safe}

@@ -5,11 +5,11 @@ use Rattle.std.specs.List.{flat_map}
 use Rattle.std.proofs.lemmas.List.Elements.{All-append, All-map, All-nil, All-same}
 use Rattle.std.proofs.lemmas.List.Folds.{flat_map-map}
 use Rattle.std.proofs.lemmas.Grind.{flat_map-append}
-use Rattle.pdl_model.specs.Flat.{Pipe, Commit, arrays_of}
-use Rattle.pdl_model.specs.Tree as tree
-use Rattle.pdl_model.specs.Flatten.{flat}
-use Rattle.pdl_model.specs.Sequential.{threads}
-use Rattle.pdl_model.specs.Lines.{Column, columns, threads_lines, seq_lines}
+use Rattle.pdl_semantics.specs.Flat.{Pipe, Commit, arrays_of}
+use Rattle.pdl_semantics.specs.Tree as tree
+use Rattle.pdl_semantics.specs.Flatten.{flat}
+use Rattle.pdl_semantics.specs.Sequential.{threads}
+use Rattle.pdl_semantics.specs.Lines.{Column, columns, threads_lines, seq_lines}
 use Rattle.pdl_seq.specs.declared.commit.Commit as r_commit
 use Rattle.pdl_seq.specs.declared.commit.Write as r_write
 use Rattle.pdl_seq.specs.Turns.{commits_view}

@@ -1,7 +1,7 @@
 -- One thread more.
 use Rattle.std.proofs.Common.{◌≡◌, refl, sym, ap, ap₂, ◌∙◌, ℕ, zero, suc, ◌+◌, List, ◌++◌, map, append-nil, append_assoc, arith}
-use Rattle.pdl_model.specs.Flat.{Arrays, Pipe}
-use Rattle.pdl_model.specs.Sequential.{Run, thread, threads_from, threads, turn_at, after_turns}
+use Rattle.pdl_semantics.specs.Flat.{Arrays, Pipe}
+use Rattle.pdl_semantics.specs.Sequential.{Run, thread, threads_from, threads, turn_at, after_turns}
 use Rattle.pdl_seq.specs.declared.commit.Write as r_write
 use Rattle.pdl_seq.specs.Runs.{told, numbered}
 

@@ -1,8 +1,8 @@
 -- Statement by statement through a turn.
 use Rattle.std.proofs.Common.{◌≡◌, sym, ap, ◌∙◌, subst, ℕ, zero, suc, ◌+◌, ◌<◌, ◌≤◌, Bool, true, false, if◌then◌else◌, List, [], ◌∷◌, drop, length, get_or, length-append, arith}
 use Rattle.std.proofs.lemmas.List.{drop_more}
-use Rattle.pdl_model.specs.Flat.{Op, Bind, CombRead, DelayedRead, Write, ReserveRead, ReserveWrite, Block, Release, Call, SpecCall, Verify, SpecCheck, SpecBarrier, Stmt, Commit, taken}
-use Rattle.pdl_model.specs.Sequential.{Run, runs, run_all}
+use Rattle.pdl_semantics.specs.Flat.{Op, Bind, CombRead, DelayedRead, Write, ReserveRead, ReserveWrite, Block, Release, Call, SpecCall, Verify, SpecCheck, SpecBarrier, Stmt, Commit, taken}
+use Rattle.pdl_semantics.specs.Sequential.{Run, runs, run_all}
 use Rattle.pdl_form.specs.declared.form.Stmt as r_stmt
 use Rattle.pdl_form.specs.View.{stmt_view, stmts_view}
 use Rattle.pdl_form.specs.Form.{Form}

@@ -1,7 +1,7 @@
 -- On a path that uses the lock of a memory as the rules say, a thread writes that memory at most once.
 use Rattle.std.proofs.Common.{◌≡◌, refl, sym, ap, ◌∙◌, subst, ℕ, ◌+◌, ◌≤◌, Bool, true, false, ◌||◌, not, cond, if◌then◌else◌, ◌==◌, List, [], ◌∷◌, ◌++◌, length, length-append, arith}
-use Rattle.pdl_model.specs.Flat.{Op, Bind, CombRead, DelayedRead, Write, ReserveRead, ReserveWrite, Block, Release, Call, SpecCall, Verify, SpecCheck, SpecBarrier, Stmt, Commit, of_mem, taken}
-use Rattle.pdl_model.specs.Sequential.{Run, runs, run_all}
+use Rattle.pdl_semantics.specs.Flat.{Op, Bind, CombRead, DelayedRead, Write, ReserveRead, ReserveWrite, Block, Release, Call, SpecCall, Verify, SpecCheck, SpecBarrier, Stmt, Commit, of_mem, taken}
+use Rattle.pdl_semantics.specs.Sequential.{Run, runs, run_all}
 use Rattle.pdl_derived.proofs.Writes.{and_left, and_right, of_mem_append}
 use Rattle.pdl_facts.specs.Scans.{Phase, Fresh, Held, Written, Done, after_release, next_phase, holds, is_fresh, phase_ok, phases_ok}
 use Rattle.pdl_turns.proofs.Related.{taken_none}

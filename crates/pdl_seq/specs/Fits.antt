@@ -2,10 +2,10 @@
 use Rattle.std.specs.Prelude.{◌≡◌, ℕ, ◌^◌, ◌<◌, ◌≤◌, List, map, length, slice_index}
 use Rattle.std.specs.List.{All}
 use Rattle.pdl_kit.specs.declared.mem_info.MemInfo.{MemInfo}
-use Rattle.pdl_model.specs.Tree as tree
-use Rattle.pdl_model.specs.Flat.{Pipe, Commit, word_at}
-use Rattle.pdl_model.specs.Stages.{mem_at}
-use Rattle.pdl_model.specs.Sequential.{Run}
+use Rattle.pdl_semantics.specs.Tree as tree
+use Rattle.pdl_semantics.specs.Flat.{Pipe, Commit, word_at}
+use Rattle.pdl_semantics.specs.Stages.{mem_at}
+use Rattle.pdl_semantics.specs.Sequential.{Run}
 use Rattle.pdl_form.specs.Form.{Form}
 use Rattle.pdl_values.specs.Widths.{Fit}
 use Rattle.pdl_seq.specs.declared.commit.Write as r_write

@@ -1,8 +1,8 @@
 -- What a sequential run has done after some threads.
 use Rattle.std.specs.Prelude.{◌≡◌, ℕ, suc, ◌≤◌, List, [], ◌∷◌, ◌++◌, map, length}
-use Rattle.pdl_model.specs.Flat.{Commit, arrays_of}
-use Rattle.pdl_model.specs.Sequential.{threads, after_turns}
-use Rattle.pdl_model.specs.Lines.{Column, column_at, put_line}
+use Rattle.pdl_semantics.specs.Flat.{Commit, arrays_of}
+use Rattle.pdl_semantics.specs.Sequential.{threads, after_turns}
+use Rattle.pdl_semantics.specs.Lines.{Column, column_at, put_line}
 use Rattle.pdl_facts.specs.Facts.{Sound}
 use Rattle.pdl_form.specs.Form.{Form}
 use Rattle.pdl_form.specs.declared.flat.FlatPipe as r_pipe

@@ -1,7 +1,7 @@
 -- A turn as the sequential meaning sees it, and which operations can be carried out in it.
 use Rattle.std.specs.Prelude.{ℕ, ◌^◌, ◌<◌, ◌≤◌, List, [], map, length, slice_index, slice_index_or, vec_capacity, ⊤}
-use Rattle.pdl_model.specs.Flat.{Op, Bind, CombRead, DelayedRead, Write, ReserveRead, ReserveWrite, Block, Release, Call, SpecCall, Verify, SpecCheck, SpecBarrier, Commit, arrays_of}
-use Rattle.pdl_model.specs.Sequential.{Run}
+use Rattle.pdl_semantics.specs.Flat.{Op, Bind, CombRead, DelayedRead, Write, ReserveRead, ReserveWrite, Block, Release, Call, SpecCall, Verify, SpecCheck, SpecBarrier, Commit, arrays_of}
+use Rattle.pdl_semantics.specs.Sequential.{Run}
 use Rattle.pdl_values.specs.Safe.{IsSafe, AreSafe}
 use Rattle.pdl_seq.specs.declared.commit.Commit as r_commit
 use Rattle.pdl_seq.specs.declared.turn.Turn as r_turn

@@ -1,11 +1,11 @@
 // Which pipes can be run, from which images, and what is printed.
 ghost use Rattle.std.specs.Prelude.{◌≡◌, ◌++◌, ℕ, List, IsTrue, codes, decimal};
 ghost use Rattle.std.specs.List.{flat_map};
-ghost use Rattle.pdl_model.specs.Tree.{Pipe};
-ghost use Rattle.pdl_model.specs.Flat.{arrays_of};
-ghost use Rattle.pdl_model.specs.Flatten.{flat};
-ghost use Rattle.pdl_model.specs.Sequential.{threads};
-ghost use Rattle.pdl_model.specs.Lines as text;
+ghost use Rattle.pdl_semantics.specs.Tree.{Pipe};
+ghost use Rattle.pdl_semantics.specs.Flat.{arrays_of};
+ghost use Rattle.pdl_semantics.specs.Flatten.{flat};
+ghost use Rattle.pdl_semantics.specs.Sequential.{threads};
+ghost use Rattle.pdl_semantics.specs.Lines as text;
 ghost use Rattle.pdl_rules.specs.Refusal.{KeepsRules};
 ghost use Rattle.pdl_form.specs.Form.{form_of};
 ghost use Rattle.pdl_image.specs.Images.{IsImage};

@@ -1,7 +1,7 @@
 // What an operation does.
 ghost use Rattle.std.specs.Prelude.{◌≡◌, ◌≤◌, ◌<◌, ◌+◌, ◌^◌, ◌∷◌, ◌++◌, [], length, slice_index, slice_set, vec_len, vec_capacity};
-ghost use Rattle.pdl_model.specs.Flat.{arrays_of, with_word, word_at, value_of as spec_value_of, values_of as spec_values_of};
-ghost use Rattle.pdl_model.specs.Sequential.{runs};
+ghost use Rattle.pdl_semantics.specs.Flat.{arrays_of, with_word, word_at, value_of as spec_value_of, values_of as spec_values_of};
+ghost use Rattle.pdl_semantics.specs.Sequential.{runs};
 ghost use Rattle.pdl_form.specs.View.{expr_view, exprs_view, act_view};
 ghost use Rattle.pdl_values.specs.Safe.{IsSafe, AreSafe};
 ghost use Rattle.pdl_seq.specs.Turns.{run_view, rooms, list_at, shape, IsSafeOp};

@@ -1,6 +1,6 @@
 // How a thread begins, and how its writes are told in the end.
 ghost use Rattle.std.specs.Prelude.{◌≡◌, ◌≤◌, ◌+◌, ◌-◌, ◌++◌, [], map, length, replicate, vec_len, vec_capacity};
-ghost use Rattle.pdl_model.specs.Flat.{arrays_of, start_env};
+ghost use Rattle.pdl_semantics.specs.Flat.{arrays_of, start_env};
 ghost use Rattle.pdl_form.specs.Whole.{form};
 ghost use Rattle.pdl_seq.specs.Turns.{run_view, commits_view, rooms};
 ghost use Rattle.pdl_seq.specs.Fits.{IsFit};

@@ -1,7 +1,7 @@
 // The turn of a thread: its statements one after another.
 ghost use Rattle.std.specs.Prelude.{◌≡◌, ◌≤◌, ◌∷◌, [], true, length};
-ghost use Rattle.pdl_model.specs.Flat.{taken};
-ghost use Rattle.pdl_model.specs.Sequential.{run_all};
+ghost use Rattle.pdl_semantics.specs.Flat.{taken};
+ghost use Rattle.pdl_semantics.specs.Sequential.{run_all};
 ghost use Rattle.pdl_form.specs.View.{stmt_view};
 ghost use Rattle.pdl_form.specs.Whole.{form};
 ghost use Rattle.pdl_seq.specs.Turns.{run_view, rooms, shape, IsSafeOp};

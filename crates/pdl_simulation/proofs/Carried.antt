@@ -1,14 +1,14 @@
 -- What is proved of the derived machine's runs holds of the stated machine's, of every pipe of the whole language.
 use Rattle.std.proofs.Common.{◌≡◌, refl, sym, ap, ap₂, ◌∙◌, subst, ℕ, suc, ◌+◌, ◌-◌, ◌/◌, ◌≤◌, ◌<◌, Bool, true, false, List, [], ◌∷◌, ◌++◌, length, Option, Some, None, nat_lt, cond, if◌then◌else◌, arith, lt-ltb, ltb-true, ltb-false}
-use Rattle.pdl_model.specs.Flat.{Arrays, Plain, Pipe, Commit}
-use Rattle.pdl_model.specs.Stages.{mem_at, depth}
-use Rattle.pdl_model.specs.Sequential.{seqwrites}
-use Rattle.pdl_model.specs.Machine.{State}
-use Rattle.pdl_model.specs.Cycle.{commits}
-use Rattle.pdl_model.specs.Promises.{KeepsPace, IsPrefix, older_of, oldest_act, it_moves, row, wrote}
-use Rattle.pdl_model.specs.Cycle
-use Rattle.pdl_model.specs.Moves
-use Rattle.pdl_model.specs.Promises
+use Rattle.pdl_semantics.specs.Flat.{Arrays, Plain, Pipe, Commit}
+use Rattle.pdl_semantics.specs.Stages.{mem_at, depth}
+use Rattle.pdl_semantics.specs.Sequential.{seqwrites}
+use Rattle.pdl_semantics.specs.Machine.{State}
+use Rattle.pdl_semantics.specs.Cycle.{commits}
+use Rattle.pdl_semantics.specs.Promises.{KeepsPace, IsPrefix, older_of, oldest_act, it_moves, row, wrote}
+use Rattle.pdl_semantics.specs.Cycle
+use Rattle.pdl_semantics.specs.Moves
+use Rattle.pdl_semantics.specs.Promises
 use Rattle.pdl_derived.specs.Alone.{oldest_moves}
 use Rattle.pdl_derived.specs.Alone
 use Rattle.pdl_derived.specs.Derived
@@ -47,9 +47,6 @@ nothing_before [] h = refl
 nothing_before (x ∷ xs) h = absurd (cc h.1)
 
 -- THE OLDEST THREAD
-
-older : Moves.Act → Option Moves.Act → Option Moves.Act
-older a z = Some (older_of a z)
 
 not_less : (a b : ℕ) → a < b → nat_lt b a ≡ false
 not_less a b h = at (nat_lt b a) refl

@@ -1,14 +1,14 @@
 -- Both machines decide alike which threads move.
 use Rattle.std.proofs.Common.{◌≡◌, refl, sym, ap, ap₂, ◌∙◌, subst, ℕ, ◌≤◌, ◌<◌, Bool, true, false, ◌&&◌, ◌||◌, not, List, [], ◌∷◌, ◌++◌, length, Option, Some, None, is_none, is_some, ◌==◌, cond, if◌then◌else◌, arith, slice_set, eq-eqb}
 use Rattle.std.proofs.lemmas.Bool.{eqb-true, eqb-false, ne_eqb}
-use Rattle.pdl_model.specs.Flat.{Pipe, Op, DelayedRead, CombRead, ReserveWrite, Block, Stmt, list_all, word_at}
-use Rattle.pdl_model.specs.Stages.{list_any, in_stage, mem_at, stage_at, goes_to, is_reserve, reserve_stage, commit_stage}
-use Rattle.pdl_model.specs.Locks.{Latest, Nothing, has_room}
-use Rattle.pdl_model.specs.Machine.{Ask, Awaited, Kept, answers, Request, NoRequest, Owned, Orphan, State, Deeds, lock_of, request_of, older_write, word_for, held_before, with_kept, unanswered, answer_to, answer_for, keeps, youngest, with_answers, does_all, deeds_with}
-use Rattle.pdl_model.specs.Moves.{block_ready, is_free, next_stage}
-use Rattle.pdl_model.specs.Locks
-use Rattle.pdl_model.specs.Machine
-use Rattle.pdl_model.specs.Moves
+use Rattle.pdl_semantics.specs.Flat.{Pipe, Op, DelayedRead, CombRead, ReserveWrite, Block, Stmt, list_all, word_at}
+use Rattle.pdl_semantics.specs.Stages.{list_any, in_stage, mem_at, stage_at, goes_to, is_reserve, reserve_stage, commit_stage}
+use Rattle.pdl_semantics.specs.Locks.{Latest, Nothing, has_room}
+use Rattle.pdl_semantics.specs.Machine.{Ask, Awaited, Kept, answers, Request, NoRequest, Owned, Orphan, State, Deeds, lock_of, request_of, older_write, word_for, held_before, with_kept, unanswered, answer_to, answer_for, keeps, youngest, with_answers, does_all, deeds_with}
+use Rattle.pdl_semantics.specs.Moves.{block_ready, is_free, next_stage}
+use Rattle.pdl_semantics.specs.Locks
+use Rattle.pdl_semantics.specs.Machine
+use Rattle.pdl_semantics.specs.Moves
 use Rattle.pdl_derived.specs.Derived.{works, Work, latest, pending, befores, around, awaits_mem, port_free, still, asked_at, word_of}
 use Rattle.pdl_derived.specs.Derived
 use Rattle.pdl_facts.specs.Scans.{all_at, none_of}

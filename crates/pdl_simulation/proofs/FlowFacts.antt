@@ -1,9 +1,9 @@
 -- The forms in which the simulation takes the facts of an accepted pipe of the whole language (all follow from the record of Facts).
 use Rattle.std.specs.Prelude.{◌≡◌, ◌⊎◌, ℕ, suc, ◌<◌, ◌≤◌, Bool, true, false, ◌&&◌, ◌||◌, not, List, [], ◌∷◌, ◌++◌, Some, None, if◌then◌else◌, ◌==◌, length, slice_index}
-use Rattle.pdl_model.specs.Flat.{Op, Bind, CombRead, DelayedRead, Write, ReserveWrite, Release, Stmt, Forks, Branch, Pipe, taken}
-use Rattle.pdl_model.specs.Stages.{onpath, in_stage, stage_at, is_inside, goes_to, verify_stage, commit_stage, reserve_stage, is_reserve, is_release, is_verify}
-use Rattle.pdl_model.specs.Cycle.{merges_by}
-use Rattle.pdl_model.specs.Sound.{stages_before, stages_from}
+use Rattle.pdl_semantics.specs.Flat.{Op, Bind, CombRead, DelayedRead, Write, ReserveWrite, Release, Stmt, Forks, Branch, Pipe, taken}
+use Rattle.pdl_semantics.specs.Stages.{onpath, in_stage, stage_at, is_inside, goes_to, verify_stage, commit_stage, reserve_stage, is_reserve, is_release, is_verify}
+use Rattle.pdl_semantics.specs.Cycle.{merges_by}
+use Rattle.pdl_semantics.specs.Sound.{stages_before, stages_from}
 use Rattle.pdl_derived.specs.Alone.{is_call}
 pub use Rattle.pdl_facts.specs.Graphs.{stage_or, next_of, on_side}
 use Rattle.pdl_facts.specs.Scans.{Phase, Fresh, next_phase, holds, is_fresh, is_over, phase_all, all_at, none_of, binds, fixed, is_fetch}

@@ -1,6 +1,6 @@
 -- What the scans of locks and calls tell the simulation.
 use Rattle.std.proofs.Common.{◌≡◌, refl, ap, ap₂, ◌∙◌, ℕ, ◌&&◌, ◌||◌, not, List, [], ◌∷◌, Option, true}
-use Rattle.pdl_model.specs.Flat.{Op, Write, ReserveWrite, Release, SpecCall, Verify, Call, Stmt}
+use Rattle.pdl_semantics.specs.Flat.{Op, Write, ReserveWrite, Release, SpecCall, Verify, Call, Stmt}
 use Rattle.pdl_derived.specs.Alone.{is_call}
 use Rattle.pdl_facts.specs.Scans.{Phase, phase_ok, phases_ok, next_phase}
 use Rattle.pdl_facts.specs.Certain.{Making, Unmade, Guessed, Made, next_making, is_unmade, making_ok, makings_ok}

@@ -1,14 +1,14 @@
 -- After a cycle a fork's list holds the branches of just the threads inside it, oldest first.
 use Rattle.std.proofs.Common.{◌≡◌, refl, sym, ap, ap₂, ◌∙◌, subst, ℕ, ◌≤◌, ◌<◌, ◌⊎◌, inl, inr, Bool, true, false, ◌&&◌, ◌||◌, not, List, [], ◌∷◌, ◌++◌, Option, Some, None, is_some, ◌==◌, cond, if◌then◌else◌, arith, append-nil, append_assoc, eq-eqb, le_refl}
 use Rattle.std.proofs.lemmas.Bool.{eqb-true, eqb-false, ne_eqb}
-use Rattle.pdl_model.specs.Flat.{Pipe, Branch, Op, Verify, Stmt, list_all, taken}
-use Rattle.pdl_model.specs.Stages.{in_stage, stage_at, goes_to, is_branch_of, is_inside, merges_fork, verify_stage, is_verify}
-use Rattle.pdl_model.specs.Machine.{State}
-use Rattle.pdl_model.specs.Moves.{movers, next_stage, is_nobody}
-use Rattle.pdl_model.specs.Cycle.{entered, goes_into, goes_out, left, but_first, merges_by}
-use Rattle.pdl_model.specs.Sound.{side_in}
-use Rattle.pdl_model.specs.Cycle
-use Rattle.pdl_model.specs.Moves
+use Rattle.pdl_semantics.specs.Flat.{Pipe, Branch, Op, Verify, Stmt, list_all, taken}
+use Rattle.pdl_semantics.specs.Stages.{in_stage, stage_at, goes_to, is_branch_of, is_inside, merges_fork, verify_stage, is_verify}
+use Rattle.pdl_semantics.specs.Machine.{State}
+use Rattle.pdl_semantics.specs.Moves.{movers, next_stage, is_nobody}
+use Rattle.pdl_semantics.specs.Cycle.{entered, goes_into, goes_out, left, but_first, merges_by}
+use Rattle.pdl_semantics.specs.Sound.{side_in}
+use Rattle.pdl_semantics.specs.Cycle
+use Rattle.pdl_semantics.specs.Moves
 use Rattle.pdl_derived.specs.Derived.{Work, Around, works, does, do_all, around}
 use Rattle.pdl_derived.specs.Derived
 use Rattle.pdl_facts.specs.Scans.{none_of}

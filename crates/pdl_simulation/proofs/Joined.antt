@@ -1,9 +1,9 @@
 -- The facts that the simulation takes follow from those of an accepted pipe.
 use Rattle.std.proofs.Common.{◌≡◌, refl, sym, ap, ap₂, ◌∙◌, subst, ℕ, suc, ◌≤◌, ◌<◌, ◌⊎◌, inl, inr, Bool, true, false, ◌&&◌, ◌||◌, not, List, [], ◌∷◌, ◌++◌, length, Option, Some, None, ◌==◌, nat_lt, nat_le, cond, arith, ltb-true, ltb-false, leb-true, leb-false, le_refl, eq-eqb}
 use Rattle.std.proofs.lemmas.Bool.{eqb-true, eqb-false, ne_eqb}
-use Rattle.pdl_model.specs.Flat.{list_all, Pipe, Branch, Op, DelayedRead, Stmt, taken}
-use Rattle.pdl_model.specs.Stages.{onpath, in_stage, stage_at, goes_to, is_inside, is_branch_of, commit_stage, verify_stage}
-use Rattle.pdl_model.specs.Sound.{stages_before, stages_from}
+use Rattle.pdl_semantics.specs.Flat.{list_all, Pipe, Branch, Op, DelayedRead, Stmt, taken}
+use Rattle.pdl_semantics.specs.Stages.{onpath, in_stage, stage_at, goes_to, is_inside, is_branch_of, commit_stage, verify_stage}
+use Rattle.pdl_semantics.specs.Sound.{stages_before, stages_from}
 use Rattle.pdl_derived.specs.Alone.{before, looked, is_call}
 use Rattle.pdl_facts.specs.Scans.{from, Phase, Fresh, next_phase, phase_all, is_over, none_of, all_at, binds, fixed, is_fetch, is_dead}
 use Rattle.pdl_facts.specs.Certain.{Unmade}

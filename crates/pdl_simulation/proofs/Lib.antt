@@ -5,10 +5,12 @@ pub mod Seats
 pub mod Choices
 pub mod Telling
 pub mod Orders
+pub mod Leaving
 pub mod Turned
 pub mod Onward
 pub mod Placed
 pub mod Asked
+pub mod PerMemory
 pub mod Together
 pub mod Swapped
 pub mod Forked

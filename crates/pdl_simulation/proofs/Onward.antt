@@ -1,11 +1,11 @@
 -- The live threads after a cycle in both machines: those that move, those that stand, the new one, and none that a squash removes.
 use Rattle.std.proofs.Common.{◌≡◌, refl, sym, ap, ap₂, ◌∙◌, subst, ℕ, ◌<◌, Bool, true, false, ◌&&◌, ◌||◌, not, List, [], ◌∷◌, ◌++◌, Option, Some, None, is_some, ◌==◌, nat_le, cond, if◌then◌else◌, arith, append-nil, append_assoc, leb-true, leb-false}
-use Rattle.pdl_model.specs.Flat.{Pipe, list_all}
-use Rattle.pdl_model.specs.Stages.{list_any, stage_at, goes_to}
-use Rattle.pdl_model.specs.Machine.{State, with_answers}
-use Rattle.pdl_model.specs.Cycle.{awaited_of, comes, stands, or_then, squasher, child_of, stays, if_stays}
-use Rattle.pdl_model.specs.Moves.{movers, next_stage}
-use Rattle.pdl_model.specs.Cycle
+use Rattle.pdl_semantics.specs.Flat.{Pipe, list_all}
+use Rattle.pdl_semantics.specs.Stages.{list_any, stage_at, goes_to}
+use Rattle.pdl_semantics.specs.Machine.{State, with_answers}
+use Rattle.pdl_semantics.specs.Cycle.{awaited_of, comes, stands, or_then, squasher, child_of, stays, if_stays}
+use Rattle.pdl_semantics.specs.Moves.{movers, next_stage}
+use Rattle.pdl_semantics.specs.Cycle
 use Rattle.pdl_derived.specs.Derived.{Work, works, around, survivors, moved_to, born, exit_of, fresh}
 use Rattle.pdl_derived.specs.Derived
 use Rattle.pdl_simulation.proofs.FlowFacts.{Flows, next_of}

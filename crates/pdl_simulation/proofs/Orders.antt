@@ -1,14 +1,14 @@
 -- Of threads in two stages: the fork lists, who is older, and what the later stages tell.
 use Rattle.std.proofs.Common.{◌≡◌, refl, sym, ap, ap₂, ◌∙◌, subst, ℕ, suc, ◌≤◌, ◌<◌, ◌⊎◌, inl, inr, Bool, true, false, ◌&&◌, ◌||◌, not, List, [], ◌∷◌, ◌++◌, length, Option, Some, None, ◌==◌, nat_lt, nat_le, cond, if◌then◌else◌, arith, append-nil, append_assoc, leb-true, leb-false, le_refl, eq-eqb}
 use Rattle.std.proofs.lemmas.Bool.{eqb-true, eqb-false, ne_eqb}
-use Rattle.pdl_model.specs.Flat.{Pipe, Branch, list_all}
-use Rattle.pdl_model.specs.Stages.{list_any, in_stage, stage_at, verify_stage, reserve_stage, is_inside, is_branch_of}
-use Rattle.pdl_model.specs.Locks.{Nothing}
-use Rattle.pdl_model.specs.Machine.{answers, Request, NoRequest, Owned, Orphan, State, lock_of, fork_of, request_of, youngest, with_answers}
-use Rattle.pdl_model.specs.Moves.{next_stage, is_free, is_first, is_nobody}
-use Rattle.pdl_model.specs.Sound.{side_in}
-use Rattle.pdl_model.specs.Machine
-use Rattle.pdl_model.specs.Moves
+use Rattle.pdl_semantics.specs.Flat.{Pipe, Branch, list_all}
+use Rattle.pdl_semantics.specs.Stages.{list_any, in_stage, stage_at, verify_stage, reserve_stage, is_inside, is_branch_of}
+use Rattle.pdl_semantics.specs.Locks.{Nothing}
+use Rattle.pdl_semantics.specs.Machine.{answers, Request, NoRequest, Owned, Orphan, State, lock_of, fork_of, request_of, youngest, with_answers}
+use Rattle.pdl_semantics.specs.Moves.{next_stage, is_free, is_first, is_nobody}
+use Rattle.pdl_semantics.specs.Sound.{side_in}
+use Rattle.pdl_semantics.specs.Machine
+use Rattle.pdl_semantics.specs.Moves
 use Rattle.pdl_derived.specs.Derived.{Work, latest, pending, befores, awaits_mem, asked_at, port_free}
 use Rattle.pdl_derived.specs.Derived
 use Rattle.pdl_facts.specs.Scans.{none_of}

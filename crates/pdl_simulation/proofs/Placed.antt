@@ -1,14 +1,14 @@
 -- Where the live threads stand after a cycle: in age order, in their stages, each but the youngest with its successor made.
 use Rattle.std.proofs.Common.{◌≡◌, refl, sym, ap, ap₂, ◌∙◌, subst, ℕ, suc, ◌≤◌, ◌<◌, ◌⊎◌, inl, inr, Bool, true, false, ◌&&◌, ◌||◌, not, List, [], ◌∷◌, ◌++◌, length, Option, Some, None, is_some, ◌==◌, nat_lt, nat_le, cond, if◌then◌else◌, arith, ltb-true, ltb-false, leb-true, leb-false, eq-eqb, le_refl}
 use Rattle.std.proofs.lemmas.Bool.{eqb-true, eqb-false, ne_eqb}
-use Rattle.pdl_model.specs.Flat.{Pipe, Branch, list_all}
-use Rattle.pdl_model.specs.Stages.{stage_at, goes_to, is_inside, mem_at}
-use Rattle.pdl_model.specs.Machine.{answers, State, with_answers}
-use Rattle.pdl_model.specs.Moves.{block_ready}
-use Rattle.pdl_model.specs.Locks.{has_room}
-use Rattle.pdl_model.specs.Cycle.{stands, or_then, stays, if_stays}
-use Rattle.pdl_model.specs.Cycle
-use Rattle.pdl_model.specs.Machine
+use Rattle.pdl_semantics.specs.Flat.{Pipe, Branch, list_all}
+use Rattle.pdl_semantics.specs.Stages.{stage_at, goes_to, is_inside, mem_at}
+use Rattle.pdl_semantics.specs.Machine.{answers, State, with_answers}
+use Rattle.pdl_semantics.specs.Moves.{block_ready}
+use Rattle.pdl_semantics.specs.Locks.{has_room}
+use Rattle.pdl_semantics.specs.Cycle.{stands, or_then, stays, if_stays}
+use Rattle.pdl_semantics.specs.Cycle
+use Rattle.pdl_semantics.specs.Machine
 use Rattle.pdl_derived.specs.Derived.{Work, around, befores}
 use Rattle.pdl_derived.specs.Derived
 use Rattle.pdl_simulation.proofs.FlowFacts.{Flows, Ways, Leads, stage_or, next_of}

@@ -1,9 +1,9 @@
 -- The facts that the simulation takes follow from the facts as the rules say them.
 use Rattle.std.proofs.Common.{◌≡◌, refl, sym, ap, ap₂, ◌∙◌, subst, ℕ, suc, ◌≤◌, ◌<◌, ◌⊎◌, inl, inr, Bool, true, false, ◌&&◌, ◌||◌, not, List, [], ◌∷◌, ◌++◌, length, Option, Some, None, ◌==◌, nat_lt, nat_le, cond, arith, slice_index, ltb-true, ltb-false, lt-ltb, leb-true, leb-false, le_refl}
 use Rattle.std.proofs.lemmas.Bool.{eqb-true, eqb-false}
-use Rattle.pdl_model.specs.Flat.{Pipe, Branch, Next, Ends, Goes, Forks, Op, Bind, CombRead, DelayedRead, Guard, Stmt, takes, taken}
-use Rattle.pdl_model.specs.Stages.{onpath, in_stage, stage_at, goes_to}
-use Rattle.pdl_model.specs.Sound.{stages_before, stages_from}
+use Rattle.pdl_semantics.specs.Flat.{Pipe, Branch, Next, Ends, Goes, Forks, Op, Bind, CombRead, DelayedRead, Guard, Stmt, takes, taken}
+use Rattle.pdl_semantics.specs.Stages.{onpath, in_stage, stage_at, goes_to}
+use Rattle.pdl_semantics.specs.Sound.{stages_before, stages_from}
 use Rattle.pdl_facts.specs.Scans.{none_of, binds, is_fetch}
 use Rattle.pdl_simulation.proofs.FlowFacts.{Flows, FlowRules, AllOf, DefinedBy, SameBut, binds_guard, visits, comes_by, on_side, next_of, stage_or, sets, fetches}
 use Rattle.pdl_turns.proofs.Paths.{stage_path}
@@ -164,10 +164,6 @@ same_before env env' s (x ∷ xs) h = at (nat_lt x.stage s) refl (same_before en
     at false e r = r
 
 module _ (p : Pipe) (rules : FlowRules p) where
-  -- a variable that is bound nowhere in stage s keeps its value
-  Kept : (ℕ → Op → Bool) → ℕ → List ℕ → List ℕ → Type 0
-  Kept test s env env' = SameBut test (onpath env' (in_stage s p.stmts)) env env'
-
   steady_rule : (s : ℕ) (env env' : List ℕ) → visits p env s ≡ true → SameBut sets (onpath env' (in_stage s p.stmts)) env env'
       → (onpath env (stages_before s p.stmts) ≡ onpath env' (stages_before s p.stmts)) × (visits p env s ≡ visits p env' s)
   steady_rule s env env' b h = (

@@ -1,12 +1,12 @@
 -- The live threads with their numbers and kept answers, the youngest first; the acts of both machines in that order.
 use Rattle.std.proofs.Common.{◌≡◌, refl, sym, ap, ap₂, ◌∙◌, subst, ℕ, suc, ◌+◌, ◌≤◌, ◌<◌, Bool, true, false, List, [], ◌∷◌, ◌++◌, length, Option, Some, None, ◌==◌, cond, if◌then◌else◌, arith, lt-ltb, add-suc, suc-add, append-nil, append_assoc, length-append}
 use Rattle.std.proofs.lemmas.Bool.{eqb-true, eqb-false, ne_eqb}
-use Rattle.pdl_model.specs.Flat.{Pipe, Stage}
-use Rattle.pdl_model.specs.Locks.{Nothing}
-use Rattle.pdl_model.specs.Machine.{answers, Kept, State, Pending, with_answers, Deeds, youngest}
-use Rattle.pdl_model.specs.Cycle.{for_stages}
-use Rattle.pdl_model.specs.Machine
-use Rattle.pdl_model.specs.Moves
+use Rattle.pdl_semantics.specs.Flat.{Pipe, Stage}
+use Rattle.pdl_semantics.specs.Locks.{Nothing}
+use Rattle.pdl_semantics.specs.Machine.{Kept, State, Pending, with_answers, Deeds, youngest}
+use Rattle.pdl_semantics.specs.Cycle.{for_stages}
+use Rattle.pdl_semantics.specs.Machine
+use Rattle.pdl_semantics.specs.Moves
 use Rattle.pdl_derived.specs.Derived.{works, Work, latest, latest_in, pending, count_in, befores, around}
 use Rattle.pdl_derived.specs.Derived
 use Rattle.pdl_derived.proofs.Slots.{rev, stages_same}
@@ -107,9 +107,6 @@ lacts p st d bits (l ∷ ls) = lact p st d bits ls l ∷ lacts p st d bits ls
 pub befores_are : (p : Pipe) (d : Derived.State) (bits : List Bool) (ls : List Live) → befores (dacts p d bits ls) ≡ threads_of ls
 befores_are p d bits [] = refl
 befores_are p d bits (l ∷ ls) = ap (λ ts. l.thread ∷ ts) (befores_are p d bits ls)
-
-apart : (s q : ℕ) → s < q → (s == q) ≡ false
-apart s q h = ne_eqb s q (λ e. absurd (omega arith))
 
 pub find_none : (lo hi q : ℕ) (ls : List Live) → Rises lo hi ls → q < lo → find q ls ≡ None
 find_none lo hi q [] r h = refl

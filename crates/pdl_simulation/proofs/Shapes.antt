@@ -2,11 +2,11 @@
 use Rattle.std.proofs.Common.{◌≡◌, refl, sym, ap, ap₂, ◌∙◌, subst, ℕ, ◌≤◌, ◌<◌, inl, Bool, true, false, ◌&&◌, ◌||◌, not, List, [], ◌∷◌, ◌++◌, Option, Some, None, ◌==◌, nat_lt, nat_le, cond, if◌then◌else◌, arith, slice_index, append-nil, ltb-true, leb-true}
 use Rattle.std.proofs.lemmas.Bool.{eqb-true}
 use Rattle.std.proofs.lemmas.Bool.Decides.{eqb_tells}
-use Rattle.pdl_model.specs.Flat.{Commit, Op, Write, ReserveWrite, Release, Verify, Stmt, Guard, values_of, taken}
-use Rattle.pdl_model.specs.Stages.{onpath, in_stage, is_reserve, is_release}
-use Rattle.pdl_model.specs.Machine.{same_args, Pending, Place, held_after, held_before}
-use Rattle.pdl_model.specs.Sound.{stages_before, stages_from}
-use Rattle.pdl_model.specs.Machine
+use Rattle.pdl_semantics.specs.Flat.{Commit, Op, Write, ReserveWrite, Release, Verify, Stmt, Guard, values_of, taken}
+use Rattle.pdl_semantics.specs.Stages.{onpath, in_stage, is_reserve, is_release}
+use Rattle.pdl_semantics.specs.Machine.{same_args, Pending, Place, held_after, held_before}
+use Rattle.pdl_semantics.specs.Sound.{stages_before, stages_from}
+use Rattle.pdl_semantics.specs.Machine
 use Rattle.pdl_derived.specs.Derived.{Entry, Work, Around, does, do_all}
 use Rattle.pdl_derived.specs.Alone.{is_call}
 use Rattle.pdl_facts.specs.Scans.{Phase, Fresh, Held, Written, Done, after_release, next_phase, phase_all, is_over, none_of, all_at, binds, fixed, free_of, is_dead, keeps_guards, called}

@@ -2,19 +2,19 @@
 use Rattle.std.proofs.Common.{◌≡◌, refl, sym, ap, ap₂, ◌∙◌, subst, ℕ, ◌≤◌, ◌<◌, ◌⊎◌, inl, inr, Bool, true, false, ◌&&◌, ◌||◌, not, List, [], ◌∷◌, ◌++◌, length, Option, Some, None, is_some, ◌==◌, cond, if◌then◌else◌, arith, slice_index, slice_set, le_refl}
 use Rattle.std.proofs.lemmas.List.{get_or-set_other}
 use Rattle.std.proofs.lemmas.Bool.Decides.{eqb_tells}
-use Rattle.pdl_model.specs.Flat.{Commit, of_mem, Op, Bind, CombRead, DelayedRead, Write, ReserveWrite, Release, Call, SpecCall, Verify, Stmt, Branch, Pipe, value_of, values_of, taken}
-use Rattle.pdl_model.specs.Stages.{onpath, in_stage, stage_at, goes_to, is_reserve, is_release, reserve_stage, commit_stage}
-use Rattle.pdl_model.specs.Machine.{Ask, Awaited, same_args, answers, Pending, Blocked, Reserved, Deeds, held_before, does_all, is_held}
-use Rattle.pdl_model.specs.Cycle.{awaited_of}
-use Rattle.pdl_model.specs.Sound.{stages_before, stages_from}
-use Rattle.pdl_model.specs.Machine
+use Rattle.pdl_semantics.specs.Flat.{Commit, of_mem, Op, Bind, CombRead, DelayedRead, Write, ReserveWrite, Release, Call, SpecCall, Verify, Stmt, Branch, Pipe, value_of, values_of, taken}
+use Rattle.pdl_semantics.specs.Stages.{onpath, in_stage, stage_at, goes_to, is_reserve, is_release, reserve_stage, commit_stage}
+use Rattle.pdl_semantics.specs.Machine.{Ask, Awaited, same_args, answers, Pending, Blocked, Reserved, Deeds, held_before, does_all, is_held}
+use Rattle.pdl_semantics.specs.Cycle.{awaited_of}
+use Rattle.pdl_semantics.specs.Sound.{stages_before, stages_from}
+use Rattle.pdl_semantics.specs.Machine
 use Rattle.pdl_derived.specs.Derived.{Entry, Work, Around, does, do_all, works, still, with_answers, answered}
 use Rattle.pdl_derived.specs.Alone.{is_call}
 use Rattle.pdl_derived.specs.Derived
 use Rattle.pdl_facts.specs.Scans.{Phase, Fresh, next_phase, phase_all, is_over, none_of, called}
 use Rattle.pdl_simulation.proofs.FlowFacts.{Flows, SameBut, sets, fetches_from, fetches, use_ok, uses_ok, call_ok, calls_ok, visits, next_of, stage_or, comes_by, Leads, Ways}
 use Rattle.pdl_derived.proofs.Writes.{and_left, and_right}
-use Rattle.pdl_derived.proofs.Entries.{entries_of, entry}
+use Rattle.pdl_derived.proofs.Entries.{entries_of}
 use Rattle.pdl_derived.proofs.Stages.{step}
 use Rattle.pdl_turns.proofs.Paths.{Fixed}
 use Rattle.pdl_derived.proofs.Deeds.{places, places_has, work_of, AllFit, told_step}
@@ -365,10 +365,6 @@ module _ (p : Pipe) (flows : Flows p) (env : List ℕ) (t : Derived.Thread) (k :
 
   steady_here : (o : Around) → (on_way p t.env t.stage ≡ on_way p (works p o t).env t.stage) × (visits p t.env t.stage ≡ visits p (works p o t).env t.stage)
   steady_here o = flows.steady t.stage t.env (works p o t).env (way.1 ∙ k.reached) (only_sets (works p o t).env o (in_stage t.stage p.stmts) (start_of t) (fixed_here o))
-
-  -- the stage that it goes to
-  abbrev pub goal : Around → ℕ
-  goal o = next_of p t.stage (works p o t).env
 
   -- its way so far is that of its values at the end of the stage
   pub way_on : (o : Around) → on_way p (works p o t).env t.stage ≡ on_way p env t.stage

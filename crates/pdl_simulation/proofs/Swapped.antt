@@ -1,15 +1,15 @@
 -- A cycle does the same whether the acts are listed by stages or by age: two threads whose order differs stand in two branches, where nothing depends on it.
 use Rattle.std.proofs.Common.{◌≡◌, refl, sym, ap, ap₂, ◌∙◌, subst, ℕ, suc, ◌≤◌, ◌<◌, ◌⊎◌, inl, inr, Bool, true, false, ◌&&◌, ◌||◌, not, List, [], ◌∷◌, ◌++◌, length, Option, Some, None, is_some, is_none, ◌==◌, nat_lt, cond, if◌then◌else◌, arith, ltb-false, le_refl}
 use Rattle.std.proofs.lemmas.Bool.{eqb-true, eqb-false}
-use Rattle.pdl_model.specs.Flat.{Arrays, Pipe, Branch, Mem, Op, ReserveWrite, Call, SpecCall, Verify, Stmt, taken}
-use Rattle.pdl_model.specs.Stages.{list_any, in_stage, stage_at, goes_to, is_branch_of}
-use Rattle.pdl_model.specs.Machine.{Ask, answers, Request, NoRequest, State, Pending, Deeds, lock_of, fork_of, request_of, with_answers, does_all, word_for}
-use Rattle.pdl_model.specs.Moves.{movers, next_stage}
-use Rattle.pdl_model.specs.Cycle.{new_entries, appended, put, put_all, filled, releases, child_of, squasher, asked_by, asked_of, asked_in, address_of, stands, comes, or_then, entered, goes_into, goes_out, left, for_mems, for_stages, taken_out, list_two, with_commit, with_commits}
-use Rattle.pdl_model.specs.Sound.{side_in}
-use Rattle.pdl_model.specs.Cycle
-use Rattle.pdl_model.specs.Machine
-use Rattle.pdl_model.specs.Moves
+use Rattle.pdl_semantics.specs.Flat.{Arrays, Pipe, Branch, Mem, Op, ReserveWrite, Call, SpecCall, Verify, Stmt, taken}
+use Rattle.pdl_semantics.specs.Stages.{list_any, in_stage, stage_at, goes_to, is_branch_of}
+use Rattle.pdl_semantics.specs.Machine.{Ask, answers, Request, NoRequest, State, Pending, Deeds, lock_of, fork_of, request_of, with_answers, does_all, word_for}
+use Rattle.pdl_semantics.specs.Moves.{movers, next_stage}
+use Rattle.pdl_semantics.specs.Cycle.{new_entries, appended, put, put_all, filled, releases, child_of, squasher, asked_by, asked_of, asked_in, address_of, stands, comes, or_then, entered, goes_into, goes_out, left, for_mems, for_stages, taken_out, list_two, with_commit, with_commits}
+use Rattle.pdl_semantics.specs.Sound.{side_in}
+use Rattle.pdl_semantics.specs.Cycle
+use Rattle.pdl_semantics.specs.Machine
+use Rattle.pdl_semantics.specs.Moves
 use Rattle.pdl_derived.specs.Derived.{Work, find_ask}
 use Rattle.pdl_derived.specs.Derived
 use Rattle.pdl_facts.specs.Scans.{none_of}

@@ -1,11 +1,11 @@
 -- What is known of each live thread at the start of a cycle, and what the later stages tell it: the threads in later stages and the older ones are others only where a fork's branches stand, and there they don't matter.
 use Rattle.std.proofs.Common.{◌≡◌, refl, sym, ap, ap₂, ◌∙◌, subst, ℕ, suc, ◌≤◌, ◌<◌, Bool, true, false, ◌&&◌, ◌||◌, not, List, [], ◌∷◌, ◌++◌, Some, ◌==◌, nat_lt, nat_le, cond, if◌then◌else◌, arith, append-nil, append_assoc, ltb-true, ltb-false, leb-true, leb-false}
 use Rattle.std.proofs.lemmas.Bool.{eqb-true}
-use Rattle.pdl_model.specs.Flat.{Pipe, Op, Verify, SpecBarrier, Stmt, taken}
-use Rattle.pdl_model.specs.Stages.{stage_at}
-use Rattle.pdl_model.specs.Machine.{Deeds, does_all}
-use Rattle.pdl_model.specs.Sound.{side_in}
-use Rattle.pdl_model.specs.Machine
+use Rattle.pdl_semantics.specs.Flat.{Pipe, Op, Verify, SpecBarrier, Stmt, taken}
+use Rattle.pdl_semantics.specs.Stages.{stage_at}
+use Rattle.pdl_semantics.specs.Machine.{Deeds, does_all}
+use Rattle.pdl_semantics.specs.Sound.{side_in}
+use Rattle.pdl_semantics.specs.Machine
 use Rattle.pdl_facts.specs.Scans.{none_of}
 use Rattle.pdl_simulation.proofs.FlowFacts.{trunk_only}
 use Rattle.pdl_derived.proofs.Writes.{and_left, and_right}

@@ -1,18 +1,18 @@
 -- What ties a state of the stated machine to one of the derived machine, one cycle of both, and whole runs.
 use Rattle.std.proofs.Common.{◌≡◌, refl, sym, ap, ap₂, ◌∙◌, subst, ℕ, zero, suc, ◌+◌, ◌≤◌, ◌<◌, Bool, true, false, ◌&&◌, ◌||◌, not, List, [], ◌∷◌, ◌++◌, length, Option, Some, None, is_some, is_none, ◌==◌, nat_lt, cond, if◌then◌else◌, arith, append-nil, slice_index_or, ltb-true, ltb-false, zero-add, add-zero, add-suc, suc-add, eq-eqb}
 use Rattle.std.proofs.lemmas.Bool.{eqb-true, eqb-false}
-use Rattle.pdl_model.specs.Flat.{Arrays, Pipe, Branch, Mem, Stage, of_mem, committed}
-use Rattle.pdl_model.specs.Stages.{list_any, stage_at, goes_to, in_stage, is_inside, is_branch_of}
-use Rattle.pdl_model.specs.Sound.{side_in}
-use Rattle.pdl_model.specs.Machine.{Ask, Awaited, Request, NoRequest, Owned, Orphan, answers, State, Pending, lock_of, fork_of, request_of, with_kept}
-use Rattle.pdl_model.specs.Cycle.{awaited_of, for_mems, for_stages, releases, oldest, but_oldest, list_two, list_three, taken_out, with_commits, entries_left, request_left, request_next, shown, port_write, stays, squasher, child_of}
+use Rattle.pdl_semantics.specs.Flat.{Arrays, Pipe, Branch, Mem, Stage, of_mem, committed}
+use Rattle.pdl_semantics.specs.Stages.{list_any, stage_at, goes_to, in_stage, is_inside, is_branch_of}
+use Rattle.pdl_semantics.specs.Sound.{side_in}
+use Rattle.pdl_semantics.specs.Machine.{Ask, Awaited, Request, NoRequest, Owned, Orphan, answers, State, Pending, lock_of, fork_of, request_of, with_kept}
+use Rattle.pdl_semantics.specs.Cycle.{awaited_of, for_mems, for_stages, releases, oldest, but_oldest, list_two, list_three, taken_out, with_commits, entries_left, request_left, request_next, shown, port_write, stays, squasher}
 use Rattle.pdl_turns.proofs.Released.{released}
-use Rattle.pdl_model.specs.Moves.{movers, next_stage}
-use Rattle.pdl_model.specs.Promises.{row, wrote}
-use Rattle.pdl_model.specs.Cycle
-use Rattle.pdl_model.specs.Locks
-use Rattle.pdl_model.specs.Machine
-use Rattle.pdl_model.specs.Moves
+use Rattle.pdl_semantics.specs.Moves.{movers, next_stage}
+use Rattle.pdl_semantics.specs.Promises.{row, wrote}
+use Rattle.pdl_semantics.specs.Cycle
+use Rattle.pdl_semantics.specs.Locks
+use Rattle.pdl_semantics.specs.Machine
+use Rattle.pdl_semantics.specs.Moves
 use Rattle.pdl_derived.specs.Derived.{Work, commits_of, asks_of, asked_at, next_ask, next_asks, find_ask, stage_flags, still}
 use Rattle.pdl_derived.specs.Derived
 use Rattle.pdl_facts.specs.Scans.{none_of}
@@ -20,8 +20,8 @@ use Rattle.pdl_simulation.proofs.FlowFacts.{Flows, fetches_from}
 use Rattle.pdl_derived.specs.Simulation.{SameTurn, SameTurns}
 use Rattle.pdl_derived.proofs.Writes.{row_committed}
 use Rattle.pdl_derived.proofs.Slots.{rev, stages_same}
-use Rattle.pdl_linear.proofs.Simulates.{at_mem, past_mems, mems_same, row_commits, past_commits}
-use Rattle.pdl_linear.proofs.Locks.{Out}
+use Rattle.pdl_simulation.proofs.PerMemory.{at_mem, past_mems, mems_same, row_commits, past_commits}
+use Rattle.pdl_simulation.proofs.Leaving.{Out}
 use Rattle.pdl_derived.proofs.Lists.{pend}
 use Rattle.pdl_turns.proofs.Own.{pend_own}
 use Rattle.pdl_simulation.proofs.Shapes.{none_stage}
@@ -102,9 +102,6 @@ module _ (p : Pipe) (flows : Flows p) where
     pub derived_acts_are : Derived.all_acts p d bits ≡ rev (dacts p d bits ls)
     derived_acts_are = ap (Derived.acts p d bits []) sim.threads ∙ acts_back p d bits ls
 
-    abbrev pub sq : Option ℕ
-    sq = squasher (movers (lacts p st d bits ls))
-
     pub fit : Agrees p d bits (squasher (movers (lacts p st d bits ls))) ls
     fit = agrees p flows st d bits sim.arrays st.next ls known sim.falls
 
@@ -142,15 +139,6 @@ module _ (p : Pipe) (flows : Flows p) where
                 ∙ sym (row_committed n (commits_of (rev (dacts p d bits ls))) d.arrays)
 
     -- THE NEXT STATES
-
-    abbrev pub after : List Live
-    after = lives_next p flows st d bits sim.arrays ls
-
-    abbrev pub stated : State
-    stated = Cycle.after_these p st bits (lacts p st d bits ls) (movers (lacts p st d bits ls)) (squasher (movers (lacts p st d bits ls)))
-
-    abbrev pub derived : Derived.State
-    derived = Derived.after p d bits (rev (dacts p d bits ls))
 
     no_entries : (m : ℕ) → length p.mems ≤ m → (ks : List Live) → Each (λ k. Keeps p k.env k.thread × (with_kept k.kept k.env ≡ k.thread.env)) ks → pends m ks ≡ []
     no_entries m i [] o = refl

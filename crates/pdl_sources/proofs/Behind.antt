@@ -1,6 +1,6 @@
 -- What holds of the tokens of a part of a text, and is so of fewer, holds of those behind the part.
 use Rattle.std.proofs.Common.{ℕ, List}
-use Rattle.pdl_model.specs.Tree.{Expr}
+use Rattle.pdl_semantics.specs.Tree.{Expr}
 use Rattle.pdl_tokens.specs.declared.token.Mark.{Mark}
 use Rattle.pdl_tokens.specs.Tokens.{Row}
 use Rattle.pdl_grammar.specs.Grammar.{Listed, last, further, Level, constant, variable, sliced, bracketed, inverted, catenated, compared, extended, sign_extended, tighter, joined, Full, whole, chosen}

@@ -1,7 +1,7 @@
 -- A written text that keeps the rules, with two `if`s on one expression; so the theorems on texts speak of it.
 use Rattle.std.proofs.Common.{◌≡◌, refl, ℕ, Bool, true, false, ◌&&◌, codes, List, [], ◌∷◌}
 use Rattle.std.proofs.lemmas.Bool.{and_parts}
-use Rattle.pdl_model.specs.Tree.{Expr, Pipe}
+use Rattle.pdl_semantics.specs.Tree.{Expr, Pipe}
 use Rattle.pdl_tokens.specs.Tokens.{Row, piece_at, tokens}
 use Rattle.pdl_cursor.specs.declared.limits.Counts.{Counts}
 use Rattle.pdl_cursor.specs.Limits.{counted, is_within, AreWithin, at_start}

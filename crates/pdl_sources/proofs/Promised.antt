@@ -1,16 +1,16 @@
 -- What holds of the runs of the pipe of a text that keeps the rules.
 use Rattle.std.proofs.Common.{ℕ, Bool, List}
 use Rattle.std.specs.Prelude.{IsTrue}
-use Rattle.pdl_model.specs.Tree.{Pipe}
-use Rattle.pdl_model.specs.Flat.{Arrays}
-use Rattle.pdl_model.specs.Flatten.{flat}
-use Rattle.pdl_model.specs.Cycle.{first, state_after, turns, ended_in}
-use Rattle.pdl_model.specs.Promises.{Refines, Advances, KeepsPace}
-use Rattle.pdl_model.specs.Sound.{is_sound}
+use Rattle.pdl_semantics.specs.Tree.{Pipe}
+use Rattle.pdl_semantics.specs.Flat.{Arrays}
+use Rattle.pdl_semantics.specs.Flatten.{flat}
+use Rattle.pdl_semantics.specs.Cycle.{first, state_after, turns, ended_in}
+use Rattle.pdl_semantics.specs.Promises.{Refines, Advances, KeepsPace}
+use Rattle.pdl_semantics.specs.Sound.{is_sound}
 use Rattle.pdl_facts.specs.Facts.{Sound}
 use Rattle.pdl_rules.specs.Refusal.{KeepsRules}
 use Rattle.pdl_grammar.specs.Text.{IsText}
-use Rattle.pdl_refine.proofs.Stated.{whole_refines, whole_advances, whole_paces}
+use Rattle.pdl_theorems.proofs.Stated.{whole_refines, whole_advances, whole_paces}
 use Rattle.pdl_pathfacts.proofs.Whole.{of_source}
 use Rattle.pdl_strict.proofs.Paths.{paths_strict}
 use Rattle.pdl_invariant.proofs.EveryState

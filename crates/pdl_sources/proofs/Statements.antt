@@ -1,7 +1,7 @@
 -- The statements of a text, in the order of its tokens: the `if`s on expressions begin at bytes that ascend, and each variable that is bound has letters.
 use Rattle.std.proofs.Common.{◌≡◌, refl, sym, ap, subst, ◌∙◌, ℕ, suc, ◌≤◌, true, false, List, [], ◌∷◌, ◌++◌, append_assoc, arith}
 use Rattle.std.specs.Prelude.{⊤}
-use Rattle.pdl_model.specs.Tree.{Span, Expr, Constant, Variable, Slice, Not, Binary, Cat, LessSigned, ZeroExtend, SignExtend, Choose, Stmt, If, Stmts, Nil}
+use Rattle.pdl_semantics.specs.Tree.{Span, Expr, Constant, Variable, Slice, Not, Binary, Cat, LessSigned, ZeroExtend, SignExtend, Choose, Stmt, If, Stmts, Nil}
 use Rattle.pdl_tokens.specs.Tokens.{Row}
 use Rattle.pdl_grammar.specs.Grammar.{across, prepend, Item, separating, reading, binding, guessing, fetching, writing, reserving, acquiring, blocking, releasing, branching, choosing, calling, verifying, checking, barring, Items, none, more}
 use Rattle.pdl_rules.specs.Places.{Place, Branch, guard_of, with_inner, statements}

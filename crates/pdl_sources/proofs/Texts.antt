@@ -1,7 +1,7 @@
 -- The tree of a text is as the theorems on accepted pipes take it: its `if`s on expressions begin at different bytes, and no variable has the empty name.
 use Rattle.std.proofs.Common.{◌≡◌, refl, sym, ap, ap₂, subst, ◌∙◌, ℕ, suc, true, false, not, ◌||◌, List, [], ◌∷◌, ◌++◌, map, Option, Some, None, append_assoc}
 use Rattle.std.specs.List.{list_any}
-use Rattle.pdl_model.specs.Tree.{Param, LockDecl, Mem, Pipe}
+use Rattle.pdl_semantics.specs.Tree.{Param, LockDecl, Mem, Pipe}
 use Rattle.pdl_tokens.specs.declared.token.Mark.{Mark}
 use Rattle.pdl_tokens.specs.Tokens.{Row, tokens}
 use Rattle.pdl_grammar.specs.Grammar.{Listed, last, further, Lock, unlocked, locked, Memory, memory, Parameter, parameter, Text, text}

@@ -4,12 +4,12 @@
 #![tactic(auto)]
 
 ghost use Rattle.std.specs.Prelude.{ℕ, Bool, IsTrue, List};
-ghost use Rattle.pdl_model.specs.Tree.{Pipe};
-ghost use Rattle.pdl_model.specs.Flat.{Arrays};
-ghost use Rattle.pdl_model.specs.Flatten.{flat};
-ghost use Rattle.pdl_model.specs.Promises.{Refines, Advances, KeepsPace};
-ghost use Rattle.pdl_model.specs.Cycle.{first, state_after, turns, ended_in};
-ghost use Rattle.pdl_model.specs.Sound.{is_sound};
+ghost use Rattle.pdl_semantics.specs.Tree.{Pipe};
+ghost use Rattle.pdl_semantics.specs.Flat.{Arrays};
+ghost use Rattle.pdl_semantics.specs.Flatten.{flat};
+ghost use Rattle.pdl_semantics.specs.Promises.{Refines, Advances, KeepsPace};
+ghost use Rattle.pdl_semantics.specs.Cycle.{first, state_after, turns, ended_in};
+ghost use Rattle.pdl_semantics.specs.Sound.{is_sound};
 ghost use Rattle.pdl_grammar.specs.Text.{IsText};
 ghost use Rattle.pdl_rules.specs.Refusal.{KeepsRules};
 ghost use Rattle.pdl_derived.specs.Derived;
@@ -42,7 +42,7 @@ pub fn promises()
     ensures simulation { (text : List ℕ) (p : Pipe) → IsText text p → KeepsRules p → (image : Arrays) (schedule : List (List Bool)) → SameTurns (flat p) (turns (flat p) image schedule) (Derived.turns (flat p) image schedule) }
 {
     trees();
-    pdl_promise::accepted();
+    pdl_soundness::accepted();
 }
 
 /// Every state that a run of such a text comes to passes the whole test of Sound state, with as many turns ended as threads.

@@ -1,10 +1,10 @@
 -- The facts of an accepted pipe's stage graph and text, together.
 use Rattle.std.proofs.Common.{◌≡◌, refl, ◌∙◌, ℕ, ◌<◌, true, List, [], ◌∷◌, length, nat_lt, lt-ltb}
 use Rattle.std.proofs.lemmas.Bool.{and_from}
-use Rattle.pdl_model.specs.Tree.{Pipe}
-use Rattle.pdl_model.specs.Flat
-use Rattle.pdl_model.specs.Flatten.{flat}
-use Rattle.pdl_model.specs.Stages.{in_stage, mem_at}
+use Rattle.pdl_semantics.specs.Tree.{Pipe}
+use Rattle.pdl_semantics.specs.Flat
+use Rattle.pdl_semantics.specs.Flatten.{flat}
+use Rattle.pdl_semantics.specs.Stages.{in_stage, mem_at}
 use Rattle.pdl_rules.specs.Refusal.{KeepsRules}
 use Rattle.pdl_facts.specs.Facts.{is_exact, Found}
 use Rattle.pdl_stagefacts.specs.StageFacts.{StageFacts, FoundIf, AllFound}

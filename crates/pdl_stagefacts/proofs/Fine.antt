@@ -1,16 +1,16 @@
 -- What holds at each site of a source that breaks no rule, and how facts of sites become facts of the flat statements.
 use Rattle.std.proofs.Common.{◌≡◌, refl, sym, ap, ◌∙◌, subst, ℕ, suc, ◌+◌, ◌<◌, Bool, true, false, ◌||◌, not, List, [], ◌∷◌, ◌++◌, length, Option, Some, None, arith, if◌then◌else◌, ◌==◌, eq-eqb, eqb-true}
 use Rattle.std.proofs.lemmas.Bool.{false≢true, and_parts, and_from}
-use Rattle.pdl_model.specs.Tree.{Variable, Stmt, Separator, CombRead, Bind, SpecCall, DelayedRead, Write, Reserve, Block, Release, If, Call, Verify, SpecCheck, SpecBarrier, Stmts, Nil, Cons, Mem, Pipe}
-use Rattle.pdl_model.specs.Flat
-use Rattle.pdl_model.specs.Flatten.{Var, var_of, mem_of, flat_expr, flat_exprs, reserves, at_place, binds_guard, past, guard_of, separators_in, separators, at_start, flat}
-use Rattle.pdl_model.specs.Flatten
+use Rattle.pdl_semantics.specs.Tree.{Variable, Stmt, Separator, CombRead, Bind, SpecCall, DelayedRead, Write, Reserve, Block, Release, If, Call, Verify, SpecCheck, SpecBarrier, Stmts, Nil, Cons, Mem, Pipe}
+use Rattle.pdl_semantics.specs.Flat
+use Rattle.pdl_semantics.specs.Flatten.{Var, var_of, mem_of, flat_expr, flat_exprs, reserves, at_place, binds_guard, past, guard_of, separators_in, separators, at_start, flat}
+use Rattle.pdl_semantics.specs.Flatten
 use Rattle.pdl_rules.specs.Places.{Place, places}
 use Rattle.pdl_rules.specs.Forks.{is_trunk_only}
 use Rattle.pdl_rules.specs.Refusal.{KeepsRules}
 use Rattle.pdl_facts.specs.Scans.{none_of, all_at}
 use Rattle.pdl_facts.specs.Facts.{trunk_only}
-use Rattle.pdl_model.specs.Stages.{in_stage}
+use Rattle.pdl_semantics.specs.Stages.{in_stage}
 use Rattle.pdl_stagefacts.proofs.Sites.{Site, sites_of, front_of, place_of, own_of, own, owns, All, Stands, all_stand, stmts_are}
 use Rattle.pdl_stagefacts.proofs.Walks.{At, past_begun}
 use Rattle.pdl_stagefacts.proofs.Walks

@@ -4,10 +4,10 @@ use Rattle.std.proofs.lemmas.Bool.{false≢true, and_parts, or_parts, not-false}
 use Rattle.std.proofs.lemmas.List.Folds.{list_any-append}
 use Rattle.std.specs.List.{list_any}
 use Rattle.pdl_kit.specs.declared.rule.Rule.TheVariants.{N1}
-use Rattle.pdl_model.specs.Tree.{Location, Stmt, If, Stmts, Nil, Cons, Param, Mem, Pipe}
-use Rattle.pdl_model.specs.Flat
-use Rattle.pdl_model.specs.Flatten.{Var, mem_of, with_guard, past, at_otherwise, under, at_start, flat}
-use Rattle.pdl_model.specs.Flatten
+use Rattle.pdl_semantics.specs.Tree.{Location, Stmt, If, Stmts, Nil, Cons, Param, Mem, Pipe}
+use Rattle.pdl_semantics.specs.Flat
+use Rattle.pdl_semantics.specs.Flatten.{Var, mem_of, with_guard, past, at_otherwise, under, at_start, flat}
+use Rattle.pdl_semantics.specs.Flatten
 use Rattle.pdl_rules.specs.Places.{Place, Parameter, Memory, Statement, Branch, with_inner, statements, places}
 use Rattle.pdl_rules.specs.Parts.{passes, location_of, some_expr_of, some_part}
 use Rattle.pdl_rules.specs.Names.{OfMemory, OfVariable, defines, is_undefined, in_location, in_verify, reads}

@@ -4,10 +4,10 @@ use Rattle.std.proofs.lemmas.Bool.{false≢true, and_from, or_parts, or_left, or
 use Rattle.std.proofs.lemmas.List.Folds.{list_any-append}
 use Rattle.std.specs.List.{list_any}
 use Rattle.pdl_kit.specs.declared.rule.Rule.TheVariants.{N3}
-use Rattle.pdl_model.specs.Tree.{R, W, Span, Ident, Expr, Constant, Variable, Slice, Not, Binary, Cat, LessSigned, ZeroExtend, SignExtend, Choose, Location, Stmt, DelayedRead, Reserve, If, Param, Pipe}
-use Rattle.pdl_model.specs.Flat
-use Rattle.pdl_model.specs.Flatten.{var_of, guard_of, past_all, at_start, flat}
-use Rattle.pdl_model.specs.Stages.{stage_at, in_stage}
+use Rattle.pdl_semantics.specs.Tree.{R, W, Span, Ident, Expr, Constant, Variable, Slice, Not, Binary, Cat, LessSigned, ZeroExtend, SignExtend, Choose, Location, Stmt, DelayedRead, Reserve, If, Param, Pipe}
+use Rattle.pdl_semantics.specs.Flat
+use Rattle.pdl_semantics.specs.Flatten.{var_of, guard_of, past_all, at_start, flat}
+use Rattle.pdl_semantics.specs.Stages.{stage_at, in_stage}
 use Rattle.pdl_rules.specs.Places.{Place, Parameter, Memory, Statement, Branch, Guard, statements, places, choices, paths, on_path, on_some_path}
 use Rattle.pdl_rules.specs.Places
 use Rattle.pdl_rules.specs.Parts.{passes}

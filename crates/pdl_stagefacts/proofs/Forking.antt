@@ -1,11 +1,11 @@
 -- The `if` of each fork, and its variable: bound before the fork's stage ends, and by no delayed read of that stage.
 use Rattle.std.proofs.Common.{◌≡◌, refl, sym, ap, ap₂, ◌∙◌, ℕ, zero, suc, ◌+◌, ◌≤◌, ◌<◌, ◌⊎◌, inl, inr, Bool, true, false, List, [], ◌∷◌, ◌++◌, length, Option, Some, None, unwrap_or, arith}
 use Rattle.std.proofs.lemmas.Bool.{and_parts}
-use Rattle.pdl_model.specs.Tree.{Span, Expr, Separator, If, Stmts, Nil, Cons, Mem, Pipe}
-use Rattle.pdl_model.specs.Flat
-use Rattle.pdl_model.specs.Flatten.{Var, var_of, guard_of, with_guard, past, past_all, at_otherwise, under, separators_in, separators, at_start, flat}
-use Rattle.pdl_model.specs.Flatten
-use Rattle.pdl_model.specs.Stages.{stage_at}
+use Rattle.pdl_semantics.specs.Tree.{Span, Expr, Separator, If, Stmts, Nil, Cons, Mem, Pipe}
+use Rattle.pdl_semantics.specs.Flat
+use Rattle.pdl_semantics.specs.Flatten.{Var, var_of, guard_of, with_guard, past, past_all, at_otherwise, under, separators_in, separators, at_start, flat}
+use Rattle.pdl_semantics.specs.Flatten
+use Rattle.pdl_semantics.specs.Stages.{stage_at}
 use Rattle.pdl_rules.specs.Places.{Place, Statement, with_inner}
 use Rattle.pdl_stagefacts.proofs.Sites.{Site, sites_in, sites, place_of, All}
 use Rattle.pdl_stagefacts.proofs.Walks.{past_begun}

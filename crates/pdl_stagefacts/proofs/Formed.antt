@@ -3,9 +3,9 @@ use Rattle.std.proofs.Common.{◌≡◌, refl, sym, ap, ap₂, ◌∙◌, ℕ, z
 use Rattle.std.proofs.Math.Seq.{drop-append_seam}
 use Rattle.std.proofs.lemmas.Bool.{false≢true, and_from, or_parts, not-false}
 use Rattle.pdl_kit.specs.declared.rule.Rule.TheVariants.{F2}
-use Rattle.pdl_model.specs.Tree.{Span, Expr, Stmt, Separator, If, Stmts, Nil, Cons, Mem, Pipe}
-use Rattle.pdl_model.specs.Flatten.{past, guard_of, separators, at_start, flat, stages_of}
-use Rattle.pdl_model.specs.Flatten
+use Rattle.pdl_semantics.specs.Tree.{Span, Expr, Stmt, Separator, If, Stmts, Nil, Cons, Mem, Pipe}
+use Rattle.pdl_semantics.specs.Flatten.{past, guard_of, separators, at_start, flat, stages_of}
+use Rattle.pdl_semantics.specs.Flatten
 use Rattle.pdl_rules.specs.Places.{Place, Statement, Branch, with_inner, statements, places, behind}
 use Rattle.pdl_rules.specs.Forks.{holds_separator, is_fork, places_in, starts_with_separator}
 use Rattle.pdl_rules.specs.Refusal.{KeepsRules}

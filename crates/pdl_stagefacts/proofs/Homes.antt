@@ -3,11 +3,11 @@ use Rattle.std.proofs.Common.{◌≡◌, refl, sym, ap, ap₂, ◌∙◌, subst,
 use Rattle.std.proofs.lemmas.Bool.{false≢true, and_parts, and_from, or_parts, not-false, eqb-false}
 use Rattle.std.specs.List.{list_any}
 use Rattle.pdl_kit.specs.declared.rule.Rule.TheVariants.{Z7, L2, S3, F3, F4}
-use Rattle.pdl_model.specs.Tree.{R, W, Variable, Stmt, DelayedRead, Reserve, Release, If, Mem, LockDecl, LockKind, Queue, Bypass, Rename, Pipe}
-use Rattle.pdl_model.specs.Flat
-use Rattle.pdl_model.specs.Flatten.{Var, mem_of, mems_of, lock_of, reserves, separators, first_stages, flat}
-use Rattle.pdl_model.specs.Flatten
-use Rattle.pdl_model.specs.Stages.{is_reserve, is_release, is_verify, verify_stage, reserve_stage, commit_stage, plain_mem, mem_at, in_stage}
+use Rattle.pdl_semantics.specs.Tree.{R, W, Variable, Stmt, DelayedRead, Reserve, Release, If, Mem, LockDecl, LockKind, Queue, Bypass, Rename, Pipe}
+use Rattle.pdl_semantics.specs.Flat
+use Rattle.pdl_semantics.specs.Flatten.{Var, mem_of, mems_of, lock_of, reserves, separators, first_stages, flat}
+use Rattle.pdl_semantics.specs.Flatten
+use Rattle.pdl_semantics.specs.Stages.{is_reserve, is_release, is_verify, verify_stage, reserve_stage, commit_stage, plain_mem, mem_at, in_stage}
 use Rattle.pdl_rules.specs.Places.{Place, Parameter, Memory, Statement, places, statements}
 use Rattle.pdl_rules.specs.Parts.{location_of, passes}
 use Rattle.pdl_rules.specs.Limits.{is_wrong_lock, is_width, is_depth, is_size, allows}

@@ -1,8 +1,8 @@
 -- The stages of paths, computed of written pipes.
 use Rattle.std.proofs.Common.{◌≡◌, refl, ℕ, List, [], ◌∷◌}
-use Rattle.pdl_model.specs.Tree.{Pipe}
-use Rattle.pdl_model.specs.Flatten.{flat, at_start}
-use Rattle.pdl_model.proofs.Pipes.{one_stage, two_stages, two_branches, one_branch}
+use Rattle.pdl_semantics.specs.Tree.{Pipe}
+use Rattle.pdl_semantics.specs.Flatten.{flat, at_start}
+use Rattle.pdl_semantics.proofs.Pipes.{one_stage, two_stages, two_branches, one_branch}
 use Rattle.pdl_stagefacts.specs.Visits.{visited, begun_by}
 
 -- the stages that the separators of a path begin, where the variables have these values

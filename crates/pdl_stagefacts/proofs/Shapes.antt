@@ -1,10 +1,10 @@
 -- The stage graph of a body whose forks are directly followed by a separator and hold no fork: a trunk, from which each fork leads through two rows of branch stages to its merge.
 use Rattle.std.proofs.Common.{◌≡◌, refl, sym, ap, ap₂, ◌∙◌, ℕ, zero, suc, ◌+◌, Bool, true, false, ◌&&◌, List, [], ◌∷◌, ◌++◌, Option, Some, None, arith, cond, if◌then◌else◌, ◌==◌, eqb-true}
 use Rattle.std.proofs.lemmas.Bool.{false≢true, and_parts}
-use Rattle.pdl_model.specs.Tree.{Separator, If, Stmts, Nil, Cons, Mem}
-use Rattle.pdl_model.specs.Flat
-use Rattle.pdl_model.specs.Flatten.{Var, with_guard, past, past_all, at_otherwise, guard_of, separators_in, separators, joined, graph, entry, forks, merging, side, begins}
-use Rattle.pdl_model.specs.Flatten
+use Rattle.pdl_semantics.specs.Tree.{Separator, If, Stmts, Nil, Cons, Mem}
+use Rattle.pdl_semantics.specs.Flat
+use Rattle.pdl_semantics.specs.Flatten.{Var, with_guard, past, past_all, at_otherwise, guard_of, separators_in, separators, joined, graph, entry, forks, merging, side, begins}
+use Rattle.pdl_semantics.specs.Flatten
 use Rattle.pdl_stagefacts.proofs.Walks.{past_begun, past_all_begun, guard_begun}
 
 -- BODIES

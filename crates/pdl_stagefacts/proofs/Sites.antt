@@ -1,9 +1,9 @@
 -- The statements of a source in text order, each with the places before it, the branches that it stands in, and where the walk of the flat form is: what ties the rules' places to the flat statements.
 use Rattle.std.proofs.Common.{◌≡◌, refl, sym, ap, ap₂, ◌∙◌, Bool, true, false, List, [], ◌∷◌, ◌++◌, map, append_assoc, append-nil}
-use Rattle.pdl_model.specs.Tree.{Span, Expr, Stmt, If, Stmts, Nil, Cons, Mem, Pipe}
-use Rattle.pdl_model.specs.Flat
-use Rattle.pdl_model.specs.Flatten.{with_guard, past, past_all, at_otherwise, binds_guard, under, flat_stmt, flat_stmts, at_start}
-use Rattle.pdl_model.specs.Flatten
+use Rattle.pdl_semantics.specs.Tree.{Span, Expr, Stmt, If, Stmts, Nil, Cons, Mem, Pipe}
+use Rattle.pdl_semantics.specs.Flat
+use Rattle.pdl_semantics.specs.Flatten.{with_guard, past, past_all, at_otherwise, binds_guard, under, flat_stmt, flat_stmts, at_start}
+use Rattle.pdl_semantics.specs.Flatten
 use Rattle.pdl_rules.specs.Places.{Place, Parameter, Memory, Statement, End, StartClause, Branch, guard_of, with_inner, statements, places}
 
 -- a statement, the places before it, where the walk of the flat form is, the guards of its flat statements, and its branches

@@ -2,9 +2,9 @@
 use Rattle.std.proofs.Common.{◌≡◌, refl, sym, ap, ap₂, ◌∙◌, subst, ℕ, zero, suc, ◌+◌, ◌-◌, ◌≤◌, ◌<◌, ◌⊎◌, inl, inr, Bool, true, false, List, [], ◌∷◌, ◌++◌, length, append_assoc, length-append, Option, Some, None, arith, cond, nat_lt, slice_index_or, ltb-true, ltb-false}
 use Rattle.std.proofs.Math.Seq.{get_or-append_seam}
 use Rattle.std.proofs.lemmas.List.{get_or_past}
-use Rattle.pdl_model.specs.Flat
-use Rattle.pdl_model.specs.Flatten.{entry, side}
-use Rattle.pdl_model.specs.Stages.{last_stage, stage_at}
+use Rattle.pdl_semantics.specs.Flat
+use Rattle.pdl_semantics.specs.Flatten.{entry, side}
+use Rattle.pdl_semantics.specs.Stages.{last_stage, stage_at}
 use Rattle.pdl_facts.specs.Graphs.{Trunk, In}
 use Rattle.pdl_stagefacts.proofs.Shapes.{Shape, Last, Cut, Fork, stage, leads, row, leads_on, after}
 

@@ -1,10 +1,10 @@
 -- The stage of a flat statement is the one that the rules speak of: that of the last separator before its place whose branches it stands in too.
 use Rattle.std.proofs.Common.{◌≡◌, refl, sym, ap, ◌∙◌, subst, ℕ, suc, ◌+◌, Bool, true, false, ◌&&◌, List, [], ◌∷◌, ◌++◌, append_assoc, append-nil, arith, cond, if◌then◌else◌, ◌==◌, bytes_eq, eq-eqb}
 use Rattle.std.proofs.lemmas.Bool.{and_parts, and_from}
-use Rattle.pdl_model.specs.Tree.{Span, Expr, Stmt, Separator, If, Stmts, Nil, Cons, Mem, Pipe}
-use Rattle.pdl_model.specs.Flat
-use Rattle.pdl_model.specs.Flatten.{with_guard, past, past_all, at_otherwise, under, separators_in, separators, at_start}
-use Rattle.pdl_model.specs.Flatten
+use Rattle.pdl_semantics.specs.Tree.{Span, Expr, Stmt, Separator, If, Stmts, Nil, Cons, Mem, Pipe}
+use Rattle.pdl_semantics.specs.Flat
+use Rattle.pdl_semantics.specs.Flatten.{with_guard, past, past_all, at_otherwise, under, separators_in, separators, at_start}
+use Rattle.pdl_semantics.specs.Flatten
 use Rattle.pdl_rules.specs.Places.{Place, Statement, Guard, Shared, Own, Branch, same_guard, same_truth, with_inner, statements}
 use Rattle.pdl_rules.specs.Limits.{is_separator}
 use Rattle.pdl_rules.specs.Stages.{same_branch, are_outer, branches_of, stage_from, stage_in}

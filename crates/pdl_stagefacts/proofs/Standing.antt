@@ -3,10 +3,10 @@ use Rattle.std.proofs.Common.{◌≡◌, refl, sym, ap, ◌∙◌, subst, ℕ, s
 use Rattle.std.proofs.lemmas.Bool.{false≢true, and_parts, or_left}
 use Rattle.std.proofs.lemmas.List.Folds.{list_any-append}
 use Rattle.std.specs.List.{list_any}
-use Rattle.pdl_model.specs.Tree.{Span, Expr, Stmt, Separator, If, Stmts, Nil, Cons, Mem, Pipe}
-use Rattle.pdl_model.specs.Flat
-use Rattle.pdl_model.specs.Flatten.{with_guard, past, past_all, at_otherwise, under, guard_of, separators_in, separators, at_start, flat, side}
-use Rattle.pdl_model.specs.Flatten
+use Rattle.pdl_semantics.specs.Tree.{Span, Expr, Stmt, Separator, If, Stmts, Nil, Cons, Mem, Pipe}
+use Rattle.pdl_semantics.specs.Flat
+use Rattle.pdl_semantics.specs.Flatten.{with_guard, past, past_all, at_otherwise, under, guard_of, separators_in, separators, at_start, flat, side}
+use Rattle.pdl_semantics.specs.Flatten
 use Rattle.pdl_facts.specs.Graphs.{Trunk, In}
 use Rattle.pdl_rules.specs.Places.{Place, Statement, Branch, with_inner, statements}
 use Rattle.pdl_rules.specs.Forks.{holds_separator}

@@ -2,12 +2,12 @@
 use Rattle.std.proofs.Common.{◌≡◌, refl, sym, ap, ◌∙◌, subst, ℕ, zero, suc, ◌+◌, ◌≤◌, ◌<◌, ◌⊎◌, inl, inr, Bool, true, false, ◌||◌, not, List, [], ◌∷◌, ◌++◌, length, Option, Some, None, unwrap_or, arith, if◌then◌else◌, ◌==◌, nat_lt, slice_index, slice_index_or, take, eq-eqb, eqb-true, ltb-true, ltb-false}
 use Rattle.std.proofs.lemmas.Bool.{false≢true, and_parts, and_from, or_left, or_right}
 use Rattle.pdl_kit.specs.declared.rule.Rule.TheVariants.{F1}
-use Rattle.pdl_model.specs.Tree.{Mem, Pipe}
-use Rattle.pdl_model.specs.Flat
-use Rattle.pdl_model.specs.Flat.{list_all, taken, takes}
-use Rattle.pdl_model.specs.Flatten.{first_stage, first_stages, flat}
-use Rattle.pdl_model.specs.Stages.{last_stage, stage_at, in_stage, onpath, is_inside, is_branch_of, merges_fork, is_reserve, is_release, is_verify, verify_stage, list_any}
-use Rattle.pdl_model.specs.Cycle.{merges_by}
+use Rattle.pdl_semantics.specs.Tree.{Mem, Pipe}
+use Rattle.pdl_semantics.specs.Flat
+use Rattle.pdl_semantics.specs.Flat.{list_all, taken, takes}
+use Rattle.pdl_semantics.specs.Flatten.{first_stage, first_stages, flat}
+use Rattle.pdl_semantics.specs.Stages.{last_stage, stage_at, in_stage, onpath, is_inside, is_branch_of, merges_fork, is_reserve, is_release, is_verify, verify_stage, list_any}
+use Rattle.pdl_semantics.specs.Cycle.{merges_by}
 use Rattle.pdl_rules.specs.Forks.{is_trunk_only}
 use Rattle.pdl_rules.specs.Refusal.{KeepsRules}
 use Rattle.pdl_derived.specs.Alone.{before, looked}

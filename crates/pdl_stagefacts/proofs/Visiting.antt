@@ -1,11 +1,11 @@
 -- On each path the stages visited are 0 and then those begun by the separators of that path, in text order.
 use Rattle.std.proofs.Common.{◌≡◌, refl, sym, ap, ap₂, ◌∙◌, ℕ, zero, suc, ◌+◌, ◌-◌, ◌≤◌, Bool, true, false, List, [], ◌∷◌, ◌++◌, length, Option, Some, None, arith, if◌then◌else◌, ◌==◌, slice_index}
 use Rattle.std.proofs.lemmas.Bool.{false≢true, and_parts}
-use Rattle.pdl_model.specs.Tree.{Stmt, Separator, If, Stmts, Nil, Cons, Mem, Pipe}
-use Rattle.pdl_model.specs.Flat
-use Rattle.pdl_model.specs.Flatten.{with_guard, past, past_all, at_otherwise, guard_of, separators_in, separators, entry, side, at_start, flat}
-use Rattle.pdl_model.specs.Flatten
-use Rattle.pdl_model.specs.Stages.{stage_at, goes_to}
+use Rattle.pdl_semantics.specs.Tree.{Stmt, Separator, If, Stmts, Nil, Cons, Mem, Pipe}
+use Rattle.pdl_semantics.specs.Flat
+use Rattle.pdl_semantics.specs.Flatten.{with_guard, past, past_all, at_otherwise, guard_of, separators_in, separators, entry, side, at_start, flat}
+use Rattle.pdl_semantics.specs.Flatten
+use Rattle.pdl_semantics.specs.Stages.{stage_at, goes_to}
 use Rattle.pdl_rules.specs.Refusal.{KeepsRules}
 use Rattle.pdl_stagefacts.specs.Visits.{onward, visited, begun_in, begun_by}
 use Rattle.pdl_stagefacts.proofs.Walks.{guard_begun, past_begun, past_all_begun}

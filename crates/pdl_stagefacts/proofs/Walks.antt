@@ -1,10 +1,10 @@
 -- What holds at each site of a source: of the stages begun, of the variables' names, and of the choices that it stands under.
 use Rattle.std.proofs.Common.{◌≡◌, refl, sym, ap, ap₂, ◌∙◌, ℕ, ◌+◌, Bool, true, false, List, [], ◌∷◌, ◌++◌, map, append_assoc, append-nil, arith, count_by, cond, if◌then◌else◌}
 use Rattle.std.proofs.lemmas.List.Sums.{sum_by-append}
-use Rattle.pdl_model.specs.Tree.{Span, Expr, Variable, Stmt, Separator, CombRead, Bind, SpecCall, DelayedRead, Write, Reserve, Block, Release, If, Call, Verify, SpecCheck, SpecBarrier, Stmts, Nil, Cons, Param, Mem, Pipe}
-use Rattle.pdl_model.specs.Flat
-use Rattle.pdl_model.specs.Flatten.{Var, with_guard, with_var, next_place, back_in, past, past_all, at_otherwise, under, at_start, params_of, separators_in, separators}
-use Rattle.pdl_model.specs.Flatten
+use Rattle.pdl_semantics.specs.Tree.{Span, Expr, Variable, Stmt, Separator, CombRead, Bind, SpecCall, DelayedRead, Write, Reserve, Block, Release, If, Call, Verify, SpecCheck, SpecBarrier, Stmts, Nil, Cons, Param, Mem, Pipe}
+use Rattle.pdl_semantics.specs.Flat
+use Rattle.pdl_semantics.specs.Flatten.{Var, with_guard, with_var, next_place, back_in, past, past_all, at_otherwise, under, at_start, params_of, separators_in, separators}
+use Rattle.pdl_semantics.specs.Flatten
 use Rattle.pdl_rules.specs.Places.{Place, Parameter, Memory, Statement, Branch, with_inner, statements}
 use Rattle.pdl_rules.specs.Limits.{is_separator}
 use Rattle.pdl_stagefacts.proofs.Sites.{branch, sites_in, sites, sites_of, front_of, All, all_append}

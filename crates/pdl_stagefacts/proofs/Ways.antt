@@ -1,8 +1,8 @@
 -- Where a thread goes from a stage, and the facts of the stage graph and of its branches that follow.
 use Rattle.std.proofs.Common.{◌≡◌, refl, sym, ap, ap₂, ◌∙◌, subst, ℕ, zero, suc, ◌+◌, ◌≤◌, ◌<◌, ◌⊎◌, inl, inr, Bool, true, false, not, List, length, Option, Some, None, unwrap_or, arith, if◌then◌else◌, ◌==◌, nat_lt, slice_index, lt-ltb, eq-eqb, ltb-true}
-use Rattle.pdl_model.specs.Flat
-use Rattle.pdl_model.specs.Flatten.{entry}
-use Rattle.pdl_model.specs.Stages.{stage_at, goes_to, is_inside, is_branch_of, commit_stage, reserve_stage}
+use Rattle.pdl_semantics.specs.Flat
+use Rattle.pdl_semantics.specs.Flatten.{entry}
+use Rattle.pdl_semantics.specs.Stages.{stage_at, goes_to, is_inside, is_branch_of, commit_stage, reserve_stage}
 use Rattle.pdl_facts.specs.Graphs.{Trunk, In, next_of, stage_or, Below, Graph, Branches, goes_by, on_side}
 use Rattle.pdl_stagefacts.proofs.Shapes.{leads}
 use Rattle.pdl_stagefacts.proofs.Spots.{merge_at, start, long, Forked, Spot, Final, Line, AtFork, Inner, between_in, not_trunk, none_some, past_trunk, inside_of, fork_same, split, fork_in, first_in}

@@ -1,8 +1,8 @@
 -- What the rules of the language give of an accepted pipe's stage graph and of its text: the facts of `Sound` that no path's statements are asked for.
 use Rattle.std.specs.Prelude.{◌≡◌, ℕ, suc, ◌≤◌, ◌<◌, true, false, List, [], ◌∷◌, Some, length, nat_lt}
-use Rattle.pdl_model.specs.Flat.{list_all, Op, DelayedRead, Stmt, Branch, Forks, Pipe}
-use Rattle.pdl_model.specs.Stages.{is_inside, is_reserve, is_release, is_verify, onpath, in_stage, stage_at, verify_stage, commit_stage, reserve_stage}
-use Rattle.pdl_model.specs.Cycle.{merges_by}
+use Rattle.pdl_semantics.specs.Flat.{list_all, Op, DelayedRead, Stmt, Branch, Forks, Pipe}
+use Rattle.pdl_semantics.specs.Stages.{is_inside, is_reserve, is_release, is_verify, onpath, in_stage, stage_at, verify_stage, commit_stage, reserve_stage}
+use Rattle.pdl_semantics.specs.Cycle.{merges_by}
 use Rattle.pdl_derived.specs.Alone.{before}
 use Rattle.pdl_facts.specs.Scans.{from, none_of, all_at, binds, is_fetch}
 use Rattle.pdl_facts.specs.Graphs.{next_of, Graph, In, Branches}

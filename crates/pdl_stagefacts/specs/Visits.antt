@@ -1,9 +1,9 @@
 -- The stages of a path: those that a thread comes to, and those that the separators of the path begin.
 use Rattle.std.specs.Prelude.{ℕ, zero, suc, List, [], ◌∷◌, ◌++◌, Option, Some, None, if◌then◌else◌, ◌==◌, slice_index}
-use Rattle.pdl_model.specs.Tree.{Stmt, Separator, If, Stmts, Nil, Cons, Mem}
-use Rattle.pdl_model.specs.Flat.{Pipe}
-use Rattle.pdl_model.specs.Stages.{stage_at, goes_to}
-use Rattle.pdl_model.specs.Flatten.{Place, guard_of, with_guard, past, at_otherwise}
+use Rattle.pdl_semantics.specs.Tree.{Stmt, Separator, If, Stmts, Nil, Cons, Mem}
+use Rattle.pdl_semantics.specs.Flat.{Pipe}
+use Rattle.pdl_semantics.specs.Stages.{stage_at, goes_to}
+use Rattle.pdl_semantics.specs.Flatten.{Place, guard_of, with_guard, past, at_otherwise}
 
 -- what comes of a stage where there is one
 abbrev pub onward : (ℕ → List ℕ) → Option ℕ → List ℕ

@@ -4,8 +4,8 @@
 #![tactic(auto)]
 
 ghost use Rattle.std.specs.Prelude.{◌≡◌, ℕ, suc, List, ◌∷◌, length};
-ghost use Rattle.pdl_model.specs.Tree.{Pipe};
-ghost use Rattle.pdl_model.specs.Flatten.{flat, separators, at_start};
+ghost use Rattle.pdl_semantics.specs.Tree.{Pipe};
+ghost use Rattle.pdl_semantics.specs.Flatten.{flat, separators, at_start};
 ghost use Rattle.pdl_rules.specs.Refusal.{KeepsRules};
 ghost use Rattle.pdl_stagefacts.specs.StageFacts.{StageFacts};
 ghost use Rattle.pdl_stagefacts.specs.Visits.{visited, begun_by};

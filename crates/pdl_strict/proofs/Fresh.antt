@@ -2,9 +2,9 @@
 use Rattle.std.proofs.Common.{◌≡◌, refl, ap, ◌∙◌, subst, ℕ, ◌+◌, ◌≤◌, ◌<◌, ◌⊎◌, inl, inr, Bool, true, false, ◌||◌, not, List, [], ◌∷◌, ◌++◌, length, Some, None, ◌==◌, arith, length-append, lt-ltb}
 use Rattle.std.proofs.lemmas.Bool.{false≢true, and_from, or_parts, or_cases, eqb-true, ne_eqb}
 use Rattle.std.specs.List.{list_any}
-use Rattle.pdl_model.specs.Tree.{Expr, Constant, Variable, Slice, Not, Binary, Cat, LessSigned, ZeroExtend, SignExtend, Choose, Location, R, W, Stmt, Separator, CombRead, Bind, SpecCall, DelayedRead, Write, Reserve, Block, Release, If, Call, Verify, SpecCheck, SpecBarrier, Mem}
-use Rattle.pdl_model.specs.Flat
-use Rattle.pdl_model.specs.Flatten.{Var, var_of, mem_of, mem_width, width_of, flat_expr, flat_exprs}
+use Rattle.pdl_semantics.specs.Tree.{Expr, Constant, Variable, Slice, Not, Binary, Cat, LessSigned, ZeroExtend, SignExtend, Choose, Location, R, W, Stmt, Separator, CombRead, Bind, SpecCall, DelayedRead, Write, Reserve, Block, Release, If, Call, Verify, SpecCheck, SpecBarrier, Mem}
+use Rattle.pdl_semantics.specs.Flat
+use Rattle.pdl_semantics.specs.Flatten.{Var, var_of, mem_of, mem_width, width_of, flat_expr, flat_exprs}
 use Rattle.pdl_rules.specs.Parts.{some_part, some_expr_of, location_of}
 use Rattle.pdl_rules.specs.Names.{OfVariable, Use, reads}
 use Rattle.pdl_rules.specs.Typed.{is_named}

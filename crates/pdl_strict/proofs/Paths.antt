@@ -1,12 +1,12 @@
 -- Each path of an accepted pipe's flat form is strict.
 use Rattle.std.proofs.Common.{◌≡◌, refl, sym, ap, ap₂, ◌∙◌, ℕ, true, ◌&&◌, ◌||◌, not, List, [], ◌∷◌, Option, Some, None, nat_lt, le_refl}
 use Rattle.std.proofs.lemmas.Bool.{false≢true, or_parts}
-use Rattle.pdl_model.specs.Tree.{Location, Pipe}
-use Rattle.pdl_model.specs.Flat
-use Rattle.pdl_model.specs.Flat.{DelayedRead, Block}
-use Rattle.pdl_model.specs.Flatten.{flat, params_of}
-use Rattle.pdl_model.specs.Stages.{list_any, onpath}
-use Rattle.pdl_model.specs.Sound.{is_release_at}
+use Rattle.pdl_semantics.specs.Tree.{Location, Pipe}
+use Rattle.pdl_semantics.specs.Flat
+use Rattle.pdl_semantics.specs.Flat.{DelayedRead, Block}
+use Rattle.pdl_semantics.specs.Flatten.{flat, params_of}
+use Rattle.pdl_semantics.specs.Stages.{list_any, onpath}
+use Rattle.pdl_semantics.specs.Sound.{is_release_at}
 use Rattle.pdl_kit.specs.declared.rule.Rule.TheVariants.{N3}
 use Rattle.pdl_rules.specs.Parts.{passes, location_of}
 use Rattle.pdl_rules.specs.Names.{in_location, in_verify, is_too_early}

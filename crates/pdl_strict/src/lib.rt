@@ -4,8 +4,8 @@
 #![tactic(auto)]
 
 ghost use Rattle.std.specs.Prelude.{IsTrue};
-ghost use Rattle.pdl_model.specs.Tree.{Pipe};
-ghost use Rattle.pdl_model.specs.Flatten.{flat};
+ghost use Rattle.pdl_semantics.specs.Tree.{Pipe};
+ghost use Rattle.pdl_semantics.specs.Flatten.{flat};
 ghost use Rattle.pdl_rules.specs.Refusal.{KeepsRules};
 ghost use Rattle.pdl_invariant.specs.Strict.{Strict};
 ghost use Rattle.pdl_pathfacts.specs.Source.{is_source};

@@ -2,14 +2,13 @@
 use Rattle.std.proofs.Common.{◌≡◌, ◌≢◌, refl, sym, ap, ◌∙◌, subst, ℕ, ◌≤◌, Bool, true, false, ◌&&◌, ◌||◌, not, List, [], ◌∷◌, Some, ◌==◌, slice_index, slice_set, cond, nat_le}
 use Rattle.std.proofs.lemmas.List.{get_or-set_other}
 use Rattle.std.proofs.lemmas.Bool.{eqb-true, eqb-false, leb-true}
-use Rattle.pdl_model.specs.Flat.{Arrays, Op, Bind, CombRead, DelayedRead, Write, ReserveWrite, Block, Release, Verify, Stmt, Guard, Pipe, value_of, values_of, taken, word_at}
-use Rattle.pdl_model.specs.Stages.{onpath, in_stage, mem_at, commit_stage, reserve_stage}
-use Rattle.pdl_model.specs.Machine.{same_args}
+use Rattle.pdl_semantics.specs.Flat.{Arrays, Op, Bind, CombRead, DelayedRead, Write, ReserveWrite, Block, Release, Verify, Stmt, Guard, Pipe, value_of, values_of, taken, word_at}
+use Rattle.pdl_semantics.specs.Stages.{in_stage, mem_at, commit_stage, reserve_stage}
+use Rattle.pdl_semantics.specs.Machine.{same_args}
 use Rattle.pdl_derived.specs.Derived.{Work, Around, Entry, does, do_all, has, filled, without}
-use Rattle.pdl_derived.specs.Alone.{alone, Location}
+use Rattle.pdl_derived.specs.Alone.{Location}
 use Rattle.pdl_derived.proofs.Writes.{and_left, and_right}
-use Rattle.pdl_turns.proofs.Paths.{Fixed}
-use Rattle.pdl_derived.proofs.Stages.{step, ReadsRight, does_same, was_ready}
+use Rattle.pdl_derived.proofs.Stages.{ReadsRight}
 use Rattle.pdl_facts.specs.Scans.{no_guards, is_plain, uses, opened, opens, opens_all, op_ok, reads_ok, Scan, location}
 
 -- what the surroundings of a thread in stage s give where they are right for its turn; clean is what makes a location read right
@@ -165,44 +164,6 @@ in_stage_all s (x ∷ xs) = at (x.stage == s) refl (in_stage_all s xs)
 taken_none : (gs : List Guard) (env : List ℕ) → no_guards gs ≡ true → taken gs env ≡ true
 taken_none [] env h = refl
 taken_none (g ∷ gs) env h = cc
-
-by_bool : (b : Bool) (R : Type 0) → (b ≡ true → R) → (b ≡ false → R) → R
-by_bool true R f g = f refl
-by_bool false R f g = g refl
-
--- with all conditions true, statements do what they do alone, and leave the blocked locations right
-pub alike : (path : List ℕ) (p : Pipe) (o : Around) (arrays : Arrays) (s : ℕ) (clean : ℕ → ℕ → Type 0) (c : Scan) (xs : List Stmt) (w : Work)
-    → Surrounds p o arrays s clean → AllIn s xs → Fixed path (alone arrays) xs w → reads_ok p c (onpath path xs) ≡ true → Covers c.held w.entries → (do_all o xs w).ready ≡ true → Right p s clean c.blocked w.env
-    → (do_all o xs w ≡ do_all (alone arrays) xs w) × Right p s clean (opens_all (onpath path xs) c).blocked (do_all o xs w).env
-alike path p o arrays s clean c [] w f a q h g k r = (refl, r)
-alike path p o arrays s clean c (x ∷ xs) w f a q h g k r =
-    let yes_case : taken x.guards w.env ≡ true → (do_all o (x ∷ xs) w ≡ do_all (alone arrays) (x ∷ xs) w) × Right p s clean (opens_all (onpath path (x ∷ xs)) c).blocked (do_all o (x ∷ xs) w).env =
-    λ e.
-    let goes : step o x w ≡ does o x.op w = ap (λ b. cond b (does o x.op w) w) e in
-    let goes_alone : step (alone arrays) x w ≡ does (alone arrays) x.op w = ap (λ b. cond b (does (alone arrays) x.op w) w) e in
-    let on : onpath path (x ∷ xs) ≡ record x { guards = [] } ∷ onpath path xs = ap (λ b. cond b (record x { guards = [] } ∷ onpath path xs) (onpath path xs)) (sym q.0 ∙ e) in
-    let h1 : reads_ok p c (record x { guards = [] } ∷ onpath path xs) ≡ true = subst (λ l. reads_ok p c l ≡ true) on h in
-    let here : op_ok p s c x.op ≡ true = subst (λ n. op_ok p n c x.op ≡ true) a.0 (and_left (op_ok p x.stage c x.op) _ h1) in
-    let k' : (do_all o xs (does o x.op w)).ready ≡ true = subst (λ v. (do_all o xs v).ready ≡ true) goes k in
-    let ready : (does o x.op w).ready ≡ true = was_ready o xs (does o x.op w) k' in
-    let same : does o x.op w ≡ does (alone arrays) x.op w = does_same o arrays x.op w ready (reads_right p o arrays s clean c x.op w.env f here r) in
-    let q' : Fixed path (alone arrays) xs (does o x.op w) = subst (λ v. Fixed path (alone arrays) xs v) (goes_alone ∙ sym same) q.1 in
-    let rest = alike path p o arrays s clean (opens x.op c) xs (does o x.op w) f a.1 q' (and_right (op_ok p x.stage c x.op) _ h1) (covers_op o c x.op w g) k' (right_after p o arrays s clean c x.op w f g here ready r) in (
-      ap (do_all o xs) goes ∙ rest.0 ∙ ap (do_all (alone arrays) xs) (same ∙ sym goes_alone),
-      subst (λ l. Right p s clean (opens_all l c).blocked (do_all o (x ∷ xs) w).env) (sym on)
-          (subst (λ v. Right p s clean (opens_all (onpath path xs) (opens x.op c)).blocked (do_all o xs v).env) (sym goes) rest.1),
-    ) in
-    let no_case : taken x.guards w.env ≡ false → (do_all o (x ∷ xs) w ≡ do_all (alone arrays) (x ∷ xs) w) × Right p s clean (opens_all (onpath path (x ∷ xs)) c).blocked (do_all o (x ∷ xs) w).env =
-    λ e.
-    let goes : step o x w ≡ w = ap (λ b. cond b (does o x.op w) w) e in
-    let goes_alone : step (alone arrays) x w ≡ w = ap (λ b. cond b (does (alone arrays) x.op w) w) e in
-    let on : onpath path (x ∷ xs) ≡ onpath path xs = ap (λ b. cond b (record x { guards = [] } ∷ onpath path xs) (onpath path xs)) (sym q.0 ∙ e) in
-    let rest = alike path p o arrays s clean c xs w f a.1 (subst (λ v. Fixed path (alone arrays) xs v) goes_alone q.1) (subst (λ l. reads_ok p c l ≡ true) on h) g (subst (λ v. (do_all o xs v).ready ≡ true) goes k) r in (
-      ap (do_all o xs) goes ∙ rest.0 ∙ ap (do_all (alone arrays) xs) (sym goes_alone),
-      subst (λ l. Right p s clean (opens_all l c).blocked (do_all o (x ∷ xs) w).env) (sym on)
-          (subst (λ v. Right p s clean (opens_all (onpath path xs) c).blocked (do_all o xs v).env) (sym goes) rest.1),
-    ) in
-    by_bool (taken x.guards w.env) _ yes_case no_case
 
 -- what statements of a pipe leave pending was reserved by them
 pub covers_all : (p : Pipe) (o : Around) (c : Scan) (xs : List Stmt) (w : Work) → reads_ok p c xs ≡ true → Covers c.held w.entries → Covers (opens_all xs c).held (do_all o xs w).entries

@@ -1,9 +1,9 @@
 -- A stage with delayed reads in surroundings that are right for its turn: what it does alone, and requests whose answers will be right.
 use Rattle.std.proofs.Common.{◌≡◌, refl, sym, ap, ◌∙◌, subst, ℕ, Bool, true, false, ◌&&◌, ◌||◌, not, List, [], ◌∷◌, ◌++◌, Some, ◌==◌, slice_index, slice_set, cond, nat_le}
 use Rattle.std.proofs.lemmas.Bool.{leb-true}
-use Rattle.pdl_model.specs.Flat.{Arrays, Op, Bind, CombRead, DelayedRead, Write, ReserveRead, ReserveWrite, Block, Release, Call, SpecCall, Verify, SpecCheck, SpecBarrier, Stmt, Pipe, values_of, taken, word_at}
-use Rattle.pdl_model.specs.Stages.{onpath, mem_at, commit_stage}
-use Rattle.pdl_model.specs.Machine.{Ask, same_args}
+use Rattle.pdl_semantics.specs.Flat.{Arrays, Op, Bind, CombRead, DelayedRead, Write, ReserveRead, ReserveWrite, Block, Release, Call, SpecCall, Verify, SpecCheck, SpecBarrier, Stmt, Pipe, values_of, taken, word_at}
+use Rattle.pdl_semantics.specs.Stages.{onpath, mem_at, commit_stage}
+use Rattle.pdl_semantics.specs.Machine.{Ask, same_args}
 use Rattle.pdl_derived.specs.Derived.{Work, Around, does, do_all}
 use Rattle.pdl_derived.specs.Alone.{alone, looked, Location}
 use Rattle.pdl_facts.specs.Scans.{is_plain, uses, opened, opens, opens_all, op_ok, reads_ok, Scan, location, is_fetch}

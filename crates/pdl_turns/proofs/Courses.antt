@@ -1,12 +1,12 @@
 -- What the pipeline's proof takes of single threads, in the whole language: facts of each turn, of its delayed reads, and of threads after a wrong guess.
 use Rattle.std.proofs.Common.{◌≡◌, ◌≢◌, ℕ, ◌≤◌, ◌<◌, Bool, true, false, ◌||◌, List, [], length, Some, None, is_some}
-use Rattle.pdl_model.specs.Flat.{Arrays, Pipe, of_mem}
-use Rattle.pdl_model.specs.Stages.{mem_at, verify_stage, commit_stage, reserve_stage}
-use Rattle.pdl_model.specs.Locks.{Latest, has_room}
-use Rattle.pdl_model.specs.Machine.{Ask, same_args}
-use Rattle.pdl_model.specs.Cycle.{awaited_of}
-use Rattle.pdl_model.specs.Sequential.{thread}
-use Rattle.pdl_model.specs.Promises.{wrote, row}
+use Rattle.pdl_semantics.specs.Flat.{Arrays, Pipe, of_mem}
+use Rattle.pdl_semantics.specs.Stages.{mem_at, verify_stage, commit_stage, reserve_stage}
+use Rattle.pdl_semantics.specs.Locks.{Latest, has_room}
+use Rattle.pdl_semantics.specs.Machine.{Ask, same_args}
+use Rattle.pdl_semantics.specs.Cycle.{awaited_of}
+use Rattle.pdl_semantics.specs.Sequential.{thread}
+use Rattle.pdl_semantics.specs.Promises.{wrote, row}
 use Rattle.pdl_derived.specs.Derived.{Work, Around, Thread, State, works, latest_in, fresh, find_ask, answered}
 use Rattle.pdl_derived.specs.Alone.{start_work, so_far, placed}
 use Rattle.pdl_facts.specs.Scans.{is_plain}

@@ -1,10 +1,10 @@
 -- Who makes the next thread: a call, or a guess and the verify of it.
 use Rattle.std.proofs.Common.{◌≡◌, refl, sym, ap, ap₂, ◌∙◌, subst, ℕ, ◌<◌, Bool, true, false, ◌&&◌, ◌||◌, not, List, [], ◌∷◌, ◌++◌, Option, Some, None, is_some, ◌==◌, cond, if◌then◌else◌, arith, eq-eqb, ltb-true}
 use Rattle.std.proofs.lemmas.Bool.{eqb-true}
-use Rattle.pdl_model.specs.Flat.{Arrays, Op, Call, SpecCall, Verify, Stmt, Expr, values_of, taken}
-use Rattle.pdl_model.specs.Stages.{is_verify}
-use Rattle.pdl_model.specs.Machine.{same_args}
-use Rattle.pdl_model.specs.Sequential.{Run, runs, run_all}
+use Rattle.pdl_semantics.specs.Flat.{Arrays, Op, Call, SpecCall, Verify, Stmt, Expr, values_of, taken}
+use Rattle.pdl_semantics.specs.Stages.{is_verify}
+use Rattle.pdl_semantics.specs.Machine.{same_args}
+use Rattle.pdl_semantics.specs.Sequential.{Run, runs, run_all}
 use Rattle.pdl_derived.specs.Derived.{Work, Around, does, do_all}
 use Rattle.pdl_derived.specs.Alone.{alone}
 use Rattle.pdl_facts.specs.Scans.{Phase, no_guards, phases_ok, all_at, none_of}

@@ -3,10 +3,10 @@ use Rattle.std.proofs.Common.{◌≡◌, ◌≢◌, refl, sym, ap, ap₂, ◌∙
 use Rattle.std.proofs.lemmas.List.{set_comm, get_or-set_other}
 use Rattle.std.proofs.lemmas.Bool.{eqb-false}
 use Rattle.std.proofs.Math.Bool.{and-true, or-false}
-use Rattle.pdl_model.specs.Flat.{Arrays, Op, Bind, CombRead, DelayedRead, Write, ReserveRead, ReserveWrite, Block, Release, Call, SpecCall, Verify, SpecCheck, SpecBarrier, Expr, Constant, Variable, Slice, Not, Binary, Cat, LessSigned, ZeroExtend, SignExtend, Choose, Guard, Stmt, value_of, values_of, takes, taken, word_at, applied}
-use Rattle.pdl_model.specs.Stages.{onpath, in_stage}
-use Rattle.pdl_model.specs.Machine.{Ask, same_args}
-use Rattle.pdl_model.specs.Sequential.{Run, runs, run_all}
+use Rattle.pdl_semantics.specs.Flat.{Arrays, Op, Bind, CombRead, DelayedRead, Write, ReserveRead, ReserveWrite, Block, Release, Call, SpecCall, Verify, SpecCheck, SpecBarrier, Expr, Constant, Variable, Slice, Not, Binary, Cat, LessSigned, ZeroExtend, SignExtend, Choose, Guard, Stmt, value_of, values_of, takes, taken, word_at, applied}
+use Rattle.pdl_semantics.specs.Stages.{onpath, in_stage}
+use Rattle.pdl_semantics.specs.Machine.{Ask, same_args}
+use Rattle.pdl_semantics.specs.Sequential.{Run, runs, run_all}
 use Rattle.pdl_word.specs.Words
 use Rattle.pdl_derived.specs.Derived.{Work, Around, does, do_all, filled}
 use Rattle.pdl_derived.specs.Alone.{alone, before, looked}

@@ -1,13 +1,13 @@
 -- What the threads of one path make: the facts of their calls and guesses by stages.
-use Rattle.std.proofs.Common.{◌≡◌, refl, sym, ap, ap₂, ◌∙◌, subst, ℕ, suc, ◌≤◌, ◌<◌, Bool, true, false, ◌&&◌, not, List, [], ◌∷◌, length, Option, Some, None, nat_lt, cond, arith, ltb-true, ltb-false}
-use Rattle.pdl_model.specs.Flat.{Arrays, Op, Verify, Stmt, Pipe}
-use Rattle.pdl_model.specs.Stages.{onpath, in_stage, is_verify, verify_stage}
-use Rattle.pdl_model.specs.Machine.{same_args}
-use Rattle.pdl_model.specs.Sequential.{Run, run_all, thread}
+use Rattle.std.proofs.Common.{◌≡◌, refl, sym, ap, ap₂, ◌∙◌, subst, ℕ, suc, ◌≤◌, ◌<◌, Bool, true, false, ◌&&◌, List, [], ◌∷◌, length, Option, Some, None, nat_lt, cond, arith, ltb-true, ltb-false}
+use Rattle.pdl_semantics.specs.Flat.{Arrays, Stmt, Pipe}
+use Rattle.pdl_semantics.specs.Stages.{onpath, in_stage, is_verify, verify_stage}
+use Rattle.pdl_semantics.specs.Machine.{same_args}
+use Rattle.pdl_semantics.specs.Sequential.{Run, run_all, thread}
 use Rattle.pdl_derived.specs.Derived.{Around, works}
 use Rattle.pdl_derived.specs.Alone.{alone, before, start_work, so_far, placed}
 use Rattle.pdl_facts.specs.Scans.{Phase, Fresh, no_guards, next_phase, phase_ok, phases_ok, phase_all, from, none_of}
-use Rattle.pdl_facts.specs.Certain.{stands_at, Making, Unmade, Guessed, Made, making_all, is_unmade, is_guessed, is_made, making_ok, makings_ok}
+use Rattle.pdl_facts.specs.Certain.{stands_at, Making, Unmade, Guessed, Made, making_all, is_unmade, is_guessed, is_made, makings_ok}
 use Rattle.pdl_facts.specs.Accepted.{Pathwise, along}
 use Rattle.pdl_derived.proofs.Writes.{and_left, and_right}
 use Rattle.pdl_derived.proofs.Stages.{reset, rejoined}
@@ -16,15 +16,6 @@ use Rattle.pdl_turns.proofs.Turn.{none_from}
 use Rattle.pdl_turns.proofs.Whole.{start_run, run_at, run_append, related_at, ok_before, phases_second, start_related}
 use Rattle.pdl_turns.proofs.Guesses.{same_args_eq, same_args_refl, making_append, makings_first, makings_second, verify_at, no_guess, unverified, unverified_made, settled, run_settled, unfailed, Calls, calls_all, Verified, verified_all, Along, along_all, along_joined, unguarded}
 use Rattle.pdl_turns.proofs.TurnFacts.{right_guess}
-
--- without V there is no verify
-no_verify_op : (k : Making) (s : ℕ) (op : Op) → making_ok None k s op ≡ true → not (is_verify op) ≡ true
-no_verify_op k s (Verify args) h = absurd (cc (and_right (is_guessed k) _ h))
-no_verify_op k s _ h = refl
-
-no_verify : (k : Making) (xs : List Stmt) → makings_ok None k xs ≡ true → none_of is_verify xs ≡ true
-no_verify k [] h = refl
-no_verify k (x ∷ xs) h = ap₂ (λ a b. a && b) (no_verify_op k x.stage x.op (and_left _ _ h)) (no_verify _ xs (and_right (making_ok None k x.stage x.op) _ h))
 
 free_all : (m : ℕ) (ph : Phase) (xs : List Stmt) → phases_ok m ph xs ≡ true → unguarded xs ≡ true
 free_all m ph [] h = refl
@@ -54,10 +45,6 @@ clash : false ≡ true → ⊥
 clash h = cc
 
 module _ (p : Pipe) (acc : Pathwise p) (path : List ℕ) (arrays : Arrays) (args : List ℕ) where
-  -- how far a thread of this path is before stage s
-  abbrev pub at_stage : ℕ → Making
-  at_stage s = making_all Unmade (before s (onpath path p.stmts))
-
   pub makings_before : (s : ℕ) → makings_ok (verify_stage p.stmts) Unmade (before s (onpath path p.stmts)) ≡ true
   makings_before s =
       makings_first (verify_stage p.stmts) Unmade (before s (onpath path p.stmts)) (from s (onpath path p.stmts))
@@ -180,11 +167,6 @@ module _ (p : Pipe) (acc : Pathwise p) (path : List ℕ) (arrays : Arrays) (args
 
       ok : (m : ℕ) → phases_ok m (phase_all m Fresh (before s (onpath path p.stmts))) (in_stage s (onpath path p.stmts)) ≡ true
       ok m = phases_second m (before s (onpath path p.stmts)) (in_stage s (onpath path p.stmts)) Fresh (subst (λ l. phases_ok m Fresh l ≡ true) ((acc.paths path).pieces s) (ok_before (along path p) (acc.paths path) arrays args (suc s) m))
-
-  pub free_stage : (s : ℕ) → unguarded (in_stage s (onpath path p.stmts)) ≡ true
-  free_stage s =
-      free_all 0 (phase_all 0 Fresh (before s (onpath path p.stmts))) (in_stage s (onpath path p.stmts))
-      (phases_second 0 (before s (onpath path p.stmts)) (in_stage s (onpath path p.stmts)) Fresh (subst (λ l. phases_ok 0 Fresh l ≡ true) ((acc.paths path).pieces s) (ok_before (along path p) (acc.paths path) arrays args (suc s) 0)))
 
   -- a right guess stays
   pub right_stays : (s : ℕ) → right_guess (so_far (along path p) arrays args s).child (thread (along path p) arrays args).next ≡ true

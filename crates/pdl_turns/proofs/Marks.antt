@@ -1,9 +1,9 @@
 -- Undone writes, each with whether its value is known already.
 use Rattle.std.proofs.Common.{◌≡◌, refl, sym, ap, ap₂, ◌∙◌, subst, ℕ, Bool, true, false, ◌&&◌, not, List, [], ◌∷◌, ◌++◌, ◌⊎◌, inl, inr, ◌==◌, cond, if◌then◌else◌, append-nil, append_assoc}
 use Rattle.std.proofs.lemmas.Bool.{eqb-true, eqb-false}
-use Rattle.pdl_model.specs.Flat.{Array, with_value, Commit, of_mem, Lock, Plain, Queue, Bypass, Rename}
-use Rattle.pdl_model.specs.Locks.{Latest, Nothing, Coming, Known, as_latest, is_nothing, is_coming, value_or, read_ready}
-use Rattle.pdl_model.specs.Promises.{wrote}
+use Rattle.pdl_semantics.specs.Flat.{Array, with_value, Commit, of_mem, Lock, Plain, Queue, Bypass, Rename}
+use Rattle.pdl_semantics.specs.Locks.{Latest, Nothing, Coming, Known, as_latest, is_nothing, is_coming, value_or, read_ready}
+use Rattle.pdl_semantics.specs.Promises.{wrote}
 use Rattle.pdl_derived.specs.Derived.{Entry, latest_in}
 use Rattle.pdl_derived.proofs.Entries.{entries_of, write_of}
 use Rattle.pdl_facts.specs.Scans.{is_plain}

@@ -3,14 +3,14 @@ use Rattle.std.proofs.Common.{◌≡◌, ◌≢◌, refl, sym, ap, ap₂, ◌∙
 use Rattle.std.proofs.lemmas.List.{get_or-set_other}
 use Rattle.std.proofs.lemmas.Bool.Decides.{eqb_tells}
 use Rattle.std.proofs.lemmas.Bool.{eqb-true}
-use Rattle.pdl_model.specs.Flat.{Op, Bind, CombRead, DelayedRead, Verify, Stmt, Guard, values_of, takes, taken}
-use Rattle.pdl_model.specs.Stages.{onpath, in_stage}
-use Rattle.pdl_model.specs.Machine.{same_args}
-use Rattle.pdl_model.specs.Sequential.{Run, runs, run_all}
+use Rattle.pdl_semantics.specs.Flat.{Op, Bind, CombRead, DelayedRead, Verify, Stmt, Guard, values_of, takes, taken}
+use Rattle.pdl_semantics.specs.Stages.{onpath, in_stage}
+use Rattle.pdl_semantics.specs.Machine.{same_args}
+use Rattle.pdl_semantics.specs.Sequential.{Run, runs, run_all}
 use Rattle.pdl_derived.specs.Derived.{Work, Around, does, do_all}
 use Rattle.pdl_derived.specs.Alone.{before, looked}
 use Rattle.pdl_derived.proofs.Writes.{and_left, and_right}
-use Rattle.pdl_derived.proofs.Stages.{step, step_joined, joined}
+use Rattle.pdl_derived.proofs.Stages.{step}
 use Rattle.pdl_facts.specs.Scans.{none_of, binds, free_of, against, is_dead, keeps_guards, fixed}
 
 -- a variable that is not bound stays
@@ -136,13 +136,6 @@ step_path path o x xs w e = at (taken x.guards w.env) (taken x.guards path) e
     at false true i = absurd (cc i)
     at false false i = refl
 
--- so it is where the run of the path ends with the path's values
-pub fixed_path : (path : List ℕ) (o : Around) (xs : List Stmt) (w : Work) → fixed xs ≡ true → (do_all o (onpath path xs) w).env ≡ path → Fixed path o xs w
-fixed_path path o [] w h e = tt
-fixed_path path o (x ∷ xs) w h e =
-    let same : taken x.guards w.env ≡ taken x.guards path = taken_stays x.guards (x ∷ xs) w.env path (and_left _ _ h) (λ g k. ap (λ l. slice_index l g) (sym e) ∙ all_stays g o (onpath path (x ∷ xs)) w (none_onpath (binds g) path (x ∷ xs) k)) in
-    (same, fixed_path path o xs (step o x w) (and_right _ _ h) (ap (λ (v : Work). v.env) (step_path path o x xs w same) ∙ e))
-
 -- the same of statements with others behind them, which don't bind the guards
 pub fixed_path_to : (path : List ℕ) (o : Around) (xs ys : List Stmt) (w : Work) → fixed (xs ++ ys) ≡ true → ((g : ℕ) → none_of (binds g) ys ≡ true → slice_index (do_all o (onpath path xs) w).env g ≡ slice_index path g) → Fixed path o xs w
 fixed_path_to path o [] ys w h e = tt
@@ -161,14 +154,6 @@ fixed_path_to path o (x ∷ xs) ys w h e =
 pub fixed_all : (path : List ℕ) (o : Around) (xs : List Stmt) (w : Work) → Fixed path o xs w → do_all o xs w ≡ do_all o (onpath path xs) w
 fixed_all path o [] w f = refl
 fixed_all path o (x ∷ xs) w f = fixed_all path o xs (step o x w) f.1 ∙ step_path path o x xs w f.0
-
-pub fixed_first : (path : List ℕ) (o : Around) (xs ys : List Stmt) (w : Work) → Fixed path o (xs ++ ys) w → Fixed path o xs w
-fixed_first path o [] ys w f = tt
-fixed_first path o (x ∷ xs) ys w f = (f.0, fixed_first path o xs ys (step o x w) f.1)
-
-pub fixed_second : (path : List ℕ) (o : Around) (xs ys : List Stmt) (w : Work) → Fixed path o (xs ++ ys) w → Fixed path o ys (do_all o xs w)
-fixed_second path o [] ys w f = f
-fixed_second path o (x ∷ xs) ys w f = fixed_second path o xs ys (step o x w) f.1
 
 -- the path of a stage's and of earlier stages' statements
 pub before_path : (path : List ℕ) (s : ℕ) (xs : List Stmt) → before s (onpath path xs) ≡ onpath path (before s xs)
@@ -196,8 +181,3 @@ stage_path path s (x ∷ xs) = at (taken x.guards path) refl (x.stage == s) refl
     at true e false f h = ap (λ t. cond t (record x { guards = [] } ∷ in_stage s (onpath path xs)) (in_stage s (onpath path xs))) f ∙ h
     at false e true f h = h ∙ sym (ap (λ t. cond t (record x { guards = [] } ∷ onpath path (in_stage s xs)) (onpath path (in_stage s xs))) e)
     at false e false f h = h
-
--- only the values matter to which statements are carried out
-pub fixed_joined : (path : List ℕ) (o : Around) (xs : List Stmt) (w v : Work) → Fixed path o xs (joined w v) → Fixed path o xs v
-fixed_joined path o [] w v f = tt
-fixed_joined path o (x ∷ xs) w v f = (f.0, fixed_joined path o xs w (step o x v) (subst (λ u. Fixed path o xs u) (step_joined (taken x.guards v.env) o x.op w v) f.1))

@@ -1,10 +1,10 @@
 -- A turn's undone writes with what is known of them, by stages.
 use Rattle.std.proofs.Common.{◌≡◌, ◌≢◌, refl, sym, ap, ap₂, ◌∙◌, subst, ℕ, suc, ◌≤◌, ◌<◌, Bool, true, false, ◌&&◌, ◌||◌, not, List, [], ◌∷◌, ◌++◌, length, Some, None, is_some, ◌==◌, nat_lt, cond, if◌then◌else◌, arith, eq-eqb, slice_index, append-nil}
 use Rattle.std.proofs.Common.{ltb-true, ltb-false, lt-ltb}
-use Rattle.pdl_model.specs.Flat.{Arrays, Op, Write, ReserveWrite, Release, Stmt, Pipe, value_of, taken, Commit, of_mem}
-use Rattle.pdl_model.specs.Stages.{in_stage, mem_at, commit_stage, reserve_stage}
-use Rattle.pdl_model.specs.Locks.{Latest, Coming, Known}
-use Rattle.pdl_model.specs.Sequential.{Run, runs, run_all, thread}
+use Rattle.pdl_semantics.specs.Flat.{Arrays, Op, Write, ReserveWrite, Release, Stmt, Pipe, value_of, taken, Commit, of_mem}
+use Rattle.pdl_semantics.specs.Stages.{in_stage, mem_at, commit_stage, reserve_stage}
+use Rattle.pdl_semantics.specs.Locks.{Latest, Coming, Known}
+use Rattle.pdl_semantics.specs.Sequential.{Run, runs, run_all, thread}
 use Rattle.pdl_derived.specs.Derived.{Entry, works, latest_in}
 use Rattle.pdl_derived.specs.Alone.{alone, before, so_far, placed, undone}
 use Rattle.pdl_derived.proofs.Writes.{and_left, and_right, of_mem_append}

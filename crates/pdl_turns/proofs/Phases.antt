@@ -3,7 +3,7 @@ use Rattle.std.proofs.Common.{◌≡◌, ◌≢◌, refl, sym, ap, ◌∙◌, su
 use Rattle.std.proofs.lemmas.List.{get_or-set_other}
 use Rattle.std.proofs.lemmas.Bool.{eqb-true, eqb-false}
 use Rattle.std.proofs.lemmas.Bool.Decides.{eqb_tells}
-use Rattle.pdl_model.specs.Flat.{Commit}
+use Rattle.pdl_semantics.specs.Flat.{Commit}
 use Rattle.pdl_facts.specs.Scans.{Phase, after_release, holds, is_fresh, Fresh, Held, Written, Done}
 use Rattle.pdl_derived.specs.Derived.{Entry, without, filled, released}
 use Rattle.pdl_derived.proofs.Entries.{entry, write_of, filled_one, without_one, without_no, released_one, released_no}

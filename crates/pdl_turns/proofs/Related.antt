@@ -1,12 +1,12 @@
 -- A thread that runs alone does what the sequential run does.
 use Rattle.std.proofs.Common.{◌≡◌, refl, sym, ap, ap₂, ◌∙◌, subst, ℕ, Bool, true, false, ◌||◌, not, List, [], ◌∷◌, ◌++◌, Some, None, ◌==◌, cond, eq-eqb, slice_index, slice_set, append-nil}
 use Rattle.std.proofs.lemmas.Bool.{eqb-true, eqb-false}
-use Rattle.pdl_model.specs.Flat.{Arrays, Array, Op, Bind, CombRead, DelayedRead, Write, ReserveWrite, Release, Call, Verify, Stmt, Guard, value_of, values_of, taken, word_at, Commit, of_mem, committed, with_word}
-use Rattle.pdl_model.specs.Sequential.{Run, runs, run_all}
-use Rattle.pdl_model.specs.Promises.{wrote, row}
+use Rattle.pdl_semantics.specs.Flat.{Arrays, Array, Op, Bind, CombRead, DelayedRead, Write, ReserveWrite, Release, Call, Verify, Stmt, Guard, value_of, values_of, taken, word_at, Commit, of_mem, committed, with_word}
+use Rattle.pdl_semantics.specs.Sequential.{Run, runs, run_all}
+use Rattle.pdl_semantics.specs.Promises.{wrote, row}
 use Rattle.pdl_derived.specs.Derived.{Entry, Work, does, do_all, without, filled, released}
 use Rattle.pdl_derived.specs.Alone.{alone}
-use Rattle.pdl_model.specs.Machine.{same_args}
+use Rattle.pdl_semantics.specs.Machine.{same_args}
 use Rattle.pdl_derived.proofs.Writes.{and_left, and_right, of_mem_append, row_committed, committed_append}
 use Rattle.pdl_derived.proofs.Entries.{entries_of, filled_own, filled_other, without_own, without_other, released_own, released_other, entry, write_of}
 use Rattle.pdl_turns.proofs.Phases.{Tied, tied_moved, tied_set, tied_reserve, tied_write, tied_release}

@@ -1,8 +1,8 @@
 -- The commit of an entry that is taken out of a list of pending writes.
 use Rattle.std.proofs.Common.{ℕ, List, Option}
-use Rattle.pdl_model.specs.Flat.{Commit}
-use Rattle.pdl_model.specs.Machine.{Pending}
-use Rattle.pdl_model.specs.Cycle.{port_write, shown}
+use Rattle.pdl_semantics.specs.Flat.{Commit}
+use Rattle.pdl_semantics.specs.Machine.{Pending}
+use Rattle.pdl_semantics.specs.Cycle.{port_write, shown}
 
 abbrev pub released : ℕ → Option Pending → List Commit
 released m o = shown m (port_write o)

@@ -1,9 +1,9 @@
 -- A thread after a wrong guess: it keeps to one path, whatever answers come.
 use Rattle.std.proofs.Common.{◌≡◌, refl, sym, ap, ap₂, ◌∙◌, subst, ℕ, suc, ◌<◌, ◌⊎◌, inl, inr, Bool, true, false, ◌||◌, not, List, [], ◌∷◌, ◌++◌, length, Option, Some, None, is_some, ◌==◌, cond, if◌then◌else◌, slice_index, slice_set, append-nil, append_assoc, eq-eqb}
-use Rattle.pdl_model.specs.Flat.{Stmt, Pipe, Branch, Next, Ends, Goes, Forks, taken}
-use Rattle.pdl_model.specs.Stages.{onpath, in_stage, stage_at, is_verify, verify_stage}
-use Rattle.pdl_model.specs.Machine.{Ask, Awaited, answers}
-use Rattle.pdl_model.specs.Cycle.{awaited_of}
+use Rattle.pdl_semantics.specs.Flat.{Stmt, Pipe, Branch, Next, Ends, Goes, Forks, taken}
+use Rattle.pdl_semantics.specs.Stages.{onpath, in_stage, stage_at, is_verify, verify_stage}
+use Rattle.pdl_semantics.specs.Machine.{Ask, Awaited, answers}
+use Rattle.pdl_semantics.specs.Cycle.{awaited_of}
 use Rattle.pdl_derived.specs.Derived.{Work, Around, Thread, State, do_all, works, has, fresh, answered, with_answers, still, word_of, asked_at}
 use Rattle.pdl_derived.specs.Alone.{before}
 use Rattle.pdl_facts.specs.Scans.{Scan, no_scan, opens_all, from, none_of, binds, fixed}

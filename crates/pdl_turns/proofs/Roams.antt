@@ -1,9 +1,9 @@
 -- A thread after a wrong guess in the whole language: it keeps to one path, whatever answers come, has passed no barrier, and so releases nothing.
 use Rattle.std.proofs.Common.{◌≡◌, refl, sym, ap, ap₂, ◌∙◌, subst, ℕ, ◌≤◌, ◌<◌, ◌⊎◌, inl, inr, Bool, true, false, ◌&&◌, ◌||◌, not, List, [], ◌∷◌, ◌++◌, Option, Some, None, ◌==◌, nat_lt, cond, if◌then◌else◌, slice_index, slice_set, append-nil, nat_le, arith, leb-false, ltb-true}
-use Rattle.pdl_model.specs.Flat.{Op, Guard, DelayedRead, Release, SpecBarrier, Verify, Stmt, Pipe, Branch, Next, Ends, Goes, Forks, values_of}
-use Rattle.pdl_model.specs.Stages.{in_stage, stage_at, is_verify, verify_stage}
-use Rattle.pdl_model.specs.Machine.{Ask, Awaited, answers, same_args}
-use Rattle.pdl_model.specs.Cycle.{awaited_of}
+use Rattle.pdl_semantics.specs.Flat.{Op, Guard, DelayedRead, Release, SpecBarrier, Verify, Stmt, Pipe, Branch, Next, Ends, Goes, Forks, values_of}
+use Rattle.pdl_semantics.specs.Stages.{in_stage, stage_at, is_verify, verify_stage}
+use Rattle.pdl_semantics.specs.Machine.{Ask, Awaited, answers, same_args}
+use Rattle.pdl_semantics.specs.Cycle.{awaited_of}
 use Rattle.pdl_derived.specs.Derived.{Work, Around, State, does, do_all, has, with_answers, still, word_of, asked_at}
 use Rattle.pdl_derived.specs.Alone.{before, looked}
 use Rattle.pdl_facts.specs.Scans.{Scan, opened, opens, opens_all, no_guards, from, none_of, binds, free_of, fixed}
@@ -67,10 +67,6 @@ sure_looked v b c [] = refl
 sure_looked v b c (x ∷ xs) =
     (λ i. sure_looked_op v b c x.stage x.op i && all_sure v (b || barrier_looked x.op i) (opens_looked_op x.op c i) (looked_all xs))
     ∙ ap (λ d. is_sure v b c x.stage x.op && d) (sure_looked v (b || is_barrier x.op) (opens x.op c) xs)
-
-free_looked : (xs : List Stmt) → unguarded (looked_all xs) ≡ unguarded xs
-free_looked [] = refl
-free_looked (x ∷ xs) = ap (λ b. no_guards x.guards && b) (free_looked xs)
 
 none_binds : (g : ℕ) (xs : List Stmt) → none_of (binds g) (looked_all xs) ≡ none_of (binds g) xs
 none_binds g [] = refl

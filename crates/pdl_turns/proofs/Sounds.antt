@@ -2,12 +2,12 @@
 use Rattle.std.proofs.Common.{◌≡◌, refl, sym, ap, ap₂, ◌∙◌, subst, ℕ, suc, ◌≤◌, ◌<◌, ◌⊎◌, inl, inr, Bool, true, false, ◌&&◌, not, List, [], ◌∷◌, length, Option, Some, None, ◌==◌, nat_lt, nat_le, cond, if◌then◌else◌, arith, slice_index, ltb-true, ltb-false}
 use Rattle.std.proofs.lemmas.List.{get_or-set_other}
 use Rattle.std.proofs.lemmas.Bool.{eqb-false}
-use Rattle.pdl_model.specs.Flat.{Arrays, Op, DelayedRead, Verify, values_of, Guard, Stmt, Pipe, Branch, Next, Ends, Goes, Forks, taken, of_mem}
-use Rattle.pdl_model.specs.Stages.{onpath, in_stage, stage_at, mem_at, commit_stage, reserve_stage, goes_to}
-use Rattle.pdl_model.specs.Locks.{Latest}
-use Rattle.pdl_model.specs.Machine.{Ask, same_args}
-use Rattle.pdl_model.specs.Sequential.{Run, thread}
-use Rattle.pdl_model.specs.Promises.{wrote, row}
+use Rattle.pdl_semantics.specs.Flat.{Arrays, Op, DelayedRead, Verify, values_of, Guard, Stmt, Pipe, Branch, Next, Ends, Goes, Forks, taken, of_mem}
+use Rattle.pdl_semantics.specs.Stages.{onpath, in_stage, stage_at, mem_at, commit_stage, reserve_stage, goes_to}
+use Rattle.pdl_semantics.specs.Locks.{Latest}
+use Rattle.pdl_semantics.specs.Machine.{Ask, same_args}
+use Rattle.pdl_semantics.specs.Sequential.{Run, thread}
+use Rattle.pdl_semantics.specs.Promises.{wrote, row}
 use Rattle.pdl_derived.specs.Derived.{Work, Around, Thread, works, does, do_all, latest_in, has}
 use Rattle.pdl_derived.specs.Alone.{alone, before, looked, start_work, so_far, placed}
 use Rattle.pdl_facts.specs.Scans.{from, is_plain, none_of, binds, no_scan, opens_all, reads_ok, opened}
@@ -143,10 +143,6 @@ module _ (p : Pipe) (acc : Sound p) (arrays : Arrays) (args : List ℕ) where
           ap (λ n. goes_to n (stage_work p arrays args s).env) e
           ∙ ap (λ k. Some (if k == 1 then a else b)) (fork_value s x a b e)
           ∙ sym (ap (λ n. goes_to n (thread (at_once p) arrays args).env) e)
-
-  -- the stages that it comes to
-  abbrev pub On : ℕ → Type 0
-  On s = visits p (thread (at_once p) arrays args).env s ≡ true
 
   pub on_start : visits p (thread (at_once p) arrays args).env 0 ≡ true
   on_start = ap (comes_by p (thread (at_once p) arrays args).env) acc.graph.trunk_start

@@ -1,20 +1,18 @@
 -- What a stage's deeds do to a thread's entries of one memory is what the derived work does at once.
-use Rattle.std.proofs.Common.{◌≡◌, refl, sym, ap, ap₂, ◌∙◌, subst, ℕ, ◌⊎◌, inl, inr, Bool, true, false, ◌&&◌, ◌||◌, not, List, [], ◌∷◌, ◌++◌, Option, Some, None, ◌==◌, cond, if◌then◌else◌, arith, eq-eqb, slice_index, append-nil, append_assoc}
+use Rattle.std.proofs.Common.{◌≡◌, refl, sym, ap, ap₂, ◌∙◌, ℕ, ◌⊎◌, inl, inr, Bool, true, false, ◌&&◌, ◌||◌, not, List, [], ◌∷◌, ◌++◌, Option, Some, None, ◌==◌, cond, if◌then◌else◌, arith, eq-eqb, append-nil, append_assoc}
 use Rattle.std.proofs.lemmas.Bool.{eqb-true, eqb-false}
 use Rattle.std.proofs.lemmas.Bool.Decides.{eqb_tells}
-use Rattle.pdl_model.specs.Flat.{Commit, of_mem, Op, DelayedRead, Write, ReserveWrite, Release, Verify, Stmt, value_of, values_of, taken}
-use Rattle.pdl_model.specs.Stages.{list_any, onpath}
-use Rattle.pdl_model.specs.Machine.{Ask, Pending, Place, Blocked, Reserved, Deeds, is_held, does_all, same_args}
-use Rattle.pdl_model.specs.Locks.{commit_value}
-use Rattle.pdl_model.specs.Cycle.{new_entries, put, put_all}
-use Rattle.pdl_model.specs.Machine
-use Rattle.pdl_derived.specs.Derived.{Entry, Work, Around, does, do_all, has, without, released}
+use Rattle.pdl_semantics.specs.Flat.{Commit, of_mem}
+use Rattle.pdl_semantics.specs.Stages.{list_any}
+use Rattle.pdl_semantics.specs.Machine.{Ask, Pending, Blocked, Reserved, Deeds}
+use Rattle.pdl_semantics.specs.Locks.{commit_value}
+use Rattle.pdl_semantics.specs.Cycle.{new_entries, put, put_all}
+use Rattle.pdl_semantics.specs.Machine
+use Rattle.pdl_derived.specs.Derived.{Entry, Work, Around, has, without, released}
 use Rattle.pdl_derived.specs.Derived
-use Rattle.pdl_derived.proofs.Writes.{and_left, and_right, of_mem_append}
+use Rattle.pdl_derived.proofs.Writes.{of_mem_append}
 use Rattle.pdl_derived.proofs.Entries.{entries_of, entry, write_of, filled_own, filled_other, filled_one, without_own, without_other, without_one, released_own, released_other, released_one}
-use Rattle.pdl_facts.specs.Scans.{Phase, Fresh, Held, Written, Done, after_release, next_phase, holds, is_fresh, phase_ok, phases_ok, phase_all}
-use Rattle.pdl_turns.proofs.Paths.{Fixed}
-use Rattle.pdl_derived.proofs.Deeds.{places, places_has, work_of, AllFit, told_step}
+use Rattle.pdl_facts.specs.Scans.{Phase, Fresh, Held, Written, Done, after_release, holds, is_fresh}
 use Rattle.pdl_derived.proofs.Lists.{own}
 
 -- what was released of m in this stage, and what steps 1 and 2 leave
@@ -184,44 +182,3 @@ step_release m n k a ph es cs new ws rs held i true e h g = at ph h g
 module _ (o : Around) (read : ℕ → ℕ → ℕ) (block : Blocked → Bool) (room : Reserved → Bool) (free : Ask → Bool) (m n : ℕ) (start : List Pending) where
   abbrev pub Here : Phase → Deeds → Work → Type 0
   Here ph d w = Staged m n ph (entries_of m w.entries) (of_mem m w.commits) (start ++ new_entries m n d.reserves) d.writes (list_any (λ j. j == m) d.releases)
-
-  step_op : (op : Op) (ph : Phase) (d : Deeds) (es : List Entry) (cs : List Commit) → places es ≡ d.held → phase_ok m ph op ≡ true
-      → Here ph d (work_of o read block room free d es cs) → Here (next_phase m ph op) (Machine.does read op d) (does o op (work_of o read block room free d es cs))
-  step_op (DelayedRead x j a) ph d es cs h k g = absurd (cc k)
-  step_op (Write j a e) ph d es cs h k g = step_write m n j a (value_of e d.env) ph es (of_mem m cs) _ d.writes _ (j == m) refl k g
-  step_op (ReserveWrite j a) ph d es cs h k g = step_reserve m n j a (slice_index d.env a) ph es (of_mem m cs) start d.reserves d.writes _ (j == m) refl k g
-  step_op (Release j a) ph d es cs h k g = step_release m n j a ph es cs _ d.writes d.releases (is_held d.held j a) (ap (λ l. is_held l j a) (sym h) ∙ places_has es j a) (j == m) refl k g
-  step_op (Verify args) ph d es cs h k g = at (same_args (values_of args d.env) d.guess)
-    where
-      at : (b : Bool) → Here ph (cond b d (record d { child = Some (values_of args d.env); fails = true })) (cond b (work_of o read block room free d es cs) (record (work_of o read block room free d es cs) { child = Some (values_of args d.env); fails = true }))
-      at true = g
-      at false = g
-  step_op _ ph d es cs h k g = g
-
-  step_if : (b : Bool) (op : Op) (ph : Phase) (d : Deeds) (es : List Entry) (cs : List Commit) → places es ≡ d.held → (b ≡ true → phase_ok m ph op ≡ true)
-      → Here ph d (work_of o read block room free d es cs)
-      → Here (cond b (next_phase m ph op) ph) (cond b (Machine.does read op d) d) (cond b (does o op (work_of o read block room free d es cs)) (work_of o read block room free d es cs))
-  step_if true op ph d es cs h k g = step_op op ph d es cs h (k refl) g
-  step_if false op ph d es cs h k g = g
-
-  -- the statements of a stage
-  pub steps_all : (path : List ℕ) (xs : List Stmt) (ph : Phase) (d : Deeds) (es : List Entry) (cs : List Commit) → places es ≡ d.held → AllFit o read block room free xs
-      → Fixed path o xs (work_of o read block room free d es cs) → phases_ok m ph (onpath path xs) ≡ true → Here ph d (work_of o read block room free d es cs)
-      → (ph' : Phase) × Here ph' (does_all read xs d) (do_all o xs (work_of o read block room free d es cs)) × (ph' ≡ phase_all m ph (onpath path xs))
-  steps_all path [] ph d es cs h f q k g = (ph, g, refl)
-  steps_all path (x ∷ xs) ph d es cs h f q k g =
-      let t = told_step o read block room free (taken x.guards d.env) x.op d es cs h f.0 in
-      let d' : Deeds = (if taken x.guards d.env then Machine.does read x.op d else d) in
-      let w' : Work = cond (taken x.guards d.env) (does o x.op (work_of o read block room free d es cs)) (work_of o read block room free d es cs) in
-      let ok = allowed (taken x.guards d.env) (taken x.guards path) q.0 k in
-      let r = steps_all path xs (cond (taken x.guards d.env) (next_phase m ph x.op) ph) (if taken x.guards d.env then Machine.does read x.op d else d) w'.entries w'.commits t.held f.1
-      (subst (λ w. Fixed path o xs w) t.is q.1) ok.1
-      (subst (λ w. Here (cond (taken x.guards d.env) (next_phase m ph x.op) ph) (if taken x.guards d.env then Machine.does read x.op d else d) w) t.is (step_if (taken x.guards d.env) x.op ph d es cs h ok.0 g)) in
-      (r.0, subst (λ w. Here r.0 (does_all read xs (if taken x.guards d.env then Machine.does read x.op d else d)) (do_all o xs w)) (sym t.is) r.1, r.2 ∙ ok.2)
-    where
-      allowed : (b c : Bool) → b ≡ c → phases_ok m ph (cond c (record x { guards = [] } ∷ onpath path xs) (onpath path xs)) ≡ true
-          → (b ≡ true → phase_ok m ph x.op ≡ true) × (phases_ok m (cond b (next_phase m ph x.op) ph) (onpath path xs) ≡ true) × (phase_all m (cond b (next_phase m ph x.op) ph) (onpath path xs) ≡ phase_all m ph (cond c (record x { guards = [] } ∷ onpath path xs) (onpath path xs)))
-      allowed true true e k = ((λ _. and_left _ _ k), and_right (phase_ok m ph x.op) _ k, refl)
-      allowed true false e k = absurd (cc e)
-      allowed false true e k = absurd (cc e)
-      allowed false false e k = ((λ i. absurd (cc i)), k, refl)

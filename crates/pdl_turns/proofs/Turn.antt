@@ -3,10 +3,10 @@ use Rattle.std.proofs.Common.{◌≡◌, ◌≢◌, refl, sym, ap, ap₂, ◌∙
 use Rattle.std.proofs.lemmas.Bool.{eqb-true, eqb-false}
 use Rattle.std.proofs.lemmas.Bool.Decides.{eqb_tells}
 use Rattle.std.proofs.Common.{leb-true, ltb-true}
-use Rattle.pdl_model.specs.Flat.{Arrays, Op, DelayedRead, Write, ReserveWrite, Release, Verify, Stmt, value_of, values_of, taken, Commit, of_mem}
-use Rattle.pdl_model.specs.Stages.{in_stage, is_release, is_reserve}
-use Rattle.pdl_model.specs.Machine.{same_args}
-use Rattle.pdl_model.specs.Sequential.{Run}
+use Rattle.pdl_semantics.specs.Flat.{Arrays, Op, DelayedRead, Write, ReserveWrite, Release, Verify, Stmt, value_of, values_of, taken, Commit, of_mem}
+use Rattle.pdl_semantics.specs.Stages.{in_stage, is_release, is_reserve}
+use Rattle.pdl_semantics.specs.Machine.{same_args}
+use Rattle.pdl_semantics.specs.Sequential.{Run}
 use Rattle.pdl_derived.specs.Derived.{Entry, Work, Around, does, do_all, without, filled, released}
 use Rattle.pdl_derived.specs.Alone.{alone, before, looked}
 use Rattle.pdl_derived.proofs.Writes.{and_left, and_right, of_mem_append}

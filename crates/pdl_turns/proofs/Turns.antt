@@ -1,21 +1,19 @@
 -- One turn of a pipe with guards, by its path: the facts that the pipeline's proof takes of it.
-use Rattle.std.proofs.Common.{◌≡◌, ◌≢◌, refl, sym, ap, ap₂, ◌∙◌, subst, ℕ, suc, ◌<◌, ◌≤◌, Bool, true, false, ◌&&◌, not, List, [], ◌∷◌, ◌++◌, length, ◌==◌, nat_lt, nat_le, cond, arith, slice_index, append_assoc, leb-true, leb-false}
-use Rattle.pdl_model.specs.Flat.{Arrays, Op, Stmt, Pipe, taken, of_mem}
-use Rattle.pdl_model.specs.Stages.{onpath, in_stage, mem_at, commit_stage, reserve_stage, is_release}
-use Rattle.pdl_model.specs.Locks.{Latest}
-use Rattle.pdl_model.specs.Sequential.{Run, thread}
-use Rattle.pdl_model.specs.Promises.{wrote, row}
-use Rattle.pdl_derived.specs.Derived.{Work, Around, Thread, works, do_all, latest_in, has}
+use Rattle.std.proofs.Common.{◌≡◌, ◌≢◌, refl, sym, ap, ap₂, ◌∙◌, subst, ℕ, suc, ◌<◌, ◌≤◌, Bool, true, false, ◌&&◌, not, List, [], ◌∷◌, ◌++◌, length, ◌==◌, nat_lt, nat_le, cond, arith, slice_index, leb-true, leb-false}
+use Rattle.pdl_semantics.specs.Flat.{Arrays, Op, Stmt, Pipe, taken, of_mem}
+use Rattle.pdl_semantics.specs.Stages.{onpath, in_stage, mem_at, commit_stage, reserve_stage}
+use Rattle.pdl_semantics.specs.Locks.{Latest}
+use Rattle.pdl_semantics.specs.Sequential.{Run, thread}
+use Rattle.pdl_semantics.specs.Promises.{wrote, row}
+use Rattle.pdl_derived.specs.Derived.{Work, works, do_all, latest_in}
 use Rattle.pdl_derived.specs.Alone.{alone, before, start_work, so_far, placed}
 use Rattle.pdl_derived.proofs.Entries.{entries_of}
 use Rattle.pdl_derived.proofs.Stages.{or_else, next_piece, joined, reset}
-use Rattle.pdl_facts.specs.Scans.{from, is_plain, none_of, binds, fixed, no_scan, opens_all, reads_ok, opened}
-use Rattle.pdl_facts.specs.Accepted.{Accepted, along, Pathwise, Checked}
-use Rattle.pdl_turns.proofs.Alike.{Surrounds, Right, alike, in_stage_all, covers_all}
+use Rattle.pdl_facts.specs.Scans.{from, is_plain, none_of, binds, fixed, no_scan, opens_all}
+use Rattle.pdl_facts.specs.Accepted.{Accepted, along, Pathwise}
 use Rattle.pdl_turns.proofs.Paths.{Fixed, run_path, fixed_path_to, fixed_all, all_stays, before_path, stage_path}
 use Rattle.pdl_derived.proofs.Writes.{and_left, and_right}
 use Rattle.std.proofs.lemmas.Bool.{eqb-true, eqb-false}
-use Rattle.pdl_turns.proofs.Turn.{quiet, none_in_stage}
 use Rattle.pdl_turns.proofs.Marks.{seen, strips, Later, marked}
 use Rattle.pdl_turns.proofs.Pending.{marks, has_value}
 use Rattle.pdl_turns.proofs.Pending
@@ -66,27 +64,9 @@ pub fixed_behind : (xs ys : List Stmt) → fixed (xs ++ ys) ≡ true → fixed y
 fixed_behind [] ys h = h
 fixed_behind (x ∷ xs) ys h = fixed_behind xs ys (and_right _ _ h)
 
--- the facts of paths
-pub core : (p : Pipe) → Checked p → Pathwise p
-core p acc =
-    record {
-      some_stage = acc.some_stage;
-      fixed_guards = acc.fixed_guards;
-      fixed_by = λ s. subst (λ l. fixed l ≡ true) (acc.ordered (suc s) ∙ ap (λ l. l ++ from (suc s) p.stmts) (acc.pieces s) ∙ append_assoc (before s p.stmts) (in_stage s p.stmts) (from (suc s) p.stmts)) acc.fixed_guards;
-      releases = acc.releases;
-      verify_inside = acc.verify_inside;
-      paths = acc.paths;
-      makings = acc.makings;
-      made = acc.made;
-      sure = acc.sure;
-    }
-
 module _ (p : Pipe) (acc : Pathwise p) (arrays : Arrays) (args : List ℕ) where
   abbrev pub path : List ℕ
   path = (thread p arrays args).env
-
-  abbrev pub q : Pipe
-  q = along (thread p arrays args).env p
 
   pub accq : Accepted (along (thread p arrays args).env p)
   accq = acc.paths (thread p arrays args).env
@@ -125,10 +105,6 @@ module _ (p : Pipe) (acc : Pathwise p) (arrays : Arrays) (args : List ℕ) where
   marks_path : (s m : ℕ) → marks p arrays args s m ≡ marks (along (thread p arrays args).env p) arrays args s m
   marks_path s m = ap₂ (λ (w : Work) (r : Run). cond (nat_lt (commit_stage p m) s) [] (marked (has_value (entries_of m w.entries)) (of_mem m r.writes))) (so_path s) thread_path
 
-  -- the facts of the turn
-  pub quiet_at : (o : Around) (t : Thread) (m : ℕ) → t.stage ≢ commit_stage p m → of_mem m (works p o t).commits ≡ []
-  quiet_at o t m h = quiet m o (in_stage t.stage p.stmts) _ (none_in_stage (is_release m) (commit_stage p m) t.stage p.stmts (acc.releases m) h)
-
   pub marks_seen : (s m a : ℕ) (rest : Latest) → reserve_stage p m < s → latest_in (so_far p arrays args s).entries m a rest ≡ seen a (marks p arrays args s m) rest
   marks_seen s m a rest h = ap (λ (w : Work). latest_in w.entries m a rest) (so_path s) ∙ Pending.marks_seen _ accq arrays args s m a rest h ∙ ap (λ l. seen a l rest) (sym (marks_path s m))
 
@@ -157,11 +133,6 @@ module _ (p : Pipe) (acc : Pathwise p) (arrays : Arrays) (args : List ℕ) where
   pub row_after : (m : ℕ) → row (thread p arrays args).arrays m ≡ wrote (row arrays m) (of_mem m (thread p arrays args).writes)
   row_after m = ap (λ (r : Run). row r.arrays m) thread_path ∙ Whole.row_after _ accq arrays args m ∙ ap (λ (r : Run). wrote (row arrays m) (of_mem m r.writes)) (sym thread_path)
 
-  pub simple : (s : ℕ) → (works p (alone arrays) (placed p arrays args s)).asks ≡ []
-  simple s =
-      ap (λ (w : Work). w.asks) (works_path s)
-      ∙ Whole.simple (along (thread p arrays args).env p) (opens_all (before s (along (thread p arrays args).env p).stmts) no_scan) (alone arrays) (in_stage s (along (thread p arrays args).env p).stmts) (reset (so_far (along (thread p arrays args).env p) arrays args s)) (Whole.reads_here _ accq arrays args s)
-
   -- its stage's work is a piece of the whole thread's
   pub piece : (s : ℕ) → so_far p arrays args (suc s) ≡ joined (so_far p arrays args s) (works p (alone arrays) (placed p arrays args s))
   piece s = so_path (suc s) ∙ next_piece (along (thread p arrays args).env p) arrays args s (accq.pieces s) ∙ ap₂ joined (sym (so_path s)) (sym (works_path s))
@@ -177,17 +148,3 @@ module _ (p : Pipe) (acc : Pathwise p) (arrays : Arrays) (args : List ℕ) where
   blocked_next s =
       ap (λ l. opens_all l no_scan) (accq.pieces s) ∙ Whole.opens_append (before s (onpath (thread p arrays args).env p.stmts)) (in_stage s (onpath (thread p arrays args).env p.stmts)) no_scan
       ∙ ap (λ l. opens_all l (opens_all (before s (onpath (thread p arrays args).env p.stmts)) no_scan)) (stage_path (thread p arrays args).env s p.stmts)
-
-  -- with all conditions true its stage does what it does alone, and leaves the blocked locations right
-  pub here_alike : (o : Around) (s : ℕ) (clean : ℕ → ℕ → Type 0)
-      → Surrounds p o arrays s clean → (works p o (placed p arrays args s)).ready ≡ true → Right p s clean (opens_all (before s (onpath (thread p arrays args).env p.stmts)) no_scan).blocked (so_far p arrays args s).env
-      → (works p o (placed p arrays args s) ≡ works p (alone arrays) (placed p arrays args s)) × Right p s clean (opens_all (before (suc s) (onpath (thread p arrays args).env p.stmts)) no_scan).blocked (so_far p arrays args (suc s)).env
-  here_alike o s clean f ready r =
-      let covers = covers_all (along (thread p arrays args).env p) (alone arrays) no_scan (before s (onpath (thread p arrays args).env p.stmts)) (start_work p args) (accq.reads s) (λ m a h. h) in
-      let covers' = subst (λ (w : Work). (m a : ℕ) → has w.entries m a ≡ true → opened (opens_all (before s (onpath (thread p arrays args).env p.stmts)) no_scan).held m a ≡ true) (sym (so_path s)) covers in
-      let h = alike (thread p arrays args).env p o arrays s clean (opens_all (before s (onpath (thread p arrays args).env p.stmts)) no_scan) (in_stage s p.stmts) (reset (so_far p arrays args s)) f (in_stage_all s p.stmts) (fixed_stage s)
-      (subst (λ l. reads_ok p (opens_all (before s (onpath (thread p arrays args).env p.stmts)) no_scan) l ≡ true) (stage_path (thread p arrays args).env s p.stmts) (Whole.reads_here _ accq arrays args s)) covers' ready r in (
-        h.0,
-        subst (λ l. Right p s clean l.blocked (so_far p arrays args (suc s)).env) (sym (blocked_next s))
-            (subst (λ e. Right p s clean (opens_all (onpath (thread p arrays args).env (in_stage s p.stmts)) (opens_all (before s (onpath (thread p arrays args).env p.stmts)) no_scan)).blocked e) (ap (λ (w : Work). w.env) h.0 ∙ sym (ap (λ (t : Thread). t.env) (placed_next s))) h.1),
-      )

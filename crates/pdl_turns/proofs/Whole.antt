@@ -1,17 +1,16 @@
 -- One turn along its path, by stages.
-use Rattle.std.proofs.Common.{◌≡◌, ◌≢◌, refl, sym, ap, ap₂, ◌∙◌, subst, ℕ, suc, ◌+◌, ◌≤◌, ◌<◌, Bool, true, false, ◌&&◌, not, List, [], ◌∷◌, ◌++◌, length, Some, ◌==◌, nat_lt, cond, if◌then◌else◌, arith, append-nil}
+use Rattle.std.proofs.Common.{◌≡◌, ◌≢◌, refl, sym, ap, ap₂, ◌∙◌, subst, ℕ, suc, ◌+◌, ◌≤◌, ◌<◌, Bool, true, false, ◌&&◌, List, [], ◌∷◌, ◌++◌, length, nat_lt, cond, if◌then◌else◌, arith, append-nil}
 use Rattle.std.proofs.Common.{ltb-true, ltb-false, length-append, le_of_eq}
-use Rattle.pdl_model.specs.Flat.{Arrays, Op, DelayedRead, Verify, Stmt, Pipe, taken, values_of, Commit, of_mem, start_env}
-use Rattle.pdl_model.specs.Stages.{in_stage, mem_at, is_release, is_reserve, commit_stage, reserve_stage}
-use Rattle.pdl_model.specs.Machine.{same_args}
-use Rattle.pdl_model.specs.Sequential.{Run, runs, run_all, thread}
-use Rattle.pdl_model.specs.Promises.{wrote, row}
+use Rattle.pdl_semantics.specs.Flat.{Arrays, Stmt, Pipe, taken, Commit, of_mem, start_env}
+use Rattle.pdl_semantics.specs.Stages.{in_stage, mem_at, is_release, is_reserve, commit_stage, reserve_stage}
+use Rattle.pdl_semantics.specs.Sequential.{Run, runs, run_all, thread}
+use Rattle.pdl_semantics.specs.Promises.{wrote, row}
 use Rattle.pdl_derived.specs.Derived.{Entry, Work, Around, Thread, does, do_all, works}
-use Rattle.pdl_derived.specs.Alone.{alone, before, start_work, so_far, placed, undone, misses}
+use Rattle.pdl_derived.specs.Alone.{alone, before, start_work, so_far, placed, undone}
 use Rattle.pdl_derived.proofs.Writes.{and_left, and_right, of_mem_append, row_committed}
-use Rattle.pdl_derived.proofs.Entries.{entries_of, addresses, places, lacks}
+use Rattle.pdl_derived.proofs.Entries.{entries_of, addresses, places}
 use Rattle.pdl_turns.proofs.Phases.{Tied}
-use Rattle.pdl_facts.specs.Scans.{Phase, Fresh, Held, Written, Done, next_phase, phase_ok, no_guards, phases_ok, phase_all, is_over, from, none_of, opens, reads_ok, op_ok, opens_all, is_plain, Scan, no_scan}
+use Rattle.pdl_facts.specs.Scans.{Phase, Fresh, Held, Written, Done, next_phase, phase_ok, no_guards, phases_ok, phase_all, is_over, from, none_of, opens, reads_ok, opens_all, is_plain, Scan, no_scan}
 use Rattle.pdl_turns.proofs.Related.{Related, related_all, related_step, Ok, next_phases, taken_none}
 use Rattle.pdl_derived.proofs.Stages.{step, joined, next_piece, do_all_append}
 use Rattle.pdl_facts.specs.Accepted.{Accepted}
@@ -82,36 +81,12 @@ undone_split c s us xs f g = at (nat_lt c s) refl (nat_lt c (suc s)) refl
         apart : s ≢ c
         apart q = let i : suc s ≤ c = ltb-false c (suc s) k in omega arith
 
--- what is lacking among the addresses is missed by the writes
-lacks_misses : (a : ℕ) (cs : List Commit) → lacks a (places cs) ≡ misses a cs
-lacks_misses a [] = refl
-lacks_misses a (c ∷ cs) = ap (λ b. not (c.address == a) && b) (lacks_misses a cs)
-
 pub no_more : (es : List Entry) (l : List ℕ) → addresses es ++ l ≡ l → es ≡ []
 no_more [] l h = refl
 no_more (e ∷ es) l h = absurd (longer (ap length h))
   where
     longer : suc (length (addresses es ++ l)) ≡ length l → ⊥
     longer k = let j : length (addresses es ++ l) ≡ length (addresses es) + length l = length-append (addresses es) l in omega arith
-
--- statements of this feature ask for nothing
-simple_op : (p : Pipe) (s : ℕ) (c : Scan) (o : Around) (op : Op) (w : Work) → op_ok p s c op ≡ true → (does o op w).asks ≡ w.asks
-simple_op p s c o (DelayedRead x n a) w h = absurd (cc h)
-simple_op p s c o (Verify args) w h = at (same_args (values_of args w.env) w.guess)
-  where
-    at : (b : Bool) → (cond b w (record w { child = Some (values_of args w.env); fails = true })).asks ≡ w.asks
-    at true = refl
-    at false = refl
-simple_op p s c o _ w h = refl
-
-simple_step : (b : Bool) (p : Pipe) (s : ℕ) (c : Scan) (o : Around) (op : Op) (w : Work) → op_ok p s c op ≡ true → (cond b (does o op w) w).asks ≡ w.asks
-simple_step true p s c o op w h = simple_op p s c o op w h
-simple_step false p s c o op w h = refl
-
-pub simple : (p : Pipe) (c : Scan) (o : Around) (xs : List Stmt) (w : Work) → reads_ok p c xs ≡ true → (do_all o xs w).asks ≡ w.asks
-simple p c o [] w h = refl
-simple p c o (x ∷ xs) w h =
-    simple p (opens x.op c) o xs (step o x w) (and_right _ _ h) ∙ simple_step (taken x.guards w.env) p x.stage c o x.op w (and_right _ _ (and_left _ _ h))
 
 reads_first : (p : Pipe) (xs ys : List Stmt) (c : Scan) → reads_ok p c (xs ++ ys) ≡ true → reads_ok p (opens_all xs c) ys ≡ true
 reads_first p [] ys c h = h
@@ -158,9 +133,6 @@ module _ (p : Pipe) (acc : Accepted p) (arrays : Arrays) (args : List ℕ) where
       sym (quiet m (alone arrays) (from s p.stmts) (so_far p arrays args s) (none_from (is_release m) (commit_stage p m) s p.stmts (acc.releases m) h))
       ∙ ap (λ (w : Work). of_mem m w.commits) (sym (rest_of s)) ∙ (at_end m).1
 
-  stage_work : ℕ → Work
-  stage_work s = works p (alone arrays) (placed p arrays args s)
-
   pub piece : (s : ℕ) → so_far p arrays args (suc s) ≡ joined (so_far p arrays args s) (works p (alone arrays) (placed p arrays args s))
   piece s = next_piece p arrays args s (acc.pieces s)
 
@@ -184,15 +156,6 @@ module _ (p : Pipe) (acc : Accepted p) (arrays : Arrays) (args : List ℕ) where
       sym (spots_all arrays m (from s p.stmts) (λ n. phase_all n Fresh (before s p.stmts)) (so_far p arrays args s) (run_at p arrays args s) (none_from (is_reserve m) (reserve_stage p m) s p.stmts (acc.reserves m) h) (ok_from s) (related_at s))
       ∙ ap (λ (w : Work). spots (entries_of m w.entries) (of_mem m w.commits)) (sym (rest_of s))
       ∙ ap₂ spots (at_end m).0 (at_end m).1
-
-  pub pending_places : (s m a : ℕ) → reserve_stage p m < s → lacks a (addresses (entries_of m (so_far p arrays args s).entries)) ≡ misses a (undone p arrays args s m)
-  pending_places s m a h = at (nat_lt (commit_stage p m) s) refl
-    where
-      at : (b : Bool) → nat_lt (commit_stage p m) s ≡ b → lacks a (addresses (entries_of m (so_far p arrays args s).entries)) ≡ misses a (cond b [] (of_mem m (thread p arrays args).writes))
-      at true e = ap (λ l. lacks a (addresses l)) (no_more _ _ (ap (λ l. addresses (entries_of m (so_far p arrays args s).entries) ++ places l) (sym (commits_late s m (ltb-true _ _ e))) ∙ all_places s m h))
-      at false e =
-          ap (lacks a) (sym (append-nil _) ∙ ap (λ l. spots (entries_of m (so_far p arrays args s).entries) l) (sym (commits_early s m (ltb-false _ _ e))) ∙ all_places s m h)
-          ∙ lacks_misses a (of_mem m (thread p arrays args).writes)
 
   -- the array of m after the turn
   pub row_after : (m : ℕ) → row (thread p arrays args).arrays m ≡ wrote (row arrays m) (of_mem m (thread p arrays args).writes)
@@ -222,7 +185,3 @@ module _ (p : Pipe) (acc : Accepted p) (arrays : Arrays) (args : List ℕ) where
 
   pub reads_here : (s : ℕ) → reads_ok p (opens_all (before s p.stmts) no_scan) (in_stage s p.stmts) ≡ true
   reads_here s = reads_first p (before s p.stmts) (in_stage s p.stmts) no_scan (subst (λ l. reads_ok p no_scan l ≡ true) (acc.pieces s) (acc.reads (suc s)))
-
-  -- the thread in the next stage, by its stage's work
-  pub placed_next : (s : ℕ) → placed p arrays args (suc s) ≡ (let w = works p (alone arrays) (placed p arrays args s) in record { stage = suc s; env = w.env; entries = w.entries; guess = w.guess; awaits = [] })
-  placed_next s = ap (λ (w : Work). record { stage = suc s; env = w.env; entries = w.entries; guess = w.guess; awaits = [] }) (piece s)

@@ -1,6 +1,5 @@
-use Rattle.pdl_model.specs.Flatten.{flat}
-use Rattle.pdl_machine_facts.proofs.Answered.{all_answered}
 use Rattle.pdl_lockuse.proofs.Fits.{calm_here, fit_sound}
+use Rattle.pdl_lockuse.proofs.Sources.{fit_source}
 use Rattle.pdl_lockuse.proofs.Tried.{fit_tested}
 use Rattle.pdl_lockuse.proofs.fit.Goals as goal
 
@@ -14,4 +13,4 @@ pub returns-clause-by_tests : goal.returns-clause-by_tests
 returns-clause-by_tests c = fit_tested
 
 pub returns-clause-by_rules : goal.returns-clause-by_rules
-returns-clause-by_rules c = λ p rules source named comb. fit_sound (flat p) (c.sound.ensures p rules source named) (c.strict.ensures p rules source) (c.careful.ensures p rules source) (all_answered p rules comb)
+returns-clause-by_rules c = fit_source

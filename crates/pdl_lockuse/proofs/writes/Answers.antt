@@ -1,4 +1,4 @@
-use Rattle.pdl_model.specs.Cycle.{first, state_after}
+use Rattle.pdl_semantics.specs.Cycle.{first, state_after}
 use Rattle.pdl_lockuse.proofs.InUse.{all_room}
 use Rattle.pdl_lockuse.proofs.InRuns.{once_here, lets_here}
 use Rattle.pdl_lockuse.proofs.writes.Goals as goal

@@ -1,4 +1,4 @@
-use Rattle.pdl_model.specs.Flatten.{flat}
+use Rattle.pdl_semantics.specs.Flatten.{flat}
 use Rattle.pdl_facts.specs.Facts.{at_once}
 use Rattle.pdl_facts.proofs.Passes
 use Rattle.pdl_pathfacts.proofs.Passing.{parts}

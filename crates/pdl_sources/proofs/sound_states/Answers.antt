@@ -1,4 +1,4 @@
-use Rattle.pdl_model.specs.Flatten.{flat}
+use Rattle.pdl_semantics.specs.Flatten.{flat}
 use Rattle.pdl_sources.proofs.sound_states.Goals as goal
 
 pub returns : goal.returns

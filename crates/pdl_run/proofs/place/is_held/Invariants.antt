@@ -1,5 +1,5 @@
 use Rattle.std.proofs.Common.{◌≡◌, map, drop}
-use Rattle.pdl_model.specs.Machine as machine
+use Rattle.pdl_semantics.specs.Machine as machine
 use Rattle.pdl_run.specs.View.{place_view}
 use Rattle.pdl_run.proofs.place.is_held.Given as goal
 

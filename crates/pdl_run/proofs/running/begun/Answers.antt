@@ -1,7 +1,7 @@
 use Rattle.std.proofs.Common.{◌≡◌, ◌≤◌, ◌+◌, ◌*◌, [], ap, ◌∙◌, ℕ, List, length, arith}
 use Rattle.std.specs.Prelude.{vec_capacity}
 use Rattle.std.proofs.lemmas.List.{length-replicate}
-use Rattle.pdl_model.specs.Flat.{arrays_of}
+use Rattle.pdl_semantics.specs.Flat.{arrays_of}
 use Rattle.pdl_form.specs.Whole.{form}
 use Rattle.pdl_run.specs.Outputs.{output_count}
 use Rattle.pdl_run.proofs.First.{first_is, first_ready}

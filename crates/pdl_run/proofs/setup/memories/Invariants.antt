@@ -1,5 +1,5 @@
 use Rattle.std.proofs.Common.{◌≡◌, ◌<◌, ℕ, [], length, slice_index_or}
-use Rattle.pdl_model.specs.Stages.{mem_at}
+use Rattle.pdl_semantics.specs.Stages.{mem_at}
 use Rattle.pdl_form.specs.Whole.{form}
 use Rattle.pdl_run.specs.Doing.{memory_at}
 use Rattle.pdl_run.specs.Running.{IsFirst}

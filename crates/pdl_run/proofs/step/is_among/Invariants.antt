@@ -1,5 +1,5 @@
 use Rattle.std.proofs.Common.{◌≡◌, ◌==◌, drop}
-use Rattle.pdl_model.specs.Stages.{list_any}
+use Rattle.pdl_semantics.specs.Stages.{list_any}
 use Rattle.pdl_run.proofs.step.is_among.Given as goal
 
 -- the numbers left decide

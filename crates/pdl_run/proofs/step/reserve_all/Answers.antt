@@ -1,5 +1,5 @@
 use Rattle.std.proofs.Common.{◌≡◌, ◌≤◌, ◌<◌, ◌+◌, ◌-◌, sym, subst, drop, length, arith}
-use Rattle.pdl_model.specs.Cycle as stated
+use Rattle.pdl_semantics.specs.Cycle as stated
 use Rattle.pdl_pending.specs.Memory.{Memory}
 use Rattle.pdl_run.specs.Acts.{mover_of, act_of, acts_of}
 use Rattle.pdl_run.proofs.Stepping.{room_here}

@@ -1,6 +1,6 @@
 use Rattle.std.proofs.Common.{◌≡◌, ◌≤◌, sym, ap, subst, ℕ, List, Option, Some, map, length, length-append, arith}
-use Rattle.pdl_model.specs.Machine.{Reserved}
-use Rattle.pdl_model.specs.Cycle as stated
+use Rattle.pdl_semantics.specs.Machine.{Reserved}
+use Rattle.pdl_semantics.specs.Cycle as stated
 use Rattle.pdl_pending.specs.declared.pending.Reserved as r_reserved
 use Rattle.pdl_pending.specs.View.{reserved_view}
 use Rattle.pdl_run.specs.Acts.{act_of}

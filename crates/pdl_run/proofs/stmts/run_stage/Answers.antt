@@ -1,8 +1,8 @@
 use Rattle.std.proofs.Common.{◌≡◌, ◌≤◌, ◌+◌, ◌∙◌, sym, ap, subst, ℕ, suc, List, ◌∷◌, ◌&&◌, map, drop, length, arith}
 use Rattle.std.specs.Prelude.{vec_capacity}
 use Rattle.std.proofs.lemmas.List.{length-drop}
-use Rattle.pdl_model.specs.Flat.{Stmt}
-use Rattle.pdl_model.specs.Machine.{does_all}
+use Rattle.pdl_semantics.specs.Flat.{Stmt}
+use Rattle.pdl_semantics.specs.Machine.{does_all}
 use Rattle.pdl_form.specs.Form.{stmt_at}
 use Rattle.pdl_form.specs.Whole.{form}
 use Rattle.pdl_form.specs.View.{stmt_view}

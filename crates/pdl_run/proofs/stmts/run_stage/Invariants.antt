@@ -1,5 +1,5 @@
 use Rattle.std.proofs.Common.{◌≡◌, ◌&&◌, map, drop, length}
-use Rattle.pdl_model.specs.Machine.{does_all}
+use Rattle.pdl_semantics.specs.Machine.{does_all}
 use Rattle.pdl_form.specs.Form.{stmt_at}
 use Rattle.pdl_form.specs.Whole.{form}
 use Rattle.pdl_run.specs.View.{deeds_view}

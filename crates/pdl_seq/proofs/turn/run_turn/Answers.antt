@@ -1,7 +1,7 @@
 use Rattle.std.proofs.Common.{◌≡◌, ◌≤◌, ◌+◌, ◌∙◌, sym, ap, subst, List, [], ◌∷◌, drop, length, arith}
 use Rattle.std.specs.Prelude.{vec_capacity}
-use Rattle.pdl_model.specs.Flat.{Stmt, taken}
-use Rattle.pdl_model.specs.Sequential.{Run, run_all}
+use Rattle.pdl_semantics.specs.Flat.{Stmt, taken}
+use Rattle.pdl_semantics.specs.Sequential.{Run, run_all}
 use Rattle.pdl_form.specs.Whole.{form}
 use Rattle.pdl_form.specs.View.{stmt_view, stmts_view, guards_view, act_view}
 use Rattle.pdl_seq.specs.Turns.{Rooms, run_view}

@@ -1,5 +1,5 @@
 use Rattle.std.proofs.Common.{◌≡◌, drop}
-use Rattle.pdl_model.specs.Sequential.{run_all}
+use Rattle.pdl_semantics.specs.Sequential.{run_all}
 use Rattle.pdl_form.specs.View.{stmts_view}
 use Rattle.pdl_form.specs.Whole.{form}
 use Rattle.pdl_seq.specs.Turns.{run_view, rooms}

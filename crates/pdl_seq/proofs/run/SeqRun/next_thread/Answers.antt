@@ -1,7 +1,7 @@
 use Rattle.std.proofs.Common.{◌≡◌, ◌≤◌, ◌+◌, ◌++◌, ◌∙◌, List, refl, sym, ap, subst, suc, map, length, arith}
 use Rattle.std.specs.Prelude.{vec_capacity}
-use Rattle.pdl_model.specs.Flat.{arrays_of}
-use Rattle.pdl_model.specs.Sequential.{Run, run_all, thread}
+use Rattle.pdl_semantics.specs.Flat.{arrays_of}
+use Rattle.pdl_semantics.specs.Sequential.{Run, run_all, thread}
 use Rattle.pdl_form.specs.Whole.{form}
 use Rattle.pdl_seq.specs.Turns.{Rooms, rooms, commits_view, run_view}
 use Rattle.pdl_seq.specs.Runs.{Running, HasRun, told}

@@ -1,0 +1,3 @@
+pub mod SoundExamples
+pub mod Stated
+pub mod OneStages

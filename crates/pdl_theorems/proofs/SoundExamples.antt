@@ -1,0 +1,123 @@
+-- Written pipes pass the tests of the whole language.
+use Rattle.std.proofs.Common.{◌≡◌, refl, Bool, true, false, List, [], ◌∷◌, None}
+use Rattle.pdl_semantics.specs.Tree.{R, W, Queue, Bypass}
+use Rattle.pdl_semantics.specs.Tree
+use Rattle.pdl_semantics.specs.Flatten.{flat}
+use Rattle.pdl_semantics.proofs.Pipes.{one_stage, shared_guard, count_up, guess, far_barrier, copy, copy_guessed, count_slow, two_branches, one_branch, forked}
+use Rattle.pdl_semantics.proofs.Texts.{number, constant, variable, slice, plus, separator, bind, delayed_read, write, reserve, block, release, call, spec_call, verify, spec_check, spec_barrier, if_else, lock, comb, slow, pipe}
+use Rattle.pdl_semantics.specs.Flat.{Arrays, Pipe}
+use Rattle.pdl_derived.specs.Alone.{Refines, Advances, KeepsPace}
+use Rattle.pdl_facts.specs.SoundChecks.{sounds}
+use Rattle.pdl_turns.proofs.Courses.{Course}
+use Rattle.pdl_turns.proofs.CourseOf.{course}
+use Rattle.pdl_refinement.proofs.Follows.{refines, advances}
+use Rattle.pdl_progress.proofs.Rates.{keeps_pace}
+use Rattle.pdl_progress.proofs.Sounded.{sounded}
+use Rattle.pdl_theorems.proofs.Stated.{whole_refines, whole_advances, whole_paces}
+use Rattle.pdl_semantics.specs.Promises
+
+one_stage_sounds : sounds (flat one_stage) ≡ true
+one_stage_sounds = refl
+
+guards_sound : sounds (flat shared_guard) ≡ true
+guards_sound = refl
+
+queue_sounds : sounds (flat (count_up Queue 1)) ≡ true
+queue_sounds = refl
+
+guess_sounds : sounds (flat (guess 3)) ≡ true
+guess_sounds = refl
+
+far_barrier_sounds : sounds (flat far_barrier) ≡ true
+far_barrier_sounds = refl
+
+copy_sounds : sounds (flat copy) ≡ true
+copy_sounds = refl
+
+copy_guessed_sounds : sounds (flat copy_guessed) ≡ true
+copy_guessed_sounds = refl
+
+count_slow_sounds : sounds (flat count_slow) ≡ true
+count_slow_sounds = refl
+
+two_branches_sound : sounds (flat two_branches) ≡ true
+two_branches_sound = refl
+
+-- a second branch with statements in the fork's stage, which stand in the text behind later stages
+fork_text_sounds : sounds (flat (forked (separator ∷ separator ∷ []) (bind "w" (variable "n") ∷ separator ∷ []))) ≡ true
+fork_text_sounds = refl
+
+one_branch_sounds : sounds (flat one_branch) ≡ true
+one_branch_sounds = refl
+
+-- all at once: a guess, a fork with a delayed read in its first branch, and behind the merge a verify, a reserve and a release
+abbrev everything : Tree.Pipe
+everything =
+    pipe 2 (slow "d" 4 None ∷ comb "m" 4 (lock Bypass 4) ∷ [])
+    (spec_check ∷ bind "g" (slice "n" 0 0) ∷ spec_call "s" (plus (variable "n") (constant 2 1))
+    ∷ if_else (variable "g") (delayed_read "x" "d" "n" ∷ separator ∷ bind "y" (variable "x") ∷ separator ∷ []) (separator ∷ separator ∷ separator ∷ [])
+    ∷ separator ∷ verify "s" (plus (variable "n") (constant 2 2))
+    ∷ reserve "m" "n" W ∷ block "m" "n" ∷ write "m" "n" (constant 8 7) ∷ release "m" "n" ∷ [])
+
+everything_sounds : sounds (flat everything) ≡ true
+everything_sounds = refl
+
+-- a delayed read on no path, behind the stage of the releases
+abbrev pub dead_read : Tree.Pipe
+dead_read =
+    pipe 2 (slow "m" 4 (lock Queue 1) ∷ [])
+    (bind "g" (slice "n" 0 0) ∷ reserve "m" "n" R ∷ block "m" "n" ∷ release "m" "n" ∷ call (plus (variable "n") (constant 2 1))
+    ∷ separator ∷ if_else (variable "g") (if_else (variable "g") [] (delayed_read "x" "m" "n" ∷ []) ∷ []) [] ∷ separator ∷ [])
+
+dead_read_sounds : sounds (flat dead_read) ≡ true
+dead_read_sounds = refl
+
+-- a delayed read before a fork, whose first branch has an `if` on it in a stage that the second passes over
+abbrev pub passed_by : Tree.Pipe
+passed_by =
+    pipe 2 (record (slow "d" 4 None) { width = number 1 } ∷ [])
+    (bind "g" (slice "n" 0 0) ∷ delayed_read "x" "d" "n" ∷ call (plus (variable "n") (constant 2 1))
+    ∷ if_else (variable "g") (separator ∷ if_else (variable "x") (bind "y" (constant 1 1) ∷ []) [] ∷ []) (separator ∷ separator ∷ []) ∷ separator ∷ [])
+
+passed_by_sounds : sounds (flat passed_by) ≡ true
+passed_by_sounds = refl
+
+-- an `if` on a delayed read in its stage breaks a rule
+early_guard_fails : sounds (flat (pipe 2 (record (slow "d" 4 None) { width = number 1 } ∷ []) (delayed_read "x" "d" "n" ∷ call (plus (variable "n") (constant 2 1)) ∷ if_else (variable "x") (bind "y" (constant 1 1) ∷ []) [] ∷ separator ∷ []))) ≡ false
+early_guard_fails = refl
+
+-- a barrier in a branch breaks a rule
+branch_barrier_fails : sounds (flat (forked (separator ∷ spec_barrier ∷ separator ∷ []) [])) ≡ false
+branch_barrier_fails = refl
+
+-- so both theorems hold of them with no premise left
+abbrev whole : (p : Pipe) → sounds p ≡ true → Course p
+whole p h = course p (sounded p h)
+
+copy_guessed_refines : (image : Arrays) (schedule : List (List Bool)) → Refines (flat copy_guessed) image schedule
+copy_guessed_refines = refines (flat copy_guessed) (whole (flat copy_guessed) copy_guessed_sounds)
+
+branches_refine : (image : Arrays) (schedule : List (List Bool)) → Refines (flat two_branches) image schedule
+branches_refine = refines (flat two_branches) (whole (flat two_branches) two_branches_sound)
+
+slow_advances : (image : Arrays) (schedule : List (List Bool)) (bits : List Bool) → Advances (flat count_slow) image schedule bits
+slow_advances = advances (flat count_slow) (whole (flat count_slow) count_slow_sounds)
+
+branches_keep_pace : (image : Arrays) (schedule : List (List Bool)) → KeepsPace (flat one_branch) image schedule
+branches_keep_pace = keeps_pace (flat one_branch) (sounded (flat one_branch) one_branch_sounds)
+
+-- and of the stated machine
+stated_guesses_refine : (image : Arrays) (schedule : List (List Bool)) → Promises.Refines (flat copy_guessed) image schedule
+stated_guesses_refine = whole_refines (flat copy_guessed) (sounded (flat copy_guessed) copy_guessed_sounds)
+
+stated_branches_refine : (image : Arrays) (schedule : List (List Bool)) → Promises.Refines (flat two_branches) image schedule
+stated_branches_refine = whole_refines (flat two_branches) (sounded (flat two_branches) two_branches_sound)
+
+stated_slow_advances : (image : Arrays) (schedule : List (List Bool)) (bits : List Bool) → Promises.Advances (flat count_slow) image schedule bits
+stated_slow_advances = whole_advances (flat count_slow) (sounded (flat count_slow) count_slow_sounds)
+
+stated_branches_keep_pace : (image : Arrays) (schedule : List (List Bool)) → Promises.KeepsPace (flat one_branch) image schedule
+stated_branches_keep_pace = whole_paces (flat one_branch) (sounded (flat one_branch) one_branch_sounds)
+
+stated_everything_refines : (image : Arrays) (schedule : List (List Bool)) → Promises.Refines (flat everything) image schedule
+stated_everything_refines = whole_refines (flat everything) (sounded (flat everything) everything_sounds)
