@@ -1,27 +1,17 @@
 -- From what the reader and the scan answer to what the check answers.
-use Rattle.std.specs.Prelude.{fold}
 use Rattle.std.proofs.Common.{◌≡◌, [], map, IfOk, IsTrue, refl, sym, ap, ◌∙◌, subst, ℕ, ◌++◌, Bool, true, false, not, cond, nat_le, nat_lt, List, length, Option, Some, None, Result, Ok, Err, inl, inr, if◌then◌else◌, arith}
 use Rattle.std.proofs.lemmas.Bool.Decides.{leb_tells}
 use Rattle.pdl_kit.specs.declared.rule.Rule.{Rule}
 use Rattle.pdl_kit.specs.declared.rule.Rule.TheVariants.{Z1, G1}
-use Rattle.pdl_model.specs.Tree.{Pipe}
-use Rattle.pdl_model.specs.Flatten.{Var}
+use Rattle.pdl_semantics.specs.Tree.{Pipe}
 use Rattle.pdl_tree.specs.declared.tree.Pipe as r_pipe
-use Rattle.pdl_tree.specs.declared.tree.Mem as r_mem
-use Rattle.pdl_tree.specs.View.{pipe_view, mem_view}
+use Rattle.pdl_tree.specs.View.{pipe_view}
 use Rattle.pdl_grammar.specs.Text.{IsText, IsOutOfPlace}
 use Rattle.pdl_grammar.proofs.Places.{one_tree, apart, one_place}
 use Rattle.pdl_syntax.specs.declared.error.ParseError.TheVariants as parse_error
 use Rattle.pdl_syntax.specs.Text as text
-use Rattle.pdl_types.specs.declared.place.Place as r_place
-use Rattle.pdl_types.specs.View.{place_view}
-use Rattle.pdl_rules.specs.Places.{places}
-use Rattle.pdl_rules.specs.Widths.{variables, after_place}
-use Rattle.pdl_rules.specs.Typed.{AreSized, IsLegal}
 use Rattle.pdl_rules.specs.Limits.{is_too_long}
-use Rattle.pdl_rules.specs.Refusal.{Refused, refused_at, refusal, first_broken, limits, after_limits, is_in_line}
-use Rattle.pdl_rules.proofs.Legal.{legal_in_line}
-use Rattle.pdl_rules.proofs.Unbroken.{keeps_unbroken}
+use Rattle.pdl_rules.specs.Refusal.{Refused, refused_at, refusal, first_broken, limits, after_limits}
 use Rattle.pdl_check.specs.declared.accepted.Accepted.{Accepted}
 use Rattle.pdl_kit.specs.declared.refusal.Refusal.{Refusal}
 use Rattle.pdl_kit.specs.declared.refusal.Refusal.TheVariants as error
@@ -102,7 +92,7 @@ judged_checked source p (Ok a) t g e j =
 judged_checked source p (Err error.NoMemory) t g e j = tt
 judged_checked source p (Err (error.Refused rule line)) t g e j = inr (p, t, short source p g e ∙ j)
 
-pub checked_found : (source : List ℕ) (r : Result Accepted Refusal) → IsChecked source r → IfOk r (λ a. IsText source (pipe_view a.pipe))
+pub checked_found : (source : List ℕ) (r : Result Accepted Refusal) → IsChecked source r → IfOk r (λ a. IsText source (pipe_view a.typed.pipe))
 checked_found source (Ok a) h = h.0
 checked_found source (Err e) h = tt
 
@@ -110,19 +100,19 @@ pub checked_passed : (source : List ℕ) (r : Result Accepted Refusal) → IsChe
 checked_passed source (Ok a) h = (neither _ _ h.1).0
 checked_passed source (Err e) h = tt
 
-pub checked_kept : (source : List ℕ) (r : Result Accepted Refusal) → IsChecked source r → IfOk r (λ a. refusal source (pipe_view a.pipe) ≡ None)
+pub checked_kept : (source : List ℕ) (r : Result Accepted Refusal) → IsChecked source r → IfOk r (λ a. refusal source (pipe_view a.typed.pipe) ≡ None)
 checked_kept source (Ok a) h = (neither _ _ h.1).1
 checked_kept source (Err e) h = tt
 
 gives_refusal : (source : List ℕ) (p : Pipe) (rule : Rule) (line : ℕ) → source_refusal source p ≡ Some (record { rule = rule; line = line }) → Gives (judged source p) (Err (error.Refused rule line))
 gives_refusal source p rule line e = let P : Option Refused → Type 0 = λ o. Gives (answer_of p o) (Err (error.Refused rule line)) in subst P (sym e) refl
 
-gives_pipe : (source : List ℕ) (p : Pipe) (a : Accepted) → source_refusal source p ≡ None → pipe_view a.pipe ≡ p → Gives (judged source p) (Ok a)
+gives_pipe : (source : List ℕ) (p : Pipe) (a : Accepted) → source_refusal source p ≡ None → pipe_view a.typed.pipe ≡ p → Gives (judged source p) (Ok a)
 gives_pipe source p a e same = let P : Option Refused → Type 0 = λ o. Gives (answer_of p o) (Ok a) in subst P (sym e) same
 
 pub checked_only : (source : List ℕ) (r : Result Accepted Refusal) (p : Pipe) → IsChecked source r → IsText source p → Gives (judged source p) r
 checked_only source (Ok a) p h t =
-    let same : pipe_view a.pipe ≡ p = one_tree source (pipe_view a.pipe) p h.0 t in
+    let same : pipe_view a.typed.pipe ≡ p = one_tree source (pipe_view a.typed.pipe) p h.0 t in
     gives_pipe source p a (subst (λ q. source_refusal source q ≡ None) same h.1) same
 checked_only source (Err error.NoMemory) p h t = tt
 checked_only source (Err (error.Refused rule line)) p (inl h) t = absurd (apart source p line t h.1)
@@ -131,7 +121,7 @@ checked_only source (Err (error.Refused rule line)) p (inr h) t =
     gives_refusal source p rule line (subst P (one_tree source h.0 p h.1 t) h.2)
 
 pub checked_exact : (source : List ℕ) (r : Result Accepted Refusal) (line : ℕ) → IsChecked source r → IsOutOfPlace source line → Gives (Refuses (record { rule = G1; line = line })) r
-checked_exact source (Ok a) line h k = absurd (apart source (pipe_view a.pipe) line h.0 k)
+checked_exact source (Ok a) line h k = absurd (apart source (pipe_view a.typed.pipe) line h.0 k)
 checked_exact source (Err error.NoMemory) line h k = tt
 checked_exact source (Err (error.Refused rule n)) line (inl h) k = let same : n ≡ line = one_place source n line h.1 k in let is : rule ≡ G1 = h.0 in cc
 checked_exact source (Err (error.Refused rule n)) line (inr h) k = absurd (apart source h.0 line h.1 k)
@@ -139,23 +129,6 @@ checked_exact source (Err (error.Refused rule n)) line (inr h) k = absurd (apart
 pub checked_refused : (source : List ℕ) (r : Result Accepted Refusal) → IsChecked source r → IsRefused source r
 checked_refused source (Ok a) h = tt
 checked_refused source (Err e) h = h
-
--- WHAT IS TOLD OF A PIPE THAT KEEPS THE RULES
-
-pub named_variables : (q : r_pipe.Pipe) (ms : List r_mem.Mem) (ps qs : List r_place.Place) (vs : List Var) → ms ≡ q.mems → qs ≡ ps → map place_view ps ≡ places (pipe_view q)
-    → vs ≡ fold (after_place (map mem_view ms)) [] (map place_view qs) → vs ≡ variables (pipe_view q)
-named_variables q ms ps qs vs e f g h =
-    h
-    ∙ ap (λ xs. fold (after_place (map mem_view xs)) [] (map place_view qs)) e
-    ∙ ap (λ xs. fold (after_place (map mem_view q.mems)) [] (map place_view xs)) f
-    ∙ ap (λ xs. fold (after_place (map mem_view q.mems)) [] xs) g
-
-pub sized_memories : (q : r_pipe.Pipe) (ms : List r_mem.Mem) → ms ≡ q.mems → IsTrue (is_in_line (pipe_view q)) → first_broken (limits ++ after_limits) (pipe_view q) ≡ None
-    → AreSized (map mem_view ms)
-sized_memories q ms e in_line none =
-    let all : IsLegal (pipe_view q) = legal_in_line (pipe_view q) in_line (keeps_unbroken (pipe_view q) none) in
-    let P : List r_mem.Mem → Type 0 = λ xs. AreSized (map mem_view xs) in
-    subst P (sym e) all.sized
 
 -- the refusal of the rules is that of the pipe
 pub judged_error : (p : Pipe) (e : Refusal) → Tells (limits ++ after_limits) p e → IsBroken p e

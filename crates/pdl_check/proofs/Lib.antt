@@ -1,4 +1,5 @@
 pub mod Sized
+pub mod Fewer
 pub mod Judged
 pub mod Passed
-pub mod Short
+pub mod Parts

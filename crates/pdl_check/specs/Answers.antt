@@ -1,7 +1,7 @@
 -- What may be answered to a source.
 use Rattle.std.specs.Prelude.{◌≡◌, ℕ, false, ◌⊎◌, ◌++◌, List, Option, Some, None, Result, Ok, Err}
 use Rattle.pdl_kit.specs.declared.rule.Rule.TheVariants.{G1}
-use Rattle.pdl_model.specs.Tree.{Pipe}
+use Rattle.pdl_semantics.specs.Tree.{Pipe}
 use Rattle.pdl_tree.specs.declared.tree.Pipe as r
 use Rattle.pdl_tree.specs.View.{pipe_view}
 use Rattle.pdl_grammar.specs.Text.{IsText, IsOutOfPlace}
@@ -32,7 +32,7 @@ judged source p = answer_of p (source_refusal source p)
 -- a result is the answer, or memory ran out
 abbrev pub Gives : Answer → Result Accepted Refusal → Type 0
 Gives a (Err error.NoMemory) = Unit {0}
-Gives (Accepts p) (Ok a) = pipe_view a.pipe ≡ p
+Gives (Accepts p) (Ok a) = pipe_view a.typed.pipe ≡ p
 Gives (Refuses r) (Err (error.Refused rule line)) = r ≡ record { rule = rule; line = line }
 Gives a result = ⊥
 
@@ -50,7 +50,7 @@ IsRefused source (Err e) = IsCause source e
 
 -- a result is the pipe of the text where nothing refuses it, or the cause of its refusal
 abbrev pub IsChecked : List ℕ → Result Accepted Refusal → Type 0
-IsChecked source (Ok a) = IsText source (pipe_view a.pipe) × (source_refusal source (pipe_view a.pipe) ≡ None)
+IsChecked source (Ok a) = IsText source (pipe_view a.typed.pipe) × (source_refusal source (pipe_view a.typed.pipe) ≡ None)
 IsChecked source (Err e) = IsCause source e
 
 -- the pipe of a text that isn't too long and passes the gate, or the cause of its refusal
@@ -65,5 +65,5 @@ IsBroken p (error.Refused rule line) = first_broken (limits ++ after_limits) p �
 
 -- a result is the pipe where it breaks no rule, or the lowest rule that it breaks
 abbrev pub IsJudged : Pipe → Result Accepted Refusal → Type 0
-IsJudged p (Ok a) = (pipe_view a.pipe ≡ p) × (first_broken (limits ++ after_limits) p ≡ None)
+IsJudged p (Ok a) = (pipe_view a.typed.pipe ≡ p) × (first_broken (limits ++ after_limits) p ≡ None)
 IsJudged p (Err e) = IsBroken p e

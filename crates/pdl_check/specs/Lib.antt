@@ -1,4 +1,4 @@
 pub mod Memories
 pub mod Gate
 pub mod Answers
-pub mod Queues
+pub mod Compiled

@@ -1,7 +1,7 @@
 -- The memories of a pipe as they are told to later steps.
 use Rattle.std.specs.Prelude.{List, map}
 use Rattle.pdl_kit.specs.declared.mem_info.MemInfo.{MemInfo}
-use Rattle.pdl_model.specs.Tree.{Mem}
+use Rattle.pdl_semantics.specs.Tree.{Mem}
 
 abbrev pub info_of : Mem → MemInfo
 info_of m = record { name = m.name.name; width = m.width.value; depth = m.depth.value; delayed = m.delayed }

@@ -1,61 +1,70 @@
 // Accepted pipes.
 ghost use Rattle.std.specs.Prelude.{◌≡◌, IsTrue};
 ghost use Rattle.pdl_tree.specs.View.{pipe_view};
-ghost use Rattle.pdl_rules.specs.Refusal.{KeepsRules, is_in_line};
-ghost use Rattle.pdl_rules.specs.Widths.{variables};
+ghost use Rattle.pdl_rules.specs.Places.{places, guards as guards_in};
+ghost use Rattle.pdl_rules.specs.Refusal.{KeepsRules};
 ghost use Rattle.pdl_rules.specs.Speculation.{verify_stage};
-ghost use Rattle.pdl_stages.specs.Graph.{graph_of};
 ghost use Rattle.pdl_locks.specs.Plan.{plan_of};
+ghost use Rattle.pdl_semantics.specs.Flatten.{flat as flat_of};
 ghost use Rattle.pdl_form.specs.Form.{form_of};
 ghost use Rattle.pdl_form.specs.Whole.{form};
+ghost use Rattle.pdl_formtypes.specs.Same.{same_form};
+ghost use Rattle.pdl_stagegraph.specs.Graph.{graph_of};
 ghost use Rattle.pdl_check.specs.Memories.{infos_of};
-ghost use Rattle.pdl_check.specs.Queues.{all_queued};
+ghost use Rattle.pdl_check.specs.Compiled.{can_compile};
 ghost use Rattle.pdl_pathfacts.specs.Source.{is_source, is_named};
 
 use pdl_form::FlatPipe;
 use pdl_judge::Plans;
 use pdl_kit::{MemInfo, Seq};
 use pdl_locks::LockPlan;
+use pdl_paths::Guards;
 use pdl_spec::SpecPlan;
-use pdl_stages::StageGraph;
-use pdl_tree::tree::Pipe;
-use pdl_types::Names;
+use pdl_stagegraph::StageGraph;
+use pdl_tree::Pipe;
+use pdl_typed::TypedPipe;
 
-/// A pipe that is read from a text and breaks no rule, with its variables, numbered by first definition, its memories in declared order, its stages, the stages of its locks and verifies, and its flat form.
+/// A pipe that is read from a text and breaks no rule, with the widths of its variables, its guards in text order, its memories in declared order, the stages of its locks and verifies, its flat form, and its stages.
 #[derive(Drop)]
 pub struct Accepted {
-    pub pipe: Pipe,
-    pub names: Names,
+    pub typed: TypedPipe,
+    pub guards: Guards,
     pub mems: Seq<MemInfo>,
-    pub graph: StageGraph,
     pub plans: Plans,
     pub flat: FlatPipe,
-    pub ghost source: { IsTrue (is_source (pipe_view pipe)) },
-    pub ghost letters: { IsTrue (is_named (pipe_view pipe)) },
-    pub ghost kept: { KeepsRules (pipe_view pipe) },
-    pub ghost in_line: { IsTrue (is_in_line (pipe_view pipe)) },
-    pub ghost queues: { IsTrue (all_queued (pipe_view pipe).mems) },
-    pub ghost named: { names ≡ variables (pipe_view pipe) },
-    pub ghost told: { mems ≡ infos_of (pipe_view pipe).mems },
-    pub ghost staged: { graph ≡ graph_of (pipe_view pipe) },
-    pub ghost planned: { plans.locks ≡ plan_of (pipe_view pipe) },
-    pub ghost verified: { plans.spec ≡ verify_stage (pipe_view pipe) },
-    pub ghost lowered: { ∥ form flat ≡ form_of (pipe_view pipe) ∥₁ },
+    pub graph: StageGraph,
+    pub ghost source: { IsTrue (is_source (pipe_view typed.pipe)) },
+    pub ghost letters: { IsTrue (is_named (pipe_view typed.pipe)) },
+    pub ghost kept: { KeepsRules (pipe_view typed.pipe) },
+    pub ghost compiled: { IsTrue (can_compile (pipe_view typed.pipe)) },
+    pub ghost guarded: { guards ≡ guards_in (places (pipe_view typed.pipe)) },
+    pub ghost told: { mems ≡ infos_of (pipe_view typed.pipe).mems },
+    pub ghost planned: { plans.locks ≡ plan_of (pipe_view typed.pipe) },
+    pub ghost verified: { plans.spec ≡ verify_stage (pipe_view typed.pipe) },
+    pub ghost lowered: { IsTrue (same_form (form flat) (form_of (pipe_view typed.pipe))) },
+    pub ghost staged: { graph ≡ graph_of (flat_of (pipe_view typed.pipe)) (places (pipe_view typed.pipe)) },
 }
 
 impl Accepted {
     /// Lends the pipe.
     pub fn pipe(&self) -> &Pipe
-        ensures { result.now ≡ self.now.pipe }
+        ensures { result.now ≡ self.now.typed.pipe }
     {
-        &self.pipe
+        self.typed.pipe()
     }
 
-    /// Lends the variables.
-    pub fn names(&self) -> &Names
-        ensures { result.now ≡ self.now.names }
+    /// Lends the pipe with the widths of its variables.
+    pub fn typed(&self) -> &TypedPipe
+        ensures { result.now ≡ self.now.typed }
     {
-        &self.names
+        &self.typed
+    }
+
+    /// Lends the guards in text order.
+    pub fn guards(&self) -> &Guards
+        ensures { result.now ≡ self.now.guards }
+    {
+        &self.guards
     }
 
     /// Lends the memories in declared order.
@@ -88,7 +97,7 @@ impl Accepted {
 
     /// Lends the flat form.
     pub fn flat(&self) -> &FlatPipe
-        ensures { ∥ form result.now ≡ form_of (pipe_view self.now.pipe) ∥₁ }
+        ensures { form result.now ≡ form_of (pipe_view self.now.typed.pipe) }
     {
         &self.flat
     }

@@ -1,14 +1,16 @@
 // The check of a source.
 ghost use Rattle.std.specs.Prelude.{◌≡◌, ◌≤◌, ◌++◌, ℕ, None, IfOk, IsTrue, length};
 ghost use Rattle.pdl_kit.specs.declared.rule.Rule.TheVariants as rules;
-ghost use Rattle.pdl_model.specs.Tree as tree;
+ghost use Rattle.pdl_semantics.specs.Tree as tree;
 ghost use Rattle.pdl_grammar.specs.Text.{IsText, IsOutOfPlace};
 ghost use Rattle.pdl_tree.specs.View.{pipe_view};
-ghost use Rattle.pdl_rules.specs.Refusal.{refusal, first_broken, limits, after_limits, is_in_line};
+ghost use Rattle.pdl_rules.specs.Places.{places as places_of};
+ghost use Rattle.pdl_rules.specs.Refusal.{refusal, first_broken, limits, after_limits};
 ghost use Rattle.pdl_rules.specs.Speculation.{verify_stage};
 ghost use Rattle.pdl_locks.specs.Plan.{plan_of};
-ghost use Rattle.pdl_rules.specs.Widths.{variables};
-ghost use Rattle.pdl_check.specs.Queues.{all_queued};
+ghost use Rattle.pdl_form.specs.Whole.{form};
+ghost use Rattle.pdl_stagegraph.specs.Graph.{graph_of};
+ghost use Rattle.pdl_check.specs.Compiled.{can_compile};
 ghost use Rattle.pdl_pathfacts.specs.Source.{is_source, is_named};
 ghost use Rattle.pdl_check.specs.Gate.{gated_line as first_gated};
 ghost use Rattle.pdl_check.specs.Answers.{judged, Gives, Refuses, IsRefused, IsChecked, IsJudged};
@@ -17,12 +19,13 @@ use crate::accepted::Accepted;
 use crate::infos::infos_of;
 use crate::read::read;
 use pdl_flat::lower;
+use pdl_form::FlatPipe;
 use pdl_judge::{Plans, judge as plan};
 use pdl_kit::{NoMemory, Refusal};
-use pdl_stages::stage_graph;
-use pdl_tree::tree::Pipe;
-use pdl_types::Names;
-use pdl_types::place::places;
+use pdl_paths::{Guards, guards_of, places};
+use pdl_stagegraph::{StageGraph, stage_graph};
+use pdl_tree::Pipe;
+use pdl_typed::TypedPipe;
 use std::alloc::Global;
 
 /// Checks a source of at most 268,435,456 bytes. A text that is no pipe is refused at its first token out of place (G1), and that of a pipe at its first form that isn't compiled yet (G1). Any other is asked all rules: it is accepted where it breaks none, and else refused by the lowest rule that it breaks, at the line of that rule's lowest place.
@@ -30,9 +33,9 @@ use std::alloc::Global;
 pub fn check(alloc: Global, source: &[u8]) -> Result<Accepted, Refusal>
     requires { length source.now ≤ 268435456 }
     // What is accepted is the pipe of the text, passes the gate, and breaks no rule.
-    ensures found { IfOk result (λ a. IsText source.now (pipe_view a.pipe)) }
+    ensures found { IfOk result (λ a. IsText source.now (pipe_view a.typed.pipe)) }
     ensures passed { IfOk result (λ _. first_gated source.now ≡ None) }
-    ensures kept { IfOk result (λ a. refusal source.now (pipe_view a.pipe) ≡ None) }
+    ensures kept { IfOk result (λ a. refusal source.now (pipe_view a.typed.pipe) ≡ None) }
     // The text of a pipe is accepted or refused, by the gate or else by the rules, unless memory runs out.
     ensures only { (p : tree.Pipe) → IsText source.now p → Gives (judged source.now p) result }
     // Any other text is refused at the first token out of place, unless memory runs out.
@@ -58,8 +61,7 @@ fn checked(alloc: Global, source: &[u8]) -> Result<Accepted, Refusal>
 fn judge(alloc: Global, pipe: Pipe) -> Result<Accepted, Refusal>
     requires source { IsTrue (is_source (pipe_view pipe)) }
     requires letters { IsTrue (is_named (pipe_view pipe)) }
-    requires in_line { IsTrue (is_in_line (pipe_view pipe)) }
-    requires queues { IsTrue (all_queued (pipe_view pipe).mems) }
+    requires compiled { IsTrue (can_compile (pipe_view pipe)) }
     ensures { IsJudged (pipe_view pipe) result }
 {
     match plan(alloc, &pipe) {
@@ -72,32 +74,36 @@ fn judge(alloc: Global, pipe: Pipe) -> Result<Accepted, Refusal>
 fn accepted(alloc: Global, pipe: Pipe, plans: Plans) -> Result<Accepted, NoMemory>
     requires source { IsTrue (is_source (pipe_view pipe)) }
     requires letters { IsTrue (is_named (pipe_view pipe)) }
-    requires in_line { IsTrue (is_in_line (pipe_view pipe)) }
-    requires queues { IsTrue (all_queued (pipe_view pipe).mems) }
+    requires compiled { IsTrue (can_compile (pipe_view pipe)) }
     requires kept { first_broken (limits ++ after_limits) (pipe_view pipe) ≡ None }
     requires locks { plans.locks ≡ plan_of (pipe_view pipe) }
     requires spec { plans.spec ≡ verify_stage (pipe_view pipe) }
-    ensures { IfOk result (λ a. pipe_view a.pipe ≡ pipe_view pipe) }
+    ensures { IfOk result (λ a. pipe_view a.typed.pipe ≡ pipe_view pipe) }
 {
-    let names = named(alloc, &pipe)?;
+    let guards = guards_of(alloc, &pipe)?;
     let mems = infos_of(alloc, pipe.mems.as_slice())?;
-    let graph = stage_graph(alloc, &pipe)?;
     let flat = lower(alloc, &pipe)?;
+    let graph = staged(alloc, &pipe, &guards, &flat)?;
+    let typed = TypedPipe::new(alloc, pipe)?;
     Ok(Accepted {
-        pipe,
-        names,
+        typed,
+        guards,
         mems,
-        graph,
         plans,
         flat,
+        graph,
     })
 }
 
-// The variables of a pipe.
-fn named(alloc: Global, pipe: &Pipe) -> Result<Names, NoMemory>
-    requires { IsTrue (is_in_line (pipe_view pipe.now)) }
-    ensures { IfOk result (λ vs. vs ≡ variables (pipe_view pipe.now)) }
+// The stages of a pipe with this flat form.
+fn staged(
+    alloc: Global,
+    pipe: &Pipe,
+    guards: &Guards,
+    flat: &FlatPipe,
+) -> Result<StageGraph, NoMemory>
+    ensures { IfOk result (λ g. g ≡ graph_of (form flat.now).pipe (places_of (pipe_view pipe.now))) }
 {
-    let places = places(alloc, pipe)?;
-    Names::of(alloc, pipe.mems.as_slice(), places.as_slice())
+    let places = places(alloc, pipe, guards)?;
+    stage_graph(alloc, flat, places.as_slice())
 }

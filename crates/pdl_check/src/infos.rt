@@ -1,7 +1,7 @@
 // The memories of a pipe as they are told to later steps.
 ghost use Rattle.std.specs.Prelude.{◌≡◌, IfOk, map};
 ghost use Rattle.pdl_tree.specs.View.{mem_view};
-ghost use Rattle.pdl_rules.specs.Typed.{AreSized, IsSized};
+ghost use Rattle.pdl_flat.specs.Sized.{AreSizedMems, IsSizedMem};
 ghost use Rattle.pdl_check.specs.Memories as spec;
 
 use pdl_kit::{MemInfo, NoMemory, Seq};
@@ -10,7 +10,7 @@ use std::alloc::Global;
 
 /// The memories as later steps are told them, in declared order.
 pub fn infos_of(alloc: Global, mems: &[Mem]) -> Result<Seq<MemInfo>, NoMemory>
-    requires { AreSized (map mem_view mems.now) }
+    requires { AreSizedMems (map mem_view mems.now) }
     ensures { IfOk result (λ infos. infos ≡ spec.infos_of (map mem_view mems.now)) }
 {
     let mut infos = Vec::new(alloc);
@@ -21,7 +21,7 @@ pub fn infos_of(alloc: Global, mems: &[Mem]) -> Result<Seq<MemInfo>, NoMemory>
 }
 
 fn info_of(mem: &Mem) -> Result<MemInfo, NoMemory>
-    requires { IsSized (mem_view mem.now) }
+    requires { IsSizedMem (mem_view mem.now) }
     ensures { IfOk result (λ info. info ≡ spec.info_of (mem_view mem.now)) }
 {
     let name = mem.name.name.clone()?;

@@ -79,7 +79,7 @@ fn many_statements(rt: HostRuntime) -> Result<(), Fail> {
         (512, b"x = n;\n".as_slice(), Some((Rule::Z5, 514))),
         // Of 1,025 bindings the last is a statement too many.
         (1025, b"x = n;\n".as_slice(), Some((Rule::Z2, 1027))),
-        (1025, b"if (n) { }\n".as_slice(), Some((Rule::G1, 3))),
+        (1025, b"spec_check();\n".as_slice(), Some((Rule::G1, 3))),
     ] {
         let source = statements(alloc, count, line)?;
         assert_eq!(rt;
@@ -99,12 +99,12 @@ fn long_sources(rt: HostRuntime) -> Result<(), Fail> {
         (1_048_577, b"call(n);\n".as_slice(), Some((Rule::Z1, 1))),
         (
             1_048_577,
-            b"x = n;\nif (n) { }\n".as_slice(),
+            b"x = n;\nspec_check();\n".as_slice(),
             Some((Rule::G1, 4)),
         ),
         (
             1_048_577,
-            b"if (n) { }\nx = ;\n".as_slice(),
+            b"spec_check();\nx = ;\n".as_slice(),
             Some((Rule::G1, 4)),
         ),
     ] {

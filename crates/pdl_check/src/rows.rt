@@ -280,14 +280,19 @@ pub const STAGES: [Row; 25] = [
 ];
 
 /// Statements, some of a form that isn't compiled yet: the first of these in text order, before any rule.
-pub const GATED: [Row; 17] = [
-    (
-        b"if (n == 4'd0) { x = n; }\ncall(n, k);\n",
-        Some((Rule::G1, 3)),
-    ),
+pub const GATED: [Row; 21] = [
+    (b"if (n == 4'd0) { x = n; }\ncall(n, k);\n", None),
     (
         b"x = n;\nif (n == 4'd0) {\n---\n} else { y = n; }\n---\ncall(n, k);\n",
-        Some((Rule::G1, 4)),
+        Some((Rule::G1, 5)),
+    ),
+    (
+        b"if (n == 4'd0) { } else { if (k == 2'd0) {\n} else { x = n;\n---\n} }\ncall(n, k);\n",
+        Some((Rule::G1, 5)),
+    ),
+    (
+        b"if (n == 4'd0) { if (k == 2'd0) { } } else { x = n; }\n---\ncall(n, k);\n",
+        None,
     ),
     (b"x\n<- r[k];\n---\ncall(n, k);\n", Some((Rule::G1, 4))),
     (b"s =\nspec_call(n, k);\n", Some((Rule::G1, 4))),
@@ -298,7 +303,15 @@ pub const GATED: [Row; 17] = [
         b"x = n;\nspec_check();\nif (n == 4'd0) {\nspec_barrier();\n}\n",
         Some((Rule::G1, 4)),
     ),
-    (b"if (n == 4'd0) { }\nx = ;\n", Some((Rule::G1, 4))),
+    (
+        b"x = n;\nif (n == 4'd0) {\ny <- r[k];\n---\n}\ncall(n, k);\n",
+        Some((Rule::G1, 5)),
+    ),
+    (
+        b"x = n;\nif (n == 4'd0) { x = n; } else {\n\n---\ny <- r[k];\n}\ncall(n, k);\n",
+        Some((Rule::G1, 6)),
+    ),
+    (b"spec_check();\nx = ;\n", Some((Rule::G1, 4))),
     (b"x = 65'd0;\nspec_check();\n", Some((Rule::G1, 4))),
     (b"x = z;\nspec_check();\n", Some((Rule::G1, 4))),
     (b"x = n;\n// if (n) { }\ncall(n, k);\n", None),
@@ -348,18 +361,18 @@ pub const TWO_RULES: [Row; 7] = [
 ];
 
 /// Whole sources: what stands before the statements and after them.
-pub const WHOLE: [Row; 18] = [
+pub const WHOLE: [Row; 20] = [
     (
         b"pipe p(n: uint<1>)\n[m: uint<1>[2]\ndelayed lock\nqueue(1)] { call(n); }\nstart p(1'd0);",
         Some((Rule::G1, 3)),
     ),
     (
         b"pipe p(n: uint<1>)\n[m: uint<65>[2] comb lock\nbypass(1)] { call(n); }\nstart p(1'd0);",
-        Some((Rule::G1, 3)),
+        Some((Rule::Z7, 2)),
     ),
     (
         b"pipe p(n: uint<1>)\n[m: uint<1>[2] comb lock\nrename(1)] {\nif (n) { } call(n); }\nstart p(1'd0);",
-        Some((Rule::G1, 3)),
+        None,
     ),
     (
         b"pipe p(n: uint<1>)\n[m: uint<1>[2]\ndelayed] { call(n); }\nstart p(n);",
@@ -420,5 +433,27 @@ pub const WHOLE: [Row; 18] = [
     (
         b"pipe p(n: uint<1>)\n[m: uint<1>[2] comb] { call(n); }\nstart p(1'd0)\n\n",
         Some((Rule::G1, 5)),
+    ),
+    (
+        b"pipe p(n: uint<2>)[m: uint<8>[4] comb lock queue(1)] {\ng = n[0:0]; h = n[1:1];\nif (g) { reserve(m[n], W); block(m[n]); m[n] <- 8'd1; }\nif (h) { release(m[n]); }\ncall(n + 2'd1);\n} start p(2'd0);",
+        Some((Rule::L1, 4)),
+    ),
+    (
+        b"pipe p(n: uint<2>)[m: uint<8>[4] comb lock queue(1)] {\ng = n[0:0]; h = n[1:1];\nif (g) { reserve(m[n], W); block(m[n]); m[n] <- 8'd1; }\nif (g) { release(m[n]); }\ncall(n + 8'd1);\n} start p(2'd0);",
+        Some((Rule::W1, 5)),
+    ),
+];
+
+/// Accepted sources, each with how many stages it has, and how many stand on its longest path.
+pub const STAGED: [(&[u8], usize, usize); 2] = [
+    (
+        b"pipe p(n: uint<2>)[m: uint<8>[4] comb lock queue(1)] {\ng = n[0:0]; h = n[1:1];\nif (g) { reserve(m[n], W); block(m[n]); m[n] <- 8'd1; }\nif (g) { release(m[n]); }\ncall(n + 2'd1);\n} start p(2'd0);",
+        1,
+        1,
+    ),
+    (
+        b"pipe p(n: uint<2>)[m: uint<8>[4] comb lock bypass(1)] {\ng = n[0:0];\nif (g) { reserve(m[n], W); block(m[n]); m[n] <- 8'd1; }\n---\nif (g) { release(m[n]); }\n---\ncall(n + 2'd1);\n} start p(2'd0);",
+        3,
+        3,
     ),
 ];

@@ -1,5 +1,5 @@
 use crate::check::check;
-use crate::rows::{GATED, LOCKS, NAMES, RESERVATIONS, STAGES, TWO_RULES, WHOLE, WIDTHS};
+use crate::rows::{GATED, LOCKS, NAMES, RESERVATIONS, STAGED, STAGES, TWO_RULES, WHOLE, WIDTHS};
 use pdl_kit::{Name, Refusal, Rule};
 use std::alloc::{AllocError, Global};
 use std::test::Fail;
@@ -73,14 +73,30 @@ fn lends_what_it_accepts(rt: HostRuntime) -> Result<(), Fail> {
     match check(alloc, source.as_slice()) {
         Ok(accepted) => {
             let value = Name::copy_of(alloc, b"v")?;
-            assert_eq!(rt; accepted.names().number(&value), Some(2));
-            assert_eq!(rt; accepted.names().width(&value), 8);
+            assert_eq!(rt; accepted.typed().width(&value), Some(8));
+            assert_eq!(rt; accepted.graph().count(), 1);
+            assert_eq!(rt; accepted.flat().vars(), 3);
             assert_eq!(rt; accepted.mems().len(), 1);
             assert_eq!(rt; accepted.pipe().params.len(), 1);
         }
         Err(_) => assert!(rt; false, "not accepted"),
     }
     Ok(())
+}
+
+#[test]
+fn lends_the_stages(rt: HostRuntime) {
+    let alloc = rt.alloc();
+    for (source, count, depth) in &STAGED {
+        assert!(rt; source.len() <= 1000);
+        match check(alloc, source) {
+            Ok(accepted) => {
+                assert_eq!(rt; accepted.graph().count(), *count);
+                assert_eq!(rt; accepted.depth(), *depth);
+            }
+            Err(_) => assert!(rt; false, "not accepted"),
+        }
+    }
 }
 
 #[test]

@@ -1,45 +1,30 @@
 -- The machine runs each accepted pipe, with each image of it.
-use Rattle.std.proofs.Common.{◌≡◌, refl, sym, ap, ◌∙◌, subst, ℕ, zero, suc, ◌^◌, ◌<◌, true, false, not, List, [], ◌∷◌, length, slice_index, slice_index_or, arith}
+use Rattle.std.proofs.Common.{◌≡◌, refl, sym, ap, ◌∙◌, subst, ℕ, zero, suc, ◌^◌, ◌<◌, false, List, [], ◌∷◌, length, slice_index, slice_index_or, arith}
 use Rattle.std.specs.Prelude.{IsTrue}
-use Rattle.std.proofs.lemmas.Bool.{and_parts, and_from}
-use Rattle.pdl_model.specs.Tree.{Mem, Pipe}
-use Rattle.pdl_model.specs.Flat
-use Rattle.pdl_model.specs.Flatten.{mems_of, flat}
-use Rattle.pdl_model.specs.Stages.{is_verify, plain_mem}
-use Rattle.pdl_facts.specs.Scans.{none_of}
-use Rattle.pdl_facts.specs.Checks.{is_guess}
-use Rattle.pdl_rules.specs.Refusal.{KeepsRules, is_in_line}
+use Rattle.pdl_semantics.specs.Tree.{Mem, Pipe}
+use Rattle.pdl_semantics.specs.Flatten.{mems_of, flat}
+use Rattle.pdl_semantics.specs.Stages.{plain_mem}
+use Rattle.pdl_rules.specs.Refusal.{KeepsRules}
 use Rattle.pdl_pathfacts.specs.Source.{is_source, is_named}
-use Rattle.pdl_pathfacts.proofs.Whole.{of_source}
 use Rattle.pdl_strict.proofs.Paths.{paths_strict}
-use Rattle.pdl_machine_facts.proofs.Fits.{simple_source}
 use Rattle.pdl_form.specs.Form.{form_of}
 use Rattle.pdl_formtypes.specs.Stmts.{IsTypedForm}
 use Rattle.pdl_kit.specs.declared.mem_info.MemInfo.{MemInfo}
 use Rattle.pdl_image.specs.Images.{IsImage}
 use Rattle.pdl_check.specs.Memories.{infos_of}
+use Rattle.pdl_check.specs.Compiled.{can_compile}
+use Rattle.pdl_gated.proofs.Guesses.{no_guess}
+use Rattle.pdl_gated.proofs.Simple.{simple}
 use Rattle.pdl_run.specs.Running.{IsRunnable, AreImages}
-use Rattle.pdl_machine.proofs.InLine.{linear, comb, sure}
-
-sure_op : (op : Flat.Op) → not (is_guess op) ≡ true → not (is_verify op) ≡ true
-sure_op (Flat.Verify args) h = h
-sure_op _ h = refl
-
-certain : (xs : List Flat.Stmt) → none_of is_guess xs ≡ true → none_of is_verify xs ≡ true
-certain [] h = refl
-certain (x ∷ xs) h =
-    let both = and_parts (not (is_guess x.op)) (none_of is_guess xs) h in
-    and_from _ _ (sure_op x.op both.0) (certain xs both.1)
 
 -- THE PIPE
 
-pub runnable : (p : Pipe) → KeepsRules p → IsTrue (is_source p) → IsTrue (is_named p) → IsTrue (is_in_line p) → IsTypedForm (form_of p) → IsRunnable (form_of p)
-runnable p kept source letters in_line typed =
-    let no_guess = sure p in_line in
+pub runnable : (p : Pipe) → KeepsRules p → IsTrue (is_source p) → IsTrue (is_named p) → IsTrue (can_compile p) → IsTypedForm (form_of p) → IsRunnable (form_of p)
+runnable p kept source letters can typed =
     record {
-      simple = simple_source p kept source (linear p in_line) (comb p in_line) (certain (flat p).stmts no_guess) (of_source p kept source letters);
+      simple = simple p kept source letters can;
       strict = paths_strict p kept source;
-      no_guess = no_guess;
+      no_guess = no_guess p can;
       typed = typed;
     }
 

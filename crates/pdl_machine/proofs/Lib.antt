@@ -1,5 +1,3 @@
-mod Sets
 mod Seen
-mod InLine
 mod Accepting
 mod Promised

@@ -1,18 +1,18 @@
 -- What a run of an accepted pipe promises.
 use Rattle.std.proofs.Common.{◌≡◌, refl, Bool, List, [], ◌∷◌, ◌++◌}
 use Rattle.std.specs.Prelude.{IsTrue}
-use Rattle.pdl_model.specs.Tree.{Pipe}
-use Rattle.pdl_model.specs.Flat
-use Rattle.pdl_model.specs.Flat.{Arrays}
-use Rattle.pdl_model.specs.Flatten.{flat}
-use Rattle.pdl_model.specs.Machine.{State}
-use Rattle.pdl_model.specs.Cycle as stated
-use Rattle.pdl_model.specs.Promises.{Refines, Advances, KeepsPace}
-use Rattle.pdl_model.specs.Sound.{is_sound}
+use Rattle.pdl_semantics.specs.Tree.{Pipe}
+use Rattle.pdl_semantics.specs.Flat
+use Rattle.pdl_semantics.specs.Flat.{Arrays}
+use Rattle.pdl_semantics.specs.Flatten.{flat}
+use Rattle.pdl_semantics.specs.Machine.{State}
+use Rattle.pdl_semantics.specs.Cycle as stated
+use Rattle.pdl_semantics.specs.Promises.{Refines, Advances, KeepsPace}
+use Rattle.pdl_semantics.specs.Sound.{is_sound}
 use Rattle.pdl_facts.specs.Facts.{Sound}
 use Rattle.pdl_rules.specs.Refusal.{KeepsRules}
 use Rattle.pdl_pathfacts.specs.Source.{is_source, is_named}
-use Rattle.pdl_refine.proofs.Stated.{whole_refines, whole_advances, whole_paces}
+use Rattle.pdl_theorems.proofs.Stated.{whole_refines, whole_advances, whole_paces}
 use Rattle.pdl_pathfacts.proofs.Whole.{of_source}
 use Rattle.pdl_strict.proofs.Paths.{paths_strict}
 use Rattle.pdl_invariant.proofs.EveryState

@@ -11,7 +11,7 @@ use Rattle.pdl_machine.specs.Running.{Running}
 abbrev pub running : Inside → Running
 running m =
     record {
-      pipe = m.accepted.now.pipe;
+      pipe = m.accepted.now.typed.pipe;
       stages = map thread_in (seats m.run.stages.items);
       words = map (λ (x : Memory). x.words) m.run.memories.items;
       locks = map (λ (x : Memory). x.pending) m.run.memories.items;

@@ -1,11 +1,11 @@
 -- A running machine, as callers see it.
 use Rattle.std.specs.Prelude.{◌≡◌, ℕ, Bool, List, [], Option}
-use Rattle.pdl_model.specs.Flat as flat
-use Rattle.pdl_model.specs.Flat.{arrays_of}
-use Rattle.pdl_model.specs.Flatten as flatten
-use Rattle.pdl_model.specs.Machine.{Thread, Pending, NoRequest, State}
-use Rattle.pdl_model.specs.Cycle.{for_mems, for_stages}
-use Rattle.pdl_model.specs.Cycle as stated
+use Rattle.pdl_semantics.specs.Flat as flat
+use Rattle.pdl_semantics.specs.Flat.{arrays_of}
+use Rattle.pdl_semantics.specs.Flatten as flatten
+use Rattle.pdl_semantics.specs.Machine.{Thread, Pending, NoRequest, State}
+use Rattle.pdl_semantics.specs.Cycle.{for_mems, for_stages}
+use Rattle.pdl_semantics.specs.Cycle as stated
 use Rattle.pdl_tree.specs.declared.tree.Pipe as r_pipe
 use Rattle.pdl_tree.specs.View.{pipe_view}
 

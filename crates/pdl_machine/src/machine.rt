@@ -1,11 +1,11 @@
 // The machine of an accepted pipe.
 ghost use Rattle.std.specs.Prelude.{◌≡◌, ◌<◌, ◌+◌, ◌^◌, ℕ, Bool, IsTrue, List, [], ◌∷◌, ◌++◌, IfOk, length, replicate, slice_index};
-ghost use Rattle.pdl_model.specs.Flat.{arrays_of};
-ghost use Rattle.pdl_model.specs.Flatten.{flat};
-ghost use Rattle.pdl_model.specs.Moves.{all_acts};
-ghost use Rattle.pdl_model.specs.Cycle as stated;
-ghost use Rattle.pdl_model.specs.Promises.{Refines, Advances, KeepsPace};
-ghost use Rattle.pdl_model.specs.Sound.{is_sound};
+ghost use Rattle.pdl_semantics.specs.Flat.{arrays_of};
+ghost use Rattle.pdl_semantics.specs.Flatten.{flat};
+ghost use Rattle.pdl_semantics.specs.Moves.{all_acts};
+ghost use Rattle.pdl_semantics.specs.Cycle as stated;
+ghost use Rattle.pdl_semantics.specs.Promises.{Refines, Advances, KeepsPace};
+ghost use Rattle.pdl_semantics.specs.Sound.{is_sound};
 ghost use Rattle.pdl_tree.specs.View.{pipe_view};
 ghost use Rattle.pdl_check.specs.Memories.{infos_of};
 ghost use Rattle.pdl_image.specs.Images.{IsImage};
@@ -52,11 +52,11 @@ impl<'a> Machine<'a> {
         accepted: &'a Accepted,
         image: &Image,
     ) -> Result<Machine<'a>, NoMemory>
-        requires { IsImage (infos_of (pipe_view accepted.now.pipe).mems) image.now }
-        ensures first { IfOk result (λ m. state_of m ≡ stated.first (flat (pipe_view accepted.now.pipe)) (arrays_of image.now)) }
+        requires { IsImage (infos_of (pipe_view accepted.now.typed.pipe).mems) image.now }
+        ensures first { IfOk result (λ m. state_of m ≡ stated.first (flat (pipe_view accepted.now.typed.pipe)) (arrays_of image.now)) }
         ensures run { IfOk result (λ m. HasRun m image.now []) }
-        ensures shown { IfOk result (λ m. m.shown ≡ replicate (output_count (flat (pipe_view accepted.now.pipe))) 0) }
-        ensures pipe { IfOk result (λ m. m.pipe ≡ accepted.now.pipe) }
+        ensures shown { IfOk result (λ m. m.shown ≡ replicate (output_count (flat (pipe_view accepted.now.typed.pipe))) 0) }
+        ensures pipe { IfOk result (λ m. m.pipe ≡ accepted.now.typed.pipe) }
         ensures cycles { IfOk result (λ m. m.cycles ≡ 0) }
     {
         pdl_formtypes::typed_form();

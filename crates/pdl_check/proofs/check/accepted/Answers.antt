@@ -1,21 +1,34 @@
-use Rattle.std.proofs.Common.{ap, ◌∙◌, map}
+use Rattle.std.proofs.Common.{◌≡◌, ap, ◌∙◌, map, ◌++◌, subst, sym}
+use Rattle.std.specs.Prelude.{IsTrue}
+use Rattle.pdl_semantics.specs.Tree as tree
+use Rattle.pdl_semantics.specs.Flatten.{flat}
+use Rattle.pdl_tree.specs.declared.tree.Pipe as r_pipe
 use Rattle.pdl_tree.specs.View.{pipe_view, mem_view}
+use Rattle.pdl_rules.specs.Refusal.{KeepsRules, limits, after_limits}
+use Rattle.pdl_rules.specs.Speculation.{verify_stage}
+use Rattle.pdl_locks.specs.Plan.{plan_of}
+use Rattle.pdl_pathfacts.specs.Source.{is_source, is_named}
 use Rattle.pdl_rules.proofs.Unbroken.{keeps_unbroken}
+use Rattle.pdl_names.specs.Order.{name_rules}
+use Rattle.pdl_widths.specs.Order.{width_rules}
+use Rattle.pdl_judge.specs.Told.{after_names, after_widths}
+use Rattle.pdl_flat.specs.Sized.{AreSizedMems}
 use Rattle.pdl_flat.proofs.Accepted.{keeps_lowered}
 use Rattle.pdl_check.specs.Memories.{infos_of}
-use Rattle.pdl_check.proofs.Judged.{sized_memories}
-use Rattle.pdl_check.proofs.Short.{body_in_line, few_separators}
+use Rattle.pdl_form.specs.Form.{Form, form_of}
+use Rattle.pdl_form.specs.Whole.{form}
+use Rattle.pdl_formtypes.specs.Same.{same_form}
+use Rattle.pdl_check.specs.Compiled.{can_compile}
+use Rattle.pdl_formtypes.proofs.Same.{forms_pass}
+use Rattle.pdl_stagegraph.specs.Graph.{graph_of}
+use Rattle.pdl_rules.specs.Places.{places, guards}
+use Rattle.pdl_check.proofs.Parts.{kept_parts}
 use Rattle.pdl_check.proofs.check.accepted.Goals as goal
 
 pub infos_of-requires : goal.infos_of-requires
-infos_of-requires c = sized_memories c.args.pipe _ c.as_slice.ensures c.requires.in_line c.requires.kept
-
-pub stage_graph-requires : goal.stage_graph-requires
-stage_graph-requires c =
-    record {
-      in_line = body_in_line (pipe_view c.args.pipe) c.requires.in_line;
-      few = few_separators (pipe_view c.args.pipe) c.requires.in_line (keeps_unbroken (pipe_view c.args.pipe) c.requires.kept);
-    }
+infos_of-requires c =
+    let low = keeps_lowered (pipe_view c.args.pipe) (keeps_unbroken (pipe_view c.args.pipe) c.requires.kept) in
+    subst (λ ms. AreSizedMems (map mem_view ms)) (sym c.as_slice.ensures) low.0.mems
 
 pub lower-requires : goal.lower-requires
 lower-requires c =
@@ -25,18 +38,33 @@ lower-requires c =
       few = low.1;
     }
 
+pub new-requires : goal.new-requires
+new-requires c =
+    let p = pipe_view c.args.pipe in
+    let some = kept_parts limits after_limits p c.requires.kept in
+    let names = kept_parts name_rules after_names p some.1 in
+    record {
+      within = some.0;
+      named = names.0;
+      fitting = (kept_parts width_rules after_widths p names.1).0;
+    }
+
 pub invariant_of-result : goal.invariant_of-result
 invariant_of-result c =
+    let e : c.in_ok-typed.typed.pipe ≡ c.args.pipe = c.in_ok-typed.ensures in
+    let at : (P : tree.Pipe → Type 0) → P (pipe_view c.args.pipe) → P (pipe_view c.in_ok-typed.typed.pipe) = λ P h. subst (λ (q : r_pipe.Pipe). P (pipe_view q)) (sym e) h in
     record {
-      source = c.requires.source;
-      letters = c.requires.letters;
-      kept = keeps_unbroken (pipe_view c.args.pipe) c.requires.kept;
-      in_line = c.requires.in_line;
-      queues = c.requires.queues;
-      named = c.in_ok-names.ensures;
-      told = c.in_ok-mems.ensures ∙ ap (λ ms. infos_of (map mem_view ms)) c.as_slice.ensures;
-      staged = c.in_ok-graph.ensures.graph;
-      planned = c.requires.locks;
-      verified = c.requires.spec;
-      lowered = ∣ c.in_ok-flat.ensures ∣₁;
+      source = at (λ p. IsTrue (is_source p)) c.requires.source;
+      letters = at (λ p. IsTrue (is_named p)) c.requires.letters;
+      kept = at KeepsRules (keeps_unbroken (pipe_view c.args.pipe) c.requires.kept);
+      compiled = at (λ p. IsTrue (can_compile p)) c.requires.compiled;
+      guarded = at (λ p. c.in_ok-guards.guards ≡ guards (places p)) c.in_ok-guards.ensures;
+      told = at (λ p. c.in_ok-mems.mems ≡ infos_of p.mems) (c.in_ok-mems.ensures ∙ ap (λ ms. infos_of (map mem_view ms)) c.as_slice.ensures);
+      planned = at (λ p. c.args.plans.locks ≡ plan_of p) c.requires.locks;
+      verified = at (λ p. c.args.plans.spec ≡ verify_stage p) c.requires.spec;
+      lowered = at (λ p. IsTrue (same_form (form c.in_ok-flat.flat) (form_of p))) (forms_pass _ _ c.in_ok-flat.ensures);
+      staged = at (λ p. c.in_ok-graph.graph ≡ graph_of (flat p) (places p)) (c.in_ok-graph.ensures ∙ ap (λ (f : Form). graph_of f.pipe (places (pipe_view c.args.pipe))) c.in_ok-flat.ensures);
     }
+
+pub returns : goal.returns
+returns c = ap pipe_view c.in_ok-typed.ensures

@@ -1,6 +1,6 @@
 use Rattle.pdl_tree.specs.View.{pipe_view}
 use Rattle.pdl_sources.proofs.Texts.{source_of, named_of}
-use Rattle.pdl_check.proofs.Passed.{passed_in_line, passed_queued}
+use Rattle.pdl_check.proofs.Passed.{passed}
 use Rattle.pdl_check.proofs.Judged.{judged_checked}
 use Rattle.pdl_check.proofs.check.checked.Goals as goal
 
@@ -10,8 +10,7 @@ judge-requires c =
     record {
       source = source_of c.args.source.now (pipe_view c.in-Ok.pipe) read.0;
       letters = named_of c.args.source.now (pipe_view c.in-Ok.pipe) read.0;
-      in_line = passed_in_line c.args.source.now (pipe_view c.in-Ok.pipe) read.0 read.1;
-      queues = passed_queued c.args.source.now (pipe_view c.in-Ok.pipe) read.0 read.1;
+      compiled = passed c.args.source.now (pipe_view c.in-Ok.pipe) read.0 read.1;
     }
 
 pub returns-in-Ok : goal.returns-in-Ok

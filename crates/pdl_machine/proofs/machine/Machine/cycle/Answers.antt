@@ -1,12 +1,12 @@
 use Rattle.std.proofs.Common.{◌≡◌, ◌∙◌, sym, ap, subst, [], ◌∷◌, ◌++◌}
 use Rattle.std.specs.Prelude.{IsTrue}
-use Rattle.pdl_model.specs.Flat.{arrays_of, Pipe}
-use Rattle.pdl_model.specs.Flatten.{flat}
-use Rattle.pdl_model.specs.Machine.{State}
-use Rattle.pdl_model.specs.Moves.{all_acts}
-use Rattle.pdl_model.specs.Cycle as stated
-use Rattle.pdl_model.specs.Promises.{Advances}
-use Rattle.pdl_model.specs.Sound.{is_sound}
+use Rattle.pdl_semantics.specs.Flat.{arrays_of, Pipe}
+use Rattle.pdl_semantics.specs.Flatten.{flat}
+use Rattle.pdl_semantics.specs.Machine.{State}
+use Rattle.pdl_semantics.specs.Moves.{all_acts}
+use Rattle.pdl_semantics.specs.Cycle as stated
+use Rattle.pdl_semantics.specs.Promises.{Advances}
+use Rattle.pdl_semantics.specs.Sound.{is_sound}
 use Rattle.pdl_tree.specs.View.{pipe_view}
 use Rattle.pdl_form.specs.Form.{Form}
 use Rattle.pdl_machine_facts.specs.Ports.{port_values}
@@ -39,21 +39,21 @@ returns-clause-run c image schedule bits h =
 pub returns-clause-refines : goal.returns-clause-refines
 returns-clause-refines c image schedule h =
     let a = c.self.inside.accepted.now in
-    refines (pipe_view a.pipe) a.source a.letters a.kept (arrays_of image) schedule
+    refines (pipe_view a.typed.pipe) a.source a.letters a.kept (arrays_of image) schedule
 
 pub returns-clause-moves : goal.returns-clause-moves
 returns-clause-moves c image schedule bits h =
     let a = c.self.inside.accepted.now in
-    subst (λ (r : Running). Advances (flat_of r) (arrays_of image) schedule bits) c.self.view_is (advances (pipe_view a.pipe) a.source a.letters a.kept (arrays_of image) schedule bits)
+    subst (λ (r : Running). Advances (flat_of r) (arrays_of image) schedule bits) c.self.view_is (advances (pipe_view a.typed.pipe) a.source a.letters a.kept (arrays_of image) schedule bits)
 
 pub returns-clause-pace : goal.returns-clause-pace
 returns-clause-pace c image schedule h =
     let a = c.self.inside.accepted.now in
-    paces (pipe_view a.pipe) a.source a.letters a.kept (arrays_of image) schedule
+    paces (pipe_view a.typed.pipe) a.source a.letters a.kept (arrays_of image) schedule
 
 pub returns-clause-sound : goal.returns-clause-sound
 returns-clause-sound c image schedule h =
     let a = c.self.inside.accepted.now in
-    let p : Pipe = flat (pipe_view a.pipe) in
+    let p : Pipe = flat (pipe_view a.typed.pipe) in
     subst (λ (st : State). IsTrue (is_sound p (arrays_of image) (stated.ended_in (stated.turns p (arrays_of image) schedule)) st)) (sym h)
-    (stays_sound (pipe_view a.pipe) a.source a.letters a.kept (arrays_of image) schedule)
+    (stays_sound (pipe_view a.typed.pipe) a.source a.letters a.kept (arrays_of image) schedule)

@@ -1,6 +1,6 @@
 use Rattle.std.proofs.Common.{◌≡◌, sym, subst, replicate, arith}
-use Rattle.pdl_model.specs.Flat.{arrays_of}
-use Rattle.pdl_model.specs.Cycle as stated
+use Rattle.pdl_semantics.specs.Flat.{arrays_of}
+use Rattle.pdl_semantics.specs.Cycle as stated
 use Rattle.pdl_tree.specs.View.{pipe_view}
 use Rattle.pdl_form.specs.Form.{Form}
 use Rattle.pdl_run.specs.Running.{IsRunnable, AreImages}
@@ -13,12 +13,12 @@ use Rattle.pdl_machine.proofs.machine.Machine.new.Goals as goal
 pub new-requires-clause-run : goal.new-requires-clause-run
 new-requires-clause-run c =
     let a = c.args.accepted.now in
-    subst IsRunnable (sym (form_is a)) (runnable (pipe_view a.pipe) a.kept a.source a.letters a.in_line (c.typed_form.ensures (pipe_view a.pipe) a.kept a.letters))
+    subst IsRunnable (sym (form_is a)) (runnable (pipe_view a.typed.pipe) a.kept a.source a.letters a.compiled (c.typed_form.ensures (pipe_view a.typed.pipe) a.kept a.letters))
 
 pub new-requires-clause-image : goal.new-requires-clause-image
 new-requires-clause-image c =
     let a = c.args.accepted.now in
-    subst (λ (f : Form). AreImages f.pipe c.args.image.now) (sym (form_is a)) (images (pipe_view a.pipe) c.args.image.now c.requires)
+    subst (λ (f : Form). AreImages f.pipe c.args.image.now) (sym (form_is a)) (images (pipe_view a.typed.pipe) c.args.image.now c.requires)
 
 pub returns-clause-first : goal.returns-clause-first
 returns-clause-first c =
@@ -37,7 +37,7 @@ invariant_of-result c =
     let a = c.args.accepted.now in
     let first : c.in_ok-run.run'.next ≡ 2 = c.in_ok-run.ensures.next in
     record {
-      runnable = subst IsRunnable (sym (form_is a)) (runnable (pipe_view a.pipe) a.kept a.source a.letters a.in_line (c.typed_form.ensures (pipe_view a.pipe) a.kept a.letters));
+      runnable = subst IsRunnable (sym (form_is a)) (runnable (pipe_view a.typed.pipe) a.kept a.source a.letters a.compiled (c.typed_form.ensures (pipe_view a.typed.pipe) a.kept a.letters));
       runs = c.in_ok-run.ensures.runs;
       next = omega arith;
     }

@@ -1,0 +1,6 @@
+use Rattle.pdl_form.specs.Whole.{form}
+use Rattle.pdl_formtypes.proofs.Same.{same_forms}
+use Rattle.pdl_check.proofs.accepted.Accepted.flat.Goals as goal
+
+pub returns : goal.returns
+returns c = same_forms _ _ c.args.self.now.lowered
