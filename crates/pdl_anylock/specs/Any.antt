@@ -1,8 +1,8 @@
 -- What a lock of any kind is, by its kind.
 use Rattle.std.specs.Prelude.{ℕ}
 use Rattle.pdl_kit.specs.declared.mem_info.MemInfo.{MemInfo}
-use Rattle.pdl_model.specs.Tree.{LockKind}
-use Rattle.pdl_model.specs.Tree as tree
+use Rattle.pdl_semantics.specs.Tree.{LockKind}
+use Rattle.pdl_semantics.specs.Tree as tree
 use Rattle.pdl_net.specs.Circuit.{Circuit, State}
 use Rattle.pdl_net.specs.Growth.{Keeps}
 use Rattle.pdl_lockapi.specs.declared.LockRegs.{LockRegs}

@@ -1,15 +1,14 @@
 -- Extensions made of cells: zeros, or copies of the top bit, above a word.
-use Rattle.std.proofs.Common.{◌≡◌, ℕ, zero, suc, ◌+◌, ◌-◌, ◌*◌, ◌/◌, ◌%◌, ◌^◌, ◌<◌, ◌≤◌, true, false, refl, sym, ap, ap₂, ◌∙◌, subst, arith, inl, inr}
-use Rattle.std.proofs.lemmas.Bool.{cases_eq, cases_lt}
+use Rattle.std.proofs.Common.{◌≡◌, ℕ, zero, suc, ◌+◌, ◌-◌, ◌*◌, ◌/◌, ◌^◌, ◌<◌, ◌≤◌, refl, sym, ap, ◌∙◌, subst, arith, inl, inr}
+use Rattle.std.proofs.lemmas.Bool.{cases_lt}
 use Rattle.std.proofs.lemmas.Bool.Decides.{eqb_tells}
-use Rattle.std.proofs.lemmas.Nat.{pow_pos, pow-add}
+use Rattle.std.proofs.lemmas.Nat.{pow-add}
 use Rattle.std.proofs.Math.Nat.{div-eq_of_lt, div-eq_of_lt-le, zero-mod}
-use Rattle.std.specs.Prelude.{if◌then◌else◌}
 use Rattle.pdl_word.specs.Words.{cat, rep, slice, zext, sext}
-use Rattle.pdl_word.proofs.Signs.{sext_low, sext_high, halves, wider}
+use Rattle.pdl_word.proofs.Signs.{sext_low, sext_high, halves}
 use Rattle.pdl_net.specs.Circuit.{State}
-use Rattle.pdl_net.specs.Signal.{Signal, cat_signal, rep_signal, const_signal, const_value, cat_value, rep_value, slice_value}
-use Rattle.pdl_build.specs.Expr.{zext_signal, sext_signal, top_signal, raised_signal}
+use Rattle.pdl_net.specs.Signal.{Signal, const_value, cat_value, rep_value, slice_value}
+use Rattle.pdl_build.specs.Operators.{zext_signal, sext_signal, raised_signal}
 
 -- WIDTHS
 

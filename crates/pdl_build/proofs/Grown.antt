@@ -1,15 +1,15 @@
 -- Each change keeps a circuit well formed, and keeps what its nets mean: cells and ports.
-use Rattle.std.proofs.Common.{◌≡◌, ℕ, zero, suc, ◌+◌, ◌^◌, ◌<◌, ◌≤◌, ◌⊎◌, inl, inr, map, List, [], ◌∷◌, ◌++◌, length, get_or, refl, sym, ap, ◌∙◌, subst, arith, length-append, ⊎_elim}
+use Rattle.std.proofs.Common.{◌≡◌, ℕ, zero, suc, ◌+◌, ◌<◌, ◌≤◌, ◌⊎◌, inl, inr, List, [], ◌∷◌, ◌++◌, length, get_or, refl, sym, ap, ◌∙◌, subst, arith, length-append, ⊎_elim}
 use Rattle.std.specs.Prelude.{slice_get, Some, filter_map}
 use Rattle.std.proofs.lemmas.List.{get_or_append_left, get_or_push, append-nil}
 use Rattle.std.proofs.lemmas.List.Elements.{filter_map-append}
 use Rattle.std.proofs.lemmas.Bool.{cases_lt}
 use Rattle.pdl_net.specs.declared.Net.{Net}
-use Rattle.pdl_net.specs.declared.Net.TheVariants.{Input, Reg as RegNet, Cell as CellNet}
+use Rattle.pdl_net.specs.declared.Net.TheVariants.{Input, Cell as CellNet}
 use Rattle.pdl_net.specs.declared.Dir.TheVariants.{In, Out}
 use Rattle.pdl_net.specs.declared.Port.{Port}
 use Rattle.pdl_net.specs.declared.Cell.{Cell}
-use Rattle.pdl_net.specs.Circuit.{Circuit, inputs_of, outputs_of, port_input, port_output, reg_at, array_at, shapes_of}
+use Rattle.pdl_net.specs.Circuit.{Circuit, inputs_of, port_input, port_output, reg_at, array_at, shapes_of}
 use Rattle.pdl_net.specs.Signal.{Signal, input_signal}
 use Rattle.pdl_net.specs.Meaning.{cell_signal, signal, IsThere, Means}
 use Rattle.pdl_net.specs.Well.{Fits, AllFit, IsWell, IsWellPort}

@@ -1,7 +1,7 @@
 -- Each change keeps a circuit well formed, and keeps what its nets mean: registers and arrays.
-use Rattle.std.proofs.Common.{◌≡◌, ℕ, zero, suc, ◌+◌, ◌^◌, ◌<◌, ◌≤◌, ◌≢◌, ◌⊎◌, map, List, [], ◌∷◌, ◌++◌, length, get_or, refl, sym, ap, ◌∙◌, subst, arith, length-append, ⊎_elim}
+use Rattle.std.proofs.Common.{◌≡◌, ℕ, zero, suc, ◌+◌, ◌^◌, ◌<◌, ◌≤◌, ◌≢◌, map, List, [], ◌∷◌, ◌++◌, length, get_or, refl, sym, ap, ◌∙◌, subst, arith, length-append, ⊎_elim}
 use Rattle.std.specs.Prelude.{slice_get, Some, slice_set as set}
-use Rattle.std.proofs.lemmas.List.{get_or_append_left, get_or_push, append-nil, get_or-set_same, get_or-set_other, length-set, get_or_default, map-append, map-set, get_or-map, length-map}
+use Rattle.std.proofs.lemmas.List.{get_or_append_left, get_or_push, append-nil, get_or-set_same, get_or-set_other, length-set, get_or_default, map-append}
 use Rattle.std.proofs.Math.Seq.{map-set_same}
 use Rattle.std.proofs.lemmas.Bool.{cases_lt, cases_eq}
 use Rattle.pdl_net.specs.declared.Net.{Net}
@@ -9,7 +9,7 @@ use Rattle.pdl_net.specs.declared.Net.TheVariants.{Reg as RegNet}
 use Rattle.pdl_net.specs.declared.Reg.{Reg}
 use Rattle.pdl_net.specs.declared.Array.{Array}
 use Rattle.pdl_net.specs.declared.WritePort.{WritePort}
-use Rattle.pdl_net.specs.Circuit.{Circuit, Shape, inputs_of, reg_at, array_at, no_reg, no_array, shape_of, shapes_of, HasReg, reg_width, reg_reset, HasArray, array_width, array_depth}
+use Rattle.pdl_net.specs.Circuit.{Circuit, Shape, reg_at, array_at, no_reg, no_array, shape_of, shapes_of, HasReg, reg_width, reg_reset, HasArray, array_width, array_depth}
 use Rattle.pdl_net.specs.declared.Cell.TheVariants.{Read}
 use Rattle.pdl_net.specs.Signal.{reg_signal, read_signal}
 use Rattle.pdl_net.specs.Meaning.{signal, cell_signal, IsThere, Means, next_signal, write_signal, write_signals}

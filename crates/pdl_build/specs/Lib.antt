@@ -1,4 +1,3 @@
 pub mod Parts
 pub mod Change
-pub mod Expr
-pub mod Env
+pub mod Operators

@@ -4,7 +4,7 @@ ghost use Rattle.pdl_net.specs.declared.BinOp.TheVariants as net_op;
 ghost use Rattle.pdl_net.specs.Signal.{bin_signal};
 ghost use Rattle.pdl_net.specs.Meaning.{IsThere, Means, signal};
 ghost use Rattle.pdl_net.specs.Growth.{Extends};
-ghost use Rattle.pdl_build.specs.Expr.{zext_signal, sext_signal, raised_signal};
+ghost use Rattle.pdl_build.specs.Operators.{zext_signal, sext_signal, raised_signal};
 
 use crate::Builder;
 use pdl_kit::NoMemory;
@@ -12,7 +12,7 @@ use pdl_net::{BinOp, Net};
 
 impl Builder {
     /// A net with zeros above it, `width` bits together.
-    #[tactic(auto, unfolding(crate::specs::Expr::zext_signal))]
+    #[tactic(auto, unfolding(crate::specs::Operators::zext_signal))]
     pub fn zero_extend(&mut self, a: Net, width: u8) -> Result<Net, NoMemory>
         requires there { IsThere self.old a }
         requires wider { (signal self.old a).width ≤ width }
@@ -30,7 +30,7 @@ impl Builder {
     }
 
     /// A net with copies of its top bit above it, `width` bits together.
-    #[tactic(auto, unfolding(crate::specs::Expr::sext_signal))]
+    #[tactic(auto, unfolding(crate::specs::Operators::sext_signal))]
     pub fn sign_extend(&mut self, a: Net, width: u8) -> Result<Net, NoMemory>
         requires there { IsThere self.old a }
         requires wider { (signal self.old a).width ≤ width }
@@ -64,7 +64,7 @@ impl Builder {
     }
 
     // A net and half of its range, which turns the order of two's complement into that of numbers.
-    #[tactic(auto, unfolding(crate::specs::Expr::raised_signal))]
+    #[tactic(auto, unfolding(crate::specs::Operators::raised_signal))]
     fn raise(&mut self, a: Net) -> Result<Net, NoMemory>
         requires { IsThere self.old a }
         ensures means { IfOk result (λ x. Means self.new x (raised_signal (signal self.old a))) }

@@ -3,8 +3,6 @@
 //! Of equal cells only the first is made, but by `cell`, which always makes one.
 #![tactic(auto)]
 
-mod env;
-mod expr;
 mod extend;
 mod same;
 #[cfg(test)]
@@ -18,7 +16,6 @@ ghost use Rattle.pdl_net.specs.Well.{Fits, IsWell, IsDepth};
 ghost use Rattle.pdl_net.specs.Growth.{Extends, ExtendsBut, ExtendsPorts, ExtendsArrays};
 ghost use Rattle.pdl_build.specs.Change.{empty_circuit, with_cell, with_port, input_port, output_port, with_reg, with_next, new_shape, with_array, with_write, write_port, one_reg, one_array, IsNewReg, IsNewArray};
 
-pub use env::{Env, EnvEntry};
 use indexmap::IndexMap;
 use pdl_kit::{MemInfo, Name, NoMemory, Seq};
 use pdl_net::{Array, BinOp, Cell, Dir, Net, Netlist, Port, Reg, WritePort};

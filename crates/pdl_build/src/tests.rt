@@ -1,30 +1,90 @@
 use crate::Builder;
 use pdl_kit::{Name, Seq};
-use pdl_net::{BinOp, Net};
+use pdl_net::{BinOp, Cell, Net};
 use std::test::Fail;
 
-/// A counter of 8 bits that adds its input where it is not 5, and keeps its value in an array.
+/// Of equal cells there is one.
 #[test]
-fn counter(rt: HostRuntime) -> Result<(), Fail> {
-    let alloc = rt.alloc();
-    let step = Name::copy_of(alloc, b"step")?;
-    let count = Name::copy_of(alloc, b"count")?;
-    let mut b = Builder::new(alloc);
-    let input = b.input(&step, 8)?;
+fn equal_cells(rt: HostRuntime) -> Result<(), Fail> {
+    let mut b = Builder::new(rt.alloc());
+    let x = b.constant(8, 5)?;
+    let sum = b.bin(BinOp::Add, x, x)?;
+    assert_eq!(rt; sum, Net::Cell(1));
+    let again = b.constant(8, 5)?;
+    assert_eq!(rt; again, x);
+    let not = b.not(again)?;
+    assert_eq!(rt; not, Net::Cell(2));
+    Ok(())
+}
+
+/// A choice, and a part of a net.
+#[test]
+fn parts(rt: HostRuntime) -> Result<(), Fail> {
+    let mut b = Builder::new(rt.alloc());
+    let x = b.constant(1, 1)?;
+    let picked = b.mux(x, x, x)?;
+    assert_eq!(rt; picked, Net::Cell(1));
+    let x = b.constant(8, 5)?;
+    let low = b.slice(x, 3, 0)?;
+    assert_eq!(rt; b.width(low), 4);
+    Ok(())
+}
+
+/// Nets in a row.
+#[test]
+fn rows(rt: HostRuntime) -> Result<(), Fail> {
+    let mut b = Builder::new(rt.alloc());
+    let x = b.constant(8, 5)?;
+    let both = b.cat(x, x)?;
+    assert_eq!(rt; b.width(both), 16);
+    let x = b.constant(8, 5)?;
+    let three = b.rep(3, x)?;
+    assert_eq!(rt; b.width(three), 24);
+    Ok(())
+}
+
+/// Extensions; a net that is wide enough is its own.
+#[test]
+fn extensions(rt: HostRuntime) -> Result<(), Fail> {
+    let mut b = Builder::new(rt.alloc());
+    let x = b.constant(8, 5)?;
+    let same = b.zero_extend(x, 8)?;
+    assert_eq!(rt; same, x);
+    let x = b.constant(8, 5)?;
+    let wide = b.sign_extend(x, 12)?;
+    assert_eq!(rt; b.width(wide), 12);
+    Ok(())
+}
+
+/// Signed order, as an output; an input and a register.
+#[test]
+fn ports(rt: HostRuntime) -> Result<(), Fail> {
+    let name = Name::copy_of(rt.alloc(), b"less")?;
+    let mut b = Builder::new(rt.alloc());
     let reg = b.reg(8, 3)?;
-    let array = b.array(&count, 8, 4)?;
-    let five = b.constant(8, 5)?;
-    let is_five = b.bin(BinOp::Eq, Net::Reg(reg), five)?;
-    let sum = b.bin(BinOp::Add, Net::Reg(reg), input)?;
-    let next = b.mux(is_five, five, sum)?;
-    b.next(reg, next);
-    let addr = b.slice(next, 1, 0)?;
-    let port = b.write(array, is_five, addr, next)?;
-    let shown = b.output(&count, next)?;
-    let netlist = b.finish(count, Seq::new(alloc));
-    assert_eq!(rt; port, 0);
+    b.next(reg, Net::Reg(reg));
+    assert_eq!(rt; b.reg_count(), 1);
+    let x = b.input(&name, 8)?;
+    let less = b.less_signed(x, x)?;
+    let shown = b.output(&name, less)?;
     assert_eq!(rt; shown, 0);
-    assert_eq!(rt; netlist.cells.len(), 5);
-    assert_eq!(rt; netlist.ports.len(), 2);
+    Ok(())
+}
+
+/// An array.
+#[test]
+fn arrays(rt: HostRuntime) -> Result<(), Fail> {
+    let alloc = rt.alloc();
+    let name = Name::copy_of(alloc, b"words")?;
+    let mut b = Builder::new(alloc);
+    let x = b.constant(1, 1)?;
+    let array = b.array(&name, 1, 2)?;
+    let port = b.write(array, x, x, x)?;
+    assert_eq!(rt; port, 0);
+    let word = b.read(array, x)?;
+    let not = b.cell(Cell::Not(word))?;
+    assert_eq!(rt; not, Net::Cell(2));
+    let netlist = b.finish(name, Seq::new(alloc));
+    assert_eq!(rt; netlist.cells.len(), 3);
     Ok(())
 }

@@ -1,7 +1,7 @@
 -- The law of a bypass lock's look.
 use Rattle.std.proofs.Common.{◌≡◌, ◌-◌, ℕ, refl, sym, ap, ◌∙◌, arith}
 use Rattle.std.specs.Prelude.{List, Option, Some, None, true, is_some, slice_index, slice_index_or, []}
-use Rattle.pdl_model.specs.Tree.{Queue, Bypass}
+use Rattle.pdl_semantics.specs.Tree.{Queue, Bypass}
 use Rattle.pdl_net.specs.Circuit.{Circuit, State}
 use Rattle.pdl_net.specs.Signal.{Signal, const_value, read_value}
 use Rattle.pdl_lockapi.specs.declared.Kind.{Kind}

@@ -2,7 +2,7 @@
 ghost use Rattle.std.specs.Prelude.{◌≡◌, ℕ, [], ◌∷◌, ◌++◌, ◌+◌, ◌-◌, ◌*◌, ◌^◌, ◌<◌, ◌≤◌, length, not, IfOk, OnOk, is_some};
 ghost use Rattle.pdl_net.specs.Meaning.{IsThere, Means, signal};
 ghost use Rattle.pdl_net.specs.Growth.{Extends, ExtendsArrays, Keeps};
-ghost use Rattle.pdl_model.specs.Tree.{Queue};
+ghost use Rattle.pdl_semantics.specs.Tree.{Queue};
 ghost use Rattle.pdl_build.specs.Change.{IsNewReg};
 ghost use Rattle.pdl_lockapi.specs.Laws.{arrays_of, IsFragment, HasRegNets, HasNoPorts, StartLaw, RoomLaw, TicketLaw};
 ghost use Rattle.pdl_entries.specs.Slots.{Suits, IsMemDepth, IsSized, HasOwnArray, HasSlots, AreReset, IsMemArray, IsLayout, ArePlaced, Stands, layout_of, ticket_bits, numbers_from, first_content_of};

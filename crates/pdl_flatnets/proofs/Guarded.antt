@@ -1,7 +1,7 @@
 -- The guards that are left, and expressions that are left, on the way through a list.
 use Rattle.std.proofs.Common.{◌≡◌, ℕ, ◌+◌, ◌<◌, List, [], ◌∷◌, ◌++◌, map, length, drop, get_or, refl, sym, ap, ap₂, ◌∙◌, subst}
 use Rattle.std.proofs.lemmas.List.{map-append, drop_more}
-use Rattle.pdl_model.specs.Flat.{Guard, Expr}
+use Rattle.pdl_semantics.specs.Flat.{Guard, Expr}
 use Rattle.pdl_form.specs.declared.form.Guard as r_guard
 use Rattle.pdl_form.specs.declared.form.Expr as r_expr
 use Rattle.pdl_form.specs.View.{guard_view, guards_view, expr_view, exprs_view}

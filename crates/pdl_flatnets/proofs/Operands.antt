@@ -1,32 +1,18 @@
 -- Signals of typed expressions have their widths, also where operands are made one after another.
-use Rattle.std.proofs.Common.{◌≡◌, ℕ, ◌+◌, List, refl, sym, ap, ap₂, ◌∙◌, subst, arith}
-use Rattle.pdl_model.specs.Tree.{BinaryOp, Add, Sub, Mul, And, Or, Xor, Equal, Differ, Less, ShiftLeft, ShiftRight}
-use Rattle.pdl_model.specs.Flatten.{op_width}
+use Rattle.std.proofs.Common.{◌≡◌, ◌+◌, List, refl, sym, ap, ap₂, ◌∙◌, subst, arith}
+use Rattle.pdl_semantics.specs.Flatten.{op_width}
 use Rattle.pdl_net.specs.declared.Net.{Net}
 use Rattle.pdl_net.specs.Circuit.{Circuit}
-use Rattle.pdl_net.specs.Signal.{Signal, bin_width}
+use Rattle.pdl_net.specs.Signal.{Signal}
 use Rattle.pdl_net.specs.Meaning.{signal, Means}
 use Rattle.pdl_net.specs.Growth.{Extends}
-use Rattle.pdl_build.specs.Expr.{op_of}
 use Rattle.pdl_build.proofs.Extensions.{zext_width, sext_width}
+use Rattle.pdl_build.proofs.Operators.{op_widths}
 use Rattle.pdl_flatnets.specs.Nets.{NetsThere, signals_in, widths_of}
-use Rattle.pdl_model.specs.Flat.{Expr, Constant, Variable, Slice, Not, Binary, Cat, LessSigned, ZeroExtend, SignExtend, Choose}
+use Rattle.pdl_semantics.specs.Flat.{Expr, Constant, Variable, Slice, Not, Binary, Cat, LessSigned, ZeroExtend, SignExtend, Choose}
 use Rattle.pdl_formtypes.specs.Exprs.{width_in, IsTyped}
 use Rattle.pdl_flatnets.specs.Values.{value_signal}
 use Rattle.pdl_flatnets.proofs.NetLists.{nets_there, nets_kept, width_at}
-
-op_widths : (op : BinaryOp) (w : ℕ) → bin_width (op_of op) w ≡ op_width op w
-op_widths Add w = refl
-op_widths Sub w = refl
-op_widths Mul w = refl
-op_widths And w = refl
-op_widths Or w = refl
-op_widths Xor w = refl
-op_widths Equal w = refl
-op_widths Differ w = refl
-op_widths Less w = refl
-op_widths ShiftLeft w = refl
-op_widths ShiftRight w = refl
 
 -- the signal of a typed expression has its width
 pub value_width : (fs : List Signal) (e : Expr) → IsTyped (widths_of fs) e → (value_signal fs e).width ≡ width_in (widths_of fs) e

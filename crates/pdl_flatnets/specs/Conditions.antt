@@ -1,6 +1,6 @@
 -- Conditions, of 1 bit each.
 use Rattle.std.specs.Prelude.{Bool, true, false, List, [], ◌∷◌}
-use Rattle.pdl_model.specs.Flat.{Guard}
+use Rattle.pdl_semantics.specs.Flat.{Guard}
 use Rattle.pdl_net.specs.Circuit.{Circuit}
 use Rattle.pdl_net.specs.Signal.{Signal, const_signal, not_signal, mux_signal}
 use Rattle.pdl_net.specs.Meaning.{Means}

@@ -1,9 +1,11 @@
 -- What expressions over numbered variables mean over signals.
-use Rattle.std.specs.Prelude.{List, map}
-use Rattle.pdl_model.specs.Flat.{Expr, Constant, Variable, Slice, Not, Binary, Cat, LessSigned, ZeroExtend, SignExtend, Choose}
+use Rattle.std.specs.Prelude.{◌≡◌, ℕ, ◌<◌, List, map, length}
+use Rattle.pdl_semantics.specs.Flat.{value_of, Expr, Constant, Variable, Slice, Not, Binary, Cat, LessSigned, ZeroExtend, SignExtend, Choose}
 use Rattle.pdl_net.specs.declared.BinOp.TheVariants as net_op
+use Rattle.pdl_net.specs.Circuit.{State}
+use Rattle.pdl_net.specs.Well.{IsBounded}
 use Rattle.pdl_net.specs.Signal.{Signal, const_signal, not_signal, bin_signal, mux_signal, slice_signal, cat_signal}
-use Rattle.pdl_build.specs.Expr.{op_of, zext_signal, sext_signal, raised_signal}
+use Rattle.pdl_build.specs.Operators.{op_of, zext_signal, sext_signal, raised_signal}
 use Rattle.pdl_flatnets.specs.Nets.{signal_at}
 
 -- the signal of an expression over the variables' signals
@@ -21,3 +23,15 @@ value_signal fs (Choose c a b) = mux_signal (value_signal fs c) (value_signal fs
 
 abbrev pub value_signals : List Signal → List Expr → List Signal
 value_signals fs es = map (value_signal fs) es
+
+-- the values of signals in a state
+abbrev pub values_in : State → List Signal → List ℕ
+values_in s fs = map (λ (f : Signal). f.value s) fs
+
+-- each signal has a value within its width
+abbrev pub AreBounded : State → List Signal → Type 0
+AreBounded s fs = (x : ℕ) → x < length fs → IsBounded s (signal_at fs x)
+
+-- a signal has the value of an expression, wherever the variables' signals have values within their widths
+abbrev pub IsValue : List Signal → Expr → Signal → Type 0
+IsValue fs e f = (s : State) → AreBounded s fs → f.value s ≡ value_of e (values_in s fs)

@@ -4,11 +4,11 @@ ghost use Rattle.pdl_tree.specs.View.{op_view};
 ghost use Rattle.pdl_net.specs.Signal.{slice_signal};
 ghost use Rattle.pdl_net.specs.Meaning.{IsThere, Means, signal};
 ghost use Rattle.pdl_net.specs.Growth.{Extends};
-ghost use Rattle.pdl_build.specs.Expr.{op_of};
+ghost use Rattle.pdl_build.specs.Operators.{op_of};
 ghost use Rattle.pdl_flatnets.specs.Nets.{NetsThere, signals_in, signal_at, widths_of};
 ghost use Rattle.pdl_form.specs.View.{expr_view, exprs_view};
 ghost use Rattle.pdl_formtypes.specs.Exprs.{IsTyped, AreTyped};
-ghost use Rattle.pdl_flatnets.specs.Values.{value_signal, value_signals};
+ghost use Rattle.pdl_flatnets.specs.Values.{value_signal, value_signals, IsValue};
 
 use pdl_build::Builder;
 use pdl_form::Expr;
@@ -60,10 +60,8 @@ fn sliced(b: &mut Builder, vars: &[Net], x: usize, high: u8, low: u8) -> Result<
     b.slice(a, high, low)
 }
 
-/// The net of an expression over the nets of the variables.
-///
-/// Where memory runs out, cells may have been added, and every earlier net means what it meant.
-pub fn value(b: &mut Builder, vars: &[Net], e: &Expr) -> Result<Net, NoMemory>
+// The net of an expression, which means its signal.
+fn expr_net(b: &mut Builder, vars: &[Net], e: &Expr) -> Result<Net, NoMemory>
     requires there { NetsThere b.old vars.now }
     requires typed { IsTyped (widths_of (signals_in b.old vars.now)) (expr_view e.now) }
     ensures means { IfOk result (λ x. Means b.new x (value_signal (signals_in b.old vars.now) (expr_view e.now))) }
@@ -75,39 +73,54 @@ pub fn value(b: &mut Builder, vars: &[Net], e: &Expr) -> Result<Net, NoMemory>
         Expr::Variable(x) => Ok(variable(b, vars, *x)),
         Expr::Slice { x, high, low } => sliced(b, vars, *x, *high, *low),
         Expr::Not { a, .. } => {
-            let a = value(b, vars, a.get())?;
+            let a = expr_net(b, vars, a.get())?;
             b.not(a)
         }
         Expr::Binary { op, a, b: c, .. } => {
-            let a = value(b, vars, a.get())?;
-            let c = value(b, vars, c.get())?;
+            let a = expr_net(b, vars, a.get())?;
+            let c = expr_net(b, vars, c.get())?;
             b.bin(bin_op(*op), a, c)
         }
         Expr::Cat { a, b: c, .. } => {
-            let a = value(b, vars, a.get())?;
-            let c = value(b, vars, c.get())?;
+            let a = expr_net(b, vars, a.get())?;
+            let c = expr_net(b, vars, c.get())?;
             b.cat(a, c)
         }
         Expr::LessSigned { a, b: c, .. } => {
-            let a = value(b, vars, a.get())?;
-            let c = value(b, vars, c.get())?;
+            let a = expr_net(b, vars, a.get())?;
+            let c = expr_net(b, vars, c.get())?;
             b.less_signed(a, c)
         }
         Expr::ZeroExtend { wide, a } => {
-            let a = value(b, vars, a.get())?;
+            let a = expr_net(b, vars, a.get())?;
             b.zero_extend(a, *wide)
         }
         Expr::SignExtend { wide, a, .. } => {
-            let a = value(b, vars, a.get())?;
+            let a = expr_net(b, vars, a.get())?;
             b.sign_extend(a, *wide)
         }
         Expr::Choose { c, a, b: d } => {
-            let c = value(b, vars, c.get())?;
-            let a = value(b, vars, a.get())?;
-            let d = value(b, vars, d.get())?;
+            let c = expr_net(b, vars, c.get())?;
+            let a = expr_net(b, vars, a.get())?;
+            let d = expr_net(b, vars, d.get())?;
             b.mux(c, a, d)
         }
     }
+}
+
+/// The net of an expression over the nets of the variables: it has the value of the expression in each state where these have values within their widths.
+///
+/// Where memory runs out, cells may have been added, and every earlier net means what it meant.
+#[tactic(auto, using(crate::proofs::SignalValues::net_value))]
+pub fn value(b: &mut Builder, vars: &[Net], e: &Expr) -> Result<Net, NoMemory>
+    requires there { NetsThere b.old vars.now }
+    requires typed { IsTyped (widths_of (signals_in b.old vars.now)) (expr_view e.now) }
+    ensures means { IfOk result (λ x. Means b.new x (value_signal (signals_in b.old vars.now) (expr_view e.now))) }
+    ensures value { IfOk result (λ x. IsValue (signals_in b.old vars.now) (expr_view e.now) (signal b.new x)) }
+    ensures extends { Extends b.old b.new }
+    ensures regs { b.new.regs ≡ b.old.regs }
+{
+    expr_net(b, vars, e)
 }
 
 /// The nets of expressions.

@@ -1,7 +1,7 @@
 -- What the statements from a stage on still need, part by part.
 use Rattle.std.specs.Prelude.{ℕ, suc, Bool, ◌&&◌, List, nat_le}
-use Rattle.pdl_model.specs.Flat.{Stmt, Stage, Pipe}
-use Rattle.pdl_model.specs.Stages.{list_any, reserve_stage, commit_stage}
+use Rattle.pdl_semantics.specs.Flat.{Stmt, Stage, Pipe}
+use Rattle.pdl_semantics.specs.Stages.{list_any, reserve_stage, commit_stage}
 use Rattle.pdl_pipe_law.specs.Lives.{row_uses, forks_by, asks_held}
 use Rattle.pdl_pipe_law.specs.Walk.{is_locked}
 

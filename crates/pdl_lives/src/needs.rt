@@ -1,6 +1,6 @@
 // What the statements from a stage on still need.
 ghost use Rattle.std.specs.Prelude.{◌≡◌, ◌<◌, ◌≤◌, ◌&&◌, drop, length, nat_le};
-ghost use Rattle.pdl_model.specs.Stages.{list_any, mem_at, reserve_stage, commit_stage};
+ghost use Rattle.pdl_semantics.specs.Stages.{list_any, mem_at, reserve_stage, commit_stage};
 ghost use Rattle.pdl_form.specs.Whole.{form};
 ghost use Rattle.pdl_form.specs.View.{act_view, lock_view, next_view, stages_view, stmt_view, stmts_view};
 ghost use Rattle.pdl_pipe_law.specs.Lives.{lives as is_live, holds as is_asked, asks_held as asks_location, forks_by as goes_by};

@@ -2,7 +2,7 @@
 use Rattle.std.specs.Prelude.{◌≡◌, ◌≢◌, ℕ, ◌+◌, ◌%◌, ◌^◌, ◌<◌, ◌≤◌, List, [], ◌∷◌, length, map, slice_index, slice_index_or, slice_set, ◌==◌, if◌then◌else◌, true, Option, Some, None}
 use Rattle.pdl_word.specs.Words.{bit}
 use Rattle.pdl_kit.specs.declared.mem_info.MemInfo.{MemInfo}
-use Rattle.pdl_model.specs.Tree.{LockKind, Rename}
+use Rattle.pdl_semantics.specs.Tree.{LockKind, Rename}
 use Rattle.pdl_net.specs.declared.Net.{Net}
 use Rattle.pdl_net.specs.Circuit.{Circuit, State, Shape, HasReg, reg_reset, HasArray}
 use Rattle.pdl_net.specs.Signal.{Signal, const_signal}

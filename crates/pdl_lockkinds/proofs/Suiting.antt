@@ -1,11 +1,10 @@
 -- The locks that memories ask for suit them.
-use Rattle.std.proofs.Common.{◌≡◌, ℕ, zero, suc, ◌^◌, ◌<◌, ◌≤◌, Bool, true, false, List, [], ◌∷◌, map, length, get_or, refl, sym, ap, ◌∙◌, subst, arith}
-use Rattle.std.specs.Prelude.{Option, Some, None, is_some}
+use Rattle.std.proofs.Common.{◌≡◌, ℕ, zero, suc, ◌<◌, false, List, [], ◌∷◌, length, get_or, refl, sym, ap, ◌∙◌, subst, arith}
+use Rattle.std.specs.Prelude.{Some, None, is_some}
 use Rattle.std.proofs.lemmas.List.{length-map, get_or-map}
-use Rattle.pdl_kit.specs.declared.mem_info.MemInfo.{MemInfo}
-use Rattle.pdl_model.specs.Flat as flat
-use Rattle.pdl_model.specs.Flat.{Lock, Mem, Pipe}
-use Rattle.pdl_model.specs.Stages.{plain_mem, mem_at}
+use Rattle.pdl_semantics.specs.Flat as flat
+use Rattle.pdl_semantics.specs.Flat.{Lock, Mem}
+use Rattle.pdl_semantics.specs.Stages.{plain_mem, mem_at}
 use Rattle.pdl_form.specs.Form.{Form}
 use Rattle.pdl_formtypes.specs.Stmts.{IsTypedMem, AreTypedMems}
 use Rattle.pdl_lockapi.specs.Forget.{as_lock}
@@ -15,7 +14,7 @@ use Rattle.pdl_anylock.specs.declared.AnyLock.TheVariants.{Queue, Bypass, Rename
 use Rattle.pdl_anylock.specs.Any.{any_kind, any_size, any_suits}
 use Rattle.pdl_pipe_law.specs.Walk.{has_kind}
 use Rattle.pdl_stagenets.specs.Locked.{Members, some_at}
-use Rattle.pdl_locknets.specs.Suited.{info_of, info_at, AreComb, AreSuited}
+use Rattle.pdl_locknets.specs.Suited.{info_of, AreComb, AreSuited}
 use Rattle.pdl_locknets.proofs.AllMade.{typed_at, comb_at}
 use Rattle.pdl_lockkinds.specs.Asked.{lock_asked, locks_asked, IsSizedLock, AreSizedLocks}
 

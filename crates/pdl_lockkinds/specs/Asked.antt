@@ -1,7 +1,7 @@
 -- The locks that the memories of a pipe ask for, by their kinds and sizes.
 use Rattle.std.specs.Prelude.{ℕ, ◌≤◌, List, [], ◌∷◌, map, Option, Some, None, ⊤}
-use Rattle.pdl_model.specs.Flat as flat
-use Rattle.pdl_model.specs.Flat.{Lock, Mem}
+use Rattle.pdl_semantics.specs.Flat as flat
+use Rattle.pdl_semantics.specs.Flat.{Lock, Mem}
 use Rattle.pdl_entries.specs.Slots.{IsSize}
 use Rattle.pdl_anylock.specs.declared.AnyLock.{AnyLock}
 use Rattle.pdl_anylock.specs.declared.AnyLock.TheVariants.{Queue, Bypass, Rename}

@@ -4,6 +4,7 @@ ghost use Rattle.pdl_form.specs.Whole.{form};
 ghost use Rattle.pdl_form.specs.View.{lock_view};
 ghost use Rattle.pdl_formtypes.specs.Stmts.{AreTypedMems};
 ghost use Rattle.pdl_anylock.specs.declared.AnyLock.{AnyLock};
+ghost use Rattle.pdl_stagenets.specs.Locked.{members};
 ghost use Rattle.pdl_locknets.specs.Suited.{AreComb, AreSuited};
 ghost use Rattle.pdl_lockkinds.specs.Asked.{lock_asked, locks_asked, AreSizedLocks};
 
@@ -34,7 +35,7 @@ pub fn locks_of(alloc: Global, pipe: &FlatPipe) -> Result<Vec<Option<AnyLock>>, 
     requires comb { AreComb (form pipe.now).pipe.mems }
     requires sizes { AreSizedLocks (form pipe.now).pipe.mems }
     ensures asked { IfOk result (λ ls. ls.items ≡ locks_asked (form pipe.now).pipe.mems) }
-    ensures suited { IfOk result (λ ls. AreSuited ⟦<AnyLock as LockModule>⟧.suits (record { placed = ⟦<AnyLock as LockModule>⟧.placed; stands = ⟦<AnyLock as LockModule>⟧.stands; kind = ⟦<AnyLock as LockModule>⟧.kind_of; size = ⟦<AnyLock as LockModule>⟧.size; tickets = ⟦<AnyLock as LockModule>⟧.tickets }) (form pipe.now) ls.items) }
+    ensures suited { IfOk result (λ ls. AreSuited ⟦<AnyLock as LockModule>⟧.suits (members ⟦<AnyLock as LockModule>⟧) (form pipe.now) ls.items) }
 {
     let mut locks = Vec::new(alloc);
     let mems = pipe.mems();

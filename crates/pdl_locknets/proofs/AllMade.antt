@@ -4,8 +4,8 @@ use borrow.Author.Count.{below_more}
 use Rattle.std.specs.Prelude.{Option, Some, None, is_some}
 use Rattle.std.proofs.lemmas.List.{get_or-map, get_or_append_left, get_or_push, drop_more, drop_all, length-map}
 use Rattle.pdl_kit.specs.declared.mem_info.MemInfo.{MemInfo}
-use Rattle.pdl_model.specs.Flat.{Mem, Pipe}
-use Rattle.pdl_model.specs.Stages.{plain_mem, mem_at}
+use Rattle.pdl_semantics.specs.Flat.{Mem, Pipe}
+use Rattle.pdl_semantics.specs.Stages.{plain_mem, mem_at}
 use Rattle.pdl_net.specs.Circuit.{Circuit, Shape, shape_of, shapes_of, HasReg, array_depth}
 use Rattle.pdl_net.specs.Meaning.{write_signals}
 use Rattle.pdl_net.specs.Growth.{Keeps, ExtendsArrays}
@@ -49,7 +49,8 @@ comb_at [] i h s = absurd (omega (arith, h))
 comb_at (m ∷ ms) zero h s = s.0
 comb_at (m ∷ ms) (suc i) h s = comb_at ms i (omega (arith, h)) s.1
 
-pub served_at : {T : Type 0} (suits : T → MemInfo → Type 0) (l : Members T) (f : Form) (ls : List (Option T)) (i : ℕ) (name : List ℕ) (mem : Mem) (o : Option T) → AreSuited suits l f ls → i < length f.pipe.mems → name ≡ get_or f.names i [] → mem ≡ mem_at f.pipe i → o ≡ some_at ls i
+pub served_at : {T : Type 0} (suits : T → MemInfo → Type 0) (l : Members T) (f : Form) (ls : List (Option T)) (i : ℕ) (name : List ℕ) (mem : Mem) (o : Option T) → AreSuited suits l f ls → i < length f.pipe.mems
+    → name ≡ get_or f.names i [] → mem ≡ mem_at f.pipe i → o ≡ some_at ls i
     → AreServed suits l name mem o
 served_at {T} suits l f ls i name mem o s low a b e =
     let here : AreServed suits l (get_or f.names i []) (mem_at f.pipe i) (some_at ls i) = record { locked = s.locked i low; lock = λ y q. record { suited = s.suited i y low q; kind = s.kinds i y low q } } in
@@ -206,7 +207,8 @@ no_shapes : (c : Circuit) → c.arrays ≡ [] → shapes_of c ≡ []
 unfolding shapes_of
 no_shapes c e = ap (map shape_of) e
 
-module _ {T : Type 0} (l : Members T) (a c : Circuit) (names : List (List ℕ)) (p : Pipe) (xs : List (Option (MemLock T))) (i : ℕ) (none : a.arrays ≡ []) (named : length names ≡ length p.mems) (all : i ≡ length p.mems) (h : AreMadeTo l a c names p xs i) where
+module _ {T : Type 0} (l : Members T) (a c : Circuit) (names : List (List ℕ)) (p : Pipe) (xs : List (Option (MemLock T))) (i : ℕ) (none : a.arrays ≡ []) (named : length names ≡ length p.mems) (all : i ≡ length p.mems)
+    (h : AreMadeTo l a c names p xs i) where
   added_all : h.added ≡ shapes_in names p.mems
   added_all =
       let ns : drop i names ≡ [] = drop_all i names (omega (arith, named, all)) in

@@ -2,8 +2,8 @@
 use Rattle.std.proofs.Common.{◌≡◌, ℕ, zero, suc, ◌^◌, ◌<◌, List, [], ◌∷◌, ◌++◌, map, length, refl, sym, ap, ◌∙◌, subst, arith, inl, inr}
 use Rattle.std.specs.Prelude.{Option, Some}
 use Rattle.std.proofs.lemmas.Bool.Decides.{eqb_tells}
-use Rattle.pdl_model.specs.Flat.{Pipe}
-use Rattle.pdl_model.specs.Stages.{mem_at}
+use Rattle.pdl_semantics.specs.Flat.{Pipe}
+use Rattle.pdl_semantics.specs.Stages.{mem_at}
 use Rattle.pdl_net.specs.Circuit.{Circuit}
 use Rattle.pdl_net.specs.Signal.{Signal, no_signal}
 use Rattle.pdl_net.specs.Meaning.{signal, IsThere}
@@ -102,7 +102,8 @@ module _ {T : Type 0} (l : Members T) (c : Circuit) (p : Pipe) (ws : List ℕ) (
   views_reserve m bits f [] e h = tt
   views_reserve m bits f (d ∷ ds) e h = (reserves_fit p m bits f (map (reservation_in c) d.ended.now.reserves) e h.0.walk.sized.reserves, views_reserve m bits f ds e h.1)
 
-  views_put : (m : ℕ) (x : MemLock T) (f : Signal) (ds : List StageDeeds) → m < length xs → some_at xs m ≡ Some x → Each (IsDeed l c p ws xs) ds → Each (λ d. Each (WriteFits (mem_at p m).width (l.tickets x.lock)) (puts_to m f ((view_in c d).tickets m) (view_in c d).ended.puts)) ds
+  views_put : (m : ℕ) (x : MemLock T) (f : Signal) (ds : List StageDeeds) → m < length xs → some_at xs m ≡ Some x → Each (IsDeed l c p ws xs) ds
+      → Each (λ d. Each (WriteFits (mem_at p m).width (l.tickets x.lock)) (puts_to m f ((view_in c d).tickets m) (view_in c d).ended.puts)) ds
   views_put m x f [] low e h = tt
   views_put m x f (d ∷ ds) low e h = (puts_fit p m (l.tickets x.lock) f ((view_in c d).tickets m) (map (put_in c) d.ended.now.puts) (h.0.tickets.wide m x low e) h.0.walk.sized.puts, views_put m x f ds low e h.1)
 

@@ -2,9 +2,9 @@
 use Rattle.std.proofs.Common.{◌≡◌, ℕ, ◌+◌, ◌^◌, ◌<◌, ◌≤◌, ◌∙◌, true, false, List, [], length, refl, sym, ap, ap₂, subst, arith, inl, inr}
 use Rattle.std.specs.Prelude.{Option, Some, None, is_some}
 use Rattle.std.proofs.lemmas.Bool.{cases_lt, false≢true}
-use Rattle.pdl_model.specs.Tree.{Queue}
-use Rattle.pdl_model.specs.Flat.{Pipe}
-use Rattle.pdl_model.specs.Stages.{mem_at}
+use Rattle.pdl_semantics.specs.Tree.{Queue}
+use Rattle.pdl_semantics.specs.Flat.{Pipe}
+use Rattle.pdl_semantics.specs.Stages.{mem_at}
 use Rattle.pdl_net.specs.Circuit.{Circuit, State, HasReg, HasArray}
 use Rattle.pdl_net.specs.Signal.{Signal}
 use Rattle.pdl_net.specs.Meaning.{signal, next_signal, write_signals}
@@ -29,7 +29,8 @@ use Rattle.pdl_locknets.proofs.LocksKept.{Stays, laws_kept, locked_kept, regs_en
 use Rattle.pdl_locknets.proofs.LockSteps.{stepped_kept}
 
 -- the stages of a netlist do to a lock what their nets do
-pub step_is : {T : Type 0} (l : Members T) (a s : Circuit) (p : Pipe) (xs : List (Option (MemLock T))) (ds : List StageDeeds) (vs : ℕ → View) (goes : ℕ → Signal) (m : ℕ) → Keeps a s → AreLocked l a p xs → length ds ≡ length p.stages → m < length p.mems → AreOf s ds vs goes
+pub step_is : {T : Type 0} (l : Members T) (a s : Circuit) (p : Pipe) (xs : List (Option (MemLock T))) (ds : List StageDeeds) (vs : ℕ → View) (goes : ℕ → Signal) (m : ℕ) → Keeps a s → AreLocked l a p xs
+    → length ds ≡ length p.stages → m < length p.mems → AreOf s ds vs goes
     → step_of p (views_in s ds) (no_gates (locks_in l s xs)) (moves_in s ds) m ≡ step_of p vs (no_gates (locks_in l a xs)) goes m
 step_is l a s p xs ds vs goes m k h count low of =
     let n = length p.stages in
@@ -102,7 +103,10 @@ module _ {T : Type 0} (l : Members T) (stays : Stays l) (p : Pipe) (xs : List (O
   fits_of x n e q =
       let it = (stepped.each m low).lock x n e q in
       let P : Commit → Type 0 = λ y. (y.enable.width ≡ 1) × (2 ^ y.addr.width ≡ (mem_at p m).depth) × (y.value.width ≡ (mem_at p m).width) in
-      let here : P (commit_of c (Some n)) = (ap (λ (f : Signal). f.width) (after.kept n.commit it.commit_there) ∙ it.commit_one, ap (λ (f : Signal). 2 ^ f.width) (after.kept n.addr it.addr_there) ∙ it.addr_reach, ap (λ (f : Signal). f.width) (after.kept n.value it.value_there) ∙ it.value_wide) in
+      let one = ap (λ (f : Signal). f.width) (after.kept n.commit it.commit_there) ∙ it.commit_one in
+      let reach = ap (λ (f : Signal). 2 ^ f.width) (after.kept n.addr it.addr_there) ∙ it.addr_reach in
+      let wide = ap (λ (f : Signal). f.width) (after.kept n.value it.value_there) ∙ it.value_wide in
+      let here : P (commit_of c (Some n)) = (one, reach, wide) in
       subst P (ap (commit_of c) (sym q)) here
 
   pub commit_fits : is_locked p m ≡ true → ((commits_in c ns m).enable.width ≡ 1) × (2 ^ (commits_in c ns m).addr.width ≡ (mem_at p m).depth) × ((commits_in c ns m).value.width ≡ (mem_at p m).width)

@@ -3,8 +3,8 @@ use Rattle.std.proofs.Common.{◌≡◌, ℕ, ◌+◌, ◌^◌, ◌<◌, ◌≤�
 use borrow.Author.Count.{below_more}
 use Rattle.std.specs.Prelude.{Option, Some, None, is_some, slice_index_or}
 use Rattle.std.proofs.lemmas.List.{get_or_append_left, get_or_push}
-use Rattle.pdl_model.specs.Flat.{Mem, Pipe}
-use Rattle.pdl_model.specs.Stages.{mem_at}
+use Rattle.pdl_semantics.specs.Flat.{Mem, Pipe}
+use Rattle.pdl_semantics.specs.Stages.{mem_at}
 use Rattle.pdl_net.specs.Circuit.{Circuit, State}
 use Rattle.pdl_net.specs.Signal.{Signal}
 use Rattle.pdl_net.specs.Meaning.{signal, write_signals}
@@ -136,7 +136,8 @@ module _ {T : Type 0} (l : Members T) (a : Circuit) (p : Pipe) (xs : List (Optio
       }
 
   -- an earlier step stays
-  earlier : (j m : ℕ) (b c : Circuit) (f : StepSignals) (n : Option LockNets) → j < m → m < length p.mems → Keeps a b → ExtendsBut (own_of (some_at xs m)) b c → IsSteppedMemory l b (mem_at p j) f (some_at xs j) n → IsSteppedMemory l c (mem_at p j) f (some_at xs j) n
+  earlier : (j m : ℕ) (b c : Circuit) (f : StepSignals) (n : Option LockNets) → j < m → m < length p.mems → Keeps a b → ExtendsBut (own_of (some_at xs m)) b c → IsSteppedMemory l b (mem_at p j) f (some_at xs j) n
+      → IsSteppedMemory l c (mem_at p j) f (some_at xs j) n
   earlier j m b c f n h low k d y = record {
     has = y.has;
     lock = λ x z e q. stepped_kept l b c (mem_at p j) f x z (but_keeps (own_of (some_at xs m)) b c d) (own_apart j m x b c h low e k d) (y.lock x z e q);

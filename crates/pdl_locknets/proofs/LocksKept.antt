@@ -1,9 +1,9 @@
 -- What is known of the locks stays while the circuit grows.
 use Rattle.std.proofs.Common.{◌≡◌, ℕ, ◌+◌, ◌-◌, ◌<◌, ◌≤◌, ◌∙◌, List, [], ◌∷◌, length, map, refl, sym, ap, ap₂, subst, arith}
 use Rattle.std.specs.Prelude.{Option, Some, None, slice_index_or}
-use Rattle.pdl_model.specs.Tree.{LockKind}
-use Rattle.pdl_model.specs.Flat.{Mem, Pipe}
-use Rattle.pdl_model.specs.Stages.{mem_at}
+use Rattle.pdl_semantics.specs.Tree.{LockKind}
+use Rattle.pdl_semantics.specs.Flat.{Mem, Pipe}
+use Rattle.pdl_semantics.specs.Stages.{mem_at}
 use Rattle.pdl_net.specs.declared.Net.{Net}
 use Rattle.pdl_net.specs.Circuit.{Circuit, State, HasReg}
 use Rattle.pdl_net.specs.Signal.{Signal, no_signal}
@@ -43,7 +43,8 @@ lock_kept l a b m mem x k stays i = record {
   array = i.array;
 }
 
-pub lawful_kept : (stands : State → LockState → Type 0) (kind : LockKind) (size tickets : ℕ) (a b : Circuit) (r : LockRegs) → Keeps a b → IsThere a r.room → IsThere a r.ticket → IsLawful stands kind size tickets a r → IsLawful stands kind size tickets b r
+pub lawful_kept : (stands : State → LockState → Type 0) (kind : LockKind) (size tickets : ℕ) (a b : Circuit) (r : LockRegs) → Keeps a b → IsThere a r.room → IsThere a r.ticket → IsLawful stands kind size tickets a r
+    → IsLawful stands kind size tickets b r
 lawful_kept stands kind size tickets a b r k room ticket x = record {
   some = x.some;
   regs = λ n lo hi. k.has_reg n (x.regs n lo hi);

@@ -2,10 +2,9 @@
 use Rattle.std.proofs.Common.{◌≡◌, ℕ, ◌+◌, ◌^◌, ◌<◌, ◌∙◌, Bool, true, false, List, [], ◌∷◌, length, length-append, get_or, refl, sym, ap, subst, arith}
 use Rattle.std.specs.Prelude.{Option, Some, None, is_some, not, if◌then◌else◌}
 use Rattle.std.proofs.lemmas.List.{get_or-map, length-map}
-use Rattle.pdl_kit.specs.declared.mem_info.MemInfo.{MemInfo}
-use Rattle.pdl_model.specs.Tree.{LockKind, Queue, Bypass, Rename}
-use Rattle.pdl_model.specs.Flat as flat
-use Rattle.pdl_model.specs.Flat.{Lock, Mem}
+use Rattle.pdl_semantics.specs.Tree.{LockKind, Queue, Bypass, Rename}
+use Rattle.pdl_semantics.specs.Flat as flat
+use Rattle.pdl_semantics.specs.Flat.{Lock, Mem}
 use Rattle.pdl_net.specs.Circuit.{Circuit, Shape, shape_of, shapes_of, no_array, HasArray, array_width, array_depth}
 use Rattle.pdl_net.specs.Meaning.{signal, write_signals}
 use Rattle.pdl_net.specs.Growth.{ExtendsArrays}
@@ -16,7 +15,7 @@ use Rattle.pdl_pipe_law.specs.Walk.{has_kind}
 use Rattle.pdl_stagenets.specs.declared.locks.MemLock.{MemLock}
 use Rattle.pdl_stagenets.specs.Locked.{Members}
 use Rattle.pdl_locknets.specs.Suited.{info_of, words_in, shape_in}
-use Rattle.pdl_locknets.specs.Made.{AreServed, IsNewLock, IsNewMemory}
+use Rattle.pdl_locknets.specs.Made.{IsNewLock}
 
 -- ---- arrays by their shapes
 
@@ -94,20 +93,8 @@ new_lock l old new name mem x comb kind grows w d a placed f nets start room tic
 }
 
 -- nothing writes its array
-pub new_unwritten : (old new : Circuit) (name : List ℕ) (mem : Mem) (r : LockRegs) → mem.delayed ≡ false → ExtendsArrays old new (shape_in name mem ∷ []) → is_some r.array ≡ not mem.delayed → IsFragment old new r → HasNoPorts r.array new → write_signals new (length old.arrays) ≡ []
+pub new_unwritten : (old new : Circuit) (name : List ℕ) (mem : Mem) (r : LockRegs) → mem.delayed ≡ false → ExtendsArrays old new (shape_in name mem ∷ []) → is_some r.array ≡ not mem.delayed → IsFragment old new r
+    → HasNoPorts r.array new → write_signals new (length old.arrays) ≡ []
 new_unwritten old new name mem r comb grows a f h = subst (λ a. HasNoPorts a new) (new_array old new r (a ∙ ap not comb) (array_more old new (shape_in name mem) grows) f) h
 
 -- ---- a memory, with and without
-
-pub memory_some : {T : Type 0} (suits : T → MemInfo → Type 0) (l : Members T) (old new : Circuit) (name : List ℕ) (mem : Mem) (o : Option T) (y : T) (x : MemLock T) → AreServed suits l name mem o → o ≡ Some y → IsNewLock l old new mem x → IsNewMemory l old new mem (Some x)
-memory_some {T} suits l old new name mem o y x s e n = record {
-  locked = sym (ap is_some e) ∙ s.locked;
-  lock = λ z q. let same : x ≡ z = cc q in subst (λ (w : MemLock T). IsNewLock l old new mem w) same n;
-}
-
-pub memory_none : {T : Type 0} (suits : T → MemInfo → Type 0) (l : Members T) (old new : Circuit) (name : List ℕ) (mem : Mem) (o : Option T) → AreServed suits l name mem o → o ≡ None → IsNewMemory l old new mem None
-memory_none suits l old new name mem o s e = record { locked = sym (ap is_some e) ∙ s.locked; lock = λ z q. absurd (cc q) }
-
--- a memory without lock has its own words
-pub plain_shape : {T : Type 0} (suits : T → MemInfo → Type 0) (l : Members T) (name : List ℕ) (mem : Mem) (o : Option T) → AreServed suits l name mem o → o ≡ None → record { name = name; width = mem.width; depth = mem.depth } ≡ shape_in name mem
-plain_shape suits l name mem o s e = ap (λ d. record { name = name; width = mem.width; depth = d }) (sym (words_plain mem.lock mem.depth (sym s.locked ∙ ap is_some e)))

@@ -89,9 +89,6 @@ each_get P (x ∷ xs) (suc k) d l h = each_get P xs k d (omega (arith, l)) h.1
 
 -- ---- reservations
 
-pub adds_none : (a : Circuit) (ps : List ReservePort) → Each (IsThereReserve a) ps → AddsReserves a a ps ps []
-adds_none a ps t = record { there = t; same = sym (append-nil (map (reserve_signal a) ps)) }
-
 pub adds_one : (a b : Circuit) (ps : List ReservePort) (x y : Net) (f g : Signal) → Extends a b → Each (IsThereReserve a) ps → Means b x f → IsThere a y → signal a y ≡ g
     → AddsReserves a b ps (ps ++ record { enable = x; kind = W; addr = y } ∷ []) (record { enable = f; addr = g } ∷ [])
 adds_one a b ps x y f g e t m h q =
@@ -101,12 +98,6 @@ adds_one a b ps x y f g e t m h q =
       same = map-append (reserve_signal b) ps (record { enable = x; kind = W; addr = y } ∷ [])
           ∙ ap₂ (λ (fs gs : List ReserveSignal). fs ++ gs) (reserves_same a b k ps t) (ap₂ (λ u v. record { enable = u; addr = v } ∷ []) m.same (e.kept y h ∙ q));
     }
-
-pub adds_trans : (a b c : Circuit) (ps qs rs : List ReservePort) (fs gs : List ReserveSignal) → AddsReserves a b ps qs fs → AddsReserves b c qs rs gs → AddsReserves a c ps rs (fs ++ gs)
-adds_trans a b c ps qs rs fs gs x y = record {
-  there = y.there;
-  same = y.same ∙ ap (λ hs. hs ++ gs) x.same ∙ append_assoc (map (reserve_signal a) ps) fs gs;
-}
 
 -- one behind another
 pub reserves_split : (m : ℕ) (f : Signal) (r : Reservation) (rs : List Reservation) → reserves_to m f (r ∷ rs) ≡ reserves_to m f (r ∷ []) ++ reserves_to m f rs
@@ -118,9 +109,6 @@ reserves_split m f r rs = at (r.mem == m)
 
 -- ---- writes
 
-pub adds_no_write : (a : Circuit) (ps : List TicketWrite) → Each (IsThereWrite a) ps → AddsWrites a a ps ps []
-adds_no_write a ps t = record { there = t; same = sym (append-nil (map (ticket_signal a) ps)) }
-
 pub adds_write : (a b : Circuit) (ps : List TicketWrite) (x y z : Net) (f g h : Signal) → Extends a b → Each (IsThereWrite a) ps → Means b x f → IsThere a y → signal a y ≡ g → IsThere a z → signal a z ≡ h
     → AddsWrites a b ps (ps ++ record { enable = x; ticket = y; value = z } ∷ []) (record { enable = f; ticket = g; value = h } ∷ [])
 adds_write a b ps x y z f g h e t m u p v q =
@@ -130,12 +118,6 @@ adds_write a b ps x y z f g h e t m u p v q =
       same = map-append (ticket_signal b) ps (record { enable = x; ticket = y; value = z } ∷ [])
           ∙ ap₂ (λ (fs gs : List TicketSignal). fs ++ gs) (writes_same a b k ps t) (cc (m.same, e.kept y u ∙ p, e.kept z v ∙ q));
     }
-
-pub adds_writes : (a b c : Circuit) (ps qs rs : List TicketWrite) (fs gs : List TicketSignal) → AddsWrites a b ps qs fs → AddsWrites b c qs rs gs → AddsWrites a c ps rs (fs ++ gs)
-adds_writes a b c ps qs rs fs gs x y = record {
-  there = y.there;
-  same = y.same ∙ ap (λ hs. hs ++ gs) x.same ∙ append_assoc (map (ticket_signal a) ps) fs gs;
-}
 
 pub puts_split : (m : ℕ) (f t : Signal) (x : Put) (xs : List Put) → puts_to m f t (x ∷ xs) ≡ puts_to m f t (x ∷ []) ++ puts_to m f t xs
 puts_split m f t x xs = at (x.mem == m)
@@ -190,19 +172,15 @@ writes_step a b c ps qs us m moves ticket xs i d y k t q l e g h x =
           ∙ h.same;
     }
 
-pub reserves_begin : (a : Circuit) (ps : List ReservePort) (m : ℕ) (moves : Net) (rs : List ReserveNet) → Each (IsThereReserve a) ps → ReservesUpTo a a ps ps m moves rs 0
-reserves_begin a ps m moves rs t = record { there = t; same = refl }
-
-pub reserves_end : (a b : Circuit) (ps qs : List ReservePort) (m : ℕ) (moves : Net) (rs : List ReserveNet) (i : ℕ) → length rs ≤ i → ReservesUpTo a b ps qs m moves rs i → AddsReserves a b ps qs (reserves_to m (signal a moves) (map (reservation_in a) rs))
+pub reserves_end : (a b : Circuit) (ps qs : List ReservePort) (m : ℕ) (moves : Net) (rs : List ReserveNet) (i : ℕ) → length rs ≤ i → ReservesUpTo a b ps qs m moves rs i
+    → AddsReserves a b ps qs (reserves_to m (signal a moves) (map (reservation_in a) rs))
 reserves_end a b ps qs m moves rs i l h = record {
   there = h.there;
   same = sym (append-nil (map (reserve_signal b) qs)) ∙ sym (ap (λ (xs : List ReserveNet). map (reserve_signal b) qs ++ reserves_to m (signal a moves) (map (reservation_in a) xs)) (drop_all i rs l)) ∙ h.same;
 }
 
-pub writes_begin : (a : Circuit) (ps : List TicketWrite) (m : ℕ) (moves ticket : Net) (xs : List PutNet) → Each (IsThereWrite a) ps → WritesUpTo a a ps ps m moves ticket xs 0
-writes_begin a ps m moves ticket xs t = record { there = t; same = refl }
-
-pub writes_end : (a b : Circuit) (ps qs : List TicketWrite) (m : ℕ) (moves ticket : Net) (xs : List PutNet) (i : ℕ) → length xs ≤ i → WritesUpTo a b ps qs m moves ticket xs i → AddsWrites a b ps qs (puts_to m (signal a moves) (signal a ticket) (map (put_in a) xs))
+pub writes_end : (a b : Circuit) (ps qs : List TicketWrite) (m : ℕ) (moves ticket : Net) (xs : List PutNet) (i : ℕ) → length xs ≤ i → WritesUpTo a b ps qs m moves ticket xs i
+    → AddsWrites a b ps qs (puts_to m (signal a moves) (signal a ticket) (map (put_in a) xs))
 writes_end a b ps qs m moves ticket xs i l h = record {
   there = h.there;
   same = sym (append-nil (map (ticket_signal b) qs)) ∙ sym (ap (λ (ys : List PutNet). map (ticket_signal b) qs ++ puts_to m (signal a moves) (signal a ticket) (map (put_in a) ys)) (drop_all i xs l)) ∙ h.same;

@@ -121,7 +121,8 @@ same_reserves m vs us f g zero k h r = refl
 same_reserves m vs us f g (suc n) k h r =
     ap₂ (λ (xs ys : List ReserveSignal). xs ++ ys) (same_reserves m vs us f g n (suc k) (λ j l. h j (omega (arith, l))) (λ j l. r j (omega (arith, l)))) (ap₂ (reserves_to m) (h k (omega arith)) (r k (omega arith)))
 
-pub same_puts : (m : ℕ) (vs us : ℕ → View) (f g : ℕ → Signal) (n k : ℕ) → ((j : ℕ) → j < k + n → f j ≡ g j) → ((j : ℕ) → j < k + n → (vs j).tickets m ≡ (us j).tickets m) → ((j : ℕ) → j < k + n → (vs j).ended.puts ≡ (us j).ended.puts) → all_puts m vs f n k ≡ all_puts m us g n k
+pub same_puts : (m : ℕ) (vs us : ℕ → View) (f g : ℕ → Signal) (n k : ℕ) → ((j : ℕ) → j < k + n → f j ≡ g j) → ((j : ℕ) → j < k + n → (vs j).tickets m ≡ (us j).tickets m)
+    → ((j : ℕ) → j < k + n → (vs j).ended.puts ≡ (us j).ended.puts) → all_puts m vs f n k ≡ all_puts m us g n k
 same_puts m vs us f g zero k h t r = refl
 same_puts m vs us f g (suc n) k h t r =
     let F = λ (x y : Signal) (ys : List Put). puts_to m x y ys in

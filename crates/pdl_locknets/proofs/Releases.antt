@@ -41,7 +41,8 @@ released_one m vs moves (suc n) k = lets_one m (moves k) (vs k).ended.lettings (
 pub lets_begin : (a : Circuit) (m : ℕ) (f : Signal) (xs : List LettingNet) (rest : Net) → IsThere a rest → Means a rest (lets m f (map (letting_in a) (drop (length xs - 0) xs)) (signal a rest))
 lets_begin a m f xs rest t = record { there = t; same = sym (ap (λ (ys : List LettingNet). lets m f (map (letting_in a) ys) (signal a rest)) (drop_all (length xs - 0) xs (omega arith))) }
 
-pub lets_end : (a b : Circuit) (m : ℕ) (f : Signal) (xs : List LettingNet) (i : ℕ) (net : Net) (rest : Signal) → length xs ≤ i → Means b net (lets m f (map (letting_in a) (drop (length xs - i) xs)) rest) → Means b net (lets m f (map (letting_in a) xs) rest)
+pub lets_end : (a b : Circuit) (m : ℕ) (f : Signal) (xs : List LettingNet) (i : ℕ) (net : Net) (rest : Signal) → length xs ≤ i → Means b net (lets m f (map (letting_in a) (drop (length xs - i) xs)) rest)
+    → Means b net (lets m f (map (letting_in a) xs) rest)
 lets_end a b m f xs i net rest l h = let z : length xs - i ≡ 0 = omega (arith, l) in subst (λ k. Means b net (lets m f (map (letting_in a) (drop k xs)) rest)) z h
 
 pub lets_more : (a b c : Circuit) (m : ℕ) (f g : Signal) (xs : List LettingNet) (i : ℕ) (x : LettingNet) (net y : Net) (rest : Signal) → Keeps a b → i < length xs → x ≡ get_or xs (length xs - 1 - i) x → Each (IsGivenLetting a) xs → g ≡ f

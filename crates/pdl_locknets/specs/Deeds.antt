@@ -1,6 +1,6 @@
 -- What the stages do to the locks, and what the law of a netlist sees of them.
 use Rattle.std.specs.Prelude.{◌≡◌, ℕ, ◌<◌, List, [], map, length, slice_index_or, Option}
-use Rattle.pdl_model.specs.Flat.{Pipe}
+use Rattle.pdl_semantics.specs.Flat.{Pipe}
 use Rattle.pdl_net.specs.Circuit.{Circuit}
 use Rattle.pdl_net.specs.Signal.{Signal, no_signal}
 use Rattle.pdl_net.specs.Meaning.{signal, IsThere}

@@ -1,8 +1,8 @@
 -- The laws of the locks in a circuit, which hold as they are made and stay as it grows.
 use Rattle.std.specs.Prelude.{◌≡◌, ℕ, ◌<◌, ◌≤◌, List, [], length, Option, Some}
-use Rattle.pdl_model.specs.Tree.{LockKind}
-use Rattle.pdl_model.specs.Flat.{Pipe}
-use Rattle.pdl_model.specs.Stages.{mem_at}
+use Rattle.pdl_semantics.specs.Tree.{LockKind}
+use Rattle.pdl_semantics.specs.Flat.{Pipe}
+use Rattle.pdl_semantics.specs.Stages.{mem_at}
 use Rattle.pdl_net.specs.Circuit.{Circuit, State, HasReg, array_depth}
 use Rattle.pdl_net.specs.Meaning.{signal, write_signals}
 use Rattle.pdl_lockapi.specs.declared.LockRegs.{LockRegs}

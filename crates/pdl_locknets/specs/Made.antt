@@ -1,7 +1,7 @@
 -- A memory's new array and lock.
 use Rattle.std.specs.Prelude.{◌≡◌, ℕ, ◌≤◌, List, length, Option, Some, is_some}
 use Rattle.pdl_kit.specs.declared.mem_info.MemInfo.{MemInfo}
-use Rattle.pdl_model.specs.Flat.{Mem}
+use Rattle.pdl_semantics.specs.Flat.{Mem}
 use Rattle.pdl_net.specs.Circuit.{Circuit}
 use Rattle.pdl_lockapi.specs.Laws.{first_reg}
 use Rattle.pdl_lockapi.specs.Forget.{as_lock}

@@ -1,7 +1,7 @@
 -- The steps of the locks: what they promise, and what of the circuit they change.
 use Rattle.std.specs.Prelude.{◌≡◌, ℕ, ◌^◌, ◌<◌, List, length, Option, Some, None, is_some}
-use Rattle.pdl_model.specs.Flat.{Mem, Pipe}
-use Rattle.pdl_model.specs.Stages.{mem_at}
+use Rattle.pdl_semantics.specs.Flat.{Mem, Pipe}
+use Rattle.pdl_semantics.specs.Stages.{mem_at}
 use Rattle.pdl_net.specs.Circuit.{Circuit, HasReg, HasArray, shapes_of}
 use Rattle.pdl_net.specs.Meaning.{IsThere, signal, next_signal, write_signals}
 use Rattle.pdl_net.specs.Growth.{Own, Outside, Keeps}

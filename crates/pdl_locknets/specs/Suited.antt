@@ -1,8 +1,8 @@
 -- Memories as their locks and arrays take them, and locks that suit them.
 use Rattle.std.specs.Prelude.{◌≡◌, ℕ, ◌+◌, ◌<◌, false, List, [], ◌∷◌, length, slice_index_or, Option, Some, is_some, ⊤}
 use Rattle.pdl_kit.specs.declared.mem_info.MemInfo.{MemInfo}
-use Rattle.pdl_model.specs.Flat.{Lock, Rename, Mem}
-use Rattle.pdl_model.specs.Stages.{mem_at}
+use Rattle.pdl_semantics.specs.Flat.{Lock, Rename, Mem}
+use Rattle.pdl_semantics.specs.Stages.{mem_at}
 use Rattle.pdl_net.specs.Circuit.{Shape}
 use Rattle.pdl_lockapi.specs.Forget.{as_lock}
 use Rattle.pdl_form.specs.Form.{Form}

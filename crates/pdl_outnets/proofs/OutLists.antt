@@ -2,8 +2,8 @@
 use Rattle.std.proofs.Common.{◌≡◌, ℕ, suc, ◌+◌, ◌-◌, ◌<◌, ◌≤◌, Bool, true, false, List, [], ◌∷◌, ◌++◌, map, length, get_or, if◌then◌else◌, codes, decimal, refl, sym, ap, ap₂, ◌∙◌, arith, append_assoc}
 use Rattle.std.specs.Prelude.{Option, Some, None, is_some}
 use Rattle.std.proofs.lemmas.List.{map-append, length-map}
-use Rattle.pdl_model.specs.Flat.{Mem, Pipe}
-use Rattle.pdl_model.specs.Stages.{plain_mem}
+use Rattle.pdl_semantics.specs.Flat.{Mem, Pipe}
+use Rattle.pdl_semantics.specs.Stages.{plain_mem}
 use Rattle.pdl_form.specs.declared.form.Mem as r_mem
 use Rattle.pdl_form.specs.View.{mem_view, mems_view, mem_names}
 use Rattle.pdl_net.specs.declared.Net.{Net}
@@ -92,7 +92,8 @@ last_means c (s ∷ ss) x h = let e : length ss ≡ length (s ∷ ss) - 1 = omeg
 
 -- ---- all outputs
 
-module _ (c : Circuit) (p : Pipe) (names : List (List ℕ)) (ss : List StageNets) (ns : List (Option LockNets)) (squash : Net) (some : 1 ≤ length ss) (count : length ss ≡ length p.stages) (named : length names ≡ length p.mems) (stages : AreThereStages c ss) (commits : AreCommits c p ns) (there : IsThere c squash) where
+module _ (c : Circuit) (p : Pipe) (names : List (List ℕ)) (ss : List StageNets) (ns : List (Option LockNets)) (squash : Net) (some : 1 ≤ length ss) (count : length ss ≡ length p.stages)
+    (named : length names ≡ length p.mems) (stages : AreThereStages c ss) (commits : AreCommits c p ns) (there : IsThere c squash) where
   pub all_there : OutsThere c (all_outs names ss ns squash)
   all_there =
       outs_more c (stages_outs 0 ss ++ commits_outs names ns) (out (codes "ended") (last_moves ss squash) ∷ out (codes "squash") squash ∷ [])

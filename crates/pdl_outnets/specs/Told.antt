@@ -1,6 +1,7 @@
 -- What outputs are told, and what they show of it.
 use Rattle.std.specs.Prelude.{◌≡◌, ℕ, ◌<◌, List, [], ◌∷◌, map, length, slice_index_or, Option, Some, None, is_some, ⊤}
-use Rattle.pdl_model.specs.Flat.{Pipe}
+use Rattle.pdl_semantics.specs.Flat.{Pipe}
+use Rattle.pdl_form.specs.Form.{Form}
 use Rattle.pdl_net.specs.declared.Net.{Net}
 use Rattle.pdl_net.specs.Circuit.{Circuit, Output}
 use Rattle.pdl_net.specs.Signal.{Signal, no_signal}
@@ -8,8 +9,9 @@ use Rattle.pdl_net.specs.Meaning.{signal, IsThere}
 use Rattle.pdl_lockapi.specs.declared.LockNets.{LockNets}
 use Rattle.pdl_pipe_law.specs.Walk.{is_locked}
 use Rattle.pdl_pipe_law.specs.Views.{View, Gates}
-use Rattle.pdl_pipe_law.specs.Ports.{Shown}
+use Rattle.pdl_pipe_law.specs.Ports.{Shown, all_shown}
 use Rattle.pdl_pipe_law.specs.Compiled.{shown_in}
+use Rattle.pdl_locknets.specs.Stepped.{commits_in}
 use Rattle.pdl_outnets.specs.declared.outputs.StageNets.{StageNets}
 use Rattle.pdl_outnets.specs.declared.outputs.OutNet.{OutNet}
 
@@ -58,3 +60,9 @@ OutsThere c (o ∷ os) = IsThere c o.net × OutsThere c os
 -- what outputs show
 abbrev pub shown_by : Circuit → List OutNet → List Shown
 shown_by c os = map (shown_in c) (map output_of os)
+
+-- outputs show what the law of a netlist asks, wherever these stages, this net of squashes and these commits are a netlist's
+abbrev pub ShowAll : Circuit → Form → List StageNets → Net → List (Option LockNets) → List OutNet → Type 0
+ShowAll c f ss x ns os =
+    (vs : ℕ → View) (gates : Gates) (moves : ℕ → Signal) (names : ℕ → List ℕ) → AreOf c ss x f.names vs gates moves names
+    → shown_by c os ≡ all_shown f.pipe names (commits_in c ns) vs gates moves

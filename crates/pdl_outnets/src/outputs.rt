@@ -1,15 +1,11 @@
 // What the netlist shows.
-ghost use Rattle.std.specs.Prelude.{◌≡◌, ◌<◌, ◌≤◌, ◌∷◌, ◌++◌, ℕ, List, [], Some, IfOk, OnOk, map, length, slice_index_or, codes, decimal};
+ghost use Rattle.std.specs.Prelude.{◌≡◌, ◌<◌, ◌≤◌, ◌∷◌, ◌++◌, [], Some, IfOk, OnOk, map, length, slice_index_or, codes, decimal};
 ghost use Rattle.pdl_form.specs.Whole.{form};
 ghost use Rattle.pdl_form.specs.View.{mem_names};
 ghost use Rattle.pdl_net.specs.Meaning.{IsThere};
 ghost use Rattle.pdl_net.specs.Growth.{ExtendsPorts};
-ghost use Rattle.pdl_pipe_law.specs.Views.{View, Gates};
-ghost use Rattle.pdl_pipe_law.specs.Ports.{all_shown};
 ghost use Rattle.pdl_pipe_law.specs.Compiled.{port_in};
-ghost use Rattle.pdl_net.specs.Signal.{Signal};
-ghost use Rattle.pdl_locknets.specs.Stepped.{commits_in};
-ghost use Rattle.pdl_outnets.specs.Told.{AreThereStages, AreCommits, AreOf, output_of, OutsThere, shown_by};
+ghost use Rattle.pdl_outnets.specs.Told.{AreThereStages, AreCommits, output_of, OutsThere, ShowAll};
 ghost use Rattle.pdl_outnets.specs.Listed.{stages_outs, commit_outs, commits_outs, last_moves, all_outs};
 
 use itoa::Buffer;
@@ -197,7 +193,7 @@ pub fn shown(
     requires commits { AreCommits _b.now (form pipe.now).pipe nets.now }
     requires squash { IsThere _b.now squash }
     ensures there { IfOk result (λ os. OutsThere _b.now os) }
-    ensures shown { IfOk result (λ os. (vs : ℕ → View) (gates : Gates) (moves : ℕ → Signal) (names : ℕ → List ℕ) → AreOf _b.now stages.now squash (form pipe.now).names vs gates moves names → shown_by _b.now os ≡ all_shown (form pipe.now).pipe names (commits_in _b.now nets.now) vs gates moves) }
+    ensures shown { IfOk result (ShowAll _b.now (form pipe.now) stages.now squash nets.now) }
 {
     all(alloc, pipe.mems(), stages, nets, squash)
 }

@@ -3,28 +3,25 @@ use Rattle.std.proofs.Common.{◌≡◌, refl, sym, ap, ◌∙◌, ℕ, true, Li
 use Rattle.std.specs.Prelude.{IsTrue}
 use Rattle.std.specs.List.{list_all}
 use Rattle.pdl_kit.specs.declared.rule.Rule.TheVariants.{Z7, N1, N2, N3, W1, W2, W3, W4, W5, W6}
-use Rattle.pdl_model.specs.Tree as tree
-use Rattle.pdl_model.specs.Flatten.{flat}
-use Rattle.pdl_model.specs.Stages.{is_verify}
+use Rattle.pdl_semantics.specs.Tree as tree
+use Rattle.pdl_semantics.specs.Flatten.{flat}
+use Rattle.pdl_semantics.specs.Stages.{is_verify}
 use Rattle.pdl_rules.specs.Places.{Place, Parameter, Memory, End, StartClause, places, statements}
-use Rattle.pdl_rules.specs.Refusal.{KeepsRules, is_comb, is_in_line}
+use Rattle.pdl_rules.specs.Refusal.{KeepsRules, is_comb}
 use Rattle.pdl_rules.proofs.Straight.{Each, Keeps}
 use Rattle.pdl_rules.proofs.Memories.{sized, all_deep, distinct}
 use Rattle.pdl_facts.specs.Scans.{none_of}
 use Rattle.pdl_pathfacts.specs.Source.{is_source, is_named}
-use Rattle.pdl_pathfacts.proofs.Whole.{of_source}
-use Rattle.pdl_promise.proofs.InLine.{checked_of, text_of}
 use Rattle.pdl_net.specs.declared.Netlist.{Netlist}
 use Rattle.pdl_net.specs.Circuit.{circuit_of}
 use Rattle.pdl_net.specs.Signal.{Signal}
 use Rattle.pdl_machine_facts.specs.Linear.{is_linear}
-use Rattle.pdl_machine_facts.proofs.FromSound.{checked_simple, text_simple}
-use Rattle.pdl_machine_facts.proofs.Fits.{fit_accepted, fit_simple, simple_source}
+use Rattle.pdl_lockuse.proofs.Sources.{simple_source}
 use Rattle.pdl_pipe_law.specs.Walk.{Locks}
 use Rattle.pdl_pipe_law.specs.Views.{View, no_gates}
 use Rattle.pdl_pipe_law.specs.Declared.{AreDeclared}
 use Rattle.pdl_pipe_law.specs.Follows.{Follows, IsMade}
-use Rattle.pdl_pipe_law.proofs.WellFormedMems.{comb_of, few_mems}
+use Rattle.pdl_pipe_law.proofs.WellFormedMems.{few_mems}
 use Rattle.pdl_pipe_law.proofs.WellFormedStages.{few_stages}
 use Rattle.pdl_pipe_law.proofs.Nothing.{nothing}
 use Rattle.pdl_pipe_law.proofs.FollowsMade.{follows}
@@ -81,13 +78,5 @@ declared p rules comb =
 pub follows_source : (p : tree.Pipe) → KeepsRules p → IsTrue (is_source p) → IsTrue (is_linear p.body) → list_all is_comb p.mems ≡ true → none_of is_verify (flat p).stmts ≡ true → IsTrue (is_named p)
     → (ls : Locks) (vs : ℕ → View) (moves : ℕ → Signal) (n : Netlist) → IsMade p ls vs (no_gates ls) moves n → ((k x : ℕ) → (vs k).begun.vars x ≡ (vs k).kept x) → Follows p n
 follows_source p rules source linear comb certain named ls vs moves n made same =
-    let simple = simple_source p rules source linear comb certain (of_source p rules source named) in
-    follows p (declared p rules comb) (few_stages p rules) (fit_simple (flat p) simple) ls vs (no_gates ls) moves n made
-    (nothing (flat p) (checked_simple (flat p) simple) (text_simple (flat p) simple) ls (circuit_of n) vs moves same)
-
--- without `if`, by the rules alone
-pub follows_accepted : (p : tree.Pipe) → IsTrue (is_in_line p) → KeepsRules p → (ls : Locks) (vs : ℕ → View) (moves : ℕ → Signal) (n : Netlist) → IsMade p ls vs (no_gates ls) moves n
-    → ((k x : ℕ) → (vs k).begun.vars x ≡ (vs k).kept x) → Follows p n
-follows_accepted p linear rules ls vs moves n made same =
-    follows p (declared p rules (comb_of p linear)) (few_stages p rules) (fit_accepted p linear rules) ls vs (no_gates ls) moves n made
-    (nothing (flat p) (checked_of p linear rules) (text_of p linear rules) ls (circuit_of n) vs moves same)
+    let simple = simple_source p rules source named linear comb certain in
+    follows p (declared p rules comb) (few_stages p rules) simple.fit ls vs (no_gates ls) moves n made (nothing (flat p) simple ls (circuit_of n) vs moves same)

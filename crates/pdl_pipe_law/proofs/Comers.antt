@@ -4,12 +4,12 @@ use Rattle.std.specs.Prelude.{if◌then◌else◌, slice_index, slice_index_or, 
 use Rattle.std.proofs.lemmas.Bool.{false≢true, eqb-true, leb-true, cases_lt}
 use Rattle.std.proofs.lemmas.List.{get_or-replicate, get_or_past, length-replicate, length-map}
 use Rattle.pdl_word.specs.Words.{bit}
-use Rattle.pdl_model.specs.Flat.{Next, Ends, Goes, Forks, Stmt, Stage, Pipe, start_env, taken}
-use Rattle.pdl_model.specs.Stages.{stage_at, goes_to, list_any, reserve_stage, commit_stage, is_verify}
-use Rattle.pdl_model.specs.Machine as machine
-use Rattle.pdl_model.specs.Machine.{Thread, Place, deeds, held_before, held_after, is_held, with_kept}
-use Rattle.pdl_model.specs.Moves.{next_stage}
-use Rattle.pdl_model.specs.Cycle.{is_stage, born, child_of, moved, or_then, releases, list_three, stays, squasher}
+use Rattle.pdl_semantics.specs.Flat.{Next, Ends, Goes, Forks, Stmt, Stage, Pipe, start_env, taken}
+use Rattle.pdl_semantics.specs.Stages.{stage_at, goes_to, list_any, reserve_stage, commit_stage, is_verify}
+use Rattle.pdl_semantics.specs.Machine as machine
+use Rattle.pdl_semantics.specs.Machine.{Thread, Place, deeds, held_before, held_after, is_held, with_kept}
+use Rattle.pdl_semantics.specs.Moves.{next_stage}
+use Rattle.pdl_semantics.specs.Cycle.{is_stage, born, child_of, moved, or_then, releases, list_three, stays, squasher}
 use Rattle.pdl_net.specs.Circuit.{State}
 use Rattle.pdl_net.specs.Signal.{Signal, no_signal}
 use Rattle.pdl_lockapi.specs.Laws.{holds_ticket}

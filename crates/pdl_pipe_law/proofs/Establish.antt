@@ -6,25 +6,20 @@ use Rattle.std.proofs.lemmas.List.{get_or-map}
 use Rattle.std.proofs.lemmas.Bool.{false≢true, or_left, or_right}
 use Rattle.pdl_word.specs.Words as words
 use Rattle.pdl_word.specs.Words.{bit, mux}
-use Rattle.pdl_model.specs.Tree as tree
-use Rattle.pdl_model.specs.Flat.{Expr, Constant, Variable, Slice, Not, Binary, Cat, LessSigned, ZeroExtend, SignExtend, Choose, Guard, Pipe, applied, takes, value_of}
-use Rattle.pdl_model.specs.Flatten.{flat_expr}
-use Rattle.pdl_model.specs.Stages.{mem_at}
-use Rattle.pdl_rules.specs.Typed.{IsTyped}
+use Rattle.pdl_semantics.specs.Flat.{Expr, Constant, Variable, Slice, Not, Binary, Cat, LessSigned, ZeroExtend, SignExtend, Choose, Guard, Pipe, applied, takes, value_of}
+use Rattle.pdl_semantics.specs.Stages.{mem_at}
 use Rattle.pdl_net.specs.declared.Reg.{Reg}
 use Rattle.pdl_net.specs.Circuit.{Circuit, State, HasReg, reg_reset, no_reg, array_depth}
 use Rattle.pdl_net.specs.Signal.{Signal, const_value, reg_value, mux_value, const_signal, reg_signal, mux_signal}
 use Rattle.pdl_net.specs.Meaning.{next_signal}
 use Rattle.pdl_net.proofs.Keeps.{next_reg}
-use Rattle.pdl_build.specs.Expr.{Named, vars_of, values_in, expr_signal}
-use Rattle.pdl_build.proofs.Values.{AreBounded, expr_value}
 use Rattle.pdl_lockapi.specs.declared.Kind.TheVariants as look_kind
 use Rattle.pdl_lockapi.specs.Lock.{is_ready}
 use Rattle.pdl_lockapi.specs.declared.LockRegs.{LockRegs}
 use Rattle.pdl_lockapi.specs.Forget.{as_lock}
 use Rattle.pdl_lockapi.specs.Laws.{first_reg, end_reg, first_array, end_array, own, words_of, HasImage, FitsIn, StartLaw, RoomLaw, TicketLaw, LookLaw, StepLaw}
 use Rattle.pdl_pipe_law.specs.Lives.{uses}
-use Rattle.pdl_pipe_law.specs.Walk.{Locks, Walk, is_locked, one, zero_bit, both, if_on, is_on, taken_in, HasValue, look_of, ThroughLock, IsWord}
+use Rattle.pdl_pipe_law.specs.Walk.{Locks, Walk, is_locked, one, zero_bit, both, if_on, is_on, taken_in, look_of, ThroughLock, IsWord}
 use Rattle.pdl_pipe_law.specs.Views.{View, Gates, Comer, picked}
 use Rattle.pdl_pipe_law.specs.Compiled.{Becomes, StartsAs, HasLock}
 use Rattle.pdl_pipe_law.specs.Ports.{Commit, step_of}
@@ -140,10 +135,6 @@ value_agrees (ZeroExtend wide a) env other h = ap words.zext (value_agrees a env
 value_agrees (SignExtend w wide a) env other h = ap (words.sext w wide) (value_agrees a env other h)
 value_agrees (Choose c a b) env other h =
     rw (value_agrees c env other (λ x u. h x (or_left (uses c x) (uses a x || uses b x) u)), value_agrees a env other (λ x u. h x (or_right (uses c x) (uses a x || uses b x) (or_left (uses a x) (uses b x) u))), value_agrees b env other (λ x u. h x (or_right (uses c x) (uses a x || uses b x) (or_right (uses a x) (uses b x) u)))) refl
-
--- the signal that the builder makes of an expression has its value, where the walk's variables are those of the builder as far as the expression uses them
-pub has_value : (s : State) (vs : List Named) (e : tree.Expr) (w : Walk) → AreBounded s vs → IsTyped (vars_of vs) e → ((x : ℕ) → uses (flat_expr (vars_of vs) e) x ≡ true → (w.vars x).value s ≡ slice_index (values_in s vs) x) → HasValue (flat_expr (vars_of vs) e) w (expr_signal vs e) s
-has_value s vs e w b t h env g = expr_value s vs b e t ∙ sym (value_agrees (flat_expr (vars_of vs) e) env (values_in s vs) (λ x u. g x u ∙ h x u))
 
 -- LOOKS
 

@@ -3,7 +3,7 @@ use Rattle.std.proofs.Common.{◌≡◌, refl, sym, ap, ◌∙◌, ℕ, zero, su
 use Rattle.std.specs.Prelude.{slice_index, ◌==◌, ◌||◌}
 use Rattle.std.proofs.lemmas.Bool.{false≢true}
 use Rattle.pdl_word.specs.Words as words
-use Rattle.pdl_model.specs.Flat.{Variable, Not as NotExpr, Call, Guard, Stmt, Ends, Pipe, start_env}
+use Rattle.pdl_semantics.specs.Flat.{Variable, Not as NotExpr, Call, Guard, Stmt, Ends, Pipe, start_env}
 use Rattle.pdl_net.specs.declared.Net.TheVariants.{Reg as RegNet, Cell as CellNet}
 use Rattle.pdl_net.specs.declared.Cell.TheVariants.{Const, Not, Mux}
 use Rattle.pdl_net.specs.Circuit.{Circuit, Output, HasReg, reg_reset}
@@ -13,14 +13,13 @@ use Rattle.pdl_pipe_law.specs.Lives.{lives}
 use Rattle.pdl_pipe_law.specs.Walk.{Locks, Walk, Row, IsRow, one, zero_bit, after}
 use Rattle.pdl_pipe_law.specs.Views.{View, Comer, comers, picked, no_gates}
 use Rattle.pdl_pipe_law.specs.Compiled.{Becomes, StartsAs, IsStage, IsCompiled, port_in}
-use Rattle.std.specs.Prelude.{IsTrue}
+use Rattle.pdl_semantics.specs.Stages.{stage_at}
 use Rattle.pdl_net.specs.declared.Netlist.{Netlist}
 use Rattle.pdl_net.specs.Pipe.{IsWellFormed}
-use Rattle.pdl_facts.specs.Checks.{passes}
-use Rattle.pdl_facts.proofs.Passes.{checked, text}
-use Rattle.pdl_machine_facts.proofs.EarlyPaths.{early_paths}
+use Rattle.pdl_machine_facts.specs.Linear.{IsLinear, IsSimple}
+use Rattle.pdl_lockuse.proofs.Tried.{simple_tested}
 use Rattle.pdl_pipe_law.specs.Runs.{ShowsMachine}
-use Rattle.pdl_pipe_law.proofs.Runs.{shows_linear}
+use Rattle.pdl_pipe_law.proofs.Runs.{shows_machine}
 use Rattle.pdl_pipe_law.proofs.Establish.{all_taken, taken_is, becomes_reg, starts_reg}
 
 -- a thread holds one bit, and calls with it turned where it is 1, and as it is where it is 0
@@ -85,8 +84,23 @@ net = record bare { ports = map (port_in bare) outs }
 abbrev pub netlist : Netlist
 netlist = record { name = codes "guarded"; ports = net.ports; regs = net.regs; arrays = net.arrays; cells = net.cells; mems = [] }
 
-tested : IsTrue (passes guarded)
-tested = refl
+in_line : IsLinear guarded
+in_line = record { goes_on = λ s l. absurd (omega (arith, l)); ends = ends; no_branch = none_of_branch; no_merge = none_of_merge; in_order = refl }
+  where
+    ends : (s : ℕ) → suc s ≡ 1 → (stage_at guarded s).next ≡ Ends
+    ends zero e = refl
+    ends (suc s) e = refl
+
+    none_of_branch : (s : ℕ) → (stage_at guarded s).branch ≡ None
+    none_of_branch zero = refl
+    none_of_branch (suc s) = refl
+
+    none_of_merge : (s : ℕ) → (stage_at guarded s).merges ≡ None
+    none_of_merge zero = refl
+    none_of_merge (suc s) = refl
+
+simple : IsSimple guarded
+simple = simple_tested guarded refl refl refl refl refl in_line
 
 -- its registers as signals, and its walk
 abbrev valid : Signal
@@ -198,5 +212,5 @@ module _ (ls : Locks) where
 
   -- so it shows the machine
   pub shows : (names : ℕ → List ℕ) → IsWellFormed netlist → ShowsMachine guarded netlist
-  shows names formed = shows_linear guarded (checked guarded tested) (text guarded tested refl) (early_paths guarded refl) names ls views leaving netlist (compiled names) (λ k x. refl)
+  shows names formed = shows_machine guarded simple names ls views leaving netlist (compiled names) (λ k x. refl)
       (record { in_order = λ m l. absurd (omega (arith, l)); count = refl; depth = λ m d l. absurd (omega (arith, l)) }) formed refl

@@ -4,12 +4,12 @@ use Rattle.std.specs.Prelude.{if◌then◌else◌, slice_index, slice_index_or, 
 use Rattle.std.proofs.lemmas.Bool.{cases_lt, ne_eqb}
 use Rattle.std.proofs.lemmas.List.{get_or-drop, get_or_past, get_or-replicate, length-replicate}
 use Rattle.pdl_word.specs.Words.{bit}
-use Rattle.pdl_model.specs.Flat as model
-use Rattle.pdl_model.specs.Flat.{Pipe, arrays_of, start_env}
-use Rattle.pdl_model.specs.Stages.{mem_at, reserve_stage}
-use Rattle.pdl_model.specs.Machine as machine
-use Rattle.pdl_model.specs.Machine.{Thread, Pending, is_held, with_kept}
-use Rattle.pdl_model.specs.Cycle.{first, born, for_mems}
+use Rattle.pdl_semantics.specs.Flat as model
+use Rattle.pdl_semantics.specs.Flat.{Pipe, arrays_of, start_env}
+use Rattle.pdl_semantics.specs.Stages.{mem_at, reserve_stage}
+use Rattle.pdl_semantics.specs.Machine as machine
+use Rattle.pdl_semantics.specs.Machine.{Thread, Pending, is_held, with_kept}
+use Rattle.pdl_semantics.specs.Cycle.{first, born, for_mems}
 use Rattle.pdl_net.specs.declared.Reg.{Reg}
 use Rattle.pdl_net.specs.declared.Array.{Array}
 use Rattle.pdl_net.specs.Circuit.{Circuit, State, HasArray, array_depth, no_array}

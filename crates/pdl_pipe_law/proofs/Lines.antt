@@ -4,12 +4,12 @@ use Rattle.std.specs.Prelude.{slice_index}
 use Rattle.std.proofs.lemmas.List.{length-map, length-append, get_or_at}
 use Rattle.pdl_word.specs.Words.{bit}
 use Rattle.pdl_kit.specs.declared.mem_info.MemInfo.{MemInfo}
-use Rattle.pdl_model.specs.Tree.{Mem}
-use Rattle.pdl_model.specs.Flat.{Pipe, arrays_of}
-use Rattle.pdl_model.specs.Flat
-use Rattle.pdl_model.specs.Flatten.{mems_of}
-use Rattle.pdl_model.specs.Cycle.{Ports, Turn, turns}
-use Rattle.pdl_model.specs.Lines.{Put, Cycle, put_of, puts_in, turn_cycle, turn_cycles}
+use Rattle.pdl_semantics.specs.Tree.{Mem}
+use Rattle.pdl_semantics.specs.Flat.{Pipe, arrays_of}
+use Rattle.pdl_semantics.specs.Flat
+use Rattle.pdl_semantics.specs.Flatten.{mems_of}
+use Rattle.pdl_semantics.specs.Cycle.{Ports, Turn, turns}
+use Rattle.pdl_semantics.specs.Lines.{Put, Cycle, put_of, puts_in, turn_cycle, turn_cycles}
 use Rattle.pdl_rules.specs.Typed.{AreDistinct}
 use Rattle.pdl_net.specs.declared.Netlist.{Netlist}
 use Rattle.pdl_net.specs.Circuit.{circuit_of, outputs_of}

@@ -6,10 +6,10 @@ use Rattle.std.specs.Option.{is_some}
 use Rattle.std.proofs.lemmas.Bool.{or_parts}
 use Rattle.pdl_word.specs.Words.{bit}
 use Rattle.pdl_kit.specs.declared.mem_info.MemInfo.{MemInfo}
-use Rattle.pdl_model.specs.Tree.{LockDecl, Mem}
-use Rattle.pdl_model.specs.Flatten.{mems_of, lock_of}
-use Rattle.pdl_model.specs.Cycle.{PortWrite}
-use Rattle.pdl_model.specs.Lines.{Put, put_of, puts_in}
+use Rattle.pdl_semantics.specs.Tree.{LockDecl, Mem}
+use Rattle.pdl_semantics.specs.Flatten.{mems_of, lock_of}
+use Rattle.pdl_semantics.specs.Cycle.{PortWrite}
+use Rattle.pdl_semantics.specs.Lines.{Put, put_of, puts_in}
 use Rattle.pdl_rules.specs.Typed.{is_memory, AreDistinct}
 use Rattle.pdl_facts.specs.Scans.{is_plain}
 use Rattle.pdl_machine_facts.proofs.LockKinds.{lock_is, shown_values, commits_same}

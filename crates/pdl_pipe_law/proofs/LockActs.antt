@@ -4,13 +4,13 @@ use Rattle.std.specs.Prelude.{if◌then◌else◌, ⊤, Contains}
 use Rattle.std.proofs.lemmas.Bool.{false≢true, and_parts, cases_lt}
 use Rattle.std.proofs.lemmas.List.{length-map}
 use Rattle.pdl_word.specs.Words.{bit}
-use Rattle.pdl_model.specs.Flat.{Pipe}
-use Rattle.pdl_model.specs.Stages.{mem_at, commit_stage, list_any}
-use Rattle.pdl_model.specs.Locks as locks
-use Rattle.pdl_model.specs.Machine as machine
-use Rattle.pdl_model.specs.Machine.{Thread, Pending, Reserved, Written, deeds}
-use Rattle.pdl_model.specs.Moves.{Act as Mover, blocks_ready, have_room}
-use Rattle.pdl_model.specs.Cycle.{appended, filled, put_all, releases, list_two, list_three, but_oldest, squasher}
+use Rattle.pdl_semantics.specs.Flat.{Pipe}
+use Rattle.pdl_semantics.specs.Stages.{mem_at, commit_stage, list_any}
+use Rattle.pdl_semantics.specs.Locks as locks
+use Rattle.pdl_semantics.specs.Machine as machine
+use Rattle.pdl_semantics.specs.Machine.{Thread, Pending, Reserved, Written, deeds}
+use Rattle.pdl_semantics.specs.Moves.{Act as Mover, blocks_ready, have_room}
+use Rattle.pdl_semantics.specs.Cycle.{appended, filled, put_all, releases, list_two, list_three, but_oldest, squasher}
 use Rattle.pdl_net.specs.Circuit.{State}
 use Rattle.pdl_net.specs.Signal.{Signal}
 use Rattle.pdl_lockapi.specs.Lock.{WriteAct, Act, LockState, written, entry_at, Proper}

@@ -3,11 +3,11 @@ use Rattle.std.proofs.Common.{◌≡◌, refl, sym, ap, ap₂, ◌∙◌, ℕ, z
 use Rattle.std.specs.Prelude.{if◌then◌else◌, ⊤}
 use Rattle.std.proofs.lemmas.Bool.{false≢true, and_parts, eqb-true}
 use Rattle.pdl_word.specs.Words.{bit}
-use Rattle.pdl_model.specs.Flat.{Pipe, list_all}
-use Rattle.pdl_model.specs.Stages.{mem_at, list_any}
-use Rattle.pdl_model.specs.Locks as locks
-use Rattle.pdl_model.specs.Machine as machine
-use Rattle.pdl_model.specs.Machine.{Thread, Pending, Reserved, Written, deeds}
+use Rattle.pdl_semantics.specs.Flat.{Pipe, list_all}
+use Rattle.pdl_semantics.specs.Stages.{mem_at, list_any}
+use Rattle.pdl_semantics.specs.Locks as locks
+use Rattle.pdl_semantics.specs.Machine as machine
+use Rattle.pdl_semantics.specs.Machine.{Thread, Pending, Reserved, Written, deeds}
 use Rattle.pdl_net.specs.Circuit.{State}
 use Rattle.pdl_net.specs.Signal.{Signal, mux_signal}
 use Rattle.pdl_lockapi.specs.Lock.{WriteAct, Act, LockState, written, entry_at, Proper}

@@ -4,15 +4,15 @@ use Rattle.std.specs.Prelude.{if◌then◌else◌, slice_set, slice_index}
 use Rattle.std.proofs.lemmas.Bool.{cases_eq}
 use Rattle.std.proofs.lemmas.List.{length-map, length-set, get_or-set_same, get_or-set_other}
 use Rattle.pdl_word.specs.Words.{bit}
-use Rattle.pdl_model.specs.Tree.{LockKind}
-use Rattle.pdl_model.specs.Flat as model
-use Rattle.pdl_model.specs.Flat.{Pipe, Arrays, with_word, with_value}
-use Rattle.pdl_model.specs.Stages.{mem_at}
-use Rattle.pdl_model.specs.Locks.{commit_value}
-use Rattle.pdl_model.specs.Machine as machine
-use Rattle.pdl_model.specs.Machine.{Thread, Pending}
-use Rattle.pdl_model.specs.Cycle.{releases, list_two, list_three, but_oldest, oldest, taken_out, port_write, with_commit, entries_left, stays, squasher}
-use Rattle.pdl_model.specs.Moves.{Act as Mover}
+use Rattle.pdl_semantics.specs.Tree.{LockKind}
+use Rattle.pdl_semantics.specs.Flat as model
+use Rattle.pdl_semantics.specs.Flat.{Pipe, Arrays, with_word, with_value}
+use Rattle.pdl_semantics.specs.Stages.{mem_at}
+use Rattle.pdl_semantics.specs.Locks.{commit_value}
+use Rattle.pdl_semantics.specs.Machine as machine
+use Rattle.pdl_semantics.specs.Machine.{Thread, Pending}
+use Rattle.pdl_semantics.specs.Cycle.{releases, list_two, list_three, but_oldest, oldest, taken_out, port_write, with_commit, entries_left, stays, squasher}
+use Rattle.pdl_semantics.specs.Moves.{Act as Mover}
 use Rattle.pdl_net.specs.Circuit.{Circuit, State}
 use Rattle.pdl_net.specs.Signal.{Signal}
 use Rattle.pdl_net.specs.Growth.{Own}

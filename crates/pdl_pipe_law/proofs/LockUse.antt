@@ -3,9 +3,9 @@ use Rattle.std.proofs.Common.{◌≡◌, refl, sym, ap, ap₂, ◌∙◌, subst,
 use Rattle.std.specs.Prelude.{if◌then◌else◌, Contains}
 use Rattle.std.proofs.lemmas.Bool.{cases_lt, false≢true, eqb-true}
 use Rattle.std.proofs.lemmas.Bool.Decides.{eqb_tells}
-use Rattle.pdl_model.specs.Machine.{Pending, Reserved, Written}
-use Rattle.pdl_model.specs.Moves.{Act}
-use Rattle.pdl_model.specs.Cycle.{new_entries, appended, put, put_all}
+use Rattle.pdl_semantics.specs.Machine.{Pending, Reserved, Written}
+use Rattle.pdl_semantics.specs.Moves.{Act}
+use Rattle.pdl_semantics.specs.Cycle.{new_entries, appended, put, put_all}
 use Rattle.pdl_net.specs.Circuit.{State}
 use Rattle.pdl_lockapi.specs.Lock.{WriteAct, act_at, written}
 use Rattle.pdl_lockapi.specs.Lock as lock

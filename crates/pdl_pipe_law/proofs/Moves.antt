@@ -2,11 +2,11 @@
 use Rattle.std.proofs.Common.{◌≡◌, refl, sym, ap, ap₂, ◌∙◌, subst, ℕ, zero, suc, ◌+◌, ◌-◌, ◌<◌, ◌≤◌, Bool, true, false, ◌&&◌, ◌||◌, List, [], ◌∷◌, length, drop, Option, Some, None, is_some, is_none, arith, ◌==◌}
 use Rattle.std.specs.Prelude.{slice_index, slice_index_or, if◌then◌else◌}
 use Rattle.pdl_word.specs.Words.{bit}
-use Rattle.pdl_model.specs.Flat.{Next, Ends, Goes, Forks, Stage, Pipe}
-use Rattle.pdl_model.specs.Stages.{stage_at, goes_to, last_stage, list_any}
-use Rattle.pdl_model.specs.Machine as machine
-use Rattle.pdl_model.specs.Machine.{Thread, deeds}
-use Rattle.pdl_model.specs.Moves.{is_empty, next_stage}
+use Rattle.pdl_semantics.specs.Flat.{Next, Ends, Goes, Forks, Stage, Pipe}
+use Rattle.pdl_semantics.specs.Stages.{stage_at, goes_to, last_stage, list_any}
+use Rattle.pdl_semantics.specs.Machine as machine
+use Rattle.pdl_semantics.specs.Machine.{Thread, deeds}
+use Rattle.pdl_semantics.specs.Moves.{is_empty, next_stage}
 use Rattle.pdl_net.specs.Circuit.{Circuit, State}
 use Rattle.pdl_net.specs.Signal.{Signal}
 use Rattle.pdl_net.specs.Well.{Suits}

@@ -4,12 +4,12 @@ use Rattle.std.specs.Prelude.{if◌then◌else◌, slice_index, slice_index_or, 
 use Rattle.std.proofs.lemmas.Bool.{false≢true, cases_lt, leb-true}
 use Rattle.std.proofs.lemmas.List.{length-map, get_or_past}
 use Rattle.pdl_word.specs.Words.{bit}
-use Rattle.pdl_model.specs.Flat.{Pipe}
-use Rattle.pdl_model.specs.Stages.{plain_mem, mem_at, reserve_stage, commit_stage}
-use Rattle.pdl_model.specs.Machine as machine
-use Rattle.pdl_model.specs.Machine.{Thread, Pending, held_before, is_held, with_kept}
-use Rattle.pdl_model.specs.Moves.{next_stage}
-use Rattle.pdl_model.specs.Cycle.{cycle, or_then, if_stays, is_stage, moved, squasher, stays as removed, releases, list_two, list_three, with_commit, oldest, entries_left}
+use Rattle.pdl_semantics.specs.Flat.{Pipe}
+use Rattle.pdl_semantics.specs.Stages.{plain_mem, mem_at, reserve_stage, commit_stage}
+use Rattle.pdl_semantics.specs.Machine as machine
+use Rattle.pdl_semantics.specs.Machine.{Thread, Pending, held_before, is_held, with_kept}
+use Rattle.pdl_semantics.specs.Moves.{next_stage}
+use Rattle.pdl_semantics.specs.Cycle.{cycle, or_then, if_stays, is_stage, moved, squasher, stays as removed, releases, list_two, list_three, with_commit, oldest, entries_left}
 use Rattle.pdl_net.specs.Circuit.{Circuit, State, HasArray, HasReg}
 use Rattle.pdl_net.specs.Signal.{Signal, no_signal, mux_signal}
 use Rattle.pdl_net.specs.Cycle.{next_regs, next_arrays}
@@ -38,13 +38,13 @@ use Rattle.pdl_pipe_law.proofs.Comers.{first_come, brought, picked_is, AreAlike,
 pub mem_there : (p : Pipe) (m a : ℕ) → a < (mem_at p m).depth → m < length p.mems
 mem_there p m a l = ⊎_elim
     (λ (h : m < length p.mems). h)
-    (λ (h : length p.mems ≤ m). absurd (let z = ap (λ (x : Rattle.pdl_model.specs.Flat.Mem). x.depth) (get_or_past p.mems m plain_mem h) in omega (arith, z, l)))
+    (λ (h : length p.mems ≤ m). absurd (let z = ap (λ (x : Rattle.pdl_semantics.specs.Flat.Mem). x.depth) (get_or_past p.mems m plain_mem h) in omega (arith, z, l)))
     (cases_lt m (length p.mems))
 
 pub lock_there : (p : Pipe) (m : ℕ) → is_locked p m ≡ true → m < length p.mems
 lock_there p m e = ⊎_elim
     (λ (h : m < length p.mems). h)
-    (λ (h : length p.mems ≤ m). absurd (false≢true (sym (ap (λ (x : Rattle.pdl_model.specs.Flat.Mem). Rattle.pdl_pipe_law.specs.Walk.has_kind x.lock) (get_or_past p.mems m plain_mem h)) ∙ e)))
+    (λ (h : length p.mems ≤ m). absurd (false≢true (sym (ap (λ (x : Rattle.pdl_semantics.specs.Flat.Mem). Rattle.pdl_pipe_law.specs.Walk.has_kind x.lock) (get_or_past p.mems m plain_mem h)) ∙ e)))
     (cases_lt m (length p.mems))
 
 -- who comes isn't removed

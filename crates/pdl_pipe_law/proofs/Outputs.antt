@@ -3,12 +3,12 @@ use Rattle.std.proofs.Common.{◌≡◌, refl, sym, ap, ap₂, ◌∙◌, subst,
 use Rattle.std.specs.Prelude.{if◌then◌else◌, slice_index_or, filter_map}
 use Rattle.std.proofs.lemmas.List.{map-append}
 use Rattle.pdl_word.specs.Words.{bit}
-use Rattle.pdl_model.specs.Flat.{Lock, Mem, Stage, Pipe}
-use Rattle.pdl_model.specs.Stages.{plain_mem, mem_at}
-use Rattle.pdl_model.specs.Machine as machine
-use Rattle.pdl_model.specs.Machine.{Thread, Pending}
-use Rattle.pdl_model.specs.Moves.{Act}
-use Rattle.pdl_model.specs.Cycle.{for_stages, for_mems, taken_out, port_write}
+use Rattle.pdl_semantics.specs.Flat.{Lock, Mem, Stage, Pipe}
+use Rattle.pdl_semantics.specs.Stages.{plain_mem, mem_at}
+use Rattle.pdl_semantics.specs.Machine as machine
+use Rattle.pdl_semantics.specs.Machine.{Thread, Pending}
+use Rattle.pdl_semantics.specs.Moves.{Act}
+use Rattle.pdl_semantics.specs.Cycle.{for_stages, for_mems, taken_out, port_write}
 use Rattle.pdl_net.specs.Circuit.{Circuit, State, Output, port_output, outputs_of}
 use Rattle.pdl_net.specs.Signal.{Signal}
 use Rattle.pdl_net.specs.Cycle.{net_value, output_values}

@@ -1,9 +1,8 @@
 -- A compiled netlist shows in each cycle what the machine shows.
 use Rattle.std.proofs.Common.{◌≡◌, refl, sym, ap, ap₂, ◌∙◌, subst, ℕ, Bool, false, List, [], ◌∷◌, ◌++◌, length, map, drop, take, None, arith}
-use Rattle.pdl_model.specs.Flat.{Pipe, arrays_of}
-use Rattle.pdl_model.specs.Machine as machine
-use Rattle.pdl_model.specs.Cycle.{first, cycle, state_after, turns_from}
-use Rattle.pdl_facts.specs.Accepted.{Checked, Text}
+use Rattle.pdl_semantics.specs.Flat.{Pipe, arrays_of}
+use Rattle.pdl_semantics.specs.Machine as machine
+use Rattle.pdl_semantics.specs.Cycle.{first, cycle, state_after, turns_from}
 use Rattle.pdl_net.specs.declared.Reg.{Reg}
 use Rattle.pdl_net.specs.declared.Netlist.{Netlist}
 use Rattle.pdl_net.specs.Circuit.{Circuit, State, circuit_of}
@@ -18,10 +17,8 @@ use Rattle.pdl_netrun.proofs.Loaded.{holds_start, image_fits, no_inputs}
 use Rattle.pdl_kit.specs.declared.mem_info.MemInfo.{MemInfo}
 use Rattle.pdl_machine_facts.specs.Cycle.{IsByStages, IsCalm}
 use Rattle.pdl_machine_facts.specs.Use.{IsInUse}
-use Rattle.pdl_machine_facts.specs.Linear.{IsTimely, IsSimple}
+use Rattle.pdl_machine_facts.specs.Linear.{IsSimple}
 use Rattle.pdl_machine_facts.specs.Fit.{IsFit}
-use Rattle.pdl_machine_facts.proofs.FromSound.{checked_simple, text_simple, timely_simple}
-use Rattle.pdl_machine_facts.proofs.Fits.{fit_linear}
 use Rattle.pdl_pipe_law.specs.Walk.{Locks}
 use Rattle.pdl_pipe_law.specs.Views.{Gates, View, no_gates}
 use Rattle.pdl_pipe_law.specs.Compiled.{IsCompiled}
@@ -120,12 +117,7 @@ module _ (p : Pipe) (fit : IsFit p) (names : ℕ → List ℕ) (ls : Locks) (vs 
 -- LINEAR PIPES
 
 -- with guards and any locks, memories that answer at once and no guesses: nothing stands beside the stages
-pub shows_linear : (p : Pipe) → Checked p → Text p → IsTimely p → (names : ℕ → List ℕ) (ls : Locks) (vs : ℕ → View) (moves : ℕ → Signal) (n : Netlist) → IsCompiled p names ls vs (no_gates ls) moves (circuit_of n)
-    → ((k x : ℕ) → (vs k).begun.vars x ≡ (vs k).kept x) → HasMems p ls n → IsWellFormed n → delayed_mems n ≡ [] → ShowsMachine p n
-shows_linear p acc text timely names ls vs moves n made same mems formed none =
-    shows_beside p (fit_linear p acc text timely) names ls vs (no_gates ls) moves n made (nothing p acc text ls (circuit_of n) vs moves same) mems formed none
-
--- by the facts of the whole language
 pub shows_machine : (p : Pipe) → IsSimple p → (names : ℕ → List ℕ) (ls : Locks) (vs : ℕ → View) (moves : ℕ → Signal) (n : Netlist) → IsCompiled p names ls vs (no_gates ls) moves (circuit_of n)
     → ((k x : ℕ) → (vs k).begun.vars x ≡ (vs k).kept x) → HasMems p ls n → IsWellFormed n → delayed_mems n ≡ [] → ShowsMachine p n
-shows_machine p simple = shows_linear p (checked_simple p simple) (text_simple p simple) (timely_simple p simple)
+shows_machine p simple names ls vs moves n made same mems formed none =
+    shows_beside p simple.fit names ls vs (no_gates ls) moves n made (nothing p simple ls (circuit_of n) vs moves same) mems formed none

@@ -2,8 +2,8 @@
 use Rattle.std.proofs.Common.{◌≡◌, refl, ap, ◌∙◌, ℕ, Bool, true, false, ◌&&◌, List, [], ◌∷◌, ◌++◌, ◌==◌}
 use Rattle.std.specs.Prelude.{if◌then◌else◌}
 use Rattle.pdl_word.specs.Words.{bit, mux}
-use Rattle.pdl_model.specs.Machine.{Reserved, Written}
-use Rattle.pdl_model.specs.Machine as machine
+use Rattle.pdl_semantics.specs.Machine.{Reserved, Written}
+use Rattle.pdl_semantics.specs.Machine as machine
 use Rattle.pdl_net.specs.Circuit.{State}
 use Rattle.pdl_net.specs.Signal.{Signal, const_value, mux_value, mux_signal}
 use Rattle.pdl_pipe_law.specs.Walk.{Reservation, Put, Letting, one, zero_bit, both, if_on, is_on, Ask}

@@ -3,9 +3,9 @@ use Rattle.std.proofs.Common.{◌≡◌, ℕ, Bool, true, false, List, [], ◌�
 use Rattle.std.specs.Prelude.{Some, ◌==◌, if◌then◌else◌, not}
 use Rattle.std.proofs.lemmas.Bool.{or_right, or_left}
 use Rattle.pdl_word.specs.Words.{bit}
-use Rattle.pdl_model.specs.Flat.{Expr, Call, Pipe, taken, values_of, DelayedRead, SpecCall, Verify, SpecCheck, SpecBarrier}
-use Rattle.pdl_model.specs.Machine as machine
-use Rattle.pdl_model.specs.Machine.{Thread, Place, Blocked, Reserved, Deeds, does, is_held, let_go, older_write, word_for, same_args}
+use Rattle.pdl_semantics.specs.Flat.{Expr, Call, Pipe, taken, values_of, DelayedRead, SpecCall, Verify, SpecCheck, SpecBarrier}
+use Rattle.pdl_semantics.specs.Machine as machine
+use Rattle.pdl_semantics.specs.Machine.{Thread, Place, Blocked, Reserved, Deeds, does, is_held, let_go, older_write, word_for, same_args}
 use Rattle.pdl_net.specs.Circuit.{Circuit, State}
 use Rattle.pdl_net.specs.Signal.{Signal}
 use Rattle.pdl_machine_facts.specs.Slots.{is_ready}

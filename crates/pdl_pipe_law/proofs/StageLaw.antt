@@ -3,10 +3,10 @@ use Rattle.std.proofs.Common.{◌≡◌, ℕ, Bool, true, false, ◌&&◌, List,
 use Rattle.std.specs.Prelude.{Some, ◌==◌, nat_le, if◌then◌else◌, slice_set}
 use Rattle.std.proofs.lemmas.Bool.{or_left, or_right, eqb-true}
 use Rattle.std.proofs.Common.{le-leb}
-use Rattle.pdl_model.specs.Flat.{Stmt, Pipe, taken}
-use Rattle.pdl_model.specs.Stages.{in_stage, mem_at, list_any, is_verify}
-use Rattle.pdl_model.specs.Machine as machine
-use Rattle.pdl_model.specs.Machine.{Kept, Thread, Deeds, does, does_all, word_for, with_kept, deeds, held_before}
+use Rattle.pdl_semantics.specs.Flat.{Stmt, Pipe, taken}
+use Rattle.pdl_semantics.specs.Stages.{in_stage, mem_at, list_any, is_verify}
+use Rattle.pdl_semantics.specs.Machine as machine
+use Rattle.pdl_semantics.specs.Machine.{Kept, Thread, Deeds, does, does_all, word_for, with_kept, deeds, held_before}
 use Rattle.pdl_net.specs.Circuit.{Circuit, State}
 use Rattle.pdl_net.specs.Signal.{Signal}
 use Rattle.pdl_net.specs.Well.{Suits}

@@ -3,12 +3,12 @@ use Rattle.std.proofs.Common.{◌≡◌, ℕ, Bool, true, false, ◌&&◌, ◌||
 use Rattle.std.specs.Prelude.{slice_index, ◌==◌, if◌then◌else◌}
 use Rattle.std.proofs.lemmas.Bool.{or_right, or_left}
 use Rattle.pdl_word.specs.Words.{bit}
-use Rattle.pdl_model.specs.Flat.{Expr, Write, ReserveRead, ReserveWrite, Block, Release, Pipe, taken}
-use Rattle.pdl_model.specs.Stages.{mem_at, commit_stage}
-use Rattle.pdl_model.specs.Locks.{has_room}
-use Rattle.pdl_model.specs.Machine as machine
-use Rattle.pdl_model.specs.Machine.{Thread, Place, Blocked, Reserved, Deeds, does, is_held, let_go, older_write, word_for, same_args}
-use Rattle.pdl_model.specs.Moves.{block_ready, blocks_ready, have_room}
+use Rattle.pdl_semantics.specs.Flat.{Expr, Write, ReserveRead, ReserveWrite, Block, Release, Pipe, taken}
+use Rattle.pdl_semantics.specs.Stages.{mem_at, commit_stage}
+use Rattle.pdl_semantics.specs.Locks.{has_room}
+use Rattle.pdl_semantics.specs.Machine as machine
+use Rattle.pdl_semantics.specs.Machine.{Thread, Place, Blocked, Reserved, Deeds, does, is_held, let_go, older_write, word_for, same_args}
+use Rattle.pdl_semantics.specs.Moves.{block_ready, blocks_ready, have_room}
 use Rattle.pdl_net.specs.Circuit.{Circuit, State}
 use Rattle.pdl_net.specs.Signal.{mux_signal}
 use Rattle.pdl_lockapi.specs.Laws.{FitsIn}

@@ -4,11 +4,11 @@ use Rattle.std.specs.Prelude.{nat_le, slice_index, slice_set, slice_index_or, â—
 use Rattle.std.proofs.lemmas.Bool.{or_left, or_right, and_parts, eqb-true, eqb-false, leb-true}
 use Rattle.std.proofs.lemmas.List.{get_or-set_same, get_or-set_other}
 use Rattle.pdl_word.specs.Words.{bit}
-use Rattle.pdl_model.specs.Flat.{list_all, Expr, Op, Guard, Stmt, Pipe, taken, takes, values_of}
-use Rattle.pdl_model.specs.Stages.{mem_at, commit_stage, is_verify}
-use Rattle.pdl_model.specs.Locks.{read_ready}
-use Rattle.pdl_model.specs.Machine as machine
-use Rattle.pdl_model.specs.Machine.{Thread, Place, Blocked, Reserved, Deeds, does, is_held, let_go, older_write, word_for, same_args}
+use Rattle.pdl_semantics.specs.Flat.{list_all, Expr, Op, Guard, Stmt, Pipe, taken, takes, values_of}
+use Rattle.pdl_semantics.specs.Stages.{mem_at, commit_stage, is_verify}
+use Rattle.pdl_semantics.specs.Locks.{read_ready}
+use Rattle.pdl_semantics.specs.Machine as machine
+use Rattle.pdl_semantics.specs.Machine.{Thread, Place, Blocked, Reserved, Deeds, does, is_held, let_go, older_write, word_for, same_args}
 use Rattle.pdl_net.specs.Circuit.{Circuit, State}
 use Rattle.pdl_net.specs.Signal.{Signal}
 use Rattle.pdl_net.specs.Well.{Suits}

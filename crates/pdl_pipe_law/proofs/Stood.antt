@@ -1,7 +1,7 @@
 -- A thread with this cycle's answers stands in its stage as it stood: answers change neither its number, nor its values and its guess.
 use Rattle.std.proofs.Common.{◌≡◌, refl, ℕ, Bool, List, Option, Some, None}
-use Rattle.pdl_model.specs.Flat.{Pipe}
-use Rattle.pdl_model.specs.Machine.{Thread, State, with_answers}
+use Rattle.pdl_semantics.specs.Flat.{Pipe}
+use Rattle.pdl_semantics.specs.Machine.{Thread, State, with_answers}
 use Rattle.pdl_machine_facts.specs.Slots.{slot, with_now, here}
 
 pub record Stood (st : State) (k : ℕ) (t : Thread) : Type 0 where

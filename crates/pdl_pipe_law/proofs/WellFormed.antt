@@ -6,9 +6,9 @@ use Rattle.std.specs.List.{AllByRecursion}
 use Rattle.std.proofs.lemmas.Bool.{or_parts}
 use Rattle.pdl_kit.specs.declared.mem_info.MemInfo.{MemInfo}
 use Rattle.std.specs.List.{list_all}
-use Rattle.pdl_model.specs.Tree.{Mem}
-use Rattle.pdl_model.specs.Flat.{Pipe}
-use Rattle.pdl_model.specs.Flatten.{mems_of}
+use Rattle.pdl_semantics.specs.Tree.{Mem}
+use Rattle.pdl_semantics.specs.Flat.{Pipe}
+use Rattle.pdl_semantics.specs.Flatten.{mems_of}
 use Rattle.pdl_rules.specs.Refusal.{is_comb}
 use Rattle.pdl_rules.specs.Typed.{is_memory, AreDistinct}
 use Rattle.pdl_net.specs.declared.Array.{Array}

@@ -1,17 +1,16 @@
 -- The memories of a pipe that breaks no rule: how many, and their sizes.
 use Rattle.std.proofs.Common.{◌≡◌, inl, inr, ⊎_elim, ℕ, ◌+◌, ◌^◌, ◌<◌, ◌≤◌, Bool, true, false, not, if◌then◌else◌, List, [], ◌∷◌, ◌++◌, length, map, count_by, filter, refl, sym, ap, ◌∙◌, subst, arith}
-use Rattle.std.specs.Prelude.{IsTrue}
 use Rattle.std.specs.List.{list_all}
 use Rattle.std.proofs.Math.Pow.{pow_mono, pow-lt}
 use Rattle.std.proofs.lemmas.Bool.{false≢true, and_parts, cases_lt, eqb-false}
 use Rattle.pdl_kit.specs.declared.mem_info.MemInfo.{MemInfo}
 use Rattle.pdl_kit.specs.declared.rule.Rule.TheVariants.{Z4}
-use Rattle.pdl_model.specs.Tree.{Param, Mem, Pipe}
+use Rattle.pdl_semantics.specs.Tree.{Param, Mem, Pipe}
 use Rattle.pdl_rules.specs.Places.{Place, Parameter, Memory, statements, places}
 use Rattle.pdl_rules.specs.Limits.{breaks_z4, is_depth}
 use Rattle.pdl_rules.specs.Limits as limits
 use Rattle.pdl_rules.specs.Widths.{address_bits}
-use Rattle.pdl_rules.specs.Refusal.{KeepsRules, all_lined, is_comb, is_in_line}
+use Rattle.pdl_rules.specs.Refusal.{KeepsRules, is_comb}
 use Rattle.pdl_rules.specs.Typed.{IsSized, AreSized}
 use Rattle.pdl_rules.proofs.Straight.{Each, each_from, each_front, each_back, closing}
 use Rattle.pdl_rules.proofs.Once.{count_push, count_cons}
@@ -20,10 +19,6 @@ use Rattle.pdl_pipe_law.specs.Declared.{info_of}
 use Rattle.pdl_pipe_law.proofs.WellFormedNames.{Among}
 
 -- ---- linear sources
-
--- a linear source without `if` has no delayed memory
-pub comb_of : (p : Pipe) → IsTrue (is_in_line p) → list_all is_comb p.mems ≡ true
-comb_of p e = (and_parts (all_lined p.body) (list_all is_comb p.mems) e).1
 
 comb_case : (b : Bool) → not b ≡ true → b ≡ false
 comb_case true e = absurd (false≢true e)

@@ -5,9 +5,9 @@ use Rattle.std.specs.List.{range_with_len}
 use Rattle.std.specs.Option.{is_some}
 use Rattle.std.proofs.lemmas.List.{map-append}
 use Rattle.std.proofs.lemmas.Fmt.{decimal_injective}
-use Rattle.pdl_model.specs.Tree.{LockDecl, Mem}
-use Rattle.pdl_model.specs.Flat.{Pipe}
-use Rattle.pdl_model.specs.Flatten.{mems_of, lock_of}
+use Rattle.pdl_semantics.specs.Tree.{LockDecl, Mem}
+use Rattle.pdl_semantics.specs.Flat.{Pipe}
+use Rattle.pdl_semantics.specs.Flatten.{mems_of, lock_of}
 use Rattle.pdl_rules.specs.Typed.{AreDistinct}
 use Rattle.pdl_net.specs.declared.Port.{Port}
 use Rattle.pdl_net.specs.Circuit.{Circuit, Output}

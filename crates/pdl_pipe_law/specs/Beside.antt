@@ -1,11 +1,11 @@
 -- What stands beside the stages, and decides with them which threads move: the ports of delayed memories, speculation, the order of forks.
 use Rattle.std.specs.Prelude.{◌≡◌, ℕ, ◌<◌, Bool, true, List, map, length, Some, ◌&&◌}
 use Rattle.pdl_word.specs.Words.{bit}
-use Rattle.pdl_model.specs.Flat.{Arrays, Pipe}
-use Rattle.pdl_model.specs.Machine as machine
-use Rattle.pdl_model.specs.Machine.{Thread, deeds, with_kept}
-use Rattle.pdl_model.specs.Moves.{is_empty}
-use Rattle.pdl_model.specs.Cycle.{first, cycle}
+use Rattle.pdl_semantics.specs.Flat.{Arrays, Pipe}
+use Rattle.pdl_semantics.specs.Machine as machine
+use Rattle.pdl_semantics.specs.Machine.{Thread, deeds, with_kept}
+use Rattle.pdl_semantics.specs.Moves.{is_empty}
+use Rattle.pdl_semantics.specs.Cycle.{first, cycle}
 use Rattle.pdl_net.specs.declared.Reg.{Reg}
 use Rattle.pdl_net.specs.Circuit.{Circuit, State}
 use Rattle.pdl_net.specs.Signal.{Signal}

@@ -1,7 +1,7 @@
 -- The netlist of a pipe, in signals.
 use Rattle.std.specs.Prelude.{◌≡◌, ℕ, ◌+◌, ◌==◌, ◌<◌, ◌≤◌, true, false, List, [], Some, map, length, slice_index, slice_index_or, if◌then◌else◌}
-use Rattle.pdl_model.specs.Flat.{Pipe, start_env}
-use Rattle.pdl_model.specs.Stages.{in_stage, mem_at, reserve_stage, commit_stage}
+use Rattle.pdl_semantics.specs.Flat.{Pipe, start_env}
+use Rattle.pdl_semantics.specs.Stages.{in_stage, mem_at, reserve_stage, commit_stage}
 use Rattle.pdl_net.specs.declared.Dir.TheVariants.{Out}
 use Rattle.pdl_net.specs.declared.Port.{Port}
 use Rattle.pdl_net.specs.declared.Reg.{Reg}

@@ -2,7 +2,7 @@
 use Rattle.std.specs.Prelude.{◌≡◌, ℕ, zero, suc, ◌+◌, ◌^◌, ◌<◌, ◌≤◌, Bool, true, false, List, [], ◌∷◌, ◌++◌, if◌then◌else◌, map, length, Option, Some, None, slice_index_or}
 use Rattle.std.specs.Option.{is_some}
 use Rattle.std.specs.List.{list_all}
-use Rattle.pdl_model.specs.Tree.{LockDecl, Mem}
+use Rattle.pdl_semantics.specs.Tree.{LockDecl, Mem}
 use Rattle.pdl_lockapi.specs.Laws.{words_of}
 use Rattle.pdl_rules.specs.Refusal.{is_comb}
 use Rattle.pdl_rules.specs.Typed.{AreDistinct, AreSized}

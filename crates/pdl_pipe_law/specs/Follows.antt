@@ -1,7 +1,7 @@
 -- A netlist that follows a pipe whose memories answer at once, and what a compiler establishes for that.
 use Rattle.std.specs.Prelude.{◌≡◌, ℕ, ◌<◌, [], map, length}
-use Rattle.pdl_model.specs.Tree as tree
-use Rattle.pdl_model.specs.Flatten.{flat}
+use Rattle.pdl_semantics.specs.Tree as tree
+use Rattle.pdl_semantics.specs.Flatten.{flat}
 use Rattle.pdl_net.specs.declared.Netlist.{Netlist}
 use Rattle.pdl_net.specs.Circuit.{circuit_of, shape_of}
 use Rattle.pdl_net.specs.Signal.{Signal}

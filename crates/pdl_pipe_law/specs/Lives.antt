@@ -1,7 +1,7 @@
 -- Which variables, and which held locations, the rows from a stage on still use.
 use Rattle.std.specs.Prelude.{ℕ, Bool, false, ◌==◌, ◌&&◌, ◌||◌, List, [], ◌∷◌, nat_le, drop}
-use Rattle.pdl_model.specs.Flat.{Expr, Op, Bind, CombRead, DelayedRead, Write, ReserveWrite, Block, Release, Call, SpecCall, Verify, Guard, Stmt, Next, Forks, Stage, Pipe}
-use Rattle.pdl_model.specs.Stages.{list_any, is_verify}
+use Rattle.pdl_semantics.specs.Flat.{Expr, Op, Bind, CombRead, DelayedRead, Write, ReserveWrite, Block, Release, Call, SpecCall, Verify, Guard, Stmt, Next, Forks, Stage, Pipe}
+use Rattle.pdl_semantics.specs.Stages.{list_any, is_verify}
 use Rattle.pdl_facts.specs.Facts.{uses_in, uses_any}
 
 -- whether an expression uses a variable, and whether one of some does

@@ -1,6 +1,6 @@
 -- What the stages do to each lock, and what the netlist shows.
 use Rattle.std.specs.Prelude.{ℕ, zero, suc, ◌==◌, List, [], ◌∷◌, ◌++◌, length, if◌then◌else◌, ◌-◌, codes, decimal}
-use Rattle.pdl_model.specs.Flat.{Mem, Pipe}
+use Rattle.pdl_semantics.specs.Flat.{Mem, Pipe}
 use Rattle.pdl_net.specs.Signal.{Signal, mux_signal}
 use Rattle.pdl_lockapi.specs.Laws.{ReserveSignal, TicketSignal, StepSignals}
 use Rattle.pdl_pipe_law.specs.Walk.{Reservation, Put, Letting, has_kind, one, zero_bit, both}

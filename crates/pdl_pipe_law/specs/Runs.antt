@@ -1,10 +1,10 @@
 -- A netlist shows what the machine of a pipe shows.
 use Rattle.std.specs.Prelude.{◌≡◌, ℕ, ◌-◌, ◌==◌, ◌<◌, Bool, List, [], ◌∷◌, Option, Some, None, map, length, slice_index, slice_index_or}
 use Rattle.pdl_kit.specs.declared.mem_info.MemInfo.{MemInfo}
-use Rattle.pdl_model.specs.Flat.{Pipe, arrays_of}
-use Rattle.pdl_model.specs.Stages.{mem_at}
-use Rattle.pdl_model.specs.Cycle.{Turn, turns}
-use Rattle.pdl_model.specs.Lines.{Column, Put, Cycle, turn_cycles}
+use Rattle.pdl_semantics.specs.Flat.{Pipe, arrays_of}
+use Rattle.pdl_semantics.specs.Stages.{mem_at}
+use Rattle.pdl_semantics.specs.Cycle.{Turn, turns}
+use Rattle.pdl_semantics.specs.Lines.{Column, Put, Cycle, turn_cycles}
 use Rattle.pdl_net.specs.declared.Netlist.{Netlist}
 use Rattle.pdl_net.specs.Circuit.{circuit_of, outputs_of}
 use Rattle.pdl_net.specs.Run.{Shown, nports, commit_of}

@@ -1,11 +1,11 @@
 -- A state of the netlist that stands for a state of the machine, and what the signals of a stage then are.
 use Rattle.std.specs.Prelude.{◌≡◌, ℕ, suc, ◌+◌, ◌<◌, ◌≤◌, Bool, true, false, not, List, [], ◌∷◌, map, length, slice_index, slice_index_or, Option, Some, None, is_some, if◌then◌else◌, ⊤}
 use Rattle.pdl_word.specs.Words.{bit}
-use Rattle.pdl_model.specs.Flat.{Pipe}
-use Rattle.pdl_model.specs.Stages.{mem_at, commit_stage}
-use Rattle.pdl_model.specs.Machine as machine
-use Rattle.pdl_model.specs.Machine.{Thread, Reserved, Written, Deeds, deeds, held_before, is_held, with_kept}
-use Rattle.pdl_model.specs.Cycle.{stays, squasher, releases, list_three}
+use Rattle.pdl_semantics.specs.Flat.{Pipe}
+use Rattle.pdl_semantics.specs.Stages.{mem_at, commit_stage}
+use Rattle.pdl_semantics.specs.Machine as machine
+use Rattle.pdl_semantics.specs.Machine.{Thread, Reserved, Written, Deeds, deeds, held_before, is_held, with_kept}
+use Rattle.pdl_semantics.specs.Cycle.{stays, squasher, releases, list_three}
 use Rattle.pdl_net.specs.Circuit.{State}
 use Rattle.pdl_net.specs.Signal.{Signal}
 use Rattle.pdl_lockapi.specs.Laws.{FitsIn, holds_ticket}

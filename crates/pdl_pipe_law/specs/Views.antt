@@ -1,7 +1,7 @@
 -- The stages in a netlist: what each begins and ends with, which threads move, and who comes into a stage.
 use Rattle.std.specs.Prelude.{ℕ, zero, suc, ◌==◌, List, [], ◌∷◌, ◌++◌, map, if◌then◌else◌, length, slice_index_or}
-use Rattle.pdl_model.specs.Flat.{Next, Ends, Goes, Forks, Pipe}
-use Rattle.pdl_model.specs.Stages.{stage_at}
+use Rattle.pdl_semantics.specs.Flat.{Next, Ends, Goes, Forks, Pipe}
+use Rattle.pdl_semantics.specs.Stages.{stage_at}
 use Rattle.pdl_net.specs.Signal.{Signal, no_signal, mux_signal}
 use Rattle.pdl_machine_facts.specs.Slots.{ways}
 use Rattle.pdl_pipe_law.specs.Walk.{Locks, Birth, Walk, one, zero_bit, both}

@@ -1,10 +1,10 @@
 -- A stage on the way through its rows, in signals: the variables, whether the locks let its thread move so far, and what it does, each with the condition under which it does so.
 use Rattle.std.specs.Prelude.{◌≡◌, ℕ, ◌<◌, ◌≤◌, Bool, true, false, ◌==◌, ◌&&◌, List, [], ◌∷◌, ◌++◌, if◌then◌else◌, slice_index, slice_index_or, length, map, ⊤, not}
 use Rattle.pdl_word.specs.Words.{bit}
-use Rattle.pdl_model.specs.Tree.{LockKind}
-use Rattle.pdl_model.specs.Flat.{Expr, Op, Bind, CombRead, DelayedRead, Write, ReserveRead, ReserveWrite, Block, Release, Call, SpecCall, Verify, SpecCheck, SpecBarrier, Guard, Stmt, Lock, Pipe, takes, value_of}
-use Rattle.pdl_model.specs.Stages.{mem_at}
-use Rattle.pdl_model.specs.Machine.{same_args}
+use Rattle.pdl_semantics.specs.Tree.{LockKind}
+use Rattle.pdl_semantics.specs.Flat.{Expr, Op, Bind, CombRead, DelayedRead, Write, ReserveRead, ReserveWrite, Block, Release, Call, SpecCall, Verify, SpecCheck, SpecBarrier, Guard, Stmt, Lock, Pipe, takes, value_of}
+use Rattle.pdl_semantics.specs.Stages.{mem_at}
+use Rattle.pdl_semantics.specs.Machine.{same_args}
 use Rattle.pdl_facts.specs.Scans.{is_plain}
 use Rattle.pdl_net.specs.Circuit.{Circuit, State}
 use Rattle.pdl_net.specs.Signal.{Signal, const_signal, mux_signal}

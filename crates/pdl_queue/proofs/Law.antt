@@ -3,7 +3,7 @@ use Rattle.std.proofs.Common.{◌≡◌, ◌-◌, length-take, sym, ap, ◌∙�
 use Rattle.std.specs.Prelude.{Some, take, slice_index, option_map, Option}
 use Rattle.std.proofs.lemmas.List.{take_all}
 use Rattle.pdl_word.specs.Words as words
-use Rattle.pdl_model.specs.Tree.{Queue}
+use Rattle.pdl_semantics.specs.Tree.{Queue}
 use Rattle.pdl_net.specs.declared.Net.{Net}
 use Rattle.pdl_net.specs.Circuit.{Circuit}
 use Rattle.pdl_net.specs.Meaning.{signal}

@@ -5,7 +5,7 @@ use Rattle.std.proofs.lemmas.Bool.{cases_eq}
 use Rattle.std.proofs.Math.Nat.{mod-eq_of_lt}
 use Rattle.pdl_word.specs.Words as words
 use Rattle.pdl_word.specs.Words.{bit}
-use Rattle.pdl_model.specs.Tree.{Rename}
+use Rattle.pdl_semantics.specs.Tree.{Rename}
 use Rattle.pdl_net.specs.Circuit.{Circuit, State}
 use Rattle.pdl_net.specs.Signal.{Signal, const_signal, mux_signal, read_signal, reg_value, const_value, bin_value, mux_value, read_value}
 use Rattle.pdl_lockapi.specs.declared.Kind.{Kind}

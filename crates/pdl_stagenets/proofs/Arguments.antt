@@ -1,9 +1,9 @@
 -- The arguments of a call, and whether a memory has a lock.
 use Rattle.std.proofs.Common.{◌≡◌, ℕ, zero, suc, ◌≤◌, true, List, [], ◌∷◌, length, refl, ap, ap₂, ◌∙◌, arith}
 use Rattle.std.specs.Prelude.{take}
-use Rattle.pdl_model.specs.Flat.{Expr, Lock, Plain, Queue, Bypass, Rename}
+use Rattle.pdl_semantics.specs.Flat.{Expr, has_lock, Lock, Plain, Queue, Bypass, Rename}
 use Rattle.pdl_formtypes.specs.Exprs.{AreTyped}
-use Rattle.pdl_formtypes.specs.Stmts.{AreArguments, has_lock}
+use Rattle.pdl_formtypes.specs.Stmts.{AreArguments}
 use Rattle.pdl_net.specs.Signal.{Signal}
 use Rattle.pdl_flatnets.specs.Nets.{widths_of}
 use Rattle.pdl_flatnets.specs.Values.{value_signals}

@@ -1,7 +1,7 @@
 -- Pipes without variables and memories, as tests take them.
 use Rattle.std.proofs.Common.{◌≡◌, ℕ, List, [], ◌∷◌, map, length, refl, sym, ap, ◌∙◌, subst, arith}
 use Rattle.std.specs.Prelude.{Option, take}
-use Rattle.pdl_model.specs.Flat.{Call, Stmt, Pipe}
+use Rattle.pdl_semantics.specs.Flat.{Call, Stmt, Pipe}
 use Rattle.pdl_form.specs.Form.{Form}
 use Rattle.pdl_formtypes.specs.Stmts.{AreArguments}
 use Rattle.pdl_net.specs.declared.Net.{Net}

@@ -3,7 +3,7 @@ use Rattle.std.proofs.Common.{◌≡◌, ℕ, zero, suc, ◌<◌, ◌^◌, Bool,
 use Rattle.std.specs.Prelude.{length, slice_index_or}
 use Rattle.pdl_word.specs.Words as words
 use Rattle.pdl_word.specs.Words.{bit}
-use Rattle.pdl_model.specs.Flat.{Guard, takes}
+use Rattle.pdl_semantics.specs.Flat.{Guard, takes}
 use Rattle.pdl_net.specs.declared.Net.{Net}
 use Rattle.pdl_net.specs.declared.Net.TheVariants.{Input}
 use Rattle.pdl_net.specs.Circuit.{Circuit, State}
@@ -11,6 +11,7 @@ use Rattle.pdl_net.specs.Signal.{Signal, not_value}
 use Rattle.pdl_net.specs.Well.{IsWell, Suits, IsBounded}
 use Rattle.pdl_net.proofs.Bounds.{bounded}
 use Rattle.pdl_flatnets.specs.Nets.{NetsThere, signals_in, signal_at, widths_of}
+use Rattle.pdl_flatnets.specs.Values.{AreBounded}
 use Rattle.pdl_flatnets.specs.Conditions.{literal, taken_from, taken_signal}
 use Rattle.pdl_formtypes.specs.Stmts.{AreGuards}
 use Rattle.pdl_flatnets.specs.Conditions as conditions
@@ -18,11 +19,7 @@ use Rattle.pdl_flatnets.proofs.NetLists.{there_at, signal_of, width_at, length_w
 use Rattle.pdl_pipe_law.specs.Walk.{Walk, taken_in}
 use Rattle.pdl_pipe_law.proofs.Signals.{both_at, one_is}
 
--- each signal has a value within its width
-abbrev pub AreBounded : State → List Signal → Type 0
-AreBounded s fs = (x : ℕ) → x < length fs → IsBounded s (signal_at fs x)
-
--- as those of nets have
+-- each net has a value within its width
 pub nets_bounded : (d : Circuit) (s : State) → IsWell d → Suits d s → (xs : List Net) → NetsThere d xs → AreBounded s (signals_in d xs)
 nets_bounded d s well suits xs t x l =
     let k : x < length xs = omega (arith, l, length_signals d xs) in

@@ -1,7 +1,7 @@
 -- The rows of a stage in each well-formed circuit that comes of the one in which they were walked, by what the nets mean there.
 use Rattle.std.proofs.Common.{ℕ, List, sym, subst}
 use Rattle.std.specs.Prelude.{Option}
-use Rattle.pdl_model.specs.Flat.{Stmt, Pipe}
+use Rattle.pdl_semantics.specs.Flat.{Stmt, Pipe}
 use Rattle.pdl_net.specs.declared.Net.{Net}
 use Rattle.pdl_net.specs.Circuit.{Circuit}
 use Rattle.pdl_net.specs.Signal.{Signal}

@@ -1,7 +1,7 @@
 -- What is known of a walk's nets stays while the circuit grows.
 use Rattle.std.proofs.Common.{◌≡◌, ℕ, ◌<◌, ◌^◌, List, length, sym, ap, ◌∙◌, subst, arith}
-use Rattle.pdl_model.specs.Flat.{Guard, Pipe, Expr}
-use Rattle.pdl_model.specs.Stages.{mem_at}
+use Rattle.pdl_semantics.specs.Flat.{Guard, Pipe, Expr}
+use Rattle.pdl_semantics.specs.Stages.{mem_at}
 use Rattle.pdl_net.specs.declared.Net.{Net}
 use Rattle.pdl_net.specs.Circuit.{Circuit}
 use Rattle.pdl_net.specs.Signal.{Signal}

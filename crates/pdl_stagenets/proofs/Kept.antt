@@ -1,7 +1,7 @@
 -- The nets of a walk keep what they mean while the circuit grows.
 use Rattle.std.proofs.Common.{◌≡◌, ℕ, Bool, true, false, List, [], ◌∷◌, map, refl, sym, ap, ap₂, ◌∙◌, subst}
 use Rattle.std.specs.Prelude.{◌==◌, ◌&&◌, if◌then◌else◌, length, slice_index}
-use Rattle.pdl_model.specs.Flat.{Pipe}
+use Rattle.pdl_semantics.specs.Flat.{Pipe}
 use Rattle.pdl_net.specs.declared.Net.{Net}
 use Rattle.pdl_net.specs.Circuit.{Circuit}
 use Rattle.pdl_net.specs.Signal.{Signal}

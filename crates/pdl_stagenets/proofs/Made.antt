@@ -3,9 +3,9 @@ use Rattle.std.proofs.Common.{◌≡◌, ℕ, ◌<◌, ◌≤◌, ◌^◌, Bool,
 use mathlib.Core.Path.{fun_ext}
 use Rattle.std.specs.Prelude.{◌==◌, if◌then◌else◌, slice_index, slice_index_or, slice_set}
 use Rattle.pdl_word.specs.Words.{bit}
-use Rattle.pdl_model.specs.Flat as flat
-use Rattle.pdl_model.specs.Flat.{Guard, Pipe, Expr}
-use Rattle.pdl_model.specs.Stages.{mem_at}
+use Rattle.pdl_semantics.specs.Flat as flat
+use Rattle.pdl_semantics.specs.Flat.{Guard, Pipe, Expr}
+use Rattle.pdl_semantics.specs.Stages.{mem_at}
 use Rattle.pdl_net.specs.declared.Net.{Net}
 use Rattle.pdl_net.specs.Circuit.{Circuit, State}
 use Rattle.pdl_net.specs.Signal.{Signal, no_signal, mux_signal, read_value}
@@ -15,7 +15,7 @@ use Rattle.pdl_flatnets.specs.Nets.{NetsThere, signals_in, signal_at, widths_of}
 use Rattle.pdl_flatnets.specs.Conditions.{taken_signal}
 use Rattle.pdl_formtypes.specs.Stmts.{AreGuards, IsLocation}
 use Rattle.pdl_formtypes.specs.Exprs.{IsTyped, AreTyped}
-use Rattle.pdl_flatnets.specs.Values.{value_signal, value_signals}
+use Rattle.pdl_flatnets.specs.Values.{value_signal, value_signals, AreBounded}
 use Rattle.pdl_flatnets.proofs.NetLists.{there_keeps, signals_keep}
 use Rattle.pdl_lockapi.specs.Laws.{FitsIn}
 use Rattle.pdl_pipe_law.specs.Walk.{Locks, is_locked, taken_in, WhereNot, IsWord}
@@ -28,7 +28,7 @@ use Rattle.pdl_stagenets.specs.Words.{IsWordSignal, IsRead, IsBlocked}
 use Rattle.pdl_stagenets.specs.Steps.{Later, IsStep, with_var, with_put, with_reserve, with_release, with_call}
 use Rattle.pdl_stagenets.proofs.Lists.{signal_set}
 use Rattle.pdl_stagenets.proofs.Kept.{var_width, var_count}
-use Rattle.pdl_stagenets.proofs.Conditions.{AreBounded, nets_bounded, taken_value}
+use Rattle.pdl_stagenets.proofs.Conditions.{nets_bounded, taken_value}
 use Rattle.pdl_stagenets.proofs.Values.{has_value, have_values}
 
 -- variables that are nets of a circuit

@@ -1,8 +1,8 @@
 -- Rows one after another, while the circuit grows.
-use Rattle.std.proofs.Common.{arith, ◌≡◌, true, ℕ, ◌+◌, ◌<◌, List, [], ◌∷◌, ◌++◌, map, length, take, drop, get_or, sym, ap, ◌∙◌, subst}
+use Rattle.std.proofs.Common.{arith, ◌≡◌, ℕ, ◌+◌, ◌<◌, List, [], ◌∷◌, ◌++◌, map, length, take, drop, get_or, sym, ap, ◌∙◌, subst}
 use Rattle.std.proofs.lemmas.List.{drop_more, take_more, map-append, get_or-map, length-map}
 use Rattle.std.specs.Prelude.{slice_index}
-use Rattle.pdl_model.specs.Flat.{Guard, Op, Stmt, Pipe, SpecCheck}
+use Rattle.pdl_semantics.specs.Flat.{Guard, Op, Stmt, Pipe, SpecCheck}
 use Rattle.pdl_form.specs.declared.form.Stmt as r_stmt
 use Rattle.pdl_form.specs.declared.form.Op as r_op
 use Rattle.pdl_form.specs.declared.form.Guard as r_guard
@@ -14,7 +14,7 @@ use Rattle.pdl_net.specs.Signal.{Signal}
 use Rattle.pdl_net.specs.Growth.{Keeps}
 use Rattle.pdl_net.proofs.Keeps.{keeps_trans}
 use Rattle.pdl_pipe_law.specs.Walk.{Locks, Walk, Row, IsRow, after, AreRows}
-use Rattle.pdl_stagenets.specs.Sized.{is_walked, IsWalked, AreWalked, AreWalkedRows}
+use Rattle.pdl_stagenets.specs.Sized.{IsWalked, AreWalked, AreWalkedRows}
 use Rattle.pdl_stagenets.specs.Steps.{IsStep, AreSteps}
 use Rattle.pdl_stagenets.proofs.Lists.{each_at, each_by}
 
@@ -25,9 +25,6 @@ step_as c p ls tickets gs gs' op op' w w' e h s = subst (λ o. IsStep c p ls tic
 -- what a statement of the program needs, by its operation
 pub typed_as : (f : Form) (s : r_stmt.Stmt) (o : r_op.Op) → IsWalked f (stmt_view s) → s.op ≡ o → IsTypedOp f (act_view o)
 typed_as f s o h e = subst (λ (o : r_op.Op). IsTypedOp f (act_view o)) e h.0.1
-
-pub walked_as : (f : Form) (s : r_stmt.Stmt) (o : r_op.Op) → IsWalked f (stmt_view s) → s.op ≡ o → is_walked (act_view o) ≡ true
-walked_as f s o h e = subst (λ (o : r_op.Op). is_walked (act_view o) ≡ true) e h.1
 
 pub guards_as : (f : Form) (s : r_stmt.Stmt) (gs : List r_guard.Guard) → IsWalked f (stmt_view s) → gs ≡ s.guards → AreGuards f.widths (guards_view gs)
 guards_as f s gs h e = subst (λ l. AreGuards f.widths (guards_view l)) (sym e) h.0.0

@@ -1,8 +1,8 @@
 -- The locks of a pipe in a circuit, by the numbers of their memories.
 use Rattle.std.specs.Prelude.{◌≡◌, ℕ, ◌^◌, ◌<◌, false, List, length, slice_index_or, Option, Some, None, is_some}
-use Rattle.pdl_model.specs.Tree.{LockKind, Queue}
-use Rattle.pdl_model.specs.Flat.{Mem, Pipe}
-use Rattle.pdl_model.specs.Stages.{mem_at}
+use Rattle.pdl_semantics.specs.Tree.{LockKind, Queue}
+use Rattle.pdl_semantics.specs.Flat.{Mem, Pipe}
+use Rattle.pdl_semantics.specs.Stages.{mem_at}
 use Rattle.pdl_net.specs.declared.Net.{Net}
 use Rattle.pdl_net.specs.declared.Net.TheVariants.{Input}
 use Rattle.pdl_net.specs.Circuit.{Circuit, State, HasArray, array_width, array_depth}

@@ -1,7 +1,7 @@
 -- Widths of what stands in a stage, and statements that can be walked.
 use Rattle.std.specs.Prelude.{◌≡◌, ℕ, ◌^◌, ◌<◌, Bool, true, false, List, length, take}
-use Rattle.pdl_model.specs.Flat.{Op, DelayedRead, SpecCall, Verify, SpecCheck, SpecBarrier, Stmt, Pipe}
-use Rattle.pdl_model.specs.Stages.{mem_at}
+use Rattle.pdl_semantics.specs.Flat.{Op, DelayedRead, SpecCall, Verify, SpecCheck, SpecBarrier, Stmt, Pipe}
+use Rattle.pdl_semantics.specs.Stages.{mem_at}
 use Rattle.pdl_form.specs.Form.{Form, stmt_at}
 use Rattle.pdl_formtypes.specs.Stmts.{IsTypedStmt}
 use Rattle.pdl_net.specs.Circuit.{Circuit}

@@ -1,7 +1,7 @@
 -- A statement as a step from one walk to another, while the circuit grows.
 use Rattle.std.specs.Prelude.{◌≡◌, ℕ, List, [], ◌∷◌, ◌++◌, Option, slice_set}
 use Rattle.pdl_word.specs.Words.{bit}
-use Rattle.pdl_model.specs.Flat.{Guard, Op, Stmt, Pipe}
+use Rattle.pdl_semantics.specs.Flat.{Guard, Op, Stmt, Pipe}
 use Rattle.pdl_net.specs.declared.Net.{Net}
 use Rattle.pdl_net.specs.Circuit.{Circuit, State}
 use Rattle.pdl_net.specs.Signal.{Signal, mux_signal}

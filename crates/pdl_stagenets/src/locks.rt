@@ -1,7 +1,7 @@
 // Looks at the locks, and words of memories.
 ghost use Rattle.std.specs.Prelude.{◌≡◌, ◌^◌, ◌<◌, true, Some, IfOk, length, is_some, option_map};
 ghost use Rattle.pdl_form.specs.Whole.{form};
-ghost use Rattle.pdl_model.specs.Stages.{mem_at};
+ghost use Rattle.pdl_semantics.specs.Stages.{mem_at};
 ghost use Rattle.pdl_net.specs.Meaning.{IsThere, Means, signal};
 ghost use Rattle.pdl_net.specs.Growth.{Extends};
 ghost use Rattle.pdl_lockapi.specs.declared.Kind.TheVariants as look_kind;

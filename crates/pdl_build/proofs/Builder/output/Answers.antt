@@ -1,5 +1,5 @@
-use Rattle.std.proofs.Common.{◌≡◌, ℕ, ◌+◌, length, sym, subst, ap, ◌∙◌, arith}
-use Rattle.pdl_net.specs.Circuit.{Circuit, inputs_of, outputs_of}
+use Rattle.std.proofs.Common.{◌≡◌, length, sym, subst, ap, ◌∙◌, arith}
+use Rattle.pdl_net.specs.Circuit.{Circuit, outputs_of}
 use Rattle.pdl_net.specs.Meaning.{IsThere, signal}
 use Rattle.pdl_build.specs.Parts.{circuit_of_parts}
 use Rattle.pdl_build.proofs.Grown.{well_output, widths_output, extends_port, count_ports}

@@ -1,12 +1,11 @@
-use Rattle.std.proofs.Common.{◌≡◌, ◌++◌, [], ◌∷◌, ◌^◌, length, refl, sym, subst, ap, ◌∙◌, List}
+use Rattle.std.proofs.Common.{◌++◌, [], ◌∷◌, length, sym, subst, ap, ◌∙◌}
 use Rattle.std.proofs.lemmas.List.{get_or_default}
 use Rattle.pdl_net.specs.declared.Array.{Array}
-use Rattle.pdl_net.specs.declared.WritePort.{WritePort}
 use Rattle.pdl_net.specs.Circuit.{Circuit, array_at, no_array, HasArray}
 use Rattle.pdl_net.specs.Meaning.{write_signal, write_signals}
 use Rattle.pdl_net.specs.Well.{IsWell, IsWellWrite}
 use Rattle.pdl_net.specs.Growth.{ExtendsBut}
-use Rattle.pdl_build.specs.Change.{one_array, with_write, write_port}
+use Rattle.pdl_build.specs.Change.{one_array, write_port}
 use Rattle.pdl_build.specs.Parts.{circuit_of_parts, HasWidths}
 use Rattle.pdl_build.proofs.Stored.{well_write, widths_write, writes_more, extends_write, write_same, well_port_write, has_array_below}
 use Rattle.pdl_build.proofs.Builder.write.Goals as goal

@@ -1,4 +1,4 @@
-use Rattle.std.proofs.Common.{◌≡◌, ◌-◌, Bool, false, ◌||◌, List, length, drop, sym, ap, ◌∙◌, arith}
+use Rattle.std.proofs.Common.{◌≡◌, ◌-◌, false, ◌||◌, List, length, drop, sym, ap, ◌∙◌, arith}
 use Rattle.std.proofs.lemmas.List.{drop-map, take_all, length-drop}
 use Rattle.pdl_form.specs.View.{stages_view, stmts_view, stage_view}
 use Rattle.pdl_form.specs.declared.form.Stage.{Stage}

@@ -3,7 +3,7 @@ use Rattle.std.specs.Prelude.{Option}
 use Rattle.pdl_form.specs.Whole.{form}
 use Rattle.pdl_form.specs.View.{mem_view}
 use Rattle.pdl_formtypes.specs.Stmts.{IsTypedMem}
-use Rattle.pdl_model.specs.Flat.{Mem}
+use Rattle.pdl_semantics.specs.Flat.{Mem}
 use Rattle.pdl_stagenets.specs.declared.locks.MemLock.{MemLock}
 use Rattle.pdl_stagenets.specs.Locked.{Members}
 use Rattle.pdl_locknets.proofs.AllMade.{AreMadeTo, mem_is, mem_count, name_is, name_count, typed_at, comb_at, served_at, made_none, made_more, all_extends, all_locked, all_lawful, all_unwritten, all_above}

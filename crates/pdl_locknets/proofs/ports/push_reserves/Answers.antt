@@ -33,7 +33,8 @@ loop-r-preserved c =
     let given = each_get (IsGivenReserve a) rs i no_reserve c.loop-r-test.true c.requires.given in
     record {
       extends = extends_trans a b d v.extends c.in_ok-push_reserve.ensures.extends;
-      adds = reserves_step a b d c.args.ports.now c.loop-r.ports c.push_reserve.new.ports c.args.m c.args.moves rs i no_reserve (get_or rs i no_reserve) (extends_keeps a b v.extends) c.requires.moves c.loop-r-test.true refl given v.adds c.in_ok-push_reserve.ensures.adds;
+      adds = reserves_step a b d c.args.ports.now c.loop-r.ports c.push_reserve.new.ports c.args.m c.args.moves rs i no_reserve (get_or rs i no_reserve)
+          (extends_keeps a b v.extends) c.requires.moves c.loop-r-test.true refl given v.adds c.in_ok-push_reserve.ensures.adds;
     }
 
 pub returns-clause-adds : goal.returns-clause-adds

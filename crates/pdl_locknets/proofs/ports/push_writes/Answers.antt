@@ -33,7 +33,8 @@ loop-x-preserved c =
     let given = each_get (IsGivenPut a) rs i no_put c.loop-x-test.true c.requires.given in
     record {
       extends = extends_trans a b d v.extends c.in_ok-push_write.ensures.extends;
-      adds = writes_step a b d c.args.ports.now c.loop-x.ports c.push_write.new.ports c.args.m c.args.moves c.args.ticket rs i no_put (get_or rs i no_put) (extends_keeps a b v.extends) c.requires.moves c.requires.ticket c.loop-x-test.true refl given v.adds c.in_ok-push_write.ensures.adds;
+      adds = writes_step a b d c.args.ports.now c.loop-x.ports c.push_write.new.ports c.args.m c.args.moves c.args.ticket rs i no_put (get_or rs i no_put)
+          (extends_keeps a b v.extends) c.requires.moves c.requires.ticket c.loop-x-test.true refl given v.adds c.in_ok-push_write.ensures.adds;
     }
 
 pub returns-clause-adds : goal.returns-clause-adds

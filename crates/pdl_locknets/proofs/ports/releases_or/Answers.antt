@@ -48,7 +48,8 @@ loop-i-preserved c =
     let k = extends_keeps a b v.extends in
     record {
       extends = extends_trans a b d v.extends c.in_ok-net.ensures.extends;
-      means = lets_more a b d c.args.m (signal a c.args.moves) (signal b c.args.moves) c.args.lettings.now c.loop-i.i c.letting_at-x.result c.loop-i.net c.in_ok-net.net (signal a c.args.rest) k c.loop-i-test.true c.letting_at-x.ensures c.requires.given
+      means = lets_more a b d c.args.m (signal a c.args.moves) (signal b c.args.moves) c.args.lettings.now c.loop-i.i c.letting_at-x.result c.loop-i.net c.in_ok-net.net
+          (signal a c.args.rest) k c.loop-i-test.true c.letting_at-x.ensures c.requires.given
           (k.kept c.args.moves c.requires.moves) v.means c.in_ok-net.ensures.means;
     }
 

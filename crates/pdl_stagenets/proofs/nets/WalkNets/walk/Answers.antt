@@ -1,6 +1,6 @@
 use Rattle.std.proofs.Common.{List, ◌∙◌, sym, ap, subst}
 use Rattle.std.specs.Prelude.{map, OnOk}
-use Rattle.pdl_model.specs.Flat.{Stmt}
+use Rattle.pdl_semantics.specs.Flat.{Stmt}
 use Rattle.pdl_form.specs.Whole.{form}
 use Rattle.pdl_form.specs.Form.{stmt_at}
 use Rattle.pdl_stagenets.specs.Parts.{walk_in}

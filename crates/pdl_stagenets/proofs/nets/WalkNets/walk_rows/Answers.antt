@@ -1,5 +1,5 @@
 use Rattle.std.proofs.Common.{ℕ, List, get_or, sym, ap, subst}
-use Rattle.pdl_model.specs.Flat.{Stmt}
+use Rattle.pdl_semantics.specs.Flat.{Stmt}
 use Rattle.pdl_form.specs.Whole.{form}
 use Rattle.pdl_form.specs.Form.{stmt_at}
 use Rattle.pdl_form.specs.View.{stmt_view, stmts_view}

@@ -1,0 +1,17 @@
+//! Simulated netlists, each lock in one, and what runs of the machine are made of.
+//!
+//! It has tests alone, and nothing stands on it.
+#![tactic(auto)]
+
+#[cfg(test)]
+mod bypass_rows;
+#[cfg(test)]
+mod netrun_rows;
+#[cfg(test)]
+mod pending_rows;
+#[cfg(test)]
+mod queue_rows;
+#[cfg(test)]
+mod rename_rows;
+#[cfg(test)]
+mod values_rows;

@@ -1,6 +1,0 @@
-pub mod Walk
-pub mod Views
-pub mod Ports
-pub mod Compiled
-pub mod Runs
-pub mod Stands
