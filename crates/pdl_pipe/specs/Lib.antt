@@ -1,12 +1,3 @@
-pub mod Begun
-pub mod Made
-pub mod Nets
-pub mod Sized
-pub mod Asked
-pub mod Locked
-pub mod Moved
-pub mod Outputs
-pub mod Front
-pub mod Connected
-pub mod Walked
-pub mod Whole
+pub mod Refined
+pub mod Joined
+pub mod Finished

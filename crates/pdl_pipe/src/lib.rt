@@ -1,20 +1,8 @@
-//! The netlist of a pipe in line, made round any lock module.
+//! The netlist of an accepted pipe, generic over the modules of its locks.
 #![tactic(auto)]
 
-mod begin;
-mod connect;
-mod locks;
-mod lookups;
-mod memories;
-mod moves;
-mod netlist;
-mod nets;
-mod outputs;
-mod stages;
-mod steps;
-#[cfg(test)]
-mod tests;
-mod walk;
+mod deeds;
+pub mod netlist;
 
 pub use netlist::compile;
 pub use pdl_anylock::AnyLock;

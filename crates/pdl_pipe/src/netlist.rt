@@ -1,141 +1,117 @@
 // The netlist of a pipe.
-ghost use Rattle.std.specs.Prelude.{◌≡◌, ◌≤◌, ◌<◌, ℕ, List, [], Option, Some, true, IfOk, OnOk, IsTrue, map, length};
-ghost use Rattle.std.specs.List.{list_all};
-ghost use Rattle.pdl_kit.specs.declared.mem_info.MemInfo.{MemInfo};
-ghost use Rattle.pdl_tree.specs.View.{pipe_view, mem_view, stmt_view};
-ghost use Rattle.pdl_model.specs.Flatten.{params_of};
-ghost use Rattle.pdl_rules.specs.Refusal.{KeepsRules, is_in_line, is_comb};
-ghost use Rattle.pdl_rules.specs.Typed.{AreParams, AreStarts, AreSized};
+ghost use Rattle.std.specs.Prelude.{◌≡◌, ◌≤◌, [], IfOk, OnOk, length};
+ghost use Rattle.pdl_tree.specs.View.{pipe_view};
+ghost use Rattle.pdl_semantics.specs.Flatten.{flat};
+ghost use Rattle.pdl_form.specs.Form.{form_of};
+ghost use Rattle.pdl_form.specs.Whole.{form};
 ghost use Rattle.pdl_build.specs.Change.{empty_circuit};
-ghost use Rattle.pdl_net.specs.Circuit.{circuit_of, shapes_of};
-ghost use Rattle.pdl_net.specs.Pipe.{IsWellFormed};
 ghost use Rattle.pdl_net.specs.Run.{delayed_mems};
-ghost use Rattle.pdl_net.specs.Meaning.{Means};
-ghost use Rattle.pdl_check.specs.Memories.{infos_of};
-ghost use Rattle.pdl_check.specs.Queues.{all_queued};
-ghost use Rattle.pdl_slots.specs.Fit.{AreFit};
-ghost use Rattle.pdl_trunk.specs.Walk.{one as one_signal, zero_bit};
-ghost use Rattle.pdl_trunk.specs.Runs.{ShowsMachine, ShowsTurns, output_count};
-ghost use Rattle.pdl_trunk.specs.Compiled.{IsCompiled};
-ghost use Rattle.pdl_pipe.specs.Locked.{AreSuited, AreUnwritten};
-ghost use Rattle.pdl_pipe.specs.Front.{Members, locks_in, IsStaged};
-ghost use Rattle.pdl_pipe.specs.Whole.{IsFront, IsBack};
+ghost use Rattle.pdl_flatnets.specs.Conditions.{AreBits};
+ghost use Rattle.pdl_stagenets.specs.Locked.{members, locks_in, AreLocked};
+ghost use Rattle.pdl_stageregs.specs.Staged.{IsLine, next_signals};
+ghost use Rattle.pdl_locknets.specs.Suited.{AreSuited};
+ghost use Rattle.pdl_locknets.specs.Lawful.{AreLawful, AreUnwritten};
+ghost use Rattle.pdl_pipe_law.specs.Runs.{ShowsTurns, output_count};
+ghost use Rattle.pdl_pipe_law.specs.Follows.{Follows};
+ghost use Rattle.pdl_pipe.specs.Joined.{CanJoin, HasSteps, IsJoined, IsShown};
+ghost use Rattle.pdl_pipe.specs.Finished.{IsFinished};
+ghost use Rattle.pdl_pipe.specs.Refined.{RefinesThreads};
 
-use crate::connect::connect;
-use crate::locks::locks_of;
-use crate::memories::memories;
-use crate::moves::moves;
-use crate::nets::StageNets;
-use crate::outputs::{outputs, show};
-use crate::stages::stages;
-use crate::steps::steps;
+use crate::deeds::{deeds, shown};
 use pdl_build::Builder;
 use pdl_check::Accepted;
+use pdl_flatnets::Bits;
+use pdl_form::FlatPipe;
 use pdl_kit::{MemInfo, NoMemory, Seq};
-use pdl_lockapi::{LockModule, LockNets, LockRegs};
-use pdl_net::{Net, Netlist};
-use pdl_tree::tree::Pipe;
+use pdl_lockapi::{LockModule, LockNets};
+use pdl_lockkinds::locks_of;
+use pdl_locknets::{memories, step};
+use pdl_net::Netlist;
+use pdl_outnets::show;
+use pdl_stagenets::MemLock;
+use pdl_stageregs::{LineNets, line};
 use std::alloc::Global;
 
-/// The registers of the locks, the stages, and nets that are always 1 and always 0.
+/// The memories with their locks, the stages, and what each lock commits, before the outputs.
 #[derive(Drop)]
-pub struct Front {
-    pub made: Seq<Option<LockRegs>>,
-    pub stages: Vec<StageNets>,
-    pub one: Net,
-    pub zero: Net,
+pub struct Joined<L> {
+    pub locks: Vec<Option<MemLock<L>>>,
+    pub line: LineNets,
+    pub commits: Vec<Option<LockNets>>,
+    pub bits: Bits,
 }
 
-/// Of each stage whether its thread moves, and what the locks commit.
-#[derive(Drop)]
-pub struct Back {
-    pub moves: Vec<Net>,
-    pub nets: Seq<Option<LockNets>>,
-}
-
-/// The memories, the locks and the stages.
-fn emit_front<L: LockModule>(
+// Memories, stages and the steps of the locks.
+fn join<L: LockModule + Copy>(
     alloc: Global,
     b: &mut Builder,
-    pipe: &Pipe,
-    infos: &[MemInfo],
+    pipe: &FlatPipe,
     locks: &[Option<L>],
-) -> Result<Front, NoMemory>
+) -> Result<Joined<L>, NoMemory>
     requires empty { b.old ≡ empty_circuit }
-    requires in_line { IsTrue (is_in_line (pipe_view pipe.now)) }
-    requires kept { KeepsRules (pipe_view pipe.now) }
-    requires infos { infos.now ≡ infos_of (pipe_view pipe.now).mems }
-    requires suited { AreSuited L.suits L.kind_of L.size (pipe_view pipe.now).mems infos.now locks.now }
-    ensures { IfOk result (λ f. IsFront (record { placed = L.placed; stands = L.stands; kind = L.kind_of; size = L.size; tickets = L.tickets }) b.new (pipe_view pipe.now) (map stmt_view pipe.now.body) locks.now f) }
+    requires pipe { CanJoin (form pipe.now) }
+    requires suited { AreSuited L.suits (members L.LockModule) (form pipe.now) locks.now }
+    ensures { IfOk result (λ x. IsJoined (members L.LockModule) b.new (form pipe.now) x) }
 {
-    let made = memories(alloc, b, pipe.mems.as_slice(), infos, locks)?;
-    let one = b.constant(1, 1)?;
-    let zero = b.constant(1, 0)?;
-    let stages = stages(alloc, b, pipe, locks, made.as_slice(), one)?;
-    Ok(Front {
-        made,
-        stages,
-        one,
-        zero,
+    let made = memories(alloc, b, pipe, locks)?;
+    let bits = Bits::new(b)?;
+    let stages = line(alloc, b, pipe, bits, made.as_slice())?;
+    let commits = steps(alloc, b, pipe, bits, made.as_slice(), &stages)?;
+    Ok(Joined {
+        locks: made,
+        line: stages,
+        commits,
+        bits,
     })
 }
 
-/// Which threads move, and what the registers and the locks take next.
-fn emit_back<L: LockModule>(
+// The steps of the locks from what the stages do.
+fn steps<L: LockModule>(
     alloc: Global,
     b: &mut Builder,
-    pipe: &Pipe,
-    locks: &[Option<L>],
-    f: &Front,
-) -> Result<Back, NoMemory>
-    requires in_line { IsTrue (is_in_line (pipe_view pipe.now)) }
-    requires kept { KeepsRules (pipe_view pipe.now) }
-    requires front { IsFront (record { placed = L.placed; stands = L.stands; kind = L.kind_of; size = L.size; tickets = L.tickets }) b.old (pipe_view pipe.now) (map stmt_view pipe.now.body) locks.now f.now }
-    ensures { IfOk result (λ x. IsBack (record { placed = L.placed; stands = L.stands; kind = L.kind_of; size = L.size; tickets = L.tickets }) b.new (pipe_view pipe.now) (map stmt_view pipe.now.body) locks.now f.now x) }
+    pipe: &FlatPipe,
+    bits: Bits,
+    locks: &[Option<MemLock<L>>],
+    line: &LineNets,
+) -> Result<Vec<Option<LockNets>>, NoMemory>
+    requires bits { AreBits b.old bits }
+    requires locked { AreLocked (members L.LockModule) b.old (form pipe.now).pipe locks.now }
+    requires lawful { AreLawful (members L.LockModule) b.old (form pipe.now).pipe locks.now }
+    requires unwritten { AreUnwritten b.old (length (form pipe.now).pipe.mems) }
+    requires line { IsLine b.old (form pipe.now) (next_signals b.old locks.now) (locks_in (members L.LockModule) b.old locks.now) line.now.stages.items line.now.moves.items }
+    ensures { IfOk result (λ ns. HasSteps (members L.LockModule) b.old b.new (form pipe.now).pipe locks.now line.now ns.items) }
 {
-    let stages = f.stages.as_slice();
-    let moves = moves(alloc, b, stages, f.one, f.zero)?;
-    connect(b, stages, moves.as_slice(), f.one, f.zero)?;
-    let nets = steps(
-        alloc,
-        b,
-        pipe.mems.as_slice(),
-        locks,
-        f.made.as_slice(),
-        stages,
-        moves.as_slice(),
-        f.zero,
-    )?;
-    Ok(Back { moves, nets })
+    let deeds = deeds(alloc, line.stages.as_slice(), line.moves.as_slice())?;
+    let nets = step(alloc, b, pipe, bits, locks, deeds.as_slice())?;
+    Ok(nets)
 }
 
-/// The outputs.
+// The outputs.
 fn emit_outputs<L: LockModule>(
     alloc: Global,
     b: &mut Builder,
-    pipe: &Pipe,
-    _locks: &[Option<L>],
-    f: &Front,
-    x: &Back,
+    pipe: &FlatPipe,
+    x: &Joined<L>,
 ) -> Result<(), NoMemory>
-    requires in_line { IsTrue (is_in_line (pipe_view pipe.now)) }
-    requires kept { KeepsRules (pipe_view pipe.now) }
-    requires back { IsBack (record { placed = L.placed; stands = L.stands; kind = L.kind_of; size = L.size; tickets = L.tickets }) b.old (pipe_view pipe.now) (map stmt_view pipe.now.body) _locks.now f.now x.now }
-    ensures { OnOk result (IsCompiled (pipe_view pipe.now) (map stmt_view pipe.now.body) (locks_in (record { placed = L.placed; stands = L.stands; kind = L.kind_of; size = L.size; tickets = L.tickets }) b.new _locks.now f.now.made) b.new) }
+    requires pipe { CanJoin (form pipe.now) }
+    requires joined { IsJoined (members L.LockModule) b.old (form pipe.now) x.now }
+    ensures { OnOk result (IsShown (members L.LockModule) b.new (form pipe.now) x.now) }
 {
-    let outs = outputs(
+    let stages = shown(alloc, x.line.stages.as_slice(), x.line.moves.as_slice())?;
+    let squash = x.bits.zero;
+    let outs = pdl_outnets::shown(
         alloc,
         b,
-        pipe.mems.as_slice(),
-        f.stages.as_slice(),
-        x.moves.as_slice(),
-        x.nets.as_slice(),
-        f.zero,
+        pipe,
+        stages.as_slice(),
+        x.commits.as_slice(),
+        squash,
     )?;
-    show(b, outs.as_slice())
+    show(b, outs.as_slice())?;
+    Ok(())
 }
 
-/// A copy of the memories as they are told.
+// A copy of the memories as they are told.
 fn copied(alloc: Global, mems: &[MemInfo]) -> Result<Seq<MemInfo>, NoMemory>
     ensures { IfOk result (λ ms. ms ≡ mems.now) }
 {
@@ -147,46 +123,35 @@ fn copied(alloc: Global, mems: &[MemInfo]) -> Result<Seq<MemInfo>, NoMemory>
     Ok(copies)
 }
 
-/// The netlist of a pipe in line that breaks no rule, with its memories as they are told, and with these locks.
-fn compile_with<L: LockModule>(
+// The netlist of an accepted pipe with these locks.
+fn compile_with<L: LockModule + Copy>(
     alloc: Global,
-    pipe: &Pipe,
-    infos: &[MemInfo],
+    accepted: &Accepted,
     locks: &[Option<L>],
 ) -> Result<Netlist, NoMemory>
-    requires in_line { IsTrue (is_in_line (pipe_view pipe.now)) }
-    requires kept { KeepsRules (pipe_view pipe.now) }
-    requires infos { infos.now ≡ infos_of (pipe_view pipe.now).mems }
-    requires suited { AreSuited L.suits L.kind_of L.size (pipe_view pipe.now).mems infos.now locks.now }
-    ensures well { IfOk result (λ n. IsWellFormed n) }
-    ensures name { IfOk result (λ n. n.name ≡ (pipe_view pipe.now).name.name) }
-    ensures mems { IfOk result (λ n. n.mems ≡ infos.now) }
-    ensures here { IfOk result (λ n. delayed_mems n ≡ []) }
-    ensures outputs { IfOk result (λ n. 2 ≤ output_count n) }
-    ensures follows { IfOk result (λ n. ShowsMachine (pipe_view pipe.now) n) }
-    ensures turns { IfOk result (λ n. ShowsTurns (pipe_view pipe.now) n) }
+    requires suited { AreSuited L.suits (members L.LockModule) (form_of (pipe_view accepted.now.typed.pipe)) locks.now }
+    ensures finished { IfOk result (λ n. IsFinished (pipe_view accepted.now.typed.pipe) n) }
+    ensures mems { IfOk result (λ n. n.mems ≡ accepted.now.mems) }
 {
+    let pipe = accepted.flat();
     let mut b = Builder::new(alloc);
-    let front = emit_front(alloc, &mut b, pipe, infos, locks)?;
-    let back = emit_back(alloc, &mut b, pipe, locks, &front)?;
-    emit_outputs(alloc, &mut b, pipe, locks, &front, &back)?;
-    let name = pipe.name.name.clone()?;
-    let mems = copied(alloc, infos)?;
+    let joined = join(alloc, &mut b, pipe, locks)?;
+    emit_outputs(alloc, &mut b, pipe, &joined)?;
+    let name = accepted.pipe().name.name.clone()?;
+    let mems = copied(alloc, accepted.mems())?;
     Ok(b.finish(name, mems))
 }
 
-/// The netlist of an accepted pipe: it breaks no rule of netlists, and each of its ports has in each cycle the value of the machine's. The error is that memory ran out.
+/// The netlist of an accepted pipe: it follows the pipe, and what it writes to each memory is what the threads write that run one after another. The error is that memory ran out.
 pub fn compile(alloc: Global, accepted: &Accepted) -> Result<Netlist, NoMemory>
-    ensures well { IfOk result (λ n. IsWellFormed n) }
-    ensures name { IfOk result (λ n. n.name ≡ (pipe_view accepted.now.pipe).name.name) }
+    ensures follows { IfOk result (λ n. Follows (pipe_view accepted.now.typed.pipe) n) }
+    ensures refines { IfOk result (λ n. RefinesThreads (pipe_view accepted.now.typed.pipe) n) }
+    ensures turns { IfOk result (λ n. ShowsTurns (flat (pipe_view accepted.now.typed.pipe)) n) }
     ensures mems { IfOk result (λ n. n.mems ≡ accepted.now.mems) }
     ensures here { IfOk result (λ n. delayed_mems n ≡ []) }
     ensures outputs { IfOk result (λ n. 2 ≤ output_count n) }
-    ensures follows { IfOk result (λ n. ShowsMachine (pipe_view accepted.now.pipe) n) }
-    ensures turns { IfOk result (λ n. ShowsTurns (pipe_view accepted.now.pipe) n) }
 {
-    let pipe = accepted.pipe();
-    let infos = accepted.mems();
-    let locks = locks_of(alloc, pipe.mems.as_slice())?;
-    compile_with(alloc, pipe, infos, locks.as_slice())
+    let locks = locks_of(alloc, accepted.flat())?;
+    let netlist = compile_with(alloc, accepted, locks.as_slice())?;
+    Ok(netlist)
 }

@@ -1,29 +1,28 @@
-use Rattle.std.proofs.Common.{◌≡◌, true, sym, ap, subst, map, ◌∙◌}
-use Rattle.std.specs.Prelude.{IsTrue}
-use Rattle.pdl_tree.specs.declared.tree.Pipe as r_pipe
-use Rattle.pdl_tree.specs.View.{pipe_view, mem_view}
-use Rattle.pdl_rules.specs.Refusal.{KeepsRules, is_in_line}
-use Rattle.pdl_check.specs.Memories.{infos_of}
-use Rattle.pdl_check.specs.Queues.{all_queued}
-use Rattle.pdl_pipe.specs.Asked.{locks_asked}
-use Rattle.pdl_pipe.proofs.Suited.{sized_locks, any_suited}
+use Rattle.std.proofs.Common.{sym, subst}
+use Rattle.pdl_tree.specs.View.{pipe_view}
+use Rattle.pdl_form.specs.Form.{Form}
+use Rattle.pdl_formtypes.proofs.Whole.{typed_whole}
+use Rattle.pdl_formtypes.specs.Stmts.{AreTypedMems}
+use Rattle.pdl_locknets.specs.Suited.{AreComb}
+use Rattle.pdl_lockkinds.specs.Asked.{AreSizedLocks}
+use Rattle.pdl_gated.proofs.Lines.{comb_mems}
+use Rattle.pdl_pipe.proofs.Lockable.{sized_locks, at_once, suited_as}
 use Rattle.pdl_pipe.proofs.netlist.compile.Goals as goal
 
-pub locks_of-requires : goal.locks_of-requires
-locks_of-requires c = rw (c.as_slice.ensures, c.pipe-pipe.ensures) (sized_locks (pipe_view c.args.accepted.now.pipe) c.args.accepted.now.in_line c.args.accepted.now.kept)
+pub locks_of-requires-clause-mems : goal.locks_of-requires-clause-mems
+locks_of-requires-clause-mems c =
+    let a = c.args.accepted.now in
+    subst (λ (f : Form). AreTypedMems f.pipe.mems) (sym c.flat.ensures) (typed_whole (pipe_view a.typed.pipe) a.kept a.letters).mems
+
+pub locks_of-requires-clause-comb : goal.locks_of-requires-clause-comb
+locks_of-requires-clause-comb c =
+    let a = c.args.accepted.now in
+    subst (λ (f : Form). AreComb f.pipe.mems) (sym c.flat.ensures) (at_once (pipe_view a.typed.pipe).mems (comb_mems (pipe_view a.typed.pipe) a.compiled))
+
+pub locks_of-requires-clause-sizes : goal.locks_of-requires-clause-sizes
+locks_of-requires-clause-sizes c =
+    let a = c.args.accepted.now in
+    subst (λ (f : Form). AreSizedLocks f.pipe.mems) (sym c.flat.ensures) (sized_locks (pipe_view a.typed.pipe) a.kept)
 
 pub compile_with-requires : goal.compile_with-requires
-compile_with-requires c =
-    let a = c.args.accepted.now in
-    let q = pipe_view c.pipe-pipe.result.now in
-    let in_line : IsTrue (is_in_line q) = rw c.pipe-pipe.ensures a.in_line in
-    let kept : KeepsRules q = subst (λ (x : r_pipe.Pipe). KeepsRules (pipe_view x)) (sym c.pipe-pipe.ensures) a.kept in
-    let infos = c.mems-infos.ensures ∙ a.told ∙ ap (λ (x : r_pipe.Pipe). infos_of (pipe_view x).mems) (sym c.pipe-pipe.ensures) in
-    let queues : all_queued q.mems ≡ true = rw c.pipe-pipe.ensures a.queues in
-    record {
-      in_line = in_line;
-      kept = kept;
-      infos = infos;
-      suited = any_suited q c.mems-infos.result.now c.as_slice-2.result.now in_line kept queues infos
-          (c.as_slice-2.ensures.value ∙ c.in_ok-locks.ensures ∙ ap (λ xs. locks_asked (map mem_view xs)) c.as_slice.ensures);
-    }
+compile_with-requires c = record { suited = suited_as _ _ _ _ _ _ c.flat.ensures c.as_slice.ensures.value c.in_ok-locks.ensures.suited }

@@ -1,36 +1,37 @@
-use Rattle.std.proofs.Common.{refl, sym, subst, map, ◌∙◌}
-use Rattle.pdl_tree.specs.View.{pipe_view, stmt_view}
-use Rattle.pdl_net.specs.Circuit.{Circuit}
-use Rattle.pdl_trunk.specs.Compiled.{IsCompiled}
-use Rattle.pdl_pipe.specs.Front.{Members, locks_in}
-use Rattle.pdl_pipe.proofs.Finished.{IsFinished, finished}
-use Rattle.pdl_pipe.proofs.netlist.compile_with.Given.{Over}
+use Rattle.std.proofs.Common.{◌≡◌, sym, ◌∙◌, subst, rules}
+use Rattle.pdl_tree.specs.View.{pipe_view}
+use Rattle.pdl_form.specs.Form.{Form, form_of}
+use Rattle.pdl_net.specs.Circuit.{Circuit, circuit_of}
+use Rattle.pdl_stagenets.specs.Locked.{members}
+use Rattle.pdl_locknets.specs.Suited.{AreSuited}
+use Rattle.pdl_pipe.specs.Joined.{CanJoin, IsShown}
+use Rattle.pdl_pipe.proofs.Joinable.{can_join}
+use Rattle.pdl_pipe.proofs.Finishing.{whole}
 use Rattle.pdl_pipe.proofs.netlist.compile_with.Goals as goal
 
--- the finished netlist
-all : (g : Over) (c : goal.After-drop-front-3 g) → IsFinished (pipe_view c.args.pipe.now) c.finish.result
-all g c =
-    let L = g.L.LockModule in
-    let l : Members _ = record { placed = L.placed; stands = L.stands; kind = L.kind_of; size = L.size; tickets = L.tickets } in
-    let p = pipe_view c.args.pipe.now in
-    let body = map stmt_view c.args.pipe.now.body in
-    let b = c.emit_outputs.new.b in
-    let ls = locks_in l b c.args.locks.now c.in_ok-front.front.made in
-    finished p body ls c.finish.result c.requires.in_line c.requires.kept refl
-    (subst (λ (x : Circuit). IsCompiled p body ls x) (sym c.finish.ensures.value) c.in_ok-emit_outputs.ensures)
-    c.finish.ensures.well (c.finish.ensures.mems ∙ c.in_ok-mems.ensures ∙ c.requires.infos)
+pub join-requires-clause-pipe : goal.join-requires-clause-pipe
+join-requires-clause-pipe g c =
+    let a = c.args.accepted.now in
+    subst CanJoin (sym c.flat-pipe.ensures) (can_join (pipe_view a.typed.pipe) a.kept a.source a.letters a.compiled)
 
-pub returns-clause-well : goal.returns-clause-well
-returns-clause-well g c = (all g c).well
+pub join-requires-clause-suited : goal.join-requires-clause-suited
+join-requires-clause-suited g c =
+    subst (λ (f : Form). AreSuited g.L.LockModule.suits (members g.L.LockModule) f c.args.locks.now) (sym c.flat-pipe.ensures) c.requires.suited
 
-pub returns-clause-here : goal.returns-clause-here
-returns-clause-here g c = (all g c).here
+pub emit_outputs-requires-clause-pipe : goal.emit_outputs-requires-clause-pipe
+emit_outputs-requires-clause-pipe g c =
+    let a = c.args.accepted.now in
+    subst CanJoin (sym c.flat-pipe.ensures) (can_join (pipe_view a.typed.pipe) a.kept a.source a.letters a.compiled)
 
-pub returns-clause-outputs : goal.returns-clause-outputs
-returns-clause-outputs g c = (all g c).outputs
-
-pub returns-clause-follows : goal.returns-clause-follows
-returns-clause-follows g c = (all g c).follows
-
-pub returns-clause-turns : goal.returns-clause-turns
-returns-clause-turns g c = (all g c).turns
+pub returns-clause-finished : goal.returns-clause-finished
+returns-clause-finished g c =
+    let a = c.args.accepted.now in
+    let p = pipe_view a.typed.pipe in
+    let l = members g.L.LockModule in
+    let x = c.in_ok-joined.joined in
+    let n = c.finish.result in
+    let shown : IsShown l (circuit_of n) (form_of p) x =
+    subst (λ (y : Circuit). IsShown l y (form_of p) x) (sym c.finish.ensures.value)
+    (subst (λ (f : Form). IsShown l c.emit_outputs.new.b f x) c.flat-pipe.ensures c.in_ok-emit_outputs.ensures) in
+    let name : n.name ≡ p.name.name = search rules in
+    whole p a.kept a.source a.letters a.compiled l g.met.L.LockModule.stays x n shown name (c.finish.ensures.mems ∙ c.in_ok-mems.ensures ∙ c.mems.ensures ∙ a.told) c.finish.ensures.well

@@ -1,45 +1,55 @@
-use Rattle.std.proofs.Common.{◌≡◌, List, map, refl, sym, subst}
-use Rattle.std.proofs.lemmas.Result.{on_ok_weaker}
+use Rattle.std.proofs.Common.{◌≡◌, ◌≤◌, sym, ap, ap₂, ◌∙◌, subst, ℕ, length, List, map}
 use Rattle.std.specs.Prelude.{Option}
-use Rattle.pdl_tree.specs.View.{pipe_view, stmt_view}
+use Rattle.pdl_form.specs.Whole.{form}
+use Rattle.pdl_net.specs.Signal.{Signal}
 use Rattle.pdl_net.specs.Growth.{ExtendsPorts}
 use Rattle.pdl_lockapi.specs.declared.LockNets.{LockNets}
-use Rattle.pdl_trunk.specs.Ports.{all_shown}
-use Rattle.pdl_trunk.specs.Compiled.{port_in}
-use Rattle.pdl_pipe.specs.declared.nets.StageNets.{StageNets}
-use Rattle.pdl_pipe.specs.declared.outputs.OutNet.{OutNet}
-use Rattle.pdl_pipe.specs.Sized.{ends_in, commits_in}
-use Rattle.pdl_pipe.specs.Moved.{AreGated}
-use Rattle.pdl_pipe.specs.Outputs.{output_of, shown_by, CommitsThere}
-use Rattle.pdl_pipe.specs.Front.{Members}
-use Rattle.pdl_pipe.proofs.WholeOut.{back_gated, back_commits, outs_compiled, shown_from}
-use Rattle.pdl_pipe.proofs.netlist.emit_outputs.Given.{Over}
+use Rattle.pdl_pipe_law.specs.Views.{View, Gates}
+use Rattle.pdl_pipe_law.specs.Ports.{all_shown}
+use Rattle.pdl_pipe_law.specs.Compiled.{port_in}
+use Rattle.pdl_stagenets.specs.Locked.{members}
+use Rattle.pdl_locknets.specs.Stepped.{commits_in}
+use Rattle.pdl_outnets.specs.declared.outputs.StageNets.{StageNets}
+use Rattle.pdl_outnets.specs.declared.outputs.OutNet.{OutNet}
+use Rattle.pdl_outnets.specs.Told.{AreThereStages, AreCommits, AreOf, output_of, shown_by}
+use Rattle.pdl_pipe.specs.Joined.{shown_of}
+use Rattle.pdl_pipe.proofs.Showing.{joined_count, joined_some, joined_stages, joined_commits}
 use Rattle.pdl_pipe.proofs.netlist.emit_outputs.Goals as goal
 
--- what is needed of the lock module
-abbrev members : (g : Over) → Members g.row.L.Denot
-members g = let L = g.L.LockModule in record { placed = L.placed; stands = L.stands; kind = L.kind_of; size = L.size; tickets = L.tickets }
+pub shown-requires : goal.shown-requires
+shown-requires g c = ap length c.as_slice-2.ensures.value ∙ c.requires.joined.line.moves ∙ sym c.requires.joined.line.stages ∙ sym (ap length c.as_slice.ensures.value)
 
-pub outputs-requires-clause-gated : goal.outputs-requires-clause-gated
-outputs-requires-clause-gated g c =
-    subst (λ (ss : List StageNets). AreGated c.args.b.now ss) (sym c.as_slice-2.ensures.value)
-    (back_gated (members g) c.args.b.now (pipe_view c.args.pipe.now) (map stmt_view c.args.pipe.now.body) c.args._locks.now c.args.f.now c.args.x.now c.requires.back)
-
-pub outputs-requires-clause-nets : goal.outputs-requires-clause-nets
-outputs-requires-clause-nets g c =
-    subst (λ (ns : List (Option LockNets)). CommitsThere c.args.b.now ns) (sym c.as_slice-4.ensures)
-    (back_commits (members g) c.args.b.now (pipe_view c.args.pipe.now) (map stmt_view c.args.pipe.now.body) c.args._locks.now c.args.f.now c.args.x.now c.requires.back)
+pub shown-requires-2 : goal.shown-requires-2
+shown-requires-2 g c =
+    let l = members g.L.LockModule in
+    let f = form c.args.pipe.now in
+    let b = c.args.b.now in
+    let x = c.args.x.now in
+    let j = c.requires.joined in
+    let same : c.as_slice-3.result.now ≡ shown_of x.line.stages.items x.line.moves.items = c.as_slice-3.ensures.value ∙ c.in_ok-stages.ensures ∙ ap₂ shown_of c.as_slice.ensures.value c.as_slice-2.ensures.value in
+    record {
+      some = subst (λ (ss : List StageNets). 1 ≤ length ss) (sym same) (joined_some l b f x j c.requires.pipe);
+      count = ap length same ∙ joined_count l b f x j;
+      stages = subst (AreThereStages b) (sym same) (joined_stages l b f x j);
+      commits = subst (AreCommits b f.pipe) (sym c.as_slice-4.ensures.value) (joined_commits l b f x j);
+      squash = j.zero.there;
+    }
 
 pub returns : goal.returns
 returns g c =
-    let a = c.args.b.now in
+    let f = form c.args.pipe.now in
+    let b = c.args.b.now in
     let d = c.show.new.b in
-    let p = pipe_view c.args.pipe.now in
-    let body = map stmt_view c.args.pipe.now.body in
+    let x = c.args.x.now in
     let outs = c.in_ok-outs.outs in
-    let shown : shown_by a outs ≡ all_shown (commits_in a c.args.x.now.nets) p.mems (ends_in a c.args.f.now.stages.items) =
-    shown_from a c.args.pipe.now.mems c.as_slice.result.now c.args.f.now.stages.items c.as_slice-2.result.now c.args.x.now.nets c.as_slice-4.result.now (shown_by a outs) c.as_slice.ensures c.as_slice-2.ensures.value c.as_slice-4.ensures c.in_ok-outs.ensures.shown in
-    on_ok_weaker c.show.result
-    (λ more. outs_compiled (members g) a p body c.args._locks.now c.args.f.now c.args.x.now c.requires.back c.requires.in_line c.requires.kept refl g.met.L.LockModule.stays d outs
-    (subst (λ (os : List OutNet). ExtendsPorts a d (map (port_in a) (map output_of os))) c.as_slice-5.ensures more) c.in_ok-outs.ensures.there shown)
-    c.show.ensures.ports
+    let same : c.as_slice-3.result.now ≡ shown_of x.line.stages.items x.line.moves.items = c.as_slice-3.ensures.value ∙ c.in_ok-stages.ensures ∙ ap₂ shown_of c.as_slice.ensures.value c.as_slice-2.ensures.value in
+    record {
+      before = b;
+      joined = c.requires.joined;
+      outs = outs;
+      there = c.in_ok-outs.ensures.there;
+      ports = subst (λ (os : List OutNet). ExtendsPorts b d (map (port_in b) (map output_of os))) c.as_slice-5.ensures c.in_ok-show.ensures.ports;
+      shown =
+          subst (λ (ns : List (Option LockNets)). (vs : ℕ → View) (gates : Gates) (moves : ℕ → Signal) (names : ℕ → List ℕ) → AreOf b (shown_of x.line.stages.items x.line.moves.items) x.bits.zero f.names vs gates moves names → shown_by b outs ≡ all_shown f.pipe names (commits_in b ns) vs gates moves) c.as_slice-4.ensures.value
+          (subst (λ (ss : List StageNets). (vs : ℕ → View) (gates : Gates) (moves : ℕ → Signal) (names : ℕ → List ℕ) → AreOf b ss x.bits.zero f.names vs gates moves names → shown_by b outs ≡ all_shown f.pipe names (commits_in b c.as_slice-4.result.now) vs gates moves) same c.in_ok-outs.ensures.shown);
+    }

@@ -1,0 +1,72 @@
+-- What is said of the memories of a flat form, said of the tree that it is made from.
+use Rattle.std.proofs.Common.{◌≡◌, refl, ap₂, ◌∙◌, subst, ℕ, zero, suc, ◌+◌, ◌^◌, ◌<◌, true, List, [], ◌∷◌, map, length, arith}
+use Rattle.std.specs.Prelude.{Option, Some, None, slice_index_or}
+use Rattle.pdl_semantics.specs.Tree.{Number, LockKind, Queue, Bypass, Rename, LockDecl, Mem}
+use Rattle.pdl_semantics.specs.Flat as flat
+use Rattle.pdl_semantics.specs.Flatten.{lock_of, mems_of}
+use Rattle.pdl_semantics.specs.Stages.{plain_mem}
+use Rattle.pdl_net.specs.Circuit.{Circuit, Shape}
+use Rattle.pdl_form.specs.Form.{names_of}
+use Rattle.pdl_pipe_law.specs.Walk.{has_kind}
+use Rattle.pdl_pipe_law.specs.Ports.{Commit}
+use Rattle.pdl_pipe_law.specs.Declared.{array_words, shape_of_mem, mem_names, CommitsFit}
+use Rattle.pdl_pipe_law.proofs.WellFormedPorts.{kind_same}
+use Rattle.pdl_semantics.specs.Flat.{Pipe}
+use Rattle.pdl_locknets.specs.Suited.{words_in, shapes_in}
+use Rattle.pdl_stageregs.specs.declared.moving.MoveNets.{MoveNets}
+use Rattle.pdl_stageregs.specs.declared.nets.StageNets.{StageNets}
+use Rattle.pdl_stageregs.specs.Stages.{views_in}
+use Rattle.pdl_stageregs.specs.Moves.{AreMovesThere, moves_in}
+
+-- ---- memories
+
+same_words : (l : Option LockDecl) (d : ℕ) → words_in (lock_of l) d ≡ array_words l d
+same_words None d = refl
+same_words (Some l) d = at l.kind l.size
+  where
+    at : (k : LockKind) (s : Number) → words_in (lock_of (Some (record { kind = k; size = s }))) d ≡ array_words (Some (record { kind = k; size = s })) d
+    at Queue s = refl
+    at Bypass s = refl
+    at Rename s = refl
+
+pub same_shapes : (ms : List Mem) → shapes_in (names_of ms) (mems_of ms) ≡ map shape_of_mem ms
+same_shapes [] = refl
+same_shapes (m ∷ ms) = ap₂ (λ (n : ℕ) (ss : List Shape). record { name = m.name.name; width = m.width.value; depth = n } ∷ ss) (same_words m.lock m.depth.value) (same_shapes ms)
+
+pub same_names : (ms : List Mem) (m : ℕ) → mem_names ms m ≡ slice_index_or (names_of ms) m []
+same_names [] m = refl
+same_names (x ∷ xs) zero = refl
+same_names (x ∷ xs) (suc m) = same_names xs m
+
+-- ---- commits
+
+abbrev Fits : flat.Mem → Commit → Type 0
+Fits m x = (x.enable.width ≡ 1) × (2 ^ x.addr.width ≡ m.depth) × (x.value.width ≡ m.width)
+
+fits_from : (commits : ℕ → Commit) (k : ℕ) (ms : List Mem) → ((i j : ℕ) → j ≡ k + i → has_kind (slice_index_or (mems_of ms) i plain_mem).lock ≡ true → Fits (slice_index_or (mems_of ms) i plain_mem) (commits j)) → CommitsFit commits k ms
+fits_from commits k [] h = tt
+fits_from commits k (m ∷ ms) h = (
+  λ s. let q = h 0 k (omega arith) (kind_same m.lock ∙ s) in record { enable = q.0; reach = q.1; value = q.2 },
+  fits_from commits (suc k) ms (λ i j e s. h (suc i) j (omega (arith, e)) s),
+)
+
+pub commits_fit : (commits : ℕ → Commit) (ms : List Mem) → ((m : ℕ) → has_kind (slice_index_or (mems_of ms) m plain_mem).lock ≡ true → Fits (slice_index_or (mems_of ms) m plain_mem) (commits m)) → CommitsFit commits 0 ms
+commits_fit commits ms h = fits_from commits 0 ms (λ i j e s. subst (λ n. Fits (slice_index_or (mems_of ms) i plain_mem) (commits n)) (let z : i ≡ j = omega (arith, e) in z) (h i s))
+
+-- ---- stages
+
+-- a stage begins with what was kept
+pub same_begun : (c : Circuit) (p : Pipe) (ss : List StageNets) (k x : ℕ) → (views_in c p ss k).begun.vars x ≡ (views_in c p ss k).kept x
+same_begun c p [] k x = refl
+same_begun c p (s ∷ ss) zero x = refl
+same_begun c p (s ∷ ss) (suc k) x = same_begun c p ss k x
+
+pub one_valid : (c : Circuit) (p : Pipe) (ss : List StageNets) (k : ℕ) → (views_in c p ss k).valid.width ≡ 1
+one_valid c p [] k = refl
+one_valid c p (s ∷ ss) zero = refl
+one_valid c p (s ∷ ss) (suc k) = one_valid c p ss k
+
+pub one_moves : (c : Circuit) (ms : List MoveNets) (k : ℕ) → k < length ms → AreMovesThere c ms → (moves_in c ms k).width ≡ 1
+one_moves c [] k low h = absurd (omega (arith, low))
+one_moves c (m ∷ ms) zero low h = h.0.1
+one_moves c (m ∷ ms) (suc k) low h = one_moves c ms k (omega (arith, low)) h.1

@@ -1,0 +1,86 @@
+-- The memories of a pipe that keeps the rules and can be compiled can have the locks that they ask for, and answer at once.
+use Rattle.std.proofs.Common.{◌≡◌, ℕ, Bool, true, false, not, ◌&&◌, ◌||◌, ◌==◌, nat_le, List, [], ◌∷◌, ◌++◌, map, Option, Some, None, refl, sym, ap, ◌∙◌, subst, append_assoc, leb-true}
+use Rattle.std.specs.List.{list_all}
+use Rattle.std.proofs.lemmas.Bool.{and_parts, or_parts, not-false, not-true, eqb-true, eqb-false}
+use Rattle.pdl_kit.specs.declared.mem_info.MemInfo.{MemInfo}
+use Rattle.pdl_kit.specs.declared.rule.Rule.TheVariants.{Z7}
+use Rattle.pdl_semantics.specs.Tree.{Number, LockKind, Queue, Bypass, Rename, LockDecl, Mem, Pipe}
+use Rattle.pdl_semantics.specs.Flatten.{lock_of, mems_of}
+use Rattle.pdl_rules.specs.Places.{Place, Parameter, Memory, End, StartClause, places, statements}
+use Rattle.pdl_rules.specs.Parts.{passes}
+use Rattle.pdl_rules.specs.Limits.{is_size, is_width, is_depth, allows, is_wrong_lock}
+use Rattle.pdl_rules.specs.Refusal.{KeepsRules, is_comb}
+use Rattle.pdl_entries.specs.Slots.{IsSize}
+use Rattle.pdl_form.specs.Form.{Form}
+use Rattle.pdl_stagenets.specs.Locked.{Members}
+use Rattle.pdl_locknets.specs.Suited.{AreComb, AreSuited}
+use Rattle.pdl_lockkinds.specs.Asked.{IsSizedLock, AreSizedLocks}
+
+-- SIZES
+
+flip : (a b : ℕ) → (a == b) ≡ (b == a)
+flip a b = at (a == b) refl (b == a) refl
+  where
+    at : (x : Bool) → (a == b) ≡ x → (y : Bool) → (b == a) ≡ y → x ≡ y
+    at true e true f = refl
+    at true e false f = absurd (eqb-false b a f (sym (eqb-true a b e)))
+    at false e true f = absurd (eqb-false a b e (sym (eqb-true b a f)))
+    at false e false f = refl
+
+or_false : (b : Bool) → (b || false) ≡ b
+or_false true = refl
+or_false false = refl
+
+regroup : (a b c d e : Bool) → (a || b || c || d || e) ≡ (a || (b || (c || (d || e))))
+regroup true b c d e = refl
+regroup false true c d e = refl
+regroup false false true d e = refl
+regroup false false false true e = refl
+regroup false false false false e = refl
+
+size_of : (s : ℕ) → is_size s ≡ true → IsSize s
+size_of s h =
+    regroup (s == 1) (s == 2) (s == 4) (s == 8) (s == 16) ∙
+    ap (λ b. b || ((s == 2) || ((s == 4) || ((s == 8) || (s == 16))))) (flip s 1)
+    ∙ ap (λ b. (1 == s) || (b || ((s == 4) || ((s == 8) || (s == 16))))) (flip s 2)
+    ∙ ap (λ b. (1 == s) || ((2 == s) || (b || ((s == 8) || (s == 16))))) (flip s 4)
+    ∙ ap (λ b. (1 == s) || ((2 == s) || ((4 == s) || (b || (s == 16))))) (flip s 8)
+    ∙ ap (λ b. (1 == s) || ((2 == s) || ((4 == s) || ((8 == s) || b)))) (flip s 16 ∙ sym (or_false (16 == s)))
+    ∙ h
+
+-- MEMORIES
+
+can_have : (k : LockKind) (s : Number) (depth : ℕ) (delayed : Bool) → (is_size s.value && allows depth delayed k s.value) ≡ true → IsSizedLock (lock_of (Some (record { kind = k; size = s }))) depth
+can_have Queue s depth delayed e = size_of s.value (and_parts _ _ e).0
+can_have Bypass s depth delayed e = size_of s.value (and_parts _ _ e).0
+can_have Rename s depth delayed e =
+    let parts = and_parts (is_size s.value) _ e in
+    let fits = and_parts (nat_le depth 64) (nat_le s.value depth) (and_parts (not delayed) _ parts.1).1 in
+    (size_of s.value parts.0, leb-true depth 64 fits.0, leb-true s.value depth fits.1)
+
+lock_fits : (m : Mem) (l : Option LockDecl) → passes (is_wrong_lock m) l ≡ false → IsSizedLock (lock_of l) m.depth.value
+lock_fits m None e = tt
+lock_fits m (Some l) e = can_have l.kind l.size m.depth.value m.delayed (not-false _ e)
+
+all_fit : (p : Pipe) → KeepsRules p → (ms : List Mem) (before later : List Place) → places p ≡ before ++ (map Memory ms ++ later) → AreSizedLocks (mems_of ms)
+all_fit p rules [] before later e = tt
+all_fit p rules (m ∷ ms) before later e = (
+  lock_fits m m.lock (or_parts (not (is_width m.width.value && is_depth m.depth.value)) _ (rules Z7 before (Memory m) _ e)).1,
+  all_fit p rules ms (before ++ Memory m ∷ []) later (e ∙ sym (append_assoc before (Memory m ∷ []) (map Memory ms ++ later))),
+)
+
+pub sized_locks : (p : Pipe) → KeepsRules p → AreSizedLocks (mems_of p.mems)
+sized_locks p rules =
+    all_fit p rules p.mems (map Parameter p.params) (statements [] p.body ++ End p.end ∷ StartClause p.start ∷ [])
+    (append_assoc (map Parameter p.params ++ map Memory p.mems) (statements [] p.body) (End p.end ∷ StartClause p.start ∷ [])
+    ∙ append_assoc (map Parameter p.params) (map Memory p.mems) (statements [] p.body ++ End p.end ∷ StartClause p.start ∷ []))
+
+pub at_once : (ms : List Mem) → list_all is_comb ms ≡ true → AreComb (mems_of ms)
+at_once [] e = tt
+at_once (m ∷ ms) e = let parts = and_parts (is_comb m) (list_all is_comb ms) e in (not-true m.delayed parts.0, at_once ms parts.1)
+
+-- LOCKS
+
+-- locks that suit a form suit the same form
+pub suited_as : {T : Type 0} (suits : T → MemInfo → Type 0) (l : Members T) (f g : Form) (xs ys : List (Option T)) → f ≡ g → ys ≡ xs → AreSuited suits l f xs → AreSuited suits l g ys
+suited_as suits l f g xs ys e s h = subst (λ k. AreSuited suits l k ys) e (subst (AreSuited suits l f) (sym s) h)
