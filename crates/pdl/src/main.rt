@@ -1,20 +1,33 @@
 //! Runs a processor in PDL: `pdl run SOURCE.pdl IMAGE.img CYCLES`.
 #![tactic(auto)]
 
+use pdl_cli::NoWords;
 use pdl_kit::{RealFiles, StdSink};
+use std::io::ErrorKind;
 use std::process::ExitCode;
 
-fn main(rt: HostRuntime) -> ExitCode {
-    let alloc = rt.alloc();
-    let words: Vec<String> = match std::env::args(&rt) {
-        Ok(args) => match args.skip(1).collect(alloc) {
-            Ok(words) => words,
-            Err(_) => return ExitCode::from(5),
+// The words after the program's name.
+fn words(rt: &HostRuntime) -> Result<Vec<String>, NoWords> {
+    match std::env::args(rt) {
+        Ok(args) => match args.skip(1).collect(rt.alloc()) {
+            Ok(words) => Ok(words),
+            Err(_) => Err(NoWords::NoMemory),
         },
-        Err(_) => return ExitCode::from(1),
-    };
-    let mut out = StdSink::new(rt.stdout());
+        Err(error) => match error.kind() {
+            ErrorKind::OutOfMemory => Err(NoWords::NoMemory),
+            _ => Err(NoWords::Unreadable),
+        },
+    }
+}
+
+fn main(rt: HostRuntime) -> ExitCode {
     let mut err = StdSink::new(rt.stderr());
+    let words = match words(&rt) {
+        Ok(words) => words,
+        Err(why) => return ExitCode::from(pdl_cli::without_words(why, &mut err)),
+    };
+    let alloc = rt.alloc();
+    let mut out = StdSink::new(rt.stdout());
     let mut files = RealFiles::new(rt);
     ExitCode::from(pdl_cli::top(alloc, &words, &mut files, &mut out, &mut err))
 }

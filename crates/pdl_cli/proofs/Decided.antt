@@ -3,7 +3,7 @@ use Rattle.std.proofs.Common.{◌≡◌, ℕ, List, Option, Some, None, Result, 
 use Rattle.pdl_kit.specs.declared.rule.Rule.{Rule}
 use Rattle.pdl_kit.specs.declared.rule.Rule.TheVariants.{G1}
 use Rattle.pdl_kit.specs.Files.{Held, Gives}
-use Rattle.pdl_model.specs.Tree.{Pipe}
+use Rattle.pdl_semantics.specs.Tree.{Pipe}
 use Rattle.pdl_grammar.specs.Text.{IsText}
 use Rattle.pdl_grammar.proofs.Places.{one_tree}
 use Rattle.pdl_rules.specs.Refusal.{refused_at, refusal}
@@ -16,7 +16,7 @@ use Rattle.pdl_asmtable.specs.Tables.{TableValue}
 use Rattle.pdl_asmtable.specs.Documents as documents
 use Rattle.pdl_asm.specs.declared.asm_error.AsmError.TheVariants as asm_error
 use Rattle.pdl_asm.specs.Assembly as assembly
-use Rattle.pdl_line.specs.Line.{Command, check, run, asm}
+use Rattle.pdl_args.specs.Line.{Command, check, run, asm}
 use Rattle.pdl_cli.specs.declared.failure.Position.{Position}
 use Rattle.pdl_cli.specs.declared.failure.Position.TheVariants.{Line, Insn}
 use Rattle.pdl_cli.specs.declared.failure.Failure.{Failure}
@@ -26,7 +26,7 @@ use Rattle.pdl_cli.specs.Assembled.{IsTabled, IsWrongTable, IsWrongText, IsAssem
 use Rattle.pdl_cli.specs.Commands.{SourceRefused, IsAccepted, IsLoaded, IsWrongSource, IsWrongImage, IsWrong, IsWrongFor, Writes}
 use Rattle.pdl_cli.specs.Top.{Seen, Explains, IsDecided, Decides}
 
-one_text : (held : Held) (name b c : List ℕ) → Gives (Some held) name b → Gives (Some held) name c → b ≡ c
+pub one_text : (held : Held) (name b c : List ℕ) → Gives (Some held) name b → Gives (Some held) name c → b ≡ c
 one_text held name b c g h = let k : Some b ≡ Some c = sym g ∙ h in cc
 
 kept_unrefused : (b : List ℕ) (p : Pipe) (rule : Rule) (line : ℕ) → IsAccepted b p → SourceRefused b rule line → ⊥
@@ -36,7 +36,7 @@ kept_unrefused b p rule line a (inr w) =
     subst (λ (q : Pipe). source_refusal b q ≡ Some (record { rule = rule; line = line })) (one_tree b w.0 p w.1 a.text) w.2 in
     let n : source_refusal b p ≡ None = ap (λ o. refused_at G1 o (refusal b p)) a.passed ∙ a.kept in absurd cc
 
-source_right : (held : Held) (source : List ℕ) (rule : Rule) (line : ℕ) (b : List ℕ) (p : Pipe)
+pub source_right : (held : Held) (source : List ℕ) (rule : Rule) (line : ℕ) (b : List ℕ) (p : Pipe)
     → Gives (Some held) source b → IsAccepted b p → IsWrongSource (Some held) source rule line → ⊥
 source_right held source rule line b p g a w =
     kept_unrefused b p rule line a (subst (λ (t : List ℕ). SourceRefused t rule line) (one_text held source w.source_text b w.source_given g) w.refused)
@@ -59,13 +59,13 @@ none_wrong held source image' rule line p words l (inl w) = source_right held so
 none_wrong held source image' rule line p words l (inr w) = image_right held source image' rule line p words l w
 
 -- a table is one value, and a program one image
-one_table : (held : Held) (table : List ℕ) (v w : TableValue) → IsTabled (Some held) table v → IsTabled (Some held) table w → v ≡ w
+pub one_table : (held : Held) (table : List ℕ) (v w : TableValue) → IsTabled (Some held) table v → IsTabled (Some held) table w → v ≡ w
 one_table held table v w a b =
     let t : a.table_text ≡ b.table_text = one_text held table a.table_text b.table_text a.table_given b.table_given in
     let k : documents.table b.table_text ≡ Ok v = subst (λ (x : List ℕ). documents.table x ≡ Ok v) t a.taken in
     let l : documents.table b.table_text ≡ Ok w = b.taken in cc
 
-table_right : (held : Held) (table : List ℕ) (rule : Rule) (insn : ℕ) (v : TableValue) → IsTabled (Some held) table v → IsWrongTable (Some held) table rule insn → ⊥
+pub table_right : (held : Held) (table : List ℕ) (rule : Rule) (insn : ℕ) (v : TableValue) → IsTabled (Some held) table v → IsWrongTable (Some held) table rule insn → ⊥
 table_right held table rule insn v a w =
     let t : w.table_text ≡ a.table_text = one_text held table w.table_text a.table_text w.table_given a.table_given in
     let k : documents.table a.table_text ≡ Err (table_error.Refused rule insn) = subst (λ (x : List ℕ). documents.table x ≡ Err (table_error.Refused rule insn)) t w.refused in

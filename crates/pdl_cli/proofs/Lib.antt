@@ -1,6 +1,7 @@
 pub mod Accepting
 pub mod ShortNames
 pub mod Decided
+pub mod Refusals
 pub mod Lined
 pub mod Preparing
 pub mod Printing

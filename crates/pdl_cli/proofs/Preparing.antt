@@ -2,12 +2,12 @@
 use Rattle.std.proofs.Common.{◌≡◌, ℕ, ◌≤◌, List, Option, inr, subst, arith}
 use Rattle.pdl_kit.specs.Counts.{Rose}
 use Rattle.pdl_kit.specs.Files.{Held, Gives}
-use Rattle.pdl_model.specs.Tree.{Pipe}
+use Rattle.pdl_semantics.specs.Tree.{Pipe}
 use Rattle.pdl_cli.specs.declared.failure.Position.TheVariants.{Line, Insn}
 use Rattle.pdl_cli.specs.declared.failure.Failure.{Failure}
 use Rattle.pdl_cli.specs.declared.failure.Failure.TheVariants.{Usage, Refused, ReadFault, WriteFault, NoMemory}
-use Rattle.pdl_line.specs.Line.{run}
-use Rattle.pdl_cli.specs.Commands.{IsAccepted, IsTaken, IsLoaded, ImageFails, SourceFails, Fails}
+use Rattle.pdl_args.specs.Line.{run}
+use Rattle.pdl_cli.specs.Commands.{IsAccepted, IsTaken, IsLoaded, ImageFails, Fails}
 
 pub rose_before : (before mid now : ℕ) → before ≤ mid → Rose mid now → Rose before now
 rose_before before mid now h r = omega (arith, r)

@@ -2,8 +2,8 @@
 use Rattle.std.proofs.Common.{◌≡◌, ℕ, ◌+◌, ◌<◌, List, ◌∷◌, ◌++◌, map, drop, length, get_or, Option, sym, ap, ◌∙◌, append_assoc}
 use Rattle.std.proofs.lemmas.List.{drop_more}
 use Rattle.pdl_kit.specs.declared.mem_info.MemInfo.{MemInfo}
-use Rattle.pdl_model.specs.Lines.{mem_lines, cycle_lines}
-use Rattle.pdl_trunk.specs.Runs.{column_of, puts_of}
+use Rattle.pdl_semantics.specs.Lines.{mem_lines, cycle_lines}
+use Rattle.pdl_pipe_law.specs.Runs.{column_of, puts_of}
 
 -- the lines of these memories, where a memory commits as `f` says
 abbrev pub lines_of : ℕ → (MemInfo → Option (ℕ × ℕ)) → List MemInfo → List ℕ

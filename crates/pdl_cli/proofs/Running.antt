@@ -3,11 +3,11 @@ use Rattle.std.proofs.Common.{◌≡◌, ℕ, zero, suc, ◌+◌, ◌-◌, ◌<�
 use Rattle.std.specs.Prelude.{Bool, replicate, count_by, if◌then◌else◌}
 use Rattle.std.proofs.lemmas.List.{length-map}
 use Rattle.std.proofs.lemmas.List.Sums.{sum_by-cons}
-use Rattle.pdl_model.specs.Lines.{Column, Cycle, cycle_lines, lines_from}
+use Rattle.pdl_semantics.specs.Lines.{Column, Cycle, cycle_lines, lines_from}
 use Rattle.pdl_net.specs.declared.Netlist.{Netlist}
 use Rattle.pdl_net.specs.Run.{Held, shown, next, nports_from}
 use Rattle.pdl_netrun.specs.Sim.{Run, stepped}
-use Rattle.pdl_trunk.specs.Runs.{cycle_of}
+use Rattle.pdl_pipe_law.specs.Runs.{cycle_of}
 use Rattle.pdl_cli.specs.Printed.{cycles_from}
 use Rattle.pdl_cli.specs.Tally.{one_if}
 

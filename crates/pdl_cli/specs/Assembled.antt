@@ -1,5 +1,5 @@
 -- What `asm` does with the files that it names.
-use Rattle.std.specs.Prelude.{◌≡◌, ℕ, List, Option, Result, Ok, Err}
+use Rattle.std.specs.Prelude.{◌≡◌, ℕ, List, Option, Ok, Err}
 use Rattle.pdl_kit.specs.declared.rule.Rule.{Rule}
 use Rattle.pdl_kit.specs.Files.{Held, Gives}
 use Rattle.pdl_asmtable.specs.declared.table_error.TableError.TheVariants as table_error

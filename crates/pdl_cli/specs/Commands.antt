@@ -4,22 +4,22 @@ use Rattle.pdl_kit.specs.declared.rule.Rule.{Rule}
 use Rattle.pdl_kit.specs.declared.rule.Rule.TheVariants.{G1}
 use Rattle.pdl_kit.specs.Files.{Held, Gives}
 use Rattle.pdl_kit.specs.Counts.{Rose}
-use Rattle.pdl_model.specs.Tree.{Pipe}
-use Rattle.pdl_model.specs.Flat.{arrays_of}
-use Rattle.pdl_model.specs.Flatten.{flat}
-use Rattle.pdl_model.specs.Lines.{accepted_line, run_lines}
-use Rattle.pdl_model.specs.Promises.{Refines, Advances, KeepsPace}
+use Rattle.pdl_semantics.specs.Tree.{Pipe}
+use Rattle.pdl_semantics.specs.Flat.{arrays_of}
+use Rattle.pdl_semantics.specs.Flatten.{flat}
+use Rattle.pdl_semantics.specs.Lines.{accepted_line, run_lines}
+use Rattle.pdl_semantics.specs.Promises.{Refines, Advances, KeepsPace}
 use Rattle.pdl_grammar.specs.Text.{IsText, IsOutOfPlace}
 use Rattle.pdl_rules.specs.Refusal.{refusal}
 use Rattle.pdl_check.specs.Gate.{gated_line}
 use Rattle.pdl_check.specs.Answers.{source_refusal}
 use Rattle.pdl_check.specs.Memories.{infos_of}
 use Rattle.pdl_net.specs.declared.Netlist.{Netlist}
-use Rattle.pdl_net.specs.Pipe.{IsWellFormed}
-use Rattle.pdl_trunk.specs.Runs.{ShowsMachine}
+use Rattle.pdl_pipe_law.specs.Follows.{Follows}
+use Rattle.pdl_pipe.specs.Refined.{RefinesThreads}
 use Rattle.pdl_image.specs.Images.{image}
 use Rattle.pdl_image.specs.declared.file_error.FileError.TheVariants as file
-use Rattle.pdl_line.specs.Line.{Command, check, run, asm}
+use Rattle.pdl_args.specs.Line.{Command, check, run, asm}
 use Rattle.pdl_cli.specs.declared.failure.Position.{Position}
 use Rattle.pdl_cli.specs.declared.failure.Position.TheVariants.{Line, Insn}
 use Rattle.pdl_cli.specs.declared.failure.Failure.{Failure}
@@ -58,7 +58,8 @@ IsTaken p text words = image (infos_of p.mems) text ≡ Ok words
 -- why an image for a pipe is not there
 abbrev pub ImageFails : Option Held → ℕ → ℕ → List ℕ → Pipe → Failure → Type 0
 ImageFails holds before now name p failure.Usage = ⊥
-ImageFails holds before now name p (failure.Refused rule position) = AtLine (λ line. (text : List ℕ) × Gives holds name text × (image (infos_of p.mems) text ≡ Err (file.Refused rule line))) position
+ImageFails holds before now name p (failure.Refused rule position) =
+    AtLine (λ line. (text : List ℕ) × Gives holds name text × (image (infos_of p.mems) text ≡ Err (file.Refused rule line))) position
 ImageFails holds before now name p failure.ReadFault = Rose before now
 ImageFails holds before now name p failure.WriteFault = ⊥
 ImageFails holds before now name p failure.NoMemory = Unit {0}
@@ -123,12 +124,11 @@ pub record IsOutput (holds : Option Held) (source image' : List ℕ) (cycles : �
   pub loaded : IsLoaded holds source image' pipe words
   -- the text has the lines of the machine's ports
   pub lines : text ≡ run_lines pipe words (replies cycles)
-  -- and is what the netlist of the pipe commits, of which each port in each cycle is the machine's, for each image and schedule
+  -- and is what a netlist commits that follows the pipe: its ports by name, its memories and arrays, and each port in each cycle the machine's, for each image and schedule
   pub netlist : Netlist
-  pub well : IsWellFormed netlist
-  pub name : netlist.name ≡ pipe.name.name
-  pub mems : netlist.mems ≡ infos_of pipe.mems
-  pub ports : ShowsMachine pipe netlist
+  pub follows : Follows pipe netlist
+  -- what the netlist writes to each memory are the writes of the threads run one after another, for each image and schedule
+  pub writes : RefinesThreads pipe netlist
   pub printed : text ≡ run_text netlist words (schedule cycles)
   -- each memory's commits have the sequential writes of the threads that ended, and are a prefix of the sequential writes
   pub refines : Refines (flat pipe) (arrays_of words) (replies cycles)

@@ -15,8 +15,8 @@ use Rattle.pdl_asmtable.specs.declared.table_error.TableError.{TableError}
 use Rattle.pdl_asmtable.specs.declared.table_error.TableError.TheVariants as table
 use Rattle.pdl_asm.specs.declared.asm_error.AsmError.{AsmError}
 use Rattle.pdl_asm.specs.declared.asm_error.AsmError.TheVariants as asm
-use Rattle.pdl_line.specs.declared.line.LineError.{LineError}
-use Rattle.pdl_line.specs.declared.line.LineError.TheVariants as line
+use Rattle.pdl_args.specs.declared.line.LineError.{LineError}
+use Rattle.pdl_args.specs.declared.line.LineError.TheVariants as line
 use Rattle.pdl_cli.specs.Texts.{refusal_text, refused_insn_text}
 
 -- why a file was not read

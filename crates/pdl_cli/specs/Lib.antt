@@ -1,5 +1,6 @@
 pub mod Texts
 pub mod Failures
+pub mod Words
 pub mod Printed
 pub mod Tally
 pub mod Assembled

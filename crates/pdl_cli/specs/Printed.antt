@@ -1,9 +1,9 @@
 -- The text of a run of a netlist.
 use Rattle.std.specs.Prelude.{ℕ, List, map, replicate}
-use Rattle.pdl_model.specs.Lines.{Cycle, lines}
+use Rattle.pdl_semantics.specs.Lines.{Cycle, lines}
 use Rattle.pdl_net.specs.declared.Netlist.{Netlist}
 use Rattle.pdl_net.specs.Run.{Held, nports, nports_from}
-use Rattle.pdl_trunk.specs.Runs.{column_of, cycle_of}
+use Rattle.pdl_pipe_law.specs.Runs.{column_of, cycle_of}
 
 -- the cycles of a run with these reply bits, from a state on
 abbrev pub cycles_from : Netlist → Held → List ℕ → List Cycle

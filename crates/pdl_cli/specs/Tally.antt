@@ -1,6 +1,6 @@
 -- How many cycles of a run are of some kind.
 use Rattle.std.specs.Prelude.{ℕ, ◌+◌, Bool, List, count_by, if◌then◌else◌}
-use Rattle.pdl_model.specs.Lines.{Cycle}
+use Rattle.pdl_semantics.specs.Lines.{Cycle}
 use Rattle.pdl_cli.specs.declared.print.Counts.{Counts}
 
 abbrev pub one_if : Bool → ℕ
@@ -12,4 +12,8 @@ tallied_of n c = record { ended = n.ended + one_if c.ended; waits = n.waits + on
 
 -- the counts of some cycles
 abbrev pub counts_of : List Cycle → Counts
-counts_of cs = record { ended = count_by (λ (c : Cycle). c.ended) cs; waits = count_by (λ (c : Cycle). c.wait) cs; squashes = count_by (λ (c : Cycle). c.squash) cs }
+counts_of cs = record {
+  ended = count_by (λ (c : Cycle). c.ended) cs;
+  waits = count_by (λ (c : Cycle). c.wait) cs;
+  squashes = count_by (λ (c : Cycle). c.squash) cs;
+}

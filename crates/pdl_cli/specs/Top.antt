@@ -4,10 +4,11 @@ use Rattle.pdl_kit.specs.declared.rule.Rule.{Rule}
 use Rattle.pdl_kit.specs.Counts.{Rose}
 use Rattle.pdl_kit.specs.Files.{Held}
 use Rattle.pdl_kit.specs.Sinks.{TakesPrefix, with_bytes}
-use Rattle.pdl_line.specs.Line.{Command, check, run, asm}
+use Rattle.pdl_args.specs.Line.{Command, check, run, asm}
 use Rattle.pdl_cli.specs.declared.failure.Position.{Position}
 use Rattle.pdl_cli.specs.declared.failure.Failure.{Failure}
 use Rattle.pdl_cli.specs.declared.failure.Failure.TheVariants.{Usage, Refused, ReadFault, WriteFault, NoMemory}
+use Rattle.pdl_cli.specs.Failures.{status_of, text_of}
 use Rattle.pdl_cli.specs.Commands.{IsWrongFor, Writes}
 
 -- the files that a command names may be read
@@ -33,6 +34,17 @@ pub record Seen : Type 0 where
   pub writes : ℕ
   pub writes_now : ℕ
 
+abbrev pub seen_of : Option Held → ℕ → ℕ → Option (List ℕ) → Option (List ℕ) → ℕ → ℕ → Seen
+seen_of holds reads reads_now written written_now writes writes_now = record {
+  holds = holds;
+  reads = reads;
+  reads_now = reads_now;
+  written = written;
+  written_now = written_now;
+  writes = writes;
+  writes_now = writes_now;
+}
+
 -- all is done: the named files are read to their ends and accepted, and out has the whole text
 abbrev pub IsDone : Option Command → Seen → Type 0
 IsDone None s = ⊥
@@ -57,11 +69,17 @@ abbrev pub Explains : {T : Type 0} → Option Command → Seen → Result T Fail
 Explains command s (Ok x) = IsDone command s
 Explains command s (Err f) = FailsAs command s f
 
+-- the status is that of an outcome, done or a failure, that what is seen explains, and its text is said
+abbrev pub Answers : Option Command → Seen → (List ℕ → Type 0) → ℕ → Type 0
+Answers command s Said status = (o : Result (Unit {0}) Failure) × (status ≡ status_of o) × Explains command s o × Said (text_of o)
+
 -- the status of a command is decided by what is seen: not 1; 2 where a told file is wrong and no reading failed; 0 where no file is wrong and nothing failed; where it isn't, memory ran out
 pub record IsDecided (command : Command) (s : Seen) (status : ℕ) : Type 0 where
   pub usage : status ≡ 1 → ⊥
-  pub wrong : (held : Held) (rule : Rule) (position : Position) → s.holds ≡ Some held → IsWrongFor (Some held) command rule position → (Rose s.reads s.reads_now → ⊥) → (status ≡ 2) ⊎ (status ≡ 5)
-  pub right : ((rule : Rule) (position : Position) → IsWrongFor s.holds command rule position → ⊥) → (Rose s.reads s.reads_now → ⊥) → (Rose s.writes s.writes_now → ⊥) → (status ≡ 0) ⊎ (status ≡ 5)
+  pub wrong : (held : Held) (rule : Rule) (position : Position) → s.holds ≡ Some held → IsWrongFor (Some held) command rule position
+      → (Rose s.reads s.reads_now → ⊥) → (status ≡ 2) ⊎ (status ≡ 5)
+  pub right : ((rule : Rule) (position : Position) → IsWrongFor s.holds command rule position → ⊥)
+      → (Rose s.reads s.reads_now → ⊥) → (Rose s.writes s.writes_now → ⊥) → (status ≡ 0) ⊎ (status ≡ 5)
 
 -- the status is decided by what is seen: 1 where the words are no command
 abbrev pub Decides : Option Command → Seen → ℕ → Type 0

@@ -1,6 +1,6 @@
 // The text that the command `asm` writes.
-ghost use Rattle.std.specs.Prelude.{◌≡◌, ◌≤◌, IsTrue, IfOk, IfErr, OnOk, ℕ, List};
-ghost use Rattle.pdl_line.specs.Line as command;
+ghost use Rattle.std.specs.Prelude.{◌≡◌, ◌≤◌, IsTrue, IfOk, IfErr, ℕ, List};
+ghost use Rattle.pdl_args.specs.Line as command;
 ghost use Rattle.pdl_cli.specs.Assembled.{IsTabled, IsAssembled};
 ghost use Rattle.pdl_cli.specs.Commands.{Fails, TableFails};
 
@@ -17,7 +17,7 @@ fn tabled<F: Files>(alloc: Global, files: &mut F, name: &str) -> Result<Table, F
     ensures err { IfErr result (TableFails (F.holds files.old) (F.faults files.old) (F.faults files.new) name.now) }
     ensures held { F.holds files.new ≡ F.holds files.old }
     ensures allowed { (n : List ℕ) → F.may files.new n ≡ F.may files.old n }
-    ensures later { OnOk result (F.faults files.old ≤ F.faults files.new) }
+    ensures later { F.faults files.old ≤ F.faults files.new }
 {
     let text = files.read(name)?;
     Ok(read_table(alloc, text.as_slice())?)
@@ -35,6 +35,8 @@ pub fn assembled<F: Files>(
     ensures ok { IfOk result (λ t. IsAssembled (F.holds files.old) table.now program.now t.items) }
     ensures err { IfErr result (Fails (F.holds files.old) (F.faults files.old) (F.faults files.new) (command.asm table.now program.now)) }
     ensures held { F.holds files.new ≡ F.holds files.old }
+    ensures allowed { (n : List ℕ) → F.may files.new n ≡ F.may files.old n }
+    ensures later { F.faults files.old ≤ F.faults files.new }
 {
     let table = tabled(alloc, files, table)?;
     let text = files.read(program)?;

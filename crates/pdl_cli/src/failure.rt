@@ -5,13 +5,13 @@ ghost use Rattle.pdl_cli.specs.Texts.{Says};
 ghost use Rattle.pdl_cli.specs.Failures.{refused_at};
 ghost use Rattle.pdl_cli.specs.Failures as spec;
 
+use pdl_args::LineError;
 use pdl_asm::AsmError;
 use pdl_asmtable::TableError;
 use pdl_image::FileError;
 use pdl_kit::files::ReadError;
 use pdl_kit::sink::{Sink, WriteFailed, write_whole};
 use pdl_kit::{NoMemory, Refusal, Rule};
-use pdl_line::LineError;
 use pdl_trace::{refused_insn, refused_line};
 
 /// Where a file breaks a rule.

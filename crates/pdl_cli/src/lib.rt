@@ -1,4 +1,4 @@
-//! The whole program as one call: `top` reads the words, the files and writes the lines.
+//! The whole program as one call: `top` reads the words, the files and writes the lines; and `without_words`, what is answered where there are no words.
 #![tactic(auto)]
 
 mod assembly;
@@ -6,7 +6,9 @@ mod failure;
 mod print;
 mod program;
 mod run;
-#[cfg(test)]
-mod tests;
+mod unique;
+mod words;
 
 pub use program::top;
+pub use unique::one_refusal;
+pub use words::{NoWords, without_words};

@@ -1,9 +1,9 @@
 // The text of a run.
 ghost use Rattle.std.specs.Prelude.{◌≡◌, ◌≤◌, ◌<◌, ◌+◌, ◌-◌, ◌++◌, ℕ, List, All, IfOk, OnOk, length, map, replicate, [], vec_len, if◌then◌else◌};
-ghost use Rattle.pdl_model.specs.Lines.{mem_lines, cycle_lines, lines_from, lines, end_line as end_text};
+ghost use Rattle.pdl_semantics.specs.Lines.{mem_lines, cycle_lines, lines_from, lines, end_line as end_text};
 ghost use Rattle.pdl_net.specs.Circuit.{circuit_of, outputs_of};
 ghost use Rattle.pdl_net.specs.Run.{commit_of};
-ghost use Rattle.pdl_trunk.specs.Runs.{column_of, puts_of, cycle_of, output_count};
+ghost use Rattle.pdl_pipe_law.specs.Runs.{column_of, puts_of, cycle_of, output_count};
 ghost use Rattle.pdl_cli.specs.Printed.{cycles_from, run_text, schedule};
 ghost use Rattle.pdl_net.specs.Pipe.{IsWellFormed};
 ghost use Rattle.pdl_net.specs.Run.{delayed_mems};
@@ -91,7 +91,8 @@ fn run_cycles(
     requires outputs { outputs ≡ output_count sim.old.netlist }
     requires two { 2 ≤ outputs }
     requires few { cycles ≤ 1000000 }
-    ensures text { OnOk result (text.new.items ≡ text.old.items ++ lines_from 1 (map column_of mems.now) (cycles_from sim.old.netlist sim.old.held (schedule cycles))) }
+    ensures text { OnOk result (text.new.items ≡ text.old.items
+        ++ lines_from 1 (map column_of mems.now) (cycles_from sim.old.netlist sim.old.held (schedule cycles))) }
     ensures counts { IfOk result (λ c. c ≡ counts_of (cycles_from sim.old.netlist sim.old.held (schedule cycles))) }
 {
     let mut counts = Counts {

@@ -1,21 +1,18 @@
 // The whole program.
 ghost use Rattle.std.specs.Prelude.{◌≡◌, ◌≤◌, ℕ, List, Option, IsTrue, IfOk, IfErr, map, string_bytes};
-ghost use Rattle.std.specs.declared.result.Result.{Result};
 ghost use Rattle.std.specs.Prelude.{Some};
-ghost use Rattle.pdl_line.specs.Line.{line};
-ghost use Rattle.pdl_line.specs.View.{view};
-ghost use Rattle.pdl_cli.specs.declared.failure.Failure.{Failure as failure};
+ghost use Rattle.pdl_args.specs.Line.{line};
+ghost use Rattle.pdl_args.specs.View.{view};
 ghost use Rattle.pdl_cli.specs.Texts.{Says};
 ghost use Rattle.pdl_cli.specs.Commands.{Writes, Fails};
-ghost use Rattle.pdl_cli.specs.Failures.{status_of as status, text_of as text};
-ghost use Rattle.pdl_cli.specs.Top.{Allows, IsFew, Seen, Explains, Decides};
+ghost use Rattle.pdl_cli.specs.Top.{Allows, IsFew, seen_of, Explains, Answers, Decides};
 
 use crate::assembly::assembled;
 use crate::failure::{Failure, report, status_of};
 use crate::run::{prepare, verdict};
+use pdl_args::{Line, read_line};
 use pdl_kit::files::Files;
 use pdl_kit::sink::{Sink, write_whole};
-use pdl_line::{Line, read_line};
 use std::alloc::Global;
 
 // The text of what a command asks for.
@@ -25,6 +22,8 @@ fn text_of<F: Files>(alloc: Global, line: Line<'_>, files: &mut F) -> Result<Vec
     ensures ok { IfOk result (λ t. Writes (F.holds files.old) (view line.entry) t.items) }
     ensures err { IfErr result (Fails (F.holds files.old) (F.faults files.old) (F.faults files.new) (view line.entry)) }
     ensures held { F.holds files.new ≡ F.holds files.old }
+    ensures allowed { (n : List ℕ) → F.may files.new n ≡ F.may files.old n }
+    ensures later { F.faults files.old ≤ F.faults files.new }
 {
     match line {
         Line::Check { source } => verdict(alloc, files, source),
@@ -46,8 +45,13 @@ fn obey_line<F: Files, O: Sink>(
 ) -> Result<(), Failure>
     requires allowed { Allows (F.may files.old) (Some (view line)) }
     requires few { IsFew (view line) }
-    ensures explained { Explains (Some (view line.entry)) (record { holds = F.holds files.old; reads = F.faults files.old; reads_now = F.faults files.new; written = O.written out.old; written_now = O.written out.new; writes = O.faults out.old; writes_now = O.faults out.new }) result }
+    ensures explained { Explains (Some (view line.entry))
+        (seen_of (F.holds files.old) (F.faults files.old) (F.faults files.new)
+        (O.written out.old) (O.written out.new) (O.faults out.old) (O.faults out.new)) result }
     ensures held { F.holds files.new ≡ F.holds files.old }
+    ensures allowed { (n : List ℕ) → F.may files.new n ≡ F.may files.old n }
+    ensures later { F.faults files.old ≤ F.faults files.new }
+    ensures written { O.faults out.old ≤ O.faults out.new }
 {
     match text_of(alloc, line, files) {
         Ok(text) => match write_whole(out, text.as_slice()) {
@@ -67,8 +71,13 @@ fn obey<F: Files, O: Sink>(
     out: &mut O,
 ) -> Result<(), Failure>
     requires { Allows (F.may files.old) (line (map string_bytes words.now.items)) }
-    ensures explained { Explains (line (map string_bytes words.now.items)) (record { holds = F.holds files.old; reads = F.faults files.old; reads_now = F.faults files.new; written = O.written out.old; written_now = O.written out.new; writes = O.faults out.old; writes_now = O.faults out.new }) result }
+    ensures explained { Explains (line (map string_bytes words.now.items))
+        (seen_of (F.holds files.old) (F.faults files.old) (F.faults files.new)
+        (O.written out.old) (O.written out.new) (O.faults out.old) (O.faults out.new)) result }
     ensures held { F.holds files.new ≡ F.holds files.old }
+    ensures allowed { (n : List ℕ) → F.may files.new n ≡ F.may files.old n }
+    ensures later { F.faults files.old ≤ F.faults files.new }
+    ensures written { O.faults out.old ≤ O.faults out.new }
 {
     match read_line(alloc, words.as_slice()) {
         Ok(line) => obey_line(alloc, line, files, out),
@@ -89,11 +98,21 @@ pub fn top<F: Files, O: Sink, E: Sink>(
 ) -> u8
     requires { Allows (F.may files.old) (line (map string_bytes words.now.items)) }
     // The status is that of an outcome, done or a failure, that what is seen explains; err has its text.
-    ensures outcome { (o : Result (Unit {0}) failure) × (result ≡ status o) × Explains (line (map string_bytes words.now.items)) (record { holds = F.holds files.old; reads = F.faults files.old; reads_now = F.faults files.new; written = O.written out.old; written_now = O.written out.new; writes = O.faults out.old; writes_now = O.faults out.new }) o × Says (E.written err.old) (E.written err.new) (E.faults err.old) (E.faults err.new) (text o) }
+    ensures outcome { Answers (line (map string_bytes words.now.items))
+        (seen_of (F.holds files.old) (F.faults files.old) (F.faults files.new)
+        (O.written out.old) (O.written out.new) (O.faults out.old) (O.faults out.new))
+        (Says (E.written err.old) (E.written err.new) (E.faults err.old) (E.faults err.new)) result }
     // What is seen decides the status, but that memory may have run out.
-    ensures decided { Decides (line (map string_bytes words.now.items)) (record { holds = F.holds files.old; reads = F.faults files.old; reads_now = F.faults files.new; written = O.written out.old; written_now = O.written out.new; writes = O.faults out.old; writes_now = O.faults out.new }) result }
+    ensures decided { Decides (line (map string_bytes words.now.items))
+        (seen_of (F.holds files.old) (F.faults files.old) (F.faults files.new)
+        (O.written out.old) (O.written out.new) (O.faults out.old) (O.faults out.new)) result }
     // The files hold what they held.
     ensures held { F.holds files.new ≡ F.holds files.old }
+    // The same names may be read as before, and no count of faults falls.
+    ensures allowed { (n : List ℕ) → F.may files.new n ≡ F.may files.old n }
+    ensures later { F.faults files.old ≤ F.faults files.new }
+    ensures written { O.faults out.old ≤ O.faults out.new }
+    ensures said { E.faults err.old ≤ E.faults err.new }
 {
     let outcome = obey(alloc, words, files, out);
     report(outcome, err);

@@ -1,11 +1,11 @@
 // The texts that the commands `check` and `run` write.
-ghost use Rattle.std.specs.Prelude.{◌≡◌, ◌≤◌, IsTrue, IfOk, IfErr, OnOk, ℕ, List, Option, length};
+ghost use Rattle.std.specs.Prelude.{◌≡◌, ◌≤◌, IsTrue, IfOk, IfErr, ℕ, List, Option, length};
 ghost use Rattle.pdl_kit.specs.Files.{Held, Gives};
 ghost use Rattle.pdl_tree.specs.View.{pipe_view};
-ghost use Rattle.pdl_model.specs.Lines.{accepted_line as accepted_text};
+ghost use Rattle.pdl_semantics.specs.Lines.{accepted_line as accepted_text};
 ghost use Rattle.pdl_check.specs.Memories.{infos_of};
 ghost use Rattle.pdl_image.specs.Images.{IsImage, IsRefusal, image as image_words};
-ghost use Rattle.pdl_line.specs.Line as command;
+ghost use Rattle.pdl_args.specs.Line as command;
 ghost use Rattle.pdl_cli.specs.Commands.{IsAccepted, SourceFails, ImageFails, IsTaken, IsLoaded, IsVerdict, IsOutput, Fails};
 
 use crate::failure::Failure;
@@ -22,11 +22,11 @@ use std::alloc::Global;
 // Reads and checks a source.
 fn accept<F: Files>(alloc: Global, files: &mut F, name: &str) -> Result<Accepted, Failure>
     requires { IsTrue (F.may files.old name.now) }
-    ensures ok { IfOk result (λ a. (b : List ℕ) × Gives (F.holds files.old) name.now b × IsAccepted b (pipe_view a.pipe)) }
+    ensures ok { IfOk result (λ a. (b : List ℕ) × Gives (F.holds files.old) name.now b × IsAccepted b (pipe_view a.typed.pipe)) }
     ensures err { IfErr result (SourceFails (F.holds files.old) (F.faults files.old) (F.faults files.new) name.now) }
     ensures held { F.holds files.new ≡ F.holds files.old }
     ensures allowed { (n : List ℕ) → F.may files.new n ≡ F.may files.old n }
-    ensures later { OnOk result (F.faults files.old ≤ F.faults files.new) }
+    ensures later { F.faults files.old ≤ F.faults files.new }
 {
     let source = files.read(name)?;
     Ok(check(alloc, source.as_slice())?)
@@ -40,10 +40,13 @@ fn load<F: Files>(
     accepted: &Accepted,
 ) -> Result<Image, Failure>
     requires may { IsTrue (F.may files.old name.now) }
-    requires accepted { (b : List ℕ) × IsAccepted b (pipe_view accepted.now.pipe) }
-    ensures ok { IfOk result (λ i. (b : List ℕ) × Gives (F.holds files.old) name.now b × IsTaken (pipe_view accepted.now.pipe) b i × IsImage (infos_of (pipe_view accepted.now.pipe).mems) i) }
-    ensures err { IfErr result (ImageFails (F.holds files.old) (F.faults files.old) (F.faults files.new) name.now (pipe_view accepted.now.pipe)) }
+    requires accepted { (b : List ℕ) × IsAccepted b (pipe_view accepted.now.typed.pipe) }
+    ensures ok { IfOk result (λ i. (b : List ℕ) × Gives (F.holds files.old) name.now b
+        × IsTaken (pipe_view accepted.now.typed.pipe) b i × IsImage (infos_of (pipe_view accepted.now.typed.pipe).mems) i) }
+    ensures err { IfErr result (ImageFails (F.holds files.old) (F.faults files.old) (F.faults files.new) name.now (pipe_view accepted.now.typed.pipe)) }
     ensures held { F.holds files.new ≡ F.holds files.old }
+    ensures allowed { (n : List ℕ) → F.may files.new n ≡ F.may files.old n }
+    ensures later { F.faults files.old ≤ F.faults files.new }
 {
     let text = files.read(name)?;
     Ok(image_of(alloc, accepted, text.as_slice())?)
@@ -51,10 +54,10 @@ fn load<F: Files>(
 
 /// The image of a text for the memories of a pipe.
 pub fn image_of(alloc: Global, accepted: &Accepted, text: &[u8]) -> Result<Image, FileError>
-    requires accepted { (b : List ℕ) × IsAccepted b (pipe_view accepted.now.pipe) }
+    requires accepted { (b : List ℕ) × IsAccepted b (pipe_view accepted.now.typed.pipe) }
     requires short { length text.now ≤ LONGEST_FILE }
-    ensures ok { IfOk result (λ i. IsTaken (pipe_view accepted.now.pipe) text.now i × IsImage (infos_of (pipe_view accepted.now.pipe).mems) i) }
-    ensures err { IfErr result (IsRefusal (image_words (infos_of (pipe_view accepted.now.pipe).mems) text.now)) }
+    ensures ok { IfOk result (λ i. IsTaken (pipe_view accepted.now.typed.pipe) text.now i × IsImage (infos_of (pipe_view accepted.now.typed.pipe).mems) i) }
+    ensures err { IfErr result (IsRefusal (image_words (infos_of (pipe_view accepted.now.typed.pipe).mems) text.now)) }
 {
     read_image(alloc, accepted.mems(), text)
 }
@@ -66,10 +69,11 @@ fn text_of(
     image: &Image,
     cycles: u32,
 ) -> Result<Vec<u8>, NoMemory>
-    requires accepted { (b : List ℕ) × IsAccepted b (pipe_view accepted.now.pipe) }
-    requires image { IsImage (infos_of (pipe_view accepted.now.pipe).mems) image.now }
+    requires accepted { (b : List ℕ) × IsAccepted b (pipe_view accepted.now.typed.pipe) }
+    requires image { IsImage (infos_of (pipe_view accepted.now.typed.pipe).mems) image.now }
     requires few { cycles ≤ 1000000 }
-    ensures { IfOk result (λ t. (holds : Option Held) (source image' : List ℕ) → IsLoaded holds source image' (pipe_view accepted.now.pipe) image.now → IsOutput holds source image' cycles t.items) }
+    ensures { IfOk result (λ t. (holds : Option Held) (source image' : List ℕ) → IsLoaded holds source image' (pipe_view accepted.now.typed.pipe) image.now
+        → IsOutput holds source image' cycles t.items) }
 {
     let netlist = compile(alloc, accepted)?;
     print::run(alloc, &netlist, image, cycles)
@@ -77,7 +81,7 @@ fn text_of(
 
 // What is said of an accepted pipe.
 fn verdict_of(alloc: Global, accepted: &Accepted) -> Result<Vec<u8>, NoMemory>
-    ensures { IfOk result (λ t. t.items ≡ accepted_text (pipe_view accepted.now.pipe)) }
+    ensures { IfOk result (λ t. t.items ≡ accepted_text (pipe_view accepted.now.typed.pipe)) }
 {
     let line = accepted_line(accepted.graph().count(), accepted.depth());
     let mut text = Vec::new(alloc);
@@ -91,6 +95,8 @@ pub fn verdict<F: Files>(alloc: Global, files: &mut F, source: &str) -> Result<V
     ensures ok { IfOk result (λ t. IsVerdict (F.holds files.old) source.now t.items) }
     ensures err { IfErr result (Fails (F.holds files.old) (F.faults files.old) (F.faults files.new) (command.check source.now)) }
     ensures held { F.holds files.new ≡ F.holds files.old }
+    ensures allowed { (n : List ℕ) → F.may files.new n ≡ F.may files.old n }
+    ensures later { F.faults files.old ≤ F.faults files.new }
 {
     let accepted = accept(alloc, files, source)?;
     match verdict_of(alloc, &accepted) {
@@ -113,10 +119,15 @@ pub fn prepare<F: Files>(
     ensures ok { IfOk result (λ t. IsOutput (F.holds files.old) source.now image.now cycles t.items) }
     ensures err { IfErr result (Fails (F.holds files.old) (F.faults files.old) (F.faults files.new) (command.run source.now image.now cycles)) }
     ensures held { F.holds files.new ≡ F.holds files.old }
+    ensures allowed { (n : List ℕ) → F.may files.new n ≡ F.may files.old n }
+    ensures later { F.faults files.old ≤ F.faults files.new }
 {
     let accepted = accept(alloc, files, source)?;
     match load(alloc, files, image, &accepted) {
-        Ok(words) => Ok(text_of(alloc, &accepted, &words, cycles)?),
+        Ok(words) => match text_of(alloc, &accepted, &words, cycles) {
+            Ok(text) => Ok(text),
+            Err(_) => Err(Failure::NoMemory),
+        },
         Err(failure) => Err(failure),
     }
 }

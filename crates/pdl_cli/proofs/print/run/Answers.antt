@@ -2,10 +2,10 @@ use Rattle.std.proofs.Common.{◌≡◌, List, map, arith, subst}
 use Rattle.std.specs.Prelude.{IfOk}
 use Rattle.std.proofs.lemmas.Grind.{common_steps}
 use Rattle.pdl_kit.specs.declared.mem_info.MemInfo.{MemInfo}
-use Rattle.pdl_model.specs.Lines.{lines}
+use Rattle.pdl_semantics.specs.Lines.{lines}
 use Rattle.pdl_net.specs.Run.{start}
 use Rattle.pdl_netrun.specs.Sim.{Run, started}
-use Rattle.pdl_trunk.specs.Runs.{column_of}
+use Rattle.pdl_pipe_law.specs.Runs.{column_of}
 use Rattle.pdl_cli.specs.Printed.{cycles_from, schedule}
 use Rattle.pdl_cli.proofs.print.run.Goals as goal
 

@@ -1,7 +1,7 @@
 use Rattle.std.proofs.Common.{◌+◌, ◌-◌, ◌++◌, map, ap, ◌∙◌}
 use Rattle.std.specs.Prelude.{count_by}
-use Rattle.pdl_model.specs.Lines.{Cycle, lines_from}
-use Rattle.pdl_trunk.specs.Runs.{column_of, cycle_of}
+use Rattle.pdl_semantics.specs.Lines.{Cycle, lines_from}
+use Rattle.pdl_pipe_law.specs.Runs.{column_of, cycle_of}
 use Rattle.pdl_cli.specs.declared.print.Counts.{Counts}
 use Rattle.pdl_cli.proofs.Running.{left, sim_step, text_step, count_step, few_more}
 use Rattle.pdl_cli.proofs.print.run_cycles.Goals as goal

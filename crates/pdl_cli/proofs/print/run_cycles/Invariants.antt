@@ -1,7 +1,7 @@
 use Rattle.std.proofs.Common.{◌≡◌, ◌+◌, ◌-◌, ◌++◌, ◌≤◌, map}
 use Rattle.std.specs.Prelude.{count_by}
-use Rattle.pdl_model.specs.Lines.{Cycle, lines_from}
-use Rattle.pdl_trunk.specs.Runs.{column_of}
+use Rattle.pdl_semantics.specs.Lines.{Cycle, lines_from}
+use Rattle.pdl_pipe_law.specs.Runs.{column_of}
 use Rattle.pdl_cli.proofs.Running.{left}
 use Rattle.pdl_cli.proofs.print.run_cycles.Given as goal
 

@@ -5,12 +5,12 @@ use Rattle.pdl_cli.proofs.run.image_of.Goals as goal
 
 pub read_image-requires-clause-names : goal.read_image-requires-clause-names
 read_image-requires-clause-names c =
-    names_differ (pipe_view c.args.accepted.now.pipe) c.mems.result.now c.args.accepted.now.in_line c.args.accepted.now.kept (c.mems.ensures ∙ c.args.accepted.now.told)
+    names_differ (pipe_view c.args.accepted.now.typed.pipe) c.mems.result.now c.args.accepted.now.compiled c.args.accepted.now.kept (c.mems.ensures ∙ c.args.accepted.now.told)
 
 pub read_image-requires-clause-low : goal.read_image-requires-clause-low
 read_image-requires-clause-low c =
-    widths_low (pipe_view c.args.accepted.now.pipe) c.mems.result.now c.args.accepted.now.in_line c.args.accepted.now.kept (c.mems.ensures ∙ c.args.accepted.now.told)
+    widths_low (pipe_view c.args.accepted.now.typed.pipe) c.mems.result.now c.args.accepted.now.compiled c.args.accepted.now.kept (c.mems.ensures ∙ c.args.accepted.now.told)
 
 pub read_image-requires-clause-high : goal.read_image-requires-clause-high
 read_image-requires-clause-high c =
-    widths_high (pipe_view c.args.accepted.now.pipe) c.mems.result.now c.args.accepted.now.in_line c.args.accepted.now.kept (c.mems.ensures ∙ c.args.accepted.now.told)
+    widths_high (pipe_view c.args.accepted.now.typed.pipe) c.mems.result.now c.args.accepted.now.compiled c.args.accepted.now.kept (c.mems.ensures ∙ c.args.accepted.now.told)

@@ -1,5 +1,5 @@
 use Rattle.std.proofs.Common.{◌≡◌, ◌≤◌}
-use Rattle.pdl_cli.proofs.tests.machine_lines.Given as goal
+use Rattle.pdl_clitests.proofs.machine.machine_lines.Given as goal
 
 -- the machine has had as many cycles, in each of which at most one thread ended
 abbrev pub invariant-loop-done : goal.invariant-loop-done

@@ -1,0 +1,44 @@
+// Pipes made at random: 1 to 7 stages, 1 to 3 memories with locks of each kind, guards in one another, and images.
+
+pub const RANDOM: [(&[u8], &[u8]); 10] = [
+    (
+        b"pipe p(n: uint<1>, k: uint<2>, j: uint<16>)\n[m0: uint<8>[2] comb lock bypass(4)] {\n  g0 = ((n) >> n);\n  g1 = 1'd1 + n + g0;\n  g2 = g1;\n  if (g1) {\n  } else {\n    reserve(m0[g0], W);\n  }\n  a0 = g0 - g2 & ((n) & n);\n  if (g1) {\n    reserve(m0[a0], W);\n  } else {\n  }\n  if (g1) {\n  } else {\n    block(m0[g0]);\n  }\n  if (g1) {\n    block(m0[a0]);\n  }\n  y1 = (sext(zext(a0, 17), 17) ^ 17'd3 + zext(a0, 17));\n  if (g1) {\n    m0[a0] <- (y1[13:6] & 8'd255) - (8'd0 << y1[7:0]);\n    release(m0[a0]);\n  } else {\n    m0[g0] <- n[0:0] ? j[7:0] : cat((j[2:1]), y1[14:9]);\n    release(m0[g0]);\n  }\n  call(n + 1'd0, k + 2'h3, (j + 16'h3));\n} start p(1'd1, 2'd1, 16'd0);\n",
+        b"image 1\n",
+    ),
+    (
+        b"pipe p(n: uint<4>)\n[m0: uint<8>[2] comb lock rename(2)] {\n  g0 = 1'd1;\n  if (g0) {\n  } else {\n    call(g0 << 1'd0 ? g0 ? n : n : n | 4'd5);\n    reserve(m0[g0], W);\n  }\n  a0 = (g0 << 1'h0);\n  if (g0) {\n    reserve(m0[a0], W);\n  } else {\n    block(m0[g0]);\n  }\n  y1 = sext(g0 == g0, 1);\n  if (g0) {\n  } else {\n    m0[g0] <- sext(y1, 8);\n  }\n  ---\n  if (g0) {\n    call(a0 ^ y1 ? a0 ? n : n : n);\n    block(m0[a0]);\n  }\n  if ((g0)) {\n    m0[a0] <- g0 ^ g0 ? cat(n, n) : 8'd1;\n  } else {\n    release(m0[g0]);\n  }\n  y2 = (zext(n[1:0], 8) & zext(n[2:1], 8));\n  if ((g0)) {\n    release(m0[a0]);\n  }\n} start p(4'd3);\n",
+        b"image 1\nm0 0 6\n",
+    ),
+    (
+        b"pipe p(n: uint<5>, j: uint<64>)\n[m0: uint<8>[4] comb lock queue(2)] {\n  g0 = j == j;\n  a0 = 2'h1 + 2'd0;\n  if (g0) {\n    reserve(m0[a0], R);\n  }\n  a1 = sext(g0, 2);\n  reserve(m0[a1], R);\n  a2 = g0 ? a1 : a0;\n  reserve(m0[a2], W);\n  block(m0[a1]);\n  if (g0) {\n    block(m0[a0]);\n  }\n  x3 = m0[a1];\n  x4 = m0[a1];\n  if (g0) {\n    x5 = m0[a0];\n  }\n  call(n + 5'd31, j + 64'd9223372036854775808);\n  ---\n  ---\n  block(m0[a2]);\n  m0[a2] <- (x4 ^ (x4[3:3] ? x3 : zext(a2, 8)));\n  if (g0) {\n    release(m0[a0]);\n  } else {\n  }\n  y6 = (1'h1 - g0 ? x4 & x4 : x3);\n  release(m0[a2]);\n  release(m0[a1]);\n  ---\n} start p(5'd0, 64'd18446744073709551615);\n",
+        b"image 1\nm0 1 7\nm0 3 4\n",
+    ),
+    (
+        b"pipe p(n: uint<4>)\n[m0: uint<33>[4] comb lock queue(4),\n m1: uint<8>[2] comb lock bypass(8)] {\n  g0 = 1'h0;\n  if (g0) {\n    reserve(m1[g0], R);\n  }\n  if (g0) {\n  } else {\n    reserve(m1[g0], W);\n  }\n  y0 = n[2:2] ? zext(zext(n, 20), 64) : zext(g0, 64) ^ sext(n, 64);\n  call((n) + 4'd3);\n  ---\n  if (g0) {\n    a1 = cat(g0, (g0));\n    reserve(m0[a1], W);\n    block(m0[a1]);\n    m0[a1] <- (cat(g0 ? n : n, (y0[43:15] - y0[54:26])));\n    release(m0[a1]);\n  }\n  ---\n  ---\n  ---\n  if (g0) {\n    g1 = g0;\n  }\n  block(m1[g0]);\n  if ((g0)) {\n    x2 = m1[g0];\n    x3 = m1[g0];\n  }\n  if ((g0)) {\n  } else {\n    m1[g0] <- zext(n, 8);\n  }\n  release(m1[g0]);\n} start p(4'd0);\n",
+        b"image 1\nm0 1 4\nm0 3 1ffffffff\n",
+    ),
+    (
+        b"pipe p(n: uint<4>)\n[m0: uint<1>[32] comb lock rename(2),\n m1: uint<5>[4] comb lock bypass(4)] {\n  y0 = (cat(n[1:1] ? 1'd0 : n[3:3], n * (n)));\n  a1 = y0[4:0];\n  reserve(m0[a1], W);\n  y2 = n[2:2];\n  block(m0[a1]);\n  call(n + 4'd2);\n  if (y2 - y2 & (y0[4:4] - y2)) {\n    a3 = zext(y2, 2);\n    reserve(m1[a3], R);\n    block(m1[a3]);\n    x4 = m1[a3];\n    release(m1[a3]);\n    a5 = cat((y2), y2);\n    reserve(m1[a5], W);\n    block(m1[a5]);\n    m1[a5] <- x4;\n    release(m1[a5]);\n  }\n  ---\n  y6 = y0 | y0 | ~(a1);\n  g0 = y0[2:2];\n  if (g0) {\n  } else {\n    y7 = (zext(g0, 8));\n  }\n  if (g0) {\n    y8 = (sext(a1, 8));\n  }\n  m0[a1] <- g0;\n  release(m0[a1]);\n} start p(4'd2);\n",
+        b"image 1\nm0 1 1\nm0 2 1\nm0 3 1\nm0 4 1\nm0 5 1\nm0 6 1\nm0 11 0\nm0 14 0\nm0 15 1\nm0 17 1\nm0 18 1\nm0 24 1\nm0 27 1\nm0 28 1\nm0 29 0\nm0 30 1\nm1 0 a\n",
+    ),
+    (
+        b"pipe p(n: uint<5>, j: uint<16>)\n[m0: uint<5>[2] comb lock queue(4),\n m1: uint<1>[4] comb lock rename(1),\n m2: uint<5>[4] comb] {\n  g0 = j[9:9];\n  if (n[1:1] + g0 ^ ((g0) | g0)) {\n    a0 = j[14:13] - j[10:9];\n    reserve(m1[a0], R);\n    block(m1[a0]);\n    x1 = m1[a0];\n    release(m1[a0]);\n    a2 = zext(g0, 2) & 2'd1;\n    reserve(m1[a2], W);\n    block(m1[a2]);\n    m1[a2] <- g0;\n    release(m1[a2]);\n  } else {\n    a3 = zext(j[11:10], 2);\n    reserve(m1[a3], W);\n    block(m1[a3]);\n    m1[a3] <- lts(g0, (g0)) | (g0 ? g0 : n[2:2]);\n    release(m1[a3]);\n  }\n  if (g0) {\n  } else {\n    call((n) + 5'd2, cat(2'd0 & 2'h1, j[14:1]));\n  }\n  if (g0) {\n    call(n + 5'd2, ((g0 ? g0 : g0) ? j[15:0] : ~j));\n  }\n  ---\n  if ((j[1:1])) {\n    a4 = g0 >> 1'd0;\n    reserve(m0[a4], W);\n    block(m0[a4]);\n    m0[a4] <- n[4:0] >> 5'd3;\n    release(m0[a4]);\n  }\n  ---\n} start p(5'd2, 16'd3);\n",
+        b"image 1\nm0 0 1f\nm1 0 0\nm1 1 1\nm1 2 0\nm2 1 1\nm2 2 c\nm2 3 1f\n",
+    ),
+    (
+        b"pipe p(n: uint<2>)\n[m0: uint<64>[4] comb lock bypass(4)] {\n  g0 = zext(n[0:0], 1);\n  call((sext(g0, 2)));\n  ---\n  if (n[1:1]) {\n    a0 = g0 ? n : (zext(g0, 2));\n    reserve(m0[a0], R);\n    block(m0[a0]);\n    x1 = m0[a0];\n    release(m0[a0]);\n    a2 = n * (n);\n    reserve(m0[a2], W);\n    block(m0[a2]);\n    m0[a2] <- (x1 & x1 | x1 & x1);\n    release(m0[a2]);\n  } else {\n    a3 = cat(1'd1, g0);\n    reserve(m0[a3], W);\n    block(m0[a3]);\n    m0[a3] <- zext(60'h2, 64);\n    release(m0[a3]);\n  }\n  ---\n  ---\n} start p(2'd1);\n",
+        b"image 1\nm0 0 4\nm0 1 ffffffffffffffff\nm0 2 ffffffffffffffff\nm0 3 d45cfc7cbc1d3847\n",
+    ),
+    (
+        b"pipe p(n: uint<2>)\n[m0: uint<1>[2] comb,\n m1: uint<16>[4] comb lock rename(4)] {\n  g0 = n[1:1] + n[0:0];\n  if (g0) {\n    y0 = n ^ n - n;\n  }\n  g1 = n[0:0] * g0 ? g0 + g0 : g0 >> 1'h0;\n  g2 = g0 + g0;\n  if (g0) {\n    g3 = zext(g2, 1);\n  }\n  y1 = g1 ? zext(g2, 64) + sext(g2, 64) : zext(g2, 64) ^ 64'd10;\n  g4 = 1'h1 >> 1'd0;\n  reserve(m1[n], R);\n  if (g1) {\n    a2 = n;\n    reserve(m1[a2], W);\n    block(m1[a2]);\n  }\n  if ((g0)) {\n  } else {\n    y3 = 1'd1 ? g1 ? y1[33:31] : (y1[34:32]) : cat(g4, (n));\n  }\n  if (g4) {\n    call(n + 2'h1);\n  }\n  ---\n  block(m1[n]);\n  if (g4) {\n  } else {\n    call(n + 2'd3);\n  }\n  ---\n  x4 = m1[n];\n  if (g1) {\n    m1[a2] <- x4 ^ (x4) - x4;\n  }\n  ---\n  a5 = n[1:1];\n  x6 = m0[a5];\n  if (g1) {\n    release(m1[a2]);\n  }\n  a7 = (zext(g4, 1));\n  x8 = m0[a7];\n  release(m1[n]);\n  ---\n} start p(2'd3);\n",
+        b"image 1\nm0 0 1\nm1 2 ffff\n",
+    ),
+    (
+        b"pipe p(n: uint<3>, k: uint<64>)\n[m0: uint<1>[64] comb lock queue(2),\n m1: uint<64>[2] comb lock rename(2),\n m2: uint<64>[2] comb lock bypass(4)] {\n  g0 = 1'd1 ^ k[12:12];\n  if ((g0 + n[1:1])) {\n    a0 = g0;\n    reserve(m2[a0], W);\n    block(m2[a0]);\n    m2[a0] <- cat(41'd2199023255551, (k[45:23])) << (g0 ? k : (k));\n    release(m2[a0]);\n  }\n  if (g0) {\n    y1 = (k[28:12] << 17'h1ffff) - (k[42:26] - k[56:40]);\n  }\n  reserve(m1[g0], R);\n  if (n[1:1] != zext(g0, 1)) {\n    a2 = k[11:6];\n    reserve(m0[a2], W);\n    block(m0[a2]);\n    m0[a2] <- g0;\n    release(m0[a2]);\n  }\n  ---\n  ---\n  ---\n  ---\n  if (g0) {\n  } else {\n    call(k[60:58], (k) + 64'd18446744073709551615);\n  }\n  block(m1[g0]);\n  if (g0) {\n    y3 = (g0 ? k : k) - (sext(g0, 64) - (sext(y1, 64)));\n    call(n + 3'd3, (k) + 64'd1);\n  }\n  x4 = m1[g0];\n  release(m1[g0]);\n} start p(3'd3, 64'd9223372036854775808);\n",
+        b"image 1\nm0 0 1\nm0 1 0\nm0 2 0\nm0 3 1\nm0 4 1\nm0 5 1\nm0 7 1\nm0 8 1\nm0 9 1\nm0 10 1\nm0 12 0\nm0 14 1\nm0 16 1\nm0 20 0\nm0 21 1\nm0 23 0\nm0 24 0\nm0 25 1\nm0 28 1\nm0 29 1\nm0 32 0\nm0 33 1\nm0 34 1\nm0 35 1\nm0 36 0\nm0 37 1\nm0 38 1\nm0 40 1\nm0 41 1\nm0 42 0\nm0 44 0\nm0 45 0\nm0 46 1\nm0 47 1\nm0 51 0\nm0 53 1\nm0 54 0\nm0 55 1\nm0 58 1\nm0 59 1\nm0 61 0\nm0 63 1\nm1 0 ffffffffffffffff\nm1 1 ffffffffffffffff\n",
+    ),
+    (
+        b"pipe p(n: uint<1>)\n[m0: uint<64>[2] comb lock queue(8),\n m1: uint<5>[4] comb lock bypass(4)] {\n  reserve(m0[n], R);\n  a0 = (n);\n  reserve(m0[a0], W);\n  call(n + 1'd0);\n  block(m0[n]);\n  x1 = m0[n];\n  ---\n  y2 = x1[13:12] | x1[53:52];\n  a3 = x1[38:38] ? y2 : y2;\n  reserve(m1[a3], R);\n  block(m1[a3]);\n  x4 = m1[a3];\n  ---\n  g0 = ((x4[1:1]) + (a0));\n  g1 = a3 < y2;\n  if (g1) {\n  } else {\n    if ((g0)) {\n    } else {\n      y5 = x1[43:43];\n    }\n  }\n  block(m0[a0]);\n  if (g0) {\n    y6 = (a0 + a0) & n;\n  } else {\n    y7 = (lts(x1[28:21], x1[32:25] ^ zext(g0, 8)));\n  }\n  release(m1[a3]);\n  m0[a0] <- lts(n, 1'h1) ? 64'd14006361386126222692 | x1 : x1 >> 64'h5;\n  release(m0[a0]);\n  y8 = zext(x1[44:10], 64);\n  release(m0[n]);\n} start p(1'd1);\n",
+        b"image 1\nm0 0 2\nm1 0 d\n",
+    ),
+];
