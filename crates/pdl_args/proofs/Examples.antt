@@ -1,7 +1,7 @@
 -- What single lists of words are.
 use Rattle.std.proofs.Common.{◌≡◌, [], ◌∷◌, Some, None, codes, refl}
 use Rattle.clap.proofs.OnLiterals.{clap_on_literals}
-use Rattle.pdl_args.specs.Line.{line, check, run, asm}
+use Rattle.pdl_args.specs.Line.{line, check, run, seq, asm}
 
 ran : line (codes "run" ∷ codes "a.pdl" ∷ codes "e.img" ∷ codes "17" ∷ []) ≡ Some (run (codes "a.pdl") (codes "e.img") 17)
 unfolding clap_on_literals line
@@ -174,3 +174,19 @@ asm_one = refl
 asm_three : line (codes "asm" ∷ codes "a" ∷ codes "b" ∷ codes "c" ∷ []) ≡ None
 unfolding clap_on_literals line
 asm_three = refl
+
+sequential : line (codes "seq" ∷ codes "a.pdl" ∷ codes "e.img" ∷ codes "17" ∷ []) ≡ Some (seq (codes "a.pdl") (codes "e.img") 17)
+unfolding clap_on_literals line
+sequential = refl
+
+most_threads : line (codes "seq" ∷ codes "a" ∷ codes "b" ∷ codes "1000000" ∷ []) ≡ Some (seq (codes "a") (codes "b") 1000000)
+unfolding clap_on_literals line
+most_threads = refl
+
+above_most_threads : line (codes "seq" ∷ codes "a" ∷ codes "b" ∷ codes "1000001" ∷ []) ≡ None
+unfolding clap_on_literals line
+above_most_threads = refl
+
+seq_two : line (codes "seq" ∷ codes "a" ∷ codes "b" ∷ []) ≡ None
+unfolding clap_on_literals line
+seq_two = refl

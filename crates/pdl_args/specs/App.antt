@@ -18,12 +18,22 @@ run_app =
     with_rule (with_rule (with_rule (new_app (codes "run"))
     (word_rule (codes "source"))) (word_rule (codes "image"))) (word_rule (codes "cycles"))
 
+-- `seq SRC IMG THREADS`
+abbrev pub seq_app : App
+seq_app =
+    with_rule (with_rule (with_rule (new_app (codes "seq"))
+    (word_rule (codes "source"))) (word_rule (codes "image"))) (word_rule (codes "threads"))
+
 -- `asm TABLE TEXT`
 abbrev pub asm_app : App
 asm_app = with_rule (with_rule (new_app (codes "asm")) (word_rule (codes "table"))) (word_rule (codes "text"))
 
--- the command, over the words after the program's name
+-- the command without its subcommands, over the words after the program's name
+abbrev pub bare_app : App
+bare_app = on_top (λ s. record s { no_binary_name = true }) (new_app (codes "pdl"))
+
+-- the command
 abbrev pub pdl_app : App
 pdl_app =
-    with_subcommand (with_subcommand (with_subcommand (on_top (λ s. record s { no_binary_name = true }) (new_app (codes "pdl")))
-    check_app.top) run_app.top) asm_app.top
+    with_subcommand (with_subcommand (with_subcommand (with_subcommand bare_app
+    check_app.top) run_app.top) seq_app.top) asm_app.top

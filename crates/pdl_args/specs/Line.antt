@@ -12,6 +12,7 @@ use Rattle.pdl_args.specs.Number.{number_of}
 pub data Command : Type 0 where
   check : (source : Text) → Command
   run : (source image : Text) (cycles : ℕ) → Command
+  seq : (source image : Text) (threads : ℕ) → Command
   asm : (table text : Text) → Command
 
 -- `check`
@@ -23,6 +24,11 @@ check_of None = None
 abbrev pub run_of : Option Text → Option Text → Option Text → Option Command
 run_of (Some source) (Some image) (Some cycles) = option_map (run source image) (number_of 7 1000000 cycles)
 run_of _ _ _ = None
+
+-- `seq`, with a number of threads up to 1,000,000
+abbrev pub seq_of : Option Text → Option Text → Option Text → Option Command
+seq_of (Some source) (Some image) (Some threads) = option_map (seq source image) (number_of 7 1000000 threads)
+seq_of _ _ _ = None
 
 -- `asm`
 abbrev pub asm_of : Option Text → Option Text → Option Command
@@ -37,6 +43,9 @@ command_of (name, rows) =
     else
     if bytes_eq name (codes "run")
     then run_of (first_of (codes "source") rows) (first_of (codes "image") rows) (first_of (codes "cycles") rows)
+    else
+    if bytes_eq name (codes "seq")
+    then seq_of (first_of (codes "source") rows) (first_of (codes "image") rows) (first_of (codes "threads") rows)
     else
     if bytes_eq name (codes "asm")
     then asm_of (first_of (codes "table") rows) (first_of (codes "text") rows)

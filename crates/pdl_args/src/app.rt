@@ -3,7 +3,7 @@ ghost use Rattle.std.specs.Prelude.{◌≡◌, false, IfOk};
 ghost use Rattle.clap.specs.Walk.{rule_of};
 ghost use Rattle.clap.specs.Words.{app_of};
 ghost use Rattle.clap.specs.declared.builder.command.Command.TheViews.{out-Command as fields_of};
-ghost use Rattle.pdl_args.specs.App.{pdl_app, check_app, run_app, asm_app, word_rule};
+ghost use Rattle.pdl_args.specs.App.{pdl_app, bare_app, check_app, run_app, seq_app, asm_app, word_rule};
 
 use clap::{Arg, ArgAction, Command};
 use std::alloc::{AllocError, Global};
@@ -34,6 +34,16 @@ fn run_command<'a>(alloc: Global) -> Result<Command<'a>, AllocError>
     Ok(all)
 }
 
+// `seq SRC IMG THREADS`
+fn seq_command<'a>(alloc: Global) -> Result<Command<'a>, AllocError>
+    ensures { IfOk result (λ c. (app_of c ≡ seq_app) × ((fields_of c).has_globals ≡ false)) }
+{
+    let one = Command::new(alloc, "seq").arg(word(alloc, "source"))?;
+    let two = one.arg(word(alloc, "image"))?;
+    let all = two.arg(word(alloc, "threads"))?;
+    Ok(all)
+}
+
 // `asm TABLE TEXT`
 fn asm_command<'a>(alloc: Global) -> Result<Command<'a>, AllocError>
     ensures { IfOk result (λ c. (app_of c ≡ asm_app) × ((fields_of c).has_globals ≡ false)) }
@@ -43,15 +53,23 @@ fn asm_command<'a>(alloc: Global) -> Result<Command<'a>, AllocError>
     Ok(all)
 }
 
+// The command without its subcommands.
+fn bare_command<'a>(alloc: Global) -> Command<'a>
+    ensures { app_of result ≡ bare_app }
+{
+    Command::new(alloc, "pdl").no_binary_name(true)
+}
+
 pub(crate) fn command<'a>(alloc: Global) -> Result<Command<'a>, AllocError>
     ensures { IfOk result (λ c. app_of c ≡ pdl_app) }
 {
     let check = check_command(alloc)?;
     let run = run_command(alloc)?;
-    let bare = Command::new(alloc, "pdl").no_binary_name(true);
+    let seq = seq_command(alloc)?;
     let asm = asm_command(alloc)?;
-    let one = bare.subcommand(check)?;
+    let one = bare_command(alloc).subcommand(check)?;
     let two = one.subcommand(run)?;
-    let all = two.subcommand(asm)?;
+    let three = two.subcommand(seq)?;
+    let all = three.subcommand(asm)?;
     Ok(all)
 }

@@ -1,7 +1,7 @@
 // The command that a list of words is.
 ghost use Rattle.std.specs.Prelude.{◌≡◌, ◌≢◌, map, IfOk, Some, None, IsErrOf, string_bytes, option_map};
 ghost use Rattle.clap.specs.Words.{found_of, rows_of, first_of};
-ghost use Rattle.pdl_args.specs.Line.{line, command_of, check_of, run_of, asm_of};
+ghost use Rattle.pdl_args.specs.Line.{line, command_of, check_of, run_of, seq_of, asm_of};
 ghost use Rattle.pdl_args.specs.View.{view};
 ghost use Rattle.pdl_args.specs.declared.line.LineError.TheVariants.{NoMemory as no_memory};
 
@@ -23,6 +23,12 @@ pub enum Line<'a> {
         source: &'a str,
         image: &'a str,
         cycles: u32,
+    },
+    /// `seq SRC IMG THREADS`: the names of two files, and how many threads to run, up to 1,000,000.
+    Seq {
+        source: &'a str,
+        image: &'a str,
+        threads: u32,
     },
     /// `asm TABLE TEXT`: the names of the table of an instruction set and of an assembly text.
     Asm {
@@ -82,6 +88,13 @@ fn command_line<'a>(name: &str, inner: &ArgMatches<'a>) -> Result<Line<'a>, Line
             value(inner, "cycles"),
         );
     }
+    if name == "seq" {
+        return seq_line(
+            value(inner, "source"),
+            value(inner, "image"),
+            value(inner, "threads"),
+        );
+    }
     if name == "asm" {
         return asm_line(value(inner, "table"), value(inner, "text"));
     }
@@ -131,6 +144,34 @@ fn run_line<'a>(
         source,
         image,
         cycles,
+    })
+}
+
+fn seq_line<'a>(
+    source: Option<&'a str>,
+    image: Option<&'a str>,
+    threads: Option<&'a str>,
+) -> Result<Line<'a>, LineError>
+    ensures ok { IfOk result (λ l. seq_of (option_map (λ s. s.now) source.entry) (option_map (λ s. s.now) image.entry) (option_map (λ s. s.now) threads.entry) ≡ Some (view l)) }
+    ensures usage { IsErrOf result LineError.Usage → seq_of (option_map (λ s. s.now) source.entry) (option_map (λ s. s.now) image.entry) (option_map (λ s. s.now) threads.entry) ≡ None }
+    ensures memory { result ≢ Err LineError.NoMemory }
+{
+    let Some(source) = source else {
+        return Err(LineError::Usage);
+    };
+    let Some(image) = image else {
+        return Err(LineError::Usage);
+    };
+    let Some(threads) = threads else {
+        return Err(LineError::Usage);
+    };
+    let Some(threads) = number(threads, 7, 1_000_000) else {
+        return Err(LineError::Usage);
+    };
+    Ok(Line::Seq {
+        source,
+        image,
+        threads,
     })
 }
 

@@ -26,12 +26,23 @@ fn asm<'a>(table: &'a str, text: &'a str) -> Result<Line<'a>, LineError> {
     Ok(Line::Asm { table, text })
 }
 
+fn seq<'a>(source: &'a str, image: &'a str, threads: u32) -> Result<Line<'a>, LineError> {
+    Ok(Line::Seq {
+        source,
+        image,
+        threads,
+    })
+}
+
 #[test]
 fn reads_lines(rt: HostRuntime) -> Result<(), Fail> {
     let usage = Err(LineError::Usage);
-    let table: [(&[&str], Result<Line<'_>, LineError>); 15] = [
+    let table: [(&[&str], Result<Line<'_>, LineError>); 18] = [
         (&["asm", "t", "p"], asm("t", "p")),
         (&["asm", "t"], usage),
+        (&["seq", "a", "b", "1000000"], seq("a", "b", 1_000_000)),
+        (&["seq", "a", "b", "1000001"], usage),
+        (&["seq", "a", "b"], usage),
         (&["check", "a.pdl"], check("a.pdl")),
         (&["check", "--", "-a"], check("-a")),
         (&["check"], usage),

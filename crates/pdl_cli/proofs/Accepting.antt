@@ -74,11 +74,11 @@ names_short b p ms a e = told_all (λ m. length m.name ≤ 32) p ms e (short_one
 
 -- ---- its lines
 
-told_columns : (ms : List Mem) → map column_of (infos_of ms) ≡ columns ms
+pub told_columns : (ms : List Mem) → map column_of (infos_of ms) ≡ columns ms
 told_columns [] = refl
 told_columns (m ∷ ms) = ap (λ cs. record { name = m.name.name; width = m.width.value } ∷ cs) (told_columns ms)
 
-same_length : (k : ℕ) → length (replies k) ≡ length (schedule k)
+pub same_length : (k : ℕ) → length (replies k) ≡ length (schedule k)
 same_length zero = refl
 same_length (suc k) = ap suc (same_length k)
 

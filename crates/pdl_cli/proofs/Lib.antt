@@ -6,3 +6,4 @@ pub mod Lined
 pub mod Preparing
 pub mod Printing
 pub mod Running
+pub mod InTurn

@@ -11,7 +11,7 @@ use Rattle.clap.specs.Kinds.{Kinds}
 use Rattle.pdl_args.specs.App.{pdl_app}
 use Rattle.pdl_args.specs.Number.{number_of, is_numeral_of}
 use Rattle.pdl_cli.specs.Top.{IsFew}
-use Rattle.pdl_args.specs.Line.{Command, check, run, asm, check_of, asm_of, run_of, command_of, where_taken, line}
+use Rattle.pdl_args.specs.Line.{Command, check, run, seq, asm, check_of, run_of, seq_of, asm_of, command_of, where_taken, line}
 
 tested : (a b : Bool) (n m : ℕ) → (b ≡ true → n ≤ m) → (c : ℕ) → (if a && b then Some n else None) ≡ Some c → c ≤ m
 tested true true n m h c e = let s : n ≡ c = cc e in rw (← s) (h refl)
@@ -44,6 +44,16 @@ of_asm None s x y n e = absurd (cc e)
 of_asm (Some t) None x y n e = absurd (cc e)
 of_asm (Some t) (Some s) x y n e = absurd (cc e)
 
+seq_case : (s i x y : Text) (n : ℕ) (o : Option ℕ) → option_map (seq s i) o ≡ Some (run x y n) → n ≤ 1000000
+seq_case s i x y n None e = absurd (cc e)
+seq_case s i x y n (Some k) e = absurd (cc e)
+
+of_seq : (s i t : Option Text) (x y : Text) (n : ℕ) → seq_of s i t ≡ Some (run x y n) → n ≤ 1000000
+of_seq None i t x y n e = absurd (cc e)
+of_seq (Some s) None t x y n e = absurd (cc e)
+of_seq (Some s) (Some i) None x y n e = absurd (cc e)
+of_seq (Some s) (Some i) (Some t) x y n e = seq_case s i x y n (number_of 7 1000000 t) e
+
 of_none : (x y : Text) (n : ℕ) → None ≡ Some (run x y n) → n ≤ 1000000
 of_none x y n e = absurd (cc e)
 
@@ -55,11 +65,14 @@ of_found (Some f) x y n e =
     let cycles : Option Text = first_of (codes "cycles") f.1 in
     let table : Option Text = first_of (codes "table") f.1 in
     let text : Option Text = first_of (codes "text") f.1 in
+    let threads : Option Text = first_of (codes "threads") f.1 in
     let assembled : Option Command = if bytes_eq f.0 (codes "asm") then asm_of table text else None in
-    let ran : Option Command = if bytes_eq f.0 (codes "run") then run_of source image cycles else assembled in
+    let in_turn : Option Command = if bytes_eq f.0 (codes "seq") then seq_of source image threads else assembled in
+    let ran : Option Command = if bytes_eq f.0 (codes "run") then run_of source image cycles else in_turn in
     of_if (bytes_eq f.0 (codes "check")) (check_of source) ran x y n (of_check source x y n)
-    (of_if (bytes_eq f.0 (codes "run")) (run_of source image cycles) assembled x y n (of_run source image cycles x y n)
-    (of_if (bytes_eq f.0 (codes "asm")) (asm_of table text) None x y n (of_asm table text x y n) (of_none x y n))) e
+    (of_if (bytes_eq f.0 (codes "run")) (run_of source image cycles) in_turn x y n (of_run source image cycles x y n)
+    (of_if (bytes_eq f.0 (codes "seq")) (seq_of source image threads) assembled x y n (of_seq source image threads x y n)
+    (of_if (bytes_eq f.0 (codes "asm")) (asm_of table text) None x y n (of_asm table text x y n) (of_none x y n)))) e
 
 of_taken : (kinds : Kinds) (found : Option (Text × List Row)) (x y : Text) (n : ℕ) → where_taken kinds found ≡ Some (run x y n) → n ≤ 1000000
 of_taken [] found x y n e = of_found found x y n e
@@ -72,5 +85,6 @@ few_cycles words x y n e = of_taken (fault_of pdl_app words) (subcommand_of pdl_
 
 pub few : (words : List Text) (command : Command) → line words ≡ Some command → IsFew command
 few words (check x) e = tt
+few words (seq s i t) e = tt
 few words (asm t x) e = tt
 few words (run x y n) e = few_cycles words x y n e

@@ -1,26 +1,30 @@
 -- Why a run is not prepared, once its source is accepted.
 use Rattle.std.proofs.Common.{◌≡◌, ℕ, ◌≤◌, List, Option, inr, subst, arith}
+use Rattle.pdl_kit.specs.declared.rule.Rule.{Rule}
 use Rattle.pdl_kit.specs.Counts.{Rose}
 use Rattle.pdl_kit.specs.Files.{Held, Gives}
 use Rattle.pdl_semantics.specs.Tree.{Pipe}
+use Rattle.pdl_cli.specs.declared.failure.Position.{Position}
 use Rattle.pdl_cli.specs.declared.failure.Position.TheVariants.{Line, Insn}
 use Rattle.pdl_cli.specs.declared.failure.Failure.{Failure}
 use Rattle.pdl_cli.specs.declared.failure.Failure.TheVariants.{Usage, Refused, ReadFault, WriteFault, NoMemory}
-use Rattle.pdl_args.specs.Line.{run}
-use Rattle.pdl_cli.specs.Commands.{IsAccepted, IsTaken, IsLoaded, ImageFails, Fails}
+use Rattle.pdl_args.specs.Line.{Command}
+use Rattle.pdl_cli.specs.Commands.{AtLine, IsAccepted, IsTaken, IsLoaded, IsWrong, IsWrongFor, ImageFails, Fails}
 
 pub rose_before : (before mid now : ℕ) → before ≤ mid → Rose mid now → Rose before now
 rose_before before mid now h r = omega (arith, r)
 
-pub image_fails : (holds after : Option Held) (before mid now : ℕ) (source image' text : List ℕ) (cycles : ℕ) (p : Pipe) → after ≡ holds → before ≤ mid → Gives holds source text → IsAccepted text p
-    → (f : Failure) → ImageFails after mid now image' p f → Fails holds before now (run source image' cycles) f
-image_fails holds after before mid now source image' text cycles p e h given a Usage w = w
-image_fails holds after before mid now source image' text cycles p e h given a (Refused rule (Insn n)) w = w
-image_fails holds after before mid now source image' text cycles p e h given a (Refused rule (Line n)) w =
-    inr (record { source_text = text; source_given = given; pipe = p; accepted = a; image_text = w.0; image_given = subst (λ (o : Option Held). Gives o image' w.0) e w.1; refused = w.2 })
-image_fails holds after before mid now source image' text cycles p e h given a ReadFault w = rose_before before mid now h w
-image_fails holds after before mid now source image' text cycles p e h given a WriteFault w = w
-image_fails holds after before mid now source image' text cycles p e h given a NoMemory w = tt
+-- the image of a command with a source and an image
+pub image_fails : (holds after : Option Held) (before mid now : ℕ) (source image' text : List ℕ) (command : Command) (p : Pipe) → after ≡ holds → before ≤ mid → Gives holds source text → IsAccepted text p
+    → ((rule : Rule) (position : Position) → AtLine (IsWrong holds source image' rule) position → IsWrongFor holds command rule position)
+    → (f : Failure) → ImageFails after mid now image' p f → Fails holds before now command f
+image_fails holds after before mid now source image' text command p e h given a wrong Usage w = w
+image_fails holds after before mid now source image' text command p e h given a wrong (Refused rule (Insn n)) w = absurd w
+image_fails holds after before mid now source image' text command p e h given a wrong (Refused rule (Line n)) w =
+    wrong rule (Line n) (inr (record { source_text = text; source_given = given; pipe = p; accepted = a; image_text = w.0; image_given = subst (λ (o : Option Held). Gives o image' w.0) e w.1; refused = w.2 }))
+image_fails holds after before mid now source image' text command p e h given a wrong ReadFault w = rose_before before mid now h w
+image_fails holds after before mid now source image' text command p e h given a wrong WriteFault w = w
+image_fails holds after before mid now source image' text command p e h given a wrong NoMemory w = tt
 
 pub loaded : (holds after : Option Held) (source image' text img : List ℕ) (p : Pipe) (words : List (List ℕ)) → after ≡ holds → Gives holds source text → IsAccepted text p
     → Gives after image' img → IsTaken p img words → IsLoaded holds source image' p words

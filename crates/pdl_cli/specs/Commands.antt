@@ -7,7 +7,7 @@ use Rattle.pdl_kit.specs.Counts.{Rose}
 use Rattle.pdl_semantics.specs.Tree.{Pipe}
 use Rattle.pdl_semantics.specs.Flat.{arrays_of}
 use Rattle.pdl_semantics.specs.Flatten.{flat}
-use Rattle.pdl_semantics.specs.Lines.{accepted_line, run_lines}
+use Rattle.pdl_semantics.specs.Lines.{accepted_line, run_lines, seq_lines}
 use Rattle.pdl_semantics.specs.Promises.{Refines, Advances, KeepsPace}
 use Rattle.pdl_grammar.specs.Text.{IsText, IsOutOfPlace}
 use Rattle.pdl_rules.specs.Refusal.{refusal}
@@ -19,7 +19,7 @@ use Rattle.pdl_pipe_law.specs.Follows.{Follows}
 use Rattle.pdl_pipe.specs.Refined.{RefinesThreads}
 use Rattle.pdl_image.specs.Images.{image}
 use Rattle.pdl_image.specs.declared.file_error.FileError.TheVariants as file
-use Rattle.pdl_args.specs.Line.{Command, check, run, asm}
+use Rattle.pdl_args.specs.Line.{Command, check, run, seq, asm}
 use Rattle.pdl_cli.specs.declared.failure.Position.{Position}
 use Rattle.pdl_cli.specs.declared.failure.Position.TheVariants.{Line, Insn}
 use Rattle.pdl_cli.specs.declared.failure.Failure.{Failure}
@@ -137,16 +137,25 @@ pub record IsOutput (holds : Option Held) (source image' : List ℕ) (cycles : �
   -- and so enough threads end
   pub pace : KeepsPace (flat pipe) (arrays_of words) (replies cycles)
 
+-- the text that `seq` writes where all is well: the writes of the threads, run one after another from the image, and how many they are
+pub record IsSequential (holds : Option Held) (source image' : List ℕ) (threads : ℕ) (text : List ℕ) : Type 0 where
+  pub pipe : Pipe
+  pub words : List (List ℕ)
+  pub loaded : IsLoaded holds source image' pipe words
+  pub lines : text ≡ seq_lines pipe words threads
+
 -- the text that a command writes where all is well
 abbrev pub Writes : Option Held → Command → List ℕ → Type 0
 Writes holds (check source) text = IsVerdict holds source text
 Writes holds (run source image' cycles) text = IsOutput holds source image' cycles text
+Writes holds (seq source image' threads) text = IsSequential holds source image' threads text
 Writes holds (asm table program) text = IsAssembled holds table program text
 
 -- of the files that a command names, in order, the first wrong one is refused by the rule at the position
 abbrev pub IsWrongFor : Option Held → Command → Rule → Position → Type 0
 IsWrongFor holds (check source) rule position = AtLine (IsWrongSource holds source rule) position
 IsWrongFor holds (run source image' cycles) rule position = AtLine (IsWrong holds source image' rule) position
+IsWrongFor holds (seq source image' threads) rule position = AtLine (IsWrong holds source image' rule) position
 IsWrongFor holds (asm table program) rule position = AtInsn (IsWrongTable holds table rule) position ⊎ AtLine (IsWrongText holds table program rule) position
 
 -- why the table of an instruction set is not there

@@ -4,7 +4,7 @@ use Rattle.pdl_kit.specs.declared.rule.Rule.{Rule}
 use Rattle.pdl_kit.specs.Counts.{Rose}
 use Rattle.pdl_kit.specs.Files.{Held}
 use Rattle.pdl_kit.specs.Sinks.{TakesPrefix, with_bytes}
-use Rattle.pdl_args.specs.Line.{Command, check, run, asm}
+use Rattle.pdl_args.specs.Line.{Command, check, run, seq, asm}
 use Rattle.pdl_cli.specs.declared.failure.Position.{Position}
 use Rattle.pdl_cli.specs.declared.failure.Failure.{Failure}
 use Rattle.pdl_cli.specs.declared.failure.Failure.TheVariants.{Usage, Refused, ReadFault, WriteFault, NoMemory}
@@ -16,12 +16,14 @@ abbrev pub Allows : (List ℕ → Bool) → Option Command → Type 0
 Allows may None = ⊤
 Allows may (Some (check source)) = IsTrue (may source)
 Allows may (Some (run source image cycles)) = IsTrue (may source) × IsTrue (may image)
+Allows may (Some (seq source image threads)) = IsTrue (may source) × IsTrue (may image)
 Allows may (Some (asm table program)) = IsTrue (may table) × IsTrue (may program)
 
 -- a run is of at most 1,000,000 cycles
 abbrev pub IsFew : Command → Type 0
 IsFew (check source) = ⊤
 IsFew (run source image cycles) = cycles ≤ 1000000
+IsFew (seq source image threads) = ⊤
 IsFew (asm table program) = ⊤
 
 -- what is seen from outside, before and after: what the files hold and their count of faults, what out has and its count of faults

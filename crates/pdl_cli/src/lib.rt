@@ -6,6 +6,7 @@ mod failure;
 mod print;
 mod program;
 mod run;
+mod sequential;
 mod unique;
 mod words;
 

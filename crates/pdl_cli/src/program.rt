@@ -9,7 +9,7 @@ ghost use Rattle.pdl_cli.specs.Top.{Allows, IsFew, seen_of, Explains, Answers, D
 
 use crate::assembly::assembled;
 use crate::failure::{Failure, report, status_of};
-use crate::run::{prepare, verdict};
+use crate::run::{prepare, run_in_turn, verdict};
 use pdl_args::{Line, read_line};
 use pdl_kit::files::Files;
 use pdl_kit::sink::{Sink, write_whole};
@@ -32,6 +32,11 @@ fn text_of<F: Files>(alloc: Global, line: Line<'_>, files: &mut F) -> Result<Vec
             image,
             cycles,
         } => prepare(alloc, files, source, image, cycles),
+        Line::Seq {
+            source,
+            image,
+            threads,
+        } => run_in_turn(alloc, files, source, image, threads),
         Line::Asm { table, text } => assembled(alloc, files, table, text),
     }
 }

@@ -1,4 +1,4 @@
-// The texts that the commands `check` and `run` write.
+// The texts that the commands `check`, `run` and `seq` write.
 ghost use Rattle.std.specs.Prelude.{◌≡◌, ◌≤◌, IsTrue, IfOk, IfErr, ℕ, List, Option, length};
 ghost use Rattle.pdl_kit.specs.Files.{Held, Gives};
 ghost use Rattle.pdl_tree.specs.View.{pipe_view};
@@ -6,10 +6,11 @@ ghost use Rattle.pdl_semantics.specs.Lines.{accepted_line as accepted_text};
 ghost use Rattle.pdl_check.specs.Memories.{infos_of};
 ghost use Rattle.pdl_image.specs.Images.{IsImage, IsRefusal, image as image_words};
 ghost use Rattle.pdl_args.specs.Line as command;
-ghost use Rattle.pdl_cli.specs.Commands.{IsAccepted, SourceFails, ImageFails, IsTaken, IsLoaded, IsVerdict, IsOutput, Fails};
+ghost use Rattle.pdl_cli.specs.Commands.{IsAccepted, SourceFails, ImageFails, IsTaken, IsLoaded, IsVerdict, IsOutput, IsSequential, Fails};
 
 use crate::failure::Failure;
 use crate::print;
+use crate::sequential::sequential;
 use pdl_check::Accepted;
 use pdl_check::check::check;
 use pdl_image::{FileError, Image, read_image};
@@ -125,6 +126,32 @@ pub fn prepare<F: Files>(
     let accepted = accept(alloc, files, source)?;
     match load(alloc, files, image, &accepted) {
         Ok(words) => match text_of(alloc, &accepted, &words, cycles) {
+            Ok(text) => Ok(text),
+            Err(_) => Err(Failure::NoMemory),
+        },
+        Err(failure) => Err(failure),
+    }
+}
+
+/// The text that `seq` writes for a source and an image with these names, and so many threads.
+pub fn run_in_turn<F: Files>(
+    alloc: Global,
+    files: &mut F,
+    source: &str,
+    image: &str,
+    threads: u32,
+) -> Result<Vec<u8>, Failure>
+    requires source { IsTrue (F.may files.old source.now) }
+    requires image { IsTrue (F.may files.old image.now) }
+    ensures ok { IfOk result (λ t. IsSequential (F.holds files.old) source.now image.now threads t.items) }
+    ensures err { IfErr result (Fails (F.holds files.old) (F.faults files.old) (F.faults files.new) (command.seq source.now image.now threads)) }
+    ensures held { F.holds files.new ≡ F.holds files.old }
+    ensures allowed { (n : List ℕ) → F.may files.new n ≡ F.may files.old n }
+    ensures later { F.faults files.old ≤ F.faults files.new }
+{
+    let accepted = accept(alloc, files, source)?;
+    match load(alloc, files, image, &accepted) {
+        Ok(words) => match sequential(alloc, &accepted, &words, threads) {
             Ok(text) => Ok(text),
             Err(_) => Err(Failure::NoMemory),
         },

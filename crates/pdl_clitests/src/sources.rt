@@ -72,6 +72,13 @@ pub const TWO_IMAGES: &[u8] = b"image 1\nk 0 10\nk 1 20\nk 2 30\nk 3 40\nm 2 5\n
 pub const TWENTY: &[u8] =
     b"1 m 0 11\n2 m 0 24\n3 m 1 3c\n4 m 1 4a\n5 m 2 41\n6 m 2 7a\n7 m 3 bd\n8 m 3 13\n9 m 0 4d\n10 m 0 86\n11 m 1 c9\n12 m 1 75\n13 m 2 bb\n14 m 2 bd\n15 m 3 18\n16 m 3 86\n17 m 0 c7\n18 m 0 c9\n19 m 1 24\n20 m 1 00\nend cycles 20 ended 20 waits 0 squashes 0\n";
 
+// The sequential run has the same writes, since the pipe has one stage.
+pub const FOUR_IN_TURN: &[u8] = b"1 m 0 11\n2 m 0 24\n3 m 1 3c\n4 m 1 4a\nend threads 4\n";
+
+pub const TWO_IN_TURN: &[u8] = b"1 m 0 00\n2 m 1 01\nend threads 2\n";
+
+pub const NONE_IN_TURN: &[u8] = b"end threads 0\n";
+
 pub const NONE: &[u8] = b"end cycles 0 ended 0 waits 0 squashes 0\n";
 
 pub const EMPTY: &[u8] = b"image 1\n";
@@ -87,6 +94,9 @@ pub const SEVENTEEN: &[u8] =
 // Four stages, over which each thread reads a word and writes it back with 1 more, so that it waits for the thread before it.
 pub const CHAIN: &[u8] =
     b"pipe p(n: uint<2>)[m: uint<8>[4] comb lock queue(4)] { a = 2'd0; b = 2'd0; reserve(m[a], R); reserve(m[b], W); call(n + 2'd1); --- block(m[a]); x = m[a]; --- block(m[b]); m[b] <- x + 8'd1; --- release(m[a]); release(m[b]); } start p(2'd0);";
+
+// Without stages no thread waits.
+pub const CHAINED_IN_TURN: &[u8] = b"1 m 0 01\n2 m 0 02\n3 m 0 03\nend threads 3\n";
 
 // The same with locks that forward a pending value.
 pub const CHAIN_BYPASS: &[u8] =

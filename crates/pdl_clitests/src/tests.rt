@@ -1,12 +1,12 @@
 // What the program answers, rows by hand.
 use crate::rows::{answers, at, not, ran};
 use crate::sources::{
-    ASSEMBLED, CALLS, CHAIN, CHAIN_BYPASS, CHAIN_RENAME, CHAINED, COUNTER, DELAYED_ON_LINE_2, DOWN,
-    EMPTY, EVERY_OTHER, EXPRESSED, EXPRESSIONS, FIVE, FORK_ON_LINE_4, FORWARDED, LATE_START,
-    NARROW, NARROWED, NO_LOCK_SO_LARGE, NONE, ODD, ODDS, ON_LINE_3, OTHER_GUARD, PROGRAM, RENAMED,
-    RENAMED_64, SAME_GUARD, SAME_GUARD_WIDE_STEP, SEVENTEEN, SIXTY_FIVE, TABLE, THREE,
-    TOO_DEEP_TO_RENAME, TOO_WIDE, TWENTY, TWO_IMAGES, TWO_MEMORIES, UNKNOWN_STEP, WIDE_PARAMETER,
-    WIDE_STEP, WRITES,
+    ASSEMBLED, CALLS, CHAIN, CHAIN_BYPASS, CHAIN_RENAME, CHAINED, CHAINED_IN_TURN, COUNTER,
+    DELAYED_ON_LINE_2, DOWN, EMPTY, EVERY_OTHER, EXPRESSED, EXPRESSIONS, FIVE, FORK_ON_LINE_4,
+    FORWARDED, FOUR_IN_TURN, LATE_START, NARROW, NARROWED, NO_LOCK_SO_LARGE, NONE, NONE_IN_TURN,
+    ODD, ODDS, ON_LINE_3, OTHER_GUARD, PROGRAM, RENAMED, RENAMED_64, SAME_GUARD,
+    SAME_GUARD_WIDE_STEP, SEVENTEEN, SIXTY_FIVE, TABLE, THREE, TOO_DEEP_TO_RENAME, TOO_WIDE,
+    TWENTY, TWO_IMAGES, TWO_IN_TURN, TWO_MEMORIES, UNKNOWN_STEP, WIDE_PARAMETER, WIDE_STEP, WRITES,
 };
 use pdl_kit::MemSink;
 use std::alloc::Global;
@@ -33,6 +33,40 @@ fn prints_rows(rt: HostRuntime) -> Result<(), Fail> {
             TWO_MEMORIES,
             TWO_IMAGES,
             TWENTY,
+        ),
+    ];
+    answers(&rt, rt.alloc(), &rows)
+}
+
+/// Threads that run one after another.
+#[test]
+fn runs_threads_in_turn(rt: HostRuntime) -> Result<(), Fail> {
+    let rows = [
+        at(&["seq", "a.pdl", "e.img", "2"], COUNTER, EMPTY, TWO_IN_TURN),
+        at(
+            &["seq", "a.pdl", "e.img", "0"],
+            COUNTER,
+            EMPTY,
+            NONE_IN_TURN,
+        ),
+        at(
+            &["seq", "a.pdl", "e.img", "4"],
+            TWO_MEMORIES,
+            TWO_IMAGES,
+            FOUR_IN_TURN,
+        ),
+        at(
+            &["seq", "a.pdl", "e.img", "3"],
+            CHAIN,
+            EMPTY,
+            CHAINED_IN_TURN,
+        ),
+        not(
+            &["seq", "a.pdl", "e.img", "2"],
+            TOO_WIDE,
+            EMPTY,
+            2,
+            b"refused W2 line 1\n",
         ),
     ];
     answers(&rt, rt.alloc(), &rows)

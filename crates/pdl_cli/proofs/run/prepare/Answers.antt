@@ -1,4 +1,5 @@
 use Rattle.pdl_tree.specs.View.{pipe_view}
+use Rattle.pdl_args.specs.Line.{run}
 use Rattle.pdl_cli.proofs.Preparing.{image_fails}
 use Rattle.pdl_cli.proofs.run.prepare.Goals as goal
 
@@ -12,4 +13,4 @@ pub returns-clause-err : goal.returns-clause-err
 returns-clause-err g c =
     let a = c.in_ok-accepted.ensures.ok in
     image_fails (g.F.Files.holds c.args.files.now) (g.F.Files.holds c.accept.new.files) (g.F.Files.faults c.args.files.now) (g.F.Files.faults c.accept.new.files) (g.F.Files.faults c.load.new.files)
-    c.args.source.now c.args.image.now a.0 c.args.cycles (pipe_view c.in_ok-accepted.accepted.typed.pipe) c.accept.ensures.held c.accept.ensures.later a.1 a.2 c.in-Err.failure c.in-Err.ensures.err
+    c.args.source.now c.args.image.now a.0 (run c.args.source.now c.args.image.now c.args.cycles) (pipe_view c.in_ok-accepted.accepted.typed.pipe) c.accept.ensures.held c.accept.ensures.later a.1 a.2 (λ rule position w. w) c.in-Err.failure c.in-Err.ensures.err
