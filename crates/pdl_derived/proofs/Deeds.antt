@@ -2,9 +2,10 @@
 use Rattle.std.proofs.Common.{◌≡◌, refl, sym, ap, ◌∙◌, subst, ℕ, Bool, true, false, ◌&&◌, ◌||◌, not, List, [], ◌∷◌, ◌++◌, ◌==◌, cond, if◌then◌else◌, Some, None, slice_index, slice_set}
 use Rattle.std.proofs.Math.Bool.{and_assoc}
 use Rattle.pdl_semantics.specs.Flat.{Commit, list_all, Op, Bind, CombRead, DelayedRead, Write, ReserveRead, ReserveWrite, Block, Release, Call, SpecCall, Verify, SpecCheck, SpecBarrier, Stmt, value_of, values_of, taken}
-use Rattle.pdl_semantics.specs.Machine.{Ask, same_args, Place, Blocked, Reserved, Deeds, is_held, let_go, held_after, does_all, verifies}
+use Rattle.pdl_semantics.specs.Machine.{Ask, same_args, Place, Blocked, Reserved, Deeds, is_held, let_go, does_all}
 use Rattle.pdl_semantics.specs.Machine
 use Rattle.pdl_derived.specs.Derived.{Entry, Work, Around, does, do_all, has, without, filled}
+use Rattle.pdl_word.proofs.Bools.{and_swap}
 
 -- the locations of pending writes
 abbrev pub places : List Entry → List Place
@@ -30,13 +31,6 @@ places_filled (e ∷ es) m a v = at ((e.mem == m) && (e.var == a)) (places_fille
     at : (b : Bool) → places (filled es m a v) ≡ places es → places (cond b (record e { value = Some v } ∷ es) (e ∷ filled es m a v)) ≡ record { mem = e.mem; var = e.var } ∷ places es
     at true h = refl
     at false h = ap (λ l. record { mem = e.mem; var = e.var } ∷ l) h
-
-and_swap : (a b x : Bool) → ((a && b) && x) ≡ ((a && x) && b)
-and_swap false b x = refl
-and_swap true true true = refl
-and_swap true true false = refl
-and_swap true false true = refl
-and_swap true false false = refl
 
 all_more : {X : Type 0} → (test : X → Bool) (xs : List X) (x : X) → list_all test (xs ++ x ∷ []) ≡ (list_all test xs && test x)
 all_more test [] x = one (test x)

@@ -8,12 +8,9 @@ abbrev pub entries_of : ℕ → List Entry → List Entry
 entries_of m [] = []
 entries_of m (e ∷ es) = if e.mem == m then e ∷ entries_of m es else entries_of m es
 
-entries_of-filled : (es : List Entry) (m a v : ℕ) → entries_of m (filled es m a v) ≡ filled (entries_of m es) m a v
+pub entries_of-filled : (es : List Entry) (m a v : ℕ) → entries_of m (filled es m a v) ≡ filled (entries_of m es) m a v
 entries_of-filled [] m a v = refl
 entries_of-filled (e ∷ es) m a v = grind (arith, eqb_tells, entries_of-filled es m a v)
-
-pub filled_own : (es : List Entry) (m a v : ℕ) → entries_of m (filled es m a v) ≡ filled (entries_of m es) m a v
-filled_own = entries_of-filled
 
 pub filled_other : (es : List Entry) (m n a v : ℕ) → n ≢ m → entries_of m (filled es n a v) ≡ entries_of m es
 filled_other [] m n a v h = refl

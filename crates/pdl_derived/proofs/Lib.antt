@@ -3,7 +3,6 @@ pub mod Stages
 pub mod Entries
 pub mod Answering
 pub mod Oldest
-pub mod Requests
 pub mod Deeds
 pub mod Slots
 pub mod Lists

@@ -6,6 +6,7 @@ use Rattle.pdl_semantics.specs.Cycle.{new_entries, appended, put, put_all, fille
 use Rattle.pdl_semantics.specs.Machine
 use Rattle.pdl_semantics.specs.Moves
 use Rattle.pdl_derived.specs.Derived.{Entry, latest_in, count_in}
+use Rattle.pdl_semantics.proofs.Facts.{put_append}
 
 abbrev pub own : ℕ → Entry → Pending
 own n e = record { thread = n; address = e.address; value = e.value }
@@ -47,11 +48,6 @@ length_pend m n (e ∷ es) = length-append (pend m n es) _ ∙ at (e.mem == m) �
     at : (b : Bool) → length (pend m n es) + length (cond b (own n e ∷ []) []) ≡ cond b (1 + length (pend m n es)) (length (pend m n es))
     at true = omega arith
     at false = omega arith
-
--- the steps of a lock on a list in two parts
-put_append : (n v : ℕ) (xs ys : List Pending) → put n v (xs ++ ys) ≡ put n v xs ++ put n v ys
-put_append n v [] ys = refl
-put_append n v (x ∷ xs) ys = ap (λ l. (if x.thread == n then record x { value = Some v } else x) ∷ l) (put_append n v xs ys)
 
 -- no entry is this thread's
 abbrev pub Foreign : ℕ → List Pending → Type 0

@@ -1,5 +1,6 @@
 -- In a cycle that is no wait the oldest thread moves. Of any pipe of the whole language.
-use Rattle.std.proofs.Common.{◌≡◌, refl, sym, ap, ap₂, ◌∙◌, subst, ℕ, zero, suc, ◌+◌, Bool, true, false, ◌&&◌, ◌||◌, not, List, [], ◌∷◌, Option, Some, None, is_none, is_some, cond, arith, slice_index, slice_index_or, zero-add, add-suc, suc-add}
+use Rattle.std.proofs.Common.{◌≡◌, refl, sym, ap, ◌∙◌, subst, ℕ, zero, suc, ◌+◌, Bool, true, false, ◌&&◌, ◌||◌, not, List, [], ◌∷◌, Option, Some, None, is_none, is_some, cond, arith, slice_index, slice_index_or, zero-add, add-suc, suc-add}
+use Rattle.std.proofs.lemmas.Bool.{and_from}
 use Rattle.pdl_semantics.specs.Flat.{Op, DelayedRead, ReserveWrite, Block, Verify, SpecBarrier, Stmt, Pipe, Lock, Plain, Queue, Bypass, Rename, taken, values_of}
 use Rattle.pdl_semantics.specs.Stages.{in_stage, mem_at, stage_at, verify_stage}
 use Rattle.pdl_semantics.specs.Machine.{Awaited, answers, same_args}
@@ -16,23 +17,20 @@ pub record AllTrue (o : Around) : Type 0 where
   pub free : (m : ℕ) → o.free m ≡ true
   pub clear : o.clear ≡ true
 
-stays : (b c : Bool) → b ≡ true → c ≡ true → (b && c) ≡ true
-stays b c h k = ap₂ (λ x y. x && y) h k
-
 pick : (c x y : Bool) → x ≡ true → y ≡ true → cond c x y ≡ true
 pick true x y h k = h
 pick false x y h k = k
 
 ready_op : (o : Around) (op : Op) (w : Work) → AllTrue o → w.ready ≡ true → (does o op w).ready ≡ true
-ready_op o (DelayedRead x m a) w f h = stays w.ready (o.free m) h (f.free m)
-ready_op o (ReserveWrite m a) w f h = stays w.ready (o.room m) h (f.room m)
-ready_op o (Block m a) w f h = stays w.ready _ h (pick (has w.entries m a) _ _ (f.can_write m (slice_index w.env a)) (f.can_read m (slice_index w.env a)))
+ready_op o (DelayedRead x m a) w f h = and_from w.ready (o.free m) h (f.free m)
+ready_op o (ReserveWrite m a) w f h = and_from w.ready (o.room m) h (f.room m)
+ready_op o (Block m a) w f h = and_from w.ready _ h (pick (has w.entries m a) _ _ (f.can_write m (slice_index w.env a)) (f.can_read m (slice_index w.env a)))
 ready_op o (Verify args) w f h = at (same_args (values_of args w.env) w.guess)
   where
     at : (b : Bool) → (cond b w (record w { child = Some (values_of args w.env); fails = true })).ready ≡ true
     at true = h
     at false = h
-ready_op o SpecBarrier w f h = stays w.ready o.clear h f.clear
+ready_op o SpecBarrier w f h = and_from w.ready o.clear h f.clear
 ready_op o _ w f h = h
 
 ready_step : (b : Bool) (o : Around) (op : Op) (w : Work) → AllTrue o → w.ready ≡ true → (cond b (does o op w) w).ready ≡ true
@@ -110,8 +108,8 @@ enter_alone p (Some q) = fork_alone p (stage_at p q).merges
 -- the oldest thread moves
 pub oldest : (p : Pipe) (st : State) (bits : List Bool) (t : Thread) → HasRoom p → Asked st.asked t.awaits → is_wait p st bits ≡ false → (act p st bits [] t).moves ≡ true
 oldest p st bits t room a h =
-    stays _ _
-    (stays _ _ (ready_all (around p st bits [] t.stage) (in_stage t.stage p.stmts) _
+    and_from _ _
+    (and_from _ _ (ready_all (around p st bits [] t.stage) (in_stage t.stage p.stmts) _
     (record {
       can_read = λ m x. read_free (mem_at p m).lock;
       can_write = λ m x. write_free (mem_at p m).lock;

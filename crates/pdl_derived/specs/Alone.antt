@@ -1,5 +1,5 @@
 -- A thread that runs alone in the machine that the proofs use, and what that machine's runs are shown to do.
-use Rattle.std.specs.Prelude.{◌≡◌, ℕ, ◌+◌, ◌-◌, ◌/◌, ◌≤◌, Bool, true, false, ◌&&◌, not, List, [], ◌∷◌, None, if◌then◌else◌, nat_lt, ◌==◌, IsTrue, IsFalse, length}
+use Rattle.std.specs.Prelude.{◌≡◌, ℕ, ◌+◌, ◌-◌, ◌/◌, ◌≤◌, Bool, true, false, ◌&&◌, List, [], ◌∷◌, None, if◌then◌else◌, nat_lt, ◌==◌, IsTrue, IsFalse, length}
 use Rattle.pdl_semantics.specs.Flat.{Arrays, Op, CombRead, DelayedRead, Call, SpecCall, Stmt, Pipe, start_env, word_at, Commit, of_mem, committed}
 use Rattle.pdl_semantics.specs.Stages.{commit_stage, depth}
 use Rattle.pdl_semantics.specs.Sequential.{thread, seqwrites}
@@ -54,11 +54,6 @@ placed p arrays args s =
 -- the writes to m of this turn that a thread in stage s has not released
 abbrev pub undone : Pipe → Arrays → List ℕ → ℕ → ℕ → List Commit
 undone p arrays args s m = if nat_lt (commit_stage p m) s then [] else of_mem m (thread p arrays args).writes
-
--- whether a write has another address
-abbrev pub misses : ℕ → List Commit → Bool
-misses a [] = true
-misses a (c ∷ cs) = not (c.address == a) && misses a cs
 
 abbrev pub is_call : Op → Bool
 is_call (Call args) = true

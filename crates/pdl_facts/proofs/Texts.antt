@@ -1,6 +1,6 @@
 -- What tests of statements tell: their order, what they make, which memories they know, and each path.
 use Rattle.std.proofs.Common.{◌≡◌, refl, sym, ap, ap₂, ◌∙◌, subst, ℕ, zero, suc, ◌<◌, ◌≤◌, Bool, true, false, ◌&&◌, ◌||◌, not, List, [], ◌∷◌, ◌++◌, length, Option, Some, None, is_none, nat_lt, ◌==◌, cond, arith, slice_index, slice_index_or, ltb-true, ltb-false, le-ltb, leb-true, le-leb}
-use Rattle.std.proofs.lemmas.Bool.{eqb-true, eqb-false, ne_eqb, lt-leb}
+use Rattle.std.proofs.lemmas.Bool.{eqb-true, eqb-false, ne_eqb, lt-leb, and_from, or_left, or_right}
 use Rattle.pdl_semantics.specs.Flat.{list_all, takes, taken, Op, Bind, CombRead, DelayedRead, Write, ReserveRead, ReserveWrite, Block, Release, Call, SpecCall, Verify, SpecCheck, SpecBarrier, Stmt, Guard, Pipe}
 use Rattle.pdl_semantics.specs.Stages.{onpath, in_stage, is_reserve, is_release, is_verify, verify_stage}
 use Rattle.pdl_semantics.specs.Sound.{all_below}
@@ -35,16 +35,6 @@ none_there (Some x) h = absurd (cc h)
 pub where_true : (a b : Bool) → (not a || b) ≡ true → a ≡ true → b ≡ true
 where_true true b h e = h
 where_true false b h e = absurd (cc e)
-
-and_both : (a b : Bool) → a ≡ true → b ≡ true → (a && b) ≡ true
-and_both a b h k = ap₂ (λ x y. x && y) h k
-
-or_first : (a b : Bool) → a ≡ true → (a || b) ≡ true
-or_first a b h = ap (λ x. x || b) h
-
-or_second : (a b : Bool) → b ≡ true → (a || b) ≡ true
-or_second true b h = refl
-or_second false b h = h
 
 apart : (m n k : ℕ) → nat_lt k n ≡ true → n ≤ m → (k == m) ≡ false
 apart m n k h low = let i : k < n = ltb-true _ _ h in ne_eqb k m (λ e. absurd (omega arith))
@@ -106,11 +96,11 @@ whole k (x ∷ xs) h f =
 
 pub reads_first : (p : Pipe) (c : Scan) (xs ys : List Stmt) → reads_ok p c (xs ++ ys) ≡ true → reads_ok p c xs ≡ true
 reads_first p c [] ys h = refl
-reads_first p c (x ∷ xs) ys h = and_both _ _ (and_left (no_guards x.guards && op_ok p x.stage c x.op) _ h) (reads_first p (opens x.op c) xs ys (and_right _ _ h))
+reads_first p c (x ∷ xs) ys h = and_from _ _ (and_left (no_guards x.guards && op_ok p x.stage c x.op) _ h) (reads_first p (opens x.op c) xs ys (and_right _ _ h))
 
 pub no_fetch : (p : Pipe) (c : Scan) (xs : List Stmt) → reads_ok p c xs ≡ true → none_of is_fetch xs ≡ true
 no_fetch p c [] h = refl
-no_fetch p c (x ∷ xs) h = and_both _ _ (here x.op (and_right _ _ (and_left _ _ h))) (no_fetch p (opens x.op c) xs (and_right _ _ h))
+no_fetch p c (x ∷ xs) h = and_from _ _ (here x.op (and_right _ _ (and_left _ _ h))) (no_fetch p (opens x.op c) xs (and_right _ _ h))
   where
     here : (op : Op) → op_ok p x.stage c op ≡ true → not (is_fetch op) ≡ true
     here (Bind y e) k = refl
@@ -139,7 +129,7 @@ no_verify (x ∷ xs) h = at (is_verify x.op) (and_left _ _ h) (no_verify xs (and
 
 pub all_at_none : (test : Op → Bool) (s : ℕ) (xs : List Stmt) → none_of test xs ≡ true → all_at test s xs ≡ true
 all_at_none test s [] h = refl
-all_at_none test s (x ∷ xs) h = and_both _ _ (or_first (not (test x.op)) _ (and_left _ _ h)) (all_at_none test s xs (and_right _ _ h))
+all_at_none test s (x ∷ xs) h = and_from _ _ (or_left (not (test x.op)) _ (and_left _ _ h)) (all_at_none test s xs (and_right _ _ h))
 
 no_reserve_op : (m n : ℕ) (op : Op) → knows n op ≡ true → n ≤ m → not (is_reserve m op) ≡ true
 no_reserve_op m n (ReserveRead k a) h low = ap not (apart m n k h low)
@@ -152,7 +142,7 @@ no_release_op m n _ h low = refl
 
 pub none_known : (test : Op → Bool) (n : ℕ) (xs : List Stmt) → ((op : Op) → knows n op ≡ true → not (test op) ≡ true) → list_all (λ x. knows n x.op) xs ≡ true → none_of test xs ≡ true
 none_known test n [] f h = refl
-none_known test n (x ∷ xs) f h = and_both _ _ (f x.op (and_left (knows n x.op) _ h)) (none_known test n xs f (and_right (knows n x.op) _ h))
+none_known test n (x ∷ xs) f h = and_from _ _ (f x.op (and_left (knows n x.op) _ h)) (none_known test n xs f (and_right (knows n x.op) _ h))
 
 pub no_reserve : (m n : ℕ) (xs : List Stmt) → list_all (λ x. knows n x.op) xs ≡ true → n ≤ m → none_of (is_reserve m) xs ≡ true
 no_reserve m n xs h low = none_known (is_reserve m) n xs (λ op k. no_reserve_op m n op k low) h
@@ -161,11 +151,11 @@ pub no_release : (m n : ℕ) (xs : List Stmt) → list_all (λ x. knows n x.op) 
 no_release m n xs h low = none_known (is_release m) n xs (λ op k. no_release_op m n op k low) h
 
 fresh_op : (p : Pipe) (s m n : ℕ) (c : Scan) (op : Op) → knows n op ≡ true → op_ok p s c op ≡ true → n ≤ m → (phase_ok m Fresh op ≡ true) × (next_phase m Fresh op ≡ Fresh)
-fresh_op p s m n c (CombRead x j a) h k low = (or_second (not (j == m)) true refl, refl)
+fresh_op p s m n c (CombRead x j a) h k low = (or_right (not (j == m)) true refl, refl)
 fresh_op p s m n c (DelayedRead x j a) h k low = absurd (cc k)
 fresh_op p s m n c (Write j a e) h k low = (ap (λ b. not b || false) (apart m n j h low), ap (λ b. cond b (Scans.Written a) Fresh) (apart m n j h low))
-fresh_op p s m n c (ReserveWrite j a) h k low = (or_second (not (j == m)) true refl, ap (λ b. cond b (Scans.Held a) Fresh) (apart m n j h low))
-fresh_op p s m n c (Release j a) h k low = (or_second (not (j == m)) true refl, ap (λ b. cond b Fresh Fresh) (apart m n j h low))
+fresh_op p s m n c (ReserveWrite j a) h k low = (or_right (not (j == m)) true refl, ap (λ b. cond b (Scans.Held a) Fresh) (apart m n j h low))
+fresh_op p s m n c (Release j a) h k low = (or_right (not (j == m)) true refl, ap (λ b. cond b Fresh Fresh) (apart m n j h low))
 fresh_op p s m n c _ h k low = (refl, refl)
 
 pub stays_fresh : (p : Pipe) (m n : ℕ) (c : Scan) (xs : List Stmt) → list_all (λ x. knows n x.op) xs ≡ true → reads_ok p c xs ≡ true → n ≤ m
@@ -175,7 +165,7 @@ stays_fresh p m n c (x ∷ xs) h k low =
     let ok = and_left (no_guards x.guards && op_ok p x.stage c x.op) _ k in
     let here = fresh_op p x.stage m n c x.op (and_left (knows n x.op) _ h) (and_right (no_guards x.guards) _ ok) low in
     let rest = stays_fresh p m n (opens x.op c) xs (and_right (knows n x.op) _ h) (and_right (no_guards x.guards && op_ok p x.stage c x.op) _ k) low in (
-      and_both _ _ (and_both _ _ (and_left (no_guards x.guards) _ ok) here.0) (subst (λ ph. phases_ok m ph xs ≡ true) (sym here.1) rest.0),
+      and_from _ _ (and_from _ _ (and_left (no_guards x.guards) _ ok) here.0) (subst (λ ph. phases_ok m ph xs ≡ true) (sym here.1) rest.0),
       ap (λ ph. phase_all m ph xs) here.1 ∙ rest.1,
     )
 

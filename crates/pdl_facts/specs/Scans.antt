@@ -1,6 +1,6 @@
 -- Scans over the statements of one path, and over a text, that tell whether locks and values are used as the rules of the language say.
 use Rattle.std.specs.Prelude.{ℕ, Bool, true, false, ◌&&◌, ◌||◌, not, List, [], ◌∷◌, if◌then◌else◌, ◌==◌, nat_le}
-use Rattle.pdl_semantics.specs.Flat.{Op, Bind, CombRead, DelayedRead, Write, ReserveWrite, Block, Release, Call, SpecCall, Verify, Stmt, Guard, Pipe, Lock, Plain}
+use Rattle.pdl_semantics.specs.Flat.{Op, Bind, CombRead, DelayedRead, Write, ReserveWrite, Block, Release, Stmt, Guard, Pipe, Lock, Plain}
 use Rattle.pdl_semantics.specs.Stages.{mem_at, commit_stage, reserve_stage}
 use Rattle.pdl_derived.specs.Alone.{Location, is_call}
 
@@ -126,13 +126,6 @@ is_over _ = false
 abbrev pub called : Bool → List Stmt → Bool
 called c [] = c
 called c (x ∷ xs) = called (c || is_call x.op) xs
-
--- a statement that makes the next thread
-abbrev pub makes : Op → Bool
-makes (Call args) = true
-makes (SpecCall args) = true
-makes (Verify args) = true
-makes _ = false
 
 abbrev pub binds : ℕ → Op → Bool
 binds g (Bind x e) = x == g

@@ -1,5 +1,6 @@
 -- Sound state's points on all live threads, of every state that a run comes to.
 use Rattle.std.proofs.Common.{◌≡◌, refl, ap, ap₂, ◌∙◌, subst, ℕ, ◌<◌, Bool, true, false, ◌&&◌, ◌||◌, not, List, [], ◌∷◌, Option, Some, None, ◌==◌, nat_lt, ltb-true, lt-ltb, le_of_lt}
+use Rattle.std.proofs.lemmas.Bool.{or_right}
 use Rattle.pdl_semantics.specs.Flat.{Pipe, Stmt, list_all}
 use Rattle.pdl_semantics.specs.Stages.{list_any, verify_stage, stage_at}
 use Rattle.pdl_semantics.specs.Machine.{State, Request, NoRequest, Owned, Orphan, Pending, lock_of, request_of}
@@ -21,14 +22,8 @@ use Rattle.pdl_invariant.proofs.Stage.{barred}
 use Rattle.pdl_invariant.proofs.Lasting.{Lasting, Along}
 use Rattle.pdl_invariant.proofs.Reached.{Whole, Youngest}
 use Rattle.pdl_invariant.proofs.Order.{behind_is, sides_are, sides_same, from_all}
-use Rattle.pdl_invariant.proofs.Points.{chain, asks_point, owner_any, blocks_point, path_point, any_onto, any_left, any_right}
-
-both_true : {a b : Bool} → a ≡ true → b ≡ true → (a && b) ≡ true
-both_true h k = ap₂ (λ a b. a && b) h k
-
-or_yes : (a b : Bool) → b ≡ true → (a || b) ≡ true
-or_yes true b h = refl
-or_yes false b h = h
+use Rattle.pdl_invariant.proofs.Points.{chain, asks_point, owner_any, blocks_point, path_point, any_onto, both_true}
+use Rattle.pdl_invariant.proofs.Local.{any_append, any_front}
 
 module _ (p : Pipe) (sound : Sound p) (st : State) (d : Derived.State) (ls : List Live) (sim : Sim p st d ls) (whole : Whole p st ls) where
   pub live_here : live st ≡ oldest_first ls
@@ -70,7 +65,7 @@ module _ (p : Pipe) (sound : Sound p) (st : State) (d : Derived.State) (ls : Lis
           v_is (Some w) i = cc i
 
       holds : Each (λ k. v < k.thread.stage) ks → Each (λ k. certain_after p (Some v) (told k) (told l) ≡ true) ks
-      holds h = each_map (λ k i. or_yes (not (nat_lt v l.thread.stage || has_done is_barrier p (told l))) _ (lt-ltb _ _ i)) ks h
+      holds h = each_map (λ k i. or_right (not (nat_lt v l.thread.stage || has_done is_barrier p (told l))) _ (lt-ltb _ _ i)) ks h
 
       every : (js : List Live) → nat_lt v l.thread.stage ≡ false → has_done is_barrier p (told l) ≡ false → Each (λ k. certain_after p (Some v) (told k) (told l) ≡ true) js
       every [] i j = tt
@@ -127,8 +122,8 @@ module _ (p : Pipe) (sound : Sound p) (st : State) (d : Derived.State) (ls : Lis
   each_path : (ks : List Live) → Each (Seated p st) ks → Along (Lasting p st) ks → Each (λ k. k.number < st.next) ks → ((m : ℕ) (test : Pending → Bool) → list_any test (pends m ks) ≡ true → list_any test (lock_of st m) ≡ true) → Each (λ l. on_path p st (told l) ≡ true) ks
   each_path [] s a n f = tt
   each_path (l ∷ ks) s a n f = (
-    path_point p sound st l s.0 a.0.local n.0 (λ m test h. f m test (any_right test (pends m ks) (pend m l.number l.thread.entries) h)),
-    each_path ks s.1 a.1 n.1 (λ m test h. f m test (any_left test (pends m ks) (pend m l.number l.thread.entries) h)),
+    path_point p sound st l s.0 a.0.local n.0 (λ m test h. f m test (any_append test (pends m ks) (pend m l.number l.thread.entries) h)),
+    each_path ks s.1 a.1 n.1 (λ m test h. f m test (any_front test (pends m ks) (pend m l.number l.thread.entries) h)),
   )
 
   pub paths_point : list_all (on_path p st) (live st) ≡ true

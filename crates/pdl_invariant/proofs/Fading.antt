@@ -5,12 +5,12 @@ use Rattle.pdl_semantics.specs.Flat.{Pipe, Op, Bind, CombRead, DelayedRead, Writ
 use Rattle.pdl_semantics.specs.Stages.{in_stage, stage_at, goes_to, is_reserve, is_release, reserve_stage, commit_stage}
 use Rattle.pdl_semantics.specs.Locks.{Latest, Nothing, as_latest, is_nothing, is_coming, read_ready, write_ready}
 use Rattle.pdl_semantics.specs.Machine.{State, same_args}
-use Rattle.pdl_derived.specs.Derived.{Entry, Work, Around, does, do_all, filled, without, latest_in, latest, works, around}
+use Rattle.pdl_derived.specs.Derived.{Entry, Work, Around, does, do_all, filled, without, latest_in, latest, around}
 use Rattle.pdl_derived.specs.Derived
 use Rattle.pdl_facts.specs.Scans.{none_of, Phase, Fresh, Held, Written, Done}
 use Rattle.pdl_simulation.proofs.FlowFacts.{Flows, stage_or}
 use Rattle.pdl_derived.proofs.Writes.{and_left, and_right}
-use Rattle.pdl_derived.proofs.Entries.{entries_of, filled_own, filled_other, without_own, without_other}
+use Rattle.pdl_derived.proofs.Entries.{entries_of, filled_other, without_own, without_other, entries_of-filled}
 use Rattle.pdl_turns.proofs.Marks.{latest_own}
 use Rattle.pdl_derived.proofs.Stages.{step}
 use Rattle.pdl_turns.proofs.Turn.{none_in_stage}
@@ -25,20 +25,6 @@ use Rattle.pdl_simulation.proofs.Placed
 -- the second says no less ready a thing than the first
 abbrev pub Calm : Latest → Latest → Type 0
 Calm l k = (is_nothing l ≡ true → is_nothing k ≡ true) × (is_coming l ≡ false → is_coming k ≡ false)
-
-pub calm_read : (lock : Lock) (l k : Latest) → Calm l k → read_ready lock l ≡ true → read_ready lock k ≡ true
-calm_read Plain l k c h = refl
-calm_read (Queue n) l k c h = c.0 h
-calm_read (Bypass n) l k c h = known (is_coming l) (is_coming k) c.1 h
-  where
-    known : (b d : Bool) → (b ≡ false → d ≡ false) → not b ≡ true → not d ≡ true
-    known true d f i = absurd (cc i)
-    known false d f i = ap not (f refl)
-calm_read (Rename n) l k c h = known (is_coming l) (is_coming k) c.1 h
-  where
-    known : (b d : Bool) → (b ≡ false → d ≡ false) → not b ≡ true → not d ≡ true
-    known true d f i = absurd (cc i)
-    known false d f i = ap not (f refl)
 
 pub calm_write : (lock : Lock) (l k : Latest) → Calm l k → write_ready lock l ≡ true → write_ready lock k ≡ true
 calm_write Plain l k c h = refl
@@ -103,7 +89,7 @@ by_memory n m R f g = at (n == m) refl
 fades_op : (m : ℕ) (start : List Entry) (o : Around) (op : Op) (w : Work) → not (is_reserve m op) ≡ true → Fades start (entries_of m w.entries) → Fades start (entries_of m (does o op w).entries)
 fades_op m start o (Write n a e) w r h =
     by_memory n m (Fades start (entries_of m (filled w.entries n a (value_of e w.env))))
-    (λ i. subst (λ j. Fades start (entries_of m (filled w.entries j a (value_of e w.env)))) (sym i) (subst (λ l. Fades start l) (sym (filled_own w.entries m a (value_of e w.env))) (fades_filled m a (value_of e w.env) start (entries_of m w.entries) h)))
+    (λ i. subst (λ j. Fades start (entries_of m (filled w.entries j a (value_of e w.env)))) (sym i) (subst (λ l. Fades start l) (sym (entries_of-filled w.entries m a (value_of e w.env))) (fades_filled m a (value_of e w.env) start (entries_of m w.entries) h)))
     (λ i. subst (λ l. Fades start l) (sym (filled_other w.entries m n a (value_of e w.env) i)) h)
 fades_op m start o (Release n a) w r h =
     by_memory n m (Fades start (entries_of m (without w.entries n a)))
@@ -149,7 +135,7 @@ filled_some m a v (e ∷ es) h = absurd (at ((e.mem == m) && (e.var == a)) h)
 lost_op : (m : ℕ) (o : Around) (op : Op) (w : Work) → not (is_reserve m op) ≡ true → not (is_release m op) ≡ true → entries_of m (does o op w).entries ≡ [] → entries_of m w.entries ≡ []
 lost_op m o (Write n a e) w r q h =
     by_memory n m (entries_of m w.entries ≡ [])
-    (λ i. filled_some m a (value_of e w.env) (entries_of m w.entries) (sym (filled_own w.entries m a (value_of e w.env)) ∙ ap (λ j. entries_of m (filled w.entries j a (value_of e w.env))) (sym i) ∙ h))
+    (λ i. filled_some m a (value_of e w.env) (entries_of m w.entries) (sym (entries_of-filled w.entries m a (value_of e w.env)) ∙ ap (λ j. entries_of m (filled w.entries j a (value_of e w.env))) (sym i) ∙ h))
     (λ i. sym (filled_other w.entries m n a (value_of e w.env) i) ∙ h)
 lost_op m o (Release n a) w r q h = sym (without_other w.entries m n a (off_case n m q)) ∙ h
 lost_op m o (ReserveWrite n a) w r q h = at (n == m) r h
@@ -219,10 +205,6 @@ calm_same m a (e ∷ es) r r' c = at ((e.mem == m) && (e.address == a)) (calm_sa
 pub none_latest : (m a : ℕ) (ks : List Live) → Each (λ k. entries_of m k.thread.entries ≡ []) ks → latest (threads_of ks) m a ≡ Nothing
 none_latest m a [] h = refl
 none_latest m a (k ∷ ks) h = latest_own k.thread.entries m a (latest (threads_of ks) m a) ∙ ap (λ l. latest_in l m a (latest (threads_of ks) m a)) h.0 ∙ none_latest m a ks h.1
-
-threads_append : (xs ys : List Live) → threads_of (xs ++ ys) ≡ threads_of xs ++ threads_of ys
-threads_append [] ys = refl
-threads_append (x ∷ xs) ys = ap (λ l. x.thread ∷ l) (threads_append xs ys)
 
 module _ (p : Pipe) (flows : Flows p) (st : State) (d : Derived.State) (bits : List Bool) (arrays : st.arrays ≡ d.arrays) where
   -- behind those that are past the releases nothing is pending

@@ -1,16 +1,16 @@
 -- The live threads up to the first wrong guess follow their turns: their values, once answered, are the turn's.
 use Rattle.std.proofs.Common.{◌≡◌, ◌≢◌, refl, sym, ap, ap₂, ◌∙◌, subst, ℕ, ◌≤◌, ◌⊎◌, inl, inr, Bool, true, false, ◌&&◌, ◌||◌, not, List, [], ◌∷◌, ◌++◌, Option, Some, None, is_some, ◌==◌, nat_lt, cond, if◌then◌else◌, slice_index, slice_set, eq-eqb, ltb-true, ltb-false}
-use Rattle.std.proofs.lemmas.Bool.{eqb-false}
+use Rattle.std.proofs.lemmas.Bool.{eqb-false, or_right, or_left}
 use Rattle.pdl_semantics.specs.Flat.{Arrays, Array, Pipe, Op, DelayedRead, Stmt, of_mem, word_at, list_all}
 use Rattle.pdl_semantics.specs.Stages
-use Rattle.pdl_semantics.specs.Stages.{list_any, onpath, is_verify, mem_at, is_reserve, reserve_stage}
+use Rattle.pdl_semantics.specs.Stages.{list_any, is_verify, mem_at, reserve_stage}
 use Rattle.pdl_semantics.specs.Locks.{Nothing, value_or}
 use Rattle.pdl_semantics.specs.Machine.{Ask, Awaited, State, Pending, Owned, lock_of, request_of, same_args, with_kept}
 use Rattle.pdl_semantics.specs.Cycle.{awaited_of}
 use Rattle.pdl_semantics.specs.Sequential
-use Rattle.pdl_semantics.specs.Sequential.{Run, thread, after_turns, writes_from}
+use Rattle.pdl_semantics.specs.Sequential.{thread}
 use Rattle.pdl_semantics.specs.Promises.{wrote, row}
-use Rattle.pdl_semantics.specs.Sound.{Follower, followers_of, guessed_wrong, has_done, is_spec_call, is_write, once_answered, awaited_words, request_address, has_asked, stages_before, stages_from, is_right_entry, right_entries, turn_writes, turn_so_far}
+use Rattle.pdl_semantics.specs.Sound.{Follower, followers_of, guessed_wrong, has_done, is_spec_call, is_write, once_answered, awaited_words, request_address, has_asked, is_right_entry, right_entries, turn_writes, turn_so_far}
 use Rattle.pdl_semantics.specs.Sound
 use Rattle.pdl_derived.specs.Derived.{Entry, asked_at}
 use Rattle.pdl_derived.specs.Derived
@@ -39,7 +39,7 @@ use Rattle.pdl_simulation.proofs.Stretches.{on_way, awaits_var, early}
 use Rattle.pdl_simulation.proofs.Seats.{Live, seat, threads_of, Each}
 use Rattle.pdl_simulation.proofs.Choices.{Seated, Matched, OwnedBy, AllOwned}
 use Rattle.pdl_invariant.proofs.OldestFirst.{told, oldest_first}
-use Rattle.pdl_invariant.proofs.Past.{AllOps, AnyOp, ops_both, any_both, onto, touches, AskedBy, or_yes, or_first}
+use Rattle.pdl_invariant.proofs.Past.{AllOps, AnyOp, ops_both, any_both, onto, touches, AskedBy}
 use Rattle.pdl_invariant.proofs.Local.{AnyAsk, AllKept, AllAwaited, any_of, past_of, kept_other, kept_map}
 use Rattle.pdl_invariant.proofs.Lasting.{awaited_map, any_ask_map}
 use Rattle.pdl_invariant.proofs.Points.{onto_any}
@@ -108,8 +108,8 @@ passes test (op ∷ ops) = test op || passes test ops
 
 some_passes : (test : Op → Bool) (ops : List Op) → AnyOp (λ op. test op ≡ true) ops → passes test ops ≡ true
 some_passes test [] h = absurd h
-some_passes test (op ∷ ops) (inl h) = or_first (test op) _ h
-some_passes test (op ∷ ops) (inr h) = or_yes (test op) _ (some_passes test ops h)
+some_passes test (op ∷ ops) (inl h) = or_left (test op) _ h
+some_passes test (op ∷ ops) (inr h) = or_right (test op) _ (some_passes test ops h)
 
 passed : (test : Op → Bool) (xs : List Stmt) → AnyOp (λ op. test op ≡ true) (onto xs []) → list_any (λ (x : Stmt). test x.op) xs ≡ true
 passed test xs h = at (onto_any test (passes test) (λ op ops. refl) xs [] (some_passes test (onto xs []) h))

@@ -3,13 +3,13 @@ use Rattle.std.proofs.Common.{◌≡◌, refl, sym, subst, ℕ, ◌≤◌, ◌<�
 use Rattle.pdl_semantics.specs.Flat.{Pipe, Op, SpecBarrier, Block, Stmt, Branch, taken}
 use Rattle.pdl_semantics.specs.Stages.{onpath, in_stage, stage_at, goes_to, verify_stage, reserve_stage, mem_at}
 use Rattle.pdl_semantics.specs.Locks.{read_ready, write_ready}
-use Rattle.pdl_semantics.specs.Machine.{Ask, Awaited, Kept, answers, State, Owned, request_of, with_answers, with_kept}
+use Rattle.pdl_semantics.specs.Machine.{Ask, Awaited, Kept, answers, State, Owned, request_of}
 use Rattle.pdl_semantics.specs.Moves.{movers}
 use Rattle.pdl_semantics.specs.Cycle.{awaited_of, squasher, stays}
 use Rattle.pdl_semantics.specs.Sound.{is_barrier}
 use Rattle.pdl_semantics.specs.Cycle
 use Rattle.pdl_semantics.specs.Machine
-use Rattle.pdl_derived.specs.Derived.{Work, Around, works, around, befores, still, find_ask, latest}
+use Rattle.pdl_derived.specs.Derived.{Work, Around, around, befores, still, find_ask, latest}
 use Rattle.pdl_derived.specs.Derived
 use Rattle.pdl_facts.specs.Scans.{none_of}
 use Rattle.pdl_facts.specs.Facts.{Sound, trunk_only}
@@ -29,8 +29,9 @@ use Rattle.pdl_invariant.specs.Strict.{Strict}
 use Rattle.pdl_invariant.proofs.Past.{AllOps, ops_map, ops_both, onto, BlockOk, Past, Kind}
 use Rattle.pdl_invariant.proofs.Trails.{AllStmts, stmts_map, stmts_both, ops_stmts, Among, among_low}
 use Rattle.pdl_invariant.proofs.Local.{Local, AnyAsk, AllAwaited, past_of, local_answered, answered_asks, local_moved, moved_asks, moved_trail, past_end, past_q, kept_unused}
-use Rattle.pdl_invariant.proofs.Fading.{calm_read, calm_write, read_write, calm_next}
+use Rattle.pdl_invariant.proofs.Fading.{calm_write, read_write, calm_next}
 use Rattle.pdl_invariant.proofs.Stage.{barred, some_barrier, barred_onto, clear_all, look_at, block_like, kept_blocks, LowBlock, low_blocks}
+use Rattle.pdl_turns.proofs.Marks.{calm_ready}
 
 -- each awaited read is one of the requests, which are outstanding as its own
 abbrev pub Owns : State → ℕ → List Ask → List Awaited → Type 0
@@ -118,7 +119,7 @@ module _ (p : Pipe) (sound : Sound p) (strict : Strict p) where
           × (write_ready (mem_at p m).lock (latest (threads_of ks) m (slice_index env a)) ≡ true → write_ready (mem_at p m).lock (latest (threads_of (go_on p st d bits ks)) m (slice_index env a)) ≡ true)
       calm_block env op low m a e =
           let c = calm_next p (sound_flows p sound) st d bits sim.arrays m (slice_index env a) ks older ordered (past_reserve l.thread.stage m ks behind (low m a e)) calm in
-          ((λ i. calm_read (mem_at p m).lock _ _ c i), (λ i. calm_write (mem_at p m).lock _ _ c i))
+          ((λ i. calm_ready (mem_at p m).lock _ _ c i), (λ i. calm_write (mem_at p m).lock _ _ c i))
 
       -- THE THREAD STANDS
 

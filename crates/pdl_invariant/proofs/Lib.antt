@@ -14,7 +14,7 @@ pub mod EveryState
 pub mod OnTurn
 mod Mine
 pub mod Releases
-mod StillLooks
+pub mod StillLooks
 mod TurnByTurn
 pub mod PendingLists
 pub mod OwnWrites

@@ -94,7 +94,7 @@ held_in kept awaits x m = list_any (λ k. k.var == x) kept || list_any (λ r. (r
 abbrev pub HeldOp : List Kept → List Awaited → Op → Type 0
 HeldOp kept awaits op = (x m a : ℕ) → op ≡ DelayedRead x m a → held_in kept awaits x m ≡ true
 
-any_append : {X : Type 0} → (test : X → Bool) (xs ys : List X) → list_any test ys ≡ true → list_any test (xs ++ ys) ≡ true
+pub any_append : {X : Type 0} → (test : X → Bool) (xs ys : List X) → list_any test ys ≡ true → list_any test (xs ++ ys) ≡ true
 any_append test [] ys h = h
 any_append test (x ∷ xs) ys h = at (test x) (any_append test xs ys h)
   where
@@ -102,7 +102,7 @@ any_append test (x ∷ xs) ys h = at (test x) (any_append test xs ys h)
     at true k = refl
     at false k = k
 
-any_front : {X : Type 0} → (test : X → Bool) (xs ys : List X) → list_any test xs ≡ true → list_any test (xs ++ ys) ≡ true
+pub any_front : {X : Type 0} → (test : X → Bool) (xs ys : List X) → list_any test xs ≡ true → list_any test (xs ++ ys) ≡ true
 any_front test [] ys h = absurd (cc h)
 any_front test (x ∷ xs) ys h = at (test x) h (λ k. any_front test xs ys k)
   where

@@ -27,11 +27,11 @@ use Rattle.pdl_invariant.specs.Use.{count_older, reserved_in, reserved}
 use Rattle.pdl_invariant.proofs.PendingLists.{Within, within_append, within_one, of_append, of_pend, of_new, none_older, count_append}
 use Rattle.pdl_invariant.proofs.OwnWrites.{own_short, pend_short, one_pending, none_pending}
 
-put_length : (n v : ℕ) (xs : List Pending) → length (put n v xs) ≡ length xs
+pub put_length : (n v : ℕ) (xs : List Pending) → length (put n v xs) ≡ length xs
 put_length n v [] = refl
 put_length n v (x ∷ xs) = ap suc (put_length n v xs)
 
-put_all_length : (m n : ℕ) (ws : List Written) (xs : List Pending) → length (put_all m n ws xs) ≡ length xs
+pub put_all_length : (m n : ℕ) (ws : List Written) (xs : List Pending) → length (put_all m n ws xs) ≡ length xs
 put_all_length m n [] xs = refl
 put_all_length m n (w ∷ ws) xs = put_all_length m n ws (if w.mem == m then put n w.value xs else xs) ∙ at (w.mem == m)
   where

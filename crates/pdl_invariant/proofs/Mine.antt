@@ -1,13 +1,12 @@
 -- What is each live thread's own: the reads that it awaits, and its entries in the locks' lists.
 use Rattle.std.proofs.Common.{◌≡◌, ◌≢◌, refl, ap, ap₂, ◌∙◌, ℕ, ◌<◌, Bool, true, false, ◌&&◌, ◌||◌, not, List, [], ◌∷◌, ◌++◌, ◌==◌, cond, arith}
-use Rattle.std.proofs.lemmas.Bool.{ne_eqb}
+use Rattle.std.proofs.lemmas.Bool.{ne_eqb, or_right}
 use Rattle.pdl_semantics.specs.Flat.{Pipe, list_all}
 use Rattle.pdl_semantics.specs.Machine.{State, Pending, lock_of}
 use Rattle.pdl_derived.specs.Derived.{Entry}
 use Rattle.pdl_derived.proofs.Writes.{and_left, and_right}
 use Rattle.pdl_derived.proofs.Lists.{own, pend}
 use Rattle.pdl_simulation.proofs.Seats.{Live, Each, Falls, pends}
-use Rattle.pdl_invariant.proofs.Past.{or_yes}
 use Rattle.pdl_invariant.proofs.Local.{Local}
 use Rattle.pdl_invariant.proofs.Lasting.{Lasting, Along, Owns}
 
@@ -26,7 +25,7 @@ all_append test (x ∷ xs) ys h k = ap₂ (λ a b. a && b) (and_left _ _ h) (all
 
 all_own : (n : ℕ) (test : Pending → Bool) (es : List Pending) → list_all test es ≡ true → list_all (of_thread n test) es ≡ true
 all_own n test [] h = refl
-all_own n test (e ∷ es) h = ap₂ (λ a b. a && b) (or_yes (not (e.thread == n)) (test e) (and_left _ _ h)) (all_own n test es (and_right (test e) _ h))
+all_own n test (e ∷ es) h = ap₂ (λ a b. a && b) (or_right (not (e.thread == n)) (test e) (and_left _ _ h)) (all_own n test es (and_right (test e) _ h))
 
 -- entries of others
 others : (m n k : ℕ) (test : Pending → Bool) (es : List Entry) → k ≢ n → list_all (of_thread n test) (pend m k es) ≡ true

@@ -1,5 +1,6 @@
 -- A thread of a turn in a stage: its way is the turn's path, its values and pending writes are the turn's, and its guess is wrong just where its successor isn't the next turn.
 use Rattle.std.proofs.Common.{◌≡◌, refl, sym, ap, ap₂, ◌∙◌, subst, ℕ, suc, ◌<◌, Bool, true, false, ◌&&◌, ◌||◌, not, List, [], ◌∷◌, ◌++◌, Option, Some, None, is_some, ◌==◌, cond, slice_index, eq-eqb}
+use Rattle.std.proofs.Math.Bool.{and-false}
 use Rattle.pdl_semantics.specs.Flat.{Arrays, Pipe, Op, Bind, CombRead, DelayedRead, Write, ReserveRead, ReserveWrite, Block, Release, Call, SpecCall, Verify, SpecCheck, SpecBarrier, Stmt, taken, Commit, of_mem}
 use Rattle.pdl_semantics.specs.Stages.{list_any, onpath, in_stage, is_verify, verify_stage, reserve_stage}
 use Rattle.pdl_semantics.specs.Machine.{same_args}
@@ -28,6 +29,7 @@ use Rattle.pdl_turns.proofs.Sounds
 use Rattle.pdl_turns.proofs.Turns
 use Rattle.pdl_turns.proofs.Whole
 use Rattle.pdl_invariant.proofs.Stage.{before_stages, way_looked}
+use Rattle.pdl_turns.proofs.Roams.{verify_same}
 
 -- PATHS
 
@@ -171,10 +173,6 @@ spec_looked : (op : Op) → is_spec_call (looked op) ≡ is_spec_call op
 spec_looked (DelayedRead x n a) = refl
 spec_looked _ = refl
 
-check_looked : (op : Op) → is_verify (looked op) ≡ is_verify op
-check_looked (DelayedRead x n a) = refl
-check_looked _ = refl
-
 -- GUESSES
 
 abbrev specs : List Stmt → Bool
@@ -219,10 +217,6 @@ after_check v k (x ∷ xs) h g u = at k x.op g u (and_left _ _ h) (λ e. after_c
     at Made (Verify args) g u i f = absurd (cc i)
     at Made _ g u i f = f refl
 
-and_no : (b : Bool) → (b && false) ≡ false
-and_no true = refl
-and_no false = refl
-
 guess_all : (v : Option ℕ) (k : Making) (xs : List Stmt) → makings_ok v k xs ≡ true → is_guessed (making_all k xs) ≡ ((is_guessed k || specs xs) && not (checks xs))
 guess_all v k [] h = same (is_guessed k)
   where
@@ -259,7 +253,7 @@ guess_all v k (x ∷ xs) h =
         let m : next_making k x.op ≡ Made = made x.op e in
         let none = after_check v Made xs (subst (λ j. makings_ok v j xs ≡ true) m (and_right (making_ok v k x.stage x.op) _ h)) refl refl in
         ap₂ (λ (j : Making) b. (is_guessed j || b) && not (checks xs)) m none.0
-        ∙ sym (ap (λ b. (is_guessed k || (is_spec_call x.op || specs xs)) && not (b || checks xs)) e ∙ and_no _)
+        ∙ sym (ap (λ b. (is_guessed k || (is_spec_call x.op || specs xs)) && not (b || checks xs)) e ∙ and-false _)
     at false e =
         ap (λ b. (b || specs xs) && not (checks xs)) (guess_op v k x.stage x.op (and_left _ _ h) ∙ ap (λ b. (is_guessed k || is_spec_call x.op) && not b) e)
         ∙ ap (λ b. b && not (checks xs)) (clean (is_guessed k) (is_spec_call x.op) (specs xs) true)
@@ -319,7 +313,7 @@ module _ (p : Pipe) (sound : Sound p) (arrays : Arrays) (args : List ℕ) where
   turn_guess s =
       guess_all (verify_stage (looked_all p.stmts)) Unmade (before s (onpath (thread (at_once p) arrays args).env (looked_all p.stmts))) (Makes.makings_before (at_once p) sound.pathwise (thread (at_once p) arrays args).env arrays args s)
       ∙ ap (λ l. list_any (λ (x : Stmt). is_spec_call x.op) l && not (list_any (λ (x : Stmt). is_verify x.op) l)) (way_looked p (thread (at_once p) arrays args).env s)
-      ∙ ap₂ (λ a b. a && not b) (any_looked is_spec_call spec_looked (on_way p (thread (at_once p) arrays args).env s)) (any_looked is_verify check_looked (on_way p (thread (at_once p) arrays args).env s))
+      ∙ ap₂ (λ a b. a && not b) (any_looked is_spec_call spec_looked (on_way p (thread (at_once p) arrays args).env s)) (any_looked is_verify verify_same (on_way p (thread (at_once p) arrays args).env s))
 
   -- it is wrong where a thread was made with other arguments
   pub turn_wrong : (s : ℕ) (b : Bool) → (right_guess (so_far p arrays args s).child (thread p arrays args).next ≡ not b) → is_some (so_far p arrays args s).child ≡ true

@@ -1,6 +1,6 @@
 -- Live threads stand in order: the older one in the greater stage, or in the other branch of a fork.
 use Rattle.std.proofs.Common.{◌≡◌, ◌≢◌, refl, sym, ap, ap₂, ◌∙◌, ℕ, suc, ◌≤◌, ◌<◌, ◌⊎◌, inl, inr, Bool, true, false, ◌&&◌, ◌||◌, not, List, [], ◌∷◌, ◌++◌, Option, Some, None, ◌==◌, nat_lt, if◌then◌else◌, arith, eq-eqb, ltb-true, ltb-false, lt-ltb, le_refl, append-nil, append_assoc}
-use Rattle.std.proofs.lemmas.Bool.{eqb-true, eqb-false}
+use Rattle.std.proofs.lemmas.Bool.{eqb-true, eqb-false, or_right, or_left}
 use Rattle.pdl_semantics.specs.Flat.{Pipe, Branch}
 use Rattle.pdl_semantics.specs.Stages.{stage_at}
 use Rattle.pdl_semantics.specs.Sound.{all_from, other_branch, side_in, sides_in, same_sides}
@@ -11,14 +11,6 @@ use Rattle.pdl_simulation.proofs.Seats.{Live}
 use Rattle.pdl_simulation.proofs.Telling.{sides}
 use Rattle.pdl_invariant.proofs.OldestFirst.{told, oldest_first}
 use Rattle.pdl_invariant.proofs.Trails.{Trail}
-
-or_yes : (a b : Bool) → b ≡ true → (a || b) ≡ true
-or_yes true b h = refl
-or_yes false b h = h
-
-or_first : (a b : Bool) → a ≡ true → (a || b) ≡ true
-or_first true b h = refl
-or_first false b h = absurd (cc h)
 
 module _ (p : Pipe) (g : Ways p) where
   -- between a fork and a stage in one of its branches stands no trunk stage
@@ -42,7 +34,7 @@ module _ (p : Pipe) (g : Ways p) where
       goal = (nat_lt younger.stage older.stage || other_branch (stage_at p older.stage).branch (stage_at p younger.stage).branch) ≡ true
 
       less : younger.stage < older.stage → (nat_lt younger.stage older.stage || other_branch (stage_at p older.stage).branch (stage_at p younger.stage).branch) ≡ true
-      less i = or_first (nat_lt younger.stage older.stage) _ (lt-ltb _ _ i)
+      less i = or_left (nat_lt younger.stage older.stage) _ (lt-ltb _ _ i)
 
       unless : (older.stage ≤ younger.stage → ⊥) → younger.stage < older.stage
       unless f = by (nat_lt younger.stage older.stage) refl
@@ -90,7 +82,7 @@ module _ (p : Pipe) (g : Ways p) where
         where
           by : (x.first ≡ y.first) ⊎ ((if y.first then not x.first else x.first) ≡ true) → (nat_lt younger.stage older.stage || other_branch (stage_at p older.stage).branch (stage_at p younger.stage).branch) ≡ true
           by (inl j) = less (h.branch (e ∙ ap Some (same x y (eqb-true _ _ i) j) ∙ sym f))
-          by (inr j) = or_yes (nat_lt younger.stage older.stage) _ (ap₂ other_branch f e ∙ ap₂ (λ a b. a && b) (eq-eqb y.fork x.fork (sym (eqb-true _ _ i))) j)
+          by (inr j) = or_right (nat_lt younger.stage older.stage) _ (ap₂ other_branch f e ∙ ap₂ (λ a b. a && b) (eq-eqb y.fork x.fork (sym (eqb-true _ _ i))) j)
 
       at : (c : Option Branch) → (stage_at p younger.stage).branch ≡ c → (o : Option Branch) → (stage_at p older.stage).branch ≡ o → (nat_lt younger.stage older.stage || other_branch (stage_at p older.stage).branch (stage_at p younger.stage).branch) ≡ true
       at None e o f = less (h.trunk younger.stage e (le_refl younger.stage))

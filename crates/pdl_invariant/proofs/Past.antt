@@ -1,7 +1,7 @@
 -- What is still true of the statements that a thread has carried out: its values are what they gave, its pending writes stand at the addresses of their locations, its blocks are ready.
 use Rattle.std.proofs.Common.{◌≡◌, refl, sym, ap, ap₂, ◌∙◌, subst, ℕ, ◌≤◌, ◌<◌, ◌⊎◌, inl, inr, Bool, true, false, ◌&&◌, ◌||◌, not, List, [], ◌∷◌, ◌++◌, length, Some, None, ◌==◌, nat_lt, cond, arith, slice_index, slice_set, eq-eqb, ltb-true}
 use Rattle.std.proofs.lemmas.List.{get_or-set_other, get_or-set_same, length-set}
-use Rattle.std.proofs.lemmas.Bool.{eqb-true}
+use Rattle.std.proofs.lemmas.Bool.{eqb-true, not-true, or_parts, or_right, or_left}
 use Rattle.pdl_word.specs.Words
 use Rattle.pdl_semantics.specs.Flat.{Op, Bind, CombRead, DelayedRead, Write, ReserveRead, ReserveWrite, Block, Release, Call, SpecCall, Verify, SpecCheck, SpecBarrier, Expr, Constant, Variable, Slice, Not, Binary, Cat, LessSigned, ZeroExtend, SignExtend, Choose, Stmt, value_of, values_of, applied, taken}
 use Rattle.pdl_semantics.specs.Stages.{onpath}
@@ -17,6 +17,7 @@ use Rattle.pdl_derived.proofs.Stages.{was_ready}
 use Rattle.pdl_turns.proofs.Paths.{Fixed, dead_none}
 use Rattle.pdl_derived.proofs.Answering.{AllAsks, all_more, all_both, all_snoc}
 use Rattle.pdl_invariant.specs.Strict.{bound_by, uses_own, mentioned, is_new, all_new}
+use Rattle.pdl_turns.proofs.Alike.{has_filled}
 
 -- LISTS OF STATEMENTS
 
@@ -66,22 +67,6 @@ abbrev pub touches : ℕ → Op → Bool
 touches x (DelayedRead y m a) = a == x
 touches x op = mentions x op
 
-pub not_true : (b : Bool) → not b ≡ true → b ≡ false
-not_true true h = absurd (cc h)
-not_true false h = refl
-
-or_no : (a b : Bool) → (a || b) ≡ false → (a ≡ false) × (b ≡ false)
-or_no true b h = absurd (cc h)
-or_no false b h = (refl, h)
-
-pub or_yes : (a b : Bool) → b ≡ true → (a || b) ≡ true
-or_yes true b h = refl
-or_yes false b h = h
-
-pub or_first : (a b : Bool) → a ≡ true → (a || b) ≡ true
-or_first true b h = refl
-or_first false b h = absurd (cc h)
-
 clash : {A : Type 0} → false ≡ true → A
 clash h = absurd (cc h)
 
@@ -90,24 +75,20 @@ value_agree (Constant w v) env env' f = refl
 value_agree (Variable x) env env' f = f x (eq-eqb x x refl)
 value_agree (Slice x high low) env env' f = ap (Words.slice high low) (f x (eq-eqb x x refl))
 value_agree (Not w a) env env' f = ap (Words.complement w) (value_agree a env env' f)
-value_agree (Binary op w a b) env env' f = ap₂ (applied op w) (value_agree a env env' (λ g h. f g (or_first _ _ h))) (value_agree b env env' (λ g h. f g (or_yes (uses_in g a) _ h)))
-value_agree (Cat a w b) env env' f = ap₂ (Words.cat w) (value_agree a env env' (λ g h. f g (or_first _ _ h))) (value_agree b env env' (λ g h. f g (or_yes (uses_in g a) _ h)))
-value_agree (LessSigned w a b) env env' f = ap₂ (Words.lts w) (value_agree a env env' (λ g h. f g (or_first _ _ h))) (value_agree b env env' (λ g h. f g (or_yes (uses_in g a) _ h)))
+value_agree (Binary op w a b) env env' f = ap₂ (applied op w) (value_agree a env env' (λ g h. f g (or_left _ _ h))) (value_agree b env env' (λ g h. f g (or_right (uses_in g a) _ h)))
+value_agree (Cat a w b) env env' f = ap₂ (Words.cat w) (value_agree a env env' (λ g h. f g (or_left _ _ h))) (value_agree b env env' (λ g h. f g (or_right (uses_in g a) _ h)))
+value_agree (LessSigned w a b) env env' f = ap₂ (Words.lts w) (value_agree a env env' (λ g h. f g (or_left _ _ h))) (value_agree b env env' (λ g h. f g (or_right (uses_in g a) _ h)))
 value_agree (ZeroExtend wide a) env env' f = ap Words.zext (value_agree a env env' f)
 value_agree (SignExtend w wide a) env env' f = ap (Words.sext w wide) (value_agree a env env' f)
 value_agree (Choose c a b) env env' f =
-    let k = value_agree c env env' (λ g h. f g (or_first _ _ h)) in
-    let m = value_agree a env env' (λ g h. f g (or_yes (uses_in g c) _ (or_first _ _ h))) in
-    let n = value_agree b env env' (λ g h. f g (or_yes (uses_in g c) _ (or_yes (uses_in g a) _ h))) in
+    let k = value_agree c env env' (λ g h. f g (or_left _ _ h)) in
+    let m = value_agree a env env' (λ g h. f g (or_right (uses_in g c) _ (or_left _ _ h))) in
+    let n = value_agree b env env' (λ g h. f g (or_right (uses_in g c) _ (or_right (uses_in g a) _ h))) in
     λ i. Words.mux (k i) (m i) (n i)
 
 pub values_agree : (es : List Expr) (env env' : List ℕ) → ((g : ℕ) → uses_any g es ≡ true → slice_index env g ≡ slice_index env' g) → values_of es env ≡ values_of es env'
 values_agree [] env env' f = refl
-values_agree (e ∷ es) env env' f = ap₂ (λ a l. a ∷ l) (value_agree e env env' (λ g h. f g (or_first _ _ h))) (values_agree es env env' (λ g h. f g (or_yes (uses_in g e) _ h)))
-
--- the values of all variables but some
-abbrev pub Unlike : (ℕ → Type 0) → List ℕ → List ℕ → Type 0
-Unlike Other env env' = (g : ℕ) → (Other g → ⊥) → slice_index env g ≡ slice_index env' g
+values_agree (e ∷ es) env env' f = ap₂ (λ a l. a ∷ l) (value_agree e env env' (λ g h. f g (or_left _ _ h))) (values_agree es env env' (λ g h. f g (or_right (uses_in g e) _ h)))
 
 -- what a statement gave
 abbrev pub Done : List ℕ → List ℕ → Op → Type 0
@@ -120,7 +101,7 @@ abbrev pub Agrees : Op → List ℕ → List ℕ → Type 0
 Agrees op env env' = (g : ℕ) → touches g op ≡ true → slice_index env g ≡ slice_index env' g
 
 pub done_agrees : (env env' guess : List ℕ) (op : Op) → Agrees op env env' → Done env guess op → Done env' guess op
-done_agrees env env' guess (Bind x e) f h = sym (f x (or_first _ _ (eq-eqb x x refl))) ∙ h ∙ value_agree e env env' (λ g k. f g (or_yes (x == g) _ k))
+done_agrees env env' guess (Bind x e) f h = sym (f x (or_left _ _ (eq-eqb x x refl))) ∙ h ∙ value_agree e env env' (λ g k. f g (or_right (x == g) _ k))
 done_agrees env env' guess (SpecCall args) f h = h ∙ values_agree args env env' f
 done_agrees env env' guess (CombRead x m a) f h = tt
 done_agrees env env' guess (DelayedRead x m a) f h = tt
@@ -152,7 +133,7 @@ done_guess env guess guess' SpecBarrier k h = tt
 
 -- what no statement has to do with, none hangs on
 mention_touch : (x : ℕ) (op : Op) → mentions x op ≡ false → touches x op ≡ false
-mention_touch x (DelayedRead y m a) h = (or_no (y == x) (a == x) h).1
+mention_touch x (DelayedRead y m a) h = (or_parts (y == x) (a == x) h).1
 mention_touch x (Bind y e) h = h
 mention_touch x (CombRead y m a) h = h
 mention_touch x (Write m a e) h = h
@@ -168,7 +149,7 @@ mention_touch x SpecBarrier h = h
 
 pub untouched : (x : ℕ) (ops : List Op) → mentioned x ops ≡ false → AllOps (λ op. touches x op ≡ false) ops
 untouched x [] h = tt
-untouched x (op ∷ ops) h = let k = or_no (mentions x op) (mentioned x ops) h in (mention_touch x op k.0, untouched x ops k.1)
+untouched x (op ∷ ops) h = let k = or_parts (mentions x op) (mentioned x ops) h in (mention_touch x op k.0, untouched x ops k.1)
 
 -- another value of a variable on which a statement doesn't hang
 pub set_agrees : (x v : ℕ) (op : Op) (env : List ℕ) → touches x op ≡ false → Agrees op env (slice_set env x v)
@@ -263,7 +244,7 @@ block_more o env es es' past past' SpecBarrier f g h = tt
 -- one more statement was carried out
 placed_more : (env : List ℕ) (past : List Op) (op : Op) (es : List Entry) → AllPlaced env past es → AllPlaced env (op ∷ past) es
 placed_more env past op [] h = tt
-placed_more env past op (e ∷ es) h = (h.0, or_yes (touches e.var op) _ h.1, placed_more env past op es h.2)
+placed_more env past op (e ∷ es) h = (h.0, or_right (touches e.var op) _ h.1, placed_more env past op es h.2)
 
 placed_filled : (env : List ℕ) (past : List Op) (es : List Entry) (m a v : ℕ) → AllPlaced env past es → AllPlaced env past (filled es m a v)
 placed_filled env past [] m a v h = tt
@@ -280,14 +261,6 @@ placed_without env past (e ∷ es) m a h = at ((e.mem == m) && (e.var == a)) (pl
     at : (b : Bool) → AllPlaced env past (without es m a) → AllPlaced env past (cond b es (e ∷ without es m a))
     at true k = h.2
     at false k = (h.0, h.1, k)
-
-pub has_filled : (es : List Entry) (n b v m a : ℕ) → has (filled es n b v) m a ≡ has es m a
-has_filled [] n b v m a = refl
-has_filled (e ∷ es) n b v m a = at ((e.mem == n) && (e.var == b)) (has_filled es n b v m a)
-  where
-    at : (t : Bool) → has (filled es n b v) m a ≡ has es m a → has (cond t (record e { value = Some v } ∷ es) (e ∷ filled es n b v)) m a ≡ (((e.mem == m) && (e.var == a)) || has es m a)
-    at true h = refl
-    at false h = ap (λ t. ((e.mem == m) && (e.var == a)) || t) h
 
 -- another location's write is still pending
 has_without : (es : List Entry) (n b m a : ℕ) → ((n == m) && (b == a)) ≡ false → has (without es n b) m a ≡ has es m a
@@ -307,13 +280,13 @@ Kind o = (m a : ℕ) → o.can_read m a ≡ true → o.can_write m a ≡ true
 module _ (o : Around) (vars : ℕ) (kind : Kind o) where
   blocks_set : (x v : ℕ) (w : Work) (op : Op) (past : List Op) → AllOps (λ op. touches x op ≡ false) past → AllOps (BlockOk o w.env w.entries past) past → ((m a : ℕ) → is_release_at m a op ≡ false) → AllOps (BlockOk o (slice_set w.env x v) w.entries (op ∷ past)) past
   blocks_set x v w op past t h r =
-      ops_both (λ o' t' b. block_more o (slice_set w.env x v) w.entries w.entries past (op ∷ past) o' (λ m a i. or_yes (is_release_at m a op) _ i) (λ m a. inr (λ i. i)) (block_set o x v w.env w.entries past o' t' b)) past t h
+      ops_both (λ o' t' b. block_more o (slice_set w.env x v) w.entries w.entries past (op ∷ past) o' (λ m a i. or_right (is_release_at m a op) _ i) (λ m a. inr (λ i. i)) (block_set o x v w.env w.entries past o' t' b)) past t h
 
   -- a statement that binds a variable
   bind_step : (x v : ℕ) (op : Op) (past : List Op) (w : Work) → is_new vars past (Some x) ≡ true → AllAsks (λ q. mentions q.var op ≡ false) w.asks → (Done (slice_set w.env x v) w.guess op) → BlockOk o (slice_set w.env x v) w.entries (op ∷ past) op → ((m a : ℕ) → is_release_at m a op ≡ false)
       → Past o vars past w → Past o vars (op ∷ past) (record w { env = slice_set w.env x v })
   bind_step x v op past w new silent mine block quiet h =
-      let none : mentioned x past ≡ false = not_true _ (and_right (nat_lt x vars) _ new) in
+      let none : mentioned x past ≡ false = not-true _ (and_right (nat_lt x vars) _ new) in
       let t = untouched x past none in
       record {
         long = subst (λ n. vars ≤ n) (sym (length-set w.env x v)) h.long;
@@ -335,7 +308,7 @@ module _ (o : Around) (vars : ℕ) (kind : Kind o) where
         placed = placed;
         asked = all_more (AskedBy w.env past) (AskedBy w.env (op ∷ past)) w.asks (λ q k. inr k) h.asked;
         unused = all_more (λ q. (mentions q.var op ≡ false) × AllOps (λ o'. touches q.var o' ≡ false) past) (λ q. AllOps (λ o'. touches q.var o' ≡ false) (op ∷ past)) w.asks (λ q k. (mention_touch q.var op k.0, k.1)) (all_both (λ q. mentions q.var op ≡ false) (λ q. AllOps (λ o'. touches q.var o' ≡ false) past) w.asks silent h.unused);
-        blocks = (block, ops_map (λ o' b. block_more o w.env w.entries es past (op ∷ past) o' (λ m a i. or_yes (is_release_at m a op) _ i) kept b) past h.blocks);
+        blocks = (block, ops_map (λ o' b. block_more o w.env w.entries es past (op ∷ past) o' (λ m a i. or_right (is_release_at m a op) _ i) kept b) past h.blocks);
       }
 
   -- one that leaves all that as it is
@@ -351,7 +324,7 @@ module _ (o : Around) (vars : ℕ) (kind : Kind o) where
         done = g.done;
         placed = g.placed;
         asked = all_snoc (AskedBy w.env (DelayedRead x m a ∷ past)) w.asks (record { mem = m; var = x; address = slice_index w.env a }) g.asked (inl (a, refl, refl));
-        unused = all_snoc (λ q. AllOps (λ o'. touches q.var o' ≡ false) (DelayedRead x m a ∷ past)) w.asks (record { mem = m; var = x; address = slice_index w.env a }) g.unused (own, untouched x past (not_true _ (and_right (nat_lt x vars) _ new)));
+        unused = all_snoc (λ q. AllOps (λ o'. touches q.var o' ≡ false) (DelayedRead x m a ∷ past)) w.asks (record { mem = m; var = x; address = slice_index w.env a }) g.unused (own, untouched x past (not-true _ (and_right (nat_lt x vars) _ new)));
         blocks = g.blocks;
       }
 
@@ -387,12 +360,12 @@ module _ (o : Around) (vars : ℕ) (kind : Kind o) where
       here : slice_index (slice_set w.env x (value_of e w.env)) x ≡ value_of e (slice_set w.env x (value_of e w.env))
       here =
           get_or-set_same w.env x (value_of e w.env) 0 (low (ltb-true _ _ (and_left _ _ new)) h.long)
-          ∙ value_agree e w.env (slice_set w.env x (value_of e w.env)) (λ g k. sym (get_or-set_other w.env x g (value_of e w.env) 0 (λ i. clash (sym (not_true _ own) ∙ ap (λ n. uses_in n e) (sym i) ∙ k))))
+          ∙ value_agree e w.env (slice_set w.env x (value_of e w.env)) (λ g k. sym (get_or-set_other w.env x g (value_of e w.env) 0 (λ i. clash (sym (not-true _ own) ∙ ap (λ n. uses_in n e) (sym i) ∙ k))))
         where
           low : x < vars → vars ≤ length w.env → x < length w.env
           low i j = omega arith
   past_step (CombRead x m a) past w new own silent calls ready h = bind_step x (o.read m (slice_index w.env a)) (CombRead x m a) past w new silent tt tt (λ m a. refl) h
-  past_step (DelayedRead x m a) past w new own silent calls ready h = fetch_step x m a past w (w.ready && o.free m) new (not_true _ own) silent h
+  past_step (DelayedRead x m a) past w new own silent calls ready h = fetch_step x m a past w (w.ready && o.free m) new (not-true _ own) silent h
   past_step (Write m a e) past w new own silent calls ready h =
       pend_step (Write m a e) past w (filled w.entries m a (value_of e w.env)) silent tt (placed_more w.env past (Write m a e) (filled w.entries m a (value_of e w.env)) (placed_filled w.env past w.entries m a (value_of e w.env) h.placed)) tt
       (λ n b. inr (λ i. ap (λ t. cond t (o.can_write n (slice_index w.env b)) (o.can_read n (slice_index w.env b))) (has_filled w.entries m a (value_of e w.env) n b) ∙ i)) h
@@ -400,7 +373,7 @@ module _ (o : Around) (vars : ℕ) (kind : Kind o) where
   past_step (ReserveWrite m a) past w new own silent calls ready h =
       same_past (ReserveWrite m a ∷ past) (record w { entries = record { mem = m; var = a; address = slice_index w.env a; value = None } ∷ w.entries }) (does o (ReserveWrite m a) w) refl refl refl refl
       (pend_step (ReserveWrite m a) past w (record { mem = m; var = a; address = slice_index w.env a; value = None } ∷ w.entries) silent tt
-      (refl, or_first _ _ (eq-eqb a a refl), placed_more w.env past (ReserveWrite m a) w.entries h.placed) tt (λ n b. inr (λ i. more n b ((m == n) && (a == b)) i)) h)
+      (refl, or_left _ _ (eq-eqb a a refl), placed_more w.env past (ReserveWrite m a) w.entries h.placed) tt (λ n b. inr (λ i. more n b ((m == n) && (a == b)) i)) h)
     where
       more : (n b : ℕ) (t : Bool) → cond (has w.entries n b) (o.can_write n (slice_index w.env b)) (o.can_read n (slice_index w.env b)) ≡ true → cond (t || has w.entries n b) (o.can_write n (slice_index w.env b)) (o.can_read n (slice_index w.env b)) ≡ true
       more n b false i = i
@@ -417,7 +390,7 @@ module _ (o : Around) (vars : ℕ) (kind : Kind o) where
     where
       at : (n b : ℕ) (t : Bool) → ((m == n) && (a == b)) ≡ t
           → ((((m == n) && (a == b)) || is_released n b past) ≡ true) ⊎ (cond (has w.entries n b) (o.can_write n (slice_index w.env b)) (o.can_read n (slice_index w.env b)) ≡ true → cond (has (without w.entries m a) n b) (o.can_write n (slice_index w.env b)) (o.can_read n (slice_index w.env b)) ≡ true)
-      at n b true e = inl (or_first _ _ e)
+      at n b true e = inl (or_left _ _ e)
       at n b false e = inr (λ i. ap (λ t. cond t (o.can_write n (slice_index w.env b)) (o.can_read n (slice_index w.env b))) (has_without w.entries m a n b e) ∙ i)
   past_step (Call args) past w new own silent calls ready h = same_past (Call args ∷ past) w (does o (Call args) w) refl refl refl refl (still_step (Call args) past w silent tt tt h)
   past_step (SpecCall args) past w new own silent calls ready h = call_step args past w silent (calls refl) h
@@ -468,10 +441,10 @@ module _ (o : Around) (vars : ℕ) (kind : Kind o) where
       rest = all_more (λ q. silent_on q.var (y ∷ ys) ≡ true) (λ q. silent_on q.var ys ≡ true) w.asks (λ q k. and_right (is_dead y.guards || (not (asks_for q.var y.guards) && not (mentions q.var y.op))) _ k) silent
 
       quiet : is_dead y.guards ≡ false → AllAsks (λ q. mentions q.var y.op ≡ false) w.asks
-      quiet e = all_more (λ q. silent_on q.var (y ∷ ys) ≡ true) (λ q. mentions q.var y.op ≡ false) w.asks (λ q k. not_true _ (and_right (not (asks_for q.var y.guards)) _ (subst (λ d. (d || (not (asks_for q.var y.guards) && not (mentions q.var y.op))) ≡ true) e (and_left _ _ k)))) silent
+      quiet e = all_more (λ q. silent_on q.var (y ∷ ys) ≡ true) (λ q. mentions q.var y.op ≡ false) w.asks (λ q k. not-true _ (and_right (not (asks_for q.var y.guards)) _ (subst (λ d. (d || (not (asks_for q.var y.guards) && not (mentions q.var y.op))) ≡ true) e (and_left _ _ k)))) silent
 
       flags : (op : Op) → Uncalled c past → Uncalled (c || is_call op) (op ∷ past)
-      flags op n i = let k = or_no c (is_call op) i in (k.1, n k.0)
+      flags op n i = let k = or_parts c (is_call op) i in (k.1, n k.0)
 
       at : (b : Bool) → taken y.guards w.env ≡ b → (d : Bool) → b ≡ d → (e : Bool) → is_dead y.guards ≡ e → all_new vars past (cond d (record y { guards = [] } ∷ onpath path ys) (onpath path ys)) ≡ true → calls_ok c (cond d (record y { guards = [] } ∷ onpath path ys) (onpath path ys)) ≡ true
           → (do_all o ys (cond b (does o y.op w) w)).ready ≡ true → Fixed path o ys (cond b (does o y.op w) w)

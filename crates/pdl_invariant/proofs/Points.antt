@@ -1,11 +1,12 @@
 -- The points of Sound state that hold of all live threads alike.
 use Rattle.std.proofs.Common.{◌≡◌, refl, sym, ap, ap₂, ◌∙◌, subst, ℕ, ◌<◌, ◌⊎◌, inl, inr, Bool, true, false, ◌&&◌, ◌||◌, not, List, [], ◌∷◌, ◌++◌, length, ◌==◌, cond, arith, slice_index, eq-eqb, lt-ltb}
+use Rattle.std.proofs.lemmas.Bool.{or_right, or_left}
 use Rattle.pdl_semantics.specs.Flat.{Pipe, Op, Bind, CombRead, DelayedRead, Write, ReserveRead, ReserveWrite, Block, Release, Call, SpecCall, Verify, SpecCheck, SpecBarrier, Stmt, list_all, values_of}
 use Rattle.pdl_semantics.specs.Stages.{list_any, mem_at}
 use Rattle.pdl_semantics.specs.Locks.{read_ready, write_ready}
 use Rattle.pdl_semantics.specs.Machine.{State, Awaited, Kept, Pending, Place, lock_of, request_of, same_args, is_held, held_before, older_write}
 use Rattle.pdl_semantics.specs.Moves.{block_ready}
-use Rattle.pdl_semantics.specs.Sound.{live, all_pairs, all_from, in_order, linked, certain_after, is_kept_or_awaited, asks_right, is_owner, is_barrier, is_release_at, stays_ready, on_path, is_done, right_place, comes_to, is_fetch, holds, has_done}
+use Rattle.pdl_semantics.specs.Sound.{linked, is_kept_or_awaited, asks_right, is_owner, is_release_at, stays_ready, on_path, is_done, right_place, is_fetch, holds, has_done}
 use Rattle.pdl_semantics.specs.Sound
 use Rattle.pdl_derived.specs.Derived.{Entry, has, latest, awaits_mem}
 use Rattle.pdl_derived.specs.Alone.{is_call}
@@ -16,26 +17,17 @@ use Rattle.pdl_turns.proofs.Guesses.{same_args_refl}
 use Rattle.pdl_derived.proofs.Deeds.{places, places_has}
 use Rattle.pdl_derived.proofs.Lists.{own, pend}
 use Rattle.pdl_simulation.proofs.Stretches.{on_way, has_made}
-use Rattle.pdl_simulation.proofs.Seats.{Live, threads_of, Each, each_map}
-use Rattle.pdl_simulation.proofs.Choices.{Known, AllKnown, Seated, Matched}
+use Rattle.pdl_simulation.proofs.Seats.{Live, threads_of, each_map}
+use Rattle.pdl_simulation.proofs.Choices.{Seated}
 use Rattle.pdl_simulation.proofs.Choices
 use Rattle.pdl_simulation.proofs.Together.{HaveMade}
 use Rattle.pdl_invariant.proofs.OldestFirst.{told, oldest_first, AllLive, live_each}
 use Rattle.pdl_invariant.proofs.Past.{AllOps, onto, BlockOk, Done, AllPlaced, is_released}
 use Rattle.pdl_invariant.proofs.Trails.{AllStmts, stmts_map, stmts_ops, trail_comes}
-use Rattle.pdl_invariant.proofs.Local.{Local, HeldOp, here, past_of, count_is}
+use Rattle.pdl_invariant.proofs.Local.{Local, HeldOp, here, past_of, count_is, any_append, any_front}
 use Rattle.pdl_invariant.proofs.Stage.{look_at}
-use Rattle.pdl_invariant.proofs.Lasting.{Along}
 
-or_yes : (a b : Bool) → b ≡ true → (a || b) ≡ true
-or_yes true b h = refl
-or_yes false b h = h
-
-or_first : (a b : Bool) → a ≡ true → (a || b) ≡ true
-or_first true b h = refl
-or_first false b h = absurd (cc h)
-
-both_true : {a b : Bool} → a ≡ true → b ≡ true → (a && b) ≡ true
+pub both_true : {a b : Bool} → a ≡ true → b ≡ true → (a && b) ≡ true
 both_true h k = ap₂ (λ a b. a && b) h k
 
 -- TESTS OF STATEMENTS
@@ -50,10 +42,10 @@ any_onto test some f (x ∷ xs) past h = at (test x.op) refl h (λ k. any_onto t
   where
     keep : (ys : List Stmt) (ops : List Op) → some ops ≡ true → some (onto ys ops) ≡ true
     keep [] ops k = k
-    keep (y ∷ ys) ops k = keep ys (y.op ∷ ops) (f y.op ops ∙ or_yes (test y.op) _ k)
+    keep (y ∷ ys) ops k = keep ys (y.op ∷ ops) (f y.op ops ∙ or_right (test y.op) _ k)
 
     at : (b : Bool) → test x.op ≡ b → (b || list_any (λ (x : Stmt). test x.op) xs) ≡ true → (list_any (λ (x : Stmt). test x.op) xs ≡ true → some (onto xs (x.op ∷ past)) ≡ true) → some (onto xs (x.op ∷ past)) ≡ true
-    at true e k g = keep xs (x.op ∷ past) (f x.op past ∙ or_first (test x.op) _ e)
+    at true e k g = keep xs (x.op ∷ past) (f x.op past ∙ or_left (test x.op) _ e)
     at false e k g = g k
 
 pub onto_any : (test : Op → Bool) (some : List Op → Bool) → ((op : Op) (ops : List Op) → some (op ∷ ops) ≡ (test op || some ops)) → (xs : List Stmt) (past : List Op) → some (onto xs past) ≡ true → (list_any (λ (x : Stmt). test x.op) xs ≡ true) ⊎ (some past ≡ true)
@@ -61,11 +53,11 @@ onto_any test some f [] past h = inr h
 onto_any test some f (x ∷ xs) past h = at (onto_any test some f xs (x.op ∷ past) h)
   where
     by : (b : Bool) → test x.op ≡ b → (test x.op || some past) ≡ true → (list_any (λ (x : Stmt). test x.op) (x ∷ xs) ≡ true) ⊎ (some past ≡ true)
-    by true e k = inl (or_first (test x.op) _ e)
+    by true e k = inl (or_left (test x.op) _ e)
     by false e k = inr (sym (ap (λ b. b || some past) e) ∙ k)
 
     at : (list_any (λ (x : Stmt). test x.op) xs ≡ true) ⊎ (some (x.op ∷ past) ≡ true) → (list_any (λ (x : Stmt). test x.op) (x ∷ xs) ≡ true) ⊎ (some past ≡ true)
-    at (inl k) = inl (or_yes (test x.op) _ k)
+    at (inl k) = inl (or_right (test x.op) _ k)
     at (inr k) = by (test x.op) refl (sym (f x.op past) ∙ k)
 
 pub released_done : (m a : ℕ) (xs : List Stmt) → is_released m a (onto xs []) ≡ true → list_any (λ (x : Stmt). is_release_at m a x.op) xs ≡ true
@@ -102,10 +94,6 @@ chain p l ls h k = linked_snoc p (oldest_first ls) (told l) (live_each (λ x. ha
 
 -- OF EACH THREAD
 
-along_each : {P : Live → List Live → Type 0} {Q : Live → Type 0} → ((l : Live) (older : List Live) → P l older → Q l) → (ls : List Live) → Along P ls → Each Q ls
-along_each f [] h = tt
-along_each f (l ∷ ls) h = (f l ls h.0, along_each f ls h.1)
-
 -- 7. REQUESTS
 
 held_op : (kept : List Kept) (awaits : List Awaited) (n : ℕ) (env guess : List ℕ) (op : Op) → HeldOp kept awaits op → is_kept_or_awaited (record { number = n; env = env; guess = guess; awaits = awaits; kept = kept }) op ≡ true
@@ -132,17 +120,12 @@ awaits_any m [] = refl
 awaits_any m (r ∷ rs) = ap (λ b. (r.mem == m) || b) (awaits_any m rs)
 
 any_snoc : {X : Type 0} → (test : X → Bool) (xs : List X) (x : X) → (list_any test xs || test x) ≡ true → list_any test (xs ++ x ∷ []) ≡ true
-any_snoc test [] x h = or_first (test x) _ h
+any_snoc test [] x h = or_left (test x) _ h
 any_snoc test (y ∷ xs) x h = at (test y) h (λ k. any_snoc test xs x k)
   where
     at : (b : Bool) → ((b || list_any test xs) || test x) ≡ true → ((list_any test xs || test x) ≡ true → list_any test (xs ++ x ∷ []) ≡ true) → (b || list_any test (xs ++ x ∷ [])) ≡ true
     at true k f = refl
     at false k f = f k
-
-swap_or : (a b : Bool) → (a || b) ≡ true → (b || a) ≡ true
-swap_or true true h = refl
-swap_or true false h = refl
-swap_or false b h = or_first b false h
 
 pub owner_any : (n m : ℕ) (ls : List Live) → Choices.has_owner n m ls ≡ true → list_any (λ (l : Sound.Live). (l.thread.number == n) && list_any (λ r. r.mem == m) l.thread.awaits) (oldest_first ls) ≡ true
 owner_any n m [] h = absurd (cc h)
@@ -151,8 +134,8 @@ owner_any n m (l ∷ ls) h = any_snoc _ (oldest_first ls) (told l) (at ((l.numbe
     at : (b : Bool) → ((l.number == n) && awaits_mem l.thread.awaits m) ≡ b → (b || Choices.has_owner n m ls) ≡ true
         → (Choices.has_owner n m ls ≡ true → list_any (λ (l : Sound.Live). (l.thread.number == n) && list_any (λ r. r.mem == m) l.thread.awaits) (oldest_first ls) ≡ true)
         → (list_any (λ (l : Sound.Live). (l.thread.number == n) && list_any (λ r. r.mem == m) l.thread.awaits) (oldest_first ls) || ((l.number == n) && list_any (λ r. r.mem == m) l.thread.awaits)) ≡ true
-    at true e k f = or_yes (list_any (λ (l : Sound.Live). (l.thread.number == n) && list_any (λ r. r.mem == m) l.thread.awaits) (oldest_first ls)) _ (ap (λ b. (l.number == n) && b) (sym (awaits_any m l.thread.awaits)) ∙ e)
-    at false e k f = or_first _ _ (f k)
+    at true e k f = or_right (list_any (λ (l : Sound.Live). (l.thread.number == n) && list_any (λ r. r.mem == m) l.thread.awaits) (oldest_first ls)) _ (ap (λ b. (l.number == n) && b) (sym (awaits_any m l.thread.awaits)) ∙ e)
+    at false e k f = or_left _ _ (f k)
 
 -- 9. BLOCKS
 
@@ -166,8 +149,8 @@ module _ (p : Pipe) (st : State) (l : Live) (older : List Live) (held : places l
       kinds = ap (λ ps. is_held ps m a) (sym held) ∙ places_has l.thread.entries m a
 
   block_op : (op : Op) → BlockOk (look_at p (threads_of older)) l.env l.thread.entries (past_of p l.env l.thread.stage) op → stays_ready p st (told l) op ≡ true
-  block_op (Block m a) (inl h) = or_first (has_done (is_release_at m a) p (told l)) _ (released_done m a (on_way p l.env l.thread.stage) h)
-  block_op (Block m a) (inr h) = or_yes (has_done (is_release_at m a) p (told l)) _ (block_now m a h)
+  block_op (Block m a) (inl h) = or_left (has_done (is_release_at m a) p (told l)) _ (released_done m a (on_way p l.env l.thread.stage) h)
+  block_op (Block m a) (inr h) = or_right (has_done (is_release_at m a) p (told l)) _ (block_now m a h)
   block_op (Bind x e) h = refl
   block_op (CombRead x m a) h = refl
   block_op (DelayedRead x m a) h = refl
@@ -201,18 +184,6 @@ done_op st l (Verify args) h = refl
 done_op st l SpecCheck h = refl
 done_op st l SpecBarrier h = refl
 
-pub any_left : {X : Type 0} → (test : X → Bool) (xs ys : List X) → list_any test xs ≡ true → list_any test (xs ++ ys) ≡ true
-any_left test [] ys h = absurd (cc h)
-any_left test (x ∷ xs) ys h = at (test x) h (λ k. any_left test xs ys k)
-  where
-    at : (b : Bool) → (b || list_any test xs) ≡ true → (list_any test xs ≡ true → list_any test (xs ++ ys) ≡ true) → (b || list_any test (xs ++ ys)) ≡ true
-    at true k f = refl
-    at false k f = f k
-
-pub any_right : {X : Type 0} → (test : X → Bool) (xs ys : List X) → list_any test ys ≡ true → list_any test (xs ++ ys) ≡ true
-any_right test [] ys h = h
-any_right test (x ∷ xs) ys h = or_yes (test x) _ (any_right test xs ys h)
-
 abbrev places_test : ℕ → List ℕ → Place → Pending → Bool
 places_test n env h e = (e.thread == n) && (e.address == slice_index env h.var)
 
@@ -220,8 +191,8 @@ places_test n env h e = (e.thread == n) && (e.address == slice_index env h.var)
 own_places : (n : ℕ) (env : List ℕ) (past : List Op) (es : List Entry) → AllPlaced env past es → (test : Place → Bool) → ((h : Place) → list_any (places_test n env h) (pend h.mem n es) ≡ true → test h ≡ true) → list_all test (places es) ≡ true
 own_places n env past [] h test f = refl
 own_places n env past (e ∷ es) h test f =
-    both_true (f (record { mem = e.mem; var = e.var }) (any_right (places_test n env (record { mem = e.mem; var = e.var })) (pend e.mem n es) _ mine))
-    (own_places n env past es h.2 test (λ g k. f g (any_left (places_test n env g) (pend g.mem n es) _ k)))
+    both_true (f (record { mem = e.mem; var = e.var }) (any_append (places_test n env (record { mem = e.mem; var = e.var })) (pend e.mem n es) _ mine))
+    (own_places n env past es h.2 test (λ g k. f g (any_front (places_test n env g) (pend g.mem n es) _ k)))
   where
     mine : list_any (places_test n env (record { mem = e.mem; var = e.var })) (cond (e.mem == e.mem) (own n e ∷ []) []) ≡ true
     mine =
@@ -232,7 +203,7 @@ module _ (p : Pipe) (sound : Sound p) where
   pub path_point : (st : State) (l : Live) → Seated p st l → Local p l.env l.kept l.thread → l.number < st.next → ((m : ℕ) (test : Pending → Bool) → list_any test (pend m l.number l.thread.entries) ≡ true → list_any test (lock_of st m) ≡ true) → on_path p st (told l) ≡ true
   path_point st l seated loc low locks =
       both_true (both_true (both_true
-      (trail_comes p (sound_flows p sound).graph l.env l.thread.stage l.thread.stage (length p.stages) 1 loc.trail loc.walked (or_first (l.thread.stage == l.thread.stage) _ (eq-eqb _ _ refl)) (let i = seated.keeps_on.inside in omega arith))
+      (trail_comes p (sound_flows p sound).graph l.env l.thread.stage l.thread.stage (length p.stages) 1 loc.trail loc.walked (or_left (l.thread.stage == l.thread.stage) _ (eq-eqb _ _ refl)) (let i = seated.keeps_on.inside in omega arith))
       (stmts_all _ (on_way p l.env l.thread.stage) (stmts_map (λ z d. done_op st l z.op d) (on_way p l.env l.thread.stage) (stmts_ops (Done l.env l.thread.guess) (on_way p l.env l.thread.stage) [] loc.done).0)))
       (subst (λ hs. list_all (right_place st (told l)) hs ≡ true) seated.keeps_on.held (own_places l.number l.env (past_of p l.env l.thread.stage) l.thread.entries loc.placed (right_place st (told l)) (λ h k. locks h.mem (places_test l.number l.env h) k))))
       (lt-ltb _ _ low)

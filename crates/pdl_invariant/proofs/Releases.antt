@@ -1,6 +1,6 @@
 -- Who has released a write of a memory: only threads past the stage of its releases, all threads of turns past it that write, and none after a wrong guess.
 use Rattle.std.proofs.Common.{◌≡◌, refl, sym, ap, ap₂, ◌∙◌, subst, ℕ, ◌<◌, Bool, true, false, ◌&&◌, ◌||◌, not, List, [], ◌∷◌, Some, ◌==◌, nat_lt, cond, arith, eq-eqb, ltb-true, ltb-false, lt-ltb}
-use Rattle.std.proofs.lemmas.Bool.{eqb-true}
+use Rattle.std.proofs.lemmas.Bool.{eqb-true, not-true, or_right}
 use Rattle.pdl_semantics.specs.Flat.{Arrays, Pipe, Op, Bind, CombRead, DelayedRead, Write, ReserveRead, ReserveWrite, Block, Release, Call, SpecCall, Verify, SpecCheck, SpecBarrier, Stmt, Commit, taken, of_mem}
 use Rattle.pdl_semantics.specs.Stages.{list_any, onpath, is_release, commit_stage, verify_stage}
 use Rattle.pdl_semantics.specs.Machine.{State, Place}
@@ -15,22 +15,22 @@ use Rattle.pdl_facts.specs.Facts.{Sound, looked_all, at_once}
 use Rattle.pdl_facts.specs.Accepted.{along}
 use Rattle.pdl_derived.proofs.Writes.{and_left, and_right}
 use Rattle.pdl_simulation.proofs.FlowFacts.{uses_ok, use_ok}
-use Rattle.pdl_simulation.proofs.Joined.{sound_flows}
+use Rattle.pdl_simulation.proofs.Joined.{sound_flows, phases_looked}
 use Rattle.pdl_derived.proofs.Entries.{entries_of}
 use Rattle.pdl_turns.proofs.Phases.{Tied}
 use Rattle.pdl_derived.proofs.Deeds.{places}
 use Rattle.pdl_turns.proofs.Astray.{some_barrier, sure_first}
 use Rattle.pdl_turns.proofs.Roams.{verify_looked}
-use Rattle.pdl_simulation.proofs.Shapes.{Shape, uses_front, none_path, none_till}
+use Rattle.pdl_simulation.proofs.Shapes.{Shape, uses_front, none_till}
 use Rattle.pdl_simulation.proofs.Stretches.{on_way}
 use Rattle.pdl_simulation.proofs.Seats.{Live}
 use Rattle.pdl_simulation.proofs.Choices.{Seated}
 use Rattle.pdl_turns.proofs.Whole
 use Rattle.pdl_invariant.proofs.OldestFirst.{told}
-use Rattle.pdl_invariant.proofs.Past.{or_yes, not_true}
 use Rattle.pdl_invariant.proofs.Trails.{AllStmts, stmts_map}
 use Rattle.pdl_invariant.proofs.Stage.{way_looked}
 use Rattle.pdl_invariant.proofs.OnTurn.{acc, whole}
+use Rattle.pdl_turns.proofs.Paths.{none_onpath}
 
 -- PHASES
 
@@ -170,7 +170,7 @@ module _ (p : Pipe) (sound : Sound p) (st : State) (l : Live) (seated : Seated p
   released_done : has_released m p (told l) ≡ true → is_done (phase_all m Fresh (on_way p l.env l.thread.stage)) ≡ true
   released_done h =
       used_done m (phase_all m Fresh (on_way p l.env l.thread.stage)) (entries_of m l.thread.entries) (seated.keeps_on.shape m) (reserved_used m Fresh (on_way p l.env l.thread.stage) (and_left _ _ h))
-      (no_place m l.thread.entries (ap (list_any (λ (h : Place). h.mem == m)) seated.keeps_on.held ∙ not_true _ (and_right (list_any (λ (x : Stmt). is_write_reserve m x.op) (on_way p l.env l.thread.stage)) _ h)))
+      (no_place m l.thread.entries (ap (list_any (λ (h : Place). h.mem == m)) seated.keeps_on.held ∙ not-true _ (and_right (list_any (λ (x : Stmt). is_write_reserve m x.op) (on_way p l.env l.thread.stage)) _ h)))
 
   pub done_released : is_done (phase_all m Fresh (on_way p l.env l.thread.stage)) ≡ true → has_released m p (told l) ≡ true
   done_released h =
@@ -190,7 +190,7 @@ module _ (p : Pipe) (sound : Sound p) (st : State) (l : Live) (seated : Seated p
     where
       at : (b : Bool) → nat_lt (commit_stage p m) l.thread.stage ≡ b → commit_stage p m < l.thread.stage
       at true e = ltb-true _ _ e
-      at false e = absurd (cc (sym (released_done h) ∙ never_done m Fresh (on_way p l.env l.thread.stage) (none_path (is_release m) l.env (stages_before l.thread.stage p.stmts) (none_till (is_release m) (commit_stage p m) l.thread.stage p.stmts ((sound_flows p sound).releases m) (ltb-false _ _ e))) refl))
+      at false e = absurd (cc (sym (released_done h) ∙ never_done m Fresh (on_way p l.env l.thread.stage) (none_onpath (is_release m) l.env (stages_before l.thread.stage p.stmts) (none_till (is_release m) (commit_stage p m) l.thread.stage p.stmts ((sound_flows p sound).releases m) (ltb-false _ _ e))) refl))
 
   pub not_released : is_done (phase_all m Fresh (on_way p l.env l.thread.stage)) ≡ false → has_released m p (told l) ≡ false
   not_released h = at (has_released m p (told l)) refl
@@ -198,15 +198,6 @@ module _ (p : Pipe) (sound : Sound p) (st : State) (l : Live) (seated : Seated p
       at : (b : Bool) → has_released m p (told l) ≡ b → has_released m p (told l) ≡ false
       at true e = absurd (cc (sym h ∙ released_done e))
       at false e = e
-
--- where delayed reads are reads
-phase_looked : (m : ℕ) (ph : Phase) (op : Op) → next_phase m ph (looked op) ≡ next_phase m ph op
-phase_looked m ph (DelayedRead x n a) = refl
-phase_looked m ph _ = refl
-
-pub phases_looked : (m : ℕ) (ph : Phase) (xs : List Stmt) → phase_all m ph (looked_all xs) ≡ phase_all m ph xs
-phases_looked m ph [] = refl
-phases_looked m ph (x ∷ xs) = ap (λ q. phase_all m q (looked_all xs)) (phase_looked m ph x.op) ∙ phases_looked m (next_phase m ph x.op) xs
 
 -- A THREAD ON ITS TURN
 
@@ -251,7 +242,7 @@ sure_op : (m v s : ℕ) (c : Scan) (ph : Phase) (op : Op) → phase_ok m ph op �
 sure_op m v s c ph (ReserveWrite n a) k u low o d = at (n == m) refl
   where
     more : Opened m ph (opens (ReserveWrite n a) c)
-    more = opened_more m ph c (opens (ReserveWrite n a) c) (λ x i. or_yes ((n == m) && (a == x)) _ i) o
+    more = opened_more m ph c (opens (ReserveWrite n a) c) (λ x i. or_right ((n == m) && (a == x)) _ i) o
 
     at : (b : Bool) → (n == m) ≡ b → Opened m (cond b (Held a) ph) (opens (ReserveWrite n a) c) × (is_done (cond b (Held a) ph) ≡ false)
     at true e = (ap₂ (λ x y. (x && y) || opened c.held m a) e (eq-eqb a a refl), refl)

@@ -1,5 +1,6 @@
 -- What a thread's stage tells of barriers, blocks and calls.
 use Rattle.std.proofs.Common.{◌≡◌, refl, sym, ap, ◌∙◌, subst, ℕ, ◌≤◌, ◌⊎◌, inl, inr, Bool, true, false, ◌&&◌, ◌||◌, List, [], ◌∷◌, Option, Some, None, is_some, nat_lt, cond, slice_index, slice_set, leb-true}
+use Rattle.std.proofs.lemmas.Bool.{or_cases}
 use Rattle.pdl_semantics.specs.Flat.{Op, Bind, CombRead, DelayedRead, Write, ReserveRead, ReserveWrite, Block, Release, Call, SpecCall, Verify, SpecCheck, SpecBarrier, Stmt, Pipe, values_of, taken}
 use Rattle.pdl_semantics.specs.Stages.{onpath, reserve_stage, mem_at}
 use Rattle.pdl_semantics.specs.Locks.{read_ready, write_ready}
@@ -29,10 +30,6 @@ barred (op ∷ ops) = is_barrier op || barred ops
 abbrev pub some_barrier : List Stmt → Bool
 some_barrier [] = false
 some_barrier (x ∷ xs) = is_barrier x.op || some_barrier xs
-
-or_split : (a b : Bool) → (a || b) ≡ true → (a ≡ true) ⊎ (b ≡ true)
-or_split true b h = inl refl
-or_split false b h = inr h
 
 pub barred_onto : (xs : List Stmt) (past : List Op) → barred (onto xs past) ≡ true → (some_barrier xs ≡ true) ⊎ (barred past ≡ true)
 barred_onto [] past h = inr h
@@ -69,7 +66,7 @@ clear_all path o (x ∷ xs) w f h r = at (taken x.guards w.env) (taken x.guards 
 
     at : (b c : Bool) → b ≡ c → some_barrier (cond c (record x { guards = [] } ∷ onpath path xs) (onpath path xs)) ≡ true → (do_all o xs (cond b (does o x.op w) w)).ready ≡ true
         → (some_barrier (onpath path xs) ≡ true → (do_all o xs (cond b (does o x.op w) w)).ready ≡ true → o.clear ≡ true) → o.clear ≡ true
-    at true true e k l g = by (or_split (is_barrier x.op) _ k) l g
+    at true true e k l g = by (or_cases (is_barrier x.op) _ k) l g
     at true false e k l g = absurd (cc e)
     at false true e k l g = absurd (cc e)
     at false false e k l g = g k l

@@ -1,10 +1,11 @@
 -- The followers are the threads of the turns, one by one: the arrays have what they have released, and who still looks at a memory has nobody behind it who has released a write of it.
 use Rattle.std.proofs.Common.{◌≡◌, refl, sym, ap, ap₂, ◌∙◌, subst, ℕ, ◌≤◌, ◌<◌, Bool, true, false, ◌&&◌, ◌||◌, not, List, [], ◌∷◌, ◌++◌, Option, Some, None, is_some, nat_lt, cond, if◌then◌else◌, arith, append-nil, append_assoc, le_of_lt, ltb-true, ltb-false}
+use Rattle.std.proofs.lemmas.Bool.{not-true}
 use Rattle.pdl_semantics.specs.Flat.{Arrays, Pipe, Stmt, of_mem, list_all}
 use Rattle.pdl_semantics.specs.Stages.{list_any, onpath, stage_at, commit_stage, verify_stage}
 use Rattle.pdl_semantics.specs.Machine.{State}
 use Rattle.pdl_semantics.specs.Sequential.{thread}
-use Rattle.pdl_semantics.specs.Sound.{Follower, followers_of, strays_of, guessed_wrong, all_pairs, has_done, is_barrier, certain_after, has_released, released_by, still_looks, stages_from, looks_at, is_delayed_read, turn_of, turn_writes}
+use Rattle.pdl_semantics.specs.Sound.{Follower, followers_of, strays_of, guessed_wrong, all_pairs, has_done, is_barrier, certain_after, has_released, released_by, still_looks, stages_from, looks_at, is_delayed_read, turn_writes}
 use Rattle.pdl_semantics.specs.Sound
 use Rattle.pdl_derived.specs.Derived
 use Rattle.pdl_derived.specs.Alone.{so_far}
@@ -23,7 +24,6 @@ use Rattle.pdl_simulation.proofs.Choices.{Seated}
 use Rattle.pdl_invariant.specs.Strict.{Strict}
 use Rattle.pdl_invariant.proofs.OldestFirst.{told}
 use Rattle.pdl_invariant.proofs.Followers.{tells, way_of, wrong_of, cons_head, cons_tail, no_lives}
-use Rattle.pdl_invariant.proofs.Past.{not_true}
 use Rattle.pdl_invariant.proofs.Local.{here}
 use Rattle.pdl_invariant.proofs.Releases.{is_done, released_late, done_released, not_released, turn_kept, early_unreleased}
 use Rattle.pdl_invariant.proofs.StillLooks.{looks_early, binds_early}
@@ -53,7 +53,7 @@ all_of test (x ∷ xs) f = ap₂ (λ a b. a && b) (f x) (all_of test xs f)
 
 none_released : (m : ℕ) (p : Pipe) (fs : List Follower) → list_all (λ f. not (has_released m p f.live)) fs ≡ true → released_by m p fs ≡ []
 none_released m p [] h = refl
-none_released m p (f ∷ fs) h = ap₂ (λ b l. cond b (turn_writes m p f) [] ++ l) (not_true _ (and_left _ _ h)) (none_released m p fs (and_right (not (has_released m p f.live)) _ h))
+none_released m p (f ∷ fs) h = ap₂ (λ b l. cond b (turn_writes m p f) [] ++ l) (not-true _ (and_left _ _ h)) (none_released m p fs (and_right (not (has_released m p f.live)) _ h))
 
 module _ (p : Pipe) (sound : Sound p) (st : State) (asked : List (Option ℕ)) (past : Writes) where
   -- who follows and who is astray
@@ -180,7 +180,7 @@ module _ (p : Pipe) (sound : Sound p) (st : State) (asked : List (Option ℕ)) (
   stray_each m v e trunk bound low [] ts i s h c = refl
   stray_each m v e trunk bound low (k ∷ ks) [] i s h c = absurd (cc i)
   stray_each m v e trunk bound low (k ∷ ks) (t ∷ ts) i s h c =
-      ap₂ (λ a b. not a && b) (early_unreleased p sound st k s.0 v e below (not_true _ (and_left _ _ c)) m)
+      ap₂ (λ a b. not a && b) (early_unreleased p sound st k s.0 v e below (not-true _ (and_left _ _ c)) m)
       (stray_each m v e trunk t.stage (le_of_lt (subst (λ (t : Derived.Thread). t.stage < v) (cons_head i) below)) ks ts (cons_tail i) s.1 h.3 (and_right (not (has_done is_barrier p (told k))) _ c))
     where
       below : k.thread.stage < v

@@ -3,7 +3,7 @@ use Rattle.std.proofs.Common.{◌≡◌, refl, ap, ap₂, ◌∙◌, ℕ, Bool, 
 use Rattle.pdl_semantics.specs.Tree.{Expr, Variable, Stmt, Separator, CombRead, Bind, SpecCall, DelayedRead, Write, Reserve, Block, Release, If, Call, Verify, SpecCheck, SpecBarrier, Mem}
 use Rattle.pdl_semantics.specs.Flat
 use Rattle.pdl_semantics.specs.Flat.{taken}
-use Rattle.pdl_semantics.specs.Flatten.{Var, var_of, mem_of, flat_expr, flat_exprs, reserves, binds_guard}
+use Rattle.pdl_semantics.specs.Flatten.{Var, var_of, mem_of, flat_expr, flat_exprs, reserves}
 use Rattle.pdl_semantics.specs.Flatten
 use Rattle.pdl_semantics.specs.Stages.{onpath}
 use Rattle.pdl_rules.specs.Places.{Guard, on_path}
@@ -76,7 +76,7 @@ onpath_append path (x ∷ xs) ys = at (taken x.guards path) (onpath_append path 
     at true e = ap (λ l. record x { guards = [] } ∷ l) e
     at false e = e
 
-looked_append : (xs ys : List Flat.Stmt) → looked_all (xs ++ ys) ≡ looked_all xs ++ looked_all ys
+pub looked_append : (xs ys : List Flat.Stmt) → looked_all (xs ++ ys) ≡ looked_all xs ++ looked_all ys
 looked_append [] ys = refl
 looked_append (x ∷ xs) ys = ap (λ l. record x { op = looked x.op } ∷ l) (looked_append xs ys)
 

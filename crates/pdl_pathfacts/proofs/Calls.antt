@@ -10,12 +10,13 @@ use Rattle.pdl_rules.specs.Places.{Place, Statement, Branch}
 use Rattle.pdl_rules.specs.Names.{OfGuess, defines}
 use Rattle.pdl_rules.specs.Calls.{is_call}
 use Rattle.pdl_rules.specs.Speculation.{is_verify, verifies}
-use Rattle.pdl_rules.proofs.Once.{any_weaker, any_front, any_last, bytes_refl}
+use Rattle.pdl_rules.proofs.Once.{any_weaker, any_front, any_last}
 use Rattle.pdl_rules.proofs.Defined.{any_split}
 use Rattle.pdl_derived.specs.Alone.{looked}
 use Rattle.pdl_facts.specs.Certain.{Making, Unmade, Guessed, Made, next_making, making_all, is_unmade, is_guessed, is_made, making_ok, makings_ok, stands_at, stands_before}
 use Rattle.pdl_pathfacts.proofs.Along
 use Rattle.pdl_pathfacts.proofs.Along.{ops_of, seen_ops}
+use Rattle.pdl_word.proofs.Bytes.{bytes_refl}
 
 -- LISTS OF STATEMENTS
 
@@ -67,7 +68,7 @@ verifies_one : (g : List ℕ) (x : Place) → verifies g x ≡ true → is_verif
 verifies_one g (Statement (Verify _ _ _) bs) e = refl
 verifies_one g _ e = absurd (false≢true e)
 
-none_more : (test : Place → Bool) (before : List Place) (x : Place) → list_any test before ≡ false → test x ≡ false → list_any test (before ++ x ∷ []) ≡ false
+pub none_more : (test : Place → Bool) (before : List Place) (x : Place) → list_any test before ≡ false → test x ≡ false → list_any test (before ++ x ∷ []) ≡ false
 none_more test before x h e = list_any-append test before (x ∷ []) ∙ ap₂ (λ a b. a || (b || false)) h e
 
 -- a place that makes nothing and verifies nothing

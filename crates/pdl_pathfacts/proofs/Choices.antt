@@ -1,24 +1,13 @@
 -- The paths of the rules: each choice of truth values for the guards of a text is one of them, and what no path breaks holds of the places on that one.
-use Rattle.std.proofs.Common.{◌≡◌, refl, sym, ap, ap₂, ◌∙◌, subst, Bool, true, false, ◌&&◌, ◌||◌, List, [], ◌∷◌, ◌++◌, map, filter, fold, cond, if◌then◌else◌, ◌⊎◌, append_assoc, append-nil, eq-eqb, ⊎_elim}
-use Rattle.std.proofs.lemmas.Bool.{false≢true, or_parts, or_left, or_right, cases_Bool, both_ways, eqb-true}
+use Rattle.std.proofs.Common.{◌≡◌, refl, sym, ap, ap₂, ◌∙◌, Bool, true, false, ◌&&◌, ◌||◌, List, [], ◌∷◌, ◌++◌, map, filter, fold, if◌then◌else◌, ◌⊎◌, ⊎_elim}
+use Rattle.std.proofs.lemmas.Bool.{false≢true, or_parts, or_left, or_right, cases_Bool, both_ways}
 use Rattle.std.proofs.lemmas.List.Folds.{list_any-append}
 use Rattle.std.specs.List.{list_any}
 use Rattle.pdl_semantics.specs.Tree.{Span, Expr, Stmts, If, Pipe}
-use Rattle.pdl_rules.specs.Places.{Place, Statement, Guard, Shared, Own, Branch, guard_of, same_guard, is_among, places, with_guard, guards, choices, on_path, on_some_path}
-use Rattle.pdl_rules.proofs.Straight.{Each}
-use Rattle.pdl_rules.proofs.Once.{bytes_same, bytes_refl}
+use Rattle.pdl_rules.specs.Places.{Place, Statement, Guard, Branch, guard_of, same_guard, is_among, places, with_guard, guards, choices, on_path, on_some_path}
+use Rattle.pdl_rules.proofs.Guards.{guard_refl, guard_same}
 
 -- GUARDS
-
-pub guard_refl : (g : Guard) → same_guard g g ≡ true
-guard_refl (Shared x) = bytes_refl x
-guard_refl (Own n) = eq-eqb n n refl
-
-pub guard_same : (g h : Guard) → same_guard g h ≡ true → g ≡ h
-guard_same (Shared x) (Shared y) e = ap Shared (bytes_same x y e)
-guard_same (Own m) (Own n) e = ap Own (eqb-true m n e)
-guard_same (Shared x) (Own n) e = absurd (false≢true e)
-guard_same (Own m) (Shared y) e = absurd (false≢true e)
 
 -- the guards that have the value true
 abbrev pub chosen : (Guard → Bool) → List Guard → List Guard
@@ -101,40 +90,3 @@ if_among s c when otherwise bs [] later gs = still_among (guard_of s c) later _ 
     at true e = e
     at false e = list_any-append (same_guard (guard_of s c)) gs (guard_of s c ∷ []) ∙ or_right (is_among (guard_of s c) gs) _ (or_left _ false (guard_refl (guard_of s c)))
 if_among s c when otherwise bs (x ∷ before) later gs = if_among s c when otherwise bs before later (with_guard gs x)
-
--- PLACES ON A PATH
-
--- where a place stands in the text, with the places before it on the path
-pub record Stands (p : Pipe) (t : List Guard) (earlier : List Place) (x : Place) : Type 0 where
-  pub before : List Place
-  pub later : List Place
-  pub whole : places p ≡ before ++ x ∷ later
-  pub same : filter (on_path t) before ≡ earlier
-  pub on : on_path t x ≡ true
-
-filter_push : (f : Place → Bool) (xs : List Place) (x : Place) → filter f (xs ++ x ∷ []) ≡ filter f xs ++ (if f x then x ∷ [] else [])
-filter_push f [] x = at (f x)
-  where
-    at : (b : Bool) → cond b (x ∷ []) [] ≡ (if b then x ∷ [] else [])
-    at true = refl
-    at false = refl
-filter_push f (y ∷ xs) x = at (f y) (filter_push f xs x)
-  where
-    at : (b : Bool) → filter f (xs ++ x ∷ []) ≡ filter f xs ++ (if f x then x ∷ [] else []) → cond b (y ∷ filter f (xs ++ x ∷ [])) (filter f (xs ++ x ∷ [])) ≡ cond b (y ∷ filter f xs) (filter f xs) ++ (if f x then x ∷ [] else [])
-    at true e = ap (λ l. y ∷ l) e
-    at false e = e
-
-pub each_stands : (p : Pipe) (t : List Guard) (xs before : List Place) → places p ≡ before ++ xs → Each (Stands p t) (filter (on_path t) before) (filter (on_path t) xs)
-each_stands p t [] before e = tt
-each_stands p t (x ∷ xs) before e = at (on_path t x) refl (each_stands p t xs (before ++ x ∷ []) next)
-  where
-    next : places p ≡ (before ++ x ∷ []) ++ xs
-    next = e ∙ sym (append_assoc before (x ∷ []) xs)
-
-    at : (b : Bool) → on_path t x ≡ b → Each (Stands p t) (filter (on_path t) (before ++ x ∷ [])) (filter (on_path t) xs) → Each (Stands p t) (filter (on_path t) before) (cond b (x ∷ filter (on_path t) xs) (filter (on_path t) xs))
-    at true on rest = (
-      record { before = before; later = xs; whole = e; same = refl; on = on },
-      subst (λ l. Each (Stands p t) l (filter (on_path t) xs)) (filter_push (on_path t) before x ∙ ap (λ b. filter (on_path t) before ++ (if b then x ∷ [] else [])) on) rest,
-    )
-    at false on rest =
-        subst (λ l. Each (Stands p t) l (filter (on_path t) xs)) (filter_push (on_path t) before x ∙ ap (λ b. filter (on_path t) before ++ (if b then x ∷ [] else [])) on ∙ append-nil (filter (on_path t) before)) rest

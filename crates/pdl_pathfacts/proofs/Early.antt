@@ -19,7 +19,6 @@ use Rattle.pdl_rules.specs.Locks.{is_locked}
 use Rattle.pdl_rules.specs.Forks
 use Rattle.pdl_rules.specs.Stages.{stage_in, stage_from, stage_behind, first_stage, branches_of, are_outer, releases_memory, next_on, bound_late}
 use Rattle.pdl_rules.specs.Refusal.{KeepsRules}
-use Rattle.pdl_rules.proofs.Once.{bytes_same}
 use Rattle.pdl_facts.specs.Scans.{none_of, is_dead, is_fetch}
 use Rattle.pdl_stagefacts.proofs.Sites.{Site, sites_of, front_of, closing, place_of, All, stmts_are}
 use Rattle.pdl_stagefacts.proofs.Walks.{cut, cut_append, cut_in, at_front}
@@ -43,6 +42,7 @@ use Rattle.pdl_pathfacts.proofs.Passing.{named_release}
 use Rattle.pdl_pathfacts.proofs.Live.{some_path}
 use Rattle.pdl_pathfacts.proofs.Known.{Known, way}
 use Rattle.pdl_pathfacts.proofs.GuardFacts.{Told, all_told}
+use Rattle.pdl_word.proofs.Bytes.{bytes_same}
 
 -- THE LAST SEPARATOR
 

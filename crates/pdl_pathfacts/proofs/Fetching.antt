@@ -14,7 +14,6 @@ use Rattle.pdl_rules.specs.Names.{OfVariable, defines, is_delayed, is_too_early,
 use Rattle.pdl_rules.specs.Stages.{stage_in, stage_behind}
 use Rattle.pdl_rules.specs.Forks
 use Rattle.pdl_rules.specs.Refusal.{KeepsRules}
-use Rattle.pdl_rules.proofs.Once.{bytes_same}
 use Rattle.pdl_facts.specs.Scans.{binds, is_dead, is_fetch}
 use Rattle.pdl_facts.specs.Facts.{asks_for, mentions, silent_on, unseen_op, unseen, fetches_no, none_like, alone_op, fetch_apart}
 use Rattle.pdl_stagefacts.proofs.Sites.{Site, sites_of, place_of, owns, All, stmts_are}
@@ -31,6 +30,7 @@ use Rattle.pdl_pathfacts.proofs.Known.{long}
 use Rattle.pdl_pathfacts.proofs.Guarded.{Guarded, used_here}
 use Rattle.pdl_pathfacts.proofs.GuardFacts.{Told, no_cut, fetch_delayed, all_told}
 use Rattle.pdl_pathfacts.proofs.Uses.{AtStmt, mention}
+use Rattle.pdl_word.proofs.Bytes.{bytes_same}
 
 -- each two of some statements, in text order
 abbrev pub Pairs : (Flat.Stmt → Flat.Stmt → Type 0) → List Flat.Stmt → Type 0

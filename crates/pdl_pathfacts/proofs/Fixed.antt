@@ -8,6 +8,7 @@ use Rattle.pdl_facts.specs.Scans.{from, none_of, binds, free_of, is_dead, keeps_
 use Rattle.pdl_facts.specs.Facts.{binds_guard}
 use Rattle.pdl_turns.proofs.Sounds.{binds_looked}
 use Rattle.pdl_stagefacts.proofs.Fine.{Each, each_append}
+use Rattle.pdl_turns.proofs.OfStage.{fixed_stage}
 
 -- PARTS OF A TEXT
 
@@ -111,15 +112,6 @@ fixed_before s (x ∷ xs) h = let parts = and_parts (keeps_guards x.guards (x �
         ))) r
     at false k r = r
 
-fixed_in : (s : ℕ) (xs : List Stmt) → fixed xs ≡ true → fixed (in_stage s xs) ≡ true
-fixed_in s [] h = refl
-fixed_in s (x ∷ xs) h = let parts = and_parts (keeps_guards x.guards (x ∷ xs)) (fixed xs) h in at (x.stage == s) parts.0 (fixed_in s xs parts.1)
-  where
-    at : (b : Bool) → keeps_guards x.guards (x ∷ xs) ≡ true → fixed (in_stage s xs) ≡ true → fixed (cond b (x ∷ in_stage s xs) (in_stage s xs)) ≡ true
-    at true k r =
-        and_from _ _ (keeps_to (x ∷ in_stage s xs) x (λ e. let own = to_keeps (x ∷ xs) x k e in (own.0, each_stage (λ y. binds_guard y.op x.guards ≡ false) (λ y. binds_guard y.op x.guards ≡ false) s (λ y f here. f) xs own.1))) r
-    at false k r = r
-
 fixed_from : (s : ℕ) (xs : List Stmt) → fixed xs ≡ true → fixed (from s xs) ≡ true
 fixed_from s [] h = refl
 fixed_from s (x ∷ xs) h = let parts = and_parts (keeps_guards x.guards (x ∷ xs)) (fixed xs) h in at (nat_le s x.stage) parts.0 (fixed_from s xs parts.1)
@@ -143,7 +135,7 @@ unbound y z f low = at (binds_guard y.op z.guards) refl
 pub fixed_stages : (xs : List Stmt) → fixed xs ≡ true → Each (Rests xs) xs → (s : ℕ) → fixed (before s xs ++ (in_stage s xs ++ from (suc s) xs)) ≡ true
 fixed_stages xs h r s =
     fixed_append (before s xs) (in_stage s xs ++ from (suc s) xs) (fixed_before s xs h)
-    (fixed_append (in_stage s xs) (from (suc s) xs) (fixed_in s xs h) (fixed_from (suc s) xs h)
+    (fixed_append (in_stage s xs) (from (suc s) xs) (fixed_stage s xs h) (fixed_from (suc s) xs h)
     (each_stage (Keeps (from (suc s) xs)) (Rests xs) s (λ z f here e. each_from (λ y. binds_guard y.op z.guards ≡ false) (λ y. binds_guard y.op z.guards ≡ true → y.stage ≤ z.stage) (suc s) (λ y g up. unbound y z g (omega arith)) xs (f e)) xs r))
     (each_before (Keeps (in_stage s xs ++ from (suc s) xs)) (Rests xs) s
     (λ z f low e.

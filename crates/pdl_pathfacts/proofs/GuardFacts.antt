@@ -59,7 +59,7 @@ find_guard P op (g ∷ gs) h e = at (binds g.var op) refl e (find_guard P op gs 
 
 -- IN THE TEXT
 
-grown_long : (vs us : List Var) → Grown vs us → length vs ≤ length us
+pub grown_long : (vs us : List Var) → Grown vs us → length vs ≤ length us
 grown_long vs us h = let a = ap length h.1 in let b = length-append vs h.0 in omega arith
 
 -- no later site binds a number below

@@ -1,6 +1,6 @@
 -- The guards of a site: their variables stand before it, and on a path that leads through it each is bound in a stage no later, or by a delayed read in an earlier one. So it is with the variables that it uses.
 use Rattle.std.proofs.Common.{◌≡◌, refl, sym, ap, ◌∙◌, subst, ℕ, ◌+◌, ◌≤◌, ◌<◌, ◌⊎◌, inl, inr, Bool, true, false, ◌&&◌, ◌||◌, not, List, [], ◌∷◌, ◌++◌, map, filter, length, length-append, append_assoc, bytes_eq, arith, cond, eq-eqb, append-nil, ◌==◌, ⊎_elim}
-use Rattle.std.proofs.lemmas.Bool.{false≢true, and_parts, and_cases, or_parts, or_left, or_right, both_ways, not-false}
+use Rattle.std.proofs.lemmas.Bool.{false≢true, and_parts, and_cases, or_parts, or_left, or_right, both_ways, not-false, cases_lt}
 use Rattle.std.proofs.lemmas.List.Folds.{list_any-append, list_all-append}
 use Rattle.std.specs.List.{list_any, list_all}
 use Rattle.pdl_semantics.specs.Tree.{Ident, Expr, Constant, Variable, Slice, Not, Binary, Cat, LessSigned, ZeroExtend, SignExtend, Choose, If, Pipe}
@@ -13,12 +13,10 @@ use Rattle.pdl_rules.specs.Places.{Place, Parameter, Memory, Statement, Branch, 
 use Rattle.pdl_rules.specs.Limits.{is_separator}
 use Rattle.pdl_rules.specs.Names.{OfVariable, defines, is_delayed, is_given, is_parameter, is_undefined, is_too_early}
 use Rattle.pdl_rules.specs.Refusal.{KeepsRules}
-use Rattle.pdl_rules.proofs.Once.{bytes_same}
 use Rattle.pdl_facts.specs.Scans.{binds}
 use Rattle.pdl_stagefacts.proofs.Sites.{Site, sites_of, front_of, closing, place_of, All}
 use Rattle.pdl_stagefacts.proofs.Walks.{names, names_at, names_by, names_append, Choice, its_if, flat_guard, rule_branch, Chosen, AllChosen, Nested}
 use Rattle.pdl_stagefacts.proofs.Standing.{all_both}
-use Rattle.pdl_stagefacts.proofs.Spots.{split}
 use Rattle.pdl_stagefacts.proofs.Fine.{op_of, from_op}
 use Rattle.pdl_stagefacts.proofs.Forking.{before_is, same_is}
 use Rattle.pdl_stagefacts.proofs.ForkVars
@@ -32,6 +30,7 @@ use Rattle.pdl_pathfacts.proofs.Walk.{filter_append}
 use Rattle.pdl_pathfacts.proofs.Same.{value, behind_of}
 use Rattle.pdl_pathfacts.proofs.Live.{AllGuards}
 use Rattle.pdl_pathfacts.proofs.Known.{Known, long, all_known, way, Bounds, Settled, Owned, given_more, bound_name, number_name, no_parameter, all_settled, all_owned}
+use Rattle.pdl_word.proofs.Bytes.{bytes_same}
 
 pub record Guarded (p : Pipe) (t : Site) (g : Flat.Guard) : Type 0 where
   pub low : g.var < length t.walk.vars
@@ -145,7 +144,7 @@ module _ (p : Pipe) (rules : KeepsRules p) (named : list_any (defines (OfVariabl
     -- on an expression
     module _ (is_own : (flat_guard i).var ≡ length i.walk.vars) (one : length (names_at (its_if i)) ≡ 1) (starts : begins_at i.span.start (its_if i) ≡ true) where
       own_place : (y : Site) → Known p y → from_op (binds (flat_guard i).var) (op_of p.mems y.walk.vars y.stmt) ≡ true → place_of y ≡ its_if i
-      own_place y k b = at (split (length y.front) (length i.front)) (split (length i.front) (length y.front))
+      own_place y k b = at (cases_lt (length y.front) (length i.front)) (cases_lt (length i.front) (length y.front))
         where
           r : (m : List ℕ) × (names_by y.stmt ≡ m ∷ []) × ((q : List ℕ) → bytes_eq m q ≡ true → bytes_eq [] q ≡ false → defines (OfVariable q) (Statement y.stmt []) ≡ true)
           r = bound_name p.mems y.walk.vars y.stmt (flat_guard i).var b

@@ -16,7 +16,7 @@ use Rattle.pdl_rules.specs.Stages.{stage_of, first_stage, stages_that}
 use Rattle.pdl_rules.specs.Speculation.{is_verify, verifies, verify_stages, is_once_after, is_unverified, releases_unsure, is_before_verify}
 use Rattle.pdl_rules.specs.Speculation
 use Rattle.pdl_rules.specs.Refusal.{KeepsRules}
-use Rattle.pdl_rules.proofs.Once.{any_weaker, counted, count_push, count_cons, count_none, weight, bytes_same, bytes_refl}
+use Rattle.pdl_rules.proofs.Once.{any_weaker, counted, count_push, count_cons, count_none, weight}
 use Rattle.pdl_rules.proofs.Defined.{any_split}
 use Rattle.pdl_facts.specs.Scans
 use Rattle.pdl_facts.specs.Certain.{stands_at, stands_before}
@@ -32,6 +32,7 @@ use Rattle.pdl_pathfacts.proofs.Walk.{all_in_text, OnPath, calls_right, text_pla
 use Rattle.pdl_pathfacts.proofs.Sited.{first_skip, first_sited, each_sited, some_op, none_sited}
 use Rattle.pdl_pathfacts.proofs.Calls.{Asked, guess_calls}
 use Rattle.pdl_pathfacts.proofs.Scanning.{AllAsked, AllSure}
+use Rattle.pdl_word.proofs.Bytes.{bytes_same, bytes_refl}
 
 -- COUNTS
 
@@ -103,7 +104,7 @@ one_guess n g (x ∷ xs) few e f = by (or_cases (defines (OfGuess n) x) _ e) (or
     by (inr a) (inl b) r = absurd (more n (guess_calls g x b) a)
     by (inr a) (inr b) r = r a b
 
-given_any : (u : Use) (xs : List Place) → is_given xs u ≡ true → list_any (defines u) xs ≡ true
+pub given_any : (u : Use) (xs : List Place) → is_given xs u ≡ true → list_any (defines u) xs ≡ true
 given_any u [] e = absurd (false≢true e)
 given_any u (x ∷ xs) e = ⊎_elim (λ a. or_left _ _ (and_parts (defines u x) _ a).0) (λ a. or_right (defines u x) _ (given_any u xs a)) (or_cases (defines u x && (not (is_delayed x) || list_any is_separator xs)) _ e)
 

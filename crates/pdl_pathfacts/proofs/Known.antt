@@ -13,7 +13,7 @@ use Rattle.pdl_rules.specs.Limits.{is_separator}
 use Rattle.pdl_rules.specs.Names.{Use, OfVariable, defines, name_at, is_delayed, is_given, is_parameter}
 use Rattle.pdl_rules.specs.Stages.{stage_in, branches_of}
 use Rattle.pdl_rules.specs.Refusal.{KeepsRules}
-use Rattle.pdl_rules.proofs.Once.{bytes_refl, bytes_sym}
+use Rattle.pdl_rules.proofs.Once.{bytes_sym}
 use Rattle.pdl_facts.specs.Scans.{binds}
 use Rattle.pdl_stagefacts.proofs.Sites.{Site, sites_of, front_of, place_of, All}
 use Rattle.pdl_stagefacts.proofs.Walks.{names, names_by, names_append}
@@ -33,6 +33,9 @@ use Rattle.pdl_pathfacts.proofs.Walk.{all_in_text, on_the_path, all_on}
 use Rattle.pdl_pathfacts.proofs.Order.{all_rise}
 use Rattle.pdl_pathfacts.proofs.Same.{value, all_alike, apart_before}
 use Rattle.pdl_pathfacts.proofs.Coming.{IsIt, Came, Gives, came_along, off_path}
+use Rattle.pdl_word.proofs.Bytes.{bytes_refl}
+use Rattle.pdl_pathfacts.proofs.Guesses.{given_any}
+use Rattle.pdl_word.proofs.Lists.{some_filtered}
 
 -- the path of the rules that these values take
 abbrev pub way : Pipe → List ℕ → List Guard
@@ -59,11 +62,6 @@ all_known p rules apart =
     (all_any (λ env t. Alike env (way p env) t) (sites_of p) (all_alike p rules apart)))
 
 -- GIVEN
-
-pub given_some : (u : Use) (xs : List Place) → is_given xs u ≡ true → list_any (defines u) xs ≡ true
-given_some u [] e = e
-given_some u (d ∷ ds) e =
-    ⊎_elim (λ t. or_left (defines u d) _ (and_parts (defines u d) (not (is_delayed d) || list_any is_separator ds) t).0) (λ t. or_right (defines u d) _ (given_some u ds t)) (or_cases (defines u d && (not (is_delayed d) || list_any is_separator ds)) (is_given ds u) e)
 
 pub given_more : (u : Use) (xs ys : List Place) → is_given xs u ≡ true → is_given (xs ++ ys) u ≡ true
 given_more u [] ys e = absurd (false≢true e)
@@ -229,15 +227,15 @@ module _ (p : Pipe) (rules : KeepsRules p) where
             (λ t. is_separator (place_of t) ≡ false → taken t.gs d.env ≡ true → is_given (filter (on_path (way p d.env)) t.front) (OfVariable d.name) ≡ true → Bounds d.env d.by t)
             (λ t h k e f g.
             let came = k (sym (h.alike d.env) ∙ f) e in
-            let r = came.0 (given_some (OfVariable d.name) (filter (on_path (way p d.env)) t.front) g) in
+            let r = came.0 (given_any (OfVariable d.name) (filter (on_path (way p d.env)) t.front) g) in
             (r.0, d.known.alike d.env ∙ r.1, came.1 g)) (sites_of p) (all_known p rules apart)
             (off_path (λ t. is_separator (place_of t) ≡ false → Came (way p d.env) (defines (OfVariable d.name)) (λ l. is_given l (OfVariable d.name)) d.by t.walk.stage (filter (on_path (way p d.env)) t.front)) (way p d.env) (sites_of p)
             (came_along (way p d.env) (defines (OfVariable d.name)) (λ l. is_given l (OfVariable d.name)) d.by (cuts_none d.name) (use_gives (OfVariable d.name)) 0 _ (filter (on_path (way p d.env)) (front_of p)) (on_sites (way p d.env) (sites_of p)) (all_rise p (way p d.env) (body_forked p rules)) (on_the_path (way p d.env) (front_of p) (sites_of p) (all_in_text p))
             (all_on (IsIt (defines (OfVariable d.name)) d.by) (way p d.env) (sites_of p) (all_map (Known p) (IsIt (defines (OfVariable d.name)) d.by) (λ x h. once d.name x d.by h d.known d.it) (sites_of p) (all_known p rules apart)))
-            ((λ e. absurd (none e)), λ e f. absurd (none (given_some (OfVariable d.name) (filter (on_path (way p d.env)) (front_of p)) e)))))
+            ((λ e. absurd (none e)), λ e f. absurd (none (given_any (OfVariable d.name) (filter (on_path (way p d.env)) (front_of p)) e)))))
           where
             none : list_any (defines (OfVariable d.name)) (filter (on_path (way p d.env)) (front_of p)) ≡ true → ⊥
-            none e = both_ways (list_any (defines (OfVariable d.name)) (front_of p)) (none_front d.name d.by d.known d.it) (ForkVars.some_filter (defines (OfVariable d.name)) (on_path (way p d.env)) (front_of p) e)
+            none e = both_ways (list_any (defines (OfVariable d.name)) (front_of p)) (none_front d.name d.by d.known d.it) (some_filtered (defines (OfVariable d.name)) (on_path (way p d.env)) (front_of p) e)
 
     pub all_owned : All (Owned p) (sites_of p)
     all_owned = all_any (λ (d : Owner p) t. is_separator (place_of t) ≡ false → taken t.gs d.env ≡ true → list_any (begins_at d.start) (filter (on_path (way p d.env)) t.front) ≡ true → (d.by.walk.stage ≤ t.walk.stage) × (taken d.by.gs d.env ≡ true)) (sites_of p) one
@@ -253,7 +251,7 @@ module _ (p : Pipe) (rules : KeepsRules p) where
             ((λ e. absurd (none e)), λ e f. absurd (false≢true e))))
           where
             none : list_any (begins_at d.start) (filter (on_path (way p d.env)) (front_of p)) ≡ true → ⊥
-            none e = both_ways (list_any (begins_at d.start) (front_of p)) (none_own d.start) (ForkVars.some_filter (begins_at d.start) (on_path (way p d.env)) (front_of p) e)
+            none e = both_ways (list_any (begins_at d.start) (front_of p)) (none_own d.start) (some_filtered (begins_at d.start) (on_path (way p d.env)) (front_of p) e)
 
   -- NUMBERS AND NAMES
 

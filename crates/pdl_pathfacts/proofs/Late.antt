@@ -7,7 +7,7 @@ use Rattle.pdl_rules.specs.Limits.{is_separator}
 use Rattle.pdl_rules.specs.Locks
 use Rattle.pdl_rules.specs.Locks.{is_locked, same_location, Hold, Nothing, Reserved, Blocked, Released, blocked, after_place, held, is_blocked_for, is_unreleased, reserves_location, leaves_open}
 use Rattle.pdl_rules.specs.Stages.{releases_memory}
-use Rattle.pdl_rules.proofs.Straight.{Each}
+use Rattle.pdl_rules.proofs.EachPlace.{Each}
 use Rattle.pdl_rules.proofs.Once.{KeepsLocks, any_weaker, held_alike}
 use Rattle.pdl_stagefacts.proofs.Sites.{Site, closing, place_of, All}
 use Rattle.pdl_pathfacts.proofs.Order.{Next, Rises}

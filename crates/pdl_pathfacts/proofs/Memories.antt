@@ -16,10 +16,12 @@ use Rattle.pdl_rules.specs.Limits.{is_size, is_width, is_depth, allows}
 use Rattle.pdl_rules.specs.Locks.{is_locked}
 use Rattle.pdl_rules.specs.Refusal.{KeepsRules}
 use Rattle.pdl_rules.specs.Typed.{is_memory, AreDistinct}
-use Rattle.pdl_rules.proofs.Once.{any_front, any_last, bytes_same, bytes_refl}
+use Rattle.pdl_rules.proofs.Once.{any_front, any_last}
 use Rattle.pdl_rules.proofs.Defined.{takes_name}
 use Rattle.pdl_facts.specs.Scans.{is_plain, none_of}
 use Rattle.pdl_stagefacts.proofs.Sites.{closing}
+use Rattle.pdl_word.proofs.Bytes.{bytes_same, bytes_refl}
+use Rattle.pdl_stagefacts.proofs.Trunks.{first_index}
 
 -- NUMBERS
 
@@ -116,13 +118,8 @@ pub stages_length : (test : ℕ → Flat.Op → Bool) (xs : List Flat.Stmt) (j :
 stages_length test xs j [] = refl
 stages_length test xs j (m ∷ ms) = ap suc (stages_length test xs (suc j) ms)
 
-stage_of : (test : ℕ → Flat.Op → Bool) (xs : List Flat.Stmt) (j i : ℕ) (ms : List Mem) → i < length ms → slice_index_or (first_stages test xs j ms) i None ≡ first_stage (test (j + i)) xs
-stage_of test xs j i [] low = absurd (omega arith)
-stage_of test xs j zero (m ∷ ms) low = ap (λ n. first_stage (test n) xs) (let e : j ≡ j + 0 = omega arith in e)
-stage_of test xs j (suc i) (m ∷ ms) low = stage_of test xs (suc j) i ms (omega arith) ∙ ap (λ n. first_stage (test n) xs) (let e : suc j + i ≡ j + suc i = omega arith in e)
-
 pub stage_at : (test : ℕ → Flat.Op → Bool) (xs : List Flat.Stmt) (i : ℕ) (ms : List Mem) → i < length ms → slice_index_or (first_stages test xs 0 ms) i None ≡ first_stage (test i) xs
-stage_at test xs i ms low = stage_of test xs 0 i ms low ∙ ap (λ n. first_stage (test n) xs) (let e : 0 + i ≡ i = omega arith in e)
+stage_at test xs i ms low = first_index test xs 0 i ms low ∙ ap (λ n. first_stage (test n) xs) (let e : 0 + i ≡ i = omega arith in e)
 
 pub first_none : (test : Flat.Op → Bool) (xs : List Flat.Stmt) → none_of test xs ≡ true → first_stage test xs ≡ None
 first_none test [] h = refl

@@ -5,7 +5,7 @@ use Rattle.std.specs.List.{list_any}
 use Rattle.pdl_semantics.specs.Tree.{Mem}
 use Rattle.pdl_semantics.specs.Flatten.{Var, var_of, mem_of}
 use Rattle.pdl_rules.specs.Typed.{is_named, is_memory}
-use Rattle.pdl_rules.proofs.Once.{bytes_same, bytes_refl}
+use Rattle.pdl_word.proofs.Bytes.{bytes_same, bytes_refl}
 
 -- the number of the first of these names that is this one
 abbrev pub place_of : List (List ℕ) → List ℕ → ℕ

@@ -40,14 +40,6 @@ rises_append k l end (x ∷ xs) ys h i = at (is_separator (place_of x)) h (λ n 
     at true j f = f (suc k) j
     at false j f = (j.0, f x.walk.stage j.1)
 
-rises_to : (k l end : ℕ) (xs : List Site) → Rises k xs l → l ≤ end → Rises k xs end
-rises_to k l end [] h i = omega arith
-rises_to k l end (x ∷ xs) h i = at (is_separator (place_of x)) h (λ n j. rises_to n l end xs j i)
-  where
-    at : (b : Bool) → Next b k x.walk.stage (λ n. Rises n xs l) → ((n : ℕ) → Rises n xs l → Rises n xs end) → Next b k x.walk.stage (λ n. Rises n xs end)
-    at true j f = f (suc k) j
-    at false j f = (j.0, f x.walk.stage j.1)
-
 pub on_append : (c : List Guard) (xs ys : List Site) → on_sites c (xs ++ ys) ≡ on_sites c xs ++ on_sites c ys
 on_append c [] ys = refl
 on_append c (x ∷ xs) ys = at (on_path c (place_of x)) (on_append c xs ys)

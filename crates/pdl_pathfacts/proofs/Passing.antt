@@ -1,7 +1,6 @@
 -- Each path of a source that breaks no rule passes the tests of paths.
-use Rattle.std.proofs.Common.{◌≡◌, refl, sym, ap, ap₂, ◌∙◌, subst, ℕ, zero, suc, ◌≤◌, ◌<◌, Bool, true, false, ◌&&◌, ◌||◌, not, List, [], ◌∷◌, ◌++◌, length, map, filter, ◌==◌, nat_lt, unwrap_or, Option, Some, None, arith, append_assoc, append-nil, eq-eqb, le-leb, ⊎_elim}
+use Rattle.std.proofs.Common.{◌≡◌, refl, sym, ap, ◌∙◌, subst, ℕ, zero, suc, ◌≤◌, ◌<◌, Bool, true, false, ◌&&◌, ◌||◌, not, List, [], ◌∷◌, ◌++◌, length, map, filter, ◌==◌, nat_lt, unwrap_or, Option, Some, None, arith, append_assoc, append-nil, eq-eqb, le-leb, ⊎_elim}
 use Rattle.std.proofs.lemmas.Bool.{false≢true, and_parts, and_from, or_left, or_right, both_ways, not-false, cases_Bool, ne_eqb}
-use Rattle.std.proofs.lemmas.List.Folds.{list_any-append}
 use Rattle.std.specs.List.{list_any}
 use Rattle.pdl_semantics.specs.Tree.{Location, W, Stmt, Reserve, Release, Verify, Param, Mem, Pipe}
 use Rattle.pdl_semantics.specs.Flat
@@ -18,8 +17,8 @@ use Rattle.pdl_rules.specs.Names.{OfGuess, defines}
 use Rattle.pdl_rules.specs.Calls.{is_call, is_wrong_call}
 use Rattle.pdl_rules.specs.Speculation
 use Rattle.pdl_rules.specs.Refusal.{KeepsRules}
-use Rattle.pdl_rules.proofs.Straight.{Each}
-use Rattle.pdl_rules.proofs.Once.{KeepsLocks, AreBacked, none_backed, backed_next, reserves_to_write, bytes_same, count_none}
+use Rattle.pdl_rules.proofs.EachPlace.{Each}
+use Rattle.pdl_rules.proofs.Once.{KeepsLocks, AreBacked, none_backed, backed_next, reserves_to_write, count_none}
 use Rattle.pdl_facts.specs.Scans.{is_plain, none_of, all_at, reads_ok, no_scan, phases_ok, phase_all, Fresh, is_over}
 use Rattle.pdl_derived.specs.Alone
 use Rattle.pdl_facts.specs.Certain
@@ -32,7 +31,7 @@ use Rattle.pdl_stagefacts.proofs.Staged.{Staged, all_staged}
 use Rattle.pdl_stagefacts.proofs.Standing.{all_both, all_map}
 use Rattle.pdl_stagefacts.proofs.Formed.{body_forked}
 use Rattle.pdl_stagefacts.proofs.Fine.{Fine, all_fine, stage_count}
-use Rattle.pdl_stagefacts.proofs.Firsts.{any_params, any_mems}
+use Rattle.pdl_stagefacts.proofs.Firsts.{none_front}
 use Rattle.pdl_stagefacts.proofs.Homes.{reserves_in, releases_in, verifies_in}
 use Rattle.pdl_pathfacts.specs.Source.{are_apart}
 use Rattle.pdl_pathfacts.proofs.Choices.{path_of}
@@ -53,11 +52,9 @@ use Rattle.pdl_pathfacts.proofs.Guesses
 use Rattle.pdl_pathfacts.proofs.Guesses.{all_asked, verified_end}
 use Rattle.pdl_pathfacts.proofs.Memories.{at_number, mems_length, all_behind, distinct, lock_tells, rooms, stages_length, stage_at, first_none}
 use Rattle.pdl_pathfacts.proofs.Seen
+use Rattle.pdl_word.proofs.Bytes.{bytes_same}
 
 -- BEFORE THE STATEMENTS
-
-none_front : (p : Pipe) (test : Place → Bool) → ((a : Param) → test (Parameter a) ≡ false) → ((m : Mem) → test (Memory m) ≡ false) → list_any test (front_of p) ≡ false
-none_front p test f g = list_any-append test (map Parameter p.params) (map Memory p.mems) ∙ ap₂ (λ a b. a || b) (any_params test f p.params) (any_mems test g p.mems)
 
 front_on : (c : List Guard) (ps : List Param) (ms : List Mem) → filter (on_path c) (map Parameter ps ++ map Memory ms) ≡ map Parameter ps ++ map Memory ms
 front_on c [] [] = refl

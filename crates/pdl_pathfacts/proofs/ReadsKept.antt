@@ -3,6 +3,7 @@ use Rattle.std.proofs.Common.{◌≡◌, refl, sym, ap, ap₂, ◌∙◌, subst,
 use Rattle.std.proofs.lemmas.Bool.{false≢true, and_parts, and_from, or_parts, or_cases, or_left, or_right, eqb-true, ne_eqb, not-false, both_ways, cases_Bool}
 use Rattle.std.proofs.lemmas.List.Folds.{list_any-append}
 use Rattle.std.specs.List.{list_any}
+use Rattle.std.proofs.lemmas.List.Sums.{fold_push}
 use mathlib.Core.Path.{fun_ext}
 use Rattle.pdl_semantics.specs.Tree.{Span, Expr, Variable, Location, Kind, R, W, Stmt, Separator, CombRead, Bind, SpecCall, DelayedRead, Write, Reserve, Block, Release, If, Call, Verify, SpecCheck, SpecBarrier, Mem, Pipe}
 use Rattle.pdl_semantics.specs.Flat
@@ -13,7 +14,7 @@ use Rattle.pdl_rules.specs.Locks.{is_locked, same_location, same_kind, Hold, Not
 use Rattle.pdl_rules.specs.Parts.{location_of}
 use Rattle.pdl_rules.specs.Stages.{reserves_memory}
 use Rattle.pdl_rules.specs.Typed.{is_named, is_memory}
-use Rattle.pdl_rules.proofs.Once.{KeepsLocks, any_weaker, any_front, any_last, bytes_same, bytes_refl, held_alike, fold_push, reserves_to_write, reserves_some, reserves_alike}
+use Rattle.pdl_rules.proofs.Once.{KeepsLocks, any_weaker, any_front, any_last, held_alike, reserves_to_write, reserves_some, reserves_alike}
 use Rattle.pdl_rules.proofs.Defined.{any_split}
 use Rattle.pdl_derived.specs.Alone
 use Rattle.pdl_derived.specs.Alone.{looked}
@@ -24,6 +25,7 @@ use Rattle.pdl_pathfacts.proofs.Along.{ops_of, seen_ops}
 use Rattle.pdl_pathfacts.proofs.Variables.{IsNamed}
 use Rattle.pdl_pathfacts.proofs.Growth
 use Rattle.pdl_pathfacts.proofs.Growth.{vars_past, Grown}
+use Rattle.pdl_word.proofs.Bytes.{bytes_same, bytes_refl}
 
 -- LOCATIONS
 

@@ -14,8 +14,8 @@ use Rattle.pdl_rules.specs.Stages.{reserves_memory}
 use Rattle.pdl_rules.specs.Speculation.{releases_unsure}
 use Rattle.pdl_rules.specs.Speculation
 use Rattle.pdl_rules.specs.Typed.{is_memory}
-use Rattle.pdl_rules.proofs.Straight.{Each}
-use Rattle.pdl_rules.proofs.Once.{KeepsLocks, AreBacked, backed_next, bytes_same}
+use Rattle.pdl_rules.proofs.EachPlace.{Each}
+use Rattle.pdl_rules.proofs.Once.{KeepsLocks, AreBacked, backed_next}
 use Rattle.pdl_rules.proofs.Defined.{any_split}
 use Rattle.pdl_facts.specs.Scans.{is_plain, Scan, reads_ok, Phase, phases_ok, phase_all, is_over}
 use Rattle.pdl_facts.specs.Certain.{Making, makings_ok, making_all, stands_before, all_sure}
@@ -30,6 +30,7 @@ use Rattle.pdl_pathfacts.proofs.ReadsKept.{Scanned, scanned_grown, scanned_next,
 use Rattle.pdl_pathfacts.proofs.WritesKept.{Stands, stands_grown, stands_next, ends_over, phases_append, phase_append, phase_ops}
 use Rattle.pdl_pathfacts.proofs.Calls.{Stood, Asked, stood_by, makings_append, making_append, making_ops}
 use Rattle.pdl_pathfacts.proofs.Sure.{sure_by, sures_append, barred_ops}
+use Rattle.pdl_word.proofs.Bytes.{bytes_same}
 
 -- what is known of each site on a path
 pub record Known (p : Pipe) (q : Flat.Pipe) (t : Site) : Type 0 where
@@ -81,7 +82,7 @@ abbrev pub ops_all : (Flat.Op → Bool) → List Flat.Op → Bool
 ops_all test [] = true
 ops_all test (op ∷ os) = test op && ops_all test os
 
-list_append : (test : Flat.Stmt → Bool) (xs ys : List Flat.Stmt) → Flat.list_all test xs ≡ true → Flat.list_all test ys ≡ true → Flat.list_all test (xs ++ ys) ≡ true
+pub list_append : (test : Flat.Stmt → Bool) (xs ys : List Flat.Stmt) → Flat.list_all test xs ≡ true → Flat.list_all test ys ≡ true → Flat.list_all test (xs ++ ys) ≡ true
 list_append test [] ys h i = i
 list_append test (x ∷ xs) ys h i = let parts = and_parts (test x) (Flat.list_all test xs) h in and_from _ _ parts.0 (list_append test xs ys parts.1 i)
 

@@ -5,18 +5,17 @@ use Rattle.pdl_semantics.specs.Tree.{Span, Variable, Location, Kind, R, W, Stmt,
 use Rattle.pdl_semantics.specs.Flat
 use Rattle.pdl_semantics.specs.Flatten.{Var, mem_of}
 use Rattle.pdl_semantics.specs.Stages.{is_reserve, is_release, is_verify, verify_stage}
-use Rattle.pdl_rules.specs.Places.{Guard, on_path}
 use Rattle.pdl_rules.specs.Parts.{location_of}
 use Rattle.pdl_rules.specs.Typed.{is_memory}
 use Rattle.pdl_derived.specs.Alone.{looked}
 use Rattle.pdl_facts.specs.Scans.{none_of, all_at, is_fetch}
 use Rattle.pdl_facts.specs.Checks.{knows, is_below}
 use Rattle.pdl_facts.specs.Facts.{looked_all}
-use Rattle.pdl_stagefacts.proofs.Sites.{Site, place_of, own, owns, All}
-use Rattle.pdl_pathfacts.proofs.Along.{ops_of, ops, stmts_at, own_is, seen_ops, seen, on_sites}
+use Rattle.pdl_stagefacts.proofs.Sites.{Site, own, owns, All}
+use Rattle.pdl_pathfacts.proofs.Along.{ops_of, ops, stmts_at, own_is, seen_ops, seen, looked_append}
 use Rattle.pdl_pathfacts.proofs.Numbers.{mem_low}
-use Rattle.pdl_pathfacts.proofs.Sited.{some_op}
-use Rattle.pdl_pathfacts.proofs.Scanning.{ops_all}
+use Rattle.pdl_pathfacts.proofs.Sited.{some_op, none_append}
+use Rattle.pdl_pathfacts.proofs.Scanning.{ops_all, list_append}
 
 -- a test that takes a delayed read for a read
 abbrev pub Blind : (Flat.Op → Bool) → Type 0
@@ -63,14 +62,6 @@ below_text n (x ∷ xs) h = at (is_verify x.op) (and_parts (nat_lt x.stage n) (F
 
 pub below_verify : (n : ℕ) (xs : List Flat.Stmt) → Flat.list_all (λ (x : Flat.Stmt). nat_lt x.stage n) xs ≡ true → is_below n (verify_stage (looked_all xs)) ≡ true
 below_verify n xs h = ap (is_below n) (verify_looked xs) ∙ below_text n xs h
-
-list_append : (test : Flat.Stmt → Bool) (xs ys : List Flat.Stmt) → Flat.list_all test xs ≡ true → Flat.list_all test ys ≡ true → Flat.list_all test (xs ++ ys) ≡ true
-list_append test [] ys h i = i
-list_append test (x ∷ xs) ys h i = let parts = and_parts (test x) (Flat.list_all test xs) h in and_from _ _ parts.0 (list_append test xs ys parts.1 i)
-
-looked_append : (xs ys : List Flat.Stmt) → looked_all (xs ++ ys) ≡ looked_all xs ++ looked_all ys
-looked_append [] ys = refl
-looked_append (x ∷ xs) ys = ap (λ l. record x { op = looked x.op } ∷ l) (looked_append xs ys)
 
 -- each operation passes a test
 ops_text : (test : Flat.Op → Bool) (k : ℕ) (gs : List Flat.Guard) (os : List Flat.Op) → ops_all (λ op. test (looked op)) os ≡ true → Flat.list_all (λ (x : Flat.Stmt). test x.op) (looked_all (stmts_at k gs os)) ≡ true
@@ -120,10 +111,6 @@ pub at_seen : (test : Flat.Op → Bool) → Blind test → (s : ℕ) (ms : List 
 at_seen test f s ms [] h = refl
 at_seen test f s ms (t ∷ ts) h = at_append test s (seen_ops t.walk.stage (ops ms t)) (seen ms ts) (at_ops test f s t.walk.stage (ops ms t) h.0) (at_seen test f s ms ts h.1)
 
-none_append : (test : Flat.Op → Bool) (xs ys : List Flat.Stmt) → none_of test xs ≡ true → none_of test ys ≡ true → none_of test (xs ++ ys) ≡ true
-none_append test [] ys h i = i
-none_append test (x ∷ xs) ys h i = let parts = and_parts (not (test x.op)) (none_of test xs) h in and_from _ _ parts.0 (none_append test xs ys parts.1 i)
-
 none_ops : (test : Flat.Op → Bool) → Blind test → (k : ℕ) (os : List Flat.Op) → some_op test os ≡ false → none_of test (seen_ops k os) ≡ true
 none_ops test f k [] h = refl
 none_ops test f k (op ∷ os) h = let parts = or_parts (test op) (some_op test os) h in and_from _ _ (ap not (f op ∙ parts.0)) (none_ops test f k os parts.1)
@@ -166,15 +153,6 @@ knows_all ms vs s f = here s f
     here (If sp (Variable x) a b) g = refl
     here (If sp _ a b) g = refl
     here _ g = refl
-
--- each site on a path
-pub all_on_path : (P : Site → Type 0) (c : List Guard) (ts : List Site) → All (λ t. on_path c (place_of t) ≡ true → P t) ts → All P (on_sites c ts)
-all_on_path P c [] h = tt
-all_on_path P c (t ∷ ts) h = at (on_path c (place_of t)) refl (all_on_path P c ts h.1)
-  where
-    at : (b : Bool) → on_path c (place_of t) ≡ b → All P (on_sites c ts) → All P (if b then t ∷ on_sites c ts else on_sites c ts)
-    at true e k = (h.0 e, k)
-    at false e k = k
 
 -- what holds for each number holds of each site
 pub all_numbers : (P : ℕ → Site → Type 0) (ts : List Site) → ((i : ℕ) → All (P i) ts) → All (λ t. (i : ℕ) → P i t) ts

@@ -92,7 +92,7 @@ each_sited test s before last (t ∷ ts) i h k e v rest f = at (test (place_of t
 
 -- WITHOUT ANY
 
-none_append : (test : Flat.Op → Bool) (xs ys : List Flat.Stmt) → none_of test xs ≡ true → none_of test ys ≡ true → none_of test (xs ++ ys) ≡ true
+pub none_append : (test : Flat.Op → Bool) (xs ys : List Flat.Stmt) → none_of test xs ≡ true → none_of test ys ≡ true → none_of test (xs ++ ys) ≡ true
 none_append test [] ys h i = i
 none_append test (x ∷ xs) ys h i = let parts = and_parts (not (test x.op)) (none_of test xs) h in and_from _ _ parts.0 (none_append test xs ys parts.1 i)
 

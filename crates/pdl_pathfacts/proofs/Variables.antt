@@ -4,7 +4,7 @@ use Rattle.std.proofs.lemmas.Bool.{false≢true, and_cases, or_parts, or_cases, 
 use Rattle.std.proofs.lemmas.List.Folds.{list_any-append}
 use Rattle.std.specs.List.{list_any}
 use Rattle.pdl_semantics.specs.Tree.{Location, Stmt, Separator, CombRead, Bind, SpecCall, DelayedRead, Write, Reserve, Block, Release, If, Call, Verify, SpecCheck, SpecBarrier, Stmts, Nil, Cons, Param, Mem, Pipe}
-use Rattle.pdl_semantics.specs.Flatten.{Var, var_of, at_start, past, with_guard, at_otherwise, under}
+use Rattle.pdl_semantics.specs.Flatten.{Var, at_start}
 use Rattle.pdl_semantics.specs.Flatten
 use Rattle.pdl_kit.specs.declared.rule.Rule.TheVariants.{N1, N3}
 use Rattle.pdl_rules.specs.Places.{Place, Parameter, Memory, Statement, End, StartClause, Branch, with_inner, statements, places, on_some_path}
@@ -16,6 +16,7 @@ use Rattle.pdl_rules.proofs.Once.{bytes_sym}
 use Rattle.pdl_stagefacts.proofs.Sites.{Site, branch, sites_of, front_of, closing, place_of, All, Stands, all_stand}
 use Rattle.pdl_stagefacts.proofs.Walks.{told, names, names_at, names_append, Named, At, holds_all, all_at}
 use Rattle.pdl_pathfacts.proofs.Numbers.{is_in, var_names, var_place}
+use Rattle.pdl_rules.proofs.Defined.{no_params}
 
 -- NAMES
 
@@ -100,10 +101,6 @@ mutual
   no_memory : (m : List ℕ) (bs : List Branch) (ss : Stmts) → list_any (defines (OfMemory m)) (statements bs ss) ≡ false
   no_memory m bs Nil = refl
   no_memory m bs (Cons s ss) = list_any-append (defines (OfMemory m)) (with_inner bs s) (statements bs ss) ∙ ap₂ (λ a b. a || b) (no_memory_in m bs s) (no_memory m bs ss)
-
-no_params : (m : List ℕ) (ps : List Param) → list_any (defines (OfMemory m)) (map Parameter ps) ≡ false
-no_params m [] = refl
-no_params m (a ∷ ps) = no_params m ps
 
 among_mems : (m : List ℕ) (ms : List Mem) → list_any (defines (OfMemory m)) (map Memory ms) ≡ true → is_memory ms m ≡ true
 among_mems m [] e = absurd (false≢true e)

@@ -2,14 +2,14 @@
 use Rattle.std.proofs.Common.{◌≡◌, refl, sym, ap, ◌∙◌, subst, Bool, true, false, List, [], ◌∷◌, ◌++◌, filter, map, cond, if◌then◌else◌, append_assoc, append-nil}
 use Rattle.pdl_semantics.specs.Tree.{Stmt, If, Stmts, Nil, Cons, Mem, Pipe}
 use Rattle.pdl_semantics.specs.Flat
-use Rattle.pdl_semantics.specs.Flatten.{Var, mem_width, width_of, at_start, with_guard, past, past_all, at_otherwise, back_in, under}
+use Rattle.pdl_semantics.specs.Flatten.{at_start, with_guard, past, at_otherwise, under}
 use Rattle.pdl_semantics.specs.Flatten
 use Rattle.pdl_kit.specs.declared.rule.Rule.TheVariants.{L1, L3, L4, L5, L6, L7, S1}
 use Rattle.pdl_rules.specs.Places.{Place, Statement, End, StartClause, Guard, Branch, with_inner, statements, places, on_path}
 use Rattle.pdl_rules.specs.Locks.{lacks_hold, is_late_read, is_one_too_many, is_reserved_again, is_not_written_once, ends_open}
 use Rattle.pdl_rules.specs.Calls.{is_wrong_call}
 use Rattle.pdl_rules.specs.Refusal.{KeepsRules}
-use Rattle.pdl_rules.proofs.Straight.{Each}
+use Rattle.pdl_rules.proofs.EachPlace.{Each}
 use Rattle.pdl_rules.proofs.Once.{KeepsLocks}
 use Rattle.pdl_stagefacts.proofs.Sites.{Site, branch, sites_in, sites, sites_of, front_of, closing, place_of, All, places_in, places_all}
 use Rattle.pdl_pathfacts.proofs.Choices.{path_of, unbroken_on}

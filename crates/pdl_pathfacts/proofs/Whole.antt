@@ -1,6 +1,6 @@
 -- All facts of an accepted pipe that the theorems take.
 use Rattle.std.proofs.Common.{◌≡◌, refl, sym, ◌∙◌, ℕ, ◌≤◌, ◌<◌, ◌⊎◌, inl, inr, true, false, List, [], ◌∷◌, length, nat_lt, arith, ltb-true}
-use Rattle.std.proofs.lemmas.Bool.{not-true}
+use Rattle.std.proofs.lemmas.Bool.{not-true, cases_lt}
 use Rattle.std.specs.List.{list_any}
 use Rattle.pdl_semantics.specs.Tree.{Pipe}
 use Rattle.pdl_semantics.specs.Flat
@@ -17,7 +17,6 @@ use Rattle.pdl_facts.proofs.Passes
 use Rattle.pdl_turns.proofs.Roams.{fixed_looked}
 use Rattle.pdl_stagefacts.specs.StageFacts.{FoundIf, AllFound, StageFacts}
 use Rattle.pdl_stagefacts.proofs.Facts.{stage_facts}
-use Rattle.pdl_stagefacts.proofs.Spots.{split}
 use Rattle.pdl_stagefacts.proofs.Fine.{Each, each_map, each_in_stage}
 use Rattle.pdl_pathfacts.specs.Source.{are_apart, is_source, is_named}
 use Rattle.pdl_pathfacts.proofs.Passing.{parts}
@@ -45,7 +44,7 @@ Before p s y = (x m a : ℕ) → y.op ≡ Flat.DelayedRead x m a → is_dead y.g
 
 -- so it is bound no later
 bound_early : (p : Flat.Pipe) → Graph p → (s m : ℕ) (env : List ℕ) → s < length p.stages → s < commit_stage p m → next_of p s env ≤ commit_stage p m
-bound_early p g s m env low early = at (split (commit_stage p m) (next_of p s env))
+bound_early p g s m env low early = at (cases_lt (commit_stage p m) (next_of p s env))
   where
     at : (commit_stage p m < next_of p s env) ⊎ (next_of p s env ≤ commit_stage p m) → next_of p s env ≤ commit_stage p m
     at (inr l) = l

@@ -1,6 +1,6 @@
 -- On each path of a source that breaks no rule, each memory is reserved for writing, written and released once, in this order, or not at all.
 use Rattle.std.proofs.Common.{◌≡◌, refl, sym, ap, ◌∙◌, subst, ℕ, ◌<◌, ◌≤◌, Bool, true, false, ◌&&◌, ◌||◌, not, List, [], ◌∷◌, ◌++◌, length, cond, if◌then◌else◌, ◌==◌, bytes_eq, count_by, Some, arith, eq-eqb, le-leb, append-nil}
-use Rattle.std.proofs.lemmas.Bool.{false≢true, and_parts, and_from, or_left, or_right, or_from, eqb-true, ne_eqb, not-false, both_ways, false_from_ne_true}
+use Rattle.std.proofs.lemmas.Bool.{false≢true, and_parts, and_from, or_left, or_right, eqb-true, ne_eqb, not-false, both_ways, false_from_ne_true}
 use Rattle.std.proofs.lemmas.List.Folds.{list_any-append}
 use Rattle.std.specs.List.{list_any}
 use mathlib.Core.Path.{fun_ext}
@@ -11,8 +11,8 @@ use Rattle.pdl_rules.specs.Places.{Place, Statement, End, StartClause, Branch}
 use Rattle.pdl_rules.specs.Parts.{location_of}
 use Rattle.pdl_rules.specs.Locks.{same_location, Hold, Nothing, Reserved, Blocked, Released, blocked, after_place, held, is_held_for, is_unreleased, reserves, writes, reserves_location, writes_location, leaves_open}
 use Rattle.pdl_rules.specs.Typed.{is_named, is_memory}
-use Rattle.pdl_rules.proofs.Straight.{Each}
-use Rattle.pdl_rules.proofs.Once.{KeepsLocks, AreBacked, any_weaker, any_front, any_last, bytes_same, bytes_refl, location_refl, held_alike, reserves_alike, reserves_to_write, reserves_some, reserves_mem, unique, held_if_blocked, reserved_if_blocked, counted, count_none, written_once}
+use Rattle.pdl_rules.proofs.EachPlace.{Each}
+use Rattle.pdl_rules.proofs.Once.{KeepsLocks, AreBacked, any_weaker, any_front, any_last, location_refl, held_alike, reserves_alike, reserves_to_write, reserves_some, reserves_mem, unique, held_if_blocked, reserved_if_blocked, counted, count_none, written_once}
 use Rattle.pdl_derived.specs.Alone.{looked}
 use Rattle.pdl_facts.specs.Scans.{Phase, Fresh, Held, Written, Done, after_release, next_phase, holds, is_fresh, may_read, phase_ok, phases_ok, phase_all, is_over}
 use Rattle.pdl_stagefacts.proofs.Sites.{closing}
@@ -23,6 +23,8 @@ use Rattle.pdl_pathfacts.proofs.Variables.{IsNamed}
 use Rattle.pdl_pathfacts.proofs.Growth
 use Rattle.pdl_pathfacts.proofs.Growth.{vars_past, Grown}
 use Rattle.pdl_pathfacts.proofs.ReadsKept.{held_more}
+use Rattle.pdl_word.proofs.Bytes.{bytes_same, bytes_refl}
+use Rattle.pdl_pathfacts.proofs.Calls.{none_more}
 
 -- WHERE A MEMORY STANDS
 
@@ -39,9 +41,6 @@ Stands vs before m Fresh = (list_any (reserves W m) before ≡ false) × (list_a
 Stands vs before m (Held x) = (o : Open vs before m x) × (list_any (writes m) before ≡ false) × (is_held_for W (held o.at before) ≡ true)
 Stands vs before m (Written x) = (o : Open vs before m x) × (list_any (writes m) before ≡ true) × (held o.at before ≡ Blocked W)
 Stands vs before m Done = (list_any (reserves W m) before ≡ true) × (list_any (writes m) before ≡ true)
-
-none_more : (test : Place → Bool) (before : List Place) (x : Place) → list_any test before ≡ false → test x ≡ false → list_any test (before ++ x ∷ []) ≡ false
-none_more test before x h e = list_any-append test before (x ∷ []) ∙ or_from _ _ h (or_from _ _ e refl)
 
 -- a statement that doesn't reserve m for writing and doesn't write it leaves it where it stands, if it lets the location be
 abbrev open_more : (vs us : List Var) (before : List Place) (m : List ℕ) (n : ℕ) (x : Place) → Open vs before m n → Open (vs ++ us) (before ++ x ∷ []) m n

@@ -16,13 +16,20 @@ ghost use Rattle.pdl_pathfacts.specs.Source.{is_source, is_named};
 
 /// The statements on each path: in the order of their stages, with locks, calls, guesses and releases as the rules have them.
 pub fn paths()
-    ensures accepted { (p : Pipe) → KeepsRules p → IsTrue (is_source p) → (path : List ℕ) → Accepted (along path (at_once (flat p))) }
-    ensures makings { (p : Pipe) → KeepsRules p → IsTrue (is_source p) → (path : List ℕ) → IsTrue (makings_ok (verify_stage (at_once (flat p)).stmts) Unmade (onpath path (at_once (flat p)).stmts)) }
-    ensures made { (p : Pipe) → KeepsRules p → IsTrue (is_source p) → (path : List ℕ) → IsTrue (is_made (making_all Unmade (onpath path (at_once (flat p)).stmts))) }
-    ensures sure { (p : Pipe) → KeepsRules p → IsTrue (is_source p) → (path : List ℕ) → IsTrue (all_sure (verify_stage (at_once (flat p)).stmts) false no_scan (onpath path (at_once (flat p)).stmts)) }
+    ensures accepted { (p : Pipe) → KeepsRules p → IsTrue (is_source p) → (path : List ℕ) →
+        Accepted (along path (at_once (flat p))) }
+    ensures makings { (p : Pipe) → KeepsRules p → IsTrue (is_source p) → (path : List ℕ) →
+        IsTrue (makings_ok (verify_stage (at_once (flat p)).stmts) Unmade
+        (onpath path (at_once (flat p)).stmts)) }
+    ensures made { (p : Pipe) → KeepsRules p → IsTrue (is_source p) → (path : List ℕ) →
+        IsTrue (is_made (making_all Unmade (onpath path (at_once (flat p)).stmts))) }
+    ensures sure { (p : Pipe) → KeepsRules p → IsTrue (is_source p) → (path : List ℕ) →
+        IsTrue (all_sure (verify_stage (at_once (flat p)).stmts) false no_scan
+        (onpath path (at_once (flat p)).stmts)) }
 {}
 
 /// All facts of an accepted pipe that the theorems on the whole language take.
 pub fn sound()
-    ensures { (p : Pipe) → KeepsRules p → IsTrue (is_source p) → IsTrue (is_named p) → Sound (flat p) }
+    ensures { (p : Pipe) → KeepsRules p → IsTrue (is_source p) → IsTrue (is_named p) →
+        Sound (flat p) }
 {}

@@ -1,6 +1,6 @@
 -- A pipe that passes the tests of the whole language has the facts that the theorems take.
 use Rattle.std.proofs.Common.{◌≡◌, refl, sym, ap, ap₂, ◌∙◌, subst, ℕ, zero, suc, ◌-◌, ◌≤◌, ◌<◌, ◌⊎◌, inl, inr, Bool, true, false, ◌&&◌, ◌||◌, not, List, [], ◌∷◌, length, Option, Some, None, is_none, nat_lt, nat_le, ◌==◌, cond, if◌then◌else◌, arith, slice_index, replicate, ltb-true, ltb-false, leb-true, lt-ltb, le_refl, eq-eqb}
-use Rattle.std.proofs.lemmas.Bool.{eqb-true, ne_eqb}
+use Rattle.std.proofs.lemmas.Bool.{eqb-true, ne_eqb, not-true}
 use Rattle.pdl_semantics.specs.Flat.{list_all, Op, DelayedRead, Stmt, Guard, Next, Ends, Goes, Forks, Branch, Stage, Pipe, start_env}
 use Rattle.pdl_semantics.specs.Stages.{onpath, in_stage, stage_at, last_stage, is_inside, is_branch_of, is_reserve, mem_at, goes_to, commit_stage, reserve_stage, verify_stage, fork_guards}
 use Rattle.pdl_semantics.specs.Sound.{all_below}
@@ -17,7 +17,8 @@ use Rattle.pdl_derived.proofs.Writes.{and_left, and_right}
 use Rattle.pdl_facts.proofs.Texts.{below_at, past_end, none_there, where_true, no_reserve}
 use Rattle.pdl_facts.proofs.Passes.{known, reserves, pathwise_paths, parts_paths, reserve_past, commit_past}
 use Rattle.pdl_progress.proofs.Rates.{picks, among, among_append, fork_among}
-use Rattle.pdl_progress.proofs.Tried.{clash, not_true, by_or, or_more, by_bool, all_picks, Agree, path_agree, between_none, AllTrue, parts, agree_picks, hangs_none, before_among, all_same}
+use Rattle.pdl_progress.proofs.Tried.{clash, or_more, all_picks, Agree, path_agree, between_none, AllTrue, parts, agree_picks, hangs_none, before_among, all_same}
+use Rattle.pdl_word.proofs.Bools.{by_bool, by_or}
 
 by_branch : (o : Option Branch) (R : Type 0) → (o ≡ None → R) → ((c : Branch) → o ≡ Some c → R) → R
 by_branch None R f g = f refl
@@ -55,7 +56,7 @@ same_is (Some b) c h = λ i. Some (record { fork = eqb-true b.fork c.fork (and_l
   where
     alike : (x y : Bool) → (if x then y else not y) ≡ true → x ≡ y
     alike true y k = sym k
-    alike false y k = sym (not_true y k)
+    alike false y k = sym (not-true y k)
 
 is_same : (o : Option Branch) (c : Branch) → o ≡ Some c → same_branch o c ≡ true
 is_same o c e = ap (λ x. same_branch x c) e ∙ ap₂ (λ a b. a && b) (eq-eqb c.fork c.fork refl) (at c.first)
@@ -175,7 +176,7 @@ module _ (p : Pipe) (h : sounds p ≡ true) where
           ap (λ n. goes_to n env) e ∙ g ∙ sym (ap₂ (λ b m. if b then Some m else None) (ap (λ m. nat_lt m (length p.stages)) k ∙ lt-ltb _ _ i) k)
 
       at : (n : Next) → (stage_at p s).next ≡ n → leads_in (length p.stages) (stage_at p s).next ≡ true → goes_to (stage_at p s).next env ≡ (if nat_lt (next_of p s env) (length p.stages) then Some (next_of p s env) else None)
-      at Ends e i = ap (λ n. goes_to n env) e ∙ sym (ap (λ b. if b then Some (next_of p s env) else None) (not_true (nat_lt (next_of p s env) (length p.stages)) (not_low (nat_lt (next_of p s env) (length p.stages)) refl)))
+      at Ends e i = ap (λ n. goes_to n env) e ∙ sym (ap (λ b. if b then Some (next_of p s env) else None) (not-true (nat_lt (next_of p s env) (length p.stages)) (not_low (nat_lt (next_of p s env) (length p.stages)) refl)))
         where
           not_low : (b : Bool) → nat_lt (next_of p s env) (length p.stages) ≡ b → not (nat_lt (next_of p s env) (length p.stages)) ≡ true
           not_low true k = absurd (let x : next_of p s env < length p.stages = ltb-true _ _ k in let y : next_of p s env ≡ length p.stages = same Ends e in omega arith)
@@ -248,7 +249,7 @@ module _ (p : Pipe) (h : sounds p ≡ true) where
         where
           same : (x y : Bool) → (if x then y else not y) ≡ true → x ≡ y
           same true y l = sym l
-          same false y l = sym (not_true y l)
+          same false y l = sym (not-true y l)
 
       at : (n : Next) → (stage_at p c.fork).next ≡ n → side_passes p c.fork (stage_at p c.fork).next ≡ true → on_side (stage_at p c.fork).next c.first env ≡ true
       at Ends e k = absurd (in_not_trunk p (length p.stages) c (there Ends e) (trunk_past (length p.stages) (le_refl _)))

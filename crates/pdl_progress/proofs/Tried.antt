@@ -1,6 +1,6 @@
 -- Paths by the values of their guards: each agrees with one that a test goes through.
 use Rattle.std.proofs.Common.{◌≡◌, refl, sym, ap, ap₂, ◌∙◌, subst, ℕ, ◌≤◌, ◌<◌, Bool, true, false, ◌&&◌, ◌||◌, not, List, [], ◌∷◌, length, nat_lt, nat_le, ◌==◌, cond, if◌then◌else◌, arith, slice_index, slice_set, ltb-true, ltb-false, leb-false, eq-eqb}
-use Rattle.std.proofs.lemmas.Bool.{eqb-true}
+use Rattle.std.proofs.lemmas.Bool.{eqb-true, not-true}
 use Rattle.pdl_semantics.specs.Flat.{list_all, Stmt, Guard, takes, taken}
 use Rattle.pdl_semantics.specs.Stages.{onpath}
 use Rattle.pdl_derived.specs.Alone.{before, looked}
@@ -10,25 +10,14 @@ use Rattle.pdl_facts.specs.Checks.{vars_of, guard_vars}
 use Rattle.pdl_facts.specs.SoundChecks.{unfetched, none_hangs, all_paths, none_between}
 use Rattle.pdl_derived.proofs.Writes.{and_left, and_right}
 use Rattle.pdl_progress.proofs.Rates.{picks, among, among_append, picked}
+use Rattle.pdl_word.proofs.Bools.{by_bool, by_or}
 
 pub clash : false ≡ true → ⊥
 clash k = cc
 
-pub not_true : (b : Bool) → not b ≡ true → b ≡ false
-not_true true h = absurd (cc h)
-not_true false h = refl
-
-pub by_or : (b c : Bool) (R : Type 0) → (b || c) ≡ true → (b ≡ true → R) → (c ≡ true → R) → R
-by_or true c R h f g = f refl
-by_or false c R h f g = g h
-
 pub or_more : (b : Bool) {c : Bool} → c ≡ true → (b || c) ≡ true
 or_more true k = refl
 or_more false k = k
-
-pub by_bool : (b : Bool) (R : Type 0) → (b ≡ true → R) → (b ≡ false → R) → R
-by_bool true R f g = f refl
-by_bool false R f g = g refl
 
 -- PATHS BY THEIR GUARDS
 
@@ -133,7 +122,7 @@ hangs_none gs path env env' ys (z ∷ zs) a i d h =
     (λ e. sym (ap (λ l. taken l env') (all_unfetched ys z.guards e)) ∙ taken_other ys z.guards env env' d ∙ ap (λ l. taken l env) (all_unfetched ys z.guards e))
     (λ e.
     let off : taken (unfetched ys z.guards) env ≡ false =
-    sym (taken_agree gs path env (unfetched ys z.guards) a (λ g k. i g (among_append g (vars_of z.guards) (guard_vars zs) ∙ ap (λ b. b || among g (guard_vars zs)) (fewer_among g ys z.guards k)))) ∙ not_true _ e in
+    sym (taken_agree gs path env (unfetched ys z.guards) a (λ g k. i g (among_append g (vars_of z.guards) (guard_vars zs) ∙ ap (λ b. b || among g (guard_vars zs)) (fewer_among g ys z.guards k)))) ∙ not-true _ e in
     not_taken ys z.guards env' (taken_other ys z.guards env env' d ∙ off) ∙ sym (not_taken ys z.guards env off)))
     (hangs_none gs path env env' ys zs a (λ g k. i g (among_append g (vars_of z.guards) (guard_vars zs) ∙ or_more (among g (vars_of z.guards)) k)) d
     (and_right (list_all (λ g. none_of (fetches g.var) ys) z.guards || not (taken (unfetched ys z.guards) path)) _ h))

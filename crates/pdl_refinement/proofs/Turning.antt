@@ -22,10 +22,7 @@ use Rattle.pdl_turns.proofs.Under.{AllUnder, fresh_under}
 use Rattle.pdl_refinement.proofs.Spots.{Spot, seat, seats, shown, is_nil, now_spot, now_seat, Here, Standing, Behind, Strays, Last, Tail}
 use Rattle.pdl_refinement.proofs.Wander.{StraysAfter, strays_cycle}
 use Rattle.pdl_refinement.proofs.Cycles.{past_last, NowAsks, moved_spot, start_spot, under_start, asks_moved, asks_stays, born_standing, born_seat, shown_one, exit_last, moved_thread, rows_next, none_past, low_here, head_stands, work_same, commits_quiet, head_moves, behind_moved, behind_stands}
-
-by_bool : (b : Bool) (R : Type 0) → (b ≡ true → R) → (b ≡ false → R) → R
-by_bool true R f g = f refl
-by_bool false R f g = g refl
+use Rattle.pdl_word.proofs.Bools.{by_bool}
 
 clash : false ≡ true → ⊥
 clash k = cc

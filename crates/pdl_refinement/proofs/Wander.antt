@@ -11,6 +11,7 @@ use Rattle.pdl_turns.proofs.Strays.{Ahead, enter_next, step_below}
 use Rattle.pdl_turns.proofs.Lives.{nobody}
 use Rattle.pdl_turns.proofs.Courses.{Course, Strayed, onward}
 use Rattle.pdl_refinement.proofs.Spots.{Strays}
+use Rattle.pdl_word.proofs.Bools.{by_bool}
 
 pub record StraysAfter (p : Pipe) (stray : Thread → Type 0) (made : Thread → Bool) (bound' : ℕ) (none : Bool) (these : List Act) : Type 0 where
   pub commits : commits_of these ≡ []
@@ -91,10 +92,6 @@ stray_moves p f t a rest bound' n none goes h out is more low made r =
         empty : (l : List Thread) → nobody l ≡ true → l ≡ []
         empty [] i = refl
         empty (y ∷ l) i = absurd (cc i)
-
-by_bool : (b : Bool) (R : Type 0) → (b ≡ true → R) → (b ≡ false → R) → R
-by_bool true R f g = f refl
-by_bool false R f g = g refl
 
 none_left : (rs : List Awaited) → is_empty rs ≡ true → rs ≡ []
 none_left [] h = refl

@@ -1,19 +1,18 @@
 -- The variables behind some places of a pipe that breaks no rule: each is new, so their widths are those of the whole pipe.
-use Rattle.std.proofs.Common.{◌≡◌, refl, sym, ap, ◌∙◌, subst, subst₂, ℕ, Bool, true, false, ◌||◌, List, [], ◌∷◌, ◌++◌, map, fold, if◌then◌else◌, Some, None, bytes_eq, ◌⊎◌, inl, inr, ⊎_elim, append_assoc, append-nil}
+use Rattle.std.proofs.Common.{◌≡◌, refl, sym, ap, ◌∙◌, subst, ℕ, Bool, true, false, ◌||◌, List, [], ◌∷◌, ◌++◌, map, fold, if◌then◌else◌, Some, None, bytes_eq, ◌⊎◌, inl, inr, ⊎_elim, append_assoc, append-nil}
 use Rattle.std.specs.Prelude.{IsTrue}
 use Rattle.std.proofs.lemmas.Bool.{false≢true, or_parts, or_cases, or_left, or_right, both_ways, false_from_ne_true}
 use Rattle.std.proofs.lemmas.List.Folds.{list_any-append}
-use Rattle.std.proofs.lemmas.List.Sums.{fold-append}
+use Rattle.std.proofs.lemmas.List.Sums.{fold-append, fold_push}
 use Rattle.std.specs.List.{list_any}
 use Rattle.pdl_semantics.specs.Tree.{CombRead, Bind, DelayedRead, Param, Mem, Pipe}
 use Rattle.pdl_semantics.specs.Flatten.{Var, var_width, mem_width, width_of, params_of}
 use Rattle.pdl_rules.specs.Places.{Place, Parameter, Memory, Statement, places}
 use Rattle.pdl_rules.specs.Parts.{passes}
-use Rattle.pdl_rules.specs.Names.{variable_at, name_at, is_taken_name, breaks_n2}
+use Rattle.pdl_rules.specs.Names.{variable_at, name_at, is_taken_name, breaks_n2, defines, OfMemory}
 use Rattle.pdl_rules.specs.Widths.{with_variable, after_place, variables}
 use Rattle.pdl_rules.specs.Typed.{is_named}
-use Rattle.pdl_rules.proofs.Straight.{Each, Keeps}
-use Rattle.pdl_rules.proofs.Once.{any_front, any_last, fold_push, bytes_sym}
+use Rattle.pdl_rules.proofs.Once.{any_front, any_last, bytes_sym}
 
 -- WIDTHS THAT STAY
 
@@ -119,15 +118,6 @@ known_stay p vs before later e k = subst (Stays vs) (sym all) (stays_places p.me
 
 -- PARAMETERS AND MEMORIES
 
-pub known_params : (p : Pipe) (ps : List Param) (vs : List Var) (before : List Place) → Each (Keeps p) before (map Parameter ps) → AreKnown p vs before → AreKnown p (vs ++ params_of ps) (before ++ map Parameter ps)
-known_params p [] vs before each k = subst₂ (λ us xs. AreKnown p us xs) (sym (append-nil vs)) (sym (append-nil before)) k
-known_params p (a ∷ ps) vs before each k =
-    subst₂ (λ us xs. AreKnown p us xs)
-    (append_assoc vs (record { name = a.name.name; width = a.width.value } ∷ []) (params_of ps))
-    (append_assoc before (Parameter a ∷ []) (map Parameter ps))
-    (known_params p ps (vs ++ record { name = a.name.name; width = a.width.value } ∷ []) (before ++ Parameter a ∷ []) each.1
-    (known_more p vs before (Parameter a) a.name.name a.width.value refl refl refl each.0.n2 k))
-
 pub known_mems : (p : Pipe) (ms : List Mem) (vs : List Var) (before : List Place) → AreKnown p vs before → AreKnown p vs (before ++ map Memory ms)
 known_mems p [] vs before k = subst (AreKnown p vs) (sym (append-nil before)) k
 known_mems p (m ∷ ms) vs before k =
@@ -140,3 +130,8 @@ params_named (a ∷ ps) x e =
     (λ t. or_left _ _ (bytes_sym x a.name.name t))
     (λ t. or_right (bytes_eq a.name.name x) _ (params_named ps x t))
     (or_cases (bytes_eq x a.name.name) _ e)
+
+-- a parameter is no memory
+pub no_params : (m : List ℕ) (ps : List Param) → list_any (defines (OfMemory m)) (map Parameter ps) ≡ false
+no_params m [] = refl
+no_params m (a ∷ ps) = no_params m ps

@@ -1,26 +1,23 @@
 -- The memories of a pipe that breaks no rule: their sizes, their names, and the addresses that reach them.
 use Rattle.std.proofs.Common.{◌≡◌, refl, sym, ap, ◌∙◌, ℕ, ◌^◌, ◌≤◌, Bool, true, false, ◌&&◌, ◌||◌, List, [], ◌∷◌, ◌++◌, map, if◌then◌else◌, ◌==◌, nat_le, bytes_eq, ⊎_elim, leb-true}
 use Rattle.std.specs.Prelude.{IsTrue, IsFalse}
-use Rattle.std.proofs.lemmas.Bool.{false≢true, and_parts, and_from, or_parts, or_cases, or_left, or_right, or_from, both_ways, false_from_ne_true, eqb-true, not-false}
-use Rattle.std.proofs.lemmas.List.Folds.{list_any-append}
+use Rattle.std.proofs.lemmas.Bool.{false≢true, and_parts, and_from, or_parts, or_cases, or_from, both_ways, false_from_ne_true, eqb-true, not-false}
 use Rattle.std.specs.List.{list_any, list_all}
-use Rattle.pdl_semantics.specs.Tree.{Stmts, Nil, Cons, Param, Mem, Pipe}
-use Rattle.pdl_rules.specs.Places.{Place, Parameter, Memory, statements, places}
+use Rattle.pdl_semantics.specs.Tree.{Mem, Pipe}
+use Rattle.pdl_rules.specs.Places.{Place, Memory}
 use Rattle.pdl_rules.specs.Limits.{depths, is_depth, is_width, is_wrong_lock, breaks_z7}
 use Rattle.pdl_rules.specs.Parts.{passes}
-use Rattle.pdl_rules.specs.Names.{OfMemory, defines, is_undefined}
 use Rattle.pdl_rules.specs.Widths.{mem_depth, address_bits}
-use Rattle.pdl_rules.specs.Refusal.{is_lined, all_lined}
-use Rattle.pdl_rules.specs.Typed.{is_memory, AreDistinct, IsSized, AreSized, AreParams}
-use Rattle.pdl_rules.proofs.Straight.{Each, Keeps, closing, row}
-use Rattle.pdl_rules.proofs.Once.{any_front, any_last, bytes_sym}
+use Rattle.pdl_rules.specs.Typed.{is_memory, AreDistinct, IsSized, AreSized}
+use Rattle.pdl_rules.proofs.EachPlace.{Each}
+use Rattle.pdl_rules.proofs.Once.{any_front, any_last}
 use Rattle.pdl_rules.proofs.Defined.{takes_name}
-use Rattle.pdl_rules.proofs.Typing.{width_is}
+use Rattle.pdl_rules.specs.Names.{breaks_n2}
 
 -- DEPTHS
 
 -- what passes for each number of a list passes for each that is in it
-of_each : (test : ℕ → Bool) (ns : List ℕ) (d : ℕ) → list_all test ns ≡ true → list_any (λ n. n == d) ns ≡ true → test d ≡ true
+pub of_each : (test : ℕ → Bool) (ns : List ℕ) (d : ℕ) → list_all test ns ≡ true → list_any (λ n. n == d) ns ≡ true → test d ≡ true
 of_each test [] d all some = absurd (false≢true some)
 of_each test (n ∷ ns) d all some =
     let parts = and_parts (test n) (list_all test ns) all in
@@ -41,13 +38,18 @@ bits_few d e =
     let parts = and_parts (nat_le 1 (address_bits d)) (nat_le (address_bits d) 16) (and_parts (2 ^ address_bits d == d) _ (reached d e)).1 in
     (leb-true 1 _ parts.0, leb-true _ 16 parts.1)
 
+-- what the places of memories keep: their sizes, and names of their own
+pub record Keeps (p : Pipe) (before : List Place) (x : Place) : Type 0 where
+  pub z7 : breaks_z7 x ≡ false
+  pub n2 : breaks_n2 p before x ≡ false
+
 -- SIZES
 
 -- whether a memory has an allowed depth
 abbrev pub has_depth : Mem → Bool
 has_depth m = is_depth m.depth.value
 
-shape : (m : Mem) → breaks_z7 (Memory m) ≡ false → (is_width m.width.value ≡ true) × (has_depth m ≡ true)
+pub shape : (m : Mem) → breaks_z7 (Memory m) ≡ false → (is_width m.width.value ≡ true) × (has_depth m ≡ true)
 shape m e = and_parts (is_width m.width.value) (has_depth m) (not-false _ (or_parts _ (passes (is_wrong_lock m) m.lock) e).0)
 
 sized_one : (m : Mem) → breaks_z7 (Memory m) ≡ false → IsSized m
@@ -82,12 +84,6 @@ deep (x ∷ ms) m all e =
     go true some first others = first
     go false some first others = others some
 
-pub params_sized : (p : Pipe) (ps : List Param) (before : List Place) → Each (Keeps p) before (map Parameter ps) → AreParams ps
-params_sized p [] before each = tt
-params_sized p (a ∷ ps) before each =
-    let width = width_is a.width.value each.0.z7 in
-    (width.0, width.1, params_sized p ps (before ++ Parameter a ∷ []) each.1)
-
 -- NAMES
 
 -- no memory has a name that a place before takes
@@ -105,44 +101,3 @@ distinct p (m ∷ ms) before each = (
   not_again p m.name.name ms (before ++ Memory m ∷ []) (λ x e. any_last (takes_name x) before (Memory m) e) each.1,
   distinct p ms (before ++ Memory m ∷ []) each.1,
 )
-
--- a memory that some place of the pipe defines is one of its memories
-no_params : (m : List ℕ) (ps : List Param) → list_any (defines (OfMemory m)) (map Parameter ps) ≡ false
-no_params m [] = refl
-no_params m (a ∷ ps) = no_params m ps
-
-no_stmts : (m : List ℕ) (ss : Stmts) → all_lined ss ≡ true → list_any (defines (OfMemory m)) (statements [] ss) ≡ false
-no_stmts m Nil e = refl
-no_stmts m (Cons s ss) e =
-    let parts = and_parts (is_lined s) (all_lined ss) e in
-    ap (list_any (defines (OfMemory m))) (row s ss parts.0) ∙ no_stmts m ss parts.1
-
-among_mems : (m : List ℕ) (ms : List Mem) → list_any (defines (OfMemory m)) (map Memory ms) ≡ true → IsTrue (is_memory ms m)
-among_mems m [] e = absurd (false≢true e)
-among_mems m (x ∷ ms) e =
-    ⊎_elim
-    (λ t. or_left _ (is_memory ms m) (bytes_sym m x.name.name t))
-    (λ t. or_right (bytes_eq x.name.name m) _ (among_mems m ms t))
-    (or_cases (bytes_eq m x.name.name) _ e)
-
-pub memory_there : (p : Pipe) (m : List ℕ) → all_lined p.body ≡ true → is_undefined (places p) (OfMemory m) ≡ false → IsTrue (is_memory p.mems m)
-memory_there p m in_line e = in_front (last (sym (list_any-append test (front ++ statements [] p.body) (closing p)) ∙ not-false _ e))
-  where
-    test : Place → Bool
-    test = defines (OfMemory m)
-
-    front : List Place
-    front = map Parameter p.params ++ map Memory p.mems
-
-    last : (list_any test (front ++ statements [] p.body) || list_any test (closing p)) ≡ true → list_any test (front ++ statements [] p.body) ≡ true
-    last t = ⊎_elim (λ a. a) (λ a. absurd (false≢true a)) (or_cases (list_any test (front ++ statements [] p.body)) (list_any test (closing p)) t)
-
-    in_front : list_any test (front ++ statements [] p.body) ≡ true → IsTrue (is_memory p.mems m)
-    in_front t =
-        ⊎_elim
-        (λ a. ⊎_elim
-        (λ b. absurd (both_ways _ (no_params m p.params) b))
-        (λ b. among_mems m p.mems b)
-        (or_cases (list_any test (map Parameter p.params)) (list_any test (map Memory p.mems)) (sym (list_any-append test (map Parameter p.params) (map Memory p.mems)) ∙ a)))
-        (λ a. absurd (both_ways _ (no_stmts m p.body in_line) a))
-        (or_cases (list_any test front) (list_any test (statements [] p.body)) (sym (list_any-append test front (statements [] p.body)) ∙ t))

@@ -1,17 +1,18 @@
 -- A memory is written once: two writes would go to the one location that is reserved for them, and its release is behind both or between them.
-use Rattle.std.proofs.Common.{◌≡◌, refl, sym, ap, ap₂, ◌∙◌, subst, ℕ, ◌+◌, ◌≤◌, ◌<◌, Bool, true, false, not, ◌&&◌, ◌||◌, List, [], ◌∷◌, ◌++◌, fold, cond, if◌then◌else◌, ◌==◌, bytes_eq, count_by, ◌⊎◌, arith, ⊎_elim, inl, inr}
+use Rattle.std.proofs.Common.{◌≡◌, refl, sym, ap, ap₂, ◌∙◌, subst, ℕ, ◌+◌, ◌≤◌, ◌<◌, Bool, true, false, not, ◌&&◌, ◌||◌, List, [], ◌∷◌, ◌++◌, fold, if◌then◌else◌, ◌==◌, bytes_eq, count_by, ◌⊎◌, arith, ⊎_elim, inl, inr}
 use mathlib.Core.Path.{fun_ext}
-use Rattle.std.proofs.lemmas.Bool.{false≢true, true≢false, and_parts, and_from, or_cases, or_parts, or_left, or_right, cases_Bool, leb-false, eqb-true, not-false, both_ways}
+use Rattle.std.proofs.lemmas.Bool.{false≢true, true≢false, and_parts, and_from, or_cases, or_left, or_right, cases_Bool, leb-false, eqb-true, not-false, both_ways}
 use Rattle.std.proofs.lemmas.List.Folds.{list_any-append, list_all-append}
-use Rattle.std.proofs.lemmas.List.Sums.{fold-append}
+use Rattle.std.proofs.lemmas.List.Sums.{fold_push}
 use Rattle.std.proofs.lemmas.Slice.Eq.{bytes_eq-Decides}
 use Rattle.std.specs.List.{list_any, list_all}
 use Rattle.pdl_semantics.specs.Tree.{Span, Expr, Location, R, W, Write, Reserve, Block, Release, Pipe}
 use Rattle.pdl_rules.specs.Places.{Place, Statement, End, Branch}
 use Rattle.pdl_rules.specs.Locks.{same_location, same_kind, Hold, Nothing, Reserved, Blocked, Released, blocked, after_place, held, is_blocked_for, is_held_for, lacks_hold, is_late_read, reserves, writes, is_one_too_many, is_reserved_again, is_not_written_once, ends_open, reserves_location, writes_location, leaves_open}
-use Rattle.pdl_rules.proofs.Straight.{Each, Keeps}
+use Rattle.pdl_rules.proofs.EachPlace.{Each}
 pub use Rattle.pdl_rules.proofs.Counts.{weight, count_push, count_cons, counted, count_none}
 use Rattle.pdl_rules.proofs.Counts.{weight, count_push, count_cons, counted}
+use Rattle.pdl_word.proofs.Bytes.{bytes_same, bytes_refl}
 
 -- what the rules of locks say of a place, with the places before it on a path
 pub record KeepsLocks (p : Pipe) (before : List Place) (x : Place) : Type 0 where
@@ -42,16 +43,7 @@ any_front f xs x e = list_any-append f xs (x ∷ []) ∙ or_left (list_any f xs)
 pub any_last : {X : Type 0} (f : X → Bool) (xs : List X) (x : X) → f x ≡ true → list_any f (xs ++ x ∷ []) ≡ true
 any_last f xs x e = list_any-append f xs (x ∷ []) ∙ or_right (list_any f xs) (list_any f (x ∷ [])) (or_left (f x) false e)
 
-pub fold_push : {A B : Type 0} (f : B → A → B) (a : B) (xs : List A) (x : A) → fold f a (xs ++ x ∷ []) ≡ f (fold f a xs) x
-fold_push f a xs x = fold-append f a xs (x ∷ [])
-
 -- LOCATIONS
-
-pub bytes_same : (a b : List ℕ) → bytes_eq a b ≡ true → a ≡ b
-bytes_same a b e = (bytes_eq-Decides a b).0 e
-
-pub bytes_refl : (a : List ℕ) → bytes_eq a a ≡ true
-bytes_refl a = (bytes_eq-Decides a a).1 refl
 
 pub bytes_sym : (a b : List ℕ) → bytes_eq a b ≡ true → bytes_eq b a ≡ true
 bytes_sym a b e = (bytes_eq-Decides b a).1 (sym (bytes_same a b e))
@@ -178,14 +170,6 @@ is_backed before _ = true
 pub record AreBacked (before : List Place) : Type 0 where
   pub single : (m : List ℕ) → count_by (reserves W m) before ≤ 1
   pub backed : list_all (is_backed before) before ≡ true
-
--- in line
-pub keeps_locks : (p : Pipe) (before : List Place) (x : Place) → Keeps p before x → KeepsLocks p before x
-keeps_locks p before x k = record { l1 = k.l1; l3 = k.l3; l4 = k.l4; l5 = k.l5; l6 = k.l6; l7 = k.l7 }
-
-pub each_locks : (p : Pipe) (xs before : List Place) → Each (Keeps p) before xs → Each (KeepsLocks p) before xs
-each_locks p [] before each = tt
-each_locks p (x ∷ xs) before each = (keeps_locks p before x each.0, each_locks p xs (before ++ x ∷ []) each.1)
 
 pub none_backed : AreBacked []
 none_backed = record { single = λ m. omega arith; backed = refl }

@@ -7,8 +7,8 @@ use Rattle.pdl_semantics.specs.Tree.{ZeroExtend, SignExtend, Cat, Choose, R, W, 
 use Rattle.pdl_rules.specs.Places.{Parameter, Statement}
 use Rattle.pdl_rules.specs.Limits.{breaks_z2, breaks_z3, breaks_z5}
 use Rattle.pdl_rules.specs.Stages.{breaks_l8}
-use Rattle.pdl_rules.specs.Refusal.{Refused, refusal, is_in_line}
-use Rattle.pdl_rules.proofs.Texts.{on_line, number, literal, constant, variable, slice, plus, Line, separator, choice, bind, read, write, reserve, block, release, call, queue, param, comb, whole, pipe, from_line}
+use Rattle.pdl_rules.specs.Refusal.{Refused, refusal}
+use Rattle.pdl_rules.proofs.Texts.{number, literal, constant, variable, slice, plus, Line, separator, choice, bind, read, write, reserve, block, release, call, queue, param, comb, whole, pipe, from_line}
 
 -- the refusal of a short source
 abbrev of_pipe : Pipe → Option Refused
@@ -192,9 +192,6 @@ three_stages = address ∷ value ∷ reserve "m" "a" W ∷ separator ∷ block "
 
 three_accepted : of_pipe (pipe three_stages) ≡ None
 three_accepted = refl
-
-three_in_line : is_in_line (pipe three_stages) ≡ true
-three_in_line = refl
 
 -- two reservations in one stage, two releases in another, with a stage between and a read there
 read_between :

@@ -4,15 +4,13 @@ use Rattle.std.specs.Prelude.{IsTrue}
 use Rattle.std.specs.Cmp.Lexicographic.{pointwise}
 use Rattle.std.proofs.lemmas.Bool.{false≢true, true≢false, and_parts, or_parts, eqb-true, not-false}
 use Rattle.std.specs.List.{list_any}
-use Rattle.pdl_semantics.specs.Tree.{Span, Literal, Expr, Constant, Variable, Slice, Not, Binary, Cat, LessSigned, ZeroExtend, SignExtend, Choose, Stmt, Param, Pipe}
+use Rattle.pdl_semantics.specs.Tree.{Span, Literal, Expr, Constant, Variable, Slice, Not, Binary, Cat, LessSigned, ZeroExtend, SignExtend, Choose, Param}
 use Rattle.pdl_semantics.specs.Flatten.{Var, widest, var_width, op_width, width_of}
-use Rattle.pdl_rules.specs.Places.{Place, Statement}
-use Rattle.pdl_rules.specs.Parts.{some_part, some_expr_of, of_constant}
+use Rattle.pdl_rules.specs.Parts.{some_part, of_constant}
 use Rattle.pdl_rules.specs.Limits.{is_width, is_wrong_literal}
-use Rattle.pdl_rules.specs.Names.{Use, OfVariable, reads, is_too_early}
-use Rattle.pdl_rules.specs.Widths.{variables, is_unequal, is_too_large, is_out_of_range, is_no_extension, is_wide_choice}
+use Rattle.pdl_rules.specs.Names.{Use, OfVariable, reads}
+use Rattle.pdl_rules.specs.Widths.{is_unequal, is_too_large, is_out_of_range, is_no_extension, is_wide_choice}
 use Rattle.pdl_rules.specs.Typed.{is_named, Holds, IsTyped, AreArguments, AreStarts}
-use Rattle.pdl_rules.proofs.Straight.{Keeps}
 
 -- TESTS OF EXPRESSIONS
 
@@ -38,17 +36,6 @@ fits_part early all whole part less f = record {
   values = less (of_constant is_too_large) f.values;
   literals = less (of_constant is_wrong_literal) f.literals;
   choices = less (is_wide_choice all) f.choices;
-}
-
--- the expressions at a statement that breaks no rule
-pub fits_at : (p : Pipe) (before : List Place) (s : Stmt) → Keeps p before (Statement s []) → Fits (is_too_early p before (Statement s [])) (variables p) (λ test. some_expr_of test s)
-fits_at p before s k = record {
-  uses = (or_parts _ _ (or_parts _ _ k.n3).1).1;
-  widths = k.w1;
-  ranges = (or_parts _ _ k.w2).1;
-  values = (or_parts _ _ k.w2).0;
-  literals = k.z7;
-  choices = (or_parts _ _ k.w3).1;
 }
 
 -- LITERALS

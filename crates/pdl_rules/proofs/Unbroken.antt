@@ -1,19 +1,14 @@
 -- A source that is not refused breaks no rule at any place.
-use Rattle.std.proofs.Common.{◌≡◌, refl, ℕ, zero, suc, Bool, true, false, List, [], ◌∷◌, ◌++◌, get_or, Option, Some, None, if◌then◌else◌, subst}
+use Rattle.std.proofs.Common.{◌≡◌, refl, ℕ, zero, suc, false, List, [], ◌∷◌, ◌++◌, get_or, Option, Some, None, if◌then◌else◌, subst}
 use Rattle.pdl_kit.specs.declared.rule.Rule.{Rule}
-use Rattle.pdl_kit.specs.declared.rule.Rule.TheVariants.{G1, Z1, Z2, Z3, Z4, Z5, Z6, Z7, N1, N2, N3, W1, W2, W3, W4, W5, W6, F1, F2, F3, F4, F5, L1, L2, L3, L4, L5, L6, L7, L8, S1, S2, S3, S4, S5}
+use Rattle.pdl_kit.specs.declared.rule.Rule.TheVariants.{G1, Z2, Z3, Z4, Z5, Z6, Z7, N1, N2, N3, W1, W2, W3, W4, W5, W6, F1, F2, F3, F4, F5, L1, L2, L3, L4, L5, L6, L7, L8, S1, S2, S3, S4, S5}
 use Rattle.pdl_semantics.specs.Tree.{Pipe}
 use Rattle.pdl_rules.specs.Places.{Place, places, line_of}
-use Rattle.pdl_rules.specs.Limits.{is_too_long}
-use Rattle.pdl_rules.specs.Refusal.{breaks, limits, after_limits, broken_line, refused_at, Refused, first_broken, refusal, KeepsRules}
-use Rattle.pdl_rules.proofs.Straight.{Each, each_back}
+use Rattle.pdl_rules.specs.Refusal.{breaks, limits, after_limits, broken_line, refused_at, Refused, first_broken, KeepsRules}
+use Rattle.pdl_rules.proofs.EachPlace.{Each, each_back}
+use Rattle.pdl_word.proofs.Bools.{none_given}
 
--- an answer that is none comes from neither side
-no_line : (b : Bool) (line : ℕ) (others : Option ℕ) → (if b then Some line else others) ≡ None → (b ≡ false) × (others ≡ None)
-no_line true line others e = cc
-no_line false line others e = (refl, e)
-
-no_refusal : (r : Rule) (line : Option ℕ) (others : Option Refused) → refused_at r line others ≡ None → (line ≡ None) × (others ≡ None)
+pub no_refusal : (r : Rule) (line : Option ℕ) (others : Option Refused) → refused_at r line others ≡ None → (line ≡ None) × (others ≡ None)
 no_refusal r (Some line) others e = cc
 no_refusal r None others e = (refl, e)
 
@@ -21,7 +16,7 @@ no_refusal r None others e = (refl, e)
 each_unbroken : (r : Rule) (p : Pipe) (xs before : List Place) → broken_line r p before xs ≡ None → Each (λ front x. breaks r p front x ≡ false) before xs
 each_unbroken r p [] before e = tt
 each_unbroken r p (x ∷ xs) before e =
-    let parts = no_line (breaks r p before x) (line_of x) (broken_line r p (before ++ x ∷ []) xs) e in
+    let parts = none_given (breaks r p before x) (line_of x) (broken_line r p (before ++ x ∷ []) xs) e in
     (parts.0, each_unbroken r p xs (before ++ x ∷ []) parts.1)
 
 -- nor is the k-th of some rules, if none of them is broken first; a number past their end stands for a rule that no tree breaks
@@ -67,11 +62,3 @@ keeps_unbroken p e S3 = unbroken p (limits ++ after_limits) 30 e
 keeps_unbroken p e S4 = unbroken p (limits ++ after_limits) 31 e
 keeps_unbroken p e S5 = unbroken p (limits ++ after_limits) 32 e
 keeps_unbroken p e _ = λ before x later same. refl
-
--- where nothing is refused, no rule is broken
-pub keeps_accepted : (source : List ℕ) (p : Pipe) → refusal source p ≡ None → KeepsRules p
-keeps_accepted source p e = keeps_unbroken p (go (is_too_long source) e)
-  where
-    go : (b : Bool) → (if b then Some (record { rule = Z1; line = 1 }) else first_broken (limits ++ after_limits) p) ≡ None → first_broken (limits ++ after_limits) p ≡ None
-    go true t = cc
-    go false t = t

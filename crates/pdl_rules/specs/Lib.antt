@@ -5,7 +5,6 @@ pub mod Names
 pub mod Widths
 pub mod Locks
 pub mod Stages
-pub mod InLine
 pub mod Forks
 pub mod Calls
 pub mod Speculation

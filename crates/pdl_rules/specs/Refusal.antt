@@ -3,7 +3,7 @@ use Rattle.std.specs.Prelude.{◌≡◌, ℕ, Bool, true, false, not, ◌&&◌, 
 use Rattle.std.specs.List.{list_all}
 use Rattle.pdl_kit.specs.declared.rule.Rule.{Rule}
 use Rattle.pdl_kit.specs.declared.rule.Rule.TheVariants.{G1, Z1, Z2, Z3, Z4, Z5, Z6, Z7, N1, N2, N3, W1, W2, W3, W4, W5, W6, F1, F2, F3, F4, F5, L1, L2, L3, L4, L5, L6, L7, L8, S1, S2, S3, S4, S5, I1, I2, I3, I4, I5, I6, Y1, Y2, Y3, V1, V2, V3, V4, V5, B1, B2, B3, B4, B5, A1, A2, A3, A4, A5, A6, A7, A8}
-use Rattle.pdl_semantics.specs.Tree.{Stmt, Separator, CombRead, Bind, Write, Reserve, Block, Release, Call, Stmts, Nil, Cons, Mem, Pipe}
+use Rattle.pdl_semantics.specs.Tree.{Stmt, CombRead, Bind, Write, Reserve, Block, Release, Call, Stmts, Nil, Cons, Mem, Pipe}
 use Rattle.pdl_rules.specs.Places.{Place, places, line_of}
 use Rattle.pdl_rules.specs.Limits.{is_too_long, breaks_z2, breaks_z3, breaks_z4, breaks_z5, breaks_z6, breaks_z7}
 use Rattle.pdl_rules.specs.Names.{breaks_n1, breaks_n2, breaks_n3}
@@ -105,10 +105,6 @@ abbrev pub first_broken : List Rule → Pipe → Option Refused
 first_broken [] p = None
 first_broken (r ∷ rs) p = refused_at r (broken_line r p [] (places p)) (first_broken rs p)
 
--- the refusal by the limits alone; a source that is too long is refused at line 1
-abbrev pub limit_refusal : List ℕ → Pipe → Option Refused
-limit_refusal source p = if is_too_long source then Some (record { rule = Z1; line = 1 }) else first_broken limits p
-
 -- the refusal by all rules
 abbrev pub refusal : List ℕ → Pipe → Option Refused
 refusal source p =
@@ -141,18 +137,3 @@ is_comb m = not m.delayed
 -- whether the pipe is of that kind: it has one path
 abbrev pub is_one_stage : Pipe → Bool
 is_one_stage p = all_straight p.body && list_all is_comb p.mems
-
--- STAGES IN LINE
-
--- a straight statement or a separator, and a body of such
-abbrev pub is_lined : Stmt → Bool
-is_lined (Separator _) = true
-is_lined s = is_straight s
-
-abbrev pub all_lined : Stmts → Bool
-all_lined Nil = true
-all_lined (Cons s ss) = is_lined s && all_lined ss
-
--- whether the pipe has such a body: its stages stand in a line, and it has one path
-abbrev pub is_in_line : Pipe → Bool
-is_in_line p = all_lined p.body && list_all is_comb p.mems

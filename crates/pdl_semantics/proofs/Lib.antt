@@ -6,3 +6,4 @@ pub mod MachineRows
 pub mod WrongMachines
 pub mod FeatureRows
 mod SoundRows
+pub mod Facts

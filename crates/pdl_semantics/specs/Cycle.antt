@@ -295,9 +295,6 @@ ended_in ts = count (λ t. t.ports.ended) ts
 abbrev pub waits_in : List Turn → ℕ
 waits_in ts = count (λ t. t.wait) ts
 
-abbrev pub squashes_in : List Turn → ℕ
-squashes_in ts = count (λ t. t.ports.squash) ts
-
 -- the commits of a memory, in cycle order
 abbrev pub shown : ℕ → Option PortWrite → List Commit
 shown m None = []

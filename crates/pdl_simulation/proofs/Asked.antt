@@ -7,7 +7,7 @@ use Rattle.pdl_semantics.specs.Machine.{Ask, Awaited, Request, NoRequest, Owned,
 use Rattle.pdl_semantics.specs.Locks.{has_room}
 use Rattle.pdl_semantics.specs.Moves.{movers, is_empty, block_ready}
 use Rattle.pdl_semantics.specs.Cycle.{awaited_of, asked_of, asked_by, asked_in, address_of, request_left, stays}
-use Rattle.pdl_derived.specs.Derived.{Work, awaits_mem, asked_at, find_ask, asks_of, next_ask, next_asks, port_free, still, around}
+use Rattle.pdl_derived.specs.Derived.{Work, awaits_mem, asked_at, find_ask, asks_of, next_ask, port_free, still, around}
 use Rattle.pdl_derived.specs.Derived
 use Rattle.pdl_facts.specs.Scans.{none_of, is_fetch}
 use Rattle.pdl_simulation.proofs.FlowFacts.{Flows, fetches_from}
@@ -19,6 +19,7 @@ use Rattle.pdl_simulation.proofs.Choices.{has_owner, Matched, one_stage, Known, 
 use Rattle.pdl_simulation.proofs.Telling.{someone, behind_someone}
 use Rattle.pdl_simulation.proofs.Turned.{fell, moved_live, stood, next_live, go_on, Agrees}
 use Rattle.pdl_simulation.proofs.Onward.{stuck_here, born_live}
+use Rattle.pdl_derived.proofs.Answering.{find_append}
 
 -- who asks for a memory, and the address
 pub record Asker : Type 0 where
@@ -58,15 +59,6 @@ address_first m n (q ∷ qs) o = at (q.mem == m) (address_first m n qs o)
 or_ask : Option ℕ → Option ℕ → Option ℕ
 or_ask None r = r
 or_ask (Some a) r = Some a
-
-find_more : (xs ys : List Ask) (m : ℕ) → find_ask (xs ++ ys) m ≡ or_ask (find_ask xs m) (find_ask ys m)
-unfolding or_ask
-find_more [] ys m = refl
-find_more (x ∷ xs) ys m = at (x.mem == m) (find_more xs ys m)
-  where
-    at : (b : Bool) → find_ask (xs ++ ys) m ≡ or_ask (find_ask xs m) (find_ask ys m) → (if b then Some x.address else find_ask (xs ++ ys) m) ≡ or_ask (if b then Some x.address else find_ask xs m) (find_ask ys m)
-    at true h = refl
-    at false h = h
 
 asks_more : (xs : List Derived.Act) (b : Derived.Act) → asks_of (xs ++ b ∷ []) ≡ asks_of xs ++ (if b.moves then b.work.asks else [])
 asks_more [] b = at b.moves
@@ -221,7 +213,7 @@ module _ (p : Pipe) (flows : Flows p) (st : State) (d : Derived.State) (bits : L
   unfolding or_ask
   finds_is m [] k o = refl
   finds_is m (l ∷ ls) k o =
-      ap (λ q. find_ask q m) (asks_more (rev (dacts p d bits ls)) (did p d bits ls l)) ∙ find_more (asks_of (rev (dacts p d bits ls))) _ m
+      ap (λ q. find_ask q m) (asks_more (rev (dacts p d bits ls)) (did p d bits ls l)) ∙ find_append (asks_of (rev (dacts p d bits ls))) _ m
       ∙ ap (λ r. or_ask r (find_ask (if (did p d bits ls l).moves then (work_of_live p d bits ls l).asks else []) m)) (finds_is m ls k.1 o.1)
       ∙ at (did p d bits ls l).moves (asking ls m) refl (λ a e. one_asks m a l ls k o e)
     where

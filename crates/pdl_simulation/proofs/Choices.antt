@@ -3,13 +3,13 @@ use Rattle.std.proofs.Common.{◌≡◌, refl, sym, ap, ap₂, ◌∙◌, subst,
 use Rattle.std.proofs.lemmas.Bool.{eqb-true, eqb-false, ne_eqb}
 use Rattle.pdl_semantics.specs.Flat.{Pipe, Op, DelayedRead, CombRead, ReserveWrite, Block, Stmt, list_all, word_at}
 use Rattle.pdl_semantics.specs.Stages.{list_any, in_stage, mem_at, stage_at, goes_to, is_reserve, reserve_stage, commit_stage}
-use Rattle.pdl_semantics.specs.Locks.{Latest, Nothing, has_room}
-use Rattle.pdl_semantics.specs.Machine.{Ask, Awaited, Kept, answers, Request, NoRequest, Owned, Orphan, State, Deeds, lock_of, request_of, older_write, word_for, held_before, with_kept, unanswered, answer_to, answer_for, keeps, youngest, with_answers, does_all, deeds_with}
+use Rattle.pdl_semantics.specs.Locks.{Latest, has_room}
+use Rattle.pdl_semantics.specs.Machine.{Ask, Awaited, Kept, answers, Request, NoRequest, Owned, Orphan, State, Deeds, lock_of, request_of, older_write, word_for, held_before, with_kept, unanswered, answer_to, answer_for, keeps, with_answers, does_all}
 use Rattle.pdl_semantics.specs.Moves.{block_ready, is_free, next_stage}
 use Rattle.pdl_semantics.specs.Locks
 use Rattle.pdl_semantics.specs.Machine
 use Rattle.pdl_semantics.specs.Moves
-use Rattle.pdl_derived.specs.Derived.{works, Work, latest, pending, befores, around, awaits_mem, port_free, still, asked_at, word_of}
+use Rattle.pdl_derived.specs.Derived.{Work, latest, pending, befores, around, awaits_mem, port_free, still, asked_at, word_of}
 use Rattle.pdl_derived.specs.Derived
 use Rattle.pdl_facts.specs.Scans.{all_at, none_of}
 use Rattle.pdl_simulation.proofs.FlowFacts.{Flows, fetches_from, at_most_one, next_of}
@@ -18,9 +18,9 @@ use Rattle.pdl_derived.proofs.Entries.{entries_of}
 use Rattle.pdl_derived.proofs.Deeds.{Told, Fits, AllFit, told_all}
 use Rattle.pdl_derived.proofs.Lists.{pend}
 use Rattle.pdl_turns.proofs.Own.{Worked}
-use Rattle.pdl_simulation.proofs.Shapes.{none_stage}
 use Rattle.pdl_simulation.proofs.Stretches.{Keeps, Fetched, AllFetched, AsksFrom, asks_from, start_deeds, start_of, keeps_answered, stage_worked, ends_empty, late_empty}
 use Rattle.pdl_simulation.proofs.Seats.{Live, seat, Each, Falls, dacts, lacts, lact, did, now_of, work_of_live, deeds_of}
+use Rattle.pdl_turns.proofs.OfStage.{none_stage}
 
 -- REQUESTS
 

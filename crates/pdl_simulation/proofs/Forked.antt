@@ -1,7 +1,7 @@
 -- After a cycle a fork's list holds the branches of just the threads inside it, oldest first.
 use Rattle.std.proofs.Common.{◌≡◌, refl, sym, ap, ap₂, ◌∙◌, subst, ℕ, ◌≤◌, ◌<◌, ◌⊎◌, inl, inr, Bool, true, false, ◌&&◌, ◌||◌, not, List, [], ◌∷◌, ◌++◌, Option, Some, None, is_some, ◌==◌, cond, if◌then◌else◌, arith, append-nil, append_assoc, eq-eqb, le_refl}
 use Rattle.std.proofs.lemmas.Bool.{eqb-true, eqb-false, ne_eqb}
-use Rattle.pdl_semantics.specs.Flat.{Pipe, Branch, Op, Verify, Stmt, list_all, taken}
+use Rattle.pdl_semantics.specs.Flat.{Pipe, Branch, Op, Verify, Stmt, list_all}
 use Rattle.pdl_semantics.specs.Stages.{in_stage, stage_at, goes_to, is_branch_of, is_inside, merges_fork, verify_stage, is_verify}
 use Rattle.pdl_semantics.specs.Machine.{State}
 use Rattle.pdl_semantics.specs.Moves.{movers, next_stage, is_nobody}
@@ -9,14 +9,12 @@ use Rattle.pdl_semantics.specs.Cycle.{entered, goes_into, goes_out, left, but_fi
 use Rattle.pdl_semantics.specs.Sound.{side_in}
 use Rattle.pdl_semantics.specs.Cycle
 use Rattle.pdl_semantics.specs.Moves
-use Rattle.pdl_derived.specs.Derived.{Work, Around, works, does, do_all, around}
+use Rattle.pdl_derived.specs.Derived.{Work, around}
 use Rattle.pdl_derived.specs.Derived
 use Rattle.pdl_facts.specs.Scans.{none_of}
 use Rattle.pdl_simulation.proofs.FlowFacts.{Flows, Leads, trunk_only}
 use Rattle.pdl_derived.proofs.Writes.{and_left, and_right}
-use Rattle.pdl_derived.proofs.Stages.{step}
 use Rattle.pdl_turns.proofs.Turn.{none_in_stage}
-use Rattle.pdl_simulation.proofs.Shapes.{none_stage}
 use Rattle.pdl_simulation.proofs.Stretches.{Behind, start_of}
 use Rattle.pdl_simulation.proofs.Seats.{Live, Each, each_map, Ordered, dacts, lacts, lact, did, now_of, deeds_of, work_of_live}
 use Rattle.pdl_simulation.proofs.Choices.{Known, AllKnown, told_here}
@@ -25,19 +23,8 @@ use Rattle.pdl_simulation.proofs.Orders.{sides_none, sides_nobody}
 use Rattle.pdl_simulation.proofs.Turned.{fell, moved_live, stood, next_live, go_on}
 use Rattle.pdl_simulation.proofs.Onward.{stuck_here, born_live}
 use Rattle.pdl_simulation.proofs.Placed.{behind_stay, leads_of, enters_here, each_next, each_append}
-
--- without a verify nothing fails
-fails_op : (o : Around) (op : Op) (w : Work) → not (is_verify op) ≡ true → (does o op w).fails ≡ w.fails
-fails_op o (Verify args) w h = absurd (cc h)
-fails_op o _ w h = refl
-
-fails_none : (o : Around) (xs : List Stmt) (w : Work) → none_of is_verify xs ≡ true → (do_all o xs w).fails ≡ w.fails
-fails_none o [] w h = refl
-fails_none o (x ∷ xs) w h = fails_none o xs (step o x w) (and_right _ _ h) ∙ by (taken x.guards w.env)
-  where
-    by : (b : Bool) → (cond b (does o x.op w) w).fails ≡ w.fails
-    by true = fails_op o x.op w (and_left _ _ h)
-    by false = refl
+use Rattle.pdl_turns.proofs.Guesses.{unfailed}
+use Rattle.pdl_turns.proofs.OfStage.{none_stage}
 
 no_verifies : (xs : List Stmt) → verify_stage xs ≡ None → none_of is_verify xs ≡ true
 no_verifies [] h = refl
@@ -333,7 +320,7 @@ module _ (p : Pipe) (flows : Flows p) (st : State) (d : Derived.State) (bits : L
     fails_at ls l g = mine (verify_stage p.stmts) refl
       where
         quiet : none_of is_verify (in_stage l.thread.stage p.stmts) ≡ true → (work_of_live p d bits ls l).fails ≡ false
-        quiet n = fails_none (around p d bits (dacts p d bits ls) l.thread.stage) (in_stage l.thread.stage p.stmts) (start_of (now_of p d bits l)) n
+        quiet n = unfailed (around p d bits (dacts p d bits ls) l.thread.stage) (in_stage l.thread.stage p.stmts) (start_of (now_of p d bits l)) n
 
         trunk : (b : Option Branch) → (stage_at p l.thread.stage).branch ≡ b → (stage_at p l.thread.stage).branch ≡ None
         trunk None e = e

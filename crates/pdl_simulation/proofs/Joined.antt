@@ -5,7 +5,7 @@ use Rattle.pdl_semantics.specs.Flat.{list_all, Pipe, Branch, Op, DelayedRead, St
 use Rattle.pdl_semantics.specs.Stages.{onpath, in_stage, stage_at, goes_to, is_inside, is_branch_of, commit_stage, verify_stage}
 use Rattle.pdl_semantics.specs.Sound.{stages_before, stages_from}
 use Rattle.pdl_derived.specs.Alone.{before, looked, is_call}
-use Rattle.pdl_facts.specs.Scans.{from, Phase, Fresh, next_phase, phase_all, is_over, none_of, all_at, binds, fixed, is_fetch, is_dead}
+use Rattle.pdl_facts.specs.Scans.{from, Phase, Fresh, next_phase, phase_all, is_over, none_of, binds, is_fetch, is_dead}
 use Rattle.pdl_facts.specs.Certain.{Unmade}
 use Rattle.pdl_facts.specs.Graphs.{Trunk, In, stage_or, next_of, goes_by}
 use Rattle.pdl_facts.specs.Facts.{fetches, none_like, alone_op, fetch_apart, Found, FetchIf, AllFetches, looked_all, at_once, comes_by, visits, defined_by, late_for, Sound}
@@ -17,6 +17,8 @@ use Rattle.pdl_turns.proofs.Roams.{fixed_looked}
 use Rattle.pdl_turns.proofs.CourseOf.{all_at_looked}
 use Rattle.pdl_simulation.proofs.Flowing.{uses_of, calls_of}
 use Rattle.pdl_simulation.proofs.Ruled.{all_map, before_path, from_path, flows_of_rules}
+use Rattle.pdl_word.proofs.Bools.{by_bool, by_or}
+use Rattle.pdl_word.proofs.Lists.{tail_same}
 
 -- LISTS
 
@@ -24,23 +26,8 @@ all_of : (test : Stmt → Bool) (xs : List Stmt) → list_all test xs ≡ true �
 all_of test [] h = tt
 all_of test (x ∷ xs) h = (and_left (test x) _ h, all_of test xs (and_right (test x) _ h))
 
-by_or : (b c : Bool) (R : Type 0) → (b || c) ≡ true → (b ≡ true → R) → (c ≡ true → R) → R
-by_or true c R h f g = f refl
-by_or false c R h f g = g h
-
-by_bool : (b : Bool) (R : Type 0) → (b ≡ true → R) → (b ≡ false → R) → R
-by_bool true R f g = f refl
-by_bool false R f g = g refl
-
 clash : false ≡ true → ⊥
 clash k = cc
-
-cons_tail : {A : Type 0} {x y : A} {xs ys : List A} → x ∷ xs ≡ y ∷ ys → xs ≡ ys
-cons_tail {A} {x} {y} {xs} {ys} e = ap rest e
-  where
-    rest : List A → List A
-    rest [] = []
-    rest (z ∷ zs) = zs
 
 cons_head : {x y : Stmt} {xs ys : List Stmt} → x ∷ xs ≡ y ∷ ys → x.stage ≡ y.stage
 cons_head {x} {y} {xs} {ys} e = ap first e
@@ -68,7 +55,7 @@ order_looked s (x ∷ xs) h = at (nat_lt x.stage s) refl (nat_le s x.stage) refl
     two : (l : List Stmt) → before s (looked_all xs) ≡ l → looked_all (x ∷ xs) ≡ l ++ (record x { op = looked x.op } ∷ from s (looked_all xs)) → s ≤ x.stage
         → (looked_all xs ≡ before s (looked_all xs) ++ from s (looked_all xs) → xs ≡ stages_before s xs ++ stages_from s xs) → x ∷ xs ≡ stages_before s xs ++ (x ∷ stages_from s xs)
     two [] e k low f =
-        let r = f (cons_tail k ∙ ap (λ l. l ++ from s (looked_all xs)) (sym e)) in
+        let r = f (tail_same k ∙ ap (λ l. l ++ from s (looked_all xs)) (sym e)) in
         let none : stages_before s xs ≡ [] = no_early xs e in
         ap (λ l. x ∷ l) (r ∙ ap (λ l. l ++ stages_from s xs) none) ∙ ap (λ l. l ++ (x ∷ stages_from s xs)) (sym none)
       where
@@ -86,7 +73,7 @@ order_looked s (x ∷ xs) h = at (nat_lt x.stage s) refl (nat_le s x.stage) refl
         → (looked_all xs ≡ before s (looked_all xs) ++ from s (looked_all xs) → xs ≡ stages_before s xs ++ stages_from s xs)
         → x ∷ xs ≡ cond b (x ∷ stages_before s xs) (stages_before s xs) ++ cond c (x ∷ stages_from s xs) (stages_from s xs)
     at true d true e k f = absurd (let i = ltb-true _ _ d in let j = leb-true _ _ e in omega arith)
-    at true d false e k f = ap (λ l. x ∷ l) (f (cons_tail k))
+    at true d false e k f = ap (λ l. x ∷ l) (f (tail_same k))
     at false d true e k f = two (before s (looked_all xs)) refl k (leb-true _ _ e) f
     at false d false e k f = absurd (let i = ltb-false _ _ d in let j = leb-false _ _ e in omega arith)
 
@@ -109,7 +96,7 @@ apart_stages path s q (x ∷ xs) low h = at (taken x.guards path) refl h (apart_
     here : (b : Bool) → nat_lt x.stage q ≡ b → (c : Bool) → nat_lt x.stage (suc s) ≡ c
         → cond b (record x { guards = []; op = looked x.op } ∷ before q (onpath path xs)) (before q (onpath path xs)) ≡ cond c (record x { guards = []; op = looked x.op } ∷ before (suc s) (onpath path xs)) (before (suc s) (onpath path xs))
         → ((x.stage ≤ s) ⊎ (q ≤ x.stage)) × (before q (onpath path xs) ≡ before (suc s) (onpath path xs))
-    here true d true e k = (inl (let i : x.stage < suc s = ltb-true _ _ e in omega arith), cons_tail k)
+    here true d true e k = (inl (let i : x.stage < suc s = ltb-true _ _ e in omega arith), tail_same k)
     here true d false e k =
         absurd (let i : suc (length (before q (onpath path xs))) ≡ length (before (suc s) (onpath path xs)) = ap length k in let j = fewer (suc s) q (onpath path xs) low in omega arith)
     here false d true e k = absurd (let i = ltb-false _ _ d in let j : x.stage < suc s = ltb-true _ _ e in omega arith)
@@ -160,7 +147,7 @@ fork_each x s (y ∷ ys) h k = at (nat_le (suc s) y.stage) refl (y.stage == s) r
 
 -- LOCKS AND CALLS OF A PATH
 
-phase_looked : (m : ℕ) (ph : Phase) (op : Op) → next_phase m ph (looked op) ≡ next_phase m ph op
+pub phase_looked : (m : ℕ) (ph : Phase) (op : Op) → next_phase m ph (looked op) ≡ next_phase m ph op
 phase_looked m ph (DelayedRead x n a) = refl
 phase_looked m ph _ = refl
 
@@ -172,7 +159,7 @@ uses_looked : (m : ℕ) (ph : Phase) (xs : List Stmt) → uses_ok m ph (looked_a
 uses_looked m ph [] = refl
 uses_looked m ph (x ∷ xs) = ap₂ (λ b q. b && uses_ok m q (looked_all xs)) (use_looked m ph x.op) (phase_looked m ph x.op) ∙ ap (λ b. use_ok m ph x.op && b) (uses_looked m (next_phase m ph x.op) xs)
 
-phases_looked : (m : ℕ) (ph : Phase) (xs : List Stmt) → phase_all m ph (looked_all xs) ≡ phase_all m ph xs
+pub phases_looked : (m : ℕ) (ph : Phase) (xs : List Stmt) → phase_all m ph (looked_all xs) ≡ phase_all m ph xs
 phases_looked m ph [] = refl
 phases_looked m ph (x ∷ xs) = ap (λ q. phase_all m q (looked_all xs)) (phase_looked m ph x.op) ∙ phases_looked m (next_phase m ph x.op) xs
 

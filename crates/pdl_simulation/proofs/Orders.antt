@@ -1,6 +1,6 @@
 -- Of threads in two stages: the fork lists, who is older, and what the later stages tell.
 use Rattle.std.proofs.Common.{◌≡◌, refl, sym, ap, ap₂, ◌∙◌, subst, ℕ, suc, ◌≤◌, ◌<◌, ◌⊎◌, inl, inr, Bool, true, false, ◌&&◌, ◌||◌, not, List, [], ◌∷◌, ◌++◌, length, Option, Some, None, ◌==◌, nat_lt, nat_le, cond, if◌then◌else◌, arith, append-nil, append_assoc, leb-true, leb-false, le_refl, eq-eqb}
-use Rattle.std.proofs.lemmas.Bool.{eqb-true, eqb-false, ne_eqb}
+use Rattle.std.proofs.lemmas.Bool.{eqb-true, eqb-false, ne_eqb, le-ltb}
 use Rattle.pdl_semantics.specs.Flat.{Pipe, Branch, list_all}
 use Rattle.pdl_semantics.specs.Stages.{list_any, in_stage, stage_at, verify_stage, reserve_stage, is_inside, is_branch_of}
 use Rattle.pdl_semantics.specs.Locks.{Nothing}
@@ -18,7 +18,7 @@ use Rattle.pdl_turns.proofs.Own.{pend_own}
 use Rattle.pdl_simulation.proofs.Stretches.{Behind, not_behind, early}
 use Rattle.pdl_simulation.proofs.Seats.{Live, seat, Each, each_map, Ordered, Rises, Falls, sacts, dacts, lacts, lact, did, deeds_of, befores_are, pends, youngest_all, length_pends}
 use Rattle.pdl_simulation.proofs.Choices.{has_owner, Matched, Seated, fetched_of, one_stage, waits_are, env_is, port_is, Known, AllKnown, Tells, told_here, act_is}
-use Rattle.pdl_simulation.proofs.Telling.{someone, someone_more, behind_someone, not_lt, sides, sides_append, Pair, pairs, sorted, lives_of, EachPair, pair_map, pair_both, sorted_each, each_sorted, pairs_each, rises_sorted, fails_none, all_pairs, later_older}
+use Rattle.pdl_simulation.proofs.Telling.{someone, someone_more, behind_someone, sides, sides_append, Pair, pairs, sorted, lives_of, EachPair, pair_map, pair_both, sorted_each, each_sorted, pairs_each, rises_sorted, fails_none, all_pairs, later_older}
 
 -- THE OLDER PART
 
@@ -150,11 +150,11 @@ module _ (p : Pipe) (flows : Flows p) (st : State) (d : Derived.State) (bits : L
         seated = s.0;
         waits = waits_are p flows st d bits arrays l.number l.thread.awaits s.0.owned;
         values = env_is p flows st d bits arrays all matched l s.0;
-        older = λ m a. seen m a l.number f.0 (not_lt l.number l.number (le_refl l.number)) ∙ youngest_all m l.number a ls f.1 ∙ ap (λ ts. latest ts m a) (sym (befores_are p d bits ls));
+        older = λ m a. seen m a l.number f.0 (le-ltb l.number l.number (le_refl l.number)) ∙ youngest_all m l.number a ls f.1 ∙ ap (λ ts. latest ts m a) (sym (befores_are p d bits ls));
         room = λ m e. ap (λ ts. pending ts m) (befores_are p d bits ls) ∙ sym (ap length (whole m (mine m e) (omega arith)) ∙ length_pends m ls);
       },
       known_all l.number ls s.1 o.1 f.1
-          (λ m a k i. seen m a k (let j = f.0 in omega arith) (not_lt l.number k (let j = f.0 in omega arith)))
+          (λ m a k i. seen m a k (let j = f.0 in omega arith) (le-ltb l.number k (let j = f.0 in omega arith)))
           (λ m i. whole m (someone_more (reserve_stage p m) l ls i) (low m (behind_someone p l.thread.stage (reserve_stage p m) ls o.0 i))),
     )
       where

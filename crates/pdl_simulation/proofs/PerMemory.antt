@@ -28,11 +28,11 @@ wrote_shown : (words : Array) (m : ℕ) (o : Option Pending) (arrays : Arrays) �
 wrote_shown words m None arrays h = sym h
 wrote_shown words m (Some e) arrays h = ap (λ b. cond b (with_value (arrays m) e.address (commit_value e.value)) (arrays m)) (eq-eqb m m refl) ∙ ap (λ w. with_value w e.address (commit_value e.value)) (sym h)
 
-other_commit : (m n : ℕ) (o : Option Pending) (arrays : Arrays) → (n == m) ≡ false → with_commit arrays m o n ≡ arrays n
+pub other_commit : (m n : ℕ) (o : Option Pending) (arrays : Arrays) → (n == m) ≡ false → with_commit arrays m o n ≡ arrays n
 other_commit m n None arrays h = refl
 other_commit m n (Some e) arrays h = ap (λ b. cond b (with_value (arrays m) e.address (commit_value e.value)) (arrays n)) h
 
-before_commits : (st : State) (ms : List Act) (k n : ℕ) (xs : List Mem) (arrays : Arrays) → n < k → with_commits st ms k xs arrays n ≡ arrays n
+pub before_commits : (st : State) (ms : List Act) (k n : ℕ) (xs : List Mem) (arrays : Arrays) → n < k → with_commits st ms k xs arrays n ≡ arrays n
 before_commits st ms k n [] arrays h = refl
 before_commits st ms k n (x ∷ xs) arrays h = before_commits st ms (suc k) n xs (with_commit arrays k (taken_out st ms k)) (omega arith) ∙ other_commit k n (taken_out st ms k) arrays (ne_eqb n k (λ e. absurd (omega arith)))
 

@@ -6,8 +6,7 @@ use Rattle.pdl_semantics.specs.Stages.{onpath, in_stage, stage_at, goes_to}
 use Rattle.pdl_semantics.specs.Sound.{stages_before, stages_from}
 use Rattle.pdl_facts.specs.Scans.{none_of, binds, is_fetch}
 use Rattle.pdl_simulation.proofs.FlowFacts.{Flows, FlowRules, AllOf, DefinedBy, SameBut, binds_guard, visits, comes_by, on_side, next_of, stage_or, sets, fetches}
-use Rattle.pdl_turns.proofs.Paths.{stage_path}
-use Rattle.pdl_simulation.proofs.Shapes.{none_path}
+use Rattle.pdl_turns.proofs.Paths.{stage_path, none_onpath}
 
 -- LISTS
 
@@ -172,7 +171,7 @@ module _ (p : Pipe) (rules : FlowRules p) where
   )
     where
       keeps : (g : ℕ) → AllOf (λ y. binds g y.op ≡ true → y.stage ≡ s → ⊥) p.stmts → slice_index env g ≡ slice_index env' g
-      keeps g k = h g (none_path (sets g) env' (in_stage s p.stmts) (none_in (sets g) s p.stmts (all_map (λ y f. λ e. f (set_binds g y.op e)) p.stmts k)))
+      keeps g k = h g (none_onpath (sets g) env' (in_stage s p.stmts) (none_in (sets g) s p.stmts (all_map (λ y f. λ e. f (set_binds g y.op e)) p.stmts k)))
 
       agree : (z : Stmt) → z.stage < s → AllOf (λ y. binds_guard y.op z.guards ≡ true → DefinedBy y.stage y.op z.stage) p.stmts → taken z.guards env ≡ taken z.guards env'
       agree z low k = taken_agree env env' z.guards (λ g i. keeps g (all_map (λ y f. λ e j. let d = (f (i y.op e)).0 in absurd (omega arith)) p.stmts k))
@@ -196,7 +195,7 @@ module _ (p : Pipe) (rules : FlowRules p) where
   )
     where
       keeps : (g : ℕ) → AllOf (λ y. binds g y.op ≡ true → is_fetch y.op ≡ true → y.stage ≡ s → ⊥) p.stmts → slice_index env g ≡ slice_index env' g
-      keeps g k = h g (none_path (fetches g) env' (in_stage s p.stmts) (none_in (fetches g) s p.stmts (all_map (λ y f. λ e. f (fetch_binds g y.op e).0 (fetch_binds g y.op e).1) p.stmts k)))
+      keeps g k = h g (none_onpath (fetches g) env' (in_stage s p.stmts) (none_in (fetches g) s p.stmts (all_map (λ y f. λ e. f (fetch_binds g y.op e).0 (fetch_binds g y.op e).1) p.stmts k)))
 
       agree : (z : Stmt) (path : List ℕ) → next_of p s path ≡ next_of p s env' → z.stage < next_of p s env' → AllOf (λ y. binds_guard y.op z.guards ≡ true → DefinedBy y.stage y.op z.stage) p.stmts → (z.stage ≤ s) ⊎ (next_of p s path ≤ z.stage) → taken z.guards env ≡ taken z.guards env'
       agree z path same i k w = taken_agree env env' z.guards (λ g j. keeps g (all_map (λ y f. λ e u v. absurd (apart y ((f (j y.op e)).1 u) v w)) p.stmts k))

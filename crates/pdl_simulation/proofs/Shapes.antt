@@ -1,24 +1,23 @@
 -- What a live thread keeps on its own way through the stages, whatever stands around it: the locations that it holds, its pending writes, the reads that it awaits.
-use Rattle.std.proofs.Common.{◌≡◌, refl, sym, ap, ap₂, ◌∙◌, subst, ℕ, ◌≤◌, ◌<◌, inl, Bool, true, false, ◌&&◌, ◌||◌, not, List, [], ◌∷◌, ◌++◌, Option, Some, None, ◌==◌, nat_lt, nat_le, cond, if◌then◌else◌, arith, slice_index, append-nil, ltb-true, leb-true}
+use Rattle.std.proofs.Common.{◌≡◌, refl, sym, ap, ap₂, ◌∙◌, subst, ℕ, ◌≤◌, ◌<◌, inl, Bool, true, false, ◌&&◌, ◌||◌, not, List, [], ◌∷◌, ◌++◌, Some, None, ◌==◌, nat_lt, nat_le, cond, if◌then◌else◌, arith, slice_index, append-nil, ltb-true, leb-true}
 use Rattle.std.proofs.lemmas.Bool.{eqb-true}
-use Rattle.std.proofs.lemmas.Bool.Decides.{eqb_tells}
-use Rattle.pdl_semantics.specs.Flat.{Commit, Op, Write, ReserveWrite, Release, Verify, Stmt, Guard, values_of, taken}
-use Rattle.pdl_semantics.specs.Stages.{onpath, in_stage, is_reserve, is_release}
+use Rattle.pdl_semantics.specs.Flat.{Commit, Op, Write, ReserveWrite, Release, Verify, Stmt, values_of, taken}
+use Rattle.pdl_semantics.specs.Stages.{onpath, is_reserve, is_release}
 use Rattle.pdl_semantics.specs.Machine.{same_args, Pending, Place, held_after, held_before}
 use Rattle.pdl_semantics.specs.Sound.{stages_before, stages_from}
 use Rattle.pdl_semantics.specs.Machine
 use Rattle.pdl_derived.specs.Derived.{Entry, Work, Around, does, do_all}
 use Rattle.pdl_derived.specs.Alone.{is_call}
-use Rattle.pdl_facts.specs.Scans.{Phase, Fresh, Held, Written, Done, after_release, next_phase, phase_all, is_over, none_of, all_at, binds, fixed, free_of, is_dead, keeps_guards, called}
+use Rattle.pdl_facts.specs.Scans.{Phase, Fresh, Held, Written, Done, after_release, next_phase, phase_all, is_over, none_of, all_at, fixed, called}
 use Rattle.pdl_simulation.proofs.FlowFacts.{use_ok, uses_ok, calls_ok}
 use Rattle.pdl_derived.proofs.Writes.{and_left, and_right}
 use Rattle.pdl_derived.proofs.Entries.{entries_of, entry}
 use Rattle.pdl_derived.proofs.Stages.{step}
 use Rattle.pdl_turns.proofs.Paths.{Fixed, all_stays, taken_stays}
 use Rattle.pdl_derived.proofs.Deeds.{places, places_without, places_filled}
-use Rattle.pdl_derived.proofs.Lists.{own, pend}
+use Rattle.pdl_derived.proofs.Lists.{pend}
 use Rattle.pdl_turns.proofs.Steps.{Staged}
-use Rattle.pdl_turns.proofs.Own.{pend_own}
+use Rattle.pdl_turns.proofs.Own.{pend_own, pend_one}
 
 -- SHAPES
 
@@ -35,12 +34,6 @@ shape_over m (Held x) es h s = absurd (cc h)
 shape_over m (Written x) es h s = absurd (cc h)
 shape_over m Done es h s = s
 
-pend_one : (m n x a : ℕ) (v : Option ℕ) → pend m n (entry m x a v ∷ []) ≡ own n (entry m x a v) ∷ []
-pend_one m n x a v = ap (λ b. cond b (own n (entry m x a v) ∷ []) []) same
-  where
-    same : (m == m) ≡ true
-    same = grind (arith, eqb_tells)
-
 -- at the start of a stage
 pub shape_start : (m n : ℕ) (ph : Phase) (es : List Entry) → Shape m ph (entries_of m es) → Staged m n ph (entries_of m es) [] (pend m n es ++ []) [] false
 shape_start m n Fresh es t = (t, refl, append-nil _ ∙ pend_own m n es ∙ ap (pend m n) t, (λ l. refl), refl)
@@ -56,10 +49,6 @@ shape_end m n (Written x) es cs new ws rel g = (g.0, g.1, g.2)
 shape_end m n Done es cs new ws rel g = g.0
 
 -- LISTS OF STATEMENTS
-
-pub phase_append : (m : ℕ) (xs ys : List Stmt) (ph : Phase) → phase_all m ph (xs ++ ys) ≡ phase_all m (phase_all m ph xs) ys
-phase_append m [] ys ph = refl
-phase_append m (x ∷ xs) ys ph = phase_append m xs ys (next_phase m ph x.op)
 
 pub uses_front : (m : ℕ) (xs ys : List Stmt) (ph : Phase) → uses_ok m ph (xs ++ ys) ≡ true → uses_ok m ph xs ≡ true
 uses_front m [] ys ph h = refl
@@ -80,23 +69,6 @@ calls_front c (x ∷ xs) ys h = ap₂ (λ a b. a && b) (and_left _ _ h) (calls_f
 pub calls_back : (c : Bool) (xs ys : List Stmt) → calls_ok c (xs ++ ys) ≡ true → calls_ok (called c xs) ys ≡ true
 calls_back c [] ys h = h
 calls_back c (x ∷ xs) ys h = calls_back (c || is_call x.op) xs ys (and_right _ _ h)
-
--- what no statement of a text is, no statement of a part of it is
-pub none_stage : (test : Op → Bool) (s : ℕ) (xs : List Stmt) → none_of test xs ≡ true → none_of test (in_stage s xs) ≡ true
-none_stage test s [] h = refl
-none_stage test s (x ∷ xs) h = at (x.stage == s) (none_stage test s xs (and_right _ _ h))
-  where
-    at : (b : Bool) → none_of test (in_stage s xs) ≡ true → none_of test (cond b (x ∷ in_stage s xs) (in_stage s xs)) ≡ true
-    at true k = ap₂ (λ a b. a && b) (and_left _ _ h) k
-    at false k = k
-
-pub none_path : (test : Op → Bool) (path : List ℕ) (xs : List Stmt) → none_of test xs ≡ true → none_of test (onpath path xs) ≡ true
-none_path test path [] h = refl
-none_path test path (x ∷ xs) h = at (taken x.guards path) (none_path test path xs (and_right _ _ h))
-  where
-    at : (b : Bool) → none_of test (onpath path xs) ≡ true → none_of test (cond b (record x { guards = [] } ∷ onpath path xs) (onpath path xs)) ≡ true
-    at true k = ap₂ (λ a b. a && b) (and_left (not (test x.op)) _ h) k
-    at false k = k
 
 pub none_before : (test : Op → Bool) (s : ℕ) (xs : List Stmt) → none_of test xs ≡ true → none_of test (stages_before s xs) ≡ true
 none_before test s [] h = refl
@@ -132,25 +104,6 @@ none_past test c s (x ∷ xs) h k = at (nat_le s x.stage) refl (test x.op) refl 
         late u v = omega arith
     at true e false f r q = ap (λ t. not t && none_of test (stages_from s xs)) f ∙ r
     at false e t f r q = r
-
-free_stage : (s : ℕ) (gs : List Guard) (xs : List Stmt) → free_of gs xs ≡ true → free_of gs (in_stage s xs) ≡ true
-free_stage s [] xs h = refl
-free_stage s (g ∷ gs) xs h = ap₂ (λ a b. a && b) (none_stage (binds g.var) s xs (and_left _ _ h)) (free_stage s gs xs (and_right _ _ h))
-
-keeps_stage : (s : ℕ) (gs : List Guard) (xs : List Stmt) → keeps_guards gs xs ≡ true → keeps_guards gs (in_stage s xs) ≡ true
-keeps_stage s gs xs h = at (is_dead gs) h
-  where
-    at : (b : Bool) → (b || free_of gs xs) ≡ true → (b || free_of gs (in_stage s xs)) ≡ true
-    at true k = refl
-    at false k = free_stage s gs xs k
-
-pub fixed_stage : (s : ℕ) (xs : List Stmt) → fixed xs ≡ true → fixed (in_stage s xs) ≡ true
-fixed_stage s [] h = refl
-fixed_stage s (x ∷ xs) h = at (x.stage == s) refl (fixed_stage s xs (and_right _ _ h))
-  where
-    at : (b : Bool) → (x.stage == s) ≡ b → fixed (in_stage s xs) ≡ true → fixed (cond b (x ∷ in_stage s xs) (in_stage s xs)) ≡ true
-    at true e k = ap₂ (λ a b. a && b) (subst (λ b. keeps_guards x.guards (cond b (x ∷ in_stage s xs) (in_stage s xs)) ≡ true) e (keeps_stage s x.guards (x ∷ xs) (and_left _ _ h))) k
-    at false e k = k
 
 -- statements are carried out as the values at their end tell
 pub fixed_to : (path : List ℕ) (o : Around) (xs : List Stmt) (w : Work) → fixed xs ≡ true → (do_all o xs w).env ≡ path → Fixed path o xs w

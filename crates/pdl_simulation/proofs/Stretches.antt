@@ -16,12 +16,14 @@ use Rattle.pdl_simulation.proofs.FlowFacts.{Flows, SameBut, sets, fetches_from, 
 use Rattle.pdl_derived.proofs.Writes.{and_left, and_right}
 use Rattle.pdl_derived.proofs.Entries.{entries_of}
 use Rattle.pdl_derived.proofs.Stages.{step}
-use Rattle.pdl_turns.proofs.Paths.{Fixed}
+use Rattle.pdl_turns.proofs.Paths.{Fixed, none_onpath}
 use Rattle.pdl_derived.proofs.Deeds.{places, places_has, work_of, AllFit, told_step}
 use Rattle.pdl_derived.proofs.Lists.{pend}
 use Rattle.pdl_turns.proofs.Steps.{Here, step_write, step_reserve, step_release}
 use Rattle.pdl_turns.proofs.Own.{Worked, worked}
-use Rattle.pdl_simulation.proofs.Shapes.{Shape, shape_over, shape_start, shape_end, phase_append, uses_front, uses_back, called_append, calls_front, calls_back, none_path, none_before, none_till, none_past, fixed_stage, fixed_to, stays_fresh, over_early, held_ops, held_append, held_path, held_work}
+use Rattle.pdl_simulation.proofs.Shapes.{Shape, shape_over, shape_start, shape_end, uses_front, uses_back, called_append, calls_front, calls_back, none_before, none_till, none_past, fixed_to, stays_fresh, over_early, held_ops, held_append, held_path, held_work}
+use Rattle.pdl_turns.proofs.Pending.{phase_append}
+use Rattle.pdl_turns.proofs.OfStage.{fixed_stage}
 
 -- WHAT A STAGE DOES
 
@@ -382,7 +384,7 @@ module _ (p : Pipe) (flows : Flows p) (env : List ℕ) (t : Derived.Thread) (k :
 
   over_at : (path : List ℕ) (s m : ℕ) → commit_stage p m < s → is_over (phase_all m Fresh (on_way p path s)) ≡ true
   over_at path s m h =
-      over_early m (onpath path (stages_from s p.stmts)) _ (none_path (is_release m) path (stages_from s p.stmts) (none_past (is_release m) (commit_stage p m) s p.stmts (flows.releases m) h))
+      over_early m (onpath path (stages_from s p.stmts)) _ (none_onpath (is_release m) path (stages_from s p.stmts) (none_past (is_release m) (commit_stage p m) s p.stmts (flows.releases m) h))
       (subst (λ q. is_over q ≡ true) (ap (phase_all m Fresh) (flows.all_pieces path s) ∙ phase_append m (on_way p path s) (onpath path (stages_from s p.stmts)) Fresh) (flows.over path m))
 
   over_end : (path : List ℕ) (s m : ℕ) → s ≡ length p.stages → is_over (phase_all m Fresh (on_way p path s)) ≡ true
@@ -393,10 +395,10 @@ module _ (p : Pipe) (flows : Flows p) (env : List ℕ) (t : Derived.Thread) (k :
 
   -- it has no entry of m before the stage of the reserves and after that of the releases
   pub early : (m : ℕ) → t.stage ≤ reserve_stage p m → entries_of m t.entries ≡ []
-  early m h = no_entry m (none_path (is_reserve m) env (stages_before t.stage p.stmts) (none_till (is_reserve m) (reserve_stage p m) t.stage p.stmts (flows.reserves m) h))
+  early m h = no_entry m (none_onpath (is_reserve m) env (stages_before t.stage p.stmts) (none_till (is_reserve m) (reserve_stage p m) t.stage p.stmts (flows.reserves m) h))
 
   pub unknown : (m : ℕ) → length p.mems ≤ m → entries_of m t.entries ≡ []
-  unknown m h = no_entry m (none_path (is_reserve m) env (stages_before t.stage p.stmts) (none_before (is_reserve m) t.stage p.stmts (flows.unreserved m h)))
+  unknown m h = no_entry m (none_onpath (is_reserve m) env (stages_before t.stage p.stmts) (none_before (is_reserve m) t.stage p.stmts (flows.unreserved m h)))
 
   pub late : (m : ℕ) → commit_stage p m < t.stage → entries_of m t.entries ≡ []
   late m h = shape_over m _ _ (over_at env t.stage m h) (k.shape m)

@@ -11,6 +11,7 @@ use Rattle.pdl_simulation.proofs.FlowFacts.{trunk_only}
 use Rattle.pdl_derived.proofs.Writes.{and_left, and_right}
 use Rattle.pdl_simulation.proofs.Stretches.{Behind}
 use Rattle.pdl_simulation.proofs.Seats.{Live, seat, find, Each, each_map, Ordered, Rises}
+use Rattle.pdl_word.proofs.Bools.{same_bools}
 
 -- whether somebody stands in this stage
 abbrev pub someone : ℕ → List Live → Bool
@@ -32,13 +33,6 @@ behind_someone p q s (l ∷ ls) b h = at (l.thread.stage == s) refl h (λ k. beh
     at : (c : Bool) → (l.thread.stage == s) ≡ c → (c || someone s ls) ≡ true → (someone s ls ≡ true → Behind p q s) → Behind p q s
     at true e k f = subst (λ n. Behind p q n) (eqb-true _ _ e) b.0
     at false e k f = f k
-
-pub not_lt : (k n : ℕ) → n ≤ k → nat_lt k n ≡ false
-not_lt k n h = at (nat_lt k n) refl
-  where
-    at : (b : Bool) → nat_lt k n ≡ b → nat_lt k n ≡ false
-    at true e = absurd (let i = ltb-true k n e in omega arith)
-    at false e = e
 
 -- FORKS
 
@@ -192,11 +186,6 @@ pairs_true h (x ∷ xs) e = (and_left _ _ e, pairs_true h xs (and_right _ _ e))
 pub true_pairs : (h : Pair → Bool) (xs : List Pair) → EachPair (λ x. h x ≡ true) xs → all_pairs h xs ≡ true
 true_pairs h [] e = refl
 true_pairs h (x ∷ xs) e = ap₂ (λ a b. a && b) e.0 (true_pairs h xs e.1)
-
-same_bools : (a b : Bool) → (a ≡ true → b ≡ true) → (b ≡ true → a ≡ true) → a ≡ b
-same_bools true b f g = sym (f refl)
-same_bools false true f g = g refl
-same_bools false false f g = refl
 
 -- those behind a thread in age, itself, and the older ones
 view_older : (A : Pair → Type 0) (ys : List Live) (l : Live) (older : List Live) → EachPair A (pairs (ys ++ l ∷ older)) → EachPair A (pairs older)

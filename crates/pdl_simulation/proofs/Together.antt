@@ -24,7 +24,6 @@ use Rattle.pdl_simulation.proofs.PerMemory.{at_mem, past_mems, mems_same, row_co
 use Rattle.pdl_simulation.proofs.Leaving.{Out}
 use Rattle.pdl_derived.proofs.Lists.{pend}
 use Rattle.pdl_turns.proofs.Own.{pend_own}
-use Rattle.pdl_simulation.proofs.Shapes.{none_stage}
 use Rattle.pdl_simulation.proofs.Stretches.{Keeps, AsksFrom, Fetched, AllFetched, unknown, has_made, keeps_fresh}
 use Rattle.pdl_simulation.proofs.Seats.{Live, find, threads_of, Each, each_map, Ordered, Rises, Falls, dacts, lacts, lact, did, work_of_live, acts_slots, acts_back, pends, pends_append}
 use Rattle.pdl_simulation.proofs.Choices.{Matched, OwnedBy, AllOwned, Seated, Known, AllKnown, told_here, asks_here}
@@ -36,6 +35,7 @@ use Rattle.pdl_simulation.proofs.Turned.{fell, next_live, go_on, Agrees, two, th
 use Rattle.pdl_simulation.proofs.Onward.{made, born_live, lives_next, child_is, survive, agrees, squashes, any_rev}
 use Rattle.pdl_simulation.proofs.Placed.{each_append, each_next, ordered_next, falls_next, made_next, ways_next, stage_is}
 use Rattle.pdl_simulation.proofs.Asked.{Asker, owned_by, asking, asked_is, shown_is, finds_is, one_asks, port_was_free, request_now, asked_now, matched_next, first_of}
+use Rattle.pdl_turns.proofs.OfStage.{none_stage}
 
 -- each but the youngest has made its successor
 abbrev pub HaveMade : Pipe → List Live → Type 0

@@ -54,14 +54,14 @@ one_of : (b : Bool) (p q : Piece) → (b ≡ true → IsLong p) → IsLong q →
 one_of true p q h k = h refl
 one_of false p q h k = k
 
-some_same : (k j : TokenKind) → Some k ≡ Some j → k ≡ j
+pub some_same : (k j : TokenKind) → Some k ≡ Some j → k ≡ j
 some_same k j e = cc e
 
-number_no_name : (b : Bool) (n : ℕ) → cond b (kind.Number n) kind.Bad ≡ kind.Name → ⊥
+pub number_no_name : (b : Bool) (n : ℕ) → cond b (kind.Number n) kind.Bad ≡ kind.Name → ⊥
 number_no_name true n e = cc e
 number_no_name false n e = cc e
 
-literal_no_name : (b : Bool) (n : ℕ) (v : Option ℕ) → cond b (kind.Literal n v) kind.Bad ≡ kind.Name → ⊥
+pub literal_no_name : (b : Bool) (n : ℕ) (v : Option ℕ) → cond b (kind.Literal n v) kind.Bad ≡ kind.Name → ⊥
 literal_no_name true n v e = cc e
 literal_no_name false n v e = cc e
 

@@ -36,10 +36,16 @@ pub fn facts()
 
 /// The promises of each text that keeps the rules, with guards, any locks, guesses, delayed reads and forks: each run commits what the sequential run writes, the oldest thread moves, enough threads end, and the machine that the proofs use has the same ports and waits.
 pub fn promises()
-    ensures refines { (text : List ℕ) (p : Pipe) → IsText text p → KeepsRules p → (image : Arrays) (schedule : List (List Bool)) → Refines (flat p) image schedule }
-    ensures oldest_moves { (text : List ℕ) (p : Pipe) → IsText text p → KeepsRules p → (image : Arrays) (schedule : List (List Bool)) (bits : List Bool) → Advances (flat p) image schedule bits }
-    ensures keeps_pace { (text : List ℕ) (p : Pipe) → IsText text p → KeepsRules p → (image : Arrays) (schedule : List (List Bool)) → KeepsPace (flat p) image schedule }
-    ensures simulation { (text : List ℕ) (p : Pipe) → IsText text p → KeepsRules p → (image : Arrays) (schedule : List (List Bool)) → SameTurns (flat p) (turns (flat p) image schedule) (Derived.turns (flat p) image schedule) }
+    ensures refines { (text : List ℕ) (p : Pipe) → IsText text p → KeepsRules p →
+        (image : Arrays) (schedule : List (List Bool)) → Refines (flat p) image schedule }
+    ensures oldest_moves { (text : List ℕ) (p : Pipe) → IsText text p → KeepsRules p →
+        (image : Arrays) (schedule : List (List Bool)) (bits : List Bool) →
+        Advances (flat p) image schedule bits }
+    ensures keeps_pace { (text : List ℕ) (p : Pipe) → IsText text p → KeepsRules p →
+        (image : Arrays) (schedule : List (List Bool)) → KeepsPace (flat p) image schedule }
+    ensures simulation { (text : List ℕ) (p : Pipe) → IsText text p → KeepsRules p →
+        (image : Arrays) (schedule : List (List Bool)) →
+        SameTurns (flat p) (turns (flat p) image schedule) (Derived.turns (flat p) image schedule) }
 {
     trees();
     pdl_soundness::accepted();
@@ -47,7 +53,10 @@ pub fn promises()
 
 /// Every state that a run of such a text comes to passes the whole test of Sound state, with as many turns ended as threads.
 pub fn sound_states()
-    ensures { (text : List ℕ) (p : Pipe) → IsText text p → KeepsRules p → (image : Arrays) (schedule : List (List Bool)) → IsTrue (is_sound (flat p) image (ended_in (turns (flat p) image schedule)) (state_after (flat p) (first (flat p) image) schedule)) }
+    ensures { (text : List ℕ) (p : Pipe) → IsText text p → KeepsRules p →
+        (image : Arrays) (schedule : List (List Bool)) →
+        IsTrue (is_sound (flat p) image (ended_in (turns (flat p) image schedule))
+        (state_after (flat p) (first (flat p) image) schedule)) }
 {
     facts();
     pdl_invariant::sound_state();

@@ -1,12 +1,12 @@
 -- The first statement of a kind: its place in the text and its flat form are one, so the rules that all of a kind stand in one stage hold of the flat statements.
-use Rattle.std.proofs.Common.{◌≡◌, refl, sym, ap, ap₂, ◌∙◌, subst, ℕ, suc, ◌<◌, Bool, true, false, ◌&&◌, ◌||◌, not, List, [], ◌∷◌, ◌++◌, map, length, append_assoc, append-nil, Option, Some, None, arith, if◌then◌else◌, ◌==◌, bytes_eq, eq-eqb, eqb-true}
-use Rattle.std.proofs.lemmas.Bool.{false≢true, and_parts, or_parts, not-false}
+use Rattle.std.proofs.Common.{◌≡◌, refl, sym, ap, ap₂, ◌∙◌, subst, ℕ, suc, ◌<◌, Bool, true, false, ◌&&◌, ◌||◌, not, List, [], ◌∷◌, ◌++◌, map, length, append_assoc, append-nil, Option, Some, None, arith, if◌then◌else◌, ◌==◌, bytes_eq, eqb-true}
+use Rattle.std.proofs.lemmas.Bool.{false≢true, or_parts, not-false}
 use Rattle.std.proofs.lemmas.List.Folds.{list_any-append}
 use Rattle.std.specs.List.{list_any}
 use Rattle.pdl_kit.specs.declared.rule.Rule.TheVariants.{N1}
 use Rattle.pdl_semantics.specs.Tree.{Location, Stmt, If, Stmts, Nil, Cons, Param, Mem, Pipe}
 use Rattle.pdl_semantics.specs.Flat
-use Rattle.pdl_semantics.specs.Flatten.{Var, mem_of, with_guard, past, at_otherwise, under, at_start, flat}
+use Rattle.pdl_semantics.specs.Flatten.{mem_of, with_guard, past, at_otherwise, under, at_start, flat}
 use Rattle.pdl_semantics.specs.Flatten
 use Rattle.pdl_rules.specs.Places.{Place, Parameter, Memory, Statement, Branch, with_inner, statements, places}
 use Rattle.pdl_rules.specs.Parts.{passes, location_of, some_expr_of, some_part}
@@ -17,6 +17,7 @@ use Rattle.pdl_stagefacts.proofs.Sites.{Site, branch, sites_in, sites, sites_of,
 use Rattle.pdl_stagefacts.proofs.Standing.{all_map}
 use Rattle.pdl_stagefacts.proofs.Staged.{Staged}
 use Rattle.pdl_stagefacts.proofs.Fine.{Fine, all_fine, op_of, rows_of, own_is, from_op}
+use Rattle.pdl_word.proofs.Bytes.{bytes_same, bytes_swap}
 
 -- FRONTS
 
@@ -128,7 +129,7 @@ pub any_mems : (test : Place → Bool) → ((m : Mem) → test (Memory m) ≡ fa
 any_mems test f [] = refl
 any_mems test f (m ∷ xs) = ap₂ (λ b c. b || c) (f m) (any_mems test f xs)
 
-none_front : (p : Pipe) (test : Place → Bool) → ((a : Param) → test (Parameter a) ≡ false) → ((m : Mem) → test (Memory m) ≡ false) → list_any test (front_of p) ≡ false
+pub none_front : (p : Pipe) (test : Place → Bool) → ((a : Param) → test (Parameter a) ≡ false) → ((m : Mem) → test (Memory m) ≡ false) → list_any test (front_of p) ≡ false
 none_front p test f g = list_any-append test (map Parameter p.params) (map Memory p.mems) ∙ ap₂ (λ b c. b || c) (any_params test f p.params) (any_mems test g p.mems)
 
 -- a kind of statement that the rules want in one stage stands in that of its first flat statement
@@ -143,34 +144,13 @@ one_stage p rules op_test test f g alike here =
 
 -- MEMORIES BY NAME
 
-pub same_text : (x y : List ℕ) → bytes_eq x y ≡ true → x ≡ y
-same_text [] [] e = refl
-same_text [] (d ∷ ds) e = absurd (false≢true e)
-same_text (c ∷ cs) [] e = absurd (false≢true e)
-same_text (c ∷ cs) (d ∷ ds) e = let parts = and_parts (c == d) (bytes_eq cs ds) e in ap₂ (λ a b. a ∷ b) (eqb-true c d parts.0) (same_text cs ds parts.1)
-
 -- a memory has this name
 abbrev pub is_known : List Mem → List ℕ → Bool
 is_known ms n = list_any (λ (m : Mem). bytes_eq n m.name.name) ms
 
-pub text_sym : (x y : List ℕ) → bytes_eq x y ≡ bytes_eq y x
-text_sym [] [] = refl
-text_sym [] (d ∷ ds) = refl
-text_sym (c ∷ cs) [] = refl
-text_sym (c ∷ cs) (d ∷ ds) = ap₂ (λ a b. a && b) (number_sym c d) (text_sym cs ds)
-  where
-    number_sym : (a b : ℕ) → (a == b) ≡ (b == a)
-    number_sym a b = at (a == b) (b == a) refl refl
-      where
-        at : (u v : Bool) → (a == b) ≡ u → (b == a) ≡ v → u ≡ v
-        at true true e f = refl
-        at false false e f = refl
-        at true false e f = sym (eq-eqb b a (sym (eqb-true a b e))) ∙ f
-        at false true e f = sym e ∙ eq-eqb a b (sym (eqb-true b a f))
-
 pub known_low : (ms : List Mem) (n : List ℕ) → is_known ms n ≡ true → mem_of ms n < length ms
 known_low [] n e = absurd (false≢true e)
-known_low (m ∷ ms) n e = at (bytes_eq m.name.name n) refl (ap (λ b. b || is_known ms n) (text_sym m.name.name n) ∙ e) (known_low ms n)
+known_low (m ∷ ms) n e = at (bytes_eq m.name.name n) refl (ap (λ b. b || is_known ms n) (bytes_swap m.name.name n) ∙ e) (known_low ms n)
   where
     at : (b : Bool) → bytes_eq m.name.name n ≡ b → (bytes_eq m.name.name n || is_known ms n) ≡ true → (is_known ms n ≡ true → mem_of ms n < length ms) → (if b then 0 else suc (mem_of ms n)) < suc (length ms)
     at true f g k = omega arith
@@ -183,10 +163,10 @@ known_one (m ∷ ms) n o e f g =
     at (bytes_eq m.name.name n) (bytes_eq m.name.name o) refl refl g (known_one ms n o)
   where
     behind : (x : List ℕ) → bytes_eq m.name.name x ≡ false → is_known (m ∷ ms) x ≡ true → is_known ms x ≡ true
-    behind x h k = ap (λ b. b || is_known ms x) (sym h ∙ text_sym m.name.name x) ∙ k
+    behind x h k = ap (λ b. b || is_known ms x) (sym h ∙ bytes_swap m.name.name x) ∙ k
 
     at : (b c : Bool) → bytes_eq m.name.name n ≡ b → bytes_eq m.name.name o ≡ c → (if b then 0 else suc (mem_of ms n)) ≡ (if c then 0 else suc (mem_of ms o)) → (is_known ms n ≡ true → is_known ms o ≡ true → mem_of ms n ≡ mem_of ms o → n ≡ o) → n ≡ o
-    at true true h i j k = sym (same_text m.name.name n h) ∙ same_text m.name.name o i
+    at true true h i j k = sym (bytes_same m.name.name n h) ∙ bytes_same m.name.name o i
     at true false h i j k = absurd (let z : 0 ≡ suc (mem_of ms o) = j in omega arith)
     at false true h i j k = absurd (let z : suc (mem_of ms n) ≡ 0 = j in omega arith)
     at false false h i j k = k (behind n h e) (behind o i f) (let z : suc (mem_of ms n) ≡ suc (mem_of ms o) = j in let y : mem_of ms n ≡ mem_of ms o = omega arith in y)

@@ -1,6 +1,6 @@
 -- What a fork asks of its variable, of every source that breaks no rule.
-use Rattle.std.proofs.Common.{◌≡◌, refl, sym, ap, ap₂, ◌∙◌, ℕ, suc, ◌+◌, ◌≤◌, ◌<◌, Bool, true, false, ◌&&◌, ◌||◌, not, List, [], ◌∷◌, ◌++◌, map, filter, length, append_assoc, length-append, None, arith, ◌==◌, bytes_eq, eq-eqb, eqb-true}
-use Rattle.std.proofs.lemmas.Bool.{false≢true, and_from, or_parts, or_left, or_right, not-false}
+use Rattle.std.proofs.Common.{◌≡◌, refl, sym, ap, ap₂, ◌∙◌, ℕ, suc, ◌+◌, ◌≤◌, ◌<◌, Bool, true, false, ◌&&◌, ◌||◌, not, List, [], ◌∷◌, ◌++◌, map, filter, length, append_assoc, length-append, None, arith, ◌==◌, bytes_eq, eqb-true}
+use Rattle.std.proofs.lemmas.Bool.{false≢true, or_parts, or_left, or_right, not-false}
 use Rattle.std.proofs.lemmas.List.Folds.{list_any-append}
 use Rattle.std.specs.List.{list_any}
 use Rattle.pdl_kit.specs.declared.rule.Rule.TheVariants.{N3}
@@ -8,7 +8,7 @@ use Rattle.pdl_semantics.specs.Tree.{R, W, Span, Ident, Expr, Constant, Variable
 use Rattle.pdl_semantics.specs.Flat
 use Rattle.pdl_semantics.specs.Flatten.{var_of, guard_of, past_all, at_start, flat}
 use Rattle.pdl_semantics.specs.Stages.{stage_at, in_stage}
-use Rattle.pdl_rules.specs.Places.{Place, Parameter, Memory, Statement, Branch, Guard, statements, places, choices, paths, on_path, on_some_path}
+use Rattle.pdl_rules.specs.Places.{Place, Parameter, Memory, Statement, statements, places, on_path, on_some_path}
 use Rattle.pdl_rules.specs.Places
 use Rattle.pdl_rules.specs.Parts.{passes}
 use Rattle.pdl_rules.specs.Limits.{is_separator}
@@ -20,18 +20,14 @@ use Rattle.pdl_stagefacts.proofs.Sites.{Site, sites_of, front_of, place_of, All,
 use Rattle.pdl_stagefacts.proofs.Walks.{cut, cut_append, names, names_at, names_by, names_append, told_past_all, at_front}
 use Rattle.pdl_stagefacts.proofs.Formed.{body_forked, body_groups}
 use Rattle.pdl_stagefacts.proofs.Standing.{all_both}
-use Rattle.pdl_stagefacts.proofs.Firsts.{same_text}
 use Rattle.pdl_stagefacts.proofs.Fine.{Fine, all_fine, AtSite, Each, each_stmt, each_in_stage, none_each, op_of, from_op}
 use Rattle.pdl_stagefacts.proofs.Forking.{ForkSite, pick, fork_sites, fork_var, Order, Before, Same, Behind, order}
 use Rattle.pdl_stagefacts.proofs.ForkVars
+use Rattle.pdl_word.proofs.Bytes.{bytes_same, bytes_refl}
 
 -- a fine site, in a stage that has begun, behind the parameters and memories
 abbrev Deep : Pipe → Site → Type 0
 Deep p t = Fine p t × (t.walk.stage ≤ t.walk.begun) × ((m : List Place) × (t.front ≡ front_of p ++ m))
-
-same_bytes : (x : List ℕ) → bytes_eq x x ≡ true
-same_bytes [] = refl
-same_bytes (c ∷ cs) = and_from (c == c) (bytes_eq cs cs) (eq-eqb c c refl) (same_bytes cs)
 
 pub any_param : (x : List ℕ) (ps : List Param) → list_any (λ (a : Param). bytes_eq x a.name.name) ps ≡ true → list_any (defines (OfVariable x)) (map Parameter ps) ≡ true
 any_param x [] e = e
@@ -203,7 +199,7 @@ module _ (p : Pipe) (rules : KeepsRules p) where
       -- the name at its number
       same : (v : Ident) → f.condition ≡ Variable v → y.name ≡ v.name
       same v i =
-          same_text y.name v.name
+          bytes_same y.name v.name
           (ForkVars.named_at u.walk.vars v.name y.name (names t.front) (names m)
           (d.0.here.named ∙ ap names (g ∙ ap (λ z. t.front ++ z ∷ m) read) ∙ names_append t.front (Statement (DelayedRead sp y l) t.branches ∷ m))
           (sym (ap (guard_of u.walk.vars) i) ∙ f.var ∙ sym n ∙ long_front t h))
@@ -212,13 +208,13 @@ module _ (p : Pipe) (rules : KeepsRules p) where
       before = ForkVars.once_before p rules y.name t.front (place_of t) h.0.later h.0.whole (ap name_at read)
 
       none : list_any (defines (OfVariable y.name)) t.front ≡ false
-      none = ForkVars.no_name p rules y.name t.front before (same_bytes y.name)
+      none = ForkVars.no_name p rules y.name t.front before (bytes_refl y.name)
 
       behind : list_any (defines (OfVariable y.name)) m ≡ false
       behind =
           ForkVars.once_behind p rules y.name (t.front ++ place_of t ∷ []) m (place_of u ∷ d.0.later)
           (d.0.whole ∙ ap (λ z. z ++ place_of u ∷ d.0.later) g ∙ append_assoc t.front (place_of t ∷ m) (place_of u ∷ d.0.later) ∙ sym (append_assoc t.front (place_of t ∷ []) (m ++ place_of u ∷ d.0.later)))
-          (list_any-append (λ z. passes (bytes_eq y.name) (name_at z)) t.front (place_of t ∷ []) ∙ or_right _ _ (or_left (passes (bytes_eq y.name) (name_at (place_of t))) false (ap (λ z. passes (bytes_eq y.name) (name_at z)) read ∙ same_bytes y.name)))
+          (list_any-append (λ z. passes (bytes_eq y.name) (name_at z)) t.front (place_of t ∷ []) ∙ or_right _ _ (or_left (passes (bytes_eq y.name) (name_at (place_of t))) false (ap (λ z. passes (bytes_eq y.name) (name_at z)) read ∙ bytes_refl y.name)))
 
       named : (v : Ident) → f.condition ≡ Variable v → list_any is_separator m ≡ true
       named v i = turn (is_parameter p v.name) refl (fork_rule s x u f d v i)

@@ -6,7 +6,7 @@ use Rattle.std.specs.List.{list_any}
 use Rattle.pdl_kit.specs.declared.rule.Rule.TheVariants.{N2}
 use Rattle.pdl_semantics.specs.Tree.{R, W, Variable, Stmt, Separator, CombRead, Bind, DelayedRead, Reserve, If, Mem, Pipe}
 use Rattle.pdl_semantics.specs.Flat
-use Rattle.pdl_semantics.specs.Flatten.{Var, var_of, guard_of, with_guard, past, past_all, at_otherwise, under, separators_in, separators, at_start, flat}
+use Rattle.pdl_semantics.specs.Flatten.{Var, var_of, with_guard, past, at_otherwise, at_start}
 use Rattle.pdl_semantics.specs.Flatten
 use Rattle.pdl_rules.specs.Places.{Place, Parameter, Memory, Statement, End, StartClause, Guard, with_inner, statements, places, choices}
 use Rattle.pdl_rules.specs.Parts.{passes}
@@ -16,8 +16,9 @@ use Rattle.pdl_rules.specs.Refusal.{KeepsRules}
 use Rattle.pdl_facts.specs.Scans.{none_of, binds, from}
 use Rattle.pdl_stagefacts.proofs.Sites.{branch, sites_of, front_of, All}
 use Rattle.pdl_stagefacts.proofs.Walks.{holds_all, guard_begun, guard_stage, past_begun, past_all_begun, cut, cut_append, names, names_at, told}
-use Rattle.pdl_stagefacts.proofs.Firsts.{same_text, text_sym}
 use Rattle.pdl_stagefacts.proofs.Fine.{Each, op_of, from_op}
+use Rattle.pdl_word.proofs.Bytes.{bytes_same, bytes_swap}
+use Rattle.pdl_word.proofs.Lists.{some_filtered}
 
 -- STAGES AND FRONTS
 
@@ -50,7 +51,7 @@ told_long (v ∷ vs) = ap suc (told_long vs)
 -- a variable of these names has a number below theirs
 pub named_low : (vs : List Var) (x : List ℕ) → list_any (bytes_eq x) (told vs) ≡ true → var_of vs x < length vs
 named_low [] x e = absurd (false≢true e)
-named_low (v ∷ vs) x e = at (bytes_eq v.name x) refl (ap (λ b. b || list_any (bytes_eq x) (told vs)) (text_sym v.name x) ∙ e) (named_low vs x)
+named_low (v ∷ vs) x e = at (bytes_eq v.name x) refl (ap (λ b. b || list_any (bytes_eq x) (told vs)) (bytes_swap v.name x) ∙ e) (named_low vs x)
   where
     at : (b : Bool) → bytes_eq v.name x ≡ b → (bytes_eq v.name x || list_any (bytes_eq x) (told vs)) ≡ true → (list_any (bytes_eq x) (told vs) ≡ true → var_of vs x < length vs) → (if b then 0 else suc (var_of vs x)) < suc (length vs)
     at true f g k = omega arith
@@ -140,25 +141,13 @@ none_given u test (x ∷ xs) e = at (test x) (none_given u test xs parts.1)
     at true k = ap (λ d. (d && (not (is_delayed x) || list_any is_separator (filter test xs))) || is_given (filter test xs) u) parts.0 ∙ k
     at false k = k
 
-pub some_filter : (q test : Place → Bool) (xs : List Place) → list_any q (filter test xs) ≡ true → list_any q xs ≡ true
-some_filter q test [] e = e
-some_filter q test (x ∷ xs) e = at (test x) e (some_filter q test xs)
-  where
-    at : (b : Bool) → list_any q (cond b (x ∷ filter test xs) (filter test xs)) ≡ true → (list_any q (filter test xs) ≡ true → list_any q xs ≡ true) → (q x || list_any q xs) ≡ true
-    at true f k = more (q x) f
-      where
-        more : (c : Bool) → (c || list_any q (filter test xs)) ≡ true → (c || list_any q xs) ≡ true
-        more true g = refl
-        more false g = k g
-    at false f k = or_right (q x) _ (k f)
-
 -- so a delayed read that alone gives it has a separator behind it
 pub given_behind : (u : Use) (test : Place → Bool) (xs : List Place) (d : Place) (m : List Place) → is_delayed d ≡ true → list_any (defines u) xs ≡ false → list_any (defines u) m ≡ false
     → is_given (filter test (xs ++ d ∷ m)) u ≡ true → list_any is_separator m ≡ true
 given_behind u test [] d m e f g h = at (test d) h
   where
     at : (b : Bool) → is_given (cond b (d ∷ filter test m) (filter test m)) u ≡ true → list_any is_separator m ≡ true
-    at true k = some_filter is_separator test m (by (defines u d) (list_any is_separator (filter test m)) (ap₂ (λ c i. (defines u d && (not c || list_any is_separator (filter test m))) || i) (sym e) (sym (none_given u test m g)) ∙ k))
+    at true k = some_filtered is_separator test m (by (defines u d) (list_any is_separator (filter test m)) (ap₂ (λ c i. (defines u d && (not c || list_any is_separator (filter test m))) || i) (sym e) (sym (none_given u test m g)) ∙ k))
       where
         by : (a b : Bool) → ((a && (false || b)) || false) ≡ true → b ≡ true
         by true true i = refl
@@ -184,11 +173,11 @@ some_cut (x ∷ xs) e = at (is_separator x) refl e (some_cut xs)
 
 -- a place that defines a variable has its name
 pub variable_name : (x : List ℕ) (d : Place) → defines (OfVariable x) d ≡ true → name_at d ≡ Some x
-variable_name x (Parameter a) e = ap Some (sym (same_text x a.name.name e))
+variable_name x (Parameter a) e = ap Some (sym (bytes_same x a.name.name e))
 variable_name x (Memory m) e = absurd (false≢true e)
-variable_name x (Statement (CombRead sp y l) bs) e = ap Some (sym (same_text x y.name e))
-variable_name x (Statement (Bind sp y v) bs) e = ap Some (sym (same_text x y.name e))
-variable_name x (Statement (DelayedRead sp y l) bs) e = ap Some (sym (same_text x y.name e))
+variable_name x (Statement (CombRead sp y l) bs) e = ap Some (sym (bytes_same x y.name e))
+variable_name x (Statement (Bind sp y v) bs) e = ap Some (sym (bytes_same x y.name e))
+variable_name x (Statement (DelayedRead sp y l) bs) e = ap Some (sym (bytes_same x y.name e))
 variable_name x (Statement s bs) e = absurd (false≢true e)
 variable_name x (End s) e = absurd (false≢true e)
 variable_name x (StartClause s) e = absurd (false≢true e)

@@ -1,16 +1,16 @@
 -- The `if` of each fork, and its variable: bound before the fork's stage ends, and by no delayed read of that stage.
 use Rattle.std.proofs.Common.{◌≡◌, refl, sym, ap, ap₂, ◌∙◌, ℕ, zero, suc, ◌+◌, ◌≤◌, ◌<◌, ◌⊎◌, inl, inr, Bool, true, false, List, [], ◌∷◌, ◌++◌, length, Option, Some, None, unwrap_or, arith}
-use Rattle.std.proofs.lemmas.Bool.{and_parts}
+use Rattle.std.proofs.lemmas.Bool.{and_parts, cases_lt}
 use Rattle.pdl_semantics.specs.Tree.{Span, Expr, Separator, If, Stmts, Nil, Cons, Mem, Pipe}
 use Rattle.pdl_semantics.specs.Flat
-use Rattle.pdl_semantics.specs.Flatten.{Var, var_of, guard_of, with_guard, past, past_all, at_otherwise, under, separators_in, separators, at_start, flat}
+use Rattle.pdl_semantics.specs.Flatten.{guard_of, past, separators}
 use Rattle.pdl_semantics.specs.Flatten
 use Rattle.pdl_semantics.specs.Stages.{stage_at}
 use Rattle.pdl_rules.specs.Places.{Place, Statement, with_inner}
 use Rattle.pdl_stagefacts.proofs.Sites.{Site, sites_in, sites, place_of, All}
 use Rattle.pdl_stagefacts.proofs.Walks.{past_begun}
 use Rattle.pdl_stagefacts.proofs.Shapes.{is_whole, is_forked, fork_fits, shape, leads}
-use Rattle.pdl_stagefacts.proofs.Spots.{merge_at, Groups, group_fork, Forked, between_in, past_trunk, split}
+use Rattle.pdl_stagefacts.proofs.Spots.{merge_at, Groups, group_fork, Forked, between_in, past_trunk}
 use Rattle.pdl_stagefacts.proofs.Standing.{none_of_whole, fitting, rest_shape, either_shape}
 use Rattle.pdl_stagefacts.proofs.Fine.{Fine}
 
@@ -32,11 +32,6 @@ pub record ForkSite (s x : ℕ) (t : Site) : Type 0 where
 abbrev pub Some_site : (Site → Type 0) → List Site → Type 0
 Some_site P [] = ⊥
 Some_site P (t ∷ ts) = P t ⊎ Some_site P ts
-
-some_left : (P : Site → Type 0) (xs ys : List Site) → Some_site P xs → Some_site P (xs ++ ys)
-some_left P [] ys h = absurd h
-some_left P (x ∷ xs) ys (inl h) = inl h
-some_left P (x ∷ xs) ys (inr h) = inr (some_left P xs ys h)
 
 some_right : (P : Site → Type 0) (xs ys : List Site) → Some_site P ys → Some_site P (xs ++ ys)
 some_right P [] ys h = h
@@ -67,13 +62,13 @@ leads_none s m (suc n) = refl
 -- Fork sites from stage k on
 pub fork_sites : (p : Flat.Pipe) (ms : List Mem) (k : ℕ) (merges : Option ℕ) (front : List Place) (w : Flatten.Place) (ss : Stmts)
     → w.stage ≡ w.begun → w.begun ≡ k → is_forked ss ≡ true → Groups p k merges (shape ms ss w) → (s x : ℕ) → k ≤ s → fork_var (stage_at p s).next ≡ Some x → Some_site (ForkSite s x) (sites ms front w [] [] ss)
-fork_sites p ms k merges front w Nil e i h g s x low f = at (split k s)
+fork_sites p ms k merges front w Nil e i h g s x low f = at (cases_lt k s)
   where
     at : (k < s) ⊎ (s ≤ k) → ⊥
     at (inl l) = none_one x (ap (λ (y : Flat.Stage). fork_var y.next) (sym (past_trunk p s (let z = g.1 in omega arith))) ∙ f)
     at (inr l) = none_one x (ap (λ (y : Flat.Stage). fork_var y.next) (sym g.0) ∙ ap (λ n. fork_var (stage_at p n).next) (let z : k ≡ s = omega arith in z) ∙ f)
 fork_sites p ms k merges front w (Cons (Separator sp) ss) e i h g s x low f =
-    inr (at (split k s) (λ l. fork_sites p ms (suc k) None (front ++ Statement (Separator sp) [] ∷ []) (past ms (Separator sp) w) ss refl (ap suc i) h g.1 s x l f))
+    inr (at (cases_lt k s) (λ l. fork_sites p ms (suc k) None (front ++ Statement (Separator sp) [] ∷ []) (past ms (Separator sp) w) ss refl (ap suc i) h g.1 s x l f))
   where
     at : (k < s) ⊎ (s ≤ k) → (suc k ≤ s → Some_site (ForkSite s x) (sites ms (front ++ Statement (Separator sp) [] ∷ []) (past ms (Separator sp) w) [] [] ss)) → Some_site (ForkSite s x) (sites ms (front ++ Statement (Separator sp) [] ∷ []) (past ms (Separator sp) w) [] [] ss)
     at (inl l) more = more (omega arith)
@@ -91,12 +86,12 @@ fork_sites p ms k merges front w (Cons (If sp c when otherwise) (Cons (Separator
     at : (b : Bool) → is_whole when otherwise ≡ b → Groups p k merges (either_shape ms sp c when otherwise sq ss w b)
         → ((j : ℕ) (merge : Option ℕ) → suc (past ms (If sp c when otherwise) w).begun ≡ j → Groups p j merge (rest_shape ms sp c when otherwise sq ss w) → j ≤ s → Some_site (ForkSite s x) (sites ms ((front ++ with_inner [] (If sp c when otherwise)) ++ Statement (Separator sq) [] ∷ []) (past ms (Separator sq) (past ms (If sp c when otherwise) w)) [] [] ss))
         → Some_site (ForkSite s x) (sites ms front w [] [] (Cons (If sp c when otherwise) (Cons (Separator sq) ss)))
-    at true whole g more = turn (split k s)
+    at true whole g more = turn (cases_lt k s)
       where
         turn : (k < s) ⊎ (s ≤ k) → Some_site (ForkSite s x) (sites ms front w [] [] (Cons (If sp c when otherwise) (Cons (Separator sq) ss)))
         turn (inl l) = behind (more (suc k) None (let none = none_of_whole when otherwise whole in let z = begun in omega arith) g.1 (omega arith))
         turn (inr l) = absurd (none_one x (ap (λ (y : Flat.Stage). fork_var y.next) (sym g.0) ∙ ap (λ n. fork_var (stage_at p n).next) (let z : k ≡ s = omega arith in z) ∙ f))
-    at false some g more = turn (split k s)
+    at false some g more = turn (cases_lt k s)
       where
         fork : Forked p k (guard_of w.vars c) (separators when) (separators otherwise)
         fork = group_fork p k merges (guard_of w.vars c) (separators when) (separators otherwise) (rest_shape ms sp c when otherwise sq ss w) g
@@ -108,7 +103,7 @@ fork_sites p ms k merges front w (Cons (If sp c when otherwise) (Cons (Separator
         later l (inr m) = behind (more (merge_at k (separators when) (separators otherwise)) (Some k) (let z = begun in omega arith) g.4 m)
 
         turn : (k < s) ⊎ (s ≤ k) → Some_site (ForkSite s x) (sites ms front w [] [] (Cons (If sp c when otherwise) (Cons (Separator sq) ss)))
-        turn (inl l) = later l (split s (merge_at k (separators when) (separators otherwise)))
+        turn (inl l) = later l (cases_lt s (merge_at k (separators when) (separators otherwise)))
         turn (inr l) =
             let same : k ≡ s = omega arith in
             inl (record {
@@ -169,7 +164,7 @@ pub data Order (t u : Site) : Type 0 where
   Behind : (m : List Place) → t.front ≡ u.front ++ place_of u ∷ m → Order t u
 
 pub order : (p : Pipe) (t u : Site) → Fine p t → Fine p u → Order t u
-order p t u h k = at (split (length t.front) (length u.front)) (split (length u.front) (length t.front))
+order p t u h k = at (cases_lt (length t.front) (length u.front)) (cases_lt (length u.front) (length t.front))
   where
     whole : t.front ++ place_of t ∷ h.later ≡ u.front ++ place_of u ∷ k.later
     whole = sym h.whole ∙ k.whole
@@ -178,7 +173,3 @@ order p t u h k = at (split (length t.front) (length u.front)) (split (length u.
     at (inl l) m = let r = before_is t.front u.front h.later k.later (place_of t) (place_of u) whole l in Before r.0 r.1
     at (inr l) (inl m) = let r = before_is u.front t.front k.later h.later (place_of u) (place_of t) (sym whole) m in Behind r.0 r.1
     at (inr l) (inr m) = let r = same_is t.front u.front h.later k.later (place_of t) (place_of u) whole (omega arith) in Same r.0 r.1
-
--- a stage has begun where a statement stands in it
-abbrev pub Low : Site → Type 0
-Low t = t.walk.stage ≤ t.walk.begun

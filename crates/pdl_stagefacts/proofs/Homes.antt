@@ -1,11 +1,11 @@
 -- Reserves, releases, verifies and delayed reads: each in its stage, of memories that are there.
 use Rattle.std.proofs.Common.{◌≡◌, refl, sym, ap, ap₂, ◌∙◌, subst, ℕ, suc, ◌+◌, ◌≤◌, ◌<◌, Bool, true, false, ◌&&◌, not, List, [], ◌∷◌, ◌++◌, map, length, append_assoc, Option, Some, None, unwrap_or, arith, if◌then◌else◌, ◌==◌, bytes_eq, slice_index_or, eq-eqb, eqb-true}
-use Rattle.std.proofs.lemmas.Bool.{false≢true, and_parts, and_from, or_parts, not-false, eqb-false}
+use Rattle.std.proofs.lemmas.Bool.{false≢true, and_parts, or_parts, not-false, eqb-false}
 use Rattle.std.specs.List.{list_any}
 use Rattle.pdl_kit.specs.declared.rule.Rule.TheVariants.{Z7, L2, S3, F3, F4}
 use Rattle.pdl_semantics.specs.Tree.{R, W, Variable, Stmt, DelayedRead, Reserve, Release, If, Mem, LockDecl, LockKind, Queue, Bypass, Rename, Pipe}
 use Rattle.pdl_semantics.specs.Flat
-use Rattle.pdl_semantics.specs.Flatten.{Var, mem_of, mems_of, lock_of, reserves, separators, first_stages, flat}
+use Rattle.pdl_semantics.specs.Flatten.{mem_of, mems_of, lock_of, separators, first_stages, flat}
 use Rattle.pdl_semantics.specs.Flatten
 use Rattle.pdl_semantics.specs.Stages.{is_reserve, is_release, is_verify, verify_stage, reserve_stage, commit_stage, plain_mem, mem_at, in_stage}
 use Rattle.pdl_rules.specs.Places.{Place, Parameter, Memory, Statement, places, statements}
@@ -23,17 +23,14 @@ use Rattle.pdl_stagefacts.proofs.Formed.{body_forked}
 use Rattle.pdl_stagefacts.proofs.Standing.{all_both}
 use Rattle.pdl_stagefacts.proofs.Fine.{Fine, all_fine, AtSite, Each, each_stmt, each_fine, each_map, each_in_stage, all_at_each, none_each, op_of, from_op, stage_count}
 use Rattle.pdl_stagefacts.proofs.Trunks.{first_index, first_past, verify_first}
-use Rattle.pdl_stagefacts.proofs.Firsts.{Alike, one_stage, none_elsewhere, is_known, known_low, known_one, located, same_text}
+use Rattle.pdl_stagefacts.proofs.Firsts.{Alike, one_stage, none_elsewhere, is_known, known_low, known_one, located}
+use Rattle.pdl_word.proofs.Bytes.{bytes_same, bytes_refl}
 
 -- ALL OF A KIND
 
 all_swap : {X : Type 0} (P : X → Site → Type 0) (ts : List Site) → ((x : X) → All (P x) ts) → All (λ t. (x : X) → P x t) ts
 all_swap P [] h = tt
 all_swap P (t ∷ ts) h = ((λ x. (h x).0), all_swap P ts (λ x. (h x).1))
-
-same_bytes : (x : List ℕ) → bytes_eq x x ≡ true
-same_bytes [] = refl
-same_bytes (c ∷ cs) = and_from (c == c) (bytes_eq cs cs) (eq-eqb c c refl) (same_bytes cs)
 
 -- numbers of memories are equal just where their names are
 same_memory : (ms : List Mem) (n o : List ℕ) → is_known ms n ≡ true → is_known ms o ≡ true → (mem_of ms o == mem_of ms n) ≡ bytes_eq o n
@@ -42,8 +39,8 @@ same_memory ms n o h k = at (mem_of ms o == mem_of ms n) (bytes_eq o n) refl ref
     at : (b c : Bool) → (mem_of ms o == mem_of ms n) ≡ b → bytes_eq o n ≡ c → b ≡ c
     at true true e f = refl
     at false false e f = refl
-    at true false e f = absurd (false≢true (sym f ∙ ap (λ x. bytes_eq x n) (known_one ms o n k h (eqb-true (mem_of ms o) (mem_of ms n) e)) ∙ same_bytes n))
-    at false true e f = absurd (eqb-false (mem_of ms o) (mem_of ms n) e (ap (mem_of ms) (same_text o n f)))
+    at true false e f = absurd (false≢true (sym f ∙ ap (λ x. bytes_eq x n) (known_one ms o n k h (eqb-true (mem_of ms o) (mem_of ms n) e)) ∙ bytes_refl n))
+    at false true e f = absurd (eqb-false (mem_of ms o) (mem_of ms n) e (ap (mem_of ms) (bytes_same o n f)))
 
 -- RESERVES
 
@@ -62,7 +59,7 @@ reserve_elsewhere p n rules t h f = at t.stmt refl f
   where
     at : (s : Stmt) → t.stmt ≡ s → reserves_memory n (Statement s t.branches) ≡ true → is_elsewhere (reserves_memory n) t.front t.walk.stage ≡ false
     at (Reserve sp l k) e g =
-        ap₂ (λ m i. is_elsewhere (reserves_memory m) t.front i) (sym (same_text l.mem.name n g)) (sym h.staged)
+        ap₂ (λ m i. is_elsewhere (reserves_memory m) t.front i) (sym (bytes_same l.mem.name n g)) (sym h.staged)
         ∙ rules L2 t.front (Statement (Reserve sp l k) t.branches) h.later (h.whole ∙ ap (λ s. t.front ++ Statement s t.branches ∷ h.later) e)
     at s e g = absurd (false≢true g)
 
@@ -82,7 +79,7 @@ release_elsewhere p n rules t h f = at t.stmt refl f
   where
     at : (s : Stmt) → t.stmt ≡ s → releases_memory n (Statement s t.branches) ≡ true → is_elsewhere (releases_memory n) t.front t.walk.stage ≡ false
     at (Release sp l) e g =
-        ap₂ (λ m i. is_elsewhere (releases_memory m) t.front i) (sym (same_text l.mem.name n g)) (sym h.staged)
+        ap₂ (λ m i. is_elsewhere (releases_memory m) t.front i) (sym (bytes_same l.mem.name n g)) (sym h.staged)
         ∙ rules L2 t.front (Statement (Release sp l) t.branches) h.later (h.whole ∙ ap (λ s. t.front ++ Statement s t.branches ∷ h.later) e)
     at s e g = absurd (false≢true g)
 
@@ -121,8 +118,8 @@ module _ (p : Pipe) (rules : KeepsRules p) where
   reserve_named t h m op e f = at t.stmt refl (ap (from_op (is_reserve m)) e ∙ f)
     where
       at : (s : Stmt) → t.stmt ≡ s → from_op (is_reserve m) (op_of p.mems t.walk.vars s) ≡ true → (n : List ℕ) × (is_known p.mems n ≡ true) × (mem_of p.mems n ≡ m) × (reserves_memory n (Statement s t.branches) ≡ true)
-      at (Reserve sp l R) i g = (l.mem.name, located p rules t h l (ap location_of i), eqb-true (mem_of p.mems l.mem.name) m g, same_bytes l.mem.name)
-      at (Reserve sp l W) i g = (l.mem.name, located p rules t h l (ap location_of i), eqb-true (mem_of p.mems l.mem.name) m g, same_bytes l.mem.name)
+      at (Reserve sp l R) i g = (l.mem.name, located p rules t h l (ap location_of i), eqb-true (mem_of p.mems l.mem.name) m g, bytes_refl l.mem.name)
+      at (Reserve sp l W) i g = (l.mem.name, located p rules t h l (ap location_of i), eqb-true (mem_of p.mems l.mem.name) m g, bytes_refl l.mem.name)
       at (If sp (Variable x) when otherwise) i g = absurd (false≢true g)
       at (If sp c when otherwise) i g = absurd (false≢true g)
       at s i g = absurd (false≢true g)
@@ -131,7 +128,7 @@ module _ (p : Pipe) (rules : KeepsRules p) where
   release_named t h m op e f = at t.stmt refl (ap (from_op (is_release m)) e ∙ f)
     where
       at : (s : Stmt) → t.stmt ≡ s → from_op (is_release m) (op_of p.mems t.walk.vars s) ≡ true → (n : List ℕ) × (is_known p.mems n ≡ true) × (mem_of p.mems n ≡ m) × (releases_memory n (Statement s t.branches) ≡ true)
-      at (Release sp l) i g = (l.mem.name, located p rules t h l (ap location_of i), eqb-true (mem_of p.mems l.mem.name) m g, same_bytes l.mem.name)
+      at (Release sp l) i g = (l.mem.name, located p rules t h l (ap location_of i), eqb-true (mem_of p.mems l.mem.name) m g, bytes_refl l.mem.name)
       at (Reserve sp l R) i g = absurd (false≢true g)
       at (Reserve sp l W) i g = absurd (false≢true g)
       at (If sp (Variable x) when otherwise) i g = absurd (false≢true g)
@@ -244,7 +241,7 @@ module _ (p : Pipe) (rules : KeepsRules p) where
       at : (s : Stmt) → t.stmt ≡ s → fetches n (Statement s t.branches) ≡ true → is_elsewhere (fetches n) t.front t.walk.stage ≡ false
       at (DelayedRead sp x l) e g =
           none_elsewhere (fetches n) t.front t.walk.stage
-          (ap (λ m. list_any (fetches m) t.front) (sym (same_text l.mem.name n g))
+          (ap (λ m. list_any (fetches m) t.front) (sym (bytes_same l.mem.name n g))
           ∙ (or_parts (stage_in t.front t.branches == stage_behind (places p)) (list_any (fetches l.mem.name) t.front)
           (rules F3 t.front (Statement (DelayedRead sp x l) t.branches) h.later (h.whole ∙ ap (λ s. t.front ++ Statement s t.branches ∷ h.later) e))).1)
       at s e g = absurd (false≢true g)
@@ -253,7 +250,7 @@ module _ (p : Pipe) (rules : KeepsRules p) where
   fetch_named t h m op e f = at t.stmt refl (ap (from_op (is_fetch_of m)) e ∙ f)
     where
       at : (s : Stmt) → t.stmt ≡ s → from_op (is_fetch_of m) (op_of p.mems t.walk.vars s) ≡ true → (n : List ℕ) × (is_known p.mems n ≡ true) × (mem_of p.mems n ≡ m) × (fetches n (Statement s t.branches) ≡ true)
-      at (DelayedRead sp x l) i g = (l.mem.name, located p rules t h l (ap location_of i), eqb-true (mem_of p.mems l.mem.name) m g, same_bytes l.mem.name)
+      at (DelayedRead sp x l) i g = (l.mem.name, located p rules t h l (ap location_of i), eqb-true (mem_of p.mems l.mem.name) m g, bytes_refl l.mem.name)
       at (Reserve sp l R) i g = absurd (false≢true g)
       at (Reserve sp l W) i g = absurd (false≢true g)
       at (If sp (Variable x) when otherwise) i g = absurd (false≢true g)

@@ -1,7 +1,8 @@
 -- Where a stage stands in the graph of a shape: in the trunk, at a fork, or in a branch of one; and where a thread goes from it.
-use Rattle.std.proofs.Common.{◌≡◌, refl, sym, ap, ap₂, ◌∙◌, subst, ℕ, zero, suc, ◌+◌, ◌-◌, ◌≤◌, ◌<◌, ◌⊎◌, inl, inr, Bool, true, false, List, [], ◌∷◌, ◌++◌, length, append_assoc, length-append, Option, Some, None, arith, cond, nat_lt, slice_index_or, ltb-true, ltb-false}
+use Rattle.std.proofs.Common.{◌≡◌, refl, sym, ap, ap₂, ◌∙◌, subst, ℕ, zero, suc, ◌+◌, ◌-◌, ◌≤◌, ◌<◌, ◌⊎◌, inl, inr, Bool, true, false, List, [], ◌∷◌, ◌++◌, length, append_assoc, length-append, Option, Some, None, arith, cond, slice_index_or}
 use Rattle.std.proofs.Math.Seq.{get_or-append_seam}
 use Rattle.std.proofs.lemmas.List.{get_or_past}
+use Rattle.std.proofs.lemmas.Bool.{cases_lt}
 use Rattle.pdl_semantics.specs.Flat
 use Rattle.pdl_semantics.specs.Flatten.{entry, side}
 use Rattle.pdl_semantics.specs.Stages.{last_stage, stage_at}
@@ -135,33 +136,25 @@ group_fork p k merges x a b rest g = record {
     chains true = g.2
     chains false = g.3
 
--- before or behind
-pub split : (a b : ℕ) → (a < b) ⊎ (b ≤ a)
-split a b = at (nat_lt a b) refl
-  where
-    at : (c : Bool) → nat_lt a b ≡ c → (a < b) ⊎ (b ≤ a)
-    at true e = inl (ltb-true a b e)
-    at false e = inr (ltb-false a b e)
-
 pub spot : (p : Flat.Pipe) (k : ℕ) (merges : Option ℕ) (sh : Shape) → Groups p k merges sh → (s : ℕ) → k ≤ s → s < length p.stages → Spot p s
 spot p k merges Last g s low high =
     let e = g.1 in
     subst (Spot p) (let f : k ≡ s = omega arith in f) (Final (ap (λ (x : Flat.Stage). x.next) g.0) (ap (λ (x : Flat.Stage). x.branch) g.0) g.1)
-spot p k merges (Cut rest) g s low high = at (λ l. spot p (suc k) None rest g.1 s l high) (split k s)
+spot p k merges (Cut rest) g s low high = at (λ l. spot p (suc k) None rest g.1 s l high) (cases_lt k s)
   where
     at : (suc k ≤ s → Spot p s) → (k < s) ⊎ (s ≤ k) → Spot p s
     at behind (inl l) = behind (omega arith)
     at behind (inr l) =
         subst (Spot p) (let f : k ≡ s = omega arith in f)
         (Line (ap (λ (x : Flat.Stage). x.next) g.0) (ap (λ (x : Flat.Stage). x.branch) g.0) (group_trunk p (suc k) None rest g.1) (group_merge p (suc k) None rest g.1) (group_inside p (suc k) None rest g.1))
-spot p k merges (Fork x a b rest) g s low high = at (λ l. spot p (merge_at k a b) (Some k) rest g.4 s l high) (split k s)
+spot p k merges (Fork x a b rest) g s low high = at (λ l. spot p (merge_at k a b) (Some k) rest g.4 s l high) (cases_lt k s)
   where
     third : (merge_at k a b ≤ s → Spot p s) → (k + a < s) → (merge_at k a b ≤ s) ⊎ (s < merge_at k a b) → Spot p s
     third behind l (inl m) = behind m
     third behind l (inr m) = Inner k x a b false (s - suc (k + a)) (k + a + b - s) (group_fork p k merges x a b rest g) (omega arith) (omega arith)
 
     either : (merge_at k a b ≤ s) ⊎ (s < merge_at k a b)
-    either = turn (split s (merge_at k a b))
+    either = turn (cases_lt s (merge_at k a b))
       where
         turn : (s < merge_at k a b) ⊎ (merge_at k a b ≤ s) → (merge_at k a b ≤ s) ⊎ (s < merge_at k a b)
         turn (inl l) = inr l
@@ -172,14 +165,14 @@ spot p k merges (Fork x a b rest) g s low high = at (λ l. spot p (merge_at k a 
     second behind l (inr m) = Inner k x a b true (s - suc k) (k + a - s) (group_fork p k merges x a b rest g) (omega arith) (omega arith)
 
     at : (merge_at k a b ≤ s → Spot p s) → (k < s) ⊎ (s ≤ k) → Spot p s
-    at behind (inl l) = second behind l (split (k + a) s)
+    at behind (inl l) = second behind l (cases_lt (k + a) s)
     at behind (inr l) = subst (Spot p) (let f : k ≡ s = omega arith in f) (AtFork x a b (group_fork p k merges x a b rest g))
 
 -- BRANCHES
 
 -- every stage between a fork and its merge stands in a branch of it
 pub between_in : (p : Flat.Pipe) (f x a b r : ℕ) → Forked p f x a b → f < r → r < merge_at f a b → (first : Bool) × (d : ℕ) × (j : ℕ) × (d + suc j ≡ long a b first) × (r ≡ suc (start f a first + d)) × In p (record { fork = f; first = first }) r
-between_in p f x a b r fork low high = at (split (f + a) r)
+between_in p f x a b r fork low high = at (cases_lt (f + a) r)
   where
     here : (first : Bool) (d j : ℕ) → d + suc j ≡ long a b first → r ≡ suc (start f a first + d) → In p (record { fork = f; first = first }) r
     here first d j e i = ap (λ k. (stage_at p k).branch) i ∙ ap (λ (y : Flat.Stage). y.branch) (fork.chain first d j e)
@@ -224,7 +217,7 @@ pub record Inside (p : Flat.Pipe) (c : Flat.Branch) (s : ℕ) : Type 0 where
   pub number : s ≡ suc (start c.fork a c.first + d)
 
 pub inside_of : (p : Flat.Pipe) → ((s : ℕ) → s < length p.stages → Spot p s) → (c : Flat.Branch) (s : ℕ) → In p c s → Inside p c s
-inside_of p spots c s h = at (split s (length p.stages))
+inside_of p spots c s h = at (cases_lt s (length p.stages))
   where
     by : Spot p s → Inside p c s
     by (Final n t e) = absurd (not_trunk p c s t h)
@@ -250,14 +243,14 @@ fork_same p f x a b y c d k l =
     (omega arith, omega arith)
   where
     no_less : (p : Flat.Pipe) (f x a b y c d : ℕ) → Forked p f x a b → Forked p f y c d → a + b ≤ c + d
-    no_less p f x a b y c d k l = at (split (c + d) (a + b))
+    no_less p f x a b y c d k l = at (cases_lt (c + d) (a + b))
       where
         at : (c + d < a + b) ⊎ (a + b ≤ c + d) → a + b ≤ c + d
         at (inl m) = let h = between_in p f x a b (merge_at f c d) k (omega arith) (omega arith) in absurd (not_trunk p _ (merge_at f c d) l.merge_trunk h.5)
         at (inr m) = m
 
     no_first : (p : Flat.Pipe) (f x a b y c d : ℕ) → Forked p f x a b → Forked p f y c d → a ≤ c
-    no_first p f x a b y c d k l = at (split c a)
+    no_first p f x a b y c d k l = at (cases_lt c a)
       where
         clash : (o : Option Flat.Branch) → o ≡ side f true → o ≡ side f false → ⊥
         clash o e i = sides (ap first_in (sym e ∙ i))

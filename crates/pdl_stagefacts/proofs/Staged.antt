@@ -1,27 +1,20 @@
 -- The stage of a flat statement is the one that the rules speak of: that of the last separator before its place whose branches it stands in too.
-use Rattle.std.proofs.Common.{◌≡◌, refl, sym, ap, ◌∙◌, subst, ℕ, suc, ◌+◌, Bool, true, false, ◌&&◌, List, [], ◌∷◌, ◌++◌, append_assoc, append-nil, arith, cond, if◌then◌else◌, ◌==◌, bytes_eq, eq-eqb}
+use Rattle.std.proofs.Common.{◌≡◌, refl, sym, ap, ◌∙◌, subst, ℕ, suc, ◌+◌, Bool, true, false, ◌&&◌, List, [], ◌∷◌, ◌++◌, append_assoc, append-nil, arith, cond, if◌then◌else◌, ◌==◌}
 use Rattle.std.proofs.lemmas.Bool.{and_parts, and_from}
 use Rattle.pdl_semantics.specs.Tree.{Span, Expr, Stmt, Separator, If, Stmts, Nil, Cons, Mem, Pipe}
 use Rattle.pdl_semantics.specs.Flat
-use Rattle.pdl_semantics.specs.Flatten.{with_guard, past, past_all, at_otherwise, under, separators_in, separators, at_start}
+use Rattle.pdl_semantics.specs.Flatten.{with_guard, past, at_otherwise, under, separators_in, separators, at_start}
 use Rattle.pdl_semantics.specs.Flatten
-use Rattle.pdl_rules.specs.Places.{Place, Statement, Guard, Shared, Own, Branch, same_guard, same_truth, with_inner, statements}
+use Rattle.pdl_rules.specs.Places.{Place, Statement, Branch, same_guard, same_truth, with_inner, statements}
 use Rattle.pdl_rules.specs.Limits.{is_separator}
 use Rattle.pdl_rules.specs.Stages.{same_branch, are_outer, branches_of, stage_from, stage_in}
 use Rattle.pdl_stagefacts.proofs.Sites.{Site, branch, sites_in, sites, sites_of, front_of, All, all_append}
 use Rattle.pdl_stagefacts.proofs.Walks.{guard_stage, Begun, begun_passes, begun_first, begun_second, at_front, cut, cut_append, cut_in, cut_all}
 use Rattle.pdl_stagefacts.proofs.Shapes.{is_whole, is_plain, is_forked, fork_fits}
 use Rattle.pdl_stagefacts.proofs.Standing.{none_of_whole, fitting}
+use Rattle.pdl_rules.proofs.Guards.{guard_refl}
 
 -- BRANCHES
-
-same_bytes : (x : List ℕ) → bytes_eq x x ≡ true
-same_bytes [] = refl
-same_bytes (c ∷ cs) = and_from (c == c) (bytes_eq cs cs) (eq-eqb c c refl) (same_bytes cs)
-
-guard_same : (g : Guard) → same_guard g g ≡ true
-guard_same (Shared x) = same_bytes x
-guard_same (Own n) = eq-eqb n n refl
 
 truth_same : (b : Bool) → same_truth b b ≡ true
 truth_same true = refl
@@ -30,7 +23,7 @@ truth_same false = refl
 -- what stands in more branches stands in these
 outer_more : (bs more : List Branch) → are_outer bs (bs ++ more) ≡ true
 outer_more [] more = refl
-outer_more (b ∷ bs) more = and_from (same_branch b b) (are_outer bs (bs ++ more)) (and_from (same_guard b.guard b.guard) (same_truth b.truth b.truth) (guard_same b.guard) (truth_same b.truth)) (outer_more bs more)
+outer_more (b ∷ bs) more = and_from (same_branch b b) (are_outer bs (bs ++ more)) (and_from (same_guard b.guard b.guard) (same_truth b.truth b.truth) (guard_refl b.guard) (truth_same b.truth)) (outer_more bs more)
 
 -- and not in the other branch of an `if`
 sides_differ : (sp : Span) (c : Expr) (when otherwise : Stmts) (xs more : List Branch) → are_outer (branch sp c true when ∷ xs) (branch sp c false otherwise ∷ more) ≡ false

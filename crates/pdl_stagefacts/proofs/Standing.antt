@@ -1,11 +1,11 @@
 -- Where the sites of a source stand in its stage graph: in a trunk stage, or in a branch stage under the guard of that branch; and the `if` of each fork.
 use Rattle.std.proofs.Common.{◌≡◌, refl, sym, ap, ◌∙◌, subst, ℕ, suc, ◌+◌, ◌-◌, ◌≤◌, ◌<◌, ◌⊎◌, inl, inr, Bool, true, false, ◌&&◌, not, List, [], ◌∷◌, ◌++◌, append_assoc, Option, Some, None, arith, cond, ◌==◌, eqb-true}
-use Rattle.std.proofs.lemmas.Bool.{false≢true, and_parts, or_left}
+use Rattle.std.proofs.lemmas.Bool.{false≢true, and_parts, or_left, cases_lt}
 use Rattle.std.proofs.lemmas.List.Folds.{list_any-append}
 use Rattle.std.specs.List.{list_any}
 use Rattle.pdl_semantics.specs.Tree.{Span, Expr, Stmt, Separator, If, Stmts, Nil, Cons, Mem, Pipe}
 use Rattle.pdl_semantics.specs.Flat
-use Rattle.pdl_semantics.specs.Flatten.{with_guard, past, past_all, at_otherwise, under, guard_of, separators_in, separators, at_start, flat, side}
+use Rattle.pdl_semantics.specs.Flatten.{with_guard, past, at_otherwise, under, guard_of, separators_in, separators, at_start, flat}
 use Rattle.pdl_semantics.specs.Flatten
 use Rattle.pdl_facts.specs.Graphs.{Trunk, In}
 use Rattle.pdl_rules.specs.Places.{Place, Statement, Branch, with_inner, statements}
@@ -13,7 +13,7 @@ use Rattle.pdl_rules.specs.Forks.{holds_separator}
 use Rattle.pdl_stagefacts.proofs.Sites.{Site, branch, sites_in, sites, sites_of, front_of, All, all_append}
 use Rattle.pdl_stagefacts.proofs.Walks.{holds_all, guard_begun, guard_stage, past_begun, past_all_begun}
 use Rattle.pdl_stagefacts.proofs.Shapes.{is_whole, is_forked, fork_fits, begins_stage, is_plain, Shape, Cut, Fork, shape}
-use Rattle.pdl_stagefacts.proofs.Spots.{merge_at, start, long, Groups, group_trunk, group_fork, Forked, split}
+use Rattle.pdl_stagefacts.proofs.Spots.{merge_at, start, long, Groups, group_trunk, group_fork, Forked}
 use Rattle.pdl_stagefacts.proofs.Formed.{body_groups}
 
 -- STAGES OF SITES
@@ -101,7 +101,7 @@ side_stands p f x a b first k t (inr h) g =
 -- the sites of a branch of a fork
 branch_stands : (p : Flat.Pipe) (f x a b : ℕ) (first : Bool) → Forked p f x a b → (ms : List Mem) (front : List Place) (w : Flatten.Place) (gs : List Flat.Guard) (bs : List Branch) (ss : Stmts)
     → w.stage ≡ f → w.begun ≡ start f a first → separators ss ≡ long a b first → HasGuard (record { var = x; first = first }) gs → (0 < separators ss → in_fork bs ≡ true) → All (Standing p) (sites ms front w gs bs ss)
-branch_stands p f x a b first k ms front w gs bs ss here begun many g h = at (split 0 (separators ss))
+branch_stands p f x a b first k ms front w gs bs ss here begun many g h = at (cases_lt 0 (separators ss))
   where
     at : (0 < separators ss) ⊎ (separators ss ≤ 0) → All (Standing p) (sites ms front w gs bs ss)
     at (inl l) =

@@ -1,10 +1,10 @@
 -- What stands in the trunk: the stages of reserves, releases and verifies; and a branch's statements under the guard of their branch.
 use Rattle.std.proofs.Common.{◌≡◌, refl, sym, ap, ◌∙◌, subst, ℕ, zero, suc, ◌+◌, ◌≤◌, ◌<◌, ◌⊎◌, inl, inr, Bool, true, false, ◌||◌, not, List, [], ◌∷◌, ◌++◌, length, Option, Some, None, unwrap_or, arith, if◌then◌else◌, ◌==◌, nat_lt, slice_index, slice_index_or, take, eq-eqb, eqb-true, ltb-true, ltb-false}
-use Rattle.std.proofs.lemmas.Bool.{false≢true, and_parts, and_from, or_left, or_right}
+use Rattle.std.proofs.lemmas.Bool.{false≢true, and_parts, and_from, or_left, or_right, cases_lt}
 use Rattle.pdl_kit.specs.declared.rule.Rule.TheVariants.{F1}
 use Rattle.pdl_semantics.specs.Tree.{Mem, Pipe}
 use Rattle.pdl_semantics.specs.Flat
-use Rattle.pdl_semantics.specs.Flat.{list_all, taken, takes}
+use Rattle.pdl_semantics.specs.Flat.{taken, takes}
 use Rattle.pdl_semantics.specs.Flatten.{first_stage, first_stages, flat}
 use Rattle.pdl_semantics.specs.Stages.{last_stage, stage_at, in_stage, onpath, is_inside, is_branch_of, merges_fork, is_reserve, is_release, is_verify, verify_stage, list_any}
 use Rattle.pdl_semantics.specs.Cycle.{merges_by}
@@ -16,7 +16,7 @@ use Rattle.pdl_facts.specs.Graphs.{Trunk, In, next_of, stage_or, goes_by, on_sid
 use Rattle.pdl_facts.specs.Facts.{trunk_only, visits, comes_by}
 use Rattle.pdl_stagefacts.proofs.Sites.{Site, place_of}
 use Rattle.pdl_stagefacts.proofs.Shapes.{Shape, Last, Cut, Fork}
-use Rattle.pdl_stagefacts.proofs.Spots.{merge_at, start, long, Groups, group_trunk, group_merge, group_fork, group_inside, Forked, Spot, between_in, not_trunk, none_some, past_trunk, inside_of, fork_same, split}
+use Rattle.pdl_stagefacts.proofs.Spots.{merge_at, start, long, Groups, group_trunk, group_merge, group_fork, group_inside, Forked, Spot, between_in, not_trunk, none_some, past_trunk, inside_of, fork_same}
 use Rattle.pdl_stagefacts.proofs.Ways.{Way, Ends, Steps, Enters, Skips, Stays, Leaves, way, start_low, start_high, graph_of, branches_of}
 use Rattle.pdl_stagefacts.proofs.Formed.{body_forked, body_shape, body_groups, spots}
 use Rattle.pdl_stagefacts.proofs.Standing.{Standing, OnTrunk, OnBranch, HasGuard, in_fork}
@@ -27,7 +27,7 @@ use Rattle.pdl_stagefacts.proofs.Fine.{Fine, Each, each_fine, each_map, each_in_
 -- a stage that merges a fork is that fork's merge
 merge_group : (p : Flat.Pipe) (k : ℕ) (merges : Option ℕ) (sh : Shape) (i f : ℕ) → Groups p k merges sh
     → (merges ≡ Some f → (x : ℕ) × (a : ℕ) × (b : ℕ) × Forked p f x a b × (k ≡ merge_at f a b)) → k ≤ i → (stage_at p i).merges ≡ Some f → (x : ℕ) × (a : ℕ) × (b : ℕ) × Forked p f x a b × (i ≡ merge_at f a b)
-merge_group p k merges Last i f g h low e = at (split k i)
+merge_group p k merges Last i f g h low e = at (cases_lt k i)
   where
     at : (k < i) ⊎ (i ≤ k) → (x : ℕ) × (a : ℕ) × (b : ℕ) × Forked p f x a b × (i ≡ merge_at f a b)
     at (inl l) = absurd (none_some ℕ f (stage_at p i).merges (ap (λ (y : Flat.Stage). y.merges) (past_trunk p i (let q = g.1 in omega arith))) e)
@@ -35,7 +35,7 @@ merge_group p k merges Last i f g h low e = at (split k i)
         let same : k ≡ i = omega arith in
         let r = h (sym (group_merge p k merges Last g) ∙ ap (λ n. (stage_at p n).merges) same ∙ e) in
         (r.0, r.1, r.2, r.3, sym same ∙ r.4)
-merge_group p k merges (Cut rest) i f g h low e = at (split k i) (λ l. merge_group p (suc k) None rest i f g.1 (λ z. absurd (none_some ℕ f None refl z)) l e)
+merge_group p k merges (Cut rest) i f g h low e = at (cases_lt k i) (λ l. merge_group p (suc k) None rest i f g.1 (λ z. absurd (none_some ℕ f None refl z)) l e)
   where
     at : (k < i) ⊎ (i ≤ k) → (suc k ≤ i → (x : ℕ) × (a : ℕ) × (b : ℕ) × Forked p f x a b × (i ≡ merge_at f a b)) → (x : ℕ) × (a : ℕ) × (b : ℕ) × Forked p f x a b × (i ≡ merge_at f a b)
     at (inl l) more = more (omega arith)
@@ -44,7 +44,7 @@ merge_group p k merges (Cut rest) i f g h low e = at (split k i) (λ l. merge_gr
         let r = h (sym (group_merge p k merges (Cut rest) g) ∙ ap (λ n. (stage_at p n).merges) same ∙ e) in
         (r.0, r.1, r.2, r.3, sym same ∙ r.4)
 merge_group p k merges (Fork x a b rest) i f g h low e =
-    at (split k i) (λ l. merge_group p (merge_at k a b) (Some k) rest i f g.4 (λ z. (x, a, b, subst (λ n. Forked p n x a b) (number z) fork, ap (λ n. merge_at n a b) (number z))) l e)
+    at (cases_lt k i) (λ l. merge_group p (merge_at k a b) (Some k) rest i f g.4 (λ z. (x, a, b, subst (λ n. Forked p n x a b) (number z) fork, ap (λ n. merge_at n a b) (number z))) l e)
   where
     fork : Forked p k x a b
     fork = group_fork p k merges x a b rest g
@@ -62,7 +62,7 @@ merge_group p k merges (Fork x a b rest) i f g h low e =
     behind l (inr m) more = more m
 
     at : (k < i) ⊎ (i ≤ k) → (merge_at k a b ≤ i → (x : ℕ) × (a : ℕ) × (b : ℕ) × Forked p f x a b × (i ≡ merge_at f a b)) → (x : ℕ) × (a : ℕ) × (b : ℕ) × Forked p f x a b × (i ≡ merge_at f a b)
-    at (inl l) more = behind l (split i (merge_at k a b)) more
+    at (inl l) more = behind l (cases_lt i (merge_at k a b)) more
     at (inr l) more =
         let same : k ≡ i = omega arith in
         let r = h (sym (group_merge p k merges (Fork x a b rest) g) ∙ ap (λ n. (stage_at p n).merges) same ∙ e) in
@@ -202,7 +202,7 @@ module _ (p : Pipe) (rules : KeepsRules p) where
   trunk_start = group_trunk (flat p) 0 None (body_shape p) (body_groups p (body_forked p rules))
 
   trunk_or : (test : ℕ → Flat.Op → Bool) → ((m : ℕ) (op : Flat.Op) → test m op ≡ true → trunk_only op ≡ true) → (d m : ℕ) → Trunk (flat p) d → Trunk (flat p) (unwrap_or (slice_index_or (first_stages test (flat p).stmts 0 p.mems) m None) d)
-  trunk_or test f d m t = at (split m (length p.mems))
+  trunk_or test f d m t = at (cases_lt m (length p.mems))
     where
       by : (o : Option ℕ) → first_stage (test (0 + m)) (flat p).stmts ≡ o → Trunk (flat p) (unwrap_or o d)
       by None e = t
@@ -258,7 +258,7 @@ module _ (p : Pipe) (rules : KeepsRules p) where
       omega arith
 
   pub unmerged : (v f b : ℕ) → verify_stage (flat p).stmts ≡ Some v → is_inside (flat p) f b ≡ true → merges_by (flat p) f (Some v) ≡ false → v ≤ f
-  unmerged v f b e i m = at (split f v)
+  unmerged v f b e i m = at (cases_lt f v)
     where
       here : (x : ℕ) × (a : ℕ) × (c : ℕ) × Forked (flat p) f x a c × (f < b) × (b < merge_at f a c)
       here = of_fork f b i
@@ -270,7 +270,7 @@ module _ (p : Pipe) (rules : KeepsRules p) where
           false≢true (sym m ∙ some_taken (λ x. merges_fork x.merges f) last_stage (suc v) (merge_at f here.1 here.2) (flat p).stages (omega arith) here.3.inside (ap (λ o. merges_fork o f) merge ∙ eq-eqb f f refl))
 
       at : (f < v) ⊎ (v ≤ f) → v ≤ f
-      at (inl l) = absurd (late l (split v (merge_at f here.1 here.2)))
+      at (inl l) = absurd (late l (cases_lt v (merge_at f here.1 here.2)))
       at (inr l) = l
 
   -- PATHS

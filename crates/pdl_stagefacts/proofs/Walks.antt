@@ -1,9 +1,10 @@
 -- What holds at each site of a source: of the stages begun, of the variables' names, and of the choices that it stands under.
 use Rattle.std.proofs.Common.{◌≡◌, refl, sym, ap, ap₂, ◌∙◌, ℕ, ◌+◌, Bool, true, false, List, [], ◌∷◌, ◌++◌, map, append_assoc, append-nil, arith, count_by, cond, if◌then◌else◌}
 use Rattle.std.proofs.lemmas.List.Sums.{sum_by-append}
+use Rattle.std.proofs.lemmas.List.{map_push}
 use Rattle.pdl_semantics.specs.Tree.{Span, Expr, Variable, Stmt, Separator, CombRead, Bind, SpecCall, DelayedRead, Write, Reserve, Block, Release, If, Call, Verify, SpecCheck, SpecBarrier, Stmts, Nil, Cons, Param, Mem, Pipe}
 use Rattle.pdl_semantics.specs.Flat
-use Rattle.pdl_semantics.specs.Flatten.{Var, with_guard, with_var, next_place, back_in, past, past_all, at_otherwise, under, at_start, params_of, separators_in, separators}
+use Rattle.pdl_semantics.specs.Flatten.{Var, with_guard, back_in, past, past_all, at_otherwise, under, at_start, params_of, separators_in, separators}
 use Rattle.pdl_semantics.specs.Flatten
 use Rattle.pdl_rules.specs.Places.{Place, Parameter, Memory, Statement, Branch, with_inner, statements}
 use Rattle.pdl_rules.specs.Limits.{is_separator}
@@ -261,10 +262,6 @@ chosen_more front more (x ∷ xs) h = (
 chosen_push : (front : List Place) (hs : List Choice) (x : Choice) → AllChosen front hs → Chosen front x → AllChosen front (hs ++ x ∷ [])
 chosen_push front [] x h k = (k, tt)
 chosen_push front (y ∷ ys) x h k = (h.0, chosen_push front ys x h.1 k)
-
-map_push : {A B : Type 0} (f : A → B) (xs : List A) (x : A) → map f (xs ++ x ∷ []) ≡ map f xs ++ f x ∷ []
-map_push f [] x = refl
-map_push f (y ∷ ys) x = ap (λ l. f y ∷ l) (map_push f ys x)
 
 under_more : (front more : List Place) (gs : List Flat.Guard) (bs : List Branch) → Under front gs bs → Under (front ++ more) gs bs
 under_more front more gs bs u = record { choices = u.choices; guards_are = u.guards_are; branches_are = u.branches_are; chosen = chosen_more front more u.choices u.chosen; nested = u.nested }

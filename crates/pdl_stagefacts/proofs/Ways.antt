@@ -1,11 +1,12 @@
 -- Where a thread goes from a stage, and the facts of the stage graph and of its branches that follow.
 use Rattle.std.proofs.Common.{◌≡◌, refl, sym, ap, ap₂, ◌∙◌, subst, ℕ, zero, suc, ◌+◌, ◌≤◌, ◌<◌, ◌⊎◌, inl, inr, Bool, true, false, not, List, length, Option, Some, None, unwrap_or, arith, if◌then◌else◌, ◌==◌, nat_lt, slice_index, lt-ltb, eq-eqb, ltb-true}
+use Rattle.std.proofs.lemmas.Bool.{cases_lt}
 use Rattle.pdl_semantics.specs.Flat
 use Rattle.pdl_semantics.specs.Flatten.{entry}
 use Rattle.pdl_semantics.specs.Stages.{stage_at, goes_to, is_inside, is_branch_of, commit_stage, reserve_stage}
 use Rattle.pdl_facts.specs.Graphs.{Trunk, In, next_of, stage_or, Below, Graph, Branches, goes_by, on_side}
 use Rattle.pdl_stagefacts.proofs.Shapes.{leads}
-use Rattle.pdl_stagefacts.proofs.Spots.{merge_at, start, long, Forked, Spot, Final, Line, AtFork, Inner, between_in, not_trunk, none_some, past_trunk, inside_of, fork_same, split, fork_in, first_in}
+use Rattle.pdl_stagefacts.proofs.Spots.{merge_at, start, long, Forked, Spot, Final, Line, AtFork, Inner, between_in, not_trunk, none_some, past_trunk, inside_of, fork_same, fork_in, first_in}
 
 -- a thread in stage s leaves the pipe, goes on in the trunk, enters a branch of a fork or passes over it, goes on in a branch, or leaves it for the merge
 pub data Way (p : Flat.Pipe) (s : ℕ) (env : List ℕ) : Type 0 where
@@ -53,10 +54,6 @@ start_low f a false = omega arith
 pub start_high : (f a b d j : ℕ) (first : Bool) → d + suc j ≡ long a b first → suc (start f a first + d) < merge_at f a b
 start_high f a b d j true e = omega arith
 start_high f a b d j false e = omega arith
-
-start_skip : (f a b : ℕ) (first : Bool) → start f a first ≤ f + a + b
-start_skip f a b true = omega arith
-start_skip f a b false = omega arith
 
 -- GRAPH
 
@@ -131,7 +128,7 @@ module _ (p : Flat.Pipe) (spots : (s : ℕ) → s < length p.stages → Spot p s
   jump s env r low t over high = at (go s env low)
     where
       over_fork : (f x a b : ℕ) (n : ℕ) → Forked p f x a b → next_of p s env ≡ n → f < r → n ≤ merge_at f a b → r ≡ next_of p s env
-      over_fork f x a b n k e l m = turn (split r n)
+      over_fork f x a b n k e l m = turn (cases_lt r n)
         where
           turn : (r < n) ⊎ (n ≤ r) → r ≡ next_of p s env
           turn (inl i) = absurd (no_trunk f x a b r k l (omega arith) t)

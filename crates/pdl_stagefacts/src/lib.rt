@@ -18,5 +18,7 @@ pub fn stage_facts()
 /// The stages of an accepted pipe: one more than it has separators, and on each path a thread comes to stage 0 and then to those that the separators of the path begin, in text order.
 pub fn stages()
     ensures count { (p : Pipe) → KeepsRules p → length (flat p).stages ≡ suc (separators p.body) }
-    ensures visits { (p : Pipe) → KeepsRules p → (env : List ℕ) → visited (flat p) env (length (flat p).stages) 0 ≡ 0 ∷ begun_by env p.mems p.body (at_start p) }
+    ensures visits { (p : Pipe) → KeepsRules p → (env : List ℕ) →
+        visited (flat p) env (length (flat p).stages) 0
+        ≡ 0 ∷ begun_by env p.mems p.body (at_start p) }
 {}

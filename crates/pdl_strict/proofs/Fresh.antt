@@ -12,8 +12,9 @@ use Rattle.pdl_facts.specs.Facts.{uses_in, uses_any, mentions}
 use Rattle.pdl_stagefacts.proofs.Sites.{Site, All}
 use Rattle.pdl_pathfacts.proofs.Numbers.{var_low}
 use Rattle.pdl_pathfacts.proofs.Along.{ops_of, seen_ops, seen}
-use Rattle.pdl_pathfacts.proofs.Growth.{Grown, Grows, vars_past, past_grown}
+use Rattle.pdl_pathfacts.proofs.Growth.{Grows, vars_past, past_grown}
 use Rattle.pdl_invariant.specs.Strict.{bound_by, uses_own, mentioned, is_new, all_new}
+use Rattle.pdl_pathfacts.proofs.GuardFacts.{grown_long}
 
 -- EXPRESSIONS
 
@@ -147,14 +148,11 @@ module _ (vars k : ℕ) (ms : List Mem) (vs : List Var) (rest : List Flat.Stmt) 
 
 -- A PATH
 
-grown_length : (vs us : List Var) → Grown vs us → length vs ≤ length us
-grown_length vs us h = let e : length us ≡ length vs + length h.0 = ap length h.1 ∙ length-append vs h.0 in omega arith
-
 grows_length : (ms : List Mem) (vs us : List Var) (ts : List Site) → Grows ms vs ts us → length vs ≤ length us
-grows_length ms vs us [] h = grown_length vs us h
+grows_length ms vs us [] h = grown_long vs us h
 grows_length ms vs us (t ∷ ts) h =
-    let a = grown_length vs t.walk.vars h.0 in
-    let b = grown_length t.walk.vars (vars_past ms t.walk.vars t.stmt) (past_grown ms t.walk.vars t.stmt) in
+    let a = grown_long vs t.walk.vars h.0 in
+    let b = grown_long t.walk.vars (vars_past ms t.walk.vars t.stmt) (past_grown ms t.walk.vars t.stmt) in
     let c = grows_length ms (vars_past ms t.walk.vars t.stmt) us ts h.1 in
     omega arith
 
@@ -163,4 +161,4 @@ sites_new vars ms vs us [] g room u past low = refl
 sites_new vars ms vs us (t ∷ ts) g room u past low =
     site_new vars t.walk.stage ms t.walk.vars (seen ms ts) t.stmt u.0 (let i = grows_length ms (vars_past ms t.walk.vars t.stmt) us ts g.1 in omega arith)
     (sites_new vars ms (vars_past ms t.walk.vars t.stmt) us ts g.1 room u.1)
-    past (past_more (length vs) (length t.walk.vars) past (grown_length vs t.walk.vars g.0) low)
+    past (past_more (length vs) (length t.walk.vars) past (grown_long vs t.walk.vars g.0) low)

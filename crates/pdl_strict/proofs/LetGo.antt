@@ -11,14 +11,15 @@ use Rattle.pdl_rules.specs.Parts.{location_of}
 use Rattle.pdl_rules.specs.Locks
 use Rattle.pdl_rules.specs.Locks.{same_location, Hold, Nothing, Reserved, Blocked, Released, blocked, after_place, held, is_reserved, is_unreleased, reserves_location, leaves_open}
 use Rattle.pdl_rules.specs.Typed.{is_named}
-use Rattle.pdl_rules.proofs.Straight.{Each}
-use Rattle.pdl_rules.proofs.Once.{KeepsLocks, any_weaker, held_alike, bytes_same, bytes_refl}
+use Rattle.pdl_rules.proofs.EachPlace.{Each}
+use Rattle.pdl_rules.proofs.Once.{KeepsLocks, any_weaker, held_alike}
 use Rattle.pdl_stagefacts.proofs.Sites.{Site, closing, place_of, All}
 use Rattle.pdl_pathfacts.proofs.Numbers.{var_stays}
 use Rattle.pdl_pathfacts.proofs.Along.{ops_of, seen_ops, seen}
 use Rattle.pdl_pathfacts.proofs.Growth.{Grown, Grows, grown_more, past_grown, vars_past}
 use Rattle.pdl_pathfacts.proofs.ReadsKept.{open_reserved, held_more}
 use Rattle.pdl_invariant.specs.Strict.{all_let_go, lets_go}
+use Rattle.pdl_word.proofs.Bytes.{bytes_same, bytes_refl}
 
 -- whether one of these statements releases the location of these numbers
 abbrev releases_in : ℕ → ℕ → List Flat.Stmt → Bool

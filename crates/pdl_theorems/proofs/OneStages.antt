@@ -31,8 +31,8 @@ use Rattle.pdl_refinement.proofs.Spots.{Spot, Standing, is_nil}
 use Rattle.pdl_refinement.proofs.Follows.{Runs, runs_cycle, runs_first, low_end}
 use Rattle.pdl_progress.proofs.Rates.{left_some, cycle_left, leads, lead, left, turn_path}
 use Rattle.pdl_simulation.proofs.PerMemory.{at_mem}
-use Rattle.pdl_simulation.proofs.Shapes.{none_stage}
 use Rattle.pdl_theorems.proofs.Stated.{whole_same}
+use Rattle.pdl_turns.proofs.OfStage.{none_stage}
 
 -- VERIFIES
 

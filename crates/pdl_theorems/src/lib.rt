@@ -20,21 +20,30 @@ ghost use Rattle.pdl_derived.specs.Derived;
 
 /// Pipeline refinement and Progress in the whole language: guesses, delayed reads and forks.
 pub fn whole_language()
-    ensures refines { (p : Pipe) → Sound p → (image : Arrays) (schedule : List (List Bool)) → Refines p image schedule }
-    ensures oldest_moves { (p : Pipe) → Sound p → (image : Arrays) (schedule : List (List Bool)) (bits : List Bool) → Advances p image schedule bits }
-    ensures keeps_pace { (p : Pipe) → Sound p → (image : Arrays) (schedule : List (List Bool)) → KeepsPace p image schedule }
+    ensures refines { (p : Pipe) → Sound p → (image : Arrays) (schedule : List (List Bool)) →
+        Refines p image schedule }
+    ensures oldest_moves { (p : Pipe) → Sound p →
+        (image : Arrays) (schedule : List (List Bool)) (bits : List Bool) →
+        Advances p image schedule bits }
+    ensures keeps_pace { (p : Pipe) → Sound p → (image : Arrays) (schedule : List (List Bool)) →
+        KeepsPace p image schedule }
 {}
 
 /// The simulation: the machine that the proofs use has the same ports and waits in every cycle, of any pipe of the whole language.
 pub fn simulation()
-    ensures { (p : Pipe) → Sound p → (image : Arrays) (schedule : List (List Bool)) → SameTurns p (turns p image schedule) (Derived.turns p image schedule) }
+    ensures { (p : Pipe) → Sound p → (image : Arrays) (schedule : List (List Bool)) →
+        SameTurns p (turns p image schedule) (Derived.turns p image schedule) }
 {}
 
 /// Both theorems for the machine that the proofs use, in the whole language.
 pub fn derived_whole()
-    ensures refines { (p : Pipe) → Sound p → (image : Arrays) (schedule : List (List Bool)) → Alone.Refines p image schedule }
-    ensures oldest_moves { (p : Pipe) → Sound p → (image : Arrays) (schedule : List (List Bool)) (bits : List Bool) → Alone.Advances p image schedule bits }
-    ensures keeps_pace { (p : Pipe) → Sound p → (image : Arrays) (schedule : List (List Bool)) → Alone.KeepsPace p image schedule }
+    ensures refines { (p : Pipe) → Sound p → (image : Arrays) (schedule : List (List Bool)) →
+        Alone.Refines p image schedule }
+    ensures oldest_moves { (p : Pipe) → Sound p →
+        (image : Arrays) (schedule : List (List Bool)) (bits : List Bool) →
+        Alone.Advances p image schedule bits }
+    ensures keeps_pace { (p : Pipe) → Sound p → (image : Arrays) (schedule : List (List Bool)) →
+        Alone.KeepsPace p image schedule }
 {}
 
 /// A pipe that passes the tests has the facts that the theorems take.
@@ -44,6 +53,10 @@ pub fn facts()
 
 /// One stage: in a pipe of one stage each cycle is a whole thread, and the machine prints the lines of the sequential run.
 pub fn one_stage()
-    ensures threads { (p : Pipe) → Sound p → length p.stages ≡ 1 → (image : Arrays) (schedule : List (List Bool)) → AreThreads (turns p image schedule) (threads p image (length schedule)) }
-    ensures lines { (p : Tree.Pipe) → Sound (flat p) → length (flat p).stages ≡ 1 → (image : List (List ℕ)) (schedule : List (List Bool)) → run_lines p image schedule ≡ sequential_lines p image (length schedule) }
+    ensures threads { (p : Pipe) → Sound p → length p.stages ≡ 1 →
+        (image : Arrays) (schedule : List (List Bool)) →
+        AreThreads (turns p image schedule) (threads p image (length schedule)) }
+    ensures lines { (p : Tree.Pipe) → Sound (flat p) → length (flat p).stages ≡ 1 →
+        (image : List (List ℕ)) (schedule : List (List Bool)) →
+        run_lines p image schedule ≡ sequential_lines p image (length schedule) }
 {}

@@ -1,7 +1,7 @@
 -- Under the machine's surroundings a stage does what it does alone.
 use Rattle.std.proofs.Common.{◌≡◌, ◌≢◌, refl, sym, ap, ◌∙◌, subst, ℕ, ◌≤◌, Bool, true, false, ◌&&◌, ◌||◌, not, List, [], ◌∷◌, Some, ◌==◌, slice_index, slice_set, cond, nat_le}
 use Rattle.std.proofs.lemmas.List.{get_or-set_other}
-use Rattle.std.proofs.lemmas.Bool.{eqb-true, eqb-false, leb-true}
+use Rattle.std.proofs.lemmas.Bool.{eqb-true, eqb-false, leb-true, or_right as or_more}
 use Rattle.pdl_semantics.specs.Flat.{Arrays, Op, Bind, CombRead, DelayedRead, Write, ReserveWrite, Block, Release, Verify, Stmt, Guard, Pipe, value_of, values_of, taken, word_at}
 use Rattle.pdl_semantics.specs.Stages.{in_stage, mem_at, commit_stage, reserve_stage}
 use Rattle.pdl_semantics.specs.Machine.{same_args}
@@ -10,6 +10,7 @@ use Rattle.pdl_derived.specs.Alone.{Location}
 use Rattle.pdl_derived.proofs.Writes.{and_left, and_right}
 use Rattle.pdl_derived.proofs.Stages.{ReadsRight}
 use Rattle.pdl_facts.specs.Scans.{no_guards, is_plain, uses, opened, opens, opens_all, op_ok, reads_ok, Scan, location}
+use Rattle.pdl_word.proofs.Bools.{or_map}
 
 -- what the surroundings of a thread in stage s give where they are right for its turn; clean is what makes a location read right
 pub record Surrounds (p : Pipe) (o : Around) (arrays : Arrays) (s : ℕ) (clean : ℕ → ℕ → Type 0) : Type 0 where
@@ -82,7 +83,7 @@ reads_right p o arrays s clean sc _ env f h r = tt
 abbrev pub Covers : List Location → List Entry → Type 0
 Covers ls es = (m a : ℕ) → has es m a ≡ true → opened ls m a ≡ true
 
-has_filled : (es : List Entry) (n b v m a : ℕ) → has (filled es n b v) m a ≡ has es m a
+pub has_filled : (es : List Entry) (n b v m a : ℕ) → has (filled es n b v) m a ≡ has es m a
 has_filled [] n b v m a = refl
 has_filled (e ∷ es) n b v m a = at ((e.mem == n) && (e.var == b)) (has_filled es n b v m a)
   where
@@ -90,21 +91,13 @@ has_filled (e ∷ es) n b v m a = at ((e.mem == n) && (e.var == b)) (has_filled 
     at true h = refl
     at false h = ap (λ t. ((e.mem == m) && (e.var == a)) || t) h
 
-or_right : (b c d : Bool) → (c ≡ true → d ≡ true) → (b || c) ≡ true → (b || d) ≡ true
-or_right true c d f h = refl
-or_right false c d f h = f h
-
-or_more : (b c : Bool) → c ≡ true → (b || c) ≡ true
-or_more true c h = refl
-or_more false c h = h
-
 has_without : (es : List Entry) (n b m a : ℕ) → has (without es n b) m a ≡ true → has es m a ≡ true
 has_without [] n b m a h = h
 has_without (e ∷ es) n b m a h = at ((e.mem == n) && (e.var == b)) h (has_without es n b m a)
   where
     at : (t : Bool) → has (cond t es (e ∷ without es n b)) m a ≡ true → (has (without es n b) m a ≡ true → has es m a ≡ true) → (((e.mem == m) && (e.var == a)) || has es m a) ≡ true
     at true k f = or_more _ _ k
-    at false k f = or_right ((e.mem == m) && (e.var == a)) _ _ f k
+    at false k f = or_map ((e.mem == m) && (e.var == a)) _ _ f k
 
 covers_block : (b : Bool) (c : Scan) (l : Location) (es : List Entry) → Covers c.held es → Covers (cond b c (record { held = c.held; blocked = l ∷ c.blocked })).held es
 covers_block true c l es f = f
@@ -116,7 +109,7 @@ covers_verified false x w = refl
 
 pub covers_op : (o : Around) (c : Scan) (op : Op) (w : Work) → Covers c.held w.entries → Covers (opens op c).held (does o op w).entries
 covers_op o c (Write m a e) w f = λ n b h. f n b (sym (has_filled w.entries m a (value_of e w.env) n b) ∙ h)
-covers_op o c (ReserveWrite m a) w f = λ n b h. or_right ((m == n) && (a == b)) _ _ (f n b) h
+covers_op o c (ReserveWrite m a) w f = λ n b h. or_map ((m == n) && (a == b)) _ _ (f n b) h
 covers_op o c (Block m a) w f = covers_block (opened c.held m a) c (location m a) w.entries f
 covers_op o c (Release m a) w f = λ n b h. f n b (has_without w.entries m a n b h)
 covers_op o c (Verify args) w f = subst (λ es. Covers c.held es) (sym (covers_verified (same_args (values_of args w.env) w.guess) (values_of args w.env) w)) f
@@ -161,7 +154,7 @@ in_stage_all s (x ∷ xs) = at (x.stage == s) refl (in_stage_all s xs)
     at true e r = (eqb-true x.stage s e, r)
     at false e r = r
 
-taken_none : (gs : List Guard) (env : List ℕ) → no_guards gs ≡ true → taken gs env ≡ true
+pub taken_none : (gs : List Guard) (env : List ℕ) → no_guards gs ≡ true → taken gs env ≡ true
 taken_none [] env h = refl
 taken_none (g ∷ gs) env h = cc
 

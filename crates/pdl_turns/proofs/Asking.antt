@@ -14,10 +14,7 @@ use Rattle.pdl_derived.proofs.Stages.{step, does_same, was_ready}
 use Rattle.pdl_turns.proofs.Alike.{Surrounds, Right, AllIn, Covers, covers_op, right_set, right_at, reads_right, right_after}
 use Rattle.pdl_derived.proofs.Answering.{caught, AllAsks, all_more, all_snoc}
 use Rattle.pdl_turns.proofs.Looks.{look, keeps_clear, dead_none}
-
-by_bool : (b : Bool) (R : Type 0) → (b ≡ true → R) → (b ≡ false → R) → R
-by_bool true R f g = f refl
-by_bool false R f g = g refl
+use Rattle.pdl_word.proofs.Bools.{by_bool}
 
 -- what is known of a request that was made before these statements
 abbrev pub Known : (ℕ → ℕ → Type 0) → Scan → List Stmt → Ask → Type 0

@@ -15,7 +15,7 @@ use Rattle.pdl_facts.specs.Accepted.{along}
 use Rattle.pdl_facts.specs.Facts.{trunk_only}
 use Rattle.pdl_derived.proofs.Writes.{and_left, and_right}
 use Rattle.pdl_derived.proofs.Stages.{step}
-use Rattle.pdl_turns.proofs.Paths.{before_path}
+use Rattle.pdl_turns.proofs.Paths.{before_path, none_onpath}
 use Rattle.pdl_turns.proofs.Turn.{quiet, none_in_stage, release_looked}
 use Rattle.pdl_turns.proofs.Guesses.{same_args_refl}
 use Rattle.pdl_turns.proofs.TurnFacts.{next_at, right_guess, stage_work}
@@ -82,14 +82,6 @@ found_one P (q ∷ qs) m h k = at (q.mem == m) refl k (found_one P qs m h.1)
 pub all_at_looked : (m c : ℕ) (xs : List Stmt) → all_at (is_release m) c (looked_all xs) ≡ all_at (is_release m) c xs
 all_at_looked m c [] = refl
 all_at_looked m c (x ∷ xs) = ap₂ (λ b d. (not b || (x.stage == c)) && d) (release_looked m x.op) (all_at_looked m c xs)
-
-none_on : (test : Op → Bool) (path : List ℕ) (xs : List Stmt) → none_of test xs ≡ true → none_of test (onpath path xs) ≡ true
-none_on test path [] h = refl
-none_on test path (x ∷ xs) h = at (taken x.guards path) (none_on test path xs (and_right (not (test x.op)) _ h))
-  where
-    at : (b : Bool) → none_of test (onpath path xs) ≡ true → none_of test (cond b (record x { guards = [] } ∷ onpath path xs) (onpath path xs)) ≡ true
-    at true k = ap₂ (λ a d. a && d) (and_left (not (test x.op)) _ h) k
-    at false k = k
 
 -- what no branch may hold
 trunk_none : (test : Op → Bool) → ((op : Op) → not (trunk_only op) ≡ true → not (test op) ≡ true) → (xs : List Stmt) → none_of trunk_only xs ≡ true → none_of test xs ≡ true
@@ -221,7 +213,7 @@ module _ (p : Pipe) (acc : Sound p) where
 
       barred : (b : Option Branch) → (stage_at p t.stage).branch ≡ b → Barred o (onpath (works p o t).env (in_stage t.stage p.stmts))
       barred None e = inr (clear e)
-      barred (Some c) e = inl (none_on is_barrier (works p o t).env (in_stage t.stage p.stmts) (trunk_none is_barrier no_barrier (in_stage t.stage p.stmts) (acc.trunk_holds t.stage c e)))
+      barred (Some c) e = inl (none_onpath is_barrier (works p o t).env (in_stage t.stage p.stmts) (trunk_none is_barrier no_barrier (in_stage t.stage p.stmts) (acc.trunk_holds t.stage c e)))
 
       at : (v : Option ℕ) → verify_stage p.stmts ≡ v → Strayed p (Roams p) (has_made p) t (works p o t)
       at None e = absurd (let i : t.stage < 0 = subst (λ v. t.stage < v_of v) e low in omega arith)

@@ -11,8 +11,8 @@ use Rattle.pdl_facts.specs.Scans.{Phase, no_guards, phases_ok, all_at, none_of}
 use Rattle.pdl_facts.specs.Certain.{stands_at, stands_before, Making, Unmade, Guessed, Made, next_making, making_all, is_unmade, is_guessed, making_ok, makings_ok}
 use Rattle.pdl_derived.proofs.Writes.{and_left, and_right}
 use Rattle.pdl_derived.proofs.Stages.{step, joined, step_joined}
-use Rattle.pdl_turns.proofs.Related.{Related, related_step, next_phases, taken_none}
-use Rattle.pdl_turns.proofs.Alike.{AllIn}
+use Rattle.pdl_turns.proofs.Related.{Related, related_step, next_phases}
+use Rattle.pdl_turns.proofs.Alike.{AllIn, taken_none}
 
 pub same_args_eq : (x y : List ℕ) → same_args x y ≡ true → x ≡ y
 same_args_eq [] [] h = refl
@@ -151,7 +151,7 @@ run_settled v k (x ∷ xs) r u h n =
     at false = refl
 
 -- without a verify nothing fails
-fails_op : (o : Around) (op : Op) (w : Work) → not (is_verify op) ≡ true → (does o op w).fails ≡ w.fails
+pub fails_op : (o : Around) (op : Op) (w : Work) → not (is_verify op) ≡ true → (does o op w).fails ≡ w.fails
 fails_op o (Verify args) w n = absurd (cc n)
 fails_op o _ w n = refl
 

@@ -24,3 +24,4 @@ pub mod Roaming
 pub mod CourseOf
 pub mod Steps
 pub mod Own
+pub mod OfStage

@@ -17,6 +17,7 @@ use Rattle.pdl_derived.proofs.Stages.{step, joined, do_all_joined, or_else}
 use Rattle.pdl_turns.proofs.Paths.{Fixed}
 pub use Rattle.pdl_turns.proofs.Paths.{dead_none}
 use Rattle.pdl_derived.proofs.Answering.{caught, caught_set, AllAsks, all_snoc}
+use Rattle.pdl_word.proofs.Bools.{by_or}
 
 not_or : (a b : Bool) → not (a || b) ≡ true → (not a ≡ true) × (not b ≡ true)
 not_or true b h = absurd (cc h)
@@ -64,10 +65,6 @@ values_unused x v (e ∷ es) env h = let n = not_or (uses_in x e) (uses_any x es
 pub taken_unused : (x v : ℕ) (gs : List Guard) (env : List ℕ) → not (asks_for x gs) ≡ true → taken gs (slice_set env x v) ≡ taken gs env
 taken_unused x v [] env h = refl
 taken_unused x v (g ∷ gs) env h = let n = not_or (g.var == x) (asks_for x gs) h in ap₂ (λ k b. takes g.first k && b) (other env x v g.var n.0) (taken_unused x v gs env n.1)
-
-by_or : (b c : Bool) (R : Type 0) → (b || c) ≡ true → (b ≡ true → R) → (c ≡ true → R) → R
-by_or true c R h f g = f refl
-by_or false c R h f g = g h
 
 -- STATEMENTS THAT HAVE NOTHING TO DO WITH A VARIABLE
 
@@ -285,7 +282,7 @@ fixed_raw path arrays (y ∷ ys) w h f = (
 
 -- THE TEXT WITH READS AT ONCE
 
-looked_twice : (op : Op) → looked (looked op) ≡ looked op
+pub looked_twice : (op : Op) → looked (looked op) ≡ looked op
 looked_twice (DelayedRead x m a) = refl
 looked_twice _ = refl
 

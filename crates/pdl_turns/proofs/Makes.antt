@@ -1,5 +1,5 @@
 -- What the threads of one path make: the facts of their calls and guesses by stages.
-use Rattle.std.proofs.Common.{◌≡◌, refl, sym, ap, ap₂, ◌∙◌, subst, ℕ, suc, ◌≤◌, ◌<◌, Bool, true, false, ◌&&◌, List, [], ◌∷◌, length, Option, Some, None, nat_lt, cond, arith, ltb-true, ltb-false}
+use Rattle.std.proofs.Common.{◌≡◌, refl, sym, ap, ap₂, ◌∙◌, subst, ℕ, suc, ◌≤◌, ◌<◌, true, false, ◌&&◌, List, [], ◌∷◌, length, Option, Some, None, nat_lt, cond, arith, ltb-true, ltb-false}
 use Rattle.pdl_semantics.specs.Flat.{Arrays, Stmt, Pipe}
 use Rattle.pdl_semantics.specs.Stages.{onpath, in_stage, is_verify, verify_stage}
 use Rattle.pdl_semantics.specs.Machine.{same_args}
@@ -16,6 +16,7 @@ use Rattle.pdl_turns.proofs.Turn.{none_from}
 use Rattle.pdl_turns.proofs.Whole.{start_run, run_at, run_append, related_at, ok_before, phases_second, start_related}
 use Rattle.pdl_turns.proofs.Guesses.{same_args_eq, same_args_refl, making_append, makings_first, makings_second, verify_at, no_guess, unverified, unverified_made, settled, run_settled, unfailed, Calls, calls_all, Verified, verified_all, Along, along_all, along_joined, unguarded}
 use Rattle.pdl_turns.proofs.TurnFacts.{right_guess}
+use Rattle.pdl_word.proofs.Bools.{by_bool}
 
 free_all : (m : ℕ) (ph : Phase) (xs : List Stmt) → phases_ok m ph xs ≡ true → unguarded xs ≡ true
 free_all m ph [] h = refl
@@ -30,10 +31,6 @@ by_making : (k : Making) (R : Type 0) → (k ≡ Unmade → R) → (k ≡ Guesse
 by_making Unmade R f g h = f refl
 by_making Guessed R f g h = g refl
 by_making Made R f g h = h refl
-
-by_bool : (b : Bool) (R : Type 0) → (b ≡ true → R) → (b ≡ false → R) → R
-by_bool true R f g = f refl
-by_bool false R f g = g refl
 
 not_some : {x : List ℕ} → None ≡ Some x → ⊥
 not_some h = cc

@@ -141,7 +141,7 @@ calm_raised a (i ∷ ks) (j ∷ js) l k r c = calm_raised a ks js _ _ r.3 (at (i
 calm_nothing : (l : Latest) → Calm l Nothing
 calm_nothing l = ((λ e. refl), (λ e. refl))
 
-calm_ready : (k : Lock) (l j : Latest) → Calm l j → read_ready k l ≡ true → read_ready k j ≡ true
+pub calm_ready : (k : Lock) (l j : Latest) → Calm l j → read_ready k l ≡ true → read_ready k j ≡ true
 calm_ready Plain l j c h = refl
 calm_ready (Queue n) l j c h = c.0 h
 calm_ready (Bypass n) l j c h = not_coming (is_coming l) (is_coming j) c.1 h

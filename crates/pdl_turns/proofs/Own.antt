@@ -6,7 +6,7 @@ use Rattle.pdl_semantics.specs.Machine.{same_args, Pending, Deeds, does_all}
 use Rattle.pdl_semantics.specs.Cycle.{new_entries, put_all, oldest, but_oldest}
 use Rattle.pdl_turns.proofs.Released.{released}
 use Rattle.pdl_semantics.specs.Machine
-use Rattle.pdl_derived.specs.Derived.{Entry, Work, Around, does, do_all}
+use Rattle.pdl_derived.specs.Derived.{Entry, Work, Around, do_all}
 use Rattle.pdl_derived.proofs.Writes.{and_left, and_right}
 use Rattle.pdl_derived.proofs.Entries.{entries_of, entry}
 use Rattle.pdl_facts.specs.Scans.{Phase, Fresh, Held, Written, Done, none_of, binds, fixed, free_of, is_dead, keeps_guards}
@@ -24,7 +24,7 @@ pend_own m n (e ∷ es) = at (e.mem == m) refl (pend_own m n es)
     at true f h = ap₂ (λ l b. l ++ cond b (own n e ∷ []) []) h (sym f)
     at false f h = append-nil _ ∙ h
 
-pend_one : (m n x a : ℕ) (v : Option ℕ) → pend m n (entry m x a v ∷ []) ≡ own n (entry m x a v) ∷ []
+pub pend_one : (m n x a : ℕ) (v : Option ℕ) → pend m n (entry m x a v ∷ []) ≡ own n (entry m x a v) ∷ []
 pend_one m n x a v = ap (λ b. cond b (own n (entry m x a v) ∷ []) []) (eq-eqb m m refl)
 
 -- a stage's work on a thread's entries of m, of which start are those before it
@@ -62,7 +62,7 @@ worked m n start d w ph g = at ph g
         }
 
 -- guards stay over statements that don't bind them
-none_first : (test : Op → Bool) (xs ys : List Stmt) → none_of test (xs ++ ys) ≡ true → none_of test xs ≡ true
+pub none_first : (test : Op → Bool) (xs ys : List Stmt) → none_of test (xs ++ ys) ≡ true → none_of test xs ≡ true
 none_first test [] ys h = refl
 none_first test (x ∷ xs) ys h = ap₂ (λ a b. a && b) (and_left (not (test x.op)) _ h) (none_first test xs ys (and_right _ _ h))
 

@@ -52,7 +52,7 @@ all_stays g o (x ∷ xs) w h = all_stays g o xs _ (and_right _ _ h) ∙ at (take
     at true = op_stays g o x.op w (and_left _ _ h)
     at false = refl
 
-none_onpath : (test : Op → Bool) (path : List ℕ) (xs : List Stmt) → none_of test xs ≡ true → none_of test (onpath path xs) ≡ true
+pub none_onpath : (test : Op → Bool) (path : List ℕ) (xs : List Stmt) → none_of test xs ≡ true → none_of test (onpath path xs) ≡ true
 none_onpath test path [] h = refl
 none_onpath test path (x ∷ xs) h = at (taken x.guards path) (none_onpath test path xs (and_right _ _ h))
   where

@@ -11,10 +11,10 @@ use Rattle.pdl_derived.proofs.Writes.{and_left, and_right, of_mem_append}
 use Rattle.pdl_derived.proofs.Entries.{entries_of, entry, write_of, addresses, places}
 use Rattle.pdl_turns.proofs.Phases.{Tied}
 use Rattle.pdl_facts.specs.Scans.{Phase, Fresh, Held, Written, Done, after_release, next_phase, holds, is_fresh, phase_ok, phases_ok, phase_all, from, is_plain}
-use Rattle.pdl_turns.proofs.Related.{taken_none}
 use Rattle.pdl_facts.specs.Accepted.{Accepted}
 use Rattle.pdl_turns.proofs.Marks.{Mark, seen, strips, marked, Later, raised_marked, strips_marked, latest_own, no_strips}
 use Rattle.pdl_turns.proofs.Whole.{phases_second, no_more, ok_before, ok_from, related_at, commits_early, commits_late, all_places, run_at, start_run, run_append, quiet_at, undone_step, plain_writes, undone_in_end}
+use Rattle.pdl_turns.proofs.Alike.{taken_none}
 
 -- a write that is made is the thread's only one
 abbrev pub is_settled : Phase → Bool
@@ -73,7 +73,7 @@ settled_all m (x ∷ xs) ph r h k =
     let t = settled_all m xs (next_phase m ph x.op) (runs x.op r) (and_right _ _ h) q.0 in
     (t.0, ap (λ v. of_mem m (run_all xs v).writes) goes ∙ t.1 ∙ q.1)
 
-phase_append : (m : ℕ) (xs ys : List Stmt) (ph : Phase) → phase_all m ph (xs ++ ys) ≡ phase_all m (phase_all m ph xs) ys
+pub phase_append : (m : ℕ) (xs ys : List Stmt) (ph : Phase) → phase_all m ph (xs ++ ys) ≡ phase_all m (phase_all m ph xs) ys
 phase_append m [] ys ph = refl
 phase_append m (x ∷ xs) ys ph = phase_append m xs ys (next_phase m ph x.op)
 

@@ -1,16 +1,17 @@
 -- A thread that runs alone does what the sequential run does.
 use Rattle.std.proofs.Common.{◌≡◌, refl, sym, ap, ap₂, ◌∙◌, subst, ℕ, Bool, true, false, ◌||◌, not, List, [], ◌∷◌, ◌++◌, Some, None, ◌==◌, cond, eq-eqb, slice_index, slice_set, append-nil}
 use Rattle.std.proofs.lemmas.Bool.{eqb-true, eqb-false}
-use Rattle.pdl_semantics.specs.Flat.{Arrays, Array, Op, Bind, CombRead, DelayedRead, Write, ReserveWrite, Release, Call, Verify, Stmt, Guard, value_of, values_of, taken, word_at, Commit, of_mem, committed, with_word}
+use Rattle.pdl_semantics.specs.Flat.{Arrays, Array, Op, Bind, CombRead, DelayedRead, Write, ReserveWrite, Release, Call, Verify, Stmt, value_of, values_of, taken, word_at, Commit, of_mem, committed, with_word}
 use Rattle.pdl_semantics.specs.Sequential.{Run, runs, run_all}
 use Rattle.pdl_semantics.specs.Promises.{wrote, row}
 use Rattle.pdl_derived.specs.Derived.{Entry, Work, does, do_all, without, filled, released}
 use Rattle.pdl_derived.specs.Alone.{alone}
 use Rattle.pdl_semantics.specs.Machine.{same_args}
 use Rattle.pdl_derived.proofs.Writes.{and_left, and_right, of_mem_append, row_committed, committed_append}
-use Rattle.pdl_derived.proofs.Entries.{entries_of, filled_own, filled_other, without_own, without_other, released_own, released_other, entry, write_of}
+use Rattle.pdl_derived.proofs.Entries.{entries_of, filled_other, without_own, without_other, released_own, released_other, entry, write_of, entries_of-filled}
 use Rattle.pdl_turns.proofs.Phases.{Tied, tied_moved, tied_set, tied_reserve, tied_write, tied_release}
 use Rattle.pdl_facts.specs.Scans.{Phase, Fresh, Held, Written, Done, after_release, next_phase, holds, may_read, is_fresh, phase_ok, no_guards, phases_ok, phase_all}
+use Rattle.pdl_turns.proofs.Alike.{taken_none}
 
 -- the work of a thread alone on these arrays, and the sequential run, after the same statements
 pub record Related (arrays : Arrays) (ph : ℕ → Phase) (w : Work) (r : Run) : Type 0 where
@@ -51,7 +52,7 @@ tied_write_any : (m n a v : ℕ) (ph : Phase) (env : List ℕ) (es : List Entry)
     → Tied m (cond b (Written a) ph) env (entries_of m (filled es n a v)) cs (of_mem m (ws ++ write_of n (slice_index env a) v ∷ []))
 tied_write_any m n a v ph env es cs ws true e h t =
     tied_moved m (Written a) env _ _ _ _ _ _
-    (ap (λ k. entries_of m (filled es k a v)) (eqb-true n m e) ∙ filled_own es m a v) refl
+    (ap (λ k. entries_of m (filled es k a v)) (eqb-true n m e) ∙ entries_of-filled es m a v) refl
     (of_mem_append m ws _ ∙ ap (λ l. of_mem m ws ++ l) (one_of m n (slice_index env a) v true e ∙ ap (λ k. write_of k (slice_index env a) v ∷ []) (eqb-true n m e)))
     (tied_write m a v ph env (entries_of m es) cs (of_mem m ws) h t)
 tied_write_any m n a v ph env es cs ws false e h t =
@@ -129,10 +130,6 @@ related_step arrays ph (Verify args) w r ok rel = at (same_args (values_of args 
     at false = record { env = rel.env; arrays_now = rel.arrays_now; tied = rel.tied }
 related_step arrays ph _ w r ok rel =
     record { env = rel.env; arrays_now = rel.arrays_now; tied = rel.tied }
-
-pub taken_none : (gs : List Guard) (env : List ℕ) → no_guards gs ≡ true → taken gs env ≡ true
-taken_none [] env h = refl
-taken_none (g ∷ gs) env h = cc
 
 -- statements alone, and the sequential run of them
 pub related_all : (arrays : Arrays) (xs : List Stmt) (ph : ℕ → Phase) (w : Work) (r : Run)

@@ -18,7 +18,7 @@ use Rattle.pdl_turns.proofs.Alike.{AllIn, Covers, covers_op}
 use Rattle.pdl_turns.proofs.Guesses.{unguarded, step_free}
 use Rattle.pdl_turns.proofs.Astray.{some_barrier, unreleased}
 use Rattle.pdl_derived.proofs.Answering.{AllAsks}
-use Rattle.pdl_turns.proofs.Looks.{look}
+use Rattle.pdl_turns.proofs.Looks.{look, looked_twice}
 use Rattle.pdl_turns.proofs.Sounds.{binds_looked}
 
 pub clash : false ≡ true → ⊥
@@ -84,19 +84,15 @@ pub looked_append : (xs ys : List Stmt) → looked_all (xs ++ ys) ≡ looked_all
 looked_append [] ys = refl
 looked_append (x ∷ xs) ys = ap (λ l. look x ∷ l) (looked_append xs ys)
 
-twice : (op : Op) → looked (looked op) ≡ looked op
-twice (DelayedRead x m a) = refl
-twice _ = refl
-
 pub looked_before : (s : ℕ) (xs : List Stmt) → looked_all (before s xs) ≡ before s xs
 looked_before s [] = refl
 looked_before s (x ∷ xs) = at (nat_lt x.stage s) (looked_before s xs)
   where
     at : (b : Bool) → looked_all (before s xs) ≡ before s xs → looked_all (cond b (look x ∷ before s xs) (before s xs)) ≡ cond b (look x ∷ before s xs) (before s xs)
-    at true h = ap₂ (λ op l. record x { op = op } ∷ l) (twice x.op) h
+    at true h = ap₂ (λ op l. record x { op = op } ∷ l) (looked_twice x.op) h
     at false h = h
 
-verify_same : (op : Op) → is_verify (looked op) ≡ is_verify op
+pub verify_same : (op : Op) → is_verify (looked op) ≡ is_verify op
 verify_same (DelayedRead x m a) = refl
 verify_same _ = refl
 

@@ -2,6 +2,7 @@
 use Rattle.std.proofs.Common.{◌≡◌, refl, sym, ap, ap₂, ◌∙◌, ℕ, ◌⊎◌, inl, inr, Bool, true, false, ◌&&◌, ◌||◌, not, List, [], ◌∷◌, ◌++◌, Option, Some, None, ◌==◌, cond, if◌then◌else◌, arith, eq-eqb, append-nil, append_assoc}
 use Rattle.std.proofs.lemmas.Bool.{eqb-true, eqb-false}
 use Rattle.std.proofs.lemmas.Bool.Decides.{eqb_tells}
+use Rattle.std.proofs.Math.Bool.{or-false}
 use Rattle.pdl_semantics.specs.Flat.{Commit, of_mem}
 use Rattle.pdl_semantics.specs.Stages.{list_any}
 use Rattle.pdl_semantics.specs.Machine.{Ask, Pending, Blocked, Reserved, Deeds}
@@ -11,7 +12,7 @@ use Rattle.pdl_semantics.specs.Machine
 use Rattle.pdl_derived.specs.Derived.{Entry, Work, Around, has, without, released}
 use Rattle.pdl_derived.specs.Derived
 use Rattle.pdl_derived.proofs.Writes.{of_mem_append}
-use Rattle.pdl_derived.proofs.Entries.{entries_of, entry, write_of, filled_own, filled_other, filled_one, without_own, without_other, without_one, released_own, released_other, released_one}
+use Rattle.pdl_derived.proofs.Entries.{entries_of, entry, write_of, filled_other, filled_one, without_own, without_other, without_one, released_own, released_other, released_one, entries_of-filled}
 use Rattle.pdl_facts.specs.Scans.{Phase, Fresh, Held, Written, Done, after_release, holds, is_fresh}
 use Rattle.pdl_derived.proofs.Lists.{own}
 
@@ -72,10 +73,6 @@ without_none (e ∷ es) m a h = at ((e.mem == m) && (e.var == a)) refl h (λ k. 
     at true e h k = absurd (cc h)
     at false _ h k = (ap (λ l. e ∷ l) (k h).0, (k h).1)
 
-or_false : (b : Bool) → (b || false) ≡ b
-or_false true = refl
-or_false false = refl
-
 apart_false : (x a m : ℕ) (v : Option ℕ) (y : ℕ) → (x == a) ≡ false → has (entry m x y v ∷ []) m a ≡ false
 apart_false x a m v y h = ap₂ (λ b c. (b && c) || false) (eq-eqb m m refl) h
 
@@ -90,7 +87,7 @@ step_write m n k a v Fresh es cs new ws rel true e h g = absurd (cc h)
 step_write m n k a v (Held x) es cs new ws rel true e h g = (
   g.0,
   v,
-  ap (λ j. entries_of m (Derived.filled es j a v)) (eqb-true k m e) ∙ filled_own es m a v ∙ ap (λ l. Derived.filled l m a v) (g.1 ∙ ap (λ y. entry m y g.0 None ∷ []) (eqb-true x a h)) ∙ filled_one m a g.0 v None,
+  ap (λ j. entries_of m (Derived.filled es j a v)) (eqb-true k m e) ∙ entries_of-filled es m a v ∙ ap (λ l. Derived.filled l m a v) (g.1 ∙ ap (λ y. entry m y g.0 None ∷ []) (eqb-true x a h)) ∙ filled_one m a g.0 v None,
   g.2,
   put_all_more m n ws (record { mem = k; value = v }) new ∙ ap (λ c. cond c (put n v (put_all m n ws new)) (put_all m n ws new)) e ∙ ap (put n v) g.3
       ∙ ap (λ c. cond c (own n (entry m a g.0 (Some v))) (own n (entry m x g.0 None)) ∷ []) (eq-eqb n n refl),
@@ -125,10 +122,10 @@ step_none : (m n k a : ℕ) (ph : Phase) (es : List Entry) (cs : List Commit) (n
     → Staged m n ph (entries_of m (without es k a)) (of_mem m (cs ++ released es k a)) new ws (list_any (λ j. j == m) (rs ++ cond held (k ∷ []) []))
 step_none m n k a ph es cs new ws rs held f h i g =
     staged_moved m n ph _ _ _ _ new new ws ws _ _ f (of_mem_append m cs _ ∙ ap (λ l. of_mem m cs ++ l) h ∙ append-nil _) refl (λ l. refl)
-    (any_more (λ j. j == m) rs _ ∙ ap (λ b. list_any (λ j. j == m) rs || b) (at held ∙ i) ∙ or_false _) g
+    (any_more (λ j. j == m) rs _ ∙ ap (λ b. list_any (λ j. j == m) rs || b) (at held ∙ i) ∙ or-false _) g
   where
     at : (c : Bool) → list_any (λ j. j == m) (cond c (k ∷ []) []) ≡ (c && (k == m))
-    at true = or_false (k == m)
+    at true = or-false (k == m)
     at false = refl
 
 pub step_release : (m n k a : ℕ) (ph : Phase) (es : List Entry) (cs : List Commit) (new : List Pending) (ws : List Machine.Written) (rs : List ℕ) (held : Bool) → held ≡ has es k a → (b : Bool) → (k == m) ≡ b

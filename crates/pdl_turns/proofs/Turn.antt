@@ -10,7 +10,7 @@ use Rattle.pdl_semantics.specs.Sequential.{Run}
 use Rattle.pdl_derived.specs.Derived.{Entry, Work, Around, does, do_all, without, filled, released}
 use Rattle.pdl_derived.specs.Alone.{alone, before, looked}
 use Rattle.pdl_derived.proofs.Writes.{and_left, and_right, of_mem_append}
-use Rattle.pdl_derived.proofs.Entries.{entries_of, filled_own, filled_other, without_own, without_other, released_own, released_other, entry, write_of, addresses, places, without_one, without_no, released_one, released_no}
+use Rattle.pdl_derived.proofs.Entries.{entries_of, filled_other, without_own, without_other, released_own, released_other, entry, write_of, addresses, places, without_one, without_no, released_one, released_no, entries_of-filled}
 use Rattle.pdl_turns.proofs.Phases.{Tied}
 use Rattle.pdl_facts.specs.Scans.{Phase, Fresh, Held, Written, Done, holds, from, all_at, none_of}
 use Rattle.pdl_turns.proofs.Related.{Related, Ok}
@@ -119,7 +119,7 @@ pub spots_op : (arrays : Arrays) (m : ℕ) (ph : ℕ → Phase) (op : Op) (w : W
 spots_op arrays m ph (Write n a e) w r h ok rel = at (n == m) refl
   where
     at : (b : Bool) → (n == m) ≡ b → spots (entries_of m (filled w.entries n a (value_of e w.env))) (of_mem m w.commits) ≡ spots (entries_of m w.entries) (of_mem m w.commits)
-    at true f = ap (λ k. spots (entries_of m (filled w.entries k a (value_of e w.env))) (of_mem m w.commits)) (eqb-true n m f) ∙ ap (λ l. spots l (of_mem m w.commits)) (filled_own w.entries m a _) ∙ ap (λ l. l ++ places (of_mem m w.commits)) (filled_addresses (entries_of m w.entries) m a _)
+    at true f = ap (λ k. spots (entries_of m (filled w.entries k a (value_of e w.env))) (of_mem m w.commits)) (eqb-true n m f) ∙ ap (λ l. spots l (of_mem m w.commits)) (entries_of-filled w.entries m a _) ∙ ap (λ l. l ++ places (of_mem m w.commits)) (filled_addresses (entries_of m w.entries) m a _)
     at false f = ap (λ l. spots l (of_mem m w.commits)) (filled_other w.entries m n a _ (eqb-false n m f))
 spots_op arrays m ph (ReserveWrite n a) w r h ok rel = ap (λ c. spots (cond c (entry n a (slice_index w.env a) None ∷ entries_of m w.entries) (entries_of m w.entries)) (of_mem m w.commits)) (apart (n == m) refl h)
   where

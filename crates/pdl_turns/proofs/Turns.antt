@@ -9,7 +9,7 @@ use Rattle.pdl_derived.specs.Derived.{Work, works, do_all, latest_in}
 use Rattle.pdl_derived.specs.Alone.{alone, before, start_work, so_far, placed}
 use Rattle.pdl_derived.proofs.Entries.{entries_of}
 use Rattle.pdl_derived.proofs.Stages.{or_else, next_piece, joined, reset}
-use Rattle.pdl_facts.specs.Scans.{from, is_plain, none_of, binds, fixed, no_scan, opens_all}
+use Rattle.pdl_facts.specs.Scans.{from, is_plain, none_of, binds, no_scan, opens_all}
 use Rattle.pdl_facts.specs.Accepted.{Accepted, along, Pathwise}
 use Rattle.pdl_turns.proofs.Paths.{Fixed, run_path, fixed_path_to, fixed_all, all_stays, before_path, stage_path}
 use Rattle.pdl_derived.proofs.Writes.{and_left, and_right}
@@ -18,6 +18,7 @@ use Rattle.pdl_turns.proofs.Marks.{seen, strips, Later, marked}
 use Rattle.pdl_turns.proofs.Pending.{marks, has_value}
 use Rattle.pdl_turns.proofs.Pending
 use Rattle.pdl_turns.proofs.Whole
+use Rattle.pdl_turns.proofs.Own.{fixed_second}
 
 -- what holds of a stage and of those behind it holds of all from it on
 pub none_parts : (test : Op → Bool) (s : ℕ) (xs : List Stmt) → none_of test (in_stage s xs ++ from (suc s) xs) ≡ true → none_of test (from s xs) ≡ true
@@ -60,10 +61,6 @@ none_from_path test path s (x ∷ xs) h = at (nat_le s x.stage) refl (taken x.gu
     at true e false k f = f (and_right (not (test x.op)) _ k)
     at false e false k f = f k
 
-pub fixed_behind : (xs ys : List Stmt) → fixed (xs ++ ys) ≡ true → fixed ys ≡ true
-fixed_behind [] ys h = h
-fixed_behind (x ∷ xs) ys h = fixed_behind xs ys (and_right _ _ h)
-
 module _ (p : Pipe) (acc : Pathwise p) (arrays : Arrays) (args : List ℕ) where
   abbrev pub path : List ℕ
   path = (thread p arrays args).env
@@ -93,7 +90,7 @@ module _ (p : Pipe) (acc : Pathwise p) (arrays : Arrays) (args : List ℕ) where
 
   pub fixed_stage : (s : ℕ) → Fixed (thread p arrays args).env (alone arrays) (in_stage s p.stmts) (reset (so_far p arrays args s))
   fixed_stage s =
-      fixed_path_to (thread p arrays args).env (alone arrays) (in_stage s p.stmts) (from (suc s) p.stmts) (reset (so_far p arrays args s)) (fixed_behind (before s p.stmts) (in_stage s p.stmts ++ from (suc s) p.stmts) (acc.fixed_by s))
+      fixed_path_to (thread p arrays args).env (alone arrays) (in_stage s p.stmts) (from (suc s) p.stmts) (reset (so_far p arrays args s)) (fixed_second (before s p.stmts) (in_stage s p.stmts ++ from (suc s) p.stmts) (acc.fixed_by s))
       (λ g k. (λ i. slice_index (do_all (alone arrays) (sym (stage_path (thread p arrays args).env s p.stmts) i) (reset (so_path s i))).env g)
       ∙ ap (λ (w : Work). slice_index w.env g) (sym (next_piece (along (thread p arrays args).env p) arrays args s (accq.pieces s))) ∙ value_kept (suc s) g k)
 

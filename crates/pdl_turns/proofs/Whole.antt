@@ -11,10 +11,11 @@ use Rattle.pdl_derived.proofs.Writes.{and_left, and_right, of_mem_append, row_co
 use Rattle.pdl_derived.proofs.Entries.{entries_of, addresses, places}
 use Rattle.pdl_turns.proofs.Phases.{Tied}
 use Rattle.pdl_facts.specs.Scans.{Phase, Fresh, Held, Written, Done, next_phase, phase_ok, no_guards, phases_ok, phase_all, is_over, from, none_of, opens, reads_ok, opens_all, is_plain, Scan, no_scan}
-use Rattle.pdl_turns.proofs.Related.{Related, related_all, related_step, Ok, next_phases, taken_none}
+use Rattle.pdl_turns.proofs.Related.{Related, related_all, related_step, Ok, next_phases}
 use Rattle.pdl_derived.proofs.Stages.{step, joined, next_piece, do_all_append}
 use Rattle.pdl_facts.specs.Accepted.{Accepted}
 use Rattle.pdl_turns.proofs.Turn.{quiet, none_in_stage, none_before, none_from, release_looked, spots, spots_op}
+use Rattle.pdl_turns.proofs.Alike.{taken_none}
 
 ok_here : (n : ℕ) (ph : Phase) (x : Stmt) (xs : List Stmt) → phases_ok n ph (x ∷ xs) ≡ true → phase_ok n ph x.op ≡ true
 ok_here n ph x xs h = and_right _ _ (and_left _ _ h)

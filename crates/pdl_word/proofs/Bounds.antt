@@ -3,7 +3,7 @@ use Rattle.std.proofs.Common.{◌≡◌, ℕ, zero, suc, ◌+◌, ◌-◌, ◌*�
 use Rattle.std.proofs.Math.Nat.{mod-lt, suc-mul, mul-le-mul_right}
 use Rattle.std.proofs.lemmas.Bool.{cases_lt}
 use Rattle.std.proofs.lemmas.Nat.{pow_pos, pow-add, shr_le, or_lt, xor_lt, and_le_l}
-use Rattle.pdl_word.specs.Words.{bit, mask, add, sub, mul, complement, and, or, xor, equal, differ, less, lts, shl, shr, slice, cat, zext, sext, mux, rep}
+use Rattle.pdl_word.specs.Words.{bit, add, sub, mul, complement, and, or, xor, equal, differ, less, lts, shl, shr, slice, cat, zext, sext, mux, rep}
 use Rattle.pdl_word.proofs.Shifts.{shl_within, shl_past, shr_within, shr_past}
 use Rattle.pdl_word.proofs.Signs.{wider}
 
@@ -13,10 +13,6 @@ mod_below_pow n w = mod-lt n (pow_pos w)
 bit_below : (b : Bool) → bit b < 2 ^ 1
 bit_below true = lit< tt
 bit_below false = lit< tt
-
-pub mask_below : (w : ℕ) → mask w < 2 ^ w
-unfolding mask
-mask_below w = omega (arith, pow_pos w)
 
 pub add_below : (w a b : ℕ) → add w a b < 2 ^ w
 unfolding add

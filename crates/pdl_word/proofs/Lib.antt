@@ -5,3 +5,7 @@ pub mod Signs
 pub mod Bounds
 pub mod Copies
 pub mod Rows
+pub mod Bools
+pub mod Lists
+pub mod Bytes
+pub mod Numbers

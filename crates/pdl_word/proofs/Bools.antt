@@ -1,0 +1,36 @@
+-- Facts on truth values that std doesn't have.
+use Rattle.std.proofs.Common.{◌≡◌, refl, sym, ℕ, Bool, true, false, ◌&&◌, ◌||◌, if◌then◌else◌, Option, Some, None}
+use Rattle.std.proofs.Math.Bool.{and-true}
+
+pub by_bool : (b : Bool) (R : Type 0) → (b ≡ true → R) → (b ≡ false → R) → R
+by_bool true R f g = f refl
+by_bool false R f g = g refl
+
+pub by_or : (b c : Bool) (R : Type 0) → (b || c) ≡ true → (b ≡ true → R) → (c ≡ true → R) → R
+by_or true c R h f g = f refl
+by_or false c R h f g = g h
+
+pub same_bools : (a b : Bool) → (a ≡ true → b ≡ true) → (b ≡ true → a ≡ true) → a ≡ b
+same_bools true true f g = refl
+same_bools false false f g = refl
+same_bools true false f g = sym (f refl)
+same_bools false true f g = g refl
+
+pub and_true : (b : Bool) → b ≡ (b && true)
+and_true b = sym (and-true b)
+
+pub and_swap : (a b c : Bool) → ((a && b) && c) ≡ ((a && c) && b)
+and_swap true true true = refl
+and_swap true true false = refl
+and_swap true false true = refl
+and_swap true false false = refl
+and_swap false b c = refl
+
+pub or_map : (b c d : Bool) → (c ≡ true → d ≡ true) → (b || c) ≡ true → (b || d) ≡ true
+or_map true c d f h = refl
+or_map false c d f h = f h
+
+-- the first of two that are given, and there is none
+pub none_given : (b : Bool) (k : ℕ) (o : Option ℕ) → (if b then Some k else o) ≡ None → (b ≡ false) × (o ≡ None)
+none_given true k o h = cc
+none_given false k o h = (refl, h)

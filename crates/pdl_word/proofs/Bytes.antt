@@ -1,0 +1,16 @@
+-- When two texts are equal.
+use Rattle.std.proofs.Common.{◌≡◌, refl, sym, ℕ, true, List, bytes_eq}
+use Rattle.std.proofs.lemmas.Slice.Eq.{bytes_eq-Decides}
+use Rattle.std.proofs.lemmas.Bool.Decides.{same_from_decides}
+
+pub bytes_same : (a b : List ℕ) → bytes_eq a b ≡ true → a ≡ b
+bytes_same a b e = (bytes_eq-Decides a b).0 e
+
+pub bytes_refl : (a : List ℕ) → bytes_eq a a ≡ true
+bytes_refl a = (bytes_eq-Decides a a).1 refl
+
+pub bytes_swap : (a b : List ℕ) → bytes_eq a b ≡ bytes_eq b a
+bytes_swap a b =
+    let there = bytes_eq-Decides a b in
+    let back = bytes_eq-Decides b a in
+    same_from_decides _ _ there (λ e. sym (back.0 e), λ e. back.1 (sym e))

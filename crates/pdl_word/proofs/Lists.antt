@@ -1,0 +1,70 @@
+-- Facts on lists and options that std doesn't have.
+use Rattle.std.proofs.Common.{◌≡◌, refl, sym, ap, ◌∙◌, ℕ, zero, suc, ◌+◌, ◌<◌, ◌≤◌, Bool, true, false, cond, filter, ◌||◌, ◌&&◌, nat_eq, List, [], ◌∷◌, ◌++◌, length, take, drop, replicate, slice_index, Option, Some, None, is_some, Vec, Global, arith, ⊎_elim}
+use Rattle.std.specs.Option.{option_map}
+use Rattle.std.specs.List.{prefix_len, starts_with, list_any}
+use Rattle.std.specs.Cmp.Lexicographic.{pointwise}
+use Rattle.std.specs.Vec.{with_items}
+use Rattle.std.proofs.lemmas.Bool.{and_parts, or_right, cases_lt}
+use Rattle.std.proofs.lemmas.List.{append-nil, drop_all, take_all, length-append, length-replicate, get_or-replicate, get_or_past}
+use Rattle.pdl_word.proofs.Bools.{or_map}
+
+pub head_same : {X : Type 0} {x y : X} {xs ys : List X} → x ∷ xs ≡ y ∷ ys → x ≡ y
+head_same e = cc
+
+pub tail_same : {X : Type 0} {x y : X} {xs ys : List X} → x ∷ xs ≡ y ∷ ys → xs ≡ ys
+tail_same e = cc
+
+pub is_some-mapped : {T U : Type 0} (f : T → U) (o : Option T) → is_some (option_map f o) ≡ is_some o
+is_some-mapped f None = refl
+is_some-mapped f (Some x) = refl
+
+pub take_few : (n : ℕ) (xs : List ℕ) → length (take n xs) ≤ length xs
+take_few zero xs = omega arith
+take_few (suc n) [] = omega arith
+take_few (suc n) (x ∷ xs) = let rest = take_few n xs in omega arith
+
+pub zeros_at : (n i : ℕ) → slice_index (replicate n 0) i ≡ 0
+zeros_at n i = ⊎_elim (λ (lt : i < n). get_or-replicate n i 0 0 lt) (λ (ge : n ≤ i). get_or_past (replicate n 0) i 0 (let e = length-replicate {A = ℕ} n 0 in omega (arith, e))) (cases_lt i n)
+
+-- a vector that is given as many items has these
+pub items_written : {X : Type 0} (v : Vec X Global) (ws : List X) → length ws ≡ length v.items → (with_items v ws).items ≡ ws
+items_written v ws h =
+    let n : length ws ≡ v.len = h ∙ sym v.ok.0 in
+    let e : ws ++ drop (length ws) v.items ≡ ws = ap (λ xs. ws ++ xs) (drop_all (length ws) v.items (omega (arith, h))) ∙ append-nil ws in
+    ap (λ xs. take v.len xs) e ∙ take_all v.len ws (omega (arith, n))
+
+pub run_least : (p : ℕ → Bool) (c : ℕ) (cs : List ℕ) → p c ≡ true → 1 ≤ prefix_len p (c ∷ cs)
+run_least p c cs e = rw e (omega arith)
+
+-- what bytes begin with is no longer than they are
+pub prefix_fits : (xs needle : List ℕ) → starts_with nat_eq xs needle ≡ true → length needle ≤ length xs
+prefix_fits xs [] e = omega arith
+prefix_fits [] (n ∷ ns) e = cc
+prefix_fits (x ∷ xs) (n ∷ ns) e = let k = prefix_fits xs ns (and_parts (nat_eq n x) (pointwise nat_eq ns (take (length ns) xs)) e).1 in omega (arith, k)
+
+-- of two fronts of one list the second is longer, with the same items behind, or they are the same
+pub record Longer {X : Type 0} (f1 b1 f2 b2 : List X) : Type 0 where
+  pub t : X
+  pub more : List X
+  pub front : f1 ≡ f2 ++ t ∷ more
+  pub behind : b2 ≡ t ∷ (more ++ b1)
+
+pub longer : {X : Type 0} (f1 b1 f2 b2 : List X) → f1 ++ b1 ≡ f2 ++ b2 → length b1 < length b2 → Longer f1 b1 f2 b2
+longer [] b1 f2 b2 e le = let k : length b1 ≡ length (f2 ++ b2) = ap length e in let j = length-append f2 b2 in absurd (omega arith)
+longer (x ∷ f1) b1 [] b2 e le = record { t = x; more = f1; front = refl; behind = sym e }
+longer (x ∷ f1) b1 (y ∷ f2) b2 e le = let k : f1 ++ b1 ≡ f2 ++ b2 = cc in let j : x ≡ y = cc in let h = longer f1 b1 f2 b2 k le in
+    record { t = h.t; more = h.more; front = let i = h.front in cc; behind = h.behind }
+
+pub same_behind : {X : Type 0} (f1 b1 f2 b2 : List X) → f1 ++ b1 ≡ f2 ++ b2 → length b1 ≡ length b2 → b1 ≡ b2
+same_behind [] b1 [] b2 e le = e
+same_behind [] b1 (y ∷ f2) b2 e le = let k : length b1 ≡ length (y ∷ (f2 ++ b2)) = ap length e in let j = length-append f2 b2 in absurd (omega arith)
+same_behind (x ∷ f1) b1 [] b2 e le = let k : length (x ∷ (f1 ++ b1)) ≡ length b2 = ap length e in let j = length-append f1 b1 in absurd (omega arith)
+same_behind (x ∷ f1) b1 (y ∷ f2) b2 e le = let k : f1 ++ b1 ≡ f2 ++ b2 = cc in same_behind f1 b1 f2 b2 k le
+
+pub some_filtered : {X : Type 0} (f p : X → Bool) (xs : List X) → list_any f (filter p xs) ≡ true → list_any f xs ≡ true
+some_filtered f p [] e = e
+some_filtered f p (x ∷ xs) e = at (p x) e (some_filtered f p xs)
+  where
+    at : (b : Bool) → list_any f (cond b (x ∷ filter p xs) (filter p xs)) ≡ true → (list_any f (filter p xs) ≡ true → list_any f xs ≡ true) → (f x || list_any f xs) ≡ true
+    at true i k = or_map (f x) (list_any f (filter p xs)) (list_any f xs) k i
+    at false i k = or_right (f x) (list_any f xs) (k i)
