@@ -25,13 +25,23 @@ impl Model for MemFiles {
 
     ghost Value = { State };
 
-    ghost view = { λ f. record { files = f.files.items; failing = f.failing.items; calls = f.calls; faults = f.faults } };
+    ghost view = { λ f. record {
+      files = f.files.items;
+      failing = f.failing.items;
+      calls = f.calls;
+      faults = f.faults;
+    } };
 }
 
 impl MemFiles {
     /// Holds the files, of a name that stands twice the first; the calls whose numbers are in `failing` fail, the first call being 1.
     pub fn new(files: Vec<MemFile>, failing: Vec<u64>) -> MemFiles
-        ensures { result ≡ record { files = files.items; failing = failing.items; calls = 0; faults = 0 } }
+        ensures { result ≡ record {
+          files = files.items;
+          failing = failing.items;
+          calls = 0;
+          faults = 0;
+        } }
     {
         MemFiles {
             files,

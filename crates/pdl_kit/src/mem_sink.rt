@@ -25,7 +25,14 @@ impl Model for MemSink {
 
     ghost Value = { State };
 
-    ghost view = { λ s. record { written = s.bytes.items; room = s.room; most = s.most; failing = s.failing.items; calls = s.calls; faults = s.faults } };
+    ghost view = { λ s. record {
+      written = s.bytes.items;
+      room = s.room;
+      most = s.most;
+      failing = s.failing.items;
+      calls = s.calls;
+      faults = s.faults;
+    } };
 
     ghost invariant = { λ s. (vec_len s.bytes ≤ s.room) × (s.room ≤ vec_capacity s.bytes) };
 }
@@ -38,7 +45,14 @@ impl MemSink {
         most: usize,
         failing: Vec<u64>,
     ) -> Result<MemSink, NoMemory>
-        ensures { IfOk result (λ s. s ≡ record { written = []; room = room; most = most; failing = failing.items; calls = 0; faults = 0 }) }
+        ensures { IfOk result (λ s. s ≡ record {
+          written = [];
+          room = room;
+          most = most;
+          failing = failing.items;
+          calls = 0;
+          faults = 0;
+        }) }
     {
         Ok(MemSink {
             bytes: Vec::with_capacity(alloc, room)?,
@@ -52,7 +66,14 @@ impl MemSink {
 
     /// Has room for `room` bytes and takes any number of them at a call. No call fails before its room is full.
     pub fn unfailing(alloc: Global, room: usize) -> Result<MemSink, NoMemory>
-        ensures { IfOk result (λ s. s ≡ record { written = []; room = room; most = usize.MAX; failing = []; calls = 0; faults = 0 }) }
+        ensures { IfOk result (λ s. s ≡ record {
+          written = [];
+          room = room;
+          most = usize.MAX;
+          failing = [];
+          calls = 0;
+          faults = 0;
+        }) }
     {
         MemSink::new(alloc, room, usize::MAX, Vec::new(alloc))
     }

@@ -93,17 +93,24 @@ fn writes_into_memory(rt: HostRuntime) -> Result<(), Fail> {
     Ok(())
 }
 
+// So many bytes, of which those that stand near one another differ.
+fn many_bytes(alloc: Global, count: u32) -> Result<Vec<u8>, Fail> {
+    let mut bytes = Vec::new(alloc);
+    for i in 0..count {
+        bytes.push((i % 251) as u8)?;
+    }
+    Ok(bytes)
+}
+
 #[test]
 fn reads_real_files(rt: HostRuntime) -> Result<(), Fail> {
     let path = env::temp_dir(&rt)?.join(rt.alloc(), "pdl_kit_reads_real_files")?;
-    fs::write(&rt, path.as_path(), b"text")?;
+    let bytes = many_bytes(rt.alloc(), 200_000)?;
+    fs::write(&rt, path.as_path(), bytes.as_slice())?;
     let mut files = RealFiles::new(rt);
-    let text = files.read(path.as_path().as_str());
+    let read = files.read(path.as_path().as_str());
     fs::remove_file(&rt, path.as_path())?;
-    assert_eq!(rt;
-        text.unwrap_or(Vec::new(rt.alloc())).as_slice(),
-        b"text".as_slice()
-    );
+    assert!(rt; read.unwrap_or(Vec::new(rt.alloc())).as_slice() == bytes.as_slice());
     for name in ["/", "no/such/file", "", "a\0b"] {
         assert_eq!(rt;
             files.read(name).err(),
