@@ -1,26 +1,22 @@
 -- A pipe that keeps the limits has at most ten guards.
-use Rattle.std.proofs.Common.{◌≡◌, refl, sym, subst, ℕ, ◌+◌, ◌≤◌, Bool, true, false, not, ◌&&◌, ◌==◌, List, [], ◌∷◌, ◌++◌, length, fold, Option, Some, None, if◌then◌else◌, arith}
+use Rattle.std.proofs.Common.{◌≡◌, refl, sym, subst, ◌+◌, ◌≤◌, Bool, true, false, not, ◌&&◌, ◌==◌, List, [], ◌∷◌, ◌++◌, length, fold, None, if◌then◌else◌, arith}
 use Rattle.std.proofs.lemmas.Bool.{eqb-false}
 use Rattle.std.proofs.lemmas.List.{length-append}
 use Rattle.pdl_semantics.specs.Tree.{If, Pipe}
-use Rattle.pdl_kit.specs.declared.rule.Rule.{Rule}
 use Rattle.pdl_kit.specs.declared.rule.Rule.TheVariants.{Z2, Z3, Z4, Z5, Z6}
 use Rattle.pdl_rules.specs.Places.{Place, Statement, Guard, guard_of, is_among, with_guard, guards, places, line_of}
 use Rattle.pdl_rules.specs.Limits.{breaks_z6}
-use Rattle.pdl_rules.specs.Refusal.{Refused, breaks, broken_line, refused_at, first_broken, limits}
-
--- behind rules of which none is broken none is broken
-rest_none : (r : Rule) (line : Option ℕ) (others : Option Refused) → refused_at r line others ≡ None → (line ≡ None) × (others ≡ None)
-rest_none r (Some line) others e = cc
-rest_none r None others e = (refl, e)
+use Rattle.pdl_rules.specs.Refusal.{breaks, broken_line, first_broken, limits}
+use Rattle.pdl_word.proofs.Bools.{none_given}
+use Rattle.pdl_rules.proofs.Unbroken.{no_refusal}
 
 within_z6 : (p : Pipe) → first_broken limits p ≡ None → broken_line Z6 p [] (places p) ≡ None
 within_z6 p e =
-    let a = rest_none Z2 _ _ e in
-    let b = rest_none Z3 _ _ a.1 in
-    let c = rest_none Z4 _ _ b.1 in
-    let d = rest_none Z5 _ _ c.1 in
-    (rest_none Z6 _ _ d.1).0
+    let a = no_refusal Z2 _ _ e in
+    let b = no_refusal Z3 _ _ a.1 in
+    let c = no_refusal Z4 _ _ b.1 in
+    let d = no_refusal Z5 _ _ c.1 in
+    (no_refusal Z6 _ _ d.1).0
 
 -- one guard more where there are not ten
 added : (g : Guard) (gs : List Guard) → length gs ≤ 10 → (not (is_among g gs) && (length gs == 10)) ≡ false → length (if is_among g gs then gs else gs ++ g ∷ []) ≤ 10
@@ -44,14 +40,10 @@ guards_push : (xs : List Place) (x : Place) (gs : List Guard) → fold with_guar
 guards_push [] x gs = refl
 guards_push (y ∷ xs) x gs = guards_push xs x (with_guard gs y)
 
-no_line : (b : Bool) (line : ℕ) (others : Option ℕ) → (if b then Some line else others) ≡ None → (b ≡ false) × (others ≡ None)
-no_line true line others e = cc
-no_line false line others e = (refl, e)
-
 few_from : (p : Pipe) (xs before : List Place) → length (guards before) ≤ 10 → broken_line Z6 p before xs ≡ None → length (fold with_guard (guards before) xs) ≤ 10
 few_from p [] before few e = few
 few_from p (x ∷ xs) before few e =
-    let both = no_line (breaks Z6 p before x) (line_of x) (broken_line Z6 p (before ++ x ∷ []) xs) e in
+    let both = none_given (breaks Z6 p before x) (line_of x) (broken_line Z6 p (before ++ x ∷ []) xs) e in
     let one : length (with_guard (guards before) x) ≤ 10 = next_few (guards before) before x refl few both.0 in
     let push : guards (before ++ x ∷ []) ≡ with_guard (guards before) x = guards_push before x [] in
     subst (λ (gs : List Guard). length (fold with_guard gs xs) ≤ 10) push

@@ -10,17 +10,21 @@ ghost use Rattle.pdl_paths.specs.Actions.{place_view};
 ghost use Rattle.pdl_paths.specs.Masks.{AreMasked};
 ghost use Rattle.pdl_names.specs.Order.{name_rules};
 ghost use Rattle.pdl_widths.specs.Order.{width_rules};
+ghost use Rattle.pdl_locks.specs.Facts.{AreFacts, AreLines as AreLockLines};
 ghost use Rattle.pdl_locks.specs.Plan.{plan_of};
+ghost use Rattle.pdl_spec.specs.Named.{AreLines as AreSpecLines};
 ghost use Rattle.pdl_spec.specs.Plan.{spec_rules};
 ghost use Rattle.pdl_judge.specs.Told.{Answers, fork_rules, after_names, after_widths, after_forks};
 
 use pdl_bounds::check_limits;
 use pdl_forkrules::forks_broken;
 use pdl_kit::{NoMemory, Refusal, Rule};
-use pdl_locks::{LockPlan, check_locks};
+use pdl_locks::{LockFacts, LockLines, LockPlan, lock_path_rules, plan_locks};
 use pdl_names::check_names;
 use pdl_paths::{Guards, Place, guards_of, places};
-use pdl_spec::{SpecPlan, check_spec};
+use pdl_pathwalk::{Both, broken_lines};
+use pdl_spec::{SpecLines, SpecPlan, plan_spec, spec_path_rules};
+use pdl_textstages::{Sought, first_stage};
 use pdl_tree::Pipe;
 use pdl_widths::check_widths;
 use std::alloc::Global;
@@ -131,7 +135,7 @@ fn from_forks(
     }
 }
 
-// Asks the rules on locks and those behind them.
+// Asks the rules on locks and those behind them; those on paths are asked together.
 fn from_locks(
     alloc: Global,
     pipe: &Pipe,
@@ -146,30 +150,94 @@ fn from_locks(
     ensures locks { IfOk result (λ plans. plans.locks ≡ plan_of (pipe_view pipe.now)) }
     ensures spec { IfOk result (λ plans. plans.spec ≡ verify_stage (pipe_view pipe.now)) }
 {
-    match check_locks(alloc, pipe, guards, places) {
-        Ok(locks) => from_calls(alloc, pipe, guards, places, locks),
-        Err(refusal) => Err(refusal),
-    }
+    let facts = LockFacts::of(alloc, pipe, places)?;
+    let verified = first_stage(places, facts.stages.as_slice(), Sought::Verify);
+    let known = Known {
+        facts: &facts,
+        verified,
+    };
+    let Both { first, second } = path_lines(alloc, &*pipe, &*guards, &*places, known)?;
+    from_lines(alloc, pipe, places, known, &first, &second)
 }
 
-// Asks the rules on calls and guesses of a pipe whose locks are planned so.
-fn from_calls(
+// What is known of the places of a pipe by the text.
+#[derive(Clone, Copy)]
+struct Known<'a> {
+    facts: &'a LockFacts,
+    // The stage that verifies guesses.
+    verified: Option<usize>,
+}
+
+// The lines at which a pipe, of which this is known, breaks the rules on paths: on one walk along each.
+fn path_lines<'a, 'p>(
     alloc: Global,
-    pipe: &Pipe,
-    guards: &Guards,
-    places: &[Place<'_>],
-    locks: LockPlan,
-) -> Result<Plans, Refusal>
+    pipe: &'a Pipe,
+    guards: &'a Guards,
+    places: &'a [Place<'p>],
+    known: Known<'a>,
+) -> Result<Both<LockLines, SpecLines>, NoMemory>
     requires few { length guards.now ≤ 10 }
     requires own { guards.now ≡ spec_guards (map place_view places.now) }
     requires masks { AreMasked guards.now places.now }
     requires of { map place_view places.now ≡ spec_places (pipe_view pipe.now) }
+    requires facts { AreFacts (pipe_view pipe.now) places.now known.facts.now }
+    requires verified { known.verified ≡ verify_stage (pipe_view pipe.now) }
+    ensures locks { IfOk result (λ lines. AreLockLines (pipe_view pipe.now) lines.first) }
+    ensures calls { IfOk result (λ lines. AreSpecLines (pipe_view pipe.now) lines.second) }
+{
+    let rules = Both {
+        first: lock_path_rules(pipe, guards, places, known.facts),
+        second: spec_path_rules(pipe, guards, places, known.facts, known.verified),
+    };
+    let Both { first, second } = broken_lines(alloc, &rules, guards, places)?;
+    Ok(Both {
+        first,
+        second: SpecLines::of(second),
+    })
+}
+
+// Refuses by the rules on locks and those behind them, of which these are the lines on paths.
+fn from_lines(
+    alloc: Global,
+    pipe: &Pipe,
+    places: &[Place<'_>],
+    known: Known<'_>,
+    on_locks: &LockLines,
+    on_calls: &SpecLines,
+) -> Result<Plans, Refusal>
+    requires of { map place_view places.now ≡ spec_places (pipe_view pipe.now) }
+    requires facts { AreFacts (pipe_view pipe.now) places.now known.facts.now }
+    requires verified { known.verified ≡ verify_stage (pipe_view pipe.now) }
+    requires locks { AreLockLines (pipe_view pipe.now) on_locks.now }
+    requires calls { AreSpecLines (pipe_view pipe.now) on_calls.now }
+    ensures answers { Answers after_forks (pipe_view pipe.now) result }
+    ensures locks { IfOk result (λ plans. plans.locks ≡ plan_of (pipe_view pipe.now)) }
+    ensures spec { IfOk result (λ plans. plans.spec ≡ verify_stage (pipe_view pipe.now)) }
+{
+    match plan_locks(alloc, pipe, places, known.facts, on_locks) {
+        Ok(locks) => from_calls(pipe, places, known, on_calls, locks),
+        Err(refusal) => Err(refusal),
+    }
+}
+
+// Refuses by the rules on calls and guesses a pipe whose locks are planned so.
+fn from_calls(
+    pipe: &Pipe,
+    places: &[Place<'_>],
+    known: Known<'_>,
+    on_calls: &SpecLines,
+    locks: LockPlan,
+) -> Result<Plans, Refusal>
+    requires of { map place_view places.now ≡ spec_places (pipe_view pipe.now) }
+    requires facts { AreFacts (pipe_view pipe.now) places.now known.facts.now }
+    requires verified { known.verified ≡ verify_stage (pipe_view pipe.now) }
+    requires calls { AreSpecLines (pipe_view pipe.now) on_calls.now }
     requires locks { locks ≡ plan_of (pipe_view pipe.now) }
     ensures answers { Answers spec_rules (pipe_view pipe.now) result }
     ensures locks { IfOk result (λ plans. plans.locks ≡ plan_of (pipe_view pipe.now)) }
     ensures spec { IfOk result (λ plans. plans.spec ≡ verify_stage (pipe_view pipe.now)) }
 {
-    match check_spec(alloc, pipe, guards, places) {
+    match plan_spec(pipe, places, known.facts, known.verified, on_calls) {
         Ok(spec) => Ok(Plans { locks, spec }),
         Err(refusal) => Err(refusal),
     }

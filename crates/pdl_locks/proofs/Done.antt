@@ -1,35 +1,30 @@
 -- What places do, at a location and with a memory.
-use Rattle.std.proofs.Common.{◌≡◌, refl, sym, ap, ◌∙◌, ℕ, ◌+◌, min, Bool, true, false, ◌&&◌, ◌||◌, List, [], ◌∷◌, ◌++◌, cond, count_by, if◌then◌else◌, arith}
+use Rattle.std.proofs.Common.{◌≡◌, refl, sym, ap, ◌∙◌, ◌+◌, min, Bool, false, ◌&&◌, ◌||◌, List, [], ◌∷◌, ◌++◌, count_by, if◌then◌else◌, arith}
 use mathlib.Core.Path.{fun_ext}
 use Rattle.std.specs.List.{list_any}
 use Rattle.std.proofs.lemmas.List.Folds.{list_any-append}
+use Rattle.std.proofs.Math.Bool.{or-false}
+use Rattle.std.proofs.lemmas.Bool.{and_right}
+use Rattle.std.proofs.lemmas.List.Sums.{fold_push}
 use Rattle.pdl_semantics.specs.Tree.{Location, Kind, R, W, Reserve, Block, Release, Write}
 use Rattle.pdl_rules.specs.Places.{Place, Statement}
 use Rattle.pdl_rules.specs.Locks as spec
 use Rattle.pdl_rules.specs.Locks.{held, after_place, reserves_location, writes_location, reserves, writes, same_kind}
-use Rattle.pdl_rules.proofs.Once.{fold_push, held_alike, reserves_alike, writes_alike, bytes_same}
+use Rattle.pdl_rules.proofs.Once.{held_alike, reserves_alike, writes_alike}
 use Rattle.pdl_rules.proofs.Counts.{count_push, weight}
 use Rattle.pdl_locks.specs.declared.numbers.Keys.TheVariants.{Locations, Memories}
 use Rattle.pdl_locks.specs.declared.uses.LocationUse as location
 use Rattle.pdl_locks.specs.declared.uses.MemoryUse as memory
 use Rattle.pdl_locks.specs.Numbers.{is_at}
-use Rattle.pdl_locks.specs.Holds.{hold_view}
 use Rattle.pdl_locks.specs.Uses.{IsUsed, IsUsedMemory}
 use Rattle.pdl_locks.proofs.Kept.{HasLaws}
-
-or_none : (a : Bool) → (a || false) ≡ a
-or_none true = refl
-or_none false = refl
-
-and_none : (a b : Bool) → b ≡ false → (a && b) ≡ false
-and_none true b e = e
-and_none false b e = refl
+use Rattle.pdl_word.proofs.Bytes.{bytes_same}
 
 any_more : (f : Place → Bool) (xs : List Place) (x : Place) → list_any f (xs ++ x ∷ []) ≡ (list_any f xs || f x)
-any_more f xs x = list_any-append f xs (x ∷ []) ∙ ap (λ b. list_any f xs || b) (or_none (f x))
+any_more f xs x = list_any-append f xs (x ∷ []) ∙ ap (λ b. list_any f xs || b) (or-false (f x))
 
 any_same : (f : Place → Bool) (xs : List Place) (x : Place) → f x ≡ false → list_any f xs ≡ list_any f (xs ++ x ∷ [])
-any_same f xs x e = sym (any_more f xs x ∙ ap (λ b. list_any f xs || b) e ∙ or_none (list_any f xs))
+any_same f xs x e = sym (any_more f xs x ∙ ap (λ b. list_any f xs || b) e ∙ or-false (list_any f xs))
 
 count_same : (f : Place → Bool) (xs : List Place) (x : Place) → f x ≡ false → count_by f xs ≡ count_by f (xs ++ x ∷ [])
 count_same f xs x e =
@@ -67,19 +62,10 @@ location_laws = record {
   };
 }
 
-pub used_more : (old new : location.LocationUse) (l : Location) (earlier : List Place) (x : Place) → IsUsed old l earlier
-    → hold_view new.hold ≡ after_place l (hold_view old.hold) x → new.reserved ≡ (old.reserved || reserves_location l x)
-    → ((all : ℕ) → old.writes ≡ min 2 all → new.writes ≡ min 2 (all + cond (writes_location l x) 1 0)) → IsUsed new l (earlier ++ x ∷ [])
-used_more old new l earlier x h hold reserved writes = record {
-  hold = hold ∙ ap (λ g. after_place l g x) h.hold ∙ sym (fold_push (after_place l) spec.Nothing earlier x);
-  reserved = reserved ∙ ap (λ b. b || reserves_location l x) h.reserved ∙ sym (any_more (reserves_location l) earlier x);
-  writes = writes _ h.writes ∙ ap (min 2) (sym (count_push (writes_location l) earlier x));
-}
-
 -- WITH A MEMORY
 
 unreserved_memory : (k : Kind) (l : Location) (x : Place) → is_at Memories l x ≡ false → reserves k l.mem.name x ≡ false
-unreserved_memory k l (Statement (Reserve s m j) bs) e = and_none (same_kind k j) _ e
+unreserved_memory k l (Statement (Reserve s m j) bs) e = and_right (same_kind k j) _ e
 unreserved_memory k l _ e = refl
 
 unwritten_memory : (l : Location) (x : Place) → is_at Memories l x ≡ false → writes l.mem.name x ≡ false
@@ -98,13 +84,4 @@ memory_laws = record {
     reserved = h.reserved ∙ any_same (reserves W l.mem.name) earlier x (unreserved_memory W l x e);
     written = h.written ∙ any_same (writes l.mem.name) earlier x (unwritten_memory l x e);
   };
-}
-
-pub used_memory_more : (old new : memory.MemoryUse) (l : Location) (earlier : List Place) (x : Place) → IsUsedMemory old l earlier
-    → ((all : ℕ) → old.reads ≡ min 4 all → new.reads ≡ min 4 (all + cond (reserves R l.mem.name x) 1 0))
-    → new.reserved ≡ (old.reserved || reserves W l.mem.name x) → new.written ≡ (old.written || writes l.mem.name x) → IsUsedMemory new l (earlier ++ x ∷ [])
-used_memory_more old new l earlier x h reads reserved written = record {
-  reads = reads _ h.reads ∙ ap (min 4) (sym (count_push (reserves R l.mem.name) earlier x));
-  reserved = reserved ∙ ap (λ b. b || reserves W l.mem.name x) h.reserved ∙ sym (any_more (reserves W l.mem.name) earlier x);
-  written = written ∙ ap (λ b. b || writes l.mem.name x) h.written ∙ sym (any_more (writes l.mem.name) earlier x);
 }

@@ -7,11 +7,12 @@ use Rattle.std.proofs.lemmas.List.Sums.{passes_at_first}
 use Rattle.pdl_semantics.specs.Tree.{Location}
 use Rattle.pdl_rules.specs.Places.{Place}
 use Rattle.pdl_rules.specs.Parts.{passes}
-use Rattle.pdl_rules.proofs.Once.{bytes_same, bytes_refl, bytes_sym, location_refl, location_sym, same_right}
+use Rattle.pdl_rules.proofs.Once.{bytes_sym, location_refl, location_sym, same_right}
 use Rattle.pdl_paths.specs.Actions.{location_at}
 use Rattle.pdl_locks.specs.declared.numbers.Keys.{Keys}
 use Rattle.pdl_locks.specs.declared.numbers.Keys.TheVariants.{Locations, Memories}
 use Rattle.pdl_locks.specs.Numbers.{are_one, is_at, first_place}
+use Rattle.pdl_word.proofs.Bytes.{bytes_same, bytes_refl}
 
 -- ONE NUMBER
 
@@ -26,11 +27,6 @@ one_sym Memories a b e = bytes_sym a.mem.name b.mem.name e
 one_right : (keys : Keys) (x a b : Location) → are_one keys a b ≡ true → are_one keys x a ≡ are_one keys x b
 one_right Locations x a b e = same_right x a b e
 one_right Memories x a b e = ap (bytes_eq x.mem.name) (bytes_same _ _ e)
-
-pub own_location : (keys : Keys) (l m : Location) → Some l ≡ Some m → are_one keys l m ≡ true
-own_location keys l m e =
-    let same : l ≡ m = cc in
-    subst (λ n. are_one keys l n ≡ true) same (one_refl keys l)
 
 pub is_own : (keys : Keys) (l : Location) (x : Place) → location_at x ≡ Some l → is_at keys l x ≡ true
 is_own keys l x e = ap (passes (λ m. are_one keys m l)) e ∙ one_refl keys l

@@ -1,25 +1,40 @@
 -- The lines of the rules.
-use Rattle.std.proofs.Common.{◌≡◌, [], filter}
-use Rattle.pdl_kit.specs.declared.rule.Rule.TheVariants.{L1, L3, L4, L5, L6, L7}
+use Rattle.std.proofs.Common.{◌≡◌, ◌∙◌, [], List, filter}
+use Rattle.pdl_kit.specs.declared.rule.Rule.TheVariants.{L1, L3, L4, L5, L6, L7, L8}
 use Rattle.pdl_semantics.specs.Tree.{Pipe}
-use Rattle.pdl_rules.specs.Places.{places, guards, on_path}
+use Rattle.pdl_rules.specs.Places.{Place, Guard, places, guards, on_path}
 use Rattle.pdl_rules.specs.Refusal.{broken_line}
+use Rattle.pdl_rules.specs.Stages.{bound_late}
 use Rattle.pdl_pathrules.specs.Lowest.{line_where, on_some}
 use Rattle.pdl_pathrules.proofs.Lines.{rule_lines}
+use Rattle.pdl_pathwalk.specs.Course.{path_line}
+use Rattle.pdl_pathwalk.proofs.Lines.{at_places}
 use Rattle.pdl_locks.specs.declared.at_locations.LocationRule.{LocationRule}
 use Rattle.pdl_locks.specs.declared.at_locations.LocationRule.TheVariants.{Held, ReservedOnce, WrittenOnce, Released}
 use Rattle.pdl_locks.specs.declared.at_memories.MemoryRule.{MemoryRule}
 use Rattle.pdl_locks.specs.declared.at_memories.MemoryRule.TheVariants.{ReadFirst, FewReserves}
-use Rattle.pdl_locks.specs.Asked.{breaks_at_location, rule_of, breaks_at_memory, memory_rule_of}
+use Rattle.pdl_locks.specs.Asked.{rule_of, memory_rule_of}
+use Rattle.pdl_locks.specs.Walk.{at_location, of_memory}
 
-pub location_lines : (rule : LocationRule) (p : Pipe)
-    → line_where (on_some (λ path before x. breaks_at_location rule p (filter (on_path path) before) x) (guards (places p))) [] (places p) ≡ broken_line (rule_of rule) p [] (places p)
-location_lines Held p = rule_lines L1 p [] (places p)
-location_lines ReservedOnce p = rule_lines L5 p [] (places p)
-location_lines WrittenOnce p = rule_lines L6 p [] (places p)
-location_lines Released p = rule_lines L7 p [] (places p)
+of_locations : (rule : LocationRule) (p : Pipe)
+    → line_where (on_some (at_location p rule) (guards (places p))) [] (places p) ≡ broken_line (rule_of rule) p [] (places p)
+of_locations Held p = rule_lines L1 p [] (places p)
+of_locations ReservedOnce p = rule_lines L5 p [] (places p)
+of_locations WrittenOnce p = rule_lines L6 p [] (places p)
+of_locations Released p = rule_lines L7 p [] (places p)
 
-pub memory_lines : (rule : MemoryRule) (p : Pipe)
-    → line_where (on_some (λ path before x. breaks_at_memory rule (filter (on_path path) before) x) (guards (places p))) [] (places p) ≡ broken_line (memory_rule_of rule) p [] (places p)
-memory_lines ReadFirst p = rule_lines L3 p [] (places p)
-memory_lines FewReserves p = rule_lines L4 p [] (places p)
+of_memories : (rule : MemoryRule) (p : Pipe)
+    → line_where (on_some (of_memory rule) (guards (places p))) [] (places p) ≡ broken_line (memory_rule_of rule) p [] (places p)
+of_memories ReadFirst p = rule_lines L3 p [] (places p)
+of_memories FewReserves p = rule_lines L4 p [] (places p)
+
+pub location_line : (rule : LocationRule) (p : Pipe) (gs : List Guard) (xs : List Place) → gs ≡ guards xs → xs ≡ places p
+    → path_line (at_location p rule) gs xs ≡ broken_line (rule_of rule) p [] (places p)
+location_line rule p gs xs own of = at_places (at_location p rule) p gs xs own of ∙ of_locations rule p
+
+pub memory_line : (rule : MemoryRule) (p : Pipe) (gs : List Guard) (xs : List Place) → gs ≡ guards xs → xs ≡ places p
+    → path_line (of_memory rule) gs xs ≡ broken_line (memory_rule_of rule) p [] (places p)
+memory_line rule p gs xs own of = at_places (of_memory rule) p gs xs own of ∙ of_memories rule p
+
+pub bound_line : (p : Pipe) (gs : List Guard) (xs : List Place) → gs ≡ guards xs → xs ≡ places p → path_line (bound_late p) gs xs ≡ broken_line L8 p [] (places p)
+bound_line p gs xs own of = at_places (bound_late p) p gs xs own of ∙ rule_lines L8 p [] (places p)

@@ -1,9 +1,9 @@
 -- Locations that are left open at the end.
-use Rattle.std.proofs.Common.{◌≡◌, refl, sym, ap, ◌∙◌, subst, ℕ, zero, suc, ◌<◌, Bool, true, false, ◌||◌, cond, List, [], ◌∷◌, ◌++◌, map, filter, fold, length, slice_get, if◌then◌else◌, Option, Some, None, ◌⊎◌, inl, inr, arith, append_assoc}
+use Rattle.std.proofs.Common.{◌≡◌, refl, sym, ap, ◌∙◌, subst, ℕ, ◌<◌, Bool, true, false, ◌||◌, List, [], ◌∷◌, ◌++◌, map, filter, fold, length, if◌then◌else◌, Option, Some, None, ◌⊎◌, inl, inr, append_assoc}
 use Rattle.std.specs.List.{list_any}
 use Rattle.std.specs.Cmp.{both_ways}
 use Rattle.std.proofs.lemmas.Option.{slice_get-get_or}
-use Rattle.std.proofs.lemmas.Bool.{false≢true, or_left, or_right}
+use Rattle.std.proofs.lemmas.Bool.{false≢true, or_left, or_right, or_cases}
 use Rattle.std.proofs.lemmas.List.Folds.{list_any-append}
 use Rattle.pdl_semantics.specs.Tree.{Location, Reserve, Block, Release}
 use Rattle.pdl_rules.specs.Places.{Place, Guard, Statement, on_path}
@@ -20,10 +20,8 @@ use Rattle.pdl_locks.specs.Numbers.{first_place, first_of, number_at, AreNumbere
 use Rattle.pdl_locks.specs.Holds.{hold_view}
 use Rattle.pdl_locks.specs.Uses.{IsUsed, AreKept, is_open}
 use Rattle.pdl_locks.proofs.Keyed.{found, is_own}
-
-either : (a b : Bool) → (a || b) ≡ true → (a ≡ true) ⊎ (b ≡ true)
-either true b e = inl refl
-either false b e = inr e
+use Rattle.pdl_pathrules.proofs.Nth.{past_last}
+use Rattle.pdl_word.proofs.Lists.{some_filtered}
 
 -- A LOCATION THAT IS OPEN WAS RESERVED
 
@@ -50,11 +48,11 @@ opens l h x e = or_left (is_unreleased h) false e
 
 opened : (l : Location) (h : Hold) (xs : List Place) → is_unreleased (fold (after_place l) h xs) ≡ true → (is_unreleased h || list_any (reserves_location l) xs) ≡ true
 opened l h [] e = or_left (is_unreleased h) false e
-opened l h (x ∷ xs) e = at (either (is_unreleased (after_place l h x)) _ (opened l (after_place l h x) xs e))
+opened l h (x ∷ xs) e = at (or_cases (is_unreleased (after_place l h x)) _ (opened l (after_place l h x) xs e))
   where
     at : (is_unreleased (after_place l h x) ≡ true) ⊎ (list_any (reserves_location l) xs ≡ true) → (is_unreleased h || (reserves_location l x || list_any (reserves_location l) xs)) ≡ true
     at (inr i) = or_right (is_unreleased h) _ (or_right (reserves_location l x) _ i)
-    at (inl i) = here (either (is_unreleased h) _ (opens l h x i))
+    at (inl i) = here (or_cases (is_unreleased h) _ (opens l h x i))
       where
         here : (is_unreleased h ≡ true) ⊎ (reserves_location l x ≡ true) → (is_unreleased h || (reserves_location l x || list_any (reserves_location l) xs)) ≡ true
         here (inl j) = or_left (is_unreleased h) _ j
@@ -71,7 +69,7 @@ open_at earlier x = passes (λ l. is_unreleased (held l earlier)) (location_at x
 
 some_left : (earlier xs : List Place) → list_any (open_at earlier) xs ≡ true → list_any (leaves_open earlier) earlier ≡ true
 some_left earlier [] e = absurd (false≢true e)
-some_left earlier (x ∷ xs) e = which (λ i. some_left earlier xs i) (either (open_at earlier x) _ e)
+some_left earlier (x ∷ xs) e = which (λ i. some_left earlier xs i) (or_cases (open_at earlier x) _ e)
   where
     at : (o : Option Location) → passes (λ l. is_unreleased (held l earlier)) o ≡ true → list_any (leaves_open earlier) earlier ≡ true
     at None i = absurd (false≢true i)
@@ -86,24 +84,7 @@ left_at : (earlier : List Place) (x : Place) → leaves_open earlier x ≡ true 
 left_at earlier (Statement (Reserve s at k) bs) e = e
 left_at earlier _ e = absurd (false≢true e)
 
-unfiltered : (f p : Place → Bool) (xs : List Place) → list_any f (filter p xs) ≡ true → list_any f xs ≡ true
-unfiltered f p [] e = e
-unfiltered f p (x ∷ xs) e = at (p x) (λ i. unfiltered f p xs i) e
-  where
-    which : (list_any f (filter p xs) ≡ true → list_any f xs ≡ true) → (f x ≡ true) ⊎ (list_any f (filter p xs) ≡ true) → (f x || list_any f xs) ≡ true
-    which rest (inl j) = or_left (f x) _ j
-    which rest (inr j) = or_right (f x) _ (rest j)
-
-    at : (b : Bool) → (list_any f (filter p xs) ≡ true → list_any f xs ≡ true) → list_any f (cond b (x ∷ filter p xs) (filter p xs)) ≡ true → (f x || list_any f xs) ≡ true
-    at true rest i = which rest (either (f x) _ i)
-    at false rest i = or_right (f x) _ (rest i)
-
 -- THEIR NUMBERS
-
-past : {X : Type 0} (xs : List X) (n : ℕ) → n ≡ length xs → slice_get xs n ≡ None
-past [] n e = refl
-past (y ∷ ys) zero e = absurd (omega arith)
-past (y ∷ ys) (suc n) e = past ys n (omega arith)
 
 open_number : (all earlier : List Place) (uses : List location.LocationUse) → AreKept Locations IsUsed all earlier uses → (before later : List Place) (x : Place) → all ≡ before ++ x ∷ later
     → is_open uses (number_at Locations all x) ≡ open_at earlier x
@@ -113,7 +94,7 @@ open_number all earlier uses h before later x e = at (location_at x) refl
     none = record { hold = Nothing; reserved = false; writes = 0 }
 
     at : (o : Option Location) → location_at x ≡ o → is_open uses (first_of Locations o all) ≡ passes (λ l. is_unreleased (held l earlier)) o
-    at None i = ap (λ o. passes (λ (used : location.LocationUse). is_unreleased (hold_view used.hold)) o) (past uses (length all) (sym h.one_each))
+    at None i = ap (λ o. passes (λ (used : location.LocationUse). is_unreleased (hold_view used.hold)) o) (past_last uses (length all) (sym h.one_each))
     at (Some l) i =
         let within : first_place Locations l all < length all = subst (λ xs. first_place Locations l xs < length xs) (sym e) (found Locations l before later x (is_own Locations l x i)) in
         ap (passes (λ (used : location.LocationUse). is_unreleased (hold_view used.hold)))
@@ -147,4 +128,4 @@ some_open places first path before later x uses s h =
     back : list_any (leaves_open earlier) earlier ≡ true → list_any (open_at earlier) all ≡ true
     back e =
         list_any-append (open_at earlier) before (x ∷ later)
-        ∙ or_left (list_any (open_at earlier) before) _ (unfiltered (open_at earlier) (on_path path) before (any_weaker (leaves_open earlier) (open_at earlier) (left_at earlier) earlier e))
+        ∙ or_left (list_any (open_at earlier) before) _ (some_filtered (open_at earlier) (on_path path) before (any_weaker (leaves_open earlier) (open_at earlier) (left_at earlier) earlier e))

@@ -4,4 +4,6 @@ pub mod Uses
 pub mod Passed
 pub mod Asked
 pub mod Bound
+pub mod Facts
+pub mod Walk
 pub mod Plan

@@ -1,25 +1,23 @@
 // Rules on what is done at a location: L1, L5, L6 and L7.
-ghost use Rattle.std.specs.Prelude.{◌≡◌, ◌≤◌, ℕ, ◌&&◌, true, [], ◌∷◌, ◌++◌, List, filter, map, length, IfOk};
+ghost use Rattle.std.specs.Prelude.{◌≡◌, ◌&&◌, true, [], ◌∷◌, ◌++◌, List, filter, map, length};
 ghost use Rattle.std.specs.List.{list_any};
 ghost use Rattle.pdl_tree.specs.View.{mem_view, pipe_view};
 ghost use Rattle.pdl_rules.specs.Places as rules;
-ghost use Rattle.pdl_rules.specs.Places.{on_path, places as spec_places, guards as spec_guards};
-ghost use Rattle.pdl_rules.specs.Refusal.{broken_line};
+ghost use Rattle.pdl_rules.specs.Places.{on_path};
 ghost use Rattle.pdl_rules.specs.Locks as spec;
 ghost use Rattle.pdl_paths.specs.declared.place.Place.{Place as Row};
 ghost use Rattle.pdl_paths.specs.Actions.{place_view};
-ghost use Rattle.pdl_paths.specs.Masks.{AreMasked};
 ghost use Rattle.pdl_locks.specs.declared.numbers.Keys.TheVariants as keys;
 ghost use Rattle.pdl_locks.specs.Uses.{AreKept, IsOwn, IsUsed, is_open as spec_is_open};
 ghost use Rattle.pdl_locks.specs.Numbers.{AreNumbered};
 ghost use Rattle.pdl_locks.specs.Passed.{passed_by};
-ghost use Rattle.pdl_locks.specs.Asked.{breaks_at_location, rule_of};
+ghost use Rattle.pdl_locks.specs.Asked.{breaks_at_location};
 
 use crate::numbers::number_of;
 use crate::uses::{LocationUse, use_at};
 use pdl_kit::{Name, NoMemory};
-use pdl_pathrules::{PathRule, broken_at};
-use pdl_paths::{Action, Guards, Path, Place};
+use pdl_pathrules::PathRule;
+use pdl_paths::{Action, Path, Place};
 use pdl_tree::{Kind, Mem, Pipe};
 use std::alloc::Global;
 
@@ -53,9 +51,12 @@ impl PathRule for AtLocations<'_, '_> {
 
     ghost suits = { λ rule gs xs. AreNumbered keys.Locations rule.places.now rule.first.now xs };
 
-    ghost breaks_on = { λ rule path before x. breaks_at_location rule.rule (pipe_view rule.pipe.now) (filter (on_path path) before) x };
+    ghost breaks_on = { λ rule path before x.
+        breaks_at_location rule.rule (pipe_view rule.pipe.now) (filter (on_path path) before) x };
 
-    ghost stands = { λ rule path before state. AreKept keys.Locations IsUsed (map place_view rule.places.now) (filter (on_path path) before) state.items };
+    ghost stands = { λ rule path before state.
+        AreKept keys.Locations IsUsed (map place_view rule.places.now)
+        (filter (on_path path) before) state.items };
 
     fn start(&self, alloc: Global, _path: Path) -> Result<Vec<LocationUse>, NoMemory> {
         Ok(vec![in alloc; LocationUse::none(); self.places.len()]?)
@@ -81,14 +82,22 @@ impl PathRule for AtLocations<'_, '_> {
         Ok(())
     }
 
-    ghost skips = { λ rule path before x state off stands. passed_by keys.Locations IsUsed (map place_view rule.places.now) path before x state.items off stands };
+    ghost skips = { λ rule path before x state off stands.
+        passed_by keys.Locations IsUsed
+        (map place_view rule.places.now) path before x state.items off stands };
 }
 
 /// Passes the k-th place of a text, with what it does at its location.
 ///
 /// `first` has for each place the number of the first one at its location.
 pub fn pass(first: &[usize], uses: &mut Vec<LocationUse>, k: usize, place: &Place<'_>)
-    ensures { (rows : List Row) (path : List rules.Guard) (before later : List rules.Place) → AreNumbered keys.Locations rows first.now (before ++ place_view place.now ∷ later) → k ≡ length before → on_path path (place_view place.now) ≡ true → AreKept keys.Locations IsUsed (map place_view rows) (filter (on_path path) before) uses.old.items → AreKept keys.Locations IsUsed (map place_view rows) (filter (on_path path) (before ++ place_view place.now ∷ [])) uses.new.items }
+    ensures { (rows : List Row) (path : List rules.Guard) (before later : List rules.Place) →
+        AreNumbered keys.Locations rows first.now (before ++ place_view place.now ∷ later) →
+        k ≡ length before → on_path path (place_view place.now) ≡ true →
+        AreKept keys.Locations IsUsed (map place_view rows)
+        (filter (on_path path) before) uses.old.items →
+        AreKept keys.Locations IsUsed (map place_view rows)
+        (filter (on_path path) (before ++ place_view place.now ∷ [])) uses.new.items }
 {
     let number = number_of(first, k);
     if number < uses.len() {
@@ -98,7 +107,8 @@ pub fn pass(first: &[usize], uses: &mut Vec<LocationUse>, k: usize, place: &Plac
 
 // Whether a place with this use of its location lacks the hold that it needs.
 fn lacks_hold(pipe: &Pipe, used: LocationUse, place: &Place<'_>) -> bool
-    ensures { (earlier : List rules.Place) → IsOwn IsUsed used earlier (place_view place.now) → result ≡ spec.lacks_hold (pipe_view pipe.now) earlier (place_view place.now) }
+    ensures { (earlier : List rules.Place) → IsOwn IsUsed used earlier (place_view place.now) →
+        result ≡ spec.lacks_hold (pipe_view pipe.now) earlier (place_view place.now) }
 {
     let mems = pipe.mems.as_slice();
     let hold = used.hold;
@@ -118,7 +128,8 @@ fn lacks_hold(pipe: &Pipe, used: LocationUse, place: &Place<'_>) -> bool
 }
 
 fn is_reserved_again(used: LocationUse, place: &Place<'_>) -> bool
-    ensures { (earlier : List rules.Place) → IsOwn IsUsed used earlier (place_view place.now) → result ≡ spec.is_reserved_again earlier (place_view place.now) }
+    ensures { (earlier : List rules.Place) → IsOwn IsUsed used earlier (place_view place.now) →
+        result ≡ spec.is_reserved_again earlier (place_view place.now) }
 {
     match place.action {
         Action::Reserve(_, _) => used.reserved,
@@ -131,7 +142,8 @@ fn is_reserved_again(used: LocationUse, place: &Place<'_>) -> bool
 }
 
 fn is_not_written_once(used: LocationUse, place: &Place<'_>) -> bool
-    ensures { (earlier : List rules.Place) → IsOwn IsUsed used earlier (place_view place.now) → result ≡ spec.is_not_written_once earlier (place_view place.now) }
+    ensures { (earlier : List rules.Place) → IsOwn IsUsed used earlier (place_view place.now) →
+        result ≡ spec.is_not_written_once earlier (place_view place.now) }
 {
     match place.action {
         Action::Release(_) => used.hold.is_held_for(Kind::W) && used.writes != 1,
@@ -144,7 +156,9 @@ fn is_not_written_once(used: LocationUse, place: &Place<'_>) -> bool
 }
 
 fn is_end(place: &Place<'_>) -> bool
-    ensures { (earlier : List rules.Place) → spec.ends_open earlier (place_view place.now) ≡ (result && list_any (spec.leaves_open earlier) earlier) }
+    ensures { (earlier : List rules.Place) →
+        spec.ends_open earlier (place_view place.now)
+        ≡ (result && list_any (spec.leaves_open earlier) earlier) }
 {
     match place.action {
         Action::End => true,
@@ -187,31 +201,4 @@ pub fn is_locked(mems: &[Mem], name: &Name) -> bool
         }
     }
     false
-}
-
-/// The line at which a pipe breaks a rule on its locations, none where it keeps it.
-///
-/// `first` has for each place the number of the first one at its location.
-pub fn location_line<'a, 'p>(
-    alloc: Global,
-    rule: LocationRule,
-    pipe: &'a Pipe,
-    guards: &Guards,
-    places: &'a [Place<'p>],
-    first: &'a [usize],
-) -> Result<Option<u32>, NoMemory>
-    requires few { length guards.now ≤ 10 }
-    requires own { guards.now ≡ spec_guards (map place_view places.now) }
-    requires masks { AreMasked guards.now places.now }
-    requires of { map place_view places.now ≡ spec_places (pipe_view pipe.now) }
-    requires first { AreNumbered keys.Locations places.now first.now (map place_view places.now) }
-    ensures { IfOk result (λ line. line ≡ broken_line (rule_of rule) (pipe_view pipe.now) [] (spec_places (pipe_view pipe.now))) }
-{
-    let asked = AtLocations {
-        pipe,
-        places,
-        first,
-        rule,
-    };
-    broken_at(alloc, &asked, guards, places)
 }

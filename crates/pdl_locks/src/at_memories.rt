@@ -1,24 +1,21 @@
 // Rules on what is done with a memory: L3 and L4.
-ghost use Rattle.std.specs.Prelude.{◌≡◌, ◌≤◌, ℕ, [], List, filter, map, length, IfOk};
-ghost use Rattle.pdl_tree.specs.View.{pipe_view};
+ghost use Rattle.std.specs.Prelude.{◌≡◌, List, filter, map};
 ghost use Rattle.pdl_rules.specs.Places as rules;
-ghost use Rattle.pdl_rules.specs.Places.{on_path, places as spec_places, guards as spec_guards};
-ghost use Rattle.pdl_rules.specs.Refusal.{broken_line};
+ghost use Rattle.pdl_rules.specs.Places.{on_path};
 ghost use Rattle.pdl_rules.specs.Locks as spec;
 ghost use Rattle.pdl_paths.specs.Actions.{place_view};
-ghost use Rattle.pdl_paths.specs.Masks.{AreMasked};
 ghost use Rattle.pdl_locks.specs.declared.numbers.Keys.TheVariants as keys;
 ghost use Rattle.pdl_locks.specs.Uses.{AreKept, IsOwn, IsUsedMemory};
 ghost use Rattle.pdl_locks.specs.Numbers.{AreNumbered};
 ghost use Rattle.pdl_locks.specs.Passed.{passed_by};
-ghost use Rattle.pdl_locks.specs.Asked.{breaks_at_memory, memory_rule_of};
+ghost use Rattle.pdl_locks.specs.Asked.{breaks_at_memory};
 
 use crate::numbers::number_of;
 use crate::uses::{MemoryUse, use_at};
 use pdl_kit::NoMemory;
-use pdl_pathrules::{PathRule, broken_at};
-use pdl_paths::{Action, Guards, Path, Place};
-use pdl_tree::{Kind, Pipe};
+use pdl_pathrules::PathRule;
+use pdl_paths::{Action, Path, Place};
+use pdl_tree::Kind;
 use std::alloc::Global;
 
 /// What is asked of the places of one memory.
@@ -46,9 +43,12 @@ impl PathRule for AtMemories<'_, '_> {
 
     ghost suits = { λ rule gs xs. AreNumbered keys.Memories rule.places.now rule.first.now xs };
 
-    ghost breaks_on = { λ rule path before x. breaks_at_memory rule.rule (filter (on_path path) before) x };
+    ghost breaks_on = { λ rule path before x.
+        breaks_at_memory rule.rule (filter (on_path path) before) x };
 
-    ghost stands = { λ rule path before state. AreKept keys.Memories IsUsedMemory (map place_view rule.places.now) (filter (on_path path) before) state.items };
+    ghost stands = { λ rule path before state.
+        AreKept keys.Memories IsUsedMemory (map place_view rule.places.now)
+        (filter (on_path path) before) state.items };
 
     fn start(&self, alloc: Global, _path: Path) -> Result<Vec<MemoryUse>, NoMemory> {
         Ok(vec![in alloc; MemoryUse::none(); self.places.len()]?)
@@ -75,12 +75,16 @@ impl PathRule for AtMemories<'_, '_> {
         Ok(())
     }
 
-    ghost skips = { λ rule path before x state off stands. passed_by keys.Memories IsUsedMemory (map place_view rule.places.now) path before x state.items off stands };
+    ghost skips = { λ rule path before x state off stands.
+        passed_by keys.Memories IsUsedMemory
+        (map place_view rule.places.now) path before x state.items off stands };
 }
 
 // Whether a place with this use of its memory reads, or reserves to read, too late.
 fn is_late_read(used: MemoryUse, place: &Place<'_>) -> bool
-    ensures { (earlier : List rules.Place) → IsOwn IsUsedMemory used earlier (place_view place.now) → result ≡ spec.is_late_read earlier (place_view place.now) }
+    ensures { (earlier : List rules.Place) →
+        IsOwn IsUsedMemory used earlier (place_view place.now) →
+        result ≡ spec.is_late_read earlier (place_view place.now) }
 {
     match place.action {
         Action::Reserve(_, kind) => match kind {
@@ -98,7 +102,9 @@ fn is_late_read(used: MemoryUse, place: &Place<'_>) -> bool
 }
 
 fn is_one_too_many(used: MemoryUse, place: &Place<'_>) -> bool
-    ensures { (earlier : List rules.Place) → IsOwn IsUsedMemory used earlier (place_view place.now) → result ≡ spec.is_one_too_many earlier (place_view place.now) }
+    ensures { (earlier : List rules.Place) →
+        IsOwn IsUsedMemory used earlier (place_view place.now) →
+        result ≡ spec.is_one_too_many earlier (place_view place.now) }
 {
     match place.action {
         Action::Reserve(_, kind) => match kind {
@@ -111,30 +117,4 @@ fn is_one_too_many(used: MemoryUse, place: &Place<'_>) -> bool
         Action::If(_, _, _) | Action::Call(_) | Action::Verify(_, _) | Action::SpecCheck => false,
         Action::SpecBarrier | Action::End | Action::StartClause(_) => false,
     }
-}
-
-/// The line at which a pipe breaks a rule on its memories, none where it keeps it.
-///
-/// `first` has for each place the number of the first one at a location of its memory.
-pub fn memory_line<'a, 'p>(
-    alloc: Global,
-    rule: MemoryRule,
-    pipe: &Pipe,
-    guards: &Guards,
-    places: &'a [Place<'p>],
-    first: &'a [usize],
-) -> Result<Option<u32>, NoMemory>
-    requires few { length guards.now ≤ 10 }
-    requires own { guards.now ≡ spec_guards (map place_view places.now) }
-    requires masks { AreMasked guards.now places.now }
-    requires of { map place_view places.now ≡ spec_places (pipe_view pipe.now) }
-    requires first { AreNumbered keys.Memories places.now first.now (map place_view places.now) }
-    ensures { IfOk result (λ line. line ≡ broken_line (memory_rule_of rule) (pipe_view pipe.now) [] (spec_places (pipe_view pipe.now))) }
-{
-    let asked = AtMemories {
-        places,
-        first,
-        rule,
-    };
-    broken_at(alloc, &asked, guards, places)
 }

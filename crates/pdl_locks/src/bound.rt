@@ -1,22 +1,19 @@
 // Reads of locked memories that are bound too late: rule L8.
-ghost use Rattle.std.specs.Prelude.{◌≡◌, ◌≤◌, [], None, map, length, get_or, nat_lt, IfOk};
-ghost use Rattle.pdl_kit.specs.declared.rule.Rule.TheVariants as names;
+ghost use Rattle.std.specs.Prelude.{◌≡◌, None, map, get_or, nat_lt, IfOk};
 ghost use Rattle.pdl_tree.specs.View.{pipe_view};
-ghost use Rattle.pdl_rules.specs.Places.{places as spec_places, guards as spec_guards};
+ghost use Rattle.pdl_rules.specs.Places.{places as spec_places};
 ghost use Rattle.pdl_rules.specs.Parts.{passes};
-ghost use Rattle.pdl_rules.specs.Refusal.{broken_line};
 ghost use Rattle.pdl_rules.specs.Stages.{bound_late};
 ghost use Rattle.pdl_paths.specs.Actions.{place_view};
-ghost use Rattle.pdl_paths.specs.Masks.{AreMasked};
 ghost use Rattle.pdl_textstages.specs.Along.{IsPath};
 ghost use Rattle.pdl_textstages.specs.Stages.{stages_in};
 ghost use Rattle.pdl_locks.specs.Bound.{AreOfPipe, last_at as spec_last_at};
 
 use crate::at_locations::is_locked;
 use pdl_kit::NoMemory;
-use pdl_pathrules::{PathRule, broken_at};
+use pdl_pathrules::PathRule;
 use pdl_paths::{Action, Guards, Path, Place, location_at};
-use pdl_textstages::{Sought, all_true, among, first_stage, next_on, stage_at};
+use pdl_textstages::{Sought, among, first_stage, next_on, stage_at};
 use pdl_tree::Pipe;
 use std::alloc::Global;
 
@@ -39,7 +36,9 @@ impl PathRule for BoundInTime<'_, '_> {
     // The path.
     type State = Path;
 
-    ghost suits = { λ rule gs xs. AreOfPipe (pipe_view rule.pipe.now) rule.guards.now rule.all.bits rule.places.now rule.stages.now rule.last.now gs xs };
+    ghost suits = { λ rule gs xs. AreOfPipe
+        (pipe_view rule.pipe.now) rule.guards.now rule.all.bits rule.places.now rule.stages.now
+        rule.last.now gs xs };
 
     ghost breaks_on = { λ rule path before x. bound_late (pipe_view rule.pipe.now) path before x };
 
@@ -89,8 +88,8 @@ fn last_at(last: &[Option<usize>], k: usize) -> Option<usize>
     }
 }
 
-// For each place the stage in which its memory is released, where that has a lock.
-fn last_stages(
+/// For each place the stage in which its memory is released, where that has a lock.
+pub fn last_stages(
     alloc: Global,
     pipe: &Pipe,
     places: &[Place<'_>],
@@ -98,7 +97,8 @@ fn last_stages(
 ) -> Result<Vec<Option<usize>>, NoMemory>
     requires stages { stages.now ≡ stages_in (map place_view places.now) }
     requires of { map place_view places.now ≡ spec_places (pipe_view pipe.now) }
-    ensures { IfOk result (λ last. last.items ≡ map (spec_last_at (pipe_view pipe.now)) (map place_view places.now)) }
+    ensures { IfOk result (λ last. last.items
+        ≡ map (spec_last_at (pipe_view pipe.now)) (map place_view places.now)) }
 {
     let mut last = Vec::new(alloc);
     for place in places {
@@ -127,31 +127,4 @@ fn last_stage(
         }
         None => None,
     }
-}
-
-/// The line at which a pipe breaks L8, none where it keeps the rule. The stages are those of the places.
-pub fn bound_line<'a, 'p>(
-    alloc: Global,
-    pipe: &'a Pipe,
-    guards: &'a Guards,
-    places: &'a [Place<'p>],
-    stages: &'a [usize],
-) -> Result<Option<u32>, NoMemory>
-    requires few { length guards.now ≤ 10 }
-    requires own { guards.now ≡ spec_guards (map place_view places.now) }
-    requires masks { AreMasked guards.now places.now }
-    requires of { map place_view places.now ≡ spec_places (pipe_view pipe.now) }
-    requires stages { stages.now ≡ stages_in (map place_view places.now) }
-    ensures { IfOk result (λ line. line ≡ broken_line names.L8 (pipe_view pipe.now) [] (spec_places (pipe_view pipe.now))) }
-{
-    let last = last_stages(alloc, pipe, places, stages)?;
-    let rule = BoundInTime {
-        pipe,
-        guards,
-        all: all_true(guards),
-        places,
-        stages,
-        last: last.as_slice(),
-    };
-    broken_at(alloc, &rule, guards, places)
 }

@@ -98,7 +98,8 @@ impl Hold {
 
     /// The hold of a place's own location behind the place.
     pub fn behind(self, place: &Place<'_>) -> Hold
-        ensures { (l : SpecLocation) → spec_location_at (place_view place.now) ≡ Some l → hold_view result ≡ spec.after_place l (hold_view self) (place_view place.now) }
+        ensures { (l : SpecLocation) → spec_location_at (place_view place.now) ≡ Some l →
+            hold_view result ≡ spec.after_place l (hold_view self) (place_view place.now) }
     {
         match place.action {
             Action::Reserve(_, kind) => Hold::Reserved(kind),

@@ -31,7 +31,9 @@ impl Keys {
 
 /// For each place the number of the first place at its location, or at one of its memory; how many places there are, where it has none.
 pub fn first_places(alloc: Global, keys: Keys, places: &[Place<'_>]) -> Result<Vec<usize>, NoMemory>
-    ensures { IfOk result (λ first. first.items ≡ map (spec.number_at keys (map place_view places.now)) (map place_view places.now)) }
+    ensures { IfOk result (λ first.
+        first.items ≡ map (spec.number_at keys (map place_view places.now))
+        (map place_view places.now)) }
 {
     let mut first = Vec::new(alloc);
     for place in places {

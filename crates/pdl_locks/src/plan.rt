@@ -78,7 +78,8 @@ impl LockPlan {
 
 fn stages_of(places: &[Place<'_>], stages: &[usize], mem: &Mem) -> MemStages
     requires { stages.now ≡ stages_in (map place_view places.now) }
-    ensures { (p : tree.Pipe) → map place_view places.now ≡ spec_places p → result ≡ spec.stages_of p (mem_view mem.now) }
+    ensures { (p : tree.Pipe) → map place_view places.now ≡ spec_places p →
+        result ≡ spec.stages_of p (mem_view mem.now) }
 {
     MemStages {
         reserved: first_stage(places, stages, Sought::Reserve(&mem.name.name)),

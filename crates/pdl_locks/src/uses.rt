@@ -33,7 +33,9 @@ impl LocationUse {
 
     /// The use of a place's own location behind the place.
     pub fn behind(self, place: &Place<'_>) -> LocationUse
-        ensures { (l : SpecLocation) (earlier : List rules.Place) → spec_location_at (place_view place.now) ≡ Some l → IsUsed self l earlier → IsUsed result l (earlier ++ place_view place.now ∷ []) }
+        ensures { (l : SpecLocation) (earlier : List rules.Place) →
+            spec_location_at (place_view place.now) ≡ Some l → IsUsed self l earlier →
+            IsUsed result l (earlier ++ place_view place.now ∷ []) }
     {
         LocationUse {
             hold: self.hold.behind(place),
@@ -66,7 +68,9 @@ impl MemoryUse {
 
     /// The use of the memory of a place's own location behind the place.
     pub fn behind(self, place: &Place<'_>) -> MemoryUse
-        ensures { (l : SpecLocation) (earlier : List rules.Place) → spec_location_at (place_view place.now) ≡ Some l → IsUsedMemory self l earlier → IsUsedMemory result l (earlier ++ place_view place.now ∷ []) }
+        ensures { (l : SpecLocation) (earlier : List rules.Place) →
+            spec_location_at (place_view place.now) ≡ Some l → IsUsedMemory self l earlier →
+            IsUsedMemory result l (earlier ++ place_view place.now ∷ []) }
     {
         MemoryUse {
             reads: up_to(4, self.reads, is_reserve_for(place, Kind::R)),
@@ -88,7 +92,8 @@ fn up_to(most: u8, count: u8, more: bool) -> u8
 }
 
 fn is_reserve(place: &Place<'_>) -> bool
-    ensures { (l : SpecLocation) → spec_location_at (place_view place.now) ≡ Some l → result ≡ spec.reserves_location l (place_view place.now) }
+    ensures { (l : SpecLocation) → spec_location_at (place_view place.now) ≡ Some l →
+        result ≡ spec.reserves_location l (place_view place.now) }
 {
     match place.action {
         Action::Reserve(_, _) => true,
@@ -101,7 +106,8 @@ fn is_reserve(place: &Place<'_>) -> bool
 }
 
 fn is_reserve_for(place: &Place<'_>, kind: Kind) -> bool
-    ensures { (l : SpecLocation) → spec_location_at (place_view place.now) ≡ Some l → result ≡ spec.reserves (kind_view kind) l.mem.name (place_view place.now) }
+    ensures { (l : SpecLocation) → spec_location_at (place_view place.now) ≡ Some l →
+        result ≡ spec.reserves (kind_view kind) l.mem.name (place_view place.now) }
 {
     match place.action {
         Action::Reserve(_, other) => same_kind(kind, other),
@@ -114,8 +120,10 @@ fn is_reserve_for(place: &Place<'_>, kind: Kind) -> bool
 }
 
 fn is_write(place: &Place<'_>) -> bool
-    ensures at { (l : SpecLocation) → spec_location_at (place_view place.now) ≡ Some l → result ≡ spec.writes_location l (place_view place.now) }
-    ensures of { (l : SpecLocation) → spec_location_at (place_view place.now) ≡ Some l → result ≡ spec.writes l.mem.name (place_view place.now) }
+    ensures at { (l : SpecLocation) → spec_location_at (place_view place.now) ≡ Some l →
+        result ≡ spec.writes_location l (place_view place.now) }
+    ensures of { (l : SpecLocation) → spec_location_at (place_view place.now) ≡ Some l →
+        result ≡ spec.writes l.mem.name (place_view place.now) }
 {
     match place.action {
         Action::Write(_, _) => true,

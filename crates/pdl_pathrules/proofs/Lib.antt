@@ -1,3 +1,3 @@
 pub mod Lines
-mod Nth
-mod Steps
+pub mod Nth
+pub mod Steps

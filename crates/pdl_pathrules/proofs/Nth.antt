@@ -1,22 +1,20 @@
 -- The k-th of some places, and the places round it.
 use Rattle.std.proofs.Common.{◌≡◌, refl, sym, ap, ◌∙◌, ℕ, zero, suc, ◌+◌, ◌<◌, ◌≤◌, List, [], ◌∷◌, ◌++◌, map, take, drop, length, get_or, slice_get, Some, None, arith}
+use Rattle.std.proofs.lemmas.Option.{same_Some}
 
 pub nth : {P Q : Type 0} (view : P → Q) (ps : List P) (k : ℕ) (p : P) → k < length ps → p ≡ get_or ps k p → slice_get (map view ps) k ≡ Some (view p)
 nth view [] k p l e = absurd (omega arith)
 nth view (q ∷ ps) zero p l e = ap (λ y. Some (view y)) (sym e)
 nth view (q ∷ ps) (suc k) p l e = nth view ps k p (omega arith) e
 
-same : {Q : Type 0} (y x : Q) → Some y ≡ Some x → y ≡ x
-same y x e = cc
-
 pub split : {Q : Type 0} (xs : List Q) (k : ℕ) (x : Q) → slice_get xs k ≡ Some x → xs ≡ take k xs ++ x ∷ drop (suc k) xs
 split [] k x e = cc
-split (y ∷ ys) zero x e = ap (λ z. z ∷ ys) (same y x e)
+split (y ∷ ys) zero x e = ap (λ z. z ∷ ys) (same_Some y x e)
 split (y ∷ ys) (suc k) x e = ap (λ zs. y ∷ zs) (split ys k x e)
 
-taken : {Q : Type 0} (xs : List Q) (k : ℕ) (x : Q) → slice_get xs k ≡ Some x → take (suc k) xs ≡ take k xs ++ x ∷ []
+pub taken : {Q : Type 0} (xs : List Q) (k : ℕ) (x : Q) → slice_get xs k ≡ Some x → take (suc k) xs ≡ take k xs ++ x ∷ []
 taken [] k x e = cc
-taken (y ∷ ys) zero x e = ap (λ z. z ∷ []) (same y x e)
+taken (y ∷ ys) zero x e = ap (λ z. z ∷ []) (same_Some y x e)
 taken (y ∷ ys) (suc k) x e = ap (λ zs. y ∷ zs) (taken ys k x e)
 
 pub take_next : {Q : Type 0} (xs : List Q) (k : ℕ) (x : Q) → slice_get xs k ≡ Some x → take k xs ++ x ∷ [] ≡ take (k + 1) xs

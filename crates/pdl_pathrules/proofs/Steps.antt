@@ -18,7 +18,7 @@ pub record IsLowestSoFar (test : ℕ → ℕ → Bool) (paths end k : ℕ) : Typ
 pub none_yet : (test : ℕ → ℕ → Bool) (end : ℕ) → IsLowestSoFar test 0 end end
 none_yet test end = record { within = omega arith; bits = 0; found = λ l. absurd (omega arith); others = λ b j l m. absurd (omega arith) }
 
-up_to : (b c : ℕ) → b < c + 1 → b ≤ c
+pub up_to : (b c : ℕ) → b < c + 1 → b ≤ c
 up_to b c l = omega arith
 
 -- one path more

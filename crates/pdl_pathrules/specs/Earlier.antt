@@ -3,6 +3,7 @@ use Rattle.std.proofs.Common.{◌≡◌, ◌∙◌, refl, sym, ap, Bool, true, �
 use Rattle.std.specs.List.{list_any}
 use Rattle.std.proofs.lemmas.List.Elements.{filter-append}
 use Rattle.std.proofs.lemmas.List.Folds.{list_any-append}
+use Rattle.std.proofs.Math.Bool.{or-false}
 use Rattle.pdl_rules.specs.Places.{Place, Guard, on_path}
 use Rattle.pdl_rules.specs.Calls.{is_call}
 
@@ -30,16 +31,12 @@ or_some : (b : Bool) → (b || true) ≡ true
 or_some true = refl
 or_some false = refl
 
-or_none : (b : Bool) → (b || false) ≡ b
-or_none true = refl
-or_none false = refl
-
 pub called : (path : List Guard) (before : List Place) (x : Place) → on_path path x ≡ true → is_call x ≡ true → true ≡ list_any is_call (filter (on_path path) (before ++ x ∷ []))
 called path before x is_on e = sym (any_more path before x true is_on e ∙ or_some (list_any is_call (filter (on_path path) before)))
 
 pub uncalled : (path : List Guard) (before : List Place) (x : Place) (state : Bool) → on_path path x ≡ true → is_call x ≡ false
     → state ≡ list_any is_call (filter (on_path path) before) → state ≡ list_any is_call (filter (on_path path) (before ++ x ∷ []))
-uncalled path before x state is_on e stands = stands ∙ sym (any_more path before x false is_on e ∙ or_none (list_any is_call (filter (on_path path) before)))
+uncalled path before x state is_on e stands = stands ∙ sym (any_more path before x false is_on e ∙ or-false (list_any is_call (filter (on_path path) before)))
 
 pub skipped : (path : List Guard) (before : List Place) (x : Place) (state : Bool) → on_path path x ≡ false
     → state ≡ list_any is_call (filter (on_path path) before) → state ≡ list_any is_call (filter (on_path path) (before ++ x ∷ []))

@@ -23,7 +23,8 @@ pub fn broken_at<R: PathRule>(
     requires own { guards.now ≡ rules.guards (map place_view places.now) }
     requires masks { AreMasked guards.now places.now }
     requires suits { R.suits rule.now guards.now (map place_view places.now) }
-    ensures { IfOk result (λ line. line ≡ line_where (on_some (R.breaks_on rule.now) guards.now) [] (map place_view places.now)) }
+    ensures { IfOk result (λ line. line
+        ≡ line_where (on_some (R.breaks_on rule.now) guards.now) [] (map place_view places.now)) }
 {
     let lowest = lowest_place(alloc, rule, guards, places)?;
     Ok(line_at(places, lowest))
@@ -51,7 +52,9 @@ fn lowest_place<R: PathRule>(
     requires own { are_distinct guards.now ≡ true }
     requires masks { AreMasked guards.now places.now }
     requires suits { R.suits rule.now guards.now (map place_view places.now) }
-    ensures { IfOk result (λ k. IsLowest (breaks_at (on_some (R.breaks_on rule.now) guards.now) (map place_view places.now)) (length places.now) k) }
+    ensures { IfOk result (λ k. IsLowest
+        (breaks_at (on_some (R.breaks_on rule.now) guards.now) (map place_view places.now))
+        (length places.now) k) }
 {
     let mut end = places.len();
     for bits in 0..guards.path_count() {
@@ -76,7 +79,9 @@ fn lowest_on<R: PathRule>(
     requires suits { R.suits rule.now guards.now (map place_view places.now) }
     requires path { path.bits < 2 ^ length guards.now }
     requires within { end ≤ length places.now }
-    ensures { IfOk result (λ k. IsLowest (breaks_at (on_this (R.breaks_on rule.now) (path_of guards.now path.bits)) (map place_view places.now)) end k) }
+    ensures { IfOk result (λ k. IsLowest
+        (breaks_at (on_this (R.breaks_on rule.now) (path_of guards.now path.bits))
+        (map place_view places.now)) end k) }
 {
     let mut state = rule.start(alloc, path)?;
     for k in 0..end {
@@ -102,9 +107,14 @@ fn is_broken_at<R: PathRule>(
     requires suits { R.suits rule.now guards.now (map place_view places.now) }
     requires path { path.bits < 2 ^ length guards.now }
     requires here { k < length places.now }
-    requires stands { R.stands rule.now (path_of guards.now path.bits) (take k (map place_view places.now)) state.old }
-    ensures breaks { IfOk result (λ b. b ≡ breaks_at (on_this (R.breaks_on rule.now) (path_of guards.now path.bits)) (map place_view places.now) k) }
-    ensures passed { IfOk result (λ b. b ≡ false → R.stands rule.now (path_of guards.now path.bits) (take (k + 1) (map place_view places.now)) state.new) }
+    requires stands { R.stands rule.now (path_of guards.now path.bits)
+        (take k (map place_view places.now)) state.old }
+    ensures breaks { IfOk result (λ b.
+        b ≡ breaks_at (on_this (R.breaks_on rule.now) (path_of guards.now path.bits))
+        (map place_view places.now) k) }
+    ensures passed { IfOk result (λ b. b ≡ false →
+        R.stands rule.now (path_of guards.now path.bits)
+        (take (k + 1) (map place_view places.now)) state.new) }
 {
     let place = &places[k];
     if !place.is_on(path) {

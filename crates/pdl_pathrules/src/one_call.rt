@@ -26,9 +26,11 @@ impl PathRule for OneCall {
 
     ghost suits = { λ rule gs xs. ⊤ };
 
-    ghost breaks_on = { λ rule path before x. calls.is_wrong_call (filter (on_path path) before) x };
+    ghost breaks_on = { λ rule path before x.
+        calls.is_wrong_call (filter (on_path path) before) x };
 
-    ghost stands = { λ rule path before state. state ≡ list_any calls.is_call (filter (on_path path) before) };
+    ghost stands = { λ rule path before state.
+        state ≡ list_any calls.is_call (filter (on_path path) before) };
 
     fn start(&self, _alloc: Global, _path: Path) -> Result<bool, NoMemory> {
         Ok(false)
@@ -66,7 +68,8 @@ pub fn calls_broken_at(
     requires few { length guards.now ≤ 10 }
     requires own { guards.now ≡ spec_guards (map place_view places.now) }
     requires masks { AreMasked guards.now places.now }
-    ensures { (p : Pipe) → map place_view places.now ≡ spec_places p → IfOk result (λ line. line ≡ broken_line names.S1 p [] (spec_places p)) }
+    ensures { (p : Pipe) → map place_view places.now ≡ spec_places p →
+        IfOk result (λ line. line ≡ broken_line names.S1 p [] (spec_places p)) }
 {
     broken_at(alloc, &OneCall, guards, places)
 }

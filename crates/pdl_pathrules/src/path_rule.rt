@@ -26,16 +26,27 @@ pub trait PathRule {
 
     /// The state before the first place of a path.
     fn start(&self, alloc: Global, path: Path) -> Result<Self::State, NoMemory>
-        ensures { IfOk result (λ s. (gs : List rules.Guard) (all : List rules.Place) → suits self.now gs all → stands self.now (path_of gs path.bits) [] s) };
+        ensures { IfOk result (λ s. (gs : List rules.Guard) (all : List rules.Place) →
+            suits self.now gs all → stands self.now (path_of gs path.bits) [] s) };
 
     /// Whether a place on the path, the k-th of the text, breaks the rule.
     fn breaks(&self, state: &Self::State, k: usize, place: &Place<'_>) -> bool
-        ensures { (gs path : List rules.Guard) (before later : List rules.Place) → suits self.now gs (before ++ place_view place.now ∷ later) → k ≡ length before → rules.on_path path (place_view place.now) ≡ true → stands self.now path before state.now → result ≡ breaks_on self.now path before (place_view place.now) };
+        ensures { (gs path : List rules.Guard) (before later : List rules.Place) →
+            suits self.now gs (before ++ place_view place.now ∷ later) → k ≡ length before →
+            rules.on_path path (place_view place.now) ≡ true →
+            stands self.now path before state.now →
+            result ≡ breaks_on self.now path before (place_view place.now) };
 
     /// Passes a place on the path, the k-th of the text.
     fn step(&self, state: &mut Self::State, k: usize, place: &Place<'_>) -> Result<(), NoMemory>
-        ensures { OnOk result ((gs path : List rules.Guard) (before later : List rules.Place) → suits self.now gs (before ++ place_view place.now ∷ later) → k ≡ length before → rules.on_path path (place_view place.now) ≡ true → stands self.now path before state.old → stands self.now path (before ++ place_view place.now ∷ []) state.new) };
+        ensures { OnOk result ((gs path : List rules.Guard) (before later : List rules.Place) →
+            suits self.now gs (before ++ place_view place.now ∷ later) → k ≡ length before →
+            rules.on_path path (place_view place.now) ≡ true →
+            stands self.now path before state.old →
+            stands self.now path (before ++ place_view place.now ∷ []) state.new) };
 
     /// A place that isn't on the path changes nothing.
-    ghost skips: { (rule : Self) (path : List rules.Guard) (before : List rules.Place) (x : rules.Place) (state : Self.State) → rules.on_path path x ≡ false → stands rule path before state → stands rule path (before ++ x ∷ []) state };
+    ghost skips: { (rule : Self) (path : List rules.Guard) (before : List rules.Place)
+        (x : rules.Place) (state : Self.State) → rules.on_path path x ≡ false →
+        stands rule path before state → stands rule path (before ++ x ∷ []) state };
 }

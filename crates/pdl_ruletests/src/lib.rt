@@ -1,4 +1,4 @@
-//! Each rule of the language by itself, on trees that are written here, and the paths, names and stages that the rules are asked over.
+//! The limits, the rules on names and rules of the text, each by itself, on trees that are written here.
 //!
 //! It has tests alone, and nothing stands on it.
 #![tactic(auto)]
@@ -6,18 +6,6 @@
 #[cfg(test)]
 mod bounds_rows;
 #[cfg(test)]
-mod forkrules_rows;
-#[cfg(test)]
-mod locks_rows;
-#[cfg(test)]
 mod names_rows;
 #[cfg(test)]
-mod pathrules_rows;
-#[cfg(test)]
-mod paths_rows;
-#[cfg(test)]
-mod spec_rows;
-#[cfg(test)]
 mod textrules_rows;
-#[cfg(test)]
-mod textstages_rows;

@@ -1,6 +1,7 @@
 -- What doesn't hang on the path, out of the rules.
 use Rattle.std.proofs.Common.{◌≡◌, refl, ap, ◌∙◌, ℕ, Bool, true, false, not, ◌&&◌, ◌||◌, List, [], ◌∷◌, filter, Option}
 use Rattle.std.specs.List.{list_any}
+use Rattle.std.proofs.Math.Bool.{and-false}
 use Rattle.pdl_kit.specs.declared.rule.Rule.TheVariants.{S4, S5}
 use Rattle.pdl_semantics.specs.Tree.{Pipe}
 use Rattle.pdl_rules.specs.Places.{Guard, on_path, guards, places, paths}
@@ -12,13 +13,9 @@ use Rattle.pdl_pathrules.proofs.Lines.{rule_lines, same_lines}
 use Rattle.pdl_spec.specs.Sure.{is_before, breaks_sure}
 use Rattle.pdl_spec.specs.Checked.{breaks_checked}
 
-and_none : (a : Bool) → (a && false) ≡ false
-and_none true = refl
-and_none false = refl
-
 none : (f : List Guard → Bool) (ps : List (List Guard)) → list_any (λ p. f p && false) ps ≡ false
 none f [] = refl
-none f (p ∷ ps) = ap (λ b. b || list_any (λ q. f q && false) ps) (and_none (f p)) ∙ none f ps
+none f (p ∷ ps) = ap (λ b. b || list_any (λ q. f q && false) ps) (and-false (f p)) ∙ none f ps
 
 pulled : (a : Bool) (f g : List Guard → Bool) (ps : List (List Guard)) → list_any (λ p. f p && (a && g p)) ps ≡ (a && list_any (λ p. f p && g p) ps)
 pulled true f g ps = refl

@@ -1,23 +1,17 @@
 // Reserves and guesses of threads that may be wrong: rule S5.
-ghost use Rattle.std.specs.Prelude.{◌≡◌, ◌≤◌, ◌==◌, ◌&&◌, not, [], map, length, IfOk};
+ghost use Rattle.std.specs.Prelude.{◌≡◌, ◌==◌, ◌&&◌, not, []};
 ghost use Rattle.std.specs.List.{list_any};
-ghost use Rattle.pdl_kit.specs.declared.rule.Rule.TheVariants as names;
-ghost use Rattle.pdl_tree.specs.View.{pipe_view};
-ghost use Rattle.pdl_rules.specs.Places.{places as spec_places, guards as spec_guards};
 ghost use Rattle.pdl_rules.specs.Stages.{stages_that};
 ghost use Rattle.pdl_rules.specs.Speculation as spec;
-ghost use Rattle.pdl_rules.specs.Refusal.{broken_line};
 ghost use Rattle.pdl_paths.specs.Actions.{place_view};
-ghost use Rattle.pdl_paths.specs.Masks.{AreMasked};
 ghost use Rattle.pdl_textstages.specs.Stages.{stages_in};
 ghost use Rattle.pdl_spec.specs.Checked.{breaks_checked, checks, unchecked};
 
 use crate::sure::is_before;
 use pdl_kit::NoMemory;
-use pdl_pathrules::{PathRule, broken_at};
-use pdl_paths::{Action, Guards, Path, Place};
+use pdl_pathrules::PathRule;
+use pdl_paths::{Action, Path, Place};
 use pdl_textstages::stage_at;
-use pdl_tree::Pipe;
 use std::alloc::Global;
 
 /// A reserve or a guess before the stage that verifies guesses stands behind a `spec_check` or `spec_barrier` of its stage.
@@ -59,7 +53,8 @@ impl PathRule for CheckedFirst<'_> {
         Ok(())
     }
 
-    ghost skips = { λ rule path before x state off stands. unchecked path before x state.items off stands };
+    ghost skips = { λ rule path before x state off stands.
+        unchecked path before x state.items off stands };
 }
 
 fn is_unchecked(needs: bool, early: bool, checked: bool) -> bool
@@ -103,25 +98,4 @@ fn is_check(place: &Place<'_>) -> bool
         Action::Release(_) | Action::If(_, _, _) | Action::Call(_) | Action::Verify(_, _) => false,
         Action::End | Action::StartClause(_) => false,
     }
-}
-
-/// The line at which a pipe breaks S5, none where it keeps the rule; `verified` is the stage of the first `verify` in the text.
-pub fn checks_line(
-    alloc: Global,
-    pipe: &Pipe,
-    guards: &Guards,
-    places: &[Place<'_>],
-    stages: &[usize],
-    verified: Option<usize>,
-) -> Result<Option<u32>, NoMemory>
-    requires few { length guards.now ≤ 10 }
-    requires own { guards.now ≡ spec_guards (map place_view places.now) }
-    requires masks { AreMasked guards.now places.now }
-    requires of { map place_view places.now ≡ spec_places (pipe_view pipe.now) }
-    requires stages { stages.now ≡ stages_in (map place_view places.now) }
-    requires verified { verified ≡ spec.verify_stage (pipe_view pipe.now) }
-    ensures { IfOk result (λ line. line ≡ broken_line names.S5 (pipe_view pipe.now) [] (spec_places (pipe_view pipe.now))) }
-{
-    let rule = CheckedFirst { stages, verified };
-    broken_at(alloc, &rule, guards, places)
 }

@@ -3,12 +3,11 @@
 
 pub mod check;
 pub mod checked;
+pub mod lines;
 pub mod plan;
 pub mod sure;
 pub mod verified;
 
-pub use check::check_spec;
-pub use checked::checks_line;
+pub use check::{check_spec, plan_spec};
+pub use lines::{SpecLines, SpecRules, spec_path_rules};
 pub use plan::SpecPlan;
-pub use sure::releases_line;
-pub use verified::verified_line;

@@ -1,26 +1,19 @@
 // Releases of writes that may be those of a wrong guess: rule S4.
-ghost use Rattle.std.specs.Prelude.{◌≡◌, ◌≤◌, [], List, map, filter, length, IfOk};
+ghost use Rattle.std.specs.Prelude.{◌≡◌, List, filter};
 ghost use Rattle.std.specs.List.{list_any};
-ghost use Rattle.pdl_kit.specs.declared.rule.Rule.TheVariants as names;
-ghost use Rattle.pdl_tree.specs.View.{pipe_view};
 ghost use Rattle.pdl_rules.specs.Places as rules;
-ghost use Rattle.pdl_rules.specs.Places.{on_path, places as spec_places, guards as spec_guards};
+ghost use Rattle.pdl_rules.specs.Places.{on_path};
 ghost use Rattle.pdl_rules.specs.Speculation as spec;
-ghost use Rattle.pdl_rules.specs.Refusal.{broken_line};
 ghost use Rattle.pdl_paths.specs.Actions.{place_view};
-ghost use Rattle.pdl_paths.specs.Masks.{AreMasked};
-ghost use Rattle.pdl_locks.specs.declared.numbers.Keys.TheVariants as keys;
-ghost use Rattle.pdl_locks.specs.Numbers.{AreNumbered};
 ghost use Rattle.pdl_locks.specs.Uses.{IsOwn, IsUsed};
-ghost use Rattle.pdl_textstages.specs.Stages.{stages_in};
 ghost use Rattle.pdl_spec.specs.Sure.{AreOfPlaces, IsSure, breaks_sure, is_before as spec_is_before, passed_over};
 
 use pdl_kit::NoMemory;
 use pdl_locks::{LocationUse, number_of, pass, use_at};
-use pdl_pathrules::{PathRule, broken_at};
-use pdl_paths::{Action, Guards, Path, Place};
+use pdl_pathrules::PathRule;
+use pdl_paths::{Action, Path, Place};
 use pdl_textstages::stage_at;
-use pdl_tree::{Kind, Pipe};
+use pdl_tree::Kind;
 use std::alloc::Global;
 
 /// A reservation to write is released in the stage that verifies guesses or later, or behind a `spec_barrier`.
@@ -52,7 +45,8 @@ impl PathRule for ReleasedSure<'_, '_> {
 
     ghost breaks_on = { λ rule path before x. breaks_sure rule.verified path before x };
 
-    ghost stands = { λ rule path before state. IsSure rule.places.now (filter (on_path path) before) state.uses.items state.barrier };
+    ghost stands = { λ rule path before state.
+        IsSure rule.places.now (filter (on_path path) before) state.uses.items state.barrier };
 
     fn start(&self, alloc: Global, _path: Path) -> Result<Sure, NoMemory> {
         Ok(Sure {
@@ -76,7 +70,8 @@ impl PathRule for ReleasedSure<'_, '_> {
         Ok(())
     }
 
-    ghost skips = { λ rule path before x state off stands. passed_over rule.places.now path before x state.uses.items state.barrier off stands };
+    ghost skips = { λ rule path before x state off stands.
+        passed_over rule.places.now path before x state.uses.items state.barrier off stands };
 }
 
 /// Whether a stage is before the one that verifies guesses.
@@ -91,7 +86,9 @@ pub fn is_before(verified: Option<usize>, stage: usize) -> bool
 
 // Whether a place with this use of its location releases a write while the thread may be wrong.
 fn is_unsure(used: LocationUse, barrier: bool, place: &Place<'_>) -> bool
-    ensures { (earlier : List rules.Place) → IsOwn IsUsed used earlier (place_view place.now) → barrier ≡ list_any spec.is_barrier earlier → result ≡ spec.releases_unsure earlier (place_view place.now) }
+    ensures { (earlier : List rules.Place) → IsOwn IsUsed used earlier (place_view place.now) →
+        barrier ≡ list_any spec.is_barrier earlier →
+        result ≡ spec.releases_unsure earlier (place_view place.now) }
 {
     match place.action {
         Action::Release(_) => used.hold.is_held_for(Kind::W) && !barrier,
@@ -114,34 +111,4 @@ fn is_barrier(place: &Place<'_>) -> bool
         Action::Release(_) | Action::If(_, _, _) | Action::Call(_) | Action::Verify(_, _) => false,
         Action::SpecCheck | Action::End | Action::StartClause(_) => false,
     }
-}
-
-/// The line at which a pipe breaks S4, none where it keeps the rule.
-///
-/// `first` has for each place the number of the first one at its location, and `verified` is the stage of the first `verify` in the text.
-pub fn releases_line<'a, 'p>(
-    alloc: Global,
-    pipe: &Pipe,
-    guards: &Guards,
-    places: &'a [Place<'p>],
-    first: &'a [usize],
-    stages: &'a [usize],
-    verified: Option<usize>,
-) -> Result<Option<u32>, NoMemory>
-    requires few { length guards.now ≤ 10 }
-    requires own { guards.now ≡ spec_guards (map place_view places.now) }
-    requires masks { AreMasked guards.now places.now }
-    requires of { map place_view places.now ≡ spec_places (pipe_view pipe.now) }
-    requires first { AreNumbered keys.Locations places.now first.now (map place_view places.now) }
-    requires stages { stages.now ≡ stages_in (map place_view places.now) }
-    requires verified { verified ≡ spec.verify_stage (pipe_view pipe.now) }
-    ensures { IfOk result (λ line. line ≡ broken_line names.S4 (pipe_view pipe.now) [] (spec_places (pipe_view pipe.now))) }
-{
-    let rule = ReleasedSure {
-        places,
-        first,
-        stages,
-        verified,
-    };
-    broken_at(alloc, &rule, guards, places)
 }

@@ -1,22 +1,20 @@
 // Guesses that are verified once, in a later stage: rule S2.
 ghost use Rattle.std.specs.Prelude.{◌≡◌, ◌≤◌, ◌&&◌, [], List, true, map, length, nat_lt, IfOk};
-ghost use Rattle.pdl_kit.specs.declared.rule.Rule.TheVariants as names;
 ghost use Rattle.pdl_tree.specs.View.{pipe_view};
-ghost use Rattle.pdl_rules.specs.Places.{Guard as SpecGuard, on_path, places as spec_places, guards as spec_guards};
+ghost use Rattle.pdl_rules.specs.Places.{Guard as SpecGuard, on_path};
 ghost use Rattle.pdl_rules.specs.Parts.{passes};
 ghost use Rattle.pdl_rules.specs.Stages.{stages_that};
 ghost use Rattle.pdl_rules.specs.Speculation as spec;
-ghost use Rattle.pdl_rules.specs.Refusal.{broken_line};
 ghost use Rattle.pdl_paths.specs.Actions.{place_view};
-ghost use Rattle.pdl_paths.specs.Masks.{AreMasked, IsMasked, are_distinct};
+ghost use Rattle.pdl_paths.specs.Masks.{IsMasked, are_distinct};
 ghost use Rattle.pdl_textstages.specs.Along.{HavePaths, IsPath};
 ghost use Rattle.pdl_textstages.specs.Stages.{stages_in};
 ghost use Rattle.pdl_spec.specs.Verified.{AreOfPipe, only};
 
 use pdl_kit::{Name, NoMemory};
-use pdl_pathrules::{PathRule, broken_at};
+use pdl_pathrules::PathRule;
 use pdl_paths::{Action, Guards, Path, Place};
-use pdl_textstages::{all_true, among, stage_at};
+use pdl_textstages::{among, stage_at};
 use pdl_tree::Pipe;
 use std::alloc::Global;
 
@@ -37,9 +35,12 @@ impl PathRule for VerifiedOnce<'_, '_> {
     // The path.
     type State = Path;
 
-    ghost suits = { λ rule gs xs. AreOfPipe (pipe_view rule.pipe.now) rule.guards.now rule.all.bits rule.places.now rule.stages.now gs xs };
+    ghost suits = { λ rule gs xs. AreOfPipe
+        (pipe_view rule.pipe.now) rule.guards.now rule.all.bits rule.places.now rule.stages.now gs
+        xs };
 
-    ghost breaks_on = { λ rule path before x. spec.is_unverified (pipe_view rule.pipe.now) path before x };
+    ghost breaks_on = { λ rule path before x.
+        spec.is_unverified (pipe_view rule.pipe.now) path before x };
 
     ghost stands = { λ rule path before state. IsPath rule.guards.now path state.bits };
 
@@ -80,7 +81,10 @@ fn is_behind(verify: Option<usize>, stage: usize) -> bool
 
 // The stage of the only `verify` of a guess on a path, none where there is none or more than one.
 fn only_verify(places: &[Place<'_>], stages: &[usize], path: Path, guess: &Name) -> Option<usize>
-    ensures { (gs on : List SpecGuard) → HavePaths gs places.now → IsPath gs on path.bits → stages.now ≡ stages_in (map place_view places.now) → result ≡ only (stages_that (λ y. on_path on y && spec.verifies guess.now y) [] (map place_view places.now)) }
+    ensures { (gs on : List SpecGuard) → HavePaths gs places.now → IsPath gs on path.bits →
+        stages.now ≡ stages_in (map place_view places.now) →
+        result ≡ only (stages_that (λ y. on_path on y && spec.verifies guess.now y) []
+        (map place_view places.now)) }
 {
     let mut found = None;
     for k in 0..places.len() {
@@ -96,7 +100,10 @@ fn only_verify(places: &[Place<'_>], stages: &[usize], path: Path, guess: &Name)
 
 // Whether the path leads through the place, and it verifies the guess.
 fn is_verify_on(place: &Place<'_>, path: Path, guess: &Name) -> bool
-    ensures { (gs on : List SpecGuard) → IsMasked gs place.now → are_distinct gs ≡ true → length gs ≤ 10 → IsPath gs on path.bits → result ≡ (on_path on (place_view place.now) && spec.verifies guess.now (place_view place.now)) }
+    ensures { (gs on : List SpecGuard) → IsMasked gs place.now → are_distinct gs ≡ true →
+        length gs ≤ 10 → IsPath gs on path.bits →
+        result ≡ (on_path on (place_view place.now)
+        && spec.verifies guess.now (place_view place.now)) }
 {
     place.is_on(path) && verifies(place, guess)
 }
@@ -112,29 +119,4 @@ fn verifies(place: &Place<'_>, guess: &Name) -> bool
         Action::Block(_) | Action::Release(_) | Action::If(_, _, _) | Action::Call(_) => false,
         Action::SpecCheck | Action::SpecBarrier | Action::End | Action::StartClause(_) => false,
     }
-}
-
-/// The line at which a pipe breaks S2, none where it keeps the rule. The stages are those of the places.
-pub fn verified_line<'a, 'p>(
-    alloc: Global,
-    pipe: &'a Pipe,
-    guards: &'a Guards,
-    places: &'a [Place<'p>],
-    stages: &'a [usize],
-) -> Result<Option<u32>, NoMemory>
-    requires few { length guards.now ≤ 10 }
-    requires own { guards.now ≡ spec_guards (map place_view places.now) }
-    requires masks { AreMasked guards.now places.now }
-    requires of { map place_view places.now ≡ spec_places (pipe_view pipe.now) }
-    requires stages { stages.now ≡ stages_in (map place_view places.now) }
-    ensures { IfOk result (λ line. line ≡ broken_line names.S2 (pipe_view pipe.now) [] (spec_places (pipe_view pipe.now))) }
-{
-    let rule = VerifiedOnce {
-        pipe,
-        guards,
-        all: all_true(guards),
-        places,
-        stages,
-    };
-    broken_at(alloc, &rule, guards, places)
 }

@@ -1,11 +1,10 @@
-use Rattle.pdl_tree.specs.View.{pipe_view}
-use Rattle.pdl_locks.specs.Plan.{lock_rules}
-use Rattle.pdl_spec.specs.Plan.{spec_rules}
-use Rattle.pdl_judge.proofs.Told.{first_tells, then_answers}
+use Rattle.std.proofs.Common.{◌∙◌, [], ap}
+use Rattle.pdl_rules.specs.Speculation.{is_verify}
+use Rattle.pdl_rules.specs.Stages.{first_stage}
 use Rattle.pdl_judge.proofs.order.from_locks.Goals as goal
 
-pub returns-in-Ok-clause-answers : goal.returns-in-Ok-clause-answers
-returns-in-Ok-clause-answers c = then_answers lock_rules spec_rules (pipe_view c.args.pipe.now) c.from_calls.result c.in-Ok.ensures.0 c.from_calls.ensures.answers
+pub path_lines-requires-clause-verified : goal.path_lines-requires-clause-verified
+path_lines-requires-clause-verified c = c.first_stage-verified.ensures ∙ ap (first_stage is_verify []) c.requires.of
 
-pub returns-in-Err-clause-answers : goal.returns-in-Err-clause-answers
-returns-in-Err-clause-answers c = first_tells lock_rules spec_rules (pipe_view c.args.pipe.now) c.in-Err.refusal c.in-Err.ensures
+pub from_lines-requires-clause-verified : goal.from_lines-requires-clause-verified
+from_lines-requires-clause-verified c = c.first_stage-verified.ensures ∙ ap (first_stage is_verify []) c.requires.of

@@ -1,9 +1,9 @@
 use Rattle.std.proofs.Common.{map}
 use Rattle.pdl_rules.specs.Limits.{is_separator}
 use Rattle.pdl_paths.specs.Actions.{place_view}
-use Rattle.pdl_textrules.proofs.Nth.{nth}
 use Rattle.pdl_textrules.proofs.More.{breaks_kth}
 use Rattle.pdl_ruletests.proofs.textrules_rows.NoSeparatorTextRule.breaks.Goals as goal
+use Rattle.pdl_pathrules.proofs.Nth.{nth}
 
 pub returns : goal.returns
 returns c =

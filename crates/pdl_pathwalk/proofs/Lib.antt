@@ -1,0 +1,3 @@
+pub mod Lines
+mod Nth
+pub mod Steps

@@ -1,0 +1,12 @@
+//! Rules of paths that are asked together, on one walk along each path: for each the line of the lowest place that breaks it on some path.
+#![tactic(auto)]
+
+pub mod alone;
+pub mod both;
+pub mod path_rules;
+pub mod walk;
+
+pub use alone::{Alone, Course, line_at};
+pub use both::Both;
+pub use path_rules::PathRules;
+pub use walk::broken_lines;

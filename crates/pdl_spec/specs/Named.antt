@@ -1,0 +1,27 @@
+-- The lines of the rules on calls and guesses, as one walk gives them.
+use Rattle.std.specs.Prelude.{ℕ, Option}
+use Rattle.pdl_kit.specs.declared.rule.Rule.TheVariants.{S1, S2, S4, S5}
+use Rattle.pdl_semantics.specs.Tree.{Pipe}
+use Rattle.pdl_pathwalk.specs.declared.both.Both.{Both}
+use Rattle.pdl_locks.specs.Facts.{IsLine}
+use Rattle.pdl_spec.specs.declared.lines.SpecLines.{SpecLines}
+
+-- those of S1 and S2, S4 and S5
+abbrev pub Lines : Type 0
+Lines = Both (Both (Option ℕ) (Option ℕ)) (Both (Option ℕ) (Option ℕ))
+
+-- each by its name
+abbrev pub named : Lines → SpecLines
+named lines = record {
+  one_call = lines.first.first;
+  verified_once = lines.first.second;
+  released_sure = lines.second.first;
+  checked_first = lines.second.second;
+}
+
+-- they are those at which the pipe breaks the rules
+pub record AreLines (p : Pipe) (lines : SpecLines) : Type 0 where
+  pub one_call : IsLine p S1 lines.one_call
+  pub verified_once : IsLine p S2 lines.verified_once
+  pub released_sure : IsLine p S4 lines.released_sure
+  pub checked_first : IsLine p S5 lines.checked_first
