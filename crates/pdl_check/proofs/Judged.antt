@@ -77,9 +77,6 @@ read_misplaced source line h = inl (refl, h)
 pub read_long : (source : List ℕ) (rule : Rule) (line : ℕ) → text.IsRefusal source (parse_error.Limit rule line) → None ≡ gated_line source → IsCause source (error.Refused rule line)
 read_long source rule line h e = inr (h.0, h.1, ungated source h.0 e ∙ too_long source h.0 rule line h.2)
 
-pub read_long_gated : (source : List ℕ) (rule : Rule) (n line : ℕ) → text.IsRefusal source (parse_error.Limit rule n) → Some line ≡ gated_line source → IsCause source (error.Refused G1 line)
-read_long_gated source rule n line h e = read_gated source h.0 line h.1 e
-
 -- WHAT IS CHECKED
 
 short : (source : List ℕ) (p : Pipe) → gated_line source ≡ None → is_too_long source ≡ false → source_refusal source p ≡ first_broken (limits ++ after_limits) p

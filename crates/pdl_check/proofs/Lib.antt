@@ -1,5 +1,8 @@
 pub mod Sized
 pub mod Fewer
+pub mod Unmarked
+pub mod Passing
+pub mod Scanned
 pub mod Judged
 pub mod Passed
 pub mod Parts

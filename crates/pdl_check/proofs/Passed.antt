@@ -14,15 +14,12 @@ use Rattle.pdl_grammar.specs.Text.{IsText}
 use Rattle.pdl_rules.specs.Refusal.{is_comb}
 use Rattle.pdl_check.specs.Gate.{is_gated, is_forking, is_fetching, begins_gated, open_after, gated_from, gated_line}
 use Rattle.pdl_check.specs.Compiled.{are_compiled, can_compile}
+use Rattle.pdl_word.proofs.Bools.{none_given}
 
 -- ---- tokens inside so many braces, of which none begins a form of the gate
 
 record IsFree (braces : ℕ) (ts : Row) : Type 0 where
   clear : gated_from braces None ts ≡ None
-
-not_gated : (b : Bool) (line : ℕ) (o : Option ℕ) → if b then Some line else o ≡ None → (b ≡ false) × (o ≡ None)
-not_gated true line o e = absurd (cc e)
-not_gated false line o e = (refl, e)
 
 -- behind nothing no arrow is gated
 no_fetch : (m : Mark) → is_fetching m None ≡ false
@@ -41,7 +38,7 @@ loosened braces before _ e = refl
 
 behind : (braces : ℕ) (before : Option TokenKind) (ts : Row) → gated_from braces before ts ≡ None → IsFree braces ts
 behind braces before [] e = record { clear = refl }
-behind braces before (t ∷ ts) e = let h = not_gated _ _ _ e in record { clear = rw (loosened braces before t.kind h.0) h.1 }
+behind braces before (t ∷ ts) e = let h = none_given _ _ _ e in record { clear = rw (loosened braces before t.kind h.0) h.1 }
 
 past : (braces : ℕ) (m : Mark) (ts : Row) → gated_from braces (Some (kind.Mark m)) ts ≡ None → IsFree braces ts
 past braces m ts e = behind braces (Some (kind.Mark m)) ts e
@@ -58,7 +55,7 @@ level_operator _ op e braces = refl
 -- behind such a mark
 beyond : (braces : ℕ) (m : Mark) (line : ℕ) (ts : Row) → IsLevel m
     → if begins_gated braces None (kind.Mark m) then Some line else gated_from (open_after (kind.Mark m) braces) (Some (kind.Mark m)) ts ≡ None → IsFree braces ts
-beyond braces m line ts level e = past braces m ts (subst (λ n. gated_from n (Some (kind.Mark m)) ts ≡ None) (level braces) (not_gated _ _ _ e).1)
+beyond braces m line ts level e = past braces m ts (subst (λ n. gated_from n (Some (kind.Mark m)) ts ≡ None) (level braces) (none_given _ _ _ e).1)
 
 -- ---- expressions
 
@@ -109,7 +106,7 @@ one_less depth = omega arith
 -- behind the brace that closes the body of an `if`
 closed : (depth : ℕ) (t : Token) (ts : Row) → t.kind ≡ kind.Mark mark.CloseBrace → IsFree (suc (suc depth)) (t ∷ ts) → IsFree (suc depth) ts
 closed depth t ts is f =
-    let e = subst (λ k. gated_from (open_after k (suc (suc depth))) (Some k) ts ≡ None) is (not_gated _ _ _ f.clear).1 in
+    let e = subst (λ k. gated_from (open_after k (suc (suc depth))) (Some k) ts ≡ None) is (none_given _ _ _ f.clear).1 in
     past (suc depth) mark.CloseBrace ts (subst (λ n. gated_from n (Some (kind.Mark mark.CloseBrace)) ts ≡ None) (one_less depth) e)
 
 not_inside : (inside : Bool) (rest : Bool) → (false || (inside || false)) ≡ false → (not inside && rest) ≡ rest
@@ -128,7 +125,7 @@ mutual
   item_passed : {ss : List Stmt} {a r : Row} (depth : ℕ) → Item ss a r → (others : Stmts) → IsFree (suc depth) a
       → (are_compiled (is_inside depth) (prepend ss others) ≡ are_compiled (is_inside depth) others) × IsFree (suc depth) r
   item_passed depth separating others f =
-      let h = not_gated _ _ _ f.clear in
+      let h = none_given _ _ _ f.clear in
       (not_inside (is_inside depth) (are_compiled (is_inside depth) others) h.0, past (suc depth) mark.Separator _ h.1)
   item_passed depth reading others f = (refl, past (suc depth) mark.Semicolon _ f.clear)
   item_passed depth (binding h) others f = (refl, past (suc depth) mark.Semicolon _ (free_full (suc depth) h (past (suc depth) mark.Assign _ f.clear)).clear)

@@ -42,7 +42,8 @@ pub struct Accepted {
     pub ghost planned: { plans.locks ≡ plan_of (pipe_view typed.pipe) },
     pub ghost verified: { plans.spec ≡ verify_stage (pipe_view typed.pipe) },
     pub ghost lowered: { IsTrue (same_form (form flat) (form_of (pipe_view typed.pipe))) },
-    pub ghost staged: { graph ≡ graph_of (flat_of (pipe_view typed.pipe)) (places (pipe_view typed.pipe)) },
+    pub ghost staged: { graph
+        ≡ graph_of (flat_of (pipe_view typed.pipe)) (places (pipe_view typed.pipe)) },
 }
 
 impl Accepted {

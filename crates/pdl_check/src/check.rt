@@ -39,7 +39,8 @@ pub fn check(alloc: Global, source: &[u8]) -> Result<Accepted, Refusal>
     // The text of a pipe is accepted or refused, by the gate or else by the rules, unless memory runs out.
     ensures only { (p : tree.Pipe) → IsText source.now p → Gives (judged source.now p) result }
     // Any other text is refused at the first token out of place, unless memory runs out.
-    ensures exact { (line : ℕ) → IsOutOfPlace source.now line → Gives (Refuses (record { rule = rules.G1; line = line })) result }
+    ensures exact { (line : ℕ) → IsOutOfPlace source.now line
+        → Gives (Refuses (record { rule = rules.G1; line = line })) result }
     // A refusal tells why.
     ensures refused { IsRefused source.now result }
 {
@@ -102,7 +103,8 @@ fn staged(
     guards: &Guards,
     flat: &FlatPipe,
 ) -> Result<StageGraph, NoMemory>
-    ensures { IfOk result (λ g. g ≡ graph_of (form flat.now).pipe (places_of (pipe_view pipe.now))) }
+    ensures { IfOk result (λ g. g
+        ≡ graph_of (form flat.now).pipe (places_of (pipe_view pipe.now))) }
 {
     let places = places(alloc, pipe, guards)?;
     stage_graph(alloc, flat, places.as_slice())

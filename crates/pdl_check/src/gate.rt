@@ -1,9 +1,11 @@
 // The gate: the forms of the language that the compiler doesn't have yet. Only this file and specs/Gate.antt know which they are; there stands what takes each off.
-ghost use Rattle.std.specs.Prelude.{◌≡◌, ◌+◌, ◌≤◌, ◌<◌, ◌^◌, not, length};
+ghost use Rattle.std.specs.Prelude.{◌≡◌, ◌+◌, ◌≤◌, ◌<◌, ◌^◌, None, not, length};
 ghost use Rattle.std.specs.Option.{is_some};
 ghost use Rattle.pdl_semantics.specs.Tree as tree;
 ghost use Rattle.pdl_grammar.specs.Text.{IsText};
+ghost use Rattle.pdl_tokens.specs.Tokens.{Row};
 ghost use Rattle.pdl_check.specs.Gate as spec;
+ghost use Rattle.pdl_check.specs.Passing.{line_once, IsPast};
 ghost use Rattle.pdl_check.specs.Compiled.{can_compile};
 
 use pdl_tokens::{Mark, TokenKind, Tokens};
@@ -66,7 +68,47 @@ fn open_after(kind: TokenKind, braces: u32) -> u32
     }
 }
 
-/// The line of the first form of a source that isn't compiled yet, by that form's own first token; none where there is no such form.
+/// What the gate knows of the tokens that passed: how many braces are open, what the last of them is, and the line of the first form that isn't compiled yet, by that form's own first token.
+#[derive(Clone, Copy)]
+pub struct Gate {
+    braces: u32,
+    before: Option<TokenKind>,
+    pub line: Option<u32>,
+}
+
+impl Gate {
+    /// No token has passed.
+    pub fn new() -> Gate
+        ensures told { (ts : Row) → line_once result ts ≡ spec.gated_from 0 None ts }
+        ensures none { result.braces ≡ 0 }
+    {
+        Gate {
+            braces: 0,
+            before: None,
+            line: None,
+        }
+    }
+
+    /// A token on this line passes.
+    #[tactic(auto, using(crate::proofs::Passing::stays, crate::proofs::Passing::begins, crate::proofs::Passing::goes_on))]
+    pub fn pass(&mut self, kind: TokenKind, line: u32)
+        requires { self.old.braces + 1 < 2 ^ 32 }
+        // The line of the first form stays the one that it was with the token to come.
+        ensures told { IsPast kind line self.old self.new }
+        ensures most { self.new.braces ≤ self.old.braces + 1 }
+    {
+        if self.line.is_some() {
+            return;
+        }
+        if begins_gated(self.braces, self.before, kind) {
+            self.line = Some(line);
+        }
+        self.braces = open_after(kind, self.braces);
+        self.before = Some(kind);
+    }
+}
+
+/// The line of the first form of a source that isn't compiled yet; none where there is no such form.
 pub fn gated_line(source: &[u8]) -> Option<u32>
     requires { length source.now ≤ 268435456 }
     ensures line { result ≡ spec.gated_line source.now }
@@ -76,21 +118,16 @@ pub fn gated_line(source: &[u8]) -> Option<u32>
     first_gated(source)
 }
 
-#[tactic(auto, using(crate::proofs::Fewer::fewer_tokens), unfolding(crate::specs::Gate::gated_line))]
+#[tactic(auto, using(crate::proofs::Fewer::fewer_tokens, crate::proofs::Passing::passed_by, crate::proofs::Passing::ended))]
 fn first_gated(source: &[u8]) -> Option<u32>
     requires { length source.now ≤ 268435456 }
     ensures { result ≡ spec.gated_line source.now }
 {
     let mut tokens = Tokens::new(source);
-    let mut before = None;
-    let mut braces = 0;
+    let mut gate = Gate::new();
     while let Some(token) = tokens.peek() {
-        if begins_gated(braces, before, token.kind) {
-            return Some(token.span.line);
-        }
-        braces = open_after(token.kind, braces);
-        before = Some(token.kind);
+        gate.pass(token.kind, token.span.line);
         tokens.skip();
     }
-    None
+    gate.line
 }

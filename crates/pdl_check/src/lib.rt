@@ -5,6 +5,7 @@ pub mod accepted;
 pub mod check;
 mod gate;
 mod infos;
+mod long;
 #[cfg(test)]
 mod long_tests;
 mod read;

@@ -107,6 +107,17 @@ fn long_sources(rt: HostRuntime) -> Result<(), Fail> {
             b"spec_check();\nx = ;\n".as_slice(),
             Some((Rule::G1, 4)),
         ),
+        (
+            1_048_577,
+            b"x = n;\nspec_check();\nspec_barrier();\n".as_slice(),
+            Some((Rule::G1, 4)),
+        ),
+        // The brace of the `if` is the last one.
+        (
+            1_048_577,
+            b"if (n) {\nspec_check();\n".as_slice(),
+            Some((Rule::G1, 5)),
+        ),
     ] {
         let mut source = memories(alloc, 1, body)?;
         source.extend_from_slice(b"//")?;

@@ -4,7 +4,7 @@ use Rattle.pdl_semantics.specs.Tree.{Pipe}
 use Rattle.pdl_tree.specs.declared.tree.Pipe as r_pipe
 use Rattle.pdl_tree.specs.View.{pipe_view}
 use Rattle.pdl_tokens.specs.declared.token.TokenKind.{TokenKind}
-use Rattle.pdl_tokens.specs.Tokens.{Token, Piece, piece_at, placed, line_after, tokens_from, tokens, last_line}
+use Rattle.pdl_tokens.specs.Tokens.{Piece, piece_at, placed, line_after, tokens_from, tokens, last_line}
 use Rattle.pdl_grammar.specs.declared.error.ReadError.{ReadError}
 use Rattle.pdl_grammar.specs.declared.error.ReadError.TheVariants as error
 use Rattle.pdl_tokens.specs.Tokens.{Row}
@@ -17,17 +17,18 @@ use Rattle.pdl_grammar.specs.Text.{IsText, Begins, line_of, IsOutOfPlace, Tree, 
 use Rattle.pdl_grammar.specs.Automaton.{run, whole}
 use Rattle.pdl_grammar.proofs.Refused.{is_text, stopped, same_pipe}
 use Rattle.pdl_grammar.proofs.Within.{IsOut, out, spelt, text_found, text_refused, front_within}
+use Rattle.pdl_word.proofs.Lists.{longer, same_behind}
 
 -- ---- no more tokens than bytes
 
-placed_one : (p : Piece) (start line : ℕ) (bytes : List ℕ) → length (placed p start line bytes) ≤ 1
+pub placed_one : (p : Piece) (start line : ℕ) (bytes : List ℕ) → length (placed p start line bytes) ≤ 1
 placed_one p start line bytes = go p.kind refl
   where
     go : (o : Option TokenKind) → p.kind ≡ o → length (placed p start line bytes) ≤ 1
     go None e = rw e (omega arith)
     go (Some k) e = rw e (omega arith)
 
-from_fewer : (inside start line : ℕ) (bytes : List ℕ) → length (tokens_from inside start line bytes) ≤ length bytes
+pub from_fewer : (inside start line : ℕ) (bytes : List ℕ) → length (tokens_from inside start line bytes) ≤ length bytes
 from_fewer inside start line [] = omega arith
 from_fewer (suc k) start line (c ∷ cs) = let h = from_fewer k (start + 1) line cs in omega (arith, h)
 from_fewer zero start line (c ∷ cs) = let p = piece_at c (c ∷ cs) in
@@ -72,29 +73,10 @@ apart bytes p line h k = k.no_text p h
 front_begins : (xs ys : Row) → Begins (xs ++ ys) → Begins xs
 front_begins xs ys b = record { more = ys ++ b.more; pipe = b.pipe; text = subst (λ x. Text b.pipe x []) (append_assoc xs ys b.more) b.text; within = front_within at_start xs ys b.within }
 
--- of two fronts of one list the second is longer, with the same tokens behind, or they are the same
-record Longer (f1 b1 f2 b2 : Row) : Type 0 where
-  t : Token
-  more : Row
-  front : f1 ≡ f2 ++ t ∷ more
-  behind : b2 ≡ t ∷ (more ++ b1)
-
-longer : (f1 b1 f2 b2 : Row) → f1 ++ b1 ≡ f2 ++ b2 → length b1 < length b2 → Longer f1 b1 f2 b2
-longer [] b1 f2 b2 e le = let k : length b1 ≡ length (f2 ++ b2) = ap length e in let j = length-append f2 b2 in absurd (omega arith)
-longer (x ∷ f1) b1 [] b2 e le = record { t = x; more = f1; front = refl; behind = sym e }
-longer (x ∷ f1) b1 (y ∷ f2) b2 e le = let k : f1 ++ b1 ≡ f2 ++ b2 = cc in let j : x ≡ y = cc in let h = longer f1 b1 f2 b2 k le in
-    record { t = h.t; more = h.more; front = let i = h.front in cc; behind = h.behind }
-
 not_before : (bytes : List ℕ) (n m : ℕ) (h : IsOutOfPlace bytes n) (i : IsOutOfPlace bytes m) → length h.behind < length i.behind → ⊥
 not_before bytes n m h i le =
     let k = longer h.front h.behind i.front i.behind (sym h.split ∙ i.split) le in
     i.bad k.t (k.more ++ h.behind) k.behind (front_begins (i.front ++ k.t ∷ []) k.more (subst Begins (k.front ∙ sym (append_assoc i.front (k.t ∷ []) k.more)) h.begins))
-
-same_behind : (f1 b1 f2 b2 : Row) → f1 ++ b1 ≡ f2 ++ b2 → length b1 ≡ length b2 → b1 ≡ b2
-same_behind [] b1 [] b2 e le = e
-same_behind [] b1 (y ∷ f2) b2 e le = let k : length b1 ≡ length (y ∷ (f2 ++ b2)) = ap length e in let j = length-append f2 b2 in absurd (omega arith)
-same_behind (x ∷ f1) b1 [] b2 e le = let k : length (x ∷ (f1 ++ b1)) ≡ length b2 = ap length e in let j = length-append f1 b1 in absurd (omega arith)
-same_behind (x ∷ f1) b1 (y ∷ f2) b2 e le = let k : f1 ++ b1 ≡ f2 ++ b2 = cc in same_behind f1 b1 f2 b2 k le
 
 pub one_place : (bytes : List ℕ) (n m : ℕ) → IsOutOfPlace bytes n → IsOutOfPlace bytes m → n ≡ m
 one_place bytes n m h i =

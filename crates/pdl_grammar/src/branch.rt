@@ -46,7 +46,8 @@ fn otherwise(
     most: usize,
     end: Span,
 ) -> Result<Branch, Stop>
-    ensures { Reads branch_view (spec.otherwise (spec.items room most) (span_view end) tokens.old) result tokens.new }
+    ensures { Reads branch_view (spec.otherwise (spec.items room most) (span_view end) tokens.old)
+        result tokens.new }
 {
     if tokens.is(Mark::Else) {
         tokens.skip();
@@ -69,7 +70,8 @@ fn choice(
     most: usize,
     word: Span,
 ) -> Result<Item, Stop>
-    ensures { Reads item_view (spec.if_of room (spec.items room most) (span_view word) tokens.old) result tokens.new }
+    ensures { Reads item_view (spec.if_of room (spec.items room most) (span_view word) tokens.old)
+        result tokens.new }
 {
     let condition = condition(alloc, tokens, room)?;
     let Branch { stmts: then, end } = branch(alloc, tokens, room, most)?;

@@ -38,7 +38,8 @@ fn param(alloc: Global, tokens: &mut Cursor<'_>) -> Result<Param, Stop>
 /// Parameters with commas between them, up to a closing round bracket.
 #[tactic(auto, using(crate::proofs::Rows::listed_none, crate::proofs::Rows::behind_nothing))]
 pub fn params(alloc: Global, tokens: &mut Cursor<'_>, room: usize) -> Result<Seq<Param>, Stop>
-    ensures { Reads (map param_view) (spec.listed spec.param mark.CloseRound room tokens.old) result tokens.new }
+    ensures { Reads (map param_view) (spec.listed spec.param mark.CloseRound room tokens.old) result
+        tokens.new }
 {
     let mut done = Seq::new(alloc);
     for _turn in 0..room {
@@ -105,7 +106,8 @@ fn mem(alloc: Global, tokens: &mut Cursor<'_>) -> Result<Mem, Stop>
 /// Memories with commas between them, up to a closing square bracket.
 #[tactic(auto, using(crate::proofs::Rows::listed_none, crate::proofs::Rows::behind_nothing))]
 pub fn mems(alloc: Global, tokens: &mut Cursor<'_>, room: usize) -> Result<Seq<Mem>, Stop>
-    ensures { Reads (map mem_view) (spec.listed spec.mem mark.CloseSquare room tokens.old) result tokens.new }
+    ensures { Reads (map mem_view) (spec.listed spec.mem mark.CloseSquare room tokens.old) result
+        tokens.new }
 {
     let mut done = Seq::new(alloc);
     for _turn in 0..room {

@@ -43,7 +43,8 @@ fn after_name(tokens: &mut Cursor<'_>, x: Ident) -> Result<Expr, Stop>
 }
 
 fn binary(alloc: Global, op: BinaryOp, a: Expr, b: Expr) -> Result<Expr, NoMemory>
-    ensures { IfOk result (λ e. expr_view e ≡ tree.Binary (op_view op) (expr_view a) (expr_view b)) }
+    ensures { IfOk result (λ e. expr_view e
+        ≡ tree.Binary (op_view op) (expr_view a) (expr_view b)) }
 {
     Ok(Expr::Binary {
         op,
@@ -53,7 +54,8 @@ fn binary(alloc: Global, op: BinaryOp, a: Expr, b: Expr) -> Result<Expr, NoMemor
 }
 
 fn choice(alloc: Global, c: Expr, a: Expr, b: Expr) -> Result<Expr, NoMemory>
-    ensures { IfOk result (λ e. expr_view e ≡ tree.Choose (expr_view c) (expr_view a) (expr_view b)) }
+    ensures { IfOk result (λ e. expr_view e
+        ≡ tree.Choose (expr_view c) (expr_view a) (expr_view b)) }
 {
     let c = Boxed::new(alloc, c)?;
     let a = Boxed::new(alloc, a)?;
@@ -63,7 +65,8 @@ fn choice(alloc: Global, c: Expr, a: Expr, b: Expr) -> Result<Expr, NoMemory>
 // What stands between round brackets, after the first.
 #[cycle(expr)]
 fn bracketed(alloc: Global, tokens: &mut Cursor<'_>, room: usize) -> Result<Expr, Stop>
-    ensures { Reads expr_view (spec.bracketed (spec.inside room).full tokens.old) result tokens.new }
+    ensures { Reads expr_view (spec.bracketed (spec.inside room).full tokens.old) result
+        tokens.new }
 {
     let e = inside(alloc, tokens, room)?;
     take(tokens, Mark::CloseRound)?;
@@ -220,7 +223,8 @@ fn operator_at(tokens: &Cursor<'_>, n: u32) -> Option<BinaryOp>
 #[tactic(auto, using(crate::proofs::Inside::level_none, crate::proofs::Inside::level_more, crate::proofs::Inside::level_fails), unfolding(crate::specs::Reading::chain))]
 fn level(alloc: Global, tokens: &mut Cursor<'_>, room: usize, n: u32) -> Result<Expr, Stop>
     requires { n ≤ levels }
-    ensures { Reads expr_view (spec.level (spec.operand (spec.inside room)) room n tokens.old) result tokens.new }
+    ensures { Reads expr_view (spec.level (spec.operand (spec.inside room)) room n tokens.old)
+        result tokens.new }
 {
     if n == 0 {
         return operand(alloc, tokens, room);
@@ -242,7 +246,8 @@ fn level(alloc: Global, tokens: &mut Cursor<'_>, room: usize, n: u32) -> Result<
 // The arms of a choice, after its `?`.
 #[cycle(expr)]
 fn arms(alloc: Global, tokens: &mut Cursor<'_>, room: usize, c: Expr) -> Result<Expr, Stop>
-    ensures { Reads expr_view (spec.arms (spec.inside room).full (expr_view c) tokens.old) result tokens.new }
+    ensures { Reads expr_view (spec.arms (spec.inside room).full (expr_view c) tokens.old) result
+        tokens.new }
 {
     let a = inside(alloc, tokens, room)?;
     take(tokens, Mark::Colon)?;

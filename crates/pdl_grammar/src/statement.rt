@@ -41,7 +41,8 @@ fn read(alloc: Global, tokens: &mut Cursor<'_>, x: Ident) -> Result<Stmt, Stop>
 
 // A binding of an expression, after `x =`.
 fn bind(alloc: Global, tokens: &mut Cursor<'_>, room: usize, x: Ident) -> Result<Stmt, Stop>
-    ensures { Reads stmt_view (spec.bind_of (spec.expr room) (ident_view x) tokens.old) result tokens.new }
+    ensures { Reads stmt_view (spec.bind_of (spec.expr room) (ident_view x) tokens.old) result
+        tokens.new }
 {
     let e = expr(alloc, tokens, room)?;
     let end = take(tokens, Mark::Semicolon)?;
@@ -104,7 +105,8 @@ fn fetch(alloc: Global, tokens: &mut Cursor<'_>, x: Ident) -> Result<Stmt, Stop>
 
 // A write, after `m [`.
 fn write(alloc: Global, tokens: &mut Cursor<'_>, room: usize, mem: Ident) -> Result<Stmt, Stop>
-    ensures { Reads stmt_view (spec.write_of (spec.expr room) (ident_view mem) tokens.old) result tokens.new }
+    ensures { Reads stmt_view (spec.write_of (spec.expr room) (ident_view mem) tokens.old) result
+        tokens.new }
 {
     let address = name(alloc, tokens)?;
     take(tokens, Mark::CloseSquare)?;

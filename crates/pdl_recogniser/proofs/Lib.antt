@@ -1,3 +1,3 @@
 mod Stacks
 mod Operators
-mod Running
+pub mod Running

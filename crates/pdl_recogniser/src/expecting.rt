@@ -208,7 +208,9 @@ fn locked(stack: &mut Stack, kind: TokenKind) -> Result<bool, NoMemory>
 
 // A location in brackets and a semicolon, after the word of a statement, and what stands between the location and the closing bracket, the last of it first.
 fn held(stack: &mut Stack, between: &[Symbol]) -> Result<bool, NoMemory>
-    ensures { Expects (Some (spec.held (reverse (map symbol_view between.now)) ++ (spec.items ∷ []))) result stack.old stack.new }
+    ensures { Expects (Some (spec.held (reverse (map symbol_view between.now)) ++
+        (spec.items ∷ [])))
+        result stack.old stack.new }
 {
     stack.push(&[
         Symbol::Items,

@@ -2,7 +2,8 @@
 ghost use Rattle.std.specs.Prelude.{◌≡◌, ◌≤◌, ◌<◌, ℕ, None, Err, IfOk, length};
 ghost use Rattle.pdl_semantics.specs.Tree as tree;
 ghost use Rattle.pdl_grammar.specs.Text.{IsText, IsOutOfPlace};
-ghost use Rattle.pdl_syntax.specs.Text.{broken_limit, judged, Misplaced, Gives, IsRefusal, IsRefused, IsParsed};
+ghost use Rattle.pdl_syntax.specs.Text.{broken_limit, judged, Misplaced, Gives};
+ghost use Rattle.pdl_syntax.specs.Text.{IsRefusal, IsRefused, IsParsed};
 ghost use Rattle.pdl_tree.specs.View.{pipe_view};
 
 use crate::error::ParseError;
@@ -12,8 +13,8 @@ use pdl_recogniser::misplaced::misplaced;
 use pdl_tree::Pipe;
 use std::alloc::Global;
 
-// The greatest length of a source text, in bytes.
-const LONGEST: usize = 1_048_576;
+/// The greatest length of a source text, in bytes.
+pub const LONGEST: usize = 1_048_576;
 
 // The refusal of a text that is too long, without its tree: the grammar is asked first.
 #[tactic(auto, using(crate::proofs::Answers::too_long))]

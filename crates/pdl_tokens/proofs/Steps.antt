@@ -6,10 +6,12 @@ use Rattle.std.proofs.Math.Seq.{drop-nil}
 use Rattle.std.proofs.lemmas.List.Sums.{prefix_len-le-length}
 use Rattle.std.proofs.lemmas.List.Folds.{length-prefix_len}
 use Rattle.std.proofs.lemmas.Bool.Decides.{nat_tests}
+use Rattle.std.proofs.lemmas.Bool.{and_parts}
 use Rattle.pdl_tokens.specs.declared.piece.Piece as r
 use Rattle.pdl_tokens.specs.declared.token.TokenKind.{TokenKind}
 use Rattle.pdl_tokens.specs.Tokens.{Piece, Spelling, symbols, spelling_at, is_blank, is_lower, is_digit, is_hex, is_word, in_line, number_at, number_or_literal, digits_after, mark_or_bad, piece_at, placed, line_after, tokens_from}
 use Rattle.pdl_tokens.specs.Pieces.{piece_view, IsFront, IsLineBehind}
+use Rattle.pdl_word.proofs.Lists.{run_least, prefix_fits}
 
 pub record Sized (p : Piece) (n : ℕ) : Type 0 where
   pub least : 1 ≤ p.size
@@ -18,19 +20,6 @@ pub record Sized (p : Piece) (n : ℕ) : Type 0 where
 cond_sized : (b : Bool) (p q : Piece) (n : ℕ) → (b ≡ true → Sized p n) → (b ≡ false → Sized q n) → Sized (cond b p q) n
 cond_sized true p q n f g = f refl
 cond_sized false p q n f g = g refl
-
-run_least : (p : ℕ → Bool) (c : ℕ) (cs : List ℕ) → p c ≡ true → 1 ≤ prefix_len p (c ∷ cs)
-run_least p c cs e = rw e (omega arith)
-
-and_right : (a b : Bool) → a && b ≡ true → b ≡ true
-and_right true b e = e
-and_right false b e = cc
-
--- what bytes begin with is no longer than they are
-prefix_fits : (xs needle : List ℕ) → starts_with nat_eq xs needle ≡ true → length needle ≤ length xs
-prefix_fits xs [] e = omega arith
-prefix_fits [] (n ∷ ns) e = cc
-prefix_fits (x ∷ xs) (n ∷ ns) e = let k = prefix_fits xs ns (and_right (nat_eq n x) (pointwise nat_eq ns (take (length ns) xs)) e) in omega (arith, k)
 
 -- digits with a base of two bytes before them fit, if there are any
 AreWithin : List ℕ → ℕ → Type 0
@@ -78,18 +67,14 @@ are_written : List Spelling → Bool
 are_written [] = true
 are_written (s ∷ rest) = nat_le 1 (length s.text) && are_written rest
 
-and_left : (a b : Bool) → a && b ≡ true → a ≡ true
-and_left true b e = refl
-and_left false b e = e
-
 spelling_sized : (all : List Spelling) (bytes : List ℕ) → are_written all ≡ true → 1 ≤ length bytes → Sized (mark_or_bad (spelling_at all bytes)) (length bytes)
 unfolding are_written
 spelling_sized [] bytes e h = record { least = omega arith; most = h }
-spelling_sized (s ∷ rest) bytes e h = go (starts_with nat_eq bytes s.text) refl (spelling_sized rest bytes (and_right (nat_le 1 (length s.text)) (are_written rest) e) h)
+spelling_sized (s ∷ rest) bytes e h = go (starts_with nat_eq bytes s.text) refl (spelling_sized rest bytes (and_parts (nat_le 1 (length s.text)) (are_written rest) e).1 h)
   where
     go : (b : Bool) → starts_with nat_eq bytes s.text ≡ b → Sized (mark_or_bad (spelling_at rest bytes)) (length bytes) →
         Sized (mark_or_bad (cond b (Some s) (spelling_at rest bytes))) (length bytes)
-    go true is others = record { least = let k = and_left (nat_le 1 (length s.text)) (are_written rest) e in grind (arith, nat_tests, k); most = prefix_fits bytes s.text is }
+    go true is others = record { least = let k = (and_parts (nat_le 1 (length s.text)) (are_written rest) e).0 in grind (arith, nat_tests, k); most = prefix_fits bytes s.text is }
     go false is others = others
 
 symbols_written : are_written symbols ≡ true
@@ -100,7 +85,7 @@ word_is : (c : ℕ) → is_lower c ≡ true → is_word c ≡ true
 word_is c e = rw e refl
 
 comment_is : (c : ℕ) (cs : List ℕ) → starts_with nat_eq (c ∷ cs) (codes "//") ≡ true → in_line c ≡ true
-comment_is c cs e = let k : nat_eq 47 c ≡ true = and_left (nat_eq 47 c) (pointwise nat_eq (47 ∷ []) (take 1 cs)) e in
+comment_is c cs e = let k : nat_eq 47 c ≡ true = (and_parts (nat_eq 47 c) (pointwise nat_eq (47 ∷ []) (take 1 cs)) e).0 in
     let i : 47 ≡ c = grind (arith, nat_tests, k) in subst (λ x. in_line x ≡ true) i refl
 
 pub piece_sized : (c : ℕ) (cs : List ℕ) → Sized (piece_at c (c ∷ cs)) (length (c ∷ cs))
@@ -155,7 +140,3 @@ pub step_token : (bytes rest : List ℕ) (p : r.Piece) (k : TokenKind) (start li
     record { kind = k; text = take p.size bytes; span = record { start = start; end = start2; line = line } } ∷ tokens_from 0 start2 line2 rest ≡ tokens_from 0 start line bytes
 step_token bytes rest p k start line start2 line2 h er es el e =
     let j = step_is bytes rest p start line start2 line2 h er es el in sym (j ∙ rw (e, es) refl)
-
-pub step_end : (bytes : List ℕ) (start line : ℕ) → IsFront bytes None → tokens_from 0 start line bytes ≡ []
-step_end [] start line h = refl
-step_end (c ∷ cs) start line h = absurd h

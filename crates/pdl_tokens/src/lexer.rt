@@ -60,7 +60,11 @@ impl<'a> Place<'a> {
     // The token of so many bytes that stands here.
     fn token(&self, kind: TokenKind, size: usize, end: u32) -> Token<'a>
         requires { size ≤ length self.now.rest.now }
-        ensures { token_view result ≡ record { kind = kind; text = take size self.now.rest.now; span = record { start = self.now.start; end = end; line = self.now.line } } }
+        ensures { token_view result ≡ record {
+          kind = kind;
+          text = take size self.now.rest.now;
+          span = record { start = self.now.start; end = end; line = self.now.line };
+        } }
     {
         let span = Span {
             start: self.start,
@@ -76,7 +80,8 @@ impl<'a> Place<'a> {
 
     // The first token from here on.
     fn step(&self) -> Step<'a>
-        ensures { onto result.token (tokens_from 0 result.behind.start result.behind.line result.behind.rest.now) ≡ tokens_from 0 self.now.start self.now.line self.now.rest.now }
+        ensures { onto result.token (tokens_from 0 result.behind.start result.behind.line
+            result.behind.rest.now) ≡ tokens_from 0 self.now.start self.now.line self.now.rest.now }
     {
         let mut place = *self;
         while let Some(piece) = front(place.rest) {
@@ -114,7 +119,9 @@ impl<'a> Model for Tokens<'a> {
 
     ghost Value = { List Token };
 
-    ghost view = { λ t. onto t.first (onto t.second (onto t.third (tokens_from 0 t.behind.start t.behind.line t.behind.rest.now))) };
+    ghost view = { λ t. onto t.first
+        (onto t.second (onto t.third
+        (tokens_from 0 t.behind.start t.behind.line t.behind.rest.now))) };
 }
 
 impl<'a> Tokens<'a> {

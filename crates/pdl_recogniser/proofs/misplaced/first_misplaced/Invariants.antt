@@ -7,7 +7,7 @@ use Rattle.pdl_recogniser.proofs.misplaced.first_misplaced.Given as goal
 
 -- the automaton goes on from here as it does from the beginning
 abbrev pub invariant-loop-kind : goal.invariant-loop-kind
-invariant-loop-kind l = run l.tokens l.stack ≡ run (marked at_start (tokens l.source)) whole
+invariant-loop-kind l = run l.tokens l.expected ≡ run (marked at_start (tokens l.source)) whole
 
 abbrev pub decreases-loop-kind : goal.decreases-loop-kind
 decreases-loop-kind l = length l.tokens
