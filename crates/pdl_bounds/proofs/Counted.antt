@@ -2,7 +2,7 @@
 use Rattle.std.proofs.Common.{◌≡◌, refl, sym, ap, ◌∙◌, ℕ, ◌+◌, ◌<◌, ◌≤◌, Bool, true, false, List, [], ◌∷◌, ◌++◌, take, length, slice_get, Some, count_by, if◌then◌else◌, arith}
 use Rattle.std.proofs.lemmas.List.Sums.{count_by-le-length}
 use Rattle.pdl_rules.proofs.Counts.{weight, count_push}
-use Rattle.pdl_textrules.proofs.Nth.{take_next, taken_length}
+use Rattle.pdl_pathrules.proofs.Nth.{take_next, taken_length}
 
 count_more : {X : Type 0} (p : X → Bool) (xs : List X) (y : X) → count_by p (xs ++ y ∷ []) ≡ (if p y then count_by p xs + 1 else count_by p xs)
 count_more p xs y = count_push p xs y ∙ at (count_by p xs) (p y)

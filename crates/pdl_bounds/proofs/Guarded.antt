@@ -1,14 +1,14 @@
 -- Guards, with one place more.
 use Rattle.std.proofs.Common.{◌≡◌, refl, sym, ap, ◌∙◌, ℕ, suc, ◌+◌, Bool, true, false, ◌&&◌, ◌||◌, ◌==◌, not, nat_le, List, [], ◌∷◌, take, length, slice_get, Option, Some, None, if◌then◌else◌, arith}
 use Rattle.std.proofs.lemmas.Bool.Decides.{leb_tells}
+use Rattle.std.proofs.lemmas.List.Sums.{fold_push}
 use Rattle.pdl_semantics.specs.Tree.{If}
 use Rattle.pdl_rules.specs.Places.{Place, Statement, Guard, same_guard, is_among, with_guard, guards}
 use Rattle.pdl_rules.specs.Limits.{breaks_z6}
-use Rattle.pdl_rules.proofs.Once.{fold_push}
 use Rattle.pdl_paths.specs.Masks.{number_of}
 use Rattle.pdl_textrules.specs.Noted.{noted}
-use Rattle.pdl_textrules.proofs.Nth.{take_next}
 use Rattle.pdl_bounds.specs.Over.{adds_guard}
+use Rattle.pdl_pathrules.proofs.Nth.{take_next}
 
 -- Z6 by its parts
 pub z6_parts : (before : List Place) (y : Place) → (adds_guard (guards before) y && (length (guards before) == 10)) ≡ breaks_z6 before y

@@ -18,7 +18,8 @@ use std::alloc::Global;
 
 /// The lowest limit, Z2 to Z7, that a pipe with these places is over, at its lowest place; none where it is within them.
 pub fn check_limits(alloc: Global, places: &[Place<'_>]) -> Result<Option<Broken>, NoMemory>
-    ensures { (p : Pipe) → map place_view places.now ≡ rules.places p → IfOk result (λ broken. option_map refused_of broken ≡ first_broken spec_limits p) }
+    ensures { (p : Pipe) → map place_view places.now ≡ rules.places p →
+        IfOk result (λ broken. option_map refused_of broken ≡ first_broken spec_limits p) }
 {
     let lines = lines_of(alloc, places)?;
     Ok(lines.lowest())
@@ -49,8 +50,10 @@ fn with_place(
 ) -> Lines
     requires here { k < length places.now }
     requires counts { AreCounts (take k (map place_view places.now)) counts }
-    requires guards { lines.z6 ≡ None → guards.now ≡ rules.guards (take k (map place_view places.now)) }
-    ensures lines { (p : Pipe) → AreLines p (take k (map place_view places.now)) lines → AreLines p (take (k + 1) (map place_view places.now)) result }
+    requires guards { lines.z6 ≡ None →
+        guards.now ≡ rules.guards (take k (map place_view places.now)) }
+    ensures lines { (p : Pipe) → AreLines p (take k (map place_view places.now)) lines →
+        AreLines p (take (k + 1) (map place_view places.now)) result }
     ensures few { result.z6 ≡ None → lines.z6 ≡ None }
 {
     let place = &places[k];
@@ -65,8 +68,10 @@ fn add_guard(
     lines: Lines,
 ) -> Result<(), NoMemory>
     requires here { k < length places.now }
-    requires guards { lines.z6 ≡ None → guards.old ≡ rules.guards (take k (map place_view places.now)) }
-    ensures { OnOk result (lines.z6 ≡ None → guards.new ≡ rules.guards (take (k + 1) (map place_view places.now))) }
+    requires guards { lines.z6 ≡ None →
+        guards.old ≡ rules.guards (take k (map place_view places.now)) }
+    ensures { OnOk result (lines.z6 ≡ None →
+        guards.new ≡ rules.guards (take (k + 1) (map place_view places.now))) }
 {
     if lines.z6.is_some() {
         return Ok(());

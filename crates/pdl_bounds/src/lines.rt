@@ -61,7 +61,12 @@ impl Lines {
 
     /// The lowest rule that is broken, with its line.
     pub fn lowest(self) -> Option<Broken>
-        ensures { option_map refused_of result ≡ refused_at names.Z2 self.z2 (refused_at names.Z3 self.z3 (refused_at names.Z4 self.z4 (refused_at names.Z5 self.z5 (refused_at names.Z6 self.z6 (refused_at names.Z7 self.z7 None))))) }
+        ensures { option_map refused_of result
+            ≡ refused_at names.Z2 self.z2
+            (refused_at names.Z3 self.z3
+            (refused_at names.Z4 self.z4
+            (refused_at names.Z5 self.z5
+            (refused_at names.Z6 self.z6 (refused_at names.Z7 self.z7 None))))) }
     {
         let last = lowest_of(Rule::Z7, self.z7, None);
         let last = lowest_of(Rule::Z6, self.z6, last);

@@ -28,7 +28,8 @@ pub fn has_wrong_literal(literals: &[Literal]) -> bool
 
 /// Whether a literal in one of these arguments has a width that may not be.
 pub fn in_args(args: &[Expr]) -> bool
-    ensures { result ≡ list_any (some_part (of_constant spec.is_wrong_literal)) (exprs_view args.now) }
+    ensures { result ≡ list_any (some_part (of_constant spec.is_wrong_literal))
+        (exprs_view args.now) }
 {
     for e in args {
         if in_expr(e) {

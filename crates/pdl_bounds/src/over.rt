@@ -25,11 +25,14 @@ pub struct Over {
 
 /// What a place is over, behind so many places and these guards.
 pub fn over_at(counts: Counts, guards: &Guards, place: &Place<'_>) -> Over
-    ensures z2 { result.z2 ≡ (spec.is_statement (place_view place.now) && (counts.statements == 1024)) }
-    ensures z3 { result.z3 ≡ (spec.is_separator (place_view place.now) && (counts.separators == 63)) }
+    ensures z2 { result.z2 ≡ (spec.is_statement (place_view place.now)
+        && (counts.statements == 1024)) }
+    ensures z3 { result.z3 ≡ (spec.is_separator (place_view place.now)
+        && (counts.separators == 63)) }
     ensures z4 { result.z4 ≡ (spec.is_memory (place_view place.now) && (counts.memories == 16)) }
     ensures z5 { result.z5 ≡ (spec.is_binding (place_view place.now) && (counts.bindings == 512)) }
-    ensures z6 { result.z6 ≡ (adds_guard guards.now (place_view place.now) && (length guards.now == 10)) }
+    ensures z6 { result.z6 ≡ (adds_guard guards.now (place_view place.now)
+        && (length guards.now == 10)) }
     ensures z7 { result.z7 ≡ spec.breaks_z7 (place_view place.now) }
 {
     Over {

@@ -1,35 +1,27 @@
 -- What the rules give a pipe that is to be lowered: its widths and sizes are in bounds, and it has few separators.
-use Rattle.std.proofs.Common.{◌≡◌, ◌≢◌, refl, sym, ap, ap₂, ◌∙◌, subst, subst₂, ℕ, suc, ◌+◌, ◌≤◌, Bool, true, false, not, ◌||◌, ◌&&◌, ◌==◌, nat_le, List, [], ◌∷◌, ◌++◌, map, fold, count_by, Option, Some, None, bytes_eq, ⊎_elim, arith, append_assoc, append-nil, leb-true}
+use Rattle.std.proofs.Common.{◌≡◌, ◌≢◌, refl, sym, ap₂, ◌∙◌, subst, subst₂, ℕ, ◌+◌, ◌≤◌, Bool, true, false, not, ◌||◌, ◌&&◌, ◌==◌, nat_le, List, [], ◌∷◌, ◌++◌, map, count_by, Option, Some, None, ⊎_elim, arith, append_assoc, append-nil, leb-true}
 use Rattle.std.specs.Prelude.{IsTrue}
-use Rattle.std.proofs.lemmas.Bool.{false≢true, true≢false, or_parts, or_cases, or_left, or_right, and_parts, and_cases, not-false, eqb-true, eqb-false}
-use Rattle.std.proofs.lemmas.List.Folds.{list_any-append, list_all-append}
-use Rattle.std.proofs.lemmas.List.Sums.{sum_by-append, fold-append}
-use Rattle.std.specs.List.{list_any, list_all}
+use Rattle.std.proofs.lemmas.Bool.{or_parts, and_parts, and_cases, not-false, eqb-false}
+use Rattle.std.proofs.lemmas.List.Sums.{sum_by-append}
+use Rattle.std.specs.List.{list_any}
 use Rattle.pdl_kit.specs.declared.rule.Rule.TheVariants.{Z3, Z7, N2, N3, W1, W2, W3}
 use Rattle.pdl_semantics.specs.Tree.{Expr, Stmt, Separator, CombRead, Bind, SpecCall, DelayedRead, Write, Reserve, Block, Release, If, Call, Verify, SpecCheck, SpecBarrier, Stmts, Nil, Cons, Param, LockDecl, Mem, Pipe}
 use Rattle.pdl_semantics.specs.Flatten.{Var, width_of, mem_width, params_of, separators, separators_in}
 use Rattle.pdl_rules.specs.Places.{Place, Parameter, Memory, Statement, End, StartClause, Branch, guard_of, with_inner, statements, places, on_some_path}
 use Rattle.pdl_rules.specs.Parts.{some_part, some_expr_of, of_constant, passes}
 use Rattle.pdl_rules.specs.Limits.{is_separator, depths, is_depth, is_size, is_width, allows, is_wrong_lock, is_wrong_literal, breaks_z7}
-use Rattle.pdl_rules.specs.Names.{Use, OfVariable, defines, reads, is_undefined, is_parameter, is_given, is_too_early}
-use Rattle.pdl_rules.specs.Widths.{after_place, variables, is_unequal, is_too_large, is_out_of_range, is_wide_choice}
+use Rattle.pdl_rules.specs.Names.{Use, OfVariable, reads, is_undefined, is_parameter, is_given, is_too_early}
+use Rattle.pdl_rules.specs.Widths.{variables, is_unequal, is_too_large, is_out_of_range, is_wide_choice}
 use Rattle.pdl_rules.specs.Typed.{is_named}
 use Rattle.pdl_rules.specs.Refusal.{KeepsRules}
 use Rattle.pdl_rules.proofs.Counts.{weight, count_push, count_cons}
-use Rattle.pdl_rules.proofs.Once.{any_front, any_last, fold_push, bytes_sym}
 use Rattle.pdl_rules.proofs.Typing.{Fits, of_one, typed, width_is}
 use Rattle.pdl_rules.proofs.Defined.{Stays, stays_more, AreKnown, none_known, known_same, known_more, known_stay, known_mems, params_named}
 use Rattle.pdl_flat.specs.Sized.{IsSized, AreSized, IsSizedStmt, AreSizedStmts, IsSizedLock, IsSizedMem, AreSizedMems, AreSizedParams, IsSizedPipe}
 use Rattle.pdl_flat.proofs.Widths.{Small, sized_typed, small_more, small_mem}
+use Rattle.pdl_rules.proofs.Memories.{of_each}
 
 -- MEMORIES AND PARAMETERS
-
--- a number that is among some has what they all have
-of_each : (test : ℕ → Bool) (ns : List ℕ) (d : ℕ) → list_all test ns ≡ true → list_any (λ n. n == d) ns ≡ true → test d ≡ true
-of_each test [] d all some = absurd (false≢true some)
-of_each test (n ∷ ns) d all some =
-    let parts = and_parts (test n) (list_all test ns) all in
-    ⊎_elim (λ e. ap test (sym (eqb-true n d e)) ∙ parts.0) (λ e. of_each test ns d parts.1 e) (or_cases (n == d) (list_any (λ m. m == d) ns) some)
 
 sized_lock : (m : Mem) (l : Option LockDecl) → passes (is_wrong_lock m) l ≡ false → IsSizedLock l
 sized_lock m None e = tt

@@ -2,9 +2,9 @@
 use Rattle.std.proofs.Common.{◌≡◌, ℕ, zero, suc, ◌+◌, ◌≤◌, ◌<◌, ◌==◌, Bool, true, false, if◌then◌else◌, List, [], ◌∷◌, ◌++◌, length, refl, ap, ap₂, sym, ◌∙◌, Option, arith, append_assoc, append-nil, length-append, eqb-true}
 use Rattle.std.proofs.Common.{inl, inr}
 use Rattle.std.proofs.lemmas.Bool.Decides.{eqb_tells}
-use Rattle.pdl_semantics.specs.Tree.{Span, Expr, Variable, Stmt, Separator, CombRead, Bind, SpecCall, DelayedRead, Write, Reserve, Block, Release, If, Call, Verify, SpecCheck, SpecBarrier, Stmts, Nil, Cons, Mem}
+use Rattle.pdl_semantics.specs.Tree.{Span, Expr, Variable, Stmt, Separator, If, Stmts, Nil, Cons, Mem}
 use Rattle.pdl_semantics.specs.Flat.{Next, Forks, Goes, Stage, Branch}
-use Rattle.pdl_semantics.specs.Flatten.{Place, Graph, merging, entry, forks, joined, graph, past, past_all, separators, separators_in, with_guard, at_otherwise, guard_of, side}
+use Rattle.pdl_semantics.specs.Flatten.{Place, Graph, merging, entry, forks, joined, graph, past, separators, separators_in, with_guard, at_otherwise, guard_of, side}
 use Rattle.pdl_flat.specs.Walking.{leading, marked, next_at, closed, settled}
 use Rattle.pdl_flat.proofs.Leading.{leading-append, leading-twice, leading-same, length-leading, next-leading, marked-behind, merging-append}
 
@@ -163,11 +163,6 @@ module _ (ms : List Mem) (b : Option Branch) (sp : Span) (c : Expr) (when otherw
       (λ t. eqb-true (separators when + separators otherwise) 0 (sym test ∙ t))
       (λ t. some_begun (separators when + separators otherwise) (sym test ∙ t))
       test
-
--- three lists of rows, one after the other
-pub three_more : {X : Type 0} (s0 s1 s2 s3 a b c : List X) → s1 ≡ s0 ++ a → s2 ≡ s1 ++ b → s3 ≡ s2 ++ c → s3 ≡ s0 ++ ((a ++ b) ++ c)
-three_more s0 s1 s2 s3 a b c h1 h2 h3 =
-    h3 ∙ ap (λ s. s ++ c) (h2 ∙ ap (λ s. s ++ b) h1 ∙ append_assoc s0 a b) ∙ append_assoc s0 (a ++ b) c
 
 -- the stage that a branch enters first, as its `if`'s stage shows it
 pub entry_seen : (ms : List Mem) (b : Option Branch) (n : Next) (first : Bool) (k i merge : ℕ) (ss : Stmts) (p : Place) (s0 s1 : List Stage)

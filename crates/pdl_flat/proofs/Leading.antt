@@ -1,5 +1,5 @@
 -- Lists of stages of which one leads elsewhere.
-use Rattle.std.proofs.Common.{◌≡◌, ℕ, zero, suc, ◌≤◌, ◌<◌, Bool, true, false, List, [], ◌∷◌, ◌++◌, map, length, get_or, set, Option, Some, None, refl, ap, ap₂, sym, ◌∙◌, arith, append_assoc, length-append}
+use Rattle.std.proofs.Common.{◌≡◌, ℕ, zero, suc, ◌≤◌, ◌<◌, false, List, [], ◌∷◌, ◌++◌, length, get_or, set, Option, Some, None, refl, ap, sym, ◌∙◌, arith, append_assoc}
 use Rattle.pdl_semantics.specs.Flat.{Next, Ends, Goes, Stage, Branch}
 use Rattle.pdl_semantics.specs.Flatten.{Graph, merging}
 use Rattle.pdl_form.specs.declared.form.Stage as r_stage
@@ -21,19 +21,10 @@ marked_one [] k x f h e = absurd (omega arith)
 marked_one (y ∷ ys) zero x f h e = ap (λ (z : r_stage.Stage). record { next = next_view z.next; branch = (stage_view z).branch; merges = Some f } ∷ stages_view ys) e
 marked_one (y ∷ ys) (suc k) x f h e = ap (λ zs. stage_view y ∷ zs) (marked_one ys k x f (omega arith) e)
 
-pub next_there : (xs : List r_stage.Stage) (k : ℕ) (x : r_stage.Stage) → k < length xs → x ≡ get_or xs k x → next_view x.next ≡ next_at k (stages_view xs)
-next_there [] k x h e = absurd (omega arith)
-next_there (y ∷ ys) zero x h e = ap (λ (z : r_stage.Stage). next_view z.next) e
-next_there (y ∷ ys) (suc k) x h e = next_there ys k x (omega arith) e
-
 pub next_seen : (xs : List r_stage.Stage) (k : ℕ) (d : r_stage.Stage) → k < length xs → next_view (get_or xs k d).next ≡ next_at k (stages_view xs)
 next_seen [] k d h = absurd (omega arith)
 next_seen (y ∷ ys) zero d h = refl
 next_seen (y ∷ ys) (suc k) d h = next_seen ys k d (omega arith)
-
-pub length_stages : (xs : List r_stage.Stage) → length (stages_view xs) ≡ length xs
-length_stages [] = refl
-length_stages (x ∷ xs) = ap suc (length_stages xs)
 
 pub stages_push : (xs : List r_stage.Stage) (x : r_stage.Stage) → stages_view (xs ++ x ∷ []) ≡ stages_view xs ++ stage_view x ∷ []
 stages_push [] x = refl

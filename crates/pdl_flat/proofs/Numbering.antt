@@ -3,12 +3,11 @@ use Rattle.std.proofs.Common.{◌≡◌, ℕ, suc, ◌≤◌, ◌<◌, Bool, tru
 use Rattle.std.specs.Option.{option_map}
 use Rattle.std.specs.Cmp.Lexicographic.{pointwise}
 use Rattle.std.specs.Map.{lookup}
-use Rattle.std.proofs.lemmas.Slice.Eq.{bytes_eq-Decides}
-use Rattle.std.proofs.lemmas.Bool.Decides.{same_from_decides}
 use Rattle.indexmap.specs.IndexMap.{insert_entry}
 use Rattle.pdl_semantics.specs.Flatten.{Var, var_of, var_width}
 use Rattle.pdl_flat.specs.declared.vars.Variable.{Variable}
 use Rattle.pdl_flat.specs.Variables.{vars_of, var_view, number_in, AreNumbered}
+use Rattle.pdl_word.proofs.Bytes.{bytes_same, bytes_swap}
 
 -- ONE LOOK-UP
 
@@ -105,15 +104,6 @@ lookup_push [] k n x = refl
 lookup_push (e ∷ es) k n x = lookup_step (bytes_eq x e.0) e.1 (lookup (pointwise nat_eq x) es) (if bytes_eq x k then Some n else None)
     (lookup (pointwise nat_eq x) (es ++ (k, n) ∷ [])) (lookup_push es k n x)
 
-decided : (x y : List ℕ) → bytes_eq x y ≡ true → x ≡ y
-decided x y h = (bytes_eq-Decides x y).0 h
-
-swap : (x y : List ℕ) → bytes_eq x y ≡ bytes_eq y x
-swap x y =
-    let a = bytes_eq-Decides x y in
-    let b = bytes_eq-Decides y x in
-    same_from_decides _ _ a (λ e. sym (b.0 e), λ e. b.1 (sym e))
-
 -- a name that is new
 pub numbered_new : (es : List (List ℕ × ℕ)) (vs : List Var) (k : List ℕ) (w : ℕ) → AreNumbered es vs → w ≤ 64
     → AreNumbered (es ++ (k, length vs) ∷ []) (vs ++ record { name = k; width = w } ∷ [])
@@ -122,7 +112,7 @@ numbered_new es vs k w h small =
       numbers = λ x.
           lookup_push es k (length vs) x
           ∙ ap (λ o. first_of o (if bytes_eq x k then Some (length vs) else None)) (h.numbers x)
-          ∙ ap (λ b. first_of (number_in vs x) (if b then Some (length vs) else None)) (swap x k)
+          ∙ ap (λ b. first_of (number_in vs x) (if b then Some (length vs) else None)) (bytes_swap x k)
           ∙ sym (number_push vs (record { name = k; width = w }) x);
       small = λ x. small_push vs (record { name = k; width = w }) x small (h.small x);
     }
@@ -143,7 +133,7 @@ numbered_there es vs k w h small there =
     record {
       numbers = λ x.
           h.numbers x
-          ∙ same_number (bytes_eq k x) (number_in vs x) (length vs) (λ e. ap is_some (ap (number_in vs) (sym (decided k x e)))
+          ∙ same_number (bytes_eq k x) (number_in vs x) (length vs) (λ e. ap is_some (ap (number_in vs) (sym (bytes_same k x e)))
           ∙ ap is_some (sym (h.numbers k)) ∙ there)
           ∙ sym (number_push vs (record { name = k; width = w }) x);
       small = λ x. small_push vs (record { name = k; width = w }) x small (h.small x);
@@ -152,10 +142,6 @@ numbered_there es vs k w h small there =
 vars_push : (vs : List Variable) (v : Variable) → vars_of (vs ++ v ∷ []) ≡ vars_of vs ++ var_view v ∷ []
 vars_push [] v = refl
 vars_push (u ∷ vs) v = ap (λ ws. var_view u ∷ ws) (vars_push vs v)
-
-pub is_some-mapped : {T U : Type 0} (f : T → U) (o : Option T) → is_some (option_map f o) ≡ is_some o
-is_some-mapped f None = refl
-is_some-mapped f (Some x) = refl
 
 -- what a look-up has found out
 found_some : (o p : Option ℕ) → o ≡ p → is_some o ≡ true → is_some p ≡ true

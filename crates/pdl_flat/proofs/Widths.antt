@@ -1,9 +1,10 @@
 -- No variable or expression of a pipe that keeps the rules is wider than 64 bits.
 use Rattle.std.proofs.Common.{ℕ, ◌+◌, ◌-◌, ◌≤◌, ◌<◌, Bool, true, false, List, [], ◌∷◌, ◌++◌, if◌then◌else◌, nat_lt, bytes_eq, arith}
-use Rattle.pdl_semantics.specs.Tree.{BinaryOp, Add, Sub, Mul, And, Or, Xor, Equal, Differ, Less, ShiftLeft, ShiftRight, Expr, Constant, Variable, Slice, Not, Binary, Cat, LessSigned, ZeroExtend, SignExtend, Choose, Mem}
-use Rattle.pdl_semantics.specs.Flatten.{Var, widest, var_width, mem_width, op_width, width_of}
+use Rattle.pdl_semantics.specs.Tree.{Expr, Constant, Variable, Slice, Not, Binary, Cat, LessSigned, ZeroExtend, SignExtend, Choose, Mem}
+use Rattle.pdl_semantics.specs.Flatten.{Var, widest, var_width, mem_width, width_of}
 use Rattle.pdl_rules.specs.Typed.{IsTyped}
 use Rattle.pdl_flat.specs.Sized.{IsSized, AreSizedMems}
+use Rattle.pdl_semantics.proofs.Facts.{op_narrow}
 
 -- EXPRESSIONS
 
@@ -20,12 +21,6 @@ small_width (v ∷ vs) small x = go (bytes_eq v.name x) (small_width vs small.1 
     go true h = small.0
     go false h = h
 
-small_op : (op : BinaryOp) (w : ℕ) → w ≤ 64 → op_width op w ≤ 64
-small_op Equal w h = omega arith
-small_op Differ w h = omega arith
-small_op Less w h = omega arith
-small_op _ w h = h
-
 small_if : (b : Bool) (n : ℕ) → n ≤ 64 → (if b then 1 else n) ≤ 64
 small_if true n h = omega arith
 small_if false n h = h
@@ -41,7 +36,7 @@ sized_typed vs small (Slice x high low) t =
 sized_typed vs small (Not a) t = sized_typed vs small a t
 sized_typed vs small (Binary op a b) t =
     let left = sized_typed vs small a t.0 in
-    ((left.0, (sized_typed vs small b t.1).0), small_op op (width_of vs a) left.1)
+    ((left.0, (sized_typed vs small b t.1).0), op_narrow op (width_of vs a) left.1)
 sized_typed vs small (Cat a b) t =
     (((sized_typed vs small a t.0).0, (sized_typed vs small b t.1).0), small_if (nat_lt widest (width_of vs a + width_of vs b)) (width_of vs a + width_of vs b) t.2)
 sized_typed vs small (LessSigned a b) t = (((sized_typed vs small a t.0).0, (sized_typed vs small b t.1).0), omega arith)

@@ -20,8 +20,11 @@ use std::alloc::Global;
 fn guard(alloc: Global, walk: &mut Walk, guards: &[Guard], c: &Expr) -> Result<usize, NoMemory>
     requires { IsSized (tree.expr_view c.now) }
     ensures var { IfOk result (λ x. x ≡ spec.guard_of walk.old.vars (tree.expr_view c.now)) }
-    ensures stmts { OnOk result (stmts_view walk.new.stmts.items ≡ stmts_view walk.old.stmts.items ++ spec.binds_guard (guards_view guards.now) (place_of walk.old) (tree.expr_view c.now)) }
-    ensures place { OnOk result (place_of walk.new ≡ spec.with_guard (tree.expr_view c.now) (place_of walk.old)) }
+    ensures stmts { OnOk result (stmts_view walk.new.stmts.items
+        ≡ stmts_view walk.old.stmts.items ++ spec.binds_guard (guards_view guards.now)
+        (place_of walk.old) (tree.expr_view c.now)) }
+    ensures place { OnOk result (place_of walk.new
+        ≡ spec.with_guard (tree.expr_view c.now) (place_of walk.old)) }
     ensures stages { OnOk result (walk.new.stages.items ≡ walk.old.stages.items) }
 {
     if let Expr::Variable(x) = c {
@@ -64,12 +67,16 @@ fn enter(
     requires whole { IsWhole walk.old }
     requires few { walk.old.begun + more ≤ 63 }
     requires sized { IsSized (tree.expr_view c.now) }
-    ensures stmts { OnOk result (stmts_view walk.new.stmts.items ≡ stmts_view walk.old.stmts.items ++ spec.binds_guard (guards_view guards.now) (place_of walk.old) (tree.expr_view c.now)) }
-    ensures place { OnOk result (place_of walk.new ≡ spec.with_guard (tree.expr_view c.now) (place_of walk.old)) }
+    ensures stmts { OnOk result (stmts_view walk.new.stmts.items
+        ≡ stmts_view walk.old.stmts.items ++ spec.binds_guard (guards_view guards.now)
+        (place_of walk.old) (tree.expr_view c.now)) }
+    ensures place { OnOk result (place_of walk.new
+        ≡ spec.with_guard (tree.expr_view c.now) (place_of walk.old)) }
     ensures stages { OnOk result (walk.new.stages.items ≡ walk.old.stages.items) }
     ensures var { IfOk result (λ x. x.var ≡ spec.guard_of walk.old.vars (tree.expr_view c.now)) }
     ensures stage { IfOk result (λ x. x.stage ≡ walk.old.stage) }
-    ensures before { IfOk result (λ x. next_view x.before ≡ next_at walk.old.stage (stages_view walk.old.stages.items)) }
+    ensures before { IfOk result (λ x.
+        next_view x.before ≡ next_at walk.old.stage (stages_view walk.old.stages.items)) }
     ensures begun { IfOk result (λ x. x.begun ≡ walk.old.begun) }
     ensures merge { IfOk result (λ x. x.merge ≡ suc (walk.old.begun + more)) }
 {
@@ -88,7 +95,11 @@ fn enter(
 
 // What stands round a branch.
 fn inside(alloc: Global, guards: &[Guard], choice: Choice, first: bool) -> Result<Round, NoMemory>
-    ensures guards { IfOk result (λ r. guards_view r.guards ≡ guards_view guards.now ++ record { var = choice.var; first = first } ∷ []) }
+    ensures guards { IfOk result (λ r.
+        guards_view r.guards ≡ guards_view guards.now ++ record {
+          var = choice.var;
+          first = first;
+        } ∷ []) }
     ensures branch { IfOk result (λ r. branch_view r.branch ≡ spec.side choice.stage first) }
     ensures exit { IfOk result (λ r. next_view r.exit ≡ flat.Goes choice.merge) }
 {
@@ -121,7 +132,10 @@ fn leave(walk: &mut Walk, choice: Choice, first: usize, second: usize, forked: b
     requires begun { choice.begun ≤ walk.old.begun }
     ensures place { place_of walk.new ≡ place_of walk.old }
     ensures stmts { walk.new.stmts.items ≡ walk.old.stmts.items }
-    ensures stages { stages_view walk.new.stages.items ≡ settled (walk.old.begun == choice.begun) forked choice.stage choice.begun (next_view choice.before) (flat.Forks choice.var first second) (stages_view walk.old.stages.items) }
+    ensures stages { stages_view walk.new.stages.items
+        ≡ settled (walk.old.begun == choice.begun) forked choice.stage choice.begun
+        (next_view choice.before) (flat.Forks choice.var first second)
+        (stages_view walk.old.stages.items) }
     ensures whole { IsWhole walk.new }
     ensures value { result ≡ (if walk.old.begun == choice.begun then forked else true) }
 {
@@ -156,12 +170,23 @@ fn branch(
     requires few { walk.old.begun + spec.separators (tree.stmts_view ss.now) ≤ 63 }
     requires sized { AreSizedStmts (tree.stmts_view ss.now) }
     requires mems { AreSizedMems (map tree.mem_view mems.now) }
-    ensures place { OnOk result (place_of walk.new ≡ spec.back_in choice.stage (spec.past_all (map tree.mem_view mems.now) (tree.stmts_view ss.now) (place_of walk.old))) }
-    ensures stmts { OnOk result (stmts_view walk.new.stmts.items ≡ stmts_view walk.old.stmts.items ++ spec.flat_stmts (map tree.mem_view mems.now) (guards_view guards.now ++ record { var = choice.var; first = first } ∷ []) (tree.stmts_view ss.now) (place_of walk.old)) }
-    ensures graph { OnOk result (stages_view walk.new.stages.items ≡ closed choice.stage false (stages_view walk.old.stages.items) (spec.graph (map tree.mem_view mems.now) (spec.side choice.stage first) (flat.Goes choice.merge) (tree.stmts_view ss.now) (place_of walk.old))) }
-    ensures entry { IfOk result (λ k. k ≡ spec.entry (spec.graph (map tree.mem_view mems.now) (spec.side choice.stage first) (flat.Goes choice.merge) (tree.stmts_view ss.now) (place_of walk.old)).next) }
+    ensures place { OnOk result (place_of walk.new
+        ≡ spec.back_in choice.stage
+        (spec.past_all (map tree.mem_view mems.now) (tree.stmts_view ss.now) (place_of walk.old))) }
+    ensures stmts { OnOk result (stmts_view walk.new.stmts.items
+        ≡ stmts_view walk.old.stmts.items ++ spec.flat_stmts (map tree.mem_view mems.now)
+        (guards_view guards.now ++ record { var = choice.var; first = first } ∷ [])
+        (tree.stmts_view ss.now) (place_of walk.old)) }
+    ensures graph { OnOk result (stages_view walk.new.stages.items
+        ≡ closed choice.stage false (stages_view walk.old.stages.items)
+        (spec.graph (map tree.mem_view mems.now) (spec.side choice.stage first)
+        (flat.Goes choice.merge) (tree.stmts_view ss.now) (place_of walk.old))) }
+    ensures entry { IfOk result (λ k.
+        k ≡ spec.entry (spec.graph (map tree.mem_view mems.now) (spec.side choice.stage first)
+        (flat.Goes choice.merge) (tree.stmts_view ss.now) (place_of walk.old)).next) }
     ensures whole { OnOk result (IsWhole walk.new) }
-    ensures count { OnOk result (walk.new.begun ≡ walk.old.begun + spec.separators (tree.stmts_view ss.now)) }
+    ensures count { OnOk result (walk.new.begun
+        ≡ walk.old.begun + spec.separators (tree.stmts_view ss.now)) }
 {
     let round = inside(alloc, guards, choice, first)?;
     statements(alloc, walk, mems, &round, ss)?;
@@ -183,11 +208,19 @@ pub fn statement(
     requires few { walk.old.begun + spec.separators_in (tree.stmt_view s.now) ≤ 63 }
     requires sized { IsSizedStmt (tree.stmt_view s.now) }
     requires mems { AreSizedMems (map tree.mem_view mems.now) }
-    ensures place { OnOk result (place_of walk.new ≡ spec.past (map tree.mem_view mems.now) (tree.stmt_view s.now) (place_of walk.old)) }
-    ensures stmts { OnOk result (stmts_view walk.new.stmts.items ≡ stmts_view walk.old.stmts.items ++ spec.flat_stmt (map tree.mem_view mems.now) (guards_view round.now.guards) (tree.stmt_view s.now) (place_of walk.old)) }
-    ensures graph { IfOk result (λ after. (rest : spec.Graph) → closed walk.new.stage after (stages_view walk.new.stages.items) rest ≡ closed walk.old.stage forked (stages_view walk.old.stages.items) (spec.joined (map tree.mem_view mems.now) (branch_view round.now.branch) (tree.stmt_view s.now) (place_of walk.old) rest)) }
+    ensures place { OnOk result (place_of walk.new
+        ≡ spec.past (map tree.mem_view mems.now) (tree.stmt_view s.now) (place_of walk.old)) }
+    ensures stmts { OnOk result (stmts_view walk.new.stmts.items
+        ≡ stmts_view walk.old.stmts.items ++ spec.flat_stmt (map tree.mem_view mems.now)
+        (guards_view round.now.guards) (tree.stmt_view s.now) (place_of walk.old)) }
+    ensures graph { IfOk result (λ after. (rest : spec.Graph) →
+        closed walk.new.stage after (stages_view walk.new.stages.items) rest
+        ≡ closed walk.old.stage forked (stages_view walk.old.stages.items)
+        (spec.joined (map tree.mem_view mems.now) (branch_view round.now.branch)
+        (tree.stmt_view s.now) (place_of walk.old) rest)) }
     ensures whole { OnOk result (IsWhole walk.new) }
-    ensures count { OnOk result (walk.new.begun ≡ walk.old.begun + spec.separators_in (tree.stmt_view s.now)) }
+    ensures count { OnOk result (walk.new.begun
+        ≡ walk.old.begun + spec.separators_in (tree.stmt_view s.now)) }
 {
     match s {
         Stmt::Separator { .. } => {
@@ -229,11 +262,18 @@ pub fn statements(
     requires few { walk.old.begun + spec.separators (tree.stmts_view ss.now) ≤ 63 }
     requires sized { AreSizedStmts (tree.stmts_view ss.now) }
     requires mems { AreSizedMems (map tree.mem_view mems.now) }
-    ensures place { OnOk result (place_of walk.new ≡ spec.past_all (map tree.mem_view mems.now) (tree.stmts_view ss.now) (place_of walk.old)) }
-    ensures stmts { OnOk result (stmts_view walk.new.stmts.items ≡ stmts_view walk.old.stmts.items ++ spec.flat_stmts (map tree.mem_view mems.now) (guards_view round.now.guards) (tree.stmts_view ss.now) (place_of walk.old)) }
-    ensures graph { OnOk result (stages_view walk.new.stages.items ≡ closed walk.old.stage false (stages_view walk.old.stages.items) (spec.graph (map tree.mem_view mems.now) (branch_view round.now.branch) (next_view round.now.exit) (tree.stmts_view ss.now) (place_of walk.old))) }
+    ensures place { OnOk result (place_of walk.new
+        ≡ spec.past_all (map tree.mem_view mems.now) (tree.stmts_view ss.now) (place_of walk.old)) }
+    ensures stmts { OnOk result (stmts_view walk.new.stmts.items
+        ≡ stmts_view walk.old.stmts.items ++ spec.flat_stmts (map tree.mem_view mems.now)
+        (guards_view round.now.guards) (tree.stmts_view ss.now) (place_of walk.old)) }
+    ensures graph { OnOk result (stages_view walk.new.stages.items
+        ≡ closed walk.old.stage false (stages_view walk.old.stages.items)
+        (spec.graph (map tree.mem_view mems.now) (branch_view round.now.branch)
+        (next_view round.now.exit) (tree.stmts_view ss.now) (place_of walk.old))) }
     ensures whole { OnOk result (IsWhole walk.new) }
-    ensures count { OnOk result (walk.new.begun ≡ walk.old.begun + spec.separators (tree.stmts_view ss.now)) }
+    ensures count { OnOk result (walk.new.begun
+        ≡ walk.old.begun + spec.separators (tree.stmts_view ss.now)) }
 {
     let mut forked = false;
     for s in ss {

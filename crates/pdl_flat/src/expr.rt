@@ -100,7 +100,8 @@ fn op_width(op: BinaryOp, width: u8) -> u8
 
 fn binary(alloc: Global, op: BinaryOp, a: Wide, b: Wide) -> Result<Wide, NoMemory>
     requires { a.width ≤ 64 }
-    ensures form { IfOk result (λ r. expr_view r.e ≡ flat.Binary (op_view op) a.width (expr_view a.e) (expr_view b.e)) }
+    ensures form { IfOk result (λ r.
+        expr_view r.e ≡ flat.Binary (op_view op) a.width (expr_view a.e) (expr_view b.e)) }
     ensures width { IfOk result (λ r. r.width ≡ spec.op_width (op_view op) a.width) }
     ensures small { IfOk result (λ r. r.width ≤ 64) }
 {
@@ -127,8 +128,10 @@ fn cat_width(above: u8, below: u8) -> u8
 fn cat(alloc: Global, a: Wide, b: Wide) -> Result<Wide, NoMemory>
     requires a_small { a.width ≤ 64 }
     requires b_small { b.width ≤ 64 }
-    ensures form { IfOk result (λ r. expr_view r.e ≡ flat.Cat (expr_view a.e) b.width (expr_view b.e)) }
-    ensures width { IfOk result (λ r. r.width ≡ (if nat_lt 64 (a.width + b.width) then 1 else a.width + b.width)) }
+    ensures form { IfOk result (λ r.
+        expr_view r.e ≡ flat.Cat (expr_view a.e) b.width (expr_view b.e)) }
+    ensures width { IfOk result (λ r.
+        r.width ≡ (if nat_lt 64 (a.width + b.width) then 1 else a.width + b.width)) }
     ensures small { IfOk result (λ r. r.width ≤ 64) }
 {
     let wide = cat_width(a.width, b.width);
@@ -142,7 +145,8 @@ fn cat(alloc: Global, a: Wide, b: Wide) -> Result<Wide, NoMemory>
 }
 
 fn less_signed(alloc: Global, a: Wide, b: Wide) -> Result<Wide, NoMemory>
-    ensures form { IfOk result (λ r. expr_view r.e ≡ flat.LessSigned a.width (expr_view a.e) (expr_view b.e)) }
+    ensures form { IfOk result (λ r.
+        expr_view r.e ≡ flat.LessSigned a.width (expr_view a.e) (expr_view b.e)) }
     ensures width { IfOk result (λ r. r.width ≡ 1) }
 {
     let width = a.width;
@@ -182,7 +186,8 @@ fn sign_extend(alloc: Global, a: Wide, wide: u64) -> Result<Wide, NoMemory>
 }
 
 fn choose(alloc: Global, c: Wide, a: Wide, b: Wide) -> Result<Wide, NoMemory>
-    ensures form { IfOk result (λ r. expr_view r.e ≡ flat.Choose (expr_view c.e) (expr_view a.e) (expr_view b.e)) }
+    ensures form { IfOk result (λ r.
+        expr_view r.e ≡ flat.Choose (expr_view c.e) (expr_view a.e) (expr_view b.e)) }
     ensures width { IfOk result (λ r. r.width ≡ a.width) }
 {
     let width = a.width;

@@ -43,7 +43,13 @@ fn lock(lock: Option<LockDecl>) -> Lock
 
 fn memory(mem: &Tree) -> Result<Mem, NoMemory>
     requires { IsSizedMem (tree.mem_view mem.now) }
-    ensures view { IfOk result (λ m. mem_view m ≡ record { width = mem.now.width.value; depth = mem.now.depth.value; delayed = mem.now.delayed; lock = spec.lock_of (tree.maybe_lock_view mem.now.lock) }) }
+    ensures view { IfOk result (λ m.
+        mem_view m ≡ record {
+          width = mem.now.width.value;
+          depth = mem.now.depth.value;
+          delayed = mem.now.delayed;
+          lock = spec.lock_of (tree.maybe_lock_view mem.now.lock);
+        }) }
     ensures name { IfOk result (λ m. m.name ≡ mem.now.name.name) }
 {
     let lock = lock(mem.lock);
@@ -59,7 +65,8 @@ fn memory(mem: &Tree) -> Result<Mem, NoMemory>
 /// The memories.
 pub fn memories(alloc: Global, mems: &[Tree]) -> Result<Vec<Mem>, NoMemory>
     requires { AreSizedMems (map tree.mem_view mems.now) }
-    ensures view { IfOk result (λ ms. mems_view ms.items ≡ spec.mems_of (map tree.mem_view mems.now)) }
+    ensures view { IfOk result (λ ms.
+        mems_view ms.items ≡ spec.mems_of (map tree.mem_view mems.now)) }
     ensures names { IfOk result (λ ms. mem_names ms.items ≡ names_of (map tree.mem_view mems.now)) }
 {
     let mut memories = Vec::new(alloc);

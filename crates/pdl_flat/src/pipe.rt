@@ -19,9 +19,14 @@ use std::alloc::Global;
 fn walk_over(alloc: Global, pipe: &Pipe) -> Result<Walk, NoMemory>
     requires sized { IsSizedPipe (pipe_view pipe.now) }
     requires few { spec.separators (pipe_view pipe.now).body ≤ 63 }
-    ensures vars { IfOk result (λ w. w.vars ≡ (spec.past_all (pipe_view pipe.now).mems (pipe_view pipe.now).body (spec.at_start (pipe_view pipe.now))).vars) }
-    ensures stmts { IfOk result (λ w. stmts_view w.stmts.items ≡ spec.flat_stmts (pipe_view pipe.now).mems [] (pipe_view pipe.now).body (spec.at_start (pipe_view pipe.now))) }
-    ensures stages { IfOk result (λ w. stages_view w.stages.items ≡ spec.stages_of (pipe_view pipe.now)) }
+    ensures vars { IfOk result (λ w.
+        w.vars ≡ (spec.past_all (pipe_view pipe.now).mems (pipe_view pipe.now).body
+        (spec.at_start (pipe_view pipe.now))).vars) }
+    ensures stmts { IfOk result (λ w.
+        stmts_view w.stmts.items ≡ spec.flat_stmts (pipe_view pipe.now).mems []
+        (pipe_view pipe.now).body (spec.at_start (pipe_view pipe.now))) }
+    ensures stages { IfOk result (λ w.
+        stages_view w.stages.items ≡ spec.stages_of (pipe_view pipe.now)) }
 {
     let mut walk = Walk {
         vars: params(alloc, pipe.params.as_slice())?,

@@ -35,7 +35,9 @@ fn spot_of(vars: &Vars, mems: &[Mem], at: &Location) -> Spot
 
 /// Adds a statement that stands where the walk is.
 pub fn add(alloc: Global, walk: &mut Walk, guards: &[Guard], op: Op) -> Result<(), NoMemory>
-    ensures stmts { OnOk result (stmts_view walk.new.stmts.items ≡ stmts_view walk.old.stmts.items ++ spec.at_place (guards_view guards.now) (place_of walk.old) (act_view op)) }
+    ensures stmts { OnOk result (stmts_view walk.new.stmts.items
+        ≡ stmts_view walk.old.stmts.items ++ spec.at_place (guards_view guards.now)
+        (place_of walk.old) (act_view op)) }
     ensures place { OnOk result (place_of walk.new ≡ place_of walk.old) }
     ensures stages { OnOk result (walk.new.stages.items ≡ walk.old.stages.items) }
 {
@@ -57,8 +59,13 @@ fn bind(
     e: &Expr,
 ) -> Result<(), NoMemory>
     requires { IsSized (tree.expr_view e.now) }
-    ensures stmts { OnOk result (stmts_view walk.new.stmts.items ≡ stmts_view walk.old.stmts.items ++ spec.at_place (guards_view guards.now) (place_of walk.old) (flat.Bind (length walk.old.vars) (spec.flat_expr walk.old.vars (tree.expr_view e.now)))) }
-    ensures place { OnOk result (place_of walk.new ≡ spec.with_var x.now.name (spec.width_of walk.old.vars (tree.expr_view e.now)) (place_of walk.old)) }
+    ensures stmts { OnOk result (stmts_view walk.new.stmts.items
+        ≡ stmts_view walk.old.stmts.items ++ spec.at_place (guards_view guards.now)
+        (place_of walk.old) (flat.Bind (length walk.old.vars)
+        (spec.flat_expr walk.old.vars (tree.expr_view e.now)))) }
+    ensures place { OnOk result (place_of walk.new
+        ≡ spec.with_var x.now.name (spec.width_of walk.old.vars (tree.expr_view e.now))
+        (place_of walk.old)) }
     ensures stages { OnOk result (walk.new.stages.items ≡ walk.old.stages.items) }
 {
     let value = flat_expr(alloc, &walk.vars, e)?;
@@ -81,8 +88,14 @@ fn read(
     delayed: bool,
 ) -> Result<(), NoMemory>
     requires { AreSizedMems (map tree.mem_view mems.now) }
-    ensures stmts { OnOk result (stmts_view walk.new.stmts.items ≡ stmts_view walk.old.stmts.items ++ spec.at_place (guards_view guards.now) (place_of walk.old) (read_op delayed (length walk.old.vars) (spec.mem_of (map tree.mem_view mems.now) from.now.mem.name) (spec.var_of walk.old.vars from.now.address.name))) }
-    ensures place { OnOk result (place_of walk.new ≡ spec.with_var x.now.name (spec.mem_width (map tree.mem_view mems.now) from.now.mem.name) (place_of walk.old)) }
+    ensures stmts { OnOk result (stmts_view walk.new.stmts.items
+        ≡ stmts_view walk.old.stmts.items ++ spec.at_place (guards_view guards.now)
+        (place_of walk.old) (read_op delayed (length walk.old.vars)
+        (spec.mem_of (map tree.mem_view mems.now) from.now.mem.name)
+        (spec.var_of walk.old.vars from.now.address.name))) }
+    ensures place { OnOk result (place_of walk.new
+        ≡ spec.with_var x.now.name (spec.mem_width (map tree.mem_view mems.now) from.now.mem.name)
+        (place_of walk.old)) }
     ensures stages { OnOk result (walk.new.stages.items ≡ walk.old.stages.items) }
 {
     let Spot { m, a } = spot_of(&walk.vars, mems, from);
@@ -115,7 +128,10 @@ fn reserve(kind: Kind, m: usize, a: usize) -> Op
 fn act_of(alloc: Global, vars: &Vars, mems: &[Mem], s: &Tree) -> Result<Op, NoMemory>
     requires act { IsTrue (is_act (tree.stmt_view s.now)) }
     requires sized { IsSizedStmt (tree.stmt_view s.now) }
-    ensures { IfOk result (λ op. (gs : List flat.Guard) (stage begun : ℕ) → spec.flat_stmt (map tree.mem_view mems.now) gs (tree.stmt_view s.now) (record { vars = vars.now; stage = stage; begun = begun }) ≡ record { stage = stage; guards = gs; op = act_view op } ∷ []) }
+    ensures { IfOk result (λ op. (gs : List flat.Guard) (stage begun : ℕ) →
+        spec.flat_stmt (map tree.mem_view mems.now) gs (tree.stmt_view s.now)
+        (record { vars = vars.now; stage = stage; begun = begun })
+        ≡ record { stage = stage; guards = gs; op = act_view op } ∷ []) }
 {
     match s {
         Tree::Write { to, e, .. } => {
@@ -158,8 +174,11 @@ pub fn row(
     requires plain { IsTrue (is_plain (tree.stmt_view s.now)) }
     requires sized { IsSizedStmt (tree.stmt_view s.now) }
     requires mems { AreSizedMems (map tree.mem_view mems.now) }
-    ensures stmts { OnOk result (stmts_view walk.new.stmts.items ≡ stmts_view walk.old.stmts.items ++ spec.flat_stmt (map tree.mem_view mems.now) (guards_view guards.now) (tree.stmt_view s.now) (place_of walk.old)) }
-    ensures place { OnOk result (place_of walk.new ≡ spec.past (map tree.mem_view mems.now) (tree.stmt_view s.now) (place_of walk.old)) }
+    ensures stmts { OnOk result (stmts_view walk.new.stmts.items
+        ≡ stmts_view walk.old.stmts.items ++ spec.flat_stmt (map tree.mem_view mems.now)
+        (guards_view guards.now) (tree.stmt_view s.now) (place_of walk.old)) }
+    ensures place { OnOk result (place_of walk.new
+        ≡ spec.past (map tree.mem_view mems.now) (tree.stmt_view s.now) (place_of walk.old)) }
     ensures stages { OnOk result (walk.new.stages.items ≡ walk.old.stages.items) }
 {
     match s {

@@ -56,7 +56,8 @@ impl Vars {
     /// Adds a variable.
     pub fn define(&mut self, name: &Name, width: u8) -> Result<(), NoMemory>
         requires { width ≤ 64 }
-        ensures ok { OnOk result (self.new ≡ self.old ++ record { name = name.now; width = width } ∷ []) }
+        ensures ok { OnOk result (self.new
+            ≡ self.old ++ record { name = name.now; width = width } ∷ []) }
     {
         let number = self.vars.len();
         let own = name.clone()?;

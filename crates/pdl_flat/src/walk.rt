@@ -29,7 +29,8 @@ pub struct Round {
 /// Lets a stage lead elsewhere.
 pub fn lead(stages: &mut Vec<Stage>, k: usize, next: Next)
     requires { k < length stages.old.items }
-    ensures stages { stages_view stages.new.items ≡ leading k (next_view next) (stages_view stages.old.items) }
+    ensures stages { stages_view stages.new.items
+        ≡ leading k (next_view next) (stages_view stages.old.items) }
     ensures len { length stages.new.items ≡ length stages.old.items }
 {
     let mut stage = stages[k];
@@ -53,7 +54,10 @@ fn begin_after(walk: &mut Walk, branch: Option<Branch>) -> Result<(), NoMemory>
     requires { IsWhole walk.old }
     ensures place { OnOk result (place_of walk.new ≡ spec.next_place (place_of walk.old)) }
     ensures stmts { OnOk result (walk.new.stmts.items ≡ walk.old.stmts.items) }
-    ensures graph { OnOk result ((rest : spec.Graph) → closed walk.new.stage false (stages_view walk.new.stages.items) rest ≡ closed walk.old.stage false (stages_view walk.old.stages.items) (spec.begins (branch_view branch) (place_of walk.old) rest)) }
+    ensures graph { OnOk result ((rest : spec.Graph) →
+        closed walk.new.stage false (stages_view walk.new.stages.items) rest
+        ≡ closed walk.old.stage false (stages_view walk.old.stages.items)
+        (spec.begins (branch_view branch) (place_of walk.old) rest)) }
     ensures whole { OnOk result (IsWhole walk.new) }
 {
     let last = walk.stage;
@@ -74,7 +78,10 @@ fn begin_merge(walk: &mut Walk, branch: Option<Branch>) -> Result<(), NoMemory>
     requires { IsWhole walk.old }
     ensures place { OnOk result (place_of walk.new ≡ spec.next_place (place_of walk.old)) }
     ensures stmts { OnOk result (walk.new.stmts.items ≡ walk.old.stmts.items) }
-    ensures graph { OnOk result ((rest : spec.Graph) → closed walk.new.stage false (stages_view walk.new.stages.items) rest ≡ closed walk.old.stage true (stages_view walk.old.stages.items) (spec.begins (branch_view branch) (place_of walk.old) rest)) }
+    ensures graph { OnOk result ((rest : spec.Graph) →
+        closed walk.new.stage false (stages_view walk.new.stages.items) rest
+        ≡ closed walk.old.stage true (stages_view walk.old.stages.items)
+        (spec.begins (branch_view branch) (place_of walk.old) rest)) }
     ensures whole { OnOk result (IsWhole walk.new) }
 {
     let fork = walk.stage;
@@ -94,7 +101,10 @@ pub fn begin(walk: &mut Walk, branch: Option<Branch>, forked: bool) -> Result<()
     requires { IsWhole walk.old }
     ensures place { OnOk result (place_of walk.new ≡ spec.next_place (place_of walk.old)) }
     ensures stmts { OnOk result (walk.new.stmts.items ≡ walk.old.stmts.items) }
-    ensures graph { OnOk result ((rest : spec.Graph) → closed walk.new.stage false (stages_view walk.new.stages.items) rest ≡ closed walk.old.stage forked (stages_view walk.old.stages.items) (spec.begins (branch_view branch) (place_of walk.old) rest)) }
+    ensures graph { OnOk result ((rest : spec.Graph) →
+        closed walk.new.stage false (stages_view walk.new.stages.items) rest
+        ≡ closed walk.old.stage forked (stages_view walk.old.stages.items)
+        (spec.begins (branch_view branch) (place_of walk.old) rest)) }
     ensures whole { OnOk result (IsWhole walk.new) }
 {
     if forked {

@@ -1,23 +1,11 @@
 -- Counts of separators and of places inside branches.
-use Rattle.std.proofs.Common.{◌≡◌, refl, sym, ap, ap₂, ◌∙◌, ℕ, zero, suc, ◌+◌, ◌-◌, ◌==◌, Bool, true, false, not, ◌||◌, ◌<◌, List, [], ◌∷◌, ◌++◌, map, drop, get_or, length, arith, length-append}
-use Rattle.std.proofs.lemmas.Bool.Decides.{eqb_tells}
+use Rattle.std.proofs.Common.{◌≡◌, refl, sym, ap, ap₂, ◌∙◌, ℕ, zero, suc, ◌+◌, ◌-◌, ◌==◌, Bool, true, false, ◌||◌, ◌<◌, List, [], ◌∷◌, ◌++◌, map, drop, get_or, length, arith, length-append}
 use Rattle.std.specs.List.{list_any}
 use Rattle.pdl_semantics.specs.Tree.{Span, Expr, Stmt, If, Stmts, Nil, Cons}
 use Rattle.pdl_rules.specs.Places.{Place, Branch, guard_of, with_inner, statements}
 use Rattle.pdl_rules.specs.Limits.{is_separator}
 use Rattle.pdl_rules.specs.Forks.{starts_with_separator}
 use Rattle.pdl_forkrules.proofs.Steps.{drop_next}
-
--- SEPARATORS
-
-pub some_either : (a b : ℕ) → not (a + b == 0) ≡ (not (a == 0) || not (b == 0))
-some_either a b = grind (arith, eqb_tells a 0, eqb_tells b 0, eqb_tells (a + b) 0)
-
-pub some_first : (a b : ℕ) → not (a == 0) ≡ true → not (a + b == 0) ≡ true
-some_first a b e = some_either a b ∙ ap (λ c. c || not (b == 0)) e
-
-pub some_rest : (a b : ℕ) → not (a == 0) ≡ false → not (a + b == 0) ≡ not (b == 0)
-some_rest a b e = some_either a b ∙ ap (λ c. c || not (b == 0)) e
 
 -- PLACES
 

@@ -1,11 +1,12 @@
 -- The rules as they are asked are those of the language.
 use Rattle.std.proofs.Common.{◌≡◌, refl, sym, ap, ap₂, ◌∙◌, ℕ, zero, suc, ◌+◌, ◌-◌, ◌<◌, ◌≤◌, true, false, get_or, List, [], ◌∷◌, ◌++◌, map, take, drop, length, if◌then◌else◌, Some, arith}
+use Rattle.std.proofs.lemmas.List.{map_push}
 use Rattle.pdl_semantics.specs.Tree.{Pipe}
 use Rattle.pdl_rules.specs.Places.{Place, places, behind, line_of}
 use Rattle.pdl_rules.specs.Refusal.{refused_at, breaks, broken_line, first_broken}
 use Rattle.pdl_forkrules.specs.declared.scan.ForkRule.{ForkRule}
 use Rattle.pdl_forkrules.specs.declared.scan.ForkRule.TheVariants.{F1, F2, F3, F4, F5}
-use Rattle.pdl_forkrules.proofs.Steps.{drop_next, take_next, push_map}
+use Rattle.pdl_forkrules.proofs.Steps.{drop_next, take_next}
 use Rattle.pdl_forkrules.specs.Order as order
 
 asked : (r : ForkRule) (p : Pipe) (before : List Place) (x : Place) → breaks (order.rule_of r) p before x ≡ order.breaks r p before x
@@ -74,7 +75,7 @@ pub passed : {A : Type 0} (f : A → Place) (r : ForkRule) (p : Pipe) (xs : List
     → order.line_from r p (map f (take k xs)) (map f (drop k xs)) ≡ order.line_from r p [] (map f xs)
     → order.line_from r p (map f (take (k + 1) xs)) (map f (drop (k + 1) xs)) ≡ order.line_from r p [] (map f xs)
 passed f r p xs k x h e is inv =
-    ap (λ ps. order.line_from r p ps (map f (drop (k + 1) xs))) (ap (map f) (take_next xs k x h e) ∙ push_map f (take k xs) x)
+    ap (λ ps. order.line_from r p ps (map f (drop (k + 1) xs))) (ap (map f) (take_next xs k x h e) ∙ map_push f (take k xs) x)
     ∙ sym (ap (λ b. if b then Some (line_of (f x)) else order.line_from r p (map f (take k xs) ++ f x ∷ []) (map f (drop (k + 1) xs))) is)
     ∙ sym (ap (λ ys. order.line_from r p (map f (take k xs)) (map f ys)) (drop_next xs k x h e))
     ∙ inv

@@ -1,5 +1,5 @@
 -- The place at a number, and one place more.
-use Rattle.std.proofs.Common.{◌≡◌, refl, sym, ap, ◌∙◌, ℕ, zero, suc, ◌+◌, ◌<◌, List, [], ◌∷◌, ◌++◌, map, take, drop, length, get_or, arith}
+use Rattle.std.proofs.Common.{◌≡◌, sym, ap, ◌∙◌, ℕ, zero, suc, ◌+◌, ◌<◌, List, [], ◌∷◌, ◌++◌, take, drop, length, get_or, arith}
 
 pub drop_next : {A : Type 0} (xs : List A) (k : ℕ) (x : A) → k < length xs → x ≡ get_or xs k x → drop k xs ≡ x ∷ drop (k + 1) xs
 drop_next {A = A} xs k x h e = at xs k h e ∙ ap (λ n. x ∷ drop n xs) (let one : suc k ≡ k + 1 = omega arith in one)
@@ -16,7 +16,3 @@ take_next {A = A} xs k x h e = ap (λ n. take n xs) (let one : k + 1 ≡ suc k =
     at [] j h e = absurd (omega arith)
     at (y ∷ ys) zero h e = ap (λ z. z ∷ []) (sym e)
     at (y ∷ ys) (suc j) h e = ap (λ zs. y ∷ zs) (at ys j (omega arith) e)
-
-pub push_map : {A B : Type 0} (f : A → B) (xs : List A) (x : A) → map f (xs ++ x ∷ []) ≡ map f xs ++ f x ∷ []
-push_map f [] x = refl
-push_map f (y ∷ ys) x = ap (λ zs. f y ∷ zs) (push_map f ys x)

@@ -18,7 +18,8 @@ use pdl_tree::{Mem, Pipe, Stmt};
 
 // Whether one of these branches holds a separator.
 fn is_some_cut(branches: &[Branch<'_>]) -> bool
-    ensures { result ≡ list_any (λ (b : spec.Branch). forks.holds_separator b.inside) (map branch_view branches.now) }
+    ensures { result ≡ list_any (λ (b : spec.Branch). forks.holds_separator b.inside)
+        (map branch_view branches.now) }
 {
     for branch in branches {
         if holds_separator(branch.inside) {
@@ -48,7 +49,8 @@ pub fn breaks_f1(place: &Place<'_>) -> bool
 
 // Whether no separator follows what stands inside an `if`, where `later` are the places behind the `if`.
 fn is_unfollowed(when: &[Stmt], otherwise: &[Stmt], later: &[Place<'_>]) -> bool
-    ensures { result ≡ spec_unfollowed (stmts_view when.now) (stmts_view otherwise.now) (map place_view later.now) }
+    ensures { result ≡ spec_unfollowed (stmts_view when.now) (stmts_view otherwise.now)
+        (map place_view later.now) }
 {
     let left = left_behind(otherwise, left_behind(when, later.len()));
     if left == 0 {
@@ -64,7 +66,8 @@ fn is_wrong_fork(
     branches: &[Branch<'_>],
     later: &[Place<'_>],
 ) -> bool
-    ensures { result ≡ spec_wrong_fork (stmts_view when.now) (stmts_view otherwise.now) (map branch_view branches.now) (map place_view later.now) }
+    ensures { result ≡ spec_wrong_fork (stmts_view when.now) (stmts_view otherwise.now)
+        (map branch_view branches.now) (map place_view later.now) }
 {
     (holds_separator(when) || holds_separator(otherwise))
         && (!branches.is_empty() || is_unfollowed(when, otherwise, later))
@@ -72,7 +75,9 @@ fn is_wrong_fork(
 
 /// Whether the place, with these places behind it, is a fork inside a branch, or one that no separator follows directly.
 pub fn breaks_f2(place: &Place<'_>, later: &[Place<'_>]) -> bool
-    ensures { (p : tree.Pipe) (before : List spec.Place) → spec.behind p before ≡ map place_view later.now → result ≡ forks.breaks_f2 p before (place_view place.now) }
+    ensures { (p : tree.Pipe) (before : List spec.Place) →
+        spec.behind p before ≡ map place_view later.now →
+        result ≡ forks.breaks_f2 p before (place_view place.now) }
 {
     match place.action {
         Action::If(_, when, otherwise) => {
@@ -113,7 +118,8 @@ fn is_fetched(memory: &Name, before: &[Place<'_>]) -> bool
 
 /// Whether the place, with these places before it of all places, is a delayed read in the last stage, or the second one of its memory.
 pub fn breaks_f3(place: &Place<'_>, before: &[Place<'_>], all: &[Place<'_>]) -> bool
-    ensures { (p : tree.Pipe) → spec.places p ≡ map place_view all.now → result ≡ forks.breaks_f3 p (map place_view before.now) (place_view place.now) }
+    ensures { (p : tree.Pipe) → spec.places p ≡ map place_view all.now →
+        result ≡ forks.breaks_f3 p (map place_view before.now) (place_view place.now) }
 {
     match place.action {
         Action::DelayedRead(_, at) => {

@@ -60,8 +60,10 @@ fn breaks(
     later: &[Place<'_>],
 ) -> bool
     requires all { spec.places (pipe_view pipe.now) ≡ map place_view all.now }
-    requires later { spec.behind (pipe_view pipe.now) (map place_view before.now) ≡ map place_view later.now }
-    ensures { result ≡ ordered.breaks asked (pipe_view pipe.now) (map place_view before.now) (place_view place.now) }
+    requires later { spec.behind (pipe_view pipe.now) (map place_view before.now)
+        ≡ map place_view later.now }
+    ensures { result ≡ ordered.breaks asked (pipe_view pipe.now) (map place_view before.now)
+        (place_view place.now) }
 {
     match asked {
         ForkRule::F1 => breaks_f1(place),
@@ -89,7 +91,9 @@ fn broken_line(asked: ForkRule, pipe: &Pipe, all: &[Place<'_>]) -> Option<u32>
 /// The lowest of the rules F1 to F5 that a pipe with these places breaks, with its lowest place.
 pub fn forks_broken(pipe: &Pipe, all: &[Place<'_>]) -> Option<Broken>
     requires { spec.places (pipe_view pipe.now) ≡ map place_view all.now }
-    ensures { option_map ordered.refused_of result ≡ refusal.first_broken (names.F1 ∷ names.F2 ∷ names.F3 ∷ names.F4 ∷ names.F5 ∷ []) (pipe_view pipe.now) }
+    ensures { option_map ordered.refused_of result
+        ≡ refusal.first_broken (names.F1 ∷ names.F2 ∷ names.F3 ∷ names.F4 ∷ names.F5 ∷ [])
+        (pipe_view pipe.now) }
 {
     first_of(&ORDER, pipe, all)
 }
@@ -97,7 +101,8 @@ pub fn forks_broken(pipe: &Pipe, all: &[Place<'_>]) -> Option<Broken>
 // The first of the rules that is broken.
 fn first_of(rules: &[ForkRule], pipe: &Pipe, all: &[Place<'_>]) -> Option<Broken>
     requires { spec.places (pipe_view pipe.now) ≡ map place_view all.now }
-    ensures { option_map ordered.refused_of result ≡ ordered.first_of rules.now (pipe_view pipe.now) (map place_view all.now) }
+    ensures { option_map ordered.refused_of result
+        ≡ ordered.first_of rules.now (pipe_view pipe.now) (map place_view all.now) }
 {
     for asked in rules {
         if let Some(line) = broken_line(*asked, pipe, all) {

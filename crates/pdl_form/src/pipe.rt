@@ -22,7 +22,9 @@ impl FlatPipe {
         stages: Vec<Stage>,
         start: Vec<u64>,
     ) -> Result<FlatPipe, NoMemory>
-        ensures { IfOk result (λ f. form f ≡ formed widths.items (mems_view mems.items) (mem_names mems.items) (stmts_view stmts.items) (stages_view stages.items) start.items) }
+        ensures { IfOk result (λ f. form f
+            ≡ formed widths.items (mems_view mems.items) (mem_names mems.items)
+            (stmts_view stmts.items) (stages_view stages.items) start.items) }
     {
         let reserved = reserves(alloc, stmts.as_slice(), mems.as_slice())?;
         let released = releases(alloc, stmts.as_slice(), mems.as_slice())?;
@@ -75,8 +77,10 @@ impl FlatPipe {
     pub fn rows(&self, stage: usize) -> &[usize]
         requires { stage < length (form self.now).pipe.stages }
         ensures value { result.now ≡ rows_in stage 0 (form self.now).pipe.stmts }
-        ensures stmts { map (stmt_at (form self.now).pipe.stmts) result.now ≡ in_stage stage (form self.now).pipe.stmts }
-        ensures within { (j : ℕ) → j < length result.now → slice_index result.now j < length (form self.now).pipe.stmts }
+        ensures stmts { map (stmt_at (form self.now).pipe.stmts) result.now
+            ≡ in_stage stage (form self.now).pipe.stmts }
+        ensures within { (j : ℕ) → j < length result.now →
+            slice_index result.now j < length (form self.now).pipe.stmts }
     {
         let rows = &self.rows[stage];
         rows.as_slice()

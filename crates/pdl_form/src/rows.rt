@@ -23,7 +23,8 @@ pub fn all_rows(alloc: Global, stmts: &[Stmt], count: usize) -> Result<Vec<Seq<u
 
 /// The stage of each memory's reserves.
 pub fn reserves(alloc: Global, stmts: &[Stmt], mems: &[Mem]) -> Result<Vec<Option<usize>>, NoMemory>
-    ensures { IfOk result (λ r. r.items ≡ stage_of_each stages.is_reserve (stmts_view stmts.now) 0 (mems_view mems.now)) }
+    ensures { IfOk result (λ r. r.items
+        ≡ stage_of_each stages.is_reserve (stmts_view stmts.now) 0 (mems_view mems.now)) }
 {
     let mut all = Vec::new(alloc);
     for (m, _) in mems.iter().enumerate() {
@@ -34,7 +35,8 @@ pub fn reserves(alloc: Global, stmts: &[Stmt], mems: &[Mem]) -> Result<Vec<Optio
 
 /// The stage of each memory's releases.
 pub fn releases(alloc: Global, stmts: &[Stmt], mems: &[Mem]) -> Result<Vec<Option<usize>>, NoMemory>
-    ensures { IfOk result (λ r. r.items ≡ stage_of_each stages.is_release (stmts_view stmts.now) 0 (mems_view mems.now)) }
+    ensures { IfOk result (λ r. r.items
+        ≡ stage_of_each stages.is_release (stmts_view stmts.now) 0 (mems_view mems.now)) }
 {
     let mut all = Vec::new(alloc);
     for (m, _) in mems.iter().enumerate() {

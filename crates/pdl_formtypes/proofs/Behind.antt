@@ -14,7 +14,7 @@ use Rattle.pdl_rules.specs.Widths.{with_variable, after_place}
 use Rattle.pdl_rules.specs.Typed.{is_named}
 use Rattle.pdl_rules.specs.Refusal.{KeepsRules}
 use Rattle.pdl_rules.proofs.Once.{bytes_sym}
-use Rattle.pdl_rules.proofs.Straight.{closing}
+use Rattle.pdl_rules.proofs.EachPlace.{closing}
 use Rattle.pdl_rules.proofs.Typing.{width_is}
 use Rattle.pdl_rules.proofs.Defined.{Stays, stays_more, AreKnown, takes_name, none_known, any_split, known_same, known_more, known_mems, params_named}
 use Rattle.pdl_formtypes.specs.Stmts.{AreWidths}

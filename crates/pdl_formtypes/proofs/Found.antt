@@ -4,8 +4,9 @@ use Rattle.std.specs.Prelude.{IsTrue}
 use Rattle.std.proofs.lemmas.Bool.{false≢true, true≢false, both_ways}
 use Rattle.pdl_semantics.specs.Flatten.{Var, var_of, var_width}
 use Rattle.pdl_rules.specs.Typed.{is_named}
-use Rattle.pdl_rules.proofs.Once.{any_last, bytes_same}
+use Rattle.pdl_rules.proofs.Once.{any_last}
 use Rattle.pdl_rules.proofs.Defined.{Stays, stays_more, any_split}
+use Rattle.pdl_word.proofs.Bytes.{bytes_same}
 
 abbrev pub widths_of : List Var → List ℕ
 widths_of vs = map (λ (v : Var). v.width) vs
@@ -17,11 +18,11 @@ long_widths (v ∷ vs) = ap suc (long_widths vs)
 -- BY NUMBER
 
 -- a name that is not the first one's is among the others
-rest_named : (b c : Bool) → (b || c) ≡ true → b ≡ false → c ≡ true
+pub rest_named : (b c : Bool) → (b || c) ≡ true → b ≡ false → c ≡ true
 rest_named true c h e = absurd (true≢false e)
 rest_named false c h e = h
 
-number_step : (b : Bool) (k n : ℕ) → (b ≡ false → k < n) → (if b then 0 else suc k) < suc n
+pub number_step : (b : Bool) (k n : ℕ) → (b ≡ false → k < n) → (if b then 0 else suc k) < suc n
 number_step true k n h = omega arith
 number_step false k n h = let less : k < n = h refl in omega arith
 

@@ -9,3 +9,4 @@ pub mod Starting
 pub mod Single
 pub mod Walking
 pub mod Whole
+pub mod Arguments

@@ -1,48 +1,35 @@
 -- The memories of a pipe that keeps the rules, by name and by number.
-use Rattle.std.proofs.Common.{◌≡◌, refl, sym, ap, ap₂, ◌∙◌, ℕ, suc, ◌<◌, Bool, true, false, ◌||◌, ◌&&◌, if◌then◌else◌, nat_le, List, [], ◌∷◌, ◌++◌, map, length, slice_index_or, Option, Some, None, is_some, bytes_eq, ◌==◌, append_assoc, arith, ⊎_elim, leb-true}
+use Rattle.std.proofs.Common.{◌≡◌, refl, sym, ap, ap₂, ◌∙◌, ℕ, suc, ◌<◌, Bool, true, false, ◌||◌, ◌&&◌, if◌then◌else◌, nat_le, List, [], ◌∷◌, ◌++◌, map, length, slice_index_or, Option, Some, None, is_some, bytes_eq, ◌==◌, append_assoc, ⊎_elim, leb-true}
 use Rattle.std.specs.Prelude.{IsTrue}
 use Rattle.std.specs.List.{list_any, list_all}
-use Rattle.std.proofs.lemmas.Bool.{false≢true, true≢false, and_parts, and_from, or_parts, or_cases, or_left, or_right, eqb-true, not-false}
+use Rattle.std.proofs.lemmas.Bool.{false≢true, and_parts, and_from, or_cases, or_left, or_right, not-false}
 use Rattle.std.proofs.lemmas.List.Folds.{list_any-append}
 use Rattle.pdl_kit.specs.declared.rule.Rule.TheVariants.{Z7}
-use Rattle.pdl_semantics.specs.Tree.{Stmt, If, Stmts, Nil, Cons, Param, LockKind, Queue, Bypass, Rename, LockDecl, Mem, Pipe}
+use Rattle.pdl_semantics.specs.Tree.{Stmt, If, Stmts, Nil, Cons, LockKind, Queue, Bypass, Rename, LockDecl, Mem, Pipe}
 use Rattle.pdl_semantics.specs.Flat as flat
 use Rattle.pdl_semantics.specs.Flat.{has_lock}
 use Rattle.pdl_semantics.specs.Flatten.{mem_of, mem_width, lock_of, mems_of}
 use Rattle.pdl_semantics.specs.Stages.{plain_mem}
 use Rattle.pdl_rules.specs.Places.{Place, Memory, Parameter, Branch, guard_of, with_inner, statements, places}
-use Rattle.pdl_rules.specs.Parts.{passes}
-use Rattle.pdl_rules.specs.Limits.{depths, is_width, is_wrong_lock, breaks_z7}
+use Rattle.pdl_rules.specs.Limits.{depths, breaks_z7}
 use Rattle.pdl_rules.specs.Names.{OfMemory, defines, is_undefined}
 use Rattle.pdl_rules.specs.Widths.{mem_depth, address_bits}
 use Rattle.pdl_rules.specs.Locks.{is_locked}
 use Rattle.pdl_rules.specs.Refusal.{KeepsRules}
 use Rattle.pdl_rules.specs.Typed.{is_memory}
 use Rattle.pdl_rules.proofs.Once.{bytes_sym}
-use Rattle.pdl_rules.proofs.Straight.{closing}
-use Rattle.pdl_rules.proofs.Memories.{has_depth, bits_reach}
+use Rattle.pdl_rules.proofs.EachPlace.{closing}
+use Rattle.pdl_rules.proofs.Memories.{has_depth, bits_reach, of_each, shape}
 use Rattle.pdl_formtypes.specs.Stmts.{IsTypedMem, AreTypedMems}
 use Rattle.pdl_formtypes.proofs.Values.{IsWide}
+use Rattle.pdl_formtypes.proofs.Found.{rest_named, number_step}
+use Rattle.pdl_rules.proofs.Defined.{no_params}
 
 -- SIZES
-
--- a number that is among some has what they all have
-of_each : (test : ℕ → Bool) (ns : List ℕ) (d : ℕ) → list_all test ns ≡ true → list_any (λ n. n == d) ns ≡ true → test d ≡ true
-of_each test [] d all some = absurd (false≢true some)
-of_each test (n ∷ ns) d all some =
-    let parts = and_parts (test n) (list_all test ns) all in
-    ⊎_elim
-    (λ e. ap test (sym (eqb-true n d e)) ∙ parts.0)
-    (λ e. of_each test ns d parts.1 e)
-    (or_cases (n == d) (list_any (λ m. m == d) ns) some)
 
 -- whether a depth has 1 to 16 address bits
 abbrev has_bits : ℕ → Bool
 has_bits d = nat_le 1 (address_bits d) && nat_le (address_bits d) 16
-
--- the width and the depth of a memory are allowed
-shape : (m : Mem) → breaks_z7 (Memory m) ≡ false → (is_width m.width.value ≡ true) × (has_depth m ≡ true)
-shape m e = and_parts (is_width m.width.value) (has_depth m) (not-false _ (or_parts _ (passes (is_wrong_lock m) m.lock) e).0)
 
 typed_mem : (m : Mem) → breaks_z7 (Memory m) ≡ false → IsTypedMem (record { width = m.width.value; depth = m.depth.value; delayed = m.delayed; lock = lock_of m.lock })
 typed_mem m e =
@@ -75,17 +62,9 @@ module _ (p : Pipe) (rules : KeepsRules p) where
 
 -- BY NUMBER
 
-rest_there : (b c : Bool) → (b || c) ≡ true → b ≡ false → c ≡ true
-rest_there true c h e = absurd (true≢false e)
-rest_there false c h e = h
-
-low_step : (b : Bool) (k n : ℕ) → (b ≡ false → k < n) → (if b then 0 else suc k) < suc n
-low_step true k n h = omega arith
-low_step false k n h = let less : k < n = h refl in omega arith
-
 pub mem_low : (ms : List Mem) (m : List ℕ) → IsTrue (is_memory ms m) → mem_of ms m < length (mems_of ms)
 mem_low [] m h = absurd (false≢true h)
-mem_low (x ∷ ms) m h = low_step (bytes_eq x.name.name m) (mem_of ms m) (length (mems_of ms)) (λ e. mem_low ms m (rest_there _ _ h e))
+mem_low (x ∷ ms) m h = number_step (bytes_eq x.name.name m) (mem_of ms m) (length (mems_of ms)) (λ e. mem_low ms m (rest_named _ _ h e))
 
 -- the memory of a name's number
 abbrev pub mem_found : List Mem → List ℕ → flat.Mem
@@ -126,7 +105,7 @@ wide_step false w u h k = k refl
 pub wide_mem : (ms : List Mem) (m : List ℕ) → AreTypedMems (mems_of ms) → IsTrue (is_memory ms m) → IsWide (mem_width ms m)
 wide_mem [] m t h = absurd (false≢true h)
 wide_mem (x ∷ ms) m t h =
-    wide_step (bytes_eq x.name.name m) x.width.value (mem_width ms m) (record { low = t.0.low; high = t.0.high }) (λ e. wide_mem ms m t.1 (rest_there _ _ h e))
+    wide_step (bytes_eq x.name.name m) x.width.value (mem_width ms m) (record { low = t.0.low; high = t.0.high }) (λ e. wide_mem ms m t.1 (rest_named _ _ h e))
 
 -- BY NAME
 
@@ -141,10 +120,6 @@ mutual
   none_among m bs Nil = refl
   none_among m bs (Cons s ss) =
       list_any-append (defines (OfMemory m)) (with_inner bs s) (statements bs ss) ∙ ap₂ (λ a b. a || b) (none_in m bs s) (none_among m bs ss)
-
-no_params : (m : List ℕ) (ps : List Param) → list_any (defines (OfMemory m)) (map Parameter ps) ≡ false
-no_params m [] = refl
-no_params m (a ∷ ps) = no_params m ps
 
 among_mems : (m : List ℕ) (ms : List Mem) → list_any (defines (OfMemory m)) (map Memory ms) ≡ true → IsTrue (is_memory ms m)
 among_mems m [] e = absurd (false≢true e)

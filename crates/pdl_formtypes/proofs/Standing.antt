@@ -17,7 +17,7 @@ use Rattle.pdl_rules.specs.Locks.{is_locked}
 use Rattle.pdl_rules.specs.Refusal.{KeepsRules}
 use Rattle.pdl_rules.specs.Typed.{is_memory}
 use Rattle.pdl_rules.specs.Typed as tree
-use Rattle.pdl_rules.proofs.Straight.{closing}
+use Rattle.pdl_rules.proofs.EachPlace.{closing}
 use Rattle.pdl_rules.proofs.Typing.{Fits, of_one, typed, arguments}
 use Rattle.pdl_rules.proofs.Defined.{Stays, known_stay}
 use Rattle.pdl_rules.proofs.Memories.{has_depth, bits_reach, deep}

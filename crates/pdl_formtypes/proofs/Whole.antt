@@ -7,7 +7,7 @@ use Rattle.pdl_form.specs.Form.{form_of}
 use Rattle.pdl_rules.specs.Places.{Memory, Parameter, statements, places}
 use Rattle.pdl_rules.specs.Names.{OfVariable, is_undefined}
 use Rattle.pdl_rules.specs.Refusal.{KeepsRules}
-use Rattle.pdl_rules.proofs.Straight.{closing}
+use Rattle.pdl_rules.proofs.EachPlace.{closing}
 use Rattle.pdl_formtypes.specs.Stmts.{AreTypedMems, IsTypedForm}
 use Rattle.pdl_formtypes.proofs.Found.{long_widths}
 use Rattle.pdl_formtypes.proofs.Memories.{typed_mems}

@@ -6,9 +6,9 @@ use Rattle.std.proofs.lemmas.Slice.Eq.{bytes_eq-Decides}
 use Rattle.indexmap.specs.IndexMap.{insert_entry}
 use Rattle.pdl_rules.specs.Places.{Place}
 use Rattle.pdl_rules.specs.Parts.{passes}
-use Rattle.pdl_textrules.proofs.Nth.{take_next, taken_length}
 use Rattle.pdl_names.proofs.Less.{less_more, zero_less, none_less}
 use Rattle.pdl_names.specs.First.{Entries, first_where, number_in, with_name, AreFirst, comes_before}
+use Rattle.pdl_pathrules.proofs.Nth.{take_next, taken_length}
 
 abbrev or_else : Option ℕ → Option ℕ → Option ℕ
 or_else None o = o

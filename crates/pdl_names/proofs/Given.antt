@@ -2,15 +2,14 @@
 use Rattle.std.proofs.Common.{◌≡◌, refl, sym, ap, ap₂, ◌∙◌, ℕ, zero, suc, Bool, true, false, ◌||◌, ◌&&◌, not, cond, List, [], ◌∷◌, filter, drop, slice_get, Some}
 use Rattle.std.specs.List.{list_any}
 use Rattle.std.proofs.lemmas.Bool.{or_parts}
+use Rattle.std.proofs.lemmas.Option.{same_Some}
+use Rattle.std.proofs.Math.Bool.{or-false}
 use Rattle.pdl_rules.specs.Places.{Place, Guard, on_path}
 use Rattle.pdl_rules.specs.Limits.{is_separator}
 use Rattle.pdl_rules.specs.Names.{Use, defines, is_delayed, is_given}
 use Rattle.pdl_names.specs.First.{first_where}
 use Rattle.pdl_names.specs.Ready.{is_separator_on, given_on}
 use Rattle.pdl_names.proofs.Firsts.{zero_first, later_first, none_some}
-
-same : {Q : Type 0} (y x : Q) → Some y ≡ Some x → y ≡ x
-same y x e = cc
 
 -- separators on the path
 any_filtered : (path : List Guard) (ys : List Place) → list_any is_separator (filter (on_path path) ys) ≡ list_any (is_separator_on path) ys
@@ -39,22 +38,18 @@ no_given u path (y ∷ ys) h = let parts = or_parts (defines u y) (list_any (def
     at true d e = ap₂ (λ a g. (a && (not (is_delayed y) || list_any is_separator (filter (on_path path) ys))) || g) d e
     at false d e = e
 
-always : (a : Bool) → (a || false) ≡ a
-always true = refl
-always false = refl
-
 -- the one place that defines it decides
 pub given_by : (u : Use) (path : List Guard) (ds : List Place) (d : ℕ) (x : Place) → first_where (defines u) ds ≡ Some d → slice_get ds d ≡ Some x → list_any (defines u) (drop (suc d) ds) ≡ false
     → is_given (filter (on_path path) ds) u ≡ given_on path ds d x
 given_by u path [] d x f g n = absurd (none_some d f)
 given_by u path (y ∷ ys) zero x f g n =
-    at (on_path path y) (zero_first (defines u y) (first_where (defines u) ys) f) (no_given u path ys n) ∙ ap (given_on path (y ∷ ys) 0) (same y x g)
+    at (on_path path y) (zero_first (defines u y) (first_where (defines u) ys) f) (no_given u path ys n) ∙ ap (given_on path (y ∷ ys) 0) (same_Some y x g)
   where
     at : (b : Bool) → defines u y ≡ true → is_given (filter (on_path path) ys) u ≡ false
         → is_given (cond b (y ∷ filter (on_path path) ys) (filter (on_path path) ys)) u ≡ (b && (not (is_delayed y) || list_any (is_separator_on path) ys))
     at true d e =
         ap₂ (λ a c. (a && (not (is_delayed y) || list_any is_separator (filter (on_path path) ys))) || c) d e
-        ∙ always (not (is_delayed y) || list_any is_separator (filter (on_path path) ys))
+        ∙ or-false (not (is_delayed y) || list_any is_separator (filter (on_path path) ys))
         ∙ ap (λ s. not (is_delayed y) || s) (any_filtered path ys)
     at false d e = e
 given_by u path (y ∷ ys) (suc d) x f g n =

@@ -1,22 +1,10 @@
 -- A path that leads into some branches leads into the outer ones of them.
-use Rattle.std.proofs.Common.{◌≡◌, refl, sym, ap, ap₂, ◌∙◌, subst, ℕ, zero, suc, ◌+◌, ◌<◌, ◌≤◌, Bool, true, List, [], ◌∷◌, map, take, length, get_or, arith, eqb-true}
+use Rattle.std.proofs.Common.{◌≡◌, refl, sym, ap, ◌∙◌, subst, ℕ, zero, suc, ◌+◌, ◌<◌, ◌≤◌, Bool, true, List, [], ◌∷◌, map, take, length, get_or, arith}
 use Rattle.std.specs.List.{list_all}
 use Rattle.std.proofs.lemmas.Bool.{and_parts, and_from}
-use Rattle.std.proofs.lemmas.Slice.Eq.{bytes_eq-Decides}
-use Rattle.pdl_rules.specs.Places.{Guard, Branch, Shared, Own, is_taken, is_among, same_guard, same_truth}
-use Rattle.pdl_paths.specs.Guards.{branch_view, guard_view}
+use Rattle.pdl_rules.specs.Places.{Guard, Branch, is_taken}
+use Rattle.pdl_paths.specs.Guards.{branch_view}
 use Rattle.pdl_paths.specs.declared.branch.Branch.{Branch as r_branch}
-
-guard_is : (g h : Guard) → same_guard g h ≡ true → g ≡ h
-guard_is (Shared x) (Shared y) e = ap Shared ((bytes_eq-Decides x y).0 e)
-guard_is (Own m) (Own n) e = ap Own (eqb-true m n e)
-guard_is (Shared x) (Own n) e = cc
-guard_is (Own m) (Shared y) e = cc
-
--- branches that are taken together
-pub taken_together : (path : List Guard) (a b : r_branch) → a.truth ≡ b.truth → same_guard (guard_view a.guard) (guard_view b.guard) ≡ true
-    → is_taken path (branch_view a) ≡ is_taken path (branch_view b)
-taken_together path a b t e = ap₂ (λ w g. same_truth w (is_among g path)) t (guard_is _ _ e)
 
 nth_taken : (t : Branch → Bool) (xs : List r_branch) (i : ℕ) (x : r_branch) → i < length xs → x ≡ get_or xs i x → list_all t (map branch_view xs) ≡ true → t (branch_view x) ≡ true
 nth_taken t [] i x l e h = absurd (omega (arith, l))

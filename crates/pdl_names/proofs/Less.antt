@@ -1,13 +1,8 @@
 -- Comparisons of numbers.
-use Rattle.std.proofs.Common.{◌≡◌, refl, sym, ℕ, suc, ◌<◌, ◌≤◌, Bool, true, false, not, nat_lt, nat_le, arith}
+use Rattle.std.proofs.Common.{◌≡◌, sym, ℕ, suc, ◌<◌, ◌≤◌, true, false, not, nat_lt, nat_le, arith}
 use Rattle.std.proofs.lemmas.Bool.{lt-ltb, le-ltb, ltb-true}
 use Rattle.std.proofs.lemmas.Bool.Decides.{leb_tells}
-
-pub same_bools : (a b : Bool) → (a ≡ true → b ≡ true) → (b ≡ true → a ≡ true) → a ≡ b
-same_bools true true f g = refl
-same_bools false false f g = refl
-same_bools true false f g = sym (f refl)
-same_bools false true f g = g refl
+use Rattle.pdl_word.proofs.Bools.{same_bools}
 
 up : (i k : ℕ) → i < k → suc i < suc k
 up i k l = omega (arith, l)
@@ -23,9 +18,6 @@ zero_less k = sym (lt-ltb 0 (suc k) (omega arith))
 
 pub none_less : (n : ℕ) → false ≡ nat_lt n 0
 none_less n = sym (le-ltb n 0 (omega arith))
-
-pub not_below : (d k : ℕ) → k ≤ d → nat_lt d k ≡ false
-not_below d k l = le-ltb d k l
 
 pub not_less : (d n : ℕ) → nat_le n d ≡ not (nat_lt d n)
 not_less d n = grind (arith, leb_tells n d, leb_tells (suc d) n)

@@ -1,14 +1,14 @@
 -- Uses that need a definition before them.
 use Rattle.std.proofs.Common.{◌≡◌, sym, ap, ◌∙◌, subst, ℕ, ◌<◌, ◌≤◌, Bool, true, false, ◌&&◌, not, List, [], ◌∷◌, ◌++◌, map, length, take, slice_get, nat_le, bytes_eq, Some, None, append_assoc}
 use Rattle.std.specs.List.{list_any}
-use Rattle.std.proofs.lemmas.Bool.{or_left, and_from, lt-ltb}
+use Rattle.std.proofs.lemmas.Bool.{or_left, and_from, lt-ltb, le-ltb}
 use Rattle.pdl_semantics.specs.Tree.{Param, Pipe}
 use Rattle.pdl_rules.specs.Places.{Place, Parameter, Memory, End, StartClause, statements, places}
 use Rattle.pdl_rules.specs.Parts.{passes}
 use Rattle.pdl_rules.specs.Names.{Use, OfVariable, OfMemory, OfGuess, defines, is_undefined, is_parameter, is_too_early}
 use Rattle.pdl_names.specs.First.{first_where, comes_before}
 use Rattle.pdl_names.specs.Early.{early_at}
-use Rattle.pdl_names.proofs.Less.{not_less, not_below}
+use Rattle.pdl_names.proofs.Less.{not_less}
 use Rattle.pdl_names.proofs.Firsts.{any_before, before_step, none_before}
 use Rattle.pdl_names.proofs.Ungiven.{ungiven}
 
@@ -74,5 +74,5 @@ pub variable_other : (p : Pipe) (xs : List Place) (k : ℕ) (x : Place) (v : Lis
     → n ≡ length p.params → n ≤ d → b ≡ ungiven p xs k (OfVariable v) x → b ≡ early_at p xs k (OfVariable v)
 variable_other p xs k x v d n b all got e i l made =
     made
-    ∙ ap (λ a. a && ungiven p xs k (OfVariable v) x) (sym (not_less d (length p.params) ∙ ap not (not_below d (length p.params) (subst (λ m. m ≤ d) i l))))
+    ∙ ap (λ a. a && ungiven p xs k (OfVariable v) x) (sym (not_less d (length p.params) ∙ ap not (le-ltb d (length p.params) (subst (λ m. m ≤ d) i l))))
     ∙ variable_somewhere p xs k x v d all got e

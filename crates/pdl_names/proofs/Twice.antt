@@ -1,5 +1,5 @@
 -- Where no name is defined twice, no use has two definitions.
-use Rattle.std.proofs.Common.{◌≡◌, refl, ap₂, ◌∙◌, subst, ℕ, zero, suc, Bool, true, false, ◌||◌, List, [], ◌∷◌, ◌++◌, take, drop, bytes_eq, Option, Some, None, if◌then◌else◌}
+use Rattle.std.proofs.Common.{◌≡◌, refl, ap₂, ◌∙◌, subst, ℕ, zero, suc, true, false, ◌||◌, List, [], ◌∷◌, ◌++◌, take, drop, bytes_eq, Option, Some, None, if◌then◌else◌}
 use Rattle.std.specs.List.{list_any}
 use Rattle.std.proofs.lemmas.Bool.{or_cases, or_left, or_right, both_ways, false_from_ne_true}
 use Rattle.std.proofs.lemmas.List.Folds.{list_any-append}
@@ -14,6 +14,7 @@ use Rattle.pdl_rules.specs.Names.{Use, OfVariable, OfMemory, OfGuess, defines, n
 use Rattle.pdl_rules.specs.Refusal.{breaks, broken_line}
 use Rattle.pdl_names.specs.First.{first_where}
 use Rattle.pdl_names.proofs.Firsts.{zero_first, later_first}
+use Rattle.pdl_word.proofs.Bools.{none_given}
 
 abbrev name_used : Use → List ℕ
 name_used (OfVariable x) = x
@@ -71,15 +72,10 @@ taken_twice p u before y h e = at (name_at y) (names_it u y e)
         or_right _ _
         (subst (λ n. list_any (λ d. passes (bytes_eq n) (name_at d)) before ≡ true) ((bytes_eq-Decides (name_used u) x).0 k) (some_named u before h))
 
--- a line that is none comes from neither side
-pub no_line : (b : Bool) (line : ℕ) (others : Option ℕ) → (if b then Some line else others) ≡ None → (b ≡ false) × (others ≡ None)
-no_line true line others e = cc
-no_line false line others e = (refl, e)
-
 once : (p : Pipe) (u : Use) (before ys : List Place) → broken_line N2 p before ys ≡ None → list_any (defines u) before ≡ true → list_any (defines u) ys ≡ false
 once p u before [] e h = refl
 once p u before (y ∷ ys) e h =
-    let parts = no_line (breaks N2 p before y) (line_of y) (broken_line N2 p (before ++ y ∷ []) ys) e in
+    let parts = none_given (breaks N2 p before y) (line_of y) (broken_line N2 p (before ++ y ∷ []) ys) e in
     let others = list_any-append (defines u) before (y ∷ []) ∙ or_left _ _ h in
     ap₂ (λ a b. a || b) (false_from_ne_true _ (λ d. both_ways (breaks_n2 p before y) parts.0 (taken_twice p u before y h d))) (once p u (before ++ y ∷ []) ys parts.1 others)
 
@@ -87,11 +83,11 @@ once p u before (y ∷ ys) e h =
 later_none : (p : Pipe) (u : Use) (before ds : List Place) (d : ℕ) → broken_line N2 p before ds ≡ None → first_where (defines u) ds ≡ Some d → list_any (defines u) (drop (suc d) ds) ≡ false
 later_none p u before [] d e f = refl
 later_none p u before (y ∷ ys) zero e f =
-    let parts = no_line (breaks N2 p before y) (line_of y) (broken_line N2 p (before ++ y ∷ []) ys) e in
+    let parts = none_given (breaks N2 p before y) (line_of y) (broken_line N2 p (before ++ y ∷ []) ys) e in
     let here = zero_first (defines u y) (first_where (defines u) ys) f in
     once p u (before ++ y ∷ []) ys parts.1 (list_any-append (defines u) before (y ∷ []) ∙ or_right _ _ (or_left _ _ here))
 later_none p u before (y ∷ ys) (suc d) e f =
-    let parts = no_line (breaks N2 p before y) (line_of y) (broken_line N2 p (before ++ y ∷ []) ys) e in
+    let parts = none_given (breaks N2 p before y) (line_of y) (broken_line N2 p (before ++ y ∷ []) ys) e in
     later_none p u (before ++ y ∷ []) ys d parts.1 (later_first (defines u y) (first_where (defines u) ys) d f).1
 
 -- of the first places alone
@@ -100,7 +96,7 @@ none_taken r p before [] zero e = refl
 none_taken r p before [] (suc k) e = refl
 none_taken r p before (x ∷ xs) zero e = refl
 none_taken r p before (x ∷ xs) (suc k) e =
-    let parts = no_line (breaks r p before x) (line_of x) (broken_line r p (before ++ x ∷ []) xs) e in
+    let parts = none_given (breaks r p before x) (line_of x) (broken_line r p (before ++ x ∷ []) xs) e in
     ap₂ (λ b o. if b then Some (line_of x) else o) parts.0 (none_taken r p (before ++ x ∷ []) xs k parts.1)
 
 pub only_one : (p : Pipe) (u : Use) (xs : List Place) (k d : ℕ) → broken_line N2 p [] xs ≡ None → first_where (defines u) (take k xs) ≡ Some d

@@ -1,7 +1,7 @@
 -- Whether what a use needs is given at a place, where no name is defined twice.
 use Rattle.std.proofs.Common.{◌≡◌, refl, sym, ap, ap₂, ◌∙◌, subst, ℕ, suc, ◌<◌, ◌≤◌, ◌^◌, Bool, true, false, ◌||◌, ◌&&◌, not, List, [], length, filter, take, drop, slice_get, Some, None}
 use Rattle.std.specs.List.{list_any}
-use Rattle.std.proofs.lemmas.Bool.{or_left, or_right, both_ways, false_from_ne_true, lt-ltb}
+use Rattle.std.proofs.lemmas.Bool.{or_left, or_right, both_ways, false_from_ne_true, lt-ltb, le-ltb}
 use Rattle.pdl_kit.specs.declared.rule.Rule.TheVariants.{N2}
 use Rattle.pdl_semantics.specs.Tree.{Pipe}
 use Rattle.pdl_rules.specs.Places.{Place, Guard, places, guards, on_path, on_some_path}
@@ -11,7 +11,6 @@ use Rattle.pdl_paths.specs.Masks.{path_of}
 use Rattle.pdl_paths.proofs.Choices.{some_path, has_bits}
 use Rattle.pdl_names.specs.First.{first_where, comes_before}
 use Rattle.pdl_names.specs.Ready.{given_on, is_separator_on}
-use Rattle.pdl_names.proofs.Less.{not_below}
 use Rattle.pdl_names.proofs.Firsts.{any_before, first_taken, get_taken}
 use Rattle.pdl_names.proofs.Twice.{only_one}
 use Rattle.pdl_names.proofs.Given.{given_by}
@@ -28,7 +27,7 @@ abbrev pub ungiven : Pipe → List Place → ℕ → Use → Place → Bool
 ungiven p xs k u x = is_undefined (take k xs) u || on_some_path (λ earlier. not (is_given earlier u)) p (take k xs) x
 
 pub undefined_late : (xs : List Place) (k d : ℕ) (u : Use) → first_where (defines u) xs ≡ Some d → k ≤ d → is_undefined (take k xs) u ≡ true
-undefined_late xs k d u f l = ap not (any_before (defines u) xs k ∙ ap (λ o. comes_before o k) f ∙ not_below d k l)
+undefined_late xs k d u f l = ap not (any_before (defines u) xs k ∙ ap (λ o. comes_before o k) f ∙ le-ltb d k l)
 
 defined_before : (xs : List Place) (k d : ℕ) (u : Use) → first_where (defines u) xs ≡ Some d → d < k → is_undefined (take k xs) u ≡ false
 defined_before xs k d u f l = ap not (any_before (defines u) xs k ∙ ap (λ o. comes_before o k) f ∙ lt-ltb d k l)

@@ -9,14 +9,18 @@ use pdl_paths::{Action, Branch, Guard, Place};
 
 /// Whether a place stands in each branch that another stands in, so that each path through it leads through the other.
 pub fn is_inside(place: &Place<'_>, other: &Place<'_>) -> bool
-    ensures { (path : List rules.Guard) → result ≡ true → rules.on_path path (place_view place.now) ≡ true → rules.on_path path (place_view other.now) ≡ true }
+    ensures { (path : List rules.Guard) → result ≡ true →
+        rules.on_path path (place_view place.now) ≡ true →
+        rules.on_path path (place_view other.now) ≡ true }
 {
     is_prefix(branches_of(other), branches_of(place))
 }
 
 // The branches that decide whether a path leads through a place.
 fn branches_of<'a, 'b>(place: &'a Place<'b>) -> &'a [Branch<'b>]
-    ensures { (path : List rules.Guard) → rules.on_path path (place_view place.now) ≡ list_all (rules.is_taken path) (map branch_view result.now) }
+    ensures { (path : List rules.Guard) →
+        rules.on_path path (place_view place.now)
+        ≡ list_all (rules.is_taken path) (map branch_view result.now) }
 {
     match place.action {
         Action::Parameter(_) | Action::Memory(_) | Action::End | Action::StartClause(_) => &place
@@ -34,7 +38,9 @@ fn branches_of<'a, 'b>(place: &'a Place<'b>) -> &'a [Branch<'b>]
 
 // Whether some branches are the outer ones of others.
 fn is_prefix(outer: &[Branch<'_>], inner: &[Branch<'_>]) -> bool
-    ensures { (path : List rules.Guard) → result ≡ true → list_all (rules.is_taken path) (map branch_view inner.now) ≡ true → list_all (rules.is_taken path) (map branch_view outer.now) ≡ true }
+    ensures { (path : List rules.Guard) → result ≡ true →
+        list_all (rules.is_taken path) (map branch_view inner.now) ≡ true →
+        list_all (rules.is_taken path) (map branch_view outer.now) ≡ true }
 {
     if outer.len() > inner.len() {
         return false;
@@ -49,7 +55,8 @@ fn is_prefix(outer: &[Branch<'_>], inner: &[Branch<'_>]) -> bool
 
 // Whether two branches are taken on the same paths.
 fn is_same(a: &Branch<'_>, b: &Branch<'_>) -> bool
-    ensures { (path : List rules.Guard) → result ≡ true → rules.is_taken path (branch_view a.now) ≡ rules.is_taken path (branch_view b.now) }
+    ensures { (path : List rules.Guard) → result ≡ true →
+        rules.is_taken path (branch_view a.now) ≡ rules.is_taken path (branch_view b.now) }
 {
     a.truth == b.truth && is_same_guard(a.guard, b.guard)
 }

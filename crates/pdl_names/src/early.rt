@@ -62,7 +62,13 @@ impl Early<'_> {
     fn is_ungiven(&self, d: usize) -> bool
         requires ready { IsReady self.now }
         requires there { d < length self.now.places.now }
-        ensures { (u : Use) (x : spec_place) → first_where (spec.defines u) (map place_view self.now.places.now) ≡ Some d → slice_get (map place_view self.now.places.now) self.now.k ≡ Some x → result ≡ (spec.is_undefined (take self.now.k (map place_view self.now.places.now)) u || on_some_path (λ earlier. not (spec.is_given earlier u)) (pipe_view self.now.pipe.now) (take self.now.k (map place_view self.now.places.now)) x) }
+        ensures { (u : Use) (x : spec_place) →
+            first_where (spec.defines u) (map place_view self.now.places.now) ≡ Some d →
+            slice_get (map place_view self.now.places.now) self.now.k ≡ Some x →
+            result ≡ (spec.is_undefined (take self.now.k (map place_view self.now.places.now)) u
+            || on_some_path (λ earlier. not (spec.is_given earlier u))
+            (pipe_view self.now.pipe.now)
+            (take self.now.k (map place_view self.now.places.now)) x) }
     {
         if d >= self.k {
             return true;
@@ -84,9 +90,14 @@ impl Early<'_> {
     fn is_missing_on(&self, place: &Place<'_>, definition: &Place<'_>, d: usize, b: usize) -> bool
         requires ready { IsReady self.now }
         requires path { b < 2 ^ length (spec_guards (spec_places (pipe_view self.now.pipe.now))) }
-        requires masked { IsMasked (spec_guards (spec_places (pipe_view self.now.pipe.now))) place.now }
-        requires defined { IsMasked (spec_guards (spec_places (pipe_view self.now.pipe.now))) definition.now }
-        ensures { let path = path_of (spec_guards (spec_places (pipe_view self.now.pipe.now))) b in result ≡ (on_path path (place_view place.now) && not (given_on path (take self.now.k (map place_view self.now.places.now)) d (place_view definition.now))) }
+        requires masked { IsMasked (spec_guards (spec_places (pipe_view self.now.pipe.now)))
+            place.now }
+        requires defined { IsMasked (spec_guards (spec_places (pipe_view self.now.pipe.now)))
+            definition.now }
+        ensures { let path = path_of (spec_guards (spec_places (pipe_view self.now.pipe.now))) b in
+            result ≡ (on_path path (place_view place.now)
+            && not (given_on path (take self.now.k (map place_view self.now.places.now)) d
+            (place_view definition.now))) }
     {
         let path = Path { bits: b as u16 };
         if !place.is_on(path) {
@@ -100,8 +111,11 @@ impl Early<'_> {
         requires ready { IsReady self.now }
         requires path { b < 2 ^ length (spec_guards (spec_places (pipe_view self.now.pipe.now))) }
         requires bits { path.bits ≡ b }
-        requires defined { IsMasked (spec_guards (spec_places (pipe_view self.now.pipe.now))) definition.now }
-        ensures { result ≡ given_on (path_of (spec_guards (spec_places (pipe_view self.now.pipe.now))) b) (take self.now.k (map place_view self.now.places.now)) d (place_view definition.now) }
+        requires defined { IsMasked (spec_guards (spec_places (pipe_view self.now.pipe.now)))
+            definition.now }
+        ensures { result ≡ given_on (path_of
+            (spec_guards (spec_places (pipe_view self.now.pipe.now))) b)
+            (take self.now.k (map place_view self.now.places.now)) d (place_view definition.now) }
     {
         if !definition.is_on(path) {
             return false;

@@ -29,7 +29,8 @@ pub fn check_names(
     requires own { guards.now ≡ spec_guards (spec_places (pipe_view pipe.now)) }
     requires masks { AreMasked guards.now places.now }
     requires places { map place_view places.now ≡ spec_places (pipe_view pipe.now) }
-    ensures { IfOk result (λ broken. option_map refused_of broken ≡ first_broken name_rules (pipe_view pipe.now)) }
+    ensures { IfOk result (λ broken.
+        option_map refused_of broken ≡ first_broken name_rules (pipe_view pipe.now)) }
 {
     let index = Index::of(alloc, places)?;
     if let Some(line) = undefined_at(alloc, pipe, &index, places)? {
@@ -61,7 +62,8 @@ fn undefined_at(
     places: &[Place<'_>],
 ) -> Result<Option<u32>, NoMemory>
     requires { Suits pipe.now index.now places.now }
-    ensures { IfOk result (λ line. line ≡ broken_line names.N1 (pipe_view pipe.now) [] (spec_places (pipe_view pipe.now))) }
+    ensures { IfOk result (λ line. line
+        ≡ broken_line names.N1 (pipe_view pipe.now) [] (spec_places (pipe_view pipe.now))) }
 {
     line_broken(alloc, &Undefined { pipe, index }, places)
 }
@@ -74,7 +76,8 @@ fn taken_at(
     places: &[Place<'_>],
 ) -> Result<Option<u32>, NoMemory>
     requires { Suits pipe.now index.now places.now }
-    ensures { IfOk result (λ line. line ≡ broken_line names.N2 (pipe_view pipe.now) [] (spec_places (pipe_view pipe.now))) }
+    ensures { IfOk result (λ line. line
+        ≡ broken_line names.N2 (pipe_view pipe.now) [] (spec_places (pipe_view pipe.now))) }
 {
     line_broken(alloc, &Taken { pipe, index }, places)
 }
@@ -89,7 +92,8 @@ fn too_early_at(
 ) -> Result<Option<u32>, NoMemory>
     requires own { guards.now ≡ spec_guards (spec_places (pipe_view pipe.now)) }
     requires suits { SuitsPaths pipe.now index.now places.now }
-    ensures { IfOk result (λ line. line ≡ broken_line names.N3 (pipe_view pipe.now) [] (spec_places (pipe_view pipe.now))) }
+    ensures { IfOk result (λ line. line
+        ≡ broken_line names.N3 (pipe_view pipe.now) [] (spec_places (pipe_view pipe.now))) }
 {
     let rule = TooEarly {
         pipe,

@@ -29,7 +29,9 @@ pub fn separator_passed(
     k: usize,
 ) -> Result<Vec<usize>, NoMemory>
     requires { length last.now ≤ 1024 }
-    ensures { IfOk result (λ new. (gs : List rules.Guard) → IsMasked gs place.now → are_distinct gs ≡ true → length gs ≤ 10 → length last.now ≡ 2 ^ length gs → AreMarked gs (place_view place.now) k last.now new.items) }
+    ensures { IfOk result (λ new. (gs : List rules.Guard) → IsMasked gs place.now →
+        are_distinct gs ≡ true → length gs ≤ 10 → length last.now ≡ 2 ^ length gs →
+        AreMarked gs (place_view place.now) k last.now new.items) }
 {
     let mut new = Vec::new(alloc);
     for b in 0..last.len() {
@@ -41,7 +43,9 @@ pub fn separator_passed(
 // The number of a path, by its bits, that had an old one.
 fn number_on(place: &Place<'_>, b: usize, k: usize, old: usize) -> usize
     requires { b < 1024 }
-    ensures { (gs : List rules.Guard) → IsMasked gs place.now → are_distinct gs ≡ true → length gs ≤ 10 → b < 2 ^ length gs → result ≡ (if rules.on_path (path_of gs b) (place_view place.now) then k else old) }
+    ensures { (gs : List rules.Guard) → IsMasked gs place.now → are_distinct gs ≡ true →
+        length gs ≤ 10 → b < 2 ^ length gs →
+        result ≡ (if rules.on_path (path_of gs b) (place_view place.now) then k else old) }
 {
     let path = Path { bits: b as u16 };
     if place.is_on(path) { k } else { old }

@@ -147,7 +147,8 @@ impl TextRule for Taken<'_> {
 
 // Whether the name is the pipe's, or a place before the k-th defines it.
 fn is_taken(pipe: &Pipe, index: &Index, name: &Name, k: usize) -> bool
-    ensures { result ≡ (bytes_eq name.now (pipe_view pipe.now).name.name || comes_before (number_in index.now.names name.now) k) }
+    ensures { result ≡ (bytes_eq name.now (pipe_view pipe.now).name.name
+        || comes_before (number_in index.now.names name.now) k) }
 {
     *name == pipe.name.name || is_before(index, name, k)
 }
@@ -166,11 +167,14 @@ impl TextRule for TooEarly<'_> {
     // Of each path, by its bits, the number of the last separator passed.
     type State = Vec<usize>;
 
-    ghost fits = { λ rule xs. (rule.guards.now ≡ spec_guards (spec_places (pipe_view rule.pipe.now))) × SuitsPaths rule.pipe.now rule.index.now xs };
+    ghost fits = { λ rule xs. (rule.guards.now
+        ≡ spec_guards (spec_places (pipe_view rule.pipe.now)))
+        × SuitsPaths rule.pipe.now rule.index.now xs };
 
     ghost breaks_on = { λ rule. breaks names.N3 (pipe_view rule.pipe.now) };
 
-    ghost stands = { λ rule before state. AreLast (spec_guards (spec_places (pipe_view rule.pipe.now))) before state.items };
+    ghost stands = { λ rule before state.
+        AreLast (spec_guards (spec_places (pipe_view rule.pipe.now))) before state.items };
 
     fn start(&self, alloc: Global, _places: &[Place<'_>]) -> Result<Vec<usize>, NoMemory> {
         none_passed(alloc, self.guards)

@@ -1,35 +1,22 @@
 -- A mask allows the paths that lead through its place.
-use Rattle.std.proofs.Common.{◌≡◌, refl, sym, ap, ◌∙◌, ℕ, suc, ◌<◌, ◌≤◌, ◌^◌, Bool, true, false, ◌&&◌, not, ◌==◌, nat_lt, List, [], ◌∷◌, length, fold, if◌then◌else◌, arith, bit_and}
+use Rattle.std.proofs.Common.{◌≡◌, sym, ap, ◌∙◌, ℕ, suc, ◌<◌, ◌≤◌, ◌^◌, Bool, true, false, ◌&&◌, not, ◌==◌, nat_lt, List, [], ◌∷◌, length, fold, if◌then◌else◌, arith, bit_and}
 use Rattle.std.specs.Int.Bits.{and_zero_r}
 use Rattle.std.proofs.lemmas.Bool.{lt-ltb}
 use Rattle.std.specs.Int.{bit_at}
 use Rattle.std.specs.List.{list_all}
+use Rattle.std.proofs.Math.Bool.{and_assoc}
 use Rattle.pdl_rules.specs.Places.{Guard, Branch, Place, Parameter, Memory, Statement, End, StartClause, same_guard, same_truth, is_taken, on_path}
 use Rattle.pdl_paths.specs.declared.mask.Mask.{Mask}
 use Rattle.pdl_paths.specs.Masks.{number_of, are_distinct, path_of, with_bit, with_branch, allows, everywhere, mask_in}
 use Rattle.pdl_paths.proofs.Bits.{with_bit_on, with_bit_off}
 use Rattle.pdl_paths.proofs.Chosen.{among_path}
-
-swapped : (a b c : Bool) → ((a && c) && b) ≡ ((a && b) && c)
-swapped true true true = refl
-swapped true true false = refl
-swapped true false true = refl
-swapped true false false = refl
-swapped false b c = refl
-
-grouped : (a b c : Bool) → ((a && b) && c) ≡ (a && (b && c))
-grouped true b c = refl
-grouped false b c = refl
-
-always : (a : Bool) → a ≡ (a && true)
-always true = refl
-always false = refl
+use Rattle.pdl_word.proofs.Bools.{and_true, and_swap}
 
 bit_law : (n bits : ℕ) (truth : Bool) (m : Mask) → allows (with_bit n truth m) bits ≡ (allows m bits && same_truth truth (bit_at bits n == 1))
 bit_law n bits true m =
-    ap (λ x. x && (bit_and bits m.off == 0)) (with_bit_on bits m.on n) ∙ swapped (bit_and bits m.on == m.on) (bit_and bits m.off == 0) (bit_at bits n == 1)
+    ap (λ x. x && (bit_and bits m.off == 0)) (with_bit_on bits m.on n) ∙ and_swap (bit_and bits m.on == m.on) (bit_at bits n == 1) (bit_and bits m.off == 0)
 bit_law n bits false m =
-    ap (λ x. (bit_and bits m.on == m.on) && x) (with_bit_off bits m.off n) ∙ sym (grouped (bit_and bits m.on == m.on) (bit_and bits m.off == 0) (not (bit_at bits n == 1)))
+    ap (λ x. (bit_and bits m.on == m.on) && x) (with_bit_off bits m.off n) ∙ sym (and_assoc (bit_and bits m.on == m.on) (bit_and bits m.off == 0) (not (bit_at bits n == 1)))
 
 number_within : (g : Guard) (gs : List Guard) → number_of g gs ≤ length gs
 number_within g [] = omega arith
@@ -54,11 +41,11 @@ branch_law gs bits m b d few l =
 
 branches_law : (gs : List Guard) (bits : ℕ) → are_distinct gs ≡ true → length gs ≤ 10 → bits < 2 ^ length gs → (bs : List Branch) (m : Mask)
     → allows (fold (with_branch gs) m bs) bits ≡ (allows m bits && list_all (is_taken (path_of gs bits)) bs)
-branches_law gs bits d few l [] m = always (allows m bits)
+branches_law gs bits d few l [] m = and_true (allows m bits)
 branches_law gs bits d few l (b ∷ bs) m =
     branches_law gs bits d few l bs (with_branch gs m b)
     ∙ ap (λ x. x && list_all (is_taken (path_of gs bits)) bs) (branch_law gs bits m b d few l)
-    ∙ grouped (allows m bits) (is_taken (path_of gs bits) b) (list_all (is_taken (path_of gs bits)) bs)
+    ∙ and_assoc (allows m bits) (is_taken (path_of gs bits) b) (list_all (is_taken (path_of gs bits)) bs)
 
 everywhere_law : (bits : ℕ) → allows everywhere bits ≡ true
 everywhere_law bits = ap (λ k. (k == 0) && (k == 0)) (and_zero_r bits)

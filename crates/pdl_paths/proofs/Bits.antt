@@ -1,15 +1,10 @@
 -- One bit more in a mask.
-use Rattle.std.proofs.Common.{◌≡◌, refl, sym, ap, ◌∙◌, ℕ, ◌<◌, ◌^◌, min, max, Bool, true, false, ◌&&◌, not, ◌==◌, ◌≢◌, bit_and, bit_or, arith, eq-eqb, eqb-true, ◌⊎◌, inl, inr}
+use Rattle.std.proofs.Common.{◌≡◌, sym, ap, ◌∙◌, ℕ, ◌<◌, ◌^◌, min, max, true, false, ◌&&◌, not, ◌==◌, ◌≢◌, bit_and, bit_or, arith, eq-eqb, eqb-true, ◌⊎◌, inl, inr}
 use Rattle.std.specs.Int.{bit_at}
 use Rattle.std.proofs.lemmas.Nat.Bits.{bit_at_and, bit_at_or, bit_at-pow_same, bit_at-pow_other, bit_at-lt, bit_at-zero, same_from_bits}
 use Rattle.std.proofs.lemmas.Bool.{and_parts, and_from, false≢true}
 use Rattle.std.proofs.lemmas.Bool.Decides.{eqb_tells}
-
-pub same_bools : (a b : Bool) → (a ≡ true → b ≡ true) → (b ≡ true → a ≡ true) → a ≡ b
-same_bools true true f g = refl
-same_bools false false f g = refl
-same_bools true false f g = sym (f refl)
-same_bools false true f g = g refl
+use Rattle.pdl_word.proofs.Bools.{same_bools}
 
 -- BITS
 

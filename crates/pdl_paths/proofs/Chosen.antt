@@ -3,25 +3,10 @@ use Rattle.std.proofs.Common.{◌≡◌, refl, sym, ap, ap₂, ◌∙◌, ℕ, s
 use Rattle.std.specs.Int.{bit_at}
 use Rattle.std.proofs.lemmas.Nat.Bits.{bit_at_lowest, bit_at-suc, bit_at-zero}
 use Rattle.std.proofs.lemmas.Grind.{pow_more}
-use Rattle.std.proofs.lemmas.Bool.{false≢true, and_parts, or_parts, or_left, eqb-true}
-use Rattle.pdl_rules.specs.Places.{Guard, Shared, Own, same_guard, is_among}
-use Rattle.pdl_rules.proofs.Once.{bytes_same, bytes_refl}
-use Rattle.std.proofs.Common.{eq-eqb}
+use Rattle.std.proofs.lemmas.Bool.{and_parts, or_parts, or_left, not-true}
+use Rattle.pdl_rules.specs.Places.{Guard, same_guard, is_among}
 use Rattle.pdl_paths.specs.Masks.{number_of, are_distinct, path_of}
-
-pub guard_refl : (g : Guard) → same_guard g g ≡ true
-guard_refl (Shared x) = bytes_refl x
-guard_refl (Own n) = eq-eqb n n refl
-
-pub guard_same : (g h : Guard) → same_guard g h ≡ true → g ≡ h
-guard_same (Shared x) (Shared y) e = ap Shared (bytes_same x y e)
-guard_same (Own m) (Own n) e = ap Own (eqb-true m n e)
-guard_same (Shared x) (Own n) e = absurd (false≢true e)
-guard_same (Own m) (Shared y) e = absurd (false≢true e)
-
-pub opposite : (b : Bool) → not b ≡ true → b ≡ false
-opposite true e = sym e
-opposite false e = refl
+use Rattle.pdl_rules.proofs.Guards.{guard_same}
 
 below_half : (b m : ℕ) → b < m * 2 → b / 2 < m
 below_half b m l = omega arith
@@ -50,7 +35,7 @@ among_path g [] bits d l =
     sym (ap (λ k. bit_at k 0 == 1) none ∙ ap (λ k. k == 1) (bit_at-zero 0))
 among_path g (h ∷ gs) bits d l =
     let parts = and_parts (not (is_among h gs)) (are_distinct gs) d in
-    at (same_guard g h) refl (opposite _ parts.0) (among_path g gs (bits / 2) parts.1 (halved bits (length gs) l))
+    at (same_guard g h) refl (not-true _ parts.0) (among_path g gs (bits / 2) parts.1 (halved bits (length gs) l))
   where
     first : (b : Bool) → same_guard g h ≡ true → is_among g gs ≡ false → is_among g (if b then h ∷ path_of gs (bits / 2) else path_of gs (bits / 2)) ≡ b
     first true f i = or_left (same_guard g h) _ f

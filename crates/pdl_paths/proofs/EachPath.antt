@@ -1,13 +1,13 @@
 -- All paths of some guards are the choices of the rules.
-use Rattle.std.proofs.Common.{◌≡◌, sym, ap, ◌∙◌, ℕ, zero, suc, ◌<◌, ◌≤◌, ◌^◌, Bool, true, false, ◌||◌, List, length, arith, ◌⊎◌, inl, inr, ⊎_elim}
+use Rattle.std.proofs.Common.{◌≡◌, sym, ap, ◌∙◌, ℕ, zero, suc, ◌<◌, ◌≤◌, ◌^◌, Bool, true, ◌||◌, List, length, arith, ◌⊎◌, inl, inr, ⊎_elim}
 use Rattle.std.proofs.Math.Nat.{eq-or-lt_of_le}
 use Rattle.std.specs.List.{list_any}
 use Rattle.std.proofs.lemmas.Bool.{false≢true, or_cases, or_left, or_right}
 use Rattle.pdl_rules.specs.Places.{Guard, choices}
 use Rattle.pdl_paths.specs.Masks.{path_of}
 use Rattle.pdl_paths.specs.Paths.{paths_below}
-use Rattle.pdl_paths.proofs.Bits.{same_bools}
 use Rattle.pdl_paths.proofs.Choices.{some_path, has_bits}
+use Rattle.pdl_word.proofs.Bools.{same_bools}
 
 less : (b n : ℕ) → b < suc n → b ≤ n
 less b n l = omega arith

@@ -31,7 +31,9 @@ pub enum Action<'a> {
 
 /// The action of a statement.
 pub fn action_of(stmt: &Stmt) -> Action<'_>
-    ensures { (bs : List rules.Branch) → place_at (rules.span_of (stmt_view stmt.now)) bs result ≡ rules.Statement (stmt_view stmt.now) bs }
+    ensures { (bs : List rules.Branch) →
+        place_at (rules.span_of (stmt_view stmt.now)) bs result
+        ≡ rules.Statement (stmt_view stmt.now) bs }
 {
     match stmt {
         Stmt::Separator { span: _ } => Action::Separator,

@@ -26,7 +26,9 @@ impl PathIter {
         requires { length guards.now ≤ 10 }
         ensures all { paths_left result ≡ paths_below (2 ^ length guards.now) }
         // They are the paths of the rules.
-        ensures choices { (test : List rules.Guard → Bool) → list_any (λ path. test (path_of guards.now path.bits)) (paths_left result) ≡ list_any test (rules.choices guards.now) }
+        ensures choices { (test : List rules.Guard → Bool) →
+            list_any (λ path. test (path_of guards.now path.bits)) (paths_left result)
+            ≡ list_any test (rules.choices guards.now) }
     {
         PathIter {
             left: guards.path_count() as u16,

@@ -42,7 +42,9 @@ impl Place<'_> {
 
     /// Whether a path of at most ten guards leads through it, where its mask is one of these guards.
     pub fn is_on(&self, path: Path) -> bool
-        ensures { (gs : List rules.Guard) → IsMasked gs self.now → are_distinct gs ≡ true → length gs ≤ 10 → path.bits < 2 ^ length gs → result ≡ rules.on_path (path_of gs path.bits) (place_view self.now) }
+        ensures { (gs : List rules.Guard) → IsMasked gs self.now → are_distinct gs ≡ true →
+            length gs ≤ 10 → path.bits < 2 ^ length gs →
+            result ≡ rules.on_path (path_of gs path.bits) (place_view self.now) }
     {
         self.mask.allows(path)
     }

@@ -71,7 +71,8 @@ pub fn name_at<'a>(place: &Place<'a>) -> Option<&'a Name>
 
 /// The location that stands at a place.
 pub fn location_at<'a>(place: &Place<'a>) -> Option<&'a Location>
-    ensures { option_map (λ at. location_view at.now) result ≡ spec_location_at (place_view place.now) }
+    ensures { option_map (λ at. location_view at.now) result
+        ≡ spec_location_at (place_view place.now) }
 {
     match place.action {
         Action::CombRead(_, at) | Action::DelayedRead(_, at) | Action::Write(at, _) => Some(at),

@@ -22,7 +22,8 @@ pub fn places<'a>(
     pipe: &'a Pipe,
     guards: &Guards,
 ) -> Result<Vec<Place<'a>>, NoMemory>
-    ensures places { IfOk result (λ ps. map place_view ps.items ≡ rules.places (pipe_view pipe.now)) }
+    ensures places { IfOk result (λ ps.
+        map place_view ps.items ≡ rules.places (pipe_view pipe.now)) }
     ensures masks { IfOk result (λ ps. AreMasked guards.now ps.items) }
 {
     let mut places = Vec::new(alloc);
@@ -68,7 +69,8 @@ fn add_params<'a>(
     places: &mut Vec<Place<'a>>,
     params: &'a [Param],
 ) -> Result<(), NoMemory>
-    ensures { OnOk result (map shown places.new.items ≡ map shown places.old.items ++ map parameter params.now) }
+    ensures { OnOk result (map shown places.new.items
+        ≡ map shown places.old.items ++ map parameter params.now) }
 {
     for param in params {
         places.push(bare(alloc, Action::Parameter(param), param.name.span))?;
@@ -77,7 +79,8 @@ fn add_params<'a>(
 }
 
 fn add_mems<'a>(alloc: Global, places: &mut Vec<Place<'a>>, mems: &'a [Mem]) -> Result<(), NoMemory>
-    ensures { OnOk result (map shown places.new.items ≡ map shown places.old.items ++ map memory mems.now) }
+    ensures { OnOk result (map shown places.new.items
+        ≡ map shown places.old.items ++ map memory mems.now) }
 {
     for mem in mems {
         places.push(bare(alloc, Action::Memory(mem), mem.name.span))?;
@@ -96,7 +99,9 @@ fn add_stmt<'a>(
     stmt: &'a Stmt,
 ) -> Result<(), NoMemory>
     requires { mask ≡ mask_of guards.now (map branch_view outer.now) }
-    ensures { OnOk result (map shown places.new.items ≡ map shown places.old.items ++ map (masked guards.now) (rules.with_inner (map branch_view outer.now) (stmt_view stmt.now))) }
+    ensures { OnOk result (map shown places.new.items
+        ≡ map shown places.old.items ++ map (masked guards.now)
+        (rules.with_inner (map branch_view outer.now) (stmt_view stmt.now))) }
 {
     push_stmt(places, outer, mask, stmt, alloc)?;
     match stmt {
@@ -162,7 +167,9 @@ fn add_stmts<'a>(
     stmts: &'a [Stmt],
 ) -> Result<(), NoMemory>
     requires { mask ≡ mask_of guards.now (map branch_view outer.now) }
-    ensures { OnOk result (map shown places.new.items ≡ map shown places.old.items ++ map (masked guards.now) (rules.statements (map branch_view outer.now) (stmts_view stmts.now))) }
+    ensures { OnOk result (map shown places.new.items
+        ≡ map shown places.old.items ++ map (masked guards.now)
+        (rules.statements (map branch_view outer.now) (stmts_view stmts.now))) }
 {
     for stmt in stmts {
         add_stmt(alloc, guards, places, outer, mask, stmt)?;
@@ -178,7 +185,9 @@ fn push_stmt<'a>(
     stmt: &'a Stmt,
     alloc: Global,
 ) -> Result<(), NoMemory>
-    ensures { OnOk result (map shown places.new.items ≡ map shown places.old.items ++ (rules.Statement (stmt_view stmt.now) (map branch_view outer.now), mask) ∷ []) }
+    ensures { OnOk result (map shown places.new.items
+        ≡ map shown places.old.items ++
+        (rules.Statement (stmt_view stmt.now) (map branch_view outer.now), mask) ∷ []) }
 {
     let branches = Seq::copy_of(alloc, outer)?;
     places.push(Place {

@@ -1,5 +1,5 @@
 -- The longest path: a guard that comes again among the later ones need not be tried before.
-use Rattle.std.proofs.Common.{◌≡◌, ◌≢◌, ℕ, zero, suc, ◌+◌, ◌-◌, ◌<◌, ◌≤◌, max, eqb, Bool, true, false, ◌||◌, List, [], ◌∷◌, length, get_or, set, Option, Some, None, refl, ap, ap₂, sym, ◌∙◌, arith, eqb-true, eq-eqb}
+use Rattle.std.proofs.Common.{◌≡◌, ◌≢◌, ℕ, zero, suc, ◌+◌, ◌-◌, ◌<◌, ◌≤◌, max, eqb, Bool, true, false, ◌||◌, List, [], ◌∷◌, length, set, Option, Some, None, refl, ap, ap₂, sym, ◌∙◌, arith, eqb-true, eq-eqb}
 use Rattle.std.specs.List.{list_any}
 use Rattle.std.proofs.lemmas.Bool.{false≢true, true≢false}
 use Rattle.std.proofs.lemmas.List.{set-set, set_comm}
@@ -53,25 +53,8 @@ stage_passed p path count limit stage next whole h got inv =
     ap (λ m. count + stages_on p path m stage) more ∙ ap (λ o. count + suc (onward (stages_on p path n) o)) got in
     omega arith
 
--- a guard that is no variable
-pub set_past : (path : List ℕ) (x v : ℕ) → length path ≤ x → set path x v ≡ path
-set_past [] x v h = refl
-set_past (y ∷ ys) zero v h = absurd (omega arith)
-set_past (y ∷ ys) (suc x) v h = ap (λ zs. y ∷ zs) (set_past ys x v (omega arith))
-
 pub max_same : (n : ℕ) → max n n ≡ n
 max_same n = omega arith
-
--- what stood there, put back
-pub set_back : (path : List ℕ) (x v before : ℕ) → before ≡ get_or path x before → x < length path → set (set path x v) x before ≡ path
-set_back [] x v before e h = absurd (omega arith)
-set_back (y ∷ ys) zero v before e h = ap (λ z. z ∷ ys) e
-set_back (y ∷ ys) (suc x) v before e h = ap (λ zs. y ∷ zs) (set_back ys x v before e (omega arith))
-
--- a guard that is no variable, and one that comes again
-pub over_past : (p : Pipe) (path : List ℕ) (x : ℕ) (xs : List ℕ) → length path ≤ x → longest p path xs ≡ longest p path (x ∷ xs)
-over_past p path x xs h =
-    sym (ap₂ max (ap (λ q. longest p q xs) (set_past path x 0 h)) (ap (λ q. longest p q xs) (set_past path x 1 h)) ∙ max_same (longest p path xs))
 
 pub over_again : (p : Pipe) (path : List ℕ) (x : ℕ) (xs : List ℕ) → list_any (λ y. eqb y x) xs ≡ true → longest p path xs ≡ longest p path (x ∷ xs)
 over_again p path x xs h =

@@ -47,7 +47,8 @@ fn longest(all: &[Stage], path: &mut [u64], guards: &[usize]) -> usize
 // The same of a guard and the rest of them. A guard that comes again counts where it comes last.
 #[cycle(longest)]
 fn longest_over(all: &[Stage], path: &mut [u64], x: usize, rest: &[usize]) -> usize
-    ensures value { result ≡ stages.longest (of_stages (stages_view all.now)) path.old (x ∷ rest.now) }
+    ensures value { result ≡ stages.longest (of_stages (stages_view all.now)) path.old
+        (x ∷ rest.now) }
     ensures kept { path.new ≡ path.old }
 {
     if x >= path.len() {
@@ -65,7 +66,8 @@ fn longest_over(all: &[Stage], path: &mut [u64], x: usize, rest: &[usize]) -> us
 #[cycle(longest)]
 fn longest_where(all: &[Stage], path: &mut [u64], x: usize, truth: u64, rest: &[usize]) -> usize
     requires { x < length path.old }
-    ensures value { result ≡ stages.longest (of_stages (stages_view all.now)) (slice_set path.old x truth) rest.now }
+    ensures value { result ≡ stages.longest (of_stages (stages_view all.now))
+        (slice_set path.old x truth) rest.now }
     ensures kept { path.new ≡ path.old }
 {
     let before = path[x];
@@ -77,7 +79,8 @@ fn longest_where(all: &[Stage], path: &mut [u64], x: usize, truth: u64, rest: &[
 
 // How many stages a thread comes to on a path.
 fn stages_on(all: &[Stage], path: &[u64]) -> usize
-    ensures { result ≡ stages.stages_on (of_stages (stages_view all.now)) path.now (length all.now) 0 }
+    ensures { result ≡ stages.stages_on (of_stages (stages_view all.now)) path.now
+        (length all.now) 0 }
 {
     let mut stage = 0;
     for count in 0..all.len() {
@@ -91,7 +94,8 @@ fn stages_on(all: &[Stage], path: &[u64]) -> usize
 
 // The stage that a thread goes to from this one on a path.
 fn next_of(all: &[Stage], stage: usize, path: &[u64]) -> Option<usize>
-    ensures { result ≡ stages.goes_to (stages.stage_at (of_stages (stages_view all.now)) stage).next path.now }
+    ensures { result ≡ stages.goes_to (stages.stage_at (of_stages (stages_view all.now)) stage).next
+        path.now }
 {
     match all.get(stage) {
         None => None,

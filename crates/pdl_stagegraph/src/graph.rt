@@ -32,7 +32,12 @@ impl Model for StageGraph {
 
     ghost Value = { Graph };
 
-    ghost view = { λ g. record { stages = stages_view g.stages.items; forks = forks_view g.forks.items; places = g.places.items; depth = g.depth } };
+    ghost view = { λ g. record {
+      stages = stages_view g.stages.items;
+      forks = forks_view g.forks.items;
+      places = g.places.items;
+      depth = g.depth;
+    } };
 }
 
 // The forks of these stages, in the order of their merges.

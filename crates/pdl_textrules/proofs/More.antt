@@ -4,7 +4,7 @@ use Rattle.pdl_rules.specs.Places.{Place, line_of}
 use Rattle.pdl_rules.specs.Parts.{passes}
 use Rattle.pdl_pathrules.specs.Lowest.{line_where, breaks_at}
 use Rattle.pdl_textrules.specs.Noted.{noted}
-use Rattle.pdl_textrules.proofs.Nth.{take_next}
+use Rattle.pdl_pathrules.proofs.Nth.{take_next}
 
 line_more : (test : List Place → Place → Bool) (before xs : List Place) (y : Place)
     → line_where test before (xs ++ y ∷ []) ≡ noted (line_where test before xs) (test (before ++ xs) y) (line_of y)

@@ -15,7 +15,8 @@ pub fn line_broken<R: TextRule>(
     places: &[Place<'_>],
 ) -> Result<Option<u32>, NoMemory>
     requires { R.fits rule.now places.now }
-    ensures { IfOk result (λ line. line ≡ line_where (R.breaks_on rule.now) [] (map place_view places.now)) }
+    ensures { IfOk result (λ line. line
+        ≡ line_where (R.breaks_on rule.now) [] (map place_view places.now)) }
 {
     let lowest = lowest_place(alloc, rule, places)?;
     Ok(line_at(places, lowest))
@@ -39,7 +40,8 @@ fn lowest_place<R: TextRule>(
     places: &[Place<'_>],
 ) -> Result<usize, NoMemory>
     requires { R.fits rule.now places.now }
-    ensures { IfOk result (λ k. IsLowest (breaks_at (R.breaks_on rule.now) (map place_view places.now)) (length places.now) k) }
+    ensures { IfOk result (λ k. IsLowest
+        (breaks_at (R.breaks_on rule.now) (map place_view places.now)) (length places.now) k) }
 {
     let mut state = rule.start(alloc, places)?;
     for k in 0..places.len() {

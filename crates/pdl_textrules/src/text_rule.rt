@@ -48,5 +48,6 @@ pub trait TextRule {
         requires here { k < length places.now }
         requires fits { fits self.now places.now }
         requires stands { stands self.now (take k (map place_view places.now)) state.old }
-        ensures { OnOk result (stands self.now (take (k + 1) (map place_view places.now)) state.new) };
+        ensures { OnOk result (stands self.now
+            (take (k + 1) (map place_view places.now)) state.new) };
 }

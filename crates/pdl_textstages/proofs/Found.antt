@@ -6,7 +6,8 @@ use Rattle.pdl_rules.specs.Limits.{is_separator}
 use Rattle.pdl_rules.specs.Stages.{branches_of, same_branch, are_outer, stage_from, stage_behind, stage_of, next_on, first_stage, stages_that, is_elsewhere}
 use Rattle.pdl_rules.proofs.Counts.{count_cons}
 use Rattle.pdl_textstages.specs.Stages.{each, stages_in}
-use Rattle.pdl_textstages.proofs.Nth.{dropped, taken, split, taken_length}
+use Rattle.pdl_textstages.proofs.Nth.{dropped, taken, split}
+use Rattle.pdl_pathrules.proofs.Nth.{taken_length}
 
 -- BRANCHES
 

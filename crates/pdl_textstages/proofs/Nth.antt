@@ -1,13 +1,6 @@
 -- The k-th of some values, as others see it, and what stands before and behind it.
-use Rattle.std.proofs.Common.{◌≡◌, refl, sym, ap, ◌∙◌, ℕ, zero, suc, ◌+◌, ◌<◌, ◌≤◌, List, [], ◌∷◌, ◌++◌, map, take, drop, length, get_or, slice_get, Some, None, arith}
-
-pub nth : {P Q : Type 0} (view : P → Q) (ps : List P) (k : ℕ) (p : P) → k < length ps → p ≡ get_or ps k p → slice_get (map view ps) k ≡ Some (view p)
-nth view [] k p l e = absurd (omega arith)
-nth view (q ∷ ps) zero p l e = ap (λ y. Some (view y)) (sym e)
-nth view (q ∷ ps) (suc k) p l e = nth view ps k p (omega arith) e
-
-pub same : {Q : Type 0} (y x : Q) → Some y ≡ Some x → y ≡ x
-same y x e = cc
+use Rattle.std.proofs.Common.{◌≡◌, refl, sym, ap, ◌∙◌, ℕ, zero, suc, ◌+◌, ◌<◌, ◌≤◌, List, [], ◌∷◌, ◌++◌, map, take, drop, length, get_or, slice_get, Some, arith}
+use Rattle.std.proofs.lemmas.Option.{same_Some}
 
 -- what stands from it on
 pub dropped : {Q : Type 0} (xs : List Q) (k : ℕ) (x : Q) → slice_get xs k ≡ Some x → drop k xs ≡ x ∷ drop (k + 1) xs
@@ -17,7 +10,7 @@ dropped xs k x e =
   where
     at : (ys : List _) (n : ℕ) → slice_get ys n ≡ Some x → drop n ys ≡ x ∷ drop (suc n) ys
     at [] n i = cc
-    at (y ∷ ys) zero i = ap (λ z. z ∷ ys) (same y x i)
+    at (y ∷ ys) zero i = ap (λ z. z ∷ ys) (same_Some y x i)
     at (y ∷ ys) (suc n) i = at ys n i
 
 -- and up to it
@@ -28,7 +21,7 @@ taken xs k x e =
   where
     at : (ys : List _) (n : ℕ) → slice_get ys n ≡ Some x → take (suc n) ys ≡ take n ys ++ x ∷ []
     at [] n i = cc
-    at (y ∷ ys) zero i = ap (λ z. z ∷ []) (same y x i)
+    at (y ∷ ys) zero i = ap (λ z. z ∷ []) (same_Some y x i)
     at (y ∷ ys) (suc n) i = ap (λ zs. y ∷ zs) (at ys n i)
 
 pub split : {Q : Type 0} (xs : List Q) (k : ℕ) (x : Q) → slice_get xs k ≡ Some x → xs ≡ take k xs ++ x ∷ drop (k + 1) xs
@@ -38,18 +31,8 @@ split xs k x e =
   where
     at : (ys : List _) (n : ℕ) → slice_get ys n ≡ Some x → ys ≡ take n ys ++ x ∷ drop (suc n) ys
     at [] n i = cc
-    at (y ∷ ys) zero i = ap (λ z. z ∷ ys) (same y x i)
+    at (y ∷ ys) zero i = ap (λ z. z ∷ ys) (same_Some y x i)
     at (y ∷ ys) (suc n) i = ap (λ zs. y ∷ zs) (at ys n i)
-
-pub taken_length : {Q : Type 0} (xs : List Q) (k : ℕ) (x : Q) → slice_get xs k ≡ Some x → k ≡ length (take k xs)
-taken_length [] k x e = cc
-taken_length (y ∷ ys) zero x e = refl
-taken_length (y ∷ ys) (suc k) x e = ap suc (taken_length ys k x e)
-
-pub past_end : {Q : Type 0} (xs : List Q) (k : ℕ) → length xs ≤ k → slice_get xs k ≡ None
-past_end [] k l = refl
-past_end (y ∷ ys) zero l = absurd (omega arith)
-past_end (y ∷ ys) (suc k) l = past_end ys k (omega arith)
 
 none_left : {Q : Type 0} (ys : List Q) → length ys ≤ 0 → ys ≡ []
 none_left [] m = refl

@@ -20,7 +20,8 @@ pub fn all_true(guards: &Guards) -> Path
 
 /// A path without the bits of numbers that no guard has; `all` is the path on which each guard is true.
 pub fn among(all: Path, path: Path) -> Path
-    ensures { (gs : List SpecGuard) → all.bits ≡ 2 ^ length gs - 1 → IsPath gs (path_of gs path.bits) result.bits }
+    ensures { (gs : List SpecGuard) → all.bits ≡ 2 ^ length gs - 1 →
+        IsPath gs (path_of gs path.bits) result.bits }
 {
     Path {
         bits: path.bits & all.bits,
@@ -29,7 +30,10 @@ pub fn among(all: Path, path: Path) -> Path
 
 /// The stage that the next separator on a path begins behind the k-th place, 0 where there is none.
 pub fn next_on(places: &[Place<'_>], path: Path, k: usize) -> usize
-    ensures { (gs on : List SpecGuard) → HavePaths gs places.now → IsPath gs on path.bits → k < length places.now → result ≡ spec.next_on on (spec.stage_behind (take k (map place_view places.now))) (drop (suc k) (map place_view places.now)) }
+    ensures { (gs on : List SpecGuard) → HavePaths gs places.now → IsPath gs on path.bits →
+        k < length places.now → result
+        ≡ spec.next_on on (spec.stage_behind (take k (map place_view places.now)))
+        (drop (suc k) (map place_view places.now)) }
 {
     if k >= places.len() {
         return 0;

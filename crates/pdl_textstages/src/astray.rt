@@ -53,7 +53,8 @@ fn is_elsewhere(first: Option<usize>, stage: usize) -> bool
 
 // The kind of a place, where it is asked.
 fn sought_at<'a>(kinds: Kinds, place: &Place<'a>) -> Option<Sought<'a>>
-    ensures { MatchOption result (IsUnasked kinds (place_view place.now)) (λ sought. IsAsked kinds sought (place_view place.now)) }
+    ensures { MatchOption result (IsUnasked kinds (place_view place.now)) (λ sought.
+        IsAsked kinds sought (place_view place.now)) }
 {
     match kinds {
         Kinds::Locks => lock_at(place),
@@ -62,7 +63,8 @@ fn sought_at<'a>(kinds: Kinds, place: &Place<'a>) -> Option<Sought<'a>>
 }
 
 fn lock_at<'a>(place: &Place<'a>) -> Option<Sought<'a>>
-    ensures { MatchOption result (IsUnasked asked.Locks (place_view place.now)) (λ sought. IsAsked asked.Locks sought (place_view place.now)) }
+    ensures { MatchOption result (IsUnasked asked.Locks (place_view place.now)) (λ sought.
+        IsAsked asked.Locks sought (place_view place.now)) }
 {
     match place.action {
         Action::Reserve(at, _) => Some(Sought::Reserve(&at.mem.name)),
@@ -76,7 +78,8 @@ fn lock_at<'a>(place: &Place<'a>) -> Option<Sought<'a>>
 }
 
 fn verify_at<'a>(place: &Place<'a>) -> Option<Sought<'a>>
-    ensures { MatchOption result (IsUnasked asked.Verifies (place_view place.now)) (λ sought. IsAsked asked.Verifies sought (place_view place.now)) }
+    ensures { MatchOption result (IsUnasked asked.Verifies (place_view place.now)) (λ sought.
+        IsAsked asked.Verifies sought (place_view place.now)) }
 {
     match place.action {
         Action::Verify(_, _) => Some(Sought::Verify),

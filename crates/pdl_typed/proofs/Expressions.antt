@@ -2,27 +2,15 @@
 use Rattle.std.proofs.Common.{◌≡◌, refl, ℕ, ◌+◌, ◌-◌, ◌<◌, ◌≤◌, Bool, true, false, ◌||◌, List, nat_lt, nat_le, if◌then◌else◌, arith, leb-false, ltb-false}
 use Rattle.std.specs.Prelude.{IsTrue}
 use Rattle.std.proofs.lemmas.Bool.{or_parts}
-use Rattle.pdl_semantics.specs.Tree.{BinaryOp, Add, Sub, Mul, And, Or, Xor, Equal, Differ, Less, ShiftLeft, ShiftRight, Expr, Constant, Variable, Slice, Not, Binary, Cat, LessSigned, ZeroExtend, SignExtend, Choose}
-use Rattle.pdl_semantics.specs.Flatten.{Var, widest, var_width, op_width, width_of}
+use Rattle.pdl_semantics.specs.Tree.{BinaryOp, Expr, Constant, Variable, Slice, Not, Binary, Cat, LessSigned, ZeroExtend, SignExtend, Choose}
+use Rattle.pdl_semantics.specs.Flatten.{Var, widest, var_width, width_of}
 use Rattle.pdl_rules.specs.Parts.{some_part, of_constant}
 use Rattle.pdl_rules.specs.Limits.{is_wrong_literal}
 use Rattle.pdl_rules.specs.Names.{Use, OfVariable, reads}
 use Rattle.pdl_rules.specs.Widths.{is_out_of_range, is_no_extension}
 use Rattle.pdl_rules.specs.Typed.{is_named}
 use Rattle.pdl_rules.proofs.Typing.{width_is}
-
-op_narrow : (op : BinaryOp) (w : ℕ) → w ≤ 64 → op_width op w ≤ 64
-op_narrow Add w h = h
-op_narrow Sub w h = h
-op_narrow Mul w h = h
-op_narrow And w h = h
-op_narrow Or w h = h
-op_narrow Xor w h = h
-op_narrow Equal w h = omega arith
-op_narrow Differ w h = omega arith
-op_narrow Less w h = omega arith
-op_narrow ShiftLeft w h = h
-op_narrow ShiftRight w h = h
+use Rattle.pdl_semantics.proofs.Facts.{op_narrow}
 
 cat_narrow : (n : ℕ) → (if nat_lt widest n then 1 else n) ≤ 64
 cat_narrow n = at (nat_lt widest n) refl

@@ -4,6 +4,7 @@ use Rattle.std.specs.Prelude.{IsTrue, ⊤, nat_le}
 use Rattle.std.specs.List.{list_any}
 use Rattle.std.proofs.lemmas.Bool.{or_parts, and_parts, and_from, le-leb, not-false, or_left}
 use Rattle.std.proofs.lemmas.List.Folds.{list_any-append}
+use Rattle.std.proofs.lemmas.List.Sums.{fold_push}
 use Rattle.pdl_kit.specs.declared.rule.Rule.TheVariants.{Z7, N2, N3, W2}
 use Rattle.pdl_semantics.specs.Tree.{Ident, Expr, Span, Separator, CombRead, Bind, SpecCall, DelayedRead, Write, Reserve, Block, Release, If, Call, Verify, SpecCheck, SpecBarrier, Param, Mem, Pipe}
 use Rattle.pdl_semantics.specs.Flatten.{Var, var_width, mem_width, width_of}
@@ -13,14 +14,14 @@ use Rattle.pdl_rules.specs.Names.{OfVariable, defines, variable_at, name_at, is_
 use Rattle.pdl_rules.specs.Widths.{with_variable, after_place, variables}
 use Rattle.pdl_rules.specs.Typed.{is_named}
 use Rattle.pdl_rules.specs.Refusal.{breaks, broken_line}
-use Rattle.pdl_rules.proofs.Once.{fold_push}
 use Rattle.pdl_rules.proofs.Typing.{width_is}
 use Rattle.pdl_rules.proofs.Defined.{AreKnown, none_known, known_same, known_more, known_stay}
 use Rattle.pdl_widths.specs.Variables.{width_among}
 use Rattle.pdl_names.proofs.Firsts.{none_some}
 use Rattle.pdl_typed.specs.Narrow.{are_narrow}
-use Rattle.pdl_typed.proofs.Unbroken.{KeepsWidths, no_line, here, behind}
+use Rattle.pdl_typed.proofs.Unbroken.{KeepsWidths, here, behind}
 use Rattle.pdl_typed.proofs.Expressions.{expr_narrow}
+use Rattle.pdl_word.proofs.Bools.{none_given}
 
 -- VARIABLES
 
@@ -68,7 +69,7 @@ narrow_among vs e = among vs (each_narrow vs e)
 none_over : (p : Pipe) (before xs : List Place) → broken_line Z7 p before xs ≡ None → list_any breaks_z7 xs ≡ false
 none_over p before [] e = refl
 none_over p before (x ∷ xs) e =
-    let parts = no_line (breaks Z7 p before x) (line_of x) (broken_line Z7 p (before ++ x ∷ []) xs) e in
+    let parts = none_given (breaks Z7 p before x) (line_of x) (broken_line Z7 p (before ++ x ∷ []) xs) e in
     ap (λ b. b || list_any breaks_z7 xs) parts.0 ∙ none_over p (before ++ x ∷ []) xs parts.1
 
 wide_enough : (m : Mem) → breaks_z7 (Memory m) ≡ false → m.width.value ≤ 64

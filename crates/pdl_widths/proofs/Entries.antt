@@ -1,25 +1,17 @@
 -- The entries of a map as variables.
-use Rattle.std.proofs.Common.{◌≡◌, ℕ, ◌+◌, Bool, true, false, cond, List, [], ◌∷◌, ◌++◌, refl, ap, sym, ◌∙◌, Option, unwrap_or, is_some, bytes_eq, nat_eq, ◌||◌, if◌then◌else◌, Some, None, fold, take, slice_get}
-use Rattle.std.specs.Option.{option_map}
+use Rattle.std.proofs.Common.{◌≡◌, ℕ, ◌+◌, Bool, true, false, cond, List, [], ◌∷◌, ◌++◌, refl, ap, sym, ◌∙◌, Option, unwrap_or, is_some, bytes_eq, nat_eq, ◌||◌, if◌then◌else◌, Some, fold, take, slice_get}
 use Rattle.std.specs.List.{list_any}
 use Rattle.std.specs.Cmp.Lexicographic.{pointwise}
-use Rattle.std.proofs.lemmas.Slice.Eq.{bytes_eq-Decides}
-use Rattle.std.proofs.lemmas.Bool.Decides.{same_from_decides}
 use Rattle.std.specs.Map.{lookup}
+use Rattle.std.proofs.lemmas.List.Sums.{fold_push}
 use Rattle.indexmap.specs.IndexMap.{insert_entry}
 use Rattle.pdl_semantics.specs.Flatten.{Var, var_width}
 use Rattle.pdl_semantics.specs.Tree.{Mem}
 use Rattle.pdl_rules.specs.Places.{Place}
 use Rattle.pdl_rules.specs.Widths.{with_variable, after_place}
-use Rattle.pdl_rules.proofs.Once.{fold_push}
-use Rattle.pdl_textrules.proofs.Nth.{take_next}
 use Rattle.pdl_widths.specs.Variables.{var_of, vars_of, width_among}
-
-pub bytes_eq-swap : (x y : List ℕ) → bytes_eq x y ≡ bytes_eq y x
-bytes_eq-swap x y =
-    let a = bytes_eq-Decides x y in
-    let b = bytes_eq-Decides y x in
-    same_from_decides _ _ a (λ e. sym (b.0 e), λ e. b.1 (sym e))
+use Rattle.pdl_word.proofs.Bytes.{bytes_swap}
+use Rattle.pdl_pathrules.proofs.Nth.{take_next}
 
 width_step : (a b : Bool) (w : ℕ) (o : Option ℕ) (n : ℕ) → a ≡ b → unwrap_or o 0 ≡ n → unwrap_or (cond a (Some w) o) 0 ≡ if b then w else n
 width_step true true w o n h k = refl
@@ -29,7 +21,7 @@ width_step false true w o n h k = cc
 
 width-lookup : (es : List (List ℕ × ℕ)) (x : List ℕ) → unwrap_or (lookup (pointwise nat_eq x) es) 0 ≡ var_width (vars_of es) x
 width-lookup [] x = refl
-width-lookup (e ∷ es) x = width_step (bytes_eq x e.0) (bytes_eq e.0 x) e.1 _ _ (bytes_eq-swap x e.0) (width-lookup es x)
+width-lookup (e ∷ es) x = width_step (bytes_eq x e.0) (bytes_eq e.0 x) e.1 _ _ (bytes_swap x e.0) (width-lookup es x)
 
 -- what a look-up gives, as the width of the variable
 pub width_found : (es : List (List ℕ × ℕ)) (vs : List Var) (x : List ℕ) (o : Option ℕ) → o ≡ lookup (pointwise nat_eq x) es → vars_of es ≡ vs
@@ -71,10 +63,6 @@ with_variable-new es fs vs x w o h k s i =
     ap vars_of i ∙ vars_of-insert es x w missing ∙ ap (λ us. us ++ record { name = x; width = w } ∷ []) k
     ∙ sym (ap (λ b. if b then vs else vs ++ record { name = x; width = w } ∷ []) unknown)
 
-pub is_some-mapped : {T U : Type 0} (f : T → U) (o : Option T) → is_some (option_map f o) ≡ is_some o
-is_some-mapped f None = refl
-is_some-mapped f (Some x) = refl
-
 -- the variables with those of one place more
 pub variables_next : (ms : List Mem) (xs : List Place) (k : ℕ) (y : Place) (vs ws : List Var) → slice_get xs k ≡ Some y → ws ≡ after_place ms vs y → vs ≡ fold (after_place ms) [] (take k xs)
     → ws ≡ fold (after_place ms) [] (take (k + 1) xs)
@@ -89,7 +77,7 @@ among_step false true w o p h k = cc
 
 among-lookup : (es : List (List ℕ × ℕ)) (x : List ℕ) → lookup (pointwise nat_eq x) es ≡ width_among (vars_of es) x
 among-lookup [] x = refl
-among-lookup (e ∷ es) x = among_step (bytes_eq x e.0) (bytes_eq e.0 x) e.1 _ _ (bytes_eq-swap x e.0) (among-lookup es x)
+among-lookup (e ∷ es) x = among_step (bytes_eq x e.0) (bytes_eq e.0 x) e.1 _ _ (bytes_swap x e.0) (among-lookup es x)
 
 -- what a look-up gives
 pub found_among : (es : List (List ℕ × ℕ)) (vs : List Var) (x : List ℕ) (o : Option ℕ) → o ≡ lookup (pointwise nat_eq x) es → vars_of es ≡ vs → o ≡ width_among vs x

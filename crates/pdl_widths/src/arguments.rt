@@ -14,7 +14,8 @@ use pdl_tree::{Expr, Literal, Param};
 
 /// Whether arguments are as many as the parameters and as wide.
 pub fn call_fits(variables: &Variables, args: &[Expr], params: &[Param]) -> bool
-    ensures { result ≡ pointwise nat_eq (map (flatten.width_of variables.now) (exprs_view args.now)) (map (λ (a : tree.Param). a.width.value) (map param_view params.now)) }
+    ensures { result ≡ pointwise nat_eq (map (flatten.width_of variables.now) (exprs_view args.now))
+        (map (λ (a : tree.Param). a.width.value) (map param_view params.now)) }
 {
     if args.len() != params.len() {
         return false;
@@ -29,7 +30,9 @@ pub fn call_fits(variables: &Variables, args: &[Expr], params: &[Param]) -> bool
 
 /// The same of the arguments of the start clause.
 pub fn start_fits(args: &[Literal], params: &[Param]) -> bool
-    ensures { result ≡ pointwise nat_eq (map (λ (l : tree.Literal). l.width) (map literal_view args.now)) (map (λ (a : tree.Param). a.width.value) (map param_view params.now)) }
+    ensures { result ≡ pointwise nat_eq
+        (map (λ (l : tree.Literal). l.width) (map literal_view args.now))
+        (map (λ (a : tree.Param). a.width.value) (map param_view params.now)) }
 {
     if args.len() != params.len() {
         return false;

@@ -39,7 +39,8 @@ const NONE: Faults = Faults {
 
 /// What a place breaks, in a pipe with these variables, memories and parameters.
 pub fn faults_at(variables: &Variables, mems: &[Mem], params: &[Param], place: &Place<'_>) -> Faults
-    ensures { AreFaults variables.now (map mem_view mems.now) (map param_view params.now) (place_view place.now) result }
+    ensures { AreFaults variables.now (map mem_view mems.now) (map param_view params.now)
+        (place_view place.now) result }
 {
     match place.action {
         Action::CombRead(_, at) | Action::DelayedRead(_, at) => at_location(variables, mems, at),
@@ -61,7 +62,8 @@ fn at_location(variables: &Variables, mems: &[Mem], at: &Location) -> Faults
     ensures w1 { result.w1 ≡ false }
     ensures w2 { result.w2 ≡ false }
     ensures w3 { result.w3 ≡ false }
-    ensures w4 { result.w4 ≡ straight.is_wrong_address variables.now (map mem_view mems.now) (location_view at.now) }
+    ensures w4 { result.w4 ≡ straight.is_wrong_address variables.now (map mem_view mems.now)
+        (location_view at.now) }
     ensures w5 { result.w5 ≡ false }
     ensures w6 { result.w6 ≡ false }
 {
@@ -71,7 +73,8 @@ fn at_location(variables: &Variables, mems: &[Mem], at: &Location) -> Faults
 }
 
 fn is_wrong_address(variables: &Variables, mems: &[Mem], at: &Location) -> bool
-    ensures { result ≡ straight.is_wrong_address variables.now (map mem_view mems.now) (location_view at.now) }
+    ensures { result ≡ straight.is_wrong_address variables.now (map mem_view mems.now)
+        (location_view at.now) }
 {
     variables.width(&at.address.name) != address_bits(mem_depth(mems, &at.mem.name))
 }
@@ -79,7 +82,8 @@ fn is_wrong_address(variables: &Variables, mems: &[Mem], at: &Location) -> bool
 // A bound value.
 fn in_value(variables: &Variables, e: &Expr) -> Faults
     ensures w1 { result.w1 ≡ some_part (spec.is_unequal variables.now) (expr_view e.now) }
-    ensures w2 { result.w2 ≡ (some_part (of_constant spec.is_too_large) (expr_view e.now) || some_part (spec.is_out_of_range variables.now) (expr_view e.now)) }
+    ensures w2 { result.w2 ≡ (some_part (of_constant spec.is_too_large) (expr_view e.now)
+        || some_part (spec.is_out_of_range variables.now) (expr_view e.now)) }
     ensures w3 { result.w3 ≡ some_part (spec.is_wide_choice variables.now) (expr_view e.now) }
     ensures w4 { result.w4 ≡ false }
     ensures w5 { result.w5 ≡ false }
@@ -96,11 +100,14 @@ fn in_value(variables: &Variables, e: &Expr) -> Faults
 // A written value, with its location.
 fn in_write(variables: &Variables, mems: &[Mem], at: &Location, e: &Expr) -> Faults
     ensures w1 { result.w1 ≡ some_part (spec.is_unequal variables.now) (expr_view e.now) }
-    ensures w2 { result.w2 ≡ (some_part (of_constant spec.is_too_large) (expr_view e.now) || some_part (spec.is_out_of_range variables.now) (expr_view e.now)) }
+    ensures w2 { result.w2 ≡ (some_part (of_constant spec.is_too_large) (expr_view e.now)
+        || some_part (spec.is_out_of_range variables.now) (expr_view e.now)) }
     ensures w3 { result.w3 ≡ some_part (spec.is_wide_choice variables.now) (expr_view e.now) }
-    ensures w4 { result.w4 ≡ straight.is_wrong_address variables.now (map mem_view mems.now) (location_view at.now) }
+    ensures w4 { result.w4 ≡ straight.is_wrong_address variables.now (map mem_view mems.now)
+        (location_view at.now) }
     ensures w5 { result.w5 ≡ false }
-    ensures w6 { result.w6 ≡ not (flatten.width_of variables.now (expr_view e.now) == flatten.mem_width (map mem_view mems.now) at.now.mem.name) }
+    ensures w6 { result.w6 ≡ not (flatten.width_of variables.now
+        (expr_view e.now) == flatten.mem_width (map mem_view mems.now) at.now.mem.name) }
 {
     let measure = measured(variables, e);
     let mut faults = NONE;
@@ -115,8 +122,10 @@ fn in_write(variables: &Variables, mems: &[Mem], at: &Location, e: &Expr) -> Fau
 // The condition of an `if`.
 fn in_condition(variables: &Variables, e: &Expr) -> Faults
     ensures w1 { result.w1 ≡ some_part (spec.is_unequal variables.now) (expr_view e.now) }
-    ensures w2 { result.w2 ≡ (some_part (of_constant spec.is_too_large) (expr_view e.now) || some_part (spec.is_out_of_range variables.now) (expr_view e.now)) }
-    ensures w3 { result.w3 ≡ (not (flatten.width_of variables.now (expr_view e.now) == 1) || some_part (spec.is_wide_choice variables.now) (expr_view e.now)) }
+    ensures w2 { result.w2 ≡ (some_part (of_constant spec.is_too_large) (expr_view e.now)
+        || some_part (spec.is_out_of_range variables.now) (expr_view e.now)) }
+    ensures w3 { result.w3 ≡ (not (flatten.width_of variables.now (expr_view e.now) == 1)
+        || some_part (spec.is_wide_choice variables.now) (expr_view e.now)) }
     ensures w4 { result.w4 ≡ false }
     ensures w5 { result.w5 ≡ false }
     ensures w6 { result.w6 ≡ false }
@@ -131,11 +140,16 @@ fn in_condition(variables: &Variables, e: &Expr) -> Faults
 
 // The arguments of a call, a guess or a `verify`.
 fn in_call(variables: &Variables, params: &[Param], args: &[Expr]) -> Faults
-    ensures w1 { result.w1 ≡ list_any (some_part (spec.is_unequal variables.now)) (exprs_view args.now) }
-    ensures w2 { result.w2 ≡ (list_any (some_part (of_constant spec.is_too_large)) (exprs_view args.now) || list_any (some_part (spec.is_out_of_range variables.now)) (exprs_view args.now)) }
-    ensures w3 { result.w3 ≡ list_any (some_part (spec.is_wide_choice variables.now)) (exprs_view args.now) }
+    ensures w1 { result.w1 ≡ list_any (some_part (spec.is_unequal variables.now))
+        (exprs_view args.now) }
+    ensures w2 { result.w2 ≡ (list_any (some_part (of_constant spec.is_too_large))
+        (exprs_view args.now) || list_any (some_part (spec.is_out_of_range variables.now))
+        (exprs_view args.now)) }
+    ensures w3 { result.w3 ≡ list_any (some_part (spec.is_wide_choice variables.now))
+        (exprs_view args.now) }
     ensures w4 { result.w4 ≡ false }
-    ensures w5 { result.w5 ≡ straight.are_wrong (map param_view params.now) (map (flatten.width_of variables.now) (exprs_view args.now)) }
+    ensures w5 { result.w5 ≡ straight.are_wrong (map param_view params.now)
+        (map (flatten.width_of variables.now) (exprs_view args.now)) }
     ensures w6 { result.w6 ≡ false }
 {
     let measure = measured_args(variables, args);
@@ -153,7 +167,8 @@ fn in_start(params: &[Param], args: &[Literal]) -> Faults
     ensures w2 { result.w2 ≡ list_any spec.is_too_large (map literal_view args.now) }
     ensures w3 { result.w3 ≡ false }
     ensures w4 { result.w4 ≡ false }
-    ensures w5 { result.w5 ≡ straight.are_wrong (map param_view params.now) (map (λ (l : tree.Literal). l.width) (map literal_view args.now)) }
+    ensures w5 { result.w5 ≡ straight.are_wrong (map param_view params.now)
+        (map (λ (l : tree.Literal). l.width) (map literal_view args.now)) }
     ensures w6 { result.w6 ≡ false }
 {
     let mut faults = NONE;

@@ -61,7 +61,12 @@ impl Lines {
 
     /// The lowest rule that is broken, with its line.
     pub fn lowest(self) -> Option<Broken>
-        ensures { option_map refused_of result ≡ refused_at names.W1 self.w1 (refused_at names.W2 self.w2 (refused_at names.W3 self.w3 (refused_at names.W4 self.w4 (refused_at names.W5 self.w5 (refused_at names.W6 self.w6 None))))) }
+        ensures { option_map refused_of result
+            ≡ refused_at names.W1 self.w1
+            (refused_at names.W2 self.w2
+            (refused_at names.W3 self.w3
+            (refused_at names.W4 self.w4
+            (refused_at names.W5 self.w5 (refused_at names.W6 self.w6 None))))) }
     {
         let last = lowest_of(Rule::W6, self.w6, None);
         let last = lowest_of(Rule::W5, self.w5, last);

@@ -60,9 +60,12 @@ impl Measure {
 pub fn measured(variables: &Variables, e: &Expr) -> Measure
     ensures width { result.width ≡ flatten.width_of variables.now (expr_view e.now) }
     ensures unequal { result.unequal ≡ some_part (spec.is_unequal variables.now) (expr_view e.now) }
-    ensures out_of_range { result.out_of_range ≡ some_part (spec.is_out_of_range variables.now) (expr_view e.now) }
-    ensures wide_choice { result.wide_choice ≡ some_part (spec.is_wide_choice variables.now) (expr_view e.now) }
-    ensures too_large { result.too_large ≡ some_part (of_constant spec.is_too_large) (expr_view e.now) }
+    ensures out_of_range { result.out_of_range
+        ≡ some_part (spec.is_out_of_range variables.now) (expr_view e.now) }
+    ensures wide_choice { result.wide_choice
+        ≡ some_part (spec.is_wide_choice variables.now) (expr_view e.now) }
+    ensures too_large { result.too_large
+        ≡ some_part (of_constant spec.is_too_large) (expr_view e.now) }
 {
     match e {
         Expr::Constant(literal) => {
@@ -119,9 +122,11 @@ fn of_operands(width: u128, a: Measure, b: Measure) -> Measure
 
 // Two expressions side by side.
 fn of_cat(a: Measure, b: Measure) -> Measure
-    ensures width { result.width ≡ (if nat_lt 64 (a.width + b.width) then 1 else a.width + b.width) }
+    ensures width { result.width ≡ (if nat_lt 64
+        (a.width + b.width) then 1 else a.width + b.width) }
     ensures unequal { result.unequal ≡ (a.unequal || b.unequal) }
-    ensures out_of_range { result.out_of_range ≡ (nat_lt 64 (a.width + b.width) || (a.out_of_range || b.out_of_range)) }
+    ensures out_of_range { result.out_of_range
+        ≡ (nat_lt 64 (a.width + b.width) || (a.out_of_range || b.out_of_range)) }
     ensures wide_choice { result.wide_choice ≡ (a.wide_choice || b.wide_choice) }
     ensures too_large { result.too_large ≡ (a.too_large || b.too_large) }
 {
@@ -134,7 +139,8 @@ fn of_cat(a: Measure, b: Measure) -> Measure
 fn of_extension(width: u64, a: Measure) -> Measure
     ensures width { result.width ≡ width }
     ensures unequal { result.unequal ≡ a.unequal }
-    ensures out_of_range { result.out_of_range ≡ (spec.is_no_extension a.width width || a.out_of_range) }
+    ensures out_of_range { result.out_of_range
+        ≡ (spec.is_no_extension a.width width || a.out_of_range) }
     ensures wide_choice { result.wide_choice ≡ a.wide_choice }
     ensures too_large { result.too_large ≡ a.too_large }
 {
@@ -146,9 +152,12 @@ fn of_extension(width: u64, a: Measure) -> Measure
 // A choice between two arms, which need one width.
 fn of_choice(c: Measure, a: Measure, b: Measure) -> Measure
     ensures width { result.width ≡ a.width }
-    ensures unequal { result.unequal ≡ (not (a.width == b.width) || (c.unequal || (a.unequal || b.unequal))) }
-    ensures out_of_range { result.out_of_range ≡ (c.out_of_range || (a.out_of_range || b.out_of_range)) }
-    ensures wide_choice { result.wide_choice ≡ (not (c.width == 1) || (c.wide_choice || (a.wide_choice || b.wide_choice))) }
+    ensures unequal { result.unequal
+        ≡ (not (a.width == b.width) || (c.unequal || (a.unequal || b.unequal))) }
+    ensures out_of_range { result.out_of_range
+        ≡ (c.out_of_range || (a.out_of_range || b.out_of_range)) }
+    ensures wide_choice { result.wide_choice
+        ≡ (not (c.width == 1) || (c.wide_choice || (a.wide_choice || b.wide_choice))) }
     ensures too_large { result.too_large ≡ (c.too_large || (a.too_large || b.too_large)) }
 {
     let mut own = right(a.width);
@@ -175,10 +184,14 @@ pub fn is_too_large(literal: &Literal) -> bool
 
 /// What is wrong with arguments, in a measure of no width.
 pub fn measured_args(variables: &Variables, args: &[Expr]) -> Measure
-    ensures unequal { result.unequal ≡ list_any (some_part (spec.is_unequal variables.now)) (exprs_view args.now) }
-    ensures out_of_range { result.out_of_range ≡ list_any (some_part (spec.is_out_of_range variables.now)) (exprs_view args.now) }
-    ensures wide_choice { result.wide_choice ≡ list_any (some_part (spec.is_wide_choice variables.now)) (exprs_view args.now) }
-    ensures too_large { result.too_large ≡ list_any (some_part (of_constant spec.is_too_large)) (exprs_view args.now) }
+    ensures unequal { result.unequal
+        ≡ list_any (some_part (spec.is_unequal variables.now)) (exprs_view args.now) }
+    ensures out_of_range { result.out_of_range
+        ≡ list_any (some_part (spec.is_out_of_range variables.now)) (exprs_view args.now) }
+    ensures wide_choice { result.wide_choice
+        ≡ list_any (some_part (spec.is_wide_choice variables.now)) (exprs_view args.now) }
+    ensures too_large { result.too_large
+        ≡ list_any (some_part (of_constant spec.is_too_large)) (exprs_view args.now) }
 {
     let mut all = right(0);
     for e in args {

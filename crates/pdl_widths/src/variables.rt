@@ -43,7 +43,8 @@ impl Variables {
 
     /// The variables that these places define, in text order.
     pub fn of(alloc: Global, mems: &[Mem], places: &[Place<'_>]) -> Result<Variables, NoMemory>
-        ensures { IfOk result (λ vs. vs ≡ fold (after_place (map mem_view mems.now)) [] (map place_view places.now)) }
+        ensures { IfOk result (λ vs. vs
+            ≡ fold (after_place (map mem_view mems.now)) [] (map place_view places.now)) }
     {
         let mut variables = Variables::new(alloc);
         for k in 0..places.len() {
@@ -54,7 +55,8 @@ impl Variables {
 
     // Adds the variable that a place defines.
     fn add(&mut self, mems: &[Mem], place: &Place<'_>) -> Result<(), NoMemory>
-        ensures { OnOk result (self.new ≡ after_place (map mem_view mems.now) self.old (place_view place.now)) }
+        ensures { OnOk result (self.new
+            ≡ after_place (map mem_view mems.now) self.old (place_view place.now)) }
     {
         match place.action {
             Action::Parameter(param) => self.define(&param.name.name, param.width.value as u128),

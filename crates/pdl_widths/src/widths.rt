@@ -25,7 +25,8 @@ pub fn check_widths(
     places: &[Place<'_>],
 ) -> Result<Option<Broken>, NoMemory>
     requires { map place_view places.now ≡ spec_places (pipe_view pipe.now) }
-    ensures { IfOk result (λ broken. option_map refused_of broken ≡ first_broken width_rules (pipe_view pipe.now)) }
+    ensures { IfOk result (λ broken.
+        option_map refused_of broken ≡ first_broken width_rules (pipe_view pipe.now)) }
 {
     let variables = Variables::of(alloc, pipe.mems.as_slice(), places)?;
     Ok(lines_of(pipe, &variables, places).lowest())

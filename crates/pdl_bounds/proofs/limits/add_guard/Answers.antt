@@ -1,9 +1,9 @@
 use Rattle.std.proofs.Common.{◌∙◌, ap, map, is_some}
 use Rattle.std.proofs.lemmas.Bool.{true≢false}
 use Rattle.pdl_paths.specs.Actions.{place_view}
-use Rattle.pdl_textrules.proofs.Nth.{nth}
 use Rattle.pdl_bounds.proofs.Guarded.{guards_next}
 use Rattle.pdl_bounds.proofs.limits.add_guard.Goals as goal
+use Rattle.pdl_pathrules.proofs.Nth.{nth}
 
 pub returns-then-is_some : goal.returns-then-is_some
 returns-then-is_some c = λ e. absurd (true≢false (c.if-is_some.ensures ∙ ap is_some e))

@@ -3,11 +3,11 @@ use Rattle.pdl_kit.specs.declared.rule.Rule.TheVariants.{Z2, Z3, Z4, Z5, Z6, Z7}
 use Rattle.pdl_rules.specs.Refusal.{breaks}
 use Rattle.pdl_rules.specs.Limits.{is_statement, is_separator, is_memory, is_binding, breaks_z6}
 use Rattle.pdl_paths.specs.Actions.{place_view}
-use Rattle.pdl_textrules.proofs.Nth.{nth}
 use Rattle.pdl_textrules.proofs.More.{line_next}
 use Rattle.pdl_bounds.specs.Over.{adds_guard}
 use Rattle.pdl_bounds.proofs.Guarded.{z6_parts, noted_if, none_noted}
 use Rattle.pdl_bounds.proofs.limits.with_place.Goals as goal
+use Rattle.pdl_pathrules.proofs.Nth.{nth}
 
 pub returns-clause-lines : goal.returns-clause-lines
 returns-clause-lines c p h =

@@ -1,4 +1,4 @@
-use Rattle.std.proofs.Common.{◌≡◌, ◌<◌, ◌+◌, ◌==◌, ◌++◌, suc, true, false, if◌then◌else◌, map, length, sym, ap, ap₂, ◌∙◌, arith, rules}
+use Rattle.std.proofs.Common.{◌≡◌, ◌<◌, ◌+◌, ◌==◌, ◌++◌, suc, true, false, if◌then◌else◌, map, sym, ap, ap₂, ◌∙◌, arith}
 use Rattle.pdl_tree.specs.declared.tree.Stmt as r_stmt
 use Rattle.pdl_tree.specs.declared.tree.Stmt.TheVariants as r_stmts
 use Rattle.pdl_tree.specs.declared.tree.Stmt.TheOpen.{Stmt-F}
@@ -8,9 +8,9 @@ use Rattle.pdl_semantics.specs.Flatten as spec
 use Rattle.pdl_tree.specs.View as tree
 use Rattle.pdl_form.specs.View.{stages_view, next_view, branch_view}
 use Rattle.pdl_flat.specs.Walking.{place_of, next_at, closed}
-use Rattle.pdl_flat.proofs.Leading.{length_stages}
 use Rattle.pdl_flat.proofs.Branches.{if_closed, entry_seen, guard_begun}
 use Rattle.pdl_flat.proofs.body.+walk.Goals as goal
+use Rattle.pdl_form.proofs.Staging.{length_stages}
 
 pub branch-returns-clause-entry : goal.branch-returns-clause-entry
 branch-returns-clause-entry t c =

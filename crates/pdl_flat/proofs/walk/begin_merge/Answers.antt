@@ -1,8 +1,9 @@
-use Rattle.std.proofs.Common.{◌≡◌, ◌<◌, ◌++◌, suc, length, sym, ap, ◌∙◌, arith}
+use Rattle.std.proofs.Common.{◌≡◌, ◌<◌, ◌++◌, length, ap, ◌∙◌, arith}
 use Rattle.pdl_form.specs.View.{stages_view, branch_view}
 use Rattle.pdl_flat.specs.Walking.{leading}
-use Rattle.pdl_flat.proofs.Leading.{begun_merge, length_stages, stages_push}
+use Rattle.pdl_flat.proofs.Leading.{begun_merge, stages_push}
 use Rattle.pdl_flat.proofs.walk.begin_merge.Goals as goal
+use Rattle.pdl_form.proofs.Staging.{length_stages}
 
 pub returns-clause-graph : goal.returns-clause-graph
 returns-clause-graph c = λ rest.

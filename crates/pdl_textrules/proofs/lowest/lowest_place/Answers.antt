@@ -1,8 +1,9 @@
 use Rattle.std.proofs.Common.{sym, ◌∙◌, map, arith}
 use Rattle.pdl_paths.specs.Actions.{place_view}
 use Rattle.pdl_pathrules.specs.Lowest.{breaks_at}
-use Rattle.pdl_textrules.proofs.Found.{one_place, found_at, found_nowhere}
+use Rattle.pdl_textrules.proofs.Found.{found_at, found_nowhere}
 use Rattle.pdl_textrules.proofs.lowest.lowest_place.Goals as goal
+use Rattle.pdl_pathrules.proofs.Steps.{one_place}
 
 pub loop-k-init : goal.loop-k-init
 loop-k-init g c = (c.in_ok-state.ensures, λ j l. absurd (omega arith))

@@ -4,10 +4,11 @@ use Rattle.pdl_rules.specs.Places.{on_path}
 use Rattle.pdl_rules.specs.Stages.{next_on, stage_behind}
 use Rattle.pdl_paths.specs.Actions.{place_view}
 use Rattle.pdl_paths.specs.Masks.{IsMasked}
-use Rattle.pdl_textstages.proofs.Nth.{nth, dropped, dropped_all, short_take, viewed}
+use Rattle.pdl_textstages.proofs.Nth.{dropped, dropped_all, short_take, viewed}
 use Rattle.pdl_textstages.proofs.Found.{next_here, next_past, next_other}
 use Rattle.pdl_textstages.proofs.along.next_on.Goals as goal
 use Rattle.pdl_textstages.proofs.along.next_on.Goals.{then-is_separator+else-is_on, else-is_separator}
+use Rattle.pdl_pathrules.proofs.Nth.{nth}
 
 pub loop-j-init : goal.loop-j-init
 loop-j-init c =

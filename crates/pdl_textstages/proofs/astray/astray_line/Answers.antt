@@ -1,11 +1,12 @@
 use Rattle.std.proofs.Common.{◌∙◌, sym, ap, ◌≤◌, map, length, Some, option_map, arith}
 use Rattle.std.proofs.lemmas.List.{length-map}
+use Rattle.std.proofs.lemmas.Option.{slice_get_past}
 use Rattle.pdl_rules.specs.Places.{line_of}
 use Rattle.pdl_paths.specs.Actions.{place_view}
 use Rattle.pdl_pathrules.proofs.Lines.{lowest_line}
 use Rattle.pdl_textstages.specs.Astray.{is_astray}
-use Rattle.pdl_textstages.proofs.Nth.{nth, past_end}
 use Rattle.pdl_textstages.proofs.astray.astray_line.Goals as goal
+use Rattle.pdl_pathrules.proofs.Nth.{nth}
 
 pub returns-then-is_astray : goal.returns-then-is_astray
 returns-then-is_astray c =
@@ -23,5 +24,5 @@ returns c =
     let k = c.loop-k.k in
     let past : length xs ≤ k = omega (arith, length-map c.args.places.now place_view) in
     let within : k ≤ length xs = omega (arith, length-map c.args.places.now place_view) in
-    sym (ap (option_map line_of) (past_end xs k past))
+    sym (ap (option_map line_of) (slice_get_past xs k past))
     ∙ lowest_line (is_astray c.args.kinds) xs k (record { within = within; found = λ l. absurd (omega arith); others = c.loop-k.invariant })

@@ -3,9 +3,9 @@ use Rattle.pdl_rules.specs.Parts.{passes}
 use Rattle.pdl_paths.specs.Actions.{place_view}
 use Rattle.pdl_textstages.specs.Stages.{is_sought}
 use Rattle.pdl_textstages.specs.Astray.{is_astray}
-use Rattle.pdl_textstages.proofs.Nth.{nth}
 use Rattle.pdl_textstages.proofs.Found.{stage_got, elsewhere_before}
 use Rattle.pdl_textstages.proofs.astray.is_astray.Goals as goal
+use Rattle.pdl_pathrules.proofs.Nth.{nth}
 
 pub returns-in-Some : goal.returns-in-Some
 returns-in-Some c =

@@ -2,9 +2,9 @@ use Rattle.std.proofs.Common.{◌∙◌, sym, ap, ◌+◌, ◌<◌, ◌&&◌, ma
 use Rattle.std.proofs.lemmas.List.{length-map}
 use Rattle.pdl_rules.specs.Stages.{are_outer}
 use Rattle.pdl_paths.specs.Guards.{branch_view}
-use Rattle.pdl_textstages.proofs.Nth.{nth}
 use Rattle.pdl_textstages.proofs.Found.{longer, outer_here}
 use Rattle.pdl_textstages.proofs.branches.are_outer.Goals as goal
+use Rattle.pdl_pathrules.proofs.Nth.{nth}
 
 pub returns-then-outer-branches : goal.returns-then-outer-branches
 returns-then-outer-branches c =

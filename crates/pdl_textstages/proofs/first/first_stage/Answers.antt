@@ -1,9 +1,9 @@
 use Rattle.std.proofs.Common.{◌∙◌, sym, ap, map, get_or, Some, arith}
 use Rattle.pdl_paths.specs.Actions.{place_view}
 use Rattle.pdl_textstages.specs.Stages.{is_sought}
-use Rattle.pdl_textstages.proofs.Nth.{nth}
 use Rattle.pdl_textstages.proofs.Found.{stage_got, first_here, first_later}
 use Rattle.pdl_textstages.proofs.first.first_stage.Goals as goal
+use Rattle.pdl_pathrules.proofs.Nth.{nth}
 
 pub returns-then-is_of : goal.returns-then-is_of
 returns-then-is_of c =

@@ -2,9 +2,10 @@ use Rattle.std.proofs.Common.{◌∙◌, ap, [], ◌∷◌, ◌++◌, map, take,
 use Rattle.pdl_rules.specs.Stages.{stage_in, stage_of}
 use Rattle.pdl_paths.specs.Actions.{place_view}
 use Rattle.pdl_paths.specs.Guards.{branch_view}
-use Rattle.pdl_textstages.proofs.Nth.{nth, viewed}
+use Rattle.pdl_textstages.proofs.Nth.{viewed}
 use Rattle.pdl_textstages.proofs.Found.{stages_more}
 use Rattle.pdl_textstages.proofs.stages.stages_of.Goals as goal
+use Rattle.pdl_pathrules.proofs.Nth.{nth}
 
 pub loop-k-preserved : goal.loop-k-preserved
 loop-k-preserved c =

@@ -3,10 +3,10 @@ use Rattle.pdl_kit.specs.declared.rule.Rule.TheVariants.{W1, W2, W3, W4, W5, W6}
 use Rattle.pdl_tree.specs.View.{pipe_view, mem_view, param_view}
 use Rattle.pdl_rules.specs.Refusal.{breaks}
 use Rattle.pdl_paths.specs.Actions.{place_view}
-use Rattle.pdl_textrules.proofs.Nth.{nth}
 use Rattle.pdl_textrules.proofs.More.{line_next}
 use Rattle.pdl_widths.specs.Rules.{AreFaults}
 use Rattle.pdl_widths.proofs.widths.with_place.Goals as goal
+use Rattle.pdl_pathrules.proofs.Nth.{nth}
 
 pub returns : goal.returns
 returns c =

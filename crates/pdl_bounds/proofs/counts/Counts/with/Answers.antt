@@ -1,9 +1,9 @@
 use Rattle.std.proofs.Common.{map}
 use Rattle.pdl_rules.specs.Limits.{is_statement, is_separator, is_memory, is_binding}
 use Rattle.pdl_paths.specs.Actions.{place_view}
-use Rattle.pdl_textrules.proofs.Nth.{nth}
 use Rattle.pdl_bounds.proofs.Counted.{count_next, count_below}
 use Rattle.pdl_bounds.proofs.counts.Counts.with.Goals as goal
+use Rattle.pdl_pathrules.proofs.Nth.{nth}
 
 pub one_more-requires : goal.one_more-requires
 one_more-requires c =

@@ -1,6 +1,7 @@
 use Rattle.std.proofs.Common.{◌≡◌, sym, ap, ◌∙◌, ◌++◌, [], ◌∷◌, arith}
-use Rattle.pdl_flat.proofs.Numbering.{pushed_there, pushed_new, is_some-mapped}
+use Rattle.pdl_flat.proofs.Numbering.{pushed_there, pushed_new}
 use Rattle.pdl_flat.proofs.vars.Vars.define.Goals as goal
+use Rattle.pdl_word.proofs.Lists.{is_some-mapped}
 
 pub invariant_of-self-then-is_some : goal.invariant_of-self-then-is_some
 invariant_of-self-then-is_some c =

@@ -3,11 +3,11 @@ use Rattle.pdl_tree.specs.View.{pipe_view}
 use Rattle.pdl_rules.specs.Places.{places, guards, on_path}
 use Rattle.pdl_paths.specs.Actions.{place_view}
 use Rattle.pdl_paths.specs.Masks.{path_of}
-use Rattle.pdl_textrules.proofs.Nth.{nth}
-use Rattle.pdl_textrules.proofs.Found.{one_place}
 use Rattle.pdl_names.specs.Ready.{given_on}
 use Rattle.pdl_names.proofs.Ungiven.{ungiven, late, missing_on, missing_nowhere, inside, same_item}
 use Rattle.pdl_names.proofs.early.Early.is_ungiven.Goals as goal
+use Rattle.pdl_pathrules.proofs.Nth.{nth}
+use Rattle.pdl_pathrules.proofs.Steps.{one_place}
 
 pub returns-then-d-self : goal.returns-then-d-self
 returns-then-d-self c u x first got = late (pipe_view c.args.self.now.pipe.now) (map place_view c.args.self.now.places.now) c.args.self.now.k c.args.d u x first c.if-d-self.true

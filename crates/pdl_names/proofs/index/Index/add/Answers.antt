@@ -1,9 +1,9 @@
 use Rattle.std.proofs.Common.{map}
 use Rattle.pdl_rules.specs.Names.{variable_at, memory_at, guess_at, name_at}
 use Rattle.pdl_paths.specs.Actions.{place_view}
-use Rattle.pdl_textrules.proofs.Nth.{nth}
 use Rattle.pdl_names.proofs.Firsts.{added_at}
 use Rattle.pdl_names.proofs.index.Index.add.Goals as goal
+use Rattle.pdl_pathrules.proofs.Nth.{nth}
 
 pub returns : goal.returns
 returns c =

@@ -5,11 +5,11 @@ use Rattle.pdl_rules.specs.Parts.{passes}
 use Rattle.pdl_rules.specs.Names.{name_at, is_taken_name}
 use Rattle.pdl_rules.specs.Refusal.{breaks}
 use Rattle.pdl_paths.specs.Actions.{place_view}
-use Rattle.pdl_textrules.proofs.Nth.{nth}
 use Rattle.pdl_textrules.proofs.More.{breaks_kth}
 use Rattle.pdl_names.specs.First.{comes_before}
 use Rattle.pdl_names.proofs.Firsts.{any_before}
 use Rattle.pdl_names.proofs.rules.TakenTextRule.breaks.Goals as goal
+use Rattle.pdl_pathrules.proofs.Nth.{nth}
 
 pub returns-in-Some : goal.returns-in-Some
 returns-in-Some c =

@@ -5,9 +5,9 @@ use Rattle.pdl_rules.specs.Parts.{passes}
 use Rattle.pdl_rules.specs.Names.{some_use, is_too_early}
 use Rattle.pdl_rules.specs.Refusal.{breaks}
 use Rattle.pdl_paths.specs.Actions.{place_view}
-use Rattle.pdl_textrules.proofs.Nth.{nth}
 use Rattle.pdl_textrules.proofs.More.{breaks_kth}
 use Rattle.pdl_names.proofs.rules.TooEarlyTextRule.breaks.Goals as goal
+use Rattle.pdl_pathrules.proofs.Nth.{nth}
 
 pub returns : goal.returns
 returns c =

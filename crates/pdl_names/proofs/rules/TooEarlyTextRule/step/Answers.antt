@@ -5,10 +5,10 @@ use Rattle.pdl_rules.specs.Places.{places, guards}
 use Rattle.pdl_paths.specs.Actions.{place_view}
 use Rattle.pdl_paths.specs.Masks.{IsMasked}
 use Rattle.pdl_paths.proofs.Distinct.{guards_distinct}
-use Rattle.pdl_textrules.proofs.Nth.{nth, take_next, taken_length}
 use Rattle.pdl_names.specs.Ready.{AreLast, AreMarked}
 use Rattle.pdl_names.proofs.Last.{all_kept, all_marked}
 use Rattle.pdl_names.proofs.rules.TooEarlyTextRule.step.Goals as goal
+use Rattle.pdl_pathrules.proofs.Nth.{nth, take_next, taken_length}
 
 pub separator_passed-requires : goal.separator_passed-requires
 separator_passed-requires c =

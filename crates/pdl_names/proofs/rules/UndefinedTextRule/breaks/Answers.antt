@@ -6,9 +6,9 @@ use Rattle.pdl_rules.specs.Places.{places}
 use Rattle.pdl_rules.specs.Names.{some_use, is_undefined}
 use Rattle.pdl_rules.specs.Refusal.{breaks}
 use Rattle.pdl_paths.specs.Actions.{place_view}
-use Rattle.pdl_textrules.proofs.Nth.{nth}
 use Rattle.pdl_textrules.proofs.More.{breaks_kth}
 use Rattle.pdl_names.proofs.rules.UndefinedTextRule.breaks.Goals as goal
+use Rattle.pdl_pathrules.proofs.Nth.{nth}
 
 pub returns-then-names_another_pipe : goal.returns-then-names_another_pipe
 returns-then-names_another_pipe c =

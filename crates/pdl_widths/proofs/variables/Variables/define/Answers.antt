@@ -2,8 +2,9 @@ use Rattle.std.proofs.Common.{ap, sym, ◌∙◌}
 use Rattle.indexmap.specs.IndexMap.{insert_entry}
 use Rattle.std.proofs.Common.{nat_eq}
 use Rattle.std.specs.Cmp.Lexicographic.{pointwise}
-use Rattle.pdl_widths.proofs.Entries.{with_variable-there, with_variable-new, is_some-mapped}
+use Rattle.pdl_widths.proofs.Entries.{with_variable-there, with_variable-new}
 use Rattle.pdl_widths.proofs.variables.Variables.define.Goals as goal
+use Rattle.pdl_word.proofs.Lists.{is_some-mapped}
 
 pub returns-then-is_some : goal.returns-then-is_some
 returns-then-is_some c =

@@ -3,9 +3,10 @@ use Rattle.std.specs.Prelude.{fold}
 use Rattle.pdl_tree.specs.View.{mem_view}
 use Rattle.pdl_rules.specs.Widths.{after_place}
 use Rattle.pdl_paths.specs.Actions.{place_view}
-use Rattle.pdl_textrules.proofs.Nth.{nth, all_taken}
+use Rattle.pdl_textrules.proofs.Nth.{all_taken}
 use Rattle.pdl_widths.proofs.Entries.{variables_next}
 use Rattle.pdl_widths.proofs.variables.Variables.of.Goals as goal
+use Rattle.pdl_pathrules.proofs.Nth.{nth}
 
 pub loop-k-preserved : goal.loop-k-preserved
 loop-k-preserved c =
