@@ -16,7 +16,7 @@ use Rattle.pdl_net.specs.Well.{Fits, AllFit, IsWell, IsWellPort}
 use Rattle.pdl_net.specs.Growth.{Grows, KeepsNets, Extends, ExtendsPorts}
 use Rattle.pdl_net.proofs.Signals.{keeps_nets_grown, signal_added}
 use Rattle.pdl_net.proofs.Well.{all_fit_added, all_fit_grown, port_stays, reg_stays, array_stays, KeepsParts, extends_kept, extends_ports_kept}
-use Rattle.pdl_build.specs.Change.{empty_circuit, with_cell, with_port, input_port, output_port}
+use Rattle.pdl_build.specs.Change.{with_cell, with_port, input_port, output_port}
 use Rattle.pdl_build.specs.Parts.{HasWidths}
 
 -- growth that adds no cell
@@ -42,17 +42,6 @@ get_pushed [] x y zero e = inr (cc)
 get_pushed [] x y (suc k) e = absurd (cc)
 get_pushed (z ∷ xs) x y zero e = inl e
 get_pushed (z ∷ xs) x y (suc k) e = get_pushed xs x y k e
-
-pub well_empty : IsWell empty_circuit
-well_empty = record {
-  ports = λ i p e. absurd (cc);
-  cells = tt;
-  regs = λ r l. absurd (omega arith);
-  arrays = λ m l. absurd (omega arith);
-}
-
-pub widths_empty : HasWidths empty_circuit [] []
-widths_empty = record { inputs = refl; count = refl; cells = λ k l. absurd (omega arith) }
 
 -- a cell
 

@@ -4,3 +4,4 @@ pub mod Widths
 pub mod Extensions
 pub mod Operators
 pub mod Equal
+pub mod Choices

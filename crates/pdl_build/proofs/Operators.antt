@@ -1,5 +1,5 @@
 -- The operators of the language as signals: their widths, bounds and values.
-use Rattle.std.proofs.Common.{◌≡◌, ℕ, ◌^◌, ◌<◌, ◌≤◌, refl, sym, subst, arith, lit≤}
+use Rattle.std.proofs.Common.{◌≡◌, ℕ, ◌^◌, ◌<◌, ◌≤◌, refl, sym, arith, lit≤}
 use Rattle.pdl_semantics.specs.Tree.{BinaryOp, Add, Sub, Mul, And, Or, Xor, Equal, Differ, Less, ShiftLeft, ShiftRight}
 use Rattle.pdl_semantics.specs.Flatten.{op_width}
 use Rattle.pdl_semantics.specs.Flat.{applied}
@@ -10,6 +10,7 @@ use Rattle.pdl_net.specs.Well.{IsBounded}
 use Rattle.pdl_net.specs.Circuit.{State}
 use Rattle.pdl_net.specs.Signal.{Signal, bin_signal, bin_width, bin_word, const_value, bin_value}
 use Rattle.pdl_build.specs.Operators.{op_of, raised_signal}
+use Rattle.pdl_word.proofs.Numbers.{as_wide}
 
 -- WIDTHS
 
@@ -27,10 +28,6 @@ op_widths ShiftLeft w = refl
 op_widths ShiftRight w = refl
 
 -- BOUNDS
-
--- the same number, below a power of an equal width
-pub as_wide : (v m n : ℕ) → m ≡ n → v < 2 ^ m → v < 2 ^ n
-as_wide v m n e h = let P : ℕ → Type 0 = λ w. v < 2 ^ w in subst P e h
 
 pub op_bounded : (s : State) (op : BinaryOp) (a b : Signal) → a.width ≡ b.width → IsBounded s a → IsBounded s b → IsBounded s (bin_signal (op_of op) a b)
 unfolding bin_value

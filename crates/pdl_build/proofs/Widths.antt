@@ -1,7 +1,7 @@
 -- The widths of nets, as the builder keeps them beside its circuit.
-use Rattle.std.proofs.Common.{◌≡◌, ℕ, zero, suc, ◌+◌, ◌-◌, ◌^◌, ◌<◌, List, [], ◌∷◌, map, length, get_or, refl, sym, ap, ◌∙◌, subst, arith}
+use Rattle.std.proofs.Common.{◌≡◌, ℕ, zero, ◌+◌, ◌-◌, ◌^◌, ◌<◌, List, [], ◌∷◌, map, length, get_or, refl, sym, ap, ◌∙◌, subst, arith, replicate}
 use Rattle.std.specs.Prelude.{slice_index, slice_index_or}
-use Rattle.std.proofs.lemmas.List.{get_or-map, length-map}
+use Rattle.std.proofs.lemmas.List.{get_or-map, length-map, length-replicate}
 use Rattle.std.proofs.lemmas.Nat.{pow_pos}
 use Rattle.pdl_net.specs.declared.Net.{Net}
 use Rattle.pdl_net.specs.declared.Net.TheVariants.{Input, Reg as RegNet, Cell as CellNet}
@@ -14,6 +14,8 @@ use Rattle.pdl_net.specs.Meaning.{IsThere, signal}
 use Rattle.pdl_net.specs.Well.{Fits, IsWell, IsWidth, Suits}
 use Rattle.pdl_net.proofs.Bounds.{bounded}
 use Rattle.pdl_build.specs.Parts.{HasWidths}
+use Rattle.pdl_net.proofs.Widths.{there_reg}
+use Rattle.pdl_word.proofs.Lists.{zeros_at}
 
 -- `c` is the circuit of the fields, `v` the same as callers see it, and `x` is the net that is asked for
 there_as : (c v : Circuit) (x y : Net) → c ≡ v → x ≡ y → IsThere v x → IsThere c y
@@ -29,10 +31,6 @@ input_below c ins ws i h t = let n = ap length h.inputs in omega (arith, n)
 input_width : (c : Circuit) (ins ws : List ℕ) (i : ℕ) → HasWidths c ins ws → get_or ins i 0 ≡ (signal c (Input i)).width
 unfolding signal
 input_width c ins ws i h = ap (λ l. get_or l i 0) h.inputs
-
-reg_below : (c : Circuit) (r : ℕ) → IsThere c (RegNet r) → r < length c.regs
-unfolding IsThere
-reg_below c r t = t
 
 reg_width : (c : Circuit) (r : ℕ) → (reg_at c r).width ≡ (signal c (RegNet r)).width
 unfolding signal
@@ -50,7 +48,7 @@ pub input_in : (c v : Circuit) (ins ws : List ℕ) (x : Net) (i : ℕ) → HasWi
 input_in c v ins ws x i h e f t = input_below c ins ws i h (there_as c v x (Input i) e f t)
 
 pub reg_in : (c v : Circuit) (x : Net) (r : ℕ) → c ≡ v → x ≡ RegNet r → IsThere v x → r < length c.regs
-reg_in c v x r e f t = reg_below c r (there_as c v x (RegNet r) e f t)
+reg_in c v x r e f t = there_reg c r (there_as c v x (RegNet r) e f t)
 
 pub cell_in : (c v : Circuit) (ins ws : List ℕ) (x : Net) (k : ℕ) → HasWidths c ins ws → c ≡ v → x ≡ CellNet k → IsThere v x → k < length ws
 cell_in c v ins ws x k h e f t = cell_below c ins ws k h (there_as c v x (CellNet k) e f t)
@@ -65,35 +63,22 @@ pub cell_is : (c v : Circuit) (ins ws : List ℕ) (x : Net) (k : ℕ) → HasWid
 cell_is c v ins ws x k h e f t = cell_width c ins ws k h (there_as c v x (CellNet k) e f t) ∙ width_as c v x (CellNet k) e f
 
 -- a state in which all is 0
-abbrev zeros : ℕ → List ℕ
-zeros zero = []
-zeros (suc n) = 0 ∷ zeros n
-
-zeros_length : (n : ℕ) → length (zeros n) ≡ n
-zeros_length zero = refl
-zeros_length (suc n) = ap suc (zeros_length n)
-
-zeros_at : (n k : ℕ) → get_or (zeros n) k 0 ≡ 0
-zeros_at zero k = refl
-zeros_at (suc n) zero = refl
-zeros_at (suc n) (suc k) = zeros_at n k
-
 abbrev nothing : Circuit → State
-nothing c = record { inputs = map (λ (w : ℕ). zero) (inputs_of c); regs = map (λ (r : Reg). zero) c.regs; arrays = map (λ (a : Array). zeros a.depth) c.arrays }
+nothing c = record { inputs = map (λ (w : ℕ). zero) (inputs_of c); regs = map (λ (r : Reg). zero) c.regs; arrays = map (λ (a : Array). replicate a.depth 0) c.arrays }
 
 zero_fits : (v w : ℕ) → v ≡ 0 → v < 2 ^ w
 zero_fits v w e = omega (arith, e, pow_pos w)
 
 nothing_suits : (c : Circuit) → Suits c (nothing c)
 nothing_suits c =
-    let at = λ (m : ℕ) (h : m < length c.arrays). get_or-map (λ (a : Array). zeros a.depth) c.arrays m no_array [] h in
+    let at = λ (m : ℕ) (h : m < length c.arrays). get_or-map (λ (a : Array). replicate a.depth 0) c.arrays m no_array [] h in
     record {
       input_count = length-map (inputs_of c) (λ (w : ℕ). zero);
       inputs = λ i h. zero_fits (slice_index (nothing c).inputs i) (slice_index (inputs_of c) i) (get_or-map (λ (w : ℕ). zero) (inputs_of c) i 0 0 h);
       reg_count = length-map c.regs (λ (r : Reg). zero);
       regs = λ r h. zero_fits (slice_index (nothing c).regs r) (reg_at c r).width (get_or-map (λ (g : Reg). zero) c.regs r no_reg 0 h);
-      array_count = length-map c.arrays (λ (a : Array). zeros a.depth);
-      depth = λ m h. ap length (at m h) ∙ zeros_length (array_at c m).depth;
+      array_count = length-map c.arrays (λ (a : Array). replicate a.depth 0);
+      depth = λ m h. ap length (at m h) ∙ length-replicate {A = ℕ} (array_at c m).depth 0;
       words = λ m h a. zero_fits (slice_index (slice_index_or (nothing c).arrays m []) a) (array_at c m).width (ap (λ l. get_or l a 0) (at m h) ∙ zeros_at (array_at c m).depth a);
     }
 

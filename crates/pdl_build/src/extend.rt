@@ -17,7 +17,8 @@ impl Builder {
         requires there { IsThere self.old a }
         requires wider { (signal self.old a).width ≤ width }
         requires high { width ≤ 64 }
-        ensures means { IfOk result (λ x. Means self.new x (zext_signal width (signal self.old a))) }
+        ensures means { IfOk result (λ x.
+            Means self.new x (zext_signal width (signal self.old a))) }
         ensures extends { Extends self.old self.new }
         ensures regs { self.new.regs ≡ self.old.regs }
     {
@@ -35,7 +36,8 @@ impl Builder {
         requires there { IsThere self.old a }
         requires wider { (signal self.old a).width ≤ width }
         requires high { width ≤ 64 }
-        ensures means { IfOk result (λ x. Means self.new x (sext_signal width (signal self.old a))) }
+        ensures means { IfOk result (λ x.
+            Means self.new x (sext_signal width (signal self.old a))) }
         ensures extends { Extends self.old self.new }
         ensures regs { self.new.regs ≡ self.old.regs }
     {
@@ -54,7 +56,9 @@ impl Builder {
         requires a_there { IsThere self.old a }
         requires b_there { IsThere self.old b }
         requires widths { (signal self.old a).width ≡ (signal self.old b).width }
-        ensures means { IfOk result (λ x. Means self.new x (bin_signal net_op.Lt (raised_signal (signal self.old a)) (raised_signal (signal self.old b)))) }
+        ensures means { IfOk result (λ x.
+            Means self.new x (bin_signal net_op.Lt (raised_signal (signal self.old a))
+            (raised_signal (signal self.old b)))) }
         ensures extends { Extends self.old self.new }
         ensures regs { self.new.regs ≡ self.old.regs }
     {

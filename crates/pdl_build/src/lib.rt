@@ -10,7 +10,7 @@ mod tests;
 
 ghost use Rattle.std.specs.Prelude.{◌≡◌, ℕ, ◌+◌, ◌*◌, ◌^◌, ◌<◌, ◌≤◌, [], ◌∷◌, ◌++◌, length, IfOk, IfSome, OnOk, OnErr};
 ghost use Rattle.pdl_net.specs.Circuit.{circuit_of, inputs_of, outputs_of, array_at, HasReg, reg_width, HasArray, array_width, array_depth};
-ghost use Rattle.pdl_net.specs.Signal.{input_signal, const_signal, not_signal, bin_signal, mux_signal, slice_signal, cat_signal, rep_signal, read_signal, bin_width as op_width};
+ghost use Rattle.pdl_net.specs.Signal.{input_signal, const_signal, const_value, not_signal, bin_signal, mux_signal, slice_signal, cat_signal, rep_signal, read_signal, bin_width as op_width};
 ghost use Rattle.pdl_net.specs.Meaning.{IsThere, Means, signal, cell_signal, next_signal, write_signal, write_signals};
 ghost use Rattle.pdl_net.specs.Well.{Fits, IsWell, IsDepth};
 ghost use Rattle.pdl_net.specs.Growth.{Extends, ExtendsBut, ExtendsPorts, ExtendsArrays};
@@ -19,7 +19,7 @@ ghost use Rattle.pdl_build.specs.Change.{empty_circuit, with_cell, with_port, in
 use indexmap::IndexMap;
 use pdl_kit::{MemInfo, Name, NoMemory, Seq};
 use pdl_net::{Array, BinOp, Cell, Dir, Net, Netlist, Port, Reg, WritePort};
-use same::is_same_cell;
+use same::{is_same_cell, is_same_net};
 use std::alloc::Global;
 use std::marker::Model;
 
@@ -111,8 +111,10 @@ impl Builder {
         requires high { width ≤ 64 }
         ensures exact { OnOk result (self.new ≡ with_port self.old (input_port name.now width)) }
         ensures place { IfOk result (λ x. x ≡ Net.Input (length (inputs_of self.old))) }
-        ensures means { IfOk result (λ x. Means self.new x (input_signal width (length (inputs_of self.old)))) }
-        ensures extends { OnOk result (ExtendsPorts self.old self.new (input_port name.now width ∷ [])) }
+        ensures means { IfOk result (λ x.
+            Means self.new x (input_signal width (length (inputs_of self.old)))) }
+        ensures extends { OnOk result (ExtendsPorts self.old self.new
+            (input_port name.now width ∷ [])) }
         ensures err { OnErr result (self.new ≡ self.old) }
     {
         let at = self.input_widths.len();
@@ -129,9 +131,11 @@ impl Builder {
     /// One more output, which shows a net; its number counts the outputs from 0.
     pub fn output(&mut self, name: &Name, net: Net) -> Result<usize, NoMemory>
         requires { IsThere self.old net }
-        ensures exact { OnOk result (self.new ≡ with_port self.old (output_port self.old name.now net)) }
+        ensures exact { OnOk result (self.new
+            ≡ with_port self.old (output_port self.old name.now net)) }
         ensures place { IfOk result (λ k. k ≡ length (outputs_of self.old)) }
-        ensures extends { OnOk result (ExtendsPorts self.old self.new (output_port self.old name.now net ∷ [])) }
+        ensures extends { OnOk result (ExtendsPorts self.old self.new
+            (output_port self.old name.now net ∷ [])) }
         ensures err { OnErr result (self.new ≡ self.old) }
     {
         let at = self.ports.len() - self.input_widths.len();
@@ -177,7 +181,8 @@ impl Builder {
         ensures exact { OnOk result (self.new ≡ with_array self.old name.now width depth) }
         ensures place { IfOk result (λ m. m ≡ length self.old.arrays) }
         ensures has { IfOk result (λ m. IsNewArray self.new m width depth) }
-        ensures extends { OnOk result (ExtendsArrays self.old self.new (new_shape name.now width depth ∷ [])) }
+        ensures extends { OnOk result (ExtendsArrays self.old self.new
+            (new_shape name.now width depth ∷ [])) }
         ensures err { OnErr result (self.new ≡ self.old) }
     {
         let at = self.arrays.len();
@@ -207,9 +212,12 @@ impl Builder {
         requires enable_one { (signal self.old enable).width ≡ 1 }
         requires addr_reach { 2 ^ (signal self.old addr).width ≡ array_depth self.old array }
         requires value_width { (signal self.old value).width ≡ array_width self.old array }
-        ensures exact { OnOk result (self.new ≡ with_write self.old array (write_port enable addr value)) }
+        ensures exact { OnOk result (self.new
+            ≡ with_write self.old array (write_port enable addr value)) }
         ensures place { IfOk result (λ k. k ≡ length (array_at self.old array).writes) }
-        ensures writes { OnOk result (write_signals self.new array ≡ write_signals self.old array ++ write_signal self.old (write_port enable addr value) ∷ []) }
+        ensures writes { OnOk result (write_signals self.new array
+            ≡ write_signals self.old array ++ write_signal self.old
+            (write_port enable addr value) ∷ []) }
         ensures extends { ExtendsBut (one_array array) self.old self.new }
         ensures err { OnErr result (self.new ≡ self.old) }
     {
@@ -228,7 +236,8 @@ impl Builder {
         requires { Fits self.old cell }
         ensures exact { OnOk result (self.new ≡ with_cell self.old cell) }
         ensures place { IfOk result (λ x. x ≡ Net.Cell (length self.old.cells)) }
-        ensures means { IfOk result (λ x. Means self.new x (cell_signal self.old (signal self.old) cell)) }
+        ensures means { IfOk result (λ x.
+            Means self.new x (cell_signal self.old (signal self.old) cell)) }
         ensures extends { Extends self.old self.new }
         ensures regs { self.new.regs ≡ self.old.regs }
         ensures err { OnErr result (self.new ≡ self.old) }
@@ -247,7 +256,8 @@ impl Builder {
 
     /// The net of an equal cell, where one is known.
     fn equal(&self, cell: Cell) -> Option<Net>
-        ensures { IfSome result (λ x. Means self.now x (cell_signal self.now (signal self.now) cell)) }
+        ensures { IfSome result (λ x. Means self.now x
+            (cell_signal self.now (signal self.now) cell)) }
     {
         let at = *self.places.get(&cell)?;
         if at < self.cells.len() && is_same_cell(self.cells[at], cell) {
@@ -260,7 +270,8 @@ impl Builder {
     /// The net of an equal cell, where one is known, else of one more cell.
     fn once(&mut self, cell: Cell) -> Result<Net, NoMemory>
         requires { Fits self.old cell }
-        ensures means { IfOk result (λ x. Means self.new x (cell_signal self.old (signal self.old) cell)) }
+        ensures means { IfOk result (λ x.
+            Means self.new x (cell_signal self.old (signal self.old) cell)) }
         ensures extends { Extends self.old self.new }
         ensures regs { self.new.regs ≡ self.old.regs }
     {
@@ -269,6 +280,40 @@ impl Builder {
         }
         self.places.insert(cell, self.cells.len())?;
         self.cell(cell)
+    }
+
+    /// The value of a net that is a constant, none of any other net.
+    fn constant_of(&self, net: Net) -> Option<u64>
+        requires { IsThere self.now net }
+        ensures { IfSome result (λ v. (signal self.now net).value ≡ const_value v) }
+    {
+        match net {
+            Net::Cell(k) => match self.cells[k] {
+                Cell::Const { value, .. } => Some(value),
+                _ => None,
+            },
+            _ => None,
+        }
+    }
+
+    /// The arm that a choice takes, where that is known without a cell: both are one net, or the choice is a constant.
+    #[tactic(auto, using(crate::proofs::Choices::same_arm, crate::proofs::Choices::first_arm, crate::proofs::Choices::second_arm))]
+    fn known_arm(&self, choice: Net, a: Net, b: Net) -> Option<Net>
+        requires choice_there { IsThere self.now choice }
+        requires a_there { IsThere self.now a }
+        requires b_there { IsThere self.now b }
+        requires widths { (signal self.now a).width ≡ (signal self.now b).width }
+        ensures { IfSome result (λ x. Means self.now x
+            (mux_signal (signal self.now choice) (signal self.now a) (signal self.now b))) }
+    {
+        if is_same_net(a, b) {
+            return Some(a);
+        }
+        match self.constant_of(choice) {
+            Some(1) => Some(a),
+            Some(_) => Some(b),
+            None => None,
+        }
     }
 
     /// The whole netlist, with its name and the memories of its pipe.
@@ -315,24 +360,30 @@ impl Builder {
         requires a_there { IsThere self.old a }
         requires b_there { IsThere self.old b }
         requires widths { (signal self.old a).width ≡ (signal self.old b).width }
-        ensures means { IfOk result (λ x. Means self.new x (bin_signal op (signal self.old a) (signal self.old b))) }
+        ensures means { IfOk result (λ x.
+            Means self.new x (bin_signal op (signal self.old a) (signal self.old b))) }
         ensures extends { Extends self.old self.new }
         ensures regs { self.new.regs ≡ self.old.regs }
     {
         self.once(Cell::Bin(op, a, b))
     }
 
-    /// The net `a` where `choice`, of 1 bit, is 1, else `b`.
+    /// The net `a` where `choice`, of 1 bit, is 1, else `b`; no cell is made where the choice is a constant or both are one net.
     pub fn mux(&mut self, choice: Net, a: Net, b: Net) -> Result<Net, NoMemory>
         requires choice_there { IsThere self.old choice }
         requires a_there { IsThere self.old a }
         requires b_there { IsThere self.old b }
         requires one { (signal self.old choice).width ≡ 1 }
         requires widths { (signal self.old a).width ≡ (signal self.old b).width }
-        ensures means { IfOk result (λ x. Means self.new x (mux_signal (signal self.old choice) (signal self.old a) (signal self.old b))) }
+        ensures means { IfOk result (λ x.
+            Means self.new x (mux_signal (signal self.old choice) (signal self.old a)
+            (signal self.old b))) }
         ensures extends { Extends self.old self.new }
         ensures regs { self.new.regs ≡ self.old.regs }
     {
+        if let Some(arm) = self.known_arm(choice, a, b) {
+            return Ok(arm);
+        }
         self.once(Cell::Mux(choice, a, b))
     }
 
@@ -341,7 +392,8 @@ impl Builder {
         requires a_there { IsThere self.old a }
         requires order { low ≤ high }
         requires top { high < (signal self.old a).width }
-        ensures means { IfOk result (λ x. Means self.new x (slice_signal high low (signal self.old a))) }
+        ensures means { IfOk result (λ x.
+            Means self.new x (slice_signal high low (signal self.old a))) }
         ensures extends { Extends self.old self.new }
         ensures regs { self.new.regs ≡ self.old.regs }
     {
@@ -353,7 +405,8 @@ impl Builder {
         requires a_there { IsThere self.old a }
         requires b_there { IsThere self.old b }
         requires widths { (signal self.old a).width + (signal self.old b).width ≤ 64 }
-        ensures means { IfOk result (λ x. Means self.new x (cat_signal (signal self.old a) (signal self.old b))) }
+        ensures means { IfOk result (λ x.
+            Means self.new x (cat_signal (signal self.old a) (signal self.old b))) }
         ensures extends { Extends self.old self.new }
         ensures regs { self.new.regs ≡ self.old.regs }
     {
@@ -377,7 +430,9 @@ impl Builder {
         requires has { HasArray self.old array }
         requires addr_there { IsThere self.old addr }
         requires reach { 2 ^ (signal self.old addr).width ≡ array_depth self.old array }
-        ensures means { IfOk result (λ x. Means self.new x (read_signal (array_width self.old array) array (signal self.old addr))) }
+        ensures means { IfOk result (λ x.
+            Means self.new x (read_signal (array_width self.old array) array
+            (signal self.old addr))) }
         ensures extends { Extends self.old self.new }
         ensures regs { self.new.regs ≡ self.old.regs }
     {
@@ -387,7 +442,8 @@ impl Builder {
 
 /// One more port.
 fn push_port(ports: &mut Vec<Port>, name: &Name, width: u8, dir: Dir) -> Result<(), NoMemory>
-    ensures ok { OnOk result (ports.new.items ≡ ports.old.items ++ record { name = name.now; width = width; dir = dir } ∷ []) }
+    ensures ok { OnOk result (ports.new.items
+        ≡ ports.old.items ++ record { name = name.now; width = width; dir = dir } ∷ []) }
     ensures err { OnErr result (ports.new.items ≡ ports.old.items) }
 {
     let name = name.clone()?;

@@ -4,7 +4,7 @@ ghost use Rattle.std.specs.Prelude.{◌≡◌, IsTrue};
 use pdl_net::{BinOp, Cell, Net};
 
 /// Whether two nets are one.
-fn is_same_net(a: Net, b: Net) -> bool
+pub fn is_same_net(a: Net, b: Net) -> bool
     ensures { IsTrue result → a ≡ b }
 {
     match (a, b) {

@@ -17,16 +17,21 @@ fn equal_cells(rt: HostRuntime) -> Result<(), Fail> {
     Ok(())
 }
 
-/// A choice, and a part of a net.
+/// A choice, which costs no cell where it is known, and a part of a net.
 #[test]
 fn parts(rt: HostRuntime) -> Result<(), Fail> {
     let mut b = Builder::new(rt.alloc());
-    let x = b.constant(1, 1)?;
-    let picked = b.mux(x, x, x)?;
-    assert_eq!(rt; picked, Net::Cell(1));
+    let one = b.constant(1, 1)?;
     let x = b.constant(8, 5)?;
-    let low = b.slice(x, 3, 0)?;
-    assert_eq!(rt; b.width(low), 4);
+    let y = b.constant(8, 6)?;
+    let known = b.mux(one, x, y)?;
+    assert_eq!(rt; known, x);
+    let low = b.slice(x, 0, 0)?;
+    assert_eq!(rt; b.width(low), 1);
+    let same = b.mux(low, y, y)?;
+    assert_eq!(rt; same, y);
+    let picked = b.mux(low, x, y)?;
+    assert_eq!(rt; picked, Net::Cell(4));
     Ok(())
 }
 

@@ -11,12 +11,13 @@ use Rattle.pdl_net.specs.Signal.{Signal, const_value, not_value, bin_value, mux_
 use Rattle.pdl_net.specs.Meaning.{signal, Means}
 use Rattle.pdl_build.specs.Operators.{zext_signal, sext_signal, raised_signal}
 use Rattle.pdl_build.proofs.Extensions.{zext_width, sext_width, zext_value, sext_value}
-use Rattle.pdl_build.proofs.Operators.{as_wide, op_bounded, bounded_at, op_value, lts_value}
+use Rattle.pdl_build.proofs.Operators.{op_bounded, bounded_at, op_value, lts_value}
 use Rattle.pdl_flatnets.specs.Nets.{signal_at, widths_of}
 use Rattle.pdl_formtypes.specs.Exprs.{IsTyped}
 use Rattle.pdl_flatnets.specs.Values.{value_signal, values_in, AreBounded, IsValue}
 use Rattle.pdl_flatnets.proofs.NetLists.{width_at, length_widths}
 use Rattle.pdl_flatnets.proofs.Operands.{value_width}
+use Rattle.pdl_word.proofs.Numbers.{as_wide}
 
 -- BOUNDS
 

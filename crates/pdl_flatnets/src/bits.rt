@@ -1,4 +1,4 @@
-// Nets that never change, and choices that cost no cell where they are known.
+// Nets that never change, and what they decide.
 ghost use Rattle.std.specs.Prelude.{◌≡◌, IsTrue, IfOk};
 ghost use Rattle.pdl_net.specs.Signal.{mux_signal};
 ghost use Rattle.pdl_net.specs.Meaning.{IsThere, Means, signal};
@@ -40,8 +40,7 @@ impl Bits {
         Ok(Bits { one, zero })
     }
 
-    /// The net `x` where `choice`, of 1 bit, is 1, else `y`; no cell is made where the choice is constant or both are one net.
-    #[tactic(auto, using(crate::proofs::Picks::pick_one, crate::proofs::Picks::pick_zero, crate::proofs::Picks::pick_same))]
+    /// The net `x` where `choice`, of 1 bit, is 1, else `y`.
     pub fn pick(self, b: &mut Builder, choice: Net, x: Net, y: Net) -> Result<Net, NoMemory>
         requires bits { AreBits b.old self }
         requires choice { IsThere b.old choice }
@@ -49,19 +48,11 @@ impl Bits {
         requires x_there { IsThere b.old x }
         requires y_there { IsThere b.old y }
         requires widths { (signal b.old x).width ≡ (signal b.old y).width }
-        ensures means { IfOk result (λ z. Means b.new z (mux_signal (signal b.old choice) (signal b.old x) (signal b.old y))) }
+        ensures means { IfOk result (λ z.
+            Means b.new z (mux_signal (signal b.old choice) (signal b.old x) (signal b.old y))) }
         ensures extends { Extends b.old b.new }
         ensures regs { b.new.regs ≡ b.old.regs }
     {
-        if are_same(choice, self.one) {
-            return Ok(x);
-        }
-        if are_same(choice, self.zero) {
-            return Ok(y);
-        }
-        if are_same(x, y) {
-            return Ok(x);
-        }
         b.mux(choice, x, y)
     }
 

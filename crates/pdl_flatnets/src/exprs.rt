@@ -52,7 +52,8 @@ fn sliced(b: &mut Builder, vars: &[Net], x: usize, high: u8, low: u8) -> Result<
     requires below { x < length vars.now }
     requires order { low ≤ high }
     requires top { high < (signal_at (signals_in b.old vars.now) x).width }
-    ensures means { IfOk result (λ y. Means b.new y (slice_signal high low (signal_at (signals_in b.old vars.now) x))) }
+    ensures means { IfOk result (λ y.
+        Means b.new y (slice_signal high low (signal_at (signals_in b.old vars.now) x))) }
     ensures extends { Extends b.old b.new }
     ensures regs { b.new.regs ≡ b.old.regs }
 {
@@ -64,7 +65,8 @@ fn sliced(b: &mut Builder, vars: &[Net], x: usize, high: u8, low: u8) -> Result<
 fn expr_net(b: &mut Builder, vars: &[Net], e: &Expr) -> Result<Net, NoMemory>
     requires there { NetsThere b.old vars.now }
     requires typed { IsTyped (widths_of (signals_in b.old vars.now)) (expr_view e.now) }
-    ensures means { IfOk result (λ x. Means b.new x (value_signal (signals_in b.old vars.now) (expr_view e.now))) }
+    ensures means { IfOk result (λ x.
+        Means b.new x (value_signal (signals_in b.old vars.now) (expr_view e.now))) }
     ensures extends { Extends b.old b.new }
     ensures regs { b.new.regs ≡ b.old.regs }
 {
@@ -115,8 +117,10 @@ fn expr_net(b: &mut Builder, vars: &[Net], e: &Expr) -> Result<Net, NoMemory>
 pub fn value(b: &mut Builder, vars: &[Net], e: &Expr) -> Result<Net, NoMemory>
     requires there { NetsThere b.old vars.now }
     requires typed { IsTyped (widths_of (signals_in b.old vars.now)) (expr_view e.now) }
-    ensures means { IfOk result (λ x. Means b.new x (value_signal (signals_in b.old vars.now) (expr_view e.now))) }
-    ensures value { IfOk result (λ x. IsValue (signals_in b.old vars.now) (expr_view e.now) (signal b.new x)) }
+    ensures means { IfOk result (λ x.
+        Means b.new x (value_signal (signals_in b.old vars.now) (expr_view e.now))) }
+    ensures value { IfOk result (λ x.
+        IsValue (signals_in b.old vars.now) (expr_view e.now) (signal b.new x)) }
     ensures extends { Extends b.old b.new }
     ensures regs { b.new.regs ≡ b.old.regs }
 {
@@ -133,7 +137,8 @@ pub fn values(
     requires there { NetsThere b.old vars.now }
     requires typed { AreTyped (widths_of (signals_in b.old vars.now)) (exprs_view es.now) }
     ensures there { IfOk result (λ xs. NetsThere b.new xs) }
-    ensures means { IfOk result (λ xs. signals_in b.new xs ≡ value_signals (signals_in b.old vars.now) (exprs_view es.now)) }
+    ensures means { IfOk result (λ xs.
+        signals_in b.new xs ≡ value_signals (signals_in b.old vars.now) (exprs_view es.now)) }
     ensures extends { Extends b.old b.new }
     ensures regs { b.new.regs ≡ b.old.regs }
 {

@@ -33,7 +33,9 @@ fn and_taken(bits: Bits, b: &mut Builder, vars: &[Net], on: Net, g: &Guard) -> R
     requires on_one { (signal b.old on).width ≡ 1 }
     requires low { g.now.var < length vars.now }
     requires one { (signal_at (signals_in b.old vars.now) g.now.var).width ≡ 1 }
-    ensures means { IfOk result (λ y. Means b.new y (both (signal b.old on) (literal_signal g.now.first (signal_at (signals_in b.old vars.now) g.now.var)))) }
+    ensures means { IfOk result (λ y.
+        Means b.new y (both (signal b.old on)
+        (literal_signal g.now.first (signal_at (signals_in b.old vars.now) g.now.var)))) }
     ensures one { IfOk result (λ y. (signal b.new y).width ≡ 1) }
     ensures extends { Extends b.old b.new }
     ensures regs { b.new.regs ≡ b.old.regs }
@@ -48,7 +50,8 @@ pub fn taken(bits: Bits, b: &mut Builder, vars: &[Net], guards: &[Guard]) -> Res
     requires bits { AreBits b.old bits }
     requires there { NetsThere b.old vars.now }
     requires guards { AreGuards (widths_of (signals_in b.old vars.now)) (guards_view guards.now) }
-    ensures means { IfOk result (λ x. Means b.new x (taken_signal (signals_in b.old vars.now) (guards_view guards.now))) }
+    ensures means { IfOk result (λ x.
+        Means b.new x (taken_signal (signals_in b.old vars.now) (guards_view guards.now))) }
     ensures one { IfOk result (λ x. (signal b.new x).width ≡ 1) }
     ensures extends { Extends b.old b.new }
     ensures regs { b.new.regs ≡ b.old.regs }
