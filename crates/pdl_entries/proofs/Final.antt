@@ -7,7 +7,6 @@ use Rattle.pdl_net.specs.Meaning.{next_signal}
 use Rattle.pdl_net.specs.Growth.{Own}
 use Rattle.pdl_entries.specs.declared.layout.Content.TheVariants.{Value}
 use Rattle.pdl_word.specs.Words as words
-use Rattle.pdl_word.specs.Words.{bit}
 use Rattle.pdl_net.specs.Circuit.{Circuit, State}
 use Rattle.pdl_net.specs.Signal.{Signal, reg_value, const_value, bin_value, mux_value, mux_signal, const_signal}
 use Rattle.pdl_lockapi.specs.Lock.{Entry, LockState, Act, Proper, entry_at, or_zero, filled, released, squashed, committed, step, commit_addr, commit_value}
@@ -112,11 +111,6 @@ entries_left l v s x f a c =
 -- the numbers of the step: the next ticket, the base, and how many entries are left
 abbrev ticket_of_step : (t : Bool) (x : LockState) (a : Act) → ℕ
 ticket_of_step t x a = if t then a.tail else x.base + length x.entries + length a.reserves
-
-some_length : (ys : List ℕ) → length ys ≤ 1 → some ys ≡ length ys
-some_length [] h = refl
-some_length (y ∷ []) h = refl
-some_length (y ∷ z ∷ ys) h = absurd (omega (arith, h))
 
 pushed_number : (w n : ℕ) (ys : List ℕ) → length ys ≤ 1 → words.mux (some ys) (words.add w (n % 2 ^ w) 1) (n % 2 ^ w) ≡ (n + length ys) % 2 ^ w
 unfolding words.mux

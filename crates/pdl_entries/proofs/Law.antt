@@ -1,7 +1,7 @@
 -- What a step's nets make of the pending entries: values alone.
-use Rattle.std.proofs.Common.{◌≡◌, ◌≢◌, ℕ, zero, suc, ◌+◌, ◌-◌, ◌<◌, ◌≤◌, ◌⊎◌, inl, inr, List, [], ◌∷◌, ◌++◌, length, set, take, drop, refl, sym, ap, ◌∙◌, subst, arith, ⊎_elim, length-append, length-drop, length-take, length-set, ne_eqb, lt-ltb, le-ltb, get_or-take, get_or-set_same, get_or-set_other}
+use Rattle.std.proofs.Common.{◌≡◌, ◌≢◌, ℕ, ◌+◌, ◌-◌, ◌<◌, ◌≤◌, ◌⊎◌, List, [], ◌∷◌, ◌++◌, length, set, take, drop, refl, sym, ap, ◌∙◌, subst, arith, ⊎_elim, length-append, length-drop, length-take, length-set, ne_eqb, lt-ltb, le-ltb, get_or-take, get_or-set_same, get_or-set_other}
 use Rattle.std.specs.Prelude.{◌==◌, if◌then◌else◌, Bool, true, false, Some}
-use Rattle.std.proofs.lemmas.Bool.{cases_lt, cases_eq}
+use Rattle.std.proofs.lemmas.Bool.{cases_lt, cases_eq, cases_Bool}
 use Rattle.std.proofs.lemmas.List.{append-nil, get_or_append_left, get_or_push, get_or-drop}
 use Rattle.pdl_word.specs.Words as words
 use Rattle.pdl_word.specs.Words.{bit}
@@ -28,10 +28,6 @@ if_true t x y e = rw e refl
 
 pub if_false : {A : Type 0} (t : Bool) (x y : A) → t ≡ false → (if t then x else y) ≡ y
 if_false t x y e = rw e refl
-
-pub true_or_false : (t : Bool) → (t ≡ true) ⊎ (t ≡ false)
-true_or_false true = inl refl
-true_or_false false = inr refl
 
 -- what slots hold, but for their valid bits
 pub record HasContents (n : ℕ) (addr full value : ℕ → ℕ) (xs : List Entry) : Type 0 where
@@ -151,7 +147,7 @@ put_holds n base w A H X E xs i y z h =
     ⊎_elim
     (λ (o : w.on ≡ true). subst P (sym (if_true w.on _ xs o)) (set_holds n (w.ticket - base) w.value A H X E xs (i o) (λ k. y k o) h))
     (λ (o : w.on ≡ false). subst P (sym (if_false w.on _ xs o)) (none_holds n w.value A H X E xs (λ k l. z k l o) h))
-    (true_or_false w.on)
+    (cases_Bool w.on)
 
 pub written-push : (base : ℕ) (ws : List WriteAct) (w : WriteAct) (xs : List Entry) → written base (ws ++ w ∷ []) xs ≡ put base w (written base ws xs)
 written-push base [] w xs = refl
@@ -161,7 +157,7 @@ length-put : (base : ℕ) (w : WriteAct) (xs : List Entry) → length (put base 
 length-put base w xs = ⊎_elim
     (λ (o : w.on ≡ true). ap length (if_true w.on (set xs (w.ticket - base) (given (entry_at xs (w.ticket - base)) w.value)) xs o) ∙ length-set xs (w.ticket - base) _)
     (λ (o : w.on ≡ false). ap length (if_false w.on (set xs (w.ticket - base) (given (entry_at xs (w.ticket - base)) w.value)) xs o))
-    (true_or_false w.on)
+    (cases_Bool w.on)
 
 pub length-written : (base : ℕ) (ws : List WriteAct) (xs : List Entry) → length (written base ws xs) ≡ length xs
 length-written base [] xs = refl

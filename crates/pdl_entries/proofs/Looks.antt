@@ -3,8 +3,9 @@ use Rattle.std.proofs.Common.{◌≡◌, ℕ, zero, suc, ◌+◌, ◌-◌, ◌*�
 use Rattle.std.specs.Prelude.{slice_index_or}
 use Rattle.std.proofs.lemmas.List.{get_or-map}
 use Rattle.pdl_net.specs.Circuit.{Circuit}
+use Rattle.pdl_net.specs.declared.Net.{Net}
 use Rattle.pdl_net.specs.Signal.{Signal, reg_signal, const_signal, mux_signal}
-use Rattle.pdl_net.specs.Meaning.{signal}
+use Rattle.pdl_net.specs.Meaning.{signal, IsThere, Means}
 use Rattle.pdl_lockapi.specs.declared.LockPorts.{LockPorts}
 use Rattle.pdl_lockapi.specs.declared.ReservePort.{ReservePort}
 use Rattle.pdl_lockapi.specs.declared.Kind.{Kind}
@@ -12,7 +13,7 @@ use Rattle.pdl_lockapi.specs.declared.Kind.TheVariants.{R, W}
 use Rattle.pdl_lockapi.specs.Laws.{PortsFit, enabled, StepSignals, step_signals, reserve_at, reserve_signal, no_reserve}
 use Rattle.pdl_entries.specs.declared.layout.Layout.{Layout}
 use Rattle.pdl_entries.specs.Slots.{IsSized, valid_at, has_at}
-use Rattle.pdl_entries.specs.Looks.{hit_at, hit_signal, youngest_ready, youngest_value, picked, counted}
+use Rattle.pdl_entries.specs.Looks.{hit_at, hit_signal, youngest_ready, youngest_value, picked, net_by_kind, counted}
 use Rattle.pdl_entries.specs.Steps.{push_signal, push_addr}
 
 pub hit_none : (l : Layout) (a d : Signal) → hit_signal l a d 0 ≡ const_signal 1 0
@@ -74,6 +75,16 @@ youngest_width l w v o a d e f (suc k) = f k
 pub picked_width : (u : Kind) (f : Signal) → f.width ≡ 1 → (picked u f).width ≡ 1
 picked_width R f h = h
 picked_width W f h = refl
+
+-- a write waits for nothing
+pub picked_means : (c : Circuit) (u : Kind) (ready one : Net) → IsThere c ready → Means c one (const_signal 1 1) → Means c (net_by_kind u ready one) (picked u (signal c ready))
+picked_means c R ready one h i = record { there = h; same = refl }
+picked_means c W ready one h i = i
+
+-- a reservation for reading takes no entry
+pub taken_means : (c : Circuit) (u : Kind) (none enable : Net) → Means c none (const_signal 1 0) → IsThere c enable → Means c (net_by_kind u none enable) (enabled u (signal c enable))
+taken_means c R none enable h i = h
+taken_means c W none enable h i = record { there = i; same = refl }
 
 pub ruleset youngest = (ready_none, ready_more, ready_width, value_none, value_more)
 

@@ -1,6 +1,6 @@
 -- What the looks' nets say of the pending entries.
 use Rattle.std.proofs.Common.{◌≡◌, ℕ, zero, suc, ◌+◌, ◌-◌, ◌*◌, ◌%◌, ◌^◌, ◌<◌, ◌≤◌, List, [], ◌∷◌, ◌++◌, length, take, refl, sym, ap, ◌∙◌, add-one, arith, ⊎_elim, length-take, lt-ltb, le-ltb}
-use Rattle.std.specs.Prelude.{◌==◌, if◌then◌else◌, Bool, true, false, min, Option, Some, None, is_some, option_map, slice_index, slice_index_or}
+use Rattle.std.specs.Prelude.{◌==◌, if◌then◌else◌, Bool, true, false, min, Option, Some, None, option_map, slice_index, slice_index_or}
 use Rattle.std.proofs.lemmas.Bool.{cases_lt}
 use Rattle.std.proofs.lemmas.List.{take_more, get_or-take, take_all}
 use Rattle.pdl_word.specs.Words as words
@@ -15,6 +15,7 @@ use Rattle.pdl_entries.specs.declared.layout.Layout.{Layout}
 use Rattle.pdl_entries.specs.Slots.{IsSized, HasEntries, reg_of, valid_at, addr_at}
 use Rattle.pdl_entries.specs.Looks.{hit_signal, less_base, counted, next_number, room_signal, GivesWord}
 use Rattle.pdl_entries.proofs.Nums.{sub_held, sum_held}
+use Rattle.pdl_entries.proofs.Module.{some_number}
 
 -- 1 where an entry has the address
 abbrev pub taken : List Entry → ℕ → ℕ
@@ -96,11 +97,6 @@ less_value l g s x f t z h w from to e =
     ∙ ap (λ n. words.sub l.ticket (t % 2 ^ l.ticket) n) h.base
     ∙ sub_held l.ticket x.base t from (omega (arith, z.fits))
 
--- there is a word where there is an array
-number_of : (o : Option ℕ) → is_some o ≡ true → (m : ℕ) × (o ≡ Some m)
-number_of None h = absurd (cc h)
-number_of (Some m) h = (m, refl)
-
 words_of : (array : Option ℕ) (m : ℕ) (s : State) (ws : List ℕ) → array ≡ Some m → HasWords array s ws → slice_index_or s.arrays m [] ≡ ws
 words_of None m s ws e h = absurd (cc e)
 words_of (Some k) m s ws e h = let q : k ≡ m = cc e in ap (λ n. slice_index_or s.arrays n []) (sym q) ∙ h
@@ -109,7 +105,7 @@ pub word_given : (c : Circuit) (l : Layout) (a : Signal) (v : Option Net) (f : S
 unfolding read_value
 word_given c l a None f s ws g e h = absurd (cc e)
 word_given c l a (Some x) f s ws g e h =
-    let m = number_of l.array (sym g.some) in
+    let m = some_number l.array (sym g.some) in
     let q : signal c x ≡ f = cc e in
     ap (λ (n : Signal). n.value s) (sym q ∙ g.same m.0 x m.1 refl)
     ∙ ap (λ us. slice_index us (a.value s)) (words_of l.array m.0 s ws m.1 h)

@@ -12,7 +12,7 @@ use Rattle.pdl_lockapi.specs.Laws.{StepSignals, step_signals, ticket_at, ticket_
 use Rattle.pdl_entries.specs.declared.layout.Layout.{Layout}
 use Rattle.pdl_entries.specs.declared.layout.Content.TheVariants.{Value, Place}
 use Rattle.pdl_entries.specs.Slots.{valid_at, addr_at, has_at, value_at, content_signal}
-use Rattle.pdl_entries.specs.Steps.{content_after, slot_value, gated, fills, filled_bit, filled_value, ticket_after, base_after, left_signal, slot_addr, push_addr}
+use Rattle.pdl_entries.specs.Steps.{content_after, slot_value, fills, filled_bit, filled_value, ticket_after, base_after, left_signal, slot_addr, push_addr}
 
 pub ticket_is : (c : Circuit) (p : LockPorts) (k : ℕ) (q : TicketWrite) → k < length p.writes → slice_index_or p.writes k q ≡ q → ticket_at (step_signals c p).writes k ≡ ticket_signal c q
 unfolding step_signals
@@ -41,9 +41,6 @@ value_more l f v k j = ap (λ n. filled_value l f v k n) (add-one j)
 
 pub ruleset filling = (bit_none, bit_more, bit_width, value_none, value_more)
 
-pub gated_width : (l : Layout) (f : StepSignals) (j : ℕ) → (ticket_at f.writes j).ticket.width ≡ l.ticket → (gated l f j).width ≡ l.ticket
-gated_width l f j h = h
-
 pub squash_is : (c : Circuit) (p : LockPorts) → (step_signals c p).squash ≡ signal c p.squash
 unfolding step_signals
 squash_is c p = refl
@@ -70,10 +67,6 @@ base_width l f = refl
 pub left_is : (l : Layout) (f : StepSignals) → left_signal l f ≡ bin_signal Sub (ticket_after l f) (base_after l f)
 unfolding left_signal
 left_is l f = refl
-
-pub left_width : (l : Layout) (f : StepSignals) → f.tail.width ≡ l.ticket → (left_signal l f).width ≡ l.ticket
-unfolding left_signal
-left_width l f h = h
 
 pub ruleset afters = (squash_is, tail_is, reserves_count)
 

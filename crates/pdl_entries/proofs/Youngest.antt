@@ -63,7 +63,7 @@ unfolding words.mux
 mux_some true u v m n w p q e = p e
 mux_some false u v m n w p q e = q e
 
-mux_off : (m x y : ℕ) → m ≡ 0 → words.mux m x y ≡ y
+pub mux_off : (m x y : ℕ) → m ≡ 0 → words.mux m x y ≡ y
 unfolding words.mux
 mux_off m x y e = rw e refl
 

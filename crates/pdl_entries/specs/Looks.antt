@@ -55,6 +55,11 @@ abbrev pub picked : Kind → Signal → Signal
 picked R f = f
 picked W f = const_signal 1 1
 
+-- the first net for reading, the second for writing
+abbrev pub net_by_kind : Kind → Net → Net → Net
+net_by_kind R x y = x
+net_by_kind W x y = y
+
 -- what a look gives: the word of the array, where there is one
 pub record GivesWord (c : Circuit) (l : Layout) (a : Signal) (value : Option Net) : Type 0 where
   pub some : is_some value ≡ is_some l.array

@@ -3,14 +3,15 @@ ghost use Rattle.std.specs.Prelude.{◌≡◌, ℕ, [], ◌∷◌, ◌++◌, ◌
 ghost use Rattle.pdl_net.specs.Signal.{const_signal, mux_signal};
 ghost use Rattle.pdl_net.specs.Meaning.{IsThere, Means, signal};
 ghost use Rattle.pdl_net.specs.Growth.{Extends};
-ghost use Rattle.pdl_lockapi.specs.Laws.{PortsThere, PortsFit, step_signals, enabled, reserve_at, ticket_at};
+ghost use Rattle.pdl_lockapi.specs.Laws.{PortsThere, PortsFit, step_signals, reserve_at, ticket_at};
 ghost use Rattle.pdl_entries.specs.Slots.{IsSized, HasSlots, content_signal};
 ghost use Rattle.pdl_entries.specs.Steps.{gated, fills, filled_bit, filled_value, slot_bit, slot_value, push_signal, push_addr};
 
 use crate::layout::{Content, Layout};
+use crate::look::by_kind;
 use pdl_build::Builder;
 use pdl_kit::NoMemory;
-use pdl_lockapi::{Kind, LockPorts, ReservePort, TicketWrite};
+use pdl_lockapi::{LockPorts, ReservePort, TicketWrite};
 use pdl_net::{BinOp, Net};
 
 /// The reserve port of a number.
@@ -29,49 +30,39 @@ pub fn write_port(p: &LockPorts, j: usize) -> TicketWrite
     p.writes.as_slice()[j]
 }
 
-/// Whether a reservation takes an entry.
-#[tactic(auto)]
-fn takes(kind: Kind, enable: Net, zero: Net, _b: &Builder) -> Net
-    requires zero { Means _b.now zero (const_signal 1 0) }
-    requires there { IsThere _b.now enable }
-    ensures means { Means _b.now result (enabled kind (signal _b.now enable)) }
-{
-    match kind {
-        Kind::R => zero,
-        Kind::W => enable,
-    }
-}
-
-/// Whether reserve port k takes an entry, and its address, before what earlier ports gave.
-#[tactic(auto, using(crate::proofs::Looks::reserve_is, crate::proofs::Looks::reserve_width))]
+/// Whether reserve port k takes an entry, and its address, before what earlier ports gave; one for reading takes none.
+#[tactic(auto, using(crate::proofs::Looks::reserve_is, crate::proofs::Looks::reserve_width, crate::proofs::Looks::taken_means))]
 fn emit_take(
     b: &mut Builder,
     l: Layout,
     p: &LockPorts,
     k: usize,
-    push: Net,
-    addr: Net,
+    before: (Net, Net),
     one: Net,
     zero: Net,
 ) -> Result<(Net, Net), NoMemory>
     requires ports { PortsThere b.old p.now }
     requires fit { PortsFit b.old l.bits l.width l.ticket p.now }
     requires within { k < length p.now.reserves }
-    requires push_there { IsThere b.old push }
-    requires push_one { (signal b.old push).width ≡ 1 }
-    requires addr_there { IsThere b.old addr }
-    requires addr_width { (signal b.old addr).width ≡ l.bits }
+    requires push_there { IsThere b.old before.0 }
+    requires push_one { (signal b.old before.0).width ≡ 1 }
+    requires addr_there { IsThere b.old before.1 }
+    requires addr_width { (signal b.old before.1).width ≡ l.bits }
     requires one { Means b.old one (const_signal 1 1) }
     requires zero { Means b.old zero (const_signal 1 0) }
-    ensures push { IfOk result (λ x. Means b.new x.0 (mux_signal (reserve_at (step_signals b.old p.now).reserves k).enable (const_signal 1 1) (signal b.old push))) }
-    ensures addr { IfOk result (λ x. Means b.new x.1 (mux_signal (reserve_at (step_signals b.old p.now).reserves k).enable (reserve_at (step_signals b.old p.now).reserves k).addr (signal b.old addr))) }
+    ensures push { IfOk result (λ x.
+        Means b.new x.0 (mux_signal (reserve_at (step_signals b.old p.now).reserves k).enable
+        (const_signal 1 1) (signal b.old before.0))) }
+    ensures addr { IfOk result (λ x.
+        Means b.new x.1 (mux_signal (reserve_at (step_signals b.old p.now).reserves k).enable
+        (reserve_at (step_signals b.old p.now).reserves k).addr (signal b.old before.1))) }
     ensures addr_wide { IfOk result (λ x. (signal b.new x.1).width ≡ l.bits) }
     ensures extends { Extends b.old b.new }
 {
     let port = reserve_port(p, k);
-    let enable = takes(port.kind, port.enable, zero, b);
-    let push = b.mux(enable, one, push)?;
-    let addr = b.mux(enable, port.addr, addr)?;
+    let enable = by_kind(port.kind, zero, port.enable);
+    let push = b.mux(enable, one, before.0)?;
+    let addr = b.mux(enable, port.addr, before.1)?;
     Ok((push, addr))
 }
 
@@ -81,8 +72,10 @@ pub fn emit_push(b: &mut Builder, l: Layout, p: &LockPorts) -> Result<(Net, Net)
     requires sized { IsSized l }
     requires ports { PortsThere b.old p.now }
     requires fit { PortsFit b.old l.bits l.width l.ticket p.now }
-    ensures push { IfOk result (λ x. Means b.new x.0 (push_signal (step_signals b.old p.now) (length p.now.reserves))) }
-    ensures addr { IfOk result (λ x. Means b.new x.1 (push_addr l.bits (step_signals b.old p.now) (length p.now.reserves))) }
+    ensures push { IfOk result (λ x.
+        Means b.new x.0 (push_signal (step_signals b.old p.now) (length p.now.reserves))) }
+    ensures addr { IfOk result (λ x.
+        Means b.new x.1 (push_addr l.bits (step_signals b.old p.now) (length p.now.reserves))) }
     ensures addr_width { IfOk result (λ x. (signal b.new x.1).width ≡ l.bits) }
     ensures extends { Extends b.old b.new }
 {
@@ -91,7 +84,7 @@ pub fn emit_push(b: &mut Builder, l: Layout, p: &LockPorts) -> Result<(Net, Net)
     let mut push = zero;
     let mut addr = b.constant(l.bits, 0)?;
     for k in 0..p.reserves.len() {
-        (push, addr) = emit_take(b, l, p, k, push, addr, one, zero)?;
+        (push, addr) = emit_take(b, l, p, k, (push, addr), one, zero)?;
     }
     Ok((push, addr))
 }
@@ -154,7 +147,8 @@ pub fn emit_bits(
     requires slot_in { k < l.size }
     requires one { Means b.old one (const_signal 1 1) }
     requires zero { Means b.old zero (const_signal 1 0) }
-    ensures bit { IfOk result (λ x. Means b.new x (filled_bit l (step_signals b.old p.now) k (length p.now.writes))) }
+    ensures bit { IfOk result (λ x.
+        Means b.new x (filled_bit l (step_signals b.old p.now) k (length p.now.writes))) }
     ensures extends { Extends b.old b.new }
 {
     let mut bit = b.mux(
@@ -185,7 +179,9 @@ pub fn emit_value(
     requires slot_in { k < l.size }
     requires before_there { IsThere b.old before }
     requires before_width { (signal b.old before).width ≡ l.width }
-    ensures value { IfOk result (λ x. Means b.new x (filled_value l (step_signals b.old p.now) (signal b.old before) k (length p.now.writes))) }
+    ensures value { IfOk result (λ x.
+        Means b.new x (filled_value l (step_signals b.old p.now) (signal b.old before) k
+        (length p.now.writes))) }
     ensures value_wide { IfOk result (λ x. (signal b.new x).width ≡ l.width) }
     ensures extends { Extends b.old b.new }
 {
@@ -214,7 +210,9 @@ fn emit_put(
     requires within { j < length p.now.writes }
     requires value_there { IsThere b.old value }
     requires value_width { (signal b.old value).width ≡ l.width }
-    ensures value { IfOk result (λ x. Means b.new x (mux_signal (fills l (step_signals b.old p.now) k j) (ticket_at (step_signals b.old p.now).writes j).value (signal b.old value))) }
+    ensures value { IfOk result (λ x.
+        Means b.new x (mux_signal (fills l (step_signals b.old p.now) k j)
+        (ticket_at (step_signals b.old p.now).writes j).value (signal b.old value))) }
     ensures value_wide { IfOk result (λ x. (signal b.new x).width ≡ l.width) }
     ensures extends { Extends b.old b.new }
 {
@@ -260,7 +258,8 @@ pub fn emit_content(
     requires one { Means b.old one (const_signal 1 1) }
     requires zero { Means b.old zero (const_signal 1 0) }
     ensures bit { IfOk result (λ x. Means b.new x.0 (slot_bit l (step_signals b.old p.now) k)) }
-    ensures content { IfOk result (λ x. Means b.new x.1 (slot_value l (step_signals b.old p.now) k)) }
+    ensures content { IfOk result (λ x.
+        Means b.new x.1 (slot_value l (step_signals b.old p.now) k)) }
     ensures content_wide { IfOk result (λ x. (signal b.new x.1).width ≡ l.kept) }
     ensures extends { Extends b.old b.new }
 {

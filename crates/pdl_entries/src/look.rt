@@ -4,7 +4,7 @@ ghost use Rattle.pdl_net.specs.Signal.{const_signal};
 ghost use Rattle.pdl_net.specs.Meaning.{IsThere, Means, signal};
 ghost use Rattle.pdl_net.specs.Growth.{Extends};
 ghost use Rattle.pdl_entries.specs.Slots.{IsSized, HasSlots, content_signal};
-ghost use Rattle.pdl_entries.specs.Looks.{hit_at, hit_signal, less_base, youngest_ready, youngest_value, picked, GivesWord};
+ghost use Rattle.pdl_entries.specs.Looks.{hit_at, hit_signal, less_base, youngest_ready, youngest_value, net_by_kind, GivesWord};
 
 use crate::layout::Layout;
 use pdl_build::Builder;
@@ -30,7 +30,8 @@ fn emit_hit_slot(
     requires less_there { IsThere b.old less }
     requires less_width { (signal b.old less).width ≡ l.ticket }
     requires zero { Means b.old zero (const_signal 1 0) }
-    ensures means { IfOk result (λ x. Means b.new x (hit_at l (signal b.old addr) (signal b.old less) k)) }
+    ensures means { IfOk result (λ x.
+        Means b.new x (hit_at l (signal b.old addr) (signal b.old less) k)) }
     ensures extends { Extends b.old b.new }
 {
     let same = b.bin(BinOp::Eq, Net::Reg(l.from + 4 * k + 2), addr)?;
@@ -48,7 +49,8 @@ pub fn emit_hit(b: &mut Builder, l: Layout, addr: Net, less: Net) -> Result<Net,
     requires addr_width { (signal b.old addr).width ≡ l.bits }
     requires less_there { IsThere b.old less }
     requires less_width { (signal b.old less).width ≡ l.ticket }
-    ensures means { IfOk result (λ x. Means b.new x (hit_signal l (signal b.old addr) (signal b.old less) l.size)) }
+    ensures means { IfOk result (λ x.
+        Means b.new x (hit_signal l (signal b.old addr) (signal b.old less) l.size)) }
     ensures extends { Extends b.old b.new }
 {
     let one = b.constant(1, 1)?;
@@ -108,8 +110,11 @@ pub fn emit_youngest(
     requires less_width { (signal b.old less).width ≡ l.ticket }
     requires other_there { IsThere b.old other }
     requires other_width { (signal b.old other).width ≡ l.kept }
-    ensures ready { IfOk result (λ x. Means b.new x.0 (youngest_ready l (signal b.old addr) (signal b.old less) l.size)) }
-    ensures value { IfOk result (λ x. Means b.new x.1 (youngest_value l (content_signal l) (signal b.old other) (signal b.old addr) (signal b.old less) l.size)) }
+    ensures ready { IfOk result (λ x.
+        Means b.new x.0 (youngest_ready l (signal b.old addr) (signal b.old less) l.size)) }
+    ensures value { IfOk result (λ x.
+        Means b.new x.1 (youngest_value l (content_signal l) (signal b.old other)
+        (signal b.old addr) (signal b.old less) l.size)) }
     ensures extends { Extends b.old b.new }
 {
     let one = b.constant(1, 1)?;
@@ -124,15 +129,12 @@ pub fn emit_youngest(
     Ok((ready, value))
 }
 
-/// A write waits for nothing; a read is ready where this is 1.
-#[tactic(auto)]
-pub fn pick(kind: Kind, ready: Net, one: Net, _b: &Builder) -> Net
-    requires ready { IsThere _b.now ready }
-    requires one { Means _b.now one (const_signal 1 1) }
-    ensures means { Means _b.now result (picked kind (signal _b.now ready)) }
+/// Of two nets the one for looks and reservations of this kind.
+pub fn by_kind(kind: Kind, reads: Net, writes: Net) -> Net
+    ensures { result ≡ net_by_kind kind reads writes }
 {
     match kind {
-        Kind::R => ready,
-        Kind::W => one,
+        Kind::R => reads,
+        Kind::W => writes,
     }
 }

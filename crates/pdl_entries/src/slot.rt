@@ -31,7 +31,8 @@ fn emit_valid(b: &mut Builder, l: Layout, k: usize, left: Net) -> Result<Net, No
     requires slot_in { k < l.size }
     requires left { IsThere b.old left }
     requires left_width { (signal b.old left).width ≡ l.ticket }
-    ensures means { IfOk result (λ x. Means b.new x (bin_signal Lt (const_signal l.ticket k) (signal b.old left))) }
+    ensures means { IfOk result (λ x.
+        Means b.new x (bin_signal Lt (const_signal l.ticket k) (signal b.old left))) }
     ensures extends { Extends b.old b.new }
 {
     let place = b.constant(l.ticket, k as u64)?;
@@ -50,7 +51,8 @@ pub fn emit_addr(
     requires sized { IsSized l }
     requires slots { HasSlots b.old l l.size }
     requires slot_in { k < l.size }
-    requires addr { Means b.old addr (push_addr l.bits (step_signals b.old p.now) (length (step_signals b.old p.now).reserves)) }
+    requires addr { Means b.old addr
+        (push_addr l.bits (step_signals b.old p.now) (length (step_signals b.old p.now).reserves)) }
     requires addr_width { (signal b.old addr).width ≡ l.bits }
     ensures means { IfOk result (λ x. Means b.new x (slot_addr l (step_signals b.old p.now) k)) }
     ensures extends { Extends b.old b.new }
@@ -87,13 +89,16 @@ fn emit_slot(
     requires ports { PortsThere b.old p.now }
     requires fit { PortsFit b.old l.bits l.width l.ticket p.now }
     requires slot_in { k < l.size }
-    requires addr { Means b.old addr (push_addr l.bits (step_signals b.old p.now) (length (step_signals b.old p.now).reserves)) }
+    requires addr { Means b.old addr
+        (push_addr l.bits (step_signals b.old p.now) (length (step_signals b.old p.now).reserves)) }
     requires addr_width { (signal b.old addr).width ≡ l.bits }
     requires one { Means b.old one (const_signal 1 1) }
     requires zero { Means b.old zero (const_signal 1 0) }
-    ensures addr { IfOk result (λ x. Means b.new x.addr (slot_addr l (step_signals b.old p.now) k)) }
+    ensures addr { IfOk result (λ x.
+        Means b.new x.addr (slot_addr l (step_signals b.old p.now) k)) }
     ensures bit { IfOk result (λ x. Means b.new x.bit (slot_bit l (step_signals b.old p.now) k)) }
-    ensures value { IfOk result (λ x. Means b.new x.value (slot_value l (step_signals b.old p.now) k)) }
+    ensures value { IfOk result (λ x.
+        Means b.new x.value (slot_value l (step_signals b.old p.now) k)) }
     ensures value_wide { IfOk result (λ x. (signal b.new x.value).width ≡ l.kept) }
     ensures extends { Extends b.old b.new }
 {
@@ -180,9 +185,15 @@ fn emit_shift(b: &mut Builder, p: &LockPorts, up: Slot, here: Slot) -> Result<Sl
     requires addr_same { (signal b.old up.addr).width ≡ (signal b.old here.addr).width }
     requires bit_same { (signal b.old up.bit).width ≡ (signal b.old here.bit).width }
     requires value_same { (signal b.old up.value).width ≡ (signal b.old here.value).width }
-    ensures addr { IfOk result (λ s. Means b.new s.addr (mux_signal (step_signals b.old p.now).release (signal b.old up.addr) (signal b.old here.addr))) }
-    ensures bit { IfOk result (λ s. Means b.new s.bit (mux_signal (step_signals b.old p.now).release (signal b.old up.bit) (signal b.old here.bit))) }
-    ensures value { IfOk result (λ s. Means b.new s.value (mux_signal (step_signals b.old p.now).release (signal b.old up.value) (signal b.old here.value))) }
+    ensures addr { IfOk result (λ s.
+        Means b.new s.addr (mux_signal (step_signals b.old p.now).release (signal b.old up.addr)
+        (signal b.old here.addr))) }
+    ensures bit { IfOk result (λ s.
+        Means b.new s.bit (mux_signal (step_signals b.old p.now).release (signal b.old up.bit)
+        (signal b.old here.bit))) }
+    ensures value { IfOk result (λ s.
+        Means b.new s.value (mux_signal (step_signals b.old p.now).release (signal b.old up.value)
+        (signal b.old here.value))) }
     ensures extends { Extends b.old b.new }
 {
     let addr = b.mux(p.release, up.addr, here.addr)?;
@@ -221,10 +232,20 @@ fn emit_next(
     requires bit_one { (signal b.old here.bit).width ≡ 1 }
     requires value { IsThere b.old here.value }
     requires value_width { (signal b.old here.value).width ≡ l.kept }
-    ensures next_valid { OnOk result (next_signal b.new (valid_at l k) ≡ bin_signal Lt (const_signal l.ticket k) (signal b.old left)) }
-    ensures next_addr { OnOk result (next_signal b.new (addr_at l k) ≡ mux_signal (step_signals b.old p.now).release (signal b.old up.addr) (signal b.old here.addr)) }
-    ensures next_bit { OnOk result (next_signal b.new (has_at l k) ≡ mux_signal (step_signals b.old p.now).release (signal b.old up.bit) (signal b.old here.bit)) }
-    ensures next_value { OnOk result (next_signal b.new (value_at l k) ≡ mux_signal (step_signals b.old p.now).release (signal b.old up.value) (signal b.old here.value)) }
+    ensures next_valid { OnOk result
+        (next_signal b.new (valid_at l k)
+        ≡ bin_signal Lt (const_signal l.ticket k) (signal b.old left)) }
+    ensures next_addr { OnOk result
+        (next_signal b.new (addr_at l k)
+        ≡ mux_signal (step_signals b.old p.now).release (signal b.old up.addr)
+        (signal b.old here.addr)) }
+    ensures next_bit { OnOk result (next_signal b.new (has_at l k)
+        ≡ mux_signal (step_signals b.old p.now).release (signal b.old up.bit)
+        (signal b.old here.bit)) }
+    ensures next_value { OnOk result
+        (next_signal b.new (value_at l k)
+        ≡ mux_signal (step_signals b.old p.now).release (signal b.old up.value)
+        (signal b.old here.value)) }
     ensures extends { ExtendsBut (own_slot l k) b.old b.new }
 {
     let valid = emit_valid(b, l, k, left)?;
@@ -241,7 +262,8 @@ fn emit_none(b: &mut Builder, l: Layout, p: &LockPorts, last: Net) -> Result<Slo
     requires last_width { (signal b.old last).width ≡ l.kept }
     ensures addr { IfOk result (λ s. Means b.new s.addr (top_addr l (step_signals b.old p.now) 0)) }
     ensures bit { IfOk result (λ s. Means b.new s.bit (top_bit l (step_signals b.old p.now) 0)) }
-    ensures value { IfOk result (λ s. Means b.new s.value (top_value l (step_signals b.old p.now) (signal b.old last) 0)) }
+    ensures value { IfOk result (λ s.
+        Means b.new s.value (top_value l (step_signals b.old p.now) (signal b.old last) 0)) }
     ensures value_width { IfOk result (λ s. (signal b.new s.value).width ≡ l.kept) }
     ensures extends { Extends b.old b.new }
 {
@@ -272,13 +294,17 @@ pub fn emit_slots(
     requires last_width { (signal b.old last).width ≡ l.kept }
     requires left { Means b.old left (left_signal l (step_signals b.old p.now)) }
     requires left_width { (signal b.old left).width ≡ l.ticket }
-    requires addr { Means b.old addr (push_addr l.bits (step_signals b.old p.now) (length (step_signals b.old p.now).reserves)) }
+    requires addr { Means b.old addr
+        (push_addr l.bits (step_signals b.old p.now) (length (step_signals b.old p.now).reserves)) }
     requires addr_width { (signal b.old addr).width ≡ l.bits }
-    ensures addr { IfOk result (λ s. Means b.new s.addr (top_addr l (step_signals b.old p.now) l.size)) }
-    ensures value { IfOk result (λ s. Means b.new s.value (top_value l (step_signals b.old p.now) (signal b.old last) l.size)) }
+    ensures addr { IfOk result (λ s.
+        Means b.new s.addr (top_addr l (step_signals b.old p.now) l.size)) }
+    ensures value { IfOk result (λ s.
+        Means b.new s.value (top_value l (step_signals b.old p.now) (signal b.old last) l.size)) }
     ensures addr_width { IfOk result (λ s. (signal b.new s.addr).width ≡ l.bits) }
     ensures value_width { IfOk result (λ s. (signal b.new s.value).width ≡ l.kept) }
-    ensures slots { OnOk result (NextSlots b.new l (step_signals b.old p.now) (signal b.old last) 0) }
+    ensures slots { OnOk result (NextSlots b.new l (step_signals b.old p.now)
+        (signal b.old last) 0) }
     ensures extends { ExtendsBut (own_slots l) b.old b.new }
 {
     let one = b.constant(1, 1)?;

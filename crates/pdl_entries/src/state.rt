@@ -182,8 +182,10 @@ pub fn emit_state(
     ensures empty { IfOk result (λ r. HasNoPorts r.array b.new) }
     ensures nets { IfOk result (λ r. HasRegNets (ticket_bits size) b.new r) }
     ensures start { IfOk result (λ r. StartLaw (Stands (layout_of size r)) Queue b.new r) }
-    ensures room { IfOk result (λ r. RoomLaw (Stands (layout_of size r)) size (signal b.new r.room)) }
-    ensures ticket { IfOk result (λ r. TicketLaw (Stands (layout_of size r)) (ticket_bits size) (signal b.new r.ticket)) }
+    ensures room { IfOk result (λ r.
+        RoomLaw (Stands (layout_of size r)) size (signal b.new r.room)) }
+    ensures ticket { IfOk result (λ r.
+        TicketLaw (Stands (layout_of size r)) (ticket_bits size) (signal b.new r.ticket)) }
     ensures extends { OnOk result (ExtendsArrays b.old b.new (arrays_of Queue mem.now)) }
     ensures keeps { Keeps b.old b.new }
 {

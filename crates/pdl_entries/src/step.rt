@@ -30,8 +30,12 @@ fn emit_commit(b: &mut Builder, l: Layout, p: &LockPorts, first: Slot) -> Result
     requires value { IsThere b.old first.value }
     requires value_width { (signal b.old first.value).width ≡ l.kept }
     ensures commit { IfOk result (λ n. Means b.new n.commit (step_signals b.old p.now).release) }
-    ensures addr { IfOk result (λ n. Means b.new n.addr (mux_signal (step_signals b.old p.now).release (signal b.old first.addr) (const_signal l.bits 0))) }
-    ensures value { IfOk result (λ n. Means b.new n.value (mux_signal (step_signals b.old p.now).release (signal b.old first.value) (const_signal l.kept 0))) }
+    ensures addr { IfOk result (λ n.
+        Means b.new n.addr (mux_signal (step_signals b.old p.now).release (signal b.old first.addr)
+        (const_signal l.bits 0))) }
+    ensures value { IfOk result (λ n.
+        Means b.new n.value (mux_signal (step_signals b.old p.now).release
+        (signal b.old first.value) (const_signal l.kept 0))) }
     ensures extends { Extends b.old b.new }
 {
     let no_addr = b.constant(l.bits, 0)?;
@@ -67,7 +71,8 @@ pub fn emit_base(b: &mut Builder, l: Layout, p: &LockPorts) -> Result<(), NoMemo
     requires slots { HasSlots b.old l l.size }
     requires release { IsThere b.old p.now.release }
     requires release_one { (signal b.old p.now.release).width ≡ 1 }
-    ensures next { OnOk result (next_signal b.new l.from ≡ base_after l (step_signals b.old p.now)) }
+    ensures next { OnOk result (next_signal b.new l.from
+        ≡ base_after l (step_signals b.old p.now)) }
     ensures extends { ExtendsBut (own_base l) b.old b.new }
 {
     let next = emit_base_after(b, l, p)?;
@@ -82,7 +87,8 @@ fn emit_ticket_after(b: &mut Builder, l: Layout, p: &LockPorts, push: Net) -> Re
     requires slots { HasSlots b.old l l.size }
     requires ports { PortsThere b.old p.now }
     requires fit { PortsFit b.old l.bits l.width l.ticket p.now }
-    requires push { Means b.old push (push_signal (step_signals b.old p.now) (length p.now.reserves)) }
+    requires push { Means b.old push
+        (push_signal (step_signals b.old p.now) (length p.now.reserves)) }
     ensures means { IfOk result (λ x. Means b.new x (ticket_after l (step_signals b.old p.now))) }
     ensures wide { IfOk result (λ x. (signal b.new x).width ≡ l.ticket) }
     ensures extends { Extends b.old b.new }
@@ -101,7 +107,8 @@ pub fn emit_left(b: &mut Builder, l: Layout, p: &LockPorts, push: Net) -> Result
     requires slots { HasSlots b.old l l.size }
     requires ports { PortsThere b.old p.now }
     requires fit { PortsFit b.old l.bits l.width l.ticket p.now }
-    requires push { Means b.old push (push_signal (step_signals b.old p.now) (length p.now.reserves)) }
+    requires push { Means b.old push
+        (push_signal (step_signals b.old p.now) (length p.now.reserves)) }
     ensures means { IfOk result (λ x. Means b.new x (left_signal l (step_signals b.old p.now))) }
     ensures wide { IfOk result (λ x. (signal b.new x).width ≡ l.ticket) }
     ensures extends { Extends b.old b.new }
@@ -122,7 +129,8 @@ fn emit_write(b: &mut Builder, l: Layout, p: &LockPorts, first: Slot) -> Result<
     requires addr_width { (signal b.old first.addr).width ≡ l.bits }
     requires value { IsThere b.old first.value }
     requires value_width { (signal b.old first.value).width ≡ l.kept }
-    ensures write { OnOk result (WritesArray b.new l (step_signals b.old p.now).release (signal b.old first.addr) (signal b.old first.value)) }
+    ensures write { OnOk result (WritesArray b.new l (step_signals b.old p.now).release
+        (signal b.old first.addr) (signal b.old first.value)) }
     ensures extends { ExtendsBut (own_array l) b.old b.new }
 {
     match l.array {
@@ -146,8 +154,12 @@ fn emit_all(b: &mut Builder, l: Layout, p: &LockPorts) -> Result<LockNets, NoMem
     ensures next { OnOk result (NextValues b.new l (step_signals b.old p.now)) }
     ensures slots { HasSlots b.new l l.size }
     ensures commit { IfOk result (λ n. Means b.new n.commit (step_signals b.old p.now).release) }
-    ensures addr { IfOk result (λ n. Means b.new n.addr (mux_signal (step_signals b.old p.now).release (slot_addr l (step_signals b.old p.now) 0) (const_signal l.bits 0))) }
-    ensures value { IfOk result (λ n. Means b.new n.value (mux_signal (step_signals b.old p.now).release (slot_value l (step_signals b.old p.now) 0) (const_signal l.kept 0))) }
+    ensures addr { IfOk result (λ n.
+        Means b.new n.addr (mux_signal (step_signals b.old p.now).release
+        (slot_addr l (step_signals b.old p.now) 0) (const_signal l.bits 0))) }
+    ensures value { IfOk result (λ n.
+        Means b.new n.value (mux_signal (step_signals b.old p.now).release
+        (slot_value l (step_signals b.old p.now) 0) (const_signal l.kept 0))) }
     ensures value_width { IfOk result (λ n. (signal b.new n.value).width ≡ l.kept) }
     ensures extends { ExtendsBut (own_all l) b.old b.new }
 {
@@ -172,8 +184,12 @@ pub fn emit_step(
     requires empty { HasNoPorts r.now.array b.old }
     requires ports { PortsThere b.old p.now }
     requires fit { PortsFit b.old r.now.bits r.now.width (ticket_bits size) p.now }
-    ensures nets { IfOk result (λ n. HasCommitNets b.new r.now.bits r.now.width n.commit n.addr n.value) }
-    ensures law { IfOk result (λ n. StepLaw (Stands (layout_of size r.now)) size (ticket_bits size) (own r.now) b.new (step_signals b.old p.now) (signal b.new n.commit) (signal b.new n.addr) (signal b.new n.value)) }
+    ensures nets { IfOk result (λ n.
+        HasCommitNets b.new r.now.bits r.now.width n.commit n.addr n.value) }
+    ensures law { IfOk result (λ n.
+        StepLaw (Stands (layout_of size r.now)) size (ticket_bits size) (own r.now) b.new
+        (step_signals b.old p.now) (signal b.new n.commit) (signal b.new n.addr)
+        (signal b.new n.value)) }
     ensures extends { ExtendsBut (own r.now) b.old b.new }
 {
     let l = Layout::of(size, r);

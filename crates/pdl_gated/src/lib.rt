@@ -19,5 +19,6 @@ pub fn compilable()
     ensures linear { (p : Pipe) → IsTrue (can_compile p) → IsTrue (is_linear p.body) }
     ensures comb { (p : Pipe) → IsTrue (can_compile p) → list_all is_comb p.mems ≡ true }
     ensures certain { (p : Pipe) → IsTrue (can_compile p) → none_of is_guess (flat p).stmts ≡ true }
-    ensures simple { (p : Pipe) → KeepsRules p → IsTrue (is_source p) → IsTrue (is_named p) → IsTrue (can_compile p) → IsSimple (flat p) }
+    ensures simple { (p : Pipe) → KeepsRules p → IsTrue (is_source p) → IsTrue (is_named p) →
+        IsTrue (can_compile p) → IsSimple (flat p) }
 {}

@@ -1,10 +1,11 @@
 // What the statements from a stage on still need.
 ghost use Rattle.std.specs.Prelude.{◌≡◌, ◌<◌, ◌≤◌, ◌&&◌, drop, length, nat_le};
+ghost use Rattle.pdl_semantics.specs.Flat.{has_lock as locks};
 ghost use Rattle.pdl_semantics.specs.Stages.{list_any, mem_at, reserve_stage, commit_stage};
 ghost use Rattle.pdl_form.specs.Whole.{form};
 ghost use Rattle.pdl_form.specs.View.{act_view, lock_view, next_view, stages_view, stmt_view, stmts_view};
 ghost use Rattle.pdl_pipe_law.specs.Lives.{lives as is_live, holds as is_asked, asks_held as asks_location, forks_by as goes_by};
-ghost use Rattle.pdl_pipe_law.specs.Walk.{has_kind, is_locked};
+ghost use Rattle.pdl_pipe_law.specs.Walk.{is_locked};
 ghost use Rattle.pdl_lives.specs.Needs.{rows_use, any_forks_by, rows_ask, goes_with};
 
 use crate::usage::is_using;
@@ -78,7 +79,7 @@ pub fn holds(pipe: &FlatPipe, stage: usize, mem: usize, var: usize) -> bool
 
 // Whether a memory's lock is one.
 fn is_lock(lock: Lock) -> bool
-    ensures { result ≡ has_kind (lock_view lock) }
+    ensures { result ≡ locks (lock_view lock) }
 {
     !matches!(lock, Lock::Plain)
 }

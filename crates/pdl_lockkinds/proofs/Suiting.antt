@@ -1,22 +1,21 @@
 -- The locks that memories ask for suit them.
-use Rattle.std.proofs.Common.{◌≡◌, ℕ, zero, suc, ◌<◌, false, List, [], ◌∷◌, length, get_or, refl, sym, ap, ◌∙◌, subst, arith}
-use Rattle.std.specs.Prelude.{Some, None, is_some}
+use Rattle.std.proofs.Common.{◌≡◌, ℕ, zero, suc, ◌<◌, List, [], ◌∷◌, length, get_or, sym, ap, ◌∙◌, arith}
+use Rattle.std.specs.Prelude.{None, is_some}
 use Rattle.std.proofs.lemmas.List.{length-map, get_or-map}
-use Rattle.pdl_semantics.specs.Flat as flat
-use Rattle.pdl_semantics.specs.Flat.{Lock, Mem}
+use Rattle.pdl_semantics.specs.Flat.{Mem}
 use Rattle.pdl_semantics.specs.Stages.{plain_mem, mem_at}
 use Rattle.pdl_form.specs.Form.{Form}
 use Rattle.pdl_formtypes.specs.Stmts.{IsTypedMem, AreTypedMems}
 use Rattle.pdl_lockapi.specs.Forget.{as_lock}
 use Rattle.pdl_entries.specs.Slots.{Suits, IsSize}
 use Rattle.pdl_anylock.specs.declared.AnyLock.{AnyLock}
-use Rattle.pdl_anylock.specs.declared.AnyLock.TheVariants.{Queue, Bypass, Rename}
 use Rattle.pdl_anylock.specs.Any.{any_kind, any_size, any_suits}
-use Rattle.pdl_pipe_law.specs.Walk.{has_kind}
+use Rattle.pdl_anylock.specs.Asked.{lock_asked, IsSizedLock}
+use Rattle.pdl_anylock.proofs.Asked.{some_asked, kind_asked, suit_asked}
 use Rattle.pdl_stagenets.specs.Locked.{Members, some_at}
-use Rattle.pdl_locknets.specs.Suited.{info_of, AreComb, AreSuited}
+use Rattle.pdl_locknets.specs.Suited.{info_of, info_at, AreComb, AreSuited}
 use Rattle.pdl_locknets.proofs.AllMade.{typed_at, comb_at}
-use Rattle.pdl_lockkinds.specs.Asked.{lock_asked, locks_asked, IsSizedLock, AreSizedLocks}
+use Rattle.pdl_lockkinds.specs.Asked.{locks_asked, AreSizedLocks}
 
 asked_at : (ms : List Mem) (m : ℕ) → m < length ms → some_at (locks_asked ms) m ≡ lock_asked (get_or ms m plain_mem).lock
 asked_at ms m h = get_or-map (λ (x : Mem). lock_asked x.lock) ms m plain_mem None h
@@ -26,36 +25,14 @@ sized_at [] i h s = absurd (omega (arith, h))
 sized_at (m ∷ ms) zero h s = s.0
 sized_at (m ∷ ms) (suc i) h s = sized_at ms i (omega (arith, h)) s.1
 
-some_asked : (x : Lock) → is_some (lock_asked x) ≡ has_kind x
-some_asked flat.Plain = refl
-some_asked (flat.Queue n) = refl
-some_asked (flat.Bypass n) = refl
-some_asked (flat.Rename n) = refl
-
-kind_asked : (x : Lock) (l : AnyLock) → lock_asked x ≡ Some l → x ≡ as_lock (any_kind l) (any_size l)
-kind_asked flat.Plain l e = absurd (cc e)
-kind_asked (flat.Queue n) l e = let same : Queue (record { size = n }) ≡ l = cc e in ap (λ (y : AnyLock). as_lock (any_kind y) (any_size y)) same
-kind_asked (flat.Bypass n) l e = let same : Bypass (record { size = n }) ≡ l = cc e in ap (λ (y : AnyLock). as_lock (any_kind y) (any_size y)) same
-kind_asked (flat.Rename n) l e = let same : Rename (record { size = n }) ≡ l = cc e in ap (λ (y : AnyLock). as_lock (any_kind y) (any_size y)) same
-
 slots_suit : (n : ℕ) (name : List ℕ) (m : Mem) → IsTypedMem m → IsSize n → Suits n (info_of name m)
 slots_suit n name m t s = record { size = s; width_low = t.low; width_high = t.high; depth = record { bits = t.bits; low = t.some; high = t.few; power = t.depth } }
-
-suit_asked : (x : Lock) (l : AnyLock) (name : List ℕ) (m : Mem) → IsTypedMem m → m.delayed ≡ false → IsSizedLock x m.depth → lock_asked x ≡ Some l → any_suits l (info_of name m)
-suit_asked flat.Plain l name m t c s e = absurd (cc e)
-suit_asked (flat.Queue n) l name m t c s e = let same : Queue (record { size = n }) ≡ l = cc e in subst (λ (y : AnyLock). any_suits y (info_of name m)) same (slots_suit n name m t s)
-suit_asked (flat.Bypass n) l name m t c s e =
-    let same : Bypass (record { size = n }) ≡ l = cc e in
-    subst (λ (y : AnyLock). any_suits y (info_of name m)) same (record { sizes = slots_suit n name m t s; comb = c })
-suit_asked (flat.Rename n) l name m t c s e =
-    let same : Rename (record { size = n }) ≡ l = cc e in
-    subst (λ (y : AnyLock). any_suits y (info_of name m)) same (record { sizes = slots_suit n name m t s.0; comb = c; shallow = s.1; deep = s.2 })
 
 pub are_suited : (l : Members AnyLock) (f : Form) → l.kind ≡ any_kind → l.size ≡ any_size → AreTypedMems f.pipe.mems → AreComb f.pipe.mems → AreSizedLocks f.pipe.mems → AreSuited any_suits l f (locks_asked f.pipe.mems)
 are_suited l f k z t c s = record {
   count = length-map f.pipe.mems (λ (m : Mem). lock_asked m.lock);
   locked = λ m h. ap is_some (asked_at f.pipe.mems m h) ∙ some_asked (mem_at f.pipe m).lock;
-  suited = λ m x h e. suit_asked (mem_at f.pipe m).lock x (get_or f.names m []) (mem_at f.pipe m) (typed_at f.pipe.mems m h t) (comb_at f.pipe.mems m h c) (sized_at f.pipe.mems m h s) (sym (asked_at f.pipe.mems m h) ∙ e);
+  suited = λ m x h e. suit_asked (mem_at f.pipe m).lock x (info_at f m) (λ n. slots_suit n (get_or f.names m []) (mem_at f.pipe m) (typed_at f.pipe.mems m h t)) (comb_at f.pipe.mems m h c) (sized_at f.pipe.mems m h s) (sym (asked_at f.pipe.mems m h) ∙ e);
   kinds = λ m x h e.
       let here = kind_asked (mem_at f.pipe m).lock x (sym (asked_at f.pipe.mems m h) ∙ e) in
       here ∙ ap (λ g. as_lock (g x) (any_size x)) (sym k) ∙ ap (λ g. as_lock (l.kind x) (g x)) (sym z);

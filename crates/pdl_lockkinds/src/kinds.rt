@@ -6,7 +6,8 @@ ghost use Rattle.pdl_formtypes.specs.Stmts.{AreTypedMems};
 ghost use Rattle.pdl_anylock.specs.declared.AnyLock.{AnyLock};
 ghost use Rattle.pdl_stagenets.specs.Locked.{members};
 ghost use Rattle.pdl_locknets.specs.Suited.{AreComb, AreSuited};
-ghost use Rattle.pdl_lockkinds.specs.Asked.{lock_asked, locks_asked, AreSizedLocks};
+ghost use Rattle.pdl_anylock.specs.Asked.{lock_asked};
+ghost use Rattle.pdl_lockkinds.specs.Asked.{locks_asked, AreSizedLocks};
 
 use pdl_anylock::AnyLock;
 use pdl_bypass::BypassLock;
@@ -35,7 +36,9 @@ pub fn locks_of(alloc: Global, pipe: &FlatPipe) -> Result<Vec<Option<AnyLock>>, 
     requires comb { AreComb (form pipe.now).pipe.mems }
     requires sizes { AreSizedLocks (form pipe.now).pipe.mems }
     ensures asked { IfOk result (λ ls. ls.items ≡ locks_asked (form pipe.now).pipe.mems) }
-    ensures suited { IfOk result (λ ls. AreSuited ⟦<AnyLock as LockModule>⟧.suits (members ⟦<AnyLock as LockModule>⟧) (form pipe.now) ls.items) }
+    ensures suited { IfOk result (λ ls.
+        AreSuited ⟦<AnyLock as LockModule>⟧.suits (members ⟦<AnyLock as LockModule>⟧)
+        (form pipe.now) ls.items) }
 {
     let mut locks = Vec::new(alloc);
     let mems = pipe.mems();

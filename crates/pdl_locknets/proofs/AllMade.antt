@@ -1,29 +1,31 @@
 -- The memories, one after the other.
 use Rattle.std.proofs.Common.{◌≡◌, ℕ, zero, suc, ◌+◌, ◌<◌, ◌≤◌, ◌∙◌, false, List, [], ◌∷◌, ◌++◌, length, length-append, map, drop, get_or, refl, sym, ap, ap₂, subst, arith, append_assoc, append-nil}
 use borrow.Author.Count.{below_more}
-use Rattle.std.specs.Prelude.{Option, Some, None, is_some}
-use Rattle.std.proofs.lemmas.List.{get_or-map, get_or_append_left, get_or_push, drop_more, drop_all, length-map}
+use Rattle.std.specs.Prelude.{Option, Some, is_some}
+use Rattle.std.proofs.lemmas.List.{get_or-map, drop_more, drop_all, length-map}
 use Rattle.pdl_kit.specs.declared.mem_info.MemInfo.{MemInfo}
-use Rattle.pdl_semantics.specs.Flat.{Mem, Pipe}
+use Rattle.pdl_semantics.specs.Flat.{Mem, Pipe, has_lock}
 use Rattle.pdl_semantics.specs.Stages.{plain_mem, mem_at}
-use Rattle.pdl_net.specs.Circuit.{Circuit, Shape, shape_of, shapes_of, HasReg, array_depth}
+use Rattle.pdl_net.specs.Circuit.{Circuit, Shape, shape_of, shapes_of, array_depth}
 use Rattle.pdl_net.specs.Meaning.{write_signals}
 use Rattle.pdl_net.specs.Growth.{Keeps, ExtendsArrays}
-use Rattle.pdl_net.proofs.Keeps.{arrays_keeps, arrays_trans}
+use Rattle.pdl_net.proofs.Keeps.{arrays_keeps, arrays_trans, regs_grow}
 use Rattle.pdl_lockapi.specs.Laws.{first_reg, end_reg}
 use Rattle.pdl_lockapi.specs.Forget.{as_lock}
 use Rattle.pdl_form.specs.Form.{Form}
 use Rattle.pdl_form.specs.declared.form.Mem as r_mem
 use Rattle.pdl_form.specs.View.{mem_view, mems_view, mem_names}
 use Rattle.pdl_formtypes.specs.Stmts.{IsTypedMem, AreTypedMems}
-use Rattle.pdl_pipe_law.specs.Walk.{has_kind}
+use Rattle.pdl_lockapi.specs.Sizes.{words_in}
+use Rattle.pdl_lockapi.proofs.LockKinds.{words_are, words_plain}
 use Rattle.pdl_stagenets.specs.declared.locks.MemLock.{MemLock}
 use Rattle.pdl_stagenets.specs.Locked.{Members, some_at, IsLockIn, AreLocked}
-use Rattle.pdl_locknets.specs.Suited.{words_in, shape_in, shapes_in, AreComb, AreSuited}
+use Rattle.pdl_locknets.specs.Suited.{shape_in, shapes_in, AreComb, AreSuited}
 use Rattle.pdl_locknets.specs.Lawful.{IsLawfulLock, AreLawful, AreUnwritten}
 use Rattle.pdl_locknets.specs.Made.{AreServed, IsNewMemory}
 use Rattle.pdl_locknets.proofs.LocksKept.{Stays, lock_kept, lawful_kept, regs_end}
-use Rattle.pdl_locknets.proofs.NewLock.{array_count, array_more, there_by_shape, width_by_shape, depth_by_shape, words_are, words_plain}
+use Rattle.pdl_locknets.proofs.LockSteps.{some_before, some_last}
+use Rattle.pdl_locknets.proofs.NewLock.{array_count, array_more, there_by_shape, width_by_shape, depth_by_shape}
 
 -- ---- the memory of a number
 
@@ -67,7 +69,7 @@ pub record IsMadeLock {T : Type 0} (l : Members T) (a c : Circuit) (m : ℕ) (me
   pub above : length a.regs ≤ first_reg x.regs
 
 pub record IsMadeMemory {T : Type 0} (l : Members T) (a c : Circuit) (m : ℕ) (mem : Mem) (o : Option (MemLock T)) : Type 0 where
-  pub locked : is_some o ≡ has_kind mem.lock
+  pub locked : is_some o ≡ has_lock mem.lock
   pub lock : (x : MemLock T) → o ≡ Some x → IsMadeLock l a c m mem x
 
 pub record AreMadeTo {T : Type 0} (l : Members T) (a c : Circuit) (names : List (List ℕ)) (p : Pipe) (xs : List (Option (MemLock T))) (i : ℕ) : Type 0 where
@@ -108,14 +110,6 @@ made_none l a names p e = record {
   apart = λ m h. absurd (omega (arith, h));
 }
 
-regs_grow : (a b : Circuit) → Keeps a b → length a.regs ≤ length b.regs
-unfolding HasReg
-regs_grow a b k = at (length a.regs) refl
-  where
-    at : (n : ℕ) → length a.regs ≡ n → n ≤ length b.regs
-    at zero e = omega arith
-    at (suc n) e = let h = k.has_reg n (omega (arith, e)) in omega (arith, h)
-
 made_lock_kept : {T : Type 0} (l : Members T) (stays : Stays l) (a b c : Circuit) (m : ℕ) (mem : Mem) (x : MemLock T) → Keeps b c → IsMadeLock l a b m mem x → IsMadeLock l a c m mem x
 made_lock_kept l stays a b c m mem x k h = record {
   is_in = lock_kept l b c m mem x k stays h.is_in;
@@ -123,12 +117,6 @@ made_lock_kept l stays a b c m mem x k h = record {
   kind = h.kind;
   above = h.above;
 }
-
-some_before : {X : Type 0} (xs : List (Option X)) (x : Option X) (m : ℕ) → m < length xs → some_at (xs ++ x ∷ []) m ≡ some_at xs m
-some_before xs x m h = get_or_append_left xs (x ∷ []) None m h
-
-some_last : {X : Type 0} (xs : List (Option X)) (x : Option X) (i : ℕ) → length xs ≡ i → some_at (xs ++ x ∷ []) i ≡ x
-some_last xs x i h = get_or_push xs x None i h
 
 module _ {T : Type 0} (l : Members T) (stays : Stays l) (a b c : Circuit) (names : List (List ℕ)) (p : Pipe) (xs : List (Option (MemLock T))) (i : ℕ) (name : List ℕ) (mem : Mem) (o : Option (MemLock T))
     (low : i < length p.mems) (named : i < length names) (name_at : name ≡ get_or names i []) (at_mem : mem ≡ mem_at p i)

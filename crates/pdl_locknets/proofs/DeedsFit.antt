@@ -18,11 +18,11 @@ use Rattle.pdl_stagenets.specs.declared.locks.MemLock.{MemLock}
 use Rattle.pdl_stagenets.specs.Parts.{Each, reservation_in, put_in, letting_in, walk_of}
 use Rattle.pdl_stagenets.specs.Sized.{IsSizedReserve, IsSizedPut}
 use Rattle.pdl_stagenets.specs.Locked.{Members, some_at, IsLockIn}
-use Rattle.pdl_stagenets.proofs.Lists.{pow_same}
 use Rattle.pdl_locknets.specs.declared.deeds.StageDeeds.{StageDeeds}
 use Rattle.pdl_locknets.specs.Deeds.{no_parts, view_with, view_in, views_in, moves_in, IsDeed}
 use Rattle.pdl_locknets.specs.Ports.{IsGivenReserve, IsGivenPut, IsGivenLetting, IsGiven, SignalsFit, signals_of}
 use Rattle.pdl_locknets.proofs.Releases.{released_one}
+use Rattle.pdl_pipe_law.proofs.WellFormedMems.{power_one}
 
 -- ---- the nets are there
 
@@ -55,7 +55,7 @@ reserves_fit p m bits f [] d s = tt
 reserves_fit p m bits f (r ∷ rs) d s =
     let rest = reserves_fit p m bits f rs d s.1 in
     elim (eqb_tells r.mem m) [
-      | inl e ↦ rw (e.0) ((s.0.1, pow_same r.addr.width bits (s.0.2 ∙ ap (λ k. (mem_at p k).depth) e.1 ∙ sym d)), rest)
+      | inl e ↦ rw (e.0) ((s.0.1, power_one r.addr.width bits (s.0.2 ∙ ap (λ k. (mem_at p k).depth) e.1 ∙ sym d)), rest)
       | inr e ↦ rw (e.0) rest
     ]
 

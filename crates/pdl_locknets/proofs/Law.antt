@@ -2,7 +2,6 @@
 use Rattle.std.proofs.Common.{◌≡◌, ℕ, ◌+◌, ◌^◌, ◌<◌, ◌≤◌, ◌∙◌, true, false, List, [], length, refl, sym, ap, ap₂, subst, arith, inl, inr}
 use Rattle.std.specs.Prelude.{Option, Some, None, is_some}
 use Rattle.std.proofs.lemmas.Bool.{cases_lt, false≢true}
-use Rattle.pdl_semantics.specs.Tree.{Queue}
 use Rattle.pdl_semantics.specs.Flat.{Pipe}
 use Rattle.pdl_semantics.specs.Stages.{mem_at}
 use Rattle.pdl_net.specs.Circuit.{Circuit, State, HasReg, HasArray}
@@ -19,7 +18,7 @@ use Rattle.pdl_pipe_law.specs.Ports.{Commit, step_of}
 use Rattle.pdl_pipe_law.specs.Compiled.{HasLock}
 use Rattle.pdl_pipe_law.proofs.Establish.{lock_made}
 use Rattle.pdl_stagenets.specs.declared.locks.MemLock.{MemLock}
-use Rattle.pdl_stagenets.specs.Locked.{Members, some_at, of_lock, locks_in, AreLocked}
+use Rattle.pdl_stagenets.specs.Locked.{Members, some_at, of_lock, kind_in, locks_in, AreLocked}
 use Rattle.pdl_locknets.specs.declared.deeds.StageDeeds.{StageDeeds}
 use Rattle.pdl_locknets.specs.Lawful.{AreLawful}
 use Rattle.pdl_locknets.specs.Deeds.{views_in, moves_in, AreOf}
@@ -58,7 +57,7 @@ module _ {T : Type 0} (l : Members T) (stays : Stays l) (p : Pipe) (xs : List (O
       let stands : l.stands x.lock x.regs ≡ ls.stands m = ap (of_lock (λ (y : MemLock T). l.stands y.lock y.regs) (λ s y. Unit {0})) (sym e) in
       let size : l.size x.lock ≡ ls.size m = ap (of_lock (λ (y : MemLock T). l.size y.lock) 1) (sym e) in
       let bits : l.tickets x.lock ≡ ls.bits m = ap (of_lock (λ (y : MemLock T). l.tickets y.lock) 1) (sym e) in
-      let kind : l.kind x.lock ≡ ls.kind m = ap (of_lock (λ (y : MemLock T). l.kind y.lock) Queue) (sym e) in
+      let kind : l.kind x.lock ≡ ls.kind m = ap (kind_in l) (sym e) in
       let room : signal c x.regs.room ≡ ls.room m = whole.kept x.regs.room (locked.locks m x low e).room_there ∙ ap (of_lock (λ (y : MemLock T). signal a y.regs.room) zero_bit) (sym e) in
       let ticket : signal c x.regs.ticket ≡ ls.ticket m = whole.kept x.regs.ticket (locked.locks m x low e).ticket_there ∙ ap (of_lock (λ (y : MemLock T). signal a y.regs.ticket) zero_bit) (sym e) in
       let commit : commit_of c (Some n) ≡ commits_in c ns m = ap (commit_of c) (sym q) in

@@ -1,8 +1,8 @@
 -- The steps of the locks, one after the other.
 use Rattle.std.proofs.Common.{◌≡◌, ℕ, ◌+◌, ◌^◌, ◌<◌, ◌≤◌, ◌∙◌, List, [], ◌∷◌, ◌++◌, length, length-append, refl, sym, ap, subst, arith, inl, inr}
 use borrow.Author.Count.{below_more}
-use Rattle.std.specs.Prelude.{Option, Some, None, is_some, slice_index_or}
 use Rattle.std.proofs.lemmas.List.{get_or_append_left, get_or_push}
+use Rattle.std.specs.Prelude.{Option, Some, None, is_some, slice_index_or}
 use Rattle.pdl_semantics.specs.Flat.{Mem, Pipe}
 use Rattle.pdl_semantics.specs.Stages.{mem_at}
 use Rattle.pdl_net.specs.Circuit.{Circuit, State}
@@ -95,10 +95,10 @@ locks_more xs m a b c x y = record {
 }
 
 -- an element of a list with one more
-some_before : {X : Type 0} (xs : List (Option X)) (x : Option X) (m : ℕ) → m < length xs → some_at (xs ++ x ∷ []) m ≡ some_at xs m
+pub some_before : {X : Type 0} (xs : List (Option X)) (x : Option X) (m : ℕ) → m < length xs → some_at (xs ++ x ∷ []) m ≡ some_at xs m
 some_before xs x m h = get_or_append_left xs (x ∷ []) None m h
 
-some_last : {X : Type 0} (xs : List (Option X)) (x : Option X) (i : ℕ) → length xs ≡ i → some_at (xs ++ x ∷ []) i ≡ x
+pub some_last : {X : Type 0} (xs : List (Option X)) (x : Option X) (i : ℕ) → length xs ≡ i → some_at (xs ++ x ∷ []) i ≡ x
 some_last xs x i h = get_or_push xs x None i h
 
 module _ {T : Type 0} (l : Members T) (a : Circuit) (p : Pipe) (xs : List (Option (MemLock T))) (locked : AreLocked l a p xs) (lawful : AreLawful l a p xs) where

@@ -2,19 +2,19 @@
 use Rattle.std.proofs.Common.{◌≡◌, ℕ, ◌+◌, ◌^◌, ◌<◌, ◌∙◌, Bool, true, false, List, [], ◌∷◌, length, length-append, get_or, refl, sym, ap, subst, arith}
 use Rattle.std.specs.Prelude.{Option, Some, None, is_some, not, if◌then◌else◌}
 use Rattle.std.proofs.lemmas.List.{get_or-map, length-map}
-use Rattle.pdl_semantics.specs.Tree.{LockKind, Queue, Bypass, Rename}
-use Rattle.pdl_semantics.specs.Flat as flat
-use Rattle.pdl_semantics.specs.Flat.{Lock, Mem}
+use Rattle.pdl_semantics.specs.Tree.{LockKind}
+use Rattle.pdl_semantics.specs.Flat.{Mem}
 use Rattle.pdl_net.specs.Circuit.{Circuit, Shape, shape_of, shapes_of, no_array, HasArray, array_width, array_depth}
 use Rattle.pdl_net.specs.Meaning.{signal, write_signals}
 use Rattle.pdl_net.specs.Growth.{ExtendsArrays}
 use Rattle.pdl_lockapi.specs.declared.LockRegs.{LockRegs}
 use Rattle.pdl_lockapi.specs.Laws.{words_of, arrays_of, IsFragment, HasRegNets, HasNoPorts, StartLaw, RoomLaw, TicketLaw}
 use Rattle.pdl_lockapi.specs.Forget.{as_lock}
-use Rattle.pdl_pipe_law.specs.Walk.{has_kind}
+use Rattle.pdl_lockapi.specs.Sizes.{words_in}
+use Rattle.pdl_lockapi.proofs.LockKinds.{words_are}
 use Rattle.pdl_stagenets.specs.declared.locks.MemLock.{MemLock}
 use Rattle.pdl_stagenets.specs.Locked.{Members}
-use Rattle.pdl_locknets.specs.Suited.{info_of, words_in, shape_in}
+use Rattle.pdl_locknets.specs.Suited.{info_of, shape_in}
 use Rattle.pdl_locknets.specs.Made.{IsNewLock}
 
 -- ---- arrays by their shapes
@@ -39,17 +39,6 @@ unfolding array_depth shapes_of
 depth_by_shape c m d h = sym (ap (λ (s : Shape). s.depth) (get_or-map shape_of c.arrays m no_array d (omega (arith, length-map c.arrays shape_of))))
 
 -- ---- the words of an array
-
-pub words_are : (k : LockKind) (n d : ℕ) → words_in (as_lock k n) d ≡ words_of k d
-words_are Queue n d = refl
-words_are Bypass n d = refl
-words_are Rename n d = refl
-
-pub words_plain : (x : Lock) (d : ℕ) → has_kind x ≡ false → words_in x d ≡ d
-words_plain flat.Plain d e = refl
-words_plain (flat.Queue n) d e = refl
-words_plain (flat.Bypass n) d e = refl
-words_plain (flat.Rename n) d e = absurd (cc e)
 
 -- a memory that answers at once has one array, of its shape
 pub arrays_are : (k : LockKind) (n : ℕ) (name : List ℕ) (m : Mem) → m.delayed ≡ false → m.lock ≡ as_lock k n → arrays_of k (info_of name m) ≡ shape_in name m ∷ []
@@ -96,5 +85,3 @@ new_lock l old new name mem x comb kind grows w d a placed f nets start room tic
 pub new_unwritten : (old new : Circuit) (name : List ℕ) (mem : Mem) (r : LockRegs) → mem.delayed ≡ false → ExtendsArrays old new (shape_in name mem ∷ []) → is_some r.array ≡ not mem.delayed → IsFragment old new r
     → HasNoPorts r.array new → write_signals new (length old.arrays) ≡ []
 new_unwritten old new name mem r comb grows a f h = subst (λ a. HasNoPorts a new) (new_array old new r (a ∙ ap not comb) (array_more old new (shape_in name mem) grows) f) h
-
--- ---- a memory, with and without

@@ -1,11 +1,10 @@
 -- A memory's new array and lock.
 use Rattle.std.specs.Prelude.{◌≡◌, ℕ, ◌≤◌, List, length, Option, Some, is_some}
 use Rattle.pdl_kit.specs.declared.mem_info.MemInfo.{MemInfo}
-use Rattle.pdl_semantics.specs.Flat.{Mem}
+use Rattle.pdl_semantics.specs.Flat.{Mem, has_lock}
 use Rattle.pdl_net.specs.Circuit.{Circuit}
 use Rattle.pdl_lockapi.specs.Laws.{first_reg}
 use Rattle.pdl_lockapi.specs.Forget.{as_lock}
-use Rattle.pdl_pipe_law.specs.Walk.{has_kind}
 use Rattle.pdl_stagenets.specs.declared.locks.MemLock.{MemLock}
 use Rattle.pdl_stagenets.specs.Locked.{Members, IsLockIn}
 use Rattle.pdl_locknets.specs.Suited.{info_of}
@@ -18,7 +17,7 @@ pub record IsServed {T : Type 0} (suits : T → MemInfo → Type 0) (l : Members
 
 -- there is a lock where the memory should have one
 pub record AreServed {T : Type 0} (suits : T → MemInfo → Type 0) (l : Members T) (name : List ℕ) (mem : Mem) (x : Option T) : Type 0 where
-  pub locked : is_some x ≡ has_kind mem.lock
+  pub locked : is_some x ≡ has_lock mem.lock
   pub lock : (y : T) → x ≡ Some y → IsServed suits l name mem y
 
 -- a lock that is new, with the next array
@@ -30,5 +29,5 @@ pub record IsNewLock {T : Type 0} (l : Members T) (old new : Circuit) (mem : Mem
 
 -- it is there where the memory should have one
 pub record IsNewMemory {T : Type 0} (l : Members T) (old new : Circuit) (mem : Mem) (x : Option (MemLock T)) : Type 0 where
-  pub locked : is_some x ≡ has_kind mem.lock
+  pub locked : is_some x ≡ has_lock mem.lock
   pub lock : (y : MemLock T) → x ≡ Some y → IsNewLock l old new mem y

@@ -1,10 +1,11 @@
 -- Memories as their locks and arrays take them, and locks that suit them.
-use Rattle.std.specs.Prelude.{◌≡◌, ℕ, ◌+◌, ◌<◌, false, List, [], ◌∷◌, length, slice_index_or, Option, Some, is_some, ⊤}
+use Rattle.std.specs.Prelude.{◌≡◌, ℕ, ◌<◌, false, List, [], ◌∷◌, length, slice_index_or, Option, Some, is_some, ⊤}
 use Rattle.pdl_kit.specs.declared.mem_info.MemInfo.{MemInfo}
-use Rattle.pdl_semantics.specs.Flat.{Lock, Rename, Mem}
+use Rattle.pdl_semantics.specs.Flat.{Mem}
 use Rattle.pdl_semantics.specs.Stages.{mem_at}
 use Rattle.pdl_net.specs.Circuit.{Shape}
 use Rattle.pdl_lockapi.specs.Forget.{as_lock}
+use Rattle.pdl_lockapi.specs.Sizes.{words_in}
 use Rattle.pdl_form.specs.Form.{Form}
 use Rattle.pdl_pipe_law.specs.Walk.{is_locked}
 use Rattle.pdl_stagenets.specs.Locked.{Members, some_at}
@@ -15,11 +16,6 @@ info_of name m = record { name = name; width = m.width; depth = m.depth; delayed
 
 abbrev pub info_at : Form → ℕ → MemInfo
 info_at f m = info_of (slice_index_or f.names m []) (mem_at f.pipe m)
-
--- how many words a memory's array has
-abbrev pub words_in : Lock → ℕ → ℕ
-words_in (Rename size) d = d + d
-words_in _ d = d
 
 abbrev pub shape_in : List ℕ → Mem → Shape
 shape_in name m = record { name = name; width = m.width; depth = words_in m.lock m.depth }

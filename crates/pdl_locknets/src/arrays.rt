@@ -36,7 +36,8 @@ pub fn info(m: &Mem) -> Result<MemInfo, NoMemory>
 fn plain(b: &mut Builder, m: &Mem) -> Result<(), NoMemory>
     requires typed { IsTypedMem (mem_view m.now) }
     ensures unwritten { OnOk result (write_signals b.new (length b.old.arrays) ≡ []) }
-    ensures extends { OnOk result (ExtendsArrays b.old b.new (record { name = m.now.name; width = m.now.width; depth = m.now.depth } ∷ [])) }
+    ensures extends { OnOk result (ExtendsArrays b.old b.new
+        (record { name = m.now.name; width = m.now.width; depth = m.now.depth } ∷ [])) }
 {
     b.array(&m.name, m.width, m.depth)?;
     Ok(())
@@ -51,9 +52,11 @@ fn locked<L: LockModule + Copy>(
 ) -> Result<MemLock<L>, NoMemory>
     requires comb { m.now.delayed ≡ false }
     requires served { IsServed L.suits (members L.LockModule) m.now.name (mem_view m.now) lock.now }
-    ensures lock { IfOk result (λ x. IsNewLock (members L.LockModule) b.old b.new (mem_view m.now) x) }
+    ensures lock { IfOk result (λ x.
+        IsNewLock (members L.LockModule) b.old b.new (mem_view m.now) x) }
     ensures unwritten { OnOk result (write_signals b.new (length b.old.arrays) ≡ []) }
-    ensures extends { OnOk result (ExtendsArrays b.old b.new (shape_in m.now.name (mem_view m.now) ∷ [])) }
+    ensures extends { OnOk result (ExtendsArrays b.old b.new
+        (shape_in m.now.name (mem_view m.now) ∷ [])) }
 {
     let info = info(m)?;
     let regs = lock.emit_state(alloc, b, &info)?;
@@ -69,10 +72,13 @@ fn memory<L: LockModule + Copy>(
 ) -> Result<Option<MemLock<L>>, NoMemory>
     requires typed { IsTypedMem (mem_view m.now) }
     requires comb { m.now.delayed ≡ false }
-    requires served { AreServed L.suits (members L.LockModule) m.now.name (mem_view m.now) lock.now }
-    ensures memory { IfOk result (λ x. IsNewMemory (members L.LockModule) b.old b.new (mem_view m.now) x) }
+    requires served { AreServed L.suits (members L.LockModule) m.now.name
+        (mem_view m.now) lock.now }
+    ensures memory { IfOk result (λ x.
+        IsNewMemory (members L.LockModule) b.old b.new (mem_view m.now) x) }
     ensures unwritten { OnOk result (write_signals b.new (length b.old.arrays) ≡ []) }
-    ensures extends { OnOk result (ExtendsArrays b.old b.new (shape_in m.now.name (mem_view m.now) ∷ [])) }
+    ensures extends { OnOk result (ExtendsArrays b.old b.new
+        (shape_in m.now.name (mem_view m.now) ∷ [])) }
 {
     match lock {
         None => {
@@ -115,11 +121,14 @@ pub fn memories<L: LockModule + Copy>(
     requires mems { AreTypedMems (form pipe.now).pipe.mems }
     requires comb { AreComb (form pipe.now).pipe.mems }
     requires suited { AreSuited L.suits (members L.LockModule) (form pipe.now) locks.now }
-    ensures locked { IfOk result (λ xs. AreLocked (members L.LockModule) b.new (form pipe.now).pipe xs.items) }
-    ensures lawful { IfOk result (λ xs. AreLawful (members L.LockModule) b.new (form pipe.now).pipe xs.items) }
+    ensures locked { IfOk result (λ xs.
+        AreLocked (members L.LockModule) b.new (form pipe.now).pipe xs.items) }
+    ensures lawful { IfOk result (λ xs.
+        AreLawful (members L.LockModule) b.new (form pipe.now).pipe xs.items) }
     ensures above { IfOk result (λ xs. AreAbove b.old (form pipe.now).pipe xs.items) }
     ensures unwritten { OnOk result (AreUnwritten b.new (length (form pipe.now).pipe.mems)) }
-    ensures extends { OnOk result (ExtendsArrays b.old b.new (shapes_in (form pipe.now).names (form pipe.now).pipe.mems)) }
+    ensures extends { OnOk result (ExtendsArrays b.old b.new
+        (shapes_in (form pipe.now).names (form pipe.now).pipe.mems)) }
 {
     let mut made = Vec::new(alloc);
     let mems = pipe.mems();

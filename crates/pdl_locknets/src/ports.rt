@@ -55,7 +55,8 @@ fn push_reserve(
     requires given { IsGivenReserve b.old r.now }
     requires moves { IsThere b.old moves }
     requires one { (signal b.old moves).width ≡ 1 }
-    ensures adds { OnOk result (AddsReserves b.old b.new ports.old ports.new (reserves_to m (signal b.old moves) (reservation_in b.old r.now ∷ []))) }
+    ensures adds { OnOk result (AddsReserves b.old b.new ports.old ports.new
+        (reserves_to m (signal b.old moves) (reservation_in b.old r.now ∷ []))) }
     ensures extends { Extends b.old b.new }
 {
     if r.mem != m {
@@ -84,7 +85,8 @@ fn push_reserves(
     requires given { Each (IsGivenReserve b.old) reserves.now }
     requires moves { IsThere b.old moves }
     requires one { (signal b.old moves).width ≡ 1 }
-    ensures adds { OnOk result (AddsReserves b.old b.new ports.old ports.new (reserves_to m (signal b.old moves) (map (reservation_in b.old) reserves.now))) }
+    ensures adds { OnOk result (AddsReserves b.old b.new ports.old ports.new
+        (reserves_to m (signal b.old moves) (map (reservation_in b.old) reserves.now))) }
     ensures extends { Extends b.old b.new }
 {
     for r in reserves {
@@ -103,7 +105,9 @@ fn reserve_ports<'d>(
 ) -> Result<Seq<ReservePort>, NoMemory>
     requires bits { AreBits b.old bits }
     requires given { Each (IsGiven b.old m) deeds.now }
-    ensures are { IfOk result (λ ps. AreReserves b.new ps (all_reserves m (views_in b.old deeds.now) (moves_in b.old deeds.now) (length deeds.now) 0)) }
+    ensures are { IfOk result (λ ps.
+        AreReserves b.new ps (all_reserves m (views_in b.old deeds.now) (moves_in b.old deeds.now)
+        (length deeds.now) 0)) }
     ensures extends { Extends b.old b.new }
 {
     let mut ports = Seq::new(alloc);
@@ -138,7 +142,8 @@ fn push_write(
     requires moves { IsThere b.old moves }
     requires one { (signal b.old moves).width ≡ 1 }
     requires ticket { IsThere b.old ticket }
-    ensures adds { OnOk result (AddsWrites b.old b.new ports.old ports.new (puts_to m (signal b.old moves) (signal b.old ticket) (put_in b.old x.now ∷ []))) }
+    ensures adds { OnOk result (AddsWrites b.old b.new ports.old ports.new
+        (puts_to m (signal b.old moves) (signal b.old ticket) (put_in b.old x.now ∷ []))) }
     ensures extends { Extends b.old b.new }
 {
     if x.mem != m {
@@ -169,7 +174,8 @@ fn push_writes(
     requires moves { IsThere b.old moves }
     requires one { (signal b.old moves).width ≡ 1 }
     requires ticket { IsThere b.old ticket }
-    ensures adds { OnOk result (AddsWrites b.old b.new ports.old ports.new (puts_to m (signal b.old moves) (signal b.old ticket) (map (put_in b.old) puts.now))) }
+    ensures adds { OnOk result (AddsWrites b.old b.new ports.old ports.new
+        (puts_to m (signal b.old moves) (signal b.old ticket) (map (put_in b.old) puts.now))) }
     ensures extends { Extends b.old b.new }
 {
     for x in puts {
@@ -188,7 +194,9 @@ fn write_ports<'d>(
 ) -> Result<Seq<TicketWrite>, NoMemory>
     requires bits { AreBits b.old bits }
     requires given { Each (IsGiven b.old m) deeds.now }
-    ensures are { IfOk result (λ ps. AreWrites b.new ps (all_puts m (views_in b.old deeds.now) (moves_in b.old deeds.now) (length deeds.now) 0)) }
+    ensures are { IfOk result (λ ps.
+        AreWrites b.new ps (all_puts m (views_in b.old deeds.now) (moves_in b.old deeds.now)
+        (length deeds.now) 0)) }
     ensures extends { Extends b.old b.new }
 {
     let mut ports = Seq::new(alloc);
@@ -224,7 +232,9 @@ fn release_or(
     requires one { (signal b.old moves).width ≡ 1 }
     requires rest { IsThere b.old rest }
     requires rest_one { (signal b.old rest).width ≡ 1 }
-    ensures means { IfOk result (λ y. Means b.new y (lets m (signal b.old moves) (letting_in b.old x.now ∷ []) (signal b.old rest))) }
+    ensures means { IfOk result (λ y.
+        Means b.new y (lets m (signal b.old moves) (letting_in b.old x.now ∷ [])
+        (signal b.old rest))) }
     ensures extends { Extends b.old b.new }
 {
     if x.mem != m {
@@ -249,7 +259,9 @@ fn releases_or(
     requires one { (signal b.old moves).width ≡ 1 }
     requires rest { IsThere b.old rest }
     requires rest_one { (signal b.old rest).width ≡ 1 }
-    ensures means { IfOk result (λ y. Means b.new y (lets m (signal b.old moves) (map (letting_in b.old) lettings.now) (signal b.old rest))) }
+    ensures means { IfOk result (λ y.
+        Means b.new y (lets m (signal b.old moves) (map (letting_in b.old) lettings.now)
+        (signal b.old rest))) }
     ensures extends { Extends b.old b.new }
 {
     let mut net = rest;
@@ -270,7 +282,9 @@ fn release<'d>(
 ) -> Result<Net, NoMemory>
     requires bits { AreBits b.old bits }
     requires given { Each (IsGiven b.old m) deeds.now }
-    ensures means { IfOk result (λ x. Means b.new x (released m (views_in b.old deeds.now) (moves_in b.old deeds.now) (length deeds.now) 0)) }
+    ensures means { IfOk result (λ x.
+        Means b.new x (released m (views_in b.old deeds.now) (moves_in b.old deeds.now)
+        (length deeds.now) 0)) }
     ensures extends { Extends b.old b.new }
 {
     let mut net = bits.zero;
@@ -294,7 +308,8 @@ pub fn lock_ports<'d>(
     requires bits { AreBits b.old bits }
     requires given { Each (IsGiven b.old m) deeds.now }
     requires ticket { IsThere b.old ticket }
-    ensures ports { IfOk result (λ p. ArePorts b.new p (signals_of b.old deeds.now m (signal b.old ticket))) }
+    ensures ports { IfOk result (λ p.
+        ArePorts b.new p (signals_of b.old deeds.now m (signal b.old ticket))) }
     ensures extends { Extends b.old b.new }
 {
     let reserves = reserve_ports(alloc, b, bits, deeds, m)?;

@@ -40,9 +40,14 @@ fn lock_step<'d, L: LockModule>(
     requires unwritten { write_signals b.old m ≡ [] }
     requires ticket { IsThere b.old x.now.regs.ticket }
     requires given { Each (IsGiven b.old m) deeds.now }
-    requires fit { SignalsFit x.now.regs.bits x.now.regs.width (L.tickets x.now.lock) (signals_of b.old deeds.now m (signal b.old x.now.regs.ticket)) }
-    ensures nets { IfOk result (λ n. HasCommitNets b.new x.now.regs.bits x.now.regs.width n.commit n.addr n.value) }
-    ensures law { IfOk result (λ n. StepLaw (L.stands x.now.lock x.now.regs) (L.size x.now.lock) (L.tickets x.now.lock) (own x.now.regs) b.new (signals_of b.old deeds.now m (signal b.old x.now.regs.ticket)) (signal b.new n.commit) (signal b.new n.addr) (signal b.new n.value)) }
+    requires fit { SignalsFit x.now.regs.bits x.now.regs.width (L.tickets x.now.lock)
+        (signals_of b.old deeds.now m (signal b.old x.now.regs.ticket)) }
+    ensures nets { IfOk result (λ n.
+        HasCommitNets b.new x.now.regs.bits x.now.regs.width n.commit n.addr n.value) }
+    ensures law { IfOk result (λ n.
+        StepLaw (L.stands x.now.lock x.now.regs) (L.size x.now.lock) (L.tickets x.now.lock)
+        (own x.now.regs) b.new (signals_of b.old deeds.now m (signal b.old x.now.regs.ticket))
+        (signal b.new n.commit) (signal b.new n.addr) (signal b.new n.value)) }
     ensures extends { OnOk result (ExtendsBut (own x.now.regs) b.old b.new) }
 {
     let ports = lock_ports(alloc, b, bits, deeds, m, x.regs.ticket)?;
@@ -72,8 +77,12 @@ fn memory_step<'d, L: LockModule>(
     requires bits { AreBits b.old bits }
     requires locked { AreLocked (members L.LockModule) b.old (form _pipe.now).pipe locks.now }
     requires unwritten { write_signals b.old m ≡ [] }
-    requires deeds { AreDeeds (members L.LockModule) b.old (form _pipe.now).pipe (form _pipe.now).widths locks.now deeds.now }
-    ensures stepped { IfOk result (λ n. IsSteppedMemory (members L.LockModule) b.new (mem_at (form _pipe.now).pipe m) (steps_in (members L.LockModule) b.old (form _pipe.now).pipe locks.now deeds.now m) (some_at locks.now m) n) }
+    requires deeds { AreDeeds (members L.LockModule) b.old (form _pipe.now).pipe
+        (form _pipe.now).widths locks.now deeds.now }
+    ensures stepped { IfOk result (λ n.
+        IsSteppedMemory (members L.LockModule) b.new (mem_at (form _pipe.now).pipe m)
+        (steps_in (members L.LockModule) b.old (form _pipe.now).pipe locks.now deeds.now m)
+        (some_at locks.now m) n) }
     ensures extends { OnOk result (ExtendsBut (own_of (some_at locks.now m)) b.old b.new) }
 {
     match lock_at(locks, m) {
@@ -100,9 +109,14 @@ pub fn step<'d, L: LockModule>(
     requires locked { AreLocked (members L.LockModule) b.old (form pipe.now).pipe locks.now }
     requires lawful { AreLawful (members L.LockModule) b.old (form pipe.now).pipe locks.now }
     requires unwritten { AreUnwritten b.old (length (form pipe.now).pipe.mems) }
-    requires deeds { AreDeeds (members L.LockModule) b.old (form pipe.now).pipe (form pipe.now).widths locks.now deeds.now }
-    ensures stepped { IfOk result (λ ns. AreStepped (members L.LockModule) b.new (form pipe.now).pipe (steps_in (members L.LockModule) b.old (form pipe.now).pipe locks.now deeds.now) locks.now ns.items (length (form pipe.now).pipe.mems)) }
-    ensures extends { OnOk result (ExtendsLocks locks.now (length (form pipe.now).pipe.mems) b.old b.new) }
+    requires deeds { AreDeeds (members L.LockModule) b.old (form pipe.now).pipe
+        (form pipe.now).widths locks.now deeds.now }
+    ensures stepped { IfOk result (λ ns.
+        AreStepped (members L.LockModule) b.new (form pipe.now).pipe
+        (steps_in (members L.LockModule) b.old (form pipe.now).pipe locks.now deeds.now) locks.now
+        ns.items (length (form pipe.now).pipe.mems)) }
+    ensures extends { OnOk result (ExtendsLocks locks.now
+        (length (form pipe.now).pipe.mems) b.old b.new) }
 {
     let mut nets = Vec::new(alloc);
     for m in 0..pipe.mems().len() {

@@ -1,16 +1,16 @@
 -- What holds of a thread as its stage begins: its blocks for reading are ready, it holds at most one location of a memory, and a guess has as many arguments as it should. So the statements of its stage are fine.
 use Rattle.std.proofs.Common.{◌≡◌, refl, sym, ap, ap₂, ◌∙◌, subst, ℕ, suc, ◌≤◌, ◌<◌, inl, inr, Bool, true, false, ◌&&◌, ◌||◌, not, List, [], ◌∷◌, ◌++◌, length, None, ◌==◌, cond, if◌then◌else◌, arith, slice_index}
-use Rattle.std.proofs.lemmas.Bool.{false≢true, eqb-true}
+use Rattle.std.proofs.lemmas.Bool.{false≢true, eqb-true, or_parts, not-true}
 use Rattle.pdl_semantics.specs.Flat.{list_all, Op, Bind, CombRead, DelayedRead, Write, ReserveRead, ReserveWrite, Block, Release, Call, SpecCall, Verify, SpecCheck, SpecBarrier, Stmt, Pipe, Commit, taken}
 use Rattle.pdl_semantics.specs.Stages.{onpath, in_stage, mem_at, reserve_stage, commit_stage, is_release, verify_stage}
 use Rattle.pdl_semantics.specs.Locks.{read_ready, write_ready}
-use Rattle.pdl_semantics.specs.Machine.{State, Thread, Pending, Place, Blocked, Reserved, Ask, Deeds, does, does_all, is_held, let_go, held_after, held_before, older_write, word_for, with_answers, with_kept}
+use Rattle.pdl_semantics.specs.Machine.{State, Place, Blocked, Reserved, Ask, Deeds, does, is_held, let_go, held_after, held_before, word_for, with_answers}
 use Rattle.pdl_semantics.specs.Machine
 use Rattle.pdl_semantics.specs.Sound.{stages_before, is_release_at}
 use Rattle.pdl_semantics.specs.Moves.{block_ready}
 use Rattle.pdl_semantics.specs.Locks.{has_room}
 use Rattle.pdl_semantics.specs.Machine.{lock_of}
-use Rattle.pdl_derived.specs.Derived.{Entry, Work, Around, do_all, has, latest, around, port_free}
+use Rattle.pdl_derived.specs.Derived.{Entry, Work, Around, has, latest, around, port_free}
 use Rattle.pdl_derived.specs.Derived
 use Rattle.pdl_derived.specs.Alone.{looked}
 use Rattle.pdl_facts.specs.Scans.{no_guards, Phase, Fresh, Held, Written, Done, phase_all, Scan, no_scan, opened, opens, opens_all, op_ok, reads_ok, none_of, location}
@@ -19,10 +19,10 @@ use Rattle.pdl_facts.specs.Facts.{Sound, looked_all}
 use Rattle.pdl_derived.proofs.Writes.{and_left, and_right}
 use Rattle.pdl_derived.proofs.Entries.{entries_of}
 use Rattle.pdl_derived.proofs.Deeds.{places, places_has, work_of, AllFit, told_step}
-use Rattle.pdl_turns.proofs.Paths.{Fixed}
+use Rattle.pdl_turns.proofs.Paths.{Fixed, none_onpath}
 use Rattle.pdl_turns.proofs.Alike.{Right, in_stage_all}
 use Rattle.pdl_simulation.proofs.Joined.{sound_flows}
-use Rattle.pdl_simulation.proofs.Shapes.{Shape, none_path, none_till, held_ops, held_path}
+use Rattle.pdl_simulation.proofs.Shapes.{Shape, none_till, held_ops, held_path}
 use Rattle.pdl_simulation.proofs.Stretches.{Keeps, start_deeds, fixed_here}
 use Rattle.pdl_simulation.proofs.Seats.{Live, seat, threads_of, dacts, now_of, befores_are}
 use Rattle.pdl_simulation.proofs.Choices.{Known, keeps_now, fit_all}
@@ -45,19 +45,10 @@ use Rattle.pdl_lockuse.proofs.Paths.{path, mine, passed, mine_new, mine_let_in, 
 
 -- STATEMENTS THAT WENT BY
 
--- a location that no statement reserves for writing is not held behind them
-or_no : (a b : Bool) → (a || b) ≡ false → (a ≡ false) × (b ≡ false)
-or_no true b h = absurd (cc h)
-or_no false b h = (refl, h)
-
-not_yes : (b : Bool) → not b ≡ true → b ≡ false
-not_yes true h = absurd (cc h)
-not_yes false h = refl
-
 unheld_let_go : (hs : List Place) (n b m a : ℕ) → is_held hs m a ≡ false → is_held (let_go hs n b) m a ≡ false
 unheld_let_go [] n b m a h = h
 unheld_let_go (l ∷ hs) n b m a h =
-    let k = or_no ((l.mem == m) && (l.var == a)) (is_held hs m a) h in
+    let k = or_parts ((l.mem == m) && (l.var == a)) (is_held hs m a) h in
     at ((l.mem == n) && (l.var == b)) k.0 k.1 (unheld_let_go hs n b m a k.1)
   where
     at : (t : Bool) → ((l.mem == m) && (l.var == a)) ≡ false → is_held hs m a ≡ false → is_held (let_go hs n b) m a ≡ false
@@ -73,13 +64,13 @@ unheld_op m a _ hs r h = h
 unheld_all : (m a : ℕ) (xs : List Stmt) (hs : List Place) → none_of (reserves_at m a) xs ≡ true → is_held hs m a ≡ false → is_held (held_ops xs hs) m a ≡ false
 unheld_all m a [] hs r h = h
 unheld_all m a (x ∷ xs) hs r h =
-    unheld_all m a xs (held_after x.op hs) (and_right (not (reserves_at m a x.op)) _ r) (unheld_op m a x.op hs (not_yes _ (and_left _ _ r)) h)
+    unheld_all m a xs (held_after x.op hs) (and_right (not (reserves_at m a x.op)) _ r) (unheld_op m a x.op hs (not-true _ (and_left _ _ r)) h)
 
 unreleased_onto : (m a : ℕ) (xs : List Stmt) (past : List Op) → none_of (is_release m) xs ≡ true → is_released m a past ≡ false
     → is_released m a (onto xs past) ≡ false
 unreleased_onto m a [] past r h = h
 unreleased_onto m a (x ∷ xs) past r h =
-    unreleased_onto m a xs (x.op ∷ past) (and_right (not (is_release m x.op)) _ r) (ap₂ (λ b c. b || c) (one x.op (not_yes _ (and_left _ _ r))) h)
+    unreleased_onto m a xs (x.op ∷ past) (and_right (not (is_release m x.op)) _ r) (ap₂ (λ b c. b || c) (one x.op (not-true _ (and_left _ _ r))) h)
   where
     at : (b c : Bool) → b ≡ false → (b && c) ≡ false
     at true c k = absurd (cc k)
@@ -282,7 +273,7 @@ module _ (p : Pipe) (sound : Sound p) (st : State) (d : Derived.State) (bits : L
     unreleased_yet : (m a : ℕ) → l.thread.stage ≤ commit_stage p m → is_released m a (past_of p l.env l.thread.stage) ≡ false
     unreleased_yet m a i =
         unreleased_onto m a done []
-        (none_path (is_release m) l.env (stages_before l.thread.stage p.stmts) (none_till (is_release m) (commit_stage p m) l.thread.stage p.stmts ((sound_flows p sound).releases m) i)) refl
+        (none_onpath (is_release m) l.env (stages_before l.thread.stage p.stmts) (none_till (is_release m) (commit_stage p m) l.thread.stage p.stmts ((sound_flows p sound).releases m) i)) refl
 
     reads_here : reads_ok p (opens_all (looked_all done) no_scan)
         (looked_all own) ≡ true

@@ -10,8 +10,8 @@ use Rattle.pdl_rules.specs.Parts.{location_of}
 use Rattle.pdl_rules.specs.Locks
 use Rattle.pdl_rules.specs.Locks.{same_location, Hold, Nothing, Reserved, Blocked, Released, after_place, held, is_blocked, is_blocked_for}
 use Rattle.pdl_rules.specs.Typed.{is_named}
-use Rattle.pdl_rules.proofs.Straight.{Each}
-use Rattle.pdl_rules.proofs.Once.{KeepsLocks, bytes_same}
+use Rattle.pdl_rules.proofs.EachPlace.{Each}
+use Rattle.pdl_rules.proofs.Once.{KeepsLocks}
 use Rattle.pdl_derived.specs.Alone.{looked}
 use Rattle.pdl_facts.specs.Facts.{looked_all}
 use Rattle.pdl_stagefacts.proofs.Sites.{Site, front_of, place_of, closing, All}
@@ -22,6 +22,7 @@ use Rattle.pdl_pathfacts.proofs.ReadsKept.{held_more}
 use Rattle.pdl_pathfacts.proofs.Variables.{IsNamed}
 use Rattle.pdl_invariant.proofs.Past.{onto}
 use Rattle.pdl_lockuse.specs.Careful.{is_block_at, was_blocked, is_let_in, all_let_in}
+use Rattle.pdl_word.proofs.Bytes.{bytes_same}
 
 -- WHERE DELAYED READS ARE READS
 

@@ -16,8 +16,7 @@ use Rattle.pdl_turns.proofs.Astray.{sure_first}
 use Rattle.pdl_turns.proofs.Roams.{verify_looked}
 use Rattle.pdl_turns.proofs.Whole
 use Rattle.pdl_simulation.proofs.FlowFacts.{next_of}
-use Rattle.pdl_simulation.proofs.Joined.{sound_flows}
-use Rattle.pdl_simulation.proofs.Shapes.{phase_append}
+use Rattle.pdl_simulation.proofs.Joined.{sound_flows, phases_looked}
 use Rattle.pdl_simulation.proofs.Stretches.{Behind, Keeps, start_of, fixed_here}
 use Rattle.pdl_simulation.proofs.Seats.{Live, Each, each_map, threads_of, dacts, did, now_of, work_of_live, deeds_of, befores_are}
 use Rattle.pdl_simulation.proofs.Choices.{Known, keeps_now}
@@ -26,9 +25,10 @@ use Rattle.pdl_invariant.proofs.Points.{any_onto}
 use Rattle.pdl_invariant.proofs.Stage.{barred, clear_all, way_looked}
 use Rattle.pdl_invariant.proofs.Stage as stage
 use Rattle.pdl_invariant.proofs.Lasting.{Lasting}
-use Rattle.pdl_invariant.proofs.Releases.{is_done, sure_done, low_stages, stages_looked, unbarred, phases_looked}
+use Rattle.pdl_invariant.proofs.Releases.{is_done, sure_done, low_stages, stages_looked, unbarred}
 use Rattle.pdl_lockuse.proofs.Paths.{path, mine, passed, way_is}
 use Rattle.pdl_lockuse.proofs.OwnWrite.{used_here}
+use Rattle.pdl_turns.proofs.Pending.{phase_append}
 
 -- barriers stand in the trunk alone
 not_barred : (xs : List Stmt) (path : List ℕ) → none_of trunk_only xs ≡ true → stage.some_barrier (onpath path xs) ≡ true → ⊥

@@ -10,6 +10,7 @@ use Rattle.pdl_facts.specs.Scans.{Phase, Fresh, Held, Written, Done, after_relea
 use Rattle.pdl_derived.proofs.Writes.{and_left}
 use Rattle.pdl_turns.proofs.Alike.{Right}
 use Rattle.pdl_simulation.proofs.FlowFacts.{use_ok}
+use Rattle.pdl_word.proofs.Bools.{or_map}
 
 -- BLOCKED FOR READING
 
@@ -51,10 +52,6 @@ right_at p s clean (l ∷ ls) env m a h c r = at (l.mem == m) refl (l.var == a) 
 -- what is held was reserved
 abbrev pub Covers : List Location → List Place → Type 0
 Covers ls hs = (m a : ℕ) → is_held hs m a ≡ true → opened ls m a ≡ true
-
-or_map : (b c d : Bool) → (c ≡ true → d ≡ true) → (b || c) ≡ true → (b || d) ≡ true
-or_map true c d f h = refl
-or_map false c d f h = f h
 
 held_let_go : (hs : List Place) (n b m a : ℕ) → is_held (let_go hs n b) m a ≡ true → is_held hs m a ≡ true
 held_let_go [] n b m a h = h

@@ -1,7 +1,7 @@
 -- The statements of a thread's stage, one after another: reads are ready where its blocks are, what is released is held no more, and a verify has as many arguments as the guess.
 use Rattle.std.proofs.Common.{◌≡◌, refl, sym, ap, ap₂, ◌∙◌, subst, ℕ, suc, Bool, true, false, ◌&&◌, ◌||◌, not, List, [], ◌∷◌, ◌++◌, length, Option, Some, cond, nat_le, slice_index}
 use Rattle.std.proofs.lemmas.Bool.{false≢true, leb-true, eqb-true}
-use Rattle.pdl_semantics.specs.Flat.{list_all, Op, Bind, CombRead, DelayedRead, ReserveWrite, Block, Release, Call, SpecCall, Verify, Stmt, Expr, Lock, Pipe, taken, value_of, values_of}
+use Rattle.pdl_semantics.specs.Flat.{list_all, Op, Bind, CombRead, DelayedRead, ReserveWrite, Block, Release, Call, SpecCall, Verify, Stmt, Expr, Lock, Plain, Pipe, taken, value_of, values_of}
 use Rattle.pdl_semantics.specs.Stages.{onpath, mem_at, reserve_stage, commit_stage}
 use Rattle.pdl_semantics.specs.Locks.{Latest, read_ready, write_ready}
 use Rattle.pdl_semantics.specs.Machine.{State, Blocked, Deeds, does, is_held, older_write, word_for, same_args}
@@ -15,7 +15,6 @@ use Rattle.pdl_turns.proofs.Alike.{Right, AllIn}
 use Rattle.pdl_simulation.proofs.FlowFacts.{use_ok, uses_ok}
 use Rattle.pdl_machine_facts.specs.Slots.{is_ready}
 use Rattle.pdl_machine_facts.specs.Use.{is_early, IsOpFine, AreFine}
-use Rattle.pdl_machine_facts.proofs.LockKinds.{plain_is}
 use Rattle.pdl_machine_facts.proofs.UsingTurn.{IsAlong}
 use Rattle.pdl_lockuse.specs.Careful.{passes_on}
 use Rattle.pdl_lockuse.proofs.Clean.{right_set, right_at, Covers, covers_op, held_does, IsOnce, released_here, once_op}
@@ -40,7 +39,8 @@ module _ (p : Pipe) (st : State) (n : ℕ) where
   RightIf s c d = is_ready p st n d ≡ true → Right p s Clean c.blocked d.env
 
   plain_ready : (k : Lock) (l : Latest) → is_plain k ≡ true → read_ready k l ≡ true
-  plain_ready k l h = ap (λ (x : Lock). read_ready x l) (plain_is k h)
+  plain_ready Plain l h = refl
+  plain_ready _ l h = absurd (cc h)
 
   pub read_here : (s : ℕ) (c : Scan) (x m a : ℕ) (d : Deeds) → op_ok p s c (CombRead x m a) ≡ true → RightIf s c d → is_ready p st n d ≡ true
       → read_ready (mem_at p m).lock (older_write st n m (slice_index d.env a)) ≡ true

@@ -10,14 +10,14 @@ use Rattle.pdl_semantics.specs.Tree.{Span, Location, R, W, Stmt, Separator, Comb
 use Rattle.pdl_semantics.specs.Flat
 use Rattle.pdl_semantics.specs.Flatten.{Var, var_of, mem_of, flat, flat_exprs, start_of, params_of, width_of}
 use Rattle.pdl_semantics.specs.Stages.{onpath}
-use Rattle.pdl_rules.specs.Places.{on_path, Place, Statement, StartClause, End, places}
+use Rattle.pdl_rules.specs.Places.{on_path, Place, Statement, StartClause, End}
 use Rattle.pdl_rules.specs.Parts.{location_of}
 use Rattle.pdl_rules.specs.Locks
-use Rattle.pdl_rules.specs.Locks.{same_location, Hold, Reserved, held, is_reserved, is_unreleased, is_reserved_again, reserves_location}
+use Rattle.pdl_rules.specs.Locks.{same_location, held, reserves_location}
 use Rattle.pdl_rules.specs.Refusal.{KeepsRules}
 use Rattle.pdl_rules.specs.Widths.{variables, are_no_arguments, breaks_w5}
-use Rattle.pdl_rules.proofs.Straight.{Each}
-use Rattle.pdl_rules.proofs.Once.{KeepsLocks, any_weaker, any_front, bytes_refl, reserves_alike}
+use Rattle.pdl_rules.proofs.EachPlace.{Each}
+use Rattle.pdl_rules.proofs.Once.{KeepsLocks, any_weaker, any_front, reserves_alike}
 use Rattle.pdl_derived.specs.Alone.{looked}
 use Rattle.pdl_derived.proofs.Writes.{and_left, and_right}
 use Rattle.pdl_facts.specs.Scans.{none_of}
@@ -30,12 +30,14 @@ use Rattle.pdl_pathfacts.proofs.Choices.{path_of}
 use Rattle.pdl_pathfacts.proofs.Numbers.{var_stays, var_same, mem_same}
 use Rattle.pdl_pathfacts.proofs.Along.{ops_of, stmts_at, own_is, seen_ops, seen, on_sites, path_is}
 use Rattle.pdl_pathfacts.proofs.Growth.{Grown, Grows, grown_more, past_grown, vars_past, all_vars, grows_all, grows_on}
-use Rattle.pdl_pathfacts.proofs.ReadsKept.{open_reserved}
+use Rattle.pdl_pathfacts.proofs.ReadsKept.{open_reserved, reserved_open}
 use Rattle.pdl_pathfacts.proofs.Variables.{Here, all_here, IsNamed, located}
 use Rattle.pdl_pathfacts.proofs.Walk.{all_on, keeps_all, text_places}
 use Rattle.pdl_pathfacts.proofs.Same.{value, all_alike}
 use Rattle.pdl_lockuse.specs.Careful.{Careful, reserves_at, keeps_kind, all_keep_kind, all_let_in, passes_on}
 use Rattle.pdl_lockuse.proofs.BlockedFirst.{named_grown, lets_looked, sites_let, none_blocked}
+use Rattle.pdl_word.proofs.Bytes.{bytes_refl}
+use Rattle.pdl_pathfacts.proofs.Sited.{none_append}
 
 -- WHERE DELAYED READS ARE READS
 
@@ -67,10 +69,6 @@ kinds_looked [] = refl
 kinds_looked (x ∷ xs) = ap₂ (λ a b. a && b) (keeps_looked x.op xs) (kinds_looked xs)
 
 -- A LOCATION THAT WAS RESERVED
-
-none_append : (test : Flat.Op → Bool) (xs ys : List Flat.Stmt) → none_of test xs ≡ true → none_of test ys ≡ true → none_of test (xs ++ ys) ≡ true
-none_append test [] ys h k = k
-none_append test (x ∷ xs) ys h k = and_from _ _ (and_left _ _ h) (none_append test xs ys (and_right (not (test x.op)) _ h) k)
 
 module _ (p : Pipe) (at : Location) (vs : List Var) (there : IsNamed p.mems vs at) where
   abbrev m0 : ℕ
@@ -127,13 +125,6 @@ module _ (p : Pipe) (at : Location) (vs : List Var) (there : IsNamed p.mems vs a
       (any_front (reserves_location at) before (place_of t) r))
 
 -- A PATH
-
--- what is blocked was reserved
-reserved_open : (h : Hold) → is_reserved h ≡ true → is_unreleased h ≡ true
-reserved_open (Reserved k) i = refl
-reserved_open Locks.Nothing i = absurd (false≢true i)
-reserved_open (Locks.Blocked k) i = absurd (false≢true i)
-reserved_open Locks.Released i = absurd (false≢true i)
 
 sites_kinds : (p : Pipe) (vs us : List Var) (before : List Place) (ts : List Site) → Grows p.mems vs ts us
     → Each (KeepsLocks p) before (map place_of ts ++ closing p) → All (λ t. (l : Location) → location_of t.stmt ≡ Some l → IsNamed p.mems t.walk.vars l) ts

@@ -3,7 +3,7 @@ use Rattle.std.proofs.Common.{◌≡◌, refl, sym, ap, ap₂, ◌∙◌, subst,
 use Rattle.std.specs.Prelude.{Contains}
 use Rattle.std.proofs.lemmas.Bool.{false≢true, ne_eqb}
 use Rattle.pdl_word.specs.Words
-use Rattle.pdl_semantics.specs.Flat.{Arrays, Pipe, Plain, Stmt, list_all}
+use Rattle.pdl_semantics.specs.Flat.{Pipe, Plain, Stmt, list_all}
 use Rattle.pdl_semantics.specs.Stages.{list_any, onpath, in_stage, stage_at, goes_to, mem_at, is_release, reserve_stage, commit_stage, verify_stage}
 use Rattle.pdl_semantics.specs.Machine.{State, Thread, Pending, Deeds, lock_of, deeds, held_before, with_answers}
 use Rattle.pdl_semantics.specs.Sound.{stages_from}
@@ -19,7 +19,7 @@ use Rattle.pdl_derived.proofs.Lists.{pend}
 use Rattle.pdl_turns.proofs.Own.{pend_own}
 use Rattle.pdl_turns.proofs.Looks.{path_looked}
 use Rattle.pdl_simulation.proofs.Joined.{sound_flows}
-use Rattle.pdl_simulation.proofs.Shapes.{shape_over, phase_append, over_early}
+use Rattle.pdl_simulation.proofs.Shapes.{shape_over, over_early}
 use Rattle.pdl_simulation.proofs.Stretches.{on_way}
 use Rattle.pdl_simulation.proofs.Seats.{Live, Each, find, pends, dacts, lact, lacts, did, deeds_of}
 use Rattle.pdl_simulation.proofs.Telling.{Pair, pairs, EachPair, pair_map, pair_both}
@@ -30,7 +30,7 @@ use Rattle.pdl_simulation.proofs.Together.{Sim, known, acts_are, fit}
 use Rattle.pdl_simulation.proofs.Turned.{two_is}
 use Rattle.pdl_lockapi.specs.Forget as forget
 use Rattle.pdl_machine_facts.specs.Slots
-use Rattle.pdl_machine_facts.specs.Slots.{LeadsOn, slot, here, goes}
+use Rattle.pdl_machine_facts.specs.Slots.{LeadsOn}
 use Rattle.pdl_machine_facts.specs.Cycle.{IsByStages}
 use Rattle.pdl_machine_facts.specs.Use.{before_stage, AreFine, IsInUse}
 use Rattle.pdl_machine_facts.proofs.Stagewise.{by_stages}
@@ -51,6 +51,7 @@ use Rattle.pdl_lockuse.proofs.Owns.{contains_write, first_is, own_two, has_open,
 use Rattle.pdl_lockuse.proofs.Awaits.{still_early}
 use Rattle.pdl_lockuse.proofs.Tails.{Bars, up_released, bars_commit, bars_verify, all_own, tail_kept}
 use Rattle.pdl_lockuse.proofs.Cuts.{order_filled, order_behind, tail_left, front_left}
+use Rattle.pdl_turns.proofs.Pending.{phase_append}
 
 -- STAGES
 

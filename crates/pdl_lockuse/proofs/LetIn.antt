@@ -1,6 +1,6 @@
 -- A read and a write find the blocks of their locations ready: those of the stage since the thread moves, earlier ones since they stay so.
 use Rattle.std.proofs.Common.{◌≡◌, refl, sym, ap, ap₂, ◌∙◌, subst, ℕ, ◌≤◌, inl, inr, Bool, true, false, ◌&&◌, ◌||◌, not, List, [], ◌∷◌, ◌++◌, Some, ◌==◌, cond, slice_index}
-use Rattle.std.proofs.lemmas.Bool.{false≢true, leb-true}
+use Rattle.std.proofs.lemmas.Bool.{false≢true, leb-true, or_parts}
 use Rattle.pdl_semantics.specs.Flat.{list_all, Op, Bind, CombRead, DelayedRead, Write, ReserveWrite, Block, Verify, Stmt, Pipe, taken, value_of, values_of}
 use Rattle.pdl_semantics.specs.Stages.{onpath, mem_at, reserve_stage, commit_stage}
 use Rattle.pdl_semantics.specs.Locks.{read_ready, write_ready}
@@ -46,14 +46,9 @@ blocked_opened m a (op ∷ past) h = one op h (blocked_opened m a past)
     one (Block n b) i f = at ((n == m) && (b == a)) (was_blocked m a past) (blocks_of past) i f
     one _ i f = f i
 
--- a variable with which no statement has to do is no address among them
-or_no : (a b : Bool) → (a || b) ≡ false → (a ≡ false) × (b ≡ false)
-or_no true b h = absurd (cc h)
-or_no false b h = (refl, h)
-
 not_used : (x : ℕ) (past : List Op) → mentioned x past ≡ false → uses (blocks_of past) x ≡ false
 not_used x [] h = refl
-not_used x (op ∷ past) h = let k = or_no (mentions x op) (mentioned x past) h in one op k.0 (not_used x past k.1)
+not_used x (op ∷ past) h = let k = or_parts (mentions x op) (mentioned x past) h in one op k.0 (not_used x past k.1)
   where
     one : (op : Op) → mentions x op ≡ false → uses (blocks_of past) x ≡ false → uses (block_of op (blocks_of past)) x ≡ false
     one (Block m a) i r = ap₂ (λ b c. b || c) i r

@@ -8,7 +8,7 @@ use Rattle.pdl_semantics.specs.Machine.{State, Pending, Blocked, Reserved, Writt
 use Rattle.pdl_semantics.specs.Moves.{block_ready, next_stage}
 use Rattle.pdl_semantics.specs.Cycle.{new_entries, put, put_all, is_stage}
 use Rattle.pdl_derived.specs.Derived
-use Rattle.pdl_derived.specs.Derived.{Entry, Work, Around, do_all, around, port_free}
+use Rattle.pdl_derived.specs.Derived.{Entry, Work, Around, around, port_free}
 use Rattle.pdl_facts.specs.Scans.{Phase, Fresh, Held, Written as Filled, Done, after_release, next_phase, phase_all, holds, is_fresh}
 use Rattle.pdl_facts.specs.Facts.{Sound}
 use Rattle.pdl_derived.proofs.Writes.{and_left, and_right}
@@ -26,10 +26,10 @@ use Rattle.pdl_simulation.proofs.Choices.{Known, keeps_now, fit_all, told_here}
 use Rattle.pdl_machine_facts.specs.Use.{in_time, is_early}
 use Rattle.pdl_machine_facts.proofs.UsingTurn.{IsAlong, writes_to}
 use Rattle.pdl_invariant.specs.Strict.{Strict}
-use Rattle.pdl_invariant.proofs.Points.{any_left}
 use Rattle.pdl_lockuse.specs.Use.{written_in, is_open}
 use Rattle.pdl_lockuse.proofs.Paths.{path, mine, passed, mine_uses, mine_early}
 use Rattle.pdl_lockuse.proofs.Begins.{begun, begun_is, along_here}
+use Rattle.pdl_invariant.proofs.Local.{any_front}
 
 -- LISTS
 
@@ -176,7 +176,7 @@ module _ (o : Around) (read : ℕ → ℕ → ℕ) (block : Blocked → Bool) (r
       few = w.once.few;
       unfilled =
           λ i. ap (λ l. is_open n (start ++ l)) (new_more m n d.reserves (record { mem = j; address = slice_index d.env a }))
-          ∙ ap (is_open n) (sym (append_assoc start (new_entries m n d.reserves) _)) ∙ any_left _ (start ++ new_entries m n d.reserves) _ (w.once.unfilled i);
+          ∙ ap (is_open n) (sym (append_assoc start (new_entries m n d.reserves) _)) ∙ any_front _ (start ++ new_entries m n d.reserves) _ (w.once.unfilled i);
     };
   }
     where

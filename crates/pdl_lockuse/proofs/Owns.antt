@@ -20,9 +20,9 @@ use Rattle.pdl_simulation.proofs.Turned.{part, two, release_here, next_up}
 use Rattle.pdl_lockapi.specs.Forget.{has_thread}
 use Rattle.pdl_machine_facts.proofs.UsingTurn.{writes_to}
 use Rattle.pdl_invariant.proofs.LockCycle.{appended_more}
-use Rattle.pdl_invariant.proofs.Points.{any_left, any_right}
 use Rattle.pdl_lockuse.specs.Use.{Own, is_open}
 use Rattle.pdl_lockuse.proofs.OwnWrite.{used_here}
+use Rattle.pdl_invariant.proofs.Local.{any_append, any_front}
 
 -- a write among others
 pub contains_write : (m : ℕ) (ws : List Written) (w : Written) → w.mem ≡ m → Contains ws w → writes_to m ws ≡ true
@@ -39,7 +39,7 @@ contains_write m ws w e c = at ws c.0 c.1 c.2
 
 any_appended : (test : Pending → Bool) (m : ℕ) (ms : List Act) (xs : List Pending) → list_any test xs ≡ true → list_any test (appended m ms xs) ≡ true
 any_appended test m [] xs h = h
-any_appended test m (a ∷ ms) xs h = any_left test (appended m ms xs) (new_entries m a.thread.number a.does.reserves) (any_appended test m ms xs h)
+any_appended test m (a ∷ ms) xs h = any_front test (appended m ms xs) (new_entries m a.thread.number a.does.reserves) (any_appended test m ms xs h)
 
 -- the oldest of a list
 pub first_is : (xs : List Pending) (e : Pending) → oldest xs ≡ Some e → xs ≡ e ∷ but_oldest xs
@@ -125,17 +125,17 @@ module _ (p : Pipe) (sound : Sound p) (st : State) (d : Derived.State) (bits : L
           → list_any test
           (appended m (cond b (lact p st d bits ls l ∷ movers (lacts p st d bits ls)) (movers (lacts p st d bits ls))) (pends m ls ++ pend m l.number l.thread.entries)) ≡ true
       more b h =
-          let t = appended_more p (sound_flows p sound) st d bits arrays m ls l s.0 o.0 b in ap (list_any test) t.1 ∙ any_left test (appended m (movers (lacts p st d bits ls)) (pends m ls)) t.0 h
+          let t = appended_more p (sound_flows p sound) st d bits arrays m ls l s.0 o.0 b in ap (list_any test) t.1 ∙ any_front test (appended m (movers (lacts p st d bits ls)) (pends m ls)) t.0 h
 
       split : (xs ys zs : List Pending) → list_any test (xs ++ ys) ≡ true → (list_any test xs ≡ true → list_any test zs ≡ true)
           → list_any test (zs ++ ys) ≡ true
-      split [] ys zs e h = any_right test zs ys e
+      split [] ys zs e h = any_append test zs ys e
       split (x ∷ xs) ys zs e h = at (test x) refl e (split xs ys zs)
         where
           at : (b : Bool) → test x ≡ b → (b || list_any test (xs ++ ys)) ≡ true
               → (list_any test (xs ++ ys) ≡ true → (list_any test xs ≡ true → list_any test zs ≡ true) → list_any test (zs ++ ys) ≡ true)
               → list_any test (zs ++ ys) ≡ true
-          at true f i go = any_left test zs ys (h (ap (λ b. b || list_any test xs) f))
+          at true f i go = any_front test zs ys (h (ap (λ b. b || list_any test xs) f))
           at false f i go = go i (λ j. h (ap (λ b. b || list_any test xs) f ∙ j))
 
       mine : (b : Bool) → b ≡ true → list_any test (pend m l.number l.thread.entries ++ new_entries m l.number (deeds_of p st bits l).reserves) ≡ true
@@ -145,7 +145,7 @@ module _ (p : Pipe) (sound : Sound p) (st : State) (d : Derived.State) (bits : L
       mine true i h =
           split (pend m l.number l.thread.entries) (new_entries m l.number (deeds_of p st bits l).reserves)
           (appended m (movers (lacts p st d bits ls)) (pends m ls ++ pend m l.number l.thread.entries)) h
-          (λ g. any_appended test m (movers (lacts p st d bits ls)) (pends m ls ++ pend m l.number l.thread.entries) (any_right test (pends m ls) (pend m l.number l.thread.entries) g))
+          (λ g. any_appended test m (movers (lacts p st d bits ls)) (pends m ls ++ pend m l.number l.thread.entries) (any_append test (pends m ls) (pend m l.number l.thread.entries) g))
 
   pub has_open : (ls : List Live) → Each (Seated p st) ls → Ordered p ls
       → EachPair

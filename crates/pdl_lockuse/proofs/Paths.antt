@@ -1,5 +1,5 @@
 -- What the facts of an accepted pipe say of the statements that a thread has behind it, and of those of its stage, on the path that it takes.
-use Rattle.std.proofs.Common.{◌≡◌, refl, sym, ap, ap₂, ◌∙◌, subst, ℕ, ◌<◌, Bool, true, false, ◌&&◌, ◌||◌, not, List, [], ◌∷◌, ◌++◌, length, Option, ◌==◌, nat_lt, nat_le, cond, arith, append_assoc, eq-eqb, leb-false, le-leb}
+use Rattle.std.proofs.Common.{◌≡◌, refl, sym, ap, ap₂, ◌∙◌, subst, ℕ, ◌<◌, Bool, true, false, ◌&&◌, ◌||◌, not, List, [], ◌∷◌, ◌++◌, length, ◌==◌, nat_lt, nat_le, cond, arith, append_assoc, eq-eqb, leb-false, le-leb}
 use Rattle.std.proofs.lemmas.Bool.{false≢true}
 use Rattle.pdl_semantics.specs.Flat.{Pipe, Op, CombRead, DelayedRead, Write, Block, Release, Stmt, Expr, list_all, taken}
 use Rattle.pdl_semantics.specs.Stages.{list_any, onpath, in_stage, mem_at, is_release, commit_stage, verify_stage}
@@ -9,7 +9,7 @@ use Rattle.pdl_derived.specs.Derived
 use Rattle.pdl_derived.specs.Derived.{Around, around}
 use Rattle.pdl_derived.specs.Alone.{looked}
 use Rattle.pdl_facts.specs.Scans.{no_guards, is_plain, Phase, Fresh, Written, next_phase, phase_all, is_over, Scan, no_scan, opened, uses, opens, opens_all, op_ok, reads_ok, none_of}
-use Rattle.pdl_facts.specs.Certain.{Making, Unmade, next_making, making_all, making_ok, makings_ok}
+use Rattle.pdl_facts.specs.Certain.{Unmade, making_all, makings_ok}
 use Rattle.pdl_facts.specs.Facts.{Sound, looked_all, at_once}
 use Rattle.pdl_facts.specs.Accepted.{along}
 use Rattle.pdl_derived.proofs.Writes.{and_left, and_right}
@@ -17,7 +17,7 @@ use Rattle.pdl_turns.proofs.Looks.{path_looked}
 use Rattle.pdl_turns.proofs.Turn.{none_in_stage}
 use Rattle.pdl_simulation.proofs.FlowFacts.{uses_ok, next_of}
 use Rattle.pdl_simulation.proofs.Joined.{sound_flows}
-use Rattle.pdl_simulation.proofs.Shapes.{phase_append, uses_front, uses_back, none_path, none_past, over_early}
+use Rattle.pdl_simulation.proofs.Shapes.{uses_front, uses_back, none_past, over_early}
 use Rattle.pdl_simulation.proofs.Stretches.{Keeps, on_way, way_next}
 use Rattle.pdl_simulation.proofs.Seats.{Live, dacts, now_of, work_of_live}
 use Rattle.pdl_simulation.proofs.Choices.{Known, keeps_now}
@@ -28,39 +28,25 @@ use Rattle.pdl_invariant.proofs.Past.{onto, all_new_append, all_new_front}
 use Rattle.pdl_invariant.proofs.Trails.{AllStmts, stage_stmts}
 use Rattle.pdl_invariant.proofs.Stage.{way_looked}
 use Rattle.pdl_lockuse.specs.Careful.{Careful, reserves_at, keeps_kind, all_keep_kind, is_let_in, all_let_in}
+use Rattle.pdl_invariant.proofs.StillLooks.{let_go_behind}
+use Rattle.pdl_turns.proofs.Roams.{looked_append}
+use Rattle.pdl_turns.proofs.Guesses.{makings_first, makings_second}
+use Rattle.pdl_turns.proofs.Own.{none_first}
+use Rattle.pdl_turns.proofs.Pending.{phase_append}
+use Rattle.pdl_turns.proofs.Paths.{none_onpath}
 
 -- PARTS OF A LIST OF STATEMENTS
-
-pub looked_append : (xs ys : List Stmt) → looked_all (xs ++ ys) ≡ looked_all xs ++ looked_all ys
-looked_append [] ys = refl
-looked_append (x ∷ xs) ys = ap (λ l. record x { op = looked x.op } ∷ l) (looked_append xs ys)
 
 reads_back : (q : Pipe) (c : Scan) (xs ys : List Stmt) → reads_ok q c (xs ++ ys) ≡ true → reads_ok q (opens_all xs c) ys ≡ true
 reads_back q c [] ys h = h
 reads_back q c (x ∷ xs) ys h = reads_back q (opens x.op c) xs ys (and_right (no_guards x.guards && op_ok q x.stage c x.op) _ h)
-
-makings_front : (v : Option ℕ) (g : Making) (xs ys : List Stmt) → makings_ok v g (xs ++ ys) ≡ true → makings_ok v g xs ≡ true
-makings_front v g [] ys h = refl
-makings_front v g (x ∷ xs) ys h = ap₂ (λ a b. a && b) (and_left _ _ h) (makings_front v (next_making g x.op) xs ys (and_right (making_ok v g x.stage x.op) _ h))
-
-makings_back : (v : Option ℕ) (g : Making) (xs ys : List Stmt) → makings_ok v g (xs ++ ys) ≡ true → makings_ok v (making_all g xs) ys ≡ true
-makings_back v g [] ys h = h
-makings_back v g (x ∷ xs) ys h = makings_back v (next_making g x.op) xs ys (and_right (making_ok v g x.stage x.op) _ h)
-
-let_go_back : (xs ys : List Stmt) → all_let_go (xs ++ ys) ≡ true → all_let_go ys ≡ true
-let_go_back [] ys h = h
-let_go_back (x ∷ xs) ys h = let_go_back xs ys (and_right (lets_go x.op (xs ++ ys)) _ h)
-
-none_front : (test : Op → Bool) (xs ys : List Stmt) → none_of test (xs ++ ys) ≡ true → none_of test xs ≡ true
-none_front test [] ys h = refl
-none_front test (x ∷ xs) ys h = ap₂ (λ a b. a && b) (and_left _ _ h) (none_front test xs ys (and_right (not (test x.op)) _ h))
 
 none_both : (test : Op → Bool) (xs ys : List Stmt) → none_of test xs ≡ true → none_of test ys ≡ true → none_of test (xs ++ ys) ≡ true
 none_both test [] ys h k = k
 none_both test (x ∷ xs) ys h k = ap₂ (λ a b. a && b) (and_left _ _ h) (none_both test xs ys (and_right (not (test x.op)) _ h) k)
 
 kind_front : (op : Op) (xs ys : List Stmt) → keeps_kind op (xs ++ ys) ≡ true → keeps_kind op xs ≡ true
-kind_front (Block m a) xs ys h = none_front (reserves_at m a) xs ys h
+kind_front (Block m a) xs ys h = none_first (reserves_at m a) xs ys h
 kind_front _ xs ys h = refl
 
 kinds_front : (xs ys : List Stmt) → all_keep_kind (xs ++ ys) ≡ true → all_keep_kind xs ≡ true
@@ -180,8 +166,8 @@ module _ (p : Pipe) (sound : Sound p) (st : State) (d : Derived.State) (bits : L
 
   pub mine_makings : makings_ok (verify_stage (looked_all p.stmts)) (making_all Unmade (looked_all passed)) (looked_all mine) ≡ true
   mine_makings =
-      makings_front (verify_stage (looked_all p.stmts)) (making_all Unmade (looked_all passed)) (looked_all mine) (looked_all rest)
-      (makings_back (verify_stage (looked_all p.stmts)) Unmade (looked_all passed) (looked_all mine ++ looked_all rest)
+      makings_first (verify_stage (looked_all p.stmts)) (making_all Unmade (looked_all passed)) (looked_all mine) (looked_all rest)
+      (makings_second (verify_stage (looked_all p.stmts)) Unmade (looked_all passed) (looked_all mine ++ looked_all rest)
       (subst (λ xs. makings_ok (verify_stage (looked_all p.stmts)) Unmade xs ≡ true) looked_whole (sound.pathwise.makings path)))
 
   pub passed_kinds : Careful p → all_keep_kind passed ≡ true
@@ -202,8 +188,8 @@ module _ (p : Pipe) (sound : Sound p) (st : State) (d : Derived.State) (bits : L
   released_before m h =
       let up : l.thread.stage < next = next_up p (sound_flows p sound) st d bits arrays l.thread.stage path k.seated.keeps_on.inside in
       none_both (is_release m) mine rest
-      (none_path (is_release m) path (in_stage l.thread.stage p.stmts) (none_in_stage (is_release m) (commit_stage p m) l.thread.stage p.stmts ((sound_flows p sound).releases m) (λ e. absurd (omega (arith, h, e)))))
-      (none_path (is_release m) path (stages_from next p.stmts) (none_past (is_release m) (commit_stage p m) next p.stmts ((sound_flows p sound).releases m) (omega (arith, h, up))))
+      (none_onpath (is_release m) path (in_stage l.thread.stage p.stmts) (none_in_stage (is_release m) (commit_stage p m) l.thread.stage p.stmts ((sound_flows p sound).releases m) (λ e. absurd (omega (arith, h, e)))))
+      (none_onpath (is_release m) path (stages_from next p.stmts) (none_past (is_release m) (commit_stage p m) next p.stmts ((sound_flows p sound).releases m) (omega (arith, h, up))))
 
   over_here : (m : ℕ) → is_over (phase_all m (phase_all m Fresh passed) (mine ++ rest)) ≡ true
   over_here m =
@@ -219,7 +205,7 @@ module _ (p : Pipe) (sound : Sound p) (st : State) (d : Derived.State) (bits : L
       early_all p (along path (at_once p)) (λ m. refl) l.thread.stage k.seated.keeps_on.inside plain_to (opens_all (looked_all passed) no_scan)
       (λ m. phase_all m Fresh passed) mine rest
       (stage_stmts path l.thread.stage p.stmts) mine_reads
-      (let_go_back passed (mine ++ rest) (subst (λ xs. all_let_go xs ≡ true) whole (strict.blocks path))) released_before over_here
+      (let_go_behind passed (mine ++ rest) (subst (λ xs. all_let_go xs ≡ true) whole (strict.blocks path))) released_before over_here
 
 -- what holds of each statement of the text holds of those of a part of a path
 pub all_way : (test : Op → Bool) (path : List ℕ) (s : ℕ) (xs : List Stmt) → list_all (λ (x : Stmt). test x.op) xs ≡ true

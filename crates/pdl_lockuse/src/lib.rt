@@ -40,26 +40,38 @@ pub fn in_use()
 /// A thread that moves has room for what it reserves, writes at most once to a memory, into its own pending write without value, and its reads and writes find the blocks of their locations ready.
 pub fn writes()
     ensures room { (p : Pipe) → OfEachAct p (λ st bits. HasRoom p st) }
-    ensures once { (p : Pipe) → Sound p → Strict p → (m : ℕ) → OfEachAct p (λ st bits. WritesOnce p st bits m) }
-    ensures blocks { (p : Pipe) → Sound p → Strict p → Careful p → OfEachAct p (λ st bits. IsLet p st) }
+    ensures once { (p : Pipe) → Sound p → Strict p → (m : ℕ) →
+        OfEachAct p (λ st bits. WritesOnce p st bits m) }
+    ensures blocks { (p : Pipe) → Sound p → Strict p → Careful p →
+        OfEachAct p (λ st bits. IsLet p st) }
 {}
 
 /// A release is of the releasing thread's own write, the oldest pending one, whose value is there or comes in this cycle; and it is no younger than a thread with a block, a read or a write of the memory still to come, or that awaits one.
 pub fn releases()
-    ensures own { (p : Pipe) → Sound p → Strict p → (m : ℕ) → OfEachAct p (λ st bits. ReleasesOwn p st bits m) }
-    ensures written { (p : Pipe) → Sound p → Strict p → (m : ℕ) → InEachCycle p (λ st bits. ReleasesWritten p st bits m) }
-    ensures older { (p : Pipe) → Sound p → Strict p → (m : ℕ) → OfEachAct p (λ st bits. ReleasesOlder p st bits m) }
-    ensures to_come { (p : Pipe) → Sound p → Strict p → (m : ℕ) → OfEachAct p (λ st bits. UsesOlder p st bits m) }
-    ensures awaited { (p : Pipe) → Sound p → Strict p → (m : ℕ) → OfEachAct p (λ st bits. AwaitsOlder p st bits m) }
+    ensures own { (p : Pipe) → Sound p → Strict p → (m : ℕ) →
+        OfEachAct p (λ st bits. ReleasesOwn p st bits m) }
+    ensures written { (p : Pipe) → Sound p → Strict p → (m : ℕ) →
+        InEachCycle p (λ st bits. ReleasesWritten p st bits m) }
+    ensures older { (p : Pipe) → Sound p → Strict p → (m : ℕ) →
+        OfEachAct p (λ st bits. ReleasesOlder p st bits m) }
+    ensures to_come { (p : Pipe) → Sound p → Strict p → (m : ℕ) →
+        OfEachAct p (λ st bits. UsesOlder p st bits m) }
+    ensures awaited { (p : Pipe) → Sound p → Strict p → (m : ℕ) →
+        OfEachAct p (λ st bits. AwaitsOlder p st bits m) }
 {}
 
 /// Where a thread's squash cuts the pending writes of a lock, behind its own and older ones: up to the stage of the reserves behind all of them; from there on reservations, and squashes that leave the thread, keep that place, and up to V each release shifts it by one.
 pub fn squashes()
-    ensures all { (p : Pipe) → Sound p → Strict p → (m : ℕ) → OfEachAct p (λ st bits. FindsAll p st bits m) }
-    ensures kept { (p : Pipe) → Sound p → Strict p → (m : ℕ) → OfEachAct p (λ st bits. KeepsTail p st bits m) }
-    ensures shifts { (p : Pipe) → Sound p → Strict p → (m : ℕ) → OfEachAct p (λ st bits. ShiftsTail p st bits m) }
-    ensures left { (p : Pipe) → Sound p → Strict p → (m : ℕ) → OfEachAct p (λ st bits. LeavesTail p st bits m) }
-    ensures cuts { (p : Pipe) → Sound p → Strict p → (m : ℕ) → InEachCycle p (λ st bits. Cuts p st bits m) }
+    ensures all { (p : Pipe) → Sound p → Strict p → (m : ℕ) →
+        OfEachAct p (λ st bits. FindsAll p st bits m) }
+    ensures kept { (p : Pipe) → Sound p → Strict p → (m : ℕ) →
+        OfEachAct p (λ st bits. KeepsTail p st bits m) }
+    ensures shifts { (p : Pipe) → Sound p → Strict p → (m : ℕ) →
+        OfEachAct p (λ st bits. ShiftsTail p st bits m) }
+    ensures left { (p : Pipe) → Sound p → Strict p → (m : ℕ) →
+        OfEachAct p (λ st bits. LeavesTail p st bits m) }
+    ensures cuts { (p : Pipe) → Sound p → Strict p → (m : ℕ) →
+        InEachCycle p (λ st bits. Cuts p st bits m) }
     ensures by_stages { (p : Pipe) → Sound p → Strict p → InEachCycle p (IsCut p) }
 {}
 
@@ -70,7 +82,8 @@ pub fn careful()
 
 /// Proper use of the locks in each run of an accepted pipe, where no variable has the empty name.
 pub fn accepted()
-    ensures { (p : Tree.Pipe) → KeepsRules p → IsTrue (is_source p) → IsTrue (is_named p) → InEachCycle (flat p) (IsInUse (flat p)) }
+    ensures { (p : Tree.Pipe) → KeepsRules p → IsTrue (is_source p) → IsTrue (is_named p) →
+        InEachCycle (flat p) (IsInUse (flat p)) }
 {
     pdl_pathfacts::sound();
     pdl_strict::strict();
@@ -80,8 +93,12 @@ pub fn accepted()
 
 /// A cycle that is no wait is calm; so pipes without delayed reads are fit for a netlist, whatever their guesses, forks, guards and locks, and so are accepted pipes whose memories answer at once.
 pub fn fit()
-    ensures calm { (p : Pipe) → Sound p → Strict p → InEachCycle p (λ st bits. is_wait p st bits ≡ false → IsCalm p st bits) }
-    ensures by_facts { (p : Pipe) → Sound p → Strict p → Careful p → IsTrue (none_of is_fetch p.stmts) → IsFit p }
-    ensures by_tests { (p : Pipe) → IsTrue (sounds p) → IsTrue (is_strict p) → IsTrue (is_careful p) → IsTrue (none_of is_fetch p.stmts) → IsFit p }
-    ensures by_rules { (p : Tree.Pipe) → KeepsRules p → IsTrue (is_source p) → IsTrue (is_named p) → IsTrue (list_all is_comb p.mems) → IsFit (flat p) }
+    ensures calm { (p : Pipe) → Sound p → Strict p →
+        InEachCycle p (λ st bits. is_wait p st bits ≡ false → IsCalm p st bits) }
+    ensures by_facts { (p : Pipe) → Sound p → Strict p → Careful p →
+        IsTrue (none_of is_fetch p.stmts) → IsFit p }
+    ensures by_tests { (p : Pipe) → IsTrue (sounds p) → IsTrue (is_strict p) →
+        IsTrue (is_careful p) → IsTrue (none_of is_fetch p.stmts) → IsFit p }
+    ensures by_rules { (p : Tree.Pipe) → KeepsRules p → IsTrue (is_source p) → IsTrue (is_named p) →
+        IsTrue (list_all is_comb p.mems) → IsFit (flat p) }
 {}

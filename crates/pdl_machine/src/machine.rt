@@ -53,9 +53,12 @@ impl<'a> Machine<'a> {
         image: &Image,
     ) -> Result<Machine<'a>, NoMemory>
         requires { IsImage (infos_of (pipe_view accepted.now.typed.pipe).mems) image.now }
-        ensures first { IfOk result (λ m. state_of m ≡ stated.first (flat (pipe_view accepted.now.typed.pipe)) (arrays_of image.now)) }
+        ensures first { IfOk result (λ m.
+            state_of m ≡ stated.first (flat (pipe_view accepted.now.typed.pipe))
+            (arrays_of image.now)) }
         ensures run { IfOk result (λ m. HasRun m image.now []) }
-        ensures shown { IfOk result (λ m. m.shown ≡ replicate (output_count (flat (pipe_view accepted.now.typed.pipe))) 0) }
+        ensures shown { IfOk result (λ m.
+            m.shown ≡ replicate (output_count (flat (pipe_view accepted.now.typed.pipe))) 0) }
         ensures pipe { IfOk result (λ m. m.pipe ≡ accepted.now.typed.pipe) }
         ensures cycles { IfOk result (λ m. m.cycles ≡ 0) }
     {
@@ -72,18 +75,32 @@ impl<'a> Machine<'a> {
     pub fn cycle(&mut self, _replies: u16)
         requires { self.old.cycles < 2 ^ 32 }
         // The replies of delayed memories, of which the pipe has none, make no difference.
-        ensures state { (bits : List Bool) → state_of self.new ≡ stated.cycle (flat_of self.old) (state_of self.old) bits }
-        ensures ports { (bits : List Bool) → self.new.shown ≡ port_values (flat_of self.old) (stated.ports (flat_of self.old) (state_of self.old) (all_acts (flat_of self.old) (state_of self.old) bits)) }
+        ensures state { (bits : List Bool) →
+            state_of self.new ≡ stated.cycle (flat_of self.old) (state_of self.old) bits }
+        ensures ports { (bits : List Bool) →
+            self.new.shown ≡ port_values (flat_of self.old)
+            (stated.ports (flat_of self.old) (state_of self.old)
+            (all_acts (flat_of self.old) (state_of self.old) bits)) }
         ensures pipe { self.new.pipe ≡ self.old.pipe }
         ensures cycles { self.new.cycles ≡ self.old.cycles + 1 }
         // Whatever the machine has run with, it runs on with.
-        ensures run { (image : List (List ℕ)) (schedule : List (List Bool)) (bits : List Bool) → HasRun self.old image schedule → HasRun self.new image (schedule ++ bits ∷ []) }
+        ensures run { (image : List (List ℕ)) (schedule : List (List Bool)) (bits : List Bool) →
+            HasRun self.old image schedule → HasRun self.new image (schedule ++ bits ∷ []) }
         // What its memories have received are the writes of the sequential run, the oldest thread moved, and enough threads have ended.
-        ensures refines { (image : List (List ℕ)) (schedule : List (List Bool)) → HasRun self.new image schedule → Refines (flat_of self.new) (arrays_of image) schedule }
-        ensures moves { (image : List (List ℕ)) (schedule : List (List Bool)) (bits : List Bool) → HasRun self.old image schedule → Advances (flat_of self.old) (arrays_of image) schedule bits }
-        ensures pace { (image : List (List ℕ)) (schedule : List (List Bool)) → HasRun self.new image schedule → KeepsPace (flat_of self.new) (arrays_of image) schedule }
+        ensures refines { (image : List (List ℕ)) (schedule : List (List Bool)) →
+            HasRun self.new image schedule → Refines (flat_of self.new) (arrays_of image) schedule }
+        ensures moves { (image : List (List ℕ)) (schedule : List (List Bool)) (bits : List Bool) →
+            HasRun self.old image schedule →
+            Advances (flat_of self.old) (arrays_of image) schedule bits }
+        ensures pace { (image : List (List ℕ)) (schedule : List (List Bool)) →
+            HasRun self.new image schedule →
+            KeepsPace (flat_of self.new) (arrays_of image) schedule }
         // Its state is sound: it passes the whole test of Sound state, with as many turns of the sequential run as threads have ended.
-        ensures sound { (image : List (List ℕ)) (schedule : List (List Bool)) → HasRun self.new image schedule → IsTrue (is_sound (flat_of self.new) (arrays_of image) (stated.ended_in (stated.turns (flat_of self.new) (arrays_of image) schedule)) (state_of self.new)) }
+        ensures sound { (image : List (List ℕ)) (schedule : List (List Bool)) →
+            HasRun self.new image schedule →
+            IsTrue (is_sound (flat_of self.new) (arrays_of image)
+            (stated.ended_in (stated.turns (flat_of self.new) (arrays_of image) schedule))
+            (state_of self.new)) }
     {
         self.run.cycle(&self.accepted.flat);
         self.cycles += 1;

@@ -1,10 +1,8 @@
-pub mod LockKinds
 pub mod StagewiseDeeds
 pub mod StagewiseActs
 pub mod StagewisePorts
 pub mod Stagewise
 pub mod Still
 pub mod UsingTurn
-pub mod UsingLists
 pub mod LinearSources
 pub mod Answered

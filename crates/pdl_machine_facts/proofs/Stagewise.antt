@@ -1,5 +1,5 @@
 -- What a cycle does stage by stage, in a pipe whose threads go on to later stages.
-use Rattle.std.proofs.Common.{◌≡◌, refl, sym, ap, ap₂, ◌∙◌, subst, ℕ, zero, suc, ◌+◌, ◌-◌, ◌<◌, Bool, false, List, [], ◌∷◌, length, Option, Some, None, is_some, is_none, ◌==◌, cond, if◌then◌else◌, arith}
+use Rattle.std.proofs.Common.{◌≡◌, refl, sym, ap, ap₂, ◌∙◌, subst, ℕ, zero, suc, ◌+◌, ◌-◌, ◌<◌, Bool, List, [], ◌∷◌, length, Option, Some, None, is_some, is_none, ◌==◌, cond, if◌then◌else◌, arith}
 use Rattle.std.proofs.lemmas.Bool.{ne_eqb}
 use Rattle.pdl_semantics.specs.Flat.{Arrays, with_value, Mem, Pipe}
 use Rattle.pdl_semantics.specs.Stages.{list_any}
@@ -7,36 +7,26 @@ use Rattle.pdl_semantics.specs.Machine.{State, Pending, lock_of}
 use Rattle.pdl_semantics.specs.Locks.{commit_value}
 use Rattle.pdl_semantics.specs.Moves.{Act, next_stage, all_acts, movers}
 use Rattle.pdl_semantics.specs.Cycle.{after_these, cycle, for_mems, list_three, taken_out, port_write, with_commit, with_commits, entries_left, or_then, if_stays, born, child_of, squasher, stage_next}
-use Rattle.pdl_simulation.proofs.PerMemory.{at_mem}
+use Rattle.pdl_simulation.proofs.PerMemory.{at_mem, other_commit, before_commits}
 use Rattle.pdl_machine_facts.specs.Slots
-use Rattle.pdl_machine_facts.specs.Slots.{LeadsOn, slot, with_now, here, goes, act_at, mover, movers_from, moving, first_of, passes, passed, ways, arrives}
+use Rattle.pdl_machine_facts.specs.Slots.{LeadsOn, slot, goes, movers_from, moving, arrives}
 use Rattle.pdl_machine_facts.specs.Cycle.{newborn, IsByStages}
 use Rattle.pdl_machine_facts.proofs.StagewiseActs.{line_acts, all_are, goes_is, movers_are}
 use Rattle.pdl_machine_facts.proofs.StagewisePorts.{stages_below, stages_count, at_stage, valid_at, moves_at, ended_at, stands_at}
 
 -- MEMORIES
 
-other_commit : (m n : ℕ) (o : Option Pending) (arrays : Arrays) → (n == m) ≡ false → with_commit arrays m o n ≡ arrays n
-other_commit m n None arrays h = refl
-other_commit m n (Some e) arrays h = ap (λ b. cond b (with_value (arrays m) e.address (commit_value e.value)) (arrays n)) h
-
 -- a commit looks only at its own memory's words
 same_commit : (m : ℕ) (o : Option Pending) (a b : Arrays) → a m ≡ b m → with_commit a m o m ≡ with_commit b m o m
 same_commit m None a b h = h
 same_commit m (Some e) a b h = ap (λ w. cond (m == m) (with_value w e.address (commit_value e.value)) w) h
-
-commits_before : (st : State) (ms : List Act) (k n : ℕ) (xs : List Mem) (arrays : Arrays) → n < k → with_commits st ms k xs arrays n ≡ arrays n
-commits_before st ms k n [] arrays h = refl
-commits_before st ms k n (x ∷ xs) arrays h =
-    commits_before st ms (suc k) n xs (with_commit arrays k (taken_out st ms k)) (omega arith)
-    ∙ other_commit k n (taken_out st ms k) arrays (ne_eqb n k (λ e. absurd (omega arith)))
 
 commits_at : (st : State) (ms : List Act) (k n : ℕ) (xs : List Mem) (arrays : Arrays) → n < length xs → with_commits st ms k xs arrays (k + n) ≡ with_commit arrays (k + n) (taken_out st ms (k + n)) (k + n)
 commits_at st ms k n [] arrays h = absurd (omega arith)
 commits_at st ms k zero (x ∷ xs) arrays h =
     let e : k + 0 ≡ k = omega arith in
     subst (λ j. with_commits st ms (suc k) xs (with_commit arrays k (taken_out st ms k)) j ≡ with_commit arrays j (taken_out st ms j) j) (sym e)
-    (commits_before st ms (suc k) k xs (with_commit arrays k (taken_out st ms k)) (omega arith))
+    (before_commits st ms (suc k) k xs (with_commit arrays k (taken_out st ms k)) (omega arith))
 commits_at st ms k (suc n) (x ∷ xs) arrays h =
     let e : suc k + n ≡ k + suc n = omega arith in
     subst (λ j. with_commits st ms (suc k) xs (with_commit arrays k (taken_out st ms k)) j ≡ with_commit (with_commit arrays k (taken_out st ms k)) j (taken_out st ms j) j) e

@@ -1,17 +1,11 @@
 -- The acts of a cycle: of each stage that holds a thread, decided from the last one down, and which of them move.
-use Rattle.std.proofs.Common.{◌≡◌, refl, sym, ap, ap₂, ◌∙◌, ℕ, zero, suc, ◌+◌, ◌-◌, ◌≤◌, ◌<◌, Bool, true, false, ◌&&◌, ◌||◌, not, List, [], ◌∷◌, ◌++◌, length, drop, Option, Some, None, is_none, is_some, ◌==◌, arith, slice_index_or, eq-eqb, ne_eqb}
+use Rattle.std.proofs.Common.{◌≡◌, refl, sym, ap, ap₂, ◌∙◌, ℕ, zero, suc, ◌+◌, ◌-◌, ◌≤◌, ◌<◌, Bool, true, false, ◌&&◌, ◌||◌, not, List, [], ◌∷◌, ◌++◌, length, drop, Option, Some, None, is_none, is_some, ◌==◌, arith, slice_index_or, ne_eqb}
 use Rattle.std.proofs.lemmas.Bool.{eqb-true, eqb-false}
 use Rattle.std.proofs.lemmas.List.{length-drop}
 use Rattle.pdl_semantics.specs.Flat.{Pipe, list_all}
 use Rattle.pdl_semantics.specs.Machine.{Thread, State, Deeds, deeds, with_answers}
 use Rattle.pdl_semantics.specs.Moves.{Act, act_of, acts, all_acts, movers, no_failure, blocks_ready, have_room, is_empty, ports_free, barrier_clear, can_enter, merges_well, next_stage}
 use Rattle.pdl_machine_facts.specs.Slots.{LeadsOn, slot, with_now, here, behind, is_ready, may_pass, goes_of, goes, may_enter, mover, movers_from}
-
-pub eqb_self : (k : ℕ) → (k == k) ≡ true
-eqb_self k = eq-eqb k k refl
-
-pub eqb_other : (j k : ℕ) → (j ≡ k → ⊥) → (j == k) ≡ false
-eqb_other j k h = ne_eqb j k h
 
 -- the first of what is left, and the rest
 dropped : (xs : List (Option Thread)) (k : ℕ) (o : Option Thread) (ts : List (Option Thread)) → drop k xs ≡ o ∷ ts → (slice_index_or xs k None ≡ o) × (drop (suc k) xs ≡ ts)
@@ -106,7 +100,7 @@ module _ (p : Pipe) (st : State) (bits : List Bool) where
 
   open_before : (n k q : ℕ) → q < k → list_all (opens q) (line_acts n k) ≡ true
   open_before zero k q h = refl
-  open_before (suc n) k q h = open_seen (goes p st bits k) k q (here p st bits k) (line_acts n (suc k)) (eqb_other k q (λ e. absurd (omega arith))) ∙ open_before n (suc k) q (omega arith)
+  open_before (suc n) k q h = open_seen (goes p st bits k) k q (here p st bits k) (line_acts n (suc k)) (ne_eqb k q (λ e. absurd (omega arith))) ∙ open_before n (suc k) q (omega arith)
 
   open_here : (b : Bool) (k q : ℕ) (o : Option Thread) (rest : List Act) → (k == q) ≡ true → list_all (opens q) rest ≡ true → list_all (opens q) (seen b k o ++ rest) ≡ (is_none o || b)
   open_here b k q None rest e h = h

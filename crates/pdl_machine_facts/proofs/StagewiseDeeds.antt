@@ -1,15 +1,11 @@
 -- A stage without delayed reads and verifies asks for nothing, and nothing fails in it.
 use Rattle.std.proofs.Common.{◌≡◌, refl, ◌∙◌, ℕ, Bool, true, false, not, List, [], ◌∷◌, Some, cond}
-use Rattle.std.proofs.lemmas.Bool.{and_parts}
+use Rattle.std.proofs.lemmas.Bool.{and_parts, not-true}
 use Rattle.pdl_semantics.specs.Flat.{Op, Bind, CombRead, DelayedRead, Write, ReserveRead, ReserveWrite, Block, Release, Call, SpecCall, Verify, SpecCheck, SpecBarrier, Stmt, Pipe, values_of, taken}
 use Rattle.pdl_semantics.specs.Stages.{in_stage, is_verify}
 use Rattle.pdl_semantics.specs.Machine.{State, Thread, Deeds, same_args, does, does_all, deeds, word_for}
 use Rattle.pdl_facts.specs.Scans.{none_of, is_fetch}
-use Rattle.pdl_simulation.proofs.Shapes.{none_stage}
-
-no_more : (b : Bool) → not b ≡ true → b ≡ false
-no_more true h = absurd (cc h)
-no_more false h = refl
+use Rattle.pdl_turns.proofs.OfStage.{none_stage}
 
 same_asks : (read : ℕ → ℕ → ℕ) (o : Op) (d : Deeds) → is_fetch o ≡ false → (does read o d).asks ≡ d.asks
 same_asks read (Bind x e) d h = refl
@@ -54,7 +50,7 @@ left_alone f test read one (x ∷ xs) d h =
     ∙ at (taken x.guards d.env)
   where
     at : (b : Bool) → f (cond b (does read x.op d) d) ≡ f d
-    at true = one x.op d (no_more (test x.op) (and_parts (not (test x.op)) (none_of test xs) h).0)
+    at true = one x.op d (not-true (test x.op) (and_parts (not (test x.op)) (none_of test xs) h).0)
     at false = refl
 
 pub no_asks : (p : Pipe) (st : State) (k : ℕ) (t : Thread) → none_of is_fetch p.stmts ≡ true → (deeds p st k t).asks ≡ []

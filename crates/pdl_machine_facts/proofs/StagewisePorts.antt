@@ -1,14 +1,15 @@
 -- What the acts of a cycle show stage by stage, and who comes into a stage.
-use Rattle.std.proofs.Common.{◌≡◌, refl, sym, ap, ap₂, ◌∙◌, ℕ, zero, suc, ◌+◌, ◌-◌, ◌≤◌, ◌<◌, Bool, true, false, ◌&&◌, ◌||◌, List, [], ◌∷◌, ◌++◌, length, Option, Some, None, is_some, is_none, ◌==◌, nat_lt, cond, if◌then◌else◌, arith, slice_index_or, add-zero, add-suc, suc-add}
-use Rattle.std.proofs.lemmas.Bool.{eqb-true, eqb-false}
+use Rattle.std.proofs.Common.{◌≡◌, refl, sym, ap, ap₂, ◌∙◌, ℕ, zero, suc, ◌+◌, ◌-◌, ◌≤◌, ◌<◌, Bool, true, false, ◌&&◌, ◌||◌, List, [], ◌∷◌, ◌++◌, length, Option, Some, None, is_some, is_none, ◌==◌, if◌then◌else◌, arith, slice_index_or, add-zero, add-suc, suc-add}
+use Rattle.std.proofs.lemmas.Bool.{eqb-true, eqb-false, ne_eqb}
 use Rattle.pdl_semantics.specs.Flat.{Pipe, Next, Ends, Goes, Forks, Stage}
 use Rattle.pdl_semantics.specs.Stages.{stage_at, goes_to, list_any}
 use Rattle.pdl_semantics.specs.Machine.{Thread, State, deeds}
 use Rattle.pdl_semantics.specs.Moves.{Act, next_stage}
 use Rattle.pdl_semantics.specs.Cycle.{for_stages, is_stage, moved, stands, or_then}
 use Rattle.pdl_machine_facts.specs.Slots
-use Rattle.pdl_machine_facts.specs.Slots.{LeadsOn, slot, here, goes, act_at, mover, movers_from, reaches, ways_from, ways, first_of, passes, passed, arrives}
-use Rattle.pdl_machine_facts.proofs.StagewiseActs.{eqb_self, eqb_other, seen, line_acts, some_here, someone}
+use Rattle.pdl_machine_facts.specs.Slots.{LeadsOn, slot, here, goes, act_at, mover, movers_from, reaches, ways_from, first_of, passes, passed, arrives}
+use Rattle.pdl_machine_facts.proofs.StagewiseActs.{seen, line_acts, some_here, someone}
+use Rattle.pdl_word.proofs.Numbers.{eqb_self}
 
 -- an entry for each stage
 pub stages_below : {X : Type 0} → (f g : ℕ → X) (s : ℕ) (xs : List Stage) → ((q : ℕ) → s ≤ q → q < s + length xs → f q ≡ g q) → for_stages f s xs ≡ for_stages g s xs
@@ -68,7 +69,7 @@ module _ (p : Pipe) (st : State) (bits : List Bool) where
   none_there : (n k s : ℕ) → s < k → list_any (λ (a : Act). a.stage == s) (lined n k) ≡ false
   none_there zero k s h = refl
   none_there (suc n) k s h =
-      is_other s (goes p st bits k) k (here p st bits k) (lined n (suc k)) (eqb_other k s (λ e. absurd (omega arith))) ∙ none_there n (suc k) s (omega arith)
+      is_other s (goes p st bits k) k (here p st bits k) (lined n (suc k)) (ne_eqb k s (λ e. absurd (omega arith))) ∙ none_there n (suc k) s (omega arith)
 
   is_here : (s : ℕ) (b : Bool) (k : ℕ) (o : Option Thread) (rest : List Act) → (k == s) ≡ true → list_any (λ (a : Act). a.stage == s) rest ≡ false → list_any (λ (a : Act). a.stage == s) (shown b k o ++ rest) ≡ is_some o
   is_here s b k None rest e h = h
@@ -95,7 +96,7 @@ module _ (p : Pipe) (st : State) (bits : List Bool) where
   none_moves : (n k s : ℕ) → s < k → list_any (λ (a : Act). a.stage == s) (movers_from p st bits n k) ≡ false
   none_moves zero k s h = refl
   none_moves (suc n) k s h =
-      mover_other s (goes p st bits k) k (here p st bits k) (movers_from p st bits n (suc k)) (eqb_other k s (λ e. absurd (omega arith))) ∙ none_moves n (suc k) s (omega arith)
+      mover_other s (goes p st bits k) k (here p st bits k) (movers_from p st bits n (suc k)) (ne_eqb k s (λ e. absurd (omega arith))) ∙ none_moves n (suc k) s (omega arith)
 
   mover_here : (s : ℕ) (b : Bool) (k : ℕ) (o : Option Thread) (rest : List Act) → (k == s) ≡ true → list_any (λ (a : Act). a.stage == s) rest ≡ false → list_any (λ (a : Act). a.stage == s) (mover p st k b o ++ rest) ≡ (b && is_some o)
   mover_here s false k o rest e h = h
@@ -120,7 +121,7 @@ module _ (p : Pipe) (st : State) (bits : List Bool) where
     leaves_on : (k : ℕ) (b : Bool) (o : Option Thread) (rest : List Act) → suc k < length p.stages → list_any leaves (mover p st k b o ++ rest) ≡ list_any leaves rest
     leaves_on k false o rest h = refl
     leaves_on k true None rest h = refl
-    leaves_on k true (Some t) rest h = ap (λ x. x || list_any leaves rest) (leads.ends k (deeds p st k t).env (omega (arith, h)) ∙ eqb_other (suc k) (length p.stages) (λ e. absurd (omega (arith, e, h))))
+    leaves_on k true (Some t) rest h = ap (λ x. x || list_any leaves rest) (leads.ends k (deeds p st k t).env (omega (arith, h)) ∙ ne_eqb (suc k) (length p.stages) (λ e. absurd (omega (arith, e, h))))
 
     leaves_last : (k : ℕ) (b : Bool) (o : Option Thread) → suc k ≡ length p.stages → list_any leaves (mover p st k b o ++ []) ≡ (b && is_some o)
     leaves_last k false o h = refl
@@ -160,7 +161,7 @@ module _ (p : Pipe) (st : State) (bits : List Bool) where
       where
         at : (n : Option ℕ) → ((r : ℕ) → n ≡ Some r → k < r) → is_stage q n ≡ false
         at None f = refl
-        at (Some r) f = eqb_other r q (λ e. absurd (let i = f r refl in omega (arith, i, h, e)))
+        at (Some r) f = ne_eqb r q (λ e. absurd (let i = f r refl in omega (arith, i, h, e)))
 
     no_reach : (q k : ℕ) (b : Bool) (o : Option Thread) → reaches (stage_at p k).next q ≡ false → passed p st q k b o ≡ None
     no_reach q k false o h = refl
@@ -172,7 +173,7 @@ module _ (p : Pipe) (st : State) (bits : List Bool) where
     stands_behind q zero k h e = refl
     stands_behind q (suc n) k h e =
         stands_seen q k (goes p st bits k) (here p st bits k) (lined n (suc k))
-        ∙ ap₂ (λ a c. or_then a (or_then (left c (goes p st bits k) (here p st bits k)) (stands p q (lined n (suc k))))) (no_way q k (goes p st bits k) (here p st bits k) (omega (arith, e)) (omega (arith, h))) (eqb_other k q (λ s. absurd (omega (arith, s, h))))
+        ∙ ap₂ (λ a c. or_then a (or_then (left c (goes p st bits k) (here p st bits k)) (stands p q (lined n (suc k))))) (no_way q k (goes p st bits k) (here p st bits k) (omega (arith, e)) (omega (arith, h))) (ne_eqb k q (λ s. absurd (omega (arith, s, h))))
         ∙ stands_behind q n (suc k) (omega (arith, h)) (omega (arith, e))
 
     stands_own : (q n : ℕ) → q + suc n ≤ length p.stages → stands p q (lined (suc n) q) ≡ Slots.stays p st bits q
@@ -191,7 +192,7 @@ module _ (p : Pipe) (st : State) (bits : List Bool) where
         let z : suc m + suc n ≡ suc (m + suc n) = omega arith in
         ap (λ a. stands p q (lined a j)) z
         ∙ stands_seen q j (goes p st bits j) (here p st bits j) (lined (m + suc n) (suc j))
-        ∙ ap (λ c. or_then (passes p st bits q j) (or_then (left c (goes p st bits j) (here p st bits j)) (stands p q (lined (m + suc n) (suc j))))) (eqb_other j q (λ s. absurd (omega (arith, s, e))))
+        ∙ ap (λ c. or_then (passes p st bits q j) (or_then (left c (goes p st bits j) (here p st bits j)) (stands p q (lined (m + suc n) (suc j))))) (ne_eqb j q (λ s. absurd (omega (arith, s, e))))
         ∙ ap (or_then (passes p st bits q j)) (stands_ways q m n (suc j) (omega (arith, e)) l)
         ∙ at (reaches (stage_at p j).next q) refl
       where

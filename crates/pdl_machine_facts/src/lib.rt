@@ -14,7 +14,8 @@ ghost use Rattle.pdl_machine_facts.specs.Linear.{is_linear, IsLinear};
 
 /// Where threads go on to later stages, a cycle goes stage by stage, forks, squashes and waits included.
 pub fn stages()
-    ensures { (p : Pipe) → LeadsOn p → 0 < length p.stages → (st : State) (bits : List Bool) → length st.stages ≡ length p.stages → IsByStages p st bits }
+    ensures { (p : Pipe) → LeadsOn p → 0 < length p.stages → (st : State) (bits : List Bool) →
+        length st.stages ≡ length p.stages → IsByStages p st bits }
 {}
 
 /// The flat form of a source in which no `if` holds a separator is linear.

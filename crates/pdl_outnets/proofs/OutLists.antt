@@ -1,17 +1,14 @@
 -- Lists of outputs, and what they show.
 use Rattle.std.proofs.Common.{◌≡◌, ℕ, suc, ◌+◌, ◌-◌, ◌<◌, ◌≤◌, Bool, true, false, List, [], ◌∷◌, ◌++◌, map, length, get_or, if◌then◌else◌, codes, decimal, refl, sym, ap, ap₂, ◌∙◌, arith, append_assoc}
 use Rattle.std.specs.Prelude.{Option, Some, None, is_some}
-use Rattle.std.proofs.lemmas.List.{map-append, length-map}
-use Rattle.pdl_semantics.specs.Flat.{Mem, Pipe}
+use Rattle.std.proofs.lemmas.List.{map-append}
+use Rattle.pdl_semantics.specs.Flat.{Mem, Pipe, has_lock}
 use Rattle.pdl_semantics.specs.Stages.{plain_mem}
-use Rattle.pdl_form.specs.declared.form.Mem as r_mem
-use Rattle.pdl_form.specs.View.{mem_view, mems_view, mem_names}
 use Rattle.pdl_net.specs.declared.Net.{Net}
 use Rattle.pdl_net.specs.Circuit.{Circuit}
 use Rattle.pdl_net.specs.Signal.{Signal}
 use Rattle.pdl_net.specs.Meaning.{signal, IsThere}
 use Rattle.pdl_lockapi.specs.declared.LockNets.{LockNets}
-use Rattle.pdl_pipe_law.specs.Walk.{has_kind}
 use Rattle.pdl_pipe_law.specs.Views.{View, Gates}
 use Rattle.pdl_pipe_law.specs.Ports.{Shown, Commit, shows, stages_shown, commit_shown, commits_shown, all_shown}
 use Rattle.pdl_pipe_law.specs.Compiled.{shown_in}
@@ -62,7 +59,7 @@ commits_there c (a ∷ names) [] t = tt
 commits_there c (a ∷ names) (n ∷ ns) t = outs_more c (commit_outs a n) (commits_outs names ns) (one_there c a n (t 0 (omega arith))) (commits_there c names ns (λ i l. t (suc i) (omega (arith, l))))
 
 commits_show : (c : Circuit) (k : ℕ) (names : List (List ℕ)) (ms : List Mem) (ns : List (Option LockNets)) (name : ℕ → List ℕ) (commits : ℕ → Commit) → length names ≡ length ms → length ns ≡ length ms
-    → ((i j : ℕ) → j ≡ k + i → i < length ms → name j ≡ get_or names i []) → ((i j : ℕ) → j ≡ k + i → commits j ≡ commit_of c (get_or ns i None)) → ((i : ℕ) → i < length ms → is_some (get_or ns i None) ≡ has_kind (get_or ms i plain_mem).lock)
+    → ((i j : ℕ) → j ≡ k + i → i < length ms → name j ≡ get_or names i []) → ((i j : ℕ) → j ≡ k + i → commits j ≡ commit_of c (get_or ns i None)) → ((i : ℕ) → i < length ms → is_some (get_or ns i None) ≡ has_lock (get_or ms i plain_mem).lock)
     → shown_by c (commits_outs names ns) ≡ commits_shown name commits k ms
 commits_show c k [] [] ns name commits a b e f g = refl
 commits_show c k (x ∷ names) [] ns name commits a b e f g = absurd (omega (arith, a))
@@ -73,7 +70,7 @@ commits_show c k (x ∷ names) (m ∷ ms) (n ∷ ns) name commits a b e f g =
     let q : commit_of c n ≡ commits k = sym (f 0 k (omega arith)) in
     shown_more c (commit_outs x n) (commits_outs names ns)
     ∙ ap₂ (λ (fs gs : List Shown). fs ++ gs)
-    (one_shows c x n (has_kind m.lock) (g 0 (omega arith)) ∙ ap₂ (λ y z. if has_kind m.lock then commit_shown y z else []) h q)
+    (one_shows c x n (has_lock m.lock) (g 0 (omega arith)) ∙ ap₂ (λ y z. if has_lock m.lock then commit_shown y z else []) h q)
     (commits_show c (suc k) names ms ns name commits (omega (arith, a)) (omega (arith, b)) (λ i j u l. e (suc i) j (omega (arith, u)) (omega (arith, l))) (λ i j u. f (suc i) j (omega (arith, u))) (λ i l. g (suc i) (omega (arith, l))))
 
 -- ---- the last stage
@@ -114,11 +111,3 @@ module _ (c : Circuit) (p : Pipe) (names : List (List ℕ)) (ss : List StageNets
       shown_more c (stages_outs 0 ss ++ commits_outs names ns) back
       ∙ ap₂ (λ (fs gs : List Shown). fs ++ gs) (shown_more c (stages_outs 0 ss) (commits_outs names ns) ∙ ap₂ (λ (fs gs : List Shown). fs ++ gs) front middle) end
       ∙ append_assoc (stages_shown vs moves n 0) (commits_shown name (commits_in c ns) 0 p.mems) ended
-
--- ---- the program's list of memories
-
-pub mem_count : (p : Pipe) (ms : List r_mem.Mem) → mems_view ms ≡ p.mems → length ms ≡ length p.mems
-mem_count p ms e = sym (length-map ms mem_view) ∙ ap length e
-
-pub name_count : (names : List (List ℕ)) (p : Pipe) (ms : List r_mem.Mem) → mem_names ms ≡ names → mems_view ms ≡ p.mems → length names ≡ length p.mems
-name_count names p ms e h = sym (ap length e) ∙ length-map ms (λ (m : r_mem.Mem). m.name) ∙ mem_count p ms h

@@ -201,7 +201,8 @@ pub fn shown(
 /// Adds the outputs to the netlist, in order.
 pub fn show(b: &mut Builder, outs: &[OutNet]) -> Result<(), NoMemory>
     requires there { OutsThere b.old outs.now }
-    ensures ports { OnOk result (ExtendsPorts b.old b.new (map (port_in b.old) (map output_of outs.now))) }
+    ensures ports { OnOk result (ExtendsPorts b.old b.new
+        (map (port_in b.old) (map output_of outs.now))) }
     ensures regs { b.new.regs ≡ b.old.regs }
 {
     for o in outs {

@@ -1,14 +1,8 @@
 -- Lists whose elements a loop changes one after the other.
 use Rattle.std.proofs.Common.{◌≡◌, sym, ap, ap₂, ◌∙◌, subst, ℕ, ◌+◌, ◌<◌, List, [], ◌∷◌, ◌++◌, map, take, drop, length, get_or, set}
-use Rattle.std.proofs.lemmas.List.{map-append, take_more, take_more_set, drop_more, drop_all, take_all, append-nil, drop-set-lt}
-use Rattle.std.proofs.Common.{arith, Vec, Global}
-use Rattle.std.specs.Vec.{with_items}
-
-head_same : {X : Type 0} {x y : X} {xs ys : List X} → x ∷ xs ≡ y ∷ ys → x ≡ y
-head_same e = cc
-
-tail_same : {X : Type 0} {x y : X} {xs ys : List X} → x ∷ xs ≡ y ∷ ys → xs ≡ ys
-tail_same e = cc
+use Rattle.std.proofs.lemmas.List.{map-append, take_more, take_more_set, drop_more, drop-set-lt}
+use Rattle.std.proofs.Common.{arith}
+use Rattle.pdl_word.proofs.Lists.{head_same, tail_same}
 
 module _ {X Y : Type 0} (view : X → Y) (now all : List X) (i : ℕ) (x d : X) (h : i < length now) (n : length now ≡ length all) (left : drop i now ≡ drop i all) where
   within : i < length all
@@ -30,14 +24,3 @@ module _ {X Y : Type 0} (view : X → Y) (now all : List X) (i : ℕ) (x d : X) 
       ∙ sym (splits (map view (take i all)) (view (get_or all i d) ∷ []))
       ∙ ap f (sym (map-append view (take i all) (get_or all i d ∷ [])))
       ∙ ap (λ (a : List X). f (map view a)) (sym (take_more all i d within))
-
--- A VECTOR THAT IS LENT AS A SLICE
-
-pub all_written : {X : Type 0} (v : Vec X Global) (ws : List X) → length ws ≡ length v.items → (with_items v ws).items ≡ ws
-all_written v ws h =
-    let n : length ws ≡ v.len = h ∙ sym v.ok.0 in
-    let e : ws ++ drop (length ws) v.items ≡ ws = ap (λ xs. ws ++ xs) (drop_all (length ws) v.items (omega (arith, h))) ∙ append-nil ws in
-    ap (λ xs. take v.len xs) e ∙ take_all v.len ws (omega (arith, n))
-
-pub items_written : (v : Vec ℕ Global) (ws : List ℕ) → length ws ≡ length v.items → (with_items v ws).items ≡ ws
-items_written v ws h = all_written v ws h

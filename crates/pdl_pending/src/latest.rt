@@ -18,7 +18,8 @@ pub enum Latest {
 
 /// What the pending writes of threads older than this one say of an address.
 pub fn youngest(pending: &[Pending], thread: u64, address: u64) -> Latest
-    ensures { latest_view result ≡ machine.youngest (map pending_view pending.now) thread address locks.Nothing }
+    ensures { latest_view result ≡ machine.youngest
+        (map pending_view pending.now) thread address locks.Nothing }
 {
     let mut found = Latest::Nothing;
     for entry in pending {
@@ -29,7 +30,9 @@ pub fn youngest(pending: &[Pending], thread: u64, address: u64) -> Latest
 
 // What is found after one more entry.
 fn found_after(entry: &Pending, thread: u64, address: u64, found: Latest) -> Latest
-    ensures { latest_view result ≡ (if nat_lt entry.now.thread thread && (entry.now.address == address) then locks.as_latest entry.now.value else latest_view found) }
+    ensures { latest_view result ≡ (if nat_lt entry.now.thread thread
+        && (entry.now.address == address) then locks.as_latest entry.now.value else latest_view
+        found) }
 {
     if entry.thread < thread && entry.address == address {
         as_latest(entry.value)

@@ -31,7 +31,12 @@ impl Model for Memory {
 
     ghost Value = { Memory };
 
-    ghost view = { λ x. record { words = x.words.items; lock = lock_view x.lock; pending = map pending_view x.pending.items; capacity = vec_capacity x.pending } };
+    ghost view = { λ x. record {
+      words = x.words.items;
+      lock = lock_view x.lock;
+      pending = map pending_view x.pending.items;
+      capacity = vec_capacity x.pending;
+    } };
 }
 
 impl Memory {
@@ -51,7 +56,8 @@ impl Memory {
 
     // What the pending writes of older threads say of an address.
     fn older_write(&self, thread: u64, address: u64) -> Latest
-        ensures { latest_view result ≡ machine.youngest self.now.pending thread address locks.Nothing }
+        ensures { latest_view result ≡ machine.youngest self.now.pending thread address
+            locks.Nothing }
     {
         youngest(self.pending.as_slice(), thread, address)
     }
@@ -68,7 +74,9 @@ impl Memory {
 
     /// The word that a thread's read of an address finds.
     pub fn read(&self, thread: u64, address: u64) -> u64
-        ensures { result ≡ locks.value_or (machine.youngest self.now.pending thread address locks.Nothing) (slice_index self.now.words address) }
+        ensures { result ≡ locks.value_or
+            (machine.youngest self.now.pending thread address locks.Nothing)
+            (slice_index self.now.words address) }
     {
         let found = self.older_write(thread, address);
         found.value_or(self.word(address))
@@ -76,7 +84,9 @@ impl Memory {
 
     /// Whether a thread's block on an address is ready: of a location that is reserved for writing, or else for reading.
     pub fn is_ready(&self, thread: u64, address: u64, writes: bool) -> bool
-        ensures { result ≡ (if writes then locks.write_ready self.now.lock (machine.youngest self.now.pending thread address locks.Nothing) else locks.read_ready self.now.lock (machine.youngest self.now.pending thread address locks.Nothing)) }
+        ensures { result ≡ (if writes then locks.write_ready self.now.lock
+            (machine.youngest self.now.pending thread address locks.Nothing) else locks.read_ready
+            self.now.lock (machine.youngest self.now.pending thread address locks.Nothing)) }
     {
         let found = self.older_write(thread, address);
         if writes {
@@ -110,15 +120,20 @@ impl Memory {
 
     /// Appends a pending write for each of a thread's reservations of this memory, which has the number m.
     pub fn reserve(&mut self, m: usize, thread: u64, reserves: &[Reserved])
-        requires { length self.old.pending + length (cycle.new_entries m thread (map reserved_view reserves.now)) ≤ self.old.capacity }
-        ensures { self.new ≡ record self.old { pending = self.old.pending ++ cycle.new_entries m thread (map reserved_view reserves.now) } }
+        requires { length self.old.pending + length
+            (cycle.new_entries m thread (map reserved_view reserves.now)) ≤ self.old.capacity }
+        ensures { self.new ≡ record self.old {
+          pending = self.old.pending ++ cycle.new_entries m thread
+              (map reserved_view reserves.now);
+        } }
     {
         append(&mut self.pending, m, thread, reserves);
     }
 
     /// Puts the values that a thread writes to this memory, which has the number m, into its pending writes.
     pub fn write(&mut self, m: usize, thread: u64, writes: &[Written])
-        ensures { self.new ≡ record self.old { pending = cycle.put_all m thread (map written_view writes.now) self.old.pending } }
+        ensures { self.new ≡ record self.old
+            { pending = cycle.put_all m thread (map written_view writes.now) self.old.pending } }
     {
         fill(self.pending.as_mut_slice(), m, thread, writes);
     }
@@ -127,7 +142,10 @@ impl Memory {
     pub fn release(&mut self) -> Option<Pending>
         requires { IfSome (cycle.oldest self.old.pending) (λ e. e.address < length self.old.words) }
         ensures result { entry_view result ≡ cycle.oldest self.old.pending }
-        ensures memory { self.new ≡ record self.old { words = committed_to self.old.words (cycle.oldest self.old.pending); pending = cycle.but_oldest self.old.pending } }
+        ensures memory { self.new ≡ record self.old {
+          words = committed_to self.old.words (cycle.oldest self.old.pending);
+          pending = cycle.but_oldest self.old.pending;
+        } }
     {
         if self.pending.is_empty() {
             return None;

@@ -27,8 +27,11 @@ pub struct Written {
 
 // Appends an entry where the reservation is of memory m.
 fn append_one(pending: &mut Vec<Pending>, m: usize, thread: u64, reserved: Reserved)
-    requires { vec_len pending.old + length (cycle.new_entries m thread (reserved_view reserved ∷ [])) ≤ vec_capacity pending.old }
-    ensures entries { map pending_view pending.new.items ≡ map pending_view pending.old.items ++ cycle.new_entries m thread (reserved_view reserved ∷ []) }
+    requires { vec_len pending.old + length
+        (cycle.new_entries m thread (reserved_view reserved ∷ [])) ≤ vec_capacity pending.old }
+    ensures entries { map pending_view pending.new.items
+        ≡ map pending_view pending.old.items ++ cycle.new_entries m thread
+        (reserved_view reserved ∷ []) }
     ensures capacity { vec_capacity pending.new ≡ vec_capacity pending.old }
 {
     if reserved.mem == m {
@@ -42,8 +45,11 @@ fn append_one(pending: &mut Vec<Pending>, m: usize, thread: u64, reserved: Reser
 
 /// Appends an entry for each of a thread's reservations of memory m.
 pub fn append(pending: &mut Vec<Pending>, m: usize, thread: u64, reserves: &[Reserved])
-    requires { vec_len pending.old + length (cycle.new_entries m thread (map reserved_view reserves.now)) ≤ vec_capacity pending.old }
-    ensures entries { map pending_view pending.new.items ≡ map pending_view pending.old.items ++ cycle.new_entries m thread (map reserved_view reserves.now) }
+    requires { vec_len pending.old + length
+        (cycle.new_entries m thread (map reserved_view reserves.now)) ≤ vec_capacity pending.old }
+    ensures entries { map pending_view pending.new.items
+        ≡ map pending_view pending.old.items ++ cycle.new_entries m thread
+        (map reserved_view reserves.now) }
     ensures capacity { vec_capacity pending.new ≡ vec_capacity pending.old }
 {
     for reserved in reserves {
@@ -78,7 +84,9 @@ fn put(pending: &mut [Pending], thread: u64, value: u64)
 
 // The same where the write is to memory m.
 fn fill_one(pending: &mut [Pending], m: usize, thread: u64, written: Written)
-    ensures { map pending_view pending.new ≡ (if written.mem == m then cycle.put thread written.value (map pending_view pending.old) else map pending_view pending.old) }
+    ensures { map pending_view pending.new
+        ≡ (if written.mem == m then cycle.put thread written.value
+        (map pending_view pending.old) else map pending_view pending.old) }
 {
     if written.mem == m {
         put(pending, thread, written.value);
@@ -87,7 +95,8 @@ fn fill_one(pending: &mut [Pending], m: usize, thread: u64, written: Written)
 
 /// Puts the values that a thread writes to memory m into its entries.
 pub fn fill(pending: &mut [Pending], m: usize, thread: u64, writes: &[Written])
-    ensures { map pending_view pending.new ≡ cycle.put_all m thread (map written_view writes.now) (map pending_view pending.old) }
+    ensures { map pending_view pending.new
+        ≡ cycle.put_all m thread (map written_view writes.now) (map pending_view pending.old) }
 {
     for written in writes {
         fill_one(pending, m, thread, *written);

@@ -1,18 +1,18 @@
 -- What is said of the memories of a flat form, said of the tree that it is made from.
-use Rattle.std.proofs.Common.{◌≡◌, refl, ap₂, ◌∙◌, subst, ℕ, zero, suc, ◌+◌, ◌^◌, ◌<◌, true, List, [], ◌∷◌, map, length, arith}
+use Rattle.std.proofs.Common.{◌≡◌, refl, ap, ap₂, ◌∙◌, subst, ℕ, zero, suc, ◌+◌, ◌^◌, ◌<◌, true, List, [], ◌∷◌, map, length, arith}
 use Rattle.std.specs.Prelude.{Option, Some, None, slice_index_or}
-use Rattle.pdl_semantics.specs.Tree.{Number, LockKind, Queue, Bypass, Rename, LockDecl, Mem}
+use Rattle.pdl_semantics.specs.Tree.{LockDecl, Mem}
 use Rattle.pdl_semantics.specs.Flat as flat
 use Rattle.pdl_semantics.specs.Flatten.{lock_of, mems_of}
 use Rattle.pdl_semantics.specs.Stages.{plain_mem}
 use Rattle.pdl_net.specs.Circuit.{Circuit, Shape}
 use Rattle.pdl_form.specs.Form.{names_of}
-use Rattle.pdl_pipe_law.specs.Walk.{has_kind}
 use Rattle.pdl_pipe_law.specs.Ports.{Commit}
 use Rattle.pdl_pipe_law.specs.Declared.{array_words, shape_of_mem, mem_names, CommitsFit}
-use Rattle.pdl_pipe_law.proofs.WellFormedPorts.{kind_same}
-use Rattle.pdl_semantics.specs.Flat.{Pipe}
-use Rattle.pdl_locknets.specs.Suited.{words_in, shapes_in}
+use Rattle.pdl_lockapi.specs.Sizes.{words_in}
+use Rattle.pdl_lockapi.proofs.LockKinds.{lock_is, lock_declared, words_are}
+use Rattle.pdl_semantics.specs.Flat.{Pipe, has_lock}
+use Rattle.pdl_locknets.specs.Suited.{shapes_in}
 use Rattle.pdl_stageregs.specs.declared.moving.MoveNets.{MoveNets}
 use Rattle.pdl_stageregs.specs.declared.nets.StageNets.{StageNets}
 use Rattle.pdl_stageregs.specs.Stages.{views_in}
@@ -22,12 +22,7 @@ use Rattle.pdl_stageregs.specs.Moves.{AreMovesThere, moves_in}
 
 same_words : (l : Option LockDecl) (d : ℕ) → words_in (lock_of l) d ≡ array_words l d
 same_words None d = refl
-same_words (Some l) d = at l.kind l.size
-  where
-    at : (k : LockKind) (s : Number) → words_in (lock_of (Some (record { kind = k; size = s }))) d ≡ array_words (Some (record { kind = k; size = s })) d
-    at Queue s = refl
-    at Bypass s = refl
-    at Rename s = refl
+same_words (Some l) d = ap (λ x. words_in x d) (lock_is l) ∙ words_are l.kind l.size.value d
 
 pub same_shapes : (ms : List Mem) → shapes_in (names_of ms) (mems_of ms) ≡ map shape_of_mem ms
 same_shapes [] = refl
@@ -43,14 +38,14 @@ same_names (x ∷ xs) (suc m) = same_names xs m
 abbrev Fits : flat.Mem → Commit → Type 0
 Fits m x = (x.enable.width ≡ 1) × (2 ^ x.addr.width ≡ m.depth) × (x.value.width ≡ m.width)
 
-fits_from : (commits : ℕ → Commit) (k : ℕ) (ms : List Mem) → ((i j : ℕ) → j ≡ k + i → has_kind (slice_index_or (mems_of ms) i plain_mem).lock ≡ true → Fits (slice_index_or (mems_of ms) i plain_mem) (commits j)) → CommitsFit commits k ms
+fits_from : (commits : ℕ → Commit) (k : ℕ) (ms : List Mem) → ((i j : ℕ) → j ≡ k + i → has_lock (slice_index_or (mems_of ms) i plain_mem).lock ≡ true → Fits (slice_index_or (mems_of ms) i plain_mem) (commits j)) → CommitsFit commits k ms
 fits_from commits k [] h = tt
 fits_from commits k (m ∷ ms) h = (
-  λ s. let q = h 0 k (omega arith) (kind_same m.lock ∙ s) in record { enable = q.0; reach = q.1; value = q.2 },
+  λ s. let q = h 0 k (omega arith) (lock_declared m.lock ∙ s) in record { enable = q.0; reach = q.1; value = q.2 },
   fits_from commits (suc k) ms (λ i j e s. h (suc i) j (omega (arith, e)) s),
 )
 
-pub commits_fit : (commits : ℕ → Commit) (ms : List Mem) → ((m : ℕ) → has_kind (slice_index_or (mems_of ms) m plain_mem).lock ≡ true → Fits (slice_index_or (mems_of ms) m plain_mem) (commits m)) → CommitsFit commits 0 ms
+pub commits_fit : (commits : ℕ → Commit) (ms : List Mem) → ((m : ℕ) → has_lock (slice_index_or (mems_of ms) m plain_mem).lock ≡ true → Fits (slice_index_or (mems_of ms) m plain_mem) (commits m)) → CommitsFit commits 0 ms
 commits_fit commits ms h = fits_from commits 0 ms (λ i j e s. subst (λ n. Fits (slice_index_or (mems_of ms) i plain_mem) (commits n)) (let z : i ≡ j = omega (arith, e) in z) (h i s))
 
 -- ---- stages

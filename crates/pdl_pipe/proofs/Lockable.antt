@@ -1,20 +1,24 @@
 -- The memories of a pipe that keeps the rules and can be compiled can have the locks that they ask for, and answer at once.
-use Rattle.std.proofs.Common.{◌≡◌, ℕ, Bool, true, false, not, ◌&&◌, ◌||◌, ◌==◌, nat_le, List, [], ◌∷◌, ◌++◌, map, Option, Some, None, refl, sym, ap, ◌∙◌, subst, append_assoc, leb-true}
+use Rattle.std.proofs.Common.{◌≡◌, ℕ, Bool, true, false, not, ◌&&◌, ◌||◌, ◌==◌, List, [], ◌∷◌, ◌++◌, map, Option, Some, None, refl, sym, ap, ◌∙◌, subst, append_assoc}
 use Rattle.std.specs.List.{list_all}
 use Rattle.std.proofs.lemmas.Bool.{and_parts, or_parts, not-false, not-true, eqb-true, eqb-false}
+use Rattle.std.proofs.Math.Bool.{or-false}
 use Rattle.pdl_kit.specs.declared.mem_info.MemInfo.{MemInfo}
 use Rattle.pdl_kit.specs.declared.rule.Rule.TheVariants.{Z7}
-use Rattle.pdl_semantics.specs.Tree.{Number, LockKind, Queue, Bypass, Rename, LockDecl, Mem, Pipe}
+use Rattle.pdl_semantics.specs.Tree.{LockDecl, Mem, Pipe}
 use Rattle.pdl_semantics.specs.Flatten.{lock_of, mems_of}
 use Rattle.pdl_rules.specs.Places.{Place, Parameter, Memory, End, StartClause, places, statements}
 use Rattle.pdl_rules.specs.Parts.{passes}
 use Rattle.pdl_rules.specs.Limits.{is_size, is_width, is_depth, allows, is_wrong_lock}
 use Rattle.pdl_rules.specs.Refusal.{KeepsRules, is_comb}
+use Rattle.pdl_lockapi.proofs.LockKinds.{lock_is}
 use Rattle.pdl_entries.specs.Slots.{IsSize}
+use Rattle.pdl_anylock.specs.Asked.{IsSizedLock}
+use Rattle.pdl_anylock.proofs.Asked.{sized_allowed}
 use Rattle.pdl_form.specs.Form.{Form}
 use Rattle.pdl_stagenets.specs.Locked.{Members}
 use Rattle.pdl_locknets.specs.Suited.{AreComb, AreSuited}
-use Rattle.pdl_lockkinds.specs.Asked.{IsSizedLock, AreSizedLocks}
+use Rattle.pdl_lockkinds.specs.Asked.{AreSizedLocks}
 
 -- SIZES
 
@@ -26,10 +30,6 @@ flip a b = at (a == b) refl (b == a) refl
     at true e false f = absurd (eqb-false b a f (sym (eqb-true a b e)))
     at false e true f = absurd (eqb-false a b e (sym (eqb-true b a f)))
     at false e false f = refl
-
-or_false : (b : Bool) → (b || false) ≡ b
-or_false true = refl
-or_false false = refl
 
 regroup : (a b c d e : Bool) → (a || b || c || d || e) ≡ (a || (b || (c || (d || e))))
 regroup true b c d e = refl
@@ -45,22 +45,16 @@ size_of s h =
     ∙ ap (λ b. (1 == s) || (b || ((s == 4) || ((s == 8) || (s == 16))))) (flip s 2)
     ∙ ap (λ b. (1 == s) || ((2 == s) || (b || ((s == 8) || (s == 16))))) (flip s 4)
     ∙ ap (λ b. (1 == s) || ((2 == s) || ((4 == s) || (b || (s == 16))))) (flip s 8)
-    ∙ ap (λ b. (1 == s) || ((2 == s) || ((4 == s) || ((8 == s) || b)))) (flip s 16 ∙ sym (or_false (16 == s)))
+    ∙ ap (λ b. (1 == s) || ((2 == s) || ((4 == s) || ((8 == s) || b)))) (flip s 16 ∙ sym (or-false (16 == s)))
     ∙ h
 
 -- MEMORIES
 
-can_have : (k : LockKind) (s : Number) (depth : ℕ) (delayed : Bool) → (is_size s.value && allows depth delayed k s.value) ≡ true → IsSizedLock (lock_of (Some (record { kind = k; size = s }))) depth
-can_have Queue s depth delayed e = size_of s.value (and_parts _ _ e).0
-can_have Bypass s depth delayed e = size_of s.value (and_parts _ _ e).0
-can_have Rename s depth delayed e =
-    let parts = and_parts (is_size s.value) _ e in
-    let fits = and_parts (nat_le depth 64) (nat_le s.value depth) (and_parts (not delayed) _ parts.1).1 in
-    (size_of s.value parts.0, leb-true depth 64 fits.0, leb-true s.value depth fits.1)
-
 lock_fits : (m : Mem) (l : Option LockDecl) → passes (is_wrong_lock m) l ≡ false → IsSizedLock (lock_of l) m.depth.value
 lock_fits m None e = tt
-lock_fits m (Some l) e = can_have l.kind l.size m.depth.value m.delayed (not-false _ e)
+lock_fits m (Some l) e =
+    let parts = and_parts (is_size l.size.value) (allows m.depth.value m.delayed l.kind l.size.value) (not-false _ e) in
+    subst (λ x. IsSizedLock x m.depth.value) (sym (lock_is l)) (sized_allowed l.kind l.size.value m.depth.value m.delayed (size_of l.size.value parts.0) parts.1)
 
 all_fit : (p : Pipe) → KeepsRules p → (ms : List Mem) (before later : List Place) → places p ≡ before ++ (map Memory ms ++ later) → AreSizedLocks (mems_of ms)
 all_fit p rules [] before later e = tt

@@ -25,7 +25,6 @@ use Rattle.pdl_stagenets.specs.Locked.{Members, some_at, locks_in}
 use Rattle.pdl_stageregs.specs.Stages.{views_in}
 use Rattle.pdl_stageregs.specs.Moves.{moves_in}
 use Rattle.pdl_stageregs.specs.Staged.{KeepsFrom, MeetsLaw}
-use Rattle.pdl_stageregs.proofs.BeginMade.{locked_low}
 use Rattle.pdl_locknets.specs.Suited.{shapes_in}
 use Rattle.pdl_locknets.specs.Stepped.{own_of, commit_of, commits_in}
 use Rattle.pdl_locknets.specs.Deeds.{AreOf}
@@ -37,6 +36,7 @@ use Rattle.pdl_pipe.specs.declared.netlist.Joined.{Joined}
 use Rattle.pdl_pipe.specs.Joined.{IsJoined, IsShown}
 use Rattle.pdl_pipe.proofs.Deeding.{told_count, are_of}
 use Rattle.pdl_pipe.proofs.Showing.{joined_of}
+use Rattle.pdl_pipe_law.proofs.Next.{lock_there}
 
 -- ---- outputs
 
@@ -144,13 +144,13 @@ module _ {T : Type 0} (l : Members T) (stays : Stays l) (f : Form) (x : Joined T
 
   lock_at : (m : ℕ) → is_locked p m ≡ true → HasLock p ls d vs (no_gates ls) goes (own_at m) (commits_in d x.commits.items m) m
   lock_at m h =
-      let low = locked_low p m h in
+      let low = lock_there p m h in
       has_lock l stays p x.locks.items j.steps.deeds x.commits.items vs goes a b c d j.locked j.lawful deeds_count of j.keeps j.steps.stepped kept_ad kept_cd m low (own_kept m low) h
 
   -- what a memory commits has the memory's widths
   pub fits_at : (m : ℕ) → is_locked p m ≡ true → ((commits_in d x.commits.items m).enable.width ≡ 1) × (2 ^ (commits_in d x.commits.items m).addr.width ≡ (mem_at p m).depth) × ((commits_in d x.commits.items m).value.width ≡ (mem_at p m).width)
   fits_at m h =
-      let low = locked_low p m h in
+      let low = lock_there p m h in
       commit_fits l stays p x.locks.items j.steps.deeds x.commits.items vs goes a b c d j.locked j.lawful deeds_count of j.keeps j.steps.stepped kept_ad kept_cd m low (own_kept m low) h
 
   -- and is what it was before the outputs

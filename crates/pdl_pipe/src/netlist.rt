@@ -78,8 +78,11 @@ fn steps<L: LockModule>(
     requires locked { AreLocked (members L.LockModule) b.old (form pipe.now).pipe locks.now }
     requires lawful { AreLawful (members L.LockModule) b.old (form pipe.now).pipe locks.now }
     requires unwritten { AreUnwritten b.old (length (form pipe.now).pipe.mems) }
-    requires line { IsLine b.old (form pipe.now) (next_signals b.old locks.now) (locks_in (members L.LockModule) b.old locks.now) line.now.stages.items line.now.moves.items }
-    ensures { IfOk result (λ ns. HasSteps (members L.LockModule) b.old b.new (form pipe.now).pipe locks.now line.now ns.items) }
+    requires line { IsLine b.old (form pipe.now) (next_signals b.old locks.now)
+        (locks_in (members L.LockModule) b.old locks.now) line.now.stages.items
+        line.now.moves.items }
+    ensures { IfOk result (λ ns. HasSteps (members L.LockModule) b.old b.new
+        (form pipe.now).pipe locks.now line.now ns.items) }
 {
     let deeds = deeds(alloc, line.stages.as_slice(), line.moves.as_slice())?;
     let nets = step(alloc, b, pipe, bits, locks, deeds.as_slice())?;
@@ -129,7 +132,8 @@ fn compile_with<L: LockModule + Copy>(
     accepted: &Accepted,
     locks: &[Option<L>],
 ) -> Result<Netlist, NoMemory>
-    requires suited { AreSuited L.suits (members L.LockModule) (form_of (pipe_view accepted.now.typed.pipe)) locks.now }
+    requires suited { AreSuited L.suits (members L.LockModule)
+        (form_of (pipe_view accepted.now.typed.pipe)) locks.now }
     ensures finished { IfOk result (λ n. IsFinished (pipe_view accepted.now.typed.pipe) n) }
     ensures mems { IfOk result (λ n. n.mems ≡ accepted.now.mems) }
 {

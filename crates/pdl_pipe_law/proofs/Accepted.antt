@@ -1,15 +1,15 @@
 -- Accepted sources of linear stages whose memories answer at once and that guess nothing: their netlists follow them, with nothing beside the stages.
-use Rattle.std.proofs.Common.{◌≡◌, refl, sym, ap, ◌∙◌, ℕ, true, List, [], ◌∷◌, ◌++◌, map, append_assoc}
+use Rattle.std.proofs.Common.{◌≡◌, sym, ap, ◌∙◌, ℕ, true, List, [], ◌∷◌, ◌++◌, map, append_assoc}
 use Rattle.std.specs.Prelude.{IsTrue}
 use Rattle.std.specs.List.{list_all}
-use Rattle.pdl_kit.specs.declared.rule.Rule.TheVariants.{Z7, N1, N2, N3, W1, W2, W3, W4, W5, W6}
+use Rattle.pdl_kit.specs.declared.rule.Rule.TheVariants.{Z7, N2}
 use Rattle.pdl_semantics.specs.Tree as tree
 use Rattle.pdl_semantics.specs.Flatten.{flat}
 use Rattle.pdl_semantics.specs.Stages.{is_verify}
 use Rattle.pdl_rules.specs.Places.{Place, Parameter, Memory, End, StartClause, places, statements}
 use Rattle.pdl_rules.specs.Refusal.{KeepsRules, is_comb}
-use Rattle.pdl_rules.proofs.Straight.{Each, Keeps}
-use Rattle.pdl_rules.proofs.Memories.{sized, all_deep, distinct}
+use Rattle.pdl_rules.proofs.EachPlace.{Each}
+use Rattle.pdl_rules.proofs.Memories.{Keeps, sized, all_deep, distinct}
 use Rattle.pdl_facts.specs.Scans.{none_of}
 use Rattle.pdl_pathfacts.specs.Source.{is_source, is_named}
 use Rattle.pdl_net.specs.declared.Netlist.{Netlist}
@@ -32,25 +32,7 @@ use Rattle.pdl_pipe_law.proofs.FollowsMade.{follows}
 keeps_mem : (p : tree.Pipe) → KeepsRules p → (before : List Place) (m : tree.Mem) (later : List Place) → places p ≡ before ++ Memory m ∷ later → Keeps p before (Memory m)
 keeps_mem p rules before m later e = record {
   z7 = rules Z7 before (Memory m) later e;
-  n1 = rules N1 before (Memory m) later e;
   n2 = rules N2 before (Memory m) later e;
-  n3 = rules N3 before (Memory m) later e;
-  w1 = rules W1 before (Memory m) later e;
-  w2 = rules W2 before (Memory m) later e;
-  w3 = rules W3 before (Memory m) later e;
-  w4 = rules W4 before (Memory m) later e;
-  w5 = rules W5 before (Memory m) later e;
-  w6 = rules W6 before (Memory m) later e;
-  f5 = refl;
-  l1 = refl;
-  l2 = refl;
-  l3 = refl;
-  l4 = refl;
-  l5 = refl;
-  l6 = refl;
-  l7 = refl;
-  l8 = refl;
-  s1 = refl;
 }
 
 mems_keep : (p : tree.Pipe) → KeepsRules p → (ms : List tree.Mem) (before later : List Place) → places p ≡ before ++ map Memory ms ++ later → Each (Keeps p) before (map Memory ms)

@@ -1,13 +1,13 @@
 -- Who comes into a stage, by signals and in the machine.
-use Rattle.std.proofs.Common.{◌≡◌, refl, sym, ap, ap₂, ◌∙◌, subst, ℕ, zero, suc, ◌+◌, ◌-◌, ◌<◌, ◌≤◌, Bool, true, false, ◌&&◌, ◌||◌, List, [], ◌∷◌, ◌++◌, length, drop, map, Option, Some, None, is_some, arith, ◌==◌, ⊎_elim, ◌⊎◌, inl, inr, le-leb, length-append}
-use Rattle.std.specs.Prelude.{if◌then◌else◌, slice_index, slice_index_or, replicate, nat_le, nat_lt, ⊤}
-use Rattle.std.proofs.lemmas.Bool.{false≢true, eqb-true, leb-true, cases_lt}
-use Rattle.std.proofs.lemmas.List.{get_or-replicate, get_or_past, length-replicate, length-map}
+use Rattle.std.proofs.Common.{◌≡◌, refl, sym, ap, ap₂, ◌∙◌, subst, ℕ, zero, suc, ◌+◌, ◌-◌, ◌<◌, ◌≤◌, Bool, true, false, ◌&&◌, ◌||◌, List, [], ◌∷◌, ◌++◌, length, drop, map, Option, Some, None, is_some, arith, ◌==◌, ⊎_elim, ◌⊎◌, le-leb, length-append}
+use Rattle.std.specs.Prelude.{if◌then◌else◌, slice_index, slice_index_or, replicate, nat_le, ⊤}
+use Rattle.std.proofs.lemmas.Bool.{false≢true, eqb-true, leb-true}
+use Rattle.std.proofs.lemmas.List.{length-replicate, length-map}
 use Rattle.pdl_word.specs.Words.{bit}
-use Rattle.pdl_semantics.specs.Flat.{Next, Ends, Goes, Forks, Stmt, Stage, Pipe, start_env, taken}
+use Rattle.pdl_semantics.specs.Flat.{Next, Ends, Goes, Forks, Stmt, Stage, Pipe, start_env}
 use Rattle.pdl_semantics.specs.Stages.{stage_at, goes_to, list_any, reserve_stage, commit_stage, is_verify}
 use Rattle.pdl_semantics.specs.Machine as machine
-use Rattle.pdl_semantics.specs.Machine.{Thread, Place, deeds, held_before, held_after, is_held, with_kept}
+use Rattle.pdl_semantics.specs.Machine.{Thread, deeds, held_before, is_held, with_kept}
 use Rattle.pdl_semantics.specs.Moves.{next_stage}
 use Rattle.pdl_semantics.specs.Cycle.{is_stage, born, child_of, moved, or_then, releases, list_three, stays, squasher}
 use Rattle.pdl_net.specs.Circuit.{State}
@@ -25,6 +25,8 @@ use Rattle.pdl_pipe_law.specs.Stands.{IsEnv, IsHolding, StandsFor, AreShort, IsS
 use Rattle.pdl_pipe_law.proofs.Signals.{mux_by, one_is, zero_is}
 use Rattle.pdl_pipe_law.proofs.Moves.{ready_of, lives_fork}
 use Rattle.pdl_pipe_law.proofs.LockPorts.{both_is, moves_or_not, no_mover, one_mover}
+use Rattle.pdl_word.proofs.Lists.{zeros_at}
+use Rattle.pdl_semantics.proofs.Facts.{held_first}
 
 -- WHAT LIVES ON LIVED BEFORE
 
@@ -109,22 +111,10 @@ picked_is s of (c ∷ cs) f = mux_by s c.comes (of c) (picked of cs f) ∙ at (i
     at true e = refl
     at false e = e
 
--- zeros behind values
-zeros_at : (n i : ℕ) → slice_index (replicate n 0) i ≡ 0
-zeros_at n i = ⊎_elim (λ (lt : i < n). get_or-replicate n i 0 0 lt) (λ (ge : n ≤ i). get_or_past (replicate n 0) i 0 (let e = length-replicate {A = ℕ} n 0 in omega (arith, e))) (cases_lt i n)
-
 args_at : (s : State) (fs : List Signal) (n x : ℕ) → slice_index (map (λ (f : Signal). f.value s) fs ++ replicate n 0) x ≡ (slice_index_or fs x no_signal).value s
 args_at s [] n x = zeros_at n x
 args_at s (f ∷ fs) n zero = refl
 args_at s (f ∷ fs) n (suc x) = args_at s fs n x
-
--- nothing is held before the first stage
-pub held_first : (path : List ℕ) (xs : List Stmt) (ls : List Place) → held_before 0 path xs ls ≡ ls
-held_first path [] ls = refl
-held_first path (x ∷ xs) ls = ap (λ b. held_before 0 path xs (if b && taken x.guards path then held_after x.op ls else ls)) (low x.stage) ∙ held_first path xs ls
-  where
-    low : (n : ℕ) → nat_lt n 0 ≡ false
-    low n = Rattle.std.proofs.Common.le-ltb n 0 (omega arith)
 
 module _ (p : Pipe) (ls : Locks) (vs : ℕ → View) (moves : ℕ → Signal) (s : State) (st : machine.State) (bits : List Bool) (leads : LeadsOn p) (by : IsByStages p st bits) (used : IsInUse p st bits) (stands : StandsFor p ls vs s st) (seen : (j : ℕ) → j < length p.stages → IsSeen p vs moves s st bits j) (stood : (k : ℕ) (t : Thread) → here p st bits k ≡ Some t → Stood st k t) (calm : IsCalm p st bits) where
   -- a thread that comes into stage q with what this brings

@@ -1,6 +1,5 @@
 -- How the parts of a compiled netlist are established: registers, constants, conditions, values, looks.
-use Rattle.std.proofs.Common.{◌≡◌, refl, sym, ap, ap₂, ◌∙◌, subst, ℕ, ◌<◌, Bool, true, false, ◌&&◌, ◌||◌, not, List, [], ◌∷◌, ◌++◌, map, ◌==◌, arith}
-use mathlib.Core.Path.{fun_ext}
+use Rattle.std.proofs.Common.{◌≡◌, refl, sym, ap, ap₂, ◌∙◌, subst, ℕ, ◌<◌, Bool, true, false, ◌&&◌, ◌||◌, not, List, [], ◌∷◌, ◌++◌, ◌==◌}
 use Rattle.std.specs.Prelude.{Option, Some, if◌then◌else◌, slice_index, slice_index_or, ◌^◌, ◌≤◌}
 use Rattle.std.proofs.lemmas.List.{get_or-map}
 use Rattle.std.proofs.lemmas.Bool.{false≢true, or_left, or_right}
@@ -19,11 +18,11 @@ use Rattle.pdl_lockapi.specs.declared.LockRegs.{LockRegs}
 use Rattle.pdl_lockapi.specs.Forget.{as_lock}
 use Rattle.pdl_lockapi.specs.Laws.{first_reg, end_reg, first_array, end_array, own, words_of, HasImage, FitsIn, StartLaw, RoomLaw, TicketLaw, LookLaw, StepLaw}
 use Rattle.pdl_pipe_law.specs.Lives.{uses}
-use Rattle.pdl_pipe_law.specs.Walk.{Locks, Walk, is_locked, one, zero_bit, both, if_on, is_on, taken_in, look_of, ThroughLock, IsWord}
+use Rattle.pdl_pipe_law.specs.Walk.{Locks, Walk, is_locked, one, zero_bit, both, is_on, taken_in, look_of, ThroughLock, IsWord}
 use Rattle.pdl_pipe_law.specs.Views.{View, Gates, Comer, picked}
 use Rattle.pdl_pipe_law.specs.Compiled.{Becomes, StartsAs, HasLock}
 use Rattle.pdl_pipe_law.specs.Ports.{Commit, step_of}
-use Rattle.pdl_pipe_law.proofs.Signals.{mux_by, both_at, one_is, zero_is, on_is}
+use Rattle.pdl_pipe_law.proofs.Signals.{mux_by, both_at, one_is, zero_is}
 
 -- REGISTERS AND CONSTANTS
 
@@ -64,37 +63,8 @@ pub mux_one : (a b : Signal) → mux_signal one a b ≡ a
 unfolding mux_value const_value mux
 mux_one a b = refl
 
-pub mux_zero : (a b : Signal) → a.width ≡ b.width → mux_signal zero_bit a b ≡ b
-unfolding mux_value const_value mux
-mux_zero a b e = ap (λ w. record { width = w; value = b.value }) e
-
 pub both_one : (f : Signal) → both one f ≡ f
 both_one f = mux_one f zero_bit
-
-pub if_on_one : (f : Signal) → if_on one f ≡ f
-if_on_one f = mux_one f one
-
--- signals of the same width and values are the same
-pub same_signal : (f g : Signal) → f.width ≡ g.width → ((s : State) → f.value s ≡ g.value s) → f ≡ g
-same_signal f g w h = ap₂ (λ n v. record { width = n; value = v }) w (fun_ext h)
-
--- what is never chosen costs no cell
-pub never : (c a b : Signal) → a.width ≡ b.width → ((s : State) → is_on c s ≡ false) → mux_signal c a b ≡ b
-never c a b w off = same_signal (mux_signal c a b) b w (λ s. mux_by s c a b ∙ ap (λ x. if x then a.value s else b.value s) (off s))
-
-either : (b : Bool) (n : ℕ) → (if b then n else n) ≡ n
-either true n = refl
-either false n = refl
-
--- so the release of a location that is only read costs none
-pub quiet_letting : (moves on held rest : Signal) → 1 ≡ rest.width → ((s : State) → held.value s ≡ 0) → mux_signal (both moves (both on held)) one rest ≡ rest
-quiet_letting moves on held rest w off = never (both moves (both on held)) one rest w (λ s. on_is s (both moves (both on held)) false (quiet s))
-  where
-    inner : (s : State) → (both on held).value s ≡ 0
-    inner s = mux_by s on held zero_bit ∙ ap₂ (λ a b. if is_on on s then a else b) (off s) (zero_is s) ∙ either (is_on on s) 0
-
-    quiet : (s : State) → (both moves (both on held)).value s ≡ 0
-    quiet s = mux_by s moves (both on held) zero_bit ∙ ap₂ (λ a b. if is_on moves s then a else b) (inner s) (zero_is s) ∙ either (is_on moves s) 0
 
 -- GUARDS
 

@@ -1,8 +1,8 @@
 -- The first state of a compiled netlist stands for the machine's first state.
-use Rattle.std.proofs.Common.{◌≡◌, refl, sym, ap, ◌∙◌, subst, ℕ, zero, suc, ◌+◌, ◌-◌, ◌%◌, ◌^◌, ◌==◌, ◌<◌, ◌≤◌, Bool, true, false, List, [], ◌∷◌, ◌++◌, length, map, drop, get_or, Some, None, is_some, arith, ⊎_elim, length-append}
+use Rattle.std.proofs.Common.{◌≡◌, refl, sym, ap, ◌∙◌, subst, ℕ, zero, suc, ◌+◌, ◌-◌, ◌%◌, ◌^◌, ◌==◌, ◌<◌, ◌≤◌, Bool, true, false, List, [], ◌∷◌, ◌++◌, length, map, get_or, Some, None, is_some, arith, ⊎_elim, length-append}
 use Rattle.std.specs.Prelude.{if◌then◌else◌, slice_index, slice_index_or, replicate}
 use Rattle.std.proofs.lemmas.Bool.{cases_lt, ne_eqb}
-use Rattle.std.proofs.lemmas.List.{get_or-drop, get_or_past, get_or-replicate, length-replicate}
+use Rattle.std.proofs.lemmas.List.{length-replicate}
 use Rattle.pdl_word.specs.Words.{bit}
 use Rattle.pdl_semantics.specs.Flat as model
 use Rattle.pdl_semantics.specs.Flat.{Pipe, arrays_of, start_env}
@@ -27,25 +27,18 @@ use Rattle.pdl_pipe_law.specs.Walk.{Locks, is_locked}
 use Rattle.pdl_pipe_law.specs.Views.{Gates, View}
 use Rattle.pdl_pipe_law.specs.Compiled.{IsCompiled}
 use Rattle.pdl_pipe_law.specs.Stands.{IsEnv, IsHolding, StandsLock, StandsFor, IsGuess}
-use Rattle.pdl_pipe_law.proofs.Comers.{held_first, signals_are}
+use Rattle.pdl_pipe_law.proofs.Comers.{signals_are}
 use Rattle.pdl_pipe_law.proofs.Next.{mem_there, lock_there}
+use Rattle.pdl_word.proofs.Lists.{zeros_at}
+use Rattle.pdl_netrun.proofs.Loaded.{loaded_at}
+use Rattle.pdl_semantics.proofs.Facts.{held_first}
 
 -- THE IMAGE
 
-zeros_at : (n i : ℕ) → slice_index (replicate n 0) i ≡ 0
-zeros_at n i = ⊎_elim (λ (lt : i < n). get_or-replicate n i 0 0 lt) (λ (ge : n ≤ i). get_or_past (replicate n 0) i 0 (let e = length-replicate {A = ℕ} n 0 in omega (arith, e))) (cases_lt i n)
-
-padded_at : (xs : List ℕ) (n i : ℕ) → slice_index (xs ++ replicate n 0) i ≡ slice_index xs i
+pub padded_at : (xs : List ℕ) (n i : ℕ) → slice_index (xs ++ replicate n 0) i ≡ slice_index xs i
 padded_at [] n i = zeros_at n i
 padded_at (x ∷ xs) n zero = refl
 padded_at (x ∷ xs) n (suc i) = padded_at xs n i
-
-loaded_at : (rest : List Array) (image : List (List ℕ)) (m : ℕ) → m < length rest → get_or (loaded rest image) m [] ≡ filled (get_or rest m no_array).depth (get_or image m [])
-loaded_at [] image m h = absurd (omega arith)
-loaded_at (a ∷ rest) image zero h = refl
-loaded_at (a ∷ rest) image (suc m) h =
-    let e : 1 + m ≡ suc m = omega arith in
-    loaded_at rest (drop 1 image) m (omega arith) ∙ ap (filled (get_or rest m no_array).depth) (get_or-drop 1 image m [] ∙ ap (λ i. get_or image i []) e)
 
 -- each array has the words of the image
 word_loaded : (rest : List Array) (image : List (List ℕ)) (m a : ℕ) → m < length rest → arrays_of image m a ≡ slice_index (get_or (loaded rest image) m []) a

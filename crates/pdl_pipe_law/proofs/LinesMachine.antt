@@ -1,23 +1,22 @@
 -- The ports of the machine: how many, and that a memory without lock commits nothing.
-use Rattle.std.proofs.Common.{◌≡◌, refl, sym, ap, ◌∙◌, subst, ℕ, suc, ◌+◌, Bool, true, List, [], ◌∷◌, ◌++◌, length, Option, None, if◌then◌else◌, arith}
+use Rattle.std.proofs.Common.{◌≡◌, refl, sym, ap, ◌∙◌, subst, ℕ, suc, ◌+◌, Bool, false, List, [], ◌∷◌, ◌++◌, length, Option, None, if◌then◌else◌, arith}
 use Rattle.std.specs.Prelude.{⊤, slice_index_or}
 use Rattle.pdl_semantics.specs.Flat
-use Rattle.pdl_semantics.specs.Flat.{Arrays}
+use Rattle.pdl_semantics.specs.Flat.{Arrays, has_lock}
 use Rattle.pdl_semantics.specs.Stages.{mem_at, plain_mem}
 use Rattle.pdl_semantics.specs.Machine.{State}
 use Rattle.pdl_semantics.specs.Cycle.{PortWrite, oldest, list_two, taken_out, port_write, for_mems, for_stages, Ports, Turn, turns_from, turns, cycle, first, state_after}
-use Rattle.pdl_facts.specs.Scans.{is_plain}
 use Rattle.pdl_machine_facts.specs.Slots.{moving}
 use Rattle.pdl_machine_facts.specs.Cycle.{ports_of, IsByStages}
 use Rattle.pdl_machine_facts.specs.Use.{IsInUse}
 use Rattle.pdl_machine_facts.specs.Fit.{IsFit}
-use Rattle.pdl_machine_facts.proofs.LockKinds.{plain_is}
+use Rattle.pdl_lockapi.proofs.LockKinds.{plain_is}
 use Rattle.pdl_pipe_law.proofs.Runs.{after_more}
 
 -- what each memory commits, where one without lock commits nothing
 abbrev pub AreCommits : List Flat.Mem → List (Option PortWrite) → Type 0
 AreCommits [] [] = ⊤
-AreCommits (m ∷ ms) (e ∷ es) = (is_plain m.lock ≡ true → e ≡ None) × AreCommits ms es
+AreCommits (m ∷ ms) (e ∷ es) = (has_lock m.lock ≡ false → e ≡ None) × AreCommits ms es
 AreCommits _ _ = ⊥
 
 -- as many ports as stages, and such commits
@@ -34,7 +33,7 @@ stages_long : {X : Type 0} (f : ℕ → X) (k : ℕ) (xs : List Flat.Stage) → 
 stages_long f k [] = refl
 stages_long f k (x ∷ xs) = ap suc (stages_long f (suc k) xs)
 
-commits_from : (f : ℕ → Option PortWrite) (k : ℕ) (ms : List Flat.Mem) → ((i : ℕ) → is_plain (slice_index_or ms i plain_mem).lock ≡ true → f (k + i) ≡ None) → AreCommits ms (for_mems f k ms)
+commits_from : (f : ℕ → Option PortWrite) (k : ℕ) (ms : List Flat.Mem) → ((i : ℕ) → has_lock (slice_index_or ms i plain_mem).lock ≡ false → f (k + i) ≡ None) → AreCommits ms (for_mems f k ms)
 commits_from f k [] h = tt
 commits_from f k (m ∷ ms) h = (
   λ e. let here : k ≡ k + 0 = omega arith in ap f here ∙ h 0 e,

@@ -15,7 +15,8 @@ use Rattle.pdl_pipe_law.specs.Ports.{Shown, shows, Commit, stages_shown, commit_
 use Rattle.pdl_pipe_law.specs.Declared.{port_mem, locked_of, mem_names}
 use Rattle.pdl_pipe_law.specs.Runs.{output_count}
 use Rattle.pdl_pipe_law.specs.Compiled.{shown_in, IsCompiled}
-use Rattle.pdl_pipe_law.proofs.WellFormedPorts.{stage_names, commit_names, kind_same}
+use Rattle.pdl_pipe_law.proofs.WellFormedPorts.{stage_names, commit_names}
+use Rattle.pdl_lockapi.proofs.LockKinds.{lock_declared}
 use Rattle.pdl_pipe_law.proofs.Outputs.{outputs_made}
 
 abbrev pub name_of_output : Output → List ℕ
@@ -53,7 +54,7 @@ commits_named : (names : ℕ → List ℕ) (commits : ℕ → Commit) (k : ℕ) 
 commits_named names commits k [] f g h = refl
 commits_named names commits k (m ∷ ms) f g h =
     let here : names k ≡ m.name.name = ap names (let z : k ≡ k + 0 = omega arith in z) ∙ h 0 (omega arith) in
-    ap₂ (λ b n. map name_of_shown (((if b then commit_shown n (commits k) else []) ++ commits_shown names commits (suc k) (mems_of ms)) ++ last_shown f g)) (kind_same m.lock) here
+    ap₂ (λ b n. map name_of_shown (((if b then commit_shown n (commits k) else []) ++ commits_shown names commits (suc k) (mems_of ms)) ++ last_shown f g)) (lock_declared m.lock) here
     ∙ ap (map name_of_shown) (append_assoc (if is_some m.lock then commit_shown m.name.name (commits k) else []) (commits_shown names commits (suc k) (mems_of ms)) (last_shown f g))
     ∙ named_if (is_some m.lock) m (commits k) (commits_shown names commits (suc k) (mems_of ms) ++ last_shown f g)
     ∙ ap (λ l. (if is_some m.lock then (codes "c_" ++ m.name.name) ∷ (codes "ca_" ++ m.name.name) ∷ (codes "cd_" ++ m.name.name) ∷ [] else []) ++ l) (commits_named names commits (suc k) ms f g (λ i l. ap names (let z : suc k + i ≡ k + suc i = omega arith in z) ∙ h (suc i) (omega (arith, l))))

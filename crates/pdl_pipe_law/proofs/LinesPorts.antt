@@ -7,21 +7,22 @@ use Rattle.std.proofs.lemmas.Bool.{or_parts}
 use Rattle.pdl_word.specs.Words.{bit}
 use Rattle.pdl_kit.specs.declared.mem_info.MemInfo.{MemInfo}
 use Rattle.pdl_semantics.specs.Tree.{LockDecl, Mem}
+use Rattle.pdl_semantics.specs.Flat.{has_lock}
 use Rattle.pdl_semantics.specs.Flatten.{mems_of, lock_of}
 use Rattle.pdl_semantics.specs.Cycle.{PortWrite}
 use Rattle.pdl_semantics.specs.Lines.{Put, put_of, puts_in}
 use Rattle.pdl_rules.specs.Typed.{is_memory, AreDistinct}
-use Rattle.pdl_facts.specs.Scans.{is_plain}
-use Rattle.pdl_machine_facts.proofs.LockKinds.{lock_is, shown_values, commits_same}
+use Rattle.pdl_lockapi.proofs.LockKinds.{lock_declared}
 use Rattle.pdl_net.specs.Circuit.{Circuit, Output, outputs_of}
 use Rattle.pdl_net.specs.Run.{value_at, port_value}
-use Rattle.pdl_machine_facts.specs.Ports.{stage_values, commit_values, all_commit_values}
+use Rattle.pdl_machine_facts.specs.Ports.{stage_values, shown_values, commit_values, all_commit_values}
 use Rattle.pdl_pipe_law.specs.Declared.{info_of, port_mem, locked_of}
 use Rattle.pdl_pipe_law.specs.Runs.{puts_of}
-use Rattle.pdl_pipe_law.proofs.WellFormedNames.{Among, name_itself, name_turned, among_other}
+use Rattle.pdl_pipe_law.proofs.WellFormedNames.{Among, name_turned, among_other}
 use Rattle.pdl_pipe_law.proofs.WellFormedPorts.{stage_names, commit_names}
 use Rattle.pdl_pipe_law.proofs.LinesMachine.{AreCommits}
 use Rattle.pdl_pipe_law.proofs.LinesNames.{name_of_output}
+use Rattle.pdl_word.proofs.Bytes.{bytes_refl}
 
 -- ---- ports by name
 
@@ -91,13 +92,13 @@ word_of (Some e) = e.value
 abbrev commit_if : Bool → Option PortWrite → List ℕ
 commit_if b e = if b then flag_of e ∷ addr_of e ∷ word_of e ∷ [] else []
 
-commit_some : (w : Option PortWrite) → shown_values w ≡ commit_if true w
-commit_some None = refl
-commit_some (Some w) = refl
-
 commit_is : (l : Option LockDecl) (e : Option PortWrite) → commit_values (lock_of l) e ≡ commit_if (is_some l) e
-commit_is None e = refl
-commit_is (Some l) e = let k = lock_is l in ap (λ x. commit_values x e) k.1 ∙ commits_same l.kind k.0 e ∙ commit_some e
+commit_is l e = ap (λ (b : Bool). if b then shown_values e else []) (lock_declared l) ∙ at (is_some l) e
+  where
+    at : (b : Bool) (w : Option PortWrite) → (if b then shown_values w else []) ≡ commit_if b w
+    at false w = refl
+    at true None = refl
+    at true (Some w) = refl
 
 -- what is committed by the memory of this name, where that memory has a lock
 abbrev pub found : List Mem → List (Option PortWrite) → List ℕ → Option PortWrite
@@ -200,13 +201,13 @@ found_none (m ∷ ms) (k ∷ es) x e =
     ap (λ t. if t && is_some m.lock then k else found ms es x) parts.0 ∙ found_none ms es x parts.1
 
 -- the first memory commits what is found by its name
-found_if : (l : Option LockDecl) (e rest : Option PortWrite) → (is_plain (lock_of l) ≡ true → e ≡ None) → rest ≡ None → (if is_some l then e else rest) ≡ e
+found_if : (l : Option LockDecl) (e rest : Option PortWrite) → (has_lock (lock_of l) ≡ false → e ≡ None) → rest ≡ None → (if is_some l then e else rest) ≡ e
 found_if None e rest h r = r ∙ sym (h refl)
 found_if (Some l) e rest h r = refl
 
-found_first : (m : Mem) (ms : List Mem) (e : Option PortWrite) (es : List (Option PortWrite)) → is_memory ms m.name.name ≡ false → (is_plain (lock_of m.lock) ≡ true → e ≡ None) → found (m ∷ ms) (e ∷ es) m.name.name ≡ e
+found_first : (m : Mem) (ms : List Mem) (e : Option PortWrite) (es : List (Option PortWrite)) → is_memory ms m.name.name ≡ false → (has_lock (lock_of m.lock) ≡ false → e ≡ None) → found (m ∷ ms) (e ∷ es) m.name.name ≡ e
 found_first m ms e es d h =
-    ap (λ t. if t && is_some m.lock then e else found ms es m.name.name) (name_itself m.name.name)
+    ap (λ t. if t && is_some m.lock then e else found ms es m.name.name) (bytes_refl m.name.name)
     ∙ found_if m.lock e (found ms es m.name.name) h (found_none ms es m.name.name d)
 
 -- and memory by memory

@@ -29,7 +29,7 @@ use Rattle.pdl_pipe_law.specs.Stands.{StandsLock, IsSo, IsSeen, IsSquashed, rese
 use Rattle.pdl_pipe_law.proofs.Signals.{zero_is}
 use Rattle.pdl_pipe_law.proofs.Moves.{ready_of}
 use Rattle.pdl_pipe_law.proofs.LockUse.{IsAlike, alike, same_count, all_new, appended_is, new_count, writes_to, write_among, write_acts, written_append, none_written, stage_written, count_below}
-use Rattle.pdl_machine_facts.proofs.LockKinds.{room_there}
+use Rattle.pdl_lockapi.proofs.LockKinds.{room_there}
 use Rattle.pdl_pipe_law.proofs.LockPorts.{asked_append, asked_stage, lets_stage, AreFitting, fitting_append, fitting_at, fitting_stage, AreDriven, driven_append, driven_count, driven_at, driven_stage, room_of, moves_or_not, no_mover, one_mover}
 
 -- OF ALL STAGES

@@ -20,12 +20,12 @@ use Rattle.pdl_lockapi.specs.Lock.{Entry, LockState, entry_at, or_zero, step}
 use Rattle.pdl_lockapi.specs.Lock as lock
 use Rattle.pdl_lockapi.specs.Laws.{IsNext, StepLaw}
 use Rattle.pdl_lockapi.specs.Forget.{forget, forgotten, as_lock, AreOrdered, count_older, lock_of}
+use Rattle.pdl_lockapi.proofs.LockKinds.{locked_is}
 use Rattle.pdl_lockapi.proofs.Threads.{same_squash}
 use Rattle.pdl_machine_facts.specs.Slots.{here, moving}
-use Rattle.pdl_machine_facts.specs.Ports.{commit_values}
+use Rattle.pdl_machine_facts.specs.Ports.{shown_values, commit_values}
 use Rattle.pdl_machine_facts.specs.Cycle.{IsByStages}
 use Rattle.pdl_machine_facts.specs.Use.{IsInUse}
-use Rattle.pdl_machine_facts.proofs.LockKinds.{shown_values, commits_same}
 use Rattle.pdl_pipe_law.proofs.Stood.{Stood}
 use Rattle.pdl_pipe_law.specs.Walk.{Locks, is_locked}
 use Rattle.pdl_pipe_law.specs.Views.{Gates, View}
@@ -72,7 +72,7 @@ commit_by true xs es some e =
 
 pub commit_as : (k : LockKind) (n : ℕ) (l : model.Lock) (o : Option Pending) → l ≡ as_lock k n → commit_values l (port_write o) ≡ commit_shows o
 unfolding commit_shows
-commit_as k n l o e = ap (λ x. commit_values x (port_write o)) e ∙ commits_same k n (port_write o) ∙ at o
+commit_as k n l o e = ap (λ x. commit_values x (port_write o)) e ∙ ap (λ (b : Bool). if b then shown_values (port_write o) else []) (locked_is k n) ∙ at o
   where
     at : (o : Option Pending) → shown_values (port_write o) ≡ commit_shows o
     at None = refl

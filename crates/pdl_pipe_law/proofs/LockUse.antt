@@ -1,25 +1,22 @@
 -- What writes do to the pending writes of a lock: the machine's by their threads, the lock's by tickets.
-use Rattle.std.proofs.Common.{◌≡◌, refl, sym, ap, ap₂, ◌∙◌, subst, ℕ, suc, ◌+◌, ◌<◌, ◌≤◌, Bool, true, false, ◌&&◌, List, [], ◌∷◌, ◌++◌, length, Some, None, arith, ◌==◌, nat_lt, ⊎_elim, inl, inr, append_assoc, append-nil, length-append, lt-ltb, le-ltb}
+use Rattle.std.proofs.Common.{◌≡◌, refl, sym, ap, ap₂, ◌∙◌, subst, ℕ, suc, ◌+◌, ◌<◌, ◌≤◌, Bool, true, false, ◌&&◌, List, [], ◌∷◌, ◌++◌, length, Some, arith, ◌==◌, nat_lt, ⊎_elim, inl, inr, append_assoc, append-nil, length-append, lt-ltb, le-ltb}
 use Rattle.std.specs.Prelude.{if◌then◌else◌, Contains}
 use Rattle.std.proofs.lemmas.Bool.{cases_lt, false≢true, eqb-true}
 use Rattle.std.proofs.lemmas.Bool.Decides.{eqb_tells}
-use Rattle.pdl_semantics.specs.Machine.{Pending, Reserved, Written}
+use Rattle.pdl_semantics.specs.Machine.{Pending, Written}
 use Rattle.pdl_semantics.specs.Moves.{Act}
 use Rattle.pdl_semantics.specs.Cycle.{new_entries, appended, put, put_all}
 use Rattle.pdl_net.specs.Circuit.{State}
-use Rattle.pdl_lockapi.specs.Lock.{WriteAct, act_at, written}
+use Rattle.pdl_lockapi.specs.Lock.{WriteAct, written}
 use Rattle.pdl_lockapi.specs.Lock as lock
 use Rattle.pdl_lockapi.specs.Forget.{forgotten, AreOrdered, count_older, has_thread, ticket_of, addresses_of, addresses}
-use Rattle.pdl_lockapi.proofs.Threads.{same_put}
+use Rattle.pdl_lockapi.proofs.Lengths.{new_long}
+use Rattle.pdl_lockapi.proofs.Threads.{none_older, same_put}
 use Rattle.pdl_pipe_law.specs.Walk.{Put, is_on}
 use Rattle.pdl_pipe_law.specs.Stands.{written_in}
+use Rattle.pdl_invariant.proofs.LockCycle.{put_length}
 
 -- THREADS
-
--- no pending write of threads from t on is older
-none_older : (t u : ℕ) (es : List Pending) → AreOrdered u es → t ≤ u → count_older t es ≡ 0
-none_older t u [] o h = refl
-none_older t u (e ∷ es) o h = rw (le-ltb e.thread t (omega (arith, o.0))) (none_older t (e.thread + 1) es o.1 (omega (arith, o.0)))
 
 ordered_front : (u : ℕ) (es fs : List Pending) → AreOrdered u (es ++ fs) → AreOrdered u es
 ordered_front u [] fs o = tt
@@ -67,10 +64,6 @@ put_has : (u t v : ℕ) (es : List Pending) → has_thread u (put t v es) ≡ ha
 put_has u t v [] = refl
 put_has u t v (e ∷ es) = ap₂ (λ n c. if n == u then true else c) (put_thread (e.thread == t) v e) (put_has u t v es)
 
-put_long : (t v : ℕ) (es : List Pending) → length (put t v es) ≡ length es
-put_long t v [] = refl
-put_long t v (e ∷ es) = ap suc (put_long t v es)
-
 put_ordered : (u t v : ℕ) (es : List Pending) → AreOrdered u es → AreOrdered u (put t v es)
 put_ordered u t v [] o = tt
 put_ordered u t v (e ∷ es) o =
@@ -82,18 +75,10 @@ put_alike t v es fs h = record {
   ordered = put_ordered 0 t v es h.ordered;
   count = λ u. put_count u t v es ∙ h.count u;
   has = λ u. put_has u t v es ∙ h.has u;
-  long = put_long t v es ∙ h.long;
+  long = put_length t v es ∙ h.long;
 }
 
 -- RESERVATIONS
-
-new_long : (m t : ℕ) (rs : List Reserved) → length (new_entries m t rs) ≡ length (addresses_of m rs)
-new_long m t [] = refl
-new_long m t (r ∷ rs) = at (new_long m t rs) (r.mem == m)
-  where
-    at : length (new_entries m t rs) ≡ length (addresses_of m rs) → (b : Bool) → length ((if b then record { thread = t; address = r.address; value = None } ∷ [] else []) ++ new_entries m t rs) ≡ length ((if b then r.address ∷ [] else []) ++ addresses_of m rs)
-    at i true = ap suc i
-    at i false = i
 
 -- what threads that move add to pending writes
 abbrev pub all_new : ℕ → List Act → List Pending

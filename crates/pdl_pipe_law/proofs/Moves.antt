@@ -1,6 +1,7 @@
 -- Which threads move, by the signals of the stages, from the last stage down.
 use Rattle.std.proofs.Common.{◌≡◌, refl, sym, ap, ap₂, ◌∙◌, subst, ℕ, zero, suc, ◌+◌, ◌-◌, ◌<◌, ◌≤◌, Bool, true, false, ◌&&◌, ◌||◌, List, [], ◌∷◌, length, drop, Option, Some, None, is_some, is_none, arith, ◌==◌}
 use Rattle.std.specs.Prelude.{slice_index, slice_index_or, if◌then◌else◌}
+use Rattle.std.proofs.lemmas.Bool.{or_right}
 use Rattle.pdl_word.specs.Words.{bit}
 use Rattle.pdl_semantics.specs.Flat.{Next, Ends, Goes, Forks, Stage, Pipe}
 use Rattle.pdl_semantics.specs.Stages.{stage_at, goes_to, last_stage, list_any}
@@ -29,12 +30,8 @@ any_dropped test [] k l e = absurd (omega (arith, l))
 any_dropped test (x ∷ xs) zero l e = ap (λ b. b || list_any test xs) e
 any_dropped test (x ∷ xs) (suc k) l e = any_dropped test xs k (omega (arith, l)) e
 
-any_right : (b c : Bool) → c ≡ true → (b || c) ≡ true
-any_right true c e = refl
-any_right false c e = e
-
 pub lives_fork : (p : Pipe) (k x : ℕ) → k < length p.stages → forks_by (stage_at p k).next x ≡ true → lives p k x ≡ true
-lives_fork p k x l e = any_right _ _ (any_dropped (λ (s : Stage). forks_by s.next x) p.stages k l e)
+lives_fork p k x l e = or_right _ _ (any_dropped (λ (s : Stage). forks_by s.next x) p.stages k l e)
 
 regroup : (r n a e : Bool) → (r && ((n && a) && e)) ≡ ((n && r) && (a && e))
 regroup true true a e = refl

@@ -44,7 +44,7 @@ mem_there p m a l = ⊎_elim
 pub lock_there : (p : Pipe) (m : ℕ) → is_locked p m ≡ true → m < length p.mems
 lock_there p m e = ⊎_elim
     (λ (h : m < length p.mems). h)
-    (λ (h : length p.mems ≤ m). absurd (false≢true (sym (ap (λ (x : Rattle.pdl_semantics.specs.Flat.Mem). Rattle.pdl_pipe_law.specs.Walk.has_kind x.lock) (get_or_past p.mems m plain_mem h)) ∙ e)))
+    (λ (h : length p.mems ≤ m). absurd (false≢true (sym (ap (λ (x : Rattle.pdl_semantics.specs.Flat.Mem). Rattle.pdl_semantics.specs.Flat.has_lock x.lock) (get_or_past p.mems m plain_mem h)) ∙ e)))
     (cases_lt m (length p.mems))
 
 -- who comes isn't removed

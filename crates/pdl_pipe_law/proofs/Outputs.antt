@@ -1,12 +1,12 @@
 -- The outputs of a compiled netlist have the values of the machine's ports.
-use Rattle.std.proofs.Common.{◌≡◌, refl, sym, ap, ap₂, ◌∙◌, subst, ℕ, zero, suc, ◌+◌, ◌-◌, ◌<◌, ◌≤◌, Bool, true, false, not, List, [], ◌∷◌, ◌++◌, length, map, Some, is_some, arith, append_assoc, add-zero}
+use Rattle.std.proofs.Common.{◌≡◌, refl, sym, ap, ap₂, ◌∙◌, subst, ℕ, zero, suc, ◌+◌, ◌-◌, ◌<◌, ◌≤◌, Bool, true, false, List, [], ◌∷◌, ◌++◌, length, map, Some, is_some, arith, append_assoc, add-zero}
 use Rattle.std.specs.Prelude.{if◌then◌else◌, slice_index_or, filter_map}
 use Rattle.std.proofs.lemmas.List.{map-append}
 use Rattle.pdl_word.specs.Words.{bit}
-use Rattle.pdl_semantics.specs.Flat.{Lock, Mem, Stage, Pipe}
+use Rattle.pdl_semantics.specs.Flat.{Lock, Mem, Stage, Pipe, has_lock}
 use Rattle.pdl_semantics.specs.Stages.{plain_mem, mem_at}
 use Rattle.pdl_semantics.specs.Machine as machine
-use Rattle.pdl_semantics.specs.Machine.{Thread, Pending}
+use Rattle.pdl_semantics.specs.Machine.{Thread}
 use Rattle.pdl_semantics.specs.Moves.{Act}
 use Rattle.pdl_semantics.specs.Cycle.{for_stages, for_mems, taken_out, port_write}
 use Rattle.pdl_net.specs.Circuit.{Circuit, State, Output, port_output, outputs_of}
@@ -16,10 +16,9 @@ use Rattle.pdl_machine_facts.specs.Slots.{slot, here, goes, moving}
 use Rattle.pdl_machine_facts.specs.Ports.{stage_values, commit_values, all_commit_values, port_values}
 use Rattle.pdl_machine_facts.specs.Cycle.{ports_of, IsByStages, IsCalm}
 use Rattle.pdl_machine_facts.specs.Use.{IsInUse}
-use Rattle.pdl_facts.specs.Scans.{is_plain}
-use Rattle.pdl_machine_facts.proofs.LockKinds.{plain_is}
+use Rattle.pdl_lockapi.proofs.LockKinds.{plain_is}
 use Rattle.pdl_pipe_law.proofs.Stood.{Stood}
-use Rattle.pdl_pipe_law.specs.Walk.{Locks, has_kind, is_locked}
+use Rattle.pdl_pipe_law.specs.Walk.{Locks, is_locked}
 use Rattle.pdl_pipe_law.specs.Views.{Gates, View}
 use Rattle.pdl_pipe_law.specs.Ports.{Shown, Commit, stages_shown, commit_shown, commits_shown, all_shown}
 use Rattle.pdl_pipe_law.specs.Compiled.{shown_in, port_in, IsCompiled}
@@ -64,23 +63,23 @@ module _ (p : Pipe) (names : ℕ → List ℕ) (ls : Locks) (vs : ℕ → View) 
     commit_words x = x.enable.value s ∷ x.addr.value s ∷ x.value.value s ∷ []
 
     commits_are : (ms : List Act) (commits : ℕ → Commit) (m : ℕ) (xs : List Mem)
-        → ((i : ℕ) → i < length xs → has_kind (slice_index_or xs i plain_mem).lock ≡ true → commit_words (commits (m + i)) ≡ commit_values (slice_index_or xs i plain_mem).lock (port_write (taken_out st ms (m + i))))
+        → ((i : ℕ) → i < length xs → has_lock (slice_index_or xs i plain_mem).lock ≡ true → commit_words (commits (m + i)) ≡ commit_values (slice_index_or xs i plain_mem).lock (port_write (taken_out st ms (m + i))))
         → map (shown_value s) (commits_shown names commits m xs) ≡ all_commit_values xs (for_mems (λ i. port_write (taken_out st ms i)) m xs)
     commits_are ms commits m [] h = refl
     commits_are ms commits m (x ∷ xs) h =
-        map-append (shown_value s) (if has_kind x.lock then commit_shown (names m) (commits m) else []) (commits_shown names commits (suc m) xs)
+        map-append (shown_value s) (if has_lock x.lock then commit_shown (names m) (commits m) else []) (commits_shown names commits (suc m) xs)
         ∙ ap₂ (λ a b. a ++ b) (mine x.lock (λ e. at (h 0 (omega arith) e)))
         (commits_are ms commits (suc m) xs (λ i l e. later i (h (suc i) (omega (arith, l)) e)))
       where
         at : commit_words (commits (m + 0)) ≡ commit_values x.lock (port_write (taken_out st ms (m + 0))) → commit_words (commits m) ≡ commit_values x.lock (port_write (taken_out st ms m))
         at e = ap (λ i. commit_words (commits i)) (sym (add-zero m)) ∙ e ∙ ap (λ i. commit_values x.lock (port_write (taken_out st ms i))) (add-zero m)
 
-        mine : (l : Lock) → (has_kind l ≡ true → commit_words (commits m) ≡ commit_values l (port_write (taken_out st ms m))) → map (shown_value s) (if has_kind l then commit_shown (names m) (commits m) else []) ≡ commit_values l (port_write (taken_out st ms m))
-        mine l g = told (is_plain l) refl
+        mine : (l : Lock) → (has_lock l ≡ true → commit_words (commits m) ≡ commit_values l (port_write (taken_out st ms m))) → map (shown_value s) (if has_lock l then commit_shown (names m) (commits m) else []) ≡ commit_values l (port_write (taken_out st ms m))
+        mine l g = told (has_lock l) refl
           where
-            told : (b : Bool) → is_plain l ≡ b → map (shown_value s) (if not b then commit_shown (names m) (commits m) else []) ≡ commit_values l (port_write (taken_out st ms m))
-            told true e = ap (λ (x : Lock). commit_values x (port_write (taken_out st ms m))) (sym (plain_is l e))
-            told false e = g (ap not e)
+            told : (b : Bool) → has_lock l ≡ b → map (shown_value s) (if b then commit_shown (names m) (commits m) else []) ≡ commit_values l (port_write (taken_out st ms m))
+            told false e = ap (λ (x : Lock). commit_values x (port_write (taken_out st ms m))) (sym (plain_is l e))
+            told true e = g e
 
         later : (i : ℕ) → commit_words (commits (m + suc i)) ≡ commit_values (slice_index_or xs i plain_mem).lock (port_write (taken_out st ms (m + suc i))) → commit_words (commits (suc m + i)) ≡ commit_values (slice_index_or xs i plain_mem).lock (port_write (taken_out st ms (suc m + i)))
         later i e = let z : m + suc i ≡ suc m + i = omega arith in subst (λ j. commit_words (commits j) ≡ commit_values (slice_index_or xs i plain_mem).lock (port_write (taken_out st ms j))) z e

@@ -5,7 +5,7 @@ use Rattle.std.proofs.lemmas.Bool.{or_right, or_left}
 use Rattle.pdl_word.specs.Words.{bit}
 use Rattle.pdl_semantics.specs.Flat.{Expr, Call, Pipe, taken, values_of, DelayedRead, SpecCall, Verify, SpecCheck, SpecBarrier}
 use Rattle.pdl_semantics.specs.Machine as machine
-use Rattle.pdl_semantics.specs.Machine.{Thread, Place, Blocked, Reserved, Deeds, does, is_held, let_go, older_write, word_for, same_args}
+use Rattle.pdl_semantics.specs.Machine.{Deeds, same_args}
 use Rattle.pdl_net.specs.Circuit.{Circuit, State}
 use Rattle.pdl_net.specs.Signal.{Signal}
 use Rattle.pdl_machine_facts.specs.Slots.{is_ready}
@@ -14,7 +14,8 @@ use Rattle.pdl_pipe_law.specs.Walk.{Locks, Walk, one, both, after, values_at}
 use Rattle.pdl_pipe_law.specs.Views.{View}
 use Rattle.pdl_pipe_law.specs.Stands.{IsSo, child_in, IsGuess, asked_in}
 use Rattle.pdl_pipe_law.proofs.Signals.{mux_at, both_at, on_is, one_is, asked_more}
-use Rattle.pdl_pipe_law.proofs.StageRow.{eqb_refl, IsAround, done, quiet, is_taken, is_not, on_at, values_same, FollowsOp}
+use Rattle.pdl_pipe_law.proofs.StageRow.{IsAround, done, quiet, is_taken, is_not, on_at, values_same, FollowsOp}
+use Rattle.pdl_word.proofs.Numbers.{eqb_self}
 
 module _ (c : Circuit) (p : Pipe) (ls : Locks) (vs : ℕ → View) (s : State) (st : machine.State) (k thread : ℕ) (around : IsAround c p ls vs s st k thread) where
   pub follows_call : (args : List Expr) → FollowsOp c p ls vs s st k thread around (Call args)
@@ -54,7 +55,7 @@ module _ (c : Circuit) (p : Pipe) (ls : Locks) (vs : ℕ → View) (s : State) (
       more h b f = asked_more s w.asks (record { mem = m; var = y; on = r.on; addr = w.vars a }) ∙ ap (λ c. asked_in s w.asks ++ (if c then record { mem = m; var = y; address = (w.vars a).value s } ∷ [] else [])) (on_is s r.on b (on_at c p ls vs s st k thread around gs r w d glive on q h ∙ ap bit f))
 
       asks_at : IsSo p k s w d → (b : Bool) → taken gs d.env ≡ b → (done st thread b (DelayedRead y m a) d).asks ≡ asked_in s (w.asks ++ record { mem = m; var = y; on = r.on; addr = w.vars a } ∷ [])
-      asks_at h true f = ap₂ (λ l v. l ++ record { mem = m; var = y; address = v } ∷ []) h.asks (h.env a (live.vars a (or_right (guards_use gs a) (a == a) (eqb_refl a)))) ∙ sym (more h true f)
+      asks_at h true f = ap₂ (λ l v. l ++ record { mem = m; var = y; address = v } ∷ []) h.asks (h.env a (live.vars a (or_right (guards_use gs a) (a == a) (eqb_self a)))) ∙ sym (more h true f)
       asks_at h false f = h.asks ∙ sym (append-nil (asked_in s w.asks)) ∙ sym (more h false f)
 
       so : IsSo p k s w d → (b : Bool) → taken gs d.env ≡ b → IsSo p k s (after (DelayedRead y m a) r ls w) (done st thread b (DelayedRead y m a) d)

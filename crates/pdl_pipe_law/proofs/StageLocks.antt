@@ -2,12 +2,13 @@
 use Rattle.std.proofs.Common.{◌≡◌, ℕ, Bool, true, false, ◌&&◌, ◌||◌, [], ◌∷◌, ◌++◌, length, refl, sym, ap, ap₂, ◌∙◌, append-nil}
 use Rattle.std.specs.Prelude.{slice_index, ◌==◌, if◌then◌else◌}
 use Rattle.std.proofs.lemmas.Bool.{or_right, or_left}
+use Rattle.std.proofs.Math.Bool.{and_assoc}
 use Rattle.pdl_word.specs.Words.{bit}
 use Rattle.pdl_semantics.specs.Flat.{Expr, Write, ReserveRead, ReserveWrite, Block, Release, Pipe, taken}
 use Rattle.pdl_semantics.specs.Stages.{mem_at, commit_stage}
 use Rattle.pdl_semantics.specs.Locks.{has_room}
 use Rattle.pdl_semantics.specs.Machine as machine
-use Rattle.pdl_semantics.specs.Machine.{Thread, Place, Blocked, Reserved, Deeds, does, is_held, let_go, older_write, word_for, same_args}
+use Rattle.pdl_semantics.specs.Machine.{Blocked, Reserved, is_held, let_go}
 use Rattle.pdl_semantics.specs.Moves.{block_ready, blocks_ready, have_room}
 use Rattle.pdl_net.specs.Circuit.{Circuit, State}
 use Rattle.pdl_net.specs.Signal.{mux_signal}
@@ -19,7 +20,10 @@ use Rattle.pdl_pipe_law.specs.Views.{View}
 use Rattle.pdl_pipe_law.specs.Stands.{IsSo, reserved_in, written_in, let_in}
 use Rattle.pdl_pipe_law.proofs.Signals.{mux_at, both_at, on_is, one_is, zero_is, reserved_more, written_more, let_more, bits_more, fits_more}
 use Rattle.pdl_pipe_law.proofs.StageLooks.{finds, room_is, block_is}
-use Rattle.pdl_pipe_law.proofs.StageRow.{all_more, block_more, reserve_more, and_true, eqb_refl, other_held, IsAround, done, quiet, asking, hold, is_taken, on_at, early, FollowsOp}
+use Rattle.pdl_pipe_law.proofs.StageRow.{other_held, IsAround, done, quiet, asking, hold, is_taken, on_at, early, FollowsOp}
+use Rattle.pdl_word.proofs.Bools.{and_true, and_swap}
+use Rattle.pdl_word.proofs.Numbers.{eqb_self}
+use Rattle.pdl_semantics.proofs.Facts.{all_push}
 
 module _ (c : Circuit) (p : Pipe) (ls : Locks) (vs : ℕ → View) (s : State) (st : machine.State) (k thread : ℕ) (around : IsAround c p ls vs s st k thread) where
   pub follows_write : (m a : ℕ) (e : Expr) → FollowsOp c p ls vs s st k thread around (Write m a e)
@@ -80,8 +84,8 @@ module _ (c : Circuit) (p : Pipe) (ls : Locks) (vs : ℕ → View) (s : State) (
 
       split : (b : Bool) → is_ready p st thread (done st thread b (ReserveWrite m a) d) ≡ (is_ready p st thread d && (if b then roomy else true))
       split true =
-          ap (λ b. blocks_ready p st thread d && b) (all_more (λ (r : Reserved). has_room (mem_at p r.mem).lock (length (machine.lock_of st r.mem))) d.reserves (record { mem = m; address = slice_index d.env a }))
-          ∙ reserve_more (blocks_ready p st thread d) (have_room p st d) roomy
+          ap (λ b. blocks_ready p st thread d && b) (all_push (λ (r : Reserved). has_room (mem_at p r.mem).lock (length (machine.lock_of st r.mem))) d.reserves (record { mem = m; address = slice_index d.env a }))
+          ∙ sym (and_assoc (blocks_ready p st thread d) (have_room p st d) roomy)
       split false = and_true (is_ready p st thread d)
 
       more : IsSo p k s w d → (b : Bool) → taken gs d.env ≡ b → reserved_in s (w.reserves ++ record { mem = m; on = r.on; addr = w.vars a } ∷ []) ≡ reserved_in s w.reserves ++ (if b then record { mem = m; address = (w.vars a).value s } ∷ [] else [])
@@ -100,9 +104,9 @@ module _ (c : Circuit) (p : Pipe) (ls : Locks) (vs : ℕ → View) (s : State) (
         long = h.long;
         env = h.env;
         held = hold c p ls vs s st k thread around gs r w d glive on q m a (mux_signal r.on one (w.held m a)) (record { mem = m; var = a } ∷ d.held)
-            (λ l. mine true h f l ∙ ap bit (sym (or_left ((m == m) && (a == a)) (is_held d.held m a) (ap₂ (λ x y. x && y) (eqb_refl m) (eqb_refl a)))))
+            (λ l. mine true h f l ∙ ap bit (sym (or_left ((m == m) && (a == a)) (is_held d.held m a) (ap₂ (λ x y. x && y) (eqb_self m) (eqb_self a)))))
             (λ n b e. ap (λ x. x || is_held d.held n b) e) h.held;
-        reserves = ap₂ (λ l v. l ++ record { mem = m; address = v } ∷ []) h.reserves (h.env a (live.vars a (or_right (guards_use gs a) (a == a) (eqb_refl a)))) ∙ sym (more h true f);
+        reserves = ap₂ (λ l v. l ++ record { mem = m; address = v } ∷ []) h.reserves (h.env a (live.vars a (or_right (guards_use gs a) (a == a) (eqb_self a)))) ∙ sym (more h true f);
         fits = fits_more s w.reserves _ h.fits (fits_new h true f);
         writes = h.writes;
         bits = h.bits;
@@ -148,16 +152,16 @@ module _ (c : Circuit) (p : Pipe) (ls : Locks) (vs : ℕ → View) (s : State) (
 
       split : (b : Bool) → is_ready p st thread (done st thread b (Block m a) d) ≡ (is_ready p st thread d && (if b then found else true))
       split true =
-          ap (λ b. b && have_room p st d) (all_more (λ b. block_ready p st thread b) d.blocks more)
-          ∙ block_more (blocks_ready p st thread d) found (have_room p st d)
+          ap (λ b. b && have_room p st d) (all_push (λ b. block_ready p st thread b) d.blocks more)
+          ∙ and_swap (blocks_ready p st thread d) found (have_room p st d)
       split false = and_true (is_ready p st thread d)
 
       told : IsSo p k s w d → is_ready p st thread d ≡ true → taken gs d.env ≡ true → r.value.value s ≡ bit found
       told h z f =
           let e = row.0 in
           let low = early c p ls vs s st k thread around j (commit_stage p m) here (fine f z).0 in
-          let kept : is_on (w.held m a) s ≡ is_held d.held m a = on_is s (w.held m a) (is_held d.held m a) (h.held m a (live.held m a (ap₂ (λ x y. x && y) (eqb_refl m) (eqb_refl a)))) in
-          let addr : slice_index d.env a ≡ (w.vars a).value s = h.env a (live.vars a (or_right (guards_use gs a) (a == a) (eqb_refl a))) in
+          let kept : is_on (w.held m a) s ≡ is_held d.held m a = on_is s (w.held m a) (is_held d.held m a) (h.held m a (live.held m a (ap₂ (λ x y. x && y) (eqb_self m) (eqb_self a)))) in
+          let addr : slice_index d.env a ≡ (w.vars a).value s = h.env a (live.vars a (or_right (guards_use gs a) (a == a) (eqb_self a))) in
           block_is p ls vs s st m (around.kind m e) (around.locks m e) (around.ordered m) thread ((vs k).tickets m) (around.tickets m e low) (is_on (w.held m a) s) ((w.vars a).value s) r.value (row.1 s around.suits (is_taken c p ls vs s st k thread around gs r w d glive on q h f))
           ∙ ap₂ (λ u v. bit (finds p st thread m u v)) kept (sym addr)
 
@@ -180,7 +184,7 @@ module _ (c : Circuit) (p : Pipe) (ls : Locks) (vs : ℕ → View) (s : State) (
       same false = refl
 
       holding : IsSo p k s w d → (w.held m a).value s ≡ bit (is_held d.held m a)
-      holding h = h.held m a (live.held m a (ap₂ (λ x y. x && y) (eqb_refl m) (eqb_refl a)))
+      holding h = h.held m a (live.held m a (ap₂ (λ x y. x && y) (eqb_self m) (eqb_self a)))
 
       letting : IsSo p k s w d → (b : Bool) → taken gs d.env ≡ b → let_in s (w.lettings ++ record { mem = m; on = both r.on (w.held m a) } ∷ []) ≡ let_in s w.lettings ++ (if b && is_held d.held m a then m ∷ [] else [])
       letting h b f =

@@ -1,5 +1,5 @@
 -- What the looks of a stage find: the machine's pending writes and words, through the lock that stands for them.
-use Rattle.std.proofs.Common.{◌≡◌, ℕ, ◌+◌, Bool, true, false, not, [], length, refl, sym, ap, ◌∙◌, arith}
+use Rattle.std.proofs.Common.{◌≡◌, ℕ, ◌+◌, Bool, true, false, [], length, sym, ap, ◌∙◌, arith}
 use Rattle.std.specs.Prelude.{slice_index, slice_index_or, if◌then◌else◌}
 use Rattle.std.proofs.lemmas.List.{length-map}
 use Rattle.pdl_word.specs.Words.{bit}
@@ -7,25 +7,20 @@ use Rattle.pdl_semantics.specs.Flat.{Plain, Pipe}
 use Rattle.pdl_semantics.specs.Stages.{mem_at}
 use Rattle.pdl_semantics.specs.Locks.{Nothing, read_ready, write_ready, has_room, value_or}
 use Rattle.pdl_semantics.specs.Machine as machine
-use Rattle.pdl_semantics.specs.Machine.{Thread, older_write, word_for}
+use Rattle.pdl_semantics.specs.Machine.{older_write, word_for}
 use Rattle.pdl_net.specs.Circuit.{State}
 use Rattle.pdl_net.specs.Signal.{Signal}
-use Rattle.pdl_facts.specs.Scans.{is_plain}
-use Rattle.pdl_machine_facts.proofs.LockKinds as kinds
 use Rattle.pdl_lockapi.specs.Laws.{holds_ticket, RoomLaw}
 use Rattle.pdl_lockapi.specs.Lock.{LockState, is_ready, Covered}
 use Rattle.pdl_lockapi.specs.Forget.{forget, as_lock, AreOrdered, count_older, lock_of}
+use Rattle.pdl_lockapi.proofs.LockKinds as kinds
 use Rattle.pdl_lockapi.proofs.Threads.{same_meaning, ticket_covered}
 use Rattle.pdl_pipe_law.specs.Walk.{Locks, is_locked, look_of, ThroughLock, IsWord}
 use Rattle.pdl_pipe_law.specs.Views.{View}
 use Rattle.pdl_pipe_law.specs.Stands.{StandsLock}
 
 pub plain_is : (p : Pipe) (m : ℕ) → is_locked p m ≡ false → (mem_at p m).lock ≡ Plain
-plain_is p m e = kinds.plain_is (mem_at p m).lock (not_locked (is_plain (mem_at p m).lock) e)
-  where
-    not_locked : (b : Bool) → not b ≡ false → b ≡ true
-    not_locked true h = refl
-    not_locked false h = absurd (cc h)
+plain_is p m e = kinds.plain_is (mem_at p m).lock e
 
 -- what a look finds of the machine's pending writes: for writing, or for reading
 abbrev pub finds : Pipe → machine.State → ℕ → ℕ → Bool → ℕ → Bool

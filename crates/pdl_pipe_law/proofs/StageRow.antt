@@ -1,14 +1,14 @@
 -- One row of a stage: what it may rest on, where its guards are taken and where they aren't.
-use Rattle.std.proofs.Common.{◌≡◌, ℕ, ◌+◌, ◌<◌, ◌≤◌, Bool, true, false, IsTrue, ◌&&◌, ◌||◌, List, [], ◌∷◌, ◌++◌, map, length, refl, sym, ap, ap₂, ◌∙◌, subst, eq-eqb}
+use Rattle.std.proofs.Common.{◌≡◌, ℕ, ◌+◌, ◌<◌, ◌≤◌, Bool, true, false, IsTrue, ◌&&◌, ◌||◌, List, [], ◌∷◌, ◌++◌, map, length, refl, sym, ap, ap₂, ◌∙◌, subst}
 use Rattle.std.specs.Prelude.{nat_le, slice_index, slice_set, slice_index_or, ◌==◌, if◌then◌else◌}
 use Rattle.std.proofs.lemmas.Bool.{or_left, or_right, and_parts, eqb-true, eqb-false, leb-true}
 use Rattle.std.proofs.lemmas.List.{get_or-set_same, get_or-set_other}
 use Rattle.pdl_word.specs.Words.{bit}
-use Rattle.pdl_semantics.specs.Flat.{list_all, Expr, Op, Guard, Stmt, Pipe, taken, takes, values_of}
+use Rattle.pdl_semantics.specs.Flat.{Expr, Op, Guard, Stmt, Pipe, taken, takes, values_of}
 use Rattle.pdl_semantics.specs.Stages.{mem_at, commit_stage, is_verify}
 use Rattle.pdl_semantics.specs.Locks.{read_ready}
 use Rattle.pdl_semantics.specs.Machine as machine
-use Rattle.pdl_semantics.specs.Machine.{Thread, Place, Blocked, Reserved, Deeds, does, is_held, let_go, older_write, word_for, same_args}
+use Rattle.pdl_semantics.specs.Machine.{Place, Deeds, does, is_held, let_go, older_write, word_for}
 use Rattle.pdl_net.specs.Circuit.{Circuit, State}
 use Rattle.pdl_net.specs.Signal.{Signal}
 use Rattle.pdl_net.specs.Well.{Suits}
@@ -22,39 +22,9 @@ use Rattle.pdl_pipe_law.specs.Views.{View}
 use Rattle.pdl_pipe_law.specs.Stands.{IsEnv, IsHolding, StandsLock, IsSo, Follows}
 use Rattle.pdl_pipe_law.proofs.Signals.{both_at, if_on_at}
 use Rattle.pdl_pipe_law.proofs.StageLooks.{read_is, word_is}
+use Rattle.pdl_word.proofs.Numbers.{eqb_self}
 
 -- TESTS
-
-pub all_more : {X : Type 0} (test : X → Bool) (xs : List X) (x : X) → list_all test (xs ++ x ∷ []) ≡ (list_all test xs && test x)
-all_more test [] x = and_true (test x)
-  where
-    and_true : (b : Bool) → (b && true) ≡ b
-    and_true true = refl
-    and_true false = refl
-all_more test (y ∷ xs) x = ap (λ b. test y && b) (all_more test xs x) ∙ regroup (test y) (list_all test xs) (test x)
-  where
-    regroup : (a b c : Bool) → (a && (b && c)) ≡ ((a && b) && c)
-    regroup true b c = refl
-    regroup false b c = refl
-
--- a block more, and a reservation more
-pub block_more : (a x r : Bool) → ((a && x) && r) ≡ ((a && r) && x)
-block_more true true true = refl
-block_more true true false = refl
-block_more true false true = refl
-block_more true false false = refl
-block_more false x r = refl
-
-pub reserve_more : (a r x : Bool) → (a && (r && x)) ≡ ((a && r) && x)
-reserve_more true r x = refl
-reserve_more false r x = refl
-
-pub and_true : (b : Bool) → b ≡ (b && true)
-and_true true = refl
-and_true false = refl
-
-pub eqb_refl : (k : ℕ) → (k == k) ≡ true
-eqb_refl k = eq-eqb k k refl
 
 -- what is let go is another location's no matter
 pub other_held : (ls : List Place) (m a n b : ℕ) → ((m == n) && (a == b)) ≡ false → is_held (let_go ls m a) n b ≡ is_held ls n b
@@ -88,7 +58,7 @@ pub record IsAround (c : Circuit) (p : Pipe) (ls : Locks) (vs : ℕ → View) (s
 pub taken_same : (gs : List Guard) (w : Walk) (s : State) (env : List ℕ) → ((x : ℕ) → guards_use gs x ≡ true → slice_index env x ≡ (w.vars x).value s) → taken gs env ≡ taken_in gs w s
 taken_same [] w s env h = refl
 taken_same (g ∷ gs) w s env h =
-    ap₂ (λ n b. takes g.first n && b) (h g.var (or_left (g.var == g.var) (guards_use gs g.var) (eqb_refl g.var))) (taken_same gs w s env (λ x u. h x (or_right (g.var == x) (guards_use gs x) u)))
+    ap₂ (λ n b. takes g.first n && b) (h g.var (or_left (g.var == g.var) (guards_use gs g.var) (eqb_self g.var))) (taken_same gs w s env (λ x u. h x (or_right (g.var == x) (guards_use gs x) u)))
 
 -- what a thread has done behind an operation, where it is taken
 abbrev pub done : machine.State → ℕ → Bool → Op → Deeds → Deeds

@@ -7,7 +7,7 @@ use Rattle.pdl_semantics.specs.Flat.{Expr, Op, Bind, CombRead, Write, ReserveRea
 use Rattle.pdl_semantics.specs.Stages.{mem_at, commit_stage}
 use Rattle.pdl_semantics.specs.Locks.{read_ready}
 use Rattle.pdl_semantics.specs.Machine as machine
-use Rattle.pdl_semantics.specs.Machine.{Thread, Place, Blocked, Reserved, Deeds, does, is_held, let_go, older_write, word_for, same_args}
+use Rattle.pdl_semantics.specs.Machine.{Deeds, older_write, word_for}
 use Rattle.pdl_net.specs.Circuit.{Circuit, State}
 use Rattle.pdl_machine_facts.specs.Slots.{is_ready}
 use Rattle.pdl_machine_facts.specs.Use.{is_early, IsOpFine}
@@ -15,9 +15,10 @@ use Rattle.pdl_pipe_law.specs.Lives.{uses, guards_use, lives}
 use Rattle.pdl_pipe_law.specs.Walk.{Locks, Row, Walk, IsRow, with_var, after}
 use Rattle.pdl_pipe_law.specs.Views.{View}
 use Rattle.pdl_pipe_law.specs.Stands.{IsSo, Follows}
-use Rattle.pdl_pipe_law.proofs.StageRow.{eqb_refl, IsLive, IsAround, done, quiet, set_env, keep_env, word_at, is_taken, is_not, early, FollowsOp}
+use Rattle.pdl_pipe_law.proofs.StageRow.{IsLive, IsAround, done, quiet, set_env, keep_env, word_at, is_taken, is_not, early, FollowsOp}
 use Rattle.pdl_pipe_law.proofs.StageLocks.{follows_write, follows_reserve_read, follows_reserve_write, follows_block, follows_release}
 use Rattle.pdl_pipe_law.proofs.StageCalls.{follows_call, follows_fetch, follows_spec_call, follows_verify, follows_check, follows_barrier}
+use Rattle.pdl_word.proofs.Numbers.{eqb_self}
 
 module _ (c : Circuit) (p : Pipe) (ls : Locks) (vs : ℕ → View) (s : State) (st : machine.State) (k thread : ℕ) (around : IsAround c p ls vs s st k thread) where
   pub follows_bind : (y : ℕ) (e : Expr) → FollowsOp c p ls vs s st k thread around (Bind y e)
@@ -80,7 +81,7 @@ module _ (c : Circuit) (p : Pipe) (ls : Locks) (vs : ℕ → View) (s : State) (
 
       so : IsSo p k s w d → is_ready p st thread d ≡ true → (b : Bool) → taken gs d.env ≡ b → IsSo p k s (with_var y r.value w) (done st thread b (CombRead y m a) d)
       so h z true f =
-          let addr : slice_index d.env a ≡ (w.vars a).value s = h.env a (live.vars a (or_right (guards_use gs a) (a == a) (eqb_refl a))) in
+          let addr : slice_index d.env a ≡ (w.vars a).value s = h.env a (live.vars a (or_right (guards_use gs a) (a == a) (eqb_self a))) in
           let word = row.1 s around.suits (is_taken c p ls vs s st k thread around gs r w d glive on q h f) in
           let g = fine f z in
           let P : ℕ → Type 0 = λ v. IsTrue (read_ready (mem_at p m).lock (older_write st thread m v)) in

@@ -1,30 +1,23 @@
 -- The netlist of a compiled pipe is well formed.
-use Rattle.std.proofs.Common.{◌≡◌, ◌≢◌, inl, inr, ℕ, zero, suc, bytes_eq, ◌<◌, ◌≤◌, true, false, List, [], ◌∷◌, length, get_or, map, filter, AllPairs, refl, sym, ap, ap₂, ◌∙◌, subst, arith}
+use Rattle.std.proofs.Common.{◌≡◌, ◌≢◌, inr, ℕ, ◌<◌, ◌≤◌, List, [], ◌∷◌, length, get_or, map, AllPairs, refl, sym, ap, ap₂, ◌∙◌, subst, arith}
 use Rattle.std.proofs.lemmas.List.{length-map, get_or-map}
 use Rattle.std.proofs.lemmas.List.Elements.{All-from_get_or}
-use Rattle.std.specs.List.{AllByRecursion}
-use Rattle.std.proofs.lemmas.Bool.{or_parts}
-use Rattle.pdl_kit.specs.declared.mem_info.MemInfo.{MemInfo}
-use Rattle.std.specs.List.{list_all}
 use Rattle.pdl_semantics.specs.Tree.{Mem}
 use Rattle.pdl_semantics.specs.Flat.{Pipe}
 use Rattle.pdl_semantics.specs.Flatten.{mems_of}
-use Rattle.pdl_rules.specs.Refusal.{is_comb}
-use Rattle.pdl_rules.specs.Typed.{is_memory, AreDistinct}
 use Rattle.pdl_net.specs.declared.Array.{Array}
 use Rattle.pdl_net.specs.declared.Netlist.{Netlist}
 use Rattle.pdl_net.specs.Circuit.{Shape, shape_of, circuit_of, no_array}
 use Rattle.pdl_net.specs.Signal.{Signal}
 use Rattle.pdl_net.specs.Well.{IsWell}
 use Rattle.pdl_net.specs.Pipe.{IsAddress, IsPipeArray, IsKept, IsPipe, IsWellFormed, head_of, pipe_ports}
-use Rattle.pdl_net.specs.Run.{delayed_mems}
 use Rattle.pdl_pipe_law.specs.Walk.{Locks}
 use Rattle.pdl_pipe_law.specs.Views.{Gates, View}
 use Rattle.pdl_pipe_law.specs.Declared.{info_of, port_mem, locked_of, mem_names, shape_of_mem, AreDeclared, CommitsFit, AreBitsWide}
 use Rattle.pdl_pipe_law.specs.Compiled.{IsCompiled}
-use Rattle.pdl_pipe_law.proofs.WellFormedNames.{Among, name_of_mem, name_apart, all_pairs, mem_names_differ}
+use Rattle.pdl_pipe_law.proofs.WellFormedNames.{Among, name_of_mem, all_pairs, mem_names_differ}
 use Rattle.pdl_pipe_law.proofs.WellFormedPorts.{heads_of, head_shown, all_heads, names_are, stage_names, commit_names, port_names_differ}
-use Rattle.pdl_pipe_law.proofs.WellFormedMems.{never_delayed, none_delayed, Reaches, reaches_all, sized_among, IsAddressed, addressed}
+use Rattle.pdl_pipe_law.proofs.WellFormedMems.{never_delayed, Reaches, reaches_all, sized_among, IsAddressed, addressed}
 use Rattle.pdl_pipe_law.proofs.WellFormedArrays.{array_mem, mem_array, never_written, locked_all, pipe_array, infos_same}
 
 -- ---- memories
@@ -41,28 +34,6 @@ array_names_are (a ∷ ars) (m ∷ ms) e =
     let here : shape_of a ≡ shape_of_mem m = cc e in
     let rest : map shape_of ars ≡ map shape_of_mem ms = cc e in
     ap₂ (λ x xs. x ∷ xs) (ap (λ (s : Shape). s.name) here) (array_names_are ars ms rest)
-
--- no memory of the netlist is delayed
-pub nothing_delayed : (ms : List Mem) (n : Netlist) → list_all is_comb ms ≡ true → n.mems ≡ map info_of ms → delayed_mems n ≡ []
-nothing_delayed ms n comb e = ap (filter (λ (m : MemInfo). m.delayed)) e ∙ none_delayed ms comb
-
--- what holds of each memory holds of it as it is told
-infos_all : (P : MemInfo → Type 0) (ms : List Mem) → ((m : Mem) → Among m ms → P (info_of m)) → AllByRecursion P (map info_of ms)
-infos_all P [] h = tt
-infos_all P (m ∷ ms) h = (h m (inl refl), infos_all P ms (λ k a. h k (inr a)))
-
--- no two memories have one name
-infos_none : (n : List ℕ) (ms : List Mem) → is_memory ms n ≡ false → (j : ℕ) (d : MemInfo) → j < length (map info_of ms) → n ≢ (get_or (map info_of ms) j d).name
-infos_none n [] e j d l s = absurd (omega arith)
-infos_none n (m ∷ ms) e zero d l s = name_apart m.name.name n (or_parts (bytes_eq m.name.name n) (is_memory ms n) e).0 (sym s)
-infos_none n (m ∷ ms) e (suc j) d l s = infos_none n ms (or_parts (bytes_eq m.name.name n) (is_memory ms n) e).1 j d (omega arith) s
-
-infos_differ : (ms : List Mem) → AreDistinct ms → AllPairs (λ (a b : MemInfo). a.name ≢ b.name) (map info_of ms)
-infos_differ [] h i j d l k = absurd (omega arith)
-infos_differ (m ∷ ms) h zero zero d l k = absurd (omega arith)
-infos_differ (m ∷ ms) h zero (suc j) d l k = infos_none m.name.name ms h.0 j d (omega arith)
-infos_differ (m ∷ ms) h (suc i) zero d l k = absurd (omega arith)
-infos_differ (m ∷ ms) h (suc i) (suc j) d l k = infos_differ ms h.1 i j d (omega arith) (omega arith)
 
 -- ---- the whole
 

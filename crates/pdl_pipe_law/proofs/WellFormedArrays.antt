@@ -8,6 +8,7 @@ use Rattle.std.proofs.lemmas.List.Elements.{All-from_recursion, recursion_from_A
 use Rattle.std.proofs.lemmas.List.{length-map}
 use Rattle.pdl_kit.specs.declared.mem_info.MemInfo.{MemInfo}
 use Rattle.pdl_semantics.specs.Tree.{LockDecl, Mem}
+use Rattle.pdl_semantics.specs.Flat as flat
 use Rattle.pdl_semantics.specs.Flat.{Pipe}
 use Rattle.pdl_semantics.specs.Flatten.{mems_of}
 use Rattle.pdl_semantics.specs.Stages.{plain_mem}
@@ -18,14 +19,15 @@ use Rattle.pdl_net.specs.Circuit.{Circuit, Shape, shape_of, array_at}
 use Rattle.pdl_net.specs.Meaning.{write_signal, write_signals}
 use Rattle.pdl_net.specs.Pipe.{PortMem, IsPipeArray, comb_info}
 use Rattle.pdl_net.specs.Signal.{Signal}
-use Rattle.pdl_machine_facts.proofs.LockKinds.{once_or_twice}
-use Rattle.pdl_pipe_law.specs.Walk.{Locks, has_kind}
+use Rattle.pdl_lockapi.proofs.LockKinds.{lock_declared, once_or_twice}
+use Rattle.pdl_pipe_law.specs.Walk.{Locks}
 use Rattle.pdl_pipe_law.specs.Views.{Gates, View}
 use Rattle.pdl_pipe_law.specs.Declared.{info_of, port_mem, locked_of, has_lock, array_words, shape_of_mem}
 use Rattle.pdl_pipe_law.specs.Compiled.{IsCompiled}
 use Rattle.pdl_pipe_law.proofs.WellFormedNames.{Among, among_one}
-use Rattle.pdl_pipe_law.proofs.WellFormedPorts.{locked_named, found, kind_same}
+use Rattle.pdl_pipe_law.proofs.WellFormedPorts.{locked_named, found}
 use Rattle.pdl_pipe_law.proofs.WellFormedMems.{Reaches, IsAddressed}
+use Rattle.pdl_pathfacts.proofs.Memories.{mems_length}
 
 -- ---- the array of a memory
 
@@ -64,14 +66,10 @@ no_write c [] e = refl
 no_write c (w ∷ ws) e = absurd (cc e)
 
 -- a memory's lock by its number
-pub lock_same : (ms : List Mem) (k : ℕ) → has_kind (slice_index_or (mems_of ms) k plain_mem).lock ≡ has_lock ms k
+pub lock_same : (ms : List Mem) (k : ℕ) → flat.has_lock (slice_index_or (mems_of ms) k plain_mem).lock ≡ has_lock ms k
 lock_same [] k = refl
-lock_same (m ∷ ms) zero = kind_same m.lock
+lock_same (m ∷ ms) zero = lock_declared m.lock
 lock_same (m ∷ ms) (suc k) = lock_same ms k
-
-pub mems_long : (ms : List Mem) → length (mems_of ms) ≡ length ms
-mems_long [] = refl
-mems_long (m ∷ ms) = ap suc (mems_long ms)
 
 module _ (p : Pipe) (ms : List Mem) (names : ℕ → List ℕ) (ls : Locks) (vs : ℕ → View) (gates : Gates) (moves : ℕ → Signal) (c : Circuit) (made : IsCompiled p names ls vs gates moves c) (same : p.mems ≡ mems_of ms) (in_order : (m : ℕ) → m < length p.mems → ls.array m ≡ m) (shapes : map shape_of c.arrays ≡ map shape_of_mem ms) where
   -- there are as many arrays as memories
@@ -83,9 +81,9 @@ module _ (p : Pipe) (ms : List Mem) (names : ℕ → List ℕ) (ls : Locks) (vs 
   unfolding write_signals
   never_written k m l h e =
       let n = as_many in
-      let long = ap length same ∙ mems_long ms in
+      let long = ap length same ∙ mems_length ms in
       let low : k < length p.mems = omega (arith, n, long, l) in
-      let none = made.unwritten k low (ap (λ l. has_kind (slice_index_or l k plain_mem).lock) same ∙ lock_same ms k ∙ h.lock ∙ e) in
+      let none = made.unwritten k low (ap (λ l. flat.has_lock (slice_index_or l k plain_mem).lock) same ∙ lock_same ms k ∙ h.lock ∙ e) in
       no_write c (array_at c k).writes (ap (λ i. map (write_signal c) (array_at c i).writes) (sym (in_order k low)) ∙ none)
 
 -- what holds of each locked memory

@@ -1,59 +1,22 @@
 -- The names of ports and of memories: which differ, and which memory has a name.
-use Rattle.std.proofs.Common.{◌≡◌, ◌≢◌, ◌⊎◌, inl, inr, ℕ, zero, suc, ◌<◌, true, false, List, [], ◌∷◌, ◌++◌, length, get_or, map, AllPairs, codes, bytes_eq, refl, sym, ap, ◌∙◌, arith}
+use Rattle.std.proofs.Common.{◌≡◌, ◌≢◌, ◌⊎◌, inl, inr, ℕ, zero, suc, ◌<◌, false, List, [], ◌∷◌, ◌++◌, length, get_or, map, AllPairs, bytes_eq, sym, ap, ◌∙◌, arith}
 use Rattle.std.specs.Prelude.{⊤}
 use Rattle.std.proofs.lemmas.Bool.{false≢true, or_parts, false_from_ne_true}
 use Rattle.std.proofs.lemmas.Slice.Eq.{bytes_eq-Decides}
 use Rattle.pdl_semantics.specs.Tree.{Mem}
 use Rattle.pdl_rules.specs.Typed.{is_memory, AreDistinct}
+use Rattle.pdl_word.proofs.Bytes.{bytes_same}
 
 -- ---- equal names
-
--- a test of equal names decides them
-pub name_itself : (x : List ℕ) → bytes_eq x x ≡ true
-name_itself x = (bytes_eq-Decides x x).1 refl
-
-pub name_same : (x y : List ℕ) → bytes_eq x y ≡ true → x ≡ y
-name_same x y e = (bytes_eq-Decides x y).0 e
 
 pub name_apart : (x y : List ℕ) → bytes_eq x y ≡ false → x ≢ y
 name_apart x y e s = false≢true (sym e ∙ (bytes_eq-Decides x y).1 s)
 
 pub name_differs : (x y : List ℕ) → x ≢ y → bytes_eq x y ≡ false
-name_differs x y d = false_from_ne_true (bytes_eq x y) (λ e. d (name_same x y e))
+name_differs x y d = false_from_ne_true (bytes_eq x y) (λ e. d (bytes_same x y e))
 
 pub name_turned : (x y : List ℕ) → bytes_eq x y ≡ false → bytes_eq y x ≡ false
 name_turned x y e = name_differs y x (λ s. name_apart x y e (sym s))
-
--- ---- names of ports
-
--- whether a port commits a memory of this name: the tests of three kinds of names compute
-pub commit_is : (a b : List ℕ) → bytes_eq (codes "c_" ++ a) (codes "c_" ++ b) ≡ bytes_eq a b
-commit_is a b = refl
-
-pub address_is : (a b : List ℕ) → bytes_eq (codes "ca_" ++ a) (codes "ca_" ++ b) ≡ bytes_eq a b
-address_is a b = refl
-
-pub value_is : (a b : List ℕ) → bytes_eq (codes "cd_" ++ a) (codes "cd_" ++ b) ≡ bytes_eq a b
-value_is a b = refl
-
--- no port of one kind has the name of a port of another
-pub commit_no_address : (a b : List ℕ) → bytes_eq (codes "c_" ++ a) (codes "ca_" ++ b) ≡ false
-commit_no_address a b = refl
-
-pub commit_no_value : (a b : List ℕ) → bytes_eq (codes "c_" ++ a) (codes "cd_" ++ b) ≡ false
-commit_no_value a b = refl
-
-pub address_no_commit : (a b : List ℕ) → bytes_eq (codes "ca_" ++ a) (codes "c_" ++ b) ≡ false
-address_no_commit a b = refl
-
-pub address_no_value : (a b : List ℕ) → bytes_eq (codes "ca_" ++ a) (codes "cd_" ++ b) ≡ false
-address_no_value a b = refl
-
-pub value_no_commit : (a b : List ℕ) → bytes_eq (codes "cd_" ++ a) (codes "c_" ++ b) ≡ false
-value_no_commit a b = refl
-
-pub value_no_address : (a b : List ℕ) → bytes_eq (codes "cd_" ++ a) (codes "ca_" ++ b) ≡ false
-value_no_address a b = refl
 
 -- ---- memories
 
@@ -64,12 +27,6 @@ name_of_mem m = m.name.name
 abbrev pub Among : Mem → List Mem → Type 0
 Among m [] = ⊥
 Among m (x ∷ xs) = (x ≡ m) ⊎ Among m xs
-
--- the memory at a place is one of them
-pub among_at : (ms : List Mem) (i : ℕ) (d : Mem) → i < length ms → Among (get_or ms i d) ms
-among_at [] i d l = absurd (omega arith)
-among_at (m ∷ ms) zero d l = inl refl
-among_at (m ∷ ms) (suc i) d l = inr (among_at ms i d (omega arith))
 
 -- a memory behind one with a name that none of them has, has another name
 pub among_other : (n : List ℕ) (ms : List Mem) (m : Mem) → is_memory ms n ≡ false → Among m ms → bytes_eq m.name.name n ≡ false

@@ -1,26 +1,26 @@
 -- The ports of a pipe without delayed memories: their names, directions and widths.
-use Rattle.std.proofs.Common.{◌≡◌, ◌≢◌, inl, inr, ℕ, zero, suc, ◌+◌, ◌-◌, ◌<◌, ◌≤◌, Bool, true, false, not, if◌then◌else◌, List, [], ◌∷◌, ◌++◌, length, map, Option, Some, None, codes, decimal, bytes_eq, refl, sym, ap, ap₂, ◌∙◌, subst, arith, append_assoc, append-nil}
+use Rattle.std.proofs.Common.{◌≡◌, ◌≢◌, inl, inr, ℕ, zero, suc, ◌+◌, ◌-◌, ◌<◌, ◌≤◌, Bool, true, false, if◌then◌else◌, List, [], ◌∷◌, ◌++◌, length, map, Option, Some, None, codes, decimal, bytes_eq, refl, sym, ap, ap₂, ◌∙◌, subst, arith, append_assoc, append-nil}
 use Rattle.std.specs.Prelude.{⊤, flat_map, find}
 use Rattle.std.specs.List.{range_with_len}
 use Rattle.std.specs.Option.{is_some}
 use Rattle.std.proofs.lemmas.List.{map-append}
 use Rattle.std.proofs.lemmas.Fmt.{decimal_injective}
-use Rattle.pdl_semantics.specs.Tree.{LockDecl, Mem}
+use Rattle.pdl_semantics.specs.Tree.{Mem}
 use Rattle.pdl_semantics.specs.Flat.{Pipe}
-use Rattle.pdl_semantics.specs.Flatten.{mems_of, lock_of}
+use Rattle.pdl_semantics.specs.Flatten.{mems_of}
 use Rattle.pdl_rules.specs.Typed.{AreDistinct}
 use Rattle.pdl_net.specs.declared.Port.{Port}
 use Rattle.pdl_net.specs.Circuit.{Circuit, Output}
 use Rattle.pdl_net.specs.Pipe.{Head, PortMem, head_of, output, stage_ports, commit_ports, pipe_ports}
 use Rattle.pdl_net.specs.Signal.{Signal}
-use Rattle.pdl_machine_facts.proofs.LockKinds.{lock_is, locked_is}
-use Rattle.pdl_pipe_law.specs.Walk.{has_kind}
+use Rattle.pdl_lockapi.proofs.LockKinds.{lock_declared}
 use Rattle.pdl_pipe_law.specs.Views.{Gates, View}
 use Rattle.pdl_pipe_law.specs.Declared.{port_mem, locked_of, mem_names, FitsMem, CommitsFit, AreBitsWide}
 use Rattle.pdl_pipe_law.proofs.WellFormedMems.{Reaches, power_one}
 use Rattle.pdl_pipe_law.specs.Ports.{Shown, Commit, stages_shown, commit_shown, commits_shown, all_shown}
 use Rattle.pdl_pipe_law.specs.Compiled.{shown_in, port_in}
-use Rattle.pdl_pipe_law.proofs.WellFormedNames.{Among, IsNone, AllDiffer, name_of_mem, name_itself, name_differs, name_turned, among_other, mem_none}
+use Rattle.pdl_pipe_law.proofs.WellFormedNames.{Among, IsNone, AllDiffer, name_of_mem, name_differs, name_turned, among_other, mem_none}
+use Rattle.pdl_word.proofs.Bytes.{bytes_refl}
 
 -- ---- the locked memories
 
@@ -42,7 +42,7 @@ none_named (m ∷ ms) n h = found_first (is_some m.lock) (port_mem m) (locked_of
 
 found_here : (b : Bool) (l : PortMem) (ls : List PortMem) → find (λ (k : PortMem). bytes_eq k.name l.name) ls ≡ None
     → find (λ (k : PortMem). bytes_eq k.name l.name) ((if b then l ∷ [] else []) ++ ls) ≡ (if b then Some l else None)
-found_here true l ls h = ap (λ c. if c then Some l else find (λ (k : PortMem). bytes_eq k.name l.name) ls) (name_itself l.name)
+found_here true l ls h = ap (λ c. if c then Some l else find (λ (k : PortMem). bytes_eq k.name l.name) ls) (bytes_refl l.name)
 found_here false l ls h = h
 
 -- the locked memory of a memory's name is that memory, if it has a lock
@@ -87,16 +87,11 @@ commit_heads_if : (b : Bool) (xs : List Shown) (l : PortMem) (rest : List Shown)
 commit_heads_if true xs l rest ls e f = map-append head_shown xs rest ∙ ap₂ (λ a b. a ++ b) (e refl) f
 commit_heads_if false xs l rest ls e f = f
 
--- whether a memory has a lock is the same in the flat form
-pub kind_same : (l : Option LockDecl) → has_kind (lock_of l) ≡ is_some l
-kind_same None = refl
-kind_same (Some l) = let k = lock_is l in ap has_kind k.1 ∙ ap not (locked_is l.kind k.0)
-
 commit_heads : (names : ℕ → List ℕ) (commits : ℕ → Commit) (k : ℕ) (ms : List Mem) → ((i : ℕ) → i < length ms → names (k + i) ≡ mem_names ms i) → ((m : Mem) → Among m ms → Reaches m) → CommitsFit commits k ms → map head_shown (commits_shown names commits k (mems_of ms)) ≡ flat_map commit_ports (locked_of ms)
 commit_heads names commits k [] f r h = refl
 commit_heads names commits k (x ∷ xs) f r h =
     let here : names k ≡ x.name.name = ap names (let z : k ≡ k + 0 = omega arith in z) ∙ f 0 (omega arith) in
-    ap (λ b. map head_shown ((if b then commit_shown (names k) (commits k) else []) ++ commits_shown names commits (suc k) (mems_of xs))) (kind_same x.lock)
+    ap (λ b. map head_shown ((if b then commit_shown (names k) (commits k) else []) ++ commits_shown names commits (suc k) (mems_of xs))) (lock_declared x.lock)
     ∙ ap (λ n. map head_shown ((if is_some x.lock then commit_shown n (commits k) else []) ++ commits_shown names commits (suc k) (mems_of xs))) here
     ∙ commit_heads_if (is_some x.lock) (commit_shown x.name.name (commits k)) (port_mem x) (commits_shown names commits (suc k) (mems_of xs)) (locked_of xs)
     (λ e. commit_head x (commits k) (r x (inl refl)) (h.0 e))

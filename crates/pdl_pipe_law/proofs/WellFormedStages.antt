@@ -7,7 +7,7 @@ use Rattle.pdl_semantics.specs.Flatten.{flat}
 use Rattle.pdl_rules.specs.Places.{Place, Parameter, Memory, End, StartClause, places, statements}
 use Rattle.pdl_rules.specs.Limits.{is_separator, breaks_z3}
 use Rattle.pdl_rules.specs.Refusal.{KeepsRules}
-use Rattle.pdl_rules.proofs.Straight.{Each, each_from}
+use Rattle.pdl_rules.proofs.EachPlace.{Each, each_from}
 use Rattle.pdl_rules.proofs.Once.{weight, count_push}
 use Rattle.pdl_stagefacts.proofs.Walks.{cut, cut_append, cut_all}
 use Rattle.pdl_stagefacts.proofs.Formed.{body_forked}

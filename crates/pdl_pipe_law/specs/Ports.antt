@@ -1,9 +1,9 @@
 -- What the stages do to each lock, and what the netlist shows.
 use Rattle.std.specs.Prelude.{ℕ, zero, suc, ◌==◌, List, [], ◌∷◌, ◌++◌, length, if◌then◌else◌, ◌-◌, codes, decimal}
-use Rattle.pdl_semantics.specs.Flat.{Mem, Pipe}
+use Rattle.pdl_semantics.specs.Flat.{Mem, Pipe, has_lock}
 use Rattle.pdl_net.specs.Signal.{Signal, mux_signal}
 use Rattle.pdl_lockapi.specs.Laws.{ReserveSignal, TicketSignal, StepSignals}
-use Rattle.pdl_pipe_law.specs.Walk.{Reservation, Put, Letting, has_kind, one, zero_bit, both}
+use Rattle.pdl_pipe_law.specs.Walk.{Reservation, Put, Letting, one, zero_bit, both}
 use Rattle.pdl_pipe_law.specs.Views.{View, Gates}
 
 -- ---- the ports of a memory's lock over n stages, of which the first is k; those of the last stage stand first
@@ -70,7 +70,7 @@ commit_shown name c = shows (codes "c_" ++ name) c.enable ∷ shows (codes "ca_"
 -- of each memory with a lock, of which the first has the number m, by the memories' names
 abbrev pub commits_shown : (ℕ → List ℕ) → (ℕ → Commit) → ℕ → List Mem → List Shown
 commits_shown names commits m [] = []
-commits_shown names commits m (x ∷ xs) = (if has_kind x.lock then commit_shown (names m) (commits m) else []) ++ commits_shown names commits (suc m) xs
+commits_shown names commits m (x ∷ xs) = (if has_lock x.lock then commit_shown (names m) (commits m) else []) ++ commits_shown names commits (suc m) xs
 
 abbrev pub all_shown : Pipe → (ℕ → List ℕ) → (ℕ → Commit) → (ℕ → View) → Gates → (ℕ → Signal) → List Shown
 all_shown p names commits vs gates moves =

@@ -2,10 +2,9 @@
 use Rattle.std.specs.Prelude.{◌≡◌, ℕ, ◌<◌, ◌≤◌, Bool, true, false, ◌==◌, ◌&&◌, List, [], ◌∷◌, ◌++◌, if◌then◌else◌, slice_index, slice_index_or, length, map, ⊤, not}
 use Rattle.pdl_word.specs.Words.{bit}
 use Rattle.pdl_semantics.specs.Tree.{LockKind}
-use Rattle.pdl_semantics.specs.Flat.{Expr, Op, Bind, CombRead, DelayedRead, Write, ReserveRead, ReserveWrite, Block, Release, Call, SpecCall, Verify, SpecCheck, SpecBarrier, Guard, Stmt, Lock, Pipe, takes, value_of}
+use Rattle.pdl_semantics.specs.Flat.{Expr, Op, Bind, CombRead, DelayedRead, Write, ReserveRead, ReserveWrite, Block, Release, Call, SpecCall, Verify, SpecCheck, SpecBarrier, Guard, Stmt, Pipe, has_lock, takes, value_of}
 use Rattle.pdl_semantics.specs.Stages.{mem_at}
 use Rattle.pdl_semantics.specs.Machine.{same_args}
-use Rattle.pdl_facts.specs.Scans.{is_plain}
 use Rattle.pdl_net.specs.Circuit.{Circuit, State}
 use Rattle.pdl_net.specs.Signal.{Signal, const_signal, mux_signal}
 use Rattle.pdl_net.specs.Well.{Suits}
@@ -26,11 +25,8 @@ pub record Locks : Type 1 where
   pub array : ℕ → ℕ
 
 -- whether a memory has a lock
-abbrev pub has_kind : Lock → Bool
-has_kind l = not (is_plain l)
-
 abbrev pub is_locked : Pipe → ℕ → Bool
-is_locked p m = has_kind (mem_at p m).lock
+is_locked p m = has_lock (mem_at p m).lock
 
 -- one bit that is always 1, one that is always 0, and whether both of two bits are 1
 abbrev pub one : Signal

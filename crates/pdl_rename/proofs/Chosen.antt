@@ -14,6 +14,7 @@ use Rattle.pdl_entries.proofs.Looks.{youngest_width}
 use Rattle.pdl_rename.specs.declared.layout.Layout.{Layout}
 use Rattle.pdl_rename.specs.Places.{map_signal}
 use Rattle.pdl_rename.specs.Nets.{chosen, selected, mapped}
+use Rattle.pdl_entries.proofs.Youngest.{mux_off}
 
 pub chosen_none : (f : ℕ → Signal) (w : ℕ) (d : Signal) → chosen f w d 0 ≡ f 0
 unfolding chosen
@@ -57,10 +58,6 @@ pick_one : (c x y : ℕ) → c ≡ 1 → words.mux c x y ≡ x
 unfolding words.mux
 pick_one c x y e = rw e refl
 
-pick_zero : (c x y : ℕ) → c ≡ 0 → words.mux c x y ≡ y
-unfolding words.mux
-pick_zero c x y e = rw e refl
-
 -- it gives the signal of the number in the lowest bits
 pub selected_value : (f : ℕ → Signal) (d : Signal) (s : State) (b from : ℕ) → (selected f d b from).value s ≡ (f (from + d.value s % 2 ^ b)).value s
 unfolding selected mux_value slice_value words.slice
@@ -80,7 +77,7 @@ selected_value f d s (suc b) from =
     (λ (e : c ≢ 1).
     let o : c ≡ 0 = omega (arith, below, e) in
     let z : n % 2 ^ suc b ≡ 0 * 2 ^ b + n % 2 ^ b = split ∙ ap (λ k. k * 2 ^ b + n % 2 ^ b) (sym bit ∙ o) in
-    pick_zero c high low o ∙ selected_value f d s b from ∙ ap (λ k. (f k).value s) (omega (arith, z)))
+    mux_off c high low o ∙ selected_value f d s b from ∙ ap (λ k. (f k).value s) (omega (arith, z)))
     (cases_eq c 1)
 
 -- the slots' places

@@ -1,6 +1,5 @@
 -- The calls of a step in turn, and what they leave.
 use Rattle.std.proofs.Common.{◌≡◌, ℕ, ◌+◌, ◌<◌, ◌≤◌, [], ◌∷◌, ◌++◌, length, refl, sym, ap, ◌∙◌, subst, add-one, arith, ⊎_elim, inl, inr}
-use Rattle.std.proofs.lemmas.Bool.{cases_lt}
 use Rattle.pdl_net.specs.Circuit.{Circuit}
 use Rattle.pdl_net.specs.Signal.{Signal}
 use Rattle.pdl_net.specs.Meaning.{next_signal, write_signals}
@@ -17,11 +16,9 @@ use Rattle.pdl_rename.specs.declared.layout.Layout.{Layout}
 use Rattle.pdl_rename.specs.Places.{IsRenaming, HasMap, HasStore, map_at}
 use Rattle.pdl_rename.specs.Kept.{map_keep}
 use Rattle.pdl_rename.specs.Nets.{freed, next_map, one_put, place_writes, NextMap, NextRename, own_word, own_map, own_store, own_rename}
+use Rattle.pdl_entries.proofs.Made.{upto}
 
 -- the loop over the map
-
-upto : (P : ℕ → Type 0) (k : ℕ) → P k → ((j : ℕ) → j < k → P j) → (j : ℕ) → j < k + 1 → P j
-upto P k here rest j lt = ⊎_elim (λ (h : j < k). rest j h) (λ (h : k ≤ j). let e : k ≡ j = omega arith in subst P e here) (cases_lt j k)
 
 pub map_begin : (c : Circuit) (l : Layout) (f : StepSignals) → NextMap c l f 0
 map_begin c l f = record { map = λ a h. absurd (omega arith) }

@@ -9,7 +9,7 @@ ghost use Rattle.pdl_rename.specs.Nets.{selected, mapped, found_word};
 
 use crate::layout::Layout;
 use pdl_build::Builder;
-use pdl_entries::look::{emit_less, emit_youngest, pick};
+use pdl_entries::look::{by_kind, emit_less, emit_youngest};
 use pdl_kit::NoMemory;
 use pdl_lockapi::Kind;
 use pdl_net::Net;
@@ -46,7 +46,8 @@ fn emit_selected(
     requires addr_width { (signal b.old addr).width ≡ l.slots.bits }
     requires bits { bits ≤ l.slots.bits }
     requires within { from + 2 ^ bits ≤ l.depth }
-    ensures means { IfOk result (λ x. Means b.new x (selected (map_signal l) (signal b.old addr) bits from)) }
+    ensures means { IfOk result (λ x.
+        Means b.new x (selected (map_signal l) (signal b.old addr) bits from)) }
     ensures extends { Extends b.old b.new }
 {
     if bits == 0 {
@@ -74,7 +75,7 @@ pub fn emit_mapped(b: &mut Builder, l: Layout, addr: Net) -> Result<Net, NoMemor
 }
 
 /// The nets of a look: whether it is ready, and its value.
-#[tactic(auto, using(pdl_entries::proofs::Kept::slots_kept, crate::proofs::Made::map_kept, crate::proofs::Made::store_kept, crate::proofs::Chosen::widths))]
+#[tactic(auto, using(pdl_entries::proofs::Kept::slots_kept, pdl_entries::proofs::Looks::picked_means, crate::proofs::Made::map_kept, crate::proofs::Made::store_kept, crate::proofs::Chosen::widths))]
 pub fn emit_look(
     b: &mut Builder,
     l: Layout,
@@ -90,8 +91,12 @@ pub fn emit_look(
     requires addr_width { (signal b.old addr).width ≡ l.slots.bits }
     requires ticket_there { IsThere b.old ticket }
     requires ticket_width { (signal b.old ticket).width ≡ l.slots.ticket }
-    ensures ready { IfOk result (λ x. Means b.new x.0 (picked kind (youngest_ready l.slots (signal b.old addr) (less_base l.slots (signal b.old ticket)) l.slots.size))) }
-    ensures value { IfOk result (λ x. Means b.new x.1 (found_word l (signal b.old addr) (signal b.old ticket))) }
+    ensures ready { IfOk result (λ x.
+        Means b.new x.0 (picked kind
+        (youngest_ready l.slots (signal b.old addr)
+        (less_base l.slots (signal b.old ticket)) l.slots.size))) }
+    ensures value { IfOk result (λ x.
+        Means b.new x.1 (found_word l (signal b.old addr) (signal b.old ticket))) }
     ensures extends { Extends b.old b.new }
 {
     let one = b.constant(1, 1)?;
@@ -99,6 +104,6 @@ pub fn emit_look(
     let place = emit_mapped(b, l, addr)?;
     let (ready, place) = emit_youngest(b, l.slots, addr, less, place)?;
     let value = b.read(l.array, place)?;
-    let picked = pick(kind, ready, one, b);
+    let picked = by_kind(kind, ready, one);
     Ok((picked, value))
 }

@@ -36,11 +36,15 @@ fn emit_front(b: &mut Builder, l: Layout, p: &LockPorts) -> Result<Front, NoMemo
     requires map { HasMap b.old l l.depth }
     requires ports { PortsThere b.old p.now }
     requires fit { PortsFit b.old l.slots.bits l.slots.width l.slots.ticket p.now }
-    ensures left { IfOk result (λ x. Means b.new x.left (left_signal l.slots (step_signals b.old p.now))) }
+    ensures left { IfOk result (λ x.
+        Means b.new x.left (left_signal l.slots (step_signals b.old p.now))) }
     ensures left_width { IfOk result (λ x. (signal b.new x.left).width ≡ l.slots.ticket) }
-    ensures addr { IfOk result (λ x. Means b.new x.addr (push_addr l.slots.bits (step_signals b.old p.now) (length p.now.reserves))) }
+    ensures addr { IfOk result (λ x.
+        Means b.new x.addr (push_addr l.slots.bits (step_signals b.old p.now)
+        (length p.now.reserves))) }
     ensures addr_width { IfOk result (λ x. (signal b.new x.addr).width ≡ l.slots.bits) }
-    ensures oldest { IfOk result (λ x. Means b.new x.oldest (oldest_addr l (step_signals b.old p.now))) }
+    ensures oldest { IfOk result (λ x.
+        Means b.new x.oldest (oldest_addr l (step_signals b.old p.now))) }
     ensures freed { IfOk result (λ x. Means b.new x.freed (freed l (step_signals b.old p.now))) }
     ensures extends { Extends b.old b.new }
 {
@@ -73,7 +77,8 @@ fn emit_word(
     requires address { a < l.depth }
     requires oldest { Means b.old oldest (oldest_addr l (step_signals b.old p.now)) }
     requires oldest_width { (signal b.old oldest).width ≡ l.slots.bits }
-    ensures next { OnOk result (next_signal b.new (map_at l a) ≡ next_map l (step_signals b.old p.now) a) }
+    ensures next { OnOk result (next_signal b.new (map_at l a)
+        ≡ next_map l (step_signals b.old p.now) a) }
     ensures extends { ExtendsBut (own_word l a) b.old b.new }
 {
     let number = b.constant(l.slots.bits, a as u64)?;
@@ -113,8 +118,12 @@ fn emit_commit(b: &mut Builder, l: Layout, p: &LockPorts, oldest: Net) -> Result
     requires oldest { Means b.old oldest (oldest_addr l (step_signals b.old p.now)) }
     requires oldest_width { (signal b.old oldest).width ≡ l.slots.bits }
     ensures commit { IfOk result (λ n. Means b.new n.commit (step_signals b.old p.now).release) }
-    ensures addr { IfOk result (λ n. Means b.new n.addr (mux_signal (step_signals b.old p.now).release (oldest_addr l (step_signals b.old p.now)) (const_signal l.slots.bits 0))) }
-    ensures value { IfOk result (λ n. Means b.new n.value (mux_signal (step_signals b.old p.now).release (oldest_value l (step_signals b.old p.now)) (const_signal l.slots.width 0))) }
+    ensures addr { IfOk result (λ n.
+        Means b.new n.addr (mux_signal (step_signals b.old p.now).release
+        (oldest_addr l (step_signals b.old p.now)) (const_signal l.slots.bits 0))) }
+    ensures value { IfOk result (λ n.
+        Means b.new n.value (mux_signal (step_signals b.old p.now).release
+        (oldest_value l (step_signals b.old p.now)) (const_signal l.slots.width 0))) }
     ensures value_width { IfOk result (λ n. (signal b.new n.value).width ≡ l.slots.width) }
     ensures extends { Extends b.old b.new }
 {
@@ -162,7 +171,8 @@ fn emit_put(b: &mut Builder, l: Layout, p: &LockPorts, j: usize) -> Result<(), N
     requires ports { PortsThere b.old p.now }
     requires fit { PortsFit b.old l.slots.bits l.slots.width l.slots.ticket p.now }
     requires within { j < length p.now.writes }
-    ensures write { OnOk result (write_signals b.new l.array ≡ write_signals b.old l.array ++ one_put l (step_signals b.old p.now) j ∷ []) }
+    ensures write { OnOk result (write_signals b.new l.array
+        ≡ write_signals b.old l.array ++ one_put l (step_signals b.old p.now) j ∷ []) }
     ensures extends { ExtendsBut (own_store l) b.old b.new }
 {
     let port = write_port(p, j);
@@ -179,7 +189,8 @@ fn emit_writes(b: &mut Builder, l: Layout, p: &LockPorts) -> Result<(), NoMemory
     requires ports { PortsThere b.old p.now }
     requires fit { PortsFit b.old l.slots.bits l.slots.width l.slots.ticket p.now }
     requires empty { write_signals b.old l.array ≡ [] }
-    ensures writes { OnOk result (write_signals b.new l.array ≡ place_writes l (step_signals b.old p.now) (length p.now.writes)) }
+    ensures writes { OnOk result (write_signals b.new l.array
+        ≡ place_writes l (step_signals b.old p.now) (length p.now.writes)) }
     ensures extends { ExtendsBut (own_store l) b.old b.new }
 {
     for j in 0..p.writes.len() {
@@ -200,8 +211,12 @@ pub fn emit_step(b: &mut Builder, l: Layout, p: &LockPorts) -> Result<LockNets, 
     requires fit { PortsFit b.old l.slots.bits l.slots.width l.slots.ticket p.now }
     ensures next { OnOk result (NextRename b.new l (step_signals b.old p.now)) }
     ensures commit { IfOk result (λ n. Means b.new n.commit (step_signals b.old p.now).release) }
-    ensures addr { IfOk result (λ n. Means b.new n.addr (mux_signal (step_signals b.old p.now).release (oldest_addr l (step_signals b.old p.now)) (const_signal l.slots.bits 0))) }
-    ensures value { IfOk result (λ n. Means b.new n.value (mux_signal (step_signals b.old p.now).release (oldest_value l (step_signals b.old p.now)) (const_signal l.slots.width 0))) }
+    ensures addr { IfOk result (λ n.
+        Means b.new n.addr (mux_signal (step_signals b.old p.now).release
+        (oldest_addr l (step_signals b.old p.now)) (const_signal l.slots.bits 0))) }
+    ensures value { IfOk result (λ n.
+        Means b.new n.value (mux_signal (step_signals b.old p.now).release
+        (oldest_value l (step_signals b.old p.now)) (const_signal l.slots.width 0))) }
     ensures value_width { IfOk result (λ n. (signal b.new n.value).width ≡ l.slots.width) }
     ensures extends { ExtendsBut (own_rename l) b.old b.new }
 {

@@ -12,7 +12,7 @@ use Rattle.pdl_semantics.specs.Cycle as stated
 use Rattle.pdl_machine_facts.specs.Slots.{slot, goes, movers_from, moving}
 use Rattle.pdl_machine_facts.specs.Cycle.{IsByStages, ports_of}
 use Rattle.pdl_machine_facts.specs.Ports.{stage_values, all_commit_values, port_values}
-use Rattle.pdl_machine_facts.proofs.StagewisePorts.{stages_below}
+use Rattle.pdl_machine_facts.proofs.StagewisePorts.{stages_below, then_none}
 use Rattle.pdl_form.specs.Form.{Form}
 use Rattle.pdl_pending.specs.Memory.{Memory}
 use Rattle.pdl_run.specs.declared.stage.Stage as r_stage
@@ -116,12 +116,8 @@ module _ (f : Form) (run : IsRunnable f) (zs : List r_stage.Stage) (xs : List Me
     born_is None = refl
     born_is (Some args) = refl
 
-    or_none : (o : Option Thread) → or_then o None ≡ o
-    or_none None = refl
-    or_none (Some t) = refl
-
     came : or_then (born p next (child_of (moving p st bits))) None ≡ thread_in (called_by p next (child_of ms))
-    came = or_none (born p next (child_of (moving p st bits))) ∙ ap (born p next) child ∙ born_is (child_of ms)
+    came = then_none (born p next (child_of (moving p st bits))) ∙ ap (born p next) child ∙ born_is (child_of ms)
 
     pub stages_are : (cycle p st bits).stages ≡ map thread_in (stages_after (called_by p next (child_of ms)) zs)
     stages_are =

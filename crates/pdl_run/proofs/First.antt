@@ -16,7 +16,8 @@ use Rattle.pdl_run.specs.View.{Standing, place_view, as_standing, standing_view,
 use Rattle.pdl_run.specs.Acts.{called_by}
 use Rattle.pdl_run.specs.Doing.{no_memory, memory_at}
 use Rattle.pdl_run.specs.Ready.{IsWide, IsStage, AreStages, AllFine, AllHold}
-use Rattle.pdl_run.specs.Running.{IsRunnable, state_of, size_of, AreRoomy, AreImages, IsFirst, seats_first, AreReady}
+use Rattle.pdl_lockapi.specs.Sizes.{size_of}
+use Rattle.pdl_run.specs.Running.{IsRunnable, state_of, AreRoomy, AreImages, IsFirst, seats_first, AreReady}
 use Rattle.pdl_run.proofs.Rows.{seen_at}
 use Rattle.pdl_run.proofs.Lasting.{called_fine, called_hold}
 use Rattle.pdl_run.proofs.Typing.{start_fit}

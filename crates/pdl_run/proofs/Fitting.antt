@@ -1,5 +1,5 @@
 -- Values, reservations and writes have their widths, so the statements of a typed pipe can be carried out.
-use Rattle.std.proofs.Common.{◌≡◌, ◌≢◌, refl, sym, ap, ◌∙◌, subst, ℕ, zero, suc, ◌^◌, ◌<◌, ◌≤◌, Bool, true, false, if◌then◌else◌, ◌==◌, List, [], ◌∷◌, ◌++◌, length, take, slice_index, slice_set, arith}
+use Rattle.std.proofs.Common.{◌≡◌, ◌≢◌, refl, sym, ◌∙◌, subst, ℕ, zero, suc, ◌^◌, ◌<◌, ◌≤◌, Bool, true, false, if◌then◌else◌, ◌==◌, List, [], ◌∷◌, ◌++◌, length, take, slice_index, slice_set, arith}
 use Rattle.std.proofs.lemmas.List.{length-set, get_or-set_same, get_or-set_other}
 use Rattle.std.proofs.lemmas.Bool.{eqb-true}
 use Rattle.pdl_semantics.specs.Flat.{Expr, Op, Bind, CombRead, DelayedRead, Write, ReserveRead, ReserveWrite, Block, Release, Call, SpecCall, Verify, SpecCheck, SpecBarrier, Stmt, Pipe, taken, value_of, values_of}
@@ -8,11 +8,12 @@ use Rattle.pdl_semantics.specs.Machine.{Deeds, Reserved, Written, does, does_all
 use Rattle.pdl_form.specs.Form.{Form, stmt_at}
 use Rattle.pdl_formtypes.specs.Stmts.{param_widths, AreWidths, AreArguments}
 use Rattle.pdl_values.specs.Widths.{Fit}
-use Rattle.pdl_values.proofs.Fitting.{fits_in, safe, all_safe}
+use Rattle.pdl_values.proofs.Fitting.{fits_in, safe, all_safe, values_count}
 use Rattle.pdl_pending.specs.Memory.{Memory}
 use Rattle.pdl_pending.proofs.Keeping.{read_fits}
 use Rattle.pdl_run.specs.Doing.{memory_at, word_of, strip, IsSafeOp}
 use Rattle.pdl_run.specs.Typed.{IsServed, AreServed, AreReserved, AreWritten, AreFit, AreMemories}
+use Rattle.pdl_formtypes.proofs.Arguments.{args_count}
 
 -- VALUES
 
@@ -30,16 +31,6 @@ fit_set ws env x v f h there =
       count = length-set env x v ∙ f.count;
       below = λ y. set_below ws env x v f h there y (y == x) refl;
     }
-
-args_count : (ws ns : List ℕ) (es : List Expr) → AreArguments ws ns es → length es ≡ length ns
-args_count ws [] [] t = refl
-args_count ws (n ∷ ns) [] t = absurd t
-args_count ws [] (e ∷ es) t = absurd t
-args_count ws (n ∷ ns) (e ∷ es) t = ap suc (args_count ws ns es t.2)
-
-values_count : (env : List ℕ) (es : List Expr) → length (values_of es env) ≡ length es
-values_count env [] = refl
-values_count env (e ∷ es) = ap suc (values_count env es)
 
 module _ (ws env : List ℕ) (wide : AreWidths ws) (f : Fit ws env) where
   values_below : (ns : List ℕ) (es : List Expr) → AreArguments ws ns es → (x : ℕ) → slice_index (values_of es env) x < 2 ^ slice_index ns x

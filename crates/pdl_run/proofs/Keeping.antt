@@ -1,18 +1,19 @@
 -- Memories can take what a cycle does to them, and keep their widths and their room.
-use Rattle.std.proofs.Common.{◌≡◌, refl, sym, ap, ap₂, ◌∙◌, subst, ℕ, zero, suc, ◌+◌, ◌^◌, ◌<◌, ◌≤◌, Bool, true, false, ◌&&◌, if◌then◌else◌, ◌==◌, List, [], ◌∷◌, ◌++◌, map, Option, Some, None, length, length-append, slice_index, slice_set, ◌⊎◌, inl, inr, arith}
+use Rattle.std.proofs.Common.{◌≡◌, refl, sym, ap₂, ◌∙◌, subst, ℕ, zero, suc, ◌+◌, ◌^◌, ◌<◌, ◌≤◌, Bool, true, false, if◌then◌else◌, ◌==◌, List, [], ◌∷◌, ◌++◌, map, Option, Some, None, length, slice_index, slice_set, ◌⊎◌, inl, inr, arith}
 use Rattle.std.specs.Prelude.{⊤, IfSome}
 use Rattle.std.proofs.lemmas.List.{length-set}
 use Rattle.std.proofs.lemmas.Nat.{pow_pos}
-use Rattle.std.proofs.lemmas.Bool.{eqb-true, ltb-true}
-use Rattle.pdl_semantics.specs.Flat.{list_all, Lock, Plain, Queue, Bypass, Rename, Pipe}
+use Rattle.std.proofs.lemmas.Bool.{eqb-true}
+use Rattle.pdl_semantics.specs.Flat.{list_all, Pipe}
 use Rattle.pdl_semantics.specs.Stages.{in_stage, mem_at}
 use Rattle.pdl_semantics.specs.Locks.{has_room, commit_value}
 use Rattle.pdl_semantics.specs.Machine.{Pending, Reserved, Written, State, Deeds, lock_of, does_all}
 use Rattle.pdl_semantics.specs.Moves.{Act, blocks_ready, have_room}
 use Rattle.pdl_semantics.specs.Cycle.{new_entries, appended, put, put_all, filled, releases, oldest, but_oldest}
+use Rattle.pdl_derived.proofs.Writes.{and_left, and_right}
 use Rattle.pdl_lockapi.specs.Forget.{addresses_of, addresses}
 use Rattle.pdl_machine_facts.specs.Slots.{is_ready}
-use Rattle.pdl_machine_facts.proofs.UsingLists.{as_many}
+use Rattle.pdl_lockapi.proofs.Lengths.{appended_long, filled_long, left_long}
 use Rattle.pdl_form.specs.Form.{Form}
 use Rattle.pdl_pending.specs.Memory.{Memory, committed_to}
 use Rattle.pdl_pending.specs.Kept.{IsBelow, AreKept, IsKept}
@@ -21,7 +22,6 @@ use Rattle.pdl_run.specs.View.{place_view, deeds_view, Standing, as_standing}
 use Rattle.pdl_run.specs.Doing.{word_of, all_let_move}
 use Rattle.pdl_run.specs.Typed.{AreServed, AreReserved, AreWritten}
 use Rattle.pdl_run.specs.Acts.{begun, is_free, IsDone, AreDone, act_of, acts_of, both, left_of, out_of, memory_after}
-use Rattle.pdl_run.specs.Running.{size_of}
 use Rattle.pdl_run.proofs.Quiet.{typed_stage}
 use Rattle.pdl_run.proofs.Readiness.{Shows, ready_all}
 
@@ -143,61 +143,14 @@ module _ (p : Pipe) (m : ℕ) where
 
 -- HOW MANY ARE PENDING
 
-pub appended_count : (m : ℕ) (ms : List Act) (es : List Pending) → length (appended m ms es) ≡ length es + length (addresses m ms)
-appended_count m [] es = omega arith
-appended_count m (a ∷ ms) es =
-    let rest = appended_count m ms es in
-    let sum = length-append (appended m ms es) (new_entries m a.thread.number a.does.reserves) in
-    let more = length-append (addresses m ms) (addresses_of m a.does.reserves) in
-    let many = as_many m a.thread.number a.does.reserves in
-    omega arith
-
-put_count : (thread v : ℕ) (es : List Pending) → length (put thread v es) ≡ length es
-put_count thread v [] = refl
-put_count thread v (e ∷ es) = ap suc (put_count thread v es)
-
-put_if : (b : Bool) (thread v : ℕ) (es : List Pending) → length (if b then put thread v es else es) ≡ length es
-put_if true thread v es = put_count thread v es
-put_if false thread v es = refl
-
-puts_count : (m thread : ℕ) (ws : List Written) (es : List Pending) → length (put_all m thread ws es) ≡ length es
-puts_count m thread [] es = refl
-puts_count m thread (w ∷ ws) es = puts_count m thread ws (if w.mem == m then put thread w.value es else es) ∙ put_if (w.mem == m) thread w.value es
-
-filled_count : (m : ℕ) (ms : List Act) (es : List Pending) → length (filled m ms es) ≡ length es
-filled_count m [] es = refl
-filled_count m (a ∷ ms) es = puts_count m a.thread.number a.does.writes (filled m ms es) ∙ filled_count m ms es
-
-rest_count : (es : List Pending) → length (but_oldest es) ≤ length es
-rest_count [] = omega arith
-rest_count (e ∷ es) = omega arith
-
-rest_if : (b : Bool) (es : List Pending) → length (if b then but_oldest es else es) ≤ length es
-rest_if true es = rest_count es
-rest_if false es = omega arith
-
 pub left_count : (m : ℕ) (ms : List Act) (es : List Pending) → length (left_of m ms es) ≤ length es + length (addresses m ms)
 left_count m ms es =
-    let left = rest_if (releases m ms) (both m ms es) in
-    let fill = filled_count m ms (appended m ms es) in
-    let count = appended_count m ms es in
+    let left = left_long (releases m ms) (both m ms es) in
+    let fill = filled_long m ms (appended m ms es) in
+    let count = appended_long m ms es in
     omega arith
 
 -- A RESERVATION HAS ROOM
-
-pub room_size : (l : Lock) (n : ℕ) → has_room l n ≡ true → (l ≡ Plain) ⊎ (n < size_of l)
-room_size Plain n h = inl refl
-room_size (Queue size) n h = inr (ltb-true n size h)
-room_size (Bypass size) n h = inr (ltb-true n size h)
-room_size (Rename size) n h = inr (ltb-true n size h)
-
-and_left : (a b : Bool) → (a && b) ≡ true → a ≡ true
-and_left true b e = refl
-and_left false b e = e
-
-and_right : (a b : Bool) → (a && b) ≡ true → b ≡ true
-and_right true b e = e
-and_right false b e = absurd (cc)
 
 module _ (f : Form) (typed : AreServed f f.pipe.stmts) (xs : List Memory) (st : State) (shows : Shows f.pipe xs st) (m : ℕ) where
   abbrev pub HasRoom : Type 0

@@ -24,6 +24,8 @@ use Rattle.pdl_run.specs.Acts.{begun, is_free, IsDone, AreDone, act_of, acts_of,
 use Rattle.pdl_run.specs.Ready.{IsFine, AllFine, IsHolding, AllHold}
 use Rattle.pdl_run.proofs.Readiness.{Shows, deeds_are}
 use Rattle.pdl_run.proofs.Going.{At, at_next, at_here, leads}
+use Rattle.pdl_word.proofs.Lists.{take_few}
+use Rattle.pdl_semantics.proofs.Facts.{held_first}
 
 -- WHAT IS HELD
 
@@ -62,12 +64,6 @@ held_few k path (x ∷ xs) ls =
     let rest = held_few k path xs (if b then held_after x.op ls else ls) in
     omega arith
 
-none_before : (path : List ℕ) (xs : List Stmt) (ls : List Place) → held_before 0 path xs ls ≡ ls
-none_before path [] ls = refl
-none_before path (x ∷ xs) ls =
-    let low : nat_lt x.stage 0 ≡ false = grind (arith) in
-    ap (λ (b : Bool). held_before 0 path xs (if b && taken x.guards path then held_after x.op ls else ls)) low ∙ none_before path xs ls
-
 -- NEW THREADS
 
 args_first : (ws args : List ℕ) (n k : ℕ) → ((x : ℕ) → slice_index args x < 2 ^ slice_index (take n ws) x) → length args ≡ length (take n ws) → (x : ℕ) → slice_index (args ++ replicate k 0) x < 2 ^ slice_index ws x
@@ -82,11 +78,6 @@ args_first [] (a ∷ args) (suc n) k h e x = absurd (omega arith)
 args_first (w ∷ ws) (a ∷ args) zero k h e x = absurd (omega arith)
 args_first (w ∷ ws) (a ∷ args) (suc n) k h e zero = h 0
 args_first (w ∷ ws) (a ∷ args) (suc n) k h e (suc x) = args_first ws args n k (λ i. h (suc i)) (omega arith) x
-
-take_few : (n : ℕ) (ws : List ℕ) → length (take n ws) ≤ length ws
-take_few zero ws = omega arith
-take_few (suc n) [] = omega arith
-take_few (suc n) (w ∷ ws) = let rest = take_few n ws in omega arith
 
 module _ (f : Form) (vars : f.pipe.vars ≡ length f.widths) where
   pub args_few : (args : List ℕ) → Fit (param_widths f) args → length args ≤ length f.widths
@@ -109,7 +100,7 @@ module _ (f : Form) (vars : f.pipe.vars ≡ length f.widths) where
 
   pub called_hold : (n : ℕ) (c : Option (List ℕ)) → IsHolding f.pipe 0 (called_by f.pipe n c)
   called_hold n None = tt
-  called_hold n (Some args) = sym (none_before (start_env f.pipe args) f.pipe.stmts [])
+  called_hold n (Some args) = sym (held_first (start_env f.pipe args) f.pipe.stmts [])
 
 module _ (f : Form) (xs : List Memory) where
   child_here : (c later : Option (List ℕ)) → IfSome c (λ args. Fit (param_widths f) args) → IfSome later (λ args. Fit (param_widths f) args) → IfSome (if is_some c then c else later) (λ args. Fit (param_widths f) args)

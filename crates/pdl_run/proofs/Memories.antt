@@ -13,9 +13,7 @@ use Rattle.pdl_pending.specs.Memory.{Memory, committed_to}
 use Rattle.pdl_run.specs.Doing.{memory_at}
 use Rattle.pdl_run.specs.Acts.{both, left_of, out_of, memories_after, commits_shown}
 use Rattle.pdl_run.proofs.Acting.{all_kept, appended_kept, filled_kept, releases_kept}
-
-eqb_same : (k : ℕ) → (k == k) ≡ true
-eqb_same k = grind (arith)
+use Rattle.pdl_word.proofs.Numbers.{eqb_self}
 
 pub none_leaves : (es : List Pending) → entries_left None es ≡ es
 none_leaves [] = refl
@@ -113,12 +111,12 @@ module _ (st : State) (all ms : List Act) (kept : all_kept all ≡ ms) where
     where
       by_equal : (t : Bool) → (b == a) ≡ t → (if t then v else slice_index ws b) ≡ slice_index (slice_set ws a v) b
       by_equal true e = set_hit ws a v h ∙ ap (slice_index (slice_set ws a v)) (sym (eqb-true b a e))
-      by_equal false e = set_miss ws a v b (λ same. both_ways (b == a) e (ap (λ i. i == a) same ∙ eqb_same a))
+      by_equal false e = set_miss ws a v b (λ same. both_ways (b == a) e (ap (λ i. i == a) same ∙ eqb_self a))
 
   this_array : (arrays : Arrays) (m : ℕ) (ws : List ℕ) (e : Option Pending) → ((a : ℕ) → arrays m a ≡ slice_index ws a) → IfSome e (λ x. x.address < length ws) → (a : ℕ) → with_commit arrays m e m a ≡ slice_index (committed_to ws e) a
   this_array arrays m ws None h within a = h a
   this_array arrays m ws (Some e) h within a =
-      ap (λ (b : Bool). (if b then with_value (arrays m) e.address (commit_value e.value) else arrays m) a) (eqb_same m)
+      ap (λ (b : Bool). (if b then with_value (arrays m) e.address (commit_value e.value) else arrays m) a) (eqb_self m)
       ∙ ap (λ w. if a == e.address then commit_value e.value else w) (h a)
       ∙ set_here ws e.address (commit_value e.value) a within
 

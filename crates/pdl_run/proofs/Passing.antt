@@ -1,10 +1,10 @@
 -- Who stands in each stage after a cycle.
 use Rattle.std.proofs.Common.{◌≡◌, refl, sym, ap, ap₂, ◌∙◌, subst, ℕ, zero, suc, ◌+◌, ◌<◌, Bool, true, false, if◌then◌else◌, ◌==◌, List, [], ◌∷◌, map, Option, Some, None, length, slice_index_or, arith}
-use Rattle.std.proofs.lemmas.Bool.{eqb-true, false_from_ne_true}
+use Rattle.std.proofs.lemmas.Bool.{ne_eqb}
 use Rattle.pdl_semantics.specs.Stages.{in_stage, stage_at}
 use Rattle.pdl_semantics.specs.Machine.{Ask, Place, Thread, State, Deeds, deeds, does_all, held_before, word_for}
 use Rattle.pdl_semantics.specs.Cycle.{or_then, if_stays, is_stage, moved, awaited_of, born, child_of, squasher, cycle}
-use Rattle.pdl_machine_facts.specs.Slots.{slot, here, goes, with_now, act_at, reaches, ways_from, ways, passed, passes, first_of, arrives, stays}
+use Rattle.pdl_machine_facts.specs.Slots.{slot, here, goes, with_now, act_at, reaches, ways_from, passed, passes, first_of, arrives, stays}
 use Rattle.pdl_machine_facts.specs.Slots as stated
 use Rattle.pdl_machine_facts.specs.Cycle.{newborn, IsByStages}
 use Rattle.pdl_machine_facts.specs.Linear.{IsLinear}
@@ -15,25 +15,17 @@ use Rattle.pdl_run.specs.View.{place_view, deeds_view, Standing, as_standing, st
 use Rattle.pdl_run.specs.Doing.{word_of, strip}
 use Rattle.pdl_run.specs.Typed.{AreServed}
 use Rattle.pdl_run.specs.Acts as program
-use Rattle.pdl_run.specs.Acts.{begun, is_free, IsDone, AreDone, mover_of, comes_of, stays_of, stages_after, called_by}
+use Rattle.pdl_run.specs.Acts.{begun, is_free, IsDone, AreDone, comes_of, stays_of, stages_after}
 use Rattle.pdl_run.specs.Ready.{IsHolding, AllHold}
 use Rattle.pdl_run.proofs.Quiet.{IsQuiet, quiet_all, typed_stage}
 use Rattle.pdl_run.proofs.Readiness.{Shows, deeds_are}
 use Rattle.pdl_run.proofs.Going.{At, at_next, at_here, AllGo, leads}
-
-eqb_same : (k : ℕ) → (k == k) ≡ true
-eqb_same k = grind (arith)
-
-eqb_differ : (k q : ℕ) → (k ≡ q → ⊥) → (k == q) ≡ false
-eqb_differ k q h = false_from_ne_true _ (λ t. h (eqb-true k q t))
+use Rattle.pdl_word.proofs.Numbers.{eqb_self}
+use Rattle.pdl_machine_facts.proofs.StagewisePorts.{then_none}
 
 stays_all : (o : Option Thread) → if_stays None o ≡ o
 stays_all None = refl
 stays_all (Some t) = refl
-
-or_none : (o : Option Thread) → or_then o None ≡ o
-or_none None = refl
-or_none (Some t) = refl
 
 or_or : (a b c : Option Thread) → or_then a (or_then b c) ≡ or_then (or_then a b) c
 or_or None b c = refl
@@ -47,10 +39,10 @@ module _ (f : Form) (typed : AreServed f f.pipe.stmts) (linear : IsLinear f.pipe
   -- WHERE A STAGE LEADS
 
   reaches_next : (j : ℕ) → suc j < length f.pipe.stages → reaches (stage_at f.pipe j).next (suc j) ≡ true
-  reaches_next j h = ap (λ n. reaches n (suc j)) (linear.goes_on j h) ∙ eqb_same (suc j)
+  reaches_next j h = ap (λ n. reaches n (suc j)) (linear.goes_on j h) ∙ eqb_self (suc j)
 
   reaches_other : (j q : ℕ) → suc j < q → q < length f.pipe.stages → reaches (stage_at f.pipe j).next q ≡ false
-  reaches_other j q h less = ap (λ n. reaches n q) (linear.goes_on j (omega arith)) ∙ eqb_differ (suc j) q (λ e. absurd (omega arith))
+  reaches_other j q h less = ap (λ n. reaches n q) (linear.goes_on j (omega arith)) ∙ ne_eqb (suc j) q (λ e. absurd (omega arith))
 
   -- into a stage comes only who was in the one before
   ways_are : (n j last : ℕ) → j + n ≡ last → suc last < length f.pipe.stages → ways_from f.pipe (suc last) (suc n) j ≡ last ∷ []
@@ -67,7 +59,7 @@ module _ (f : Form) (typed : AreServed f f.pipe.stmts) (linear : IsLinear f.pipe
     arrives_first = refl
 
     arrives_next : (j : ℕ) → suc j < length f.pipe.stages → arrives f.pipe st bits (suc j) ≡ passes f.pipe st bits (suc j) j
-    arrives_next j h = ap (first_of f.pipe st bits (suc j)) (ways_are j 0 j (omega arith) h) ∙ or_none (passes f.pipe st bits (suc j) j)
+    arrives_next j h = ap (first_of f.pipe st bits (suc j)) (ways_are j 0 j (omega arith) h) ∙ then_none (passes f.pipe st bits (suc j) j)
 
     -- who moves on
     moved_is : (k : ℕ) (number : ℕ) (env : List ℕ) (ls : List Place) → (d : Deeds) → d ≡ strip (does_all (word_of xs number) (in_stage k f.pipe.stmts) (begun (record { number = number; env = env; held = ls })))
@@ -88,7 +80,7 @@ module _ (f : Form) (typed : AreServed f f.pipe.stmts) (linear : IsLinear f.pipe
         let t : Thread = thread_of number y.slot.values.items in
         ap (λ (s : Option Thread). passed f.pipe st (suc k) k true (with_now f.pipe st bits s)) h
         ∙ ap (λ (q : Option ℕ). if is_stage (suc k) q then Some (moved (act_at f.pipe st k t)) else None) (leads f typed linear st bits k (deeds f.pipe st k t) less)
-        ∙ ap (λ (b : Bool). if b then Some (moved (act_at f.pipe st k t)) else None) (eqb_same (suc k))
+        ∙ ap (λ (b : Bool). if b then Some (moved (act_at f.pipe st k t)) else None) (eqb_self (suc k))
         ∙ ap Some (moved_is k number y.slot.values.items (map place_view y.slot.held.items) (deeds_view y.deeds) done.0 held)
 
     stays_one : (k : ℕ) (o : Option Standing) (b : Bool) → slot st k ≡ thread_in o → goes f.pipe st bits k ≡ b → stays f.pipe st bits k ≡ thread_in (if b then None else o)
@@ -111,7 +103,7 @@ module _ (f : Form) (typed : AreServed f f.pipe.stmts) (linear : IsLinear f.pipe
       comer_next : (j : ℕ) (y : r_stage.Stage) (free : Bool) → suc j < length f.pipe.stages → slot st j ≡ thread_in (standing_view y.slot) → goes f.pipe st bits j ≡ y.moves
           → IsDone f xs j (standing_view y.slot) (deeds_view y.deeds) free y.moves → IsHolding f.pipe j (standing_view y.slot) → comer (suc j) ≡ thread_in (comes_of y)
       comer_next j y free less h go done held =
-          ap (λ (b : Bool). or_then (if b then born f.pipe st.next (child_of (stated.moving f.pipe st bits)) else None) (arrives f.pipe st bits (suc j))) (eqb_differ (suc j) 0 (λ e. absurd (omega arith)))
+          ap (λ (b : Bool). or_then (if b then born f.pipe st.next (child_of (stated.moving f.pipe st bits)) else None) (arrives f.pipe st bits (suc j))) (ne_eqb (suc j) 0 (λ e. absurd (omega arith)))
           ∙ arrives_next j less
           ∙ ap (λ (b : Bool). passed f.pipe st (suc j) j b (here f.pipe st bits j)) go
           ∙ passes_one j y y.slot.number y.moves free less h done held

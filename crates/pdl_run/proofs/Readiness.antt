@@ -1,7 +1,8 @@
 -- What a thread's statements find in a state of the stated machine, and whether its locks let the thread move, is what the program finds in its memories.
-use Rattle.std.proofs.Common.{◌≡◌, refl, sym, ap, ap₂, ◌∙◌, ℕ, Bool, true, false, ◌&&◌, if◌then◌else◌, List, [], ◌∷◌, ◌++◌, length, slice_index}
+use Rattle.std.proofs.Common.{◌≡◌, sym, ap, ap₂, ◌∙◌, ℕ, Bool, true, false, ◌&&◌, if◌then◌else◌, List, [], ◌∷◌, ◌++◌, length, slice_index}
+use Rattle.std.proofs.Math.Bool.{and_assoc}
 use mathlib.Core.Path.{fun_ext}
-use Rattle.pdl_semantics.specs.Flat.{list_all, Op, Bind, CombRead, DelayedRead, Write, ReserveRead, ReserveWrite, Block, Release, Call, SpecCall, Verify, SpecCheck, SpecBarrier, Lock, Stmt, Pipe, taken}
+use Rattle.pdl_semantics.specs.Flat.{Op, Bind, CombRead, DelayedRead, Write, ReserveRead, ReserveWrite, Block, Release, Call, SpecCall, Verify, SpecCheck, SpecBarrier, Lock, Stmt, Pipe, taken}
 use Rattle.pdl_semantics.specs.Stages.{mem_at, in_stage}
 use Rattle.pdl_semantics.specs.Locks.{Latest, Nothing, value_or, read_ready, write_ready, has_room}
 use Rattle.pdl_semantics.specs.Machine.{Pending, State, lock_of, Deeds, Place, Blocked, Reserved, youngest, does, does_all, word_for, older_write, deeds, is_held, held_before}
@@ -13,39 +14,14 @@ use Rattle.pdl_run.specs.View.{Standing, thread_of}
 use Rattle.pdl_run.specs.Doing.{memory_at, latest_in, word_of, block_in, is_roomy, lets_move, all_let_move}
 use Rattle.pdl_run.specs.Typed.{IsServed, AreServed}
 use Rattle.pdl_run.specs.Acts.{begun}
+use Rattle.pdl_word.proofs.Bools.{and_true, and_swap}
+use Rattle.pdl_semantics.proofs.Facts.{all_push}
 
 -- the locks and the arrays of the state are those of these memories, and so are the kinds of lock of the pipe
 pub record Shows (p : Pipe) (xs : List Memory) (st : State) : Type 0 where
   pub locks : (m : ℕ) → lock_of st m ≡ (memory_at xs m).pending
   pub words : (m a : ℕ) → st.arrays m a ≡ slice_index (memory_at xs m).words a
   pub kinds : (m : ℕ) → (mem_at p m).lock ≡ (memory_at xs m).lock
-
-all_push : {X : Type 0} (test : X → Bool) (xs : List X) (x : X) → list_all test (xs ++ x ∷ []) ≡ (list_all test xs && test x)
-all_push test [] x = both_true (test x)
-  where
-    both_true : (b : Bool) → (b && true) ≡ b
-    both_true true = refl
-    both_true false = refl
-all_push test (y ∷ xs) x = ap (λ b. test y && b) (all_push test xs x) ∙ shifted (test y) (list_all test xs) (test x)
-  where
-    shifted : (a b c : Bool) → (a && (b && c)) ≡ ((a && b) && c)
-    shifted true b c = refl
-    shifted false b c = refl
-
-and_true : (b : Bool) → b ≡ (b && true)
-and_true true = refl
-and_true false = refl
-
-block_last : (a b c : Bool) → ((a && c) && b) ≡ ((a && b) && c)
-block_last true true true = refl
-block_last true true false = refl
-block_last true false true = refl
-block_last true false false = refl
-block_last false b c = refl
-
-room_last : (a b c : Bool) → (a && (b && c)) ≡ ((a && b) && c)
-room_last true b c = refl
-room_last false b c = refl
 
 module _ (f : Form) (xs : List Memory) (st : State) (shows : Shows f.pipe xs st) (thread : ℕ) where
   pub latest_is : (m a : ℕ) → older_write st thread m a ≡ latest_in xs thread m a
@@ -71,12 +47,12 @@ module _ (f : Form) (xs : List Memory) (st : State) (shows : Shows f.pipe xs st)
       let r : Reserved = record { mem = m; address = slice_index d.env a } in
       ap (λ b. blocks_ready f.pipe st thread d && b)
       (all_push (λ (r : Reserved). has_room (mem_at f.pipe r.mem).lock (length (lock_of st r.mem))) d.reserves r ∙ ap (λ b. have_room f.pipe st d && b) (room_is m))
-      ∙ room_last (blocks_ready f.pipe st thread d) (have_room f.pipe st d) (is_roomy xs m)
+      ∙ sym (and_assoc (blocks_ready f.pipe st thread d) (have_room f.pipe st d) (is_roomy xs m))
   ready_op read (Block m a) d t =
       let b : Blocked = record { mem = m; address = slice_index d.env a; writes = is_held d.held m a } in
       ap (λ c. c && have_room f.pipe st d)
       (all_push (λ (b : Blocked). block_ready f.pipe st thread b) d.blocks b ∙ ap (λ c. blocks_ready f.pipe st thread d && c) (block_is b))
-      ∙ block_last (blocks_ready f.pipe st thread d) (have_room f.pipe st d) (block_in xs thread m (slice_index d.env a) (is_held d.held m a))
+      ∙ and_swap (blocks_ready f.pipe st thread d) (block_in xs thread m (slice_index d.env a) (is_held d.held m a)) (have_room f.pipe st d)
   ready_op read (Release m a) d t = and_true (is_ready f.pipe st thread d)
   ready_op read (Call args) d t = and_true (is_ready f.pipe st thread d)
   ready_op read (SpecCall args) d t = absurd t
@@ -95,7 +71,7 @@ module _ (f : Form) (xs : List Memory) (st : State) (shows : Shows f.pipe xs st)
       let next : Deeds = if taken x.guards d.env then does (word_of xs thread) x.op d else d in
       ready_all ss next t.1
       ∙ ap (λ b. b && all_let_move xs thread ss next) (ready_if (word_of xs thread) (taken x.guards d.env) x.op d t.0)
-      ∙ sym (room_last (is_ready f.pipe st thread d) (if taken x.guards d.env then lets_move xs thread x.op d else true) (all_let_move xs thread ss next))
+      ∙ and_assoc (is_ready f.pipe st thread d) (if taken x.guards d.env then lets_move xs thread x.op d else true) (all_let_move xs thread ss next)
 
 -- what a thread does that holds what its values tell
 pub deeds_are : (f : Form) (xs : List Memory) (st : State) → Shows f.pipe xs st → (k : ℕ) (s : Standing) → s.held ≡ held_before k s.env f.pipe.stmts []

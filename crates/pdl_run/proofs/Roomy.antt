@@ -19,10 +19,13 @@ use Rattle.pdl_run.specs.View.{seats}
 use Rattle.pdl_run.specs.Doing.{memory_at}
 use Rattle.pdl_run.specs.Acts.{AreDone, acts_of, both, left_of, memory_after, memories_after}
 use Rattle.pdl_run.specs.Ready.{AllHold, CanStep, AllCanStep}
-use Rattle.pdl_run.specs.Running.{IsRunnable, state_of, IsReached, size_of, AreRoomy}
+use Rattle.pdl_lockapi.specs.Sizes.{size_of}
+use Rattle.pdl_run.specs.Running.{IsRunnable, state_of, IsReached, AreRoomy}
 use Rattle.pdl_run.proofs.Acting.{all_kept}
 use Rattle.pdl_run.proofs.Memories.{none_leaves, three_is, Within}
-use Rattle.pdl_run.proofs.Keeping.{acts_sized, kept_both, oldest_within, kept_after, appended_count, left_count, room_size, room_acts, HasRoom, AllSized}
+use Rattle.pdl_lockapi.proofs.LockKinds.{room_size}
+use Rattle.pdl_lockapi.proofs.Lengths.{appended_long}
+use Rattle.pdl_run.proofs.Keeping.{acts_sized, kept_both, oldest_within, kept_after, left_count, room_acts, HasRoom, AllSized}
 use Rattle.pdl_run.proofs.Cycling.{shows, kept, kept_movers, calm}
 use Rattle.pdl_run.proofs.Typing.{served}
 
@@ -50,11 +53,6 @@ after_at ms k zero (x ∷ xs) less = let same : k ≡ k + 0 = omega arith in ap 
 after_at ms k (suc m) (x ∷ xs) less =
     let same : suc k + m ≡ k + suc m = omega arith in
     after_at ms (suc k) m xs (omega arith) ∙ ap (λ i. memory_after i ms (memory_at xs m)) same
-
-pub after_past : (ms : List Act) (k m : ℕ) (xs : List Memory) → length xs ≤ m → memory_at (memories_after k ms xs) m ≡ memory_at xs m
-after_past ms k m [] less = refl
-after_past ms k zero (x ∷ xs) less = absurd (omega arith)
-after_past ms k (suc m) (x ∷ xs) less = after_past ms (suc k) m xs (omega arith)
 
 pub after_length : (ms : List Act) (k : ℕ) (xs : List Memory) → length (memories_after k ms xs) ≡ length xs
 after_length ms k [] = refl
@@ -107,7 +105,7 @@ module _ (f : Form) (run : IsRunnable f) (zs : List r_stage.Stage) (xs : List Me
         let few = roomy.few m there in
         let room = roomy.room m there in
         let most = one m in
-        let sum = appended_count m ms (memory_at xs m).pending in
+        let sum = appended_long m ms (memory_at xs m).pending in
         record {
           room = omega arith;
           within = subst (λ n. IfSome (oldest (both m ms (memory_at xs m).pending)) (λ e. e.address < n)) (sym depth) (oldest_within p m (both m ms (memory_at xs m).pending) (kept_both p m ms (memory_at xs m).pending sized has.pending));

@@ -1,9 +1,9 @@
 -- A whole cycle, from what the program holds before it to what it holds after it.
-use Rattle.std.proofs.Common.{◌≡◌, refl, sym, ap, ap₂, ◌∙◌, subst, ℕ, suc, ◌-◌, ◌*◌, ◌≤◌, Bool, false, if◌then◌else◌, List, [], ◌∷◌, ◌++◌, Option, Some, None, is_some, length, length-append, slice_index_or, arith}
+use Rattle.std.proofs.Common.{◌≡◌, refl, sym, ap, ap₂, ◌∙◌, subst, ℕ, suc, ◌-◌, ◌*◌, ◌≤◌, Bool, true, false, if◌then◌else◌, List, [], ◌∷◌, ◌++◌, Option, Some, None, is_some, length, length-append, slice_index_or, arith}
 use Rattle.std.specs.Prelude.{IfSome}
 use Rattle.std.proofs.lemmas.List.{length-map}
 use Rattle.pdl_word.specs.Words.{bit}
-use Rattle.pdl_semantics.specs.Flat.{Lock, Plain, Queue, Bypass, Rename, Pipe}
+use Rattle.pdl_semantics.specs.Flat.{Lock, Pipe, has_lock}
 use Rattle.pdl_semantics.specs.Moves.{Act, all_acts}
 use Rattle.pdl_semantics.specs.Cycle.{PortWrite, port_write, child_of, cycle}
 use Rattle.pdl_semantics.specs.Cycle as stated
@@ -18,6 +18,7 @@ use Rattle.pdl_formtypes.specs.Stmts.{param_widths}
 use Rattle.pdl_run.specs.Acts.{AreDone, acts_of, holds, movings, out_of, memories_after, commits_shown, stages_after, called_by}
 use Rattle.pdl_run.specs.Ready.{IsWide, AreStages, AllFine, AllHold, AllCanStep}
 use Rattle.pdl_run.specs.Running.{IsRunnable, state_of, IsReached, AreRoomy, AreReady}
+use Rattle.pdl_run.proofs.Counted.{one_counted}
 use Rattle.pdl_run.proofs.Cycling.{shows, at, next_state, next_ports}
 use Rattle.pdl_run.proofs.Lasting.{args_few, called_fine, called_hold, child_fits, good_after}
 use Rattle.pdl_run.proofs.Roomy.{by, used, within, can_step, roomy_after}
@@ -30,13 +31,11 @@ stages_shown [] = refl
 stages_shown (z ∷ zs) = let rest = stages_shown zs in omega arith
 
 commit_most : (l : Lock) (e : Option PortWrite) → length (commit_values l e) ≤ 3
-commit_most Plain e = omega arith
-commit_most (Queue n) None = omega arith
-commit_most (Queue n) (Some e) = omega arith
-commit_most (Bypass n) None = omega arith
-commit_most (Bypass n) (Some e) = omega arith
-commit_most (Rename n) None = omega arith
-commit_most (Rename n) (Some e) = omega arith
+commit_most l e = let n = one_counted l e in let most = few (has_lock l) in omega (arith, n, most)
+  where
+    few : (b : Bool) → (if b then 3 else 0) ≤ 3
+    few true = omega arith
+    few false = omega arith
 
 pub commits_most : (k : ℕ) (ms : List Act) (xs : List Memory) → length (commits_shown k ms xs) ≤ 3 * length xs
 commits_most k ms [] = omega arith

@@ -1,6 +1,7 @@
 -- What a pipe that this machine runs has of widths.
-use Rattle.std.proofs.Common.{◌≡◌, refl, ap, ℕ, zero, suc, ◌^◌, ◌<◌, Bool, true, false, ◌&&◌, not, List, [], ◌∷◌, length, slice_index, arith}
+use Rattle.std.proofs.Common.{◌≡◌, refl, ap, ℕ, zero, suc, ◌^◌, ◌<◌, true, ◌&&◌, not, List, [], ◌∷◌, length, slice_index, arith}
 use Rattle.pdl_semantics.specs.Flat.{Op, Bind, CombRead, DelayedRead, Write, ReserveRead, ReserveWrite, Block, Release, Call, SpecCall, Verify, SpecCheck, SpecBarrier, Stmt}
+use Rattle.pdl_derived.proofs.Writes.{and_left, and_right}
 use Rattle.pdl_facts.specs.Scans.{none_of, is_fetch}
 use Rattle.pdl_form.specs.Form.{Form}
 use Rattle.pdl_formtypes.specs.Stmts.{param_widths, IsTypedOp, AreTypedStmts, AreBelow}
@@ -8,14 +9,6 @@ use Rattle.pdl_values.specs.Widths.{Fit}
 use Rattle.pdl_facts.specs.Checks.{is_guess}
 use Rattle.pdl_run.specs.Typed.{IsServed, AreServed}
 use Rattle.pdl_run.specs.Running.{IsRunnable}
-
-left_true : (a b : Bool) → (a && b) ≡ true → a ≡ true
-left_true true b e = refl
-left_true false b e = e
-
-right_true : (a b : Bool) → (a && b) ≡ true → b ≡ true
-right_true true b e = e
-right_true false b e = absurd (cc)
 
 module _ (f : Form) where
   served_op : (op : Op) → not (is_fetch op) ≡ true → not (is_guess op) ≡ true → IsTypedOp f op → IsServed f op
@@ -36,7 +29,7 @@ module _ (f : Form) where
   served_all : (xs : List Stmt) → none_of is_fetch xs ≡ true → none_of is_guess xs ≡ true → AreTypedStmts f xs → AreServed f xs
   served_all [] now sure t = tt
   served_all (x ∷ xs) now sure t =
-      (served_op x.op (left_true _ _ now) (left_true _ _ sure) t.0.1, served_all xs (right_true _ _ now) (right_true _ _ sure) t.1)
+      (served_op x.op (and_left _ _ now) (and_left _ _ sure) t.0.1, served_all xs (and_right _ _ now) (and_right _ _ sure) t.1)
 
   -- each statement is one that the machine serves
   pub served : IsRunnable f → AreServed f f.pipe.stmts

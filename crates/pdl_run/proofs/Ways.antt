@@ -7,12 +7,7 @@ use Rattle.pdl_run.specs.declared.stage.Stage as r_stage
 use Rattle.pdl_run.specs.View.{deeds_view, Standing, standing_view, seats}
 use Rattle.pdl_run.specs.Acts.{is_free, IsDone, AreDone, first_of, comes_of, stays_of, stages_after}
 use Rattle.pdl_run.specs.Ready.{IsStage, AreStages, IsFine, AllFine}
-
-head_same : {X : Type 0} {x y : X} {xs ys : List X} → x ∷ xs ≡ y ∷ ys → x ≡ y
-head_same e = cc
-
-tail_same : {X : Type 0} {x y : X} {xs ys : List X} → x ∷ xs ≡ y ∷ ys → xs ≡ ys
-tail_same e = cc
+use Rattle.pdl_word.proofs.Lists.{head_same, tail_same}
 
 -- the stages of a pipe after one of them changed
 pub stages_set : (f : Form) (xs : List r_stage.Stage) (k : ℕ) (y : r_stage.Stage) → AreStages f xs → IsStage f y → AreStages f (set xs k y)

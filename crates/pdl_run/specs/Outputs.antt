@@ -1,11 +1,10 @@
 -- How many outputs a pipe without delayed memories has.
-use Rattle.std.specs.Prelude.{ℕ, ◌+◌, ◌*◌, List, [], ◌∷◌, length}
-use Rattle.pdl_semantics.specs.Flat.{Lock, Plain, Mem, Pipe}
+use Rattle.std.specs.Prelude.{ℕ, ◌+◌, ◌*◌, if◌then◌else◌, List, [], ◌∷◌, length}
+use Rattle.pdl_semantics.specs.Flat.{Lock, Mem, Pipe, has_lock}
 
 -- three for the commits of a memory with a lock
 abbrev pub commit_count : Lock → ℕ
-commit_count Plain = 0
-commit_count _ = 3
+commit_count l = if has_lock l then 3 else 0
 
 abbrev pub all_commit_count : List Mem → ℕ
 all_commit_count [] = 0

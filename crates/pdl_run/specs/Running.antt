@@ -1,10 +1,11 @@
 -- A machine that runs, between two cycles.
 use Rattle.std.specs.Prelude.{◌≡◌, ℕ, zero, suc, ◌+◌, ◌<◌, ◌≤◌, Bool, true, List, [], ◌∷◌, map, Option, Some, None, replicate, length, slice_index, slice_index_or, ◌^◌}
-use Rattle.pdl_semantics.specs.Flat.{Lock, Plain, Queue, Bypass, Rename, Arrays, arrays_of, Pipe}
+use Rattle.pdl_semantics.specs.Flat.{Lock, Arrays, arrays_of, Pipe}
 use Rattle.pdl_semantics.specs.Stages.{mem_at}
 use Rattle.pdl_semantics.specs.Machine.{NoRequest, State}
 use Rattle.pdl_semantics.specs.Cycle.{first, for_mems, for_stages, state_after}
 use Rattle.pdl_invariant.specs.Strict.{Strict}
+use Rattle.pdl_lockapi.specs.Sizes.{size_of}
 use Rattle.pdl_facts.specs.Scans.{none_of}
 use Rattle.pdl_facts.specs.Checks.{is_guess}
 use Rattle.pdl_machine_facts.specs.Linear.{IsSimple}
@@ -41,13 +42,6 @@ state_of p os xs next =
 -- a state that a run comes to
 abbrev pub IsReached : Pipe → State → Type 0
 IsReached p st = (image : Arrays) × (schedule : List (List Bool)) × (st ≡ state_after p (first p image) schedule)
-
--- how many writes may be pending
-abbrev pub size_of : Lock → ℕ
-size_of Plain = 0
-size_of (Queue n) = n
-size_of (Bypass n) = n
-size_of (Rename n) = n
 
 -- memories with room for what may be pending and one reservation more
 pub record AreRoomy (p : Pipe) (xs : List Memory) : Type 0 where

@@ -28,7 +28,9 @@ fn is_leaving(stages: &[Stage]) -> bool
 fn show_end(stages: &[Stage], shown: &mut Vec<u64>)
     requires some { 1 ≤ length stages.now }
     requires room { vec_len shown.old + 2 ≤ vec_capacity shown.old }
-    ensures shown { shown.new.items ≡ shown.old.items ++ bit (slice_index_or (movings stages.now) (length stages.now - 1) false) ∷ 0 ∷ [] }
+    ensures shown { shown.new.items
+        ≡ shown.old.items ++ bit (slice_index_or (movings stages.now)
+        (length stages.now - 1) false) ∷ 0 ∷ [] }
     ensures capacity { vec_capacity shown.new ≡ vec_capacity shown.old }
 {
     shown.push_reserved(u64::from(is_leaving(stages)));
@@ -46,10 +48,20 @@ pub fn cycle(
 ) -> bool
     requires run { IsRunnable (form pipe.now) }
     requires ready { AreReady (form pipe.now) stages.old way.old memories.old }
-    requires reached { IsReached (form pipe.now).pipe (state_of (form pipe.now).pipe (seats stages.old) memories.old next) }
+    requires reached { IsReached (form pipe.now).pipe
+        (state_of (form pipe.now).pipe (seats stages.old) memories.old next) }
     requires room { 2 * length stages.old + 3 * length memories.old + 2 ≤ vec_capacity shown.old }
-    ensures state { (bits : List Bool) → state_of (form pipe.now).pipe (seats stages.new) memories.new (if result then suc next else next) ≡ stated.cycle (form pipe.now).pipe (state_of (form pipe.now).pipe (seats stages.old) memories.old next) bits }
-    ensures ports { (bits : List Bool) → shown.new.items ≡ port_values (form pipe.now).pipe (stated.ports (form pipe.now).pipe (state_of (form pipe.now).pipe (seats stages.old) memories.old next) (all_acts (form pipe.now).pipe (state_of (form pipe.now).pipe (seats stages.old) memories.old next) bits)) }
+    ensures state { (bits : List Bool) →
+        state_of (form pipe.now).pipe (seats stages.new) memories.new
+        (if result then suc next else next)
+        ≡ stated.cycle (form pipe.now).pipe
+        (state_of (form pipe.now).pipe (seats stages.old) memories.old next) bits }
+    ensures ports { (bits : List Bool) →
+        shown.new.items ≡ port_values (form pipe.now).pipe
+        (stated.ports (form pipe.now).pipe
+        (state_of (form pipe.now).pipe (seats stages.old) memories.old next)
+        (all_acts (form pipe.now).pipe
+        (state_of (form pipe.now).pipe (seats stages.old) memories.old next) bits)) }
     ensures ready { AreReady (form pipe.now) stages.new way.new memories.new }
     ensures room { vec_capacity shown.new ≡ vec_capacity shown.old }
 {

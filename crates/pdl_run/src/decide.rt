@@ -19,7 +19,8 @@ fn decide_stage(pipe: &FlatPipe, memories: &[Memory], k: usize, free: bool, stag
     requires memories { AreMemories (form pipe.now).pipe memories.now }
     requires wide { IsStage (form pipe.now) stage.old }
     requires fine { IsFine (form pipe.now) (standing_view stage.old.slot) }
-    ensures done { IsDone (form pipe.now) memories.now k (standing_view stage.old.slot) (deeds_view stage.new.deeds) free stage.new.moves }
+    ensures done { IsDone (form pipe.now) memories.now k (standing_view stage.old.slot)
+        (deeds_view stage.new.deeds) free stage.new.moves }
     ensures slot { stage.new.slot ≡ stage.old.slot }
     ensures wide { IsStage (form pipe.now) stage.new }
 {

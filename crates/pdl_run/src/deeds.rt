@@ -39,10 +39,16 @@ impl Deeds {
     pub fn begin(&mut self, slot: &Slot)
         requires values { length self.old.values.items ≡ length slot.now.values.items }
         requires held { length slot.now.held.items ≤ vec_capacity self.old.held }
-        ensures deeds { deeds_view self.new ≡ begun (record { number = 0; env = slot.now.values.items; held = map place_view slot.now.held.items }) }
+        ensures deeds { deeds_view self.new
+            ≡ begun (record {
+              number = 0;
+              env = slot.now.values.items;
+              held = map place_view slot.now.held.items;
+            }) }
         ensures ready { self.new.ready ≡ true }
         ensures held_count { vec_len self.new.held ≡ length slot.now.held.items }
-        ensures none { (vec_len self.new.reserves ≡ 0) × (vec_len self.new.writes ≡ 0) × (vec_len self.new.releases ≡ 0) }
+        ensures none { (vec_len self.new.reserves ≡ 0) × (vec_len self.new.writes ≡ 0)
+            × (vec_len self.new.releases ≡ 0) }
         ensures capacities { capacities self.new ≡ capacities self.old }
     {
         self.values.copy_from_slice(slot.values.as_slice());

@@ -40,7 +40,8 @@ pub fn is_held(held: &[Place], mem: usize, var: usize) -> bool
 /// The location is held from now on.
 pub fn hold(held: &mut Vec<Place>, mem: usize, var: usize)
     requires { vec_len held.old < vec_capacity held.old }
-    ensures held { map place_view held.new.items ≡ record { mem = mem; var = var } ∷ map place_view held.old.items }
+    ensures held { map place_view held.new.items
+        ≡ record { mem = mem; var = var } ∷ map place_view held.old.items }
     ensures capacity { vec_capacity held.new ≡ vec_capacity held.old }
 {
     match held.insert(0, Place { mem, var }) {
@@ -51,7 +52,8 @@ pub fn hold(held: &mut Vec<Place>, mem: usize, var: usize)
 
 /// The location is let go.
 pub fn let_go(held: &mut Vec<Place>, mem: usize, var: usize)
-    ensures held { map place_view held.new.items ≡ machine.let_go (map place_view held.old.items) mem var }
+    ensures held { map place_view held.new.items
+        ≡ machine.let_go (map place_view held.old.items) mem var }
     ensures fewer { vec_len held.new ≤ vec_len held.old }
     ensures capacity { vec_capacity held.new ≡ vec_capacity held.old }
 {

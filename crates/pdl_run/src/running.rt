@@ -1,15 +1,11 @@
 // A pipe as it runs.
-ghost use Rattle.std.specs.Prelude.{◌≡◌, ◌<◌, ◌≤◌, ◌+◌, ◌*◌, ◌^◌, ℕ, Bool, suc, List, [], if◌then◌else◌, IfOk, length, replicate, slice_index_or, vec_capacity};
+ghost use Rattle.std.specs.Prelude.{◌≡◌, ◌<◌, ◌≤◌, ◌+◌, ◌*◌, ◌^◌, ℕ, Bool, suc, List, [], if◌then◌else◌, IfOk, replicate};
 ghost use Rattle.pdl_semantics.specs.Flat.{arrays_of};
-ghost use Rattle.pdl_semantics.specs.Stages.{mem_at};
 ghost use Rattle.pdl_semantics.specs.Moves.{all_acts};
 ghost use Rattle.pdl_semantics.specs.Cycle as stated;
 ghost use Rattle.pdl_machine_facts.specs.Ports.{port_values};
 ghost use Rattle.pdl_form.specs.Whole.{form};
-ghost use Rattle.pdl_run.specs.View.{seats};
-ghost use Rattle.pdl_run.specs.Doing.{memory_at};
-ghost use Rattle.pdl_run.specs.Ready.{IsWide, AreStages};
-ghost use Rattle.pdl_run.specs.Running.{IsRunnable, AreImages, IsFirst, seats_first};
+ghost use Rattle.pdl_run.specs.Running.{IsRunnable, AreImages};
 ghost use Rattle.pdl_run.specs.Outputs.{output_count};
 ghost use Rattle.pdl_run.specs.Runs.{state_in, IsRunning};
 
@@ -33,46 +29,17 @@ pub struct Run {
     shown: Vec<u64>,
 }
 
-// A run of these parts, as it begins.
-fn begun(
-    _pipe: &FlatPipe,
-    _image: &Image,
-    memories: Vec<Memory>,
-    stages: Vec<Stage>,
-    way: Slot,
-    shown: Vec<u64>,
-) -> Run
-    requires run { IsRunnable (form _pipe.now) }
-    requires image { AreImages (form _pipe.now).pipe _image.now }
-    requires count { length memories.items ≡ length (form _pipe.now).pipe.mems }
-    requires each { (m : ℕ) → m < length (form _pipe.now).pipe.mems → IsFirst (mem_at (form _pipe.now).pipe m).lock (slice_index_or _image.now m []) (memory_at memories.items m) }
-    requires seats { seats stages.items ≡ seats_first (form _pipe.now).pipe (length (form _pipe.now).pipe.stages) }
-    requires wide { AreStages (form _pipe.now) stages.items }
-    requires ahead { IsWide (form _pipe.now) way }
-    requires shown { shown.items ≡ replicate (output_count (form _pipe.now).pipe) 0 }
-    requires room { 2 * length (form _pipe.now).pipe.stages + 3 * length (form _pipe.now).pipe.mems + 2 ≤ vec_capacity shown }
-    ensures runs { IsRunning (form _pipe.now) result }
-    ensures first { state_in (form _pipe.now).pipe result ≡ stated.first (form _pipe.now).pipe (arrays_of _image.now) }
-    ensures shown { result.shown.items ≡ replicate (output_count (form _pipe.now).pipe) 0 }
-    ensures next { result.next ≡ 2 }
-{
-    Run {
-        memories,
-        stages,
-        way,
-        next: 2,
-        shown,
-    }
-}
-
 impl Run {
     /// The run of a pipe whose memories hold the image, with the first thread in stage 0.
     pub fn new(alloc: Global, pipe: &FlatPipe, image: &Image) -> Result<Run, NoMemory>
         requires run { IsRunnable (form pipe.now) }
         requires image { AreImages (form pipe.now).pipe image.now }
         ensures runs { IfOk result (λ r. IsRunning (form pipe.now) r) }
-        ensures first { IfOk result (λ r. state_in (form pipe.now).pipe r ≡ stated.first (form pipe.now).pipe (arrays_of image.now)) }
-        ensures shown { IfOk result (λ r. r.shown.items ≡ replicate (output_count (form pipe.now).pipe) 0) }
+        ensures first { IfOk result (λ r.
+            state_in (form pipe.now).pipe r
+            ≡ stated.first (form pipe.now).pipe (arrays_of image.now)) }
+        ensures shown { IfOk result (λ r.
+            r.shown.items ≡ replicate (output_count (form pipe.now).pipe) 0) }
         ensures next { IfOk result (λ r. r.next ≡ 2) }
     {
         let count = outputs(pipe);
@@ -81,7 +48,13 @@ impl Run {
         let stages = first_stages(alloc, pipe)?;
         let way = slot(alloc, pipe)?;
         let shown = zeros(alloc, count, room)?;
-        Ok(begun(pipe, image, memories, stages, way, shown))
+        Ok(Run {
+            memories,
+            stages,
+            way,
+            next: 2,
+            shown,
+        })
     }
 
     /// One clock cycle, for whatever replies, since no memory is delayed.
@@ -90,8 +63,13 @@ impl Run {
         requires runs { IsRunning (form pipe.now) self.old }
         requires next { self.old.next + 1 < 2 ^ 64 }
         ensures runs { IsRunning (form pipe.now) self.new }
-        ensures state { (bits : List Bool) → state_in (form pipe.now).pipe self.new ≡ stated.cycle (form pipe.now).pipe (state_in (form pipe.now).pipe self.old) bits }
-        ensures ports { (bits : List Bool) → self.new.shown.items ≡ port_values (form pipe.now).pipe (stated.ports (form pipe.now).pipe (state_in (form pipe.now).pipe self.old) (all_acts (form pipe.now).pipe (state_in (form pipe.now).pipe self.old) bits)) }
+        ensures state { (bits : List Bool) →
+            state_in (form pipe.now).pipe self.new
+            ≡ stated.cycle (form pipe.now).pipe (state_in (form pipe.now).pipe self.old) bits }
+        ensures ports { (bits : List Bool) →
+            self.new.shown.items ≡ port_values (form pipe.now).pipe
+            (stated.ports (form pipe.now).pipe (state_in (form pipe.now).pipe self.old)
+            (all_acts (form pipe.now).pipe (state_in (form pipe.now).pipe self.old) bits)) }
         ensures next { self.new.next ≤ self.old.next + 1 }
     {
         let called = cycle(

@@ -8,7 +8,8 @@ ghost use Rattle.pdl_run.specs.Room.{capacities, IsLarge};
 ghost use Rattle.pdl_run.specs.Acts.{called_by};
 ghost use Rattle.pdl_run.specs.Doing.{memory_at};
 ghost use Rattle.pdl_run.specs.Ready.{IsWide, IsStage, AreStages};
-ghost use Rattle.pdl_run.specs.Running.{IsRunnable, AreImages, IsFirst, size_of, seats_first};
+ghost use Rattle.pdl_lockapi.specs.Sizes.{size_of};
+ghost use Rattle.pdl_run.specs.Running.{IsRunnable, AreImages, IsFirst, seats_first};
 ghost use Rattle.pdl_run.specs.Outputs.{commit_count, all_commit_count, output_count};
 
 use crate::deeds::Deeds;
@@ -55,7 +56,9 @@ fn memory(alloc: Global, words: &[u64], lock: Lock) -> Result<Memory, NoMemory>
 pub fn memories(alloc: Global, pipe: &FlatPipe, image: &Image) -> Result<Vec<Memory>, NoMemory>
     requires { length image.now ≡ length (form pipe.now).pipe.mems }
     ensures count { IfOk result (λ v. length v.items ≡ length (form pipe.now).pipe.mems) }
-    ensures each { IfOk result (λ v. (m : ℕ) → m < length (form pipe.now).pipe.mems → IsFirst (mem_at (form pipe.now).pipe m).lock (slice_index_or image.now m []) (memory_at v.items m)) }
+    ensures each { IfOk result (λ v. (m : ℕ) → m < length (form pipe.now).pipe.mems →
+        IsFirst (mem_at (form pipe.now).pipe m).lock (slice_index_or image.now m [])
+        (memory_at v.items m)) }
 {
     let mut memories = Vec::new(alloc);
     let mems = pipe.mems();
@@ -82,7 +85,9 @@ pub fn slot(alloc: Global, pipe: &FlatPipe) -> Result<Slot, NoMemory>
 // Room for the deeds of a stage.
 fn deeds(alloc: Global, pipe: &FlatPipe) -> Result<Deeds, NoMemory>
     ensures count { IfOk result (λ r. length r.values.items ≡ length (form pipe.now).widths) }
-    ensures large { IfOk result (λ r. IsLarge (length (form pipe.now).pipe.stmts) (length (form pipe.now).pipe.start) (capacities r)) }
+    ensures large { IfOk result (λ r.
+        IsLarge (length (form pipe.now).pipe.stmts) (length (form pipe.now).pipe.start)
+        (capacities r)) }
 {
     let vars = pipe.vars();
     let count = pipe.stmts().len();
@@ -113,7 +118,8 @@ fn stage(alloc: Global, pipe: &FlatPipe) -> Result<Stage, NoMemory>
 // The first stage, in which thread 1 stands.
 fn first_stage(alloc: Global, pipe: &FlatPipe) -> Result<Stage, NoMemory>
     requires few { length (form pipe.now).pipe.start ≤ length (form pipe.now).widths }
-    ensures stands { IfOk result (λ x. standing_view x.slot ≡ called_by (form pipe.now).pipe 1 (Some (form pipe.now).pipe.start)) }
+    ensures stands { IfOk result (λ x.
+        standing_view x.slot ≡ called_by (form pipe.now).pipe 1 (Some (form pipe.now).pipe.start)) }
     ensures wide { IfOk result (λ x. IsStage (form pipe.now) x) }
 {
     let mut first = stage(alloc, pipe)?;
@@ -126,7 +132,8 @@ fn first_stage(alloc: Global, pipe: &FlatPipe) -> Result<Stage, NoMemory>
 pub fn first_stages(alloc: Global, pipe: &FlatPipe) -> Result<Vec<Stage>, NoMemory>
     requires some { 1 ≤ length (form pipe.now).pipe.stages }
     requires few { length (form pipe.now).pipe.start ≤ length (form pipe.now).widths }
-    ensures seats { IfOk result (λ v. seats v.items ≡ seats_first (form pipe.now).pipe (length (form pipe.now).pipe.stages)) }
+    ensures seats { IfOk result (λ v.
+        seats v.items ≡ seats_first (form pipe.now).pipe (length (form pipe.now).pipe.stages)) }
     ensures wide { IfOk result (λ v. AreStages (form pipe.now) v.items) }
 {
     let count = pipe.stages().len();

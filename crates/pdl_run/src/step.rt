@@ -19,8 +19,12 @@ pub fn mover(stage: &Stage) -> Option<u64>
 
 // The thread that moves out of a stage, if one does, makes its reservations of memory m.
 fn reserve_stage(memory: &mut Memory, m: usize, stage: &Stage)
-    requires { (k : ℕ) → length (stated.appended m (act_of k (mover_of stage.now) stage.now) memory.old.pending) ≤ memory.old.capacity }
-    ensures { (k : ℕ) → memory.new ≡ record memory.old { pending = stated.appended m (act_of k (mover_of stage.now) stage.now) memory.old.pending } }
+    requires { (k : ℕ) → length (stated.appended m
+        (act_of k (mover_of stage.now) stage.now) memory.old.pending) ≤ memory.old.capacity }
+    ensures { (k : ℕ) → memory.new ≡ record memory.old {
+      pending = stated.appended m
+          (act_of k (mover_of stage.now) stage.now) memory.old.pending;
+    } }
 {
     if let Some(thread) = mover(stage) {
         memory.reserve(m, thread, stage.deeds.reserves.as_slice());
@@ -29,8 +33,10 @@ fn reserve_stage(memory: &mut Memory, m: usize, stage: &Stage)
 
 // Those of all stages do, the last one first.
 fn reserve_all(memory: &mut Memory, m: usize, stages: &[Stage])
-    requires room { length (stated.appended m (acts_of 0 stages.now) memory.old.pending) ≤ memory.old.capacity }
-    ensures { memory.new ≡ record memory.old { pending = stated.appended m (acts_of 0 stages.now) memory.old.pending } }
+    requires room { length (stated.appended m (acts_of 0 stages.now) memory.old.pending)
+        ≤ memory.old.capacity }
+    ensures { memory.new ≡ record memory.old
+        { pending = stated.appended m (acts_of 0 stages.now) memory.old.pending } }
 {
     let mut k = stages.len();
     while k > 0 {
@@ -41,7 +47,8 @@ fn reserve_all(memory: &mut Memory, m: usize, stages: &[Stage])
 
 // The thread that moves out of a stage, if one does, makes its writes to memory m.
 fn write_stage(memory: &mut Memory, m: usize, stage: &Stage)
-    ensures { (k : ℕ) → memory.new ≡ record memory.old { pending = stated.filled m (act_of k (mover_of stage.now) stage.now) memory.old.pending } }
+    ensures { (k : ℕ) → memory.new ≡ record memory.old
+        { pending = stated.filled m (act_of k (mover_of stage.now) stage.now) memory.old.pending } }
 {
     if let Some(thread) = mover(stage) {
         memory.write(m, thread, stage.deeds.writes.as_slice());
@@ -50,7 +57,8 @@ fn write_stage(memory: &mut Memory, m: usize, stage: &Stage)
 
 // Those of all stages do, the last one first.
 fn write_all(memory: &mut Memory, m: usize, stages: &[Stage])
-    ensures { memory.new ≡ record memory.old { pending = stated.filled m (acts_of 0 stages.now) memory.old.pending } }
+    ensures { memory.new ≡ record memory.old
+        { pending = stated.filled m (acts_of 0 stages.now) memory.old.pending } }
 {
     let mut k = stages.len();
     while k > 0 {
@@ -122,7 +130,8 @@ fn show_three(a: u64, b: u64, c: u64, shown: &mut Vec<u64>)
 // Shows the commit of a memory with a lock: whether there is one, its address and its value.
 fn show_commit(memory: &Memory, entry: Option<Pending>, shown: &mut Vec<u64>)
     requires room { vec_len shown.old + 3 ≤ vec_capacity shown.old }
-    ensures shown { shown.new.items ≡ shown.old.items ++ commit_values memory.now.lock (stated.port_write (entry_view entry)) }
+    ensures shown { shown.new.items
+        ≡ shown.old.items ++ commit_values memory.now.lock (stated.port_write (entry_view entry)) }
     ensures capacity { vec_capacity shown.new ≡ vec_capacity shown.old }
 {
     if memory.is_locked() {
@@ -138,7 +147,8 @@ pub fn step_memories(memories: &mut [Memory], stages: &[Stage], shown: &mut Vec<
     requires step { AllCanStep 0 (acts_of 0 stages.now) memories.old }
     requires room { vec_len shown.old + 3 * length memories.old ≤ vec_capacity shown.old }
     ensures memories { memories.new ≡ memories_after 0 (acts_of 0 stages.now) memories.old }
-    ensures shown { shown.new.items ≡ shown.old.items ++ commits_shown 0 (acts_of 0 stages.now) memories.old }
+    ensures shown { shown.new.items
+        ≡ shown.old.items ++ commits_shown 0 (acts_of 0 stages.now) memories.old }
     ensures capacity { vec_capacity shown.new ≡ vec_capacity shown.old }
 {
     for m in 0..memories.len() {

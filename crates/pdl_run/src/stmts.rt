@@ -32,7 +32,8 @@ fn bind(x: usize, e: &Expr, values: &mut [u64])
 fn read(memories: &[Memory], thread: u64, x: usize, m: usize, a: usize, values: &mut [u64])
     requires there { x < length values.old }
     requires memory { m < length memories.now }
-    ensures { values.new ≡ slice_set values.old x (word_of memories.now thread m (slice_index values.old a)) }
+    ensures { values.new ≡ slice_set values.old x
+        (word_of memories.now thread m (slice_index values.old a)) }
 {
     let address = variable(values, a);
     let word = memories[m].read(thread, address);
@@ -43,7 +44,14 @@ fn read(memories: &[Memory], thread: u64, x: usize, m: usize, a: usize, values: 
 fn reserve(memories: &[Memory], m: usize, a: usize, deeds: &mut Deeds)
     requires memory { m < length memories.now }
     requires room { HasRoomFor 1 deeds.old }
-    ensures deeds { deeds_view deeds.new ≡ record (deeds_view deeds.old) { held = record { mem = m; var = a } ∷ (deeds_view deeds.old).held; reserves = (deeds_view deeds.old).reserves ++ record { mem = m; address = slice_index (deeds_view deeds.old).env a } ∷ [] } }
+    ensures deeds { deeds_view deeds.new
+        ≡ record (deeds_view deeds.old) {
+          held = record { mem = m; var = a } ∷ (deeds_view deeds.old).held;
+          reserves = (deeds_view deeds.old).reserves ++ record {
+            mem = m;
+            address = slice_index (deeds_view deeds.old).env a;
+          } ∷ [];
+        } }
     ensures ready { deeds.new.ready ≡ (deeds.old.ready && is_roomy memories.now m) }
     ensures capacities { capacities deeds.new ≡ capacities deeds.old }
     ensures room { (n : ℕ) → HasRoomFor (suc n) deeds.old → HasRoomFor n deeds.new }
@@ -58,7 +66,8 @@ fn reserve(memories: &[Memory], m: usize, a: usize, deeds: &mut Deeds)
 // A block of a location.
 fn block(memories: &[Memory], thread: u64, m: usize, a: usize, deeds: &Deeds) -> bool
     requires { m < length memories.now }
-    ensures { result ≡ block_in memories.now thread m (slice_index (deeds_view deeds.now).env a) (spec_is_held (deeds_view deeds.now).held m a) }
+    ensures { result ≡ block_in memories.now thread m (slice_index (deeds_view deeds.now).env a)
+        (spec_is_held (deeds_view deeds.now).held m a) }
 {
     let writes = is_held(deeds.held.as_slice(), m, a);
     let address = variable(deeds.values.as_slice(), a);
@@ -68,7 +77,12 @@ fn block(memories: &[Memory], thread: u64, m: usize, a: usize, deeds: &Deeds) ->
 // A location is released.
 fn release(m: usize, a: usize, deeds: &mut Deeds)
     requires room { HasRoomFor 1 deeds.old }
-    ensures deeds { deeds_view deeds.new ≡ record (deeds_view deeds.old) { held = spec_let_go (deeds_view deeds.old).held m a; releases = (deeds_view deeds.old).releases ++ (if spec_is_held (deeds_view deeds.old).held m a then m ∷ [] else []) } }
+    ensures deeds { deeds_view deeds.new
+        ≡ record (deeds_view deeds.old) {
+          held = spec_let_go (deeds_view deeds.old).held m a;
+          releases = (deeds_view deeds.old).releases ++
+              (if spec_is_held (deeds_view deeds.old).held m a then m ∷ [] else []);
+        } }
     ensures ready { deeds.new.ready ≡ deeds.old.ready }
     ensures capacities { capacities deeds.new ≡ capacities deeds.old }
     ensures room { (n : ℕ) → HasRoomFor (suc n) deeds.old → HasRoomFor n deeds.new }
@@ -83,7 +97,9 @@ fn release(m: usize, a: usize, deeds: &mut Deeds)
 fn call(args: &[Expr], deeds: &mut Deeds)
     requires safe { AreSafe (exprs_view args.now) (deeds_view deeds.old).env }
     requires room { length args.now ≤ vec_capacity deeds.old.args }
-    ensures deeds { deeds_view deeds.new ≡ record (deeds_view deeds.old) { child = Some (spec_values_of (exprs_view args.now) (deeds_view deeds.old).env) } }
+    ensures deeds { deeds_view deeds.new
+        ≡ record (deeds_view deeds.old)
+        { child = Some (spec_values_of (exprs_view args.now) (deeds_view deeds.old).env) } }
     ensures ready { deeds.new.ready ≡ deeds.old.ready }
     ensures capacities { capacities deeds.new ≡ capacities deeds.old }
     ensures room { (n : ℕ) → HasRoomFor (suc n) deeds.old → HasRoomFor n deeds.new }
@@ -96,7 +112,13 @@ fn call(args: &[Expr], deeds: &mut Deeds)
 fn write(m: usize, e: &Expr, deeds: &mut Deeds)
     requires safe { IsSafe (expr_view e.now) (deeds_view deeds.old).env }
     requires room { HasRoomFor 1 deeds.old }
-    ensures deeds { deeds_view deeds.new ≡ record (deeds_view deeds.old) { writes = (deeds_view deeds.old).writes ++ record { mem = m; value = spec_value_of (expr_view e.now) (deeds_view deeds.old).env } ∷ [] } }
+    ensures deeds { deeds_view deeds.new
+        ≡ record (deeds_view deeds.old) {
+          writes = (deeds_view deeds.old).writes ++ record {
+            mem = m;
+            value = spec_value_of (expr_view e.now) (deeds_view deeds.old).env;
+          } ∷ [];
+        } }
     ensures ready { deeds.new.ready ≡ deeds.old.ready }
     ensures capacities { capacities deeds.new ≡ capacities deeds.old }
     ensures room { (n : ℕ) → HasRoomFor (suc n) deeds.old → HasRoomFor n deeds.new }
@@ -107,10 +129,14 @@ fn write(m: usize, e: &Expr, deeds: &mut Deeds)
 
 // What an operation does for a thread.
 fn act(memories: &[Memory], thread: u64, op: &Op, deeds: &mut Deeds)
-    requires safe { IsSafeOp (length memories.now) (vec_capacity deeds.old.args) (act_view op.now) (deeds_view deeds.old).env }
+    requires safe { IsSafeOp (length memories.now) (vec_capacity deeds.old.args) (act_view op.now)
+        (deeds_view deeds.old).env }
     requires room { HasRoomFor 1 deeds.old }
-    ensures deeds { deeds_view deeds.new ≡ strip (does (word_of memories.now thread) (act_view op.now) (deeds_view deeds.old)) }
-    ensures ready { deeds.new.ready ≡ (deeds.old.ready && lets_move memories.now thread (act_view op.now) (deeds_view deeds.old)) }
+    ensures deeds { deeds_view deeds.new
+        ≡ strip (does (word_of memories.now thread) (act_view op.now) (deeds_view deeds.old)) }
+    ensures ready { deeds.new.ready
+        ≡ (deeds.old.ready && lets_move memories.now thread (act_view op.now)
+        (deeds_view deeds.old)) }
     ensures capacities { capacities deeds.new ≡ capacities deeds.old }
     ensures room { (n : ℕ) → HasRoomFor (suc n) deeds.old → HasRoomFor n deeds.new }
 {
@@ -134,10 +160,16 @@ fn act(memories: &[Memory], thread: u64, op: &Op, deeds: &mut Deeds)
 
 // What a statement does for a thread: nothing off its path.
 fn run_stmt(memories: &[Memory], thread: u64, stmt: &Stmt, deeds: &mut Deeds)
-    requires safe { taken (stmt_view stmt.now).guards (deeds_view deeds.old).env ≡ true → IsSafeOp (length memories.now) (vec_capacity deeds.old.args) (stmt_view stmt.now).op (deeds_view deeds.old).env }
+    requires safe { taken (stmt_view stmt.now).guards (deeds_view deeds.old).env ≡ true →
+        IsSafeOp (length memories.now) (vec_capacity deeds.old.args) (stmt_view stmt.now).op
+        (deeds_view deeds.old).env }
     requires room { HasRoomFor 1 deeds.old }
-    ensures deeds { deeds_view deeds.new ≡ strip (does_all (word_of memories.now thread) (stmt_view stmt.now ∷ []) (deeds_view deeds.old)) }
-    ensures ready { deeds.new.ready ≡ (deeds.old.ready && all_let_move memories.now thread (stmt_view stmt.now ∷ []) (deeds_view deeds.old)) }
+    ensures deeds { deeds_view deeds.new
+        ≡ strip (does_all (word_of memories.now thread) (stmt_view stmt.now ∷ [])
+        (deeds_view deeds.old)) }
+    ensures ready { deeds.new.ready
+        ≡ (deeds.old.ready && all_let_move memories.now thread (stmt_view stmt.now ∷ [])
+        (deeds_view deeds.old)) }
     ensures capacities { capacities deeds.new ≡ capacities deeds.old }
     ensures room { (n : ℕ) → HasRoomFor (suc n) deeds.old → HasRoomFor n deeds.new }
 {
@@ -154,8 +186,12 @@ pub fn run_stage(pipe: &FlatPipe, memories: &[Memory], thread: u64, stage: usize
     requires fit { AreFit (form pipe.now) (deeds_view deeds.old) }
     requires args { length (form pipe.now).pipe.start ≤ vec_capacity deeds.old.args }
     requires room { HasRoomFor (length (in_stage stage (form pipe.now).pipe.stmts)) deeds.old }
-    ensures deeds { deeds_view deeds.new ≡ strip (does_all (word_of memories.now thread) (in_stage stage (form pipe.now).pipe.stmts) (deeds_view deeds.old)) }
-    ensures ready { deeds.new.ready ≡ (deeds.old.ready && all_let_move memories.now thread (in_stage stage (form pipe.now).pipe.stmts) (deeds_view deeds.old)) }
+    ensures deeds { deeds_view deeds.new
+        ≡ strip (does_all (word_of memories.now thread) (in_stage stage (form pipe.now).pipe.stmts)
+        (deeds_view deeds.old)) }
+    ensures ready { deeds.new.ready
+        ≡ (deeds.old.ready && all_let_move memories.now thread
+        (in_stage stage (form pipe.now).pipe.stmts) (deeds_view deeds.old)) }
     ensures fit { AreFit (form pipe.now) (deeds_view deeds.new) }
     ensures capacities { capacities deeds.new ≡ capacities deeds.old }
 {

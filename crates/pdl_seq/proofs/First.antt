@@ -1,5 +1,5 @@
 -- What a run begins with fits.
-use Rattle.std.proofs.Common.{◌≡◌, refl, sym, ◌∙◌, subst, ℕ, zero, suc, ◌^◌, ◌<◌, List, [], ◌∷◌, length, replicate, slice_index, arith}
+use Rattle.std.proofs.Common.{◌≡◌, sym, ◌∙◌, subst, ℕ, zero, suc, ◌^◌, ◌<◌, List, [], ◌∷◌, length, replicate, slice_index, arith}
 use Rattle.std.proofs.lemmas.List.{length-replicate}
 use Rattle.std.proofs.lemmas.List.Elements.{All-nil}
 use Rattle.std.proofs.lemmas.Nat.{pow_pos}
@@ -14,6 +14,7 @@ use Rattle.pdl_seq.specs.Turns.{commits_view}
 use Rattle.pdl_seq.specs.Fits.{IsImageFor, AreArgs, AreCommits, IsShaped, IsFit}
 use Rattle.pdl_seq.specs.Runs.{IsRunnable}
 use Rattle.pdl_seq.proofs.Fitting.{take_less}
+use Rattle.pdl_word.proofs.Lists.{zeros_at}
 
 below_at : (ws vs : List ℕ) → AreBelow ws vs → (x : ℕ) → slice_index vs x < 2 ^ slice_index ws x
 below_at [] [] h x = omega arith
@@ -21,11 +22,6 @@ below_at [] (v ∷ vs) h x = absurd h
 below_at (w ∷ ws) [] h x = absurd h
 below_at (w ∷ ws) (v ∷ vs) h zero = h.0
 below_at (w ∷ ws) (v ∷ vs) h (suc x) = below_at ws vs h.1 x
-
-zeros_at : (n x : ℕ) → slice_index (replicate n 0) x ≡ 0
-zeros_at zero x = refl
-zeros_at (suc n) zero = refl
-zeros_at (suc n) (suc x) = zeros_at n x
 
 module _ (f : Form) (run : IsRunnable f) where
   start_args : AreArgs f f.pipe.start

@@ -10,9 +10,10 @@ use Rattle.pdl_semantics.specs.Sequential.{Run, runs}
 use Rattle.pdl_form.specs.Form.{Form}
 use Rattle.pdl_formtypes.specs.Stmts.{param_widths, AreArguments, AreWidths, IsTypedOp}
 use Rattle.pdl_values.specs.Widths.{Fit}
-use Rattle.pdl_values.proofs.Fitting.{fits_in}
+use Rattle.pdl_values.proofs.Fitting.{fits_in, values_count}
 use Rattle.pdl_seq.specs.Turns.{list_at, shape}
 use Rattle.pdl_seq.specs.Fits.{IsWord, AreArgs, IsShaped, AreFitting}
+use Rattle.pdl_formtypes.proofs.Arguments.{args_count}
 
 -- VALUES
 
@@ -29,16 +30,6 @@ module _ (ws env : List ℕ) (x v : ℕ) (f : Fit ws env) (h : v < 2 ^ slice_ind
   fit_set = record { count = length-set env x v ∙ f.count; below = λ y. set_below y (y == x) refl }
 
 -- ARGUMENTS
-
-args_count : (ws ns : List ℕ) (es : List Expr) → AreArguments ws ns es → length es ≡ length ns
-args_count ws [] [] t = refl
-args_count ws (n ∷ ns) [] t = absurd t
-args_count ws [] (e ∷ es) t = absurd t
-args_count ws (n ∷ ns) (e ∷ es) t = ap suc (args_count ws ns es t.2)
-
-values_count : (env : List ℕ) (es : List Expr) → length (values_of es env) ≡ length es
-values_count env [] = refl
-values_count env (e ∷ es) = ap suc (values_count env es)
 
 take_most : (n : ℕ) (xs : List ℕ) → length (take n xs) ≤ n
 take_most zero xs = omega arith

@@ -1,5 +1,5 @@
 -- A pipe that keeps the rules has at most 16 memories.
-use Rattle.std.proofs.Common.{◌≡◌, ◌≢◌, refl, sym, ap, ◌∙◌, ℕ, suc, ◌+◌, ◌≤◌, List, [], ◌∷◌, ◌++◌, map, length, append_assoc, arith}
+use Rattle.std.proofs.Common.{◌≡◌, ◌≢◌, refl, sym, ap, ◌∙◌, ℕ, ◌+◌, ◌≤◌, List, [], ◌∷◌, ◌++◌, map, length, append_assoc, arith}
 use Rattle.std.specs.Prelude.{count_by}
 use Rattle.std.proofs.lemmas.Bool.{eqb-false}
 use Rattle.pdl_kit.specs.declared.rule.Rule.TheVariants.{Z4}
@@ -9,16 +9,13 @@ use Rattle.pdl_rules.specs.Places.{Place, Parameter, Memory, statements, places}
 use Rattle.pdl_rules.specs.Limits.{is_memory}
 use Rattle.pdl_rules.specs.Refusal.{KeepsRules}
 use Rattle.pdl_rules.proofs.Counts.{count_push, count_cons}
-use Rattle.pdl_rules.proofs.Straight.{closing}
+use Rattle.pdl_rules.proofs.EachPlace.{closing}
 use Rattle.pdl_formtypes.proofs.Behind.{by_params}
+use Rattle.pdl_pathfacts.proofs.Memories.{mems_length}
 
 no_params : (ps : List Param) → count_by is_memory (map Parameter ps) ≡ 0
 no_params [] = refl
 no_params (a ∷ ps) = let one = count_cons is_memory (Parameter a) (map Parameter ps) in let rest = no_params ps in omega arith
-
-as_many : (ms : List Mem) → length (mems_of ms) ≡ length ms
-as_many [] = refl
-as_many (m ∷ ms) = ap suc (as_many ms)
 
 module _ (p : Pipe) (rules : KeepsRules p) where
   few_from : (ms : List Mem) (before later : List Place) (k : ℕ) → places p ≡ before ++ (map Memory ms ++ later) → count_by is_memory before ≡ k → k ≤ 16 → k + length ms ≤ 16
@@ -31,6 +28,6 @@ module _ (p : Pipe) (rules : KeepsRules p) where
 
   pub few_mems : length (mems_of p.mems) ≤ 16
   few_mems =
-      let same = as_many p.mems in
+      let same = mems_length p.mems in
       let few : 0 + length p.mems ≤ 16 = few_from p.mems (map Parameter p.params) (statements [] p.body ++ closing p) 0 (by_params p rules) (no_params p.params) (omega arith) in
       omega arith

@@ -4,7 +4,7 @@ use Rattle.pdl_semantics.specs.Flat.{Op, Bind, CombRead, DelayedRead, Write, Res
 use Rattle.pdl_semantics.specs.Sequential.{Run, runs, run_all}
 use Rattle.pdl_derived.proofs.Writes.{and_left, and_right, of_mem_append}
 use Rattle.pdl_facts.specs.Scans.{Phase, Fresh, Held, Written, Done, after_release, next_phase, holds, is_fresh, phase_ok, phases_ok}
-use Rattle.pdl_turns.proofs.Related.{taken_none}
+use Rattle.pdl_turns.proofs.Alike.{taken_none}
 
 -- how many writes of the memory may follow
 abbrev pub left : Phase → ℕ

@@ -15,7 +15,8 @@ ghost use Rattle.pdl_seq.specs.Runs.{IsRunnable, numbered, write_line};
 
 /// Every pipe that keeps the rules can be run, where no two `if`s on expressions begin at one byte and no variable has the empty name: so it is in every tree that is read from a source.
 pub fn runnable()
-    ensures { (p : Pipe) → KeepsRules p → IsTrue (is_source p) → IsTrue (is_named p) → IsRunnable (form_of p) }
+    ensures { (p : Pipe) → KeepsRules p → IsTrue (is_source p) → IsTrue (is_named p) →
+        IsRunnable (form_of p) }
 {
     pdl_formtypes::typed_form();
     pdl_pathfacts::sound();
@@ -23,10 +24,14 @@ pub fn runnable()
 
 /// An image for the memories of a tree is one for its flat form.
 pub fn images()
-    ensures { (p : Pipe) (image : List (List ℕ)) → IsImage (infos_of p.mems) image → IsImageFor (flat p) image }
+    ensures { (p : Pipe) (image : List (List ℕ)) → IsImage (infos_of p.mems) image →
+        IsImageFor (flat p) image }
 {}
 
 /// The lines of the writes of k threads, and the line that ends them, are the text of the sequential run.
 pub fn lines()
-    ensures { (p : Pipe) (image : List (List ℕ)) (k : ℕ) → flat_map (write_line (text.columns p.mems)) (numbered 1 (threads (flat p) (arrays_of image) k)) ++ codes "end threads " ++ decimal k ++ codes "\n" ≡ text.seq_lines p image k }
+    ensures { (p : Pipe) (image : List (List ℕ)) (k : ℕ) →
+        flat_map (write_line (text.columns p.mems))
+        (numbered 1 (threads (flat p) (arrays_of image) k)) ++ codes "end threads " ++ decimal
+        k ++ codes "\n" ≡ text.seq_lines p image k }
 {}

@@ -26,7 +26,8 @@ fn bind(x: usize, e: &Expr, values: &mut [u64])
 fn read(memories: &[Words], x: usize, m: usize, a: usize, values: &mut [u64])
     requires there { x < length values.old }
     requires memory { m < length memories.now }
-    ensures { values.new ≡ slice_set values.old x (word_at (arrays_of memories.now) m (slice_index values.old a)) }
+    ensures { values.new ≡ slice_set values.old x
+        (word_at (arrays_of memories.now) m (slice_index values.old a)) }
 {
     let address = variable(values, a);
     let word = memories[m].read(address);
@@ -47,10 +48,21 @@ fn put(memories: &mut [Words], m: usize, address: u64, value: u64)
 fn write(m: usize, a: usize, e: &Expr, turn: &mut Turn)
     requires safe { IsSafe (expr_view e.now) turn.old.values.items }
     requires memory { m < length turn.old.memories.items }
-    requires word { slice_index turn.old.values.items a < length (list_at turn.old.memories.items m) }
+    requires word { slice_index turn.old.values.items a
+        < length (list_at turn.old.memories.items m) }
     requires fits { slice_index turn.old.values.items a < 2 ^ 32 }
     requires room { vec_len turn.old.commits + 1 ≤ vec_capacity turn.old.commits }
-    ensures run { run_view turn.new ≡ record (run_view turn.old) { arrays = with_word (arrays_of turn.old.memories.items) m (slice_index turn.old.values.items a) (spec_value_of (expr_view e.now) turn.old.values.items); writes = (run_view turn.old).writes ++ record { mem = m; address = slice_index turn.old.values.items a; value = spec_value_of (expr_view e.now) turn.old.values.items } ∷ [] } }
+    ensures run { run_view turn.new
+        ≡ record (run_view turn.old) {
+          arrays = with_word (arrays_of turn.old.memories.items) m
+              (slice_index turn.old.values.items a)
+              (spec_value_of (expr_view e.now) turn.old.values.items);
+          writes = (run_view turn.old).writes ++ record {
+            mem = m;
+            address = slice_index turn.old.values.items a;
+            value = spec_value_of (expr_view e.now) turn.old.values.items;
+          } ∷ [];
+        } }
     ensures shape { shape turn.new.memories.items ≡ shape turn.old.memories.items }
     ensures rooms { rooms turn.new ≡ rooms turn.old }
 {
@@ -66,8 +78,10 @@ fn write(m: usize, a: usize, e: &Expr, turn: &mut Turn)
 
 /// What an operation does: a read, also a delayed one, looks in the array, and a write changes it at once; a call or a verify gives the next thread's arguments; all else does nothing.
 pub fn act(op: &Op, turn: &mut Turn)
-    requires safe { IsSafeOp turn.old.memories.items (rooms turn.old).next (act_view op.now) turn.old.values.items }
-    requires room { length (runs (act_view op.now) (run_view turn.old)).writes ≤ (rooms turn.old).commits }
+    requires safe { IsSafeOp turn.old.memories.items (rooms turn.old).next
+        (act_view op.now) turn.old.values.items }
+    requires room { length (runs (act_view op.now) (run_view turn.old)).writes
+        ≤ (rooms turn.old).commits }
     ensures run { run_view turn.new ≡ runs (act_view op.now) (run_view turn.old) }
     ensures shape { shape turn.new.memories.items ≡ shape turn.old.memories.items }
     ensures rooms { rooms turn.new ≡ rooms turn.old }

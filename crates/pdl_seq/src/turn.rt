@@ -25,8 +25,11 @@ pub struct Turn {
 
 // A statement is carried out where its guards hold.
 fn run_stmt(stmt: &Stmt, turn: &mut Turn)
-    requires safe { taken (stmt_view stmt.now).guards turn.old.values.items ≡ true → IsSafeOp turn.old.memories.items (rooms turn.old).next (stmt_view stmt.now).op turn.old.values.items }
-    requires room { length (run_all (stmt_view stmt.now ∷ []) (run_view turn.old)).writes ≤ (rooms turn.old).commits }
+    requires safe { taken (stmt_view stmt.now).guards turn.old.values.items ≡ true →
+        IsSafeOp turn.old.memories.items (rooms turn.old).next
+        (stmt_view stmt.now).op turn.old.values.items }
+    requires room { length (run_all (stmt_view stmt.now ∷ []) (run_view turn.old)).writes
+        ≤ (rooms turn.old).commits }
     ensures run { run_view turn.new ≡ run_all (stmt_view stmt.now ∷ []) (run_view turn.old) }
     ensures shape { shape turn.new.memories.items ≡ shape turn.old.memories.items }
     ensures rooms { rooms turn.new ≡ rooms turn.old }
@@ -41,7 +44,8 @@ pub fn run_turn(pipe: &FlatPipe, turn: &mut Turn)
     requires run { IsRunnable (form pipe.now) }
     requires fit { IsFit (form pipe.now) turn.old }
     requires next { length (form pipe.now).pipe.start ≤ (rooms turn.old).next }
-    requires room { length (run_all (form pipe.now).pipe.stmts (run_view turn.old)).writes ≤ (rooms turn.old).commits }
+    requires room { length (run_all (form pipe.now).pipe.stmts (run_view turn.old)).writes
+        ≤ (rooms turn.old).commits }
     ensures run { run_view turn.new ≡ run_all (form pipe.now).pipe.stmts (run_view turn.old) }
     ensures fit { IsFit (form pipe.now) turn.new }
     ensures rooms { rooms turn.new ≡ rooms turn.old }

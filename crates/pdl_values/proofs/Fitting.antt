@@ -1,13 +1,14 @@
 -- Expressions that are typed have values of their width, and their operators find operands of theirs.
-use Rattle.std.proofs.Common.{◌≡◌, sym, subst, ℕ, suc, zero, ◌^◌, ◌<◌, List, [], ◌∷◌, length, slice_index, arith}
+use Rattle.std.proofs.Common.{◌≡◌, sym, subst, ℕ, suc, zero, ◌^◌, ◌<◌, List, [], ◌∷◌, length, slice_index, arith, ap, refl}
 use Rattle.pdl_word.proofs.Bounds as bounds
 use Rattle.pdl_semantics.specs.Tree.{BinaryOp, Add, Sub, Mul, And, Or, Xor, Equal, Differ, Less, ShiftLeft, ShiftRight}
-use Rattle.pdl_semantics.specs.Flat.{Expr, Constant, Variable, Slice, Not, Binary, Cat, LessSigned, ZeroExtend, SignExtend, Choose, applied, value_of}
+use Rattle.pdl_semantics.specs.Flat.{Expr, Constant, Variable, Slice, Not, Binary, Cat, LessSigned, ZeroExtend, SignExtend, Choose, applied, value_of, values_of}
 use Rattle.pdl_semantics.specs.Flatten.{op_width}
 use Rattle.pdl_formtypes.specs.Exprs.{width_in, IsTyped}
 use Rattle.pdl_formtypes.specs.Stmts.{AreWidths, AreArguments}
 use Rattle.pdl_values.specs.Safe.{IsWidth, IsSafe, AreSafe}
 use Rattle.pdl_values.specs.Widths.{Fit}
+use Rattle.pdl_word.proofs.Numbers.{as_wide}
 
 applied_fits : (op : BinaryOp) (w a b : ℕ) → a < 2 ^ w → b < 2 ^ w → applied op w a b < 2 ^ op_width op w
 applied_fits Add w a b f g = bounds.add_below w a b
@@ -21,10 +22,6 @@ applied_fits Differ w a b f g = bounds.differ_below a b
 applied_fits Less w a b f g = bounds.less_below a b
 applied_fits ShiftLeft w a b f g = bounds.shl_below w a b
 applied_fits ShiftRight w a b f g = bounds.shr_below w a b f
-
--- along equal widths
-wide : (v m n : ℕ) → m ≡ n → v < 2 ^ m → v < 2 ^ n
-wide v m n e h = subst (λ w. v < 2 ^ w) e h
 
 one : IsWidth 1
 one = (omega arith, omega arith)
@@ -66,11 +63,11 @@ module _ (ws env : List ℕ) (some : AreWidths ws) (f : Fit ws env) where
       let most = t.3 in
       (omega arith, most)
   has_width (LessSigned w a b) t = one
-  has_width (ZeroExtend wide a) t =
+  has_width (ZeroExtend as_wide a) t =
       let least = (has_width a t.0).0 in
       let more = t.1 in
       (omega arith, t.2)
-  has_width (SignExtend w wide a) t =
+  has_width (SignExtend w as_wide a) t =
       let least = (subst IsWidth t.1 (has_width a t.0)).0 in
       let more = t.2 in
       (omega arith, t.3)
@@ -83,16 +80,16 @@ module _ (ws env : List ℕ) (some : AreWidths ws) (f : Fit ws env) where
   fits (Slice x high low) t = bounds.slice_below high low (slice_index env x)
   fits (Not w a) t = bounds.complement_below w (value_of a env)
   fits (Binary op w a b) t =
-      applied_fits op w (value_of a env) (value_of b env) (wide _ _ _ t.2 (fits a t.0)) (wide _ _ _ t.3 (fits b t.1))
-  fits (Cat a w b) t = bounds.cat_below (width_in ws a) w (value_of a env) (value_of b env) (fits a t.0) (wide _ _ _ t.2 (fits b t.1))
+      applied_fits op w (value_of a env) (value_of b env) (as_wide _ _ _ t.2 (fits a t.0)) (as_wide _ _ _ t.3 (fits b t.1))
+  fits (Cat a w b) t = bounds.cat_below (width_in ws a) w (value_of a env) (value_of b env) (fits a t.0) (as_wide _ _ _ t.2 (fits b t.1))
   fits (LessSigned w a b) t = bounds.lts_below w (value_of a env) (value_of b env)
   fits (ZeroExtend m a) t = bounds.zext_below (width_in ws a) m (value_of a env) t.1 (fits a t.0)
   fits (SignExtend w m a) t = bounds.sext_below w m (value_of a env)
   fits (Choose c a b) t =
-      bounds.mux_below (width_in ws a) (value_of c env) (value_of a env) (value_of b env) (fits a t.1) (wide _ _ _ (sym t.4) (fits b t.2))
+      bounds.mux_below (width_in ws a) (value_of c env) (value_of a env) (value_of b env) (fits a t.1) (as_wide _ _ _ (sym t.4) (fits b t.2))
 
   pub fits_in : (e : Expr) (n : ℕ) → IsTyped ws e → width_in ws e ≡ n → value_of e env < 2 ^ n
-  fits_in e n t is = wide _ _ _ is (fits e t)
+  fits_in e n t is = as_wide _ _ _ is (fits e t)
 
   pub safe : (e : Expr) → IsTyped ws e → IsSafe e env
   safe (Constant w v) t = tt
@@ -120,3 +117,7 @@ module _ (ws env : List ℕ) (some : AreWidths ws) (f : Fit ws env) where
   all_safe (n ∷ ns) [] t = absurd t
   all_safe [] (e ∷ es) t = absurd t
   all_safe (n ∷ ns) (e ∷ es) t = (safe e t.0, all_safe ns es t.2)
+
+pub values_count : (env : List ℕ) (es : List Expr) → length (values_of es env) ≡ length es
+values_count env [] = refl
+values_count env (e ∷ es) = ap suc (values_count env es)

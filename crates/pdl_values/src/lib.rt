@@ -1,9 +1,11 @@
 //! What flat expressions, arguments and guards say where the variables have their values.
 #![tactic(auto)]
 
+mod arguments;
 mod guards;
 mod operators;
 mod value;
 
+pub use arguments::fill;
 pub use guards::are_taken;
 pub use value::{value_of, values_of, variable};

@@ -9,8 +9,9 @@ use Rattle.pdl_outnets.specs.declared.outputs.OutNet.{OutNet}
 use Rattle.pdl_locknets.specs.Stepped.{commits_in}
 use Rattle.pdl_outnets.specs.Told.{AreOf, OutsThere, shown_by}
 use Rattle.pdl_outnets.specs.Listed.{all_outs}
-use Rattle.pdl_outnets.proofs.OutLists.{all_there, all_show, name_count, mem_count}
+use Rattle.pdl_outnets.proofs.OutLists.{all_there, all_show}
 use Rattle.pdl_outnets.proofs.outputs.shown.Goals as goal
+use Rattle.pdl_locknets.proofs.AllMade.{mem_count, name_count}
 
 pub all-requires : goal.all-requires
 all-requires c = c.requires.commits.count ∙ sym (mem_count (form c.args.pipe.now).pipe c.mems.result.now c.mems.ensures.mems)

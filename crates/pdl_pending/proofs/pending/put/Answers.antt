@@ -1,9 +1,9 @@
 use Rattle.std.proofs.Common.{◌<◌, length, arith}
 use Rattle.pdl_semantics.specs.Cycle as cycle
 use Rattle.pdl_pending.specs.View.{pending_view}
-use Rattle.pdl_pending.proofs.Puts.{put-append}
 use Rattle.pdl_pending.proofs.Sweeps.{swept_left, swept_done}
 use Rattle.pdl_pending.proofs.pending.put.Goals as goal
+use Rattle.pdl_semantics.proofs.Facts.{put_append}
 
 pub loop-i-preserved : goal.loop-i-preserved
 loop-i-preserved c =
@@ -11,6 +11,6 @@ loop-i-preserved c =
     record {
       done =
           swept_done pending_view c.loop-i.pending c.args.pending.now c.loop-i.i c.filled-entry.result _ here c.loop-i.auto.pending c.loop-i.invariant.left
-          (cycle.put c.args.thread c.args.value) (put-append c.args.thread c.args.value) c.loop-i.invariant.done c.filled-entry.ensures;
+          (cycle.put c.args.thread c.args.value) (put_append c.args.thread c.args.value) c.loop-i.invariant.done c.filled-entry.ensures;
       left = swept_left pending_view c.loop-i.pending c.args.pending.now c.loop-i.i c.filled-entry.result c.filled-entry.result here c.loop-i.auto.pending c.loop-i.invariant.left;
     }

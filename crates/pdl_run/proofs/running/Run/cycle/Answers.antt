@@ -12,8 +12,9 @@ use Rattle.pdl_run.specs.View.{seats}
 use Rattle.pdl_run.specs.Running.{state_of, IsReached, AreReady}
 use Rattle.pdl_run.specs.Runs.{state_in}
 use Rattle.pdl_run.proofs.Roomy.{reached_next}
-use Rattle.pdl_run.proofs.Counted.{ports_counted, all_written, one_more}
+use Rattle.pdl_run.proofs.Counted.{ports_counted, one_more}
 use Rattle.pdl_run.proofs.running.Run.cycle.Goals as goal
+use Rattle.pdl_word.proofs.Lists.{items_written}
 
 pub cycle-called-requires-clause-reached : goal.cycle-called-requires-clause-reached
 cycle-called-requires-clause-reached c =
@@ -28,9 +29,9 @@ returns-clause-state c bits =
     let r = c.args.self.now in
     let p = (form c.args.pipe.now).pipe in
     let ys : (with_items r.memories c.cycle-called.new.memories).items ≡ c.cycle-called.new.memories =
-    all_written r.memories c.cycle-called.new.memories (c.cycle-called.auto.memories ∙ ap (λ (xs : List Memory). length xs) c.as_mut_slice.ensures.value) in
+    items_written r.memories c.cycle-called.new.memories (c.cycle-called.auto.memories ∙ ap (λ (xs : List Memory). length xs) c.as_mut_slice.ensures.value) in
     let zs : (with_items r.stages c.cycle-called.new.stages).items ≡ c.cycle-called.new.stages =
-    all_written r.stages c.cycle-called.new.stages (c.cycle-called.auto.stages ∙ ap (λ (xs : List r_stage.Stage). length xs) c.as_mut_slice-2.ensures.value) in
+    items_written r.stages c.cycle-called.new.stages (c.cycle-called.auto.stages ∙ ap (λ (xs : List r_stage.Stage). length xs) c.as_mut_slice-2.ensures.value) in
     ap₂ (λ (xs : List Memory) (ss : List r_stage.Stage). state_of p (seats ss) xs c.next_number-self.result) ys zs
     ∙ ap (state_of p (seats c.cycle-called.new.stages) c.cycle-called.new.memories) c.next_number-self.ensures
     ∙ c.cycle-called.ensures.state bits
@@ -56,8 +57,8 @@ returns-clause-runs c =
     let p = f.pipe in
     let was : length c.cycle-called.new.memories ≡ length r.memories.items = c.cycle-called.auto.memories ∙ ap (λ (xs : List Memory). length xs) c.as_mut_slice.ensures.value in
     let stood : length c.cycle-called.new.stages ≡ length r.stages.items = c.cycle-called.auto.stages ∙ ap (λ (xs : List r_stage.Stage). length xs) c.as_mut_slice-2.ensures.value in
-    let ys : (with_items r.memories c.cycle-called.new.memories).items ≡ c.cycle-called.new.memories = all_written r.memories c.cycle-called.new.memories was in
-    let zs : (with_items r.stages c.cycle-called.new.stages).items ≡ c.cycle-called.new.stages = all_written r.stages c.cycle-called.new.stages stood in
+    let ys : (with_items r.memories c.cycle-called.new.memories).items ≡ c.cycle-called.new.memories = items_written r.memories c.cycle-called.new.memories was in
+    let zs : (with_items r.stages c.cycle-called.new.stages).items ≡ c.cycle-called.new.stages = items_written r.stages c.cycle-called.new.stages stood in
     let now : state_of p (seats (with_items r.stages c.cycle-called.new.stages).items) (with_items r.memories c.cycle-called.new.memories).items c.next_number-self.result ≡ stated.cycle p (state_in p r) [] =
     ap₂ (λ (xs : List Memory) (ss : List r_stage.Stage). state_of p (seats ss) xs c.next_number-self.result) ys zs
     ∙ ap (state_of p (seats c.cycle-called.new.stages) c.cycle-called.new.memories) c.next_number-self.ensures

@@ -1,5 +1,5 @@
 use Rattle.std.proofs.Common.{◌≡◌, ◌-◌, ◌++◌, take, length, replicate}
-use Rattle.pdl_seq.proofs.begin.fill.Given as goal
+use Rattle.pdl_values.proofs.arguments.fill.Given as goal
 
 -- the values so far are given
 abbrev pub invariant-loop-i : goal.invariant-loop-i

@@ -1,0 +1,73 @@
+-- What holds of a lock by its kind. Proofs on the machine and on netlists name no kind: what they need of the kinds is here.
+use Rattle.std.proofs.Common.{◌≡◌, refl, sym, ap, ◌∙◌, ℕ, ◌+◌, ◌*◌, ◌<◌, nat_lt, true, false, Option, Some, None, ◌⊎◌, inl, inr, ltb-true, arith}
+use Rattle.std.specs.Prelude.{is_some}
+use Rattle.pdl_semantics.specs.Tree.{LockKind, Queue, Bypass, Rename, LockDecl}
+use Rattle.pdl_semantics.specs.Flat as flat
+use Rattle.pdl_semantics.specs.Flat.{Lock, has_lock}
+use Rattle.pdl_semantics.specs.Flatten.{lock_of}
+use Rattle.pdl_semantics.specs.Locks.{has_room}
+use Rattle.pdl_lockapi.specs.Laws.{words_of}
+use Rattle.pdl_lockapi.specs.Forget.{as_lock}
+use Rattle.pdl_lockapi.specs.Sizes.{size_of, words_in}
+
+-- WHAT A LOCK IS
+
+pub plain_is : (l : Lock) → has_lock l ≡ false → l ≡ flat.Plain
+plain_is flat.Plain e = refl
+plain_is _ e = absurd (cc e)
+
+pub locked_is : (k : LockKind) (n : ℕ) → has_lock (as_lock k n) ≡ true
+locked_is Queue n = refl
+locked_is Bypass n = refl
+locked_is Rename n = refl
+
+-- a declared lock is that of its kind, with its size
+pub lock_is : (l : LockDecl) → lock_of (Some l) ≡ as_lock l.kind l.size.value
+lock_is l = at l.kind
+  where
+    at : (k : LockKind) → lock_of (Some (record l { kind = k })) ≡ as_lock k l.size.value
+    at Queue = refl
+    at Bypass = refl
+    at Rename = refl
+
+-- there is a lock where one is declared
+pub lock_declared : (l : Option LockDecl) → has_lock (lock_of l) ≡ is_some l
+lock_declared None = refl
+lock_declared (Some l) = ap has_lock (lock_is l) ∙ locked_is l.kind l.size.value
+
+-- ROOM
+
+-- there is room below the size
+pub room_is : (k : LockKind) (size n : ℕ) → has_room (as_lock k size) n ≡ nat_lt n size
+room_is Queue size n = refl
+room_is Bypass size n = refl
+room_is Rename size n = refl
+
+pub room_there : (k : LockKind) (n size : ℕ) → has_room (as_lock k size) n ≡ true → n < size
+room_there k n size e = ltb-true n size (sym (room_is k size n) ∙ e)
+
+pub room_size : (l : Lock) (n : ℕ) → has_room l n ≡ true → (l ≡ flat.Plain) ⊎ (n < size_of l)
+room_size flat.Plain n e = inl refl
+room_size (flat.Queue size) n e = inr (ltb-true n size e)
+room_size (flat.Bypass size) n e = inr (ltb-true n size e)
+room_size (flat.Rename size) n e = inr (ltb-true n size e)
+
+-- THE WORDS OF THE MEMORY'S ARRAY
+
+pub words_are : (k : LockKind) (n d : ℕ) → words_in (as_lock k n) d ≡ words_of k d
+words_are Queue n d = refl
+words_are Bypass n d = refl
+words_are Rename n d = refl
+
+-- a memory without lock has its own words
+pub words_plain : (l : Lock) (d : ℕ) → has_lock l ≡ false → words_in l d ≡ d
+words_plain l d e = ap (λ x. words_in x d) (plain_is l e)
+
+-- a lock keeps the words of its memory once or twice
+pub once_or_twice : (k : LockKind) (d : ℕ) → (words_of k d ≡ d) ⊎ (words_of k d ≡ 2 * d)
+once_or_twice Queue d = inl refl
+once_or_twice Bypass d = inl refl
+once_or_twice Rename d = inr (twice d)
+  where
+    twice : (n : ℕ) → n + n ≡ 2 * n
+    twice n = omega arith

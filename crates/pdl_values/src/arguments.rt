@@ -1,0 +1,16 @@
+// The values with which a thread begins.
+ghost use Rattle.std.specs.Prelude.{◌≡◌, ◌≤◌, ◌-◌, ◌++◌, length, replicate};
+
+/// The values of arguments come first, and zeros behind them.
+pub fn fill(values: &mut [u64], args: &[u64])
+    requires few { length args.now ≤ length values.old }
+    ensures values { values.new ≡ args.now ++ replicate (length values.old - length args.now) 0 }
+{
+    for i in 0..values.len() {
+        let value = match args.get(i) {
+            Some(value) => *value,
+            None => 0,
+        };
+        values[i] = value;
+    }
+}
