@@ -114,9 +114,6 @@ var_same x o o' f f' q q' e g h = ap₂ (λ i k. with_var x i k q) e g ∙ ap (w
 pub put_same : (m : ℕ) (o o' f f' : Signal) (q q' : Parts) → o ≡ o' → f ≡ f' → q ≡ q' → with_put m o f q ≡ with_put m o' f' q'
 put_same m o o' f f' q q' e g h = ap₂ (λ i k. with_put m i k q) e g ∙ ap (with_put m o' f') h
 
-pub held_same : (m a : ℕ) (o o' f f' : Signal) (q q' : Parts) → o ≡ o' → f ≡ f' → q ≡ q' → with_held m a o f q ≡ with_held m a o' f' q'
-held_same m a o o' f f' q q' e g h = ap₂ (λ i k. with_held m a i k q) e g ∙ ap (with_held m a o' f') h
-
 -- a choice between a new net and the old one
 pub set_means : (a b : Circuit) (n : Net) (on f old known : Signal) → old ≡ known → Means b n (mux_signal on f old) → Means b n (mux_signal on f known)
 set_means a b n on f old known e m = record { there = m.there; same = m.same ∙ ap (mux_signal on f) e }

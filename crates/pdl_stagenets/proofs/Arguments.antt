@@ -1,14 +1,15 @@
--- The arguments of a call, and whether a memory has a lock.
-use Rattle.std.proofs.Common.{◌≡◌, ℕ, zero, suc, ◌≤◌, true, List, [], ◌∷◌, length, refl, ap, ap₂, ◌∙◌, arith}
+-- The arguments of a call.
+use Rattle.std.proofs.Common.{◌≡◌, ℕ, ◌≤◌, List, [], ◌∷◌, length, refl, ap₂, ◌∙◌, arith}
 use Rattle.std.specs.Prelude.{take}
-use Rattle.pdl_semantics.specs.Flat.{Expr, has_lock, Lock, Plain, Queue, Bypass, Rename}
+use Rattle.pdl_semantics.specs.Flat.{Expr}
 use Rattle.pdl_formtypes.specs.Exprs.{AreTyped}
 use Rattle.pdl_formtypes.specs.Stmts.{AreArguments}
 use Rattle.pdl_net.specs.Signal.{Signal}
 use Rattle.pdl_flatnets.specs.Nets.{widths_of}
 use Rattle.pdl_flatnets.specs.Values.{value_signals}
 use Rattle.pdl_flatnets.proofs.Operands.{value_width}
-use Rattle.pdl_pipe_law.specs.Walk.{has_kind}
+use Rattle.pdl_word.proofs.Lists.{take_few}
+use Rattle.pdl_formtypes.proofs.Arguments.{args_count}
 
 pub arguments_typed : (ws ns : List ℕ) (es : List Expr) → AreArguments ws ns es → AreTyped ws es
 arguments_typed ws [] [] h = tt
@@ -16,29 +17,12 @@ arguments_typed ws [] (e ∷ es) h = absurd h
 arguments_typed ws (n ∷ ns) [] h = tt
 arguments_typed ws (n ∷ ns) (e ∷ es) h = (h.0, arguments_typed ws ns es h.2)
 
-pub arguments_count : (ws ns : List ℕ) (es : List Expr) → AreArguments ws ns es → length es ≡ length ns
-arguments_count ws [] [] h = refl
-arguments_count ws [] (e ∷ es) h = absurd h
-arguments_count ws (n ∷ ns) [] h = absurd h
-arguments_count ws (n ∷ ns) (e ∷ es) h = ap suc (arguments_count ws ns es h.2)
-
 pub arguments_wide : (fs : List Signal) (ns : List ℕ) (es : List Expr) → AreArguments (widths_of fs) ns es → widths_of (value_signals fs es) ≡ ns
 arguments_wide fs [] [] h = refl
 arguments_wide fs [] (e ∷ es) h = absurd h
 arguments_wide fs (n ∷ ns) [] h = absurd h
 arguments_wide fs (n ∷ ns) (e ∷ es) h = ap₂ (λ m ms. m ∷ ms) (value_width fs e h.0 ∙ h.1) (arguments_wide fs ns es h.2)
 
-few : (n : ℕ) (ws : List ℕ) → length (take n ws) ≤ length ws
-few zero ws = omega arith
-few (suc n) [] = omega arith
-few (suc n) (w ∷ ws) = let l = few n ws in omega (arith, l)
-
 -- no more arguments than variables
 pub arguments_few : (ws : List ℕ) (n : ℕ) (es : List Expr) → AreArguments ws (take n ws) es → length es ≤ length ws
-arguments_few ws n es h = omega (arith, arguments_count ws (take n ws) es h, few n ws)
-
-pub locked_kind : (l : Lock) → has_lock l ≡ true → has_kind l ≡ true
-locked_kind Plain h = h
-locked_kind (Queue size) h = refl
-locked_kind (Bypass size) h = refl
-locked_kind (Rename size) h = refl
+arguments_few ws n es h = omega (arith, args_count ws (take n ws) es h, take_few n ws)

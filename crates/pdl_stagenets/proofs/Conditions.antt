@@ -1,6 +1,7 @@
 -- Conditions of guards have the values that they should, where the variables have values of one bit.
 use Rattle.std.proofs.Common.{◌≡◌, ℕ, zero, suc, ◌<◌, ◌^◌, Bool, true, false, ◌&&◌, not, ◌==◌, List, [], ◌∷◌, refl, sym, ap, ◌∙◌, subst, arith}
 use Rattle.std.specs.Prelude.{length, slice_index_or}
+use Rattle.std.proofs.Math.Bool.{and_assoc}
 use Rattle.pdl_word.specs.Words as words
 use Rattle.pdl_word.specs.Words.{bit}
 use Rattle.pdl_semantics.specs.Flat.{Guard, takes}
@@ -44,10 +45,6 @@ literal_value : (s : State) (first : Bool) (f : Signal) → f.width ≡ 1 → Is
 unfolding not_value
 literal_value s true f e b = bit_of (f.value s) (below_two s f e b)
 literal_value s false f e b = ap (λ w. words.complement w (f.value s)) e ∙ turned (f.value s) (below_two s f e b)
-
-and_assoc : (x y z : Bool) → ((x && y) && z) ≡ (x && (y && z))
-and_assoc true y z = refl
-and_assoc false y z = refl
 
 taken_more : (s : State) (fs : List Signal) (w : Walk) → ((x : ℕ) → w.vars x ≡ signal_at fs x) → AreBounded s fs → (gs : List Guard) → AreGuards (widths_of fs) gs → (f : Signal) (x : Bool) → f.value s ≡ bit x
     → (taken_from fs f gs).value s ≡ bit (x && taken_in gs w s)

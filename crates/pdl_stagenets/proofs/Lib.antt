@@ -9,5 +9,4 @@ pub mod Values
 pub mod Made
 pub mod MadeLocks
 pub mod OneByOne
-pub mod Ended
 pub mod Bare

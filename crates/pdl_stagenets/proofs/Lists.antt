@@ -1,11 +1,10 @@
 -- Lists each of whose elements has a property.
-use Rattle.std.proofs.Common.{◌≡◌, ℕ, zero, suc, ◌<◌, ◌^◌, Bool, true, false, inl, inr, List, [], ◌∷◌, ◌++◌, map, length, refl, sym, ap, ap₂, ◌∙◌, arith}
+use Rattle.std.proofs.Common.{◌≡◌, ℕ, zero, suc, ◌<◌, ◌^◌, Bool, true, false, List, [], ◌∷◌, ◌++◌, map, length, refl, sym, ap, ap₂, ◌∙◌, arith}
 use Rattle.std.specs.Prelude.{slice_index_or, slice_set, ◌==◌, if◌then◌else◌, Result, Ok, Err, OnOk}
 use Rattle.pdl_kit.specs.declared.no_memory.NoMemory.{NoMemory}
 use Rattle.std.proofs.lemmas.List.{get_or-set_other}
 use Rattle.std.proofs.lemmas.Grind.{get_or-set_at}
-use Rattle.std.proofs.lemmas.Bool.{cases_lt, eqb-true, eq-eqb, false≢true}
-use Rattle.std.proofs.Math.Pow.{pow-lt}
+use Rattle.std.proofs.lemmas.Bool.{eqb-true, eq-eqb, false≢true}
 use Rattle.pdl_net.specs.declared.Net.{Net}
 use Rattle.pdl_net.specs.Circuit.{Circuit}
 use Rattle.pdl_net.specs.Signal.{Signal, no_signal}
@@ -56,13 +55,3 @@ signal_set fs i f j l = at (j == i) refl
 pub on_ok : {A B : Type 0} (r : Result (Unit {0}) NoMemory) → (A → B) → OnOk r A → OnOk r B
 on_ok (Ok x) f h = f h
 on_ok (Err e) f h = h
-
--- powers of two that are the same have the same exponent
-pub pow_same : (a b : ℕ) → 2 ^ a ≡ 2 ^ b → a ≡ b
-pow_same a b e = elim (cases_lt a b) [
-  | inl l ↦ let p : 2 ^ a < 2 ^ b = pow-lt l in absurd (omega (arith, p, e))
-  | inr l ↦ elim (cases_lt b a) [
-    | inl k ↦ let p : 2 ^ b < 2 ^ a = pow-lt k in absurd (omega (arith, p, e))
-    | inr k ↦ omega (arith, l, k)
-  ]
-]

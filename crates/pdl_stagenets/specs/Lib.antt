@@ -1,4 +1,5 @@
 pub mod Parts
+pub mod Setting
 pub mod Locked
 pub mod Sized
 pub mod Finding

@@ -36,6 +36,10 @@ abbrev pub of_lock {ℓ} : {T : Type 0} {A : Type ℓ} → (MemLock T → A) →
 of_lock f none None = none
 of_lock f none (Some x) = f x
 
+-- the kind of a lock; that of none isn't asked for
+abbrev pub kind_in : {T : Type 0} → Members T → Option (MemLock T) → LockKind
+kind_in l x = of_lock (λ x. l.kind x.lock) Queue x
+
 -- the net of a lock's room
 abbrev pub room_net : {T : Type 0} → Option (MemLock T) → Net
 room_net None = Input 0
@@ -46,7 +50,7 @@ abbrev pub locks_in : {T : Type 0} → Members T → Circuit → List (Option (M
 locks_in l c xs =
     record {
       stands = λ m. of_lock (λ x. l.stands x.lock x.regs) (λ s y. Unit {0}) (some_at xs m);
-      kind = λ m. of_lock (λ x. l.kind x.lock) Queue (some_at xs m);
+      kind = λ m. kind_in l (some_at xs m);
       size = λ m. of_lock (λ x. l.size x.lock) 1 (some_at xs m);
       bits = λ m. of_lock (λ x. l.tickets x.lock) 1 (some_at xs m);
       room = λ m. of_lock (λ x. signal c x.regs.room) zero_bit (some_at xs m);

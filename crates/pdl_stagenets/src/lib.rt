@@ -9,5 +9,5 @@ mod tests;
 pub mod update;
 pub mod vars;
 
-pub use locks::MemLock;
+pub use locks::{MemLock, Setting};
 pub use nets::{BirthNet, HeldNet, LettingNet, PutNet, ReserveNet, WalkNets};

@@ -9,7 +9,8 @@ ghost use Rattle.pdl_lockapi.specs.Laws.{HasValueNet};
 ghost use Rattle.pdl_flatnets.specs.Nets.{signals_in, signal_at};
 ghost use Rattle.pdl_flatnets.specs.Conditions.{AreBits};
 ghost use Rattle.pdl_pipe_law.specs.Walk.{is_locked};
-ghost use Rattle.pdl_stagenets.specs.Locked.{members, some_at, AreLocked, room_net, locks_in};
+ghost use Rattle.pdl_stagenets.specs.Locked.{members, some_at, room_net};
+ghost use Rattle.pdl_stagenets.specs.Setting.{HasLocks, set_locks};
 ghost use Rattle.pdl_stagenets.specs.Words.{IsLookOf, IsWordSignal, IsLooked};
 
 use pdl_build::Builder;
@@ -24,6 +25,15 @@ use pdl_net::Net;
 pub struct MemLock<L> {
     pub lock: L,
     pub regs: LockRegs,
+}
+
+/// What the statements of a stage are made nets in: the pipe, the constant bits, the locks of the memories, and a ticket for each.
+#[derive(Drop)]
+pub struct Setting<'a, L> {
+    pub pipe: &'a FlatPipe,
+    pub bits: Bits,
+    pub locks: &'a [Option<MemLock<L>>],
+    pub tickets: &'a [Net],
 }
 
 // The lock of a memory that has one.
@@ -60,53 +70,62 @@ fn value_of(look: Look) -> Net
 /// A look through the lock of a memory, at an address with a ticket.
 pub(crate) fn look<L: LockModule>(
     b: &mut Builder,
-    pipe: &FlatPipe,
-    locks: &[Option<MemLock<L>>],
+    setting: &Setting<'_, L>,
     m: usize,
     kind: Kind,
     addr: Net,
     ticket: Net,
 ) -> Result<Look, NoMemory>
-    requires locks { AreLocked (members L.LockModule) b.old (form pipe.now).pipe locks.now }
-    requires low { m < length (form pipe.now).pipe.mems }
-    requires locked { is_locked (form pipe.now).pipe m ≡ true }
+    requires locks { HasLocks (members L.LockModule) b.old setting.now }
+    requires low { m < length (form setting.now.pipe.now).pipe.mems }
+    requires locked { is_locked (form setting.now.pipe.now).pipe m ≡ true }
     requires addr_there { IsThere b.old addr }
-    requires addr_reach { 2 ^ (signal b.old addr).width ≡ (mem_at (form pipe.now).pipe m).depth }
+    requires addr_reach { 2 ^ (signal b.old addr).width
+        ≡ (mem_at (form setting.now.pipe.now).pipe m).depth }
     requires ticket_there { IsThere b.old ticket }
-    requires ticket_wide { (signal b.old ticket).width ≡ (locks_in (members L.LockModule) b.old locks.now).bits m }
+    requires ticket_wide { (signal b.old ticket).width
+        ≡ (set_locks (members L.LockModule) b.old setting.now).bits m }
     ensures ready_there { IfOk result (λ l. IsThere b.new l.ready) }
     ensures ready_one { IfOk result (λ l. (signal b.new l.ready).width ≡ 1) }
     ensures has_value { IfOk result (λ l. is_some l.value ≡ true) }
-    ensures value { IfOk result (λ l. HasValueNet b.new (mem_at (form pipe.now).pipe m).width l.value) }
-    ensures law { IfOk result (λ l. IsLookOf (locks_in (members L.LockModule) b.old locks.now) m kind (signal b.old addr) (signal b.old ticket) (signal b.new l.ready) (option_map (signal b.new) l.value)) }
+    ensures value { IfOk result (λ l.
+        HasValueNet b.new (mem_at (form setting.now.pipe.now).pipe m).width l.value) }
+    ensures law { IfOk result (λ l.
+        IsLookOf (set_locks (members L.LockModule) b.old setting.now) m kind (signal b.old addr)
+        (signal b.old ticket) (signal b.new l.ready) (option_map (signal b.new) l.value)) }
     ensures extends { Extends b.old b.new }
 {
-    let x = lock_of(locks, m);
+    let x = lock_of(setting.locks, m);
     x.lock.emit_look(b, &x.regs, kind, addr, ticket)
 }
 
 /// The word of a memory at the address that a variable holds.
 pub(crate) fn word<L: LockModule>(
     b: &mut Builder,
-    pipe: &FlatPipe,
-    locks: &[Option<MemLock<L>>],
+    setting: &Setting<'_, L>,
     m: usize,
     addr: Net,
     ticket: Net,
 ) -> Result<Net, NoMemory>
-    requires locks { AreLocked (members L.LockModule) b.old (form pipe.now).pipe locks.now }
-    requires low { m < length (form pipe.now).pipe.mems }
+    requires locks { HasLocks (members L.LockModule) b.old setting.now }
+    requires low { m < length (form setting.now.pipe.now).pipe.mems }
     requires addr_there { IsThere b.old addr }
-    requires addr_reach { 2 ^ (signal b.old addr).width ≡ (mem_at (form pipe.now).pipe m).depth }
+    requires addr_reach { 2 ^ (signal b.old addr).width
+        ≡ (mem_at (form setting.now.pipe.now).pipe m).depth }
     requires ticket_there { IsThere b.old ticket }
-    requires ticket_wide { is_locked (form pipe.now).pipe m ≡ true → (signal b.old ticket).width ≡ (locks_in (members L.LockModule) b.old locks.now).bits m }
+    requires ticket_wide { is_locked (form setting.now.pipe.now).pipe m ≡ true →
+        (signal b.old ticket).width ≡ (set_locks (members L.LockModule) b.old setting.now).bits m }
     ensures there { IfOk result (λ x. IsThere b.new x) }
-    ensures wide { IfOk result (λ x. (signal b.new x).width ≡ (mem_at (form pipe.now).pipe m).width) }
-    ensures word { IfOk result (λ x. IsWordSignal (form pipe.now).pipe (locks_in (members L.LockModule) b.old locks.now) m (signal b.old addr) (signal b.old ticket) (signal b.new x)) }
+    ensures wide { IfOk result (λ x.
+        (signal b.new x).width ≡ (mem_at (form setting.now.pipe.now).pipe m).width) }
+    ensures word { IfOk result (λ x.
+        IsWordSignal (form setting.now.pipe.now).pipe
+        (set_locks (members L.LockModule) b.old setting.now) m (signal b.old addr)
+        (signal b.old ticket) (signal b.new x)) }
     ensures extends { Extends b.old b.new }
 {
-    if has_lock(locks, m) {
-        let look = look(b, pipe, locks, m, Kind::R, addr, ticket)?;
+    if has_lock(setting.locks, m) {
+        let look = look(b, setting, m, Kind::R, addr, ticket)?;
         Ok(value_of(look))
     } else {
         b.read(m, addr)
@@ -125,37 +144,39 @@ pub(crate) fn room<L: LockModule>(locks: &[Option<MemLock<L>>], m: usize) -> Net
 /// Whether a look is ready, for writing where `held` is 1 and else for reading.
 pub(crate) fn look_held<L: LockModule>(
     b: &mut Builder,
-    pipe: &FlatPipe,
-    bits: Bits,
-    locks: &[Option<MemLock<L>>],
+    setting: &Setting<'_, L>,
     m: usize,
     held: Net,
     addr: Net,
     ticket: Net,
 ) -> Result<Net, NoMemory>
-    requires locks { AreLocked (members L.LockModule) b.old (form pipe.now).pipe locks.now }
-    requires low { m < length (form pipe.now).pipe.mems }
-    requires locked { is_locked (form pipe.now).pipe m ≡ true }
-    requires bits { AreBits b.old bits }
+    requires locks { HasLocks (members L.LockModule) b.old setting.now }
+    requires low { m < length (form setting.now.pipe.now).pipe.mems }
+    requires locked { is_locked (form setting.now.pipe.now).pipe m ≡ true }
+    requires bits { AreBits b.old setting.now.bits }
     requires held_there { IsThere b.old held }
     requires held_one { (signal b.old held).width ≡ 1 }
     requires addr_there { IsThere b.old addr }
-    requires addr_reach { 2 ^ (signal b.old addr).width ≡ (mem_at (form pipe.now).pipe m).depth }
+    requires addr_reach { 2 ^ (signal b.old addr).width
+        ≡ (mem_at (form setting.now.pipe.now).pipe m).depth }
     requires ticket_there { IsThere b.old ticket }
-    requires ticket_wide { (signal b.old ticket).width ≡ (locks_in (members L.LockModule) b.old locks.now).bits m }
+    requires ticket_wide { (signal b.old ticket).width
+        ≡ (set_locks (members L.LockModule) b.old setting.now).bits m }
     ensures there { IfOk result (λ x. IsThere b.new x) }
     ensures one { IfOk result (λ x. (signal b.new x).width ≡ 1) }
-    ensures looked { IfOk result (λ x. IsLooked (locks_in (members L.LockModule) b.old locks.now) m (signal b.old held) (signal b.old addr) (signal b.old ticket) (signal b.new x)) }
+    ensures looked { IfOk result (λ x.
+        IsLooked (set_locks (members L.LockModule) b.old setting.now) m (signal b.old held)
+        (signal b.old addr) (signal b.old ticket) (signal b.new x)) }
     ensures extends { Extends b.old b.new }
 {
-    if are_same(held, bits.one) {
-        let write = look(b, pipe, locks, m, Kind::W, addr, ticket)?;
+    if are_same(held, setting.bits.one) {
+        let write = look(b, setting, m, Kind::W, addr, ticket)?;
         return Ok(write.ready);
     }
-    let read = look(b, pipe, locks, m, Kind::R, addr, ticket)?;
-    if are_same(held, bits.zero) {
+    let read = look(b, setting, m, Kind::R, addr, ticket)?;
+    if are_same(held, setting.bits.zero) {
         return Ok(read.ready);
     }
-    let write = look(b, pipe, locks, m, Kind::W, addr, ticket)?;
-    bits.pick(b, held, write.ready, read.ready)
+    let write = look(b, setting, m, Kind::W, addr, ticket)?;
+    setting.bits.pick(b, held, write.ready, read.ready)
 }

@@ -12,12 +12,13 @@ ghost use Rattle.pdl_formtypes.specs.Stmts.{AreGuards, IsLocation, AreArguments,
 ghost use Rattle.pdl_formtypes.specs.Exprs.{width_in, IsTyped};
 ghost use Rattle.pdl_pipe_law.specs.Walk.{is_locked, one, both};
 ghost use Rattle.pdl_stagenets.specs.Parts.{held_of, parts_in, walk_in, taken_by, value_by, values_by};
-ghost use Rattle.pdl_stagenets.specs.Locked.{members, AreLocked, AreTickets, tickets_in, locks_in};
+ghost use Rattle.pdl_stagenets.specs.Locked.{members};
+ghost use Rattle.pdl_stagenets.specs.Setting.{HasLocks, HasTickets, set_locks, set_tickets, AreSetSteps};
 ghost use Rattle.pdl_stagenets.specs.Sized.{IsWalked, AreWalked, AreWalkedRows, IsWalkOf};
 ghost use Rattle.pdl_stagenets.specs.Words.{IsLooked, IsRead, IsBlocked};
-ghost use Rattle.pdl_stagenets.specs.Steps.{with_var, with_put, with_reserve, with_release, with_call, IsStep, AreNetSteps};
+ghost use Rattle.pdl_stagenets.specs.Steps.{with_var, with_put, with_reserve, with_release, with_call, IsStep};
 
-use crate::locks::{MemLock, look_held, room, word};
+use crate::locks::{Setting, look_held, room, word};
 use crate::nets::WalkNets;
 use pdl_build::Builder;
 use pdl_flatnets::Bits;
@@ -52,9 +53,12 @@ impl WalkNets {
         requires guards { AreGuards (form pipe.now).widths (guards_view guards.now) }
         requires low { x < length (form pipe.now).widths }
         requires typed { IsTyped (form pipe.now).widths (expr_view e.now) }
-        requires wide { width_in (form pipe.now).widths (expr_view e.now) ≡ slice_index (form pipe.now).widths x }
+        requires wide { width_in (form pipe.now).widths (expr_view e.now)
+            ≡ slice_index (form pipe.now).widths x }
         ensures walk { OnOk result (IsWalkOf (form pipe.now) b.new self.new) }
-        ensures parts { OnOk result (parts_in b.new self.new ≡ with_var x (taken_by b.old self.old guards.now) (value_by b.old self.old e.now) (parts_in b.old self.old)) }
+        ensures parts { OnOk result (parts_in b.new self.new
+            ≡ with_var x (taken_by b.old self.old guards.now) (value_by b.old self.old e.now)
+            (parts_in b.old self.old)) }
         ensures extends { Extends b.old b.new }
     {
         let on = self.taken(b, pipe, bits, guards)?;
@@ -66,32 +70,34 @@ impl WalkNets {
     pub(crate) fn read<L: LockModule>(
         &mut self,
         b: &mut Builder,
-        pipe: &FlatPipe,
-        bits: Bits,
-        locks: &[Option<MemLock<L>>],
-        tickets: &[Net],
+        setting: &Setting<'_, L>,
         guards: &[Guard],
         x: usize,
         m: usize,
         a: usize,
     ) -> Result<(), NoMemory>
-        requires walk { IsWalkOf (form pipe.now) b.old self.old }
-        requires bits { AreBits b.old bits }
-        requires guards { AreGuards (form pipe.now).widths (guards_view guards.now) }
-        requires locks { AreLocked (members L.LockModule) b.old (form pipe.now).pipe locks.now }
-        requires tickets { AreTickets (members L.LockModule) b.old locks.now tickets.now }
-        requires low { x < length (form pipe.now).widths }
-        requires wide { slice_index (form pipe.now).widths x ≡ (mem_at (form pipe.now).pipe m).width }
-        requires at { IsLocation (form pipe.now).pipe (form pipe.now).widths m a }
-        ensures walk { OnOk result (IsWalkOf (form pipe.now) b.new self.new) }
-        ensures parts { OnOk result (IsRead (form pipe.now).pipe (locks_in (members L.LockModule) b.old locks.now) (tickets_in b.old tickets.now) (taken_by b.old self.old guards.now) x m a (parts_in b.old self.old) (parts_in b.new self.new)) }
+        requires walk { IsWalkOf (form setting.now.pipe.now) b.old self.old }
+        requires bits { AreBits b.old setting.now.bits }
+        requires guards { AreGuards (form setting.now.pipe.now).widths (guards_view guards.now) }
+        requires locks { HasLocks (members L.LockModule) b.old setting.now }
+        requires tickets { HasTickets (members L.LockModule) b.old setting.now }
+        requires low { x < length (form setting.now.pipe.now).widths }
+        requires wide { slice_index (form setting.now.pipe.now).widths x
+            ≡ (mem_at (form setting.now.pipe.now).pipe m).width }
+        requires at { IsLocation (form setting.now.pipe.now).pipe
+            (form setting.now.pipe.now).widths m a }
+        ensures walk { OnOk result (IsWalkOf (form setting.now.pipe.now) b.new self.new) }
+        ensures parts { OnOk result (IsRead (form setting.now.pipe.now).pipe
+            (set_locks (members L.LockModule) b.old setting.now) (set_tickets b.old setting.now)
+            (taken_by b.old self.old guards.now) x m a (parts_in b.old self.old)
+            (parts_in b.new self.new)) }
         ensures extends { Extends b.old b.new }
     {
-        let on = self.taken(b, pipe, bits, guards)?;
-        let addr = self.variable(b, pipe, a);
-        let ticket = variable(b, tickets, m);
-        let net = word(b, pipe, locks, m, addr, ticket)?;
-        self.set(b, pipe, bits, on, x, net)
+        let on = self.taken(b, setting.pipe, setting.bits, guards)?;
+        let addr = self.variable(b, setting.pipe, a);
+        let ticket = variable(b, setting.tickets, m);
+        let net = word(b, setting, m, addr, ticket)?;
+        self.set(b, setting.pipe, setting.bits, on, x, net)
     }
 
     /// A write.
@@ -109,9 +115,12 @@ impl WalkNets {
         requires guards { AreGuards (form pipe.now).widths (guards_view guards.now) }
         requires low { m < length (form pipe.now).pipe.mems }
         requires typed { IsTyped (form pipe.now).widths (expr_view e.now) }
-        requires wide { width_in (form pipe.now).widths (expr_view e.now) ≡ (mem_at (form pipe.now).pipe m).width }
+        requires wide { width_in (form pipe.now).widths (expr_view e.now)
+            ≡ (mem_at (form pipe.now).pipe m).width }
         ensures walk { OnOk result (IsWalkOf (form pipe.now) b.new self.new) }
-        ensures parts { OnOk result (parts_in b.new self.new ≡ with_put m (taken_by b.old self.old guards.now) (value_by b.old self.old e.now) (parts_in b.old self.old)) }
+        ensures parts { OnOk result (parts_in b.new self.new
+            ≡ with_put m (taken_by b.old self.old guards.now) (value_by b.old self.old e.now)
+            (parts_in b.old self.old)) }
         ensures extends { Extends b.old b.new }
     {
         let on = self.taken(b, pipe, bits, guards)?;
@@ -123,27 +132,29 @@ impl WalkNets {
     pub(crate) fn reserve<L: LockModule>(
         &mut self,
         b: &mut Builder,
-        pipe: &FlatPipe,
-        bits: Bits,
-        locks: &[Option<MemLock<L>>],
+        setting: &Setting<'_, L>,
         guards: &[Guard],
         m: usize,
         a: usize,
     ) -> Result<(), NoMemory>
-        requires walk { IsWalkOf (form pipe.now) b.old self.old }
-        requires bits { AreBits b.old bits }
-        requires guards { AreGuards (form pipe.now).widths (guards_view guards.now) }
-        requires locks { AreLocked (members L.LockModule) b.old (form pipe.now).pipe locks.now }
-        requires at { IsLocation (form pipe.now).pipe (form pipe.now).widths m a }
-        requires locked { is_locked (form pipe.now).pipe m ≡ true }
-        ensures walk { OnOk result (IsWalkOf (form pipe.now) b.new self.new) }
-        ensures parts { OnOk result (parts_in b.new self.new ≡ with_reserve m a (taken_by b.old self.old guards.now) ((locks_in (members L.LockModule) b.old locks.now).room m) (parts_in b.old self.old)) }
+        requires walk { IsWalkOf (form setting.now.pipe.now) b.old self.old }
+        requires bits { AreBits b.old setting.now.bits }
+        requires guards { AreGuards (form setting.now.pipe.now).widths (guards_view guards.now) }
+        requires locks { HasLocks (members L.LockModule) b.old setting.now }
+        requires at { IsLocation (form setting.now.pipe.now).pipe
+            (form setting.now.pipe.now).widths m a }
+        requires locked { is_locked (form setting.now.pipe.now).pipe m ≡ true }
+        ensures walk { OnOk result (IsWalkOf (form setting.now.pipe.now) b.new self.new) }
+        ensures parts { OnOk result (parts_in b.new self.new
+            ≡ with_reserve m a (taken_by b.old self.old guards.now)
+            ((set_locks (members L.LockModule) b.old setting.now).room m)
+            (parts_in b.old self.old)) }
         ensures extends { Extends b.old b.new }
     {
-        let on = self.taken(b, pipe, bits, guards)?;
-        let addr = self.variable(b, pipe, a);
-        self.hold(b, pipe, bits, on, m, a, bits.one)?;
-        self.wait(b, pipe, bits, on, room(locks, m))?;
+        let on = self.taken(b, setting.pipe, setting.bits, guards)?;
+        let addr = self.variable(b, setting.pipe, a);
+        self.hold(b, setting.pipe, setting.bits, on, m, a, setting.bits.one)?;
+        self.wait(b, setting.pipe, setting.bits, on, room(setting.locks, m))?;
         self.push_reserve(m, on, addr)
     }
 
@@ -151,56 +162,58 @@ impl WalkNets {
     fn look_ready<L: LockModule>(
         &self,
         b: &mut Builder,
-        pipe: &FlatPipe,
-        bits: Bits,
-        locks: &[Option<MemLock<L>>],
-        tickets: &[Net],
+        setting: &Setting<'_, L>,
         m: usize,
         a: usize,
     ) -> Result<Net, NoMemory>
-        requires walk { IsWalkOf (form pipe.now) b.old self.now }
-        requires bits { AreBits b.old bits }
-        requires locks { AreLocked (members L.LockModule) b.old (form pipe.now).pipe locks.now }
-        requires tickets { AreTickets (members L.LockModule) b.old locks.now tickets.now }
-        requires at { IsLocation (form pipe.now).pipe (form pipe.now).widths m a }
-        requires locked { is_locked (form pipe.now).pipe m ≡ true }
+        requires walk { IsWalkOf (form setting.now.pipe.now) b.old self.now }
+        requires bits { AreBits b.old setting.now.bits }
+        requires locks { HasLocks (members L.LockModule) b.old setting.now }
+        requires tickets { HasTickets (members L.LockModule) b.old setting.now }
+        requires at { IsLocation (form setting.now.pipe.now).pipe
+            (form setting.now.pipe.now).widths m a }
+        requires locked { is_locked (form setting.now.pipe.now).pipe m ≡ true }
         ensures there { IfOk result (λ x. IsThere b.new x) }
         ensures one { IfOk result (λ x. (signal b.new x).width ≡ 1) }
-        ensures looked { IfOk result (λ x. IsLooked (locks_in (members L.LockModule) b.old locks.now) m (held_of (parts_in b.old self.now).held m a) (signal_at (signals_in b.old self.now.vars.items) a) (tickets_in b.old tickets.now m) (signal b.new x)) }
+        ensures looked { IfOk result (λ x.
+            IsLooked (set_locks (members L.LockModule) b.old setting.now) m
+            (held_of (parts_in b.old self.now).held m a)
+            (signal_at (signals_in b.old self.now.vars.items) a) (set_tickets b.old setting.now m)
+            (signal b.new x)) }
         ensures extends { Extends b.old b.new }
     {
-        let held = self.held(b, bits, m, a);
-        let addr = self.variable(b, pipe, a);
-        let ticket = variable(b, tickets, m);
-        look_held(b, pipe, bits, locks, m, held, addr, ticket)
+        let held = self.held(b, setting.bits, m, a);
+        let addr = self.variable(b, setting.pipe, a);
+        let ticket = variable(b, setting.tickets, m);
+        look_held(b, setting, m, held, addr, ticket)
     }
 
     /// A block: it waits until a look at its location is ready.
     pub(crate) fn block<L: LockModule>(
         &mut self,
         b: &mut Builder,
-        pipe: &FlatPipe,
-        bits: Bits,
-        locks: &[Option<MemLock<L>>],
-        tickets: &[Net],
+        setting: &Setting<'_, L>,
         guards: &[Guard],
         m: usize,
         a: usize,
     ) -> Result<(), NoMemory>
-        requires walk { IsWalkOf (form pipe.now) b.old self.old }
-        requires bits { AreBits b.old bits }
-        requires guards { AreGuards (form pipe.now).widths (guards_view guards.now) }
-        requires locks { AreLocked (members L.LockModule) b.old (form pipe.now).pipe locks.now }
-        requires tickets { AreTickets (members L.LockModule) b.old locks.now tickets.now }
-        requires at { IsLocation (form pipe.now).pipe (form pipe.now).widths m a }
-        requires locked { is_locked (form pipe.now).pipe m ≡ true }
-        ensures walk { OnOk result (IsWalkOf (form pipe.now) b.new self.new) }
-        ensures parts { OnOk result (IsBlocked (locks_in (members L.LockModule) b.old locks.now) (tickets_in b.old tickets.now) (taken_by b.old self.old guards.now) m a (parts_in b.old self.old) (parts_in b.new self.new)) }
+        requires walk { IsWalkOf (form setting.now.pipe.now) b.old self.old }
+        requires bits { AreBits b.old setting.now.bits }
+        requires guards { AreGuards (form setting.now.pipe.now).widths (guards_view guards.now) }
+        requires locks { HasLocks (members L.LockModule) b.old setting.now }
+        requires tickets { HasTickets (members L.LockModule) b.old setting.now }
+        requires at { IsLocation (form setting.now.pipe.now).pipe
+            (form setting.now.pipe.now).widths m a }
+        requires locked { is_locked (form setting.now.pipe.now).pipe m ≡ true }
+        ensures walk { OnOk result (IsWalkOf (form setting.now.pipe.now) b.new self.new) }
+        ensures parts { OnOk result (IsBlocked (set_locks (members L.LockModule) b.old setting.now)
+            (set_tickets b.old setting.now) (taken_by b.old self.old guards.now) m a
+            (parts_in b.old self.old) (parts_in b.new self.new)) }
         ensures extends { Extends b.old b.new }
     {
-        let on = self.taken(b, pipe, bits, guards)?;
-        let ready = self.look_ready(b, pipe, bits, locks, tickets, m, a)?;
-        self.wait(b, pipe, bits, on, ready)
+        let on = self.taken(b, setting.pipe, setting.bits, guards)?;
+        let ready = self.look_ready(b, setting, m, a)?;
+        self.wait(b, setting.pipe, setting.bits, on, ready)
     }
 
     /// A release.
@@ -217,7 +230,8 @@ impl WalkNets {
         requires bits { AreBits b.old bits }
         requires guards { AreGuards (form pipe.now).widths (guards_view guards.now) }
         ensures walk { OnOk result (IsWalkOf (form pipe.now) b.new self.new) }
-        ensures parts { OnOk result (parts_in b.new self.new ≡ with_release m a (taken_by b.old self.old guards.now) (parts_in b.old self.old)) }
+        ensures parts { OnOk result (parts_in b.new self.new
+            ≡ with_release m a (taken_by b.old self.old guards.now) (parts_in b.old self.old)) }
         ensures extends { Extends b.old b.new }
     {
         let on = self.taken(b, pipe, bits, guards)?;
@@ -240,9 +254,12 @@ impl WalkNets {
         requires walk { IsWalkOf (form pipe.now) b.old self.old }
         requires bits { AreBits b.old bits }
         requires guards { AreGuards (form pipe.now).widths (guards_view guards.now) }
-        requires typed { AreArguments (form pipe.now).widths (param_widths (form pipe.now)) (exprs_view args.now) }
+        requires typed { AreArguments (form pipe.now).widths (param_widths (form pipe.now))
+            (exprs_view args.now) }
         ensures walk { OnOk result (IsWalkOf (form pipe.now) b.new self.new) }
-        ensures parts { OnOk result (parts_in b.new self.new ≡ with_call (taken_by b.old self.old guards.now) (values_by b.old self.old args.now) (parts_in b.old self.old)) }
+        ensures parts { OnOk result (parts_in b.new self.new
+            ≡ with_call (taken_by b.old self.old guards.now) (values_by b.old self.old args.now)
+            (parts_in b.old self.old)) }
         ensures extends { Extends b.old b.new }
     {
         let on = self.taken(b, pipe, bits, guards)?;
@@ -255,31 +272,31 @@ impl WalkNets {
         &mut self,
         alloc: Global,
         b: &mut Builder,
-        pipe: &FlatPipe,
-        bits: Bits,
-        locks: &[Option<MemLock<L>>],
-        tickets: &[Net],
+        setting: &Setting<'_, L>,
         s: &Stmt,
     ) -> Result<(), NoMemory>
-        requires walk { IsWalkOf (form pipe.now) b.old self.old }
-        requires bits { AreBits b.old bits }
-        requires locks { AreLocked (members L.LockModule) b.old (form pipe.now).pipe locks.now }
-        requires tickets { AreTickets (members L.LockModule) b.old locks.now tickets.now }
-        requires typed { IsWalked (form pipe.now) (stmt_view s.now) }
-        ensures walk { OnOk result (IsWalkOf (form pipe.now) b.new self.new) }
-        ensures step { OnOk result (IsStep b.new (form pipe.now).pipe (locks_in (members L.LockModule) b.old locks.now) (tickets_in b.old tickets.now) (stmt_view s.now).guards (stmt_view s.now).op (walk_in b.old self.old) (walk_in b.new self.new)) }
+        requires walk { IsWalkOf (form setting.now.pipe.now) b.old self.old }
+        requires bits { AreBits b.old setting.now.bits }
+        requires locks { HasLocks (members L.LockModule) b.old setting.now }
+        requires tickets { HasTickets (members L.LockModule) b.old setting.now }
+        requires typed { IsWalked (form setting.now.pipe.now) (stmt_view s.now) }
+        ensures walk { OnOk result (IsWalkOf (form setting.now.pipe.now) b.new self.new) }
+        ensures step { OnOk result (IsStep b.new (form setting.now.pipe.now).pipe
+            (set_locks (members L.LockModule) b.old setting.now) (set_tickets b.old setting.now)
+            (stmt_view s.now).guards (stmt_view s.now).op (walk_in b.old self.old)
+            (walk_in b.new self.new)) }
         ensures extends { Extends b.old b.new }
     {
         let guards = s.guards.as_slice();
+        let pipe = setting.pipe;
+        let bits = setting.bits;
         match &s.op {
             Op::Bind { x, e } => self.bind(b, pipe, bits, guards, *x, e),
-            Op::CombRead { x, m, a } => self.read(
-                b, pipe, bits, locks, tickets, guards, *x, *m, *a,
-            ),
+            Op::CombRead { x, m, a } => self.read(b, setting, guards, *x, *m, *a),
             Op::Write { m, e, .. } => self.write(b, pipe, bits, guards, *m, e),
             Op::ReserveRead { .. } => Ok(()),
-            Op::ReserveWrite { m, a } => self.reserve(b, pipe, bits, locks, guards, *m, *a),
-            Op::Block { m, a } => self.block(b, pipe, bits, locks, tickets, guards, *m, *a),
+            Op::ReserveWrite { m, a } => self.reserve(b, setting, guards, *m, *a),
+            Op::Block { m, a } => self.block(b, setting, guards, *m, *a),
             Op::Release { m, a } => self.release(b, pipe, bits, guards, *m, *a),
             Op::Call(args) => self.call(alloc, b, pipe, bits, guards, args.as_slice()),
             _ => unreachable!(),
@@ -291,25 +308,23 @@ impl WalkNets {
         &mut self,
         alloc: Global,
         b: &mut Builder,
-        pipe: &FlatPipe,
-        bits: Bits,
-        locks: &[Option<MemLock<L>>],
-        tickets: &[Net],
+        setting: &Setting<'_, L>,
         stmts: &[Stmt],
         rows: &[usize],
     ) -> Result<(), NoMemory>
-        requires walk { IsWalkOf (form pipe.now) b.old self.old }
-        requires bits { AreBits b.old bits }
-        requires locks { AreLocked (members L.LockModule) b.old (form pipe.now).pipe locks.now }
-        requires tickets { AreTickets (members L.LockModule) b.old locks.now tickets.now }
-        requires typed { AreWalkedRows (form pipe.now) (stmts_view stmts.now) rows.now }
-        ensures walk { OnOk result (IsWalkOf (form pipe.now) b.new self.new) }
-        ensures steps { OnOk result (AreNetSteps (members L.LockModule) (form pipe.now).pipe locks.now tickets.now (map (stmt_at (stmts_view stmts.now)) rows.now) b.old self.old b.new self.new) }
+        requires walk { IsWalkOf (form setting.now.pipe.now) b.old self.old }
+        requires bits { AreBits b.old setting.now.bits }
+        requires locks { HasLocks (members L.LockModule) b.old setting.now }
+        requires tickets { HasTickets (members L.LockModule) b.old setting.now }
+        requires typed { AreWalkedRows (form setting.now.pipe.now) (stmts_view stmts.now) rows.now }
+        ensures walk { OnOk result (IsWalkOf (form setting.now.pipe.now) b.new self.new) }
+        ensures steps { OnOk result (AreSetSteps (members L.LockModule) setting.now
+            (map (stmt_at (stmts_view stmts.now)) rows.now) b.old self.old b.new self.new) }
         ensures extends { Extends b.old b.new }
     {
         for i in rows {
             let s = row(stmts, *i);
-            self.statement(alloc, b, pipe, bits, locks, tickets, s)?;
+            self.statement(alloc, b, setting, s)?;
         }
         Ok(())
     }
@@ -321,23 +336,22 @@ impl WalkNets {
         &mut self,
         alloc: Global,
         b: &mut Builder,
-        pipe: &FlatPipe,
-        bits: Bits,
-        locks: &[Option<MemLock<L>>],
-        tickets: &[Net],
+        setting: &Setting<'_, L>,
         stage: usize,
     ) -> Result<(), NoMemory>
-        requires walk { IsWalkOf (form pipe.now) b.old self.old }
-        requires bits { AreBits b.old bits }
-        requires locks { AreLocked (members L.LockModule) b.old (form pipe.now).pipe locks.now }
-        requires tickets { AreTickets (members L.LockModule) b.old locks.now tickets.now }
-        requires stage { stage < length (form pipe.now).pipe.stages }
-        requires typed { AreWalked (form pipe.now) (form pipe.now).pipe.stmts }
-        ensures walk { OnOk result (IsWalkOf (form pipe.now) b.new self.new) }
-        ensures steps { OnOk result (AreNetSteps (members L.LockModule) (form pipe.now).pipe locks.now tickets.now (in_stage stage (form pipe.now).pipe.stmts) b.old self.old b.new self.new) }
+        requires walk { IsWalkOf (form setting.now.pipe.now) b.old self.old }
+        requires bits { AreBits b.old setting.now.bits }
+        requires locks { HasLocks (members L.LockModule) b.old setting.now }
+        requires tickets { HasTickets (members L.LockModule) b.old setting.now }
+        requires stage { stage < length (form setting.now.pipe.now).pipe.stages }
+        requires typed { AreWalked (form setting.now.pipe.now)
+            (form setting.now.pipe.now).pipe.stmts }
+        ensures walk { OnOk result (IsWalkOf (form setting.now.pipe.now) b.new self.new) }
+        ensures steps { OnOk result (AreSetSteps (members L.LockModule) setting.now
+            (in_stage stage (form setting.now.pipe.now).pipe.stmts) b.old self.old b.new self.new) }
         ensures extends { Extends b.old b.new }
     {
-        let rows = pipe.rows(stage);
-        self.walk_rows(alloc, b, pipe, bits, locks, tickets, pipe.stmts(), rows)
+        let rows = setting.pipe.rows(stage);
+        self.walk_rows(alloc, b, setting, setting.pipe.stmts(), rows)
     }
 }

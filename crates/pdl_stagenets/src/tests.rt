@@ -3,7 +3,7 @@ ghost use Rattle.pdl_form.specs.Whole.{form};
 ghost use Rattle.pdl_flatnets.specs.Conditions.{AreBits};
 ghost use Rattle.pdl_stagenets.specs.Sized.{IsWalkOf, AreWalked};
 
-use crate::{MemLock, WalkNets};
+use crate::{MemLock, Setting, WalkNets};
 use pdl_build::Builder;
 use pdl_flatnets::Bits;
 use pdl_form::{FlatPipe, Next, Op, Stage, Stmt};
@@ -73,7 +73,13 @@ fn called(rt: HostRuntime) -> Result<(), Fail> {
     let held = nets.held(&b, bits, 0, 0);
     assert_eq!(rt; held, bits.zero);
     let locks: Vec<Option<MemLock<QueueLock>>> = Vec::new(rt.alloc());
-    nets.walk(rt.alloc(), &mut b, &flat, bits, locks.as_slice(), &[], 0)?;
+    let setting = Setting {
+        pipe: &flat,
+        bits,
+        locks: locks.as_slice(),
+        tickets: &[],
+    };
+    nets.walk(rt.alloc(), &mut b, &setting, 0)?;
     assert_eq!(rt; nets.births.len(), 1);
     assert_eq!(rt; nets.ready, bits.one);
     Ok(())

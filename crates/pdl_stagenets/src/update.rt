@@ -88,7 +88,8 @@ impl WalkNets {
         requires there { IsThere b.old net }
         requires wide { (signal b.old net).width ≡ slice_index (form pipe.now).widths x }
         ensures walk { OnOk result (IsWalkOf (form pipe.now) b.new self.new) }
-        ensures parts { OnOk result (parts_in b.new self.new ≡ with_var x (signal b.old on) (signal b.old net) (parts_in b.old self.old)) }
+        ensures parts { OnOk result (parts_in b.new self.new
+            ≡ with_var x (signal b.old on) (signal b.old net) (parts_in b.old self.old)) }
         ensures extends { Extends b.old b.new }
     {
         let old = self.variable(b, pipe, x);
@@ -115,7 +116,8 @@ impl WalkNets {
         requires there { IsThere b.old bit }
         requires one { (signal b.old bit).width ≡ 1 }
         ensures walk { OnOk result (IsWalkOf (form pipe.now) b.new self.new) }
-        ensures parts { OnOk result (parts_in b.new self.new ≡ with_held mem var (signal b.old on) (signal b.old bit) (parts_in b.old self.old)) }
+        ensures parts { OnOk result (parts_in b.new self.new
+            ≡ with_held mem var (signal b.old on) (signal b.old bit) (parts_in b.old self.old)) }
         ensures extends { Extends b.old b.new }
     {
         let old = self.held(b, bits, mem, var);
@@ -139,7 +141,11 @@ impl WalkNets {
         requires there { IsThere b.old net }
         requires one { (signal b.old net).width ≡ 1 }
         ensures walk { OnOk result (IsWalkOf (form pipe.now) b.new self.new) }
-        ensures parts { OnOk result (parts_in b.new self.new ≡ record (parts_in b.old self.old) { ready = both (parts_in b.old self.old).ready (if_on (signal b.old on) (signal b.old net)) }) }
+        ensures parts { OnOk result (parts_in b.new self.new
+            ≡ record (parts_in b.old self.old) {
+              ready = both (parts_in b.old self.old).ready
+                  (if_on (signal b.old on) (signal b.old net));
+            }) }
         ensures extends { Extends b.old b.new }
     {
         let asked = bits.pick(b, on, net, bits.one)?;
@@ -150,28 +156,49 @@ impl WalkNets {
 
     /// One more reservation for writing.
     pub(crate) fn push_reserve(&mut self, mem: usize, on: Net, addr: Net) -> Result<(), NoMemory>
-        ensures { OnOk result (self.new ≡ record self.old { reserves = self.old.reserves ++ record { mem = mem; on = on; addr = addr } ∷ [] }) }
+        ensures { OnOk result (self.new
+            ≡ record self.old {
+              reserves = self.old.reserves ++ record {
+                mem = mem;
+                on = on;
+                addr = addr;
+              } ∷ [];
+            }) }
     {
         self.reserves.push(ReserveNet { mem, on, addr })
     }
 
     /// One more write.
     pub(crate) fn push_put(&mut self, mem: usize, on: Net, value: Net) -> Result<(), NoMemory>
-        ensures { OnOk result (self.new ≡ record self.old { puts = self.old.puts ++ record { mem = mem; on = on; value = value } ∷ [] }) }
+        ensures { OnOk result (self.new
+            ≡ record self.old {
+              puts = self.old.puts ++ record {
+                mem = mem;
+                on = on;
+                value = value;
+              } ∷ [];
+            }) }
     {
         self.puts.push(PutNet { mem, on, value })
     }
 
     /// One more release of a write reservation.
     pub(crate) fn push_letting(&mut self, mem: usize, on: Net) -> Result<(), NoMemory>
-        ensures { OnOk result (self.new ≡ record self.old { lettings = self.old.lettings ++ record { mem = mem; on = on } ∷ [] }) }
+        ensures { OnOk result (self.new
+            ≡ record self.old {
+              lettings = self.old.lettings ++ record {
+                mem = mem;
+                on = on;
+              } ∷ [];
+            }) }
     {
         self.lettings.push(LettingNet { mem, on })
     }
 
     /// One more call.
     pub(crate) fn push_birth(&mut self, on: Net, args: Seq<Net>) -> Result<(), NoMemory>
-        ensures births { OnOk result (self.new.births.items ≡ record { on = on; args = args } ∷ self.old.births.items) }
+        ensures births { OnOk result (self.new.births.items
+            ≡ record { on = on; args = args } ∷ self.old.births.items) }
         ensures vars { self.new.vars ≡ self.old.vars }
         ensures held { self.new.held ≡ self.old.held }
         ensures ready { self.new.ready ≡ self.old.ready }

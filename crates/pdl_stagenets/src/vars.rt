@@ -52,7 +52,8 @@ impl WalkNets {
         requires walk { IsWalkOf (form pipe.now) b.old self.now }
         requires typed { IsTyped (form pipe.now).widths (expr_view e.now) }
         ensures means { IfOk result (λ x. Means b.new x (value_by b.old self.now e.now)) }
-        ensures wide { IfOk result (λ x. (signal b.new x).width ≡ width_in (form pipe.now).widths (expr_view e.now)) }
+        ensures wide { IfOk result (λ x.
+            (signal b.new x).width ≡ width_in (form pipe.now).widths (expr_view e.now)) }
         ensures extends { Extends b.old b.new }
     {
         exprs::value(b, self.vars.as_slice(), e)
@@ -67,10 +68,13 @@ impl WalkNets {
         args: &[Expr],
     ) -> Result<Seq<Net>, NoMemory>
         requires walk { IsWalkOf (form pipe.now) b.old self.now }
-        requires typed { AreArguments (form pipe.now).widths (param_widths (form pipe.now)) (exprs_view args.now) }
+        requires typed { AreArguments (form pipe.now).widths (param_widths (form pipe.now))
+            (exprs_view args.now) }
         ensures there { IfOk result (λ xs. NetsThere b.new xs) }
-        ensures means { IfOk result (λ xs. signals_in b.new xs ≡ values_by b.old self.now args.now) }
-        ensures wide { IfOk result (λ xs. widths_of (signals_in b.new xs) ≡ param_widths (form pipe.now)) }
+        ensures means { IfOk result (λ xs.
+            signals_in b.new xs ≡ values_by b.old self.now args.now) }
+        ensures wide { IfOk result (λ xs.
+            widths_of (signals_in b.new xs) ≡ param_widths (form pipe.now)) }
         ensures extends { Extends b.old b.new }
     {
         exprs::values(alloc, b, self.vars.as_slice(), args)

@@ -1,11 +1,10 @@
 -- A stage before its statements, of the parts with which it begins.
 use Rattle.std.proofs.Common.{◌≡◌, ℕ, zero, suc, ◌+◌, ◌<◌, ◌≤◌, ◌⊎◌, inl, inr, Bool, true, false, ◌&&◌, List, [], ◌∷◌, ◌++◌, map, length, replicate, get_or, append_assoc, append-nil, refl, sym, ap, ap₂, ◌∙◌, subst, arith, leb}
 use Rattle.std.specs.Prelude.{nat_le}
-use Rattle.std.proofs.lemmas.Bool.{false≢true}
 use Rattle.std.proofs.lemmas.Bool.Decides.{leb_tells}
 use Rattle.std.proofs.lemmas.List.{get_or_past}
-use Rattle.pdl_semantics.specs.Flat.{Pipe, Mem}
-use Rattle.pdl_semantics.specs.Stages.{reserve_stage, commit_stage, plain_mem}
+use Rattle.pdl_semantics.specs.Flat.{Pipe}
+use Rattle.pdl_semantics.specs.Stages.{reserve_stage, commit_stage}
 use Rattle.pdl_form.specs.Form.{Form}
 use Rattle.pdl_net.specs.declared.Net.{Net}
 use Rattle.pdl_net.specs.Circuit.{Circuit}
@@ -17,7 +16,7 @@ use Rattle.pdl_flatnets.specs.declared.bits.Bits.{Bits}
 use Rattle.pdl_flatnets.specs.Nets.{NetsThere, signals_in, signal_at, widths_of}
 use Rattle.pdl_flatnets.specs.Conditions.{AreBits}
 use Rattle.pdl_flatnets.proofs.NetLists.{length_widths}
-use Rattle.pdl_pipe_law.specs.Walk.{is_locked, has_kind, one, zero_bit}
+use Rattle.pdl_pipe_law.specs.Walk.{is_locked, one, zero_bit}
 use Rattle.pdl_lives.specs.Needs.{goes_with}
 use Rattle.pdl_stagenets.specs.declared.nets.HeldNet.{HeldNet}
 use Rattle.pdl_stagenets.specs.declared.nets.ReserveNet.{ReserveNet}
@@ -35,6 +34,7 @@ use Rattle.pdl_stageregs.specs.Stages.{IsFrame, IsBegun, IsBegunBy, IsSettled, b
 use Rattle.pdl_stageregs.specs.Begun.{IsBare, IsReady, IsAtFront, AreEnded, GainsHeld, IsLonger, HasVars, HasHeld, HasTicketNets}
 use Rattle.pdl_stageregs.proofs.Lists.{each_at, view_at, some_stage}
 use Rattle.pdl_stageregs.proofs.WholeBegun.{vars_keep, held_keep, tickets_keep}
+use Rattle.pdl_pipe_law.proofs.Next.{lock_there}
 
 -- ---- what is past the last
 
@@ -56,15 +56,8 @@ past_settled d f nexts ss (suc k) x p l low ends =
     ap (λ v. ended_item v (Var x)) (view_at d f.pipe ss k s (omega (arith, low)) is) ∙ past_all (signals_in d s.end.vars.items) f.widths x end.0.sized.vars l in
     ((0, 0, same ∙ none_const), sym same)
 
-pub locked_low : (p : Pipe) (m : ℕ) → is_locked p m ≡ true → m < length p.mems
-locked_low p m e = at (leb_tells (suc m) (length p.mems))
-  where
-    at : ((leb (suc m) (length p.mems) ≡ true) × (suc m ≤ length p.mems)) ⊎ ((leb (suc m) (length p.mems) ≡ false) × (length p.mems < suc m)) → m < length p.mems
-    at (inl q) = let r = q.1 in omega (arith, r)
-    at (inr q) = let r = q.1 in absurd (false≢true (sym (ap (λ (x : Mem). has_kind x.lock) (get_or_past p.mems m plain_mem (omega (arith, r)))) ∙ e))
-
 goes_low : (p : Pipe) (k m : ℕ) → goes_with p k m ≡ true → m < length p.mems
-goes_low p k m e = locked_low p m (left (is_locked p m) (nat_le (suc (reserve_stage p m)) k && nat_le k (commit_stage p m)) e)
+goes_low p k m e = lock_there p m (left (is_locked p m) (nat_le (suc (reserve_stage p m)) k && nat_le k (commit_stage p m)) e)
   where
     left : (a b : Bool) → (a && b) ≡ true → a ≡ true
     left true b q = refl

@@ -1,6 +1,6 @@
 -- What calls bring, the last call first.
 use Rattle.std.proofs.Common.{◌≡◌, ℕ, suc, ◌+◌, ◌<◌, ◌≤◌, List, [], ◌∷◌, ◌++◌, map, length, drop, get_or, refl, sym, ap, ap₂, ◌∙◌, arith}
-use Rattle.std.proofs.lemmas.List.{drop_more, drop_all}
+use Rattle.std.proofs.lemmas.List.{drop_more}
 use Rattle.pdl_net.specs.declared.Net.{Net}
 use Rattle.pdl_net.specs.Circuit.{Circuit}
 use Rattle.pdl_net.specs.Signal.{Signal, mux_signal}
@@ -37,9 +37,6 @@ birth_keep a b w what x e h = record {
 -- the calls of a stage from k on
 abbrev pub from_call : Circuit → Signal → Brings → List BirthNet → ℕ → Signal → Signal
 from_call a m what xs k rest = picked (brings what) (map (new_by m) (map (birth_in a) (drop k xs))) rest
-
-pub from_none : (a : Circuit) (m : Signal) (what : Brings) (xs : List BirthNet) (k : ℕ) (rest : Signal) → length xs ≤ k → from_call a m what xs k rest ≡ rest
-from_none a m what xs k rest l = ap (λ ys. picked (brings what) (map (new_by m) (map (birth_in a) ys)) rest) (drop_all k xs l)
 
 pub from_more : (a : Circuit) (m : Signal) (what : Brings) (xs : List BirthNet) (k : ℕ) (x : BirthNet) (rest : Signal) → k < length xs → x ≡ get_or xs k x
     → from_call a m what xs k rest ≡ mux_signal (both m (signal a x.on)) (brings_of what (signals_in a x.args)) (from_call a m what xs (k + 1) rest)

@@ -22,7 +22,7 @@ use Rattle.pdl_stageregs.specs.declared.nets.StageNets.{StageNets}
 use Rattle.pdl_stageregs.specs.Items.{item_at, ended_item, comer_item}
 use Rattle.pdl_stageregs.specs.Stages.{reg_of, end_of, view_in, views_in}
 use Rattle.pdl_stageregs.specs.Moves.{AreMovesThere, moves_in, moves_at, no_moves}
-use Rattle.pdl_stageregs.specs.Comes.{IsRegNow, TakesNext, HasItem, FitsBehind, FitsArg, FitsFirst, IsAt, AreFit, IsConnected, arriving, regs_of}
+use Rattle.pdl_stageregs.specs.Comes.{IsRegNow, TakesNext, FitsBehind, FitsArg, FitsFirst, IsAt, AreFit, IsConnected, arriving, regs_of}
 use Rattle.pdl_stageregs.proofs.Taken.{reg_keep, reg_wide, up_to, but_more}
 use Rattle.pdl_stageregs.proofs.Entered.{ended_keep}
 use Rattle.pdl_stageregs.proofs.NewKept.{births_keep}
@@ -53,9 +53,6 @@ module _ (a b : Circuit) (p : Pipe) (before s : StageNets) (keeps : Keeps a b) (
       e
       ∙ ap₂ (λ (f g : Signal). mux_signal f g (reg_signal g.width r)) (keeps.kept comes there) net_same
       ∙ ap (mux_signal (signal a comes) (ended_item (view_in a p before) (item_at s.kept i))) (sym now)
-
-pub item_keep : (s : StageNets) (i j : Item) → i ≡ j → HasItem s i → HasItem s j
-item_keep s i j e h = subst (HasItem s) e h
 
 -- ---- registers of the first stage
 

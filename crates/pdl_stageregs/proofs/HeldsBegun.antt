@@ -1,7 +1,7 @@
 -- The locations with which a stage begins as held, one after the other.
-use Rattle.std.proofs.Common.{◌≡◌, inl, inr, ◌⊎◌, ℕ, ◌+◌, ◌<◌, ◌==◌, Bool, true, false, ◌&&◌, ◌||◌, List, [], ◌∷◌, ◌++◌, map, length, append-nil, refl, sym, ap, ◌∙◌, subst}
+use Rattle.std.proofs.Common.{◌≡◌, inl, inr, ◌⊎◌, ℕ, ◌+◌, ◌<◌, ◌==◌, Bool, true, false, ◌&&◌, ◌||◌, List, [], ◌∷◌, ◌++◌, map, length, refl, sym, ap, ◌∙◌, subst}
 use Rattle.std.specs.Prelude.{if◌then◌else◌}
-use Rattle.std.proofs.lemmas.Bool.{false≢true}
+use Rattle.std.proofs.lemmas.Bool.{false≢true, and_parts, or_left, or_right}
 use Rattle.std.proofs.lemmas.Bool.{eqb-true}
 use Rattle.pdl_form.specs.Form.{Form}
 use Rattle.pdl_net.specs.declared.Net.{Net}
@@ -9,7 +9,7 @@ use Rattle.pdl_net.specs.Circuit.{Circuit}
 use Rattle.pdl_net.specs.Signal.{Signal}
 use Rattle.pdl_net.specs.Meaning.{signal, IsThere}
 use Rattle.pdl_net.specs.Growth.{Extends}
-use Rattle.pdl_net.proofs.Keeps.{extends_trans, extends_refl}
+use Rattle.pdl_net.proofs.Keeps.{extends_trans}
 use Rattle.pdl_pipe_law.specs.Lives.{holds}
 use Rattle.pdl_pipe_law.specs.Walk.{zero_bit}
 use Rattle.pdl_stagenets.specs.declared.nets.HeldNet.{HeldNet}
@@ -66,13 +66,8 @@ held_none c (x ∷ xs) m v e = at (is_it x m v) e (λ q. held_none c xs m v q)
     at true q f = absurd (false≢true (sym q))
     at false q f = f q
 
-both_true : (a b : Bool) → (a && b) ≡ true → (a ≡ true) × (b ≡ true)
-both_true true true e = (refl, refl)
-both_true true false e = absurd (false≢true e)
-both_true false b e = absurd (false≢true e)
-
 is_it_same : (h : HeldNet) (m v : ℕ) → is_it h m v ≡ true → (h.mem ≡ m) × (h.var ≡ v)
-is_it_same h m v e = let q = both_true (h.mem == m) (h.var == v) e in (eqb-true h.mem m q.0, eqb-true h.var v q.1)
+is_it_same h m v e = let q = and_parts (h.mem == m) (h.var == v) e in (eqb-true h.mem m q.0, eqb-true h.var v q.1)
 
 -- ---- the first of the locations that the stage before has
 
@@ -97,33 +92,9 @@ pub record HeldsSoFar (a c : Circuit) (f : Form) (nexts : List Signal) (k : ℕ)
   pub tickets : s.tickets ≡ s0.tickets
   pub end : s.end ≡ s0.end
 
-pub helds_none : (a : Circuit) (f : Form) (nexts : List Signal) (k : ℕ) (before s : StageNets) → IsFrame a f nexts k s → AreOwn f k s → s.held ≡ [] → HeldsSoFar a a f nexts k before s s []
-helds_none a f nexts k before s h o e = record {
-  own = o;
-  extends = extends_refl a;
-  frame = h;
-  there = subst (Each (λ (x : HeldNet). IsThere a x.net)) (sym e) tt;
-  one = subst (Each (λ (x : HeldNet). (signal a x.net).width ≡ 1)) (sym e) tt;
-  sound = λ m v q. ap (λ hs. is_listed hs m v) (sym e) ∙ q;
-  listed = λ m v need q. absurd (false≢true q);
-  begun = λ m v q. absurd (false≢true (ap (λ hs. is_listed hs m v) (sym e) ∙ q));
-  valid = refl;
-  kept = ([], sym (append-nil s.kept));
-  vars = refl;
-  tickets = refl;
-  end = refl;
-}
-
 or_cases : (a b : Bool) → (a || b) ≡ true → (a ≡ true) ⊎ ((a ≡ false) × (b ≡ true))
 or_cases true b e = inl refl
 or_cases false b e = inr (refl, e)
-
-left_true : (a b : Bool) → a ≡ true → (a || b) ≡ true
-left_true a b e = ap (λ x. x || b) e
-
-right_true : (a b : Bool) → b ≡ true → (a || b) ≡ true
-right_true true b e = refl
-right_true false b e = e
 
 module _ (a b c : Circuit) (f : Form) (nexts : List Signal) (k : ℕ) (before s0 s s' : StageNets) (hs : List HeldNet) (h : HeldNet) (bc : Extends b c) (last : end_of s' ≡ length c.regs)
     (same : (m v : ℕ) → held_of (parts_in b before.end).held m v ≡ held_of (parts_in a before.end).held m v) (so : HeldsSoFar a b f nexts k before s0 s hs) (behind : 0 < k) where
@@ -144,7 +115,7 @@ module _ (a b c : Circuit) (f : Form) (nexts : List Signal) (k : ℕ) (before s0
     frame = frame_kept f nexts k b c s bc (ap end_of (sym e) ∙ last) so.frame;
     there = there_now;
     one = one_now s.held so.there so.one;
-    sound = λ m v q. listed_more hs h m v ∙ left_true (is_listed hs m v) (is_it h m v) (so.sound m v q);
+    sound = λ m v q. listed_more hs h m v ∙ or_left (is_listed hs m v) (is_it h m v) (so.sound m v q);
     listed = λ m v need q. seen m v need (or_cases (is_listed hs m v) (is_it h m v) (sym (listed_more hs h m v) ∙ q));
     begun = λ m v q. subst (λ g. IsBegunBy f nexts s (Held m v) g (Settles a before m v)) (held_now m v) (so.begun m v q);
     own = so.own;
@@ -209,12 +180,12 @@ module _ (a b c : Circuit) (f : Form) (nexts : List Signal) (k : ℕ) (before s0
         }
       where
         sounds : (m v : ℕ) → (is_listed s.held m v ≡ true) ⊎ ((is_listed s.held m v ≡ false) × (is_it y m v ≡ true)) → (is_listed hs m v || is_it h m v) ≡ true
-        sounds m v (inl q) = left_true (is_listed hs m v) (is_it h m v) (so.sound m v q)
-        sounds m v (inr q) = right_true (is_listed hs m v) (is_it h m v) q.1
+        sounds m v (inl q) = or_left (is_listed hs m v) (is_it h m v) (so.sound m v q)
+        sounds m v (inr q) = or_right (is_listed hs m v) (is_it h m v) q.1
 
         seen : (m v : ℕ) → holds f.pipe k m v ≡ true → (is_listed hs m v ≡ true) ⊎ ((is_listed hs m v ≡ false) × (is_it h m v ≡ true)) → (is_listed s.held m v || is_it y m v) ≡ true
-        seen m v need (inl q) = left_true (is_listed s.held m v) (is_it y m v) (so.listed m v need q)
-        seen m v need (inr q) = right_true (is_listed s.held m v) (is_it y m v) q.1
+        seen m v need (inl q) = or_left (is_listed s.held m v) (is_it y m v) (so.listed m v need q)
+        seen m v need (inr q) = or_right (is_listed s.held m v) (is_it y m v) q.1
 
         by : (m v : ℕ) → (is_listed s.held m v ≡ true) ⊎ ((is_listed s.held m v ≡ false) × (is_it y m v ≡ true)) → IsBegunBy f nexts (with_held t (s.held ++ y ∷ [])) (Held m v) (held_of (map (held_in c) (s.held ++ y ∷ [])) m v) (Settles a before m v)
         by m v (inl q) = there m v q

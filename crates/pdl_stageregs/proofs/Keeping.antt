@@ -6,7 +6,7 @@ use Rattle.pdl_kit.specs.declared.no_memory.NoMemory.{NoMemory}
 use Rattle.pdl_semantics.specs.Flat.{Pipe}
 use Rattle.pdl_form.specs.Form.{Form}
 use Rattle.pdl_net.specs.declared.Net.{Net}
-use Rattle.pdl_net.specs.Circuit.{Circuit, HasReg}
+use Rattle.pdl_net.specs.Circuit.{Circuit}
 use Rattle.pdl_net.specs.Signal.{Signal}
 use Rattle.pdl_net.specs.Meaning.{signal}
 use Rattle.pdl_net.specs.Growth.{Keeps}
@@ -23,7 +23,6 @@ use Rattle.pdl_stageregs.specs.Stages.{end_of, IsRegister, IsSettled, view_in, v
 use Rattle.pdl_stageregs.specs.Begun.{IsShared, AreEnded, MayAdd, MayKeep}
 use Rattle.pdl_stageregs.proofs.Lists.{each_at, each_map, view_at, some_stage}
 use Rattle.pdl_stageregs.proofs.Entered.{ended_keep, keep_may}
-use Rattle.pdl_stageregs.proofs.Taken.{reg_below}
 
 pub shared_keep : (a b : Circuit) (f : Form) (x : Shared) → Keeps a b → IsShared a f x → IsShared b f x
 shared_keep a b f x e h = record {
@@ -89,14 +88,3 @@ if_ok (Ok x) P Q f h = f x h
 if_ok (Err e) P Q f h = h
 
 -- ---- the registers grow
-
-below_reg : (c : Circuit) (r : ℕ) → r < length c.regs → HasReg c r
-unfolding HasReg
-below_reg c r l = l
-
-pub regs_grow : (a b : Circuit) → Keeps a b → length a.regs ≤ length b.regs
-regs_grow a b e = at (length a.regs) refl
-  where
-    at : (n : ℕ) → n ≡ length a.regs → length a.regs ≤ length b.regs
-    at zero q = omega (arith, q)
-    at (suc n) q = let l = reg_below b n (e.has_reg n (below_reg a n (omega (arith, q)))) in omega (arith, q, l)

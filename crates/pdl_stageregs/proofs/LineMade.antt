@@ -11,7 +11,7 @@ use Rattle.pdl_net.specs.Circuit.{Circuit, port_input}
 use Rattle.pdl_net.specs.Signal.{Signal, input_signal, mux_signal, reg_signal}
 use Rattle.pdl_net.specs.Meaning.{signal, IsThere}
 use Rattle.pdl_net.specs.Growth.{Keeps, Extends, ExtendsBut}
-use Rattle.pdl_net.proofs.Keeps.{but_keeps, but_trans, but_extends, extends_trans}
+use Rattle.pdl_net.proofs.Keeps.{but_keeps, but_trans, but_extends, extends_trans, regs_grow}
 use Rattle.pdl_net.specs.Well.{IsWell}
 use Rattle.pdl_flatnets.specs.Nets.{NetsThere, signals_in, signal_at, widths_of}
 use Rattle.pdl_stagenets.specs.Sized.{IsWalk}
@@ -35,7 +35,6 @@ use Rattle.pdl_stageregs.specs.Staged.{IsStaged, AreStaged, AreApart, IsPlainLin
 use Rattle.pdl_stageregs.proofs.Lists.{view_at, some_stage}
 use Rattle.pdl_stageregs.proofs.StagedMade.{begun_parts_keep, staged_keep}
 use Rattle.pdl_stageregs.proofs.Taken.{but_more}
-use Rattle.pdl_stageregs.proofs.Keeping.{regs_grow}
 use Rattle.pdl_stageregs.proofs.Connecting.{HasAll}
 use Rattle.pdl_stageregs.proofs.Meets.{is_stage}
 use Rattle.pdl_stageregs.proofs.StartMade.{is_start}

@@ -1,8 +1,7 @@
 -- All stages meet the law, in each circuit in which they take next what they should.
-use Rattle.std.proofs.Common.{◌≡◌, ℕ, zero, suc, ◌<◌, ◌≤◌, ◌==◌, Bool, true, false, ◌&&◌, inl, inr, ◌⊎◌, List, [], ◌∷◌, length, take, refl, sym, ap, ap₂, ◌∙◌, subst, arith, get_or, leb}
+use Rattle.std.proofs.Common.{◌≡◌, ℕ, zero, suc, ◌<◌, ◌≤◌, ◌==◌, Bool, true, false, ◌&&◌, inl, inr, ◌⊎◌, List, [], ◌∷◌, length, take, refl, sym, ap, ap₂, ◌∙◌, subst, arith, get_or}
 use Rattle.std.specs.Prelude.{if◌then◌else◌, slice_index, nat_le}
-use Rattle.std.proofs.lemmas.Bool.{false≢true, le-leb}
-use Rattle.std.proofs.lemmas.Bool.Decides.{leb_tells}
+use Rattle.std.proofs.lemmas.Bool.{false≢true, le-leb, lt-leb}
 use Rattle.std.proofs.lemmas.List.{length-take, length-replicate}
 use Rattle.pdl_semantics.specs.Flat.{Pipe}
 use Rattle.pdl_semantics.specs.Stages.{in_stage, stage_at, reserve_stage, commit_stage}
@@ -48,13 +47,6 @@ calls_short n ws (b ∷ bs) h =
     let t = length-take n ws in
     (omega (arith, e, t), calls_short n ws bs h.1)
 
-not_leb : (a b : ℕ) → b < a → leb a b ≡ false
-not_leb a b l = at (leb_tells a b)
-  where
-    at : ((leb a b ≡ true) × (a ≤ b)) ⊎ ((leb a b ≡ false) × (b < a)) → leb a b ≡ false
-    at (inl q) = let r = q.1 in absurd (omega (arith, r, l))
-    at (inr q) = q.0
-
 -- a ticket that is the thread's own
 own_ticket : (p : Pipe) (k m : ℕ) → is_locked p m ≡ true → reserve_stage p m < k → k ≤ commit_stage p m → goes_with p k m ≡ true
 own_ticket p k m e low high =
@@ -64,7 +56,7 @@ own_ticket p k m e low high =
 -- and one that isn't
 pub no_ticket : (p : Pipe) (k m : ℕ) → k ≤ reserve_stage p m → goes_with p k m ≡ false
 no_ticket p k m l =
-    ap (λ b. is_locked p m && (b && nat_le k (commit_stage p m))) (not_leb (suc (reserve_stage p m)) k (omega (arith, l))) ∙ never (is_locked p m)
+    ap (λ b. is_locked p m && (b && nat_le k (commit_stage p m))) (lt-leb (suc (reserve_stage p m)) k (omega (arith, l))) ∙ never (is_locked p m)
   where
     never : (b : Bool) → (b && false) ≡ false
     never true = refl

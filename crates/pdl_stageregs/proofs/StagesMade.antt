@@ -5,7 +5,7 @@ use Rattle.pdl_form.specs.Form.{Form}
 use Rattle.pdl_net.specs.Circuit.{Circuit}
 use Rattle.pdl_net.specs.Signal.{Signal}
 use Rattle.pdl_net.specs.Growth.{Keeps, Extends}
-use Rattle.pdl_net.proofs.Keeps.{extends_keeps, extends_trans}
+use Rattle.pdl_net.proofs.Keeps.{extends_keeps, extends_trans, regs_grow}
 use Rattle.pdl_flatnets.specs.Nets.{NetsThere, signals_in, widths_of}
 use Rattle.pdl_flatnets.proofs.NetLists.{signals_keep}
 use Rattle.pdl_pipe_law.specs.Walk.{Locks}
@@ -17,7 +17,7 @@ use Rattle.pdl_stageregs.specs.Stages.{end_of, AreOwn}
 use Rattle.pdl_stageregs.specs.Begun.{IsShared, AreEnded}
 use Rattle.pdl_stageregs.specs.Staged.{IsStaged, AreStaged, AreApart}
 use Rattle.pdl_stageregs.specs.Comes.{IsAt}
-use Rattle.pdl_stageregs.proofs.Keeping.{shared_keep, ended_all, regs_grow}
+use Rattle.pdl_stageregs.proofs.Keeping.{shared_keep, ended_all}
 use Rattle.pdl_stageregs.proofs.StagedMade.{all_staged, at_more}
 
 apart_none : (low high : ℕ) → AreApart low high []

@@ -1,5 +1,5 @@
 -- At the start the first stage holds the first thread's arguments, and nothing is held.
-use Rattle.std.proofs.Common.{◌≡◌, ℕ, zero, suc, ◌-◌, ◌<◌, ◌≤◌, true, inl, inr, List, [], ◌∷◌, ◌++◌, length, replicate, refl, sym, ◌∙◌, subst}
+use Rattle.std.proofs.Common.{◌≡◌, ℕ, ◌-◌, ◌<◌, ◌≤◌, true, inl, inr, List, [], ◌∷◌, ◌++◌, length, sym, ◌∙◌, subst}
 use Rattle.std.specs.Prelude.{slice_index}
 use Rattle.pdl_semantics.specs.Flat.{start_env}
 use Rattle.pdl_form.specs.Form.{Form}
@@ -18,17 +18,7 @@ use Rattle.pdl_stageregs.specs.Stages.{reg_of, IsRegister, IsBegunBy, IsSettled,
 use Rattle.pdl_stageregs.specs.Staged.{IsStaged, AreStaged}
 use Rattle.pdl_stageregs.proofs.Lists.{view_at, some_stage}
 use Rattle.pdl_stageregs.proofs.Meets.{past_start}
-
-zeros_at : (n x : ℕ) → slice_index (replicate n 0) x ≡ 0
-zeros_at zero x = refl
-zeros_at (suc n) zero = refl
-zeros_at (suc n) (suc x) = zeros_at n x
-
--- arguments with zeros behind them
-padded_at : (vs : List ℕ) (n x : ℕ) → slice_index (vs ++ replicate n 0) x ≡ slice_index vs x
-padded_at [] n x = zeros_at n x
-padded_at (v ∷ vs) n zero = refl
-padded_at (v ∷ vs) n (suc x) = padded_at vs n x
+use Rattle.pdl_pipe_law.proofs.First.{padded_at}
 
 module _ (c d : Circuit) (f : Form) (nexts : List Signal) (ls : Locks) (ss : List StageNets) (keeps : Keeps c d) (all : AreStaged c f nexts ls ss) where
   starts_at : (w r n : ℕ) → IsRegister c r w n → StartsAs d (reg_signal w r) n

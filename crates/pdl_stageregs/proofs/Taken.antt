@@ -1,10 +1,10 @@
 -- Registers of a stage that are told what they take next, one after the other.
-use Rattle.std.proofs.Common.{◌≡◌, inl, inr, ◌⊎◌, ℕ, ◌+◌, ◌<◌, ◌≤◌, length, sym, ap, ◌∙◌, subst, arith, leb, true, false}
+use Rattle.std.proofs.Common.{◌≡◌, inl, inr, ◌⊎◌, ℕ, ◌+◌, ◌<◌, ◌≤◌, length, ◌∙◌, subst, arith, leb, true, false}
 use Rattle.std.proofs.lemmas.Bool.Decides.{leb_tells}
 use Rattle.pdl_net.specs.declared.Net.TheVariants.{Reg as RegNet}
 use Rattle.pdl_net.specs.Circuit.{Circuit, HasReg}
 use Rattle.pdl_net.specs.Signal.{Signal}
-use Rattle.pdl_net.specs.Meaning.{signal, IsThere, next_signal}
+use Rattle.pdl_net.specs.Meaning.{signal, next_signal}
 use Rattle.pdl_net.specs.Growth.{Own, Outside, Keeps, ExtendsBut}
 use Rattle.pdl_net.proofs.Keeps.{but_trans}
 use Rattle.pdl_build.specs.Change.{one_reg}
@@ -12,7 +12,7 @@ use Rattle.pdl_stageregs.specs.declared.nets.Item.{Item}
 use Rattle.pdl_stageregs.specs.declared.nets.StageNets.{StageNets}
 use Rattle.pdl_stageregs.specs.Items.{item_at}
 use Rattle.pdl_stageregs.specs.Stages.{reg_of, end_of}
-use Rattle.pdl_stageregs.specs.Comes.{IsRegNow, TakesNext, regs_of}
+use Rattle.pdl_stageregs.specs.Comes.{IsRegNow, regs_of}
 
 -- ---- ranges
 
@@ -53,10 +53,6 @@ up_to P i h k j l = at (leb_tells (j + 1) i)
 
 -- ---- registers
 
-pub reg_below : (c : Circuit) (r : ℕ) → HasReg c r → r < length c.regs
-unfolding HasReg
-reg_below c r h = h
-
 pub reg_keep : (a b : Circuit) (r w : ℕ) → Keeps a b → IsRegNow a r w → IsRegNow b r w
 reg_keep a b r w e h = record {
   has = e.has_reg r h.has;
@@ -74,13 +70,6 @@ pub record AreTaken (a b : Circuit) (s : StageNets) (thread : Signal) (next : It
   pub valid : next_signal b s.valid ≡ thread
   pub kept : (j : ℕ) → j < i → next_signal b (reg_of s j) ≡ next (item_at s.kept j) (signal a (RegNet (reg_of s j)))
 
-pub taken_none : (a b : Circuit) (s : StageNets) (valid : Signal) (next : Item → Signal → Signal) → ExtendsBut (one_reg s.valid) a b → next_signal b s.valid ≡ valid → AreTaken a b s valid next 0
-taken_none a b s valid next x e = record {
-  extends = but_one a b s.valid (end_of s) s.valid (omega arith) (omega arith) x;
-  valid = e;
-  kept = λ j l. absurd (omega (arith, l));
-}
-
 pub taken_more : (a b c : Circuit) (s : StageNets) (valid : Signal) (next : Item → Signal → Signal) (i r : ℕ) → r ≡ reg_of s i → i < length s.kept
     → HasReg a s.valid → ((j : ℕ) → j < length s.kept → HasReg a (reg_of s j)) → ExtendsBut (one_reg r) b c
     → next_signal c r ≡ next (item_at s.kept i) (signal a (RegNet r)) → AreTaken a b s valid next i → AreTaken a c s valid next (i + 1)
@@ -93,9 +82,3 @@ taken_more a b c s valid next i r is l hv hs x e h =
       kept = up_to (λ j. next_signal c (reg_of s j) ≡ next (item_at s.kept j) (signal a (RegNet (reg_of s j)))) i
           (λ j m. x'.nexts (reg_of s j) (h.extends.has_reg (reg_of s j) (hs j (omega (arith, m, l)))) (inl (omega (arith, m))) ∙ h.kept j m) e';
     }
-
-pub taken_all : (a b : Circuit) (s : StageNets) (valid : Signal) (next : Item → Signal → Signal) (i : ℕ) → length s.kept ≤ i → ((j : ℕ) → j < length s.kept → IsThere a (RegNet (reg_of s j))) → AreTaken a b s valid next i → TakesNext b s valid next
-taken_all a b s valid next i l t h = record {
-  valid = h.valid;
-  kept = λ j m. h.kept j (omega (arith, l, m)) ∙ ap (next (item_at s.kept j)) (sym (h.extends.kept (RegNet (reg_of s j)) (t j m)));
-}

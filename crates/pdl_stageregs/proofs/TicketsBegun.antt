@@ -1,21 +1,21 @@
 -- The tickets with which a stage begins, one after the other.
-use Rattle.std.proofs.Common.{◌≡◌, inl, ℕ, zero, suc, ◌+◌, ◌<◌, ◌≤◌, Bool, List, [], ◌∷◌, ◌++◌, length, take, append-nil, refl, sym, ap, ap₂, ◌∙◌, subst, arith, true, false}
+use Rattle.std.proofs.Common.{◌≡◌, inl, ℕ, zero, suc, ◌+◌, ◌<◌, ◌≤◌, Bool, List, [], ◌∷◌, ◌++◌, length, take, refl, sym, ap, ap₂, ◌∙◌, subst, arith, true, false}
 use Rattle.std.proofs.lemmas.Bool.{false≢true}
-use Rattle.std.proofs.lemmas.List.{length-append, take_more, take_all}
+use Rattle.std.proofs.lemmas.List.{length-append, take_more}
 use Rattle.pdl_form.specs.Form.{Form}
 use Rattle.pdl_net.specs.declared.Net.{Net}
 use Rattle.pdl_net.specs.Circuit.{Circuit}
 use Rattle.pdl_net.specs.Signal.{Signal}
 use Rattle.pdl_net.specs.Meaning.{signal}
 use Rattle.pdl_net.specs.Growth.{Extends}
-use Rattle.pdl_net.proofs.Keeps.{extends_trans, extends_refl, extends_keeps}
+use Rattle.pdl_net.proofs.Keeps.{extends_trans, extends_keeps}
 use Rattle.pdl_flatnets.specs.Nets.{NetsThere, signals_in, signal_at, widths_of}
 use Rattle.pdl_flatnets.proofs.NetLists.{there_keeps, signals_keep, net_more, width_at, length_widths}
 use Rattle.pdl_lives.specs.Needs.{goes_with}
 use Rattle.pdl_stageregs.specs.declared.nets.Item.TheVariants.{Ticket}
 use Rattle.pdl_stageregs.specs.declared.nets.StageNets.{StageNets}
-use Rattle.pdl_stageregs.specs.Stages.{end_of, IsFrame, IsBegunBy, IsSettled, AreOwn}
-use Rattle.pdl_stageregs.specs.Begun.{MayAdd, MayKeep, IsAtFront, HasTicketNets}
+use Rattle.pdl_stageregs.specs.Stages.{end_of, IsFrame, IsBegunBy, AreOwn}
+use Rattle.pdl_stageregs.specs.Begun.{MayAdd, MayKeep, IsAtFront}
 use Rattle.pdl_stageregs.proofs.Taken.{up_to}
 use Rattle.pdl_stageregs.proofs.Entered.{frame_may, own_more, own_ticket, keep_may, by_may, by_new, by_weaker, may_there, may_wide}
 use Rattle.pdl_stageregs.proofs.Meets.{no_ticket}
@@ -43,23 +43,6 @@ pub record TicketsSoFar (a c : Circuit) (f : Form) (nexts : List Signal) (k : �
   pub vars : s.vars ≡ s0.vars
   pub held : s.held ≡ s0.held
   pub end : s.end ≡ s0.end
-
-pub tickets_none : (a : Circuit) (f : Form) (nexts : List Signal) (k : ℕ) (s : StageNets) → IsFrame a f nexts k s → AreOwn f k s → s.tickets ≡ [] → TicketsSoFar a a f nexts k s s 0
-tickets_none a f nexts k s h o e = record {
-  own = o;
-  extends = extends_refl a;
-  frame = h;
-  there = subst (NetsThere a) (sym e) tt;
-  count = ap length e;
-  wide = ap (λ xs. widths_of (signals_in a xs)) e;
-  begun = λ y l. absurd (omega (arith, l));
-  next = λ y l. absurd (omega (arith, l));
-  valid = refl;
-  kept = ([], sym (append-nil s.kept));
-  vars = refl;
-  held = refl;
-  end = refl;
-}
 
 -- a stage keeps only tickets of a thread's own
 pub keep_ticket : (c : Circuit) (f : Form) (k m : ℕ) (s t : StageNets) (w v : ℕ) (net : Net) (S : Signal → Type 0) → m < length f.pipe.mems → (goes_with f.pipe k m ≡ false → t ≡ s) → MayAdd c s t (Ticket m) w v net S → MayKeep f k (Ticket m) s t
@@ -128,11 +111,3 @@ tickets_more a b c f nexts k s0 s t m net S low bc may last settles is_next keep
     new =
         subst (λ g. IsBegunBy f nexts t (Ticket m) g (IsNext f nexts k m)) new_is
         (by_weaker f nexts t (Ticket m) (signal c net) S (IsNext f nexts k m) (settles (signal c net)) (by_new f nexts c s t (Ticket m) (signal_at nexts m).width 0 net S may refl))
-
-pub tickets_all : (a c : Circuit) (f : Form) (nexts : List Signal) (ss : List StageNets) (k : ℕ) (s0 s : StageNets) (m : ℕ) → length nexts ≤ m → length nexts ≡ length f.pipe.mems → TicketsSoFar a c f nexts k s0 s m → HasTicketNets a c f nexts ss k s
-tickets_all a c f nexts ss k s0 s m l e h = record {
-  there = h.there;
-  wide = h.wide ∙ take_all m (widths_of nexts) (let n = length_widths nexts in omega (arith, l, n));
-  next = λ i low q. h.next i (omega (arith, low, l, e)) q;
-  begun = λ i low need. by_weaker f nexts s (Ticket i) (signal_at (signals_in c s.tickets) i) (IsNext f nexts k i) (IsSettled a f.pipe ss k (Ticket i)) (λ q. absurd (false≢true (sym q.0 ∙ need))) (h.begun i (omega (arith, low, l, e)));
-}

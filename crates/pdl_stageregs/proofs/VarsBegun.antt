@@ -1,6 +1,6 @@
 -- The variables with which a stage begins, one after the other.
 use Rattle.std.proofs.Common.{◌≡◌, inl, inr, ℕ, ◌+◌, ◌<◌, ◌≤◌, List, [], ◌∷◌, ◌++◌, length, take, append_assoc, refl, sym, ap, ap₂, ◌∙◌, subst, arith, true}
-use Rattle.std.proofs.lemmas.List.{get_or_append_left, length-append, take_more, take_all}
+use Rattle.std.proofs.lemmas.List.{get_or_append_left, length-append, take_more}
 use Rattle.std.proofs.Math.Seq.{get_or-append_seam}
 use Rattle.std.specs.Prelude.{slice_index}
 use Rattle.pdl_form.specs.Form.{Form}
@@ -9,7 +9,7 @@ use Rattle.pdl_net.specs.Circuit.{Circuit}
 use Rattle.pdl_net.specs.Signal.{Signal, no_signal}
 use Rattle.pdl_net.specs.Meaning.{signal}
 use Rattle.pdl_net.specs.Growth.{Extends}
-use Rattle.pdl_net.proofs.Keeps.{extends_trans, extends_refl, extends_keeps}
+use Rattle.pdl_net.proofs.Keeps.{extends_trans, extends_keeps}
 use Rattle.pdl_flatnets.specs.Nets.{NetsThere, signals_in, signal_at, widths_of}
 use Rattle.pdl_flatnets.proofs.NetLists.{there_keeps, signals_keep, net_more, length_signals}
 use Rattle.pdl_pipe_law.specs.Lives.{lives}
@@ -18,7 +18,7 @@ use Rattle.pdl_stageregs.specs.declared.nets.Item.TheVariants.{Var}
 use Rattle.pdl_stageregs.specs.declared.nets.StageNets.{StageNets}
 use Rattle.pdl_stageregs.specs.Items.{first_value}
 use Rattle.pdl_stageregs.specs.Stages.{end_of, IsFrame, IsBegunBy, IsSettled, AreOwn}
-use Rattle.pdl_stageregs.specs.Begun.{with_item, MayAdd, MayKeep, IsAtFront, HasVars}
+use Rattle.pdl_stageregs.specs.Begun.{with_item, MayAdd, MayKeep, IsAtFront}
 use Rattle.pdl_stageregs.proofs.Taken.{up_to}
 use Rattle.pdl_stageregs.proofs.Entered.{frame_may, own_more, by_may, by_new, by_weaker, may_there, may_wide}
 
@@ -57,21 +57,6 @@ pub signal_new : (c : Circuit) (xs : List Net) (x : Net) (i : ℕ) → i ≡ len
 signal_new c xs x i e =
     ap₂ (λ fs n. signal_at fs n) (signals_more c xs x) (e ∙ sym (length_signals c xs))
     ∙ get_or-append_seam (signals_in c xs) (signal c x) [] no_signal
-
-pub vars_none : (a : Circuit) (f : Form) (nexts : List Signal) (ss : List StageNets) (k : ℕ) (s : StageNets) → IsFrame a f nexts k s → AreOwn f k s → s.vars ≡ [] → VarsSoFar a a f nexts ss k s s 0
-vars_none a f nexts ss k s h o e = record {
-  own = o;
-  extends = extends_refl a;
-  frame = h;
-  there = subst (NetsThere a) (sym e) tt;
-  count = ap length e;
-  wide = ap (λ xs. widths_of (signals_in a xs)) e;
-  begun = λ y l. absurd (omega (arith, l));
-  valid = refl;
-  held = refl;
-  tickets = refl;
-  end = refl;
-}
 
 -- what may be added keeps all but registers
 pub may_rest : {A : Type 0} (of : StageNets → A) (c : Circuit) (s t : StageNets) (i : Item) (w v : ℕ) (net : Net) (S : Signal → Type 0) → ((j : Item) → of (with_item s j) ≡ of s) → MayAdd c s t i w v net S → of t ≡ of s
@@ -138,10 +123,3 @@ vars_more a b c f nexts ss k s0 s t x net S low bc may last settles keep h =
         let is : signal c net ≡ signal_at (signals_in c (t.vars ++ net ∷ [])) x = sym (signal_new c t.vars net x (let n = h.count in let m : length t.vars ≡ length s.vars = ap length same_vars in omega (arith, n, m))) in
         subst (λ g. IsBegunBy f nexts t (Var x) g (IsSettled a f.pipe ss k (Var x))) is
         (by_weaker f nexts t (Var x) (signal c net) S (IsSettled a f.pipe ss k (Var x)) (λ q. settles (signal c net) q alive) (by_new f nexts c s t (Var x) (slice_index f.widths x) (first_value f.pipe k (Var x)) net S may refl))
-
-pub vars_all : (a c : Circuit) (f : Form) (nexts : List Signal) (ss : List StageNets) (k : ℕ) (s0 s : StageNets) (x : ℕ) → length f.widths ≤ x → VarsSoFar a c f nexts ss k s0 s x → HasVars a c f nexts ss k s
-vars_all a c f nexts ss k s0 s x l h = record {
-  there = h.there;
-  wide = h.wide ∙ take_all x f.widths l;
-  begun = λ y low. h.begun y (omega (arith, low, l));
-}

@@ -54,7 +54,10 @@ fn picked_of(
     requires moves { IsThere b.old moves }
     requires moves_one { (signal b.old moves).width ≡ 1 }
     requires rest { IsThere b.old rest }
-    ensures means { IfOk result (λ x. Means b.new x (picked_signal (brings what) (map (new_by (signal b.old moves)) (map (birth_in b.old) births.now)) (signal b.old rest))) }
+    ensures means { IfOk result (λ x.
+        Means b.new x (picked_signal (brings what)
+        (map (new_by (signal b.old moves)) (map (birth_in b.old) births.now))
+        (signal b.old rest))) }
     ensures wide { IfOk result (λ x. (signal b.new x).width ≡ (signal b.old rest).width) }
     ensures extends { Extends b.old b.new }
     ensures regs { b.new.regs ≡ b.old.regs }
@@ -85,7 +88,9 @@ pub fn picked(
     requires count { length moves.now ≡ length stages.now }
     requires moves { AreMovesThere b.old moves.now }
     requires rest { IsThere b.old rest }
-    ensures means { IfOk result (λ x. Means b.new x (picked_signal (brings what) (new_in b.old (form pipe.now).pipe stages.now moves.now) (signal b.old rest))) }
+    ensures means { IfOk result (λ x.
+        Means b.new x (picked_signal (brings what)
+        (new_in b.old (form pipe.now).pipe stages.now moves.now) (signal b.old rest))) }
     ensures wide { IfOk result (λ x. (signal b.new x).width ≡ (signal b.old rest).width) }
     ensures extends { Extends b.old b.new }
     ensures regs { b.new.regs ≡ b.old.regs }

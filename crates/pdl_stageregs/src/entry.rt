@@ -123,7 +123,10 @@ impl StageNets {
         requires low { x < length (form pipe.now).widths }
         requires zero { Means b.old zero (const_signal (slice_index (form pipe.now).widths x) 0) }
         requires last { end_of self.old ≡ length b.old.regs }
-        ensures may { IfOk result (λ net. MayAddVar b.new (form pipe.now) 0 x (slice_index (form pipe.now).pipe.start x) self.old self.new net (IsZero (form pipe.now).pipe (Var x))) }
+        ensures may { IfOk result (λ net.
+            MayAddVar b.new (form pipe.now) 0 x
+            (slice_index (form pipe.now).pipe.start x) self.old self.new net
+            (IsZero (form pipe.now).pipe (Var x))) }
         ensures own { length (form pipe.now).pipe.start ≤ x → OnOk result (self.new ≡ self.old) }
         ensures last { OnOk result (end_of self.new ≡ length b.new.regs) }
         ensures extends { Extends b.old b.new }
@@ -154,7 +157,9 @@ impl StageNets {
         requires there { IsThere b.old net }
         requires wide { (signal b.old net).width ≡ slice_index (form pipe.now).widths x }
         requires last { end_of self.old ≡ length b.old.regs }
-        ensures may { IfOk result (λ y. MayAddVar b.new (form pipe.now) stage x 0 self.old self.new y (IsSameConstant (signal b.old net))) }
+        ensures may { IfOk result (λ y.
+            MayAddVar b.new (form pipe.now) stage x 0 self.old self.new y
+            (IsSameConstant (signal b.old net))) }
         ensures last { OnOk result (end_of self.new ≡ length b.new.regs) }
         ensures extends { Extends b.old b.new }
     {
@@ -178,12 +183,15 @@ impl StageNets {
     ) -> Result<Net, NoMemory>
         requires typed { IsTypedForm (form pipe.now) }
         requires shared { IsShared b.old (form pipe.now) shared.now }
-        requires before { AreEnded b.old (form pipe.now) (signals_in b.old shared.now.next) before.now }
+        requires before { AreEnded b.old (form pipe.now)
+            (signals_in b.old shared.now.next) before.now }
         requires stage { length before.now < length (form pipe.now).pipe.stages }
         requires low { x < length (form pipe.now).widths }
         requires last { end_of self.old ≡ length b.old.regs }
-        ensures may { IfOk result (λ net. MayBeginVar b.old b.new (form pipe.now) before.now x self.old self.new net) }
-        ensures own { OnOk result (MayKeep (form pipe.now) (length before.now) (Var x) self.old self.new) }
+        ensures may { IfOk result (λ net.
+            MayBeginVar b.old b.new (form pipe.now) before.now x self.old self.new net) }
+        ensures own { OnOk result (MayKeep (form pipe.now) (length before.now)
+            (Var x) self.old self.new) }
         ensures last { OnOk result (end_of self.new ≡ length b.new.regs) }
         ensures extends { Extends b.old b.new }
     {
@@ -207,14 +215,18 @@ impl StageNets {
     ) -> Result<(), NoMemory>
         requires typed { IsTypedForm (form pipe.now) }
         requires shared { IsShared b.old (form pipe.now) shared.now }
-        requires before { AreEnded b.old (form pipe.now) (signals_in b.old shared.now.next) before.now }
+        requires before { AreEnded b.old (form pipe.now)
+            (signals_in b.old shared.now.next) before.now }
         requires stage { length before.now < length (form pipe.now).pipe.stages }
-        requires frame { IsFrame b.old (form pipe.now) (signals_in b.old shared.now.next) (length before.now) self.old }
+        requires frame { IsFrame b.old (form pipe.now) (signals_in b.old shared.now.next)
+            (length before.now) self.old }
         requires own { AreOwn (form pipe.now) (length before.now) self.old }
         requires none { self.old.vars ≡ [] }
-        ensures frame { OnOk result (IsFrame b.new (form pipe.now) (signals_in b.old shared.now.next) (length before.now) self.new) }
+        ensures frame { OnOk result (IsFrame b.new (form pipe.now)
+            (signals_in b.old shared.now.next) (length before.now) self.new) }
         ensures own { OnOk result (AreOwn (form pipe.now) (length before.now) self.new) }
-        ensures vars { OnOk result (HasVars b.old b.new (form pipe.now) (signals_in b.old shared.now.next) before.now (length before.now) self.new) }
+        ensures vars { OnOk result (HasVars b.old b.new (form pipe.now)
+            (signals_in b.old shared.now.next) before.now (length before.now) self.new) }
         ensures place { OnOk result (self.new.valid ≡ self.old.valid) }
         ensures held { OnOk result (self.new.held ≡ self.old.held) }
         ensures tickets { OnOk result (self.new.tickets ≡ self.old.tickets) }
@@ -238,13 +250,19 @@ impl StageNets {
         next: Net,
     ) -> Result<Net, NoMemory>
         requires low { mem < length (form pipe.now).pipe.mems }
-        requires reserves { length (form pipe.now).pipe.reserves_at ≡ length (form pipe.now).pipe.mems }
-        requires releases { length (form pipe.now).pipe.releases_at ≡ length (form pipe.now).pipe.mems }
+        requires reserves { length (form pipe.now).pipe.reserves_at
+            ≡ length (form pipe.now).pipe.mems }
+        requires releases { length (form pipe.now).pipe.releases_at
+            ≡ length (form pipe.now).pipe.mems }
         requires next { IsThere b.old next }
         requires last { end_of self.old ≡ length b.old.regs }
-        ensures may { IfOk result (λ net. MayAdd b.new self.old self.new (Ticket mem) (signal b.old next).width 0 net (λ g. (goes_with (form pipe.now).pipe stage mem ≡ false) × (g ≡ signal b.old next))) }
-        ensures next { goes_with (form pipe.now).pipe stage mem ≡ false → IfOk result (λ net. signal b.new net ≡ signal b.old next) }
-        ensures own { goes_with (form pipe.now).pipe stage mem ≡ false → OnOk result (self.new ≡ self.old) }
+        ensures may { IfOk result (λ net.
+            MayAdd b.new self.old self.new (Ticket mem) (signal b.old next).width 0 net (λ g.
+            (goes_with (form pipe.now).pipe stage mem ≡ false) × (g ≡ signal b.old next))) }
+        ensures next { goes_with (form pipe.now).pipe stage mem ≡ false →
+            IfOk result (λ net. signal b.new net ≡ signal b.old next) }
+        ensures own { goes_with (form pipe.now).pipe stage mem ≡ false →
+            OnOk result (self.new ≡ self.old) }
         ensures last { OnOk result (end_of self.new ≡ length b.new.regs) }
         ensures extends { Extends b.old b.new }
     {
@@ -265,14 +283,19 @@ impl StageNets {
         before: &[StageNets],
     ) -> Result<(), NoMemory>
         requires shared { IsShared b.old (form pipe.now) shared.now }
-        requires reserves { length (form pipe.now).pipe.reserves_at ≡ length (form pipe.now).pipe.mems }
-        requires releases { length (form pipe.now).pipe.releases_at ≡ length (form pipe.now).pipe.mems }
-        requires frame { IsFrame b.old (form pipe.now) (signals_in b.old shared.now.next) (length before.now) self.old }
+        requires reserves { length (form pipe.now).pipe.reserves_at
+            ≡ length (form pipe.now).pipe.mems }
+        requires releases { length (form pipe.now).pipe.releases_at
+            ≡ length (form pipe.now).pipe.mems }
+        requires frame { IsFrame b.old (form pipe.now) (signals_in b.old shared.now.next)
+            (length before.now) self.old }
         requires own { AreOwn (form pipe.now) (length before.now) self.old }
         requires none { self.old.tickets ≡ [] }
-        ensures frame { OnOk result (IsFrame b.new (form pipe.now) (signals_in b.old shared.now.next) (length before.now) self.new) }
+        ensures frame { OnOk result (IsFrame b.new (form pipe.now)
+            (signals_in b.old shared.now.next) (length before.now) self.new) }
         ensures own { OnOk result (AreOwn (form pipe.now) (length before.now) self.new) }
-        ensures tickets { OnOk result (HasTicketNets b.old b.new (form pipe.now) (signals_in b.old shared.now.next) before.now (length before.now) self.new) }
+        ensures tickets { OnOk result (HasTicketNets b.old b.new (form pipe.now)
+            (signals_in b.old shared.now.next) before.now (length before.now) self.new) }
         ensures longer { OnOk result (IsLonger self.old self.new) }
         ensures end { OnOk result (self.new.end ≡ self.old.end) }
         ensures extends { Extends b.old b.new }
@@ -311,9 +334,12 @@ pub fn begin(
     requires stage { length before.now < length (form pipe.now).pipe.stages }
     requires reserves { length (form pipe.now).pipe.reserves_at ≡ length (form pipe.now).pipe.mems }
     requires releases { length (form pipe.now).pipe.releases_at ≡ length (form pipe.now).pipe.mems }
-    ensures begun { IfOk result (λ s. IsBegun b.new (form pipe.now) (signals_in b.old shared.now.next) before.now (length before.now) s) }
+    ensures begun { IfOk result (λ s.
+        IsBegun b.new (form pipe.now) (signals_in b.old shared.now.next) before.now
+        (length before.now) s) }
     ensures own { IfOk result (λ s. AreOwn (form pipe.now) (length before.now) s) }
-    ensures walk { IfOk result (λ s. IsWalk b.new (form pipe.now).pipe (form pipe.now).widths s.end) }
+    ensures walk { IfOk result (λ s.
+        IsWalk b.new (form pipe.now).pipe (form pipe.now).widths s.end) }
     ensures place { IfOk result (λ s. s.valid ≡ length b.old.regs) }
     ensures extends { Extends b.old b.new }
 {

@@ -55,7 +55,9 @@ impl StageNets {
         requires there { IsThere b.old net }
         requires one { (signal b.old net).width ≡ 1 }
         requires last { end_of self.old ≡ length b.old.regs }
-        ensures may { IfOk result (λ y. MayAdd b.new self.old self.new (Held mem var) 1 0 y (IsSameConstant (signal b.old net))) }
+        ensures may { IfOk result (λ y.
+            MayAdd b.new self.old self.new (Held mem var) 1 0 y
+            (IsSameConstant (signal b.old net))) }
         ensures last { OnOk result (end_of self.new ≡ length b.new.regs) }
         ensures extends { Extends b.old b.new }
     {
@@ -80,7 +82,8 @@ impl StageNets {
         requires bits { AreBits b.old bits }
         requires walk { IsWalk b.old (form pipe.now).pipe (form pipe.now).widths before.now.end }
         requires last { end_of self.old ≡ length b.old.regs }
-        ensures next { OnOk result (AddsHeld b.old b.new (form pipe.now).pipe stage before.now self.old self.new mem var) }
+        ensures next { OnOk result (AddsHeld b.old b.new
+            (form pipe.now).pipe stage before.now self.old self.new mem var) }
         ensures last { OnOk result (end_of self.new ≡ length b.new.regs) }
         ensures extends { Extends b.old b.new }
     {
@@ -105,12 +108,15 @@ impl StageNets {
         requires shared { IsShared b.old (form pipe.now) shared.now }
         requires walk { IsWalk b.old (form pipe.now).pipe (form pipe.now).widths before.now.end }
         requires behind { 0 < stage }
-        requires frame { IsFrame b.old (form pipe.now) (signals_in b.old shared.now.next) stage self.old }
+        requires frame { IsFrame b.old (form pipe.now)
+            (signals_in b.old shared.now.next) stage self.old }
         requires own { AreOwn (form pipe.now) stage self.old }
         requires none { self.old.held ≡ [] }
-        ensures frame { OnOk result (IsFrame b.new (form pipe.now) (signals_in b.old shared.now.next) stage self.new) }
+        ensures frame { OnOk result (IsFrame b.new (form pipe.now)
+            (signals_in b.old shared.now.next) stage self.new) }
         ensures own { OnOk result (AreOwn (form pipe.now) stage self.new) }
-        ensures held { OnOk result (HasHeldBehind b.old b.new (form pipe.now) (signals_in b.old shared.now.next) stage before.now self.new) }
+        ensures held { OnOk result (HasHeldBehind b.old b.new (form pipe.now)
+            (signals_in b.old shared.now.next) stage before.now self.new) }
         ensures gains { OnOk result (GainsHeld self.old self.new) }
         ensures extends { Extends b.old b.new }
     {
@@ -130,13 +136,17 @@ impl StageNets {
         before: &[StageNets],
     ) -> Result<(), NoMemory>
         requires shared { IsShared b.old (form pipe.now) shared.now }
-        requires before { AreEnded b.old (form pipe.now) (signals_in b.old shared.now.next) before.now }
-        requires frame { IsFrame b.old (form pipe.now) (signals_in b.old shared.now.next) (length before.now) self.old }
+        requires before { AreEnded b.old (form pipe.now)
+            (signals_in b.old shared.now.next) before.now }
+        requires frame { IsFrame b.old (form pipe.now) (signals_in b.old shared.now.next)
+            (length before.now) self.old }
         requires own { AreOwn (form pipe.now) (length before.now) self.old }
         requires none { self.old.held ≡ [] }
-        ensures frame { OnOk result (IsFrame b.new (form pipe.now) (signals_in b.old shared.now.next) (length before.now) self.new) }
+        ensures frame { OnOk result (IsFrame b.new (form pipe.now)
+            (signals_in b.old shared.now.next) (length before.now) self.new) }
         ensures own { OnOk result (AreOwn (form pipe.now) (length before.now) self.new) }
-        ensures held { OnOk result (HasHeld b.old b.new (form pipe.now) (signals_in b.old shared.now.next) before.now (length before.now) self.new) }
+        ensures held { OnOk result (HasHeld b.old b.new (form pipe.now)
+            (signals_in b.old shared.now.next) before.now (length before.now) self.new) }
         ensures gains { OnOk result (GainsHeld self.old self.new) }
         ensures extends { Extends b.old b.new }
     {

@@ -40,7 +40,8 @@ fn way_on(pipe: &FlatPipe, k: usize, later: &[MoveNets], bits: Bits) -> Net
     requires low { k < length (form pipe.now).pipe.stages }
     requires count { length later.now ≡ length (form pipe.now).pipe.stages }
     ensures last { suc k ≡ length (form pipe.now).pipe.stages → result ≡ bits.one }
-    ensures next { suc k < length (form pipe.now).pipe.stages → result ≡ (moves_at later.now (suc k)).free }
+    ensures next { suc k < length (form pipe.now).pipe.stages →
+        result ≡ (moves_at later.now (suc k)).free }
 {
     let stage = &pipe.stages()[k];
     match stage.next {
@@ -56,8 +57,13 @@ fn stage_moves(b: &mut Builder, bits: Bits, s: &StageNets, way: Net) -> Result<M
     requires gated { IsGated b.old s.now }
     requires way { IsThere b.old way }
     requires way_one { (signal b.old way).width ≡ 1 }
-    ensures moves { IfOk result (λ x. Means b.new x.moves (both_signal (reg_signal 1 s.now.valid) (both_signal (signal b.old s.now.end.ready) (signal b.old way)))) }
-    ensures free { IfOk result (λ x. Means b.new x.free (mux_signal (reg_signal 1 s.now.valid) (both_signal (reg_signal 1 s.now.valid) (both_signal (signal b.old s.now.end.ready) (signal b.old way))) one)) }
+    ensures moves { IfOk result (λ x.
+        Means b.new x.moves (both_signal (reg_signal 1 s.now.valid)
+        (both_signal (signal b.old s.now.end.ready) (signal b.old way)))) }
+    ensures free { IfOk result (λ x.
+        Means b.new x.free (mux_signal (reg_signal 1 s.now.valid)
+        (both_signal (reg_signal 1 s.now.valid)
+        (both_signal (signal b.old s.now.end.ready) (signal b.old way))) one)) }
     ensures moves_one { IfOk result (λ x. (signal b.new x.moves).width ≡ 1) }
     ensures free_one { IfOk result (λ x. (signal b.new x.free).width ≡ 1) }
     ensures extends { Extends b.old b.new }
@@ -83,7 +89,9 @@ pub fn moves(
     requires count { length stages.now ≡ length (form pipe.now).pipe.stages }
     requires gated { Each (IsGated b.old) stages.now }
     ensures count { IfOk result (λ ms. length ms.items ≡ length stages.now) }
-    ensures moves { IfOk result (λ ms. (k : ℕ) → k < length stages.now → IsMoved b.new (form pipe.now).pipe (views_in b.old (form pipe.now).pipe stages.now) ms.items k) }
+    ensures moves { IfOk result (λ ms. (k : ℕ) → k < length stages.now →
+        IsMoved b.new (form pipe.now).pipe
+        (views_in b.old (form pipe.now).pipe stages.now) ms.items k) }
     ensures extends { Extends b.old b.new }
     ensures regs { b.new.regs ≡ b.old.regs }
 {

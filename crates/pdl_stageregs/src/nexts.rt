@@ -41,7 +41,8 @@ fn brought(b: &Builder, pipe: &FlatPipe, bits: Bits, s: &StageNets, item: Item) 
     requires there { IsThereWalk b.now s.now.end }
     requires tickets { NetsThere b.now s.now.tickets }
     requires item { HasItem s.now item }
-    ensures means { Means b.now result (ended_item (view_in b.now (form pipe.now).pipe s.now) item) }
+    ensures means { Means b.now result
+        (ended_item (view_in b.now (form pipe.now).pipe s.now) item) }
 {
     let _vars = pipe.vars();
     match item {
@@ -58,7 +59,9 @@ fn take(b: &mut Builder, bits: Bits, r: usize, comes: Net, net: Net) -> Result<(
     requires comes { IsThere b.old comes }
     requires comes_one { (signal b.old comes).width ≡ 1 }
     requires net { IsThere b.old net }
-    ensures next { OnOk result (next_signal b.new r ≡ mux_signal (signal b.old comes) (signal b.old net) (reg_signal (signal b.old net).width r)) }
+    ensures next { OnOk result (next_signal b.new r
+        ≡ mux_signal (signal b.old comes) (signal b.old net)
+        (reg_signal (signal b.old net).width r)) }
     ensures extends { ExtendsBut (one_reg r) b.old b.new }
 {
     let next = bits.pick(b, comes, net, Net::Reg(r))?;
@@ -94,7 +97,9 @@ fn take_thread(
     requires some { 1 ≤ length stages.now }
     requires count { length moves.now ≡ length stages.now }
     requires moves { AreMovesThere b.old moves.now }
-    ensures next { OnOk result (next_signal b.new valid ≡ picked_signal (λ o. one) (new_in b.old (form pipe.now).pipe stages.now moves.now) (staying (moves_in b.old moves.now 0) valid)) }
+    ensures next { OnOk result (next_signal b.new valid
+        ≡ picked_signal (λ o. one) (new_in b.old (form pipe.now).pipe stages.now moves.now)
+        (staying (moves_in b.old moves.now 0) valid)) }
     ensures extends { ExtendsBut (one_reg valid) b.old b.new }
 {
     let rest = stays(b, bits, valid, moves[0].moves)?;
@@ -117,7 +122,9 @@ fn take_arg(
     requires fit { FitsArg b.old stages.now r item }
     requires count { length moves.now ≡ length stages.now }
     requires moves { AreMovesThere b.old moves.now }
-    ensures next { OnOk result (next_signal b.new r ≡ picked_signal (comer_item item) (new_in b.old (form pipe.now).pipe stages.now moves.now) (signal b.old (RegNet r))) }
+    ensures next { OnOk result (next_signal b.new r
+        ≡ picked_signal (comer_item item) (new_in b.old (form pipe.now).pipe stages.now moves.now)
+        (signal b.old (RegNet r))) }
     ensures extends { ExtendsBut (one_reg r) b.old b.new }
 {
     match item {
@@ -144,7 +151,8 @@ fn connect_first(
     requires some { 1 ≤ length stages.now }
     requires count { length moves.now ≡ length stages.now }
     requires moves { AreMovesThere b.old moves.now }
-    ensures next { OnOk result (IsConnectedIn b.old b.new (form pipe.now).pipe stages.now moves.now 0 s.now) }
+    ensures next { OnOk result (IsConnectedIn b.old b.new
+        (form pipe.now).pipe stages.now moves.now 0 s.now) }
     ensures extends { ExtendsBut (regs_of s.now.valid (end_of s.now)) b.old b.new }
 {
     let regs = b.reg_count();
@@ -172,7 +180,8 @@ fn take_valid(
     requires moves_one { (signal b.old moves).width ≡ 1 }
     requires comes { IsThere b.old comes }
     requires comes_one { (signal b.old comes).width ≡ 1 }
-    ensures next { OnOk result (next_signal b.new valid ≡ mux_signal (signal b.old comes) one (staying (signal b.old moves) valid)) }
+    ensures next { OnOk result (next_signal b.new valid
+        ≡ mux_signal (signal b.old comes) one (staying (signal b.old moves) valid)) }
     ensures extends { ExtendsBut (one_reg valid) b.old b.new }
 {
     let rest = stays(b, bits, valid, moves)?;
@@ -197,7 +206,8 @@ fn connect_behind(
     requires moves_one { (signal b.old moves).width ≡ 1 }
     requires comes { IsThere b.old comes }
     requires comes_one { (signal b.old comes).width ≡ 1 }
-    ensures next { OnOk result (TakesBehind b.new s.now (signal b.old comes) (signal b.old moves) (view_in b.old (form pipe.now).pipe before.now)) }
+    ensures next { OnOk result (TakesBehind b.new s.now (signal b.old comes) (signal b.old moves)
+        (view_in b.old (form pipe.now).pipe before.now)) }
     ensures extends { ExtendsBut (regs_of s.now.valid (end_of s.now)) b.old b.new }
 {
     let regs = b.reg_count();
@@ -224,8 +234,11 @@ pub fn connect(
     requires fit { AreFit b.old (form pipe.now).pipe stages.now }
     requires count { length moves.now ≡ length stages.now }
     requires moves { AreMovesThere b.old moves.now }
-    ensures next { OnOk result ((k : ℕ) (s : StageNets) → k < length stages.now → IsAt stages.now k s → IsConnectedIn b.old b.new (form pipe.now).pipe stages.now moves.now k s) }
-    ensures extends { (s : StageNets) → IsAt stages.now 0 s → ExtendsBut (regs_of s.valid (length b.old.regs)) b.old b.new }
+    ensures next { OnOk result ((k : ℕ) (s : StageNets) → k < length stages.now →
+        IsAt stages.now k s → IsConnectedIn b.old b.new
+        (form pipe.now).pipe stages.now moves.now k s) }
+    ensures extends { (s : StageNets) → IsAt stages.now 0 s →
+        ExtendsBut (regs_of s.valid (length b.old.regs)) b.old b.new }
 {
     if stages.is_empty() {
         return Ok(());

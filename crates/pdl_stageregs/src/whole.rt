@@ -23,7 +23,7 @@ use pdl_form::FlatPipe;
 use pdl_kit::{NoMemory, Seq};
 use pdl_lockapi::LockModule;
 use pdl_net::Net;
-use pdl_stagenets::MemLock;
+use pdl_stagenets::{MemLock, Setting};
 use std::alloc::Global;
 
 /// The stages of a pipe, and whether their threads move.
@@ -37,7 +37,8 @@ pub struct LineNets {
 fn zeros(alloc: Global, b: &mut Builder, pipe: &FlatPipe) -> Result<Seq<Net>, NoMemory>
     requires { IsTypedForm (form pipe.now) }
     ensures there { IfOk result (λ xs. NetsThere b.new xs) }
-    ensures means { IfOk result (λ xs. signals_in b.new xs ≡ map zero_signal (form pipe.now).widths) }
+    ensures means { IfOk result (λ xs.
+        signals_in b.new xs ≡ map zero_signal (form pipe.now).widths) }
     ensures extends { Extends b.old b.new }
 {
     let mut nets = Seq::new(alloc);
@@ -66,7 +67,9 @@ fn stage<L: LockModule>(
     requires stage { length before.now < length (form pipe.now).pipe.stages }
     requires reserves { length (form pipe.now).pipe.reserves_at ≡ length (form pipe.now).pipe.mems }
     requires releases { length (form pipe.now).pipe.releases_at ≡ length (form pipe.now).pipe.mems }
-    ensures staged { IfOk result (λ s. IsStaged b.new (form pipe.now) (signals_in b.old shared.now.next) (locks_in (members L.LockModule) b.old locks.now) before.now (length before.now) s) }
+    ensures staged { IfOk result (λ s.
+        IsStaged b.new (form pipe.now) (signals_in b.old shared.now.next)
+        (locks_in (members L.LockModule) b.old locks.now) before.now (length before.now) s) }
     ensures own { IfOk result (λ s. AreOwn (form pipe.now) (length before.now) s) }
     ensures place { IfOk result (λ s. s.valid ≡ length b.old.regs) }
     ensures last { IfOk result (λ s. end_of s ≤ length b.new.regs) }
@@ -74,8 +77,13 @@ fn stage<L: LockModule>(
 {
     let mut s = begin(alloc, b, pipe, shared, before)?;
     let tickets = s.tickets.as_slice();
-    s.end
-        .walk(alloc, b, pipe, shared.bits, locks, tickets, before.len())?;
+    let setting = Setting {
+        pipe,
+        bits: shared.bits,
+        locks,
+        tickets,
+    };
+    s.end.walk(alloc, b, &setting, before.len())?;
     Ok(s)
 }
 
@@ -94,8 +102,11 @@ pub fn stages<L: LockModule>(
     requires reserves { length (form pipe.now).pipe.reserves_at ≡ length (form pipe.now).pipe.mems }
     requires releases { length (form pipe.now).pipe.releases_at ≡ length (form pipe.now).pipe.mems }
     ensures count { IfOk result (λ ss. length ss.items ≡ length (form pipe.now).pipe.stages) }
-    ensures staged { IfOk result (λ ss. AreStaged b.new (form pipe.now) (next_signals b.old locks.now) (locks_in (members L.LockModule) b.old locks.now) ss.items) }
-    ensures own { IfOk result (λ ss. (k : ℕ) (s : StageNets) → k < length ss.items → slice_index_or ss.items k s ≡ s → AreOwn (form pipe.now) k s) }
+    ensures staged { IfOk result (λ ss.
+        AreStaged b.new (form pipe.now) (next_signals b.old locks.now)
+        (locks_in (members L.LockModule) b.old locks.now) ss.items) }
+    ensures own { IfOk result (λ ss. (k : ℕ) (s : StageNets) → k < length ss.items →
+        slice_index_or ss.items k s ≡ s → AreOwn (form pipe.now) k s) }
     ensures apart { IfOk result (λ ss. AreApart (length b.old.regs) (length b.new.regs) ss.items) }
     ensures extends { Extends b.old b.new }
 {
@@ -130,8 +141,13 @@ pub fn line<L: LockModule>(
     requires locks { AreLocked (members L.LockModule) b.old (form pipe.now).pipe locks.now }
     requires reserves { length (form pipe.now).pipe.reserves_at ≡ length (form pipe.now).pipe.mems }
     requires releases { length (form pipe.now).pipe.releases_at ≡ length (form pipe.now).pipe.mems }
-    ensures line { IfOk result (λ x. IsLine b.new (form pipe.now) (next_signals b.old locks.now) (locks_in (members L.LockModule) b.old locks.now) x.stages.items x.moves.items) }
-    ensures law { IfOk result (λ x. Lasting (length b.old.regs) b.new (MeetsLaw (form pipe.now).pipe (locks_in (members L.LockModule) b.old locks.now) x.stages.items x.moves.items b.new)) }
+    ensures line { IfOk result (λ x.
+        IsLine b.new (form pipe.now) (next_signals b.old locks.now)
+        (locks_in (members L.LockModule) b.old locks.now) x.stages.items x.moves.items) }
+    ensures law { IfOk result (λ x.
+        Lasting (length b.old.regs) b.new
+        (MeetsLaw (form pipe.now).pipe
+        (locks_in (members L.LockModule) b.old locks.now) x.stages.items x.moves.items b.new)) }
     ensures extends { ExtendsBut (regs_of (length b.old.regs) (length b.new.regs)) b.old b.new }
 {
     let all = stages(alloc, b, pipe, bits, locks)?;

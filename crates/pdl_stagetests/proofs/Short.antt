@@ -1,11 +1,11 @@
 -- A pipe of two stages, of which the second begins a thread with the same argument of 3 bits.
-use Rattle.std.proofs.Common.{◌≡◌, ℕ, zero, suc, ◌<◌, Bool, true, false, ◌&&◌, ◌||◌, List, [], ◌∷◌, refl, sym, ap, ap₂, ◌∙◌, subst, arith}
+use Rattle.std.proofs.Common.{◌≡◌, ℕ, zero, suc, ◌<◌, false, ◌&&◌, ◌||◌, List, [], ◌∷◌, refl, sym, ap, ap₂, ◌∙◌, subst, arith}
 use Rattle.std.specs.Prelude.{None, nat_le}
+use Rattle.std.proofs.Math.Bool.{and-false}
 use Rattle.pdl_semantics.specs.Flat.{Variable, Call, Stmt, Mem, Goes, Ends, Stage}
 use Rattle.pdl_semantics.specs.Stages.{stage_at}
 use Rattle.pdl_form.specs.Form.{Form, formed}
 use Rattle.pdl_formtypes.specs.Stmts.{IsTypedForm}
-use Rattle.pdl_stagenets.specs.Sized.{AreWalked}
 use Rattle.pdl_stageregs.specs.Moves.{IsInLine}
 use Rattle.pdl_stageregs.specs.Staged.{IsPlainLine}
 
@@ -42,13 +42,6 @@ caller_typed f e =
       forks = (tt, (tt, tt));
     })
 
-pub caller_walked : (f : Form) → f ≡ caller_form → AreWalked f f.pipe.stmts
-caller_walked f e = subst (λ (g : Form). AreWalked g g.pipe.stmts) (sym e) (((tt, (omega arith, refl, tt)), refl), tt)
-
-not_both : (a : Bool) → (a && false) ≡ false
-not_both true = refl
-not_both false = refl
-
 caller_line : IsInLine caller_form.pipe
 caller_line = record { goes_on = going; ends = ending }
   where
@@ -64,4 +57,4 @@ caller_line = record { goes_on = going; ends = ending }
 pub caller_plain : (f : Form) → f ≡ caller_form → IsPlainLine f.pipe
 caller_plain f e =
     subst (λ (g : Form). IsPlainLine g.pipe) (sym e)
-    (record { line = caller_line; some = omega arith; plain = λ k. ap (λ b. b || false) (not_both (nat_le k 1)) })
+    (record { line = caller_line; some = omega arith; plain = λ k. ap (λ b. b || false) (and-false (nat_le k 1)) })

@@ -2,13 +2,13 @@ use Rattle.std.proofs.Common.{◌∙◌, ℕ, sym, ap, subst}
 use Rattle.std.proofs.lemmas.Result.{IfOk-weaker}
 use Rattle.std.specs.Prelude.{is_some}
 use Rattle.pdl_lockapi.specs.Laws.{HasValueNet}
-use Rattle.pdl_stagenets.proofs.Lists.{pow_same}
 use Rattle.pdl_stagenets.proofs.locks.look.Goals as goal
+use Rattle.pdl_pipe_law.proofs.WellFormedMems.{power_one}
 
 pub emit_look-requires-clause-addr_width : goal.emit_look-requires-clause-addr_width
 emit_look-requires-clause-addr_width g c =
     let x = c.requires.locks.locks c.args.m c.lock_of-x.result.now c.requires.low c.lock_of-x.ensures in
-    pow_same _ _ (c.requires.addr_reach ∙ sym x.bits)
+    power_one _ _ (c.requires.addr_reach ∙ sym x.bits)
 
 pub returns-clause-has_value : goal.returns-clause-has_value
 returns-clause-has_value g c =

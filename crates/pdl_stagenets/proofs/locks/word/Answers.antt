@@ -10,8 +10,8 @@ use Rattle.pdl_stagenets.proofs.locks.word.Goals as goal
 pub returns-else-has_lock-clause-word : goal.returns-else-has_lock-clause-word
 returns-else-has_lock-clause-word g c =
     let a = c.args.b.now in
-    let p = (form c.args.pipe.now).pipe in
+    let p = (form c.args.setting.now.pipe.now).pipe in
     IfOk-weaker c.read.result _ _
-    (λ x h. plain_word p (locks_in (members g.L.LockModule) a c.args.locks.now) c.read.new.self x c.args.m (signal a c.args.addr) (signal a c.args.ticket) (array_width a c.args.m)
+    (λ x h. plain_word p (locks_in (members g.L.LockModule) a c.args.setting.now.locks.now) c.read.new.self x c.args.m (signal a c.args.addr) (signal a c.args.ticket) (array_width a c.args.m)
     (sym (c.requires.locks.locked c.args.m c.requires.low) ∙ sym c.has_lock.ensures ∙ c.if-has_lock.false) (c.requires.locks.width c.args.m c.requires.low) h)
     c.read.ensures.means

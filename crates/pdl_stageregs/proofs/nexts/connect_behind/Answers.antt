@@ -10,9 +10,10 @@ use Rattle.pdl_stagenets.proofs.Kept.{there_walk}
 use Rattle.pdl_stageregs.specs.Items.{item_at, ended_item}
 use Rattle.pdl_stageregs.specs.Stages.{reg_of, end_of, view_in}
 use Rattle.pdl_stageregs.specs.Comes.{HasItem, regs_of}
-use Rattle.pdl_stageregs.proofs.Taken.{reg_below, taken_more}
+use Rattle.pdl_stageregs.proofs.Taken.{taken_more}
 use Rattle.pdl_stageregs.proofs.Connecting.{behind_reg, behind_next}
 use Rattle.pdl_stageregs.proofs.nexts.connect_behind.Goals as goal
+use Rattle.pdl_build.proofs.Stored.{has_reg_below}
 
 pub brought-net-requires-clause-there : goal.brought-net-requires-clause-there
 brought-net-requires-clause-there c =
@@ -27,7 +28,7 @@ overflow_add-r-in-loop-i c =
     let n = c.len-i-end.ensures in
     let t = c.loop-i-test.true in
     let low : c.loop-i.i < length c.args.s.now.kept = omega (arith, n, t) in
-    let at = reg_below c.args.b.now (reg_of c.args.s.now c.loop-i.i) ((c.requires.fit.kept c.loop-i.i low).has) in
+    let at = has_reg_below c.args.b.now (reg_of c.args.s.now c.loop-i.i) ((c.requires.fit.kept c.loop-i.i low).has) in
     let count = c.reg_count-regs.ensures in
     omega (arith, at, count)
 
@@ -36,7 +37,7 @@ prove-unreachable-requires c =
     let n = c.len-i-end.ensures in
     let t = c.loop-i-test.true in
     let low : c.loop-i.i < length c.args.s.now.kept = omega (arith, n, t) in
-    let at = reg_below c.args.b.now (reg_of c.args.s.now c.loop-i.i) ((c.requires.fit.kept c.loop-i.i low).has) in
+    let at = has_reg_below c.args.b.now (reg_of c.args.s.now c.loop-i.i) ((c.requires.fit.kept c.loop-i.i low).has) in
     let count = c.reg_count-regs.ensures in
     let past = c.if-prove.true in
     omega (arith, at, count, past)

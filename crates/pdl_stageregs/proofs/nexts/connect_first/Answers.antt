@@ -12,17 +12,18 @@ use Rattle.pdl_stageregs.specs.Items.{item_at, comer_item}
 use Rattle.pdl_stageregs.specs.Stages.{reg_of, end_of, views_in}
 use Rattle.pdl_stageregs.specs.Moves.{moves_in}
 use Rattle.pdl_stageregs.specs.Comes.{FitsArg, regs_of}
-use Rattle.pdl_stageregs.proofs.Taken.{reg_below, taken_more}
+use Rattle.pdl_stageregs.proofs.Taken.{taken_more}
 use Rattle.pdl_stageregs.proofs.NewKept.{moves_keep, new_keep}
 use Rattle.pdl_stageregs.proofs.Connecting.{arg_keep, arg_has, arg_there}
 use Rattle.pdl_stageregs.proofs.nexts.connect_first.Goals as goal
+use Rattle.pdl_build.proofs.Stored.{has_reg_below}
 
 pub overflow_add-r-in-loop-i : goal.overflow_add-r-in-loop-i
 overflow_add-r-in-loop-i c =
     let n = c.len-i-end.ensures in
     let t = c.loop-i-test.true in
     let low : c.loop-i.i < length c.args.s.now.kept = omega (arith, n, t) in
-    let at = reg_below c.args.b.now (reg_of c.args.s.now c.loop-i.i) (arg_has c.args.b.now c.args.stages.now (reg_of c.args.s.now c.loop-i.i) (item_at c.args.s.now.kept c.loop-i.i) (c.requires.fit.kept c.loop-i.i low)) in
+    let at = has_reg_below c.args.b.now (reg_of c.args.s.now c.loop-i.i) (arg_has c.args.b.now c.args.stages.now (reg_of c.args.s.now c.loop-i.i) (item_at c.args.s.now.kept c.loop-i.i) (c.requires.fit.kept c.loop-i.i low)) in
     let count = c.reg_count-regs.ensures in
     omega (arith, at, count)
 
@@ -31,7 +32,7 @@ prove-unreachable-requires c =
     let n = c.len-i-end.ensures in
     let t = c.loop-i-test.true in
     let low : c.loop-i.i < length c.args.s.now.kept = omega (arith, n, t) in
-    let at = reg_below c.args.b.now (reg_of c.args.s.now c.loop-i.i) (arg_has c.args.b.now c.args.stages.now (reg_of c.args.s.now c.loop-i.i) (item_at c.args.s.now.kept c.loop-i.i) (c.requires.fit.kept c.loop-i.i low)) in
+    let at = has_reg_below c.args.b.now (reg_of c.args.s.now c.loop-i.i) (arg_has c.args.b.now c.args.stages.now (reg_of c.args.s.now c.loop-i.i) (item_at c.args.s.now.kept c.loop-i.i) (c.requires.fit.kept c.loop-i.i low)) in
     let count = c.reg_count-regs.ensures in
     let past = c.if-prove.true in
     omega (arith, at, count, past)

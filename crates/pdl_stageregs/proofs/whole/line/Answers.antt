@@ -3,7 +3,7 @@ use Rattle.std.proofs.lemmas.List.{length-map}
 use Rattle.pdl_form.specs.Whole.{form}
 use Rattle.pdl_net.specs.Meaning.{signal}
 use Rattle.pdl_net.specs.Growth.{Keeps, ExtendsBut}
-use Rattle.pdl_net.proofs.Keeps.{but_keeps, but_extends, extends_keeps, extends_trans, keeps_trans}
+use Rattle.pdl_net.proofs.Keeps.{but_keeps, but_extends, extends_keeps, extends_trans, keeps_trans, regs_grow}
 use Rattle.pdl_pipe_law.specs.Walk.{zero_bit}
 use Rattle.pdl_stagenets.specs.Locked.{members, locks_in, of_lock}
 use Rattle.pdl_stagenets.proofs.Kept.{bits_keep}
@@ -13,13 +13,12 @@ use Rattle.pdl_stageregs.specs.Moves.{AreMovesThere, IsMoved}
 use Rattle.pdl_stageregs.specs.Comes.{IsAt, regs_of}
 use Rattle.pdl_stageregs.specs.Staged.{AreStaged, AreApart, IsLine, Lasting, MeetsLaw, next_signals}
 use Rattle.pdl_stageregs.proofs.Lists.{some_stage}
-use Rattle.pdl_stageregs.proofs.Keeping.{regs_grow}
 use Rattle.pdl_stageregs.proofs.NewKept.{moves_keep}
-use Rattle.pdl_stageregs.proofs.BeginMade.{locked_low}
 use Rattle.pdl_stageregs.proofs.TicketsMade.{next_at}
 use Rattle.pdl_stageregs.proofs.FitMade.{gated, are_fit}
 use Rattle.pdl_stageregs.proofs.LineMade.{all_keep, ended_of, all_d, moved_d, taken_d, moves_there, apart_as, meets, line_extends}
 use Rattle.pdl_stageregs.proofs.whole.line.Goals as goal
+use Rattle.pdl_pipe_law.proofs.Next.{lock_there}
 
 pub moves-requires-clause-bits : goal.moves-requires-clause-bits
 moves-requires-clause-bits g c =
@@ -174,7 +173,7 @@ returns-clause-law g c =
     let e23 : Keeps b2 b3 = but_keeps (regs_of s.valid (length b2.regs)) b2 b3 grown in
     let all3 = all_d b1 b2 b3 f nexts ls ss ms e12 e23 grown.ports all1 there in
     let params : length p.start ≤ p.vars = (let q = c.requires.typed.params in let r = c.requires.typed.vars in omega (arith, q, r)) in
-    let whole = meets b3 f nexts ls ss ms low c.requires.plain params long (λ m e. let q = locked_low p m e in (q, next_at l a p xs c.requires.locks m q)) all3
+    let whole = meets b3 f nexts ls ss ms low c.requires.plain params long (λ m e. let q = lock_there p m e in (q, next_at l a p xs c.requires.locks m q)) all3
     (apart_as low (length b1.regs) (length b3.regs) ss (regs_grow b1 b3 (keeps_trans b1 b2 b3 e12 e23)) apart1)
     (λ k q. moved_d b1 b2 b3 f nexts ls ss ms e12 e23 grown.ports all1 there (length ss) moved_b k (omega (arith, q, long)))
     (taken_d b1 b2 b3 f nexts ls ss ms e12 e23 grown.ports all1 there c.in_ok-connect.ensures.next) in

@@ -2,7 +2,7 @@ use Rattle.std.proofs.Common.{length, refl, sym, ap, ◌∙◌, subst, arith}
 use Rattle.pdl_semantics.specs.Stages.{in_stage}
 use Rattle.pdl_form.specs.Whole.{form}
 use Rattle.pdl_net.specs.Growth.{Keeps}
-use Rattle.pdl_net.proofs.Keeps.{extends_keeps, extends_trans}
+use Rattle.pdl_net.proofs.Keeps.{extends_keeps, extends_trans, regs_grow}
 use Rattle.pdl_flatnets.specs.Nets.{signals_in, widths_of}
 use Rattle.pdl_pipe_law.specs.Walk.{Locks}
 use Rattle.pdl_stagenets.specs.Parts.{walk_in}
@@ -10,7 +10,7 @@ use Rattle.pdl_stagenets.specs.Locked.{members, locks_in, AreTickets, tickets_in
 use Rattle.pdl_stagenets.specs.Steps.{AreSteps}
 use Rattle.pdl_stagenets.proofs.Kept.{bits_keep}
 use Rattle.pdl_stagenets.proofs.MadeLocks.{locked_keep, locks_same}
-use Rattle.pdl_stageregs.proofs.Keeping.{ended_all, regs_grow}
+use Rattle.pdl_stageregs.proofs.Keeping.{ended_all}
 use Rattle.pdl_stageregs.proofs.TicketsMade.{tickets_fit}
 use Rattle.pdl_stageregs.proofs.StagedMade.{staged_made}
 use Rattle.pdl_stageregs.proofs.whole.stage.Goals as goal

@@ -16,16 +16,16 @@ look_held-requires-clause-held_one g c = ap (λ (f : Signal). f.width) c.held-he
 pub look_held-requires-clause-ticket_wide : goal.look_held-requires-clause-ticket_wide
 look_held-requires-clause-ticket_wide g c =
     ap (λ (f : Signal). f.width) c.variable-ticket.ensures.same
-    ∙ ticket_bits (members g.L.LockModule) c.args.b.now (form c.args.pipe.now).pipe c.args.locks.now c.requires.locks c.args.m c.requires.at.memory c.requires.locked c.args.tickets.now c.requires.tickets
+    ∙ ticket_bits (members g.L.LockModule) c.args.b.now (form c.args.setting.now.pipe.now).pipe c.args.setting.now.locks.now c.requires.locks c.args.m c.requires.at.memory c.requires.locked c.args.setting.now.tickets.now c.requires.tickets
 
 pub returns-clause-looked : goal.returns-clause-looked
 returns-clause-looked g c =
     let a = c.args.b.now in
     let w = c.args.self.now in
-    let ls = locks_in (members g.L.LockModule) a c.args.locks.now in
+    let ls = locks_in (members g.L.LockModule) a c.args.setting.now.locks.now in
     let held = held_of (parts_in a w).held c.args.m c.args.a in
     let addr = signal_at (signals_in a w.vars.items) c.args.a in
-    let ticket = signal_at (signals_in a c.args.tickets.now) c.args.m in
+    let ticket = signal_at (signals_in a c.args.setting.now.tickets.now) c.args.m in
     IfOk-weaker c.look_held.result _ _
     (λ x h. looked_as ls c.args.m (signal a c.held-held.result) held (signal a c.variable-addr.result) addr (signal a c.variable-ticket.result) ticket (signal c.look_held.new.b x) c.held-held.ensures.same c.variable-addr.ensures.same c.variable-ticket.ensures.same h)
     c.look_held.ensures.looked

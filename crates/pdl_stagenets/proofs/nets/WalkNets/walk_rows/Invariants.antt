@@ -11,9 +11,9 @@ use Rattle.pdl_stagenets.proofs.nets.WalkNets.walk_rows.Given as goal
 
 abbrev pub invariant-loop-i : goal.invariant-loop-i
 invariant-loop-i g l = record {
-  walk : IsWalk l.b (form l.pipe).pipe (form l.pipe).widths l.self;
-  typed : AreWalkedRows (form l.pipe) (stmts_view l.stmts) (drop l.i-index l.rows);
-  steps : AreSteps l.b (form l.pipe).pipe (locks_in (members g.L.LockModule) l.fn.b l.fn.locks) (tickets_in l.fn.b l.fn.tickets)
+  walk : IsWalk l.b (form l.setting.pipe.now).pipe (form l.setting.pipe.now).widths l.self;
+  typed : AreWalkedRows (form l.setting.pipe.now) (stmts_view l.stmts) (drop l.i-index l.rows);
+  steps : AreSteps l.b (form l.setting.pipe.now).pipe (locks_in (members g.L.LockModule) l.fn.b l.fn.setting.locks.now) (tickets_in l.fn.b l.fn.setting.tickets.now)
       (map (stmt_at (stmts_view l.stmts)) (take l.i-index l.rows)) (walk_in l.fn.b l.fn.self) (walk_in l.b l.self);
   extends : Extends l.fn.b l.b;
 }
