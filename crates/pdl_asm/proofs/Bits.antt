@@ -1,10 +1,10 @@
 -- Lists that are not empty, as code takes them apart.
-use Rattle.std.proofs.Common.{◌≡◌, ℕ, suc, ◌+◌, ◌-◌, ◌*◌, ◌^◌, ◌%◌, ◌<◌, ◌≤◌, refl, sym, ap, subst, ◌∙◌, arith, List, [], ◌∷◌, length, take, drop, get_or, ℤ, Bool, true, false, if◌then◌else◌, ◌==◌}
+use Rattle.std.proofs.Common.{◌≡◌, ℕ, ◌+◌, ◌-◌, ◌*◌, ◌^◌, ◌%◌, ◌<◌, ◌≤◌, refl, sym, ap, ◌∙◌, arith, List, [], ◌∷◌, length, take, drop, get_or, ℤ, Bool, true, if◌then◌else◌, ◌==◌}
 use Rattle.std.specs.Prelude.{Option, Result, Ok, Err}
 use Rattle.std.specs.Result.{result_unwrap_or}
 use Rattle.std.proofs.Math.Nat.{mod-eq_of_lt, mul-le-mul_right, pow-le-pow_right}
 use Rattle.std.proofs.lemmas.List.{take_rest}
-use Rattle.std.proofs.lemmas.Bool.{eq-eqb, ne_eqb}
+use Rattle.std.proofs.lemmas.Bool.{eq-eqb}
 use Rattle.pdl_kit.specs.declared.rule.Rule.{Rule}
 use Rattle.pdl_asmtable.specs.Tables.{TableValue}
 use Rattle.pdl_asmtable.specs.declared.table.Arg.{Arg}
@@ -42,15 +42,6 @@ letter_first t labels place bits (b ∷ bs) (p ∷ ps) c a d o h k e f g =
     let same : (b.letter == c) ≡ true = eq-eqb b.letter c (ap (λ (x : Arg). x.letter) (sym e) ∙ g) in
     ap (λ x. or_zero (argument_value t labels place bits x o)) e ∙ ap (λ x. or_zero (argument_value t labels place bits b x)) f
     ∙ sym (ap (λ x. if x then or_zero (argument_value t labels place bits b p) else letter_value t labels place bits bs ps c) same)
-
-pub letter_later : (t : TableValue) (labels : Labels) (place : ℤ) (bits : List ℕ) (args : List Arg) (os : List Operand) (c : ℕ) (a d : Arg) → 1 ≤ length args → 1 ≤ length os
-    → a ≡ get_or args 0 d → (a.letter ≡ c → ⊥) → letter_value t labels place bits (rest_of args) (rest_of os) c ≡ letter_value t labels place bits args os c
-letter_later t labels place bits [] os c a d h k e g = absurd (omega (arith, h))
-letter_later t labels place bits (b ∷ bs) [] c a d h k e g = absurd (omega (arith, k))
-letter_later t labels place bits (b ∷ bs) (p ∷ ps) c a d h k e g =
-    let other : (b.letter == c) ≡ false = ne_eqb b.letter c (λ q. g (ap (λ (x : Arg). x.letter) e ∙ q)) in
-    ap (λ xs. letter_value t labels place bits xs (rest_of (p ∷ ps)) c) (take_rest (b ∷ bs) 1) ∙ ap (λ xs. letter_value t labels place bits bs xs c) (take_rest (p ∷ ps) 1)
-    ∙ sym (ap (λ x. if x then or_zero (argument_value t labels place bits b p) else letter_value t labels place bits bs ps c) other)
 
 pub unwrap_is : (r : Result ℕ Rule) → result_unwrap_or r 0 ≡ or_zero r
 unwrap_is (Ok v) = refl

@@ -1,7 +1,7 @@
 -- Numbers of digits fit.
-use Rattle.std.proofs.Common.{◌≡◌, ℕ, ◌+◌, ◌*◌, ◌^◌, ◌<◌, ◌≤◌, arith}
+use Rattle.std.proofs.Common.{ℕ, ◌+◌, ◌*◌, ◌^◌, ◌<◌, ◌≤◌, arith}
 use Rattle.std.proofs.Math.Nat.{pow-le-pow_right}
-use Rattle.pdl_image.proofs.Numbers.{next_below}
+use Rattle.pdl_word.proofs.Numbers.{next_below}
 
 pub next_fits : (base most i v d : ℕ) → v < base ^ i → d < base → i < most → base ^ most ≤ 2 ^ 67 → v * base + d < 2 ^ 67
 next_fits base most i v d h k l room =

@@ -5,3 +5,5 @@ pub mod Operands
 pub mod Steps
 pub mod Taking
 pub mod Trimming
+pub mod WordsFit
+pub mod ReadBack

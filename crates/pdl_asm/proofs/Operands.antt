@@ -1,5 +1,5 @@
 -- Operands read so far, and what comes after them.
-use Rattle.std.proofs.Common.{◌≡◌, ℕ, List, [], ◌∷◌, ◌++◌, Option, Some, None, refl, ap, sym, ◌∙◌, append_assoc, ◌==◌, ◌+◌, ◌-◌, length, take, drop, eqb}
+use Rattle.std.proofs.Common.{◌≡◌, ℕ, List, [], ◌∷◌, ◌++◌, Option, Some, None, refl, ap, sym, ◌∙◌, append_assoc, ◌+◌, ◌-◌, length, take, drop, eqb}
 use Rattle.std.specs.List.{position, slice_split}
 use Rattle.std.proofs.lemmas.List.{take_rest}
 use Rattle.pdl_image.proofs.Parts.{parts_at, parts_whole}
@@ -11,17 +11,9 @@ abbrev pub joined : List Operand → Option (List Operand) → Option (List Oper
 joined xs (Some ys) = Some (xs ++ ys)
 joined xs None = None
 
-pub joined-nil : (o : Option (List Operand)) → joined [] o ≡ o
-joined-nil (Some ys) = refl
-joined-nil None = refl
-
 pub joined-cons : (xs : List Operand) (x : Operand) (o : Option (List Operand)) → joined (xs ++ x ∷ []) o ≡ joined xs (with_operand (Some x) o)
 joined-cons xs x (Some ys) = ap (λ zs. Some zs) (append_assoc xs (x ∷ []) ys)
 joined-cons xs x None = refl
-
-pub joined-none : (xs : List Operand) (o : Option (List Operand)) → joined xs (with_operand None o) ≡ None
-joined-none xs (Some ys) = refl
-joined-none xs None = refl
 
 -- one operand more
 pub next : (ops more : List Operand) (x : Operand) (part : List ℕ) (ps rest : List (List ℕ)) (whole : Option (List Operand)) → more ≡ ops ++ x ∷ [] → operand_of (trimmed part) ≡ Some x → rest ≡ part ∷ ps

@@ -1,7 +1,6 @@
 -- One line more, for labels and places.
-use Rattle.std.proofs.Common.{◌≡◌, ℕ, ◌+◌, ◌-◌, ◌<◌, ◌≤◌, ◌^◌, refl, sym, ◌∙◌, ap, subst, arith, List, [], ◌∷◌, ◌++◌, Option, Some, None, fold, pos, negsuc, ℤ}
+use Rattle.std.proofs.Common.{◌≡◌, ℕ, ◌≤◌, refl, sym, ◌∙◌, ap, arith, List, ◌∷◌, Option, fold, ℤ}
 use Rattle.std.proofs.lemmas.Int.{ints}
-use Rattle.std.specs.Prelude.{neg_ℤ, ◌≤ℤ◌, ◌+ℤ◌}
 use Rattle.pdl_asmtable.specs.Tables.{TableValue}
 use Rattle.pdl_asm.specs.declared.line.Line.{Line}
 use Rattle.pdl_asm.specs.Lines.{line_of}

@@ -1,12 +1,15 @@
 -- Lines taken one after another.
-use Rattle.std.proofs.Common.{◌≡◌, ◌≢◌, ℕ, suc, ◌+◌, ◌<◌, ◌≤◌, refl, sym, ◌∙◌, ap, subst, arith, inl, inr, Bool, true, false, cond, ◌&&◌, List, [], ◌∷◌, ◌++◌, length, ◌-◌, codes, map, get_or, set, Option, Some, None, eqb, leb, ltb, is_some, zero-add, zero, append_assoc, append-nil, fold, replicate, pos, negsuc, ℤ, if◌then◌else◌}
-use Rattle.std.specs.Prelude.{Result, Ok, Err, flat_map, nat_le}
+use Rattle.std.proofs.Common.{◌≡◌, ◌≢◌, ℕ, suc, ◌+◌, ◌<◌, ◌≤◌, refl, sym, ◌∙◌, ap, subst, arith, inl, inr, Bool, true, false, ◌&&◌, List, [], ◌∷◌, ◌++◌, length, ◌-◌, codes, map, get_or, set, Option, Some, None, ltb, is_some, zero-add, zero, append_assoc, append-nil, replicate, pos, negsuc, ℤ, if◌then◌else◌}
+use Rattle.std.specs.Prelude.{Ok, Err, flat_map, nat_le}
 use Rattle.std.specs.List.{range_with_len}
-use Rattle.std.proofs.lemmas.Bool.{cases_Bool, cases_lt, le-leb, lt-ltb, le-ltb, eq-eqb, ne_eqb}
+use Rattle.std.proofs.lemmas.Bool.{cases_lt, lt-ltb, le-ltb, eq-eqb, ne_eqb}
 use Rattle.std.proofs.lemmas.List.FromFn.{get_or-map-range_with_len, get_or-range_with_len, length-range_with_len}
+use Rattle.std.proofs.lemmas.List.Sums.{fold_push}
 use Rattle.pdl_kit.specs.declared.rule.Rule.{Rule}
-use Rattle.pdl_kit.specs.declared.rule.Rule.TheVariants.{A1, A2, A3, A4, A5, A6, A7, A8}
+use Rattle.pdl_kit.specs.declared.rule.Rule.TheVariants.{A2, A3, A4, A5, A6, A7, A8}
+use Rattle.pdl_image.proofs.Filling.{or_else_assoc, or_else_none}
 use Rattle.pdl_image.proofs.MapSet.{map_same, map_set}
+use Rattle.pdl_image.specs.Images.{or_else}
 use Rattle.pdl_image.specs.Lines.{lines}
 use Rattle.pdl_asmtable.specs.Dictionaries.{value_of}
 use Rattle.pdl_asmtable.specs.Tables.{TableValue}
@@ -15,29 +18,17 @@ use Rattle.pdl_asm.specs.declared.line.Operand.{Operand}
 use Rattle.pdl_asm.specs.declared.line.Operation.{Operation}
 use Rattle.pdl_asm.specs.declared.line.Operation.TheVariants.{Nothing, At, Word, Insn}
 use Rattle.pdl_asm.specs.declared.line.Line.{Line}
-use Rattle.pdl_asm.specs.declared.asm_error.AsmError.{AsmError}
 use Rattle.pdl_asm.specs.declared.asm_error.AsmError.TheVariants.{Refused, NoMemory}
-use Rattle.pdl_asm.specs.Values.{Labels, in_word, lower, operands_rule, rank}
-use Rattle.pdl_asm.specs.Assembly.{Meets, Placed, addresses, image, image_text, image_unless, placed, word_line, at_line, broken, first_wrong, free_rule, insn_rule, insn_word, is_at, is_taken, labels_of, line_rule, line_word, operation_rule, operation_word, or_else, place_rule, with_line, word_at, written}
+use Rattle.pdl_asm.specs.Values.{Labels, lower, rank}
+use Rattle.pdl_asm.specs.Assembly.{Meets, Placed, addresses, image, image_text, image_unless, placed, word_line, at_line, broken, first_wrong, free_rule, insn_rule, insn_word, is_at, is_taken, labels_of, line_rule, line_word, operation_rule, operation_word, place_rule, with_line, word_at, written}
 use Rattle.pdl_asm.specs.Slots.{AreWritten, is_taken_in, slots_of, with_word}
+use Rattle.pdl_asm.specs.declared.asm_error.AsmError.{AsmError}
 
 pub addresses_are : addresses ≡ 65536
 unfolding addresses
 addresses_are = refl
 
-fold_push : {A B : Type 0} (f : B → A → B) (z : B) (xs : List A) (x : A) → fold f z (xs ++ x ∷ []) ≡ f (fold f z xs) x
-fold_push f z [] x = refl
-fold_push f z (y ∷ xs) x = fold_push f (f z y) xs x
-
 -- ---- what lines write, one line more
-
-or_else_none : (o : Option ℕ) → or_else o None ≡ o
-or_else_none None = refl
-or_else_none (Some v) = refl
-
-or_else_assoc : (o p q : Option ℕ) → or_else o (or_else p q) ≡ or_else (or_else o p) q
-or_else_assoc None p q = refl
-or_else_assoc (Some v) p q = refl
 
 written_push : (t : TableValue) (labels : Labels) (done : List Placed) (p : Placed) (a : ℕ) → written t labels (done ++ p ∷ []) a ≡ or_else (written t labels done a) (word_at t labels a p)
 written_push t labels [] p a = or_else_none (word_at t labels a p)
@@ -264,9 +255,9 @@ flat_end f xs a n h =
 
 text_same : (t : TableValue) (labels : Labels) (ps : List Placed) (slots : List (Option ℕ)) → slots ≡ slots_of t labels ps → image_text t (λ a. get_or slots a None) ≡ image_text t (written t labels ps)
 text_same t labels ps slots e =
-    ap (λ xs. codes "image 1\n" ++ xs) (flat_same (λ a. word_line t a (get_or slots a None)) (λ a. word_line t a (written t labels ps a)) 0 addresses (λ k h.
-    let P : ℕ → Type 0 = λ m. word_line t m (get_or slots m None) ≡ word_line t m (written t labels ps m) in
-    subst P (sym (zero-add k)) (ap (word_line t k) (ap (λ s. get_or s k None) e ∙ row_at t labels ps k h))))
+    ap (λ xs. codes "image 1\n" ++ xs) (flat_same (λ a. word_line t.mem t.word a (get_or slots a None)) (λ a. word_line t.mem t.word a (written t labels ps a)) 0 addresses (λ k h.
+    let P : ℕ → Type 0 = λ m. word_line t.mem t.word m (get_or slots m None) ≡ word_line t.mem t.word m (written t labels ps m) in
+    subst P (sym (zero-add k)) (ap (word_line t.mem t.word k) (ap (λ s. get_or s k None) e ∙ row_at t labels ps k h))))
 
 -- what a text is, where no line is wrong, and where one is
 pub image_is : (t : TableValue) (text : List ℕ) (labels : Labels) (slots : List (Option ℕ)) (bytes : List ℕ) → labels ≡ labels_of (placed t (pos 0) (lines text))
@@ -299,7 +290,7 @@ none_left_of t place [] h = refl
 none_left_of t place (c ∷ cs) h = absurd (omega (arith, h))
 
 pub text_end : (t : TableValue) (slots words : List (Option ℕ)) → slots ≡ words → length slots ≡ 65536
-    → codes "image 1\n" ++ flat_map (λ a. word_line t a (get_or slots a None)) (range_with_len 0 (length slots)) ≡ image_text t (λ a. get_or words a None)
+    → codes "image 1\n" ++ flat_map (λ a. word_line t.mem t.word a (get_or slots a None)) (range_with_len 0 (length slots)) ≡ image_text t (λ a. get_or words a None)
 text_end t slots words e l =
-    ap (λ m. codes "image 1\n" ++ flat_map (λ a. word_line t a (get_or slots a None)) (range_with_len 0 m)) (l ∙ sym addresses_are)
-    ∙ ap (λ s. codes "image 1\n" ++ flat_map (λ a. word_line t a (get_or s a None)) (range_with_len 0 addresses)) e
+    ap (λ m. codes "image 1\n" ++ flat_map (λ a. word_line t.mem t.word a (get_or slots a None)) (range_with_len 0 m)) (l ∙ sym addresses_are)
+    ∙ ap (λ s. codes "image 1\n" ++ flat_map (λ a. word_line t.mem t.word a (get_or s a None)) (range_with_len 0 addresses)) e

@@ -1,5 +1,5 @@
 -- Texts without blanks at their ends, and what stands before a comment.
-use Rattle.std.proofs.Common.{◌≡◌, ℕ, Bool, true, false, List, [], ◌∷◌, ◌++◌, length, ◌+◌, ◌-◌, ◌≤◌, take, drop, get_or, arith, subst, refl, ap, sym, ◌∙◌, append_assoc, if◌then◌else◌}
+use Rattle.std.proofs.Common.{◌≡◌, ℕ, true, false, List, [], ◌∷◌, ◌++◌, length, ◌+◌, ◌-◌, ◌≤◌, take, drop, get_or, arith, subst, refl, ap, sym, ◌∙◌, append_assoc, if◌then◌else◌}
 use Rattle.std.proofs.lemmas.List.{take_all, take_more, take_rest}
 use Rattle.pdl_asm.specs.Lines.{is_blank, is_comment, onto_trimmed, trim_end, uncommented}
 
@@ -30,10 +30,6 @@ before_more text c cs f h =
       whole = append_assoc f.front (c ∷ []) cs ∙ f.whole;
       free = append_assoc f.front (c ∷ []) (uncommented cs) ∙ sym (ap (λ b. f.front ++ (if b then [] else c ∷ uncommented cs)) h) ∙ f.free;
     }
-
-take_front : (xs ys : List ℕ) → take (length xs) (xs ++ ys) ≡ xs
-take_front [] ys = refl
-take_front (x ∷ xs) ys = ap (λ zs. x ∷ zs) (take_front xs ys)
 
 -- ---- the same, of slices as code makes them
 

@@ -1,9 +1,10 @@
 -- The image that an assembly text is with a table, or its refusal.
-use Rattle.std.specs.Prelude.{◌≡◌, ℕ, ℤ, pos, negsuc, ◌+ℤ◌, ◌+◌, ◌==◌, nat_lt, Bool, true, false, ◌&&◌, List, [], ◌∷◌, ◌++◌, fold, flat_map, Option, Some, None, is_some, option_and_then, Result, Ok, Err, codes, decimal, if◌then◌else◌}
+use Rattle.std.specs.Prelude.{◌≡◌, ℕ, ℤ, pos, negsuc, ◌+ℤ◌, ◌+◌, ◌==◌, nat_lt, Bool, true, false, ◌&&◌, List, [], ◌∷◌, ◌++◌, fold, flat_map, Option, Some, None, is_some, Result, Ok, Err, codes, decimal, if◌then◌else◌}
 use Rattle.std.specs.List.{range_with_len}
 use Rattle.pdl_kit.specs.declared.rule.Rule.{Rule}
 use Rattle.pdl_kit.specs.declared.rule.Rule.TheVariants.{A1, A2, A5, A6, A7, A8}
 use Rattle.pdl_semantics.specs.Lines.{hex, hex_digits}
+use Rattle.pdl_image.specs.Images.{or_else}
 use Rattle.pdl_image.specs.Lines.{lines}
 use Rattle.pdl_asmtable.specs.Dictionaries.{value_of, defined}
 use Rattle.pdl_asmtable.specs.declared.table.Insn.{Insn as TableInsn}
@@ -87,11 +88,6 @@ is_at (negsuc n) address = false
 abbrev pub word_at : TableValue → Labels → ℕ → Placed → Option ℕ
 word_at t labels address p = if is_at p.place address then line_word t labels p.place p.line else None
 
--- the first of two that is there
-abbrev pub or_else : Option ℕ → Option ℕ → Option ℕ
-or_else (Some v) later = Some v
-or_else None later = later
-
 -- the word that lines write at an address, if one does
 abbrev pub written : TableValue → Labels → List Placed → ℕ → Option ℕ
 written t labels [] address = None
@@ -161,14 +157,14 @@ first_wrong t labels before number (p ∷ ps) =
 unfoldable pub addresses : ℕ
 addresses = 65536
 
--- the line `<mem> <address> <hex>` of a word, if one is written
-abbrev pub word_line : TableValue → ℕ → Option ℕ → List ℕ
-word_line t address None = []
-word_line t address (Some v) = t.mem ++ codes " " ++ decimal address ++ codes " " ++ hex (hex_digits t.word) v ++ codes "\n"
+-- the line `<mem> <address> <hex>` of a word of so many bits, if one is written
+abbrev pub word_line : List ℕ → ℕ → ℕ → Option ℕ → List ℕ
+word_line mem bits address None = []
+word_line mem bits address (Some v) = mem ++ codes " " ++ decimal address ++ codes " " ++ hex (hex_digits bits) v ++ codes "\n"
 
 -- the image of the words that are written, by ascending address
 abbrev pub image_text : TableValue → (ℕ → Option ℕ) → List ℕ
-image_text t word = codes "image 1\n" ++ flat_map (λ address. word_line t address (word address)) (range_with_len 0 addresses)
+image_text t word = codes "image 1\n" ++ flat_map (λ address. word_line t.mem t.word address (word address)) (range_with_len 0 addresses)
 
 -- the image, unless a line is wrong
 abbrev pub image_unless : Option AsmError → List ℕ → Result (List ℕ) AsmError

@@ -3,3 +3,4 @@ pub mod Values
 pub mod Assembly
 pub mod Slots
 pub mod Places
+pub mod ReadBack

@@ -3,6 +3,7 @@ ghost use Rattle.std.specs.Prelude.{◌≡◌, ◌≤◌, IfOk, OnOk, MatchResul
 ghost use Rattle.pdl_kit.specs.declared.files.TheConstants.{LONGEST_FILE};
 ghost use Rattle.pdl_image.specs.Lines.{lines};
 ghost use Rattle.pdl_asm.specs.Assembly.{image, labels_of, placed, Meets};
+ghost use Rattle.pdl_asm.specs.ReadBack.{IsReadBack};
 ghost use Rattle.pdl_asm.specs.Slots.{AreWritten};
 
 use crate::asm_error::AsmError;
@@ -19,7 +20,8 @@ use std::alloc::Global;
 // The places of the labels that a text defines.
 fn read_labels(alloc: Global, table: &Table, text: &[u8]) -> Result<Dictionary<i128>, AsmError>
     requires { length text.now ≤ LONGEST_FILE }
-    ensures { MatchResult result (λ l. l ≡ labels_of (placed table.now (pos 0) (lines text.now))) (λ e. e ≡ AsmError.NoMemory) }
+    ensures { MatchResult result (λ l. l ≡ labels_of (placed table.now (pos 0) (lines text.now)))
+        (λ e. e ≡ AsmError.NoMemory) }
 {
     let mut labels = Dictionary::new(alloc);
     let mut place = 0;
@@ -71,11 +73,12 @@ fn write_words(
 ///
 /// A1: a line's form. A2: an unknown instruction. A3: the number of operands. A4: an operand for a register that is the name of none. A5: a value outside its field, no number where one must stand, or a `.word` outside `-2^(word-1)` to `2^word - 1`. A6: a label that is defined nowhere, or was defined before. A7: `.at`, or the place of a word, outside 0 to 65,535. A8: a word written before. A refusal is that of the lowest wrong line, counted from 1, there of the lowest rule.
 ///
-/// The text has at most `LONGEST_FILE` bytes. The answer is `image 1` and for each word that is written, by ascending address, `<mem> <address> <hex>`.
+/// The text has at most `LONGEST_FILE` bytes. The answer is `image 1` and for each word that is written, by ascending address, `<mem> <address> <hex>`. Read as an image for one memory of the table's name and width that has the addresses, it gives the same words, and 0 at all others.
 #[tactic(auto, unfolding(crate::specs::Assembly::image))]
 pub fn assemble(alloc: Global, table: &Table, text: &[u8]) -> Result<Vec<u8>, AsmError>
     requires { length text.now ≤ LONGEST_FILE }
-    ensures { Meets (λ t. t.items) (image table.now text.now) result }
+    ensures meets { Meets (λ t. t.items) (image table.now text.now) result }
+    ensures read_back { IfOk result (λ t. IsReadBack table.now text.now t.items) }
 {
     let labels = read_labels(alloc, table, text)?;
     let words = write_words(alloc, table, &labels, text)?;

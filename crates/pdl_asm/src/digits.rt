@@ -9,7 +9,8 @@ ghost use Rattle.pdl_asm.specs.Lines.{decimal_of, hexadecimal_of};
 // The value of a digit of a base, where a letter is a lower one.
 fn digit_in(byte: u8, base: u128) -> Option<u128>
     requires { base ≤ 36 }
-    ensures { MatchOption result (is_digit_of base byte ≡ false) (λ d. (is_digit_of base byte ≡ true) × (d ≡ digit_value byte) × (d < base)) }
+    ensures { MatchOption result (is_digit_of base byte ≡ false)
+        (λ d. (is_digit_of base byte ≡ true) × (d ≡ digit_value byte) × (d < base)) }
 {
     let digit = match byte {
         b'0'..=b'9' => u128::from(byte - b'0'),
@@ -24,7 +25,8 @@ fn read_digits(digits: &[u8], base: u128, most: usize) -> Option<u128>
     requires base { base ≤ 36 }
     requires some { 2 ≤ base }
     requires room { base ^ most ≤ 2 ^ 67 }
-    ensures value { MatchOption result (are_digits base most digits.now ≡ false) (λ n. (are_digits base most digits.now ≡ true) × (n ≡ digits_value base digits.now)) }
+    ensures value { MatchOption result (are_digits base most digits.now ≡ false)
+        (λ n. (are_digits base most digits.now ≡ true) × (n ≡ digits_value base digits.now)) }
     ensures small { IfSome result (λ n. n ≤ 2 ^ 67) }
 {
     if digits.is_empty() || digits.len() > most {

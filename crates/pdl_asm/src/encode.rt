@@ -20,7 +20,8 @@ fn letter_value(
     letter: u8,
 ) -> u64
     requires { length bits.now ≤ 64 }
-    ensures { result ≡ letter_value_of table.now labels.now place bits.now args.now operands.now letter }
+    ensures { result
+        ≡ letter_value_of table.now labels.now place bits.now args.now operands.now letter }
 {
     match args {
         [arg, later_args @ ..] => match operands {
@@ -49,7 +50,9 @@ fn read_bit(
 ) -> u64
     requires whole { length insn.now.bits ≤ 64 }
     requires right { length right.now < 64 }
-    ensures value { result ≡ bit_of (letter_value_of table.now labels.now place insn.now.bits insn.now.args operands.now) bit right.now }
+    ensures value { result ≡ bit_of
+        (letter_value_of table.now labels.now place insn.now.bits insn.now.args operands.now)
+        bit right.now }
     ensures one { result ≤ 1 }
 {
     match bit {
@@ -81,7 +84,9 @@ fn word_of(
 ) -> u64
     requires whole { length insn.now.bits ≤ 64 }
     requires few { length bits.now ≤ 64 }
-    ensures value { result ≡ word_of_bits (letter_value_of table.now labels.now place insn.now.bits insn.now.args operands.now) bits.now }
+    ensures value { result ≡ word_of_bits
+        (letter_value_of table.now labels.now place insn.now.bits insn.now.args operands.now)
+        bits.now }
     ensures small { result < 2 ^ length bits.now }
 {
     match bits {
@@ -102,7 +107,8 @@ fn insn_word(
     name: &Name,
     operands: &[Operand],
 ) -> Option<u64>
-    ensures { result ≡ insn_word_of table.now labels.now place (value_of table.now.insns name.now) operands.now }
+    ensures { result
+        ≡ insn_word_of table.now labels.now place (value_of table.now.insns name.now) operands.now }
 {
     match table.insn(name) {
         Some(insn) => Some(word_of(table, labels, place, insn, operands, insn.bits.as_slice())),

@@ -55,7 +55,8 @@ fn read_operand(alloc: Global, text: &[u8]) -> Result<Option<Operand>, NoMemory>
 // The text before the first comma, and the text after it, if there is one.
 #[tactic(auto, using(crate::proofs::Operands::commas_at, crate::proofs::Operands::commas_none))]
 fn split_part(text: &[u8]) -> (&[u8], Option<&[u8]>)
-    ensures parts { slice_split (λ c. c == 44) text.now ≡ result.0.now ∷ parts_after (option_copied result.1) }
+    ensures parts { slice_split (λ c. c == 44) text.now
+        ≡ result.0.now ∷ parts_after (option_copied result.1) }
     ensures shorter { IfSome result.1 (λ r. length r.now < length text.now) }
 {
     match find_byte(text, b',') {

@@ -102,7 +102,8 @@ fn insn_rule(
     name: &Name,
     operands: &[Operand],
 ) -> Option<Rule>
-    ensures { result ≡ insn_rule_of table.now labels.now taken place (value_of table.now.insns name.now) operands.now }
+    ensures { result ≡ insn_rule_of table.now labels.now taken place
+        (value_of table.now.insns name.now) operands.now }
 {
     match table.insn(name) {
         Some(insn) => lower(

@@ -7,6 +7,7 @@ use Rattle.pdl_asmtable.specs.Dictionaries.{value_of, defined}
 use Rattle.std.proofs.lemmas.Bool.{eqb-true}
 use Rattle.pdl_asmtable.specs.Tables.{AreWide, breaks_b3, first_broken}
 use Rattle.pdl_asmtable.specs.declared.table.Insn.{Insn}
+use Rattle.pdl_word.proofs.Bools.{none_given}
 
 insert_step : {T : Type 0} (a : Bool) (x : List ℕ) (v : T) (e : List ℕ × T) (es fs : List (List ℕ × T)) (o : Option T) → is_some (cond a (Some e.1) o) ≡ false
     → (is_some o ≡ false → fs ≡ es ++ (x, v) ∷ []) → (if a then (e.0, v) ∷ es else e ∷ fs) ≡ e ∷ (es ++ (x, v) ∷ [])
@@ -47,12 +48,8 @@ and_true true true h = refl
 and_true true false h = cc
 and_true false b h = cc
 
-first_step : (b : Bool) (k : ℕ) (o : Option ℕ) → (if b then Some k else o) ≡ None → (b ≡ false) × (o ≡ None)
-first_step true k o h = cc
-first_step false k o h = (refl, h)
-
 pub wide_if_none : (word k : ℕ) (es : List (List ℕ × Insn)) → first_broken (breaks_b3 word) k es ≡ None → AreWide word es
 wide_if_none word k [] h = tt
 wide_if_none word k (e ∷ es) h =
-    let f = first_step (breaks_b3 word e.1) k _ h in
+    let f = none_given (breaks_b3 word e.1) k _ h in
     (eqb-true (length e.1.bits) word (and_true _ _ f.0), wide_if_none word (k + 1) es f.1)

@@ -32,7 +32,8 @@ pub fn text_at<'a>(table: &'a Document, key: &str) -> Option<&'a str>
 
 /// The array at a key.
 pub fn list_at<'a>(table: &'a Document, key: &str) -> Option<&'a [Value]>
-    ensures { option_map (λ v. items_view v.now) result ≡ option_and_then as_array (get_member key.now (table_view table.now)) }
+    ensures { option_map (λ v. items_view v.now) result
+        ≡ option_and_then as_array (get_member key.now (table_view table.now)) }
 {
     match value_at(table, key) {
         Some(value) => match value.as_array() {
@@ -98,7 +99,8 @@ fn to_width(number: i64) -> Option<u8>
 /// The width at the key `word`.
 pub fn word_in(table: &Document) -> Option<u8>
     ensures range { IfSome result (λ w. (1 ≤ w) × (w ≤ 64)) }
-    ensures value { result ≡ option_and_then width_of (option_and_then as_integer (get_member (codes "word") (table_view table.now))) }
+    ensures value { result ≡ option_and_then width_of
+        (option_and_then as_integer (get_member (codes "word") (table_view table.now))) }
 {
     match value_at(table, "word") {
         Some(value) => match value.as_integer() {
@@ -112,7 +114,8 @@ pub fn word_in(table: &Document) -> Option<u8>
 /// The name at the key `mem`, if it is one of the pipeline language.
 pub fn mem_in(table: &Document) -> Option<&str>
     ensures name { IfSome result (λ m. is_pipe_name_of m.now ≡ true) }
-    ensures value { option_copied result ≡ option_and_then (where_is is_pipe_name_of) (text_of (codes "mem") (table_view table.now)) }
+    ensures value { option_copied result
+        ≡ option_and_then (where_is is_pipe_name_of) (text_of (codes "mem") (table_view table.now)) }
 {
     match text_at(table, "mem") {
         Some(name) => { if is_pipe_name(name) { Some(name) } else { None } }
@@ -181,7 +184,8 @@ fn are_tables(list: &[Value]) -> bool
 
 /// The tables at the key `insn`, if there is at least one.
 pub fn insns_in(table: &Document) -> Option<&[Value]>
-    ensures { option_map (λ v. items_view v.now) result ≡ option_and_then some_tables (option_and_then as_array (get_member (codes "insn") (table_view table.now))) }
+    ensures { option_map (λ v. items_view v.now) result ≡ option_and_then some_tables
+        (option_and_then as_array (get_member (codes "insn") (table_view table.now))) }
 {
     match list_at(table, "insn") {
         Some(list) => {

@@ -79,7 +79,8 @@ fn read_args(alloc: Global, list: &[Value]) -> Result<Option<Seq<Arg>>, NoMemory
 
 // The arguments at the key `args`, if each is there.
 fn args_in(alloc: Global, table: &Document) -> Result<Option<Seq<Arg>>, NoMemory>
-    ensures { IfOk result (λ o. o ≡ option_and_then args_of (option_and_then as_array (get_member (codes "args") (table_view table.now)))) }
+    ensures { IfOk result (λ o. o ≡ option_and_then args_of
+        (option_and_then as_array (get_member (codes "args") (table_view table.now)))) }
 {
     match list_at(table, "args") {
         Some(list) => read_args(alloc, list),
@@ -102,7 +103,8 @@ fn without_spaces(alloc: Global, bits: &[u8]) -> Result<Seq<u8>, NoMemory>
 
 // The name of an instruction, if it has the form.
 fn name_in(table: &Document) -> Option<&str>
-    ensures { option_copied result ≡ option_and_then (where_is is_name_of) (text_of (codes "name") (table_view table.now)) }
+    ensures { option_copied result
+        ≡ option_and_then (where_is is_name_of) (text_of (codes "name") (table_view table.now)) }
 {
     match text_at(table, "name") {
         Some(name) => {

@@ -88,7 +88,8 @@ fn read_members(alloc: Global, document: &Document) -> Result<Table, TableError>
 
 // The document of a text, if it is TOML.
 fn parse(alloc: Global, text: &[u8]) -> Result<Document, TableError>
-    ensures { MatchResult result (λ d. document_of text.now ≡ Some (table_view d)) (λ e. IsNoDocument text.now e) }
+    ensures { MatchResult result (λ d. document_of text.now ≡ Some (table_view d))
+        (λ e. IsNoDocument text.now e) }
 {
     let Ok(text) = std::str::from_utf8(text) else {
         return Err(refused(Rule::B1, 0));

@@ -52,7 +52,8 @@ impl Model for Table {
 
     ghost view = { λ t. record { word = t.word; mem = t.mem; regs = t.regs; insns = t.insns } };
 
-    ghost invariant = { λ t. IsTable (record { word = t.word; mem = t.mem; regs = t.regs; insns = t.insns }) };
+    ghost invariant = { λ t. IsTable
+        (record { word = t.word; mem = t.mem; regs = t.regs; insns = t.insns }) };
 }
 
 impl Table {
@@ -69,11 +70,12 @@ impl Table {
         }
     }
 
-    /// How many bits a word has, 1 to 64.
+    /// How many bits a word has, 1 to 64; and what every table keeps.
     pub fn word(&self) -> u8
         ensures value { result ≡ self.now.word }
         ensures low { 1 ≤ result }
         ensures high { result ≤ 64 }
+        ensures table { IsTable self.now }
     {
         self.word
     }

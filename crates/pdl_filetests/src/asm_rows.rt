@@ -94,3 +94,40 @@ fn refuses(rt: HostRuntime) {
         assert_eq!(rt; refusal, Some(AsmError::Refused { rule, line }));
     }
 }
+
+#[test]
+fn refuses_by_the_lowest_rule(rt: HostRuntime) {
+    let rows: [(&[u8], Rule, u32); 11] = [
+        (b"x:\nx: nop", Rule::A2, 2),
+        (b"add r2", Rule::A3, 1),
+        (b"x:\nx: add r2, 0", Rule::A4, 2),
+        (b"add r2, 99", Rule::A4, 1),
+        (b"x:\nx: add r1, 99", Rule::A5, 2),
+        (b"x:\nx: .at -1", Rule::A6, 2),
+        (b"x: .word 1\n.at 0\nx: .word 1", Rule::A6, 3),
+        (b".at 65535\n.word 1\n.word 999", Rule::A5, 3),
+        (b".word 1\n.at 0\n.word 999", Rule::A5, 3),
+        (b".at 65535\n.word 1\nadd r1", Rule::A3, 3),
+        (b".at 65535\n.word 1\nnop", Rule::A2, 3),
+    ];
+    for (text, rule, line) in rows {
+        let refusal = image(rt.alloc(), text).err();
+        assert_eq!(rt; refusal, Some(AsmError::Refused { rule, line }));
+    }
+}
+
+#[test]
+fn goes_on_after_a_wrong_line(rt: HostRuntime) {
+    let rows: [(&[u8], Rule, u32); 6] = [
+        (b"b x\n.at 65536\nx:", Rule::A5, 1),
+        (b"b x\n.at 14\nadd r1\nx:", Rule::A3, 3),
+        (b"b x\n.at 15\nadd r1\nx:", Rule::A5, 1),
+        (b"b x\n.at 15\nnop\nx:", Rule::A2, 3),
+        (b"b x\n.at 15\n.nop\nx:", Rule::A1, 3),
+        (b".at 5\nb 21", Rule::A5, 2),
+    ];
+    for (text, rule, line) in rows {
+        let refusal = image(rt.alloc(), text).err();
+        assert_eq!(rt; refusal, Some(AsmError::Refused { rule, line }));
+    }
+}

@@ -38,8 +38,8 @@ fn refusal(alloc: Global, text: &[u8]) -> Option<TableError> {
 }
 
 #[test]
-fn refuses(rt: HostRuntime) {
-    let rows: [(&[u8], Rule, usize); 12] = [
+fn refuses_forms(rt: HostRuntime) {
+    let rows: [(&[u8], Rule, usize); 6] = [
         (
             b"word = 1\nmem = \"m\"\n[[insn]]\nname = \"a\"\nargs = []\nbits = \"0",
             Rule::B1,
@@ -66,6 +66,18 @@ fn refuses(rt: HostRuntime) {
             Rule::B2,
             1,
         ),
+    ];
+    for (text, rule, insn) in rows {
+        assert_eq!(rt;
+            refusal(rt.alloc(), text),
+            Some(TableError::Refused { rule, insn })
+        );
+    }
+}
+
+#[test]
+fn refuses_bits(rt: HostRuntime) {
+    let rows: [(&[u8], Rule, usize); 4] = [
         (
             b"word = 1\nmem = \"m\"\n[[insn]]\nname = \"a\"\nargs = []\nbits = \"?\"\n",
             Rule::B3,
@@ -86,6 +98,18 @@ fn refuses(rt: HostRuntime) {
             Rule::B4,
             1,
         ),
+    ];
+    for (text, rule, insn) in rows {
+        assert_eq!(rt;
+            refusal(rt.alloc(), text),
+            Some(TableError::Refused { rule, insn })
+        );
+    }
+}
+
+#[test]
+fn refuses_the_lowest(rt: HostRuntime) {
+    let rows: [(&[u8], Rule, usize); 6] = [
         (
             b"word = 1\nmem = \"m\"\n[[insn]]\nname = \"a\"\nargs = []\nbits = \"0\"\n[[insn]]\nname = \"a\"\nargs = []\nbits = \"1\"\n",
             Rule::B5,
@@ -95,6 +119,26 @@ fn refuses(rt: HostRuntime) {
             b"word = 1\nmem = \"m\"\n[[insn]]\nname = \"a\"\nargs = []\nbits = \"x\"\n[[insn]]\nname = \"b\"\nargs = []\nbits = \"?\"\n",
             Rule::B3,
             2,
+        ),
+        (
+            b"word = 1\nmem = \"m\"\n[[insn]]\nname = \"a\"\nargs = []\nbits = \"?\"\n[[insn]]\nname = \"b\"\nargs = []\n",
+            Rule::B2,
+            2,
+        ),
+        (
+            b"word = 8\nmem = \"m\"\n[[insn]]\nname = \"a\"\nargs = []\nbits = \"01 000000\"\n[[insn]]\nname = \"b\"\nargs = [\"t:rel\"]\nbits = \"100 tttt\"\n",
+            Rule::B3,
+            2,
+        ),
+        (
+            b"word = 1\n[[insn]]\nname = \"a\"\nargs = 3\nbits = \"0\"\n",
+            Rule::B2,
+            0,
+        ),
+        (
+            b"word = 1\nmem = \"m\"\ninsn = [{ name = \"a\", args = [], bits = \"0\" }, { name = \"a\", args = [], bits = \"1\" }, { name = \"b\", args = [], bits = \"x\" }]\n",
+            Rule::B4,
+            3,
         ),
     ];
     for (text, rule, insn) in rows {

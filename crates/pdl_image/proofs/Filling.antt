@@ -58,15 +58,15 @@ nothing_given (c ∷ d ∷ more) h =
     let f = and_parts (eqb c 47) (eqb d 47) h in
     comment_given c d more (eqb-true c 47 f.0) (eqb-true d 47 f.1)
 
-or_else_none : (o : Option ℕ) → or_else o None ≡ o
+pub or_else_none : (o : Option ℕ) → or_else o None ≡ o
 or_else_none None = refl
 or_else_none (Some v) = refl
 
-or_else_assoc : (o p q : Option ℕ) → or_else o (or_else p q) ≡ or_else (or_else o p) q
+pub or_else_assoc : (o p q : Option ℕ) → or_else o (or_else p q) ≡ or_else (or_else o p) q
 or_else_assoc None p q = refl
 or_else_assoc (Some v) p q = refl
 
-given_push : (before : List (List ℕ)) (line name : List ℕ) (address : ℕ) → given (before ++ line ∷ []) name address ≡ or_else (given before name address) (value_at (word_of line) name address)
+pub given_push : (before : List (List ℕ)) (line name : List ℕ) (address : ℕ) → given (before ++ line ∷ []) name address ≡ or_else (given before name address) (value_at (word_of line) name address)
 unfolding given
 given_push [] line name address = or_else_none (value_at (word_of line) name address)
 given_push (l ∷ ls) line name address =
@@ -131,13 +131,13 @@ broken_word before m w e = elim (cases_lt w.address m.depth) [
 ]
 
 -- the value that a word has for its own address, and for another one
-value_same : (w : Word) (name : List ℕ) → name ≡ w.name → value_at (Some w) name w.address ≡ Some w.value
+pub value_same : (w : Word) (name : List ℕ) → name ≡ w.name → value_at (Some w) name w.address ≡ Some w.value
 value_same w name e =
     let t : bytes_eq w.name name ≡ true = (bytes_eq-Decides w.name name).1 (sym e) in
     let u : eqb w.address w.address ≡ true = eq-eqb w.address w.address refl in
     rw (t, u) refl
 
-value_other : (w : Word) (name : List ℕ) (address : ℕ) → (name ≡ w.name → address ≡ w.address → ⊥) → value_at (Some w) name address ≡ None
+pub value_other : (w : Word) (name : List ℕ) (address : ℕ) → (name ≡ w.name → address ≡ w.address → ⊥) → value_at (Some w) name address ≡ None
 value_other w name address no_way = elim (cases_Bool (bytes_eq w.name name && eqb w.address address)) [
   | inl t ↦
       let f = and_parts (bytes_eq w.name name) (eqb w.address address) t in

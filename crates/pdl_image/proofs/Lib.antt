@@ -6,3 +6,4 @@ pub mod Filling
 pub mod TakenLines
 pub mod Whole
 pub mod Rows
+pub mod Written

@@ -13,7 +13,8 @@ const LONGEST_NAME: usize = 32;
 /// The bytes before the first space and those after it, if there is one.
 #[tactic(auto, using(crate::proofs::Parts::fields_at))]
 pub fn split_field(text: &[u8]) -> Option<(&[u8], &[u8])>
-    ensures { MatchOption result (fields text.now ≡ text.now ∷ []) (λ p. fields text.now ≡ p.0.now ∷ fields p.1.now) }
+    ensures { MatchOption result (fields text.now ≡ text.now ∷ [])
+        (λ p. fields text.now ≡ p.0.now ∷ fields p.1.now) }
 {
     match find_byte(text, b' ') {
         Some(end) => Some((&text[..end], &text[end + 1..])),
@@ -48,7 +49,8 @@ pub fn is_name(bytes: &[u8]) -> bool
 // The value of a digit of a base, where a letter is a lower one.
 fn digit_in(byte: u8, base: u64) -> Option<u64>
     requires { base ≤ 36 }
-    ensures { MatchOption result (is_digit_of base byte ≡ false) (λ d. (is_digit_of base byte ≡ true) × (d ≡ digit_value byte) × (d < base)) }
+    ensures { MatchOption result (is_digit_of base byte ≡ false)
+        (λ d. (is_digit_of base byte ≡ true) × (d ≡ digit_value byte) × (d < base)) }
 {
     let digit = match byte {
         b'0'..=b'9' => u64::from(byte - b'0'),
@@ -62,7 +64,8 @@ fn digit_in(byte: u8, base: u64) -> Option<u64>
 pub fn read_number(digits: &[u8], base: u64, most: usize) -> Option<u64>
     requires base { base ≤ 36 }
     requires room { base ^ most ≤ 2 ^ 64 }
-    ensures { MatchOption result (are_digits base most digits.now ≡ false) (λ n. (are_digits base most digits.now ≡ true) × (n ≡ digits_value base digits.now)) }
+    ensures { MatchOption result (are_digits base most digits.now ≡ false)
+        (λ n. (are_digits base most digits.now ≡ true) × (n ≡ digits_value base digits.now)) }
 {
     if digits.is_empty() || digits.len() > most {
         return None;

@@ -33,7 +33,8 @@ fn put_word(mem: &MemInfo, slots: &mut Slots, address: u64, value: u64) -> Resul
     requires low { 1 ≤ mem.now.width }
     requires high { mem.now.width ≤ 64 }
     requires depth { length slots.old ≡ mem.now.depth }
-    ensures rule { MatchResult result (λ _. broken_at mem.now slots.old address value ≡ None) (λ rule. broken_at mem.now slots.old address value ≡ Some rule) }
+    ensures rule { MatchResult result (λ _. broken_at mem.now slots.old address value ≡ None)
+        (λ rule. broken_at mem.now slots.old address value ≡ Some rule) }
     ensures kept { OnOk result (slots.new ≡ slice_set slots.old address (Some value)) }
 {
     if address >= u64::from(mem.depth) {
@@ -56,7 +57,8 @@ fn take_line(mems: &[MemInfo], slots: &mut [Slots], line: &[u8]) -> Result<(), R
     requires low { All (λ m. 1 ≤ m.width) mems.now }
     requires high { All (λ m. m.width ≤ 64) mems.now }
     requires slots { IsFor mems.now slots.old }
-    ensures { (before : List (List ℕ)) → slots.old ≡ all_slots mems.now before → Follows mems.now before line.now result slots.new }
+    ensures { (before : List (List ℕ)) → slots.old ≡ all_slots mems.now before
+        → Follows mems.now before line.now result slots.new }
 {
     if says_nothing(line) {
         return Ok(());
@@ -119,7 +121,8 @@ fn to_image(alloc: Global, slots: &[Slots]) -> Result<Image, NoMemory>
 // The text after the first line, where that is `image 1`.
 #[tactic(auto, using(crate::proofs::TakenLines::lines_of_none))]
 fn after_header(text: &[u8]) -> Option<&[u8]>
-    ensures value { MatchOption result (after_header_of (lines text.now) ≡ None) (λ rest. after_header_of (lines text.now) ≡ Some (lines rest.now)) }
+    ensures value { MatchOption result (after_header_of (lines text.now) ≡ None)
+        (λ rest. after_header_of (lines text.now) ≡ Some (lines rest.now)) }
     ensures shorter { IfSome result (λ rest. length rest.now ≤ length text.now) }
 {
     if text.is_empty() {

@@ -22,7 +22,8 @@ pub fn says_nothing(line: &[u8]) -> bool
 /// The word that a line of the form `<mem> <address> <hex>` gives.
 #[tactic(auto, using(crate::proofs::LineWords::one_part, crate::proofs::LineWords::two_parts, crate::proofs::LineWords::no_name, crate::proofs::LineWords::no_address, crate::proofs::LineWords::no_value, crate::proofs::LineWords::word_found))]
 pub fn read_word(line: &[u8]) -> Option<Word<'_>>
-    ensures { MatchOption result (word_of line.now ≡ None) (λ w. word_of line.now ≡ Some (record { name = w.name.now; address = w.address; value = w.value })) }
+    ensures { MatchOption result (word_of line.now ≡ None) (λ w. word_of line.now
+        ≡ Some (record { name = w.name.now; address = w.address; value = w.value })) }
 {
     let (name, after_name) = split_field(line)?;
     let (address, value) = split_field(after_name)?;

@@ -12,7 +12,8 @@ use pdl_kit::{Name, Rule};
 pub fn word_line(mem: &Name, address: u64, value: u64, width: u8) -> Line
     requires name { length mem.now ≤ 32 }
     requires width { width ≤ 64 }
-    ensures { result ≡ mem.now ++ codes " " ++ decimal address ++ codes " " ++ text.hex (text.hex_digits width) value ++ codes "\n" }
+    ensures { result ≡ mem.now ++ codes " " ++ decimal address ++ codes " "
+        ++ text.hex (text.hex_digits width) value ++ codes "\n" }
 {
     let mut line = Line::new();
     line.push(mem.as_bytes());
@@ -30,7 +31,8 @@ pub fn word_line(mem: &Name, address: u64, value: u64, width: u8) -> Line
 pub fn commit_line(number: u32, mem: &Name, address: u64, value: u64, width: u8) -> Line
     requires name { length mem.now ≤ 32 }
     requires width { width ≤ 64 }
-    ensures { result ≡ text.put_line number (record { name = mem.now; width = width }) (record { address = address; value = value }) }
+    ensures { result ≡ text.put_line number (record { name = mem.now; width = width })
+        (record { address = address; value = value }) }
 {
     let mut line = Line::new();
     line.push_decimal(u64::from(number));
@@ -74,7 +76,8 @@ pub fn threads_line(threads: u32) -> Line
 
 /// The line of an accepted source: `accepted stages K depth D`, with the number of its pipe's stages and the greatest number of them on a path.
 pub fn accepted_line(stages: usize, depth: usize) -> Line
-    ensures { result ≡ codes "accepted stages " ++ decimal stages ++ codes " depth " ++ decimal depth ++ codes "\n" }
+    ensures { result ≡ codes "accepted stages " ++ decimal stages ++ codes " depth "
+        ++ decimal depth ++ codes "\n" }
 {
     let mut line = Line::new();
     line.push(b"accepted stages ");
@@ -87,7 +90,8 @@ pub fn accepted_line(stages: usize, depth: usize) -> Line
 
 /// The line of a refused file: `refused RULE line N`, with the rule's name of two characters and the line counted from 1.
 pub fn refused_line(rule: Rule, line_number: u32) -> Line
-    ensures { result ≡ codes "refused " ++ text_of rule ++ codes " line " ++ decimal line_number ++ codes "\n" }
+    ensures { result ≡ codes "refused " ++ text_of rule ++ codes " line " ++ decimal line_number
+        ++ codes "\n" }
 {
     let mut line = Line::new();
     line.push(b"refused ");
@@ -100,7 +104,8 @@ pub fn refused_line(rule: Rule, line_number: u32) -> Line
 
 /// The line of a refused table of an instruction set: `refused RULE insn N`, with the instruction counted from 1; 0 is what stands in none.
 pub fn refused_insn(rule: Rule, insn: usize) -> Line
-    ensures { result ≡ codes "refused " ++ text_of rule ++ codes " insn " ++ decimal insn ++ codes "\n" }
+    ensures { result ≡ codes "refused " ++ text_of rule ++ codes " insn " ++ decimal insn
+        ++ codes "\n" }
 {
     let mut line = Line::new();
     line.push(b"refused ");

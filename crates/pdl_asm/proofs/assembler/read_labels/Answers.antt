@@ -1,9 +1,9 @@
-use Rattle.std.proofs.Common.{◌≡◌, ℕ, ◌-◌, ◌+◌, [], ◌∷◌, fold, sym, ap, ◌∙◌, arith, pos, subst, length, rules}
+use Rattle.std.proofs.Common.{◌≡◌, ◌-◌, ◌+◌, fold, sym, ap, ◌∙◌, arith, subst, length, rules}
 use Rattle.std.specs.Int.{cast_signed, cast_unsigned, w128}
 use Rattle.std.proofs.lemmas.Bool.{eqb-true}
 use Rattle.pdl_asm.specs.Places.{IsNear}
 use Rattle.pdl_image.specs.Lines.{lines}
-use Rattle.pdl_asm.specs.Assembly.{placed, with_line}
+use Rattle.pdl_asm.specs.Assembly.{with_line}
 use Rattle.pdl_asm.proofs.Steps.{labels_more, near_later, placed_first}
 use Rattle.pdl_asm.proofs.Taking.{none_left_of}
 use Rattle.pdl_asm.proofs.assembler.read_labels.Goals as goal

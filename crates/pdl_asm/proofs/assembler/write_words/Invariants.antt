@@ -1,4 +1,4 @@
-use Rattle.std.proofs.Common.{◌≡◌, ◌+◌, ◌-◌, ◌≤◌, length, pos}
+use Rattle.std.proofs.Common.{◌+◌, ◌-◌, ◌≤◌, length, pos}
 use Rattle.pdl_image.specs.Lines.{lines}
 use Rattle.pdl_asm.specs.Assembly.{placed}
 use Rattle.pdl_asm.specs.Places.{IsNear}

@@ -1,7 +1,8 @@
 use Rattle.std.proofs.Common.{arith}
-use Rattle.pdl_image.proofs.Numbers.{digits_next, next_below}
+use Rattle.pdl_image.proofs.Numbers.{digits_next}
 use Rattle.pdl_asm.proofs.Fits.{next_fits, all_fit}
 use Rattle.pdl_asm.proofs.digits.read_digits.Goals as goal
+use Rattle.pdl_word.proofs.Numbers.{next_below}
 
 pub overflow_mul-number : goal.overflow_mul-number
 overflow_mul-number c =

@@ -1,4 +1,4 @@
-use Rattle.std.proofs.Common.{◌≡◌, ℕ, ℤ, ◌+◌, ◌*◌, ◌^◌, ◌%◌, length, subst}
+use Rattle.std.proofs.Common.{◌≡◌, ℤ, ◌+◌, ◌*◌, ◌^◌, ◌%◌, length, subst}
 use Rattle.std.proofs.lemmas.Int.{to_z-of_z}
 use Rattle.pdl_asm.specs.Values.{letter_value, word_of_bits}
 use Rattle.pdl_asm.proofs.Bits.{rest_of, word_first}

@@ -7,5 +7,5 @@ use Rattle.pdl_asm.proofs.image.to_image.Given as goal
 -- the lines so far, and those to come, are all
 abbrev pub invariant-loop-address : goal.invariant-loop-address
 invariant-loop-address l =
-    l.text.items ++ flat_map (λ a. word_line l.table a (get_or l.slots a None)) (range_with_len l.address (length l.slots - l.address))
-    ≡ codes "image 1\n" ++ flat_map (λ a. word_line l.table a (get_or l.slots a None)) (range_with_len 0 (length l.slots))
+    l.text.items ++ flat_map (λ a. word_line l.table.mem l.table.word a (get_or l.slots a None)) (range_with_len l.address (length l.slots - l.address))
+    ≡ codes "image 1\n" ++ flat_map (λ a. word_line l.table.mem l.table.word a (get_or l.slots a None)) (range_with_len 0 (length l.slots))

@@ -1,6 +1,7 @@
 use Rattle.std.proofs.Common.{arith}
-use Rattle.pdl_image.proofs.Numbers.{digits_next, next_below, next_fits}
+use Rattle.pdl_image.proofs.Numbers.{digits_next}
 use Rattle.pdl_image.proofs.fields.read_number.Goals as goal
+use Rattle.pdl_word.proofs.Numbers.{next_below, next_fits}
 
 pub overflow_mul-number : goal.overflow_mul-number
 overflow_mul-number c =

@@ -1,5 +1,4 @@
-use Rattle.std.proofs.Common.{◌≡◌, ℕ, List, Option, None, replicate, subst, sym}
-use Rattle.pdl_asm.specs.Assembly.{addresses}
+use Rattle.std.proofs.Common.{◌≡◌, ℕ, None, replicate, subst, sym}
 use Rattle.pdl_asm.proofs.Taking.{addresses_are}
 use Rattle.pdl_asm.proofs.words.Words.new.Goals as goal
 
