@@ -5,3 +5,4 @@ pub mod Fix
 pub mod Bounds
 pub mod Widths
 pub mod Examples
+pub mod WidthLists

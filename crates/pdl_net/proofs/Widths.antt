@@ -98,10 +98,6 @@ wide_at c w (suc n) l (CellNet k) h =
     subst P (sym (signal_cell c w.cells k i)) (cell_wide c (IsThereAt c n) (signal c) w (wide_at c w n (omega arith)) (cell_at c k) (subst Q e (fits_cell c w.cells k i))))
     (cases_lt k n)
 
-pub wide : (c : Circuit) → IsWell c → (x : Net) → IsThere c x → IsWidth (signal c x).width
-unfolding IsThere
-wide c w x h = wide_at c w (length c.cells) (omega arith) x h
-
 pub cells_well : (c : Circuit) → IsWell c → CellsWell c
 unfolding IsThere
 cells_well c w = record { fit = w.cells; widths = λ k h. wide_at c w (length c.cells) (omega arith) (CellNet k) h }

@@ -1,5 +1,5 @@
 -- How a net's width comes from those of earlier nets.
-use Rattle.std.specs.Prelude.{◌≡◌, ℕ, ◌+◌, ◌*◌, ◌<◌, ◌≤◌}
+use Rattle.std.specs.Prelude.{◌≡◌, ℕ, ◌+◌, ◌*◌, ◌<◌, ◌≤◌, List, length, slice_index}
 use Rattle.pdl_net.specs.declared.Net.{Net}
 use Rattle.pdl_net.specs.declared.Net.TheVariants.{Input, Reg as RegNet, Cell as CellNet}
 use Rattle.pdl_net.specs.declared.width.Width.{Width}
@@ -24,3 +24,7 @@ Widens c n w (Bits b) = w ≡ b
 Widens c n w (Same a) = IsBefore c a n × (w ≡ (signal c a).width)
 Widens c n w (Sum a b) = IsBefore c a n × IsBefore c b n × ((signal c a).width + (signal c b).width ≤ 64) × (w ≡ (signal c a).width + (signal c b).width)
 Widens c n w (Times k a) = IsBefore c a n × (k * (signal c a).width ≤ 64) × (w ≡ k * (signal c a).width)
+
+-- these are the widths of the first cells
+pub record HasWidths (c : Circuit) (ws : List ℕ) : Type 0 where
+  pub each : (j : ℕ) → j < length ws → slice_index ws j ≡ (signal c (CellNet j)).width

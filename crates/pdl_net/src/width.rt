@@ -39,7 +39,8 @@ impl Netlist {
     fn widens(&self, net: Net) -> Width
         requires cells { CellsWell (circuit_of self.now) }
         requires there { IsThere (circuit_of self.now) net }
-        ensures { Widens (circuit_of self.now) (place net) (signal (circuit_of self.now) net).width result }
+        ensures { Widens (circuit_of self.now) (place net)
+            (signal (circuit_of self.now) net).width result }
     {
         match net {
             Net::Input(i) => Width::Bits(self.input_width(i)),
@@ -51,9 +52,12 @@ impl Netlist {
     #[tactic(auto, using(crate::proofs::Widths::before))]
     fn cell_widens(&self, k: usize, cell: Cell) -> Width
         requires within { k ≤ length self.now.cells }
-        requires fits { FitsIn (circuit_of self.now) (IsThereAt (circuit_of self.now) k) (signal (circuit_of self.now)) cell }
-        requires width { (cell_signal (circuit_of self.now) (signal (circuit_of self.now)) cell).width ≤ 64 }
-        ensures { Widens (circuit_of self.now) (k + 1) (cell_signal (circuit_of self.now) (signal (circuit_of self.now)) cell).width result }
+        requires fits { FitsIn (circuit_of self.now) (IsThereAt (circuit_of self.now) k)
+            (signal (circuit_of self.now)) cell }
+        requires width { (cell_signal (circuit_of self.now)
+            (signal (circuit_of self.now)) cell).width ≤ 64 }
+        ensures { Widens (circuit_of self.now) (k + 1)
+            (cell_signal (circuit_of self.now) (signal (circuit_of self.now)) cell).width result }
     {
         prove!(k <= self.cells.len());
         match cell {

@@ -10,9 +10,9 @@ use Rattle.pdl_net.specs.declared.Reg.{Reg}
 use Rattle.pdl_net.specs.declared.Netlist.{Netlist}
 use Rattle.pdl_net.specs.Circuit.{Circuit, circuit_of, inputs_of}
 use Rattle.pdl_net.specs.Well.{IsWell}
-use Rattle.pdl_net.specs.Run.{delayed_mems, loaded, start}
+use Rattle.pdl_net.specs.Run.{delayed_mems, loaded}
 use Rattle.pdl_net.proofs.Fix.{no_cell}
-use Rattle.pdl_netrun.specs.Plan.{place, value_count, held_at_start, IsHeld, HasConstants, ImageFits}
+use Rattle.pdl_netrun.specs.Plan.{place, held_at_start, IsHeld, HasConstants, ImageFits}
 use Rattle.pdl_netrun.specs.Sim.{begun, started, nothing}
 use Rattle.pdl_netrun.specs.Inside.{Holds, registers}
 use Rattle.pdl_netrun.proofs.Loaded.{holds_start}
@@ -38,13 +38,6 @@ front_length c =
     let a : length {A = ℕ} (map (λ w. 0) (inputs_of c)) ≡ length (inputs_of c) = simp length-map in
     let b : length (map (λ (r : Reg). r.reset) c.regs) ≡ length c.regs = simp length-map in
     omega (arith, e, a, b)
-
-pub room_first : (c : Circuit) (vs : List ℕ) → vs ≡ first_values c → length vs ≡ value_count c
-room_first c vs e =
-    let f = length-append (map (λ w. 0) (inputs_of c) ++ map (λ (r : Reg). r.reset) c.regs) (map held_at_start c.cells) in
-    let g : length (map held_at_start c.cells) ≡ length c.cells = simp length-map in
-    let h = front_length c in
-    ap length e ∙ omega (arith, f, g, h)
 
 pub constants_first : (c : Circuit) (vs : List ℕ) → vs ≡ first_values c → HasConstants c vs
 constants_first c vs e = record {

@@ -81,12 +81,3 @@ next_holds c s w t = record {
       let l = after_writes_below c s (array_at c m) w t (array_at c m).writes ((w.arrays m h).writes) (get_or s.arrays m []) (t.words m h) a in
       omega (arith, e, l);
 }
-
--- the same, of what is equal to it
-pub holds_next : (c : Circuit) (s : State) (regs : List ℕ) (arrays : List (List ℕ)) → IsWell c → Suits c s → regs ≡ next_regs c s → arrays ≡ next_arrays c s → Holds c regs arrays
-holds_next c s regs arrays w t e f =
-    let P : List ℕ → Type 0 = λ x. Holds c x arrays in
-    let Q : List (List ℕ) → Type 0 = λ x. Holds c (next_regs c s) x in
-    subst P (sym e) (subst Q (sym f) (next_holds c s w t))
-
-pub ruleset holds = (suits_of, next_holds)

@@ -1,6 +1,5 @@
 pub mod Words
 pub mod Steps
-pub mod WidthLemmas
 pub mod PlanLemmas
 pub mod Values
 pub mod Arrays
@@ -10,4 +9,3 @@ pub mod Stepped
 pub mod Cycles
 pub mod Loaded
 pub mod Sample
-pub mod Runs

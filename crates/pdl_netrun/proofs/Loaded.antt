@@ -1,7 +1,7 @@
 -- The state at the start.
 use Rattle.std.proofs.Common.{◌≡◌, ℕ, zero, suc, ◌+◌, ◌-◌, ◌*◌, ◌^◌, ◌<◌, ◌≤◌, ◌⊎◌, ⊎_elim, Bool, true, false, cond, List, [], ◌∷◌, length, map, filter, filter_map, flat_map, find, replicate, drop, get_or, All, Option, Some, None, bytes_eq, refl, sym, ap, ◌∙◌, subst, arith, length-append}
 use Rattle.std.specs.List.{cons_option, range_with_len}
-use Rattle.std.proofs.lemmas.List.{map_more, get_or-map, length-map, length-replicate, get_or-replicate, get_or_append_left, get_or-append_right, get_or-drop, get_or_past}
+use Rattle.std.proofs.lemmas.List.{get_or-map, length-map, length-replicate, get_or_append_left, get_or-append_right, get_or-drop}
 use Rattle.std.proofs.lemmas.List.Elements.{filter_map-append}
 use Rattle.std.proofs.lemmas.Bool.{cases_lt}
 use Rattle.std.proofs.lemmas.Slice.Eq.{bytes_eq-Decides}
@@ -19,8 +19,7 @@ use Rattle.pdl_net.specs.Pipe.{Head, head_of, is_input, PortMem, stage_ports, co
 use Rattle.pdl_image.specs.Images.{IsImage}
 use Rattle.pdl_netrun.specs.Plan.{ImageFits}
 use Rattle.pdl_netrun.specs.Inside.{Holds}
-
-pub ruleset resets = (map_more)
+use Rattle.pdl_word.proofs.Lists.{zeros_at}
 
 -- a netlist without delayed memories has none among its ports
 none_delayed : (delayed locked : List PortMem) (arrays : List Array) → filter (λ m. m.delayed) (mems_of delayed locked arrays) ≡ [] → delayed ≡ []
@@ -106,7 +105,7 @@ no_inputs n w e =
     ∙ grind (arith, filter_map-append, stages_show (range_with_len 0 p.stages), commits_show p.locked)
 
 -- each array with its part of the image
-loaded_at : (rest : List Array) (image : List (List ℕ)) (m : ℕ) → m < length rest → get_or (loaded rest image) m [] ≡ filled (get_or rest m no_array).depth (get_or image m [])
+pub loaded_at : (rest : List Array) (image : List (List ℕ)) (m : ℕ) → m < length rest → get_or (loaded rest image) m [] ≡ filled (get_or rest m no_array).depth (get_or image m [])
 loaded_at [] image m h = absurd (omega arith)
 loaded_at (a ∷ rest) image zero h = refl
 loaded_at (a ∷ rest) image (suc m) h =
@@ -120,19 +119,13 @@ loaded_length (a ∷ rest) image = let e = loaded_length rest (drop 1 image) in 
 filled_length : (d : ℕ) (ws : List ℕ) → length ws ≤ d → length (filled d ws) ≡ d
 filled_length d ws h = let e = length-append ws (replicate (d - length ws) 0) in let f = length-replicate {A = ℕ} (d - length ws) 0 in omega (arith, e, f)
 
-abbrev zeros : ℕ → List ℕ
-zeros n = replicate n 0
-
-zeros_at : (n i : ℕ) → get_or (zeros n) i 0 ≡ 0
-zeros_at n i = ⊎_elim (λ (lt : i < n). get_or-replicate n i 0 0 lt) (λ (ge : n ≤ i). get_or_past (zeros n) i 0 (let e = length-replicate {A = ℕ} n 0 in omega (arith, e))) (cases_lt i n)
-
 filled_below : (d w : ℕ) (ws : List ℕ) → ((a : ℕ) → get_or ws a 0 < 2 ^ w) → (a : ℕ) → get_or (filled d ws) a 0 < 2 ^ w
 filled_below d w ws f a =
-    let zs = zeros (d - length ws) in
+    let zs = replicate (d - length ws) 0 in
     let b = f a in
     ⊎_elim
     (λ (lt : a < length ws). let e = get_or_append_left ws zs 0 a lt in omega (arith, e, b))
-    (λ (ge : length ws ≤ a). let e = get_or-append_right ws zs (length ws) a 0 refl ge in let z = zeros_at (d - length ws) (a - length ws) in omega (arith, e, z, b))
+    (λ (ge : length ws ≤ a). let e = get_or-append_right ws zs (length ws) a 0 refl ge in let z : get_or zs (a - length ws) 0 ≡ 0 = zeros_at (d - length ws) (a - length ws) in omega (arith, e, z, b))
     (cases_lt a (length ws))
 
 pub holds_start : (n : Netlist) (image : List (List ℕ)) (regs : List ℕ) (arrays : List (List ℕ)) → IsWell (circuit_of n) → ImageFits (circuit_of n) image → regs ≡ map (λ r. r.reset) n.regs → arrays ≡ loaded n.arrays image → Holds (circuit_of n) regs arrays
@@ -150,5 +143,3 @@ holds_start n image regs arrays w i e f =
           let b = filled_below (array_at c m).depth (array_at c m).width (get_or image m []) (i.words m h) a in
           omega (arith, v, b);
     }
-
-pub ruleset start = (holds_start, image_fits, no_inputs)

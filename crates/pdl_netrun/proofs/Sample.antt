@@ -1,9 +1,10 @@
 -- The netlist of the tests breaks no rule.
-use Rattle.std.proofs.Common.{◌≡◌, ◌≢◌, ◌⊎◌, inl, inr, ℕ, zero, suc, ◌*◌, ◌^◌, ◌<◌, Bool, true, false, ◌&&◌, not, List, [], ◌∷◌, length, get_or, map, All, AllPairs, Some, codes, bytes_eq, refl, sym, ap, subst, arith, lit<, lit≤}
+use Rattle.std.proofs.Common.{◌≡◌, ◌≢◌, ◌⊎◌, inl, inr, ℕ, zero, suc, ◌*◌, ◌^◌, ◌<◌, Bool, true, ◌&&◌, not, List, [], ◌∷◌, length, get_or, map, All, AllPairs, Some, codes, bytes_eq, refl, sym, ap, subst, arith, lit<, lit≤}
 use Rattle.std.specs.Prelude.{slice_get}
 use Rattle.std.specs.List.{list_all}
 use Rattle.std.proofs.lemmas.Slice.Eq.{bytes_eq-Decides}
 use Rattle.std.specs.Fmt.{digits}
+use Rattle.std.proofs.lemmas.Bool.{and_parts}
 use Rattle.pdl_net.specs.declared.Net.TheVariants.{Reg as RegNet, Cell as CellNet}
 use Rattle.pdl_net.specs.declared.Netlist.{Netlist}
 use Rattle.pdl_net.specs.Run.{delayed_mems}
@@ -32,24 +33,20 @@ abbrev differ_all : List (List ℕ) → Bool
 differ_all [] = true
 differ_all (x ∷ xs) = list_all (λ y. not (bytes_eq x y)) xs && differ_all xs
 
-both : (a b : Bool) → (a && b) ≡ true → (a ≡ true) × (b ≡ true)
-both true b h = (refl, h)
-both false b h = absurd (cc h)
-
 apart : (x y : List ℕ) → not (bytes_eq x y) ≡ true → x ≢ y
 apart x y h e = let t = (bytes_eq-Decides x y).1 e in absurd (cc (h, t))
 
 apart_all : (x : List ℕ) (xs : List (List ℕ)) → list_all (λ y. not (bytes_eq x y)) xs ≡ true → (j : ℕ) (d : List ℕ) → j < length xs → x ≢ get_or xs j d
 apart_all x [] h j d l = absurd (omega arith)
-apart_all x (y ∷ ys) h zero d l = apart x y (both (not (bytes_eq x y)) (list_all (λ z. not (bytes_eq x z)) ys) h).0
-apart_all x (y ∷ ys) h (suc j) d l = apart_all x ys (both (not (bytes_eq x y)) (list_all (λ z. not (bytes_eq x z)) ys) h).1 j d (omega arith)
+apart_all x (y ∷ ys) h zero d l = apart x y (and_parts (not (bytes_eq x y)) (list_all (λ z. not (bytes_eq x z)) ys) h).0
+apart_all x (y ∷ ys) h (suc j) d l = apart_all x ys (and_parts (not (bytes_eq x y)) (list_all (λ z. not (bytes_eq x z)) ys) h).1 j d (omega arith)
 
 differing : (xs : List (List ℕ)) → differ_all xs ≡ true → AllPairs (λ a b. a ≢ b) xs
 differing [] h i j d l m = absurd (omega arith)
 differing (x ∷ xs) h zero zero d l m = absurd (omega arith)
-differing (x ∷ xs) h zero (suc j) d l m = apart_all x xs (both (list_all (λ y. not (bytes_eq x y)) xs) (differ_all xs) h).0 j d (omega arith)
+differing (x ∷ xs) h zero (suc j) d l m = apart_all x xs (and_parts (list_all (λ y. not (bytes_eq x y)) xs) (differ_all xs) h).0 j d (omega arith)
 differing (x ∷ xs) h (suc i) zero d l m = absurd (omega arith)
-differing (x ∷ xs) h (suc i) (suc j) d l m = differing xs (both (list_all (λ y. not (bytes_eq x y)) xs) (differ_all xs) h).1 i j d (omega arith) (omega arith)
+differing (x ∷ xs) h (suc i) (suc j) d l m = differing xs (and_parts (list_all (λ y. not (bytes_eq x y)) xs) (differ_all xs) h).1 i j d (omega arith) (omega arith)
 
 cells_fit : CellsFit circuit
 cells_fit = ((lit≤ tt, lit≤ tt, lit< tt), ((lit≤ tt, lit≤ tt, lit< tt), ((lit< tt, lit< tt, refl), ((lit< tt, lit≤ tt, lit< tt), ((lit≤ tt, lit≤ tt, lit< tt), ((lit< tt, lit≤ tt, lit< tt), ((lit< tt, lit< tt, refl), ((lit< tt, lit< tt, refl), tt))))))))

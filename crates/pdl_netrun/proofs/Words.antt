@@ -1,8 +1,8 @@
 -- Words of arrays, read and written.
-use Rattle.std.proofs.Common.{◌≡◌, ℕ, ◌+◌, ◌<◌, ◌≤◌, List, [], ◌++◌, length, get_or, set, take, drop, Vec, Global, refl, sym, ap, ◌∙◌, arith}
-use Rattle.std.proofs.lemmas.List.{get_or-map, length-map, map-set, length-set, drop_all, append-nil, take_all}
-use Rattle.std.specs.Vec.{with_items}
+use Rattle.std.proofs.Common.{◌≡◌, ℕ, ◌+◌, ◌<◌, ◌≤◌, List, [], ◌++◌, length, get_or, set, Vec, Global, sym, ap, ◌∙◌}
+use Rattle.std.proofs.lemmas.List.{get_or-map, length-map, map-set}
 use Rattle.pdl_netrun.specs.Steps.{lists}
+use Rattle.pdl_word.proofs.Lists.{items_written}
 
 -- an array of the list
 pub word_list : (arrays : List (Vec ℕ Global)) (m : ℕ) (v : Vec ℕ Global) → m < length arrays → v ≡ get_or arrays m v → get_or (lists arrays) m [] ≡ v.items
@@ -12,13 +12,6 @@ pub count_lists : (arrays : List (Vec ℕ Global)) → length (lists arrays) ≡
 count_lists arrays = simp length-map
 
 pub ruleset words = (word_list, count_lists)
-
--- a vector whose words are all written
-pub items_written : (v : Vec ℕ Global) (ws : List ℕ) → length ws ≡ length v.items → (with_items v ws).items ≡ ws
-items_written v ws h =
-    let n : length ws ≡ v.len = h ∙ sym v.ok.0 in
-    let e : ws ++ drop (length ws) v.items ≡ ws = ap (λ xs. ws ++ xs) (drop_all (length ws) v.items (omega (arith, h))) ∙ append-nil ws in
-    ap (λ xs. take v.len xs) e ∙ take_all v.len ws (omega (arith, n))
 
 -- the lists after one array is written
 pub lists_set : (arrays : List (Vec ℕ Global)) (m : ℕ) (v : Vec ℕ Global) → lists (set arrays m v) ≡ set (lists arrays) m v.items

@@ -10,7 +10,6 @@ use Rattle.pdl_net.specs.declared.WritePort.{WritePort}
 use Rattle.pdl_net.specs.declared.Array.{Array}
 use Rattle.pdl_net.specs.Circuit.{Circuit, State, inputs_of, array_at}
 use Rattle.pdl_net.specs.Meaning.{signal, IsThereAt}
-use Rattle.pdl_net.specs.Cycle.{after_writes}
 use Rattle.pdl_netrun.specs.declared.plan.Layout.{Layout}
 use Rattle.pdl_netrun.specs.declared.step.Step.{Step}
 use Rattle.pdl_netrun.specs.declared.step.Step.TheVariants.{Keep, Complement, Add, Sub, Mul, And, Or, Xor, Equal, Differ, Less, ShiftLeft, ShiftRight, Choose, Slice, Join, Repeat, Look}
@@ -37,10 +36,6 @@ value_count c = length (inputs_of c) + length c.regs + length c.cells
 -- so many fit a list
 abbrev pub HasRoom : Circuit → Type 0
 HasRoom c = value_count c < 2 ^ 64
-
--- these are the widths of the first cells
-pub record HasWidths (c : Circuit) (ws : List ℕ) : Type 0 where
-  pub each : (j : ℕ) → j < length ws → slice_index ws j ≡ (signal c (CellNet j)).width
 
 -- STEPS
 
@@ -108,12 +103,6 @@ pub record HasConstants (c : Circuit) (vs : List ℕ) : Type 0 where
   pub each : (k : ℕ) → k < length c.cells → IsHeld (slice_index_or c.cells k (cell.Const 0 0)) (slice_index vs (place c (CellNet k)))
 
 -- ARRAYS
-
--- the first m arrays have had their writes
-pub record ArraysDone (c : Circuit) (s : State) (xs : List (List ℕ)) (m : ℕ) : Type 0 where
-  pub count : length xs ≡ length c.arrays
-  pub done : (j : ℕ) → j < m → slice_index_or xs j [] ≡ after_writes c s (array_at c j).writes (slice_index_or s.arrays j [])
-  pub others : (j : ℕ) → m ≤ j → slice_index_or xs j [] ≡ slice_index_or s.arrays j []
 
 -- an image with a part for each array, of its width and no longer than it
 pub record ImageFits (c : Circuit) (image : List (List ℕ)) : Type 0 where

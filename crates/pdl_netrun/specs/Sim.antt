@@ -25,8 +25,3 @@ started n image = record { netlist = n; held = start n image; last = nothing n }
 -- after a cycle with these reply bits
 abbrev pub stepped : Run → ℕ → Run
 stepped r bits = record { netlist = r.netlist; held = next r.netlist r.held bits; last = shown r.netlist r.held bits }
-
--- after the cycles of a schedule
-abbrev pub after : Run → List ℕ → Run
-after r [] = r
-after r (bits ∷ schedule) = after (stepped r bits) schedule

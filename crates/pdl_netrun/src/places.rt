@@ -20,7 +20,8 @@ pub struct CommitPlaces {
 
 /// The places of all memories' commit ports, in the memories' order.
 pub fn all_places(alloc: Global, net: &Netlist) -> Result<Vec<CommitPlaces>, NoMemory>
-    ensures { IfOk result (λ v. v.items ≡ map (λ m. places_of (circuit_of net.now) m.name) net.now.mems) }
+    ensures { IfOk result (λ v. v.items
+        ≡ map (λ m. places_of (circuit_of net.now) m.name) net.now.mems) }
 {
     let mut places = Vec::new(alloc);
     for mem in net.mems.as_slice() {
@@ -59,7 +60,8 @@ fn prefixed_place(
 
 /// The place of the first output of a name.
 fn place_of(ports: &[Port], name: &[u8]) -> Option<usize>
-    ensures { result ≡ position_from (λ o. bytes_eq o.name name.now) 0 (filter_map port_output ports.now) }
+    ensures { result ≡ position_from (λ o. bytes_eq o.name name.now) 0
+        (filter_map port_output ports.now) }
 {
     let mut place = 0;
     for port in ports {

@@ -4,7 +4,8 @@ ghost use Rattle.std.specs.Prelude.{◌≡◌, ◌++◌, ◌<◌, ◌^◌, lengt
 ghost use Rattle.pdl_net.specs.Circuit.{circuit_of, inputs_of, outputs_of};
 ghost use Rattle.pdl_net.specs.Meaning.{signal, IsThereAt};
 ghost use Rattle.pdl_net.specs.Well.{IsWell, FitsIn};
-ghost use Rattle.pdl_netrun.specs.Plan.{HasWidths, HasRoom, HasPlaces, place_in, layout_of, planned, planned_operation, planned_write, planned_writes, held_at_start};
+ghost use Rattle.pdl_net.specs.Width.{HasWidths};
+ghost use Rattle.pdl_netrun.specs.Plan.{HasRoom, HasPlaces, place_in, layout_of, planned, planned_operation, planned_write, planned_writes, held_at_start};
 
 use crate::step::Step;
 use crate::widths::width_of;
@@ -36,7 +37,8 @@ impl Layout {
 
 /// Adds a place for each input.
 pub fn put_inputs(n: &Netlist, values: &mut Vec<u64>) -> Result<(), NoMemory>
-    ensures { OnOk result (values.new.items ≡ values.old.items ++ map (λ w. 0) (inputs_of (circuit_of n.now))) }
+    ensures { OnOk result (values.new.items
+        ≡ values.old.items ++ map (λ w. 0) (inputs_of (circuit_of n.now))) }
 {
     for port in n.ports.as_slice() {
         if let Dir::In = port.dir {
@@ -107,7 +109,8 @@ fn step_of(n: &Netlist, layout: Layout, widths: &[u8], cell: Cell) -> Step
     requires cells { length widths.now ≡ length n.now.cells }
     requires layout { layout ≡ layout_of (circuit_of n.now) }
     requires room { HasRoom (circuit_of n.now) }
-    requires fits { FitsIn (circuit_of n.now) (IsThereAt (circuit_of n.now) (length n.now.cells)) (signal (circuit_of n.now)) cell }
+    requires fits { FitsIn (circuit_of n.now) (IsThereAt (circuit_of n.now) (length n.now.cells))
+        (signal (circuit_of n.now)) cell }
     ensures { result ≡ planned (circuit_of n.now) cell }
 {
     match cell {
@@ -171,7 +174,8 @@ pub fn all_nexts(alloc: Global, n: &Netlist, layout: Layout) -> Result<Vec<usize
     requires well { IsWell (circuit_of n.now) }
     requires layout { layout ≡ layout_of (circuit_of n.now) }
     requires room { HasRoom (circuit_of n.now) }
-    ensures { IfOk result (λ v. v.items ≡ map (λ r. place_in (layout_of (circuit_of n.now)) r.next) n.now.regs) }
+    ensures { IfOk result (λ v. v.items
+        ≡ map (λ r. place_in (layout_of (circuit_of n.now)) r.next) n.now.regs) }
 {
     let mut places = Vec::new(alloc);
     for r in 0..n.regs.len() {
@@ -187,7 +191,9 @@ pub fn all_drivers(alloc: Global, n: &Netlist, layout: Layout) -> Result<Vec<usi
     requires well { IsWell (circuit_of n.now) }
     requires layout { layout ≡ layout_of (circuit_of n.now) }
     requires room { HasRoom (circuit_of n.now) }
-    ensures { IfOk result (λ v. v.items ≡ map (λ o. place_in (layout_of (circuit_of n.now)) o.net) (outputs_of (circuit_of n.now))) }
+    ensures { IfOk result (λ v. v.items
+        ≡ map (λ o. place_in (layout_of (circuit_of n.now)) o.net)
+        (outputs_of (circuit_of n.now))) }
 {
     let mut places = Vec::new(alloc);
     for i in 0..n.ports.len() {
@@ -224,7 +230,8 @@ fn put_writes(
     ports: &mut Vec<ArrayWrite>,
 ) -> Result<(), NoMemory>
     requires { All (HasPlaces layout) writes.now }
-    ensures { OnOk result (ports.new.items ≡ ports.old.items ++ map (planned_write layout array) writes.now) }
+    ensures { OnOk result (ports.new.items
+        ≡ ports.old.items ++ map (planned_write layout array) writes.now) }
 {
     for k in 0..writes.len() {
         let port = writes[k];

@@ -91,8 +91,10 @@ impl<'a> Sim<'a> {
         requires layout { layout ≡ layout_of (circuit_of net.now) }
         requires room { length values.items ≡ value_count (circuit_of net.now) }
         requires constants { HasConstants (circuit_of net.now) values.items }
-        requires holds { Holds (circuit_of net.now) (registers (circuit_of net.now) values.items) (lists arrays.items) }
-        ensures { IfOk result (λ sim. sim ≡ begun net.now (registers (circuit_of net.now) values.items) (lists arrays.items)) }
+        requires holds { Holds (circuit_of net.now) (registers (circuit_of net.now) values.items)
+            (lists arrays.items) }
+        ensures { IfOk result (λ sim. sim
+            ≡ begun net.now (registers (circuit_of net.now) values.items) (lists arrays.items)) }
     {
         let widths = all_widths(alloc, net)?;
         let steps = all_steps(alloc, net, layout, &widths)?;
@@ -168,7 +170,8 @@ impl<'a> Sim<'a> {
 /// Puts words into a list, from a place on.
 fn put_words(words: &[u64], at: usize, values: &mut [u64])
     requires { at + length words.now ≤ length values.old }
-    ensures { values.new ≡ take at values.old ++ words.now ++ drop (at + length words.now) values.old }
+    ensures { values.new ≡ take at values.old ++ words.now ++ drop
+        (at + length words.now) values.old }
 {
     values[at..at + words.len()].copy_from_slice(words);
 }

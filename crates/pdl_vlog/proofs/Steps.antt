@@ -1,23 +1,22 @@
 -- One step of each list that is written.
-use Rattle.std.proofs.Common.{◌≡◌, ◌≢◌, ℕ, suc, ◌+◌, ◌<◌, ◌≤◌, List, [], ◌∷◌, ◌++◌, length, drop, take, get_or, refl, sym, ap, ◌∙◌, subst, arith, append_assoc, append-nil, add-one, zero, Some, slice_get, ◌^◌}
+use Rattle.std.proofs.Common.{◌≡◌, ◌≢◌, ℕ, suc, ◌+◌, ◌<◌, ◌≤◌, List, [], ◌∷◌, ◌++◌, length, drop, get_or, refl, sym, ap, ◌∙◌, subst, arith, append_assoc, append-nil, zero, Some, slice_get, ◌^◌}
 use Rattle.std.proofs.lemmas.Nat.{pow_pos}
 use Rattle.std.proofs.lemmas.List.{drop_more}
 use Rattle.pdl_net.specs.declared.Reg.{Reg}
-use Rattle.pdl_net.specs.declared.Array.{Array}
 use Rattle.pdl_net.specs.declared.Cell.{Cell}
 use Rattle.pdl_net.specs.declared.Cell.TheVariants.{Const, Not, Bin, Mux, Slice, Cat, Rep, Read}
 use Rattle.pdl_net.specs.declared.Netlist.{Netlist}
 use Rattle.pdl_net.specs.declared.WritePort.{WritePort}
 use Rattle.pdl_net.specs.declared.Net.{Net}
-use Rattle.pdl_net.specs.Circuit.{Circuit, circuit_of, no_reg, no_array}
+use Rattle.pdl_net.specs.Circuit.{Circuit, circuit_of, no_array}
 use Rattle.pdl_net.specs.Signal.{Signal}
 use Rattle.pdl_net.specs.Meaning.{signal, IsThereAt}
 use Rattle.pdl_net.specs.Well.{IsWell, FitsIn}
 use Rattle.pdl_net.proofs.Fix.{no_cell}
 use Rattle.pdl_net.proofs.Widths.{cells_well}
 use Rattle.pdl_vlog.specs.Layout as spec
-use Rattle.pdl_vlog.specs.Widths.{HasWidths}
-use Rattle.pdl_vlog.proofs.Found.{fits_read}
+use Rattle.pdl_net.specs.Width.{HasWidths}
+use Rattle.pdl_net.proofs.WidthLists.{fits_read}
 
 pub no_block : (inputs : List (List ℕ)) (name : List ℕ) (ports : List WritePort) (t : List ℕ) → length ports ≡ 0 → t ≡ t ++ spec.array_block inputs name ports
 no_block inputs name [] t e = sym (append-nil t)
@@ -37,18 +36,6 @@ block_more inputs xs r d t u l e =
     ap (λ z. z ++ spec.blocks inputs (r + 1) rest) e ∙ (append_assoc t (spec.block inputs r x) (spec.blocks inputs (r + 1) rest)
     ∙ ap (λ z. t ++ z) (ap (λ n. spec.block inputs r x ++ spec.blocks inputs n rest) one ∙ sym k))
 
--- the next cell, and the others
-pub cell_more : (inputs : List (List ℕ)) (arrays : List Array) (width : ℕ → ℕ) (xs : List Cell) (k w : ℕ) (g d : Cell) (t u : List ℕ) → k < length xs → w ≡ width k → g ≡ get_or xs k d → u ≡ t ++ spec.cell inputs arrays k w g
-    → u ++ spec.cells inputs arrays width (k + 1) (drop (k + 1) xs) ≡ t ++ spec.cells inputs arrays width k (drop k xs)
-cell_more inputs arrays width xs k w g d t u l v f e =
-    let x = get_or xs k d in
-    let rest = drop (k + 1) xs in
-    let one : k + 1 ≡ suc k = omega arith in
-    let i : spec.cells inputs arrays width k (drop k xs) ≡ spec.cell inputs arrays k (width k) x ++ spec.cells inputs arrays width (suc k) rest = ap (spec.cells inputs arrays width k) (drop_more xs k d l) in
-    let y : spec.cell inputs arrays k w g ≡ spec.cell inputs arrays k (width k) x = ap (λ n. spec.cell inputs arrays k n g) v ∙ ap (spec.cell inputs arrays k (width k)) f in
-    ap (λ z. z ++ spec.cells inputs arrays width (k + 1) rest) (e ∙ ap (λ z. t ++ z) y) ∙ (append_assoc t (spec.cell inputs arrays k (width k) x) (spec.cells inputs arrays width (k + 1) rest)
-    ∙ ap (λ z. t ++ z) (ap (λ n. spec.cell inputs arrays k (width k) x ++ spec.cells inputs arrays width n rest) one ∙ sym i))
-
 -- ---- widths of a circuit in which all fits
 
 -- an element of a list, by its place
@@ -56,15 +43,6 @@ get_is : {X : Type 0} → (xs : List X) (i : ℕ) (x d : X) → slice_get xs i �
 get_is [] i x d e = cc
 get_is (y ∷ ys) zero x d e = (omega arith, (let k : y ≡ x = cc in k))
 get_is (y ∷ ys) (suc i) x d e = let k = get_is ys i x d e in (omega arith, k.1)
-
-pub port_widths : (n : Netlist) → IsWell (circuit_of n) → spec.HavePortWidths n.ports
-port_widths n w = λ i p e. (w.ports i p e).low
-
-pub reg_widths : (n : Netlist) → IsWell (circuit_of n) → spec.HaveRegWidths n.regs
-reg_widths n w = λ i r e. let k = get_is n.regs i r no_reg e in subst (λ x. 1 ≤ x.width) k.1 (w.regs i k.0).low
-
-pub short_widths : (n : Netlist) → IsWell (circuit_of n) → spec.HaveShortWidths n.regs
-short_widths n w = λ i r e. let k = get_is n.regs i r no_reg e in subst (λ x. x.width ≤ 64) k.1 (w.regs i k.0).high
 
 power_low : (b d : ℕ) → d ≡ 2 ^ b → 1 ≤ d
 power_low b d e = let k = pow_pos b in omega (arith, e, k)
@@ -93,6 +71,3 @@ pub wide_cell : (n : Netlist) (ws : List ℕ) (k : ℕ) → IsWell (circuit_of n
 wide_cell n ws k w h e l =
     let i = (cells_well (circuit_of n) w).widths k l in
     subst (λ x. 1 ≤ x) (sym (h.each k (omega arith))) i.low
-
-pub width_read : (n : Netlist) (ws : List ℕ) (k : ℕ) → HasWidths (circuit_of n) ws → length ws ≡ length n.cells → k < length n.cells → get_or ws k 0 ≡ spec.cell_width n k
-width_read n ws k h e l = h.each k (omega arith)

@@ -3,7 +3,7 @@ ghost use Rattle.std.specs.Prelude.{◌≡◌, ◌++◌, ◌≤◌, ◌<◌, OnO
 ghost use Rattle.pdl_net.specs.Circuit.{circuit_of};
 ghost use Rattle.pdl_net.specs.Well.{IsWell};
 ghost use Rattle.pdl_vlog.specs.Layout as spec;
-ghost use Rattle.pdl_vlog.specs.Widths.{HasWidths};
+ghost use Rattle.pdl_net.specs.Width.{HasWidths};
 
 use crate::cells::{range, term};
 use crate::text::Text;
@@ -172,7 +172,8 @@ pub fn cells(text: &mut Text, inputs: &[Name], n: &Netlist, widths: &[u8]) -> Re
     requires well { IsWell (circuit_of n.now) }
     requires widths { HasWidths (circuit_of n.now) widths.now }
     requires count { length widths.now ≡ length n.now.cells }
-    ensures { OnOk result (text.new ≡ text.old ++ spec.cells inputs.now n.now.arrays (spec.cell_width n.now) 0 n.now.cells) }
+    ensures { OnOk result (text.new
+        ≡ text.old ++ spec.cells inputs.now n.now.arrays (spec.cell_width n.now) 0 n.now.cells) }
 {
     for k in 0..n.cells.len() {
         cell(

@@ -98,7 +98,8 @@ fn writes(
     name: &Name,
     ports: &[WritePort],
 ) -> Result<(), NoMemory>
-    ensures { OnOk result (text.new ≡ text.old ++ flat_map (spec.write inputs.now name.now) ports.now) }
+    ensures { OnOk result (text.new
+        ≡ text.old ++ flat_map (spec.write inputs.now name.now) ports.now) }
 {
     for port in ports {
         write(text, inputs, name, *port)?;
@@ -123,7 +124,8 @@ fn whole_block(
 // The block of an array, if it has write ports.
 #[tactic(auto, using(crate::proofs::Steps::no_block, crate::proofs::Steps::some_block))]
 fn array_block(text: &mut Text, inputs: &[Name], array: &Array) -> Result<(), NoMemory>
-    ensures { OnOk result (text.new ≡ text.old ++ spec.array_block inputs.now array.now.name array.now.writes) }
+    ensures { OnOk result (text.new
+        ≡ text.old ++ spec.array_block inputs.now array.now.name array.now.writes) }
 {
     if array.writes.len() == 0 {
         Ok(())

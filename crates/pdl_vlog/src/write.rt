@@ -3,7 +3,7 @@ ghost use Rattle.std.specs.Prelude.{◌≡◌, ◌++◌, IfOk, OnOk, length};
 ghost use Rattle.pdl_net.specs.Circuit.{circuit_of};
 ghost use Rattle.pdl_net.specs.Well.{IsWell};
 ghost use Rattle.pdl_vlog.specs.Layout as spec;
-ghost use Rattle.pdl_vlog.specs.Widths.{HasWidths};
+ghost use Rattle.pdl_net.specs.Width.{HasWidths};
 
 use crate::cells::input_names;
 use crate::declarations::{arrays, cells, head, regs};

@@ -1,19 +1,14 @@
 -- Where names first stand, as a map tells it.
 use Rattle.std.proofs.Common.{◌≡◌, ◌≢◌, ℕ, suc, ◌+◌, Bool, true, false, cond, List, [], ◌∷◌, ◌++◌, length, Option, Some, None, is_some, nat_eq, bytes_eq, refl, sym, ap, ◌∙◌, subst, arith, length-append}
 use Rattle.std.proofs.lemmas.Slice.Eq.{bytes_eq-Decides}
-use Rattle.std.proofs.lemmas.Bool.Decides.{same_from_decides}
 use Rattle.std.specs.Option.{option_map}
 use Rattle.std.specs.Cmp.Lexicographic.{pointwise}
 use Rattle.indexmap.specs.IndexMap.{get, Updates}
 use Rattle.pdl_vnets.specs.declared.places.Places as r
 use Rattle.pdl_vnets.specs.Wired.{place, shifted}
 use Rattle.pdl_vnets.specs.Places.{AreFirsts}
-
-eq-swap : (x y : List ℕ) → bytes_eq x y ≡ bytes_eq y x
-eq-swap x y =
-    let a = bytes_eq-Decides x y in
-    let b = bytes_eq-Decides y x in
-    same_from_decides _ _ a (λ e. sym (b.0 e), λ e. b.1 (sym e))
+use Rattle.pdl_word.proofs.Lists.{is_some-mapped}
+use Rattle.pdl_word.proofs.Bytes.{bytes_swap}
 
 abbrev later : Option ℕ → Option ℕ → Option ℕ
 later (Some i) o = Some i
@@ -64,7 +59,7 @@ more_there names x y h = place_more names x y ∙ go (bytes_eq y x) refl
 
 -- a new name
 more_new : (names : List (List ℕ)) (x y : List ℕ) → is_some (place names x) ≡ false → place (names ++ x ∷ []) y ≡ cond (bytes_eq x y) (Some (length names)) (place names y)
-more_new names x y h = place_more names x y ∙ (go (bytes_eq y x) refl ∙ ap (λ b. cond b (Some (length names)) (place names y)) (eq-swap y x))
+more_new names x y h = place_more names x y ∙ (go (bytes_eq y x) refl ∙ ap (λ b. cond b (Some (length names)) (place names y)) (bytes_swap y x))
   where
     go : (b : Bool) → bytes_eq y x ≡ b → later (place names y) (cond b (Some (length names)) None) ≡ cond b (Some (length names)) (place names y)
     go true e =
@@ -90,10 +85,6 @@ added_new old new names x h s u f = record {
   count = count_more names x old.count new.count h.count f;
   firsts = λ y. u.0 y ∙ (ap (λ n. cond (same x y) (Some n) (get same old.firsts y)) h.count ∙ (ap (λ o. cond (same x y) (Some (length names)) o) (h.firsts y) ∙ sym (more_new names x y (subst (λ o. is_some o ≡ false) (h.firsts x) s))));
 }
-
-is_some-mapped : {T U : Type 0} (f : T → U) (o : Option T) → is_some (option_map f o) ≡ is_some o
-is_some-mapped f None = refl
-is_some-mapped f (Some x) = refl
 
 pub is_there : {T U : Type 0} (f : T → U) (o : Option T) (q : Option U) (b : Bool) → option_map f o ≡ q → b ≡ is_some o → is_some q ≡ b
 is_there f o q b e h = ap is_some (sym e) ∙ (is_some-mapped f o ∙ sym h)

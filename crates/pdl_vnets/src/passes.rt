@@ -152,7 +152,8 @@ fn cells(alloc: Global, scope: &mut Scope<'_>, decls: &[CellDecl]) -> Result<Seq
 
 fn outputs(alloc: Global, scope: &Scope<'_>, decls: &[OutputDecl]) -> Result<Seq<OutputDrive>, Stop>
     requires { IsScope scope.now }
-    ensures { spec.Gives (spec.all_outputs scope.now.file.now scope.now.cells.count decls.now) result }
+    ensures { spec.Gives (spec.all_outputs scope.now.file.now scope.now.cells.count decls.now)
+        result }
 {
     let mut drives = Seq::new(alloc);
     for decl in decls {
@@ -166,7 +167,8 @@ fn outputs(alloc: Global, scope: &Scope<'_>, decls: &[OutputDecl]) -> Result<Seq
 
 fn reg_blocks(alloc: Global, scope: &Scope<'_>, blocks: &[RegBlock]) -> Result<Seq<RegDrive>, Stop>
     requires { IsScope scope.now }
-    ensures { spec.Gives (spec.all_regs scope.now.file.now scope.now.cells.count blocks.now) result }
+    ensures { spec.Gives (spec.all_regs scope.now.file.now scope.now.cells.count blocks.now)
+        result }
 {
     let mut drives = Seq::new(alloc);
     for block in blocks {
@@ -180,7 +182,8 @@ fn reg_blocks(alloc: Global, scope: &Scope<'_>, blocks: &[RegBlock]) -> Result<S
 
 fn writes(alloc: Global, scope: &Scope<'_>, decls: &[WriteDecl]) -> Result<Seq<ArrayWrite>, Stop>
     requires { IsScope scope.now }
-    ensures { spec.Gives (spec.writes_of scope.now.file.now scope.now.cells.count decls.now) result }
+    ensures { spec.Gives (spec.writes_of scope.now.file.now scope.now.cells.count decls.now)
+        result }
 {
     let mut writes = Seq::new(alloc);
     for decl in decls {
@@ -198,7 +201,8 @@ fn blocks(
     decls: &[ArrayBlock],
 ) -> Result<Seq<Seq<ArrayWrite>>, Stop>
     requires { IsScope scope.now }
-    ensures { spec.Gives (spec.blocks_of scope.now.file.now scope.now.cells.count decls.now) result }
+    ensures { spec.Gives (spec.blocks_of scope.now.file.now scope.now.cells.count decls.now)
+        result }
 {
     let mut blocks = Seq::new(alloc);
     for decl in decls {

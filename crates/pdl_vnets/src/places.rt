@@ -28,7 +28,8 @@ impl Places {
     /// Adds a declaration of a name.
     pub fn add(&mut self, name: &Name) -> Result<(), NoMemory>
         requires { self.old.count + 1 < 2 ^ 64 }
-        ensures names { OnOk result ((names : List (List ℕ)) → AreFirsts names self.old → AreFirsts (names ++ name.now ∷ []) self.new) }
+        ensures names { OnOk result ((names : List (List ℕ)) → AreFirsts names self.old →
+            AreFirsts (names ++ name.now ∷ []) self.new) }
         ensures count { OnOk result (self.new.count ≡ self.old.count + 1) }
     {
         if self.firsts.get(name).is_some() {
@@ -43,7 +44,8 @@ impl Places {
 
     /// Where a name was first declared.
     pub fn find(&self, name: &Name) -> Option<usize>
-        ensures { (names : List (List ℕ)) → AreFirsts names self.now → result ≡ place names name.now }
+        ensures { (names : List (List ℕ)) → AreFirsts names self.now →
+            result ≡ place names name.now }
     {
         match self.firsts.get(name) {
             Some(place) => Some(*place),

@@ -1,5 +1,5 @@
 -- The place of a refusal: what the reader tells is the first token out of place, and there is one file and one place.
-use Rattle.std.proofs.Common.{◌≡◌, ◌≢◌, ℕ, ◌<◌, Bool, true, false, List, [], ◌∷◌, ◌++◌, length, Option, Some, None, Result, Ok, Err, refl, sym, ap, ◌∙◌, subst, arith, append_assoc, append-nil, length-append}
+use Rattle.std.proofs.Common.{◌≡◌, ◌≢◌, ℕ, ◌<◌, true, false, List, [], ◌∷◌, ◌++◌, length, Some, None, Result, Ok, Err, refl, sym, ap, ◌∙◌, subst, arith, append_assoc, append-nil}
 use Rattle.pdl_vtext.specs.declared.field.Field.{Field}
 use Rattle.pdl_vtext.specs.declared.rule.Part.{Part}
 use Rattle.pdl_vtext.specs.declared.rule.Part.TheVariants as p
@@ -9,14 +9,15 @@ use Rattle.pdl_vtext.specs.declared.file.File.{File}
 use Rattle.pdl_vtext.specs.declared.read.TextError.{TextError}
 use Rattle.pdl_vtext.specs.declared.read.TextError.TheVariants.{Misplaced, NoMemory}
 use Rattle.pdl_vtext.specs.Tokens.{Token, tokens, last_line}
-use Rattle.pdl_vtext.specs.Grammar.{Row, Taken, AllFit, none, more, fits, fields, chosen, begins_with, begins_fields, next, Derives, finished, goes}
-use Rattle.pdl_vtext.specs.Drafts.{file_of, no_draft, all_taken}
+use Rattle.pdl_vtext.specs.Grammar.{Row, Taken, AllFit, none, more, fits, fields, chosen, begins_fields, next, Derives, finished, goes}
+use Rattle.pdl_vtext.specs.Drafts.{file_of}
 use Rattle.pdl_vtext.specs.Read.{IsUnfit, Stopped, Comes, Leads, here, further, all_found, chosen_at, IsStuck, nothing, inside, AreTaken, AreStopped, Judges}
 use Rattle.pdl_vtext.specs.declared.token.Token as r
 use Rattle.pdl_vtext.specs.Cursor.{token_view, maybe_token_view, first}
-use Rattle.pdl_vtext.specs.Text.{Spells, IsFile, Begins, line_of, IsOutOfPlace, GivesFile, GivesLine, IsRefused}
+use Rattle.pdl_vtext.specs.Text.{IsFile, Begins, line_of, IsOutOfPlace, GivesFile, GivesLine, IsRefused}
 use Rattle.pdl_vtext.proofs.Rules.{chosen_begins, all_found_more}
 use Rattle.pdl_vtext.proofs.Complete.{Rest, rest, ends}
+use Rattle.pdl_word.proofs.Lists.{longer, same_behind}
 
 -- ---- what leads to a part
 
@@ -262,29 +263,10 @@ one_file bytes f g h k = h.same ∙ (ap file_of (one_list p.Start (tokens bytes)
 front_begins : (xs ys : Row) → Begins (xs ++ ys) → Begins xs
 front_begins xs ys b = record { more = ys ++ b.more; rules = b.rules; derives = subst (λ x. Derives p.Start x b.rules) (append_assoc xs ys b.more) b.derives }
 
--- of two fronts of one list the second is longer, with the same tokens behind, or they are the same
-record Longer (f1 b1 f2 b2 : Row) : Type 0 where
-  t : Token
-  more : Row
-  front : f1 ≡ f2 ++ t ∷ more
-  behind : b2 ≡ t ∷ (more ++ b1)
-
-longer : (f1 b1 f2 b2 : Row) → f1 ++ b1 ≡ f2 ++ b2 → length b1 < length b2 → Longer f1 b1 f2 b2
-longer [] b1 f2 b2 e le = let k : length b1 ≡ length (f2 ++ b2) = ap length e in let j = length-append f2 b2 in absurd (omega arith)
-longer (x ∷ f1) b1 [] b2 e le = record { t = x; more = f1; front = refl; behind = sym e }
-longer (x ∷ f1) b1 (y ∷ f2) b2 e le = let k : f1 ++ b1 ≡ f2 ++ b2 = cc in let j : x ≡ y = cc in let h = longer f1 b1 f2 b2 k le in
-    record { t = h.t; more = h.more; front = let i = h.front in cc; behind = h.behind }
-
 not_before : (bytes : List ℕ) (n m : ℕ) (h : IsOutOfPlace bytes n) (i : IsOutOfPlace bytes m) → length h.behind < length i.behind → ⊥
 not_before bytes n m h i le =
     let k = longer h.front h.behind i.front i.behind (sym h.split ∙ i.split) le in
     i.bad k.t (k.more ++ h.behind) k.behind (front_begins (i.front ++ k.t ∷ []) k.more (subst Begins (k.front ∙ sym (append_assoc i.front (k.t ∷ []) k.more)) h.begins))
-
-same_behind : (f1 b1 f2 b2 : Row) → f1 ++ b1 ≡ f2 ++ b2 → length b1 ≡ length b2 → b1 ≡ b2
-same_behind [] b1 [] b2 e le = e
-same_behind [] b1 (y ∷ f2) b2 e le = let k : length b1 ≡ length (y ∷ (f2 ++ b2)) = ap length e in let j = length-append f2 b2 in absurd (omega arith)
-same_behind (x ∷ f1) b1 [] b2 e le = let k : length (x ∷ (f1 ++ b1)) ≡ length b2 = ap length e in let j = length-append f1 b1 in absurd (omega arith)
-same_behind (x ∷ f1) b1 (y ∷ f2) b2 e le = let k : f1 ++ b1 ≡ f2 ++ b2 = cc in same_behind f1 b1 f2 b2 k le
 
 one_place : (bytes : List ℕ) (n m : ℕ) → IsOutOfPlace bytes n → IsOutOfPlace bytes m → n ≡ m
 one_place bytes n m h i =

@@ -1,6 +1,6 @@
 -- Rules taken one after another.
-use Rattle.std.proofs.Common.{◌≡◌, ◌≢◌, ℕ, suc, ◌+◌, ◌<◌, ◌≤◌, Bool, true, false, cond, List, [], ◌∷◌, ◌++◌, length, take, map, get_or, flat_map, Option, Some, None, Result, Ok, Err, refl, sym, ap, ◌∙◌, subst, arith, append_assoc, append-nil, length-append, drop}
-use Rattle.std.proofs.lemmas.List.{take_more, take_all, take-append-drop, drop_more, map-append}
+use Rattle.std.proofs.Common.{◌≡◌, ◌≢◌, ℕ, suc, ◌+◌, ◌<◌, ◌≤◌, Bool, true, false, cond, List, [], ◌∷◌, ◌++◌, length, take, map, get_or, Some, None, Err, refl, sym, ap, ◌∙◌, subst, arith, append_assoc, append-nil, length-append, drop}
+use Rattle.std.proofs.lemmas.List.{take_more, take-append-drop, drop_more, map-append}
 use Rattle.pdl_vtext.specs.declared.field.Field.{Field}
 use Rattle.pdl_vtext.specs.declared.rule.Part.{Part}
 use Rattle.pdl_vtext.specs.declared.rule.Part.TheVariants as p
@@ -13,7 +13,7 @@ use Rattle.pdl_vtext.specs.declared.token.Token as r
 use Rattle.pdl_vtext.specs.declared.read.Stop.{Stop}
 use Rattle.pdl_vtext.specs.declared.read.Stop.TheVariants as stop
 use Rattle.pdl_vtext.specs.Cursor.{token_view, next as skipped}
-use Rattle.pdl_vtext.specs.Read.{IsFitting, Sentence, TakesRules, IsUnfit, Found, Stopped, Comes, Leads, here, further, all_found, chosen_at, IsStuck, nothing, inside, AreTaken, AreStopped}
+use Rattle.pdl_vtext.specs.Read.{IsFitting, Sentence, TakesRules, IsUnfit, Found, Stopped, Comes, Leads, here, further, all_found, chosen_at, nothing, inside, AreStopped, AreTaken}
 
 -- ---- the tokens of one rule
 
@@ -88,16 +88,16 @@ fewer_left part rule old found new e f =
 not_finished : (part : Part) → is_finished part ≡ false → part ≢ p.Finished
 not_finished part h = λ e. let k : true ≡ false = subst (λ x. is_finished x ≡ false) e h in cc
 
-it_is_finished : (part : Part) → is_finished part ≡ true → part ≡ p.Finished
-it_is_finished p.Finished e = refl
-it_is_finished _ e = cc
-
 pub no_rule : (old mid : Row) (part : Part) (d : Draft) → AreSoFar old mid part d → is_finished part ≡ false → chosen_at part mid ≡ None → AreStopped old mid
 no_rule old mid part d h n e = record { rules = h.rules; part = part; leads = h.leads; front = []; split = h.split; stuck = nothing (not_finished part n) e }
 
 pub no_more : (old mid found new : Row) (part : Part) (rule : Rule) (d : Draft) → AreSoFar old mid part d → chosen_at part mid ≡ Some rule → Stopped (fields rule) mid found new → AreStopped old new
 no_more old mid found new part rule d h e s =
     record { rules = h.rules; part = part; leads = h.leads; front = found; split = h.split ∙ ap (λ x. all_found h.rules ++ x) s.split; stuck = inside e s }
+
+it_is_finished : (part : Part) → is_finished part ≡ true → part ≡ p.Finished
+it_is_finished p.Finished e = refl
+it_is_finished _ e = cc
 
 pub all_done : (old new : Row) (part : Part) (d : Draft) → AreSoFar old new part d → is_finished part ≡ true → AreTaken old new d
 all_done old new part d h e = record { rules = h.rules; leads = subst (Leads h.rules) (it_is_finished part e) h.leads; split = h.split; draft = h.draft }
@@ -106,10 +106,6 @@ all_done old new part d h e = record { rules = h.rules; leads = subst (Leads h.r
 
 abbrev views : List r.Token → Row
 views ts = map token_view ts
-
-pub record AreFitting (gs : List Field) (old found new : Row) : Type 0 where
-  pub fit : AllFit gs found
-  pub split : old ≡ found ++ new
 
 pub nothing_found : (ts : Row) (items : List r.Token) → items ≡ [] → (AllFit [] (views items)) × (ts ≡ views items ++ ts)
 nothing_found ts items e = (subst (λ x. AllFit [] (views x)) (sym e) none, ap (λ x. views x ++ ts) (sym e))
@@ -141,9 +137,6 @@ no_more_token gs i d old mid items l a s f = record {
     unfit_of : (m : Row) (h : Field) → IsFitting m h None → IsUnfit h m
     unfit_of [] h x = x
     unfit_of (u ∷ us) h x = x
-
-pub all_found_whole : (gs : List Field) (i : ℕ) (old new : Row) (items : List r.Token) → length gs ≤ i → AllFit (take i gs) (views items) → old ≡ views items ++ new → Found gs old (views items) new
-all_found_whole gs i old new items l a s = record { fit = subst (λ x. AllFit x (views items)) (take_all i gs l) a; split = s }
 
 pub begun : (ts : Row) (d : Draft) → d ≡ no_draft → AreSoFar ts ts p.Start d
 begun ts d e = subst (AreSoFar ts ts p.Start) (sym e) (none_yet ts)

@@ -1,13 +1,15 @@
 -- The tokens of a text, a piece at a time.
-use Rattle.std.proofs.Common.{◌≡◌, ℕ, zero, suc, ◌+◌, ◌-◌, ◌≤◌, Bool, true, false, ◌&&◌, nat_eq, nat_le, ◌||◌, cond, List, [], ◌∷◌, ◌++◌, take, drop, length, codes, Some, None, refl, sym, ap, ◌∙◌, subst, arith}
-use Rattle.std.specs.List.{prefix_len, starts_with}
+use Rattle.std.proofs.Common.{◌≡◌, ℕ, zero, suc, ◌+◌, ◌-◌, ◌≤◌, Bool, true, false, ◌&&◌, nat_eq, ◌||◌, cond, List, [], ◌∷◌, ◌++◌, take, drop, length, codes, Some, refl, sym, ap, ◌∙◌, subst, arith}
+use Rattle.std.specs.List.{starts_with}
 use Rattle.std.specs.Cmp.Lexicographic.{pointwise}
 use Rattle.std.proofs.Math.Seq.{drop-nil}
 use Rattle.std.proofs.lemmas.List.Sums.{prefix_len-le-length}
 use Rattle.std.proofs.lemmas.Bool.Decides.{nat_tests}
+use Rattle.std.proofs.lemmas.Bool.{and_parts}
 use Rattle.pdl_vtext.specs.declared.piece.Piece as r
 use Rattle.pdl_vtext.specs.Tokens.{Piece, is_blank, is_word, in_line, begins_pair, piece_at, placed, line_after, tokens_from}
 use Rattle.pdl_vtext.specs.Pieces.{piece_view, IsFront, IsLineBehind}
+use Rattle.pdl_word.proofs.Lists.{run_least, prefix_fits}
 
 pub record Sized (p : Piece) (n : ℕ) : Type 0 where
   pub least : 1 ≤ p.size
@@ -16,23 +18,6 @@ pub record Sized (p : Piece) (n : ℕ) : Type 0 where
 cond_sized : (b : Bool) (p q : Piece) (n : ℕ) → (b ≡ true → Sized p n) → (b ≡ false → Sized q n) → Sized (cond b p q) n
 cond_sized true p q n f g = f refl
 cond_sized false p q n f g = g refl
-
-run_least : (p : ℕ → Bool) (c : ℕ) (cs : List ℕ) → p c ≡ true → 1 ≤ prefix_len p (c ∷ cs)
-run_least p c cs e = rw e (omega arith)
-
-and_left : (a b : Bool) → a && b ≡ true → a ≡ true
-and_left true b e = refl
-and_left false b e = e
-
-and_right : (a b : Bool) → a && b ≡ true → b ≡ true
-and_right true b e = e
-and_right false b e = cc
-
--- what bytes begin with is no longer than they are
-prefix_fits : (xs needle : List ℕ) → starts_with nat_eq xs needle ≡ true → length needle ≤ length xs
-prefix_fits xs [] e = omega arith
-prefix_fits [] (n ∷ ns) e = cc
-prefix_fits (x ∷ xs) (n ∷ ns) e = let k = prefix_fits xs ns (and_right (nat_eq n x) (pointwise nat_eq ns (take (length ns) xs)) e) in omega (arith, k)
 
 either_fits : (a b : Bool) (n m : ℕ) → (a ≡ true → n ≤ m) → (b ≡ true → n ≤ m) → a || b ≡ true → n ≤ m
 either_fits true b n m f g e = f refl
@@ -45,7 +30,7 @@ pair_fits bytes e =
     (either_fits _ _ 2 (length bytes) (f (codes "<=") refl) (either_fits _ _ 2 (length bytes) (f (codes "<<") refl) (f (codes ">>") refl)))) e
 
 comment_is : (c : ℕ) (cs : List ℕ) → starts_with nat_eq (c ∷ cs) (codes "//") ≡ true → in_line c ≡ true
-comment_is c cs e = let k : nat_eq 47 c ≡ true = and_left (nat_eq 47 c) (pointwise nat_eq (47 ∷ []) (take 1 cs)) e in
+comment_is c cs e = let k : nat_eq 47 c ≡ true = (and_parts (nat_eq 47 c) (pointwise nat_eq (47 ∷ []) (take 1 cs)) e).0 in
     let i : 47 ≡ c = grind (arith, nat_tests, k) in subst (λ x. in_line x ≡ true) i refl
 
 pub piece_sized : (c : ℕ) (cs : List ℕ) → Sized (piece_at c (c ∷ cs)) (length (c ∷ cs))
@@ -99,7 +84,3 @@ pub step_token : (bytes rest : List ℕ) (p : r.Piece) (line line2 : ℕ) → Is
     record { text = take p.size bytes; line = line } ∷ tokens_from 0 line2 rest ≡ tokens_from 0 line bytes
 step_token bytes rest p line line2 h er el e =
     let j = step_is bytes rest p line line2 h er el in sym (j ∙ rw e refl)
-
-pub step_end : (bytes : List ℕ) (line : ℕ) → IsFront bytes None → tokens_from 0 line bytes ≡ []
-step_end [] line h = refl
-step_end (c ∷ cs) line h = absurd h

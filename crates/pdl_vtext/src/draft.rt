@@ -161,7 +161,8 @@ impl Draft {
     }
 
     fn port(&mut self, alloc: Global, found: &[Token<'_>], input: bool) -> Result<(), NoMemory>
-        ensures { OnOk result (self.new ≡ spec.with_port self.old input (map token_view found.now)) }
+        ensures { OnOk result (self.new
+            ≡ spec.with_port self.old input (map token_view found.now)) }
     {
         self.file.ports.push(PortDecl {
             line: line_at(found, 0),
@@ -219,7 +220,8 @@ impl Draft {
 
     // The term that a rule ends.
     fn term(&self, alloc: Global, rule: Rule, found: &[Token<'_>]) -> Result<Term, NoMemory>
-        ensures { IfOk result (λ t. t ≡ spec.term self.now.operand rule (map token_view found.now)) }
+        ensures { IfOk result (λ t. t ≡ spec.term self.now.operand rule
+            (map token_view found.now)) }
     {
         Ok(match rule {
             Rule::NotTerm => Term::Not(name_at(alloc, found, 1)?),

@@ -46,7 +46,10 @@ impl<'a> Place<'a> {
     // The token of so many bytes that stands here.
     fn token(&self, size: usize) -> Token<'a>
         requires { size ≤ length self.now.rest.now }
-        ensures { token_view result ≡ record { text = take size self.now.rest.now; line = self.now.line } }
+        ensures { token_view result ≡ record {
+          text = take size self.now.rest.now;
+          line = self.now.line;
+        } }
     {
         Token {
             text: &self.rest[..size],
@@ -56,7 +59,8 @@ impl<'a> Place<'a> {
 
     // The first token from here on.
     fn step(&self) -> Step<'a>
-        ensures { onto result.token (tokens_from 0 result.behind.line result.behind.rest.now) ≡ tokens_from 0 self.now.line self.now.rest.now }
+        ensures { onto result.token (tokens_from 0 result.behind.line result.behind.rest.now)
+            ≡ tokens_from 0 self.now.line self.now.rest.now }
     {
         let mut place = *self;
         while let Some(piece) = front(place.rest) {

@@ -18,7 +18,8 @@ pub struct Constant {
 // The value of a digit of a base, where a letter is a lower one.
 fn digit_in(byte: u8, base: u64) -> Option<u64>
     requires { base ≤ 36 }
-    ensures { MatchOption result (spec.is_digit_of base byte ≡ false) (λ d. (spec.is_digit_of base byte ≡ true) × (d ≡ digit_value byte) × (d < base)) }
+    ensures { MatchOption result (spec.is_digit_of base byte ≡ false) (λ d.
+        (spec.is_digit_of base byte ≡ true) × (d ≡ digit_value byte) × (d < base)) }
 {
     let digit = match byte {
         b'0'..=b'9' => u64::from(byte - b'0'),
@@ -33,7 +34,8 @@ fn read_digits(digits: &[u8], base: u64, most: usize) -> Option<u64>
     requires least { 1 ≤ base }
     requires base { base ≤ 36 }
     requires room { base ^ most ≤ 2 ^ 64 }
-    ensures value { MatchOption result (spec.are_digits base most digits.now ≡ false) (λ n. (spec.are_digits base most digits.now ≡ true) × (n ≡ digits_value base digits.now)) }
+    ensures value { MatchOption result (spec.are_digits base most digits.now ≡ false) (λ n.
+        (spec.are_digits base most digits.now ≡ true) × (n ≡ digits_value base digits.now)) }
     ensures below { IfSome result (λ n. n < base ^ most) }
 {
     if digits.is_empty() || digits.len() > most {

@@ -77,7 +77,8 @@ fn sentence<'a>(
     fields: &[Field],
     found: &mut Vec<Token<'a>>,
 ) -> Result<(), Stop>
-    ensures { spec.Sentence fields.now tokens.old (map token_view found.new.items) tokens.new result }
+    ensures { spec.Sentence fields.now tokens.old
+        (map token_view found.new.items) tokens.new result }
 {
     found.clear();
     for field in fields {

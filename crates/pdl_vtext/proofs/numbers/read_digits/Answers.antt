@@ -1,7 +1,8 @@
 use Rattle.std.proofs.Common.{◌≡◌, ◌^◌, ◌<◌, ◌≤◌, arith, length, subst}
 use Rattle.std.proofs.Math.Nat.{pow-le-pow_right}
-use Rattle.pdl_vtext.proofs.Digits.{digits_next, next_below, next_fits}
+use Rattle.pdl_vtext.proofs.Digits.{digits_next}
 use Rattle.pdl_vtext.proofs.numbers.read_digits.Goals as goal
+use Rattle.pdl_word.proofs.Numbers.{next_below, next_fits}
 
 pub overflow_mul-number : goal.overflow_mul-number
 overflow_mul-number c =

@@ -1,0 +1,6 @@
+pub mod Strips
+pub mod Depths
+pub mod Telling
+pub mod Judged
+pub mod Shorts
+pub mod Pipes

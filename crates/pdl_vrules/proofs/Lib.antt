@@ -1,0 +1,4 @@
+pub mod Passes
+pub mod Blocks
+pub mod Reach
+pub mod Small
