@@ -1,7 +1,7 @@
 -- What single lists of words are.
 use Rattle.std.proofs.Common.{◌≡◌, [], ◌∷◌, Some, None, codes, refl}
 use Rattle.clap.proofs.OnLiterals.{clap_on_literals}
-use Rattle.pdl_args.specs.Line.{line, check, run, seq, asm}
+use Rattle.pdl_args.specs.Line.{line, check, run, seq, asm, gen}
 
 ran : line (codes "run" ∷ codes "a.pdl" ∷ codes "e.img" ∷ codes "17" ∷ []) ≡ Some (run (codes "a.pdl") (codes "e.img") 17)
 unfolding clap_on_literals line
@@ -190,3 +190,23 @@ above_most_threads = refl
 seq_two : line (codes "seq" ∷ codes "a" ∷ codes "b" ∷ []) ≡ None
 unfolding clap_on_literals line
 seq_two = refl
+
+generated : line (codes "gen" ∷ codes "0" ∷ []) ≡ Some (gen 0)
+unfolding clap_on_literals line
+generated = refl
+
+most_number : line (codes "gen" ∷ codes "2147483647" ∷ []) ≡ Some (gen 2147483647)
+unfolding clap_on_literals line
+most_number = refl
+
+above_most_number : line (codes "gen" ∷ codes "2147483648" ∷ []) ≡ None
+unfolding clap_on_literals line
+above_most_number = refl
+
+eleven_digits : line (codes "gen" ∷ codes "00000000001" ∷ []) ≡ None
+unfolding clap_on_literals line
+eleven_digits = refl
+
+gen_alone : line (codes "gen" ∷ []) ≡ None
+unfolding clap_on_literals line
+gen_alone = refl

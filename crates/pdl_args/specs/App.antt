@@ -28,6 +28,10 @@ seq_app =
 abbrev pub asm_app : App
 asm_app = with_rule (with_rule (new_app (codes "asm")) (word_rule (codes "table"))) (word_rule (codes "text"))
 
+-- `gen N`
+abbrev pub gen_app : App
+gen_app = with_rule (new_app (codes "gen")) (word_rule (codes "number"))
+
 -- the command without its subcommands, over the words after the program's name
 abbrev pub bare_app : App
 bare_app = on_top (λ s. record s { no_binary_name = true }) (new_app (codes "pdl"))
@@ -35,5 +39,5 @@ bare_app = on_top (λ s. record s { no_binary_name = true }) (new_app (codes "pd
 -- the command
 abbrev pub pdl_app : App
 pdl_app =
-    with_subcommand (with_subcommand (with_subcommand (with_subcommand bare_app
-    check_app.top) run_app.top) seq_app.top) asm_app.top
+    with_subcommand (with_subcommand (with_subcommand (with_subcommand (with_subcommand bare_app
+    check_app.top) run_app.top) seq_app.top) asm_app.top) gen_app.top

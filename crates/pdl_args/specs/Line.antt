@@ -14,6 +14,7 @@ pub data Command : Type 0 where
   run : (source image : Text) (cycles : ℕ) → Command
   seq : (source image : Text) (threads : ℕ) → Command
   asm : (table text : Text) → Command
+  gen : (number : ℕ) → Command
 
 -- `check`
 abbrev pub check_of : Option Text → Option Command
@@ -35,6 +36,11 @@ abbrev pub asm_of : Option Text → Option Text → Option Command
 asm_of (Some table) (Some text) = Some (asm table text)
 asm_of _ _ = None
 
+-- `gen`, with a number below 2 ^ 31
+abbrev pub gen_of : Option Text → Option Command
+gen_of (Some number) = option_map gen (number_of 10 2147483647 number)
+gen_of None = None
+
 -- the command of a subcommand's name with the words that it was given
 abbrev pub command_of : Text × List Row → Option Command
 command_of (name, rows) =
@@ -49,6 +55,9 @@ command_of (name, rows) =
     else
     if bytes_eq name (codes "asm")
     then asm_of (first_of (codes "table") rows) (first_of (codes "text") rows)
+    else
+    if bytes_eq name (codes "gen")
+    then gen_of (first_of (codes "number") rows)
     else None
 
 -- the command of a subcommand, where `clap` has no fault to name

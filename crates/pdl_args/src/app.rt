@@ -3,7 +3,7 @@ ghost use Rattle.std.specs.Prelude.{◌≡◌, false, IfOk};
 ghost use Rattle.clap.specs.Walk.{rule_of};
 ghost use Rattle.clap.specs.Words.{app_of};
 ghost use Rattle.clap.specs.declared.builder.command.Command.TheViews.{out-Command as fields_of};
-ghost use Rattle.pdl_args.specs.App.{pdl_app, bare_app, check_app, run_app, seq_app, asm_app, word_rule};
+ghost use Rattle.pdl_args.specs.App.{pdl_app, bare_app, check_app, run_app, seq_app, asm_app, gen_app, word_rule};
 
 use clap::{Arg, ArgAction, Command};
 use std::alloc::{AllocError, Global};
@@ -53,6 +53,14 @@ fn asm_command<'a>(alloc: Global) -> Result<Command<'a>, AllocError>
     Ok(all)
 }
 
+// `gen N`
+fn gen_command<'a>(alloc: Global) -> Result<Command<'a>, AllocError>
+    ensures { IfOk result (λ c. (app_of c ≡ gen_app) × ((fields_of c).has_globals ≡ false)) }
+{
+    let all = Command::new(alloc, "gen").arg(word(alloc, "number"))?;
+    Ok(all)
+}
+
 // The command without its subcommands.
 fn bare_command<'a>(alloc: Global) -> Command<'a>
     ensures { app_of result ≡ bare_app }
@@ -67,9 +75,11 @@ pub(crate) fn command<'a>(alloc: Global) -> Result<Command<'a>, AllocError>
     let run = run_command(alloc)?;
     let seq = seq_command(alloc)?;
     let asm = asm_command(alloc)?;
+    let generated = gen_command(alloc)?;
     let one = bare_command(alloc).subcommand(check)?;
     let two = one.subcommand(run)?;
     let three = two.subcommand(seq)?;
-    let all = three.subcommand(asm)?;
+    let four = three.subcommand(asm)?;
+    let all = four.subcommand(generated)?;
     Ok(all)
 }

@@ -1,7 +1,7 @@
 // The command that a list of words is.
 ghost use Rattle.std.specs.Prelude.{◌≡◌, ◌≢◌, map, IfOk, Some, None, IsErrOf, string_bytes, option_map};
 ghost use Rattle.clap.specs.Words.{found_of, rows_of, first_of};
-ghost use Rattle.pdl_args.specs.Line.{line, command_of, check_of, run_of, seq_of, asm_of};
+ghost use Rattle.pdl_args.specs.Line.{line, command_of, check_of, run_of, seq_of, asm_of, gen_of};
 ghost use Rattle.pdl_args.specs.View.{view};
 ghost use Rattle.pdl_args.specs.declared.line.LineError.TheVariants.{NoMemory as no_memory};
 
@@ -34,6 +34,10 @@ pub enum Line<'a> {
     Asm {
         table: &'a str,
         text: &'a str,
+    },
+    /// `gen N`: the number of a generated run, below 2 ^ 31.
+    Gen {
+        number: u32,
     },
 }
 
@@ -74,8 +78,10 @@ pub fn read_line<'a>(alloc: Global, words: &'a [String]) -> Result<Line<'a>, Lin
 
 // The command that a subcommand's matches are.
 fn command_line<'a>(name: &str, inner: &ArgMatches<'a>) -> Result<Line<'a>, LineError>
-    ensures ok { IfOk result (λ l. command_of (name.now, rows_of (found_of inner.now)) ≡ Some (view l)) }
-    ensures usage { IsErrOf result LineError.Usage → command_of (name.now, rows_of (found_of inner.now)) ≡ None }
+    ensures ok { IfOk result (λ l. command_of (name.now, rows_of (found_of inner.now))
+        ≡ Some (view l)) }
+    ensures usage { IsErrOf result LineError.Usage →
+        command_of (name.now, rows_of (found_of inner.now)) ≡ None }
     ensures memory { result ≢ Err LineError.NoMemory }
 {
     if name == "check" {
@@ -98,6 +104,9 @@ fn command_line<'a>(name: &str, inner: &ArgMatches<'a>) -> Result<Line<'a>, Line
     if name == "asm" {
         return asm_line(value(inner, "table"), value(inner, "text"));
     }
+    if name == "gen" {
+        return gen_line(value(inner, "number"));
+    }
     Err(LineError::Usage)
 }
 
@@ -109,8 +118,10 @@ fn value<'a>(inner: &ArgMatches<'a>, id: &str) -> Option<&'a str>
 }
 
 fn check_line<'a>(source: Option<&'a str>) -> Result<Line<'a>, LineError>
-    ensures ok { IfOk result (λ l. check_of (option_map (λ s. s.now) source.entry) ≡ Some (view l)) }
-    ensures usage { IsErrOf result LineError.Usage → check_of (option_map (λ s. s.now) source.entry) ≡ None }
+    ensures ok { IfOk result (λ l. check_of (option_map (λ s. s.now) source.entry)
+        ≡ Some (view l)) }
+    ensures usage { IsErrOf result LineError.Usage →
+        check_of (option_map (λ s. s.now) source.entry) ≡ None }
     ensures memory { result ≢ Err LineError.NoMemory }
 {
     match source {
@@ -124,8 +135,12 @@ fn run_line<'a>(
     image: Option<&'a str>,
     cycles: Option<&'a str>,
 ) -> Result<Line<'a>, LineError>
-    ensures ok { IfOk result (λ l. run_of (option_map (λ s. s.now) source.entry) (option_map (λ s. s.now) image.entry) (option_map (λ s. s.now) cycles.entry) ≡ Some (view l)) }
-    ensures usage { IsErrOf result LineError.Usage → run_of (option_map (λ s. s.now) source.entry) (option_map (λ s. s.now) image.entry) (option_map (λ s. s.now) cycles.entry) ≡ None }
+    ensures ok { IfOk result (λ l. run_of (option_map (λ s. s.now) source.entry)
+        (option_map (λ s. s.now) image.entry) (option_map (λ s. s.now) cycles.entry)
+        ≡ Some (view l)) }
+    ensures usage { IsErrOf result LineError.Usage →
+        run_of (option_map (λ s. s.now) source.entry) (option_map (λ s. s.now) image.entry)
+        (option_map (λ s. s.now) cycles.entry) ≡ None }
     ensures memory { result ≢ Err LineError.NoMemory }
 {
     let Some(source) = source else {
@@ -152,8 +167,12 @@ fn seq_line<'a>(
     image: Option<&'a str>,
     threads: Option<&'a str>,
 ) -> Result<Line<'a>, LineError>
-    ensures ok { IfOk result (λ l. seq_of (option_map (λ s. s.now) source.entry) (option_map (λ s. s.now) image.entry) (option_map (λ s. s.now) threads.entry) ≡ Some (view l)) }
-    ensures usage { IsErrOf result LineError.Usage → seq_of (option_map (λ s. s.now) source.entry) (option_map (λ s. s.now) image.entry) (option_map (λ s. s.now) threads.entry) ≡ None }
+    ensures ok { IfOk result (λ l. seq_of (option_map (λ s. s.now) source.entry)
+        (option_map (λ s. s.now) image.entry) (option_map (λ s. s.now) threads.entry)
+        ≡ Some (view l)) }
+    ensures usage { IsErrOf result LineError.Usage →
+        seq_of (option_map (λ s. s.now) source.entry) (option_map (λ s. s.now) image.entry)
+        (option_map (λ s. s.now) threads.entry) ≡ None }
     ensures memory { result ≢ Err LineError.NoMemory }
 {
     let Some(source) = source else {
@@ -176,8 +195,10 @@ fn seq_line<'a>(
 }
 
 fn asm_line<'a>(table: Option<&'a str>, text: Option<&'a str>) -> Result<Line<'a>, LineError>
-    ensures ok { IfOk result (λ l. asm_of (option_map (λ s. s.now) table.entry) (option_map (λ s. s.now) text.entry) ≡ Some (view l)) }
-    ensures usage { IsErrOf result LineError.Usage → asm_of (option_map (λ s. s.now) table.entry) (option_map (λ s. s.now) text.entry) ≡ None }
+    ensures ok { IfOk result (λ l. asm_of (option_map (λ s. s.now) table.entry)
+        (option_map (λ s. s.now) text.entry) ≡ Some (view l)) }
+    ensures usage { IsErrOf result LineError.Usage →
+        asm_of (option_map (λ s. s.now) table.entry) (option_map (λ s. s.now) text.entry) ≡ None }
     ensures memory { result ≢ Err LineError.NoMemory }
 {
     let Some(table) = table else {
@@ -187,4 +208,19 @@ fn asm_line<'a>(table: Option<&'a str>, text: Option<&'a str>) -> Result<Line<'a
         return Err(LineError::Usage);
     };
     Ok(Line::Asm { table, text })
+}
+
+fn gen_line<'a>(text: Option<&'a str>) -> Result<Line<'a>, LineError>
+    ensures ok { IfOk result (λ l. gen_of (option_map (λ s. s.now) text.entry) ≡ Some (view l)) }
+    ensures usage { IsErrOf result LineError.Usage →
+        gen_of (option_map (λ s. s.now) text.entry) ≡ None }
+    ensures memory { result ≢ Err LineError.NoMemory }
+{
+    let Some(text) = text else {
+        return Err(LineError::Usage);
+    };
+    let Some(number) = number(text, 10, 2_147_483_647) else {
+        return Err(LineError::Usage);
+    };
+    Ok(Line::Gen { number })
 }

@@ -34,15 +34,22 @@ fn seq<'a>(source: &'a str, image: &'a str, threads: u32) -> Result<Line<'a>, Li
     })
 }
 
+fn generated<'a>(number: u32) -> Result<Line<'a>, LineError> {
+    Ok(Line::Gen { number })
+}
+
 #[test]
 fn reads_lines(rt: HostRuntime) -> Result<(), Fail> {
     let usage = Err(LineError::Usage);
-    let table: [(&[&str], Result<Line<'_>, LineError>); 18] = [
+    let table: [(&[&str], Result<Line<'_>, LineError>); 21] = [
         (&["asm", "t", "p"], asm("t", "p")),
         (&["asm", "t"], usage),
         (&["seq", "a", "b", "1000000"], seq("a", "b", 1_000_000)),
         (&["seq", "a", "b", "1000001"], usage),
         (&["seq", "a", "b"], usage),
+        (&["gen", "2147483647"], generated(2_147_483_647)),
+        (&["gen", "2147483648"], usage),
+        (&["gen", "00000000001"], usage),
         (&["check", "a.pdl"], check("a.pdl")),
         (&["check", "--", "-a"], check("-a")),
         (&["check"], usage),

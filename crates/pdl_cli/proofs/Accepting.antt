@@ -1,8 +1,7 @@
 -- What an accepted pipe gives the run of its netlist.
-use Rattle.std.proofs.Common.{◌≡◌, ◌≢◌, ℕ, zero, suc, [], ◌∷◌, ◌≤◌, ◌<◌, true, false, List, length, map, get_or, All, AllPairs, refl, sym, ap, ap₂, ◌∙◌, subst, inl, inr, bytes_eq, arith}
+use Rattle.std.proofs.Common.{◌≡◌, ◌≢◌, ℕ, zero, suc, [], ◌∷◌, ◌≤◌, ◌<◌, false, List, length, map, get_or, All, AllPairs, refl, sym, ap, ap₂, ◌∙◌, subst, inl, inr, bytes_eq, arith}
 use Rattle.std.specs.Prelude.{Option, IsTrue}
-use Rattle.std.specs.List.{list_all}
-use Rattle.std.proofs.lemmas.Bool.{and_parts, or_parts}
+use Rattle.std.proofs.lemmas.Bool.{or_parts}
 use Rattle.std.proofs.lemmas.List.Elements.{All-from_recursion}
 use Rattle.std.specs.List.{AllByRecursion}
 use Rattle.pdl_kit.specs.declared.mem_info.MemInfo.{MemInfo}
@@ -11,10 +10,10 @@ use Rattle.pdl_semantics.specs.Tree.{Mem, Pipe}
 use Rattle.pdl_semantics.specs.Flat.{arrays_of}
 use Rattle.pdl_semantics.specs.Flatten.{flat}
 use Rattle.pdl_semantics.specs.Lines.{columns, lines, run_lines}
-use Rattle.pdl_rules.specs.Refusal.{KeepsRules, is_comb}
+use Rattle.pdl_rules.specs.Refusal.{KeepsRules}
 use Rattle.pdl_rules.specs.Typed.{AreDistinct, is_memory}
 use Rattle.pdl_check.specs.Memories.{info_of, infos_of}
-use Rattle.pdl_check.specs.Compiled.{are_compiled, can_compile}
+use Rattle.pdl_check.specs.Compiled.{can_compile}
 use Rattle.pdl_image.specs.Images.{IsImage}
 use Rattle.pdl_net.specs.declared.Netlist.{Netlist}
 use Rattle.pdl_sources.proofs.Promised.{refines, advances, paces}
@@ -27,6 +26,7 @@ use Rattle.pdl_pipe.specs.Refined.{RefinesThreads}
 use Rattle.pdl_cli.specs.Commands.{IsAccepted, IsLoaded, IsOutput, replies}
 use Rattle.pdl_cli.specs.Printed.{run_text, schedule}
 use Rattle.pdl_cli.proofs.ShortNames.{HaveShortNames, short_names}
+use Rattle.pdl_gated.proofs.Lines.{comb_mems}
 
 -- ---- its memories
 
@@ -50,19 +50,15 @@ infos_each P (m ∷ ms) h = (h m (inl refl), infos_each P ms (λ k a. h k (inr a
 told_all : (P : MemInfo → Type 0) (p : Pipe) (ms : List MemInfo) → ms ≡ infos_of p.mems → ((m : Mem) → Among m p.mems → P (info_of m)) → All P ms
 told_all P p ms e h = subst (All P) (sym e) (All-from_recursion P (infos_of p.mems) (infos_each P p.mems h))
 
--- a pipe that can be compiled has memories that answer at once
-answers_at_once : (p : Pipe) → IsTrue (can_compile p) → list_all is_comb p.mems ≡ true
-answers_at_once p can = (and_parts (are_compiled false p.body) (list_all is_comb p.mems) can).1
-
 pub names_differ : (p : Pipe) (ms : List MemInfo) → IsTrue (can_compile p) → KeepsRules p → ms ≡ infos_of p.mems → AllPairs (λ a b. a.name ≢ b.name) ms
 names_differ p ms can kept e =
-    subst (AllPairs (λ (a b : MemInfo). a.name ≢ b.name)) (sym e) (infos_differ p.mems (declared p kept (answers_at_once p can)).distinct)
+    subst (AllPairs (λ (a b : MemInfo). a.name ≢ b.name)) (sym e) (infos_differ p.mems (declared p kept (comb_mems p can)).distinct)
 
 pub widths_low : (p : Pipe) (ms : List MemInfo) → IsTrue (can_compile p) → KeepsRules p → ms ≡ infos_of p.mems → All (λ m. 1 ≤ m.width) ms
-widths_low p ms can kept e = told_all (λ m. 1 ≤ m.width) p ms e (λ m a. (sized_among p.mems (declared p kept (answers_at_once p can)).sized m a).low)
+widths_low p ms can kept e = told_all (λ m. 1 ≤ m.width) p ms e (λ m a. (sized_among p.mems (declared p kept (comb_mems p can)).sized m a).low)
 
 pub widths_high : (p : Pipe) (ms : List MemInfo) → IsTrue (can_compile p) → KeepsRules p → ms ≡ infos_of p.mems → All (λ m. m.width ≤ 64) ms
-widths_high p ms can kept e = told_all (λ m. m.width ≤ 64) p ms e (λ m a. (sized_among p.mems (declared p kept (answers_at_once p can)).sized m a).high)
+widths_high p ms can kept e = told_all (λ m. m.width ≤ 64) p ms e (λ m a. (sized_among p.mems (declared p kept (comb_mems p can)).sized m a).high)
 
 short_one : (ms : List Mem) → HaveShortNames ms → (m : Mem) → Among m ms → length m.name.name ≤ 32
 short_one [] h m a = absurd a

@@ -16,7 +16,8 @@ use Rattle.pdl_asmtable.specs.Tables.{TableValue}
 use Rattle.pdl_asmtable.specs.Documents as documents
 use Rattle.pdl_asm.specs.declared.asm_error.AsmError.TheVariants as asm_error
 use Rattle.pdl_asm.specs.Assembly as assembly
-use Rattle.pdl_args.specs.Line.{Command, check, run, seq, asm}
+use Rattle.pdl_gen.specs.Generated.{source}
+use Rattle.pdl_args.specs.Line.{Command, check, run, seq, asm, gen}
 use Rattle.pdl_cli.specs.declared.failure.Position.{Position}
 use Rattle.pdl_cli.specs.declared.failure.Position.TheVariants.{Line, Insn}
 use Rattle.pdl_cli.specs.declared.failure.Failure.{Failure}
@@ -88,6 +89,8 @@ exclusive_told held (run source image' cycles) text rule (Line n) o w = none_wro
 exclusive_told held (run source image' cycles) text rule (Insn n) o w = w
 exclusive_told held (seq source image' threads) text rule (Line n) o w = none_wrong held source image' rule n o.pipe o.words o.loaded w
 exclusive_told held (seq source image' threads) text rule (Insn n) o w = w
+exclusive_told held (gen number) text rule (Line n) o w = kept_unrefused (source number) o.summary.pipe rule n o.summary.accepted w
+exclusive_told held (gen number) text rule (Insn n) o w = w
 exclusive_told held (asm table program) text rule (Line n) o (inl w) = w
 exclusive_told held (asm table program) text rule (Line n) o (inr w) = program_right held table program text rule n o w
 exclusive_told held (asm table program) text rule (Insn n) o (inl w) = table_right held table rule n o.value o.tabled w

@@ -7,3 +7,4 @@ pub mod Preparing
 pub mod Printing
 pub mod Running
 pub mod InTurn
+pub mod Summing

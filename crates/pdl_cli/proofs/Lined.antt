@@ -11,7 +11,7 @@ use Rattle.clap.specs.Kinds.{Kinds}
 use Rattle.pdl_args.specs.App.{pdl_app}
 use Rattle.pdl_args.specs.Number.{number_of, is_numeral_of}
 use Rattle.pdl_cli.specs.Top.{IsFew}
-use Rattle.pdl_args.specs.Line.{Command, check, run, seq, asm, check_of, run_of, seq_of, asm_of, command_of, where_taken, line}
+use Rattle.pdl_args.specs.Line.{Command, check, run, seq, asm, gen, check_of, run_of, seq_of, asm_of, gen_of, command_of, where_taken, line}
 
 tested : (a b : Bool) (n m : ℕ) → (b ≡ true → n ≤ m) → (c : ℕ) → (if a && b then Some n else None) ≡ Some c → c ≤ m
 tested true true n m h c e = let s : n ≡ c = cc e in rw (← s) (h refl)
@@ -54,6 +54,14 @@ of_seq (Some s) None t x y n e = absurd (cc e)
 of_seq (Some s) (Some i) None x y n e = absurd (cc e)
 of_seq (Some s) (Some i) (Some t) x y n e = seq_case s i x y n (number_of 7 1000000 t) e
 
+gen_case : (x y : Text) (n : ℕ) (o : Option ℕ) → option_map gen o ≡ Some (run x y n) → n ≤ 1000000
+gen_case x y n None e = absurd (cc e)
+gen_case x y n (Some k) e = absurd (cc e)
+
+of_gen : (t : Option Text) (x y : Text) (n : ℕ) → gen_of t ≡ Some (run x y n) → n ≤ 1000000
+of_gen None x y n e = absurd (cc e)
+of_gen (Some t) x y n e = gen_case x y n (number_of 10 2147483647 t) e
+
 of_none : (x y : Text) (n : ℕ) → None ≡ Some (run x y n) → n ≤ 1000000
 of_none x y n e = absurd (cc e)
 
@@ -66,13 +74,16 @@ of_found (Some f) x y n e =
     let table : Option Text = first_of (codes "table") f.1 in
     let text : Option Text = first_of (codes "text") f.1 in
     let threads : Option Text = first_of (codes "threads") f.1 in
-    let assembled : Option Command = if bytes_eq f.0 (codes "asm") then asm_of table text else None in
+    let number : Option Text = first_of (codes "number") f.1 in
+    let generated : Option Command = if bytes_eq f.0 (codes "gen") then gen_of number else None in
+    let assembled : Option Command = if bytes_eq f.0 (codes "asm") then asm_of table text else generated in
     let in_turn : Option Command = if bytes_eq f.0 (codes "seq") then seq_of source image threads else assembled in
     let ran : Option Command = if bytes_eq f.0 (codes "run") then run_of source image cycles else in_turn in
     of_if (bytes_eq f.0 (codes "check")) (check_of source) ran x y n (of_check source x y n)
     (of_if (bytes_eq f.0 (codes "run")) (run_of source image cycles) in_turn x y n (of_run source image cycles x y n)
     (of_if (bytes_eq f.0 (codes "seq")) (seq_of source image threads) assembled x y n (of_seq source image threads x y n)
-    (of_if (bytes_eq f.0 (codes "asm")) (asm_of table text) None x y n (of_asm table text x y n) (of_none x y n)))) e
+    (of_if (bytes_eq f.0 (codes "asm")) (asm_of table text) generated x y n (of_asm table text x y n)
+    (of_if (bytes_eq f.0 (codes "gen")) (gen_of number) None x y n (of_gen number x y n) (of_none x y n))))) e
 
 of_taken : (kinds : Kinds) (found : Option (Text × List Row)) (x y : Text) (n : ℕ) → where_taken kinds found ≡ Some (run x y n) → n ≤ 1000000
 of_taken [] found x y n e = of_found found x y n e
@@ -87,4 +98,5 @@ pub few : (words : List Text) (command : Command) → line words ≡ Some comman
 few words (check x) e = tt
 few words (seq s i t) e = tt
 few words (asm t x) e = tt
+few words (gen n) e = tt
 few words (run x y n) e = few_cycles words x y n e

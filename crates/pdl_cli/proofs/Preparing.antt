@@ -1,4 +1,4 @@
--- Why a run is not prepared, once its source is accepted.
+-- Why a run is not prepared: its image fails, once its source is accepted, or a generated source fails.
 use Rattle.std.proofs.Common.{◌≡◌, ℕ, ◌≤◌, List, Option, inr, subst, arith}
 use Rattle.pdl_kit.specs.declared.rule.Rule.{Rule}
 use Rattle.pdl_kit.specs.Counts.{Rose}
@@ -8,8 +8,9 @@ use Rattle.pdl_cli.specs.declared.failure.Position.{Position}
 use Rattle.pdl_cli.specs.declared.failure.Position.TheVariants.{Line, Insn}
 use Rattle.pdl_cli.specs.declared.failure.Failure.{Failure}
 use Rattle.pdl_cli.specs.declared.failure.Failure.TheVariants.{Usage, Refused, ReadFault, WriteFault, NoMemory}
-use Rattle.pdl_args.specs.Line.{Command}
-use Rattle.pdl_cli.specs.Commands.{AtLine, IsAccepted, IsTaken, IsLoaded, IsWrong, IsWrongFor, ImageFails, Fails}
+use Rattle.pdl_gen.specs.Generated.{source}
+use Rattle.pdl_args.specs.Line.{Command, gen}
+use Rattle.pdl_cli.specs.Commands.{AtLine, IsAccepted, IsWrong, IsWrongFor, ImageFails, TextFails, Fails}
 
 pub rose_before : (before mid now : ℕ) → before ≤ mid → Rose mid now → Rose before now
 rose_before before mid now h r = omega (arith, r)
@@ -26,7 +27,10 @@ image_fails holds after before mid now source image' text command p e h given a 
 image_fails holds after before mid now source image' text command p e h given a wrong WriteFault w = w
 image_fails holds after before mid now source image' text command p e h given a wrong NoMemory w = tt
 
-pub loaded : (holds after : Option Held) (source image' text img : List ℕ) (p : Pipe) (words : List (List ℕ)) → after ≡ holds → Gives holds source text → IsAccepted text p
-    → Gives after image' img → IsTaken p img words → IsLoaded holds source image' p words
-loaded holds after source image' text img p words e given a found taken =
-    record { source_text = text; source_given = given; accepted = a; image_text = img; image_given = subst (λ (o : Option Held). Gives o image' img) e found; taken = taken }
+-- a generated source that fails is that of a command without files
+pub text_fails : (holds : Option Held) (before now number : ℕ) (f : Failure) → TextFails (source number) f → Fails holds before now (gen number) f
+text_fails holds before now number Usage w = w
+text_fails holds before now number (Refused rule position) w = w
+text_fails holds before now number ReadFault w = absurd w
+text_fails holds before now number WriteFault w = w
+text_fails holds before now number NoMemory w = tt

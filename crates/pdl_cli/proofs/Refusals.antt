@@ -15,7 +15,8 @@ use Rattle.pdl_asmtable.specs.Tables.{TableValue}
 use Rattle.pdl_asmtable.specs.Documents as documents
 use Rattle.pdl_asm.specs.declared.asm_error.AsmError.TheVariants as asm_error
 use Rattle.pdl_asm.specs.Assembly as assembly
-use Rattle.pdl_args.specs.Line.{Command, check, run, seq, asm}
+use Rattle.pdl_gen.specs.Generated.{source}
+use Rattle.pdl_args.specs.Line.{Command, check, run, seq, asm, gen}
 use Rattle.pdl_cli.specs.declared.failure.Position.{Position}
 use Rattle.pdl_cli.specs.declared.failure.Position.TheVariants.{Line, Insn}
 use Rattle.pdl_cli.specs.Assembled.{IsWrongTable, IsWrongText}
@@ -104,3 +105,6 @@ one_refusal held (seq source image' threads) r s (Insn n) q v w = absurd v
 one_refusal held (seq source image' threads) r s (Line n) (Insn m) v w = absurd w
 one_refusal held (seq source image' threads) r s (Line n) (Line m) v w = let h = wrong_run held source image' r s n m v w in (h.0, ap Line h.1)
 one_refusal held (asm table program) r s p q v w = wrong_asm held table program r s p q v w
+one_refusal held (gen number) r s (Insn n) q v w = absurd v
+one_refusal held (gen number) r s (Line n) (Insn m) v w = absurd w
+one_refusal held (gen number) r s (Line n) (Line m) v w = let h = source_one (source number) r s n m v w in (h.0, ap Line h.1)

@@ -11,6 +11,7 @@ use Rattle.pdl_tokens.specs.declared.token.TokenKind.TheVariants as kind
 use Rattle.pdl_tokens.specs.Tokens.{Token, Row, Piece, Spelling, tokens, tokens_from, placed, piece_at, word_at, keyword_or_name, spelling_of, keywords, number_or_literal, mark_or_bad, blank_of, is_word, is_blank, is_lower, is_digit, symbols, spelling_at, line_after}
 use Rattle.pdl_grammar.specs.Grammar.{Listed, last, further, Memory, memory, Parameter, parameter, Lock, unlocked, locked, Text, text}
 use Rattle.pdl_grammar.specs.Text.{IsText}
+use Rattle.pdl_sources.proofs.Words.{number_no_name, literal_no_name, some_same}
 
 -- ---- pieces
 
@@ -28,17 +29,6 @@ blank_short n e = absurd (cc e)
 mark_short : (s : Option Spelling) → IsShortPiece (mark_or_bad s)
 mark_short None e = absurd (cc e)
 mark_short (Some s) e = absurd (cc e)
-
-number_no_name : (b : Bool) (n : ℕ) → cond b (kind.Number n) kind.Bad ≡ kind.Name → ⊥
-number_no_name true n e = cc e
-number_no_name false n e = cc e
-
-literal_no_name : (b : Bool) (n : ℕ) (v : Option ℕ) → cond b (kind.Literal n v) kind.Bad ≡ kind.Name → ⊥
-literal_no_name true n v e = cc e
-literal_no_name false n v e = cc e
-
-some_same : (k j : TokenKind) → Some k ≡ Some j → k ≡ j
-some_same k j e = cc e
 
 number_short : (n ds hs : List ℕ) → IsShortPiece (number_or_literal n ds hs)
 number_short n [] [] e = absurd (number_no_name _ _ (some_same _ _ e))

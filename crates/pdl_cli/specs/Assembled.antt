@@ -15,13 +15,15 @@ pub record IsTabled (holds : Option Held) (table : List ℕ) (value : TableValue
   pub taken : documents.table table_text ≡ Ok value
 
 -- the table is wrong, at this instruction
-pub record IsWrongTable (holds : Option Held) (table : List ℕ) (rule : Rule) (insn : ℕ) : Type 0 where
+pub record IsWrongTable (holds : Option Held) (table : List ℕ) (rule : Rule) (insn : ℕ)
+    : Type 0 where
   pub table_text : List ℕ
   pub table_given : Gives holds table table_text
   pub refused : documents.table table_text ≡ Err (table_error.Refused rule insn)
 
 -- the table is taken, and the program wrong, at this line
-pub record IsWrongText (holds : Option Held) (table program : List ℕ) (rule : Rule) (line : ℕ) : Type 0 where
+pub record IsWrongText (holds : Option Held) (table program : List ℕ) (rule : Rule) (line : ℕ)
+    : Type 0 where
   pub value : TableValue
   pub tabled : IsTabled holds table value
   pub program_text : List ℕ

@@ -3,6 +3,7 @@ pub mod Failures
 pub mod Words
 pub mod Printed
 pub mod Tally
+pub mod Summaries
 pub mod Assembled
 pub mod Commands
 pub mod Top

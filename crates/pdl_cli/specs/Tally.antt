@@ -8,7 +8,11 @@ one_if b = if b then 1 else 0
 
 -- counts with one cycle more
 abbrev pub tallied_of : Counts → Cycle → Counts
-tallied_of n c = record { ended = n.ended + one_if c.ended; waits = n.waits + one_if c.wait; squashes = n.squashes + one_if c.squash }
+tallied_of n c = record {
+  ended = n.ended + one_if c.ended;
+  waits = n.waits + one_if c.wait;
+  squashes = n.squashes + one_if c.squash;
+}
 
 -- the counts of some cycles
 abbrev pub counts_of : List Cycle → Counts

@@ -4,7 +4,7 @@ use Rattle.pdl_kit.specs.declared.rule.Rule.{Rule}
 use Rattle.pdl_kit.specs.Counts.{Rose}
 use Rattle.pdl_kit.specs.Files.{Held}
 use Rattle.pdl_kit.specs.Sinks.{TakesPrefix, with_bytes}
-use Rattle.pdl_args.specs.Line.{Command, check, run, seq, asm}
+use Rattle.pdl_args.specs.Line.{Command, check, run, seq, asm, gen}
 use Rattle.pdl_cli.specs.declared.failure.Position.{Position}
 use Rattle.pdl_cli.specs.declared.failure.Failure.{Failure}
 use Rattle.pdl_cli.specs.declared.failure.Failure.TheVariants.{Usage, Refused, ReadFault, WriteFault, NoMemory}
@@ -18,6 +18,7 @@ Allows may (Some (check source)) = IsTrue (may source)
 Allows may (Some (run source image cycles)) = IsTrue (may source) × IsTrue (may image)
 Allows may (Some (seq source image threads)) = IsTrue (may source) × IsTrue (may image)
 Allows may (Some (asm table program)) = IsTrue (may table) × IsTrue (may program)
+Allows may (Some (gen number)) = ⊤
 
 -- a run is of at most 1,000,000 cycles
 abbrev pub IsFew : Command → Type 0
@@ -25,6 +26,7 @@ IsFew (check source) = ⊤
 IsFew (run source image cycles) = cycles ≤ 1000000
 IsFew (seq source image threads) = ⊤
 IsFew (asm table program) = ⊤
+IsFew (gen number) = ⊤
 
 -- what is seen from outside, before and after: what the files hold and their count of faults, what out has and its count of faults
 pub record Seen : Type 0 where
@@ -50,7 +52,8 @@ seen_of holds reads reads_now written written_now writes writes_now = record {
 -- all is done: the named files are read to their ends and accepted, and out has the whole text
 abbrev pub IsDone : Option Command → Seen → Type 0
 IsDone None s = ⊥
-IsDone (Some command) s = (text : List ℕ) × Writes s.holds command text × (s.written_now ≡ with_bytes text s.written)
+IsDone (Some command) s =
+    (text : List ℕ) × Writes s.holds command text × (s.written_now ≡ with_bytes text s.written)
 
 -- out has what it had
 abbrev pub IsSilent : Seen → Type 0
@@ -60,9 +63,12 @@ IsSilent s = s.written_now ≡ s.written
 abbrev pub FailsAs : Option Command → Seen → Failure → Type 0
 FailsAs None s Usage = IsSilent s
 FailsAs None s NoMemory = IsSilent s
-FailsAs (Some command) s (Refused rule position) = IsWrongFor s.holds command rule position × IsSilent s
+FailsAs (Some command) s (Refused rule position) =
+    IsWrongFor s.holds command rule position × IsSilent s
 FailsAs (Some command) s ReadFault = Rose s.reads s.reads_now × IsSilent s
-FailsAs (Some command) s WriteFault = Rose s.writes s.writes_now × (text : List ℕ) × Writes s.holds command text × TakesPrefix s.written s.written_now text
+FailsAs (Some command) s WriteFault =
+    Rose s.writes s.writes_now
+    × (text : List ℕ) × Writes s.holds command text × TakesPrefix s.written s.written_now text
 FailsAs (Some command) s NoMemory = IsSilent s
 FailsAs _ s _ = ⊥
 
@@ -73,15 +79,19 @@ Explains command s (Err f) = FailsAs command s f
 
 -- the status is that of an outcome, done or a failure, that what is seen explains, and its text is said
 abbrev pub Answers : Option Command → Seen → (List ℕ → Type 0) → ℕ → Type 0
-Answers command s Said status = (o : Result (Unit {0}) Failure) × (status ≡ status_of o) × Explains command s o × Said (text_of o)
+Answers command s Said status =
+    (o : Result (Unit {0}) Failure)
+    × (status ≡ status_of o) × Explains command s o × Said (text_of o)
 
 -- the status of a command is decided by what is seen: not 1; 2 where a told file is wrong and no reading failed; 0 where no file is wrong and nothing failed; where it isn't, memory ran out
 pub record IsDecided (command : Command) (s : Seen) (status : ℕ) : Type 0 where
   pub usage : status ≡ 1 → ⊥
-  pub wrong : (held : Held) (rule : Rule) (position : Position) → s.holds ≡ Some held → IsWrongFor (Some held) command rule position
+  pub wrong : (held : Held) (rule : Rule) (position : Position)
+      → s.holds ≡ Some held → IsWrongFor (Some held) command rule position
       → (Rose s.reads s.reads_now → ⊥) → (status ≡ 2) ⊎ (status ≡ 5)
   pub right : ((rule : Rule) (position : Position) → IsWrongFor s.holds command rule position → ⊥)
-      → (Rose s.reads s.reads_now → ⊥) → (Rose s.writes s.writes_now → ⊥) → (status ≡ 0) ⊎ (status ≡ 5)
+      → (Rose s.reads s.reads_now → ⊥) → (Rose s.writes s.writes_now → ⊥)
+      → (status ≡ 0) ⊎ (status ≡ 5)
 
 -- the status is decided by what is seen: 1 where the words are no command
 abbrev pub Decides : Option Command → Seen → ℕ → Type 0

@@ -14,7 +14,8 @@ use std::alloc::Global;
 fn tabled<F: Files>(alloc: Global, files: &mut F, name: &str) -> Result<Table, Failure>
     requires { IsTrue (F.may files.old name.now) }
     ensures ok { IfOk result (λ t. IsTabled (F.holds files.old) name.now t) }
-    ensures err { IfErr result (TableFails (F.holds files.old) (F.faults files.old) (F.faults files.new) name.now) }
+    ensures err { IfErr result
+        (TableFails (F.holds files.old) (F.faults files.old) (F.faults files.new) name.now) }
     ensures held { F.holds files.new ≡ F.holds files.old }
     ensures allowed { (n : List ℕ) → F.may files.new n ≡ F.may files.old n }
     ensures later { F.faults files.old ≤ F.faults files.new }
@@ -33,7 +34,8 @@ pub fn assembled<F: Files>(
     requires table { IsTrue (F.may files.old table.now) }
     requires program { IsTrue (F.may files.old program.now) }
     ensures ok { IfOk result (λ t. IsAssembled (F.holds files.old) table.now program.now t.items) }
-    ensures err { IfErr result (Fails (F.holds files.old) (F.faults files.old) (F.faults files.new) (command.asm table.now program.now)) }
+    ensures err { IfErr result (Fails (F.holds files.old) (F.faults files.old) (F.faults files.new)
+        (command.asm table.now program.now)) }
     ensures held { F.holds files.new ≡ F.holds files.old }
     ensures allowed { (n : List ℕ) → F.may files.new n ≡ F.may files.old n }
     ensures later { F.faults files.old ≤ F.faults files.new }

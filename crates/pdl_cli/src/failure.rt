@@ -171,7 +171,8 @@ pub fn status_of(outcome: Result<(), Failure>) -> u8
 
 /// Writes the text of what came of a command; a fault on the way is passed over, since nothing is left to tell it to.
 pub fn report<E: Sink>(outcome: Result<(), Failure>, err: &mut E)
-    ensures { Says (E.written err.old) (E.written err.new) (E.faults err.old) (E.faults err.new) (spec.text_of outcome) }
+    ensures { Says (E.written err.old) (E.written err.new) (E.faults err.old) (E.faults err.new)
+        (spec.text_of outcome) }
 {
     if let Err(failure) = outcome {
         complain(failure, err);
@@ -180,7 +181,8 @@ pub fn report<E: Sink>(outcome: Result<(), Failure>, err: &mut E)
 
 // Writes the text of a failure.
 fn complain<E: Sink>(failure: Failure, err: &mut E)
-    ensures { Says (E.written err.old) (E.written err.new) (E.faults err.old) (E.faults err.new) (spec.failure_text failure) }
+    ensures { Says (E.written err.old) (E.written err.new) (E.faults err.old) (E.faults err.new)
+        (spec.failure_text failure) }
 {
     match failure {
         Failure::Usage => say(err, b"usage\n"),
@@ -193,7 +195,8 @@ fn complain<E: Sink>(failure: Failure, err: &mut E)
 
 // Writes the text of a refusal.
 fn refuse<E: Sink>(rule: Rule, position: Position, err: &mut E)
-    ensures { Says (E.written err.old) (E.written err.new) (E.faults err.old) (E.faults err.new) (refused_at rule position) }
+    ensures { Says (E.written err.old) (E.written err.new) (E.faults err.old) (E.faults err.new)
+        (refused_at rule position) }
 {
     match position {
         Position::Line(line) => say(err, refused_line(rule, line).as_bytes()),
@@ -203,7 +206,8 @@ fn refuse<E: Sink>(rule: Rule, position: Position, err: &mut E)
 
 // Writes a text, or a prefix of it where the sink fails.
 fn say<E: Sink>(err: &mut E, text: &[u8])
-    ensures { Says (E.written err.old) (E.written err.new) (E.faults err.old) (E.faults err.new) text.now }
+    ensures { Says (E.written err.old) (E.written err.new) (E.faults err.old) (E.faults err.new)
+        text.now }
 {
     let _ = write_whole(err, text);
 }

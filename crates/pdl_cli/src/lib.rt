@@ -3,10 +3,12 @@
 
 mod assembly;
 mod failure;
+mod generated;
 mod print;
 mod program;
 mod run;
 mod sequential;
+mod summary;
 mod unique;
 mod words;
 

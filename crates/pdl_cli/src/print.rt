@@ -6,7 +6,7 @@ ghost use Rattle.pdl_net.specs.Run.{commit_of};
 ghost use Rattle.pdl_pipe_law.specs.Runs.{column_of, puts_of, cycle_of, output_count};
 ghost use Rattle.pdl_cli.specs.Printed.{cycles_from, run_text, schedule};
 ghost use Rattle.pdl_net.specs.Pipe.{IsWellFormed};
-ghost use Rattle.pdl_net.specs.Run.{delayed_mems};
+ghost use Rattle.pdl_net.specs.Run.{delayed_mems, nports};
 ghost use Rattle.pdl_image.specs.Images.{IsImage};
 ghost use Rattle.pdl_cli.specs.Tally.{tallied_of, counts_of};
 
@@ -19,10 +19,10 @@ use std::alloc::Global;
 
 /// How many cycles a run has had, in how many a thread ended, a request stayed unanswered, and a squash happened.
 #[derive(Clone, Copy, PartialEq, Eq, Debug)]
-struct Counts {
-    ended: u32,
-    waits: u32,
-    squashes: u32,
+pub struct Counts {
+    pub ended: u32,
+    pub waits: u32,
+    pub squashes: u32,
 }
 
 // The line of what one memory commits in a cycle of this number, if it does.
@@ -34,7 +34,8 @@ fn push_commit(
 ) -> Result<(), NoMemory>
     requires name { length mem.now.name ≤ 32 }
     requires width { mem.now.width ≤ 64 }
-    ensures { OnOk result (text.new.items ≡ text.old.items ++ mem_lines cycle (column_of mem.now) (puts_of commit)) }
+    ensures { OnOk result (text.new.items
+        ≡ text.old.items ++ mem_lines cycle (column_of mem.now) (puts_of commit)) }
 {
     if let Some((address, value)) = commit {
         let line = commit_line(cycle, &mem.name, address, value, mem.width);
@@ -48,7 +49,8 @@ fn push_commits(text: &mut Vec<u8>, cycle: u32, mems: &[MemInfo], sim: &Sim) -> 
     requires mems { mems.now ≡ sim.now.netlist.mems }
     requires names { All (λ m. length m.name ≤ 32) mems.now }
     requires widths { All (λ m. m.width ≤ 64) mems.now }
-    ensures { OnOk result (text.new.items ≡ text.old.items ++ cycle_lines cycle (map column_of mems.now) (cycle_of sim.now.netlist sim.now.last).puts) }
+    ensures { OnOk result (text.new.items ≡ text.old.items ++ cycle_lines cycle
+        (map column_of mems.now) (cycle_of sim.now.netlist sim.now.last).puts) }
 {
     for (i, m) in mems.iter().enumerate() {
         push_commit(text, cycle, m, sim.commit(i))?;
@@ -67,7 +69,8 @@ fn one_if(holds: bool) -> u32
 fn tallied(counts: Counts, sim: &Sim, outputs: usize) -> Counts
     requires outputs { outputs ≡ output_count sim.now.netlist }
     requires two { 2 ≤ outputs }
-    requires room { (counts.ended < 1000000) × (counts.waits < 1000000) × (counts.squashes < 1000000) }
+    requires room { (counts.ended < 1000000) × (counts.waits < 1000000)
+        × (counts.squashes < 1000000) }
     ensures { result ≡ tallied_of counts (cycle_of sim.now.netlist sim.now.last) }
 {
     Counts {
@@ -77,7 +80,7 @@ fn tallied(counts: Counts, sim: &Sim, outputs: usize) -> Counts
     }
 }
 
-// Runs cycles numbered from 1, with every reply bit 1, and puts the lines of what they commit into the text.
+// Runs cycles numbered from 1, with every reply bit 1, and adds the lines of what they commit.
 fn run_cycles(
     text: &mut Vec<u8>,
     sim: &mut Sim,
@@ -92,8 +95,10 @@ fn run_cycles(
     requires two { 2 ≤ outputs }
     requires few { cycles ≤ 1000000 }
     ensures text { OnOk result (text.new.items ≡ text.old.items
-        ++ lines_from 1 (map column_of mems.now) (cycles_from sim.old.netlist sim.old.held (schedule cycles))) }
-    ensures counts { IfOk result (λ c. c ≡ counts_of (cycles_from sim.old.netlist sim.old.held (schedule cycles))) }
+        ++ lines_from 1 (map column_of mems.now)
+        (cycles_from sim.old.netlist sim.old.held (schedule cycles))) }
+    ensures counts { IfOk result
+        (λ c. c ≡ counts_of (cycles_from sim.old.netlist sim.old.held (schedule cycles))) }
 {
     let mut counts = Counts {
         ended: 0,
@@ -123,13 +128,34 @@ fn print_run(
     requires outputs { outputs ≡ output_count sim.old.netlist }
     requires two { 2 ≤ outputs }
     requires few { cycles ≤ 1000000 }
-    ensures { IfOk result (λ t. t.items ≡ lines (map column_of mems.now) (cycles_from sim.old.netlist sim.old.held (schedule cycles))) }
+    ensures { IfOk result (λ t. t.items
+        ≡ lines (map column_of mems.now)
+        (cycles_from sim.old.netlist sim.old.held (schedule cycles))) }
 {
     let mut text = Vec::new(alloc);
     let counts = run_cycles(&mut text, sim, mems, outputs, cycles)?;
     let line = end_line(cycles, counts.ended, counts.waits, counts.squashes);
     text.extend_from_slice(line.as_bytes())?;
     Ok(text)
+}
+
+// Runs cycles with every reply bit 1, and counts them.
+fn count_cycles(sim: &mut Sim, outputs: usize, cycles: u32) -> Counts
+    requires outputs { outputs ≡ output_count sim.old.netlist }
+    requires two { 2 ≤ outputs }
+    requires few { cycles ≤ 1000000 }
+    ensures { result ≡ counts_of (cycles_from sim.old.netlist sim.old.held (schedule cycles)) }
+{
+    let mut counts = Counts {
+        ended: 0,
+        waits: 0,
+        squashes: 0,
+    };
+    for _done in 0..cycles {
+        sim.cycle(u16::MAX);
+        counts = tallied(counts, sim, outputs);
+    }
+    counts
 }
 
 // How many outputs a netlist has.
@@ -164,4 +190,18 @@ pub fn run(alloc: Global, net: &Netlist, image: &Image, cycles: u32) -> Result<V
         count_outputs(net),
         cycles,
     )
+}
+
+/// The counts of a run of a netlist without delayed memories, with this image, for so many cycles.
+pub fn count(alloc: Global, net: &Netlist, image: &Image, cycles: u32) -> Result<Counts, NoMemory>
+    requires well { IsWellFormed net.now }
+    requires image { IsImage net.now.mems image.now }
+    requires here { delayed_mems net.now ≡ [] }
+    requires two { 2 ≤ output_count net.now }
+    requires few { cycles ≤ 1000000 }
+    ensures { IfOk result (λ c. c ≡ counts_of
+        (map (cycle_of net.now) (nports net.now image.now (schedule cycles)))) }
+{
+    let mut sim = Sim::new(alloc, net, image)?;
+    Ok(count_cycles(&mut sim, count_outputs(net), cycles))
 }

@@ -9,6 +9,7 @@ ghost use Rattle.pdl_cli.specs.Top.{Allows, IsFew, seen_of, Explains, Answers, D
 
 use crate::assembly::assembled;
 use crate::failure::{Failure, report, status_of};
+use crate::generated::generate;
 use crate::run::{prepare, run_in_turn, verdict};
 use pdl_args::{Line, read_line};
 use pdl_kit::files::Files;
@@ -16,11 +17,13 @@ use pdl_kit::sink::{Sink, write_whole};
 use std::alloc::Global;
 
 // The text of what a command asks for.
+#[tactic(auto, using(crate::proofs::Preparing::text_fails))]
 fn text_of<F: Files>(alloc: Global, line: Line<'_>, files: &mut F) -> Result<Vec<u8>, Failure>
     requires allowed { Allows (F.may files.old) (Some (view line)) }
     requires few { IsFew (view line) }
     ensures ok { IfOk result (λ t. Writes (F.holds files.old) (view line.entry) t.items) }
-    ensures err { IfErr result (Fails (F.holds files.old) (F.faults files.old) (F.faults files.new) (view line.entry)) }
+    ensures err { IfErr result
+        (Fails (F.holds files.old) (F.faults files.old) (F.faults files.new) (view line.entry)) }
     ensures held { F.holds files.new ≡ F.holds files.old }
     ensures allowed { (n : List ℕ) → F.may files.new n ≡ F.may files.old n }
     ensures later { F.faults files.old ≤ F.faults files.new }
@@ -38,6 +41,7 @@ fn text_of<F: Files>(alloc: Global, line: Line<'_>, files: &mut F) -> Result<Vec
             threads,
         } => run_in_turn(alloc, files, source, image, threads),
         Line::Asm { table, text } => assembled(alloc, files, table, text),
+        Line::Gen { number } => generate(alloc, number),
     }
 }
 
@@ -102,11 +106,12 @@ pub fn top<F: Files, O: Sink, E: Sink>(
     err: &mut E,
 ) -> u8
     requires { Allows (F.may files.old) (line (map string_bytes words.now.items)) }
-    // The status is that of an outcome, done or a failure, that what is seen explains; err has its text.
+    // The status is that of an outcome that what is seen explains; err has its text.
     ensures outcome { Answers (line (map string_bytes words.now.items))
         (seen_of (F.holds files.old) (F.faults files.old) (F.faults files.new)
         (O.written out.old) (O.written out.new) (O.faults out.old) (O.faults out.new))
-        (Says (E.written err.old) (E.written err.new) (E.faults err.old) (E.faults err.new)) result }
+        (Says (E.written err.old) (E.written err.new) (E.faults err.old) (E.faults err.new))
+        result }
     // What is seen decides the status, but that memory may have run out.
     ensures decided { Decides (line (map string_bytes words.now.items))
         (seen_of (F.holds files.old) (F.faults files.old) (F.faults files.new)

@@ -23,8 +23,10 @@ use std::alloc::Global;
 // Reads and checks a source.
 fn accept<F: Files>(alloc: Global, files: &mut F, name: &str) -> Result<Accepted, Failure>
     requires { IsTrue (F.may files.old name.now) }
-    ensures ok { IfOk result (λ a. (b : List ℕ) × Gives (F.holds files.old) name.now b × IsAccepted b (pipe_view a.typed.pipe)) }
-    ensures err { IfErr result (SourceFails (F.holds files.old) (F.faults files.old) (F.faults files.new) name.now) }
+    ensures ok { IfOk result (λ a. (b : List ℕ) × Gives (F.holds files.old) name.now b
+        × IsAccepted b (pipe_view a.typed.pipe)) }
+    ensures err { IfErr result
+        (SourceFails (F.holds files.old) (F.faults files.old) (F.faults files.new) name.now) }
     ensures held { F.holds files.new ≡ F.holds files.old }
     ensures allowed { (n : List ℕ) → F.may files.new n ≡ F.may files.old n }
     ensures later { F.faults files.old ≤ F.faults files.new }
@@ -43,8 +45,11 @@ fn load<F: Files>(
     requires may { IsTrue (F.may files.old name.now) }
     requires accepted { (b : List ℕ) × IsAccepted b (pipe_view accepted.now.typed.pipe) }
     ensures ok { IfOk result (λ i. (b : List ℕ) × Gives (F.holds files.old) name.now b
-        × IsTaken (pipe_view accepted.now.typed.pipe) b i × IsImage (infos_of (pipe_view accepted.now.typed.pipe).mems) i) }
-    ensures err { IfErr result (ImageFails (F.holds files.old) (F.faults files.old) (F.faults files.new) name.now (pipe_view accepted.now.typed.pipe)) }
+        × IsTaken (pipe_view accepted.now.typed.pipe) b i
+        × IsImage (infos_of (pipe_view accepted.now.typed.pipe).mems) i) }
+    ensures err { IfErr result
+        (ImageFails (F.holds files.old) (F.faults files.old) (F.faults files.new) name.now
+        (pipe_view accepted.now.typed.pipe)) }
     ensures held { F.holds files.new ≡ F.holds files.old }
     ensures allowed { (n : List ℕ) → F.may files.new n ≡ F.may files.old n }
     ensures later { F.faults files.old ≤ F.faults files.new }
@@ -57,8 +62,10 @@ fn load<F: Files>(
 pub fn image_of(alloc: Global, accepted: &Accepted, text: &[u8]) -> Result<Image, FileError>
     requires accepted { (b : List ℕ) × IsAccepted b (pipe_view accepted.now.typed.pipe) }
     requires short { length text.now ≤ LONGEST_FILE }
-    ensures ok { IfOk result (λ i. IsTaken (pipe_view accepted.now.typed.pipe) text.now i × IsImage (infos_of (pipe_view accepted.now.typed.pipe).mems) i) }
-    ensures err { IfErr result (IsRefusal (image_words (infos_of (pipe_view accepted.now.typed.pipe).mems) text.now)) }
+    ensures ok { IfOk result (λ i. IsTaken (pipe_view accepted.now.typed.pipe) text.now i
+        × IsImage (infos_of (pipe_view accepted.now.typed.pipe).mems) i) }
+    ensures err { IfErr result
+        (IsRefusal (image_words (infos_of (pipe_view accepted.now.typed.pipe).mems) text.now)) }
 {
     read_image(alloc, accepted.mems(), text)
 }
@@ -73,7 +80,8 @@ fn text_of(
     requires accepted { (b : List ℕ) × IsAccepted b (pipe_view accepted.now.typed.pipe) }
     requires image { IsImage (infos_of (pipe_view accepted.now.typed.pipe).mems) image.now }
     requires few { cycles ≤ 1000000 }
-    ensures { IfOk result (λ t. (holds : Option Held) (source image' : List ℕ) → IsLoaded holds source image' (pipe_view accepted.now.typed.pipe) image.now
+    ensures { IfOk result (λ t. (holds : Option Held) (source image' : List ℕ)
+        → IsLoaded holds source image' (pipe_view accepted.now.typed.pipe) image.now
         → IsOutput holds source image' cycles t.items) }
 {
     let netlist = compile(alloc, accepted)?;
@@ -94,7 +102,8 @@ fn verdict_of(alloc: Global, accepted: &Accepted) -> Result<Vec<u8>, NoMemory>
 pub fn verdict<F: Files>(alloc: Global, files: &mut F, source: &str) -> Result<Vec<u8>, Failure>
     requires { IsTrue (F.may files.old source.now) }
     ensures ok { IfOk result (λ t. IsVerdict (F.holds files.old) source.now t.items) }
-    ensures err { IfErr result (Fails (F.holds files.old) (F.faults files.old) (F.faults files.new) (command.check source.now)) }
+    ensures err { IfErr result (Fails (F.holds files.old) (F.faults files.old) (F.faults files.new)
+        (command.check source.now)) }
     ensures held { F.holds files.new ≡ F.holds files.old }
     ensures allowed { (n : List ℕ) → F.may files.new n ≡ F.may files.old n }
     ensures later { F.faults files.old ≤ F.faults files.new }
@@ -117,8 +126,10 @@ pub fn prepare<F: Files>(
     requires source { IsTrue (F.may files.old source.now) }
     requires image { IsTrue (F.may files.old image.now) }
     requires few { cycles ≤ 1000000 }
-    ensures ok { IfOk result (λ t. IsOutput (F.holds files.old) source.now image.now cycles t.items) }
-    ensures err { IfErr result (Fails (F.holds files.old) (F.faults files.old) (F.faults files.new) (command.run source.now image.now cycles)) }
+    ensures ok { IfOk result
+        (λ t. IsOutput (F.holds files.old) source.now image.now cycles t.items) }
+    ensures err { IfErr result (Fails (F.holds files.old) (F.faults files.old) (F.faults files.new)
+        (command.run source.now image.now cycles)) }
     ensures held { F.holds files.new ≡ F.holds files.old }
     ensures allowed { (n : List ℕ) → F.may files.new n ≡ F.may files.old n }
     ensures later { F.faults files.old ≤ F.faults files.new }
@@ -143,8 +154,10 @@ pub fn run_in_turn<F: Files>(
 ) -> Result<Vec<u8>, Failure>
     requires source { IsTrue (F.may files.old source.now) }
     requires image { IsTrue (F.may files.old image.now) }
-    ensures ok { IfOk result (λ t. IsSequential (F.holds files.old) source.now image.now threads t.items) }
-    ensures err { IfErr result (Fails (F.holds files.old) (F.faults files.old) (F.faults files.new) (command.seq source.now image.now threads)) }
+    ensures ok { IfOk result
+        (λ t. IsSequential (F.holds files.old) source.now image.now threads t.items) }
+    ensures err { IfErr result (Fails (F.holds files.old) (F.faults files.old) (F.faults files.new)
+        (command.seq source.now image.now threads)) }
     ensures held { F.holds files.new ≡ F.holds files.old }
     ensures allowed { (n : List ℕ) → F.may files.new n ≡ F.may files.old n }
     ensures later { F.faults files.old ≤ F.faults files.new }

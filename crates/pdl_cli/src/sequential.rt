@@ -21,7 +21,8 @@ fn push_write(text: &mut Vec<u8>, mems: &[MemInfo], write: Write) -> Result<(), 
     requires names { All (λ m. length m.name ≤ 32) mems.now }
     requires widths { All (λ m. m.width ≤ 64) mems.now }
     requires there { write.mem < length mems.now }
-    ensures { OnOk result (text.new.items ≡ text.old.items ++ write_line (map column_of mems.now) write) }
+    ensures { OnOk result
+        (text.new.items ≡ text.old.items ++ write_line (map column_of mems.now) write) }
 {
     let mem = &mems[write.mem];
     let address = u64::from(write.addr);
@@ -35,7 +36,8 @@ fn push_writes(text: &mut Vec<u8>, mems: &[MemInfo], writes: &[Write]) -> Result
     requires names { All (λ m. length m.name ≤ 32) mems.now }
     requires widths { All (λ m. m.width ≤ 64) mems.now }
     requires there { All (λ w. w.mem < length mems.now) writes.now }
-    ensures { OnOk result (text.new.items ≡ text.old.items ++ flat_map (write_line (map column_of mems.now)) writes.now) }
+    ensures { OnOk result (text.new.items ≡ text.old.items
+        ++ flat_map (write_line (map column_of mems.now)) writes.now) }
 {
     for write in writes {
         push_write(text, mems, *write)?;
@@ -65,7 +67,8 @@ pub fn sequential(
 ) -> Result<Vec<u8>, NoMemory>
     requires accepted { (b : List ℕ) × IsAccepted b (pipe_view accepted.now.typed.pipe) }
     requires image { IsImage (infos_of (pipe_view accepted.now.typed.pipe).mems) image.now }
-    ensures { IfOk result (λ t. t.items ≡ seq_lines (pipe_view accepted.now.typed.pipe) image.now threads) }
+    ensures { IfOk result
+        (λ t. t.items ≡ seq_lines (pipe_view accepted.now.typed.pipe) image.now threads) }
 {
     pdl_seq::runnable();
     pdl_seq::images();

@@ -10,5 +10,6 @@ ghost use Rattle.pdl_cli.specs.Commands.{IsWrongFor};
 #[tactic(auto, using(crate::proofs::Refusals::one_refusal))]
 pub fn one_refusal()
     ensures { (held : Held) (command : Command) (r s : rules) (p q : positions)
-        → IsWrongFor (Some held) command r p → IsWrongFor (Some held) command s q → (r ≡ s) × (p ≡ q) }
+        → IsWrongFor (Some held) command r p → IsWrongFor (Some held) command s q
+        → (r ≡ s) × (p ≡ q) }
 {}

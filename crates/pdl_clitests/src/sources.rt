@@ -152,3 +152,13 @@ bits = \"100 ttttt\"
 pub const PROGRAM: &[u8] = b"top: add r1, -2\nb top\n";
 
 pub const ASSEMBLED: &[u8] = b"image 1\nim 0 7e\nim 1 9f\n";
+
+// The ends of runs from numbers, by a model of their machine that was written apart.
+pub const GENERATED_0: &[u8] =
+    b"gen 0 stages 2 lock queue\nend cycles 10000 ended 9999 waits 0 squashes 0\n";
+
+pub const GENERATED_1: &[u8] =
+    b"gen 1 stages 3 lock bypass\nend cycles 10000 ended 9409 waits 0 squashes 0\n";
+
+pub const GENERATED_2: &[u8] =
+    b"gen 2 stages 4 lock rename\nend cycles 10000 ended 8418 waits 0 squashes 0\n";

@@ -3,10 +3,11 @@ use crate::rows::{answers, at, not, ran};
 use crate::sources::{
     ASSEMBLED, CALLS, CHAIN, CHAIN_BYPASS, CHAIN_RENAME, CHAINED, CHAINED_IN_TURN, COUNTER,
     DELAYED_ON_LINE_2, DOWN, EMPTY, EVERY_OTHER, EXPRESSED, EXPRESSIONS, FIVE, FORK_ON_LINE_4,
-    FORWARDED, FOUR_IN_TURN, LATE_START, NARROW, NARROWED, NO_LOCK_SO_LARGE, NONE, NONE_IN_TURN,
-    ODD, ODDS, ON_LINE_3, OTHER_GUARD, PROGRAM, RENAMED, RENAMED_64, SAME_GUARD,
-    SAME_GUARD_WIDE_STEP, SEVENTEEN, SIXTY_FIVE, TABLE, THREE, TOO_DEEP_TO_RENAME, TOO_WIDE,
-    TWENTY, TWO_IMAGES, TWO_IN_TURN, TWO_MEMORIES, UNKNOWN_STEP, WIDE_PARAMETER, WIDE_STEP, WRITES,
+    FORWARDED, FOUR_IN_TURN, GENERATED_0, GENERATED_1, GENERATED_2, LATE_START, NARROW, NARROWED,
+    NO_LOCK_SO_LARGE, NONE, NONE_IN_TURN, ODD, ODDS, ON_LINE_3, OTHER_GUARD, PROGRAM, RENAMED,
+    RENAMED_64, SAME_GUARD, SAME_GUARD_WIDE_STEP, SEVENTEEN, SIXTY_FIVE, TABLE, THREE,
+    TOO_DEEP_TO_RENAME, TOO_WIDE, TWENTY, TWO_IMAGES, TWO_IN_TURN, TWO_MEMORIES, UNKNOWN_STEP,
+    WIDE_PARAMETER, WIDE_STEP, WRITES,
 };
 use pdl_kit::MemSink;
 use std::alloc::Global;
@@ -68,6 +69,19 @@ fn runs_threads_in_turn(rt: HostRuntime) -> Result<(), Fail> {
             2,
             b"refused W2 line 1\n",
         ),
+    ];
+    answers(&rt, rt.alloc(), &rows)
+}
+
+/// Runs that are made from a number, one with each kind of lock.
+#[test]
+fn runs_generated_sources(rt: HostRuntime) -> Result<(), Fail> {
+    let rows = [
+        at(&["gen", "0"], EMPTY, EMPTY, GENERATED_0),
+        at(&["gen", "1"], EMPTY, EMPTY, GENERATED_1),
+        at(&["gen", "0000000002"], EMPTY, EMPTY, GENERATED_2),
+        not(&["gen", "2147483648"], EMPTY, EMPTY, 1, b"usage\n"),
+        not(&["gen"], EMPTY, EMPTY, 1, b"usage\n"),
     ];
     answers(&rt, rt.alloc(), &rows)
 }

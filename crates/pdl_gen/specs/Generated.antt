@@ -1,5 +1,5 @@
 -- The generated run of a number: the source of a pipe, and the words of its memory.
-use Rattle.std.specs.Prelude.{ℕ, zero, suc, ◌+◌, ◌-◌, ◌*◌, ◌/◌, ◌%◌, ◌==◌, List, [], ◌∷◌, ◌++◌, map, codes, decimal, if◌then◌else◌}
+use Rattle.std.specs.Prelude.{ℕ, zero, suc, ◌+◌, ◌-◌, ◌*◌, ◌/◌, ◌%◌, ◌==◌, List, [], ◌++◌, map, codes, decimal, if◌then◌else◌}
 use Rattle.std.specs.List.{range_with_len}
 use Rattle.pdl_semantics.specs.Tree.{LockKind, Queue, Bypass, Rename}
 
@@ -60,18 +60,30 @@ head k = codes "pipe g(n: uint<8>)[m: uint<8>[16] comb lock " ++ kind_name k ++ 
 -- the first two stages: a thread reserves, calls the next one, and reads
 abbrev pub reads : ℕ → List ℕ
 reads s =
-    codes "a = n[3:0];\nb = n[7:4];\nreserve(m[a], R);\nreserve(m[b], W);\ncall(n + 8'd" ++ decimal s ++ codes ");\n---\nblock(m[a]);\nx = m[a];\n"
+    codes "a = n[3:0];\nb = n[7:4];\nreserve(m[a], R);\nreserve(m[b], W);\ncall(n + 8'd" ++ decimal s
+    ++ codes ");\n---\nblock(m[a]);\nx = m[a];\n"
 
 -- the end of the last stage: it writes and releases
 abbrev pub writes : List ℕ
 writes = codes "block(m[b]);\nm[b] <- x + n;\nrelease(m[a]);\nrelease(m[b]);\n} start g(8'd1);\n"
 
 -- each further stage has a line `---` before it
-abbrev pub source : ℕ → List ℕ
+unfoldable pub source : ℕ → List ℕ
 source n = head (kind n) ++ reads (step n) ++ separators (stages n - 2) ++ writes
 
 -- THE IMAGE
 
 -- the 16 words of m
-abbrev pub words : ℕ → List ℕ
+unfoldable pub words : ℕ → List ℕ
 words n = map (λ i. byte n (i + 2)) (range_with_len 0 16)
+
+-- THE RUN
+
+-- how many cycles it has
+unfoldable pub cycles : ℕ
+cycles = 10000
+
+-- what is printed first of it: `gen N stages K lock KIND`
+unfoldable pub first_line : ℕ → List ℕ
+first_line n =
+    codes "gen " ++ decimal n ++ codes " stages " ++ decimal (stages n) ++ codes " lock " ++ kind_name (kind n) ++ codes "\n"

@@ -1,13 +1,10 @@
-//! Generated runs: for a number the source of a pipe, and the words that its memory has at the start.
+//! Generated runs: for a number the source of a pipe, the words that its memory has at the start, and what is printed first of its run.
 #![tactic(auto)]
 
 mod numbers;
 mod pipe;
 mod text;
 
-pub use numbers::words;
+pub use numbers::{cycles, words};
 pub use pipe::{kind, stages, step};
-pub use text::{kind_name, source};
-
-/// How many cycles a generated run has.
-pub const CYCLES: u32 = 10_000;
+pub use text::{first_line, kind_name, source};

@@ -1,5 +1,5 @@
-// The numbers that come after one another, and the words that they give.
-ghost use Rattle.std.specs.Prelude.{◌≡◌, ◌<◌, ◌^◌, ◌/◌, ◌%◌, IfOk};
+// The numbers that come after one another, the words that they give, and how long a run is.
+ghost use Rattle.std.specs.Prelude.{◌≡◌, ◌<◌, ◌≤◌, ◌^◌, ◌/◌, ◌%◌, IfOk};
 ghost use Rattle.pdl_gen.specs.Generated as spec;
 
 use pdl_kit::NoMemory;
@@ -22,6 +22,7 @@ pub fn byte_of(x: u64) -> u64
 }
 
 /// The words that the memory of the generated run has at the start, by their addresses: 16 words of 8 bits.
+#[tactic(auto, unfolding(crate::specs::Generated::words))]
 pub fn words(alloc: Global, n: u32) -> Result<Vec<u64>, NoMemory>
     ensures { IfOk result (λ v. v.items ≡ spec.words n) }
 {
@@ -32,4 +33,13 @@ pub fn words(alloc: Global, n: u32) -> Result<Vec<u64>, NoMemory>
         words.push(byte_of(x))?;
     }
     Ok(words)
+}
+
+/// How many cycles a generated run has.
+#[tactic(auto, unfolding(crate::specs::Generated::cycles))]
+pub fn cycles() -> u32
+    ensures value { result ≡ spec.cycles }
+    ensures few { result ≤ 10000 }
+{
+    10_000
 }

@@ -1,5 +1,5 @@
-// The text of the source.
-ghost use Rattle.std.specs.Prelude.{◌≡◌, ◌++◌, IfOk, OnOk, decimal};
+// The text of the source, and the first line of what is printed.
+ghost use Rattle.std.specs.Prelude.{◌≡◌, ◌≤◌, ◌++◌, IfOk, OnOk, decimal, vec_len};
 ghost use Rattle.pdl_tree.specs.View.{lock_kind_view};
 ghost use Rattle.pdl_gen.specs.Generated as spec;
 
@@ -71,9 +71,11 @@ fn write_writes(text: &mut Vec<u8>) -> Result<(), NoMemory>
     Ok(())
 }
 
-/// The text of the source.
+/// The text of the source: at most 500 bytes.
+#[tactic(auto, unfolding(crate::specs::Generated::source), using(crate::proofs::Shortness::short_source))]
 pub fn source(alloc: Global, n: u32) -> Result<Vec<u8>, NoMemory>
-    ensures { IfOk result (λ v. v.items ≡ spec.source n) }
+    ensures text { IfOk result (λ v. v.items ≡ spec.source n) }
+    ensures short { IfOk result (λ v. vec_len v ≤ 500) }
 {
     let mut text = Vec::new(alloc);
     write_head(kind(n), &mut text)?;
@@ -81,4 +83,20 @@ pub fn source(alloc: Global, n: u32) -> Result<Vec<u8>, NoMemory>
     write_separators(stages(n) - 2, &mut text)?;
     write_writes(&mut text)?;
     Ok(text)
+}
+
+/// The first line that is printed of the run: `gen N stages K lock KIND`.
+#[tactic(auto, unfolding(crate::specs::Generated::first_line))]
+pub fn first_line(alloc: Global, n: u32) -> Result<Vec<u8>, NoMemory>
+    ensures { IfOk result (λ v. v.items ≡ spec.first_line n) }
+{
+    let mut line = Vec::new(alloc);
+    line.extend_from_slice(b"gen ")?;
+    write_decimal(u64::from(n), &mut line)?;
+    line.extend_from_slice(b" stages ")?;
+    write_decimal(u64::from(stages(n)), &mut line)?;
+    line.extend_from_slice(b" lock ")?;
+    line.extend_from_slice(kind_name(kind(n)))?;
+    line.extend_from_slice(b"\n")?;
+    Ok(line)
 }

@@ -8,4 +8,5 @@ returns c =
     let one = c.in_ok-one.ensures.shape c.in_ok-check.ensures.1 ∙ ap₂ with_subcommand c.bare_command.ensures (ap top c.in_ok-check.ensures.0) in
     let two = c.in_ok-two.ensures.shape c.in_ok-run.ensures.1 ∙ ap₂ with_subcommand one (ap top c.in_ok-run.ensures.0) in
     let three = c.in_ok-three.ensures.shape c.in_ok-seq.ensures.1 ∙ ap₂ with_subcommand two (ap top c.in_ok-seq.ensures.0) in
-    c.in_ok-all.ensures.shape c.in_ok-asm.ensures.1 ∙ ap₂ with_subcommand three (ap top c.in_ok-asm.ensures.0)
+    let four = c.in_ok-four.ensures.shape c.in_ok-asm.ensures.1 ∙ ap₂ with_subcommand three (ap top c.in_ok-asm.ensures.0) in
+    c.in_ok-all.ensures.shape c.in_ok-generated.ensures.1 ∙ ap₂ with_subcommand four (ap top c.in_ok-generated.ensures.0)

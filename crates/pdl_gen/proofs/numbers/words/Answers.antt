@@ -1,5 +1,4 @@
-use Rattle.std.proofs.Common.{◌≡◌, sym, ap, ap₂, ◌∙◌, suc, ◌+◌, ◌/◌, ◌%◌, ◌++◌, [], ◌∷◌, List, ℕ, map, arith}
-use Rattle.std.specs.List.{range_with_len}
+use Rattle.std.proofs.Common.{◌≡◌, sym, ap, ap₂, ◌∙◌, suc, ◌+◌, ◌/◌, ◌%◌, ◌++◌, [], ◌∷◌, List, ℕ, arith}
 use Rattle.std.proofs.lemmas.List.FromFn.{map-range_with_len_more}
 use Rattle.pdl_gen.specs.Generated.{next, number, byte}
 use Rattle.pdl_gen.proofs.Numbering.{first_number, number_more}

@@ -1,4 +1,4 @@
-use Rattle.std.proofs.Common.{◌≡◌, sym, ap, ◌∙◌, ◌/◌, ◌%◌}
+use Rattle.std.proofs.Common.{sym, ap, ◌∙◌, ◌/◌, ◌%◌}
 use Rattle.pdl_gen.specs.Generated.{next, byte}
 use Rattle.pdl_gen.proofs.Numbering.{first_number, odd_kept, even_raised}
 use Rattle.pdl_gen.proofs.pipe.step.Goals as goal

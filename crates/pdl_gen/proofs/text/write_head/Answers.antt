@@ -1,4 +1,4 @@
-use Rattle.std.proofs.Common.{◌≡◌, ap, ◌∙◌, ◌++◌}
+use Rattle.std.proofs.Common.{ap, ◌∙◌, ◌++◌}
 use Rattle.pdl_gen.proofs.Numbering.{three_pieces}
 use Rattle.pdl_gen.proofs.text.write_head.Goals as goal
 
