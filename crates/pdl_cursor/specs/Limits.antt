@@ -29,37 +29,37 @@ is_operator mark.SignExtend = true
 is_operator _ = false
 
 -- one more open bracket
-abbrev pub opened : Counts → Counts
-opened c = record { brackets = c.brackets + 1; in_body = c.in_body; operators = c.operators }
+abbrev pub after_open : Counts → Counts
+after_open c = record { brackets = c.brackets + 1; in_body = c.in_body; operators = c.operators }
 
 -- one less
-abbrev pub closed : Counts → Counts
-closed c = record { brackets = c.brackets - 1; in_body = c.in_body; operators = c.operators }
+abbrev pub after_close : Counts → Counts
+after_close c = record { brackets = c.brackets - 1; in_body = c.in_body; operators = c.operators }
 
 -- one more operator or function word of a statement; the `<` of a type stands in none
-abbrev pub applied : Counts → Counts
-applied c = record { brackets = c.brackets; in_body = c.in_body; operators = cond c.in_body (c.operators + 1) c.operators }
+abbrev pub after_operator : Counts → Counts
+after_operator c = record { brackets = c.brackets; in_body = c.in_body; operators = cond c.in_body (c.operators + 1) c.operators }
 
 -- the next statement begins
 abbrev pub afresh : Counts → Counts
 afresh c = record { brackets = c.brackets; in_body = c.in_body; operators = 0 }
 
 -- statements begin: those of the pipe, or of a branch
-abbrev pub entered : Counts → Counts
-entered c = record { brackets = c.brackets + 1; in_body = true; operators = 0 }
+abbrev pub after_brace : Counts → Counts
+after_brace c = record { brackets = c.brackets + 1; in_body = true; operators = 0 }
 
 -- the counts after a token
-abbrev pub counted : Counts → TokenKind → Counts
-counted c (kind.Mark mark.OpenRound) = opened c
-counted c (kind.Mark mark.OpenSquare) = opened c
-counted c (kind.Mark mark.OpenBrace) = entered c
-counted c (kind.Mark mark.CloseRound) = closed c
-counted c (kind.Mark mark.CloseSquare) = closed c
-counted c (kind.Mark mark.CloseBrace) = afresh (closed c)
-counted c (kind.Mark mark.Semicolon) = afresh c
-counted c (kind.Mark mark.Separator) = afresh c
-counted c (kind.Mark m) = cond (is_operator m) (applied c) c
-counted c _ = c
+abbrev pub counts_after : Counts → TokenKind → Counts
+counts_after c (kind.Mark mark.OpenRound) = after_open c
+counts_after c (kind.Mark mark.OpenSquare) = after_open c
+counts_after c (kind.Mark mark.OpenBrace) = after_brace c
+counts_after c (kind.Mark mark.CloseRound) = after_close c
+counts_after c (kind.Mark mark.CloseSquare) = after_close c
+counts_after c (kind.Mark mark.CloseBrace) = afresh (after_close c)
+counts_after c (kind.Mark mark.Semicolon) = afresh c
+counts_after c (kind.Mark mark.Separator) = afresh c
+counts_after c (kind.Mark m) = cond (is_operator m) (after_operator c) c
+counts_after c _ = c
 
 -- at most 64 brackets are open, and at most 256 operators and function words stand in the statement
 abbrev pub is_within : Counts → Bool
@@ -72,4 +72,4 @@ at_start = record { brackets = 0; in_body = false; operators = 0 }
 -- after each of the tokens the counts are within the limits
 abbrev pub AreWithin : Counts → Row → Type 0
 AreWithin c [] = Unit {0}
-AreWithin c (t ∷ ts) = IsTrue (is_within (counted c t.kind)) × AreWithin (counted c t.kind) ts
+AreWithin c (t ∷ ts) = IsTrue (is_within (counts_after c t.kind)) × AreWithin (counts_after c t.kind) ts

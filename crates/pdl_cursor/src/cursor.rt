@@ -5,7 +5,7 @@ ghost use Rattle.pdl_tokens.specs.Cursor.{maybe_token_view};
 ghost use Rattle.pdl_tokens.specs.Tokens as lexed;
 ghost use Rattle.pdl_tree.specs.View.{span_view, ident_view};
 ghost use Rattle.pdl_cursor.specs.Limits.{at_start};
-ghost use Rattle.pdl_cursor.specs.Marked.{marked, first_line};
+ghost use Rattle.pdl_cursor.specs.Marked.{marked_row, first_line};
 ghost use Rattle.pdl_cursor.specs.Looks.{is_mark, is_place, begins_place};
 
 use crate::limits::Counts;
@@ -25,11 +25,11 @@ pub struct Cursor<'a> {
 impl<'a> Model for Cursor<'a> {
     ghost use Rattle.std.specs.Prelude.{List};
     ghost use Rattle.pdl_tokens.specs.Tokens.{Token};
-    ghost use Rattle.pdl_cursor.specs.Marked.{headed};
+    ghost use Rattle.pdl_cursor.specs.Marked.{headed_row};
 
     ghost Value = { List Token };
 
-    ghost view = { λ c. headed c.counts c.tokens };
+    ghost view = { λ c. headed_row c.counts c.tokens };
 }
 
 impl<'a> Cursor<'a> {
@@ -37,10 +37,10 @@ impl<'a> Cursor<'a> {
     #[tactic(auto, using(crate::proofs::Fronts::head_is))]
     pub fn new(source: &'a [u8]) -> Cursor<'a>
         requires { length source.now ≤ 268435456 }
-        ensures { result ≡ marked at_start (lexed.tokens source.entry.now) }
+        ensures { result ≡ marked_row at_start (lexed.tokens source.entry.now) }
     {
         let tokens = Tokens::new(source);
-        let counts = Counts::new().passed(kind_of(tokens.peek()));
+        let counts = Counts::new().after_token(kind_of(tokens.peek()));
         Cursor { tokens, counts }
     }
 
@@ -50,7 +50,7 @@ impl<'a> Cursor<'a> {
         ensures { self.new ≡ spec.next self.old }
     {
         self.tokens.skip();
-        self.counts = self.counts.passed(kind_of(self.tokens.peek()));
+        self.counts = self.counts.after_token(kind_of(self.tokens.peek()));
     }
 
     /// What the first token is.
@@ -58,7 +58,7 @@ impl<'a> Cursor<'a> {
     pub fn kind(&self) -> Option<TokenKind>
         ensures { result ≡ spec.first_kind self.now }
     {
-        self.counts.seen(kind_of(self.tokens.peek()))
+        self.counts.kind_of(kind_of(self.tokens.peek()))
     }
 
     /// The line of the first token.
@@ -124,9 +124,13 @@ impl<'a> Cursor<'a> {
     {
         let second = self.tokens.second();
         let third = self.tokens.third();
-        let at_second = self.counts.passed(second);
-        let at_third = at_second.passed(third);
-        is_place(self.kind(), at_second.seen(second), at_third.seen(third))
+        let at_second = self.counts.after_token(second);
+        let at_third = at_second.after_token(third);
+        is_place(
+            self.kind(),
+            at_second.kind_of(second),
+            at_third.kind_of(third),
+        )
     }
 }
 

@@ -1,7 +1,7 @@
 // The limits on open brackets and on the operators of a statement.
 ghost use Rattle.std.specs.Prelude.{◌≡◌, true};
 ghost use Rattle.pdl_cursor.specs.Limits as spec;
-ghost use Rattle.pdl_cursor.specs.Marked.{passed, passed_if, seen, seen_if};
+ghost use Rattle.pdl_cursor.specs.Marked.{counts_passing, passed_if, kind_counted, seen_if};
 
 use pdl_tokens::{Mark, TokenKind};
 
@@ -33,9 +33,9 @@ fn is_operator(mark: Mark) -> bool
 }
 
 #[tactic(auto, using(crate::proofs::Fronts::within_parts))]
-fn opened(counts: Counts) -> Counts
+fn after_open(counts: Counts) -> Counts
     requires { spec.is_within counts ≡ true }
-    ensures { result ≡ spec.opened counts }
+    ensures { result ≡ spec.after_open counts }
 {
     Counts {
         brackets: counts.brackets + 1,
@@ -43,8 +43,8 @@ fn opened(counts: Counts) -> Counts
     }
 }
 
-fn closed(counts: Counts) -> Counts
-    ensures { result ≡ spec.closed counts }
+fn after_close(counts: Counts) -> Counts
+    ensures { result ≡ spec.after_close counts }
 {
     Counts {
         brackets: counts.brackets.saturating_sub(1),
@@ -53,9 +53,9 @@ fn closed(counts: Counts) -> Counts
 }
 
 #[tactic(auto, using(crate::proofs::Fronts::within_parts))]
-fn applied(counts: Counts) -> Counts
+fn after_operator(counts: Counts) -> Counts
     requires { spec.is_within counts ≡ true }
-    ensures { result ≡ spec.applied counts }
+    ensures { result ≡ spec.after_operator counts }
 {
     if counts.in_body {
         Counts {
@@ -77,9 +77,9 @@ fn afresh(counts: Counts) -> Counts
 }
 
 #[tactic(auto, using(crate::proofs::Fronts::within_parts))]
-fn entered(counts: Counts) -> Counts
+fn after_brace(counts: Counts) -> Counts
     requires { spec.is_within counts ≡ true }
-    ensures { result ≡ spec.entered counts }
+    ensures { result ≡ spec.after_brace counts }
 {
     Counts {
         brackets: counts.brackets + 1,
@@ -89,22 +89,22 @@ fn entered(counts: Counts) -> Counts
 }
 
 // The counts after a token.
-fn counted(counts: Counts, kind: TokenKind) -> Counts
+fn counts_after(counts: Counts, kind: TokenKind) -> Counts
     requires { spec.is_within counts ≡ true }
-    ensures { result ≡ spec.counted counts kind }
+    ensures { result ≡ spec.counts_after counts kind }
 {
     match kind {
-        TokenKind::Mark(Mark::OpenRound) => opened(counts),
-        TokenKind::Mark(Mark::OpenSquare) => opened(counts),
-        TokenKind::Mark(Mark::OpenBrace) => entered(counts),
-        TokenKind::Mark(Mark::CloseRound) => closed(counts),
-        TokenKind::Mark(Mark::CloseSquare) => closed(counts),
-        TokenKind::Mark(Mark::CloseBrace) => afresh(closed(counts)),
+        TokenKind::Mark(Mark::OpenRound) => after_open(counts),
+        TokenKind::Mark(Mark::OpenSquare) => after_open(counts),
+        TokenKind::Mark(Mark::OpenBrace) => after_brace(counts),
+        TokenKind::Mark(Mark::CloseRound) => after_close(counts),
+        TokenKind::Mark(Mark::CloseSquare) => after_close(counts),
+        TokenKind::Mark(Mark::CloseBrace) => afresh(after_close(counts)),
         TokenKind::Mark(Mark::Semicolon) => afresh(counts),
         TokenKind::Mark(Mark::Separator) => afresh(counts),
         TokenKind::Mark(mark) => {
             if is_operator(mark) {
-                applied(counts)
+                after_operator(counts)
             } else {
                 counts
             }
@@ -132,13 +132,13 @@ impl Counts {
     }
 
     /// The counts after a token, if there is one; once over a limit they stay so.
-    pub fn passed(self, kind: Option<TokenKind>) -> Counts
+    pub fn after_token(self, kind: Option<TokenKind>) -> Counts
         ensures { result ≡ passed_if self kind }
     {
         match kind {
             Some(kind) => {
                 if self.is_within() {
-                    counted(self, kind)
+                    counts_after(self, kind)
                 } else {
                     self
                 }
@@ -148,7 +148,7 @@ impl Counts {
     }
 
     /// What a token is by the counts after it: a bad one where they are over a limit.
-    pub fn seen(self, kind: Option<TokenKind>) -> Option<TokenKind>
+    pub fn kind_of(self, kind: Option<TokenKind>) -> Option<TokenKind>
         ensures { result ≡ seen_if self kind }
     {
         match kind {

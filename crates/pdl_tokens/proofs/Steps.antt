@@ -9,8 +9,8 @@ use Rattle.std.proofs.lemmas.Bool.Decides.{nat_tests}
 use Rattle.std.proofs.lemmas.Bool.{and_parts}
 use Rattle.pdl_tokens.specs.declared.piece.Piece as r
 use Rattle.pdl_tokens.specs.declared.token.TokenKind.{TokenKind}
-use Rattle.pdl_tokens.specs.Tokens.{Piece, Spelling, symbols, spelling_at, is_blank, is_lower, is_digit, is_hex, is_word, in_line, number_at, number_or_literal, digits_after, mark_or_bad, piece_at, placed, line_after, tokens_from}
-use Rattle.pdl_tokens.specs.Pieces.{piece_view, IsFront, IsLineBehind}
+use Rattle.pdl_tokens.specs.Tokens.{Piece, Spelling, symbols, spelling_at, is_blank, is_lower, is_digit, is_hex, is_word, in_line, number_at, number_or_literal, digits_after, mark_or_bad, piece_at, placed_token, line_after, tokens_from}
+use Rattle.pdl_tokens.specs.Pieces.{piece_view, IsFront, IsLineAfter}
 use Rattle.pdl_word.proofs.Lists.{run_least, prefix_fits}
 
 pub record Sized (p : Piece) (n : ℕ) : Type 0 where
@@ -39,9 +39,9 @@ cond_within false ds m f = tt
 after_within : (base : List ℕ) (is : ℕ → Bool) (bytes : List ℕ) → length base ≡ 2 → AreWithin (digits_after base is bytes) (length bytes)
 after_within base is bytes two = cond_within (starts_with nat_eq bytes base) (take_while is (drop (length base) bytes)) (length bytes)
     (λ e. let k = prefix_fits bytes base e in
-    let behind = drop (length base) bytes in
-    let i : length (take_while is behind) ≡ prefix_len is behind = length-prefix_len is behind in
-    let j = prefix_len-le-length is behind in
+    let after = drop (length base) bytes in
+    let i : length (take_while is after) ≡ prefix_len is after = length-prefix_len is after in
+    let j = prefix_len-le-length is after in
     omega (arith, k, i, j, two, length-drop (length base) bytes))
 
 number_or_literal_sized : (number d h : List ℕ) (n m : ℕ) → 1 ≤ length number → length number + m ≤ n → AreWithin d m → AreWithin h m → Sized (number_or_literal number d h) n
@@ -54,13 +54,13 @@ number_sized : (c : ℕ) (cs : List ℕ) → is_digit c ≡ true → Sized (numb
 number_sized c cs e =
     let bytes = c ∷ cs in
     let n = prefix_len is_digit bytes in
-    let behind = drop n bytes in
+    let after = drop n bytes in
     let i : length (take_while is_digit bytes) ≡ n = length-prefix_len is_digit bytes in
-    number_or_literal_sized (take_while is_digit bytes) (digits_after (codes "'d") is_digit behind) (digits_after (codes "'h") is_hex behind) (length bytes) (length behind)
+    number_or_literal_sized (take_while is_digit bytes) (digits_after (codes "'d") is_digit after) (digits_after (codes "'h") is_hex after) (length bytes) (length after)
     (let k = run_least is_digit c cs e in omega (arith, i, k))
     (let k = prefix_len-le-length is_digit bytes in omega (arith, i, k, length-drop n bytes))
-    (after_within (codes "'d") is_digit behind refl)
-    (after_within (codes "'h") is_hex behind refl)
+    (after_within (codes "'d") is_digit after refl)
+    (after_within (codes "'h") is_hex after refl)
 
 -- none of the spellings is empty
 are_written : List Spelling → Bool
@@ -111,32 +111,32 @@ inside k start line [] = rw (drop-nil k) refl
 inside zero start line (c ∷ cs) = rw (add-zero start) refl
 inside (suc k) start line (c ∷ cs) = inside k (start + 1) line cs ∙ ap (λ s. tokens_from 0 s line (drop k cs)) (omega arith)
 
-behind_piece : (n c start line : ℕ) (cs : List ℕ) → 1 ≤ n → tokens_from (n - 1) (start + 1) line cs ≡ tokens_from 0 (start + n) line (drop n (c ∷ cs))
-behind_piece zero c start line cs h = absurd (omega arith)
-behind_piece (suc k) c start line cs h = let e : suc k - 1 ≡ k = omega arith in
+after_piece : (n c start line : ℕ) (cs : List ℕ) → 1 ≤ n → tokens_from (n - 1) (start + 1) line cs ≡ tokens_from 0 (start + n) line (drop n (c ∷ cs))
+after_piece zero c start line cs h = absurd (omega arith)
+after_piece (suc k) c start line cs h = let e : suc k - 1 ≡ k = omega arith in
     rw e (inside k (start + 1) line cs ∙ ap (λ s. tokens_from 0 s line (drop k cs)) (omega arith))
 
--- the tokens are that of the piece at the front, and those behind it
+-- the tokens are that of the piece at the front, and those after it
 one_piece : (c : ℕ) (cs : List ℕ) (start line : ℕ) → let p = piece_at c (c ∷ cs) in
-    tokens_from 0 start line (c ∷ cs) ≡ placed p start line (c ∷ cs) ++ tokens_from 0 (start + p.size) (line_after c line) (drop p.size (c ∷ cs))
+    tokens_from 0 start line (c ∷ cs) ≡ placed_token p start line (c ∷ cs) ++ tokens_from 0 (start + p.size) (line_after c line) (drop p.size (c ∷ cs))
 one_piece c cs start line = let p = piece_at c (c ∷ cs) in
-    ap (λ ts. placed p start line (c ∷ cs) ++ ts) (behind_piece p.size c start (line_after c line) cs (piece_sized c cs).least)
+    ap (λ ts. placed_token p start line (c ∷ cs) ++ ts) (after_piece p.size c start (line_after c line) cs (piece_sized c cs).least)
 
--- the place behind the piece at the front
+-- the place after the piece at the front
 step_is : (bytes rest : List ℕ) (p : r.Piece) (start line start2 line2 : ℕ) → IsFront bytes (Some p) → rest ≡ drop p.size bytes → start2 ≡ start + p.size →
-    IsLineBehind bytes line line2 → tokens_from 0 start line bytes ≡ placed (piece_view p) start line bytes ++ tokens_from 0 start2 line2 rest
+    IsLineAfter bytes line line2 → tokens_from 0 start line bytes ≡ placed_token (piece_view p) start line bytes ++ tokens_from 0 start2 line2 rest
 step_is [] rest p start line start2 line2 h er es el = absurd h
 step_is (c ∷ cs) rest p start line start2 line2 h er es el =
-    let P : Piece → Type 0 = λ q. tokens_from 0 start line (c ∷ cs) ≡ placed q start line (c ∷ cs) ++ tokens_from 0 (start + q.size) (line_after c line) (drop q.size (c ∷ cs)) in
+    let P : Piece → Type 0 = λ q. tokens_from 0 start line (c ∷ cs) ≡ placed_token q start line (c ∷ cs) ++ tokens_from 0 (start + q.size) (line_after c line) (drop q.size (c ∷ cs)) in
     rw (er, es, el) (subst P (sym h) (one_piece c cs start line))
 
 pub step_blank : (bytes rest : List ℕ) (p : r.Piece) (start line start2 line2 : ℕ) → IsFront bytes (Some p) → rest ≡ drop p.size bytes → start2 ≡ start + p.size →
-    IsLineBehind bytes line line2 → p.kind ≡ None → tokens_from 0 start2 line2 rest ≡ tokens_from 0 start line bytes
+    IsLineAfter bytes line line2 → p.kind ≡ None → tokens_from 0 start2 line2 rest ≡ tokens_from 0 start line bytes
 step_blank bytes rest p start line start2 line2 h er es el e =
     let k = step_is bytes rest p start line start2 line2 h er es el in sym (k ∙ rw e refl)
 
 pub step_token : (bytes rest : List ℕ) (p : r.Piece) (k : TokenKind) (start line start2 line2 : ℕ) → IsFront bytes (Some p) → rest ≡ drop p.size bytes → start2 ≡ start + p.size →
-    IsLineBehind bytes line line2 → p.kind ≡ Some k →
+    IsLineAfter bytes line line2 → p.kind ≡ Some k →
     record { kind = k; text = take p.size bytes; span = record { start = start; end = start2; line = line } } ∷ tokens_from 0 start2 line2 rest ≡ tokens_from 0 start line bytes
 step_token bytes rest p k start line start2 line2 h er es el e =
     let j = step_is bytes rest p start line start2 line2 h er es el in sym (j ∙ rw (e, es) refl)

@@ -150,8 +150,8 @@ number_or_literal number [] (h ∷ hs) = token_of (literal_kind number 16 (h ∷
 number_or_literal number (d ∷ ds) hex = token_of (literal_kind number 10 (d ∷ ds)) (length number + 2 + length (d ∷ ds))
 
 abbrev pub number_at : List ℕ → Piece
-number_at bytes = let behind = drop (prefix_len is_digit bytes) bytes in
-    number_or_literal (take_while is_digit bytes) (digits_after (codes "'d") is_digit behind) (digits_after (codes "'h") is_hex behind)
+number_at bytes = let after = drop (prefix_len is_digit bytes) bytes in
+    number_or_literal (take_while is_digit bytes) (digits_after (codes "'d") is_digit after) (digits_after (codes "'h") is_hex after)
 
 abbrev pub mark_or_bad : Option Spelling → Piece
 mark_or_bad (Some s) = token_of (kind.Mark s.mark) (length s.text)
@@ -173,8 +173,8 @@ abbrev pub line_after : ℕ → ℕ → ℕ
 line_after c line = cond (is_line_end c) (line + 1) line
 
 -- the token of a piece, if it is one, with its bytes and its place
-abbrev pub placed : Piece → ℕ → ℕ → List ℕ → List Token
-placed p start line bytes = placed_kind p.kind
+abbrev pub placed_token : Piece → ℕ → ℕ → List ℕ → List Token
+placed_token p start line bytes = placed_kind p.kind
   where
     placed_kind : Option TokenKind → List Token
     placed_kind None = []
@@ -185,7 +185,7 @@ abbrev pub tokens_from : ℕ → ℕ → ℕ → List ℕ → List Token
 tokens_from inside start line [] = []
 tokens_from (suc k) start line (c ∷ cs) = tokens_from k (start + 1) line cs
 tokens_from zero start line (c ∷ cs) = let p = piece_at c (c ∷ cs) in
-    placed p start line (c ∷ cs) ++ tokens_from (p.size - 1) (start + 1) (line_after c line) cs
+    placed_token p start line (c ∷ cs) ++ tokens_from (p.size - 1) (start + 1) (line_after c line) cs
 
 -- the tokens of a whole text
 abbrev pub tokens : List ℕ → List Token

@@ -76,8 +76,8 @@ pub fn decimal_digits(bytes: &[u8]) -> &[u8]
     ensures within { length result.now ≤ length bytes.now }
 {
     if bytes.starts_with(b"'d") {
-        let behind = &bytes[2..];
-        &behind[..digit_length(behind)]
+        let after = &bytes[2..];
+        &after[..digit_length(after)]
     } else {
         &[]
     }
@@ -89,8 +89,8 @@ pub fn hex_digits(bytes: &[u8]) -> &[u8]
     ensures within { length result.now ≤ length bytes.now }
 {
     if bytes.starts_with(b"'h") {
-        let behind = &bytes[2..];
-        &behind[..hex_length(behind)]
+        let after = &bytes[2..];
+        &after[..hex_length(after)]
     } else {
         &[]
     }

@@ -1,7 +1,7 @@
 // A cursor over the tokens of a source text, which are found as they are asked for.
 ghost use Rattle.std.specs.Prelude.{◌≡◌, ◌≤◌, ◌<◌, ◌+◌, ◌^◌, ◌∷◌, length, take, drop, Some};
 ghost use Rattle.pdl_tokens.specs.Tokens.{tokens, tokens_from, last_line};
-ghost use Rattle.pdl_tokens.specs.Pieces.{IsFront, IsLineBehind};
+ghost use Rattle.pdl_tokens.specs.Pieces.{IsFront, IsLineAfter};
 ghost use Rattle.pdl_tokens.specs.Cursor.{token_view, maybe_token_view, kind_in, onto, first, first_kind, next};
 
 use crate::piece::{Piece, front};
@@ -28,21 +28,21 @@ struct Place<'a> {
     ghost lines: { line ≤ start + 1 },
 }
 
-// A token, if there is one, and the place behind it.
+// A token, if there is one, and the place after it.
 #[derive(Clone, Copy)]
 struct Step<'a> {
     token: Option<Token<'a>>,
-    behind: Place<'a>,
+    after: Place<'a>,
 }
 
 impl<'a> Place<'a> {
-    // The place behind the piece at the front.
+    // The place after the piece at the front.
     #[tactic(auto, using(crate::proofs::Steps::piece_fits))]
-    fn behind(&self, piece: Piece) -> Place<'a>
+    fn after(&self, piece: Piece) -> Place<'a>
         requires { IsFront self.now.rest.now (Some piece) }
         ensures rest { result.rest.now ≡ drop piece.size self.now.rest.now }
         ensures start { result.start ≡ self.now.start + piece.size }
-        ensures line { IsLineBehind self.now.rest.now self.now.line result.line }
+        ensures line { IsLineAfter self.now.rest.now self.now.line result.line }
         ensures fits { piece.size ≤ length self.now.rest.now }
         ensures less { length result.rest.now < length self.now.rest.now }
     {
@@ -80,36 +80,34 @@ impl<'a> Place<'a> {
 
     // The first token from here on.
     fn step(&self) -> Step<'a>
-        ensures { onto result.token (tokens_from 0 result.behind.start result.behind.line
-            result.behind.rest.now) ≡ tokens_from 0 self.now.start self.now.line self.now.rest.now }
+        ensures { onto result.token (tokens_from 0 result.after.start result.after.line
+            result.after.rest.now) ≡ tokens_from 0 self.now.start self.now.line self.now.rest.now }
     {
         let mut place = *self;
         while let Some(piece) = front(place.rest) {
-            let behind = place.behind(piece);
+            let after = place.after(piece);
             match piece.kind {
                 Some(kind) => {
                     return Step {
-                        token: Some(place.token(kind, piece.size, behind.start)),
-                        behind,
+                        token: Some(place.token(kind, piece.size, after.start)),
+                        after,
                     };
                 }
-                None => place = behind,
+                None => place = after,
             }
         }
         Step {
             token: None,
-            behind: place,
+            after: place,
         }
     }
 }
 
-/// The tokens that are left, of which the first three are known.
+/// The tokens that are left, of which only the first is kept: a look further ahead is rare, and finds its token anew.
 #[derive(Drop)]
 pub struct Tokens<'a> {
     first: Option<Token<'a>>,
-    second: Option<Token<'a>>,
-    third: Option<Token<'a>>,
-    behind: Place<'a>,
+    after: Place<'a>,
 }
 
 impl<'a> Model for Tokens<'a> {
@@ -120,8 +118,7 @@ impl<'a> Model for Tokens<'a> {
     ghost Value = { List Token };
 
     ghost view = { λ t. onto t.first
-        (onto t.second (onto t.third
-        (tokens_from 0 t.behind.start t.behind.line t.behind.rest.now))) };
+        (tokens_from 0 t.after.start t.after.line t.after.rest.now) };
 }
 
 impl<'a> Tokens<'a> {
@@ -135,14 +132,10 @@ impl<'a> Tokens<'a> {
             start: 0,
             line: 1,
         };
-        let first = place.step();
-        let second = first.behind.step();
-        let third = second.behind.step();
+        let Step { token, after } = place.step();
         Tokens {
-            first: first.token,
-            second: second.token,
-            third: third.token,
-            behind: third.behind,
+            first: token,
+            after,
         }
     }
 
@@ -158,7 +151,7 @@ impl<'a> Tokens<'a> {
         ensures { result ≡ first_kind (next self.now) }
     {
         match self.first {
-            Some(_) => kind_of(self.second),
+            Some(_) => kind_of(self.after.step().token),
             None => None,
         }
     }
@@ -168,10 +161,13 @@ impl<'a> Tokens<'a> {
         ensures { result ≡ first_kind (next (next self.now)) }
     {
         match self.first {
-            Some(_) => match self.second {
-                Some(_) => kind_of(self.third),
-                None => None,
-            },
+            Some(_) => {
+                let second = self.after.step();
+                match second.token {
+                    Some(_) => kind_of(second.after.step().token),
+                    None => None,
+                }
+            }
             None => None,
         }
     }
@@ -181,11 +177,9 @@ impl<'a> Tokens<'a> {
         ensures { self.new ≡ next self.old }
     {
         if self.first.is_some() {
-            let step = self.behind.step();
-            self.first = self.second;
-            self.second = self.third;
-            self.third = step.token;
-            self.behind = step.behind;
+            let step = self.after.step();
+            self.first = step.token;
+            self.after = step.after;
         }
     }
 }

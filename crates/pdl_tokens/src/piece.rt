@@ -1,13 +1,14 @@
 // The piece of text at the front of bytes.
-ghost use Rattle.std.specs.Prelude.{◌≡◌, ◌≤◌, ◌<◌, ◌+◌, ◌∷◌, length, take, take_while, drop, codes, IsTrue};
+ghost use Rattle.std.specs.Prelude.{◌≡◌, ◌≤◌, ◌<◌, ◌+◌, ◌∷◌, length, take, take_while, drop, codes, IsTrue, Some};
 ghost use Rattle.std.specs.List.{prefix_len};
 ghost use Rattle.pdl_tokens.specs.Tokens as spec;
+ghost use Rattle.pdl_tokens.specs.declared.token.TokenKind.TheVariants as kind;
 ghost use Rattle.pdl_tokens.specs.Pieces.{piece_view, IsFront};
 
 use crate::bytes::{digit_length, is_blank, is_digit, is_lower, line_length, word_length};
 use crate::digits::{decimal_digits, hex_digits, literal_kind, number_kind};
-use crate::spelling::{keyword, symbol};
-use crate::token::TokenKind;
+use crate::spelling::{Symbols, beginning, keyword, symbols_at};
+use crate::token::{Mark, TokenKind};
 
 /// What stands at the front: a token, or white space or a comment, and how many bytes it takes.
 #[derive(Clone, Copy)]
@@ -69,21 +70,32 @@ fn number(bytes: &[u8]) -> Piece
     ensures { piece_view result ≡ spec.number_at bytes.now }
 {
     let size = digit_length(bytes);
-    let behind = &bytes[size..];
-    number_or_literal(&bytes[..size], decimal_digits(behind), hex_digits(behind))
+    let after = &bytes[size..];
+    number_or_literal(&bytes[..size], decimal_digits(after), hex_digits(after))
 }
 
+// A symbol of so many bytes.
+fn mark_of(mark: Mark, size: usize) -> Piece
+    ensures { result ≡ record { kind = Some (kind.Mark mark); size = size } }
+{
+    Piece {
+        kind: Some(TokenKind::Mark(mark)),
+        size,
+    }
+}
+
+// A symbol, or a byte that begins no token.
 fn mark(bytes: &[u8]) -> Piece
     ensures { piece_view result ≡ spec.mark_or_bad (spec.spelling_at spec.symbols bytes.now) }
 {
-    match symbol(bytes) {
-        Some(spelling) => Piece {
-            kind: Some(TokenKind::Mark(spelling.mark)),
-            size: spelling.text.len(),
-        },
-        None => Piece {
-            kind: Some(TokenKind::Bad),
-            size: 1,
+    match symbols_at(bytes) {
+        Symbols::One(mark) => mark_of(mark, 1),
+        Symbols::Several(all) => match beginning(all, bytes) {
+            Some(spelling) => mark_of(spelling.mark, spelling.text.len()),
+            None => Piece {
+                kind: Some(TokenKind::Bad),
+                size: 1,
+            },
         },
     }
 }
