@@ -17,7 +17,9 @@ use Rattle.pdl_kit.specs.declared.refusal.Refusal.{Refusal}
 use Rattle.pdl_kit.specs.declared.refusal.Refusal.TheVariants as error
 use Rattle.pdl_locks.specs.Plan.{Tells}
 use Rattle.pdl_check.specs.Gate.{gated_line}
-use Rattle.pdl_check.specs.Answers.{source_refusal, Refuses, answer_of, judged, Gives, IsCause, IsRefused, IsChecked, IsRead, IsBroken, IsJudged}
+use Rattle.pdl_check.specs.Compiled.{can_compile}
+use Rattle.pdl_check.proofs.Passed.{only_others}
+use Rattle.pdl_check.specs.Answers.{source_refusal, Refuses, answer_of, check_answer, Gives, IsCause, IsRefused, IsChecked, IsRead, IsBroken, IsJudged}
 
 -- THE LENGTH
 
@@ -68,6 +70,9 @@ neither (Some line) later e = absurd (cc e)
 pub read_pipe : (source : List ℕ) (p : r_pipe.Pipe) → IsText source (pipe_view p) → text.broken_limit source (pipe_view p) ≡ None → None ≡ gated_line source → IsRead source (Ok p)
 read_pipe source p t w e = (t, sym e, not_too_long source (pipe_view p) w)
 
+pub read_compiled : (source : List ℕ) (p : r_pipe.Pipe) → IsText source (pipe_view p) → text.broken_limit source (pipe_view p) ≡ None → can_compile (pipe_view p) ≡ true → IsRead source (Ok p)
+read_compiled source p t w e = read_pipe source p t w (sym (only_others source (pipe_view p) t e))
+
 pub read_gated : (source : List ℕ) (p : Pipe) (line : ℕ) → IsText source p → Some line ≡ gated_line source → IsCause source (error.Refused G1 line)
 read_gated source p line t e = inr (p, t, gated source p line e)
 
@@ -101,13 +106,13 @@ pub checked_kept : (source : List ℕ) (r : Result Accepted Refusal) → IsCheck
 checked_kept source (Ok a) h = (neither _ _ h.1).1
 checked_kept source (Err e) h = tt
 
-gives_refusal : (source : List ℕ) (p : Pipe) (rule : Rule) (line : ℕ) → source_refusal source p ≡ Some (record { rule = rule; line = line }) → Gives (judged source p) (Err (error.Refused rule line))
+gives_refusal : (source : List ℕ) (p : Pipe) (rule : Rule) (line : ℕ) → source_refusal source p ≡ Some (record { rule = rule; line = line }) → Gives (check_answer source p) (Err (error.Refused rule line))
 gives_refusal source p rule line e = let P : Option Refused → Type 0 = λ o. Gives (answer_of p o) (Err (error.Refused rule line)) in subst P (sym e) refl
 
-gives_pipe : (source : List ℕ) (p : Pipe) (a : Accepted) → source_refusal source p ≡ None → pipe_view a.typed.pipe ≡ p → Gives (judged source p) (Ok a)
+gives_pipe : (source : List ℕ) (p : Pipe) (a : Accepted) → source_refusal source p ≡ None → pipe_view a.typed.pipe ≡ p → Gives (check_answer source p) (Ok a)
 gives_pipe source p a e same = let P : Option Refused → Type 0 = λ o. Gives (answer_of p o) (Ok a) in subst P (sym e) same
 
-pub checked_only : (source : List ℕ) (r : Result Accepted Refusal) (p : Pipe) → IsChecked source r → IsText source p → Gives (judged source p) r
+pub checked_only : (source : List ℕ) (r : Result Accepted Refusal) (p : Pipe) → IsChecked source r → IsText source p → Gives (check_answer source p) r
 checked_only source (Ok a) p h t =
     let same : pipe_view a.typed.pipe ≡ p = one_tree source (pipe_view a.typed.pipe) p h.0 t in
     gives_pipe source p a (subst (λ q. source_refusal source q ≡ None) same h.1) same

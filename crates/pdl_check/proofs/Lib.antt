@@ -1,6 +1,5 @@
 pub mod Sized
 pub mod Fewer
-pub mod Unmarked
 pub mod Passing
 pub mod Scanned
 pub mod Judged

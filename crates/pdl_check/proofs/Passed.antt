@@ -21,7 +21,7 @@ use Rattle.pdl_word.proofs.Bools.{none_given}
 record IsFree (braces : ℕ) (ts : Row) : Type 0 where
   clear : gated_from braces None ts ≡ None
 
--- behind nothing no arrow is gated
+-- after nothing no arrow is gated
 no_fetch : (m : Mark) → is_fetching m None ≡ false
 no_fetch mark.Arrow = refl
 no_fetch _ = refl
@@ -36,12 +36,12 @@ loosened : (braces : ℕ) (before : Option TokenKind) (k : TokenKind) → begins
 loosened braces before (kind.Mark m) e = neither (is_gated m) (is_forking m braces) (is_fetching m before) (is_fetching m None) (no_fetch m) e
 loosened braces before _ e = refl
 
-behind : (braces : ℕ) (before : Option TokenKind) (ts : Row) → gated_from braces before ts ≡ None → IsFree braces ts
-behind braces before [] e = record { clear = refl }
-behind braces before (t ∷ ts) e = let h = none_given _ _ _ e in record { clear = rw (loosened braces before t.kind h.0) h.1 }
+after : (braces : ℕ) (before : Option TokenKind) (ts : Row) → gated_from braces before ts ≡ None → IsFree braces ts
+after braces before [] e = record { clear = refl }
+after braces before (t ∷ ts) e = let h = none_given _ _ _ e in record { clear = rw (loosened braces before t.kind h.0) h.1 }
 
 past : (braces : ℕ) (m : Mark) (ts : Row) → gated_from braces (Some (kind.Mark m)) ts ≡ None → IsFree braces ts
-past braces m ts e = behind braces (Some (kind.Mark m)) ts e
+past braces m ts e = after braces (Some (kind.Mark m)) ts e
 
 -- a mark that is no brace
 abbrev IsLevel : Mark → Type 0
@@ -52,7 +52,7 @@ level_operator mark.OpenBrace op e braces = absurd (cc e)
 level_operator mark.CloseBrace op e braces = absurd (cc e)
 level_operator _ op e braces = refl
 
--- behind such a mark
+-- after such a mark
 beyond : (braces : ℕ) (m : Mark) (line : ℕ) (ts : Row) → IsLevel m
     → if begins_gated braces None (kind.Mark m) then Some line else gated_from (open_after (kind.Mark m) braces) (Some (kind.Mark m)) ts ≡ None → IsFree braces ts
 beyond braces m line ts level e = past braces m ts (subst (λ n. gated_from n (Some (kind.Mark m)) ts ≡ None) (level braces) (none_given _ _ _ e).1)
@@ -61,8 +61,8 @@ beyond braces m line ts level e = past braces m ts (subst (λ n. gated_from n (S
 
 mutual
   free_level : {n : ℕ} {e : Expr} {a r : Row} (braces : ℕ) → Level n e a r → IsFree braces a → IsFree braces r
-  free_level braces (constant {n = n} {v = v}) f = behind braces (Some (kind.Literal n v)) _ f.clear
-  free_level braces variable f = behind braces (Some kind.Name) _ f.clear
+  free_level braces (constant {n = n} {v = v}) f = after braces (Some (kind.Literal n v)) _ f.clear
+  free_level braces variable f = after braces (Some kind.Name) _ f.clear
   free_level braces sliced f = past braces mark.CloseSquare _ f.clear
   free_level braces (bracketed h) f = past braces mark.CloseRound _ (free_full braces h (past braces mark.OpenRound _ f.clear)).clear
   free_level braces (inverted h) f = free_level braces h (past braces mark.Tilde _ f.clear)
@@ -103,7 +103,7 @@ deeper depth = lt-ltb 1 (suc (suc depth)) (omega arith)
 one_less : (depth : ℕ) → suc (suc depth) - 1 ≡ suc depth
 one_less depth = omega arith
 
--- behind the brace that closes the body of an `if`
+-- after the brace that closes the body of an `if`
 closed : (depth : ℕ) (t : Token) (ts : Row) → t.kind ≡ kind.Mark mark.CloseBrace → IsFree (suc (suc depth)) (t ∷ ts) → IsFree (suc depth) ts
 closed depth t ts is f =
     let e = subst (λ k. gated_from (open_after k (suc (suc depth))) (Some k) ts ≡ None) is (none_given _ _ _ f.clear).1 in
@@ -195,7 +195,7 @@ passed source p t e = text_passed t.text (record { clear = e })
 
 -- ---- and no other passes
 
--- tokens that pass behind whatever stands before
+-- tokens that pass after whatever stands before
 abbrev IsCalm : ℕ → Row → Type 0
 IsCalm braces ts = (before : Option TokenKind) → gated_from braces before ts ≡ None
 

@@ -5,19 +5,15 @@ use Rattle.pdl_tree.specs.declared.tree.Span as r_span
 use Rattle.pdl_tree.specs.View.{span_view}
 use Rattle.pdl_tokens.specs.Cursor.{next, first, first_kind, first_span}
 use Rattle.pdl_tokens.specs.Tokens.{Token, Row, tokens}
-use Rattle.pdl_cursor.specs.declared.limits.Counts.{Counts}
 use Rattle.pdl_cursor.specs.Limits.{at_start}
-use Rattle.pdl_cursor.specs.Marked.{passed, marked}
+use Rattle.pdl_cursor.specs.Marked.{marked_row}
+use Rattle.pdl_grammar.proofs.Within.{marked_length}
 use Rattle.pdl_check.proofs.Fewer.{fewer_tokens}
 use Rattle.pdl_check.specs.declared.gate.Gate.{Gate}
 use Rattle.pdl_check.specs.Gate.{begins_gated, open_after, gated_from, gated_line}
 use Rattle.pdl_check.specs.Passing.{known_or, line_once, IsPast}
 
-marked_length : (c : Counts) (ts : Row) → length (marked c ts) ≡ length ts
-marked_length c [] = refl
-marked_length c (t ∷ ts) = ap suc (marked_length (passed c t.kind) ts)
-
-pub fewer_marked : (bytes : List ℕ) → length (marked at_start (tokens bytes)) ≤ length bytes
+pub fewer_marked : (bytes : List ℕ) → length (marked_row at_start (tokens bytes)) ≤ length bytes
 fewer_marked bytes = let h = fewer_tokens bytes in omega (arith, h, marked_length at_start (tokens bytes))
 
 -- ---- one token
@@ -53,7 +49,7 @@ begins g new k line n b el t ts i j = rw el (go g.line n)
 
 -- ---- the tokens of a source
 
--- behind the first token of those that are left
+-- after the first token of those that are left
 pub passed_by : (ts : Row) (t : Token) (k : TokenKind) (line : ℕ) (old new : Gate) → Some t ≡ first ts → t.kind ≡ k → t.span.line ≡ line → IsPast k line old new →
     line_once new (next ts) ≡ line_once old ts
 passed_by [] t k line old new e i j h = cc

@@ -10,11 +10,11 @@ use Rattle.pdl_tokens.specs.declared.token.TokenKind.{TokenKind}
 use Rattle.pdl_tokens.specs.Cursor.{first, next, first_kind, first_span}
 use Rattle.pdl_tokens.specs.Tokens.{Token, Row, tokens, last_line}
 use Rattle.pdl_cursor.specs.Limits.{at_start}
-use Rattle.pdl_cursor.specs.Marked.{marked, first_line}
+use Rattle.pdl_cursor.specs.Marked.{marked_row, first_line}
 use Rattle.pdl_grammar.specs.Automaton.{Stack, run, whole}
 use Rattle.pdl_grammar.specs.Text.{IsText}
-use Rattle.pdl_check.proofs.Unmarked.{as_they_are}
-use Rattle.pdl_recogniser.specs.Answers.{StepsTo, taken}
+use Rattle.pdl_grammar.proofs.Places.{as_they_are}
+use Rattle.pdl_recogniser.specs.Answers.{StepsTo, stack_after}
 use Rattle.pdl_recogniser.proofs.Running as running
 use Rattle.pdl_recogniser.proofs.Running.{refused_so, ended_so, early_so}
 use Rattle.pdl_syntax.specs.Text as text
@@ -28,8 +28,8 @@ use Rattle.pdl_check.proofs.Judged.{read_gated, read_long}
 use Rattle.pdl_check.proofs.Passing.{ended}
 
 -- a token that is taken
-pub goes_on : (source : List ℕ) (ts : Row) (stack now : Stack) (k : TokenKind) → first_kind ts ≡ Some k → StepsTo (taken stack k) (Ok true) now →
-    run ts stack ≡ run (marked at_start (tokens source)) whole → run (next ts) now ≡ run (marked at_start (tokens source)) whole
+pub goes_on : (source : List ℕ) (ts : Row) (stack now : Stack) (k : TokenKind) → first_kind ts ≡ Some k → StepsTo (stack_after stack k) (Ok true) now →
+    run ts stack ≡ run (marked_row at_start (tokens source)) whole → run (next ts) now ≡ run (marked_row at_start (tokens source)) whole
 goes_on = running.goes_on
 
 pub shorter : (ts : Row) (k : TokenKind) → first_kind ts ≡ Some k → length (next ts) < length ts
@@ -37,12 +37,12 @@ shorter = running.shorter
 
 -- a token that isn't taken
 pub misplaced : (source : List ℕ) (ts : Row) (stack now : Stack) (k : TokenKind) (span : r_span.Span) → first_kind ts ≡ Some k → span_view span ≡ first_span ts →
-    StepsTo (taken stack k) (Ok false) now → run ts stack ≡ run (marked at_start (tokens source)) whole → IsCause source (error.Refused G1 span.line)
+    StepsTo (stack_after stack k) (Ok false) now → run ts stack ≡ run (marked_row at_start (tokens source)) whole → IsCause source (error.Refused G1 span.line)
 misplaced source [] stack now k span e i s h = cc
 misplaced source (t ∷ ts) stack now k span e i s h = inl (refl, refused_so source (t ∷ ts) stack now k (Some span.line) e s h (ap Some (ap (λ x. x.line) i)))
 
 -- an end that comes too early
-pub early : (source : List ℕ) (ts : Row) (stack : Stack) (line : ℕ) → first_kind ts ≡ None → (stack ≡ [] → ⊥) → run ts stack ≡ run (marked at_start (tokens source)) whole →
+pub early : (source : List ℕ) (ts : Row) (stack : Stack) (line : ℕ) → first_kind ts ≡ None → (stack ≡ [] → ⊥) → run ts stack ≡ run (marked_row at_start (tokens source)) whole →
     line ≡ last_line source → IsCause source (error.Refused G1 line)
 early source ts stack line e n h l = inl (refl, early_so source ts stack line e n h l)
 
@@ -51,8 +51,8 @@ none_left [] e = refl
 none_left (t ∷ ts) e = cc
 
 -- the text of a pipe, with what the gate says of it
-pub whole_text : (source : List ℕ) (ts : Row) (stack : Stack) (gate : Gate) → first_kind ts ≡ None → stack ≡ [] → run ts stack ≡ run (marked at_start (tokens source)) whole →
-    line_once gate ts ≡ gated_from 0 None (marked at_start (tokens source)) → IsScanned source (Ok gate.line)
+pub whole_text : (source : List ℕ) (ts : Row) (stack : Stack) (gate : Gate) → first_kind ts ≡ None → stack ≡ [] → run ts stack ≡ run (marked_row at_start (tokens source)) whole →
+    line_once gate ts ≡ gated_from 0 None (marked_row at_start (tokens source)) → IsScanned source (Ok gate.line)
 whole_text source ts stack gate e s h g =
     let p = ended_so source ts stack e s h in
     let same = as_they_are source p.0 p.1 in

@@ -26,8 +26,8 @@ answer_of p None = Accepts p
 answer_of p (Some r) = Refuses r
 
 -- the answer to the text of a pipe
-abbrev pub judged : List ℕ → Pipe → Answer
-judged source p = answer_of p (source_refusal source p)
+abbrev pub check_answer : List ℕ → Pipe → Answer
+check_answer source p = answer_of p (source_refusal source p)
 
 -- a result is the answer, or memory ran out
 abbrev pub Gives : Answer → Result Accepted Refusal → Type 0

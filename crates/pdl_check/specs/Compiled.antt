@@ -1,4 +1,4 @@
--- The pipes that can be compiled yet, as trees: what is left behind the gate.
+-- The pipes that can be compiled yet, as trees: what the gate leaves.
 use Rattle.std.specs.Prelude.{Bool, true, false, not, ◌&&◌}
 use Rattle.std.specs.List.{list_all}
 use Rattle.pdl_semantics.specs.Tree.{Stmt, Separator, SpecCall, DelayedRead, If, Verify, SpecCheck, SpecBarrier, Stmts, Nil, Cons, Pipe}

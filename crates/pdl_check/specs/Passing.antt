@@ -18,7 +18,7 @@ known_or None later = later
 abbrev pub line_once : Gate → Row → Option ℕ
 line_once g ts = known_or g.line (gated_from g.braces g.before ts)
 
--- what was to be told with a token of this kind, on this line, to come is told behind it
+-- what was to be told with a token of this kind, on this line, to come is told after it
 abbrev pub IsPast : TokenKind → ℕ → Gate → Gate → Type 0
 IsPast k line old new = (t : Token) (ts : Row) → t.kind ≡ k → t.span.line ≡ line → line_once new ts ≡ line_once old (t ∷ ts)
 

@@ -13,7 +13,7 @@ ghost use Rattle.pdl_stagegraph.specs.Graph.{graph_of};
 ghost use Rattle.pdl_check.specs.Compiled.{can_compile};
 ghost use Rattle.pdl_pathfacts.specs.Source.{is_source, is_named};
 ghost use Rattle.pdl_check.specs.Gate.{gated_line as first_gated};
-ghost use Rattle.pdl_check.specs.Answers.{judged, Gives, Refuses, IsRefused, IsChecked, IsJudged};
+ghost use Rattle.pdl_check.specs.Answers.{check_answer, Gives, Refuses, IsRefused, IsChecked, IsJudged};
 
 use crate::accepted::Accepted;
 use crate::infos::infos_of;
@@ -37,18 +37,19 @@ pub fn check(alloc: Global, source: &[u8]) -> Result<Accepted, Refusal>
     ensures passed { IfOk result (λ _. first_gated source.now ≡ None) }
     ensures kept { IfOk result (λ a. refusal source.now (pipe_view a.typed.pipe) ≡ None) }
     // The text of a pipe is accepted or refused, by the gate or else by the rules, unless memory runs out.
-    ensures only { (p : tree.Pipe) → IsText source.now p → Gives (judged source.now p) result }
+    ensures only { (p : tree.Pipe) → IsText source.now p →
+        Gives (check_answer source.now p) result }
     // Any other text is refused at the first token out of place, unless memory runs out.
     ensures exact { (line : ℕ) → IsOutOfPlace source.now line
         → Gives (Refuses (record { rule = rules.G1; line = line })) result }
     // A refusal tells why.
     ensures refused { IsRefused source.now result }
 {
-    checked(alloc, source)
+    read_and_check(alloc, source)
 }
 
 // Reads a source and asks it the rules.
-fn checked(alloc: Global, source: &[u8]) -> Result<Accepted, Refusal>
+fn read_and_check(alloc: Global, source: &[u8]) -> Result<Accepted, Refusal>
     requires { length source.now ≤ 268435456 }
     ensures { IsChecked source.now result }
 {
@@ -66,13 +67,13 @@ fn judge(alloc: Global, pipe: Pipe) -> Result<Accepted, Refusal>
     ensures { IsJudged (pipe_view pipe) result }
 {
     match plan(alloc, &pipe) {
-        Ok(plans) => Ok(accepted(alloc, pipe, plans)?),
+        Ok(plans) => Ok(accept(alloc, pipe, plans)?),
         Err(refusal) => Err(refusal),
     }
 }
 
 // A pipe that breaks no rule, with all that is kept of it.
-fn accepted(alloc: Global, pipe: Pipe, plans: Plans) -> Result<Accepted, NoMemory>
+fn accept(alloc: Global, pipe: Pipe, plans: Plans) -> Result<Accepted, NoMemory>
     requires source { IsTrue (is_source (pipe_view pipe)) }
     requires letters { IsTrue (is_named (pipe_view pipe)) }
     requires compiled { IsTrue (can_compile (pipe_view pipe)) }
@@ -84,7 +85,7 @@ fn accepted(alloc: Global, pipe: Pipe, plans: Plans) -> Result<Accepted, NoMemor
     let guards = guards_of(alloc, &pipe)?;
     let mems = infos_of(alloc, pipe.mems.as_slice())?;
     let flat = lower(alloc, &pipe)?;
-    let graph = staged(alloc, &pipe, &guards, &flat)?;
+    let graph = graph_of(alloc, &pipe, &guards, &flat)?;
     let typed = TypedPipe::new(alloc, pipe)?;
     Ok(Accepted {
         typed,
@@ -97,7 +98,7 @@ fn accepted(alloc: Global, pipe: Pipe, plans: Plans) -> Result<Accepted, NoMemor
 }
 
 // The stages of a pipe with this flat form.
-fn staged(
+fn graph_of(
     alloc: Global,
     pipe: &Pipe,
     guards: &Guards,

@@ -1,4 +1,4 @@
-// The gate: the forms of the language that the compiler doesn't have yet. Only this file and specs/Gate.antt know which they are; there stands what takes each off.
+// The gate: the forms of the language that the compiler doesn't have yet. Only this file and specs/Gate.antt know which they are, where it stands what takes each off, and of a tree src/compiled.rt and specs/Compiled.antt.
 ghost use Rattle.std.specs.Prelude.{◌≡◌, ◌+◌, ◌≤◌, ◌<◌, ◌^◌, None, not, length};
 ghost use Rattle.std.specs.Option.{is_some};
 ghost use Rattle.pdl_semantics.specs.Tree as tree;
@@ -31,7 +31,7 @@ fn is_forking(mark: Mark, braces: u32) -> bool
     }
 }
 
-// The arrow of a delayed read stands behind a name, that of a write behind a bracket.
+// The arrow of a delayed read stands after a name, that of a write after a bracket.
 fn is_fetching(mark: Mark, before: Option<TokenKind>) -> bool
     ensures { result ≡ spec.is_fetching mark before }
 {
@@ -55,7 +55,7 @@ fn begins_gated(braces: u32, before: Option<TokenKind>, kind: TokenKind) -> bool
     }
 }
 
-// How many braces are open behind a token.
+// How many braces are open after a token.
 fn open_after(kind: TokenKind, braces: u32) -> u32
     requires { braces + 1 < 2 ^ 32 }
     ensures value { result ≡ spec.open_after kind braces }

@@ -3,15 +3,10 @@
 
 pub mod accepted;
 pub mod check;
+mod compiled;
 mod gate;
 mod infos;
 mod long;
-#[cfg(test)]
-mod long_tests;
 mod read;
-#[cfg(test)]
-mod rows;
-#[cfg(test)]
-mod tests;
 
 pub use accepted::Accepted;

@@ -6,7 +6,7 @@ use Rattle.pdl_tokens.specs.declared.token.Mark.{Mark}
 use Rattle.pdl_tokens.specs.declared.token.Mark.TheVariants as mark
 use Rattle.pdl_tokens.specs.declared.token.TokenKind.TheVariants as kind
 use Rattle.pdl_tokens.specs.Tokens.{Token}
-use Rattle.pdl_grammar.specs.Automaton.{Closer, semicolon, round, comma, colon, in_args, Listing, params, mems, args, literals, Sym, a, a_name, a_number, a_literal, an_access, a_pace, a_lock_kind, operand, slicing, rest, more, locked, items, else_items, after_name, assigned, assigned_name, in_square, Stack, closer, act, moved, run}
+use Rattle.pdl_grammar.specs.Automaton.{Closer, semicolon, round, comma, colon, in_args, Listing, params, mems, args, literals, Sym, a, a_name, a_number, a_literal, an_access, a_pace, a_lock_kind, operand, slicing, rest, more, locked, items, else_items, after_name, assigned, assigned_name, in_square, Stack, closer, act, run_after, run}
 use Rattle.pdl_tokens.specs.Tokens.{Row}
 use Rattle.pdl_grammar.specs.Grammar.{Word, on, at}
 use Rattle.pdl_cursor.specs.Looks.{is_mark}
@@ -133,6 +133,6 @@ where_it_stops [] (s ∷ below) left e = record { front = []; split = let k : []
 where_it_stops (t ∷ ts) [] left e = record { front = []; split = let k : t ∷ ts ≡ left = cc in k; end = []; goes = refl; stuck = λ u more is others. refl }
 where_it_stops (t ∷ ts) (s ∷ below) left e = go (act s t.kind) refl e (λ above. where_it_stops ts (above ++ below) left)
   where
-    go : (o : Option Stack) → act s t.kind ≡ o → moved o below (run ts) (t ∷ ts) ≡ Some left → ((above : Stack) → run ts (above ++ below) ≡ Some left → Stops ts (above ++ below) left) → Stops (t ∷ ts) (s ∷ below) left
+    go : (o : Option Stack) → act s t.kind ≡ o → run_after o below (run ts) (t ∷ ts) ≡ Some left → ((above : Stack) → run ts (above ++ below) ≡ Some left → Stops ts (above ++ below) left) → Stops (t ∷ ts) (s ∷ below) left
     go None is e ih = let k : t ∷ ts ≡ left = cc in subst (λ x. Stops (t ∷ ts) (s ∷ below) x) k (at_once t ts s below is)
     go (Some above) is e ih = one_more t ts s above below left is (ih above e)

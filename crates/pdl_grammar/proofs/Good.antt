@@ -10,7 +10,7 @@ use Rattle.pdl_tokens.specs.declared.token.TokenKind.TheVariants as kind
 use Rattle.pdl_tokens.specs.Cursor.{first_kind}
 use Rattle.pdl_tokens.specs.Tokens.{Token}
 use Rattle.pdl_tokens.specs.Tokens.{Row}
-use Rattle.pdl_grammar.specs.Grammar.{Word, on, at, mark_of, lock_mark, pace_mark, located}
+use Rattle.pdl_grammar.specs.Grammar.{Word, on, at, mark_of, lock_mark, pace_mark, location_row}
 use Rattle.pdl_cursor.specs.Looks.{is_mark}
 use Rattle.pdl_grammar.specs.Reading.{Outcome, Parser, and_then, take, name, number, literal, access, lock_kind, pace}
 use Rattle.pdl_grammar.specs.Reading as reading
@@ -21,19 +21,19 @@ pub data Good {A : Type 0} (P : A → Row → Type 0) (before after : Stack) : O
   stops : {left ts : Row} → ((below : Stack) → run ts (before ++ below) ≡ Some left) → Good P before after (Err left) ts
 
 -- what was read before, and what the automaton did there
-pub behind : {A : Type 0} {P : A → Row → Type 0} {before middle after : Stack} {o : Outcome A} {ts r : Row} →
+pub beyond : {A : Type 0} {P : A → Row → Type 0} {before middle after : Stack} {o : Outcome A} {ts r : Row} →
     length r ≤ length ts → ((below : Stack) → run ts (before ++ below) ≡ run r (middle ++ below)) → Good P middle after o r → Good P before after o ts
-behind le e (reads p le2 f) = reads p (omega arith) (λ below. e below ∙ f below)
-behind le e (stops f) = stops (λ below. e below ∙ f below)
+beyond le e (reads p le2 f) = reads p (omega arith) (λ below. e below ∙ f below)
+beyond le e (stops f) = stops (λ below. e below ∙ f below)
 
--- one reader after another, where more is expected behind the first
+-- one reader after another, where more is expected after the first
 pub then : {A B : Type 0} {P : A → Row → Type 0} {Q : B → Row → Type 0} {before middle after : Stack} (more : Stack) {o : Outcome A} (f : A → Parser B) {ts : Row} →
     Good P before middle o ts → ((v : A) (r : Row) → P v r → length r ≤ length ts → Good Q (middle ++ more) after (f v r) r) → Good Q (before ++ more) after (and_then o f) ts
 then {before = b} {middle = m} more f (reads {v = v} {r = r} {ts = ts} p le e) h =
-    behind le (λ below. rw append_assoc (e (more ++ below) ∙ ap (run r) (sym (append_assoc m more below)))) (h v r p le)
+    beyond le (λ below. rw append_assoc (e (more ++ below) ∙ ap (run r) (sym (append_assoc m more below)))) (h v r p le)
 then {before = b} more f (stops e) h = stops (λ below. rw append_assoc (e (more ++ below)))
 
--- with more expected behind it
+-- with more expected after it
 pub under : {A : Type 0} {P : A → Row → Type 0} {before after : Stack} {o : Outcome A} {ts : Row} (more : Stack) → Good P before after o ts → Good P (before ++ more) (after ++ more) o ts
 under {before = b} {after = m} more (reads {r = r} p le e) = reads p le (λ below. rw append_assoc (e (more ++ below) ∙ ap (run r) (sym (append_assoc m more below))))
 under {before = b} more (stops e) = stops (λ below. rw append_assoc (e (more ++ below)))
@@ -45,12 +45,12 @@ weaker f (stops e) = stops e
 -- one token, which the automaton takes
 pub step : {A : Type 0} {P : A → Row → Type 0} {s : Sym} {above more after : Stack} {o : Outcome A} {k : TokenKind} {w : Word} {ts : Row} →
     act s k ≡ Some above → Good P (above ++ more) after o ts → Good P (s ∷ more) after o (on w k ∷ ts)
-step {above = u} {more = m} {ts = ts} e g = behind (omega arith) (λ below. rw e (ap (run ts) (sym (append_assoc u m below)))) g
+step {above = u} {more = m} {ts = ts} e g = beyond (omega arith) (λ below. rw e (ap (run ts) (sym (append_assoc u m below)))) g
 
 -- where the automaton does the same as with other symbols
 pub instead : {A : Type 0} {P : A → Row → Type 0} {before after : Stack} {o : Outcome A} {ts : Row} (other : Stack) →
     ((below : Stack) → run ts (before ++ below) ≡ run ts (other ++ below)) → Good P other after o ts → Good P before after o ts
-instead other e g = behind (omega arith) e g
+instead other e g = beyond (omega arith) e g
 
 -- ---- the tokens
 
@@ -178,7 +178,7 @@ pace_good (t ∷ ts) = go t.kind (word_of t)
 pub record IsPlace (ts : Row) (l : Location) (r : Row) : Type 0 where
   pub o : Word
   pub c : Word
-  pub is : ts ≡ located (word l.mem.name l.mem.span) o (word l.address.name l.address.span) c r
+  pub is : ts ≡ location_row (word l.mem.name l.mem.span) o (word l.address.name l.address.span) c r
 
 pub place_good : (ts : Row) → Good (IsPlace ts) (a_name ∷ a mark.OpenSquare ∷ a_name ∷ a mark.CloseSquare ∷ []) [] (reading.place ts) ts
 unfolding reading.place

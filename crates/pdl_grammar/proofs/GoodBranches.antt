@@ -47,7 +47,7 @@ if_item : (w : Word) (c : Expr) (one other : Stmts × Span) (ts r1 r2 r3 : Row) 
 if_item w c one other ts r1 r2 r3 h i missing = rw h.is (branching h.full i.1)
 if_item w c one other ts r1 r2 r3 h i (present j) = rw h.is (choosing h.full i.1 j)
 
--- where no `else` comes, the automaton goes on behind the branch
+-- where no `else` comes, the automaton goes on after the branch
 no_else : (ts : Row) (below : Stack) → is_mark mark.Else (first_kind ts) ≡ false → run ts (else_items ∷ below) ≡ run ts (m.items ∷ below)
 no_else [] below e = refl
 no_else (t ∷ ts) below e = go t.kind (word_of t) e

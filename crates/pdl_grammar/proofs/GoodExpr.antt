@@ -10,12 +10,12 @@ use Rattle.pdl_tokens.specs.Cursor.{next, first_kind}
 use Rattle.pdl_tokens.specs.Tokens.{Row}
 use Rattle.pdl_grammar.specs.Grammar.{Word, on, at, ident, operator_of, loose, levels, Level, Full, constant, variable, sliced, bracketed, inverted, catenated, compared, extended, sign_extended, tighter, joined, whole, chosen}
 use Rattle.pdl_cursor.specs.Looks.{is_mark}
-use Rattle.pdl_grammar.specs.Reading.{Parser, Inner, and_then, slice_of, after_name, operand_by, op_by, op_in, chain, joins, level, arms, choose, full, inside, expr}
+use Rattle.pdl_grammar.specs.Reading.{Parser, Inner, and_then, slice_of, after_name, operand_by, op_by, op_in, chain, joined_expr, level, arms, choose, full, inside, expr}
 use Rattle.pdl_grammar.specs.Reading as reading
-use Rattle.pdl_grammar.specs.Automaton.{a, a_number, operand, slicing, rest, Closer, semicolon, round, comma, colon, in_args, closing, act, act_rest, act_choice, act_close, moved, Stack, run}
+use Rattle.pdl_grammar.specs.Automaton.{a, a_number, operand, slicing, rest, Closer, semicolon, round, comma, colon, in_args, closing, act, act_rest, act_choice, act_close, run_after, Stack, run}
 use Rattle.pdl_grammar.proofs.Good.{Good, reads, stops, weaker, then, step, word, word_of, take_good, number_good, on_test, on_option, begins}
 
--- where no slice begins, the automaton goes on behind the operand
+-- where no slice begins, the automaton goes on after the operand
 no_slice : (q : Closer) (r : Row) (below : Stack) → is_mark mark.OpenSquare (first_kind r) ≡ false → run r (slicing q ∷ below) ≡ run r (rest q ∷ below)
 no_slice q [] below e = refl
 no_slice q (t ∷ r) below e = go t.kind (word_of t) e
@@ -75,7 +75,7 @@ module _ (inner : Inner) (n : ℕ) (fine : Fine inner n) where
       then _ _ (take_good mark.CloseRound r4) (λ d r5 p5 _.
       reads (record { o = word p1.0 o; c = word p3.0 c; d = word p5.0 d; a = r1; b = r3; is = p1.1; first = rw p3.1 at p2; second = rw p5.1 at p4 }) (omega arith) (λ below. refl))))))
 
-  sized_good : (ts : Row) → length ts < n → Good (IsSized ts) (a mark.OpenRound ∷ operand comma ∷ a_number ∷ a mark.CloseRound ∷ []) [] (reading.sized inner.full ts) ts
+  sized_good : (ts : Row) → length ts < n → Good (IsSized ts) (a mark.OpenRound ∷ operand comma ∷ a_number ∷ a mark.CloseRound ∷ []) [] (reading.sized_expr inner.full ts) ts
   sized_good ts le =
       then _ _ (take_good mark.OpenRound ts) (λ o r1 p1 le1.
       then _ _ (fine.all comma r1 (omega arith)) (λ e r2 p2 _.
@@ -158,7 +158,7 @@ module _ (q : Closer) (p : Parser Expr) (n : ℕ) (top : ℕ) (good : (ts : Row)
   unfolding chain
   chain_good zero x ts [] le le2 so end = reads (so, record { none = λ j b. refl }) (omega arith) (λ below. refl)
   chain_good zero x ts (t ∷ r) le le2 so end = absurd (omega arith)
-  chain_good (suc m) x ts r le le2 so end = on_option (λ o. Good (λ e r2. Level (suc n) e ts r2 × Ends (suc n) r2) (rest q ∷ []) (rest q ∷ []) (joins p (chain p n m) x o r) r) (op_in n (first_kind r))
+  chain_good (suc m) x ts r le le2 so end = on_option (λ o. Good (λ e r2. Level (suc n) e ts r2 × Ends (suc n) r2) (rest q ∷ []) (rest q ∷ []) (joined_expr p (chain p n m) x o r) r) (op_in n (first_kind r))
       (λ e. reads (so, ends_more n r end e) (omega arith) (λ below. refl))
       (λ op e. let b = begins_operator n op r e in let k : length r ≡ length (at b.w b.m ∷ b.more) = ap length b.is in
       subst (λ us. Good (λ e r2. Level (suc n) e ts r2 × Ends (suc n) r2) (rest q ∷ []) (rest q ∷ []) (and_then (p (next us)) (λ y. chain p n m (Binary op x y))) us) (sym b.is)
@@ -195,7 +195,7 @@ no_choice q _ e = refl
 
 closes : (q : Closer) (r : Row) (below : Stack) → Ends levels r → is_mark mark.Question (first_kind r) ≡ false → run r (rest q ∷ below) ≡ run r (closing q ∷ below)
 closes q [] below h e = refl
-closes q (t ∷ r) below h e = ap (λ o. moved o below (run r) (t ∷ r)) (go t.kind (word_of t) h e)
+closes q (t ∷ r) below h e = ap (λ o. run_after o below (run r) (t ∷ r)) (go t.kind (word_of t) h e)
   where
     go : (k : TokenKind) (w : Word) → Ends levels (on w k ∷ r) → is_mark mark.Question (Some k) ≡ false → act_rest q k ≡ act (closing q) k
     go (kind.Mark m) w h e = rw (loose_enough m r w h) (no_choice q m e ∙ closing_act q (kind.Mark m))

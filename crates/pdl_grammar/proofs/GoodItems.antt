@@ -8,12 +8,12 @@ use Rattle.pdl_tokens.specs.declared.token.TokenKind.TheVariants as kind
 use Rattle.pdl_tokens.specs.Cursor.{next, first_kind}
 use Rattle.pdl_tokens.specs.Tokens.{Token}
 use Rattle.pdl_tokens.specs.Tokens.{Row}
-use Rattle.pdl_grammar.specs.Grammar.{Word, on, at, ident, located, mark_of, Listed, last, further, Full, Item, separating, reading, binding, guessing, fetching, writing, reserving, acquiring, blocking, releasing, calling, verifying, checking, barring}
+use Rattle.pdl_grammar.specs.Grammar.{Word, on, at, ident, location_row, mark_of, Listed, last, further, Full, Item, separating, reading, binding, guessing, fetching, writing, reserving, acquiring, blocking, releasing, calling, verifying, checking, barring}
 use Rattle.pdl_cursor.specs.Looks.{is_mark, begins_place, is_place}
-use Rattle.pdl_grammar.specs.Reading.{Outcome, Parser, and_then, goes_on, listed, listed_by, expr, args, read_of, guess_of, bind_of, computed, assigned, named_by, named, reserved, held, bare, locking, plain_by, plain}
-use Rattle.pdl_grammar.specs.Automaton.{Sym, a, a_name, an_access, operand, slicing, rest, after_name, assigned_name, in_square, Listing, closer, first_of, Closer, semicolon, round, comma, in_args, closing, act_on, Stack, run, moved}
+use Rattle.pdl_grammar.specs.Reading.{Outcome, Parser, and_then, goes_on, list_of, listed_by, expr, args, read_of, guess_of, bind_of, computed_stmt, assigned_stmt, named_by, named_stmt, reserved_location, held_location, bare, locking, plain_by, plain}
+use Rattle.pdl_grammar.specs.Automaton.{Sym, a, a_name, an_access, operand, slicing, rest, after_name, assigned_name, in_square, Listing, closer, first_of, Closer, semicolon, round, comma, in_args, closing, act_on, Stack, run, run_after}
 use Rattle.pdl_grammar.specs.Automaton as m
-use Rattle.pdl_grammar.proofs.Good.{Good, reads, stops, behind, instead, under, weaker, then, step, word, word_of, take_good, name_good, access_good, place_good, is_that, on_test, on_option, begins}
+use Rattle.pdl_grammar.proofs.Good.{Good, reads, stops, beyond, instead, under, weaker, then, step, word, word_of, take_good, name_good, access_good, place_good, is_that, on_test, on_option, begins}
 use Rattle.pdl_grammar.proofs.GoodExpr.{expr_good}
 
 -- ---- values with commas between them
@@ -35,8 +35,8 @@ closer_comes c k e = go (is_mark mark.Comma (Some k)) (is_mark c (Some k)) refl 
     go false false i f = cc
 
 -- a comma or the closer, as the automaton takes it
-more_step : (l : Listing) (t : Token) (us : Row) (b : Option Bool) (below : Stack) → goes_on (closer l) (Some t.kind) ≡ b → run (t ∷ us) (m.more l ∷ below) ≡ moved (act_on l b) below (run us) (t ∷ us)
-more_step l t us b below e = ap (λ o. moved (act_on l o) below (run us) (t ∷ us)) e
+more_step : (l : Listing) (t : Token) (us : Row) (b : Option Bool) (below : Stack) → goes_on (closer l) (Some t.kind) ≡ b → run (t ∷ us) (m.more l ∷ below) ≡ run_after (act_on l b) below (run us) (t ∷ us)
+more_step l t us b below e = ap (λ o. run_after (act_on l o) below (run us) (t ∷ us)) e
 
 module _ {A : Type 0} (P : A → Row → Row → Type 0) (p : Parser A) (l : Listing) (top : ℕ) (good : (ts : Row) → length ts ≤ top → Good (λ x r. P x ts r) (first_of l) (m.more l ∷ []) (p ts) ts) where
   abbrev List_good : Row → Stack → Outcome (List A) → Row → Type 0
@@ -46,26 +46,26 @@ module _ {A : Type 0} (P : A → Row → Row → Type 0) (p : Parser A) (l : Lis
   further_good x w ts us h (reads q le e) = reads (further h q) le e
   further_good x w ts us h (stops e) = stops e
 
-  after_value : (n : ℕ) (ts : Row) → ((us : Row) → length us < n → length us ≤ top → List_good us (first_of l) (listed p (closer l) n us) us) →
-      (x : A) (r : Row) → length r ≤ n → length r ≤ top → P x ts r → List_good ts (m.more l ∷ []) (listed_by (listed p (closer l) n) x (goes_on (closer l) (first_kind r)) r) r
+  after_value : (n : ℕ) (ts : Row) → ((us : Row) → length us < n → length us ≤ top → List_good us (first_of l) (list_of p (closer l) n us) us) →
+      (x : A) (r : Row) → length r ≤ n → length r ≤ top → P x ts r → List_good ts (m.more l ∷ []) (listed_by (list_of p (closer l) n) x (goes_on (closer l) (first_kind r)) r) r
   after_value n ts others x [] le le2 h = stops (λ below. refl)
-  after_value n ts others x (t ∷ us) le le2 h = on_option (λ o. List_good ts (m.more l ∷ []) (listed_by (listed p (closer l) n) x o (t ∷ us)) (t ∷ us)) (goes_on (closer l) (Some t.kind))
+  after_value n ts others x (t ∷ us) le le2 h = on_option (λ o. List_good ts (m.more l ∷ []) (listed_by (list_of p (closer l) n) x o (t ∷ us)) (t ∷ us)) (goes_on (closer l) (Some t.kind))
       (λ e. stops (λ below. more_step l t us None below e))
       follows
     where
-      follows : (b : Bool) → goes_on (closer l) (Some t.kind) ≡ Some b → List_good ts (m.more l ∷ []) (listed_by (listed p (closer l) n) x (Some b) (t ∷ us)) (t ∷ us)
-      follows true e = behind (omega arith) (λ below. more_step l t us (Some true) below e)
+      follows : (b : Bool) → goes_on (closer l) (Some t.kind) ≡ Some b → List_good ts (m.more l ∷ []) (listed_by (list_of p (closer l) n) x (Some b) (t ∷ us)) (t ∷ us)
+      follows true e = beyond (omega arith) (λ below. more_step l t us (Some true) below e)
           (further_good x (word_of t) ts us (subst (λ k. P x ts (on (word_of t) k ∷ us)) (comma_comes (closer l) t.kind e) h) (others us (omega arith) (omega arith)))
       follows false e = reads (last (subst (λ k. P x ts (on (word_of t) k ∷ us)) (closer_comes (closer l) t.kind e) h)) (omega arith) (λ below. more_step l t us (Some false) below e)
 
-  pub listed_good : (n : ℕ) (ts : Row) → length ts < n → length ts ≤ top → List_good ts (first_of l) (listed p (closer l) n ts) ts
-  unfolding listed
+  pub listed_good : (n : ℕ) (ts : Row) → length ts < n → length ts ≤ top → List_good ts (first_of l) (list_of p (closer l) n ts) ts
+  unfolding list_of
   listed_good zero ts le le2 = absurd (omega arith)
   listed_good (suc n) ts le le2 = go (good ts le2) (after_value n ts (listed_good n))
     where
-      go : {o : Outcome A} → Good (λ x r. P x ts r) (first_of l) (m.more l ∷ []) o ts → ((x : A) (r : Row) → length r ≤ n → length r ≤ top → P x ts r → List_good ts (m.more l ∷ []) (listed_by (listed p (closer l) n) x (goes_on (closer l) (first_kind r)) r) r) →
-          List_good ts (first_of l) (and_then o (λ x us. listed_by (listed p (closer l) n) x (goes_on (closer l) (first_kind us)) us)) ts
-      go (reads {v = x} {r = r} h le3 f) tail = behind le3 f (tail x r (omega arith) (omega arith) h)
+      go : {o : Outcome A} → Good (λ x r. P x ts r) (first_of l) (m.more l ∷ []) o ts → ((x : A) (r : Row) → length r ≤ n → length r ≤ top → P x ts r → List_good ts (m.more l ∷ []) (listed_by (list_of p (closer l) n) x (goes_on (closer l) (first_kind r)) r) r) →
+          List_good ts (first_of l) (and_then o (λ x us. listed_by (list_of p (closer l) n) x (goes_on (closer l) (first_kind us)) us)) ts
+      go (reads {v = x} {r = r} h le3 f) tail = beyond le3 f (tail x r (omega arith) (omega arith) h)
       go (stops f) tail = stops f
 
 -- ---- what is assigned
@@ -132,7 +132,7 @@ a_place ts below e = let p = front_place ts e in rw p.is refl
 args_good : (top : ℕ) (ts : Row) → length ts < top → Good (λ es r. Listed Full mark.CloseRound es ts r) (operand in_args ∷ []) [] (args top ts) ts
 args_good top ts le = listed_good Full (expr top) m.args top (λ us h. expr_good top in_args us h) top ts le (omega arith)
 
-computed_good : (top : ℕ) (x q : Word) (ts : Row) → length ts ≤ top → begins_place ts ≡ false → Good (λ s r. Item (s ∷ []) (on x kind.Name ∷ at q mark.Assign ∷ ts) r) (m.assigned ∷ []) [] (computed top (ident x) ts) ts
+computed_good : (top : ℕ) (x q : Word) (ts : Row) → length ts ≤ top → begins_place ts ≡ false → Good (λ s r. Item (s ∷ []) (on x kind.Name ∷ at q mark.Assign ∷ ts) r) (m.assigned ∷ []) [] (computed_stmt top (ident x) ts) ts
 computed_good top x q ts le e = on_test (λ b. Good (λ s r. Item (s ∷ []) (on x kind.Name ∷ at q mark.Assign ∷ ts) r) (m.assigned ∷ []) [] (cond b (guess_of top (ident x) (next ts)) (bind_of (expr top) (ident x) ts)) ts) (is_mark mark.SpecCall (first_kind ts))
     (λ f. let s = begins mark.SpecCall ts f in let k : length ts ≡ length (at s.w mark.SpecCall ∷ s.more) = ap length s.is in
     subst (λ us. Good (λ s r. Item (s ∷ []) (on x kind.Name ∷ at q mark.Assign ∷ us) r) (m.assigned ∷ []) [] (guess_of top (ident x) (next us)) us) (sym s.is)
@@ -146,16 +146,16 @@ computed_good top x q ts le e = on_test (λ b. Good (λ s r. Item (s ∷ []) (on
     then _ _ (take_good mark.Semicolon r1) (λ _ r2 p2 _.
     reads (binding (rw p2.1 at p1)) (omega arith) (λ below. refl)))))
 
-assigned_good : (top : ℕ) (x q : Word) (ts : Row) → length ts ≤ top → Good (λ s r. Item (s ∷ []) (on x kind.Name ∷ at q mark.Assign ∷ ts) r) (m.assigned ∷ []) [] (assigned top (ident x) ts) ts
-assigned_good top x q ts le = on_test (λ b. Good (λ s r. Item (s ∷ []) (on x kind.Name ∷ at q mark.Assign ∷ ts) r) (m.assigned ∷ []) [] (cond b (read_of (ident x) ts) (computed top (ident x) ts)) ts) (begins_place ts)
+assigned_good : (top : ℕ) (x q : Word) (ts : Row) → length ts ≤ top → Good (λ s r. Item (s ∷ []) (on x kind.Name ∷ at q mark.Assign ∷ ts) r) (m.assigned ∷ []) [] (assigned_stmt top (ident x) ts) ts
+assigned_good top x q ts le = on_test (λ b. Good (λ s r. Item (s ∷ []) (on x kind.Name ∷ at q mark.Assign ∷ ts) r) (m.assigned ∷ []) [] (cond b (read_of (ident x) ts) (computed_stmt top (ident x) ts)) ts) (begins_place ts)
     (λ e. instead (a_name ∷ a mark.OpenSquare ∷ a_name ∷ a mark.CloseSquare ∷ a mark.Semicolon ∷ []) (λ below. a_place ts below e)
     (then _ _ (place_good ts) (λ v r1 p1 _.
     then _ _ (take_good mark.Semicolon r1) (λ _ r2 p2 _.
     reads (rw (p1.is, p2.1) reading) (omega arith) (λ below. refl)))))
     (λ e. computed_good top x q ts le e)
 
-named_good : (top : ℕ) (x : Word) (ts : Row) → length ts ≤ top → Good (λ s r. Item (s ∷ []) (on x kind.Name ∷ ts) r) (after_name ∷ []) [] (named top (ident x) ts) ts
-unfolding named
+named_good : (top : ℕ) (x : Word) (ts : Row) → length ts ≤ top → Good (λ s r. Item (s ∷ []) (on x kind.Name ∷ ts) r) (after_name ∷ []) [] (named_stmt top (ident x) ts) ts
+unfolding named_stmt
 named_good top x [] le = stops (λ below. refl)
 named_good top x (t ∷ ts) le = go t.kind (word_of t) le
   where
@@ -185,10 +185,10 @@ record IsReserved (ts : Row) (v : Location × Kind × Span) (r : Row) : Type 0 w
   k : Word
   z : Word
   x : List ℕ
-  is : ts ≡ at p mark.OpenRound ∷ located (word v.0.mem.name v.0.mem.span) o (word v.0.address.name v.0.address.span) c (at q mark.Comma ∷ at k (mark_of v.1) ∷ at z mark.CloseRound ∷ at (word x v.2) mark.Semicolon ∷ r)
+  is : ts ≡ at p mark.OpenRound ∷ location_row (word v.0.mem.name v.0.mem.span) o (word v.0.address.name v.0.address.span) c (at q mark.Comma ∷ at k (mark_of v.1) ∷ at z mark.CloseRound ∷ at (word x v.2) mark.Semicolon ∷ r)
 
-reserved_good : (ts : Row) → Good (IsReserved ts) (m.held (a mark.Comma ∷ an_access ∷ [])) [] (reserved ts) ts
-unfolding reserved
+reserved_good : (ts : Row) → Good (IsReserved ts) (m.held_stack (a mark.Comma ∷ an_access ∷ [])) [] (reserved_location ts) ts
+unfolding reserved_location
 reserved_good ts =
     then _ _ (take_good mark.OpenRound ts) (λ p r1 p1 _.
     then _ _ (place_good r1) (λ v r2 p2 _.
@@ -205,10 +205,10 @@ record IsHeld (ts : Row) (v : Location × Span) (r : Row) : Type 0 where
   c : Word
   z : Word
   x : List ℕ
-  is : ts ≡ at p mark.OpenRound ∷ located (word v.0.mem.name v.0.mem.span) o (word v.0.address.name v.0.address.span) c (at z mark.CloseRound ∷ at (word x v.1) mark.Semicolon ∷ r)
+  is : ts ≡ at p mark.OpenRound ∷ location_row (word v.0.mem.name v.0.mem.span) o (word v.0.address.name v.0.address.span) c (at z mark.CloseRound ∷ at (word x v.1) mark.Semicolon ∷ r)
 
-held_good : (ts : Row) → Good (IsHeld ts) (m.held []) [] (held ts) ts
-unfolding held
+held_good : (ts : Row) → Good (IsHeld ts) (m.held_stack []) [] (held_location ts) ts
+unfolding held_location
 held_good ts =
     then _ _ (take_good mark.OpenRound ts) (λ p r1 p1 _.
     then _ _ (place_good r1) (λ v r2 p2 _.

@@ -8,7 +8,7 @@ use Rattle.pdl_tokens.specs.Cursor.{next, first_kind}
 use Rattle.pdl_tokens.specs.Tokens.{Row}
 use Rattle.pdl_grammar.specs.Grammar.{Word, on, at, Parameter, parameter, Lock, unlocked, locked as locked_by, Memory, memory, Given, given, Starting, starting, Text, text}
 use Rattle.pdl_cursor.specs.Looks.{is_mark}
-use Rattle.pdl_grammar.specs.Reading.{Outcome, literal, width, param, lock_of, lock, mem, start, pipe}
+use Rattle.pdl_grammar.specs.Reading.{Outcome, literal, width, param, lock_clause, lock, mem, start, pipe}
 use Rattle.pdl_grammar.specs.Automaton.{a, a_number, a_literal, a_lock_kind, more, locked, params, mems, literals, first_of, start_clause, whole, Stack, run}
 use Rattle.pdl_grammar.proofs.Good.{Good, reads, stops, then, step, word, word_of, Valued, take_good, name_good, number_good, literal_good, lock_kind_good, pace_good, on_test, begins}
 use Rattle.pdl_grammar.proofs.GoodItems.{listed_good}
@@ -39,7 +39,7 @@ param_good ts =
     then _ _ (width_good r2) (λ n r3 p3 _.
     reads (rw (p1, p2.1, p3.is) parameter) (omega arith) (λ below. refl))))
 
--- where no lock begins, the automaton goes on behind the memory
+-- where no lock begins, the automaton goes on after the memory
 no_lock : (ts : Row) (below : Stack) → is_mark mark.Lock (first_kind ts) ≡ false → run ts (locked ∷ below) ≡ run ts (more mems ∷ below)
 no_lock [] below e = refl
 no_lock (t ∷ ts) below e = go t.kind (word_of t) e
@@ -48,7 +48,7 @@ no_lock (t ∷ ts) below e = go t.kind (word_of t) e
     go (kind.Mark mark.Lock) w e = cc
     go _ w e = refl
 
-lock_of_good : (l : Word) (ts : Row) → Good (λ x r. Lock x (at l mark.Lock ∷ ts) r) (a_lock_kind ∷ a mark.OpenRound ∷ a_number ∷ a mark.CloseRound ∷ more mems ∷ []) (more mems ∷ []) (lock_of ts) ts
+lock_of_good : (l : Word) (ts : Row) → Good (λ x r. Lock x (at l mark.Lock ∷ ts) r) (a_lock_kind ∷ a mark.OpenRound ∷ a_number ∷ a mark.CloseRound ∷ more mems ∷ []) (more mems ∷ []) (lock_clause ts) ts
 lock_of_good l ts =
     then _ _ (lock_kind_good ts) (λ _ r1 p1 _.
     then _ _ (take_good mark.OpenRound r1) (λ _ r2 p2 _.
@@ -58,9 +58,9 @@ lock_of_good l ts =
 
 lock_good : (ts : Row) → Good (λ x r. Lock x ts r) (locked ∷ []) (more mems ∷ []) (lock ts) ts
 unfolding lock
-lock_good ts = on_test (λ b. Good (λ x r. Lock x ts r) (locked ∷ []) (more mems ∷ []) (cond b (lock_of (next ts)) (Ok (None, ts))) ts) (is_mark mark.Lock (first_kind ts))
+lock_good ts = on_test (λ b. Good (λ x r. Lock x ts r) (locked ∷ []) (more mems ∷ []) (cond b (lock_clause (next ts)) (Ok (None, ts))) ts) (is_mark mark.Lock (first_kind ts))
     (λ e. let s = begins mark.Lock ts e in
-    subst (λ us. Good (λ x r. Lock x us r) (locked ∷ []) (more mems ∷ []) (lock_of (next us)) us) (sym s.is) (step refl (lock_of_good s.w s.more)))
+    subst (λ us. Good (λ x r. Lock x us r) (locked ∷ []) (more mems ∷ []) (lock_clause (next us)) us) (sym s.is) (step refl (lock_of_good s.w s.more)))
     (λ e. reads unlocked (omega arith) (λ below. no_lock ts below e))
 
 mem_good : (ts : Row) → Good (λ x r. Memory x ts r) (first_of mems) (more mems ∷ []) (mem ts) ts

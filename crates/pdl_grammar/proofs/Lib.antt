@@ -9,5 +9,5 @@ mod GoodBranches
 mod GoodText
 mod Only
 mod Refused
-mod Within
+pub mod Within
 pub mod Places

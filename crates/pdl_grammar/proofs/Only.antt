@@ -11,7 +11,7 @@ use Rattle.pdl_tokens.specs.Cursor.{next, first_kind}
 use Rattle.pdl_tokens.specs.Tokens.{Row}
 use Rattle.pdl_grammar.specs.Grammar.{Word, at, operator_of, loose, levels, mark_of, lock_mark, pace_mark, Listed, last, further, Level, Full, constant, variable, sliced, bracketed, inverted, catenated, compared, extended, sign_extended, tighter, joined, whole, chosen, Item, separating, reading, binding, guessing, fetching, writing, reserving, acquiring, blocking, releasing, branching, choosing, calling, verifying, checking, barring, Items, none, more, Parameter, parameter, Lock, unlocked, locked, Memory, memory, Given, given, Starting, starting, Text, text}
 use Rattle.pdl_cursor.specs.Looks.{is_mark, begins_place, is_place}
-use Rattle.pdl_grammar.specs.Reading.{Parser, goes_on, listed, op_in, op_by, chain, level, full, inside, expr, args, item, items, pipe}
+use Rattle.pdl_grammar.specs.Reading.{Parser, goes_on, list_of, op_in, op_by, chain, level, full, inside, expr, args, item, items, pipe}
 use Rattle.pdl_grammar.specs.Reading as spec
 
 -- ---- how much is left
@@ -192,8 +192,8 @@ module _ {A : Type 0} {P : A → Row → Row → Type 0} (p : Parser A) (close :
     (at_comma : (x : A) (a b : Row) (w : Word) → P x a (at w mark.Comma ∷ b) → length a ≤ top → p a ≡ Ok (x, at w mark.Comma ∷ b))
     (at_close : (x : A) (a b : Row) (w : Word) → P x a (at w close ∷ b) → length a ≤ top → p a ≡ Ok (x, at w close ∷ b))
     (ends : goes_on close (Some (kind.Mark close)) ≡ Some false) where
-  only_listed : {xs : List A} {ts r : Row} → Listed P close xs ts r → (n : ℕ) → length ts < n → length ts ≤ top → listed p close n ts ≡ Ok (xs, r)
-  unfolding listed
+  only_listed : {xs : List A} {ts r : Row} → Listed P close xs ts r → (n : ℕ) → length ts < n → length ts ≤ top → list_of p close n ts ≡ Ok (xs, r)
+  unfolding list_of
   only_listed h zero le le2 = absurd (omega arith)
   only_listed (last h) (suc n) le le2 = rw (at_close _ _ _ _ h le2) (rw ends refl)
   only_listed {ts = ts} {r = r} (further {x = x} {xs = xs} {b = b} h i) (suc n) le le2 = let sh = short _ _ _ h in rw (at_comma _ _ _ _ h le2) (rw (only_listed {xs = xs} {ts = b} {r = r} i n (omega arith) (omega arith)) refl)
@@ -203,14 +203,14 @@ only_args h k le = only_listed (expr k) mark.CloseRound k full_shorter (λ x a b
 
 -- ---- statements
 
-behind_name : (k k2 : Option TokenKind) → is_mark mark.OpenSquare k ≡ false → is_place (Some kind.Name) k k2 ≡ false
-behind_name (Some (kind.Mark mark.OpenSquare)) k2 f = cc
-behind_name _ k2 f = refl
+after_name : (k k2 : Option TokenKind) → is_mark mark.OpenSquare k ≡ false → is_place (Some kind.Name) k k2 ≡ false
+after_name (Some (kind.Mark mark.OpenSquare)) k2 f = cc
+after_name _ k2 f = refl
 
 -- an expression doesn't begin as a place
 no_place : {n : ℕ} {e : Expr} {ts r : Row} → Level n e ts r → is_mark mark.OpenSquare (first_kind r) ≡ false → begins_place ts ≡ false
 no_place constant f = refl
-no_place (variable {r = r}) f = behind_name (first_kind r) (first_kind (next r)) f
+no_place (variable {r = r}) f = after_name (first_kind r) (first_kind (next r)) f
 no_place sliced f = refl
 no_place (bracketed h) f = refl
 no_place (inverted h) f = refl
@@ -260,7 +260,7 @@ no_else (none {r = r}) f = brace_no_else (first_kind r) f
 no_else (more h i) f = not_else h
 
 mutual
-  unfolding item items spec.plain spec.locking spec.named spec.reserved spec.held spec.bare spec.condition spec.place spec.take spec.name
+  unfolding item items spec.plain spec.locking spec.named_stmt spec.reserved_location spec.held_location spec.bare spec.condition spec.place spec.take spec.name
 
   only_item : {s : List Stmt} {ts r : Row} → Item s ts r → (k n : ℕ) → length ts ≤ k → length ts ≤ n → is_mark mark.Else (first_kind r) ≡ false → item k (items k n) ts ≡ Ok (s, r)
   only_item separating k n le le2 f = refl

@@ -10,7 +10,7 @@ use Rattle.pdl_grammar.specs.Grammar.{operator_of}
 use Rattle.pdl_cursor.specs.Looks.{is_mark}
 use Rattle.pdl_grammar.specs.Reading.{goes_on}
 
--- what may stand behind an expression: a semicolon, a round bracket, a comma, a colon, or more arguments and a round bracket
+-- what may stand after an expression: a semicolon, a round bracket, a comma, a colon, or more arguments and a round bracket
 pub data Closer : Type 0 where
   semicolon : Closer
   round : Closer
@@ -48,7 +48,7 @@ pub data Sym : Type 0 where
 abbrev pub Stack : Type 0
 Stack = List Sym
 
--- the mark behind a list
+-- the mark after a list
 abbrev pub closer : Listing → Mark
 closer params = mark.CloseRound
 closer mems = mark.CloseSquare
@@ -119,14 +119,14 @@ act_locked (kind.Mark mark.Lock) = Some (a_lock_kind ∷ a mark.OpenRound ∷ a_
 act_locked k = act_more mems k
 
 -- a location in brackets, and what stands between it and the closing bracket
-abbrev pub held : Stack → Stack
-held between = a mark.OpenRound ∷ a_name ∷ a mark.OpenSquare ∷ a_name ∷ a mark.CloseSquare ∷ (between ++ (a mark.CloseRound ∷ a mark.Semicolon ∷ []))
+abbrev pub held_stack : Stack → Stack
+held_stack between = a mark.OpenRound ∷ a_name ∷ a mark.OpenSquare ∷ a_name ∷ a mark.CloseSquare ∷ (between ++ (a mark.CloseRound ∷ a mark.Semicolon ∷ []))
 
 abbrev pub act_locking : TokenKind → Option Stack
-act_locking (kind.Mark mark.Reserve) = Some (held (a mark.Comma ∷ an_access ∷ []) ++ (items ∷ []))
-act_locking (kind.Mark mark.Acquire) = Some (held (a mark.Comma ∷ an_access ∷ []) ++ (items ∷ []))
-act_locking (kind.Mark mark.Block) = Some (held [] ++ (items ∷ []))
-act_locking (kind.Mark mark.Release) = Some (held [] ++ (items ∷ []))
+act_locking (kind.Mark mark.Reserve) = Some (held_stack (a mark.Comma ∷ an_access ∷ []) ++ (items ∷ []))
+act_locking (kind.Mark mark.Acquire) = Some (held_stack (a mark.Comma ∷ an_access ∷ []) ++ (items ∷ []))
+act_locking (kind.Mark mark.Block) = Some (held_stack [] ++ (items ∷ []))
+act_locking (kind.Mark mark.Release) = Some (held_stack [] ++ (items ∷ []))
 act_locking _ = None
 
 abbrev pub act_items : TokenKind → Option Stack
@@ -219,13 +219,13 @@ start_clause = a mark.Start ∷ a_name ∷ a mark.OpenRound ∷ a_literal ∷ mo
 abbrev pub whole : Stack
 whole = a mark.Pipe ∷ a_name ∷ a mark.OpenRound ∷ (first_of params ++ (a mark.OpenSquare ∷ (first_of mems ++ (a mark.OpenBrace ∷ items ∷ start_clause))))
 
-abbrev pub moved : Option Stack → Stack → (Stack → Option Row) → Row → Option Row
-moved None below go left = Some left
-moved (Some above) below go left = go (above ++ below)
+abbrev pub run_after : Option Stack → Stack → (Stack → Option Row) → Row → Option Row
+run_after None below go left = Some left
+run_after (Some above) below go left = go (above ++ below)
 
 -- none where all is taken and nothing more is expected, else the tokens left where it stops
 abbrev pub run : Row → Stack → Option Row
 run [] [] = None
 run [] (s ∷ below) = Some []
 run (t ∷ ts) [] = Some (t ∷ ts)
-run (t ∷ ts) (s ∷ below) = moved (act s t.kind) below (run ts) (t ∷ ts)
+run (t ∷ ts) (s ∷ below) = run_after (act s t.kind) below (run ts) (t ∷ ts)

@@ -43,12 +43,12 @@ abbrev pub across : Span → Span → Span
 across a b = record { start = a.start; end = b.end; line = a.line }
 
 -- the tokens of a location, and then others
-abbrev pub located : Word → Word → Word → Word → Row → Row
-located m o a c more = on m kind.Name ∷ at o mark.OpenSquare ∷ on a kind.Name ∷ at c mark.CloseSquare ∷ more
+abbrev pub location_row : Word → Word → Word → Word → Row → Row
+location_row m o a c more = on m kind.Name ∷ at o mark.OpenSquare ∷ on a kind.Name ∷ at c mark.CloseSquare ∷ more
 
 -- the tokens of a name and its type, and then others
-abbrev pub typed : Word → Word → Word → Word → Word → ℕ → Word → Row → Row
-typed x c u o w n g more = on x kind.Name ∷ at c mark.Colon ∷ at u mark.Uint ∷ at o mark.Less ∷ on w (kind.Number n) ∷ at g mark.Greater ∷ more
+abbrev pub type_row : Word → Word → Word → Word → Word → ℕ → Word → Row → Row
+type_row x c u o w n g more = on x kind.Name ∷ at c mark.Colon ∷ at u mark.Uint ∷ at o mark.Less ∷ on w (kind.Number n) ∷ at g mark.Greater ∷ more
 
 -- ---- values with commas between them, up to a closing mark, and it
 
@@ -135,24 +135,24 @@ mutual
   pub data Item : List Stmt → Row → Row → Type 0 where
     separating : {w : Word} {r : Row} → Item (Separator w.span ∷ []) (at w mark.Separator ∷ r) r
     reading : {x q m o a c e : Word} {r : Row} → Item (CombRead (across x.span e.span) (ident x) (location m a) ∷ [])
-        (on x kind.Name ∷ at q mark.Assign ∷ located m o a c (at e mark.Semicolon ∷ r)) r
+        (on x kind.Name ∷ at q mark.Assign ∷ location_row m o a c (at e mark.Semicolon ∷ r)) r
     binding : {x q e : Word} {v : Expr} {b r : Row} → Full v b (at e mark.Semicolon ∷ r) → Item (Bind (across x.span e.span) (ident x) v ∷ [])
         (on x kind.Name ∷ at q mark.Assign ∷ b) r
     guessing : {x q w p e : Word} {args : List Expr} {b r : Row} → Listed Full mark.CloseRound args b (at e mark.Semicolon ∷ r) →
         Item (SpecCall (across x.span e.span) (ident x) args ∷ []) (on x kind.Name ∷ at q mark.Assign ∷ at w mark.SpecCall ∷ at p mark.OpenRound ∷ b) r
     fetching : {x q m o a c e : Word} {r : Row} → Item (DelayedRead (across x.span e.span) (ident x) (location m a) ∷ [])
-        (on x kind.Name ∷ at q mark.Arrow ∷ located m o a c (at e mark.Semicolon ∷ r)) r
+        (on x kind.Name ∷ at q mark.Arrow ∷ location_row m o a c (at e mark.Semicolon ∷ r)) r
     writing : {m o a c q e : Word} {v : Expr} {b r : Row} → Full v b (at e mark.Semicolon ∷ r) → Item (Write (across m.span e.span) (location m a) v ∷ [])
-        (located m o a c (at q mark.Arrow ∷ b)) r
+        (location_row m o a c (at q mark.Arrow ∷ b)) r
     reserving : {w p m o a c q k z e : Word} {access : Kind} {r : Row} → Item (Reserve (across w.span e.span) (location m a) access ∷ [])
-        (at w mark.Reserve ∷ at p mark.OpenRound ∷ located m o a c (at q mark.Comma ∷ at k (mark_of access) ∷ at z mark.CloseRound ∷ at e mark.Semicolon ∷ r)) r
+        (at w mark.Reserve ∷ at p mark.OpenRound ∷ location_row m o a c (at q mark.Comma ∷ at k (mark_of access) ∷ at z mark.CloseRound ∷ at e mark.Semicolon ∷ r)) r
     acquiring : {w p m o a c q k z e : Word} {access : Kind} {r : Row} →
         Item (Reserve (across w.span e.span) (location m a) access ∷ Block (across w.span e.span) (location m a) ∷ [])
-        (at w mark.Acquire ∷ at p mark.OpenRound ∷ located m o a c (at q mark.Comma ∷ at k (mark_of access) ∷ at z mark.CloseRound ∷ at e mark.Semicolon ∷ r)) r
+        (at w mark.Acquire ∷ at p mark.OpenRound ∷ location_row m o a c (at q mark.Comma ∷ at k (mark_of access) ∷ at z mark.CloseRound ∷ at e mark.Semicolon ∷ r)) r
     blocking : {w p m o a c z e : Word} {r : Row} → Item (Block (across w.span e.span) (location m a) ∷ [])
-        (at w mark.Block ∷ at p mark.OpenRound ∷ located m o a c (at z mark.CloseRound ∷ at e mark.Semicolon ∷ r)) r
+        (at w mark.Block ∷ at p mark.OpenRound ∷ location_row m o a c (at z mark.CloseRound ∷ at e mark.Semicolon ∷ r)) r
     releasing : {w p m o a c z e : Word} {r : Row} → Item (Release (across w.span e.span) (location m a) ∷ [])
-        (at w mark.Release ∷ at p mark.OpenRound ∷ located m o a c (at z mark.CloseRound ∷ at e mark.Semicolon ∷ r)) r
+        (at w mark.Release ∷ at p mark.OpenRound ∷ location_row m o a c (at z mark.CloseRound ∷ at e mark.Semicolon ∷ r)) r
     branching : {w p z o e : Word} {v : Expr} {first : Stmts} {a b r : Row} → Full v a (at z mark.CloseRound ∷ at o mark.OpenBrace ∷ b) → Items first b (at e mark.CloseBrace ∷ r) →
         Item (If (across w.span e.span) v first Nil ∷ []) (at w mark.If ∷ at p mark.OpenRound ∷ a) r
     choosing : {w p z o c l q e : Word} {v : Expr} {first second : Stmts} {a b d r : Row} → Full v a (at z mark.CloseRound ∷ at o mark.OpenBrace ∷ b) →
@@ -174,7 +174,7 @@ mutual
 
 -- a parameter with its type
 pub data Parameter : Param → Row → Row → Type 0 where
-  parameter : {x c u o w g : Word} {n : ℕ} {r : Row} → Parameter (record { name = ident x; width = number w n }) (typed x c u o w n g r) r
+  parameter : {x c u o w g : Word} {n : ℕ} {r : Row} → Parameter (record { name = ident x; width = number w n }) (type_row x c u o w n g r) r
 
 -- the mark of a kind of lock
 abbrev pub lock_mark : LockKind → Mark
@@ -197,7 +197,7 @@ pace_mark false = mark.Comb
 pub data Memory : Mem → Row → Row → Type 0 where
   memory : {x c u o w g p d z k : Word} {n size : ℕ} {delayed : Bool} {lock : Option LockDecl} {a r : Row} → Lock lock a r →
       Memory (record { name = ident x; width = number w n; depth = number d size; delayed = delayed; lock = lock })
-      (typed x c u o w n g (at p mark.OpenSquare ∷ on d (kind.Number size) ∷ at z mark.CloseSquare ∷ at k (pace_mark delayed) ∷ a)) r
+      (type_row x c u o w n g (at p mark.OpenSquare ∷ on d (kind.Number size) ∷ at z mark.CloseSquare ∷ at k (pace_mark delayed) ∷ a)) r
 
 -- an argument of the first thread
 pub data Given : Literal → Row → Row → Type 0 where

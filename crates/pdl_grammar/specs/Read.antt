@@ -55,14 +55,14 @@ ReadsWhole view outcome (Ok a) left = outcome ≡ Ok (view a)
 ReadsWhole view outcome (Err e) left = e ≢ no_memory → outcome ≡ Err left
 
 -- with values read before
-abbrev pub behind : {A : Type 0} → List A → Outcome (List A) → Outcome (List A)
-behind xs (Ok p) = Ok (xs ++ p.0, p.1)
-behind xs (Err ts) = Err ts
+abbrev pub after : {A : Type 0} → List A → Outcome (List A) → Outcome (List A)
+after xs (Ok p) = Ok (xs ++ p.0, p.1)
+after xs (Err ts) = Err ts
 
 -- with statements read before
-abbrev pub behind_stmts : List Stmt → Outcome Stmts → Outcome Stmts
-behind_stmts ss (Ok p) = Ok (prepend ss p.0, p.1)
-behind_stmts ss (Err ts) = Err ts
+abbrev pub after_stmts : List Stmt → Outcome Stmts → Outcome Stmts
+after_stmts ss (Ok p) = Ok (prepend ss p.0, p.1)
+after_stmts ss (Err ts) = Err ts
 
 -- the line at hand, or the last
 abbrev pub line_at : Option ℕ → ℕ → ℕ

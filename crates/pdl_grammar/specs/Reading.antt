@@ -105,9 +105,9 @@ listed_by others x (Some false) = λ ts. Ok (x ∷ [], next ts)
 listed_by others x (Some true) = λ ts. (others >>= (λ xs. pure (x ∷ xs))) (next ts)
 
 -- at most n values
-unfoldable pub listed : {A : Type 0} → Parser A → Mark → ℕ → Parser (List A)
-listed p close zero = refuse
-listed p close (suc n) = p >>= (λ x ts. listed_by (listed p close n) x (goes_on close (first_kind ts)) ts)
+unfoldable pub list_of : {A : Type 0} → Parser A → Mark → ℕ → Parser (List A)
+list_of p close zero = refuse
+list_of p close (suc n) = p >>= (λ x ts. listed_by (list_of p close n) x (goes_on close (first_kind ts)) ts)
 
 -- ---- expressions
 
@@ -125,15 +125,15 @@ abbrev pub after_name : Ident → Parser Expr
 after_name x = λ ts. cond (is_mark mark.OpenSquare (first_kind ts)) (slice_of x (next ts)) (Ok (Variable x, ts))
 
 -- what stands in round brackets, after the first
-abbrev pub bracketed : Parser Expr → Parser Expr
-bracketed full = do
+abbrev pub bracketed_expr : Parser Expr → Parser Expr
+bracketed_expr full = do
   e ← full
   _ ← take mark.CloseRound
   pure e
 
 -- an expression and a number, in brackets, after a function word
-abbrev pub sized : Parser Expr → Parser (Expr × Number)
-sized full = do
+abbrev pub sized_expr : Parser Expr → Parser (Expr × Number)
+sized_expr full = do
   _ ← take mark.OpenRound
   e ← full
   _ ← take mark.Comma
@@ -160,12 +160,12 @@ pub record Inner : Type 0 where
 abbrev pub operand_by : Inner → Option TokenKind → Parser Expr
 operand_by inner (Some (kind.Literal w v)) = λ ts. Ok (Constant (first_literal w v ts), next ts)
 operand_by inner (Some kind.Name) = λ ts. after_name (first_name ts) (next ts)
-operand_by inner (Some (kind.Mark mark.OpenRound)) = λ ts. bracketed inner.full (next ts)
+operand_by inner (Some (kind.Mark mark.OpenRound)) = λ ts. bracketed_expr inner.full (next ts)
 operand_by inner (Some (kind.Mark mark.Tilde)) = λ ts. (inner.operand >>= (λ e. pure (Not e))) (next ts)
 operand_by inner (Some (kind.Mark mark.Cat)) = λ ts. (pair inner.full >>= (λ p. pure (Cat p.0 p.1))) (next ts)
 operand_by inner (Some (kind.Mark mark.LessSigned)) = λ ts. (pair inner.full >>= (λ p. pure (LessSigned p.0 p.1))) (next ts)
-operand_by inner (Some (kind.Mark mark.ZeroExtend)) = λ ts. (sized inner.full >>= (λ p. pure (ZeroExtend p.0 p.1))) (next ts)
-operand_by inner (Some (kind.Mark mark.SignExtend)) = λ ts. (sized inner.full >>= (λ p. pure (SignExtend p.0 p.1))) (next ts)
+operand_by inner (Some (kind.Mark mark.ZeroExtend)) = λ ts. (sized_expr inner.full >>= (λ p. pure (ZeroExtend p.0 p.1))) (next ts)
+operand_by inner (Some (kind.Mark mark.SignExtend)) = λ ts. (sized_expr inner.full >>= (λ p. pure (SignExtend p.0 p.1))) (next ts)
 operand_by inner _ = refuse
 
 -- what stands between operators
@@ -183,14 +183,14 @@ op_in n (Some (kind.Mark m)) = op_by n (operator_of m)
 op_in n _ = None
 
 -- after a left side, by the operator that comes
-abbrev pub joins : Parser Expr → (Expr → Parser Expr) → Expr → Option BinaryOp → Parser Expr
-joins p on_with x None = pure x
-joins p on_with x (Some op) = λ ts. (p >>= (λ y. on_with (Binary op x y))) (next ts)
+abbrev pub joined_expr : Parser Expr → (Expr → Parser Expr) → Expr → Option BinaryOp → Parser Expr
+joined_expr p on_with x None = pure x
+joined_expr p on_with x (Some op) = λ ts. (p >>= (λ y. on_with (Binary op x y))) (next ts)
 
 -- at most m more operators of a looseness and their right sides
 unfoldable pub chain : Parser Expr → ℕ → ℕ → Expr → Parser Expr
 chain p n zero x = pure x
-chain p n (suc m) x = λ ts. joins p (chain p n m) x (op_in n (first_kind ts)) ts
+chain p n (suc m) x = λ ts. joined_expr p (chain p n m) x (op_in n (first_kind ts)) ts
 
 -- at most `room` operators at each level up to n
 unfoldable pub level : Parser Expr → ℕ → ℕ → Parser Expr
@@ -228,7 +228,7 @@ expr room = full (inside room) room
 
 -- expressions with commas between them, up to a closing bracket, and it
 abbrev pub args : ℕ → Parser (List Expr)
-args room = listed (expr room) mark.CloseRound room
+args room = list_of (expr room) mark.CloseRound room
 
 -- ---- statements
 
@@ -255,12 +255,12 @@ guess_of room x = do
   pure (SpecCall (across x.span e) x es)
 
 -- a guess or a binding, after `x =`
-abbrev pub computed : ℕ → Ident → Parser Stmt
-computed room x = λ ts. cond (is_mark mark.SpecCall (first_kind ts)) (guess_of room x (next ts)) (bind_of (expr room) x ts)
+abbrev pub computed_stmt : ℕ → Ident → Parser Stmt
+computed_stmt room x = λ ts. cond (is_mark mark.SpecCall (first_kind ts)) (guess_of room x (next ts)) (bind_of (expr room) x ts)
 
 -- after `x =`
-abbrev pub assigned : ℕ → Ident → Parser Stmt
-assigned room x = λ ts. cond (begins_place ts) (read_of x ts) (computed room x ts)
+abbrev pub assigned_stmt : ℕ → Ident → Parser Stmt
+assigned_stmt room x = λ ts. cond (begins_place ts) (read_of x ts) (computed_stmt room x ts)
 
 -- a read of a delayed memory, after `x <-`
 abbrev pub fetch_of : Ident → Parser Stmt
@@ -281,18 +281,18 @@ write_of full m = do
 
 -- by what comes after the name
 abbrev pub named_by : ℕ → Ident → Option TokenKind → Parser Stmt
-named_by room x (Some (kind.Mark mark.Assign)) = λ ts. assigned room x (next ts)
+named_by room x (Some (kind.Mark mark.Assign)) = λ ts. assigned_stmt room x (next ts)
 named_by room x (Some (kind.Mark mark.Arrow)) = λ ts. fetch_of x (next ts)
 named_by room x (Some (kind.Mark mark.OpenSquare)) = λ ts. write_of (expr room) x (next ts)
 named_by room x _ = refuse
 
 -- after the name that a statement begins with
-unfoldable pub named : ℕ → Ident → Parser Stmt
-named room x = λ ts. named_by room x (first_kind ts) ts
+unfoldable pub named_stmt : ℕ → Ident → Parser Stmt
+named_stmt room x = λ ts. named_by room x (first_kind ts) ts
 
 -- a location and what it is reserved for, in brackets, and where the statement ends
-unfoldable pub reserved : Parser (Location × Kind × Span)
-reserved = do
+unfoldable pub reserved_location : Parser (Location × Kind × Span)
+reserved_location = do
   _ ← take mark.OpenRound
   l ← place
   _ ← take mark.Comma
@@ -302,8 +302,8 @@ reserved = do
   pure (l, k, e)
 
 -- a location in brackets, and where the statement ends
-unfoldable pub held : Parser (Location × Span)
-held = do
+unfoldable pub held_location : Parser (Location × Span)
+held_location = do
   _ ← take mark.OpenRound
   l ← place
   _ ← take mark.CloseRound
@@ -312,19 +312,19 @@ held = do
 
 -- a reservation, after its word
 abbrev pub reserve_of : Span → Parser (List Stmt)
-reserve_of s = reserved >>= (λ v. pure (Reserve (across s v.2) v.0 v.1 ∷ []))
+reserve_of s = reserved_location >>= (λ v. pure (Reserve (across s v.2) v.0 v.1 ∷ []))
 
 -- a reservation and the wait for it, after their word
 abbrev pub acquire_of : Span → Parser (List Stmt)
-acquire_of s = reserved >>= (λ v. pure (Reserve (across s v.2) v.0 v.1 ∷ Block (across s v.2) v.0 ∷ []))
+acquire_of s = reserved_location >>= (λ v. pure (Reserve (across s v.2) v.0 v.1 ∷ Block (across s v.2) v.0 ∷ []))
 
 -- a wait, after its word
 abbrev pub block_of : Span → Parser (List Stmt)
-block_of s = held >>= (λ v. pure (Block (across s v.1) v.0 ∷ []))
+block_of s = held_location >>= (λ v. pure (Block (across s v.1) v.0 ∷ []))
 
 -- a release, after its word
 abbrev pub release_of : Span → Parser (List Stmt)
-release_of s = held >>= (λ v. pure (Release (across s v.1) v.0 ∷ []))
+release_of s = held_location >>= (λ v. pure (Release (across s v.1) v.0 ∷ []))
 
 -- a call, after its word
 abbrev pub call_of : ℕ → Span → Parser (List Stmt)
@@ -371,7 +371,7 @@ branch items = do
 abbrev pub otherwise : Parser Stmts → Span → Parser (Stmts × Span)
 otherwise items end = λ ts. cond (is_mark mark.Else (first_kind ts)) ((take mark.OpenBrace >>= (λ _. branch items)) (next ts)) (Ok ((Nil, end), ts))
 
--- a condition, up to the brace behind it
+-- a condition, up to the brace after it
 unfoldable pub condition : ℕ → Parser Expr
 condition room = do
   _ ← take mark.OpenRound
@@ -406,7 +406,7 @@ locking = λ ts. locking_by (first_kind ts) ts
 
 -- by what the first token is
 abbrev pub plain_by : ℕ → Option TokenKind → Parser (List Stmt)
-plain_by room (Some kind.Name) = λ ts. alone (named room (first_name ts)) (next ts)
+plain_by room (Some kind.Name) = λ ts. alone (named_stmt room (first_name ts)) (next ts)
 plain_by room (Some (kind.Mark mark.Separator)) = λ ts. Ok (Separator (first_span ts) ∷ [], next ts)
 plain_by room (Some (kind.Mark mark.Call)) = λ ts. call_of room (first_span ts) (next ts)
 plain_by room (Some (kind.Mark mark.Verify)) = λ ts. verify_of room (first_span ts) (next ts)
@@ -462,8 +462,8 @@ unfoldable pub lock_kind : Parser LockKind
 lock_kind = λ ts. lock_kind_by (first_kind ts) ts
 
 -- a lock, after `lock`
-abbrev pub lock_of : Parser (Option LockDecl)
-lock_of = do
+abbrev pub lock_clause : Parser (Option LockDecl)
+lock_clause = do
   k ← lock_kind
   _ ← take mark.OpenRound
   n ← number
@@ -472,7 +472,7 @@ lock_of = do
 
 -- a lock or none
 unfoldable pub lock : Parser (Option LockDecl)
-lock = λ ts. cond (is_mark mark.Lock (first_kind ts)) (lock_of (next ts)) (Ok (None, ts))
+lock = λ ts. cond (is_mark mark.Lock (first_kind ts)) (lock_clause (next ts)) (Ok (None, ts))
 
 -- by what the first token is
 abbrev pub pace_by : Option TokenKind → Parser Bool
@@ -503,7 +503,7 @@ start room = do
   s ← take mark.Start
   x ← name
   _ ← take mark.OpenRound
-  args ← listed literal mark.CloseRound room
+  args ← list_of literal mark.CloseRound room
   e ← take mark.Semicolon
   pure (record { span = across s e; name = x; args = args })
 
@@ -513,9 +513,9 @@ pipe room = do
   _ ← take mark.Pipe
   x ← name
   _ ← take mark.OpenRound
-  params ← listed param mark.CloseRound room
+  params ← list_of param mark.CloseRound room
   _ ← take mark.OpenSquare
-  mems ← listed mem mark.CloseSquare room
+  mems ← list_of mem mark.CloseSquare room
   _ ← take mark.OpenBrace
   body ← items room room
   e ← take mark.CloseBrace

@@ -33,11 +33,11 @@ line_of (t ∷ ts) last = t.span.line
 -- the bytes are no text, and the first of their tokens with which no text begins stands on the line; or each of them is in place and the text ends there too early
 pub record IsOutOfPlace (bytes : List ℕ) (line : ℕ) : Type 0 where
   pub front : List Token
-  pub behind : List Token
-  pub split : tokens bytes ≡ front ++ behind
-  pub place : line ≡ line_of behind (last_line bytes)
+  pub after : List Token
+  pub split : tokens bytes ≡ front ++ after
+  pub place : line ≡ line_of after (last_line bytes)
   pub begins : Begins front
-  pub bad : (t : Token) (more : List Token) → behind ≡ t ∷ more → Begins (front ++ t ∷ []) → ⊥
+  pub bad : (t : Token) (more : List Token) → after ≡ t ∷ more → Begins (front ++ t ∷ []) → ⊥
   pub no_text : (p : Pipe) → IsText bytes p → ⊥
 
 -- what may be answered: a tree, or the line of a token out of place

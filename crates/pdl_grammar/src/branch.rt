@@ -15,7 +15,7 @@ use pdl_tokens::Mark;
 use pdl_tree::{Expr, Span, Stmt};
 use std::alloc::Global;
 
-// A condition, up to the brace behind it.
+// A condition, up to the brace after it.
 #[tactic(auto, unfolding(crate::specs::Reading::condition))]
 fn condition(alloc: Global, tokens: &mut Cursor<'_>, room: usize) -> Result<Expr, Stop>
     ensures { Reads expr_view (spec.condition room tokens.old) result tokens.new }
@@ -117,7 +117,7 @@ fn add(done: &mut Seq<Stmt>, item: Item) -> Result<(), NoMemory>
 
 /// Items up to a closing brace, at most `most`.
 #[cycle(items)]
-#[tactic(auto, using(crate::proofs::Rows::items_end, crate::proofs::Rows::items_item, crate::proofs::Rows::items_stuck, crate::proofs::Rows::items_fails, crate::proofs::Rows::behind_no_stmts))]
+#[tactic(auto, using(crate::proofs::Rows::items_end, crate::proofs::Rows::items_item, crate::proofs::Rows::items_stuck, crate::proofs::Rows::items_fails, crate::proofs::Rows::after_no_stmts))]
 pub fn items(
     alloc: Global,
     tokens: &mut Cursor<'_>,

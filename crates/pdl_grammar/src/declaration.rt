@@ -36,9 +36,10 @@ fn param(alloc: Global, tokens: &mut Cursor<'_>) -> Result<Param, Stop>
 }
 
 /// Parameters with commas between them, up to a closing round bracket.
-#[tactic(auto, using(crate::proofs::Rows::listed_none, crate::proofs::Rows::behind_nothing))]
+#[tactic(auto, using(crate::proofs::Rows::listed_none, crate::proofs::Rows::after_nothing))]
 pub fn params(alloc: Global, tokens: &mut Cursor<'_>, room: usize) -> Result<Seq<Param>, Stop>
-    ensures { Reads (map param_view) (spec.listed spec.param mark.CloseRound room tokens.old) result
+    ensures { Reads (map param_view)
+        (spec.list_of spec.param mark.CloseRound room tokens.old) result
         tokens.new }
 {
     let mut done = Seq::new(alloc);
@@ -60,7 +61,7 @@ pub fn params(alloc: Global, tokens: &mut Cursor<'_>, room: usize) -> Result<Seq
 
 // A lock, after `lock`.
 fn lock_of(tokens: &mut Cursor<'_>) -> Result<Option<LockDecl>, Stop>
-    ensures { Reads maybe_lock_view (spec.lock_of tokens.old) result tokens.new }
+    ensures { Reads maybe_lock_view (spec.lock_clause tokens.old) result tokens.new }
 {
     let kind = lock_kind(tokens)?;
     take(tokens, Mark::OpenRound)?;
@@ -104,9 +105,9 @@ fn mem(alloc: Global, tokens: &mut Cursor<'_>) -> Result<Mem, Stop>
 }
 
 /// Memories with commas between them, up to a closing square bracket.
-#[tactic(auto, using(crate::proofs::Rows::listed_none, crate::proofs::Rows::behind_nothing))]
+#[tactic(auto, using(crate::proofs::Rows::listed_none, crate::proofs::Rows::after_nothing))]
 pub fn mems(alloc: Global, tokens: &mut Cursor<'_>, room: usize) -> Result<Seq<Mem>, Stop>
-    ensures { Reads (map mem_view) (spec.listed spec.mem mark.CloseSquare room tokens.old) result
+    ensures { Reads (map mem_view) (spec.list_of spec.mem mark.CloseSquare room tokens.old) result
         tokens.new }
 {
     let mut done = Seq::new(alloc);

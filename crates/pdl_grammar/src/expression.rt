@@ -64,8 +64,8 @@ fn choice(alloc: Global, c: Expr, a: Expr, b: Expr) -> Result<Expr, NoMemory>
 
 // What stands between round brackets, after the first.
 #[cycle(expr)]
-fn bracketed(alloc: Global, tokens: &mut Cursor<'_>, room: usize) -> Result<Expr, Stop>
-    ensures { Reads expr_view (spec.bracketed (spec.inside room).full tokens.old) result
+fn bracketed_expr(alloc: Global, tokens: &mut Cursor<'_>, room: usize) -> Result<Expr, Stop>
+    ensures { Reads expr_view (spec.bracketed_expr (spec.inside room).full tokens.old) result
         tokens.new }
 {
     let e = inside(alloc, tokens, room)?;
@@ -88,8 +88,9 @@ fn pair(alloc: Global, tokens: &mut Cursor<'_>, room: usize) -> Result<Pair, Sto
 
 // An expression and a number in brackets, after a function word.
 #[cycle(expr)]
-fn sized(alloc: Global, tokens: &mut Cursor<'_>, room: usize) -> Result<Sized, Stop>
-    ensures { Reads sized_view (spec.sized (spec.inside room).full tokens.old) result tokens.new }
+fn sized_expr(alloc: Global, tokens: &mut Cursor<'_>, room: usize) -> Result<Sized, Stop>
+    ensures { Reads sized_view (spec.sized_expr (spec.inside room).full tokens.old) result
+        tokens.new }
 {
     take(tokens, Mark::OpenRound)?;
     let e = inside(alloc, tokens, room)?;
@@ -138,7 +139,7 @@ fn operand(alloc: Global, tokens: &mut Cursor<'_>, room: usize) -> Result<Expr, 
         }
         Some(TokenKind::Mark(Mark::OpenRound)) => {
             tokens.skip();
-            bracketed(alloc, tokens, room)
+            bracketed_expr(alloc, tokens, room)
         }
         Some(TokenKind::Mark(Mark::Tilde)) => {
             tokens.skip();
@@ -157,12 +158,12 @@ fn operand(alloc: Global, tokens: &mut Cursor<'_>, room: usize) -> Result<Expr, 
         }
         Some(TokenKind::Mark(Mark::ZeroExtend)) => {
             tokens.skip();
-            let Sized { e, width } = sized(alloc, tokens, room)?;
+            let Sized { e, width } = sized_expr(alloc, tokens, room)?;
             Ok(Expr::ZeroExtend(Boxed::new(alloc, e)?, width))
         }
         Some(TokenKind::Mark(Mark::SignExtend)) => {
             tokens.skip();
-            let Sized { e, width } = sized(alloc, tokens, room)?;
+            let Sized { e, width } = sized_expr(alloc, tokens, room)?;
             Ok(Expr::SignExtend(Boxed::new(alloc, e)?, width))
         }
         _ => Err(Stop::Misplaced),
@@ -271,7 +272,7 @@ pub fn expr(alloc: Global, tokens: &mut Cursor<'_>, room: usize) -> Result<Expr,
 }
 
 /// Expressions with commas between them, up to a closing round bracket.
-#[tactic(auto, using(crate::proofs::Rows::listed_none, crate::proofs::Rows::behind_nothing))]
+#[tactic(auto, using(crate::proofs::Rows::listed_none, crate::proofs::Rows::after_nothing))]
 pub fn args(alloc: Global, tokens: &mut Cursor<'_>, room: usize) -> Result<Seq<Expr>, Stop>
     ensures { Reads (map expr_view) (spec.args room tokens.old) result tokens.new }
 {

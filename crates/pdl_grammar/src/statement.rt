@@ -27,7 +27,7 @@ pub fn across(first: Span, last: Span) -> Span
 }
 
 // A read of a memory, after `x =`.
-fn read(alloc: Global, tokens: &mut Cursor<'_>, x: Ident) -> Result<Stmt, Stop>
+fn memory_read(alloc: Global, tokens: &mut Cursor<'_>, x: Ident) -> Result<Stmt, Stop>
     ensures { Reads stmt_view (spec.read_of (ident_view x) tokens.old) result tokens.new }
 {
     let from = place(alloc, tokens)?;
@@ -68,8 +68,14 @@ fn guess(alloc: Global, tokens: &mut Cursor<'_>, room: usize, x: Ident) -> Resul
 }
 
 // A guess or a binding, after `x =`.
-fn computed(alloc: Global, tokens: &mut Cursor<'_>, room: usize, x: Ident) -> Result<Stmt, Stop>
-    ensures { Reads stmt_view (spec.computed room (ident_view x) tokens.old) result tokens.new }
+fn computed_stmt(
+    alloc: Global,
+    tokens: &mut Cursor<'_>,
+    room: usize,
+    x: Ident,
+) -> Result<Stmt, Stop>
+    ensures { Reads stmt_view (spec.computed_stmt room (ident_view x) tokens.old) result
+        tokens.new }
 {
     if tokens.is(Mark::SpecCall) {
         tokens.skip();
@@ -80,13 +86,19 @@ fn computed(alloc: Global, tokens: &mut Cursor<'_>, room: usize, x: Ident) -> Re
 }
 
 // What stands after `x =`.
-fn assigned(alloc: Global, tokens: &mut Cursor<'_>, room: usize, x: Ident) -> Result<Stmt, Stop>
-    ensures { Reads stmt_view (spec.assigned room (ident_view x) tokens.old) result tokens.new }
+fn assigned_stmt(
+    alloc: Global,
+    tokens: &mut Cursor<'_>,
+    room: usize,
+    x: Ident,
+) -> Result<Stmt, Stop>
+    ensures { Reads stmt_view (spec.assigned_stmt room (ident_view x) tokens.old) result
+        tokens.new }
 {
     if tokens.begins_place() {
-        read(alloc, tokens, x)
+        memory_read(alloc, tokens, x)
     } else {
-        computed(alloc, tokens, room, x)
+        computed_stmt(alloc, tokens, room, x)
     }
 }
 
@@ -121,14 +133,14 @@ fn write(alloc: Global, tokens: &mut Cursor<'_>, room: usize, mem: Ident) -> Res
 }
 
 // What stands after the name with which a statement begins.
-#[tactic(auto, unfolding(crate::specs::Reading::named))]
-fn named(alloc: Global, tokens: &mut Cursor<'_>, room: usize, x: Ident) -> Result<Stmt, Stop>
-    ensures { Reads stmt_view (spec.named room (ident_view x) tokens.old) result tokens.new }
+#[tactic(auto, unfolding(crate::specs::Reading::named_stmt))]
+fn named_stmt(alloc: Global, tokens: &mut Cursor<'_>, room: usize, x: Ident) -> Result<Stmt, Stop>
+    ensures { Reads stmt_view (spec.named_stmt room (ident_view x) tokens.old) result tokens.new }
 {
     match tokens.kind() {
         Some(TokenKind::Mark(Mark::Assign)) => {
             tokens.skip();
-            assigned(alloc, tokens, room, x)
+            assigned_stmt(alloc, tokens, room, x)
         }
         Some(TokenKind::Mark(Mark::Arrow)) => {
             tokens.skip();
@@ -143,9 +155,9 @@ fn named(alloc: Global, tokens: &mut Cursor<'_>, room: usize, x: Ident) -> Resul
 }
 
 // A location and what it is reserved for, up to the semicolon.
-#[tactic(auto, unfolding(crate::specs::Reading::reserved))]
-fn reserved(alloc: Global, tokens: &mut Cursor<'_>) -> Result<Reserved, Stop>
-    ensures { Reads reserved_view (spec.reserved tokens.old) result tokens.new }
+#[tactic(auto, unfolding(crate::specs::Reading::reserved_location))]
+fn reserved_location(alloc: Global, tokens: &mut Cursor<'_>) -> Result<Reserved, Stop>
+    ensures { Reads reserved_view (spec.reserved_location tokens.old) result tokens.new }
 {
     take(tokens, Mark::OpenRound)?;
     let at = place(alloc, tokens)?;
@@ -157,9 +169,9 @@ fn reserved(alloc: Global, tokens: &mut Cursor<'_>) -> Result<Reserved, Stop>
 }
 
 // A location up to the semicolon.
-#[tactic(auto, unfolding(crate::specs::Reading::held))]
-fn held(alloc: Global, tokens: &mut Cursor<'_>) -> Result<Held, Stop>
-    ensures { Reads held_view (spec.held tokens.old) result tokens.new }
+#[tactic(auto, unfolding(crate::specs::Reading::held_location))]
+fn held_location(alloc: Global, tokens: &mut Cursor<'_>) -> Result<Held, Stop>
+    ensures { Reads held_view (spec.held_location tokens.old) result tokens.new }
 {
     take(tokens, Mark::OpenRound)?;
     let at = place(alloc, tokens)?;
@@ -190,7 +202,7 @@ fn copy_of(at: &Location) -> Result<Location, NoMemory>
 fn reserve(alloc: Global, tokens: &mut Cursor<'_>, word: Span) -> Result<Item, Stop>
     ensures { Reads item_view (spec.reserve_of (span_view word) tokens.old) result tokens.new }
 {
-    let Reserved { at, kind, end } = reserved(alloc, tokens)?;
+    let Reserved { at, kind, end } = reserved_location(alloc, tokens)?;
     Ok(Item::One(Stmt::Reserve {
         span: across(word, end),
         at,
@@ -202,7 +214,7 @@ fn reserve(alloc: Global, tokens: &mut Cursor<'_>, word: Span) -> Result<Item, S
 fn acquire(alloc: Global, tokens: &mut Cursor<'_>, word: Span) -> Result<Item, Stop>
     ensures { Reads item_view (spec.acquire_of (span_view word) tokens.old) result tokens.new }
 {
-    let Reserved { at, kind, end } = reserved(alloc, tokens)?;
+    let Reserved { at, kind, end } = reserved_location(alloc, tokens)?;
     let span = across(word, end);
     let again = copy_of(&at)?;
     let first = Stmt::Reserve { span, at, kind };
@@ -213,7 +225,7 @@ fn acquire(alloc: Global, tokens: &mut Cursor<'_>, word: Span) -> Result<Item, S
 fn block(alloc: Global, tokens: &mut Cursor<'_>, word: Span) -> Result<Item, Stop>
     ensures { Reads item_view (spec.block_of (span_view word) tokens.old) result tokens.new }
 {
-    let Held { at, end } = held(alloc, tokens)?;
+    let Held { at, end } = held_location(alloc, tokens)?;
     Ok(Item::One(Stmt::Block {
         span: across(word, end),
         at,
@@ -224,7 +236,7 @@ fn block(alloc: Global, tokens: &mut Cursor<'_>, word: Span) -> Result<Item, Sto
 fn release(alloc: Global, tokens: &mut Cursor<'_>, word: Span) -> Result<Item, Stop>
     ensures { Reads item_view (spec.release_of (span_view word) tokens.old) result tokens.new }
 {
-    let Held { at, end } = held(alloc, tokens)?;
+    let Held { at, end } = held_location(alloc, tokens)?;
     Ok(Item::One(Stmt::Release {
         span: across(word, end),
         at,
@@ -327,7 +339,7 @@ pub fn plain(alloc: Global, tokens: &mut Cursor<'_>, room: usize) -> Result<Item
         Some(TokenKind::Name) => {
             let x = tokens.name(alloc)?;
             tokens.skip();
-            Ok(Item::One(named(alloc, tokens, room, x)?))
+            Ok(Item::One(named_stmt(alloc, tokens, room, x)?))
         }
         Some(TokenKind::Mark(Mark::Separator)) => {
             tokens.skip();

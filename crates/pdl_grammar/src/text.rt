@@ -17,10 +17,10 @@ use pdl_tree::{Literal, Pipe, Start};
 use std::alloc::Global;
 
 // Literals with commas between them, up to a closing round bracket.
-#[tactic(auto, using(crate::proofs::Rows::listed_none, crate::proofs::Rows::behind_nothing))]
+#[tactic(auto, using(crate::proofs::Rows::listed_none, crate::proofs::Rows::after_nothing))]
 fn literals(alloc: Global, tokens: &mut Cursor<'_>, room: usize) -> Result<Seq<Literal>, Stop>
     ensures { Reads (map literal_view)
-        (spec.listed spec.literal mark.CloseRound room tokens.old) result tokens.new }
+        (spec.list_of spec.literal mark.CloseRound room tokens.old) result tokens.new }
 {
     let mut done = Seq::new(alloc);
     for _turn in 0..room {

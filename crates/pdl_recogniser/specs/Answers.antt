@@ -13,9 +13,9 @@ IsRecognised bytes (Ok (Some line)) = IsOutOfPlace bytes line
 IsRecognised bytes (Err e) = Unit {0}
 
 -- what is expected once the next symbol took a token of the kind, none where it doesn't take it
-abbrev pub taken : Stack → TokenKind → Option Stack
-taken [] k = None
-taken (s ∷ below) k = above (act s k)
+abbrev pub stack_after : Stack → TokenKind → Option Stack
+stack_after [] k = None
+stack_after (s ∷ below) k = above (act s k)
   where
     above : Option Stack → Option Stack
     above None = None

@@ -186,7 +186,7 @@ fn operand(stack: &mut Stack, q: Closer, kind: TokenKind) -> Result<bool, NoMemo
 }
 
 // After `comb` or `delayed`.
-fn locked(stack: &mut Stack, kind: TokenKind) -> Result<bool, NoMemory>
+fn expect_lock(stack: &mut Stack, kind: TokenKind) -> Result<bool, NoMemory>
     ensures { Expects (spec.act_locked kind) result stack.old stack.new }
 {
     match kind {
@@ -207,8 +207,8 @@ fn locked(stack: &mut Stack, kind: TokenKind) -> Result<bool, NoMemory>
 }
 
 // A location in brackets and a semicolon, after the word of a statement, and what stands between the location and the closing bracket, the last of it first.
-fn held(stack: &mut Stack, between: &[Symbol]) -> Result<bool, NoMemory>
-    ensures { Expects (Some (spec.held (reverse (map symbol_view between.now)) ++
+fn expect_location(stack: &mut Stack, between: &[Symbol]) -> Result<bool, NoMemory>
+    ensures { Expects (Some (spec.held_stack (reverse (map symbol_view between.now)) ++
         (spec.items ∷ [])))
         result stack.old stack.new }
 {
@@ -235,10 +235,16 @@ fn locking(stack: &mut Stack, kind: TokenKind) -> Result<bool, NoMemory>
     ensures { Expects (spec.act_locking kind) result stack.old stack.new }
 {
     match kind {
-        TokenKind::Mark(Mark::Reserve) => held(stack, &[Symbol::Access, Symbol::Mark(Mark::Comma)]),
-        TokenKind::Mark(Mark::Acquire) => held(stack, &[Symbol::Access, Symbol::Mark(Mark::Comma)]),
-        TokenKind::Mark(Mark::Block) => held(stack, &[]),
-        TokenKind::Mark(Mark::Release) => held(stack, &[]),
+        TokenKind::Mark(Mark::Reserve) => expect_location(
+            stack,
+            &[Symbol::Access, Symbol::Mark(Mark::Comma)],
+        ),
+        TokenKind::Mark(Mark::Acquire) => expect_location(
+            stack,
+            &[Symbol::Access, Symbol::Mark(Mark::Comma)],
+        ),
+        TokenKind::Mark(Mark::Block) => expect_location(stack, &[]),
+        TokenKind::Mark(Mark::Release) => expect_location(stack, &[]),
         _ => Ok(false),
     }
 }
@@ -323,7 +329,7 @@ fn after_name(stack: &mut Stack, kind: TokenKind) -> Result<bool, NoMemory>
 }
 
 // After `x =`.
-fn assigned(stack: &mut Stack, kind: TokenKind) -> Result<bool, NoMemory>
+fn expect_value(stack: &mut Stack, kind: TokenKind) -> Result<bool, NoMemory>
     ensures { Expects (spec.act_assigned kind) result stack.old stack.new }
 {
     match kind {
@@ -409,7 +415,7 @@ fn is_lock_kind(kind: TokenKind) -> bool
 
 /// Whether the symbol takes a token of this kind; then the stack expects what stands in its place.
 #[tactic(auto, using(crate::proofs::Operators::word_taken))]
-pub fn takes(stack: &mut Stack, symbol: Symbol, kind: TokenKind) -> Result<bool, NoMemory>
+pub fn take_token(stack: &mut Stack, symbol: Symbol, kind: TokenKind) -> Result<bool, NoMemory>
     ensures { Expects (spec.act (symbol_view symbol) kind) result stack.old stack.new }
 {
     match symbol {
@@ -417,11 +423,11 @@ pub fn takes(stack: &mut Stack, symbol: Symbol, kind: TokenKind) -> Result<bool,
         Symbol::Slicing(q) => slicing(stack, q, kind),
         Symbol::Rest(q) => rest(stack, q, kind),
         Symbol::More(list) => more(stack, list, kind),
-        Symbol::Locked => locked(stack, kind),
+        Symbol::Locked => expect_lock(stack, kind),
         Symbol::Items => items(stack, kind),
         Symbol::ElseItems => else_items(stack, kind),
         Symbol::AfterName => after_name(stack, kind),
-        Symbol::Assigned => assigned(stack, kind),
+        Symbol::Assigned => expect_value(stack, kind),
         Symbol::AssignedName => assigned_name(stack, kind),
         Symbol::InSquare => in_square(stack, kind),
         Symbol::Mark(mark) => Ok(is_mark(mark, kind)),

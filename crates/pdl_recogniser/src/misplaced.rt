@@ -32,7 +32,7 @@ fn first_misplaced(alloc: Global, source: &[u8]) -> Result<Option<u32>, NoMemory
 
 /// The line of the first token out of place of a source text of at most 268,435,456 bytes, the line on which a text ends that ends too early, or none for a text of the grammar. It takes memory for its stack alone.
 #[tactic(auto, using(crate::proofs::Running::told_text, crate::proofs::Running::told_place))]
-pub fn misplaced(alloc: Global, source: &[u8]) -> Result<Option<u32>, NoMemory>
+pub fn misplaced_line(alloc: Global, source: &[u8]) -> Result<Option<u32>, NoMemory>
     requires { length source.now ≤ 268435456 }
     // The text of a pipe has no token out of place.
     ensures text { (p : tree.Pipe) → IsText source.now p → IfOk result (λ line. line ≡ None) }

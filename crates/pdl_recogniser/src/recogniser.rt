@@ -1,9 +1,9 @@
 // The automaton that takes a text, a token at a time.
 ghost use Rattle.std.specs.Prelude.{◌≡◌, ◌↔◌, [], IfOk, IsTrue};
 ghost use Rattle.pdl_grammar.specs.Automaton as spec;
-ghost use Rattle.pdl_recogniser.specs.Answers.{StepsTo, taken};
+ghost use Rattle.pdl_recogniser.specs.Answers.{StepsTo, stack_after};
 
-use crate::expecting::{first_of, takes};
+use crate::expecting::{first_of, take_token};
 use crate::stack::Stack;
 use crate::symbol::{Listing, Symbol};
 use pdl_kit::NoMemory;
@@ -62,10 +62,10 @@ impl Recogniser {
     /// Takes a token of this kind if it is in place, and says whether it is.
     #[tactic(auto, using(crate::proofs::Running::step_so, crate::proofs::Running::step_none))]
     pub fn take(&mut self, kind: TokenKind) -> Result<bool, NoMemory>
-        ensures { StepsTo (taken self.old kind) result self.new }
+        ensures { StepsTo (stack_after self.old kind) result self.new }
     {
         match self.stack.pop() {
-            Some(symbol) => takes(&mut self.stack, symbol, kind),
+            Some(symbol) => take_token(&mut self.stack, symbol, kind),
             None => Ok(false),
         }
     }

@@ -1,7 +1,7 @@
 // What is still expected of a text.
 use pdl_tokens::Mark;
 
-/// What stands behind an expression: a semicolon, a round bracket, a comma, a colon, or more arguments and a round bracket.
+/// What stands after an expression: a semicolon, a round bracket, a comma, a colon, or more arguments and a round bracket.
 #[derive(Clone, Copy)]
 pub enum Closer {
     Semicolon,

@@ -13,7 +13,7 @@ use Rattle.pdl_grammar.specs.Text.{IsText, IsOutOfPlace}
 use Rattle.pdl_grammar.proofs.Places.{one_tree, apart, one_place}
 use Rattle.pdl_syntax.specs.declared.error.ParseError.{ParseError}
 use Rattle.pdl_syntax.specs.declared.error.ParseError.TheVariants as error
-use Rattle.pdl_syntax.specs.Text.{refusal, broken_limit, Answer, Tree, Misplaced, Over, judged, Gives, IsRefusal, IsRefused, IsParsed}
+use Rattle.pdl_syntax.specs.Text.{refusal, broken_limit, Answer, Tree, Misplaced, Over, parse_answer, Gives, IsRefusal, IsRefused, IsParsed}
 
 pub too_long : (bytes : List ℕ) (p : Pipe) → 1048576 < length bytes → IsText bytes p → IsRefusal bytes (error.Limit Z1 1)
 too_long bytes p h t = (p, t, grind (arith, nat_tests))
@@ -38,12 +38,12 @@ pub parsed_within : (bytes : List ℕ) (x : Result r_pipe.Pipe ParseError) → I
 parsed_within bytes (Ok p) h = h.1
 parsed_within bytes (Err e) h = tt
 
-pub parsed_only : (bytes : List ℕ) (x : Result r_pipe.Pipe ParseError) (p : Pipe) → IsParsed bytes x → IsText bytes p → Gives (judged bytes p) x
+pub parsed_only : (bytes : List ℕ) (x : Result r_pipe.Pipe ParseError) (p : Pipe) → IsParsed bytes x → IsText bytes p → Gives (parse_answer bytes p) x
 parsed_only bytes (Ok q) p h k = let i : broken_limit bytes p ≡ None = subst (λ x. broken_limit bytes x ≡ None) (one_tree bytes (pipe_view q) p h.0 k) h.1 in
     rw i (one_tree bytes (pipe_view q) p h.0 k)
 parsed_only bytes (Err (error.Grammar line)) p h k = absurd (apart bytes p line k h)
 parsed_only bytes (Err (error.Limit rule line)) p h k = let i : broken_limit bytes p ≡ Some (rule, line) = subst (λ x. broken_limit bytes x ≡ Some (rule, line)) (one_tree bytes h.0 p h.1 k) h.2 in rw i refl
-parsed_only bytes (Err error.NoMemory) p h k = no_memory (judged bytes p)
+parsed_only bytes (Err error.NoMemory) p h k = no_memory (parse_answer bytes p)
 
 pub parsed_exact : (bytes : List ℕ) (x : Result r_pipe.Pipe ParseError) (line : ℕ) → IsParsed bytes x → IsOutOfPlace bytes line → Gives (Misplaced line) x
 parsed_exact bytes (Ok q) line h k = absurd (apart bytes (pipe_view q) line h.0 k)

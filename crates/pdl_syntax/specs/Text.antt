@@ -27,8 +27,8 @@ pub data Answer : Type 0 where
   Over : (limit : Rule × ℕ) → Answer
 
 -- the answer to the text of a pipe
-abbrev pub judged : List ℕ → Pipe → Answer
-judged bytes p = by_limit (broken_limit bytes p)
+abbrev pub parse_answer : List ℕ → Pipe → Answer
+parse_answer bytes p = by_limit (broken_limit bytes p)
   where
     by_limit : Option (Rule × ℕ) → Answer
     by_limit None = Tree p

@@ -2,14 +2,14 @@
 ghost use Rattle.std.specs.Prelude.{◌≡◌, ◌≤◌, ◌<◌, ℕ, None, Err, IfOk, length};
 ghost use Rattle.pdl_semantics.specs.Tree as tree;
 ghost use Rattle.pdl_grammar.specs.Text.{IsText, IsOutOfPlace};
-ghost use Rattle.pdl_syntax.specs.Text.{broken_limit, judged, Misplaced, Gives};
+ghost use Rattle.pdl_syntax.specs.Text.{broken_limit, parse_answer, Misplaced, Gives};
 ghost use Rattle.pdl_syntax.specs.Text.{IsRefusal, IsRefused, IsParsed};
 ghost use Rattle.pdl_tree.specs.View.{pipe_view};
 
 use crate::error::ParseError;
 use pdl_grammar::read::read;
 use pdl_kit::Rule;
-use pdl_recogniser::misplaced::misplaced;
+use pdl_recogniser::misplaced::misplaced_line;
 use pdl_tree::Pipe;
 use std::alloc::Global;
 
@@ -23,7 +23,7 @@ fn refuse(alloc: Global, source: &[u8]) -> ParseError
     requires least { 1048576 < length source.now }
     ensures { IsRefusal source.now result }
 {
-    match misplaced(alloc, source) {
+    match misplaced_line(alloc, source) {
         Ok(Some(line)) => ParseError::Grammar { line },
         Ok(None) => ParseError::Limit {
             rule: Rule::Z1,
@@ -53,7 +53,8 @@ pub fn parse(alloc: Global, source: &[u8]) -> Result<Pipe, ParseError>
     ensures found { IfOk result (λ p. IsText source.now (pipe_view p)) }
     ensures within { IfOk result (λ p. broken_limit source.now (pipe_view p) ≡ None) }
     // The text of a pipe gives that pipe, or the lowest limit that it breaks, unless memory runs out.
-    ensures only { (p : tree.Pipe) → IsText source.now p → Gives (judged source.now p) result }
+    ensures only { (p : tree.Pipe) → IsText source.now p →
+        Gives (parse_answer source.now p) result }
     // Any other text is refused at the first token out of place, unless memory runs out.
     ensures exact { (line : ℕ) → IsOutOfPlace source.now line → Gives (Misplaced line) result }
     // A refusal tells why.

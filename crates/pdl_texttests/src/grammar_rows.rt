@@ -285,18 +285,18 @@ fn repeated(
     before: &[u8],
     piece: &[u8],
     times: usize,
-    behind: &[u8],
+    after: &[u8],
 ) -> Result<Vec<u8>, AllocError> {
     let mut items = Vec::from_slice(alloc, before)?;
     add_times(&mut items, piece, times)?;
-    items.extend_from_slice(behind)?;
+    items.extend_from_slice(after)?;
     with_items(alloc, &items)
 }
 
 #[test]
 fn counts_256_operators_a_statement(rt: HostRuntime) -> Result<(), Fail> {
     let alloc = rt.alloc();
-    for (before, piece, times, behind, line) in [
+    for (before, piece, times, after, line) in [
         (
             b"x = n".as_slice(),
             b"+n".as_slice(),
@@ -337,7 +337,7 @@ fn counts_256_operators_a_statement(rt: HostRuntime) -> Result<(), Fail> {
             254,
         ),
     ] {
-        let text = repeated(alloc, before, piece, times, behind)?;
+        let text = repeated(alloc, before, piece, times, after)?;
         assert_eq!(rt; line_of(alloc, &text), line, "{times} times, to {line}");
     }
     Ok(())

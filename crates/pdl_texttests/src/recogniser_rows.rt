@@ -1,5 +1,5 @@
 // What the recogniser answers.
-use pdl_recogniser::misplaced::misplaced;
+use pdl_recogniser::misplaced::misplaced_line;
 use std::alloc::{AllocError, Global};
 use std::test::Fail;
 
@@ -8,7 +8,7 @@ fn line_of(alloc: Global, source: &[u8]) -> u32 {
     if source.len() > 100_000 {
         return u32::MAX;
     }
-    match misplaced(alloc, source) {
+    match misplaced_line(alloc, source) {
         Ok(Some(line)) => line,
         Ok(None) => 0,
         Err(_) => u32::MAX,

@@ -11,15 +11,15 @@ const COUNTER: &[u8] =
     b"pipe p(n: uint<4>)[m: uint<8>[4] comb lock queue(1)] { a = n[1:0]; v = zext(n, 8); reserve(m[a], W); block(m[a]); m[a] <- v; release(m[a]); call(n + 4'd1); } start p(4'd0);";
 
 // The counter and a comment after it, so many bytes in all, and then these.
-fn long_text(alloc: Global, size: usize, behind: &[u8]) -> Result<Vec<u8>, AllocError>
+fn long_text(alloc: Global, size: usize, after: &[u8]) -> Result<Vec<u8>, AllocError>
     requires size { size ≤ 100000000 }
-    requires behind { length behind.now ≤ 1000 }
+    requires after { length after.now ≤ 1000 }
     ensures { IfOk result (λ text. length text.items ≤ 268435456) }
 {
     let mut text = Vec::from_slice(alloc, COUNTER)?;
     text.extend_from_slice(b"//")?;
     text.resize(size, b'a')?;
-    text.extend_from_slice(behind)?;
+    text.extend_from_slice(after)?;
     Ok(text)
 }
 

@@ -1,7 +1,7 @@
 use Rattle.std.proofs.Common.{rules, ◌≡◌, ◌+◌, ◌-◌, ◌∙◌, ◌++◌, map, ap, sym, arith, Ok, false}
 use Rattle.pdl_tokens.specs.declared.token.Mark.TheVariants as mark
 use Rattle.pdl_tokens.specs.Cursor.{first_kind}
-use Rattle.pdl_grammar.specs.Read.{item_view, behind_stmts}
+use Rattle.pdl_grammar.specs.Read.{item_view, after_stmts}
 use Rattle.pdl_cursor.specs.Looks.{is_mark}
 use Rattle.pdl_grammar.specs.Reading as spec
 use Rattle.pdl_tree.specs.View.{stmt_view}
@@ -16,6 +16,6 @@ items-loop-turn-preserved t c =
     let s = item_view c.in_ok-next.next in
     let other : is_mark mark.CloseBrace (first_kind c.loop-turn.tokens) ≡ false = search rules in
     let read : spec.item room (spec.items room m) c.loop-turn.tokens ≡ Ok (s, c.item.new.tokens) = search rules in
-    ap (λ xs. behind_stmts xs (spec.items room (c.args.most - (c.loop-turn.turn + 1)) c.item.new.tokens)) c.in_ok-add.ensures
-    ∙ (ap (λ k. behind_stmts (ss ++ s) (spec.items room k c.item.new.tokens)) (omega arith)
+    ap (λ xs. after_stmts xs (spec.items room (c.args.most - (c.loop-turn.turn + 1)) c.item.new.tokens)) c.in_ok-add.ensures
+    ∙ (ap (λ k. after_stmts (ss ++ s) (spec.items room k c.item.new.tokens)) (omega arith)
     ∙ (sym (items_item room (c.args.most - c.loop-turn.turn) m ss s c.loop-turn.tokens c.item.new.tokens (omega arith) other read) ∙ c.loop-turn.invariant))

@@ -1,5 +1,5 @@
 use Rattle.std.proofs.Common.{◌≡◌, ◌+◌, ◌*◌, ◌-◌, map}
-use Rattle.pdl_grammar.specs.Read.{behind_stmts}
+use Rattle.pdl_grammar.specs.Read.{after_stmts}
 use Rattle.pdl_grammar.specs.Reading as spec
 use Rattle.pdl_tree.specs.View.{stmt_view}
 use Rattle.pdl_grammar.proofs.branch.+items.Given as goal
@@ -21,4 +21,4 @@ decreases-items l = 8 * l.most
 
 -- what is read and what is to come are the whole
 abbrev pub invariant-items-loop-turn : goal.invariant-items-loop-turn
-invariant-items-loop-turn l = behind_stmts (map stmt_view l.done) (spec.items l.room (l.most - l.turn) l.tokens) ≡ spec.items l.room l.most l.fn.tokens
+invariant-items-loop-turn l = after_stmts (map stmt_view l.done) (spec.items l.room (l.most - l.turn) l.tokens) ≡ spec.items l.room l.most l.fn.tokens

@@ -9,7 +9,7 @@ use Rattle.pdl_grammar.proofs.declaration.mems.Goals as goal
 
 pub returns-in_err-next : goal.returns-in_err-next
 returns-in_err-next c =
-    let fails : c.in_err-next.field-0.0 ≢ no_memory → spec.listed spec.mem mark.CloseSquare c.args.room c.args.tokens.now ≡ Err c.mem.new.tokens =
+    let fails : c.in_err-next.field-0.0 ≢ no_memory → spec.list_of spec.mem mark.CloseSquare c.args.room c.args.tokens.now ≡ Err c.mem.new.tokens =
     λ h. sym c.loop-turn.invariant ∙ value_fails mem_view spec.mem mark.CloseSquare (c.args.room - c.loop-turn._turn) c.loop-turn.done c.loop-turn.tokens c.mem.new.tokens (omega arith) (c.in_err-next.ensures h) in
     search (rules, fails)
 

@@ -9,7 +9,7 @@ use Rattle.pdl_grammar.proofs.declaration.params.Goals as goal
 
 pub returns-in_err-next : goal.returns-in_err-next
 returns-in_err-next c =
-    let fails : c.in_err-next.field-0.0 ≢ no_memory → spec.listed spec.param mark.CloseRound c.args.room c.args.tokens.now ≡ Err c.param.new.tokens =
+    let fails : c.in_err-next.field-0.0 ≢ no_memory → spec.list_of spec.param mark.CloseRound c.args.room c.args.tokens.now ≡ Err c.param.new.tokens =
     λ h. sym c.loop-turn.invariant ∙ value_fails param_view spec.param mark.CloseRound (c.args.room - c.loop-turn._turn) c.loop-turn.done c.loop-turn.tokens c.param.new.tokens (omega arith) (c.in_err-next.ensures h) in
     search (rules, fails)
 

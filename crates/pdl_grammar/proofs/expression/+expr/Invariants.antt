@@ -6,14 +6,14 @@ use Rattle.pdl_grammar.proofs.expression.+expr.Given as goal
 abbrev pub decreases-arms : goal.decreases-arms
 decreases-arms l = 16 * l.room + 2
 
-abbrev pub decreases-bracketed : goal.decreases-bracketed
-decreases-bracketed l = 16 * l.room + 2
+abbrev pub decreases-bracketed_expr : goal.decreases-bracketed_expr
+decreases-bracketed_expr l = 16 * l.room + 2
 
 abbrev pub decreases-pair : goal.decreases-pair
 decreases-pair l = 16 * l.room + 2
 
-abbrev pub decreases-sized : goal.decreases-sized
-decreases-sized l = 16 * l.room + 2
+abbrev pub decreases-sized_expr : goal.decreases-sized_expr
+decreases-sized_expr l = 16 * l.room + 2
 
 abbrev pub decreases-inside : goal.decreases-inside
 decreases-inside l = 16 * l.room + 1

@@ -1,6 +1,6 @@
 use Rattle.std.proofs.Common.{rules, ◌≡◌, ◌+◌, length, Ok, refl}
 use Rattle.pdl_cursor.specs.Limits.{at_start}
-use Rattle.pdl_cursor.specs.Marked.{marked}
+use Rattle.pdl_cursor.specs.Marked.{marked_row}
 use Rattle.pdl_grammar.specs.Reading.{parse}
 use Rattle.pdl_tokens.specs.Tokens as lexed
 use Rattle.pdl_tree.specs.View.{pipe_view}
@@ -9,5 +9,5 @@ use Rattle.pdl_grammar.proofs.read.read_text.Goals as goal
 
 pub returns-in-Ok : goal.returns-in-Ok
 returns-in-Ok c =
-    let e : parse (length c.args.source.now + 1) (marked at_start (lexed.tokens c.args.source.now)) ≡ Ok (pipe_view c.in-Ok.pipe) = search rules in
+    let e : parse (length c.args.source.now + 1) (marked_row at_start (lexed.tokens c.args.source.now)) ≡ Ok (pipe_view c.in-Ok.pipe) = search rules in
     read_whole c.args.source.now (length c.args.source.now + 1) (pipe_view c.in-Ok.pipe) refl e

@@ -1,5 +1,6 @@
-use crate::check::check;
-use crate::rows::{GATED, LOCKS, NAMES, RESERVATIONS, STAGED, STAGES, TWO_RULES, WHOLE, WIDTHS};
+// Each rule of sources, and what the check lends of those that it accepts.
+use crate::sources::{GATED, LOCKS, NAMES, RESERVATIONS, STAGED, STAGES, TWO_RULES, WHOLE, WIDTHS};
+use pdl_check::check::check;
 use pdl_kit::{Name, Refusal, Rule};
 use std::alloc::{AllocError, Global};
 use std::test::Fail;

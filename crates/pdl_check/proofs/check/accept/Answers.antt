@@ -23,7 +23,7 @@ use Rattle.pdl_formtypes.proofs.Same.{forms_pass}
 use Rattle.pdl_stagegraph.specs.Graph.{graph_of}
 use Rattle.pdl_rules.specs.Places.{places, guards}
 use Rattle.pdl_check.proofs.Parts.{kept_parts}
-use Rattle.pdl_check.proofs.check.accepted.Goals as goal
+use Rattle.pdl_check.proofs.check.accept.Goals as goal
 
 pub infos_of-requires : goal.infos_of-requires
 infos_of-requires c =

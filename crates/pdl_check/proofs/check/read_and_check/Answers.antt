@@ -2,7 +2,7 @@ use Rattle.pdl_tree.specs.View.{pipe_view}
 use Rattle.pdl_sources.proofs.Texts.{source_of, named_of}
 use Rattle.pdl_check.proofs.Passed.{passed}
 use Rattle.pdl_check.proofs.Judged.{judged_checked}
-use Rattle.pdl_check.proofs.check.checked.Goals as goal
+use Rattle.pdl_check.proofs.check.read_and_check.Goals as goal
 
 pub judge-requires : goal.judge-requires
 judge-requires c =

@@ -1,5 +1,5 @@
 // Sources at the limits of counts and of length.
-use crate::check::check;
+use pdl_check::check::check;
 use pdl_kit::{Refusal, Rule};
 use std::alloc::{AllocError, Global};
 use std::test::Fail;
