@@ -2,12 +2,12 @@
 use Rattle.std.proofs.Common.{◌≡◌, ◌≢◌, refl, sym, ap, ap₂, ◌∙◌, ℕ, zero, suc, ◌+◌, ◌<◌, Bool, true, false, ◌&&◌, ◌||◌, not, List, [], ◌∷◌, ◌++◌, length, Option, Some, None, is_none, ◌==◌, cond, if◌then◌else◌, arith, eq-eqb, slice_index, slice_index_or, slice_set, zero-add, add-suc, suc-add}
 use Rattle.std.proofs.lemmas.List.{set_comm}
 use Rattle.std.proofs.lemmas.Bool.{eqb-true, ne_eqb}
-use Rattle.pdl_semantics.specs.Flat.{Arrays, Op, DelayedRead, Verify, Stmt, Pipe, list_all, values_of, taken, word_at}
+use Rattle.pdl_semantics.specs.Flat.{Arrays, Op, DelayedRead, Verify, Stmt, Pipe, list_all, values_of, all_hold, word_at}
 use Rattle.pdl_semantics.specs.Stages.{in_stage}
-use Rattle.pdl_semantics.specs.Machine.{Ask, answers, same_args}
+use Rattle.pdl_semantics.specs.Machine.{Ask, is_answered, same_args}
 use Rattle.pdl_semantics.specs.Cycle.{awaited_of}
 use Rattle.pdl_semantics.specs.Moves.{is_empty}
-use Rattle.pdl_derived.specs.Derived.{Work, Around, Thread, State, Act, does, do_all, around, act, acts, asked_at, word_of, still, with_answers, awaits_mem, port_free, asks_of, find_ask, next_ask, next_asks}
+use Rattle.pdl_derived.specs.Derived.{Work, Around, Thread, State, Act, work_after, do_all, around, act, acts, asked_at, word_of, still, with_answers, awaits_mem, port_free, asks_of, find_ask, next_ask, next_asks}
 use Rattle.pdl_derived.proofs.Writes.{and_left, and_right}
 use Rattle.pdl_derived.proofs.Stages.{step, was_ready}
 
@@ -19,11 +19,11 @@ caught arrays (q ∷ qs) env = caught arrays qs (slice_set env q.var (word_at ar
 -- those that this cycle doesn't answer
 abbrev pub still_asks : Pipe → List Bool → List Ask → List Ask
 still_asks p bits [] = []
-still_asks p bits (q ∷ qs) = if answers p bits q.mem then still_asks p bits qs else q ∷ still_asks p bits qs
+still_asks p bits (q ∷ qs) = if is_answered p bits q.mem then still_asks p bits qs else q ∷ still_asks p bits qs
 
 pub still_awaited : (p : Pipe) (bits : List Bool) (qs : List Ask) → still p bits (awaited_of qs) ≡ awaited_of (still_asks p bits qs)
 still_awaited p bits [] = refl
-still_awaited p bits (q ∷ qs) = at (answers p bits q.mem) (still_awaited p bits qs)
+still_awaited p bits (q ∷ qs) = at (is_answered p bits q.mem) (still_awaited p bits qs)
   where
     at : (b : Bool) → still p bits (awaited_of qs) ≡ awaited_of (still_asks p bits qs) → cond b (still p bits (awaited_of qs)) (record { mem = q.mem; var = q.var } ∷ still p bits (awaited_of qs)) ≡ awaited_of (cond b (still_asks p bits qs) (q ∷ still_asks p bits qs))
     at true h = h
@@ -44,7 +44,7 @@ Apart (q ∷ qs) = Avoids q qs × Apart qs
 
 avoids_still : (p : Pipe) (bits : List Bool) (q : Ask) (rs : List Ask) → Avoids q rs → Avoids q (still_asks p bits rs)
 avoids_still p bits q [] h = tt
-avoids_still p bits q (r ∷ rs) h = at (answers p bits r.mem) (avoids_still p bits q rs h.2)
+avoids_still p bits q (r ∷ rs) h = at (is_answered p bits r.mem) (avoids_still p bits q rs h.2)
   where
     at : (b : Bool) → Avoids q (still_asks p bits rs) → Avoids q (cond b (still_asks p bits rs) (r ∷ still_asks p bits rs))
     at true k = k
@@ -52,7 +52,7 @@ avoids_still p bits q (r ∷ rs) h = at (answers p bits r.mem) (avoids_still p b
 
 pub apart_still : (p : Pipe) (bits : List Bool) (qs : List Ask) → Apart qs → Apart (still_asks p bits qs)
 apart_still p bits [] h = tt
-apart_still p bits (q ∷ qs) h = at (answers p bits q.mem) (apart_still p bits qs h.1)
+apart_still p bits (q ∷ qs) h = at (is_answered p bits q.mem) (apart_still p bits qs h.1)
   where
     at : (b : Bool) → Apart (still_asks p bits qs) → Apart (cond b (still_asks p bits qs) (q ∷ still_asks p bits qs))
     at true k = k
@@ -65,7 +65,7 @@ AllAsks P (q ∷ qs) = P q × AllAsks P qs
 
 pub all_still : (P : Ask → Type 0) (p : Pipe) (bits : List Bool) (qs : List Ask) → AllAsks P qs → AllAsks P (still_asks p bits qs)
 all_still P p bits [] h = tt
-all_still P p bits (q ∷ qs) h = at (answers p bits q.mem) (all_still P p bits qs h.1)
+all_still P p bits (q ∷ qs) h = at (is_answered p bits q.mem) (all_still P p bits qs h.1)
   where
     at : (b : Bool) → AllAsks P (still_asks p bits qs) → AllAsks P (cond b (still_asks p bits qs) (q ∷ still_asks p bits qs))
     at true k = k
@@ -104,8 +104,8 @@ caught_set arrays x v (q ∷ qs) env h =
 answers_set : (p : Pipe) (st : State) (bits : List Bool) (q : Ask) (w : ℕ) (rs : List Ask) (env : List ℕ) → Avoids q rs → with_answers p st bits (awaited_of rs) (slice_set env q.var w) ≡ slice_set (with_answers p st bits (awaited_of rs) env) q.var w
 answers_set p st bits q w [] env h = refl
 answers_set p st bits q w (r ∷ rs) env h =
-    ap (with_answers p st bits (awaited_of rs)) (at (answers p bits r.mem))
-    ∙ answers_set p st bits q w rs (if answers p bits r.mem then slice_set env r.var (word_of st.arrays r.mem (asked_at st r.mem)) else env) h.2
+    ap (with_answers p st bits (awaited_of rs)) (at (is_answered p bits r.mem))
+    ∙ answers_set p st bits q w rs (if is_answered p bits r.mem then slice_set env r.var (word_of st.arrays r.mem (asked_at st r.mem)) else env) h.2
   where
     at : (b : Bool) → cond b (slice_set (slice_set env q.var w) r.var (word_of st.arrays r.mem (asked_at st r.mem))) (slice_set env q.var w) ≡ slice_set (cond b (slice_set env r.var (word_of st.arrays r.mem (asked_at st r.mem))) env) q.var w
     at true = set_comm env q.var r.var w (word_of st.arrays r.mem (asked_at st r.mem)) h.0
@@ -120,7 +120,7 @@ pub answers_caught : (p : Pipe) (st : State) (bits : List Bool) (arrays : Arrays
     → caught arrays (still_asks p bits qs) (with_answers p st bits (awaited_of qs) env) ≡ caught arrays qs env
 answers_caught p st bits arrays [] env a h = refl
 answers_caught p st bits arrays (q ∷ qs) env a h =
-    at (answers p bits q.mem)
+    at (is_answered p bits q.mem)
     (answers_caught p st bits arrays qs (slice_set env q.var (word_of st.arrays q.mem (asked_at st q.mem))) a.1 h.1)
     (answers_caught p st bits arrays qs (slice_set env q.var (word_at arrays q.mem q.address)) a.1 h.1)
   where
@@ -136,12 +136,12 @@ answers_caught p st bits arrays (q ∷ qs) env a h =
 
 -- REQUESTS AFTER A CYCLE
 
-pub request_at : (p : Pipe) (bits : List Bool) (qs : List Ask) (k : ℕ) (olds : List (Option ℕ)) (j : ℕ) → j < length olds → slice_index_or (next_asks p bits qs k olds) j None ≡ next_ask (find_ask qs (k + j)) (answers p bits (k + j)) (slice_index_or olds j None)
+pub request_at : (p : Pipe) (bits : List Bool) (qs : List Ask) (k : ℕ) (olds : List (Option ℕ)) (j : ℕ) → j < length olds → slice_index_or (next_asks p bits qs k olds) j None ≡ next_ask (find_ask qs (k + j)) (is_answered p bits (k + j)) (slice_index_or olds j None)
 request_at p bits qs k [] j h = absurd (omega arith)
-request_at p bits qs k (o ∷ olds) zero h = ap (λ n. next_ask (find_ask qs n) (answers p bits n) o) (let e : k ≡ k + 0 = omega arith in e)
+request_at p bits qs k (o ∷ olds) zero h = ap (λ n. next_ask (find_ask qs n) (is_answered p bits n) o) (let e : k ≡ k + 0 = omega arith in e)
 request_at p bits qs k (o ∷ olds) (suc j) h =
     request_at p bits qs (suc k) olds j (omega arith)
-    ∙ ap (λ n. next_ask (find_ask qs n) (answers p bits n) (slice_index_or olds j None)) (suc-add k j ∙ sym (add-suc k j))
+    ∙ ap (λ n. next_ask (find_ask qs n) (is_answered p bits n) (slice_index_or olds j None)) (suc-add k j ∙ sym (add-suc k j))
 
 pub requests_length : (p : Pipe) (bits : List Bool) (qs : List Ask) (k : ℕ) (olds : List (Option ℕ)) → length (next_asks p bits qs k olds) ≡ length olds
 requests_length p bits qs k [] = refl
@@ -160,24 +160,24 @@ abbrev pub Out : List (Option ℕ) → Ask → Type 0
 Out asked q = slice_index_or asked q.mem None ≡ Some q.address
 
 -- one that isn't answered stays where nobody asks anew
-pub stays_out : (p : Pipe) (bits : List Bool) (all : List Ask) (olds : List (Option ℕ)) (q : Ask) → Out olds q → answers p bits q.mem ≡ false → find_ask all q.mem ≡ None → Out (next_asks p bits all 0 olds) q
+pub stays_out : (p : Pipe) (bits : List Bool) (all : List Ask) (olds : List (Option ℕ)) (q : Ask) → Out olds q → is_answered p bits q.mem ≡ false → find_ask all q.mem ≡ None → Out (next_asks p bits all 0 olds) q
 stays_out p bits all olds q h e f =
     request_at p bits all 0 olds q.mem (there olds q.mem q.address h)
-    ∙ ap₂ (λ a b. next_ask a b (slice_index_or olds q.mem None)) (ap (find_ask all) (zero-add q.mem) ∙ f) (ap (answers p bits) (zero-add q.mem) ∙ e) ∙ h
+    ∙ ap₂ (λ a b. next_ask a b (slice_index_or olds q.mem None)) (ap (find_ask all) (zero-add q.mem) ∙ f) (ap (is_answered p bits) (zero-add q.mem) ∙ e) ∙ h
 
 -- and a new one is outstanding
 pub new_out : (p : Pipe) (bits : List Bool) (all : List Ask) (olds : List (Option ℕ)) (q : Ask) → q.mem < length olds → find_ask all q.mem ≡ Some q.address → Out (next_asks p bits all 0 olds) q
 new_out p bits all olds q low f =
     request_at p bits all 0 olds q.mem low
-    ∙ ap (λ a. next_ask a (answers p bits (0 + q.mem)) (slice_index_or olds q.mem None)) (ap (find_ask all) (zero-add q.mem) ∙ f)
+    ∙ ap (λ a. next_ask a (is_answered p bits (0 + q.mem)) (slice_index_or olds q.mem None)) (ap (find_ask all) (zero-add q.mem) ∙ f)
 
 -- those that a cycle doesn't answer
-pub all_out : (p : Pipe) (bits : List Bool) (all : List Ask) (olds : List (Option ℕ)) (qs : List Ask) → AllAsks (Out olds) qs → AllAsks (λ q. answers p bits q.mem ≡ false → find_ask all q.mem ≡ None) qs
+pub all_out : (p : Pipe) (bits : List Bool) (all : List Ask) (olds : List (Option ℕ)) (qs : List Ask) → AllAsks (Out olds) qs → AllAsks (λ q. is_answered p bits q.mem ≡ false → find_ask all q.mem ≡ None) qs
     → AllAsks (Out (next_asks p bits all 0 olds)) (still_asks p bits qs)
 all_out p bits all olds [] h f = tt
-all_out p bits all olds (q ∷ qs) h f = at (answers p bits q.mem) refl (all_out p bits all olds qs h.1 f.1)
+all_out p bits all olds (q ∷ qs) h f = at (is_answered p bits q.mem) refl (all_out p bits all olds qs h.1 f.1)
   where
-    at : (b : Bool) → answers p bits q.mem ≡ b → AllAsks (Out (next_asks p bits all 0 olds)) (still_asks p bits qs) → AllAsks (Out (next_asks p bits all 0 olds)) (cond b (still_asks p bits qs) (q ∷ still_asks p bits qs))
+    at : (b : Bool) → is_answered p bits q.mem ≡ b → AllAsks (Out (next_asks p bits all 0 olds)) (still_asks p bits qs) → AllAsks (Out (next_asks p bits all 0 olds)) (cond b (still_asks p bits qs) (q ∷ still_asks p bits qs))
     at true e k = k
     at false e k = (stays_out p bits all olds q h.0 e (f.0 e), k)
 
@@ -208,7 +208,7 @@ found (q ∷ qs) a = (
     later (r ∷ rs) all h f = (ap (λ b. cond b (Some q.address) (find_ask all r.mem)) (ne_eqb q.mem r.mem h.1) ∙ f.0, later rs all h.2 f.1)
 
 -- who is ready asks only where the port is free
-unasked_op : (o : Around) (op : Op) (w : Work) (m : ℕ) → o.free m ≡ false → (does o op w).ready ≡ true → find_ask (does o op w).asks m ≡ find_ask w.asks m
+unasked_op : (o : Around) (op : Op) (w : Work) (m : ℕ) → o.free m ≡ false → (work_after o op w).ready ≡ true → find_ask (work_after o op w).asks m ≡ find_ask w.asks m
 unasked_op o (DelayedRead x n a) w m h r = at (n == m) refl
   where
     no_more : (f : Option ℕ) → or_ask f None ≡ f
@@ -233,15 +233,15 @@ unasked_op o _ w m h r = refl
 
 pub unasked : (o : Around) (xs : List Stmt) (w : Work) (m : ℕ) → o.free m ≡ false → (do_all o xs w).ready ≡ true → find_ask (do_all o xs w).asks m ≡ find_ask w.asks m
 unasked o [] w m h r = refl
-unasked o (x ∷ xs) w m h r = unasked o xs (step o x w) m h r ∙ at (taken x.guards w.env) (was_ready o xs (step o x w) r)
+unasked o (x ∷ xs) w m h r = unasked o xs (step o x w) m h r ∙ at (all_hold x.guards w.env) (was_ready o xs (step o x w) r)
   where
-    at : (b : Bool) → (cond b (does o x.op w) w).ready ≡ true → find_ask (cond b (does o x.op w) w).asks m ≡ find_ask w.asks m
+    at : (b : Bool) → (cond b (work_after o x.op w) w).ready ≡ true → find_ask (cond b (work_after o x.op w) w).asks m ≡ find_ask w.asks m
     at true k = unasked_op o x.op w m h k
     at false k = refl
 
 -- a port that older threads hold is held for all younger ones
 held_more : (p : Pipe) (st : State) (bits : List Bool) (a : Act) (older : List Act) (m : ℕ) → port_free p st bits older m ≡ false → port_free p st bits (a ∷ older) m ≡ false
-held_more p st bits a older m h = at (is_none (asked_at st m)) (answers p bits m) (not (awaits_mem a.before.awaits m) || a.moves) (list_all (λ o. not (awaits_mem o.before.awaits m) || o.moves) older) h
+held_more p st bits a older m h = at (is_none (asked_at st m)) (is_answered p bits m) (not (awaits_mem a.before.awaits m) || a.moves) (list_all (λ o. not (awaits_mem o.before.awaits m) || o.moves) older) h
   where
     at : (n b x y : Bool) → (n || (b && y)) ≡ false → (n || (b && (x && y))) ≡ false
     at true b x y k = absurd (cc k)

@@ -1,18 +1,18 @@
 -- The deeds of a stage's statements and the derived work of the same statements. Of the whole language.
 use Rattle.std.proofs.Common.{◌≡◌, refl, sym, ap, ◌∙◌, subst, ℕ, Bool, true, false, ◌&&◌, ◌||◌, not, List, [], ◌∷◌, ◌++◌, ◌==◌, cond, if◌then◌else◌, Some, None, slice_index, slice_set}
 use Rattle.std.proofs.Math.Bool.{and_assoc}
-use Rattle.pdl_semantics.specs.Flat.{Commit, list_all, Op, Bind, CombRead, DelayedRead, Write, ReserveRead, ReserveWrite, Block, Release, Call, SpecCall, Verify, SpecCheck, SpecBarrier, Stmt, value_of, values_of, taken}
-use Rattle.pdl_semantics.specs.Machine.{Ask, same_args, Place, Blocked, Reserved, Deeds, is_held, let_go, does_all}
+use Rattle.pdl_semantics.specs.Flat.{Commit, list_all, Op, Bind, CombRead, DelayedRead, Write, ReserveRead, ReserveWrite, Block, Release, Call, SpecCall, Verify, SpecCheck, SpecBarrier, Stmt, value_of, values_of, all_hold}
+use Rattle.pdl_semantics.specs.Machine.{Ask, same_args, HeldLocation, Blocked, Reserved, Deeds, is_held, let_go, deeds_after_all}
 use Rattle.pdl_semantics.specs.Machine
-use Rattle.pdl_derived.specs.Derived.{Entry, Work, Around, does, do_all, has, without, filled}
+use Rattle.pdl_derived.specs.Derived.{Entry, Work, Around, work_after, do_all, has_entry, without, with_entry_value}
 use Rattle.pdl_word.proofs.Bools.{and_swap}
 
 -- the locations of pending writes
-abbrev pub places : List Entry → List Place
+abbrev pub places : List Entry → List HeldLocation
 places [] = []
 places (e ∷ es) = record { mem = e.mem; var = e.var } ∷ places es
 
-pub places_has : (es : List Entry) (m a : ℕ) → is_held (places es) m a ≡ has es m a
+pub places_has : (es : List Entry) (m a : ℕ) → is_held (places es) m a ≡ has_entry es m a
 places_has [] m a = refl
 places_has (e ∷ es) m a = ap (λ b. ((e.mem == m) && (e.var == a)) || b) (places_has es m a)
 
@@ -24,11 +24,11 @@ places_without (e ∷ es) m a = at ((e.mem == m) && (e.var == a)) (places_withou
     at true h = refl
     at false h = ap (λ l. record { mem = e.mem; var = e.var } ∷ l) h
 
-pub places_filled : (es : List Entry) (m a v : ℕ) → places (filled es m a v) ≡ places es
+pub places_filled : (es : List Entry) (m a v : ℕ) → places (with_entry_value es m a v) ≡ places es
 places_filled [] m a v = refl
 places_filled (e ∷ es) m a v = at ((e.mem == m) && (e.var == a)) (places_filled es m a v)
   where
-    at : (b : Bool) → places (filled es m a v) ≡ places es → places (cond b (record e { value = Some v } ∷ es) (e ∷ filled es m a v)) ≡ record { mem = e.mem; var = e.var } ∷ places es
+    at : (b : Bool) → places (with_entry_value es m a v) ≡ places es → places (cond b (record e { value = Some v } ∷ es) (e ∷ with_entry_value es m a v)) ≡ record { mem = e.mem; var = e.var } ∷ places es
     at true h = refl
     at false h = ap (λ l. record { mem = e.mem; var = e.var } ∷ l) h
 
@@ -97,15 +97,15 @@ module _ (o : Around) (read : ℕ → ℕ → ℕ) (block : Blocked → Bool) (r
   block_fits true m n h = h.0
   block_fits false m n h = h.1
 
-  told_op : (op : Op) (d : Deeds) (es : List Entry) (cs : List Commit) → places es ≡ d.held → Fits op → Told (Machine.does read op d) (does o op (work_of d es cs))
+  told_op : (op : Op) (d : Deeds) (es : List Entry) (cs : List Commit) → places es ≡ d.held → Fits op → Told (Machine.deeds_after read op d) (work_after o op (work_of d es cs))
   told_op (Bind x e) d es cs h f = told _ es cs h
   told_op (CombRead x m a) d es cs h f = record { held = h; is = ap (λ v. work_of (record d { env = slice_set d.env x v }) es cs) (f (slice_index d.env a)) }
   told_op (DelayedRead x m a) d es cs h f = record {
     held = h;
-    is = λ i. record (work_of (Machine.does read (DelayedRead x m a) d) es cs) { ready = ready i };
+    is = λ i. record (work_of (Machine.deeds_after read (DelayedRead x m a) d) es cs) { ready = ready i };
   }
     where
-      ready : (all_ready d && o.free m) ≡ all_ready (Machine.does read (DelayedRead x m a) d)
+      ready : (all_ready d && o.free m) ≡ all_ready (Machine.deeds_after read (DelayedRead x m a) d)
       ready =
           for_ask (list_all block d.blocks && list_all room d.reserves) (list_all free d.asks) (not d.barrier || o.clear) (o.free m)
           ∙ ap (λ b. ((list_all block d.blocks && list_all room d.reserves) && b) && (not d.barrier || o.clear)) (ap (λ b. list_all free d.asks && b) (f (slice_index d.env a)) ∙ sym (all_more free d.asks _))
@@ -116,16 +116,16 @@ module _ (o : Around) (read : ℕ → ℕ → ℕ) (block : Blocked → Bool) (r
     is = λ i. record (work_of d (record { mem = m; var = a; address = slice_index d.env a; value = None } ∷ es) cs) { ready = ready i };
   }
     where
-      ready : (all_ready d && o.room m) ≡ all_ready (Machine.does read (ReserveWrite m a) d)
+      ready : (all_ready d && o.room m) ≡ all_ready (Machine.deeds_after read (ReserveWrite m a) d)
       ready =
           for_room (list_all block d.blocks) (list_all room d.reserves) (list_all free d.asks) (not d.barrier || o.clear) (o.room m)
           ∙ ap (λ b. ((list_all block d.blocks && b) && list_all free d.asks) && (not d.barrier || o.clear)) (ap (λ b. list_all room d.reserves && b) (f (slice_index d.env a)) ∙ sym (all_more room d.reserves _))
   told_op (Block m a) d es cs h f = record { held = h; is = λ i. record (work_of d es cs) { ready = ready i } }
     where
-      kind : has es m a ≡ is_held d.held m a
+      kind : has_entry es m a ≡ is_held d.held m a
       kind = sym (places_has es m a) ∙ ap (λ l. is_held l m a) h
 
-      ready : (all_ready d && cond (has es m a) (o.can_write m (slice_index d.env a)) (o.can_read m (slice_index d.env a))) ≡ all_ready (Machine.does read (Block m a) d)
+      ready : (all_ready d && cond (has_entry es m a) (o.can_write m (slice_index d.env a)) (o.can_read m (slice_index d.env a))) ≡ all_ready (Machine.deeds_after read (Block m a) d)
       ready =
           for_block (list_all block d.blocks) (list_all room d.reserves) (list_all free d.asks) (not d.barrier || o.clear) _
           ∙ ap (λ b. ((b && list_all room d.reserves) && list_all free d.asks) && (not d.barrier || o.clear))
@@ -143,13 +143,13 @@ module _ (o : Around) (read : ℕ → ℕ → ℕ) (block : Blocked → Bool) (r
   told_op SpecCheck d es cs h f = told _ es cs h
   told_op SpecBarrier d es cs h f = record { held = h; is = λ i. record (work_of d es cs) { ready = clear_swap ((list_all block d.blocks && list_all room d.reserves) && list_all free d.asks) d.barrier o.clear i } }
 
-  pub told_step : (b : Bool) (op : Op) (d : Deeds) (es : List Entry) (cs : List Commit) → places es ≡ d.held → Fits op → Told (cond b (Machine.does read op d) d) (cond b (does o op (work_of d es cs)) (work_of d es cs))
+  pub told_step : (b : Bool) (op : Op) (d : Deeds) (es : List Entry) (cs : List Commit) → places es ≡ d.held → Fits op → Told (cond b (Machine.deeds_after read op d) d) (cond b (work_after o op (work_of d es cs)) (work_of d es cs))
   told_step true op d es cs h f = told_op op d es cs h f
   told_step false op d es cs h f = told d es cs h
 
-  pub told_all : (xs : List Stmt) (d : Deeds) (es : List Entry) (cs : List Commit) → places es ≡ d.held → AllFit xs → Told (does_all read xs d) (do_all o xs (work_of d es cs))
+  pub told_all : (xs : List Stmt) (d : Deeds) (es : List Entry) (cs : List Commit) → places es ≡ d.held → AllFit xs → Told (deeds_after_all read xs d) (do_all o xs (work_of d es cs))
   told_all [] d es cs h f = told d es cs h
   told_all (x ∷ xs) d es cs h f =
-      let t = told_step (taken x.guards d.env) x.op d es cs h f.0 in
-      subst (λ w. Told (does_all read xs (if taken x.guards d.env then Machine.does read x.op d else d)) (do_all o xs w)) (sym t.is)
-      (told_all xs (if taken x.guards d.env then Machine.does read x.op d else d) _ _ t.held f.1)
+      let t = told_step (all_hold x.guards d.env) x.op d es cs h f.0 in
+      subst (λ w. Told (deeds_after_all read xs (if all_hold x.guards d.env then Machine.deeds_after read x.op d else d)) (do_all o xs w)) (sym t.is)
+      (told_all xs (if all_hold x.guards d.env then Machine.deeds_after read x.op d else d) _ _ t.held f.1)

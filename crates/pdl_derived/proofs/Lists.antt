@@ -2,7 +2,7 @@
 use Rattle.std.proofs.Common.{◌≡◌, refl, sym, ap, ap₂, ◌∙◌, ℕ, ◌+◌, ◌⊎◌, inl, inr, Bool, true, false, ◌&&◌, List, [], ◌∷◌, ◌++◌, length, Some, ◌==◌, cond, if◌then◌else◌, arith, nat_lt, append-nil, append_assoc, length-append}
 use Rattle.pdl_semantics.specs.Locks.{Latest, as_latest}
 use Rattle.pdl_semantics.specs.Machine.{Pending, youngest}
-use Rattle.pdl_semantics.specs.Cycle.{new_entries, appended, put, put_all, filled}
+use Rattle.pdl_semantics.specs.Cycle.{new_entries, with_reserves, with_value_of, with_writes_of, with_all_writes}
 use Rattle.pdl_semantics.specs.Machine
 use Rattle.pdl_semantics.specs.Moves
 use Rattle.pdl_derived.specs.Derived.{Entry, latest_in, count_in}
@@ -54,27 +54,27 @@ abbrev pub Foreign : ℕ → List Pending → Type 0
 Foreign n [] = Unit {0}
 Foreign n (x ∷ xs) = ((x.thread == n) ≡ false) × Foreign n xs
 
-put_foreign : (n v : ℕ) (xs : List Pending) → Foreign n xs → put n v xs ≡ xs
+put_foreign : (n v : ℕ) (xs : List Pending) → Foreign n xs → with_value_of n v xs ≡ xs
 put_foreign n v [] h = refl
 put_foreign n v (x ∷ xs) h = ap₂ (λ b l. (cond b (record x { value = Some v }) x) ∷ l) h.0 (put_foreign n v xs h.1)
 
 -- writes leave others' entries in front, and behind, alone
-put_all_front : (m n : ℕ) (ws : List Machine.Written) (xs ys : List Pending) → Foreign n xs → put_all m n ws (xs ++ ys) ≡ xs ++ put_all m n ws ys
+put_all_front : (m n : ℕ) (ws : List Machine.Written) (xs ys : List Pending) → Foreign n xs → with_writes_of m n ws (xs ++ ys) ≡ xs ++ with_writes_of m n ws ys
 put_all_front m n [] xs ys h = refl
-put_all_front m n (w ∷ ws) xs ys h = at (w.mem == m) (put_all_front m n ws xs (put n w.value ys) h) (put_all_front m n ws xs ys h)
+put_all_front m n (w ∷ ws) xs ys h = at (w.mem == m) (put_all_front m n ws xs (with_value_of n w.value ys) h) (put_all_front m n ws xs ys h)
   where
-    at : (b : Bool) → put_all m n ws (xs ++ put n w.value ys) ≡ xs ++ put_all m n ws (put n w.value ys) → put_all m n ws (xs ++ ys) ≡ xs ++ put_all m n ws ys
-        → put_all m n ws (cond b (put n w.value (xs ++ ys)) (xs ++ ys)) ≡ xs ++ put_all m n ws (cond b (put n w.value ys) ys)
-    at true f g = ap (put_all m n ws) (put_append n w.value xs ys ∙ ap (λ l. l ++ put n w.value ys) (put_foreign n w.value xs h)) ∙ f
+    at : (b : Bool) → with_writes_of m n ws (xs ++ with_value_of n w.value ys) ≡ xs ++ with_writes_of m n ws (with_value_of n w.value ys) → with_writes_of m n ws (xs ++ ys) ≡ xs ++ with_writes_of m n ws ys
+        → with_writes_of m n ws (cond b (with_value_of n w.value (xs ++ ys)) (xs ++ ys)) ≡ xs ++ with_writes_of m n ws (cond b (with_value_of n w.value ys) ys)
+    at true f g = ap (with_writes_of m n ws) (put_append n w.value xs ys ∙ ap (λ l. l ++ with_value_of n w.value ys) (put_foreign n w.value xs h)) ∙ f
     at false f g = g
 
-put_all_back : (m n : ℕ) (ws : List Machine.Written) (xs ys : List Pending) → Foreign n ys → put_all m n ws (xs ++ ys) ≡ put_all m n ws xs ++ ys
+put_all_back : (m n : ℕ) (ws : List Machine.Written) (xs ys : List Pending) → Foreign n ys → with_writes_of m n ws (xs ++ ys) ≡ with_writes_of m n ws xs ++ ys
 put_all_back m n [] xs ys h = refl
-put_all_back m n (w ∷ ws) xs ys h = at (w.mem == m) (put_all_back m n ws (put n w.value xs) ys h) (put_all_back m n ws xs ys h)
+put_all_back m n (w ∷ ws) xs ys h = at (w.mem == m) (put_all_back m n ws (with_value_of n w.value xs) ys h) (put_all_back m n ws xs ys h)
   where
-    at : (b : Bool) → put_all m n ws (put n w.value xs ++ ys) ≡ put_all m n ws (put n w.value xs) ++ ys → put_all m n ws (xs ++ ys) ≡ put_all m n ws xs ++ ys
-        → put_all m n ws (cond b (put n w.value (xs ++ ys)) (xs ++ ys)) ≡ put_all m n ws (cond b (put n w.value xs) xs) ++ ys
-    at true f g = ap (put_all m n ws) (put_append n w.value xs ys ∙ ap (λ l. put n w.value xs ++ l) (put_foreign n w.value ys h)) ∙ f
+    at : (b : Bool) → with_writes_of m n ws (with_value_of n w.value xs ++ ys) ≡ with_writes_of m n ws (with_value_of n w.value xs) ++ ys → with_writes_of m n ws (xs ++ ys) ≡ with_writes_of m n ws xs ++ ys
+        → with_writes_of m n ws (cond b (with_value_of n w.value (xs ++ ys)) (xs ++ ys)) ≡ with_writes_of m n ws (cond b (with_value_of n w.value xs) xs) ++ ys
+    at true f g = ap (with_writes_of m n ws) (put_append n w.value xs ys ∙ ap (λ l. with_value_of n w.value xs ++ l) (put_foreign n w.value ys h)) ∙ f
     at false f g = g
 
 -- movers of smaller numbers leave these entries alone
@@ -82,34 +82,34 @@ abbrev pub AllForeign : List Moves.Act → List Pending → Type 0
 AllForeign [] ys = Unit {0}
 AllForeign (a ∷ ms) ys = Foreign a.thread.number ys × AllForeign ms ys
 
-filled_back : (m : ℕ) (ms : List Moves.Act) (xs ys : List Pending) → AllForeign ms ys → filled m ms (xs ++ ys) ≡ filled m ms xs ++ ys
+filled_back : (m : ℕ) (ms : List Moves.Act) (xs ys : List Pending) → AllForeign ms ys → with_all_writes m ms (xs ++ ys) ≡ with_all_writes m ms xs ++ ys
 filled_back m [] xs ys h = refl
-filled_back m (a ∷ ms) xs ys h = ap (put_all m a.thread.number a.does.writes) (filled_back m ms xs ys h.1) ∙ put_all_back m a.thread.number a.does.writes (filled m ms xs) ys h.0
+filled_back m (a ∷ ms) xs ys h = ap (with_writes_of m a.thread.number a.does.writes) (filled_back m ms xs ys h.1) ∙ put_all_back m a.thread.number a.does.writes (with_all_writes m ms xs) ys h.0
 
 -- movers that reserve nothing of m
 abbrev pub Reserveless : ℕ → List Moves.Act → Type 0
 Reserveless m [] = Unit {0}
 Reserveless m (a ∷ ms) = (new_entries m a.thread.number a.does.reserves ≡ []) × Reserveless m ms
 
-appended_none : (m : ℕ) (ms : List Moves.Act) (list : List Pending) → Reserveless m ms → appended m ms list ≡ list
+appended_none : (m : ℕ) (ms : List Moves.Act) (list : List Pending) → Reserveless m ms → with_reserves m ms list ≡ list
 appended_none m [] list h = refl
 appended_none m (a ∷ ms) list h = ap₂ (λ x y. x ++ y) (appended_none m ms list h.1) h.0 ∙ append-nil list
 
-pub appended_back : (m : ℕ) (ms : List Moves.Act) (xs ys : List Pending) → (ys ≡ []) ⊎ Reserveless m ms → appended m ms (xs ++ ys) ≡ appended m ms xs ++ ys
+pub appended_back : (m : ℕ) (ms : List Moves.Act) (xs ys : List Pending) → (ys ≡ []) ⊎ Reserveless m ms → with_reserves m ms (xs ++ ys) ≡ with_reserves m ms xs ++ ys
 appended_back m ms xs ys (inl e) =
-    ap (λ l. appended m ms (xs ++ l)) e ∙ ap (appended m ms) (append-nil xs) ∙ sym (append-nil (appended m ms xs)) ∙ ap (λ l. appended m ms xs ++ l) (sym e)
+    ap (λ l. with_reserves m ms (xs ++ l)) e ∙ ap (with_reserves m ms) (append-nil xs) ∙ sym (append-nil (with_reserves m ms xs)) ∙ ap (λ l. with_reserves m ms xs ++ l) (sym e)
 appended_back m ms xs ys (inr h) = appended_none m ms (xs ++ ys) h ∙ ap (λ l. l ++ ys) (sym (appended_none m ms xs h))
 
 -- steps 1 and 2 of one more thread, the youngest
 pub two_moved : (m : ℕ) (a : Moves.Act) (ms : List Moves.Act) (xs ys two : List Pending) → (ys ≡ []) ⊎ Reserveless m ms
-    → AllForeign ms (ys ++ new_entries m a.thread.number a.does.reserves) → Foreign a.thread.number two → filled m ms (appended m ms xs) ≡ two
-    → filled m (a ∷ ms) (appended m (a ∷ ms) (xs ++ ys)) ≡ two ++ put_all m a.thread.number a.does.writes (ys ++ new_entries m a.thread.number a.does.reserves)
+    → AllForeign ms (ys ++ new_entries m a.thread.number a.does.reserves) → Foreign a.thread.number two → with_all_writes m ms (with_reserves m ms xs) ≡ two
+    → with_all_writes m (a ∷ ms) (with_reserves m (a ∷ ms) (xs ++ ys)) ≡ two ++ with_writes_of m a.thread.number a.does.writes (ys ++ new_entries m a.thread.number a.does.reserves)
 two_moved m a ms xs ys two e f g h =
-    ap (λ l. put_all m a.thread.number a.does.writes (filled m ms l))
-    (ap (λ l. l ++ new_entries m a.thread.number a.does.reserves) (appended_back m ms xs ys e) ∙ append_assoc (appended m ms xs) ys _)
-    ∙ ap (put_all m a.thread.number a.does.writes) (filled_back m ms (appended m ms xs) (ys ++ new_entries m a.thread.number a.does.reserves) f ∙ ap (λ l. l ++ (ys ++ new_entries m a.thread.number a.does.reserves)) h)
+    ap (λ l. with_writes_of m a.thread.number a.does.writes (with_all_writes m ms l))
+    (ap (λ l. l ++ new_entries m a.thread.number a.does.reserves) (appended_back m ms xs ys e) ∙ append_assoc (with_reserves m ms xs) ys _)
+    ∙ ap (with_writes_of m a.thread.number a.does.writes) (filled_back m ms (with_reserves m ms xs) (ys ++ new_entries m a.thread.number a.does.reserves) f ∙ ap (λ l. l ++ (ys ++ new_entries m a.thread.number a.does.reserves)) h)
     ∙ put_all_front m a.thread.number a.does.writes two (ys ++ new_entries m a.thread.number a.does.reserves) g
 
-pub two_stays : (m : ℕ) (ms : List Moves.Act) (xs ys two : List Pending) → (ys ≡ []) ⊎ Reserveless m ms → AllForeign ms ys → filled m ms (appended m ms xs) ≡ two
-    → filled m ms (appended m ms (xs ++ ys)) ≡ two ++ ys
-two_stays m ms xs ys two e f h = ap (filled m ms) (appended_back m ms xs ys e) ∙ filled_back m ms (appended m ms xs) ys f ∙ ap (λ l. l ++ ys) h
+pub two_stays : (m : ℕ) (ms : List Moves.Act) (xs ys two : List Pending) → (ys ≡ []) ⊎ Reserveless m ms → AllForeign ms ys → with_all_writes m ms (with_reserves m ms xs) ≡ two
+    → with_all_writes m ms (with_reserves m ms (xs ++ ys)) ≡ two ++ ys
+two_stays m ms xs ys two e f h = ap (with_all_writes m ms) (appended_back m ms xs ys e) ∙ filled_back m ms (with_reserves m ms xs) ys f ∙ ap (λ l. l ++ ys) h

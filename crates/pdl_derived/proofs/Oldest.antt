@@ -1,12 +1,12 @@
 -- In a cycle that is no wait the oldest thread moves. Of any pipe of the whole language.
 use Rattle.std.proofs.Common.{◌≡◌, refl, sym, ap, ◌∙◌, subst, ℕ, zero, suc, ◌+◌, Bool, true, false, ◌&&◌, ◌||◌, not, List, [], ◌∷◌, Option, Some, None, is_none, is_some, cond, arith, slice_index, slice_index_or, zero-add, add-suc, suc-add}
 use Rattle.std.proofs.lemmas.Bool.{and_from}
-use Rattle.pdl_semantics.specs.Flat.{Op, DelayedRead, ReserveWrite, Block, Verify, SpecBarrier, Stmt, Pipe, Lock, Plain, Queue, Bypass, Rename, taken, values_of}
+use Rattle.pdl_semantics.specs.Flat.{Op, DelayedRead, ReserveWrite, Block, Verify, SpecBarrier, Stmt, Pipe, Lock, Plain, Queue, Bypass, Rename, all_hold, values_of}
 use Rattle.pdl_semantics.specs.Stages.{in_stage, mem_at, stage_at, verify_stage}
-use Rattle.pdl_semantics.specs.Machine.{Awaited, answers, same_args}
+use Rattle.pdl_semantics.specs.Machine.{Awaited, is_answered, same_args}
 use Rattle.pdl_semantics.specs.Moves.{is_empty}
 use Rattle.pdl_semantics.specs.Locks.{has_room, read_ready, write_ready, Nothing}
-use Rattle.pdl_derived.specs.Derived.{Work, Around, Thread, State, does, do_all, around, act, asked_at, still, has, port_free, barrier_clear, can_enter, fork_clear, is_wait, waits_from}
+use Rattle.pdl_derived.specs.Derived.{Work, Around, Thread, State, work_after, do_all, around, act, asked_at, still, has_entry, port_free, barrier_clear, can_enter, fork_clear, is_wait, waits_from}
 use Rattle.pdl_derived.proofs.Stages.{step}
 
 -- surroundings that hold nobody up
@@ -21,10 +21,10 @@ pick : (c x y : Bool) → x ≡ true → y ≡ true → cond c x y ≡ true
 pick true x y h k = h
 pick false x y h k = k
 
-ready_op : (o : Around) (op : Op) (w : Work) → AllTrue o → w.ready ≡ true → (does o op w).ready ≡ true
+ready_op : (o : Around) (op : Op) (w : Work) → AllTrue o → w.ready ≡ true → (work_after o op w).ready ≡ true
 ready_op o (DelayedRead x m a) w f h = and_from w.ready (o.free m) h (f.free m)
 ready_op o (ReserveWrite m a) w f h = and_from w.ready (o.room m) h (f.room m)
-ready_op o (Block m a) w f h = and_from w.ready _ h (pick (has w.entries m a) _ _ (f.can_write m (slice_index w.env a)) (f.can_read m (slice_index w.env a)))
+ready_op o (Block m a) w f h = and_from w.ready _ h (pick (has_entry w.entries m a) _ _ (f.can_write m (slice_index w.env a)) (f.can_read m (slice_index w.env a)))
 ready_op o (Verify args) w f h = at (same_args (values_of args w.env) w.guess)
   where
     at : (b : Bool) → (cond b w (record w { child = Some (values_of args w.env); fails = true })).ready ≡ true
@@ -33,13 +33,13 @@ ready_op o (Verify args) w f h = at (same_args (values_of args w.env) w.guess)
 ready_op o SpecBarrier w f h = and_from w.ready o.clear h f.clear
 ready_op o _ w f h = h
 
-ready_step : (b : Bool) (o : Around) (op : Op) (w : Work) → AllTrue o → w.ready ≡ true → (cond b (does o op w) w).ready ≡ true
+ready_step : (b : Bool) (o : Around) (op : Op) (w : Work) → AllTrue o → w.ready ≡ true → (cond b (work_after o op w) w).ready ≡ true
 ready_step true o op w f h = ready_op o op w f h
 ready_step false o op w f h = h
 
 ready_all : (o : Around) (xs : List Stmt) (w : Work) → AllTrue o → w.ready ≡ true → (do_all o xs w).ready ≡ true
 ready_all o [] w f h = h
-ready_all o (x ∷ xs) w f h = ready_all o xs (step o x w) f (ready_step (taken x.guards w.env) o x.op w f h)
+ready_all o (x ∷ xs) w f h = ready_all o xs (step o x w) f (ready_step (all_hold x.guards w.env) o x.op w f h)
 
 -- each lock has room for one
 abbrev pub HasRoom : Pipe → Type 0
@@ -58,23 +58,23 @@ write_free (Bypass n) = refl
 write_free (Rename n) = refl
 
 -- a cycle that is no wait answers each outstanding request
-answered_at : (p : Pipe) (bits : List Bool) (k : ℕ) (asked : List (Option ℕ)) (j : ℕ) → waits_from p bits k asked ≡ false → is_some (slice_index_or asked j None) ≡ true → answers p bits (k + j) ≡ true
+answered_at : (p : Pipe) (bits : List Bool) (k : ℕ) (asked : List (Option ℕ)) (j : ℕ) → waits_from p bits k asked ≡ false → is_some (slice_index_or asked j None) ≡ true → is_answered p bits (k + j) ≡ true
 answered_at p bits k [] j h i = absurd (cc i)
 answered_at p bits k (None ∷ asked) zero h i = absurd (cc i)
-answered_at p bits k (None ∷ asked) (suc j) h i = subst (λ n. answers p bits n ≡ true) (suc-add k j ∙ sym (add-suc k j)) (answered_at p bits (suc k) asked j h i)
-answered_at p bits k (Some a ∷ asked) zero h i = subst (λ n. answers p bits n ≡ true) (omega arith) (bit (answers p bits k) h)
+answered_at p bits k (None ∷ asked) (suc j) h i = subst (λ n. is_answered p bits n ≡ true) (suc-add k j ∙ sym (add-suc k j)) (answered_at p bits (suc k) asked j h i)
+answered_at p bits k (Some a ∷ asked) zero h i = subst (λ n. is_answered p bits n ≡ true) (omega arith) (bit (is_answered p bits k) h)
   where
     bit : (b : Bool) → (not b || waits_from p bits (suc k) asked) ≡ false → b ≡ true
     bit true g = refl
     bit false g = cc
-answered_at p bits k (Some a ∷ asked) (suc j) h i = subst (λ n. answers p bits n ≡ true) (suc-add k j ∙ sym (add-suc k j)) (answered_at p bits (suc k) asked j (rest (answers p bits k) h) i)
+answered_at p bits k (Some a ∷ asked) (suc j) h i = subst (λ n. is_answered p bits n ≡ true) (suc-add k j ∙ sym (add-suc k j)) (answered_at p bits (suc k) asked j (rest (is_answered p bits k) h) i)
   where
     rest : (b : Bool) → (not b || waits_from p bits (suc k) asked) ≡ false → waits_from p bits (suc k) asked ≡ false
     rest true g = g
     rest false g = absurd (cc g)
 
-answered_now : (p : Pipe) (st : State) (bits : List Bool) (m : ℕ) → is_wait p st bits ≡ false → is_some (asked_at st m) ≡ true → answers p bits m ≡ true
-answered_now p st bits m h i = subst (λ n. answers p bits n ≡ true) (zero-add m) (answered_at p bits 0 st.asked m h i)
+answered_now : (p : Pipe) (st : State) (bits : List Bool) (m : ℕ) → is_wait p st bits ≡ false → is_some (asked_at st m) ≡ true → is_answered p bits m ≡ true
+answered_now p st bits m h i = subst (λ n. is_answered p bits n ≡ true) (zero-add m) (answered_at p bits 0 st.asked m h i)
 
 -- each awaited read has its request outstanding
 abbrev pub Asked : List (Option ℕ) → List Awaited → Type 0
@@ -89,7 +89,7 @@ none_still p st bits (r ∷ rs) h a =
 free_port : (p : Pipe) (st : State) (bits : List Bool) (m : ℕ) → is_wait p st bits ≡ false → port_free p st bits [] m ≡ true
 free_port p st bits m h = at (asked_at st m) refl
   where
-    at : (o : Option ℕ) → asked_at st m ≡ o → (is_none o || (answers p bits m && true)) ≡ true
+    at : (o : Option ℕ) → asked_at st m ≡ o → (is_none o || (is_answered p bits m && true)) ≡ true
     at None e = refl
     at (Some a) e = ap (λ b. b && true) (answered_now p st bits m h (ap is_some e))
 

@@ -9,7 +9,7 @@ use Rattle.pdl_semantics.specs.Flatten.{flat}
 use Rattle.pdl_semantics.specs.Lines.{Column, columns, lines, by_mem, run_lines}
 use Rattle.pdl_semantics.specs.Lines
 use Rattle.pdl_semantics.specs.Machine.{Ask}
-use Rattle.pdl_semantics.specs.Cycle.{PortWrite, shown, turns}
+use Rattle.pdl_semantics.specs.Cycle.{PortWrite, commit_shown, turns}
 use Rattle.pdl_semantics.specs.Cycle
 use Rattle.pdl_semantics.proofs.Pipes.{one_stage, two_stages, under_guard, shared_guard, count_up, count_late, guess, guess_reserved, copy, copy_guessed, two_branches, one_branch, count_slow, barrier, far_barrier}
 use Rattle.pdl_semantics.proofs.MachineRows.{zeros, idle, bits, copied}
@@ -33,7 +33,7 @@ same_commits _ _ = false
 -- memory by memory
 abbrev each_commits : ℕ → List (Option PortWrite) → List Commit → Bool
 each_commits m [] cs = true
-each_commits m (x ∷ xs) cs = same_commits (shown m x) (of_mem m cs) && each_commits (suc m) xs cs
+each_commits m (x ∷ xs) cs = same_commits (commit_shown m x) (of_mem m cs) && each_commits (suc m) xs cs
 
 abbrev same_requests : ℕ → List (Option ℕ) → List Ask → Bool
 same_requests m [] [] = true

@@ -1,7 +1,7 @@
 -- Facts on arrays and lists of writes.
 use Rattle.std.proofs.Common.{◌≡◌, ◌≢◌, refl, sym, ap, ◌∙◌, ℕ, Bool, true, false, ◌&&◌, List, [], ◌∷◌, ◌++◌, ◌==◌, cond, eq-eqb}
 use Rattle.std.proofs.lemmas.Bool.{eqb-true, eqb-false, ne_eqb}
-use Rattle.pdl_semantics.specs.Flat.{Arrays, Array, with_value, Commit, of_mem, committed, with_word}
+use Rattle.pdl_semantics.specs.Flat.{Arrays, Array, with_value, Commit, of_mem, after_commits, with_word}
 use Rattle.pdl_semantics.specs.Promises.{wrote, row}
 
 pub row_same : (arrays : Arrays) (m a v : ℕ) → row (with_word arrays m a v) m ≡ with_value (row arrays m) a v
@@ -11,7 +11,7 @@ pub row_other : (arrays : Arrays) (m n a v : ℕ) → n ≢ m → row (with_word
 row_other arrays m n a v h = ap (λ c. cond c (with_value (arrays m) a v) (arrays n)) (ne_eqb n m h)
 
 -- the words of m after some writes are its words with the writes to m
-pub row_committed : (m : ℕ) (cs : List Commit) (arrays : Arrays) → row (committed arrays cs) m ≡ wrote (row arrays m) (of_mem m cs)
+pub row_committed : (m : ℕ) (cs : List Commit) (arrays : Arrays) → row (after_commits arrays cs) m ≡ wrote (row arrays m) (of_mem m cs)
 row_committed m [] arrays = refl
 row_committed m (c ∷ cs) arrays = row_committed m cs (with_word arrays c.mem c.address c.value) ∙ at (c.mem == m) refl
   where
@@ -42,6 +42,6 @@ pub and_right : (b c : Bool) → (b && c) ≡ true → c ≡ true
 and_right true c e = e
 and_right false c e = cc
 
-pub committed_append : (xs ys : List Commit) (arrays : Arrays) → committed arrays (xs ++ ys) ≡ committed (committed arrays xs) ys
+pub committed_append : (xs ys : List Commit) (arrays : Arrays) → after_commits arrays (xs ++ ys) ≡ after_commits (after_commits arrays xs) ys
 committed_append [] ys arrays = refl
 committed_append (x ∷ xs) ys arrays = committed_append xs ys (with_word arrays x.mem x.address x.value)

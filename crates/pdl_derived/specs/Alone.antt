@@ -1,6 +1,6 @@
 -- A thread that runs alone in the machine that the proofs use, and what that machine's runs are shown to do.
 use Rattle.std.specs.Prelude.{◌≡◌, ℕ, ◌+◌, ◌-◌, ◌/◌, ◌≤◌, Bool, true, false, ◌&&◌, List, [], ◌∷◌, None, if◌then◌else◌, nat_lt, ◌==◌, IsTrue, IsFalse, length}
-use Rattle.pdl_semantics.specs.Flat.{Arrays, Op, CombRead, DelayedRead, Call, SpecCall, Stmt, Pipe, start_env, word_at, Commit, of_mem, committed}
+use Rattle.pdl_semantics.specs.Flat.{Arrays, Op, CombRead, DelayedRead, Call, SpecCall, Stmt, Pipe, start_env, word_at, Commit, of_mem, after_commits}
 use Rattle.pdl_semantics.specs.Stages.{commit_stage, depth}
 use Rattle.pdl_semantics.specs.Sequential.{thread, seqwrites}
 use Rattle.pdl_semantics.specs.Promises.{IsPrefix}
@@ -19,14 +19,14 @@ alone arrays =
     }
 
 -- alone, a fetch has its answer at once
-abbrev pub looked : Op → Op
-looked (DelayedRead x m a) = CombRead x m a
-looked op = op
+abbrev pub answered_op : Op → Op
+answered_op (DelayedRead x m a) = CombRead x m a
+answered_op op = op
 
 -- the statements of the stages before s, in text order
 abbrev pub before : ℕ → List Stmt → List Stmt
 before s [] = []
-before s (x ∷ xs) = if nat_lt x.stage s then record x { op = looked x.op } ∷ before s xs else before s xs
+before s (x ∷ xs) = if nat_lt x.stage s then record x { op = answered_op x.op } ∷ before s xs else before s xs
 
 abbrev pub start_work : Pipe → List ℕ → Work
 start_work p args =
@@ -46,8 +46,8 @@ abbrev pub so_far : Pipe → Arrays → List ℕ → ℕ → Work
 so_far p arrays args s = do_all (alone arrays) (before s p.stmts) (start_work p args)
 
 -- that thread in stage s
-abbrev pub placed : Pipe → Arrays → List ℕ → ℕ → Thread
-placed p arrays args s =
+abbrev pub thread_at : Pipe → Arrays → List ℕ → ℕ → Thread
+thread_at p arrays args s =
     let w = so_far p arrays args s in
     record { stage = s; env = w.env; entries = w.entries; guess = w.guess; awaits = [] }
 
@@ -71,7 +71,7 @@ pub record Location : Type 0 where
 pub record Refines (p : Pipe) (image : Arrays) (schedule : List (List Bool)) : Type 0 where
   pub whole : (m : ℕ) → IsPrefix (seqwrites p image m (ended_in (turns p image schedule))) (commits m (turns p image schedule))
   pub prefix : (m : ℕ) → IsPrefix (commits m (turns p image schedule)) (seqwrites p image m (ended_in (turns p image schedule) + length p.stages))
-  pub end : (state_after p (first p image) schedule).arrays ≡ committed image (all_commits (turns p image schedule))
+  pub end : (state_after p (first p image) schedule).arrays ≡ after_commits image (all_commits (turns p image schedule))
 
 -- whether the oldest live thread moves
 abbrev pub oldest_moves : List Act → Bool

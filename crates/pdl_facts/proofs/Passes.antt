@@ -6,14 +6,14 @@ use Rattle.pdl_semantics.specs.Stages.{onpath, in_stage, mem_at, plain_mem, comm
 use Rattle.pdl_semantics.specs.Locks.{has_room}
 use Rattle.pdl_semantics.specs.Sound.{all_below}
 use Rattle.pdl_derived.specs.Alone.{before}
-use Rattle.pdl_facts.specs.Scans.{from, is_plain, none_of, all_at, reads_ok, no_scan, phases_ok, phase_all, Fresh, is_over, fixed, is_fetch}
+use Rattle.pdl_facts.specs.Scans.{from, is_plain, none_of, all_at, reads_ok, no_scan, phases_ok, phase_all, Fresh, is_over, is_fixed, is_fetch}
 use Rattle.pdl_facts.specs.Certain.{Unmade, makings_ok, making_all, is_made, all_sure}
-use Rattle.pdl_facts.specs.Checks.{in_text_order, knows, on_paths, guard_vars, mem_passes, path_passes, lock_passes, is_below, locks_pass, text_passes, paths_pass}
+use Rattle.pdl_facts.specs.Checks.{in_text_order, knows_memory, on_paths, guard_vars, mem_passes, path_passes, lock_passes, is_below, locks_pass, text_passes, paths_pass}
 use Rattle.pdl_facts.specs.Accepted.{Accepted, Pathwise, along}
 use Rattle.pdl_derived.proofs.Writes.{and_left, and_right}
 use Rattle.pdl_facts.proofs.Texts.{below_at, past_end, where_true, none_before, pieces, ordered, whole, reads_first, no_fetch, all_at_none, no_reserve, no_release, stays_fresh, on_each_path}
 
--- what holds of each number below a bound, and behind it
+-- what holds of each number below a bound, and after it
 pub by_bound : (n m : ℕ) (R : Type 0) → (m < n → R) → (n ≤ m → R) → R
 by_bound n m R f g = at (nat_lt m n) refl
   where
@@ -25,7 +25,7 @@ by_bound n m R f g = at (nat_lt m n) refl
 pub record Parts (p : Pipe) : Type 0 where
   pub some : 0 < length p.stages
   pub locks : locks_pass p ≡ true
-  pub known : list_all (λ x. knows (length p.mems) x.op) p.stmts ≡ true
+  pub known : list_all (λ x. knows_memory (length p.mems) x.op) p.stmts ≡ true
   pub unfetched : none_of is_fetch p.stmts ≡ true
   pub below : is_below (length p.stages) (verify_stage p.stmts) ≡ true
   pub paths : (path : List ℕ) → path_passes p (onpath path p.stmts) ≡ true
@@ -33,7 +33,7 @@ pub record Parts (p : Pipe) : Type 0 where
 -- what is tested of a path's reads
 reads_of : (p : Pipe) (xs : List Stmt) → path_passes p xs ≡ true → reads_ok p no_scan xs ≡ true
 reads_of p xs ok =
-    and_left _ _ (and_right (list_all (λ x. knows (length p.mems) x.op) xs) _ (and_right (list_all (λ x. nat_lt x.stage (length p.stages)) xs) _ (and_right (in_text_order 0 xs) _ ok)))
+    and_left _ _ (and_right (list_all (λ x. knows_memory (length p.mems) x.op) xs) _ (and_right (list_all (λ x. nat_lt x.stage (length p.stages)) xs) _ (and_right (in_text_order 0 xs) _ ok)))
 
 each_passes : (p : Pipe) → on_paths (guard_vars p.stmts) (path_passes p) p.stmts ≡ true → (path : List ℕ) → path_passes p (onpath path p.stmts) ≡ true
 each_passes p ok path = on_each_path p no_scan (guard_vars p.stmts) (path_passes p) p.stmts path (reads_of p) ok
@@ -62,7 +62,7 @@ module _ (p : Pipe) (h : Parts p) where
       by_bound (length p.mems) m (has_room (mem_at p m).lock 0 ≡ true) (λ low. and_left (has_room (mem_at p m).lock 0) _ (lock_ok m low))
       (λ past. ap (λ (x : Mem). has_room x.lock 0) (past_end p.mems m plain_mem past))
 
-  -- the tests of a lock behind the first one
+  -- the tests of a lock after the first one
   lock_rest : (m : ℕ) → m < length p.mems → (all_at (is_reserve m) (reserve_stage p m) p.stmts && (all_at (is_release m) (commit_stage p m) p.stmts && (not (is_plain (mem_at p m).lock) || ((reserve_stage p m == 0) && (commit_stage p m == length p.stages))))) ≡ true
   lock_rest m low = and_right (has_room (mem_at p m).lock 0) _ (lock_ok m low)
 
@@ -82,7 +82,7 @@ module _ (p : Pipe) (h : Parts p) where
       (λ past. commit_past m past)
 
   -- STATEMENTS
-  pub known : list_all (λ x. knows (length p.mems) x.op) p.stmts ≡ true
+  pub known : list_all (λ x. knows_memory (length p.mems) x.op) p.stmts ≡ true
   known = h.known
 
   pub unfetched : none_of is_fetch p.stmts ≡ true
@@ -111,20 +111,20 @@ module _ (p : Pipe) (h : Parts p) where
     path_order : in_text_order 0 (onpath path p.stmts) ≡ true
     path_order = and_left _ _ ok
 
-    behind_order : (list_all (λ x. nat_lt x.stage (length p.stages)) xs && (list_all (λ x. knows (length p.mems) x.op) xs && (reads_ok p no_scan xs && (all_below (mem_passes p xs) (length p.mems) && (makings_ok (verify_stage p.stmts) Unmade xs && (is_made (making_all Unmade xs) && all_sure (verify_stage p.stmts) false no_scan xs)))))) ≡ true
-    behind_order = and_right (in_text_order 0 xs) _ ok
+    after_order : (list_all (λ x. nat_lt x.stage (length p.stages)) xs && (list_all (λ x. knows_memory (length p.mems) x.op) xs && (reads_ok p no_scan xs && (all_below (mem_passes p xs) (length p.mems) && (makings_ok (verify_stage p.stmts) Unmade xs && (is_made (making_all Unmade xs) && all_sure (verify_stage p.stmts) false no_scan xs)))))) ≡ true
+    after_order = and_right (in_text_order 0 xs) _ ok
 
-    behind_stages : (list_all (λ x. knows (length p.mems) x.op) xs && (reads_ok p no_scan xs && (all_below (mem_passes p xs) (length p.mems) && (makings_ok (verify_stage p.stmts) Unmade xs && (is_made (making_all Unmade xs) && all_sure (verify_stage p.stmts) false no_scan xs))))) ≡ true
-    behind_stages = and_right (list_all (λ x. nat_lt x.stage (length p.stages)) xs) _ behind_order
+    after_stages : (list_all (λ x. knows_memory (length p.mems) x.op) xs && (reads_ok p no_scan xs && (all_below (mem_passes p xs) (length p.mems) && (makings_ok (verify_stage p.stmts) Unmade xs && (is_made (making_all Unmade xs) && all_sure (verify_stage p.stmts) false no_scan xs))))) ≡ true
+    after_stages = and_right (list_all (λ x. nat_lt x.stage (length p.stages)) xs) _ after_order
 
-    path_known : list_all (λ x. knows (length p.mems) x.op) (onpath path p.stmts) ≡ true
-    path_known = and_left _ _ behind_stages
+    path_known : list_all (λ x. knows_memory (length p.mems) x.op) (onpath path p.stmts) ≡ true
+    path_known = and_left _ _ after_stages
 
     path_reads : reads_ok p no_scan (onpath path p.stmts) ≡ true
     path_reads = reads_of p (onpath path p.stmts) ok
 
-    behind_reads : (all_below (mem_passes p xs) (length p.mems) && (makings_ok (verify_stage p.stmts) Unmade xs && (is_made (making_all Unmade xs) && all_sure (verify_stage p.stmts) false no_scan xs))) ≡ true
-    behind_reads = and_right (reads_ok p no_scan xs) _ (and_right (list_all (λ x. knows (length p.mems) x.op) xs) _ behind_stages)
+    after_reads : (all_below (mem_passes p xs) (length p.mems) && (makings_ok (verify_stage p.stmts) Unmade xs && (is_made (making_all Unmade xs) && all_sure (verify_stage p.stmts) false no_scan xs))) ≡ true
+    after_reads = and_right (reads_ok p no_scan xs) _ (and_right (list_all (λ x. knows_memory (length p.mems) x.op) xs) _ after_stages)
 
     path_unfetched : none_of is_fetch (onpath path p.stmts) ≡ true
     path_unfetched = no_fetch p no_scan (onpath path p.stmts) path_reads
@@ -133,7 +133,7 @@ module _ (p : Pipe) (h : Parts p) where
     path_whole s = ordered s 0 (onpath path p.stmts) path_order path_unfetched
 
     mem_ok : (m : ℕ) → m < length p.mems → mem_passes p (onpath path p.stmts) m ≡ true
-    mem_ok m low = below_at (mem_passes p (onpath path p.stmts)) (length p.mems) m (and_left _ _ behind_reads) low
+    mem_ok m low = below_at (mem_passes p (onpath path p.stmts)) (length p.mems) m (and_left _ _ after_reads) low
 
     path_phases : (m : ℕ) → phases_ok m Fresh (onpath path p.stmts) ≡ true
     path_phases m =
@@ -147,7 +147,7 @@ module _ (p : Pipe) (h : Parts p) where
         (λ low. and_left _ _ (and_right (phases_ok m Fresh xs) _ (mem_ok m low)))
         (λ past. ap is_over (stays_fresh p m (length p.mems) no_scan (onpath path p.stmts) path_known path_reads past).1)
 
-    -- a memory's tests behind the phases
+    -- a memory's tests after the phases
     mem_rest : (m : ℕ) → m < length p.mems → (all_at (is_reserve m) (reserve_stage p m) xs && (all_at (is_release m) (commit_stage p m) xs && (not (is_plain (mem_at p m).lock) || none_of (is_release m) xs))) ≡ true
     mem_rest m low = and_right (is_over (phase_all m Fresh xs)) _ (and_right (phases_ok m Fresh xs) _ (mem_ok m low))
 
@@ -169,17 +169,17 @@ module _ (p : Pipe) (h : Parts p) where
         (λ low. where_true (is_plain (mem_at p m).lock) _ (and_right (all_at (is_release m) (commit_stage p m) xs) _ (and_right (all_at (is_reserve m) (reserve_stage p m) xs) _ (mem_rest m low))) e)
         (λ past. no_release m _ (onpath path p.stmts) path_known past)
 
-    behind_mems : (makings_ok (verify_stage p.stmts) Unmade xs && (is_made (making_all Unmade xs) && all_sure (verify_stage p.stmts) false no_scan xs)) ≡ true
-    behind_mems = and_right (all_below (mem_passes p xs) (length p.mems)) _ behind_reads
+    after_mems : (makings_ok (verify_stage p.stmts) Unmade xs && (is_made (making_all Unmade xs) && all_sure (verify_stage p.stmts) false no_scan xs)) ≡ true
+    after_mems = and_right (all_below (mem_passes p xs) (length p.mems)) _ after_reads
 
     pub path_makings : makings_ok (verify_stage p.stmts) Unmade (onpath path p.stmts) ≡ true
-    path_makings = and_left _ _ behind_mems
+    path_makings = and_left _ _ after_mems
 
     pub path_made : is_made (making_all Unmade (onpath path p.stmts)) ≡ true
-    path_made = and_left _ _ (and_right (makings_ok (verify_stage p.stmts) Unmade xs) _ behind_mems)
+    path_made = and_left _ _ (and_right (makings_ok (verify_stage p.stmts) Unmade xs) _ after_mems)
 
     pub path_sure : all_sure (verify_stage p.stmts) false no_scan (onpath path p.stmts) ≡ true
-    path_sure = and_right (is_made (making_all Unmade xs)) _ (and_right (makings_ok (verify_stage p.stmts) Unmade xs) _ behind_mems)
+    path_sure = and_right (is_made (making_all Unmade xs)) _ (and_right (makings_ok (verify_stage p.stmts) Unmade xs) _ after_mems)
 
     pub accepted : Accepted (along path p)
     accepted =
@@ -187,7 +187,7 @@ module _ (p : Pipe) (h : Parts p) where
           pieces = λ s. pieces s 0 (onpath path p.stmts) path_order path_unfetched;
           ordered = path_whole;
           start_first = none_before 0 0 (onpath path p.stmts) path_order (omega arith);
-          whole = whole (length p.stages) (onpath path p.stmts) (and_left _ _ behind_order) path_unfetched;
+          whole = whole (length p.stages) (onpath path p.stmts) (and_left _ _ after_order) path_unfetched;
           some_stage = some_stage;
           locks = locks;
           plain = path_plain;
@@ -204,7 +204,7 @@ module _ (p : Pipe) (h : Parts p) where
   verify_low v e = ltb-true _ _ (subst (λ o. is_below (length p.stages) o ≡ true) e h.below)
 
   -- the facts of paths
-  pub pathwise : fixed p.stmts ≡ true → ((s : ℕ) → fixed (before s p.stmts ++ (in_stage s p.stmts ++ from (suc s) p.stmts)) ≡ true) → Pathwise p
+  pub pathwise : is_fixed p.stmts ≡ true → ((s : ℕ) → is_fixed (before s p.stmts ++ (in_stage s p.stmts ++ from (suc s) p.stmts)) ≡ true) → Pathwise p
   pathwise guards by =
       record {
         some_stage = some_stage;
@@ -225,24 +225,24 @@ module _ (p : Pipe) (h : paths_pass p ≡ true) where
   text_ok : text_passes p ≡ true
   text_ok = and_left (text_passes p) _ after_locks
 
-  after_known : (none_of is_fetch p.stmts && (is_below (length p.stages) (verify_stage p.stmts) && (fixed p.stmts && (list_all (λ x. nat_lt x.stage (length p.stages)) p.stmts && all_below (λ s. fixed (before s p.stmts ++ (in_stage s p.stmts ++ from (suc s) p.stmts))) (length p.stages))))) ≡ true
-  after_known = and_right (list_all (λ x. knows (length p.mems) x.op) p.stmts) _ text_ok
+  after_known : (none_of is_fetch p.stmts && (is_below (length p.stages) (verify_stage p.stmts) && (is_fixed p.stmts && (list_all (λ x. nat_lt x.stage (length p.stages)) p.stmts && all_below (λ s. is_fixed (before s p.stmts ++ (in_stage s p.stmts ++ from (suc s) p.stmts))) (length p.stages))))) ≡ true
+  after_known = and_right (list_all (λ x. knows_memory (length p.mems) x.op) p.stmts) _ text_ok
 
-  after_fetch : (is_below (length p.stages) (verify_stage p.stmts) && (fixed p.stmts && (list_all (λ x. nat_lt x.stage (length p.stages)) p.stmts && all_below (λ s. fixed (before s p.stmts ++ (in_stage s p.stmts ++ from (suc s) p.stmts))) (length p.stages)))) ≡ true
+  after_fetch : (is_below (length p.stages) (verify_stage p.stmts) && (is_fixed p.stmts && (list_all (λ x. nat_lt x.stage (length p.stages)) p.stmts && all_below (λ s. is_fixed (before s p.stmts ++ (in_stage s p.stmts ++ from (suc s) p.stmts))) (length p.stages)))) ≡ true
   after_fetch = and_right (none_of is_fetch p.stmts) _ after_known
 
-  after_below : (fixed p.stmts && (list_all (λ x. nat_lt x.stage (length p.stages)) p.stmts && all_below (λ s. fixed (before s p.stmts ++ (in_stage s p.stmts ++ from (suc s) p.stmts))) (length p.stages))) ≡ true
+  after_below : (is_fixed p.stmts && (list_all (λ x. nat_lt x.stage (length p.stages)) p.stmts && all_below (λ s. is_fixed (before s p.stmts ++ (in_stage s p.stmts ++ from (suc s) p.stmts))) (length p.stages))) ≡ true
   after_below = and_right (is_below (length p.stages) (verify_stage p.stmts)) _ after_fetch
 
-  after_fixed : (list_all (λ x. nat_lt x.stage (length p.stages)) p.stmts && all_below (λ s. fixed (before s p.stmts ++ (in_stage s p.stmts ++ from (suc s) p.stmts))) (length p.stages)) ≡ true
-  after_fixed = and_right (fixed p.stmts) _ after_below
+  after_fixed : (list_all (λ x. nat_lt x.stage (length p.stages)) p.stmts && all_below (λ s. is_fixed (before s p.stmts ++ (in_stage s p.stmts ++ from (suc s) p.stmts))) (length p.stages)) ≡ true
+  after_fixed = and_right (is_fixed p.stmts) _ after_below
 
   pub parts_paths : Parts p
   parts_paths =
       record {
         some = ltb-true _ _ (and_left (nat_lt 0 (length p.stages)) _ h);
         locks = and_left (locks_pass p) _ (and_right (nat_lt 0 (length p.stages)) _ h);
-        known = and_left (list_all (λ x. knows (length p.mems) x.op) p.stmts) _ text_ok;
+        known = and_left (list_all (λ x. knows_memory (length p.mems) x.op) p.stmts) _ text_ok;
         unfetched = and_left (none_of is_fetch p.stmts) _ after_known;
         below = and_left (is_below (length p.stages) (verify_stage p.stmts)) _ after_fetch;
         paths = each_passes p (and_right (text_passes p) _ after_locks);
@@ -270,14 +270,14 @@ module _ (p : Pipe) (h : paths_pass p ≡ true) where
       longer (y ∷ ys) i =
           ap₂ (λ a b. a && b) (lt-ltb y.stage s (let j : y.stage < length p.stages = ltb-true _ _ (and_left (nat_lt y.stage (length p.stages)) _ i) in omega arith)) (longer ys (and_right (nat_lt y.stage (length p.stages)) _ i))
 
-  fixed_each : (s : ℕ) → fixed (before s p.stmts ++ (in_stage s p.stmts ++ from (suc s) p.stmts)) ≡ true
+  fixed_each : (s : ℕ) → is_fixed (before s p.stmts ++ (in_stage s p.stmts ++ from (suc s) p.stmts)) ≡ true
   fixed_each s =
       by_bound (length p.stages) s _
-      (λ low. below_at (λ s. fixed (before s p.stmts ++ (in_stage s p.stmts ++ from (suc s) p.stmts))) (length p.stages) s (and_right (list_all (λ x. nat_lt x.stage (length p.stages)) p.stmts) _ after_fixed) low)
+      (λ low. below_at (λ s. is_fixed (before s p.stmts ++ (in_stage s p.stmts ++ from (suc s) p.stmts))) (length p.stages) s (and_right (list_all (λ x. nat_lt x.stage (length p.stages)) p.stmts) _ after_fixed) low)
       (λ past.
       let n = none_left s p.stmts past (and_left (list_all (λ x. nat_lt x.stage (length p.stages)) p.stmts) _ after_fixed) in
-      ap₂ (λ k l. fixed (k ++ l)) (whole_before s p.stmts past (and_left (list_all (λ x. nat_lt x.stage (length p.stages)) p.stmts) _ after_fixed) (and_left (none_of is_fetch p.stmts) _ after_known)) (ap₂ (λ k l. k ++ l) n.0 n.1)
-      ∙ ap fixed (append-nil p.stmts) ∙ and_left (fixed p.stmts) _ after_below)
+      ap₂ (λ k l. is_fixed (k ++ l)) (whole_before s p.stmts past (and_left (list_all (λ x. nat_lt x.stage (length p.stages)) p.stmts) _ after_fixed) (and_left (none_of is_fetch p.stmts) _ after_known)) (ap₂ (λ k l. k ++ l) n.0 n.1)
+      ∙ ap is_fixed (append-nil p.stmts) ∙ and_left (is_fixed p.stmts) _ after_below)
 
   pub pathwise_paths : Pathwise p
-  pathwise_paths = pathwise p parts_paths (and_left (fixed p.stmts) _ after_below) fixed_each
+  pathwise_paths = pathwise p parts_paths (and_left (is_fixed p.stmts) _ after_below) fixed_each

@@ -1,13 +1,13 @@
 -- What tests of statements tell: their order, what they make, which memories they know, and each path.
 use Rattle.std.proofs.Common.{◌≡◌, refl, sym, ap, ap₂, ◌∙◌, subst, ℕ, zero, suc, ◌<◌, ◌≤◌, Bool, true, false, ◌&&◌, ◌||◌, not, List, [], ◌∷◌, ◌++◌, length, Option, Some, None, is_none, nat_lt, ◌==◌, cond, arith, slice_index, slice_index_or, ltb-true, ltb-false, le-ltb, leb-true, le-leb}
 use Rattle.std.proofs.lemmas.Bool.{eqb-true, eqb-false, ne_eqb, lt-leb, and_from, or_left, or_right}
-use Rattle.pdl_semantics.specs.Flat.{list_all, takes, taken, Op, Bind, CombRead, DelayedRead, Write, ReserveRead, ReserveWrite, Block, Release, Call, SpecCall, Verify, SpecCheck, SpecBarrier, Stmt, Guard, Pipe}
+use Rattle.pdl_semantics.specs.Flat.{list_all, takes_branch, all_hold, Op, Bind, CombRead, DelayedRead, Write, ReserveRead, ReserveWrite, Block, Release, Call, SpecCall, Verify, SpecCheck, SpecBarrier, Stmt, Guard, Pipe}
 use Rattle.pdl_semantics.specs.Stages.{onpath, in_stage, is_reserve, is_release, is_verify, verify_stage}
 use Rattle.pdl_semantics.specs.Sound.{all_below}
-use Rattle.pdl_derived.specs.Alone.{before, looked}
-use Rattle.pdl_facts.specs.Scans.{from, no_guards, none_of, all_at, Scan, opens, op_ok, reads_ok, Fresh, next_phase, phase_ok, phases_ok, phase_all, is_fetch}
+use Rattle.pdl_derived.specs.Alone.{before, answered_op}
+use Rattle.pdl_facts.specs.Scans.{from, no_guards, none_of, all_at, Scan, scan_after, op_ok, reads_ok, Fresh, next_phase, phase_ok, phases_ok, phase_all, is_fetch}
 use Rattle.pdl_facts.specs.Scans
-use Rattle.pdl_facts.specs.Checks.{in_text_order, knows, alike, stays, without, choose, on_paths}
+use Rattle.pdl_facts.specs.Checks.{in_text_order, knows_memory, alike, agrees_with, without, choose, on_paths}
 use Rattle.pdl_derived.proofs.Writes.{and_left, and_right}
 
 -- NUMBERS AND LISTS
@@ -41,7 +41,7 @@ apart m n k h low = let i : k < n = ltb-true _ _ h in ne_eqb k m (λ e. absurd (
 
 -- THE ORDER OF STATEMENTS
 
-looked_same : (op : Op) → not (is_fetch op) ≡ true → looked op ≡ op
+looked_same : (op : Op) → not (is_fetch op) ≡ true → answered_op op ≡ op
 looked_same (DelayedRead x m a) h = absurd (cc h)
 looked_same _ h = refl
 
@@ -49,7 +49,7 @@ pub none_before : (s l : ℕ) (xs : List Stmt) → in_text_order l xs ≡ true �
 none_before s l [] h k = refl
 none_before s l (x ∷ xs) h k =
     let low : l ≤ x.stage = leb-true _ _ (and_left _ _ h) in
-    ap (λ b. cond b (record x { op = looked x.op } ∷ before s xs) (before s xs)) (le-ltb x.stage s (omega arith))
+    ap (λ b. cond b (record x { op = answered_op x.op } ∷ before s xs) (before s xs)) (le-ltb x.stage s (omega arith))
     ∙ none_before s x.stage xs (and_right _ _ h) (omega arith)
 
 pub pieces : (s l : ℕ) (xs : List Stmt) → in_text_order l xs ≡ true → none_of is_fetch xs ≡ true → before (suc s) xs ≡ before s xs ++ in_stage s xs
@@ -57,9 +57,9 @@ pieces s l [] h f = refl
 pieces s l (x ∷ xs) h f = at (nat_lt x.stage (suc s)) (nat_lt x.stage s) (x.stage == s) refl refl refl (pieces s x.stage xs (and_right _ _ h) (and_right _ _ f))
   where
     at : (a b c : Bool) → nat_lt x.stage (suc s) ≡ a → nat_lt x.stage s ≡ b → (x.stage == s) ≡ c → before (suc s) xs ≡ before s xs ++ in_stage s xs
-        → cond a (record x { op = looked x.op } ∷ before (suc s) xs) (before (suc s) xs) ≡ cond b (record x { op = looked x.op } ∷ before s xs) (before s xs) ++ cond c (x ∷ in_stage s xs) (in_stage s xs)
+        → cond a (record x { op = answered_op x.op } ∷ before (suc s) xs) (before (suc s) xs) ≡ cond b (record x { op = answered_op x.op } ∷ before s xs) (before s xs) ++ cond c (x ∷ in_stage s xs) (in_stage s xs)
     at true true true e g i k = absurd (let j = eqb-true x.stage s i in let l : x.stage < s = ltb-true _ _ g in omega arith)
-    at true true false e g i k = ap (λ ys. record x { op = looked x.op } ∷ ys) k
+    at true true false e g i k = ap (λ ys. record x { op = answered_op x.op } ∷ ys) k
     at true false true e g i k =
         let none : before s xs ≡ [] = none_before s x.stage xs (and_right _ _ h) (let j = eqb-true x.stage s i in omega arith) in
         ap₂ (λ op ys. record x { op = op } ∷ ys) (looked_same x.op (and_left _ _ f)) (k ∙ ap (λ ys. ys ++ in_stage s xs) none)
@@ -76,10 +76,10 @@ pub ordered : (s l : ℕ) (xs : List Stmt) → in_text_order l xs ≡ true → n
 ordered s l [] h f = refl
 ordered s l (x ∷ xs) h f = at (nat_lt x.stage s) refl (ordered s x.stage xs (and_right _ _ h) (and_right _ _ f))
   where
-    at : (b : Bool) → nat_lt x.stage s ≡ b → xs ≡ before s xs ++ from s xs → x ∷ xs ≡ cond b (record x { op = looked x.op } ∷ before s xs) (before s xs) ++ from s (x ∷ xs)
+    at : (b : Bool) → nat_lt x.stage s ≡ b → xs ≡ before s xs ++ from s xs → x ∷ xs ≡ cond b (record x { op = answered_op x.op } ∷ before s xs) (before s xs) ++ from s (x ∷ xs)
     at true e k =
         ap₂ (λ op ys. record x { op = op } ∷ ys) (sym (looked_same x.op (and_left _ _ f))) k
-        ∙ ap (λ c. record x { op = looked x.op } ∷ (before s xs ++ cond c (x ∷ from s xs) (from s xs))) (sym (lt-leb s x.stage (ltb-true _ _ e)))
+        ∙ ap (λ c. record x { op = answered_op x.op } ∷ (before s xs ++ cond c (x ∷ from s xs) (from s xs))) (sym (lt-leb s x.stage (ltb-true _ _ e)))
     at false e k =
         let none : before s xs ≡ [] = none_before s x.stage xs (and_right _ _ h) (ltb-false _ _ e) in
         ap (λ ys. x ∷ ys) (k ∙ ap (λ ys. ys ++ from s xs) none)
@@ -89,18 +89,18 @@ ordered s l (x ∷ xs) h f = at (nat_lt x.stage s) refl (ordered s x.stage xs (a
 pub whole : (k : ℕ) (xs : List Stmt) → list_all (λ x. nat_lt x.stage k) xs ≡ true → none_of is_fetch xs ≡ true → before k xs ≡ xs
 whole k [] h f = refl
 whole k (x ∷ xs) h f =
-    ap (λ b. cond b (record x { op = looked x.op } ∷ before k xs) (before k xs)) (and_left (nat_lt x.stage k) _ h)
+    ap (λ b. cond b (record x { op = answered_op x.op } ∷ before k xs) (before k xs)) (and_left (nat_lt x.stage k) _ h)
     ∙ ap₂ (λ op ys. record x { op = op } ∷ ys) (looked_same x.op (and_left _ _ f)) (whole k xs (and_right (nat_lt x.stage k) _ h) (and_right _ _ f))
 
 -- READS AND CALLS
 
 pub reads_first : (p : Pipe) (c : Scan) (xs ys : List Stmt) → reads_ok p c (xs ++ ys) ≡ true → reads_ok p c xs ≡ true
 reads_first p c [] ys h = refl
-reads_first p c (x ∷ xs) ys h = and_from _ _ (and_left (no_guards x.guards && op_ok p x.stage c x.op) _ h) (reads_first p (opens x.op c) xs ys (and_right _ _ h))
+reads_first p c (x ∷ xs) ys h = and_from _ _ (and_left (no_guards x.guards && op_ok p x.stage c x.op) _ h) (reads_first p (scan_after x.op c) xs ys (and_right _ _ h))
 
 pub no_fetch : (p : Pipe) (c : Scan) (xs : List Stmt) → reads_ok p c xs ≡ true → none_of is_fetch xs ≡ true
 no_fetch p c [] h = refl
-no_fetch p c (x ∷ xs) h = and_from _ _ (here x.op (and_right _ _ (and_left _ _ h))) (no_fetch p (opens x.op c) xs (and_right _ _ h))
+no_fetch p c (x ∷ xs) h = and_from _ _ (here x.op (and_right _ _ (and_left _ _ h))) (no_fetch p (scan_after x.op c) xs (and_right _ _ h))
   where
     here : (op : Op) → op_ok p x.stage c op ≡ true → not (is_fetch op) ≡ true
     here (Bind y e) k = refl
@@ -131,26 +131,26 @@ pub all_at_none : (test : Op → Bool) (s : ℕ) (xs : List Stmt) → none_of te
 all_at_none test s [] h = refl
 all_at_none test s (x ∷ xs) h = and_from _ _ (or_left (not (test x.op)) _ (and_left _ _ h)) (all_at_none test s xs (and_right _ _ h))
 
-no_reserve_op : (m n : ℕ) (op : Op) → knows n op ≡ true → n ≤ m → not (is_reserve m op) ≡ true
+no_reserve_op : (m n : ℕ) (op : Op) → knows_memory n op ≡ true → n ≤ m → not (is_reserve m op) ≡ true
 no_reserve_op m n (ReserveRead k a) h low = ap not (apart m n k h low)
 no_reserve_op m n (ReserveWrite k a) h low = ap not (apart m n k h low)
 no_reserve_op m n _ h low = refl
 
-no_release_op : (m n : ℕ) (op : Op) → knows n op ≡ true → n ≤ m → not (is_release m op) ≡ true
+no_release_op : (m n : ℕ) (op : Op) → knows_memory n op ≡ true → n ≤ m → not (is_release m op) ≡ true
 no_release_op m n (Release k a) h low = ap not (apart m n k h low)
 no_release_op m n _ h low = refl
 
-pub none_known : (test : Op → Bool) (n : ℕ) (xs : List Stmt) → ((op : Op) → knows n op ≡ true → not (test op) ≡ true) → list_all (λ x. knows n x.op) xs ≡ true → none_of test xs ≡ true
+pub none_known : (test : Op → Bool) (n : ℕ) (xs : List Stmt) → ((op : Op) → knows_memory n op ≡ true → not (test op) ≡ true) → list_all (λ x. knows_memory n x.op) xs ≡ true → none_of test xs ≡ true
 none_known test n [] f h = refl
-none_known test n (x ∷ xs) f h = and_from _ _ (f x.op (and_left (knows n x.op) _ h)) (none_known test n xs f (and_right (knows n x.op) _ h))
+none_known test n (x ∷ xs) f h = and_from _ _ (f x.op (and_left (knows_memory n x.op) _ h)) (none_known test n xs f (and_right (knows_memory n x.op) _ h))
 
-pub no_reserve : (m n : ℕ) (xs : List Stmt) → list_all (λ x. knows n x.op) xs ≡ true → n ≤ m → none_of (is_reserve m) xs ≡ true
+pub no_reserve : (m n : ℕ) (xs : List Stmt) → list_all (λ x. knows_memory n x.op) xs ≡ true → n ≤ m → none_of (is_reserve m) xs ≡ true
 no_reserve m n xs h low = none_known (is_reserve m) n xs (λ op k. no_reserve_op m n op k low) h
 
-pub no_release : (m n : ℕ) (xs : List Stmt) → list_all (λ x. knows n x.op) xs ≡ true → n ≤ m → none_of (is_release m) xs ≡ true
+pub no_release : (m n : ℕ) (xs : List Stmt) → list_all (λ x. knows_memory n x.op) xs ≡ true → n ≤ m → none_of (is_release m) xs ≡ true
 no_release m n xs h low = none_known (is_release m) n xs (λ op k. no_release_op m n op k low) h
 
-fresh_op : (p : Pipe) (s m n : ℕ) (c : Scan) (op : Op) → knows n op ≡ true → op_ok p s c op ≡ true → n ≤ m → (phase_ok m Fresh op ≡ true) × (next_phase m Fresh op ≡ Fresh)
+fresh_op : (p : Pipe) (s m n : ℕ) (c : Scan) (op : Op) → knows_memory n op ≡ true → op_ok p s c op ≡ true → n ≤ m → (phase_ok m Fresh op ≡ true) × (next_phase m Fresh op ≡ Fresh)
 fresh_op p s m n c (CombRead x j a) h k low = (or_right (not (j == m)) true refl, refl)
 fresh_op p s m n c (DelayedRead x j a) h k low = absurd (cc k)
 fresh_op p s m n c (Write j a e) h k low = (ap (λ b. not b || false) (apart m n j h low), ap (λ b. cond b (Scans.Written a) Fresh) (apart m n j h low))
@@ -158,27 +158,27 @@ fresh_op p s m n c (ReserveWrite j a) h k low = (or_right (not (j == m)) true re
 fresh_op p s m n c (Release j a) h k low = (or_right (not (j == m)) true refl, ap (λ b. cond b Fresh Fresh) (apart m n j h low))
 fresh_op p s m n c _ h k low = (refl, refl)
 
-pub stays_fresh : (p : Pipe) (m n : ℕ) (c : Scan) (xs : List Stmt) → list_all (λ x. knows n x.op) xs ≡ true → reads_ok p c xs ≡ true → n ≤ m
+pub stays_fresh : (p : Pipe) (m n : ℕ) (c : Scan) (xs : List Stmt) → list_all (λ x. knows_memory n x.op) xs ≡ true → reads_ok p c xs ≡ true → n ≤ m
     → (phases_ok m Fresh xs ≡ true) × (phase_all m Fresh xs ≡ Fresh)
 stays_fresh p m n c [] h k low = (refl, refl)
 stays_fresh p m n c (x ∷ xs) h k low =
     let ok = and_left (no_guards x.guards && op_ok p x.stage c x.op) _ k in
-    let here = fresh_op p x.stage m n c x.op (and_left (knows n x.op) _ h) (and_right (no_guards x.guards) _ ok) low in
-    let rest = stays_fresh p m n (opens x.op c) xs (and_right (knows n x.op) _ h) (and_right (no_guards x.guards && op_ok p x.stage c x.op) _ k) low in (
+    let here = fresh_op p x.stage m n c x.op (and_left (knows_memory n x.op) _ h) (and_right (no_guards x.guards) _ ok) low in
+    let rest = stays_fresh p m n (scan_after x.op c) xs (and_right (knows_memory n x.op) _ h) (and_right (no_guards x.guards && op_ok p x.stage c x.op) _ k) low in (
       and_from _ _ (and_from _ _ (and_left (no_guards x.guards) _ ok) here.0) (subst (λ ph. phases_ok m ph xs ≡ true) (sym here.1) rest.0),
       ap (λ ph. phase_all m ph xs) here.1 ∙ rest.1,
     )
 
 -- PATHS
 
-side_alike : (a b : Bool) (v : ℕ) → (v == 1) ≡ b → takes a v ≡ alike a b
+side_alike : (a b : Bool) (v : ℕ) → (v == 1) ≡ b → takes_branch a v ≡ alike a b
 side_alike true b v h = h ∙ plain b
   where
     plain : (b : Bool) → b ≡ alike true b
     plain b = refl
 side_alike false b v h = ap not h
 
-taken_split : (g : ℕ) (b : Bool) (hs : List Guard) (env : List ℕ) → (slice_index env g == 1) ≡ b → taken hs env ≡ (stays g b hs && taken (without g hs) env)
+taken_split : (g : ℕ) (b : Bool) (hs : List Guard) (env : List ℕ) → (slice_index env g == 1) ≡ b → all_hold hs env ≡ (agrees_with g b hs && all_hold (without g hs) env)
 taken_split g b [] env e = refl
 taken_split g b (h ∷ hs) env e = at (h.var == g) refl (taken_split g b hs env e)
   where
@@ -192,22 +192,22 @@ taken_split g b (h ∷ hs) env e = at (h.var == g) refl (taken_split g b hs env 
     assoc true y z = refl
     assoc false y z = refl
 
-    at : (c : Bool) → (h.var == g) ≡ c → taken hs env ≡ (stays g b hs && taken (without g hs) env)
-        → (takes h.first (slice_index env h.var) && taken hs env) ≡ (((not c || alike h.first b) && stays g b hs) && taken (cond c (without g hs) (h ∷ without g hs)) env)
+    at : (c : Bool) → (h.var == g) ≡ c → all_hold hs env ≡ (agrees_with g b hs && all_hold (without g hs) env)
+        → (takes_branch h.first (slice_index env h.var) && all_hold hs env) ≡ (((not c || alike h.first b) && agrees_with g b hs) && all_hold (cond c (without g hs) (h ∷ without g hs)) env)
     at true i k =
         ap₂ (λ x y. x && y) (side_alike h.first b (slice_index env h.var) (ap (λ n. slice_index env n == 1) (eqb-true h.var g i) ∙ e)) k
-        ∙ assoc (alike h.first b) (stays g b hs) (taken (without g hs) env)
-    at false i k = ap (λ y. takes h.first (slice_index env h.var) && y) k ∙ swap (takes h.first (slice_index env h.var)) (stays g b hs) (taken (without g hs) env)
+        ∙ assoc (alike h.first b) (agrees_with g b hs) (all_hold (without g hs) env)
+    at false i k = ap (λ y. takes_branch h.first (slice_index env h.var) && y) k ∙ swap (takes_branch h.first (slice_index env h.var)) (agrees_with g b hs) (all_hold (without g hs) env)
 
 chosen : (g : ℕ) (b : Bool) (xs : List Stmt) (env : List ℕ) → (slice_index env g == 1) ≡ b → onpath env xs ≡ onpath env (choose g b xs)
 chosen g b [] env e = refl
 chosen g b (x ∷ xs) env e =
     ap (λ c. cond c (record x { guards = [] } ∷ onpath env xs) (onpath env xs)) (taken_split g b x.guards env e)
-    ∙ at (stays g b x.guards) (chosen g b xs env e)
+    ∙ at (agrees_with g b x.guards) (chosen g b xs env e)
   where
     at : (c : Bool) → onpath env xs ≡ onpath env (choose g b xs)
-        → cond (c && taken (without g x.guards) env) (record x { guards = [] } ∷ onpath env xs) (onpath env xs) ≡ onpath env (cond c (record x { guards = without g x.guards } ∷ choose g b xs) (choose g b xs))
-    at true k = ap (λ ys. cond (taken (without g x.guards) env) (record x { guards = [] } ∷ ys) ys) k
+        → cond (c && all_hold (without g x.guards) env) (record x { guards = [] } ∷ onpath env xs) (onpath env xs) ≡ onpath env (cond c (record x { guards = without g x.guards } ∷ choose g b xs) (choose g b xs))
+    at true k = ap (λ ys. cond (all_hold (without g x.guards) env) (record x { guards = [] } ∷ ys) ys) k
     at false k = k
 
 no_guard : (gs : List Guard) → no_guards gs ≡ true → gs ≡ []
@@ -218,8 +218,8 @@ unguarded : (p : Pipe) (c : Scan) (xs : List Stmt) (env : List ℕ) → reads_ok
 unguarded p c [] env h = refl
 unguarded p c (x ∷ xs) env h =
     let none : x.guards ≡ [] = no_guard x.guards (and_left (no_guards x.guards) _ (and_left (no_guards x.guards && op_ok p x.stage c x.op) _ h)) in
-    ap (λ gs. cond (taken gs env) (record x { guards = [] } ∷ onpath env xs) (onpath env xs)) none
-    ∙ ap₂ (λ gs ys. record x { guards = gs } ∷ ys) (sym none) (unguarded p (opens x.op c) xs env (and_right (no_guards x.guards && op_ok p x.stage c x.op) _ h))
+    ap (λ gs. cond (all_hold gs env) (record x { guards = [] } ∷ onpath env xs) (onpath env xs)) none
+    ∙ ap₂ (λ gs ys. record x { guards = gs } ∷ ys) (sym none) (unguarded p (scan_after x.op c) xs env (and_right (no_guards x.guards && op_ok p x.stage c x.op) _ h))
 
 -- what holds on all paths that are tried holds on each path
 pub on_each_path : (p : Pipe) (c : Scan) (gs : List ℕ) (test : List Stmt → Bool) (xs : List Stmt) (env : List ℕ) → ((ys : List Stmt) → test ys ≡ true → reads_ok p c ys ≡ true)

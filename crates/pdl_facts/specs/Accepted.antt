@@ -4,7 +4,7 @@ use Rattle.pdl_semantics.specs.Flat.{Pipe}
 use Rattle.pdl_semantics.specs.Stages.{onpath, in_stage, mem_at, verify_stage, commit_stage, reserve_stage, is_reserve, is_release}
 use Rattle.pdl_semantics.specs.Locks.{has_room}
 use Rattle.pdl_derived.specs.Alone.{before}
-use Rattle.pdl_facts.specs.Scans.{from, is_plain, none_of, reads_ok, no_scan, phases_ok, phase_all, Fresh, is_over, all_at, fixed}
+use Rattle.pdl_facts.specs.Scans.{from, is_plain, none_of, reads_ok, no_scan, phases_ok, phase_all, Fresh, is_over, all_at, is_fixed}
 use Rattle.pdl_facts.specs.Certain.{Unmade, makings_ok, making_all, is_made, all_sure}
 
 -- of a pipe without guards: what holds of the statements of one path
@@ -38,8 +38,8 @@ along path p = record p { stmts = onpath path p.stmts }
 pub record Pathwise (p : Pipe) : Type 0 where
   pub some_stage : 0 < length p.stages
   -- N2, N3: a guard's variable is not bound where it is tested or later in the text, nor in a later stage
-  pub fixed_guards : fixed p.stmts ≡ true
-  pub fixed_by : (s : ℕ) → fixed (before s p.stmts ++ (in_stage s p.stmts ++ from (suc s) p.stmts)) ≡ true
+  pub fixed_guards : is_fixed p.stmts ≡ true
+  pub fixed_by : (s : ℕ) → is_fixed (before s p.stmts ++ (in_stage s p.stmts ++ from (suc s) p.stmts)) ≡ true
   pub releases : (m : ℕ) → all_at (is_release m) (commit_stage p m) p.stmts ≡ true
   pub verify_inside : (v : ℕ) → verify_stage p.stmts ≡ Some v → v < length p.stages
   pub paths : (path : List ℕ) → Accepted (along path p)

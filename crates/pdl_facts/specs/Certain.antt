@@ -1,7 +1,7 @@
 -- Facts of an accepted pipe on guesses: scans over the statements of one path that tell who makes the next thread, and that nothing is released before it is certain.
 use Rattle.std.specs.Prelude.{ℕ, Bool, true, false, ◌&&◌, ◌||◌, not, List, [], ◌∷◌, Option, Some, None, ◌==◌, nat_lt}
 use Rattle.pdl_semantics.specs.Flat.{Op, Release, Call, SpecCall, Verify, SpecBarrier, Stmt}
-use Rattle.pdl_facts.specs.Scans.{opened, opens, Scan}
+use Rattle.pdl_facts.specs.Scans.{has_location, scan_after, Scan}
 
 -- whether a stage is V, and whether it stands before V
 abbrev pub stands_at : Option ℕ → ℕ → Bool
@@ -59,11 +59,11 @@ abbrev pub is_barrier : Op → Bool
 is_barrier SpecBarrier = true
 is_barrier _ = false
 
--- S4: behind a barrier, or in V and later, anything is released; else only what was not reserved for writing
+-- S4: after a barrier, or in V and later, anything is released; else only what was not reserved for writing
 abbrev pub is_sure : Option ℕ → Bool → Scan → ℕ → Op → Bool
-is_sure v barred c s (Release m a) = barred || (not (opened c.held m a) || not (stands_before v s))
+is_sure v barred c s (Release m a) = barred || (not (has_location c.held m a) || not (stands_before v s))
 is_sure v barred c s _ = true
 
 abbrev pub all_sure : Option ℕ → Bool → Scan → List Stmt → Bool
 all_sure v barred c [] = true
-all_sure v barred c (x ∷ xs) = is_sure v barred c x.stage x.op && all_sure v (barred || is_barrier x.op) (opens x.op c) xs
+all_sure v barred c (x ∷ xs) = is_sure v barred c x.stage x.op && all_sure v (barred || is_barrier x.op) (scan_after x.op c) xs

@@ -5,24 +5,24 @@ use Rattle.pdl_derived.specs.Alone.{before}
 use Rattle.pdl_semantics.specs.Stages.{in_stage, mem_at, commit_stage, reserve_stage, is_reserve, is_release, verify_stage}
 use Rattle.pdl_semantics.specs.Locks.{has_room}
 use Rattle.pdl_semantics.specs.Sound.{all_below}
-use Rattle.pdl_facts.specs.Scans.{from, is_plain, none_of, reads_ok, no_scan, phases_ok, phase_all, Fresh, is_over, all_at, fixed, is_fetch}
+use Rattle.pdl_facts.specs.Scans.{from, is_plain, none_of, reads_ok, no_scan, phases_ok, phase_all, Fresh, is_over, all_at, is_fixed, is_fetch}
 use Rattle.pdl_facts.specs.Certain.{Unmade, makings_ok, making_all, is_made, all_sure}
 
--- statements stand in the order of their stages, the first in stage s or behind it
+-- statements stand in the order of their stages, the first in stage s or after it
 abbrev pub in_text_order : ℕ → List Stmt → Bool
 in_text_order s [] = true
 in_text_order s (x ∷ xs) = nat_le s x.stage && in_text_order x.stage xs
 
 -- a statement's memory is one of n
-abbrev pub knows : ℕ → Op → Bool
-knows n (CombRead x m a) = nat_lt m n
-knows n (DelayedRead x m a) = nat_lt m n
-knows n (Write m a e) = nat_lt m n
-knows n (ReserveRead m a) = nat_lt m n
-knows n (ReserveWrite m a) = nat_lt m n
-knows n (Block m a) = nat_lt m n
-knows n (Release m a) = nat_lt m n
-knows n _ = true
+abbrev pub knows_memory : ℕ → Op → Bool
+knows_memory n (CombRead x m a) = nat_lt m n
+knows_memory n (DelayedRead x m a) = nat_lt m n
+knows_memory n (Write m a e) = nat_lt m n
+knows_memory n (ReserveRead m a) = nat_lt m n
+knows_memory n (ReserveWrite m a) = nat_lt m n
+knows_memory n (Block m a) = nat_lt m n
+knows_memory n (Release m a) = nat_lt m n
+knows_memory n _ = true
 
 -- a guess, and its verify
 abbrev pub is_guess : Op → Bool
@@ -36,9 +36,9 @@ is_guess _ = false
 abbrev pub alike : Bool → Bool → Bool
 alike a b = if a then b else not b
 
-abbrev pub stays : ℕ → Bool → List Guard → Bool
-stays g b [] = true
-stays g b (h ∷ hs) = (not (h.var == g) || alike h.first b) && stays g b hs
+abbrev pub agrees_with : ℕ → Bool → List Guard → Bool
+agrees_with g b [] = true
+agrees_with g b (h ∷ hs) = (not (h.var == g) || alike h.first b) && agrees_with g b hs
 
 abbrev pub without : ℕ → List Guard → List Guard
 without g [] = []
@@ -46,7 +46,7 @@ without g (h ∷ hs) = if h.var == g then without g hs else h ∷ without g hs
 
 abbrev pub choose : ℕ → Bool → List Stmt → List Stmt
 choose g b [] = []
-choose g b (x ∷ xs) = if stays g b x.guards then record x { guards = without g x.guards } ∷ choose g b xs else choose g b xs
+choose g b (x ∷ xs) = if agrees_with g b x.guards then record x { guards = without g x.guards } ∷ choose g b xs else choose g b xs
 
 -- a test of the statements of each path, over all values of these guards
 abbrev pub on_paths : List ℕ → (List Stmt → Bool) → List Stmt → Bool
@@ -73,7 +73,7 @@ abbrev pub path_passes : Pipe → List Stmt → Bool
 path_passes p xs =
     in_text_order 0 xs
     && (list_all (λ x. nat_lt x.stage (length p.stages)) xs
-    && (list_all (λ x. knows (length p.mems) x.op) xs
+    && (list_all (λ x. knows_memory (length p.mems) x.op) xs
     && (reads_ok p no_scan xs && (all_below (mem_passes p xs) (length p.mems) && (makings_ok (verify_stage p.stmts) Unmade xs && (is_made (making_all Unmade xs) && all_sure (verify_stage p.stmts) false no_scan xs))))))
 
 -- THE TEXT
@@ -98,11 +98,11 @@ locks_pass p =
 -- of the text, which with forks need not stand in the order of stages
 abbrev pub text_passes : Pipe → Bool
 text_passes p =
-    list_all (λ x. knows (length p.mems) x.op) p.stmts
+    list_all (λ x. knows_memory (length p.mems) x.op) p.stmts
     && (none_of is_fetch p.stmts
     && (is_below (length p.stages) (verify_stage p.stmts)
-    && (fixed p.stmts
-    && (list_all (λ x. nat_lt x.stage (length p.stages)) p.stmts && all_below (λ s. fixed (before s p.stmts ++ (in_stage s p.stmts ++ from (suc s) p.stmts))) (length p.stages)))))
+    && (is_fixed p.stmts
+    && (list_all (λ x. nat_lt x.stage (length p.stages)) p.stmts && all_below (λ s. is_fixed (before s p.stmts ++ (in_stage s p.stmts ++ from (suc s) p.stmts))) (length p.stages)))))
 
 abbrev pub paths_pass : Pipe → Bool
 paths_pass p = nat_lt 0 (length p.stages) && (locks_pass p && (text_passes p && on_paths (guard_vars p.stmts) (path_passes p) p.stmts))

@@ -2,8 +2,8 @@
 use Rattle.std.specs.Prelude.{◌≡◌, ℕ, suc, ◌≤◌, ◌<◌, Bool, true, false, ◌&&◌, ◌||◌, not, List, [], ◌∷◌, Option, Some, None, ◌==◌, length, nat_lt, nat_le, slice_index}
 use Rattle.pdl_semantics.specs.Flat.{list_all, Op, Bind, CombRead, DelayedRead, Write, ReserveRead, ReserveWrite, Block, Release, Call, SpecCall, Verify, SpecCheck, SpecBarrier, Expr, Constant, Variable, Slice, Not, Binary, Cat, LessSigned, ZeroExtend, SignExtend, Choose, Guard, Stmt, Lock, Plain, Queue, Forks, Branch, Pipe}
 use Rattle.pdl_semantics.specs.Stages.{is_inside, is_reserve, is_verify, onpath, in_stage, stage_at, mem_at, verify_stage, commit_stage, reserve_stage}
-use Rattle.pdl_derived.specs.Alone.{before, looked}
-use Rattle.pdl_facts.specs.Scans.{from, none_of, all_at, binds, is_fetch}
+use Rattle.pdl_derived.specs.Alone.{before, answered_op}
+use Rattle.pdl_facts.specs.Scans.{from, none_of, all_at, binds_var, is_fetch}
 pub use Rattle.pdl_facts.specs.Scans.{against, is_dead}
 use Rattle.pdl_semantics.specs.Cycle.{merges_by}
 use Rattle.pdl_facts.specs.Graphs.{next_of, Graph, In, Branches, goes_by}
@@ -28,17 +28,17 @@ uses_any x [] = false
 uses_any x (e ∷ es) = uses_in x e || uses_any x es
 
 -- whether a statement binds a variable or uses its value
-abbrev pub mentions : ℕ → Op → Bool
-mentions x (Bind y e) = (y == x) || uses_in x e
-mentions x (CombRead y m a) = (y == x) || (a == x)
-mentions x (DelayedRead y m a) = (y == x) || (a == x)
-mentions x (Write m a e) = (a == x) || uses_in x e
-mentions x (ReserveWrite m a) = a == x
-mentions x (Block m a) = a == x
-mentions x (Call args) = uses_any x args
-mentions x (SpecCall args) = uses_any x args
-mentions x (Verify args) = uses_any x args
-mentions x _ = false
+abbrev pub mentions_var : ℕ → Op → Bool
+mentions_var x (Bind y e) = (y == x) || uses_in x e
+mentions_var x (CombRead y m a) = (y == x) || (a == x)
+mentions_var x (DelayedRead y m a) = (y == x) || (a == x)
+mentions_var x (Write m a e) = (a == x) || uses_in x e
+mentions_var x (ReserveWrite m a) = a == x
+mentions_var x (Block m a) = a == x
+mentions_var x (Call args) = uses_any x args
+mentions_var x (SpecCall args) = uses_any x args
+mentions_var x (Verify args) = uses_any x args
+mentions_var x _ = false
 
 abbrev pub asks_for : ℕ → List Guard → Bool
 asks_for x [] = false
@@ -47,7 +47,7 @@ asks_for x (g ∷ gs) = (g.var == x) || asks_for x gs
 -- no statement of a path has a guard on x or anything to do with it
 abbrev pub silent_on : ℕ → List Stmt → Bool
 silent_on x [] = true
-silent_on x (y ∷ ys) = (is_dead y.guards || (not (asks_for x y.guards) && not (mentions x y.op))) && silent_on x ys
+silent_on x (y ∷ ys) = (is_dead y.guards || (not (asks_for x y.guards) && not (mentions_var x y.op))) && silent_on x ys
 
 -- FORKS
 
@@ -65,14 +65,14 @@ trunk_only _ = false
 
 -- DELAYED READS
 
--- N3: in its stage nothing behind a delayed read has to do with its variable
+-- N3: in its stage nothing after a delayed read has to do with its variable
 abbrev pub unseen_op : Op → List Stmt → Bool
 unseen_op (DelayedRead x m a) ys = silent_on x ys
 unseen_op _ ys = true
 
-abbrev pub unseen : List Stmt → Bool
-unseen [] = true
-unseen (y ∷ ys) = unseen_op y.op ys && unseen ys
+abbrev pub is_unseen : List Stmt → Bool
+is_unseen [] = true
+is_unseen (y ∷ ys) = unseen_op y.op ys && is_unseen ys
 
 -- N2, F3: delayed reads of one stage have different memories and variables
 abbrev pub fetches_no : ℕ → ℕ → Op → Bool
@@ -118,20 +118,20 @@ abbrev pub AllFetches : Pipe → (ℕ → ℕ) → ℕ → List Stmt → Type 0
 AllFetches p fetch s [] = Unit {0}
 AllFetches p fetch s (y ∷ ys) = FetchIf p fetch s y.guards y.op × AllFetches p fetch s ys
 
-abbrev pub fetches : ℕ → Op → Bool
-fetches x (DelayedRead y m a) = y == x
-fetches x _ = false
+abbrev pub is_fetch_of : ℕ → Op → Bool
+is_fetch_of x (DelayedRead y m a) = y == x
+is_fetch_of x _ = false
 
 -- values that differ in what these statements read delayed, and in nothing else
 abbrev pub DifferIn : List Stmt → List ℕ → List ℕ → Type 0
-DifferIn ys env env' = (x : ℕ) → none_of (fetches x) ys ≡ true → slice_index env' x ≡ slice_index env x
+DifferIn ys env env' = (x : ℕ) → none_of (is_fetch_of x) ys ≡ true → slice_index env' x ≡ slice_index env x
 
 -- GUARDS
 
 -- whether a statement binds the variable of one of these guards
 abbrev pub binds_guard : Op → List Guard → Bool
 binds_guard op [] = false
-binds_guard op (g ∷ gs) = binds g.var op || binds_guard op gs
+binds_guard op (g ∷ gs) = binds_var g.var op || binds_guard op gs
 
 -- a definition in stage s for a use in stage r: not later, and earlier if it is a delayed read
 abbrev pub defined_by : ℕ → Op → ℕ → Bool
@@ -146,7 +146,7 @@ late_for z (y ∷ ys) = (not (binds_guard y.op z.guards) || defined_by y.stage y
 -- where each delayed read has its answer at once
 abbrev pub looked_all : List Stmt → List Stmt
 looked_all [] = []
-looked_all (x ∷ xs) = record x { op = looked x.op } ∷ looked_all xs
+looked_all (x ∷ xs) = record x { op = answered_op x.op } ∷ looked_all xs
 
 abbrev pub at_once : Pipe → Pipe
 at_once p = record p { stmts = looked_all p.stmts }
@@ -156,8 +156,8 @@ abbrev pub comes_by : Pipe → List ℕ → Option Branch → Bool
 comes_by p path None = true
 comes_by p path (Some c) = goes_by p c path
 
-abbrev pub visits : Pipe → List ℕ → ℕ → Bool
-visits p path s = comes_by p path (stage_at p s).branch
+abbrev pub visits_stage : Pipe → List ℕ → ℕ → Bool
+visits_stage p path s = comes_by p path (stage_at p s).branch
 
 pub record Sound (p : Pipe) : Type 0 where
   -- part C, F1, F2: the stages
@@ -181,17 +181,17 @@ pub record Sound (p : Pipe) : Type 0 where
   -- N2, N3: the definition of a guard's variable stands before each use of a path, a delayed read's before the separator before it
   pub guards_late : list_all (λ z. is_dead z.guards || late_for z p.stmts) p.stmts ≡ true
   -- part C: a path has no statement in the stages that it passes over
-  pub skips : (path : List ℕ) (s : ℕ) → s < length p.stages → visits p path s ≡ true → before (next_of p s path) (onpath path p.stmts) ≡ before (suc s) (onpath path p.stmts)
+  pub skips : (path : List ℕ) (s : ℕ) → s < length p.stages → visits_stage p path s ≡ true → before (next_of p s path) (onpath path p.stmts) ≡ before (suc s) (onpath path p.stmts)
   -- N2, N3: a fork's variable is bound before its stage ends, and read at once
-  pub fork_bound : (s x a b : ℕ) → (stage_at p s).next ≡ Forks x a b → none_of (binds x) (from (suc s) p.stmts) ≡ true
+  pub fork_bound : (s x a b : ℕ) → (stage_at p s).next ≡ Forks x a b → none_of (binds_var x) (from (suc s) p.stmts) ≡ true
   pub fork_known : (s x a b : ℕ) → (stage_at p s).next ≡ Forks x a b → x < p.vars
-  pub fork_seen : (s x a b : ℕ) → (stage_at p s).next ≡ Forks x a b → none_of (fetches x) (in_stage s p.stmts) ≡ true
+  pub fork_seen : (s x a b : ℕ) → (stage_at p s).next ≡ Forks x a b → none_of (is_fetch_of x) (in_stage s p.stmts) ≡ true
   -- delayed reads
   pub fetch : ℕ → ℕ
   pub fetch_ok : (s : ℕ) → AllFetches p fetch s (in_stage s p.stmts)
   -- N3: what a stage reads delayed decides no guard on a path before the stage where it is bound
   pub fetch_blind : (s : ℕ) (env env' : List ℕ) → DifferIn (in_stage s p.stmts) env env' → onpath env' (before (next_of p s env) p.stmts) ≡ onpath env (before (next_of p s env) p.stmts)
-  pub fetch_unseen : (s : ℕ) → unseen (in_stage s p.stmts) ≡ true
+  pub fetch_unseen : (s : ℕ) → is_unseen (in_stage s p.stmts) ≡ true
   pub fetch_alone : (s : ℕ) → fetch_apart (in_stage s p.stmts) ≡ true
   -- F3: none stands in the last stage
   pub fetch_inside : (s : ℕ) → suc s ≡ length p.stages → none_of is_fetch (in_stage s p.stmts) ≡ true

@@ -13,13 +13,13 @@ is_plain Plain = true
 is_plain _ = false
 
 -- whether a variable is the address of one of these locations, and whether this location is among them
-abbrev pub uses : List Location → ℕ → Bool
-uses [] x = false
-uses (l ∷ ls) x = (l.var == x) || uses ls x
+abbrev pub is_address : List Location → ℕ → Bool
+is_address [] x = false
+is_address (l ∷ ls) x = (l.var == x) || is_address ls x
 
-abbrev pub opened : List Location → ℕ → ℕ → Bool
-opened [] m a = false
-opened (l ∷ ls) m a = ((l.mem == m) && (l.var == a)) || opened ls m a
+abbrev pub has_location : List Location → ℕ → ℕ → Bool
+has_location [] m a = false
+has_location (l ∷ ls) m a = ((l.mem == m) && (l.var == a)) || has_location ls m a
 
 -- the locations that were reserved for writing, and those that were blocked for reading
 pub record Scan : Type 0 where
@@ -32,27 +32,27 @@ no_scan = record { held = []; blocked = [] }
 abbrev pub location : ℕ → ℕ → Location
 location m a = record { mem = m; var = a }
 
-abbrev pub opens : Op → Scan → Scan
-opens (Block m a) c = if opened c.held m a then c else record { held = c.held; blocked = location m a ∷ c.blocked }
-opens (ReserveWrite m a) c = record { held = location m a ∷ c.held; blocked = c.blocked }
-opens _ c = c
+abbrev pub scan_after : Op → Scan → Scan
+scan_after (Block m a) c = if has_location c.held m a then c else record { held = c.held; blocked = location m a ∷ c.blocked }
+scan_after (ReserveWrite m a) c = record { held = location m a ∷ c.held; blocked = c.blocked }
+scan_after _ c = c
 
-abbrev pub opens_all : List Stmt → Scan → Scan
-opens_all [] c = c
-opens_all (x ∷ xs) c = opens_all xs (opens x.op c)
+abbrev pub scan_after_all : List Stmt → Scan → Scan
+scan_after_all [] c = c
+scan_after_all (x ∷ xs) c = scan_after_all xs (scan_after x.op c)
 
--- a statement of stage s behind such statements: a variable that is the address of a blocked read is not bound again, a block stands no earlier than the reserves, and a read of a lock is blocked for reading and stands no later than the releases
+-- a statement of stage s after such statements: a variable that is the address of a blocked read is not bound again, a block stands no earlier than the reserves, and a read of a lock is blocked for reading and stands no later than the releases
 abbrev pub op_ok : Pipe → ℕ → Scan → Op → Bool
-op_ok p s c (Bind x e) = not (uses c.blocked x)
+op_ok p s c (Bind x e) = not (is_address c.blocked x)
 op_ok p s c (CombRead x m a) =
-    not (uses c.blocked x) && (is_plain (mem_at p m).lock || (opened c.blocked m a && nat_le s (commit_stage p m)))
+    not (is_address c.blocked x) && (is_plain (mem_at p m).lock || (has_location c.blocked m a && nat_le s (commit_stage p m)))
 op_ok p s c (Block m a) = nat_le (reserve_stage p m) s
 op_ok p s c (DelayedRead x m a) = false
 op_ok p s c _ = true
 
 abbrev pub reads_ok : Pipe → Scan → List Stmt → Bool
 reads_ok p c [] = true
-reads_ok p c (x ∷ xs) = (no_guards x.guards && op_ok p x.stage c x.op) && reads_ok p (opens x.op c) xs
+reads_ok p c (x ∷ xs) = (no_guards x.guards && op_ok p x.stage c x.op) && reads_ok p (scan_after x.op c) xs
 
 -- each statement of memory m's kind stands in this stage
 abbrev pub all_at : (Op → Bool) → ℕ → List Stmt → Bool
@@ -87,9 +87,9 @@ next_phase m ph (Write n a e) = if n == m then Written a else ph
 next_phase m ph (Release n a) = if n == m then after_release ph a else ph
 next_phase m ph _ = ph
 
-abbrev pub holds : Phase → ℕ → Bool
-holds (Held y) x = y == x
-holds _ x = false
+abbrev pub holds_location : Phase → ℕ → Bool
+holds_location (Held y) x = y == x
+holds_location _ x = false
 
 abbrev pub may_read : Phase → Bool
 may_read Fresh = true
@@ -102,12 +102,12 @@ is_fresh _ = false
 
 -- a statement in this phase of m: a location's variable is not bound again before the write, a read precedes it, at most one reservation, one write through it, and no release before it
 abbrev pub phase_ok : ℕ → Phase → Op → Bool
-phase_ok m ph (Bind x e) = not (holds ph x)
-phase_ok m ph (CombRead x n a) = not (holds ph x) && (not (n == m) || may_read ph)
+phase_ok m ph (Bind x e) = not (holds_location ph x)
+phase_ok m ph (CombRead x n a) = not (holds_location ph x) && (not (n == m) || may_read ph)
 phase_ok m ph (DelayedRead x n a) = false
-phase_ok m ph (Write n a e) = not (n == m) || holds ph a
+phase_ok m ph (Write n a e) = not (n == m) || holds_location ph a
 phase_ok m ph (ReserveWrite n a) = not (n == m) || is_fresh ph
-phase_ok m ph (Release n a) = not (n == m) || not (holds ph a)
+phase_ok m ph (Release n a) = not (n == m) || not (holds_location ph a)
 phase_ok m ph _ = true
 
 abbrev pub phases_ok : ℕ → Phase → List Stmt → Bool
@@ -127,16 +127,16 @@ abbrev pub called : Bool → List Stmt → Bool
 called c [] = c
 called c (x ∷ xs) = called (c || is_call x.op) xs
 
-abbrev pub binds : ℕ → Op → Bool
-binds g (Bind x e) = x == g
-binds g (CombRead x m a) = x == g
-binds g (DelayedRead x m a) = x == g
-binds g _ = false
+abbrev pub binds_var : ℕ → Op → Bool
+binds_var g (Bind x e) = x == g
+binds_var g (CombRead x m a) = x == g
+binds_var g (DelayedRead x m a) = x == g
+binds_var g _ = false
 
 -- a guard's variable is not bound where it is tested or later
 abbrev pub free_of : List Guard → List Stmt → Bool
 free_of [] xs = true
-free_of (g ∷ gs) xs = none_of (binds g.var) xs && free_of gs xs
+free_of (g ∷ gs) xs = none_of (binds_var g.var) xs && free_of gs xs
 
 -- whether guards contradict one another, so that the statement stands on no path
 abbrev pub against : Guard → List Guard → Bool
@@ -151,9 +151,9 @@ is_dead (g ∷ gs) = against g gs || is_dead gs
 abbrev pub keeps_guards : List Guard → List Stmt → Bool
 keeps_guards gs xs = is_dead gs || free_of gs xs
 
-abbrev pub fixed : List Stmt → Bool
-fixed [] = true
-fixed (x ∷ xs) = keeps_guards x.guards (x ∷ xs) && fixed xs
+abbrev pub is_fixed : List Stmt → Bool
+is_fixed [] = true
+is_fixed (x ∷ xs) = keeps_guards x.guards (x ∷ xs) && is_fixed xs
 
 abbrev pub is_fetch : Op → Bool
 is_fetch (DelayedRead x m a) = true

@@ -1,18 +1,18 @@
 -- The facts of an accepted pipe of the whole language, as tests that compute.
 use Rattle.std.specs.Prelude.{ℕ, suc, Bool, true, false, ◌&&◌, ◌||◌, not, List, [], ◌∷◌, ◌++◌, Option, Some, None, is_none, if◌then◌else◌, nat_lt, nat_le, ◌==◌, length, slice_set}
-use Rattle.pdl_semantics.specs.Flat.{list_all, Op, DelayedRead, Guard, Stmt, Next, Ends, Goes, Forks, Branch, Pipe, taken, start_env}
+use Rattle.pdl_semantics.specs.Flat.{list_all, Op, DelayedRead, Guard, Stmt, Next, Ends, Goes, Forks, Branch, Pipe, all_hold, start_env}
 use Rattle.pdl_semantics.specs.Stages.{onpath, in_stage, stage_at, is_inside, mem_at, commit_stage, reserve_stage, verify_stage, is_verify, fork_guards}
 use Rattle.pdl_semantics.specs.Sound.{all_below}
 use Rattle.pdl_derived.specs.Alone.{before}
-use Rattle.pdl_facts.specs.Scans.{from, none_of, all_at, binds, is_fetch}
+use Rattle.pdl_facts.specs.Scans.{from, none_of, all_at, binds_var, is_fetch}
 use Rattle.pdl_semantics.specs.Cycle.{merges_by}
 use Rattle.pdl_facts.specs.Graphs.{next_of}
-use Rattle.pdl_facts.specs.Facts.{trunk_only, is_dead, late_for, unseen, fetch_apart, is_exact, fetches, visits, at_once}
+use Rattle.pdl_facts.specs.Facts.{trunk_only, is_dead, late_for, is_unseen, fetch_apart, is_exact, is_fetch_of, visits_stage, at_once}
 use Rattle.pdl_facts.specs.Checks.{guard_vars, paths_pass}
 
 -- THE STAGE GRAPH
 
--- the stages that may come next, K behind the last one
+-- the stages that may come next, K after the last one
 abbrev pub nexts_of : ℕ → Next → List ℕ
 nexts_of k Ends = k ∷ []
 nexts_of k (Goes to) = to ∷ []
@@ -37,7 +37,7 @@ leads_in k (Forks x a b) = nat_lt a k && nat_lt b k
 abbrev pub any_below : (ℕ → Bool) → ℕ → Bool
 any_below test n = not (all_below (λ m. not (test m)) n)
 
--- a trunk stage that stage s has passed or stands in stands at b or behind it
+-- a trunk stage that stage s has passed or stands in stands at b or after it
 abbrev pub is_passed : Pipe → ℕ → ℕ → Bool
 is_passed p s b = any_below (λ r. is_trunk p r && nat_le b r) (suc s)
 
@@ -46,9 +46,9 @@ is_in_merge p None b = false
 is_in_merge p (Some f) b = is_inside p f b
 
 -- a branch is entered in its first stage from its fork, else from the stage before
-abbrev pub enters : Pipe → ℕ → ℕ → Option Branch → Bool
-enters p s n None = true
-enters p s n (Some c) =
+abbrev pub is_entered : Pipe → ℕ → ℕ → Option Branch → Bool
+is_entered p s n None = true
+is_entered p s n (Some c) =
     ((s == c.fork) && all_below (λ r. not (same_branch (stage_at p r).branch c) || nat_le n r) (length p.stages))
     || (same_branch (stage_at p s).branch c && (n == suc s))
 
@@ -59,7 +59,7 @@ next_passes p s n =
     && (all_below (λ r. not (is_trunk p r) || not (nat_lt s r && nat_lt r n)) (length p.stages)
     && ((not (n == length p.stages) || (is_trunk p s && (suc s == length p.stages)))
     && ((not (is_trunk p n && nat_lt n (length p.stages)) || all_below (λ b. is_passed p s b || is_in_merge p (stage_at p n).merges b) n)
-    && enters p s n (stage_at p n).branch))))
+    && is_entered p s n (stage_at p n).branch))))
 
 -- a branch's fork stands in the trunk before it
 abbrev pub branch_passes : Pipe → ℕ → Option Branch → Bool
@@ -90,7 +90,7 @@ stage_sound p s =
 abbrev pub fork_sound : Pipe → ℕ → Next → Bool
 fork_sound p s Ends = true
 fork_sound p s (Goes to) = true
-fork_sound p s (Forks x a b) = nat_lt x p.vars && (none_of (binds x) (from (suc s) p.stmts) && none_of (fetches x) (in_stage s p.stmts))
+fork_sound p s (Forks x a b) = nat_lt x p.vars && (none_of (binds_var x) (from (suc s) p.stmts) && none_of (is_fetch_of x) (in_stage s p.stmts))
 
 -- a stage is the last one of a branch of this fork
 abbrev pub is_last_of : Pipe → ℕ → ℕ → Option Branch → Bool
@@ -128,7 +128,7 @@ none_between a b [] = true
 none_between a b (x ∷ xs) = not (nat_le a x.stage && nat_lt x.stage b) && none_between a b xs
 
 abbrev pub skip_passes : Pipe → List ℕ → Bool
-skip_passes p path = all_below (λ s. not (visits p path s) || none_between (suc s) (next_of p s path) (onpath path p.stmts)) (length p.stages)
+skip_passes p path = all_below (λ s. not (visits_stage p path s) || none_between (suc s) (next_of p s path) (onpath path p.stmts)) (length p.stages)
 
 abbrev pub all_guards : Pipe → List ℕ
 all_guards p = guard_vars p.stmts ++ fork_guards p.stages
@@ -153,14 +153,14 @@ fetch_sound p s gs (DelayedRead x m a) =
 fetch_sound p s gs _ = true
 
 -- the guards on variables that these statements don't read delayed
-abbrev pub unfetched : List Stmt → List Guard → List Guard
-unfetched ys [] = []
-unfetched ys (g ∷ gs) = if none_of (fetches g.var) ys then g ∷ unfetched ys gs else unfetched ys gs
+abbrev pub unfetched_guards : List Stmt → List Guard → List Guard
+unfetched_guards ys [] = []
+unfetched_guards ys (g ∷ gs) = if none_of (is_fetch_of g.var) ys then g ∷ unfetched_guards ys gs else unfetched_guards ys gs
 
 -- a path takes none of these statements that has another guard, whatever the values of those variables
 abbrev pub none_hangs : List ℕ → List Stmt → List Stmt → Bool
 none_hangs path ys [] = true
-none_hangs path ys (z ∷ zs) = (list_all (λ g. none_of (fetches g.var) ys) z.guards || not (taken (unfetched ys z.guards) path)) && none_hangs path ys zs
+none_hangs path ys (z ∷ zs) = (list_all (λ g. none_of (is_fetch_of g.var) ys) z.guards || not (all_hold (unfetched_guards ys z.guards) path)) && none_hangs path ys zs
 
 abbrev pub blind_passes : Pipe → List ℕ → Bool
 blind_passes p path = all_below (λ s. none_hangs path (in_stage s p.stmts) (before (next_of p s path) p.stmts)) (length p.stages)
@@ -178,7 +178,7 @@ tests p =
     ∷ all_paths (all_guards p) (skip_passes p) (start_env p [])
     ∷ list_all (λ y. fetch_sound p y.stage y.guards y.op) p.stmts
     ∷ list_all (λ y. nat_lt y.stage (length p.stages)) p.stmts
-    ∷ all_below (λ s. unseen (in_stage s p.stmts)) (length p.stages)
+    ∷ all_below (λ s. is_unseen (in_stage s p.stmts)) (length p.stages)
     ∷ all_below (λ s. fetch_apart (in_stage s p.stmts)) (length p.stages)
     ∷ all_below (λ s. list_all (λ n. merge_sound p s (stage_at p n).merges n) (nexts p s)) (length p.stages)
     ∷ forks_whole p (verify_stage p.stmts)
@@ -188,5 +188,5 @@ tests p =
     ∷ all_paths (all_guards p) (blind_passes p) (start_env p [])
     ∷ []
 
-abbrev pub sounds : Pipe → Bool
-sounds p = list_all (λ b. b) (tests p)
+abbrev pub passes_tests : Pipe → Bool
+passes_tests p = list_all (λ b. b) (tests p)

@@ -4,7 +4,7 @@ use Rattle.pdl_semantics.specs.Flat.{Arrays, Array, Pipe, Stmt, Mem, list_all, w
 use Rattle.pdl_semantics.specs.Stages.{verify_stage}
 use Rattle.pdl_semantics.specs.Machine.{State, request_of, lock_of}
 use Rattle.pdl_semantics.specs.Cycle.{first, state_after}
-use Rattle.pdl_semantics.specs.Sound.{live, all_pairs, all_from, in_order, linked, certain_after, asks_right, has_owner, stays_ready, past_stmts, on_path}
+use Rattle.pdl_semantics.specs.Sound.{live, all_pairs, all_from, in_order, are_linked, certain_after, asks_right, has_owner, stays_ready, past_stmts, on_path}
 use Rattle.pdl_derived.specs.Derived
 use Rattle.pdl_facts.specs.Facts.{Sound}
 use Rattle.pdl_turns.proofs.CourseOf.{course}
@@ -89,7 +89,7 @@ module _ (p : Pipe) (sound : Sound p) (strict : Strict p) (image : Arrays) (sche
   some_live : (reached p sound strict image schedule).0 ≡ [] → ⊥
   some_live e = some_seat _ _ runs_here.strays runs_here.spots (sym runs_here.threads ∙ sim_here.threads ∙ ap (λ ls. rev (threads_of ls)) e) runs_here.live
 
-  pub chain_here : IsTrue (linked p (live (state_after p (first p image) schedule)))
+  pub chain_here : IsTrue (are_linked p (live (state_after p (first p image) schedule)))
   chain_here = true_is _ (chain_point p sound _ _ _ sim_here whole_here some_live)
 
   -- THE THREADS ON THEIR TURNS

@@ -1,11 +1,11 @@
 -- What older threads' pending writes say of an address grows only more ready, where they are past the reserves.
 use Rattle.std.proofs.Common.{◌≡◌, ◌≢◌, refl, sym, ap, ◌∙◌, subst, ℕ, ◌≤◌, ◌<◌, ◌⊎◌, inl, inr, Bool, true, false, ◌&&◌, ◌||◌, not, List, [], ◌∷◌, ◌++◌, length, Option, Some, None, is_none, ◌==◌, cond, if◌then◌else◌, arith, eq-eqb, slice_index}
 use Rattle.std.proofs.lemmas.Bool.{eqb-true, eqb-false}
-use Rattle.pdl_semantics.specs.Flat.{Pipe, Op, Bind, CombRead, DelayedRead, Write, ReserveRead, ReserveWrite, Block, Release, Call, SpecCall, Verify, SpecCheck, SpecBarrier, Stmt, Lock, Plain, Queue, Bypass, Rename, value_of, values_of, taken}
+use Rattle.pdl_semantics.specs.Flat.{Pipe, Op, Bind, CombRead, DelayedRead, Write, ReserveRead, ReserveWrite, Block, Release, Call, SpecCall, Verify, SpecCheck, SpecBarrier, Stmt, Lock, Plain, Queue, Bypass, Rename, value_of, values_of, all_hold}
 use Rattle.pdl_semantics.specs.Stages.{in_stage, stage_at, goes_to, is_reserve, is_release, reserve_stage, commit_stage}
 use Rattle.pdl_semantics.specs.Locks.{Latest, Nothing, as_latest, is_nothing, is_coming, read_ready, write_ready}
 use Rattle.pdl_semantics.specs.Machine.{State, same_args}
-use Rattle.pdl_derived.specs.Derived.{Entry, Work, Around, does, do_all, filled, without, latest_in, latest, around}
+use Rattle.pdl_derived.specs.Derived.{Entry, Work, Around, work_after, do_all, with_entry_value, without, latest_in, latest, around}
 use Rattle.pdl_derived.specs.Derived
 use Rattle.pdl_facts.specs.Scans.{none_of, Phase, Fresh, Held, Written, Done}
 use Rattle.pdl_simulation.proofs.FlowFacts.{Flows, stage_or}
@@ -52,7 +52,7 @@ fades_shape m (Held x) es s = subst (λ l. Fades l l) (sym s.1) (refl, refl, (λ
 fades_shape m (Written x) es s = subst (λ l. Fades l l) (sym s.2) (refl, refl, (λ h. h))
 fades_shape m Done es s = subst (λ l. Fades l l) (sym s) tt
 
-fades_filled : (m a v : ℕ) (es fs : List Entry) → Fades es fs → Fades es (filled fs m a v)
+fades_filled : (m a v : ℕ) (es fs : List Entry) → Fades es fs → Fades es (with_entry_value fs m a v)
 fades_filled m a v [] [] h = h
 fades_filled m a v [] (f ∷ fs) h = absurd h
 fades_filled m a v (e ∷ []) [] h = tt
@@ -86,10 +86,10 @@ by_memory n m R f g = at (n == m) refl
     at true e = f (eqb-true n m e)
     at false e = g (eqb-false n m e)
 
-fades_op : (m : ℕ) (start : List Entry) (o : Around) (op : Op) (w : Work) → not (is_reserve m op) ≡ true → Fades start (entries_of m w.entries) → Fades start (entries_of m (does o op w).entries)
+fades_op : (m : ℕ) (start : List Entry) (o : Around) (op : Op) (w : Work) → not (is_reserve m op) ≡ true → Fades start (entries_of m w.entries) → Fades start (entries_of m (work_after o op w).entries)
 fades_op m start o (Write n a e) w r h =
-    by_memory n m (Fades start (entries_of m (filled w.entries n a (value_of e w.env))))
-    (λ i. subst (λ j. Fades start (entries_of m (filled w.entries j a (value_of e w.env)))) (sym i) (subst (λ l. Fades start l) (sym (entries_of-filled w.entries m a (value_of e w.env))) (fades_filled m a (value_of e w.env) start (entries_of m w.entries) h)))
+    by_memory n m (Fades start (entries_of m (with_entry_value w.entries n a (value_of e w.env))))
+    (λ i. subst (λ j. Fades start (entries_of m (with_entry_value w.entries j a (value_of e w.env)))) (sym i) (subst (λ l. Fades start l) (sym (entries_of-filled w.entries m a (value_of e w.env))) (fades_filled m a (value_of e w.env) start (entries_of m w.entries) h)))
     (λ i. subst (λ l. Fades start l) (sym (filled_other w.entries m n a (value_of e w.env) i)) h)
 fades_op m start o (Release n a) w r h =
     by_memory n m (Fades start (entries_of m (without w.entries n a)))
@@ -117,25 +117,25 @@ fades_op m start o SpecBarrier w r h = h
 
 fades_all : (m : ℕ) (start : List Entry) (o : Around) (xs : List Stmt) (w : Work) → none_of (is_reserve m) xs ≡ true → Fades start (entries_of m w.entries) → Fades start (entries_of m (do_all o xs w).entries)
 fades_all m start o [] w r h = h
-fades_all m start o (x ∷ xs) w r h = fades_all m start o xs (step o x w) (and_right (not (is_reserve m x.op)) _ r) (at (taken x.guards w.env))
+fades_all m start o (x ∷ xs) w r h = fades_all m start o xs (step o x w) (and_right (not (is_reserve m x.op)) _ r) (at (all_hold x.guards w.env))
   where
-    at : (b : Bool) → Fades start (entries_of m (cond b (does o x.op w) w).entries)
+    at : (b : Bool) → Fades start (entries_of m (cond b (work_after o x.op w) w).entries)
     at true = fades_op m start o x.op w (and_left _ _ r) h
     at false = h
 
 -- without a release none is lost
-filled_some : (m a v : ℕ) (es : List Entry) → filled es m a v ≡ [] → es ≡ []
+filled_some : (m a v : ℕ) (es : List Entry) → with_entry_value es m a v ≡ [] → es ≡ []
 filled_some m a v [] h = refl
 filled_some m a v (e ∷ es) h = absurd (at ((e.mem == m) && (e.var == a)) h)
   where
-    at : (b : Bool) → cond b (record e { value = Some v } ∷ es) (e ∷ filled es m a v) ≡ [] → ⊥
+    at : (b : Bool) → cond b (record e { value = Some v } ∷ es) (e ∷ with_entry_value es m a v) ≡ [] → ⊥
     at true i = cc
     at false i = cc
 
-lost_op : (m : ℕ) (o : Around) (op : Op) (w : Work) → not (is_reserve m op) ≡ true → not (is_release m op) ≡ true → entries_of m (does o op w).entries ≡ [] → entries_of m w.entries ≡ []
+lost_op : (m : ℕ) (o : Around) (op : Op) (w : Work) → not (is_reserve m op) ≡ true → not (is_release m op) ≡ true → entries_of m (work_after o op w).entries ≡ [] → entries_of m w.entries ≡ []
 lost_op m o (Write n a e) w r q h =
     by_memory n m (entries_of m w.entries ≡ [])
-    (λ i. filled_some m a (value_of e w.env) (entries_of m w.entries) (sym (entries_of-filled w.entries m a (value_of e w.env)) ∙ ap (λ j. entries_of m (filled w.entries j a (value_of e w.env))) (sym i) ∙ h))
+    (λ i. filled_some m a (value_of e w.env) (entries_of m w.entries) (sym (entries_of-filled w.entries m a (value_of e w.env)) ∙ ap (λ j. entries_of m (with_entry_value w.entries j a (value_of e w.env))) (sym i) ∙ h))
     (λ i. sym (filled_other w.entries m n a (value_of e w.env) i) ∙ h)
 lost_op m o (Release n a) w r q h = sym (without_other w.entries m n a (off_case n m q)) ∙ h
 lost_op m o (ReserveWrite n a) w r q h = at (n == m) r h
@@ -160,9 +160,9 @@ lost_op m o SpecBarrier w r q h = h
 
 lost_all : (m : ℕ) (o : Around) (xs : List Stmt) (w : Work) → none_of (is_reserve m) xs ≡ true → none_of (is_release m) xs ≡ true → entries_of m (do_all o xs w).entries ≡ [] → entries_of m w.entries ≡ []
 lost_all m o [] w r q h = h
-lost_all m o (x ∷ xs) w r q h = at (taken x.guards w.env) (lost_all m o xs (step o x w) (and_right (not (is_reserve m x.op)) _ r) (and_right (not (is_release m x.op)) _ q) h)
+lost_all m o (x ∷ xs) w r q h = at (all_hold x.guards w.env) (lost_all m o xs (step o x w) (and_right (not (is_reserve m x.op)) _ r) (and_right (not (is_release m x.op)) _ q) h)
   where
-    at : (b : Bool) → entries_of m (cond b (does o x.op w) w).entries ≡ [] → entries_of m w.entries ≡ []
+    at : (b : Bool) → entries_of m (cond b (work_after o x.op w) w).entries ≡ [] → entries_of m w.entries ≡ []
     at true k = lost_op m o x.op w (and_left _ _ r) (and_left _ _ q) k
     at false k = k
 

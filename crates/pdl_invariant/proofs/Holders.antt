@@ -1,8 +1,8 @@
 -- A lock's list has one entry for each location that a live thread holds for writing, in thread order.
 use Rattle.std.proofs.Common.{◌≡◌, refl, sym, ap, ap₂, ◌∙◌, ℕ, Bool, true, false, List, [], ◌∷◌, ◌++◌, ◌==◌, cond, append-nil, append_assoc}
 use Rattle.pdl_semantics.specs.Flat.{Pipe}
-use Rattle.pdl_semantics.specs.Machine.{State, Pending, Place, lock_of, same_args}
-use Rattle.pdl_semantics.specs.Sound.{live, all_from, held_of, holders, owners, holds}
+use Rattle.pdl_semantics.specs.Machine.{State, Pending, HeldLocation, lock_of, same_args}
+use Rattle.pdl_semantics.specs.Sound.{live, all_from, held_of, holders, owners, held_places}
 use Rattle.pdl_semantics.specs.Sound
 use Rattle.pdl_derived.specs.Derived.{Entry}
 use Rattle.pdl_derived.specs.Derived
@@ -21,7 +21,7 @@ owners_append : (xs ys : List Pending) → owners (xs ++ ys) ≡ owners xs ++ ow
 owners_append [] ys = refl
 owners_append (x ∷ xs) ys = ap (λ l. x.thread ∷ l) (owners_append xs ys)
 
-held_snoc : (m n : ℕ) (hs : List Place) → held_of m n hs ++ n ∷ [] ≡ n ∷ held_of m n hs
+held_snoc : (m n : ℕ) (hs : List HeldLocation) → held_of m n hs ++ n ∷ [] ≡ n ∷ held_of m n hs
 held_snoc m n [] = refl
 held_snoc m n (h ∷ hs) = at (h.mem == m) (held_snoc m n hs)
   where
@@ -37,11 +37,11 @@ own_held m n (e ∷ es) = owners_append (pend m n es) (cond (e.mem == m) (own n 
     at true = held_snoc m n (places es)
     at false = append-nil (held_of m n (places es))
 
-holders_snoc : (p : Pipe) (m : ℕ) (xs : List Sound.Live) (l : Sound.Live) → holders p m (xs ++ l ∷ []) ≡ holders p m xs ++ held_of m l.thread.number (holds p l)
-holders_snoc p m [] l = append-nil (held_of m l.thread.number (holds p l))
-holders_snoc p m (x ∷ xs) l = ap (λ k. held_of m x.thread.number (holds p x) ++ k) (holders_snoc p m xs l) ∙ sym (append_assoc (held_of m x.thread.number (holds p x)) (holders p m xs) (held_of m l.thread.number (holds p l)))
+holders_snoc : (p : Pipe) (m : ℕ) (xs : List Sound.Live) (l : Sound.Live) → holders p m (xs ++ l ∷ []) ≡ holders p m xs ++ held_of m l.thread.number (held_places p l)
+holders_snoc p m [] l = append-nil (held_of m l.thread.number (held_places p l))
+holders_snoc p m (x ∷ xs) l = ap (λ k. held_of m x.thread.number (held_places p x) ++ k) (holders_snoc p m xs l) ∙ sym (append_assoc (held_of m x.thread.number (held_places p x)) (holders p m xs) (held_of m l.thread.number (held_places p l)))
 
-owners_are : (p : Pipe) (m : ℕ) (ls : List Live) → Each (λ l. places l.thread.entries ≡ holds p (told l)) ls → owners (pends m ls) ≡ holders p m (oldest_first ls)
+owners_are : (p : Pipe) (m : ℕ) (ls : List Live) → Each (λ l. places l.thread.entries ≡ held_places p (told l)) ls → owners (pends m ls) ≡ holders p m (oldest_first ls)
 owners_are p m [] h = refl
 owners_are p m (l ∷ ls) h =
     owners_append (pends m ls) (pend m l.number l.thread.entries)

@@ -1,11 +1,11 @@
 -- What holds of each live thread beside the simulation, whatever its guess: it keeps to one path, owns what it awaits, is certain behind a barrier, and its blocks stay ready.
 use Rattle.std.proofs.Common.{◌≡◌, refl, sym, subst, ℕ, ◌≤◌, ◌<◌, ◌⊎◌, inl, inr, Bool, true, false, ◌||◌, not, List, [], ◌∷◌, ◌++◌, Option, Some, None, nat_lt, nat_le, cond, if◌then◌else◌, arith, slice_index, ltb-true, leb-true, le_refl}
-use Rattle.pdl_semantics.specs.Flat.{Pipe, Op, SpecBarrier, Block, Stmt, Branch, taken}
+use Rattle.pdl_semantics.specs.Flat.{Pipe, Op, SpecBarrier, Block, Stmt, Branch, all_hold}
 use Rattle.pdl_semantics.specs.Stages.{onpath, in_stage, stage_at, goes_to, verify_stage, reserve_stage, mem_at}
 use Rattle.pdl_semantics.specs.Locks.{read_ready, write_ready}
-use Rattle.pdl_semantics.specs.Machine.{Ask, Awaited, Kept, answers, State, Owned, request_of}
+use Rattle.pdl_semantics.specs.Machine.{Ask, Awaited, Kept, is_answered, State, Owned, request_of}
 use Rattle.pdl_semantics.specs.Moves.{movers}
-use Rattle.pdl_semantics.specs.Cycle.{awaited_of, squasher, stays}
+use Rattle.pdl_semantics.specs.Cycle.{awaited_of, squasher, is_kept}
 use Rattle.pdl_semantics.specs.Sound.{is_barrier}
 use Rattle.pdl_semantics.specs.Cycle
 use Rattle.pdl_semantics.specs.Machine
@@ -64,7 +64,7 @@ owns_made st n (q ∷ qs) h = (inl (refl, refl, h.0), awaited_map (λ r k. inr k
 
 not_barred : (xs : List Stmt) (path : List ℕ) → none_of trunk_only xs ≡ true → some_barrier (onpath path xs) ≡ true → ⊥
 not_barred [] path h k = cc k
-not_barred (x ∷ xs) path h k = at (taken x.guards path) k (λ i. not_barred xs path (and_right (not (trunk_only x.op)) _ h) i)
+not_barred (x ∷ xs) path h k = at (all_hold x.guards path) k (λ i. not_barred xs path (and_right (not (trunk_only x.op)) _ h) i)
   where
     no : (op : Op) → not (trunk_only op) ≡ true → is_barrier op ≡ true → ⊥
     no SpecBarrier i j = cc i
@@ -96,7 +96,7 @@ module _ (p : Pipe) (sound : Sound p) (strict : Strict p) where
     next = Cycle.after_these p st bits (lacts p st d bits ls) (movers (lacts p st d bits ls)) (squasher (movers (lacts p st d bits ls)))
 
     module _ (ks : List Live) (l : Live) (k : Known p (sound_flows p sound) st d bits sim.arrays ks l) (older : AllKnown p (sound_flows p sound) st d bits sim.arrays ks) (ordered : Ordered p ks) (behind : Each (λ k. Behind p l.thread.stage k.thread.stage) ks)
-        (calm : fell p d bits ks ≡ false) (stays_on : stays (squasher (movers (lacts p st d bits ls))) l.number ≡ true) (h : Lasting p st l ks) where
+        (calm : fell p d bits ks ≡ false) (stays_on : is_kept (squasher (movers (lacts p st d bits ls))) l.number ≡ true) (h : Lasting p st l ks) where
       abbrev pub o : Around
       o = around p d bits (dacts p d bits ks) l.thread.stage
 
@@ -127,9 +127,9 @@ module _ (p : Pipe) (sound : Sound p) (strict : Strict p) where
       asks_known = awaited_map (λ r i. any_ask_map (λ q j. j.0) h.local.asks i) l.thread.awaits h.owns
 
       abbrev pub kept' : List Kept
-      kept' = l.kept ++ Machine.answered p st bits l.number l.thread.awaits
+      kept' = l.kept ++ Machine.answered_reads p st bits l.number l.thread.awaits
 
-      pub now_local : Local p l.env (l.kept ++ Machine.answered p st bits l.number l.thread.awaits) (now_of p d bits l)
+      pub now_local : Local p l.env (l.kept ++ Machine.answered_reads p st bits l.number l.thread.awaits) (now_of p d bits l)
       now_local = local_answered p st bits l.number l.env l.kept l.thread (now_of p d bits l).env (still p bits l.thread.awaits) k.waits h.local asks_known
 
       now_asks : now_local.asks ≡ h.local.asks
@@ -138,9 +138,9 @@ module _ (p : Pipe) (sound : Sound p) (strict : Strict p) where
 
       owns_still : (rs : List Awaited) → AllFetched p l.thread.stage rs → Owns st l.number h.local.asks rs → Owns (Cycle.after_these p st bits (lacts p st d bits ls) (movers (lacts p st d bits ls)) (squasher (movers (lacts p st d bits ls)))) l.number h.local.asks (still p bits rs)
       owns_still [] f i = tt
-      owns_still (r ∷ rs) f i = at (answers p bits r.mem) refl (owns_still rs f.1 i.1)
+      owns_still (r ∷ rs) f i = at (is_answered p bits r.mem) refl (owns_still rs f.1 i.1)
         where
-          at : (b : Bool) → answers p bits r.mem ≡ b → Owns (Cycle.after_these p st bits (lacts p st d bits ls) (movers (lacts p st d bits ls)) (squasher (movers (lacts p st d bits ls)))) l.number h.local.asks (still p bits rs)
+          at : (b : Bool) → is_answered p bits r.mem ≡ b → Owns (Cycle.after_these p st bits (lacts p st d bits ls) (movers (lacts p st d bits ls)) (squasher (movers (lacts p st d bits ls)))) l.number h.local.asks (still p bits rs)
               → Owns (Cycle.after_these p st bits (lacts p st d bits ls) (movers (lacts p st d bits ls)) (squasher (movers (lacts p st d bits ls)))) l.number h.local.asks (cond b (still p bits rs) (r ∷ still p bits rs))
           at true e g = g
           at false e g = (any_ask_map (λ q j. (j.0, j.1, request_stays p (sound_flows p sound) st d bits ls sim l stays_on r.mem (q.address, j.2) f.0 e)) h.local.asks i.0, g)
@@ -169,12 +169,12 @@ module _ (p : Pipe) (sound : Sound p) (strict : Strict p) where
         block_start : AllOps (BlockOk (around p d bits (dacts p d bits ks) l.thread.stage) (now_of p d bits l).env l.thread.entries (past_of p l.env l.thread.stage)) (past_of p l.env l.thread.stage)
         block_start =
             subst (λ e. AllOps (BlockOk (around p d bits (dacts p d bits ks) l.thread.stage) e l.thread.entries (past_of p l.env l.thread.stage)) (past_of p l.env l.thread.stage)) k.values
-            (kept_blocks (around p d bits (dacts p d bits ks) l.thread.stage) l.thread.entries (past_of p l.env l.thread.stage) (past_of p l.env l.thread.stage) (l.kept ++ Machine.answered p st bits l.number l.thread.awaits) l.env (kept_unused p l.env (l.kept ++ Machine.answered p st bits l.number l.thread.awaits) (now_of p d bits l) now_local)
+            (kept_blocks (around p d bits (dacts p d bits ks) l.thread.stage) l.thread.entries (past_of p l.env l.thread.stage) (past_of p l.env l.thread.stage) (l.kept ++ Machine.answered_reads p st bits l.number l.thread.awaits) l.env (kept_unused p l.env (l.kept ++ Machine.answered_reads p st bits l.number l.thread.awaits) (now_of p d bits l) now_local)
             (ops_map (λ op b. block_like (look_at p (threads_of ks)) (around p d bits (dacts p d bits ks) l.thread.stage) l.env l.thread.entries (past_of p l.env l.thread.stage) op
             (λ m a e. ((λ i. subst (λ ts. read_ready (mem_at p m).lock (latest ts m (slice_index l.env a)) ≡ true) (sym (befores_are p d bits ks)) i), (λ i. subst (λ ts. write_ready (mem_at p m).lock (latest ts m (slice_index l.env a)) ≡ true) (sym (befores_are p d bits ks)) i))) b) (past_of p l.env l.thread.stage) h.blocks))
 
         ended : Past (around p d bits (dacts p d bits ks) l.thread.stage) p.vars (onto (onpath (work_of_live p d bits ks l).env (in_stage l.thread.stage p.stmts)) (past_of p l.env l.thread.stage)) (work_of_live p d bits ks l)
-        ended = past_end p (sound_flows p sound) sound strict (around p d bits (dacts p d bits ks) l.thread.stage) kind l.env (l.kept ++ Machine.answered p st bits l.number l.thread.awaits) (now_of p d bits l) now_keeps k.values now_local ready block_start
+        ended = past_end p (sound_flows p sound) sound strict (around p d bits (dacts p d bits ks) l.thread.stage) kind l.env (l.kept ++ Machine.answered_reads p st bits l.number l.thread.awaits) (now_of p d bits l) now_keeps k.values now_local ready block_start
 
         own_requests : AllAsks (λ q. request_of (Cycle.after_these p st bits (lacts p st d bits ls) (movers (lacts p st d bits ls)) (squasher (movers (lacts p st d bits ls)))) q.mem ≡ Owned l.number q.address) (work_of_live p d bits ks l).asks
         own_requests = each (work_of_live p d bits ks l).asks (found (work_of_live p d bits ks l).asks (apart_asks (around p d bits (dacts p d bits ks) l.thread.stage) (in_stage l.thread.stage p.stmts) (start_of (now_of p d bits l)) (sound.fetch_alone l.thread.stage) tt tt)) from_stage
@@ -208,17 +208,17 @@ module _ (p : Pipe) (sound : Sound p) (strict : Strict p) where
             at (Some x) i = absurd (not_barred (in_stage l.thread.stage p.stmts) (work_of_live p d bits ks l).env ((sound_flows p sound).branches l.thread.stage x i) b)
 
         abbrev moved_local : (q : ℕ) → goes_to (stage_at p l.thread.stage).next (work_of_live p d bits ks l).env ≡ Some q → Local p (work_of_live p d bits ks l).env [] (moved_one q l (work_of_live p d bits ks l)).thread
-        moved_local q goes = local_moved p (sound_flows p sound) sound strict (around p d bits (dacts p d bits ks) l.thread.stage) kind l.env (l.kept ++ Machine.answered p st bits l.number l.thread.awaits) (now_of p d bits l) now_keeps k.values now_local ready q goes block_start
+        moved_local q goes = local_moved p (sound_flows p sound) sound strict (around p d bits (dacts p d bits ks) l.thread.stage) kind l.env (l.kept ++ Machine.answered_reads p st bits l.number l.thread.awaits) (now_of p d bits l) now_keeps k.values now_local ready q goes block_start
 
         trail_moved : (q : ℕ) (goes : goes_to (stage_at p l.thread.stage).next (work_of_live p d bits ks l).env ≡ Some q) → (moved_local q goes).trail ≡ l.thread.stage ∷ now_local.trail
-        trail_moved q goes = moved_trail p (sound_flows p sound) sound strict (around p d bits (dacts p d bits ks) l.thread.stage) kind l.env (l.kept ++ Machine.answered p st bits l.number l.thread.awaits) (now_of p d bits l) now_keeps k.values now_local ready q goes block_start
+        trail_moved q goes = moved_trail p (sound_flows p sound) sound strict (around p d bits (dacts p d bits ks) l.thread.stage) kind l.env (l.kept ++ Machine.answered_reads p st bits l.number l.thread.awaits) (now_of p d bits l) now_keeps k.values now_local ready q goes block_start
 
         pub lasting_moved : (q : ℕ) → goes_to (stage_at p l.thread.stage).next (work_of_live p d bits ks l).env ≡ Some q
             → Lasting p (Cycle.after_these p st bits (lacts p st d bits ls) (movers (lacts p st d bits ls)) (squasher (movers (lacts p st d bits ls)))) (moved_one q l (work_of_live p d bits ks l)) (go_on p st d bits ks)
         lasting_moved q goes =
             record {
               local = moved_local q goes;
-              owns = subst (λ qs. Owns (Cycle.after_these p st bits (lacts p st d bits ls) (movers (lacts p st d bits ls)) (squasher (movers (lacts p st d bits ls)))) l.number qs (awaited_of (work_of_live p d bits ks l).asks)) (sym (moved_asks p (sound_flows p sound) sound strict (around p d bits (dacts p d bits ks) l.thread.stage) kind l.env (l.kept ++ Machine.answered p st bits l.number l.thread.awaits) (now_of p d bits l) now_keeps k.values now_local ready q goes block_start))
+              owns = subst (λ qs. Owns (Cycle.after_these p st bits (lacts p st d bits ls) (movers (lacts p st d bits ls)) (squasher (movers (lacts p st d bits ls)))) l.number qs (awaited_of (work_of_live p d bits ks l).asks)) (sym (moved_asks p (sound_flows p sound) sound strict (around p d bits (dacts p d bits ks) l.thread.stage) kind l.env (l.kept ++ Machine.answered_reads p st bits l.number l.thread.awaits) (now_of p d bits l) now_keeps k.values now_local ready q goes block_start))
                   (owns_made (Cycle.after_these p st bits (lacts p st d bits ls) (movers (lacts p st d bits ls)) (squasher (movers (lacts p st d bits ls)))) l.number (work_of_live p d bits ks l).asks own_requests);
               certain = λ v e i. beyond v ks older (before v e (barred_onto (onpath (work_of_live p d bits ks l).env (in_stage l.thread.stage p.stmts)) (past_of p l.env l.thread.stage) (subst (λ ops. barred ops ≡ true) is_past i)));
               blocks = subst (λ ops. AllOps (BlockOk (look_at p (threads_of (go_on p st d bits ks))) (work_of_live p d bits ks l).env (work_of_live p d bits ks l).entries ops) ops) (sym is_past)
@@ -231,7 +231,7 @@ module _ (p : Pipe) (sound : Sound p) (strict : Strict p) where
             }
           where
             is_past : past_of p (work_of_live p d bits ks l).env q ≡ onto (onpath (work_of_live p d bits ks l).env (in_stage l.thread.stage p.stmts)) (past_of p l.env l.thread.stage)
-            is_past = past_q p (sound_flows p sound) sound strict (around p d bits (dacts p d bits ks) l.thread.stage) kind l.env (l.kept ++ Machine.answered p st bits l.number l.thread.awaits) (now_of p d bits l) now_keeps k.values now_local ready q goes
+            is_past = past_q p (sound_flows p sound) sound strict (around p d bits (dacts p d bits ks) l.thread.stage) kind l.env (l.kept ++ Machine.answered_reads p st bits l.number l.thread.awaits) (now_of p d bits l) now_keeps k.values now_local ready q goes
 
             before : (v : ℕ) → verify_stage p.stmts ≡ Some v → (some_barrier (onpath (work_of_live p d bits ks l).env (in_stage l.thread.stage p.stmts)) ≡ true) ⊎ (barred (past_of p l.env l.thread.stage) ≡ true) → Each (λ j. v < j.thread.stage) ks
             before v e (inl i) = past_barrier v e i

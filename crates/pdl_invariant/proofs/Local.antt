@@ -3,17 +3,17 @@ use Rattle.std.proofs.Common.{◌≡◌, ◌≢◌, refl, sym, ap, ap₂, ◌∙
 use Rattle.std.proofs.lemmas.List.{get_or-set_other, length-replicate}
 use Rattle.std.proofs.lemmas.Bool.{ne_eqb}
 use Rattle.std.proofs.lemmas.List.Recursion.{is_count_by}
-use Rattle.pdl_semantics.specs.Flat.{Op, Bind, CombRead, DelayedRead, Write, ReserveRead, ReserveWrite, Block, Release, Call, SpecCall, Verify, SpecCheck, SpecBarrier, Stmt, Pipe, Forks, values_of, taken, start_env}
+use Rattle.pdl_semantics.specs.Flat.{Op, Bind, CombRead, DelayedRead, Write, ReserveRead, ReserveWrite, Block, Release, Call, SpecCall, Verify, SpecCheck, SpecBarrier, Stmt, Pipe, Forks, values_of, all_hold, start_env}
 use Rattle.pdl_semantics.specs.Stages.{list_any, onpath, in_stage, stage_at, goes_to}
-use Rattle.pdl_semantics.specs.Machine.{Ask, Awaited, Kept, same_args, with_kept, State, answer_for, keeps, unanswered}
+use Rattle.pdl_semantics.specs.Machine.{Ask, Awaited, Kept, same_args, with_kept, State, answer_for, kept_answer, unanswered_reads}
 use Rattle.pdl_semantics.specs.Cycle.{awaited_of}
 use Rattle.pdl_semantics.specs.Sound.{one_of, is_fetch, stages_from}
 use Rattle.pdl_semantics.specs.Machine
-use Rattle.pdl_derived.specs.Derived.{Entry, Work, Around, does, do_all, works}
+use Rattle.pdl_derived.specs.Derived.{Entry, Work, Around, work_after, do_all, work_of_stage}
 use Rattle.pdl_derived.specs.Derived
 use Rattle.pdl_derived.specs.Alone.{is_call}
-use Rattle.pdl_facts.specs.Scans.{none_of, binds, called}
-use Rattle.pdl_facts.specs.Facts.{Sound, fetches}
+use Rattle.pdl_facts.specs.Scans.{none_of, binds_var, called}
+use Rattle.pdl_facts.specs.Facts.{Sound, is_fetch_of}
 use Rattle.pdl_derived.proofs.Writes.{and_left}
 use Rattle.pdl_simulation.proofs.FlowFacts.{Flows, calls_ok, next_of, stage_or}
 use Rattle.pdl_derived.proofs.Stages.{step}
@@ -42,7 +42,7 @@ awaited_snoc : (qs : List Ask) (q : Ask) → awaited_of (qs ++ q ∷ []) ≡ awa
 awaited_snoc [] q = refl
 awaited_snoc (r ∷ qs) q = ap (λ l. record { mem = r.mem; var = r.var } ∷ l) (awaited_snoc qs q)
 
-asks_op : (o : Around) (op : Op) (w : Work) → awaited_of (does o op w).asks ≡ awaited_of w.asks ++ fetch_of op
+asks_op : (o : Around) (op : Op) (w : Work) → awaited_of (work_after o op w).asks ≡ awaited_of w.asks ++ fetch_of op
 asks_op o (DelayedRead x m a) w = awaited_snoc w.asks _
 asks_op o (Verify args) w = at (same_args (values_of args w.env) w.guess)
   where
@@ -64,9 +64,9 @@ asks_op o SpecBarrier w = sym (append-nil _)
 -- what a stage asks for
 asks_are : (path : List ℕ) (o : Around) (xs : List Stmt) (w : Work) → Fixed path o xs w → awaited_of (do_all o xs w).asks ≡ awaited_of w.asks ++ fetches_of (onpath path xs)
 asks_are path o [] w f = sym (append-nil _)
-asks_are path o (x ∷ xs) w f = asks_are path o xs (step o x w) f.1 ∙ at (taken x.guards w.env) (taken x.guards path) f.0
+asks_are path o (x ∷ xs) w f = asks_are path o xs (step o x w) f.1 ∙ at (all_hold x.guards w.env) (all_hold x.guards path) f.0
   where
-    at : (b c : Bool) → b ≡ c → awaited_of (cond b (does o x.op w) w).asks ++ fetches_of (onpath path xs) ≡ awaited_of w.asks ++ fetches_of (cond c (record x { guards = [] } ∷ onpath path xs) (onpath path xs))
+    at : (b c : Bool) → b ≡ c → awaited_of (cond b (work_after o x.op w) w).asks ++ fetches_of (onpath path xs) ≡ awaited_of w.asks ++ fetches_of (cond c (record x { guards = [] } ∷ onpath path xs) (onpath path xs))
     at true true e = ap (λ l. l ++ fetches_of (onpath path xs)) (asks_op o x.op w) ∙ append_assoc (awaited_of w.asks) (fetch_of x.op) _
     at true false e = absurd (cc e)
     at false true e = absurd (cc e)
@@ -202,24 +202,24 @@ kept_more P [] ys h k = k
 kept_more P (x ∷ xs) ys h k = (h.0, kept_more P xs ys h.1 k)
 
 module _ (p : Pipe) (st : State) (bits : List Bool) (n : ℕ) where
-  answers_kept : (P : ℕ → Type 0) (rs : List Awaited) → AllAwaited (λ r. P r.var) rs → AllKept (λ k. P k.var) (Machine.answered p st bits n rs)
+  answers_kept : (P : ℕ → Type 0) (rs : List Awaited) → AllAwaited (λ r. P r.var) rs → AllKept (λ k. P k.var) (Machine.answered_reads p st bits n rs)
   answers_kept P [] h = tt
-  answers_kept P (r ∷ rs) h = kept_more (λ k. P k.var) (keeps r.var (answer_for p st bits n r.mem)) (Machine.answered p st bits n rs) (at (answer_for p st bits n r.mem)) (answers_kept P rs h.1)
+  answers_kept P (r ∷ rs) h = kept_more (λ k. P k.var) (kept_answer r.var (answer_for p st bits n r.mem)) (Machine.answered_reads p st bits n rs) (at (answer_for p st bits n r.mem)) (answers_kept P rs h.1)
     where
-      at : (x : Option ℕ) → AllKept (λ k. P k.var) (keeps r.var x)
+      at : (x : Option ℕ) → AllKept (λ k. P k.var) (kept_answer r.var x)
       at None = tt
       at (Some v) = (h.0, tt)
 
-  answers_count : (rs : List Awaited) → length (unanswered p st bits n rs) + length (Machine.answered p st bits n rs) ≡ length rs
+  answers_count : (rs : List Awaited) → length (unanswered_reads p st bits n rs) + length (Machine.answered_reads p st bits n rs) ≡ length rs
   answers_count [] = refl
   answers_count (r ∷ rs) = at (answer_for p st bits n r.mem) (answers_count rs)
     where
-      at : (x : Option ℕ) → length (unanswered p st bits n rs) + length (Machine.answered p st bits n rs) ≡ length rs
-          → length ((if is_some x then [] else r ∷ []) ++ unanswered p st bits n rs) + length (keeps r.var x ++ Machine.answered p st bits n rs) ≡ suc (length rs)
+      at : (x : Option ℕ) → length (unanswered_reads p st bits n rs) + length (Machine.answered_reads p st bits n rs) ≡ length rs
+          → length ((if is_some x then [] else r ∷ []) ++ unanswered_reads p st bits n rs) + length (kept_answer r.var x ++ Machine.answered_reads p st bits n rs) ≡ suc (length rs)
       at None h = omega arith
       at (Some v) h = omega arith
 
-  answers_share : (x m : ℕ) (rs : List Awaited) → list_any (λ r. (r.var == x) && (r.mem == m)) rs ≡ true → held_in (Machine.answered p st bits n rs) (unanswered p st bits n rs) x m ≡ true
+  answers_share : (x m : ℕ) (rs : List Awaited) → list_any (λ r. (r.var == x) && (r.mem == m)) rs ≡ true → held_in (Machine.answered_reads p st bits n rs) (unanswered_reads p st bits n rs) x m ≡ true
   answers_share x m [] h = absurd (cc h)
   answers_share x m (r ∷ rs) h = at (answer_for p st bits n r.mem) ((r.var == x) && (r.mem == m)) refl h (λ k. answers_share x m rs k)
     where
@@ -237,25 +237,25 @@ module _ (p : Pipe) (st : State) (bits : List Bool) (n : ℕ) where
       or_in true b = refl
       or_in false b = refl
 
-      at : (o : Option ℕ) (b : Bool) → ((r.var == x) && (r.mem == m)) ≡ b → (b || list_any (λ r. (r.var == x) && (r.mem == m)) rs) ≡ true → (list_any (λ r. (r.var == x) && (r.mem == m)) rs ≡ true → held_in (Machine.answered p st bits n rs) (unanswered p st bits n rs) x m ≡ true)
-          → held_in (keeps r.var o ++ Machine.answered p st bits n rs) ((if is_some o then [] else r ∷ []) ++ unanswered p st bits n rs) x m ≡ true
-      at None true e h f = ap (λ c. list_any (λ k. k.var == x) (Machine.answered p st bits n rs) || (c || list_any (λ r. (r.var == x) && (r.mem == m)) (unanswered p st bits n rs))) e ∙ or_in (list_any (λ k. k.var == x) (Machine.answered p st bits n rs)) (list_any (λ r. (r.var == x) && (r.mem == m)) (unanswered p st bits n rs))
-      at None false e h f = last (list_any (λ k. k.var == x) (Machine.answered p st bits n rs)) (list_any (λ r. (r.var == x) && (r.mem == m)) (unanswered p st bits n rs)) ((r.var == x) && (r.mem == m)) (f h)
-      at (Some v) true e h f = ap (λ c. (c || list_any (λ k. k.var == x) (Machine.answered p st bits n rs)) || list_any (λ r. (r.var == x) && (r.mem == m)) (unanswered p st bits n rs)) (and_left _ _ e)
-      at (Some v) false e h f = first (list_any (λ k. k.var == x) (Machine.answered p st bits n rs)) (list_any (λ r. (r.var == x) && (r.mem == m)) (unanswered p st bits n rs)) (r.var == x) (f h)
+      at : (o : Option ℕ) (b : Bool) → ((r.var == x) && (r.mem == m)) ≡ b → (b || list_any (λ r. (r.var == x) && (r.mem == m)) rs) ≡ true → (list_any (λ r. (r.var == x) && (r.mem == m)) rs ≡ true → held_in (Machine.answered_reads p st bits n rs) (unanswered_reads p st bits n rs) x m ≡ true)
+          → held_in (kept_answer r.var o ++ Machine.answered_reads p st bits n rs) ((if is_some o then [] else r ∷ []) ++ unanswered_reads p st bits n rs) x m ≡ true
+      at None true e h f = ap (λ c. list_any (λ k. k.var == x) (Machine.answered_reads p st bits n rs) || (c || list_any (λ r. (r.var == x) && (r.mem == m)) (unanswered_reads p st bits n rs))) e ∙ or_in (list_any (λ k. k.var == x) (Machine.answered_reads p st bits n rs)) (list_any (λ r. (r.var == x) && (r.mem == m)) (unanswered_reads p st bits n rs))
+      at None false e h f = last (list_any (λ k. k.var == x) (Machine.answered_reads p st bits n rs)) (list_any (λ r. (r.var == x) && (r.mem == m)) (unanswered_reads p st bits n rs)) ((r.var == x) && (r.mem == m)) (f h)
+      at (Some v) true e h f = ap (λ c. (c || list_any (λ k. k.var == x) (Machine.answered_reads p st bits n rs)) || list_any (λ r. (r.var == x) && (r.mem == m)) (unanswered_reads p st bits n rs)) (and_left _ _ e)
+      at (Some v) false e h f = first (list_any (λ k. k.var == x) (Machine.answered_reads p st bits n rs)) (list_any (λ r. (r.var == x) && (r.mem == m)) (unanswered_reads p st bits n rs)) (r.var == x) (f h)
 
-  held_more : (kept : List Kept) (rs : List Awaited) (x m : ℕ) → held_in kept rs x m ≡ true → held_in (kept ++ Machine.answered p st bits n rs) (unanswered p st bits n rs) x m ≡ true
+  held_more : (kept : List Kept) (rs : List Awaited) (x m : ℕ) → held_in kept rs x m ≡ true → held_in (kept ++ Machine.answered_reads p st bits n rs) (unanswered_reads p st bits n rs) x m ≡ true
   held_more [] rs x m h = answers_share x m rs h
   held_more (k ∷ kept) rs x m h = at (k.var == x) h (λ i. held_more kept rs x m i)
     where
-      at : (b : Bool) → ((b || list_any (λ k. k.var == x) kept) || list_any (λ r. (r.var == x) && (r.mem == m)) rs) ≡ true → (held_in kept rs x m ≡ true → held_in (kept ++ Machine.answered p st bits n rs) (unanswered p st bits n rs) x m ≡ true)
-          → ((b || list_any (λ k. k.var == x) (kept ++ Machine.answered p st bits n rs)) || list_any (λ r. (r.var == x) && (r.mem == m)) (unanswered p st bits n rs)) ≡ true
+      at : (b : Bool) → ((b || list_any (λ k. k.var == x) kept) || list_any (λ r. (r.var == x) && (r.mem == m)) rs) ≡ true → (held_in kept rs x m ≡ true → held_in (kept ++ Machine.answered_reads p st bits n rs) (unanswered_reads p st bits n rs) x m ≡ true)
+          → ((b || list_any (λ k. k.var == x) (kept ++ Machine.answered_reads p st bits n rs)) || list_any (λ r. (r.var == x) && (r.mem == m)) (unanswered_reads p st bits n rs)) ≡ true
       at true i f = refl
       at false i f = f i
 
   -- as answers come
-  pub local_answered : (env : List ℕ) (kept : List Kept) (t : Derived.Thread) (values : List ℕ) (rs : List Awaited) → unanswered p st bits n t.awaits ≡ rs → (loc : Local p env kept t) → AllAwaited (λ r. AnyAsk (λ q. q.var ≡ r.var) loc.asks) t.awaits
-      → Local p env (kept ++ Machine.answered p st bits n t.awaits) (record t { env = values; awaits = rs })
+  pub local_answered : (env : List ℕ) (kept : List Kept) (t : Derived.Thread) (values : List ℕ) (rs : List Awaited) → unanswered_reads p st bits n t.awaits ≡ rs → (loc : Local p env kept t) → AllAwaited (λ r. AnyAsk (λ q. q.var ≡ r.var) loc.asks) t.awaits
+      → Local p env (kept ++ Machine.answered_reads p st bits n t.awaits) (record t { env = values; awaits = rs })
   local_answered env kept t values rs e loc h =
       record {
         long = loc.long;
@@ -268,15 +268,15 @@ module _ (p : Pipe) (st : State) (bits : List Bool) (n : ℕ) where
         asked = loc.asked;
         unused = loc.unused;
         steady = loc.steady;
-        kept_in = kept_more (λ k. AnyAsk (λ q. q.var ≡ k.var) loc.asks) kept (Machine.answered p st bits n t.awaits) loc.kept_in (answers_kept (λ v. AnyAsk (λ q. q.var ≡ v) loc.asks) t.awaits h);
-        held = stmts_map (λ z f i x m a j. subst (λ l. held_in (kept ++ Machine.answered p st bits n t.awaits) l x m ≡ true) e (held_more kept t.awaits x m (f i x m a j))) (on_way p env t.stage) loc.held;
-        total = ap (λ l. length l + length (kept ++ Machine.answered p st bits n t.awaits)) (sym e) ∙ ap (λ k. length (unanswered p st bits n t.awaits) + k) (length-append kept (Machine.answered p st bits n t.awaits)) ∙ flip (length (unanswered p st bits n t.awaits)) (length kept) (length (Machine.answered p st bits n t.awaits)) ∙ ap (λ k. k + length kept) (answers_count t.awaits) ∙ loc.total;
+        kept_in = kept_more (λ k. AnyAsk (λ q. q.var ≡ k.var) loc.asks) kept (Machine.answered_reads p st bits n t.awaits) loc.kept_in (answers_kept (λ v. AnyAsk (λ q. q.var ≡ v) loc.asks) t.awaits h);
+        held = stmts_map (λ z f i x m a j. subst (λ l. held_in (kept ++ Machine.answered_reads p st bits n t.awaits) l x m ≡ true) e (held_more kept t.awaits x m (f i x m a j))) (on_way p env t.stage) loc.held;
+        total = ap (λ l. length l + length (kept ++ Machine.answered_reads p st bits n t.awaits)) (sym e) ∙ ap (λ k. length (unanswered_reads p st bits n t.awaits) + k) (length-append kept (Machine.answered_reads p st bits n t.awaits)) ∙ flip (length (unanswered_reads p st bits n t.awaits)) (length kept) (length (Machine.answered_reads p st bits n t.awaits)) ∙ ap (λ k. k + length kept) (answers_count t.awaits) ∙ loc.total;
       }
     where
       flip : (a b c : ℕ) → a + (b + c) ≡ (a + c) + b
       flip a b c = omega arith
 
-  pub answered_asks : (env : List ℕ) (kept : List Kept) (t : Derived.Thread) (values : List ℕ) (rs : List Awaited) → (e : unanswered p st bits n t.awaits ≡ rs) → (loc : Local p env kept t) → (h : AllAwaited (λ r. AnyAsk (λ q. q.var ≡ r.var) loc.asks) t.awaits)
+  pub answered_asks : (env : List ℕ) (kept : List Kept) (t : Derived.Thread) (values : List ℕ) (rs : List Awaited) → (e : unanswered_reads p st bits n t.awaits ≡ rs) → (loc : Local p env kept t) → (h : AllAwaited (λ r. AnyAsk (λ q. q.var ≡ r.var) loc.asks) t.awaits)
       → (local_answered env kept t values rs e loc h).asks ≡ loc.asks
   unfolding local_answered
   answered_asks env kept t values rs e loc h = refl
@@ -348,9 +348,9 @@ kept_unused p env kept t loc = kept_map (λ k i. let a = any_of (λ q. AllOps (�
 kept_steady : (p : Pipe) (env : List ℕ) (kept : List Kept) (t : Derived.Thread) → (loc : Local p env kept t) → AllKept (λ k. Steady p loc.trail k.var) kept
 kept_steady p env kept t loc = kept_map (λ k i. let a = any_of (λ q. Steady p loc.trail q.var) (λ q. q.var ≡ k.var) loc.asks loc.steady i in subst (λ v. Steady p loc.trail v) a.2 a.1) kept loc.kept_in
 
-module _ (p : Pipe) (flows : Flows p) (sound : Sound p) (strict : Strict p) (o : Around) (kind : Kind o) (env : List ℕ) (kept : List Kept) (t : Derived.Thread) (keeps : Keeps p env t) (values : with_kept kept env ≡ t.env) (loc : Local p env kept t) (ready : (works p o t).ready ≡ true) where
+module _ (p : Pipe) (flows : Flows p) (sound : Sound p) (strict : Strict p) (o : Around) (kind : Kind o) (env : List ℕ) (kept : List Kept) (t : Derived.Thread) (kept_answer : Keeps p env t) (values : with_kept kept env ≡ t.env) (loc : Local p env kept t) (ready : (work_of_stage p o t).ready ≡ true) where
   abbrev pub mine : List Stmt
-  mine = onpath (works p o t).env (in_stage t.stage p.stmts)
+  mine = onpath (work_of_stage p o t).env (in_stage t.stage p.stmts)
 
   -- at the start of the stage
   pub past_start : AllOps (BlockOk o t.env t.entries (past_of p env t.stage)) (past_of p env t.stage) → Past o p.vars (past_of p env t.stage) (start_of t)
@@ -364,80 +364,80 @@ module _ (p : Pipe) (flows : Flows p) (sound : Sound p) (strict : Strict p) (o :
         blocks = blocks;
       }
 
-  whole_way : onpath (works p o t).env p.stmts ≡ (on_way p env t.stage ++ onpath (works p o t).env (in_stage t.stage p.stmts)) ++ onpath (works p o t).env (stages_from (next_of p t.stage (works p o t).env) p.stmts)
-  whole_way = flows.all_pieces (works p o t).env (next_of p t.stage (works p o t).env) ∙ ap (λ l. l ++ onpath (works p o t).env (stages_from (next_of p t.stage (works p o t).env) p.stmts)) (way_next p flows env t keeps o)
+  whole_way : onpath (work_of_stage p o t).env p.stmts ≡ (on_way p env t.stage ++ onpath (work_of_stage p o t).env (in_stage t.stage p.stmts)) ++ onpath (work_of_stage p o t).env (stages_from (next_of p t.stage (work_of_stage p o t).env) p.stmts)
+  whole_way = flows.all_pieces (work_of_stage p o t).env (next_of p t.stage (work_of_stage p o t).env) ∙ ap (λ l. l ++ onpath (work_of_stage p o t).env (stages_from (next_of p t.stage (work_of_stage p o t).env) p.stmts)) (way_next p flows env t kept_answer o)
 
   -- and at its end
-  pub past_end : AllOps (BlockOk o t.env t.entries (past_of p env t.stage)) (past_of p env t.stage) → Past o p.vars (onto (onpath (works p o t).env (in_stage t.stage p.stmts)) (past_of p env t.stage)) (works p o t)
+  pub past_end : AllOps (BlockOk o t.env t.entries (past_of p env t.stage)) (past_of p env t.stage) → Past o p.vars (onto (onpath (work_of_stage p o t).env (in_stage t.stage p.stmts)) (past_of p env t.stage)) (work_of_stage p o t)
   past_end blocks =
-      past_all o p.vars kind (works p o t).env (called false (on_way p env t.stage)) (in_stage t.stage p.stmts) (past_of p env t.stage) (start_of t) (fixed_here p flows env t keeps o)
-      (all_new_append p.vars (on_way p env t.stage) (onpath (works p o t).env (in_stage t.stage p.stmts)) [] (all_new_front p.vars (on_way p env t.stage ++ onpath (works p o t).env (in_stage t.stage p.stmts)) (onpath (works p o t).env (stages_from (next_of p t.stage (works p o t).env) p.stmts)) [] (subst (λ l. all_new p.vars [] l ≡ true) whole_way (strict.names (works p o t).env))))
-      (calls_back false (on_way p env t.stage) (onpath (works p o t).env (in_stage t.stage p.stmts)) (calls_front false (on_way p env t.stage ++ onpath (works p o t).env (in_stage t.stage p.stmts)) (onpath (works p o t).env (stages_from (next_of p t.stage (works p o t).env) p.stmts)) (subst (λ l. calls_ok false l ≡ true) whole_way (flows.calls (works p o t).env))))
+      past_all o p.vars kind (work_of_stage p o t).env (called false (on_way p env t.stage)) (in_stage t.stage p.stmts) (past_of p env t.stage) (start_of t) (fixed_here p flows env t kept_answer o)
+      (all_new_append p.vars (on_way p env t.stage) (onpath (work_of_stage p o t).env (in_stage t.stage p.stmts)) [] (all_new_front p.vars (on_way p env t.stage ++ onpath (work_of_stage p o t).env (in_stage t.stage p.stmts)) (onpath (work_of_stage p o t).env (stages_from (next_of p t.stage (work_of_stage p o t).env) p.stmts)) [] (subst (λ l. all_new p.vars [] l ≡ true) whole_way (strict.names (work_of_stage p o t).env))))
+      (calls_back false (on_way p env t.stage) (onpath (work_of_stage p o t).env (in_stage t.stage p.stmts)) (calls_front false (on_way p env t.stage ++ onpath (work_of_stage p o t).env (in_stage t.stage p.stmts)) (onpath (work_of_stage p o t).env (stages_from (next_of p t.stage (work_of_stage p o t).env) p.stmts)) (subst (λ l. calls_ok false l ≡ true) whole_way (flows.calls (work_of_stage p o t).env))))
       (λ e. uncalled false (on_way p env t.stage) [] e (λ i. tt)) (sound.fetch_unseen t.stage) tt ready (past_start blocks)
 
   -- the forks' variables keep their values
-  steady_values : (r : ℕ) → Among r loc.trail → (z a b : ℕ) → (stage_at p r).next ≡ Forks z a b → slice_index env z ≡ slice_index (works p o t).env z
+  steady_values : (r : ℕ) → Among r loc.trail → (z a b : ℕ) → (stage_at p r).next ≡ Forks z a b → slice_index env z ≡ slice_index (work_of_stage p o t).env z
   steady_values r i z a b e =
       sym (kept_other z kept env (kept_map (λ k s. s r i z a b e) kept (kept_steady p env kept t loc)))
       ∙ ap (λ l. slice_index l z) values
-      ∙ sym (all_stays z o (in_stage t.stage p.stmts) (start_of t) (none_stage_from (binds z) (suc r) t.stage p.stmts (among_low p flows.graph env t.stage loc.trail loc.walked r i) (sound.fork_bound r z a b e)))
+      ∙ sym (all_stays z o (in_stage t.stage p.stmts) (start_of t) (none_stage_from (binds_var z) (suc r) t.stage p.stmts (among_low p flows.graph env t.stage loc.trail loc.walked r i) (sound.fork_bound r z a b e)))
 
   -- what the stage asks for steers no fork
-  steady_asks : AllAsks (λ q. Steady p (t.stage ∷ loc.trail) q.var) (works p o t).asks
-  steady_asks = all_flip (λ r q. Among r (t.stage ∷ loc.trail) → (z a b : ℕ) → (stage_at p r).next ≡ Forks z a b → z ≢ q.var) (works p o t).asks
-      (λ r. all_flip (λ i q. (z a b : ℕ) → (stage_at p r).next ≡ Forks z a b → z ≢ q.var) (works p o t).asks
-      (λ i. all_flip (λ z q. (a b : ℕ) → (stage_at p r).next ≡ Forks z a b → z ≢ q.var) (works p o t).asks
-      (λ z. all_flip (λ a q. (b : ℕ) → (stage_at p r).next ≡ Forks z a b → z ≢ q.var) (works p o t).asks
-      (λ a. all_flip (λ b q. (stage_at p r).next ≡ Forks z a b → z ≢ q.var) (works p o t).asks
-      (λ b. all_flip (λ e q. z ≢ q.var) (works p o t).asks
-      (λ e. all_more (λ q. not (q.var == z) ≡ true) (λ q. z ≢ q.var) (works p o t).asks (λ q k j. absurd (differ q.var z k (sym j)))
+  steady_asks : AllAsks (λ q. Steady p (t.stage ∷ loc.trail) q.var) (work_of_stage p o t).asks
+  steady_asks = all_flip (λ r q. Among r (t.stage ∷ loc.trail) → (z a b : ℕ) → (stage_at p r).next ≡ Forks z a b → z ≢ q.var) (work_of_stage p o t).asks
+      (λ r. all_flip (λ i q. (z a b : ℕ) → (stage_at p r).next ≡ Forks z a b → z ≢ q.var) (work_of_stage p o t).asks
+      (λ i. all_flip (λ z q. (a b : ℕ) → (stage_at p r).next ≡ Forks z a b → z ≢ q.var) (work_of_stage p o t).asks
+      (λ z. all_flip (λ a q. (b : ℕ) → (stage_at p r).next ≡ Forks z a b → z ≢ q.var) (work_of_stage p o t).asks
+      (λ a. all_flip (λ b q. (stage_at p r).next ≡ Forks z a b → z ≢ q.var) (work_of_stage p o t).asks
+      (λ b. all_flip (λ e q. z ≢ q.var) (work_of_stage p o t).asks
+      (λ e. all_more (λ q. not (q.var == z) ≡ true) (λ q. z ≢ q.var) (work_of_stage p o t).asks (λ q k j. absurd (differ q.var z k (sym j)))
       (asks_each (λ y m. not (y == z) ≡ true) o (in_stage t.stage p.stmts) (start_of t) (not_fetched z (in_stage t.stage p.stmts) (unfetched r i z a b e)) tt)))))))
     where
       differ : (x z : ℕ) → not (x == z) ≡ true → x ≡ z → ⊥
       differ x z k j = cc (sym (ap not (eq-eqb x z j)) ∙ k)
 
-      unfetched : (r : ℕ) → Among r (t.stage ∷ loc.trail) → (z a b : ℕ) → (stage_at p r).next ≡ Forks z a b → none_of (fetches z) (in_stage t.stage p.stmts) ≡ true
+      unfetched : (r : ℕ) → Among r (t.stage ∷ loc.trail) → (z a b : ℕ) → (stage_at p r).next ≡ Forks z a b → none_of (is_fetch_of z) (in_stage t.stage p.stmts) ≡ true
       unfetched r (inl i) z a b e = sound.fork_seen t.stage z a b (ap (λ n. (stage_at p n).next) (sym i) ∙ e)
-      unfetched r (inr i) z a b e = fetch_binds z (in_stage t.stage p.stmts) (none_stage_from (binds z) (suc r) t.stage p.stmts (among_low p flows.graph env t.stage loc.trail loc.walked r i) (sound.fork_bound r z a b e))
+      unfetched r (inr i) z a b e = fetch_binds z (in_stage t.stage p.stmts) (none_stage_from (binds_var z) (suc r) t.stage p.stmts (among_low p flows.graph env t.stage loc.trail loc.walked r i) (sound.fork_bound r z a b e))
 
   -- the requests of the stage are its delayed reads
-  asks_here : awaited_of (works p o t).asks ≡ fetches_of (onpath (works p o t).env (in_stage t.stage p.stmts))
-  asks_here = asks_are (works p o t).env o (in_stage t.stage p.stmts) (start_of t) (fixed_here p flows env t keeps o)
+  asks_here : awaited_of (work_of_stage p o t).asks ≡ fetches_of (onpath (work_of_stage p o t).env (in_stage t.stage p.stmts))
+  asks_here = asks_are (work_of_stage p o t).env o (in_stage t.stage p.stmts) (start_of t) (fixed_here p flows env t kept_answer o)
 
   awaited_length : (qs : List Ask) → length (awaited_of qs) ≡ length qs
   awaited_length [] = refl
   awaited_length (q ∷ qs) = ap suc (awaited_length qs)
 
-  module _ (q : ℕ) (goes : goes_to (stage_at p t.stage).next (works p o t).env ≡ Some q) where
-    is_next : next_of p t.stage (works p o t).env ≡ q
+  module _ (q : ℕ) (goes : goes_to (stage_at p t.stage).next (work_of_stage p o t).env ≡ Some q) where
+    is_next : next_of p t.stage (work_of_stage p o t).env ≡ q
     is_next = ap (stage_or (length p.stages)) goes
 
-    pub way_q : on_way p (works p o t).env q ≡ on_way p env t.stage ++ onpath (works p o t).env (in_stage t.stage p.stmts)
-    way_q = ap (on_way p (works p o t).env) (sym is_next) ∙ way_next p flows env t keeps o
+    pub way_q : on_way p (work_of_stage p o t).env q ≡ on_way p env t.stage ++ onpath (work_of_stage p o t).env (in_stage t.stage p.stmts)
+    way_q = ap (on_way p (work_of_stage p o t).env) (sym is_next) ∙ way_next p flows env t kept_answer o
 
-    pub past_q : past_of p (works p o t).env q ≡ onto (onpath (works p o t).env (in_stage t.stage p.stmts)) (past_of p env t.stage)
-    past_q = ap (λ l. onto l []) way_q ∙ onto_append (on_way p env t.stage) (onpath (works p o t).env (in_stage t.stage p.stmts)) []
+    pub past_q : past_of p (work_of_stage p o t).env q ≡ onto (onpath (work_of_stage p o t).env (in_stage t.stage p.stmts)) (past_of p env t.stage)
+    past_q = ap (λ l. onto l []) way_q ∙ onto_append (on_way p env t.stage) (onpath (work_of_stage p o t).env (in_stage t.stage p.stmts)) []
 
     up : t.stage < q
-    up = (flows.graph.up t.stage q ((works p o t).env, goes, keeps.inside)).0
+    up = (flows.graph.up t.stage q ((work_of_stage p o t).env, goes, kept_answer.inside)).0
 
-    pub new_trail : Trail p (works p o t).env q (t.stage ∷ loc.trail)
-    new_trail = (goes, keeps.inside, trail_same p env (works p o t).env t.stage loc.trail steady_values loc.walked)
+    pub new_trail : Trail p (work_of_stage p o t).env q (t.stage ∷ loc.trail)
+    new_trail = (goes, kept_answer.inside, trail_same p env (work_of_stage p o t).env t.stage loc.trail steady_values loc.walked)
 
     -- only the statements of the stage lead here
-    not_here : (z : Stmt) → Among z.stage loc.trail → here p (works p o t).env q z ≡ false
+    not_here : (z : Stmt) → Among z.stage loc.trail → here p (work_of_stage p o t).env q z ≡ false
     not_here z i =
-        let n = among_next p flows.graph (works p o t).env t.stage loc.trail new_trail.2 z.stage i in
+        let n = among_next p flows.graph (work_of_stage p o t).env t.stage loc.trail new_trail.2 z.stage i in
         ap (one_of (λ k. k == q)) n.1 ∙ ne_eqb n.0 q (λ e. absurd (let j = n.2 in let u = up in omega arith))
 
-    is_here : (z : Stmt) → z.stage ≡ t.stage → here p (works p o t).env q z ≡ true
-    is_here z e = ap (λ k. one_of (λ k. k == q) (goes_to (stage_at p k).next (works p o t).env)) e ∙ ap (one_of (λ k. k == q)) goes ∙ eq-eqb q q refl
+    is_here : (z : Stmt) → z.stage ≡ t.stage → here p (work_of_stage p o t).env q z ≡ true
+    is_here z e = ap (λ k. one_of (λ k. k == q) (goes_to (stage_at p k).next (work_of_stage p o t).env)) e ∙ ap (one_of (λ k. k == q)) goes ∙ eq-eqb q q refl
 
-    held_awaited : (z : Op) → HeldOp [] (fetches_of (onpath (works p o t).env (in_stage t.stage p.stmts))) z → HeldOp [] (awaited_of (works p o t).asks) z
+    held_awaited : (z : Op) → HeldOp [] (fetches_of (onpath (work_of_stage p o t).env (in_stage t.stage p.stmts))) z → HeldOp [] (awaited_of (work_of_stage p o t).asks) z
     held_awaited z h x m a e = ap (λ l. held_in [] l x m) asks_here ∙ h x m a e
 
     pub local_moved : AllOps (BlockOk o t.env t.entries (past_of p env t.stage)) (past_of p env t.stage)
-        → Local p (works p o t).env [] (record { stage = q; env = (works p o t).env; entries = (works p o t).entries; guess = (works p o t).guess; awaits = awaited_of (works p o t).asks })
+        → Local p (work_of_stage p o t).env [] (record { stage = q; env = (work_of_stage p o t).env; entries = (work_of_stage p o t).entries; guess = (work_of_stage p o t).guess; awaits = awaited_of (work_of_stage p o t).asks })
     local_moved blocks =
         let e = past_end blocks in
         record {
@@ -445,29 +445,29 @@ module _ (p : Pipe) (flows : Flows p) (sound : Sound p) (strict : Strict p) (o :
           trail = t.stage ∷ loc.trail;
           walked = new_trail;
           among = subst (λ l. AllStmts (λ z. Among z.stage (t.stage ∷ loc.trail)) l) (sym way_q)
-              (stmts_append (λ z. Among z.stage (t.stage ∷ loc.trail)) (on_way p env t.stage) (onpath (works p o t).env (in_stage t.stage p.stmts)) (stmts_map (λ z i. inr i) (on_way p env t.stage) loc.among) (stmts_map (λ z i. inl i) (onpath (works p o t).env (in_stage t.stage p.stmts)) (stage_stmts (works p o t).env t.stage p.stmts)));
-          done = subst (λ l. AllOps (Done (works p o t).env (works p o t).guess) l) (sym past_q) e.done;
-          placed = subst (λ l. AllPlaced (works p o t).env l (works p o t).entries) (sym past_q) e.placed;
-          asks = (works p o t).asks;
-          asked = subst (λ l. AllAsks (AskedBy (works p o t).env l) (works p o t).asks) (sym past_q) e.asked;
-          unused = subst (λ l. AllAsks (λ q. AllOps (λ op. touches q.var op ≡ false) l) (works p o t).asks) (sym past_q) e.unused;
+              (stmts_append (λ z. Among z.stage (t.stage ∷ loc.trail)) (on_way p env t.stage) (onpath (work_of_stage p o t).env (in_stage t.stage p.stmts)) (stmts_map (λ z i. inr i) (on_way p env t.stage) loc.among) (stmts_map (λ z i. inl i) (onpath (work_of_stage p o t).env (in_stage t.stage p.stmts)) (stage_stmts (work_of_stage p o t).env t.stage p.stmts)));
+          done = subst (λ l. AllOps (Done (work_of_stage p o t).env (work_of_stage p o t).guess) l) (sym past_q) e.done;
+          placed = subst (λ l. AllPlaced (work_of_stage p o t).env l (work_of_stage p o t).entries) (sym past_q) e.placed;
+          asks = (work_of_stage p o t).asks;
+          asked = subst (λ l. AllAsks (AskedBy (work_of_stage p o t).env l) (work_of_stage p o t).asks) (sym past_q) e.asked;
+          unused = subst (λ l. AllAsks (λ q. AllOps (λ op. touches q.var op ≡ false) l) (work_of_stage p o t).asks) (sym past_q) e.unused;
           steady = steady_asks;
           kept_in = tt;
-          held = subst (λ l. AllStmts (λ z. here p (works p o t).env q z ≡ true → HeldOp [] (awaited_of (works p o t).asks) z.op) l) (sym way_q)
-              (stmts_append (λ z. here p (works p o t).env q z ≡ true → HeldOp [] (awaited_of (works p o t).asks) z.op) (on_way p env t.stage) (onpath (works p o t).env (in_stage t.stage p.stmts))
+          held = subst (λ l. AllStmts (λ z. here p (work_of_stage p o t).env q z ≡ true → HeldOp [] (awaited_of (work_of_stage p o t).asks) z.op) l) (sym way_q)
+              (stmts_append (λ z. here p (work_of_stage p o t).env q z ≡ true → HeldOp [] (awaited_of (work_of_stage p o t).asks) z.op) (on_way p env t.stage) (onpath (work_of_stage p o t).env (in_stage t.stage p.stmts))
               (stmts_map (λ z i h. absurd (cc (sym (not_here z i) ∙ h))) (on_way p env t.stage) loc.among)
-              (stmts_map (λ z f h. held_awaited z.op f) (onpath (works p o t).env (in_stage t.stage p.stmts)) (fetches_in (onpath (works p o t).env (in_stage t.stage p.stmts)))));
+              (stmts_map (λ z f h. held_awaited z.op f) (onpath (work_of_stage p o t).env (in_stage t.stage p.stmts)) (fetches_in (onpath (work_of_stage p o t).env (in_stage t.stage p.stmts)))));
           total =
-              add-zero (length (awaited_of (works p o t).asks)) ∙ ap length asks_here ∙ count_fetch (onpath (works p o t).env (in_stage t.stage p.stmts))
-              ∙ sym (ap (count (λ (x : Stmt). here p (works p o t).env q x && is_fetch x.op)) way_q
-              ∙ count_append (λ (x : Stmt). here p (works p o t).env q x && is_fetch x.op) (on_way p env t.stage) (onpath (works p o t).env (in_stage t.stage p.stmts))
+              add-zero (length (awaited_of (work_of_stage p o t).asks)) ∙ ap length asks_here ∙ count_fetch (onpath (work_of_stage p o t).env (in_stage t.stage p.stmts))
+              ∙ sym (ap (count (λ (x : Stmt). here p (work_of_stage p o t).env q x && is_fetch x.op)) way_q
+              ∙ count_append (λ (x : Stmt). here p (work_of_stage p o t).env q x && is_fetch x.op) (on_way p env t.stage) (onpath (work_of_stage p o t).env (in_stage t.stage p.stmts))
               ∙ ap₂ (λ a b. a + b)
-              (count_none (λ (x : Stmt). here p (works p o t).env q x && is_fetch x.op) (on_way p env t.stage) (stmts_map (λ z i. ap (λ b. b && is_fetch z.op) (not_here z i)) (on_way p env t.stage) loc.among))
-              (count_same (λ (x : Stmt). here p (works p o t).env q x && is_fetch x.op) (λ (x : Stmt). is_fetch x.op) (onpath (works p o t).env (in_stage t.stage p.stmts)) (stmts_map (λ z i. ap (λ b. b && is_fetch z.op) (is_here z i)) (onpath (works p o t).env (in_stage t.stage p.stmts)) (stage_stmts (works p o t).env t.stage p.stmts)))
-              ∙ zero-add (count (λ (x : Stmt). is_fetch x.op) (onpath (works p o t).env (in_stage t.stage p.stmts))));
+              (count_none (λ (x : Stmt). here p (work_of_stage p o t).env q x && is_fetch x.op) (on_way p env t.stage) (stmts_map (λ z i. ap (λ b. b && is_fetch z.op) (not_here z i)) (on_way p env t.stage) loc.among))
+              (count_same (λ (x : Stmt). here p (work_of_stage p o t).env q x && is_fetch x.op) (λ (x : Stmt). is_fetch x.op) (onpath (work_of_stage p o t).env (in_stage t.stage p.stmts)) (stmts_map (λ z i. ap (λ b. b && is_fetch z.op) (is_here z i)) (onpath (work_of_stage p o t).env (in_stage t.stage p.stmts)) (stage_stmts (work_of_stage p o t).env t.stage p.stmts)))
+              ∙ zero-add (count (λ (x : Stmt). is_fetch x.op) (onpath (work_of_stage p o t).env (in_stage t.stage p.stmts))));
         }
 
-    pub moved_asks : (blocks : AllOps (BlockOk o t.env t.entries (past_of p env t.stage)) (past_of p env t.stage)) → (local_moved blocks).asks ≡ (works p o t).asks
+    pub moved_asks : (blocks : AllOps (BlockOk o t.env t.entries (past_of p env t.stage)) (past_of p env t.stage)) → (local_moved blocks).asks ≡ (work_of_stage p o t).asks
     unfolding local_moved
     moved_asks blocks = refl
 

@@ -7,7 +7,7 @@ use Rattle.pdl_semantics.specs.Stages.{in_stage, stage_at, goes_to, mem_at, is_r
 use Rattle.pdl_semantics.specs.Locks.{has_room}
 use Rattle.pdl_semantics.specs.Machine.{State, Pending, Reserved, Written, lock_of, word_for}
 use Rattle.pdl_semantics.specs.Moves.{Act, movers, block_ready}
-use Rattle.pdl_semantics.specs.Cycle.{new_entries, appended, put, put_all, but_oldest}
+use Rattle.pdl_semantics.specs.Cycle.{new_entries, with_reserves, with_value_of, with_writes_of, but_oldest}
 use Rattle.pdl_derived.specs.Derived.{around, port_free}
 use Rattle.pdl_derived.specs.Derived
 use Rattle.pdl_facts.specs.Scans.{phase_all, Fresh}
@@ -23,21 +23,10 @@ use Rattle.pdl_simulation.proofs.Telling.{Pair, pairs, EachPair, pair_both, pair
 use Rattle.pdl_simulation.proofs.Orders.{acts_of}
 use Rattle.pdl_simulation.proofs.Choices.{Seated, Known, AllKnown, keeps_now, worked_here, ends_here, fit_all}
 use Rattle.pdl_simulation.proofs.Swapped.{Swap, Swaps, same_movers}
-use Rattle.pdl_invariant.specs.Use.{count_older, reserved_in, reserved}
+use Rattle.pdl_semantics.proofs.Facts.{put_all_length}
+use Rattle.pdl_invariant.specs.Use.{count_older, reserved_in, reserved_count}
 use Rattle.pdl_invariant.proofs.PendingLists.{Within, within_append, within_one, of_append, of_pend, of_new, none_older, count_append}
 use Rattle.pdl_invariant.proofs.OwnWrites.{own_short, pend_short, one_pending, none_pending}
-
-pub put_length : (n v : ℕ) (xs : List Pending) → length (put n v xs) ≡ length xs
-put_length n v [] = refl
-put_length n v (x ∷ xs) = ap suc (put_length n v xs)
-
-pub put_all_length : (m n : ℕ) (ws : List Written) (xs : List Pending) → length (put_all m n ws xs) ≡ length xs
-put_all_length m n [] xs = refl
-put_all_length m n (w ∷ ws) xs = put_all_length m n ws (if w.mem == m then put n w.value xs else xs) ∙ at (w.mem == m)
-  where
-    at : (b : Bool) → length (cond b (put n w.value xs) xs) ≡ length xs
-    at true = put_length n w.value xs
-    at false = refl
 
 as_many : (m n : ℕ) (rs : List Reserved) → reserved_in m rs ≡ length (new_entries m n rs)
 as_many m n [] = refl
@@ -60,10 +49,10 @@ movers_no_older t m (a ∷ these) h = at a.moves (movers_no_older t m these h.1)
     at true k = (h.0, k)
     at false k = k
 
-pub count_appended : (t m : ℕ) (ms : List Act) (list : List Pending) → NoOlder t m ms → count_older t (appended m ms list) ≡ count_older t list
+pub count_appended : (t m : ℕ) (ms : List Act) (list : List Pending) → NoOlder t m ms → count_older t (with_reserves m ms list) ≡ count_older t list
 count_appended t m [] list h = refl
 count_appended t m (a ∷ ms) list h =
-    let e = count_append t (appended m ms list) (new_entries m a.thread.number a.does.reserves) in let f = count_appended t m ms list h.1 in let g = none h.0 in omega arith
+    let e = count_append t (with_reserves m ms list) (new_entries m a.thread.number a.does.reserves) in let f = count_appended t m ms list h.1 in let g = none h.0 in omega arith
   where
     none : (new_entries m a.thread.number a.does.reserves ≡ []) ⊎ (t ≤ a.thread.number) → count_older t (new_entries m a.thread.number a.does.reserves) ≡ 0
     none (inl e) = ap (count_older t) e
@@ -94,9 +83,9 @@ module _ (p : Pipe) (flows : Flows p) (st : State) (d : Derived.State) (bits : L
               ((keeps_next p flows l.env (now_of p d bits l) (keeps_now p flows st d bits arrays l k.seated) (around p d bits (dacts p d bits ls) l.thread.stage) (word_for st l.number) (λ b. block_ready p st l.number b)
               (λ r. has_room (mem_at p r.mem).lock (length (lock_of st r.mem))) (λ q. port_free p d bits (dacts p d bits ls) q.mem) (fit_all p flows st d bits arrays ls l k) q e).shape m)
 
-      at : (b : Bool) → Stages.list_any (λ j. j == m) (deeds_of p st bits l).releases ≡ b → length (put_all m l.number (deeds_of p st bits l).writes (pend m l.number l.thread.entries ++ new_entries m l.number (deeds_of p st bits l).reserves)) ≤ 1
+      at : (b : Bool) → Stages.list_any (λ j. j == m) (deeds_of p st bits l).releases ≡ b → length (with_writes_of m l.number (deeds_of p st bits l).writes (pend m l.number l.thread.entries ++ new_entries m l.number (deeds_of p st bits l).reserves)) ≤ 1
       at true e = subst (λ es. length es ≤ 1) (sym (w.full e).1) (omega arith)
-      at false e = subst (λ es. length es ≤ 1) (w.after ∙ ap (λ b. cond b (but_oldest (put_all m l.number (deeds_of p st bits l).writes (pend m l.number l.thread.entries ++ new_entries m l.number (deeds_of p st bits l).reserves))) (put_all m l.number (deeds_of p st bits l).writes (pend m l.number l.thread.entries ++ new_entries m l.number (deeds_of p st bits l).reserves))) e) short
+      at false e = subst (λ es. length es ≤ 1) (w.after ∙ ap (λ b. cond b (but_oldest (with_writes_of m l.number (deeds_of p st bits l).writes (pend m l.number l.thread.entries ++ new_entries m l.number (deeds_of p st bits l).reserves))) (with_writes_of m l.number (deeds_of p st bits l).writes (pend m l.number l.thread.entries ++ new_entries m l.number (deeds_of p st bits l).reserves))) e) short
 
   pub older_past : (l : Live) (ls : List Live) → Each (λ k. Behind p l.thread.stage k.thread.stage) ls → reserve_stage p m ≤ l.thread.stage → Each (λ k. reserve_stage p m < k.thread.stage) ls
   older_past l ls b h = each_map (λ k i. i.trunk (reserve_stage p m) (flows.trunk_reserve m) h) ls b
@@ -110,7 +99,7 @@ module _ (p : Pipe) (flows : Flows p) (st : State) (d : Derived.State) (bits : L
       at false k = k
 
   -- the list stays in order
-  pub within_new : (n : ℕ) (ls : List Live) → AllKnown p flows st d bits arrays ls → Ordered p ls → Falls n ls → Within 0 n (appended m (movers (lacts p st d bits ls)) (pends m ls))
+  pub within_new : (n : ℕ) (ls : List Live) → AllKnown p flows st d bits arrays ls → Ordered p ls → Falls n ls → Within 0 n (with_reserves m (movers (lacts p st d bits ls)) (pends m ls))
   within_new n [] k o f = omega arith
   within_new n (l ∷ ls) k o f = at (did p d bits ls l).moves (within_new l.number ls k.1 o.1 f.1)
     where
@@ -121,18 +110,18 @@ module _ (p : Pipe) (flows : Flows p) (st : State) (d : Derived.State) (bits : L
           by true e = inr (reserveless ls (older_past l ls o.0 (leb-true _ _ e)))
           by false e = inl (none_pending p flows st m l k.0.seated (let i = leb-false _ _ e in omega arith))
 
-      apart : appended m (movers (lacts p st d bits ls)) (pends m ls ++ pend m l.number l.thread.entries) ≡ appended m (movers (lacts p st d bits ls)) (pends m ls) ++ pend m l.number l.thread.entries
+      apart : with_reserves m (movers (lacts p st d bits ls)) (pends m ls ++ pend m l.number l.thread.entries) ≡ with_reserves m (movers (lacts p st d bits ls)) (pends m ls) ++ pend m l.number l.thread.entries
       apart = appended_back m (movers (lacts p st d bits ls)) (pends m ls) (pend m l.number l.thread.entries) back
 
-      at : (b : Bool) → Within 0 l.number (appended m (movers (lacts p st d bits ls)) (pends m ls)) → Within 0 n (appended m (cond b (lact p st d bits ls l ∷ movers (lacts p st d bits ls)) (movers (lacts p st d bits ls))) (pends m ls ++ pend m l.number l.thread.entries))
+      at : (b : Bool) → Within 0 l.number (with_reserves m (movers (lacts p st d bits ls)) (pends m ls)) → Within 0 n (with_reserves m (cond b (lact p st d bits ls l ∷ movers (lacts p st d bits ls)) (movers (lacts p st d bits ls))) (pends m ls ++ pend m l.number l.thread.entries))
       at true h =
-          subst (Within 0 n) (sym (ap (λ xs. xs ++ new_entries m l.number (deeds_of p st bits l).reserves) apart ∙ append_assoc (appended m (movers (lacts p st d bits ls)) (pends m ls)) (pend m l.number l.thread.entries) (new_entries m l.number (deeds_of p st bits l).reserves)))
+          subst (Within 0 n) (sym (ap (λ xs. xs ++ new_entries m l.number (deeds_of p st bits l).reserves) apart ∙ append_assoc (with_reserves m (movers (lacts p st d bits ls)) (pends m ls)) (pend m l.number l.thread.entries) (new_entries m l.number (deeds_of p st bits l).reserves)))
           (within_append 0 l.number n _ _ h (within_one l.number n l.number _ (le_refl l.number) f.0 (of_append l.number _ _ (of_pend m l.number l.thread.entries) (of_new m l.number (deeds_of p st bits l).reserves)) (one_with_new ls l k.0)))
       at false h = subst (Within 0 n) (sym apart) (within_append 0 l.number n _ _ h (within_one l.number n l.number _ (le_refl l.number) f.0 (of_pend m l.number l.thread.entries) (one_pending p flows st m l k.0.seated)))
 
   -- what is there with the older threads' reservations comes first
   pub appended_more : (ls : List Live) (l : Live) → Seated p st l → Each (λ k. Behind p l.thread.stage k.thread.stage) ls → (b : Bool)
-      → (tail : List Pending) × (appended m (cond b (lact p st d bits ls l ∷ movers (lacts p st d bits ls)) (movers (lacts p st d bits ls))) (pends m ls ++ pend m l.number l.thread.entries) ≡ appended m (movers (lacts p st d bits ls)) (pends m ls) ++ tail)
+      → (tail : List Pending) × (with_reserves m (cond b (lact p st d bits ls l ∷ movers (lacts p st d bits ls)) (movers (lacts p st d bits ls))) (pends m ls ++ pend m l.number l.thread.entries) ≡ with_reserves m (movers (lacts p st d bits ls)) (pends m ls) ++ tail)
   appended_more ls l s o b = at b
     where
       back : (pend m l.number l.thread.entries ≡ []) ⊎ Reserveless m (movers (lacts p st d bits ls))
@@ -142,19 +131,19 @@ module _ (p : Pipe) (flows : Flows p) (st : State) (d : Derived.State) (bits : L
           by true e = inr (reserveless ls (older_past l ls o (leb-true _ _ e)))
           by false e = inl (none_pending p flows st m l s (let i = leb-false _ _ e in omega arith))
 
-      apart : appended m (movers (lacts p st d bits ls)) (pends m ls ++ pend m l.number l.thread.entries) ≡ appended m (movers (lacts p st d bits ls)) (pends m ls) ++ pend m l.number l.thread.entries
+      apart : with_reserves m (movers (lacts p st d bits ls)) (pends m ls ++ pend m l.number l.thread.entries) ≡ with_reserves m (movers (lacts p st d bits ls)) (pends m ls) ++ pend m l.number l.thread.entries
       apart = appended_back m (movers (lacts p st d bits ls)) (pends m ls) (pend m l.number l.thread.entries) back
 
-      at : (b : Bool) → (tail : List Pending) × (appended m (cond b (lact p st d bits ls l ∷ movers (lacts p st d bits ls)) (movers (lacts p st d bits ls))) (pends m ls ++ pend m l.number l.thread.entries) ≡ appended m (movers (lacts p st d bits ls)) (pends m ls) ++ tail)
-      at true = (_, ap (λ xs. xs ++ new_entries m l.number (deeds_of p st bits l).reserves) apart ∙ append_assoc (appended m (movers (lacts p st d bits ls)) (pends m ls)) (pend m l.number l.thread.entries) (new_entries m l.number (deeds_of p st bits l).reserves))
+      at : (b : Bool) → (tail : List Pending) × (with_reserves m (cond b (lact p st d bits ls l ∷ movers (lacts p st d bits ls)) (movers (lacts p st d bits ls))) (pends m ls ++ pend m l.number l.thread.entries) ≡ with_reserves m (movers (lacts p st d bits ls)) (pends m ls) ++ tail)
+      at true = (_, ap (λ xs. xs ++ new_entries m l.number (deeds_of p st bits l).reserves) apart ∙ append_assoc (with_reserves m (movers (lacts p st d bits ls)) (pends m ls)) (pend m l.number l.thread.entries) (new_entries m l.number (deeds_of p st bits l).reserves))
       at false = (_, apart)
 
   -- at most one write is reserved
-  none_reserved : (ms : List Act) → Reserveless m ms → reserved m ms ≡ 0
+  none_reserved : (ms : List Act) → Reserveless m ms → reserved_count m ms ≡ 0
   none_reserved [] h = refl
   none_reserved (a ∷ ms) h = let i = none_reserved ms h.1 in let j = as_many m a.thread.number a.does.reserves ∙ ap length h.0 in let k : length {A = Pending} [] ≡ 0 = refl in omega arith
 
-  pub one_reserved : (ls : List Live) → AllKnown p flows st d bits arrays ls → Ordered p ls → reserved m (movers (lacts p st d bits ls)) ≤ 1
+  pub one_reserved : (ls : List Live) → AllKnown p flows st d bits arrays ls → Ordered p ls → reserved_count m (movers (lacts p st d bits ls)) ≤ 1
   one_reserved [] k o = omega arith
   one_reserved (l ∷ ls) k o = at (did p d bits ls l).moves (l.thread.stage == reserve_stage p m) refl (one_reserved ls k.1 o.1)
     where
@@ -165,7 +154,7 @@ module _ (p : Pipe) (flows : Flows p) (st : State) (d : Derived.State) (bits : L
           let k : length (pend m l.number l.thread.entries ++ new_entries m l.number (deeds_of p st bits l).reserves) ≤ 1 = one_with_new ls l k.0 in
           omega arith
 
-      at : (b c : Bool) → (l.thread.stage == reserve_stage p m) ≡ c → reserved m (movers (lacts p st d bits ls)) ≤ 1 → reserved m (cond b (lact p st d bits ls l ∷ movers (lacts p st d bits ls)) (movers (lacts p st d bits ls))) ≤ 1
+      at : (b c : Bool) → (l.thread.stage == reserve_stage p m) ≡ c → reserved_count m (movers (lacts p st d bits ls)) ≤ 1 → reserved_count m (cond b (lact p st d bits ls l ∷ movers (lacts p st d bits ls)) (movers (lacts p st d bits ls))) ≤ 1
       at false c e h = h
       at true true e h =
           let i = none_reserved (movers (lacts p st d bits ls)) (reserveless ls (older_past l ls o.0 (let j = eqb-true _ _ e in omega arith))) in
@@ -188,7 +177,7 @@ module _ (p : Pipe) (flows : Flows p) (st : State) (d : Derived.State) (bits : L
   )
 
   pub places_kept : (n : ℕ) (ls : List Live) (list : List Pending) → Ordered p ls → Falls n ls
-      → EachPair (λ x. reserve_stage p m ≤ x.live.thread.stage → count_older x.live.number (appended m (movers (lacts p st d bits ls)) list) ≡ count_older x.live.number list) (pairs ls)
+      → EachPair (λ x. reserve_stage p m ≤ x.live.thread.stage → count_older x.live.number (with_reserves m (movers (lacts p st d bits ls)) list) ≡ count_older x.live.number list) (pairs ls)
   places_kept n ls list o f = pair_both (λ x a g h. count_appended x.live.number m (movers (lacts p st d bits ls)) list (movers_no_older x.live.number m (lacts p st d bits ls) (g h))) (pairs ls) (no_older n ls o f) (no_older n ls o f)
 
   -- IN THE ORDER OF THE STAGES
@@ -199,12 +188,12 @@ module _ (p : Pipe) (flows : Flows p) (st : State) (d : Derived.State) (bits : L
     quiet_new y.live (λ e. absurd (let i : reserve_stage p m < y.live.thread.stage = s.behind.trunk (reserve_stage p m) (flows.trunk_reserve m) (let k = s.low in let j = e in omega arith) in let j = e in omega arith)),
   )
 
-  pub same_appended : (list : List Pending) (ls : List Live) → Swaps p flows st d bits arrays ls → appended m (movers (acts_of p flows st d bits arrays (sorted ls))) list ≡ appended m (movers (lacts p st d bits ls)) list
-  same_appended list = same_movers p flows st d bits arrays (List Pending) (λ ms. appended m ms list) (λ a z. z ++ new_entries m a.thread.number a.does.reserves) (λ a rest. refl)
+  pub same_appended : (list : List Pending) (ls : List Live) → Swaps p flows st d bits arrays ls → with_reserves m (movers (acts_of p flows st d bits arrays (sorted ls))) list ≡ with_reserves m (movers (lacts p st d bits ls)) list
+  same_appended list = same_movers p flows st d bits arrays (List Pending) (λ ms. with_reserves m ms list) (λ a z. z ++ new_entries m a.thread.number a.does.reserves) (λ a rest. refl)
       (λ x y s z. let none = swapped_new x y s in ap₂ (λ a b. (z ++ a) ++ b) none.0 none.1 ∙ sym (ap₂ (λ a b. (z ++ b) ++ a) none.0 none.1))
 
-  pub same_reserved : (ls : List Live) → Swaps p flows st d bits arrays ls → reserved m (movers (acts_of p flows st d bits arrays (sorted ls))) ≡ reserved m (movers (lacts p st d bits ls))
-  same_reserved = same_movers p flows st d bits arrays ℕ (reserved m) (λ a z. z + reserved_in m a.does.reserves) (λ a rest. refl) (λ x y s z. flip z (reserved_in m (deeds_of p st bits x.live).reserves) (reserved_in m (deeds_of p st bits y.live).reserves))
+  pub same_reserved : (ls : List Live) → Swaps p flows st d bits arrays ls → reserved_count m (movers (acts_of p flows st d bits arrays (sorted ls))) ≡ reserved_count m (movers (lacts p st d bits ls))
+  same_reserved = same_movers p flows st d bits arrays ℕ (reserved_count m) (λ a z. z + reserved_in m a.does.reserves) (λ a rest. refl) (λ x y s z. flip z (reserved_in m (deeds_of p st bits x.live).reserves) (reserved_in m (deeds_of p st bits y.live).reserves))
     where
       flip : (z a b : ℕ) → (z + a) + b ≡ (z + b) + a
       flip z a b = omega arith

@@ -5,7 +5,7 @@ use Rattle.pdl_semantics.specs.Stages
 use Rattle.pdl_semantics.specs.Stages.{reserve_stage, commit_stage}
 use Rattle.pdl_semantics.specs.Machine.{State, Pending, Written}
 use Rattle.pdl_semantics.specs.Moves.{Act, movers}
-use Rattle.pdl_semantics.specs.Cycle.{appended, put, put_all, filled, but_oldest, releases}
+use Rattle.pdl_semantics.specs.Cycle.{with_reserves, with_value_of, with_writes_of, with_all_writes, but_oldest, has_release}
 use Rattle.pdl_derived.specs.Derived
 use Rattle.pdl_simulation.proofs.FlowFacts.{Flows}
 use Rattle.pdl_derived.proofs.Lists.{pend}
@@ -19,7 +19,7 @@ use Rattle.pdl_invariant.proofs.PendingLists.{Within, count_filled}
 use Rattle.pdl_invariant.proofs.LockCycle.{within_new, appended_more}
 
 -- writes keep the threads of a list
-put_cons : (m n : ℕ) (ws : List Written) (e : Pending) (rest : List Pending) → (x : Pending) × (xs : List Pending) × (put_all m n ws (e ∷ rest) ≡ x ∷ xs) × (x.thread ≡ e.thread)
+put_cons : (m n : ℕ) (ws : List Written) (e : Pending) (rest : List Pending) → (x : Pending) × (xs : List Pending) × (with_writes_of m n ws (e ∷ rest) ≡ x ∷ xs) × (x.thread ≡ e.thread)
 put_cons m n [] e rest = (e, rest, refl, refl)
 put_cons m n (w ∷ ws) e rest = at (w.mem == m) (λ x xs. put_cons m n ws x xs)
   where
@@ -27,51 +27,51 @@ put_cons m n (w ∷ ws) e rest = at (w.mem == m) (λ x xs. put_cons m n ws x xs)
     mine true = refl
     mine false = refl
 
-    at : (b : Bool) → ((y : Pending) (ys : List Pending) → (x : Pending) × (xs : List Pending) × (put_all m n ws (y ∷ ys) ≡ x ∷ xs) × (x.thread ≡ y.thread)) → (x : Pending) × (xs : List Pending) × (put_all m n ws (cond b (put n w.value (e ∷ rest)) (e ∷ rest)) ≡ x ∷ xs) × (x.thread ≡ e.thread)
-    at true go = let h = go (cond (e.thread == n) (record e { value = Some w.value }) e) (put n w.value rest) in (h.0, h.1, h.2, h.3 ∙ mine (e.thread == n))
+    at : (b : Bool) → ((y : Pending) (ys : List Pending) → (x : Pending) × (xs : List Pending) × (with_writes_of m n ws (y ∷ ys) ≡ x ∷ xs) × (x.thread ≡ y.thread)) → (x : Pending) × (xs : List Pending) × (with_writes_of m n ws (cond b (with_value_of n w.value (e ∷ rest)) (e ∷ rest)) ≡ x ∷ xs) × (x.thread ≡ e.thread)
+    at true go = let h = go (cond (e.thread == n) (record e { value = Some w.value }) e) (with_value_of n w.value rest) in (h.0, h.1, h.2, h.3 ∙ mine (e.thread == n))
     at false go = go e rest
 
-filled_cons : (m : ℕ) (ms : List Act) (e : Pending) (rest : List Pending) → (x : Pending) × (xs : List Pending) × (filled m ms (e ∷ rest) ≡ x ∷ xs) × (x.thread ≡ e.thread)
+filled_cons : (m : ℕ) (ms : List Act) (e : Pending) (rest : List Pending) → (x : Pending) × (xs : List Pending) × (with_all_writes m ms (e ∷ rest) ≡ x ∷ xs) × (x.thread ≡ e.thread)
 filled_cons m [] e rest = (e, rest, refl, refl)
 filled_cons m (a ∷ ms) e rest =
     let h = filled_cons m ms e rest in
     let k = put_cons m a.thread.number a.does.writes h.0 h.1 in
-    (k.0, k.1, ap (put_all m a.thread.number a.does.writes) h.2 ∙ k.2, k.3 ∙ h.3)
+    (k.0, k.1, ap (with_writes_of m a.thread.number a.does.writes) h.2 ∙ k.2, k.3 ∙ h.3)
 
-put_nil : (m n : ℕ) (ws : List Written) → put_all m n ws [] ≡ []
+put_nil : (m n : ℕ) (ws : List Written) → with_writes_of m n ws [] ≡ []
 put_nil m n [] = refl
-put_nil m n (w ∷ ws) = ap (put_all m n ws) (at (w.mem == m)) ∙ put_nil m n ws
+put_nil m n (w ∷ ws) = ap (with_writes_of m n ws) (at (w.mem == m)) ∙ put_nil m n ws
   where
-    at : (b : Bool) → cond b (put n w.value []) [] ≡ []
+    at : (b : Bool) → cond b (with_value_of n w.value []) [] ≡ []
     at true = refl
     at false = refl
 
-filled_nil : (m : ℕ) (ms : List Act) → filled m ms [] ≡ []
+filled_nil : (m : ℕ) (ms : List Act) → with_all_writes m ms [] ≡ []
 filled_nil m [] = refl
-filled_nil m (a ∷ ms) = ap (put_all m a.thread.number a.does.writes) (filled_nil m ms) ∙ put_nil m a.thread.number a.does.writes
+filled_nil m (a ∷ ms) = ap (with_writes_of m a.thread.number a.does.writes) (filled_nil m ms) ∙ put_nil m a.thread.number a.does.writes
 
 -- where the oldest one goes that is older than a thread
-pub count_released : (t m : ℕ) (ms : List Act) (e : Pending) (rest : List Pending) → e.thread < t → count_older t (but_oldest (filled m ms (e ∷ rest))) + 1 ≡ count_older t (e ∷ rest)
+pub count_released : (t m : ℕ) (ms : List Act) (e : Pending) (rest : List Pending) → e.thread < t → count_older t (but_oldest (with_all_writes m ms (e ∷ rest))) + 1 ≡ count_older t (e ∷ rest)
 count_released t m ms e rest low =
     let h = filled_cons m ms e rest in
-    let i : count_older t (filled m ms (e ∷ rest)) ≡ suc (count_older t h.1) = ap (count_older t) h.2 ∙ ap (λ b. cond b (suc (count_older t h.1)) (count_older t h.1)) (lt-ltb h.0.thread t (let j = h.3 in omega arith)) in
-    let k : count_older t (but_oldest (filled m ms (e ∷ rest))) ≡ count_older t h.1 = ap (λ l. count_older t (but_oldest l)) h.2 in
+    let i : count_older t (with_all_writes m ms (e ∷ rest)) ≡ suc (count_older t h.1) = ap (count_older t) h.2 ∙ ap (λ b. cond b (suc (count_older t h.1)) (count_older t h.1)) (lt-ltb h.0.thread t (let j = h.3 in omega arith)) in
+    let k : count_older t (but_oldest (with_all_writes m ms (e ∷ rest))) ≡ count_older t h.1 = ap (λ l. count_older t (but_oldest l)) h.2 in
     let f = count_filled t m ms (e ∷ rest) in
     omega arith
 
 module _ (p : Pipe) (flows : Flows p) (st : State) (d : Derived.State) (bits : List Bool) (arrays : st.arrays ≡ d.arrays) (m : ℕ) where
   abbrev new : List Live → List Pending
-  new ls = appended m (movers (lacts p st d bits ls)) (pends m ls)
+  new ls = with_reserves m (movers (lacts p st d bits ls)) (pends m ls)
 
   -- where something is released, something is pending
-  pub some_pending : (n : ℕ) (ls : List Live) → Each (Seated p st) ls → AllKnown p flows st d bits arrays ls → Ordered p ls → Falls n ls → releases m (movers (lacts p st d bits ls)) ≡ true → (x : Pending) × (xs : List Pending) × (appended m (movers (lacts p st d bits ls)) (pends m ls) ≡ x ∷ xs)
-  some_pending n ls s k o f h = at (appended m (movers (lacts p st d bits ls)) (pends m ls)) refl
+  pub some_pending : (n : ℕ) (ls : List Live) → Each (Seated p st) ls → AllKnown p flows st d bits arrays ls → Ordered p ls → Falls n ls → has_release m (movers (lacts p st d bits ls)) ≡ true → (x : Pending) × (xs : List Pending) × (with_reserves m (movers (lacts p st d bits ls)) (pends m ls) ≡ x ∷ xs)
+  some_pending n ls s k o f h = at (with_reserves m (movers (lacts p st d bits ls)) (pends m ls)) refl
     where
       full : (x : Pending) × (xs : List Pending) × (two p flows st d bits arrays m ls ≡ x ∷ xs)
       full = (three_is p flows st d bits arrays m ls k o).full h
 
-      at : (l : List Pending) → appended m (movers (lacts p st d bits ls)) (pends m ls) ≡ l → (x : Pending) × (xs : List Pending) × (appended m (movers (lacts p st d bits ls)) (pends m ls) ≡ x ∷ xs)
-      at [] e = absurd (cc (sym (filled_nil m (movers (lacts p st d bits ls))) ∙ ap (filled m (movers (lacts p st d bits ls))) (sym e) ∙ two_is p flows st d bits arrays m n ls s o f ∙ full.2))
+      at : (l : List Pending) → with_reserves m (movers (lacts p st d bits ls)) (pends m ls) ≡ l → (x : Pending) × (xs : List Pending) × (with_reserves m (movers (lacts p st d bits ls)) (pends m ls) ≡ x ∷ xs)
+      at [] e = absurd (cc (sym (filled_nil m (movers (lacts p st d bits ls))) ∙ ap (with_all_writes m (movers (lacts p st d bits ls))) (sym e) ∙ two_is p flows st d bits arrays m n ls s o f ∙ full.2))
       at (x ∷ xs) e = (x, xs, e)
 
   -- and it is older than each thread that is not past the releases and doesn't release
@@ -88,8 +88,8 @@ module _ (p : Pipe) (flows : Flows p) (st : State) (d : Derived.State) (bits : L
       at : Within a b (e ∷ rest) → e.thread < b
       at w = let i = up (e.thread + 1) b rest w.1 in omega arith
 
-  pub older_released : (n : ℕ) (ls : List Live) → Each (Seated p st) ls → AllKnown p flows st d bits arrays ls → Ordered p ls → Falls n ls → releases m (movers (lacts p st d bits ls)) ≡ true
-      → EachPair (λ x. Stays x → (e : Pending) (rest : List Pending) → appended m (movers (lacts p st d bits ls)) (pends m ls) ≡ e ∷ rest → e.thread < x.live.number) (pairs ls)
+  pub older_released : (n : ℕ) (ls : List Live) → Each (Seated p st) ls → AllKnown p flows st d bits arrays ls → Ordered p ls → Falls n ls → has_release m (movers (lacts p st d bits ls)) ≡ true
+      → EachPair (λ x. Stays x → (e : Pending) (rest : List Pending) → with_reserves m (movers (lacts p st d bits ls)) (pends m ls) ≡ e ∷ rest → e.thread < x.live.number) (pairs ls)
   older_released n [] s k o f h = tt
   older_released n (l ∷ ls) s k o f h =
       at (did p d bits ls l).moves refl (Stages.list_any (λ j. j == m) (deeds_of p st bits l).releases) refl h (appended_more p flows st d bits arrays m ls l s.0 o.0)
@@ -120,10 +120,10 @@ module _ (p : Pipe) (flows : Flows p) (st : State) (d : Derived.State) (bits : L
           same e rest j = first (ap (λ l. l ++ t.0) (sym g.1.2) ∙ sym t.1 ∙ j)
 
       at : (b : Bool) → (did p d bits ls l).moves ≡ b → (c : Bool) → Stages.list_any (λ j. j == m) (deeds_of p st bits l).releases ≡ c
-          → releases m (cond b (lact p st d bits ls l ∷ movers (lacts p st d bits ls)) (movers (lacts p st d bits ls))) ≡ true
-          → ((b : Bool) → (tail : List Pending) × (appended m (cond b (lact p st d bits ls l ∷ movers (lacts p st d bits ls)) (movers (lacts p st d bits ls))) (pends m ls ++ pend m l.number l.thread.entries) ≡ new ls ++ tail))
-          → (releases m (movers (lacts p st d bits ls)) ≡ true → EachPair (λ x. Stays x → (e : Pending) (rest : List Pending) → new ls ≡ e ∷ rest → e.thread < x.live.number) (pairs ls) × ((x : Pending) × (xs : List Pending) × (new ls ≡ x ∷ xs)))
-          → EachPair (λ x. Stays x → (e : Pending) (rest : List Pending) → appended m (cond b (lact p st d bits ls l ∷ movers (lacts p st d bits ls)) (movers (lacts p st d bits ls))) (pends m ls ++ pend m l.number l.thread.entries) ≡ e ∷ rest → e.thread < x.live.number) (pairs (l ∷ ls))
+          → has_release m (cond b (lact p st d bits ls l ∷ movers (lacts p st d bits ls)) (movers (lacts p st d bits ls))) ≡ true
+          → ((b : Bool) → (tail : List Pending) × (with_reserves m (cond b (lact p st d bits ls l ∷ movers (lacts p st d bits ls)) (movers (lacts p st d bits ls))) (pends m ls ++ pend m l.number l.thread.entries) ≡ new ls ++ tail))
+          → (has_release m (movers (lacts p st d bits ls)) ≡ true → EachPair (λ x. Stays x → (e : Pending) (rest : List Pending) → new ls ≡ e ∷ rest → e.thread < x.live.number) (pairs ls) × ((x : Pending) × (xs : List Pending) × (new ls ≡ x ∷ xs)))
+          → EachPair (λ x. Stays x → (e : Pending) (rest : List Pending) → with_reserves m (cond b (lact p st d bits ls l ∷ movers (lacts p st d bits ls)) (movers (lacts p st d bits ls))) (pends m ls ++ pend m l.number l.thread.entries) ≡ e ∷ rest → e.thread < x.live.number) (pairs (l ∷ ls))
       at true i true j h t r = own i j _
-      at true i false j h t r = other _ (t true) (r (sym (ap (λ c. c || releases m (movers (lacts p st d bits ls))) j) ∙ h))
+      at true i false j h t r = other _ (t true) (r (sym (ap (λ c. c || has_release m (movers (lacts p st d bits ls))) j) ∙ h))
       at false i c j h t r = other _ (t false) (r h)

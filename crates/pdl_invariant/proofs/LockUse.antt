@@ -4,7 +4,7 @@ use Rattle.pdl_semantics.specs.Flat.{Arrays, Pipe}
 use Rattle.pdl_semantics.specs.Stages.{list_any, reserve_stage}
 use Rattle.pdl_semantics.specs.Machine.{State, Pending, lock_of}
 use Rattle.pdl_semantics.specs.Moves.{Act, all_acts, movers}
-use Rattle.pdl_semantics.specs.Cycle.{first, state_after, appended, filled, list_two, but_oldest, releases}
+use Rattle.pdl_semantics.specs.Cycle.{first, state_after, with_reserves, with_all_writes, list_two, but_oldest, has_release}
 use Rattle.pdl_derived.specs.Derived
 use Rattle.pdl_facts.specs.Facts.{Sound}
 use Rattle.pdl_simulation.proofs.Joined.{sound_flows}
@@ -14,7 +14,7 @@ use Rattle.pdl_simulation.proofs.Orders.{acts_of}
 use Rattle.pdl_simulation.proofs.Swapped.{Swaps, swaps_all, same_any}
 use Rattle.pdl_simulation.proofs.Together.{Sim, known, acts_are}
 use Rattle.pdl_invariant.specs.Strict.{Strict}
-use Rattle.pdl_invariant.specs.Use.{AreOrdered, count_older, AllActs, FindsOlder, moving, with_new, with_release, bit, reserved, Reserves, KeepsPlace, ShiftsPlace}
+use Rattle.pdl_invariant.specs.Use.{AreOrdered, count_older, AllActs, FindsOlder, moving, with_new, with_release, bit, reserved_count, Reserves, KeepsPlace, ShiftsPlace}
 use Rattle.pdl_invariant.proofs.Reached.{reached}
 use Rattle.pdl_invariant.proofs.PendingLists.{within_ordered, count_filled}
 use Rattle.pdl_invariant.proofs.OwnWrites.{within_pends, all_older}
@@ -42,15 +42,15 @@ module _ (p : Pipe) (sound : Sound p) (st : State) (d : Derived.State) (bits : L
   pub swaps : Swaps p (sound_flows p sound) st d bits sim.arrays ls
   swaps = swaps_all p (sound_flows p sound) st d bits sim.arrays st.next ls (known p (sound_flows p sound) st d bits ls sim) sim.ordered sim.falls
 
-  pub with_new_is : with_new p st bits m ≡ appended m (movers (lacts p st d bits ls)) (pends m ls)
+  pub with_new_is : with_new p st bits m ≡ with_reserves m (movers (lacts p st d bits ls)) (pends m ls)
   with_new_is =
-      ap (λ these. appended m (movers these) (lock_of st m)) (acts_are p (sound_flows p sound) st d bits ls sim)
+      ap (λ these. with_reserves m (movers these) (lock_of st m)) (acts_are p (sound_flows p sound) st d bits ls sim)
       ∙ same_appended p (sound_flows p sound) st d bits sim.arrays m (lock_of st m) ls swaps
-      ∙ ap (appended m (movers (lacts p st d bits ls))) (sim.locks m)
+      ∙ ap (with_reserves m (movers (lacts p st d bits ls))) (sim.locks m)
 
   pub reserves : Reserves p st bits m
   reserves = record {
-    one = subst (λ n. n ≤ 1) (sym (ap (λ these. reserved m (movers these)) (acts_are p (sound_flows p sound) st d bits ls sim) ∙ same_reserved p (sound_flows p sound) st d bits sim.arrays m ls swaps))
+    one = subst (λ n. n ≤ 1) (sym (ap (λ these. reserved_count m (movers these)) (acts_are p (sound_flows p sound) st d bits ls sim) ∙ same_reserved p (sound_flows p sound) st d bits sim.arrays m ls swaps))
         (one_reserved p (sound_flows p sound) st d bits sim.arrays m ls (known p (sound_flows p sound) st d bits ls sim) sim.ordered);
     ordered = subst (AreOrdered 0) (sym with_new_is) (within_ordered 0 st.next _ (within_new p (sound_flows p sound) st d bits sim.arrays m st.next ls (known p (sound_flows p sound) st d bits ls sim) sim.ordered sim.falls));
   }
@@ -61,36 +61,36 @@ module _ (p : Pipe) (sound : Sound p) (st : State) (d : Derived.State) (bits : L
       (places_kept p (sound_flows p sound) st d bits sim.arrays m st.next ls (pends m ls) sim.ordered sim.falls))
 
   -- places shift
-  pub releases_are : releases m (moving p st bits) ≡ releases m (movers (lacts p st d bits ls))
+  pub releases_are : has_release m (moving p st bits) ≡ has_release m (movers (lacts p st d bits ls))
   releases_are =
-      ap (λ these. releases m (movers these)) (acts_are p (sound_flows p sound) st d bits ls sim)
+      ap (λ these. has_release m (movers these)) (acts_are p (sound_flows p sound) st d bits ls sim)
       ∙ same_any p (sound_flows p sound) st d bits sim.arrays (λ (a : Act). list_any (λ n. n == m) a.does.releases) ls swaps
 
   pub shifts : AllActs (ShiftsPlace p st bits m) (all_acts p st bits)
-  shifts = at (releases m (moving p st bits)) refl
+  shifts = at (has_release m (moving p st bits)) refl
     where
-      calm : releases m (moving p st bits) ≡ false → (a : Act) → ShiftsPlace p st bits m a
+      calm : has_release m (moving p st bits) ≡ false → (a : Act) → ShiftsPlace p st bits m a
       calm e a i j =
           let f : count_older a.thread.number (with_release p st bits m) ≡ count_older a.thread.number (with_new p st bits m) = ap (λ b. count_older a.thread.number (cond b (but_oldest (list_two st (moving p st bits) m)) (list_two st (moving p st bits) m))) e ∙ count_filled a.thread.number m (moving p st bits) (with_new p st bits m) in
-          let g : bit (releases m (moving p st bits)) ≡ 0 = ap bit e in
+          let g : bit (has_release m (moving p st bits)) ≡ 0 = ap bit e in
           omega arith
 
       every : (these : List Act) → ((a : Act) → ShiftsPlace p st bits m a) → AllActs (ShiftsPlace p st bits m) these
       every [] f = tt
       every (a ∷ these) f = (f a, every these f)
 
-      one : releases m (moving p st bits) ≡ true → (x : Pending) (xs : List Pending) → appended m (movers (lacts p st d bits ls)) (pends m ls) ≡ x ∷ xs → (a : Act) → x.thread < a.thread.number
-          → count_older a.thread.number (with_release p st bits m) + bit (releases m (moving p st bits)) ≡ count_older a.thread.number (with_new p st bits m)
+      one : has_release m (moving p st bits) ≡ true → (x : Pending) (xs : List Pending) → with_reserves m (movers (lacts p st d bits ls)) (pends m ls) ≡ x ∷ xs → (a : Act) → x.thread < a.thread.number
+          → count_older a.thread.number (with_release p st bits m) + bit (has_release m (moving p st bits)) ≡ count_older a.thread.number (with_new p st bits m)
       one e x xs i a low =
           let is : with_new p st bits m ≡ x ∷ xs = with_new_is ∙ i in
-          let f : count_older a.thread.number (with_release p st bits m) ≡ count_older a.thread.number (but_oldest (filled m (moving p st bits) (x ∷ xs))) =
-          ap (λ b. count_older a.thread.number (cond b (but_oldest (list_two st (moving p st bits) m)) (list_two st (moving p st bits) m))) e ∙ ap (λ l. count_older a.thread.number (but_oldest (filled m (moving p st bits) l))) is in
-          let g : bit (releases m (moving p st bits)) ≡ 1 = ap bit e in
+          let f : count_older a.thread.number (with_release p st bits m) ≡ count_older a.thread.number (but_oldest (with_all_writes m (moving p st bits) (x ∷ xs))) =
+          ap (λ b. count_older a.thread.number (cond b (but_oldest (list_two st (moving p st bits) m)) (list_two st (moving p st bits) m))) e ∙ ap (λ l. count_older a.thread.number (but_oldest (with_all_writes m (moving p st bits) l))) is in
+          let g : bit (has_release m (moving p st bits)) ≡ 1 = ap bit e in
           let h = count_released a.thread.number m (moving p st bits) x xs low in
           let k : count_older a.thread.number (with_new p st bits m) ≡ count_older a.thread.number (x ∷ xs) = ap (count_older a.thread.number) is in
           omega arith
 
-      at : (b : Bool) → releases m (moving p st bits) ≡ b → AllActs (ShiftsPlace p st bits m) (all_acts p st bits)
+      at : (b : Bool) → has_release m (moving p st bits) ≡ b → AllActs (ShiftsPlace p st bits m) (all_acts p st bits)
       at false e = every (all_acts p st bits) (calm e)
       at true e =
           let s = some_pending p (sound_flows p sound) st d bits sim.arrays m st.next ls sim.seated (known p (sound_flows p sound) st d bits ls sim) sim.ordered sim.falls (sym releases_are ∙ e) in

@@ -1,15 +1,15 @@
 -- A thread of a turn in a stage: its way is the turn's path, its values and pending writes are the turn's, and its guess is wrong just where its successor isn't the next turn.
 use Rattle.std.proofs.Common.{◌≡◌, refl, sym, ap, ap₂, ◌∙◌, subst, ℕ, suc, ◌<◌, Bool, true, false, ◌&&◌, ◌||◌, not, List, [], ◌∷◌, ◌++◌, Option, Some, None, is_some, ◌==◌, cond, slice_index, eq-eqb}
 use Rattle.std.proofs.Math.Bool.{and-false}
-use Rattle.pdl_semantics.specs.Flat.{Arrays, Pipe, Op, Bind, CombRead, DelayedRead, Write, ReserveRead, ReserveWrite, Block, Release, Call, SpecCall, Verify, SpecCheck, SpecBarrier, Stmt, taken, Commit, of_mem}
+use Rattle.pdl_semantics.specs.Flat.{Arrays, Pipe, Op, Bind, CombRead, DelayedRead, Write, ReserveRead, ReserveWrite, Block, Release, Call, SpecCall, Verify, SpecCheck, SpecBarrier, Stmt, all_hold, Commit, of_mem}
 use Rattle.pdl_semantics.specs.Stages.{list_any, onpath, in_stage, is_verify, verify_stage, reserve_stage}
 use Rattle.pdl_semantics.specs.Machine.{same_args}
-use Rattle.pdl_semantics.specs.Sequential.{Run, runs, run_all, thread}
+use Rattle.pdl_semantics.specs.Sequential.{Run, run_after, run_all, thread}
 use Rattle.pdl_semantics.specs.Sound.{stages_before, is_right_entry, is_write, is_spec_call}
-use Rattle.pdl_derived.specs.Derived.{Entry, Work, does, do_all}
-use Rattle.pdl_derived.specs.Alone.{alone, before, looked, start_work, so_far}
+use Rattle.pdl_derived.specs.Derived.{Entry, Work, work_after, do_all}
+use Rattle.pdl_derived.specs.Alone.{alone, before, answered_op, start_work, so_far}
 use Rattle.pdl_facts.specs.Certain.{Making, Unmade, Guessed, Made, next_making, making_all, makings_ok, making_ok, is_guessed, is_unmade}
-use Rattle.pdl_facts.specs.Scans.{Phase, Fresh, Held, Written, Done, next_phase, phase_all, phase_ok, phases_ok, is_fresh, after_release, none_of, binds, fixed, from, no_guards}
+use Rattle.pdl_facts.specs.Scans.{Phase, Fresh, Held, Written, Done, next_phase, phase_all, phase_ok, phases_ok, is_fresh, after_release, none_of, binds_var, is_fixed, from, no_guards}
 use Rattle.pdl_facts.specs.Facts.{Sound, looked_all, at_once}
 use Rattle.pdl_facts.specs.Accepted.{Accepted, along}
 use Rattle.pdl_derived.proofs.Writes.{and_left, and_right}
@@ -34,11 +34,11 @@ use Rattle.pdl_turns.proofs.Roams.{verify_same}
 -- PATHS
 
 -- values that agree on all that is not bound later take the same way
-way_same : (env path : List ℕ) (xs ys : List Stmt) → fixed (looked_all xs ++ ys) ≡ true → ((g : ℕ) → none_of (binds g) ys ≡ true → slice_index path g ≡ slice_index env g) → onpath env xs ≡ onpath path xs
+way_same : (env path : List ℕ) (xs ys : List Stmt) → is_fixed (looked_all xs ++ ys) ≡ true → ((g : ℕ) → none_of (binds_var g) ys ≡ true → slice_index path g ≡ slice_index env g) → onpath env xs ≡ onpath path xs
 way_same env path [] ys h f = refl
 way_same env path (x ∷ xs) ys h f =
     ap₂ (λ b l. cond b (record x { guards = [] } ∷ l) l)
-    (taken_stays x.guards (looked_all (x ∷ xs) ++ ys) env path (and_left _ _ h) (λ g k. f g (none_second (binds g) (looked_all (x ∷ xs)) ys k)))
+    (taken_stays x.guards (looked_all (x ∷ xs) ++ ys) env path (and_left _ _ h) (λ g k. f g (none_second (binds_var g) (looked_all (x ∷ xs)) ys k)))
     (way_same env path xs ys (and_right _ _ h) f)
 
 -- a run of the statements that a thread alone carries out
@@ -46,12 +46,12 @@ follow : (path : List ℕ) (arrays : Arrays) (xs : List Stmt) (ph : ℕ → Phas
     → (do_all (alone arrays) xs w).env ≡ (run_all xs r).env
 follow path arrays [] ph w r f ok rel = rel.env
 follow path arrays (x ∷ xs) ph w r f ok rel =
-    at (taken x.guards w.env) (taken x.guards r.env) (ap (taken x.guards) rel.env) (taken x.guards path) f.0 ok f.1 (λ ph' w' r' f' ok' rel'. follow path arrays xs ph' w' r' f' ok' rel')
+    at (all_hold x.guards w.env) (all_hold x.guards r.env) (ap (all_hold x.guards) rel.env) (all_hold x.guards path) f.0 ok f.1 (λ ph' w' r' f' ok' rel'. follow path arrays xs ph' w' r' f' ok' rel')
   where
-    at : (b c : Bool) → b ≡ c → (d : Bool) → b ≡ d → ((n : ℕ) → phases_ok n (ph n) (cond d (record x { guards = [] } ∷ onpath path xs) (onpath path xs)) ≡ true) → Fixed path (alone arrays) xs (cond b (does (alone arrays) x.op w) w)
+    at : (b c : Bool) → b ≡ c → (d : Bool) → b ≡ d → ((n : ℕ) → phases_ok n (ph n) (cond d (record x { guards = [] } ∷ onpath path xs) (onpath path xs)) ≡ true) → Fixed path (alone arrays) xs (cond b (work_after (alone arrays) x.op w) w)
         → ((ph' : ℕ → Phase) (w' : Work) (r' : Run) → Fixed path (alone arrays) xs w' → ((n : ℕ) → phases_ok n (ph' n) (onpath path xs) ≡ true) → Related arrays ph' w' r' → (do_all (alone arrays) xs w').env ≡ (run_all xs r').env)
-        → (do_all (alone arrays) xs (cond b (does (alone arrays) x.op w) w)).env ≡ (run_all xs (cond c (runs x.op r) r)).env
-    at true true e true i k g go = go (λ n. next_phase n (ph n) x.op) (does (alone arrays) x.op w) (runs x.op r) g (λ n. and_right (true && phase_ok n (ph n) x.op) _ (k n)) (related_step arrays ph x.op w r (λ n. and_right true _ (and_left _ _ (k n))) rel)
+        → (do_all (alone arrays) xs (cond b (work_after (alone arrays) x.op w) w)).env ≡ (run_all xs (cond c (run_after x.op r) r)).env
+    at true true e true i k g go = go (λ n. next_phase n (ph n) x.op) (work_after (alone arrays) x.op w) (run_after x.op r) g (λ n. and_right (true && phase_ok n (ph n) x.op) _ (k n)) (related_step arrays ph x.op w r (λ n. and_right true _ (and_left _ _ (k n))) rel)
     at true true e false i k g go = absurd (cc i)
     at true false e d i k g go = absurd (cc e)
     at false true e d i k g go = absurd (cc e)
@@ -161,15 +161,15 @@ settled_all m ph (x ∷ xs) h =
     ∙ ap (λ b. b || list_any (λ (x : Stmt). is_write m x.op) xs) (settled_op m ph x.op (and_right _ _ (and_left _ _ h)))
     ∙ or_assoc (is_settled ph) (is_write m x.op) (list_any (λ (x : Stmt). is_write m x.op) xs)
 
-any_looked : (test : Op → Bool) → ((op : Op) → test (looked op) ≡ test op) → (xs : List Stmt) → list_any (λ (x : Stmt). test x.op) (looked_all xs) ≡ list_any (λ (x : Stmt). test x.op) xs
+any_looked : (test : Op → Bool) → ((op : Op) → test (answered_op op) ≡ test op) → (xs : List Stmt) → list_any (λ (x : Stmt). test x.op) (looked_all xs) ≡ list_any (λ (x : Stmt). test x.op) xs
 any_looked test f [] = refl
 any_looked test f (x ∷ xs) = ap₂ (λ a b. a || b) (f x.op) (any_looked test f xs)
 
-write_looked : (m : ℕ) (op : Op) → is_write m (looked op) ≡ is_write m op
+write_looked : (m : ℕ) (op : Op) → is_write m (answered_op op) ≡ is_write m op
 write_looked m (DelayedRead x n a) = refl
 write_looked m _ = refl
 
-spec_looked : (op : Op) → is_spec_call (looked op) ≡ is_spec_call op
+spec_looked : (op : Op) → is_spec_call (answered_op op) ≡ is_spec_call op
 spec_looked (DelayedRead x n a) = refl
 spec_looked _ = refl
 
@@ -278,8 +278,8 @@ module _ (p : Pipe) (sound : Sound p) (arrays : Arrays) (args : List ℕ) where
   pub turn_way : (s : ℕ) → on_way p (so_far p arrays args s).env s ≡ on_way p (thread (at_once p) arrays args).env s
   turn_way s =
       way_same (so_far p arrays args s).env (thread (at_once p) arrays args).env (stages_before s p.stmts) (in_stage s (looked_all p.stmts) ++ from (suc s) (looked_all p.stmts))
-      (subst (λ l. fixed (l ++ (in_stage s (looked_all p.stmts) ++ from (suc s) (looked_all p.stmts))) ≡ true) (before_looked s p.stmts ∙ before_stages s p.stmts) (sound.pathwise.fixed_by s))
-      (λ g k. sym (ap (λ (w : Work). slice_index w.env g) (so s) ∙ Turns.value_kept (at_once p) sound.pathwise arrays args s g (Turns.none_parts (binds g) s (looked_all p.stmts) k)))
+      (subst (λ l. is_fixed (l ++ (in_stage s (looked_all p.stmts) ++ from (suc s) (looked_all p.stmts))) ≡ true) (before_looked s p.stmts ∙ before_stages s p.stmts) (sound.pathwise.fixed_by s))
+      (λ g k. sym (ap (λ (w : Work). slice_index w.env g) (so s) ∙ Turns.value_kept (at_once p) sound.pathwise arrays args s g (Turns.none_parts (binds_var g) s (looked_all p.stmts) k)))
 
   -- its values
   pub turn_env : (s : ℕ) → (so_far p arrays args s).env ≡ (run_all (stages_before s p.stmts) (Whole.start_run p arrays args)).env

@@ -2,7 +2,7 @@
 use Rattle.std.proofs.Common.{◌≡◌, refl, ap, ap₂, ◌∙◌, ℕ, suc, ◌+◌, ◌≤◌, ◌<◌, Bool, true, false, List, [], ◌∷◌, ◌++◌, length, Some, ◌==◌, cond, if◌then◌else◌, arith, nat_lt, lt-ltb, le-ltb}
 use Rattle.pdl_semantics.specs.Machine.{Pending, Reserved, Written}
 use Rattle.pdl_semantics.specs.Moves.{Act}
-use Rattle.pdl_semantics.specs.Cycle.{new_entries, put, put_all, filled}
+use Rattle.pdl_semantics.specs.Cycle.{new_entries, with_value_of, with_writes_of, with_all_writes}
 use Rattle.pdl_derived.specs.Derived.{Entry}
 use Rattle.pdl_derived.proofs.Lists.{own, pend}
 use Rattle.pdl_invariant.specs.Use.{AreOrdered, count_older}
@@ -16,7 +16,7 @@ count_append t (x ∷ xs) ys = at (nat_lt x.thread t) (count_append t xs ys)
     at true h = omega arith
     at false h = h
 
-count_put : (t n v : ℕ) (xs : List Pending) → count_older t (put n v xs) ≡ count_older t xs
+count_put : (t n v : ℕ) (xs : List Pending) → count_older t (with_value_of n v xs) ≡ count_older t xs
 count_put t n v [] = refl
 count_put t n v (x ∷ xs) = ap₂ (λ b k. cond b (suc k) k) (at (x.thread == n)) (count_put t n v xs)
   where
@@ -24,17 +24,17 @@ count_put t n v (x ∷ xs) = ap₂ (λ b k. cond b (suc k) k) (at (x.thread == n
     at true = refl
     at false = refl
 
-count_put_all : (t m n : ℕ) (ws : List Written) (xs : List Pending) → count_older t (put_all m n ws xs) ≡ count_older t xs
+count_put_all : (t m n : ℕ) (ws : List Written) (xs : List Pending) → count_older t (with_writes_of m n ws xs) ≡ count_older t xs
 count_put_all t m n [] xs = refl
-count_put_all t m n (w ∷ ws) xs = count_put_all t m n ws (if w.mem == m then put n w.value xs else xs) ∙ at (w.mem == m)
+count_put_all t m n (w ∷ ws) xs = count_put_all t m n ws (if w.mem == m then with_value_of n w.value xs else xs) ∙ at (w.mem == m)
   where
-    at : (b : Bool) → count_older t (cond b (put n w.value xs) xs) ≡ count_older t xs
+    at : (b : Bool) → count_older t (cond b (with_value_of n w.value xs) xs) ≡ count_older t xs
     at true = count_put t n w.value xs
     at false = refl
 
-pub count_filled : (t m : ℕ) (ms : List Act) (xs : List Pending) → count_older t (filled m ms xs) ≡ count_older t xs
+pub count_filled : (t m : ℕ) (ms : List Act) (xs : List Pending) → count_older t (with_all_writes m ms xs) ≡ count_older t xs
 count_filled t m [] xs = refl
-count_filled t m (a ∷ ms) xs = count_put_all t m a.thread.number a.does.writes (filled m ms xs) ∙ count_filled t m ms xs
+count_filled t m (a ∷ ms) xs = count_put_all t m a.thread.number a.does.writes (with_all_writes m ms xs) ∙ count_filled t m ms xs
 
 -- pending writes of one thread
 abbrev pub AllOf : ℕ → List Pending → Type 0

@@ -4,11 +4,11 @@ use Rattle.std.proofs.lemmas.Bool.{or_right, or_left}
 use Rattle.pdl_semantics.specs.Flat.{Pipe, Op, Bind, CombRead, DelayedRead, Write, ReserveRead, ReserveWrite, Block, Release, Call, SpecCall, Verify, SpecCheck, SpecBarrier, Stmt, list_all, values_of}
 use Rattle.pdl_semantics.specs.Stages.{list_any, mem_at}
 use Rattle.pdl_semantics.specs.Locks.{read_ready, write_ready}
-use Rattle.pdl_semantics.specs.Machine.{State, Awaited, Kept, Pending, Place, lock_of, request_of, same_args, is_held, held_before, older_write}
+use Rattle.pdl_semantics.specs.Machine.{State, Awaited, Kept, Pending, HeldLocation, lock_of, request_of, same_args, is_held, held_before, older_write}
 use Rattle.pdl_semantics.specs.Moves.{block_ready}
-use Rattle.pdl_semantics.specs.Sound.{linked, is_kept_or_awaited, asks_right, is_owner, is_release_at, stays_ready, on_path, is_done, right_place, is_fetch, holds, has_done}
+use Rattle.pdl_semantics.specs.Sound.{are_linked, is_kept_or_awaited, asks_right, is_owner, is_release_at, stays_ready, on_path, is_done, right_place, is_fetch, held_places, has_done}
 use Rattle.pdl_semantics.specs.Sound
-use Rattle.pdl_derived.specs.Derived.{Entry, has, latest, awaits_mem}
+use Rattle.pdl_derived.specs.Derived.{Entry, has_entry, latest, awaits_mem}
 use Rattle.pdl_derived.specs.Alone.{is_call}
 use Rattle.pdl_facts.specs.Scans.{called}
 use Rattle.pdl_facts.specs.Facts.{Sound}
@@ -84,12 +84,12 @@ made_is p l = sym (called_any false (on_way p l.env l.thread.stage))
 
 -- 2. CHAIN
 
-linked_snoc : (p : Pipe) (xs : List Sound.Live) (l : Sound.Live) → AllLive (λ x. has_done Sound.is_call p x ≡ true) xs → has_done Sound.is_call p l ≡ false → linked p (xs ++ l ∷ []) ≡ true
+linked_snoc : (p : Pipe) (xs : List Sound.Live) (l : Sound.Live) → AllLive (λ x. has_done Sound.is_call p x ≡ true) xs → has_done Sound.is_call p l ≡ false → are_linked p (xs ++ l ∷ []) ≡ true
 linked_snoc p [] l h k = ap not k
 linked_snoc p (x ∷ []) l h k = both_true h.0 (ap not k)
 linked_snoc p (x ∷ y ∷ xs) l h k = both_true h.0 (linked_snoc p (y ∷ xs) l h.1 k)
 
-pub chain : (p : Pipe) (l : Live) (ls : List Live) → HaveMade p (l ∷ ls) → has_made p l.env l.thread.stage ≡ false → linked p (oldest_first (l ∷ ls)) ≡ true
+pub chain : (p : Pipe) (l : Live) (ls : List Live) → HaveMade p (l ∷ ls) → has_made p l.env l.thread.stage ≡ false → are_linked p (oldest_first (l ∷ ls)) ≡ true
 chain p l ls h k = linked_snoc p (oldest_first ls) (told l) (live_each (λ x. has_done Sound.is_call p x ≡ true) ls (each_map (λ j e. made_is p j ∙ e) ls h)) (made_is p l ∙ k)
 
 -- OF EACH THREAD
@@ -140,12 +140,12 @@ owner_any n m (l ∷ ls) h = any_snoc _ (oldest_first ls) (told l) (at ((l.numbe
 -- 9. BLOCKS
 
 module _ (p : Pipe) (st : State) (l : Live) (older : List Live) (held : places l.thread.entries ≡ held_before l.thread.stage l.env p.stmts []) (ahead : (m a : ℕ) → older_write st l.number m a ≡ latest (threads_of older) m a) where
-  block_now : (m a : ℕ) → cond (has l.thread.entries m a) (write_ready (mem_at p m).lock (latest (threads_of older) m (slice_index l.env a))) (read_ready (mem_at p m).lock (latest (threads_of older) m (slice_index l.env a))) ≡ true
-      → block_ready p st l.number (record { mem = m; address = slice_index l.env a; writes = is_held (holds p (told l)) m a }) ≡ true
+  block_now : (m a : ℕ) → cond (has_entry l.thread.entries m a) (write_ready (mem_at p m).lock (latest (threads_of older) m (slice_index l.env a))) (read_ready (mem_at p m).lock (latest (threads_of older) m (slice_index l.env a))) ≡ true
+      → block_ready p st l.number (record { mem = m; address = slice_index l.env a; writes = is_held (held_places p (told l)) m a }) ≡ true
   block_now m a h =
       (λ i. cond (kinds i) (write_ready (mem_at p m).lock (ahead m (slice_index l.env a) i)) (read_ready (mem_at p m).lock (ahead m (slice_index l.env a) i))) ∙ h
     where
-      kinds : is_held (holds p (told l)) m a ≡ has l.thread.entries m a
+      kinds : is_held (held_places p (told l)) m a ≡ has_entry l.thread.entries m a
       kinds = ap (λ ps. is_held ps m a) (sym held) ∙ places_has l.thread.entries m a
 
   block_op : (op : Op) → BlockOk (look_at p (threads_of older)) l.env l.thread.entries (past_of p l.env l.thread.stage) op → stays_ready p st (told l) op ≡ true
@@ -184,11 +184,11 @@ done_op st l (Verify args) h = refl
 done_op st l SpecCheck h = refl
 done_op st l SpecBarrier h = refl
 
-abbrev places_test : ℕ → List ℕ → Place → Pending → Bool
+abbrev places_test : ℕ → List ℕ → HeldLocation → Pending → Bool
 places_test n env h e = (e.thread == n) && (e.address == slice_index env h.var)
 
 -- each pending write of a thread is in its lock's list
-own_places : (n : ℕ) (env : List ℕ) (past : List Op) (es : List Entry) → AllPlaced env past es → (test : Place → Bool) → ((h : Place) → list_any (places_test n env h) (pend h.mem n es) ≡ true → test h ≡ true) → list_all test (places es) ≡ true
+own_places : (n : ℕ) (env : List ℕ) (past : List Op) (es : List Entry) → AllPlaced env past es → (test : HeldLocation → Bool) → ((h : HeldLocation) → list_any (places_test n env h) (pend h.mem n es) ≡ true → test h ≡ true) → list_all test (places es) ≡ true
 own_places n env past [] h test f = refl
 own_places n env past (e ∷ es) h test f =
     both_true (f (record { mem = e.mem; var = e.var }) (any_append (places_test n env (record { mem = e.mem; var = e.var })) (pend e.mem n es) _ mine))

@@ -4,7 +4,7 @@ use Rattle.pdl_semantics.specs.Flat.{Arrays, Pipe, Op, Call, SpecCall, Verify, S
 use Rattle.pdl_semantics.specs.Stages.{onpath, in_stage, stage_at, goes_to}
 use Rattle.pdl_semantics.specs.Machine.{State}
 use Rattle.pdl_semantics.specs.Moves.{movers}
-use Rattle.pdl_semantics.specs.Cycle.{squasher, stays, state_after, cycle, first}
+use Rattle.pdl_semantics.specs.Cycle.{squasher, is_kept, state_after, cycle, first}
 use Rattle.pdl_semantics.specs.Cycle
 use Rattle.pdl_derived.specs.Derived.{Work, find_ask, fresh, around}
 use Rattle.pdl_derived.specs.Derived

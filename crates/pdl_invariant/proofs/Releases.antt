@@ -1,15 +1,15 @@
 -- Who has released a write of a memory: only threads past the stage of its releases, all threads of turns past it that write, and none after a wrong guess.
 use Rattle.std.proofs.Common.{◌≡◌, refl, sym, ap, ap₂, ◌∙◌, subst, ℕ, ◌<◌, Bool, true, false, ◌&&◌, ◌||◌, not, List, [], ◌∷◌, Some, ◌==◌, nat_lt, cond, arith, eq-eqb, ltb-true, ltb-false, lt-ltb}
 use Rattle.std.proofs.lemmas.Bool.{eqb-true, not-true, or_right}
-use Rattle.pdl_semantics.specs.Flat.{Arrays, Pipe, Op, Bind, CombRead, DelayedRead, Write, ReserveRead, ReserveWrite, Block, Release, Call, SpecCall, Verify, SpecCheck, SpecBarrier, Stmt, Commit, taken, of_mem}
+use Rattle.pdl_semantics.specs.Flat.{Arrays, Pipe, Op, Bind, CombRead, DelayedRead, Write, ReserveRead, ReserveWrite, Block, Release, Call, SpecCall, Verify, SpecCheck, SpecBarrier, Stmt, Commit, all_hold, of_mem}
 use Rattle.pdl_semantics.specs.Stages.{list_any, onpath, is_release, commit_stage, verify_stage}
-use Rattle.pdl_semantics.specs.Machine.{State, Place}
+use Rattle.pdl_semantics.specs.Machine.{State, HeldLocation}
 use Rattle.pdl_semantics.specs.Sequential.{Run, thread}
 use Rattle.pdl_semantics.specs.Sound.{stages_before, stages_from, is_write_reserve, has_released}
 use Rattle.pdl_derived.specs.Derived.{Entry}
 use Rattle.pdl_semantics.specs.Sound
-use Rattle.pdl_derived.specs.Alone.{before, looked}
-use Rattle.pdl_facts.specs.Scans.{Phase, Fresh, Held, Written, Done, next_phase, phase_all, phase_ok, phases_ok, after_release, holds, is_fresh, none_of, from, Scan, no_scan, opened, opens, no_guards}
+use Rattle.pdl_derived.specs.Alone.{before, answered_op}
+use Rattle.pdl_facts.specs.Scans.{Phase, Fresh, Held, Written, Done, next_phase, phase_all, phase_ok, phases_ok, after_release, holds_location, is_fresh, none_of, from, Scan, no_scan, has_location, scan_after, no_guards}
 use Rattle.pdl_facts.specs.Certain.{is_barrier, is_sure, all_sure}
 use Rattle.pdl_facts.specs.Facts.{Sound, looked_all, at_once}
 use Rattle.pdl_facts.specs.Accepted.{along}
@@ -133,19 +133,19 @@ unused_all m (x ∷ xs) u r = at (is_write_reserve m x.op) refl r (unused_all m 
 
 -- LOCATIONS
 
-no_place : (m : ℕ) (es : List Entry) → list_any (λ (h : Place). h.mem == m) (places es) ≡ false → entries_of m es ≡ []
+no_place : (m : ℕ) (es : List Entry) → list_any (λ (h : HeldLocation). h.mem == m) (places es) ≡ false → entries_of m es ≡ []
 no_place m [] h = refl
 no_place m (e ∷ es) h = at (e.mem == m) h (no_place m es)
   where
-    at : (b : Bool) → (b || list_any (λ (h : Place). h.mem == m) (places es)) ≡ false → (list_any (λ (h : Place). h.mem == m) (places es) ≡ false → entries_of m es ≡ []) → cond b (e ∷ entries_of m es) (entries_of m es) ≡ []
+    at : (b : Bool) → (b || list_any (λ (h : HeldLocation). h.mem == m) (places es)) ≡ false → (list_any (λ (h : HeldLocation). h.mem == m) (places es) ≡ false → entries_of m es ≡ []) → cond b (e ∷ entries_of m es) (entries_of m es) ≡ []
     at true k f = absurd (cc k)
     at false k f = f k
 
-no_entry : (m : ℕ) (es : List Entry) → entries_of m es ≡ [] → list_any (λ (h : Place). h.mem == m) (places es) ≡ false
+no_entry : (m : ℕ) (es : List Entry) → entries_of m es ≡ [] → list_any (λ (h : HeldLocation). h.mem == m) (places es) ≡ false
 no_entry m [] h = refl
 no_entry m (e ∷ es) h = at (e.mem == m) h (no_entry m es)
   where
-    at : (b : Bool) → cond b (e ∷ entries_of m es) (entries_of m es) ≡ [] → (entries_of m es ≡ [] → list_any (λ (h : Place). h.mem == m) (places es) ≡ false) → (b || list_any (λ (h : Place). h.mem == m) (places es)) ≡ false
+    at : (b : Bool) → cond b (e ∷ entries_of m es) (entries_of m es) ≡ [] → (entries_of m es ≡ [] → list_any (λ (h : HeldLocation). h.mem == m) (places es) ≡ false) → (b || list_any (λ (h : HeldLocation). h.mem == m) (places es)) ≡ false
     at true k f = absurd (cc k)
     at false k f = f k
 
@@ -170,12 +170,12 @@ module _ (p : Pipe) (sound : Sound p) (st : State) (l : Live) (seated : Seated p
   released_done : has_released m p (told l) ≡ true → is_done (phase_all m Fresh (on_way p l.env l.thread.stage)) ≡ true
   released_done h =
       used_done m (phase_all m Fresh (on_way p l.env l.thread.stage)) (entries_of m l.thread.entries) (seated.keeps_on.shape m) (reserved_used m Fresh (on_way p l.env l.thread.stage) (and_left _ _ h))
-      (no_place m l.thread.entries (ap (list_any (λ (h : Place). h.mem == m)) seated.keeps_on.held ∙ not-true _ (and_right (list_any (λ (x : Stmt). is_write_reserve m x.op) (on_way p l.env l.thread.stage)) _ h)))
+      (no_place m l.thread.entries (ap (list_any (λ (h : HeldLocation). h.mem == m)) seated.keeps_on.held ∙ not-true _ (and_right (list_any (λ (x : Stmt). is_write_reserve m x.op) (on_way p l.env l.thread.stage)) _ h)))
 
   pub done_released : is_done (phase_all m Fresh (on_way p l.env l.thread.stage)) ≡ true → has_released m p (told l) ≡ true
   done_released h =
       ap₂ (λ a b. a && not b) (reserved (list_any (λ (x : Stmt). is_write_reserve m x.op) (on_way p l.env l.thread.stage)) refl)
-      (ap (list_any (λ (h : Place). h.mem == m)) (sym seated.keeps_on.held) ∙ no_entry m l.thread.entries (done_empty m (phase_all m Fresh (on_way p l.env l.thread.stage)) (entries_of m l.thread.entries) (seated.keeps_on.shape m) h))
+      (ap (list_any (λ (h : HeldLocation). h.mem == m)) (sym seated.keeps_on.held) ∙ no_entry m l.thread.entries (done_empty m (phase_all m Fresh (on_way p l.env l.thread.stage)) (entries_of m l.thread.entries) (seated.keeps_on.shape m) h))
     where
       uses : uses_ok m Fresh (on_way p l.env l.thread.stage) ≡ true
       uses = uses_front m (on_way p l.env l.thread.stage) (onpath l.env (stages_from l.thread.stage p.stmts)) Fresh (subst (λ xs. uses_ok m Fresh xs ≡ true) ((sound_flows p sound).all_pieces l.env l.thread.stage) ((sound_flows p sound).uses l.env m))
@@ -221,35 +221,35 @@ module _ (p : Pipe) (sound : Sound p) (arrays : Arrays) (args : List ℕ) where
 -- a write under way has its location among those that were opened
 abbrev pub Opened : ℕ → Phase → Scan → Type 0
 Opened m Fresh c = Unit {0}
-Opened m (Held x) c = opened c.held m x ≡ true
-Opened m (Written x) c = opened c.held m x ≡ true
+Opened m (Held x) c = has_location c.held m x ≡ true
+Opened m (Written x) c = has_location c.held m x ≡ true
 Opened m Done c = Unit {0}
 
-opened_more : (m : ℕ) (ph : Phase) (c c' : Scan) → ((x : ℕ) → opened c.held m x ≡ true → opened c'.held m x ≡ true) → Opened m ph c → Opened m ph c'
+opened_more : (m : ℕ) (ph : Phase) (c c' : Scan) → ((x : ℕ) → has_location c.held m x ≡ true → has_location c'.held m x ≡ true) → Opened m ph c → Opened m ph c'
 opened_more m Fresh c c' f h = tt
 opened_more m (Held x) c c' f h = f x h
 opened_more m (Written x) c c' f h = f x h
 opened_more m Done c c' f h = tt
 
-opened_held : (m a : ℕ) (ph : Phase) (c : Scan) → holds ph a ≡ true → Opened m ph c → opened c.held m a ≡ true
+opened_held : (m a : ℕ) (ph : Phase) (c : Scan) → holds_location ph a ≡ true → Opened m ph c → has_location c.held m a ≡ true
 opened_held m a Fresh c h o = absurd (cc h)
-opened_held m a (Held x) c h o = subst (λ y. opened c.held m y ≡ true) (eqb-true x a h) o
+opened_held m a (Held x) c h o = subst (λ y. has_location c.held m y ≡ true) (eqb-true x a h) o
 opened_held m a (Written x) c h o = absurd (cc h)
 opened_held m a Done c h o = absurd (cc h)
 
 -- before V and without a barrier such a write is not released
-sure_op : (m v s : ℕ) (c : Scan) (ph : Phase) (op : Op) → phase_ok m ph op ≡ true → is_sure (Some v) false c s op ≡ true → nat_lt s v ≡ true → Opened m ph c → is_done ph ≡ false → Opened m (next_phase m ph op) (opens op c) × (is_done (next_phase m ph op) ≡ false)
+sure_op : (m v s : ℕ) (c : Scan) (ph : Phase) (op : Op) → phase_ok m ph op ≡ true → is_sure (Some v) false c s op ≡ true → nat_lt s v ≡ true → Opened m ph c → is_done ph ≡ false → Opened m (next_phase m ph op) (scan_after op c) × (is_done (next_phase m ph op) ≡ false)
 sure_op m v s c ph (ReserveWrite n a) k u low o d = at (n == m) refl
   where
-    more : Opened m ph (opens (ReserveWrite n a) c)
-    more = opened_more m ph c (opens (ReserveWrite n a) c) (λ x i. or_right ((n == m) && (a == x)) _ i) o
+    more : Opened m ph (scan_after (ReserveWrite n a) c)
+    more = opened_more m ph c (scan_after (ReserveWrite n a) c) (λ x i. or_right ((n == m) && (a == x)) _ i) o
 
-    at : (b : Bool) → (n == m) ≡ b → Opened m (cond b (Held a) ph) (opens (ReserveWrite n a) c) × (is_done (cond b (Held a) ph) ≡ false)
-    at true e = (ap₂ (λ x y. (x && y) || opened c.held m a) e (eq-eqb a a refl), refl)
+    at : (b : Bool) → (n == m) ≡ b → Opened m (cond b (Held a) ph) (scan_after (ReserveWrite n a) c) × (is_done (cond b (Held a) ph) ≡ false)
+    at true e = (ap₂ (λ x y. (x && y) || has_location c.held m a) e (eq-eqb a a refl), refl)
     at false e = (more, d)
 sure_op m v s c ph (Write n a e) k u low o d = at (n == m) k
   where
-    at : (b : Bool) → (not b || holds ph a) ≡ true → Opened m (cond b (Written a) ph) c × (is_done (cond b (Written a) ph) ≡ false)
+    at : (b : Bool) → (not b || holds_location ph a) ≡ true → Opened m (cond b (Written a) ph) c × (is_done (cond b (Written a) ph) ≡ false)
     at true i = (opened_held m a ph c i o, refl)
     at false i = (o, d)
 sure_op m v s c ph (Release n a) k u low o d = at (n == m) refl
@@ -265,14 +265,14 @@ sure_op m v s c ph (Release n a) k u low o d = at (n == m) refl
     after (Written x) i o d = by (x == a) refl
       where
         by : (b : Bool) → (x == a) ≡ b → Opened m (cond b Done (Written x)) c × (is_done (cond b Done (Written x)) ≡ false)
-        by true e = absurd (cc (sym (shut (opened c.held n a) (nat_lt s v) u low) ∙ ap₂ (opened c.held) i (sym (eqb-true x a e)) ∙ o))
+        by true e = absurd (cc (sym (shut (has_location c.held n a) (nat_lt s v) u low) ∙ ap₂ (has_location c.held) i (sym (eqb-true x a e)) ∙ o))
         by false e = (o, refl)
     after Done i o d = absurd (cc d)
 
     at : (b : Bool) → (n == m) ≡ b → Opened m (cond b (after_release ph a) ph) c × (is_done (cond b (after_release ph a) ph) ≡ false)
     at true e = after ph (eqb-true n m e) o d
     at false e = (o, d)
-sure_op m v s c ph (Block n a) k u low o d = (at (opened c.held n a), d)
+sure_op m v s c ph (Block n a) k u low o d = (at (has_location c.held n a), d)
   where
     at : (b : Bool) → Opened m ph (cond b c (record { held = c.held; blocked = record { mem = n; var = a } ∷ c.blocked }))
     at true = o
@@ -287,11 +287,11 @@ pub sure_done : (m v : ℕ) (c : Scan) (ph : Phase) (xs : List Stmt) → phases_
 sure_done m v c ph [] k u b low o d = d
 sure_done m v c ph (x ∷ xs) k u b low o d =
     let one = sure_op m v x.stage c ph x.op (and_right (no_guards x.guards) _ (and_left _ _ k)) (and_left _ _ u) low.0 o d in
-    at (is_barrier x.op) refl b (and_right (is_sure (Some v) false c x.stage x.op) _ u) (λ i j. sure_done m v (opens x.op c) (next_phase m ph x.op) xs (and_right (no_guards x.guards && phase_ok m ph x.op) _ k) i j low.1 one.0 one.1)
+    at (is_barrier x.op) refl b (and_right (is_sure (Some v) false c x.stage x.op) _ u) (λ i j. sure_done m v (scan_after x.op c) (next_phase m ph x.op) xs (and_right (no_guards x.guards && phase_ok m ph x.op) _ k) i j low.1 one.0 one.1)
   where
-    at : (t : Bool) → is_barrier x.op ≡ t → some_barrier t xs ≡ false → all_sure (Some v) (is_barrier x.op) (opens x.op c) xs ≡ true → (all_sure (Some v) false (opens x.op c) xs ≡ true → some_barrier false xs ≡ false → is_done (phase_all m (next_phase m ph x.op) xs) ≡ false) → is_done (phase_all m (next_phase m ph x.op) xs) ≡ false
+    at : (t : Bool) → is_barrier x.op ≡ t → some_barrier t xs ≡ false → all_sure (Some v) (is_barrier x.op) (scan_after x.op c) xs ≡ true → (all_sure (Some v) false (scan_after x.op c) xs ≡ true → some_barrier false xs ≡ false → is_done (phase_all m (next_phase m ph x.op) xs) ≡ false) → is_done (phase_all m (next_phase m ph x.op) xs) ≡ false
     at true e j i f = absurd (cc (sym (barred_stays xs) ∙ j))
-    at false e j i f = f (subst (λ t. all_sure (Some v) t (opens x.op c) xs ≡ true) e i) j
+    at false e j i f = f (subst (λ t. all_sure (Some v) t (scan_after x.op c) xs ≡ true) e i) j
 
 pub low_stages : (path : List ℕ) (s : ℕ) (xs : List Stmt) → AllStmts (λ x. x.stage < s) (onpath path (stages_before s xs))
 low_stages path s [] = tt
@@ -302,14 +302,14 @@ low_stages path s (x ∷ xs) = at (nat_lt x.stage s) refl (low_stages path s xs)
     by false i h = h
 
     at : (b : Bool) → nat_lt x.stage s ≡ b → AllStmts (λ x. x.stage < s) (onpath path (stages_before s xs)) → AllStmts (λ x. x.stage < s) (onpath path (cond b (x ∷ stages_before s xs) (stages_before s xs)))
-    at true e h = by (taken x.guards path) (ltb-true _ _ e) h
+    at true e h = by (all_hold x.guards path) (ltb-true _ _ e) h
     at false e h = h
 
 pub stages_looked : (P : ℕ → Type 0) (xs : List Stmt) → AllStmts (λ x. P x.stage) xs → AllStmts (λ x. P x.stage) (looked_all xs)
 stages_looked P [] h = tt
 stages_looked P (x ∷ xs) h = (h.0, stages_looked P xs h.1)
 
-barrier_looked : (op : Op) → is_barrier (looked op) ≡ Sound.is_barrier op
+barrier_looked : (op : Op) → is_barrier (answered_op op) ≡ Sound.is_barrier op
 barrier_looked SpecBarrier = refl
 barrier_looked (Bind x e) = refl
 barrier_looked (CombRead x m a) = refl

@@ -1,11 +1,11 @@
 -- A thread with a block or a read of a memory still to do, or a read to bind, is not past the stage of the memory's releases.
 use Rattle.std.proofs.Common.{◌≡◌, refl, ap, ◌∙◌, subst, ℕ, ◌≤◌, ◌<◌, Bool, true, false, ◌&&◌, ◌||◌, not, List, [], ◌∷◌, ◌++◌, length, Option, Some, None, ◌==◌, nat_lt, nat_le, cond, arith, eq-eqb, ltb-true, ltb-false, leb-true}
 use Rattle.std.proofs.lemmas.Bool.{eqb-true}
-use Rattle.pdl_semantics.specs.Flat.{Pipe, Op, Bind, CombRead, DelayedRead, Write, ReserveRead, ReserveWrite, Block, Release, Call, SpecCall, Verify, SpecCheck, SpecBarrier, Stmt, taken}
+use Rattle.pdl_semantics.specs.Flat.{Pipe, Op, Bind, CombRead, DelayedRead, Write, ReserveRead, ReserveWrite, Block, Release, Call, SpecCall, Verify, SpecCheck, SpecBarrier, Stmt, all_hold}
 use Rattle.pdl_semantics.specs.Stages.{list_any, onpath, in_stage, is_release, commit_stage, mem_at, stage_at, goes_to}
 use Rattle.pdl_semantics.specs.Sound.{stages_before, stages_from, looks_at, is_release_at, is_delayed_read, one_of}
-use Rattle.pdl_derived.specs.Alone.{looked}
-use Rattle.pdl_facts.specs.Scans.{is_plain, none_of, Scan, no_scan, opens, op_ok, reads_ok, opened, no_guards}
+use Rattle.pdl_derived.specs.Alone.{answered_op}
+use Rattle.pdl_facts.specs.Scans.{is_plain, none_of, Scan, no_scan, scan_after, op_ok, reads_ok, has_location, no_guards}
 use Rattle.pdl_facts.specs.Facts.{Sound, FetchOk, FetchIf, AllFetches, looked_all, at_once}
 use Rattle.pdl_facts.specs.Graphs.{stage_or}
 use Rattle.pdl_facts.specs.Accepted.{along}
@@ -28,7 +28,7 @@ let_go_behind (x ∷ xs) ys h = let_go_behind xs ys (and_right (lets_go x.op (xs
 
 reads_behind : (q : Pipe) (c : Scan) (xs ys : List Stmt) → reads_ok q c (looked_all (xs ++ ys)) ≡ true → (c' : Scan) × (reads_ok q c' (looked_all ys) ≡ true)
 reads_behind q c [] ys h = (c, h)
-reads_behind q c (x ∷ xs) ys h = reads_behind q (opens (looked x.op) c) xs ys (and_right (no_guards x.guards && op_ok q x.stage c (looked x.op)) _ h)
+reads_behind q c (x ∷ xs) ys h = reads_behind q (scan_after (answered_op x.op) c) xs ys (and_right (no_guards x.guards && op_ok q x.stage c (answered_op x.op)) _ h)
 
 late_stages : (path : List ℕ) (s : ℕ) (xs : List Stmt) → AllStmts (λ x. s ≤ x.stage) (onpath path (stages_from s xs))
 late_stages path s [] = tt
@@ -39,7 +39,7 @@ late_stages path s (x ∷ xs) = at (nat_le s x.stage) refl (late_stages path s x
     by false i h = h
 
     at : (b : Bool) → nat_le s x.stage ≡ b → AllStmts (λ x. s ≤ x.stage) (onpath path (stages_from s xs)) → AllStmts (λ x. s ≤ x.stage) (onpath path (cond b (x ∷ stages_from s xs) (stages_from s xs)))
-    at true e h = by (taken x.guards path) (leb-true _ _ e) h
+    at true e h = by (all_hold x.guards path) (leb-true _ _ e) h
     at false e h = h
 
 release_none : (m a : ℕ) (xs : List Stmt) → none_of (is_release m) xs ≡ true → list_any (λ (z : Stmt). is_release_at m a z.op) xs ≡ true → ⊥
@@ -74,11 +74,11 @@ module _ (p q : Pipe) (m s : ℕ) (late : commit_stage q m < s) (locked : is_pla
   no_read : (r : ℕ) (c : Scan) (x a : ℕ) → s ≤ r → op_ok q r c (CombRead x m a) ≡ true → ⊥
   no_read r c x a low h = at (is_plain (mem_at q m).lock) locked (and_right _ _ h)
     where
-      at : (b : Bool) → b ≡ false → (b || (opened c.blocked m a && nat_le r (commit_stage q m))) ≡ true → ⊥
+      at : (b : Bool) → b ≡ false → (b || (has_location c.blocked m a && nat_le r (commit_stage q m))) ≡ true → ⊥
       at true e k = cc e
-      at false e k = let i : r ≤ commit_stage q m = leb-true r (commit_stage q m) (and_right (opened c.blocked m a) (nat_le r (commit_stage q m)) k) in let j = late in omega arith
+      at false e k = let i : r ≤ commit_stage q m = leb-true r (commit_stage q m) (and_right (has_location c.blocked m a) (nat_le r (commit_stage q m)) k) in let j = late in omega arith
 
-  no_look : (r : ℕ) (c : Scan) (op : Op) (ys : List Stmt) → s ≤ r → op_ok q r c (looked op) ≡ true → lets_go op ys ≡ true → none_of (is_release m) ys ≡ true → looks_at m op ≡ true → ⊥
+  no_look : (r : ℕ) (c : Scan) (op : Op) (ys : List Stmt) → s ≤ r → op_ok q r c (answered_op op) ≡ true → lets_go op ys ≡ true → none_of (is_release m) ys ≡ true → looks_at m op ≡ true → ⊥
   no_look r c (Block n a) ys low h g f k = release_none m a ys f (subst (λ i. list_any (λ (z : Stmt). is_release_at i a z.op) ys ≡ true) (eqb-true n m k) g)
   no_look r c (CombRead x n a) ys low h g f k = no_read r c x a low (subst (λ i. op_ok q r c (CombRead x i a) ≡ true) (eqb-true n m k) h)
   no_look r c (DelayedRead x n a) ys low h g f k = no_read r c x a low (subst (λ i. op_ok q r c (CombRead x i a) ≡ true) (eqb-true n m k) h)
@@ -96,7 +96,7 @@ module _ (p q : Pipe) (m s : ℕ) (late : commit_stage q m < s) (locked : is_pla
   no_looks : (c : Scan) (xs : List Stmt) → AllStmts (λ x. s ≤ x.stage) xs → reads_ok q c (looked_all xs) ≡ true → all_let_go xs ≡ true → none_of (is_release m) xs ≡ true → list_any (λ (x : Stmt). looks_at m x.op) xs ≡ true → ⊥
   no_looks c [] low h g f k = cc k
   no_looks c (x ∷ xs) low h g f k =
-      at (looks_at m x.op) refl k (λ i. no_looks (opens (looked x.op) c) xs low.1 (and_right (no_guards x.guards && op_ok q x.stage c (looked x.op)) _ h) (and_right (lets_go x.op xs) _ g) (and_right (not (is_release m x.op)) _ f) i)
+      at (looks_at m x.op) refl k (λ i. no_looks (scan_after (answered_op x.op) c) xs low.1 (and_right (no_guards x.guards && op_ok q x.stage c (answered_op x.op)) _ h) (and_right (lets_go x.op xs) _ g) (and_right (not (is_release m x.op)) _ f) i)
     where
       at : (b : Bool) → looks_at m x.op ≡ b → (b || list_any (λ (x : Stmt). looks_at m x.op) xs) ≡ true → (list_any (λ (x : Stmt). looks_at m x.op) xs ≡ true → ⊥) → ⊥
       at true e i go = no_look x.stage c x.op xs low.0 (and_right (no_guards x.guards) _ (and_left _ _ h)) (and_left _ _ g) (and_right (not (is_release m x.op)) _ f) e
@@ -149,15 +149,15 @@ module _ (p : Pipe) (sound : Sound p) where
   way_fetch path s [] h = tt
   way_fetch path s (x ∷ xs) h = at (nat_lt x.stage s) (way_fetch path s xs h.1)
     where
-      one : taken x.guards path ≡ true → Fetched (record x { guards = [] })
+      one : all_hold x.guards path ≡ true → Fetched (record x { guards = [] })
       one e y n a i = (subst (λ op. FetchIf p sound.fetch x.stage x.guards op) i h.0).1 (alive x.guards path e)
 
-      by : (c : Bool) → taken x.guards path ≡ c → AllStmts Fetched (onpath path (stages_before s xs)) → AllStmts Fetched (cond c (record x { guards = [] } ∷ onpath path (stages_before s xs)) (onpath path (stages_before s xs)))
+      by : (c : Bool) → all_hold x.guards path ≡ c → AllStmts Fetched (onpath path (stages_before s xs)) → AllStmts Fetched (cond c (record x { guards = [] } ∷ onpath path (stages_before s xs)) (onpath path (stages_before s xs)))
       by true e k = (one e, k)
       by false e k = k
 
       at : (b : Bool) → AllStmts Fetched (onpath path (stages_before s xs)) → AllStmts Fetched (onpath path (cond b (x ∷ stages_before s xs) (stages_before s xs)))
-      at true k = by (taken x.guards path) refl k
+      at true k = by (all_hold x.guards path) refl k
       at false k = k
 
   bind_early : (env : List ℕ) (s m : ℕ) (xs : List Stmt) → AllStmts Fetched xs → list_any (λ x. here p env s x && is_delayed_read m x.op) xs ≡ true → s ≤ commit_stage p m

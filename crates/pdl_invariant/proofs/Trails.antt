@@ -1,7 +1,7 @@
 -- The stages that a live thread came through, and the statements that it carried out in them.
 use Rattle.std.proofs.Common.{◌≡◌, ◌≢◌, refl, sym, ap, ◌∙◌, subst, ℕ, zero, suc, ◌+◌, ◌≤◌, ◌<◌, ◌⊎◌, inl, inr, Bool, true, false, ◌||◌, List, [], ◌∷◌, ◌++◌, length, Option, Some, None, ◌==◌, cond, if◌then◌else◌, arith, slice_index}
 use Rattle.std.proofs.lemmas.Bool.{eqb-true}
-use Rattle.pdl_semantics.specs.Flat.{Op, Stmt, Pipe, Next, Ends, Goes, Forks, taken}
+use Rattle.pdl_semantics.specs.Flat.{Op, Stmt, Pipe, Next, Ends, Goes, Forks, all_hold}
 use Rattle.pdl_semantics.specs.Stages.{onpath, in_stage, stage_at, goes_to}
 use Rattle.pdl_semantics.specs.Sound.{one_of, comes_to}
 use Rattle.pdl_simulation.proofs.FlowFacts.{Ways}
@@ -36,10 +36,10 @@ ops_stmts P (x ∷ xs) past h k = ops_stmts P xs (x.op ∷ past) h.1 (h.0, k)
 -- of a stage
 pub stage_stmts : (path : List ℕ) (s : ℕ) (xs : List Stmt) → AllStmts (λ x. x.stage ≡ s) (onpath path (in_stage s xs))
 stage_stmts path s [] = tt
-stage_stmts path s (x ∷ xs) = at (x.stage == s) refl (taken x.guards path) (stage_stmts path s xs)
+stage_stmts path s (x ∷ xs) = at (x.stage == s) refl (all_hold x.guards path) (stage_stmts path s xs)
   where
     at : (b : Bool) → (x.stage == s) ≡ b → (c : Bool) → AllStmts (λ y. y.stage ≡ s) (onpath path (in_stage s xs)) → AllStmts (λ y. y.stage ≡ s) (onpath path (cond b (x ∷ in_stage s xs) (in_stage s xs)))
-    at true e c k = by (taken x.guards path)
+    at true e c k = by (all_hold x.guards path)
       where
         by : (c : Bool) → AllStmts (λ y. y.stage ≡ s) (cond c (record x { guards = [] } ∷ onpath path (in_stage s xs)) (onpath path (in_stage s xs)))
         by true = (eqb-true _ _ e, k)

@@ -3,7 +3,7 @@ use Rattle.std.specs.Prelude.{◌≡◌, ℕ, Bool, true, false, ◌&&◌, ◌||
 use Rattle.pdl_semantics.specs.Flat.{Op, Bind, CombRead, DelayedRead, Block, Stmt, Pipe, start_env}
 use Rattle.pdl_semantics.specs.Stages.{list_any, onpath}
 use Rattle.pdl_semantics.specs.Sound.{is_release_at}
-use Rattle.pdl_facts.specs.Facts.{uses_in, mentions}
+use Rattle.pdl_facts.specs.Facts.{uses_in, mentions_var}
 use Rattle.pdl_facts.specs.SoundChecks.{all_paths, all_guards}
 
 -- the variable that a statement binds
@@ -21,14 +21,14 @@ uses_own (DelayedRead x m a) = a == x
 uses_own _ = false
 
 -- whether one of these binds or uses a variable
-abbrev pub mentioned : ℕ → List Op → Bool
-mentioned x [] = false
-mentioned x (op ∷ ops) = mentions x op || mentioned x ops
+abbrev pub is_mentioned : ℕ → List Op → Bool
+is_mentioned x [] = false
+is_mentioned x (op ∷ ops) = mentions_var x op || is_mentioned x ops
 
 -- a variable of the pipe with which none of these has to do
 abbrev pub is_new : ℕ → List Op → Option ℕ → Bool
 is_new vars past None = true
-is_new vars past (Some x) = nat_lt x vars && not (mentioned x past)
+is_new vars past (Some x) = nat_lt x vars && not (is_mentioned x past)
 
 -- each statement binds a variable that it doesn't use and with which no earlier one has to do; the earlier ones are the last first
 abbrev pub all_new : ℕ → List Op → List Stmt → Bool

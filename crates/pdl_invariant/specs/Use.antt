@@ -4,7 +4,7 @@ use Rattle.pdl_semantics.specs.Flat.{Pipe}
 use Rattle.pdl_semantics.specs.Stages.{reserve_stage, commit_stage, verify_stage}
 use Rattle.pdl_semantics.specs.Machine.{State, Pending, Reserved, lock_of}
 use Rattle.pdl_semantics.specs.Moves.{Act, all_acts, movers}
-use Rattle.pdl_semantics.specs.Cycle.{appended, releases, list_two, list_three}
+use Rattle.pdl_semantics.specs.Cycle.{with_reserves, has_release, list_two, list_three}
 
 -- PENDING WRITES
 
@@ -37,7 +37,7 @@ moving p st bits = movers (all_acts p st bits)
 
 -- a lock's list with what the cycle appends, with what it writes, and after its release
 abbrev pub with_new : Pipe → State → List Bool → ℕ → List Pending
-with_new p st bits m = appended m (moving p st bits) (lock_of st m)
+with_new p st bits m = with_reserves m (moving p st bits) (lock_of st m)
 
 abbrev pub with_values : Pipe → State → List Bool → ℕ → List Pending
 with_values p st bits m = list_two st (moving p st bits) m
@@ -53,13 +53,13 @@ abbrev pub reserved_in : ℕ → List Reserved → ℕ
 reserved_in m [] = 0
 reserved_in m (r ∷ rs) = if r.mem == m then suc (reserved_in m rs) else reserved_in m rs
 
-abbrev pub reserved : ℕ → List Act → ℕ
-reserved m [] = 0
-reserved m (a ∷ ms) = reserved m ms + reserved_in m a.does.reserves
+abbrev pub reserved_count : ℕ → List Act → ℕ
+reserved_count m [] = 0
+reserved_count m (a ∷ ms) = reserved_count m ms + reserved_in m a.does.reserves
 
 -- a lock in a cycle: at most one write is reserved, and the list stays in order
 pub record Reserves (p : Pipe) (st : State) (bits : List Bool) (m : ℕ) : Type 0 where
-  pub one : reserved m (moving p st bits) ≤ 1
+  pub one : reserved_count m (moving p st bits) ≤ 1
   pub ordered : AreOrdered 0 (with_new p st bits m)
 
 -- a thread and a lock in a cycle. The thread's place among the pending writes is the number of those of older threads: from the stage of the reserves on nothing older is appended
@@ -75,16 +75,16 @@ pub record Released (list : List Pending) : Type 0 where
   pub written : entry.value ≡ Some value
 
 abbrev pub ReleasesWritten : Pipe → State → List Bool → ℕ → Type 0
-ReleasesWritten p st bits m = releases m (moving p st bits) ≡ true → Released (with_values p st bits m)
+ReleasesWritten p st bits m = has_release m (moving p st bits) ≡ true → Released (with_values p st bits m)
 
 -- up to the stage of the releases, until the thread itself moves out of it, its place shifts by one where a write is released
 abbrev pub ShiftsPlace : Pipe → State → List Bool → ℕ → Act → Type 0
 ShiftsPlace p st bits m a =
     a.stage ≤ commit_stage p m → (a.stage ≡ commit_stage p m → a.moves ≡ false)
-    → count_older a.thread.number (with_release p st bits m) + bit (releases m (moving p st bits)) ≡ count_older a.thread.number (with_new p st bits m)
+    → count_older a.thread.number (with_release p st bits m) + bit (has_release m (moving p st bits)) ≡ count_older a.thread.number (with_new p st bits m)
 
 -- up to V so does the place behind it, where its squash cuts the list, whoever releases
 abbrev pub ShiftsTail : Pipe → State → List Bool → ℕ → Act → Type 0
 ShiftsTail p st bits m a =
     (v : ℕ) → verify_stage p.stmts ≡ Some v → a.stage ≤ v
-    → count_older (suc a.thread.number) (with_release p st bits m) + bit (releases m (moving p st bits)) ≡ count_older (suc a.thread.number) (with_new p st bits m)
+    → count_older (suc a.thread.number) (with_release p st bits m) + bit (has_release m (moving p st bits)) ≡ count_older (suc a.thread.number) (with_new p st bits m)

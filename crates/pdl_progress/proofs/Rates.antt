@@ -6,7 +6,7 @@ use Rattle.std.proofs.lemmas.Bool.{eqb-true, eqb-false}
 use Rattle.pdl_semantics.specs.Flat.{Arrays, Pipe, Stage, Next, Ends, Goes, Forks, Commit, start_env, of_mem}
 use Rattle.pdl_semantics.specs.Stages.{last_stage, stage_at, goes_to, onward, stages_on, guard_of_fork, fork_guards, longest, depth}
 use Rattle.pdl_semantics.specs.Sequential.{thread, writes_from, after_turns}
-use Rattle.pdl_derived.specs.Derived.{Work, Thread, State, Act, act, acts, all_acts, survivors, moved_to, born, exit_of, cycle, turns_from, ended_in, waits_in, is_wait, commits_of, first, turns}
+use Rattle.pdl_derived.specs.Derived.{Work, Thread, State, Act, act, acts, all_acts, survivors, moved_to, born_threads, exit_of, cycle, turns_from, ended_in, waits_in, is_wait, commits_of, first, turns}
 use Rattle.pdl_derived.specs.Alone.{KeepsPace, oldest_moves}
 use Rattle.pdl_facts.specs.Graphs.{stage_or, next_of}
 use Rattle.pdl_facts.specs.Facts.{at_once, Sound}
@@ -249,7 +249,7 @@ module _ (p : Pipe) (acc : Sound p) where
 
           by : (b : Bool) → (act p st bits [] (seat p (after_turns p image n).arrays (after_turns p image n).next sp)).moves ≡ b
               → (if is_wait p st bits then 0 else 1) + left (turn_path image n) (lead (survivors p (act p st bits [] (seat p (after_turns p image n).arrays (after_turns p image n).next sp) ∷ rest))) ≤ left (turn_path image n) sp.stage
-          by false f = subst (λ c. (if is_wait p st bits then 0 else 1) + left (turn_path image n) (lead (cond c (moved_to (exit_of p a) a.work ++ (born p a.work.child ++ (if a.work.fails then [] else survivors p rest))) (a.now ∷ survivors p rest))) ≤ left (turn_path image n) sp.stage) (sym f) (waits (is_wait p st bits) refl)
+          by false f = subst (λ c. (if is_wait p st bits then 0 else 1) + left (turn_path image n) (lead (cond c (moved_to (exit_of p a) a.work ++ (born_threads p a.work.child ++ (if a.work.fails then [] else survivors p rest))) (a.now ∷ survivors p rest))) ≤ left (turn_path image n) sp.stage) (sym f) (waits (is_wait p st bits) refl)
             where
               a : Act
               a = act p st bits [] (seat p (after_turns p image n).arrays (after_turns p image n).next sp)
@@ -258,8 +258,8 @@ module _ (p : Pipe) (acc : Sound p) where
               waits true i = omega arith
               waits false i = absurd (cc (sym f ∙ moves_on i))
           by true f =
-              subst (λ c. (if is_wait p st bits then 0 else 1) + left (turn_path image n) (lead (cond c (moved_to (exit_of p a) a.work ++ (born p a.work.child ++ (if a.work.fails then [] else survivors p rest))) (a.now ∷ survivors p rest))) ≤ left (turn_path image n) sp.stage) (sym f)
-              (subst (λ o. (if is_wait p st bits then 0 else 1) + left (turn_path image n) (lead (moved_to o a.work ++ (born p a.work.child ++ (if a.work.fails then [] else survivors p rest)))) ≤ left (turn_path image n) sp.stage) (sym exit)
+              subst (λ c. (if is_wait p st bits then 0 else 1) + left (turn_path image n) (lead (cond c (moved_to (exit_of p a) a.work ++ (born_threads p a.work.child ++ (if a.work.fails then [] else survivors p rest))) (a.now ∷ survivors p rest))) ≤ left (turn_path image n) sp.stage) (sym f)
+              (subst (λ o. (if is_wait p st bits then 0 else 1) + left (turn_path image n) (lead (moved_to o a.work ++ (born_threads p a.work.child ++ (if a.work.fails then [] else survivors p rest)))) ≤ left (turn_path image n) sp.stage) (sym exit)
               (less (is_wait p st bits)))
             where
               a : Act

@@ -4,15 +4,15 @@ use Rattle.std.proofs.lemmas.Bool.{eqb-true, ne_eqb, not-true}
 use Rattle.pdl_semantics.specs.Flat.{list_all, Op, DelayedRead, Stmt, Guard, Next, Ends, Goes, Forks, Branch, Stage, Pipe, start_env}
 use Rattle.pdl_semantics.specs.Stages.{onpath, in_stage, stage_at, last_stage, is_inside, is_branch_of, is_reserve, mem_at, goes_to, commit_stage, reserve_stage, verify_stage, fork_guards}
 use Rattle.pdl_semantics.specs.Sound.{all_below}
-use Rattle.pdl_derived.specs.Alone.{before, looked}
-use Rattle.pdl_facts.specs.Scans.{from, none_of, all_at, binds, is_fetch}
+use Rattle.pdl_derived.specs.Alone.{before, answered_op}
+use Rattle.pdl_facts.specs.Scans.{from, none_of, all_at, binds_var, is_fetch}
 use Rattle.pdl_semantics.specs.Cycle.{merges_by}
 use Rattle.pdl_facts.specs.Facts.{trunk_only}
 use Rattle.pdl_turns.proofs.Sounds.{none_looked}
 use Rattle.pdl_facts.specs.Graphs.{Trunk, stage_or, next_of, Below, Graph, on_side, goes_by, In, Branches}
-use Rattle.pdl_facts.specs.Facts.{DifferIn, looked_all, unseen, fetch_apart, is_exact, is_dead, fetches, comes_by, visits, FetchIf, AllFetches, at_once, Sound}
+use Rattle.pdl_facts.specs.Facts.{DifferIn, looked_all, is_unseen, fetch_apart, is_exact, is_dead, is_fetch_of, comes_by, visits_stage, FetchIf, AllFetches, at_once, Sound}
 use Rattle.pdl_facts.specs.Checks.{guard_vars}
-use Rattle.pdl_facts.specs.SoundChecks.{none_hangs, blind_passes, is_last_of, merge_sound, branch_whole, forks_whole, verifies_at, nexts_of, nexts, is_trunk, same_branch, leads_in, any_below, is_passed, is_in_merge, enters, next_passes, branch_passes, side_is, no_side, side_passes, stage_sound, fork_sound, none_between, skip_passes, all_guards, fetch_stage, fetch_sound, tests, sounds}
+use Rattle.pdl_facts.specs.SoundChecks.{none_hangs, blind_passes, is_last_of, merge_sound, branch_whole, forks_whole, verifies_at, nexts_of, nexts, is_trunk, same_branch, leads_in, any_below, is_passed, is_in_merge, is_entered, next_passes, branch_passes, side_is, no_side, side_passes, stage_sound, fork_sound, none_between, skip_passes, all_guards, fetch_stage, fetch_sound, tests, passes_tests}
 use Rattle.pdl_derived.proofs.Writes.{and_left, and_right}
 use Rattle.pdl_facts.proofs.Texts.{below_at, past_end, none_there, where_true, no_reserve}
 use Rattle.pdl_facts.proofs.Passes.{known, reserves, pathwise_paths, parts_paths, reserve_past, commit_past}
@@ -67,11 +67,11 @@ is_same o c e = ap (λ x. same_branch x c) e ∙ ap₂ (λ a b. a && b) (eq-eqb 
 
 -- READS AT ONCE
 
-all_looked : (test : Op → Bool) → ((op : Op) → test (looked op) ≡ test op) → (c : ℕ) (xs : List Stmt) → all_at test c (looked_all xs) ≡ all_at test c xs
+all_looked : (test : Op → Bool) → ((op : Op) → test (answered_op op) ≡ test op) → (c : ℕ) (xs : List Stmt) → all_at test c (looked_all xs) ≡ all_at test c xs
 all_looked test f c [] = refl
 all_looked test f c (x ∷ xs) = ap₂ (λ b d. (not b || (x.stage == c)) && d) (f x.op) (all_looked test f c xs)
 
-reserve_looked : (m : ℕ) (op : Op) → is_reserve m (looked op) ≡ is_reserve m op
+reserve_looked : (m : ℕ) (op : Op) → is_reserve m (answered_op op) ≡ is_reserve m op
 reserve_looked m (DelayedRead x n a) = refl
 reserve_looked m _ = refl
 
@@ -92,7 +92,7 @@ in_not_trunk p s c i t = none (sym t ∙ i)
     none : None ≡ Some c → ⊥
     none k = cc
 
-module _ (p : Pipe) (h : sounds p ≡ true) where
+module _ (p : Pipe) (h : passes_tests p ≡ true) where
   all : AllTrue (tests p)
   all = parts (tests p) h
 
@@ -113,7 +113,7 @@ module _ (p : Pipe) (h : sounds p ≡ true) where
       && (all_below (λ r. not (is_trunk p r) || not (nat_lt s r && nat_lt r (next_of p s env))) (length p.stages)
       && ((not (next_of p s env == length p.stages) || (is_trunk p s && (suc s == length p.stages)))
       && ((not (is_trunk p (next_of p s env) && nat_lt (next_of p s env) (length p.stages)) || all_below (λ b. is_passed p s b || is_in_merge p (stage_at p (next_of p s env)).merges b) (next_of p s env))
-      && enters p s (next_of p s env) (stage_at p (next_of p s env)).branch)))) ≡ true
+      && is_entered p s (next_of p s env) (stage_at p (next_of p s env)).branch)))) ≡ true
   after_up s env low = and_right (nat_lt s (next_of p s env)) _ (next_ok s env low)
 
   inside : (s : ℕ) (env : List ℕ) → s < length p.stages → next_of p s env ≤ length p.stages
@@ -123,7 +123,7 @@ module _ (p : Pipe) (h : sounds p ≡ true) where
       → (all_below (λ r. not (is_trunk p r) || not (nat_lt s r && nat_lt r (next_of p s env))) (length p.stages)
       && ((not (next_of p s env == length p.stages) || (is_trunk p s && (suc s == length p.stages)))
       && ((not (is_trunk p (next_of p s env) && nat_lt (next_of p s env) (length p.stages)) || all_below (λ b. is_passed p s b || is_in_merge p (stage_at p (next_of p s env)).merges b) (next_of p s env))
-      && enters p s (next_of p s env) (stage_at p (next_of p s env)).branch))) ≡ true
+      && is_entered p s (next_of p s env) (stage_at p (next_of p s env)).branch))) ≡ true
   after_inside s env low = and_right (nat_le (next_of p s env) (length p.stages)) _ (after_up s env low)
 
   jump : (s : ℕ) (env : List ℕ) (r : ℕ) → s < length p.stages → Trunk p r → s < r → r ≤ next_of p s env → r ≡ next_of p s env
@@ -139,7 +139,7 @@ module _ (p : Pipe) (h : sounds p ≡ true) where
   after_jump : (s : ℕ) (env : List ℕ) → s < length p.stages
       → ((not (next_of p s env == length p.stages) || (is_trunk p s && (suc s == length p.stages)))
       && ((not (is_trunk p (next_of p s env) && nat_lt (next_of p s env) (length p.stages)) || all_below (λ b. is_passed p s b || is_in_merge p (stage_at p (next_of p s env)).merges b) (next_of p s env))
-      && enters p s (next_of p s env) (stage_at p (next_of p s env)).branch)) ≡ true
+      && is_entered p s (next_of p s env) (stage_at p (next_of p s env)).branch)) ≡ true
   after_jump s env low = and_right (all_below (λ r. not (is_trunk p r) || not (nat_lt s r && nat_lt r (next_of p s env))) (length p.stages)) _ (after_inside s env low)
 
   last : (s : ℕ) (env : List ℕ) → s < length p.stages → next_of p s env ≡ length p.stages → Trunk p s × (suc s ≡ length p.stages)
@@ -149,7 +149,7 @@ module _ (p : Pipe) (h : sounds p ≡ true) where
 
   after_last : (s : ℕ) (env : List ℕ) → s < length p.stages
       → ((not (is_trunk p (next_of p s env) && nat_lt (next_of p s env) (length p.stages)) || all_below (λ b. is_passed p s b || is_in_merge p (stage_at p (next_of p s env)).merges b) (next_of p s env))
-      && enters p s (next_of p s env) (stage_at p (next_of p s env)).branch) ≡ true
+      && is_entered p s (next_of p s env) (stage_at p (next_of p s env)).branch) ≡ true
   after_last s env low = and_right (not (next_of p s env == length p.stages) || (is_trunk p s && (suc s == length p.stages))) _ (after_jump s env low)
 
   between : (s : ℕ) (env : List ℕ) (b : ℕ) → s < length p.stages → Trunk p (next_of p s env) → next_of p s env < length p.stages → Below p b s → b < next_of p s env
@@ -223,8 +223,8 @@ module _ (p : Pipe) (h : sounds p ≡ true) where
       let k : branch_passes p s (Some c) ≡ true = subst (λ o. branch_passes p s o ≡ true) i (and_left (branch_passes p s (stage_at p s).branch) _ (and_right (list_all (next_passes p s) (nexts p s)) _ (and_right (leads_in (length p.stages) (stage_at p s).next) _ (stage_ok s (in_low c s i))))) in
       (trunk_is p c.fork (and_left (is_trunk p c.fork) _ k), ltb-true _ _ (and_right (is_trunk p c.fork) _ k))
 
-  entered : (c : Branch) (s : ℕ) (env : List ℕ) → s < length p.stages → In p c (next_of p s env) → enters p s (next_of p s env) (Some c) ≡ true
-  entered c s env low i = subst (λ o. enters p s (next_of p s env) o ≡ true) i (and_right (not (is_trunk p (next_of p s env) && nat_lt (next_of p s env) (length p.stages)) || all_below (λ b. is_passed p s b || is_in_merge p (stage_at p (next_of p s env)).merges b) (next_of p s env)) _ (after_last s env low))
+  entered : (c : Branch) (s : ℕ) (env : List ℕ) → s < length p.stages → In p c (next_of p s env) → is_entered p s (next_of p s env) (Some c) ≡ true
+  entered c s env low i = subst (λ o. is_entered p s (next_of p s env) o ≡ true) i (and_right (not (is_trunk p (next_of p s env) && nat_lt (next_of p s env) (length p.stages)) || all_below (λ b. is_passed p s b || is_in_merge p (stage_at p (next_of p s env)).merges b) (next_of p s env)) _ (after_last s env low))
 
   stays_in : (c : Branch) (s : ℕ) (env : List ℕ) → s < length p.stages → In p c (next_of p s env) → (s ≡ c.fork) ⊎ (In p c s × (next_of p s env ≡ suc s))
   stays_in c s env low i =
@@ -290,7 +290,7 @@ module _ (p : Pipe) (h : sounds p ≡ true) where
 
   -- FORKS, BARRIERS AND PATHS
 
-  fork_ok : (s x a b : ℕ) → (stage_at p s).next ≡ Forks x a b → (nat_lt x p.vars && (none_of (binds x) (from (suc s) p.stmts) && none_of (fetches x) (in_stage s p.stmts))) ≡ true
+  fork_ok : (s x a b : ℕ) → (stage_at p s).next ≡ Forks x a b → (nat_lt x p.vars && (none_of (binds_var x) (from (suc s) p.stmts) && none_of (is_fetch_of x) (in_stage s p.stmts))) ≡ true
   fork_ok s x a b e =
       by_bool (nat_lt s (length p.stages)) _
       (λ i. subst (λ n. fork_sound p s n ≡ true) e (below_at (λ s. fork_sound p s (stage_at p s).next) (length p.stages) s all.1.1.1.1.1.0 (ltb-true _ _ i)))
@@ -343,7 +343,7 @@ module _ (p : Pipe) (h : sounds p ≡ true) where
       at (Goes to) e = ap (λ n. goes_to n (picks path (all_guards p) (start_env p []))) e ∙ sym (ap (λ n. goes_to n path) e)
       at (Forks x a b) e = ap (λ n. goes_to n (picks path (all_guards p) (start_env p []))) e ∙ ap (λ t. Some (if t then a else b)) (agrees path x (fork_guard s x a b e)) ∙ sym (ap (λ n. goes_to n path) e)
 
-  visits_same : (path : List ℕ) (s : ℕ) → visits p (picks path (all_guards p) (start_env p [])) s ≡ visits p path s
+  visits_same : (path : List ℕ) (s : ℕ) → visits_stage p (picks path (all_guards p) (start_env p [])) s ≡ visits_stage p path s
   visits_same path s = at (stage_at p s).branch
     where
       on : (c : Branch) (n : Next) → (stage_at p c.fork).next ≡ n → on_side (stage_at p c.fork).next c.first (picks path (all_guards p) (start_env p [])) ≡ on_side (stage_at p c.fork).next c.first path
@@ -358,12 +358,12 @@ module _ (p : Pipe) (h : sounds p ≡ true) where
   path_same : (path : List ℕ) → onpath (picks path (all_guards p) (start_env p [])) p.stmts ≡ onpath path p.stmts
   path_same path = path_agree (all_guards p) (picks path (all_guards p) (start_env p [])) path p.stmts (agrees path) (λ g k. among_append g (guard_vars p.stmts) (fork_guards p.stages) ∙ ap (λ b. b || among g (fork_guards p.stages)) k)
 
-  skips : (path : List ℕ) (s : ℕ) → s < length p.stages → visits p path s ≡ true → before (next_of p s path) (onpath path p.stmts) ≡ before (suc s) (onpath path p.stmts)
+  skips : (path : List ℕ) (s : ℕ) → s < length p.stages → visits_stage p path s ≡ true → before (next_of p s path) (onpath path p.stmts) ≡ before (suc s) (onpath path p.stmts)
   skips path s low on =
       let t = all_picks (skip_passes p) path (all_guards p) (start_env p []) all.1.1.1.1.1.1.1.0 in
       let k : none_between (suc s) (next_of p s path) (onpath path p.stmts) ≡ true =
       (λ i. none_between (suc s) (sym (next_same path s) i) (sym (path_same path) i))
-      ∙ where_true (visits p (picks path (all_guards p) (start_env p [])) s) _ (below_at (λ s. not (visits p (picks path (all_guards p) (start_env p [])) s) || none_between (suc s) (next_of p s (picks path (all_guards p) (start_env p []))) (onpath (picks path (all_guards p) (start_env p [])) p.stmts)) (length p.stages) s t low) (visits_same path s ∙ on) in
+      ∙ where_true (visits_stage p (picks path (all_guards p) (start_env p [])) s) _ (below_at (λ s. not (visits_stage p (picks path (all_guards p) (start_env p [])) s) || none_between (suc s) (next_of p s (picks path (all_guards p) (start_env p []))) (onpath (picks path (all_guards p) (start_env p [])) p.stmts)) (length p.stages) s t low) (visits_same path s ∙ on) in
       between_none (suc s) (next_of p s path) (onpath path p.stmts) (up s path low) k
 
   -- DELAYED READS
@@ -385,7 +385,7 @@ module _ (p : Pipe) (h : sounds p ≡ true) where
       (all_picks (blind_passes p) env (all_guards p) (start_env p []) all.1.1.1.1.1.1.1.1.1.1.1.1.1.1.1.1.1.0) (ltb-true _ _ i)) in
       hangs_none (all_guards p) (picks env (all_guards p) (start_env p [])) env env' (in_stage s p.stmts) (before (next_of p s env) p.stmts) (agrees env)
       (λ g j. among_append g (guard_vars p.stmts) (fork_guards p.stages) ∙ ap (λ b. b || among g (fork_guards p.stages)) (before_among (next_of p s env) g p.stmts j)) d k)
-      (λ i. all_same env env' (before (next_of p s env) p.stmts) (λ x. d x (ap (none_of (fetches x)) (none_past s p.stmts (ltb-false _ _ i) all.1.1.1.1.1.1.1.1.1.0))))
+      (λ i. all_same env env' (before (next_of p s env) p.stmts) (λ x. d x (ap (none_of (is_fetch_of x)) (none_past s p.stmts (ltb-false _ _ i) all.1.1.1.1.1.1.1.1.1.0))))
 
   fetch_here : (s : ℕ) (gs : List Guard) (op : Op) → fetch_sound p s gs op ≡ true → FetchIf p (λ m. fetch_stage m p.stmts) s gs op
   fetch_here s gs (DelayedRead x m a) k =
@@ -441,13 +441,13 @@ module _ (p : Pipe) (h : sounds p ≡ true) where
         unreleased = λ m past. let e : commit_stage p m ≡ length p.stages = commit_past (at_once p) (parts_paths (at_once p) all.0) m past in omega arith;
         guards_late = all.1.1.1.1.1.1.1.1.1.1.1.1.1.1.1.0;
         skips = skips;
-        fork_bound = λ s x a b e. and_left (none_of (binds x) (from (suc s) p.stmts)) _ (and_right (nat_lt x p.vars) _ (fork_ok s x a b e));
+        fork_bound = λ s x a b e. and_left (none_of (binds_var x) (from (suc s) p.stmts)) _ (and_right (nat_lt x p.vars) _ (fork_ok s x a b e));
         fork_known = λ s x a b e. ltb-true _ _ (and_left (nat_lt x p.vars) _ (fork_ok s x a b e));
-        fork_seen = λ s x a b e. and_right (none_of (binds x) (from (suc s) p.stmts)) _ (and_right (nat_lt x p.vars) _ (fork_ok s x a b e));
+        fork_seen = λ s x a b e. and_right (none_of (binds_var x) (from (suc s) p.stmts)) _ (and_right (nat_lt x p.vars) _ (fork_ok s x a b e));
         fetch = λ m. fetch_stage m p.stmts;
         fetch_ok = λ s. fetch_all s p.stmts all.1.1.1.1.1.1.1.1.0;
         fetch_blind = fetch_blind;
-        fetch_unseen = in_each unseen refl all.1.1.1.1.1.1.1.1.1.1.0;
+        fetch_unseen = in_each is_unseen refl all.1.1.1.1.1.1.1.1.1.1.0;
         fetch_alone = in_each fetch_apart refl all.1.1.1.1.1.1.1.1.1.1.1.0;
         fetch_inside = λ s e. where_true (suc s == length p.stages) _ (below_at (λ s. not (suc s == length p.stages) || none_of is_fetch (in_stage s p.stmts)) (length p.stages) s all.1.1.1.1.1.1.1.1.1.1.1.1.1.1.1.1.0 (omega arith)) (eq-eqb _ _ e);
       }

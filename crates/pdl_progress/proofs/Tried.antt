@@ -1,13 +1,13 @@
 -- Paths by the values of their guards: each agrees with one that a test goes through.
 use Rattle.std.proofs.Common.{◌≡◌, refl, sym, ap, ap₂, ◌∙◌, subst, ℕ, ◌≤◌, ◌<◌, Bool, true, false, ◌&&◌, ◌||◌, not, List, [], ◌∷◌, length, nat_lt, nat_le, ◌==◌, cond, if◌then◌else◌, arith, slice_index, slice_set, ltb-true, ltb-false, leb-false, eq-eqb}
 use Rattle.std.proofs.lemmas.Bool.{eqb-true, not-true}
-use Rattle.pdl_semantics.specs.Flat.{list_all, Stmt, Guard, takes, taken}
+use Rattle.pdl_semantics.specs.Flat.{list_all, Stmt, Guard, takes_branch, all_hold}
 use Rattle.pdl_semantics.specs.Stages.{onpath}
-use Rattle.pdl_derived.specs.Alone.{before, looked}
+use Rattle.pdl_derived.specs.Alone.{before, answered_op}
 use Rattle.pdl_facts.specs.Scans.{none_of}
-use Rattle.pdl_facts.specs.Facts.{DifferIn, fetches}
+use Rattle.pdl_facts.specs.Facts.{DifferIn, is_fetch_of}
 use Rattle.pdl_facts.specs.Checks.{vars_of, guard_vars}
-use Rattle.pdl_facts.specs.SoundChecks.{unfetched, none_hangs, all_paths, none_between}
+use Rattle.pdl_facts.specs.SoundChecks.{unfetched_guards, none_hangs, all_paths, none_between}
 use Rattle.pdl_derived.proofs.Writes.{and_left, and_right}
 use Rattle.pdl_progress.proofs.Rates.{picks, among, among_append, picked}
 use Rattle.pdl_word.proofs.Bools.{by_bool, by_or}
@@ -33,7 +33,7 @@ all_picks test path (g ∷ gs) e h = at (slice_index path g == 1) (all_picks tes
 abbrev pub Agree : List ℕ → List ℕ → List ℕ → Type 0
 Agree gs e f = (g : ℕ) → among g gs ≡ true → (slice_index e g == 1) ≡ (slice_index f g == 1)
 
-pub taken_agree : (gs : List ℕ) (e f : List ℕ) (hs : List Guard) → Agree gs e f → ((g : ℕ) → among g (vars_of hs) ≡ true → among g gs ≡ true) → taken hs e ≡ taken hs f
+pub taken_agree : (gs : List ℕ) (e f : List ℕ) (hs : List Guard) → Agree gs e f → ((g : ℕ) → among g (vars_of hs) ≡ true → among g gs ≡ true) → all_hold hs e ≡ all_hold hs f
 taken_agree gs e f [] a i = refl
 taken_agree gs e f (h ∷ hs) a i =
     ap₂ (λ b c. b && c) (ap (λ b. if h.first then b else not b) (a h.var (i h.var (ap (λ b. b || among h.var (vars_of hs)) (eq-eqb h.var h.var refl)))))
@@ -48,7 +48,7 @@ path_agree gs e f (x ∷ xs) a i =
 -- nothing stands between two stages
 pub between_none : (a b : ℕ) (xs : List Stmt) → a ≤ b → none_between a b xs ≡ true → before b xs ≡ before a xs
 between_none a b [] low h = refl
-between_none a b (x ∷ xs) low h = ap₂ (λ c l. cond c (record x { op = looked x.op } ∷ l) l) (at (nat_lt x.stage b) refl (nat_lt x.stage a) refl) (between_none a b xs low (and_right (not (nat_le a x.stage && nat_lt x.stage b)) _ h))
+between_none a b (x ∷ xs) low h = ap₂ (λ c l. cond c (record x { op = answered_op x.op } ∷ l) l) (at (nat_lt x.stage b) refl (nat_lt x.stage a) refl) (between_none a b xs low (and_right (not (nat_le a x.stage && nat_lt x.stage b)) _ h))
   where
     at : (c : Bool) → nat_lt x.stage b ≡ c → (d : Bool) → nat_lt x.stage a ≡ d → c ≡ d
     at true e true f = refl
@@ -82,35 +82,35 @@ agree_picks path gs e h g k = picked path gs e g (below gs h k) k
 
 -- GUARDS THAT A STAGE'S DELAYED READS DON'T DECIDE
 
-pub taken_other : (ys : List Stmt) (gs : List Guard) (env env' : List ℕ) → DifferIn ys env env' → taken (unfetched ys gs) env' ≡ taken (unfetched ys gs) env
+pub taken_other : (ys : List Stmt) (gs : List Guard) (env env' : List ℕ) → DifferIn ys env env' → all_hold (unfetched_guards ys gs) env' ≡ all_hold (unfetched_guards ys gs) env
 taken_other ys [] env env' d = refl
-taken_other ys (g ∷ gs) env env' d = at (none_of (fetches g.var) ys) refl (taken_other ys gs env env' d)
+taken_other ys (g ∷ gs) env env' d = at (none_of (is_fetch_of g.var) ys) refl (taken_other ys gs env env' d)
   where
-    at : (b : Bool) → none_of (fetches g.var) ys ≡ b → taken (unfetched ys gs) env' ≡ taken (unfetched ys gs) env
-        → taken (cond b (g ∷ unfetched ys gs) (unfetched ys gs)) env' ≡ taken (cond b (g ∷ unfetched ys gs) (unfetched ys gs)) env
-    at true e r = ap₂ (λ k b. takes g.first k && b) (d g.var e) r
+    at : (b : Bool) → none_of (is_fetch_of g.var) ys ≡ b → all_hold (unfetched_guards ys gs) env' ≡ all_hold (unfetched_guards ys gs) env
+        → all_hold (cond b (g ∷ unfetched_guards ys gs) (unfetched_guards ys gs)) env' ≡ all_hold (cond b (g ∷ unfetched_guards ys gs) (unfetched_guards ys gs)) env
+    at true e r = ap₂ (λ k b. takes_branch g.first k && b) (d g.var e) r
     at false e r = r
 
-pub all_unfetched : (ys : List Stmt) (gs : List Guard) → list_all (λ g. none_of (fetches g.var) ys) gs ≡ true → unfetched ys gs ≡ gs
+pub all_unfetched : (ys : List Stmt) (gs : List Guard) → list_all (λ g. none_of (is_fetch_of g.var) ys) gs ≡ true → unfetched_guards ys gs ≡ gs
 all_unfetched ys [] h = refl
-all_unfetched ys (g ∷ gs) h = ap₂ (λ b l. cond b (g ∷ l) l) (and_left (none_of (fetches g.var) ys) _ h) (all_unfetched ys gs (and_right (none_of (fetches g.var) ys) _ h))
+all_unfetched ys (g ∷ gs) h = ap₂ (λ b l. cond b (g ∷ l) l) (and_left (none_of (is_fetch_of g.var) ys) _ h) (all_unfetched ys gs (and_right (none_of (is_fetch_of g.var) ys) _ h))
 
-pub taken_fewer : (ys : List Stmt) (gs : List Guard) (env : List ℕ) → taken gs env ≡ true → taken (unfetched ys gs) env ≡ true
+pub taken_fewer : (ys : List Stmt) (gs : List Guard) (env : List ℕ) → all_hold gs env ≡ true → all_hold (unfetched_guards ys gs) env ≡ true
 taken_fewer ys [] env h = refl
-taken_fewer ys (g ∷ gs) env h = at (none_of (fetches g.var) ys) (taken_fewer ys gs env (and_right (takes g.first (slice_index env g.var)) _ h))
+taken_fewer ys (g ∷ gs) env h = at (none_of (is_fetch_of g.var) ys) (taken_fewer ys gs env (and_right (takes_branch g.first (slice_index env g.var)) _ h))
   where
-    at : (b : Bool) → taken (unfetched ys gs) env ≡ true → taken (cond b (g ∷ unfetched ys gs) (unfetched ys gs)) env ≡ true
-    at true r = ap₂ (λ a b. a && b) (and_left (takes g.first (slice_index env g.var)) _ h) r
+    at : (b : Bool) → all_hold (unfetched_guards ys gs) env ≡ true → all_hold (cond b (g ∷ unfetched_guards ys gs) (unfetched_guards ys gs)) env ≡ true
+    at true r = ap₂ (λ a b. a && b) (and_left (takes_branch g.first (slice_index env g.var)) _ h) r
     at false r = r
 
-pub not_taken : (ys : List Stmt) (gs : List Guard) (env : List ℕ) → taken (unfetched ys gs) env ≡ false → taken gs env ≡ false
-not_taken ys gs env h = by_bool (taken gs env) (taken gs env ≡ false) (λ e. absurd (clash (sym h ∙ taken_fewer ys gs env e))) (λ e. e)
+pub not_taken : (ys : List Stmt) (gs : List Guard) (env : List ℕ) → all_hold (unfetched_guards ys gs) env ≡ false → all_hold gs env ≡ false
+not_taken ys gs env h = by_bool (all_hold gs env) (all_hold gs env ≡ false) (λ e. absurd (clash (sym h ∙ taken_fewer ys gs env e))) (λ e. e)
 
-pub fewer_among : (g : ℕ) (ys : List Stmt) (gs : List Guard) → among g (vars_of (unfetched ys gs)) ≡ true → among g (vars_of gs) ≡ true
+pub fewer_among : (g : ℕ) (ys : List Stmt) (gs : List Guard) → among g (vars_of (unfetched_guards ys gs)) ≡ true → among g (vars_of gs) ≡ true
 fewer_among g ys [] h = h
-fewer_among g ys (x ∷ gs) h = at (none_of (fetches x.var) ys) h (fewer_among g ys gs)
+fewer_among g ys (x ∷ gs) h = at (none_of (is_fetch_of x.var) ys) h (fewer_among g ys gs)
   where
-    at : (b : Bool) → among g (vars_of (cond b (x ∷ unfetched ys gs) (unfetched ys gs))) ≡ true → (among g (vars_of (unfetched ys gs)) ≡ true → among g (vars_of gs) ≡ true) → among g (vars_of (x ∷ gs)) ≡ true
+    at : (b : Bool) → among g (vars_of (cond b (x ∷ unfetched_guards ys gs) (unfetched_guards ys gs))) ≡ true → (among g (vars_of (unfetched_guards ys gs)) ≡ true → among g (vars_of gs) ≡ true) → among g (vars_of (x ∷ gs)) ≡ true
     at true k go = by_or (x.var == g) _ _ k (λ e. ap (λ b. b || among g (vars_of gs)) e) (λ e. or_more (x.var == g) (go e))
     at false k go = or_more (x.var == g) (go k)
 
@@ -118,20 +118,20 @@ pub hangs_none : (gs : List ℕ) (path env env' : List ℕ) (ys zs : List Stmt) 
 hangs_none gs path env env' ys [] a i d h = refl
 hangs_none gs path env env' ys (z ∷ zs) a i d h =
     ap₂ (λ b l. cond b (record z { guards = [] } ∷ l) l)
-    (by_or (list_all (λ g. none_of (fetches g.var) ys) z.guards) (not (taken (unfetched ys z.guards) path)) _ (and_left _ (none_hangs path ys zs) h)
-    (λ e. sym (ap (λ l. taken l env') (all_unfetched ys z.guards e)) ∙ taken_other ys z.guards env env' d ∙ ap (λ l. taken l env) (all_unfetched ys z.guards e))
+    (by_or (list_all (λ g. none_of (is_fetch_of g.var) ys) z.guards) (not (all_hold (unfetched_guards ys z.guards) path)) _ (and_left _ (none_hangs path ys zs) h)
+    (λ e. sym (ap (λ l. all_hold l env') (all_unfetched ys z.guards e)) ∙ taken_other ys z.guards env env' d ∙ ap (λ l. all_hold l env) (all_unfetched ys z.guards e))
     (λ e.
-    let off : taken (unfetched ys z.guards) env ≡ false =
-    sym (taken_agree gs path env (unfetched ys z.guards) a (λ g k. i g (among_append g (vars_of z.guards) (guard_vars zs) ∙ ap (λ b. b || among g (guard_vars zs)) (fewer_among g ys z.guards k)))) ∙ not-true _ e in
+    let off : all_hold (unfetched_guards ys z.guards) env ≡ false =
+    sym (taken_agree gs path env (unfetched_guards ys z.guards) a (λ g k. i g (among_append g (vars_of z.guards) (guard_vars zs) ∙ ap (λ b. b || among g (guard_vars zs)) (fewer_among g ys z.guards k)))) ∙ not-true _ e in
     not_taken ys z.guards env' (taken_other ys z.guards env env' d ∙ off) ∙ sym (not_taken ys z.guards env off)))
     (hangs_none gs path env env' ys zs a (λ g k. i g (among_append g (vars_of z.guards) (guard_vars zs) ∙ or_more (among g (vars_of z.guards)) k)) d
-    (and_right (list_all (λ g. none_of (fetches g.var) ys) z.guards || not (taken (unfetched ys z.guards) path)) _ h))
+    (and_right (list_all (λ g. none_of (is_fetch_of g.var) ys) z.guards || not (all_hold (unfetched_guards ys z.guards) path)) _ h))
 
 pub before_among : (n g : ℕ) (xs : List Stmt) → among g (guard_vars (before n xs)) ≡ true → among g (guard_vars xs) ≡ true
 before_among n g [] h = h
 before_among n g (x ∷ xs) h = at (nat_lt x.stage n) h (before_among n g xs)
   where
-    at : (b : Bool) → among g (guard_vars (cond b (record x { op = looked x.op } ∷ before n xs) (before n xs))) ≡ true → (among g (guard_vars (before n xs)) ≡ true → among g (guard_vars xs) ≡ true) → among g (guard_vars (x ∷ xs)) ≡ true
+    at : (b : Bool) → among g (guard_vars (cond b (record x { op = answered_op x.op } ∷ before n xs) (before n xs))) ≡ true → (among g (guard_vars (before n xs)) ≡ true → among g (guard_vars xs) ≡ true) → among g (guard_vars (x ∷ xs)) ≡ true
     at true k go =
         among_append g (vars_of x.guards) (guard_vars xs)
         ∙ by_or (among g (vars_of x.guards)) (among g (guard_vars (before n xs))) _ (sym (among_append g (vars_of x.guards) (guard_vars (before n xs))) ∙ k)

@@ -5,13 +5,13 @@ use Rattle.std.proofs.Common.{ltb-false, lt-ltb, le_of_eq, le_refl, le_of_lt, lt
 use Rattle.pdl_semantics.specs.Flat.{Arrays, Pipe, Branch, of_mem, list_all, start_env}
 use Rattle.pdl_semantics.specs.Stages.{stage_at, mem_at, goes_to, commit_stage, reserve_stage}
 use Rattle.pdl_semantics.specs.Locks.{Nothing}
-use Rattle.pdl_semantics.specs.Machine.{Ask, answers}
+use Rattle.pdl_semantics.specs.Machine.{Ask, is_answered}
 use Rattle.pdl_semantics.specs.Cycle.{awaited_of}
 use Rattle.pdl_semantics.specs.Moves.{is_empty}
 use Rattle.pdl_semantics.specs.Sequential.{thread}
 use Rattle.pdl_semantics.specs.Promises.{wrote, row}
-use Rattle.pdl_derived.specs.Derived.{Work, Thread, State, Act, works, around, act, acts, latest, latest_in, befores, can_enter, commits_of, asks_of, find_ask, next_asks, moved_to, fresh, answered, awaits_mem}
-use Rattle.pdl_derived.specs.Alone.{so_far, placed}
+use Rattle.pdl_derived.specs.Derived.{Work, Thread, State, Act, work_of_stage, around, act, acts, latest, latest_in, befores, can_enter, commits_of, asks_of, find_ask, next_asks, moved_to, fresh, answered_thread, awaits_mem}
+use Rattle.pdl_derived.specs.Alone.{so_far, thread_at}
 use Rattle.pdl_derived.proofs.Writes.{and_left, and_right, wrote_append}
 use Rattle.pdl_turns.proofs.Marks.{seen, strips, Later, later_more, later_strips, later_ready, raised_refl, seen_append, strips_append}
 use Rattle.pdl_turns.proofs.Pending.{marks}
@@ -36,10 +36,10 @@ abbrev pub NowAsks : List Ask → (ℕ → Option ℕ) → List Act → Type 0
 NowAsks all older these = (m : ℕ) → find_ask all m ≡ or_ask (older m) (find_ask (asks_of these) m)
 
 -- the end of a chain of the four tests of a thread that moves
-pub moves_ready : (p : Pipe) (st : State) (bits : List Bool) (older : List Act) (t : Thread) → (act p st bits older t).moves ≡ true → (works p (around p st bits older t.stage) (answered p st bits t)).ready ≡ true
+pub moves_ready : (p : Pipe) (st : State) (bits : List Bool) (older : List Act) (t : Thread) → (act p st bits older t).moves ≡ true → (work_of_stage p (around p st bits older t.stage) (answered_thread p st bits t)).ready ≡ true
 moves_ready p st bits older t e = and_right _ _ (and_left _ _ (and_left _ _ e))
 
-pub moves_answered : (p : Pipe) (st : State) (bits : List Bool) (older : List Act) (t : Thread) → (act p st bits older t).moves ≡ true → is_empty (answered p st bits t).awaits ≡ true
+pub moves_answered : (p : Pipe) (st : State) (bits : List Bool) (older : List Act) (t : Thread) → (act p st bits older t).moves ≡ true → is_empty (answered_thread p st bits t).awaits ≡ true
 moves_answered p st bits older t e = and_right _ _ (and_left _ _ e)
 
 -- where a turn stands after it moved from stage s
@@ -208,7 +208,7 @@ module _ (p : Pipe) (acc : Course p) (image : Arrays) (st : State) (bits : List 
               record {
                 gets = answers_caught p st bits arrays sp.asks sp.env h.waits.apart (words_right p acc image st past rows older v v' d w asks arrays args ahead ahead' sp last rows' b h) ∙ h.waits.gets;
                 apart = apart_still p bits sp.asks h.waits.apart;
-                out = all_out p bits all st.asked sp.asks h.waits.out (all_more (λ q. Out st.asked q × Sure p acc v sp.stage q) (λ q. answers p bits q.mem ≡ false → find_ask all q.mem ≡ None) sp.asks quiet_ask (all_both (Out st.asked) (Sure p acc v sp.stage) sp.asks h.waits.out h.waits.sure));
+                out = all_out p bits all st.asked sp.asks h.waits.out (all_more (λ q. Out st.asked q × Sure p acc v sp.stage q) (λ q. is_answered p bits q.mem ≡ false → find_ask all q.mem ≡ None) sp.asks quiet_ask (all_both (Out st.asked) (Sure p acc v sp.stage) sp.asks h.waits.out h.waits.sure));
                 sure = all_still (Sure p acc v' sp.stage) p bits sp.asks (all_more (Sure p acc v sp.stage) (Sure p acc v' sp.stage) sp.asks sure_later h.waits.sure);
               };
         }
@@ -220,7 +220,7 @@ module _ (p : Pipe) (acc : Course p) (image : Arrays) (st : State) (bits : List 
         sure_later q k = record { clean = clean_later q.mem q.address k.clean; early = k.early; exact = k.exact; low = k.low; env = k.env; next = k.next }
 
         -- nobody asks anew for what it still awaits
-        quiet_ask : (q : Ask) → Out st.asked q × Sure p acc v sp.stage q → answers p bits q.mem ≡ false → find_ask all q.mem ≡ None
+        quiet_ask : (q : Ask) → Out st.asked q × Sure p acc v sp.stage q → is_answered p bits q.mem ≡ false → find_ask all q.mem ≡ None
         quiet_ask q k e =
             nowa q.mem
             ∙ ap (λ t. or_ask (asks q.mem) (find_ask (cond t ((act p st bits older (seat p arrays args sp)).work.asks ++ asks_of rest) (asks_of rest)) q.mem)) stays
@@ -233,24 +233,24 @@ module _ (p : Pipe) (acc : Course p) (image : Arrays) (st : State) (bits : List 
 
     -- where it moves
     module _ (e : (act p st bits older (seat p arrays args sp)).moves ≡ true) where
-      pub now_placed : answered p st bits (seat p arrays args sp) ≡ placed p arrays args sp.stage
+      pub now_placed : answered_thread p st bits (seat p arrays args sp) ≡ thread_at p arrays args sp.stage
       now_placed = whole_now p acc image st past rows bits older v v' d w asks arrays args ahead ahead' sp last rows' b h (moves_answered p st bits older (seat p arrays args sp) e)
 
-      alike_here : (works p (around p st bits older sp.stage) (placed p arrays args sp.stage) ≡ stage_work p arrays args sp.stage)
+      alike_here : (work_of_stage p (around p st bits older sp.stage) (thread_at p arrays args sp.stage) ≡ stage_work p arrays args sp.stage)
           × Right p sp.stage (Clean p v) (blocked_at p arrays args (next_at p arrays args sp.stage)) (so_far p arrays args (next_at p arrays args sp.stage)).env
           × AllAsks (λ q. Clean p v q.mem q.address) (stage_work p arrays args sp.stage).asks
       alike_here =
           acc.here_alike arrays args (around p st bits older sp.stage) sp.stage (Clean p v) h.on low_here (surrounds p acc image st past rows bits older v v' d w asks arrays args ahead ahead' sp last rows' b h) (plain_clean p v)
-          (subst (λ t. (works p (around p st bits older sp.stage) t).ready ≡ true) now_placed (moves_ready p st bits older (seat p arrays args sp) e)) h.clean
+          (subst (λ t. (work_of_stage p (around p st bits older sp.stage) t).ready ≡ true) now_placed (moves_ready p st bits older (seat p arrays args sp) e)) h.clean
 
       pub work_same : (act p st bits older (seat p arrays args sp)).work ≡ stage_work p arrays args sp.stage
-      work_same = ap (works p (around p st bits older sp.stage)) now_placed ∙ alike_here.0
+      work_same = ap (work_of_stage p (around p st bits older sp.stage)) now_placed ∙ alike_here.0
 
       pub commits_quiet : (m : ℕ) → sp.stage ≢ commit_stage p m → of_mem m (act p st bits older (seat p arrays args sp)).work.commits ≡ []
-      commits_quiet = acc.quiet_at (around p st bits older sp.stage) (answered p st bits (seat p arrays args sp))
+      commits_quiet = acc.quiet_at (around p st bits older sp.stage) (answered_thread p st bits (seat p arrays args sp))
 
       pub asks_here : (m : ℕ) → is_some (find_ask (act p st bits older (seat p arrays args sp)).work.asks m) ≡ true → sp.stage ≡ acc.fetch m
-      asks_here = acc.asks_at (around p st bits older sp.stage) (answered p st bits (seat p arrays args sp))
+      asks_here = acc.asks_at (around p st bits older sp.stage) (answered_thread p st bits (seat p arrays args sp))
 
       can_go : can_enter p older (goes_to (stage_at p sp.stage).next (act p st bits older (seat p arrays args sp)).work.env) ≡ true
       can_go = and_right _ _ e

@@ -4,13 +4,13 @@ use Rattle.std.specs.List.{AllByRecursion, IsDistinct, list_any}
 use Rattle.std.proofs.lemmas.Map.Steps.{length-le_from_distinct_below}
 use Rattle.std.proofs.lemmas.Bool.{eqb-true, ne_eqb}
 use Rattle.std.proofs.Common.{eqb}
-use Rattle.pdl_semantics.specs.Flat.{Arrays, Pipe, Mem, Branch, Commit, of_mem, committed}
+use Rattle.pdl_semantics.specs.Flat.{Arrays, Pipe, Mem, Branch, Commit, of_mem, after_commits}
 use Rattle.pdl_semantics.specs.Stages.{mem_at, commit_stage}
 use Rattle.pdl_semantics.specs.Cycle.{awaited_of}
 use Rattle.pdl_semantics.specs.Machine.{Ask}
 use Rattle.pdl_semantics.specs.Sequential.{thread, writes_from, seqwrites, after_turns}
 use Rattle.pdl_semantics.specs.Promises.{wrote, row, IsPrefix}
-use Rattle.pdl_derived.specs.Derived.{Work, Thread, State, Act, acts, all_acts, survivors, commits_of, asks_of, next_asks, cycle, after, first, nothing_asked, turns, turns_from, state_after, all_commits, ended_in, is_wait}
+use Rattle.pdl_derived.specs.Derived.{Work, Thread, State, Act, acts, all_acts, survivors, commits_of, asks_of, next_asks, cycle, after_acts, first, nothing_asked, turns, turns_from, state_after, all_commits, ended_in, is_wait}
 use Rattle.pdl_derived.specs.Alone.{so_far, Refines, Advances, oldest_moves}
 use Rattle.pdl_facts.specs.Scans.{is_plain}
 use Rattle.pdl_derived.proofs.Oldest.{oldest, Asked}
@@ -34,7 +34,7 @@ pub record Runs (p : Pipe) (acc : Course p) (image : Arrays) (n : ℕ) (past : L
   pub strays : List Thread
   pub threads : st.threads ≡ seats p (after_turns p image n).arrays (after_turns p image n).next spots ++ strays
   pub tail : Tail p acc.stray acc.made (after_turns p image n).arrays (after_turns p image n).next spots strays
-  pub arrays : st.arrays ≡ committed image past
+  pub arrays : st.arrays ≡ after_commits image past
   pub standing : Standing p acc st.asked (λ m. of_mem m past) (λ m. of_mem m (writes_from p n image p.start)) (λ m. []) (after_turns p image n).arrays (after_turns p image n).next (length p.stages ∷ []) spots
   pub live : is_nil spots ≡ false
   pub known : length st.asked ≡ length p.mems
@@ -126,7 +126,7 @@ module _ (p : Pipe) (acc : Course p) where
 
   -- the state after a cycle, by what its threads did
   runs_after : (image : Arrays) (n : ℕ) (past : List Commit) (st' : State) (these : List Act)
-      → st'.threads ≡ survivors p these → st'.arrays ≡ committed image (past ++ commits_of these) → length st'.asked ≡ length p.mems
+      → st'.threads ≡ survivors p these → st'.arrays ≡ after_commits image (past ++ commits_of these) → length st'.asked ≡ length p.mems
       → Turned p acc st'.asked (λ m. of_mem m (past ++ commits_of these)) (λ m. of_mem m (writes_from p n image p.start)) (λ m. []) (after_turns p image n).arrays (after_turns p image n).next (length p.stages ∷ []) (suc (length p.stages) ∷ []) these
       → Runs p acc image (if ends_one p these then suc n else n) (past ++ commits_of these) st'
   runs_after image n past st' these e f known t = at t.spots t.strays t.threads t.standing t.tail t.some t.ended
@@ -177,10 +177,10 @@ module _ (p : Pipe) (acc : Course p) where
 
   -- a cycle
   pub runs_cycle : (image : Arrays) (n : ℕ) (past : List Commit) (st : State) (bits : List Bool) → Runs p acc image n past st
-      → Runs p acc image (if ends_one p (all_acts p st bits) then suc n else n) (past ++ commits_of (all_acts p st bits)) (after p st bits (all_acts p st bits))
+      → Runs p acc image (if ends_one p (all_acts p st bits) then suc n else n) (past ++ commits_of (all_acts p st bits)) (after_acts p st bits (all_acts p st bits))
   runs_cycle image n past st bits r =
-      runs_after image n past (after p st bits (all_acts p st bits)) (all_acts p st bits) refl
-      (ap (λ l. committed l (commits_of (all_acts p st bits))) r.arrays ∙ sym (committed_append past (commits_of (all_acts p st bits)) image))
+      runs_after image n past (after_acts p st bits (all_acts p st bits)) (all_acts p st bits) refl
+      (ap (λ l. after_commits l (commits_of (all_acts p st bits))) r.arrays ∙ sym (committed_append past (commits_of (all_acts p st bits)) image))
       (requests_length p bits (asks_of (all_acts p st bits)) 0 st.asked ∙ r.known)
       (subst (λ ts. Turned p acc (next_asks p bits (asks_of (acts p st bits [] ts)) 0 st.asked) (λ m. of_mem m (past ++ commits_of (acts p st bits [] ts))) (λ m. of_mem m (writes_from p n image p.start)) (λ m. []) (after_turns p image n).arrays (after_turns p image n).next (length p.stages ∷ []) (suc (length p.stages) ∷ []) (acts p st bits [] ts)) (sym r.threads)
       (turned p acc image st bits (λ m. of_mem m past) (λ m. of_mem m (past ++ commits_of (acts p st bits [] (seats p (after_turns p image n).arrays (after_turns p image n).next r.spots ++ r.strays)))) (asks_of (acts p st bits [] (seats p (after_turns p image n).arrays (after_turns p image n).next r.spots ++ r.strays)))

@@ -8,8 +8,8 @@ use Rattle.pdl_semantics.specs.Cycle.{awaited_of}
 use Rattle.pdl_semantics.specs.Moves.{is_empty}
 use Rattle.pdl_semantics.specs.Sequential.{thread}
 use Rattle.pdl_semantics.specs.Promises.{wrote, row}
-use Rattle.pdl_derived.specs.Derived.{Thread, State, Act, around, latest, befores, answered, with_answers}
-use Rattle.pdl_derived.specs.Alone.{so_far, placed}
+use Rattle.pdl_derived.specs.Derived.{Thread, State, Act, around, latest, befores, answered_thread, with_answers}
+use Rattle.pdl_derived.specs.Alone.{so_far, thread_at}
 use Rattle.pdl_derived.proofs.Writes.{wrote_append}
 use Rattle.pdl_facts.specs.Scans.{is_plain}
 use Rattle.pdl_turns.proofs.Marks.{seen, strips, Later, ready_value}
@@ -59,7 +59,7 @@ is_nil (sp ∷ sps) = false
 abbrev pub now_spot : Pipe → State → List Bool → Spot → Spot
 now_spot p st bits sp = record { stage = sp.stage; env = with_answers p st bits (awaited_of sp.asks) sp.env; asks = still_asks p bits sp.asks }
 
-pub now_seat : (p : Pipe) (st : State) (bits : List Bool) (arrays : Arrays) (args : List ℕ) (sp : Spot) → answered p st bits (seat p arrays args sp) ≡ seat p arrays args (now_spot p st bits sp)
+pub now_seat : (p : Pipe) (st : State) (bits : List Bool) (arrays : Arrays) (args : List ℕ) (sp : Spot) → answered_thread p st bits (seat p arrays args sp) ≡ seat p arrays args (now_spot p st bits sp)
 now_seat p st bits arrays args sp =
     ap (λ l. record {
       stage = sp.stage;
@@ -173,7 +173,7 @@ module _ (p : Pipe) (acc : Course p) (image : Arrays) (st : State) (past : Write
 
   -- a thread with all answers is on its turn
   pub whole_now : (bits : List Bool) (older : List Act) (v v' : Marks) (d w : Writes) (asks : ℕ → Option ℕ) (arrays : Arrays) (args : List ℕ) (ahead ahead' : List ℕ) (sp : Spot) (last : Bool) → RowsAt image w arrays → Behind p acc older v v' d asks ahead ahead' → Here p acc st.asked past w v arrays args ahead sp last
-      → is_empty (answered p st bits (seat p arrays args sp)).awaits ≡ true → answered p st bits (seat p arrays args sp) ≡ placed p arrays args sp.stage
+      → is_empty (answered_thread p st bits (seat p arrays args sp)).awaits ≡ true → answered_thread p st bits (seat p arrays args sp) ≡ thread_at p arrays args sp.stage
   whole_now bits older v v' d w asks arrays args ahead ahead' sp last rows' b h e =
       let none : still_asks p bits sp.asks ≡ [] = none_awaited (still_asks p bits sp.asks) (ap is_empty (sym (still_awaited p bits sp.asks)) ∙ e) in
       let right = answers_caught p st bits arrays sp.asks sp.env h.waits.apart (words_right older v v' d w asks arrays args ahead ahead' sp last rows' b h) in

@@ -7,7 +7,7 @@ use Rattle.pdl_semantics.specs.Flat.{Arrays, Pipe, of_mem}
 use Rattle.pdl_semantics.specs.Stages.{stage_at, goes_to, commit_stage}
 use Rattle.pdl_semantics.specs.Machine.{Ask, same_args}
 use Rattle.pdl_semantics.specs.Sequential.{thread}
-use Rattle.pdl_derived.specs.Derived.{Work, Thread, State, Act, act, acts, befores, survivors, commits_of, next_asks, moved_to, born, fresh, exit_of, barrier_clear}
+use Rattle.pdl_derived.specs.Derived.{Work, Thread, State, Act, act, acts, befores, survivors, commits_of, next_asks, moved_to, born_threads, fresh, exit_of, barrier_clear}
 use Rattle.pdl_derived.specs.Alone.{so_far}
 use Rattle.pdl_derived.proofs.Stages.{or_else}
 use Rattle.pdl_turns.proofs.Marks.{strips, later_strips, later_more, raised_refl}
@@ -42,12 +42,12 @@ module _ (p : Pipe) (acc : Course p) where
   -- the threads that a stage's work leaves: itself in the next stage, and what it made
   after_move : (arrays : Arrays) (args : List ℕ) (s : ℕ) (a : Act) (rest : List Act) → acc.on arrays args s → s < length p.stages → a.moves ≡ true → a.now.stage ≡ s
       → a.work ≡ stage_work p arrays args s → (c : Option (List ℕ)) → (stage_work p arrays args s).child ≡ c → (f : Bool) → (stage_work p arrays args s).fails ≡ f
-      → survivors p (a ∷ rest) ≡ (cond (nat_lt (next_at p arrays args s) (length p.stages)) (seat p arrays args (moved_spot p arrays args s) ∷ []) []) ++ (born p c ++ cond f [] (survivors p rest))
+      → survivors p (a ∷ rest) ≡ (cond (nat_lt (next_at p arrays args s) (length p.stages)) (seat p arrays args (moved_spot p arrays args s) ∷ []) []) ++ (born_threads p c ++ cond f [] (survivors p rest))
   after_move arrays args s a rest on low goes is same c child f fails =
-      ap (λ b. cond b (moved_to (exit_of p a) a.work ++ (born p a.work.child ++ (if a.work.fails then [] else survivors p rest))) (a.now ∷ survivors p rest)) goes
-      ∙ ap (λ n. moved_to (goes_to (stage_at p n).next a.work.env) a.work ++ (born p a.work.child ++ (if a.work.fails then [] else survivors p rest))) is
-      ∙ ap (λ l. l ++ (born p a.work.child ++ (if a.work.fails then [] else survivors p rest))) (moved_thread p acc arrays args s a.work on low same)
-      ∙ ap₂ (λ x g. (cond (nat_lt (next_at p arrays args s) (length p.stages)) (seat p arrays args (moved_spot p arrays args s) ∷ []) []) ++ (born p x ++ cond g [] (survivors p rest))) (ap (λ (k : Work). k.child) same ∙ child) (ap (λ (k : Work). k.fails) same ∙ fails)
+      ap (λ b. cond b (moved_to (exit_of p a) a.work ++ (born_threads p a.work.child ++ (if a.work.fails then [] else survivors p rest))) (a.now ∷ survivors p rest)) goes
+      ∙ ap (λ n. moved_to (goes_to (stage_at p n).next a.work.env) a.work ++ (born_threads p a.work.child ++ (if a.work.fails then [] else survivors p rest))) is
+      ∙ ap (λ l. l ++ (born_threads p a.work.child ++ (if a.work.fails then [] else survivors p rest))) (moved_thread p acc arrays args s a.work on low same)
+      ∙ ap₂ (λ x g. (cond (nat_lt (next_at p arrays args s) (length p.stages)) (seat p arrays args (moved_spot p arrays args s) ∷ []) []) ++ (born_threads p x ++ cond g [] (survivors p rest))) (ap (λ (k : Work). k.child) same ∙ child) (ap (λ (k : Work). k.fails) same ∙ fails)
 
   -- one thread, and the next turn's
   shown_two : (arrays : Arrays) (args : List ℕ) (sp : Spot) (x : List ℕ) → x ≡ (thread p arrays args).next
@@ -224,7 +224,7 @@ module _ (p : Pipe) (acc : Course p) (image : Arrays) (st : State) (bits : List 
           spots = now_spot p st bits sp ∷ [];
           strays = survivors p (acts p st bits (act p st bits older (seat p arrays args sp) ∷ older) strays);
           threads =
-              ap (λ c. cond c (moved_to (exit_of p a) a.work ++ (born p a.work.child ++ (if a.work.fails then [] else survivors p rest))) (a.now ∷ survivors p rest)) stays
+              ap (λ c. cond c (moved_to (exit_of p a) a.work ++ (born_threads p a.work.child ++ (if a.work.fails then [] else survivors p rest))) (a.now ∷ survivors p rest)) stays
               ∙ ap (λ t. t ∷ survivors p rest) (now_seat p st bits arrays args sp)
               ∙ ap (λ c. (cond c (seat p arrays args (now_spot p st bits sp) ∷ []) [] ++ []) ++ survivors p rest) (sym (lt-ltb sp.stage (length p.stages) low));
           standing = (
@@ -259,7 +259,7 @@ module _ (p : Pipe) (acc : Course p) (image : Arrays) (st : State) (bits : List 
           spots = now_spot p st bits sp ∷ t.spots;
           strays = t.strays;
           threads =
-              ap (λ c. cond c (moved_to (exit_of p a) a.work ++ (born p a.work.child ++ (if a.work.fails then [] else survivors p rest))) (a.now ∷ survivors p rest)) stays
+              ap (λ c. cond c (moved_to (exit_of p a) a.work ++ (born_threads p a.work.child ++ (if a.work.fails then [] else survivors p rest))) (a.now ∷ survivors p rest)) stays
               ∙ ap₂ (λ x xs. x ∷ xs) (now_seat p st bits arrays args sp) t.threads
               ∙ ap (λ c. (cond c (seat p arrays args (now_spot p st bits sp) ∷ []) [] ++ shown p (thread p arrays args).arrays (thread p arrays args).next t.spots) ++ t.strays) (sym (lt-ltb sp.stage (length p.stages) low));
           standing = (

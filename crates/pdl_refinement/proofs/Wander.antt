@@ -4,7 +4,7 @@ use Rattle.pdl_semantics.specs.Flat.{Pipe}
 use Rattle.pdl_semantics.specs.Stages.{list_any, verify_stage}
 use Rattle.pdl_semantics.specs.Machine.{Awaited}
 use Rattle.pdl_semantics.specs.Moves.{is_empty}
-use Rattle.pdl_derived.specs.Derived.{Thread, State, Act, works, around, act, acts, befores, survivors, commits_of, moved_to, born, exit_of, barrier_clear, answered}
+use Rattle.pdl_derived.specs.Derived.{Thread, State, Act, work_of_stage, around, act, acts, befores, survivors, commits_of, moved_to, born_threads, exit_of, barrier_clear, answered_thread}
 use Rattle.pdl_derived.proofs.Writes.{and_left, and_right}
 use Rattle.pdl_turns.proofs.TurnFacts.{Below, Trunk, next_of}
 use Rattle.pdl_turns.proofs.Strays.{Ahead, enter_next, step_below}
@@ -40,7 +40,7 @@ stray_stands p f a rest bound' none stays s low made r =
     }
   where
     survive : survivors p (a ∷ rest) ≡ a.now ∷ survivors p rest
-    survive = ap (λ b. cond b (moved_to (exit_of p a) a.work ++ (born p a.work.child ++ (if a.work.fails then [] else survivors p rest))) (a.now ∷ survivors p rest)) stays
+    survive = ap (λ b. cond b (moved_to (exit_of p a) a.work ++ (born_threads p a.work.child ++ (if a.work.fails then [] else survivors p rest))) (a.now ∷ survivors p rest)) stays
 
 -- one that moves
 stray_moves : (p : Pipe) (f : Course p) (t : Thread) (a : Act) (rest : List Act) (bound' n : ℕ) (none : Bool)
@@ -55,11 +55,11 @@ stray_moves p f t a rest bound' n none goes h out is more low made r =
       same = ap nobody survive;
     }
   where
-    survive : survivors p (a ∷ rest) ≡ onward n a.work ∷ (born p a.work.child ++ survivors p rest)
+    survive : survivors p (a ∷ rest) ≡ onward n a.work ∷ (born_threads p a.work.child ++ survivors p rest)
     survive =
-        ap (λ b. cond b (moved_to (exit_of p a) a.work ++ (born p a.work.child ++ (if a.work.fails then [] else survivors p rest))) (a.now ∷ survivors p rest)) goes
-        ∙ ap (λ x. moved_to x a.work ++ (born p a.work.child ++ (if a.work.fails then [] else survivors p rest))) out
-        ∙ ap (λ b. onward n a.work ∷ (born p a.work.child ++ cond b [] (survivors p rest))) h.fails
+        ap (λ b. cond b (moved_to (exit_of p a) a.work ++ (born_threads p a.work.child ++ (if a.work.fails then [] else survivors p rest))) (a.now ∷ survivors p rest)) goes
+        ∙ ap (λ x. moved_to x a.work ++ (born_threads p a.work.child ++ (if a.work.fails then [] else survivors p rest))) out
+        ∙ ap (λ b. onward n a.work ∷ (born_threads p a.work.child ++ cond b [] (survivors p rest))) h.fails
 
     begins : Below p n 0
     begins r trunk k = omega arith
@@ -71,22 +71,22 @@ stray_moves p f t a rest bound' n none goes h out is more low made r =
         clash : None ≡ Some x → ⊥
         clash i = cc
 
-    linked : (c : Option (List ℕ)) → a.work.child ≡ c → (b : Bool) → none ≡ b → (f.made t || is_some a.work.child) ≡ not (nobody (born p a.work.child ++ survivors p rest))
-    linked None e b g = ap (λ c. f.made t || is_some c) e ∙ or_none (f.made t) ∙ made ∙ ap not (sym r.same) ∙ ap (λ c. not (nobody (born p c ++ survivors p rest))) (sym e)
+    linked : (c : Option (List ℕ)) → a.work.child ≡ c → (b : Bool) → none ≡ b → (f.made t || is_some a.work.child) ≡ not (nobody (born_threads p a.work.child ++ survivors p rest))
+    linked None e b g = ap (λ c. f.made t || is_some c) e ∙ or_none (f.made t) ∙ made ∙ ap not (sym r.same) ∙ ap (λ c. not (nobody (born_threads p c ++ survivors p rest))) (sym e)
       where
         or_none : (x : Bool) → (x || false) ≡ x
         or_none true = refl
         or_none false = refl
-    linked (Some x) e b g = ap (λ c. f.made t || is_some c) e ∙ or_some (f.made t) ∙ ap (λ c. not (nobody (born p c ++ survivors p rest))) (sym e)
+    linked (Some x) e b g = ap (λ c. f.made t || is_some c) e ∙ or_some (f.made t) ∙ ap (λ c. not (nobody (born_threads p c ++ survivors p rest))) (sym e)
       where
         or_some : (y : Bool) → (y || true) ≡ true
         or_some true = refl
         or_some false = refl
 
-    behind : (c : Option (List ℕ)) → a.work.child ≡ c → (b : Bool) → none ≡ b → Strays p f.stray f.made n (born p a.work.child ++ survivors p rest)
-    behind None e b g = subst (λ c. Strays p f.stray f.made n (born p c ++ survivors p rest)) (sym e) r.strays
+    behind : (c : Option (List ℕ)) → a.work.child ≡ c → (b : Bool) → none ≡ b → Strays p f.stray f.made n (born_threads p a.work.child ++ survivors p rest)
+    behind None e b g = subst (λ c. Strays p f.stray f.made n (born_threads p c ++ survivors p rest)) (sym e) r.strays
     behind (Some x) e b g =
-        subst (λ c. Strays p f.stray f.made n (born p c ++ survivors p rest)) (sym e)
+        subst (λ c. Strays p f.stray f.made n (born_threads p c ++ survivors p rest)) (sym e)
         ((h.born x e).0, begins, (h.born x e).1 ∙ ap not (sym (r.same ∙ alone' x e b g)), subst (λ l. Strays p f.stray f.made 0 l) (sym (empty (survivors p rest) (r.same ∙ alone' x e b g))) tt)
       where
         empty : (l : List Thread) → nobody l ≡ true → l ≡ []
@@ -109,14 +109,14 @@ strays_cycle p f vis st bits older bound bound' (t ∷ ts) h s =
     let low : t.stage < length p.stages = omega arith in
     by_bool (act p st bits older t).moves (StraysAfter p f.stray f.made bound' false (acts p st bits older (t ∷ ts)))
     (λ e.
-    let ready : (works p (around p st bits older t.stage) (answered p st bits t)).ready ≡ true = and_right _ _ (and_left _ _ (and_left _ _ e)) in
-    let done : (answered p st bits t).awaits ≡ [] = none_left _ (and_right _ _ (and_left _ _ e)) in
+    let ready : (work_of_stage p (around p st bits older t.stage) (answered_thread p st bits t)).ready ≡ true = and_right _ _ (and_left _ _ (and_left _ _ e)) in
+    let done : (answered_thread p st bits t).awaits ≡ [] = none_left _ (and_right _ _ (and_left _ _ e)) in
     let clear : Trunk p t.stage → barrier_clear (verify_stage p.stmts) t.stage (befores older) ≡ false = λ k. subst (λ o. barrier_clear o t.stage (befores older) ≡ false) (sym vis) (h.unclear t.stage (s.1 t.stage k (le_refl t.stage)) k) in
-    let strayed : Strayed p f.stray f.made (answered p st bits t) (works p (around p st bits older t.stage) (answered p st bits t)) = f.stray_step (around p st bits older t.stage) (answered p st bits t) now.0 done deep clear ready in
+    let strayed : Strayed p f.stray f.made (answered_thread p st bits t) (work_of_stage p (around p st bits older t.stage) (answered_thread p st bits t)) = f.stray_step (around p st bits older t.stage) (answered_thread p st bits t) now.0 done deep clear ready in
     let up : t.stage < next_of p t.stage (act p st bits older t).work.env = f.graph.up t.stage _ low in
     let in_pipe : next_of p t.stage (act p st bits older t).work.env < length p.stages = inner (f.graph.jump t.stage (act p st bits older t).work.env f.v low f.trunk_v deep) in
     let below : Below p bound' (next_of p t.stage (act p st bits older t).work.env) = step_below p f.graph older bound bound' t.stage (act p st bits older t).work.env h.grows (omega arith) (λ k. absurd (omega arith)) h.enter s.1 low (and_right _ _ e) in
-    stray_moves p f (answered p st bits t) (act p st bits older t) (acts p st bits (act p st bits older t ∷ older) ts) bound' (next_of p t.stage (act p st bits older t).work.env) (nobody ts) e strayed
+    stray_moves p f (answered_thread p st bits t) (act p st bits older t) (acts p st bits (act p st bits older t ∷ older) ts) bound' (next_of p t.stage (act p st bits older t).work.env) (nobody ts) e strayed
     (f.graph.leaves t.stage (act p st bits older t).work.env low ∙ ap (λ c. cond c (Some (next_of p t.stage (act p st bits older t).work.env)) None) (lt-ltb _ _ in_pipe)) refl (omega arith) below (now.1 ∙ s.2)
     (strays_cycle p f vis st bits (act p st bits older t ∷ older) t.stage (next_of p t.stage (act p st bits older t).work.env) ts
     (ahead_next p f.v older bound bound' t.stage (next_of p t.stage (act p st bits older t).work.env) (act p st bits older t) h (le_of_lt deep) s.1 (le_of_lt up) refl (λ k. up)) s.3))

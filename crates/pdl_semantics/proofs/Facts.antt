@@ -1,9 +1,9 @@
 -- Facts on the definitions that several layers cite.
-use Rattle.std.proofs.Common.{◌≡◌, refl, sym, ap, ◌∙◌, ℕ, ◌<◌, ◌≤◌, Bool, false, ◌&&◌, List, [], ◌∷◌, ◌++◌, if◌then◌else◌, nat_lt, ◌==◌, Some, arith, le-ltb}
+use Rattle.std.proofs.Common.{◌≡◌, refl, sym, ap, ◌∙◌, ℕ, suc, ◌<◌, ◌≤◌, Bool, true, false, ◌&&◌, List, [], ◌∷◌, ◌++◌, length, if◌then◌else◌, nat_lt, ◌==◌, Some, arith, le-ltb}
 use Rattle.std.proofs.Math.Bool.{and_assoc, and-true}
-use Rattle.pdl_semantics.specs.Flat.{Stmt, taken, list_all}
-use Rattle.pdl_semantics.specs.Machine.{Pending, Place, held_after, held_before}
-use Rattle.pdl_semantics.specs.Cycle.{put}
+use Rattle.pdl_semantics.specs.Flat.{Stmt, all_hold, list_all}
+use Rattle.pdl_semantics.specs.Machine.{Pending, Written, HeldLocation, held_after, held_before}
+use Rattle.pdl_semantics.specs.Cycle.{with_value_of, with_writes_of}
 use Rattle.pdl_semantics.specs.Tree.{BinaryOp, Equal, Differ, Less}
 use Rattle.pdl_semantics.specs.Flatten.{op_width}
 
@@ -12,16 +12,29 @@ all_push test [] x = and-true (test x)
 all_push test (y ∷ xs) x = ap (λ b. test y && b) (all_push test xs x) ∙ sym (and_assoc (test y) (list_all test xs) (test x))
 
 -- what is held before the first stage
-pub held_first : (path : List ℕ) (xs : List Stmt) (ls : List Place) → held_before 0 path xs ls ≡ ls
+pub held_first : (path : List ℕ) (xs : List Stmt) (ls : List HeldLocation) → held_before 0 path xs ls ≡ ls
 held_first path [] ls = refl
-held_first path (x ∷ xs) ls = ap (λ b. held_before 0 path xs (if b && taken x.guards path then held_after x.op ls else ls)) (low x.stage) ∙ held_first path xs ls
+held_first path (x ∷ xs) ls = ap (λ b. held_before 0 path xs (if b && all_hold x.guards path then held_after x.op ls else ls)) (low x.stage) ∙ held_first path xs ls
   where
     low : (n : ℕ) → nat_lt n 0 ≡ false
     low n = le-ltb n 0 (omega arith)
 
-pub put_append : (n v : ℕ) (xs ys : List Pending) → put n v (xs ++ ys) ≡ put n v xs ++ put n v ys
+pub put_append : (n v : ℕ) (xs ys : List Pending) → with_value_of n v (xs ++ ys) ≡ with_value_of n v xs ++ with_value_of n v ys
 put_append n v [] ys = refl
 put_append n v (x ∷ xs) ys = ap (λ l. (if x.thread == n then record x { value = Some v } else x) ∷ l) (put_append n v xs ys)
+
+-- writes keep how many entries there are
+pub put_length : (n v : ℕ) (xs : List Pending) → length (with_value_of n v xs) ≡ length xs
+put_length n v [] = refl
+put_length n v (x ∷ xs) = ap suc (put_length n v xs)
+
+pub put_all_length : (m n : ℕ) (ws : List Written) (xs : List Pending) → length (with_writes_of m n ws xs) ≡ length xs
+put_all_length m n [] xs = refl
+put_all_length m n (w ∷ ws) xs = put_all_length m n ws (if w.mem == m then with_value_of n w.value xs else xs) ∙ at (w.mem == m)
+  where
+    at : (b : Bool) → length (if b then with_value_of n w.value xs else xs) ≡ length xs
+    at true = put_length n w.value xs
+    at false = refl
 
 -- no operator makes a word wider than 64 bits
 pub op_narrow : (op : BinaryOp) (w : ℕ) → w ≤ 64 → op_width op w ≤ 64

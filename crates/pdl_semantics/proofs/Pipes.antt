@@ -35,19 +35,19 @@ shared_guard =
     ∷ if_else (Not (variable "h")) (call (plus (variable "n") (constant 2 1)) ∷ []) (call (plus (variable "n") (constant 2 3)) ∷ []) ∷ [])
 
 -- four stages: each thread adds 1 to word 0; n writes may be pending
-abbrev pub count_behind : List Stmt → LockKind → ℕ → Pipe
-count_behind gap kind n =
+abbrev pub count_after : List Stmt → LockKind → ℕ → Pipe
+count_after gap kind n =
     pipe 2 (comb "m" 4 (lock kind n) ∷ [])
     (bind "a" (constant 2 0) ∷ bind "b" (constant 2 0) ∷ reserve "m" "a" R ∷ reserve "m" "b" W
     ∷ call (plus (variable "n") (constant 2 1)) ∷ separator ∷ (gap ++ block "m" "a" ∷ comb_read "x" "m" "a" ∷ separator ∷ block "m" "b"
     ∷ write "m" "b" (plus (variable "x") (constant 8 1)) ∷ separator ∷ release "m" "a" ∷ release "m" "b" ∷ []))
 
 abbrev pub count_up : LockKind → ℕ → Pipe
-count_up kind n = count_behind [] kind n
+count_up kind n = count_after [] kind n
 
 -- with an empty stage before the read
 abbrev pub count_late : Pipe
-count_late = count_behind (separator ∷ []) Bypass 4
+count_late = count_after (separator ∷ []) Bypass 4
 
 -- each thread guesses that the next one's argument is one more, where it is k more
 abbrev pub guess : ℕ → Pipe

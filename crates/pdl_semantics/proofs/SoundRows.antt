@@ -7,7 +7,7 @@ use Rattle.pdl_semantics.specs.Flat.{Pipe, Arrays, arrays_of}
 use Rattle.pdl_semantics.specs.Flatten.{flat}
 use Rattle.pdl_semantics.specs.Machine.{Thread, Pending, State}
 use Rattle.pdl_semantics.specs.Moves.{all_acts}
-use Rattle.pdl_semantics.specs.Cycle.{first, after, ports, state_after}
+use Rattle.pdl_semantics.specs.Cycle.{first, after_acts, ports, state_after}
 use Rattle.pdl_semantics.specs.Sound.{is_sound}
 use Rattle.pdl_semantics.proofs.Pipes.{one_stage, two_stages, under_guard, count_up, count_late, guess, guess_reserved, copy, copy_guessed, two_branches, one_branch, count_slow, barrier, far_barrier, without_barrier}
 use Rattle.pdl_semantics.proofs.Features.{queue_write_waits, youngest_write_is_read, kind_by_path, bits_by_delayed, port_of_a_stalled_owner, kept_answer, expressions, two_forks_on_one_guard, squash_empties_lists, squash_keeps_later_lists, port_of_an_owner_in_the_other_branch, barrier_up_to_v, barrier_without_v}
@@ -27,7 +27,7 @@ abbrev sound_by : Decides → GoesOn → Tree.Pipe → List (List ℕ) → List 
 sound_by decide next p image schedule = sound_from decide next (flat p) (arrays_of image) 0 (first (flat p) (arrays_of image)) schedule
 
 abbrev sound_run : Tree.Pipe → List (List ℕ) → List (List Bool) → Bool
-sound_run p image schedule = sound_by all_acts after p image schedule
+sound_run p image schedule = sound_by all_acts after_acts p image schedule
 
 abbrev mixed : List (List Bool)
 mixed = bits (0 ∷ 1 ∷ 1 ∷ 0 ∷ 0 ∷ 1 ∷ 1 ∷ 1 ∷ 0 ∷ 1 ∷ [])
@@ -178,15 +178,15 @@ squash_unsound : sound_by all_acts keeps_entries (guess_reserved 2) (zeros ∷ [
 unfolding add slice zext
 squash_unsound = refl
 
-merge_unsound : sound_by (decides_by any_branch) after two_branches (zeros ∷ []) (idle 6) ≡ false
+merge_unsound : sound_by (decides_by any_branch) after_acts two_branches (zeros ∷ []) (idle 6) ≡ false
 unfolding add slice zext
 merge_unsound = refl
 
-bypass_unsound : sound_by (decides_by sees_younger) after count_late (zeros ∷ []) (idle 7) ≡ false
+bypass_unsound : sound_by (decides_by sees_younger) after_acts count_late (zeros ∷ []) (idle 7) ≡ false
 unfolding add slice zext
 bypass_unsound = refl
 
-barrier_unsound : sound_by (decides_by looks_one_stage) after far_barrier (zeros ∷ []) (idle 4) ≡ false
+barrier_unsound : sound_by (decides_by looks_one_stage) after_acts far_barrier (zeros ∷ []) (idle 4) ≡ false
 unfolding add slice zext
 barrier_unsound = refl
 

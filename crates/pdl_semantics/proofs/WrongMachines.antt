@@ -8,9 +8,9 @@ use Rattle.pdl_semantics.specs.Stages.{list_any, is_verify}
 use Rattle.pdl_semantics.specs.Flatten.{flat}
 use Rattle.pdl_semantics.specs.Lines.{lines, columns, turn_cycles, run_lines, seq_lines}
 use Rattle.pdl_semantics.specs.Locks.{Latest, Nothing, as_latest, value_or}
-use Rattle.pdl_semantics.specs.Machine.{Thread, Pending, Request, Owned, Orphan, State, lock_of, request_of, deeds, deeds_with, with_answers, answers}
+use Rattle.pdl_semantics.specs.Machine.{Thread, Pending, Request, Owned, Orphan, State, lock_of, request_of, deeds, deeds_with, with_answers, is_answered}
 use Rattle.pdl_semantics.specs.Moves.{Act, act_of, all_acts, no_failure, blocks_ready, have_room, is_empty, is_free, ports_free, barrier_clear, can_enter, merges_well, next_stage, movers}
-use Rattle.pdl_semantics.specs.Cycle.{for_mems, list_three, after, first, ports, is_wait, Turn}
+use Rattle.pdl_semantics.specs.Cycle.{for_mems, list_three, after_acts, first, ports, is_wait, Turn}
 use Rattle.pdl_semantics.proofs.Pipes.{guess, guess_reserved, copy_guessed, two_branches, count_late, far_barrier, without_barrier}
 use Rattle.pdl_semantics.proofs.MachineRows.{zeros, idle, bits, copied}
 
@@ -49,7 +49,7 @@ decides_by make p st bits = acts_by make p st bits 0 st.stages
 -- A SQUASH THAT KEEPS the younger threads' pending writes
 
 abbrev pub keeps_entries : GoesOn
-keeps_entries p st bits these = record (after p st bits these) { locks = for_mems (λ m. list_three st (movers these) m) 0 p.mems }
+keeps_entries p st bits these = record (after_acts p st bits these) { locks = for_mems (λ m. list_three st (movers these) m) 0 p.mems }
 
 squash_keeps : lines_by all_acts keeps_entries (guess_reserved 2) 9 ≡ codes "3 m 0 00\n6 m 1 00\n9 m 2 02\nend cycles 9 ended 3 waits 0 squashes 3\n"
 unfolding digits add slice zext
@@ -68,7 +68,7 @@ any_branch p st bits later s t =
           && barrier_clear p later d && can_enter (next_stage p s d) later;
     }
 
-merge_takes_any : lines_by (decides_by any_branch) after two_branches 8 ≡
+merge_takes_any : lines_by (decides_by any_branch) after_acts two_branches 8 ≡
     codes "4 m 0 00\n5 m 1 01\n6 m 2 00\n7 m 3 03\n8 m 0 00\nend cycles 8 ended 5 waits 0 squashes 0\n"
 unfolding digits add slice zext
 merge_takes_any = refl
@@ -85,7 +85,7 @@ sees_younger p st bits later s t =
     act_of p st bits later s t
     (deeds_with (λ m a. value_or (youngest_other (lock_of st m) t.number a Nothing) (word_at st.arrays m a)) p s t)
 
-bypass_sees_younger : lines_by (decides_by sees_younger) after count_late 10 ≡ codes "5 m 0 01\n7 m 0 01\n9 m 0 02\nend cycles 10 ended 3 waits 0 squashes 0\n"
+bypass_sees_younger : lines_by (decides_by sees_younger) after_acts count_late 10 ≡ codes "5 m 0 01\n7 m 0 01\n9 m 0 02\nend cycles 10 ended 3 waits 0 squashes 0\n"
 unfolding digits add slice zext
 bypass_sees_younger = refl
 
@@ -107,7 +107,7 @@ looks_one_stage p st bits later s t =
           && merges_well p st s (next_stage p s d);
     }
 
-barrier_looks_one_stage : lines_by (decides_by looks_one_stage) after far_barrier 5 ≡
+barrier_looks_one_stage : lines_by (decides_by looks_one_stage) after_acts far_barrier 5 ≡
     codes "1 m 0 07\n3 m 1 07\n5 m 2 07\nend cycles 5 ended 1 waits 0 squashes 1\n"
 unfolding digits add slice zext
 barrier_looks_one_stage = refl
@@ -120,7 +120,7 @@ squashes_always p st bits later s t =
     act_of p st bits later s t
     (if list_any (λ (x : Stmt). (x.stage == s) && is_verify x.op) p.stmts then record d { child = Some t.guess; fails = true } else d)
 
-right_guesses_squashed : lines_by (decides_by squashes_always) after (guess 1) 7 ≡ codes "3 m 0 00\n6 m 1 01\nend cycles 7 ended 2 waits 0 squashes 2\n"
+right_guesses_squashed : lines_by (decides_by squashes_always) after_acts (guess 1) 7 ≡ codes "3 m 0 00\n6 m 1 01\nend cycles 7 ended 2 waits 0 squashes 2\n"
 unfolding digits add slice zext
 right_guesses_squashed = refl
 
@@ -138,7 +138,7 @@ asks_at_once p st bits later s t =
       thread = t;
       does = d;
       moves = no_failure later && blocks_ready p st t.number d && have_room p st d && is_empty t.awaits
-          && list_all (λ q. is_free_or_orphan (request_of st q.mem) (answers p bits q.mem) later) d.asks && barrier_clear p later d
+          && list_all (λ q. is_free_or_orphan (request_of st q.mem) (is_answered p bits q.mem) later) d.asks && barrier_clear p later d
           && can_enter (next_stage p s d) later && merges_well p st s (next_stage p s d);
     }
 
@@ -152,8 +152,8 @@ owned_late ms answered m r next = next
 
 abbrev pub gives_late : GoesOn
 gives_late p st bits these =
-    let right = after p st bits these in
-    record right { requests = for_mems (λ m. owned_late (movers these) (answers p bits m) m (request_of st m) (request_of right m)) 0 p.mems }
+    let right = after_acts p st bits these in
+    record right { requests = for_mems (λ m. owned_late (movers these) (is_answered p bits m) m (request_of st m) (request_of right m)) 0 p.mems }
 
 late_reply_given : lines_from (decides_by asks_at_once) gives_late copy_guessed copied (bits (1 ∷ 1 ∷ 0 ∷ 0 ∷ 1 ∷ 1 ∷ 1 ∷ [])) ≡ codes "3 m 0 0a\n6 m 2 0b\nend cycles 7 ended 2 waits 2 squashes 2\n"
 unfolding digits add slice zext

@@ -3,7 +3,7 @@ use Rattle.std.specs.Prelude.{ℕ, suc, Bool, true, false, ◌&&◌, ◌||◌, n
 use Rattle.pdl_semantics.specs.Flat.{Arrays, Mem, Branch, Stage, Pipe, start_env, with_word, Commit}
 use Rattle.pdl_semantics.specs.Stages.{list_any, stage_at, is_branch_of, merges_fork, verify_stage}
 use Rattle.pdl_semantics.specs.Locks.{commit_value}
-use Rattle.pdl_semantics.specs.Machine.{Ask, Awaited, Thread, Pending, Request, NoRequest, Owned, Orphan, State, lock_of, fork_of, request_of, Reserved, Written, answers}
+use Rattle.pdl_semantics.specs.Machine.{Ask, Awaited, Thread, Pending, Request, NoRequest, Owned, Orphan, State, lock_of, fork_of, request_of, Reserved, Written, is_answered}
 use Rattle.pdl_semantics.specs.Moves.{Act, next_stage, all_acts, movers}
 
 -- 1. reservations for writing append an entry without a value
@@ -13,26 +13,26 @@ new_entries m thread (r ∷ rs) =
     (if r.mem == m then record { thread = thread; address = r.address; value = None } ∷ [] else [])
     ++ new_entries m thread rs
 
-abbrev pub appended : ℕ → List Act → List Pending → List Pending
-appended m [] list = list
-appended m (a ∷ ms) list = appended m ms list ++ new_entries m a.thread.number a.does.reserves
+abbrev pub with_reserves : ℕ → List Act → List Pending → List Pending
+with_reserves m [] list = list
+with_reserves m (a ∷ ms) list = with_reserves m ms list ++ new_entries m a.thread.number a.does.reserves
 
 -- 2. writes put their value into their thread's entry
-abbrev pub put : ℕ → ℕ → List Pending → List Pending
-put thread v [] = []
-put thread v (e ∷ es) = (if e.thread == thread then record e { value = Some v } else e) ∷ put thread v es
+abbrev pub with_value_of : ℕ → ℕ → List Pending → List Pending
+with_value_of thread v [] = []
+with_value_of thread v (e ∷ es) = (if e.thread == thread then record e { value = Some v } else e) ∷ with_value_of thread v es
 
-abbrev pub put_all : ℕ → ℕ → List Written → List Pending → List Pending
-put_all m thread [] list = list
-put_all m thread (w ∷ ws) list = put_all m thread ws (if w.mem == m then put thread w.value list else list)
+abbrev pub with_writes_of : ℕ → ℕ → List Written → List Pending → List Pending
+with_writes_of m thread [] list = list
+with_writes_of m thread (w ∷ ws) list = with_writes_of m thread ws (if w.mem == m then with_value_of thread w.value list else list)
 
-abbrev pub filled : ℕ → List Act → List Pending → List Pending
-filled m [] list = list
-filled m (a ∷ ms) list = put_all m a.thread.number a.does.writes (filled m ms list)
+abbrev pub with_all_writes : ℕ → List Act → List Pending → List Pending
+with_all_writes m [] list = list
+with_all_writes m (a ∷ ms) list = with_writes_of m a.thread.number a.does.writes (with_all_writes m ms list)
 
 -- 3. a release of a write reservation takes the oldest entry out
-abbrev pub releases : ℕ → List Act → Bool
-releases m ms = list_any (λ a. list_any (λ n. n == m) a.does.releases) ms
+abbrev pub has_release : ℕ → List Act → Bool
+has_release m ms = list_any (λ a. list_any (λ n. n == m) a.does.releases) ms
 
 abbrev pub oldest : List Pending → Option Pending
 oldest [] = None
@@ -44,13 +44,13 @@ but_oldest (e ∷ es) = es
 
 -- a lock's list after steps 1 and 2, and after step 3, and the entry that step 3 takes out
 abbrev pub list_two : State → List Act → ℕ → List Pending
-list_two st ms m = filled m ms (appended m ms (lock_of st m))
+list_two st ms m = with_all_writes m ms (with_reserves m ms (lock_of st m))
 
 abbrev pub list_three : State → List Act → ℕ → List Pending
-list_three st ms m = if releases m ms then but_oldest (list_two st ms m) else list_two st ms m
+list_three st ms m = if has_release m ms then but_oldest (list_two st ms m) else list_two st ms m
 
 abbrev pub taken_out : State → List Act → ℕ → Option Pending
-taken_out st ms m = if releases m ms then oldest (list_two st ms m) else None
+taken_out st ms m = if has_release m ms then oldest (list_two st ms m) else None
 
 -- and puts its value into the array
 abbrev pub with_commit : Arrays → ℕ → Option Pending → Arrays
@@ -70,50 +70,50 @@ goes_into p f (Some q) = into (stage_at p q).branch
     into None = []
     into (Some b) = if b.fork == f then b.first ∷ [] else []
 
-abbrev pub entered : Pipe → ℕ → List Act → List Bool
-entered p f [] = []
-entered p f (a ∷ ms) = entered p f ms ++ (if a.stage == f then goes_into p f (next_stage p a.stage a.does) else [])
+abbrev pub entered_branches : Pipe → ℕ → List Act → List Bool
+entered_branches p f [] = []
+entered_branches p f (a ∷ ms) = entered_branches p f ms ++ (if a.stage == f then goes_into p f (next_stage p a.stage a.does) else [])
 
 abbrev pub goes_out : Pipe → ℕ → Option ℕ → Bool
 goes_out p f None = false
 goes_out p f (Some q) = merges_fork (stage_at p q).merges f
 
-abbrev pub left : Pipe → ℕ → List Act → Bool
-left p f ms = list_any (λ a. is_branch_of (stage_at p a.stage).branch f && goes_out p f (next_stage p a.stage a.does)) ms
+abbrev pub has_left : Pipe → ℕ → List Act → Bool
+has_left p f ms = list_any (λ a. is_branch_of (stage_at p a.stage).branch f && goes_out p f (next_stage p a.stage a.does)) ms
 
 abbrev pub but_first : List Bool → List Bool
 but_first [] = []
 but_first (b ∷ bs) = bs
 
 abbrev pub fork_next : Pipe → State → List Act → ℕ → List Bool
-fork_next p st ms f = (if left p f ms then but_first (fork_of st f) else fork_of st f) ++ entered p f ms
+fork_next p st ms f = (if has_left p f ms then but_first (fork_of st f) else fork_of st f) ++ entered_branches p f ms
 
 -- 5. who moves stands in its next stage, and ends after the last; who doesn't move stays
 abbrev pub awaited_of : List Ask → List Awaited
 awaited_of [] = []
 awaited_of (q ∷ qs) = record { mem = q.mem; var = q.var } ∷ awaited_of qs
 
-abbrev pub moved : Act → Thread
-moved a =
+abbrev pub thread_after : Act → Thread
+thread_after a =
     record { number = a.thread.number; env = a.does.env; guess = a.does.guess; awaits = awaited_of a.does.asks; kept = [] }
 
 abbrev pub is_stage : ℕ → Option ℕ → Bool
 is_stage q None = false
 is_stage q (Some r) = r == q
 
-abbrev pub comes : Pipe → ℕ → Act → Option Thread
-comes p q a =
+abbrev pub coming_thread : Pipe → ℕ → Act → Option Thread
+coming_thread p q a =
     if a.moves
-    then (if is_stage q (next_stage p a.stage a.does) then Some (moved a) else None)
+    then (if is_stage q (next_stage p a.stage a.does) then Some (thread_after a) else None)
     else (if a.stage == q then Some a.thread else None)
 
 abbrev pub or_then : Option Thread → Option Thread → Option Thread
 or_then None k = k
 or_then (Some t) k = Some t
 
-abbrev pub stands : Pipe → ℕ → List Act → Option Thread
-stands p q [] = None
-stands p q (a ∷ these) = or_then (comes p q a) (stands p q these)
+abbrev pub next_thread : Pipe → ℕ → List Act → Option Thread
+next_thread p q [] = None
+next_thread p q (a ∷ these) = or_then (coming_thread p q a) (next_thread p q these)
 
 -- the requests: an answered one is over, a new one is its maker's
 abbrev pub asked_of : ℕ → ℕ → List Ask → Request → Request
@@ -125,7 +125,7 @@ asked_by m [] old = old
 asked_by m (a ∷ ms) old = asked_of m a.thread.number a.does.asks (asked_by m ms old)
 
 abbrev pub request_next : Pipe → State → List Bool → List Act → ℕ → Request
-request_next p st bits ms m = asked_by m ms (if answers p bits m then NoRequest else request_of st m)
+request_next p st bits ms m = asked_by m ms (if is_answered p bits m then NoRequest else request_of st m)
 
 -- 6. a squash: the number of the thread that moves with a failing verify
 abbrev pub squasher : List Act → Option ℕ
@@ -133,18 +133,18 @@ squasher [] = None
 squasher (a ∷ ms) = if a.does.fails then Some a.thread.number else squasher ms
 
 -- it removes every younger thread
-abbrev pub stays : Option ℕ → ℕ → Bool
-stays None thread = true
-stays (Some squasher) thread = nat_le thread squasher
+abbrev pub is_kept : Option ℕ → ℕ → Bool
+is_kept None thread = true
+is_kept (Some squasher) thread = nat_le thread squasher
 
-abbrev pub if_stays : Option ℕ → Option Thread → Option Thread
-if_stays sq None = None
-if_stays sq (Some t) = if stays sq t.number then Some t else None
+abbrev pub if_kept : Option ℕ → Option Thread → Option Thread
+if_kept sq None = None
+if_kept sq (Some t) = if is_kept sq t.number then Some t else None
 
 -- and drops their entries
 abbrev pub entries_left : Option ℕ → List Pending → List Pending
 entries_left sq [] = []
-entries_left sq (e ∷ es) = if stays sq e.thread then e ∷ entries_left sq es else entries_left sq es
+entries_left sq (e ∷ es) = if is_kept sq e.thread then e ∷ entries_left sq es else entries_left sq es
 
 -- the lists of forks whose merge stage is V or before V become empty
 abbrev pub merges_by : Pipe → ℕ → Option ℕ → Bool
@@ -156,7 +156,7 @@ branches_left p sq f list = if is_some sq && merges_by p f (verify_stage p.stmts
 
 -- an unanswered request of a removed thread becomes an orphan
 abbrev pub request_left : Option ℕ → Request → Request
-request_left sq (Owned owner a) = if stays sq owner then Owned owner a else Orphan a
+request_left sq (Owned owner a) = if is_kept sq owner then Owned owner a else Orphan a
 request_left sq r = r
 
 -- 7. the new thread stands in stage 0
@@ -164,14 +164,14 @@ abbrev pub child_of : List Act → Option (List ℕ)
 child_of [] = None
 child_of (a ∷ ms) = if is_some a.does.child then a.does.child else child_of ms
 
-abbrev pub born : Pipe → ℕ → Option (List ℕ) → Option Thread
-born p number None = None
-born p number (Some args) =
+abbrev pub born_thread : Pipe → ℕ → Option (List ℕ) → Option Thread
+born_thread p number None = None
+born_thread p number (Some args) =
     Some (record { number = number; env = start_env p args; guess = []; awaits = []; kept = [] })
 
 abbrev pub stage_next : Pipe → State → List Act → Option ℕ → ℕ → Option Thread
 stage_next p st these sq q =
-    or_then (if q == 0 then born p st.next (child_of (movers these)) else None) (if_stays sq (stands p q these))
+    or_then (if q == 0 then born_thread p st.next (child_of (movers these)) else None) (if_kept sq (next_thread p q these))
 
 -- the same for each memory and for each stage
 abbrev pub for_mems : {X : Type 0} → (ℕ → X) → ℕ → List Mem → List X
@@ -194,17 +194,17 @@ after_these p st bits these ms sq =
       next = if is_some (child_of ms) then suc st.next else st.next;
     }
 
-abbrev pub after : Pipe → State → List Bool → List Act → State
-after p st bits these = after_these p st bits these (movers these) (squasher (movers these))
+abbrev pub after_acts : Pipe → State → List Bool → List Act → State
+after_acts p st bits these = after_these p st bits these (movers these) (squasher (movers these))
 
 abbrev pub cycle : Pipe → State → List Bool → State
-cycle p st bits = after p st bits (all_acts p st bits)
+cycle p st bits = after_acts p st bits (all_acts p st bits)
 
 -- thread 1 with the start arguments in stage 0, the image in the arrays, all else empty
 abbrev pub first : Pipe → Arrays → State
 first p image =
     record {
-      stages = for_stages (λ q. if q == 0 then born p 1 (Some p.start) else None) 0 p.stages;
+      stages = for_stages (λ q. if q == 0 then born_thread p 1 (Some p.start) else None) 0 p.stages;
       arrays = image;
       locks = for_mems (λ m. []) 0 p.mems;
       forks = for_stages (λ f. []) 0 p.stages;
@@ -260,7 +260,7 @@ is_outstanding _ = true
 
 abbrev pub waits_from : Pipe → List Bool → ℕ → List Request → Bool
 waits_from p bits m [] = false
-waits_from p bits m (r ∷ rs) = (is_outstanding r && not (answers p bits m)) || waits_from p bits (suc m) rs
+waits_from p bits m (r ∷ rs) = (is_outstanding r && not (is_answered p bits m)) || waits_from p bits (suc m) rs
 
 abbrev pub is_wait : Pipe → State → List Bool → Bool
 is_wait p st bits = waits_from p bits 0 st.requests
@@ -275,7 +275,7 @@ abbrev pub turns_from : Pipe → State → List (List Bool) → List Turn
 turns_from p st [] = []
 turns_from p st (bits ∷ schedule) =
     let these = all_acts p st bits in
-    record { ports = ports p st these; wait = is_wait p st bits } ∷ turns_from p (after p st bits these) schedule
+    record { ports = ports p st these; wait = is_wait p st bits } ∷ turns_from p (after_acts p st bits these) schedule
 
 abbrev pub turns : Pipe → Arrays → List (List Bool) → List Turn
 turns p image schedule = turns_from p (first p image) schedule
@@ -296,13 +296,13 @@ abbrev pub waits_in : List Turn → ℕ
 waits_in ts = count (λ t. t.wait) ts
 
 -- the commits of a memory, in cycle order
-abbrev pub shown : ℕ → Option PortWrite → List Commit
-shown m None = []
-shown m (Some w) = record { mem = m; address = w.address; value = w.value } ∷ []
+abbrev pub commit_shown : ℕ → Option PortWrite → List Commit
+commit_shown m None = []
+commit_shown m (Some w) = record { mem = m; address = w.address; value = w.value } ∷ []
 
 abbrev pub commits : ℕ → List Turn → List Commit
 commits m [] = []
-commits m (t ∷ ts) = shown m (slice_index_or t.ports.commits m None) ++ commits m ts
+commits m (t ∷ ts) = commit_shown m (slice_index_or t.ports.commits m None) ++ commits m ts
 
 -- the letters of `view`: no thread, one that moves, one that stands
 abbrev pub letter : Bool → Bool → ℕ

@@ -17,18 +17,18 @@ pub data Expr : Type 0 where
   Choose : (c a b : Expr) → Expr
 
 -- an operator on two words of one width
-abbrev pub applied : BinaryOp → ℕ → ℕ → ℕ → ℕ
-applied Add w a b = Words.add w a b
-applied Sub w a b = Words.sub w a b
-applied Mul w a b = Words.mul w a b
-applied And w a b = Words.and a b
-applied Or w a b = Words.or a b
-applied Xor w a b = Words.xor a b
-applied Equal w a b = Words.equal a b
-applied Differ w a b = Words.differ a b
-applied Less w a b = Words.less a b
-applied ShiftLeft w a b = Words.shl w a b
-applied ShiftRight w a b = Words.shr w a b
+abbrev pub operator_value : BinaryOp → ℕ → ℕ → ℕ → ℕ
+operator_value Add w a b = Words.add w a b
+operator_value Sub w a b = Words.sub w a b
+operator_value Mul w a b = Words.mul w a b
+operator_value And w a b = Words.and a b
+operator_value Or w a b = Words.or a b
+operator_value Xor w a b = Words.xor a b
+operator_value Equal w a b = Words.equal a b
+operator_value Differ w a b = Words.differ a b
+operator_value Less w a b = Words.less a b
+operator_value ShiftLeft w a b = Words.shl w a b
+operator_value ShiftRight w a b = Words.shr w a b
 
 -- the value of an expression where the variables have these values
 abbrev pub value_of : Expr → List ℕ → ℕ
@@ -36,7 +36,7 @@ value_of (Constant w v) env = v
 value_of (Variable x) env = slice_index env x
 value_of (Slice x high low) env = Words.slice high low (slice_index env x)
 value_of (Not w a) env = Words.complement w (value_of a env)
-value_of (Binary op w a b) env = applied op w (value_of a env) (value_of b env)
+value_of (Binary op w a b) env = operator_value op w (value_of a env) (value_of b env)
 value_of (Cat a w b) env = Words.cat w (value_of a env) (value_of b env)
 value_of (LessSigned w a b) env = Words.lts w (value_of a env) (value_of b env)
 value_of (ZeroExtend wide a) env = Words.zext (value_of a env)
@@ -132,12 +132,12 @@ list_all test [] = true
 list_all test (x ∷ xs) = test x && list_all test xs
 
 -- whether a branch is taken where its truth value is v, and whether all are
-abbrev pub takes : Bool → ℕ → Bool
-takes first v = if first then v == 1 else not (v == 1)
+abbrev pub takes_branch : Bool → ℕ → Bool
+takes_branch first v = if first then v == 1 else not (v == 1)
 
-abbrev pub taken : List Guard → List ℕ → Bool
-taken [] env = true
-taken (g ∷ gs) env = takes g.first (slice_index env g.var) && taken gs env
+abbrev pub all_hold : List Guard → List ℕ → Bool
+all_hold [] env = true
+all_hold (g ∷ gs) env = takes_branch g.first (slice_index env g.var) && all_hold gs env
 
 -- the variables' values when a thread begins
 abbrev pub start_env : Pipe → List ℕ → List ℕ
@@ -176,6 +176,6 @@ of_mem m [] = []
 of_mem m (c ∷ cs) = if c.mem == m then c ∷ of_mem m cs else of_mem m cs
 
 -- the arrays after these writes in order
-abbrev pub committed : Arrays → List Commit → Arrays
-committed arrays [] = arrays
-committed arrays (c ∷ cs) = committed (with_word arrays c.mem c.address c.value) cs
+abbrev pub after_commits : Arrays → List Commit → Arrays
+after_commits arrays [] = arrays
+after_commits arrays (c ∷ cs) = after_commits (with_word arrays c.mem c.address c.value) cs

@@ -73,20 +73,20 @@ flat_exprs vs (e ∷ es) = flat_expr vs e ∷ flat_exprs vs es
 -- A WALK OVER THE STATEMENTS
 
 -- where a walk is: the variables defined so far, the stage, and the last stage that has begun
-pub record Place : Type 0 where
+pub record Position : Type 0 where
   pub vars : List Var
   pub stage : ℕ
   pub begun : ℕ
 
 -- one more variable, and a new stage
-abbrev pub with_var : List ℕ → ℕ → Place → Place
+abbrev pub with_var : List ℕ → ℕ → Position → Position
 with_var x width at' = record at' { vars = at'.vars ++ record { name = x; width = width } ∷ [] }
 
-abbrev pub next_place : Place → Place
-next_place at' = record at' { stage = suc at'.begun; begun = suc at'.begun }
+abbrev pub next_position : Position → Position
+next_position at' = record at' { stage = suc at'.begun; begun = suc at'.begun }
 
 -- back in the stage of an `if`
-abbrev pub back_in : ℕ → Place → Place
+abbrev pub back_in : ℕ → Position → Position
 back_in s at' = record at' { stage = s }
 
 -- the guard of a condition: the plain variable itself, else the variable of its own that the `if` binds
@@ -94,14 +94,14 @@ abbrev pub guard_of : List Var → Expr → ℕ
 guard_of vs (Variable x) = var_of vs x.name
 guard_of vs _ = length vs
 
-abbrev pub with_guard : Expr → Place → Place
+abbrev pub with_guard : Expr → Position → Position
 with_guard (Variable x) at' = at'
 with_guard _ at' = with_var [] 1 at'
 
 -- the place after a statement, and after some; a branch begins in the stage of its `if`
 abbrev mutual
-  pub past : List Mem → Stmt → Place → Place
-  past ms (Separator _) at' = next_place at'
+  pub past : List Mem → Stmt → Position → Position
+  past ms (Separator _) at' = next_position at'
   past ms (CombRead _ x from) at' = with_var x.name (mem_width ms from.mem.name) at'
   past ms (Bind _ x e) at' = with_var x.name (width_of at'.vars e) at'
   past ms (DelayedRead _ x from) at' = with_var x.name (mem_width ms from.mem.name) at'
@@ -109,57 +109,57 @@ abbrev mutual
       back_in at'.stage (past_all ms otherwise (back_in at'.stage (past_all ms when (with_guard c at'))))
   past ms _ at' = at'
 
-  pub past_all : List Mem → Stmts → Place → Place
+  pub past_all : List Mem → Stmts → Position → Position
   past_all ms Nil at' = at'
   past_all ms (Cons s ss) at' = past_all ms ss (past ms s at')
 
 -- where the second branch of an `if` begins
-abbrev pub at_otherwise : List Mem → Expr → Stmts → Place → Place
+abbrev pub at_otherwise : List Mem → Expr → Stmts → Position → Position
 at_otherwise ms c when at' = back_in at'.stage (past_all ms when (with_guard c at'))
 
 -- STATEMENTS
 
-abbrev pub at_place : List Flat.Guard → Place → Flat.Op → List Flat.Stmt
-at_place gs at' op = record { stage = at'.stage; guards = gs; op = op } ∷ []
+abbrev pub at_position : List Flat.Guard → Position → Flat.Op → List Flat.Stmt
+at_position gs at' op = record { stage = at'.stage; guards = gs; op = op } ∷ []
 
 -- an `if` on an expression binds its guard
-abbrev pub binds_guard : List Flat.Guard → Place → Expr → List Flat.Stmt
+abbrev pub binds_guard : List Flat.Guard → Position → Expr → List Flat.Stmt
 binds_guard gs at' (Variable x) = []
-binds_guard gs at' e = at_place gs at' (Flat.Bind (length at'.vars) (flat_expr at'.vars e))
+binds_guard gs at' e = at_position gs at' (Flat.Bind (length at'.vars) (flat_expr at'.vars e))
 
 -- under one branch more
 abbrev pub under : List Flat.Guard → List Var → Expr → Bool → List Flat.Guard
 under gs vs c first = gs ++ record { var = guard_of vs c; first = first } ∷ []
 
-abbrev pub reserves : Kind → ℕ → ℕ → Flat.Op
-reserves R m a = Flat.ReserveRead m a
-reserves W m a = Flat.ReserveWrite m a
+abbrev pub reserve_op : Kind → ℕ → ℕ → Flat.Op
+reserve_op R m a = Flat.ReserveRead m a
+reserve_op W m a = Flat.ReserveWrite m a
 
 abbrev mutual
-  pub flat_stmt : List Mem → List Flat.Guard → Stmt → Place → List Flat.Stmt
+  pub flat_stmt : List Mem → List Flat.Guard → Stmt → Position → List Flat.Stmt
   flat_stmt ms gs (Separator _) at' = []
   flat_stmt ms gs (CombRead _ x from) at' =
-      at_place gs at' (Flat.CombRead (length at'.vars) (mem_of ms from.mem.name) (var_of at'.vars from.address.name))
-  flat_stmt ms gs (Bind _ x e) at' = at_place gs at' (Flat.Bind (length at'.vars) (flat_expr at'.vars e))
-  flat_stmt ms gs (SpecCall _ guess args) at' = at_place gs at' (Flat.SpecCall (flat_exprs at'.vars args))
+      at_position gs at' (Flat.CombRead (length at'.vars) (mem_of ms from.mem.name) (var_of at'.vars from.address.name))
+  flat_stmt ms gs (Bind _ x e) at' = at_position gs at' (Flat.Bind (length at'.vars) (flat_expr at'.vars e))
+  flat_stmt ms gs (SpecCall _ guess args) at' = at_position gs at' (Flat.SpecCall (flat_exprs at'.vars args))
   flat_stmt ms gs (DelayedRead _ x from) at' =
-      at_place gs at' (Flat.DelayedRead (length at'.vars) (mem_of ms from.mem.name) (var_of at'.vars from.address.name))
+      at_position gs at' (Flat.DelayedRead (length at'.vars) (mem_of ms from.mem.name) (var_of at'.vars from.address.name))
   flat_stmt ms gs (Write _ to e) at' =
-      at_place gs at' (Flat.Write (mem_of ms to.mem.name) (var_of at'.vars to.address.name) (flat_expr at'.vars e))
+      at_position gs at' (Flat.Write (mem_of ms to.mem.name) (var_of at'.vars to.address.name) (flat_expr at'.vars e))
   flat_stmt ms gs (Reserve _ at kind) at' =
-      at_place gs at' (reserves kind (mem_of ms at.mem.name) (var_of at'.vars at.address.name))
-  flat_stmt ms gs (Block _ at) at' = at_place gs at' (Flat.Block (mem_of ms at.mem.name) (var_of at'.vars at.address.name))
-  flat_stmt ms gs (Release _ at) at' = at_place gs at' (Flat.Release (mem_of ms at.mem.name) (var_of at'.vars at.address.name))
+      at_position gs at' (reserve_op kind (mem_of ms at.mem.name) (var_of at'.vars at.address.name))
+  flat_stmt ms gs (Block _ at) at' = at_position gs at' (Flat.Block (mem_of ms at.mem.name) (var_of at'.vars at.address.name))
+  flat_stmt ms gs (Release _ at) at' = at_position gs at' (Flat.Release (mem_of ms at.mem.name) (var_of at'.vars at.address.name))
   flat_stmt ms gs (If _ c when otherwise) at' =
       binds_guard gs at' c
       ++ flat_stmts ms (under gs at'.vars c true) when (with_guard c at')
       ++ flat_stmts ms (under gs at'.vars c false) otherwise (at_otherwise ms c when at')
-  flat_stmt ms gs (Call _ args) at' = at_place gs at' (Flat.Call (flat_exprs at'.vars args))
-  flat_stmt ms gs (Verify _ guess args) at' = at_place gs at' (Flat.Verify (flat_exprs at'.vars args))
-  flat_stmt ms gs (SpecCheck _) at' = at_place gs at' Flat.SpecCheck
-  flat_stmt ms gs (SpecBarrier _) at' = at_place gs at' Flat.SpecBarrier
+  flat_stmt ms gs (Call _ args) at' = at_position gs at' (Flat.Call (flat_exprs at'.vars args))
+  flat_stmt ms gs (Verify _ guess args) at' = at_position gs at' (Flat.Verify (flat_exprs at'.vars args))
+  flat_stmt ms gs (SpecCheck _) at' = at_position gs at' Flat.SpecCheck
+  flat_stmt ms gs (SpecBarrier _) at' = at_position gs at' Flat.SpecBarrier
 
-  pub flat_stmts : List Mem → List Flat.Guard → Stmts → Place → List Flat.Stmt
+  pub flat_stmts : List Mem → List Flat.Guard → Stmts → Position → List Flat.Stmt
   flat_stmts ms gs Nil at' = []
   flat_stmts ms gs (Cons s ss) at' = flat_stmt ms gs s at' ++ flat_stmts ms gs ss (past ms s at')
 
@@ -188,44 +188,44 @@ entry (Flat.Goes to) = to
 entry (Flat.Forks x a b) = 0
 
 -- the first of these stages merges the fork
-abbrev pub merging : ℕ → List Flat.Stage → List Flat.Stage
-merging f [] = []
-merging f (x ∷ xs) = record x { merges = Some f } ∷ xs
+abbrev pub with_merge : ℕ → List Flat.Stage → List Flat.Stage
+with_merge f [] = []
+with_merge f (x ∷ xs) = record x { merges = Some f } ∷ xs
 
 abbrev pub side : ℕ → Bool → Option Flat.Branch
 side f first = Some (record { fork = f; first = first })
 
 -- a new stage
-abbrev pub begins : Option Flat.Branch → Place → Graph → Graph
-begins branch at' rest =
+abbrev pub graph_with_stage : Option Flat.Branch → Position → Graph → Graph
+graph_with_stage branch at' rest =
     record {
       next = Flat.Goes (suc at'.begun);
       later = record { next = rest.next; branch = branch; merges = None } ∷ rest.later;
     }
 
 -- a fork on the variable x with these branches
-abbrev pub forks : ℕ → ℕ → Graph → Graph → Graph → Graph
-forks f x first second rest =
-    record { next = Flat.Forks x (entry first.next) (entry second.next); later = first.later ++ second.later ++ merging f rest.later }
+abbrev pub graph_with_fork : ℕ → ℕ → Graph → Graph → Graph → Graph
+graph_with_fork f x first second rest =
+    record { next = Flat.Forks x (entry first.next) (entry second.next); later = first.later ++ second.later ++ with_merge f rest.later }
 
 -- the graph of statements in this branch that lead to `exit`; a branch of a fork leads to the stage that begins after both, the merge
 abbrev mutual
-  pub joined : List Mem → Option Flat.Branch → Stmt → Place → Graph → Graph
-  joined ms branch (Separator _) at' rest = begins branch at' rest
-  joined ms branch (If _ c when otherwise) at' rest =
+  pub graph_before : List Mem → Option Flat.Branch → Stmt → Position → Graph → Graph
+  graph_before ms branch (Separator _) at' rest = graph_with_stage branch at' rest
+  graph_before ms branch (If _ c when otherwise) at' rest =
       if separators when + separators otherwise == 0
       then rest
       else
       (let merge = Flat.Goes (suc (at'.begun + separators when + separators otherwise)) in
-      forks at'.stage (guard_of at'.vars c)
+      graph_with_fork at'.stage (guard_of at'.vars c)
       (graph ms (side at'.stage true) merge when (with_guard c at'))
       (graph ms (side at'.stage false) merge otherwise (at_otherwise ms c when at'))
       rest)
-  joined ms branch _ at' rest = rest
+  graph_before ms branch _ at' rest = rest
 
-  pub graph : List Mem → Option Flat.Branch → Flat.Next → Stmts → Place → Graph
+  pub graph : List Mem → Option Flat.Branch → Flat.Next → Stmts → Position → Graph
   graph ms branch exit Nil at' = record { next = exit; later = [] }
-  graph ms branch exit (Cons s ss) at' = joined ms branch s at' (graph ms branch exit ss (past ms s at'))
+  graph ms branch exit (Cons s ss) at' = graph_before ms branch s at' (graph ms branch exit ss (past ms s at'))
 
 -- THE WHOLE
 
@@ -233,9 +233,9 @@ abbrev pub params_of : List Param → List Var
 params_of [] = []
 params_of (x ∷ xs) = record { name = x.name.name; width = x.width.value } ∷ params_of xs
 
-abbrev pub lock_of : Option LockDecl → Flat.Lock
-lock_of None = Flat.Plain
-lock_of (Some l) = of_kind l.kind l.size.value
+abbrev pub flat_lock : Option LockDecl → Flat.Lock
+flat_lock None = Flat.Plain
+flat_lock (Some l) = of_kind l.kind l.size.value
   where
     of_kind : LockKind → ℕ → Flat.Lock
     of_kind Queue n = Flat.Queue n
@@ -244,7 +244,7 @@ lock_of (Some l) = of_kind l.kind l.size.value
 
 abbrev pub mems_of : List Mem → List Flat.Mem
 mems_of [] = []
-mems_of (m ∷ ms) = record { width = m.width.value; depth = m.depth.value; delayed = m.delayed; lock = lock_of m.lock } ∷ mems_of ms
+mems_of (m ∷ ms) = record { width = m.width.value; depth = m.depth.value; delayed = m.delayed; lock = flat_lock m.lock } ∷ mems_of ms
 
 -- the start arguments
 abbrev pub start_of : List Literal → List ℕ
@@ -252,7 +252,7 @@ start_of [] = []
 start_of (l ∷ ls) = unwrap_or l.value 0 ∷ start_of ls
 
 -- where the body begins: the parameters stand, and stage 0 has begun
-abbrev pub at_start : Pipe → Place
+abbrev pub at_start : Pipe → Position
 at_start p = record { vars = params_of p.params; stage = 0; begun = 0 }
 
 abbrev pub stages_of : Pipe → List Flat.Stage

@@ -1,6 +1,6 @@
 -- The state of the pipeline machine, and what a thread's stage does in it: a numbered thread in each stage, the pending writes of each lock, the branches taken in each fork, the requests.
 use Rattle.std.specs.Prelude.{ℕ, Bool, true, false, ◌&&◌, ◌||◌, List, [], ◌∷◌, ◌++◌, Option, Some, None, is_some, if◌then◌else◌, nat_lt, ◌==◌, slice_index, slice_index_or, slice_set}
-use Rattle.pdl_semantics.specs.Flat.{Arrays, Op, Bind, CombRead, DelayedRead, Write, ReserveRead, ReserveWrite, Block, Release, Call, SpecCall, Verify, SpecCheck, SpecBarrier, Stmt, Pipe, value_of, values_of, taken, word_at}
+use Rattle.pdl_semantics.specs.Flat.{Arrays, Op, Bind, CombRead, DelayedRead, Write, ReserveRead, ReserveWrite, Block, Release, Call, SpecCall, Verify, SpecCheck, SpecBarrier, Stmt, Pipe, value_of, values_of, all_hold, word_at}
 use Rattle.pdl_semantics.specs.Stages.{in_stage, reply_place}
 use Rattle.pdl_semantics.specs.Locks.{Latest, Nothing, as_latest, value_or}
 
@@ -67,29 +67,29 @@ same_args (x ∷ xs) (y ∷ ys) = (x == y) && same_args xs ys
 same_args _ _ = false
 
 -- a location: a memory and the variable of its address
-pub record Place : Type 0 where
+pub record HeldLocation : Type 0 where
   pub mem : ℕ
   pub var : ℕ
 
 -- the locations that are reserved for writing and not yet released, after a statement
-abbrev pub is_held : List Place → ℕ → ℕ → Bool
+abbrev pub is_held : List HeldLocation → ℕ → ℕ → Bool
 is_held [] m a = false
 is_held (l ∷ ls) m a = ((l.mem == m) && (l.var == a)) || is_held ls m a
 
-abbrev pub let_go : List Place → ℕ → ℕ → List Place
+abbrev pub let_go : List HeldLocation → ℕ → ℕ → List HeldLocation
 let_go [] m a = []
 let_go (l ∷ ls) m a = if (l.mem == m) && (l.var == a) then ls else l ∷ let_go ls m a
 
-abbrev pub held_after : Op → List Place → List Place
+abbrev pub held_after : Op → List HeldLocation → List HeldLocation
 held_after (ReserveWrite m a) ls = record { mem = m; var = a } ∷ ls
 held_after (Release m a) ls = let_go ls m a
 held_after _ ls = ls
 
 -- after the statements of the path in the stages before s
-abbrev pub held_before : ℕ → List ℕ → List Stmt → List Place → List Place
+abbrev pub held_before : ℕ → List ℕ → List Stmt → List HeldLocation → List HeldLocation
 held_before s path [] ls = ls
 held_before s path (x ∷ xs) ls =
-    held_before s path xs (if nat_lt x.stage s && taken x.guards path then held_after x.op ls else ls)
+    held_before s path xs (if nat_lt x.stage s && all_hold x.guards path then held_after x.op ls else ls)
 
 -- a block: its memory and address, and whether the location is reserved for writing
 pub record Blocked : Type 0 where
@@ -110,7 +110,7 @@ pub record Written : Type 0 where
 pub record Deeds : Type 0 where
   pub env : List ℕ  -- the values after them
   pub guess : List ℕ
-  pub held : List Place
+  pub held : List HeldLocation
   pub blocks : List Blocked
   pub reserves : List Reserved
   pub writes : List Written
@@ -120,43 +120,43 @@ pub record Deeds : Type 0 where
   pub child : Option (List ℕ)  -- the new thread's arguments
   pub fails : Bool  -- whether a verify fails
 
-abbrev pub verifies : List ℕ → Deeds → Deeds
-verifies args d = if same_args args d.guess then d else record d { child = Some args; fails = true }
+abbrev pub after_verify : List ℕ → Deeds → Deeds
+after_verify args d = if same_args args d.guess then d else record d { child = Some args; fails = true }
 
 -- one statement, where `read` gives the words that reads find
-abbrev pub does : (ℕ → ℕ → ℕ) → Op → Deeds → Deeds
-does read (Bind x e) d = record d { env = slice_set d.env x (value_of e d.env) }
-does read (CombRead x m a) d = record d { env = slice_set d.env x (read m (slice_index d.env a)) }
-does read (DelayedRead x m a) d = record d { asks = d.asks ++ record { mem = m; var = x; address = slice_index d.env a } ∷ [] }
-does read (Write m a e) d = record d { writes = d.writes ++ record { mem = m; value = value_of e d.env } ∷ [] }
-does read (ReserveRead m a) d = d
-does read (ReserveWrite m a) d =
+abbrev pub deeds_after : (ℕ → ℕ → ℕ) → Op → Deeds → Deeds
+deeds_after read (Bind x e) d = record d { env = slice_set d.env x (value_of e d.env) }
+deeds_after read (CombRead x m a) d = record d { env = slice_set d.env x (read m (slice_index d.env a)) }
+deeds_after read (DelayedRead x m a) d = record d { asks = d.asks ++ record { mem = m; var = x; address = slice_index d.env a } ∷ [] }
+deeds_after read (Write m a e) d = record d { writes = d.writes ++ record { mem = m; value = value_of e d.env } ∷ [] }
+deeds_after read (ReserveRead m a) d = d
+deeds_after read (ReserveWrite m a) d =
     record d {
       held = held_after (ReserveWrite m a) d.held;
       reserves = d.reserves ++ record { mem = m; address = slice_index d.env a } ∷ [];
     }
-does read (Block m a) d =
+deeds_after read (Block m a) d =
     record d { blocks = d.blocks ++ record { mem = m; address = slice_index d.env a; writes = is_held d.held m a } ∷ [] }
-does read (Release m a) d =
+deeds_after read (Release m a) d =
     record d {
       held = held_after (Release m a) d.held;
       releases = d.releases ++ (if is_held d.held m a then m ∷ [] else []);
     }
-does read (Call args) d = record d { child = Some (values_of args d.env) }
-does read (SpecCall args) d = record d { child = Some (values_of args d.env); guess = values_of args d.env }
-does read (Verify args) d = verifies (values_of args d.env) d
-does read SpecCheck d = d
-does read SpecBarrier d = record d { barrier = true }
+deeds_after read (Call args) d = record d { child = Some (values_of args d.env) }
+deeds_after read (SpecCall args) d = record d { child = Some (values_of args d.env); guess = values_of args d.env }
+deeds_after read (Verify args) d = after_verify (values_of args d.env) d
+deeds_after read SpecCheck d = d
+deeds_after read SpecBarrier d = record d { barrier = true }
 
-abbrev pub does_all : (ℕ → ℕ → ℕ) → List Stmt → Deeds → Deeds
-does_all read [] d = d
-does_all read (x ∷ xs) d = does_all read xs (if taken x.guards d.env then does read x.op d else d)
+abbrev pub deeds_after_all : (ℕ → ℕ → ℕ) → List Stmt → Deeds → Deeds
+deeds_after_all read [] d = d
+deeds_after_all read (x ∷ xs) d = deeds_after_all read xs (if all_hold x.guards d.env then deeds_after read x.op d else d)
 
 -- LOCKS AND ANSWERS AT THE START OF A CYCLE
 
 -- the reply bit of a memory
-abbrev pub answers : Pipe → List Bool → ℕ → Bool
-answers p bits m = slice_index_or bits (reply_place p m) false
+abbrev pub is_answered : Pipe → List Bool → ℕ → Bool
+is_answered p bits m = slice_index_or bits (reply_place p m) false
 
 -- the youngest of the older threads' pending writes of an address
 abbrev pub youngest : List Pending → ℕ → ℕ → Latest → Latest
@@ -177,28 +177,28 @@ answer_to st thread m (Owned owner a) bit = if bit && (owner == thread) then Som
 answer_to st thread m _ bit = None
 
 abbrev pub answer_for : Pipe → State → List Bool → ℕ → ℕ → Option ℕ
-answer_for p st bits thread m = answer_to st thread m (request_of st m) (answers p bits m)
+answer_for p st bits thread m = answer_to st thread m (request_of st m) (is_answered p bits m)
 
-abbrev pub keeps : ℕ → Option ℕ → List Kept
-keeps x None = []
-keeps x (Some word) = record { var = x; word = word } ∷ []
+abbrev pub kept_answer : ℕ → Option ℕ → List Kept
+kept_answer x None = []
+kept_answer x (Some word) = record { var = x; word = word } ∷ []
 
 -- the reads that are awaited beyond this cycle, and its answers
-abbrev pub unanswered : Pipe → State → List Bool → ℕ → List Awaited → List Awaited
-unanswered p st bits thread [] = []
-unanswered p st bits thread (r ∷ rs) =
-    (if is_some (answer_for p st bits thread r.mem) then [] else r ∷ []) ++ unanswered p st bits thread rs
+abbrev pub unanswered_reads : Pipe → State → List Bool → ℕ → List Awaited → List Awaited
+unanswered_reads p st bits thread [] = []
+unanswered_reads p st bits thread (r ∷ rs) =
+    (if is_some (answer_for p st bits thread r.mem) then [] else r ∷ []) ++ unanswered_reads p st bits thread rs
 
-abbrev pub answered : Pipe → State → List Bool → ℕ → List Awaited → List Kept
-answered p st bits thread [] = []
-answered p st bits thread (r ∷ rs) = keeps r.var (answer_for p st bits thread r.mem) ++ answered p st bits thread rs
+abbrev pub answered_reads : Pipe → State → List Bool → ℕ → List Awaited → List Kept
+answered_reads p st bits thread [] = []
+answered_reads p st bits thread (r ∷ rs) = kept_answer r.var (answer_for p st bits thread r.mem) ++ answered_reads p st bits thread rs
 
 -- a thread with this cycle's answers
 abbrev pub with_answers : Pipe → State → List Bool → Thread → Thread
 with_answers p st bits t =
     record t {
-      awaits = unanswered p st bits t.number t.awaits;
-      kept = t.kept ++ answered p st bits t.number t.awaits;
+      awaits = unanswered_reads p st bits t.number t.awaits;
+      kept = t.kept ++ answered_reads p st bits t.number t.awaits;
     }
 
 -- the values with the answers
@@ -209,7 +209,7 @@ with_kept (k ∷ ks) env = with_kept ks (slice_set env k.var k.word)
 -- what a thread's stage does where reads find these words
 abbrev pub deeds_with : (ℕ → ℕ → ℕ) → Pipe → ℕ → Thread → Deeds
 deeds_with read p s t =
-    does_all read (in_stage s p.stmts) (record {
+    deeds_after_all read (in_stage s p.stmts) (record {
       env = with_kept t.kept t.env;
       guess = t.guess;
       held = held_before s t.env p.stmts [];

@@ -3,7 +3,7 @@ use Rattle.std.specs.Prelude.{ℕ, suc, Bool, true, false, ◌&&◌, ◌||◌, n
 use Rattle.pdl_semantics.specs.Flat.{list_all, Branch, Pipe}
 use Rattle.pdl_semantics.specs.Stages.{list_any, mem_at, stage_at, verify_stage, goes_to}
 use Rattle.pdl_semantics.specs.Locks.{read_ready, write_ready, has_room}
-use Rattle.pdl_semantics.specs.Machine.{Awaited, Thread, Request, NoRequest, Owned, Orphan, State, lock_of, fork_of, request_of, Blocked, Deeds, deeds, older_write, with_answers, answers}
+use Rattle.pdl_semantics.specs.Machine.{Awaited, Thread, Request, NoRequest, Owned, Orphan, State, lock_of, fork_of, request_of, Blocked, Deeds, deeds, older_write, with_answers, is_answered}
 
 -- a thread in a cycle: its stage, itself with this cycle's answers, what its stage's statements do, and whether it moves
 pub record Act : Type 0 where
@@ -46,7 +46,7 @@ is_free (Orphan a) bit later = bit
 is_free (Owned owner a) bit later = bit && list_any (λ o. (o.thread.number == owner) && o.moves) later
 
 abbrev pub ports_free : Pipe → State → List Bool → List Act → Deeds → Bool
-ports_free p st bits later d = list_all (λ q. is_free (request_of st q.mem) (answers p bits q.mem) later) d.asks
+ports_free p st bits later d = list_all (λ q. is_free (request_of st q.mem) (is_answered p bits q.mem) later) d.asks
 
 -- 6. at a barrier no later stage up to V holds a thread
 abbrev pub none_up_to : Option ℕ → List Act → Bool
@@ -80,8 +80,8 @@ merges_well p st s None = true
 merges_well p st s (Some q) = may_merge st (stage_at p q).merges (stage_at p s).branch
 
 -- a thread moves where all eight hold
-abbrev pub moves : Pipe → State → List Bool → List Act → ℕ → Thread → Deeds → Bool
-moves p st bits later s t d =
+abbrev pub may_move : Pipe → State → List Bool → List Act → ℕ → Thread → Deeds → Bool
+may_move p st bits later s t d =
     no_failure later
     && blocks_ready p st t.number d
     && have_room p st d
@@ -92,7 +92,7 @@ moves p st bits later s t d =
     && merges_well p st s (next_stage p s d)
 
 abbrev pub act_of : Pipe → State → List Bool → List Act → ℕ → Thread → Deeds → Act
-act_of p st bits later s t d = record { stage = s; thread = t; does = d; moves = moves p st bits later s t d }
+act_of p st bits later s t d = record { stage = s; thread = t; does = d; moves = may_move p st bits later s t d }
 
 abbrev pub act : Pipe → State → List Bool → List Act → ℕ → Thread → Act
 act p st bits later s t = act_of p st bits later s t (deeds p st s t)

@@ -1,6 +1,6 @@
 -- The sequential meaning of a pipe (PLDI 2022, "PDL: a high-level hardware design language for pipelined processors"): threads one after another on plain arrays, with no stages, locks, guesses or clock.
 use Rattle.std.specs.Prelude.{ℕ, zero, suc, List, [], ◌∷◌, ◌++◌, if◌then◌else◌, slice_index, slice_set}
-use Rattle.pdl_semantics.specs.Flat.{Arrays, Op, Bind, CombRead, DelayedRead, Write, Call, Verify, Stmt, Pipe, value_of, values_of, taken, start_env, word_at, with_word, Commit, of_mem}
+use Rattle.pdl_semantics.specs.Flat.{Arrays, Op, Bind, CombRead, DelayedRead, Write, Call, Verify, Stmt, Pipe, value_of, values_of, all_hold, start_env, word_at, with_word, Commit, of_mem}
 
 -- a thread on its way: the arrays, its variables, its writes so far, and the next thread's arguments
 pub record Run : Type 0 where
@@ -10,23 +10,23 @@ pub record Run : Type 0 where
   pub next : List ℕ
 
 -- one statement: a read looks in the array and a write changes it at once; reservations, blocks, releases and guesses do nothing
-abbrev pub runs : Op → Run → Run
-runs (Bind x e) r = record r { env = slice_set r.env x (value_of e r.env) }
-runs (CombRead x m a) r = record r { env = slice_set r.env x (word_at r.arrays m (slice_index r.env a)) }
-runs (DelayedRead x m a) r = record r { env = slice_set r.env x (word_at r.arrays m (slice_index r.env a)) }
-runs (Write m a e) r =
+abbrev pub run_after : Op → Run → Run
+run_after (Bind x e) r = record r { env = slice_set r.env x (value_of e r.env) }
+run_after (CombRead x m a) r = record r { env = slice_set r.env x (word_at r.arrays m (slice_index r.env a)) }
+run_after (DelayedRead x m a) r = record r { env = slice_set r.env x (word_at r.arrays m (slice_index r.env a)) }
+run_after (Write m a e) r =
     record r {
       arrays = with_word r.arrays m (slice_index r.env a) (value_of e r.env);
       writes = r.writes ++ record { mem = m; address = slice_index r.env a; value = value_of e r.env } ∷ [];
     }
-runs (Call args) r = record r { next = values_of args r.env }
-runs (Verify args) r = record r { next = values_of args r.env }
-runs _ r = r
+run_after (Call args) r = record r { next = values_of args r.env }
+run_after (Verify args) r = record r { next = values_of args r.env }
+run_after _ r = r
 
 -- the statements in text order, those whose guards hold
 abbrev pub run_all : List Stmt → Run → Run
 run_all [] r = r
-run_all (x ∷ xs) r = run_all xs (if taken x.guards r.env then runs x.op r else r)
+run_all (x ∷ xs) r = run_all xs (if all_hold x.guards r.env then run_after x.op r else r)
 
 -- a whole thread
 abbrev pub thread : Pipe → Arrays → List ℕ → Run

@@ -3,7 +3,7 @@ use Rattle.std.specs.Prelude.{IsTrue, ℕ, zero, suc, ◌+◌, count_by, Bool, t
 use Rattle.pdl_semantics.specs.Flat.{Arrays, list_all, Op, Bind, CombRead, DelayedRead, Write, ReserveWrite, Block, Release, Call, SpecCall, SpecBarrier, Stmt, Mem, Branch, Pipe, value_of, values_of, start_env, word_at, Commit, of_mem}
 use Rattle.pdl_semantics.specs.Stages.{list_any, onpath, stage_at, goes_to, is_verify, verify_stage}
 use Rattle.pdl_semantics.specs.Sequential.{Run, run_all, thread, seqwrites, after_turns}
-use Rattle.pdl_semantics.specs.Machine.{Awaited, Kept, Thread, Pending, Request, NoRequest, Owned, Orphan, State, lock_of, fork_of, request_of, Place, is_held, held_before, same_args, with_kept}
+use Rattle.pdl_semantics.specs.Machine.{Awaited, Kept, Thread, Pending, Request, NoRequest, Owned, Orphan, State, lock_of, fork_of, request_of, HeldLocation, is_held, held_before, same_args, with_kept}
 use Rattle.pdl_semantics.specs.Moves.{block_ready}
 use Rattle.pdl_semantics.specs.Promises.{row, wrote}
 
@@ -63,11 +63,11 @@ abbrev pub has_done : (Op → Bool) → Pipe → Live → Bool
 has_done test p l = list_any (λ x. test x.op) (past_stmts p l)
 
 -- the locations that it holds for writing
-abbrev pub holds : Pipe → Live → List Place
-holds p l = held_before l.stage l.thread.env p.stmts []
+abbrev pub held_places : Pipe → Live → List HeldLocation
+held_places p l = held_before l.stage l.thread.env p.stmts []
 
 abbrev pub holds_mem : ℕ → Pipe → Live → Bool
-holds_mem m p l = list_any (λ h. h.mem == m) (holds p l)
+holds_mem m p l = list_any (λ h. h.mem == m) (held_places p l)
 
 -- KINDS OF STATEMENT
 
@@ -126,7 +126,7 @@ followers_of p arrays args (l ∷ ls) =
     record { live = l; arrays = arrays; args = args }
     ∷ (if guessed_wrong p (thread p arrays args).next l then [] else followers_of p (thread p arrays args).arrays (thread p arrays args).next ls)
 
--- those behind
+-- those after
 abbrev pub strays_of : Pipe → Arrays → List ℕ → List Live → List Live
 strays_of p arrays args [] = []
 strays_of p arrays args (l ∷ ls) =
@@ -157,8 +157,8 @@ abbrev pub other_branch : Option Branch → Option Branch → Bool
 other_branch (Some a) (Some b) = (a.fork == b.fork) && (if a.first then not b.first else b.first)
 other_branch _ _ = false
 
-abbrev pub is_behind : Pipe → Live → Live → Bool
-is_behind p older younger =
+abbrev pub is_after : Pipe → Live → Live → Bool
+is_after p older younger =
     nat_lt younger.stage older.stage || other_branch (stage_at p older.stage).branch (stage_at p younger.stage).branch
 
 -- a fork's list holds the branches of just the threads inside, oldest first
@@ -176,14 +176,14 @@ same_sides (a ∷ xs) (b ∷ ys) = (if a then b else not b) && same_sides xs ys
 same_sides _ _ = false
 
 abbrev pub in_order : Pipe → State → Bool
-in_order p st = all_pairs (λ older younger. nat_lt older.thread.number younger.thread.number && is_behind p older younger) (live st) && all_from (λ f. same_sides (fork_of st f) (sides_in p f (live st))) 0 p.stages
+in_order p st = all_pairs (λ older younger. nat_lt older.thread.number younger.thread.number && is_after p older younger) (live st) && all_from (λ f. same_sides (fork_of st f) (sides_in p f (live st))) 0 p.stages
 
 -- 2. CHAIN. At least one thread lives; each but the youngest has made its successor, the youngest hasn't
 
-abbrev pub linked : Pipe → List Live → Bool
-linked p [] = false
-linked p (l ∷ []) = not (has_done is_call p l)
-linked p (l ∷ k ∷ ls) = has_done is_call p l && linked p (k ∷ ls)
+abbrev pub are_linked : Pipe → List Live → Bool
+are_linked p [] = false
+are_linked p (l ∷ []) = not (has_done is_call p l)
+are_linked p (l ∷ k ∷ ls) = has_done is_call p l && are_linked p (k ∷ ls)
 
 -- 3. VALUES. A follower's values, once its awaited reads are answered, are those of its turn, and so are the addresses that it awaits
 
@@ -213,13 +213,13 @@ follows_values p st f =
 
 -- 4. PENDING WRITES. A lock's list has one entry for each location that a live thread holds for writing, in thread order
 
-abbrev pub held_of : ℕ → ℕ → List Place → List ℕ
+abbrev pub held_of : ℕ → ℕ → List HeldLocation → List ℕ
 held_of m thread [] = []
 held_of m thread (h ∷ hs) = if h.mem == m then thread ∷ held_of m thread hs else held_of m thread hs
 
 abbrev pub holders : Pipe → ℕ → List Live → List ℕ
 holders p m [] = []
-holders p m (l ∷ ls) = held_of m l.thread.number (holds p l) ++ holders p m ls
+holders p m (l ∷ ls) = held_of m l.thread.number (held_places p l) ++ holders p m ls
 
 abbrev pub owners : List Pending → List ℕ
 owners [] = []
@@ -315,7 +315,7 @@ still_looks m p f =
 abbrev pub stays_ready : Pipe → State → Live → Op → Bool
 stays_ready p st l (Block m a) =
     has_done (is_release_at m a) p l
-    || block_ready p st l.thread.number (record { mem = m; address = slice_index l.thread.env a; writes = is_held (holds p l) m a })
+    || block_ready p st l.thread.number (record { mem = m; address = slice_index l.thread.env a; writes = is_held (held_places p l) m a })
 stays_ready p st l _ = true
 
 -- WHAT THE INDUCTION NEEDS BESIDE. A thread stands on a stage of its path, and has done just what the statements of its earlier stages say
@@ -329,19 +329,19 @@ is_done st l (Bind x e) = slice_index l.thread.env x == value_of e l.thread.env
 is_done st l (SpecCall args) = same_args l.thread.guess (values_of args l.thread.env)
 is_done st l _ = true
 
-abbrev pub right_place : State → Live → Place → Bool
+abbrev pub right_place : State → Live → HeldLocation → Bool
 right_place st l h = list_any (λ e. (e.thread == l.thread.number) && (e.address == slice_index l.thread.env h.var)) (lock_of st h.mem)
 
 abbrev pub on_path : Pipe → State → Live → Bool
 on_path p st l =
     comes_to p l.thread.env l.stage (length p.stages) 0 && list_all (λ x. is_done st l x.op) (past_stmts p l)
-    && list_all (right_place st l) (holds p l) && nat_lt l.thread.number st.next
+    && list_all (right_place st l) (held_places p l) && nat_lt l.thread.number st.next
 
 -- THE WHOLE, of a state that a run from this image comes to, in which n threads have ended
 abbrev pub is_sound : Pipe → Arrays → ℕ → State → Bool
 is_sound p image n st =
     in_order p st
-    && linked p (live st)
+    && are_linked p (live st)
     && list_all (follows_values p st) (followers p image n st)
     && all_from (pending_right p image n st) 0 p.mems
     && arrays_right p image n st 0 p.mems

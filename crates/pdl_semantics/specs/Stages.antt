@@ -1,6 +1,6 @@
 -- Stages and paths of a pipe in flat form. A path is a truth value for each guard: a list of values of all variables, of which those of guards count.
 use Rattle.std.specs.Prelude.{ℕ, zero, suc, max, Bool, true, false, ◌||◌, List, [], ◌∷◌, ◌++◌, Option, Some, None, if◌then◌else◌, ◌==◌, slice_index, slice_index_or, slice_set, length, take, count_by, unwrap_or}
-use Rattle.pdl_semantics.specs.Flat.{Op, ReserveRead, ReserveWrite, Release, Verify, Stmt, Plain, Mem, Next, Ends, Goes, Forks, Branch, Stage, Pipe, taken, start_env}
+use Rattle.pdl_semantics.specs.Flat.{Op, ReserveRead, ReserveWrite, Release, Verify, Stmt, Plain, Mem, Next, Ends, Goes, Forks, Branch, Stage, Pipe, all_hold, start_env}
 
 -- whether some element passes the test
 abbrev pub list_any : {X : Type 0} → (X → Bool) → List X → Bool
@@ -10,7 +10,7 @@ list_any test (x ∷ xs) = test x || list_any test xs
 -- the statements on a path, in text order
 abbrev pub onpath : List ℕ → List Stmt → List Stmt
 onpath path [] = []
-onpath path (x ∷ xs) = if taken x.guards path then record x { guards = [] } ∷ onpath path xs else onpath path xs
+onpath path (x ∷ xs) = if all_hold x.guards path then record x { guards = [] } ∷ onpath path xs else onpath path xs
 
 -- the statements of a stage, in text order
 abbrev pub in_stage : ℕ → List Stmt → List Stmt

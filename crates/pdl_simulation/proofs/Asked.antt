@@ -3,10 +3,10 @@ use Rattle.std.proofs.Common.{◌≡◌, refl, sym, ap, ap₂, ◌∙◌, subst,
 use Rattle.std.proofs.lemmas.Bool.{eqb-true}
 use Rattle.pdl_semantics.specs.Flat.{Pipe, Stmt, Op, DelayedRead, list_all}
 use Rattle.pdl_semantics.specs.Stages.{stage_at, goes_to, in_stage, mem_at}
-use Rattle.pdl_semantics.specs.Machine.{Ask, Awaited, Request, NoRequest, Owned, Orphan, answers, State, lock_of, request_of}
+use Rattle.pdl_semantics.specs.Machine.{Ask, Awaited, Request, NoRequest, Owned, Orphan, is_answered, State, lock_of, request_of}
 use Rattle.pdl_semantics.specs.Locks.{has_room}
 use Rattle.pdl_semantics.specs.Moves.{movers, is_empty, block_ready}
-use Rattle.pdl_semantics.specs.Cycle.{awaited_of, asked_of, asked_by, asked_in, address_of, request_left, stays}
+use Rattle.pdl_semantics.specs.Cycle.{awaited_of, asked_of, asked_by, asked_in, address_of, request_left, is_kept}
 use Rattle.pdl_derived.specs.Derived.{Work, awaits_mem, asked_at, find_ask, asks_of, next_ask, port_free, still, around}
 use Rattle.pdl_derived.specs.Derived
 use Rattle.pdl_facts.specs.Scans.{none_of, is_fetch}
@@ -129,13 +129,13 @@ none_fetches m (x ∷ xs) h = ap₂ (λ a b. a && b) (off x.op (and_left _ _ h))
     off (DelayedRead y n a) h = absurd (cc h)
     off _ h = refl
 
-still_awaits : (p : Pipe) (bits : List Bool) (rs : List Awaited) (m : ℕ) → awaits_mem rs m ≡ true → answers p bits m ≡ false → awaits_mem (still p bits rs) m ≡ true
+still_awaits : (p : Pipe) (bits : List Bool) (rs : List Awaited) (m : ℕ) → awaits_mem rs m ≡ true → is_answered p bits m ≡ false → awaits_mem (still p bits rs) m ≡ true
 still_awaits p bits [] m h e = absurd (cc h)
 still_awaits p bits (r ∷ rs) m h e = at (r.mem == m) refl h (λ i. still_awaits p bits rs m i e)
   where
-    at : (b : Bool) → (r.mem == m) ≡ b → (b || awaits_mem rs m) ≡ true → (awaits_mem rs m ≡ true → awaits_mem (still p bits rs) m ≡ true) → awaits_mem (if answers p bits r.mem then still p bits rs else r ∷ still p bits rs) m ≡ true
-    at true g i f = ap (λ c. awaits_mem (cond c (still p bits rs) (r ∷ still p bits rs)) m) (ap (answers p bits) (eqb-true _ _ g) ∙ e) ∙ ap (λ c. c || awaits_mem (still p bits rs) m) g
-    at false g i f = by (answers p bits r.mem)
+    at : (b : Bool) → (r.mem == m) ≡ b → (b || awaits_mem rs m) ≡ true → (awaits_mem rs m ≡ true → awaits_mem (still p bits rs) m ≡ true) → awaits_mem (if is_answered p bits r.mem then still p bits rs else r ∷ still p bits rs) m ≡ true
+    at true g i f = ap (λ c. awaits_mem (cond c (still p bits rs) (r ∷ still p bits rs)) m) (ap (is_answered p bits) (eqb-true _ _ g) ∙ e) ∙ ap (λ c. c || awaits_mem (still p bits rs) m) g
+    at false g i f = by (is_answered p bits r.mem)
       where
         or_true : (b : Bool) → (b || true) ≡ true
         or_true true = refl
@@ -238,33 +238,33 @@ module _ (p : Pipe) (flows : Flows p) (st : State) (d : Derived.State) (bits : L
       and_right _ _ (and_left _ _ all)
 
   -- whose port is free
-  pub port_was_free : (m a : ℕ) (k : Asker) (ls : List Live) → AllKnown p flows st d bits arrays ls → asking ls m ≡ Some k → asked_at d m ≡ Some a → answers p bits m ≡ true
+  pub port_was_free : (m a : ℕ) (k : Asker) (ls : List Live) → AllKnown p flows st d bits arrays ls → asking ls m ≡ Some k → asked_at d m ≡ Some a → is_answered p bits m ≡ true
   port_was_free m a k [] h e g = absurd (clash e)
     where
       clash : None ≡ Some k → ⊥
       clash i = cc
   port_was_free m a k (l ∷ ls) h e g = at (did p d bits ls l).moves refl (find_ask (work_of_live p d bits ls l).asks m) refl e (λ i. port_was_free m a k ls h.1 i g)
     where
-      answered_now : (x : ℕ) → find_ask (work_of_live p d bits ls l).asks m ≡ Some x → (did p d bits ls l).moves ≡ true → answers p bits m ≡ true
+      answered_now : (x : ℕ) → find_ask (work_of_live p d bits ls l).asks m ≡ Some x → (did p d bits ls l).moves ≡ true → is_answered p bits m ≡ true
       answered_now x f i =
-          and_left (answers p bits m) _ (subst (λ o. (is_none o || (answers p bits m && list_all (λ (o : Derived.Act). not (awaits_mem o.before.awaits m) || o.moves) (dacts p d bits ls))) ≡ true) g
+          and_left (is_answered p bits m) _ (subst (λ o. (is_none o || (is_answered p bits m && list_all (λ (o : Derived.Act). not (awaits_mem o.before.awaits m) || o.moves) (dacts p d bits ls))) ≡ true) g
           (found_test (port_free p d bits (dacts p d bits ls)) (work_of_live p d bits ls l).asks m x (subst (λ q. list_all (λ q. port_free p d bits (dacts p d bits ls) q.mem) q ≡ true) (asks_are ls l h.0) (ports_were_free ls l h.0 i)) f))
 
       at : (b : Bool) → (did p d bits ls l).moves ≡ b → (o : Option ℕ) → find_ask (work_of_live p d bits ls l).asks m ≡ o → cond b (first_of o l.number (asking ls m)) (asking ls m) ≡ Some k
-          → (asking ls m ≡ Some k → answers p bits m ≡ true) → answers p bits m ≡ true
+          → (asking ls m ≡ Some k → is_answered p bits m ≡ true) → is_answered p bits m ≡ true
       at true i (Some x) f j r = answered_now x f i
       at true i None f j r = r j
       at false i o f j r = r j
 
   -- who lives on and awaits m
-  pub asker_lives : (m : ℕ) (a : Asker) (sq : Option ℕ) (ls : List Live) → AllKnown p flows st d bits arrays ls → Agrees p d bits sq ls → asking ls m ≡ Some a → (stays sq a.number ≡ true) × (has_owner a.number m (go_on p st d bits ls) ≡ true)
+  pub asker_lives : (m : ℕ) (a : Asker) (sq : Option ℕ) (ls : List Live) → AllKnown p flows st d bits arrays ls → Agrees p d bits sq ls → asking ls m ≡ Some a → (is_kept sq a.number ≡ true) × (has_owner a.number m (go_on p st d bits ls) ≡ true)
   asker_lives m a sq [] k g e = absurd (clash e)
     where
       clash : None ≡ Some a → ⊥
       clash i = cc
   asker_lives m a sq (l ∷ ls) k g e = at (did p d bits ls l).moves refl (find_ask (work_of_live p d bits ls l).asks m) refl e (λ i. later (asker_lives m a sq ls k.1 g.1 i))
     where
-      later : (stays sq a.number ≡ true) × (has_owner a.number m (go_on p st d bits ls) ≡ true) → (stays sq a.number ≡ true) × (has_owner a.number m (go_on p st d bits (l ∷ ls)) ≡ true)
+      later : (is_kept sq a.number ≡ true) × (has_owner a.number m (go_on p st d bits ls) ≡ true) → (is_kept sq a.number ≡ true) × (has_owner a.number m (go_on p st d bits (l ∷ ls)) ≡ true)
       later h = (h.0, owner_behind a.number m (if fell p d bits ls then [] else next_live p st d bits ls l) (go_on p st d bits ls) h.1)
 
       stands_firm : (did p d bits ls l).moves ≡ true → fell p d bits ls ≡ false
@@ -282,9 +282,9 @@ module _ (p : Pipe) (flows : Flows p) (st : State) (d : Derived.State) (bits : L
           absurd (cc (sym (asks_at ls l k.0 m x f) ∙ none_fetches m (in_stage l.thread.stage p.stmts) (flows.fetch_inside l.thread.stage (flows.graph.last l.thread.stage (work_of_live p d bits ls l).env k.0.seated.keeps_on.inside i).0)))
       goes x f (Some q) i = ap₂ (λ b c. (b && c) || false) (eq-eqb _ _ refl) (awaits_found (work_of_live p d bits ls l).asks m ∙ ap is_some f)
 
-      mine : (x : ℕ) → find_ask (work_of_live p d bits ls l).asks m ≡ Some x → (did p d bits ls l).moves ≡ true → l.number ≡ a.number → (stays sq a.number ≡ true) × (has_owner a.number m (go_on p st d bits (l ∷ ls)) ≡ true)
+      mine : (x : ℕ) → find_ask (work_of_live p d bits ls l).asks m ≡ Some x → (did p d bits ls l).moves ≡ true → l.number ≡ a.number → (is_kept sq a.number ≡ true) × (has_owner a.number m (go_on p st d bits (l ∷ ls)) ≡ true)
       mine x f i j = (
-        ap (stays sq) (sym j) ∙ g.0 ∙ ap not (stands_firm i),
+        ap (is_kept sq) (sym j) ∙ g.0 ∙ ap not (stands_firm i),
         ap (λ b. has_owner a.number m ((if b then [] else next_live p st d bits ls l) ++ go_on p st d bits ls)) (stands_firm i)
             ∙ owner_append a.number m (next_live p st d bits ls l) (go_on p st d bits ls)
             ∙ ap (λ b. b || has_owner a.number m (go_on p st d bits ls))
@@ -293,14 +293,14 @@ module _ (p : Pipe) (flows : Flows p) (st : State) (d : Derived.State) (bits : L
       )
 
       at : (b : Bool) → (did p d bits ls l).moves ≡ b → (o : Option ℕ) → find_ask (work_of_live p d bits ls l).asks m ≡ o → cond b (first_of o l.number (asking ls m)) (asking ls m) ≡ Some a
-          → (asking ls m ≡ Some a → (stays sq a.number ≡ true) × (has_owner a.number m (go_on p st d bits (l ∷ ls)) ≡ true))
-          → (stays sq a.number ≡ true) × (has_owner a.number m (go_on p st d bits (l ∷ ls)) ≡ true)
+          → (asking ls m ≡ Some a → (is_kept sq a.number ≡ true) × (has_owner a.number m (go_on p st d bits (l ∷ ls)) ≡ true))
+          → (is_kept sq a.number ≡ true) × (has_owner a.number m (go_on p st d bits (l ∷ ls)) ≡ true)
       at true i (Some x) f j r = mine x f i (number_is x j)
       at true i None f j r = r j
       at false i o f j r = r j
 
   -- a thread that awaits what isn't answered stands
-  waits_stand : (ls : List Live) (l : Live) (m : ℕ) → awaits_mem l.thread.awaits m ≡ true → answers p bits m ≡ false → (did p d bits ls l).moves ≡ false
+  waits_stand : (ls : List Live) (l : Live) (m : ℕ) → awaits_mem l.thread.awaits m ≡ true → is_answered p bits m ≡ false → (did p d bits ls l).moves ≡ false
   waits_stand ls l m h e = at (did p d bits ls l).moves refl
     where
       empty : (rs : List Awaited) → awaits_mem rs m ≡ true → is_empty rs ≡ true → ⊥
@@ -312,7 +312,7 @@ module _ (p : Pipe) (flows : Flows p) (st : State) (d : Derived.State) (bits : L
       at false i = i
 
   -- an owner whose request isn't answered lives on where no squash removes it
-  pub owner_stays : (n m : ℕ) (sq : Option ℕ) (ls : List Live) → AllKnown p flows st d bits arrays ls → Agrees p d bits sq ls → has_owner n m ls ≡ true → answers p bits m ≡ false → stays sq n ≡ true → has_owner n m (go_on p st d bits ls) ≡ true
+  pub owner_stays : (n m : ℕ) (sq : Option ℕ) (ls : List Live) → AllKnown p flows st d bits arrays ls → Agrees p d bits sq ls → has_owner n m ls ≡ true → is_answered p bits m ≡ false → is_kept sq n ≡ true → has_owner n m (go_on p st d bits ls) ≡ true
   owner_stays n m sq [] k g h e s = absurd (cc h)
   owner_stays n m sq (l ∷ ls) k g h e s = at (l.number == n) refl (awaits_mem l.thread.awaits m) refl h (λ i. owner_stays n m sq ls k.1 g.1 i e s)
     where
@@ -320,7 +320,7 @@ module _ (p : Pipe) (flows : Flows p) (st : State) (d : Derived.State) (bits : L
       later i = owner_behind n m (if fell p d bits ls then [] else next_live p st d bits ls l) (go_on p st d bits ls) i
 
       firm : l.number ≡ n → (f : Bool) → fell p d bits ls ≡ f → fell p d bits ls ≡ false
-      firm i true j = absurd (cc (sym (ap (stays sq) i ∙ s) ∙ g.0 ∙ ap not j))
+      firm i true j = absurd (cc (sym (ap (is_kept sq) i ∙ s) ∙ g.0 ∙ ap not j))
       firm i false j = j
 
       mine : l.number ≡ n → awaits_mem l.thread.awaits m ≡ true → has_owner n m (go_on p st d bits (l ∷ ls)) ≡ true
@@ -336,10 +336,10 @@ module _ (p : Pipe) (flows : Flows p) (st : State) (d : Derived.State) (bits : L
   -- THE REQUESTS AFTER THE CYCLE
 
   abbrev pub request_now : Option ℕ → List Live → ℕ → Request
-  request_now sq ls m = request_left sq (owned_by (asking ls m) (if answers p bits m then NoRequest else request_of st m))
+  request_now sq ls m = request_left sq (owned_by (asking ls m) (if is_answered p bits m then NoRequest else request_of st m))
 
   abbrev pub asked_now : List Live → ℕ → Option ℕ
-  asked_now ls m = next_ask (address_for (asking ls m)) (answers p bits m) (asked_at d m)
+  asked_now ls m = next_ask (address_for (asking ls m)) (is_answered p bits m) (asked_at d m)
 
   pub matched_next : (m n : ℕ) (c : Option (List ℕ)) (sq : Option ℕ) (ls : List Live) → AllKnown p flows st d bits arrays ls → Agrees p d bits sq ls → Matched (request_of st m) (asked_at d m) m ls
       → Matched (request_now sq ls m) (asked_now ls m) m (born_live p n c ++ go_on p st d bits ls)
@@ -348,22 +348,22 @@ module _ (p : Pipe) (flows : Flows p) (st : State) (d : Derived.State) (bits : L
       after : List Live
       after = born_live p n c ++ go_on p st d bits ls
 
-      old : (q : Request) → request_of st m ≡ q → Matched q (asked_at d m) m ls → answers p bits m ≡ false → Matched (request_left sq q) (asked_at d m) m (born_live p n c ++ go_on p st d bits ls)
+      old : (q : Request) → request_of st m ≡ q → Matched q (asked_at d m) m ls → is_answered p bits m ≡ false → Matched (request_left sq q) (asked_at d m) m (born_live p n c ++ go_on p st d bits ls)
       old NoRequest e h i = h
       old (Orphan a) e h i = h
-      old (Owned w a) e h i = by (stays sq w) refl
+      old (Owned w a) e h i = by (is_kept sq w) refl
         where
-          by : (b : Bool) → stays sq w ≡ b → Matched (if b then Owned w a else Orphan a) (asked_at d m) m (born_live p n c ++ go_on p st d bits ls)
+          by : (b : Bool) → is_kept sq w ≡ b → Matched (if b then Owned w a else Orphan a) (asked_at d m) m (born_live p n c ++ go_on p st d bits ls)
           by true j = (h.0, owner_behind w m (born_live p n c) (go_on p st d bits ls) (owner_stays w m sq ls k g h.1 i j))
           by false j = h.0
 
-      at : (r : Option Asker) → asking ls m ≡ r → Matched (request_left sq (owned_by r (if answers p bits m then NoRequest else request_of st m))) (next_ask (address_for r) (answers p bits m) (asked_at d m)) m (born_live p n c ++ go_on p st d bits ls)
+      at : (r : Option Asker) → asking ls m ≡ r → Matched (request_left sq (owned_by r (if is_answered p bits m then NoRequest else request_of st m))) (next_ask (address_for r) (is_answered p bits m) (asked_at d m)) m (born_live p n c ++ go_on p st d bits ls)
       at (Some a) e =
           let l = asker_lives m a sq ls k g e in
           subst (λ b. Matched (if b then Owned a.number a.address else Orphan a.address) (Some a.address) m (born_live p n c ++ go_on p st d bits ls)) (sym l.0)
           (refl, owner_behind a.number m (born_live p n c) (go_on p st d bits ls) l.1)
-      at None e = by (answers p bits m) refl
+      at None e = by (is_answered p bits m) refl
         where
-          by : (b : Bool) → answers p bits m ≡ b → Matched (request_left sq (if b then NoRequest else request_of st m)) (if b then None else asked_at d m) m (born_live p n c ++ go_on p st d bits ls)
+          by : (b : Bool) → is_answered p bits m ≡ b → Matched (request_left sq (if b then NoRequest else request_of st m)) (if b then None else asked_at d m) m (born_live p n c ++ go_on p st d bits ls)
           by true i = refl
           by false i = old (request_of st m) refl h i

@@ -4,7 +4,7 @@ use Rattle.std.proofs.lemmas.Bool.{eqb-true, eqb-false, ne_eqb}
 use Rattle.pdl_semantics.specs.Flat.{Pipe, Op, DelayedRead, CombRead, ReserveWrite, Block, Stmt, list_all, word_at}
 use Rattle.pdl_semantics.specs.Stages.{list_any, in_stage, mem_at, stage_at, goes_to, is_reserve, reserve_stage, commit_stage}
 use Rattle.pdl_semantics.specs.Locks.{Latest, has_room}
-use Rattle.pdl_semantics.specs.Machine.{Ask, Awaited, Kept, answers, Request, NoRequest, Owned, Orphan, State, Deeds, lock_of, request_of, older_write, word_for, held_before, with_kept, unanswered, answer_to, answer_for, keeps, with_answers, does_all}
+use Rattle.pdl_semantics.specs.Machine.{Ask, Awaited, Kept, is_answered, Request, NoRequest, Owned, Orphan, State, Deeds, lock_of, request_of, older_write, word_for, held_before, with_kept, unanswered_reads, answer_to, answer_for, kept_answer, with_answers, deeds_after_all}
 use Rattle.pdl_semantics.specs.Moves.{block_ready, is_free, next_stage}
 use Rattle.pdl_semantics.specs.Locks
 use Rattle.pdl_semantics.specs.Machine
@@ -105,16 +105,16 @@ module _ (p : Pipe) (flows : Flows p) (st : State) (d : Derived.State) (bits : L
   -- ANSWERS
 
   -- the answer to an own request
-  answer_is : (n m a : ℕ) → request_of st m ≡ Owned n a → answer_for p st bits n m ≡ cond (answers p bits m) (Some (word_at st.arrays m a)) None
-  answer_is n m a e = ap (λ q. answer_to st n m q (answers p bits m)) e ∙ at (answers p bits m)
+  answer_is : (n m a : ℕ) → request_of st m ≡ Owned n a → answer_for p st bits n m ≡ cond (is_answered p bits m) (Some (word_at st.arrays m a)) None
+  answer_is n m a e = ap (λ q. answer_to st n m q (is_answered p bits m)) e ∙ at (is_answered p bits m)
     where
       at : (b : Bool) → cond (b && (n == n)) (Some (word_at st.arrays m a)) None ≡ cond b (Some (word_at st.arrays m a)) None
       at true = ap (λ c. cond c (Some (word_at st.arrays m a)) None) (eq-eqb n n refl)
       at false = refl
 
-  pub waits_are : (n : ℕ) (rs : List Awaited) → AllOwned st n rs → unanswered p st bits n rs ≡ still p bits rs
+  pub waits_are : (n : ℕ) (rs : List Awaited) → AllOwned st n rs → unanswered_reads p st bits n rs ≡ still p bits rs
   waits_are n [] o = refl
-  waits_are n (r ∷ rs) o = ap₂ (λ x l. cond (is_some x) [] (r ∷ []) ++ l) (answer_is n r.mem o.0.0 o.0.1) (waits_are n rs o.1) ∙ at (answers p bits r.mem)
+  waits_are n (r ∷ rs) o = ap₂ (λ x l. cond (is_some x) [] (r ∷ []) ++ l) (answer_is n r.mem o.0.0 o.0.1) (waits_are n rs o.1) ∙ at (is_answered p bits r.mem)
     where
       at : (b : Bool) → cond (is_some (cond b (Some (word_at st.arrays r.mem o.0.0)) None)) [] (r ∷ []) ++ still p bits rs ≡ cond b (still p bits rs) (r ∷ still p bits rs)
       at true = refl
@@ -124,24 +124,24 @@ module _ (p : Pipe) (flows : Flows p) (st : State) (d : Derived.State) (bits : L
     asked_is : (n m a : ℕ) → request_of st m ≡ Owned n a → asked_at d m ≡ Some a
     asked_is n m a e = (subst (λ q. Matched q (asked_at d m) m all) e (matched m)).0
 
-    values_are : (n : ℕ) (rs : List Awaited) (env : List ℕ) → AllOwned st n rs → with_kept (Machine.answered p st bits n rs) env ≡ Derived.with_answers p d bits rs env
+    values_are : (n : ℕ) (rs : List Awaited) (env : List ℕ) → AllOwned st n rs → with_kept (Machine.answered_reads p st bits n rs) env ≡ Derived.with_answers p d bits rs env
     values_are n [] env o = refl
     values_are n (r ∷ rs) env o =
-        ap (λ x. with_kept (keeps r.var x ++ Machine.answered p st bits n rs) env) (answer_is n r.mem o.0.0 o.0.1)
-        ∙ at (answers p bits r.mem) (λ e. values_are n rs e o.1)
+        ap (λ x. with_kept (kept_answer r.var x ++ Machine.answered_reads p st bits n rs) env) (answer_is n r.mem o.0.0 o.0.1)
+        ∙ at (is_answered p bits r.mem) (λ e. values_are n rs e o.1)
       where
         word : word_at st.arrays r.mem o.0.0 ≡ word_of d.arrays r.mem (asked_at d r.mem)
         word = ap (λ l. word_at l r.mem o.0.0) arrays ∙ ap (word_of d.arrays r.mem) (sym (asked_is n r.mem o.0.0 o.0.1))
 
-        at : (b : Bool) → ((e : List ℕ) → with_kept (Machine.answered p st bits n rs) e ≡ Derived.with_answers p d bits rs e)
-            → with_kept (keeps r.var (cond b (Some (word_at st.arrays r.mem o.0.0)) None) ++ Machine.answered p st bits n rs) env
+        at : (b : Bool) → ((e : List ℕ) → with_kept (Machine.answered_reads p st bits n rs) e ≡ Derived.with_answers p d bits rs e)
+            → with_kept (kept_answer r.var (cond b (Some (word_at st.arrays r.mem o.0.0)) None) ++ Machine.answered_reads p st bits n rs) env
             ≡ Derived.with_answers p d bits rs (cond b (slice_set env r.var (word_of d.arrays r.mem (asked_at d r.mem))) env)
         at true f = f _ ∙ ap (λ v. Derived.with_answers p d bits rs (slice_set env r.var v)) word
         at false f = f _
 
     -- a thread's values with its answers
     pub env_is : (l : Live) → Seated p st l → with_kept (with_answers p st bits (seat l)).kept l.env ≡ (now_of p d bits l).env
-    env_is l s = kept_append l.kept _ l.env ∙ ap (with_kept (Machine.answered p st bits l.number l.thread.awaits)) s.kept_in ∙ values_are l.number l.thread.awaits l.thread.env s.owned
+    env_is l s = kept_append l.kept _ l.env ∙ ap (with_kept (Machine.answered_reads p st bits l.number l.thread.awaits)) s.kept_in ∙ values_are l.number l.thread.awaits l.thread.env s.owned
 
     -- PORTS
 
@@ -209,20 +209,20 @@ module _ (p : Pipe) (flows : Flows p) (st : State) (d : Derived.State) (bits : L
 
     -- the port of m is free in both machines
     pub port_is : (m bound : ℕ) (ls : List Live) → Each (Seated p st) ls → Falls bound ls → ((n a : ℕ) → request_of st m ≡ Owned n a → has_owner n m ls ≡ true)
-        → is_free (request_of st m) (answers p bits m) (lacts p st d bits ls) ≡ port_free p d bits (dacts p d bits ls) m
+        → is_free (request_of st m) (is_answered p bits m) (lacts p st d bits ls) ≡ port_free p d bits (dacts p d bits ls) m
     port_is m bound ls s f h = at (request_of st m) refl (matched m)
       where
         older : Bool
         older = list_all (λ (o : Derived.Act). not (awaits_mem o.before.awaits m) || o.moves) (dacts p d bits ls)
 
-        at : (q : Request) → request_of st m ≡ q → Matched q (asked_at d m) m all → is_free q (answers p bits m) (lacts p st d bits ls) ≡ (is_none (asked_at d m) || (answers p bits m && list_all (λ (o : Derived.Act). not (awaits_mem o.before.awaits m) || o.moves) (dacts p d bits ls)))
-        at NoRequest e k = sym (ap (λ o. is_none o || (answers p bits m && list_all (λ (o : Derived.Act). not (awaits_mem o.before.awaits m) || o.moves) (dacts p d bits ls))) k)
+        at : (q : Request) → request_of st m ≡ q → Matched q (asked_at d m) m all → is_free q (is_answered p bits m) (lacts p st d bits ls) ≡ (is_none (asked_at d m) || (is_answered p bits m && list_all (λ (o : Derived.Act). not (awaits_mem o.before.awaits m) || o.moves) (dacts p d bits ls)))
+        at NoRequest e k = sym (ap (λ o. is_none o || (is_answered p bits m && list_all (λ (o : Derived.Act). not (awaits_mem o.before.awaits m) || o.moves) (dacts p d bits ls))) k)
         at (Owned n a) e k =
-            ap (λ x. answers p bits m && x) (owner_moves n m bound ls f (owners n m a e ls s) (h n a e))
-            ∙ sym (ap (λ o. is_none o || (answers p bits m && list_all (λ (o : Derived.Act). not (awaits_mem o.before.awaits m) || o.moves) (dacts p d bits ls))) k.0)
+            ap (λ x. is_answered p bits m && x) (owner_moves n m bound ls f (owners n m a e ls s) (h n a e))
+            ∙ sym (ap (λ o. is_none o || (is_answered p bits m && list_all (λ (o : Derived.Act). not (awaits_mem o.before.awaits m) || o.moves) (dacts p d bits ls))) k.0)
         at (Orphan a) e k =
-            sym (and_true (answers p bits m)) ∙ ap (λ x. answers p bits m && x) (sym (none_awaits m ls s (λ n o. clash (sym e ∙ o.1))))
-            ∙ sym (ap (λ o. is_none o || (answers p bits m && list_all (λ (o : Derived.Act). not (awaits_mem o.before.awaits m) || o.moves) (dacts p d bits ls))) k)
+            sym (and_true (is_answered p bits m)) ∙ ap (λ x. is_answered p bits m && x) (sym (none_awaits m ls s (λ n o. clash (sym e ∙ o.1))))
+            ∙ sym (ap (λ o. is_none o || (is_answered p bits m && list_all (λ (o : Derived.Act). not (awaits_mem o.before.awaits m) || o.moves) (dacts p d bits ls))) k)
           where
             clash : {n a' : ℕ} → Orphan a ≡ Owned n a' → ⊥
             clash i = cc
@@ -236,7 +236,7 @@ module _ (p : Pipe) (flows : Flows p) (st : State) (d : Derived.State) (bits : L
   -- what is known of a live thread at the start, behind these older ones
   pub record Known (ls : List Live) (l : Live) : Type 0 where
     pub seated : Seated p st l
-    pub waits : unanswered p st bits l.number l.thread.awaits ≡ still p bits l.thread.awaits
+    pub waits : unanswered_reads p st bits l.number l.thread.awaits ≡ still p bits l.thread.awaits
     pub values : with_kept (with_answers p st bits (seat l)).kept l.env ≡ (now_of p d bits l).env
     pub older : (m a : ℕ) → older_write st l.number m a ≡ latest (befores (dacts p d bits ls)) m a
     pub room : (m : ℕ) → l.thread.stage ≡ reserve_stage p m → pending (befores (dacts p d bits ls)) m ≡ length (lock_of st m)
@@ -280,8 +280,8 @@ module _ (p : Pipe) (flows : Flows p) (st : State) (d : Derived.State) (bits : L
   pub keeps_now : (l : Live) → Seated p st l → Keeps p l.env (now_of p d bits l)
   keeps_now l s = keeps_answered p d bits l.env l.thread s.keeps_on
 
-  deeds_are : (ls : List Live) (l : Live) (k : Known ls l) → deeds_of p st bits l ≡ does_all (word_for st l.number) (in_stage l.thread.stage p.stmts) (start_deeds p flows l.env (now_of p d bits l) (keeps_now l k.seated))
-  deeds_are ls l k = λ i. does_all (word_for st l.number) (in_stage l.thread.stage p.stmts) (record {
+  deeds_are : (ls : List Live) (l : Live) (k : Known ls l) → deeds_of p st bits l ≡ deeds_after_all (word_for st l.number) (in_stage l.thread.stage p.stmts) (start_deeds p flows l.env (now_of p d bits l) (keeps_now l k.seated))
+  deeds_are ls l k = λ i. deeds_after_all (word_for st l.number) (in_stage l.thread.stage p.stmts) (record {
     env = k.values i;
     guess = l.thread.guess;
     held = held_before l.thread.stage l.env p.stmts [];
@@ -328,7 +328,7 @@ module _ (p : Pipe) (flows : Flows p) (st : State) (d : Derived.State) (bits : L
   -- what the acts of the later stages say, as the derived machine's acts of the older threads say it
   pub record Tells (ls : List Live) (l : Live) (later : List Moves.Act) : Type 0 where
     pub fails : Moves.no_failure later ≡ list_all (λ (o : Derived.Act). not (o.moves && o.work.fails)) (dacts p d bits ls)
-    pub port : (m : ℕ) → none_of (fetches_from m) (in_stage l.thread.stage p.stmts) ≡ false → is_free (request_of st m) (answers p bits m) later ≡ port_free p d bits (dacts p d bits ls) m
+    pub port : (m : ℕ) → none_of (fetches_from m) (in_stage l.thread.stage p.stmts) ≡ false → is_free (request_of st m) (is_answered p bits m) later ≡ port_free p d bits (dacts p d bits ls) m
     pub clear : Moves.barrier_clear p later (deeds_of p st bits l) ≡ (not (deeds_of p st bits l).barrier || (around p d bits (dacts p d bits ls) l.thread.stage).clear)
     pub enters : (Moves.can_enter (next_stage p l.thread.stage (deeds_of p st bits l)) later && Moves.merges_well p st l.thread.stage (next_stage p l.thread.stage (deeds_of p st bits l))) ≡ Derived.can_enter p (dacts p d bits ls) (next_stage p l.thread.stage (deeds_of p st bits l))
 
@@ -345,12 +345,12 @@ module _ (p : Pipe) (flows : Flows p) (st : State) (d : Derived.State) (bits : L
   join true true true true true true e g = refl
 
   ports_are : (ls : List Live) (l : Live) (later : List Moves.Act) → Tells ls l later → (qs : List Ask) → AsksFrom (in_stage l.thread.stage p.stmts) qs
-      → list_all (λ q. is_free (request_of st q.mem) (answers p bits q.mem) later) qs ≡ list_all (λ q. port_free p d bits (dacts p d bits ls) q.mem) qs
+      → list_all (λ q. is_free (request_of st q.mem) (is_answered p bits q.mem) later) qs ≡ list_all (λ q. port_free p d bits (dacts p d bits ls) q.mem) qs
   ports_are ls l later t [] h = refl
   ports_are ls l later t (q ∷ qs) h = ap₂ (λ a b. a && b) (t.port q.mem h.0) (ports_are ls l later t qs h.1)
 
   moves_are : (ls : List Live) (l : Live) (later : List Moves.Act) → Known ls l → Tells ls l later
-      → Moves.moves p st bits later l.thread.stage (with_answers p st bits (seat l)) (deeds_of p st bits l) ≡ (did p d bits ls l).moves
+      → Moves.may_move p st bits later l.thread.stage (with_answers p st bits (seat l)) (deeds_of p st bits l) ≡ (did p d bits ls l).moves
   moves_are ls l later k t =
       (λ i. (((((((t.fails i && Moves.blocks_ready p st l.number (deeds_of p st bits l)) && Moves.have_room p st (deeds_of p st bits l)) && Moves.is_empty (k.waits i)) && ports_are ls l later t (deeds_of p st bits l).asks (asks_here ls l k) i) && t.clear i) && Moves.can_enter (next_stage p l.thread.stage (deeds_of p st bits l)) later) && Moves.merges_well p st l.thread.stage (next_stage p l.thread.stage (deeds_of p st bits l))))
       ∙ join (list_all (λ (o : Derived.Act). not (o.moves && o.work.fails)) (dacts p d bits ls)) (Moves.blocks_ready p st l.number (deeds_of p st bits l)) (Moves.have_room p st (deeds_of p st bits l)) (Moves.is_empty (still p bits l.thread.awaits)) (list_all (λ q. port_free p d bits (dacts p d bits ls) q.mem) (deeds_of p st bits l).asks) (not (deeds_of p st bits l).barrier || (around p d bits (dacts p d bits ls) l.thread.stage).clear) (Moves.can_enter (next_stage p l.thread.stage (deeds_of p st bits l)) later) (Moves.merges_well p st l.thread.stage (next_stage p l.thread.stage (deeds_of p st bits l)))

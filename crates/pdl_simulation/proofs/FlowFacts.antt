@@ -1,13 +1,13 @@
 -- The forms in which the simulation takes the facts of an accepted pipe of the whole language (all follow from the record of Facts).
 use Rattle.std.specs.Prelude.{◌≡◌, ◌⊎◌, ℕ, suc, ◌<◌, ◌≤◌, Bool, true, false, ◌&&◌, ◌||◌, not, List, [], ◌∷◌, ◌++◌, Some, None, if◌then◌else◌, ◌==◌, length, slice_index}
-use Rattle.pdl_semantics.specs.Flat.{Op, Bind, CombRead, DelayedRead, Write, ReserveWrite, Release, Stmt, Forks, Branch, Pipe, taken}
+use Rattle.pdl_semantics.specs.Flat.{Op, Bind, CombRead, DelayedRead, Write, ReserveWrite, Release, Stmt, Forks, Branch, Pipe, all_hold}
 use Rattle.pdl_semantics.specs.Stages.{onpath, in_stage, stage_at, is_inside, goes_to, verify_stage, commit_stage, reserve_stage, is_reserve, is_release, is_verify}
 use Rattle.pdl_semantics.specs.Cycle.{merges_by}
 use Rattle.pdl_semantics.specs.Sound.{stages_before, stages_from}
 use Rattle.pdl_derived.specs.Alone.{is_call}
 pub use Rattle.pdl_facts.specs.Graphs.{stage_or, next_of, on_side}
-use Rattle.pdl_facts.specs.Scans.{Phase, Fresh, next_phase, holds, is_fresh, is_over, phase_all, all_at, none_of, binds, fixed, is_fetch}
-pub use Rattle.pdl_facts.specs.Facts.{trunk_only, binds_guard, fetches, comes_by, visits}
+use Rattle.pdl_facts.specs.Scans.{Phase, Fresh, next_phase, holds_location, is_fresh, is_over, phase_all, all_at, none_of, binds_var, is_fixed, is_fetch}
+pub use Rattle.pdl_facts.specs.Facts.{trunk_only, binds_guard, is_fetch_of, comes_by, visits_stage}
 
 -- a delayed read of memory m
 abbrev pub fetches_from : ℕ → Op → Bool
@@ -27,9 +27,9 @@ at_most_one test (x ∷ xs) = if test x.op then none_of test xs else at_most_one
 
 -- a statement in this phase of the lock of m: a write goes through the one reservation that has no value yet, and no release precedes the write
 abbrev pub use_ok : ℕ → Phase → Op → Bool
-use_ok m ph (Write n a e) = not (n == m) || holds ph a
+use_ok m ph (Write n a e) = not (n == m) || holds_location ph a
 use_ok m ph (ReserveWrite n a) = not (n == m) || is_fresh ph
-use_ok m ph (Release n a) = not (n == m) || not (holds ph a)
+use_ok m ph (Release n a) = not (n == m) || not (holds_location ph a)
 use_ok m ph _ = true
 
 abbrev pub uses_ok : ℕ → Phase → List Stmt → Bool
@@ -93,20 +93,20 @@ pub record Flows (p : Pipe) : Type 0 where
   pub trunk_commit : (m : ℕ) → (stage_at p (commit_stage p m)).branch ≡ None
   pub verifies : (v : ℕ) → verify_stage p.stmts ≡ Some v → all_at is_verify v p.stmts ≡ true
   -- N2, N3: each variable has one definition, before each use, so a guard's variable is not bound where it is tested or later in the text
-  pub fixed_guards : fixed p.stmts ≡ true
+  pub fixed_guards : is_fixed p.stmts ≡ true
   -- a path's statements stand in the order of their stages, and those before its next stage are those up to its stage
   pub first_piece : (path : List ℕ) → onpath path (stages_before 0 p.stmts) ≡ []
-  pub next_piece : (path : List ℕ) (s : ℕ) → s < length p.stages → visits p path s ≡ true → onpath path (stages_before (next_of p s path) p.stmts) ≡ onpath path (stages_before s p.stmts) ++ onpath path (in_stage s p.stmts)
+  pub next_piece : (path : List ℕ) (s : ℕ) → s < length p.stages → visits_stage p path s ≡ true → onpath path (stages_before (next_of p s path) p.stmts) ≡ onpath path (stages_before s p.stmts) ++ onpath path (in_stage s p.stmts)
   pub all_pieces : (path : List ℕ) (s : ℕ) → onpath path p.stmts ≡ onpath path (stages_before s p.stmts) ++ onpath path (stages_from s p.stmts)
   pub whole : (path : List ℕ) → onpath path (stages_before (length p.stages) p.stmts) ≡ onpath path p.stmts
   -- the next stage of a path stands on it
-  pub arrives : (path : List ℕ) (s q : ℕ) → s < length p.stages → goes_to (stage_at p s).next path ≡ Some q → visits p path s ≡ true → visits p path q ≡ true
+  pub arrives : (path : List ℕ) (s q : ℕ) → s < length p.stages → goes_to (stage_at p s).next path ≡ Some q → visits_stage p path s ≡ true → visits_stage p path q ≡ true
   -- N2, N3: what a path's statements of stage s bind at once is no guard of an earlier stage's statement, nor of the fork around s, so values that differ in these alone take the same earlier statements
-  pub steady : (s : ℕ) (env env' : List ℕ) → visits p env s ≡ true → SameBut sets (onpath env' (in_stage s p.stmts)) env env'
-      → (onpath env (stages_before s p.stmts) ≡ onpath env' (stages_before s p.stmts)) × (visits p env s ≡ visits p env' s)
+  pub steady : (s : ℕ) (env env' : List ℕ) → visits_stage p env s ≡ true → SameBut sets (onpath env' (in_stage s p.stmts)) env env'
+      → (onpath env (stages_before s p.stmts) ≡ onpath env' (stages_before s p.stmts)) × (visits_stage p env s ≡ visits_stage p env' s)
   -- N2, N3: a delayed read's variable is used behind the next separator on the path, so it is no guard in its own stage either, nor that of the next stage's fork
-  pub settled : (s : ℕ) (env env' : List ℕ) → s < length p.stages → visits p env' s ≡ true → SameBut fetches (onpath env' (in_stage s p.stmts)) env env'
-      → (onpath env (stages_before (next_of p s env') p.stmts) ≡ onpath env' (stages_before (next_of p s env') p.stmts)) × (visits p env (next_of p s env') ≡ visits p env' (next_of p s env'))
+  pub settled : (s : ℕ) (env env' : List ℕ) → s < length p.stages → visits_stage p env' s ≡ true → SameBut is_fetch_of (onpath env' (in_stage s p.stmts)) env env'
+      → (onpath env (stages_before (next_of p s env') p.stmts) ≡ onpath env' (stages_before (next_of p s env') p.stmts)) × (visits_stage p env (next_of p s env') ≡ visits_stage p env' (next_of p s env'))
   -- L1, L4, L5, L6: on each path at most one write reservation of a memory, one write through it, and no release before it
   pub uses : (path : List ℕ) (m : ℕ) → uses_ok m Fresh (onpath path p.stmts) ≡ true
   -- L6, L7: it is written and released in the end
@@ -125,8 +125,8 @@ pub record Flows (p : Pipe) : Type 0 where
 
 -- what holds of each statement
 abbrev pub AllOf : (Stmt → Type 0) → List Stmt → Type 0
-AllOf holds [] = Unit {0}
-AllOf holds (x ∷ xs) = holds x × AllOf holds xs
+AllOf holds_location [] = Unit {0}
+AllOf holds_location (x ∷ xs) = holds_location x × AllOf holds_location xs
 
 -- a definition in stage s for a use in stage r: not later, and earlier if it is a delayed read
 abbrev pub DefinedBy : ℕ → Op → ℕ → Type 0
@@ -143,17 +143,17 @@ pub record FlowRules (p : Pipe) : Type 0 where
   pub trunk_commit : (m : ℕ) → (stage_at p (commit_stage p m)).branch ≡ None
   pub verifies : (v : ℕ) → verify_stage p.stmts ≡ Some v → all_at is_verify v p.stmts ≡ true
   -- N2, N3: a guard's variable is bound nowhere but before it in the text
-  pub fixed_guards : fixed p.stmts ≡ true
+  pub fixed_guards : is_fixed p.stmts ≡ true
   -- statements stand in the pipe's stages, those of a path in the order of their stages
   pub inside : AllOf (λ z. z.stage < length p.stages) p.stmts
   pub order : (path : List ℕ) (s : ℕ) → onpath path p.stmts ≡ onpath path (stages_before s p.stmts) ++ onpath path (stages_from s p.stmts)
   -- between a stage of a path and its next one the path has no statement, and the next stage stands on the path
-  pub on_stages : (path : List ℕ) (s : ℕ) → s < length p.stages → visits p path s ≡ true → AllOf (λ z. taken z.guards path ≡ true → (z.stage ≤ s) ⊎ (next_of p s path ≤ z.stage)) p.stmts
-  pub arrives : (path : List ℕ) (s q : ℕ) → s < length p.stages → goes_to (stage_at p s).next path ≡ Some q → visits p path s ≡ true → visits p path q ≡ true
+  pub on_stages : (path : List ℕ) (s : ℕ) → s < length p.stages → visits_stage p path s ≡ true → AllOf (λ z. all_hold z.guards path ≡ true → (z.stage ≤ s) ⊎ (next_of p s path ≤ z.stage)) p.stmts
+  pub arrives : (path : List ℕ) (s q : ℕ) → s < length p.stages → goes_to (stage_at p s).next path ≡ Some q → visits_stage p path s ≡ true → visits_stage p path q ≡ true
   -- N2, N3: the definition of a guard's variable stands before each use of a path, a delayed read's before the separator before it
-  pub guards_late : (path : List ℕ) → AllOf (λ z. taken z.guards path ≡ true → AllOf (λ y. binds_guard y.op z.guards ≡ true → DefinedBy y.stage y.op z.stage) p.stmts) p.stmts
+  pub guards_late : (path : List ℕ) → AllOf (λ z. all_hold z.guards path ≡ true → AllOf (λ y. binds_guard y.op z.guards ≡ true → DefinedBy y.stage y.op z.stage) p.stmts) p.stmts
   -- and that of a fork's guard before the fork
-  pub forks_late : (s x a b : ℕ) → (stage_at p s).next ≡ Forks x a b → AllOf (λ y. binds x y.op ≡ true → DefinedBy y.stage y.op s) p.stmts
+  pub forks_late : (s x a b : ℕ) → (stage_at p s).next ≡ Forks x a b → AllOf (λ y. binds_var x y.op ≡ true → DefinedBy y.stage y.op s) p.stmts
   -- L1, L4 to L7
   pub uses : (path : List ℕ) (m : ℕ) → uses_ok m Fresh (onpath path p.stmts) ≡ true
   pub over : (path : List ℕ) (m : ℕ) → is_over (phase_all m Fresh (onpath path p.stmts)) ≡ true

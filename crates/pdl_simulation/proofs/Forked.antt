@@ -5,7 +5,7 @@ use Rattle.pdl_semantics.specs.Flat.{Pipe, Branch, Op, Verify, Stmt, list_all}
 use Rattle.pdl_semantics.specs.Stages.{in_stage, stage_at, goes_to, is_branch_of, is_inside, merges_fork, verify_stage, is_verify}
 use Rattle.pdl_semantics.specs.Machine.{State}
 use Rattle.pdl_semantics.specs.Moves.{movers, next_stage, is_nobody}
-use Rattle.pdl_semantics.specs.Cycle.{entered, goes_into, goes_out, left, but_first, merges_by}
+use Rattle.pdl_semantics.specs.Cycle.{entered_branches, goes_into, goes_out, has_left, but_first, merges_by}
 use Rattle.pdl_semantics.specs.Sound.{side_in}
 use Rattle.pdl_semantics.specs.Cycle
 use Rattle.pdl_semantics.specs.Moves
@@ -95,15 +95,15 @@ module _ (p : Pipe) (flows : Flows p) (st : State) (d : Derived.State) (bits : L
     abbrev pub enters : Live → List Bool
     enters l = if l.thread.stage == f then goes_into p f (next_stage p l.thread.stage (deeds_of p st bits l)) else []
 
-    entered_none : (ls : List Live) → Each (λ k. k.thread.stage ≡ f → ⊥) ls → entered p f (ms ls) ≡ []
+    entered_none : (ls : List Live) → Each (λ k. k.thread.stage ≡ f → ⊥) ls → entered_branches p f (ms ls) ≡ []
     entered_none [] h = refl
     entered_none (l ∷ ls) h = at (did p d bits ls l).moves (entered_none ls h.1)
       where
-        at : (b : Bool) → entered p f (ms ls) ≡ [] → entered p f (cond b (lact p st d bits ls l ∷ ms ls) (ms ls)) ≡ []
+        at : (b : Bool) → entered_branches p f (ms ls) ≡ [] → entered_branches p f (cond b (lact p st d bits ls l ∷ ms ls) (ms ls)) ≡ []
         at true e = ap₂ (λ a t. a ++ (if t then goes_into p f (next_stage p l.thread.stage (deeds_of p st bits l)) else [])) e (ne_eqb l.thread.stage f h.0)
         at false e = e
 
-    left_none : (ls : List Live) → is_nobody (sides p f ls) ≡ true → left p f (ms ls) ≡ false
+    left_none : (ls : List Live) → is_nobody (sides p f ls) ≡ true → has_left p f (ms ls) ≡ false
     left_none [] h = refl
     left_none (l ∷ ls) h = at (did p d bits ls l).moves (left_none ls (front (sides p f ls) (side_in f (stage_at p l.thread.stage).branch) h)) (outside (stage_at p l.thread.stage).branch refl)
       where
@@ -123,11 +123,11 @@ module _ (p : Pipe) (flows : Flows p) (st : State) (d : Derived.State) (bits : L
             by true i = absurd (cc (sym (behind (sides p f ls) (side_in f (stage_at p l.thread.stage).branch) h) ∙ ap (λ c. is_nobody (side_in f c)) e ∙ ap (λ t. is_nobody (if t then x.first ∷ [] else [])) i))
             by false i = ap (λ c. is_branch_of c f) e ∙ i
 
-        at : (b : Bool) → left p f (ms ls) ≡ false → is_branch_of (stage_at p l.thread.stage).branch f ≡ false → left p f (cond b (lact p st d bits ls l ∷ ms ls) (ms ls)) ≡ false
+        at : (b : Bool) → has_left p f (ms ls) ≡ false → is_branch_of (stage_at p l.thread.stage).branch f ≡ false → has_left p f (cond b (lact p st d bits ls l ∷ ms ls) (ms ls)) ≡ false
         at true e i = ap₂ (λ a c. (a && goes_out p f (next_stage p l.thread.stage (deeds_of p st bits l))) || c) i e
         at false e i = e
 
-    some_left : (ls : List Live) → left p f (ms ls) ≡ true → is_nobody (sides p f ls) ≡ false
+    some_left : (ls : List Live) → has_left p f (ms ls) ≡ true → is_nobody (sides p f ls) ≡ false
     some_left ls h = at (is_nobody (sides p f ls)) refl
       where
         at : (b : Bool) → is_nobody (sides p f ls) ≡ b → is_nobody (sides p f ls) ≡ false
@@ -146,7 +146,7 @@ module _ (p : Pipe) (flows : Flows p) (st : State) (d : Derived.State) (bits : L
     nobody_nil (x ∷ xs) h = absurd (cc h)
 
     -- the list after the cycle, but for squashes
-    pub list_all_on : (ls : List Live) → AllKnown p flows st d bits arrays ls → Ordered p ls → (if left p f (ms ls) then but_first (sides p f ls) else sides p f ls) ++ entered p f (ms ls) ≡ sides p f (all_on ls)
+    pub list_all_on : (ls : List Live) → AllKnown p flows st d bits arrays ls → Ordered p ls → (if has_left p f (ms ls) then but_first (sides p f ls) else sides p f ls) ++ entered_branches p f (ms ls) ≡ sides p f (all_on ls)
     list_all_on [] k o = refl
     list_all_on (l ∷ ls) k o = at (did p d bits ls l).moves refl (list_all_on ls k.1 o.1)
       where
@@ -157,32 +157,32 @@ module _ (p : Pipe) (flows : Flows p) (st : State) (d : Derived.State) (bits : L
         inside_x x e i = ap (side_in f) e ∙ ap (λ t. if t then x.first ∷ [] else []) (eq-eqb _ _ i)
 
         -- it stays where it is
-        stands : (b : Option Branch) → (stage_at p l.thread.stage).branch ≡ b → (if left p f (ms ls) then but_first (sides p f ls) else sides p f ls) ++ entered p f (ms ls) ≡ sides p f (all_on ls)
-            → (if left p f (ms ls) then but_first (sides p f ls ++ side_in f (stage_at p l.thread.stage).branch) else (sides p f ls ++ side_in f (stage_at p l.thread.stage).branch)) ++ entered p f (ms ls) ≡ sides p f (all_on ls) ++ side_in f (stage_at p l.thread.stage).branch
+        stands : (b : Option Branch) → (stage_at p l.thread.stage).branch ≡ b → (if has_left p f (ms ls) then but_first (sides p f ls) else sides p f ls) ++ entered_branches p f (ms ls) ≡ sides p f (all_on ls)
+            → (if has_left p f (ms ls) then but_first (sides p f ls ++ side_in f (stage_at p l.thread.stage).branch) else (sides p f ls ++ side_in f (stage_at p l.thread.stage).branch)) ++ entered_branches p f (ms ls) ≡ sides p f (all_on ls) ++ side_in f (stage_at p l.thread.stage).branch
         stands b e h =
-            sym (ap (λ u. (if left p f (ms ls) then but_first (sides p f ls ++ side_in f (stage_at p l.thread.stage).branch) else (sides p f ls ++ side_in f (stage_at p l.thread.stage).branch)) ++ u) (append-nil _))
+            sym (ap (λ u. (if has_left p f (ms ls) then but_first (sides p f ls ++ side_in f (stage_at p l.thread.stage).branch) else (sides p f ls ++ side_in f (stage_at p l.thread.stage).branch)) ++ u) (append-nil _))
             ∙ by b e
           where
             by : (b : Option Branch) → (stage_at p l.thread.stage).branch ≡ b
-                → (if left p f (ms ls) then but_first (sides p f ls ++ side_in f (stage_at p l.thread.stage).branch) else (sides p f ls ++ side_in f (stage_at p l.thread.stage).branch)) ++ (entered p f (ms ls) ++ []) ≡ sides p f (all_on ls) ++ side_in f (stage_at p l.thread.stage).branch
-            by None e = list_neutral (left p f (ms ls)) (sides p f ls) (entered p f (ms ls)) (sides p f (all_on ls)) (side_in f (stage_at p l.thread.stage).branch) (side_in f (stage_at p l.thread.stage).branch) [] h (ap (side_in f) e) (sym (ap (side_in f) e))
+                → (if has_left p f (ms ls) then but_first (sides p f ls ++ side_in f (stage_at p l.thread.stage).branch) else (sides p f ls ++ side_in f (stage_at p l.thread.stage).branch)) ++ (entered_branches p f (ms ls) ++ []) ≡ sides p f (all_on ls) ++ side_in f (stage_at p l.thread.stage).branch
+            by None e = list_neutral (has_left p f (ms ls)) (sides p f ls) (entered_branches p f (ms ls)) (sides p f (all_on ls)) (side_in f (stage_at p l.thread.stage).branch) (side_in f (stage_at p l.thread.stage).branch) [] h (ap (side_in f) e) (sym (ap (side_in f) e))
             by (Some x) e = which (x.fork == f) refl
               where
                 which : (t : Bool) → (x.fork == f) ≡ t
-                    → (if left p f (ms ls) then but_first (sides p f ls ++ side_in f (stage_at p l.thread.stage).branch) else (sides p f ls ++ side_in f (stage_at p l.thread.stage).branch)) ++ (entered p f (ms ls) ++ []) ≡ sides p f (all_on ls) ++ side_in f (stage_at p l.thread.stage).branch
+                    → (if has_left p f (ms ls) then but_first (sides p f ls ++ side_in f (stage_at p l.thread.stage).branch) else (sides p f ls ++ side_in f (stage_at p l.thread.stage).branch)) ++ (entered_branches p f (ms ls) ++ []) ≡ sides p f (all_on ls) ++ side_in f (stage_at p l.thread.stage).branch
                 which true i =
-                    subst (λ s. (if left p f (ms ls) then but_first (sides p f ls ++ s) else (sides p f ls ++ s)) ++ (entered p f (ms ls) ++ []) ≡ sides p f (all_on ls) ++ s) (sym (inside_x x e (eqb-true _ _ i)))
-                    (list_inside (left p f (ms ls)) (sides p f ls) (entered p f (ms ls)) (sides p f (all_on ls)) x.first h (entered_none ls (past_fork l x ls e (eqb-true _ _ i) o.0)) (some_left ls))
+                    subst (λ s. (if has_left p f (ms ls) then but_first (sides p f ls ++ s) else (sides p f ls ++ s)) ++ (entered_branches p f (ms ls) ++ []) ≡ sides p f (all_on ls) ++ s) (sym (inside_x x e (eqb-true _ _ i)))
+                    (list_inside (has_left p f (ms ls)) (sides p f ls) (entered_branches p f (ms ls)) (sides p f (all_on ls)) x.first h (entered_none ls (past_fork l x ls e (eqb-true _ _ i) o.0)) (some_left ls))
                 which false i =
                     let none : side_in f (stage_at p l.thread.stage).branch ≡ [] = ap (side_in f) e ∙ ap (λ t. if t then x.first ∷ [] else []) i in
-                    list_neutral (left p f (ms ls)) (sides p f ls) (entered p f (ms ls)) (sides p f (all_on ls)) (side_in f (stage_at p l.thread.stage).branch) (side_in f (stage_at p l.thread.stage).branch) [] h none (sym none)
+                    list_neutral (has_left p f (ms ls)) (sides p f ls) (entered_branches p f (ms ls)) (sides p f (all_on ls)) (side_in f (stage_at p l.thread.stage).branch) (side_in f (stage_at p l.thread.stage).branch) [] h none (sym none)
 
         -- it moves to stage q, or out
-        outside_moves : is_branch_of (stage_at p l.thread.stage).branch f ≡ false → (after : List Bool) → enters l ≡ after → side_in f (stage_at p l.thread.stage).branch ≡ [] → (if left p f (ms ls) then but_first (sides p f ls) else sides p f ls) ++ entered p f (ms ls) ≡ sides p f (all_on ls)
-            → (if leaves l || left p f (ms ls) then but_first (sides p f ls ++ side_in f (stage_at p l.thread.stage).branch) else (sides p f ls ++ side_in f (stage_at p l.thread.stage).branch)) ++ (entered p f (ms ls) ++ enters l) ≡ sides p f (all_on ls) ++ after
+        outside_moves : is_branch_of (stage_at p l.thread.stage).branch f ≡ false → (after : List Bool) → enters l ≡ after → side_in f (stage_at p l.thread.stage).branch ≡ [] → (if has_left p f (ms ls) then but_first (sides p f ls) else sides p f ls) ++ entered_branches p f (ms ls) ≡ sides p f (all_on ls)
+            → (if leaves l || has_left p f (ms ls) then but_first (sides p f ls ++ side_in f (stage_at p l.thread.stage).branch) else (sides p f ls ++ side_in f (stage_at p l.thread.stage).branch)) ++ (entered_branches p f (ms ls) ++ enters l) ≡ sides p f (all_on ls) ++ after
         outside_moves off after e none h =
-            ap (λ b. (if (b && goes_out p f (next_stage p l.thread.stage (deeds_of p st bits l))) || left p f (ms ls) then but_first (sides p f ls ++ side_in f (stage_at p l.thread.stage).branch) else (sides p f ls ++ side_in f (stage_at p l.thread.stage).branch)) ++ (entered p f (ms ls) ++ enters l)) off
-            ∙ list_neutral (left p f (ms ls)) (sides p f ls) (entered p f (ms ls)) (sides p f (all_on ls)) (side_in f (stage_at p l.thread.stage).branch) after (enters l) h none e
+            ap (λ b. (if (b && goes_out p f (next_stage p l.thread.stage (deeds_of p st bits l))) || has_left p f (ms ls) then but_first (sides p f ls ++ side_in f (stage_at p l.thread.stage).branch) else (sides p f ls ++ side_in f (stage_at p l.thread.stage).branch)) ++ (entered_branches p f (ms ls) ++ enters l)) off
+            ∙ list_neutral (has_left p f (ms ls)) (sides p f ls) (entered_branches p f (ms ls)) (sides p f (all_on ls)) (side_in f (stage_at p l.thread.stage).branch) after (enters l) h none e
 
         -- from the fork it enters a branch
         enters_side : (q : ℕ) → next_stage p l.thread.stage (deeds_of p st bits l) ≡ Some q → ((z : Branch) → (stage_at p q).branch ≡ Some z → z.fork ≡ f → l.thread.stage ≡ f) → enters l ≡ side_in f (stage_at p q).branch
@@ -205,11 +205,11 @@ module _ (p : Pipe) (flows : Flows p) (st : State) (d : Derived.State) (bits : L
 
         -- inside, it moves on in its branch
         moves_inside : (q : ℕ) → next_stage p l.thread.stage (deeds_of p st bits l) ≡ Some q → (x : Branch) → (stage_at p l.thread.stage).branch ≡ Some x → x.fork ≡ f → (stage_at p q).branch ≡ Some x
-            → (if left p f (ms ls) then but_first (sides p f ls) else sides p f ls) ++ entered p f (ms ls) ≡ sides p f (all_on ls)
-            → (if leaves l || left p f (ms ls) then but_first (sides p f ls ++ side_in f (stage_at p l.thread.stage).branch) else (sides p f ls ++ side_in f (stage_at p l.thread.stage).branch)) ++ (entered p f (ms ls) ++ enters l) ≡ sides p f (all_on ls) ++ side_in f (stage_at p q).branch
+            → (if has_left p f (ms ls) then but_first (sides p f ls) else sides p f ls) ++ entered_branches p f (ms ls) ≡ sides p f (all_on ls)
+            → (if leaves l || has_left p f (ms ls) then but_first (sides p f ls ++ side_in f (stage_at p l.thread.stage).branch) else (sides p f ls ++ side_in f (stage_at p l.thread.stage).branch)) ++ (entered_branches p f (ms ls) ++ enters l) ≡ sides p f (all_on ls) ++ side_in f (stage_at p q).branch
         moves_inside q i x e j b h =
-            (λ t. (if stays_in t || left p f (ms ls) then but_first (sides p f ls ++ inside_x x e j t) else (sides p f ls ++ inside_x x e j t)) ++ (entered p f (ms ls) ++ no_fork t))
-            ∙ list_inside (left p f (ms ls)) (sides p f ls) (entered p f (ms ls)) (sides p f (all_on ls)) x.first h (entered_none ls (past_fork l x ls e j o.0)) (some_left ls)
+            (λ t. (if stays_in t || has_left p f (ms ls) then but_first (sides p f ls ++ inside_x x e j t) else (sides p f ls ++ inside_x x e j t)) ++ (entered_branches p f (ms ls) ++ no_fork t))
+            ∙ list_inside (has_left p f (ms ls)) (sides p f ls) (entered_branches p f (ms ls)) (sides p f (all_on ls)) x.first h (entered_none ls (past_fork l x ls e j o.0)) (some_left ls)
             ∙ ap (λ u. sides p f (all_on ls) ++ u) (sym (ap (side_in f) b ∙ ap (λ t. if t then x.first ∷ [] else []) (eq-eqb _ _ j)))
           where
             below : x.fork < l.thread.stage
@@ -231,11 +231,11 @@ module _ (p : Pipe) (flows : Flows p) (st : State) (d : Derived.State) (bits : L
 
         -- it leaves into the merge, the oldest inside
         moves_out : (did p d bits ls l).moves ≡ true → (q : ℕ) → next_stage p l.thread.stage (deeds_of p st bits l) ≡ Some q → (x : Branch) → (stage_at p l.thread.stage).branch ≡ Some x → x.fork ≡ f → (stage_at p q).merges ≡ Some x.fork
-            → (if left p f (ms ls) then but_first (sides p f ls) else sides p f ls) ++ entered p f (ms ls) ≡ sides p f (all_on ls)
-            → (if leaves l || left p f (ms ls) then but_first (sides p f ls ++ side_in f (stage_at p l.thread.stage).branch) else (sides p f ls ++ side_in f (stage_at p l.thread.stage).branch)) ++ (entered p f (ms ls) ++ enters l) ≡ sides p f (all_on ls) ++ side_in f (stage_at p q).branch
+            → (if has_left p f (ms ls) then but_first (sides p f ls) else sides p f ls) ++ entered_branches p f (ms ls) ≡ sides p f (all_on ls)
+            → (if leaves l || has_left p f (ms ls) then but_first (sides p f ls ++ side_in f (stage_at p l.thread.stage).branch) else (sides p f ls ++ side_in f (stage_at p l.thread.stage).branch)) ++ (entered_branches p f (ms ls) ++ enters l) ≡ sides p f (all_on ls) ++ side_in f (stage_at p q).branch
         moves_out go q i x e j m h =
-            (λ t. (if goes t || left p f (ms ls) then but_first (sides p f ls ++ inside_x x e j t) else (sides p f ls ++ inside_x x e j t)) ++ (entered p f (ms ls) ++ no_fork t))
-            ∙ list_leaves (left p f (ms ls)) (sides p f ls) (entered p f (ms ls)) (sides p f (all_on ls)) x.first h (nobody_nil (sides p f ls) nobody) (entered_none ls (past_fork l x ls e j o.0)) (left_none ls nobody)
+            (λ t. (if goes t || has_left p f (ms ls) then but_first (sides p f ls ++ inside_x x e j t) else (sides p f ls ++ inside_x x e j t)) ++ (entered_branches p f (ms ls) ++ no_fork t))
+            ∙ list_leaves (has_left p f (ms ls)) (sides p f ls) (entered_branches p f (ms ls)) (sides p f (all_on ls)) x.first h (nobody_nil (sides p f ls) nobody) (entered_none ls (past_fork l x ls e j o.0)) (left_none ls nobody)
             ∙ ap (λ u. sides p f (all_on ls) ++ u) (sym (ap (side_in f) (flows.graph.merge l.thread.stage q x.fork (leads q i) m).0))
           where
             below : x.fork < l.thread.stage
@@ -262,8 +262,8 @@ module _ (p : Pipe) (flows : Flows p) (st : State) (d : Derived.State) (bits : L
         no_side None e i = ap (side_in f) e
         no_side (Some x) e i = ap (side_in f) e ∙ ap (λ t. if t then x.first ∷ [] else []) i
 
-        moved : (did p d bits ls l).moves ≡ true → (r : Option ℕ) → next_stage p l.thread.stage (deeds_of p st bits l) ≡ r → (if left p f (ms ls) then but_first (sides p f ls) else sides p f ls) ++ entered p f (ms ls) ≡ sides p f (all_on ls)
-            → (if leaves l || left p f (ms ls) then but_first (sides p f ls ++ side_in f (stage_at p l.thread.stage).branch) else (sides p f ls ++ side_in f (stage_at p l.thread.stage).branch)) ++ (entered p f (ms ls) ++ enters l) ≡ sides p f (moved_live r l (work_of_live p d bits ls l) ++ all_on ls)
+        moved : (did p d bits ls l).moves ≡ true → (r : Option ℕ) → next_stage p l.thread.stage (deeds_of p st bits l) ≡ r → (if has_left p f (ms ls) then but_first (sides p f ls) else sides p f ls) ++ entered_branches p f (ms ls) ≡ sides p f (all_on ls)
+            → (if leaves l || has_left p f (ms ls) then but_first (sides p f ls ++ side_in f (stage_at p l.thread.stage).branch) else (sides p f ls ++ side_in f (stage_at p l.thread.stage).branch)) ++ (entered_branches p f (ms ls) ++ enters l) ≡ sides p f (moved_live r l (work_of_live p d bits ls l) ++ all_on ls)
         moved go None i h =
             outside_moves (ap (λ c. is_branch_of c f) last) [] (none (l.thread.stage == f)) (no_side None last refl) h ∙ append-nil _
           where
@@ -276,7 +276,7 @@ module _ (p : Pipe) (flows : Flows p) (st : State) (d : Derived.State) (bits : L
         moved go (Some q) i h = by (stage_at p l.thread.stage).branch refl
           where
             by : (c : Option Branch) → (stage_at p l.thread.stage).branch ≡ c
-                → (if leaves l || left p f (ms ls) then but_first (sides p f ls ++ side_in f (stage_at p l.thread.stage).branch) else (sides p f ls ++ side_in f (stage_at p l.thread.stage).branch)) ++ (entered p f (ms ls) ++ enters l) ≡ sides p f (all_on ls) ++ side_in f (stage_at p q).branch
+                → (if leaves l || has_left p f (ms ls) then but_first (sides p f ls ++ side_in f (stage_at p l.thread.stage).branch) else (sides p f ls ++ side_in f (stage_at p l.thread.stage).branch)) ++ (entered_branches p f (ms ls) ++ enters l) ≡ sides p f (all_on ls) ++ side_in f (stage_at p q).branch
             by None e = outside_moves (ap (λ c. is_branch_of c f) e) (side_in f (stage_at p q).branch) (enters_side q i only) (no_side None e refl) h
               where
                 only : (z : Branch) → (stage_at p q).branch ≡ Some z → z.fork ≡ f → l.thread.stage ≡ f
@@ -298,17 +298,17 @@ module _ (p : Pipe) (flows : Flows p) (st : State) (d : Derived.State) (bits : L
                     from (inr w) = absurd (cc (sym e ∙ w.1))
 
                 which : (t : Bool) → (x.fork == f) ≡ t
-                    → (if leaves l || left p f (ms ls) then but_first (sides p f ls ++ side_in f (stage_at p l.thread.stage).branch) else (sides p f ls ++ side_in f (stage_at p l.thread.stage).branch)) ++ (entered p f (ms ls) ++ enters l) ≡ sides p f (all_on ls) ++ side_in f (stage_at p q).branch
+                    → (if leaves l || has_left p f (ms ls) then but_first (sides p f ls ++ side_in f (stage_at p l.thread.stage).branch) else (sides p f ls ++ side_in f (stage_at p l.thread.stage).branch)) ++ (entered_branches p f (ms ls) ++ enters l) ≡ sides p f (all_on ls) ++ side_in f (stage_at p q).branch
                 which false j = outside_moves (ap (λ c. is_branch_of c f) e ∙ j) (side_in f (stage_at p q).branch) (enters_side q i (only j)) (no_side (Some x) e j) h
                 which true j = way (flows.graph.out_of l.thread.stage q x (leads q i) e)
                   where
                     way : ((stage_at p q).branch ≡ Some x) ⊎ ((stage_at p q).merges ≡ Some x.fork)
-                        → (if leaves l || left p f (ms ls) then but_first (sides p f ls ++ side_in f (stage_at p l.thread.stage).branch) else (sides p f ls ++ side_in f (stage_at p l.thread.stage).branch)) ++ (entered p f (ms ls) ++ enters l) ≡ sides p f (all_on ls) ++ side_in f (stage_at p q).branch
+                        → (if leaves l || has_left p f (ms ls) then but_first (sides p f ls ++ side_in f (stage_at p l.thread.stage).branch) else (sides p f ls ++ side_in f (stage_at p l.thread.stage).branch)) ++ (entered_branches p f (ms ls) ++ enters l) ≡ sides p f (all_on ls) ++ side_in f (stage_at p q).branch
                     way (inl b) = moves_inside q i x e (eqb-true _ _ j) b h
                     way (inr m) = moves_out go q i x e (eqb-true _ _ j) m h
 
-        at : (b : Bool) → (did p d bits ls l).moves ≡ b → (if left p f (ms ls) then but_first (sides p f ls) else sides p f ls) ++ entered p f (ms ls) ≡ sides p f (all_on ls)
-            → (if left p f (cond b (lact p st d bits ls l ∷ ms ls) (ms ls)) then but_first (sides p f (l ∷ ls)) else sides p f (l ∷ ls)) ++ entered p f (cond b (lact p st d bits ls l ∷ ms ls) (ms ls))
+        at : (b : Bool) → (did p d bits ls l).moves ≡ b → (if has_left p f (ms ls) then but_first (sides p f ls) else sides p f ls) ++ entered_branches p f (ms ls) ≡ sides p f (all_on ls)
+            → (if has_left p f (cond b (lact p st d bits ls l ∷ ms ls) (ms ls)) then but_first (sides p f (l ∷ ls)) else sides p f (l ∷ ls)) ++ entered_branches p f (cond b (lact p st d bits ls l ∷ ms ls) (ms ls))
             ≡ sides p f (cond b (moved_live (goes_to (stage_at p l.thread.stage).next (work_of_live p d bits ls l).env) l (work_of_live p d bits ls l)) (stood p st d bits l ∷ []) ++ all_on ls)
         at false e h = stands (stage_at p l.thread.stage).branch refl h ∙ sym (behind_next (stood p st d bits l ∷ []))
         at true e h = moved e (next_stage p l.thread.stage (deeds_of p st bits l)) refl h ∙ ap (λ r. sides p f (moved_live r l (work_of_live p d bits ls l) ++ all_on ls)) (next_is ls l k.0)
@@ -440,7 +440,7 @@ module _ (p : Pipe) (flows : Flows p) (st : State) (d : Derived.State) (bits : L
 
     -- the list of fork f after the cycle
     pub fork_next : (n : ℕ) (c : Option (List ℕ)) (sq : Option ℕ) (ls : List Live) → AllKnown p flows st d bits arrays ls → Ordered p ls → is_some sq ≡ fell p d bits ls
-        → Cycle.branches_left p sq f ((if left p f (ms ls) then but_first (sides p f ls) else sides p f ls) ++ entered p f (ms ls)) ≡ sides p f (born_live p n c ++ go_on p st d bits ls)
+        → Cycle.branches_left p sq f ((if has_left p f (ms ls) then but_first (sides p f ls) else sides p f ls) ++ entered_branches p f (ms ls)) ≡ sides p f (born_live p n c ++ go_on p st d bits ls)
     fork_next n c sq ls k o h =
         ap₂ (λ b l. if b && merges_by p f (verify_stage p.stmts) then [] else l) h (list_all_on ls k o)
         ∙ at (fell p d bits ls) refl (merges_by p f (verify_stage p.stmts)) refl ∙ sym (born_side n c (go_on p st d bits ls))

@@ -1,14 +1,14 @@
 -- The facts that the simulation takes follow from those of an accepted pipe.
 use Rattle.std.proofs.Common.{◌≡◌, refl, sym, ap, ap₂, ◌∙◌, subst, ℕ, suc, ◌≤◌, ◌<◌, ◌⊎◌, inl, inr, Bool, true, false, ◌&&◌, ◌||◌, not, List, [], ◌∷◌, ◌++◌, length, Option, Some, None, ◌==◌, nat_lt, nat_le, cond, arith, ltb-true, ltb-false, leb-true, leb-false, le_refl, eq-eqb}
 use Rattle.std.proofs.lemmas.Bool.{eqb-true, eqb-false, ne_eqb}
-use Rattle.pdl_semantics.specs.Flat.{list_all, Pipe, Branch, Op, DelayedRead, Stmt, taken}
+use Rattle.pdl_semantics.specs.Flat.{list_all, Pipe, Branch, Op, DelayedRead, Stmt, all_hold}
 use Rattle.pdl_semantics.specs.Stages.{onpath, in_stage, stage_at, goes_to, is_inside, is_branch_of, commit_stage, verify_stage}
 use Rattle.pdl_semantics.specs.Sound.{stages_before, stages_from}
-use Rattle.pdl_derived.specs.Alone.{before, looked, is_call}
-use Rattle.pdl_facts.specs.Scans.{from, Phase, Fresh, next_phase, phase_all, is_over, none_of, binds, is_fetch, is_dead}
+use Rattle.pdl_derived.specs.Alone.{before, answered_op, is_call}
+use Rattle.pdl_facts.specs.Scans.{from, Phase, Fresh, next_phase, phase_all, is_over, none_of, binds_var, is_fetch, is_dead}
 use Rattle.pdl_facts.specs.Certain.{Unmade}
 use Rattle.pdl_facts.specs.Graphs.{Trunk, In, stage_or, next_of, goes_by}
-use Rattle.pdl_facts.specs.Facts.{fetches, none_like, alone_op, fetch_apart, Found, FetchIf, AllFetches, looked_all, at_once, comes_by, visits, defined_by, late_for, Sound}
+use Rattle.pdl_facts.specs.Facts.{is_fetch_of, none_like, alone_op, fetch_apart, Found, FetchIf, AllFetches, looked_all, at_once, comes_by, visits_stage, defined_by, late_for, Sound}
 use Rattle.pdl_simulation.proofs.FlowFacts.{Ways, Flows, FlowRules, Leads, AllOf, DefinedBy, binds_guard, use_ok, uses_ok, call_ok, calls_ok, fetches_from, at_most_one}
 use Rattle.pdl_derived.proofs.Writes.{and_left, and_right}
 use Rattle.pdl_turns.proofs.Paths.{dead_none}
@@ -43,7 +43,7 @@ early_first : (s : ℕ) (xs : List Stmt) (z : Stmt) (zs : List Stmt) → before 
 early_first s [] z zs h = absurd (cc h)
 early_first s (x ∷ xs) z zs h = at (nat_lt x.stage s) refl h (early_first s xs z zs)
   where
-    at : (b : Bool) → nat_lt x.stage s ≡ b → cond b (record x { op = looked x.op } ∷ before s xs) (before s xs) ≡ z ∷ zs → (before s xs ≡ z ∷ zs → z.stage < s) → z.stage < s
+    at : (b : Bool) → nat_lt x.stage s ≡ b → cond b (record x { op = answered_op x.op } ∷ before s xs) (before s xs) ≡ z ∷ zs → (before s xs ≡ z ∷ zs → z.stage < s) → z.stage < s
     at true e i f = subst (λ n. n < s) (cons_head i) (ltb-true _ _ e)
     at false e i f = f i
 
@@ -52,7 +52,7 @@ order_looked : (s : ℕ) (xs : List Stmt) → looked_all xs ≡ before s (looked
 order_looked s [] h = refl
 order_looked s (x ∷ xs) h = at (nat_lt x.stage s) refl (nat_le s x.stage) refl h (order_looked s xs)
   where
-    two : (l : List Stmt) → before s (looked_all xs) ≡ l → looked_all (x ∷ xs) ≡ l ++ (record x { op = looked x.op } ∷ from s (looked_all xs)) → s ≤ x.stage
+    two : (l : List Stmt) → before s (looked_all xs) ≡ l → looked_all (x ∷ xs) ≡ l ++ (record x { op = answered_op x.op } ∷ from s (looked_all xs)) → s ≤ x.stage
         → (looked_all xs ≡ before s (looked_all xs) ++ from s (looked_all xs) → xs ≡ stages_before s xs ++ stages_from s xs) → x ∷ xs ≡ stages_before s xs ++ (x ∷ stages_from s xs)
     two [] e k low f =
         let r = f (tail_same k ∙ ap (λ l. l ++ from s (looked_all xs)) (sym e)) in
@@ -63,13 +63,13 @@ order_looked s (x ∷ xs) h = at (nat_lt x.stage s) refl (nat_le s x.stage) refl
         no_early [] i = refl
         no_early (y ∷ ys) i = by (nat_lt y.stage s) i (no_early ys)
           where
-            by : (b : Bool) → cond b (record y { op = looked (looked y.op) } ∷ before s (looked_all ys)) (before s (looked_all ys)) ≡ [] → (before s (looked_all ys) ≡ [] → stages_before s ys ≡ []) → cond b (y ∷ stages_before s ys) (stages_before s ys) ≡ []
+            by : (b : Bool) → cond b (record y { op = answered_op (answered_op y.op) } ∷ before s (looked_all ys)) (before s (looked_all ys)) ≡ [] → (before s (looked_all ys) ≡ [] → stages_before s ys ≡ []) → cond b (y ∷ stages_before s ys) (stages_before s ys) ≡ []
             by true j g = absurd (cc j)
             by false j g = g j
     two (z ∷ zs) e k low f = absurd (let i : z.stage < s = early_first s (looked_all xs) z zs e in let j : x.stage ≡ z.stage = cons_head k in omega arith)
 
     at : (b : Bool) → nat_lt x.stage s ≡ b → (c : Bool) → nat_le s x.stage ≡ c
-        → looked_all (x ∷ xs) ≡ cond b (record x { op = looked (looked x.op) } ∷ before s (looked_all xs)) (before s (looked_all xs)) ++ cond c (record x { op = looked x.op } ∷ from s (looked_all xs)) (from s (looked_all xs))
+        → looked_all (x ∷ xs) ≡ cond b (record x { op = answered_op (answered_op x.op) } ∷ before s (looked_all xs)) (before s (looked_all xs)) ++ cond c (record x { op = answered_op x.op } ∷ from s (looked_all xs)) (from s (looked_all xs))
         → (looked_all xs ≡ before s (looked_all xs) ++ from s (looked_all xs) → xs ≡ stages_before s xs ++ stages_from s xs)
         → x ∷ xs ≡ cond b (x ∷ stages_before s xs) (stages_before s xs) ++ cond c (x ∷ stages_from s xs) (stages_from s xs)
     at true d true e k f = absurd (let i = ltb-true _ _ d in let j = leb-true _ _ e in omega arith)
@@ -83,18 +83,18 @@ fewer s q [] low = le_refl _
 fewer s q (x ∷ xs) low = at (nat_lt x.stage s) refl (nat_lt x.stage q) refl (fewer s q xs low)
   where
     at : (b : Bool) → nat_lt x.stage s ≡ b → (c : Bool) → nat_lt x.stage q ≡ c → length (before s xs) ≤ length (before q xs)
-        → length (cond b (record x { op = looked x.op } ∷ before s xs) (before s xs)) ≤ length (cond c (record x { op = looked x.op } ∷ before q xs) (before q xs))
+        → length (cond b (record x { op = answered_op x.op } ∷ before s xs) (before s xs)) ≤ length (cond c (record x { op = answered_op x.op } ∷ before q xs) (before q xs))
     at true d true e r = omega arith
     at true d false e r = absurd (let i = ltb-true _ _ d in let j = ltb-false _ _ e in omega arith)
     at false d true e r = omega arith
     at false d false e r = r
 
-apart_stages : (path : List ℕ) (s q : ℕ) (xs : List Stmt) → suc s ≤ q → before q (onpath path xs) ≡ before (suc s) (onpath path xs) → AllOf (λ z. taken z.guards path ≡ true → (z.stage ≤ s) ⊎ (q ≤ z.stage)) xs
+apart_stages : (path : List ℕ) (s q : ℕ) (xs : List Stmt) → suc s ≤ q → before q (onpath path xs) ≡ before (suc s) (onpath path xs) → AllOf (λ z. all_hold z.guards path ≡ true → (z.stage ≤ s) ⊎ (q ≤ z.stage)) xs
 apart_stages path s q [] low h = tt
-apart_stages path s q (x ∷ xs) low h = at (taken x.guards path) refl h (apart_stages path s q xs low)
+apart_stages path s q (x ∷ xs) low h = at (all_hold x.guards path) refl h (apart_stages path s q xs low)
   where
     here : (b : Bool) → nat_lt x.stage q ≡ b → (c : Bool) → nat_lt x.stage (suc s) ≡ c
-        → cond b (record x { guards = []; op = looked x.op } ∷ before q (onpath path xs)) (before q (onpath path xs)) ≡ cond c (record x { guards = []; op = looked x.op } ∷ before (suc s) (onpath path xs)) (before (suc s) (onpath path xs))
+        → cond b (record x { guards = []; op = answered_op x.op } ∷ before q (onpath path xs)) (before q (onpath path xs)) ≡ cond c (record x { guards = []; op = answered_op x.op } ∷ before (suc s) (onpath path xs)) (before (suc s) (onpath path xs))
         → ((x.stage ≤ s) ⊎ (q ≤ x.stage)) × (before q (onpath path xs) ≡ before (suc s) (onpath path xs))
     here true d true e k = (inl (let i : x.stage < suc s = ltb-true _ _ e in omega arith), tail_same k)
     here true d false e k =
@@ -102,9 +102,9 @@ apart_stages path s q (x ∷ xs) low h = at (taken x.guards path) refl h (apart_
     here false d true e k = absurd (let i = ltb-false _ _ d in let j : x.stage < suc s = ltb-true _ _ e in omega arith)
     here false d false e k = (inr (ltb-false _ _ d), k)
 
-    at : (b : Bool) → taken x.guards path ≡ b → before q (cond b (record x { guards = [] } ∷ onpath path xs) (onpath path xs)) ≡ before (suc s) (cond b (record x { guards = [] } ∷ onpath path xs) (onpath path xs))
-        → (before q (onpath path xs) ≡ before (suc s) (onpath path xs) → AllOf (λ z. taken z.guards path ≡ true → (z.stage ≤ s) ⊎ (q ≤ z.stage)) xs)
-        → (taken x.guards path ≡ true → (x.stage ≤ s) ⊎ (q ≤ x.stage)) × AllOf (λ z. taken z.guards path ≡ true → (z.stage ≤ s) ⊎ (q ≤ z.stage)) xs
+    at : (b : Bool) → all_hold x.guards path ≡ b → before q (cond b (record x { guards = [] } ∷ onpath path xs) (onpath path xs)) ≡ before (suc s) (cond b (record x { guards = [] } ∷ onpath path xs) (onpath path xs))
+        → (before q (onpath path xs) ≡ before (suc s) (onpath path xs) → AllOf (λ z. all_hold z.guards path ≡ true → (z.stage ≤ s) ⊎ (q ≤ z.stage)) xs)
+        → (all_hold x.guards path ≡ true → (x.stage ≤ s) ⊎ (q ≤ x.stage)) × AllOf (λ z. all_hold z.guards path ≡ true → (z.stage ≤ s) ⊎ (q ≤ z.stage)) xs
     at true t k go = let r = here (nat_lt x.stage q) refl (nat_lt x.stage (suc s)) refl k in ((λ u. r.0), go r.1)
     at false t k go = ((λ u. absurd (clash (sym t ∙ u))), go k)
 
@@ -123,22 +123,22 @@ late_each z (y ∷ ys) h = (one (binds_guard y.op z.guards) (and_left (not (bind
     one false k e = absurd (clash e)
 
 -- a definition that stands in no later stage, and if it is a delayed read not in this one
-fork_each : (x s : ℕ) (xs : List Stmt) → none_of (binds x) (from (suc s) xs) ≡ true → none_of (fetches x) (in_stage s xs) ≡ true → AllOf (λ y. binds x y.op ≡ true → DefinedBy y.stage y.op s) xs
+fork_each : (x s : ℕ) (xs : List Stmt) → none_of (binds_var x) (from (suc s) xs) ≡ true → none_of (is_fetch_of x) (in_stage s xs) ≡ true → AllOf (λ y. binds_var x y.op ≡ true → DefinedBy y.stage y.op s) xs
 fork_each x s [] h k = tt
 fork_each x s (y ∷ ys) h k = at (nat_le (suc s) y.stage) refl (y.stage == s) refl h k (fork_each x s ys)
   where
-    fetch_of : (op : Op) → is_fetch op ≡ true → binds x op ≡ true → fetches x op ≡ true
+    fetch_of : (op : Op) → is_fetch op ≡ true → binds_var x op ≡ true → is_fetch_of x op ≡ true
     fetch_of (DelayedRead z m a) e b = b
     fetch_of _ e b = absurd (clash e)
 
-    at : (b : Bool) → nat_le (suc s) y.stage ≡ b → (c : Bool) → (y.stage == s) ≡ c → none_of (binds x) (cond b (y ∷ from (suc s) ys) (from (suc s) ys)) ≡ true → none_of (fetches x) (cond c (y ∷ in_stage s ys) (in_stage s ys)) ≡ true
-        → (none_of (binds x) (from (suc s) ys) ≡ true → none_of (fetches x) (in_stage s ys) ≡ true → AllOf (λ y. binds x y.op ≡ true → DefinedBy y.stage y.op s) ys)
-        → (binds x y.op ≡ true → DefinedBy y.stage y.op s) × AllOf (λ y. binds x y.op ≡ true → DefinedBy y.stage y.op s) ys
+    at : (b : Bool) → nat_le (suc s) y.stage ≡ b → (c : Bool) → (y.stage == s) ≡ c → none_of (binds_var x) (cond b (y ∷ from (suc s) ys) (from (suc s) ys)) ≡ true → none_of (is_fetch_of x) (cond c (y ∷ in_stage s ys) (in_stage s ys)) ≡ true
+        → (none_of (binds_var x) (from (suc s) ys) ≡ true → none_of (is_fetch_of x) (in_stage s ys) ≡ true → AllOf (λ y. binds_var x y.op ≡ true → DefinedBy y.stage y.op s) ys)
+        → (binds_var x y.op ≡ true → DefinedBy y.stage y.op s) × AllOf (λ y. binds_var x y.op ≡ true → DefinedBy y.stage y.op s) ys
     at true d true e i j go = absurd (let u : suc s ≤ y.stage = leb-true _ _ d in let v = eqb-true _ _ e in omega arith)
-    at true d false e i j go = ((λ b. absurd (clash (sym (ap not b) ∙ and_left (not (binds x y.op)) _ i))), go (and_right (not (binds x y.op)) _ i) j)
+    at true d false e i j go = ((λ b. absurd (clash (sym (ap not b) ∙ and_left (not (binds_var x y.op)) _ i))), go (and_right (not (binds_var x y.op)) _ i) j)
     at false d true e i j go = (
-      (λ b. (let v = eqb-true _ _ e in omega arith, λ f. absurd (clash (sym (ap not (fetch_of y.op f b)) ∙ and_left (not (fetches x y.op)) _ j)))),
-      go i (and_right (not (fetches x y.op)) _ j),
+      (λ b. (let v = eqb-true _ _ e in omega arith, λ f. absurd (clash (sym (ap not (fetch_of y.op f b)) ∙ and_left (not (is_fetch_of x y.op)) _ j)))),
+      go i (and_right (not (is_fetch_of x y.op)) _ j),
     )
     at false d false e i j go = (
       (λ b. let u : y.stage < suc s = leb-false _ _ d in let v = eqb-false _ _ e in (omega arith, λ f. omega arith)),
@@ -147,11 +147,11 @@ fork_each x s (y ∷ ys) h k = at (nat_le (suc s) y.stage) refl (y.stage == s) r
 
 -- LOCKS AND CALLS OF A PATH
 
-pub phase_looked : (m : ℕ) (ph : Phase) (op : Op) → next_phase m ph (looked op) ≡ next_phase m ph op
+pub phase_looked : (m : ℕ) (ph : Phase) (op : Op) → next_phase m ph (answered_op op) ≡ next_phase m ph op
 phase_looked m ph (DelayedRead x n a) = refl
 phase_looked m ph _ = refl
 
-use_looked : (m : ℕ) (ph : Phase) (op : Op) → use_ok m ph (looked op) ≡ use_ok m ph op
+use_looked : (m : ℕ) (ph : Phase) (op : Op) → use_ok m ph (answered_op op) ≡ use_ok m ph op
 use_looked m ph (DelayedRead x n a) = refl
 use_looked m ph _ = refl
 
@@ -163,7 +163,7 @@ pub phases_looked : (m : ℕ) (ph : Phase) (xs : List Stmt) → phase_all m ph (
 phases_looked m ph [] = refl
 phases_looked m ph (x ∷ xs) = ap (λ q. phase_all m q (looked_all xs)) (phase_looked m ph x.op) ∙ phases_looked m (next_phase m ph x.op) xs
 
-call_looked : (b : Bool) (op : Op) → (call_ok b (looked op) ≡ call_ok b op) × (is_call (looked op) ≡ is_call op)
+call_looked : (b : Bool) (op : Op) → (call_ok b (answered_op op) ≡ call_ok b op) × (is_call (answered_op op) ≡ is_call op)
 call_looked b (DelayedRead x m a) = (refl, refl)
 call_looked b _ = (refl, refl)
 
@@ -316,10 +316,10 @@ module _ (p : Pipe) (acc : Sound p) where
 
   -- PATHS
 
-  arrives_at : (path : List ℕ) (s q : ℕ) → s < length p.stages → goes_to (stage_at p s).next path ≡ Some q → visits p path s ≡ true → visits p path q ≡ true
+  arrives_at : (path : List ℕ) (s q : ℕ) → s < length p.stages → goes_to (stage_at p s).next path ≡ Some q → visits_stage p path s ≡ true → visits_stage p path q ≡ true
   arrives_at path s q low e on = at (stage_at p q).branch refl
     where
-      at : (o : Option Branch) → (stage_at p q).branch ≡ o → visits p path q ≡ true
+      at : (o : Option Branch) → (stage_at p q).branch ≡ o → visits_stage p path q ≡ true
       at None i = ap (comes_by p path) i
       at (Some c) i = ap (comes_by p path) i ∙ from_s (into_of s q c (path, e, low) i)
         where
@@ -334,10 +334,10 @@ module _ (p : Pipe) (acc : Sound p) where
       order_looked s (onpath path p.stmts) (subst (λ l. l ≡ before s l ++ from s l) (path_looked path p.stmts) ((acc.pathwise.paths path).ordered s))
       ∙ ap₂ (λ a b. a ++ b) (before_path path s p.stmts) (from_path path s p.stmts)
 
-  stages_on : (path : List ℕ) (s : ℕ) → s < length p.stages → visits p path s ≡ true → AllOf (λ z. taken z.guards path ≡ true → (z.stage ≤ s) ⊎ (next_of p s path ≤ z.stage)) p.stmts
+  stages_on : (path : List ℕ) (s : ℕ) → s < length p.stages → visits_stage p path s ≡ true → AllOf (λ z. all_hold z.guards path ≡ true → (z.stage ≤ s) ⊎ (next_of p s path ≤ z.stage)) p.stmts
   stages_on path s low on = apart_stages path s (next_of p s path) p.stmts (acc.graph.up s path low) (acc.skips path s low on)
 
-  late_on : (path : List ℕ) → AllOf (λ z. taken z.guards path ≡ true → AllOf (λ y. binds_guard y.op z.guards ≡ true → DefinedBy y.stage y.op z.stage) p.stmts) p.stmts
+  late_on : (path : List ℕ) → AllOf (λ z. all_hold z.guards path ≡ true → AllOf (λ y. binds_guard y.op z.guards ≡ true → DefinedBy y.stage y.op z.stage) p.stmts) p.stmts
   late_on path =
       all_map (λ z h t. by_or (is_dead z.guards) _ _ h (λ d. absurd (clash (sym (dead_none z.guards path d) ∙ t))) (λ k. late_each z p.stmts k)) p.stmts
       (all_of (λ z. is_dead z.guards || late_for z p.stmts) p.stmts acc.guards_late)

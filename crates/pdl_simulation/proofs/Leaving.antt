@@ -3,7 +3,7 @@ use Rattle.std.proofs.Common.{◌≡◌, ◌≢◌, refl, sym, ap, ap₂, ◌∙
 use Rattle.std.proofs.lemmas.Bool.{ne_eqb}
 use Rattle.pdl_semantics.specs.Flat.{Commit}
 use Rattle.pdl_semantics.specs.Machine.{Pending}
-use Rattle.pdl_semantics.specs.Cycle.{new_entries, put, put_all, oldest, but_oldest}
+use Rattle.pdl_semantics.specs.Cycle.{new_entries, with_value_of, with_writes_of, oldest, but_oldest}
 use Rattle.pdl_semantics.specs.Machine
 use Rattle.pdl_derived.specs.Derived.{Entry, commits_of}
 use Rattle.pdl_derived.specs.Derived
@@ -26,7 +26,7 @@ pub foreign_new : (k m n : ℕ) (rs : List Machine.Reserved) → n ≢ k → For
 foreign_new k m n [] h = tt
 foreign_new k m n (r ∷ rs) h = foreign_append k _ (new_entries m n rs) (foreign_if k n (r.mem == m) (record { thread = n; address = r.address; value = None }) h refl) (foreign_new k m n rs h)
 
-foreign_put : (k n v : ℕ) (xs : List Pending) → Foreign k xs → Foreign k (put n v xs)
+foreign_put : (k n v : ℕ) (xs : List Pending) → Foreign k xs → Foreign k (with_value_of n v xs)
 foreign_put k n v [] f = tt
 foreign_put k n v (x ∷ xs) f = (at (x.thread == n), foreign_put k n v xs f.1)
   where
@@ -34,11 +34,11 @@ foreign_put k n v (x ∷ xs) f = (at (x.thread == n), foreign_put k n v xs f.1)
     at true = f.0
     at false = f.0
 
-pub foreign_put_all : (k m n : ℕ) (ws : List Machine.Written) (xs : List Pending) → Foreign k xs → Foreign k (put_all m n ws xs)
+pub foreign_put_all : (k m n : ℕ) (ws : List Machine.Written) (xs : List Pending) → Foreign k xs → Foreign k (with_writes_of m n ws xs)
 foreign_put_all k m n [] xs f = f
-foreign_put_all k m n (w ∷ ws) xs f = foreign_put_all k m n ws (if w.mem == m then put n w.value xs else xs) (at (w.mem == m))
+foreign_put_all k m n (w ∷ ws) xs f = foreign_put_all k m n ws (if w.mem == m then with_value_of n w.value xs else xs) (at (w.mem == m))
   where
-    at : (b : Bool) → Foreign k (cond b (put n w.value xs) xs)
+    at : (b : Bool) → Foreign k (cond b (with_value_of n w.value xs) xs)
     at true = foreign_put k n w.value xs f
     at false = f
 

@@ -3,10 +3,10 @@ use Rattle.std.proofs.Common.{◌≡◌, refl, sym, ap, ap₂, ◌∙◌, subst,
 use Rattle.pdl_semantics.specs.Flat.{Pipe, list_all}
 use Rattle.pdl_semantics.specs.Stages.{list_any, stage_at, goes_to}
 use Rattle.pdl_semantics.specs.Machine.{State, with_answers}
-use Rattle.pdl_semantics.specs.Cycle.{awaited_of, comes, stands, or_then, squasher, child_of, stays, if_stays}
+use Rattle.pdl_semantics.specs.Cycle.{awaited_of, coming_thread, next_thread, or_then, squasher, child_of, is_kept, if_kept}
 use Rattle.pdl_semantics.specs.Moves.{movers, next_stage}
 use Rattle.pdl_semantics.specs.Cycle
-use Rattle.pdl_derived.specs.Derived.{Work, works, around, survivors, moved_to, born, exit_of, fresh}
+use Rattle.pdl_derived.specs.Derived.{Work, work_of_stage, around, survivors, moved_to, born_threads, exit_of, fresh}
 use Rattle.pdl_derived.specs.Derived
 use Rattle.pdl_simulation.proofs.FlowFacts.{Flows, next_of}
 use Rattle.pdl_derived.proofs.Writes.{and_left}
@@ -68,14 +68,14 @@ survivors_more p (a ∷ xs) b = at a.moves a.work.fails (survivors_more p xs b)
     rest = if list_any (λ (o : Derived.Act). o.moves && o.work.fails) xs then [] else survivors p (b ∷ [])
 
     at : (c f : Bool) → survivors p (xs ++ b ∷ []) ≡ survivors p xs ++ (if list_any (λ (o : Derived.Act). o.moves && o.work.fails) xs then [] else survivors p (b ∷ []))
-        → cond c (moved_to (exit_of p a) a.work ++ (born p a.work.child ++ cond f [] (survivors p (xs ++ b ∷ [])))) (a.now ∷ survivors p (xs ++ b ∷ []))
-        ≡ cond c (moved_to (exit_of p a) a.work ++ (born p a.work.child ++ cond f [] (survivors p xs))) (a.now ∷ survivors p xs)
+        → cond c (moved_to (exit_of p a) a.work ++ (born_threads p a.work.child ++ cond f [] (survivors p (xs ++ b ∷ [])))) (a.now ∷ survivors p (xs ++ b ∷ []))
+        ≡ cond c (moved_to (exit_of p a) a.work ++ (born_threads p a.work.child ++ cond f [] (survivors p xs))) (a.now ∷ survivors p xs)
         ++ (if (c && f) || list_any (λ (o : Derived.Act). o.moves && o.work.fails) xs then [] else survivors p (b ∷ []))
     at true true g = sym (append-nil _)
     at true false g =
-        ap (λ l. moved_to (exit_of p a) a.work ++ (born p a.work.child ++ l)) g
-        ∙ ap (λ l. moved_to (exit_of p a) a.work ++ l) (sym (append_assoc (born p a.work.child) (survivors p xs) _))
-        ∙ sym (append_assoc (moved_to (exit_of p a) a.work) (born p a.work.child ++ survivors p xs) _)
+        ap (λ l. moved_to (exit_of p a) a.work ++ (born_threads p a.work.child ++ l)) g
+        ∙ ap (λ l. moved_to (exit_of p a) a.work ++ l) (sym (append_assoc (born_threads p a.work.child) (survivors p xs) _))
+        ∙ sym (append_assoc (moved_to (exit_of p a) a.work) (born_threads p a.work.child ++ survivors p xs) _)
     at false f g = ap (λ l. a.now ∷ l) g
 
 -- a new thread
@@ -135,7 +135,7 @@ module _ (p : Pipe) (flows : Flows p) (st : State) (d : Derived.State) (bits : L
           by c g = g
 
   -- one thread
-  one_survives : (ls : List Live) (l : Live) → survivors p (did p d bits ls l ∷ []) ≡ threads_of (next_live p st d bits ls l) ++ born p (if (did p d bits ls l).moves then (work_of_live p d bits ls l).child else None)
+  one_survives : (ls : List Live) (l : Live) → survivors p (did p d bits ls l ∷ []) ≡ threads_of (next_live p st d bits ls l) ++ born_threads p (if (did p d bits ls l).moves then (work_of_live p d bits ls l).child else None)
   one_survives ls l = at (did p d bits ls l).moves
     where
       w : Work
@@ -149,9 +149,9 @@ module _ (p : Pipe) (flows : Flows p) (st : State) (d : Derived.State) (bits : L
       none true = refl
       none false = refl
 
-      at : (b : Bool) → cond b (moved_to (exit_of p (did p d bits ls l)) (work_of_live p d bits ls l) ++ (born p (work_of_live p d bits ls l).child ++ (if (work_of_live p d bits ls l).fails then [] else survivors p []))) (now_of p d bits l ∷ [])
-          ≡ threads_of (cond b (moved_live (goes_to (stage_at p l.thread.stage).next (work_of_live p d bits ls l).env) l (work_of_live p d bits ls l)) (stood p st d bits l ∷ [])) ++ born p (cond b (work_of_live p d bits ls l).child None)
-      at true = ap₂ (λ x y. x ++ y) (out (exit_of p (did p d bits ls l))) (ap (λ x. born p (work_of_live p d bits ls l).child ++ x) (none (work_of_live p d bits ls l).fails) ∙ append-nil _)
+      at : (b : Bool) → cond b (moved_to (exit_of p (did p d bits ls l)) (work_of_live p d bits ls l) ++ (born_threads p (work_of_live p d bits ls l).child ++ (if (work_of_live p d bits ls l).fails then [] else survivors p []))) (now_of p d bits l ∷ [])
+          ≡ threads_of (cond b (moved_live (goes_to (stage_at p l.thread.stage).next (work_of_live p d bits ls l).env) l (work_of_live p d bits ls l)) (stood p st d bits l ∷ [])) ++ born_threads p (cond b (work_of_live p d bits ls l).child None)
+      at true = ap₂ (λ x y. x ++ y) (out (exit_of p (did p d bits ls l))) (ap (λ x. born_threads p (work_of_live p d bits ls l).child ++ x) (none (work_of_live p d bits ls l).fails) ∙ append-nil _)
       at false = refl
 
   abbrev pub lives_next : List Live → List Live
@@ -169,12 +169,12 @@ module _ (p : Pipe) (flows : Flows p) (st : State) (d : Derived.State) (bits : L
       at true = out (goes_to (stage_at p l.thread.stage).next (work_of_live p d bits ls l).env)
       at false = refl
 
-  rev_born : (c : Option (List ℕ)) → rev (threads_of (born_live p st.next c)) ≡ born p c
+  rev_born : (c : Option (List ℕ)) → rev (threads_of (born_live p st.next c)) ≡ born_threads p c
   rev_born None = refl
   rev_born (Some x) = refl
 
   -- a list of lives with a new one, oldest first
-  back_lives : (c : Option (List ℕ)) (xs : List Live) → rev (threads_of (born_live p st.next c ++ xs)) ≡ rev (threads_of xs) ++ born p c
+  back_lives : (c : Option (List ℕ)) (xs : List Live) → rev (threads_of (born_live p st.next c ++ xs)) ≡ rev (threads_of xs) ++ born_threads p c
   back_lives c xs = ap rev (threads_append (born_live p st.next c) xs) ∙ rev_append (threads_of (born_live p st.next c)) (threads_of xs) ∙ ap (λ l. rev (threads_of xs) ++ l) (rev_born c)
 
   -- the derived machine's live threads
@@ -191,14 +191,14 @@ module _ (p : Pipe) (flows : Flows p) (st : State) (d : Derived.State) (bits : L
       behind (k ∷ ks) h = h.1
 
       at : (f : Bool) → fell p d bits ls ≡ f → rev (threads_of (lives_next ls)) ++ (if f then [] else survivors p (did p d bits ls l ∷ []))
-          ≡ rev (threads_of ((if f then [] else next_live p st d bits ls l) ++ go_on p st d bits ls)) ++ born p (if (did p d bits ls l).moves then (if is_some (work_of_live p d bits ls l).child then (work_of_live p d bits ls l).child else made ls) else made ls)
+          ≡ rev (threads_of ((if f then [] else next_live p st d bits ls l) ++ go_on p st d bits ls)) ++ born_threads p (if (did p d bits ls l).moves then (if is_some (work_of_live p d bits ls l).child then (work_of_live p d bits ls l).child else made ls) else made ls)
       at true e =
           append-nil _ ∙ back_lives (made ls) (go_on p st d bits ls)
-          ∙ ap (λ b. rev (threads_of (go_on p st d bits ls)) ++ born p (if b then (if is_some (work_of_live p d bits ls l).child then (work_of_live p d bits ls l).child else made ls) else made ls)) (sym (stuck_here ls l e))
+          ∙ ap (λ b. rev (threads_of (go_on p st d bits ls)) ++ born_threads p (if b then (if is_some (work_of_live p d bits ls l).child then (work_of_live p d bits ls l).child else made ls) else made ls)) (sym (stuck_here ls l e))
       at false e =
-          ap₂ (λ x y. x ++ y) (back_lives (made ls) (go_on p st d bits ls) ∙ ap (λ c. rev (threads_of (go_on p st d bits ls)) ++ born p c) none ∙ append-nil _) (one_survives ls l)
+          ap₂ (λ x y. x ++ y) (back_lives (made ls) (go_on p st d bits ls) ∙ ap (λ c. rev (threads_of (go_on p st d bits ls)) ++ born_threads p c) none ∙ append-nil _) (one_survives ls l)
           ∙ sym (append_assoc (rev (threads_of (go_on p st d bits ls))) (threads_of (next_live p st d bits ls l)) _)
-          ∙ ap₂ (λ x c. x ++ born p c)
+          ∙ ap₂ (λ x c. x ++ born_threads p c)
           (ap (λ x. rev (threads_of (go_on p st d bits ls)) ++ x) (sym (rev_next ls l)) ∙ sym (rev_append (threads_of (next_live p st d bits ls l)) (threads_of (go_on p st d bits ls))) ∙ ap rev (sym (threads_append (next_live p st d bits ls l) (go_on p st d bits ls))))
           (mine (did p d bits ls l).moves)
         where
@@ -257,7 +257,7 @@ module _ (p : Pipe) (flows : Flows p) (st : State) (d : Derived.State) (bits : L
       at false e = ap is_some (squash_none ls k e)
 
   -- without a failing verify all of them stay
-  agrees_all : (sq : Option ℕ) (ls : List Live) → Each (λ l. stays sq l.number ≡ true) ls → fell p d bits ls ≡ false → Agrees p d bits sq ls
+  agrees_all : (sq : Option ℕ) (ls : List Live) → Each (λ l. is_kept sq l.number ≡ true) ls → fell p d bits ls ≡ false → Agrees p d bits sq ls
   agrees_all sq [] s f = tt
   agrees_all sq (l ∷ ls) s f = let rest = second ((did p d bits ls l).moves && (work_of_live p d bits ls l).fails) f in (s.0 ∙ ap not (sym rest), agrees_all sq ls s.1 rest)
     where
@@ -265,7 +265,7 @@ module _ (p : Pipe) (flows : Flows p) (st : State) (d : Derived.State) (bits : L
       second true g = absurd (cc g)
       second false g = g
 
-  older_stay : (n : ℕ) (ls : List Live) → Falls n ls → Each (λ l. stays (Some n) l.number ≡ true) ls
+  older_stay : (n : ℕ) (ls : List Live) → Falls n ls → Each (λ l. is_kept (Some n) l.number ≡ true) ls
   older_stay n ls f = each_map (λ l h. low l.number h) ls (falls_each n ls f)
     where
       low : (k : ℕ) → k < n → nat_le k n ≡ true
@@ -275,7 +275,7 @@ module _ (p : Pipe) (flows : Flows p) (st : State) (d : Derived.State) (bits : L
           at true e = e
           at false e = absurd (let i = leb-false _ _ e in omega arith)
 
-  each_stays : (ls : List Live) → Each (λ l. stays None l.number ≡ true) ls
+  each_stays : (ls : List Live) → Each (λ l. is_kept None l.number ≡ true) ls
   each_stays [] = tt
   each_stays (l ∷ ls) = (refl, each_stays ls)
 
@@ -309,21 +309,21 @@ module _ (p : Pipe) (flows : Flows p) (st : State) (d : Derived.State) (bits : L
       at true g true e r = absurd (cc (sym e ∙ ap (λ b. b && (work_of_live p d bits ls l).fails) (stuck_here ls l g)))
       at true g false e r =
           let low = squash_low l.number ls k.1 f.1 g in
-          subst (λ s. Agrees p d bits s (l ∷ ls)) (sym (by false e)) (ap (λ s. stays s l.number) low.1 ∙ beyond low.0 low.2 ∙ ap not (sym g), r)
+          subst (λ s. Agrees p d bits s (l ∷ ls)) (sym (by false e)) (ap (λ s. is_kept s l.number) low.1 ∙ beyond low.0 low.2 ∙ ap not (sym g), r)
       at false g true e r = subst (λ s. Agrees p d bits s (l ∷ ls)) (sym (by true e)) (same ∙ ap not (sym g), agrees_all (Some l.number) ls (older_stay l.number ls f.1) g)
       at false g false e r = subst (λ s. Agrees p d bits s (l ∷ ls)) (sym (by false e ∙ squash_none ls k.1 g)) (ap not (sym g), agrees_all None ls (each_stays ls) g)
 
   -- THE STAGES
 
   -- where one thread comes
-  pub comes_is : (ls : List Live) (l : Live) (q : ℕ) → Known p flows st d bits arrays ls l → comes p q (lact p st d bits ls l) ≡ find q (next_live p st d bits ls l)
+  pub comes_is : (ls : List Live) (l : Live) (q : ℕ) → Known p flows st d bits arrays ls l → coming_thread p q (lact p st d bits ls l) ≡ find q (next_live p st d bits ls l)
   comes_is ls l q k = at (did p d bits ls l).moves
     where
-      there : (r : Option ℕ) → cond (Cycle.is_stage q r) (Some (Cycle.moved (lact p st d bits ls l))) None ≡ find q (moved_live r l (work_of_live p d bits ls l))
+      there : (r : Option ℕ) → cond (Cycle.is_stage q r) (Some (Cycle.thread_after (lact p st d bits ls l))) None ≡ find q (moved_live r l (work_of_live p d bits ls l))
       there None = refl
       there (Some s) = λ i. cond (s == q) (Some (record { number = l.number; env = (sym (told_here p flows st d bits arrays ls l k).is i).env; guess = (sym (told_here p flows st d bits arrays ls l k).is i).guess; awaits = awaited_of (sym (told_here p flows st d bits arrays ls l k).is i).asks; kept = [] })) None
 
-      at : (b : Bool) → cond b (cond (Cycle.is_stage q (next_stage p l.thread.stage (deeds_of p st bits l))) (Some (Cycle.moved (lact p st d bits ls l))) None) (cond (l.thread.stage == q) (Some (with_answers p st bits (seat l))) None)
+      at : (b : Bool) → cond b (cond (Cycle.is_stage q (next_stage p l.thread.stage (deeds_of p st bits l))) (Some (Cycle.thread_after (lact p st d bits ls l))) None) (cond (l.thread.stage == q) (Some (with_answers p st bits (seat l))) None)
           ≡ find q (cond b (moved_live (goes_to (stage_at p l.thread.stage).next (work_of_live p d bits ls l).env) l (work_of_live p d bits ls l)) (stood p st d bits l ∷ []))
       at true = there (next_stage p l.thread.stage (deeds_of p st bits l)) ∙ ap (λ (v : Work). find q (moved_live (goes_to (stage_at p l.thread.stage).next v.env) l (work_of_live p d bits ls l))) (sym (told_here p flows st d bits arrays ls l k).is)
       at false = λ i. cond (l.thread.stage == q) (Some (record { number = l.number; env = l.env; guess = l.thread.guess; awaits = k.waits i; kept = (with_answers p st bits (seat l)).kept })) None

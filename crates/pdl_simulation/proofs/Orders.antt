@@ -4,7 +4,7 @@ use Rattle.std.proofs.lemmas.Bool.{eqb-true, eqb-false, ne_eqb, le-ltb}
 use Rattle.pdl_semantics.specs.Flat.{Pipe, Branch, list_all}
 use Rattle.pdl_semantics.specs.Stages.{list_any, in_stage, stage_at, verify_stage, reserve_stage, is_inside, is_branch_of}
 use Rattle.pdl_semantics.specs.Locks.{Nothing}
-use Rattle.pdl_semantics.specs.Machine.{answers, Request, NoRequest, Owned, Orphan, State, lock_of, fork_of, request_of, youngest, with_answers}
+use Rattle.pdl_semantics.specs.Machine.{is_answered, Request, NoRequest, Owned, Orphan, State, lock_of, fork_of, request_of, youngest, with_answers}
 use Rattle.pdl_semantics.specs.Moves.{next_stage, is_free, is_first, is_nobody}
 use Rattle.pdl_semantics.specs.Sound.{side_in}
 use Rattle.pdl_semantics.specs.Machine
@@ -278,7 +278,7 @@ module _ (p : Pipe) (flows : Flows p) (st : State) (d : Derived.State) (bits : L
             first [] b s i = ap (λ c. c || has_owner n m older) (sym (not_owner n m g l s.0 self)) ∙ i
             first (z ∷ zs) b s i = first zs b.1 s.1 (ap (λ c. c || has_owner n m (zs ++ l ∷ older)) (sym (not_owner n m g z s.0 (λ k. not_behind p flows.graph l.thread.stage z.thread.stage k b.0))) ∙ i)
 
-        port_same : (m : ℕ) → none_of (fetches_from m) (in_stage l.thread.stage p.stmts) ≡ false → is_free (request_of st m) (answers p bits m) (acts_of later) ≡ port_free p d bits (dacts p d bits older) m
+        port_same : (m : ℕ) → none_of (fetches_from m) (in_stage l.thread.stage p.stmts) ≡ false → is_free (request_of st m) (is_answered p bits m) (acts_of later) ≡ port_free p d bits (dacts p d bits older) m
         port_same m g = at (request_of st m) refl ∙ port_is p flows st d bits arrays all matched m l.number older older_seated (older_falls bound ys l older (subst (λ x. Falls bound x) is falls)) (λ n a e. owner_older n m g (owned n a e))
           where
             owned : (n a : ℕ) → request_of st m ≡ Owned n a → has_owner n m all ≡ true
@@ -288,18 +288,18 @@ module _ (p : Pipe) (flows : Flows p) (st : State) (d : Derived.State) (bits : L
             off true c n = absurd (n refl)
             off false c n = refl
 
-            at : (q : Request) → request_of st m ≡ q → is_free (request_of st m) (answers p bits m) (acts_of later) ≡ is_free (request_of st m) (answers p bits m) (lacts p st d bits older)
-            at NoRequest e = ap (λ q. is_free q (answers p bits m) (acts_of later)) e ∙ sym (ap (λ q. is_free q (answers p bits m) (lacts p st d bits older)) e)
-            at (Orphan a) e = ap (λ q. is_free q (answers p bits m) (acts_of later)) e ∙ sym (ap (λ q. is_free q (answers p bits m) (lacts p st d bits older)) e)
+            at : (q : Request) → request_of st m ≡ q → is_free (request_of st m) (is_answered p bits m) (acts_of later) ≡ is_free (request_of st m) (is_answered p bits m) (lacts p st d bits older)
+            at NoRequest e = ap (λ q. is_free q (is_answered p bits m) (acts_of later)) e ∙ sym (ap (λ q. is_free q (is_answered p bits m) (lacts p st d bits older)) e)
+            at (Orphan a) e = ap (λ q. is_free q (is_answered p bits m) (acts_of later)) e ∙ sym (ap (λ q. is_free q (is_answered p bits m) (lacts p st d bits older)) e)
             at (Owned n a) e =
-                ap (λ q. is_free q (answers p bits m) (acts_of later)) e
-                ∙ ap (λ x. answers p bits m && x)
+                ap (λ q. is_free q (is_answered p bits m) (acts_of later)) e
+                ∙ ap (λ x. is_answered p bits m && x)
                 (any_not (λ (o : Moves.Act). (o.thread.number == n) && o.moves) (acts_of later)
                 ∙ ap not (tested (λ o. not ((o.thread.number == n) && o.moves))
                 (pair_both (λ y w s. ((λ b i. off _ _ (λ j. not_behind p flows.graph l.thread.stage y.live.thread.stage (leads y.live s (w (eqb-true _ _ j))) b)), (λ b i. off _ _ (λ j. let u = (flows.graph.up l.thread.stage y.live.thread.stage (leads y.live s (w (eqb-true _ _ j)))).0 in omega arith))))
                 (pairs all) (pairs_each (λ k. k.number ≡ n → awaits_mem k.thread.awaits m ≡ true) all (awaiting n m bound all falls (owned n a e))) (pairs_each (Seated p st) all seated)))
                 ∙ sym (any_not (λ (o : Moves.Act). (o.thread.number == n) && o.moves) (lacts p st d bits older)))
-                ∙ sym (ap (λ q. is_free q (answers p bits m) (lacts p st d bits older)) e)
+                ∙ sym (ap (λ q. is_free q (is_answered p bits m) (lacts p st d bits older)) e)
               where
                 leads : (y : Live) → Seated p st y → awaits_mem y.thread.awaits m ≡ true → Leads p l.thread.stage y.thread.stage
                 leads y s w = let k = fetched_of p y.thread.stage m y.thread.awaits s.keeps_on.fetched w in subst (λ s. Leads p s y.thread.stage) (one_stage (fetches_from m) p.stmts k.0 l.thread.stage (flows.one_fetch m) k.2 g) k.1

@@ -3,10 +3,10 @@ use Rattle.std.proofs.Common.{◌≡◌, refl, sym, ap, ap₂, ◌∙◌, subst,
 use Rattle.std.proofs.lemmas.Bool.{eqb-true, eqb-false, ne_eqb}
 use Rattle.pdl_semantics.specs.Flat.{Pipe, Branch, list_all}
 use Rattle.pdl_semantics.specs.Stages.{stage_at, goes_to, is_inside, mem_at}
-use Rattle.pdl_semantics.specs.Machine.{answers, State, with_answers}
+use Rattle.pdl_semantics.specs.Machine.{is_answered, State, with_answers}
 use Rattle.pdl_semantics.specs.Moves.{block_ready}
 use Rattle.pdl_semantics.specs.Locks.{has_room}
-use Rattle.pdl_semantics.specs.Cycle.{stands, or_then, stays, if_stays}
+use Rattle.pdl_semantics.specs.Cycle.{next_thread, or_then, is_kept, if_kept}
 use Rattle.pdl_semantics.specs.Cycle
 use Rattle.pdl_semantics.specs.Machine
 use Rattle.pdl_derived.specs.Derived.{Work, around, befores}
@@ -357,55 +357,55 @@ module _ (p : Pipe) (flows : Flows p) where
 
     -- THE STAGES
 
-    stands_left : (sq : Option ℕ) (q : ℕ) (ls : List Live) → AllKnown p flows st d bits arrays ls → Ordered p ls → Agrees p d bits sq ls → if_stays sq (stands p q (lacts p st d bits ls)) ≡ find q (go_on p st d bits ls)
+    stands_left : (sq : Option ℕ) (q : ℕ) (ls : List Live) → AllKnown p flows st d bits arrays ls → Ordered p ls → Agrees p d bits sq ls → if_kept sq (next_thread p q (lacts p st d bits ls)) ≡ find q (go_on p st d bits ls)
     stands_left sq q [] k o g = refl
     stands_left sq q (l ∷ ls) k o g =
-        ap (λ t. if_stays sq (or_then t (stands p q (lacts p st d bits ls)))) (comes_is p flows st d bits arrays ls l q k.0)
+        ap (λ t. if_kept sq (or_then t (next_thread p q (lacts p st d bits ls)))) (comes_is p flows st d bits arrays ls l q k.0)
         ∙ at (fell p d bits ls) refl (did p d bits ls l).moves refl (stands_left sq q ls k.1 o.1 g.1)
       where
         rest : Option Machine.Thread
-        rest = stands p q (lacts p st d bits ls)
+        rest = next_thread p q (lacts p st d bits ls)
 
-        hit : (t : Machine.Thread) (r : Option Machine.Thread) → t.number ≡ l.number → stays sq l.number ≡ true → if_stays sq (Some t) ≡ or_then (Some t) r
-        hit t r e h = ap (λ b. if b then Some t else None) (ap (stays sq) e ∙ h)
+        hit : (t : Machine.Thread) (r : Option Machine.Thread) → t.number ≡ l.number → is_kept sq l.number ≡ true → if_kept sq (Some t) ≡ or_then (Some t) r
+        hit t r e h = ap (λ b. if b then Some t else None) (ap (is_kept sq) e ∙ h)
 
-        one : (x : Live) → x.number ≡ l.number → stays sq l.number ≡ true → if_stays sq (stands p q (lacts p st d bits ls)) ≡ find q (go_on p st d bits ls)
-            → if_stays sq (or_then (find q (x ∷ [])) (stands p q (lacts p st d bits ls))) ≡ find q (x ∷ go_on p st d bits ls)
+        one : (x : Live) → x.number ≡ l.number → is_kept sq l.number ≡ true → if_kept sq (next_thread p q (lacts p st d bits ls)) ≡ find q (go_on p st d bits ls)
+            → if_kept sq (or_then (find q (x ∷ [])) (next_thread p q (lacts p st d bits ls))) ≡ find q (x ∷ go_on p st d bits ls)
         one x e h r = by (x.thread.stage == q)
           where
-            by : (b : Bool) → if_stays sq (or_then (cond b (Some (seat x)) None) (stands p q (lacts p st d bits ls))) ≡ cond b (Some (seat x)) (find q (go_on p st d bits ls))
+            by : (b : Bool) → if_kept sq (or_then (cond b (Some (seat x)) None) (next_thread p q (lacts p st d bits ls))) ≡ cond b (Some (seat x)) (find q (go_on p st d bits ls))
             by true = hit (seat x) None e h
             by false = r
 
         -- a removed one stands where nobody else comes
-        removed : stays sq l.number ≡ false → if_stays sq (stands p q (lacts p st d bits ls)) ≡ find q (go_on p st d bits ls)
-            → if_stays sq (or_then (find q (stood p st d bits l ∷ [])) (stands p q (lacts p st d bits ls))) ≡ find q (go_on p st d bits ls)
+        removed : is_kept sq l.number ≡ false → if_kept sq (next_thread p q (lacts p st d bits ls)) ≡ find q (go_on p st d bits ls)
+            → if_kept sq (or_then (find q (stood p st d bits l ∷ [])) (next_thread p q (lacts p st d bits ls))) ≡ find q (go_on p st d bits ls)
         removed h r = by (l.thread.stage == q) refl
           where
-            by : (b : Bool) → (l.thread.stage == q) ≡ b → if_stays sq (or_then (cond b (Some (seat (stood p st d bits l))) None) (stands p q (lacts p st d bits ls))) ≡ find q (go_on p st d bits ls)
+            by : (b : Bool) → (l.thread.stage == q) ≡ b → if_kept sq (or_then (cond b (Some (seat (stood p st d bits l))) None) (next_thread p q (lacts p st d bits ls))) ≡ find q (go_on p st d bits ls)
             by true e = ap (λ b. if b then Some (seat (stood p st d bits l)) else None) h ∙ sym (none_found p q (go_on p st d bits ls) (subst (λ n. Each (λ k. Behind p n k.thread.stage) (go_on p st d bits ls)) (eqb-true _ _ e) (behind_stay l.thread.stage ls k.1 o.0)))
             by false e = r
 
-        out : (r : Option ℕ) → stays sq l.number ≡ true → if_stays sq (stands p q (lacts p st d bits ls)) ≡ find q (go_on p st d bits ls)
-            → if_stays sq (or_then (find q (moved_live r l (work_of_live p d bits ls l))) (stands p q (lacts p st d bits ls))) ≡ find q (moved_live r l (work_of_live p d bits ls l) ++ go_on p st d bits ls)
+        out : (r : Option ℕ) → is_kept sq l.number ≡ true → if_kept sq (next_thread p q (lacts p st d bits ls)) ≡ find q (go_on p st d bits ls)
+            → if_kept sq (or_then (find q (moved_live r l (work_of_live p d bits ls l))) (next_thread p q (lacts p st d bits ls))) ≡ find q (moved_live r l (work_of_live p d bits ls l) ++ go_on p st d bits ls)
         out None h r = r
         out (Some s) h r = one (moved_one s l (work_of_live p d bits ls l)) refl h r
 
-        at : (f : Bool) → fell p d bits ls ≡ f → (b : Bool) → (did p d bits ls l).moves ≡ b → if_stays sq (stands p q (lacts p st d bits ls)) ≡ find q (go_on p st d bits ls)
-            → if_stays sq (or_then (find q (cond b (moved_live (goes_to (stage_at p l.thread.stage).next (work_of_live p d bits ls l).env) l (work_of_live p d bits ls l)) (stood p st d bits l ∷ []))) (stands p q (lacts p st d bits ls)))
+        at : (f : Bool) → fell p d bits ls ≡ f → (b : Bool) → (did p d bits ls l).moves ≡ b → if_kept sq (next_thread p q (lacts p st d bits ls)) ≡ find q (go_on p st d bits ls)
+            → if_kept sq (or_then (find q (cond b (moved_live (goes_to (stage_at p l.thread.stage).next (work_of_live p d bits ls l).env) l (work_of_live p d bits ls l)) (stood p st d bits l ∷ []))) (next_thread p q (lacts p st d bits ls)))
             ≡ find q ((if f then [] else cond b (moved_live (goes_to (stage_at p l.thread.stage).next (work_of_live p d bits ls l).env) l (work_of_live p d bits ls l)) (stood p st d bits l ∷ [])) ++ go_on p st d bits ls)
         at true e true i r = absurd (cc (sym i ∙ stuck_here p flows st d bits arrays ls l e))
         at true e false i r = removed (g.0 ∙ ap not e) r
         at false e true i r = out (goes_to (stage_at p l.thread.stage).next (work_of_live p d bits ls l).env) (g.0 ∙ ap not e) r
         at false e false i r = one (stood p st d bits l) refl (g.0 ∙ ap not e) r
 
-    newborn : (q n : ℕ) (c : Option (List ℕ)) → (if q == 0 then Cycle.born p n c else None) ≡ find q (born_live p n c)
+    newborn : (q n : ℕ) (c : Option (List ℕ)) → (if q == 0 then Cycle.born_thread p n c else None) ≡ find q (born_live p n c)
     newborn q n None = at (q == 0)
       where
-        at : (b : Bool) → cond b (Cycle.born p n None) None ≡ None
+        at : (b : Bool) → cond b (Cycle.born_thread p n None) None ≡ None
         at true = refl
         at false = refl
-    newborn q n (Some x) = ap (λ b. cond b (Cycle.born p n (Some x)) None) (flip q 0)
+    newborn q n (Some x) = ap (λ b. cond b (Cycle.born_thread p n (Some x)) None) (flip q 0)
       where
         flip : (a b : ℕ) → (a == b) ≡ (b == a)
         flip a b = at (a == b) refl (b == a) refl
@@ -418,7 +418,7 @@ module _ (p : Pipe) (flows : Flows p) where
 
     -- a stage after the cycle
     pub stage_is : (sq : Option ℕ) (q : ℕ) (ls : List Live) → AllKnown p flows st d bits arrays ls → Ordered p ls → Agrees p d bits sq ls
-        → or_then (if q == 0 then Cycle.born p st.next (made p flows st d bits arrays ls) else None) (if_stays sq (stands p q (lacts p st d bits ls))) ≡ find q (lives_next p flows st d bits arrays ls)
+        → or_then (if q == 0 then Cycle.born_thread p st.next (made p flows st d bits arrays ls) else None) (if_kept sq (next_thread p q (lacts p st d bits ls))) ≡ find q (lives_next p flows st d bits arrays ls)
     stage_is sq q ls k o g =
         ap₂ or_then (newborn q st.next (made p flows st d bits arrays ls)) (stands_left sq q ls k o g)
         ∙ sym (find_append q (born_live p st.next (made p flows st d bits arrays ls)) (go_on p st d bits ls))

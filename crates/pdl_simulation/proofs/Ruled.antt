@@ -1,11 +1,11 @@
 -- The facts that the simulation takes follow from the facts as the rules say them.
 use Rattle.std.proofs.Common.{◌≡◌, refl, sym, ap, ap₂, ◌∙◌, subst, ℕ, suc, ◌≤◌, ◌<◌, ◌⊎◌, inl, inr, Bool, true, false, ◌&&◌, ◌||◌, not, List, [], ◌∷◌, ◌++◌, length, Option, Some, None, ◌==◌, nat_lt, nat_le, cond, arith, slice_index, ltb-true, ltb-false, lt-ltb, leb-true, leb-false, le_refl}
 use Rattle.std.proofs.lemmas.Bool.{eqb-true, eqb-false}
-use Rattle.pdl_semantics.specs.Flat.{Pipe, Branch, Next, Ends, Goes, Forks, Op, Bind, CombRead, DelayedRead, Guard, Stmt, takes, taken}
+use Rattle.pdl_semantics.specs.Flat.{Pipe, Branch, Next, Ends, Goes, Forks, Op, Bind, CombRead, DelayedRead, Guard, Stmt, takes_branch, all_hold}
 use Rattle.pdl_semantics.specs.Stages.{onpath, in_stage, stage_at, goes_to}
 use Rattle.pdl_semantics.specs.Sound.{stages_before, stages_from}
-use Rattle.pdl_facts.specs.Scans.{none_of, binds, is_fetch}
-use Rattle.pdl_simulation.proofs.FlowFacts.{Flows, FlowRules, AllOf, DefinedBy, SameBut, binds_guard, visits, comes_by, on_side, next_of, stage_or, sets, fetches}
+use Rattle.pdl_facts.specs.Scans.{none_of, binds_var, is_fetch}
+use Rattle.pdl_simulation.proofs.FlowFacts.{Flows, FlowRules, AllOf, DefinedBy, SameBut, binds_guard, visits_stage, comes_by, on_side, next_of, stage_or, sets, is_fetch_of}
 use Rattle.pdl_turns.proofs.Paths.{stage_path, none_onpath}
 
 -- LISTS
@@ -26,36 +26,36 @@ all_stages k [] h = refl
 all_stages k (x ∷ xs) h = ap₂ (λ b l. cond b (x ∷ l) l) (lt-ltb _ _ h.0) (all_stages k xs h.1)
 
 -- a path's statements up to stage s, where none stands between s and q
-up_to : (path : List ℕ) (s q : ℕ) (xs : List Stmt) → s < q → AllOf (λ z. taken z.guards path ≡ true → (z.stage ≤ s) ⊎ (q ≤ z.stage)) xs → onpath path (stages_before q xs) ≡ onpath path (stages_before (suc s) xs)
+up_to : (path : List ℕ) (s q : ℕ) (xs : List Stmt) → s < q → AllOf (λ z. all_hold z.guards path ≡ true → (z.stage ≤ s) ⊎ (q ≤ z.stage)) xs → onpath path (stages_before q xs) ≡ onpath path (stages_before (suc s) xs)
 up_to path s q [] low h = refl
 up_to path s q (x ∷ xs) low h = at (nat_lt x.stage q) refl (nat_lt x.stage (suc s)) refl (up_to path s q xs low h.1)
   where
-    skip : (l : List Stmt) → taken x.guards path ≡ false → onpath path (x ∷ l) ≡ onpath path l
+    skip : (l : List Stmt) → all_hold x.guards path ≡ false → onpath path (x ∷ l) ≡ onpath path l
     skip l e = ap (λ b. cond b (record x { guards = [] } ∷ onpath path l) (onpath path l)) e
 
-    between : x.stage < q → suc s ≤ x.stage → taken x.guards path ≡ false
-    between i j = by (taken x.guards path) refl
+    between : x.stage < q → suc s ≤ x.stage → all_hold x.guards path ≡ false
+    between i j = by (all_hold x.guards path) refl
       where
         no : (x.stage ≤ s) ⊎ (q ≤ x.stage) → ⊥
         no (inl k) = absurd (omega arith)
         no (inr k) = absurd (omega arith)
 
-        by : (b : Bool) → taken x.guards path ≡ b → taken x.guards path ≡ false
+        by : (b : Bool) → all_hold x.guards path ≡ b → all_hold x.guards path ≡ false
         by true e = absurd (no (h.0 e))
         by false e = e
 
     at : (b : Bool) → nat_lt x.stage q ≡ b → (c : Bool) → nat_lt x.stage (suc s) ≡ c → onpath path (stages_before q xs) ≡ onpath path (stages_before (suc s) xs)
         → onpath path (cond b (x ∷ stages_before q xs) (stages_before q xs)) ≡ onpath path (cond c (x ∷ stages_before (suc s) xs) (stages_before (suc s) xs))
-    at true e true f r = ap (λ l. cond (taken x.guards path) (record x { guards = [] } ∷ l) l) r
+    at true e true f r = ap (λ l. cond (all_hold x.guards path) (record x { guards = [] } ∷ l) l) r
     at true e false f r = skip (stages_before q xs) (between (ltb-true _ _ e) (ltb-false _ _ f)) ∙ r
     at false e true f r = absurd (let i = ltb-false _ _ e in let j : x.stage < suc s = ltb-true _ _ f in omega arith)
     at false e false f r = r
 
 pub before_path : (path : List ℕ) (s : ℕ) (xs : List Stmt) → stages_before s (onpath path xs) ≡ onpath path (stages_before s xs)
 before_path path s [] = refl
-before_path path s (x ∷ xs) = at (taken x.guards path) refl (nat_lt x.stage s) refl (before_path path s xs)
+before_path path s (x ∷ xs) = at (all_hold x.guards path) refl (nat_lt x.stage s) refl (before_path path s xs)
   where
-    at : (b : Bool) → taken x.guards path ≡ b → (c : Bool) → nat_lt x.stage s ≡ c → stages_before s (onpath path xs) ≡ onpath path (stages_before s xs)
+    at : (b : Bool) → all_hold x.guards path ≡ b → (c : Bool) → nat_lt x.stage s ≡ c → stages_before s (onpath path xs) ≡ onpath path (stages_before s xs)
         → stages_before s (cond b (record x { guards = [] } ∷ onpath path xs) (onpath path xs)) ≡ onpath path (cond c (x ∷ stages_before s xs) (stages_before s xs))
     at true e true f r = ap₂ (λ t l. cond t (record x { guards = [] } ∷ l) l) f r ∙ sym (ap (λ t. cond t (record x { guards = [] } ∷ onpath path (stages_before s xs)) (onpath path (stages_before s xs))) e)
     at true e false f r = ap₂ (λ t l. cond t (record x { guards = [] } ∷ l) l) f r
@@ -64,9 +64,9 @@ before_path path s (x ∷ xs) = at (taken x.guards path) refl (nat_lt x.stage s)
 
 pub from_path : (path : List ℕ) (s : ℕ) (xs : List Stmt) → stages_from s (onpath path xs) ≡ onpath path (stages_from s xs)
 from_path path s [] = refl
-from_path path s (x ∷ xs) = at (taken x.guards path) refl (nat_le s x.stage) refl (from_path path s xs)
+from_path path s (x ∷ xs) = at (all_hold x.guards path) refl (nat_le s x.stage) refl (from_path path s xs)
   where
-    at : (b : Bool) → taken x.guards path ≡ b → (c : Bool) → nat_le s x.stage ≡ c → stages_from s (onpath path xs) ≡ onpath path (stages_from s xs)
+    at : (b : Bool) → all_hold x.guards path ≡ b → (c : Bool) → nat_le s x.stage ≡ c → stages_from s (onpath path xs) ≡ onpath path (stages_from s xs)
         → stages_from s (cond b (record x { guards = [] } ∷ onpath path xs) (onpath path xs)) ≡ onpath path (cond c (x ∷ stages_from s xs) (stages_from s xs))
     at true e true f r = ap₂ (λ t l. cond t (record x { guards = [] } ∷ l) l) f r ∙ sym (ap (λ t. cond t (record x { guards = [] } ∷ onpath path (stages_from s xs)) (onpath path (stages_from s xs))) e)
     at true e false f r = ap₂ (λ t l. cond t (record x { guards = [] } ∷ l) l) f r
@@ -129,21 +129,21 @@ all_both : {A B C : Stmt → Type 0} → ((x : Stmt) → A x → B x → C x) �
 all_both f [] h k = tt
 all_both f (x ∷ xs) h k = (f x h.0 k.0, all_both f xs h.1 k.1)
 
-set_binds : (g : ℕ) (op : Op) → sets g op ≡ true → binds g op ≡ true
+set_binds : (g : ℕ) (op : Op) → sets g op ≡ true → binds_var g op ≡ true
 set_binds g (Bind x e) h = h
 set_binds g (CombRead x m a) h = h
 set_binds g _ h = absurd (cc h)
 
-fetch_binds : (g : ℕ) (op : Op) → fetches g op ≡ true → (binds g op ≡ true) × (is_fetch op ≡ true)
+fetch_binds : (g : ℕ) (op : Op) → is_fetch_of g op ≡ true → (binds_var g op ≡ true) × (is_fetch op ≡ true)
 fetch_binds g (DelayedRead x m a) h = (h, refl)
 fetch_binds g _ h = absurd (cc h)
 
 -- guards whose variables agree
-taken_agree : (env env' : List ℕ) (gs : List Guard) → ((g : ℕ) → ((op : Op) → binds g op ≡ true → binds_guard op gs ≡ true) → slice_index env g ≡ slice_index env' g) → taken gs env ≡ taken gs env'
+taken_agree : (env env' : List ℕ) (gs : List Guard) → ((g : ℕ) → ((op : Op) → binds_var g op ≡ true → binds_guard op gs ≡ true) → slice_index env g ≡ slice_index env' g) → all_hold gs env ≡ all_hold gs env'
 taken_agree env env' [] f = refl
 taken_agree env env' (g ∷ gs) f =
-    ap₂ (λ v b. takes g.first v && b) (f g.var (λ op h. ap (λ b. b || binds_guard op gs) h))
-    (taken_agree env env' gs (λ k i. f k (λ op h. ap (λ b. binds g.var op || b) (i op h) ∙ or_true (binds g.var op))))
+    ap₂ (λ v b. takes_branch g.first v && b) (f g.var (λ op h. ap (λ b. b || binds_guard op gs) h))
+    (taken_agree env env' gs (λ k i. f k (λ op h. ap (λ b. binds_var g.var op || b) (i op h) ∙ or_true (binds_var g.var op))))
   where
     or_true : (b : Bool) → (b || true) ≡ true
     or_true true = refl
@@ -154,7 +154,7 @@ same_bools true b f g = f refl
 same_bools false true f g = g refl
 same_bools false false f g = refl
 
-same_before : (env env' : List ℕ) (s : ℕ) (xs : List Stmt) → AllOf (λ z. z.stage < s → taken z.guards env ≡ taken z.guards env') xs → onpath env (stages_before s xs) ≡ onpath env' (stages_before s xs)
+same_before : (env env' : List ℕ) (s : ℕ) (xs : List Stmt) → AllOf (λ z. z.stage < s → all_hold z.guards env ≡ all_hold z.guards env') xs → onpath env (stages_before s xs) ≡ onpath env' (stages_before s xs)
 same_before env env' s [] h = refl
 same_before env env' s (x ∷ xs) h = at (nat_lt x.stage s) refl (same_before env env' s xs h.1)
   where
@@ -163,41 +163,41 @@ same_before env env' s (x ∷ xs) h = at (nat_lt x.stage s) refl (same_before en
     at false e r = r
 
 module _ (p : Pipe) (rules : FlowRules p) where
-  steady_rule : (s : ℕ) (env env' : List ℕ) → visits p env s ≡ true → SameBut sets (onpath env' (in_stage s p.stmts)) env env'
-      → (onpath env (stages_before s p.stmts) ≡ onpath env' (stages_before s p.stmts)) × (visits p env s ≡ visits p env' s)
+  steady_rule : (s : ℕ) (env env' : List ℕ) → visits_stage p env s ≡ true → SameBut sets (onpath env' (in_stage s p.stmts)) env env'
+      → (onpath env (stages_before s p.stmts) ≡ onpath env' (stages_before s p.stmts)) × (visits_stage p env s ≡ visits_stage p env' s)
   steady_rule s env env' b h = (
-    same_before env env' s p.stmts (all_both (λ z f g. λ low. same_bools (taken z.guards env) (taken z.guards env') (λ e. agree z low (f e)) (λ e. agree z low (g e))) p.stmts (rules.guards_late env) (rules.guards_late env')),
+    same_before env env' s p.stmts (all_both (λ z f g. λ low. same_bools (all_hold z.guards env) (all_hold z.guards env') (λ e. agree z low (f e)) (λ e. agree z low (g e))) p.stmts (rules.guards_late env) (rules.guards_late env')),
     branch_same (stage_at p s).branch refl,
   )
     where
-      keeps : (g : ℕ) → AllOf (λ y. binds g y.op ≡ true → y.stage ≡ s → ⊥) p.stmts → slice_index env g ≡ slice_index env' g
+      keeps : (g : ℕ) → AllOf (λ y. binds_var g y.op ≡ true → y.stage ≡ s → ⊥) p.stmts → slice_index env g ≡ slice_index env' g
       keeps g k = h g (none_onpath (sets g) env' (in_stage s p.stmts) (none_in (sets g) s p.stmts (all_map (λ y f. λ e. f (set_binds g y.op e)) p.stmts k)))
 
-      agree : (z : Stmt) → z.stage < s → AllOf (λ y. binds_guard y.op z.guards ≡ true → DefinedBy y.stage y.op z.stage) p.stmts → taken z.guards env ≡ taken z.guards env'
+      agree : (z : Stmt) → z.stage < s → AllOf (λ y. binds_guard y.op z.guards ≡ true → DefinedBy y.stage y.op z.stage) p.stmts → all_hold z.guards env ≡ all_hold z.guards env'
       agree z low k = taken_agree env env' z.guards (λ g i. keeps g (all_map (λ y f. λ e j. let d = (f (i y.op e)).0 in absurd (omega arith)) p.stmts k))
 
       -- the fork around it stands before it
       fork_same : (x : Branch) → (stage_at p s).branch ≡ Some x → (n : Next) → (stage_at p x.fork).next ≡ n → on_side n x.first env ≡ on_side n x.first env'
       fork_same x e Ends f = refl
       fork_same x e (Goes to) f = refl
-      fork_same x e (Forks v a c) f = ap (takes x.first) (keeps v (all_map (λ y g. λ i j. let d = (g i).0 in let u = (rules.graph.fork_below s x e).0 in absurd (omega arith)) p.stmts (rules.forks_late x.fork v a c f)))
+      fork_same x e (Forks v a c) f = ap (takes_branch x.first) (keeps v (all_map (λ y g. λ i j. let d = (g i).0 in let u = (rules.graph.fork_below s x e).0 in absurd (omega arith)) p.stmts (rules.forks_late x.fork v a c f)))
 
-      branch_same : (c : Option Branch) → (stage_at p s).branch ≡ c → visits p env s ≡ visits p env' s
+      branch_same : (c : Option Branch) → (stage_at p s).branch ≡ c → visits_stage p env s ≡ visits_stage p env' s
       branch_same None e = ap (λ c. comes_by p env c) e ∙ sym (ap (λ c. comes_by p env' c) e)
       branch_same (Some x) e = ap (λ c. comes_by p env c) e ∙ fork_same x e (stage_at p x.fork).next refl ∙ sym (ap (λ c. comes_by p env' c) e)
 
-  settled_rule : (s : ℕ) (env env' : List ℕ) → s < length p.stages → visits p env' s ≡ true → SameBut fetches (onpath env' (in_stage s p.stmts)) env env'
-      → (onpath env (stages_before (next_of p s env') p.stmts) ≡ onpath env' (stages_before (next_of p s env') p.stmts)) × (visits p env (next_of p s env') ≡ visits p env' (next_of p s env'))
+  settled_rule : (s : ℕ) (env env' : List ℕ) → s < length p.stages → visits_stage p env' s ≡ true → SameBut is_fetch_of (onpath env' (in_stage s p.stmts)) env env'
+      → (onpath env (stages_before (next_of p s env') p.stmts) ≡ onpath env' (stages_before (next_of p s env') p.stmts)) × (visits_stage p env (next_of p s env') ≡ visits_stage p env' (next_of p s env'))
   settled_rule s env env' low b h = (
     same_before env env' (next_of p s env') p.stmts
-        (all_both (λ z f g. λ i. same_bools (taken z.guards env) (taken z.guards env') (f i) (g i)) p.stmts one two),
+        (all_both (λ z f g. λ i. same_bools (all_hold z.guards env) (all_hold z.guards env') (f i) (g i)) p.stmts one two),
     next_branch (goes_to (stage_at p s).next env') refl,
   )
     where
-      keeps : (g : ℕ) → AllOf (λ y. binds g y.op ≡ true → is_fetch y.op ≡ true → y.stage ≡ s → ⊥) p.stmts → slice_index env g ≡ slice_index env' g
-      keeps g k = h g (none_onpath (fetches g) env' (in_stage s p.stmts) (none_in (fetches g) s p.stmts (all_map (λ y f. λ e. f (fetch_binds g y.op e).0 (fetch_binds g y.op e).1) p.stmts k)))
+      keeps : (g : ℕ) → AllOf (λ y. binds_var g y.op ≡ true → is_fetch y.op ≡ true → y.stage ≡ s → ⊥) p.stmts → slice_index env g ≡ slice_index env' g
+      keeps g k = h g (none_onpath (is_fetch_of g) env' (in_stage s p.stmts) (none_in (is_fetch_of g) s p.stmts (all_map (λ y f. λ e. f (fetch_binds g y.op e).0 (fetch_binds g y.op e).1) p.stmts k)))
 
-      agree : (z : Stmt) (path : List ℕ) → next_of p s path ≡ next_of p s env' → z.stage < next_of p s env' → AllOf (λ y. binds_guard y.op z.guards ≡ true → DefinedBy y.stage y.op z.stage) p.stmts → (z.stage ≤ s) ⊎ (next_of p s path ≤ z.stage) → taken z.guards env ≡ taken z.guards env'
+      agree : (z : Stmt) (path : List ℕ) → next_of p s path ≡ next_of p s env' → z.stage < next_of p s env' → AllOf (λ y. binds_guard y.op z.guards ≡ true → DefinedBy y.stage y.op z.stage) p.stmts → (z.stage ≤ s) ⊎ (next_of p s path ≤ z.stage) → all_hold z.guards env ≡ all_hold z.guards env'
       agree z path same i k w = taken_agree env env' z.guards (λ g j. keeps g (all_map (λ y f. λ e u v. absurd (apart y ((f (j y.op e)).1 u) v w)) p.stmts k))
         where
           apart : (y : Stmt) → y.stage < z.stage → y.stage ≡ s → (z.stage ≤ s) ⊎ (next_of p s path ≤ z.stage) → ⊥
@@ -211,18 +211,18 @@ module _ (p : Pipe) (rules : FlowRules p) where
       fork_same : (f : ℕ) (first : Bool) → f ≤ s → (n : Next) → (stage_at p f).next ≡ n → on_side n first env ≡ on_side n first env'
       fork_same f first i Ends e = refl
       fork_same f first i (Goes to) e = refl
-      fork_same f first i (Forks v a c) e = ap (takes first) (guard_same f v a c i e)
+      fork_same f first i (Forks v a c) e = ap (takes_branch first) (guard_same f v a c i e)
 
-      branch_some : (q : ℕ) (x : Branch) → (stage_at p q).branch ≡ Some x → x.fork ≤ s → visits p env q ≡ visits p env' q
+      branch_some : (q : ℕ) (x : Branch) → (stage_at p q).branch ≡ Some x → x.fork ≤ s → visits_stage p env q ≡ visits_stage p env' q
       branch_some q x e i = ap (λ c. comes_by p env c) e ∙ fork_same x.fork x.first i (stage_at p x.fork).next refl ∙ sym (ap (λ c. comes_by p env' c) e)
 
-      branch_none : (q : ℕ) → (stage_at p q).branch ≡ None → visits p env q ≡ visits p env' q
+      branch_none : (q : ℕ) → (stage_at p q).branch ≡ None → visits_stage p env q ≡ visits_stage p env' q
       branch_none q e = ap (λ c. comes_by p env c) e ∙ sym (ap (λ c. comes_by p env' c) e)
 
-      branch_at : (q : ℕ) → q ≤ s → visits p env q ≡ visits p env' q
+      branch_at : (q : ℕ) → q ≤ s → visits_stage p env q ≡ visits_stage p env' q
       branch_at q i = by (stage_at p q).branch refl
         where
-          by : (c : Option Branch) → (stage_at p q).branch ≡ c → visits p env q ≡ visits p env' q
+          by : (c : Option Branch) → (stage_at p q).branch ≡ c → visits_stage p env q ≡ visits_stage p env' q
           by None e = branch_none q e
           by (Some x) e = branch_some q x e (let u = (rules.graph.fork_below q x e).0 in omega arith)
 
@@ -234,21 +234,21 @@ module _ (p : Pipe) (rules : FlowRules p) where
           ∙ ap (λ w. cond (w == 1) a c) (guard_same s v a c (le_refl s) e)
           ∙ sym (ap (λ m. stage_or (length p.stages) (goes_to m env')) e)
 
-      one : AllOf (λ z. z.stage < next_of p s env' → taken z.guards env ≡ true → taken z.guards env ≡ taken z.guards env') p.stmts
+      one : AllOf (λ z. z.stage < next_of p s env' → all_hold z.guards env ≡ true → all_hold z.guards env ≡ all_hold z.guards env') p.stmts
       one = all_both (λ z k l. λ i e. agree z env (next_same (stage_at p s).next refl) i (k e) (l e)) p.stmts (rules.guards_late env) (rules.on_stages env s low (branch_at s (le_refl s) ∙ b))
 
-      two : AllOf (λ z. z.stage < next_of p s env' → taken z.guards env' ≡ true → taken z.guards env ≡ taken z.guards env') p.stmts
+      two : AllOf (λ z. z.stage < next_of p s env' → all_hold z.guards env' ≡ true → all_hold z.guards env ≡ all_hold z.guards env') p.stmts
       two = all_both (λ z k l. λ i e. agree z env' refl i (k e) (l e)) p.stmts (rules.guards_late env') (rules.on_stages env' s low b)
 
-      next_branch : (r : Option ℕ) → goes_to (stage_at p s).next env' ≡ r → visits p env (next_of p s env') ≡ visits p env' (next_of p s env')
-      next_branch None e = subst (λ n. visits p env n ≡ visits p env' n) (sym (ap (stage_or (length p.stages)) e)) (past (stage_at p (length p.stages)).branch refl)
+      next_branch : (r : Option ℕ) → goes_to (stage_at p s).next env' ≡ r → visits_stage p env (next_of p s env') ≡ visits_stage p env' (next_of p s env')
+      next_branch None e = subst (λ n. visits_stage p env n ≡ visits_stage p env' n) (sym (ap (stage_or (length p.stages)) e)) (past (stage_at p (length p.stages)).branch refl)
         where
-          past : (c : Option Branch) → (stage_at p (length p.stages)).branch ≡ c → visits p env (length p.stages) ≡ visits p env' (length p.stages)
+          past : (c : Option Branch) → (stage_at p (length p.stages)).branch ≡ c → visits_stage p env (length p.stages) ≡ visits_stage p env' (length p.stages)
           past None i = branch_none (length p.stages) i
           past (Some x) i = branch_some (length p.stages) x i (let u = (rules.graph.fork_below (length p.stages) x i).0 in let v = (rules.graph.last s env' low e).0 in omega arith)
-      next_branch (Some q) e = subst (λ n. visits p env n ≡ visits p env' n) (sym (ap (stage_or (length p.stages)) e)) (by (stage_at p q).branch refl)
+      next_branch (Some q) e = subst (λ n. visits_stage p env n ≡ visits_stage p env' n) (sym (ap (stage_or (length p.stages)) e)) (by (stage_at p q).branch refl)
         where
-          by : (c : Option Branch) → (stage_at p q).branch ≡ c → visits p env q ≡ visits p env' q
+          by : (c : Option Branch) → (stage_at p q).branch ≡ c → visits_stage p env q ≡ visits_stage p env' q
           by None i = branch_none q i
           by (Some x) i = branch_some q x i (from (rules.graph.into s q x (env', e, low) i))
             where
@@ -257,7 +257,7 @@ module _ (p : Pipe) (rules : FlowRules p) where
               from (inr j) = let u = j.0 in omega arith
 
   -- the statements up to the next stage
-  next_rule : (path : List ℕ) (s : ℕ) → s < length p.stages → visits p path s ≡ true → onpath path (stages_before (next_of p s path) p.stmts) ≡ onpath path (stages_before s p.stmts) ++ onpath path (in_stage s p.stmts)
+  next_rule : (path : List ℕ) (s : ℕ) → s < length p.stages → visits_stage p path s ≡ true → onpath path (stages_before (next_of p s path) p.stmts) ≡ onpath path (stages_before s p.stmts) ++ onpath path (in_stage s p.stmts)
   next_rule path s low b = up_to path s (next_of p s path) p.stmts (up (goes_to (stage_at p s).next path) refl) (rules.on_stages path s low b) ∙ pieces
     where
       whole : onpath path p.stmts ≡ stages_before s (onpath path p.stmts) ++ stages_from s (onpath path p.stmts)

@@ -7,7 +7,7 @@ use Rattle.pdl_semantics.specs.Machine.{Kept, State, Pending, with_answers, Deed
 use Rattle.pdl_semantics.specs.Cycle.{for_stages}
 use Rattle.pdl_semantics.specs.Machine
 use Rattle.pdl_semantics.specs.Moves
-use Rattle.pdl_derived.specs.Derived.{works, Work, latest, latest_in, pending, count_in, befores, around}
+use Rattle.pdl_derived.specs.Derived.{work_of_stage, Work, latest, latest_in, pending, count_in, befores, around}
 use Rattle.pdl_derived.specs.Derived
 use Rattle.pdl_derived.proofs.Slots.{rev, stages_same}
 use Rattle.pdl_simulation.proofs.Stretches.{Behind}
@@ -82,10 +82,10 @@ abbrev pub did : Pipe → Derived.State → List Bool → List Live → Live →
 did p d bits ls l = Derived.act p d bits (dacts p d bits ls) l.thread
 
 abbrev pub now_of : Pipe → Derived.State → List Bool → Live → Derived.Thread
-now_of p d bits l = Derived.answered p d bits l.thread
+now_of p d bits l = Derived.answered_thread p d bits l.thread
 
 abbrev pub work_of_live : Pipe → Derived.State → List Bool → List Live → Live → Work
-work_of_live p d bits ls l = works p (around p d bits (dacts p d bits ls) l.thread.stage) (Derived.answered p d bits l.thread)
+work_of_live p d bits ls l = work_of_stage p (around p d bits (dacts p d bits ls) l.thread.stage) (Derived.answered_thread p d bits l.thread)
 
 abbrev pub deeds_of : Pipe → State → List Bool → Live → Deeds
 deeds_of p st bits l = Machine.deeds p st l.thread.stage (with_answers p st bits (seat l))

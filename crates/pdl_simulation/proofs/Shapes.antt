@@ -1,14 +1,14 @@
 -- What a live thread keeps on its own way through the stages, whatever stands around it: the locations that it holds, its pending writes, the reads that it awaits.
 use Rattle.std.proofs.Common.{◌≡◌, refl, sym, ap, ap₂, ◌∙◌, subst, ℕ, ◌≤◌, ◌<◌, inl, Bool, true, false, ◌&&◌, ◌||◌, not, List, [], ◌∷◌, ◌++◌, Some, None, ◌==◌, nat_lt, nat_le, cond, if◌then◌else◌, arith, slice_index, append-nil, ltb-true, leb-true}
 use Rattle.std.proofs.lemmas.Bool.{eqb-true}
-use Rattle.pdl_semantics.specs.Flat.{Commit, Op, Write, ReserveWrite, Release, Verify, Stmt, values_of, taken}
+use Rattle.pdl_semantics.specs.Flat.{Commit, Op, Write, ReserveWrite, Release, Verify, Stmt, values_of, all_hold}
 use Rattle.pdl_semantics.specs.Stages.{onpath, is_reserve, is_release}
-use Rattle.pdl_semantics.specs.Machine.{same_args, Pending, Place, held_after, held_before}
+use Rattle.pdl_semantics.specs.Machine.{same_args, Pending, HeldLocation, held_after, held_before}
 use Rattle.pdl_semantics.specs.Sound.{stages_before, stages_from}
 use Rattle.pdl_semantics.specs.Machine
-use Rattle.pdl_derived.specs.Derived.{Entry, Work, Around, does, do_all}
+use Rattle.pdl_derived.specs.Derived.{Entry, Work, Around, work_after, do_all}
 use Rattle.pdl_derived.specs.Alone.{is_call}
-use Rattle.pdl_facts.specs.Scans.{Phase, Fresh, Held, Written, Done, after_release, next_phase, phase_all, is_over, none_of, all_at, fixed, called}
+use Rattle.pdl_facts.specs.Scans.{Phase, Fresh, Held, Written, Done, after_release, next_phase, phase_all, is_over, none_of, all_at, is_fixed, called}
 use Rattle.pdl_simulation.proofs.FlowFacts.{use_ok, uses_ok, calls_ok}
 use Rattle.pdl_derived.proofs.Writes.{and_left, and_right}
 use Rattle.pdl_derived.proofs.Entries.{entries_of, entry}
@@ -106,7 +106,7 @@ none_past test c s (x ∷ xs) h k = at (nat_le s x.stage) refl (test x.op) refl 
     at false e t f r q = r
 
 -- statements are carried out as the values at their end tell
-pub fixed_to : (path : List ℕ) (o : Around) (xs : List Stmt) (w : Work) → fixed xs ≡ true → (do_all o xs w).env ≡ path → Fixed path o xs w
+pub fixed_to : (path : List ℕ) (o : Around) (xs : List Stmt) (w : Work) → is_fixed xs ≡ true → (do_all o xs w).env ≡ path → Fixed path o xs w
 fixed_to path o [] w h e = tt
 fixed_to path o (x ∷ xs) w h e = (
   taken_stays x.guards (x ∷ xs) w.env path (and_left _ _ h) (λ g k. ap (λ l. slice_index l g) (sym e) ∙ all_stays g o (x ∷ xs) w k),
@@ -168,25 +168,25 @@ over_early m (x ∷ xs) ph h k = at (is_over ph) refl (over_early m xs (next_pha
 -- LOCATIONS
 
 -- the locations held after these statements
-abbrev pub held_ops : List Stmt → List Place → List Place
+abbrev pub held_ops : List Stmt → List HeldLocation → List HeldLocation
 held_ops [] ls = ls
 held_ops (x ∷ xs) ls = held_ops xs (held_after x.op ls)
 
-pub held_append : (xs ys : List Stmt) (ls : List Place) → held_ops (xs ++ ys) ls ≡ held_ops ys (held_ops xs ls)
+pub held_append : (xs ys : List Stmt) (ls : List HeldLocation) → held_ops (xs ++ ys) ls ≡ held_ops ys (held_ops xs ls)
 held_append [] ys ls = refl
 held_append (x ∷ xs) ys ls = held_append xs ys (held_after x.op ls)
 
-pub held_path : (s : ℕ) (path : List ℕ) (xs : List Stmt) (ls : List Place) → held_before s path xs ls ≡ held_ops (onpath path (stages_before s xs)) ls
+pub held_path : (s : ℕ) (path : List ℕ) (xs : List Stmt) (ls : List HeldLocation) → held_before s path xs ls ≡ held_ops (onpath path (stages_before s xs)) ls
 held_path s path [] ls = refl
-held_path s path (x ∷ xs) ls = at (nat_lt x.stage s) (taken x.guards path) refl (held_path s path xs ls) (held_path s path xs (held_after x.op ls))
+held_path s path (x ∷ xs) ls = at (nat_lt x.stage s) (all_hold x.guards path) refl (held_path s path xs ls) (held_path s path xs (held_after x.op ls))
   where
-    at : (c b : Bool) → taken x.guards path ≡ b → held_before s path xs ls ≡ held_ops (onpath path (stages_before s xs)) ls → held_before s path xs (held_after x.op ls) ≡ held_ops (onpath path (stages_before s xs)) (held_after x.op ls)
+    at : (c b : Bool) → all_hold x.guards path ≡ b → held_before s path xs ls ≡ held_ops (onpath path (stages_before s xs)) ls → held_before s path xs (held_after x.op ls) ≡ held_ops (onpath path (stages_before s xs)) (held_after x.op ls)
         → held_before s path xs (if c && b then held_after x.op ls else ls) ≡ held_ops (onpath path (cond c (x ∷ stages_before s xs) (stages_before s xs))) ls
     at true true e f g = g ∙ sym (ap (λ b. held_ops (cond b (record x { guards = [] } ∷ onpath path (stages_before s xs)) (onpath path (stages_before s xs))) ls) e)
     at true false e f g = f ∙ sym (ap (λ b. held_ops (cond b (record x { guards = [] } ∷ onpath path (stages_before s xs)) (onpath path (stages_before s xs))) ls) e)
     at false b e f g = f
 
-held_op : (o : Around) (op : Op) (w : Work) → places (does o op w).entries ≡ held_after op (places w.entries)
+held_op : (o : Around) (op : Op) (w : Work) → places (work_after o op w).entries ≡ held_after op (places w.entries)
 held_op o (Write j a e) w = places_filled w.entries j a _
 held_op o (Release j a) w = places_without w.entries j a
 held_op o (Verify args) w = at (same_args (values_of args w.env) w.guess)
@@ -198,9 +198,9 @@ held_op o _ w = refl
 
 pub held_work : (path : List ℕ) (o : Around) (xs : List Stmt) (w : Work) → Fixed path o xs w → places (do_all o xs w).entries ≡ held_ops (onpath path xs) (places w.entries)
 held_work path o [] w f = refl
-held_work path o (x ∷ xs) w f = held_work path o xs (step o x w) f.1 ∙ at (taken x.guards w.env) (taken x.guards path) f.0
+held_work path o (x ∷ xs) w f = held_work path o xs (step o x w) f.1 ∙ at (all_hold x.guards w.env) (all_hold x.guards path) f.0
   where
-    at : (b c : Bool) → b ≡ c → held_ops (onpath path xs) (places (cond b (does o x.op w) w).entries) ≡ held_ops (cond c (record x { guards = [] } ∷ onpath path xs) (onpath path xs)) (places w.entries)
+    at : (b c : Bool) → b ≡ c → held_ops (onpath path xs) (places (cond b (work_after o x.op w) w).entries) ≡ held_ops (cond c (record x { guards = [] } ∷ onpath path xs) (onpath path xs)) (places w.entries)
     at true true e = ap (held_ops (onpath path xs)) (held_op o x.op w)
     at true false e = absurd (cc e)
     at false true e = absurd (cc e)

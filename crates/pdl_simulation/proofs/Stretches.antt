@@ -2,17 +2,17 @@
 use Rattle.std.proofs.Common.{◌≡◌, refl, sym, ap, ap₂, ◌∙◌, subst, ℕ, ◌≤◌, ◌<◌, ◌⊎◌, inl, inr, Bool, true, false, ◌&&◌, ◌||◌, not, List, [], ◌∷◌, ◌++◌, length, Option, Some, None, is_some, ◌==◌, cond, if◌then◌else◌, arith, slice_index, slice_set, le_refl}
 use Rattle.std.proofs.lemmas.List.{get_or-set_other}
 use Rattle.std.proofs.lemmas.Bool.Decides.{eqb_tells}
-use Rattle.pdl_semantics.specs.Flat.{Commit, of_mem, Op, Bind, CombRead, DelayedRead, Write, ReserveWrite, Release, Call, SpecCall, Verify, Stmt, Branch, Pipe, value_of, values_of, taken}
+use Rattle.pdl_semantics.specs.Flat.{Commit, of_mem, Op, Bind, CombRead, DelayedRead, Write, ReserveWrite, Release, Call, SpecCall, Verify, Stmt, Branch, Pipe, value_of, values_of, all_hold}
 use Rattle.pdl_semantics.specs.Stages.{onpath, in_stage, stage_at, goes_to, is_reserve, is_release, reserve_stage, commit_stage}
-use Rattle.pdl_semantics.specs.Machine.{Ask, Awaited, same_args, answers, Pending, Blocked, Reserved, Deeds, held_before, does_all, is_held}
+use Rattle.pdl_semantics.specs.Machine.{Ask, Awaited, same_args, is_answered, Pending, Blocked, Reserved, Deeds, held_before, deeds_after_all, is_held}
 use Rattle.pdl_semantics.specs.Cycle.{awaited_of}
 use Rattle.pdl_semantics.specs.Sound.{stages_before, stages_from}
 use Rattle.pdl_semantics.specs.Machine
-use Rattle.pdl_derived.specs.Derived.{Entry, Work, Around, does, do_all, works, still, with_answers, answered}
+use Rattle.pdl_derived.specs.Derived.{Entry, Work, Around, work_after, do_all, work_of_stage, still, with_answers, answered_thread}
 use Rattle.pdl_derived.specs.Alone.{is_call}
 use Rattle.pdl_derived.specs.Derived
 use Rattle.pdl_facts.specs.Scans.{Phase, Fresh, next_phase, phase_all, is_over, none_of, called}
-use Rattle.pdl_simulation.proofs.FlowFacts.{Flows, SameBut, sets, fetches_from, fetches, use_ok, uses_ok, call_ok, calls_ok, visits, next_of, stage_or, comes_by, Leads, Ways}
+use Rattle.pdl_simulation.proofs.FlowFacts.{Flows, SameBut, sets, fetches_from, is_fetch_of, use_ok, uses_ok, call_ok, calls_ok, visits_stage, next_of, stage_or, comes_by, Leads, Ways}
 use Rattle.pdl_derived.proofs.Writes.{and_left, and_right}
 use Rattle.pdl_derived.proofs.Entries.{entries_of}
 use Rattle.pdl_derived.proofs.Stages.{step}
@@ -31,7 +31,7 @@ use Rattle.pdl_turns.proofs.OfStage.{fixed_stage}
 module _ (o : Around) (read : ℕ → ℕ → ℕ) (block : Blocked → Bool) (room : Reserved → Bool) (free : Ask → Bool) (m n : ℕ) (start : List Pending) where
   step_op : (op : Op) (ph : Phase) (d : Deeds) (es : List Entry) (cs : List Commit) → places es ≡ d.held → use_ok m ph op ≡ true
       → Here o read block room free m n start ph d (work_of o read block room free d es cs)
-      → Here o read block room free m n start (next_phase m ph op) (Machine.does read op d) (does o op (work_of o read block room free d es cs))
+      → Here o read block room free m n start (next_phase m ph op) (Machine.deeds_after read op d) (work_after o op (work_of o read block room free d es cs))
   step_op (Write j a e) ph d es cs h k g = step_write m n j a (value_of e d.env) ph es (of_mem m cs) _ d.writes _ (j == m) refl k g
   step_op (ReserveWrite j a) ph d es cs h k g = step_reserve m n j a (slice_index d.env a) ph es (of_mem m cs) start d.reserves d.writes _ (j == m) refl k g
   step_op (Release j a) ph d es cs h k g = step_release m n j a ph es cs _ d.writes d.releases (is_held d.held j a) (ap (λ l. is_held l j a) (sym h) ∙ places_has es j a) (j == m) refl k g
@@ -44,24 +44,24 @@ module _ (o : Around) (read : ℕ → ℕ → ℕ) (block : Blocked → Bool) (r
 
   step_if : (b : Bool) (op : Op) (ph : Phase) (d : Deeds) (es : List Entry) (cs : List Commit) → places es ≡ d.held → (b ≡ true → use_ok m ph op ≡ true)
       → Here o read block room free m n start ph d (work_of o read block room free d es cs)
-      → Here o read block room free m n start (cond b (next_phase m ph op) ph) (cond b (Machine.does read op d) d) (cond b (does o op (work_of o read block room free d es cs)) (work_of o read block room free d es cs))
+      → Here o read block room free m n start (cond b (next_phase m ph op) ph) (cond b (Machine.deeds_after read op d) d) (cond b (work_after o op (work_of o read block room free d es cs)) (work_of o read block room free d es cs))
   step_if true op ph d es cs h k g = step_op op ph d es cs h (k refl) g
   step_if false op ph d es cs h k g = g
 
   -- the statements of a stage
   steps_all : (path : List ℕ) (xs : List Stmt) (ph : Phase) (d : Deeds) (es : List Entry) (cs : List Commit) → places es ≡ d.held → AllFit o read block room free xs
       → Fixed path o xs (work_of o read block room free d es cs) → uses_ok m ph (onpath path xs) ≡ true → Here o read block room free m n start ph d (work_of o read block room free d es cs)
-      → Here o read block room free m n start (phase_all m ph (onpath path xs)) (does_all read xs d) (do_all o xs (work_of o read block room free d es cs))
+      → Here o read block room free m n start (phase_all m ph (onpath path xs)) (deeds_after_all read xs d) (do_all o xs (work_of o read block room free d es cs))
   steps_all path [] ph d es cs h f q k g = g
   steps_all path (x ∷ xs) ph d es cs h f q k g =
-      let t = told_step o read block room free (taken x.guards d.env) x.op d es cs h f.0 in
-      let w' : Work = cond (taken x.guards d.env) (does o x.op (work_of o read block room free d es cs)) (work_of o read block room free d es cs) in
-      let ok = allowed (taken x.guards d.env) (taken x.guards path) q.0 k in
-      let r = steps_all path xs (cond (taken x.guards d.env) (next_phase m ph x.op) ph) (if taken x.guards d.env then Machine.does read x.op d else d) w'.entries w'.commits t.held f.1
+      let t = told_step o read block room free (all_hold x.guards d.env) x.op d es cs h f.0 in
+      let w' : Work = cond (all_hold x.guards d.env) (work_after o x.op (work_of o read block room free d es cs)) (work_of o read block room free d es cs) in
+      let ok = allowed (all_hold x.guards d.env) (all_hold x.guards path) q.0 k in
+      let r = steps_all path xs (cond (all_hold x.guards d.env) (next_phase m ph x.op) ph) (if all_hold x.guards d.env then Machine.deeds_after read x.op d else d) w'.entries w'.commits t.held f.1
       (subst (λ w. Fixed path o xs w) t.is q.1) ok.1
-      (subst (λ w. Here o read block room free m n start (cond (taken x.guards d.env) (next_phase m ph x.op) ph) (if taken x.guards d.env then Machine.does read x.op d else d) w) t.is (step_if (taken x.guards d.env) x.op ph d es cs h ok.0 g)) in
-      subst (λ u. Here o read block room free m n start u (does_all read xs (if taken x.guards d.env then Machine.does read x.op d else d)) (do_all o xs w')) ok.2
-      (subst (λ w. Here o read block room free m n start (phase_all m (cond (taken x.guards d.env) (next_phase m ph x.op) ph) (onpath path xs)) (does_all read xs (if taken x.guards d.env then Machine.does read x.op d else d)) (do_all o xs w)) (sym t.is) r)
+      (subst (λ w. Here o read block room free m n start (cond (all_hold x.guards d.env) (next_phase m ph x.op) ph) (if all_hold x.guards d.env then Machine.deeds_after read x.op d else d) w) t.is (step_if (all_hold x.guards d.env) x.op ph d es cs h ok.0 g)) in
+      subst (λ u. Here o read block room free m n start u (deeds_after_all read xs (if all_hold x.guards d.env then Machine.deeds_after read x.op d else d)) (do_all o xs w')) ok.2
+      (subst (λ w. Here o read block room free m n start (phase_all m (cond (all_hold x.guards d.env) (next_phase m ph x.op) ph) (onpath path xs)) (deeds_after_all read xs (if all_hold x.guards d.env then Machine.deeds_after read x.op d else d)) (do_all o xs w)) (sym t.is) r)
     where
       allowed : (b c : Bool) → b ≡ c → uses_ok m ph (cond c (record x { guards = [] } ∷ onpath path xs) (onpath path xs)) ≡ true
           → (b ≡ true → use_ok m ph x.op ≡ true) × (uses_ok m (cond b (next_phase m ph x.op) ph) (onpath path xs) ≡ true) × (phase_all m (cond b (next_phase m ph x.op) ph) (onpath path xs) ≡ phase_all m ph (cond c (record x { guards = [] } ∷ onpath path xs) (onpath path xs)))
@@ -77,7 +77,7 @@ set_stays env x g v h = sym (get_or-set_other env x g v 0 apart)
     apart : g ≡ x → ⊥
     apart e = grind (arith, eqb_tells)
 
-op_sets : (g : ℕ) (o : Around) (op : Op) (w : Work) → not (sets g op) ≡ true → slice_index w.env g ≡ slice_index (does o op w).env g
+op_sets : (g : ℕ) (o : Around) (op : Op) (w : Work) → not (sets g op) ≡ true → slice_index w.env g ≡ slice_index (work_after o op w).env g
 op_sets g o (Bind x e) w h = set_stays w.env x g _ h
 op_sets g o (CombRead x m a) w h = set_stays w.env x g _ h
 op_sets g o (Verify args) w h = at (same_args (values_of args w.env) w.guess)
@@ -90,11 +90,11 @@ op_sets g o _ w h = refl
 -- only what a path's statements bind at once changes
 only_sets : (path : List ℕ) (o : Around) (xs : List Stmt) (w : Work) → Fixed path o xs w → SameBut sets (onpath path xs) w.env (do_all o xs w).env
 only_sets path o [] w f g h = refl
-only_sets path o (x ∷ xs) w f g h = at (taken x.guards w.env) (taken x.guards path) f.0 h (λ k. only_sets path o xs (step o x w) f.1 g k)
+only_sets path o (x ∷ xs) w f g h = at (all_hold x.guards w.env) (all_hold x.guards path) f.0 h (λ k. only_sets path o xs (step o x w) f.1 g k)
   where
     at : (b c : Bool) → b ≡ c → none_of (sets g) (cond c (record x { guards = [] } ∷ onpath path xs) (onpath path xs)) ≡ true
-        → (none_of (sets g) (onpath path xs) ≡ true → slice_index (cond b (does o x.op w) w).env g ≡ slice_index (do_all o xs (cond b (does o x.op w) w)).env g)
-        → slice_index w.env g ≡ slice_index (do_all o xs (cond b (does o x.op w) w)).env g
+        → (none_of (sets g) (onpath path xs) ≡ true → slice_index (cond b (work_after o x.op w) w).env g ≡ slice_index (do_all o xs (cond b (work_after o x.op w) w)).env g)
+        → slice_index w.env g ≡ slice_index (do_all o xs (cond b (work_after o x.op w) w)).env g
     at true true e k r = op_sets g o x.op w (and_left _ _ k) ∙ r (and_right (not (sets g x.op)) _ k)
     at true false e k r = absurd (cc e)
     at false true e k r = absurd (cc e)
@@ -106,7 +106,7 @@ awaits_var [] g = false
 awaits_var (r ∷ rs) g = (r.var == g) || awaits_var rs g
 
 -- only what a path's statements ask for is awaited
-op_asks : (g : ℕ) (o : Around) (op : Op) (w : Work) → not (fetches g op) ≡ true → awaits_var (awaited_of (does o op w).asks) g ≡ awaits_var (awaited_of w.asks) g
+op_asks : (g : ℕ) (o : Around) (op : Op) (w : Work) → not (is_fetch_of g op) ≡ true → awaits_var (awaited_of (work_after o op w).asks) g ≡ awaits_var (awaited_of w.asks) g
 op_asks g o (DelayedRead x m a) w h = more w.asks
   where
     off : (b : Bool) → not b ≡ true → (b || false) ≡ false
@@ -123,14 +123,14 @@ op_asks g o (Verify args) w h = at (same_args (values_of args w.env) w.guess)
     at false = refl
 op_asks g o _ w h = refl
 
-only_asks : (path : List ℕ) (o : Around) (xs : List Stmt) (w : Work) → Fixed path o xs w → (g : ℕ) → none_of (fetches g) (onpath path xs) ≡ true → awaits_var (awaited_of (do_all o xs w).asks) g ≡ awaits_var (awaited_of w.asks) g
+only_asks : (path : List ℕ) (o : Around) (xs : List Stmt) (w : Work) → Fixed path o xs w → (g : ℕ) → none_of (is_fetch_of g) (onpath path xs) ≡ true → awaits_var (awaited_of (do_all o xs w).asks) g ≡ awaits_var (awaited_of w.asks) g
 only_asks path o [] w f g h = refl
-only_asks path o (x ∷ xs) w f g h = at (taken x.guards w.env) (taken x.guards path) f.0 h (λ k. only_asks path o xs (step o x w) f.1 g k)
+only_asks path o (x ∷ xs) w f g h = at (all_hold x.guards w.env) (all_hold x.guards path) f.0 h (λ k. only_asks path o xs (step o x w) f.1 g k)
   where
-    at : (b c : Bool) → b ≡ c → none_of (fetches g) (cond c (record x { guards = [] } ∷ onpath path xs) (onpath path xs)) ≡ true
-        → (none_of (fetches g) (onpath path xs) ≡ true → awaits_var (awaited_of (do_all o xs (cond b (does o x.op w) w)).asks) g ≡ awaits_var (awaited_of (cond b (does o x.op w) w).asks) g)
-        → awaits_var (awaited_of (do_all o xs (cond b (does o x.op w) w)).asks) g ≡ awaits_var (awaited_of w.asks) g
-    at true true e k r = r (and_right (not (fetches g x.op)) _ k) ∙ op_asks g o x.op w (and_left _ _ k)
+    at : (b c : Bool) → b ≡ c → none_of (is_fetch_of g) (cond c (record x { guards = [] } ∷ onpath path xs) (onpath path xs)) ≡ true
+        → (none_of (is_fetch_of g) (onpath path xs) ≡ true → awaits_var (awaited_of (do_all o xs (cond b (work_after o x.op w) w)).asks) g ≡ awaits_var (awaited_of (cond b (work_after o x.op w) w).asks) g)
+        → awaits_var (awaited_of (do_all o xs (cond b (work_after o x.op w) w)).asks) g ≡ awaits_var (awaited_of w.asks) g
+    at true true e k r = r (and_right (not (is_fetch_of g x.op)) _ k) ∙ op_asks g o x.op w (and_left _ _ k)
     at true false e k r = absurd (cc e)
     at false true e k r = absurd (cc e)
     at false false e k r = r k
@@ -140,7 +140,7 @@ abbrev pub AsksFrom : List Stmt → List Ask → Type 0
 AsksFrom all [] = Unit {0}
 AsksFrom all (q ∷ qs) = (none_of (fetches_from q.mem) all ≡ false) × AsksFrom all qs
 
-op_from : (all : List Stmt) (o : Around) (op : Op) (w : Work) → ((m : ℕ) → not (fetches_from m op) ≡ false → none_of (fetches_from m) all ≡ false) → AsksFrom all w.asks → AsksFrom all (does o op w).asks
+op_from : (all : List Stmt) (o : Around) (op : Op) (w : Work) → ((m : ℕ) → not (fetches_from m op) ≡ false → none_of (fetches_from m) all ≡ false) → AsksFrom all w.asks → AsksFrom all (work_after o op w).asks
 op_from all o (DelayedRead x m a) w f h = more w.asks h
   where
     same : (m == m) ≡ true
@@ -158,7 +158,7 @@ op_from all o _ w f h = h
 
 pub asks_from : (all : List Stmt) (o : Around) (xs : List Stmt) (w : Work) → ((m : ℕ) → none_of (fetches_from m) xs ≡ false → none_of (fetches_from m) all ≡ false) → AsksFrom all w.asks → AsksFrom all (do_all o xs w).asks
 asks_from all o [] w f h = h
-asks_from all o (x ∷ xs) w f h = asks_from all o xs (step o x w) (λ m k. f m (more (not (fetches_from m x.op)) k)) (at (taken x.guards w.env))
+asks_from all o (x ∷ xs) w f h = asks_from all o xs (step o x w) (λ m k. f m (more (not (fetches_from m x.op)) k)) (at (all_hold x.guards w.env))
   where
     more : (b : Bool) {c : Bool} → c ≡ false → (b && c) ≡ false
     more true k = k
@@ -168,7 +168,7 @@ asks_from all o (x ∷ xs) w f h = asks_from all o xs (step o x w) (λ m k. f m 
     first true c k = absurd (cc k)
     first false c k = refl
 
-    at : (b : Bool) → AsksFrom all (cond b (does o x.op w) w).asks
+    at : (b : Bool) → AsksFrom all (cond b (work_after o x.op w) w).asks
     at true = op_from all o x.op w (λ m k. f m (first (not (fetches_from m x.op)) (none_of (fetches_from m) xs) k)) h
     at false = h
 
@@ -179,7 +179,7 @@ pub record Childed (been : Bool) (c : Bool) (w : Work) : Type 0 where
   pub no_second : been ≡ true → w.fails ≡ false → w.child ≡ None
   pub squashes : w.fails ≡ true → is_some w.child ≡ true
 
-made_op : (been c : Bool) (o : Around) (op : Op) (w : Work) → call_ok c op ≡ true → Childed been c w → Childed been (c || is_call op) (does o op w)
+made_op : (been c : Bool) (o : Around) (op : Op) (w : Work) → call_ok c op ≡ true → Childed been c w → Childed been (c || is_call op) (work_after o op w)
 made_op been c o (Call args) w h k = fresh_call c (and_left (not (c && true)) _ h) k
   where
     fresh_call : (c : Bool) → not (c && true) ≡ true → Childed been c w → Childed been (c || true) (record w { child = Some (values_of args w.env) })
@@ -223,13 +223,13 @@ made_op been c o _ w h k = record { since = λ e. or_left (k.since e); called_it
 made_all : (been c : Bool) (path : List ℕ) (o : Around) (xs : List Stmt) (w : Work) → Fixed path o xs w → calls_ok c (onpath path xs) ≡ true → Childed been c w → Childed been (called c (onpath path xs)) (do_all o xs w)
 made_all been c path o [] w f h k = k
 made_all been c path o (x ∷ xs) w f h k =
-    at (taken x.guards w.env) (taken x.guards path) f.0 h (λ c' w' f' h' k'. made_all been c' path o xs w' f' h' k') f.1
+    at (all_hold x.guards w.env) (all_hold x.guards path) f.0 h (λ c' w' f' h' k'. made_all been c' path o xs w' f' h' k') f.1
   where
     at : (b d : Bool) → b ≡ d → calls_ok c (cond d (record x { guards = [] } ∷ onpath path xs) (onpath path xs)) ≡ true
         → ((c' : Bool) (w' : Work) → Fixed path o xs w' → calls_ok c' (onpath path xs) ≡ true → Childed been c' w' → Childed been (called c' (onpath path xs)) (do_all o xs w'))
-        → Fixed path o xs (cond b (does o x.op w) w)
-        → Childed been (called c (cond d (record x { guards = [] } ∷ onpath path xs) (onpath path xs))) (do_all o xs (cond b (does o x.op w) w))
-    at true true e i r g = r (c || is_call x.op) (does o x.op w) g (and_right (call_ok c x.op) _ i) (made_op been c o x.op w (and_left _ _ i) k)
+        → Fixed path o xs (cond b (work_after o x.op w) w)
+        → Childed been (called c (cond d (record x { guards = [] } ∷ onpath path xs) (onpath path xs))) (do_all o xs (cond b (work_after o x.op w) w))
+    at true true e i r g = r (c || is_call x.op) (work_after o x.op w) g (and_right (call_ok c x.op) _ i) (made_op been c o x.op w (and_left _ _ i) k)
     at true false e i r g = absurd (cc e)
     at false true e i r g = absurd (cc e)
     at false false e i r g = r c w g i k
@@ -277,8 +277,8 @@ pub record Keeps (p : Pipe) (env : List ℕ) (t : Derived.Thread) : Type 0 where
   pub inside : t.stage < length p.stages
   pub held : places t.entries ≡ held_before t.stage env p.stmts []
   pub shape : (m : ℕ) → Shape m (phase_all m Fresh (on_way p env t.stage)) (entries_of m t.entries)
-  pub reached : visits p env t.stage ≡ true
-  pub path : (env' : List ℕ) → Unlike t.awaits t.env env' → (on_way p env' t.stage ≡ on_way p env t.stage) × (visits p env' t.stage ≡ visits p env t.stage)
+  pub reached : visits_stage p env t.stage ≡ true
+  pub path : (env' : List ℕ) → Unlike t.awaits t.env env' → (on_way p env' t.stage ≡ on_way p env t.stage) × (visits_stage p env' t.stage ≡ visits_stage p env t.stage)
   pub fetched : AllFetched p t.stage t.awaits
 
 -- whether it made its successor
@@ -291,9 +291,9 @@ still_less : (p : Pipe) (bits : List Bool) (rs : List Awaited) (g : ℕ) → awa
 still_less p bits [] g h = refl
 still_less p bits (r ∷ rs) g h = at (r.var == g) refl h (λ k. still_less p bits rs g k)
   where
-    at : (b : Bool) → (r.var == g) ≡ b → (b || awaits_var rs g) ≡ false → (awaits_var rs g ≡ false → awaits_var (still p bits rs) g ≡ false) → awaits_var (if answers p bits r.mem then still p bits rs else r ∷ still p bits rs) g ≡ false
+    at : (b : Bool) → (r.var == g) ≡ b → (b || awaits_var rs g) ≡ false → (awaits_var rs g ≡ false → awaits_var (still p bits rs) g ≡ false) → awaits_var (if is_answered p bits r.mem then still p bits rs else r ∷ still p bits rs) g ≡ false
     at true e k f = absurd (cc k)
-    at false e k f = by (answers p bits r.mem)
+    at false e k f = by (is_answered p bits r.mem)
       where
         by : (c : Bool) → awaits_var (cond c (still p bits rs) (r ∷ still p bits rs)) g ≡ false
         by true = f k
@@ -307,9 +307,9 @@ answers_only p d bits (r ∷ rs) env g h = at (r.var == g) refl h (λ e k. answe
     word = Derived.word_of d.arrays r.mem (Derived.asked_at d r.mem)
 
     at : (b : Bool) → (r.var == g) ≡ b → (b || awaits_var rs g) ≡ false → ((e : List ℕ) → awaits_var rs g ≡ false → slice_index (with_answers p d bits rs e) g ≡ slice_index e g)
-        → slice_index (with_answers p d bits rs (if answers p bits r.mem then slice_set env r.var word else env)) g ≡ slice_index env g
+        → slice_index (with_answers p d bits rs (if is_answered p bits r.mem then slice_set env r.var word else env)) g ≡ slice_index env g
     at true e k f = absurd (cc k)
-    at false e k f = f _ k ∙ by (answers p bits r.mem)
+    at false e k f = f _ k ∙ by (is_answered p bits r.mem)
       where
         by : (c : Bool) → slice_index (cond c (slice_set env r.var word) env) g ≡ slice_index env g
         by true = sym (set_stays env r.var g word (ap not e))
@@ -317,14 +317,14 @@ answers_only p d bits (r ∷ rs) env g h = at (r.var == g) refl h (λ e k. answe
 
 fetched_still : (p : Pipe) (bits : List Bool) (s : ℕ) (rs : List Awaited) → AllFetched p s rs → AllFetched p s (still p bits rs)
 fetched_still p bits s [] h = tt
-fetched_still p bits s (r ∷ rs) h = at (answers p bits r.mem) (fetched_still p bits s rs h.1)
+fetched_still p bits s (r ∷ rs) h = at (is_answered p bits r.mem) (fetched_still p bits s rs h.1)
   where
     at : (b : Bool) → AllFetched p s (still p bits rs) → AllFetched p s (cond b (still p bits rs) (r ∷ still p bits rs))
     at true k = k
     at false k = (h.0, k)
 
 -- a thread keeps to its way as answers come
-pub keeps_answered : (p : Pipe) (d : Derived.State) (bits : List Bool) (env : List ℕ) (t : Derived.Thread) → Keeps p env t → Keeps p env (answered p d bits t)
+pub keeps_answered : (p : Pipe) (d : Derived.State) (bits : List Bool) (env : List ℕ) (t : Derived.Thread) → Keeps p env t → Keeps p env (answered_thread p d bits t)
 keeps_answered p d bits env t k =
     record {
       inside = k.inside;
@@ -359,24 +359,24 @@ module _ (p : Pipe) (flows : Flows p) (env : List ℕ) (t : Derived.Thread) (k :
     fails = false;
   }
 
-  way : (on_way p t.env t.stage ≡ on_way p env t.stage) × (visits p t.env t.stage ≡ visits p env t.stage)
+  way : (on_way p t.env t.stage ≡ on_way p env t.stage) × (visits_stage p t.env t.stage ≡ visits_stage p env t.stage)
   way = k.path t.env (λ g h. refl)
 
-  pub fixed_here : (o : Around) → Fixed (works p o t).env o (in_stage t.stage p.stmts) (start_of t)
-  fixed_here o = fixed_to (works p o t).env o (in_stage t.stage p.stmts) (start_of t) (fixed_stage t.stage p.stmts flows.fixed_guards) refl
+  pub fixed_here : (o : Around) → Fixed (work_of_stage p o t).env o (in_stage t.stage p.stmts) (start_of t)
+  fixed_here o = fixed_to (work_of_stage p o t).env o (in_stage t.stage p.stmts) (start_of t) (fixed_stage t.stage p.stmts flows.fixed_guards) refl
 
-  steady_here : (o : Around) → (on_way p t.env t.stage ≡ on_way p (works p o t).env t.stage) × (visits p t.env t.stage ≡ visits p (works p o t).env t.stage)
-  steady_here o = flows.steady t.stage t.env (works p o t).env (way.1 ∙ k.reached) (only_sets (works p o t).env o (in_stage t.stage p.stmts) (start_of t) (fixed_here o))
+  steady_here : (o : Around) → (on_way p t.env t.stage ≡ on_way p (work_of_stage p o t).env t.stage) × (visits_stage p t.env t.stage ≡ visits_stage p (work_of_stage p o t).env t.stage)
+  steady_here o = flows.steady t.stage t.env (work_of_stage p o t).env (way.1 ∙ k.reached) (only_sets (work_of_stage p o t).env o (in_stage t.stage p.stmts) (start_of t) (fixed_here o))
 
   -- its way so far is that of its values at the end of the stage
-  pub way_on : (o : Around) → on_way p (works p o t).env t.stage ≡ on_way p env t.stage
+  pub way_on : (o : Around) → on_way p (work_of_stage p o t).env t.stage ≡ on_way p env t.stage
   way_on o = sym (steady_here o).0 ∙ way.0
 
-  reached_on : (o : Around) → visits p (works p o t).env t.stage ≡ true
+  reached_on : (o : Around) → visits_stage p (work_of_stage p o t).env t.stage ≡ true
   reached_on o = sym (steady_here o).1 ∙ way.1 ∙ k.reached
 
-  pub way_next : (o : Around) → on_way p (works p o t).env (next_of p t.stage (works p o t).env) ≡ on_way p env t.stage ++ onpath (works p o t).env (in_stage t.stage p.stmts)
-  way_next o = flows.next_piece (works p o t).env t.stage k.inside (reached_on o) ∙ ap (λ l. l ++ onpath (works p o t).env (in_stage t.stage p.stmts)) (way_on o)
+  pub way_next : (o : Around) → on_way p (work_of_stage p o t).env (next_of p t.stage (work_of_stage p o t).env) ≡ on_way p env t.stage ++ onpath (work_of_stage p o t).env (in_stage t.stage p.stmts)
+  way_next o = flows.next_piece (work_of_stage p o t).env t.stage k.inside (reached_on o) ∙ ap (λ l. l ++ onpath (work_of_stage p o t).env (in_stage t.stage p.stmts)) (way_on o)
 
   -- the lock of m
   uses_way : (path : List ℕ) (s m : ℕ) → uses_ok m Fresh (on_way p path s) ≡ true
@@ -405,33 +405,33 @@ module _ (p : Pipe) (flows : Flows p) (env : List ℕ) (t : Derived.Thread) (k :
 
   -- its work on the entries of m
   module _ (o : Around) (read : ℕ → ℕ → ℕ) (block : Blocked → Bool) (room : Reserved → Bool) (free : Ask → Bool) (fit : AllFit o read block room free (in_stage t.stage p.stmts)) (m n : ℕ) where
-    here : Here o read block room free m n (pend m n t.entries) (phase_all m Fresh (on_way p (works p o t).env (next_of p t.stage (works p o t).env))) (does_all read (in_stage t.stage p.stmts) start_deeds) (works p o t)
+    here : Here o read block room free m n (pend m n t.entries) (phase_all m Fresh (on_way p (work_of_stage p o t).env (next_of p t.stage (work_of_stage p o t).env))) (deeds_after_all read (in_stage t.stage p.stmts) start_deeds) (work_of_stage p o t)
     here =
-        subst (λ q. Here o read block room free m n (pend m n t.entries) q (does_all read (in_stage t.stage p.stmts) start_deeds) (works p o t))
+        subst (λ q. Here o read block room free m n (pend m n t.entries) q (deeds_after_all read (in_stage t.stage p.stmts) start_deeds) (work_of_stage p o t))
         (sym (ap (phase_all m Fresh) (way_next o) ∙ phase_append m (on_way p env t.stage) _ Fresh))
-        (steps_all o read block room free m n (pend m n t.entries) (works p o t).env (in_stage t.stage p.stmts) (phase_all m Fresh (on_way p env t.stage)) start_deeds t.entries [] k.held fit (fixed_here o)
-        (uses_back m (on_way p env t.stage) (onpath (works p o t).env (in_stage t.stage p.stmts)) Fresh (subst (λ l. uses_ok m Fresh l ≡ true) (way_next o) (uses_way (works p o t).env (next_of p t.stage (works p o t).env) m)))
+        (steps_all o read block room free m n (pend m n t.entries) (work_of_stage p o t).env (in_stage t.stage p.stmts) (phase_all m Fresh (on_way p env t.stage)) start_deeds t.entries [] k.held fit (fixed_here o)
+        (uses_back m (on_way p env t.stage) (onpath (work_of_stage p o t).env (in_stage t.stage p.stmts)) Fresh (subst (λ l. uses_ok m Fresh l ≡ true) (way_next o) (uses_way (work_of_stage p o t).env (next_of p t.stage (work_of_stage p o t).env) m)))
         (shape_start m n _ t.entries (k.shape m)))
 
-    pub stage_worked : Worked m n (pend m n t.entries) (does_all read (in_stage t.stage p.stmts) start_deeds) (works p o t)
+    pub stage_worked : Worked m n (pend m n t.entries) (deeds_after_all read (in_stage t.stage p.stmts) start_deeds) (work_of_stage p o t)
     stage_worked = worked m n _ _ _ _ here
 
-    stage_shape : Shape m (phase_all m Fresh (on_way p (works p o t).env (next_of p t.stage (works p o t).env))) (entries_of m (works p o t).entries)
+    stage_shape : Shape m (phase_all m Fresh (on_way p (work_of_stage p o t).env (next_of p t.stage (work_of_stage p o t).env))) (entries_of m (work_of_stage p o t).entries)
     stage_shape = shape_end m n _ _ _ _ _ _ here
 
-    pub ends_empty : next_of p t.stage (works p o t).env ≡ length p.stages → entries_of m (works p o t).entries ≡ []
+    pub ends_empty : next_of p t.stage (work_of_stage p o t).env ≡ length p.stages → entries_of m (work_of_stage p o t).entries ≡ []
     ends_empty e = shape_over m _ _ (over_end _ _ m e) stage_shape
 
-    pub late_empty : commit_stage p m < next_of p t.stage (works p o t).env → entries_of m (works p o t).entries ≡ []
+    pub late_empty : commit_stage p m < next_of p t.stage (work_of_stage p o t).env → entries_of m (work_of_stage p o t).entries ≡ []
     late_empty e = shape_over m _ _ (over_at _ _ m e) stage_shape
 
   -- its successor
-  pub stage_child : (o : Around) → Childed (has_made p env t.stage) (has_made p (works p o t).env (next_of p t.stage (works p o t).env)) (works p o t)
+  pub stage_child : (o : Around) → Childed (has_made p env t.stage) (has_made p (work_of_stage p o t).env (next_of p t.stage (work_of_stage p o t).env)) (work_of_stage p o t)
   stage_child o =
-      subst (λ c. Childed (has_made p env t.stage) c (works p o t)) (sym (ap (called false) (way_next o) ∙ called_append false (on_way p env t.stage) _))
-      (made_all (has_made p env t.stage) (has_made p env t.stage) (works p o t).env o (in_stage t.stage p.stmts) (start_of t) (fixed_here o)
+      subst (λ c. Childed (has_made p env t.stage) c (work_of_stage p o t)) (sym (ap (called false) (way_next o) ∙ called_append false (on_way p env t.stage) _))
+      (made_all (has_made p env t.stage) (has_made p env t.stage) (work_of_stage p o t).env o (in_stage t.stage p.stmts) (start_of t) (fixed_here o)
       (calls_back false (on_way p env t.stage) _ (subst (λ l. calls_ok false l ≡ true) (way_next o)
-      (calls_front false (on_way p (works p o t).env (next_of p t.stage (works p o t).env)) _ (subst (λ l. calls_ok false l ≡ true) (flows.all_pieces (works p o t).env (next_of p t.stage (works p o t).env)) (flows.calls (works p o t).env)))))
+      (calls_front false (on_way p (work_of_stage p o t).env (next_of p t.stage (work_of_stage p o t).env)) _ (subst (λ l. calls_ok false l ≡ true) (flows.all_pieces (work_of_stage p o t).env (next_of p t.stage (work_of_stage p o t).env)) (flows.calls (work_of_stage p o t).env)))))
       (record { since = λ e. e; called_it = λ e. absurd (clash e); no_second = λ e f. refl; squashes = λ e. absurd (clash e) }))
     where
       clash : false ≡ true → ⊥
@@ -442,27 +442,27 @@ module _ (p : Pipe) (flows : Flows p) (env : List ℕ) (t : Derived.Thread) (k :
   fetched_asks s q l (x ∷ qs) h = ((s, l, h.0), fetched_asks s q l qs h.1)
 
   -- it keeps to its way in the next stage
-  pub keeps_next : (o : Around) (read : ℕ → ℕ → ℕ) (block : Blocked → Bool) (room : Reserved → Bool) (free : Ask → Bool) → AllFit o read block room free (in_stage t.stage p.stmts) → (q : ℕ) → goes_to (stage_at p t.stage).next (works p o t).env ≡ Some q
-      → Keeps p (works p o t).env (record { stage = q; env = (works p o t).env; entries = (works p o t).entries; guess = (works p o t).guess; awaits = awaited_of (works p o t).asks })
+  pub keeps_next : (o : Around) (read : ℕ → ℕ → ℕ) (block : Blocked → Bool) (room : Reserved → Bool) (free : Ask → Bool) → AllFit o read block room free (in_stage t.stage p.stmts) → (q : ℕ) → goes_to (stage_at p t.stage).next (work_of_stage p o t).env ≡ Some q
+      → Keeps p (work_of_stage p o t).env (record { stage = q; env = (work_of_stage p o t).env; entries = (work_of_stage p o t).entries; guess = (work_of_stage p o t).guess; awaits = awaited_of (work_of_stage p o t).asks })
   keeps_next o read block room free fit q goes =
-      subst (λ n. Keeps p (works p o t).env (record { stage = n; env = (works p o t).env; entries = (works p o t).entries; guess = (works p o t).guess; awaits = awaited_of (works p o t).asks })) is
+      subst (λ n. Keeps p (work_of_stage p o t).env (record { stage = n; env = (work_of_stage p o t).env; entries = (work_of_stage p o t).entries; guess = (work_of_stage p o t).guess; awaits = awaited_of (work_of_stage p o t).asks })) is
       (record {
         inside = subst (λ n. n < length p.stages) (sym is) (flows.graph.up t.stage q leads).1;
         held =
-            held_work (works p o t).env o (in_stage t.stage p.stmts) (start_of t) (fixed_here o)
-            ∙ ap (held_ops (onpath (works p o t).env (in_stage t.stage p.stmts))) (k.held ∙ held_path t.stage env p.stmts [])
-            ∙ sym (held_path (next_of p t.stage (works p o t).env) (works p o t).env p.stmts [] ∙ ap (λ l. held_ops l []) (way_next o) ∙ held_append (on_way p env t.stage) _ []);
+            held_work (work_of_stage p o t).env o (in_stage t.stage p.stmts) (start_of t) (fixed_here o)
+            ∙ ap (held_ops (onpath (work_of_stage p o t).env (in_stage t.stage p.stmts))) (k.held ∙ held_path t.stage env p.stmts [])
+            ∙ sym (held_path (next_of p t.stage (work_of_stage p o t).env) (work_of_stage p o t).env p.stmts [] ∙ ap (λ l. held_ops l []) (way_next o) ∙ held_append (on_way p env t.stage) _ []);
         shape = λ m. stage_shape o read block room free fit m 0;
-        reached = subst (λ n. visits p (works p o t).env n ≡ true) (sym is) (flows.arrives (works p o t).env t.stage q k.inside goes (reached_on o));
-        path = λ env' u. flows.settled t.stage env' (works p o t).env k.inside (reached_on o) (λ g h. sym (u g (only_asks (works p o t).env o (in_stage t.stage p.stmts) (start_of t) (fixed_here o) g h)));
-        fetched = fetched_asks t.stage (next_of p t.stage (works p o t).env) (subst (λ n. Leads p t.stage n) (sym is) leads) (works p o t).asks (asks_from (in_stage t.stage p.stmts) o (in_stage t.stage p.stmts) (start_of t) (λ m h. h) tt);
+        reached = subst (λ n. visits_stage p (work_of_stage p o t).env n ≡ true) (sym is) (flows.arrives (work_of_stage p o t).env t.stage q k.inside goes (reached_on o));
+        path = λ env' u. flows.settled t.stage env' (work_of_stage p o t).env k.inside (reached_on o) (λ g h. sym (u g (only_asks (work_of_stage p o t).env o (in_stage t.stage p.stmts) (start_of t) (fixed_here o) g h)));
+        fetched = fetched_asks t.stage (next_of p t.stage (work_of_stage p o t).env) (subst (λ n. Leads p t.stage n) (sym is) leads) (work_of_stage p o t).asks (asks_from (in_stage t.stage p.stmts) o (in_stage t.stage p.stmts) (start_of t) (λ m h. h) tt);
       })
     where
-      is : next_of p t.stage (works p o t).env ≡ q
+      is : next_of p t.stage (work_of_stage p o t).env ≡ q
       is = ap (stage_or (length p.stages)) goes
 
       leads : Leads p t.stage q
-      leads = ((works p o t).env, goes, k.inside)
+      leads = ((work_of_stage p o t).env, goes, k.inside)
 
 -- a new thread
 pub keeps_fresh : (p : Pipe) → Flows p → (args : List ℕ) → Keeps p (Derived.fresh p args).env (Derived.fresh p args)
@@ -476,5 +476,5 @@ keeps_fresh p flows args =
       fetched = tt;
     }
   where
-    trunk : (path : List ℕ) → visits p path 0 ≡ true
+    trunk : (path : List ℕ) → visits_stage p path 0 ≡ true
     trunk path = ap (λ b. comes_by p path b) flows.graph.trunk_start

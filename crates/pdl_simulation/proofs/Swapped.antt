@@ -1,11 +1,11 @@
 -- A cycle does the same whether the acts are listed by stages or by age: two threads whose order differs stand in two branches, where nothing depends on it.
 use Rattle.std.proofs.Common.{◌≡◌, refl, sym, ap, ap₂, ◌∙◌, subst, ℕ, suc, ◌≤◌, ◌<◌, ◌⊎◌, inl, inr, Bool, true, false, ◌&&◌, ◌||◌, not, List, [], ◌∷◌, ◌++◌, length, Option, Some, None, is_some, is_none, ◌==◌, nat_lt, cond, if◌then◌else◌, arith, ltb-false, le_refl}
 use Rattle.std.proofs.lemmas.Bool.{eqb-true, eqb-false}
-use Rattle.pdl_semantics.specs.Flat.{Arrays, Pipe, Branch, Mem, Op, ReserveWrite, Call, SpecCall, Verify, Stmt, taken}
+use Rattle.pdl_semantics.specs.Flat.{Arrays, Pipe, Branch, Mem, Op, ReserveWrite, Call, SpecCall, Verify, Stmt, all_hold}
 use Rattle.pdl_semantics.specs.Stages.{list_any, in_stage, stage_at, goes_to, is_branch_of}
-use Rattle.pdl_semantics.specs.Machine.{Ask, answers, Request, NoRequest, State, Pending, Deeds, lock_of, fork_of, request_of, with_answers, does_all, word_for}
+use Rattle.pdl_semantics.specs.Machine.{Ask, is_answered, Request, NoRequest, State, Pending, Deeds, lock_of, fork_of, request_of, with_answers, deeds_after_all, word_for}
 use Rattle.pdl_semantics.specs.Moves.{movers, next_stage}
-use Rattle.pdl_semantics.specs.Cycle.{new_entries, appended, put, put_all, filled, releases, child_of, squasher, asked_by, asked_of, asked_in, address_of, stands, comes, or_then, entered, goes_into, goes_out, left, for_mems, for_stages, taken_out, list_two, with_commit, with_commits}
+use Rattle.pdl_semantics.specs.Cycle.{new_entries, with_reserves, with_value_of, with_writes_of, with_all_writes, has_release, child_of, squasher, asked_by, asked_of, asked_in, address_of, next_thread, coming_thread, or_then, entered_branches, goes_into, goes_out, has_left, for_mems, for_stages, taken_out, list_two, with_commit, with_commits}
 use Rattle.pdl_semantics.specs.Sound.{side_in}
 use Rattle.pdl_semantics.specs.Cycle
 use Rattle.pdl_semantics.specs.Machine
@@ -34,7 +34,7 @@ or_swap false true c = refl
 or_swap false false c = refl
 
 -- writes into two threads' entries
-put_swap : (n v k w : ℕ) (xs : List Pending) → (n ≡ k → ⊥) → put n v (put k w xs) ≡ put k w (put n v xs)
+put_swap : (n v k w : ℕ) (xs : List Pending) → (n ≡ k → ⊥) → with_value_of n v (with_value_of k w xs) ≡ with_value_of k w (with_value_of n v xs)
 put_swap n v k w [] h = refl
 put_swap n v k w (e ∷ es) h = ap₂ (λ a l. a ∷ l) (at (e.thread == n) refl (e.thread == k) refl) (put_swap n v k w es h)
   where
@@ -66,20 +66,20 @@ put_swap n v k w (e ∷ es) h = ap₂ (λ a l. a ∷ l) (at (e.thread == n) refl
         ∙ sym ((λ u. if (cond (i u) (record e { value = Some v }) e).thread == k then record (cond (i u) (record e { value = Some v }) e) { value = Some w } else (cond (i u) (record e { value = Some v }) e))
         ∙ ap (λ b. cond b (record e { value = Some w }) e) j)
 
-put_all_put : (m n k w : ℕ) (ws : List Machine.Written) (xs : List Pending) → (n ≡ k → ⊥) → put_all m n ws (put k w xs) ≡ put k w (put_all m n ws xs)
+put_all_put : (m n k w : ℕ) (ws : List Machine.Written) (xs : List Pending) → (n ≡ k → ⊥) → with_writes_of m n ws (with_value_of k w xs) ≡ with_value_of k w (with_writes_of m n ws xs)
 put_all_put m n k w [] xs h = refl
 put_all_put m n k w (x ∷ ws) xs h = at (x.mem == m) (λ ys. put_all_put m n k w ws ys h)
   where
-    at : (b : Bool) → ((ys : List Pending) → put_all m n ws (put k w ys) ≡ put k w (put_all m n ws ys)) → put_all m n ws (cond b (put n x.value (put k w xs)) (put k w xs)) ≡ put k w (put_all m n ws (cond b (put n x.value xs) xs))
-    at true f = ap (put_all m n ws) (put_swap n x.value k w xs h) ∙ f (put n x.value xs)
+    at : (b : Bool) → ((ys : List Pending) → with_writes_of m n ws (with_value_of k w ys) ≡ with_value_of k w (with_writes_of m n ws ys)) → with_writes_of m n ws (cond b (with_value_of n x.value (with_value_of k w xs)) (with_value_of k w xs)) ≡ with_value_of k w (with_writes_of m n ws (cond b (with_value_of n x.value xs) xs))
+    at true f = ap (with_writes_of m n ws) (put_swap n x.value k w xs h) ∙ f (with_value_of n x.value xs)
     at false f = f xs
 
-put_all_swap : (m n k : ℕ) (ws vs : List Machine.Written) (xs : List Pending) → (n ≡ k → ⊥) → put_all m n ws (put_all m k vs xs) ≡ put_all m k vs (put_all m n ws xs)
+put_all_swap : (m n k : ℕ) (ws vs : List Machine.Written) (xs : List Pending) → (n ≡ k → ⊥) → with_writes_of m n ws (with_writes_of m k vs xs) ≡ with_writes_of m k vs (with_writes_of m n ws xs)
 put_all_swap m n k ws [] xs h = refl
 put_all_swap m n k ws (v ∷ vs) xs h = at (v.mem == m) (λ ys. put_all_swap m n k ws vs ys h)
   where
-    at : (b : Bool) → ((ys : List Pending) → put_all m n ws (put_all m k vs ys) ≡ put_all m k vs (put_all m n ws ys)) → put_all m n ws (put_all m k vs (cond b (put k v.value xs) xs)) ≡ put_all m k vs (cond b (put k v.value (put_all m n ws xs)) (put_all m n ws xs))
-    at true f = f (put k v.value xs) ∙ ap (put_all m k vs) (put_all_put m n k v.value ws xs h)
+    at : (b : Bool) → ((ys : List Pending) → with_writes_of m n ws (with_writes_of m k vs ys) ≡ with_writes_of m k vs (with_writes_of m n ws ys)) → with_writes_of m n ws (with_writes_of m k vs (cond b (with_value_of k v.value xs) xs)) ≡ with_writes_of m k vs (cond b (with_value_of k v.value (with_writes_of m n ws xs)) (with_writes_of m n ws xs))
+    at true f = f (with_value_of k v.value xs) ∙ ap (with_writes_of m k vs) (put_all_put m n k v.value ws xs h)
     at false f = f xs
 
 -- who doesn't ask
@@ -110,29 +110,29 @@ or_then_swap a b c (inl e) = ap (λ x. or_then x (or_then b c)) e ∙ sym (ap (�
 or_then_swap a b c (inr e) = ap (λ x. or_then a (or_then x c)) e ∙ sym (ap (λ x. or_then x (or_then a c)) e)
 
 -- a branch's stage reserves nothing and makes no thread
-plain_op : (read : ℕ → ℕ → ℕ) (op : Op) (d : Deeds) → not (trunk_only op) ≡ true → ((Machine.does read op d).reserves ≡ d.reserves) × ((Machine.does read op d).child ≡ d.child) × ((Machine.does read op d).fails ≡ d.fails)
+plain_op : (read : ℕ → ℕ → ℕ) (op : Op) (d : Deeds) → not (trunk_only op) ≡ true → ((Machine.deeds_after read op d).reserves ≡ d.reserves) × ((Machine.deeds_after read op d).child ≡ d.child) × ((Machine.deeds_after read op d).fails ≡ d.fails)
 plain_op read (ReserveWrite m a) d h = absurd (cc h)
 plain_op read (Call args) d h = absurd (cc h)
 plain_op read (SpecCall args) d h = absurd (cc h)
 plain_op read (Verify args) d h = absurd (cc h)
 plain_op read _ d h = (refl, refl, refl)
 
-plain_all : (read : ℕ → ℕ → ℕ) (xs : List Stmt) (d : Deeds) → none_of trunk_only xs ≡ true → ((does_all read xs d).reserves ≡ d.reserves) × ((does_all read xs d).child ≡ d.child) × ((does_all read xs d).fails ≡ d.fails)
+plain_all : (read : ℕ → ℕ → ℕ) (xs : List Stmt) (d : Deeds) → none_of trunk_only xs ≡ true → ((deeds_after_all read xs d).reserves ≡ d.reserves) × ((deeds_after_all read xs d).child ≡ d.child) × ((deeds_after_all read xs d).fails ≡ d.fails)
 plain_all read [] d h = (refl, refl, refl)
 plain_all read (x ∷ xs) d h =
-    let r = plain_all read xs (if taken x.guards d.env then Machine.does read x.op d else d) (and_right _ _ h) in
+    let r = plain_all read xs (if all_hold x.guards d.env then Machine.deeds_after read x.op d else d) (and_right _ _ h) in
     let o = plain_op read x.op d (and_left _ _ h) in
-    (r.0 ∙ one (taken x.guards d.env) o.0, r.1 ∙ two (taken x.guards d.env) o.1, r.2 ∙ three (taken x.guards d.env) o.2)
+    (r.0 ∙ one (all_hold x.guards d.env) o.0, r.1 ∙ two (all_hold x.guards d.env) o.1, r.2 ∙ three (all_hold x.guards d.env) o.2)
   where
-    one : (b : Bool) → (Machine.does read x.op d).reserves ≡ d.reserves → (cond b (Machine.does read x.op d) d).reserves ≡ d.reserves
+    one : (b : Bool) → (Machine.deeds_after read x.op d).reserves ≡ d.reserves → (cond b (Machine.deeds_after read x.op d) d).reserves ≡ d.reserves
     one true e = e
     one false e = refl
 
-    two : (b : Bool) → (Machine.does read x.op d).child ≡ d.child → (cond b (Machine.does read x.op d) d).child ≡ d.child
+    two : (b : Bool) → (Machine.deeds_after read x.op d).child ≡ d.child → (cond b (Machine.deeds_after read x.op d) d).child ≡ d.child
     two true e = e
     two false e = refl
 
-    three : (b : Bool) → (Machine.does read x.op d).fails ≡ d.fails → (cond b (Machine.does read x.op d) d).fails ≡ d.fails
+    three : (b : Bool) → (Machine.deeds_after read x.op d).fails ≡ d.fails → (cond b (Machine.deeds_after read x.op d) d).fails ≡ d.fails
     three true e = e
     three false e = refl
 
@@ -147,7 +147,7 @@ module _ (p : Pipe) (flows : Flows p) (st : State) (d : Derived.State) (bits : L
     pub numbers : y.live.number < x.live.number
     pub behind : Behind p x.live.thread.stage y.live.thread.stage
     pub low : y.live.thread.stage ≤ x.live.thread.stage
-    pub apart : (q : ℕ) → (comes p q (lact p st d bits x.older x.live) ≡ None) ⊎ (comes p q (lact p st d bits y.older y.live) ≡ None)
+    pub apart : (q : ℕ) → (coming_thread p q (lact p st d bits x.older x.live) ≡ None) ⊎ (coming_thread p q (lact p st d bits y.older y.live) ≡ None)
 
   in_branch : (s : ℕ) → ((stage_at p s).branch ≡ None → ⊥) → (b : Branch) × ((stage_at p s).branch ≡ Some b)
   in_branch s n = at (stage_at p s).branch refl
@@ -231,15 +231,15 @@ module _ (p : Pipe) (flows : Flows p) (st : State) (d : Derived.State) (bits : L
   none_new : (m n : ℕ) (l : Live) (b : Branch) → (stage_at p l.thread.stage).branch ≡ Some b → new_entries m n (deeds_of p st bits l).reserves ≡ []
   none_new m n l b e = ap (new_entries m n) (plain_here l b e).0
 
-  same_appended : (m : ℕ) (list : List Pending) (ls : List Live) → Swaps ls → appended m (movers (acts_of p flows st d bits arrays (sorted ls))) list ≡ appended m (movers (lacts p st d bits ls)) list
-  same_appended m list = same_movers (List Pending) (λ ms. appended m ms list) (λ a z. z ++ new_entries m a.thread.number a.does.reserves) (λ a rest. refl)
+  same_appended : (m : ℕ) (list : List Pending) (ls : List Live) → Swaps ls → with_reserves m (movers (acts_of p flows st d bits arrays (sorted ls))) list ≡ with_reserves m (movers (lacts p st d bits ls)) list
+  same_appended m list = same_movers (List Pending) (λ ms. with_reserves m ms list) (λ a z. z ++ new_entries m a.thread.number a.does.reserves) (λ a rest. refl)
       (λ x y s z.
       let bx = younger_branch x y s in let by = older_branch x y s in
       ap₂ (λ a b. (z ++ a) ++ b) (none_new m x.live.number x.live bx.0 bx.1) (none_new m y.live.number y.live by.0 by.1)
       ∙ sym (ap₂ (λ a b. (z ++ b) ++ a) (none_new m x.live.number x.live bx.0 bx.1) (none_new m y.live.number y.live by.0 by.1)))
 
-  same_filled : (m : ℕ) (list : List Pending) (ls : List Live) → Swaps ls → filled m (movers (acts_of p flows st d bits arrays (sorted ls))) list ≡ filled m (movers (lacts p st d bits ls)) list
-  same_filled m list = same_movers (List Pending) (λ ms. filled m ms list) (λ a z. put_all m a.thread.number a.does.writes z) (λ a rest. refl)
+  same_filled : (m : ℕ) (list : List Pending) (ls : List Live) → Swaps ls → with_all_writes m (movers (acts_of p flows st d bits arrays (sorted ls))) list ≡ with_all_writes m (movers (lacts p st d bits ls)) list
+  same_filled m list = same_movers (List Pending) (λ ms. with_all_writes m ms list) (λ a z. with_writes_of m a.thread.number a.does.writes z) (λ a rest. refl)
       (λ x y s z. put_all_swap m y.live.number x.live.number (deeds_of p st bits y.live).writes (deeds_of p st bits x.live).writes z (λ e. let i = s.numbers in absurd (omega arith)))
 
   pub same_any : (test : Moves.Act → Bool) (ls : List Live) → Swaps ls → list_any test (movers (acts_of p flows st d bits arrays (sorted ls))) ≡ list_any test (movers (lacts p st d bits ls))
@@ -297,8 +297,8 @@ module _ (p : Pipe) (flows : Flows p) (st : State) (d : Derived.State) (bits : L
       at x y z (inl e) = ap (address_of m (deeds_of p st bits y.live).asks) (address_none m _ z e) ∙ sym (address_none m _ _ e)
       at x y z (inr e) = address_none m _ _ e ∙ ap (address_of m (deeds_of p st bits x.live).asks) (sym (address_none m _ z e))
 
-  pub same_stands : (q : ℕ) (ls : List Live) → Swaps ls → stands p q (acts_of p flows st d bits arrays (sorted ls)) ≡ stands p q (lacts p st d bits ls)
-  same_stands q = same_fold (Option Machine.Thread) (stands p q) (λ a z. or_then (comes p q a) z) (λ a rest. refl) (λ x y s z. or_then_swap (comes p q (act_of y)) (comes p q (act_of x)) z (turn (s.apart q)))
+  pub same_stands : (q : ℕ) (ls : List Live) → Swaps ls → next_thread p q (acts_of p flows st d bits arrays (sorted ls)) ≡ next_thread p q (lacts p st d bits ls)
+  same_stands q = same_fold (Option Machine.Thread) (next_thread p q) (λ a z. or_then (coming_thread p q a) z) (λ a rest. refl) (λ x y s z. or_then_swap (coming_thread p q (act_of y)) (coming_thread p q (act_of x)) z (turn (s.apart q)))
     where
       turn : {A B : Type 0} → A ⊎ B → B ⊎ A
       turn (inl a) = inr a
@@ -328,8 +328,8 @@ module _ (p : Pipe) (flows : Flows p) (st : State) (d : Derived.State) (bits : L
       at true i None j = refl
       at true i (Some q) j = side q (stage_at p q).branch ((deeds_of p st bits l).env, j, low) refl (eqb-true _ _ i)
 
-  pub same_entered : (f : ℕ) (ls : List Live) → Swaps ls → entered p f (movers (acts_of p flows st d bits arrays (sorted ls))) ≡ entered p f (movers (lacts p st d bits ls))
-  same_entered f = same_movers (List Bool) (entered p f) (λ a z. z ++ (if a.stage == f then goes_into p f (next_stage p a.stage a.does) else [])) (λ a rest. refl)
+  pub same_entered : (f : ℕ) (ls : List Live) → Swaps ls → entered_branches p f (movers (acts_of p flows st d bits arrays (sorted ls))) ≡ entered_branches p f (movers (lacts p st d bits ls))
+  same_entered f = same_movers (List Bool) (entered_branches p f) (λ a z. z ++ (if a.stage == f then goes_into p f (next_stage p a.stage a.does) else [])) (λ a rest. refl)
       (λ x y s z.
       let bx = younger_branch x y s in let by = older_branch x y s in
       ap₂ (λ a b. (z ++ a) ++ b) (not_entering f x.live bx.0 bx.1 s.known_x.seated.keeps_on.inside) (not_entering f y.live by.0 by.1 s.known_y.seated.keeps_on.inside)
@@ -337,9 +337,9 @@ module _ (p : Pipe) (flows : Flows p) (st : State) (d : Derived.State) (bits : L
 
   -- what is taken out of a lock, and the list that stays
   same_two : (m : ℕ) (ls : List Live) → Swaps ls → list_two st (movers (acts_of p flows st d bits arrays (sorted ls))) m ≡ list_two st (movers (lacts p st d bits ls)) m
-  same_two m ls s = same_filled m (appended m (movers (acts_of p flows st d bits arrays (sorted ls))) (lock_of st m)) ls s ∙ ap (filled m (movers (lacts p st d bits ls))) (same_appended m (lock_of st m) ls s)
+  same_two m ls s = same_filled m (with_reserves m (movers (acts_of p flows st d bits arrays (sorted ls))) (lock_of st m)) ls s ∙ ap (with_all_writes m (movers (lacts p st d bits ls))) (same_appended m (lock_of st m) ls s)
 
-  same_releases : (m : ℕ) (ls : List Live) → Swaps ls → releases m (movers (acts_of p flows st d bits arrays (sorted ls))) ≡ releases m (movers (lacts p st d bits ls))
+  same_releases : (m : ℕ) (ls : List Live) → Swaps ls → has_release m (movers (acts_of p flows st d bits arrays (sorted ls))) ≡ has_release m (movers (lacts p st d bits ls))
   same_releases m = same_any (λ a. list_any (λ n. n == m) a.does.releases)
 
   pub same_taken : (m : ℕ) (ls : List Live) → Swaps ls → taken_out st (movers (acts_of p flows st d bits arrays (sorted ls))) m ≡ taken_out st (movers (lacts p st d bits ls)) m
@@ -355,13 +355,13 @@ module _ (p : Pipe) (flows : Flows p) (st : State) (d : Derived.State) (bits : L
   -- THE CYCLE
 
   pub same_after : (ls : List Live) → Swaps ls
-      → Cycle.after p st bits (acts_of p flows st d bits arrays (sorted ls)) ≡ Cycle.after_these p st bits (lacts p st d bits ls) (movers (lacts p st d bits ls)) (squasher (movers (lacts p st d bits ls)))
+      → Cycle.after_acts p st bits (acts_of p flows st d bits arrays (sorted ls)) ≡ Cycle.after_these p st bits (lacts p st d bits ls) (movers (lacts p st d bits ls)) (squasher (movers (lacts p st d bits ls)))
   same_after ls s = λ i. record {
-    stages = for_stages (λ q. Cycle.or_then (if q == 0 then Cycle.born p st.next (same_child ls s i) else None) (Cycle.if_stays (same_squasher ls s i) (same_stands q ls s i))) 0 p.stages;
+    stages = for_stages (λ q. Cycle.or_then (if q == 0 then Cycle.born_thread p st.next (same_child ls s i) else None) (Cycle.if_kept (same_squasher ls s i) (same_stands q ls s i))) 0 p.stages;
     arrays = same_commits (movers (acts_of p flows st d bits arrays (sorted ls))) (movers (lacts p st d bits ls)) (λ m. same_taken m ls s) 0 p.mems st.arrays i;
     locks = for_mems (λ m. Cycle.entries_left (same_squasher ls s i) (same_three m ls s i)) 0 p.mems;
     forks = for_stages (λ f. Cycle.branches_left p (same_squasher ls s i) f ((if same_any (λ a. is_branch_of (stage_at p a.stage).branch f && goes_out p f (next_stage p a.stage a.does)) ls s i then Cycle.but_first (fork_of st f) else fork_of st f) ++ same_entered f ls s i)) 0 p.stages;
-    requests = for_mems (λ m. Cycle.request_left (same_squasher ls s i) (same_asked m (if answers p bits m then NoRequest else request_of st m) ls s i)) 0 p.mems;
+    requests = for_mems (λ m. Cycle.request_left (same_squasher ls s i) (same_asked m (if is_answered p bits m then NoRequest else request_of st m) ls s i)) 0 p.mems;
     next = if is_some (same_child ls s i) then suc st.next else st.next;
   }
 
@@ -388,34 +388,34 @@ module _ (p : Pipe) (flows : Flows p) (st : State) (d : Derived.State) (bits : L
 
   -- two threads come to two stages
   apart_all : (l : Live) (ls : List Live) → Known p flows st d bits arrays ls l → AllKnown p flows st d bits arrays ls → Each (λ k. Behind p l.thread.stage k.thread.stage) ls
-      → EachPair (λ y. (q : ℕ) → (comes p q (lact p st d bits ls l) ≡ None) ⊎ (comes p q (lact p st d bits y.older y.live) ≡ None)) (pairs ls)
+      → EachPair (λ y. (q : ℕ) → (coming_thread p q (lact p st d bits ls l) ≡ None) ⊎ (coming_thread p q (lact p st d bits y.older y.live) ≡ None)) (pairs ls)
   apart_all l ls k ks b = at (did p d bits ls l).moves refl
     where
       known_pairs : (xs : List Live) → AllKnown p flows st d bits arrays xs → EachPair (λ x. Known p flows st d bits arrays x.older x.live) (pairs xs)
       known_pairs [] h = tt
       known_pairs (x ∷ xs) h = (h.0, known_pairs xs h.1)
 
-      target : (s : ℕ) → ((q : ℕ) → (q ≡ s → ⊥) → comes p q (lact p st d bits ls l) ≡ None) → EachPair (λ y. Each (λ k. Behind p s k.thread.stage) (next_live p st d bits y.older y.live)) (pairs ls)
-          → EachPair (λ y. (q : ℕ) → (comes p q (lact p st d bits ls l) ≡ None) ⊎ (comes p q (lact p st d bits y.older y.live) ≡ None)) (pairs ls)
+      target : (s : ℕ) → ((q : ℕ) → (q ≡ s → ⊥) → coming_thread p q (lact p st d bits ls l) ≡ None) → EachPair (λ y. Each (λ k. Behind p s k.thread.stage) (next_live p st d bits y.older y.live)) (pairs ls)
+          → EachPair (λ y. (q : ℕ) → (coming_thread p q (lact p st d bits ls l) ≡ None) ⊎ (coming_thread p q (lact p st d bits y.older y.live) ≡ None)) (pairs ls)
       target s none h = pair_both (λ y f k q. by y f k q (q == s) refl) (pairs ls) h (known_pairs ls ks)
         where
-          by : (y : Pair) → Each (λ k. Behind p s k.thread.stage) (next_live p st d bits y.older y.live) → Known p flows st d bits arrays y.older y.live → (q : ℕ) (c : Bool) → (q == s) ≡ c → (comes p q (lact p st d bits ls l) ≡ None) ⊎ (comes p q (lact p st d bits y.older y.live) ≡ None)
+          by : (y : Pair) → Each (λ k. Behind p s k.thread.stage) (next_live p st d bits y.older y.live) → Known p flows st d bits arrays y.older y.live → (q : ℕ) (c : Bool) → (q == s) ≡ c → (coming_thread p q (lact p st d bits ls l) ≡ None) ⊎ (coming_thread p q (lact p st d bits y.older y.live) ≡ None)
           by y f k q true e = inr (comes_is p flows st d bits arrays y.older y.live q k ∙ find_none s q (next_live p st d bits y.older y.live) f (sym (eqb-true _ _ e)))
           by y f k q false e = inl (none q (eqb-false _ _ e))
 
-      stays_none : (did p d bits ls l).moves ≡ false → (q : ℕ) → (q ≡ l.thread.stage → ⊥) → comes p q (lact p st d bits ls l) ≡ None
-      stays_none e q n = ap (λ c. if c then (if Cycle.is_stage q (next_stage p l.thread.stage (deeds_of p st bits l)) then Some (Cycle.moved (lact p st d bits ls l)) else None) else (if l.thread.stage == q then Some (with_answers p st bits (seat l)) else None)) e ∙ off (l.thread.stage == q) refl
+      stays_none : (did p d bits ls l).moves ≡ false → (q : ℕ) → (q ≡ l.thread.stage → ⊥) → coming_thread p q (lact p st d bits ls l) ≡ None
+      stays_none e q n = ap (λ c. if c then (if Cycle.is_stage q (next_stage p l.thread.stage (deeds_of p st bits l)) then Some (Cycle.thread_after (lact p st d bits ls l)) else None) else (if l.thread.stage == q then Some (with_answers p st bits (seat l)) else None)) e ∙ off (l.thread.stage == q) refl
         where
           off : (c : Bool) → (l.thread.stage == q) ≡ c → (if c then Some (with_answers p st bits (seat l)) else None) ≡ None
           off true i = absurd (n (sym (eqb-true _ _ i)))
           off false i = refl
 
-      moves_none : (did p d bits ls l).moves ≡ true → (r : Option ℕ) → next_stage p l.thread.stage (deeds_of p st bits l) ≡ r → (q : ℕ) → (Cycle.is_stage q r ≡ false) → comes p q (lact p st d bits ls l) ≡ None
+      moves_none : (did p d bits ls l).moves ≡ true → (r : Option ℕ) → next_stage p l.thread.stage (deeds_of p st bits l) ≡ r → (q : ℕ) → (Cycle.is_stage q r ≡ false) → coming_thread p q (lact p st d bits ls l) ≡ None
       moves_none e r i q f =
-          ap (λ c. if c then (if Cycle.is_stage q (next_stage p l.thread.stage (deeds_of p st bits l)) then Some (Cycle.moved (lact p st d bits ls l)) else None) else (if l.thread.stage == q then Some (with_answers p st bits (seat l)) else None)) e
-          ∙ ap (λ c. if c then Some (Cycle.moved (lact p st d bits ls l)) else None) (ap (Cycle.is_stage q) i ∙ f)
+          ap (λ c. if c then (if Cycle.is_stage q (next_stage p l.thread.stage (deeds_of p st bits l)) then Some (Cycle.thread_after (lact p st d bits ls l)) else None) else (if l.thread.stage == q then Some (with_answers p st bits (seat l)) else None)) e
+          ∙ ap (λ c. if c then Some (Cycle.thread_after (lact p st d bits ls l)) else None) (ap (Cycle.is_stage q) i ∙ f)
 
-      out : (did p d bits ls l).moves ≡ true → (r : Option ℕ) → goes_to (stage_at p l.thread.stage).next (work_of_live p d bits ls l).env ≡ r → EachPair (λ y. (q : ℕ) → (comes p q (lact p st d bits ls l) ≡ None) ⊎ (comes p q (lact p st d bits y.older y.live) ≡ None)) (pairs ls)
+      out : (did p d bits ls l).moves ≡ true → (r : Option ℕ) → goes_to (stage_at p l.thread.stage).next (work_of_live p d bits ls l).env ≡ r → EachPair (λ y. (q : ℕ) → (coming_thread p q (lact p st d bits ls l) ≡ None) ⊎ (coming_thread p q (lact p st d bits y.older y.live) ≡ None)) (pairs ls)
       out e None i = pair_map (λ y f q. inl (moves_none e None (same_next ∙ i) q refl)) (pairs ls) (known_pairs ls ks)
         where
           same_next : next_stage p l.thread.stage (deeds_of p st bits l) ≡ goes_to (stage_at p l.thread.stage).next (work_of_live p d bits ls l).env
@@ -432,7 +432,7 @@ module _ (p : Pipe) (flows : Flows p) (st : State) (d : Derived.State) (bits : L
               by true j = absurd (n (sym (eqb-true _ _ j)))
               by false j = j
 
-      at : (c : Bool) → (did p d bits ls l).moves ≡ c → EachPair (λ y. (q : ℕ) → (comes p q (lact p st d bits ls l) ≡ None) ⊎ (comes p q (lact p st d bits y.older y.live) ≡ None)) (pairs ls)
+      at : (c : Bool) → (did p d bits ls l).moves ≡ c → EachPair (λ y. (q : ℕ) → (coming_thread p q (lact p st d bits ls l) ≡ None) ⊎ (coming_thread p q (lact p st d bits y.older y.live) ≡ None)) (pairs ls)
       at true e = out e (goes_to (stage_at p l.thread.stage).next (work_of_live p d bits ls l).env) refl
       at false e = target l.thread.stage (stays_none e) (become_stay p flows st d bits arrays l.thread.stage ls ks b)
 

@@ -1,9 +1,9 @@
 -- What is known of each live thread at the start of a cycle, and what the later stages tell it: the threads in later stages and the older ones are others only where a fork's branches stand, and there they don't matter.
 use Rattle.std.proofs.Common.{◌≡◌, refl, sym, ap, ap₂, ◌∙◌, subst, ℕ, suc, ◌≤◌, ◌<◌, Bool, true, false, ◌&&◌, ◌||◌, not, List, [], ◌∷◌, ◌++◌, Some, ◌==◌, nat_lt, nat_le, cond, if◌then◌else◌, arith, append-nil, append_assoc, ltb-true, ltb-false, leb-true, leb-false}
 use Rattle.std.proofs.lemmas.Bool.{eqb-true}
-use Rattle.pdl_semantics.specs.Flat.{Pipe, Op, Verify, SpecBarrier, Stmt, taken}
+use Rattle.pdl_semantics.specs.Flat.{Pipe, Op, Verify, SpecBarrier, Stmt, all_hold}
 use Rattle.pdl_semantics.specs.Stages.{stage_at}
-use Rattle.pdl_semantics.specs.Machine.{Deeds, does_all}
+use Rattle.pdl_semantics.specs.Machine.{Deeds, deeds_after_all}
 use Rattle.pdl_semantics.specs.Sound.{side_in}
 use Rattle.pdl_semantics.specs.Machine
 use Rattle.pdl_facts.specs.Scans.{none_of}
@@ -154,23 +154,23 @@ rises_sorted p hi (l ∷ ls) h o = rises_place 0 hi (record { live = l; older = 
 
 -- STATEMENTS OF BRANCHES
 
-fails_op : (read : ℕ → ℕ → ℕ) (op : Op) (d : Deeds) → not (trunk_only op) ≡ true → ((Machine.does read op d).fails ≡ d.fails) × ((Machine.does read op d).barrier ≡ d.barrier)
+fails_op : (read : ℕ → ℕ → ℕ) (op : Op) (d : Deeds) → not (trunk_only op) ≡ true → ((Machine.deeds_after read op d).fails ≡ d.fails) × ((Machine.deeds_after read op d).barrier ≡ d.barrier)
 fails_op read (Verify args) d h = absurd (cc h)
 fails_op read SpecBarrier d h = absurd (cc h)
 fails_op read _ d h = (refl, refl)
 
-pub fails_none : (read : ℕ → ℕ → ℕ) (xs : List Stmt) (d : Deeds) → none_of trunk_only xs ≡ true → ((does_all read xs d).fails ≡ d.fails) × ((does_all read xs d).barrier ≡ d.barrier)
+pub fails_none : (read : ℕ → ℕ → ℕ) (xs : List Stmt) (d : Deeds) → none_of trunk_only xs ≡ true → ((deeds_after_all read xs d).fails ≡ d.fails) × ((deeds_after_all read xs d).barrier ≡ d.barrier)
 fails_none read [] d h = (refl, refl)
 fails_none read (x ∷ xs) d h =
-    let r = fails_none read xs (if taken x.guards d.env then Machine.does read x.op d else d) (and_right _ _ h) in
+    let r = fails_none read xs (if all_hold x.guards d.env then Machine.deeds_after read x.op d else d) (and_right _ _ h) in
     let o = fails_op read x.op d (and_left _ _ h) in
-    (r.0 ∙ by (taken x.guards d.env) o.0, r.1 ∙ by' (taken x.guards d.env) o.1)
+    (r.0 ∙ by (all_hold x.guards d.env) o.0, r.1 ∙ by' (all_hold x.guards d.env) o.1)
   where
-    by : (b : Bool) → (Machine.does read x.op d).fails ≡ d.fails → (cond b (Machine.does read x.op d) d).fails ≡ d.fails
+    by : (b : Bool) → (Machine.deeds_after read x.op d).fails ≡ d.fails → (cond b (Machine.deeds_after read x.op d) d).fails ≡ d.fails
     by true e = e
     by false e = refl
 
-    by' : (b : Bool) → (Machine.does read x.op d).barrier ≡ d.barrier → (cond b (Machine.does read x.op d) d).barrier ≡ d.barrier
+    by' : (b : Bool) → (Machine.deeds_after read x.op d).barrier ≡ d.barrier → (cond b (Machine.deeds_after read x.op d) d).barrier ≡ d.barrier
     by' true e = e
     by' false e = refl
 

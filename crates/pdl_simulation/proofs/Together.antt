@@ -1,11 +1,11 @@
 -- What ties a state of the stated machine to one of the derived machine, one cycle of both, and whole runs.
 use Rattle.std.proofs.Common.{◌≡◌, refl, sym, ap, ap₂, ◌∙◌, subst, ℕ, zero, suc, ◌+◌, ◌≤◌, ◌<◌, Bool, true, false, ◌&&◌, ◌||◌, not, List, [], ◌∷◌, ◌++◌, length, Option, Some, None, is_some, is_none, ◌==◌, nat_lt, cond, if◌then◌else◌, arith, append-nil, slice_index_or, ltb-true, ltb-false, zero-add, add-zero, add-suc, suc-add, eq-eqb}
 use Rattle.std.proofs.lemmas.Bool.{eqb-true, eqb-false}
-use Rattle.pdl_semantics.specs.Flat.{Arrays, Pipe, Branch, Mem, Stage, of_mem, committed}
+use Rattle.pdl_semantics.specs.Flat.{Arrays, Pipe, Branch, Mem, Stage, of_mem, after_commits}
 use Rattle.pdl_semantics.specs.Stages.{list_any, stage_at, goes_to, in_stage, is_inside, is_branch_of}
 use Rattle.pdl_semantics.specs.Sound.{side_in}
-use Rattle.pdl_semantics.specs.Machine.{Ask, Awaited, Request, NoRequest, Owned, Orphan, answers, State, Pending, lock_of, fork_of, request_of, with_kept}
-use Rattle.pdl_semantics.specs.Cycle.{awaited_of, for_mems, for_stages, releases, oldest, but_oldest, list_two, list_three, taken_out, with_commits, entries_left, request_left, request_next, shown, port_write, stays, squasher}
+use Rattle.pdl_semantics.specs.Machine.{Ask, Awaited, Request, NoRequest, Owned, Orphan, is_answered, State, Pending, lock_of, fork_of, request_of, with_kept}
+use Rattle.pdl_semantics.specs.Cycle.{awaited_of, for_mems, for_stages, has_release, oldest, but_oldest, list_two, list_three, taken_out, with_commits, entries_left, request_left, request_next, commit_shown, port_write, is_kept, squasher}
 use Rattle.pdl_turns.proofs.Released.{released}
 use Rattle.pdl_semantics.specs.Moves.{movers, next_stage}
 use Rattle.pdl_semantics.specs.Promises.{row, wrote}
@@ -67,9 +67,9 @@ mems_range : {X : Type 0} → (f g : ℕ → X) (k : ℕ) (xs : List Mem) → ((
 mems_range f g k [] h = refl
 mems_range f g k (x ∷ xs) h = ap₂ (λ a l. a ∷ l) (h k (omega arith) (omega arith)) (mems_range f g (suc k) xs (λ m i j. h m (omega arith) (omega arith)))
 
-asks_mems : (p : Pipe) (bits : List Bool) (qs : List Ask) (f : ℕ → Option ℕ) (k : ℕ) (xs : List Mem) → next_asks p bits qs k (for_mems f k xs) ≡ for_mems (λ m. next_ask (find_ask qs m) (answers p bits m) (f m)) k xs
+asks_mems : (p : Pipe) (bits : List Bool) (qs : List Ask) (f : ℕ → Option ℕ) (k : ℕ) (xs : List Mem) → next_asks p bits qs k (for_mems f k xs) ≡ for_mems (λ m. next_ask (find_ask qs m) (is_answered p bits m) (f m)) k xs
 asks_mems p bits qs f k [] = refl
-asks_mems p bits qs f k (x ∷ xs) = ap (λ l. next_ask (find_ask qs k) (answers p bits k) (f k) ∷ l) (asks_mems p bits qs f (suc k) xs)
+asks_mems p bits qs f k (x ∷ xs) = ap (λ l. next_ask (find_ask qs k) (is_answered p bits k) (f k) ∷ l) (asks_mems p bits qs f (suc k) xs)
 
 module _ (p : Pipe) (flows : Flows p) where
   -- only memories that are there are read
@@ -94,7 +94,7 @@ module _ (p : Pipe) (flows : Flows p) where
         ∙ acts_sorted p flows st d bits sim.arrays ls sim.matched st.next sim.seated sim.ordered sim.falls known sim.forks (length p.stages) (inside_all ls sim.seated)
 
     pub after_is : Cycle.cycle p st bits ≡ Cycle.after_these p st bits (lacts p st d bits ls) (movers (lacts p st d bits ls)) (squasher (movers (lacts p st d bits ls)))
-    after_is = ap (Cycle.after p st bits) acts_are ∙ same_after p flows st d bits sim.arrays ls (swaps_all p flows st d bits sim.arrays st.next ls known sim.ordered sim.falls)
+    after_is = ap (Cycle.after_acts p st bits) acts_are ∙ same_after p flows st d bits sim.arrays ls (swaps_all p flows st d bits sim.arrays st.next ls known sim.ordered sim.falls)
 
     pub ports_are : Cycle.ports p st (Moves.all_acts p st bits) ≡ Cycle.ports p st (lacts p st d bits ls)
     ports_are = ap (Cycle.ports p st) acts_are ∙ same_ports p flows st d bits sim.arrays ls (swaps_all p flows st d bits sim.arrays st.next ls known sim.ordered sim.falls)
@@ -108,27 +108,27 @@ module _ (p : Pipe) (flows : Flows p) where
     -- THE LOCKS
 
     list_is : (m : ℕ) → list_two st (movers (lacts p st d bits ls)) m ≡ two p flows st d bits sim.arrays m ls
-    list_is m = ap (λ l. Cycle.filled m (movers (lacts p st d bits ls)) (Cycle.appended m (movers (lacts p st d bits ls)) l)) (sim.locks m) ∙ two_is p flows st d bits sim.arrays m st.next ls sim.seated sim.ordered sim.falls
+    list_is m = ap (λ l. Cycle.with_all_writes m (movers (lacts p st d bits ls)) (Cycle.with_reserves m (movers (lacts p st d bits ls)) l)) (sim.locks m) ∙ two_is p flows st d bits sim.arrays m st.next ls sim.seated sim.ordered sim.falls
 
-    out : (m : ℕ) → Out m (releases m (movers (lacts p st d bits ls))) (two p flows st d bits sim.arrays m ls) (three p flows st d bits sim.arrays m ls) (commits_here p flows st d bits sim.arrays m ls)
+    out : (m : ℕ) → Out m (has_release m (movers (lacts p st d bits ls))) (two p flows st d bits sim.arrays m ls) (three p flows st d bits sim.arrays m ls) (commits_here p flows st d bits sim.arrays m ls)
     out m = three_is p flows st d bits sim.arrays m ls known sim.ordered
 
     list_next : (m : ℕ) → list_three st (movers (lacts p st d bits ls)) m ≡ three p flows st d bits sim.arrays m ls
-    list_next m = ap (λ l. cond (releases m (movers (lacts p st d bits ls))) (but_oldest l) l) (list_is m) ∙ (out m).left
+    list_next m = ap (λ l. cond (has_release m (movers (lacts p st d bits ls))) (but_oldest l) l) (list_is m) ∙ (out m).left
 
     pub commits_are : (m : ℕ) → of_mem m (commits_of (rev (dacts p d bits ls))) ≡ released m (taken_out st (movers (lacts p st d bits ls)) m)
-    commits_are m = (out m).shows ∙ ap (λ l. released m (cond (releases m (movers (lacts p st d bits ls))) (oldest l) None)) (sym (list_is m))
+    commits_are m = (out m).shows ∙ ap (λ l. released m (cond (has_release m (movers (lacts p st d bits ls))) (oldest l) None)) (sym (list_is m))
 
     pub never : (m : ℕ) → length p.mems ≤ m → taken_out st (movers (lacts p st d bits ls)) m ≡ None
     never m i = ap (λ b. cond b (oldest (list_two st (movers (lacts p st d bits ls)) m)) None) (unreleased p flows st d bits sim.arrays m ls known (flows.unreleased m i))
 
-    arrays_next : with_commits st (movers (lacts p st d bits ls)) 0 p.mems st.arrays ≡ committed d.arrays (commits_of (rev (dacts p d bits ls)))
+    arrays_next : with_commits st (movers (lacts p st d bits ls)) 0 p.mems st.arrays ≡ after_commits d.arrays (commits_of (rev (dacts p d bits ls)))
     arrays_next = λ i n. each n i
       where
-        each : (n : ℕ) → with_commits st (movers (lacts p st d bits ls)) 0 p.mems st.arrays n ≡ committed d.arrays (commits_of (rev (dacts p d bits ls))) n
+        each : (n : ℕ) → with_commits st (movers (lacts p st d bits ls)) 0 p.mems st.arrays n ≡ after_commits d.arrays (commits_of (rev (dacts p d bits ls))) n
         each n = at (nat_lt n (length p.mems)) refl
           where
-            at : (b : Bool) → nat_lt n (length p.mems) ≡ b → with_commits st (movers (lacts p st d bits ls)) 0 p.mems st.arrays n ≡ committed d.arrays (commits_of (rev (dacts p d bits ls))) n
+            at : (b : Bool) → nat_lt n (length p.mems) ≡ b → with_commits st (movers (lacts p st d bits ls)) 0 p.mems st.arrays n ≡ after_commits d.arrays (commits_of (rev (dacts p d bits ls))) n
             at true e =
                 row_commits st (movers (lacts p st d bits ls)) 0 n p.mems st.arrays (omega arith) (let i = ltb-true _ _ e in omega arith)
                 ∙ ap₂ (λ (a : Arrays) c. wrote (a n) c) sim.arrays (sym (commits_are n)) ∙ sym (row_committed n (commits_of (rev (dacts p d bits ls))) d.arrays)
@@ -164,41 +164,41 @@ module _ (p : Pipe) (flows : Flows p) where
     -- THE REQUESTS
 
     request_is : (m : ℕ) → request_left (squasher (movers (lacts p st d bits ls))) (request_next p st bits (movers (lacts p st d bits ls)) m) ≡ request_now p flows st d bits sim.arrays (squasher (movers (lacts p st d bits ls))) ls m
-    request_is m = ap (request_left (squasher (movers (lacts p st d bits ls)))) (asked_is p flows st d bits sim.arrays m (if answers p bits m then NoRequest else request_of st m) ls known)
+    request_is m = ap (request_left (squasher (movers (lacts p st d bits ls)))) (asked_is p flows st d bits sim.arrays m (if is_answered p bits m then NoRequest else request_of st m) ls known)
 
     requests_are : (Cycle.after_these p st bits (lacts p st d bits ls) (movers (lacts p st d bits ls)) (squasher (movers (lacts p st d bits ls)))).requests ≡ for_mems (request_now p flows st d bits sim.arrays (squasher (movers (lacts p st d bits ls))) ls) 0 p.mems
     requests_are = mems_same _ _ 0 p.mems request_is
 
-    asked_are : (Derived.after p d bits (rev (dacts p d bits ls))).asked ≡ for_mems (asked_now p flows st d bits sim.arrays ls) 0 p.mems
+    asked_are : (Derived.after_acts p d bits (rev (dacts p d bits ls))).asked ≡ for_mems (asked_now p flows st d bits sim.arrays ls) 0 p.mems
     asked_are =
         ap (next_asks p bits (asks_of (rev (dacts p d bits ls))) 0) sim.asked ∙ asks_mems p bits (asks_of (rev (dacts p d bits ls))) (asked_at d) 0 p.mems
-        ∙ mems_same _ _ 0 p.mems (λ m. ap (λ q. next_ask q (answers p bits m) (asked_at d m)) (finds_is p flows st d bits sim.arrays m ls known sim.ordered))
+        ∙ mems_same _ _ 0 p.mems (λ m. ap (λ q. next_ask q (is_answered p bits m) (asked_at d m)) (finds_is p flows st d bits sim.arrays m ls known sim.ordered))
 
     pub request_at : (m : ℕ) → m < length p.mems → request_of (Cycle.after_these p st bits (lacts p st d bits ls) (movers (lacts p st d bits ls)) (squasher (movers (lacts p st d bits ls)))) m ≡ request_now p flows st d bits sim.arrays (squasher (movers (lacts p st d bits ls))) ls m
     request_at m h = ap (λ l. slice_index_or l m NoRequest) requests_are ∙ at_mem _ 0 p.mems m NoRequest h ∙ ap (request_now p flows st d bits sim.arrays (squasher (movers (lacts p st d bits ls))) ls) (zero-add m)
 
-    pub asked_next : (m : ℕ) → m < length p.mems → asked_at (Derived.after p d bits (rev (dacts p d bits ls))) m ≡ asked_now p flows st d bits sim.arrays ls m
+    pub asked_next : (m : ℕ) → m < length p.mems → asked_at (Derived.after_acts p d bits (rev (dacts p d bits ls))) m ≡ asked_now p flows st d bits sim.arrays ls m
     asked_next m h = ap (λ l. slice_index_or l m None) asked_are ∙ at_mem _ 0 p.mems m None h ∙ ap (asked_now p flows st d bits sim.arrays ls) (zero-add m)
 
-    matched_after : (m : ℕ) → Matched (request_of (Cycle.after_these p st bits (lacts p st d bits ls) (movers (lacts p st d bits ls)) (squasher (movers (lacts p st d bits ls)))) m) (asked_at (Derived.after p d bits (rev (dacts p d bits ls))) m) m (lives_next p flows st d bits sim.arrays ls)
+    matched_after : (m : ℕ) → Matched (request_of (Cycle.after_these p st bits (lacts p st d bits ls) (movers (lacts p st d bits ls)) (squasher (movers (lacts p st d bits ls)))) m) (asked_at (Derived.after_acts p d bits (rev (dacts p d bits ls))) m) m (lives_next p flows st d bits sim.arrays ls)
     matched_after m = at (nat_lt m (length p.mems)) refl
       where
         at : (b : Bool) → nat_lt m (length p.mems) ≡ b
-            → Matched (request_of (Cycle.after_these p st bits (lacts p st d bits ls) (movers (lacts p st d bits ls)) (squasher (movers (lacts p st d bits ls)))) m) (asked_at (Derived.after p d bits (rev (dacts p d bits ls))) m) m (lives_next p flows st d bits sim.arrays ls)
+            → Matched (request_of (Cycle.after_these p st bits (lacts p st d bits ls) (movers (lacts p st d bits ls)) (squasher (movers (lacts p st d bits ls)))) m) (asked_at (Derived.after_acts p d bits (rev (dacts p d bits ls))) m) m (lives_next p flows st d bits sim.arrays ls)
         at true e =
-            subst (λ q. Matched q (asked_at (Derived.after p d bits (rev (dacts p d bits ls))) m) m (lives_next p flows st d bits sim.arrays ls)) (sym (request_at m (ltb-true _ _ e)))
+            subst (λ q. Matched q (asked_at (Derived.after_acts p d bits (rev (dacts p d bits ls))) m) m (lives_next p flows st d bits sim.arrays ls)) (sym (request_at m (ltb-true _ _ e)))
             (subst (λ o. Matched (request_now p flows st d bits sim.arrays (squasher (movers (lacts p st d bits ls))) ls m) o m (lives_next p flows st d bits sim.arrays ls)) (sym (asked_next m (ltb-true _ _ e)))
             (matched_next p flows st d bits sim.arrays m st.next (made p flows st d bits sim.arrays ls) (squasher (movers (lacts p st d bits ls))) ls known fit (sim.matched m)))
         at false e =
-            subst (λ q. Matched q (asked_at (Derived.after p d bits (rev (dacts p d bits ls))) m) m (lives_next p flows st d bits sim.arrays ls)) (sym (past_mems _ 0 p.mems m NoRequest (ltb-false _ _ e)))
+            subst (λ q. Matched q (asked_at (Derived.after_acts p d bits (rev (dacts p d bits ls))) m) m (lives_next p flows st d bits sim.arrays ls)) (sym (past_mems _ 0 p.mems m NoRequest (ltb-false _ _ e)))
             (ap (λ l. slice_index_or l m None) asked_are ∙ past_mems _ 0 p.mems m None (ltb-false _ _ e))
 
-    nobody_asks : (l : Live) (m : ℕ) → OwnedBy st l.number m → answers p bits m ≡ false → (x : Option Asker) → asking p flows st d bits sim.arrays ls m ≡ x → asking p flows st d bits sim.arrays ls m ≡ None
+    nobody_asks : (l : Live) (m : ℕ) → OwnedBy st l.number m → is_answered p bits m ≡ false → (x : Option Asker) → asking p flows st d bits sim.arrays ls m ≡ x → asking p flows st d bits sim.arrays ls m ≡ None
     nobody_asks l m o i None e = e
     nobody_asks l m o i (Some a) e = absurd (cc (sym i ∙ port_was_free p flows st d bits sim.arrays m o.0 a ls known e (subst (λ q. Matched q (asked_at d m) m ls) o.1 (sim.matched m)).0))
 
     -- a request that is not answered stays its owner's
-    pub request_stays : (l : Live) → stays (squasher (movers (lacts p st d bits ls))) l.number ≡ true → (m : ℕ) (o : OwnedBy st l.number m) → Fetched p l.thread.stage m → answers p bits m ≡ false
+    pub request_stays : (l : Live) → is_kept (squasher (movers (lacts p st d bits ls))) l.number ≡ true → (m : ℕ) (o : OwnedBy st l.number m) → Fetched p l.thread.stage m → is_answered p bits m ≡ false
         → request_of (Cycle.after_these p st bits (lacts p st d bits ls) (movers (lacts p st d bits ls)) (squasher (movers (lacts p st d bits ls)))) m ≡ Owned l.number o.0
     request_stays l s m o f e =
         request_at m (fetch_low m f.0 f.2)
@@ -207,24 +207,24 @@ module _ (p : Pipe) (flows : Flows p) where
         ∙ ap (λ b. if b then Owned l.number o.0 else Orphan o.0) s
 
     -- and one that is made is its maker's
-    pub request_made : (l : Live) → stays (squasher (movers (lacts p st d bits ls))) l.number ≡ true → (m a : ℕ) → m < length p.mems → asking p flows st d bits sim.arrays ls m ≡ Some (record { number = l.number; address = a })
+    pub request_made : (l : Live) → is_kept (squasher (movers (lacts p st d bits ls))) l.number ≡ true → (m a : ℕ) → m < length p.mems → asking p flows st d bits sim.arrays ls m ≡ Some (record { number = l.number; address = a })
         → request_of (Cycle.after_these p st bits (lacts p st d bits ls) (movers (lacts p st d bits ls)) (squasher (movers (lacts p st d bits ls)))) m ≡ Owned l.number a
     request_made l s m a low e =
         request_at m low
-        ∙ ap (λ k. request_left (squasher (movers (lacts p st d bits ls))) (owned_by k (if answers p bits m then NoRequest else request_of st m))) e
+        ∙ ap (λ k. request_left (squasher (movers (lacts p st d bits ls))) (owned_by k (if is_answered p bits m then NoRequest else request_of st m))) e
         ∙ ap (λ b. if b then Owned l.number a else Orphan a) s
 
     -- an awaited read has its own request
-    owned_stood : (l : Live) → stays (squasher (movers (lacts p st d bits ls))) l.number ≡ true → (rs : List Awaited) → AllOwned st l.number rs → AllFetched p l.thread.stage rs
+    owned_stood : (l : Live) → is_kept (squasher (movers (lacts p st d bits ls))) l.number ≡ true → (rs : List Awaited) → AllOwned st l.number rs → AllFetched p l.thread.stage rs
         → AllOwned (Cycle.after_these p st bits (lacts p st d bits ls) (movers (lacts p st d bits ls)) (squasher (movers (lacts p st d bits ls)))) l.number (still p bits rs)
     owned_stood l s [] o f = tt
-    owned_stood l s (r ∷ rs) o f = at (answers p bits r.mem) refl (owned_stood l s rs o.1 f.1)
+    owned_stood l s (r ∷ rs) o f = at (is_answered p bits r.mem) refl (owned_stood l s rs o.1 f.1)
       where
-        nobody : (x : Option Asker) → asking p flows st d bits sim.arrays ls r.mem ≡ x → answers p bits r.mem ≡ false → asking p flows st d bits sim.arrays ls r.mem ≡ None
+        nobody : (x : Option Asker) → asking p flows st d bits sim.arrays ls r.mem ≡ x → is_answered p bits r.mem ≡ false → asking p flows st d bits sim.arrays ls r.mem ≡ None
         nobody None e i = e
         nobody (Some a) e i = absurd (cc (sym i ∙ port_was_free p flows st d bits sim.arrays r.mem o.0.0 a ls known e (subst (λ q. Matched q (asked_at d r.mem) r.mem ls) o.0.1 (sim.matched r.mem)).0))
 
-        at : (b : Bool) → answers p bits r.mem ≡ b → AllOwned (Cycle.after_these p st bits (lacts p st d bits ls) (movers (lacts p st d bits ls)) (squasher (movers (lacts p st d bits ls)))) l.number (still p bits rs)
+        at : (b : Bool) → is_answered p bits r.mem ≡ b → AllOwned (Cycle.after_these p st bits (lacts p st d bits ls) (movers (lacts p st d bits ls)) (squasher (movers (lacts p st d bits ls)))) l.number (still p bits rs)
             → AllOwned (Cycle.after_these p st bits (lacts p st d bits ls) (movers (lacts p st d bits ls)) (squasher (movers (lacts p st d bits ls)))) l.number (cond b (still p bits rs) (r ∷ still p bits rs))
         at true e h = h
         at false e h = (
@@ -239,7 +239,7 @@ module _ (p : Pipe) (flows : Flows p) where
         )
 
     -- an ask has its own request
-    owned_moved : (l : Live) → stays (squasher (movers (lacts p st d bits ls))) l.number ≡ true → (all : List Ask) → ((m a : ℕ) → find_ask all m ≡ Some a → asking p flows st d bits sim.arrays ls m ≡ Some (record { number = l.number; address = a }))
+    owned_moved : (l : Live) → is_kept (squasher (movers (lacts p st d bits ls))) l.number ≡ true → (all : List Ask) → ((m a : ℕ) → find_ask all m ≡ Some a → asking p flows st d bits sim.arrays ls m ≡ Some (record { number = l.number; address = a }))
         → (qs : List Ask) → AsksFrom (in_stage l.thread.stage p.stmts) qs → ((m : ℕ) → is_some (find_ask qs m) ≡ true → is_some (find_ask all m) ≡ true)
         → AllOwned (Cycle.after_these p st bits (lacts p st d bits ls) (movers (lacts p st d bits ls)) (squasher (movers (lacts p st d bits ls)))) l.number (awaited_of qs)
     owned_moved l s all g [] f i = tt
@@ -257,7 +257,7 @@ module _ (p : Pipe) (flows : Flows p) where
         own (Some a) e h = (
           a,
           request_at q.mem (fetch_low q.mem l.thread.stage f.0)
-              ∙ ap (λ k. request_left (squasher (movers (lacts p st d bits ls))) (owned_by k (if answers p bits q.mem then NoRequest else request_of st q.mem))) (g q.mem a e)
+              ∙ ap (λ k. request_left (squasher (movers (lacts p st d bits ls))) (owned_by k (if is_answered p bits q.mem then NoRequest else request_of st q.mem))) (g q.mem a e)
               ∙ ap (λ b. if b then Owned l.number a else Orphan a) s,
         )
 
@@ -336,17 +336,17 @@ module _ (p : Pipe) (flows : Flows p) where
         at true e =
             at_stage (λ j. Cycle.branches_left p (squasher (movers (lacts p st d bits ls))) j (Cycle.fork_next p st (movers (lacts p st d bits ls)) j)) 0 p.stages f [] (ltb-true _ _ e)
             ∙ ap (λ j. Cycle.branches_left p (squasher (movers (lacts p st d bits ls))) j (Cycle.fork_next p st (movers (lacts p st d bits ls)) j)) (zero-add f)
-            ∙ ap (λ l. Cycle.branches_left p (squasher (movers (lacts p st d bits ls))) f ((if Cycle.left p f (movers (lacts p st d bits ls)) then Cycle.but_first l else l) ++ Cycle.entered p f (movers (lacts p st d bits ls)))) (sim.forks f)
+            ∙ ap (λ l. Cycle.branches_left p (squasher (movers (lacts p st d bits ls))) f ((if Cycle.has_left p f (movers (lacts p st d bits ls)) then Cycle.but_first l else l) ++ Cycle.entered_branches p f (movers (lacts p st d bits ls)))) (sim.forks f)
             ∙ fork_next p flows st d bits sim.arrays f st.next (made p flows st d bits sim.arrays ls) (squasher (movers (lacts p st d bits ls))) ls known sim.ordered (squashes p flows st d bits sim.arrays st.next ls known sim.falls)
         at false e = past_stages _ 0 p.stages f [] (ltb-false _ _ e) ∙ sym (none_inside f (ltb-false _ _ e) (lives_next p flows st d bits sim.arrays ls) (ways_next p flows st d bits sim.arrays ls known))
 
     -- the next states belong together
-    next_sim : Sim p (Cycle.after_these p st bits (lacts p st d bits ls) (movers (lacts p st d bits ls)) (squasher (movers (lacts p st d bits ls)))) (Derived.after p d bits (rev (dacts p d bits ls))) (lives_next p flows st d bits sim.arrays ls)
+    next_sim : Sim p (Cycle.after_these p st bits (lacts p st d bits ls) (movers (lacts p st d bits ls)) (squasher (movers (lacts p st d bits ls)))) (Derived.after_acts p d bits (rev (dacts p d bits ls))) (lives_next p flows st d bits sim.arrays ls)
     next_sim =
         record {
           arrays = arrays_next;
           threads = survive p flows st d bits sim.arrays ls known sim.have_made;
-          stages = stages_same _ _ 0 p.stages (λ q i. ap (λ c. Cycle.or_then (if q == 0 then Cycle.born p st.next c else None) (Cycle.if_stays (squasher (movers (lacts p st d bits ls))) (Cycle.stands p q (lacts p st d bits ls)))) (child_is p flows st d bits sim.arrays ls known)
+          stages = stages_same _ _ 0 p.stages (λ q i. ap (λ c. Cycle.or_then (if q == 0 then Cycle.born_thread p st.next c else None) (Cycle.if_kept (squasher (movers (lacts p st d bits ls))) (Cycle.next_thread p q (lacts p st d bits ls)))) (child_is p flows st d bits sim.arrays ls known)
               ∙ stage_is p flows st d bits sim.arrays (squasher (movers (lacts p st d bits ls))) q ls known sim.ordered fit);
           locks = locks_next;
           falls = subst (λ c. Falls (if is_some c then suc st.next else st.next) (lives_next p flows st d bits sim.arrays ls)) (sym (child_is p flows st d bits sim.arrays ls known)) (falls_next p flows st d bits sim.arrays ls sim.falls);
@@ -362,7 +362,7 @@ module _ (p : Pipe) (flows : Flows p) where
     pub cycle_sim : Sim p (Cycle.cycle p st bits) (Derived.cycle p d bits) (lives_next p flows st d bits sim.arrays ls)
     cycle_sim =
         subst (λ s. Sim p s (Derived.cycle p d bits) (lives_next p flows st d bits sim.arrays ls)) (sym after_is)
-        (subst (λ these. Sim p (Cycle.after_these p st bits (lacts p st d bits ls) (movers (lacts p st d bits ls)) (squasher (movers (lacts p st d bits ls)))) (Derived.after p d bits these) (lives_next p flows st d bits sim.arrays ls)) (sym derived_acts_are) next_sim)
+        (subst (λ these. Sim p (Cycle.after_these p st bits (lacts p st d bits ls) (movers (lacts p st d bits ls)) (squasher (movers (lacts p st d bits ls)))) (Derived.after_acts p d bits these) (lives_next p flows st d bits sim.arrays ls)) (sym derived_acts_are) next_sim)
 
     -- THE PORTS
 
@@ -396,10 +396,10 @@ module _ (p : Pipe) (flows : Flows p) where
     -- both waits ask the same of each memory
     waits_are : (f : ℕ → Request) (g : ℕ → Option ℕ) → ((m : ℕ) → Cycle.is_outstanding (f m) ≡ is_some (g m)) → (k : ℕ) (xs : List Mem) → Cycle.waits_from p bits k (for_mems f k xs) ≡ Derived.waits_from p bits k (for_mems g k xs)
     waits_are f g h k [] = refl
-    waits_are f g h k (x ∷ xs) = at (g k) (ap₂ (λ a b. (a && not (answers p bits k)) || b) (h k) (waits_are f g h (suc k) xs))
+    waits_are f g h k (x ∷ xs) = at (g k) (ap₂ (λ a b. (a && not (is_answered p bits k)) || b) (h k) (waits_are f g h (suc k) xs))
       where
-        at : (o : Option ℕ) → ((Cycle.is_outstanding (f k) && not (answers p bits k)) || Cycle.waits_from p bits (suc k) (for_mems f (suc k) xs)) ≡ ((is_some o && not (answers p bits k)) || Derived.waits_from p bits (suc k) (for_mems g (suc k) xs))
-            → ((Cycle.is_outstanding (f k) && not (answers p bits k)) || Cycle.waits_from p bits (suc k) (for_mems f (suc k) xs)) ≡ Derived.waits_from p bits k (o ∷ for_mems g (suc k) xs)
+        at : (o : Option ℕ) → ((Cycle.is_outstanding (f k) && not (is_answered p bits k)) || Cycle.waits_from p bits (suc k) (for_mems f (suc k) xs)) ≡ ((is_some o && not (is_answered p bits k)) || Derived.waits_from p bits (suc k) (for_mems g (suc k) xs))
+            → ((Cycle.is_outstanding (f k) && not (is_answered p bits k)) || Cycle.waits_from p bits (suc k) (for_mems f (suc k) xs)) ≡ Derived.waits_from p bits k (o ∷ for_mems g (suc k) xs)
         at None e = e
         at (Some a) e = e
 
@@ -427,15 +427,15 @@ module _ (p : Pipe) (flows : Flows p) where
           wait = ap (Cycle.waits_from p bits 0) sim.requests ∙ waits_are (request_of st) (asked_at d) outstanding 0 p.mems ∙ ap (Derived.waits_from p bits 0) (sym sim.asked);
         }))
       where
-        commits_shown : (m : ℕ) → shown m (slice_index_or (for_mems (λ j. port_write (taken_out st (movers (lacts p st d bits ls)) j)) 0 p.mems) m None) ≡ of_mem m (commits_of (rev (dacts p d bits ls)))
+        commits_shown : (m : ℕ) → commit_shown m (slice_index_or (for_mems (λ j. port_write (taken_out st (movers (lacts p st d bits ls)) j)) 0 p.mems) m None) ≡ of_mem m (commits_of (rev (dacts p d bits ls)))
         commits_shown m = at (nat_lt m (length p.mems)) refl
           where
-            at : (b : Bool) → nat_lt m (length p.mems) ≡ b → shown m (slice_index_or (for_mems (λ j. port_write (taken_out st (movers (lacts p st d bits ls)) j)) 0 p.mems) m None) ≡ of_mem m (commits_of (rev (dacts p d bits ls)))
+            at : (b : Bool) → nat_lt m (length p.mems) ≡ b → commit_shown m (slice_index_or (for_mems (λ j. port_write (taken_out st (movers (lacts p st d bits ls)) j)) 0 p.mems) m None) ≡ of_mem m (commits_of (rev (dacts p d bits ls)))
             at true e =
-                ap (shown m) (at_mem (λ j. port_write (taken_out st (movers (lacts p st d bits ls)) j)) 0 p.mems m None (ltb-true _ _ e) ∙ ap (λ j. port_write (taken_out st (movers (lacts p st d bits ls)) j)) (zero-add m))
+                ap (commit_shown m) (at_mem (λ j. port_write (taken_out st (movers (lacts p st d bits ls)) j)) 0 p.mems m None (ltb-true _ _ e) ∙ ap (λ j. port_write (taken_out st (movers (lacts p st d bits ls)) j)) (zero-add m))
                 ∙ sym (commits_are m)
             at false e =
-                ap (shown m) (past_mems (λ j. port_write (taken_out st (movers (lacts p st d bits ls)) j)) 0 p.mems m None (ltb-false _ _ e) ∙ ap port_write (sym (never m (ltb-false _ _ e))))
+                ap (commit_shown m) (past_mems (λ j. port_write (taken_out st (movers (lacts p st d bits ls)) j)) 0 p.mems m None (ltb-false _ _ e) ∙ ap port_write (sym (never m (ltb-false _ _ e))))
                 ∙ sym (commits_are m)
 
   -- RUNS
@@ -482,7 +482,7 @@ module _ (p : Pipe) (flows : Flows p) where
       record {
         arrays = refl;
         threads = refl;
-        stages = stages_same _ _ 0 p.stages (λ q i. ap (λ b. cond b (Cycle.born p 1 (Some p.start)) None) (same_numbers q 0));
+        stages = stages_same _ _ 0 p.stages (λ q i. ap (λ b. cond b (Cycle.born_thread p 1 (Some p.start)) None) (same_numbers q 0));
         locks = λ m. no_lists 0 m p.mems;
         falls = (omega arith, tt);
         ordered = (tt, tt);

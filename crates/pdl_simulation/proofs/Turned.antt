@@ -6,10 +6,10 @@ use Rattle.pdl_semantics.specs.Stages.{list_any, in_stage, stage_at, goes_to, is
 use Rattle.pdl_semantics.specs.Locks.{commit_value}
 use Rattle.pdl_semantics.specs.Machine.{State, Pending, word_for, with_answers}
 use Rattle.pdl_semantics.specs.Moves.{movers}
-use Rattle.pdl_semantics.specs.Cycle.{awaited_of, new_entries, appended, put_all, filled, releases, oldest, but_oldest, stays, entries_left}
+use Rattle.pdl_semantics.specs.Cycle.{awaited_of, new_entries, with_reserves, with_writes_of, with_all_writes, has_release, oldest, but_oldest, is_kept, entries_left}
 use Rattle.pdl_turns.proofs.Released.{released}
 use Rattle.pdl_semantics.specs.Moves
-use Rattle.pdl_derived.specs.Derived.{Entry, Work, works, around, commits_of}
+use Rattle.pdl_derived.specs.Derived.{Entry, Work, work_of_stage, around, commits_of}
 use Rattle.pdl_derived.specs.Derived
 use Rattle.pdl_simulation.proofs.FlowFacts.{Flows, stage_or, next_of}
 use Rattle.pdl_derived.proofs.Writes.{of_mem_append}
@@ -60,25 +60,25 @@ go_on p st d bits (l ∷ ls) = (if fell p d bits ls then [] else next_live p st 
 -- whether a squash by this thread leaves just those that the derived machine leaves
 abbrev pub Agrees : Pipe → Derived.State → List Bool → Option ℕ → List Live → Type 0
 Agrees p d bits sq [] = Unit {0}
-Agrees p d bits sq (l ∷ ls) = (stays sq l.number ≡ not (fell p d bits ls)) × Agrees p d bits sq ls
+Agrees p d bits sq (l ∷ ls) = (is_kept sq l.number ≡ not (fell p d bits ls)) × Agrees p d bits sq ls
 
 left_append : (sq : Option ℕ) (xs ys : List Pending) → entries_left sq (xs ++ ys) ≡ entries_left sq xs ++ entries_left sq ys
 left_append sq [] ys = refl
-left_append sq (x ∷ xs) ys = at (stays sq x.thread) (left_append sq xs ys)
+left_append sq (x ∷ xs) ys = at (is_kept sq x.thread) (left_append sq xs ys)
   where
     at : (b : Bool) → entries_left sq (xs ++ ys) ≡ entries_left sq xs ++ entries_left sq ys → cond b (x ∷ entries_left sq (xs ++ ys)) (entries_left sq (xs ++ ys)) ≡ cond b (x ∷ entries_left sq xs) (entries_left sq xs) ++ entries_left sq ys
     at true h = ap (λ l. x ∷ l) h
     at false h = h
 
-left_pend : (sq : Option ℕ) (m n : ℕ) (es : List Entry) → entries_left sq (pend m n es) ≡ cond (stays sq n) (pend m n es) []
-left_pend sq m n [] = at (stays sq n)
+left_pend : (sq : Option ℕ) (m n : ℕ) (es : List Entry) → entries_left sq (pend m n es) ≡ cond (is_kept sq n) (pend m n es) []
+left_pend sq m n [] = at (is_kept sq n)
   where
     at : (b : Bool) → entries_left sq [] ≡ cond b (pend m n []) []
     at true = refl
     at false = refl
-left_pend sq m n (e ∷ es) = left_append sq (pend m n es) _ ∙ at (stays sq n) refl (e.mem == m) (left_pend sq m n es)
+left_pend sq m n (e ∷ es) = left_append sq (pend m n es) _ ∙ at (is_kept sq n) refl (e.mem == m) (left_pend sq m n es)
   where
-    at : (b : Bool) → stays sq n ≡ b → (c : Bool) → entries_left sq (pend m n es) ≡ cond b (pend m n es) [] → entries_left sq (pend m n es) ++ entries_left sq (cond c (own n e ∷ []) []) ≡ cond b (pend m n es ++ cond c (own n e ∷ []) []) []
+    at : (b : Bool) → is_kept sq n ≡ b → (c : Bool) → entries_left sq (pend m n es) ≡ cond b (pend m n es) [] → entries_left sq (pend m n es) ++ entries_left sq (cond c (own n e ∷ []) []) ≡ cond b (pend m n es ++ cond c (own n e ∷ []) []) []
     at true g true h = ap₂ (λ x y. x ++ y) h (ap (λ b. cond b (own n e ∷ []) []) g)
     at true g false h = ap (λ x. x ++ []) h
     at false g true h = ap₂ (λ x y. x ++ y) h (ap (λ b. cond b (own n e ∷ []) []) g)
@@ -94,7 +94,7 @@ module _ (p : Pipe) (flows : Flows p) (st : State) (d : Derived.State) (bits : L
 
   -- a thread's entries after steps 1 and 2, and all of them after these steps and after step 3
   abbrev pub part : ℕ → Live → List Pending
-  part m l = put_all m l.number (deeds_of p st bits l).writes (pend m l.number l.thread.entries ++ new_entries m l.number (deeds_of p st bits l).reserves)
+  part m l = with_writes_of m l.number (deeds_of p st bits l).writes (pend m l.number l.thread.entries ++ new_entries m l.number (deeds_of p st bits l).reserves)
 
   abbrev pub two : ℕ → List Live → List Pending
   two m [] = []
@@ -164,7 +164,7 @@ module _ (p : Pipe) (flows : Flows p) (st : State) (d : Derived.State) (bits : L
       at false g i = i
 
   -- steps 1 and 2
-  pub two_is : (m n : ℕ) (ls : List Live) → Each (Seated p st) ls → Ordered p ls → Falls n ls → filled m (ms ls) (appended m (ms ls) (pends m ls)) ≡ two m ls
+  pub two_is : (m n : ℕ) (ls : List Live) → Each (Seated p st) ls → Ordered p ls → Falls n ls → with_all_writes m (ms ls) (with_reserves m (ms ls) (pends m ls)) ≡ two m ls
   two_is m n [] s o f = refl
   two_is m n (l ∷ ls) s o f = at (did p d bits ls l).moves (two_is m l.number ls s.1 o.1 f.1)
     where
@@ -181,8 +181,8 @@ module _ (p : Pipe) (flows : Flows p) (st : State) (d : Derived.State) (bits : L
       news : (k : ℕ) → k < l.number → Foreign k (new_entries m l.number (deeds_of p st bits l).reserves)
       news k h = foreign_new k m l.number (deeds_of p st bits l).reserves (λ e. absurd (omega arith))
 
-      at : (b : Bool) → filled m (ms ls) (appended m (ms ls) (pends m ls)) ≡ two m ls
-          → filled m (cond b (lact p st d bits ls l ∷ ms ls) (ms ls)) (appended m (cond b (lact p st d bits ls l ∷ ms ls) (ms ls)) (pends m (l ∷ ls)))
+      at : (b : Bool) → with_all_writes m (ms ls) (with_reserves m (ms ls) (pends m ls)) ≡ two m ls
+          → with_all_writes m (cond b (lact p st d bits ls l ∷ ms ls) (ms ls)) (with_reserves m (cond b (lact p st d bits ls l ∷ ms ls) (ms ls)) (pends m (l ∷ ls)))
           ≡ two m ls ++ cond b (part m l) (pend m l.number l.thread.entries)
       at true h =
           two_moved m (lact p st d bits ls l) (ms ls) (pends m ls) (pend m l.number l.thread.entries) (two m ls) side
@@ -199,7 +199,7 @@ module _ (p : Pipe) (flows : Flows p) (st : State) (d : Derived.State) (bits : L
   commits_next m ls l = ap (of_mem m) (commits_more (rev (dacts p d bits ls)) (did p d bits ls l)) ∙ of_mem_append m (commits_of (rev (dacts p d bits ls))) _
 
   -- past the stage of its releases nobody has an entry of m
-  gone : (m : ℕ) (ls : List Live) → AllKnown p flows st d bits arrays ls → Past (commit_stage p m) ls → Still (releases m (ms ls)) (two m ls) (three m ls) (commits_here m ls)
+  gone : (m : ℕ) (ls : List Live) → AllKnown p flows st d bits arrays ls → Past (commit_stage p m) ls → Still (has_release m (ms ls)) (two m ls) (three m ls) (commits_here m ls)
   gone m [] k c = (refl, refl, refl, refl)
   gone m (l ∷ ls) k c = at (did p d bits ls l).moves (commits_next m ls l) (gone m ls k.1 c.1)
     where
@@ -223,8 +223,8 @@ module _ (p : Pipe) (flows : Flows p) (st : State) (d : Derived.State) (bits : L
           ∙ ap (pend m l.number) (late_here p flows st d bits arrays ls l k.0 m (let i = c.0 in let j = next_up l.thread.stage (work_of_live p d bits ls l).env k.0.seated.keeps_on.inside in omega arith))
 
       at : (b : Bool) → commits_here m (l ∷ ls) ≡ commits_here m ls ++ of_mem m (cond b (work_of_live p d bits ls l).commits [])
-          → Still (releases m (ms ls)) (two m ls) (three m ls) (commits_here m ls)
-          → Still (releases m (cond b (lact p st d bits ls l ∷ ms ls) (ms ls))) (two m ls ++ cond b (part m l) (pend m l.number l.thread.entries)) (three m ls ++ cond b (pend m l.number (work_of_live p d bits ls l).entries) (pend m l.number l.thread.entries)) (commits_here m (l ∷ ls))
+          → Still (has_release m (ms ls)) (two m ls) (three m ls) (commits_here m ls)
+          → Still (has_release m (cond b (lact p st d bits ls l ∷ ms ls) (ms ls))) (two m ls ++ cond b (part m l) (pend m l.number l.thread.entries)) (three m ls ++ cond b (pend m l.number (work_of_live p d bits ls l).entries) (pend m l.number l.thread.entries)) (commits_here m (l ∷ ls))
       at true e s = (
         ap₂ (λ x y. x || y) keeps s.0,
         ap₂ (λ x y. x ++ y) s.1 empty,
@@ -234,7 +234,7 @@ module _ (p : Pipe) (flows : Flows p) (st : State) (d : Derived.State) (bits : L
       at false e s = (s.0, ap₂ (λ x y. x ++ y) s.1 none, ap₂ (λ x y. x ++ y) s.2 none, e ∙ append-nil _ ∙ s.3)
 
   -- step 3
-  pub three_is : (m : ℕ) (ls : List Live) → AllKnown p flows st d bits arrays ls → Ordered p ls → Out m (releases m (ms ls)) (two m ls) (three m ls) (commits_here m ls)
+  pub three_is : (m : ℕ) (ls : List Live) → AllKnown p flows st d bits arrays ls → Ordered p ls → Out m (has_release m (ms ls)) (two m ls) (three m ls) (commits_here m ls)
   three_is m [] k o = record { left = refl; full = λ i. absurd (cc i); shows = refl }
   three_is m (l ∷ ls) k o = at (did p d bits ls l).moves (commits_next m ls l) (three_is m ls k.1 o.1)
     where
@@ -242,18 +242,18 @@ module _ (p : Pipe) (flows : Flows p) (st : State) (d : Derived.State) (bits : L
       w = worked_here p flows st d bits arrays ls l k.0 m
 
       at : (b : Bool) → commits_here m (l ∷ ls) ≡ commits_here m ls ++ of_mem m (cond b (work_of_live p d bits ls l).commits [])
-          → Out m (releases m (ms ls)) (two m ls) (three m ls) (commits_here m ls)
-          → Out m (releases m (cond b (lact p st d bits ls l ∷ ms ls) (ms ls))) (two m ls ++ cond b (part m l) (pend m l.number l.thread.entries)) (three m ls ++ cond b (pend m l.number (work_of_live p d bits ls l).entries) (pend m l.number l.thread.entries)) (commits_here m (l ∷ ls))
+          → Out m (has_release m (ms ls)) (two m ls) (three m ls) (commits_here m ls)
+          → Out m (has_release m (cond b (lact p st d bits ls l ∷ ms ls) (ms ls))) (two m ls ++ cond b (part m l) (pend m l.number l.thread.entries)) (three m ls ++ cond b (pend m l.number (work_of_live p d bits ls l).entries) (pend m l.number l.thread.entries)) (commits_here m (l ∷ ls))
       at true e s =
-          subst (λ c. Out m (takes m l || releases m (ms ls)) (two m ls ++ part m l) (three m ls ++ pend m l.number (work_of_live p d bits ls l).entries) c) (sym e)
-          (out_more m (releases m (ms ls)) (takes m l) (two m ls) (three m ls) (part m l) (pend m l.number (work_of_live p d bits ls l).entries) (commits_here m ls) (of_mem m (work_of_live p d bits ls l).commits) s w.after w.full w.commits
+          subst (λ c. Out m (takes m l || has_release m (ms ls)) (two m ls ++ part m l) (three m ls ++ pend m l.number (work_of_live p d bits ls l).entries) c) (sym e)
+          (out_more m (has_release m (ms ls)) (takes m l) (two m ls) (three m ls) (part m l) (pend m l.number (work_of_live p d bits ls l).entries) (commits_here m ls) (of_mem m (work_of_live p d bits ls l).commits) s w.after w.full w.commits
           (λ i. gone m ls k.1 (past_of (commit_stage p m) l ls (flows.trunk_commit m) o.0 (let j = release_here ls l k.0 m i in omega arith))))
       at false e s =
-          subst (λ c. Out m (releases m (ms ls)) (two m ls ++ pend m l.number l.thread.entries) (three m ls ++ pend m l.number l.thread.entries) c) (sym e)
-          (out_more m (releases m (ms ls)) false (two m ls) (three m ls) (pend m l.number l.thread.entries) (pend m l.number l.thread.entries) (commits_here m ls) [] s refl (λ i. absurd (cc i)) refl (λ i. absurd (cc i)))
+          subst (λ c. Out m (has_release m (ms ls)) (two m ls ++ pend m l.number l.thread.entries) (three m ls ++ pend m l.number l.thread.entries) c) (sym e)
+          (out_more m (has_release m (ms ls)) false (two m ls) (three m ls) (pend m l.number l.thread.entries) (pend m l.number l.thread.entries) (commits_here m ls) [] s refl (λ i. absurd (cc i)) refl (λ i. absurd (cc i)))
 
   -- no memory that isn't there is released
-  pub unreleased : (m : ℕ) (ls : List Live) → AllKnown p flows st d bits arrays ls → length p.stages ≤ commit_stage p m → releases m (ms ls) ≡ false
+  pub unreleased : (m : ℕ) (ls : List Live) → AllKnown p flows st d bits arrays ls → length p.stages ≤ commit_stage p m → has_release m (ms ls) ≡ false
   unreleased m [] k h = refl
   unreleased m (l ∷ ls) k h = at (did p d bits ls l).moves (unreleased m ls k.1 h) (none (takes m l) refl)
     where
@@ -261,7 +261,7 @@ module _ (p : Pipe) (flows : Flows p) (st : State) (d : Derived.State) (bits : L
       none true e = absurd (let i = release_here ls l k.0 m e in let j = k.0.seated.keeps_on.inside in omega arith)
       none false e = e
 
-      at : (b : Bool) → releases m (ms ls) ≡ false → takes m l ≡ false → releases m (cond b (lact p st d bits ls l ∷ ms ls) (ms ls)) ≡ false
+      at : (b : Bool) → has_release m (ms ls) ≡ false → takes m l ≡ false → has_release m (cond b (lact p st d bits ls l ∷ ms ls) (ms ls)) ≡ false
       at true e g = ap₂ (λ x y. x || y) g e
       at false e g = e
 
@@ -290,7 +290,7 @@ module _ (p : Pipe) (flows : Flows p) (st : State) (d : Derived.State) (bits : L
       ∙ ap₂ (λ x y. x ++ y) (pends_on m sq ls k.1 g.1) (mine (did p d bits ls l).moves ∙ ap (λ b. cond b (if (did p d bits ls l).moves then pend m l.number (work_of_live p d bits ls l).entries else pend m l.number l.thread.entries) []) g.0 ∙ drop (fell p d bits ls))
       ∙ sym (pends_append m (if fell p d bits ls then [] else next_live p st d bits ls l) (go_on p st d bits ls))
     where
-      mine : (b : Bool) → entries_left sq (cond b (pend m l.number (work_of_live p d bits ls l).entries) (pend m l.number l.thread.entries)) ≡ cond (stays sq l.number) (cond b (pend m l.number (work_of_live p d bits ls l).entries) (pend m l.number l.thread.entries)) []
+      mine : (b : Bool) → entries_left sq (cond b (pend m l.number (work_of_live p d bits ls l).entries) (pend m l.number l.thread.entries)) ≡ cond (is_kept sq l.number) (cond b (pend m l.number (work_of_live p d bits ls l).entries) (pend m l.number l.thread.entries)) []
       mine true = left_pend sq m l.number (work_of_live p d bits ls l).entries
       mine false = left_pend sq m l.number l.thread.entries
 

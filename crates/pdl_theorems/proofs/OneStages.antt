@@ -1,20 +1,20 @@
 -- In a pipe of one stage each cycle is a whole thread of the sequential run, and prints its lines.
 use Rattle.std.proofs.Common.{◌≡◌, refl, sym, ap, ap₂, ◌∙◌, subst, ℕ, suc, ◌+◌, ◌≤◌, ◌<◌, Bool, true, false, ◌&&◌, ◌||◌, not, List, [], ◌∷◌, ◌++◌, length, Option, Some, None, ◌==◌, nat_lt, slice_index_or, cond, arith, append-nil, ltb-true}
 use Rattle.std.proofs.lemmas.Bool.{eqb-false}
-use Rattle.pdl_semantics.specs.Flat.{Arrays, Pipe, Op, DelayedRead, SpecCall, Verify, Call, Stmt, Mem, Commit, list_all, of_mem, arrays_of, taken, values_of}
+use Rattle.pdl_semantics.specs.Flat.{Arrays, Pipe, Op, DelayedRead, SpecCall, Verify, Call, Stmt, Mem, Commit, list_all, of_mem, arrays_of, all_hold, values_of}
 use Rattle.pdl_semantics.specs.Stages.{list_any, onpath, in_stage, stage_at, goes_to, onward, stages_on, is_verify, verify_stage}
 use Rattle.pdl_semantics.specs.Sequential.{thread, threads, threads_from, writes_from, after_turns}
-use Rattle.pdl_semantics.specs.Cycle.{PortWrite, shown, for_mems}
-use Rattle.pdl_semantics.specs.Machine.{same_args, answers}
+use Rattle.pdl_semantics.specs.Cycle.{PortWrite, commit_shown, for_mems}
+use Rattle.pdl_semantics.specs.Machine.{same_args, is_answered}
 use Rattle.pdl_semantics.specs.Machine
 use Rattle.pdl_semantics.specs.Lines.{puts_of, put_of, puts_in, by_mem, columns, lines, turn_cycle, turn_cycles, thread_cycle, thread_cycles, run_lines, sequential_lines}
 use Rattle.pdl_semantics.specs.Flatten.{flat, mems_of}
 use Rattle.pdl_semantics.specs.Tree
 use Rattle.pdl_semantics.specs.Cycle
 use Rattle.pdl_semantics.specs.Moves
-use Rattle.pdl_derived.specs.Derived.{Around, Work, Thread, State, Act, do_all, does, works, around, answered, act, acts, all_acts, cycle, turns_from, first, is_wait, waits_from, next_ask, next_asks, nothing_asked, asks_of, commits_of}
+use Rattle.pdl_derived.specs.Derived.{Around, Work, Thread, State, Act, do_all, work_after, work_of_stage, around, answered_thread, act, acts, all_acts, cycle, turns_from, first, is_wait, waits_from, next_ask, next_asks, nothing_asked, asks_of, commits_of}
 use Rattle.pdl_derived.specs.Derived
-use Rattle.pdl_derived.specs.Alone.{looked}
+use Rattle.pdl_derived.specs.Alone.{answered_op}
 use Rattle.pdl_derived.specs.Simulation.{SameTurns}
 use Rattle.pdl_derived.specs.OneStage.{IsThread, AreThreads}
 use Rattle.pdl_derived.proofs.Stages.{step}
@@ -39,13 +39,13 @@ use Rattle.pdl_turns.proofs.OfStage.{none_stage}
 -- statements of which no path verifies let nothing fail
 unfailed : (o : Around) (xs : List Stmt) (w : Work) → ((path : List ℕ) → none_of is_verify (onpath path xs) ≡ true) → (do_all o xs w).fails ≡ w.fails
 unfailed o [] w h = refl
-unfailed o (x ∷ xs) w h = unfailed o xs (step o x w) (λ path. later path (taken x.guards path) (h path)) ∙ at (taken x.guards w.env) (h w.env)
+unfailed o (x ∷ xs) w h = unfailed o xs (step o x w) (λ path. later path (all_hold x.guards path) (h path)) ∙ at (all_hold x.guards w.env) (h w.env)
   where
     later : (path : List ℕ) (b : Bool) → none_of is_verify (cond b (record x { guards = [] } ∷ onpath path xs) (onpath path xs)) ≡ true → none_of is_verify (onpath path xs) ≡ true
     later path true k = and_right (not (is_verify x.op)) _ k
     later path false k = k
 
-    at : (b : Bool) → none_of is_verify (cond b (record x { guards = [] } ∷ onpath w.env xs) (onpath w.env xs)) ≡ true → (cond b (does o x.op w) w).fails ≡ w.fails
+    at : (b : Bool) → none_of is_verify (cond b (record x { guards = [] } ∷ onpath w.env xs) (onpath w.env xs)) ≡ true → (cond b (work_after o x.op w) w).fails ≡ w.fails
     at true k = Guesses.unfailed o (record x { guards = [] } ∷ []) w (ap (λ b. b && true) (and_left (not (is_verify x.op)) _ k))
     at false k = refl
 
@@ -53,7 +53,7 @@ clash : false ≡ true → ⊥
 clash e = cc
 
 -- in stages before the verifies' nothing is guessed, and without a guess nothing is verified
-one_certain : (v : Option ℕ) (s : ℕ) (k : Making) (op : Op) → stands_before v s ≡ false → is_guessed k ≡ false → making_ok v k s (looked op) ≡ true → (not (is_verify op) ≡ true) × (is_guessed (next_making k (looked op)) ≡ false)
+one_certain : (v : Option ℕ) (s : ℕ) (k : Making) (op : Op) → stands_before v s ≡ false → is_guessed k ≡ false → making_ok v k s (answered_op op) ≡ true → (not (is_verify op) ≡ true) × (is_guessed (next_making k (answered_op op)) ≡ false)
 one_certain v s k (Call args) b g h = (refl, refl)
 one_certain v s k (SpecCall args) b g h = absurd (clash (sym b ∙ and_right (is_unmade k) _ h))
 one_certain v s k (Verify args) b g h = absurd (clash (sym g ∙ and_left (is_guessed k) _ h))
@@ -61,14 +61,14 @@ one_certain v s k _ b g h = (refl, g)
 
 unverified : (v : Option ℕ) (path : List ℕ) (xs : List Stmt) (k : Making) → ((s : ℕ) → stands_before v s ≡ false) → is_guessed k ≡ false → makings_ok v k (onpath path (looked_all xs)) ≡ true → none_of is_verify (onpath path xs) ≡ true
 unverified v path [] k b g h = refl
-unverified v path (x ∷ xs) k b g h = at (taken x.guards path) h (λ j. unverified v path xs j b)
+unverified v path (x ∷ xs) k b g h = at (all_hold x.guards path) h (λ j. unverified v path xs j b)
   where
-    at : (t : Bool) → makings_ok v k (cond t (record x { op = looked x.op; guards = [] } ∷ onpath path (looked_all xs)) (onpath path (looked_all xs))) ≡ true
+    at : (t : Bool) → makings_ok v k (cond t (record x { op = answered_op x.op; guards = [] } ∷ onpath path (looked_all xs)) (onpath path (looked_all xs))) ≡ true
         → ((j : Making) → is_guessed j ≡ false → makings_ok v j (onpath path (looked_all xs)) ≡ true → none_of is_verify (onpath path xs) ≡ true)
         → none_of is_verify (cond t (record x { guards = [] } ∷ onpath path xs) (onpath path xs)) ≡ true
     at true m go =
-        let one = one_certain v x.stage k x.op (b x.stage) g (and_left (making_ok v k x.stage (looked x.op)) _ m) in
-        ap₂ (λ c d. c && d) one.0 (go (next_making k (looked x.op)) one.1 (and_right (making_ok v k x.stage (looked x.op)) _ m))
+        let one = one_certain v x.stage k x.op (b x.stage) g (and_left (making_ok v k x.stage (answered_op x.op)) _ m) in
+        ap₂ (λ c d. c && d) one.0 (go (next_making k (answered_op x.op)) one.1 (and_right (making_ok v k x.stage (answered_op x.op)) _ m))
     at false m go = go k g m
 
 -- no stage stands before the first one
@@ -83,7 +83,7 @@ none_before (Some n) f s = at (nat_lt s n) refl
 -- DELAYED READS
 
 -- a request is made by a delayed read alone
-asks_same : (o : Around) (op : Op) (w : Work) → not (is_fetch op) ≡ true → (does o op w).asks ≡ w.asks
+asks_same : (o : Around) (op : Op) (w : Work) → not (is_fetch op) ≡ true → (work_after o op w).asks ≡ w.asks
 asks_same o (DelayedRead x m a) w h = absurd (clash h)
 asks_same o (Verify args) w h = at (same_args (values_of args w.env) w.guess)
   where
@@ -94,9 +94,9 @@ asks_same o _ w h = refl
 
 unasked : (o : Around) (xs : List Stmt) (w : Work) → none_of is_fetch xs ≡ true → (do_all o xs w).asks ≡ w.asks
 unasked o [] w h = refl
-unasked o (x ∷ xs) w h = unasked o xs (step o x w) (and_right (not (is_fetch x.op)) _ h) ∙ at (taken x.guards w.env)
+unasked o (x ∷ xs) w h = unasked o xs (step o x w) (and_right (not (is_fetch x.op)) _ h) ∙ at (all_hold x.guards w.env)
   where
-    at : (b : Bool) → (cond b (does o x.op w) w).asks ≡ w.asks
+    at : (b : Bool) → (cond b (work_after o x.op w) w).asks ≡ w.asks
     at true = asks_same o x.op w (and_left (not (is_fetch x.op)) _ h)
     at false = refl
 
@@ -113,7 +113,7 @@ all_first test (x ∷ xs) i h = at (x.stage == 0) refl h (all_first test xs (and
 
 none_asked : (p : Pipe) (bits : List Bool) (k : ℕ) (xs : List Mem) → next_asks p bits [] k (nothing_asked xs) ≡ nothing_asked xs
 none_asked p bits k [] = refl
-none_asked p bits k (x ∷ xs) = ap₂ (λ a l. a ∷ l) (at (answers p bits k)) (none_asked p bits (suc k) xs)
+none_asked p bits k (x ∷ xs) = ap₂ (λ a l. a ∷ l) (at (is_answered p bits k)) (none_asked p bits (suc k) xs)
   where
     at : (b : Bool) → next_ask None b None ≡ None
     at true = refl
@@ -155,18 +155,18 @@ module _ (p : Pipe) (sound : Sound p) (single : length p.stages ≡ 1) where
   answered_here : none_of is_fetch p.stmts ≡ true
   answered_here = all_first is_fetch p.stmts (subst (λ n. list_all (λ y. nat_lt y.stage n) p.stmts ≡ true) single sound.inside) (sound.fetch_inside 0 (sym single))
 
-  fails_none : (o : Around) (t : Thread) → (works p o t).fails ≡ false
+  fails_none : (o : Around) (t : Thread) → (work_of_stage p o t).fails ≡ false
   fails_none o t =
       unfailed o (in_stage t.stage p.stmts) _
       (λ path. subst (λ l. none_of is_verify l ≡ true) (stage_path path t.stage p.stmts) (none_stage is_verify t.stage (onpath path p.stmts) (certain path)))
 
-  asks_none : (o : Around) (t : Thread) → (works p o t).asks ≡ []
+  asks_none : (o : Around) (t : Thread) → (work_of_stage p o t).asks ≡ []
   asks_none o t = unasked o (in_stage t.stage p.stmts) _ (none_stage is_fetch t.stage p.stmts answered_here)
 
   none_fail : (st : State) (bits : List Bool) (older : List Act) (ts : List Thread) → list_any (λ (a : Act). a.moves && a.work.fails) (acts p st bits older ts) ≡ false
   none_fail st bits older [] = refl
   none_fail st bits older (t ∷ ts) =
-      ap₂ (λ c d. c || d) (ap (λ f. (act p st bits older t).moves && f) (fails_none (around p st bits older t.stage) (answered p st bits t)) ∙ at (act p st bits older t).moves)
+      ap₂ (λ c d. c || d) (ap (λ f. (act p st bits older t).moves && f) (fails_none (around p st bits older t.stage) (answered_thread p st bits t)) ∙ at (act p st bits older t).moves)
       (none_fail st bits (act p st bits older t ∷ older) ts)
     where
       at : (b : Bool) → (b && false) ≡ false
@@ -179,7 +179,7 @@ module _ (p : Pipe) (sound : Sound p) (single : length p.stages ≡ 1) where
     where
       at : (b : Bool) → asks_of (acts p st bits (act p st bits older t ∷ older) ts) ≡ []
           → cond b ((act p st bits older t).work.asks ++ asks_of (acts p st bits (act p st bits older t ∷ older) ts)) (asks_of (acts p st bits (act p st bits older t ∷ older) ts)) ≡ []
-      at true h = ap₂ (λ c d. c ++ d) (asks_none (around p st bits older t.stage) (answered p st bits t)) h
+      at true h = ap₂ (λ c d. c ++ d) (asks_none (around p st bits older t.stage) (answered_thread p st bits t)) h
       at false h = h
 
   -- between cycles the commits are the writes of the threads that ended
@@ -257,18 +257,18 @@ module _ (p : Pipe) (sound : Sound p) (single : length p.stages ≡ 1) where
 
 -- LINES
 
-puts_alike : (m : ℕ) (o : Option PortWrite) → puts_of (shown m o) ≡ put_of o
+puts_alike : (m : ℕ) (o : Option PortWrite) → puts_of (commit_shown m o) ≡ put_of o
 puts_alike m None = refl
 puts_alike m (Some e) = refl
 
 -- what each memory of a cycle shows
-puts_same : (f : ℕ → Option PortWrite) (ws : List Commit) (k : ℕ) (ms : List Tree.Mem) → ((j : ℕ) → j < length (mems_of ms) → shown (k + j) (f (k + j)) ≡ of_mem (k + j) ws)
+puts_same : (f : ℕ → Option PortWrite) (ws : List Commit) (k : ℕ) (ms : List Tree.Mem) → ((j : ℕ) → j < length (mems_of ms) → commit_shown (k + j) (f (k + j)) ≡ of_mem (k + j) ws)
     → puts_in (for_mems f k (mems_of ms)) ≡ by_mem k (columns ms) ws
 puts_same f ws k [] h = refl
 puts_same f ws k (m ∷ ms) h =
     ap₂ (λ a l. a ∷ l)
-    (sym (puts_alike k (f k)) ∙ ap puts_of (subst (λ i. shown i (f i) ≡ of_mem i ws) (let e : k + 0 ≡ k = omega arith in e) (h 0 (omega arith))))
-    (puts_same f ws (suc k) ms (λ j low. subst (λ i. shown i (f i) ≡ of_mem i ws) (let e : k + suc j ≡ suc k + j = omega arith in e) (h (suc j) (omega arith))))
+    (sym (puts_alike k (f k)) ∙ ap puts_of (subst (λ i. commit_shown i (f i) ≡ of_mem i ws) (let e : k + 0 ≡ k = omega arith in e) (h 0 (omega arith))))
+    (puts_same f ws (suc k) ms (λ j low. subst (λ i. commit_shown i (f i) ≡ of_mem i ws) (let e : k + suc j ≡ suc k + j = omega arith in e) (h (suc j) (omega arith))))
 
 -- a cycle that is a thread
 cycle_same : (p : Tree.Pipe) (st : Machine.State) (bits : List Bool) (ws : List Commit)
@@ -281,10 +281,10 @@ cycle_same p st bits ws h = λ i. record {
   squash = h.squash i;
 }
   where
-    each : (j : ℕ) → j < length (mems_of p.mems) → shown (0 + j) (Cycle.port_write (Cycle.taken_out st (Moves.movers (Moves.all_acts (flat p) st bits)) (0 + j))) ≡ of_mem (0 + j) ws
+    each : (j : ℕ) → j < length (mems_of p.mems) → commit_shown (0 + j) (Cycle.port_write (Cycle.taken_out st (Moves.movers (Moves.all_acts (flat p) st bits)) (0 + j))) ≡ of_mem (0 + j) ws
     each j low =
-        ap (shown (0 + j)) (sym (at_mem (λ m. Cycle.port_write (Cycle.taken_out st (Moves.movers (Moves.all_acts (flat p) st bits)) m)) 0 (mems_of p.mems) j None low))
-        ∙ subst (λ k. shown k (slice_index_or (for_mems (λ m. Cycle.port_write (Cycle.taken_out st (Moves.movers (Moves.all_acts (flat p) st bits)) m)) 0 (mems_of p.mems)) j None) ≡ of_mem k ws) (let e : j ≡ 0 + j = omega arith in e) (h.commits j)
+        ap (commit_shown (0 + j)) (sym (at_mem (λ m. Cycle.port_write (Cycle.taken_out st (Moves.movers (Moves.all_acts (flat p) st bits)) m)) 0 (mems_of p.mems) j None low))
+        ∙ subst (λ k. commit_shown k (slice_index_or (for_mems (λ m. Cycle.port_write (Cycle.taken_out st (Moves.movers (Moves.all_acts (flat p) st bits)) m)) 0 (mems_of p.mems)) j None) ≡ of_mem k ws) (let e : j ≡ 0 + j = omega arith in e) (h.commits j)
 
 cycles_same : (p : Tree.Pipe) (st : Machine.State) (schedule : List (List Bool)) (tss : List (List Commit)) → AreThreads (Cycle.turns_from (flat p) st schedule) tss
     → turn_cycles (Cycle.turns_from (flat p) st schedule) ≡ thread_cycles (columns p.mems) tss

@@ -7,7 +7,7 @@ use Rattle.pdl_semantics.proofs.Pipes.{one_stage, shared_guard, count_up, guess,
 use Rattle.pdl_semantics.proofs.Texts.{number, constant, variable, slice, plus, separator, bind, delayed_read, write, reserve, block, release, call, spec_call, verify, spec_check, spec_barrier, if_else, lock, comb, slow, pipe}
 use Rattle.pdl_semantics.specs.Flat.{Arrays, Pipe}
 use Rattle.pdl_derived.specs.Alone.{Refines, Advances, KeepsPace}
-use Rattle.pdl_facts.specs.SoundChecks.{sounds}
+use Rattle.pdl_facts.specs.SoundChecks.{passes_tests}
 use Rattle.pdl_turns.proofs.Courses.{Course}
 use Rattle.pdl_turns.proofs.CourseOf.{course}
 use Rattle.pdl_refinement.proofs.Follows.{refines, advances}
@@ -16,38 +16,38 @@ use Rattle.pdl_progress.proofs.Sounded.{sounded}
 use Rattle.pdl_theorems.proofs.Stated.{whole_refines, whole_advances, whole_paces}
 use Rattle.pdl_semantics.specs.Promises
 
-one_stage_sounds : sounds (flat one_stage) ≡ true
+one_stage_sounds : passes_tests (flat one_stage) ≡ true
 one_stage_sounds = refl
 
-guards_sound : sounds (flat shared_guard) ≡ true
+guards_sound : passes_tests (flat shared_guard) ≡ true
 guards_sound = refl
 
-queue_sounds : sounds (flat (count_up Queue 1)) ≡ true
+queue_sounds : passes_tests (flat (count_up Queue 1)) ≡ true
 queue_sounds = refl
 
-guess_sounds : sounds (flat (guess 3)) ≡ true
+guess_sounds : passes_tests (flat (guess 3)) ≡ true
 guess_sounds = refl
 
-far_barrier_sounds : sounds (flat far_barrier) ≡ true
+far_barrier_sounds : passes_tests (flat far_barrier) ≡ true
 far_barrier_sounds = refl
 
-copy_sounds : sounds (flat copy) ≡ true
+copy_sounds : passes_tests (flat copy) ≡ true
 copy_sounds = refl
 
-copy_guessed_sounds : sounds (flat copy_guessed) ≡ true
+copy_guessed_sounds : passes_tests (flat copy_guessed) ≡ true
 copy_guessed_sounds = refl
 
-count_slow_sounds : sounds (flat count_slow) ≡ true
+count_slow_sounds : passes_tests (flat count_slow) ≡ true
 count_slow_sounds = refl
 
-two_branches_sound : sounds (flat two_branches) ≡ true
+two_branches_sound : passes_tests (flat two_branches) ≡ true
 two_branches_sound = refl
 
 -- a second branch with statements in the fork's stage, which stand in the text behind later stages
-fork_text_sounds : sounds (flat (forked (separator ∷ separator ∷ []) (bind "w" (variable "n") ∷ separator ∷ []))) ≡ true
+fork_text_sounds : passes_tests (flat (forked (separator ∷ separator ∷ []) (bind "w" (variable "n") ∷ separator ∷ []))) ≡ true
 fork_text_sounds = refl
 
-one_branch_sounds : sounds (flat one_branch) ≡ true
+one_branch_sounds : passes_tests (flat one_branch) ≡ true
 one_branch_sounds = refl
 
 -- all at once: a guess, a fork with a delayed read in its first branch, and behind the merge a verify, a reserve and a release
@@ -59,7 +59,7 @@ everything =
     ∷ separator ∷ verify "s" (plus (variable "n") (constant 2 2))
     ∷ reserve "m" "n" W ∷ block "m" "n" ∷ write "m" "n" (constant 8 7) ∷ release "m" "n" ∷ [])
 
-everything_sounds : sounds (flat everything) ≡ true
+everything_sounds : passes_tests (flat everything) ≡ true
 everything_sounds = refl
 
 -- a delayed read on no path, behind the stage of the releases
@@ -69,7 +69,7 @@ dead_read =
     (bind "g" (slice "n" 0 0) ∷ reserve "m" "n" R ∷ block "m" "n" ∷ release "m" "n" ∷ call (plus (variable "n") (constant 2 1))
     ∷ separator ∷ if_else (variable "g") (if_else (variable "g") [] (delayed_read "x" "m" "n" ∷ []) ∷ []) [] ∷ separator ∷ [])
 
-dead_read_sounds : sounds (flat dead_read) ≡ true
+dead_read_sounds : passes_tests (flat dead_read) ≡ true
 dead_read_sounds = refl
 
 -- a delayed read before a fork, whose first branch has an `if` on it in a stage that the second passes over
@@ -79,19 +79,19 @@ passed_by =
     (bind "g" (slice "n" 0 0) ∷ delayed_read "x" "d" "n" ∷ call (plus (variable "n") (constant 2 1))
     ∷ if_else (variable "g") (separator ∷ if_else (variable "x") (bind "y" (constant 1 1) ∷ []) [] ∷ []) (separator ∷ separator ∷ []) ∷ separator ∷ [])
 
-passed_by_sounds : sounds (flat passed_by) ≡ true
+passed_by_sounds : passes_tests (flat passed_by) ≡ true
 passed_by_sounds = refl
 
 -- an `if` on a delayed read in its stage breaks a rule
-early_guard_fails : sounds (flat (pipe 2 (record (slow "d" 4 None) { width = number 1 } ∷ []) (delayed_read "x" "d" "n" ∷ call (plus (variable "n") (constant 2 1)) ∷ if_else (variable "x") (bind "y" (constant 1 1) ∷ []) [] ∷ separator ∷ []))) ≡ false
+early_guard_fails : passes_tests (flat (pipe 2 (record (slow "d" 4 None) { width = number 1 } ∷ []) (delayed_read "x" "d" "n" ∷ call (plus (variable "n") (constant 2 1)) ∷ if_else (variable "x") (bind "y" (constant 1 1) ∷ []) [] ∷ separator ∷ []))) ≡ false
 early_guard_fails = refl
 
 -- a barrier in a branch breaks a rule
-branch_barrier_fails : sounds (flat (forked (separator ∷ spec_barrier ∷ separator ∷ []) [])) ≡ false
+branch_barrier_fails : passes_tests (flat (forked (separator ∷ spec_barrier ∷ separator ∷ []) [])) ≡ false
 branch_barrier_fails = refl
 
 -- so both theorems hold of them with no premise left
-abbrev whole : (p : Pipe) → sounds p ≡ true → Course p
+abbrev whole : (p : Pipe) → passes_tests p ≡ true → Course p
 whole p h = course p (sounded p h)
 
 copy_guessed_refines : (image : Arrays) (schedule : List (List Bool)) → Refines (flat copy_guessed) image schedule

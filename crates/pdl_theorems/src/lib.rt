@@ -12,7 +12,7 @@ ghost use Rattle.pdl_semantics.specs.Lines.{run_lines, sequential_lines};
 ghost use Rattle.pdl_semantics.specs.Cycle.{turns};
 ghost use Rattle.pdl_semantics.specs.Promises.{Refines, Advances, KeepsPace};
 ghost use Rattle.pdl_facts.specs.Facts.{Sound};
-ghost use Rattle.pdl_facts.specs.SoundChecks.{sounds};
+ghost use Rattle.pdl_facts.specs.SoundChecks.{passes_tests};
 ghost use Rattle.pdl_derived.specs.Alone;
 ghost use Rattle.pdl_derived.specs.Simulation.{SameTurns};
 ghost use Rattle.pdl_derived.specs.OneStage.{AreThreads};
@@ -48,7 +48,7 @@ pub fn derived_whole()
 
 /// A pipe that passes the tests has the facts that the theorems take.
 pub fn facts()
-    ensures { (p : Pipe) → IsTrue (sounds p) → Sound p }
+    ensures { (p : Pipe) → IsTrue (passes_tests p) → Sound p }
 {}
 
 /// One stage: in a pipe of one stage each cycle is a whole thread, and the machine prints the lines of the sequential run.

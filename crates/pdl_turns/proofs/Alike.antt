@@ -2,14 +2,14 @@
 use Rattle.std.proofs.Common.{◌≡◌, ◌≢◌, refl, sym, ap, ◌∙◌, subst, ℕ, ◌≤◌, Bool, true, false, ◌&&◌, ◌||◌, not, List, [], ◌∷◌, Some, ◌==◌, slice_index, slice_set, cond, nat_le}
 use Rattle.std.proofs.lemmas.List.{get_or-set_other}
 use Rattle.std.proofs.lemmas.Bool.{eqb-true, eqb-false, leb-true, or_right as or_more}
-use Rattle.pdl_semantics.specs.Flat.{Arrays, Op, Bind, CombRead, DelayedRead, Write, ReserveWrite, Block, Release, Verify, Stmt, Guard, Pipe, value_of, values_of, taken, word_at}
+use Rattle.pdl_semantics.specs.Flat.{Arrays, Op, Bind, CombRead, DelayedRead, Write, ReserveWrite, Block, Release, Verify, Stmt, Guard, Pipe, value_of, values_of, all_hold, word_at}
 use Rattle.pdl_semantics.specs.Stages.{in_stage, mem_at, commit_stage, reserve_stage}
 use Rattle.pdl_semantics.specs.Machine.{same_args}
-use Rattle.pdl_derived.specs.Derived.{Work, Around, Entry, does, do_all, has, filled, without}
+use Rattle.pdl_derived.specs.Derived.{Work, Around, Entry, work_after, do_all, has_entry, with_entry_value, without}
 use Rattle.pdl_derived.specs.Alone.{Location}
 use Rattle.pdl_derived.proofs.Writes.{and_left, and_right}
 use Rattle.pdl_derived.proofs.Stages.{ReadsRight}
-use Rattle.pdl_facts.specs.Scans.{no_guards, is_plain, uses, opened, opens, opens_all, op_ok, reads_ok, Scan, location}
+use Rattle.pdl_facts.specs.Scans.{no_guards, is_plain, is_address, has_location, scan_after, scan_after_all, op_ok, reads_ok, Scan, location}
 use Rattle.pdl_word.proofs.Bools.{or_map}
 
 -- what the surroundings of a thread in stage s give where they are right for its turn; clean is what makes a location read right
@@ -26,7 +26,7 @@ Right p s clean (l ∷ ls) env =
 
 -- setting a variable that is no address keeps them right
 pub right_set : (p : Pipe) (s : ℕ) (clean : ℕ → ℕ → Type 0) (ls : List Location) (env : List ℕ) (x v : ℕ)
-    → not (uses ls x) ≡ true → Right p s clean ls env → Right p s clean ls (slice_set env x v)
+    → not (is_address ls x) ≡ true → Right p s clean ls env → Right p s clean ls (slice_set env x v)
 right_set p s clean [] env x v h r = tt
 right_set p s clean (l ∷ ls) env x v h r = (
   r.0,
@@ -34,22 +34,22 @@ right_set p s clean (l ∷ ls) env x v h r = (
   right_set p s clean ls env x v (later (l.var == x) h) r.2,
 )
   where
-    apart : (b : Bool) → (l.var == x) ≡ b → not (b || uses ls x) ≡ true → l.var ≢ x
+    apart : (b : Bool) → (l.var == x) ≡ b → not (b || is_address ls x) ≡ true → l.var ≢ x
     apart true e t q = cc
     apart false e t q = eqb-false l.var x e q
 
-    later : (b : Bool) → not (b || uses ls x) ≡ true → not (uses ls x) ≡ true
+    later : (b : Bool) → not (b || is_address ls x) ≡ true → not (is_address ls x) ≡ true
     later true t = cc
     later false t = t
 
 -- a location among them is clean
 pub right_at : (p : Pipe) (s : ℕ) (clean : ℕ → ℕ → Type 0) (ls : List Location) (env : List ℕ) (m a : ℕ)
-    → opened ls m a ≡ true → s ≤ commit_stage p m → Right p s clean ls env → (reserve_stage p m ≤ s) × clean m (slice_index env a)
+    → has_location ls m a ≡ true → s ≤ commit_stage p m → Right p s clean ls env → (reserve_stage p m ≤ s) × clean m (slice_index env a)
 right_at p s clean [] env m a h c r = absurd (cc h)
 right_at p s clean (l ∷ ls) env m a h c r = at (l.mem == m) refl (l.var == a) refl h (λ t. right_at p s clean ls env m a t c r.2)
   where
-    at : (b : Bool) → (l.mem == m) ≡ b → (d : Bool) → (l.var == a) ≡ d → ((b && d) || opened ls m a) ≡ true
-        → (opened ls m a ≡ true → (reserve_stage p m ≤ s) × clean m (slice_index env a))
+    at : (b : Bool) → (l.mem == m) ≡ b → (d : Bool) → (l.var == a) ≡ d → ((b && d) || has_location ls m a) ≡ true
+        → (has_location ls m a ≡ true → (reserve_stage p m ≤ s) × clean m (slice_index env a))
         → (reserve_stage p m ≤ s) × clean m (slice_index env a)
     at true e true f t rest = here (eqb-true l.mem m e) (eqb-true l.var a f)
       where
@@ -65,9 +65,9 @@ right_at p s clean (l ∷ ls) env m a h c r = at (l.mem == m) refl (l.var == a) 
 pub reads_right : (p : Pipe) (o : Around) (arrays : Arrays) (s : ℕ) (clean : ℕ → ℕ → Type 0) (c : Scan) (op : Op) (env : List ℕ)
     → Surrounds p o arrays s clean → op_ok p s c op ≡ true → Right p s clean c.blocked env → ReadsRight o arrays op env
 reads_right p o arrays s clean sc (CombRead x m a) env f h r =
-    at (is_plain (mem_at p m).lock) refl (opened sc.blocked m a) refl (nat_le s (commit_stage p m)) refl (and_right (not (uses sc.blocked x)) _ h)
+    at (is_plain (mem_at p m).lock) refl (has_location sc.blocked m a) refl (nat_le s (commit_stage p m)) refl (and_right (not (is_address sc.blocked x)) _ h)
   where
-    at : (b : Bool) → is_plain (mem_at p m).lock ≡ b → (c : Bool) → opened sc.blocked m a ≡ c → (d : Bool) → nat_le s (commit_stage p m) ≡ d
+    at : (b : Bool) → is_plain (mem_at p m).lock ≡ b → (c : Bool) → has_location sc.blocked m a ≡ c → (d : Bool) → nat_le s (commit_stage p m) ≡ d
         → (b || (c && d)) ≡ true → o.read m (slice_index env a) ≡ word_at arrays m (slice_index env a)
     at true e c g d i t = f.plain m (slice_index env a) e
     at false e true g true i t =
@@ -81,21 +81,21 @@ reads_right p o arrays s clean sc _ env f h r = tt
 
 -- what is pending was reserved
 abbrev pub Covers : List Location → List Entry → Type 0
-Covers ls es = (m a : ℕ) → has es m a ≡ true → opened ls m a ≡ true
+Covers ls es = (m a : ℕ) → has_entry es m a ≡ true → has_location ls m a ≡ true
 
-pub has_filled : (es : List Entry) (n b v m a : ℕ) → has (filled es n b v) m a ≡ has es m a
+pub has_filled : (es : List Entry) (n b v m a : ℕ) → has_entry (with_entry_value es n b v) m a ≡ has_entry es m a
 has_filled [] n b v m a = refl
 has_filled (e ∷ es) n b v m a = at ((e.mem == n) && (e.var == b)) (has_filled es n b v m a)
   where
-    at : (t : Bool) → has (filled es n b v) m a ≡ has es m a → has (cond t (record e { value = Some v } ∷ es) (e ∷ filled es n b v)) m a ≡ (((e.mem == m) && (e.var == a)) || has es m a)
+    at : (t : Bool) → has_entry (with_entry_value es n b v) m a ≡ has_entry es m a → has_entry (cond t (record e { value = Some v } ∷ es) (e ∷ with_entry_value es n b v)) m a ≡ (((e.mem == m) && (e.var == a)) || has_entry es m a)
     at true h = refl
     at false h = ap (λ t. ((e.mem == m) && (e.var == a)) || t) h
 
-has_without : (es : List Entry) (n b m a : ℕ) → has (without es n b) m a ≡ true → has es m a ≡ true
+has_without : (es : List Entry) (n b m a : ℕ) → has_entry (without es n b) m a ≡ true → has_entry es m a ≡ true
 has_without [] n b m a h = h
 has_without (e ∷ es) n b m a h = at ((e.mem == n) && (e.var == b)) h (has_without es n b m a)
   where
-    at : (t : Bool) → has (cond t es (e ∷ without es n b)) m a ≡ true → (has (without es n b) m a ≡ true → has es m a ≡ true) → (((e.mem == m) && (e.var == a)) || has es m a) ≡ true
+    at : (t : Bool) → has_entry (cond t es (e ∷ without es n b)) m a ≡ true → (has_entry (without es n b) m a ≡ true → has_entry es m a ≡ true) → (((e.mem == m) && (e.var == a)) || has_entry es m a) ≡ true
     at true k f = or_more _ _ k
     at false k f = or_map ((e.mem == m) && (e.var == a)) _ _ f k
 
@@ -107,20 +107,20 @@ covers_verified : (b : Bool) (x : List ℕ) (w : Work) → (cond b w (record w {
 covers_verified true x w = refl
 covers_verified false x w = refl
 
-pub covers_op : (o : Around) (c : Scan) (op : Op) (w : Work) → Covers c.held w.entries → Covers (opens op c).held (does o op w).entries
+pub covers_op : (o : Around) (c : Scan) (op : Op) (w : Work) → Covers c.held w.entries → Covers (scan_after op c).held (work_after o op w).entries
 covers_op o c (Write m a e) w f = λ n b h. f n b (sym (has_filled w.entries m a (value_of e w.env) n b) ∙ h)
 covers_op o c (ReserveWrite m a) w f = λ n b h. or_map ((m == n) && (a == b)) _ _ (f n b) h
-covers_op o c (Block m a) w f = covers_block (opened c.held m a) c (location m a) w.entries f
+covers_op o c (Block m a) w f = covers_block (has_location c.held m a) c (location m a) w.entries f
 covers_op o c (Release m a) w f = λ n b h. f n b (has_without w.entries m a n b h)
 covers_op o c (Verify args) w f = subst (λ es. Covers c.held es) (sym (covers_verified (same_args (values_of args w.env) w.guess) (values_of args w.env) w)) f
 covers_op o c _ w f = f
 
 -- a ready block makes its location clean, if it is one for reading
 block_right : (p : Pipe) (o : Around) (arrays : Arrays) (s : ℕ) (clean : ℕ → ℕ → Type 0) (c : Scan) (m a : ℕ) (w : Work) → Surrounds p o arrays s clean → Covers c.held w.entries → reserve_stage p m ≤ s
-    → cond (has w.entries m a) (o.can_write m (slice_index w.env a)) (o.can_read m (slice_index w.env a)) ≡ true → Right p s clean c.blocked w.env → Right p s clean (opens (Block m a) c).blocked w.env
-block_right p o arrays s clean c m a w f k low h r = at (has w.entries m a) refl (opened c.held m a) refl h
+    → cond (has_entry w.entries m a) (o.can_write m (slice_index w.env a)) (o.can_read m (slice_index w.env a)) ≡ true → Right p s clean c.blocked w.env → Right p s clean (scan_after (Block m a) c).blocked w.env
+block_right p o arrays s clean c m a w f k low h r = at (has_entry w.entries m a) refl (has_location c.held m a) refl h
   where
-    at : (b : Bool) → has w.entries m a ≡ b → (d : Bool) → opened c.held m a ≡ d → cond b (o.can_write m (slice_index w.env a)) (o.can_read m (slice_index w.env a)) ≡ true
+    at : (b : Bool) → has_entry w.entries m a ≡ b → (d : Bool) → has_location c.held m a ≡ d → cond b (o.can_write m (slice_index w.env a)) (o.can_read m (slice_index w.env a)) ≡ true
         → Right p s clean (cond d c (record { held = c.held; blocked = location m a ∷ c.blocked })).blocked w.env
     at b e true g i = r
     at true e false g i = absurd (cc (sym g ∙ k m a e))
@@ -128,10 +128,10 @@ block_right p o arrays s clean c m a w f k low h r = at (has w.entries m a) refl
 
 -- the blocked locations after a statement are still right
 pub right_after : (p : Pipe) (o : Around) (arrays : Arrays) (s : ℕ) (clean : ℕ → ℕ → Type 0) (c : Scan) (op : Op) (w : Work)
-    → Surrounds p o arrays s clean → Covers c.held w.entries → op_ok p s c op ≡ true → (does o op w).ready ≡ true → Right p s clean c.blocked w.env
-    → Right p s clean (opens op c).blocked (does o op w).env
+    → Surrounds p o arrays s clean → Covers c.held w.entries → op_ok p s c op ≡ true → (work_after o op w).ready ≡ true → Right p s clean c.blocked w.env
+    → Right p s clean (scan_after op c).blocked (work_after o op w).env
 right_after p o arrays s clean c (Bind x e) w f g h k r = right_set p s clean c.blocked w.env x (value_of e w.env) h r
-right_after p o arrays s clean c (CombRead x m a) w f g h k r = right_set p s clean c.blocked w.env x (o.read m (slice_index w.env a)) (and_left (not (uses c.blocked x)) _ h) r
+right_after p o arrays s clean c (CombRead x m a) w f g h k r = right_set p s clean c.blocked w.env x (o.read m (slice_index w.env a)) (and_left (not (is_address c.blocked x)) _ h) r
 right_after p o arrays s clean c (DelayedRead x m a) w f g h k r = absurd (cc h)
 right_after p o arrays s clean c (Block m a) w f g h k r = block_right p o arrays s clean c m a w f g (leb-true (reserve_stage p m) s h) (and_right w.ready _ k) r
 right_after p o arrays s clean c (Verify args) w f g h k r = at (same_args (values_of args w.env) w.guess)
@@ -154,13 +154,13 @@ in_stage_all s (x ∷ xs) = at (x.stage == s) refl (in_stage_all s xs)
     at true e r = (eqb-true x.stage s e, r)
     at false e r = r
 
-pub taken_none : (gs : List Guard) (env : List ℕ) → no_guards gs ≡ true → taken gs env ≡ true
+pub taken_none : (gs : List Guard) (env : List ℕ) → no_guards gs ≡ true → all_hold gs env ≡ true
 taken_none [] env h = refl
 taken_none (g ∷ gs) env h = cc
 
 -- what statements of a pipe leave pending was reserved by them
-pub covers_all : (p : Pipe) (o : Around) (c : Scan) (xs : List Stmt) (w : Work) → reads_ok p c xs ≡ true → Covers c.held w.entries → Covers (opens_all xs c).held (do_all o xs w).entries
+pub covers_all : (p : Pipe) (o : Around) (c : Scan) (xs : List Stmt) (w : Work) → reads_ok p c xs ≡ true → Covers c.held w.entries → Covers (scan_after_all xs c).held (do_all o xs w).entries
 covers_all p o c [] w h f = f
 covers_all p o c (x ∷ xs) w h f =
-    subst (λ v. Covers (opens_all xs (opens x.op c)).held (do_all o xs v).entries) (sym (ap (λ b. cond b (does o x.op w) w) (taken_none x.guards w.env (and_left _ _ (and_left _ _ h)))))
-    (covers_all p o (opens x.op c) xs (does o x.op w) (and_right _ _ h) (covers_op o c x.op w f))
+    subst (λ v. Covers (scan_after_all xs (scan_after x.op c)).held (do_all o xs v).entries) (sym (ap (λ b. cond b (work_after o x.op w) w) (taken_none x.guards w.env (and_left _ _ (and_left _ _ h)))))
+    (covers_all p o (scan_after x.op c) xs (work_after o x.op w) (and_right _ _ h) (covers_op o c x.op w f))

@@ -1,16 +1,16 @@
 -- A sound pipe of the whole language has the facts that the pipeline's proof takes.
 use Rattle.std.proofs.Common.{◌≡◌, ◌≢◌, refl, sym, ap, ap₂, ◌∙◌, subst, ℕ, zero, suc, ◌≤◌, ◌<◌, inl, inr, Bool, true, false, ◌&&◌, ◌||◌, not, List, [], ◌∷◌, length, Option, Some, None, is_some, ◌==◌, cond, arith, slice_index, lt-ltb, eq-eqb}
 use Rattle.std.proofs.lemmas.Bool.{eqb-true, eqb-false, ne_eqb}
-use Rattle.pdl_semantics.specs.Flat.{Arrays, Op, DelayedRead, Verify, SpecBarrier, Stmt, Pipe, Branch, values_of, taken}
+use Rattle.pdl_semantics.specs.Flat.{Arrays, Op, DelayedRead, Verify, SpecBarrier, Stmt, Pipe, Branch, values_of, all_hold}
 use Rattle.pdl_semantics.specs.Stages.{onpath, in_stage, stage_at, commit_stage, is_release, is_verify, verify_stage}
 use Rattle.pdl_semantics.specs.Machine.{Ask, same_args}
 use Rattle.pdl_semantics.specs.Sequential.{Run, thread}
-use Rattle.pdl_derived.specs.Derived.{Work, Around, Thread, works, does, do_all, find_ask}
-use Rattle.pdl_derived.specs.Alone.{alone, before, start_work, so_far, placed}
-use Rattle.pdl_facts.specs.Scans.{none_of, all_at, no_scan, opens_all}
+use Rattle.pdl_derived.specs.Derived.{Work, Around, Thread, work_of_stage, work_after, do_all, find_ask}
+use Rattle.pdl_derived.specs.Alone.{alone, before, start_work, so_far, thread_at}
+use Rattle.pdl_facts.specs.Scans.{none_of, all_at, no_scan, scan_after_all}
 use Rattle.pdl_facts.specs.Certain.{stands_at, stands_before, is_barrier}
 use Rattle.pdl_facts.specs.Graphs.{Trunk, next_of}
-use Rattle.pdl_facts.specs.Facts.{fetches_no, none_like, alone_op, fetch_apart, FetchOk, looked_all, at_once, visits, Sound}
+use Rattle.pdl_facts.specs.Facts.{fetches_no, none_like, alone_op, fetch_apart, FetchOk, looked_all, at_once, visits_stage, Sound}
 use Rattle.pdl_facts.specs.Accepted.{along}
 use Rattle.pdl_facts.specs.Facts.{trunk_only}
 use Rattle.pdl_derived.proofs.Writes.{and_left, and_right}
@@ -49,7 +49,7 @@ later_like x m q (y ∷ ys) e f h = ((λ d z n a i. one z n (ap (fetches_no x m)
     one z n k = ((λ i. differ x z (and_left _ _ k) (i ∙ e)), (λ i. differ m n (and_right (not (x == z)) _ k) (i ∙ f)))
 
 apart_op : (o : Around) (op : Op) (ys : List Stmt) (w : Work) → alone_op op ys ≡ true → Apart w.asks → AllAsks (λ q. ((x m a : ℕ) → op ≡ DelayedRead x m a → (x ≢ q.var) × (m ≢ q.mem)) × Later q ys) w.asks
-    → Apart (does o op w).asks × AllAsks (λ q. Later q ys) (does o op w).asks
+    → Apart (work_after o op w).asks × AllAsks (λ q. Later q ys) (work_after o op w).asks
 apart_op o (DelayedRead x m a) ys w h p l = (
   apart_snoc w.asks (record { mem = m; var = x; address = slice_index w.env a }) p (all_more _ (λ r. (r.var ≢ x) × (r.mem ≢ m)) w.asks (λ q k. ((λ i. (k.0 x m a refl).0 (sym i)), (λ i. (k.0 x m a refl).1 (sym i)))) l),
   all_snoc (λ q. Later q ys) w.asks (record { mem = m; var = x; address = slice_index w.env a }) (all_more _ (λ q. Later q ys) w.asks (λ q k. k.1) l) (later_like x m (record { mem = m; var = x; address = slice_index w.env a }) ys refl refl h),
@@ -64,9 +64,9 @@ apart_op o _ ys w h p l = (p, all_more _ (λ q. Later q ys) w.asks (λ q k. k.1)
 pub apart_asks : (o : Around) (ys : List Stmt) (w : Work) → fetch_apart ys ≡ true → Apart w.asks → AllAsks (λ q. Later q ys) w.asks → Apart (do_all o ys w).asks
 apart_asks o [] w h p l = p
 apart_asks o (y ∷ ys) w h p l =
-    let s = at (taken y.guards w.env) refl in apart_asks o ys (step o y w) (and_right (alone_op y.op ys) _ h) s.0 s.1
+    let s = at (all_hold y.guards w.env) refl in apart_asks o ys (step o y w) (and_right (alone_op y.op ys) _ h) s.0 s.1
   where
-    at : (b : Bool) → taken y.guards w.env ≡ b → Apart (cond b (does o y.op w) w).asks × AllAsks (λ q. Later q ys) (cond b (does o y.op w) w).asks
+    at : (b : Bool) → all_hold y.guards w.env ≡ b → Apart (cond b (work_after o y.op w) w).asks × AllAsks (λ q. Later q ys) (cond b (work_after o y.op w) w).asks
     at true e = apart_op o y.op ys w (and_left _ _ h) p (all_more _ (λ q. ((x m a : ℕ) → y.op ≡ DelayedRead x m a → (x ≢ q.var) × (m ≢ q.mem)) × Later q ys) w.asks (λ q k. (k.0 (alive y.guards w.env e), k.1)) l)
     at false e = (p, all_more _ (λ q. Later q ys) w.asks (λ q k. k.1) l)
 
@@ -202,20 +202,20 @@ module _ (p : Pipe) (acc : Sound p) where
           let w = moved_here s (Some (thread (along (thread (at_once p) arrays args).env (at_once p)) arrays args).next) true (Makes.wrong_at (at_once p) acc.pathwise (thread (at_once p) arrays args).env arrays args s x made_here wrong_here (verify_looked p.stmts ∙ wrong_made.1 ∙ ap Some (sym i))) in
           (w.0 ∙ ap (λ (r : Run). Some r.next) (sym whole), w.1)
 
-    fetched : (o : Around) (t : Thread) → AllAsks (λ q. FetchOk p acc.fetch t.stage q.var q.mem) (works p o t).asks
+    fetched : (o : Around) (t : Thread) → AllAsks (λ q. FetchOk p acc.fetch t.stage q.var q.mem) (work_of_stage p o t).asks
     fetched o t = asks_each (λ x m. FetchOk p acc.fetch t.stage x m) o (in_stage t.stage p.stmts) _ (fetch_each p acc.fetch t.stage (in_stage t.stage p.stmts) (acc.fetch_ok t.stage)) tt
 
-  roams_step : (o : Around) (t : Thread) → Roams p t → t.awaits ≡ [] → t.stage < v_of (verify_stage p.stmts) → (Trunk p t.stage → o.clear ≡ false) → (works p o t).ready ≡ true → Strayed p (Roams p) (has_made p) t (works p o t)
+  roams_step : (o : Around) (t : Thread) → Roams p t → t.awaits ≡ [] → t.stage < v_of (verify_stage p.stmts) → (Trunk p t.stage → o.clear ≡ false) → (work_of_stage p o t).ready ≡ true → Strayed p (Roams p) (has_made p) t (work_of_stage p o t)
   roams_step o t r done low clear ready = at (verify_stage p.stmts) refl
     where
       below_last : v_of (verify_stage p.stmts) < length p.stages → t.stage < v_of (verify_stage p.stmts) → t.stage < length p.stages
       below_last i j = omega arith
 
-      barred : (b : Option Branch) → (stage_at p t.stage).branch ≡ b → Barred o (onpath (works p o t).env (in_stage t.stage p.stmts))
+      barred : (b : Option Branch) → (stage_at p t.stage).branch ≡ b → Barred o (onpath (work_of_stage p o t).env (in_stage t.stage p.stmts))
       barred None e = inr (clear e)
-      barred (Some c) e = inl (none_onpath is_barrier (works p o t).env (in_stage t.stage p.stmts) (trunk_none is_barrier no_barrier (in_stage t.stage p.stmts) (acc.trunk_holds t.stage c e)))
+      barred (Some c) e = inl (none_onpath is_barrier (work_of_stage p o t).env (in_stage t.stage p.stmts) (trunk_none is_barrier no_barrier (in_stage t.stage p.stmts) (acc.trunk_holds t.stage c e)))
 
-      at : (v : Option ℕ) → verify_stage p.stmts ≡ v → Strayed p (Roams p) (has_made p) t (works p o t)
+      at : (v : Option ℕ) → verify_stage p.stmts ≡ v → Strayed p (Roams p) (has_made p) t (work_of_stage p o t)
       at None e = absurd (let i : t.stage < 0 = subst (λ v. t.stage < v_of v) e low in omega arith)
       at (Some v) e =
           let i : t.stage < v = subst (λ o. t.stage < v_of o) e low in
@@ -230,16 +230,16 @@ module _ (p : Pipe) (acc : Sound p) where
         locks = (acc.pathwise.paths []).locks;
         plain_from = (acc.pathwise.paths []).plain_from;
         plain_to = (acc.pathwise.paths []).plain_to;
-        on = λ arrays args s. (visits p (thread (at_once p) arrays args).env s ≡ true) × Reached p (thread (at_once p) arrays args).env s;
+        on = λ arrays args s. (visits_stage p (thread (at_once p) arrays args).env s ≡ true) × Reached p (thread (at_once p) arrays args).env s;
         on_start = λ arrays args. (Sounds.on_start p acc arrays args, (0, refl));
         on_next = λ arrays args s on low. (Sounds.on_next p acc arrays args s on.0 low, (suc on.1.0, Sounds.path_next p acc arrays args s ∙ ap (λ n. next_of p n (thread (at_once p) arrays args).env) on.1.1));
         start_so = λ arrays args. ap (λ l. do_all (alone arrays) l (start_work p args)) no_start;
-        start_blocked = λ arrays args. ap (λ l. (opens_all l no_scan).blocked) (before_path (thread p arrays args).env 0 p.stmts ∙ ap (onpath (thread p arrays args).env) no_start);
+        start_blocked = λ arrays args. ap (λ l. (scan_after_all l no_scan).blocked) (before_path (thread p arrays args).env 0 p.stmts ∙ ap (onpath (thread p arrays args).env) no_start);
         here_alike = λ arrays args o s clean on low f plain ready r. Sounds.here_alike p acc arrays args o s clean on.0 low f plain ready r;
         next_so = λ arrays args s on low. Sounds.next_values p acc arrays args s on.0 low;
         fetch = acc.fetch;
-        asks_at = λ o t m h. sym (found_one (λ n. acc.fetch n ≡ t.stage) (works p o t).asks m (all_more _ (λ q. acc.fetch q.mem ≡ t.stage) (works p o t).asks (λ q k. k.here) (fetched (λ n a. 0) [] o t)) h);
-        asks_ok = λ arrays args s on low. all_more _ (AskOk p acc.fetch s (next_at p arrays args s)) (stage_work p arrays args s).asks (λ q k. record { here = k.here; known = k.known; exact = k.exact; early = k.early (stage_work p arrays args s).env }) (fetched arrays args (alone arrays) (placed p arrays args s));
+        asks_at = λ o t m h. sym (found_one (λ n. acc.fetch n ≡ t.stage) (work_of_stage p o t).asks m (all_more _ (λ q. acc.fetch q.mem ≡ t.stage) (work_of_stage p o t).asks (λ q k. k.here) (fetched (λ n a. 0) [] o t)) h);
+        asks_ok = λ arrays args s on low. all_more _ (AskOk p acc.fetch s (next_at p arrays args s)) (stage_work p arrays args s).asks (λ q k. record { here = k.here; known = k.known; exact = k.exact; early = k.early (stage_work p arrays args s).env }) (fetched arrays args (alone arrays) (thread_at p arrays args s));
         asks_apart = λ arrays args s on low. apart_asks (alone arrays) (in_stage s p.stmts) _ (acc.fetch_alone s) tt tt;
         row_after = λ arrays args m. Sounds.row_after p acc arrays args m;
         quiet_at = λ o t m h. quiet m o (in_stage t.stage p.stmts) _ (none_in_stage (is_release m) (commit_stage p m) t.stage p.stmts (sym (all_at_looked m (commit_stage p m) p.stmts) ∙ acc.pathwise.releases m) h);

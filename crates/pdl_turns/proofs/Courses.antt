@@ -7,8 +7,8 @@ use Rattle.pdl_semantics.specs.Machine.{Ask, same_args}
 use Rattle.pdl_semantics.specs.Cycle.{awaited_of}
 use Rattle.pdl_semantics.specs.Sequential.{thread}
 use Rattle.pdl_semantics.specs.Promises.{wrote, row}
-use Rattle.pdl_derived.specs.Derived.{Work, Around, Thread, State, works, latest_in, fresh, find_ask, answered}
-use Rattle.pdl_derived.specs.Alone.{start_work, so_far, placed}
+use Rattle.pdl_derived.specs.Derived.{Work, Around, Thread, State, work_of_stage, latest_in, fresh, find_ask, answered_thread}
+use Rattle.pdl_derived.specs.Alone.{start_work, so_far, thread_at}
 use Rattle.pdl_facts.specs.Scans.{is_plain}
 use Rattle.pdl_facts.specs.Facts.{is_exact}
 use Rattle.pdl_turns.proofs.Alike.{Surrounds, Right}
@@ -55,8 +55,8 @@ pub record Course (p : Pipe) : Type 1 where
   pub start_blocked : (arrays : Arrays) (args : List ℕ) → blocked_at p arrays args 0 ≡ []
   pub here_alike : (arrays : Arrays) (args : List ℕ) (o : Around) (s : ℕ) (clean : ℕ → ℕ → Type 0)
       → on arrays args s → s < length p.stages → Surrounds p o arrays s clean → ((m a : ℕ) → is_plain (mem_at p m).lock ≡ true → clean m a)
-      → (works p o (placed p arrays args s)).ready ≡ true → Right p s clean (blocked_at p arrays args s) (so_far p arrays args s).env
-      → (works p o (placed p arrays args s) ≡ stage_work p arrays args s) × Right p s clean (blocked_at p arrays args (next_at p arrays args s)) (so_far p arrays args (next_at p arrays args s)).env
+      → (work_of_stage p o (thread_at p arrays args s)).ready ≡ true → Right p s clean (blocked_at p arrays args s) (so_far p arrays args s).env
+      → (work_of_stage p o (thread_at p arrays args s) ≡ stage_work p arrays args s) × Right p s clean (blocked_at p arrays args (next_at p arrays args s)) (so_far p arrays args (next_at p arrays args s)).env
       × AllAsks (λ q. clean q.mem q.address) (stage_work p arrays args s).asks
   pub next_so : (arrays : Arrays) (args : List ℕ) (s : ℕ) → on arrays args s → s < length p.stages
       → (caught arrays (stage_work p arrays args s).asks (stage_work p arrays args s).env ≡ (so_far p arrays args (next_at p arrays args s)).env)
@@ -64,12 +64,12 @@ pub record Course (p : Pipe) : Type 1 where
       × ((stage_work p arrays args s).guess ≡ (so_far p arrays args (next_at p arrays args s)).guess)
   -- its delayed reads; fetch m is the stage of those of m
   pub fetch : ℕ → ℕ
-  pub asks_at : (o : Around) (t : Thread) (m : ℕ) → is_some (find_ask (works p o t).asks m) ≡ true → t.stage ≡ fetch m
+  pub asks_at : (o : Around) (t : Thread) (m : ℕ) → is_some (find_ask (work_of_stage p o t).asks m) ≡ true → t.stage ≡ fetch m
   pub asks_ok : (arrays : Arrays) (args : List ℕ) (s : ℕ) → on arrays args s → s < length p.stages → AllAsks (AskOk p fetch s (next_at p arrays args s)) (stage_work p arrays args s).asks
   pub asks_apart : (arrays : Arrays) (args : List ℕ) (s : ℕ) → on arrays args s → s < length p.stages → Apart (stage_work p arrays args s).asks
   -- its writes
   pub row_after : (arrays : Arrays) (args : List ℕ) (m : ℕ) → row (thread p arrays args).arrays m ≡ wrote (row arrays m) (of_mem m (thread p arrays args).writes)
-  pub quiet_at : (o : Around) (t : Thread) (m : ℕ) → t.stage ≢ commit_stage p m → of_mem m (works p o t).commits ≡ []
+  pub quiet_at : (o : Around) (t : Thread) (m : ℕ) → t.stage ≢ commit_stage p m → of_mem m (work_of_stage p o t).commits ≡ []
   pub marks_start : (arrays : Arrays) (args : List ℕ) (m : ℕ) → strips m (marks p arrays args 0 m) ≡ of_mem m (thread p arrays args).writes
   pub marks_step : (arrays : Arrays) (args : List ℕ) (s m : ℕ) → on arrays args s → s < length p.stages → Later m (marks p arrays args s m) (of_mem m (stage_work p arrays args s).commits) (marks p arrays args (next_at p arrays args s) m)
   pub marks_seen : (arrays : Arrays) (args : List ℕ) (s m a : ℕ) (rest : Latest) → reserve_stage p m < s → latest_in (so_far p arrays args s).entries m a rest ≡ seen a (marks p arrays args s m) rest
@@ -94,5 +94,5 @@ pub record Course (p : Pipe) : Type 1 where
   pub stray : Thread → Type 0
   pub made : Thread → Bool
   pub stray_fresh : (args : List ℕ) → stray (fresh p args) × (made (fresh p args) ≡ false)
-  pub stray_answered : (st : State) (bits : List Bool) (t : Thread) → stray t → stray (answered p st bits t) × (made (answered p st bits t) ≡ made t)
-  pub stray_step : (o : Around) (t : Thread) → stray t → t.awaits ≡ [] → t.stage < v → (Trunk p t.stage → o.clear ≡ false) → (works p o t).ready ≡ true → Strayed p stray made t (works p o t)
+  pub stray_answered : (st : State) (bits : List Bool) (t : Thread) → stray t → stray (answered_thread p st bits t) × (made (answered_thread p st bits t) ≡ made t)
+  pub stray_step : (o : Around) (t : Thread) → stray t → t.awaits ≡ [] → t.stage < v → (Trunk p t.stage → o.clear ≡ false) → (work_of_stage p o t).ready ≡ true → Strayed p stray made t (work_of_stage p o t)

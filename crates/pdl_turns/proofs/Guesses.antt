@@ -1,11 +1,11 @@
 -- Who makes the next thread: a call, or a guess and the verify of it.
 use Rattle.std.proofs.Common.{◌≡◌, refl, sym, ap, ap₂, ◌∙◌, subst, ℕ, ◌<◌, Bool, true, false, ◌&&◌, ◌||◌, not, List, [], ◌∷◌, ◌++◌, Option, Some, None, is_some, ◌==◌, cond, if◌then◌else◌, arith, eq-eqb, ltb-true}
 use Rattle.std.proofs.lemmas.Bool.{eqb-true}
-use Rattle.pdl_semantics.specs.Flat.{Arrays, Op, Call, SpecCall, Verify, Stmt, Expr, values_of, taken}
+use Rattle.pdl_semantics.specs.Flat.{Arrays, Op, Call, SpecCall, Verify, Stmt, Expr, values_of, all_hold}
 use Rattle.pdl_semantics.specs.Stages.{is_verify}
 use Rattle.pdl_semantics.specs.Machine.{same_args}
-use Rattle.pdl_semantics.specs.Sequential.{Run, runs, run_all}
-use Rattle.pdl_derived.specs.Derived.{Work, Around, does, do_all}
+use Rattle.pdl_semantics.specs.Sequential.{Run, run_after, run_all}
+use Rattle.pdl_derived.specs.Derived.{Work, Around, work_after, do_all}
 use Rattle.pdl_derived.specs.Alone.{alone}
 use Rattle.pdl_facts.specs.Scans.{Phase, no_guards, phases_ok, all_at, none_of}
 use Rattle.pdl_facts.specs.Certain.{stands_at, stands_before, Making, Unmade, Guessed, Made, next_making, making_all, is_unmade, is_guessed, making_ok, makings_ok}
@@ -106,7 +106,7 @@ unverified_made v (x ∷ xs) h =
 abbrev pub Kept : Work → Work → Type 0
 Kept v w = (v.child ≡ w.child) × (v.fails ≡ w.fails) × (v.guess ≡ w.guess)
 
-settled_op : (o : Around) (v : Option ℕ) (k : Making) (s : ℕ) (op : Op) (w : Work) → is_unmade k ≡ false → making_ok v k s op ≡ true → not (is_verify op) ≡ true → Kept (does o op w) w × (next_making k op ≡ k)
+settled_op : (o : Around) (v : Option ℕ) (k : Making) (s : ℕ) (op : Op) (w : Work) → is_unmade k ≡ false → making_ok v k s op ≡ true → not (is_verify op) ≡ true → Kept (work_after o op w) w × (next_making k op ≡ k)
 settled_op o v k s (Call args) w u h n = absurd (clash (sym u ∙ h))
   where
     clash : false ≡ true → ⊥
@@ -127,11 +127,11 @@ settled o v k [] w u h n = ((refl, refl, refl), refl)
 settled o v k (x ∷ xs) w u h n =
     let here = settled_op o v k x.stage x.op w u (and_left _ _ h) (and_left _ _ n) in
     let rest = settled o v k xs (step o x w) u (subst (λ j. makings_ok v j xs ≡ true) here.1 (and_right (making_ok v k x.stage x.op) _ h)) (and_right (not (is_verify x.op)) _ n) in
-    let one = kept_step (taken x.guards w.env) (does o x.op w) w here.0 in
+    let one = kept_step (all_hold x.guards w.env) (work_after o x.op w) w here.0 in
     ((rest.0.0 ∙ one.0, rest.0.1 ∙ one.1, rest.0.2 ∙ one.2), ap (λ j. making_all j xs) here.1 ∙ rest.1)
 
 -- nor is the next arguments' value changed
-run_op_settled : (v : Option ℕ) (k : Making) (s : ℕ) (op : Op) (r : Run) → is_unmade k ≡ false → making_ok v k s op ≡ true → not (is_verify op) ≡ true → (runs op r).next ≡ r.next
+run_op_settled : (v : Option ℕ) (k : Making) (s : ℕ) (op : Op) (r : Run) → is_unmade k ≡ false → making_ok v k s op ≡ true → not (is_verify op) ≡ true → (run_after op r).next ≡ r.next
 run_op_settled v k s (Call args) r u h n = absurd (clash (sym u ∙ h))
   where
     clash : false ≡ true → ⊥
@@ -143,28 +143,28 @@ pub run_settled : (v : Option ℕ) (k : Making) (xs : List Stmt) (r : Run) → i
 run_settled v k [] r u h n = refl
 run_settled v k (x ∷ xs) r u h n =
     let here = settled_op (alone r.arrays) v k x.stage x.op (record { env = []; entries = []; guess = []; asks = []; commits = []; child = None; fails = false; ready = true }) u (and_left _ _ h) (and_left _ _ n) in
-    run_settled v k xs (if taken x.guards r.env then runs x.op r else r) u (subst (λ j. makings_ok v j xs ≡ true) here.1 (and_right (making_ok v k x.stage x.op) _ h)) (and_right (not (is_verify x.op)) _ n)
-    ∙ at (taken x.guards r.env)
+    run_settled v k xs (if all_hold x.guards r.env then run_after x.op r else r) u (subst (λ j. makings_ok v j xs ≡ true) here.1 (and_right (making_ok v k x.stage x.op) _ h)) (and_right (not (is_verify x.op)) _ n)
+    ∙ at (all_hold x.guards r.env)
   where
-    at : (b : Bool) → (cond b (runs x.op r) r).next ≡ r.next
+    at : (b : Bool) → (cond b (run_after x.op r) r).next ≡ r.next
     at true = run_op_settled v k x.stage x.op r u (and_left _ _ h) (and_left _ _ n)
     at false = refl
 
 -- without a verify nothing fails
-pub fails_op : (o : Around) (op : Op) (w : Work) → not (is_verify op) ≡ true → (does o op w).fails ≡ w.fails
+pub fails_op : (o : Around) (op : Op) (w : Work) → not (is_verify op) ≡ true → (work_after o op w).fails ≡ w.fails
 fails_op o (Verify args) w n = absurd (cc n)
 fails_op o _ w n = refl
 
 pub unfailed : (o : Around) (xs : List Stmt) (w : Work) → none_of is_verify xs ≡ true → (do_all o xs w).fails ≡ w.fails
 unfailed o [] w n = refl
-unfailed o (x ∷ xs) w n = unfailed o xs (step o x w) (and_right (not (is_verify x.op)) _ n) ∙ at (taken x.guards w.env)
+unfailed o (x ∷ xs) w n = unfailed o xs (step o x w) (and_right (not (is_verify x.op)) _ n) ∙ at (all_hold x.guards w.env)
   where
-    at : (b : Bool) → (cond b (does o x.op w) w).fails ≡ w.fails
+    at : (b : Bool) → (cond b (work_after o x.op w) w).fails ≡ w.fails
     at true = fails_op o x.op w (and_left _ _ n)
     at false = refl
 
 -- who had made nothing has a new thread where the scan says so
-begins_op : (o : Around) (op : Op) (w : Work) → not (is_verify op) ≡ true → w.child ≡ None → is_unmade (next_making Unmade op) ≡ not (is_some (does o op w).child)
+begins_op : (o : Around) (op : Op) (w : Work) → not (is_verify op) ≡ true → w.child ≡ None → is_unmade (next_making Unmade op) ≡ not (is_some (work_after o op w).child)
 begins_op o (Call args) w n e = refl
 begins_op o (SpecCall args) w n e = refl
 begins_op o (Verify args) w n e = absurd (cc n)
@@ -175,16 +175,16 @@ abbrev pub unguarded : List Stmt → Bool
 unguarded [] = true
 unguarded (x ∷ xs) = no_guards x.guards && unguarded xs
 
-pub step_free : (o : Around) (x : Stmt) (w : Work) → no_guards x.guards ≡ true → step o x w ≡ does o x.op w
-step_free o x w h = ap (λ b. cond b (does o x.op w) w) (taken_none x.guards w.env h)
+pub step_free : (o : Around) (x : Stmt) (w : Work) → no_guards x.guards ≡ true → step o x w ≡ work_after o x.op w
+step_free o x w h = ap (λ b. cond b (work_after o x.op w) w) (taken_none x.guards w.env h)
 
 pub begins : (o : Around) (v : Option ℕ) (xs : List Stmt) (w : Work) → w.child ≡ None → makings_ok v Unmade xs ≡ true → none_of is_verify xs ≡ true → unguarded xs ≡ true → is_unmade (making_all Unmade xs) ≡ not (is_some (do_all o xs w).child)
 begins o v [] w e h n g = ap (λ c. not (is_some c)) (sym e)
 begins o v (x ∷ xs) w e h n g =
-    at (next_making Unmade x.op) refl (λ c k. begins o v xs (does o x.op w) c k none_left (and_right (no_guards x.guards) _ g))
+    at (next_making Unmade x.op) refl (λ c k. begins o v xs (work_after o x.op w) c k none_left (and_right (no_guards x.guards) _ g))
     ∙ ap (λ (u : Work). not (is_some (do_all o xs u).child)) (sym (step_free o x w (and_left _ _ g)))
   where
-    one : is_unmade (next_making Unmade x.op) ≡ not (is_some (does o x.op w).child)
+    one : is_unmade (next_making Unmade x.op) ≡ not (is_some (work_after o x.op w).child)
     one = begins_op o x.op w (and_left _ _ n) e
 
     rest : makings_ok v (next_making Unmade x.op) xs ≡ true
@@ -193,9 +193,9 @@ begins o v (x ∷ xs) w e h n g =
     none_left : none_of is_verify xs ≡ true
     none_left = and_right (not (is_verify x.op)) _ n
 
-    after : (k : Making) → next_making Unmade x.op ≡ k → is_unmade k ≡ false → is_unmade (making_all k xs) ≡ not (is_some (do_all o xs (does o x.op w)).child)
+    after : (k : Making) → next_making Unmade x.op ≡ k → is_unmade k ≡ false → is_unmade (making_all k xs) ≡ not (is_some (do_all o xs (work_after o x.op w)).child)
     after k f u =
-        let s = settled o v k xs (does o x.op w) u (subst (λ j. makings_ok v j xs ≡ true) f rest) none_left in
+        let s = settled o v k xs (work_after o x.op w) u (subst (λ j. makings_ok v j xs ≡ true) f rest) none_left in
         ap is_unmade s.1 ∙ u ∙ sym u ∙ ap is_unmade (sym f) ∙ one ∙ ap (λ c. not (is_some c)) (sym s.0.0)
 
     none : (c : Option (List ℕ)) → true ≡ not (is_some c) → c ≡ None
@@ -203,10 +203,10 @@ begins o v (x ∷ xs) w e h n g =
     none (Some y) i = absurd (cc i)
 
     at : (k : Making) → next_making Unmade x.op ≡ k
-        → ((does o x.op w).child ≡ None → makings_ok v Unmade xs ≡ true → is_unmade (making_all Unmade xs) ≡ not (is_some (do_all o xs (does o x.op w)).child))
-        → is_unmade (making_all (next_making Unmade x.op) xs) ≡ not (is_some (do_all o xs (does o x.op w)).child)
+        → ((work_after o x.op w).child ≡ None → makings_ok v Unmade xs ≡ true → is_unmade (making_all Unmade xs) ≡ not (is_some (do_all o xs (work_after o x.op w)).child))
+        → is_unmade (making_all (next_making Unmade x.op) xs) ≡ not (is_some (do_all o xs (work_after o x.op w)).child)
     at Unmade f go =
-        ap (λ j. is_unmade (making_all j xs)) f ∙ go (none (does o x.op w).child (ap is_unmade (sym f) ∙ one)) (subst (λ j. makings_ok v j xs ≡ true) f rest)
+        ap (λ j. is_unmade (making_all j xs)) f ∙ go (none (work_after o x.op w).child (ap is_unmade (sym f) ∙ one)) (subst (λ j. makings_ok v j xs ≡ true) f rest)
     at Guessed f go = ap (λ j. is_unmade (making_all j xs)) f ∙ after Guessed f refl
     at Made f go = ap (λ j. is_unmade (making_all j xs)) f ∙ after Made f refl
 
@@ -219,7 +219,7 @@ Calls Guessed child guess next = child ≡ Some guess
 Calls Made child guess next = child ≡ Some next
 
 calls_op : (o : Around) (v : Option ℕ) (k : Making) (s : ℕ) (op : Op) (w : Work) (r : Run) → making_ok v k s op ≡ true → w.env ≡ r.env → Calls k w.child w.guess r.next
-    → Calls (next_making k op) (does o op w).child (does o op w).guess (runs op r).next
+    → Calls (next_making k op) (work_after o op w).child (work_after o op w).guess (run_after op r).next
 calls_op o v k s (Call args) w r h e c = ap (λ l. Some (values_of args l)) e
 calls_op o v k s (SpecCall args) w r h e c = refl
 calls_op o v k s (Verify args) w r h e c = by k c (and_left _ _ h)
@@ -228,7 +228,7 @@ calls_op o v k s (Verify args) w r h e c = by k c (and_left _ _ h)
     at true i c = c ∙ ap Some (sym (same_args_eq _ _ i)) ∙ ap (λ l. Some (values_of args l)) e
     at false i c = ap (λ l. Some (values_of args l)) e
 
-    by : (k : Making) → Calls k w.child w.guess r.next → is_guessed k ≡ true → (does o (Verify args) w).child ≡ Some (values_of args r.env)
+    by : (k : Making) → Calls k w.child w.guess r.next → is_guessed k ≡ true → (work_after o (Verify args) w).child ≡ Some (values_of args r.env)
     by Unmade c i = absurd (cc i)
     by Guessed c i = at (same_args (values_of args w.env) w.guess) refl c
     by Made c i = absurd (cc i)
@@ -238,9 +238,9 @@ pub calls_all : (arrays : Arrays) (v : Option ℕ) (xs : List Stmt) (ph : ℕ �
     → Calls (making_all k xs) (do_all (alone arrays) xs w).child (do_all (alone arrays) xs w).guess (run_all xs r).next
 calls_all arrays v [] ph k w r ok h rel c = c
 calls_all arrays v (x ∷ xs) ph k w r ok h rel c =
-    subst (λ (u : Work). Calls (making_all (next_making k x.op) xs) (do_all (alone arrays) xs u).child (do_all (alone arrays) xs u).guess (run_all xs (cond (taken x.guards r.env) (runs x.op r) r)).next) (sym (step_free (alone arrays) x w free))
-    (subst (λ (u : Run). Calls (making_all (next_making k x.op) xs) (do_all (alone arrays) xs (does (alone arrays) x.op w)).child (do_all (alone arrays) xs (does (alone arrays) x.op w)).guess (run_all xs u).next) (sym (ap (λ b. cond b (runs x.op r) r) (taken_none x.guards r.env free)))
-    (calls_all arrays v xs (next_phases ph x.op) (next_making k x.op) (does (alone arrays) x.op w) (runs x.op r) (λ m. and_right _ _ (ok m)) (and_right (making_ok v k x.stage x.op) _ h)
+    subst (λ (u : Work). Calls (making_all (next_making k x.op) xs) (do_all (alone arrays) xs u).child (do_all (alone arrays) xs u).guess (run_all xs (cond (all_hold x.guards r.env) (run_after x.op r) r)).next) (sym (step_free (alone arrays) x w free))
+    (subst (λ (u : Run). Calls (making_all (next_making k x.op) xs) (do_all (alone arrays) xs (work_after (alone arrays) x.op w)).child (do_all (alone arrays) xs (work_after (alone arrays) x.op w)).guess (run_all xs u).next) (sym (ap (λ b. cond b (run_after x.op r) r) (taken_none x.guards r.env free)))
+    (calls_all arrays v xs (next_phases ph x.op) (next_making k x.op) (work_after (alone arrays) x.op w) (run_after x.op r) (λ m. and_right _ _ (ok m)) (and_right (making_ok v k x.stage x.op) _ h)
     (related_step arrays ph x.op w r (λ m. and_right _ _ (and_left _ _ (ok m))) rel)
     (calls_op (alone arrays) v k x.stage x.op w r (and_left _ _ h) rel.env c)))
   where
@@ -261,15 +261,15 @@ verified_kept Made v u w n h f = (f.0 ∙ ap₂ (λ g c. cond (same_args n g) c 
 -- a work and a run whose values stay the same over these statements
 abbrev pub Along : Arrays → List Stmt → Work → Run → Type 0
 Along arrays [] w r = w.env ≡ r.env
-Along arrays (x ∷ xs) w r = (w.env ≡ r.env) × Along arrays xs (step (alone arrays) x w) (if taken x.guards r.env then runs x.op r else r)
+Along arrays (x ∷ xs) w r = (w.env ≡ r.env) × Along arrays xs (step (alone arrays) x w) (if all_hold x.guards r.env then run_after x.op r else r)
 
 pub along_all : (arrays : Arrays) (xs : List Stmt) (ph : ℕ → Phase) (w : Work) (r : Run) → ((m : ℕ) → phases_ok m (ph m) xs ≡ true) → Related arrays ph w r → Along arrays xs w r
 along_all arrays [] ph w r ok rel = rel.env
 along_all arrays (x ∷ xs) ph w r ok rel = (
   rel.env,
-  subst (λ (u : Work). Along arrays xs u (if taken x.guards r.env then runs x.op r else r)) (sym (step_free (alone arrays) x w free))
-      (subst (λ (u : Run). Along arrays xs (does (alone arrays) x.op w) u) (sym (ap (λ b. cond b (runs x.op r) r) (taken_none x.guards r.env free)))
-      (along_all arrays xs (next_phases ph x.op) (does (alone arrays) x.op w) (runs x.op r) (λ m. and_right _ _ (ok m)) (related_step arrays ph x.op w r (λ m. and_right _ _ (and_left _ _ (ok m))) rel))),
+  subst (λ (u : Work). Along arrays xs u (if all_hold x.guards r.env then run_after x.op r else r)) (sym (step_free (alone arrays) x w free))
+      (subst (λ (u : Run). Along arrays xs (work_after (alone arrays) x.op w) u) (sym (ap (λ b. cond b (run_after x.op r) r) (taken_none x.guards r.env free)))
+      (along_all arrays xs (next_phases ph x.op) (work_after (alone arrays) x.op w) (run_after x.op r) (λ m. and_right _ _ (ok m)) (related_step arrays ph x.op w r (λ m. and_right _ _ (and_left _ _ (ok m))) rel))),
 )
   where
     free : no_guards x.guards ≡ true
@@ -279,33 +279,33 @@ pub along_joined : (arrays : Arrays) (xs : List Stmt) (w v : Work) (r : Run) →
 along_joined arrays [] w v r h = h
 along_joined arrays (x ∷ xs) w v r h = (
   h.0,
-  along_joined arrays xs w (step (alone arrays) x v) (if taken x.guards r.env then runs x.op r else r) (subst (λ u. Along arrays xs u (if taken x.guards r.env then runs x.op r else r)) (step_joined (taken x.guards v.env) (alone arrays) x.op w v) h.1),
+  along_joined arrays xs w (step (alone arrays) x v) (if all_hold x.guards r.env then run_after x.op r else r) (subst (λ u. Along arrays xs u (if all_hold x.guards r.env then run_after x.op r else r)) (step_joined (all_hold x.guards v.env) (alone arrays) x.op w v) h.1),
 )
 
-along_free : (arrays : Arrays) (x : Stmt) (xs : List Stmt) (w : Work) (r : Run) → no_guards x.guards ≡ true → Along arrays (x ∷ xs) w r → Along arrays xs (does (alone arrays) x.op w) (runs x.op r)
+along_free : (arrays : Arrays) (x : Stmt) (xs : List Stmt) (w : Work) (r : Run) → no_guards x.guards ≡ true → Along arrays (x ∷ xs) w r → Along arrays xs (work_after (alone arrays) x.op w) (run_after x.op r)
 along_free arrays x xs w r free h =
-    subst (λ (u : Work). Along arrays xs u (runs x.op r)) (step_free (alone arrays) x w free)
-    (subst (λ (u : Run). Along arrays xs (step (alone arrays) x w) u) (ap (λ b. cond b (runs x.op r) r) (taken_none x.guards r.env free)) h.1)
+    subst (λ (u : Work). Along arrays xs u (run_after x.op r)) (step_free (alone arrays) x w free)
+    (subst (λ (u : Run). Along arrays xs (step (alone arrays) x w) u) (ap (λ b. cond b (run_after x.op r) r) (taken_none x.guards r.env free)) h.1)
 
 -- the end of a guess, over the statements of a path
 pub verified_all : (arrays : Arrays) (v : Option ℕ) (xs : List Stmt) (w : Work) (r : Run) → unguarded xs ≡ true → makings_ok v Guessed xs ≡ true → Along arrays xs w r
     → Verified (making_all Guessed xs) (do_all (alone arrays) xs w) w (run_all xs r).next
 verified_all arrays v [] w r g h rel = (refl, refl, refl)
 verified_all arrays v (x ∷ xs) w r g h rel =
-    subst (λ (u : Work). Verified (making_all (next_making Guessed x.op) xs) (do_all (alone arrays) xs u) w (run_all xs (cond (taken x.guards r.env) (runs x.op r) r)).next) (sym (step_free (alone arrays) x w free))
-    (subst (λ (u : Run). Verified (making_all (next_making Guessed x.op) xs) (do_all (alone arrays) xs (does (alone arrays) x.op w)) w (run_all xs u).next) (sym (ap (λ b. cond b (runs x.op r) r) (taken_none x.guards r.env free)))
-    (by x.op (and_left _ _ h) (and_right (making_ok v Guessed x.stage x.op) _ h) (λ h'. verified_all arrays v xs (does (alone arrays) x.op w) (runs x.op r) (and_right (no_guards x.guards) _ g) h' (along_free arrays x xs w r free rel))))
+    subst (λ (u : Work). Verified (making_all (next_making Guessed x.op) xs) (do_all (alone arrays) xs u) w (run_all xs (cond (all_hold x.guards r.env) (run_after x.op r) r)).next) (sym (step_free (alone arrays) x w free))
+    (subst (λ (u : Run). Verified (making_all (next_making Guessed x.op) xs) (do_all (alone arrays) xs (work_after (alone arrays) x.op w)) w (run_all xs u).next) (sym (ap (λ b. cond b (run_after x.op r) r) (taken_none x.guards r.env free)))
+    (by x.op (and_left _ _ h) (and_right (making_ok v Guessed x.stage x.op) _ h) (λ h'. verified_all arrays v xs (work_after (alone arrays) x.op w) (run_after x.op r) (and_right (no_guards x.guards) _ g) h' (along_free arrays x xs w r free rel))))
   where
     free : no_guards x.guards ≡ true
     free = and_left _ _ g
 
     plain : (op : Op) → making_ok v Guessed x.stage op ≡ true → makings_ok v (next_making Guessed op) xs ≡ true
-        → (makings_ok v Guessed xs ≡ true → Verified (making_all Guessed xs) (do_all (alone arrays) xs (does (alone arrays) op w)) (does (alone arrays) op w) (run_all xs (runs op r)).next)
-        → not (is_verify op) ≡ true → Verified (making_all (next_making Guessed op) xs) (do_all (alone arrays) xs (does (alone arrays) op w)) w (run_all xs (runs op r)).next
+        → (makings_ok v Guessed xs ≡ true → Verified (making_all Guessed xs) (do_all (alone arrays) xs (work_after (alone arrays) op w)) (work_after (alone arrays) op w) (run_all xs (run_after op r)).next)
+        → not (is_verify op) ≡ true → Verified (making_all (next_making Guessed op) xs) (do_all (alone arrays) xs (work_after (alone arrays) op w)) w (run_all xs (run_after op r)).next
     plain op i rest go n =
         let s = settled_op (alone arrays) v Guessed x.stage op w refl i n in
-        subst (λ k. Verified (making_all k xs) (do_all (alone arrays) xs (does (alone arrays) op w)) w (run_all xs (runs op r)).next) (sym s.1)
-        (verified_kept (making_all Guessed xs) _ (does (alone arrays) op w) w _ s.0 (go (subst (λ k. makings_ok v k xs ≡ true) s.1 rest)))
+        subst (λ k. Verified (making_all k xs) (do_all (alone arrays) xs (work_after (alone arrays) op w)) w (run_all xs (run_after op r)).next) (sym s.1)
+        (verified_kept (making_all Guessed xs) _ (work_after (alone arrays) op w) w _ s.0 (go (subst (λ k. makings_ok v k xs ≡ true) s.1 rest)))
 
     at : (args : List Expr) (b : Bool) → same_args (values_of args w.env) w.guess ≡ b
         → ((cond b w (record w { child = Some (values_of args w.env); fails = true })).child ≡ cond b w.child (Some (values_of args w.env))) × ((cond b w (record w { child = Some (values_of args w.env); fails = true })).fails ≡ cond b w.fails true)
@@ -313,13 +313,13 @@ verified_all arrays v (x ∷ xs) w r g h rel =
     at args false e = (refl, refl)
 
     by : (op : Op) → making_ok v Guessed x.stage op ≡ true → makings_ok v (next_making Guessed op) xs ≡ true
-        → (makings_ok v Guessed xs ≡ true → Verified (making_all Guessed xs) (do_all (alone arrays) xs (does (alone arrays) op w)) (does (alone arrays) op w) (run_all xs (runs op r)).next)
-        → Verified (making_all (next_making Guessed op) xs) (do_all (alone arrays) xs (does (alone arrays) op w)) w (run_all xs (runs op r)).next
+        → (makings_ok v Guessed xs ≡ true → Verified (making_all Guessed xs) (do_all (alone arrays) xs (work_after (alone arrays) op w)) (work_after (alone arrays) op w) (run_all xs (run_after op r)).next)
+        → Verified (making_all (next_making Guessed op) xs) (do_all (alone arrays) xs (work_after (alone arrays) op w)) w (run_all xs (run_after op r)).next
     by (Verify args) i rest go =
         let none = unverified_made v xs rest in
-        let s = settled (alone arrays) v Made xs (does (alone arrays) (Verify args) w) refl rest none in
+        let s = settled (alone arrays) v Made xs (work_after (alone arrays) (Verify args) w) refl rest none in
         let one = at args (same_args (values_of args w.env) w.guess) refl in
-        let n : (run_all xs (runs (Verify args) r)).next ≡ values_of args w.env = run_settled v Made xs (runs (Verify args) r) refl rest none ∙ ap (values_of args) (sym rel.0) in
-        subst (λ k. Verified k (do_all (alone arrays) xs (does (alone arrays) (Verify args) w)) w (run_all xs (runs (Verify args) r)).next) (sym s.1)
-        (subst (λ l. Verified Made (do_all (alone arrays) xs (does (alone arrays) (Verify args) w)) w l) (sym n) (s.0.0 ∙ one.0, s.0.1 ∙ one.1))
+        let n : (run_all xs (run_after (Verify args) r)).next ≡ values_of args w.env = run_settled v Made xs (run_after (Verify args) r) refl rest none ∙ ap (values_of args) (sym rel.0) in
+        subst (λ k. Verified k (do_all (alone arrays) xs (work_after (alone arrays) (Verify args) w)) w (run_all xs (run_after (Verify args) r)).next) (sym s.1)
+        (subst (λ l. Verified Made (do_all (alone arrays) xs (work_after (alone arrays) (Verify args) w)) w l) (sym n) (s.0.0 ∙ one.0, s.0.1 ∙ one.1))
     by op i rest go = plain op i rest go refl

@@ -4,8 +4,8 @@ use Rattle.pdl_semantics.specs.Flat.{Arrays, Stmt, Pipe}
 use Rattle.pdl_semantics.specs.Stages.{onpath, in_stage, is_verify, verify_stage}
 use Rattle.pdl_semantics.specs.Machine.{same_args}
 use Rattle.pdl_semantics.specs.Sequential.{Run, run_all, thread}
-use Rattle.pdl_derived.specs.Derived.{Around, works}
-use Rattle.pdl_derived.specs.Alone.{alone, before, start_work, so_far, placed}
+use Rattle.pdl_derived.specs.Derived.{Around, work_of_stage}
+use Rattle.pdl_derived.specs.Alone.{alone, before, start_work, so_far, thread_at}
 use Rattle.pdl_facts.specs.Scans.{Phase, Fresh, no_guards, next_phase, phase_ok, phases_ok, phase_all, from, none_of}
 use Rattle.pdl_facts.specs.Certain.{stands_at, Making, Unmade, Guessed, Made, making_all, is_unmade, is_guessed, is_made, makings_ok}
 use Rattle.pdl_facts.specs.Accepted.{Pathwise, along}
@@ -115,7 +115,7 @@ module _ (p : Pipe) (acc : Pathwise p) (path : List ℕ) (arrays : Arrays) (args
 
   -- a stage without V's verify, of a thread that has made one, makes nothing
   pub no_second : (o : Around) (s : ℕ) (x : List ℕ) → (so_far (along path p) arrays args s).child ≡ Some x → stands_at (verify_stage p.stmts) s ≡ false
-      → ((works (along path p) o (placed (along path p) arrays args s)).child ≡ None) × ((works (along path p) o (placed (along path p) arrays args s)).fails ≡ false)
+      → ((work_of_stage (along path p) o (thread_at (along path p) arrays args s)).child ≡ None) × ((work_of_stage (along path p) o (thread_at (along path p) arrays args s)).fails ≡ false)
   no_second o s x h e =
       by_making (making_all Unmade (before s (onpath path p.stmts))) _
       (λ k. absurd (not_some (sym (unmade_child s k) ∙ h)))
@@ -123,7 +123,7 @@ module _ (p : Pipe) (acc : Pathwise p) (path : List ℕ) (arrays : Arrays) (args
       (λ k. here Made k refl)
     where
       here : (k : Making) → making_all Unmade (before s (onpath path p.stmts)) ≡ k → is_unmade k ≡ false
-          → ((works (along path p) o (placed (along path p) arrays args s)).child ≡ None) × ((works (along path p) o (placed (along path p) arrays args s)).fails ≡ false)
+          → ((work_of_stage (along path p) o (thread_at (along path p) arrays args s)).child ≡ None) × ((work_of_stage (along path p) o (thread_at (along path p) arrays args s)).fails ≡ false)
       here k i u =
           let ok = subst (λ j. makings_ok (verify_stage p.stmts) j (in_stage s (onpath path p.stmts)) ≡ true) i (makings_stage s) in
           let s' = settled o (verify_stage p.stmts) k (in_stage s (onpath path p.stmts)) (reset (so_far (along path p) arrays args s)) u ok (unverified (verify_stage p.stmts) k s (in_stage s (onpath path p.stmts)) (in_stage_all s (onpath path p.stmts)) ok (λ _. e)) in
@@ -131,14 +131,14 @@ module _ (p : Pipe) (acc : Pathwise p) (path : List ℕ) (arrays : Arrays) (args
 
   -- nor does one that has made the next thread for certain
   pub made_stays : (o : Around) (s : ℕ) → making_all Unmade (before s (onpath path p.stmts)) ≡ Made
-      → ((works (along path p) o (placed (along path p) arrays args s)).child ≡ None) × ((works (along path p) o (placed (along path p) arrays args s)).fails ≡ false)
+      → ((work_of_stage (along path p) o (thread_at (along path p) arrays args s)).child ≡ None) × ((work_of_stage (along path p) o (thread_at (along path p) arrays args s)).fails ≡ false)
   made_stays o s i =
       let ok = subst (λ j. makings_ok (verify_stage p.stmts) j (in_stage s (onpath path p.stmts)) ≡ true) i (makings_stage s) in
       let s' = settled o (verify_stage p.stmts) Made (in_stage s (onpath path p.stmts)) (reset (so_far (along path p) arrays args s)) refl ok (unverified_made (verify_stage p.stmts) (in_stage s (onpath path p.stmts)) ok) in
       (s'.0.0, s'.0.1)
 
   -- who has made nothing fails nothing
-  pub not_yet : (o : Around) (s : ℕ) → (so_far (along path p) arrays args s).child ≡ None → (works (along path p) o (placed (along path p) arrays args s)).fails ≡ false
+  pub not_yet : (o : Around) (s : ℕ) → (so_far (along path p) arrays args s).child ≡ None → (work_of_stage (along path p) o (thread_at (along path p) arrays args s)).fails ≡ false
   not_yet o s h =
       by_making (making_all Unmade (before s (onpath path p.stmts))) _
       (λ k.
@@ -149,10 +149,10 @@ module _ (p : Pipe) (acc : Pathwise p) (path : List ℕ) (arrays : Arrays) (args
 
   -- what the stage of V makes of a guess
   verified_here : (s : ℕ) → making_all Unmade (before s (onpath path p.stmts)) ≡ Guessed
-      → Verified (making_all Unmade (before (suc s) (onpath path p.stmts))) (works (along path p) (alone arrays) (placed (along path p) arrays args s)) (reset (so_far (along path p) arrays args s)) (run_at (along path p) arrays args (suc s)).next
+      → Verified (making_all Unmade (before (suc s) (onpath path p.stmts))) (work_of_stage (along path p) (alone arrays) (thread_at (along path p) arrays args s)) (reset (so_far (along path p) arrays args s)) (run_at (along path p) arrays args (suc s)).next
   verified_here s e =
-      subst (λ k. Verified k (works (along path p) (alone arrays) (placed (along path p) arrays args s)) (reset (so_far (along path p) arrays args s)) (run_at (along path p) arrays args (suc s)).next) (ap (λ k. making_all k (in_stage s (onpath path p.stmts))) (sym e) ∙ sym (next_making s))
-      (subst (λ (r : Run). Verified (making_all Guessed (in_stage s (onpath path p.stmts))) (works (along path p) (alone arrays) (placed (along path p) arrays args s)) (reset (so_far (along path p) arrays args s)) r.next) (sym runs_on)
+      subst (λ k. Verified k (work_of_stage (along path p) (alone arrays) (thread_at (along path p) arrays args s)) (reset (so_far (along path p) arrays args s)) (run_at (along path p) arrays args (suc s)).next) (ap (λ k. making_all k (in_stage s (onpath path p.stmts))) (sym e) ∙ sym (next_making s))
+      (subst (λ (r : Run). Verified (making_all Guessed (in_stage s (onpath path p.stmts))) (work_of_stage (along path p) (alone arrays) (thread_at (along path p) arrays args s)) (reset (so_far (along path p) arrays args s)) r.next) (sym runs_on)
       (verified_all arrays (verify_stage p.stmts) (in_stage s (onpath path p.stmts)) (reset (so_far (along path p) arrays args s)) (run_at (along path p) arrays args s) (free_all 0 (phase_all 0 Fresh (before s (onpath path p.stmts))) (in_stage s (onpath path p.stmts)) (ok 0))
       (subst (λ j. makings_ok (verify_stage p.stmts) j (in_stage s (onpath path p.stmts)) ≡ true) e (makings_stage s))
       (along_joined arrays (in_stage s (onpath path p.stmts)) (so_far (along path p) arrays args s) (reset (so_far (along path p) arrays args s)) (run_at (along path p) arrays args s)
@@ -167,16 +167,16 @@ module _ (p : Pipe) (acc : Pathwise p) (path : List ℕ) (arrays : Arrays) (args
 
   -- a right guess stays
   pub right_stays : (s : ℕ) → right_guess (so_far (along path p) arrays args s).child (thread (along path p) arrays args).next ≡ true
-      → ((works (along path p) (alone arrays) (placed (along path p) arrays args s)).child ≡ None) × ((works (along path p) (alone arrays) (placed (along path p) arrays args s)).fails ≡ false)
+      → ((work_of_stage (along path p) (alone arrays) (thread_at (along path p) arrays args s)).child ≡ None) × ((work_of_stage (along path p) (alone arrays) (thread_at (along path p) arrays args s)).fails ≡ false)
   right_stays s h =
       by_making (making_all Unmade (before s (onpath path p.stmts))) _
       (λ k. absurd (clash (ap (λ c. right_guess c (thread (along path p) arrays args).next) (sym (unmade_child s k)) ∙ h)))
       (λ k.
       by_making (making_all Unmade (before (suc s) (onpath path p.stmts))) _
-      (λ j. absurd (subst (λ m. Verified m (works (along path p) (alone arrays) (placed (along path p) arrays args s)) (reset (so_far (along path p) arrays args s)) (run_at (along path p) arrays args (suc s)).next) j (verified_here s k)))
-      (λ j. let f = subst (λ m. Verified m (works (along path p) (alone arrays) (placed (along path p) arrays args s)) (reset (so_far (along path p) arrays args s)) (run_at (along path p) arrays args (suc s)).next) j (verified_here s k) in (f.0, f.1))
+      (λ j. absurd (subst (λ m. Verified m (work_of_stage (along path p) (alone arrays) (thread_at (along path p) arrays args s)) (reset (so_far (along path p) arrays args s)) (run_at (along path p) arrays args (suc s)).next) j (verified_here s k)))
+      (λ j. let f = subst (λ m. Verified m (work_of_stage (along path p) (alone arrays) (thread_at (along path p) arrays args s)) (reset (so_far (along path p) arrays args s)) (run_at (along path p) arrays args (suc s)).next) j (verified_here s k) in (f.0, f.1))
       (λ j.
-      let f = subst (λ m. Verified m (works (along path p) (alone arrays) (placed (along path p) arrays args s)) (reset (so_far (along path p) arrays args s)) (run_at (along path p) arrays args (suc s)).next) j (verified_here s k) in
+      let f = subst (λ m. Verified m (work_of_stage (along path p) (alone arrays) (thread_at (along path p) arrays args s)) (reset (so_far (along path p) arrays args s)) (run_at (along path p) arrays args (suc s)).next) j (verified_here s k) in
       let right : same_args (run_at (along path p) arrays args (suc s)).next (so_far (along path p) arrays args s).guess ≡ true =
       ap (λ n. same_args n (so_far (along path p) arrays args s).guess) (sym (rest_next (suc s) j) ∙ sym (same_args_eq _ _ (ap (λ c. right_guess c (thread (along path p) arrays args).next) (sym (guessed_child s k)) ∙ h)))
       ∙ same_args_refl (so_far (along path p) arrays args s).guess in
@@ -193,14 +193,14 @@ module _ (p : Pipe) (acc : Pathwise p) (path : List ℕ) (arrays : Arrays) (args
 
   -- and fails in V
   pub wrong_at : (s : ℕ) (x : List ℕ) → (so_far (along path p) arrays args s).child ≡ Some x → same_args x (thread (along path p) arrays args).next ≡ false → verify_stage p.stmts ≡ Some s
-      → ((works (along path p) (alone arrays) (placed (along path p) arrays args s)).child ≡ Some (thread (along path p) arrays args).next) × ((works (along path p) (alone arrays) (placed (along path p) arrays args s)).fails ≡ true)
+      → ((work_of_stage (along path p) (alone arrays) (thread_at (along path p) arrays args s)).child ≡ Some (thread (along path p) arrays args).next) × ((work_of_stage (along path p) (alone arrays) (thread_at (along path p) arrays args s)).fails ≡ true)
   wrong_at s x e h v =
       let k : making_all Unmade (before s (onpath path p.stmts)) ≡ Guessed = wrong_made s x e h in
       by_making (making_all Unmade (before (suc s) (onpath path p.stmts))) _
-      (λ j. absurd (subst (λ m. Verified m (works (along path p) (alone arrays) (placed (along path p) arrays args s)) (reset (so_far (along path p) arrays args s)) (run_at (along path p) arrays args (suc s)).next) j (verified_here s k)))
+      (λ j. absurd (subst (λ m. Verified m (work_of_stage (along path p) (alone arrays) (thread_at (along path p) arrays args s)) (reset (so_far (along path p) arrays args s)) (run_at (along path p) arrays args (suc s)).next) j (verified_here s k)))
       (λ j. absurd (past (guess_inside (suc s) j)))
       (λ j.
-      let f = subst (λ m. Verified m (works (along path p) (alone arrays) (placed (along path p) arrays args s)) (reset (so_far (along path p) arrays args s)) (run_at (along path p) arrays args (suc s)).next) j (verified_here s k) in
+      let f = subst (λ m. Verified m (work_of_stage (along path p) (alone arrays) (thread_at (along path p) arrays args s)) (reset (so_far (along path p) arrays args s)) (run_at (along path p) arrays args (suc s)).next) j (verified_here s k) in
       let wrong : same_args (run_at (along path p) arrays args (suc s)).next (so_far (along path p) arrays args s).guess ≡ false =
       ap₂ same_args (sym (rest_next (suc s) j)) (same_some (sym (guessed_child s k) ∙ e)) ∙ turned x (thread (along path p) arrays args).next h in (
         f.0 ∙ ap (λ b. cond b None (Some (run_at (along path p) arrays args (suc s)).next)) wrong ∙ ap Some (sym (rest_next (suc s) j)),

@@ -2,7 +2,7 @@
 use Rattle.std.proofs.Common.{◌≡◌, refl, ap₂, ◌∙◌, subst, ℕ, ◌≤◌, ◌<◌, Bool, true, false, ◌&&◌, ◌||◌, List, [], ◌∷◌, ◌++◌, ◌==◌, cond, if◌then◌else◌}
 use Rattle.pdl_semantics.specs.Flat.{Op, Stmt, Guard}
 use Rattle.pdl_semantics.specs.Stages.{in_stage}
-use Rattle.pdl_facts.specs.Scans.{none_of, binds, fixed, free_of, is_dead, keeps_guards}
+use Rattle.pdl_facts.specs.Scans.{none_of, binds_var, is_fixed, free_of, is_dead, keeps_guards}
 use Rattle.pdl_derived.proofs.Writes.{and_left, and_right}
 
 -- what no statement of a text is, no statement of a part of it is
@@ -16,7 +16,7 @@ none_stage test s (x ∷ xs) h = at (x.stage == s) (none_stage test s xs (and_ri
 
 pub free_stage : (s : ℕ) (gs : List Guard) (xs : List Stmt) → free_of gs xs ≡ true → free_of gs (in_stage s xs) ≡ true
 free_stage s [] xs h = refl
-free_stage s (g ∷ gs) xs h = ap₂ (λ a b. a && b) (none_stage (binds g.var) s xs (and_left _ _ h)) (free_stage s gs xs (and_right _ _ h))
+free_stage s (g ∷ gs) xs h = ap₂ (λ a b. a && b) (none_stage (binds_var g.var) s xs (and_left _ _ h)) (free_stage s gs xs (and_right _ _ h))
 
 pub keeps_stage : (s : ℕ) (gs : List Guard) (xs : List Stmt) → keeps_guards gs xs ≡ true → keeps_guards gs (in_stage s xs) ≡ true
 keeps_stage s gs xs h = at (is_dead gs) h
@@ -25,10 +25,10 @@ keeps_stage s gs xs h = at (is_dead gs) h
     at true k = refl
     at false k = free_stage s gs xs k
 
-pub fixed_stage : (s : ℕ) (xs : List Stmt) → fixed xs ≡ true → fixed (in_stage s xs) ≡ true
+pub fixed_stage : (s : ℕ) (xs : List Stmt) → is_fixed xs ≡ true → is_fixed (in_stage s xs) ≡ true
 fixed_stage s [] h = refl
 fixed_stage s (x ∷ xs) h = at (x.stage == s) refl (fixed_stage s xs (and_right _ _ h))
   where
-    at : (b : Bool) → (x.stage == s) ≡ b → fixed (in_stage s xs) ≡ true → fixed (cond b (x ∷ in_stage s xs) (in_stage s xs)) ≡ true
+    at : (b : Bool) → (x.stage == s) ≡ b → is_fixed (in_stage s xs) ≡ true → is_fixed (cond b (x ∷ in_stage s xs) (in_stage s xs)) ≡ true
     at true e k = ap₂ (λ a b. a && b) (subst (λ b. keeps_guards x.guards (cond b (x ∷ in_stage s xs) (in_stage s xs)) ≡ true) e (keeps_stage s x.guards (x ∷ xs) (and_left _ _ h))) k
     at false e k = k

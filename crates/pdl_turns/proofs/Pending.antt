@@ -1,16 +1,16 @@
 -- A turn's undone writes with what is known of them, by stages.
 use Rattle.std.proofs.Common.{◌≡◌, ◌≢◌, refl, sym, ap, ap₂, ◌∙◌, subst, ℕ, suc, ◌≤◌, ◌<◌, Bool, true, false, ◌&&◌, ◌||◌, not, List, [], ◌∷◌, ◌++◌, length, Some, None, is_some, ◌==◌, nat_lt, cond, if◌then◌else◌, arith, eq-eqb, slice_index, append-nil}
 use Rattle.std.proofs.Common.{ltb-true, ltb-false, lt-ltb}
-use Rattle.pdl_semantics.specs.Flat.{Arrays, Op, Write, ReserveWrite, Release, Stmt, Pipe, value_of, taken, Commit, of_mem}
+use Rattle.pdl_semantics.specs.Flat.{Arrays, Op, Write, ReserveWrite, Release, Stmt, Pipe, value_of, all_hold, Commit, of_mem}
 use Rattle.pdl_semantics.specs.Stages.{in_stage, mem_at, commit_stage, reserve_stage}
 use Rattle.pdl_semantics.specs.Locks.{Latest, Coming, Known}
-use Rattle.pdl_semantics.specs.Sequential.{Run, runs, run_all, thread}
-use Rattle.pdl_derived.specs.Derived.{Entry, works, latest_in}
-use Rattle.pdl_derived.specs.Alone.{alone, before, so_far, placed, undone}
+use Rattle.pdl_semantics.specs.Sequential.{Run, run_after, run_all, thread}
+use Rattle.pdl_derived.specs.Derived.{Entry, work_of_stage, latest_in}
+use Rattle.pdl_derived.specs.Alone.{alone, before, so_far, thread_at, undone}
 use Rattle.pdl_derived.proofs.Writes.{and_left, and_right, of_mem_append}
 use Rattle.pdl_derived.proofs.Entries.{entries_of, entry, write_of, addresses, places}
 use Rattle.pdl_turns.proofs.Phases.{Tied}
-use Rattle.pdl_facts.specs.Scans.{Phase, Fresh, Held, Written, Done, after_release, next_phase, holds, is_fresh, phase_ok, phases_ok, phase_all, from, is_plain}
+use Rattle.pdl_facts.specs.Scans.{Phase, Fresh, Held, Written, Done, after_release, next_phase, holds_location, is_fresh, phase_ok, phases_ok, phase_all, from, is_plain}
 use Rattle.pdl_facts.specs.Accepted.{Accepted}
 use Rattle.pdl_turns.proofs.Marks.{Mark, seen, strips, marked, Later, raised_marked, strips_marked, latest_own, no_strips}
 use Rattle.pdl_turns.proofs.Whole.{phases_second, no_more, ok_before, ok_from, related_at, commits_early, commits_late, all_places, run_at, start_run, run_append, quiet_at, undone_step, plain_writes, undone_in_end}
@@ -22,7 +22,7 @@ is_settled (Written x) = true
 is_settled Done = true
 is_settled _ = false
 
-settled_write : (ph : Phase) (a : ℕ) → is_settled ph ≡ true → holds ph a ≡ true → ⊥
+settled_write : (ph : Phase) (a : ℕ) → is_settled ph ≡ true → holds_location ph a ≡ true → ⊥
 settled_write Fresh a h k = cc
 settled_write (Held x) a h k = cc
 settled_write (Written x) a h k = cc
@@ -47,10 +47,10 @@ settled_release Done a h = refl
 abbrev Settled : ℕ → Phase → Run → Run → Type 0
 Settled m ph r' r = (is_settled ph ≡ true) × (of_mem m r'.writes ≡ of_mem m r.writes)
 
-settled_op : (m : ℕ) (ph : Phase) (op : Op) (r : Run) → phase_ok m ph op ≡ true → is_settled ph ≡ true → Settled m (next_phase m ph op) (runs op r) r
+settled_op : (m : ℕ) (ph : Phase) (op : Op) (r : Run) → phase_ok m ph op ≡ true → is_settled ph ≡ true → Settled m (next_phase m ph op) (run_after op r) r
 settled_op m ph (Write n a e) r h k = at (n == m) refl h
   where
-    at : (b : Bool) → (n == m) ≡ b → (not b || holds ph a) ≡ true → Settled m (cond b (Written a) ph) (runs (Write n a e) r) r
+    at : (b : Bool) → (n == m) ≡ b → (not b || holds_location ph a) ≡ true → Settled m (cond b (Written a) ph) (run_after (Write n a e) r) r
     at true i g = absurd (settled_write ph a k g)
     at false i g = (k, of_mem_append m r.writes (write_of n (slice_index r.env a) (value_of e r.env) ∷ []) ∙ ap (λ b. of_mem m r.writes ++ cond b (write_of n (slice_index r.env a) (value_of e r.env) ∷ []) []) i ∙ append-nil (of_mem m r.writes))
 settled_op m ph (ReserveWrite n a) r h k = at (n == m) refl h
@@ -69,8 +69,8 @@ pub settled_all : (m : ℕ) (xs : List Stmt) (ph : Phase) (r : Run) → phases_o
 settled_all m [] ph r h k = (k, refl)
 settled_all m (x ∷ xs) ph r h k =
     let q = settled_op m ph x.op r (and_right _ _ (and_left _ _ h)) k in
-    let goes : (if taken x.guards r.env then runs x.op r else r) ≡ runs x.op r = ap (λ b. cond b (runs x.op r) r) (taken_none x.guards r.env (and_left _ _ (and_left _ _ h))) in
-    let t = settled_all m xs (next_phase m ph x.op) (runs x.op r) (and_right _ _ h) q.0 in
+    let goes : (if all_hold x.guards r.env then run_after x.op r else r) ≡ run_after x.op r = ap (λ b. cond b (run_after x.op r) r) (taken_none x.guards r.env (and_left _ _ (and_left _ _ h))) in
+    let t = settled_all m xs (next_phase m ph x.op) (run_after x.op r) (and_right _ _ h) q.0 in
     (t.0, ap (λ v. of_mem m (run_all xs v).writes) goes ∙ t.1 ∙ q.1)
 
 pub phase_append : (m : ℕ) (xs ys : List Stmt) (ph : Phase) → phase_all m ph (xs ++ ys) ≡ phase_all m (phase_all m ph xs) ys
@@ -177,10 +177,10 @@ module _ (p : Pipe) (acc : Accepted p) (arrays : Arrays) (args : List ℕ) where
       at true = refl
       at false = strips_marked m _ (thread p arrays args).writes
 
-  pub marks_step : (s m : ℕ) → Later m (marks p arrays args s m) (of_mem m (works p (alone arrays) (placed p arrays args s)).commits) (marks p arrays args (suc s) m)
+  pub marks_step : (s m : ℕ) → Later m (marks p arrays args s m) (of_mem m (work_of_stage p (alone arrays) (thread_at p arrays args s)).commits) (marks p arrays args (suc s) m)
   marks_step s m =
       later_split m (commit_stage p m) s (has_value (entries_of m (so_far p arrays args s).entries)) (has_value (entries_of m (so_far p arrays args (suc s)).entries)) (of_mem m (thread p arrays args).writes) _
-      (strips_marked m _ (thread p arrays args).writes) (undone_step p acc arrays args s m) (quiet_at p acc arrays args (alone arrays) (placed p arrays args s) m) raise
+      (strips_marked m _ (thread p arrays args).writes) (undone_step p acc arrays args s m) (quiet_at p acc arrays args (alone arrays) (thread_at p arrays args s) m) raise
     where
       raise : suc s ≤ commit_stage p m → has_value (entries_of m (so_far p arrays args s).entries) ≡ true → has_value (entries_of m (so_far p arrays args (suc s)).entries) ≡ true
       raise h k =

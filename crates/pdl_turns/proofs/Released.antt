@@ -2,7 +2,7 @@
 use Rattle.std.proofs.Common.{ℕ, List, Option}
 use Rattle.pdl_semantics.specs.Flat.{Commit}
 use Rattle.pdl_semantics.specs.Machine.{Pending}
-use Rattle.pdl_semantics.specs.Cycle.{port_write, shown}
+use Rattle.pdl_semantics.specs.Cycle.{port_write, commit_shown}
 
 abbrev pub released : ℕ → Option Pending → List Commit
-released m o = shown m (port_write o)
+released m o = commit_shown m (port_write o)

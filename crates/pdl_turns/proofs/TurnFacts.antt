@@ -4,18 +4,18 @@ use Rattle.pdl_semantics.specs.Flat.{Arrays, Pipe}
 use Rattle.pdl_semantics.specs.Stages.{onpath}
 use Rattle.pdl_semantics.specs.Machine.{same_args}
 use Rattle.pdl_semantics.specs.Sequential.{thread}
-use Rattle.pdl_derived.specs.Derived.{Work, works}
-use Rattle.pdl_derived.specs.Alone.{alone, before, placed, Location}
-use Rattle.pdl_facts.specs.Scans.{no_scan, opens_all}
+use Rattle.pdl_derived.specs.Derived.{Work, work_of_stage}
+use Rattle.pdl_derived.specs.Alone.{alone, before, thread_at, Location}
+use Rattle.pdl_facts.specs.Scans.{no_scan, scan_after_all}
 pub use Rattle.pdl_facts.specs.Graphs.{Trunk, stage_or, next_of, Below, Graph}
 
 -- the locations that a turn has blocked for reading before stage s
 abbrev pub blocked_at : Pipe → Arrays → List ℕ → ℕ → List Location
-blocked_at p arrays args s = (opens_all (before s (onpath (thread p arrays args).env p.stmts)) no_scan).blocked
+blocked_at p arrays args s = (scan_after_all (before s (onpath (thread p arrays args).env p.stmts)) no_scan).blocked
 
 -- a turn's stage, alone
 abbrev pub stage_work : Pipe → Arrays → List ℕ → ℕ → Work
-stage_work p arrays args s = works p (alone arrays) (placed p arrays args s)
+stage_work p arrays args s = work_of_stage p (alone arrays) (thread_at p arrays args s)
 
 -- whether a thread was made with the right arguments
 abbrev pub right_guess : Option (List ℕ) → List ℕ → Bool

@@ -1,15 +1,15 @@
 -- One turn of a pipe with guards, by its path: the facts that the pipeline's proof takes of it.
 use Rattle.std.proofs.Common.{◌≡◌, ◌≢◌, refl, sym, ap, ap₂, ◌∙◌, subst, ℕ, suc, ◌<◌, ◌≤◌, Bool, true, false, ◌&&◌, not, List, [], ◌∷◌, ◌++◌, length, ◌==◌, nat_lt, nat_le, cond, arith, slice_index, leb-true, leb-false}
-use Rattle.pdl_semantics.specs.Flat.{Arrays, Op, Stmt, Pipe, taken, of_mem}
+use Rattle.pdl_semantics.specs.Flat.{Arrays, Op, Stmt, Pipe, all_hold, of_mem}
 use Rattle.pdl_semantics.specs.Stages.{onpath, in_stage, mem_at, commit_stage, reserve_stage}
 use Rattle.pdl_semantics.specs.Locks.{Latest}
 use Rattle.pdl_semantics.specs.Sequential.{Run, thread}
 use Rattle.pdl_semantics.specs.Promises.{wrote, row}
-use Rattle.pdl_derived.specs.Derived.{Work, works, do_all, latest_in}
-use Rattle.pdl_derived.specs.Alone.{alone, before, start_work, so_far, placed}
+use Rattle.pdl_derived.specs.Derived.{Work, work_of_stage, do_all, latest_in}
+use Rattle.pdl_derived.specs.Alone.{alone, before, start_work, so_far, thread_at}
 use Rattle.pdl_derived.proofs.Entries.{entries_of}
 use Rattle.pdl_derived.proofs.Stages.{or_else, next_piece, joined, reset}
-use Rattle.pdl_facts.specs.Scans.{from, is_plain, none_of, binds, no_scan, opens_all}
+use Rattle.pdl_facts.specs.Scans.{from, is_plain, none_of, binds_var, no_scan, scan_after_all}
 use Rattle.pdl_facts.specs.Accepted.{Accepted, along, Pathwise}
 use Rattle.pdl_turns.proofs.Paths.{Fixed, run_path, fixed_path_to, fixed_all, all_stays, before_path, stage_path}
 use Rattle.pdl_derived.proofs.Writes.{and_left, and_right}
@@ -52,7 +52,7 @@ none_parts test s xs h = both xs (none_first test (in_stage s xs) (from (suc s) 
 
 pub none_from_path : (test : Op → Bool) (path : List ℕ) (s : ℕ) (xs : List Stmt) → none_of test (from s xs) ≡ true → none_of test (from s (onpath path xs)) ≡ true
 none_from_path test path s [] h = refl
-none_from_path test path s (x ∷ xs) h = at (nat_le s x.stage) refl (taken x.guards path) h (none_from_path test path s xs)
+none_from_path test path s (x ∷ xs) h = at (nat_le s x.stage) refl (all_hold x.guards path) h (none_from_path test path s xs)
   where
     at : (b : Bool) → nat_le s x.stage ≡ b → (c : Bool) → none_of test (cond b (x ∷ from s xs) (from s xs)) ≡ true → (none_of test (from s xs) ≡ true → none_of test (from s (onpath path xs)) ≡ true)
         → none_of test (from s (cond c (record x { guards = [] } ∷ onpath path xs) (onpath path xs))) ≡ true
@@ -72,16 +72,16 @@ module _ (p : Pipe) (acc : Pathwise p) (arrays : Arrays) (args : List ℕ) where
   thread_path = run_path (thread p arrays args).env p.stmts (Whole.start_run p arrays args) acc.fixed_guards refl
 
   -- a variable that is bound no more has its value of the path
-  pub value_kept : (s g : ℕ) → none_of (binds g) (from s p.stmts) ≡ true → slice_index (so_far (along (thread p arrays args).env p) arrays args s).env g ≡ slice_index (thread p arrays args).env g
+  pub value_kept : (s g : ℕ) → none_of (binds_var g) (from s p.stmts) ≡ true → slice_index (so_far (along (thread p arrays args).env p) arrays args s).env g ≡ slice_index (thread p arrays args).env g
   value_kept s g h =
-      sym (all_stays g (alone arrays) (from s (onpath (thread p arrays args).env p.stmts)) (so_far (along (thread p arrays args).env p) arrays args s) (none_from_path (binds g) (thread p arrays args).env s p.stmts h))
+      sym (all_stays g (alone arrays) (from s (onpath (thread p arrays args).env p.stmts)) (so_far (along (thread p arrays args).env p) arrays args s) (none_from_path (binds_var g) (thread p arrays args).env s p.stmts h))
       ∙ ap (λ (w : Work). slice_index w.env g) (sym (Whole.rest_of (along (thread p arrays args).env p) accq arrays args s))
       ∙ ap (λ l. slice_index l g) ((Whole.related_whole (along (thread p arrays args).env p) accq arrays args).env ∙ ap (λ (r : Run). r.env) (sym thread_path))
 
   pub fixed_before : (s : ℕ) → Fixed (thread p arrays args).env (alone arrays) (before s p.stmts) (start_work p args)
   fixed_before s =
       fixed_path_to (thread p arrays args).env (alone arrays) (before s p.stmts) (in_stage s p.stmts ++ from (suc s) p.stmts) (start_work p args) (acc.fixed_by s)
-      (λ g k. ap (λ l. slice_index (do_all (alone arrays) l (start_work p args)).env g) (sym (before_path (thread p arrays args).env s p.stmts)) ∙ value_kept s g (none_parts (binds g) s p.stmts k))
+      (λ g k. ap (λ l. slice_index (do_all (alone arrays) l (start_work p args)).env g) (sym (before_path (thread p arrays args).env s p.stmts)) ∙ value_kept s g (none_parts (binds_var g) s p.stmts k))
 
   pub so_path : (s : ℕ) → so_far p arrays args s ≡ so_far (along (thread p arrays args).env p) arrays args s
   so_path s =
@@ -94,7 +94,7 @@ module _ (p : Pipe) (acc : Pathwise p) (arrays : Arrays) (args : List ℕ) where
       (λ g k. (λ i. slice_index (do_all (alone arrays) (sym (stage_path (thread p arrays args).env s p.stmts) i) (reset (so_path s i))).env g)
       ∙ ap (λ (w : Work). slice_index w.env g) (sym (next_piece (along (thread p arrays args).env p) arrays args s (accq.pieces s))) ∙ value_kept (suc s) g k)
 
-  pub works_path : (s : ℕ) → works p (alone arrays) (placed p arrays args s) ≡ works (along (thread p arrays args).env p) (alone arrays) (placed (along (thread p arrays args).env p) arrays args s)
+  pub works_path : (s : ℕ) → work_of_stage p (alone arrays) (thread_at p arrays args s) ≡ work_of_stage (along (thread p arrays args).env p) (alone arrays) (thread_at (along (thread p arrays args).env p) arrays args s)
   works_path s =
       fixed_all (thread p arrays args).env (alone arrays) (in_stage s p.stmts) (reset (so_far p arrays args s)) (fixed_stage s)
       ∙ ap₂ (λ l (w : Work). do_all (alone arrays) l (reset w)) (sym (stage_path (thread p arrays args).env s p.stmts)) (so_path s)
@@ -105,11 +105,11 @@ module _ (p : Pipe) (acc : Pathwise p) (arrays : Arrays) (args : List ℕ) where
   pub marks_seen : (s m a : ℕ) (rest : Latest) → reserve_stage p m < s → latest_in (so_far p arrays args s).entries m a rest ≡ seen a (marks p arrays args s m) rest
   marks_seen s m a rest h = ap (λ (w : Work). latest_in w.entries m a rest) (so_path s) ∙ Pending.marks_seen _ accq arrays args s m a rest h ∙ ap (λ l. seen a l rest) (sym (marks_path s m))
 
-  pub marks_step : (s m : ℕ) → Later m (marks p arrays args s m) (of_mem m (works p (alone arrays) (placed p arrays args s)).commits) (marks p arrays args (suc s) m)
+  pub marks_step : (s m : ℕ) → Later m (marks p arrays args s m) (of_mem m (work_of_stage p (alone arrays) (thread_at p arrays args s)).commits) (marks p arrays args (suc s) m)
   marks_step s m =
-      subst (λ k. Later m k (of_mem m (works p (alone arrays) (placed p arrays args s)).commits) (marks p arrays args (suc s) m)) (sym (marks_path s m))
+      subst (λ k. Later m k (of_mem m (work_of_stage p (alone arrays) (thread_at p arrays args s)).commits) (marks p arrays args (suc s) m)) (sym (marks_path s m))
       (subst (λ (w : Work). Later m (marks (along (thread p arrays args).env p) arrays args s m) (of_mem m w.commits) (marks p arrays args (suc s) m)) (sym (works_path s))
-      (subst (λ k. Later m (marks (along (thread p arrays args).env p) arrays args s m) (of_mem m (works (along (thread p arrays args).env p) (alone arrays) (placed (along (thread p arrays args).env p) arrays args s)).commits) k) (sym (marks_path (suc s) m))
+      (subst (λ k. Later m (marks (along (thread p arrays args).env p) arrays args s m) (of_mem m (work_of_stage (along (thread p arrays args).env p) (alone arrays) (thread_at (along (thread p arrays args).env p) arrays args s)).commits) k) (sym (marks_path (suc s) m))
       (Pending.marks_step (along (thread p arrays args).env p) accq arrays args s m)))
 
   pub marks_plain : (s m : ℕ) → is_plain (mem_at p m).lock ≡ true → marks p arrays args s m ≡ []
@@ -131,17 +131,17 @@ module _ (p : Pipe) (acc : Pathwise p) (arrays : Arrays) (args : List ℕ) where
   row_after m = ap (λ (r : Run). row r.arrays m) thread_path ∙ Whole.row_after _ accq arrays args m ∙ ap (λ (r : Run). wrote (row arrays m) (of_mem m r.writes)) (sym thread_path)
 
   -- its stage's work is a piece of the whole thread's
-  pub piece : (s : ℕ) → so_far p arrays args (suc s) ≡ joined (so_far p arrays args s) (works p (alone arrays) (placed p arrays args s))
+  pub piece : (s : ℕ) → so_far p arrays args (suc s) ≡ joined (so_far p arrays args s) (work_of_stage p (alone arrays) (thread_at p arrays args s))
   piece s = so_path (suc s) ∙ next_piece (along (thread p arrays args).env p) arrays args s (accq.pieces s) ∙ ap₂ joined (sym (so_path s)) (sym (works_path s))
 
-  pub placed_next : (s : ℕ) → placed p arrays args (suc s) ≡ (let w = works p (alone arrays) (placed p arrays args s) in record { stage = suc s; env = w.env; entries = w.entries; guess = w.guess; awaits = [] })
+  pub placed_next : (s : ℕ) → thread_at p arrays args (suc s) ≡ (let w = work_of_stage p (alone arrays) (thread_at p arrays args s) in record { stage = suc s; env = w.env; entries = w.entries; guess = w.guess; awaits = [] })
   placed_next s = ap (λ (w : Work). record { stage = suc s; env = w.env; entries = w.entries; guess = w.guess; awaits = [] }) (piece s)
 
-  pub child_next : (s : ℕ) → (so_far p arrays args (suc s)).child ≡ or_else (works p (alone arrays) (placed p arrays args s)).child (so_far p arrays args s).child
+  pub child_next : (s : ℕ) → (so_far p arrays args (suc s)).child ≡ or_else (work_of_stage p (alone arrays) (thread_at p arrays args s)).child (so_far p arrays args s).child
   child_next s = ap (λ (w : Work). w.child) (piece s)
 
   -- the locations that it has blocked for reading before stage s
-  pub blocked_next : (s : ℕ) → opens_all (before (suc s) (onpath (thread p arrays args).env p.stmts)) no_scan ≡ opens_all (onpath (thread p arrays args).env (in_stage s p.stmts)) (opens_all (before s (onpath (thread p arrays args).env p.stmts)) no_scan)
+  pub blocked_next : (s : ℕ) → scan_after_all (before (suc s) (onpath (thread p arrays args).env p.stmts)) no_scan ≡ scan_after_all (onpath (thread p arrays args).env (in_stage s p.stmts)) (scan_after_all (before s (onpath (thread p arrays args).env p.stmts)) no_scan)
   blocked_next s =
-      ap (λ l. opens_all l no_scan) (accq.pieces s) ∙ Whole.opens_append (before s (onpath (thread p arrays args).env p.stmts)) (in_stage s (onpath (thread p arrays args).env p.stmts)) no_scan
-      ∙ ap (λ l. opens_all l (opens_all (before s (onpath (thread p arrays args).env p.stmts)) no_scan)) (stage_path (thread p arrays args).env s p.stmts)
+      ap (λ l. scan_after_all l no_scan) (accq.pieces s) ∙ Whole.opens_append (before s (onpath (thread p arrays args).env p.stmts)) (in_stage s (onpath (thread p arrays args).env p.stmts)) no_scan
+      ∙ ap (λ l. scan_after_all l (scan_after_all (before s (onpath (thread p arrays args).env p.stmts)) no_scan)) (stage_path (thread p arrays args).env s p.stmts)

@@ -1,16 +1,16 @@
 -- One turn along its path, by stages.
 use Rattle.std.proofs.Common.{◌≡◌, ◌≢◌, refl, sym, ap, ap₂, ◌∙◌, subst, ℕ, suc, ◌+◌, ◌≤◌, ◌<◌, Bool, true, false, ◌&&◌, List, [], ◌∷◌, ◌++◌, length, nat_lt, cond, if◌then◌else◌, arith, append-nil}
 use Rattle.std.proofs.Common.{ltb-true, ltb-false, length-append, le_of_eq}
-use Rattle.pdl_semantics.specs.Flat.{Arrays, Stmt, Pipe, taken, Commit, of_mem, start_env}
+use Rattle.pdl_semantics.specs.Flat.{Arrays, Stmt, Pipe, all_hold, Commit, of_mem, start_env}
 use Rattle.pdl_semantics.specs.Stages.{in_stage, mem_at, is_release, is_reserve, commit_stage, reserve_stage}
-use Rattle.pdl_semantics.specs.Sequential.{Run, runs, run_all, thread}
+use Rattle.pdl_semantics.specs.Sequential.{Run, run_after, run_all, thread}
 use Rattle.pdl_semantics.specs.Promises.{wrote, row}
-use Rattle.pdl_derived.specs.Derived.{Entry, Work, Around, Thread, does, do_all, works}
-use Rattle.pdl_derived.specs.Alone.{alone, before, start_work, so_far, placed, undone}
+use Rattle.pdl_derived.specs.Derived.{Entry, Work, Around, Thread, work_after, do_all, work_of_stage}
+use Rattle.pdl_derived.specs.Alone.{alone, before, start_work, so_far, thread_at, undone}
 use Rattle.pdl_derived.proofs.Writes.{and_left, and_right, of_mem_append, row_committed}
 use Rattle.pdl_derived.proofs.Entries.{entries_of, addresses, places}
 use Rattle.pdl_turns.proofs.Phases.{Tied}
-use Rattle.pdl_facts.specs.Scans.{Phase, Fresh, Held, Written, Done, next_phase, phase_ok, no_guards, phases_ok, phase_all, is_over, from, none_of, opens, reads_ok, opens_all, is_plain, Scan, no_scan}
+use Rattle.pdl_facts.specs.Scans.{Phase, Fresh, Held, Written, Done, next_phase, phase_ok, no_guards, phases_ok, phase_all, is_over, from, none_of, scan_after, reads_ok, scan_after_all, is_plain, Scan, no_scan}
 use Rattle.pdl_turns.proofs.Related.{Related, related_all, related_step, Ok, next_phases}
 use Rattle.pdl_derived.proofs.Stages.{step, joined, next_piece, do_all_append}
 use Rattle.pdl_facts.specs.Accepted.{Accepted}
@@ -30,14 +30,14 @@ spots_all : (arrays : Arrays) (m : ℕ) (xs : List Stmt) (ph : ℕ → Phase) (w
 spots_all arrays m [] ph w r h ok rel = refl
 spots_all arrays m (x ∷ xs) ph w r h ok rel =
     ap (λ v. spots (entries_of m (do_all (alone arrays) xs v).entries) (of_mem m (do_all (alone arrays) xs v).commits)) goes
-    ∙ spots_all arrays m xs (next_phases ph x.op) (does (alone arrays) x.op w) (runs x.op r) (and_right _ _ h) (λ n. and_right _ _ (ok n)) (related_step arrays ph x.op w r here rel)
+    ∙ spots_all arrays m xs (next_phases ph x.op) (work_after (alone arrays) x.op w) (run_after x.op r) (and_right _ _ h) (λ n. and_right _ _ (ok n)) (related_step arrays ph x.op w r here rel)
     ∙ spots_op arrays m ph x.op w r (and_left _ _ h) here rel
   where
     here : Ok ph x.op
     here n = ok_here n (ph n) x xs (ok n)
 
-    goes : step (alone arrays) x w ≡ does (alone arrays) x.op w
-    goes = ap (λ b. cond b (does (alone arrays) x.op w) w) (taken_none x.guards w.env (free_here 0 (ph 0) x xs (ok 0)))
+    goes : step (alone arrays) x w ≡ work_after (alone arrays) x.op w
+    goes = ap (λ b. cond b (work_after (alone arrays) x.op w) w) (taken_none x.guards w.env (free_here 0 (ph 0) x xs (ok 0)))
 
 -- the phases of a list in two parts
 pub phases_first : (m : ℕ) (xs ys : List Stmt) (ph : Phase) → phases_ok m ph (xs ++ ys) ≡ true → phases_ok m ph xs ≡ true
@@ -89,17 +89,17 @@ no_more (e ∷ es) l h = absurd (longer (ap length h))
     longer : suc (length (addresses es ++ l)) ≡ length l → ⊥
     longer k = let j : length (addresses es ++ l) ≡ length (addresses es) + length l = length-append (addresses es) l in omega arith
 
-reads_first : (p : Pipe) (xs ys : List Stmt) (c : Scan) → reads_ok p c (xs ++ ys) ≡ true → reads_ok p (opens_all xs c) ys ≡ true
+reads_first : (p : Pipe) (xs ys : List Stmt) (c : Scan) → reads_ok p c (xs ++ ys) ≡ true → reads_ok p (scan_after_all xs c) ys ≡ true
 reads_first p [] ys c h = h
-reads_first p (x ∷ xs) ys c h = reads_first p xs ys (opens x.op c) (and_right _ _ h)
+reads_first p (x ∷ xs) ys c h = reads_first p xs ys (scan_after x.op c) (and_right _ _ h)
 
-pub opens_append : (xs ys : List Stmt) (c : Scan) → opens_all (xs ++ ys) c ≡ opens_all ys (opens_all xs c)
+pub opens_append : (xs ys : List Stmt) (c : Scan) → scan_after_all (xs ++ ys) c ≡ scan_after_all ys (scan_after_all xs c)
 opens_append [] ys c = refl
-opens_append (x ∷ xs) ys c = opens_append xs ys (opens x.op c)
+opens_append (x ∷ xs) ys c = opens_append xs ys (scan_after x.op c)
 
 pub run_append : (xs ys : List Stmt) (r : Run) → run_all (xs ++ ys) r ≡ run_all ys (run_all xs r)
 run_append [] ys r = refl
-run_append (x ∷ xs) ys r = run_append xs ys (if taken x.guards r.env then runs x.op r else r)
+run_append (x ∷ xs) ys r = run_append xs ys (if all_hold x.guards r.env then run_after x.op r else r)
 
 module _ (p : Pipe) (acc : Accepted p) (arrays : Arrays) (args : List ℕ) where
   pub start_related : Related arrays (λ m. Fresh) (start_work p args) (start_run p arrays args)
@@ -134,19 +134,19 @@ module _ (p : Pipe) (acc : Accepted p) (arrays : Arrays) (args : List ℕ) where
       sym (quiet m (alone arrays) (from s p.stmts) (so_far p arrays args s) (none_from (is_release m) (commit_stage p m) s p.stmts (acc.releases m) h))
       ∙ ap (λ (w : Work). of_mem m w.commits) (sym (rest_of s)) ∙ (at_end m).1
 
-  pub piece : (s : ℕ) → so_far p arrays args (suc s) ≡ joined (so_far p arrays args s) (works p (alone arrays) (placed p arrays args s))
+  pub piece : (s : ℕ) → so_far p arrays args (suc s) ≡ joined (so_far p arrays args s) (work_of_stage p (alone arrays) (thread_at p arrays args s))
   piece s = next_piece p arrays args s (acc.pieces s)
 
-  pub quiet_at : (o : Around) (t : Thread) (m : ℕ) → t.stage ≢ commit_stage p m → of_mem m (works p o t).commits ≡ []
+  pub quiet_at : (o : Around) (t : Thread) (m : ℕ) → t.stage ≢ commit_stage p m → of_mem m (work_of_stage p o t).commits ≡ []
   quiet_at o t m h = quiet m o (in_stage t.stage p.stmts) _ (none_in_stage (is_release m) (commit_stage p m) t.stage p.stmts (acc.releases m) h)
 
   -- a stage's commits of m are what is no longer undone behind it
-  pub undone_step : (s m : ℕ) → undone p arrays args s m ≡ of_mem m (works p (alone arrays) (placed p arrays args s)).commits ++ undone p arrays args (suc s) m
-  undone_step s m = undone_split (commit_stage p m) s (of_mem m (thread p arrays args).writes) _ (quiet_at (alone arrays) (placed p arrays args s) m) here
+  pub undone_step : (s m : ℕ) → undone p arrays args s m ≡ of_mem m (work_of_stage p (alone arrays) (thread_at p arrays args s)).commits ++ undone p arrays args (suc s) m
+  undone_step s m = undone_split (commit_stage p m) s (of_mem m (thread p arrays args).writes) _ (quiet_at (alone arrays) (thread_at p arrays args s) m) here
     where
-      here : s ≡ commit_stage p m → of_mem m (works p (alone arrays) (placed p arrays args s)).commits ≡ of_mem m (thread p arrays args).writes
+      here : s ≡ commit_stage p m → of_mem m (work_of_stage p (alone arrays) (thread_at p arrays args s)).commits ≡ of_mem m (thread p arrays args).writes
       here e =
-          ap (λ l. l ++ of_mem m (works p (alone arrays) (placed p arrays args s)).commits) (sym (commits_early s m (le_of_eq e)))
+          ap (λ l. l ++ of_mem m (work_of_stage p (alone arrays) (thread_at p arrays args s)).commits) (sym (commits_early s m (le_of_eq e)))
           ∙ sym (of_mem_append m (so_far p arrays args s).commits _)
           ∙ ap (λ (w : Work). of_mem m w.commits) (sym (piece s))
           ∙ commits_late (suc s) m (le_of_eq (ap suc (sym e)))
@@ -184,5 +184,5 @@ module _ (p : Pipe) (acc : Accepted p) (arrays : Arrays) (args : List ℕ) where
   pub plain_writes : (m : ℕ) → is_plain (mem_at p m).lock ≡ true → of_mem m (thread p arrays args).writes ≡ []
   plain_writes m h = sym (at_end m).1 ∙ quiet m (alone arrays) p.stmts (start_work p args) (acc.plain m h)
 
-  pub reads_here : (s : ℕ) → reads_ok p (opens_all (before s p.stmts) no_scan) (in_stage s p.stmts) ≡ true
+  pub reads_here : (s : ℕ) → reads_ok p (scan_after_all (before s p.stmts) no_scan) (in_stage s p.stmts) ≡ true
   reads_here s = reads_first p (before s p.stmts) (in_stage s p.stmts) no_scan (subst (λ l. reads_ok p no_scan l ≡ true) (acc.pieces s) (acc.reads (suc s)))
