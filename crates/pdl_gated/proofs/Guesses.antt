@@ -5,7 +5,7 @@ use Rattle.std.specs.List.{list_all}
 use Rattle.std.proofs.lemmas.Bool.{false≢true, and_parts, and_from}
 use Rattle.pdl_semantics.specs.Tree.{R, W, Kind, Expr, Constant, Variable, Slice, Not, Binary, Cat, LessSigned, ZeroExtend, SignExtend, Choose, Stmt, Separator, CombRead, Bind, SpecCall, DelayedRead, Write, Reserve, Block, Release, If, Call, Verify, SpecCheck, SpecBarrier, Stmts, Nil, Cons, Mem, Pipe}
 use Rattle.pdl_semantics.specs.Flat
-use Rattle.pdl_semantics.specs.Flatten.{Place, flat, flat_stmt, flat_stmts, binds_guard, reserves, under, past, with_guard, at_otherwise, at_start}
+use Rattle.pdl_semantics.specs.Flatten.{Position, flat, flat_stmt, flat_stmts, binds_guard, reserve_op, under, past, with_guard, at_otherwise, at_start}
 use Rattle.pdl_semantics.specs.Stages.{is_verify}
 use Rattle.pdl_facts.specs.Scans.{none_of}
 use Rattle.pdl_facts.specs.Checks.{is_guess}
@@ -16,7 +16,7 @@ none_more : (xs ys : List Flat.Stmt) → none_of is_guess xs ≡ true → none_o
 none_more [] ys h k = k
 none_more (x ∷ xs) ys h k = let parts = and_parts (not (is_guess x.op)) (none_of is_guess xs) h in and_from _ _ parts.0 (none_more xs ys parts.1 k)
 
-guard_sure : (gs : List Flat.Guard) (w : Place) (c : Expr) → none_of is_guess (binds_guard gs w c) ≡ true
+guard_sure : (gs : List Flat.Guard) (w : Position) (c : Expr) → none_of is_guess (binds_guard gs w c) ≡ true
 guard_sure gs w (Variable x) = refl
 guard_sure gs w (Constant l) = refl
 guard_sure gs w (Slice x h l) = refl
@@ -28,12 +28,12 @@ guard_sure gs w (ZeroExtend a n) = refl
 guard_sure gs w (SignExtend a n) = refl
 guard_sure gs w (Choose c a b) = refl
 
-reserve_sure : (k : Kind) (m a : ℕ) → not (is_guess (reserves k m a)) ≡ true
+reserve_sure : (k : Kind) (m a : ℕ) → not (is_guess (reserve_op k m a)) ≡ true
 reserve_sure R m a = refl
 reserve_sure W m a = refl
 
 mutual
-  stmt_sure : (ms : List Mem) (gs : List Flat.Guard) (inside : Bool) (s : Stmt) (w : Place) → is_compiled inside s ≡ true → none_of is_guess (flat_stmt ms gs s w) ≡ true
+  stmt_sure : (ms : List Mem) (gs : List Flat.Guard) (inside : Bool) (s : Stmt) (w : Position) → is_compiled inside s ≡ true → none_of is_guess (flat_stmt ms gs s w) ≡ true
   stmt_sure ms gs inside (Separator _) w h = refl
   stmt_sure ms gs inside (CombRead _ x from) w h = refl
   stmt_sure ms gs inside (Bind _ x e) w h = refl
@@ -55,7 +55,7 @@ mutual
   stmt_sure ms gs inside (SpecCheck _) w h = absurd (false≢true h)
   stmt_sure ms gs inside (SpecBarrier _) w h = absurd (false≢true h)
 
-  stmts_sure : (ms : List Mem) (gs : List Flat.Guard) (inside : Bool) (ss : Stmts) (w : Place) → are_compiled inside ss ≡ true → none_of is_guess (flat_stmts ms gs ss w) ≡ true
+  stmts_sure : (ms : List Mem) (gs : List Flat.Guard) (inside : Bool) (ss : Stmts) (w : Position) → are_compiled inside ss ≡ true → none_of is_guess (flat_stmts ms gs ss w) ≡ true
   stmts_sure ms gs inside Nil w h = refl
   stmts_sure ms gs inside (Cons s ss) w h =
       let parts = and_parts (is_compiled inside s) (are_compiled inside ss) h in

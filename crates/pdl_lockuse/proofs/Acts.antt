@@ -5,8 +5,8 @@ use Rattle.pdl_semantics.specs.Flat.{Pipe}
 use Rattle.pdl_semantics.specs.Machine.{State, Thread, Pending, Reserved, with_answers, deeds}
 use Rattle.pdl_semantics.specs.Moves.{Act, act, acts, all_acts}
 use Rattle.pdl_lockapi.specs.Forget as forget
-use Rattle.pdl_machine_facts.specs.Slots.{slot, with_now, here, goes, goes_of, behind}
-use Rattle.pdl_invariant.specs.Use.{AllActs, AreOrdered, count_older, bit, reserved_in, reserved}
+use Rattle.pdl_machine_facts.specs.Slots.{slot, with_now, here, stage_moves, slot_moves, later_acts}
+use Rattle.pdl_invariant.specs.Use.{AllActs, AreOrdered, count_older, bit, reserved_in, reserved_count}
 
 -- EACH STAGE
 
@@ -32,7 +32,7 @@ module _ (p : Pipe) (st : State) (bits : List Bool) (P : Act → Type 0) where
 
   -- the act of the thread in a stage
   abbrev pub act_here : ℕ → Thread → Act
-  act_here k t = record { stage = k; thread = t; does = deeds p st k t; moves = goes p st bits k }
+  act_here k t = record { stage = k; thread = t; does = deeds p st k t; moves = stage_moves p st bits k }
 
   pub at_here : AllActs P (all_acts p st bits) → (k : ℕ) (t : Thread) → here p st bits k ≡ Some t → P (act_here k t)
   at_here h k t e = at (slot st k) refl e
@@ -45,8 +45,8 @@ module _ (p : Pipe) (st : State) (bits : List Bool) (P : Act → Type 0) where
       at (Some u) f g =
           let is : with_answers p st bits u ≡ t = cc in
           let a = acts_at st.stages 0 k u h f in
-          subst (λ b. P (record { stage = k; thread = t; does = deeds p st k t; moves = b })) (ap (goes_of p st bits k) (sym e))
-          (subst (λ v. P (act p st bits (behind p st bits k) k v)) is
+          subst (λ b. P (record { stage = k; thread = t; does = deeds p st k t; moves = b })) (ap (slot_moves p st bits k) (sym e))
+          (subst (λ v. P (act p st bits (later_acts p st bits k) k v)) is
           (subst (λ n. P (act p st bits (acts p st bits (suc n) (drop (suc k) st.stages)) n (with_answers p st bits u))) zero_k a))
 
   -- and of the thread that stood there
@@ -76,7 +76,7 @@ as_many m (r ∷ rs) = at (r.mem == m) (as_many m rs)
     at true h = ap suc h
     at false h = h
 
-pub same_reserved : (m : ℕ) (ms : List Act) → reserved m ms ≡ length (forget.addresses m ms)
+pub same_reserved : (m : ℕ) (ms : List Act) → reserved_count m ms ≡ length (forget.addresses m ms)
 same_reserved m [] = refl
 same_reserved m (a ∷ ms) =
     ap₂ (λ x y. x + y) (same_reserved m ms) (as_many m a.does.reserves) ∙ sym (length-append (forget.addresses m ms) (forget.addresses_of m a.does.reserves))

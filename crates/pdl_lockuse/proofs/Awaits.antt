@@ -1,9 +1,9 @@
 -- A read that awaits its answer is bound no later than the releases of its memory; so what is released meanwhile is no younger.
 use Rattle.std.proofs.Common.{◌≡◌, refl, sym, ap, ◌∙◌, subst, ℕ, ◌≤◌, inl, inr, Bool, true, false, ◌&&◌, ◌||◌, not, List, [], ◌∷◌, ◌++◌, is_some, ◌==◌, nat_lt, cond, eq-eqb}
 use Rattle.std.proofs.lemmas.Bool.{false≢true, eqb-true}
-use Rattle.pdl_semantics.specs.Flat.{Pipe, Op, DelayedRead, Stmt, Guard, taken}
+use Rattle.pdl_semantics.specs.Flat.{Pipe, Op, DelayedRead, Stmt, Guard, all_hold}
 use Rattle.pdl_semantics.specs.Stages.{list_any, onpath, in_stage, commit_stage}
-use Rattle.pdl_semantics.specs.Machine.{State, Awaited, Ask, answer_for, unanswered}
+use Rattle.pdl_semantics.specs.Machine.{State, Awaited, Ask, answer_for, unanswered_reads}
 use Rattle.pdl_semantics.specs.Sound.{stages_before}
 use Rattle.pdl_facts.specs.Scans.{none_of, is_dead}
 use Rattle.pdl_facts.specs.Graphs.{next_of, stage_or}
@@ -45,7 +45,7 @@ module _ (p : Pipe) (fetch : ℕ → ℕ) where
   fetches_op : (s : ℕ) (gs : List Guard) (op : Op) → FetchIf p fetch s gs op → is_dead gs ≡ false → Fetches op
   fetches_op s gs op h e x m a i = (s, (subst (FetchIf p fetch s gs) i h).1 e)
 
-  alive : (gs : List Guard) (env : List ℕ) → taken gs env ≡ true → is_dead gs ≡ false
+  alive : (gs : List Guard) (env : List ℕ) → all_hold gs env ≡ true → is_dead gs ≡ false
   alive gs env t = at (is_dead gs) refl
     where
       at : (b : Bool) → is_dead gs ≡ b → is_dead gs ≡ false
@@ -56,14 +56,14 @@ module _ (p : Pipe) (fetch : ℕ → ℕ) where
   path_fetches env s [] h = tt
   path_fetches env s (x ∷ xs) h = at (nat_lt x.stage s) (path_fetches env s xs h.1)
     where
-      by : (c : Bool) → taken x.guards env ≡ c → AllStmts (λ z. Fetches z.op) (onpath env (stages_before s xs))
+      by : (c : Bool) → all_hold x.guards env ≡ c → AllStmts (λ z. Fetches z.op) (onpath env (stages_before s xs))
           → AllStmts (λ z. Fetches z.op) (cond c (record x { guards = [] } ∷ onpath env (stages_before s xs)) (onpath env (stages_before s xs)))
       by true e r = (fetches_op x.stage x.guards x.op h.0 (alive x.guards env e), r)
       by false e r = r
 
       at : (b : Bool) → AllStmts (λ z. Fetches z.op) (onpath env (stages_before s xs))
           → AllStmts (λ z. Fetches z.op) (onpath env (cond b (x ∷ stages_before s xs) (stages_before s xs)))
-      at true r = by (taken x.guards env) refl r
+      at true r = by (all_hold x.guards env) refl r
       at false r = r
 
   -- all delayed reads of a memory stand in one stage
@@ -120,20 +120,20 @@ module _ (p : Pipe) (sound : Sound p) (st : State) (older : List Live) (l : Live
       at false e i go = go i
 
   -- what it still awaits it awaited
-  still_among : (bits : List Bool) (m : ℕ) (rs : List Awaited) → list_any (λ (r : Awaited). r.mem == m) (unanswered p st bits l.number rs) ≡ true
+  still_among : (bits : List Bool) (m : ℕ) (rs : List Awaited) → list_any (λ (r : Awaited). r.mem == m) (unanswered_reads p st bits l.number rs) ≡ true
       → list_any (λ (r : Awaited). r.mem == m) rs ≡ true
   still_among bits m [] h = h
   still_among bits m (r ∷ rs) h = at (is_some (answer_for p st bits l.number r.mem)) (r.mem == m) refl h (still_among bits m rs)
     where
-      at : (b c : Bool) → (r.mem == m) ≡ c → list_any (λ (r : Awaited). r.mem == m) (cond b [] (r ∷ []) ++ unanswered p st bits l.number rs) ≡ true
-          → (list_any (λ (r : Awaited). r.mem == m) (unanswered p st bits l.number rs) ≡ true → list_any (λ (r : Awaited). r.mem == m) rs ≡ true)
+      at : (b c : Bool) → (r.mem == m) ≡ c → list_any (λ (r : Awaited). r.mem == m) (cond b [] (r ∷ []) ++ unanswered_reads p st bits l.number rs) ≡ true
+          → (list_any (λ (r : Awaited). r.mem == m) (unanswered_reads p st bits l.number rs) ≡ true → list_any (λ (r : Awaited). r.mem == m) rs ≡ true)
           → ((r.mem == m) || list_any (λ (r : Awaited). r.mem == m) rs) ≡ true
       at b true e i go = ap (λ c. c || list_any (λ (r : Awaited). r.mem == m) rs) e
       at true false e i go = ap (λ c. c || list_any (λ (r : Awaited). r.mem == m) rs) e ∙ go i
       at false false e i go =
           ap (λ c. c || list_any (λ (r : Awaited). r.mem == m) rs) e
-          ∙ go (ap (λ c. c || list_any (λ (r : Awaited). r.mem == m) (unanswered p st bits l.number rs)) (sym e) ∙ i)
+          ∙ go (ap (λ c. c || list_any (λ (r : Awaited). r.mem == m) (unanswered_reads p st bits l.number rs)) (sym e) ∙ i)
 
-  pub still_early : (bits : List Bool) (m : ℕ) → list_any (λ (r : Awaited). r.mem == m) (unanswered p st bits l.number l.thread.awaits) ≡ true
+  pub still_early : (bits : List Bool) (m : ℕ) → list_any (λ (r : Awaited). r.mem == m) (unanswered_reads p st bits l.number l.thread.awaits) ≡ true
       → l.thread.stage ≤ commit_stage p m
   still_early bits m h = awaits_early m l.thread.awaits seated.keeps_on.fetched lasting.owns (still_among bits m l.thread.awaits h)

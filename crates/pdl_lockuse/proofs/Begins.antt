@@ -1,19 +1,19 @@
 -- What holds of a thread as its stage begins: its blocks for reading are ready, it holds at most one location of a memory, and a guess has as many arguments as it should. So the statements of its stage are fine.
 use Rattle.std.proofs.Common.{◌≡◌, refl, sym, ap, ap₂, ◌∙◌, subst, ℕ, suc, ◌≤◌, ◌<◌, inl, inr, Bool, true, false, ◌&&◌, ◌||◌, not, List, [], ◌∷◌, ◌++◌, length, None, ◌==◌, cond, if◌then◌else◌, arith, slice_index}
 use Rattle.std.proofs.lemmas.Bool.{false≢true, eqb-true, or_parts, not-true}
-use Rattle.pdl_semantics.specs.Flat.{list_all, Op, Bind, CombRead, DelayedRead, Write, ReserveRead, ReserveWrite, Block, Release, Call, SpecCall, Verify, SpecCheck, SpecBarrier, Stmt, Pipe, Commit, taken}
+use Rattle.pdl_semantics.specs.Flat.{list_all, Op, Bind, CombRead, DelayedRead, Write, ReserveRead, ReserveWrite, Block, Release, Call, SpecCall, Verify, SpecCheck, SpecBarrier, Stmt, Pipe, Commit, all_hold}
 use Rattle.pdl_semantics.specs.Stages.{onpath, in_stage, mem_at, reserve_stage, commit_stage, is_release, verify_stage}
 use Rattle.pdl_semantics.specs.Locks.{read_ready, write_ready}
-use Rattle.pdl_semantics.specs.Machine.{State, Place, Blocked, Reserved, Ask, Deeds, does, is_held, let_go, held_after, held_before, word_for, with_answers}
+use Rattle.pdl_semantics.specs.Machine.{State, HeldLocation, Blocked, Reserved, Ask, Deeds, deeds_after, is_held, let_go, held_after, held_before, word_for, with_answers}
 use Rattle.pdl_semantics.specs.Machine
 use Rattle.pdl_semantics.specs.Sound.{stages_before, is_release_at}
 use Rattle.pdl_semantics.specs.Moves.{block_ready}
 use Rattle.pdl_semantics.specs.Locks.{has_room}
 use Rattle.pdl_semantics.specs.Machine.{lock_of}
-use Rattle.pdl_derived.specs.Derived.{Entry, Work, Around, has, latest, around, port_free}
+use Rattle.pdl_derived.specs.Derived.{Entry, Work, Around, has_entry, latest, around, port_free}
 use Rattle.pdl_derived.specs.Derived
-use Rattle.pdl_derived.specs.Alone.{looked}
-use Rattle.pdl_facts.specs.Scans.{no_guards, Phase, Fresh, Held, Written, Done, phase_all, Scan, no_scan, opened, opens, opens_all, op_ok, reads_ok, none_of, location}
+use Rattle.pdl_derived.specs.Alone.{answered_op}
+use Rattle.pdl_facts.specs.Scans.{no_guards, Phase, Fresh, Held, Written, Done, phase_all, Scan, no_scan, has_location, scan_after, scan_after_all, op_ok, reads_ok, none_of, location}
 use Rattle.pdl_facts.specs.Certain.{Making, Unmade, next_making, making_all, is_guessed}
 use Rattle.pdl_facts.specs.Facts.{Sound, looked_all}
 use Rattle.pdl_derived.proofs.Writes.{and_left, and_right}
@@ -45,7 +45,7 @@ use Rattle.pdl_lockuse.proofs.Paths.{path, mine, passed, mine_new, mine_let_in, 
 
 -- STATEMENTS THAT WENT BY
 
-unheld_let_go : (hs : List Place) (n b m a : ℕ) → is_held hs m a ≡ false → is_held (let_go hs n b) m a ≡ false
+unheld_let_go : (hs : List HeldLocation) (n b m a : ℕ) → is_held hs m a ≡ false → is_held (let_go hs n b) m a ≡ false
 unheld_let_go [] n b m a h = h
 unheld_let_go (l ∷ hs) n b m a h =
     let k = or_parts ((l.mem == m) && (l.var == a)) (is_held hs m a) h in
@@ -56,12 +56,12 @@ unheld_let_go (l ∷ hs) n b m a h =
     at true i j r = j
     at false i j r = ap₂ (λ x y. x || y) i r
 
-unheld_op : (m a : ℕ) (op : Op) (hs : List Place) → reserves_at m a op ≡ false → is_held hs m a ≡ false → is_held (held_after op hs) m a ≡ false
+unheld_op : (m a : ℕ) (op : Op) (hs : List HeldLocation) → reserves_at m a op ≡ false → is_held hs m a ≡ false → is_held (held_after op hs) m a ≡ false
 unheld_op m a (ReserveWrite n b) hs r h = ap₂ (λ x y. x || y) r h
 unheld_op m a (Release n b) hs r h = unheld_let_go hs n b m a h
 unheld_op m a _ hs r h = h
 
-unheld_all : (m a : ℕ) (xs : List Stmt) (hs : List Place) → none_of (reserves_at m a) xs ≡ true → is_held hs m a ≡ false → is_held (held_ops xs hs) m a ≡ false
+unheld_all : (m a : ℕ) (xs : List Stmt) (hs : List HeldLocation) → none_of (reserves_at m a) xs ≡ true → is_held hs m a ≡ false → is_held (held_ops xs hs) m a ≡ false
 unheld_all m a [] hs r h = h
 unheld_all m a (x ∷ xs) hs r h =
     unheld_all m a xs (held_after x.op hs) (and_right (not (reserves_at m a x.op)) _ r) (unheld_op m a x.op hs (not-true _ (and_left _ _ r)) h)
@@ -85,12 +85,12 @@ unreleased_onto m a (x ∷ xs) past r h =
 module _ (p : Pipe) (s : ℕ) (clean : ℕ → ℕ → Type 0) (env : List ℕ) (o : Around) (es : List Entry) (past : List Op)
     (unreleased : (m a : ℕ) → s ≤ commit_stage p m → is_released m a past ≡ false)
     (cleans : (m a : ℕ) → o.can_read m (slice_index env a) ≡ true → clean m (slice_index env a)) where
-  block_right : (c : Scan) (hs : List Place) (m a : ℕ) (xs : List Stmt) → Covers c.held hs → reserve_stage p m ≤ s → BlockOk o env es past (Block m a)
+  block_right : (c : Scan) (hs : List HeldLocation) (m a : ℕ) (xs : List Stmt) → Covers c.held hs → reserve_stage p m ≤ s → BlockOk o env es past (Block m a)
       → none_of (reserves_at m a) xs ≡ true → places es ≡ held_ops xs hs → Right p s clean c.blocked env
-      → Right p s clean (cond (opened c.held m a) c (record { held = c.held; blocked = location m a ∷ c.blocked })).blocked env
-  block_right c hs m a xs f low b r e k = at (opened c.held m a) refl
+      → Right p s clean (cond (has_location c.held m a) c (record { held = c.held; blocked = location m a ∷ c.blocked })).blocked env
+  block_right c hs m a xs f low b r e k = at (has_location c.held m a) refl
     where
-      at : (t : Bool) → opened c.held m a ≡ t → Right p s clean (cond t c (record { held = c.held; blocked = location m a ∷ c.blocked })).blocked env
+      at : (t : Bool) → has_location c.held m a ≡ t → Right p s clean (cond t c (record { held = c.held; blocked = location m a ∷ c.blocked })).blocked env
       at true q = k
       at false q = (low, (λ early. by early b), k)
         where
@@ -101,30 +101,30 @@ module _ (p : Pipe) (s : ℕ) (clean : ℕ → ℕ → Type 0) (env : List ℕ) 
               go true i = absurd (false≢true (sym q ∙ f m a i))
               go false i = i
 
-          none : has es m a ≡ false
+          none : has_entry es m a ≡ false
           none = sym (places_has es m a) ∙ ap (λ l. is_held l m a) e ∙ unheld_all m a xs hs r not_held
 
           by : s ≤ commit_stage p m → BlockOk o env es past (Block m a) → clean m (slice_index env a)
           by early (inl i) = absurd (false≢true (sym (unreleased m a early) ∙ i))
           by early (inr i) = cleans m a (subst (λ t. cond t (o.can_write m (slice_index env a)) (o.can_read m (slice_index env a)) ≡ true) none i)
 
-  right_op : (c : Scan) (hs : List Place) (op : Op) (xs : List Stmt) → Covers c.held hs → LowBlock p s op → BlockOk o env es past op → keeps_kind op xs ≡ true
-      → places es ≡ held_ops xs (held_after op hs) → Right p s clean c.blocked env → Right p s clean (opens (looked op) c).blocked env
+  right_op : (c : Scan) (hs : List HeldLocation) (op : Op) (xs : List Stmt) → Covers c.held hs → LowBlock p s op → BlockOk o env es past op → keeps_kind op xs ≡ true
+      → places es ≡ held_ops xs (held_after op hs) → Right p s clean c.blocked env → Right p s clean (scan_after (answered_op op) c).blocked env
   right_op c hs (Block m a) xs f low b r e k = block_right c hs m a xs f (low m a refl) b r e k
   right_op c hs (DelayedRead x m a) xs f low b r e k = k
   right_op c hs _ xs f low b r e k = k
 
-  right_all : (c : Scan) (hs : List Place) (xs : List Stmt) → Covers c.held hs → AllStmts (λ z. LowBlock p s z.op) xs
+  right_all : (c : Scan) (hs : List HeldLocation) (xs : List Stmt) → Covers c.held hs → AllStmts (λ z. LowBlock p s z.op) xs
       → AllStmts (λ z. BlockOk o env es past z.op) xs → all_keep_kind xs ≡ true → places es ≡ held_ops xs hs → Right p s clean c.blocked env
-      → Right p s clean (opens_all (looked_all xs) c).blocked env
+      → Right p s clean (scan_after_all (looked_all xs) c).blocked env
   right_all c hs [] f low b r e k = k
   right_all c hs (x ∷ xs) f low b r e k =
-      right_all (opens (looked x.op) c) (held_after x.op hs) xs (covers_op c x.op hs f) low.1 b.1 (and_right (keeps_kind x.op xs) _ r) e
+      right_all (scan_after (answered_op x.op) c) (held_after x.op hs) xs (covers_op c x.op hs f) low.1 b.1 (and_right (keeps_kind x.op xs) _ r) e
       (right_op c hs x.op xs f low.0 b.0 (and_left _ _ r) e k)
 
-covers_all : (c : Scan) (hs : List Place) (xs : List Stmt) → Covers c.held hs → Covers (opens_all (looked_all xs) c).held (held_ops xs hs)
+covers_all : (c : Scan) (hs : List HeldLocation) (xs : List Stmt) → Covers c.held hs → Covers (scan_after_all (looked_all xs) c).held (held_ops xs hs)
 covers_all c hs [] f = f
-covers_all c hs (x ∷ xs) f = covers_all (opens (looked x.op) c) (held_after x.op hs) xs (covers_op c x.op hs f)
+covers_all c hs (x ∷ xs) f = covers_all (scan_after (answered_op x.op) c) (held_after x.op hs) xs (covers_op c x.op hs f)
 
 -- ONE LOCATION OF A MEMORY
 
@@ -149,7 +149,7 @@ once_shape m Done es h =
 -- THE GUESS
 
 guess_op : (size : ℕ) (env guess : List ℕ) (g : Making) (op : Op) → DoneOp env guess op → passes_on size op ≡ true
-    → (is_guessed g ≡ true → length guess ≡ size) → is_guessed (next_making g (looked op)) ≡ true → length guess ≡ size
+    → (is_guessed g ≡ true → length guess ≡ size) → is_guessed (next_making g (answered_op op)) ≡ true → length guess ≡ size
 guess_op size env guess g (SpecCall args) h y f i = ap length h ∙ values_long args env ∙ eqb-true (length args) size y
 guess_op size env guess g (Call args) h y f i = absurd (false≢true i)
 guess_op size env guess g (Verify args) h y f i = absurd (false≢true i)
@@ -161,7 +161,7 @@ guess_all : (size : ℕ) (env guess : List ℕ) (g : Making) (xs : List Stmt) �
     → length guess ≡ size
 guess_all size env guess g [] h y f i = f i
 guess_all size env guess g (x ∷ xs) h y f i =
-    guess_all size env guess (next_making g (looked x.op)) xs h.1 (and_right (passes_on size x.op) _ y)
+    guess_all size env guess (next_making g (answered_op x.op)) xs h.1 (and_right (passes_on size x.op) _ y)
     (guess_op size env guess g x.op h.0 (and_left _ _ y) f) i
 
 -- READS OF ONE PATH ARE READS OF THE PIPE
@@ -183,7 +183,7 @@ op_same p zs s c SpecBarrier = refl
 
 reads_same : (p : Pipe) (zs : List Stmt) (c : Scan) (xs : List Stmt) → reads_ok (record p { stmts = zs }) c xs ≡ reads_ok p c xs
 reads_same p zs c [] = refl
-reads_same p zs c (x ∷ xs) = ap₂ (λ a b. (no_guards x.guards && a) && b) (op_same p zs x.stage c x.op) (reads_same p zs (opens x.op c) xs)
+reads_same p zs c (x ∷ xs) = ap₂ (λ a b. (no_guards x.guards && a) && b) (op_same p zs x.stage c x.op) (reads_same p zs (scan_after x.op c) xs)
 
 -- a stage's statements are carried out as the path at their end tells
 module _ (o : Around) (read : ℕ → ℕ → ℕ) (block : Blocked → Bool) (room : Reserved → Bool) (free : Ask → Bool) where
@@ -191,9 +191,9 @@ module _ (o : Around) (read : ℕ → ℕ → ℕ) (block : Blocked → Bool) (r
       → Fixed path o xs (work_of o read block room free d es cs) → IsAlong path read xs d
   along_of path [] d es cs h f q = tt
   along_of path (x ∷ xs) d es cs h f q =
-      let t = told_step o read block room free (taken x.guards d.env) x.op d es cs h f.0 in
-      let w : Work = cond (taken x.guards d.env) (Derived.does o x.op (work_of o read block room free d es cs)) (work_of o read block room free d es cs) in
-      (q.0, along_of path xs (if taken x.guards d.env then does read x.op d else d) w.entries w.commits t.held f.1 (subst (λ v. Fixed path o xs v) t.is q.1))
+      let t = told_step o read block room free (all_hold x.guards d.env) x.op d es cs h f.0 in
+      let w : Work = cond (all_hold x.guards d.env) (Derived.work_after o x.op (work_of o read block room free d es cs)) (work_of o read block room free d es cs) in
+      (q.0, along_of path xs (if all_hold x.guards d.env then deeds_after read x.op d else d) w.entries w.commits t.held f.1 (subst (λ v. Fixed path o xs v) t.is q.1))
 
 -- A LIVE THREAD
 
@@ -244,7 +244,7 @@ module _ (p : Pipe) (sound : Sound p) (st : State) (d : Derived.State) (bits : L
   passed_held = held_path l.thread.stage l.env p.stmts []
 
   module _ (strict : Strict p) (careful : Careful p) (lasting : Lasting p st l older) where
-    now_local : Local p l.env (l.kept ++ Machine.answered p st bits l.number l.thread.awaits) (now_of p d bits l)
+    now_local : Local p l.env (l.kept ++ Machine.answered_reads p st bits l.number l.thread.awaits) (now_of p d bits l)
     now_local =
         local_answered p st bits l.number l.env l.kept l.thread (now_of p d bits l).env (Derived.still p bits l.thread.awaits) k.waits lasting.local
         (awaited_map (λ r i. any_ask_map (λ q j. j.0) lasting.local.asks i) l.thread.awaits lasting.owns)
@@ -254,8 +254,8 @@ module _ (p : Pipe) (sound : Sound p) (st : State) (d : Derived.State) (bits : L
     blocks_past =
         subst
         (λ e. AllOps (BlockOk (look_at p (threads_of older)) e l.thread.entries (past_of p l.env l.thread.stage)) (past_of p l.env l.thread.stage)) k.values
-        (kept_blocks (look_at p (threads_of older)) l.thread.entries (past_of p l.env l.thread.stage) (past_of p l.env l.thread.stage) (l.kept ++ Machine.answered p st bits l.number l.thread.awaits) l.env
-        (kept_unused p l.env (l.kept ++ Machine.answered p st bits l.number l.thread.awaits) (now_of p d bits l) now_local) lasting.blocks)
+        (kept_blocks (look_at p (threads_of older)) l.thread.entries (past_of p l.env l.thread.stage) (past_of p l.env l.thread.stage) (l.kept ++ Machine.answered_reads p st bits l.number l.thread.awaits) l.env
+        (kept_unused p l.env (l.kept ++ Machine.answered_reads p st bits l.number l.thread.awaits) (now_of p d bits l) now_local) lasting.blocks)
 
     blocks_now : AllStmts (λ z. BlockOk (look_at p (threads_of older)) (now_of p d bits l).env l.thread.entries (past_of p l.env l.thread.stage) z.op)
         done
@@ -275,18 +275,18 @@ module _ (p : Pipe) (sound : Sound p) (st : State) (d : Derived.State) (bits : L
         unreleased_onto m a done []
         (none_onpath (is_release m) l.env (stages_before l.thread.stage p.stmts) (none_till (is_release m) (commit_stage p m) l.thread.stage p.stmts ((sound_flows p sound).releases m) i)) refl
 
-    reads_here : reads_ok p (opens_all (looked_all done) no_scan)
+    reads_here : reads_ok p (scan_after_all (looked_all done) no_scan)
         (looked_all own) ≡ true
     reads_here =
-        sym (reads_same p (onpath way (looked_all p.stmts)) (opens_all (looked_all done) no_scan) (looked_all own))
+        sym (reads_same p (onpath way (looked_all p.stmts)) (scan_after_all (looked_all done) no_scan) (looked_all own))
         ∙ mine_reads p sound st d bits arrays older l k
 
-    covers_start : Covers (opens_all (looked_all done) no_scan).held (held_before l.thread.stage l.env p.stmts [])
+    covers_start : Covers (scan_after_all (looked_all done) no_scan).held (held_before l.thread.stage l.env p.stmts [])
     covers_start =
-        subst (Covers (opens_all (looked_all done) no_scan).held) (sym passed_held)
+        subst (Covers (scan_after_all (looked_all done) no_scan).held) (sym passed_held)
         (covers_all no_scan [] done (λ m a h. h))
 
-    right_start : Right p l.thread.stage (Clean p st l.number) (opens_all (looked_all done) no_scan).blocked
+    right_start : Right p l.thread.stage (Clean p st l.number) (scan_after_all (looked_all done) no_scan).blocked
         (now_of p d bits l).env
     right_start =
         right_all p l.thread.stage (Clean p st l.number) (now_of p d bits l).env (look_at p (threads_of older)) l.thread.entries
@@ -314,7 +314,7 @@ module _ (p : Pipe) (sound : Sound p) (st : State) (d : Derived.State) (bits : L
     pub let_here : AreLetIn p st l.number (in_stage l.thread.stage p.stmts) (before_stage p l.thread.stage (with_answers p st bits (seat l)))
     let_here =
         subst (AreLetIn p st l.number (in_stage l.thread.stage p.stmts)) (sym begun_is)
-        (let_all p st l.number p.vars l.thread.stage (opens_all (looked_all done) no_scan) way (past_of p l.env l.thread.stage) (in_stage l.thread.stage p.stmts) begun
+        (let_all p st l.number p.vars l.thread.stage (scan_after_all (looked_all done) no_scan) way (past_of p l.env l.thread.stage) (in_stage l.thread.stage p.stmts) begun
         (in_stage_all l.thread.stage p.stmts) along_here reads_here (mine_new p sound st d bits arrays older l k strict)
         (mine_let_in p sound st d bits arrays older l k careful) (mine_early p sound st d bits arrays older l k strict)
         covers_start (λ e. right_start) (λ e. let_begin))
@@ -323,7 +323,7 @@ module _ (p : Pipe) (sound : Sound p) (st : State) (d : Derived.State) (bits : L
     pub fine_here : AreFine p st l.number (in_stage l.thread.stage p.stmts) (before_stage p l.thread.stage (with_answers p st bits (seat l)))
     fine_here =
         subst (AreFine p st l.number (in_stage l.thread.stage p.stmts)) (sym begun_is)
-        (fine_all p st l.number (length p.start) l.thread.stage (verify_stage (looked_all p.stmts)) (opens_all (looked_all done) no_scan) way
+        (fine_all p st l.number (length p.start) l.thread.stage (verify_stage (looked_all p.stmts)) (scan_after_all (looked_all done) no_scan) way
         (λ m. phase_all m Fresh done) (making_all Unmade (looked_all done))
         (in_stage l.thread.stage p.stmts) begun
         (in_stage_all l.thread.stage p.stmts) along_here

@@ -8,11 +8,11 @@ use Rattle.pdl_semantics.specs.Flatten.{Var, var_of, mem_of}
 use Rattle.pdl_rules.specs.Places.{Place, Parameter, Memory, Statement, Branch}
 use Rattle.pdl_rules.specs.Parts.{location_of}
 use Rattle.pdl_rules.specs.Locks
-use Rattle.pdl_rules.specs.Locks.{same_location, Hold, Nothing, Reserved, Blocked, Released, after_place, held, is_blocked, is_blocked_for}
+use Rattle.pdl_rules.specs.Locks.{same_location, Hold, Nothing, Reserved, Blocked, Released, after_place, hold_after, is_blocked, is_blocked_for}
 use Rattle.pdl_rules.specs.Typed.{is_named}
 use Rattle.pdl_rules.proofs.EachPlace.{Each}
 use Rattle.pdl_rules.proofs.Once.{KeepsLocks}
-use Rattle.pdl_derived.specs.Alone.{looked}
+use Rattle.pdl_derived.specs.Alone.{answered_op}
 use Rattle.pdl_facts.specs.Facts.{looked_all}
 use Rattle.pdl_stagefacts.proofs.Sites.{Site, front_of, place_of, closing, All}
 use Rattle.pdl_pathfacts.proofs.Numbers.{var_stays}
@@ -26,12 +26,12 @@ use Rattle.pdl_word.proofs.Bytes.{bytes_same}
 
 -- WHERE DELAYED READS ARE READS
 
-block_looked : (m a : ℕ) (op : Flat.Op) → is_block_at m a (looked op) ≡ is_block_at m a op
+block_looked : (m a : ℕ) (op : Flat.Op) → is_block_at m a (answered_op op) ≡ is_block_at m a op
 block_looked m a (Flat.DelayedRead x n b) = refl
 block_looked m a _ = refl
 
 let_looked : (op : Flat.Op) (past past' : List Flat.Op) → ((m a : ℕ) → was_blocked m a past' ≡ was_blocked m a past)
-    → is_let_in (looked op) past' ≡ is_let_in op past
+    → is_let_in (answered_op op) past' ≡ is_let_in op past
 let_looked (Flat.Write m a e) past past' f = f m a
 let_looked (Flat.DelayedRead x n b) past past' f = refl
 let_looked _ past past' f = refl
@@ -41,7 +41,7 @@ pub lets_looked : (past past' : List Flat.Op) → ((m a : ℕ) → was_blocked m
 lets_looked past past' f [] = refl
 lets_looked past past' f (x ∷ xs) =
     ap₂ (λ a b. a && b) (let_looked x.op past past' f)
-    (lets_looked (x.op ∷ past) (looked x.op ∷ past') (λ m a. ap₂ (λ b c. b || c) (block_looked m a x.op) (f m a)) xs)
+    (lets_looked (x.op ∷ past) (answered_op x.op ∷ past') (λ m a. ap₂ (λ b c. b || c) (block_looked m a x.op) (f m a)) xs)
 
 -- WHAT IS BLOCKED
 
@@ -59,7 +59,7 @@ module _ (ms : List Mem) where
 
   -- what is blocked after these places was
   abbrev Blocks : List Place → List Var → List Flat.Op → Type 0
-  Blocks before vs past = (l : Location) → is_blocked (held l before) ≡ true → WasBlocked vs past l
+  Blocks before vs past = (l : Location) → is_blocked (hold_after l before) ≡ true → WasBlocked vs past l
 
   carry : (vs ws : List Var) (zs : List Flat.Stmt) (past : List Flat.Op) (l : Location) → Grown vs ws → WasBlocked vs past l → WasBlocked ws (onto zs past) l
   carry vs ws zs past l g w =
@@ -79,7 +79,7 @@ module _ (ms : List Mem) where
       by false i = inl i
   blocked_or l h (Block sp at) bs e = by (same_location at l) refl e
     where
-      by : (b : Bool) → same_location at l ≡ b → is_blocked (if b then Locks.blocked h else h) ≡ true → (is_blocked h ≡ true) ⊎ BlocksIt l (Block sp at)
+      by : (b : Bool) → same_location at l ≡ b → is_blocked (if b then Locks.after_block h else h) ≡ true → (is_blocked h ≡ true) ⊎ BlocksIt l (Block sp at)
       by true f i = inr (sp, at, refl, f)
       by false f i = inl i
   blocked_or l h (Release sp at) bs e = by (same_location at l) e
@@ -105,9 +105,9 @@ module _ (ms : List Mem) where
   step : (k : ℕ) (before : List Place) (past : List Flat.Op) (vs ws : List Var) (s : Stmt) (bs : List Branch) → Grown vs ws
       → ((at : Location) → location_of s ≡ Some at → IsNamed ms ws at) → Blocks before vs past
       → Blocks (before ++ Statement s bs ∷ []) (vars_past ms ws s) (onto (seen_ops k (ops_of ms ws s)) past)
-  step k before past vs ws s bs g named i = λ l h. by l (blocked_or l (held l before) s bs (ap is_blocked (sym (held_more l before (Statement s bs))) ∙ h))
+  step k before past vs ws s bs g named i = λ l h. by l (blocked_or l (hold_after l before) s bs (ap is_blocked (sym (held_more l before (Statement s bs))) ∙ h))
     where
-      by : (l : Location) → (is_blocked (held l before) ≡ true) ⊎ BlocksIt l s → WasBlocked (vars_past ms ws s) (onto (seen_ops k (ops_of ms ws s)) past) l
+      by : (l : Location) → (is_blocked (hold_after l before) ≡ true) ⊎ BlocksIt l s → WasBlocked (vars_past ms ws s) (onto (seen_ops k (ops_of ms ws s)) past) l
       by l (inl e) = carry vs (vars_past ms ws s) (seen_ops k (ops_of ms ws s)) past l (grown_more vs ws (vars_past ms ws s) g (past_grown ms ws s)) (i l e)
       by l (inr b) = block_here k ws past l s named b
 
@@ -122,7 +122,7 @@ module _ (ms : List Mem) where
 pub sites_let : (p : Pipe) (vs us : List Var) (before : List Place) (past : List Flat.Op) (ts : List Site) → Grows p.mems vs ts us
     → Each (KeepsLocks p) before (map place_of ts ++ closing p) → All (λ t. (l : Location) → location_of t.stmt ≡ Some l → IsNamed p.mems t.walk.vars l) ts
     →
-    ((l : Location) → is_blocked (held l before) ≡ true → (is_named vs l.address.name ≡ true) × (was_blocked (mem_of p.mems l.mem.name) (var_of vs l.address.name) past ≡ true))
+    ((l : Location) → is_blocked (hold_after l before) ≡ true → (is_named vs l.address.name ≡ true) × (was_blocked (mem_of p.mems l.mem.name) (var_of vs l.address.name) past ≡ true))
     → all_let_in past (seen p.mems ts) ≡ true
 sites_let p vs us before past [] g each named i = refl
 sites_let p vs us before past (t ∷ ts) g each named i =
@@ -133,7 +133,7 @@ sites_let p vs us before past (t ∷ ts) g each named i =
         → was_blocked (mem_of p.mems at.mem.name) (var_of t.walk.vars at.address.name) past ≡ true
     write sp at v e =
         (carry p.mems vs t.walk.vars [] past at g.0
-        (i at (blocked_some p.mems (held at before) (not-false _ (subst (λ s. Locks.lacks_hold p before (Statement s t.branches) ≡ false) e each.0.l1))))).1
+        (i at (blocked_some p.mems (hold_after at before) (not-false _ (subst (λ s. Locks.lacks_hold p before (Statement s t.branches) ≡ false) e each.0.l1))))).1
 
     here : (s : Stmt) → t.stmt ≡ s → all_let_in (onto (seen_ops t.walk.stage (ops_of p.mems t.walk.vars s)) past) (seen p.mems ts) ≡ true
         → all_let_in past (seen_ops t.walk.stage (ops_of p.mems t.walk.vars s) ++ seen p.mems ts) ≡ true
@@ -177,5 +177,5 @@ mems_still l test (m ∷ ms) = at (test (Memory m)) ∙ mems_still l test ms
     at true = refl
     at false = refl
 
-pub none_blocked : (p : Pipe) (test : Place → Bool) (l : Location) → is_blocked (held l (filter test (front_of p))) ≡ false
+pub none_blocked : (p : Pipe) (test : Place → Bool) (l : Location) → is_blocked (hold_after l (filter test (front_of p))) ≡ false
 none_blocked p test l = ap is_blocked (params_still l test p.params (map Memory p.mems) ∙ mems_still l test p.mems)

@@ -1,7 +1,7 @@
 -- A thread that releases a write before V has passed a barrier, so that all older ones stand after V.
 use Rattle.std.proofs.Common.{◌≡◌, refl, sym, ap, ◌∙◌, subst, ℕ, ◌<◌, Bool, true, false, ◌&&◌, ◌||◌, not, List, [], ◌∷◌, ◌++◌, Option, Some, None, ◌==◌, nat_lt, nat_le, cond, arith, le_refl, ltb-true, leb-true, lt-ltb}
 use Rattle.std.proofs.lemmas.Bool.{false≢true}
-use Rattle.pdl_semantics.specs.Flat.{list_all, Pipe, Branch, Op, Block, SpecBarrier, Stmt, taken}
+use Rattle.pdl_semantics.specs.Flat.{list_all, Pipe, Branch, Op, Block, SpecBarrier, Stmt, all_hold}
 use Rattle.pdl_semantics.specs.Stages.{list_any, onpath, in_stage, stage_at, verify_stage}
 use Rattle.pdl_semantics.specs.Machine.{State}
 use Rattle.pdl_semantics.specs.Sound
@@ -33,7 +33,7 @@ use Rattle.pdl_turns.proofs.Pending.{phase_append}
 -- barriers stand in the trunk alone
 not_barred : (xs : List Stmt) (path : List ℕ) → none_of trunk_only xs ≡ true → stage.some_barrier (onpath path xs) ≡ true → ⊥
 not_barred [] path h k = cc k
-not_barred (x ∷ xs) path h k = at (taken x.guards path) k (λ i. not_barred xs path (and_right (not (trunk_only x.op)) _ h) i)
+not_barred (x ∷ xs) path h k = at (all_hold x.guards path) k (λ i. not_barred xs path (and_right (not (trunk_only x.op)) _ h) i)
   where
     no : (op : Op) → not (trunk_only op) ≡ true → Sound.is_barrier op ≡ true → ⊥
     no SpecBarrier i j = cc i

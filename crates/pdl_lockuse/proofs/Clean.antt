@@ -4,9 +4,9 @@ use Rattle.std.proofs.lemmas.List.{get_or-set_other}
 use Rattle.std.proofs.lemmas.Bool.{false≢true, or_right, eqb-true, eqb-false}
 use Rattle.pdl_semantics.specs.Flat.{Op, DelayedRead, Write, ReserveWrite, Block, Release, Verify, Pipe, values_of}
 use Rattle.pdl_semantics.specs.Stages.{commit_stage}
-use Rattle.pdl_semantics.specs.Machine.{Place, Deeds, does, is_held, let_go, held_after, same_args}
-use Rattle.pdl_derived.specs.Alone.{Location, looked}
-use Rattle.pdl_facts.specs.Scans.{Phase, Fresh, Held, Written, Done, after_release, next_phase, is_fresh, Scan, uses, opened, opens, location}
+use Rattle.pdl_semantics.specs.Machine.{HeldLocation, Deeds, deeds_after, is_held, let_go, held_after, same_args}
+use Rattle.pdl_derived.specs.Alone.{Location, answered_op}
+use Rattle.pdl_facts.specs.Scans.{Phase, Fresh, Held, Written, Done, after_release, next_phase, is_fresh, Scan, is_address, has_location, scan_after, location}
 use Rattle.pdl_derived.proofs.Writes.{and_left}
 use Rattle.pdl_turns.proofs.Alike.{Right}
 use Rattle.pdl_simulation.proofs.FlowFacts.{use_ok}
@@ -15,7 +15,7 @@ use Rattle.pdl_word.proofs.Bools.{or_map}
 -- BLOCKED FOR READING
 
 -- setting a variable that is no address keeps locations right
-pub right_set : (p : Pipe) (s : ℕ) (clean : ℕ → ℕ → Type 0) (ls : List Location) (env : List ℕ) (x v : ℕ) → not (uses ls x) ≡ true → Right p s clean ls env
+pub right_set : (p : Pipe) (s : ℕ) (clean : ℕ → ℕ → Type 0) (ls : List Location) (env : List ℕ) (x v : ℕ) → not (is_address ls x) ≡ true → Right p s clean ls env
     → Right p s clean ls (slice_set env x v)
 right_set p s clean [] env x v h r = tt
 right_set p s clean (l ∷ ls) env x v h r = (
@@ -24,16 +24,16 @@ right_set p s clean (l ∷ ls) env x v h r = (
   right_set p s clean ls env x v (later (l.var == x) h) r.2,
 )
   where
-    apart : (b : Bool) → (l.var == x) ≡ b → not (b || uses ls x) ≡ true → l.var ≢ x
+    apart : (b : Bool) → (l.var == x) ≡ b → not (b || is_address ls x) ≡ true → l.var ≢ x
     apart true e t q = cc
     apart false e t q = eqb-false l.var x e q
 
-    later : (b : Bool) → not (b || uses ls x) ≡ true → not (uses ls x) ≡ true
+    later : (b : Bool) → not (b || is_address ls x) ≡ true → not (is_address ls x) ≡ true
     later true t = cc
     later false t = t
 
 -- a location among them is clean
-pub right_at : (p : Pipe) (s : ℕ) (clean : ℕ → ℕ → Type 0) (ls : List Location) (env : List ℕ) (m a : ℕ) → opened ls m a ≡ true → s ≤ commit_stage p m
+pub right_at : (p : Pipe) (s : ℕ) (clean : ℕ → ℕ → Type 0) (ls : List Location) (env : List ℕ) (m a : ℕ) → has_location ls m a ≡ true → s ≤ commit_stage p m
     → Right p s clean ls env → clean m (slice_index env a)
 right_at p s clean [] env m a h c r = absurd (cc h)
 right_at p s clean (l ∷ ls) env m a h c r = at (l.mem == m) refl (l.var == a) refl h (λ t. right_at p s clean ls env m a t c r.2)
@@ -41,8 +41,8 @@ right_at p s clean (l ∷ ls) env m a h c r = at (l.mem == m) refl (l.var == a) 
     here : l.mem ≡ m → l.var ≡ a → clean m (slice_index env a)
     here i j = subst (λ n. clean n (slice_index env a)) i (subst (λ y. clean l.mem (slice_index env y)) j (r.1 (subst (λ n. s ≤ commit_stage p n) (sym i) c)))
 
-    at : (b : Bool) → (l.mem == m) ≡ b → (d : Bool) → (l.var == a) ≡ d → ((b && d) || opened ls m a) ≡ true
-        → (opened ls m a ≡ true → clean m (slice_index env a)) → clean m (slice_index env a)
+    at : (b : Bool) → (l.mem == m) ≡ b → (d : Bool) → (l.var == a) ≡ d → ((b && d) || has_location ls m a) ≡ true
+        → (has_location ls m a ≡ true → clean m (slice_index env a)) → clean m (slice_index env a)
     at true e true f t rest = here (eqb-true l.mem m e) (eqb-true l.var a f)
     at true e false f t rest = rest t
     at false e d f t rest = rest t
@@ -50,10 +50,10 @@ right_at p s clean (l ∷ ls) env m a h c r = at (l.mem == m) refl (l.var == a) 
 -- HELD FOR WRITING
 
 -- what is held was reserved
-abbrev pub Covers : List Location → List Place → Type 0
-Covers ls hs = (m a : ℕ) → is_held hs m a ≡ true → opened ls m a ≡ true
+abbrev pub Covers : List Location → List HeldLocation → Type 0
+Covers ls hs = (m a : ℕ) → is_held hs m a ≡ true → has_location ls m a ≡ true
 
-held_let_go : (hs : List Place) (n b m a : ℕ) → is_held (let_go hs n b) m a ≡ true → is_held hs m a ≡ true
+held_let_go : (hs : List HeldLocation) (n b m a : ℕ) → is_held (let_go hs n b) m a ≡ true → is_held hs m a ≡ true
 held_let_go [] n b m a h = h
 held_let_go (l ∷ hs) n b m a h = at ((l.mem == n) && (l.var == b)) h (held_let_go hs n b m a)
   where
@@ -62,19 +62,19 @@ held_let_go (l ∷ hs) n b m a h = at ((l.mem == n) && (l.var == b)) h (held_let
     at true k f = or_right ((l.mem == m) && (l.var == a)) (is_held hs m a) k
     at false k f = or_map ((l.mem == m) && (l.var == a)) (is_held (let_go hs n b) m a) (is_held hs m a) f k
 
-covers_block : (b : Bool) (c : Scan) (l : Location) (hs : List Place) → Covers c.held hs
+covers_block : (b : Bool) (c : Scan) (l : Location) (hs : List HeldLocation) → Covers c.held hs
     → Covers (cond b c (record { held = c.held; blocked = l ∷ c.blocked })).held hs
 covers_block true c l hs f = f
 covers_block false c l hs f = f
 
-pub covers_op : (c : Scan) (op : Op) (hs : List Place) → Covers c.held hs → Covers (opens (looked op) c).held (held_after op hs)
-covers_op c (ReserveWrite n b) hs f = λ m a h. or_map ((n == m) && (b == a)) (is_held hs m a) (opened c.held m a) (f m a) h
+pub covers_op : (c : Scan) (op : Op) (hs : List HeldLocation) → Covers c.held hs → Covers (scan_after (answered_op op) c).held (held_after op hs)
+covers_op c (ReserveWrite n b) hs f = λ m a h. or_map ((n == m) && (b == a)) (is_held hs m a) (has_location c.held m a) (f m a) h
 covers_op c (Release n b) hs f = λ m a h. f m a (held_let_go hs n b m a h)
-covers_op c (Block n b) hs f = covers_block (opened c.held n b) c (location n b) hs f
+covers_op c (Block n b) hs f = covers_block (has_location c.held n b) c (location n b) hs f
 covers_op c (DelayedRead x n b) hs f = f
 covers_op c _ hs f = f
 
-pub held_does : (read : ℕ → ℕ → ℕ) (op : Op) (d : Deeds) → (does read op d).held ≡ held_after op d.held
+pub held_does : (read : ℕ → ℕ → ℕ) (op : Op) (d : Deeds) → (deeds_after read op d).held ≡ held_after op d.held
 held_does read (Verify args) d = at (same_args (values_of args d.env) d.guess)
   where
     at : (b : Bool) → (cond b d (record d { child = Some (values_of args d.env); fails = true })).held ≡ d.held
@@ -84,16 +84,16 @@ held_does read _ d = refl
 
 -- AT MOST ONE LOCATION OF A MEMORY
 
-abbrev pub count_mem : ℕ → List Place → ℕ
+abbrev pub count_mem : ℕ → List HeldLocation → ℕ
 count_mem m [] = 0
 count_mem m (l ∷ ls) = if l.mem == m then suc (count_mem m ls) else count_mem m ls
 
 -- at most one place of a memory, and none before its reservation
-pub record IsOnce (m : ℕ) (ph : Phase) (ls : List Place) : Type 0 where
+pub record IsOnce (m : ℕ) (ph : Phase) (ls : List HeldLocation) : Type 0 where
   pub none : is_fresh ph ≡ true → count_mem m ls ≡ 0
   pub one : count_mem m ls ≤ 1
 
-none_held : (m a : ℕ) (hs : List Place) → count_mem m hs ≡ 0 → is_held hs m a ≡ false
+none_held : (m a : ℕ) (hs : List HeldLocation) → count_mem m hs ≡ 0 → is_held hs m a ≡ false
 none_held m a [] e = refl
 none_held m a (g ∷ hs) e = by (g.mem == m) e (none_held m a hs)
   where
@@ -103,7 +103,7 @@ none_held m a (g ∷ hs) e = by (g.mem == m) e (none_held m a hs)
     by false e go = go e
 
 -- what is released is held no more
-pub released_here : (m a : ℕ) (ls : List Place) → count_mem m ls ≤ 1 → is_held (let_go ls m a) m a ≡ false
+pub released_here : (m a : ℕ) (ls : List HeldLocation) → count_mem m ls ≤ 1 → is_held (let_go ls m a) m a ≡ false
 released_here m a [] h = refl
 released_here m a (l ∷ ls) h = at ((l.mem == m) && (l.var == a)) refl (released_here m a ls (lower (l.mem == m) h))
   where
@@ -119,7 +119,7 @@ released_here m a (l ∷ ls) h = at ((l.mem == m) && (l.var == a)) refl (release
     at true e rest = none_held m a ls (zero_left (l.mem == m) (and_left (l.mem == m) _ e) h)
     at false e rest = ap (λ b. b || is_held (let_go ls m a) m a) e ∙ rest
 
-fewer : (m j a : ℕ) (ls : List Place) → count_mem m (let_go ls j a) ≤ count_mem m ls
+fewer : (m j a : ℕ) (ls : List HeldLocation) → count_mem m (let_go ls j a) ≤ count_mem m ls
 fewer m j a [] = omega arith
 fewer m j a (l ∷ ls) = at ((l.mem == j) && (l.var == a)) (l.mem == m) refl (fewer m j a ls)
   where
@@ -130,7 +130,7 @@ fewer m j a (l ∷ ls) = at ((l.mem == j) && (l.var == a)) (l.mem == m) refl (fe
     at false true e h = subst (λ b. cond b (suc (count_mem m (let_go ls j a))) (count_mem m (let_go ls j a)) ≤ suc (count_mem m ls)) (sym e) (omega (arith, h))
     at false false e h = subst (λ b. cond b (suc (count_mem m (let_go ls j a))) (count_mem m (let_go ls j a)) ≤ count_mem m ls) (sym e) h
 
-pub once_op : (m : ℕ) (ph : Phase) (op : Op) (hs : List Place) → use_ok m ph op ≡ true → IsOnce m ph hs → IsOnce m (next_phase m ph op) (held_after op hs)
+pub once_op : (m : ℕ) (ph : Phase) (op : Op) (hs : List HeldLocation) → use_ok m ph op ≡ true → IsOnce m ph hs → IsOnce m (next_phase m ph op) (held_after op hs)
 once_op m ph (ReserveWrite j a) hs k o = at (j == m) refl k
   where
     at : (b : Bool) → (j == m) ≡ b → (not b || is_fresh ph) ≡ true → IsOnce m (cond b (Held a) ph) (record { mem = j; var = a } ∷ hs)

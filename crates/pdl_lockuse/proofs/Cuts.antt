@@ -2,7 +2,7 @@
 use Rattle.std.proofs.Common.{◌≡◌, refl, sym, ap, ◌∙◌, ℕ, zero, suc, ◌+◌, ◌≤◌, ◌<◌, Bool, true, false, List, [], ◌∷◌, take, Option, Some, None, ◌==◌, cond, if◌then◌else◌, arith, nat_lt, nat_le, leb-true, leb-false, le-ltb, lt-ltb}
 use Rattle.pdl_semantics.specs.Machine.{Pending, Written}
 use Rattle.pdl_semantics.specs.Moves.{Act}
-use Rattle.pdl_semantics.specs.Cycle.{put, put_all, filled, but_oldest, stays, entries_left}
+use Rattle.pdl_semantics.specs.Cycle.{with_value_of, with_writes_of, with_all_writes, but_oldest, is_kept, entries_left}
 use Rattle.pdl_invariant.specs.Use.{AreOrdered, count_older}
 
 -- THE ORDER OF A LIST
@@ -11,25 +11,25 @@ order_low : (s t : ℕ) (es : List Pending) → s ≤ t → AreOrdered t es → 
 order_low s t [] h o = tt
 order_low s t (e ∷ es) h o = (let i = o.0 in omega (arith, h, i), o.1)
 
-order_put : (t n v : ℕ) (es : List Pending) → AreOrdered t es → AreOrdered t (put n v es)
+order_put : (t n v : ℕ) (es : List Pending) → AreOrdered t es → AreOrdered t (with_value_of n v es)
 order_put t n v [] o = tt
 order_put t n v (e ∷ es) o = at (e.thread == n) (order_put (e.thread + 1) n v es o.1)
   where
-    at : (b : Bool) → AreOrdered (e.thread + 1) (put n v es) → AreOrdered t (cond b (record e { value = Some v }) e ∷ put n v es)
+    at : (b : Bool) → AreOrdered (e.thread + 1) (with_value_of n v es) → AreOrdered t (cond b (record e { value = Some v }) e ∷ with_value_of n v es)
     at true r = (o.0, r)
     at false r = (o.0, r)
 
-order_put_all : (m t n : ℕ) (ws : List Written) (es : List Pending) → AreOrdered t es → AreOrdered t (put_all m n ws es)
+order_put_all : (m t n : ℕ) (ws : List Written) (es : List Pending) → AreOrdered t es → AreOrdered t (with_writes_of m n ws es)
 order_put_all m t n [] es o = o
-order_put_all m t n (w ∷ ws) es o = order_put_all m t n ws (if w.mem == m then put n w.value es else es) (at (w.mem == m))
+order_put_all m t n (w ∷ ws) es o = order_put_all m t n ws (if w.mem == m then with_value_of n w.value es else es) (at (w.mem == m))
   where
-    at : (b : Bool) → AreOrdered t (cond b (put n w.value es) es)
+    at : (b : Bool) → AreOrdered t (cond b (with_value_of n w.value es) es)
     at true = order_put t n w.value es o
     at false = o
 
-pub order_filled : (m t : ℕ) (ms : List Act) (es : List Pending) → AreOrdered t es → AreOrdered t (filled m ms es)
+pub order_filled : (m t : ℕ) (ms : List Act) (es : List Pending) → AreOrdered t es → AreOrdered t (with_all_writes m ms es)
 order_filled m t [] es o = o
-order_filled m t (a ∷ ms) es o = order_put_all m t a.thread.number a.does.writes (filled m ms es) (order_filled m t ms es o)
+order_filled m t (a ∷ ms) es o = order_put_all m t a.thread.number a.does.writes (with_all_writes m ms es) (order_filled m t ms es o)
 
 pub order_behind : (t : ℕ) (es : List Pending) → AreOrdered t es → AreOrdered t (but_oldest es)
 order_behind t [] o = tt
@@ -38,15 +38,15 @@ order_behind t (e ∷ es) o = order_low t (e.thread + 1) es (let i = o.0 in omeg
 -- WHAT IS LEFT
 
 -- a squash that leaves a thread leaves its pending writes and those of older ones
-pub tail_left : (sq : Option ℕ) (n : ℕ) (es : List Pending) → stays sq n ≡ true → count_older (suc n) (entries_left sq es) ≡ count_older (suc n) es
+pub tail_left : (sq : Option ℕ) (n : ℕ) (es : List Pending) → is_kept sq n ≡ true → count_older (suc n) (entries_left sq es) ≡ count_older (suc n) es
 tail_left sq n [] h = refl
-tail_left sq n (e ∷ es) h = at (stays sq e.thread) refl (tail_left sq n es h)
+tail_left sq n (e ∷ es) h = at (is_kept sq e.thread) refl (tail_left sq n es h)
   where
-    beyond : (q : Option ℕ) → stays q n ≡ true → stays q e.thread ≡ false → nat_lt e.thread (suc n) ≡ false
+    beyond : (q : Option ℕ) → is_kept q n ≡ true → is_kept q e.thread ≡ false → nat_lt e.thread (suc n) ≡ false
     beyond None i j = absurd (cc j)
     beyond (Some q) i j = le-ltb e.thread (suc n) (let a = leb-true n q i in let b = leb-false e.thread q j in omega (arith, a, b))
 
-    at : (b : Bool) → stays sq e.thread ≡ b → count_older (suc n) (entries_left sq es) ≡ count_older (suc n) es
+    at : (b : Bool) → is_kept sq e.thread ≡ b → count_older (suc n) (entries_left sq es) ≡ count_older (suc n) es
         → count_older (suc n) (cond b (e ∷ entries_left sq es) (entries_left sq es)) ≡ count_older (suc n) (e ∷ es)
     at true i r = ap (λ k. if nat_lt e.thread (suc n) then suc k else k) r
     at false i r = r ∙ ap (λ b. cond b (suc (count_older (suc n) es)) (count_older (suc n) es)) (sym (beyond sq h i))

@@ -6,7 +6,7 @@ use Rattle.pdl_semantics.specs.Flatten.{flat}
 use Rattle.pdl_semantics.proofs.Pipes.{one_stage, two_stages, under_guard, shared_guard, count_up, count_late, guess, guess_reserved, far_barrier, copy, copy_guessed, count_slow, two_branches, one_branch}
 use Rattle.pdl_semantics.specs.Flat.{Pipe}
 use Rattle.pdl_semantics.specs.Machine.{State, lock_of}
-use Rattle.pdl_semantics.specs.Cycle.{squasher, releases, cycle, first, state_after}
+use Rattle.pdl_semantics.specs.Cycle.{squasher, has_release, cycle, first, state_after}
 use Rattle.pdl_invariant.specs.Use.{moving, with_new, with_release, count_older}
 use Rattle.pdl_machine_facts.specs.Fit.{IsFit}
 use Rattle.pdl_machine_facts.specs.Linear.{IsSimple}
@@ -115,7 +115,7 @@ squashes : squasher (moving guessed at_squash []) ≡ Some 1
 unfolding add
 squashes = refl
 
-lets_go : releases 0 (moving guessed at_squash []) ≡ true
+lets_go : has_release 0 (moving guessed at_squash []) ≡ true
 unfolding add
 lets_go = refl
 

@@ -1,9 +1,9 @@
 -- Which pipes are fit for a netlist: a cycle without a wait is calm, and a pipe without delayed reads never waits.
 use Rattle.std.proofs.Common.{◌≡◌, refl, sym, ap, ap₂, ◌∙◌, ℕ, suc, Bool, true, false, List, [], ◌∷◌, Option, Some, None, if◌then◌else◌, cond, slice_index_or}
 use Rattle.pdl_semantics.specs.Flat.{Arrays, Mem, Pipe}
-use Rattle.pdl_semantics.specs.Machine.{State, Thread, Request, NoRequest, request_of, answers, with_answers}
+use Rattle.pdl_semantics.specs.Machine.{State, Thread, Request, NoRequest, request_of, is_answered, with_answers}
 use Rattle.pdl_semantics.specs.Moves.{Act, acts, all_acts, movers}
-use Rattle.pdl_semantics.specs.Cycle.{for_mems, asked_of, asked_by, request_left, squasher, stays, is_wait, waits_from, cycle, first, state_after}
+use Rattle.pdl_semantics.specs.Cycle.{for_mems, asked_of, asked_by, request_left, squasher, is_kept, is_wait, waits_from, cycle, first, state_after}
 use Rattle.pdl_facts.specs.Scans.{none_of, is_fetch}
 use Rattle.pdl_facts.specs.Facts.{Sound}
 use Rattle.pdl_simulation.proofs.Joined.{sound_flows}
@@ -51,7 +51,7 @@ module _ (p : Pipe) (answered : none_of is_fetch p.stmts ≡ true) where
   quiet_next : (st : State) (bits : List Bool) → Quiet st → Quiet (cycle p st bits)
   quiet_next st bits q =
       all_none _
-      (λ m. ap (request_left (squasher (movers (all_acts p st bits)))) (asked_none m _ (all_acts p st bits) (asks_none st bits 0 st.stages) ∙ at m (answers p bits m))) 0 p.mems
+      (λ m. ap (request_left (squasher (movers (all_acts p st bits)))) (asked_none m _ (all_acts p st bits) (asks_none st bits 0 st.stages) ∙ at m (is_answered p bits m))) 0 p.mems
     where
       at : (m : ℕ) (b : Bool) → (if b then NoRequest else request_of st m) ≡ NoRequest
       at m true = refl
@@ -71,7 +71,7 @@ pub calm_here : (p : Pipe) → Sound p → Strict p → (image : Arrays) (before
 calm_here p sound strict image before bits calm =
     record {
       spared =
-          λ k t h g. ap (λ ms. stays (squasher ms) t.number) (sym (stages_here p sound strict image before bits).movers)
+          λ k t h g. ap (λ ms. is_kept (squasher ms) t.number) (sym (stages_here p sound strict image before bits).movers)
           ∙ at_here p (state_after p (first p image) before) bits (IsSpared p (state_after p (first p image) before) bits) (spared_here p sound strict image before bits) k t h g;
       wait = calm;
     }

@@ -13,12 +13,12 @@ use Rattle.pdl_semantics.specs.Stages.{onpath}
 use Rattle.pdl_rules.specs.Places.{on_path, Place, Statement, StartClause, End}
 use Rattle.pdl_rules.specs.Parts.{location_of}
 use Rattle.pdl_rules.specs.Locks
-use Rattle.pdl_rules.specs.Locks.{same_location, held, reserves_location}
+use Rattle.pdl_rules.specs.Locks.{same_location, hold_after, reserves_location}
 use Rattle.pdl_rules.specs.Refusal.{KeepsRules}
 use Rattle.pdl_rules.specs.Widths.{variables, are_no_arguments, breaks_w5}
 use Rattle.pdl_rules.proofs.EachPlace.{Each}
 use Rattle.pdl_rules.proofs.Once.{KeepsLocks, any_weaker, any_front, reserves_alike}
-use Rattle.pdl_derived.specs.Alone.{looked}
+use Rattle.pdl_derived.specs.Alone.{answered_op}
 use Rattle.pdl_derived.proofs.Writes.{and_left, and_right}
 use Rattle.pdl_facts.specs.Scans.{none_of}
 use Rattle.pdl_facts.specs.Facts.{looked_all}
@@ -41,7 +41,7 @@ use Rattle.pdl_pathfacts.proofs.Sited.{none_append}
 
 -- WHERE DELAYED READS ARE READS
 
-reserves_looked : (m a : ℕ) (op : Flat.Op) → reserves_at m a (looked op) ≡ reserves_at m a op
+reserves_looked : (m a : ℕ) (op : Flat.Op) → reserves_at m a (answered_op op) ≡ reserves_at m a op
 reserves_looked m a (Flat.DelayedRead x n b) = refl
 reserves_looked m a _ = refl
 
@@ -49,7 +49,7 @@ none_looked : (m a : ℕ) (xs : List Flat.Stmt) → none_of (reserves_at m a) (l
 none_looked m a [] = refl
 none_looked m a (x ∷ xs) = ap₂ (λ b c. not b && c) (reserves_looked m a x.op) (none_looked m a xs)
 
-keeps_looked : (op : Flat.Op) (xs : List Flat.Stmt) → keeps_kind (looked op) (looked_all xs) ≡ keeps_kind op xs
+keeps_looked : (op : Flat.Op) (xs : List Flat.Stmt) → keeps_kind (answered_op op) (looked_all xs) ≡ keeps_kind op xs
 keeps_looked (Flat.Block m a) xs = none_looked m a xs
 keeps_looked (Flat.DelayedRead x n b) xs = refl
 keeps_looked (Flat.Bind x e) xs = refl
@@ -139,7 +139,7 @@ sites_kinds p vs us before (t ∷ ts) g each named =
         not_again p at t.walk.vars (named.0 at (ap location_of e)) (vars_past p.mems t.walk.vars t.stmt) us (before ++ place_of t ∷ []) ts
         (past_grown p.mems t.walk.vars t.stmt) g.1 each.1 named.1
         (any_front (reserves_location at) before (place_of t)
-        (open_reserved at before (reserved_open (held at before) (not-false _ (subst (λ s. Locks.lacks_hold p before (Statement s t.branches) ≡ false) e each.0.l1)))))
+        (open_reserved at before (reserved_open (hold_after at before) (not-false _ (subst (λ s. Locks.lacks_hold p before (Statement s t.branches) ≡ false) e each.0.l1)))))
 
     here : (s : Stmt) → t.stmt ≡ s → all_keep_kind (seen p.mems ts) ≡ true
         → all_keep_kind (seen_ops t.walk.stage (ops_of p.mems t.walk.vars s) ++ seen p.mems ts) ≡ true

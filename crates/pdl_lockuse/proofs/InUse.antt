@@ -7,12 +7,12 @@ use Rattle.pdl_semantics.specs.Flat.{Pipe, Plain, Stmt, list_all}
 use Rattle.pdl_semantics.specs.Stages.{list_any, onpath, in_stage, stage_at, goes_to, mem_at, is_release, reserve_stage, commit_stage, verify_stage}
 use Rattle.pdl_semantics.specs.Machine.{State, Thread, Pending, Deeds, lock_of, deeds, held_before, with_answers}
 use Rattle.pdl_semantics.specs.Sound.{stages_from}
-use Rattle.pdl_semantics.specs.Moves.{Act, acts, all_acts, movers, moves, next_stage, no_failure, blocks_ready, have_room}
-use Rattle.pdl_semantics.specs.Cycle.{appended, filled, oldest, but_oldest, releases, list_two, list_three, taken_out, stays, is_stage, squasher}
+use Rattle.pdl_semantics.specs.Moves.{Act, acts, all_acts, movers, may_move, next_stage, no_failure, blocks_ready, have_room}
+use Rattle.pdl_semantics.specs.Cycle.{with_reserves, with_all_writes, oldest, but_oldest, has_release, list_two, list_three, taken_out, is_kept, is_stage, squasher}
 use Rattle.pdl_derived.specs.Derived
 use Rattle.pdl_facts.specs.Scans.{is_plain, none_of, Fresh, phase_all, is_over}
 use Rattle.pdl_facts.specs.Facts.{Sound, looked_all}
-use Rattle.pdl_derived.specs.Alone.{looked}
+use Rattle.pdl_derived.specs.Alone.{answered_op}
 use Rattle.pdl_derived.proofs.Writes.{and_left, and_right}
 use Rattle.pdl_derived.proofs.Entries.{entries_of}
 use Rattle.pdl_derived.proofs.Lists.{pend}
@@ -82,7 +82,7 @@ none_looked : (m : ℕ) (xs : List Stmt) → none_of (is_release m) (looked_all 
 none_looked m [] = refl
 none_looked m (x ∷ xs) = ap₂ (λ a b. not a && b) (one x.op) (none_looked m xs)
   where
-    one : (op : Rattle.pdl_semantics.specs.Flat.Op) → is_release m (looked op) ≡ is_release m op
+    one : (op : Rattle.pdl_semantics.specs.Flat.Op) → is_release m (answered_op op) ≡ is_release m op
     one (Rattle.pdl_semantics.specs.Flat.DelayedRead x n a) = refl
     one _ = refl
 
@@ -109,7 +109,7 @@ module _ (p : Pipe) (sound : Sound p) (st : State) (m : ℕ) (plain : is_plain (
 -- ROOM
 
 module _ (p : Pipe) (st : State) (bits : List Bool) where
-  room_of : (later : List Act) (s : ℕ) (t : Thread) (e : Deeds) → moves p st bits later s t e ≡ true → have_room p st e ≡ true
+  room_of : (later : List Act) (s : ℕ) (t : Thread) (e : Deeds) → may_move p st bits later s t e ≡ true → have_room p st e ≡ true
   room_of later s t e h =
       and_right (no_failure later && blocks_ready p st t.number e) _ (and_left _ _ (and_left _ _ (and_left _ _ (and_left _ _ (and_left _ _ h)))))
 
@@ -174,26 +174,26 @@ module _ (p : Pipe) (sound : Sound p) (strict : Strict p) (st : State) (d : Deri
     or_right false b h = h
 
     some_releases : (ks : List Live)
-        → EachPair (λ x. (did p d bits x.older x.live).moves ≡ true → lets x.live ≡ true → releases m (movers (lacts p st d bits ks)) ≡ true) (pairs ks)
+        → EachPair (λ x. (did p d bits x.older x.live).moves ≡ true → lets x.live ≡ true → has_release m (movers (lacts p st d bits ks)) ≡ true) (pairs ks)
     some_releases [] = tt
     some_releases (l ∷ ks) = (one (did p d bits ks l).moves, pair_map (λ x g i j. more (did p d bits ks l).moves (g i j)) (pairs ks) (some_releases ks))
       where
         one : (b : Bool) → b ≡ true → lets l ≡ true
-            → releases m (cond b (lact p st d bits ks l ∷ movers (lacts p st d bits ks)) (movers (lacts p st d bits ks))) ≡ true
-        one true i j = ap (λ c. c || releases m (movers (lacts p st d bits ks))) j
+            → has_release m (cond b (lact p st d bits ks l ∷ movers (lacts p st d bits ks)) (movers (lacts p st d bits ks))) ≡ true
+        one true i j = ap (λ c. c || has_release m (movers (lacts p st d bits ks))) j
         one false i j = absurd (false≢true i)
 
-        more : (b : Bool) → releases m (movers (lacts p st d bits ks)) ≡ true
-            → releases m (cond b (lact p st d bits ks l ∷ movers (lacts p st d bits ks)) (movers (lacts p st d bits ks))) ≡ true
-        more true h = or_right (lets l) (releases m (movers (lacts p st d bits ks))) h
+        more : (b : Bool) → has_release m (movers (lacts p st d bits ks)) ≡ true
+            → has_release m (cond b (lact p st d bits ks l ∷ movers (lacts p st d bits ks)) (movers (lacts p st d bits ks))) ≡ true
+        more true h = or_right (lets l) (has_release m (movers (lacts p st d bits ks))) h
         more false h = h
 
     two_here : list_two st (movers (lacts p st d bits ls)) m ≡ two p (sound_flows p sound) st d bits sim.arrays m ls
     two_here =
-        ap (λ xs. filled m (movers (lacts p st d bits ls)) (appended m (movers (lacts p st d bits ls)) xs)) (sim.locks m)
+        ap (λ xs. with_all_writes m (movers (lacts p st d bits ls)) (with_reserves m (movers (lacts p st d bits ls)) xs)) (sim.locks m)
         ∙ two_is p (sound_flows p sound) st d bits sim.arrays m st.next ls sim.seated sim.ordered sim.falls
 
-    own_values : (n : ℕ) → releases m (movers (lacts p st d bits ls)) ≡ true → Own n (two p (sound_flows p sound) st d bits sim.arrays m ls)
+    own_values : (n : ℕ) → has_release m (movers (lacts p st d bits ls)) ≡ true → Own n (two p (sound_flows p sound) st d bits sim.arrays m ls)
         → Own n (with_values p st bits m)
     own_values n h g =
         let e : Pending = record { thread = n; address = g.address; value = Some g.value } in
@@ -215,44 +215,44 @@ module _ (p : Pipe) (sound : Sound p) (strict : Strict p) (st : State) (d : Deri
         → EachPair
         (λ x. (did p d bits x.older x.live).moves ≡ true → lets x.live ≡ true → Own x.live.number (two p (sound_flows p sound) st d bits sim.arrays m ls))
         (pairs ks)
-        → releases m (movers (lacts p st d bits ks)) ≡ true
+        → has_release m (movers (lacts p st d bits ks)) ≡ true
         → (n : ℕ) × Own n (two p (sound_flows p sound) st d bits sim.arrays m ls)
     some_own [] g h = absurd (false≢true h)
     some_own (l ∷ ks) g h = at (did p d bits ks l).moves refl (lets l) refl h (λ i. some_own ks g.1 i)
       where
         at : (b : Bool) → (did p d bits ks l).moves ≡ b → (c : Bool) → lets l ≡ c
-            → releases m (cond b (lact p st d bits ks l ∷ movers (lacts p st d bits ks)) (movers (lacts p st d bits ks))) ≡ true
-            → (releases m (movers (lacts p st d bits ks)) ≡ true → (n : ℕ) × Own n (two p (sound_flows p sound) st d bits sim.arrays m ls))
+            → has_release m (cond b (lact p st d bits ks l ∷ movers (lacts p st d bits ks)) (movers (lacts p st d bits ks))) ≡ true
+            → (has_release m (movers (lacts p st d bits ks)) ≡ true → (n : ℕ) × Own n (two p (sound_flows p sound) st d bits sim.arrays m ls))
             → (n : ℕ) × Own n (two p (sound_flows p sound) st d bits sim.arrays m ls)
         at true i true j k go = (l.number, g.0 i j)
-        at true i false j k go = go (sym (ap (λ c. c || releases m (movers (lacts p st d bits ks))) j) ∙ k)
+        at true i false j k go = go (sym (ap (λ c. c || has_release m (movers (lacts p st d bits ks))) j) ∙ k)
         at false i c j k go = go k
 
-    pub written : releases m (moving p st bits) ≡ true → (n : ℕ) × Own n (with_values p st bits m)
+    pub written : has_release m (moving p st bits) ≡ true → (n : ℕ) × Own n (with_values p st bits m)
     written h =
-        let r : releases m (movers (lacts p st d bits ls)) ≡ true = sym (releases_are p sound st d bits ls sim m) ∙ h in
+        let r : has_release m (movers (lacts p st d bits ls)) ≡ true = sym (releases_are p sound st d bits ls sim m) ∙ h in
         let g = some_own ls (own_two p sound st d bits sim.arrays m ls all_known sim.ordered) r in
         (g.0, own_values g.0 r g.1)
 
     -- PLACES
 
     -- where nobody releases, all places stay
-    calm : releases m (moving p st bits) ≡ false → (t : ℕ)
-        → count_older t (with_release p st bits m) + bit (releases m (moving p st bits)) ≡ count_older t (with_new p st bits m)
+    calm : has_release m (moving p st bits) ≡ false → (t : ℕ)
+        → count_older t (with_release p st bits m) + bit (has_release m (moving p st bits)) ≡ count_older t (with_new p st bits m)
     calm e t =
         let f : count_older t (with_release p st bits m) ≡ count_older t (with_new p st bits m) = ap (λ b. count_older t (cond b (but_oldest (list_two st (moving p st bits) m)) (list_two st (moving p st bits) m))) e ∙ count_filled t m (moving p st bits) (with_new p st bits m) in
-        let g : bit (releases m (moving p st bits)) ≡ 0 = ap bit e in
+        let g : bit (has_release m (moving p st bits)) ≡ 0 = ap bit e in
         omega (arith, f, g)
 
-    shifted : releases m (moving p st bits) ≡ true → (x : Pending) (xs : List Pending) → appended m (movers (lacts p st d bits ls)) (pends m ls) ≡ x ∷ xs
+    shifted : has_release m (moving p st bits) ≡ true → (x : Pending) (xs : List Pending) → with_reserves m (movers (lacts p st d bits ls)) (pends m ls) ≡ x ∷ xs
         → (t : ℕ) → x.thread < t
-        → count_older t (with_release p st bits m) + bit (releases m (moving p st bits)) ≡ count_older t (with_new p st bits m)
+        → count_older t (with_release p st bits m) + bit (has_release m (moving p st bits)) ≡ count_older t (with_new p st bits m)
     shifted e x xs i t low =
         let is : with_new p st bits m ≡ x ∷ xs = with_new_is p sound st d bits ls sim m ∙ i in
-        let f : count_older t (with_release p st bits m) ≡ count_older t (but_oldest (filled m (moving p st bits) (x ∷ xs))) =
+        let f : count_older t (with_release p st bits m) ≡ count_older t (but_oldest (with_all_writes m (moving p st bits) (x ∷ xs))) =
         ap (λ b. count_older t (cond b (but_oldest (list_two st (moving p st bits) m)) (list_two st (moving p st bits) m))) e
-        ∙ ap (λ l. count_older t (but_oldest (filled m (moving p st bits) l))) is in
-        let g : bit (releases m (moving p st bits)) ≡ 1 = ap bit e in
+        ∙ ap (λ l. count_older t (but_oldest (with_all_writes m (moving p st bits) l))) is in
+        let g : bit (has_release m (moving p st bits)) ≡ 1 = ap bit e in
         let h = count_released t m (moving p st bits) x xs low in
         let k : count_older t (with_new p st bits m) ≡ count_older t (x ∷ xs) = ap (count_older t) is in
         omega (arith, f, g, h, k)
@@ -260,16 +260,16 @@ module _ (p : Pipe) (sound : Sound p) (strict : Strict p) (st : State) (d : Deri
     -- what is released is no younger than a thread of a kind, behind which nobody releases
     shift_all : (P : Pair → Type 0) → Bars p sound st d bits sim.arrays m P ls
         → EachPair (λ x. P x → ShiftsUpTo p st bits m (lact p st d bits x.older x.live)) (pairs ls)
-    shift_all P bars = at (releases m (moving p st bits)) refl
+    shift_all P bars = at (has_release m (moving p st bits)) refl
       where
-        every : releases m (moving p st bits) ≡ false → (xs : List Pair) → EachPair (λ x. P x → ShiftsUpTo p st bits m (lact p st d bits x.older x.live)) xs
+        every : has_release m (moving p st bits) ≡ false → (xs : List Pair) → EachPair (λ x. P x → ShiftsUpTo p st bits m (lact p st d bits x.older x.live)) xs
         every e [] = tt
         every e (x ∷ xs) = ((λ g. calm e (suc x.live.number)), every e xs)
 
-        at : (b : Bool) → releases m (moving p st bits) ≡ b → EachPair (λ x. P x → ShiftsUpTo p st bits m (lact p st d bits x.older x.live)) (pairs ls)
+        at : (b : Bool) → has_release m (moving p st bits) ≡ b → EachPair (λ x. P x → ShiftsUpTo p st bits m (lact p st d bits x.older x.live)) (pairs ls)
         at false e = every e (pairs ls)
         at true e =
-            let r : releases m (movers (lacts p st d bits ls)) ≡ true = sym (releases_are p sound st d bits ls sim m) ∙ e in
+            let r : has_release m (movers (lacts p st d bits ls)) ≡ true = sym (releases_are p sound st d bits ls sim m) ∙ e in
             let s = some_pending p (sound_flows p sound) st d bits sim.arrays m st.next ls sim.seated all_known sim.ordered sim.falls r in
             pair_map (λ x h g. shifted e s.0 s.1 s.2 (suc x.live.number) (h g s.0 s.1 s.2)) (pairs ls)
             (up_released p sound st d bits sim.arrays m P st.next ls bars sim.seated all_known sim.ordered sim.falls r)
@@ -319,7 +319,7 @@ module _ (p : Pipe) (sound : Sound p) (strict : Strict p) (st : State) (d : Deri
         every (a ∷ these) = ((λ h. tail_left (squasher (moving p st bits)) a.thread.number (with_release p st bits m) h), every these)
 
     release_ordered : AreOrdered 0 (with_release p st bits m)
-    release_ordered = at (releases m (moving p st bits))
+    release_ordered = at (has_release m (moving p st bits))
       where
         two_ordered : AreOrdered 0 (with_values p st bits m)
         two_ordered = order_filled m 0 (moving p st bits) (with_new p st bits m) (reserves p sound st d bits ls sim m).ordered
@@ -365,7 +365,7 @@ module _ (p : Pipe) (sound : Sound p) (strict : Strict p) (st : State) (d : Deri
     no_pending : (mem_at p m).lock ≡ Plain → lock_of st m ≡ []
     no_pending h = sim.locks m ∙ none_pends p sound st m (ap is_plain h) ls sim.seated
 
-    no_release : (mem_at p m).lock ≡ Plain → releases m (moving p st bits) ≡ false
+    no_release : (mem_at p m).lock ≡ Plain → has_release m (moving p st bits) ≡ false
     no_release h =
         releases_are p sound st d bits ls sim m
         ∙ unreleased p (sound_flows p sound) st d bits sim.arrays m ls all_known
@@ -386,7 +386,7 @@ module _ (p : Pipe) (sound : Sound p) (strict : Strict p) (st : State) (d : Deri
       → EachPair (λ x. IsSpared p st bits (lact p st d bits x.older x.live)) (pairs ks)
   spares [] g = tt
   spares (l ∷ ks) g = (
-    (λ moves. ap (λ q. stays q l.number) squasher_is ∙ g.0 ∙ ap not (no_fall (dacts p d bits ks) (and_left _ _ (and_left _ _ (and_left _ _ moves))))),
+    (λ may_move. ap (λ q. is_kept q l.number) squasher_is ∙ g.0 ∙ ap not (no_fall (dacts p d bits ks) (and_left _ _ (and_left _ _ (and_left _ _ may_move))))),
     spares ks g.1,
   )
 
@@ -418,14 +418,14 @@ module _ (p : Pipe) (sound : Sound p) (strict : Strict p) (st : State) (d : Deri
         (pair_both (λ x k a. let_here p sound st d bits sim.arrays x.older x.live k strict careful a) (pairs ls) knowns lastings)
 
     -- by the movers of the stages
-    list_is : (m : ℕ) → appended m (Slots.moving p st bits) (lock_of st m) ≡ with_new p st bits m
-    list_is m = ap (λ ms. appended m ms (lock_of st m)) (sym by.movers)
+    list_is : (m : ℕ) → with_reserves m (Slots.moving p st bits) (lock_of st m) ≡ with_new p st bits m
+    list_is m = ap (λ ms. with_reserves m ms (lock_of st m)) (sym by.movers)
 
     pub in_use : IsInUse p st bits
     in_use = record {
       count = count;
       plain = no_pending;
-      unreleased = λ m h. ap (releases m) (sym by.movers) ∙ no_release m h;
+      unreleased = λ m h. ap (has_release m) (sym by.movers) ∙ no_release m h;
       ordered = λ m. same_order 0 (lock_of st m) (list_ordered p sound st d bits ls sim m);
       ordered_next = λ m. subst (forget.AreOrdered 0) (sym (list_is m)) (same_order 0 (with_new p st bits m) (reserves p sound st d bits ls sim m).ordered);
       one =
@@ -435,17 +435,17 @@ module _ (p : Pipe) (sound : Sound p) (strict : Strict p) (st : State) (d : Deri
           λ k t m h low. sym (same_count t.number (lock_of st m))
           ∙ at_slot p st bits (FindsOlder st m (reserve_stage p m)) (finds_older p sound st d bits ls sim m) k t h low;
       writer = λ k t m v h g c. let w = at_here p st bits (Writes m v) (writes_all m v) k t h g c in (w.0, ap (forget.has_thread t.number) (list_is m) ∙ w.1);
-      behind =
+      after =
           λ k t m h low. ap (forget.count_older t.number) (list_is m) ∙ sym (same_count t.number (with_new p st bits m))
           ∙ at_slot p st bits (KeepsPlace p st bits m) (places p sound st d bits ls sim m) k t h low ∙ same_count t.number (lock_of st m);
       releaser = λ m h.
-          let w = written m (ap (releases m) by.movers ∙ h) in
+          let w = written m (ap (has_release m) by.movers ∙ h) in
           (record { thread = w.0; address = w.1.address; value = Some w.1.value }, w.1.rest, w.1.value, ap (λ ms. list_two st ms m) (sym by.movers) ∙ w.1.is, refl);
       shifts = λ k t m h low early stands.
           let s = at_slot p st bits (ShiftsPlace p st bits m) (shifts p sound st d bits ls sim m) k t h early stands in
           let b = at_slot p st bits (KeepsPlace p st bits m) (places p sound st d bits ls sim m) k t h low in
-          ap (λ ms. forget.count_older t.number (list_three st ms m) + Words.bit (releases m ms)) (sym by.movers)
-          ∙ sym (ap₂ (λ x y. x + y) (same_count t.number (with_release p st bits m)) (same_bit (releases m (moving p st bits))))
+          ap (λ ms. forget.count_older t.number (list_three st ms m) + Words.bit (has_release m ms)) (sym by.movers)
+          ∙ sym (ap₂ (λ x y. x + y) (same_count t.number (with_release p st bits m)) (same_bit (has_release m (moving p st bits))))
           ∙ s ∙ b ∙ same_count t.number (lock_of st m);
       held = λ k q t h e. at_here p st bits (Holds q) (holds_all q) k t h e;
       fine = λ k t h. at_here p st bits Fine fine_each k t h;

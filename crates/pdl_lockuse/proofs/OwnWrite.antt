@@ -1,15 +1,15 @@
 -- What a thread's stage does to its pending writes of one memory: who writes has one, once, and what is released has its value.
 use Rattle.std.proofs.Common.{◌≡◌, refl, sym, ap, ap₂, ◌∙◌, subst, ℕ, suc, ◌+◌, ◌≤◌, inl, inr, Bool, true, false, ◌&&◌, ◌||◌, not, List, [], ◌∷◌, ◌++◌, length, Option, Some, None, ◌==◌, cond, arith, eq-eqb, slice_index, append_assoc, nat_le}
 use Rattle.std.proofs.lemmas.Bool.{false≢true, leb-true, eqb-true}
-use Rattle.pdl_semantics.specs.Flat.{Pipe, Op, Write, ReserveWrite, Release, Verify, Stmt, Commit, of_mem, list_all, taken, value_of, values_of}
+use Rattle.pdl_semantics.specs.Flat.{Pipe, Op, Write, ReserveWrite, Release, Verify, Stmt, Commit, of_mem, list_all, all_hold, value_of, values_of}
 use Rattle.pdl_semantics.specs.Stages.{list_any, onpath, in_stage, mem_at, goes_to, stage_at, commit_stage}
 use Rattle.pdl_semantics.specs.Locks.{has_room}
-use Rattle.pdl_semantics.specs.Machine.{State, Pending, Blocked, Reserved, Written, Ask, Deeds, does, does_all, is_held, held_before, lock_of, same_args, word_for}
+use Rattle.pdl_semantics.specs.Machine.{State, Pending, Blocked, Reserved, Written, Ask, Deeds, deeds_after, deeds_after_all, is_held, held_before, lock_of, same_args, word_for}
 use Rattle.pdl_semantics.specs.Moves.{block_ready, next_stage}
-use Rattle.pdl_semantics.specs.Cycle.{new_entries, put, put_all, is_stage}
+use Rattle.pdl_semantics.specs.Cycle.{new_entries, with_value_of, with_writes_of, is_stage}
 use Rattle.pdl_derived.specs.Derived
 use Rattle.pdl_derived.specs.Derived.{Entry, Work, Around, around, port_free}
-use Rattle.pdl_facts.specs.Scans.{Phase, Fresh, Held, Written as Filled, Done, after_release, next_phase, phase_all, holds, is_fresh}
+use Rattle.pdl_facts.specs.Scans.{Phase, Fresh, Held, Written as Filled, Done, after_release, next_phase, phase_all, holds_location, is_fresh}
 use Rattle.pdl_facts.specs.Facts.{Sound}
 use Rattle.pdl_derived.proofs.Writes.{and_left, and_right}
 use Rattle.pdl_derived.proofs.Entries.{entry}
@@ -51,11 +51,11 @@ written_more m (x ∷ ws) w = at (x.mem == m) (written_more m ws w)
     at false h = h
 
 -- what isn't written stays
-put_none : (m n : ℕ) (ws : List Written) (xs : List Pending) → writes_to m ws ≡ false → put_all m n ws xs ≡ xs
+put_none : (m n : ℕ) (ws : List Written) (xs : List Pending) → writes_to m ws ≡ false → with_writes_of m n ws xs ≡ xs
 put_none m n [] xs h = refl
 put_none m n (w ∷ ws) xs h = at (w.mem == m) h (put_none m n ws xs)
   where
-    at : (b : Bool) → (b || writes_to m ws) ≡ false → (writes_to m ws ≡ false → put_all m n ws xs ≡ xs) → put_all m n ws (cond b (put n w.value xs) xs) ≡ xs
+    at : (b : Bool) → (b || writes_to m ws) ≡ false → (writes_to m ws ≡ false → with_writes_of m n ws xs ≡ xs) → with_writes_of m n ws (cond b (with_value_of n w.value xs) xs) ≡ xs
     at true i f = absurd (cc i)
     at false i f = f i
 
@@ -88,7 +88,7 @@ is_unwritten _ = false
 pub record Used (m n : ℕ) (start : List Pending) (d : Deeds) (ph : Phase) : Type 0 where
   pub once : Once m n start d
   pub gives : list_any (λ k. k == m) d.releases ≡ true
-      → (a : ℕ) × (v : ℕ) × (put_all m n d.writes (start ++ new_entries m n d.reserves) ≡ own n (entry m 0 a (Some v)) ∷ [])
+      → (a : ℕ) × (v : ℕ) × (with_writes_of m n d.writes (start ++ new_entries m n d.reserves) ≡ own n (entry m 0 a (Some v)) ∷ [])
   pub done : list_any (λ k. k == m) d.releases ≡ true → ph ≡ Done
 
 module _ (o : Around) (read : ℕ → ℕ → ℕ) (block : Blocked → Bool) (room : Reserved → Bool) (free : Ask → Bool) (m n : ℕ) (start : List Pending) where
@@ -99,7 +99,7 @@ module _ (o : Around) (read : ℕ → ℕ → ℕ) (block : Blocked → Bool) (r
   At ph d w = Here o read block room free m n start ph d w
 
   step_op : (op : Op) (ph : Phase) (d : Deeds) (es : List Entry) (cs : List Commit) → places es ≡ d.held → use_ok m ph op ≡ true → At ph d (W d es cs)
-      → At (next_phase m ph op) (does read op d) (Derived.does o op (W d es cs))
+      → At (next_phase m ph op) (deeds_after read op d) (Derived.work_after o op (W d es cs))
   step_op (Write j a e) ph d es cs h k g = step_write m n j a (value_of e d.env) ph es (of_mem m cs) _ d.writes _ (j == m) refl k g
   step_op (ReserveWrite j a) ph d es cs h k g = step_reserve m n j a (slice_index d.env a) ph es (of_mem m cs) start d.reserves d.writes _ (j == m) refl k g
   step_op (Release j a) ph d es cs h k g =
@@ -119,7 +119,7 @@ module _ (o : Around) (read : ℕ → ℕ → ℕ) (block : Blocked → Bool) (r
     pub once : Once m n start d
 
   -- the pending write that is held has no value
-  held_open : (ph : Phase) (a : ℕ) (es : List Entry) (cs : List Commit) (new : List Pending) (ws : List Written) (rel : Bool) → holds ph a ≡ true
+  held_open : (ph : Phase) (a : ℕ) (es : List Entry) (cs : List Commit) (new : List Pending) (ws : List Written) (rel : Bool) → holds_location ph a ≡ true
       → (is_unwritten ph ≡ true → writes_to m ws ≡ false) → Staged m n ph es cs new ws rel
       → (writes_to m ws ≡ false) × (is_open n new ≡ true)
   held_open Fresh a es cs new ws rel h f g = absurd (false≢true h)
@@ -128,7 +128,7 @@ module _ (o : Around) (read : ℕ → ℕ → ℕ) (block : Blocked → Bool) (r
   held_open (Filled x) a es cs new ws rel h f g = absurd (false≢true h)
   held_open Done a es cs new ws rel h f g = absurd (false≢true h)
 
-  write_next : (j a v : ℕ) (ph : Phase) (d : Deeds) (es : List Entry) (cs : List Commit) → (b : Bool) → (j == m) ≡ b → (not b || holds ph a) ≡ true
+  write_next : (j a v : ℕ) (ph : Phase) (d : Deeds) (es : List Entry) (cs : List Commit) → (b : Bool) → (j == m) ≡ b → (not b || holds_location ph a) ≡ true
       → At ph d (W d es cs) → Wrote ph d → Wrote (cond b (Filled a) ph) (record d { writes = d.writes ++ record { mem = j; value = v } ∷ [] })
   write_next j a v ph d es cs true e k g w =
       let h = held_open ph a _ _ _ _ _ k w.none g in
@@ -168,7 +168,7 @@ module _ (o : Around) (read : ℕ → ℕ → ℕ) (block : Blocked → Bool) (r
   release_back Done a h = h
 
   wrote_next : (op : Op) (ph : Phase) (d : Deeds) (es : List Entry) (cs : List Commit) → use_ok m ph op ≡ true → At ph d (W d es cs) → Wrote ph d
-      → Wrote (next_phase m ph op) (does read op d)
+      → Wrote (next_phase m ph op) (deeds_after read op d)
   wrote_next (Write j a e) ph d es cs k g w = write_next j a (value_of e d.env) ph d es cs (j == m) refl k g w
   wrote_next (ReserveWrite j a) ph d es cs k g w = record {
     none = λ i. w.none (at (j == m) k i);
@@ -208,22 +208,22 @@ module _ (o : Around) (read : ℕ → ℕ → ℕ) (block : Blocked → Bool) (r
   in_end (Filled x) d w g h = record { once = h.once; gives = λ e. absurd (false≢true (sym g.5 ∙ e)); done = λ e. absurd (false≢true (sym g.5 ∙ e)) }
   in_end Done d w g h = by g.1
     where
-      by : Gone m n (of_mem m w.commits) (put_all m n d.writes (start ++ new_entries m n d.reserves)) (list_any (λ k. k == m) d.releases)
+      by : Gone m n (of_mem m w.commits) (with_writes_of m n d.writes (start ++ new_entries m n d.reserves)) (list_any (λ k. k == m) d.releases)
           → Used m n start d Done
       by (inl q) = record { once = h.once; gives = λ e. absurd (false≢true (sym q.2 ∙ e)); done = λ e. refl }
       by (inr q) = record { once = h.once; gives = λ e. (q.0, q.1, q.3); done = λ e. refl }
 
   pub used_all : (path : List ℕ) (xs : List Stmt) (ph : Phase) (d : Deeds) (es : List Entry) (cs : List Commit) → places es ≡ d.held → AllFit o read block room free xs → IsAlong path read xs d → uses_ok m ph (onpath path xs) ≡ true → At ph d (W d es cs) → Wrote ph d
-      → Used m n start (does_all read xs d) (phase_all m ph (onpath path xs))
+      → Used m n start (deeds_after_all read xs d) (phase_all m ph (onpath path xs))
   used_all path [] ph d es cs h i f k g w = in_end ph d (W d es cs) g w
   used_all path (x ∷ xs) ph d es cs h i f k g w =
-      at (taken x.guards d.env) (taken x.guards path) f.0 f.1 k (λ ph d es cs h f k g w. used_all path xs ph d es cs h i.1 f k g w)
+      at (all_hold x.guards d.env) (all_hold x.guards path) f.0 f.1 k (λ ph d es cs h f k g w. used_all path xs ph d es cs h i.1 f k g w)
     where
-      at : (b c : Bool) → b ≡ c → IsAlong path read xs (cond b (does read x.op d) d)
+      at : (b c : Bool) → b ≡ c → IsAlong path read xs (cond b (deeds_after read x.op d) d)
           → uses_ok m ph (cond c (record x { guards = [] } ∷ onpath path xs) (onpath path xs)) ≡ true
           →
-          ((ph : Phase) (d : Deeds) (es : List Entry) (cs : List Commit) → places es ≡ d.held → IsAlong path read xs d → uses_ok m ph (onpath path xs) ≡ true → At ph d (W d es cs) → Wrote ph d → Used m n start (does_all read xs d) (phase_all m ph (onpath path xs)))
-          → Used m n start (does_all read xs (cond b (does read x.op d) d))
+          ((ph : Phase) (d : Deeds) (es : List Entry) (cs : List Commit) → places es ≡ d.held → IsAlong path read xs d → uses_ok m ph (onpath path xs) ≡ true → At ph d (W d es cs) → Wrote ph d → Used m n start (deeds_after_all read xs d) (phase_all m ph (onpath path xs)))
+          → Used m n start (deeds_after_all read xs (cond b (deeds_after read x.op d) d))
           (phase_all m ph (cond c (record x { guards = [] } ∷ onpath path xs) (onpath path xs)))
       at true false e f k go = absurd (cc e)
       at false true e f k go = absurd (cc e)
@@ -231,9 +231,9 @@ module _ (o : Around) (read : ℕ → ℕ → ℕ) (block : Blocked → Bool) (r
       at true true e f k go =
           let t = told_step o read block room free true x.op d es cs h i.0 in
           let ok : use_ok m ph x.op ≡ true = and_left (use_ok m ph x.op) (uses_ok m (next_phase m ph x.op) (onpath path xs)) k in
-          let w' : Work = Derived.does o x.op (W d es cs) in
-          let g' : At (next_phase m ph x.op) (does read x.op d) (W (does read x.op d) w'.entries w'.commits) = subst (λ v. At (next_phase m ph x.op) (does read x.op d) v) t.is (step_op x.op ph d es cs h ok g) in
-          go (next_phase m ph x.op) (does read x.op d) w'.entries w'.commits t.held f
+          let w' : Work = Derived.work_after o x.op (W d es cs) in
+          let g' : At (next_phase m ph x.op) (deeds_after read x.op d) (W (deeds_after read x.op d) w'.entries w'.commits) = subst (λ v. At (next_phase m ph x.op) (deeds_after read x.op d) v) t.is (step_op x.op ph d es cs h ok g) in
+          go (next_phase m ph x.op) (deeds_after read x.op d) w'.entries w'.commits t.held f
           (and_right (use_ok m ph x.op) (uses_ok m (next_phase m ph x.op) (onpath path xs)) k) g' (wrote_next x.op ph d es cs ok g w)
 
 -- WRITES IN TIME
@@ -246,7 +246,7 @@ module _ (p : Pipe) (k : ℕ) (read : ℕ → ℕ → ℕ) (path : List ℕ) whe
   all_last [] w h e = ap (λ b. b && true) e
   all_last (x ∷ ws) w h e = ap₂ (λ a b. a && b) (and_left (is_timely x) _ h) (all_last ws w (and_right (is_timely x) _ h) e)
 
-  one : (op : Op) (d : Deeds) → in_time p k op ≡ true → list_all is_timely d.writes ≡ true → list_all is_timely (does read op d).writes ≡ true
+  one : (op : Op) (d : Deeds) → in_time p k op ≡ true → list_all is_timely d.writes ≡ true → list_all is_timely (deeds_after read op d).writes ≡ true
   one (Write m a e) d g h = all_last d.writes _ h g
   one (Verify args) d g h = at (same_args (values_of args d.env) d.guess)
     where
@@ -256,20 +256,20 @@ module _ (p : Pipe) (k : ℕ) (read : ℕ → ℕ → ℕ) (path : List ℕ) whe
   one _ d g h = h
 
   pub timely : (xs : List Stmt) (d : Deeds) → AllIn k xs → IsAlong path read xs d → list_all (is_early p) (onpath path xs) ≡ true
-      → list_all is_timely d.writes ≡ true → list_all is_timely (does_all read xs d).writes ≡ true
+      → list_all is_timely d.writes ≡ true → list_all is_timely (deeds_after_all read xs d).writes ≡ true
   timely [] d i f e h = h
-  timely (x ∷ xs) d i f e h = at (taken x.guards d.env) (taken x.guards path) f.0 f.1 e (λ d f e h. timely xs d i.1 f e h)
+  timely (x ∷ xs) d i f e h = at (all_hold x.guards d.env) (all_hold x.guards path) f.0 f.1 e (λ d f e h. timely xs d i.1 f e h)
     where
-      at : (b c : Bool) → b ≡ c → IsAlong path read xs (cond b (does read x.op d) d)
+      at : (b c : Bool) → b ≡ c → IsAlong path read xs (cond b (deeds_after read x.op d) d)
           → list_all (is_early p) (cond c (record x { guards = [] } ∷ onpath path xs) (onpath path xs)) ≡ true
           →
-          ((d : Deeds) → IsAlong path read xs d → list_all (is_early p) (onpath path xs) ≡ true → list_all is_timely d.writes ≡ true → list_all is_timely (does_all read xs d).writes ≡ true)
-          → list_all is_timely (does_all read xs (cond b (does read x.op d) d)).writes ≡ true
+          ((d : Deeds) → IsAlong path read xs d → list_all (is_early p) (onpath path xs) ≡ true → list_all is_timely d.writes ≡ true → list_all is_timely (deeds_after_all read xs d).writes ≡ true)
+          → list_all is_timely (deeds_after_all read xs (cond b (deeds_after read x.op d) d)).writes ≡ true
       at true false q f e go = absurd (false≢true (sym q))
       at false true q f e go = absurd (false≢true q)
       at false false q f e go = go d f e h
       at true true q f e go =
-          go (does read x.op d) f (and_right (is_early p x) _ e) (one x.op d (subst (λ j. in_time p j x.op ≡ true) i.0 (and_left (is_early p x) _ e)) h)
+          go (deeds_after read x.op d) f (and_right (is_early p x) _ e) (one x.op d (subst (λ j. in_time p j x.op ≡ true) i.0 (and_left (is_early p x) _ e)) h)
 
   pub timely_to : (m : ℕ) (ws : List Written) → list_all is_timely ws ≡ true → writes_to m ws ≡ true → k ≤ commit_stage p m
   timely_to m [] h w = absurd (false≢true w)
@@ -297,8 +297,8 @@ module _ (p : Pipe) (sound : Sound p) (st : State) (d : Derived.State) (bits : L
   abbrev o : Around
   o = around p d bits (dacts p d bits older) l.thread.stage
 
-  did_is : deeds_of p st bits l ≡ does_all (word_for st l.number) (in_stage l.thread.stage p.stmts) (begun p sound st d bits arrays older l k)
-  did_is = ap (does_all (word_for st l.number) (in_stage l.thread.stage p.stmts)) (begun_is p sound st d bits arrays older l k)
+  did_is : deeds_of p st bits l ≡ deeds_after_all (word_for st l.number) (in_stage l.thread.stage p.stmts) (begun p sound st d bits arrays older l k)
+  did_is = ap (deeds_after_all (word_for st l.number) (in_stage l.thread.stage p.stmts)) (begun_is p sound st d bits arrays older l k)
 
   pub used_here : (m : ℕ) → Used m l.number (pend m l.number l.thread.entries) (deeds_of p st bits l) (phase_all m (phase_all m Fresh (passed p sound st d bits arrays older l k)) (mine p sound st d bits arrays older l k))
   used_here m =

@@ -6,7 +6,7 @@ use Rattle.pdl_semantics.specs.Flat.{Pipe}
 use Rattle.pdl_semantics.specs.Stages.{list_any, commit_stage}
 use Rattle.pdl_semantics.specs.Machine.{State, Pending, Written}
 use Rattle.pdl_semantics.specs.Moves.{Act, movers}
-use Rattle.pdl_semantics.specs.Cycle.{appended, new_entries, oldest, but_oldest}
+use Rattle.pdl_semantics.specs.Cycle.{with_reserves, new_entries, oldest, but_oldest}
 use Rattle.pdl_derived.specs.Derived
 use Rattle.pdl_facts.specs.Facts.{Sound}
 use Rattle.pdl_derived.proofs.Lists.{pend}
@@ -37,9 +37,9 @@ contains_write m ws w e c = at ws c.0 c.1 c.2
     at (v ∷ vs) zero h f = ap (λ b. b || writes_to m vs) (eq-eqb v.mem m (ap (λ (u : Written). u.mem) f ∙ e))
     at (v ∷ vs) (suc i) h f = or_right (v.mem == m) (writes_to m vs) (at vs i (omega arith) f)
 
-any_appended : (test : Pending → Bool) (m : ℕ) (ms : List Act) (xs : List Pending) → list_any test xs ≡ true → list_any test (appended m ms xs) ≡ true
+any_appended : (test : Pending → Bool) (m : ℕ) (ms : List Act) (xs : List Pending) → list_any test xs ≡ true → list_any test (with_reserves m ms xs) ≡ true
 any_appended test m [] xs h = h
-any_appended test m (a ∷ ms) xs h = any_front test (appended m ms xs) (new_entries m a.thread.number a.does.reserves) (any_appended test m ms xs h)
+any_appended test m (a ∷ ms) xs h = any_front test (with_reserves m ms xs) (new_entries m a.thread.number a.does.reserves) (any_appended test m ms xs h)
 
 -- the oldest of a list
 pub first_is : (xs : List Pending) (e : Pending) → oldest xs ≡ Some e → xs ≡ e ∷ but_oldest xs
@@ -116,16 +116,16 @@ module _ (p : Pipe) (sound : Sound p) (st : State) (d : Derived.State) (bits : L
   has_any : (test : Pending → Bool) (ls : List Live) → Each (Seated p st) ls → Ordered p ls
       → EachPair
       (λ x. (did p d bits x.older x.live).moves ≡ true → list_any test (pend m x.live.number x.live.thread.entries ++ new_entries m x.live.number (deeds_of p st bits x.live).reserves) ≡ true
-      → list_any test (appended m (movers (lacts p st d bits ls)) (pends m ls)) ≡ true) (pairs ls)
+      → list_any test (with_reserves m (movers (lacts p st d bits ls)) (pends m ls)) ≡ true) (pairs ls)
   has_any test [] s o = tt
   has_any test (l ∷ ls) s o =
       (mine (did p d bits ls l).moves, pair_map (λ x g i j. more (did p d bits ls l).moves (g i j)) (pairs ls) (has_any test ls s.1 o.1))
     where
-      more : (b : Bool) → list_any test (appended m (movers (lacts p st d bits ls)) (pends m ls)) ≡ true
+      more : (b : Bool) → list_any test (with_reserves m (movers (lacts p st d bits ls)) (pends m ls)) ≡ true
           → list_any test
-          (appended m (cond b (lact p st d bits ls l ∷ movers (lacts p st d bits ls)) (movers (lacts p st d bits ls))) (pends m ls ++ pend m l.number l.thread.entries)) ≡ true
+          (with_reserves m (cond b (lact p st d bits ls l ∷ movers (lacts p st d bits ls)) (movers (lacts p st d bits ls))) (pends m ls ++ pend m l.number l.thread.entries)) ≡ true
       more b h =
-          let t = appended_more p (sound_flows p sound) st d bits arrays m ls l s.0 o.0 b in ap (list_any test) t.1 ∙ any_front test (appended m (movers (lacts p st d bits ls)) (pends m ls)) t.0 h
+          let t = appended_more p (sound_flows p sound) st d bits arrays m ls l s.0 o.0 b in ap (list_any test) t.1 ∙ any_front test (with_reserves m (movers (lacts p st d bits ls)) (pends m ls)) t.0 h
 
       split : (xs ys zs : List Pending) → list_any test (xs ++ ys) ≡ true → (list_any test xs ≡ true → list_any test zs ≡ true)
           → list_any test (zs ++ ys) ≡ true
@@ -140,26 +140,26 @@ module _ (p : Pipe) (sound : Sound p) (st : State) (d : Derived.State) (bits : L
 
       mine : (b : Bool) → b ≡ true → list_any test (pend m l.number l.thread.entries ++ new_entries m l.number (deeds_of p st bits l).reserves) ≡ true
           → list_any test
-          (appended m (cond b (lact p st d bits ls l ∷ movers (lacts p st d bits ls)) (movers (lacts p st d bits ls))) (pends m ls ++ pend m l.number l.thread.entries)) ≡ true
+          (with_reserves m (cond b (lact p st d bits ls l ∷ movers (lacts p st d bits ls)) (movers (lacts p st d bits ls))) (pends m ls ++ pend m l.number l.thread.entries)) ≡ true
       mine false i h = absurd (false≢true i)
       mine true i h =
           split (pend m l.number l.thread.entries) (new_entries m l.number (deeds_of p st bits l).reserves)
-          (appended m (movers (lacts p st d bits ls)) (pends m ls ++ pend m l.number l.thread.entries)) h
+          (with_reserves m (movers (lacts p st d bits ls)) (pends m ls ++ pend m l.number l.thread.entries)) h
           (λ g. any_appended test m (movers (lacts p st d bits ls)) (pends m ls ++ pend m l.number l.thread.entries) (any_append test (pends m ls) (pend m l.number l.thread.entries) g))
 
   pub has_open : (ls : List Live) → Each (Seated p st) ls → Ordered p ls
       → EachPair
       (λ x. (did p d bits x.older x.live).moves ≡ true → is_open x.live.number (pend m x.live.number x.live.thread.entries ++ new_entries m x.live.number (deeds_of p st bits x.live).reserves) ≡ true
-      → is_open x.live.number (appended m (movers (lacts p st d bits ls)) (pends m ls)) ≡ true) (pairs ls)
+      → is_open x.live.number (with_reserves m (movers (lacts p st d bits ls)) (pends m ls)) ≡ true) (pairs ls)
   has_open ls s o = every (pairs ls) (λ n. has_any (λ (e : Pending). (e.thread == n) && is_none e.value) ls s o)
     where
       every : (xs : List Pair)
           →
           ((n : ℕ) → EachPair (λ x. (did p d bits x.older x.live).moves ≡ true → is_open n (pend m x.live.number x.live.thread.entries ++ new_entries m x.live.number (deeds_of p st bits x.live).reserves) ≡ true
-          → is_open n (appended m (movers (lacts p st d bits ls)) (pends m ls)) ≡ true) xs)
+          → is_open n (with_reserves m (movers (lacts p st d bits ls)) (pends m ls)) ≡ true) xs)
           → EachPair
           (λ x. (did p d bits x.older x.live).moves ≡ true → is_open x.live.number (pend m x.live.number x.live.thread.entries ++ new_entries m x.live.number (deeds_of p st bits x.live).reserves) ≡ true
-          → is_open x.live.number (appended m (movers (lacts p st d bits ls)) (pends m ls)) ≡ true) xs
+          → is_open x.live.number (with_reserves m (movers (lacts p st d bits ls)) (pends m ls)) ≡ true) xs
       every [] f = tt
       every (x ∷ xs) f = ((f x.live.number).0, every xs (λ n. (f n).1))
 

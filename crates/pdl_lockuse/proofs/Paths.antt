@@ -1,14 +1,14 @@
 -- What the facts of an accepted pipe say of the statements that a thread has behind it, and of those of its stage, on the path that it takes.
 use Rattle.std.proofs.Common.{◌≡◌, refl, sym, ap, ap₂, ◌∙◌, subst, ℕ, ◌<◌, Bool, true, false, ◌&&◌, ◌||◌, not, List, [], ◌∷◌, ◌++◌, length, ◌==◌, nat_lt, nat_le, cond, arith, append_assoc, eq-eqb, leb-false, le-leb}
 use Rattle.std.proofs.lemmas.Bool.{false≢true}
-use Rattle.pdl_semantics.specs.Flat.{Pipe, Op, CombRead, DelayedRead, Write, Block, Release, Stmt, Expr, list_all, taken}
+use Rattle.pdl_semantics.specs.Flat.{Pipe, Op, CombRead, DelayedRead, Write, Block, Release, Stmt, Expr, list_all, all_hold}
 use Rattle.pdl_semantics.specs.Stages.{list_any, onpath, in_stage, mem_at, is_release, commit_stage, verify_stage}
 use Rattle.pdl_semantics.specs.Machine.{State}
 use Rattle.pdl_semantics.specs.Sound.{stages_before, stages_from, is_release_at}
 use Rattle.pdl_derived.specs.Derived
 use Rattle.pdl_derived.specs.Derived.{Around, around}
-use Rattle.pdl_derived.specs.Alone.{looked}
-use Rattle.pdl_facts.specs.Scans.{no_guards, is_plain, Phase, Fresh, Written, next_phase, phase_all, is_over, Scan, no_scan, opened, uses, opens, opens_all, op_ok, reads_ok, none_of}
+use Rattle.pdl_derived.specs.Alone.{answered_op}
+use Rattle.pdl_facts.specs.Scans.{no_guards, is_plain, Phase, Fresh, Written, next_phase, phase_all, is_over, Scan, no_scan, has_location, is_address, scan_after, scan_after_all, op_ok, reads_ok, none_of}
 use Rattle.pdl_facts.specs.Certain.{Unmade, making_all, makings_ok}
 use Rattle.pdl_facts.specs.Facts.{Sound, looked_all, at_once}
 use Rattle.pdl_facts.specs.Accepted.{along}
@@ -37,9 +37,9 @@ use Rattle.pdl_turns.proofs.Paths.{none_onpath}
 
 -- PARTS OF A LIST OF STATEMENTS
 
-reads_back : (q : Pipe) (c : Scan) (xs ys : List Stmt) → reads_ok q c (xs ++ ys) ≡ true → reads_ok q (opens_all xs c) ys ≡ true
+reads_back : (q : Pipe) (c : Scan) (xs ys : List Stmt) → reads_ok q c (xs ++ ys) ≡ true → reads_ok q (scan_after_all xs c) ys ≡ true
 reads_back q c [] ys h = h
-reads_back q c (x ∷ xs) ys h = reads_back q (opens x.op c) xs ys (and_right (no_guards x.guards && op_ok q x.stage c x.op) _ h)
+reads_back q c (x ∷ xs) ys h = reads_back q (scan_after x.op c) xs ys (and_right (no_guards x.guards && op_ok q x.stage c x.op) _ h)
 
 none_both : (test : Op → Bool) (xs ys : List Stmt) → none_of test xs ≡ true → none_of test ys ≡ true → none_of test (xs ++ ys) ≡ true
 none_both test [] ys h k = k
@@ -91,16 +91,16 @@ module _ (p q : Pipe) (same : (m : ℕ) → commit_stage q m ≡ commit_stage p 
       at true e = e
       at false e = absurd (f (leb-false s c e))
 
-  pub one : (c : Scan) (op : Op) (ys : List Stmt) → op_ok q s c (looked op) ≡ true → lets_go op ys ≡ true
+  pub one : (c : Scan) (op : Op) (ys : List Stmt) → op_ok q s c (answered_op op) ≡ true → lets_go op ys ≡ true
       → ((m : ℕ) → commit_stage p m < s → none_of (is_release m) ys ≡ true) → ((m a : ℕ) (e : Expr) → op ≡ Write m a e → commit_stage p m < s → ⊥)
-      → in_time p s (looked op) ≡ true
-  one c (CombRead x m a) ys ok go r w = read_early m (opened c.blocked m a) (and_right (not (uses c.blocked x)) _ ok)
-  one c (DelayedRead x m a) ys ok go r w = read_early m (opened c.blocked m a) (and_right (not (uses c.blocked x)) _ ok)
+      → in_time p s (answered_op op) ≡ true
+  one c (CombRead x m a) ys ok go r w = read_early m (has_location c.blocked m a) (and_right (not (is_address c.blocked x)) _ ok)
+  one c (DelayedRead x m a) ys ok go r w = read_early m (has_location c.blocked m a) (and_right (not (is_address c.blocked x)) _ ok)
   one c (Block m a) ys ok go r w = unless (commit_stage p m) (λ i. false≢true (sym (none_release m a ys (r m i)) ∙ go))
   one c (Write m a e) ys ok go r w = unless (commit_stage p m) (w m a e refl)
   one c _ ys ok go r w = refl
 
-  read_later : (op : Op) → in_time p s (looked op) ≡ true → in_time p s op ≡ true
+  read_later : (op : Op) → in_time p s (answered_op op) ≡ true → in_time p s op ≡ true
   read_later (DelayedRead x m a) h = refl
   read_later _ h = h
 
@@ -113,9 +113,9 @@ module _ (p q : Pipe) (same : (m : ℕ) → commit_stage q m ≡ commit_stage p 
   early_all c ph (x ∷ xs) rest i ok go r over =
       let behind : (m : ℕ) → commit_stage p m < s → none_of (is_release m) (xs ++ rest) ≡ true = λ m j. and_right (not (is_release m x.op)) _ (r m j) in
       ap₂ (λ a b. a && b)
-      (ap (λ k. in_time p k x.op) i.0 ∙ read_later x.op (one c x.op (xs ++ rest) (subst (λ k. op_ok q k c (looked x.op) ≡ true) i.0 (and_right (no_guards x.guards) _ (and_left _ _ ok))) (and_left _ _ go) behind
+      (ap (λ k. in_time p k x.op) i.0 ∙ read_later x.op (one c x.op (xs ++ rest) (subst (λ k. op_ok q k c (answered_op x.op) ≡ true) i.0 (and_right (no_guards x.guards) _ (and_left _ _ ok))) (and_left _ _ go) behind
       (λ m a e w j. false≢true (left_open m a e w ∙ over_early m (xs ++ rest) (next_phase m (ph m) x.op) (behind m j) (over m)))))
-      (early_all (opens (looked x.op) c) (λ m. next_phase m (ph m) x.op) xs rest i.1 (and_right (no_guards x.guards && op_ok q x.stage c (looked x.op)) _ ok) (and_right (lets_go x.op (xs ++ rest)) _ go) behind over)
+      (early_all (scan_after (answered_op x.op) c) (λ m. next_phase m (ph m) x.op) xs rest i.1 (and_right (no_guards x.guards && op_ok q x.stage c (answered_op x.op)) _ ok) (and_right (lets_go x.op (xs ++ rest)) _ go) behind over)
     where
       left_open : (m a : ℕ) (e : Expr) → x.op ≡ Write m a e → false ≡ is_over (next_phase m (ph m) x.op)
       left_open m a e w = sym (ap (λ o. is_over (next_phase m (ph m) o)) w ∙ ap (λ b. is_over (cond b (Written a) (ph m))) (eq-eqb m m refl))
@@ -154,7 +154,7 @@ module _ (p : Pipe) (sound : Sound p) (st : State) (d : Derived.State) (bits : L
   looked_whole =
       path_looked path p.stmts ∙ ap looked_all whole ∙ looked_append passed (mine ++ rest) ∙ ap (λ xs. looked_all passed ++ xs) (looked_append mine rest)
 
-  pub mine_reads : reads_ok (along path (at_once p)) (opens_all (looked_all passed) no_scan) (looked_all mine) ≡ true
+  pub mine_reads : reads_ok (along path (at_once p)) (scan_after_all (looked_all passed) no_scan) (looked_all mine) ≡ true
   mine_reads =
       reads_back (along path (at_once p)) no_scan (looked_all passed) (looked_all mine)
       (subst (λ xs. reads_ok (along path (at_once p)) no_scan xs ≡ true) (way_looked p path next ∙ ap looked_all way_is ∙ looked_append passed mine) ((sound.pathwise.paths path).reads next))
@@ -202,7 +202,7 @@ module _ (p : Pipe) (sound : Sound p) (st : State) (d : Derived.State) (bits : L
 
   pub mine_early : Strict p → list_all (is_early p) mine ≡ true
   mine_early strict =
-      early_all p (along path (at_once p)) (λ m. refl) l.thread.stage k.seated.keeps_on.inside plain_to (opens_all (looked_all passed) no_scan)
+      early_all p (along path (at_once p)) (λ m. refl) l.thread.stage k.seated.keeps_on.inside plain_to (scan_after_all (looked_all passed) no_scan)
       (λ m. phase_all m Fresh passed) mine rest
       (stage_stmts path l.thread.stage p.stmts) mine_reads
       (let_go_behind passed (mine ++ rest) (subst (λ xs. all_let_go xs ≡ true) whole (strict.blocks path))) released_before over_here
@@ -211,9 +211,9 @@ module _ (p : Pipe) (sound : Sound p) (st : State) (d : Derived.State) (bits : L
 pub all_way : (test : Op → Bool) (path : List ℕ) (s : ℕ) (xs : List Stmt) → list_all (λ (x : Stmt). test x.op) xs ≡ true
     → list_all (λ (x : Stmt). test x.op) (onpath path (stages_before s xs)) ≡ true
 all_way test path s [] h = refl
-all_way test path s (x ∷ xs) h = at (nat_lt x.stage s) (taken x.guards path) refl (all_way test path s xs (and_right (test x.op) _ h))
+all_way test path s (x ∷ xs) h = at (nat_lt x.stage s) (all_hold x.guards path) refl (all_way test path s xs (and_right (test x.op) _ h))
   where
-    at : (b c : Bool) → taken x.guards path ≡ c → list_all (λ (x : Stmt). test x.op) (onpath path (stages_before s xs)) ≡ true
+    at : (b c : Bool) → all_hold x.guards path ≡ c → list_all (λ (x : Stmt). test x.op) (onpath path (stages_before s xs)) ≡ true
         → list_all (λ (x : Stmt). test x.op) (onpath path (cond b (x ∷ stages_before s xs) (stages_before s xs))) ≡ true
     at true true e r =
         ap (λ c. list_all (λ (x : Stmt). test x.op) (cond c (record x { guards = [] } ∷ onpath path (stages_before s xs)) (onpath path (stages_before s xs)))) e
@@ -226,9 +226,9 @@ all_way test path s (x ∷ xs) h = at (nat_lt x.stage s) (taken x.guards path) r
 pub all_here : (test : Op → Bool) (path : List ℕ) (s : ℕ) (xs : List Stmt) → list_all (λ (x : Stmt). test x.op) xs ≡ true
     → list_all (λ (x : Stmt). test x.op) (onpath path (in_stage s xs)) ≡ true
 all_here test path s [] h = refl
-all_here test path s (x ∷ xs) h = at (x.stage == s) (taken x.guards path) refl (all_here test path s xs (and_right (test x.op) _ h))
+all_here test path s (x ∷ xs) h = at (x.stage == s) (all_hold x.guards path) refl (all_here test path s xs (and_right (test x.op) _ h))
   where
-    at : (b c : Bool) → taken x.guards path ≡ c → list_all (λ (x : Stmt). test x.op) (onpath path (in_stage s xs)) ≡ true
+    at : (b c : Bool) → all_hold x.guards path ≡ c → list_all (λ (x : Stmt). test x.op) (onpath path (in_stage s xs)) ≡ true
         → list_all (λ (x : Stmt). test x.op) (onpath path (cond b (x ∷ in_stage s xs) (in_stage s xs))) ≡ true
     at true true e r =
         ap (λ c. list_all (λ (x : Stmt). test x.op) (cond c (record x { guards = [] } ∷ onpath path (in_stage s xs)) (onpath path (in_stage s xs)))) e

@@ -3,7 +3,7 @@ use Rattle.std.proofs.Common.{◌≡◌, sym, ap, ap₂, ◌∙◌, ℕ, suc, �
 use Rattle.pdl_word.specs.Words
 use Rattle.pdl_semantics.specs.Flat.{Arrays, Pipe}
 use Rattle.pdl_semantics.specs.Machine.{State, lock_of}
-use Rattle.pdl_semantics.specs.Cycle.{appended, releases, list_three, entries_left, squasher, first, state_after}
+use Rattle.pdl_semantics.specs.Cycle.{with_reserves, has_release, list_three, entries_left, squasher, first, state_after}
 use Rattle.pdl_facts.specs.Facts.{Sound}
 use Rattle.pdl_lockapi.specs.Forget as forget
 use Rattle.pdl_machine_facts.specs.Slots
@@ -22,13 +22,13 @@ module _ (p : Pipe) (sound : Sound p) (strict : Strict p) (image : Arrays) (befo
   movers : moving p (state_after p (first p image) before) bits ≡ Slots.moving p (state_after p (first p image) before) bits
   movers = (stages_here p sound strict image before bits).movers
 
-  new_is : (m : ℕ) → appended m (Slots.moving p now bits) (lock_of now m) ≡ with_new p now bits m
-  new_is m = ap (λ ms. appended m ms (lock_of now m)) (sym movers)
+  new_is : (m : ℕ) → with_reserves m (Slots.moving p now bits) (lock_of now m) ≡ with_new p now bits m
+  new_is m = ap (λ ms. with_reserves m ms (lock_of now m)) (sym movers)
 
   three_is : (m : ℕ) → list_three now (Slots.moving p now bits) m ≡ with_release p now bits m
   three_is m = ap (λ ms. list_three now ms m) (sym movers)
 
-  count_new : (t m : ℕ) → forget.count_older t (appended m (Slots.moving p now bits) (lock_of now m)) ≡ count_older t (with_new p now bits m)
+  count_new : (t m : ℕ) → forget.count_older t (with_reserves m (Slots.moving p now bits) (lock_of now m)) ≡ count_older t (with_new p now bits m)
   count_new t m = ap (forget.count_older t) (new_is m) ∙ sym (same_count t (with_new p now bits m))
 
   count_three : (t m : ℕ) → forget.count_older t (list_three now (Slots.moving p now bits) m) ≡ count_older t (with_release p now bits m)
@@ -43,7 +43,7 @@ module _ (p : Pipe) (sound : Sound p) (strict : Strict p) (image : Arrays) (befo
         count_new (suc t.number) m ∙ at_slot p now bits (KeepsTail p now bits m) (kept_here p sound strict image before bits m) k t h low
         ∙ same_count (suc t.number) (lock_of now m);
     shifts = λ k t m v h e low.
-        ap₂ (λ x y. x + y) (count_three (suc t.number) m) (ap (λ ms. Words.bit (releases m ms)) (sym movers) ∙ sym (same_bit (releases m (moving p now bits))))
+        ap₂ (λ x y. x + y) (count_three (suc t.number) m) (ap (λ ms. Words.bit (has_release m ms)) (sym movers) ∙ sym (same_bit (has_release m (moving p now bits))))
         ∙ at_slot p now bits (ShiftsTail p now bits m) (tails_here p sound strict image before bits m) k t h v e low ∙ sym (count_new (suc t.number) m);
     left = λ m n h.
         let sq = squasher (Slots.moving p now bits) in

@@ -4,7 +4,7 @@ use Rattle.pdl_semantics.specs.Flat.{Pipe}
 use Rattle.pdl_semantics.specs.Stages.{list_any, stage_at, reserve_stage, commit_stage, verify_stage}
 use Rattle.pdl_semantics.specs.Machine.{State, Pending}
 use Rattle.pdl_semantics.specs.Moves.{movers}
-use Rattle.pdl_semantics.specs.Cycle.{appended, releases}
+use Rattle.pdl_semantics.specs.Cycle.{with_reserves, has_release}
 use Rattle.pdl_derived.specs.Derived
 use Rattle.pdl_facts.specs.Facts.{Sound}
 use Rattle.pdl_turns.proofs.CourseOf
@@ -35,26 +35,26 @@ verify_trunk p sound v e = subst (λ n. (stage_at p n).branch ≡ None) (v_is (v
 quiet_same : (p : Pipe) (sound : Sound p) (st : State) (d : Derived.State) (bits : List Bool) (arrays : st.arrays ≡ d.arrays) (m : ℕ) (ls : List Live)
     (l : Live)
     → Seated p st l → l.thread.stage < reserve_stage p m
-    → appended m (movers (lacts p st d bits (l ∷ ls))) (pends m (l ∷ ls)) ≡ appended m (movers (lacts p st d bits ls)) (pends m ls)
+    → with_reserves m (movers (lacts p st d bits (l ∷ ls))) (pends m (l ∷ ls)) ≡ with_reserves m (movers (lacts p st d bits ls)) (pends m ls)
 quiet_same p sound st d bits arrays m ls l s low =
-    ap (λ x. appended m (movers (lacts p st d bits (l ∷ ls))) (pends m ls ++ x)) none
-    ∙ ap (appended m (movers (lacts p st d bits (l ∷ ls)))) (append-nil (pends m ls)) ∙ at (did p d bits ls l).moves
+    ap (λ x. with_reserves m (movers (lacts p st d bits (l ∷ ls))) (pends m ls ++ x)) none
+    ∙ ap (with_reserves m (movers (lacts p st d bits (l ∷ ls)))) (append-nil (pends m ls)) ∙ at (did p d bits ls l).moves
   where
     none : pend m l.number l.thread.entries ≡ []
     none = none_pending p (sound_flows p sound) st m l s (omega (arith, low))
 
     at : (b : Bool)
-        → appended m (cond b (lact p st d bits ls l ∷ movers (lacts p st d bits ls)) (movers (lacts p st d bits ls))) (pends m ls) ≡ appended m
+        → with_reserves m (cond b (lact p st d bits ls l ∷ movers (lacts p st d bits ls)) (movers (lacts p st d bits ls))) (pends m ls) ≡ with_reserves m
         (movers (lacts p st d bits ls)) (pends m ls)
     at true =
-        ap (λ x. appended m (movers (lacts p st d bits ls)) (pends m ls) ++ x)
+        ap (λ x. with_reserves m (movers (lacts p st d bits ls)) (pends m ls) ++ x)
         (quiet_new p (sound_flows p sound) st d bits arrays m l (λ e. absurd (omega (arith, low, e))))
-        ∙ append-nil (appended m (movers (lacts p st d bits ls)) (pends m ls))
+        ∙ append-nil (with_reserves m (movers (lacts p st d bits ls)) (pends m ls))
     at false = refl
 
 module _ (p : Pipe) (sound : Sound p) (st : State) (d : Derived.State) (bits : List Bool) (arrays : st.arrays ≡ d.arrays) (m : ℕ) where
   abbrev new : List Live → List Pending
-  new ls = appended m (movers (lacts p st d bits ls)) (pends m ls)
+  new ls = with_reserves m (movers (lacts p st d bits ls)) (pends m ls)
 
   abbrev lets : Live → Bool
   lets l = list_any (λ j. j == m) (deeds_of p st bits l).releases
@@ -68,9 +68,9 @@ module _ (p : Pipe) (sound : Sound p) (st : State) (d : Derived.State) (bits : L
 
   -- then what is released is no younger than such a thread
   pub up_released : (P : Pair → Type 0) (n : ℕ) (ls : List Live) → Bars P ls → Each (Seated p st) ls → AllKnown p (sound_flows p sound) st d bits arrays ls
-      → Ordered p ls → Falls n ls → releases m (movers (lacts p st d bits ls)) ≡ true
+      → Ordered p ls → Falls n ls → has_release m (movers (lacts p st d bits ls)) ≡ true
       → EachPair
-      (λ x. P x → (e : Pending) (rest : List Pending) → appended m (movers (lacts p st d bits ls)) (pends m ls) ≡ e ∷ rest → e.thread < suc x.live.number)
+      (λ x. P x → (e : Pending) (rest : List Pending) → with_reserves m (movers (lacts p st d bits ls)) (pends m ls) ≡ e ∷ rest → e.thread < suc x.live.number)
       (pairs ls)
   up_released P n [] bars s k o f h = tt
   up_released P n (l ∷ ls) bars s k o f h = (
@@ -93,16 +93,16 @@ module _ (p : Pipe) (sound : Sound p) (st : State) (d : Derived.State) (bits : L
           same e rest j = first (ap (λ l. l ++ t.0) (sym g.1.2) ∙ sym t.1 ∙ j)
 
       at : (b : Bool) → (did p d bits ls l).moves ≡ b → (c : Bool) → lets l ≡ c
-          → releases m (cond b (lact p st d bits ls l ∷ movers (lacts p st d bits ls)) (movers (lacts p st d bits ls))) ≡ true
+          → has_release m (cond b (lact p st d bits ls l ∷ movers (lacts p st d bits ls)) (movers (lacts p st d bits ls))) ≡ true
           →
-          ((b : Bool) → (tail : List Pending) × (appended m (cond b (lact p st d bits ls l ∷ movers (lacts p st d bits ls)) (movers (lacts p st d bits ls))) (pends m ls ++ pend m l.number l.thread.entries) ≡ new ls ++ tail))
+          ((b : Bool) → (tail : List Pending) × (with_reserves m (cond b (lact p st d bits ls l ∷ movers (lacts p st d bits ls)) (movers (lacts p st d bits ls))) (pends m ls ++ pend m l.number l.thread.entries) ≡ new ls ++ tail))
           →
-          (releases m (movers (lacts p st d bits ls)) ≡ true → EachPair (λ x. P x → (e : Pending) (rest : List Pending) → new ls ≡ e ∷ rest → e.thread < suc x.live.number) (pairs ls) × ((x : Pending) × (xs : List Pending) × (new ls ≡ x ∷ xs)))
+          (has_release m (movers (lacts p st d bits ls)) ≡ true → EachPair (λ x. P x → (e : Pending) (rest : List Pending) → new ls ≡ e ∷ rest → e.thread < suc x.live.number) (pairs ls) × ((x : Pending) × (xs : List Pending) × (new ls ≡ x ∷ xs)))
           → EachPair
-          (λ x. P x → (e : Pending) (rest : List Pending) → appended m (cond b (lact p st d bits ls l ∷ movers (lacts p st d bits ls)) (movers (lacts p st d bits ls))) (pends m ls ++ pend m l.number l.thread.entries) ≡ e ∷ rest → e.thread < suc x.live.number)
+          (λ x. P x → (e : Pending) (rest : List Pending) → with_reserves m (cond b (lact p st d bits ls l ∷ movers (lacts p st d bits ls)) (movers (lacts p st d bits ls))) (pends m ls ++ pend m l.number l.thread.entries) ≡ e ∷ rest → e.thread < suc x.live.number)
           (pairs ls)
       at true i true j h t r = pair_map (λ x g i. absurd (g i)) (pairs ls) (bars.0 i j)
-      at true i false j h t r = other _ (t true) (r (sym (ap (λ c. c || releases m (movers (lacts p st d bits ls))) j) ∙ h))
+      at true i false j h t r = other _ (t true) (r (sym (ap (λ c. c || has_release m (movers (lacts p st d bits ls))) j) ∙ h))
       at false i c j h t r = other _ (t false) (r h)
 
   -- no older thread stands up to the stage of the releases
@@ -137,7 +137,7 @@ module _ (p : Pipe) (sound : Sound p) (st : State) (d : Derived.State) (bits : L
   -- up to the stage of the reserves all are its own or older
   pub all_own : (n : ℕ) (ls : List Live) → AllKnown p (sound_flows p sound) st d bits arrays ls → Each (Seated p st) ls → Ordered p ls → Falls n ls
       → EachPair
-      (λ x. x.live.thread.stage ≤ reserve_stage p m → count_older (suc x.live.number) (appended m (movers (lacts p st d bits ls)) (pends m ls)) ≡ length (appended m (movers (lacts p st d bits ls)) (pends m ls)))
+      (λ x. x.live.thread.stage ≤ reserve_stage p m → count_older (suc x.live.number) (with_reserves m (movers (lacts p st d bits ls)) (pends m ls)) ≡ length (with_reserves m (movers (lacts p st d bits ls)) (pends m ls)))
       (pairs ls)
   all_own n [] k s o f = tt
   all_own n (l ∷ ls) k s o f = (
@@ -172,7 +172,7 @@ module _ (p : Pipe) (sound : Sound p) (st : State) (d : Derived.State) (bits : L
 
   pub tail_kept : (n : ℕ) (ls : List Live) (list : List Pending) → Ordered p ls → Falls n ls
       → EachPair
-      (λ x. reserve_stage p m < x.live.thread.stage → count_older (suc x.live.number) (appended m (movers (lacts p st d bits ls)) list) ≡ count_older (suc x.live.number) list)
+      (λ x. reserve_stage p m < x.live.thread.stage → count_older (suc x.live.number) (with_reserves m (movers (lacts p st d bits ls)) list) ≡ count_older (suc x.live.number) list)
       (pairs ls)
   tail_kept n ls list o f =
       pair_map

@@ -1,12 +1,12 @@
 -- On each path a memory is blocked, read and written no later than the stage of its releases; so what is released while that is to come is no younger.
 use Rattle.std.proofs.Common.{◌≡◌, refl, sym, ap, ap₂, ◌∙◌, subst, ℕ, ◌≤◌, ◌<◌, Bool, true, false, ◌&&◌, ◌||◌, not, List, [], ◌∷◌, ◌++◌, length, ◌==◌, nat_lt, nat_le, cond, arith, eq-eqb, ltb-true, ltb-false, leb-true, le_refl, le-leb, le-ltb}
 use Rattle.std.proofs.lemmas.Bool.{false≢true, eqb-true}
-use Rattle.pdl_semantics.specs.Flat.{Pipe, Op, CombRead, DelayedRead, Write, Block, Stmt, Expr, list_all, taken}
+use Rattle.pdl_semantics.specs.Flat.{Pipe, Op, CombRead, DelayedRead, Write, Block, Stmt, Expr, list_all, all_hold}
 use Rattle.pdl_semantics.specs.Stages.{list_any, onpath, is_release, commit_stage}
 use Rattle.pdl_semantics.specs.Machine.{State}
 use Rattle.pdl_semantics.specs.Moves.{Act}
-use Rattle.pdl_derived.specs.Alone.{before, looked}
-use Rattle.pdl_facts.specs.Scans.{no_guards, Phase, Fresh, Written, next_phase, phase_all, is_over, Scan, no_scan, opens, op_ok, reads_ok, all_at, none_of, from}
+use Rattle.pdl_derived.specs.Alone.{before, answered_op}
+use Rattle.pdl_facts.specs.Scans.{no_guards, Phase, Fresh, Written, next_phase, phase_all, is_over, Scan, no_scan, scan_after, op_ok, reads_ok, all_at, none_of, from}
 use Rattle.pdl_facts.specs.Facts.{Sound, looked_all, at_once}
 use Rattle.pdl_facts.specs.Accepted.{Accepted, along}
 use Rattle.pdl_derived.proofs.Writes.{and_left, and_right}
@@ -27,7 +27,7 @@ low_before s [] = tt
 low_before s (x ∷ xs) = at (nat_lt x.stage s) refl (low_before s xs)
   where
     at : (b : Bool) → nat_lt x.stage s ≡ b → AllStmts (λ z. z.stage < s) (before s xs)
-        → AllStmts (λ z. z.stage < s) (cond b (record x { op = looked x.op } ∷ before s xs) (before s xs))
+        → AllStmts (λ z. z.stage < s) (cond b (record x { op = answered_op x.op } ∷ before s xs) (before s xs))
     at true e r = (ltb-true _ _ e, r)
     at false e r = r
 
@@ -44,7 +44,7 @@ none_before : (s : ℕ) (xs : List Stmt) → AllStmts (λ z. s ≤ z.stage) xs �
 none_before s [] h = (refl, refl)
 none_before s (x ∷ xs) h =
     let r = none_before s xs h.1 in (
-      ap₂ (λ b l. cond b (record x { op = looked x.op } ∷ l) l) (le-ltb x.stage s h.0) r.0,
+      ap₂ (λ b l. cond b (record x { op = answered_op x.op } ∷ l) l) (le-ltb x.stage s h.0) r.0,
       ap₂ (λ b l. cond b (x ∷ l) l) (le-leb s x.stage h.0) r.1,
     )
 
@@ -69,7 +69,7 @@ module _ (x : Stmt) (xs : List Stmt) (split : Split (x ∷ xs)) where
       here : x ∷ xs ≡ before x.stage xs ++ x ∷ from x.stage xs
       here =
           split x.stage
-          ∙ ap₂ (λ b c. cond b (record x { op = looked x.op } ∷ before x.stage xs) (before x.stage xs) ++ cond c (x ∷ from x.stage xs) (from x.stage xs))
+          ∙ ap₂ (λ b c. cond b (record x { op = answered_op x.op } ∷ before x.stage xs) (before x.stage xs) ++ cond c (x ∷ from x.stage xs) (from x.stage xs))
           (le-ltb x.stage x.stage (le_refl x.stage)) (le-leb x.stage x.stage (le_refl x.stage))
 
       at : (l : List Stmt) → before x.stage xs ≡ l → AllStmts (λ z. z.stage < x.stage) l → AllStmts (λ z. x.stage ≤ z.stage) xs
@@ -84,7 +84,7 @@ module _ (x : Stmt) (xs : List Stmt) (split : Split (x ∷ xs)) where
       at : (b : Bool) → nat_lt x.stage s ≡ b → xs ≡ before s xs ++ from s xs
       at true e =
           let i = ltb-true _ _ e in
-          tail_is (split s ∙ ap₂ (λ b c. cond b (record x { op = looked x.op } ∷ before s xs) (before s xs) ++ cond c (x ∷ from s xs) (from s xs)) e (far i))
+          tail_is (split s ∙ ap₂ (λ b c. cond b (record x { op = answered_op x.op } ∷ before s xs) (before s xs) ++ cond c (x ∷ from s xs) (from s xs)) e (far i))
         where
           far : x.stage < s → nat_le s x.stage ≡ false
           far i = go (nat_le s x.stage) refl
@@ -133,7 +133,7 @@ module _ (p : Pipe) (sound : Sound p) (path : List ℕ) where
   all_early : (c : Scan) (ph : ℕ → Phase) (xs : List Stmt) → reads_ok (along path (at_once p)) c (looked_all xs) ≡ true → all_let_go xs ≡ true → Rising xs
       → ((m : ℕ) → all_at (is_release m) (commit_stage p m) xs ≡ true) → ((m : ℕ) → is_over (phase_all m (ph m) xs) ≡ true)
       → list_all (λ y. nat_lt y.stage (length p.stages)) xs ≡ true
-      → list_all (λ (x : Stmt). in_time p x.stage (looked x.op)) xs ≡ true
+      → list_all (λ (x : Stmt). in_time p x.stage (answered_op x.op)) xs ≡ true
   all_early c ph [] ok go r at over inside = refl
   all_early c ph (x ∷ xs) ok go r at over inside =
       let rest : (m : ℕ) → all_at (is_release m) (commit_stage p m) xs ≡ true = λ m. and_right (not (is_release m x.op) || (x.stage == commit_stage p m)) _ (at m) in
@@ -141,7 +141,7 @@ module _ (p : Pipe) (sound : Sound p) (path : List ℕ) where
       ap₂ (λ a b. a && b)
       (one p (along path (at_once p)) (λ m. refl) x.stage (ltb-true _ _ (and_left _ _ inside)) plain_to c x.op xs (and_right (no_guards x.guards) _ (and_left _ _ ok)) (and_left _ _ go) late
       (λ m a e w low. false≢true (left_open m a e w ∙ over_early m xs (next_phase m (ph m) x.op) (late m low) (over m))))
-      (all_early (opens (looked x.op) c) (λ m. next_phase m (ph m) x.op) xs (and_right (no_guards x.guards && op_ok (along path (at_once p)) x.stage c (looked x.op)) _ ok)
+      (all_early (scan_after (answered_op x.op) c) (λ m. next_phase m (ph m) x.op) xs (and_right (no_guards x.guards && op_ok (along path (at_once p)) x.stage c (answered_op x.op)) _ ok)
       (and_right (lets_go x.op xs) _ go) r.1 rest over (and_right (nat_lt x.stage (length p.stages)) _ inside))
     where
       left_open : (m a : ℕ) (e : Expr) → x.op ≡ Write m a e → false ≡ is_over (next_phase m (ph m) x.op)
@@ -150,7 +150,7 @@ module _ (p : Pipe) (sound : Sound p) (path : List ℕ) where
   all_path : (test : Stmt → Bool) → ((x : Stmt) → test (record x { guards = [] }) ≡ test x) → (xs : List Stmt) → list_all test xs ≡ true
       → list_all test (onpath path xs) ≡ true
   all_path test f [] h = refl
-  all_path test f (x ∷ xs) h = at (taken x.guards path) (all_path test f xs (and_right (test x) _ h))
+  all_path test f (x ∷ xs) h = at (all_hold x.guards path) (all_path test f xs (and_right (test x) _ h))
     where
       at : (b : Bool) → list_all test (onpath path xs) ≡ true → list_all test (cond b (record x { guards = [] } ∷ onpath path xs) (onpath path xs)) ≡ true
       at true r = ap₂ (λ a b. a && b) (f x ∙ and_left _ _ h) r
@@ -158,14 +158,14 @@ module _ (p : Pipe) (sound : Sound p) (path : List ℕ) where
 
   at_path : (m c : ℕ) (xs : List Stmt) → all_at (is_release m) c xs ≡ true → all_at (is_release m) c (onpath path xs) ≡ true
   at_path m c [] h = refl
-  at_path m c (x ∷ xs) h = at (taken x.guards path) (at_path m c xs (and_right (not (is_release m x.op) || (x.stage == c)) _ h))
+  at_path m c (x ∷ xs) h = at (all_hold x.guards path) (at_path m c xs (and_right (not (is_release m x.op) || (x.stage == c)) _ h))
     where
       at : (b : Bool) → all_at (is_release m) c (onpath path xs) ≡ true
           → all_at (is_release m) c (cond b (record x { guards = [] } ∷ onpath path xs) (onpath path xs)) ≡ true
       at true r = ap₂ (λ a b. a && b) (and_left (not (is_release m x.op) || (x.stage == c)) _ h) r
       at false r = r
 
-  pub timely : Strict p → list_all (λ (x : Stmt). in_time p x.stage (looked x.op)) (onpath path p.stmts) ≡ true
+  pub timely : Strict p → list_all (λ (x : Stmt). in_time p x.stage (answered_op x.op)) (onpath path p.stmts) ≡ true
   timely strict =
       all_early no_scan (λ m. Fresh) (onpath path p.stmts)
       (subst (λ xs. reads_ok (along path (at_once p)) no_scan xs ≡ true) (accepted.whole ∙ path_looked path p.stmts) (accepted.reads (length p.stages)))
@@ -177,12 +177,12 @@ module _ (p : Pipe) (sound : Sound p) (path : List ℕ) where
 -- STILL TO COME
 
 -- a statement to come that uses the memory tells that its releases are to come
-to_come : (p : Pipe) (m s : ℕ) (xs : List Stmt) → list_all (λ (x : Stmt). in_time p x.stage (looked x.op)) xs ≡ true
+to_come : (p : Pipe) (m s : ℕ) (xs : List Stmt) → list_all (λ (x : Stmt). in_time p x.stage (answered_op x.op)) xs ≡ true
     → list_any (λ (x : Stmt). nat_le s x.stage && uses_mem m x.op) xs ≡ true → s ≤ commit_stage p m
 to_come p m s [] t h = absurd (false≢true h)
-to_come p m s (x ∷ xs) t h = at (nat_le s x.stage) refl (uses_mem m x.op) refl h (to_come p m s xs (and_right (in_time p x.stage (looked x.op)) _ t))
+to_come p m s (x ∷ xs) t h = at (nat_le s x.stage) refl (uses_mem m x.op) refl h (to_come p m s xs (and_right (in_time p x.stage (answered_op x.op)) _ t))
   where
-    used : (op : Op) → uses_mem m op ≡ true → in_time p x.stage (looked op) ≡ true → x.stage ≤ commit_stage p m
+    used : (op : Op) → uses_mem m op ≡ true → in_time p x.stage (answered_op op) ≡ true → x.stage ≤ commit_stage p m
     used (CombRead y n a) u i = subst (λ k. x.stage ≤ commit_stage p k) (eqb-true n m u) (leb-true _ _ i)
     used (DelayedRead y n a) u i = subst (λ k. x.stage ≤ commit_stage p k) (eqb-true n m u) (leb-true _ _ i)
     used (Block n a) u i = subst (λ k. x.stage ≤ commit_stage p k) (eqb-true n m u) (leb-true _ _ i)

@@ -4,7 +4,7 @@ use Rattle.pdl_semantics.specs.Flat.{Pipe, Stmt, list_all, start_env}
 use Rattle.pdl_semantics.specs.Stages.{onpath, fork_guards, is_verify}
 use Rattle.pdl_facts.specs.Checks.{guard_vars}
 use Rattle.pdl_facts.specs.Scans.{none_of, is_fetch}
-use Rattle.pdl_facts.specs.SoundChecks.{sounds, all_paths, all_guards}
+use Rattle.pdl_facts.specs.SoundChecks.{passes_tests, all_paths, all_guards}
 use Rattle.pdl_derived.proofs.Writes.{and_left, and_right}
 use Rattle.pdl_progress.proofs.Rates.{picks, among, among_append}
 use Rattle.pdl_progress.proofs.Tried.{all_picks, path_agree, agree_picks}
@@ -44,13 +44,13 @@ module _ (p : Pipe) (low : list_all (λ g. nat_lt g (length (start_env p []))) (
             (list_all (λ g. nat_lt g (length (start_env p []))) (all_guards p) && all_paths (all_guards p) (λ path. all_keep_kind (onpath path p.stmts) && all_let_in [] (onpath path p.stmts)) (start_env p [])) _ h;
       }
 
-pub fit_tested : (p : Pipe) → sounds p ≡ true → is_strict p ≡ true → is_careful p ≡ true → none_of is_fetch p.stmts ≡ true → IsFit p
+pub fit_tested : (p : Pipe) → passes_tests p ≡ true → is_strict p ≡ true → is_careful p ≡ true → none_of is_fetch p.stmts ≡ true → IsFit p
 fit_tested p facts strict careful answered =
     let low = and_left _ _ (and_left _ _ careful) in
     fit_sound p (sounded p facts) (strict_tested p low strict) (careful_tested p low careful) answered
 
 -- and simple where it has no verifies and its stages stand in a line
-pub simple_tested : (p : Pipe) → sounds p ≡ true → is_strict p ≡ true → is_careful p ≡ true → none_of is_fetch p.stmts ≡ true → none_of is_verify p.stmts ≡ true → IsLinear p → IsSimple p
+pub simple_tested : (p : Pipe) → passes_tests p ≡ true → is_strict p ≡ true → is_careful p ≡ true → none_of is_fetch p.stmts ≡ true → none_of is_verify p.stmts ≡ true → IsLinear p → IsSimple p
 simple_tested p facts strict careful answered certain linear =
     record {
       sound = sounded p facts;

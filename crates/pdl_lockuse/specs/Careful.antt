@@ -10,7 +10,7 @@ abbrev pub reserves_at : ℕ → ℕ → Op → Bool
 reserves_at m a (ReserveWrite n b) = (n == m) && (b == a)
 reserves_at m a _ = false
 
--- behind a block its location is not reserved for writing
+-- after a block its location is not reserved for writing
 abbrev pub keeps_kind : Op → List Stmt → Bool
 keeps_kind (Block m a) ys = none_of (reserves_at m a) ys
 keeps_kind _ ys = true

@@ -1,12 +1,12 @@
 -- How the threads use the locks in a cycle, of any pipe, beside what the law of a netlist takes: room, whose write is released, and where a squash cuts the list of pending writes.
 use Rattle.std.specs.Prelude.{◌≡◌, ℕ, suc, ◌+◌, ◌≤◌, ◌<◌, Bool, true, false, ◌&&◌, List, [], ◌∷◌, Some, is_none, nat_le, length, take, if◌then◌else◌, ◌==◌, slice_index, Contains, IsTrue, ⊤}
-use Rattle.pdl_semantics.specs.Flat.{Op, CombRead, DelayedRead, Write, Block, Stmt, Pipe, taken}
+use Rattle.pdl_semantics.specs.Flat.{Op, CombRead, DelayedRead, Write, Block, Stmt, Pipe, all_hold}
 use Rattle.pdl_semantics.specs.Stages.{list_any, onpath, in_stage, mem_at, reserve_stage, commit_stage}
-use Rattle.pdl_semantics.specs.Machine.{Awaited, State, Pending, Written, Deeds, does, lock_of, older_write, word_for}
+use Rattle.pdl_semantics.specs.Machine.{Awaited, State, Pending, Written, Deeds, deeds_after, lock_of, older_write, word_for}
 use Rattle.pdl_semantics.specs.Locks.{read_ready, write_ready}
 use Rattle.pdl_semantics.specs.Moves.{Act, have_room}
-use Rattle.pdl_semantics.specs.Cycle.{releases, stays, entries_left, squasher}
-use Rattle.pdl_machine_facts.specs.Slots.{is_ready}
+use Rattle.pdl_semantics.specs.Cycle.{has_release, is_kept, entries_left, squasher}
+use Rattle.pdl_machine_facts.specs.Slots.{locks_ready}
 use Rattle.pdl_machine_facts.specs.Use.{before_stage}
 use Rattle.pdl_invariant.specs.Use.{moving, with_new, with_values, with_release, count_older, bit}
 
@@ -29,7 +29,7 @@ ReleasesOwn p st bits m a = a.moves ≡ true → list_any (λ n. n == m) a.does.
 -- what is released is no younger than this thread: the pending writes up to its own become one fewer
 abbrev pub ShiftsUpTo : Pipe → State → List Bool → ℕ → Act → Type 0
 ShiftsUpTo p st bits m a =
-    count_older (suc a.thread.number) (with_release p st bits m) + bit (releases m (moving p st bits)) ≡ count_older (suc a.thread.number) (with_new p st bits m)
+    count_older (suc a.thread.number) (with_release p st bits m) + bit (has_release m (moving p st bits)) ≡ count_older (suc a.thread.number) (with_new p st bits m)
 
 -- up to the stage of the releases, where a block or a read of the memory may still be made
 abbrev pub ReleasesOlder : Pipe → State → List Bool → ℕ → Act → Type 0
@@ -44,12 +44,12 @@ IsLetIn p st thread (DelayedRead x m a) d = IsTrue (read_ready (mem_at p m).lock
 IsLetIn p st thread (Write m a e) d = IsTrue (write_ready (mem_at p m).lock (older_write st thread m (slice_index d.env a)))
 IsLetIn p st thread _ d = ⊤
 
--- each statement behind these deeds, as long as the locks let the thread move so far
+-- each statement after these deeds, as long as the locks let the thread move so far
 abbrev pub AreLetIn : Pipe → State → ℕ → List Stmt → Deeds → Type 0
 AreLetIn p st thread [] d = ⊤
 AreLetIn p st thread (x ∷ xs) d =
-    (taken x.guards d.env ≡ true → is_ready p st thread d ≡ true → IsLetIn p st thread x.op d)
-    × AreLetIn p st thread xs (if taken x.guards d.env then does (word_for st thread) x.op d else d)
+    (all_hold x.guards d.env ≡ true → locks_ready p st thread d ≡ true → IsLetIn p st thread x.op d)
+    × AreLetIn p st thread xs (if all_hold x.guards d.env then deeds_after (word_for st thread) x.op d else d)
 
 abbrev pub IsLet : Pipe → State → Act → Type 0
 IsLet p st a = AreLetIn p st a.thread.number (in_stage a.stage p.stmts) (before_stage p a.stage a.thread)
@@ -91,14 +91,14 @@ AwaitsOlder p st bits m a = list_any (λ (r : Awaited). r.mem == m) a.thread.awa
 abbrev pub FindsAll : Pipe → State → List Bool → ℕ → Act → Type 0
 FindsAll p st bits m a = a.stage ≤ reserve_stage p m → count_older (suc a.thread.number) (with_new p st bits m) ≡ length (with_new p st bits m)
 
--- behind it their number is kept by what is reserved
+-- after it their number is kept by what is reserved
 abbrev pub KeepsTail : Pipe → State → List Bool → ℕ → Act → Type 0
 KeepsTail p st bits m a = reserve_stage p m < a.stage → count_older (suc a.thread.number) (with_new p st bits m) ≡ count_older (suc a.thread.number) (lock_of st m)
 
 -- a squash that leaves a thread leaves all of them, and one by the thread leaves nothing else
 abbrev pub LeavesTail : Pipe → State → List Bool → ℕ → Act → Type 0
 LeavesTail p st bits m a =
-    stays (squasher (moving p st bits)) a.thread.number ≡ true
+    is_kept (squasher (moving p st bits)) a.thread.number ≡ true
     → count_older (suc a.thread.number) (entries_left (squasher (moving p st bits)) (with_release p st bits m)) ≡ count_older (suc a.thread.number) (with_release p st bits m)
 
 abbrev pub Cuts : Pipe → State → List Bool → ℕ → Type 0
@@ -108,4 +108,4 @@ Cuts p st bits m =
 
 -- no thread that moves is removed
 abbrev pub IsSpared : Pipe → State → List Bool → Act → Type 0
-IsSpared p st bits a = a.moves ≡ true → stays (squasher (moving p st bits)) a.thread.number ≡ true
+IsSpared p st bits a = a.moves ≡ true → is_kept (squasher (moving p st bits)) a.thread.number ≡ true

@@ -11,7 +11,7 @@ ghost use Rattle.pdl_semantics.specs.Flatten.{flat};
 ghost use Rattle.pdl_semantics.specs.Cycle.{is_wait};
 ghost use Rattle.pdl_rules.specs.Refusal.{KeepsRules, is_comb};
 ghost use Rattle.pdl_facts.specs.Scans.{none_of, is_fetch};
-ghost use Rattle.pdl_facts.specs.SoundChecks.{sounds};
+ghost use Rattle.pdl_facts.specs.SoundChecks.{passes_tests};
 ghost use Rattle.pdl_facts.specs.Facts.{Sound};
 ghost use Rattle.pdl_pathfacts.specs.Source.{is_source, is_named};
 ghost use Rattle.pdl_invariant.specs.Strict.{Strict, is_strict};
@@ -60,7 +60,7 @@ pub fn releases()
         OfEachAct p (λ st bits. AwaitsOlder p st bits m) }
 {}
 
-/// Where a thread's squash cuts the pending writes of a lock, behind its own and older ones: up to the stage of the reserves behind all of them; from there on reservations, and squashes that leave the thread, keep that place, and up to V each release shifts it by one.
+/// Where a thread's squash cuts the pending writes of a lock, after its own and older ones: up to the stage of the reserves after all of them; from there on reservations, and squashes that leave the thread, keep that place, and up to V each release shifts it by one.
 pub fn squashes()
     ensures all { (p : Pipe) → Sound p → Strict p → (m : ℕ) →
         OfEachAct p (λ st bits. FindsAll p st bits m) }
@@ -97,7 +97,7 @@ pub fn fit()
         InEachCycle p (λ st bits. is_wait p st bits ≡ false → IsCalm p st bits) }
     ensures by_facts { (p : Pipe) → Sound p → Strict p → Careful p →
         IsTrue (none_of is_fetch p.stmts) → IsFit p }
-    ensures by_tests { (p : Pipe) → IsTrue (sounds p) → IsTrue (is_strict p) →
+    ensures by_tests { (p : Pipe) → IsTrue (passes_tests p) → IsTrue (is_strict p) →
         IsTrue (is_careful p) → IsTrue (none_of is_fetch p.stmts) → IsFit p }
     ensures by_rules { (p : Tree.Pipe) → KeepsRules p → IsTrue (is_source p) → IsTrue (is_named p) →
         IsTrue (list_all is_comb p.mems) → IsFit (flat p) }

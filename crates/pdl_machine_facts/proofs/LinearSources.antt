@@ -5,7 +5,7 @@ use Rattle.pdl_semantics.specs.Tree.{Stmt, Separator, If, Stmts, Nil, Cons, Expr
 use Rattle.pdl_semantics.specs.Flat
 use Rattle.pdl_semantics.specs.Flat.{Ends, Goes, Stage}
 use Rattle.pdl_semantics.specs.Stages.{last_stage, stage_at}
-use Rattle.pdl_semantics.specs.Flatten.{Place, Graph, flat, flat_stmt, flat_stmts, binds_guard, under, past, past_all, with_guard, at_otherwise, begins, graph, separators, separators_in, at_start}
+use Rattle.pdl_semantics.specs.Flatten.{Position, Graph, flat, flat_stmt, flat_stmts, binds_guard, under, past, past_all, with_guard, at_otherwise, graph_with_stage, graph, separators, separators_in, at_start}
 use Rattle.pdl_facts.specs.Checks.{in_text_order}
 use Rattle.pdl_turns.proofs.Alike.{AllIn}
 use Rattle.pdl_stagefacts.proofs.Walks.{past_begun, guard_stage}
@@ -18,10 +18,10 @@ abbrev chain : ℕ → ℕ → Graph
 chain b zero = record { next = Ends; later = [] }
 chain b (suc n) = record { next = Goes (suc b); later = record { next = (chain (suc b) n).next; branch = None; merges = None } ∷ (chain (suc b) n).later }
 
-graph_linear : (ms : List Mem) (ss : Stmts) (w : Place) → is_linear ss ≡ true → graph ms None Ends ss w ≡ chain w.begun (separators ss)
+graph_linear : (ms : List Mem) (ss : Stmts) (w : Position) → is_linear ss ≡ true → graph ms None Ends ss w ≡ chain w.begun (separators ss)
 graph_linear ms Nil w h = refl
 graph_linear ms (Cons (Separator sp) ss) w h =
-    ap (begins None w) (graph_linear ms ss (past ms (Separator sp) w) h)
+    ap (graph_with_stage None w) (graph_linear ms ss (past ms (Separator sp) w) h)
     ∙ ap (chain w.begun) (let e : suc (separators ss) ≡ 1 + separators ss = omega arith in e)
 graph_linear ms (Cons (If sp c when otherwise) ss) w h =
     let parts = and_parts (separators when + separators otherwise == 0) (is_linear ss) h in
@@ -67,13 +67,13 @@ all_append : (k : ℕ) (xs ys : List Flat.Stmt) → AllIn k xs → AllIn k ys �
 all_append k [] ys f g = g
 all_append k (x ∷ xs) ys f g = (f.0, all_append k xs ys f.1 g)
 
-guard_here : (gs : List Flat.Guard) (w : Place) (c : Expr) → AllIn w.stage (binds_guard gs w c)
+guard_here : (gs : List Flat.Guard) (w : Position) (c : Expr) → AllIn w.stage (binds_guard gs w c)
 guard_here gs w (Variable x) = tt
 guard_here gs w c = (refl, tt)
 
 -- statements without a separator stand in the stage in which they begin
 mutual
-  here_in : (ms : List Mem) (gs : List Flat.Guard) (s : Stmt) (w : Place) → separators_in s ≡ 0 → (AllIn w.stage (flat_stmt ms gs s w)) × ((past ms s w).stage ≡ w.stage)
+  here_in : (ms : List Mem) (gs : List Flat.Guard) (s : Stmt) (w : Position) → separators_in s ≡ 0 → (AllIn w.stage (flat_stmt ms gs s w)) × ((past ms s w).stage ≡ w.stage)
   here_in ms gs (Separator sp) w e = absurd (omega (arith, e))
   here_in ms gs (If sp c when otherwise) w e =
       let first = here_all ms (under gs w.vars c true) when (with_guard c w) (omega (arith, e)) in
@@ -85,7 +85,7 @@ mutual
       )
   here_in ms gs s w e = ((refl, tt), refl)
 
-  here_all : (ms : List Mem) (gs : List Flat.Guard) (ss : Stmts) (w : Place) → separators ss ≡ 0 → (AllIn w.stage (flat_stmts ms gs ss w)) × ((past_all ms ss w).stage ≡ w.stage)
+  here_all : (ms : List Mem) (gs : List Flat.Guard) (ss : Stmts) (w : Position) → separators ss ≡ 0 → (AllIn w.stage (flat_stmts ms gs ss w)) × ((past_all ms ss w).stage ≡ w.stage)
   here_all ms gs Nil w e = (tt, refl)
   here_all ms gs (Cons s ss) w e =
       let first = here_in ms gs s w (omega (arith, e)) in
@@ -101,22 +101,22 @@ lower l k (x ∷ xs) i h =
     let low = leb-true k x.stage parts.0 in
     and_from _ _ (le-leb l x.stage (omega (arith, i, low))) parts.1
 
-order_behind : (k : ℕ) (xs ys : List Flat.Stmt) → AllIn k xs → in_text_order k ys ≡ true → in_text_order k (xs ++ ys) ≡ true
-order_behind k [] ys f h = h
-order_behind k (x ∷ xs) ys f h =
+order_after : (k : ℕ) (xs ys : List Flat.Stmt) → AllIn k xs → in_text_order k ys ≡ true → in_text_order k (xs ++ ys) ≡ true
+order_after k [] ys f h = h
+order_after k (x ∷ xs) ys f h =
     let e : x.stage ≡ k = f.0 in
-    and_from _ _ (le-leb k x.stage (omega (arith, e))) (subst (λ j. in_text_order j (xs ++ ys) ≡ true) (sym e) (order_behind k xs ys f.1 h))
+    and_from _ _ (le-leb k x.stage (omega (arith, e))) (subst (λ j. in_text_order j (xs ++ ys) ≡ true) (sym e) (order_after k xs ys f.1 h))
 
-order_linear : (ms : List Mem) (gs : List Flat.Guard) (ss : Stmts) (w : Place) → is_linear ss ≡ true → w.stage ≡ w.begun → in_text_order w.stage (flat_stmts ms gs ss w) ≡ true
+order_linear : (ms : List Mem) (gs : List Flat.Guard) (ss : Stmts) (w : Position) → is_linear ss ≡ true → w.stage ≡ w.begun → in_text_order w.stage (flat_stmts ms gs ss w) ≡ true
 order_linear ms gs Nil w h e = refl
 order_linear ms gs (Cons (Separator sp) ss) w h e = lower w.stage (suc w.begun) (flat_stmts ms gs ss (past ms (Separator sp) w)) (omega (arith, e)) (order_linear ms gs ss (past ms (Separator sp) w) h refl)
 order_linear ms gs (Cons (If sp c when otherwise) ss) w h e =
     let parts = and_parts (separators when + separators otherwise == 0) (is_linear ss) h in
     let none : separators when + separators otherwise ≡ 0 = eqb-true _ _ parts.0 in
     let f = past_begun ms (If sp c when otherwise) w in
-    order_behind w.stage (flat_stmt ms gs (If sp c when otherwise) w) _ (here_in ms gs (If sp c when otherwise) w none).0
+    order_after w.stage (flat_stmt ms gs (If sp c when otherwise) w) _ (here_in ms gs (If sp c when otherwise) w none).0
     (order_linear ms gs ss (past ms (If sp c when otherwise) w) parts.1 (let same : w.stage ≡ (past ms (If sp c when otherwise) w).begun = omega arith in same))
-order_linear ms gs (Cons s ss) w h e = order_behind w.stage (flat_stmt ms gs s w) _ (here_in ms gs s w refl).0 (order_linear ms gs ss (past ms s w) h e)
+order_linear ms gs (Cons s ss) w h e = order_after w.stage (flat_stmt ms gs s w) _ (here_in ms gs s w refl).0 (order_linear ms gs ss (past ms s w) h e)
 
 -- THE WHOLE
 

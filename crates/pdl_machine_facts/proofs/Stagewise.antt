@@ -6,10 +6,10 @@ use Rattle.pdl_semantics.specs.Stages.{list_any}
 use Rattle.pdl_semantics.specs.Machine.{State, Pending, lock_of}
 use Rattle.pdl_semantics.specs.Locks.{commit_value}
 use Rattle.pdl_semantics.specs.Moves.{Act, next_stage, all_acts, movers}
-use Rattle.pdl_semantics.specs.Cycle.{after_these, cycle, for_mems, list_three, taken_out, port_write, with_commit, with_commits, entries_left, or_then, if_stays, born, child_of, squasher, stage_next}
+use Rattle.pdl_semantics.specs.Cycle.{after_these, cycle, for_mems, list_three, taken_out, port_write, with_commit, with_commits, entries_left, or_then, if_kept, born_thread, child_of, squasher, stage_next}
 use Rattle.pdl_simulation.proofs.PerMemory.{at_mem, other_commit, before_commits}
 use Rattle.pdl_machine_facts.specs.Slots
-use Rattle.pdl_machine_facts.specs.Slots.{LeadsOn, slot, goes, movers_from, moving, arrives}
+use Rattle.pdl_machine_facts.specs.Slots.{LeadsOn, slot, stage_moves, movers_from, moving, arriving_thread}
 use Rattle.pdl_machine_facts.specs.Cycle.{newborn, IsByStages}
 use Rattle.pdl_machine_facts.proofs.StagewiseActs.{line_acts, all_are, goes_is, movers_are}
 use Rattle.pdl_machine_facts.proofs.StagewisePorts.{stages_below, stages_count, at_stage, valid_at, moves_at, ended_at, stands_at}
@@ -35,10 +35,10 @@ commits_at st ms k (suc n) (x ∷ xs) arrays h =
 
 -- ONE CYCLE
 
--- a pipe with a stage, by how many stand behind the first
-some_behind : (n : ℕ) → 0 < n → (k : ℕ) × (n ≡ suc k)
-some_behind zero h = absurd (omega arith)
-some_behind (suc n) h = (n, refl)
+-- a pipe with a stage, by how many stand after the first
+some_after : (n : ℕ) → 0 < n → (k : ℕ) × (n ≡ suc k)
+some_after zero h = absurd (omega arith)
+some_after (suc n) h = (n, refl)
 
 module _ (p : Pipe) (leads : LeadsOn p) (some : 0 < length p.stages) (st : State) (bits : List Bool) (count : length st.stages ≡ length p.stages) where
   these_are : all_acts p st bits ≡ line_acts p st bits (length p.stages) 0
@@ -47,10 +47,10 @@ module _ (p : Pipe) (leads : LeadsOn p) (some : 0 < length p.stages) (st : State
   movers_here : movers (all_acts p st bits) ≡ moving p st bits
   movers_here = ap movers these_are ∙ movers_are p st bits (length p.stages) 0
 
-  ended_is : list_any (λ (a : Act). is_none (next_stage p a.stage a.does)) (movers (all_acts p st bits)) ≡ goes p st bits (length p.stages - 1)
-  ended_is = ap (list_any (λ (a : Act). is_none (next_stage p a.stage a.does))) movers_here ∙ at (some_behind (length p.stages) some)
+  ended_is : list_any (λ (a : Act). is_none (next_stage p a.stage a.does)) (movers (all_acts p st bits)) ≡ stage_moves p st bits (length p.stages - 1)
+  ended_is = ap (list_any (λ (a : Act). is_none (next_stage p a.stage a.does))) movers_here ∙ at (some_after (length p.stages) some)
     where
-      at : (k : ℕ) × (length p.stages ≡ suc k) → list_any (λ (a : Act). is_none (next_stage p a.stage a.does)) (movers_from p st bits (length p.stages) 0) ≡ goes p st bits (length p.stages - 1)
+      at : (k : ℕ) × (length p.stages ≡ suc k) → list_any (λ (a : Act). is_none (next_stage p a.stage a.does)) (movers_from p st bits (length p.stages) 0) ≡ stage_moves p st bits (length p.stages - 1)
       at (k, e) = ap (λ n. list_any (λ (a : Act). is_none (next_stage p a.stage a.does)) (movers_from p st bits n 0)) e ∙ ended_at p st bits leads k 0 (omega (arith, e))
 
   -- the next state, by the movers of the stages
@@ -60,13 +60,13 @@ module _ (p : Pipe) (leads : LeadsOn p) (some : 0 < length p.stages) (st : State
   pub next_is : cycle p st bits ≡ next_state
   next_is = λ i. after_these p st bits (these_are i) (movers_here i) (squasher (movers_here i))
 
-  slot_next : (k : ℕ) → k < length p.stages → slot next_state k ≡ or_then (newborn p st bits k) (if_stays (squasher (moving p st bits)) (or_then (arrives p st bits k) (Slots.stays p st bits k)))
+  slot_next : (k : ℕ) → k < length p.stages → slot next_state k ≡ or_then (newborn p st bits k) (if_kept (squasher (moving p st bits)) (or_then (arriving_thread p st bits k) (Slots.staying_thread p st bits k)))
   slot_next k h =
       let z : 0 + k ≡ k = omega arith in
       let these = line_acts p st bits (length p.stages) 0 in
       at_stage _ 0 p.stages k None h
       ∙ ap (stage_next p st these (squasher (moving p st bits))) z
-      ∙ ap₂ (λ ms o. or_then (if k == 0 then born p st.next (child_of ms) else None) (if_stays (squasher (moving p st bits)) o)) (movers_are p st bits (length p.stages) 0) (stands_at p st bits leads k h)
+      ∙ ap₂ (λ ms o. or_then (if k == 0 then born_thread p st.next (child_of ms) else None) (if_kept (squasher (moving p st bits)) o)) (movers_are p st bits (length p.stages) 0) (stands_at p st bits leads k h)
 
   pub by_stages : IsByStages p st bits
   by_stages =

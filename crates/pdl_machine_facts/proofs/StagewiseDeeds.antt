@@ -1,13 +1,13 @@
 -- A stage without delayed reads and verifies asks for nothing, and nothing fails in it.
 use Rattle.std.proofs.Common.{◌≡◌, refl, ◌∙◌, ℕ, Bool, true, false, not, List, [], ◌∷◌, Some, cond}
 use Rattle.std.proofs.lemmas.Bool.{and_parts, not-true}
-use Rattle.pdl_semantics.specs.Flat.{Op, Bind, CombRead, DelayedRead, Write, ReserveRead, ReserveWrite, Block, Release, Call, SpecCall, Verify, SpecCheck, SpecBarrier, Stmt, Pipe, values_of, taken}
+use Rattle.pdl_semantics.specs.Flat.{Op, Bind, CombRead, DelayedRead, Write, ReserveRead, ReserveWrite, Block, Release, Call, SpecCall, Verify, SpecCheck, SpecBarrier, Stmt, Pipe, values_of, all_hold}
 use Rattle.pdl_semantics.specs.Stages.{in_stage, is_verify}
-use Rattle.pdl_semantics.specs.Machine.{State, Thread, Deeds, same_args, does, does_all, deeds, word_for}
+use Rattle.pdl_semantics.specs.Machine.{State, Thread, Deeds, same_args, deeds_after, deeds_after_all, deeds, word_for}
 use Rattle.pdl_facts.specs.Scans.{none_of, is_fetch}
 use Rattle.pdl_turns.proofs.OfStage.{none_stage}
 
-same_asks : (read : ℕ → ℕ → ℕ) (o : Op) (d : Deeds) → is_fetch o ≡ false → (does read o d).asks ≡ d.asks
+same_asks : (read : ℕ → ℕ → ℕ) (o : Op) (d : Deeds) → is_fetch o ≡ false → (deeds_after read o d).asks ≡ d.asks
 same_asks read (Bind x e) d h = refl
 same_asks read (CombRead x m a) d h = refl
 same_asks read (DelayedRead x m a) d h = absurd (cc h)
@@ -26,7 +26,7 @@ same_asks read (Verify args) d h = at (same_args (values_of args d.env) d.guess)
 same_asks read SpecCheck d h = refl
 same_asks read SpecBarrier d h = refl
 
-same_fails : (read : ℕ → ℕ → ℕ) (o : Op) (d : Deeds) → is_verify o ≡ false → (does read o d).fails ≡ d.fails
+same_fails : (read : ℕ → ℕ → ℕ) (o : Op) (d : Deeds) → is_verify o ≡ false → (deeds_after read o d).fails ≡ d.fails
 same_fails read (Bind x e) d h = refl
 same_fails read (CombRead x m a) d h = refl
 same_fails read (DelayedRead x m a) d h = refl
@@ -42,14 +42,14 @@ same_fails read SpecCheck d h = refl
 same_fails read SpecBarrier d h = refl
 
 -- what no such statement changes, a stage leaves
-left_alone : {X : Type 0} (f : Deeds → X) (test : Op → Bool) (read : ℕ → ℕ → ℕ) → ((o : Op) (d : Deeds) → test o ≡ false → f (does read o d) ≡ f d)
-    → (xs : List Stmt) (d : Deeds) → none_of test xs ≡ true → f (does_all read xs d) ≡ f d
+left_alone : {X : Type 0} (f : Deeds → X) (test : Op → Bool) (read : ℕ → ℕ → ℕ) → ((o : Op) (d : Deeds) → test o ≡ false → f (deeds_after read o d) ≡ f d)
+    → (xs : List Stmt) (d : Deeds) → none_of test xs ≡ true → f (deeds_after_all read xs d) ≡ f d
 left_alone f test read one [] d h = refl
 left_alone f test read one (x ∷ xs) d h =
-    left_alone f test read one xs (cond (taken x.guards d.env) (does read x.op d) d) (and_parts (not (test x.op)) (none_of test xs) h).1
-    ∙ at (taken x.guards d.env)
+    left_alone f test read one xs (cond (all_hold x.guards d.env) (deeds_after read x.op d) d) (and_parts (not (test x.op)) (none_of test xs) h).1
+    ∙ at (all_hold x.guards d.env)
   where
-    at : (b : Bool) → f (cond b (does read x.op d) d) ≡ f d
+    at : (b : Bool) → f (cond b (deeds_after read x.op d) d) ≡ f d
     at true = one x.op d (not-true (test x.op) (and_parts (not (test x.op)) (none_of test xs) h).0)
     at false = refl
 

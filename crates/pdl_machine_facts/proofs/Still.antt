@@ -2,14 +2,14 @@
 use Rattle.std.proofs.Common.{◌≡◌, refl, sym, ap, ap₂, ◌∙◌, subst, ℕ, zero, suc, ◌+◌, ◌<◌, Bool, true, false, List, [], ◌∷◌, ◌++◌, length, Option, Some, None, ◌==◌, nat_lt, cond, if◌then◌else◌, slice_index_or, ltb-true, ltb-false}
 use Rattle.pdl_semantics.specs.Flat.{Arrays, Mem, Pipe}
 use Rattle.pdl_semantics.specs.Stages.{is_verify}
-use Rattle.pdl_semantics.specs.Machine.{Thread, State, Request, NoRequest, Ask, request_of, answers, deeds, with_answers, unanswered, answered}
+use Rattle.pdl_semantics.specs.Machine.{Thread, State, Request, NoRequest, Ask, request_of, is_answered, deeds, with_answers, unanswered_reads, answered_reads}
 use Rattle.pdl_semantics.specs.Moves.{Act, next_stage}
-use Rattle.pdl_semantics.specs.Cycle.{cycle, first, for_mems, request_left, request_next, asked_by, asked_of, awaited_of, moved, or_then, if_stays, born, child_of, squasher, is_stage}
+use Rattle.pdl_semantics.specs.Cycle.{cycle, first, for_mems, request_left, request_next, asked_by, asked_of, awaited_of, thread_after, or_then, if_kept, born_thread, child_of, squasher, is_stage}
 use Rattle.pdl_semantics.specs.Cycle
 use Rattle.pdl_facts.specs.Scans.{none_of, is_fetch}
 use Rattle.pdl_simulation.proofs.PerMemory.{mems_same}
 use Rattle.pdl_machine_facts.specs.Slots
-use Rattle.pdl_machine_facts.specs.Slots.{LeadsOn, slot, with_now, here, goes, act_at, mover, movers_from, moving, first_of, passes, passed, ways, arrives}
+use Rattle.pdl_machine_facts.specs.Slots.{LeadsOn, slot, with_now, here, stage_moves, act_at, mover, movers_from, moving, first_of, passing_thread, thread_into, ways, arriving_thread}
 use Rattle.pdl_machine_facts.specs.Cycle.{newborn}
 use Rattle.pdl_machine_facts.proofs.StagewiseDeeds.{no_asks, no_fails}
 use Rattle.pdl_machine_facts.proofs.StagewisePorts.{stages_count, at_stage, past_stage}
@@ -29,7 +29,7 @@ none_requested k (suc m) (x ∷ xs) = none_requested (suc k) m xs
 -- a thread that awaits nothing and has kept nothing has no answers
 with_none : (p : Pipe) (st : State) (bits : List Bool) (t : Thread) → t.awaits ≡ [] → t.kept ≡ [] → with_answers p st bits t ≡ t
 with_none p st bits t a k =
-    (λ i. record { number = t.number; env = t.env; guess = t.guess; awaits = unanswered p st bits t.number (a i); kept = k i ++ answered p st bits t.number (a i) })
+    (λ i. record { number = t.number; env = t.env; guess = t.guess; awaits = unanswered_reads p st bits t.number (a i); kept = k i ++ answered_reads p st bits t.number (a i) })
     ∙ sym (λ i. record { number = t.number; env = t.env; guess = t.guess; awaits = a i; kept = k i })
 
 -- such threads are there as they stand
@@ -56,7 +56,7 @@ quiet_then : (a b : Option Thread) → AreQuiet a → AreQuiet b → AreQuiet (o
 quiet_then None b f g = g
 quiet_then (Some u) b f g = f
 
-quiet_born : (p : Pipe) (n : ℕ) (c : Option (List ℕ)) → AreQuiet (born p n c)
+quiet_born : (p : Pipe) (n : ℕ) (c : Option (List ℕ)) → AreQuiet (born_thread p n c)
 quiet_born p n None = quiet_none
 quiet_born p n (Some args) = quiet_some _ refl refl
 
@@ -68,9 +68,9 @@ quiet_unless : (b : Bool) (o : Option Thread) → AreQuiet o → AreQuiet (if b 
 quiet_unless true o f = quiet_none
 quiet_unless false o f = f
 
-quiet_left : (sq : Option ℕ) (o : Option Thread) → AreQuiet o → AreQuiet (if_stays sq o)
+quiet_left : (sq : Option ℕ) (o : Option Thread) → AreQuiet o → AreQuiet (if_kept sq o)
 quiet_left sq None f = quiet_none
-quiet_left sq (Some t) f = quiet_if (Cycle.stays sq t.number) (Some t) f
+quiet_left sq (Some t) f = quiet_if (Cycle.is_kept sq t.number) (Some t) f
 
 quiet_beyond : (o : Option Thread) → o ≡ None → AreQuiet o
 quiet_beyond o e = subst AreQuiet (sym e) quiet_none
@@ -83,7 +83,7 @@ module _ (p : Pipe) (leads : LeadsOn p) (some : 0 < length p.stages) (answered_h
 
   none_asked : (m : ℕ) (old : Request) (n k : ℕ) → asked_by m (movers_from p st bits n k) old ≡ old
   none_asked m old zero k = refl
-  none_asked m old (suc n) k = asked_seen m k (goes p st bits k) (here p st bits k) (movers_from p st bits n (suc k)) old (none_asked m old n (suc k))
+  none_asked m old (suc n) k = asked_seen m k (stage_moves p st bits k) (here p st bits k) (movers_from p st bits n (suc k)) old (none_asked m old n (suc k))
 
   squash_seen : (k : ℕ) (b : Bool) (o : Option Thread) (rest : List Act) → squasher rest ≡ None → squasher (mover p st k b o ++ rest) ≡ None
   squash_seen k false o rest h = h
@@ -92,16 +92,16 @@ module _ (p : Pipe) (leads : LeadsOn p) (some : 0 < length p.stages) (answered_h
 
   pub no_squash : (n k : ℕ) → squasher (movers_from p st bits n k) ≡ None
   no_squash zero k = refl
-  no_squash (suc n) k = squash_seen k (goes p st bits k) (here p st bits k) (movers_from p st bits n (suc k)) (no_squash n (suc k))
+  no_squash (suc n) k = squash_seen k (stage_moves p st bits k) (here p st bits k) (movers_from p st bits n (suc k)) (no_squash n (suc k))
 
-  quiet_passed : (q k : ℕ) (b : Bool) (o : Option Thread) → AreQuiet (passed p st q k b o)
+  quiet_passed : (q k : ℕ) (b : Bool) (o : Option Thread) → AreQuiet (thread_into p st q k b o)
   quiet_passed q k false o = quiet_none
   quiet_passed q k true None = quiet_none
-  quiet_passed q k true (Some t) = quiet_if (is_stage q (next_stage p k (deeds p st k t))) _ (quiet_some (moved (act_at p st k t)) (ap awaited_of (no_asks p st k t answered_here)) refl)
+  quiet_passed q k true (Some t) = quiet_if (is_stage q (next_stage p k (deeds p st k t))) _ (quiet_some (thread_after (act_at p st k t)) (ap awaited_of (no_asks p st k t answered_here)) refl)
 
   quiet_first : (q : ℕ) (js : List ℕ) → AreQuiet (first_of p st bits q js)
   quiet_first q [] = quiet_none
-  quiet_first q (j ∷ js) = quiet_then (passes p st bits q j) (first_of p st bits q js) (quiet_passed q j (goes p st bits j) (here p st bits j)) (quiet_first q js)
+  quiet_first q (j ∷ js) = quiet_then (passing_thread p st bits q j) (first_of p st bits q js) (quiet_passed q j (stage_moves p st bits j) (here p st bits j)) (quiet_first q js)
 
   module _ (still : IsStill p st) where
     quiet_slot : (k : ℕ) → AreQuiet (slot (cycle p st bits) k)
@@ -113,11 +113,11 @@ module _ (p : Pipe) (leads : LeadsOn p) (some : 0 < length p.stages) (answered_h
             subst AreQuiet (sym ((by_stages p leads some st bits still.count).next k (ltb-true _ _ e)))
             (quiet_then (newborn p st bits k) _ (quiet_if (k == 0) _ (quiet_born p st.next (child_of (moving p st bits))))
             (quiet_left (squasher (moving p st bits)) _
-            (quiet_then (arrives p st bits k) (Slots.stays p st bits k) (quiet_first k (ways p k))
-            (quiet_unless (goes p st bits k) (here p st bits k) (subst AreQuiet (sym (here_is p st bits k (still.quiet k))) (still.quiet k))))))
+            (quiet_then (arriving_thread p st bits k) (Slots.staying_thread p st bits k) (quiet_first k (ways p k))
+            (quiet_unless (stage_moves p st bits k) (here p st bits k) (subst AreQuiet (sym (here_is p st bits k (still.quiet k))) (still.quiet k))))))
 
     request_is : (m : ℕ) → request_left (squasher (moving p st bits)) (request_next p st bits (moving p st bits) m) ≡ NoRequest
-    request_is m = ap₂ request_left (no_squash (length p.stages) 0) (none_asked m _ (length p.stages) 0 ∙ at (answers p bits m))
+    request_is m = ap₂ request_left (no_squash (length p.stages) 0) (none_asked m _ (length p.stages) 0 ∙ at (is_answered p bits m))
       where
         at : (b : Bool) → (if b then NoRequest else request_of st m) ≡ NoRequest
         at true = refl
@@ -141,5 +141,5 @@ still_first p image =
     }
   where
     at : (k : ℕ) (b : Bool) → nat_lt k (length p.stages) ≡ b → AreQuiet (slot (first p image) k)
-    at k true e = subst AreQuiet (sym (at_stage _ 0 p.stages k None (ltb-true _ _ e))) (quiet_if (0 + k == 0) (born p 1 (Some p.start)) (quiet_born p 1 (Some p.start)))
+    at k true e = subst AreQuiet (sym (at_stage _ 0 p.stages k None (ltb-true _ _ e))) (quiet_if (0 + k == 0) (born_thread p 1 (Some p.start)) (quiet_born p 1 (Some p.start)))
     at k false e = quiet_beyond _ (past_stage _ 0 p.stages k None (ltb-false _ _ e))

@@ -2,12 +2,12 @@
 use Rattle.std.proofs.Common.{◌≡◌, refl, ap, ap₂, ◌∙◌, ℕ, Bool, true, false, List, [], ◌∷◌, ◌++◌, length, if◌then◌else◌, cond}
 use Rattle.pdl_semantics.specs.Tree.{Expr, Variable, Stmt, Separator, CombRead, Bind, SpecCall, DelayedRead, Write, Reserve, Block, Release, If, Call, Verify, SpecCheck, SpecBarrier, Mem}
 use Rattle.pdl_semantics.specs.Flat
-use Rattle.pdl_semantics.specs.Flat.{taken}
-use Rattle.pdl_semantics.specs.Flatten.{Var, var_of, mem_of, flat_expr, flat_exprs, reserves}
+use Rattle.pdl_semantics.specs.Flat.{all_hold}
+use Rattle.pdl_semantics.specs.Flatten.{Var, var_of, mem_of, flat_expr, flat_exprs, reserve_op}
 use Rattle.pdl_semantics.specs.Flatten
 use Rattle.pdl_semantics.specs.Stages.{onpath}
 use Rattle.pdl_rules.specs.Places.{Guard, on_path}
-use Rattle.pdl_derived.specs.Alone.{looked}
+use Rattle.pdl_derived.specs.Alone.{answered_op}
 use Rattle.pdl_facts.specs.Facts.{looked_all}
 use Rattle.pdl_stagefacts.proofs.Sites.{Site, place_of, own_of, own, owns, All}
 
@@ -25,7 +25,7 @@ ops_of ms vs (Bind _ x e) = Flat.Bind (length vs) (flat_expr vs e) ∷ []
 ops_of ms vs (SpecCall _ guess args) = Flat.SpecCall (flat_exprs vs args) ∷ []
 ops_of ms vs (DelayedRead _ x from) = Flat.DelayedRead (length vs) (mem_of ms from.mem.name) (var_of vs from.address.name) ∷ []
 ops_of ms vs (Write _ to e) = Flat.Write (mem_of ms to.mem.name) (var_of vs to.address.name) (flat_expr vs e) ∷ []
-ops_of ms vs (Reserve _ at kind) = reserves kind (mem_of ms at.mem.name) (var_of vs at.address.name) ∷ []
+ops_of ms vs (Reserve _ at kind) = reserve_op kind (mem_of ms at.mem.name) (var_of vs at.address.name) ∷ []
 ops_of ms vs (Block _ at) = Flat.Block (mem_of ms at.mem.name) (var_of vs at.address.name) ∷ []
 ops_of ms vs (Release _ at) = Flat.Release (mem_of ms at.mem.name) (var_of vs at.address.name) ∷ []
 ops_of ms vs (If _ c _ _) = if_ops vs c
@@ -42,7 +42,7 @@ abbrev pub stmts_at : ℕ → List Flat.Guard → List Flat.Op → List Flat.Stm
 stmts_at k gs [] = []
 stmts_at k gs (op ∷ os) = record { stage = k; guards = gs; op = op } ∷ stmts_at k gs os
 
-pub own_is : (ms : List Mem) (gs : List Flat.Guard) (w : Flatten.Place) (s : Stmt) → own_of ms gs w s ≡ stmts_at w.stage gs (ops_of ms w.vars s)
+pub own_is : (ms : List Mem) (gs : List Flat.Guard) (w : Flatten.Position) (s : Stmt) → own_of ms gs w s ≡ stmts_at w.stage gs (ops_of ms w.vars s)
 own_is ms gs w (If _ (Variable x) _ _) = refl
 own_is ms gs w (If _ _ _ _) = refl
 own_is ms gs w _ = refl
@@ -52,7 +52,7 @@ own_is ms gs w _ = refl
 -- where the guards are gone, and delayed reads are reads
 abbrev pub seen_ops : ℕ → List Flat.Op → List Flat.Stmt
 seen_ops k [] = []
-seen_ops k (op ∷ os) = record { stage = k; guards = []; op = looked op } ∷ seen_ops k os
+seen_ops k (op ∷ os) = record { stage = k; guards = []; op = answered_op op } ∷ seen_ops k os
 
 abbrev pub seen : List Mem → List Site → List Flat.Stmt
 seen ms [] = []
@@ -65,11 +65,11 @@ on_sites c (t ∷ ts) = if on_path c (place_of t) then t ∷ on_sites c ts else 
 
 -- a path of the flat form leads the same way as one of the rules
 abbrev pub Alike : List ℕ → List Guard → Site → Type 0
-Alike path c t = taken t.gs path ≡ on_path c (place_of t)
+Alike path c t = all_hold t.gs path ≡ on_path c (place_of t)
 
 onpath_append : (path : List ℕ) (xs ys : List Flat.Stmt) → onpath path (xs ++ ys) ≡ onpath path xs ++ onpath path ys
 onpath_append path [] ys = refl
-onpath_append path (x ∷ xs) ys = at (taken x.guards path) (onpath_append path xs ys)
+onpath_append path (x ∷ xs) ys = at (all_hold x.guards path) (onpath_append path xs ys)
   where
     at : (b : Bool) → onpath path (xs ++ ys) ≡ onpath path xs ++ onpath path ys
         → cond b (record x { guards = [] } ∷ onpath path (xs ++ ys)) (onpath path (xs ++ ys)) ≡ cond b (record x { guards = [] } ∷ onpath path xs) (onpath path xs) ++ onpath path ys
@@ -78,16 +78,16 @@ onpath_append path (x ∷ xs) ys = at (taken x.guards path) (onpath_append path 
 
 pub looked_append : (xs ys : List Flat.Stmt) → looked_all (xs ++ ys) ≡ looked_all xs ++ looked_all ys
 looked_append [] ys = refl
-looked_append (x ∷ xs) ys = ap (λ l. record x { op = looked x.op } ∷ l) (looked_append xs ys)
+looked_append (x ∷ xs) ys = ap (λ l. record x { op = answered_op x.op } ∷ l) (looked_append xs ys)
 
-one_path : (path : List ℕ) (k : ℕ) (gs : List Flat.Guard) (b : Bool) → taken gs path ≡ b → (os : List Flat.Op) → onpath path (looked_all (stmts_at k gs os)) ≡ (if b then seen_ops k os else [])
+one_path : (path : List ℕ) (k : ℕ) (gs : List Flat.Guard) (b : Bool) → all_hold gs path ≡ b → (os : List Flat.Op) → onpath path (looked_all (stmts_at k gs os)) ≡ (if b then seen_ops k os else [])
 one_path path k gs true e [] = refl
 one_path path k gs false e [] = refl
 one_path path k gs true e (op ∷ os) =
-    ap (λ b. cond b (record { stage = k; guards = []; op = looked op } ∷ onpath path (looked_all (stmts_at k gs os))) (onpath path (looked_all (stmts_at k gs os)))) e
-    ∙ ap (λ l. record { stage = k; guards = []; op = looked op } ∷ l) (one_path path k gs true e os)
+    ap (λ b. cond b (record { stage = k; guards = []; op = answered_op op } ∷ onpath path (looked_all (stmts_at k gs os))) (onpath path (looked_all (stmts_at k gs os)))) e
+    ∙ ap (λ l. record { stage = k; guards = []; op = answered_op op } ∷ l) (one_path path k gs true e os)
 one_path path k gs false e (op ∷ os) =
-    ap (λ b. cond b (record { stage = k; guards = []; op = looked op } ∷ onpath path (looked_all (stmts_at k gs os))) (onpath path (looked_all (stmts_at k gs os)))) e
+    ap (λ b. cond b (record { stage = k; guards = []; op = answered_op op } ∷ onpath path (looked_all (stmts_at k gs os))) (onpath path (looked_all (stmts_at k gs os)))) e
     ∙ one_path path k gs false e os
 
 -- what stands on a path

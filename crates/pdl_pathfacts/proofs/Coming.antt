@@ -1,4 +1,4 @@
--- Along a path: what is defined stands no later than a place behind its definition, and a delayed read that is given there in an earlier stage.
+-- Along a path: what is defined stands no later than a place after its definition, and a delayed read that is given there in an earlier stage.
 use Rattle.std.proofs.Common.{◌≡◌, refl, sym, ap, ◌∙◌, subst, ℕ, suc, ◌≤◌, ◌<◌, ◌⊎◌, inl, inr, Bool, true, false, ◌||◌, List, [], ◌∷◌, ◌++◌, filter, if◌then◌else◌, arith, ⊎_elim}
 use Rattle.std.proofs.lemmas.Bool.{false≢true, or_cases, both_ways}
 use Rattle.std.proofs.lemmas.List.Folds.{list_any-append}
@@ -21,7 +21,7 @@ Came c def given y k earlier =
     (list_any def earlier ≡ true → (y.walk.stage ≤ k) × (on_path c (place_of y) ≡ true))
     × (given earlier ≡ true → is_delayed (place_of y) ≡ true → y.walk.stage < k)
 
--- what gives it behind one place more
+-- what gives it after one place more
 abbrev pub Gives : (Place → Bool) → (List Place → Bool) → Type 0
 Gives def given =
     (earlier : List Place) (x : Place) → given (earlier ++ x ∷ []) ≡ true
@@ -31,8 +31,8 @@ module _ (c : List Guard) (def : Place → Bool) (given : List Place → Bool) (
   push : (earlier : List Place) (x : Place) → list_any def (earlier ++ x ∷ []) ≡ true → (list_any def earlier ≡ true) ⊎ (def x ≡ true)
   push earlier x e = ⊎_elim (λ t. inl t) (λ t. ⊎_elim (λ u. inr u) (λ u. absurd (false≢true u)) (or_cases (def x) false t)) (or_cases (list_any def earlier) (def x || false) (sym (list_any-append def earlier (x ∷ [])) ∙ e))
 
-  behind_cut : (k : ℕ) (earlier : List Place) (x : Place) → is_separator x ≡ true → Came c def given y k earlier → Came c def given y (suc k) (earlier ++ x ∷ [])
-  behind_cut k earlier x e h = (
+  after_cut : (k : ℕ) (earlier : List Place) (x : Place) → is_separator x ≡ true → Came c def given y k earlier → Came c def given y (suc k) (earlier ++ x ∷ [])
+  after_cut k earlier x e h = (
     λ f. ⊎_elim (λ t. let r = h.0 t in ((let l : y.walk.stage ≤ k = r.0 in omega arith), r.1)) (λ t. absurd (both_ways (def x) (cuts x e) t)) (push earlier x f),
     λ f d.
         by (gives earlier x f) d,
@@ -46,8 +46,8 @@ module _ (c : List Guard) (def : Place → Bool) (given : List Place → Bool) (
   later : (k s : ℕ) (earlier : List Place) → k ≤ s → Came c def given y k earlier → Came c def given y s earlier
   later k s earlier low h = ((λ f. let r = h.0 f in ((let l : y.walk.stage ≤ k = r.0 in omega arith), r.1)), λ f d. let l = h.1 f d in omega arith)
 
-  behind_one : (k : ℕ) (earlier : List Place) (t : Site) → k ≤ t.walk.stage → is_separator (place_of t) ≡ false → on_path c (place_of t) ≡ true → IsIt def y t → Came c def given y k earlier → Came c def given y t.walk.stage (earlier ++ place_of t ∷ [])
-  behind_one k earlier t low e on it h = (
+  after_one : (k : ℕ) (earlier : List Place) (t : Site) → k ≤ t.walk.stage → is_separator (place_of t) ≡ false → on_path c (place_of t) ≡ true → IsIt def y t → Came c def given y k earlier → Came c def given y t.walk.stage (earlier ++ place_of t ∷ [])
+  after_one k earlier t low e on it h = (
     λ f. ⊎_elim (λ u. (later k t.walk.stage earlier low h).0 u) (λ u. let i = it u in ((let j : t.walk.stage ≡ y.walk.stage = i.0 in omega arith), ap (on_path c) (sym i.1) ∙ on)) (push earlier (place_of t) f),
     λ f d. by (gives earlier (place_of t) f) d,
   )
@@ -65,10 +65,10 @@ module _ (c : List Guard) (def : Place → Bool) (given : List Place → Bool) (
       at : (b : Bool) → is_separator (place_of t) ≡ b → Next b k t.walk.stage (λ n. Rises n ts end)
           → ((n : ℕ) → Rises n ts end → Came c def given y n (earlier ++ place_of t ∷ []) → All (λ t. is_separator (place_of t) ≡ false → Came c def given y t.walk.stage (filter (on_path c) t.front)) ts)
           → All (λ t. is_separator (place_of t) ≡ false → Came c def given y t.walk.stage (filter (on_path c) t.front)) (t ∷ ts)
-      at true e j go = ((λ f. absurd (false≢true (sym f ∙ e))), go (suc k) j (behind_cut k earlier (place_of t) e h))
+      at true e j go = ((λ f. absurd (false≢true (sym f ∙ e))), go (suc k) j (after_cut k earlier (place_of t) e h))
       at false e j go = (
         (λ f. subst (Came c def given y t.walk.stage) (sym on.0) (later k t.walk.stage earlier j.0 h)),
-        go t.walk.stage j.1 (behind_one k earlier t j.0 e on.1 it.0 h),
+        go t.walk.stage j.1 (after_one k earlier t j.0 e on.1 it.0 h),
       )
 
 -- of the sites of a text those on the path

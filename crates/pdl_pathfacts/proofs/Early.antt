@@ -5,19 +5,19 @@ use Rattle.std.proofs.lemmas.List.Folds.{list_any-append}
 use Rattle.std.specs.List.{list_any}
 use Rattle.pdl_semantics.specs.Tree.{Span, Ident, Location, R, W, Variable, Stmt, Separator, DelayedRead, Reserve, Release, If, Stmts, Nil, Cons, Pipe}
 use Rattle.pdl_semantics.specs.Flat
-use Rattle.pdl_semantics.specs.Flat.{taken}
+use Rattle.pdl_semantics.specs.Flat.{all_hold}
 use Rattle.pdl_semantics.specs.Flatten.{flat, mem_of}
 use Rattle.pdl_semantics.specs.Stages.{is_release, commit_stage}
 use Rattle.pdl_kit.specs.declared.rule.Rule.TheVariants.{F3, F5, L8}
-use Rattle.pdl_rules.specs.Places.{Place, Parameter, Memory, Statement, Guard, Branch, with_inner, statements, places, behind, guards, on_path}
-use Rattle.pdl_rules.specs.Parts.{location_of, passes}
+use Rattle.pdl_rules.specs.Places.{Place, Parameter, Memory, Statement, Guard, Branch, with_inner, statements, places, places_after, guards, on_path}
+use Rattle.pdl_rules.specs.Parts.{location_of, is_some_and}
 use Rattle.pdl_rules.specs.Typed.{is_memory}
 use Rattle.pdl_rules.specs.Limits.{is_separator}
-use Rattle.pdl_rules.specs.Names.{OfVariable, defines}
+use Rattle.pdl_rules.specs.Names.{OfVariable, defines_use}
 use Rattle.pdl_rules.specs.Locks
 use Rattle.pdl_rules.specs.Locks.{is_locked}
 use Rattle.pdl_rules.specs.Forks
-use Rattle.pdl_rules.specs.Stages.{stage_in, stage_from, stage_behind, first_stage, branches_of, are_outer, releases_memory, next_on, bound_late}
+use Rattle.pdl_rules.specs.Stages.{stage_in, stage_from, stage_after, first_stage, branches_of, are_outer, releases_memory, next_on, bound_late}
 use Rattle.pdl_rules.specs.Refusal.{KeepsRules}
 use Rattle.pdl_facts.specs.Scans.{none_of, is_dead, is_fetch}
 use Rattle.pdl_stagefacts.proofs.Sites.{Site, sites_of, front_of, closing, place_of, All, stmts_are}
@@ -119,7 +119,7 @@ mono b f g bs (x ∷ xs) h i = at (is_separator x) (λ n k l j m. mono n k l bs 
     at true go = let r = turn (are_outer (branches_of x) []) (are_outer (branches_of x) bs) refl refl in go (suc b) (if are_outer (branches_of x) [] then suc b else f) (if are_outer (branches_of x) bs then suc b else g) r.0 r.1
     at false go = go b f g h i
 
--- the next stage on a path is a later one, where a separator of the path stands behind
+-- the next stage on a path is a later one, where a separator of the path stands after
 next_up : (c : List Guard) (b : ℕ) (xs : List Place) → (Cuts c xs ≡ false) ⊎ (b < next_on c b xs)
 next_up c b [] = inl refl
 next_up c b (x ∷ xs) = at (is_separator x) (on_path c x) (λ n. next_up c n xs)
@@ -139,8 +139,8 @@ drop_at [] x ys = refl
 drop_at (z ∷ xs) x ys = drop_at xs x ys
 
 module _ (p : Pipe) (rules : KeepsRules p) where
-  -- with none behind it, a site stands in the last stage
-  at_end : (t : Site) (h : Known p t) (c : List Guard) → is_separator (place_of t) ≡ false → Cuts c h.fine.later ≡ false → t.walk.stage ≡ stage_behind (places p)
+  -- with none after it, a site stands in the last stage
+  at_end : (t : Site) (h : Known p t) (c : List Guard) → is_separator (place_of t) ≡ false → Cuts c h.fine.later ≡ false → t.walk.stage ≡ stage_after (places p)
   at_end t h c e f =
       let last = full_places p (body_forked p rules) in
       let none : Cuts c (place_of t ∷ h.fine.later) ≡ false = ap₂ (λ a b. (a && on_path c (place_of t)) || b) e f in
@@ -151,7 +151,7 @@ module _ (p : Pipe) (rules : KeepsRules p) where
       let some = h.low in
       let parts = ap cut h.fine.whole in
       let sum = cut_append t.front (place_of t ∷ h.fine.later) in
-      let behind : cut (places p) ≡ stage_behind (places p) = refl in
+      let places_after : cut (places p) ≡ stage_after (places p) = refl in
       let up : stage_in t.front [] ≤ stage_in t.front t.branches = low in
       omega arith
 
@@ -205,11 +205,11 @@ module _ (p : Pipe) (rules : KeepsRules p) where
         at t h _ f = refl
 
   -- L8
-  read_early : (t : Site) (h : Known p t) (sp : Span) (y : Ident) (l : Location) → t.stmt ≡ DelayedRead sp y l → (env : List ℕ) → taken t.gs env ≡ true → t.walk.stage < commit_stage (flat p) (mem_of p.mems l.mem.name)
+  read_early : (t : Site) (h : Known p t) (sp : Span) (y : Ident) (l : Location) → t.stmt ≡ DelayedRead sp y l → (env : List ℕ) → all_hold t.gs env ≡ true → t.walk.stage < commit_stage (flat p) (mem_of p.mems l.mem.name)
   read_early t h sp y l e env tk = at (is_locked p.mems l.mem.name) refl (first l.mem.name there)
     where
       here : Here p t
-      here = record { later = h.fine.later; whole = h.fine.whole; at = h.fine.here; behind = h.behind }
+      here = record { later = h.fine.later; whole = h.fine.whole; at = h.fine.here; after = h.after }
 
       there : is_memory p.mems l.mem.name ≡ true
       there = (located p rules t here l (ap location_of e)).0
@@ -223,21 +223,21 @@ module _ (p : Pipe) (rules : KeepsRules p) where
       on : on_path (way p env) (place_of t) ≡ true
       on = sym (h.alike env) ∙ tk
 
-      behind_is : behind p t.front ≡ h.fine.later
-      behind_is = ap (drop (suc (length t.front))) h.fine.whole ∙ drop_at t.front (place_of t) h.fine.later
+      after_is : places_after p t.front ≡ h.fine.later
+      after_is = ap (drop (suc (length t.front))) h.fine.whole ∙ drop_at t.front (place_of t) h.fine.later
 
-      not_last : (t.walk.stage == stage_behind (places p)) ≡ false
+      not_last : (t.walk.stage == stage_after (places p)) ≡ false
       not_last =
-          ap (λ k. k == stage_behind (places p)) (sym h.fine.staged)
-          ∙ (or_parts (stage_in t.front t.branches == stage_behind (places p)) (list_any (Forks.fetches l.mem.name) t.front)
+          ap (λ k. k == stage_after (places p)) (sym h.fine.staged)
+          ∙ (or_parts (stage_in t.front t.branches == stage_after (places p)) (list_any (Forks.breaks_fetch_order l.mem.name) t.front)
           (ap (λ s. Forks.breaks_f3 p t.front (Statement s t.branches)) (sym e) ∙ rules F3 t.front (place_of t) h.fine.later h.fine.whole)).0
 
-      later : t.walk.stage < next_on (way p env) (stage_behind t.front) (behind p t.front)
-      later = by (next_up (way p env) (stage_behind t.front) (behind p t.front))
+      later : t.walk.stage < next_on (way p env) (stage_after t.front) (places_after p t.front)
+      later = by (next_up (way p env) (stage_after t.front) (places_after p t.front))
         where
-          by : (Cuts (way p env) (behind p t.front) ≡ false) ⊎ (stage_behind t.front < next_on (way p env) (stage_behind t.front) (behind p t.front)) → t.walk.stage < next_on (way p env) (stage_behind t.front) (behind p t.front)
-          by (inl f) = absurd (both_ways _ not_last (eq-eqb t.walk.stage (stage_behind (places p)) (at_end t h (way p env) cut_none (ap (Cuts (way p env)) (sym behind_is) ∙ f))))
-          by (inr g) = let begun : t.walk.begun ≡ stage_behind t.front = h.fine.here.begun in let low = h.low in omega arith
+          by : (Cuts (way p env) (places_after p t.front) ≡ false) ⊎ (stage_after t.front < next_on (way p env) (stage_after t.front) (places_after p t.front)) → t.walk.stage < next_on (way p env) (stage_after t.front) (places_after p t.front)
+          by (inl f) = absurd (both_ways _ not_last (eq-eqb t.walk.stage (stage_after (places p)) (at_end t h (way p env) cut_none (ap (Cuts (way p env)) (sym after_is) ∙ f))))
+          by (inr g) = let begun : t.walk.begun ≡ stage_after t.front = h.fine.here.begun in let low = h.low in omega arith
 
       bound : bound_late p (way p env) t.front (Statement (DelayedRead sp y l) t.branches) ≡ false
       bound =
@@ -249,13 +249,13 @@ module _ (p : Pipe) (rules : KeepsRules p) where
       at false f r = let k = unlocked l.mem.name there f in let i = inside in omega arith
       at true f (inr r) = let i = inside in omega arith
       at true f (inl r) =
-          let k : nat_lt (commit_stage (flat p) (mem_of p.mems l.mem.name)) (next_on (way p env) (stage_behind t.front) (behind p t.front)) ≡ false =
-          sym (ap₂ (λ b o. b && passes (λ c. nat_lt c (next_on (way p env) (stage_behind t.front) (behind p t.front))) o) f r) ∙ bound in
+          let k : nat_lt (commit_stage (flat p) (mem_of p.mems l.mem.name)) (next_on (way p env) (stage_after t.front) (places_after p t.front)) ≡ false =
+          sym (ap₂ (λ b o. b && is_some_and (λ c. nat_lt c (next_on (way p env) (stage_after t.front) (places_after p t.front))) o) f r) ∙ bound in
           let m = ltb-false _ _ k in
           let i = later in
           omega arith
 
-  module _ (apart : are_apart (places p) ≡ true) (named : list_any (defines (OfVariable [])) (places p) ≡ false) where
+  module _ (apart : are_apart (places p) ≡ true) (named : list_any (defines_use (OfVariable [])) (places p) ≡ false) where
     abbrev pub IsEarly : Flat.Stmt → Type 0
     IsEarly z = (x m a : ℕ) → z.op ≡ Flat.DelayedRead x m a → is_dead z.guards ≡ false → z.stage < commit_stage (flat p) m
 

@@ -1,4 +1,4 @@
--- The variables behind each site are those before it, with what it binds, and more: along the text and along each path.
+-- The variables after each site are those before it, with what it binds, and more: along the text and along each path.
 use Rattle.std.proofs.Common.{◌≡◌, refl, sym, ap, ◌∙◌, subst, Bool, true, false, List, [], ◌∷◌, ◌++◌, if◌then◌else◌, append_assoc, append-nil}
 use Rattle.pdl_semantics.specs.Tree.{Expr, Variable, Stmt, CombRead, Bind, DelayedRead, If, Stmts, Nil, Cons, Mem, Pipe}
 use Rattle.pdl_semantics.specs.Flat
@@ -8,7 +8,7 @@ use Rattle.pdl_rules.specs.Places.{Place, Statement, Guard, Branch, with_inner, 
 use Rattle.pdl_stagefacts.proofs.Sites.{Site, branch, sites_in, sites, sites_of, front_of, place_of}
 use Rattle.pdl_pathfacts.proofs.Along.{on_sites}
 
--- the variables behind a statement alone
+-- the variables after a statement alone
 abbrev pub if_past : List Var → Expr → List Var
 if_past vs (Variable x) = vs
 if_past vs _ = vs ++ record { name = []; width = 1 } ∷ []
@@ -51,12 +51,12 @@ grows_append : (ms : List Mem) (vs ws us : List Var) (xs ys : List Site) → Gro
 grows_append ms vs ws us [] ys h k = grows_from ms vs ws us ys h k
 grows_append ms vs ws us (x ∷ xs) ys h k = (h.0, grows_append ms (vars_past ms x.walk.vars x.stmt) ws us xs ys h.1 k)
 
-guard_past : (c : Expr) (w : Flatten.Place) → (with_guard c w).vars ≡ if_past w.vars c
+guard_past : (c : Expr) (w : Flatten.Position) → (with_guard c w).vars ≡ if_past w.vars c
 guard_past (Variable x) w = refl
 guard_past _ w = refl
 
 mutual
-  grows_in : (ms : List Mem) (front : List Place) (w : Flatten.Place) (gs : List Flat.Guard) (bs : List Branch) (s : Stmt) → Grows ms w.vars (sites_in ms front w gs bs s) (past ms s w).vars
+  grows_in : (ms : List Mem) (front : List Place) (w : Flatten.Position) (gs : List Flat.Guard) (bs : List Branch) (s : Stmt) → Grows ms w.vars (sites_in ms front w gs bs s) (past ms s w).vars
   grows_in ms front w gs bs (If sp c when otherwise) = (
     grown_same w.vars,
     subst (λ vs. Grows ms vs (sites ms (front ++ Statement (If sp c when otherwise) bs ∷ []) (with_guard c w) (under gs w.vars c true) (bs ++ branch sp c true when ∷ []) when
@@ -73,7 +73,7 @@ mutual
   grows_in ms front w gs bs (DelayedRead _ x from) = (grown_same w.vars, grown_same _)
   grows_in ms front w gs bs _ = (grown_same w.vars, grown_same w.vars)
 
-  grows : (ms : List Mem) (front : List Place) (w : Flatten.Place) (gs : List Flat.Guard) (bs : List Branch) (ss : Stmts) → Grows ms w.vars (sites ms front w gs bs ss) (past_all ms ss w).vars
+  grows : (ms : List Mem) (front : List Place) (w : Flatten.Position) (gs : List Flat.Guard) (bs : List Branch) (ss : Stmts) → Grows ms w.vars (sites ms front w gs bs ss) (past_all ms ss w).vars
   grows ms front w gs bs Nil = grown_same w.vars
   grows ms front w gs bs (Cons s ss) =
       grows_append ms w.vars (past ms s w).vars (past_all ms ss (past ms s w)).vars (sites_in ms front w gs bs s) (sites ms (front ++ with_inner bs s) (past ms s w) gs bs ss)

@@ -5,15 +5,15 @@ use Rattle.std.proofs.lemmas.List.Folds.{list_any-append, list_all-append}
 use Rattle.std.specs.List.{list_any, list_all}
 use Rattle.pdl_semantics.specs.Tree.{Ident, Expr, Constant, Variable, Slice, Not, Binary, Cat, LessSigned, ZeroExtend, SignExtend, Choose, If, Pipe}
 use Rattle.pdl_semantics.specs.Flat
-use Rattle.pdl_semantics.specs.Flat.{taken}
+use Rattle.pdl_semantics.specs.Flat.{all_hold}
 use Rattle.pdl_semantics.specs.Flatten.{var_of}
 use Rattle.pdl_semantics.specs.Flatten
 use Rattle.pdl_kit.specs.declared.rule.Rule.TheVariants.{N3}
 use Rattle.pdl_rules.specs.Places.{Place, Parameter, Memory, Statement, Branch, statements, places, is_taken, on_path, on_some_path}
 use Rattle.pdl_rules.specs.Limits.{is_separator}
-use Rattle.pdl_rules.specs.Names.{OfVariable, defines, is_delayed, is_given, is_parameter, is_undefined, is_too_early}
+use Rattle.pdl_rules.specs.Names.{OfVariable, defines_use, is_delayed, is_given, is_parameter, is_undefined, is_too_early}
 use Rattle.pdl_rules.specs.Refusal.{KeepsRules}
-use Rattle.pdl_facts.specs.Scans.{binds}
+use Rattle.pdl_facts.specs.Scans.{binds_var}
 use Rattle.pdl_stagefacts.proofs.Sites.{Site, sites_of, front_of, closing, place_of, All}
 use Rattle.pdl_stagefacts.proofs.Walks.{names, names_at, names_by, names_append, Choice, its_if, flat_guard, rule_branch, Chosen, AllChosen, Nested}
 use Rattle.pdl_stagefacts.proofs.Standing.{all_both}
@@ -27,27 +27,27 @@ use Rattle.pdl_pathfacts.proofs.Numbers
 use Rattle.pdl_pathfacts.proofs.Numbers.{is_in, in_stays, var_place, var_low}
 use Rattle.pdl_pathfacts.proofs.Variables.{known, named_is, told_is}
 use Rattle.pdl_pathfacts.proofs.Walk.{filter_append}
-use Rattle.pdl_pathfacts.proofs.Same.{value, behind_of}
+use Rattle.pdl_pathfacts.proofs.Same.{value, after_of}
 use Rattle.pdl_pathfacts.proofs.Live.{AllGuards}
 use Rattle.pdl_pathfacts.proofs.Known.{Known, long, all_known, way, Bounds, Settled, Owned, given_more, bound_name, number_name, no_parameter, all_settled, all_owned}
 use Rattle.pdl_word.proofs.Bytes.{bytes_same}
 
 pub record Guarded (p : Pipe) (t : Site) (g : Flat.Guard) : Type 0 where
   pub low : g.var < length t.walk.vars
-  pub bound : (env : List ℕ) → is_separator (place_of t) ≡ false → taken t.gs env ≡ true → (y : Site) → Known p y → from_op (binds g.var) (op_of p.mems y.walk.vars y.stmt) ≡ true → Bounds env y t
+  pub bound : (env : List ℕ) → is_separator (place_of t) ≡ false → all_hold t.gs env ≡ true → (y : Site) → Known p y → from_op (binds_var g.var) (op_of p.mems y.walk.vars y.stmt) ≡ true → Bounds env y t
 
-module _ (p : Pipe) (rules : KeepsRules p) (named : list_any (defines (OfVariable [])) (places p) ≡ false) where
+module _ (p : Pipe) (rules : KeepsRules p) (named : list_any (defines_use (OfVariable [])) (places p) ≡ false) where
   -- a name that is used is not empty
   some_name : (front later : List Place) (x : Place) (n : List ℕ) → places p ≡ front ++ x ∷ later → is_too_early p front x (OfVariable n) ≡ false → bytes_eq [] n ≡ false
   some_name front later x n e h = at (bytes_eq [] n) refl
     where
-      none : list_any (defines (OfVariable [])) (places p) ≡ true → ⊥
+      none : list_any (defines_use (OfVariable [])) (places p) ≡ true → ⊥
       none k = both_ways _ named k
 
       test : Place → Bool
-      test = defines (OfVariable [])
+      test = defines_use (OfVariable [])
 
-      param : is_parameter p [] ≡ true → list_any (defines (OfVariable [])) (places p) ≡ true
+      param : is_parameter p [] ≡ true → list_any (defines_use (OfVariable [])) (places p) ≡ true
       param k =
           list_any-append test (front_of p ++ statements [] p.body) (closing p)
           ∙ or_left (list_any test (front_of p ++ statements [] p.body)) (list_any test (closing p))
@@ -56,10 +56,10 @@ module _ (p : Pipe) (rules : KeepsRules p) (named : list_any (defines (OfVariabl
           (list_any-append test (map Parameter p.params) (map Memory p.mems)
           ∙ or_left (list_any test (map Parameter p.params)) (list_any test (map Memory p.mems)) (ForkFacts.any_param [] p.params k)))
 
-      before : is_undefined front (OfVariable n) ≡ false → [] ≡ n → list_any (defines (OfVariable [])) (places p) ≡ true
+      before : is_undefined front (OfVariable n) ≡ false → [] ≡ n → list_any (defines_use (OfVariable [])) (places p) ≡ true
       before k f =
           ap (list_any test) e ∙ list_any-append test front (x ∷ later)
-          ∙ or_left (list_any test front) (list_any test (x ∷ later)) (ap (λ m. list_any (defines (OfVariable m)) front) f ∙ not-false (list_any (defines (OfVariable n)) front) k)
+          ∙ or_left (list_any test front) (list_any test (x ∷ later)) (ap (λ m. list_any (defines_use (OfVariable m)) front) f ∙ not-false (list_any (defines_use (OfVariable n)) front) k)
 
       at : (b : Bool) → bytes_eq [] n ≡ b → b ≡ false
       at false f = refl
@@ -79,7 +79,7 @@ module _ (p : Pipe) (rules : KeepsRules p) (named : list_any (defines (OfVariabl
 
   -- a use of a variable at a place no later than a site, on each path that leads through the site
   used_by : (t y : Site) → Known p t → Settled p t → Known p y → (front more later : List Place) (x : Place) (n : List ℕ) → places p ≡ front ++ x ∷ later → t.front ≡ front ++ more → is_in (names t.front) n ≡ true → is_too_early p front x (OfVariable n) ≡ false
-      → (env : List ℕ) → is_separator (place_of t) ≡ false → taken t.gs env ≡ true → on_path (way p env) x ≡ true → from_op (binds (var_of t.walk.vars n)) (op_of p.mems y.walk.vars y.stmt) ≡ true → Bounds env y t
+      → (env : List ℕ) → is_separator (place_of t) ≡ false → all_hold t.gs env ≡ true → on_path (way p env) x ≡ true → from_op (binds_var (var_of t.walk.vars n)) (op_of p.mems y.walk.vars y.stmt) ≡ true → Bounds env y t
   used_by t y h s k front more later x n whole e there early env cut tk on b =
       let it = number_name p rules t y h k n there (some_name front later x n whole early) b in
       s (record { env = env; name = n; by = y; known = k; it = it }) cut tk
@@ -88,10 +88,10 @@ module _ (p : Pipe) (rules : KeepsRules p) (named : list_any (defines (OfVariabl
 
   -- of the site itself
   pub used_here : (t y : Site) → Known p t → Settled p t → Known p y → (n : List ℕ) → is_too_early p t.front (place_of t) (OfVariable n) ≡ false
-      → (env : List ℕ) → is_separator (place_of t) ≡ false → taken t.gs env ≡ true → from_op (binds (var_of t.walk.vars n)) (op_of p.mems y.walk.vars y.stmt) ≡ true → Bounds env y t
+      → (env : List ℕ) → is_separator (place_of t) ≡ false → all_hold t.gs env ≡ true → from_op (binds_var (var_of t.walk.vars n)) (op_of p.mems y.walk.vars y.stmt) ≡ true → Bounds env y t
   used_here t y h s k n early env cut tk b =
       used_by t y h s k t.front [] h.fine.later (place_of t) n h.fine.whole (sym (append-nil t.front))
-      (sym (named_is t.front t.walk n h.fine.here.named) ∙ known p t.front t.walk (place_of t) n h.behind h.fine.here.named early) early env cut tk (sym (h.alike env) ∙ tk) b
+      (sym (named_is t.front t.walk n h.fine.here.named) ∙ known p t.front t.walk (place_of t) n h.after h.fine.here.named early) early env cut tk (sym (h.alike env) ∙ tk) b
 
   module _ (t : Site) (h : Known p t) (s : Settled p t) (o : Owned p t) (i : Choice) (c : Chosen t.front i) (apart : are_apart (places p) ≡ true) where
     whole : places p ≡ i.front ++ its_if i ∷ (c.0 ++ place_of t ∷ h.fine.later)
@@ -118,7 +118,7 @@ module _ (p : Pipe) (rules : KeepsRules p) (named : list_any (defines (OfVariabl
           ∙ rules N3 i.front (Statement (If i.span (Variable x) i.when i.otherwise) i.branches) (c.0 ++ place_of t ∷ h.fine.later) (whole ∙ ap (λ z. i.front ++ z ∷ (c.0 ++ place_of t ∷ h.fine.later)) place)
 
       there_if : is_in (names i.front) x.name ≡ true
-      there_if = sym (named_is i.front i.walk x.name c.2) ∙ known p i.front i.walk (its_if i) x.name (behind_of p i.front (c.0 ++ place_of t ∷ h.fine.later) (If i.span i.condition i.when i.otherwise) i.branches whole) c.2 early
+      there_if = sym (named_is i.front i.walk x.name c.2) ∙ known p i.front i.walk (its_if i) x.name (after_of p i.front (c.0 ++ place_of t ∷ h.fine.later) (If i.span i.condition i.when i.otherwise) i.branches whole) c.2 early
 
       there : is_in (names t.front) x.name ≡ true
       there = ap (λ l. is_in l x.name) (ap names c.1 ∙ names_append i.front (its_if i ∷ c.0)) ∙ list_any-append (λ z. bytes_eq z x.name) (names i.front) (names (its_if i ∷ c.0)) ∙ or_left _ _ there_if
@@ -132,21 +132,21 @@ module _ (p : Pipe) (rules : KeepsRules p) (named : list_any (defines (OfVariabl
       guard_is : (flat_guard i).var ≡ var_of i.walk.vars x.name
       guard_is = ap (Flatten.guard_of i.walk.vars) e
 
-      shared : ((env : List ℕ) → taken t.gs env ≡ true → on_path (way p env) (its_if i) ≡ true) → Guarded p t (flat_guard i)
+      shared : ((env : List ℕ) → all_hold t.gs env ≡ true → on_path (way p env) (its_if i) ≡ true) → Guarded p t (flat_guard i)
       shared on =
           record {
             low = let a = long_here in let b = var_low i.walk.vars x.name (named_is i.front i.walk x.name c.2 ∙ there_if) in let d = long_if in let f = guard_is in omega arith;
             bound = λ env cut tk y k b.
                 used_by t y h s k i.front (its_if i ∷ c.0) (c.0 ++ place_of t ∷ h.fine.later) (its_if i) x.name whole c.1 there early env cut tk (on env tk)
-                (ap (λ n. from_op (binds n) (op_of p.mems y.walk.vars y.stmt)) (number ∙ sym guard_is) ∙ b);
+                (ap (λ n. from_op (binds_var n) (op_of p.mems y.walk.vars y.stmt)) (number ∙ sym guard_is) ∙ b);
           }
 
     -- on an expression
     module _ (is_own : (flat_guard i).var ≡ length i.walk.vars) (one : length (names_at (its_if i)) ≡ 1) (starts : begins_at i.span.start (its_if i) ≡ true) where
-      own_place : (y : Site) → Known p y → from_op (binds (flat_guard i).var) (op_of p.mems y.walk.vars y.stmt) ≡ true → place_of y ≡ its_if i
+      own_place : (y : Site) → Known p y → from_op (binds_var (flat_guard i).var) (op_of p.mems y.walk.vars y.stmt) ≡ true → place_of y ≡ its_if i
       own_place y k b = at (cases_lt (length y.front) (length i.front)) (cases_lt (length i.front) (length y.front))
         where
-          r : (m : List ℕ) × (names_by y.stmt ≡ m ∷ []) × ((q : List ℕ) → bytes_eq m q ≡ true → bytes_eq [] q ≡ false → defines (OfVariable q) (Statement y.stmt []) ≡ true)
+          r : (m : List ℕ) × (names_by y.stmt ≡ m ∷ []) × ((q : List ℕ) → bytes_eq m q ≡ true → bytes_eq [] q ≡ false → defines_use (OfVariable q) (Statement y.stmt []) ≡ true)
           r = bound_name p.mems y.walk.vars y.stmt (flat_guard i).var b
 
           number : length y.walk.vars ≡ length i.walk.vars
@@ -186,7 +186,7 @@ module _ (p : Pipe) (rules : KeepsRules p) (named : list_any (defines (OfVariabl
           ∙ list_any-append (begins_at i.span.start) (filter (on_path (way p env)) i.front) (filter (on_path (way p env)) (its_if i ∷ c.0))
           ∙ or_right _ _ (ap (λ b. list_any (begins_at i.span.start) (cond b (its_if i ∷ filter (on_path (way p env)) c.0) (filter (on_path (way p env)) c.0))) on ∙ or_left (begins_at i.span.start (its_if i)) _ starts)
 
-      own : ((env : List ℕ) → taken t.gs env ≡ true → on_path (way p env) (its_if i) ≡ true) → Guarded p t (flat_guard i)
+      own : ((env : List ℕ) → all_hold t.gs env ≡ true → on_path (way p env) (its_if i) ≡ true) → Guarded p t (flat_guard i)
       own on =
           record {
             low = let a = long_here in let b = one in let d = long_if in let f = is_own in omega arith;
@@ -199,7 +199,7 @@ module _ (p : Pipe) (rules : KeepsRules p) (named : list_any (defines (OfVariabl
                 );
           }
 
-    pub guarded : ((env : List ℕ) → taken t.gs env ≡ true → on_path (way p env) (its_if i) ≡ true) → Guarded p t (flat_guard i)
+    pub guarded : ((env : List ℕ) → all_hold t.gs env ≡ true → on_path (way p env) (its_if i) ≡ true) → Guarded p t (flat_guard i)
     guarded on = at i.condition refl
       where
         is_if : (d : Expr) → i.condition ≡ d → its_if i ≡ Statement (If i.span d i.when i.otherwise) i.branches
@@ -225,7 +225,7 @@ module _ (p : Pipe) (rules : KeepsRules p) (named : list_any (defines (OfVariabl
 
   module _ (apart : are_apart (places p) ≡ true) where
     -- each guard of a site
-    guards_of : (t : Site) (h : Known p t) (s : Settled p t) (o : Owned p t) (bs : List Branch) (hs : List Choice) → Nested bs hs → AllChosen t.front hs → ((env : List ℕ) → taken t.gs env ≡ true → list_all (is_taken (way p env)) (bs ++ map rule_branch hs) ≡ true) → AllGuards (Guarded p t) (map flat_guard hs)
+    guards_of : (t : Site) (h : Known p t) (s : Settled p t) (o : Owned p t) (bs : List Branch) (hs : List Choice) → Nested bs hs → AllChosen t.front hs → ((env : List ℕ) → all_hold t.gs env ≡ true → list_all (is_taken (way p env)) (bs ++ map rule_branch hs) ≡ true) → AllGuards (Guarded p t) (map flat_guard hs)
     guards_of t h s o bs [] n k on = tt
     guards_of t h s o bs (i ∷ hs) n k on = (
       guarded t h s o i k.0 apart

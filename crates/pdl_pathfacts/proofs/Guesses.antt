@@ -8,12 +8,12 @@ use Rattle.pdl_semantics.specs.Tree.{Span, Ident, Expr, Variable, R, W, Stmt, Se
 use Rattle.pdl_semantics.specs.Stages
 use Rattle.pdl_kit.specs.declared.rule.Rule.TheVariants.{N3, S2, S4}
 use Rattle.pdl_rules.specs.Places.{Place, Parameter, Memory, Statement, Guard, places, guards, on_path}
-use Rattle.pdl_rules.specs.Parts.{passes, location_of, some_expr_of, some_part}
-use Rattle.pdl_rules.specs.Names.{OfGuess, Use, defines, is_given, is_undefined, is_too_early, is_delayed, in_location, in_verify, reads}
+use Rattle.pdl_rules.specs.Parts.{is_some_and, location_of, some_expr_of, some_part}
+use Rattle.pdl_rules.specs.Names.{OfGuess, Use, defines_use, is_given, is_undefined, is_too_early, is_delayed, in_location, in_verify, reads_some}
 use Rattle.pdl_rules.specs.Limits.{is_separator}
 use Rattle.pdl_rules.specs.Calls.{is_call, is_wrong_call}
 use Rattle.pdl_rules.specs.Stages.{stage_of, first_stage, stages_that}
-use Rattle.pdl_rules.specs.Speculation.{is_verify, verifies, verify_stages, is_once_after, is_unverified, releases_unsure, is_before_verify}
+use Rattle.pdl_rules.specs.Speculation.{is_verify, is_verify_of, verify_stages, is_once_after, is_unverified, releases_unsure, is_before_verify}
 use Rattle.pdl_rules.specs.Speculation
 use Rattle.pdl_rules.specs.Refusal.{KeepsRules}
 use Rattle.pdl_rules.proofs.Once.{any_weaker, counted, count_push, count_cons, count_none, weight}
@@ -67,7 +67,7 @@ any_on f test (x ∷ xs) = at (f x) (any_on f test xs)
     at false h = h
 
 -- of one call there is one guess
-one_name : (n g : List ℕ) (x : Place) → defines (OfGuess n) x ≡ true → defines (OfGuess g) x ≡ true → n ≡ g
+one_name : (n g : List ℕ) (x : Place) → defines_use (OfGuess n) x ≡ true → defines_use (OfGuess g) x ≡ true → n ≡ g
 one_name n g (Statement (SpecCall _ y _) bs) e f = bytes_same n y.name e ∙ sym (bytes_same g y.name f)
 one_name n g (Statement (Call _ _) bs) e f = absurd (false≢true e)
 one_name n g (Statement (Separator _) bs) e f = absurd (false≢true e)
@@ -84,29 +84,29 @@ one_name n g (Statement (SpecCheck _) bs) e f = absurd (false≢true e)
 one_name n g (Statement (SpecBarrier _) bs) e f = absurd (false≢true e)
 one_name n g _ e f = absurd (false≢true e)
 
-one_guess : (n g : List ℕ) (xs : List Place) → count_by is_call xs ≤ 1 → list_any (defines (OfGuess n)) xs ≡ true → list_any (defines (OfGuess g)) xs ≡ true → n ≡ g
+one_guess : (n g : List ℕ) (xs : List Place) → count_by is_call xs ≤ 1 → list_any (defines_use (OfGuess n)) xs ≡ true → list_any (defines_use (OfGuess g)) xs ≡ true → n ≡ g
 one_guess n g [] few e f = absurd (false≢true e)
-one_guess n g (x ∷ xs) few e f = by (or_cases (defines (OfGuess n) x) _ e) (or_cases (defines (OfGuess g) x) _ f) (one_guess n g xs fewer)
+one_guess n g (x ∷ xs) few e f = by (or_cases (defines_use (OfGuess n) x) _ e) (or_cases (defines_use (OfGuess g) x) _ f) (one_guess n g xs fewer)
   where
     fewer : count_by is_call xs ≤ 1
     fewer = let sum = count_cons is_call x xs in omega arith
 
-    more : (l : List ℕ) → is_call x ≡ true → list_any (defines (OfGuess l)) xs ≡ true → ⊥
+    more : (l : List ℕ) → is_call x ≡ true → list_any (defines_use (OfGuess l)) xs ≡ true → ⊥
     more l t u =
         let one : 1 ≤ count_by is_call xs = counted is_call xs (any_weaker _ _ (guess_calls l) xs u) in
         let here : weight (is_call x) ≡ 1 = ap weight t in
         let sum = count_cons is_call x xs in
         omega arith
 
-    by : (defines (OfGuess n) x ≡ true) ⊎ (list_any (defines (OfGuess n)) xs ≡ true) → (defines (OfGuess g) x ≡ true) ⊎ (list_any (defines (OfGuess g)) xs ≡ true) → (list_any (defines (OfGuess n)) xs ≡ true → list_any (defines (OfGuess g)) xs ≡ true → n ≡ g) → n ≡ g
+    by : (defines_use (OfGuess n) x ≡ true) ⊎ (list_any (defines_use (OfGuess n)) xs ≡ true) → (defines_use (OfGuess g) x ≡ true) ⊎ (list_any (defines_use (OfGuess g)) xs ≡ true) → (list_any (defines_use (OfGuess n)) xs ≡ true → list_any (defines_use (OfGuess g)) xs ≡ true → n ≡ g) → n ≡ g
     by (inl a) (inl b) r = one_name n g x a b
     by (inl a) (inr b) r = absurd (more g (guess_calls n x a) b)
     by (inr a) (inl b) r = absurd (more n (guess_calls g x b) a)
     by (inr a) (inr b) r = r a b
 
-pub given_any : (u : Use) (xs : List Place) → is_given xs u ≡ true → list_any (defines u) xs ≡ true
+pub given_any : (u : Use) (xs : List Place) → is_given xs u ≡ true → list_any (defines_use u) xs ≡ true
 given_any u [] e = absurd (false≢true e)
-given_any u (x ∷ xs) e = ⊎_elim (λ a. or_left _ _ (and_parts (defines u x) _ a).0) (λ a. or_right (defines u x) _ (given_any u xs a)) (or_cases (defines u x && (not (is_delayed x) || list_any is_separator xs)) _ e)
+given_any u (x ∷ xs) e = ⊎_elim (λ a. or_left _ _ (and_parts (defines_use u x) _ a).0) (λ a. or_right (defines_use u x) _ (given_any u xs a)) (or_cases (defines_use u x && (not (is_delayed x) || list_any is_separator xs)) _ e)
 
 -- THE RULES
 
@@ -118,7 +118,7 @@ module _ (p : Pipe) (rules : KeepsRules p) (v : Guard → Bool) (staged : All St
   o = Stages.verify_stage (flat p).stmts
 
   abbrev pub verified_on : List ℕ → Place → Bool
-  verified_on g y = on_path c y && verifies g y
+  verified_on g y = on_path c y && is_verify_of g y
 
   none_front : (test : Place → Bool) → ((a : Param) → test (Parameter a) ≡ false) → ((m : Mem) → test (Memory m) ≡ false) → list_any test (front_of p) ≡ false
   none_front test f g = list_any-append test (map Parameter p.params) (map Memory p.mems) ∙ ap₂ (λ a b. a || b) (of_params p.params) (of_mems p.mems)
@@ -144,7 +144,7 @@ module _ (p : Pipe) (rules : KeepsRules p) (v : Guard → Bool) (staged : All St
   verify_sites V g f [] h = tt
   verify_sites V g f (t ∷ ts) h = ((λ e. f t (h.0 (one (place_of t) (and_parts (on_path c (place_of t)) _ e).1))), verify_sites V g f ts h.1)
     where
-      one : (x : Place) → verifies g x ≡ true → is_verify x ≡ true
+      one : (x : Place) → is_verify_of g x ≡ true → is_verify x ≡ true
       one (Statement (Verify _ _ _) bs) e = refl
       one _ e = absurd (false≢true e)
 
@@ -185,10 +185,10 @@ module _ (p : Pipe) (rules : KeepsRules p) (v : Guard → Bool) (staged : All St
   -- what is known of the calls before a site
   pub record Called (before : List Place) : Type 0 where
     pub few : count_by is_call before ≤ 1
-    pub once : (g : List ℕ) → list_any (defines (OfGuess g)) before ≡ true → Once g
+    pub once : (g : List ℕ) → list_any (defines_use (OfGuess g)) before ≡ true → Once g
 
   called_next : (before : List Place) (t : Site) → Here p t → Staged t → filter (on_path c) t.front ≡ before → on_path c (place_of t) ≡ true → Called before → Called (before ++ place_of t ∷ [])
-  called_next before t h st same on k = record { few = few (is_call (place_of t)) refl; once = λ g e. ⊎_elim (k.once g) (here t.stmt refl g) (any_split (defines (OfGuess g)) before (place_of t) e) }
+  called_next before t h st same on k = record { few = few (is_call (place_of t)) refl; once = λ g e. ⊎_elim (k.once g) (here t.stmt refl g) (any_split (defines_use (OfGuess g)) before (place_of t) e) }
     where
       wrong : is_wrong_call before (place_of t) ≡ false
       wrong = subst (λ l. is_wrong_call l (place_of t) ≡ false) same (calls_right p rules v t.front h.later (place_of t) h.whole on)
@@ -208,7 +208,7 @@ module _ (p : Pipe) (rules : KeepsRules p) (v : Guard → Bool) (staged : All St
           let w : weight (is_call (place_of t)) ≡ 0 = ap weight e in
           omega (arith, count_push is_call before (place_of t))
 
-      here : (s : Stmt) → t.stmt ≡ s → (g : List ℕ) → defines (OfGuess g) (Statement s t.branches) ≡ true → Once g
+      here : (s : Stmt) → t.stmt ≡ s → (g : List ℕ) → defines_use (OfGuess g) (Statement s t.branches) ≡ true → Once g
       here (SpecCall sp y args) i g e = subst Once (sym (bytes_same g y.name e)) (guess_before t h st on sp y args i).1
       here (Separator _) i g e = absurd (false≢true e)
       here (CombRead _ _ _) i g e = absurd (false≢true e)
@@ -240,24 +240,24 @@ module _ (p : Pipe) (rules : KeepsRules p) (v : Guard → Bool) (staged : All St
       used : early (OfGuess g.name) ≡ false
       used =
           sym (ap (in_verify early) e)
-          ∙ (or_parts (in_verify early t.stmt) (some_expr_of (some_part (reads early)) t.stmt) (or_parts (passes (in_location early) (location_of t.stmt)) _ (rules N3 t.front (place_of t) h.later h.whole)).1).0
+          ∙ (or_parts (in_verify early t.stmt) (some_expr_of (some_part (reads_some early)) t.stmt) (or_parts (is_some_and (in_location early) (location_of t.stmt)) _ (rules N3 t.front (place_of t) h.later h.whole)).1).0
 
       given : is_given before (OfGuess g.name) ≡ true
       given =
           subst (λ l. is_given l (OfGuess g.name) ≡ true) same
           (not-false _ (unbroken_on (λ earlier. not (is_given earlier (OfGuess g.name))) p v t.front (place_of t) (or_parts (is_undefined t.front (OfGuess g.name)) _ used).1 on))
 
-      there : list_any (defines (OfGuess g.name)) before ≡ true
+      there : list_any (defines_use (OfGuess g.name)) before ≡ true
       there = given_any (OfGuess g.name) before given
 
       is_v : o ≡ Some t.walk.stage
       is_v = at (ap (λ x. is_verify (Statement x t.branches)) e)
 
       here : verified_on g.name (place_of t) ≡ true
-      here = and_from _ _ on (ap (λ x. verifies g.name (Statement x t.branches)) e ∙ bytes_refl g.name)
+      here = and_from _ _ on (ap (λ x. is_verify_of g.name (Statement x t.branches)) e ∙ bytes_refl g.name)
 
-      unverified : list_any (verifies g.name) before ≡ false
-      unverified = ap (list_any (verifies g.name)) (sym same) ∙ sym (any_on (on_path c) (verifies g.name) t.front) ∙ false_from_ne_true _ (λ u. absurd (twice u))
+      unverified : list_any (is_verify_of g.name) before ≡ false
+      unverified = ap (list_any (is_verify_of g.name)) (sym same) ∙ sym (any_on (on_path c) (is_verify_of g.name) t.front) ∙ false_from_ne_true _ (λ u. absurd (twice u))
         where
           twice : list_any (verified_on g.name) t.front ≡ true → ⊥
           twice u =
@@ -295,10 +295,10 @@ module _ (p : Pipe) (rules : KeepsRules p) (v : Guard → Bool) (staged : All St
       ((asked_here before t h.0.here h.0.stage on.0 on.1 h.0.verify k t.stmt refl, rest.0), subst Called (append_assoc before (place_of t ∷ []) (map place_of ts)) rest.1)
 
   -- at the end each guess is verified on the path
-  pub verified_end : (before : List Place) → filter (on_path c) (places p) ≡ before ++ closing p → Called before → (g : List ℕ) → list_any (defines (OfGuess g)) before ≡ true → list_any (verifies g) before ≡ true
+  pub verified_end : (before : List Place) → filter (on_path c) (places p) ≡ before ++ closing p → Called before → (g : List ℕ) → list_any (defines_use (OfGuess g)) before ≡ true → list_any (is_verify_of g) before ≡ true
   verified_end before e k g d =
       ⊎_elim (λ a. a) (λ a. absurd (false≢true a))
-      (or_cases (list_any (verifies g) before) (list_any (verifies g) (closing p)) (sym (list_any-append (verifies g) before (closing p)) ∙ ap (list_any (verifies g)) (sym e) ∙ sym (any_on (on_path c) (verifies g) (places p)) ∙ some (k.once g d)))
+      (or_cases (list_any (is_verify_of g) before) (list_any (is_verify_of g) (closing p)) (sym (list_any-append (is_verify_of g) before (closing p)) ∙ ap (list_any (is_verify_of g)) (sym e) ∙ sym (any_on (on_path c) (is_verify_of g) (places p)) ∙ some (k.once g d)))
     where
       some : count_by (verified_on g) (places p) ≡ 1 → list_any (verified_on g) (places p) ≡ true
       some f = ⊎_elim (λ a. a) (λ a. absurd (let z = count_none (verified_on g) (places p) a in omega arith)) (cases_Bool (list_any (verified_on g) (places p)))
@@ -311,7 +311,7 @@ module _ (p : Pipe) (rules : KeepsRules p) (v : Guard → Bool) (staged : All St
     where
       by : (x : Option ℕ) → o ≡ x → stands_before x s ≡ true → is_before_verify p s ≡ true
       by None i f = absurd (false≢true f)
-      by (Some V) i f = ap (passes (λ k. nat_lt s k)) (found (first_sited is_verify V (front_of p) (closing p) (sites_of p) (all_in_text p) staged (in_v (sites_of p) verify_at) (λ front. refl))) ∙ f
+      by (Some V) i f = ap (is_some_and (λ k. nat_lt s k)) (found (first_sited is_verify V (front_of p) (closing p) (sites_of p) (all_in_text p) staged (in_v (sites_of p) verify_at) (λ front. refl))) ∙ f
         where
           same : {n : ℕ} → Some V ≡ Some n → n ≡ V
           same z = cc z

@@ -2,7 +2,7 @@
 use Rattle.std.proofs.Common.{◌≡◌, refl, sym, ap, ◌∙◌, ℕ, zero, suc, ◌+◌, ◌<◌, ◌≤◌, Bool, true, false, ◌&&◌, not, List, [], ◌∷◌, length, replicate, if◌then◌else◌, ◌==◌, slice_index, slice_set, arith}
 use Rattle.std.proofs.lemmas.Bool.{false≢true, and_from, or_parts, eqb-true, eqb-false}
 use Rattle.std.proofs.lemmas.List.{get_or-set_same, get_or-set_other, length-set}
-use Rattle.pdl_semantics.specs.Flat.{Guard, taken, takes}
+use Rattle.pdl_semantics.specs.Flat.{Guard, all_hold, takes_branch}
 use Rattle.pdl_facts.specs.Scans.{against, is_dead}
 
 -- something that holds of each guard
@@ -35,16 +35,16 @@ long n [] = zeros n
     zeros (suc k) = ap suc (zeros k)
 long n (g ∷ gs) = length-set (values_for n gs) g.var (truth_of g.first) ∙ long n gs
 
-takes_truth : (b : Bool) (v : ℕ) → v ≡ truth_of b → takes b v ≡ true
-takes_truth true v e = ap (takes true) e
-takes_truth false v e = ap (takes false) e
+takes_truth : (b : Bool) (v : ℕ) → v ≡ truth_of b → takes_branch b v ≡ true
+takes_truth true v e = ap (takes_branch true) e
+takes_truth false v e = ap (takes_branch false) e
 
 -- another guard keeps guards that it is not against
-still_taken : (g : Guard) (gs : List Guard) (env : List ℕ) → g.var < length env → against g gs ≡ false → taken gs env ≡ true → taken gs (slice_set env g.var (truth_of g.first)) ≡ true
+still_taken : (g : Guard) (gs : List Guard) (env : List ℕ) → g.var < length env → against g gs ≡ false → all_hold gs env ≡ true → all_hold gs (slice_set env g.var (truth_of g.first)) ≡ true
 still_taken g [] env low h t = refl
 still_taken g (k ∷ gs) env low h t =
     let parts = or_parts ((g.var == k.var) && (if g.first then not k.first else k.first)) (against g gs) h in
-    let both = and_both (takes k.first (slice_index env k.var)) (taken gs env) t in
+    let both = and_both (takes_branch k.first (slice_index env k.var)) (all_hold gs env) t in
     and_from _ _ (at (g.var == k.var) refl parts.0 both.0) (still_taken g gs env low parts.1 both.1)
   where
     and_both : (a b : Bool) → (a && b) ≡ true → (a ≡ true) × (b ≡ true)
@@ -57,14 +57,14 @@ still_taken g (k ∷ gs) env low h t =
     alike false true e = absurd (false≢true (sym e))
     alike false false e = refl
 
-    at : (b : Bool) → (g.var == k.var) ≡ b → ((g.var == k.var) && (if g.first then not k.first else k.first)) ≡ false → takes k.first (slice_index env k.var) ≡ true → takes k.first (slice_index (slice_set env g.var (truth_of g.first)) k.var) ≡ true
+    at : (b : Bool) → (g.var == k.var) ≡ b → ((g.var == k.var) && (if g.first then not k.first else k.first)) ≡ false → takes_branch k.first (slice_index env k.var) ≡ true → takes_branch k.first (slice_index (slice_set env g.var (truth_of g.first)) k.var) ≡ true
     at true e f i =
         let same = alike g.first k.first (sym (ap (λ x. x && (if g.first then not k.first else k.first)) e) ∙ f) in
         takes_truth k.first (slice_index (slice_set env g.var (truth_of g.first)) k.var)
         (ap (slice_index (slice_set env g.var (truth_of g.first))) (sym (eqb-true g.var k.var e)) ∙ get_or-set_same env g.var (truth_of g.first) 0 low ∙ ap truth_of same)
-    at false e f i = ap (takes k.first) (get_or-set_other env g.var k.var (truth_of g.first) 0 (λ j. eqb-false g.var k.var e (sym j))) ∙ i
+    at false e f i = ap (takes_branch k.first) (get_or-set_other env g.var k.var (truth_of g.first) 0 (λ j. eqb-false g.var k.var e (sym j))) ∙ i
 
-taken_for : (n : ℕ) (gs : List Guard) → above gs ≤ n → is_dead gs ≡ false → taken gs (values_for n gs) ≡ true
+taken_for : (n : ℕ) (gs : List Guard) → above gs ≤ n → is_dead gs ≡ false → all_hold gs (values_for n gs) ≡ true
 taken_for n [] low h = refl
 taken_for n (g ∷ gs) low h =
     let parts = or_parts (against g gs) (is_dead gs) h in
@@ -74,5 +74,5 @@ taken_for n (g ∷ gs) low h =
     (still_taken g gs (values_for n gs) (omega arith) parts.0 (taken_for n gs (omega arith) parts.1))
 
 -- so they are taken on some path
-pub some_path : (gs : List Guard) → is_dead gs ≡ false → (env : List ℕ) × (taken gs env ≡ true)
+pub some_path : (gs : List Guard) → is_dead gs ≡ false → (env : List ℕ) × (all_hold gs env ≡ true)
 some_path gs h = (values_for (above gs) gs, taken_for (above gs) gs (let i : above gs ≤ above gs = omega arith in i) h)

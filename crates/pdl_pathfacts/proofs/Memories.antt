@@ -5,14 +5,14 @@ use Rattle.std.proofs.lemmas.Bool.{false≢true, and_parts, or_parts, or_left, o
 use Rattle.std.specs.List.{list_any}
 use Rattle.pdl_semantics.specs.Tree.{LockKind, Queue, Bypass, Rename, LockDecl, Mem, Pipe}
 use Rattle.pdl_semantics.specs.Flat
-use Rattle.pdl_semantics.specs.Flatten.{mem_of, mems_of, lock_of, first_stage, first_stages}
+use Rattle.pdl_semantics.specs.Flatten.{mem_of, mems_of, flat_lock, first_stage, first_stages}
 use Rattle.pdl_semantics.specs.Stages.{plain_mem}
 use Rattle.pdl_semantics.specs.Locks.{has_room}
 use Rattle.pdl_kit.specs.declared.rule.Rule.TheVariants.{Z7, N2}
 use Rattle.pdl_rules.specs.Places.{Place, Parameter, Memory, statements, places}
 use Rattle.pdl_rules.specs.Parts
 use Rattle.pdl_rules.specs.Limits
-use Rattle.pdl_rules.specs.Limits.{is_size, is_width, is_depth, allows}
+use Rattle.pdl_rules.specs.Limits.{is_size, is_width, is_depth, allows_lock}
 use Rattle.pdl_rules.specs.Locks.{is_locked}
 use Rattle.pdl_rules.specs.Refusal.{KeepsRules}
 use Rattle.pdl_rules.specs.Typed.{is_memory, AreDistinct}
@@ -40,41 +40,41 @@ pub mems_length : (ms : List Mem) → length (mems_of ms) ≡ length ms
 mems_length [] = refl
 mems_length (m ∷ ms) = ap suc (mems_length ms)
 
--- the rest of the text behind these memories
-abbrev pub Behind : Pipe → List Place → List Mem → Type 0
-Behind p before ms = (later : List Place) × (places p ≡ before ++ (map Memory ms ++ later))
+-- the rest of the text after these memories
+abbrev pub After : Pipe → List Place → List Mem → Type 0
+After p before ms = (later : List Place) × (places p ≡ before ++ (map Memory ms ++ later))
 
-behind_next : (p : Pipe) (before : List Place) (m : Mem) (ms : List Mem) → Behind p before (m ∷ ms) → Behind p (before ++ Memory m ∷ []) ms
-behind_next p before m ms h = (h.0, h.1 ∙ sym (append_assoc before (Memory m ∷ []) (map Memory ms ++ h.0)))
+after_next : (p : Pipe) (before : List Place) (m : Mem) (ms : List Mem) → After p before (m ∷ ms) → After p (before ++ Memory m ∷ []) ms
+after_next p before m ms h = (h.0, h.1 ∙ sym (append_assoc before (Memory m ∷ []) (map Memory ms ++ h.0)))
 
-pub all_behind : (p : Pipe) → Behind p (map Parameter p.params) p.mems
-all_behind p = (
+pub all_after : (p : Pipe) → After p (map Parameter p.params) p.mems
+all_after p = (
   statements [] p.body ++ closing p,
   append_assoc (map Parameter p.params ++ map Memory p.mems) (statements [] p.body) (closing p) ∙ append_assoc (map Parameter p.params) (map Memory p.mems) (statements [] p.body ++ closing p),
 )
 
-not_again : (p : Pipe) → KeepsRules p → (n : List ℕ) (ms : List Mem) (before : List Place) → ((x : List ℕ) → bytes_eq x n ≡ true → list_any (takes_name x) before ≡ true) → Behind p before ms → is_memory ms n ≡ false
+not_again : (p : Pipe) → KeepsRules p → (n : List ℕ) (ms : List Mem) (before : List Place) → ((x : List ℕ) → bytes_eq x n ≡ true → list_any (takes_name x) before ≡ true) → After p before ms → is_memory ms n ≡ false
 not_again p rules n [] before h b = refl
 not_again p rules n (m ∷ ms) before h b =
     let free = (or_parts (bytes_eq m.name.name p.name.name) (list_any (takes_name m.name.name) before) (rules N2 before (Memory m) (map Memory ms ++ b.0) b.1)).1 in
     or_from (bytes_eq m.name.name n) (is_memory ms n)
     (false_from_ne_true (bytes_eq m.name.name n) (λ e. both_ways (list_any (takes_name m.name.name) before) free (h m.name.name e)))
-    (not_again p rules n ms (before ++ Memory m ∷ []) (λ x e. any_front (takes_name x) before (Memory m) (h x e)) (behind_next p before m ms b))
+    (not_again p rules n ms (before ++ Memory m ∷ []) (λ x e. any_front (takes_name x) before (Memory m) (h x e)) (after_next p before m ms b))
 
-pub distinct : (p : Pipe) → KeepsRules p → (ms : List Mem) (before : List Place) → Behind p before ms → AreDistinct ms
+pub distinct : (p : Pipe) → KeepsRules p → (ms : List Mem) (before : List Place) → After p before ms → AreDistinct ms
 distinct p rules [] before b = tt
 distinct p rules (m ∷ ms) before b = (
-  not_again p rules m.name.name ms (before ++ Memory m ∷ []) (λ x e. any_last (takes_name x) before (Memory m) e) (behind_next p before m ms b),
-  distinct p rules ms (before ++ Memory m ∷ []) (behind_next p before m ms b),
+  not_again p rules m.name.name ms (before ++ Memory m ∷ []) (λ x e. any_last (takes_name x) before (Memory m) e) (after_next p before m ms b),
+  distinct p rules ms (before ++ Memory m ∷ []) (after_next p before m ms b),
 )
 
 -- LOCKS
 
-plain_lock : (l : Option LockDecl) → is_plain (lock_of l) ≡ not (is_some l)
+plain_lock : (l : Option LockDecl) → is_plain (flat_lock l) ≡ not (is_some l)
 plain_lock None = refl
 plain_lock (Some l) = at l.kind
   where
-    at : (k : LockKind) → is_plain (lock_of (Some (record l { kind = k }))) ≡ false
+    at : (k : LockKind) → is_plain (flat_lock (Some (record l { kind = k }))) ≡ false
     at Queue = refl
     at Bypass = refl
     at Rename = refl
@@ -92,25 +92,25 @@ sized : (n : ℕ) → is_size n ≡ true → nat_lt 0 n ≡ true
 sized zero h = absurd (false≢true h)
 sized (suc n) h = lt-ltb 0 (suc n) (omega arith)
 
-room_lock : (l : Option LockDecl) → ((d : LockDecl) → l ≡ Some d → is_size d.size.value ≡ true) → has_room (lock_of l) 0 ≡ true
+room_lock : (l : Option LockDecl) → ((d : LockDecl) → l ≡ Some d → is_size d.size.value ≡ true) → has_room (flat_lock l) 0 ≡ true
 room_lock None f = refl
 room_lock (Some l) f = at l.kind (sized l.size.value (f l refl))
   where
-    at : (k : LockKind) → nat_lt 0 l.size.value ≡ true → has_room (lock_of (Some (record l { kind = k }))) 0 ≡ true
+    at : (k : LockKind) → nat_lt 0 l.size.value ≡ true → has_room (flat_lock (Some (record l { kind = k }))) 0 ≡ true
     at Queue h = h
     at Bypass h = h
     at Rename h = h
 
-pub rooms : (p : Pipe) → KeepsRules p → (ms : List Mem) (before : List Place) (i : ℕ) → Behind p before ms → has_room (slice_index_or (mems_of ms) i plain_mem).lock 0 ≡ true
+pub rooms : (p : Pipe) → KeepsRules p → (ms : List Mem) (before : List Place) (i : ℕ) → After p before ms → has_room (slice_index_or (mems_of ms) i plain_mem).lock 0 ≡ true
 rooms p rules [] before i b = refl
 rooms p rules (m ∷ ms) before zero b = room_lock m.lock size_of
   where
     size_of : (d : LockDecl) → m.lock ≡ Some d → is_size d.size.value ≡ true
     size_of d e =
-        let wrong = (or_parts (not (is_width m.width.value && is_depth m.depth.value)) (Parts.passes (Limits.is_wrong_lock m) m.lock) (rules Z7 before (Memory m) (map Memory ms ++ b.0) b.1)).1 in
-        let h : not (is_size d.size.value && allows m.depth.value m.delayed d.kind d.size.value) ≡ false = sym (ap (Parts.passes (Limits.is_wrong_lock m)) e) ∙ wrong in
+        let wrong = (or_parts (not (is_width m.width.value && is_depth m.depth.value)) (Parts.is_some_and (Limits.is_wrong_lock m) m.lock) (rules Z7 before (Memory m) (map Memory ms ++ b.0) b.1)).1 in
+        let h : not (is_size d.size.value && allows_lock m.depth.value m.delayed d.kind d.size.value) ≡ false = sym (ap (Parts.is_some_and (Limits.is_wrong_lock m)) e) ∙ wrong in
         (and_parts (is_size d.size.value) _ (not-false _ h)).0
-rooms p rules (m ∷ ms) before (suc i) b = rooms p rules ms (before ++ Memory m ∷ []) i (behind_next p before m ms b)
+rooms p rules (m ∷ ms) before (suc i) b = rooms p rules ms (before ++ Memory m ∷ []) i (after_next p before m ms b)
 
 -- STAGES
 

@@ -35,7 +35,7 @@ in_same (y ∷ ys) a b h k e = at (bytes_eq y a) refl (bytes_eq y b) refl h k e 
     at false e true f h k g rest = absurd (let i : suc (place_of ys a) ≡ 0 = g in omega arith)
     at false e false f h k g rest = rest h k (let i : suc (place_of ys a) ≡ suc (place_of ys b) = g in omega arith)
 
--- a number stays where names are added behind
+-- a number stays where names are added after
 pub in_stays : (ys zs : List (List ℕ)) (x : List ℕ) → is_in ys x ≡ true → place_of (ys ++ zs) x ≡ place_of ys x
 in_stays [] zs x h = absurd (false≢true h)
 in_stays (y ∷ ys) zs x h = at (bytes_eq y x) h (in_stays ys zs x)

@@ -15,7 +15,7 @@ use Rattle.pdl_stagefacts.proofs.Walks.{holds_all, guard_stage, guard_begun, pas
 use Rattle.pdl_stagefacts.proofs.Shapes.{is_whole, is_plain, is_forked, fork_fits, begins_stage}
 use Rattle.pdl_pathfacts.proofs.Along.{on_sites}
 
--- behind stage k, which a separator leaves behind
+-- after stage k, which a separator leaves after
 abbrev pub Next : Bool → ℕ → ℕ → (ℕ → Type 0) → Type 0
 Next true k s R = R (suc k)
 Next false k s R = (k ≤ s) × R s
@@ -67,7 +67,7 @@ none_left a b h = (omega arith, omega arith)
 
 module _ (ms : List Mem) (c : List Guard) where
   mutual
-    flat_in : (front : List Place) (w : Flatten.Place) (gs : List Flat.Guard) (bs : List Branch) (s : Stmt) → separators_in s ≡ 0 → Rises w.stage (on_sites c (sites_in ms front w gs bs s)) w.stage
+    flat_in : (front : List Place) (w : Flatten.Position) (gs : List Flat.Guard) (bs : List Branch) (s : Stmt) → separators_in s ≡ 0 → Rises w.stage (on_sites c (sites_in ms front w gs bs s)) w.stage
     flat_in front w gs bs (Separator sp) h = absurd (omega arith)
     flat_in front w gs bs (If sp e when otherwise) h =
         let none = none_left (separators when) (separators otherwise) h in
@@ -85,7 +85,7 @@ module _ (ms : List Mem) (c : List Guard) where
         ys = sites ms (front ++ Statement (If sp e when otherwise) bs ∷ statements (bs ++ branch sp e true when ∷ []) when) (at_otherwise ms e when w) (under gs w.vars e false) (bs ++ branch sp e false otherwise ∷ []) otherwise
     flat_in front w gs bs s h = one_on c w.stage w.stage (Sites.site front w gs bs s) (omega arith) refl refl
 
-    flat_all : (front : List Place) (w : Flatten.Place) (gs : List Flat.Guard) (bs : List Branch) (ss : Stmts) → separators ss ≡ 0 → Rises w.stage (on_sites c (sites ms front w gs bs ss)) w.stage
+    flat_all : (front : List Place) (w : Flatten.Position) (gs : List Flat.Guard) (bs : List Branch) (ss : Stmts) → separators ss ≡ 0 → Rises w.stage (on_sites c (sites ms front w gs bs ss)) w.stage
     flat_all front w gs bs Nil h = omega arith
     flat_all front w gs bs (Cons s ss) h =
         let none = none_left (separators_in s) (separators ss) h in
@@ -101,7 +101,7 @@ module _ (ms : List Mem) (c : List Guard) where
 -- BRANCHES
 
 -- nothing of a branch that isn't taken stands on the path
-off : (ms : List Mem) (c : List Guard) (front : List Place) (w : Flatten.Place) (gs : List Flat.Guard) (bs : List Branch) (ss : Stmts) → list_all (is_taken c) bs ≡ false → on_sites c (sites ms front w gs bs ss) ≡ []
+off : (ms : List Mem) (c : List Guard) (front : List Place) (w : Flatten.Position) (gs : List Flat.Guard) (bs : List Branch) (ss : Stmts) → list_all (is_taken c) bs ≡ false → on_sites c (sites ms front w gs bs ss) ≡ []
 off ms c front w gs bs ss h =
     none (sites ms front w gs bs ss)
     (holds_all ms (λ front w gs bs. list_all (is_taken c) bs ≡ false) (λ front w gs bs s i. i)
@@ -126,8 +126,8 @@ one_off c sp e when otherwise bs = at (is_among (guard_of sp e) c) refl
     at false h = inl (list_all-append (is_taken c) bs (branch sp e true when ∷ []) ∙ ap (λ b. list_all (is_taken c) bs && (b && true)) h ∙ no_more (list_all (is_taken c) bs))
 
 module _ (ms : List Mem) (c : List Guard) where
-  -- a statement that begins no stage, and others behind it
-  flat_then : (k end : ℕ) (front : List Place) (w : Flatten.Place) (gs : List Flat.Guard) (bs : List Branch) (s : Stmt) (ss : Stmts) → separators_in s ≡ 0 → k ≤ w.stage
+  -- a statement that begins no stage, and others after it
+  flat_then : (k end : ℕ) (front : List Place) (w : Flatten.Position) (gs : List Flat.Guard) (bs : List Branch) (s : Stmt) (ss : Stmts) → separators_in s ≡ 0 → k ≤ w.stage
       → Rises w.stage (on_sites c (sites ms (front ++ with_inner bs s) (past ms s w) gs bs ss)) end → Rises k (on_sites c (sites ms front w gs bs (Cons s ss))) end
   flat_then k end front w gs bs s ss h low rest =
       subst (λ l. Rises k l end) (sym (on_append c (sites_in ms front w gs bs s) (sites ms (front ++ with_inner bs s) (past ms s w) gs bs ss)))
@@ -135,7 +135,7 @@ module _ (ms : List Mem) (c : List Guard) where
       (rises_from k w.stage w.stage (on_sites c (sites_in ms front w gs bs s)) low (flat_in ms c front w gs bs s h)) rest)
 
   -- a separator
-  cut_then : (k end : ℕ) (front : List Place) (w : Flatten.Place) (gs : List Flat.Guard) (bs : List Branch) (sp : Span) (ss : Stmts)
+  cut_then : (k end : ℕ) (front : List Place) (w : Flatten.Position) (gs : List Flat.Guard) (bs : List Branch) (sp : Span) (ss : Stmts)
       → Rises (suc k) (on_sites c (sites ms (front ++ Statement (Separator sp) bs ∷ []) (past ms (Separator sp) w) gs bs ss)) end → Rises k (on_sites c (sites ms front w gs bs (Cons (Separator sp) ss))) end
   cut_then k end front w gs bs sp ss rest = at (on_path c (Statement (Separator sp) bs))
     where
@@ -144,7 +144,7 @@ module _ (ms : List Mem) (c : List Guard) where
       at false = rises_from k (suc k) end (on_sites c (sites ms (front ++ Statement (Separator sp) bs ∷ []) (past ms (Separator sp) w) gs bs ss)) (omega arith) rest
 
   -- statements that hold no fork
-  plain_rises : (k : ℕ) (front : List Place) (w : Flatten.Place) (gs : List Flat.Guard) (bs : List Branch) (ss : Stmts) → is_plain ss ≡ true → k ≤ w.stage → w.stage ≤ w.begun
+  plain_rises : (k : ℕ) (front : List Place) (w : Flatten.Position) (gs : List Flat.Guard) (bs : List Branch) (ss : Stmts) → is_plain ss ≡ true → k ≤ w.stage → w.stage ≤ w.begun
       → Rises k (on_sites c (sites ms front w gs bs ss)) (past_all ms ss w).begun
   plain_rises k front w gs bs Nil h low up = omega arith
   plain_rises k front w gs bs (Cons (Separator sp) ss) h low up =
@@ -161,19 +161,19 @@ module _ (ms : List Mem) (c : List Guard) where
       (plain_rises w.stage (front ++ with_inner bs s) (past ms s w) gs bs ss h (let i : w.stage ≤ w.stage = omega arith in i) up)
 
   -- a body: where a fork stands before, a separator follows
-  abbrev Ready : ℕ → Flatten.Place → Stmts → Type 0
+  abbrev Ready : ℕ → Flatten.Position → Stmts → Type 0
   Ready k w ss = (k ≤ w.stage) ⊎ ((k ≤ w.begun) × (begins_stage ss ≡ true))
 
-  low_begun : (k : ℕ) (w : Flatten.Place) (ss : Stmts) → Ready k w ss → w.stage ≤ w.begun → k ≤ w.begun
+  low_begun : (k : ℕ) (w : Flatten.Position) (ss : Stmts) → Ready k w ss → w.stage ≤ w.begun → k ≤ w.begun
   low_begun k w ss (inl h) up = omega arith
   low_begun k w ss (inr h) up = h.0
 
-  low_stage : (k : ℕ) (w : Flatten.Place) (ss : Stmts) → Ready k w ss → begins_stage ss ≡ false → k ≤ w.stage
+  low_stage : (k : ℕ) (w : Flatten.Position) (ss : Stmts) → Ready k w ss → begins_stage ss ≡ false → k ≤ w.stage
   low_stage k w ss (inl h) e = h
   low_stage k w ss (inr h) e = absurd (false≢true (sym e ∙ h.1))
 
   -- the branches of a fork
-  branch_rises : (front : List Place) (w : Flatten.Place) (gs : List Flat.Guard) (bs : List Branch) (sp : Span) (e : Expr) (when otherwise : Stmts) → is_plain when ≡ true → is_plain otherwise ≡ true → w.stage ≤ w.begun
+  branch_rises : (front : List Place) (w : Flatten.Position) (gs : List Flat.Guard) (bs : List Branch) (sp : Span) (e : Expr) (when otherwise : Stmts) → is_plain when ≡ true → is_plain otherwise ≡ true → w.stage ≤ w.begun
       → Rises w.stage (on_sites c (sites_in ms front w gs bs (If sp e when otherwise))) (past ms (If sp e when otherwise) w).begun
   branch_rises front w gs bs sp e when otherwise h i up =
       subst (λ l. Rises w.stage l end) (sym (on_append c (Sites.site front w gs bs (If sp e when otherwise) ∷ []) (xs ++ ys) ∙ ap (λ l. on_sites c (Sites.site front w gs bs (If sp e when otherwise) ∷ []) ++ l) (on_append c xs ys)))
@@ -214,7 +214,7 @@ module _ (ms : List Mem) (c : List Guard) where
           (subst (λ l. Rises (past_all ms when (with_guard e w)).begun l end)
           (sym (off ms c (front ++ Statement (If sp e when otherwise) bs ∷ statements (bs ++ branch sp e true when ∷ []) when) (at_otherwise ms e when w) (under gs w.vars e false) (bs ++ branch sp e false otherwise ∷ []) otherwise f)) high)
 
-  body_rises : (k : ℕ) (front : List Place) (w : Flatten.Place) (ss : Stmts) → is_forked ss ≡ true → Ready k w ss → w.stage ≤ w.begun → Rises k (on_sites c (sites ms front w [] [] ss)) (past_all ms ss w).begun
+  body_rises : (k : ℕ) (front : List Place) (w : Flatten.Position) (ss : Stmts) → is_forked ss ≡ true → Ready k w ss → w.stage ≤ w.begun → Rises k (on_sites c (sites ms front w [] [] ss)) (past_all ms ss w).begun
   body_rises k front w Nil h low up = low_begun k w Nil low up
   body_rises k front w (Cons (Separator sp) ss) h low up =
       cut_then k (past_all ms ss (past ms (Separator sp) w)).begun front w [] [] sp ss
@@ -225,7 +225,7 @@ module _ (ms : List Mem) (c : List Guard) where
       by (is_whole when otherwise) refl parts.0 (low_stage k w (Cons (If sp e when otherwise) ss) low refl)
       (λ l r. body_rises l (front ++ with_inner [] (If sp e when otherwise)) (past ms (If sp e when otherwise) w) ss parts.1 r (omega arith))
     where
-      w2 : Flatten.Place
+      w2 : Flatten.Position
       w2 = past ms (If sp e when otherwise) w
 
       rest : List Site

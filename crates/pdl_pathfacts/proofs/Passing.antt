@@ -11,9 +11,9 @@ use Rattle.pdl_semantics.specs.Sound.{all_below}
 use Rattle.pdl_kit.specs.declared.rule.Rule.TheVariants.{F5}
 use Rattle.pdl_rules.specs.Places.{Place, Parameter, Memory, Statement, End, StartClause, Guard, statements, places, on_path}
 use Rattle.pdl_rules.specs.Locks
-use Rattle.pdl_rules.specs.Locks.{is_locked, reserves, writes, reserves_location}
+use Rattle.pdl_rules.specs.Locks.{is_locked, is_reserve_of, is_write_of, reserves_location}
 use Rattle.pdl_rules.specs.Stages.{reserves_memory, releases_memory}
-use Rattle.pdl_rules.specs.Names.{OfGuess, defines}
+use Rattle.pdl_rules.specs.Names.{OfGuess, defines_use}
 use Rattle.pdl_rules.specs.Calls.{is_call, is_wrong_call}
 use Rattle.pdl_rules.specs.Speculation
 use Rattle.pdl_rules.specs.Refusal.{KeepsRules}
@@ -23,7 +23,7 @@ use Rattle.pdl_facts.specs.Scans.{is_plain, none_of, all_at, reads_ok, no_scan, 
 use Rattle.pdl_derived.specs.Alone
 use Rattle.pdl_facts.specs.Certain
 use Rattle.pdl_facts.specs.Certain.{Unmade, makings_ok, making_all, is_made, all_sure}
-use Rattle.pdl_facts.specs.Checks.{knows, mem_passes, path_passes, lock_passes, locks_pass}
+use Rattle.pdl_facts.specs.Checks.{knows_memory, mem_passes, path_passes, lock_passes, locks_pass}
 use Rattle.pdl_facts.specs.Facts.{looked_all, at_once}
 use Rattle.pdl_facts.proofs.Passes.{Parts}
 use Rattle.pdl_stagefacts.proofs.Sites.{Site, sites_of, front_of, closing, place_of, owns, All, stmts_are}
@@ -50,7 +50,7 @@ use Rattle.pdl_pathfacts.proofs.Scanning
 use Rattle.pdl_pathfacts.proofs.Scanning.{Known, order_along, inside_along, reads_along, writes_along, makings_along, sure_along, ops_all}
 use Rattle.pdl_pathfacts.proofs.Guesses
 use Rattle.pdl_pathfacts.proofs.Guesses.{all_asked, verified_end}
-use Rattle.pdl_pathfacts.proofs.Memories.{at_number, mems_length, all_behind, distinct, lock_tells, rooms, stages_length, stage_at, first_none}
+use Rattle.pdl_pathfacts.proofs.Memories.{at_number, mems_length, all_after, distinct, lock_tells, rooms, stages_length, stage_at, first_none}
 use Rattle.pdl_pathfacts.proofs.Seen
 use Rattle.pdl_word.proofs.Bytes.{bytes_same}
 
@@ -223,7 +223,7 @@ module _ (p : Pipe) (rules : KeepsRules p) where
     called : Guesses.Called p rules v staged verify_home (front_of p)
     called = record {
       few = let z = count_none is_call (front_of p) (none_front p is_call (λ a. refl) (λ m. refl)) in omega arith;
-      once = λ g e. absurd (both_ways _ (none_front p (defines (OfGuess g)) (λ a. refl) (λ m. refl)) e);
+      once = λ g e. absurd (both_ways _ (none_front p (defines_use (OfGuess g)) (λ a. refl) (λ m. refl)) e);
     }
 
     -- THE SCANS
@@ -235,10 +235,10 @@ module _ (p : Pipe) (rules : KeepsRules p) where
 
     writes_pass : (i : ℕ) → i < length p.mems → (phases_ok i Fresh (seen p.mems ts) ≡ true) × (is_over (phase_all i Fresh (seen p.mems ts)) ≡ true)
     writes_pass i low =
-        let n = at_number p.mems i (distinct p rules p.mems (map Parameter p.params) (all_behind p)) low in
+        let n = at_number p.mems i (distinct p rules p.mems (map Parameter p.params) (all_after p)) low in
         subst (λ k. (phases_ok k Fresh (seen p.mems ts) ≡ true) × (is_over (phase_all k Fresh (seen p.mems ts)) ≡ true)) n.2
         (writes_along p q lock_is n.0 n.1 (params_of p.params) _ (front_of p) Fresh ts known (grows_on p.mems c (params_of p.params) _ (sites_of p) (grows_all p)) each backed
-        (none_front p (reserves W n.0) (λ a. refl) (λ m. refl), none_front p (writes n.0) (λ a. refl) (λ m. refl)))
+        (none_front p (is_reserve_of W n.0) (λ a. refl) (λ m. refl), none_front p (is_write_of n.0) (λ a. refl) (λ m. refl)))
 
     plain_or : (m : ℕ) (b : Bool) → (is_plain (mem_at q m).lock ≡ true → b ≡ true) → (not (is_plain (mem_at q m).lock) || b) ≡ true
     plain_or m b f = ⊎_elim (λ t. or_right (not (is_plain (mem_at q m).lock)) b (f t)) (λ t. or_left (not (is_plain (mem_at q m).lock)) b (ap not t)) (cases_Bool (is_plain (mem_at q m).lock))
@@ -279,10 +279,10 @@ module _ (p : Pipe) (rules : KeepsRules p) where
         sure_along p q lock_is o (params_of p.params) _ (front_of p) no_scan false ts known (grows_on p.mems c (params_of p.params) _ (sites_of p) (grows_all p)) each
         (Guesses.all_sure p rules v staged verify_home (front_of p) ts on told) scanned (none_front p Speculation.is_barrier (λ a. refl) (λ m. refl))
 
-    knows_pass : Flat.list_all (λ (x : Flat.Stmt). knows (length q.mems) x.op) (seen p.mems ts) ≡ true
+    knows_pass : Flat.list_all (λ (x : Flat.Stmt). knows_memory (length q.mems) x.op) (seen p.mems ts) ≡ true
     knows_pass =
-        subst (λ n. Flat.list_all (λ (x : Flat.Stmt). knows n x.op) (seen p.mems ts) ≡ true) (sym (mems_length p.mems))
-        (Seen.all_seen (knows (length p.mems)) p.mems ts (all_map (Known p q) (λ t. ops_all (λ op. knows (length p.mems) (Alone.looked op)) (ops p.mems t) ≡ true) (λ t h. Seen.knows_all p.mems t.walk.vars t.stmt (λ at e. (h.located at e).0)) ts known))
+        subst (λ n. Flat.list_all (λ (x : Flat.Stmt). knows_memory n x.op) (seen p.mems ts) ≡ true) (sym (mems_length p.mems))
+        (Seen.all_seen (knows_memory (length p.mems)) p.mems ts (all_map (Known p q) (λ t. ops_all (λ op. knows_memory (length p.mems) (Alone.answered_op op)) (ops p.mems t) ≡ true) (λ t h. Seen.knows_all p.mems t.walk.vars t.stmt (λ at e. (h.located at e).0)) ts known))
 
     pub path_ok : path_passes q (onpath path q.stmts) ≡ true
     path_ok =
@@ -299,7 +299,7 @@ module _ (p : Pipe) (rules : KeepsRules p) where
 
   lock_ok : (m : ℕ) → m < length p.mems → lock_passes q m ≡ true
   lock_ok m low =
-      and_from _ _ (rooms p rules p.mems (map Parameter p.params) m (all_behind p))
+      and_from _ _ (rooms p rules p.mems (map Parameter p.params) m (all_after p))
       (and_from _ _ (Seen.all_looked (is_reserve m) (Seen.reserve_blind m) (reserve_stage q m) (flat p).stmts ∙ reserves_in p rules m)
       (and_from _ _ (Seen.all_looked (is_release m) (Seen.release_blind m) (commit_stage q m) (flat p).stmts ∙ releases_in p rules m)
       (⊎_elim
@@ -324,10 +324,10 @@ module _ (p : Pipe) (rules : KeepsRules p) where
     some = let e = stage_count p (body_forked p rules) in omega arith;
     locks = locks_ok;
     known =
-        subst (λ n. Flat.list_all (λ (x : Flat.Stmt). knows n x.op) q.stmts ≡ true) (sym (mems_length p.mems))
-        (ap (λ l. Flat.list_all (λ (x : Flat.Stmt). knows (length p.mems) x.op) (looked_all l)) (stmts_are p)
-        ∙ Seen.all_text (knows (length p.mems)) p.mems (sites_of p)
-        (all_map (Here p) (λ t. ops_all (λ op. knows (length p.mems) (Alone.looked op)) (ops p.mems t) ≡ true) (λ t h. Seen.knows_all p.mems t.walk.vars t.stmt (λ at e. (located p rules t h at e).0)) (sites_of p) (all_here p)));
+        subst (λ n. Flat.list_all (λ (x : Flat.Stmt). knows_memory n x.op) q.stmts ≡ true) (sym (mems_length p.mems))
+        (ap (λ l. Flat.list_all (λ (x : Flat.Stmt). knows_memory (length p.mems) x.op) (looked_all l)) (stmts_are p)
+        ∙ Seen.all_text (knows_memory (length p.mems)) p.mems (sites_of p)
+        (all_map (Here p) (λ t. ops_all (λ op. knows_memory (length p.mems) (Alone.answered_op op)) (ops p.mems t) ≡ true) (λ t h. Seen.knows_all p.mems t.walk.vars t.stmt (λ at e. (located p rules t h at e).0)) (sites_of p) (all_here p)));
     unfetched = Seen.unfetched (flat p).stmts;
     below =
         Seen.below_verify (length q.stages) (flat p).stmts

@@ -4,7 +4,7 @@ use Rattle.std.proofs.lemmas.Bool.{false≢true, and_parts, or_parts, or_left, o
 use Rattle.std.proofs.lemmas.List.Folds.{list_any-append}
 use Rattle.std.specs.List.{list_any, list_all}
 use Rattle.pdl_semantics.specs.Tree.{Span, Ident, Stmts, Expr, Constant, Variable, Slice, Not, Binary, Cat, LessSigned, ZeroExtend, SignExtend, Choose, Stmt, If, Param, Mem, Pipe}
-use Rattle.pdl_semantics.specs.Flat.{taken, takes}
+use Rattle.pdl_semantics.specs.Flat.{all_hold, takes_branch}
 use Rattle.pdl_semantics.specs.Flatten.{Var, var_of}
 use Rattle.pdl_semantics.specs.Flatten
 use Rattle.pdl_kit.specs.declared.rule.Rule.TheVariants.{N3}
@@ -19,7 +19,7 @@ use Rattle.pdl_pathfacts.specs.Source.{begins_at, own_start, is_new, are_apart}
 use Rattle.pdl_pathfacts.proofs.Choices.{path_of, among_chosen, if_among}
 use Rattle.pdl_pathfacts.proofs.Along.{Alike}
 use Rattle.pdl_pathfacts.proofs.Numbers.{place_of, in_stays, var_place}
-use Rattle.pdl_pathfacts.proofs.Variables.{Here, all_here, Behind, known, named_is, told_is}
+use Rattle.pdl_pathfacts.proofs.Variables.{Here, all_here, After, known, named_is, told_is}
 
 -- BEHIND THE MEMORIES
 
@@ -47,9 +47,9 @@ none_params [] [] = refl
 none_params [] (m ∷ ms) = none_params [] ms
 none_params (a ∷ ps) ms = none_params ps ms
 
--- a statement stands behind the parameters and the memories
-pub behind_of : (p : Pipe) (hf later : List Place) (s : Stmt) (bs : List Branch) → places p ≡ hf ++ Statement s bs ∷ later → Behind p hf
-behind_of p hf later s bs e =
+-- a statement stands after the parameters and the memories
+pub after_of : (p : Pipe) (hf later : List Place) (s : Stmt) (bs : List Branch) → places p ≡ hf ++ Statement s bs ∷ later → After p hf
+after_of p hf later s bs e =
     split_front (front_of p) (statements [] p.body ++ closing p) hf later s bs (none_params p.params p.mems) (sym (append_assoc (front_of p) (statements [] p.body) (closing p)) ∙ e)
 
 -- THE VALUES OF GUARDS
@@ -96,7 +96,7 @@ apart_before n (y ∷ before) later x h e =
 
 module _ (p : Pipe) (rules : KeepsRules p) (apart : are_apart (places p) ≡ true) (path : List ℕ) where
   -- the guard of each `if` has the value of its variable
-  agrees : (hf later : List Place) (w : Flatten.Place) (bs : List Branch) (s : Span) (c : Expr) (when otherwise : Stmts) → places p ≡ hf ++ Statement (If s c when otherwise) bs ∷ later → Named hf w
+  agrees : (hf later : List Place) (w : Flatten.Position) (bs : List Branch) (s : Span) (c : Expr) (when otherwise : Stmts) → places p ≡ hf ++ Statement (If s c when otherwise) bs ∷ later → Named hf w
       → is_among (guard_of s c) (path_of p (value p path)) ≡ (slice_index path (Flatten.guard_of w.vars c) == 1)
   agrees hf later w bs s c when otherwise e named =
       among_chosen (value p path) (guard_of s c) (guards (places p)) (subst (λ l. is_among (guard_of s c) (guards l) ≡ true) (sym e) (if_among s c when otherwise bs hf later []))
@@ -115,7 +115,7 @@ module _ (p : Pipe) (rules : KeepsRules p) (apart : are_apart (places p) ≡ tru
           let e2 = subst (λ (d : Expr). places p ≡ hf ++ Statement (If s d when otherwise) bs ∷ later) same e in
           let early = is_too_early p hf (Statement (If s (Variable x) when otherwise) bs) in
           let unused : some_use early (Statement (If s (Variable x) when otherwise) bs) ≡ false = rules N3 hf (Statement (If s (Variable x) when otherwise) bs) later e2 in
-          let there = known p hf w (Statement (If s (Variable x) when otherwise) bs) x.name (behind_of p hf later (If s (Variable x) when otherwise) bs e2) named unused in
+          let there = known p hf w (Statement (If s (Variable x) when otherwise) bs) x.name (after_of p hf later (If s (Variable x) when otherwise) bs e2) named unused in
           ap (λ n. slice_index path n == 1)
           (ap (λ l. place_of l x.name) (ap names e2 ∙ names_append hf (Statement (If s (Variable x) when otherwise) bs ∷ later))
           ∙ in_stays (names hf) (names (Statement (If s (Variable x) when otherwise) bs ∷ later)) x.name (sym (named_is hf w x.name named) ∙ there)
@@ -133,11 +133,11 @@ module _ (p : Pipe) (rules : KeepsRules p) (apart : are_apart (places p) ≡ tru
       at (SignExtend a n) same = own (SignExtend a n) same (eq-eqb s.start s.start refl)
       at (Choose d a b) same = own (Choose d a b) same (eq-eqb s.start s.start refl)
 
-  branch_alike : (first a b : Bool) (n : ℕ) → a ≡ (n == 1) → takes first n ≡ same_truth first a
+  branch_alike : (first a b : Bool) (n : ℕ) → a ≡ (n == 1) → takes_branch first n ≡ same_truth first a
   branch_alike true a b n e = sym e
   branch_alike false a b n e = ap not (sym e)
 
-  choices_alike : (front later : List Place) → places p ≡ front ++ later → (hs : List Choice) → AllChosen front hs → taken (map flat_guard hs) path ≡ list_all (is_taken (path_of p (value p path))) (map rule_branch hs)
+  choices_alike : (front later : List Place) → places p ≡ front ++ later → (hs : List Choice) → AllChosen front hs → all_hold (map flat_guard hs) path ≡ list_all (is_taken (path_of p (value p path))) (map rule_branch hs)
   choices_alike front later e [] k = refl
   choices_alike front later e (h ∷ hs) k =
       ap₂ (λ a b. a && b)
@@ -147,7 +147,7 @@ module _ (p : Pipe) (rules : KeepsRules p) (apart : are_apart (places p) ≡ tru
 
   site_alike : (t : Site) → Here p t → Alike path (path_of p (value p path)) t
   site_alike t h =
-      ap (λ gs. taken gs path) h.at.under.guards_are
+      ap (λ gs. all_hold gs path) h.at.under.guards_are
       ∙ choices_alike t.front (place_of_site t ∷ h.later) h.whole h.at.under.choices h.at.under.chosen
       ∙ sym (ap (λ bs. list_all (is_taken (path_of p (value p path))) bs) h.at.under.branches_are)
     where

@@ -7,9 +7,9 @@ use Rattle.pdl_semantics.specs.Flatten.{Var, mem_of}
 use Rattle.pdl_semantics.specs.Stages.{is_reserve, is_release, is_verify, verify_stage}
 use Rattle.pdl_rules.specs.Parts.{location_of}
 use Rattle.pdl_rules.specs.Typed.{is_memory}
-use Rattle.pdl_derived.specs.Alone.{looked}
+use Rattle.pdl_derived.specs.Alone.{answered_op}
 use Rattle.pdl_facts.specs.Scans.{none_of, all_at, is_fetch}
-use Rattle.pdl_facts.specs.Checks.{knows, is_below}
+use Rattle.pdl_facts.specs.Checks.{knows_memory, is_below}
 use Rattle.pdl_facts.specs.Facts.{looked_all}
 use Rattle.pdl_stagefacts.proofs.Sites.{Site, own, owns, All}
 use Rattle.pdl_pathfacts.proofs.Along.{ops_of, ops, stmts_at, own_is, seen_ops, seen, looked_append}
@@ -19,7 +19,7 @@ use Rattle.pdl_pathfacts.proofs.Scanning.{ops_all, list_append}
 
 -- a test that takes a delayed read for a read
 abbrev pub Blind : (Flat.Op → Bool) → Type 0
-Blind test = (op : Flat.Op) → test (looked op) ≡ test op
+Blind test = (op : Flat.Op) → test (answered_op op) ≡ test op
 
 pub reserve_blind : (i : ℕ) → Blind (is_reserve i)
 reserve_blind i (Flat.DelayedRead x m a) = refl
@@ -47,7 +47,7 @@ pub unfetched : (xs : List Flat.Stmt) → none_of is_fetch (looked_all xs) ≡ t
 unfetched [] = refl
 unfetched (x ∷ xs) = and_from _ _ (here x.op) (unfetched xs)
   where
-    here : (op : Flat.Op) → not (is_fetch (looked op)) ≡ true
+    here : (op : Flat.Op) → not (is_fetch (answered_op op)) ≡ true
     here (Flat.DelayedRead x m a) = refl
     here _ = refl
 
@@ -64,11 +64,11 @@ pub below_verify : (n : ℕ) (xs : List Flat.Stmt) → Flat.list_all (λ (x : Fl
 below_verify n xs h = ap (is_below n) (verify_looked xs) ∙ below_text n xs h
 
 -- each operation passes a test
-ops_text : (test : Flat.Op → Bool) (k : ℕ) (gs : List Flat.Guard) (os : List Flat.Op) → ops_all (λ op. test (looked op)) os ≡ true → Flat.list_all (λ (x : Flat.Stmt). test x.op) (looked_all (stmts_at k gs os)) ≡ true
+ops_text : (test : Flat.Op → Bool) (k : ℕ) (gs : List Flat.Guard) (os : List Flat.Op) → ops_all (λ op. test (answered_op op)) os ≡ true → Flat.list_all (λ (x : Flat.Stmt). test x.op) (looked_all (stmts_at k gs os)) ≡ true
 ops_text test k gs [] h = refl
-ops_text test k gs (op ∷ os) h = let parts = and_parts (test (looked op)) (ops_all (λ op. test (looked op)) os) h in and_from _ _ parts.0 (ops_text test k gs os parts.1)
+ops_text test k gs (op ∷ os) h = let parts = and_parts (test (answered_op op)) (ops_all (λ op. test (answered_op op)) os) h in and_from _ _ parts.0 (ops_text test k gs os parts.1)
 
-pub all_text : (test : Flat.Op → Bool) (ms : List Mem) (ts : List Site) → All (λ t. ops_all (λ op. test (looked op)) (ops ms t) ≡ true) ts → Flat.list_all (λ (x : Flat.Stmt). test x.op) (looked_all (owns ms ts)) ≡ true
+pub all_text : (test : Flat.Op → Bool) (ms : List Mem) (ts : List Site) → All (λ t. ops_all (λ op. test (answered_op op)) (ops ms t) ≡ true) ts → Flat.list_all (λ (x : Flat.Stmt). test x.op) (looked_all (owns ms ts)) ≡ true
 all_text test ms [] h = refl
 all_text test ms (t ∷ ts) h =
     ap (Flat.list_all (λ (x : Flat.Stmt). test x.op)) (looked_append (own ms t) (owns ms ts))
@@ -87,11 +87,11 @@ inside_text n ms (t ∷ ts) h =
 
 -- ON A PATH
 
-seen_test : (test : Flat.Op → Bool) (k : ℕ) (os : List Flat.Op) → ops_all (λ op. test (looked op)) os ≡ true → Flat.list_all (λ (x : Flat.Stmt). test x.op) (seen_ops k os) ≡ true
+seen_test : (test : Flat.Op → Bool) (k : ℕ) (os : List Flat.Op) → ops_all (λ op. test (answered_op op)) os ≡ true → Flat.list_all (λ (x : Flat.Stmt). test x.op) (seen_ops k os) ≡ true
 seen_test test k [] h = refl
-seen_test test k (op ∷ os) h = let parts = and_parts (test (looked op)) (ops_all (λ op. test (looked op)) os) h in and_from _ _ parts.0 (seen_test test k os parts.1)
+seen_test test k (op ∷ os) h = let parts = and_parts (test (answered_op op)) (ops_all (λ op. test (answered_op op)) os) h in and_from _ _ parts.0 (seen_test test k os parts.1)
 
-pub all_seen : (test : Flat.Op → Bool) (ms : List Mem) (ts : List Site) → All (λ t. ops_all (λ op. test (looked op)) (ops ms t) ≡ true) ts → Flat.list_all (λ (x : Flat.Stmt). test x.op) (seen ms ts) ≡ true
+pub all_seen : (test : Flat.Op → Bool) (ms : List Mem) (ts : List Site) → All (λ t. ops_all (λ op. test (answered_op op)) (ops ms t) ≡ true) ts → Flat.list_all (λ (x : Flat.Stmt). test x.op) (seen ms ts) ≡ true
 all_seen test ms [] h = refl
 all_seen test ms (t ∷ ts) h = list_append (λ x. test x.op) (seen_ops t.walk.stage (ops ms t)) (seen ms ts) (seen_test test t.walk.stage (ops ms t) h.0) (all_seen test ms ts h.1)
 
@@ -103,8 +103,8 @@ at_ops : (test : Flat.Op → Bool) → Blind test → (s k : ℕ) (os : List Fla
 at_ops test f s k [] h = refl
 at_ops test f s k (op ∷ os) h = and_from _ _ (at (test op) (f op) (λ e. h (or_left (test op) (some_op test os) e)) refl) (at_ops test f s k os (λ e. h (or_right (test op) (some_op test os) e)))
   where
-    at : (b : Bool) → test (looked op) ≡ test op → (test op ≡ true → k ≡ s) → test op ≡ b → (not (test (looked op)) || (k == s)) ≡ true
-    at true e i j = or_right (not (test (looked op))) _ (eq-eqb k s (i j))
+    at : (b : Bool) → test (answered_op op) ≡ test op → (test op ≡ true → k ≡ s) → test op ≡ b → (not (test (answered_op op)) || (k == s)) ≡ true
+    at true e i j = or_right (not (test (answered_op op))) _ (eq-eqb k s (i j))
     at false e i j = or_left _ (k == s) (ap not (e ∙ j))
 
 pub at_seen : (test : Flat.Op → Bool) → Blind test → (s : ℕ) (ms : List Mem) (ts : List Site) → All (λ t. some_op test (ops ms t) ≡ true → t.walk.stage ≡ s) ts → all_at test s (seen ms ts) ≡ true
@@ -136,13 +136,13 @@ no_release ms i vs (If sp (Variable x) a b) f = refl
 no_release ms i vs (If sp _ a b) f = refl
 no_release ms i vs _ f = refl
 
-pub knows_all : (ms : List Mem) (vs : List Var) (s : Stmt) → ((at : Location) → location_of s ≡ Some at → is_memory ms at.mem.name ≡ true) → ops_all (λ op. knows (length ms) (looked op)) (ops_of ms vs s) ≡ true
+pub knows_all : (ms : List Mem) (vs : List Var) (s : Stmt) → ((at : Location) → location_of s ≡ Some at → is_memory ms at.mem.name ≡ true) → ops_all (λ op. knows_memory (length ms) (answered_op op)) (ops_of ms vs s) ≡ true
 knows_all ms vs s f = here s f
   where
     low : (m : List ℕ) → is_memory ms m ≡ true → (nat_lt (mem_of ms m) (length ms) && true) ≡ true
     low m h = and_from _ _ (lt-ltb _ _ (mem_low ms m h)) refl
 
-    here : (t : Stmt) → ((at : Location) → location_of t ≡ Some at → is_memory ms at.mem.name ≡ true) → ops_all (λ op. knows (length ms) (looked op)) (ops_of ms vs t) ≡ true
+    here : (t : Stmt) → ((at : Location) → location_of t ≡ Some at → is_memory ms at.mem.name ≡ true) → ops_all (λ op. knows_memory (length ms) (answered_op op)) (ops_of ms vs t) ≡ true
     here (CombRead sp x at) g = low at.mem.name (g at refl)
     here (DelayedRead sp x at) g = low at.mem.name (g at refl)
     here (Write sp at v) g = low at.mem.name (g at refl)

@@ -1,4 +1,4 @@
--- On each path no write reservation is released before the verifies' stage, unless behind a barrier.
+-- On each path no write reservation is released before the verifies' stage, unless after a barrier.
 use Rattle.std.proofs.Common.{◌≡◌, refl, sym, ap, ap₂, ◌∙◌, ℕ, Bool, true, false, ◌&&◌, ◌||◌, not, List, [], ◌∷◌, ◌++◌, Option, Some}
 use Rattle.std.proofs.lemmas.Bool.{false≢true, and_parts, and_from, both_ways, not-false}
 use Rattle.std.proofs.lemmas.List.Folds.{list_any-append}
@@ -8,12 +8,12 @@ use Rattle.pdl_semantics.specs.Flat
 use Rattle.pdl_semantics.specs.Flatten.{Var, var_of, mem_of}
 use Rattle.pdl_rules.specs.Places.{Place, Statement, Branch}
 use Rattle.pdl_rules.specs.Parts.{location_of}
-use Rattle.pdl_rules.specs.Locks.{Hold, Nothing, Reserved, Blocked, Released, held, is_blocked, is_held_for}
+use Rattle.pdl_rules.specs.Locks.{Hold, Nothing, Reserved, Blocked, Released, hold_after, is_blocked, is_held_for}
 use Rattle.pdl_rules.specs.Speculation.{releases_unsure}
 use Rattle.pdl_rules.specs.Speculation
 use Rattle.pdl_rules.proofs.Once.{KeepsLocks}
-use Rattle.pdl_derived.specs.Alone.{looked}
-use Rattle.pdl_facts.specs.Scans.{opened, opens, Scan}
+use Rattle.pdl_derived.specs.Alone.{answered_op}
+use Rattle.pdl_facts.specs.Scans.{has_location, scan_after, Scan}
 use Rattle.pdl_facts.specs.Certain.{stands_before, is_barrier, is_sure, all_sure}
 use Rattle.pdl_pathfacts.proofs.Along
 use Rattle.pdl_pathfacts.proofs.Along.{ops_of, seen_ops}
@@ -23,22 +23,22 @@ use Rattle.pdl_pathfacts.proofs.ReadsKept.{Scanned, opens_ops}
 -- lists of statements of one stage
 abbrev pub barred_ops : Bool → List Flat.Op → Bool
 barred_ops b [] = b
-barred_ops b (op ∷ os) = barred_ops (b || is_barrier (looked op)) os
+barred_ops b (op ∷ os) = barred_ops (b || is_barrier (answered_op op)) os
 
 abbrev pub sure_oks : Option ℕ → Bool → Scan → ℕ → List Flat.Op → Bool
 sure_oks v b c s [] = true
-sure_oks v b c s (op ∷ os) = is_sure v b c s (looked op) && sure_oks v (b || is_barrier (looked op)) (opens (looked op) c) s os
+sure_oks v b c s (op ∷ os) = is_sure v b c s (answered_op op) && sure_oks v (b || is_barrier (answered_op op)) (scan_after (answered_op op) c) s os
 
 pub sures_append : (v : Option ℕ) (b : Bool) (c : Scan) (s : ℕ) (os : List Flat.Op) (rest : List Flat.Stmt) → sure_oks v b c s os ≡ true → all_sure v (barred_ops b os) (opens_ops os c) rest ≡ true → all_sure v b c (seen_ops s os ++ rest) ≡ true
 sures_append v b c s [] rest h i = i
 sures_append v b c s (op ∷ os) rest h i =
-    let parts = and_parts (is_sure v b c s (looked op)) (sure_oks v (b || is_barrier (looked op)) (opens (looked op) c) s os) h in
-    and_from _ _ parts.0 (sures_append v (b || is_barrier (looked op)) (opens (looked op) c) s os rest parts.1 i)
+    let parts = and_parts (is_sure v b c s (answered_op op)) (sure_oks v (b || is_barrier (answered_op op)) (scan_after (answered_op op) c) s os) h in
+    and_from _ _ parts.0 (sures_append v (b || is_barrier (answered_op op)) (scan_after (answered_op op) c) s os rest parts.1 i)
 
 module _ (p : Pipe) (v : Option ℕ) (vs : List Var) (before : List Place) (c : Scan) (bs : List Branch) (s : ℕ) (i : Scanned p vs before c) (b : Bool) (barred : list_any Speculation.is_barrier before ≡ b) where
   release_sure : (sp : Span) (at : Location) → KeepsLocks p before (Statement (Release sp at) bs) → IsNamed p.mems vs at → (stands_before v s ≡ true → releases_unsure before (Statement (Release sp at) bs) ≡ false)
-      → ((b || (not (opened c.held (mem_of p.mems at.mem.name) (var_of vs at.address.name)) || not (stands_before v s))) && true) ≡ true
-  release_sure sp at k named asked = and_from _ _ (by b barred (opened c.held (mem_of p.mems at.mem.name) (var_of vs at.address.name)) refl (stands_before v s) refl) refl
+      → ((b || (not (has_location c.held (mem_of p.mems at.mem.name) (var_of vs at.address.name)) || not (stands_before v s))) && true) ≡ true
+  release_sure sp at k named asked = and_from _ _ (by b barred (has_location c.held (mem_of p.mems at.mem.name) (var_of vs at.address.name)) refl (stands_before v s) refl) refl
     where
       write_held : (h : Hold) → is_blocked h ≡ true → is_held_for R h ≡ false → is_held_for W h ≡ true
       write_held Nothing e f = absurd (false≢true e)
@@ -47,12 +47,12 @@ module _ (p : Pipe) (v : Option ℕ) (vs : List Var) (before : List Place) (c : 
       write_held (Blocked R) e f = absurd (false≢true (sym f))
       write_held Released e f = absurd (false≢true e)
 
-      by : (x : Bool) → list_any Speculation.is_barrier before ≡ x → (o : Bool) → opened c.held (mem_of p.mems at.mem.name) (var_of vs at.address.name) ≡ o → (w : Bool) → stands_before v s ≡ w → (x || (not o || not w)) ≡ true
+      by : (x : Bool) → list_any Speculation.is_barrier before ≡ x → (o : Bool) → has_location c.held (mem_of p.mems at.mem.name) (var_of vs at.address.name) ≡ o → (w : Bool) → stands_before v s ≡ w → (x || (not o || not w)) ≡ true
       by true e o f w g = refl
       by false e false f w g = refl
       by false e true f false g = refl
       by false e true f true g =
-          let w = write_held (held at before) (not-false _ k.l1) (i.kinds at (i.held_is at named f)) in
+          let w = write_held (hold_after at before) (not-false _ k.l1) (i.kinds at (i.held_is at named f)) in
           absurd (both_ways _ (asked g) (and_from _ _ w (ap not e)))
 
   or_no : (x : Bool) → (x || false) ≡ x

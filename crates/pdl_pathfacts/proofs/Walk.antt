@@ -28,7 +28,7 @@ in_append front [] ys h k = subst (λ l. InText l ys) (append-nil front) k
 in_append front (x ∷ xs) ys h k = (h.0, in_append (front ++ place_of x ∷ []) xs ys h.1 (subst (λ l. InText l ys) (sym (append_assoc front (place_of x ∷ []) (map place_of xs))) k))
 
 mutual
-  in_text_in : (ms : List Mem) (front : List Place) (w : Flatten.Place) (gs : List Flat.Guard) (bs : List Branch) (s : Stmt) → InText front (sites_in ms front w gs bs s)
+  in_text_in : (ms : List Mem) (front : List Place) (w : Flatten.Position) (gs : List Flat.Guard) (bs : List Branch) (s : Stmt) → InText front (sites_in ms front w gs bs s)
   in_text_in ms front w gs bs (If sp c when otherwise) = (
     refl,
     in_append (front ++ Statement (If sp c when otherwise) bs ∷ []) (sites ms (front ++ Statement (If sp c when otherwise) bs ∷ []) (with_guard c w) (under gs w.vars c true) (bs ++ branch sp c true when ∷ []) when)
@@ -41,7 +41,7 @@ mutual
   )
   in_text_in ms front w gs bs s = (refl, tt)
 
-  in_text : (ms : List Mem) (front : List Place) (w : Flatten.Place) (gs : List Flat.Guard) (bs : List Branch) (ss : Stmts) → InText front (sites ms front w gs bs ss)
+  in_text : (ms : List Mem) (front : List Place) (w : Flatten.Position) (gs : List Flat.Guard) (bs : List Branch) (ss : Stmts) → InText front (sites ms front w gs bs ss)
   in_text ms front w gs bs Nil = tt
   in_text ms front w gs bs (Cons s ss) =
       in_append front (sites_in ms front w gs bs s) (sites ms (front ++ with_inner bs s) (past ms s w) gs bs ss)
@@ -121,7 +121,7 @@ module _ (p : Pipe) (rules : KeepsRules p) (v : Guard → Bool) where
   pub calls_right : (before later : List Place) (x : Place) → places p ≡ before ++ x ∷ later → on_path c x ≡ true → is_wrong_call (filter (on_path c) before) x ≡ false
   calls_right before later x e on = unbroken_on (λ earlier. is_wrong_call earlier x) p v before x (rules S1 before x later e) on
 
-  -- of each site on the path, and behind the last one
+  -- of each site on the path, and after the last one
   pub each_keeps : (earlier : List Place) (ts : List Site) → OnPath c earlier ts → All (Here p) ts → Each (KeepsLocks p) (earlier ++ map place_of ts) (closing p) → Each (KeepsLocks p) earlier (map place_of ts ++ closing p)
   each_keeps earlier [] on here end = subst (λ l. Each (KeepsLocks p) l (closing p)) (append-nil earlier) end
   each_keeps earlier (t ∷ ts) on here end = (

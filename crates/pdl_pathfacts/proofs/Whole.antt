@@ -7,10 +7,10 @@ use Rattle.pdl_semantics.specs.Flat
 use Rattle.pdl_semantics.specs.Flatten.{flat}
 use Rattle.pdl_semantics.specs.Stages.{in_stage, commit_stage}
 use Rattle.pdl_rules.specs.Places.{places}
-use Rattle.pdl_rules.specs.Names.{OfVariable, defines}
+use Rattle.pdl_rules.specs.Names.{OfVariable, defines_use}
 use Rattle.pdl_rules.specs.Refusal.{KeepsRules}
-use Rattle.pdl_derived.specs.Alone.{looked}
-use Rattle.pdl_facts.specs.Scans.{is_dead, fixed}
+use Rattle.pdl_derived.specs.Alone.{answered_op}
+use Rattle.pdl_facts.specs.Scans.{is_dead, is_fixed}
 use Rattle.pdl_facts.specs.Graphs.{Graph, next_of}
 use Rattle.pdl_facts.specs.Facts.{binds_guard, FetchIf, AllFetches, looked_all, at_once, Sound}
 use Rattle.pdl_facts.proofs.Passes
@@ -26,17 +26,17 @@ use Rattle.pdl_pathfacts.proofs.Fetching.{fetch_unseen, fetch_alone}
 use Rattle.pdl_pathfacts.proofs.Blind.{fetch_blind}
 use Rattle.pdl_pathfacts.proofs.Early.{IsEarly, all_early}
 
-looked_each : (P : Flat.Stmt → Type 0) (xs : List Flat.Stmt) → Each (λ y. P (record y { op = looked y.op })) xs → Each P (looked_all xs)
+looked_each : (P : Flat.Stmt → Type 0) (xs : List Flat.Stmt) → Each (λ y. P (record y { op = answered_op y.op })) xs → Each P (looked_all xs)
 looked_each P [] h = tt
 looked_each P (x ∷ xs) h = (h.0, looked_each P xs h.1)
 
 looked_rest : (xs : List Flat.Stmt) → Each (Rests xs) xs → Each (Rests (looked_all xs)) (looked_all xs)
 looked_rest xs h =
     looked_each (Rests (looked_all xs)) xs
-    (each_map (Rests xs) (λ z. Rests (looked_all xs) (record z { op = looked z.op }))
+    (each_map (Rests xs) (λ z. Rests (looked_all xs) (record z { op = answered_op z.op }))
     (λ z k e.
     looked_each (λ y. binds_guard y.op z.guards ≡ true → y.stage ≤ z.stage) xs
-    (each_map (λ y. binds_guard y.op z.guards ≡ true → y.stage ≤ z.stage) (λ y. binds_guard (looked y.op) z.guards ≡ true → y.stage ≤ z.stage) (λ y l b. l (sym (guard_looked y.op z.guards) ∙ b)) xs (k e))) xs h)
+    (each_map (λ y. binds_guard y.op z.guards ≡ true → y.stage ≤ z.stage) (λ y. binds_guard (answered_op y.op) z.guards ≡ true → y.stage ≤ z.stage) (λ y l b. l (sym (guard_looked y.op z.guards) ∙ b)) xs (k e))) xs h)
 
 -- a live delayed read of stage s stands before the releases
 abbrev Before : Flat.Pipe → ℕ → Flat.Stmt → Type 0
@@ -61,7 +61,7 @@ fetches_all p g fetch s (y ∷ ys) h k = (one y.op y.guards h.0 k.0, fetches_all
     )
     one _ gs f e = tt
 
-module _ (p : Pipe) (rules : KeepsRules p) (apart : are_apart (places p) ≡ true) (named : list_any (defines (OfVariable [])) (places p) ≡ false) where
+module _ (p : Pipe) (rules : KeepsRules p) (apart : are_apart (places p) ≡ true) (named : list_any (defines_use (OfVariable [])) (places p) ≡ false) where
   facts : StageFacts (flat p)
   facts = stage_facts p rules
 
@@ -72,7 +72,7 @@ module _ (p : Pipe) (rules : KeepsRules p) (apart : are_apart (places p) ≡ tru
     before_all s ys h.1 k.1,
   )
 
-  fixed_once : fixed (at_once (flat p)).stmts ≡ true
+  fixed_once : is_fixed (at_once (flat p)).stmts ≡ true
   fixed_once = fixed_looked (flat p).stmts ∙ fixed_text p rules apart named
 
   pub sound : Sound (flat p)
@@ -105,4 +105,4 @@ module _ (p : Pipe) (rules : KeepsRules p) (apart : are_apart (places p) ≡ tru
 
 -- of a source
 pub of_source : (p : Pipe) → KeepsRules p → is_source p ≡ true → is_named p ≡ true → Sound (flat p)
-of_source p rules source names = sound p rules source (not-true (list_any (defines (OfVariable [])) (places p)) names)
+of_source p rules source names = sound p rules source (not-true (list_any (defines_use (OfVariable [])) (places p)) names)

@@ -2,7 +2,7 @@
 use Rattle.std.specs.Prelude.{ℕ, Bool, true, false, not, ◌&&◌, List, [], ◌∷◌, Option, Some, None}
 use Rattle.std.specs.List.{list_any}
 use Rattle.pdl_semantics.specs.Tree.{If, Pipe}
-use Rattle.pdl_rules.specs.Names.{OfVariable, defines}
+use Rattle.pdl_rules.specs.Names.{OfVariable, defines_use}
 use Rattle.pdl_rules.specs.Places.{Place, Statement, Guard, Shared, Own, guard_of, same_guard, places}
 
 -- whether a place is an `if` on an expression that begins at byte n
@@ -33,4 +33,4 @@ is_source p = are_apart (places p)
 
 -- no variable has the empty name, which the guard of an `if` on an expression has in the flat form
 abbrev pub is_named : Pipe → Bool
-is_named p = not (list_any (defines (OfVariable [])) (places p))
+is_named p = not (list_any (defines_use (OfVariable [])) (places p))

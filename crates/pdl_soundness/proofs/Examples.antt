@@ -8,7 +8,7 @@ use Rattle.pdl_semantics.proofs.Texts.{constant, variable, slice, separator, bin
 use Rattle.pdl_semantics.proofs.Pipes.{shared_guard, copy_guessed, count_slow, two_branches}
 use Rattle.pdl_rules.specs.Refusal.{first_broken, limits, after_limits}
 use Rattle.pdl_rules.proofs.Unbroken.{keeps_unbroken}
-use Rattle.pdl_facts.specs.SoundChecks.{sounds}
+use Rattle.pdl_facts.specs.SoundChecks.{passes_tests}
 use Rattle.pdl_theorems.proofs.SoundExamples.{passed_by}
 use Rattle.pdl_theorems.proofs.Stated.{whole_refines}
 use Rattle.pdl_pathfacts.specs.Source.{is_source, is_named}
@@ -43,7 +43,7 @@ at_one_byte = pipe 2 [] (if_else (slice "n" 0 0) (call (variable "n") ∷ []) []
 one_byte_kept : (first_broken (limits ++ after_limits) at_one_byte ≡ None) × (is_named at_one_byte ≡ true)
 one_byte_kept = (refl, refl)
 
-one_byte_unsound : (is_source at_one_byte ≡ false) × (sounds (flat at_one_byte) ≡ false)
+one_byte_unsound : (is_source at_one_byte ≡ false) × (passes_tests (flat at_one_byte) ≡ false)
 one_byte_unsound = (refl, refl)
 
 -- a variable with the empty name: its number is that of a guard of the other branch
@@ -55,5 +55,5 @@ without_name =
 without_name_kept : (first_broken (limits ++ after_limits) without_name ≡ None) × (is_source without_name ≡ true)
 without_name_kept = (refl, refl)
 
-without_name_unsound : (is_named without_name ≡ false) × (sounds (flat without_name) ≡ false)
+without_name_unsound : (is_named without_name ≡ false) × (passes_tests (flat without_name) ≡ false)
 without_name_unsound = (refl, refl)

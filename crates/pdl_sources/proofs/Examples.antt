@@ -4,7 +4,7 @@ use Rattle.std.proofs.lemmas.Bool.{and_parts}
 use Rattle.pdl_semantics.specs.Tree.{Expr, Pipe}
 use Rattle.pdl_tokens.specs.Tokens.{Row, piece_at, tokens}
 use Rattle.pdl_cursor.specs.declared.limits.Counts.{Counts}
-use Rattle.pdl_cursor.specs.Limits.{counted, is_within, AreWithin, at_start}
+use Rattle.pdl_cursor.specs.Limits.{counts_after, is_within, AreWithin, at_start}
 use Rattle.pdl_grammar.specs.Grammar.{last, Level, Full, whole, tighter, inverted, variable, branching, calling, none, more, parameter, unlocked, memory, given, starting, text}
 use Rattle.pdl_grammar.specs.Text.{IsText}
 use Rattle.pdl_rules.specs.Refusal.{KeepsRules}
@@ -22,11 +22,11 @@ alone l = whole (tighter (tighter (tighter (tighter (tighter (tighter (tighter (
 -- whether the counts stay within the limits
 abbrev stays : Counts → Row → Bool
 stays c [] = true
-stays c (t ∷ ts) = is_within (counted c t.kind) && stays (counted c t.kind) ts
+stays c (t ∷ ts) = is_within (counts_after c t.kind) && stays (counts_after c t.kind) ts
 
 within_of : (c : Counts) (ts : Row) → stays c ts ≡ true → AreWithin c ts
 within_of c [] e = tt
-within_of c (t ∷ ts) e = let h = and_parts (is_within (counted c t.kind)) (stays (counted c t.kind) ts) e in (h.0, within_of (counted c t.kind) ts h.1)
+within_of c (t ∷ ts) e = let h = and_parts (is_within (counts_after c t.kind)) (stays (counts_after c t.kind) ts) e in (h.0, within_of (counts_after c t.kind) ts h.1)
 
 abbrev its_tree : (p : Pipe) × IsText two_alike p
 unfolding piece_at

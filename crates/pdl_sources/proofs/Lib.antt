@@ -1,5 +1,5 @@
 pub mod Words
-pub mod Behind
+pub mod After
 pub mod Statements
 pub mod Texts
 pub mod Promised

@@ -5,18 +5,18 @@ use Rattle.pdl_semantics.specs.Tree.{Span, Expr, Constant, Variable, Slice, Not,
 use Rattle.pdl_tokens.specs.Tokens.{Row}
 use Rattle.pdl_grammar.specs.Grammar.{across, prepend, Item, separating, reading, binding, guessing, fetching, writing, reserving, acquiring, blocking, releasing, branching, choosing, calling, verifying, checking, barring, Items, none, more}
 use Rattle.pdl_rules.specs.Places.{Place, Branch, guard_of, with_inner, statements}
-use Rattle.pdl_rules.specs.Names.{OfVariable, defines}
+use Rattle.pdl_rules.specs.Names.{OfVariable, defines_use}
 use Rattle.pdl_pathfacts.specs.Source.{own_start, start_of}
 use Rattle.pdl_pathfacts.proofs.Ascending.{Next}
 use Rattle.pdl_sources.proofs.Words.{Stand, from, letters, rest, sooner, later}
-use Rattle.pdl_sources.proofs.Behind.{behind_full, behind_args}
+use Rattle.pdl_sources.proofs.After.{after_full, after_args}
 
 -- places from byte n on in the order of a text
 abbrev pub Ordered : ℕ → List Place → Type 0
 Ordered n [] = ⊤
-Ordered n (x ∷ xs) = (defines (OfVariable []) x ≡ false) × Next n (own_start x) (λ m. Ordered m xs)
+Ordered n (x ∷ xs) = (defines_use (OfVariable []) x ≡ false) × Next n (own_start x) (λ m. Ordered m xs)
 
--- the places of what stands behind the tokens of a part, wherever those begin
+-- the places of what stands after the tokens of a part, wherever those begin
 abbrev pub Follows : Row → List Place → Type 0
 Follows r xs = (n : ℕ) → Stand n r → Ordered n xs
 
@@ -54,21 +54,21 @@ mutual
   item_ordered : (ss : List Stmt) (a r : Row) → Item ss a r → (bs : List Branch) (xs : List Place) → Follows r xs → Follows a (placed bs ss xs)
   item_ordered ss a r separating bs xs f n h = (refl, f n (later 1 h))
   item_ordered ss a r reading bs xs f n h = (letters h refl, f n (later 7 h))
-  item_ordered ss a r (binding v) bs xs f n h = (letters h refl, f n (later 1 (behind_full _ _ _ v n (later 2 h))))
-  item_ordered ss a r (guessing v) bs xs f n h = (refl, f n (later 1 (behind_args _ _ _ _ v n (later 4 h))))
+  item_ordered ss a r (binding v) bs xs f n h = (letters h refl, f n (later 1 (after_full _ _ _ v n (later 2 h))))
+  item_ordered ss a r (guessing v) bs xs f n h = (refl, f n (later 1 (after_args _ _ _ _ v n (later 4 h))))
   item_ordered ss a r fetching bs xs f n h = (letters h refl, f n (later 7 h))
-  item_ordered ss a r (writing v) bs xs f n h = (refl, f n (later 1 (behind_full _ _ _ v n (later 5 h))))
+  item_ordered ss a r (writing v) bs xs f n h = (refl, f n (later 1 (after_full _ _ _ v n (later 5 h))))
   item_ordered ss a r reserving bs xs f n h = (refl, f n (later 10 h))
   item_ordered ss a r acquiring bs xs f n h = (refl, (refl, f n (later 10 h)))
   item_ordered ss a r blocking bs xs f n h = (refl, f n (later 8 h))
   item_ordered ss a r releasing bs xs f n h = (refl, f n (later 8 h))
   item_ordered ss a r (branching {w = w} {e = e} v i) bs xs f n h =
-      if_ordered bs (across w.span e.span) _ _ Nil n xs (from h) (λ m low one two. items_ordered _ _ _ i one xs (λ k g. f k (later 1 g)) m (later 2 (behind_full _ _ _ v m (later 1 (sooner m low (rest h))))))
+      if_ordered bs (across w.span e.span) _ _ Nil n xs (from h) (λ m low one two. items_ordered _ _ _ i one xs (λ k g. f k (later 1 g)) m (later 2 (after_full _ _ _ v m (later 1 (sooner m low (rest h))))))
   item_ordered ss a r (choosing {w = w} {e = e} v i j) bs xs f n h =
       if_ordered bs (across w.span e.span) _ _ _ n xs (from h) (λ m low one two.
-      items_ordered _ _ _ i one _ (λ k g. items_ordered _ _ _ j two xs (λ l t. f l (later 1 t)) k (later 3 g)) m (later 2 (behind_full _ _ _ v m (later 1 (sooner m low (rest h))))))
-  item_ordered ss a r (calling v) bs xs f n h = (refl, f n (later 1 (behind_args _ _ _ _ v n (later 2 h))))
-  item_ordered ss a r (verifying v) bs xs f n h = (refl, f n (later 1 (behind_args _ _ _ _ v n (later 4 h))))
+      items_ordered _ _ _ i one _ (λ k g. items_ordered _ _ _ j two xs (λ l t. f l (later 1 t)) k (later 3 g)) m (later 2 (after_full _ _ _ v m (later 1 (sooner m low (rest h))))))
+  item_ordered ss a r (calling v) bs xs f n h = (refl, f n (later 1 (after_args _ _ _ _ v n (later 2 h))))
+  item_ordered ss a r (verifying v) bs xs f n h = (refl, f n (later 1 (after_args _ _ _ _ v n (later 4 h))))
   item_ordered ss a r checking bs xs f n h = (refl, f n (later 4 h))
   item_ordered ss a r barring bs xs f n h = (refl, f n (later 4 h))
 

@@ -8,7 +8,7 @@ use Rattle.pdl_grammar.specs.Grammar.{Listed, last, further, Lock, unlocked, loc
 use Rattle.pdl_grammar.specs.Text.{IsText}
 use Rattle.pdl_rules.specs.Places.{Place, End, StartClause, statements, places}
 use Rattle.pdl_rules.specs.Places as place
-use Rattle.pdl_rules.specs.Names.{OfVariable, defines}
+use Rattle.pdl_rules.specs.Names.{OfVariable, defines_use}
 use Rattle.pdl_pathfacts.specs.Source.{own_start, is_source, is_named}
 use Rattle.pdl_pathfacts.proofs.Ascending.{Next, Ascends, apart_ascending}
 use Rattle.pdl_sources.proofs.Words.{Stand, letters, later, tokens_stand}
@@ -20,13 +20,13 @@ parameters_ordered : (close : Mark) (ps : List Param) (a r : Row) → Listed Par
 parameters_ordered close ps a r (last parameter) xs f n h = (letters h refl, f n (later 7 h))
 parameters_ordered close ps a r (further parameter l) xs f n h = (letters h refl, parameters_ordered _ _ _ _ l xs f n (later 7 h))
 
-behind_lock : (lock : Option LockDecl) (a r : Row) → Lock lock a r → (n : ℕ) → Stand n a → Stand n r
-behind_lock lock a r unlocked n h = h
-behind_lock lock a r locked n h = later 5 h
+after_lock : (lock : Option LockDecl) (a r : Row) → Lock lock a r → (n : ℕ) → Stand n a → Stand n r
+after_lock lock a r unlocked n h = h
+after_lock lock a r locked n h = later 5 h
 
 memories_ordered : (close : Mark) (ms : List Mem) (a r : Row) → Listed Memory close ms a r → (xs : List Place) → Follows r xs → Follows a (map place.Memory ms ++ xs)
-memories_ordered close ms a r (last (memory l)) xs f n h = (refl, f n (later 1 (behind_lock _ _ _ l n (later 10 h))))
-memories_ordered close ms a r (further (memory l) ls) xs f n h = (refl, memories_ordered _ _ _ _ ls xs f n (later 1 (behind_lock _ _ _ l n (later 10 h))))
+memories_ordered close ms a r (last (memory l)) xs f n h = (refl, f n (later 1 (after_lock _ _ _ l n (later 10 h))))
+memories_ordered close ms a r (further (memory l) ls) xs f n h = (refl, memories_ordered _ _ _ _ ls xs f n (later 1 (after_lock _ _ _ l n (later 10 h))))
 
 -- ---- texts
 
@@ -61,11 +61,11 @@ ascends n (x ∷ xs) h = at (own_start x) h.1 (λ m i. ascends m xs i)
     at None i go = go n i
     at (Some k) i go = (i.0, go (suc k) i.1)
 
-lettered : (n : ℕ) (xs : List Place) → Ordered n xs → list_any (defines (OfVariable [])) xs ≡ false
+lettered : (n : ℕ) (xs : List Place) → Ordered n xs → list_any (defines_use (OfVariable [])) xs ≡ false
 lettered n [] h = refl
 lettered n (x ∷ xs) h = ap₂ (λ b c. b || c) h.0 (at (own_start x) h.1 (λ m i. lettered m xs i))
   where
-    at : (o : Option ℕ) → Next n o (λ m. Ordered m xs) → ((m : ℕ) → Ordered m xs → list_any (defines (OfVariable [])) xs ≡ false) → list_any (defines (OfVariable [])) xs ≡ false
+    at : (o : Option ℕ) → Next n o (λ m. Ordered m xs) → ((m : ℕ) → Ordered m xs → list_any (defines_use (OfVariable [])) xs ≡ false) → list_any (defines_use (OfVariable [])) xs ≡ false
     at None i go = go n i
     at (Some k) i go = go (suc k) i.1
 

@@ -1,22 +1,22 @@
--- The tokens of a text stand one behind the other, and those that are names have letters.
+-- The tokens of a text stand one after the other, and those that are names have letters.
 use Rattle.std.proofs.Common.{◌≡◌, ℕ, zero, suc, ◌+◌, ◌-◌, ◌≤◌, Bool, true, false, cond, nat_eq, codes, bytes_eq, List, [], ◌∷◌, ◌++◌, take, drop, Option, Some, None, refl, ap, arith}
 use Rattle.std.specs.Prelude.{⊤}
 use Rattle.std.specs.List.{starts_with}
 use Rattle.pdl_tokens.specs.declared.token.TokenKind.{TokenKind}
 use Rattle.pdl_tokens.specs.declared.token.TokenKind.TheVariants as kind
-use Rattle.pdl_tokens.specs.Tokens.{Token, Row, Piece, Spelling, tokens_from, placed, piece_at, word_at, number_or_literal, mark_or_bad, blank_of, is_blank, is_lower, is_digit, symbols, spelling_at, line_after}
+use Rattle.pdl_tokens.specs.Tokens.{Token, Row, Piece, Spelling, tokens_from, placed_token, piece_at, word_at, number_or_literal, mark_or_bad, blank_of, is_blank, is_lower, is_digit, symbols, spelling_at, line_after}
 
 -- a token has letters if it is a name
 abbrev pub HasLetters : Token → Type 0
 HasLetters t = t.kind ≡ kind.Name → bytes_eq [] t.text ≡ false
 
--- tokens from byte n on, each behind the beginning of the one before it
-abbrev AreBehind : ℕ → Row → Type 0
-AreBehind n [] = ⊤
-AreBehind n (t ∷ ts) = (n ≤ t.span.start) × HasLetters t × AreBehind (suc t.span.start) ts
+-- tokens from byte n on, each after the beginning of the one before it
+abbrev AreAfter : ℕ → Row → Type 0
+AreAfter n [] = ⊤
+AreAfter n (t ∷ ts) = (n ≤ t.span.start) × HasLetters t × AreAfter (suc t.span.start) ts
 
 pub record Stand (n : ℕ) (ts : Row) : Type 0 where
-  pub tokens : AreBehind n ts
+  pub tokens : AreAfter n ts
 
 pub none_stand : (n : ℕ) → Stand n []
 none_stand n = record { tokens = tt }
@@ -38,7 +38,7 @@ pub sooner : {n : ℕ} {ts : Row} (m : ℕ) → m ≤ n → Stand n ts → Stand
 sooner {ts = []} m le h = none_stand m
 sooner {ts = t ∷ ts} m le h = also_stand m t ts (let i = from h in omega arith) (letters h) (rest h)
 
--- the tokens behind the first few
+-- the tokens after the first few
 pub later : (k : ℕ) {n : ℕ} {ts : Row} → Stand n ts → Stand n (drop k ts)
 later zero h = h
 later (suc k) {n = n} {ts = []} h = none_stand n
@@ -97,7 +97,7 @@ lettered zero c cs h = absurd (omega (arith, h))
 lettered (suc n) c cs h = refl
 
 placed_stand : (k : Option TokenKind) (n start line c : ℕ) (cs : List ℕ) → IsLong (record { kind = k; size = n }) → (rest : Row) → Stand (start + 1) rest
-    → Stand start (placed (record { kind = k; size = n }) start line (c ∷ cs) ++ rest)
+    → Stand start (placed_token (record { kind = k; size = n }) start line (c ∷ cs) ++ rest)
 placed_stand None n start line c cs h rest t = sooner start (omega arith) t
 placed_stand (Some k) n start line c cs h rest t =
     also_stand start _ rest (omega arith) (λ e. lettered n c cs (h (ap (λ (j : TokenKind). Some j) e))) (sooner (suc start) (omega arith) t)

@@ -3,7 +3,7 @@ use Rattle.std.proofs.Common.{◌≡◌, refl, sym, ap, ◌∙◌, subst, ℕ, s
 use Rattle.std.proofs.lemmas.Bool.{false≢true, and_parts, and_from}
 use Rattle.pdl_semantics.specs.Tree.{Variable, Stmt, Separator, CombRead, Bind, SpecCall, DelayedRead, Write, Reserve, Block, Release, If, Call, Verify, SpecCheck, SpecBarrier, Stmts, Nil, Cons, Mem, Pipe}
 use Rattle.pdl_semantics.specs.Flat
-use Rattle.pdl_semantics.specs.Flatten.{Var, var_of, mem_of, flat_expr, flat_exprs, reserves, at_place, binds_guard, past, guard_of, separators_in, separators, at_start, flat}
+use Rattle.pdl_semantics.specs.Flatten.{Var, var_of, mem_of, flat_expr, flat_exprs, reserve_op, at_position, binds_guard, past, guard_of, separators_in, separators, at_start, flat}
 use Rattle.pdl_semantics.specs.Flatten
 use Rattle.pdl_rules.specs.Places.{Place, places}
 use Rattle.pdl_rules.specs.Forks.{is_trunk_only}
@@ -22,7 +22,7 @@ use Rattle.pdl_stagefacts.proofs.Staged.{Staged, all_staged}
 
 -- HOW MANY STAGES
 
-stages_from : (p : Flat.Pipe) (ms : List Mem) (k : ℕ) (merges : Option ℕ) (w : Flatten.Place) (ss : Stmts) → w.begun ≡ k → is_forked ss ≡ true → Groups p k merges (shape ms ss w) → suc (k + separators ss) ≡ length p.stages
+stages_from : (p : Flat.Pipe) (ms : List Mem) (k : ℕ) (merges : Option ℕ) (w : Flatten.Position) (ss : Stmts) → w.begun ≡ k → is_forked ss ≡ true → Groups p k merges (shape ms ss w) → suc (k + separators ss) ≡ length p.stages
 stages_from p ms k merges w Nil i h g = let e = g.1 in omega arith
 stages_from p ms k merges w (Cons (Separator sp) ss) i h g = let f = stages_from p ms (suc k) None (past ms (Separator sp) w) ss (ap suc i) h g.1 in omega arith
 stages_from p ms k merges w (Cons (If sp c when otherwise) (Cons (Separator sq) ss)) i h g =
@@ -90,7 +90,7 @@ op_of ms vs (Bind _ x e) = Some (Flat.Bind (length vs) (flat_expr vs e))
 op_of ms vs (SpecCall _ guess args) = Some (Flat.SpecCall (flat_exprs vs args))
 op_of ms vs (DelayedRead _ x from) = Some (Flat.DelayedRead (length vs) (mem_of ms from.mem.name) (var_of vs from.address.name))
 op_of ms vs (Write _ to e) = Some (Flat.Write (mem_of ms to.mem.name) (var_of vs to.address.name) (flat_expr vs e))
-op_of ms vs (Reserve _ at kind) = Some (reserves kind (mem_of ms at.mem.name) (var_of vs at.address.name))
+op_of ms vs (Reserve _ at kind) = Some (reserve_op kind (mem_of ms at.mem.name) (var_of vs at.address.name))
 op_of ms vs (Block _ at) = Some (Flat.Block (mem_of ms at.mem.name) (var_of vs at.address.name))
 op_of ms vs (Release _ at) = Some (Flat.Release (mem_of ms at.mem.name) (var_of vs at.address.name))
 op_of ms vs (If _ (Variable x) when otherwise) = None
@@ -100,11 +100,11 @@ op_of ms vs (Verify _ guess args) = Some (Flat.Verify (flat_exprs vs args))
 op_of ms vs (SpecCheck _) = Some Flat.SpecCheck
 op_of ms vs (SpecBarrier _) = Some Flat.SpecBarrier
 
-abbrev pub rows_of : List Flat.Guard → Flatten.Place → Option Flat.Op → List Flat.Stmt
+abbrev pub rows_of : List Flat.Guard → Flatten.Position → Option Flat.Op → List Flat.Stmt
 rows_of gs w None = []
-rows_of gs w (Some op) = at_place gs w op
+rows_of gs w (Some op) = at_position gs w op
 
-pub own_is : (ms : List Mem) (gs : List Flat.Guard) (w : Flatten.Place) (s : Stmt) → own_of ms gs w s ≡ rows_of gs w (op_of ms w.vars s)
+pub own_is : (ms : List Mem) (gs : List Flat.Guard) (w : Flatten.Position) (s : Stmt) → own_of ms gs w s ≡ rows_of gs w (op_of ms w.vars s)
 own_is ms gs w (If _ (Variable x) when otherwise) = refl
 own_is ms gs w (If _ c when otherwise) = refl
 own_is ms gs w _ = refl

@@ -9,8 +9,8 @@ use Rattle.pdl_semantics.specs.Flat
 use Rattle.pdl_semantics.specs.Flatten.{mem_of, with_guard, past, at_otherwise, under, at_start, flat}
 use Rattle.pdl_semantics.specs.Flatten
 use Rattle.pdl_rules.specs.Places.{Place, Parameter, Memory, Statement, Branch, with_inner, statements, places}
-use Rattle.pdl_rules.specs.Parts.{passes, location_of, some_expr_of, some_part}
-use Rattle.pdl_rules.specs.Names.{OfMemory, OfVariable, defines, is_undefined, in_location, in_verify, reads}
+use Rattle.pdl_rules.specs.Parts.{is_some_and, location_of, some_expr_of, some_part}
+use Rattle.pdl_rules.specs.Names.{OfMemory, OfVariable, defines_use, is_undefined, in_location, in_verify, reads_some}
 use Rattle.pdl_rules.specs.Stages.{first_stage, is_elsewhere, stage_of, stage_in}
 use Rattle.pdl_rules.specs.Refusal.{KeepsRules}
 use Rattle.pdl_stagefacts.proofs.Sites.{Site, branch, sites_in, sites, sites_of, front_of, place_of, places_in, places_all, All, owns, stmts_are, closing}
@@ -21,7 +21,7 @@ use Rattle.pdl_word.proofs.Bytes.{bytes_same, bytes_swap}
 
 -- FRONTS
 
--- the first site stands behind these places, each other behind the one before it
+-- the first site stands after these places, each other after the one before it
 abbrev pub Fronts : List Place → List Site → Type 0
 Fronts base [] = Unit {0}
 Fronts base (t ∷ ts) = (t.front ≡ base) × Fronts (base ++ place_of t ∷ []) ts
@@ -31,7 +31,7 @@ fronts_append base [] ys h k = subst (λ l. Fronts l ys) (append-nil base) k
 fronts_append base (x ∷ xs) ys h k = (h.0, fronts_append (base ++ place_of x ∷ []) xs ys h.1 (subst (λ l. Fronts l ys) (sym (append_assoc base (place_of x ∷ []) (map place_of xs))) k))
 
 mutual
-  fronts_in : (ms : List Mem) (front : List Place) (w : Flatten.Place) (gs : List Flat.Guard) (bs : List Branch) (s : Stmt) → Fronts front (sites_in ms front w gs bs s)
+  fronts_in : (ms : List Mem) (front : List Place) (w : Flatten.Position) (gs : List Flat.Guard) (bs : List Branch) (s : Stmt) → Fronts front (sites_in ms front w gs bs s)
   fronts_in ms front w gs bs (If sp c when otherwise) = (
     refl,
     fronts_append (front ++ Statement (If sp c when otherwise) bs ∷ []) (sites ms (front ++ Statement (If sp c when otherwise) bs ∷ []) (with_guard c w) (under gs w.vars c true) (bs ++ branch sp c true when ∷ []) when) _
@@ -42,7 +42,7 @@ mutual
   )
   fronts_in ms front w gs bs s = (refl, tt)
 
-  fronts_all : (ms : List Mem) (front : List Place) (w : Flatten.Place) (gs : List Flat.Guard) (bs : List Branch) (ss : Stmts) → Fronts front (sites ms front w gs bs ss)
+  fronts_all : (ms : List Mem) (front : List Place) (w : Flatten.Position) (gs : List Flat.Guard) (bs : List Branch) (ss : Stmts) → Fronts front (sites ms front w gs bs ss)
   fronts_all ms front w gs bs Nil = tt
   fronts_all ms front w gs bs (Cons s ss) =
       fronts_append front (sites_in ms front w gs bs s) _ (fronts_in ms front w gs bs s)
@@ -78,16 +78,16 @@ agree : (test : Place → Bool) (base : List Place) (ts : List Site) (found : Op
     → All (λ t. test (place_of t) ≡ true → is_elsewhere test t.front t.walk.stage ≡ false) ts → All (λ t. test (place_of t) ≡ true → Some t.walk.stage ≡ or_else found (first_of test ts)) ts
 agree test base [] found f s e h = tt
 agree test base (t ∷ ts) found f s e h = (
-  λ k. here found (e ∙ refl) (ap (λ l. passes (λ i. not (i == t.walk.stage)) (first_stage test [] l)) (sym f.0) ∙ h.0 k) k,
+  λ k. here found (e ∙ refl) (ap (λ l. is_some_and (λ i. not (i == t.walk.stage)) (first_stage test [] l)) (sym f.0) ∙ h.0 k) k,
   all_map (λ u. test (place_of u) ≡ true → Some u.walk.stage ≡ or_else (or_else found (stage_if (test (place_of t)) t.walk.stage)) (first_of test ts)) (λ u. test (place_of u) ≡ true → Some u.walk.stage ≡ or_else found (first_of test (t ∷ ts)))
       (λ u g k. g k ∙ joined found (test (place_of t))) ts
       (agree test (base ++ place_of t ∷ []) ts (or_else found (stage_if (test (place_of t)) t.walk.stage)) f.1 s.1
       (first_push test [] base (place_of t) ∙ ap₂ (λ o n. or_else o (stage_if (test (place_of t)) n)) e (ap (λ l. stage_in l t.branches) (sym f.0) ∙ s.0)) h.1),
 )
   where
-    here : (o : Option ℕ) → first_stage test [] base ≡ o → passes (λ i. not (i == t.walk.stage)) (first_stage test [] base) ≡ false → test (place_of t) ≡ true → Some t.walk.stage ≡ or_else o (first_of test (t ∷ ts))
+    here : (o : Option ℕ) → first_stage test [] base ≡ o → is_some_and (λ i. not (i == t.walk.stage)) (first_stage test [] base) ≡ false → test (place_of t) ≡ true → Some t.walk.stage ≡ or_else o (first_of test (t ∷ ts))
     here None g n k = ap (λ b. if b then Some t.walk.stage else first_of test ts) (sym k)
-    here (Some i) g n k = ap Some (sym (eqb-true i t.walk.stage (not-false (i == t.walk.stage) (ap (passes (λ j. not (j == t.walk.stage))) (sym g) ∙ n))))
+    here (Some i) g n k = ap Some (sym (eqb-true i t.walk.stage (not-false (i == t.walk.stage) (ap (is_some_and (λ j. not (j == t.walk.stage))) (sym g) ∙ n))))
 
     joined : (o : Option ℕ) (b : Bool) → or_else (or_else o (stage_if b t.walk.stage)) (first_of test ts) ≡ or_else o (if b then Some t.walk.stage else first_of test ts)
     joined None true = refl
@@ -119,7 +119,7 @@ nowhere test before (x ∷ xs) e =
 
 -- nothing of a kind before a place is no other stage
 pub none_elsewhere : (test : Place → Bool) (before : List Place) (s : ℕ) → list_any test before ≡ false → is_elsewhere test before s ≡ false
-none_elsewhere test before s e = ap (passes (λ k. not (k == s))) (nowhere test [] before e)
+none_elsewhere test before s e = ap (is_some_and (λ k. not (k == s))) (nowhere test [] before e)
 
 pub any_params : (test : Place → Bool) → ((a : Param) → test (Parameter a) ≡ false) → (xs : List Param) → list_any test (map Parameter xs) ≡ false
 any_params test f [] = refl
@@ -162,14 +162,14 @@ known_one [] n o e f g = absurd (false≢true e)
 known_one (m ∷ ms) n o e f g =
     at (bytes_eq m.name.name n) (bytes_eq m.name.name o) refl refl g (known_one ms n o)
   where
-    behind : (x : List ℕ) → bytes_eq m.name.name x ≡ false → is_known (m ∷ ms) x ≡ true → is_known ms x ≡ true
-    behind x h k = ap (λ b. b || is_known ms x) (sym h ∙ bytes_swap m.name.name x) ∙ k
+    after : (x : List ℕ) → bytes_eq m.name.name x ≡ false → is_known (m ∷ ms) x ≡ true → is_known ms x ≡ true
+    after x h k = ap (λ b. b || is_known ms x) (sym h ∙ bytes_swap m.name.name x) ∙ k
 
     at : (b c : Bool) → bytes_eq m.name.name n ≡ b → bytes_eq m.name.name o ≡ c → (if b then 0 else suc (mem_of ms n)) ≡ (if c then 0 else suc (mem_of ms o)) → (is_known ms n ≡ true → is_known ms o ≡ true → mem_of ms n ≡ mem_of ms o → n ≡ o) → n ≡ o
     at true true h i j k = sym (bytes_same m.name.name n h) ∙ bytes_same m.name.name o i
     at true false h i j k = absurd (let z : 0 ≡ suc (mem_of ms o) = j in omega arith)
     at false true h i j k = absurd (let z : suc (mem_of ms n) ≡ 0 = j in omega arith)
-    at false false h i j k = k (behind n h e) (behind o i f) (let z : suc (mem_of ms n) ≡ suc (mem_of ms o) = j in let y : mem_of ms n ≡ mem_of ms o = omega arith in y)
+    at false false h i j k = k (after n h e) (after o i f) (let z : suc (mem_of ms n) ≡ suc (mem_of ms o) = j in let y : mem_of ms n ≡ mem_of ms o = omega arith in y)
 
 -- no statement passes a test that none passes
 mutual
@@ -184,13 +184,13 @@ mutual
   any_all test f bs Nil = refl
   any_all test f bs (Cons s ss) = list_any-append test (with_inner bs s) (statements bs ss) ∙ ap₂ (λ a b. a || b) (any_in test f bs s) (any_all test f bs ss)
 
-known_places : (p : Pipe) (n : List ℕ) → list_any (defines (OfMemory n)) (places p) ≡ is_known p.mems n
+known_places : (p : Pipe) (n : List ℕ) → list_any (defines_use (OfMemory n)) (places p) ≡ is_known p.mems n
 known_places p n =
-    list_any-append (defines (OfMemory n)) (front_of p ++ statements [] p.body) (closing p)
-    ∙ ap (λ b. b || false) (list_any-append (defines (OfMemory n)) (front_of p) (statements [] p.body) ∙ ap₂ (λ a b. a || b) (list_any-append (defines (OfMemory n)) (map Parameter p.params) (map Memory p.mems) ∙ ap₂ (λ a b. a || b) (any_params (defines (OfMemory n)) (λ a. refl) p.params) (of_mems p.mems)) (any_all (defines (OfMemory n)) (λ s bs. refl) [] p.body))
+    list_any-append (defines_use (OfMemory n)) (front_of p ++ statements [] p.body) (closing p)
+    ∙ ap (λ b. b || false) (list_any-append (defines_use (OfMemory n)) (front_of p) (statements [] p.body) ∙ ap₂ (λ a b. a || b) (list_any-append (defines_use (OfMemory n)) (map Parameter p.params) (map Memory p.mems) ∙ ap₂ (λ a b. a || b) (any_params (defines_use (OfMemory n)) (λ a. refl) p.params) (of_mems p.mems)) (any_all (defines_use (OfMemory n)) (λ s bs. refl) [] p.body))
     ∙ right (is_known p.mems n)
   where
-    of_mems : (ms : List Mem) → list_any (defines (OfMemory n)) (map Memory ms) ≡ is_known ms n
+    of_mems : (ms : List Mem) → list_any (defines_use (OfMemory n)) (map Memory ms) ≡ is_known ms n
     of_mems [] = refl
     of_mems (m ∷ ms) = ap (λ b. bytes_eq n m.name.name || b) (of_mems ms)
 
@@ -202,6 +202,6 @@ known_places p n =
 pub located : (p : Pipe) → KeepsRules p → (t : Site) → Fine p t → (at : Location) → location_of t.stmt ≡ Some at → is_known p.mems at.mem.name ≡ true
 located p rules t h at e =
     let rule = rules N1 t.front (place_of t) h.later h.whole in
-    let uses = (or_parts (passes (in_location (is_undefined (places p))) (location_of t.stmt)) (in_verify (is_undefined (places p)) t.stmt || some_expr_of (some_part (reads (is_undefined (places p)))) t.stmt) rule).0 in
-    let here = (or_parts (is_undefined (places p) (OfMemory at.mem.name)) (is_undefined (places p) (OfVariable at.address.name)) (ap (passes (in_location (is_undefined (places p)))) (sym e) ∙ uses)).0 in
-    sym (known_places p at.mem.name) ∙ not-false (list_any (defines (OfMemory at.mem.name)) (places p)) here
+    let uses = (or_parts (is_some_and (in_location (is_undefined (places p))) (location_of t.stmt)) (in_verify (is_undefined (places p)) t.stmt || some_expr_of (some_part (reads_some (is_undefined (places p)))) t.stmt) rule).0 in
+    let here = (or_parts (is_undefined (places p) (OfMemory at.mem.name)) (is_undefined (places p) (OfVariable at.address.name)) (ap (is_some_and (in_location (is_undefined (places p)))) (sym e) ∙ uses)).0 in
+    sym (known_places p at.mem.name) ∙ not-false (list_any (defines_use (OfMemory at.mem.name)) (places p)) here

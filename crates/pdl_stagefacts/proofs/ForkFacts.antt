@@ -10,30 +10,30 @@ use Rattle.pdl_semantics.specs.Flatten.{var_of, guard_of, past_all, at_start, fl
 use Rattle.pdl_semantics.specs.Stages.{stage_at, in_stage}
 use Rattle.pdl_rules.specs.Places.{Place, Parameter, Memory, Statement, statements, places, on_path, on_some_path}
 use Rattle.pdl_rules.specs.Places
-use Rattle.pdl_rules.specs.Parts.{passes}
+use Rattle.pdl_rules.specs.Parts.{is_some_and}
 use Rattle.pdl_rules.specs.Limits.{is_separator}
-use Rattle.pdl_rules.specs.Names.{OfVariable, defines, name_at, is_undefined, is_parameter, is_delayed, is_given, is_too_early}
+use Rattle.pdl_rules.specs.Names.{OfVariable, defines_use, name_at, is_undefined, is_parameter, is_delayed, is_given, is_too_early}
 use Rattle.pdl_rules.specs.Refusal.{KeepsRules}
-use Rattle.pdl_facts.specs.Scans.{none_of, binds, from}
-use Rattle.pdl_facts.specs.Facts.{fetches}
+use Rattle.pdl_facts.specs.Scans.{none_of, binds_var, from}
+use Rattle.pdl_facts.specs.Facts.{is_fetch_of}
 use Rattle.pdl_stagefacts.proofs.Sites.{Site, sites_of, front_of, place_of, All, closing}
 use Rattle.pdl_stagefacts.proofs.Walks.{cut, cut_append, names, names_at, names_by, names_append, told_past_all, at_front}
 use Rattle.pdl_stagefacts.proofs.Formed.{body_forked, body_groups}
 use Rattle.pdl_stagefacts.proofs.Standing.{all_both}
 use Rattle.pdl_stagefacts.proofs.Fine.{Fine, all_fine, AtSite, Each, each_stmt, each_in_stage, none_each, op_of, from_op}
-use Rattle.pdl_stagefacts.proofs.Forking.{ForkSite, pick, fork_sites, fork_var, Order, Before, Same, Behind, order}
+use Rattle.pdl_stagefacts.proofs.Forking.{ForkSite, pick, fork_sites, fork_var, Order, Before, Same, After, order}
 use Rattle.pdl_stagefacts.proofs.ForkVars
 use Rattle.pdl_word.proofs.Bytes.{bytes_same, bytes_refl}
 
--- a fine site, in a stage that has begun, behind the parameters and memories
+-- a fine site, in a stage that has begun, after the parameters and memories
 abbrev Deep : Pipe → Site → Type 0
 Deep p t = Fine p t × (t.walk.stage ≤ t.walk.begun) × ((m : List Place) × (t.front ≡ front_of p ++ m))
 
-pub any_param : (x : List ℕ) (ps : List Param) → list_any (λ (a : Param). bytes_eq x a.name.name) ps ≡ true → list_any (defines (OfVariable x)) (map Parameter ps) ≡ true
+pub any_param : (x : List ℕ) (ps : List Param) → list_any (λ (a : Param). bytes_eq x a.name.name) ps ≡ true → list_any (defines_use (OfVariable x)) (map Parameter ps) ≡ true
 any_param x [] e = e
 any_param x (a ∷ ps) e = at (bytes_eq x a.name.name) e (any_param x ps)
   where
-    at : (b : Bool) → (b || list_any (λ (a : Param). bytes_eq x a.name.name) ps) ≡ true → (list_any (λ (a : Param). bytes_eq x a.name.name) ps ≡ true → list_any (defines (OfVariable x)) (map Parameter ps) ≡ true) → (b || list_any (defines (OfVariable x)) (map Parameter ps)) ≡ true
+    at : (b : Bool) → (b || list_any (λ (a : Param). bytes_eq x a.name.name) ps) ≡ true → (list_any (λ (a : Param). bytes_eq x a.name.name) ps ≡ true → list_any (defines_use (OfVariable x)) (map Parameter ps) ≡ true) → (b || list_any (defines_use (OfVariable x)) (map Parameter ps)) ≡ true
     at true f k = refl
     at false f k = k f
 
@@ -53,10 +53,10 @@ module _ (p : Pipe) (rules : KeepsRules p) where
   if_place s x u f = ap₂ Statement f.is f.top
 
   -- a parameter is defined before every statement
-  parameter_before : (u : Site) → Deep p u → (v : List ℕ) → is_parameter p v ≡ true → list_any (defines (OfVariable v)) u.front ≡ true
+  parameter_before : (u : Site) → Deep p u → (v : List ℕ) → is_parameter p v ≡ true → list_any (defines_use (OfVariable v)) u.front ≡ true
   parameter_before u d v e =
-      ap (list_any (defines (OfVariable v))) (d.2.1) ∙ list_any-append (defines (OfVariable v)) (front_of p) d.2.0
-      ∙ or_left _ _ (list_any-append (defines (OfVariable v)) (map Parameter p.params) (map Memory p.mems) ∙ or_left _ _ (any_param v p.params e))
+      ap (list_any (defines_use (OfVariable v))) (d.2.1) ∙ list_any-append (defines_use (OfVariable v)) (front_of p) d.2.0
+      ∙ or_left _ _ (list_any-append (defines_use (OfVariable v)) (map Parameter p.params) (map Memory p.mems) ∙ or_left _ _ (any_param v p.params e))
 
   -- N3 at a fork on a plain variable
   fork_rule : (s x : ℕ) (u : Site) → (f : ForkSite s x u) → Deep p u → (v : Ident) → f.condition ≡ Variable v → is_too_early p u.front (Statement (If f.span f.condition f.when f.otherwise) []) (OfVariable v.name) ≡ false
@@ -65,10 +65,10 @@ module _ (p : Pipe) (rules : KeepsRules p) where
       ap (λ c. is_too_early p u.front (Statement (If f.span c f.when f.otherwise) []) (OfVariable v.name)) e ∙ rule
 
   -- so it is defined before
-  fork_defined : (s x : ℕ) (u : Site) → (f : ForkSite s x u) → Deep p u → (v : Ident) → f.condition ≡ Variable v → list_any (defines (OfVariable v.name)) u.front ≡ true
+  fork_defined : (s x : ℕ) (u : Site) → (f : ForkSite s x u) → Deep p u → (v : Ident) → f.condition ≡ Variable v → list_any (defines_use (OfVariable v.name)) u.front ≡ true
   fork_defined s x u f d v e = at (is_parameter p v.name) refl (fork_rule s x u f d v e)
     where
-      at : (b : Bool) → is_parameter p v.name ≡ b → (not b && (is_undefined u.front (OfVariable v.name) || on_some_path (λ earlier. not (is_given earlier (OfVariable v.name))) p u.front (Statement (If f.span f.condition f.when f.otherwise) []))) ≡ false → list_any (defines (OfVariable v.name)) u.front ≡ true
+      at : (b : Bool) → is_parameter p v.name ≡ b → (not b && (is_undefined u.front (OfVariable v.name) || on_some_path (λ earlier. not (is_given earlier (OfVariable v.name))) p u.front (Statement (If f.span f.condition f.when f.otherwise) []))) ≡ false → list_any (defines_use (OfVariable v.name)) u.front ≡ true
       at true g h = parameter_before u d v.name g
       at false g h = not-false _ (or_parts (is_undefined u.front (OfVariable v.name)) _ h).0
 
@@ -102,7 +102,7 @@ module _ (p : Pipe) (rules : KeepsRules p) where
       at (SignExtend a n) e = own (SignExtend a n) e refl refl
       at (Choose a b c) e = own (Choose a b c) e refl refl
 
-  -- names of places one behind the other
+  -- names of places one after the other
   names_split : (xs : List Place) (d : Place) (m : List Place) → length (names (xs ++ d ∷ m)) ≡ length (names xs) + length (names_at d) + length (names m)
   names_split xs d m =
       let a = ap length (names_append xs (d ∷ m)) in
@@ -130,8 +130,8 @@ module _ (p : Pipe) (rules : KeepsRules p) where
       goal
 
   -- a statement that binds a fork's variable stands in the fork's stage or before
-  bound_by : (s x a b : ℕ) → (stage_at (flat p) s).next ≡ Flat.Forks x a b → Each (λ y. binds x y.op ≡ true → y.stage < suc s) (flat p).stmts
-  bound_by s x a b e = each_stmt p (λ y. binds x y.op ≡ true → y.stage < suc s) (each_of (sites_of p) all_deep)
+  bound_by : (s x a b : ℕ) → (stage_at (flat p) s).next ≡ Flat.Forks x a b → Each (λ y. binds_var x y.op ≡ true → y.stage < suc s) (flat p).stmts
+  bound_by s x a b e = each_stmt p (λ y. binds_var x y.op ≡ true → y.stage < suc s) (each_of (sites_of p) all_deep)
     where
       u : Site
       u = (fork_if s x a b e).0
@@ -158,24 +158,24 @@ module _ (p : Pipe) (rules : KeepsRules p) where
           let j : (fork_if s x a b e).0.walk.begun ≡ cut (fork_if s x a b e).0.front = deep.0.here.begun in
           let k = fork.begun in
           omega arith
-      at t d n (Behind m f) =
+      at t d n (After m f) =
           let c = ap (λ l. length (names l)) f in
           let h = names_split (fork_if s x a b e).0.front (place_of (fork_if s x a b e).0) m in
           let l = long_front t d in
           let low = fork_low s x (fork_if s x a b e).0 fork deep in
           absurd (omega arith)
 
-      each_of : (ts : List Site) → All (Deep p) ts → All (AtSite (λ y. binds x y.op ≡ true → y.stage < suc s) p.mems) ts
+      each_of : (ts : List Site) → All (Deep p) ts → All (AtSite (λ y. binds_var x y.op ≡ true → y.stage < suc s) p.mems) ts
       each_of [] h = tt
       each_of (t ∷ ts) h = (
-        λ op f g. at t h.0 (ForkVars.bound_last p.mems t.walk.vars t.stmt x (ap (from_op (binds x)) f ∙ g)) (order p t (fork_if s x a b e).0 h.0.0 deep.0),
+        λ op f g. at t h.0 (ForkVars.bound_last p.mems t.walk.vars t.stmt x (ap (from_op (binds_var x)) f ∙ g)) (order p t (fork_if s x a b e).0 h.0.0 deep.0),
         each_of ts h.1,
       )
 
-  pub fork_bound : (s x a b : ℕ) → (stage_at (flat p) s).next ≡ Flat.Forks x a b → none_of (binds x) (from (suc s) (flat p).stmts) ≡ true
-  fork_bound s x a b e = ForkVars.none_from (binds x) (suc s) (flat p).stmts (bound_by s x a b e)
+  pub fork_bound : (s x a b : ℕ) → (stage_at (flat p) s).next ≡ Flat.Forks x a b → none_of (binds_var x) (from (suc s) (flat p).stmts) ≡ true
+  fork_bound s x a b e = ForkVars.none_from (binds_var x) (suc s) (flat p).stmts (bound_by s x a b e)
 
-  -- a delayed read before the fork that binds its variable has a separator behind it
+  -- a delayed read before the fork that binds its variable has a separator after it
   fetched_before : (s x : ℕ) (u t : Site) → (f : ForkSite s x u) → Deep p u → Deep p t → (sp : Span) (y : Ident) (l : Location) → t.stmt ≡ DelayedRead sp y l → length t.walk.vars ≡ x
       → (m : List Place) → u.front ≡ t.front ++ place_of t ∷ m → list_any is_separator m ≡ true
   fetched_before s x u t f d h sp y l e n m g = at f.condition refl
@@ -204,17 +204,17 @@ module _ (p : Pipe) (rules : KeepsRules p) where
           (d.0.here.named ∙ ap names (g ∙ ap (λ z. t.front ++ z ∷ m) read) ∙ names_append t.front (Statement (DelayedRead sp y l) t.branches ∷ m))
           (sym (ap (guard_of u.walk.vars) i) ∙ f.var ∙ sym n ∙ long_front t h))
 
-      before : list_any (λ z. passes (bytes_eq y.name) (name_at z)) t.front ≡ false
+      before : list_any (λ z. is_some_and (bytes_eq y.name) (name_at z)) t.front ≡ false
       before = ForkVars.once_before p rules y.name t.front (place_of t) h.0.later h.0.whole (ap name_at read)
 
-      none : list_any (defines (OfVariable y.name)) t.front ≡ false
+      none : list_any (defines_use (OfVariable y.name)) t.front ≡ false
       none = ForkVars.no_name p rules y.name t.front before (bytes_refl y.name)
 
-      behind : list_any (defines (OfVariable y.name)) m ≡ false
-      behind =
-          ForkVars.once_behind p rules y.name (t.front ++ place_of t ∷ []) m (place_of u ∷ d.0.later)
+      after : list_any (defines_use (OfVariable y.name)) m ≡ false
+      after =
+          ForkVars.once_after p rules y.name (t.front ++ place_of t ∷ []) m (place_of u ∷ d.0.later)
           (d.0.whole ∙ ap (λ z. z ++ place_of u ∷ d.0.later) g ∙ append_assoc t.front (place_of t ∷ m) (place_of u ∷ d.0.later) ∙ sym (append_assoc t.front (place_of t ∷ []) (m ++ place_of u ∷ d.0.later)))
-          (list_any-append (λ z. passes (bytes_eq y.name) (name_at z)) t.front (place_of t ∷ []) ∙ or_right _ _ (or_left (passes (bytes_eq y.name) (name_at (place_of t))) false (ap (λ z. passes (bytes_eq y.name) (name_at z)) read ∙ bytes_refl y.name)))
+          (list_any-append (λ z. is_some_and (bytes_eq y.name) (name_at z)) t.front (place_of t ∷ []) ∙ or_right _ _ (or_left (is_some_and (bytes_eq y.name) (name_at (place_of t))) false (ap (λ z. is_some_and (bytes_eq y.name) (name_at z)) read ∙ bytes_refl y.name)))
 
       named : (v : Ident) → f.condition ≡ Variable v → list_any is_separator m ≡ true
       named v i = turn (is_parameter p v.name) refl (fork_rule s x u f d v i)
@@ -223,9 +223,9 @@ module _ (p : Pipe) (rules : KeepsRules p) where
           given k = not-false _ (ForkVars.empty_path (λ path. on_path path (Statement (If f.span f.condition f.when f.otherwise) []) && not (is_given (filter (on_path path) u.front) (OfVariable v.name))) (Places.guards (places p)) k)
 
           turn : (b : Bool) → is_parameter p v.name ≡ b → (not b && (is_undefined u.front (OfVariable v.name) || on_some_path (λ earlier. not (is_given earlier (OfVariable v.name))) p u.front (Statement (If f.span f.condition f.when f.otherwise) []))) ≡ false → list_any is_separator m ≡ true
-          turn true j k = absurd (false≢true (sym none ∙ ap (λ z. list_any (defines (OfVariable z)) t.front) (same v i) ∙ parameter_before t h v.name j))
+          turn true j k = absurd (false≢true (sym none ∙ ap (λ z. list_any (defines_use (OfVariable z)) t.front) (same v i) ∙ parameter_before t h v.name j))
           turn false j k =
-              ForkVars.given_behind (OfVariable y.name) (on_path []) t.front (place_of t) m (ap is_delayed read) none behind
+              ForkVars.given_after (OfVariable y.name) (on_path []) t.front (place_of t) m (ap is_delayed read) none after
               (ap₂ (λ z o. is_given (filter (on_path []) z) (OfVariable o)) (sym g) (same v i) ∙ given (or_parts (is_undefined u.front (OfVariable v.name)) _ k).1)
 
       at : (c : Expr) → f.condition ≡ c → list_any is_separator m ≡ true
@@ -252,19 +252,19 @@ module _ (p : Pipe) (rules : KeepsRules p) where
       let q = f.begun in
       omega arith
   fetched_not s x u t f d h sp y l e n i (Same g k) = false≢true (ap is_delayed (sym (if_place s x u f) ∙ sym k ∙ ap (λ z. Statement z t.branches) e))
-  fetched_not s x u t f d h sp y l e n i (Behind m g) =
+  fetched_not s x u t f d h sp y l e n i (After m g) =
       let c = ap (λ z. length (names z)) g in
       let k = names_split u.front (place_of u) m in
       let o = long_front t h in
       let low = fork_low s x u f d in
       omega arith
 
-  pub fork_seen : (s x a b : ℕ) → (stage_at (flat p) s).next ≡ Flat.Forks x a b → none_of (fetches x) (in_stage s (flat p).stmts) ≡ true
+  pub fork_seen : (s x a b : ℕ) → (stage_at (flat p) s).next ≡ Flat.Forks x a b → none_of (is_fetch_of x) (in_stage s (flat p).stmts) ≡ true
   fork_seen s x a b e =
-      none_each (fetches x) (in_stage s (flat p).stmts)
-      (each_in_stage (λ y. fetches x y.op ≡ false) s (flat p).stmts (each_stmt p (λ y. y.stage ≡ s → fetches x y.op ≡ false) (each_of (sites_of p) all_deep)))
+      none_each (is_fetch_of x) (in_stage s (flat p).stmts)
+      (each_in_stage (λ y. is_fetch_of x y.op ≡ false) s (flat p).stmts (each_stmt p (λ y. y.stage ≡ s → is_fetch_of x y.op ≡ false) (each_of (sites_of p) all_deep)))
     where
-      by : (t : Site) → Deep p t → t.walk.stage ≡ s → (z : Stmt) → t.stmt ≡ z → (b' : Bool) → from_op (fetches x) (op_of p.mems t.walk.vars z) ≡ b' → b' ≡ false
+      by : (t : Site) → Deep p t → t.walk.stage ≡ s → (z : Stmt) → t.stmt ≡ z → (b' : Bool) → from_op (is_fetch_of x) (op_of p.mems t.walk.vars z) ≡ b' → b' ≡ false
       by t h i z k false f = refl
       by t h i (DelayedRead sp y l) k true f = absurd (fetched_not s x (fork_if s x a b e).0 t (fork_if s x a b e).1 (fork_if s x a b e).2 h sp y l k (eqb-true (length t.walk.vars) x f) i (order p t (fork_if s x a b e).0 h.0 (fork_if s x a b e).2.0))
       by t h i (Reserve sp l R) k true f = absurd (false≢true f)
@@ -273,6 +273,6 @@ module _ (p : Pipe) (rules : KeepsRules p) where
       by t h i (If sp c when otherwise) k true f = absurd (false≢true f)
       by t h i z k true f = absurd (false≢true f)
 
-      each_of : (ts : List Site) → All (Deep p) ts → All (AtSite (λ y. y.stage ≡ s → fetches x y.op ≡ false) p.mems) ts
+      each_of : (ts : List Site) → All (Deep p) ts → All (AtSite (λ y. y.stage ≡ s → is_fetch_of x y.op ≡ false) p.mems) ts
       each_of [] h = tt
-      each_of (t ∷ ts) h = ((λ op f i. sym (ap (from_op (fetches x)) f) ∙ by t h.0 i t.stmt refl (from_op (fetches x) (op_of p.mems t.walk.vars t.stmt)) refl), each_of ts h.1)
+      each_of (t ∷ ts) h = ((λ op f i. sym (ap (from_op (is_fetch_of x)) f) ∙ by t h.0 i t.stmt refl (from_op (is_fetch_of x) (op_of p.mems t.walk.vars t.stmt)) refl), each_of ts h.1)

@@ -9,11 +9,11 @@ use Rattle.pdl_semantics.specs.Flat
 use Rattle.pdl_semantics.specs.Flatten.{Var, var_of, with_guard, past, at_otherwise, at_start}
 use Rattle.pdl_semantics.specs.Flatten
 use Rattle.pdl_rules.specs.Places.{Place, Parameter, Memory, Statement, End, StartClause, Guard, with_inner, statements, places, choices}
-use Rattle.pdl_rules.specs.Parts.{passes}
+use Rattle.pdl_rules.specs.Parts.{is_some_and}
 use Rattle.pdl_rules.specs.Limits.{is_separator}
-use Rattle.pdl_rules.specs.Names.{Use, OfVariable, defines, name_at, is_taken_name, is_delayed, is_given}
+use Rattle.pdl_rules.specs.Names.{Use, OfVariable, defines_use, name_at, is_taken_name, is_delayed, is_given}
 use Rattle.pdl_rules.specs.Refusal.{KeepsRules}
-use Rattle.pdl_facts.specs.Scans.{none_of, binds, from}
+use Rattle.pdl_facts.specs.Scans.{none_of, binds_var, from}
 use Rattle.pdl_stagefacts.proofs.Sites.{branch, sites_of, front_of, All}
 use Rattle.pdl_stagefacts.proofs.Walks.{holds_all, guard_begun, guard_stage, past_begun, past_all_begun, cut, cut_append, names, names_at, told}
 use Rattle.pdl_stagefacts.proofs.Fine.{Each, op_of, from_op}
@@ -22,12 +22,12 @@ use Rattle.pdl_word.proofs.Lists.{some_filtered}
 
 -- STAGES AND FRONTS
 
-low_past : (ms : List Mem) (s : Stmt) (w : Flatten.Place) → w.stage ≤ w.begun → (past ms s w).stage ≤ (past ms s w).begun
+low_past : (ms : List Mem) (s : Stmt) (w : Flatten.Position) → w.stage ≤ w.begun → (past ms s w).stage ≤ (past ms s w).begun
 low_past ms (Separator sp) w h = omega arith
 low_past ms (If sp c when otherwise) w h = let b = past_begun ms (If sp c when otherwise) w in let e : (past ms (If sp c when otherwise) w).stage ≡ w.stage = refl in omega arith
 low_past ms _ w h = h
 
--- a site's stage has begun, and it stands behind the parameters and memories
+-- a site's stage has begun, and it stands after the parameters and memories
 pub all_low : (p : Pipe) → All (λ t. (t.walk.stage ≤ t.walk.begun) × ((m : List Place) × (t.front ≡ front_of p ++ m))) (sites_of p)
 all_low p =
     holds_all p.mems (λ front w gs bs. (w.stage ≤ w.begun) × ((m : List Place) × (front ≡ front_of p ++ m)))
@@ -81,11 +81,11 @@ named_at (v ∷ vs) x n (z ∷ xs) ys e f = at (bytes_eq v.name x) refl f (named
     at false g h k = k (let z : suc (var_of vs x) ≡ suc (length xs) = h in let y : var_of vs x ≡ length xs = omega arith in y)
 
 -- what places define has a name among theirs
-pub defined_named : (x : List ℕ) (ds : List Place) → list_any (defines (OfVariable x)) ds ≡ true → list_any (bytes_eq x) (names ds) ≡ true
+pub defined_named : (x : List ℕ) (ds : List Place) → list_any (defines_use (OfVariable x)) ds ≡ true → list_any (bytes_eq x) (names ds) ≡ true
 defined_named x [] e = e
-defined_named x (d ∷ ds) e = list_any-append (bytes_eq x) (names_at d) (names ds) ∙ at (defines (OfVariable x) d) refl e (defined_named x ds)
+defined_named x (d ∷ ds) e = list_any-append (bytes_eq x) (names_at d) (names ds) ∙ at (defines_use (OfVariable x) d) refl e (defined_named x ds)
   where
-    here : (q : Place) → defines (OfVariable x) q ≡ true → list_any (bytes_eq x) (names_at q) ≡ true
+    here : (q : Place) → defines_use (OfVariable x) q ≡ true → list_any (bytes_eq x) (names_at q) ≡ true
     here (Parameter a) f = or_left (bytes_eq x a.name.name) false f
     here (Memory m) f = absurd (false≢true f)
     here (Statement (CombRead sp y l) bs) f = or_left (bytes_eq x y.name) false f
@@ -95,12 +95,12 @@ defined_named x (d ∷ ds) e = list_any-append (bytes_eq x) (names_at d) (names 
     here (End s) f = absurd (false≢true f)
     here (StartClause s) f = absurd (false≢true f)
 
-    at : (b : Bool) → defines (OfVariable x) d ≡ b → (b || list_any (defines (OfVariable x)) ds) ≡ true → (list_any (defines (OfVariable x)) ds ≡ true → list_any (bytes_eq x) (names ds) ≡ true) → (list_any (bytes_eq x) (names_at d) || list_any (bytes_eq x) (names ds)) ≡ true
+    at : (b : Bool) → defines_use (OfVariable x) d ≡ b → (b || list_any (defines_use (OfVariable x)) ds) ≡ true → (list_any (defines_use (OfVariable x)) ds ≡ true → list_any (bytes_eq x) (names ds) ≡ true) → (list_any (bytes_eq x) (names_at d) || list_any (bytes_eq x) (names ds)) ≡ true
     at true f g k = or_left (list_any (bytes_eq x) (names_at d)) _ (here d f)
     at false f g k = or_right (list_any (bytes_eq x) (names_at d)) _ (k g)
 
 -- each statement binds the next variable
-pub bound_last : (ms : List Mem) (vs : List Var) (s : Stmt) (x : ℕ) → from_op (binds x) (op_of ms vs s) ≡ true → length vs ≡ x
+pub bound_last : (ms : List Mem) (vs : List Var) (s : Stmt) (x : ℕ) → from_op (binds_var x) (op_of ms vs s) ≡ true → length vs ≡ x
 bound_last ms vs (CombRead sp y l) x e = eqb-true (length vs) x e
 bound_last ms vs (Bind sp y v) x e = eqb-true (length vs) x e
 bound_last ms vs (DelayedRead sp y l) x e = eqb-true (length vs) x e
@@ -130,34 +130,34 @@ empty_path test [] e = (or_parts (test []) false e).0
 empty_path test (g ∷ gs) e = empty_path test gs (or_parts (list_any test (choices gs)) _ (sym (list_any-append test (choices gs) _) ∙ e)).0
 
 -- what a place gives, and none of these defines
-none_given : (u : Use) (test : Place → Bool) (xs : List Place) → list_any (defines u) xs ≡ false → is_given (filter test xs) u ≡ false
+none_given : (u : Use) (test : Place → Bool) (xs : List Place) → list_any (defines_use u) xs ≡ false → is_given (filter test xs) u ≡ false
 none_given u test [] e = refl
 none_given u test (x ∷ xs) e = at (test x) (none_given u test xs parts.1)
   where
-    parts : (defines u x ≡ false) × (list_any (defines u) xs ≡ false)
-    parts = or_parts (defines u x) (list_any (defines u) xs) e
+    parts : (defines_use u x ≡ false) × (list_any (defines_use u) xs ≡ false)
+    parts = or_parts (defines_use u x) (list_any (defines_use u) xs) e
 
     at : (b : Bool) → is_given (filter test xs) u ≡ false → is_given (cond b (x ∷ filter test xs) (filter test xs)) u ≡ false
     at true k = ap (λ d. (d && (not (is_delayed x) || list_any is_separator (filter test xs))) || is_given (filter test xs) u) parts.0 ∙ k
     at false k = k
 
--- so a delayed read that alone gives it has a separator behind it
-pub given_behind : (u : Use) (test : Place → Bool) (xs : List Place) (d : Place) (m : List Place) → is_delayed d ≡ true → list_any (defines u) xs ≡ false → list_any (defines u) m ≡ false
+-- so a delayed read that alone gives it has a separator after it
+pub given_after : (u : Use) (test : Place → Bool) (xs : List Place) (d : Place) (m : List Place) → is_delayed d ≡ true → list_any (defines_use u) xs ≡ false → list_any (defines_use u) m ≡ false
     → is_given (filter test (xs ++ d ∷ m)) u ≡ true → list_any is_separator m ≡ true
-given_behind u test [] d m e f g h = at (test d) h
+given_after u test [] d m e f g h = at (test d) h
   where
     at : (b : Bool) → is_given (cond b (d ∷ filter test m) (filter test m)) u ≡ true → list_any is_separator m ≡ true
-    at true k = some_filtered is_separator test m (by (defines u d) (list_any is_separator (filter test m)) (ap₂ (λ c i. (defines u d && (not c || list_any is_separator (filter test m))) || i) (sym e) (sym (none_given u test m g)) ∙ k))
+    at true k = some_filtered is_separator test m (by (defines_use u d) (list_any is_separator (filter test m)) (ap₂ (λ c i. (defines_use u d && (not c || list_any is_separator (filter test m))) || i) (sym e) (sym (none_given u test m g)) ∙ k))
       where
         by : (a b : Bool) → ((a && (false || b)) || false) ≡ true → b ≡ true
         by true true i = refl
         by true false i = absurd (false≢true i)
         by false b i = absurd (false≢true i)
     at false k = absurd (false≢true (sym (none_given u test m g) ∙ k))
-given_behind u test (x ∷ xs) d m e f g h = at (test x) h (given_behind u test xs d m e parts.1 g)
+given_after u test (x ∷ xs) d m e f g h = at (test x) h (given_after u test xs d m e parts.1 g)
   where
-    parts : (defines u x ≡ false) × (list_any (defines u) xs ≡ false)
-    parts = or_parts (defines u x) (list_any (defines u) xs) f
+    parts : (defines_use u x ≡ false) × (list_any (defines_use u) xs ≡ false)
+    parts = or_parts (defines_use u x) (list_any (defines_use u) xs) f
 
     at : (b : Bool) → is_given (cond b (x ∷ filter test (xs ++ d ∷ m)) (filter test (xs ++ d ∷ m))) u ≡ true → (is_given (filter test (xs ++ d ∷ m)) u ≡ true → list_any is_separator m ≡ true) → list_any is_separator m ≡ true
     at true k more = more (sym (ap (λ c. (c && (not (is_delayed x) || list_any is_separator (filter test (xs ++ d ∷ m)))) || is_given (filter test (xs ++ d ∷ m)) u) parts.0) ∙ k)
@@ -172,7 +172,7 @@ some_cut (x ∷ xs) e = at (is_separator x) refl e (some_cut xs)
     at false f g k = let a = cut_append (x ∷ []) xs in let l = k g in omega arith
 
 -- a place that defines a variable has its name
-pub variable_name : (x : List ℕ) (d : Place) → defines (OfVariable x) d ≡ true → name_at d ≡ Some x
+pub variable_name : (x : List ℕ) (d : Place) → defines_use (OfVariable x) d ≡ true → name_at d ≡ Some x
 variable_name x (Parameter a) e = ap Some (sym (bytes_same x a.name.name e))
 variable_name x (Memory m) e = absurd (false≢true e)
 variable_name x (Statement (CombRead sp y l) bs) e = ap Some (sym (bytes_same x y.name e))
@@ -182,30 +182,30 @@ variable_name x (Statement s bs) e = absurd (false≢true e)
 variable_name x (End s) e = absurd (false≢true e)
 variable_name x (StartClause s) e = absurd (false≢true e)
 
--- N2: once a place has a name, no place behind it defines it, nor does one before
+-- N2: once a place has a name, no place after it defines it, nor does one before
 module _ (p : Pipe) (rules : KeepsRules p) (x : List ℕ) where
-  pub once_before : (before : List Place) (d : Place) (later : List Place) → places p ≡ before ++ d ∷ later → name_at d ≡ Some x → list_any (λ y. passes (bytes_eq x) (name_at y)) before ≡ false
+  pub once_before : (before : List Place) (d : Place) (later : List Place) → places p ≡ before ++ d ∷ later → name_at d ≡ Some x → list_any (λ y. is_some_and (bytes_eq x) (name_at y)) before ≡ false
   once_before before d later e f =
-      (or_parts (bytes_eq x p.name.name) (list_any (λ y. passes (bytes_eq x) (name_at y)) before) (ap (passes (is_taken_name p before)) (sym f) ∙ rules N2 before d later e)).1
+      (or_parts (bytes_eq x p.name.name) (list_any (λ y. is_some_and (bytes_eq x) (name_at y)) before) (ap (is_some_and (is_taken_name p before)) (sym f) ∙ rules N2 before d later e)).1
 
-  pub once_behind : (before m later : List Place) → places p ≡ before ++ (m ++ later) → list_any (λ y. passes (bytes_eq x) (name_at y)) before ≡ true → list_any (defines (OfVariable x)) m ≡ false
-  once_behind before [] later e f = refl
-  once_behind before (d ∷ m) later e f =
-      at (defines (OfVariable x) d) refl
-      (once_behind (before ++ d ∷ []) m later (e ∙ sym (append_assoc before (d ∷ []) (m ++ later))) (list_any-append (λ y. passes (bytes_eq x) (name_at y)) before (d ∷ []) ∙ or_left _ _ f))
+  pub once_after : (before m later : List Place) → places p ≡ before ++ (m ++ later) → list_any (λ y. is_some_and (bytes_eq x) (name_at y)) before ≡ true → list_any (defines_use (OfVariable x)) m ≡ false
+  once_after before [] later e f = refl
+  once_after before (d ∷ m) later e f =
+      at (defines_use (OfVariable x) d) refl
+      (once_after (before ++ d ∷ []) m later (e ∙ sym (append_assoc before (d ∷ []) (m ++ later))) (list_any-append (λ y. is_some_and (bytes_eq x) (name_at y)) before (d ∷ []) ∙ or_left _ _ f))
     where
-      at : (b : Bool) → defines (OfVariable x) d ≡ b → list_any (defines (OfVariable x)) m ≡ false → (b || list_any (defines (OfVariable x)) m) ≡ false
+      at : (b : Bool) → defines_use (OfVariable x) d ≡ b → list_any (defines_use (OfVariable x)) m ≡ false → (b || list_any (defines_use (OfVariable x)) m) ≡ false
       at true g k = absurd (false≢true (sym (once_before before d (m ++ later) e (variable_name x d g)) ∙ f))
       at false g k = k
 
   -- what defines has the name
-  pub no_name : (ds : List Place) → list_any (λ y. passes (bytes_eq x) (name_at y)) ds ≡ false → (text : bytes_eq x x ≡ true) → list_any (defines (OfVariable x)) ds ≡ false
+  pub no_name : (ds : List Place) → list_any (λ y. is_some_and (bytes_eq x) (name_at y)) ds ≡ false → (text : bytes_eq x x ≡ true) → list_any (defines_use (OfVariable x)) ds ≡ false
   no_name [] e t = refl
-  no_name (d ∷ ds) e t = at (defines (OfVariable x) d) refl (no_name ds parts.1 t)
+  no_name (d ∷ ds) e t = at (defines_use (OfVariable x) d) refl (no_name ds parts.1 t)
     where
-      parts : (passes (bytes_eq x) (name_at d) ≡ false) × (list_any (λ y. passes (bytes_eq x) (name_at y)) ds ≡ false)
-      parts = or_parts (passes (bytes_eq x) (name_at d)) _ e
+      parts : (is_some_and (bytes_eq x) (name_at d) ≡ false) × (list_any (λ y. is_some_and (bytes_eq x) (name_at y)) ds ≡ false)
+      parts = or_parts (is_some_and (bytes_eq x) (name_at d)) _ e
 
-      at : (b : Bool) → defines (OfVariable x) d ≡ b → list_any (defines (OfVariable x)) ds ≡ false → (b || list_any (defines (OfVariable x)) ds) ≡ false
-      at true g k = absurd (false≢true (sym parts.0 ∙ ap (passes (bytes_eq x)) (variable_name x d g) ∙ t))
+      at : (b : Bool) → defines_use (OfVariable x) d ≡ b → list_any (defines_use (OfVariable x)) ds ≡ false → (b || list_any (defines_use (OfVariable x)) ds) ≡ false
+      at true g k = absurd (false≢true (sym parts.0 ∙ ap (is_some_and (bytes_eq x)) (variable_name x d g) ∙ t))
       at false g k = k

@@ -60,7 +60,7 @@ leads_none s m zero = refl
 leads_none s m (suc n) = refl
 
 -- Fork sites from stage k on
-pub fork_sites : (p : Flat.Pipe) (ms : List Mem) (k : ℕ) (merges : Option ℕ) (front : List Place) (w : Flatten.Place) (ss : Stmts)
+pub fork_sites : (p : Flat.Pipe) (ms : List Mem) (k : ℕ) (merges : Option ℕ) (front : List Place) (w : Flatten.Position) (ss : Stmts)
     → w.stage ≡ w.begun → w.begun ≡ k → is_forked ss ≡ true → Groups p k merges (shape ms ss w) → (s x : ℕ) → k ≤ s → fork_var (stage_at p s).next ≡ Some x → Some_site (ForkSite s x) (sites ms front w [] [] ss)
 fork_sites p ms k merges front w Nil e i h g s x low f = at (cases_lt k s)
   where
@@ -80,8 +80,8 @@ fork_sites p ms k merges front w (Cons (If sp c when otherwise) (Cons (Separator
     begun : (past ms (If sp c when otherwise) w).begun ≡ w.begun + (separators when + separators otherwise)
     begun = past_begun ms (If sp c when otherwise) w
 
-    behind : Some_site (ForkSite s x) (sites ms ((front ++ with_inner [] (If sp c when otherwise)) ++ Statement (Separator sq) [] ∷ []) (past ms (Separator sq) (past ms (If sp c when otherwise) w)) [] [] ss) → Some_site (ForkSite s x) (sites ms front w [] [] (Cons (If sp c when otherwise) (Cons (Separator sq) ss)))
-    behind r = some_right (ForkSite s x) (sites_in ms front w [] [] (If sp c when otherwise)) _ (inr r)
+    after : Some_site (ForkSite s x) (sites ms ((front ++ with_inner [] (If sp c when otherwise)) ++ Statement (Separator sq) [] ∷ []) (past ms (Separator sq) (past ms (If sp c when otherwise) w)) [] [] ss) → Some_site (ForkSite s x) (sites ms front w [] [] (Cons (If sp c when otherwise) (Cons (Separator sq) ss)))
+    after r = some_right (ForkSite s x) (sites_in ms front w [] [] (If sp c when otherwise)) _ (inr r)
 
     at : (b : Bool) → is_whole when otherwise ≡ b → Groups p k merges (either_shape ms sp c when otherwise sq ss w b)
         → ((j : ℕ) (merge : Option ℕ) → suc (past ms (If sp c when otherwise) w).begun ≡ j → Groups p j merge (rest_shape ms sp c when otherwise sq ss w) → j ≤ s → Some_site (ForkSite s x) (sites ms ((front ++ with_inner [] (If sp c when otherwise)) ++ Statement (Separator sq) [] ∷ []) (past ms (Separator sq) (past ms (If sp c when otherwise) w)) [] [] ss))
@@ -89,7 +89,7 @@ fork_sites p ms k merges front w (Cons (If sp c when otherwise) (Cons (Separator
     at true whole g more = turn (cases_lt k s)
       where
         turn : (k < s) ⊎ (s ≤ k) → Some_site (ForkSite s x) (sites ms front w [] [] (Cons (If sp c when otherwise) (Cons (Separator sq) ss)))
-        turn (inl l) = behind (more (suc k) None (let none = none_of_whole when otherwise whole in let z = begun in omega arith) g.1 (omega arith))
+        turn (inl l) = after (more (suc k) None (let none = none_of_whole when otherwise whole in let z = begun in omega arith) g.1 (omega arith))
         turn (inr l) = absurd (none_one x (ap (λ (y : Flat.Stage). fork_var y.next) (sym g.0) ∙ ap (λ n. fork_var (stage_at p n).next) (let z : k ≡ s = omega arith in z) ∙ f))
     at false some g more = turn (cases_lt k s)
       where
@@ -100,7 +100,7 @@ fork_sites p ms k merges front w (Cons (If sp c when otherwise) (Cons (Separator
         later l (inl m) =
             let r = between_in p k (guard_of w.vars c) (separators when) (separators otherwise) s fork l m in
             absurd (none_one x (sym (leads_none _ _ r.2) ∙ ap (λ (y : Flat.Stage). fork_var y.next) (sym (fork.chain r.0 r.1 r.2 r.3)) ∙ ap (λ n. fork_var (stage_at p n).next) (sym r.4) ∙ f))
-        later l (inr m) = behind (more (merge_at k (separators when) (separators otherwise)) (Some k) (let z = begun in omega arith) g.4 m)
+        later l (inr m) = after (more (merge_at k (separators when) (separators otherwise)) (Some k) (let z = begun in omega arith) g.4 m)
 
         turn : (k < s) ⊎ (s ≤ k) → Some_site (ForkSite s x) (sites ms front w [] [] (Cons (If sp c when otherwise) (Cons (Separator sq) ss)))
         turn (inl l) = later l (cases_lt s (merge_at k (separators when) (separators otherwise)))
@@ -161,7 +161,7 @@ same_is (u ∷ xs) (z ∷ ys) later more x y e l =
 pub data Order (t u : Site) : Type 0 where
   Before : (m : List Place) → u.front ≡ t.front ++ place_of t ∷ m → Order t u
   Same : t.front ≡ u.front → place_of t ≡ place_of u → Order t u
-  Behind : (m : List Place) → t.front ≡ u.front ++ place_of u ∷ m → Order t u
+  After : (m : List Place) → t.front ≡ u.front ++ place_of u ∷ m → Order t u
 
 pub order : (p : Pipe) (t u : Site) → Fine p t → Fine p u → Order t u
 order p t u h k = at (cases_lt (length t.front) (length u.front)) (cases_lt (length u.front) (length t.front))
@@ -171,5 +171,5 @@ order p t u h k = at (cases_lt (length t.front) (length u.front)) (cases_lt (len
 
     at : (length t.front < length u.front) ⊎ (length u.front ≤ length t.front) → (length u.front < length t.front) ⊎ (length t.front ≤ length u.front) → Order t u
     at (inl l) m = let r = before_is t.front u.front h.later k.later (place_of t) (place_of u) whole l in Before r.0 r.1
-    at (inr l) (inl m) = let r = before_is u.front t.front k.later h.later (place_of u) (place_of t) (sym whole) m in Behind r.0 r.1
+    at (inr l) (inl m) = let r = before_is u.front t.front k.later h.later (place_of u) (place_of t) (sym whole) m in After r.0 r.1
     at (inr l) (inr m) = let r = same_is t.front u.front h.later k.later (place_of t) (place_of u) whole (omega arith) in Same r.0 r.1

@@ -6,7 +6,7 @@ use Rattle.pdl_kit.specs.declared.rule.Rule.TheVariants.{F2}
 use Rattle.pdl_semantics.specs.Tree.{Span, Expr, Stmt, Separator, If, Stmts, Nil, Cons, Mem, Pipe}
 use Rattle.pdl_semantics.specs.Flatten.{past, guard_of, separators, at_start, flat, stages_of}
 use Rattle.pdl_semantics.specs.Flatten
-use Rattle.pdl_rules.specs.Places.{Place, Statement, Branch, with_inner, statements, places, behind}
+use Rattle.pdl_rules.specs.Places.{Place, Statement, Branch, with_inner, statements, places, places_after}
 use Rattle.pdl_rules.specs.Forks.{holds_separator, is_fork, places_in, starts_with_separator}
 use Rattle.pdl_rules.specs.Refusal.{KeepsRules}
 use Rattle.pdl_stagefacts.proofs.Sites.{branch, front_of, closing}
@@ -30,9 +30,9 @@ mutual
   long_all bs cs (Cons s ss) =
       length-append (with_inner bs s) (statements bs ss) ∙ ap₂ (λ a b. a + b) (long_in bs cs s) (long_all bs cs ss) ∙ sym (length-append (with_inner cs s) (statements cs ss))
 
--- what lies behind a place
-pub behind_is : (p : Pipe) (before : List Place) (x : Place) (later : List Place) → places p ≡ before ++ x ∷ later → behind p before ≡ later
-behind_is p before x later e =
+-- what lies after a place
+pub after_is : (p : Pipe) (before : List Place) (x : Place) (later : List Place) → places p ≡ before ++ x ∷ later → places_after p before ≡ later
+after_is p before x later e =
     ap (λ l. drop (suc (length before)) l) (e ∙ sym (append_assoc before (x ∷ []) later))
     ∙ ap (λ n. drop n ((before ++ x ∷ []) ++ later)) (let f = length-append before (x ∷ []) in let g : length (x ∷ []) ≡ 1 = refl in let h : suc (length before) ≡ length (before ++ x ∷ []) = omega arith in h)
     ∙ drop-append_seam (before ++ x ∷ []) later
@@ -91,12 +91,12 @@ module _ (p : Pipe) (rules : KeepsRules p) where
       let here = e ∙ ap (λ l. front ++ l) (append_assoc (with_inner [] (If sp c when otherwise)) (statements [] ss) (closing p)) in
       let there = here ∙ ap (λ l. front ++ Statement (If sp c when otherwise) [] ∷ l) (append_assoc (statements (branch sp c true when ∷ []) when) (statements (branch sp c false otherwise ∷ []) otherwise) (statements [] ss ++ closing p)) in
       let rule = other_false (is_fork (If sp c when otherwise)) _ (rules F2 front (Statement (If sp c when otherwise) []) _ here) fork in
-      let follows : starts_with_separator (drop (places_in (when ∷ otherwise ∷ [])) (behind p front)) ≡ true = not-false _ rule in
+      let follows : starts_with_separator (drop (places_in (when ∷ otherwise ∷ [])) (places_after p front)) ≡ true = not-false _ rule in
       let long = long_all [] (branch sp c true when ∷ []) when in
       let more = long_all [] (branch sp c false otherwise ∷ []) otherwise in
       let sum = length-append (statements (branch sp c true when ∷ []) when) (statements (branch sp c false otherwise ∷ []) otherwise) in
-      let same : drop (places_in (when ∷ otherwise ∷ [])) (behind p front) ≡ statements [] ss ++ closing p =
-      ap (drop (places_in (when ∷ otherwise ∷ []))) (behind_is p front (Statement (If sp c when otherwise) []) _ here)
+      let same : drop (places_in (when ∷ otherwise ∷ [])) (places_after p front) ≡ statements [] ss ++ closing p =
+      ap (drop (places_in (when ∷ otherwise ∷ []))) (after_is p front (Statement (If sp c when otherwise) []) _ here)
       ∙ drop_front (statements (branch sp c true when ∷ []) when ++ statements (branch sp c false otherwise ∷ []) otherwise) (statements [] ss ++ closing p) (places_in (when ∷ otherwise ∷ [])) (omega arith)
       in
       and_from (begins_stage ss) (is_plain when && is_plain otherwise)
@@ -123,7 +123,7 @@ module _ (p : Pipe) (rules : KeepsRules p) where
 -- THE STAGES OF A SOURCE
 
 -- each fork of a shape has a branch stage
-pub proper : (ms : List Mem) (ss : Stmts) (w : Flatten.Place) → Proper (shape ms ss w)
+pub proper : (ms : List Mem) (ss : Stmts) (w : Flatten.Position) → Proper (shape ms ss w)
 proper ms Nil w = tt
 proper ms (Cons (Separator sp) ss) w = proper ms ss (past ms (Separator sp) w)
 proper ms (Cons (If sp c when otherwise) (Cons (Separator sq) ss)) w = at (is_whole when otherwise) refl (proper ms ss (past ms (Separator sq) (past ms (If sp c when otherwise) w)))

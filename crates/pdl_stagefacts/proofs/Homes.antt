@@ -5,15 +5,15 @@ use Rattle.std.specs.List.{list_any}
 use Rattle.pdl_kit.specs.declared.rule.Rule.TheVariants.{Z7, L2, S3, F3, F4}
 use Rattle.pdl_semantics.specs.Tree.{R, W, Variable, Stmt, DelayedRead, Reserve, Release, If, Mem, LockDecl, LockKind, Queue, Bypass, Rename, Pipe}
 use Rattle.pdl_semantics.specs.Flat
-use Rattle.pdl_semantics.specs.Flatten.{mem_of, mems_of, lock_of, separators, first_stages, flat}
+use Rattle.pdl_semantics.specs.Flatten.{mem_of, mems_of, flat_lock, separators, first_stages, flat}
 use Rattle.pdl_semantics.specs.Flatten
 use Rattle.pdl_semantics.specs.Stages.{is_reserve, is_release, is_verify, verify_stage, reserve_stage, commit_stage, plain_mem, mem_at, in_stage}
 use Rattle.pdl_rules.specs.Places.{Place, Parameter, Memory, Statement, places, statements}
-use Rattle.pdl_rules.specs.Parts.{location_of, passes}
-use Rattle.pdl_rules.specs.Limits.{is_wrong_lock, is_width, is_depth, is_size, allows}
-use Rattle.pdl_rules.specs.Stages.{reserves_memory, releases_memory, is_elsewhere, stage_in, stage_behind}
+use Rattle.pdl_rules.specs.Parts.{location_of, is_some_and}
+use Rattle.pdl_rules.specs.Limits.{is_wrong_lock, is_width, is_depth, is_size, allows_lock}
+use Rattle.pdl_rules.specs.Stages.{reserves_memory, releases_memory, is_elsewhere, stage_in, stage_after}
 use Rattle.pdl_rules.specs.Speculation
-use Rattle.pdl_rules.specs.Forks.{fetches, is_delayed_memory}
+use Rattle.pdl_rules.specs.Forks.{breaks_fetch_order, is_delayed_memory}
 use Rattle.pdl_rules.specs.Refusal.{KeepsRules}
 use Rattle.pdl_facts.specs.Scans.{none_of, all_at, is_fetch}
 use Rattle.pdl_facts.specs.Facts.{is_exact}
@@ -224,10 +224,10 @@ module _ (p : Pipe) (rules : KeepsRules p) where
   -- DELAYED READS
 
   -- F3
-  fetch_alike : (n : List ℕ) → is_known p.mems n ≡ true → (t : Site) → Fine p t → Alike p.mems (is_fetch_of (mem_of p.mems n)) (fetches n) t
+  fetch_alike : (n : List ℕ) → is_known p.mems n ≡ true → (t : Site) → Fine p t → Alike p.mems (is_fetch_of (mem_of p.mems n)) (breaks_fetch_order n) t
   fetch_alike n k t h = at t.stmt refl
     where
-      at : (s : Stmt) → t.stmt ≡ s → from_op (is_fetch_of (mem_of p.mems n)) (op_of p.mems t.walk.vars s) ≡ fetches n (Statement s t.branches)
+      at : (s : Stmt) → t.stmt ≡ s → from_op (is_fetch_of (mem_of p.mems n)) (op_of p.mems t.walk.vars s) ≡ breaks_fetch_order n (Statement s t.branches)
       at (DelayedRead sp x l) e = same_memory p.mems n l.mem.name k (located p rules t h l (ap location_of e))
       at (Reserve sp l R) e = refl
       at (Reserve sp l W) e = refl
@@ -235,21 +235,21 @@ module _ (p : Pipe) (rules : KeepsRules p) where
       at (If sp c when otherwise) e = refl
       at s e = refl
 
-  fetch_elsewhere : (n : List ℕ) (t : Site) → Fine p t → fetches n (place_of t) ≡ true → is_elsewhere (fetches n) t.front t.walk.stage ≡ false
+  fetch_elsewhere : (n : List ℕ) (t : Site) → Fine p t → breaks_fetch_order n (place_of t) ≡ true → is_elsewhere (breaks_fetch_order n) t.front t.walk.stage ≡ false
   fetch_elsewhere n t h f = at t.stmt refl f
     where
-      at : (s : Stmt) → t.stmt ≡ s → fetches n (Statement s t.branches) ≡ true → is_elsewhere (fetches n) t.front t.walk.stage ≡ false
+      at : (s : Stmt) → t.stmt ≡ s → breaks_fetch_order n (Statement s t.branches) ≡ true → is_elsewhere (breaks_fetch_order n) t.front t.walk.stage ≡ false
       at (DelayedRead sp x l) e g =
-          none_elsewhere (fetches n) t.front t.walk.stage
-          (ap (λ m. list_any (fetches m) t.front) (sym (bytes_same l.mem.name n g))
-          ∙ (or_parts (stage_in t.front t.branches == stage_behind (places p)) (list_any (fetches l.mem.name) t.front)
+          none_elsewhere (breaks_fetch_order n) t.front t.walk.stage
+          (ap (λ m. list_any (breaks_fetch_order m) t.front) (sym (bytes_same l.mem.name n g))
+          ∙ (or_parts (stage_in t.front t.branches == stage_after (places p)) (list_any (breaks_fetch_order l.mem.name) t.front)
           (rules F3 t.front (Statement (DelayedRead sp x l) t.branches) h.later (h.whole ∙ ap (λ s. t.front ++ Statement s t.branches ∷ h.later) e))).1)
       at s e g = absurd (false≢true g)
 
-  pub fetch_named : (t : Site) → Fine p t → (m : ℕ) (op : Flat.Op) → op_of p.mems t.walk.vars t.stmt ≡ Some op → is_fetch_of m op ≡ true → (n : List ℕ) × (is_known p.mems n ≡ true) × (mem_of p.mems n ≡ m) × (fetches n (place_of t) ≡ true)
+  pub fetch_named : (t : Site) → Fine p t → (m : ℕ) (op : Flat.Op) → op_of p.mems t.walk.vars t.stmt ≡ Some op → is_fetch_of m op ≡ true → (n : List ℕ) × (is_known p.mems n ≡ true) × (mem_of p.mems n ≡ m) × (breaks_fetch_order n (place_of t) ≡ true)
   fetch_named t h m op e f = at t.stmt refl (ap (from_op (is_fetch_of m)) e ∙ f)
     where
-      at : (s : Stmt) → t.stmt ≡ s → from_op (is_fetch_of m) (op_of p.mems t.walk.vars s) ≡ true → (n : List ℕ) × (is_known p.mems n ≡ true) × (mem_of p.mems n ≡ m) × (fetches n (Statement s t.branches) ≡ true)
+      at : (s : Stmt) → t.stmt ≡ s → from_op (is_fetch_of m) (op_of p.mems t.walk.vars s) ≡ true → (n : List ℕ) × (is_known p.mems n ≡ true) × (mem_of p.mems n ≡ m) × (breaks_fetch_order n (Statement s t.branches) ≡ true)
       at (DelayedRead sp x l) i g = (l.mem.name, located p rules t h l (ap location_of i), eqb-true (mem_of p.mems l.mem.name) m g, bytes_refl l.mem.name)
       at (Reserve sp l R) i g = absurd (false≢true g)
       at (Reserve sp l W) i g = absurd (false≢true g)
@@ -259,8 +259,8 @@ module _ (p : Pipe) (rules : KeepsRules p) where
 
   each_fetch : Each (λ y. (m : ℕ) → is_fetch_of m y.op ≡ true → (m < length p.mems) × (Some y.stage ≡ Flatten.first_stage (is_fetch_of m) (flat p).stmts)) (flat p).stmts
   each_fetch =
-      each_memory p is_fetch_of fetches fetch_named
-      (λ n k. one_stage p rules (is_fetch_of (mem_of p.mems n)) (fetches n) (λ a. refl) (λ m. refl) (fetch_alike n k) (fetch_elsewhere n)) rules
+      each_memory p is_fetch_of breaks_fetch_order fetch_named
+      (λ n k. one_stage p rules (is_fetch_of (mem_of p.mems n)) (breaks_fetch_order n) (λ a. refl) (λ m. refl) (fetch_alike n k) (fetch_elsewhere n)) rules
 
   -- the stage of a memory's delayed read
   abbrev pub fetch_at : ℕ → ℕ
@@ -278,8 +278,8 @@ module _ (p : Pipe) (rules : KeepsRules p) where
   each_last : Each (λ y. is_fetch y.op ≡ true → suc y.stage ≡ length (flat p).stages → ⊥) (flat p).stmts
   each_last = each_fine p rules (λ y. is_fetch y.op ≡ true → suc y.stage ≡ length (flat p).stages → ⊥) (λ t h op e f g. at t h t.stmt refl (ap (from_op is_fetch) e ∙ f) g)
     where
-      behind : stage_behind (places p) ≡ separators p.body
-      behind =
+      after : stage_after (places p) ≡ separators p.body
+      after =
           let a = cut_append (front_of p ++ statements [] p.body) (closing p) in
           let b = cut_append (front_of p) (statements [] p.body) in
           let c = cut_all [] p.body in
@@ -291,12 +291,12 @@ module _ (p : Pipe) (rules : KeepsRules p) where
       at : (t : Site) → Fine p t → (s : Stmt) → t.stmt ≡ s → from_op is_fetch (op_of p.mems t.walk.vars s) ≡ true → suc t.walk.stage ≡ length (flat p).stages → ⊥
       at t h (DelayedRead sp x l) e f g =
           let k = stage_count p (body_forked p rules) in
-          let r = (or_parts (stage_in t.front t.branches == stage_behind (places p)) (list_any (fetches l.mem.name) t.front)
+          let r = (or_parts (stage_in t.front t.branches == stage_after (places p)) (list_any (breaks_fetch_order l.mem.name) t.front)
           (rules F3 t.front (Statement (DelayedRead sp x l) t.branches) h.later (h.whole ∙ ap (λ s. t.front ++ Statement s t.branches ∷ h.later) e))).0
           in
           let z = h.staged in
-          let y = behind in
-          eqb-false (stage_in t.front t.branches) (stage_behind (places p)) r (omega arith)
+          let y = after in
+          eqb-false (stage_in t.front t.branches) (stage_after (places p)) r (omega arith)
       at t h (Reserve sp l R) e f g = false≢true f
       at t h (Reserve sp l W) e f g = false≢true f
       at t h (If sp (Variable x) when otherwise) e f g = false≢true f
@@ -321,21 +321,21 @@ module _ (p : Pipe) (rules : KeepsRules p) where
   sound_mems front (m ∷ ms) later e n h =
       at (bytes_eq m.name.name n) h (sound_mems (front ++ Memory m ∷ []) ms later (e ∙ sym (append_assoc front (Memory m ∷ []) (map Memory ms ++ later))) n)
     where
-      kind : (k : LockKind) (d s : ℕ) → allows d true k s ≡ true → is_exact (lock_of (Some (record { kind = k; size = record { value = s; span = m.name.span } }))) ≡ true
+      kind : (k : LockKind) (d s : ℕ) → allows_lock d true k s ≡ true → is_exact (flat_lock (Some (record { kind = k; size = record { value = s; span = m.name.span } }))) ≡ true
       kind Queue d s i = refl
       kind Bypass d s i = absurd (false≢true i)
       kind Rename d s i = absurd (false≢true i)
 
-      lock : (o : Option LockDecl) → passes (is_wrong_lock m) o ≡ false → m.delayed ≡ true → is_exact (lock_of o) ≡ true
+      lock : (o : Option LockDecl) → is_some_and (is_wrong_lock m) o ≡ false → m.delayed ≡ true → is_exact (flat_lock o) ≡ true
       lock None i j = refl
       lock (Some l) i j =
           kind l.kind m.depth.value l.size.value
-          (ap (λ b. allows m.depth.value b l.kind l.size.value) (sym j)
-          ∙ (and_parts (is_size l.size.value) (allows m.depth.value m.delayed l.kind l.size.value) (not-false _ i)).1)
+          (ap (λ b. allows_lock m.depth.value b l.kind l.size.value) (sym j)
+          ∙ (and_parts (is_size l.size.value) (allows_lock m.depth.value m.delayed l.kind l.size.value) (not-false _ i)).1)
 
       at : (b : Bool) → (if b then m.delayed else is_delayed_memory ms n) ≡ true → (is_delayed_memory ms n ≡ true → is_exact (slice_index_or (mems_of ms) (mem_of ms n) plain_mem).lock ≡ true)
           → is_exact (slice_index_or (mems_of (m ∷ ms)) (if b then 0 else suc (mem_of ms n)) plain_mem).lock ≡ true
-      at true i k = lock m.lock (or_parts (not (is_width m.width.value && is_depth m.depth.value)) (passes (is_wrong_lock m) m.lock) (rules Z7 front (Memory m) (map Memory ms ++ later) e)).1 i
+      at true i k = lock m.lock (or_parts (not (is_width m.width.value && is_depth m.depth.value)) (is_some_and (is_wrong_lock m) m.lock) (rules Z7 front (Memory m) (map Memory ms ++ later) e)).1 i
       at false i k = k i
 
   pub fetch_exact : Each (λ y. (x m a : ℕ) → y.op ≡ Flat.DelayedRead x m a → is_exact (mem_at (flat p) m).lock ≡ true) (flat p).stmts

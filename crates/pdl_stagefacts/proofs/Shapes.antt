@@ -3,7 +3,7 @@ use Rattle.std.proofs.Common.{◌≡◌, refl, sym, ap, ap₂, ◌∙◌, ℕ, z
 use Rattle.std.proofs.lemmas.Bool.{false≢true, and_parts}
 use Rattle.pdl_semantics.specs.Tree.{Separator, If, Stmts, Nil, Cons, Mem}
 use Rattle.pdl_semantics.specs.Flat
-use Rattle.pdl_semantics.specs.Flatten.{Var, with_guard, past, past_all, at_otherwise, guard_of, separators_in, separators, joined, graph, entry, forks, merging, side, begins}
+use Rattle.pdl_semantics.specs.Flatten.{Var, with_guard, past, past_all, at_otherwise, guard_of, separators_in, separators, graph_before, graph, entry, graph_with_fork, with_merge, side, graph_with_stage}
 use Rattle.pdl_semantics.specs.Flatten
 use Rattle.pdl_stagefacts.proofs.Walks.{past_begun, past_all_begun, guard_begun}
 
@@ -44,7 +44,7 @@ pub data Shape : Type 0 where
 abbrev pub stage : Flat.Next → Option Flat.Branch → Option ℕ → Flat.Stage
 stage next branch merges = record { next = next; branch = branch; merges = merges }
 
--- so many stages of a branch behind stage s, which lead to `exit`
+-- so many stages of a branch after stage s, which lead to `exit`
 abbrev pub leads : ℕ → Flat.Next → ℕ → Flat.Next
 leads s exit zero = exit
 leads s exit (suc n) = Flat.Goes (suc s)
@@ -53,7 +53,7 @@ abbrev pub row : Option Flat.Branch → Flat.Next → ℕ → ℕ → List Flat.
 row branch exit s zero = []
 row branch exit s (suc n) = stage (leads (suc s) exit n) branch None ∷ row branch exit (suc s) n
 
--- where stage k of a trunk leads, and the stages behind it
+-- where stage k of a trunk leads, and the stages after it
 abbrev pub leads_on : ℕ → Shape → Flat.Next
 leads_on k Last = Flat.Ends
 leads_on k (Cut rest) = Flat.Goes (suc k)
@@ -68,7 +68,7 @@ after k (Fork x a b rest) =
     ++ stage (leads_on (suc (k + a + b)) rest) None (Some k) ∷ after (suc (k + a + b)) rest
 
 -- the shape of a body
-abbrev pub shape : List Mem → Stmts → Flatten.Place → Shape
+abbrev pub shape : List Mem → Stmts → Flatten.Position → Shape
 shape ms Nil w = Last
 shape ms (Cons (Separator sp) ss) w = Cut (shape ms ss (past ms (Separator sp) w))
 shape ms (Cons (If sp c when otherwise) (Cons (Separator sq) ss)) w =
@@ -81,10 +81,10 @@ shape ms (Cons s ss) w = shape ms ss (past ms s w)
 abbrev bunch : Option Flat.Branch → Flat.Next → ℕ → ℕ → Flatten.Graph
 bunch branch exit s n = record { next = leads s exit n; later = row branch exit s n }
 
-graph_plain : (ms : List Mem) (branch : Option Flat.Branch) (exit : Flat.Next) (ss : Stmts) (w : Flatten.Place) → is_plain ss ≡ true → graph ms branch exit ss w ≡ bunch branch exit w.begun (separators ss)
+graph_plain : (ms : List Mem) (branch : Option Flat.Branch) (exit : Flat.Next) (ss : Stmts) (w : Flatten.Position) → is_plain ss ≡ true → graph ms branch exit ss w ≡ bunch branch exit w.begun (separators ss)
 graph_plain ms branch exit Nil w h = refl
 graph_plain ms branch exit (Cons (Separator sp) ss) w h =
-    ap (begins branch w) (graph_plain ms branch exit ss (past ms (Separator sp) w) h)
+    ap (graph_with_stage branch w) (graph_plain ms branch exit ss (past ms (Separator sp) w) h)
     ∙ ap (bunch branch exit w.begun) (let e : suc (separators ss) ≡ 1 + separators ss = omega arith in e)
 graph_plain ms branch exit (Cons (If sp c when otherwise) ss) w h =
     let parts = and_parts (is_whole when otherwise) (is_plain ss) h in
@@ -109,16 +109,16 @@ trunk k sh = record { next = leads_on k sh; later = after k sh }
 -- a fork's graph by the numbers that stand in it
 abbrev forked : ℕ → ℕ → ℕ → ℕ → ℕ → ℕ → ℕ → ℕ → Shape → Flatten.Graph
 forked x a b f m i j k r =
-    forks f x (bunch (side f true) (Flat.Goes m) i a) (bunch (side f false) (Flat.Goes m) j b) (record { next = Flat.Goes (suc k); later = stage (leads_on (suc k) r) None None ∷ after (suc k) r })
+    graph_with_fork f x (bunch (side f true) (Flat.Goes m) i a) (bunch (side f false) (Flat.Goes m) j b) (record { next = Flat.Goes (suc k); later = stage (leads_on (suc k) r) None None ∷ after (suc k) r })
 
 forked_is : (x a b f m i j k n : ℕ) (r : Shape) → f ≡ n → m ≡ suc (n + a + b) → i ≡ n → j ≡ n + a → k ≡ n + a + b → forked x a b f m i j k r ≡ trunk n (Fork x a b r)
 forked_is x a b f m i j k n r e1 e2 e3 e4 e5 =
     ap (λ u. forked x a b u m i j k r) e1 ∙ ap (λ u. forked x a b n u i j k r) e2 ∙ ap (λ u. forked x a b n (suc (n + a + b)) u j k r) e3
     ∙ ap (λ u. forked x a b n (suc (n + a + b)) n u k r) e4 ∙ ap (λ u. forked x a b n (suc (n + a + b)) n (n + a) u r) e5
 
-pub graph_trunk : (ms : List Mem) (ss : Stmts) (w : Flatten.Place) → w.stage ≡ w.begun → is_forked ss ≡ true → graph ms None Flat.Ends ss w ≡ trunk w.begun (shape ms ss w)
+pub graph_trunk : (ms : List Mem) (ss : Stmts) (w : Flatten.Position) → w.stage ≡ w.begun → is_forked ss ≡ true → graph ms None Flat.Ends ss w ≡ trunk w.begun (shape ms ss w)
 graph_trunk ms Nil w e h = refl
-graph_trunk ms (Cons (Separator sp) ss) w e h = ap (begins None w) (graph_trunk ms ss (past ms (Separator sp) w) refl h)
+graph_trunk ms (Cons (Separator sp) ss) w e h = ap (graph_with_stage None w) (graph_trunk ms ss (past ms (Separator sp) w) refl h)
 graph_trunk ms (Cons (If sp c when otherwise) (Cons (Separator sq) ss)) w e h =
     let parts = and_parts (fork_fits (is_whole when otherwise) when otherwise (Cons (Separator sq) ss)) (is_forked ss) h in
     at (is_whole when otherwise) refl parts.0 (graph_trunk ms ss (past ms (Separator sq) (past ms (If sp c when otherwise) w)) refl parts.1)
@@ -128,19 +128,19 @@ graph_trunk ms (Cons (If sp c when otherwise) (Cons (Separator sq) ss)) w e h =
 
     at : (b : Bool) → is_whole when otherwise ≡ b → fork_fits b when otherwise (Cons (Separator sq) ss) ≡ true
         → graph ms None Flat.Ends ss (past ms (Separator sq) (past ms (If sp c when otherwise) w)) ≡ trunk (suc (past ms (If sp c when otherwise) w).begun) (shape ms ss (past ms (Separator sq) (past ms (If sp c when otherwise) w)))
-        → (if b then graph ms None Flat.Ends (Cons (Separator sq) ss) (past ms (If sp c when otherwise) w) else forks w.stage (guard_of w.vars c) (graph ms (side w.stage true) (Flat.Goes (suc (w.begun + separators when + separators otherwise))) when (with_guard c w)) (graph ms (side w.stage false) (Flat.Goes (suc (w.begun + separators when + separators otherwise))) otherwise (at_otherwise ms c when w)) (graph ms None Flat.Ends (Cons (Separator sq) ss) (past ms (If sp c when otherwise) w)))
+        → (if b then graph ms None Flat.Ends (Cons (Separator sq) ss) (past ms (If sp c when otherwise) w) else graph_with_fork w.stage (guard_of w.vars c) (graph ms (side w.stage true) (Flat.Goes (suc (w.begun + separators when + separators otherwise))) when (with_guard c w)) (graph ms (side w.stage false) (Flat.Goes (suc (w.begun + separators when + separators otherwise))) otherwise (at_otherwise ms c when w)) (graph ms None Flat.Ends (Cons (Separator sq) ss) (past ms (If sp c when otherwise) w)))
         ≡ trunk w.begun (cond b (Cut (shape ms ss (past ms (Separator sq) (past ms (If sp c when otherwise) w)))) (Fork (guard_of w.vars c) (separators when) (separators otherwise) (shape ms ss (past ms (Separator sq) (past ms (If sp c when otherwise) w)))))
     at true none fits ih =
-        ap (begins None (past ms (If sp c when otherwise) w)) ih ∙ ap (λ n. trunk n (Cut (shape ms ss (past ms (Separator sq) (past ms (If sp c when otherwise) w))))) (let z : separators when + separators otherwise ≡ 0 = eqb-true _ _ none in let d = begun in let g : (past ms (If sp c when otherwise) w).begun ≡ w.begun = omega arith in g)
+        ap (graph_with_stage None (past ms (If sp c when otherwise) w)) ih ∙ ap (λ n. trunk n (Cut (shape ms ss (past ms (Separator sq) (past ms (If sp c when otherwise) w))))) (let z : separators when + separators otherwise ≡ 0 = eqb-true _ _ none in let d = begun in let g : (past ms (If sp c when otherwise) w).begun ≡ w.begun = omega arith in g)
     at false some fits ih =
         let plain = and_parts (is_plain when) (is_plain otherwise) fits in
         let g1 = guard_begun c w in
         let g2 = past_all_begun ms when (with_guard c w) in
         let g3 = begun in
-        ap₂ (λ u v. forks w.stage (guard_of w.vars c) u v (graph ms None Flat.Ends (Cons (Separator sq) ss) (past ms (If sp c when otherwise) w)))
+        ap₂ (λ u v. graph_with_fork w.stage (guard_of w.vars c) u v (graph ms None Flat.Ends (Cons (Separator sq) ss) (past ms (If sp c when otherwise) w)))
         (graph_plain ms (side w.stage true) (Flat.Goes (suc (w.begun + separators when + separators otherwise))) when (with_guard c w) plain.0)
         (graph_plain ms (side w.stage false) (Flat.Goes (suc (w.begun + separators when + separators otherwise))) otherwise (at_otherwise ms c when w) plain.1)
-        ∙ ap (λ u. forks w.stage (guard_of w.vars c) (bunch (side w.stage true) (Flat.Goes (suc (w.begun + separators when + separators otherwise))) (with_guard c w).begun (separators when)) (bunch (side w.stage false) (Flat.Goes (suc (w.begun + separators when + separators otherwise))) (at_otherwise ms c when w).begun (separators otherwise)) (begins None (past ms (If sp c when otherwise) w) u)) ih
+        ∙ ap (λ u. graph_with_fork w.stage (guard_of w.vars c) (bunch (side w.stage true) (Flat.Goes (suc (w.begun + separators when + separators otherwise))) (with_guard c w).begun (separators when)) (bunch (side w.stage false) (Flat.Goes (suc (w.begun + separators when + separators otherwise))) (at_otherwise ms c when w).begun (separators otherwise)) (graph_with_stage None (past ms (If sp c when otherwise) w) u)) ih
         ∙ forked_is (guard_of w.vars c) (separators when) (separators otherwise) w.stage (suc (w.begun + separators when + separators otherwise)) (with_guard c w).begun (at_otherwise ms c when w).begun (past ms (If sp c when otherwise) w).begun w.begun (shape ms ss (past ms (Separator sq) (past ms (If sp c when otherwise) w))) e refl g1
         (let k : (at_otherwise ms c when w).begun ≡ w.begun + separators when = omega arith in k)
         (let k : (past ms (If sp c when otherwise) w).begun ≡ w.begun + separators when + separators otherwise = omega arith in k)

@@ -9,7 +9,7 @@ use Rattle.pdl_rules.specs.Places.{Place, Parameter, Memory, Statement, End, Sta
 -- a statement, the places before it, where the walk of the flat form is, the guards of its flat statements, and its branches
 pub record Site : Type 0 where
   pub front : List Place
-  pub walk : Flatten.Place
+  pub walk : Flatten.Position
   pub gs : List Flat.Guard
   pub branches : List Branch
   pub stmt : Stmt
@@ -17,19 +17,19 @@ pub record Site : Type 0 where
 abbrev pub branch : Span → Expr → Bool → Stmts → Branch
 branch sp c truth inside = record { guard = guard_of sp c; truth = truth; inside = inside }
 
-abbrev pub site : List Place → Flatten.Place → List Flat.Guard → List Branch → Stmt → Site
+abbrev pub site : List Place → Flatten.Position → List Flat.Guard → List Branch → Stmt → Site
 site front w gs bs s = record { front = front; walk = w; gs = gs; branches = bs; stmt = s }
 
 -- the sites of a statement, and of some
 abbrev mutual
-  pub sites_in : List Mem → List Place → Flatten.Place → List Flat.Guard → List Branch → Stmt → List Site
+  pub sites_in : List Mem → List Place → Flatten.Position → List Flat.Guard → List Branch → Stmt → List Site
   sites_in ms front w gs bs (If sp c when otherwise) =
       site front w gs bs (If sp c when otherwise)
       ∷ (sites ms (front ++ Statement (If sp c when otherwise) bs ∷ []) (with_guard c w) (under gs w.vars c true) (bs ++ branch sp c true when ∷ []) when
       ++ sites ms (front ++ Statement (If sp c when otherwise) bs ∷ statements (bs ++ branch sp c true when ∷ []) when) (at_otherwise ms c when w) (under gs w.vars c false) (bs ++ branch sp c false otherwise ∷ []) otherwise)
   sites_in ms front w gs bs s = site front w gs bs s ∷ []
 
-  pub sites : List Mem → List Place → Flatten.Place → List Flat.Guard → List Branch → Stmts → List Site
+  pub sites : List Mem → List Place → Flatten.Position → List Flat.Guard → List Branch → Stmts → List Site
   sites ms front w gs bs Nil = []
   sites ms front w gs bs (Cons s ss) = sites_in ms front w gs bs s ++ sites ms (front ++ with_inner bs s) (past ms s w) gs bs ss
 
@@ -51,7 +51,7 @@ map_append f (x ∷ xs) ys = ap (λ l. f x ∷ l) (map_append f xs ys)
 
 -- the sites are the statements' places, in text order
 mutual
-  pub places_in : (ms : List Mem) (front : List Place) (w : Flatten.Place) (gs : List Flat.Guard) (bs : List Branch) (s : Stmt) → map place_of (sites_in ms front w gs bs s) ≡ with_inner bs s
+  pub places_in : (ms : List Mem) (front : List Place) (w : Flatten.Position) (gs : List Flat.Guard) (bs : List Branch) (s : Stmt) → map place_of (sites_in ms front w gs bs s) ≡ with_inner bs s
   places_in ms front w gs bs (If sp c when otherwise) =
       ap (λ l. Statement (If sp c when otherwise) bs ∷ l)
       (map_append place_of (sites ms (front ++ Statement (If sp c when otherwise) bs ∷ []) (with_guard c w) (under gs w.vars c true) (bs ++ branch sp c true when ∷ []) when) _
@@ -60,7 +60,7 @@ mutual
       (places_all ms (front ++ Statement (If sp c when otherwise) bs ∷ statements (bs ++ branch sp c true when ∷ []) when) (at_otherwise ms c when w) (under gs w.vars c false) (bs ++ branch sp c false otherwise ∷ []) otherwise))
   places_in ms front w gs bs _ = refl
 
-  pub places_all : (ms : List Mem) (front : List Place) (w : Flatten.Place) (gs : List Flat.Guard) (bs : List Branch) (ss : Stmts) → map place_of (sites ms front w gs bs ss) ≡ statements bs ss
+  pub places_all : (ms : List Mem) (front : List Place) (w : Flatten.Position) (gs : List Flat.Guard) (bs : List Branch) (ss : Stmts) → map place_of (sites ms front w gs bs ss) ≡ statements bs ss
   places_all ms front w gs bs Nil = refl
   places_all ms front w gs bs (Cons s ss) =
       map_append place_of (sites_in ms front w gs bs s) _
@@ -69,7 +69,7 @@ mutual
 -- THE FLAT STATEMENTS
 
 -- the flat statements of a site alone: none of a `---` and of an `if` on a variable, else one
-abbrev pub own_of : List Mem → List Flat.Guard → Flatten.Place → Stmt → List Flat.Stmt
+abbrev pub own_of : List Mem → List Flat.Guard → Flatten.Position → Stmt → List Flat.Stmt
 own_of ms gs w (If sp c when otherwise) = binds_guard gs w c
 own_of ms gs w s = flat_stmt ms gs s w
 
@@ -86,7 +86,7 @@ owns_append ms (x ∷ xs) ys = ap (λ l. own ms x ++ l) (owns_append ms xs ys) �
 
 -- the flat statements are those of the sites, in text order
 mutual
-  owns_in : (ms : List Mem) (front : List Place) (w : Flatten.Place) (gs : List Flat.Guard) (bs : List Branch) (s : Stmt) → owns ms (sites_in ms front w gs bs s) ≡ flat_stmt ms gs s w
+  owns_in : (ms : List Mem) (front : List Place) (w : Flatten.Position) (gs : List Flat.Guard) (bs : List Branch) (s : Stmt) → owns ms (sites_in ms front w gs bs s) ≡ flat_stmt ms gs s w
   owns_in ms front w gs bs (If sp c when otherwise) =
       ap (λ l. binds_guard gs w c ++ l)
       (owns_append ms (sites ms (front ++ Statement (If sp c when otherwise) bs ∷ []) (with_guard c w) (under gs w.vars c true) (bs ++ branch sp c true when ∷ []) when) _
@@ -96,7 +96,7 @@ mutual
       ∙ sym (append_assoc (binds_guard gs w c) (flat_stmts ms (under gs w.vars c true) when (with_guard c w)) (flat_stmts ms (under gs w.vars c false) otherwise (at_otherwise ms c when w)))
   owns_in ms front w gs bs s = append-nil (flat_stmt ms gs s w)
 
-  pub owns_all : (ms : List Mem) (front : List Place) (w : Flatten.Place) (gs : List Flat.Guard) (bs : List Branch) (ss : Stmts) → owns ms (sites ms front w gs bs ss) ≡ flat_stmts ms gs ss w
+  pub owns_all : (ms : List Mem) (front : List Place) (w : Flatten.Position) (gs : List Flat.Guard) (bs : List Branch) (ss : Stmts) → owns ms (sites ms front w gs bs ss) ≡ flat_stmts ms gs ss w
   owns_all ms front w gs bs Nil = refl
   owns_all ms front w gs bs (Cons s ss) =
       owns_append ms (sites_in ms front w gs bs s) _
@@ -113,12 +113,12 @@ pub all_append : (P : Site → Type 0) (xs ys : List Site) → All P xs → All 
 all_append P [] ys h k = k
 all_append P (x ∷ xs) ys h k = (h.0, all_append P xs ys h.1 k)
 
--- the site stands in this text behind its front
+-- the site stands in this text after its front
 abbrev pub Stands : List Place → Site → Type 0
 Stands whole t = (later : List Place) × (whole ≡ t.front ++ place_of t ∷ later)
 
 mutual
-  stands_in : (whole : List Place) (ms : List Mem) (front : List Place) (w : Flatten.Place) (gs : List Flat.Guard) (bs : List Branch) (s : Stmt) (tail : List Place)
+  stands_in : (whole : List Place) (ms : List Mem) (front : List Place) (w : Flatten.Position) (gs : List Flat.Guard) (bs : List Branch) (s : Stmt) (tail : List Place)
       → whole ≡ front ++ (with_inner bs s ++ tail) → All (Stands whole) (sites_in ms front w gs bs s)
   stands_in whole ms front w gs bs (If sp c when otherwise) tail e = (
     (_, e),
@@ -132,7 +132,7 @@ mutual
   )
   stands_in whole ms front w gs bs s tail e = ((tail, e), tt)
 
-  pub stands_all : (whole : List Place) (ms : List Mem) (front : List Place) (w : Flatten.Place) (gs : List Flat.Guard) (bs : List Branch) (ss : Stmts) (tail : List Place)
+  pub stands_all : (whole : List Place) (ms : List Mem) (front : List Place) (w : Flatten.Position) (gs : List Flat.Guard) (bs : List Branch) (ss : Stmts) (tail : List Place)
       → whole ≡ front ++ (statements bs ss ++ tail) → All (Stands whole) (sites ms front w gs bs ss)
   stands_all whole ms front w gs bs Nil tail e = tt
   stands_all whole ms front w gs bs (Cons s ss) tail e =

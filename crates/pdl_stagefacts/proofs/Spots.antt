@@ -19,7 +19,7 @@ Proper (Fork x a b rest) = (0 < a + b) × Proper rest
 abbrev pub merge_at : ℕ → ℕ → ℕ → ℕ
 merge_at f a b = suc (f + a + b)
 
--- behind which stage a branch begins, and how many stages it has
+-- after which stage a branch begins, and how many stages it has
 abbrev pub start : ℕ → ℕ → Bool → ℕ
 start f a first = cond first f (f + a)
 
@@ -43,7 +43,7 @@ rest_tail p k x xs h = (
   let e = h.2 in let f = length-append h.0 (x ∷ []) in let g : length (x ∷ []) ≡ 1 = refl in omega arith,
 )
 
--- the stages of a branch behind stage s
+-- the stages of a branch after stage s
 abbrev pub Chain : Flat.Pipe → Option Flat.Branch → Flat.Next → ℕ → ℕ → Type 0
 Chain p branch exit s n = (d j : ℕ) → d + suc j ≡ n → stage_at p (suc (s + d)) ≡ stage (leads (suc (s + d)) exit j) branch None
 
@@ -114,7 +114,7 @@ pub record Forked (p : Flat.Pipe) (f x a b : ℕ) : Type 0 where
   pub merge : (stage_at p (merge_at f a b)).merges ≡ Some f
   pub inside : merge_at f a b < length p.stages
 
--- the last stage, one that leads to the next, a fork, or one in a branch with d branch stages before it and j behind it
+-- the last stage, one that leads to the next, a fork, or one in a branch with d branch stages before it and j after it
 pub data Spot (p : Flat.Pipe) (s : ℕ) : Type 0 where
   Final : (stage_at p s).next ≡ Flat.Ends → Trunk p s → suc s ≡ length p.stages → Spot p s
   Line : (stage_at p s).next ≡ Flat.Goes (suc s) → Trunk p s → Trunk p (suc s) → (stage_at p (suc s)).merges ≡ None → suc s < length p.stages → Spot p s
@@ -143,15 +143,15 @@ spot p k merges Last g s low high =
 spot p k merges (Cut rest) g s low high = at (λ l. spot p (suc k) None rest g.1 s l high) (cases_lt k s)
   where
     at : (suc k ≤ s → Spot p s) → (k < s) ⊎ (s ≤ k) → Spot p s
-    at behind (inl l) = behind (omega arith)
-    at behind (inr l) =
+    at after (inl l) = after (omega arith)
+    at after (inr l) =
         subst (Spot p) (let f : k ≡ s = omega arith in f)
         (Line (ap (λ (x : Flat.Stage). x.next) g.0) (ap (λ (x : Flat.Stage). x.branch) g.0) (group_trunk p (suc k) None rest g.1) (group_merge p (suc k) None rest g.1) (group_inside p (suc k) None rest g.1))
 spot p k merges (Fork x a b rest) g s low high = at (λ l. spot p (merge_at k a b) (Some k) rest g.4 s l high) (cases_lt k s)
   where
     third : (merge_at k a b ≤ s → Spot p s) → (k + a < s) → (merge_at k a b ≤ s) ⊎ (s < merge_at k a b) → Spot p s
-    third behind l (inl m) = behind m
-    third behind l (inr m) = Inner k x a b false (s - suc (k + a)) (k + a + b - s) (group_fork p k merges x a b rest g) (omega arith) (omega arith)
+    third after l (inl m) = after m
+    third after l (inr m) = Inner k x a b false (s - suc (k + a)) (k + a + b - s) (group_fork p k merges x a b rest g) (omega arith) (omega arith)
 
     either : (merge_at k a b ≤ s) ⊎ (s < merge_at k a b)
     either = turn (cases_lt s (merge_at k a b))
@@ -161,12 +161,12 @@ spot p k merges (Fork x a b rest) g s low high = at (λ l. spot p (merge_at k a 
         turn (inr l) = inl l
 
     second : (merge_at k a b ≤ s → Spot p s) → (k < s) → (k + a < s) ⊎ (s ≤ k + a) → Spot p s
-    second behind l (inl m) = third behind m either
-    second behind l (inr m) = Inner k x a b true (s - suc k) (k + a - s) (group_fork p k merges x a b rest g) (omega arith) (omega arith)
+    second after l (inl m) = third after m either
+    second after l (inr m) = Inner k x a b true (s - suc k) (k + a - s) (group_fork p k merges x a b rest g) (omega arith) (omega arith)
 
     at : (merge_at k a b ≤ s → Spot p s) → (k < s) ⊎ (s ≤ k) → Spot p s
-    at behind (inl l) = second behind l (cases_lt (k + a) s)
-    at behind (inr l) = subst (Spot p) (let f : k ≡ s = omega arith in f) (AtFork x a b (group_fork p k merges x a b rest g))
+    at after (inl l) = second after l (cases_lt (k + a) s)
+    at after (inr l) = subst (Spot p) (let f : k ≡ s = omega arith in f) (AtFork x a b (group_fork p k merges x a b rest g))
 
 -- BRANCHES
 

@@ -96,8 +96,8 @@ reads_none front more bs n e h cs = from_append 0 0 (bs ++ cs) front more ∙ fr
 reads_inner : (front : List Place) (bs : List Branch) (b : Branch) (n : ℕ) → Reads front bs n → Reads front (bs ++ b ∷ []) n
 reads_inner front bs b n h cs = ap (stage_in front) (append_assoc bs (b ∷ []) cs) ∙ h (b ∷ cs)
 
--- behind a separator
-reads_cut : (front : List Place) (w : Flatten.Place) (bs : List Branch) (sp : Span) → Begun front w → Reads (front ++ Statement (Separator sp) bs ∷ []) bs (suc w.begun)
+-- after a separator
+reads_cut : (front : List Place) (w : Flatten.Position) (bs : List Branch) (sp : Span) → Begun front w → Reads (front ++ Statement (Separator sp) bs ∷ []) bs (suc w.begun)
 reads_cut front w bs sp b cs =
     from_append 0 0 (bs ++ cs) front (Statement (Separator sp) bs ∷ [])
     ∙ ap (λ c. if c then suc (0 + cut front) else stage_from 0 0 (bs ++ cs) front) (outer_more bs cs)
@@ -105,7 +105,7 @@ reads_cut front w bs sp b cs =
 
 -- statements that begin no stage
 mutual
-  none_in : (ms : List Mem) (front : List Place) (w : Flatten.Place) (gs : List Flat.Guard) (bs : List Branch) (s : Stmt) → separators_in s ≡ 0 → Reads front bs w.stage → All Staged (sites_in ms front w gs bs s)
+  none_in : (ms : List Mem) (front : List Place) (w : Flatten.Position) (gs : List Flat.Guard) (bs : List Branch) (s : Stmt) → separators_in s ≡ 0 → Reads front bs w.stage → All Staged (sites_in ms front w gs bs s)
   none_in ms front w gs bs (If sp c when otherwise) e h =
       let g = cut_all (bs ++ branch sp c true when ∷ []) when in
       let i = cut_append (Statement (If sp c when otherwise) bs ∷ []) (statements (bs ++ branch sp c true when ∷ []) when) in
@@ -120,7 +120,7 @@ mutual
       )
   none_in ms front w gs bs s e h = (reads_here front bs w.stage h, tt)
 
-  none_all : (ms : List Mem) (front : List Place) (w : Flatten.Place) (gs : List Flat.Guard) (bs : List Branch) (ss : Stmts) → separators ss ≡ 0 → Reads front bs w.stage → All Staged (sites ms front w gs bs ss)
+  none_all : (ms : List Mem) (front : List Place) (w : Flatten.Position) (gs : List Flat.Guard) (bs : List Branch) (ss : Stmts) → separators ss ≡ 0 → Reads front bs w.stage → All Staged (sites ms front w gs bs ss)
   none_all ms front w gs bs Nil e h = tt
   none_all ms front w gs bs (Cons s ss) e h =
       let f = cut_in bs s in
@@ -128,12 +128,12 @@ mutual
       (none_in ms front w gs bs s (omega arith) h)
       (none_all ms (front ++ with_inner bs s) (past ms s w) gs bs ss (omega arith) (subst (Reads (front ++ with_inner bs s) bs) (sym (none_past ms w s (omega arith))) (reads_none front (with_inner bs s) bs w.stage (omega arith) h)))
 
-  none_past : (ms : List Mem) (w : Flatten.Place) (s : Stmt) → separators_in s ≡ 0 → (past ms s w).stage ≡ w.stage
+  none_past : (ms : List Mem) (w : Flatten.Position) (s : Stmt) → separators_in s ≡ 0 → (past ms s w).stage ≡ w.stage
   none_past ms w (Separator sp) e = absurd (omega arith)
   none_past ms w s e = refl
 
 -- the statements of a branch
-plain_staged : (ms : List Mem) (front : List Place) (w : Flatten.Place) (gs : List Flat.Guard) (bs : List Branch) (ss : Stmts) → is_plain ss ≡ true → Begun front w → Reads front bs w.stage → All Staged (sites ms front w gs bs ss)
+plain_staged : (ms : List Mem) (front : List Place) (w : Flatten.Position) (gs : List Flat.Guard) (bs : List Branch) (ss : Stmts) → is_plain ss ≡ true → Begun front w → Reads front bs w.stage → All Staged (sites ms front w gs bs ss)
 plain_staged ms front w gs bs Nil h b r = tt
 plain_staged ms front w gs bs (Cons (Separator sp) ss) h b r = (
   reads_here front bs w.stage r,
@@ -153,7 +153,7 @@ plain_staged ms front w gs bs (Cons s ss) h b r = (
 )
 
 -- the sites of a fork
-fork_staged : (ms : List Mem) (front : List Place) (w : Flatten.Place) (sp : Span) (c : Expr) (when otherwise : Stmts) → is_plain when ≡ true → is_plain otherwise ≡ true → Begun front w → Reads front [] w.stage → All Staged (sites_in ms front w [] [] (If sp c when otherwise))
+fork_staged : (ms : List Mem) (front : List Place) (w : Flatten.Position) (sp : Span) (c : Expr) (when otherwise : Stmts) → is_plain when ≡ true → is_plain otherwise ≡ true → Begun front w → Reads front [] w.stage → All Staged (sites_in ms front w [] [] (If sp c when otherwise))
 fork_staged ms front w sp c when otherwise h k b r = (
   reads_here front [] w.stage r,
   all_append Staged (sites ms (front ++ Statement (If sp c when otherwise) [] ∷ []) (with_guard c w) (under [] w.vars c true) (branch sp c true when ∷ []) when) _
@@ -172,7 +172,7 @@ fork_staged ms front w sp c when otherwise h k b r = (
         ∙ r (branch sp c false otherwise ∷ cs)
 
 -- the statements of a body
-pub body_staged : (ms : List Mem) (front : List Place) (w : Flatten.Place) (ss : Stmts) → is_forked ss ≡ true → Begun front w → Reads front [] w.stage → All Staged (sites ms front w [] [] ss)
+pub body_staged : (ms : List Mem) (front : List Place) (w : Flatten.Position) (ss : Stmts) → is_forked ss ≡ true → Begun front w → Reads front [] w.stage → All Staged (sites ms front w [] [] ss)
 body_staged ms front w Nil h b r = tt
 body_staged ms front w (Cons (Separator sp) ss) h b r = (
   reads_here front [] w.stage r,

@@ -20,7 +20,7 @@ use Rattle.pdl_stagefacts.proofs.Formed.{body_groups}
 
 -- what holds of the stage where some statements begin, and of those that begin in them, holds of each site's stage
 mutual
-  pub stages_in : (Good : ℕ → Type 0) (ms : List Mem) (front : List Place) (w : Flatten.Place) (gs : List Flat.Guard) (bs : List Branch) (s : Stmt)
+  pub stages_in : (Good : ℕ → Type 0) (ms : List Mem) (front : List Place) (w : Flatten.Position) (gs : List Flat.Guard) (bs : List Branch) (s : Stmt)
       → Good w.stage → ((n : ℕ) → w.begun < n → n ≤ w.begun + separators_in s → Good n) → All (λ t. Good t.walk.stage) (sites_in ms front w gs bs s)
   stages_in Good ms front w gs bs (If sp c when otherwise) here more =
       let b = guard_begun c w in
@@ -32,7 +32,7 @@ mutual
       )
   stages_in Good ms front w gs bs s here more = (here, tt)
 
-  pub stages_all : (Good : ℕ → Type 0) (ms : List Mem) (front : List Place) (w : Flatten.Place) (gs : List Flat.Guard) (bs : List Branch) (ss : Stmts)
+  pub stages_all : (Good : ℕ → Type 0) (ms : List Mem) (front : List Place) (w : Flatten.Position) (gs : List Flat.Guard) (bs : List Branch) (ss : Stmts)
       → Good w.stage → ((n : ℕ) → w.begun < n → n ≤ w.begun + separators ss → Good n) → All (λ t. Good t.walk.stage) (sites ms front w gs bs ss)
   stages_all Good ms front w gs bs Nil here more = tt
   stages_all Good ms front w gs bs (Cons s ss) here more =
@@ -41,7 +41,7 @@ mutual
       (stages_in Good ms front w gs bs s here (λ n low high. more n low (omega arith)))
       (stages_all Good ms (front ++ with_inner bs s) (past ms s w) gs bs ss (stage_past Good ms w s here (λ n low high. more n low (omega arith))) (λ n low high. more n (omega arith) (omega arith)))
 
-  stage_past : (Good : ℕ → Type 0) (ms : List Mem) (w : Flatten.Place) (s : Stmt) → Good w.stage → ((n : ℕ) → w.begun < n → n ≤ w.begun + separators_in s → Good n) → Good (past ms s w).stage
+  stage_past : (Good : ℕ → Type 0) (ms : List Mem) (w : Flatten.Position) (s : Stmt) → Good w.stage → ((n : ℕ) → w.begun < n → n ≤ w.begun + separators_in s → Good n) → Good (past ms s w).stage
   stage_past Good ms w (Separator sp) here more = more (suc w.begun) (omega arith) (omega arith)
   stage_past Good ms w s here more = here
 
@@ -62,7 +62,7 @@ fork_more : (bs more : List Branch) → in_fork bs ≡ true → in_fork (bs ++ m
 fork_more bs more h = list_any-append (λ (b : Branch). holds_separator b.inside) bs more ∙ or_left (in_fork bs) (in_fork more) h
 
 -- what a site stands under, all inside it stand under
-pub guards_all : (ms : List Mem) (g : Flat.Guard) (front : List Place) (w : Flatten.Place) (gs : List Flat.Guard) (bs : List Branch) (ss : Stmts)
+pub guards_all : (ms : List Mem) (g : Flat.Guard) (front : List Place) (w : Flatten.Position) (gs : List Flat.Guard) (bs : List Branch) (ss : Stmts)
     → HasGuard g gs → in_fork bs ≡ true → All (λ t. HasGuard g t.gs × (in_fork t.branches ≡ true)) (sites ms front w gs bs ss)
 guards_all ms g front w gs bs ss h k =
     holds_all ms (λ front w gs bs. HasGuard g gs × (in_fork bs ≡ true)) (λ front w gs bs s i. i)
@@ -99,7 +99,7 @@ side_stands p f x a b first k t (inr h) g =
     g.0 g.1
 
 -- the sites of a branch of a fork
-branch_stands : (p : Flat.Pipe) (f x a b : ℕ) (first : Bool) → Forked p f x a b → (ms : List Mem) (front : List Place) (w : Flatten.Place) (gs : List Flat.Guard) (bs : List Branch) (ss : Stmts)
+branch_stands : (p : Flat.Pipe) (f x a b : ℕ) (first : Bool) → Forked p f x a b → (ms : List Mem) (front : List Place) (w : Flatten.Position) (gs : List Flat.Guard) (bs : List Branch) (ss : Stmts)
     → w.stage ≡ f → w.begun ≡ start f a first → separators ss ≡ long a b first → HasGuard (record { var = x; first = first }) gs → (0 < separators ss → in_fork bs ≡ true) → All (Standing p) (sites ms front w gs bs ss)
 branch_stands p f x a b first k ms front w gs bs ss here begun many g h = at (cases_lt 0 (separators ss))
   where
@@ -113,7 +113,7 @@ branch_stands p f x a b first k ms front w gs bs ss here begun many g h = at (ca
         (stages_all (Trunk p) ms front w gs bs ss (subst (Trunk p) (sym here) k.trunk) (λ n low high. absurd (omega arith)))
 
 -- the sites of an `if` that begins no stage
-whole_stands : (p : Flat.Pipe) (ms : List Mem) (front : List Place) (w : Flatten.Place) (gs : List Flat.Guard) (bs : List Branch) (s : Stmt) → Trunk p w.stage → separators_in s ≡ 0 → All (Standing p) (sites_in ms front w gs bs s)
+whole_stands : (p : Flat.Pipe) (ms : List Mem) (front : List Place) (w : Flatten.Position) (gs : List Flat.Guard) (bs : List Branch) (s : Stmt) → Trunk p w.stage → separators_in s ≡ 0 → All (Standing p) (sites_in ms front w gs bs s)
 whole_stands p ms front w gs bs s here none =
     all_map (λ t. Trunk p t.walk.stage) (Standing p) (λ t h. OnTrunk h) (sites_in ms front w gs bs s) (stages_in (Trunk p) ms front w gs bs s here (λ n low high. absurd (omega arith)))
 
@@ -126,7 +126,7 @@ holds_some sp c truth ss l = or_left (holds_separator ss) false (at (separators 
     at false e = refl
 
 -- the sites of a fork
-fork_stands : (p : Flat.Pipe) (k : ℕ) (ms : List Mem) (front : List Place) (w : Flatten.Place) (sp : Span) (c : Expr) (when otherwise : Stmts) → w.stage ≡ k → w.begun ≡ k
+fork_stands : (p : Flat.Pipe) (k : ℕ) (ms : List Mem) (front : List Place) (w : Flatten.Position) (sp : Span) (c : Expr) (when otherwise : Stmts) → w.stage ≡ k → w.begun ≡ k
     → Forked p k (guard_of w.vars c) (separators when) (separators otherwise) → All (Standing p) (sites_in ms front w [] [] (If sp c when otherwise))
 fork_stands p k ms front w sp c when otherwise here begun fork =
     let b = guard_begun c w in
@@ -145,14 +145,14 @@ pub fitting : (when otherwise ss : Stmts) → begins_stage ss ≡ false → (b :
 fitting when otherwise ss e true f = refl
 fitting when otherwise ss e false f = absurd (false≢true (sym e ∙ (and_parts (begins_stage ss) (is_plain when && is_plain otherwise) f).0))
 
--- the shape behind an `if` and a separator
-abbrev pub rest_shape : List Mem → Span → Expr → Stmts → Stmts → Span → Stmts → Flatten.Place → Shape
+-- the shape after an `if` and a separator
+abbrev pub rest_shape : List Mem → Span → Expr → Stmts → Stmts → Span → Stmts → Flatten.Position → Shape
 rest_shape ms sp c when otherwise sq ss w = shape ms ss (past ms (Separator sq) (past ms (If sp c when otherwise) w))
 
-abbrev pub either_shape : List Mem → Span → Expr → Stmts → Stmts → Span → Stmts → Flatten.Place → Bool → Shape
+abbrev pub either_shape : List Mem → Span → Expr → Stmts → Stmts → Span → Stmts → Flatten.Position → Bool → Shape
 either_shape ms sp c when otherwise sq ss w b = cond b (Cut (rest_shape ms sp c when otherwise sq ss w)) (Fork (guard_of w.vars c) (separators when) (separators otherwise) (rest_shape ms sp c when otherwise sq ss w))
 
-pub stands : (p : Flat.Pipe) (ms : List Mem) (k : ℕ) (merges : Option ℕ) (front : List Place) (w : Flatten.Place) (ss : Stmts)
+pub stands : (p : Flat.Pipe) (ms : List Mem) (k : ℕ) (merges : Option ℕ) (front : List Place) (w : Flatten.Position) (ss : Stmts)
     → w.stage ≡ w.begun → w.begun ≡ k → is_forked ss ≡ true → Groups p k merges (shape ms ss w) → All (Standing p) (sites ms front w [] [] ss)
 stands p ms k merges front w Nil e i h g = tt
 stands p ms k merges front w (Cons (Separator sp) ss) e i h g = (

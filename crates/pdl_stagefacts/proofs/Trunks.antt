@@ -4,16 +4,16 @@ use Rattle.std.proofs.lemmas.Bool.{false≢true, and_parts, and_from, or_left, o
 use Rattle.pdl_kit.specs.declared.rule.Rule.TheVariants.{F1}
 use Rattle.pdl_semantics.specs.Tree.{Mem, Pipe}
 use Rattle.pdl_semantics.specs.Flat
-use Rattle.pdl_semantics.specs.Flat.{taken, takes}
+use Rattle.pdl_semantics.specs.Flat.{all_hold, takes_branch}
 use Rattle.pdl_semantics.specs.Flatten.{first_stage, first_stages, flat}
 use Rattle.pdl_semantics.specs.Stages.{last_stage, stage_at, in_stage, onpath, is_inside, is_branch_of, merges_fork, is_reserve, is_release, is_verify, verify_stage, list_any}
 use Rattle.pdl_semantics.specs.Cycle.{merges_by}
 use Rattle.pdl_rules.specs.Forks.{is_trunk_only}
 use Rattle.pdl_rules.specs.Refusal.{KeepsRules}
-use Rattle.pdl_derived.specs.Alone.{before, looked}
+use Rattle.pdl_derived.specs.Alone.{before, answered_op}
 use Rattle.pdl_facts.specs.Scans.{none_of}
 use Rattle.pdl_facts.specs.Graphs.{Trunk, In, next_of, stage_or, goes_by, on_side, Graph, Branches}
-use Rattle.pdl_facts.specs.Facts.{trunk_only, visits, comes_by}
+use Rattle.pdl_facts.specs.Facts.{trunk_only, visits_stage, comes_by}
 use Rattle.pdl_stagefacts.proofs.Sites.{Site, place_of}
 use Rattle.pdl_stagefacts.proofs.Shapes.{Shape, Last, Cut, Fork}
 use Rattle.pdl_stagefacts.proofs.Spots.{merge_at, start, long, Groups, group_trunk, group_merge, group_fork, group_inside, Forked, Spot, between_in, not_trunk, none_some, past_trunk, inside_of, fork_same}
@@ -57,12 +57,12 @@ merge_group p k merges (Fork x a b rest) i f g h low e =
         let r = between_in p k x a b i fork l m in
         none_some ℕ f (stage_at p i).merges (ap (λ n. (stage_at p n).merges) r.4 ∙ ap (λ (y : Flat.Stage). y.merges) (fork.chain r.0 r.1 r.2 r.3)) e
 
-    behind : k < i → (i < merge_at k a b) ⊎ (merge_at k a b ≤ i) → (merge_at k a b ≤ i → (x : ℕ) × (a : ℕ) × (b : ℕ) × Forked p f x a b × (i ≡ merge_at f a b)) → (x : ℕ) × (a : ℕ) × (b : ℕ) × Forked p f x a b × (i ≡ merge_at f a b)
-    behind l (inl m) more = absurd (inner l m)
-    behind l (inr m) more = more m
+    after : k < i → (i < merge_at k a b) ⊎ (merge_at k a b ≤ i) → (merge_at k a b ≤ i → (x : ℕ) × (a : ℕ) × (b : ℕ) × Forked p f x a b × (i ≡ merge_at f a b)) → (x : ℕ) × (a : ℕ) × (b : ℕ) × Forked p f x a b × (i ≡ merge_at f a b)
+    after l (inl m) more = absurd (inner l m)
+    after l (inr m) more = more m
 
     at : (k < i) ⊎ (i ≤ k) → (merge_at k a b ≤ i → (x : ℕ) × (a : ℕ) × (b : ℕ) × Forked p f x a b × (i ≡ merge_at f a b)) → (x : ℕ) × (a : ℕ) × (b : ℕ) × Forked p f x a b × (i ≡ merge_at f a b)
-    at (inl l) more = behind l (cases_lt i (merge_at k a b)) more
+    at (inl l) more = after l (cases_lt i (merge_at k a b)) more
     at (inr l) more =
         let same : k ≡ i = omega arith in
         let r = h (sym (group_merge p k merges (Fork x a b rest) g) ∙ ap (λ n. (stage_at p n).merges) same ∙ e) in
@@ -134,26 +134,26 @@ verify_trunk _ h = absurd (false≢true h)
 
 -- GUARDS
 
-has_taken : (g : Flat.Guard) (gs : List Flat.Guard) (path : List ℕ) → HasGuard g gs → taken gs path ≡ true → takes g.first (slice_index path g.var) ≡ true
-has_taken g gs path h t = at h.0 (ap (λ l. taken l path) (sym h.2) ∙ t)
+has_taken : (g : Flat.Guard) (gs : List Flat.Guard) (path : List ℕ) → HasGuard g gs → all_hold gs path ≡ true → takes_branch g.first (slice_index path g.var) ≡ true
+has_taken g gs path h t = at h.0 (ap (λ l. all_hold l path) (sym h.2) ∙ t)
   where
-    at : (outer : List Flat.Guard) → taken (outer ++ g ∷ h.1) path ≡ true → takes g.first (slice_index path g.var) ≡ true
-    at [] k = (and_parts (takes g.first (slice_index path g.var)) (taken h.1 path) k).0
-    at (o ∷ os) k = at os (and_parts (takes o.first (slice_index path o.var)) (taken (os ++ g ∷ h.1) path) k).1
+    at : (outer : List Flat.Guard) → all_hold (outer ++ g ∷ h.1) path ≡ true → takes_branch g.first (slice_index path g.var) ≡ true
+    at [] k = (and_parts (takes_branch g.first (slice_index path g.var)) (all_hold h.1 path) k).0
+    at (o ∷ os) k = at os (and_parts (takes_branch o.first (slice_index path o.var)) (all_hold (os ++ g ∷ h.1) path) k).1
 
 -- of a path's statements before a stage, where none stands in between
-before_same : (path : List ℕ) (a b : ℕ) (ys : List Flat.Stmt) → a ≤ b → Each (λ y. taken y.guards path ≡ true → a ≤ y.stage → y.stage < b → ⊥) ys → before b (onpath path ys) ≡ before a (onpath path ys)
+before_same : (path : List ℕ) (a b : ℕ) (ys : List Flat.Stmt) → a ≤ b → Each (λ y. all_hold y.guards path ≡ true → a ≤ y.stage → y.stage < b → ⊥) ys → before b (onpath path ys) ≡ before a (onpath path ys)
 before_same path a b [] l h = refl
-before_same path a b (y ∷ ys) l h = at (taken y.guards path) refl (before_same path a b ys l h.1)
+before_same path a b (y ∷ ys) l h = at (all_hold y.guards path) refl (before_same path a b ys l h.1)
   where
-    here : (c d : Bool) → nat_lt y.stage b ≡ c → nat_lt y.stage a ≡ d → taken y.guards path ≡ true → before b (onpath path ys) ≡ before a (onpath path ys)
-        → (if c then record y { guards = []; op = looked y.op } ∷ before b (onpath path ys) else before b (onpath path ys)) ≡ (if d then record y { guards = []; op = looked y.op } ∷ before a (onpath path ys) else before a (onpath path ys))
-    here true true e f t k = ap (λ r. record y { guards = []; op = looked y.op } ∷ r) k
+    here : (c d : Bool) → nat_lt y.stage b ≡ c → nat_lt y.stage a ≡ d → all_hold y.guards path ≡ true → before b (onpath path ys) ≡ before a (onpath path ys)
+        → (if c then record y { guards = []; op = answered_op y.op } ∷ before b (onpath path ys) else before b (onpath path ys)) ≡ (if d then record y { guards = []; op = answered_op y.op } ∷ before a (onpath path ys) else before a (onpath path ys))
+    here true true e f t k = ap (λ r. record y { guards = []; op = answered_op y.op } ∷ r) k
     here true false e f t k = absurd (h.0 t (ltb-false y.stage a f) (ltb-true y.stage b e))
     here false true e f t k = absurd (let i = ltb-true y.stage a f in let j = ltb-false y.stage b e in omega arith)
     here false false e f t k = k
 
-    at : (t : Bool) → taken y.guards path ≡ t → before b (onpath path ys) ≡ before a (onpath path ys)
+    at : (t : Bool) → all_hold y.guards path ≡ t → before b (onpath path ys) ≡ before a (onpath path ys)
         → before b (if t then record y { guards = [] } ∷ onpath path ys else onpath path ys) ≡ before a (if t then record y { guards = [] } ∷ onpath path ys else onpath path ys)
     at true e k = here (nat_lt y.stage b) (nat_lt y.stage a) refl refl e k
     at false e k = k
@@ -276,14 +276,14 @@ module _ (p : Pipe) (rules : KeepsRules p) where
   -- PATHS
 
   -- a statement of a path that stands in a branch is on the path's side
-  pub each_side : (path : List ℕ) → Each (λ y. taken y.guards path ≡ true → (c : Flat.Branch) → In (flat p) c y.stage → goes_by (flat p) c path ≡ true) (flat p).stmts
-  each_side path = each_fine p rules (λ y. taken y.guards path ≡ true → (c : Flat.Branch) → In (flat p) c y.stage → goes_by (flat p) c path ≡ true) (λ t h op e. at t h.standing)
+  pub each_side : (path : List ℕ) → Each (λ y. all_hold y.guards path ≡ true → (c : Flat.Branch) → In (flat p) c y.stage → goes_by (flat p) c path ≡ true) (flat p).stmts
+  each_side path = each_fine p rules (λ y. all_hold y.guards path ≡ true → (c : Flat.Branch) → In (flat p) c y.stage → goes_by (flat p) c path ≡ true) (λ t h op e. at t h.standing)
     where
-      side : (first : Bool) (v : ℕ) → takes first v ≡ true → (if first then v == 1 else not (v == 1)) ≡ true
+      side : (first : Bool) (v : ℕ) → takes_branch first v ≡ true → (if first then v == 1 else not (v == 1)) ≡ true
       side true v h = h
       side false v h = h
 
-      at : (t : Site) → Standing (flat p) t → taken t.gs path ≡ true → (c : Flat.Branch) → In (flat p) c t.walk.stage → goes_by (flat p) c path ≡ true
+      at : (t : Site) → Standing (flat p) t → all_hold t.gs path ≡ true → (c : Flat.Branch) → In (flat p) c t.walk.stage → goes_by (flat p) c path ≡ true
       at t (OnTrunk u) k c i = absurd (not_trunk (flat p) c t.walk.stage u i)
       at t (OnBranch d x a b fork j g f) k c i =
           let same = sym j ∙ i in
@@ -298,7 +298,7 @@ module _ (p : Pipe) (rules : KeepsRules p) where
       by false true e = absurd (false≢true e)
       by false false e = refl
 
-  pub skips : (path : List ℕ) (s : ℕ) → s < length (flat p).stages → visits (flat p) path s ≡ true → before (next_of (flat p) s path) (onpath path (flat p).stmts) ≡ before (suc s) (onpath path (flat p).stmts)
+  pub skips : (path : List ℕ) (s : ℕ) → s < length (flat p).stages → visits_stage (flat p) path s ≡ true → before (next_of (flat p) s path) (onpath path (flat p).stmts) ≡ before (suc s) (onpath path (flat p).stmts)
   skips path s low on = at (way (flat p) s path (at_spot s low))
     where
       near : next_of (flat p) s path ≡ suc s → before (next_of (flat p) s path) (onpath path (flat p).stmts) ≡ before (suc s) (onpath path (flat p).stmts)
@@ -310,9 +310,9 @@ module _ (p : Pipe) (rules : KeepsRules p) where
       far n f x a b first k e l m u v none =
           ap (λ i. before i (onpath path (flat p).stmts)) e
           ∙ before_same path (suc s) n (flat p).stmts m
-          (each_map (λ y. taken y.guards path ≡ true → (c : Flat.Branch) → In (flat p) c y.stage → goes_by (flat p) c path ≡ true) (λ y. taken y.guards path ≡ true → suc s ≤ y.stage → y.stage < n → ⊥) by (flat p).stmts (each_side path))
+          (each_map (λ y. all_hold y.guards path ≡ true → (c : Flat.Branch) → In (flat p) c y.stage → goes_by (flat p) c path ≡ true) (λ y. all_hold y.guards path ≡ true → suc s ≤ y.stage → y.stage < n → ⊥) by (flat p).stmts (each_side path))
         where
-          by : (y : Flat.Stmt) → (taken y.guards path ≡ true → (c : Flat.Branch) → In (flat p) c y.stage → goes_by (flat p) c path ≡ true) → taken y.guards path ≡ true → suc s ≤ y.stage → y.stage < n → ⊥
+          by : (y : Flat.Stmt) → (all_hold y.guards path ≡ true → (c : Flat.Branch) → In (flat p) c y.stage → goes_by (flat p) c path ≡ true) → all_hold y.guards path ≡ true → suc s ≤ y.stage → y.stage < n → ⊥
           by y h t q r =
               let i = between_in (flat p) f x a b y.stage k (omega arith) (omega arith) in
               let same : i.0 ≡ first = sym (side_of (record { fork = f; first = i.0 }) path x a b k (h t _ i.5)) ∙ v in

@@ -12,14 +12,14 @@ use Rattle.pdl_stagefacts.proofs.Sites.{branch, sites_in, sites, sites_of, front
 
 -- AN INVARIANT OF THE WALK
 
-module _ (ms : List Mem) (I : List Place → Flatten.Place → List Flat.Guard → List Branch → Type 0)
-    (passes : (front : List Place) (w : Flatten.Place) (gs : List Flat.Guard) (bs : List Branch) (s : Stmt) → I front w gs bs → I (front ++ with_inner bs s) (past ms s w) gs bs)
-    (first : (front : List Place) (w : Flatten.Place) (gs : List Flat.Guard) (bs : List Branch) (sp : Span) (c : Expr) (when otherwise : Stmts) → I front w gs bs
+module _ (ms : List Mem) (I : List Place → Flatten.Position → List Flat.Guard → List Branch → Type 0)
+    (passes : (front : List Place) (w : Flatten.Position) (gs : List Flat.Guard) (bs : List Branch) (s : Stmt) → I front w gs bs → I (front ++ with_inner bs s) (past ms s w) gs bs)
+    (first : (front : List Place) (w : Flatten.Position) (gs : List Flat.Guard) (bs : List Branch) (sp : Span) (c : Expr) (when otherwise : Stmts) → I front w gs bs
     → I (front ++ Statement (If sp c when otherwise) bs ∷ []) (with_guard c w) (under gs w.vars c true) (bs ++ branch sp c true when ∷ []))
-    (second : (front : List Place) (w : Flatten.Place) (gs : List Flat.Guard) (bs : List Branch) (sp : Span) (c : Expr) (when otherwise : Stmts) → I front w gs bs
+    (second : (front : List Place) (w : Flatten.Position) (gs : List Flat.Guard) (bs : List Branch) (sp : Span) (c : Expr) (when otherwise : Stmts) → I front w gs bs
     → I (front ++ Statement (If sp c when otherwise) bs ∷ statements (bs ++ branch sp c true when ∷ []) when) (at_otherwise ms c when w) (under gs w.vars c false) (bs ++ branch sp c false otherwise ∷ [])) where
   mutual
-    holds_in : (front : List Place) (w : Flatten.Place) (gs : List Flat.Guard) (bs : List Branch) (s : Stmt) → I front w gs bs → All (λ t. I t.front t.walk t.gs t.branches) (sites_in ms front w gs bs s)
+    holds_in : (front : List Place) (w : Flatten.Position) (gs : List Flat.Guard) (bs : List Branch) (s : Stmt) → I front w gs bs → All (λ t. I t.front t.walk t.gs t.branches) (sites_in ms front w gs bs s)
     holds_in front w gs bs (If sp c when otherwise) h = (
       h,
       all_append (λ t. I t.front t.walk t.gs t.branches) (sites ms (front ++ Statement (If sp c when otherwise) bs ∷ []) (with_guard c w) (under gs w.vars c true) (bs ++ branch sp c true when ∷ []) when) _
@@ -28,7 +28,7 @@ module _ (ms : List Mem) (I : List Place → Flatten.Place → List Flat.Guard �
     )
     holds_in front w gs bs s h = (h, tt)
 
-    pub holds_all : (front : List Place) (w : Flatten.Place) (gs : List Flat.Guard) (bs : List Branch) (ss : Stmts) → I front w gs bs → All (λ t. I t.front t.walk t.gs t.branches) (sites ms front w gs bs ss)
+    pub holds_all : (front : List Place) (w : Flatten.Position) (gs : List Flat.Guard) (bs : List Branch) (ss : Stmts) → I front w gs bs → All (λ t. I t.front t.walk t.gs t.branches) (sites ms front w gs bs ss)
     holds_all front w gs bs Nil h = tt
     holds_all front w gs bs (Cons s ss) h =
         all_append (λ t. I t.front t.walk t.gs t.branches) (sites_in ms front w gs bs s) _
@@ -37,16 +37,16 @@ module _ (ms : List Mem) (I : List Place → Flatten.Place → List Flat.Guard �
 
 -- STAGES BEGUN
 
-pub guard_begun : (c : Expr) (w : Flatten.Place) → (with_guard c w).begun ≡ w.begun
+pub guard_begun : (c : Expr) (w : Flatten.Position) → (with_guard c w).begun ≡ w.begun
 guard_begun (Variable x) w = refl
 guard_begun _ w = refl
 
-pub guard_stage : (c : Expr) (w : Flatten.Place) → (with_guard c w).stage ≡ w.stage
+pub guard_stage : (c : Expr) (w : Flatten.Position) → (with_guard c w).stage ≡ w.stage
 guard_stage (Variable x) w = refl
 guard_stage _ w = refl
 
 mutual
-  pub past_begun : (ms : List Mem) (s : Stmt) (w : Flatten.Place) → (past ms s w).begun ≡ w.begun + separators_in s
+  pub past_begun : (ms : List Mem) (s : Stmt) (w : Flatten.Position) → (past ms s w).begun ≡ w.begun + separators_in s
   past_begun ms (Separator _) w = omega arith
   past_begun ms (If _ c when otherwise) w =
       let f = past_all_begun ms when (with_guard c w) in
@@ -66,7 +66,7 @@ mutual
   past_begun ms (SpecCheck _) w = omega arith
   past_begun ms (SpecBarrier _) w = omega arith
 
-  pub past_all_begun : (ms : List Mem) (ss : Stmts) (w : Flatten.Place) → (past_all ms ss w).begun ≡ w.begun + separators ss
+  pub past_all_begun : (ms : List Mem) (ss : Stmts) (w : Flatten.Position) → (past_all ms ss w).begun ≡ w.begun + separators ss
   past_all_begun ms Nil w = omega arith
   past_all_begun ms (Cons s ss) w =
       let f = past_begun ms s w in
@@ -100,24 +100,24 @@ mutual
       omega arith
 
 -- as many stages have begun as separators stand before
-abbrev pub Begun : List Place → Flatten.Place → Type 0
+abbrev pub Begun : List Place → Flatten.Position → Type 0
 Begun front w = w.begun ≡ cut front
 
-pub begun_passes : (ms : List Mem) (front : List Place) (w : Flatten.Place) (bs : List Branch) (s : Stmt) → Begun front w → Begun (front ++ with_inner bs s) (past ms s w)
+pub begun_passes : (ms : List Mem) (front : List Place) (w : Flatten.Position) (bs : List Branch) (s : Stmt) → Begun front w → Begun (front ++ with_inner bs s) (past ms s w)
 begun_passes ms front w bs s h =
     let f = past_begun ms s w in
     let g = cut_append front (with_inner bs s) in
     let i = cut_in bs s in
     omega arith
 
-pub begun_first : (front : List Place) (w : Flatten.Place) (bs : List Branch) (sp : Span) (c : Expr) (when otherwise : Stmts) → Begun front w → Begun (front ++ Statement (If sp c when otherwise) bs ∷ []) (with_guard c w)
+pub begun_first : (front : List Place) (w : Flatten.Position) (bs : List Branch) (sp : Span) (c : Expr) (when otherwise : Stmts) → Begun front w → Begun (front ++ Statement (If sp c when otherwise) bs ∷ []) (with_guard c w)
 begun_first front w bs sp c when otherwise h =
     let f = guard_begun c w in
     let g = cut_append front (Statement (If sp c when otherwise) bs ∷ []) in
     let i : cut (Statement (If sp c when otherwise) bs ∷ []) ≡ 0 = refl in
     omega arith
 
-pub begun_second : (ms : List Mem) (front : List Place) (w : Flatten.Place) (bs : List Branch) (sp : Span) (c : Expr) (when otherwise : Stmts) → Begun front w
+pub begun_second : (ms : List Mem) (front : List Place) (w : Flatten.Position) (bs : List Branch) (sp : Span) (c : Expr) (when otherwise : Stmts) → Begun front w
     → Begun (front ++ Statement (If sp c when otherwise) bs ∷ statements (bs ++ branch sp c true when ∷ []) when) (at_otherwise ms c when w)
 begun_second ms front w bs sp c when otherwise h =
     let f = guard_begun c w in
@@ -159,12 +159,12 @@ pub told_append : (xs ys : List Var) → told (xs ++ ys) ≡ told xs ++ told ys
 told_append [] ys = refl
 told_append (x ∷ xs) ys = ap (λ l. x.name ∷ l) (told_append xs ys)
 
-pub told_guard : (sp : Span) (c : Expr) (when otherwise : Stmts) (w : Flatten.Place) → told (with_guard c w).vars ≡ told w.vars ++ names_by (If sp c when otherwise)
+pub told_guard : (sp : Span) (c : Expr) (when otherwise : Stmts) (w : Flatten.Position) → told (with_guard c w).vars ≡ told w.vars ++ names_by (If sp c when otherwise)
 told_guard sp (Variable x) when otherwise w = sym (append-nil (told w.vars))
 told_guard sp _ when otherwise w = told_append w.vars _
 
 mutual
-  pub told_past : (ms : List Mem) (bs : List Branch) (s : Stmt) (w : Flatten.Place) → told (past ms s w).vars ≡ told w.vars ++ names (with_inner bs s)
+  pub told_past : (ms : List Mem) (bs : List Branch) (s : Stmt) (w : Flatten.Position) → told (past ms s w).vars ≡ told w.vars ++ names (with_inner bs s)
   told_past ms bs (CombRead _ x from) w = told_append w.vars _
   told_past ms bs (Bind _ x e) w = told_append w.vars _
   told_past ms bs (DelayedRead _ x from) w = told_append w.vars _
@@ -176,7 +176,7 @@ mutual
       ∙ ap (λ l. told w.vars ++ (names_by (If sp c when otherwise) ++ l)) (sym (names_append (statements (bs ++ branch sp c true when ∷ []) when) (statements (bs ++ branch sp c false otherwise ∷ []) otherwise)))
   told_past ms bs _ w = sym (append-nil (told w.vars))
 
-  pub told_past_all : (ms : List Mem) (bs : List Branch) (ss : Stmts) (w : Flatten.Place) → told (past_all ms ss w).vars ≡ told w.vars ++ names (statements bs ss)
+  pub told_past_all : (ms : List Mem) (bs : List Branch) (ss : Stmts) (w : Flatten.Position) → told (past_all ms ss w).vars ≡ told w.vars ++ names (statements bs ss)
   told_past_all ms bs Nil w = sym (append-nil (told w.vars))
   told_past_all ms bs (Cons s ss) w =
       told_past_all ms bs ss (past ms s w)
@@ -185,19 +185,19 @@ mutual
       ∙ ap (λ l. told w.vars ++ l) (sym (names_append (with_inner bs s) (statements bs ss)))
 
 -- the variables have the names of the places before
-abbrev pub Named : List Place → Flatten.Place → Type 0
+abbrev pub Named : List Place → Flatten.Position → Type 0
 Named front w = told w.vars ≡ names front
 
-pub named_passes : (ms : List Mem) (front : List Place) (w : Flatten.Place) (bs : List Branch) (s : Stmt) → Named front w → Named (front ++ with_inner bs s) (past ms s w)
+pub named_passes : (ms : List Mem) (front : List Place) (w : Flatten.Position) (bs : List Branch) (s : Stmt) → Named front w → Named (front ++ with_inner bs s) (past ms s w)
 named_passes ms front w bs s h = told_past ms bs s w ∙ ap (λ l. l ++ names (with_inner bs s)) h ∙ sym (names_append front (with_inner bs s))
 
-pub named_first : (front : List Place) (w : Flatten.Place) (bs : List Branch) (sp : Span) (c : Expr) (when otherwise : Stmts) → Named front w → Named (front ++ Statement (If sp c when otherwise) bs ∷ []) (with_guard c w)
+pub named_first : (front : List Place) (w : Flatten.Position) (bs : List Branch) (sp : Span) (c : Expr) (when otherwise : Stmts) → Named front w → Named (front ++ Statement (If sp c when otherwise) bs ∷ []) (with_guard c w)
 named_first front w bs sp c when otherwise h =
     told_guard sp c when otherwise w
     ∙ ap₂ (λ a b. a ++ b) h (sym (append-nil (names_by (If sp c when otherwise))))
     ∙ sym (names_append front (Statement (If sp c when otherwise) bs ∷ []))
 
-pub named_second : (ms : List Mem) (front : List Place) (w : Flatten.Place) (bs : List Branch) (sp : Span) (c : Expr) (when otherwise : Stmts) → Named front w
+pub named_second : (ms : List Mem) (front : List Place) (w : Flatten.Position) (bs : List Branch) (sp : Span) (c : Expr) (when otherwise : Stmts) → Named front w
     → Named (front ++ Statement (If sp c when otherwise) bs ∷ statements (bs ++ branch sp c true when ∷ []) when) (at_otherwise ms c when w)
 named_second ms front w bs sp c when otherwise h =
     told_past_all ms (bs ++ branch sp c true when ∷ []) when (with_guard c w)
@@ -210,7 +210,7 @@ named_second ms front w bs sp c when otherwise h =
 -- a branch of an `if` that something stands in: the `if` with what stands before it
 pub record Choice : Type 0 where
   pub front : List Place
-  pub walk : Flatten.Place
+  pub walk : Flatten.Position
   pub branches : List Branch
   pub span : Span
   pub condition : Expr
@@ -282,19 +282,19 @@ under_push front gs bs x u k e = record {
 -- ALL TOGETHER
 
 -- what holds at each site
-pub record At (front : List Place) (w : Flatten.Place) (gs : List Flat.Guard) (bs : List Branch) : Type 0 where
+pub record At (front : List Place) (w : Flatten.Position) (gs : List Flat.Guard) (bs : List Branch) : Type 0 where
   pub begun : Begun front w
   pub named : Named front w
   pub under : Under front gs bs
 
-at_passes : (ms : List Mem) (front : List Place) (w : Flatten.Place) (gs : List Flat.Guard) (bs : List Branch) (s : Stmt) → At front w gs bs → At (front ++ with_inner bs s) (past ms s w) gs bs
+at_passes : (ms : List Mem) (front : List Place) (w : Flatten.Position) (gs : List Flat.Guard) (bs : List Branch) (s : Stmt) → At front w gs bs → At (front ++ with_inner bs s) (past ms s w) gs bs
 at_passes ms front w gs bs s h = record {
   begun = begun_passes ms front w bs s h.begun;
   named = named_passes ms front w bs s h.named;
   under = under_more front (with_inner bs s) gs bs h.under;
 }
 
-at_first : (front : List Place) (w : Flatten.Place) (gs : List Flat.Guard) (bs : List Branch) (sp : Span) (c : Expr) (when otherwise : Stmts) → At front w gs bs
+at_first : (front : List Place) (w : Flatten.Position) (gs : List Flat.Guard) (bs : List Branch) (sp : Span) (c : Expr) (when otherwise : Stmts) → At front w gs bs
     → At (front ++ Statement (If sp c when otherwise) bs ∷ []) (with_guard c w) (under gs w.vars c true) (bs ++ branch sp c true when ∷ [])
 at_first front w gs bs sp c when otherwise h = record {
   begun = begun_first front w bs sp c when otherwise h.begun;
@@ -306,7 +306,7 @@ at_first front w gs bs sp c when otherwise h = record {
       ([], refl, h.named) refl;
 }
 
-at_second : (ms : List Mem) (front : List Place) (w : Flatten.Place) (gs : List Flat.Guard) (bs : List Branch) (sp : Span) (c : Expr) (when otherwise : Stmts) → At front w gs bs
+at_second : (ms : List Mem) (front : List Place) (w : Flatten.Position) (gs : List Flat.Guard) (bs : List Branch) (sp : Span) (c : Expr) (when otherwise : Stmts) → At front w gs bs
     → At (front ++ Statement (If sp c when otherwise) bs ∷ statements (bs ++ branch sp c true when ∷ []) when) (at_otherwise ms c when w) (under gs w.vars c false) (bs ++ branch sp c false otherwise ∷ [])
 at_second ms front w gs bs sp c when otherwise h = record {
   begun = begun_second ms front w bs sp c when otherwise h.begun;

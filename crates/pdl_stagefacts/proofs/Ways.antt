@@ -161,7 +161,7 @@ module _ (p : Flat.Pipe) (spots : (s : ℕ) → s < length p.stages → Spot p s
           absurd (let z = to s env _ g in let q = k.inside in omega arith)
       at (Leaves f x a b first d k c i g) = absurd (let z = to s env _ g in let q = k.inside in omega arith)
 
-  -- a stage behind the start of a branch is no trunk stage
+  -- a stage after the start of a branch is no trunk stage
   entered : (f x a b : ℕ) (first : Bool) (d j : ℕ) → Forked p f x a b → d + suc j ≡ long a b first → In p (record { fork = f; first = first }) (suc (start f a first + d))
   entered f x a b first d j k e = ap (λ (y : Flat.Stage). y.branch) (k.chain first d j e)
 

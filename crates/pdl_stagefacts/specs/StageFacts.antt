@@ -4,9 +4,9 @@ use Rattle.pdl_semantics.specs.Flat.{list_all, Op, DelayedRead, Stmt, Branch, Fo
 use Rattle.pdl_semantics.specs.Stages.{is_inside, is_reserve, is_release, is_verify, onpath, in_stage, stage_at, verify_stage, commit_stage, reserve_stage}
 use Rattle.pdl_semantics.specs.Cycle.{merges_by}
 use Rattle.pdl_derived.specs.Alone.{before}
-use Rattle.pdl_facts.specs.Scans.{from, none_of, all_at, binds, is_fetch}
+use Rattle.pdl_facts.specs.Scans.{from, none_of, all_at, binds_var, is_fetch}
 use Rattle.pdl_facts.specs.Graphs.{next_of, Graph, In, Branches}
-use Rattle.pdl_facts.specs.Facts.{trunk_only, fetches, visits, Found}
+use Rattle.pdl_facts.specs.Facts.{trunk_only, is_fetch_of, visits_stage, Found}
 
 -- what is known of the delayed reads of stage s
 abbrev pub FoundIf : Pipe → (ℕ → ℕ) → ℕ → Op → Type 0
@@ -37,11 +37,11 @@ pub record StageFacts (p : Pipe) : Type 0 where
   pub unreserved : (m : ℕ) → length p.mems ≤ m → none_of (is_reserve m) p.stmts ≡ true
   pub unreleased : (m : ℕ) → length p.mems ≤ m → length p.stages ≤ commit_stage p m
   -- a path has no statement in the stages that it passes over
-  pub skips : (path : List ℕ) (s : ℕ) → s < length p.stages → visits p path s ≡ true → before (next_of p s path) (onpath path p.stmts) ≡ before (suc s) (onpath path p.stmts)
+  pub skips : (path : List ℕ) (s : ℕ) → s < length p.stages → visits_stage p path s ≡ true → before (next_of p s path) (onpath path p.stmts) ≡ before (suc s) (onpath path p.stmts)
   -- N2, N3: a fork's variable is bound before its stage ends, and read at once
-  pub fork_bound : (s x a b : ℕ) → (stage_at p s).next ≡ Forks x a b → none_of (binds x) (from (suc s) p.stmts) ≡ true
+  pub fork_bound : (s x a b : ℕ) → (stage_at p s).next ≡ Forks x a b → none_of (binds_var x) (from (suc s) p.stmts) ≡ true
   pub fork_known : (s x a b : ℕ) → (stage_at p s).next ≡ Forks x a b → x < p.vars
-  pub fork_seen : (s x a b : ℕ) → (stage_at p s).next ≡ Forks x a b → none_of (fetches x) (in_stage s p.stmts) ≡ true
+  pub fork_seen : (s x a b : ℕ) → (stage_at p s).next ≡ Forks x a b → none_of (is_fetch_of x) (in_stage s p.stmts) ≡ true
   -- F3, F4, N1, Z7: delayed reads, none of them in the last stage
   pub fetch : ℕ → ℕ
   pub found : (s : ℕ) → AllFound p fetch s (in_stage s p.stmts)

@@ -8,7 +8,7 @@ ghost use Rattle.pdl_semantics.specs.Tree.{Pipe};
 ghost use Rattle.pdl_semantics.specs.Flatten.{flat, separators, at_start};
 ghost use Rattle.pdl_rules.specs.Refusal.{KeepsRules};
 ghost use Rattle.pdl_stagefacts.specs.StageFacts.{StageFacts};
-ghost use Rattle.pdl_stagefacts.specs.Visits.{visited, begun_by};
+ghost use Rattle.pdl_stagefacts.specs.Visits.{visited_stages, begun_by};
 
 /// The stage graph and the text of an accepted pipe: the facts that both theorems take of them.
 pub fn stage_facts()
@@ -19,6 +19,6 @@ pub fn stage_facts()
 pub fn stages()
     ensures count { (p : Pipe) → KeepsRules p → length (flat p).stages ≡ suc (separators p.body) }
     ensures visits { (p : Pipe) → KeepsRules p → (env : List ℕ) →
-        visited (flat p) env (length (flat p).stages) 0
+        visited_stages (flat p) env (length (flat p).stages) 0
         ≡ 0 ∷ begun_by env p.mems p.body (at_start p) }
 {}

@@ -6,14 +6,14 @@ use Rattle.pdl_semantics.specs.Tree.{Expr, Constant, Variable, Slice, Not, Binar
 use Rattle.pdl_semantics.specs.Flat
 use Rattle.pdl_semantics.specs.Flatten.{Var, var_of, mem_of, mem_width, width_of, flat_expr, flat_exprs}
 use Rattle.pdl_rules.specs.Parts.{some_part, some_expr_of, location_of}
-use Rattle.pdl_rules.specs.Names.{OfVariable, Use, reads}
+use Rattle.pdl_rules.specs.Names.{OfVariable, Use, reads_some}
 use Rattle.pdl_rules.specs.Typed.{is_named}
-use Rattle.pdl_facts.specs.Facts.{uses_in, uses_any, mentions}
+use Rattle.pdl_facts.specs.Facts.{uses_in, uses_any, mentions_var}
 use Rattle.pdl_stagefacts.proofs.Sites.{Site, All}
 use Rattle.pdl_pathfacts.proofs.Numbers.{var_low}
 use Rattle.pdl_pathfacts.proofs.Along.{ops_of, seen_ops, seen}
 use Rattle.pdl_pathfacts.proofs.Growth.{Grows, vars_past, past_grown}
-use Rattle.pdl_invariant.specs.Strict.{bound_by, uses_own, mentioned, is_new, all_new}
+use Rattle.pdl_invariant.specs.Strict.{bound_by, uses_own, is_mentioned, is_new, all_new}
 use Rattle.pdl_pathfacts.proofs.GuardFacts.{grown_long}
 
 -- EXPRESSIONS
@@ -30,7 +30,7 @@ module _ (vs : List Var) (test : Use → Bool) (named : (x : List ℕ) → test 
   low_name : (x : List ℕ) (y : ℕ) → test (OfVariable x) ≡ false → (var_of vs x == y) ≡ true → y < length vs
   low_name x y h e = subst (λ n. n < length vs) (eqb-true (var_of vs x) y e) (var_low vs x (named x h))
 
-  pub expr_low : (e : Expr) → some_part (reads test) e ≡ false → (y : ℕ) → uses_in y (flat_expr vs e) ≡ true → y < length vs
+  pub expr_low : (e : Expr) → some_part (reads_some test) e ≡ false → (y : ℕ) → uses_in y (flat_expr vs e) ≡ true → y < length vs
   expr_low (Constant l) h y u = absurd (false≢true u)
   expr_low (Variable x) h y u = low_name x.name y h u
   expr_low (Slice x high low) h y u = low_name x.name y h u
@@ -42,7 +42,7 @@ module _ (vs : List Var) (test : Use → Bool) (named : (x : List ℕ) → test 
   expr_low (SignExtend a n) h y u = expr_low a h y u
   expr_low (Choose c a b) h y u = either _ _ _ _ (y < length vs) h u (λ i j. expr_low c i y j) (λ i j. either _ _ _ _ (y < length vs) i j (λ k l. expr_low a k y l) (λ k l. expr_low b k y l))
 
-  pub exprs_low : (es : List Expr) → list_any (some_part (reads test)) es ≡ false → (y : ℕ) → uses_any y (flat_exprs vs es) ≡ true → y < length vs
+  pub exprs_low : (es : List Expr) → list_any (some_part (reads_some test)) es ≡ false → (y : ℕ) → uses_any y (flat_exprs vs es) ≡ true → y < length vs
   exprs_low [] h y u = absurd (false≢true u)
   exprs_low (e ∷ es) h y u = either _ _ _ _ (y < length vs) h u (λ i j. expr_low e i y j) (λ i j. exprs_low es i y j)
 
@@ -50,34 +50,34 @@ module _ (vs : List Var) (test : Use → Bool) (named : (x : List ℕ) → test 
 
 -- with which the earlier ones have to do
 abbrev pub PastLow : ℕ → List Flat.Op → Type 0
-PastLow n past = (x : ℕ) → mentioned x past ≡ true → x < n
+PastLow n past = (x : ℕ) → is_mentioned x past ≡ true → x < n
 
 past_more : (n n' : ℕ) (past : List Flat.Op) → n ≤ n' → PastLow n past → PastLow n' past
 past_more n n' past h f x m = let i = f x m in omega arith
 
--- what follows, behind earlier statements that have to do with the first n variables alone
+-- what follows, after earlier statements that have to do with the first n variables alone
 abbrev Follows : ℕ → ℕ → List Flat.Stmt → Type 0
 Follows vars n rest = (past : List Flat.Op) → PastLow n past → all_new vars past rest ≡ true
 
-past_with : (n : ℕ) (op : Flat.Op) (past : List Flat.Op) → ((x : ℕ) → mentions x op ≡ true → x < n) → PastLow n past → PastLow n (op ∷ past)
-past_with n op past f h x m = at (or_cases (mentions x op) (mentioned x past) m)
+past_with : (n : ℕ) (op : Flat.Op) (past : List Flat.Op) → ((x : ℕ) → mentions_var x op ≡ true → x < n) → PastLow n past → PastLow n (op ∷ past)
+past_with n op past f h x m = at (or_cases (mentions_var x op) (is_mentioned x past) m)
   where
-    at : (mentions x op ≡ true) ⊎ (mentioned x past ≡ true) → x < n
+    at : (mentions_var x op ≡ true) ⊎ (is_mentioned x past ≡ true) → x < n
     at (inl i) = f x i
     at (inr i) = h x i
 
 -- a statement that binds nothing
-uses_old : (vars n k : ℕ) (op : Flat.Op) (rest : List Flat.Stmt) → bound_by op ≡ None → uses_own op ≡ false → ((x : ℕ) → mentions x op ≡ true → x < n) → Follows vars n rest → Follows vars n (record { stage = k; guards = []; op = op } ∷ rest)
+uses_old : (vars n k : ℕ) (op : Flat.Op) (rest : List Flat.Stmt) → bound_by op ≡ None → uses_own op ≡ false → ((x : ℕ) → mentions_var x op ≡ true → x < n) → Follows vars n rest → Follows vars n (record { stage = k; guards = []; op = op } ∷ rest)
 uses_old vars n k op rest none own f go past low =
     and_from _ _ (and_from _ _ (ap (is_new vars past) none) (ap not own)) (go (op ∷ past) (past_with n op past f low))
 
 -- a statement that binds the next variable
-binds_next : (vars n k : ℕ) (op : Flat.Op) (rest : List Flat.Stmt) → n < vars → bound_by op ≡ Some n → uses_own op ≡ false → ((x : ℕ) → mentions x op ≡ true → x < n + 1) → Follows vars (n + 1) rest → Follows vars n (record { stage = k; guards = []; op = op } ∷ rest)
+binds_next : (vars n k : ℕ) (op : Flat.Op) (rest : List Flat.Stmt) → n < vars → bound_by op ≡ Some n → uses_own op ≡ false → ((x : ℕ) → mentions_var x op ≡ true → x < n + 1) → Follows vars (n + 1) rest → Follows vars n (record { stage = k; guards = []; op = op } ∷ rest)
 binds_next vars n k op rest room bound own f go past low =
-    and_from _ _ (and_from _ _ (ap (is_new vars past) bound ∙ and_from _ _ (lt-ltb _ _ room) (ap not (unmentioned (mentioned n past) refl))) (ap not own))
+    and_from _ _ (and_from _ _ (ap (is_new vars past) bound ∙ and_from _ _ (lt-ltb _ _ room) (ap not (unmentioned (is_mentioned n past) refl))) (ap not own))
     (go (op ∷ past) (past_with (n + 1) op past f (past_more n (n + 1) past (omega arith) low)))
   where
-    unmentioned : (b : Bool) → mentioned n past ≡ b → mentioned n past ≡ false
+    unmentioned : (b : Bool) → is_mentioned n past ≡ b → is_mentioned n past ≡ false
     unmentioned true e = absurd (let i = low n e in omega arith)
     unmentioned false e = e
 
@@ -86,10 +86,10 @@ pub record Uses (vs : List Var) (s : Stmt) : Type 0 where
   pub address : (at : Location) → location_of s ≡ Some at → is_named vs at.address.name ≡ true
   pub test : Use → Bool
   pub named : (x : List ℕ) → test (OfVariable x) ≡ false → is_named vs x ≡ true
-  pub expressions : some_expr_of (some_part (reads test)) s ≡ false
+  pub expressions : some_expr_of (some_part (reads_some test)) s ≡ false
 
 module _ (vars k : ℕ) (ms : List Mem) (vs : List Var) (rest : List Flat.Stmt) where
-  -- a variable that is bound behind those that are there
+  -- a variable that is bound after those that are there
   one_more : (v : Var) → length (vs ++ v ∷ []) ≡ length vs + 1
   one_more v = length-append vs (v ∷ [])
 

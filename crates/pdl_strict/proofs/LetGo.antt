@@ -1,4 +1,4 @@
--- Behind each block of a path stands a release of its location.
+-- After each block of a path stands a release of its location.
 use Rattle.std.proofs.Common.{◌≡◌, refl, sym, ap, ◌∙◌, subst, ℕ, ◌⊎◌, inl, inr, Bool, true, false, List, [], ◌∷◌, ◌++◌, map, if◌then◌else◌, Some, bytes_eq, eq-eqb}
 use Rattle.std.proofs.lemmas.Bool.{false≢true, and_parts, and_from, or_left, or_right, both_ways, not-false}
 use Rattle.pdl_semantics.specs.Tree.{Span, Location, R, W, Stmt, Separator, CombRead, Bind, SpecCall, DelayedRead, Write, Reserve, Block, Release, If, Call, Verify, SpecCheck, SpecBarrier, Variable, Mem, Pipe}
@@ -9,7 +9,7 @@ use Rattle.pdl_semantics.specs.Sound.{is_release_at}
 use Rattle.pdl_rules.specs.Places.{Place, Statement, Branch}
 use Rattle.pdl_rules.specs.Parts.{location_of}
 use Rattle.pdl_rules.specs.Locks
-use Rattle.pdl_rules.specs.Locks.{same_location, Hold, Nothing, Reserved, Blocked, Released, blocked, after_place, held, is_reserved, is_unreleased, reserves_location, leaves_open}
+use Rattle.pdl_rules.specs.Locks.{same_location, Hold, Nothing, Reserved, Blocked, Released, after_block, after_place, hold_after, is_reserved, is_unreleased, reserves_location, leaves_open}
 use Rattle.pdl_rules.specs.Typed.{is_named}
 use Rattle.pdl_rules.proofs.EachPlace.{Each}
 use Rattle.pdl_rules.proofs.Once.{KeepsLocks, any_weaker, held_alike}
@@ -25,12 +25,12 @@ use Rattle.pdl_word.proofs.Bytes.{bytes_same, bytes_refl}
 abbrev releases_in : ℕ → ℕ → List Flat.Stmt → Bool
 releases_in m a xs = list_any (λ (z : Flat.Stmt). is_release_at m a z.op) xs
 
-any_behind : (m a : ℕ) (xs ys : List Flat.Stmt) → releases_in m a ys ≡ true → releases_in m a (xs ++ ys) ≡ true
-any_behind m a [] ys h = h
-any_behind m a (x ∷ xs) ys h = or_right (is_release_at m a x.op) _ (any_behind m a xs ys h)
+any_after : (m a : ℕ) (xs ys : List Flat.Stmt) → releases_in m a ys ≡ true → releases_in m a (xs ++ ys) ≡ true
+any_after m a [] ys h = h
+any_after m a (x ∷ xs) ys h = or_right (is_release_at m a x.op) _ (any_after m a xs ys h)
 
 module _ (p : Pipe) (at : Location) where
-  left_open : (before : List Place) → is_unreleased (held at before) ≡ true → (x : Place) → reserves_location at x ≡ true → leaves_open before x ≡ true
+  left_open : (before : List Place) → is_unreleased (hold_after at before) ≡ true → (x : Place) → reserves_location at x ≡ true → leaves_open before x ≡ true
   left_open before e (Statement (Reserve sp l k) bs) f = ap is_unreleased (held_alike l at f before) ∙ e
   left_open before e _ f = absurd (false≢true f)
 
@@ -46,13 +46,13 @@ module _ (p : Pipe) (at : Location) where
       by false = e
   open_or_released h (Block sp l) bs e = inl (by (same_location l at))
     where
-      blocks : (g : Hold) → is_unreleased g ≡ true → is_unreleased (blocked g) ≡ true
+      blocks : (g : Hold) → is_unreleased g ≡ true → is_unreleased (after_block g) ≡ true
       blocks Nothing i = i
       blocks (Reserved k) i = i
       blocks (Blocked k) i = i
       blocks Released i = i
 
-      by : (b : Bool) → is_unreleased (if b then blocked h else h) ≡ true
+      by : (b : Bool) → is_unreleased (if b then after_block h else h) ≡ true
       by true = blocks h e
       by false = e
   open_or_released h (Release sp l) bs e = by (same_location l at) refl
@@ -77,25 +77,25 @@ module _ (p : Pipe) (at : Location) where
       (or_left _ _ (and_from _ _ (eq-eqb (mem_of ms r.1.mem.name) (mem_of ms at.mem.name) (ap (mem_of ms) names.0)) (eq-eqb (var_of ws r.1.address.name) (var_of vs at.address.name) (ap (var_of ws) names.1 ∙ grown_number vs ws n g))))
 
   -- what is open is released in the end
-  released_behind : (ms : List Mem) (vs ws us : List Var) (before : List Place) (ts : List Site) → is_named vs at.address.name ≡ true → Grown vs ws → Grows ms ws ts us → Each (KeepsLocks p) before (map place_of ts ++ closing p) → is_unreleased (held at before) ≡ true
+  released_after : (ms : List Mem) (vs ws us : List Var) (before : List Place) (ts : List Site) → is_named vs at.address.name ≡ true → Grown vs ws → Grows ms ws ts us → Each (KeepsLocks p) before (map place_of ts ++ closing p) → is_unreleased (hold_after at before) ≡ true
       → releases_in (mem_of ms at.mem.name) (var_of vs at.address.name) (seen ms ts) ≡ true
-  released_behind ms vs ws us before [] n g gs each e = absurd (both_ways _ each.0.l7 (any_weaker _ _ (left_open before e) before (open_reserved at before e)))
-  released_behind ms vs ws us before (t ∷ ts) n g gs each e =
-      by (open_or_released (held at before) t.stmt t.branches e)
-      (λ f. released_behind ms vs (vars_past ms t.walk.vars t.stmt) us (before ++ place_of t ∷ []) ts n (grown_more vs t.walk.vars (vars_past ms t.walk.vars t.stmt) (grown_more vs ws t.walk.vars g gs.0) (past_grown ms t.walk.vars t.stmt)) gs.1 each.1 (ap is_unreleased (held_more at before (place_of t)) ∙ f))
+  released_after ms vs ws us before [] n g gs each e = absurd (both_ways _ each.0.l7 (any_weaker _ _ (left_open before e) before (open_reserved at before e)))
+  released_after ms vs ws us before (t ∷ ts) n g gs each e =
+      by (open_or_released (hold_after at before) t.stmt t.branches e)
+      (λ f. released_after ms vs (vars_past ms t.walk.vars t.stmt) us (before ++ place_of t ∷ []) ts n (grown_more vs t.walk.vars (vars_past ms t.walk.vars t.stmt) (grown_more vs ws t.walk.vars g gs.0) (past_grown ms t.walk.vars t.stmt)) gs.1 each.1 (ap is_unreleased (held_more at before (place_of t)) ∙ f))
     where
-      by : (is_unreleased (after_place at (held at before) (place_of t)) ≡ true) ⊎ ReleasesIt t.stmt → (is_unreleased (after_place at (held at before) (place_of t)) ≡ true → releases_in (mem_of ms at.mem.name) (var_of vs at.address.name) (seen ms ts) ≡ true)
+      by : (is_unreleased (after_place at (hold_after at before) (place_of t)) ≡ true) ⊎ ReleasesIt t.stmt → (is_unreleased (after_place at (hold_after at before) (place_of t)) ≡ true → releases_in (mem_of ms at.mem.name) (var_of vs at.address.name) (seen ms ts) ≡ true)
           → releases_in (mem_of ms at.mem.name) (var_of vs at.address.name) (seen_ops t.walk.stage (ops_of ms t.walk.vars t.stmt) ++ seen ms ts) ≡ true
-      by (inl f) go = any_behind (mem_of ms at.mem.name) (var_of vs at.address.name) (seen_ops t.walk.stage (ops_of ms t.walk.vars t.stmt)) (seen ms ts) (go f)
+      by (inl f) go = any_after (mem_of ms at.mem.name) (var_of vs at.address.name) (seen_ops t.walk.stage (ops_of ms t.walk.vars t.stmt)) (seen ms ts) (go f)
       by (inr f) go = released_here ms t.walk.stage vs t.walk.vars t.stmt (seen ms ts) n (grown_more vs ws t.walk.vars g gs.0) f
 
   -- a block leaves its location open
-  open_behind : (before : List Place) (sp : Span) (bs : List Branch) → Locks.lacks_hold p before (Statement (Block sp at) bs) ≡ false → is_unreleased (held at (before ++ Statement (Block sp at) bs ∷ [])) ≡ true
-  open_behind before sp bs h =
-      ap is_unreleased (held_more at before (Statement (Block sp at) bs)) ∙ ap (λ b. is_unreleased (if b then blocked (held at before) else held at before)) (and_from _ _ (bytes_refl at.mem.name) (bytes_refl at.address.name))
-      ∙ by (held at before) (not-false _ h)
+  open_after : (before : List Place) (sp : Span) (bs : List Branch) → Locks.lacks_hold p before (Statement (Block sp at) bs) ≡ false → is_unreleased (hold_after at (before ++ Statement (Block sp at) bs ∷ [])) ≡ true
+  open_after before sp bs h =
+      ap is_unreleased (held_more at before (Statement (Block sp at) bs)) ∙ ap (λ b. is_unreleased (if b then after_block (hold_after at before) else hold_after at before)) (and_from _ _ (bytes_refl at.mem.name) (bytes_refl at.address.name))
+      ∙ by (hold_after at before) (not-false _ h)
     where
-      by : (g : Hold) → is_reserved g ≡ true → is_unreleased (blocked g) ≡ true
+      by : (g : Hold) → is_reserved g ≡ true → is_unreleased (after_block g) ≡ true
       by Nothing i = absurd (false≢true i)
       by (Reserved k) i = refl
       by (Blocked k) i = absurd (false≢true i)
@@ -110,8 +110,8 @@ sites_let_go p ms vs us before (t ∷ ts) g each named = here t.stmt refl (sites
   where
     block : (sp : Span) (at : Location) → t.stmt ≡ Block sp at → lets_go (Flat.Block (mem_of ms at.mem.name) (var_of t.walk.vars at.address.name)) (seen ms ts) ≡ true
     block sp at e =
-        released_behind p at ms t.walk.vars (vars_past ms t.walk.vars t.stmt) us (before ++ place_of t ∷ []) ts (named.0 at (ap location_of e)) (past_grown ms t.walk.vars t.stmt) g.1 each.1
-        (subst (λ s. is_unreleased (held at (before ++ Statement s t.branches ∷ [])) ≡ true) (sym e) (open_behind p at before sp t.branches (subst (λ s. Locks.lacks_hold p before (Statement s t.branches) ≡ false) e each.0.l1)))
+        released_after p at ms t.walk.vars (vars_past ms t.walk.vars t.stmt) us (before ++ place_of t ∷ []) ts (named.0 at (ap location_of e)) (past_grown ms t.walk.vars t.stmt) g.1 each.1
+        (subst (λ s. is_unreleased (hold_after at (before ++ Statement s t.branches ∷ [])) ≡ true) (sym e) (open_after p at before sp t.branches (subst (λ s. Locks.lacks_hold p before (Statement s t.branches) ≡ false) e each.0.l1)))
 
     here : (s : Stmt) → t.stmt ≡ s → all_let_go (seen ms ts) ≡ true → all_let_go (seen_ops t.walk.stage (ops_of ms t.walk.vars s) ++ seen ms ts) ≡ true
     here (Block sp at) e rest = and_from _ _ (block sp at e) rest

@@ -8,12 +8,12 @@ use Rattle.pdl_semantics.specs.Flatten.{flat, params_of}
 use Rattle.pdl_semantics.specs.Stages.{list_any, onpath}
 use Rattle.pdl_semantics.specs.Sound.{is_release_at}
 use Rattle.pdl_kit.specs.declared.rule.Rule.TheVariants.{N3}
-use Rattle.pdl_rules.specs.Parts.{passes, location_of}
+use Rattle.pdl_rules.specs.Parts.{is_some_and, location_of}
 use Rattle.pdl_rules.specs.Names.{in_location, in_verify, is_too_early}
 use Rattle.pdl_rules.specs.Refusal.{KeepsRules}
 use Rattle.pdl_rules.specs.Typed.{is_named}
-use Rattle.pdl_derived.specs.Alone.{looked}
-use Rattle.pdl_facts.specs.Facts.{mentions, looked_all}
+use Rattle.pdl_derived.specs.Alone.{answered_op}
+use Rattle.pdl_facts.specs.Facts.{mentions_var, looked_all}
 use Rattle.pdl_turns.proofs.Looks.{path_looked}
 use Rattle.pdl_stagefacts.proofs.Sites.{Site, sites_of, place_of, All, stmts_are}
 use Rattle.pdl_stagefacts.proofs.Standing.{all_map}
@@ -24,7 +24,7 @@ use Rattle.pdl_pathfacts.proofs.Variables.{Here, all_here, located, known}
 use Rattle.pdl_pathfacts.proofs.Walk.{all_on, keeps_all}
 use Rattle.pdl_pathfacts.proofs.Growth.{all_vars, grows_all, grows_on}
 use Rattle.pdl_pathfacts.proofs.Same.{value, all_alike}
-use Rattle.pdl_invariant.specs.Strict.{Strict, bound_by, uses_own, mentioned, is_new, all_new, lets_go, all_let_go}
+use Rattle.pdl_invariant.specs.Strict.{Strict, bound_by, uses_own, is_mentioned, is_new, all_new, lets_go, all_let_go}
 use Rattle.pdl_strict.proofs.Fresh.{Uses, sites_new}
 use Rattle.pdl_strict.proofs.LetGo.{sites_let_go}
 
@@ -32,25 +32,25 @@ use Rattle.pdl_strict.proofs.LetGo.{sites_let_go}
 
 abbrev looked_ops : List Flat.Op → List Flat.Op
 looked_ops [] = []
-looked_ops (op ∷ ops) = looked op ∷ looked_ops ops
+looked_ops (op ∷ ops) = answered_op op ∷ looked_ops ops
 
-mentions_looked : (x : ℕ) (op : Flat.Op) → mentions x (looked op) ≡ mentions x op
+mentions_looked : (x : ℕ) (op : Flat.Op) → mentions_var x (answered_op op) ≡ mentions_var x op
 mentions_looked x (DelayedRead y m a) = refl
 mentions_looked x _ = refl
 
-bound_looked : (op : Flat.Op) → bound_by (looked op) ≡ bound_by op
+bound_looked : (op : Flat.Op) → bound_by (answered_op op) ≡ bound_by op
 bound_looked (DelayedRead y m a) = refl
 bound_looked _ = refl
 
-own_looked : (op : Flat.Op) → uses_own (looked op) ≡ uses_own op
+own_looked : (op : Flat.Op) → uses_own (answered_op op) ≡ uses_own op
 own_looked (DelayedRead y m a) = refl
 own_looked _ = refl
 
-release_looked : (m a : ℕ) (op : Flat.Op) → is_release_at m a (looked op) ≡ is_release_at m a op
+release_looked : (m a : ℕ) (op : Flat.Op) → is_release_at m a (answered_op op) ≡ is_release_at m a op
 release_looked m a (DelayedRead y n b) = refl
 release_looked m a _ = refl
 
-mentioned_looked : (x : ℕ) (ops : List Flat.Op) → mentioned x (looked_ops ops) ≡ mentioned x ops
+mentioned_looked : (x : ℕ) (ops : List Flat.Op) → is_mentioned x (looked_ops ops) ≡ is_mentioned x ops
 mentioned_looked x [] = refl
 mentioned_looked x (op ∷ ops) = ap₂ (λ a b. a || b) (mentions_looked x op) (mentioned_looked x ops)
 
@@ -69,7 +69,7 @@ any_looked : (m a : ℕ) (xs : List Flat.Stmt) → list_any (λ (z : Flat.Stmt).
 any_looked m a [] = refl
 any_looked m a (x ∷ xs) = ap₂ (λ a b. a || b) (release_looked m a x.op) (any_looked m a xs)
 
-lets_looked : (op : Flat.Op) (xs : List Flat.Stmt) → lets_go (looked op) (looked_all xs) ≡ lets_go op xs
+lets_looked : (op : Flat.Op) (xs : List Flat.Stmt) → lets_go (answered_op op) (looked_all xs) ≡ lets_go op xs
 lets_looked (Block m a) xs = any_looked m a xs
 lets_looked (DelayedRead x m a) xs = refl
 lets_looked (Flat.Bind x e) xs = refl
@@ -97,8 +97,8 @@ module _ (p : Pipe) (rules : KeepsRules p) where
       record {
         address = λ at e. (located p rules t h at e).1;
         test = is_too_early p t.front (place_of t);
-        named = λ x e. known p t.front t.walk (place_of t) x h.behind h.at.named e;
-        expressions = (or_parts (in_verify (is_too_early p t.front (place_of t)) t.stmt) _ (or_parts (passes (in_location (is_too_early p t.front (place_of t))) (location_of t.stmt)) _ (rules N3 t.front (place_of t) h.later h.whole)).1).1;
+        named = λ x e. known p t.front t.walk (place_of t) x h.after h.at.named e;
+        expressions = (or_parts (in_verify (is_too_early p t.front (place_of t)) t.stmt) _ (or_parts (is_some_and (in_location (is_too_early p t.front (place_of t))) (location_of t.stmt)) _ (rules N3 t.front (place_of t) h.later h.whole)).1).1;
       }
 
   module _ (source : is_source p ≡ true) (path : List ℕ) where
