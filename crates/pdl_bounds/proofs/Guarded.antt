@@ -6,7 +6,7 @@ use Rattle.pdl_semantics.specs.Tree.{If}
 use Rattle.pdl_rules.specs.Places.{Place, Statement, Guard, same_guard, is_among, with_guard, guards}
 use Rattle.pdl_rules.specs.Limits.{breaks_z6}
 use Rattle.pdl_paths.specs.Masks.{number_of}
-use Rattle.pdl_textrules.specs.Noted.{noted}
+use Rattle.pdl_textrules.specs.Noted.{noted_line}
 use Rattle.pdl_bounds.specs.Over.{adds_guard}
 use Rattle.pdl_pathrules.proofs.Nth.{take_next}
 
@@ -19,11 +19,11 @@ pub guards_next : (xs : List Place) (k : ℕ) (y : Place) (gs hs : List Guard) �
 guards_next xs k y gs hs got made h = made ∙ ap (λ g. with_guard g y) h ∙ sym (fold_push with_guard [] (take k xs) y) ∙ ap guards (take_next xs k y got)
 
 -- once a line is known, later places don't matter
-pub noted_if : (first : Option ℕ) (a b : Bool) (line : ℕ) → (first ≡ None → a ≡ b) → noted first a line ≡ noted first b line
+pub noted_if : (first : Option ℕ) (a b : Bool) (line : ℕ) → (first ≡ None → a ≡ b) → noted_line first a line ≡ noted_line first b line
 noted_if (Some f) a b line h = refl
-noted_if None a b line h = ap (λ c. noted None c line) (h refl)
+noted_if None a b line h = ap (λ c. noted_line None c line) (h refl)
 
-pub none_noted : (first new : Option ℕ) (b : Bool) (line : ℕ) → new ≡ noted first b line → new ≡ None → first ≡ None
+pub none_noted : (first new : Option ℕ) (b : Bool) (line : ℕ) → new ≡ noted_line first b line → new ≡ None → first ≡ None
 none_noted (Some f) new b line e h = sym e ∙ h
 none_noted None new b line e h = refl
 

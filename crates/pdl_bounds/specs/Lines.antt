@@ -3,15 +3,15 @@ use Rattle.std.specs.Prelude.{◌≡◌, List, []}
 use Rattle.pdl_kit.specs.declared.rule.Rule.TheVariants as rules
 use Rattle.pdl_semantics.specs.Tree.{Pipe}
 use Rattle.pdl_rules.specs.Places.{Place}
-use Rattle.pdl_rules.specs.Refusal.{breaks}
+use Rattle.pdl_rules.specs.Refusal.{breaks_rule}
 use Rattle.pdl_pathrules.specs.Lowest.{line_where}
 use Rattle.pdl_bounds.specs.declared.lines.Lines.{Lines}
 
 -- of each limit, the line of the first of these places that is over it; the limits of places are the same in each pipe
 pub record AreLines (p : Pipe) (xs : List Place) (lines : Lines) : Type 0 where
-  pub z2 : lines.z2 ≡ line_where (breaks rules.Z2 p) [] xs
-  pub z3 : lines.z3 ≡ line_where (breaks rules.Z3 p) [] xs
-  pub z4 : lines.z4 ≡ line_where (breaks rules.Z4 p) [] xs
-  pub z5 : lines.z5 ≡ line_where (breaks rules.Z5 p) [] xs
-  pub z6 : lines.z6 ≡ line_where (breaks rules.Z6 p) [] xs
-  pub z7 : lines.z7 ≡ line_where (breaks rules.Z7 p) [] xs
+  pub z2 : lines.z2 ≡ line_where (breaks_rule rules.Z2 p) [] xs
+  pub z3 : lines.z3 ≡ line_where (breaks_rule rules.Z3 p) [] xs
+  pub z4 : lines.z4 ≡ line_where (breaks_rule rules.Z4 p) [] xs
+  pub z5 : lines.z5 ≡ line_where (breaks_rule rules.Z5 p) [] xs
+  pub z6 : lines.z6 ≡ line_where (breaks_rule rules.Z6 p) [] xs
+  pub z7 : lines.z7 ≡ line_where (breaks_rule rules.Z7 p) [] xs

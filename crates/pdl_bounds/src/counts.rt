@@ -28,7 +28,7 @@ impl Counts {
         }
     }
 
-    /// The counts behind the k-th place.
+    /// The counts after the k-th place.
     pub fn with(self, places: &[Place<'_>], k: usize) -> Counts
         requires here { k < length places.now }
         requires counts { AreCounts (take k (map place_view places.now)) self }

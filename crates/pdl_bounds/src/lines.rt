@@ -2,12 +2,12 @@
 ghost use Rattle.std.specs.Prelude.{◌≡◌, option_map, None};
 ghost use Rattle.pdl_kit.specs.declared.rule.Rule.TheVariants as names;
 ghost use Rattle.pdl_rules.specs.Refusal.{refused_at};
-ghost use Rattle.pdl_textrules.specs.Noted.{noted as spec_noted};
+ghost use Rattle.pdl_textrules.specs.Noted.{noted_line as spec_noted};
 ghost use Rattle.pdl_textrules.specs.Refused.{refused_of};
 
 use crate::over::Over;
 use pdl_kit::Rule;
-use pdl_textrules::{Broken, lowest_of, noted};
+use pdl_textrules::{Broken, lowest_of, noted_line};
 
 /// Of each limit the line of the first place that breaks it.
 #[derive(Clone, Copy, PartialEq, Eq, Debug)]
@@ -50,12 +50,12 @@ impl Lines {
         ensures z7 { result.z7 ≡ spec_noted self.z7 over.z7 line }
     {
         Lines {
-            z2: noted(self.z2, over.z2, line),
-            z3: noted(self.z3, over.z3, line),
-            z4: noted(self.z4, over.z4, line),
-            z5: noted(self.z5, over.z5, line),
-            z6: noted(self.z6, over.z6, line),
-            z7: noted(self.z7, over.z7, line),
+            z2: noted_line(self.z2, over.z2, line),
+            z3: noted_line(self.z3, over.z3, line),
+            z4: noted_line(self.z4, over.z4, line),
+            z5: noted_line(self.z5, over.z5, line),
+            z6: noted_line(self.z6, over.z6, line),
+            z7: noted_line(self.z7, over.z7, line),
         }
     }
 

@@ -23,7 +23,7 @@ pub struct Over {
     pub z7: bool,
 }
 
-/// What a place is over, behind so many places and these guards.
+/// What a place is over, after so many places and these guards.
 pub fn over_at(counts: Counts, guards: &Guards, place: &Place<'_>) -> Over
     ensures z2 { result.z2 ≡ (spec.is_statement (place_view place.now)
         && (counts.statements == 1024)) }

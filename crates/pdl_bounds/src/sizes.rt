@@ -2,7 +2,7 @@
 ghost use Rattle.std.specs.Prelude.{◌≡◌};
 ghost use Rattle.pdl_tree.specs.View.{lock_kind_view, lock_view, mem_view};
 ghost use Rattle.pdl_rules.specs.Limits as spec;
-ghost use Rattle.pdl_rules.specs.Parts.{passes};
+ghost use Rattle.pdl_rules.specs.Parts.{is_some_and};
 
 use pdl_tree::{LockDecl, LockKind, Mem};
 
@@ -32,7 +32,7 @@ fn is_depth(depth: u64) -> bool
 }
 
 fn has_wrong_lock(mem: &Mem) -> bool
-    ensures { result ≡ passes (spec.is_wrong_lock (mem_view mem.now)) (mem_view mem.now).lock }
+    ensures { result ≡ is_some_and (spec.is_wrong_lock (mem_view mem.now)) (mem_view mem.now).lock }
 {
     match &mem.lock {
         Some(lock) => is_wrong_lock(mem, lock),
@@ -43,7 +43,8 @@ fn has_wrong_lock(mem: &Mem) -> bool
 fn is_wrong_lock(mem: &Mem, lock: &LockDecl) -> bool
     ensures { result ≡ spec.is_wrong_lock (mem_view mem.now) (lock_view lock.now) }
 {
-    !(is_size(lock.size.value) && allows(mem.depth.value, mem.delayed, lock.kind, lock.size.value))
+    !(is_size(lock.size.value)
+        && allows_lock(mem.depth.value, mem.delayed, lock.kind, lock.size.value))
 }
 
 // How many writes may be pending.
@@ -56,8 +57,8 @@ fn is_size(size: u64) -> bool
 }
 
 // Whether a memory can have the lock.
-fn allows(depth: u64, delayed: bool, kind: LockKind, size: u64) -> bool
-    ensures { result ≡ spec.allows depth delayed (lock_kind_view kind) size }
+fn allows_lock(depth: u64, delayed: bool, kind: LockKind, size: u64) -> bool
+    ensures { result ≡ spec.allows_lock depth delayed (lock_kind_view kind) size }
 {
     match kind {
         LockKind::Queue => true,

@@ -8,9 +8,9 @@ use Rattle.pdl_kit.specs.declared.rule.Rule.TheVariants.{Z3, Z7, N2, N3, W1, W2,
 use Rattle.pdl_semantics.specs.Tree.{Expr, Stmt, Separator, CombRead, Bind, SpecCall, DelayedRead, Write, Reserve, Block, Release, If, Call, Verify, SpecCheck, SpecBarrier, Stmts, Nil, Cons, Param, LockDecl, Mem, Pipe}
 use Rattle.pdl_semantics.specs.Flatten.{Var, width_of, mem_width, params_of, separators, separators_in}
 use Rattle.pdl_rules.specs.Places.{Place, Parameter, Memory, Statement, End, StartClause, Branch, guard_of, with_inner, statements, places, on_some_path}
-use Rattle.pdl_rules.specs.Parts.{some_part, some_expr_of, of_constant, passes}
-use Rattle.pdl_rules.specs.Limits.{is_separator, depths, is_depth, is_size, is_width, allows, is_wrong_lock, is_wrong_literal, breaks_z7}
-use Rattle.pdl_rules.specs.Names.{Use, OfVariable, reads, is_undefined, is_parameter, is_given, is_too_early}
+use Rattle.pdl_rules.specs.Parts.{some_part, some_expr_of, of_constant, is_some_and}
+use Rattle.pdl_rules.specs.Limits.{is_separator, depths, is_depth, is_size, is_width, allows_lock, is_wrong_lock, is_wrong_literal, breaks_z7}
+use Rattle.pdl_rules.specs.Names.{Use, OfVariable, reads_some, is_undefined, is_parameter, is_given, is_too_early}
 use Rattle.pdl_rules.specs.Widths.{variables, is_unequal, is_too_large, is_out_of_range, is_wide_choice}
 use Rattle.pdl_rules.specs.Typed.{is_named}
 use Rattle.pdl_rules.specs.Refusal.{KeepsRules}
@@ -23,15 +23,15 @@ use Rattle.pdl_rules.proofs.Memories.{of_each}
 
 -- MEMORIES AND PARAMETERS
 
-sized_lock : (m : Mem) (l : Option LockDecl) → passes (is_wrong_lock m) l ≡ false → IsSizedLock l
+sized_lock : (m : Mem) (l : Option LockDecl) → is_some_and (is_wrong_lock m) l ≡ false → IsSizedLock l
 sized_lock m None e = tt
 sized_lock m (Some l) e =
-    let fine = and_parts (is_size l.size.value) (allows m.depth.value m.delayed l.kind l.size.value) (not-false _ e) in
+    let fine = and_parts (is_size l.size.value) (allows_lock m.depth.value m.delayed l.kind l.size.value) (not-false _ e) in
     leb-true _ 16 (of_each (λ n. nat_le n 16) (1 ∷ 2 ∷ 4 ∷ 8 ∷ 16 ∷ []) l.size.value refl fine.0)
 
 sized_mem : (m : Mem) → breaks_z7 (Memory m) ≡ false → IsSizedMem m
 sized_mem m e =
-    let parts = or_parts (not (is_width m.width.value && is_depth m.depth.value)) (passes (is_wrong_lock m) m.lock) e in
+    let parts = or_parts (not (is_width m.width.value && is_depth m.depth.value)) (is_some_and (is_wrong_lock m) m.lock) e in
     let both = and_parts (is_width m.width.value) (is_depth m.depth.value) (not-false _ parts.0) in
     let width = and_parts (nat_le 1 m.width.value) (nat_le m.width.value 64) both.0 in
     record {
@@ -56,7 +56,7 @@ fits_here p rules before s bs later e = record {
 
 fits_first : (early : Use → Bool) (all : List Var) (e : Expr) (es : List Expr) → Fits early all (λ test. list_any test (e ∷ es)) → Fits early all (of_one e)
 fits_first early all e es f = record {
-  uses = (or_parts (some_part (reads early) e) _ f.uses).0;
+  uses = (or_parts (some_part (reads_some early) e) _ f.uses).0;
   widths = (or_parts (some_part (is_unequal all) e) _ f.widths).0;
   ranges = (or_parts (some_part (is_out_of_range all) e) _ f.ranges).0;
   values = (or_parts (some_part (of_constant is_too_large) e) _ f.values).0;
@@ -67,7 +67,7 @@ fits_first early all e es f = record {
 fits_rest : (early : Use → Bool) (all : List Var) (e : Expr) (es : List Expr) → Fits early all (λ test. list_any test (e ∷ es))
     → Fits early all (λ test. list_any test es)
 fits_rest early all e es f = record {
-  uses = (or_parts (some_part (reads early) e) _ f.uses).1;
+  uses = (or_parts (some_part (reads_some early) e) _ f.uses).1;
   widths = (or_parts (some_part (is_unequal all) e) _ f.widths).1;
   ranges = (or_parts (some_part (is_out_of_range all) e) _ f.ranges).1;
   values = (or_parts (some_part (of_constant is_too_large) e) _ f.values).1;
@@ -118,12 +118,12 @@ sized_here all vs early r (SpecBarrier _) bs f = tt
 -- THE VARIABLES SO FAR
 
 -- these are the variables that these places define, with the parameters among them, and none of them is wide
-record Behind (p : Pipe) (vs : List Var) (before : List Place) : Type 0 where
+record After (p : Pipe) (vs : List Var) (before : List Place) : Type 0 where
   known : AreKnown p vs before
   small : Small vs
   params : (x : List ℕ) → is_parameter p x ≡ true → IsTrue (is_named vs x)
 
-ready : (p : Pipe) (vs : List Var) (before : List Place) (x : Place) (later : List Place) → places p ≡ before ++ x ∷ later → Behind p vs before
+ready : (p : Pipe) (vs : List Var) (before : List Place) (x : Place) (later : List Place) → places p ≡ before ++ x ∷ later → After p vs before
     → Ready (variables p) vs (is_too_early p before x)
 ready p vs before x later e b = record { small = b.small; knows = knows; stays = known_stay p vs before (x ∷ later) e b.known }
   where
@@ -136,17 +136,17 @@ ready p vs before x later e b = record { small = b.small; knows = knows; stays =
 
 -- one variable more
 more : (p : Pipe) (vs : List Var) (before : List Place) (d : Place) (v : Var) → AreKnown p (vs ++ v ∷ []) (before ++ d ∷ []) → v.width ≤ 64
-    → Behind p vs before → Behind p (vs ++ v ∷ []) (before ++ d ∷ [])
+    → After p vs before → After p (vs ++ v ∷ []) (before ++ d ∷ [])
 more p vs before d v known h b = record { known = known; small = small_more vs v b.small h; params = λ x e. (stays_more vs (v ∷ []) x (b.params x e)).0 }
 
 -- and none
-same : (p : Pipe) (vs : List Var) (before : List Place) (d : Place) → AreKnown p vs (before ++ d ∷ []) → Behind p vs before → Behind p vs (before ++ d ∷ [])
+same : (p : Pipe) (vs : List Var) (before : List Place) (d : Place) → AreKnown p vs (before ++ d ∷ []) → After p vs before → After p vs (before ++ d ∷ [])
 same p vs before d known b = record { known = known; small = b.small; params = b.params }
 
 module _ (p : Pipe) (rules : KeepsRules p) where
-  -- a place's expressions are sized, and what stands behind it is as before
-  next : AreSizedMems p.mems → (vs : List Var) (before : List Place) (x : Place) (later : List Place) → places p ≡ before ++ x ∷ later → Behind p vs before
-      → SizedHere x × ((us : List Var) × Behind p us (before ++ x ∷ []))
+  -- a place's expressions are sized, and what stands after it is as before
+  next : AreSizedMems p.mems → (vs : List Var) (before : List Place) (x : Place) (later : List Place) → places p ≡ before ++ x ∷ later → After p vs before
+      → SizedHere x × ((us : List Var) × After p us (before ++ x ∷ []))
   next ms vs before (Parameter a) later e b = (
     tt,
     (
@@ -161,41 +161,41 @@ module _ (p : Pipe) (rules : KeepsRules p) where
   next ms vs before (Statement s bs) later e b = (
     sized_here (variables p) vs (is_too_early p before (Statement s bs)) (ready p vs before (Statement s bs) later e b) s bs
         (fits_here p rules before s bs later e),
-    behind s e,
+    after s e,
   )
     where
-      behind : (s : Stmt) → places p ≡ before ++ Statement s bs ∷ later → (us : List Var) × Behind p us (before ++ Statement s bs ∷ [])
-      behind (CombRead sp x at) e = (
+      after : (s : Stmt) → places p ≡ before ++ Statement s bs ∷ later → (us : List Var) × After p us (before ++ Statement s bs ∷ [])
+      after (CombRead sp x at) e = (
         vs ++ record { name = x.name; width = mem_width p.mems at.mem.name } ∷ [],
         more p vs before _ _ (known_more p vs before (Statement (CombRead sp x at) bs) x.name (mem_width p.mems at.mem.name) refl refl refl
             (rules N2 before _ later e) b.known) (small_mem p.mems at.mem.name ms) b,
       )
-      behind (DelayedRead sp x at) e = (
+      after (DelayedRead sp x at) e = (
         vs ++ record { name = x.name; width = mem_width p.mems at.mem.name } ∷ [],
         more p vs before _ _ (known_more p vs before (Statement (DelayedRead sp x at) bs) x.name (mem_width p.mems at.mem.name) refl refl refl
             (rules N2 before _ later e) b.known) (small_mem p.mems at.mem.name ms) b,
       )
-      behind (Bind sp x v) e =
+      after (Bind sp x v) e =
           let wide = sized_one (variables p) vs (is_too_early p before (Statement (Bind sp x v) bs))
           (ready p vs before (Statement (Bind sp x v) bs) later e b) v (fits_here p rules before (Bind sp x v) bs later e) in (
             vs ++ record { name = x.name; width = width_of vs v } ∷ [],
             more p vs before _ _ (known_more p vs before (Statement (Bind sp x v) bs) x.name (width_of vs v) refl refl refl
                 (rules N2 before _ later e) b.known) wide.1 b,
           )
-      behind (Separator sp) e = (vs, same p vs before _ (known_same p vs before (Statement (Separator sp) bs) refl refl b.known) b)
-      behind (SpecCall sp g es) e = (vs, same p vs before _ (known_same p vs before (Statement (SpecCall sp g es) bs) refl refl b.known) b)
-      behind (Write sp at v) e = (vs, same p vs before _ (known_same p vs before (Statement (Write sp at v) bs) refl refl b.known) b)
-      behind (Reserve sp at k) e = (vs, same p vs before _ (known_same p vs before (Statement (Reserve sp at k) bs) refl refl b.known) b)
-      behind (Block sp at) e = (vs, same p vs before _ (known_same p vs before (Statement (Block sp at) bs) refl refl b.known) b)
-      behind (Release sp at) e = (vs, same p vs before _ (known_same p vs before (Statement (Release sp at) bs) refl refl b.known) b)
-      behind (If sp c when otherwise) e = (vs, same p vs before _ (known_same p vs before (Statement (If sp c when otherwise) bs) refl refl b.known) b)
-      behind (Call sp es) e = (vs, same p vs before _ (known_same p vs before (Statement (Call sp es) bs) refl refl b.known) b)
-      behind (Verify sp g es) e = (vs, same p vs before _ (known_same p vs before (Statement (Verify sp g es) bs) refl refl b.known) b)
-      behind (SpecCheck sp) e = (vs, same p vs before _ (known_same p vs before (Statement (SpecCheck sp) bs) refl refl b.known) b)
-      behind (SpecBarrier sp) e = (vs, same p vs before _ (known_same p vs before (Statement (SpecBarrier sp) bs) refl refl b.known) b)
+      after (Separator sp) e = (vs, same p vs before _ (known_same p vs before (Statement (Separator sp) bs) refl refl b.known) b)
+      after (SpecCall sp g es) e = (vs, same p vs before _ (known_same p vs before (Statement (SpecCall sp g es) bs) refl refl b.known) b)
+      after (Write sp at v) e = (vs, same p vs before _ (known_same p vs before (Statement (Write sp at v) bs) refl refl b.known) b)
+      after (Reserve sp at k) e = (vs, same p vs before _ (known_same p vs before (Statement (Reserve sp at k) bs) refl refl b.known) b)
+      after (Block sp at) e = (vs, same p vs before _ (known_same p vs before (Statement (Block sp at) bs) refl refl b.known) b)
+      after (Release sp at) e = (vs, same p vs before _ (known_same p vs before (Statement (Release sp at) bs) refl refl b.known) b)
+      after (If sp c when otherwise) e = (vs, same p vs before _ (known_same p vs before (Statement (If sp c when otherwise) bs) refl refl b.known) b)
+      after (Call sp es) e = (vs, same p vs before _ (known_same p vs before (Statement (Call sp es) bs) refl refl b.known) b)
+      after (Verify sp g es) e = (vs, same p vs before _ (known_same p vs before (Statement (Verify sp g es) bs) refl refl b.known) b)
+      after (SpecCheck sp) e = (vs, same p vs before _ (known_same p vs before (Statement (SpecCheck sp) bs) refl refl b.known) b)
+      after (SpecBarrier sp) e = (vs, same p vs before _ (known_same p vs before (Statement (SpecBarrier sp) bs) refl refl b.known) b)
 
   -- each of these places
-  all_next : AreSizedMems p.mems → (vs : List Var) (before xs later : List Place) → places p ≡ before ++ (xs ++ later) → Behind p vs before → AllSized xs
+  all_next : AreSizedMems p.mems → (vs : List Var) (before xs later : List Place) → places p ≡ before ++ (xs ++ later) → After p vs before → AllSized xs
   all_next ms vs before [] later e b = tt
   all_next ms vs before (x ∷ xs) later e b =
       let here = next ms vs before x (xs ++ later) e b in
@@ -254,7 +254,7 @@ module _ (p : Pipe) (rules : KeepsRules p) where
   all_mems : AreSizedMems p.mems
   all_mems = mems_sized p.mems (map Parameter p.params) (statements [] p.body ++ closing) by_mems
 
-  at_body : Behind p (params_of p.params) (map Parameter p.params ++ map Memory p.mems)
+  at_body : After p (params_of p.params) (map Parameter p.params ++ map Memory p.mems)
   at_body =
       let both = params_known p.params [] [] (map Memory p.mems ++ (statements [] p.body ++ closing)) by_params (none_known p) tt in
       record { known = known_mems p p.mems (params_of p.params) (map Parameter p.params) both.0; small = both.1; params = params_named p.params }

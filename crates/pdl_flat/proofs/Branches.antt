@@ -4,27 +4,27 @@ use Rattle.std.proofs.Common.{inl, inr}
 use Rattle.std.proofs.lemmas.Bool.Decides.{eqb_tells}
 use Rattle.pdl_semantics.specs.Tree.{Span, Expr, Variable, Stmt, Separator, If, Stmts, Nil, Cons, Mem}
 use Rattle.pdl_semantics.specs.Flat.{Next, Forks, Goes, Stage, Branch}
-use Rattle.pdl_semantics.specs.Flatten.{Place, Graph, merging, entry, forks, joined, graph, past, separators, separators_in, with_guard, at_otherwise, guard_of, side}
-use Rattle.pdl_flat.specs.Walking.{leading, marked, next_at, closed, settled}
-use Rattle.pdl_flat.proofs.Leading.{leading-append, leading-twice, leading-same, length-leading, next-leading, marked-behind, merging-append}
+use Rattle.pdl_semantics.specs.Flatten.{Position, Graph, with_merge, entry, graph_with_fork, graph_before, graph, past, separators, separators_in, with_guard, at_otherwise, guard_of, side}
+use Rattle.pdl_flat.specs.Walking.{leading, with_merge_at, next_at, closed_stages, settled_stages}
+use Rattle.pdl_flat.proofs.Leading.{leading-append, leading-twice, leading-same, length-leading, next-leading, marked-after, merging-append}
 
 -- AS MANY STAGES AS SEPARATORS
 
-length-merging : (f : ℕ) (xs : List Stage) → length (merging f xs) ≡ length xs
+length-merging : (f : ℕ) (xs : List Stage) → length (with_merge f xs) ≡ length xs
 length-merging f [] = refl
 length-merging f (x ∷ xs) = refl
 
 -- the later stages of an `if` with these branches
 if_step : (t : Bool) (f x a b : ℕ) (first second rest : Graph) → (t ≡ true → a + b ≡ 0) → length first.later ≡ a → length second.later ≡ b
-    → length (if t then rest else forks f x first second rest).later ≡ a + b + length rest.later
+    → length (if t then rest else graph_with_fork f x first second rest).later ≡ a + b + length rest.later
 if_step true f x a b first second rest z ha hb = omega (arith, z refl)
 if_step false f x a b first second rest z ha hb =
-    length-append (first.later ++ second.later) (merging f rest.later)
+    length-append (first.later ++ second.later) (with_merge f rest.later)
     ∙ ap₂ (λ u v. u + v) (length-append first.later second.later ∙ ap₂ (λ u v. u + v) ha hb) (length-merging f rest.later)
 
 mutual
-  later_in : (ms : List Mem) (b : Option Branch) (s : Stmt) (at' : Place) (rest : Graph)
-      → length (joined ms b s at' rest).later ≡ separators_in s + length rest.later
+  later_in : (ms : List Mem) (b : Option Branch) (s : Stmt) (at' : Position) (rest : Graph)
+      → length (graph_before ms b s at' rest).later ≡ separators_in s + length rest.later
   later_in ms b (Separator _) at' rest = omega arith
   later_in ms b (If sp c when otherwise) at' rest =
       if_step (separators when + separators otherwise == 0) at'.stage (guard_of at'.vars c) (separators when) (separators otherwise)
@@ -35,7 +35,7 @@ mutual
       (later_all ms (side at'.stage false) (Goes (suc (at'.begun + separators when + separators otherwise))) otherwise (at_otherwise ms c when at'))
   later_in ms b s at' rest = omega arith
 
-  pub later_all : (ms : List Mem) (b : Option Branch) (exit : Next) (ss : Stmts) (at' : Place) → length (graph ms b exit ss at').later ≡ separators ss
+  pub later_all : (ms : List Mem) (b : Option Branch) (exit : Next) (ss : Stmts) (at' : Position) → length (graph ms b exit ss at').later ≡ separators ss
   later_all ms b exit Nil at' = refl
   later_all ms b exit (Cons s ss) at' =
       later_in ms b s at' (graph ms b exit ss (past ms s at')) ∙ ap (λ n. separators_in s + n) (later_all ms b exit ss (past ms s at'))
@@ -76,26 +76,26 @@ module _ (k begun more : ℕ) (s0 s1 s2 : List Stage) (first second : Graph)
 
   -- what the later statements then give
   pub choice_closed : (t u forked : Bool) (x : ℕ) (rest : Graph) → (t ≡ true → more ≡ 0) → (t ≡ false → 0 < more) → t ≡ u
-      → closed k (if t then forked else true) (settled t forked k begun (next_at k s0) (Forks x (entry first.next) (entry second.next)) s2) rest
-      ≡ closed k forked s0 (if u then rest else forks k x first second rest)
-  choice_closed true true forked x rest z p e = ap (λ xs. closed k forked xs rest) (led_back ∙ ap (λ xs. s0 ++ xs) (no_stages (z refl)) ∙ append-nil s0)
+      → closed_stages k (if t then forked else true) (settled_stages t forked k begun (next_at k s0) (Forks x (entry first.next) (entry second.next)) s2) rest
+      ≡ closed_stages k forked s0 (if u then rest else graph_with_fork k x first second rest)
+  choice_closed true true forked x rest z p e = ap (λ xs. closed_stages k forked xs rest) (led_back ∙ ap (λ xs. s0 ++ xs) (no_stages (z refl)) ∙ append-nil s0)
   choice_closed true false forked x rest z p e = cc
   choice_closed false true forked x rest z p e = cc
   choice_closed false false false x rest z p e =
-      ap (λ xs. xs ++ merging k rest.later) (led_after (Forks x (entry first.next) (entry second.next))
+      ap (λ xs. xs ++ with_merge k rest.later) (led_after (Forks x (entry first.next) (entry second.next))
       ∙ append_assoc (leading k (Forks x (entry first.next) (entry second.next)) s0) first.later second.later)
-      ∙ append_assoc (leading k (Forks x (entry first.next) (entry second.next)) s0) (first.later ++ second.later) (merging k rest.later)
+      ∙ append_assoc (leading k (Forks x (entry first.next) (entry second.next)) s0) (first.later ++ second.later) (with_merge k rest.later)
   choice_closed false false true x rest z p e =
-      ap (λ xs. xs ++ merging k rest.later)
-      (ap (marked (suc begun) k) led_back ∙ ap (λ n. marked n k (s0 ++ (first.later ++ second.later))) (sym whole)
-      ∙ marked-behind s0 (first.later ++ second.later) k)
-      ∙ append_assoc s0 (merging k (first.later ++ second.later)) (merging k rest.later)
-      ∙ ap (λ xs. s0 ++ xs) (sym (merging-append k (first.later ++ second.later) (merging k rest.later) (some_stages (p refl))))
+      ap (λ xs. xs ++ with_merge k rest.later)
+      (ap (with_merge_at (suc begun) k) led_back ∙ ap (λ n. with_merge_at n k (s0 ++ (first.later ++ second.later))) (sym whole)
+      ∙ marked-after s0 (first.later ++ second.later) k)
+      ∙ append_assoc s0 (with_merge k (first.later ++ second.later)) (with_merge k rest.later)
+      ∙ ap (λ xs. s0 ++ xs) (sym (merging-append k (first.later ++ second.later) (with_merge k rest.later) (some_stages (p refl))))
 
 -- AN `IF` OF THE TEXT
 
 -- the same graph of a branch
-graph_same : (ms : List Mem) (first : Bool) (ss : Stmts) (k i m n : ℕ) (p q : Place) → k ≡ i → m ≡ n → p ≡ q
+graph_same : (ms : List Mem) (first : Bool) (ss : Stmts) (k i m n : ℕ) (p q : Position) → k ≡ i → m ≡ n → p ≡ q
     → graph ms (side k first) (Goes m) ss p ≡ graph ms (side i first) (Goes n) ss q
 graph_same ms first ss k i m n p q e f g =
     ap (λ j. graph ms (side j first) (Goes m) ss p) e
@@ -115,12 +115,12 @@ some_begun zero h = cc
 some_begun (suc n) h = omega arith
 
 -- an `if` at a place, as the walk comes to it: in stage k, where it led so before, with the guard x and the entries of both branches, to which it comes at p and q
-module _ (ms : List Mem) (b : Option Branch) (sp : Span) (c : Expr) (when otherwise : Stmts) (at' : Place) (k begun merge x u v n : ℕ)
-    (s0 s1 s2 : List Stage) (before : Next) (p q : Place)
+module _ (ms : List Mem) (b : Option Branch) (sp : Span) (c : Expr) (when otherwise : Stmts) (at' : Position) (k begun merge x u v n : ℕ)
+    (s0 s1 s2 : List Stage) (before : Next) (p q : Position)
     (ek : k ≡ at'.stage) (eb : begun ≡ at'.begun) (em : merge ≡ suc (at'.begun + (separators when + separators otherwise))) (ex : x ≡ guard_of at'.vars c)
     (en : before ≡ next_at at'.stage s0) (ep : p ≡ with_guard c at') (eq : q ≡ at_otherwise ms c when at') (whole : length s0 ≡ suc at'.begun)
     (within : at'.stage ≤ at'.begun)
-    (e1 : s1 ≡ closed k false s0 (graph ms (side k true) (Goes merge) when p)) (e2 : s2 ≡ closed k false s1 (graph ms (side k false) (Goes merge) otherwise q))
+    (e1 : s1 ≡ closed_stages k false s0 (graph ms (side k true) (Goes merge) when p)) (e2 : s2 ≡ closed_stages k false s1 (graph ms (side k false) (Goes merge) otherwise q))
     (eu : u ≡ entry (graph ms (side k true) (Goes merge) when p).next) (ev : v ≡ entry (graph ms (side k false) (Goes merge) otherwise q).next)
     (count : n ≡ at'.begun + (separators when + separators otherwise)) where
   abbrev exit : ℕ
@@ -145,18 +145,18 @@ module _ (ms : List Mem) (b : Option Branch) (sp : Span) (c : Expr) (when otherw
   test = ap (λ m. n == m) eb ∙ none_begun n at'.begun (separators when + separators otherwise) count
 
   pub if_closed : (forked : Bool) (rest : Graph)
-      → closed k (if n == begun then forked else true) (settled (n == begun) forked k begun before (Forks x u v) s2) rest
-      ≡ closed at'.stage forked s0 (joined ms b (If sp c when otherwise) at' rest)
+      → closed_stages k (if n == begun then forked else true) (settled_stages (n == begun) forked k begun before (Forks x u v) s2) rest
+      ≡ closed_stages at'.stage forked s0 (graph_before ms b (If sp c when otherwise) at' rest)
   if_closed forked rest =
-      ap (λ i. closed i (if n == begun then forked else true) (settled (n == begun) forked i begun before (Forks x u v) s2) rest) ek
-      ∙ ap (λ i. closed at'.stage (if n == begun then forked else true) (settled (n == begun) forked at'.stage i before (Forks x u v) s2) rest) eb
-      ∙ ap (λ i. closed at'.stage (if n == begun then forked else true) (settled (n == begun) forked at'.stage at'.begun i (Forks x u v) s2) rest) en
-      ∙ ap (λ i. closed at'.stage (if n == begun then forked else true) (settled (n == begun) forked at'.stage at'.begun (next_at at'.stage s0) i s2) rest)
+      ap (λ i. closed_stages i (if n == begun then forked else true) (settled_stages (n == begun) forked i begun before (Forks x u v) s2) rest) ek
+      ∙ ap (λ i. closed_stages at'.stage (if n == begun then forked else true) (settled_stages (n == begun) forked at'.stage i before (Forks x u v) s2) rest) eb
+      ∙ ap (λ i. closed_stages at'.stage (if n == begun then forked else true) (settled_stages (n == begun) forked at'.stage at'.begun i (Forks x u v) s2) rest) en
+      ∙ ap (λ i. closed_stages at'.stage (if n == begun then forked else true) (settled_stages (n == begun) forked at'.stage at'.begun (next_at at'.stage s0) i s2) rest)
       (ap (λ i. Forks i u v) ex ∙ ap (λ i. Forks (guard_of at'.vars c) i v) (eu ∙ ap (λ (g : Graph). entry g.next) is_first)
       ∙ ap (λ i. Forks (guard_of at'.vars c) (entry first.next) i) (ev ∙ ap (λ (g : Graph). entry g.next) is_second))
       ∙ choice_closed at'.stage at'.begun (separators when + separators otherwise) s0 s1 s2 first second whole within
-      (e1 ∙ ap (λ i. closed i false s0 (graph ms (side k true) (Goes merge) when p)) ek ∙ ap (closed at'.stage false s0) is_first)
-      (e2 ∙ ap (λ i. closed i false s1 (graph ms (side k false) (Goes merge) otherwise q)) ek ∙ ap (closed at'.stage false s1) is_second)
+      (e1 ∙ ap (λ i. closed_stages i false s0 (graph ms (side k true) (Goes merge) when p)) ek ∙ ap (closed_stages at'.stage false s0) is_first)
+      (e2 ∙ ap (λ i. closed_stages i false s1 (graph ms (side k false) (Goes merge) otherwise q)) ek ∙ ap (closed_stages at'.stage false s1) is_second)
       (ap₂ (λ i j. i + j) (later_all ms (side at'.stage true) (Goes exit) when (with_guard c at'))
       (later_all ms (side at'.stage false) (Goes exit) otherwise (at_otherwise ms c when at')))
       (n == begun) (separators when + separators otherwise == 0) forked (guard_of at'.vars c) rest
@@ -165,16 +165,16 @@ module _ (ms : List Mem) (b : Option Branch) (sp : Span) (c : Expr) (when otherw
       test
 
 -- the stage that a branch enters first, as its `if`'s stage shows it
-pub entry_seen : (ms : List Mem) (b : Option Branch) (n : Next) (first : Bool) (k i merge : ℕ) (ss : Stmts) (p : Place) (s0 s1 : List Stage)
-    → s1 ≡ closed i false s0 (graph ms b n ss p)
+pub entry_seen : (ms : List Mem) (b : Option Branch) (n : Next) (first : Bool) (k i merge : ℕ) (ss : Stmts) (p : Position) (s0 s1 : List Stage)
+    → s1 ≡ closed_stages i false s0 (graph ms b n ss p)
     → b ≡ side k first → n ≡ Goes merge → i ≡ k → i < length s0 → entry (next_at k s1) ≡ entry (graph ms (side k first) (Goes merge) ss p).next
 entry_seen ms b n first k i merge ss p s0 s1 h eb en ei low =
     ap (λ ys. entry (next_at k ys)) h
-    ∙ ap (λ j. entry (next_at j (closed i false s0 (graph ms b n ss p)))) (sym ei)
+    ∙ ap (λ j. entry (next_at j (closed_stages i false s0 (graph ms b n ss p)))) (sym ei)
     ∙ ap entry (next-leading i (graph ms b n ss p).next s0 (graph ms b n ss p).later low)
     ∙ ap (λ c. entry (graph ms c n ss p).next) eb
     ∙ ap (λ m. entry (graph ms (side k first) m ss p).next) en
 
-pub guard_begun : (c : Expr) (at' : Place) → (with_guard c at').begun ≡ at'.begun
+pub guard_begun : (c : Expr) (at' : Position) → (with_guard c at').begun ≡ at'.begun
 guard_begun (Variable x) at' = refl
 guard_begun c at' = refl

@@ -4,7 +4,7 @@ use Rattle.pdl_semantics.specs.Tree as tree
 use Rattle.pdl_semantics.specs.Flat.{Op, Mem, Stmt, Stage}
 use Rattle.pdl_semantics.specs.Flatten.{Var, past_all, at_start, flat_stmts, stages_of, mems_of, start_of, first_stage, first_stages}
 use Rattle.pdl_semantics.specs.Stages.{is_reserve, is_release}
-use Rattle.pdl_form.specs.Form.{Form, formed, form_of, names_of, stage_of_each}
+use Rattle.pdl_form.specs.Form.{Form, form_with, form_of, names_of, stage_of_each}
 
 long_widths : (vs : List Var) → length (map (λ (v : Var). v.width) vs) ≡ length vs
 long_widths [] = refl
@@ -32,7 +32,7 @@ with_stages p n reserves releases =
     }
 
 of_tree : (p : tree.Pipe)
-    → formed (map (λ (v : Var). v.width) (past_all p.mems p.body (at_start p)).vars) (mems_of p.mems) (names_of p.mems)
+    → form_with (map (λ (v : Var). v.width) (past_all p.mems p.body (at_start p)).vars) (mems_of p.mems) (names_of p.mems)
     (flat_stmts p.mems [] p.body (at_start p)) (stages_of p) (start_of p.start.args) ≡ form_of p
 of_tree p =
     let stmts = flat_stmts p.mems [] p.body (at_start p) in
@@ -44,10 +44,10 @@ of_tree p =
 pub form_made : (p : tree.Pipe) (widths : List ℕ) (mems : List Mem) (names : List (List ℕ)) (stmts : List Stmt) (stages : List Stage) (start : List ℕ)
     → widths ≡ map (λ (v : Var). v.width) (past_all p.mems p.body (at_start p)).vars → mems ≡ mems_of p.mems → names ≡ names_of p.mems
     → stmts ≡ flat_stmts p.mems [] p.body (at_start p) → stages ≡ stages_of p → start ≡ start_of p.start.args
-    → formed widths mems names stmts stages start ≡ form_of p
+    → form_with widths mems names stmts stages start ≡ form_of p
 form_made p widths mems names stmts stages start hw hm hn hs hg ha =
     let ws = map (λ (v : Var). v.width) (past_all p.mems p.body (at_start p)).vars in
-    ap₂ (λ xs ms. formed xs ms names stmts stages start) hw hm
-    ∙ ap₂ (λ ns ss. formed ws (mems_of p.mems) ns ss stages start) hn hs
-    ∙ ap₂ (λ gs vs. formed ws (mems_of p.mems) (names_of p.mems) (flat_stmts p.mems [] p.body (at_start p)) gs vs) hg ha
+    ap₂ (λ xs ms. form_with xs ms names stmts stages start) hw hm
+    ∙ ap₂ (λ ns ss. form_with ws (mems_of p.mems) ns ss stages start) hn hs
+    ∙ ap₂ (λ gs vs. form_with ws (mems_of p.mems) (names_of p.mems) (flat_stmts p.mems [] p.body (at_start p)) gs vs) hg ha
     ∙ of_tree p

@@ -1,11 +1,11 @@
 -- Lists of stages of which one leads elsewhere.
 use Rattle.std.proofs.Common.{◌≡◌, ℕ, zero, suc, ◌≤◌, ◌<◌, false, List, [], ◌∷◌, ◌++◌, length, get_or, set, Option, Some, None, refl, ap, sym, ◌∙◌, arith, append_assoc}
 use Rattle.pdl_semantics.specs.Flat.{Next, Ends, Goes, Stage, Branch}
-use Rattle.pdl_semantics.specs.Flatten.{Graph, merging}
+use Rattle.pdl_semantics.specs.Flatten.{Graph, with_merge}
 use Rattle.pdl_form.specs.declared.form.Stage as r_stage
 use Rattle.pdl_form.specs.declared.form.Next as r_next
 use Rattle.pdl_form.specs.View.{stage_view, stages_view, next_view}
-use Rattle.pdl_flat.specs.Walking.{leading, marked, next_at, closed}
+use Rattle.pdl_flat.specs.Walking.{leading, with_merge_at, next_at, closed_stages}
 
 -- OF THE PROGRAM'S LISTS
 
@@ -16,7 +16,7 @@ led (y ∷ ys) zero x n h e = ap (λ (z : r_stage.Stage). record { next = next_v
 led (y ∷ ys) (suc k) x n h e = ap (λ zs. stage_view y ∷ zs) (led ys k x n (omega arith) e)
 
 pub marked_one : (xs : List r_stage.Stage) (k : ℕ) (x : r_stage.Stage) (f : ℕ) → k < length xs
-    → x ≡ get_or xs k x → stages_view (set xs k (record x { merges = Some f })) ≡ marked k f (stages_view xs)
+    → x ≡ get_or xs k x → stages_view (set xs k (record x { merges = Some f })) ≡ with_merge_at k f (stages_view xs)
 marked_one [] k x f h e = absurd (omega arith)
 marked_one (y ∷ ys) zero x f h e = ap (λ (z : r_stage.Stage). record { next = next_view z.next; branch = (stage_view z).branch; merges = Some f } ∷ stages_view ys) e
 marked_one (y ∷ ys) (suc k) x f h e = ap (λ zs. stage_view y ∷ zs) (marked_one ys k x f (omega arith) e)
@@ -57,13 +57,13 @@ next-leading k n [] ys h = absurd (omega arith)
 next-leading zero n (x ∷ xs) ys h = refl
 next-leading (suc k) n (x ∷ xs) ys h = next-leading k n xs ys (omega arith)
 
--- a mark behind a list stands at the first stage of what follows
-pub marked-behind : (xs ys : List Stage) (f : ℕ) → marked (length xs) f (xs ++ ys) ≡ xs ++ merging f ys
-marked-behind [] [] f = refl
-marked-behind [] (y ∷ ys) f = refl
-marked-behind (x ∷ xs) ys f = ap (λ zs. x ∷ zs) (marked-behind xs ys f)
+-- a mark after a list stands at the first stage of what follows
+pub marked-after : (xs ys : List Stage) (f : ℕ) → with_merge_at (length xs) f (xs ++ ys) ≡ xs ++ with_merge f ys
+marked-after [] [] f = refl
+marked-after [] (y ∷ ys) f = refl
+marked-after (x ∷ xs) ys f = ap (λ zs. x ∷ zs) (marked-after xs ys f)
 
-pub merging-append : (f : ℕ) (xs ys : List Stage) → 0 < length xs → merging f (xs ++ ys) ≡ merging f xs ++ ys
+pub merging-append : (f : ℕ) (xs ys : List Stage) → 0 < length xs → with_merge f (xs ++ ys) ≡ with_merge f xs ++ ys
 merging-append f [] ys h = absurd (omega arith)
 merging-append f (x ∷ xs) ys h = refl
 
@@ -75,7 +75,7 @@ leading-last (y ∷ xs) x n = ap (λ zs. y ∷ zs) (leading-last xs x n)
 
 -- after stage k
 pub begun_after : (k m n : ℕ) (b : Option Branch) (xs : List Stage) (rest : Graph) → m ≡ length xs → n ≡ m → k < length xs
-    → closed m false (leading k (Goes m) (xs ++ record { next = Ends; branch = b; merges = None } ∷ [])) rest
+    → closed_stages m false (leading k (Goes m) (xs ++ record { next = Ends; branch = b; merges = None } ∷ [])) rest
     ≡ leading k (Goes n) xs ++ record { next = rest.next; branch = b; merges = None } ∷ rest.later
 begun_after k m n b xs rest e f h =
     let x : Stage = record { next = Ends; branch = b; merges = None } in
@@ -88,7 +88,7 @@ begun_after k m n b xs rest e f h =
 
 -- after the fork in stage k
 pub begun_merge : (k m : ℕ) (b : Option Branch) (xs : List Stage) (rest : Graph) → m ≡ length xs
-    → closed m false (xs ++ record { next = Ends; branch = b; merges = Some k } ∷ []) rest
+    → closed_stages m false (xs ++ record { next = Ends; branch = b; merges = Some k } ∷ []) rest
     ≡ xs ++ record { next = rest.next; branch = b; merges = Some k } ∷ rest.later
 begun_merge k m b xs rest e =
     let x : Stage = record { next = Ends; branch = b; merges = Some k } in

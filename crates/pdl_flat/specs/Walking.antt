@@ -3,12 +3,12 @@ use Rattle.std.specs.Prelude.{◌≡◌, ℕ, zero, suc, ◌≤◌, Bool, true, 
 use Rattle.pdl_semantics.specs.Tree.{Stmt, Separator, CombRead, Bind, DelayedRead, If}
 use Rattle.pdl_semantics.specs.Flat as flat
 use Rattle.pdl_semantics.specs.Flat.{Op, Next, Stage}
-use Rattle.pdl_semantics.specs.Flatten.{Place, Graph, merging}
+use Rattle.pdl_semantics.specs.Flatten.{Position, Graph, with_merge}
 use Rattle.pdl_semantics.specs.Stages.{last_stage}
 use Rattle.pdl_flat.specs.declared.walk.Walk.{Walk}
 
 -- where a walk is
-abbrev pub place_of : Walk → Place
+abbrev pub place_of : Walk → Position
 place_of w = record { vars = w.vars; stage = w.stage; begun = w.begun }
 
 -- each stage that has begun stands in its list, and the walk is in one of them
@@ -23,25 +23,25 @@ leading zero n (x ∷ xs) = record x { next = n } ∷ xs
 leading (suc k) n (x ∷ xs) = x ∷ leading k n xs
 
 -- the stages, where stage k is the merge of this fork
-abbrev pub marked : ℕ → ℕ → List Stage → List Stage
-marked k f [] = []
-marked zero f (x ∷ xs) = record x { merges = Some f } ∷ xs
-marked (suc k) f (x ∷ xs) = x ∷ marked k f xs
+abbrev pub with_merge_at : ℕ → ℕ → List Stage → List Stage
+with_merge_at k f [] = []
+with_merge_at zero f (x ∷ xs) = record x { merges = Some f } ∷ xs
+with_merge_at (suc k) f (x ∷ xs) = x ∷ with_merge_at k f xs
 
 -- where stage k leads
 abbrev pub next_at : ℕ → List Stage → Next
 next_at k xs = (slice_index_or xs k last_stage).next
 
 -- these stages, of which k is the last one of its list of statements, with what the later statements give; where a fork stands in k, its way on is known, and the next stage of the list is the merge
-abbrev pub closed : ℕ → Bool → List Stage → Graph → List Stage
-closed k false xs g = leading k g.next xs ++ g.later
-closed k true xs g = xs ++ merging k g.later
+abbrev pub closed_stages : ℕ → Bool → List Stage → Graph → List Stage
+closed_stages k false xs g = leading k g.next xs ++ g.later
+closed_stages k true xs g = xs ++ with_merge k g.later
 
 -- the stages after both branches of an `if` in stage k, which led so before; where a stage has begun after the first n + 1, the `if` is a fork, and where a fork stood in k before, the first of these new stages is its merge
-abbrev pub settled : Bool → Bool → ℕ → ℕ → Next → Next → List Stage → List Stage
-settled true forked k n before fork xs = leading k before xs
-settled false false k n before fork xs = leading k fork xs
-settled false true k n before fork xs = marked (suc n) k (leading k before xs)
+abbrev pub settled_stages : Bool → Bool → ℕ → ℕ → Next → Next → List Stage → List Stage
+settled_stages true forked k n before fork xs = leading k before xs
+settled_stages false false k n before fork xs = leading k fork xs
+settled_stages false true k n before fork xs = with_merge_at (suc n) k (leading k before xs)
 
 -- a statement that is neither a separator nor an `if`
 abbrev pub is_plain : Stmt → Bool

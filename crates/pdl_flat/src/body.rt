@@ -5,7 +5,7 @@ ghost use Rattle.pdl_semantics.specs.Flatten as spec;
 ghost use Rattle.pdl_tree.specs.View as tree;
 ghost use Rattle.pdl_form.specs.View.{guards_view, stmts_view, stages_view, next_view, branch_view};
 ghost use Rattle.pdl_flat.specs.Sized.{IsSized, IsSizedStmt, AreSizedStmts, AreSizedMems};
-ghost use Rattle.pdl_flat.specs.Walking.{place_of, IsWhole, closed, next_at, settled};
+ghost use Rattle.pdl_flat.specs.Walking.{place_of, IsWhole, closed_stages, next_at, settled_stages};
 
 use crate::count::separators;
 use crate::expr::flat_expr;
@@ -133,7 +133,7 @@ fn leave(walk: &mut Walk, choice: Choice, first: usize, second: usize, forked: b
     ensures place { place_of walk.new ≡ place_of walk.old }
     ensures stmts { walk.new.stmts.items ≡ walk.old.stmts.items }
     ensures stages { stages_view walk.new.stages.items
-        ≡ settled (walk.old.begun == choice.begun) forked choice.stage choice.begun
+        ≡ settled_stages (walk.old.begun == choice.begun) forked choice.stage choice.begun
         (next_view choice.before) (flat.Forks choice.var first second)
         (stages_view walk.old.stages.items) }
     ensures whole { IsWhole walk.new }
@@ -178,7 +178,7 @@ fn branch(
         (guards_view guards.now ++ record { var = choice.var; first = first } ∷ [])
         (tree.stmts_view ss.now) (place_of walk.old)) }
     ensures graph { OnOk result (stages_view walk.new.stages.items
-        ≡ closed choice.stage false (stages_view walk.old.stages.items)
+        ≡ closed_stages choice.stage false (stages_view walk.old.stages.items)
         (spec.graph (map tree.mem_view mems.now) (spec.side choice.stage first)
         (flat.Goes choice.merge) (tree.stmts_view ss.now) (place_of walk.old))) }
     ensures entry { IfOk result (λ k.
@@ -214,9 +214,9 @@ pub fn statement(
         ≡ stmts_view walk.old.stmts.items ++ spec.flat_stmt (map tree.mem_view mems.now)
         (guards_view round.now.guards) (tree.stmt_view s.now) (place_of walk.old)) }
     ensures graph { IfOk result (λ after. (rest : spec.Graph) →
-        closed walk.new.stage after (stages_view walk.new.stages.items) rest
-        ≡ closed walk.old.stage forked (stages_view walk.old.stages.items)
-        (spec.joined (map tree.mem_view mems.now) (branch_view round.now.branch)
+        closed_stages walk.new.stage after (stages_view walk.new.stages.items) rest
+        ≡ closed_stages walk.old.stage forked (stages_view walk.old.stages.items)
+        (spec.graph_before (map tree.mem_view mems.now) (branch_view round.now.branch)
         (tree.stmt_view s.now) (place_of walk.old) rest)) }
     ensures whole { OnOk result (IsWhole walk.new) }
     ensures count { OnOk result (walk.new.begun
@@ -268,7 +268,7 @@ pub fn statements(
         ≡ stmts_view walk.old.stmts.items ++ spec.flat_stmts (map tree.mem_view mems.now)
         (guards_view round.now.guards) (tree.stmts_view ss.now) (place_of walk.old)) }
     ensures graph { OnOk result (stages_view walk.new.stages.items
-        ≡ closed walk.old.stage false (stages_view walk.old.stages.items)
+        ≡ closed_stages walk.old.stage false (stages_view walk.old.stages.items)
         (spec.graph (map tree.mem_view mems.now) (branch_view round.now.branch)
         (next_view round.now.exit) (tree.stmts_view ss.now) (place_of walk.old))) }
     ensures whole { OnOk result (IsWhole walk.new) }

@@ -26,7 +26,7 @@ pub fn params(alloc: Global, params: &[Param]) -> Result<Vars, NoMemory>
 
 fn lock(lock: Option<LockDecl>) -> Lock
     requires { IsSizedLock (tree.maybe_lock_view lock) }
-    ensures { lock_view result ≡ spec.lock_of (tree.maybe_lock_view lock) }
+    ensures { lock_view result ≡ spec.flat_lock (tree.maybe_lock_view lock) }
 {
     match lock {
         None => Lock::Plain,
@@ -48,7 +48,7 @@ fn memory(mem: &Tree) -> Result<Mem, NoMemory>
           width = mem.now.width.value;
           depth = mem.now.depth.value;
           delayed = mem.now.delayed;
-          lock = spec.lock_of (tree.maybe_lock_view mem.now.lock);
+          lock = spec.flat_lock (tree.maybe_lock_view mem.now.lock);
         }) }
     ensures name { IfOk result (λ m. m.name ≡ mem.now.name.name) }
 {

@@ -36,7 +36,7 @@ fn spot_of(vars: &Vars, mems: &[Mem], at: &Location) -> Spot
 /// Adds a statement that stands where the walk is.
 pub fn add(alloc: Global, walk: &mut Walk, guards: &[Guard], op: Op) -> Result<(), NoMemory>
     ensures stmts { OnOk result (stmts_view walk.new.stmts.items
-        ≡ stmts_view walk.old.stmts.items ++ spec.at_place (guards_view guards.now)
+        ≡ stmts_view walk.old.stmts.items ++ spec.at_position (guards_view guards.now)
         (place_of walk.old) (act_view op)) }
     ensures place { OnOk result (place_of walk.new ≡ place_of walk.old) }
     ensures stages { OnOk result (walk.new.stages.items ≡ walk.old.stages.items) }
@@ -60,7 +60,7 @@ fn bind(
 ) -> Result<(), NoMemory>
     requires { IsSized (tree.expr_view e.now) }
     ensures stmts { OnOk result (stmts_view walk.new.stmts.items
-        ≡ stmts_view walk.old.stmts.items ++ spec.at_place (guards_view guards.now)
+        ≡ stmts_view walk.old.stmts.items ++ spec.at_position (guards_view guards.now)
         (place_of walk.old) (flat.Bind (length walk.old.vars)
         (spec.flat_expr walk.old.vars (tree.expr_view e.now)))) }
     ensures place { OnOk result (place_of walk.new
@@ -78,7 +78,7 @@ fn bind(
 }
 
 // Adds a read.
-fn read(
+fn read_row(
     alloc: Global,
     walk: &mut Walk,
     mems: &[Mem],
@@ -89,7 +89,7 @@ fn read(
 ) -> Result<(), NoMemory>
     requires { AreSizedMems (map tree.mem_view mems.now) }
     ensures stmts { OnOk result (stmts_view walk.new.stmts.items
-        ≡ stmts_view walk.old.stmts.items ++ spec.at_place (guards_view guards.now)
+        ≡ stmts_view walk.old.stmts.items ++ spec.at_position (guards_view guards.now)
         (place_of walk.old) (read_op delayed (length walk.old.vars)
         (spec.mem_of (map tree.mem_view mems.now) from.now.mem.name)
         (spec.var_of walk.old.vars from.now.address.name))) }
@@ -116,7 +116,7 @@ fn read_at(delayed: bool, x: usize, m: usize, a: usize) -> Op
 }
 
 fn reserve(kind: Kind, m: usize, a: usize) -> Op
-    ensures { act_view result ≡ spec.reserves (tree.kind_view kind) m a }
+    ensures { act_view result ≡ spec.reserve_op (tree.kind_view kind) m a }
 {
     match kind {
         Kind::R => Op::ReserveRead { m, a },
@@ -183,8 +183,8 @@ pub fn row(
 {
     match s {
         Tree::Bind { x, e, .. } => bind(alloc, walk, guards, x, e),
-        Tree::CombRead { x, from, .. } => read(alloc, walk, mems, guards, x, from, false),
-        Tree::DelayedRead { x, from, .. } => read(alloc, walk, mems, guards, x, from, true),
+        Tree::CombRead { x, from, .. } => read_row(alloc, walk, mems, guards, x, from, false),
+        Tree::DelayedRead { x, from, .. } => read_row(alloc, walk, mems, guards, x, from, true),
         _ => {
             let op = act_of(alloc, &walk.vars, mems, s)?;
             add(alloc, walk, guards, op)

@@ -2,7 +2,7 @@
 ghost use Rattle.std.specs.Prelude.{◌≡◌, ◌<◌, true, false, length, OnOk};
 ghost use Rattle.pdl_semantics.specs.Flatten as spec;
 ghost use Rattle.pdl_form.specs.View.{stages_view, next_view, branch_view};
-ghost use Rattle.pdl_flat.specs.Walking.{place_of, IsWhole, closed, leading, marked};
+ghost use Rattle.pdl_flat.specs.Walking.{place_of, IsWhole, closed_stages, leading, with_merge_at};
 
 use crate::vars::Vars;
 use pdl_form::{Branch, Guard, Next, Stage, Stmt};
@@ -41,7 +41,8 @@ pub fn lead(stages: &mut Vec<Stage>, k: usize, next: Next)
 /// Marks a stage as the merge of a fork.
 pub fn mark(stages: &mut Vec<Stage>, k: usize, fork: usize)
     requires { k < length stages.old.items }
-    ensures stages { stages_view stages.new.items ≡ marked k fork (stages_view stages.old.items) }
+    ensures stages { stages_view stages.new.items
+        ≡ with_merge_at k fork (stages_view stages.old.items) }
     ensures len { length stages.new.items ≡ length stages.old.items }
 {
     let mut stage = stages[k];
@@ -52,12 +53,12 @@ pub fn mark(stages: &mut Vec<Stage>, k: usize, fork: usize)
 // Begins a stage after the one in which the walk stands.
 fn begin_after(walk: &mut Walk, branch: Option<Branch>) -> Result<(), NoMemory>
     requires { IsWhole walk.old }
-    ensures place { OnOk result (place_of walk.new ≡ spec.next_place (place_of walk.old)) }
+    ensures place { OnOk result (place_of walk.new ≡ spec.next_position (place_of walk.old)) }
     ensures stmts { OnOk result (walk.new.stmts.items ≡ walk.old.stmts.items) }
     ensures graph { OnOk result ((rest : spec.Graph) →
-        closed walk.new.stage false (stages_view walk.new.stages.items) rest
-        ≡ closed walk.old.stage false (stages_view walk.old.stages.items)
-        (spec.begins (branch_view branch) (place_of walk.old) rest)) }
+        closed_stages walk.new.stage false (stages_view walk.new.stages.items) rest
+        ≡ closed_stages walk.old.stage false (stages_view walk.old.stages.items)
+        (spec.graph_with_stage (branch_view branch) (place_of walk.old) rest)) }
     ensures whole { OnOk result (IsWhole walk.new) }
 {
     let last = walk.stage;
@@ -76,12 +77,12 @@ fn begin_after(walk: &mut Walk, branch: Option<Branch>) -> Result<(), NoMemory>
 // Begins the stage after the fork in the one in which the walk stands.
 fn begin_merge(walk: &mut Walk, branch: Option<Branch>) -> Result<(), NoMemory>
     requires { IsWhole walk.old }
-    ensures place { OnOk result (place_of walk.new ≡ spec.next_place (place_of walk.old)) }
+    ensures place { OnOk result (place_of walk.new ≡ spec.next_position (place_of walk.old)) }
     ensures stmts { OnOk result (walk.new.stmts.items ≡ walk.old.stmts.items) }
     ensures graph { OnOk result ((rest : spec.Graph) →
-        closed walk.new.stage false (stages_view walk.new.stages.items) rest
-        ≡ closed walk.old.stage true (stages_view walk.old.stages.items)
-        (spec.begins (branch_view branch) (place_of walk.old) rest)) }
+        closed_stages walk.new.stage false (stages_view walk.new.stages.items) rest
+        ≡ closed_stages walk.old.stage true (stages_view walk.old.stages.items)
+        (spec.graph_with_stage (branch_view branch) (place_of walk.old) rest)) }
     ensures whole { OnOk result (IsWhole walk.new) }
 {
     let fork = walk.stage;
@@ -99,12 +100,12 @@ fn begin_merge(walk: &mut Walk, branch: Option<Branch>) -> Result<(), NoMemory>
 /// Begins a stage after the one in which the walk stands, or after the fork in it.
 pub fn begin(walk: &mut Walk, branch: Option<Branch>, forked: bool) -> Result<(), NoMemory>
     requires { IsWhole walk.old }
-    ensures place { OnOk result (place_of walk.new ≡ spec.next_place (place_of walk.old)) }
+    ensures place { OnOk result (place_of walk.new ≡ spec.next_position (place_of walk.old)) }
     ensures stmts { OnOk result (walk.new.stmts.items ≡ walk.old.stmts.items) }
     ensures graph { OnOk result ((rest : spec.Graph) →
-        closed walk.new.stage false (stages_view walk.new.stages.items) rest
-        ≡ closed walk.old.stage forked (stages_view walk.old.stages.items)
-        (spec.begins (branch_view branch) (place_of walk.old) rest)) }
+        closed_stages walk.new.stage false (stages_view walk.new.stages.items) rest
+        ≡ closed_stages walk.old.stage forked (stages_view walk.old.stages.items)
+        (spec.graph_with_stage (branch_view branch) (place_of walk.old) rest)) }
     ensures whole { OnOk result (IsWhole walk.new) }
 {
     if forked {

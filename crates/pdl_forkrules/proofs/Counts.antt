@@ -38,16 +38,16 @@ left_if sp c when otherwise left =
 
 -- THE PLACE BEHIND
 
--- the n-th place is the first of those behind
-first_behind : {A : Type 0} (f : A → Place) (xs : List A) (n : ℕ) (x : A) → n < length xs → x ≡ get_or xs n x
+-- the n-th place is the first of those after
+first_after : {A : Type 0} (f : A → Place) (xs : List A) (n : ℕ) (x : A) → n < length xs → x ≡ get_or xs n x
     → starts_with_separator (drop n (map f xs)) ≡ is_separator (f x)
-first_behind f [] n x h e = absurd (omega arith)
-first_behind f (y ∷ ys) zero x h e = ap (λ z. is_separator (f z)) (sym e)
-first_behind f (y ∷ ys) (suc n) x h e = first_behind f ys n x (omega arith) e
+first_after f [] n x h e = absurd (omega arith)
+first_after f (y ∷ ys) zero x h e = ap (λ z. is_separator (f z)) (sym e)
+first_after f (y ∷ ys) (suc n) x h e = first_after f ys n x (omega arith) e
 
 pub next_is : {A : Type 0} (f : A → Place) (xs : List A) (n left : ℕ) (x : A) → left ≡ length xs - n → (left ≡ 0 → ⊥) → x ≡ get_or xs (length xs - left) x
     → starts_with_separator (drop n (map f xs)) ≡ is_separator (f x)
-next_is f xs n left x is other e = first_behind f xs n x low (e ∙ ap (λ k. get_or xs k x) same)
+next_is f xs n left x is other e = first_after f xs n x low (e ∙ ap (λ k. get_or xs k x) same)
   where
     low : n < length xs
     low = grind (arith, other, is)

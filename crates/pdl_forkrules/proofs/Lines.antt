@@ -2,15 +2,15 @@
 use Rattle.std.proofs.Common.{◌≡◌, refl, sym, ap, ap₂, ◌∙◌, ℕ, zero, suc, ◌+◌, ◌-◌, ◌<◌, ◌≤◌, true, false, get_or, List, [], ◌∷◌, ◌++◌, map, take, drop, length, if◌then◌else◌, Some, arith}
 use Rattle.std.proofs.lemmas.List.{map_push}
 use Rattle.pdl_semantics.specs.Tree.{Pipe}
-use Rattle.pdl_rules.specs.Places.{Place, places, behind, line_of}
-use Rattle.pdl_rules.specs.Refusal.{refused_at, breaks, broken_line, first_broken}
+use Rattle.pdl_rules.specs.Places.{Place, places, places_after, line_of}
+use Rattle.pdl_rules.specs.Refusal.{refused_at, breaks_rule, broken_line, first_broken}
 use Rattle.pdl_forkrules.specs.declared.scan.ForkRule.{ForkRule}
 use Rattle.pdl_forkrules.specs.declared.scan.ForkRule.TheVariants.{F1, F2, F3, F4, F5}
 use Rattle.pdl_forkrules.proofs.Steps.{drop_next, take_next}
 use Rattle.pdl_forkrules.specs.Order as order
 
-asked : (r : ForkRule) (p : Pipe) (before : List Place) (x : Place) → breaks (order.rule_of r) p before x ≡ order.breaks r p before x
-unfolding order.breaks
+asked : (r : ForkRule) (p : Pipe) (before : List Place) (x : Place) → breaks_rule (order.rule_of r) p before x ≡ order.breaks_fork_rule r p before x
+unfolding order.breaks_fork_rule
 asked F1 p before x = refl
 asked F2 p before x = refl
 asked F3 p before x = refl
@@ -38,9 +38,9 @@ long_front f zero xs h = refl
 long_front f (suc k) [] h = absurd (omega arith)
 long_front f (suc k) (x ∷ xs) h = ap suc (long_front f k xs (omega arith))
 
-pub behind_here : {A : Type 0} (f : A → Place) (p : Pipe) (k : ℕ) (xs : List A) → places p ≡ map f xs → k < length xs
-    → behind p (map f (take k xs)) ≡ map f (drop (k + 1) xs)
-behind_here f p k xs e h =
+pub after_here : {A : Type 0} (f : A → Place) (p : Pipe) (k : ℕ) (xs : List A) → places p ≡ map f xs → k < length xs
+    → places_after p (map f (take k xs)) ≡ map f (drop (k + 1) xs)
+after_here f p k xs e h =
     ap₂ (λ n ys. drop (suc n) ys) (long_front f k xs h) e
     ∙ drop_map f (suc k) xs
     ∙ ap (λ n. map f (drop n xs)) (let one : suc k ≡ k + 1 = omega arith in one)
@@ -56,13 +56,13 @@ long_drop zero xs h = omega arith
 long_drop (suc n) [] h = absurd (omega arith)
 long_drop (suc n) (x ∷ xs) h = let rest = long_drop n xs (omega arith) in omega arith
 
-pub all_behind : {A : Type 0} (n : ℕ) (xs : List A) → n ≤ length xs → take (length xs - n) (drop n xs) ≡ drop n xs
-all_behind n xs h = take_all (length xs - n) (drop n xs) (let rest = long_drop n xs h in omega arith)
+pub all_after : {A : Type 0} (n : ℕ) (xs : List A) → n ≤ length xs → take (length xs - n) (drop n xs) ≡ drop n xs
+all_after n xs h = take_all (length xs - n) (drop n xs) (let rest = long_drop n xs h in omega arith)
 
 -- ONE PLACE MORE
 
 pub found : {A : Type 0} (f : A → Place) (r : ForkRule) (p : Pipe) (xs : List A) (k : ℕ) (x : A) → k < length xs → x ≡ get_or xs k x
-    → order.breaks r p (map f (take k xs)) (f x) ≡ true
+    → order.breaks_fork_rule r p (map f (take k xs)) (f x) ≡ true
     → order.line_from r p (map f (take k xs)) (map f (drop k xs)) ≡ order.line_from r p [] (map f xs) → Some (line_of (f x)) ≡ order.broken_line r p (map f xs)
 unfolding order.broken_line
 found f r p xs k x h e is inv =
@@ -71,7 +71,7 @@ found f r p xs k x h e is inv =
     ∙ inv
 
 pub passed : {A : Type 0} (f : A → Place) (r : ForkRule) (p : Pipe) (xs : List A) (k : ℕ) (x : A) → k < length xs → x ≡ get_or xs k x
-    → order.breaks r p (map f (take k xs)) (f x) ≡ false
+    → order.breaks_fork_rule r p (map f (take k xs)) (f x) ≡ false
     → order.line_from r p (map f (take k xs)) (map f (drop k xs)) ≡ order.line_from r p [] (map f xs)
     → order.line_from r p (map f (take (k + 1) xs)) (map f (drop (k + 1) xs)) ≡ order.line_from r p [] (map f xs)
 passed f r p xs k x h e is inv =

@@ -11,7 +11,7 @@ use Rattle.pdl_forkrules.specs.declared.scan.ForkRule.{ForkRule}
 use Rattle.pdl_forkrules.specs.declared.scan.ForkRule.TheVariants.{F1, F2, F3, F4, F5}
 use Rattle.pdl_forkrules.specs.declared.scan.Broken.{Broken}
 
--- no separator follows what stands in both branches of an `if`, where these places stand behind the `if`
+-- no separator follows what stands in both branches of an `if`, where these places stand after the `if`
 abbrev pub is_unfollowed : Stmts → Stmts → List Place → Bool
 is_unfollowed when otherwise later = not (starts_with_separator (drop (length (statements [] when) + (length (statements [] otherwise) + 0)) later))
 
@@ -31,17 +31,17 @@ rule_of F4 = rules.F4
 rule_of F5 = rules.F5
 
 -- whether the place breaks the rule
-unfoldable pub breaks : ForkRule → Pipe → List Place → Place → Bool
-breaks F1 p before x = breaks_f1 x
-breaks F2 p before x = breaks_f2 p before x
-breaks F3 p before x = breaks_f3 p before x
-breaks F4 p before x = breaks_f4 p x
-breaks F5 p before x = breaks_f5 p x
+unfoldable pub breaks_fork_rule : ForkRule → Pipe → List Place → Place → Bool
+breaks_fork_rule F1 p before x = breaks_f1 x
+breaks_fork_rule F2 p before x = breaks_f2 p before x
+breaks_fork_rule F3 p before x = breaks_f3 p before x
+breaks_fork_rule F4 p before x = breaks_f4 p x
+breaks_fork_rule F5 p before x = breaks_f5 p x
 
 -- the line of the first of these places that does
 abbrev pub line_from : ForkRule → Pipe → List Place → List Place → Option ℕ
 line_from r p before [] = None
-line_from r p before (x ∷ xs) = if breaks r p before x then Some (line_of x) else line_from r p (before ++ x ∷ []) xs
+line_from r p before (x ∷ xs) = if breaks_fork_rule r p before x then Some (line_of x) else line_from r p (before ++ x ∷ []) xs
 
 unfoldable pub broken_line : ForkRule → Pipe → List Place → Option ℕ
 broken_line r p all = line_from r p [] all

@@ -39,37 +39,37 @@ pub fn holds_separator(ss: &[Stmt]) -> bool
     false
 }
 
-// How many of so many places are left behind a statement and what stands inside it.
+// How many of so many places are left after a statement and what stands inside it.
 #[cycle(places)]
-fn left_behind_one(s: &Stmt, left: usize) -> usize
+fn left_after_one(s: &Stmt, left: usize) -> usize
     ensures { result ≡ left - length (with_inner [] (stmt_view s.now)) }
 {
-    let behind = left.saturating_sub(1);
+    let after = left.saturating_sub(1);
     match s {
         Stmt::If {
             then,
             otherwise,
             ..
         } => {
-            let first = left_behind(then.as_slice(), behind);
-            left_behind(otherwise.as_slice(), first)
+            let first = left_after(then.as_slice(), after);
+            left_after(otherwise.as_slice(), first)
         }
-        Stmt::Separator { .. } | Stmt::CombRead { .. } | Stmt::Bind { .. } => behind,
-        Stmt::SpecCall { .. } | Stmt::DelayedRead { .. } | Stmt::Write { .. } => behind,
-        Stmt::Reserve { .. } | Stmt::Block { .. } | Stmt::Release { .. } => behind,
-        Stmt::Call { .. } | Stmt::Verify { .. } | Stmt::SpecCheck { .. } => behind,
-        Stmt::SpecBarrier { .. } => behind,
+        Stmt::Separator { .. } | Stmt::CombRead { .. } | Stmt::Bind { .. } => after,
+        Stmt::SpecCall { .. } | Stmt::DelayedRead { .. } | Stmt::Write { .. } => after,
+        Stmt::Reserve { .. } | Stmt::Block { .. } | Stmt::Release { .. } => after,
+        Stmt::Call { .. } | Stmt::Verify { .. } | Stmt::SpecCheck { .. } => after,
+        Stmt::SpecBarrier { .. } => after,
     }
 }
 
-/// How many of so many places are left behind these statements and what stands inside them, 0 where these have as many or more.
+/// How many of so many places are left after these statements and what stands inside them, 0 where these have as many or more.
 #[cycle(places)]
-pub fn left_behind(ss: &[Stmt], left: usize) -> usize
+pub fn left_after(ss: &[Stmt], left: usize) -> usize
     ensures { result ≡ left - length (statements [] (stmts_view ss.now)) }
 {
     let mut left = left;
     for s in ss {
-        left = left_behind_one(s, left);
+        left = left_after_one(s, left);
     }
     left
 }

@@ -10,7 +10,7 @@ ghost use Rattle.pdl_paths.specs.Actions.{place_view};
 ghost use Rattle.pdl_paths.specs.Guards.{branch_view};
 ghost use Rattle.pdl_forkrules.specs.Order.{is_wrong_fork as spec_wrong_fork, is_unfollowed as spec_unfollowed};
 
-use crate::inside::{holds_separator, left_behind};
+use crate::inside::{holds_separator, left_after};
 use pdl_kit::Name;
 use pdl_paths::{Action, Branch, Place, is_separator};
 use pdl_textstages::{begun_before, stage_in};
@@ -47,12 +47,12 @@ pub fn breaks_f1(place: &Place<'_>) -> bool
     }
 }
 
-// Whether no separator follows what stands inside an `if`, where `later` are the places behind the `if`.
+// Whether no separator follows what stands inside an `if`, where `later` are the places after the `if`.
 fn is_unfollowed(when: &[Stmt], otherwise: &[Stmt], later: &[Place<'_>]) -> bool
     ensures { result ≡ spec_unfollowed (stmts_view when.now) (stmts_view otherwise.now)
         (map place_view later.now) }
 {
-    let left = left_behind(otherwise, left_behind(when, later.len()));
+    let left = left_after(otherwise, left_after(when, later.len()));
     if left == 0 {
         return true;
     }
@@ -73,10 +73,10 @@ fn is_wrong_fork(
         && (!branches.is_empty() || is_unfollowed(when, otherwise, later))
 }
 
-/// Whether the place, with these places behind it, is a fork inside a branch, or one that no separator follows directly.
+/// Whether the place, with these places after it, is a fork inside a branch, or one that no separator follows directly.
 pub fn breaks_f2(place: &Place<'_>, later: &[Place<'_>]) -> bool
     ensures { (p : tree.Pipe) (before : List spec.Place) →
-        spec.behind p before ≡ map place_view later.now →
+        spec.places_after p before ≡ map place_view later.now →
         result ≡ forks.breaks_f2 p before (place_view place.now) }
 {
     match place.action {
@@ -92,8 +92,8 @@ pub fn breaks_f2(place: &Place<'_>, later: &[Place<'_>]) -> bool
 }
 
 // Whether a place is a delayed read of this memory.
-fn fetches(memory: &Name, place: &Place<'_>) -> bool
-    ensures { result ≡ forks.fetches memory.now (place_view place.now) }
+fn is_fetch_of(memory: &Name, place: &Place<'_>) -> bool
+    ensures { result ≡ forks.breaks_fetch_order memory.now (place_view place.now) }
 {
     match place.action {
         Action::DelayedRead(_, at) => at.mem.name == *memory,
@@ -106,10 +106,10 @@ fn fetches(memory: &Name, place: &Place<'_>) -> bool
 }
 
 fn is_fetched(memory: &Name, before: &[Place<'_>]) -> bool
-    ensures { result ≡ list_any (forks.fetches memory.now) (map place_view before.now) }
+    ensures { result ≡ list_any (forks.breaks_fetch_order memory.now) (map place_view before.now) }
 {
     for place in before {
-        if fetches(memory, place) {
+        if is_fetch_of(memory, place) {
             return true;
         }
     }

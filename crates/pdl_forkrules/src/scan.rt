@@ -49,9 +49,9 @@ fn rule_of(asked: ForkRule) -> Rule
     }
 }
 
-// Whether a place breaks the rule, with these places before it and these behind it.
-#[tactic(auto, unfolding(crate::specs::Order::breaks))]
-fn breaks(
+// Whether a place breaks the rule, with these places before it and these after it.
+#[tactic(auto, unfolding(crate::specs::Order::breaks_fork_rule))]
+fn breaks_rule(
     asked: ForkRule,
     pipe: &Pipe,
     all: &[Place<'_>],
@@ -60,9 +60,10 @@ fn breaks(
     later: &[Place<'_>],
 ) -> bool
     requires all { spec.places (pipe_view pipe.now) ≡ map place_view all.now }
-    requires later { spec.behind (pipe_view pipe.now) (map place_view before.now)
+    requires later { spec.places_after (pipe_view pipe.now) (map place_view before.now)
         ≡ map place_view later.now }
-    ensures { result ≡ ordered.breaks asked (pipe_view pipe.now) (map place_view before.now)
+    ensures { result ≡ ordered.breaks_fork_rule asked (pipe_view pipe.now)
+        (map place_view before.now)
         (place_view place.now) }
 {
     match asked {
@@ -81,7 +82,7 @@ fn broken_line(asked: ForkRule, pipe: &Pipe, all: &[Place<'_>]) -> Option<u32>
     ensures { result ≡ ordered.broken_line asked (pipe_view pipe.now) (map place_view all.now) }
 {
     for (k, place) in all.iter().enumerate() {
-        if breaks(asked, pipe, all, &all[..k], place, &all[k + 1..]) {
+        if breaks_rule(asked, pipe, all, &all[..k], place, &all[k + 1..]) {
             return Some(place.line());
         }
     }

@@ -18,8 +18,8 @@ stage_of_each test xs m [] = []
 stage_of_each test xs m (x ∷ ms) = first_stage (test m) xs ∷ stage_of_each test xs (suc m) ms
 
 -- the form of these parts
-abbrev pub formed : List ℕ → List Mem → List (List ℕ) → List Stmt → List Stage → List ℕ → Form
-formed widths mems names stmts stages start =
+abbrev pub form_with : List ℕ → List Mem → List (List ℕ) → List Stmt → List Stage → List ℕ → Form
+form_with widths mems names stmts stages start =
     record {
       pipe = record {
         vars = length widths;

@@ -2,13 +2,13 @@
 ghost use Rattle.std.specs.Prelude.{◌≡◌, ◌<◌, ℕ, map, length, slice_index, slice_index_or, None, IfOk};
 ghost use Rattle.pdl_semantics.specs.Stages.{in_stage, verify_stage};
 ghost use Rattle.pdl_form.specs.View.{stmts_view, stages_view, mems_view, mem_names};
-ghost use Rattle.pdl_form.specs.Form.{formed, rows_in, stmt_at};
+ghost use Rattle.pdl_form.specs.Form.{form_with, rows_in, stmt_at};
 ghost use Rattle.pdl_form.specs.Whole.{form};
 
 use crate::flat::FlatPipe;
 use crate::form::{Mem, Stage, Stmt};
-use crate::rows::{all_rows, releases, reserves};
-use crate::stmts::verified;
+use crate::rows::{all_rows, release_stages, reserve_stages};
+use crate::stmts::verify_stage;
 use pdl_kit::NoMemory;
 use std::alloc::Global;
 
@@ -23,13 +23,13 @@ impl FlatPipe {
         start: Vec<u64>,
     ) -> Result<FlatPipe, NoMemory>
         ensures { IfOk result (λ f. form f
-            ≡ formed widths.items (mems_view mems.items) (mem_names mems.items)
+            ≡ form_with widths.items (mems_view mems.items) (mem_names mems.items)
             (stmts_view stmts.items) (stages_view stages.items) start.items) }
     {
-        let reserved = reserves(alloc, stmts.as_slice(), mems.as_slice())?;
-        let released = releases(alloc, stmts.as_slice(), mems.as_slice())?;
+        let reserved = reserve_stages(alloc, stmts.as_slice(), mems.as_slice())?;
+        let released = release_stages(alloc, stmts.as_slice(), mems.as_slice())?;
         let rows = all_rows(alloc, stmts.as_slice(), stages.len())?;
-        let verified = verified(stmts.as_slice());
+        let verified = verify_stage(stmts.as_slice());
         Ok(FlatPipe {
             widths,
             mems,
@@ -117,7 +117,7 @@ impl FlatPipe {
     }
 
     /// The stage of the verifies, where there are some.
-    pub fn verified(&self) -> Option<usize>
+    pub fn verify_stage(&self) -> Option<usize>
         ensures { result ≡ verify_stage (form self.now).pipe.stmts }
     {
         self.verified

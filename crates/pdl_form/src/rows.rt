@@ -5,7 +5,7 @@ ghost use Rattle.pdl_form.specs.View.{stmts_view, mems_view};
 ghost use Rattle.pdl_form.specs.Form.{rows_below, stage_of_each};
 
 use crate::form::{Mem, Stmt};
-use crate::stmts::{released, reserved, rows};
+use crate::stmts::{release_stage, reserve_stage, rows};
 use pdl_kit::{NoMemory, Seq};
 use std::alloc::Global;
 
@@ -22,25 +22,33 @@ pub fn all_rows(alloc: Global, stmts: &[Stmt], count: usize) -> Result<Vec<Seq<u
 }
 
 /// The stage of each memory's reserves.
-pub fn reserves(alloc: Global, stmts: &[Stmt], mems: &[Mem]) -> Result<Vec<Option<usize>>, NoMemory>
+pub fn reserve_stages(
+    alloc: Global,
+    stmts: &[Stmt],
+    mems: &[Mem],
+) -> Result<Vec<Option<usize>>, NoMemory>
     ensures { IfOk result (λ r. r.items
         ≡ stage_of_each stages.is_reserve (stmts_view stmts.now) 0 (mems_view mems.now)) }
 {
     let mut all = Vec::new(alloc);
     for (m, _) in mems.iter().enumerate() {
-        all.push(reserved(stmts, m))?;
+        all.push(reserve_stage(stmts, m))?;
     }
     Ok(all)
 }
 
 /// The stage of each memory's releases.
-pub fn releases(alloc: Global, stmts: &[Stmt], mems: &[Mem]) -> Result<Vec<Option<usize>>, NoMemory>
+pub fn release_stages(
+    alloc: Global,
+    stmts: &[Stmt],
+    mems: &[Mem],
+) -> Result<Vec<Option<usize>>, NoMemory>
     ensures { IfOk result (λ r. r.items
         ≡ stage_of_each stages.is_release (stmts_view stmts.now) 0 (mems_view mems.now)) }
 {
     let mut all = Vec::new(alloc);
     for (m, _) in mems.iter().enumerate() {
-        all.push(released(stmts, m))?;
+        all.push(release_stage(stmts, m))?;
     }
     Ok(all)
 }

@@ -22,7 +22,7 @@ pub fn rows(alloc: Global, stmts: &[Stmt], stage: usize) -> Result<Vec<usize>, N
     Ok(rows)
 }
 
-fn reserves(op: &Op, mem: usize) -> bool
+fn is_reserve_of(op: &Op, mem: usize) -> bool
     ensures { result ≡ stages.is_reserve mem (act_view op.now) }
 {
     match op {
@@ -31,7 +31,7 @@ fn reserves(op: &Op, mem: usize) -> bool
     }
 }
 
-fn releases(op: &Op, mem: usize) -> bool
+fn is_release_of(op: &Op, mem: usize) -> bool
     ensures { result ≡ stages.is_release mem (act_view op.now) }
 {
     match op {
@@ -40,18 +40,18 @@ fn releases(op: &Op, mem: usize) -> bool
     }
 }
 
-fn verifies(op: &Op) -> bool
+fn is_verify(op: &Op) -> bool
     ensures { result ≡ stages.is_verify (act_view op.now) }
 {
     matches!(op, Op::Verify(_))
 }
 
 /// The stage of a memory's reserves: that of the first one in the text.
-pub fn reserved(stmts: &[Stmt], mem: usize) -> Option<usize>
+pub fn reserve_stage(stmts: &[Stmt], mem: usize) -> Option<usize>
     ensures { result ≡ first_stage (stages.is_reserve mem) (stmts_view stmts.now) }
 {
     for stmt in stmts {
-        if reserves(&stmt.op, mem) {
+        if is_reserve_of(&stmt.op, mem) {
             return Some(stmt.stage);
         }
     }
@@ -59,11 +59,11 @@ pub fn reserved(stmts: &[Stmt], mem: usize) -> Option<usize>
 }
 
 /// The stage of a memory's releases: that of the first one in the text.
-pub fn released(stmts: &[Stmt], mem: usize) -> Option<usize>
+pub fn release_stage(stmts: &[Stmt], mem: usize) -> Option<usize>
     ensures { result ≡ first_stage (stages.is_release mem) (stmts_view stmts.now) }
 {
     for stmt in stmts {
-        if releases(&stmt.op, mem) {
+        if is_release_of(&stmt.op, mem) {
             return Some(stmt.stage);
         }
     }
@@ -71,11 +71,11 @@ pub fn released(stmts: &[Stmt], mem: usize) -> Option<usize>
 }
 
 /// The stage of the verifies: that of the first one in the text.
-pub fn verified(stmts: &[Stmt]) -> Option<usize>
+pub fn verify_stage(stmts: &[Stmt]) -> Option<usize>
     ensures { result ≡ stages.verify_stage (stmts_view stmts.now) }
 {
     for stmt in stmts {
-        if verifies(&stmt.op) {
+        if is_verify(&stmt.op) {
             return Some(stmt.stage);
         }
     }

@@ -91,8 +91,8 @@ found us vs all stays begins = record {
 
 -- ONE VARIABLE MORE
 
-pub stays_behind : (us vs : List Var) (v : Var) → Stays us vs → Stays us (vs ++ v ∷ [])
-stays_behind us vs v h x e =
+pub stays_after : (us vs : List Var) (v : Var) → Stays us vs → Stays us (vs ++ v ∷ [])
+stays_after us vs v h x e =
     let here = h x e in
     let all = stays_more vs (v ∷ []) x here.0 in
     (all.0, all.1 ∙ here.1)
@@ -110,13 +110,13 @@ new_width [] v x new e = end_width (bytes_eq v.name x) v.width e
 new_width (u ∷ vs) v x new e =
     new_step (bytes_eq u.name x) (is_named vs x) u.width (var_width (vs ++ v ∷ []) x) v.width new (λ f. new_width vs v x f e)
 
--- the same one behind both, of a name that neither has
+-- the same one after both, of a name that neither has
 pub stays_both : (us vs : List Var) (v : Var) → is_named us v.name ≡ false → is_named vs v.name ≡ false → Stays us vs → Stays (us ++ v ∷ []) (vs ++ v ∷ [])
 stays_both us vs v fresh new h x e = at (is_named us x) refl
   where
     at : (b : Bool) → is_named us x ≡ b → IsTrue (is_named (vs ++ v ∷ []) x) × (var_width (vs ++ v ∷ []) x ≡ var_width (us ++ v ∷ []) x)
     at true t =
-        let there = stays_behind us vs v h x t in
+        let there = stays_after us vs v h x t in
         (there.0, there.1 ∙ sym (stays_more us (v ∷ []) x t).1)
     at false t =
         let it : bytes_eq v.name x ≡ true = ⊎_elim (λ k. absurd (both_ways (is_named us x) t k)) (λ k. k) (any_split (λ (u : Var). bytes_eq u.name x) us v e) in

@@ -2,7 +2,7 @@ pub mod Same
 pub mod Found
 pub mod Values
 pub mod Memories
-pub mod Behind
+pub mod After
 pub mod Standing
 pub mod Growing
 pub mod Starting

@@ -8,11 +8,11 @@ use Rattle.pdl_kit.specs.declared.rule.Rule.TheVariants.{Z7}
 use Rattle.pdl_semantics.specs.Tree.{Stmt, If, Stmts, Nil, Cons, LockKind, Queue, Bypass, Rename, LockDecl, Mem, Pipe}
 use Rattle.pdl_semantics.specs.Flat as flat
 use Rattle.pdl_semantics.specs.Flat.{has_lock}
-use Rattle.pdl_semantics.specs.Flatten.{mem_of, mem_width, lock_of, mems_of}
+use Rattle.pdl_semantics.specs.Flatten.{mem_of, mem_width, flat_lock, mems_of}
 use Rattle.pdl_semantics.specs.Stages.{plain_mem}
 use Rattle.pdl_rules.specs.Places.{Place, Memory, Parameter, Branch, guard_of, with_inner, statements, places}
 use Rattle.pdl_rules.specs.Limits.{depths, breaks_z7}
-use Rattle.pdl_rules.specs.Names.{OfMemory, defines, is_undefined}
+use Rattle.pdl_rules.specs.Names.{OfMemory, defines_use, is_undefined}
 use Rattle.pdl_rules.specs.Widths.{mem_depth, address_bits}
 use Rattle.pdl_rules.specs.Locks.{is_locked}
 use Rattle.pdl_rules.specs.Refusal.{KeepsRules}
@@ -31,7 +31,7 @@ use Rattle.pdl_rules.proofs.Defined.{no_params}
 abbrev has_bits : ℕ → Bool
 has_bits d = nat_le 1 (address_bits d) && nat_le (address_bits d) 16
 
-typed_mem : (m : Mem) → breaks_z7 (Memory m) ≡ false → IsTypedMem (record { width = m.width.value; depth = m.depth.value; delayed = m.delayed; lock = lock_of m.lock })
+typed_mem : (m : Mem) → breaks_z7 (Memory m) ≡ false → IsTypedMem (record { width = m.width.value; depth = m.depth.value; delayed = m.delayed; lock = flat_lock m.lock })
 typed_mem m e =
     let both = shape m e in
     let width = and_parts (nat_le 1 m.width.value) (nat_le m.width.value 64) both.0 in
@@ -83,11 +83,11 @@ pub found_depth : (ms : List Mem) (m : List ℕ) → (mem_found ms m).depth ≡ 
 found_depth [] m = refl
 found_depth (x ∷ ms) m = found_step (λ (y : flat.Mem). y.depth) (bytes_eq x.name.name m) _ (mems_of ms) (mem_of ms m) (mem_depth ms m) (found_depth ms m)
 
-same_lock : (l : Option LockDecl) → has_lock (lock_of l) ≡ is_some l
+same_lock : (l : Option LockDecl) → has_lock (flat_lock l) ≡ is_some l
 same_lock None = refl
 same_lock (Some l) = of_kind l.kind refl
   where
-    of_kind : (k : LockKind) → l.kind ≡ k → has_lock (lock_of (Some l)) ≡ true
+    of_kind : (k : LockKind) → l.kind ≡ k → has_lock (flat_lock (Some l)) ≡ true
     of_kind Queue e = rw e refl
     of_kind Bypass e = rw e refl
     of_kind Rename e = rw e refl
@@ -110,18 +110,18 @@ wide_mem (x ∷ ms) m t h =
 -- BY NAME
 
 mutual
-  none_in : (m : List ℕ) (bs : List Branch) (s : Stmt) → list_any (defines (OfMemory m)) (with_inner bs s) ≡ false
+  none_in : (m : List ℕ) (bs : List Branch) (s : Stmt) → list_any (defines_use (OfMemory m)) (with_inner bs s) ≡ false
   none_in m bs (If sp c when otherwise) =
-      list_any-append (defines (OfMemory m)) (statements (bs ++ record { guard = guard_of sp c; truth = true; inside = when } ∷ []) when) _
+      list_any-append (defines_use (OfMemory m)) (statements (bs ++ record { guard = guard_of sp c; truth = true; inside = when } ∷ []) when) _
       ∙ ap₂ (λ a b. a || b) (none_among m _ when) (none_among m _ otherwise)
   none_in m bs _ = refl
 
-  none_among : (m : List ℕ) (bs : List Branch) (ss : Stmts) → list_any (defines (OfMemory m)) (statements bs ss) ≡ false
+  none_among : (m : List ℕ) (bs : List Branch) (ss : Stmts) → list_any (defines_use (OfMemory m)) (statements bs ss) ≡ false
   none_among m bs Nil = refl
   none_among m bs (Cons s ss) =
-      list_any-append (defines (OfMemory m)) (with_inner bs s) (statements bs ss) ∙ ap₂ (λ a b. a || b) (none_in m bs s) (none_among m bs ss)
+      list_any-append (defines_use (OfMemory m)) (with_inner bs s) (statements bs ss) ∙ ap₂ (λ a b. a || b) (none_in m bs s) (none_among m bs ss)
 
-among_mems : (m : List ℕ) (ms : List Mem) → list_any (defines (OfMemory m)) (map Memory ms) ≡ true → IsTrue (is_memory ms m)
+among_mems : (m : List ℕ) (ms : List Mem) → list_any (defines_use (OfMemory m)) (map Memory ms) ≡ true → IsTrue (is_memory ms m)
 among_mems m [] e = absurd (false≢true e)
 among_mems m (x ∷ ms) e =
     ⊎_elim
@@ -134,7 +134,7 @@ pub memory_there : (p : Pipe) (m : List ℕ) → is_undefined (places p) (OfMemo
 memory_there p m e = among_mems m p.mems (only (list_any test (map Memory p.mems)) (sym parts ∙ not-false _ e))
   where
     test : Place → Bool
-    test = defines (OfMemory m)
+    test = defines_use (OfMemory m)
 
     parts : list_any test (places p) ≡ ((list_any test (map Memory p.mems) || false) || false)
     parts =

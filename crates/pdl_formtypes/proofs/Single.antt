@@ -1,4 +1,4 @@
--- The flat statement of one statement that is no `if`, and what stands behind it.
+-- The flat statement of one statement that is no `if`, and what stands after it.
 use Rattle.std.proofs.Common.{◌≡◌, refl, sym, ◌∙◌, subst, Bool, true, false, List, [], ◌∷◌, ◌++◌, map, Some, nat_eq}
 use Rattle.std.specs.List.{list_any}
 use Rattle.std.specs.Cmp.Lexicographic.{pointwise}
@@ -19,7 +19,7 @@ use Rattle.pdl_formtypes.specs.Stmts.{AreGuards, IsLocation, AreArguments, AreTy
 use Rattle.pdl_formtypes.proofs.Found.{Found, found, Begins, begins_self, begins_then, widths_of}
 use Rattle.pdl_formtypes.proofs.Values.{Alike, alike, arguments_flat, IsWide, wide_expr}
 use Rattle.pdl_formtypes.proofs.Memories.{found_width, wide_mem}
-use Rattle.pdl_formtypes.proofs.Behind.{Behind, behind_same, behind_more, has_letters}
+use Rattle.pdl_formtypes.proofs.After.{After, after_same, after_more, has_letters}
 use Rattle.pdl_formtypes.proofs.Standing.{fits, tree_typed, tree_arguments, memory, located, locked}
 use Rattle.pdl_formtypes.proofs.Starting.{params_are}
 use Rattle.pdl_formtypes.proofs.Growing.{begins_same, new_last}
@@ -32,7 +32,7 @@ is_if _ = false
 abbrev pub all_vars : Pipe → List Var
 all_vars p = (past_all p.mems p.body (at_start p)).vars
 
-module _ (p : Pipe) (rules : KeepsRules p) (before : List Place) (bs : List Branch) (later : List Place) (w : Flatten.Place) (b : Behind p before w.vars) where
+module _ (p : Pipe) (rules : KeepsRules p) (before : List Place) (bs : List Branch) (later : List Place) (w : Flatten.Position) (b : After p before w.vars) where
   -- ITS FLAT STATEMENT
 
   module _ (s : Stmt) (e : places p ≡ before ++ Statement s bs ∷ later) (begins : Begins w.vars (all_vars p)) where
@@ -126,24 +126,24 @@ module _ (p : Pipe) (rules : KeepsRules p) (before : List Place) (bs : List Bran
   -- WHAT STANDS BEHIND IT
 
   module _ (named : is_undefined (places p) (OfVariable []) ≡ true) (mems : AreTypedMems (mems_of p.mems)) where
-    pub behind_single : (s : Stmt) → is_if s ≡ false → places p ≡ before ++ Statement s bs ∷ later → Behind p (before ++ Statement s bs ∷ []) (past p.mems s w).vars
-    behind_single (CombRead sp x at) i e =
-        behind_more p before w.vars b (Statement (CombRead sp x at) bs) x.name (mem_width p.mems at.mem.name) refl refl refl
+    pub after_single : (s : Stmt) → is_if s ≡ false → places p ≡ before ++ Statement s bs ∷ later → After p (before ++ Statement s bs ∷ []) (past p.mems s w).vars
+    after_single (CombRead sp x at) i e =
+        after_more p before w.vars b (Statement (CombRead sp x at) bs) x.name (mem_width p.mems at.mem.name) refl refl refl
         (rules N2 before (Statement (CombRead sp x at) bs) later e)
         (has_letters p rules named before (Statement (CombRead sp x at) bs) later x.name e refl)
         (wide_mem p.mems at.mem.name mems (memory p rules before (CombRead sp x at) bs later e w.vars b at refl))
-    behind_single (DelayedRead sp x at) i e =
-        behind_more p before w.vars b (Statement (DelayedRead sp x at) bs) x.name (mem_width p.mems at.mem.name) refl refl refl
+    after_single (DelayedRead sp x at) i e =
+        after_more p before w.vars b (Statement (DelayedRead sp x at) bs) x.name (mem_width p.mems at.mem.name) refl refl refl
         (rules N2 before (Statement (DelayedRead sp x at) bs) later e)
         (has_letters p rules named before (Statement (DelayedRead sp x at) bs) later x.name e refl)
         (wide_mem p.mems at.mem.name mems (memory p rules before (DelayedRead sp x at) bs later e w.vars b at refl))
-    behind_single (Bind sp x v) i e =
+    after_single (Bind sp x v) i e =
         let tree = (tree_typed p rules before (Bind sp x v) bs later e w.vars b v (fits p rules before (Bind sp x v) bs later e)).0 in
         let value = alike b.us w.vars (widths_of w.vars) (found b.us w.vars w.vars b.stays (begins_same w.vars)) v tree in
         let wide = subst IsWide value.width (wide_expr (widths_of w.vars) b.wide (flat_expr w.vars v) value.typed) in
-        subst (λ n. Behind p (before ++ Statement (Bind sp x v) bs ∷ []) (w.vars ++ record { name = x.name; width = n } ∷ [])) (sym value.same)
-        (behind_more p before w.vars b (Statement (Bind sp x v) bs) x.name (width_of b.us v) refl refl refl
+        subst (λ n. After p (before ++ Statement (Bind sp x v) bs ∷ []) (w.vars ++ record { name = x.name; width = n } ∷ [])) (sym value.same)
+        (after_more p before w.vars b (Statement (Bind sp x v) bs) x.name (width_of b.us v) refl refl refl
         (rules N2 before (Statement (Bind sp x v) bs) later e)
         (has_letters p rules named before (Statement (Bind sp x v) bs) later x.name e refl) wide)
-    behind_single (If sp c when otherwise) i e = absurd (true≢false i)
-    behind_single s i e = behind_same p before w.vars b (Statement s bs) refl refl
+    after_single (If sp c when otherwise) i e = absurd (true≢false i)
+    after_single s i e = after_same p before w.vars b (Statement s bs) refl refl

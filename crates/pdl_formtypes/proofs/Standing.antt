@@ -10,8 +10,8 @@ use Rattle.pdl_semantics.specs.Flat.{has_lock}
 use Rattle.pdl_semantics.specs.Flatten.{Var, var_of, var_width, mem_of, width_of, flat}
 use Rattle.pdl_semantics.specs.Stages.{mem_at}
 use Rattle.pdl_rules.specs.Places.{Place, Parameter, Statement, Branch, statements, places}
-use Rattle.pdl_rules.specs.Parts.{location_of, passes, some_part, some_expr_of}
-use Rattle.pdl_rules.specs.Names.{Use, OfMemory, reads, in_location, in_verify, some_use, is_undefined, names_another_pipe, is_too_early}
+use Rattle.pdl_rules.specs.Parts.{location_of, is_some_and, some_part, some_expr_of}
+use Rattle.pdl_rules.specs.Names.{Use, OfMemory, reads_some, in_location, in_verify, some_use, is_undefined, names_another_pipe, is_too_early}
 use Rattle.pdl_rules.specs.Widths.{variables, mem_depth, address_bits, is_wrong_address}
 use Rattle.pdl_rules.specs.Locks.{is_locked}
 use Rattle.pdl_rules.specs.Refusal.{KeepsRules}
@@ -25,7 +25,7 @@ use Rattle.pdl_formtypes.specs.Stmts.{IsLocation}
 use Rattle.pdl_formtypes.proofs.Found.{Found}
 use Rattle.pdl_formtypes.proofs.Memories.{memory_there, mem_low, found_depth, found_lock}
 use Rattle.pdl_formtypes.proofs.Memories as memories
-use Rattle.pdl_formtypes.proofs.Behind.{Behind, knows, by_params}
+use Rattle.pdl_formtypes.proofs.After.{After, knows, by_params}
 
 module _ (p : Pipe) (rules : KeepsRules p) (before : List Place) (s : Stmt) (bs : List Branch) (later : List Place) (e : places p ≡ before ++ Statement s bs ∷ later) where
   -- what the rules ask of the expressions
@@ -39,7 +39,7 @@ module _ (p : Pipe) (rules : KeepsRules p) (before : List Place) (s : Stmt) (bs 
     choices = (or_parts _ _ (rules W3 before (Statement s bs) later e)).1;
   }
 
-  module _ (vs : List Var) (b : Behind p before vs) where
+  module _ (vs : List Var) (b : After p before vs) where
     -- the variables so far keep their widths
     keeps : Stays b.us (variables p)
     keeps = known_stay p b.us before (Statement s bs ∷ later) e b.known
@@ -57,8 +57,8 @@ module _ (p : Pipe) (rules : KeepsRules p) (before : List Place) (s : Stmt) (bs 
       -- the uses of its names
       uses : (test : Use → Bool) → some_use test (Statement s bs) ≡ false → in_location test at ≡ false
       uses test h =
-          sym (ap (passes (in_location test)) is)
-          ∙ (or_parts (passes (in_location test) (location_of s)) (in_verify test s || some_expr_of (some_part (reads test)) s) h).0
+          sym (ap (is_some_and (in_location test)) is)
+          ∙ (or_parts (is_some_and (in_location test) (location_of s)) (in_verify test s || some_expr_of (some_part (reads_some test)) s) h).0
 
       pub memory : IsTrue (is_memory p.mems at.mem.name)
       memory =
@@ -77,7 +77,7 @@ module _ (p : Pipe) (rules : KeepsRules p) (before : List Place) (s : Stmt) (bs 
 
       reach : 2 ^ var_width b.us at.address.name ≡ mem_depth p.mems at.mem.name
       reach =
-          let h = sym (ap (passes (is_wrong_address p)) is) ∙ rules W4 before (Statement s bs) later e in
+          let h = sym (ap (is_some_and (is_wrong_address p)) is) ∙ rules W4 before (Statement s bs) later e in
           let bits = eqb-true (var_width (variables p) at.address.name) (address_bits (mem_depth p.mems at.mem.name)) (not-false _ h) in
           ap (λ n. 2 ^ n) (sym (keeps at.address.name address).1 ∙ bits) ∙ bits_reach _ (deep p.mems at.mem.name depths memory)
 

@@ -5,7 +5,7 @@ use Rattle.pdl_kit.specs.declared.rule.Rule.TheVariants.{W3}
 use Rattle.pdl_semantics.specs.Tree.{Span, Expr, Variable, Stmt, If, Stmts, Nil, Cons, Pipe}
 use Rattle.pdl_semantics.specs.Tree
 use Rattle.pdl_semantics.specs.Flat as flat
-use Rattle.pdl_semantics.specs.Flatten.{Graph, guard_of, with_guard, back_in, at_otherwise, past, past_all, binds_guard, under, flat_stmt, flat_stmts, separators, entry, side, merging, forks, begins, joined, graph, mems_of, width_of}
+use Rattle.pdl_semantics.specs.Flatten.{Graph, guard_of, with_guard, back_in, at_otherwise, past, past_all, binds_guard, under, flat_stmt, flat_stmts, separators, entry, side, with_merge, graph_with_fork, graph_with_stage, graph_before, graph, mems_of, width_of}
 use Rattle.pdl_semantics.specs.Flatten
 use Rattle.pdl_form.specs.Form.{form_of}
 use Rattle.pdl_rules.specs.Places.{Place, Statement, Branch, with_inner, statements, places}
@@ -16,10 +16,10 @@ use Rattle.pdl_rules.specs.Refusal.{KeepsRules}
 use Rattle.pdl_formtypes.specs.Stmts.{AreGuards, AreTypedStmts, AreTypedMems, IsFork, AreForks}
 use Rattle.pdl_formtypes.proofs.Found.{found, Begins, begins_then, widths_of}
 use Rattle.pdl_formtypes.proofs.Values.{Alike, alike}
-use Rattle.pdl_formtypes.proofs.Behind.{Behind, behind_same, behind_guard}
+use Rattle.pdl_formtypes.proofs.After.{After, after_same, after_guard}
 use Rattle.pdl_formtypes.proofs.Standing.{fits, tree_typed}
 use Rattle.pdl_formtypes.proofs.Growing.{new_last, guard_begins, past_all_begins}
-use Rattle.pdl_formtypes.proofs.Single.{all_vars, single, behind_single}
+use Rattle.pdl_formtypes.proofs.Single.{all_vars, single, after_single}
 
 -- LISTS
 
@@ -36,7 +36,7 @@ forks_append : (ws : List ℕ) (xs ys : List flat.Stage) → AreForks ws xs → 
 forks_append ws [] ys h k = k
 forks_append ws (x ∷ xs) ys h k = (h.0, forks_append ws xs ys h.1 k)
 
-merging_forks : (ws : List ℕ) (f : ℕ) (xs : List flat.Stage) → AreForks ws xs → AreForks ws (merging f xs)
+merging_forks : (ws : List ℕ) (f : ℕ) (xs : List flat.Stage) → AreForks ws xs → AreForks ws (with_merge f xs)
 merging_forks ws f [] h = h
 merging_forks ws f (x ∷ xs) h = h
 
@@ -50,35 +50,35 @@ either_forked ws false g h x y = y
 
 -- GUARDS
 
-module _ (p : Pipe) (w : Flatten.Place) where
+module _ (p : Pipe) (w : Flatten.Position) where
   -- the guard of an `if` is a variable of 1 bit
   guard_bit : (us : List Flatten.Var) (c : Expr) → Begins (with_guard c w).vars (all_vars p) → Alike us w.vars (widths_of (all_vars p)) c → width_of us c ≡ 1
       → (guard_of w.vars c < length (widths_of (all_vars p))) × (slice_index (widths_of (all_vars p)) (guard_of w.vars c) ≡ 1)
-  guard_bit us (Variable x) begins h one = (h.typed, h.width ∙ one)
-  guard_bit us c begins h one = new_last w.vars (all_vars p) _ begins
+  guard_bit us (Variable x) graph_with_stage h one = (h.typed, h.width ∙ one)
+  guard_bit us c graph_with_stage h one = new_last w.vars (all_vars p) _ graph_with_stage
 
   guard_typed : (us : List Flatten.Var) (gs : List flat.Guard) (c : Expr) → Begins (with_guard c w).vars (all_vars p) → Alike us w.vars (widths_of (all_vars p)) c
       → width_of us c ≡ 1 → AreGuards (widths_of (all_vars p)) gs → AreTypedStmts (form_of p) (binds_guard gs w c)
-  guard_typed us gs (Variable x) begins h one g = tt
-  guard_typed us gs c begins h one g =
-      let new = new_last w.vars (all_vars p) _ begins in
+  guard_typed us gs (Variable x) graph_with_stage h one g = tt
+  guard_typed us gs c graph_with_stage h one g =
+      let new = new_last w.vars (all_vars p) _ graph_with_stage in
       ((g, (new.0, h.typed, h.width ∙ one ∙ sym new.1)), tt)
 
-  guard_behind : (before : List Place) (c : Expr) → Behind p before w.vars → Behind p before (with_guard c w).vars
-  guard_behind before (Variable x) b = b
-  guard_behind before c b = behind_guard p before w.vars b
+  guard_after : (before : List Place) (c : Expr) → After p before w.vars → After p before (with_guard c w).vars
+  guard_after before (Variable x) b = b
+  guard_after before c b = after_guard p before w.vars b
 
 -- THE WALK
 
--- what comes of a statement, and of some, that stand behind these places
-pub record Walked (p : Pipe) (before : List Place) (bs : List Branch) (gs : List flat.Guard) (s : Stmt) (w : Flatten.Place) : Type 0 where
-  pub behind : Behind p (before ++ with_inner bs s) (past p.mems s w).vars
+-- what comes of a statement, and of some, that stand after these places
+pub record Walked (p : Pipe) (before : List Place) (bs : List Branch) (gs : List flat.Guard) (s : Stmt) (w : Flatten.Position) : Type 0 where
+  pub after : After p (before ++ with_inner bs s) (past p.mems s w).vars
   pub typed : AreTypedStmts (form_of p) (flat_stmt p.mems gs s w)
   pub forked : (branch : Option flat.Branch) (rest : Graph) → IsForked (widths_of (all_vars p)) rest
-      → IsForked (widths_of (all_vars p)) (joined p.mems branch s w rest)
+      → IsForked (widths_of (all_vars p)) (graph_before p.mems branch s w rest)
 
-pub record AllWalked (p : Pipe) (before : List Place) (bs : List Branch) (gs : List flat.Guard) (ss : Stmts) (w : Flatten.Place) : Type 0 where
-  pub behind : Behind p (before ++ statements bs ss) (past_all p.mems ss w).vars
+pub record AllWalked (p : Pipe) (before : List Place) (bs : List Branch) (gs : List flat.Guard) (ss : Stmts) (w : Flatten.Position) : Type 0 where
+  pub after : After p (before ++ statements bs ss) (past_all p.mems ss w).vars
   pub typed : AreTypedStmts (form_of p) (flat_stmts p.mems gs ss w)
   pub forked : (branch : Option flat.Branch) (exit : flat.Next) → IsFork (widths_of (all_vars p)) exit
       → IsForked (widths_of (all_vars p)) (graph p.mems branch exit ss w)
@@ -88,14 +88,14 @@ branch sp c truth inside = record { guard = Places.guard_of sp c; truth = truth;
 
 module _ (p : Pipe) (rules : KeepsRules p) (named : is_undefined (places p) (OfVariable []) ≡ true) (mems : AreTypedMems (mems_of p.mems)) where
   mutual
-    walked : (before later : List Place) (bs : List Branch) (gs : List flat.Guard) (s : Stmt) (w : Flatten.Place) → places p ≡ before ++ (with_inner bs s ++ later)
-        → Behind p before w.vars → Begins (past p.mems s w).vars (all_vars p) → AreGuards (widths_of (all_vars p)) gs → Walked p before bs gs s w
-    walked before later bs gs (If sp c when otherwise) w e b begins g =
+    walked : (before later : List Place) (bs : List Branch) (gs : List flat.Guard) (s : Stmt) (w : Flatten.Position) → places p ≡ before ++ (with_inner bs s ++ later)
+        → After p before w.vars → Begins (past p.mems s w).vars (all_vars p) → AreGuards (widths_of (all_vars p)) gs → Walked p before bs gs s w
+    walked before later bs gs (If sp c when otherwise) w e b graph_with_stage g =
         let here = Statement (If sp c when otherwise) bs in
         let first = statements (bs ++ branch sp c true when ∷ []) when in
         let second = statements (bs ++ branch sp c false otherwise ∷ []) otherwise in
         let middle : Begins (past_all p.mems when (with_guard c w)).vars (all_vars p) =
-        begins_then (past_all p.mems when (with_guard c w)).vars _ (all_vars p) (past_all_begins p.mems otherwise (at_otherwise p.mems c when w)) begins in
+        begins_then (past_all p.mems when (with_guard c w)).vars _ (all_vars p) (past_all_begins p.mems otherwise (at_otherwise p.mems c when w)) graph_with_stage in
         let start : Begins (with_guard c w).vars (all_vars p) =
         begins_then (with_guard c w).vars _ (all_vars p) (past_all_begins p.mems when (with_guard c w)) middle in
         let low : Begins w.vars (all_vars p) = begins_then w.vars _ (all_vars p) (guard_begins c w) start in
@@ -105,17 +105,17 @@ module _ (p : Pipe) (rules : KeepsRules p) (named : is_undefined (places p) (OfV
         let one : width_of b.us c ≡ 1 =
         sym condition.1 ∙ eqb-true (width_of (variables p) c) 1 (not-false _ (or_parts (is_wide_if (variables p) here) _ (rules W3 before here _ at_if)).0) in
         let bit = guard_bit p w b.us c start value one in
-        let behind_if = guard_behind p w (before ++ here ∷ []) c (behind_same p before w.vars b here refl refl) in
+        let after_if = guard_after p w (before ++ here ∷ []) c (after_same p before w.vars b here refl refl) in
         let at_first : places p ≡ (before ++ here ∷ []) ++ (first ++ (second ++ later)) =
         at_if ∙ ap (λ l. before ++ here ∷ l) (append_assoc first second later) ∙ sym (append_assoc before (here ∷ []) (first ++ (second ++ later))) in
-        let one_branch = all_walked (before ++ here ∷ []) (second ++ later) _ _ when (with_guard c w) at_first behind_if middle
+        let one_branch = all_walked (before ++ here ∷ []) (second ++ later) _ _ when (with_guard c w) at_first after_if middle
         (guards_push _ gs (record { var = guard_of w.vars c; first = true }) g bit) in
         let at_second : places p ≡ ((before ++ here ∷ []) ++ first) ++ (second ++ later) = at_first ∙ sym (append_assoc (before ++ here ∷ []) first (second ++ later)) in
-        let other_branch = all_walked ((before ++ here ∷ []) ++ first) later _ _ otherwise (at_otherwise p.mems c when w) at_second one_branch.behind begins
+        let other_branch = all_walked ((before ++ here ∷ []) ++ first) later _ _ otherwise (at_otherwise p.mems c when w) at_second one_branch.after graph_with_stage
         (guards_push _ gs (record { var = guard_of w.vars c; first = false }) g bit) in
         record {
-          behind = subst (λ l. Behind p l (past p.mems (If sp c when otherwise) w).vars)
-              (append_assoc (before ++ here ∷ []) first second ∙ append_assoc before (here ∷ []) (first ++ second)) other_branch.behind;
+          after = subst (λ l. After p l (past p.mems (If sp c when otherwise) w).vars)
+              (append_assoc (before ++ here ∷ []) first second ∙ append_assoc before (here ∷ []) (first ++ second)) other_branch.after;
           typed = stmts_append p (binds_guard gs w c ++ flat_stmts p.mems (under gs w.vars c true) when (with_guard c w)) _
               (stmts_append p (binds_guard gs w c) _ (guard_typed p w b.us gs c start value one g) one_branch.typed) other_branch.typed;
           forked = λ out rest h.
@@ -124,35 +124,35 @@ module _ (p : Pipe) (rules : KeepsRules p) (named : is_undefined (places p) (OfV
               let lower = graph p.mems (side w.stage false) merge otherwise (at_otherwise p.mems c when w) in
               let of_upper = one_branch.forked (side w.stage true) merge tt in
               let of_lower = other_branch.forked (side w.stage false) merge tt in
-              either_forked (widths_of (all_vars p)) (separators when + separators otherwise == 0) rest (forks w.stage (guard_of w.vars c) upper lower rest) h
+              either_forked (widths_of (all_vars p)) (separators when + separators otherwise == 0) rest (graph_with_fork w.stage (guard_of w.vars c) upper lower rest) h
               (bit, forks_append _ (upper.later ++ lower.later) _ (forks_append _ upper.later _ of_upper.1 of_lower.1) (merging_forks _ w.stage rest.later h.1));
         }
-    walked before later bs gs (Tree.Separator sp) w e b begins g = record {
-      behind = behind_single p rules before bs later w b named mems (Tree.Separator sp) refl e;
+    walked before later bs gs (Tree.Separator sp) w e b graph_with_stage g = record {
+      after = after_single p rules before bs later w b named mems (Tree.Separator sp) refl e;
       typed = tt;
       forked = λ out rest h. (tt, (h.0, h.1));
     }
-    walked before later bs gs s w e b begins g = record {
-      behind = behind_single p rules before bs later w b named mems s refl e;
-      typed = single p rules before bs later w b s refl e begins gs g;
+    walked before later bs gs s w e b graph_with_stage g = record {
+      after = after_single p rules before bs later w b named mems s refl e;
+      typed = single p rules before bs later w b s refl e graph_with_stage gs g;
       forked = λ out rest h. h;
     }
 
-    pub all_walked : (before later : List Place) (bs : List Branch) (gs : List flat.Guard) (ss : Stmts) (w : Flatten.Place) → places p ≡ before ++ (statements bs ss ++ later)
-        → Behind p before w.vars → Begins (past_all p.mems ss w).vars (all_vars p) → AreGuards (widths_of (all_vars p)) gs → AllWalked p before bs gs ss w
-    all_walked before later bs gs Nil w e b begins g = record {
-      behind = subst (λ l. Behind p l w.vars) (sym (append-nil before)) b;
+    pub all_walked : (before later : List Place) (bs : List Branch) (gs : List flat.Guard) (ss : Stmts) (w : Flatten.Position) → places p ≡ before ++ (statements bs ss ++ later)
+        → After p before w.vars → Begins (past_all p.mems ss w).vars (all_vars p) → AreGuards (widths_of (all_vars p)) gs → AllWalked p before bs gs ss w
+    all_walked before later bs gs Nil w e b graph_with_stage g = record {
+      after = subst (λ l. After p l w.vars) (sym (append-nil before)) b;
       typed = tt;
       forked = λ out exit h. (h, tt);
     }
-    all_walked before later bs gs (Cons s ss) w e b begins g =
+    all_walked before later bs gs (Cons s ss) w e b graph_with_stage g =
         let here : places p ≡ before ++ (with_inner bs s ++ (statements bs ss ++ later)) = e ∙ ap (λ l. before ++ l) (append_assoc (with_inner bs s) (statements bs ss) later) in
         let one = walked before (statements bs ss ++ later) bs gs s w here b
-        (begins_then (past p.mems s w).vars _ (all_vars p) (past_all_begins p.mems ss (past p.mems s w)) begins) g in
+        (begins_then (past p.mems s w).vars _ (all_vars p) (past_all_begins p.mems ss (past p.mems s w)) graph_with_stage) g in
         let others = all_walked (before ++ with_inner bs s) later bs gs ss (past p.mems s w) (here ∙ sym (append_assoc before (with_inner bs s) (statements bs ss ++ later)))
-        one.behind begins g in
+        one.after graph_with_stage g in
         record {
-          behind = subst (λ l. Behind p l (past_all p.mems (Cons s ss) w).vars) (append_assoc before (with_inner bs s) (statements bs ss)) others.behind;
+          after = subst (λ l. After p l (past_all p.mems (Cons s ss) w).vars) (append_assoc before (with_inner bs s) (statements bs ss)) others.after;
           typed = stmts_append p (flat_stmt p.mems gs s w) _ one.typed others.typed;
           forked = λ out exit h. one.forked out _ (others.forked out exit h);
         }

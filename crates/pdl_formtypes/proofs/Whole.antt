@@ -11,7 +11,7 @@ use Rattle.pdl_rules.proofs.EachPlace.{closing}
 use Rattle.pdl_formtypes.specs.Stmts.{AreTypedMems, IsTypedForm}
 use Rattle.pdl_formtypes.proofs.Found.{long_widths}
 use Rattle.pdl_formtypes.proofs.Memories.{typed_mems}
-use Rattle.pdl_formtypes.proofs.Behind.{by_params, by_body, behind_front}
+use Rattle.pdl_formtypes.proofs.After.{by_params, by_body, after_front}
 use Rattle.pdl_formtypes.proofs.Starting.{params_few, start_below}
 use Rattle.pdl_formtypes.proofs.Growing.{begins_same}
 use Rattle.pdl_formtypes.proofs.Single.{all_vars}
@@ -25,13 +25,13 @@ module _ (p : Pipe) (rules : KeepsRules p) where
     body : AllWalked p (map Parameter p.params ++ map Memory p.mems) [] [] p.body (at_start p)
     body =
         all_walked p rules named mems (map Parameter p.params ++ map Memory p.mems) (closing p) [] [] p.body (at_start p)
-        (by_body p rules) (behind_front p rules) (begins_same (all_vars p)) tt
+        (by_body p rules) (after_front p rules) (begins_same (all_vars p)) tt
 
     pub typed_whole : IsTypedForm (form_of p)
     typed_whole = record {
       vars = sym (long_widths (all_vars p));
       params = params_few p rules;
-      wide = body.behind.wide;
+      wide = body.after.wide;
       start = start_below p rules;
       mems = mems;
       stmts = body.typed;

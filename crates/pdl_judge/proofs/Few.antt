@@ -6,7 +6,7 @@ use Rattle.pdl_semantics.specs.Tree.{If, Pipe}
 use Rattle.pdl_kit.specs.declared.rule.Rule.TheVariants.{Z2, Z3, Z4, Z5, Z6}
 use Rattle.pdl_rules.specs.Places.{Place, Statement, Guard, guard_of, is_among, with_guard, guards, places, line_of}
 use Rattle.pdl_rules.specs.Limits.{breaks_z6}
-use Rattle.pdl_rules.specs.Refusal.{breaks, broken_line, first_broken, limits}
+use Rattle.pdl_rules.specs.Refusal.{breaks_rule, broken_line, first_broken, limits}
 use Rattle.pdl_word.proofs.Bools.{none_given}
 use Rattle.pdl_rules.proofs.Unbroken.{no_refusal}
 
@@ -43,7 +43,7 @@ guards_push (y ∷ xs) x gs = guards_push xs x (with_guard gs y)
 few_from : (p : Pipe) (xs before : List Place) → length (guards before) ≤ 10 → broken_line Z6 p before xs ≡ None → length (fold with_guard (guards before) xs) ≤ 10
 few_from p [] before few e = few
 few_from p (x ∷ xs) before few e =
-    let both = none_given (breaks Z6 p before x) (line_of x) (broken_line Z6 p (before ++ x ∷ []) xs) e in
+    let both = none_given (breaks_rule Z6 p before x) (line_of x) (broken_line Z6 p (before ++ x ∷ []) xs) e in
     let one : length (with_guard (guards before) x) ≤ 10 = next_few (guards before) before x refl few both.0 in
     let push : guards (before ++ x ∷ []) ≡ with_guard (guards before) x = guards_push before x [] in
     subst (λ (gs : List Guard). length (fold with_guard gs xs) ≤ 10) push

@@ -5,10 +5,10 @@ use Rattle.pdl_semantics.specs.Tree.{Pipe}
 use Rattle.pdl_rules.specs.Places.{places}
 use Rattle.pdl_rules.specs.Refusal.{Refused, broken_line, refused_at, first_broken}
 
--- behind rules that are kept the others decide
-pub behind_kept : (rs others : List Rule) (p : Pipe) → first_broken rs p ≡ None → first_broken (rs ++ others) p ≡ first_broken others p
-behind_kept [] others p e = refl
-behind_kept (r ∷ rs) others p e = go (broken_line r p [] (places p)) (λ h. behind_kept rs others p h) e
+-- after rules that are kept the others decide
+pub after_kept : (rs others : List Rule) (p : Pipe) → first_broken rs p ≡ None → first_broken (rs ++ others) p ≡ first_broken others p
+after_kept [] others p e = refl
+after_kept (r ∷ rs) others p e = go (broken_line r p [] (places p)) (λ h. after_kept rs others p h) e
   where
     go : (o : Option ℕ) → (first_broken rs p ≡ None → first_broken (rs ++ others) p ≡ first_broken others p)
         → refused_at r o (first_broken rs p) ≡ None → refused_at r o (first_broken (rs ++ others) p) ≡ first_broken others p

@@ -8,7 +8,7 @@ use Rattle.pdl_rules.specs.Refusal as rules
 use Rattle.pdl_rules.specs.Refusal.{first_broken}
 use Rattle.pdl_locks.specs.Plan.{Tells}
 use Rattle.pdl_judge.specs.Told.{Answers}
-use Rattle.pdl_judge.proofs.Ordered.{behind_kept, first_stays}
+use Rattle.pdl_judge.proofs.Ordered.{after_kept, first_stays}
 
 -- a rule that is broken refuses
 pub told_some : {B : Type 0} (view : B → rules.Refused) (rs : List Rule) (p : Pipe) (b : B) (e : Refusal) → Some (view b) ≡ first_broken rs p → e ≡ Refused (view b).rule (view b).line → Tells rs p e
@@ -19,8 +19,8 @@ pub first_tells : (rs others : List Rule) (p : Pipe) (e : Refusal) → Tells rs 
 first_tells rs others p (Refused rule line) h = first_stays rs others p (record { rule = rule; line = line }) h
 first_tells rs others p NoMemory h = tt
 
--- behind rules that are kept the others answer
+-- after rules that are kept the others answer
 pub then_answers : {T : Type 0} (rs others : List Rule) (p : Pipe) (r : Result T Refusal) → first_broken rs p ≡ None → Answers others p r → Answers (rs ++ others) p r
-then_answers rs others p (Ok x) kept h = behind_kept rs others p kept ∙ h
-then_answers rs others p (Err (Refused rule line)) kept h = behind_kept rs others p kept ∙ h
+then_answers rs others p (Ok x) kept h = after_kept rs others p kept ∙ h
+then_answers rs others p (Err (Refused rule line)) kept h = after_kept rs others p kept ∙ h
 then_answers rs others p (Err NoMemory) kept h = tt

@@ -13,7 +13,7 @@ use Rattle.pdl_spec.specs.Plan.{spec_rules}
 abbrev pub fork_rules : List Rule
 fork_rules = F1 ∷ F2 ∷ F3 ∷ F4 ∷ F5 ∷ []
 
--- the rules behind those on forks, on widths, and on names
+-- the rules after those on forks, on widths, and on names
 abbrev pub after_forks : List Rule
 after_forks = lock_rules ++ spec_rules
 

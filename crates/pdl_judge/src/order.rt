@@ -42,20 +42,20 @@ pub fn judge(alloc: Global, pipe: &Pipe) -> Result<Plans, Refusal>
     ensures locks { IfOk result (λ plans. plans.locks ≡ plan_of (pipe_view pipe.now)) }
     ensures spec { IfOk result (λ plans. plans.spec ≡ verify_stage (pipe_view pipe.now)) }
 {
-    match bounded(alloc, pipe) {
+    match ask_limits(alloc, pipe) {
         Ok(()) => within(alloc, pipe),
         Err(refusal) => Err(refusal),
     }
 }
 
 // Asks the limits. They are asked of places that know no guards, since a pipe may have any number of them.
-fn bounded(alloc: Global, pipe: &Pipe) -> Result<(), Refusal>
+fn ask_limits(alloc: Global, pipe: &Pipe) -> Result<(), Refusal>
     ensures { Answers limits (pipe_view pipe.now) result }
 {
     let none = Guards::new(alloc);
     let places = places(alloc, pipe, &none)?;
     match check_limits(alloc, places.as_slice())? {
-        Some(broken) => Err(refused(broken.rule, broken.line)),
+        Some(broken) => Err(refusal_at(broken.rule, broken.line)),
         None => Ok(()),
     }
 }
@@ -72,7 +72,7 @@ fn within(alloc: Global, pipe: &Pipe) -> Result<Plans, Refusal>
     from_names(alloc, pipe, &guards, places.as_slice())
 }
 
-// Asks the rules on names and those behind them.
+// Asks the rules on names and those after them.
 fn from_names(
     alloc: Global,
     pipe: &Pipe,
@@ -87,13 +87,13 @@ fn from_names(
     ensures locks { IfOk result (λ plans. plans.locks ≡ plan_of (pipe_view pipe.now)) }
     ensures spec { IfOk result (λ plans. plans.spec ≡ verify_stage (pipe_view pipe.now)) }
 {
-    match named(alloc, pipe, guards, places) {
+    match ask_names(alloc, pipe, guards, places) {
         Ok(()) => from_widths(alloc, pipe, guards, places),
         Err(refusal) => Err(refusal),
     }
 }
 
-// Asks the rules on widths and those behind them.
+// Asks the rules on widths and those after them.
 fn from_widths(
     alloc: Global,
     pipe: &Pipe,
@@ -108,13 +108,13 @@ fn from_widths(
     ensures locks { IfOk result (λ plans. plans.locks ≡ plan_of (pipe_view pipe.now)) }
     ensures spec { IfOk result (λ plans. plans.spec ≡ verify_stage (pipe_view pipe.now)) }
 {
-    match fitted(alloc, pipe, places) {
+    match ask_widths(alloc, pipe, places) {
         Ok(()) => from_forks(alloc, pipe, guards, places),
         Err(refusal) => Err(refusal),
     }
 }
 
-// Asks the rules on forks and those behind them.
+// Asks the rules on forks and those after them.
 fn from_forks(
     alloc: Global,
     pipe: &Pipe,
@@ -129,13 +129,13 @@ fn from_forks(
     ensures locks { IfOk result (λ plans. plans.locks ≡ plan_of (pipe_view pipe.now)) }
     ensures spec { IfOk result (λ plans. plans.spec ≡ verify_stage (pipe_view pipe.now)) }
 {
-    match forked(pipe, places) {
+    match ask_forks(pipe, places) {
         Ok(()) => from_locks(alloc, pipe, guards, places),
         Err(refusal) => Err(refusal),
     }
 }
 
-// Asks the rules on locks and those behind them; those on paths are asked together.
+// Asks the rules on locks and those after them; those on paths are asked together.
 fn from_locks(
     alloc: Global,
     pipe: &Pipe,
@@ -196,7 +196,7 @@ fn path_lines<'a, 'p>(
     })
 }
 
-// Refuses by the rules on locks and those behind them, of which these are the lines on paths.
+// Refuses by the rules on locks and those after them, of which these are the lines on paths.
 fn from_lines(
     alloc: Global,
     pipe: &Pipe,
@@ -244,7 +244,12 @@ fn from_calls(
 }
 
 // Asks the rules on names.
-fn named(alloc: Global, pipe: &Pipe, guards: &Guards, places: &[Place<'_>]) -> Result<(), Refusal>
+fn ask_names(
+    alloc: Global,
+    pipe: &Pipe,
+    guards: &Guards,
+    places: &[Place<'_>],
+) -> Result<(), Refusal>
     requires few { length guards.now ≤ 10 }
     requires own { guards.now ≡ spec_guards (map place_view places.now) }
     requires masks { AreMasked guards.now places.now }
@@ -252,35 +257,35 @@ fn named(alloc: Global, pipe: &Pipe, guards: &Guards, places: &[Place<'_>]) -> R
     ensures { Answers name_rules (pipe_view pipe.now) result }
 {
     match check_names(alloc, pipe, guards, places)? {
-        Some(broken) => Err(refused(broken.rule, broken.line)),
+        Some(broken) => Err(refusal_at(broken.rule, broken.line)),
         None => Ok(()),
     }
 }
 
 // Asks the rules on widths.
-fn fitted(alloc: Global, pipe: &Pipe, places: &[Place<'_>]) -> Result<(), Refusal>
+fn ask_widths(alloc: Global, pipe: &Pipe, places: &[Place<'_>]) -> Result<(), Refusal>
     requires { map place_view places.now ≡ spec_places (pipe_view pipe.now) }
     ensures { Answers width_rules (pipe_view pipe.now) result }
 {
     match check_widths(alloc, pipe, places)? {
-        Some(broken) => Err(refused(broken.rule, broken.line)),
+        Some(broken) => Err(refusal_at(broken.rule, broken.line)),
         None => Ok(()),
     }
 }
 
 // Asks the rules on forks.
-fn forked(pipe: &Pipe, places: &[Place<'_>]) -> Result<(), Refusal>
+fn ask_forks(pipe: &Pipe, places: &[Place<'_>]) -> Result<(), Refusal>
     requires { map place_view places.now ≡ spec_places (pipe_view pipe.now) }
     ensures { Answers fork_rules (pipe_view pipe.now) result }
 {
     match forks_broken(pipe, places) {
-        Some(broken) => Err(refused(broken.rule, broken.line)),
+        Some(broken) => Err(refusal_at(broken.rule, broken.line)),
         None => Ok(()),
     }
 }
 
 // The refusal by a rule at a line.
-fn refused(rule: Rule, line: u32) -> Refusal
+fn refusal_at(rule: Rule, line: u32) -> Refusal
     ensures { result ≡ told.Refused rule line }
 {
     Refusal::Refused { rule, line }

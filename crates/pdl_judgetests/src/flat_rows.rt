@@ -36,6 +36,6 @@ fn one_stage(rt: HostRuntime) -> Result<(), Fail> {
     assert_eq!(rt; flat.vars(), 0);
     assert_eq!(rt; flat.stages().len(), 1);
     assert_eq!(rt; flat.stmts().len(), 0);
-    assert_eq!(rt; flat.verified(), None);
+    assert_eq!(rt; flat.verify_stage(), None);
     Ok(())
 }

@@ -69,6 +69,6 @@ fn two_stages(rt: HostRuntime) -> Result<(), Fail> {
     assert_eq!(rt; flat.rows(1).len(), 2);
     assert_eq!(rt; flat.reserved(0), Some(0));
     assert_eq!(rt; flat.released(0), Some(1));
-    assert_eq!(rt; flat.verified(), None);
+    assert_eq!(rt; flat.verify_stage(), None);
     Ok(())
 }

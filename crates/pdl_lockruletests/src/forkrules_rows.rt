@@ -20,7 +20,7 @@ fn ident(alloc: Global, name: &[u8]) -> Result<Ident, Fail> {
     })
 }
 
-// In line 2 an `if` whose branch holds a `---` in line 3 and, where asked, a check in line 4; behind it, where asked, a `---` in line 5.
+// In line 2 an `if` whose branch holds a `---` in line 3 and, where asked, a check in line 4; after it, where asked, a `---` in line 5.
 fn pipe(alloc: Global, checks: bool, meets: bool) -> Result<Pipe, Fail> {
     let mut then = Seq::new(alloc);
     then.push(Stmt::Separator { span: at(3) })?;

@@ -157,11 +157,11 @@ fn uses_alone(rt: HostRuntime) -> Result<(), Fail> {
     let first = first_places(alloc, Keys::Locations, places.as_slice())?;
     assert_eq!(rt; first.len(), 8);
     assert!(rt; number_of(first.as_slice(), 3) == 1 && number_of(first.as_slice(), 2) == 8);
-    let used = LocationUse::none().behind(&places[1]);
+    let used = LocationUse::none().after(&places[1]);
     assert!(rt; used.reserved && used.hold.is_reserved() && used.hold.is_held_for(Kind::R));
     assert!(rt; used.hold.blocked().is_blocked() && used.hold.blocked().is_blocked_for(Kind::R));
     assert!(rt; used.hold.is_unreleased() && used.writes == 0);
-    assert_eq!(rt; MemoryUse::none().behind(&places[1]).reads, 1);
+    assert_eq!(rt; MemoryUse::none().after(&places[1]).reads, 1);
     assert_eq!(rt; use_at(first.as_slice(), 9, 5), 5);
     assert!(rt; is_locked(pipe.mems.as_slice(), &Name::copy_of(alloc, b"m")?));
     Ok(())

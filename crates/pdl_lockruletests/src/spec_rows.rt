@@ -103,7 +103,7 @@ fn refused(rule: Rule, line: u32) -> Option<Refusal> {
     Some(Refusal::Refused { rule, line })
 }
 
-// Guesses are verified on each path, and made behind a check.
+// Guesses are verified on each path, and made after a check.
 #[test]
 fn guesses(rt: HostRuntime) -> Result<(), Fail> {
     let alloc = rt.alloc();
@@ -119,7 +119,7 @@ fn guesses(rt: HostRuntime) -> Result<(), Fail> {
     Ok(())
 }
 
-// A write that is reserved and released in the stage of the guess, behind a barrier or not.
+// A write that is reserved and released in the stage of the guess, after a barrier or not.
 fn with_release(alloc: Global, barrier: bool) -> Result<Seq<Stmt>, Fail> {
     let mut body = Seq::new(alloc);
     body.push(if barrier {

@@ -9,7 +9,7 @@ use Rattle.std.proofs.lemmas.List.Sums.{fold_push}
 use Rattle.pdl_semantics.specs.Tree.{Location, Kind, R, W, Reserve, Block, Release, Write}
 use Rattle.pdl_rules.specs.Places.{Place, Statement}
 use Rattle.pdl_rules.specs.Locks as spec
-use Rattle.pdl_rules.specs.Locks.{held, after_place, reserves_location, writes_location, reserves, writes, same_kind}
+use Rattle.pdl_rules.specs.Locks.{hold_after, after_place, reserves_location, writes_location, is_reserve_of, is_write_of, same_kind}
 use Rattle.pdl_rules.proofs.Once.{held_alike, reserves_alike, writes_alike}
 use Rattle.pdl_rules.proofs.Counts.{count_push, weight}
 use Rattle.pdl_locks.specs.declared.numbers.Keys.TheVariants.{Locations, Memories}
@@ -36,7 +36,7 @@ count_same f xs x e =
 
 untouched : (l : Location) (h : spec.Hold) (x : Place) → is_at Locations l x ≡ false → after_place l h x ≡ h
 untouched l h (Statement (Reserve s m k) bs) e = ap (λ b. if b then spec.Reserved k else h) e
-untouched l h (Statement (Block s m) bs) e = ap (λ b. if b then spec.blocked h else h) e
+untouched l h (Statement (Block s m) bs) e = ap (λ b. if b then spec.after_block h else h) e
 untouched l h (Statement (Release s m) bs) e = ap (λ b. if b then spec.Released else h) e
 untouched l h _ e = refl
 
@@ -56,7 +56,7 @@ location_laws = record {
     writes = h.writes ∙ ap (λ (f : Place → Bool). min 2 (count_by f earlier)) (fun_ext (writes_alike m l j));
   };
   aside = λ used l earlier x e h. record {
-    hold = h.hold ∙ sym (fold_push (after_place l) spec.Nothing earlier x ∙ untouched l (held l earlier) x e);
+    hold = h.hold ∙ sym (fold_push (after_place l) spec.Nothing earlier x ∙ untouched l (hold_after l earlier) x e);
     reserved = h.reserved ∙ any_same (reserves_location l) earlier x (unreserved l x e);
     writes = h.writes ∙ ap (min 2) (count_same (writes_location l) earlier x (unwritten l x e));
   };
@@ -64,24 +64,24 @@ location_laws = record {
 
 -- WITH A MEMORY
 
-unreserved_memory : (k : Kind) (l : Location) (x : Place) → is_at Memories l x ≡ false → reserves k l.mem.name x ≡ false
+unreserved_memory : (k : Kind) (l : Location) (x : Place) → is_at Memories l x ≡ false → is_reserve_of k l.mem.name x ≡ false
 unreserved_memory k l (Statement (Reserve s m j) bs) e = and_right (same_kind k j) _ e
 unreserved_memory k l _ e = refl
 
-unwritten_memory : (l : Location) (x : Place) → is_at Memories l x ≡ false → writes l.mem.name x ≡ false
+unwritten_memory : (l : Location) (x : Place) → is_at Memories l x ≡ false → is_write_of l.mem.name x ≡ false
 unwritten_memory l (Statement (Write s m v) bs) e = e
 unwritten_memory l _ e = refl
 
 pub memory_laws : HasLaws Memories IsUsedMemory
 memory_laws = record {
   alike = λ used l m earlier j h. let same = bytes_same m.mem.name l.mem.name j in record {
-    reads = h.reads ∙ ap (λ name. min 4 (count_by (reserves R name) earlier)) same;
-    reserved = h.reserved ∙ ap (λ name. list_any (reserves W name) earlier) same;
-    written = h.written ∙ ap (λ name. list_any (writes name) earlier) same;
+    reads = h.reads ∙ ap (λ name. min 4 (count_by (is_reserve_of R name) earlier)) same;
+    reserved = h.reserved ∙ ap (λ name. list_any (is_reserve_of W name) earlier) same;
+    written = h.written ∙ ap (λ name. list_any (is_write_of name) earlier) same;
   };
   aside = λ used l earlier x e h. record {
-    reads = h.reads ∙ ap (min 4) (count_same (reserves R l.mem.name) earlier x (unreserved_memory R l x e));
-    reserved = h.reserved ∙ any_same (reserves W l.mem.name) earlier x (unreserved_memory W l x e);
-    written = h.written ∙ any_same (writes l.mem.name) earlier x (unwritten_memory l x e);
+    reads = h.reads ∙ ap (min 4) (count_same (is_reserve_of R l.mem.name) earlier x (unreserved_memory R l x e));
+    reserved = h.reserved ∙ any_same (is_reserve_of W l.mem.name) earlier x (unreserved_memory W l x e);
+    written = h.written ∙ any_same (is_write_of l.mem.name) earlier x (unwritten_memory l x e);
   };
 }

@@ -1,11 +1,11 @@
--- What was done, behind one place more.
+-- What was done, after one place more.
 use Rattle.std.proofs.Common.{◌≡◌, refl, sym, ap, ◌∙◌, subst, ℕ, ◌<◌, ◌≤◌, Bool, true, false, List, [], ◌∷◌, ◌++◌, map, filter, length, get_or, set, replicate, Option, Some, None, arith}
 use Rattle.std.proofs.lemmas.Bool.{false≢true}
 use Rattle.std.proofs.lemmas.List.{get_or-set_other, length-set, get_or-replicate, length-replicate}
 use Rattle.std.proofs.lemmas.Grind.{get_or-set_at}
 use Rattle.pdl_semantics.specs.Tree.{Location}
 use Rattle.pdl_rules.specs.Places.{Place, Guard, on_path}
-use Rattle.pdl_rules.specs.Parts.{passes}
+use Rattle.pdl_rules.specs.Parts.{is_some_and}
 use Rattle.pdl_paths.specs.declared.place.Place as r_place
 use Rattle.pdl_paths.specs.Actions.{location_at, place_view}
 use Rattle.pdl_pathrules.specs.Earlier.{earlier_more}
@@ -68,7 +68,7 @@ changed keys Is laws all earlier x n uses new old number h below is step =
         which false j =
             subst (λ u. Is u l (earlier ++ x ∷ []))
             (sym (get_or-set_other uses n (first_place keys l all) new other (λ e. false≢true (sym j ∙ first_same keys l m all x (e ∙ here) within))))
-            (laws.aside _ l earlier x (ap (passes (λ q. are_one keys q l)) i ∙ j) (h.each l other within))
+            (laws.aside _ l earlier x (ap (is_some_and (λ q. are_one keys q l)) i ∙ j) (h.each l other within))
 
 unchanged : {T : Type 0} (keys : Keys) (Is : T → Location → List Place → Type 0) (laws : HasLaws keys Is) (before later earlier : List Place) (x : Place) (n : ℕ) (uses : List T)
     → n ≡ number_at keys (before ++ x ∷ later) x → AreKept keys Is (before ++ x ∷ later) earlier uses → length uses ≤ n
@@ -78,7 +78,7 @@ unchanged keys Is laws before later earlier x n uses number h past =
   where
     at : (l : Location) (other : _) → first_place keys l (before ++ x ∷ later) < length (before ++ x ∷ later) → (o : Option Location) → location_at x ≡ o
         → Is (get_or uses (first_place keys l (before ++ x ∷ later)) other) l (earlier ++ x ∷ [])
-    at l other within None i = laws.aside _ l earlier x (ap (passes (λ q. are_one keys q l)) i) (h.each l other within)
+    at l other within None i = laws.aside _ l earlier x (ap (is_some_and (λ q. are_one keys q l)) i) (h.each l other within)
     at l other within (Some m) i =
         let here : n ≡ first_place keys m (before ++ x ∷ later) = number ∙ ap (λ o. first_of keys o (before ++ x ∷ later)) i in
         let inside : first_place keys m (before ++ x ∷ later) < length (before ++ x ∷ later) = found keys m before later x (is_own keys m x i) in

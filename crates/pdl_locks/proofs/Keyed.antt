@@ -6,7 +6,7 @@ use Rattle.std.proofs.lemmas.Bool.{false≢true}
 use Rattle.std.proofs.lemmas.List.Sums.{passes_at_first}
 use Rattle.pdl_semantics.specs.Tree.{Location}
 use Rattle.pdl_rules.specs.Places.{Place}
-use Rattle.pdl_rules.specs.Parts.{passes}
+use Rattle.pdl_rules.specs.Parts.{is_some_and}
 use Rattle.pdl_rules.proofs.Once.{bytes_sym, location_refl, location_sym, same_right}
 use Rattle.pdl_paths.specs.Actions.{location_at}
 use Rattle.pdl_locks.specs.declared.numbers.Keys.{Keys}
@@ -29,10 +29,10 @@ one_right Locations x a b e = same_right x a b e
 one_right Memories x a b e = ap (bytes_eq x.mem.name) (bytes_same _ _ e)
 
 pub is_own : (keys : Keys) (l : Location) (x : Place) → location_at x ≡ Some l → is_at keys l x ≡ true
-is_own keys l x e = ap (passes (λ m. are_one keys m l)) e ∙ one_refl keys l
+is_own keys l x e = ap (is_some_and (λ m. are_one keys m l)) e ∙ one_refl keys l
 
 at_alike : (keys : Keys) (l m : Location) → are_one keys m l ≡ true → (x : Place) → is_at keys l x ≡ is_at keys m x
-at_alike keys l m e x = ap (λ (f : Location → Bool). passes f (location_at x)) (fun_ext (λ n. sym (one_right keys n m l e)))
+at_alike keys l m e x = ap (λ (f : Location → Bool). is_some_and f (location_at x)) (fun_ext (λ n. sym (one_right keys n m l e)))
 
 pub same_first : (keys : Keys) (l m : Location) (xs : List Place) → are_one keys m l ≡ true → first_place keys l xs ≡ first_place keys m xs
 same_first keys l m xs e = ap (λ (f : Place → Bool). position_or_len f xs) (fun_ext (at_alike keys l m e))
@@ -42,10 +42,10 @@ both_at : (keys : Keys) (l m : Location) (x : Place) → is_at keys l x ≡ true
 both_at keys l m x e f = at (location_at x) refl
   where
     at : (o : Option Location) → location_at x ≡ o → are_one keys m l ≡ true
-    at None i = absurd (false≢true (sym (ap (passes (λ n. are_one keys n l)) i) ∙ e))
+    at None i = absurd (false≢true (sym (ap (is_some_and (λ n. are_one keys n l)) i) ∙ e))
     at (Some n) i =
-        let left : are_one keys n l ≡ true = sym (ap (passes (λ k. are_one keys k l)) i) ∙ e in
-        let right : are_one keys n m ≡ true = sym (ap (passes (λ k. are_one keys k m)) i) ∙ f in
+        let left : are_one keys n l ≡ true = sym (ap (is_some_and (λ k. are_one keys k l)) i) ∙ e in
+        let right : are_one keys n m ≡ true = sym (ap (is_some_and (λ k. are_one keys k m)) i) ∙ f in
         sym (one_right keys m n l left) ∙ one_sym keys n m right
 
 pub first_same : (keys : Keys) (l m : Location) (xs : List Place) (x : Place) → first_place keys l xs ≡ first_place keys m xs → first_place keys l xs < length xs → are_one keys m l ≡ true

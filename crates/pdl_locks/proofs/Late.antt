@@ -2,18 +2,18 @@
 use Rattle.std.proofs.Common.{◌≡◌, refl, sym, ap, ap₂, ◌∙◌, ℕ, suc, ◌<◌, Bool, true, false, ◌&&◌, nat_lt, List, [], ◌∷◌, ◌++◌, map, take, drop, length, if◌then◌else◌, None, arith}
 use Rattle.std.proofs.lemmas.List.{length-map}
 use Rattle.pdl_semantics.specs.Tree.{Pipe}
-use Rattle.pdl_rules.specs.Places.{Place, Guard, places, behind}
-use Rattle.pdl_rules.specs.Parts.{passes}
+use Rattle.pdl_rules.specs.Places.{Place, Guard, places, places_after}
+use Rattle.pdl_rules.specs.Parts.{is_some_and}
 use Rattle.pdl_rules.specs.Locks.{is_locked}
-use Rattle.pdl_rules.specs.Stages.{first_stage, releases_memory, is_bound_late, next_on, stage_behind}
+use Rattle.pdl_rules.specs.Stages.{first_stage, releases_memory, is_bound_late, next_on, stage_after}
 use Rattle.pdl_paths.specs.declared.place.Place as r_place
 use Rattle.pdl_paths.specs.Actions.{place_view}
 use Rattle.pdl_locks.specs.Bound.{last_of}
 
-pub late_as : (p : Pipe) (m : List ℕ) (s : ℕ) → passes (λ c. nat_lt c s) (last_of p m) ≡ is_bound_late p m s
+pub late_as : (p : Pipe) (m : List ℕ) (s : ℕ) → is_some_and (λ c. nat_lt c s) (last_of p m) ≡ is_bound_late p m s
 late_as p m s = at (is_locked p.mems m)
   where
-    at : (b : Bool) → passes (λ c. nat_lt c s) (if b then first_stage (releases_memory m) [] (places p) else None) ≡ (b && passes (λ c. nat_lt c s) (first_stage (releases_memory m) [] (places p)))
+    at : (b : Bool) → is_some_and (λ c. nat_lt c s) (if b then first_stage (releases_memory m) [] (places p) else None) ≡ (b && is_some_and (λ c. nat_lt c s) (first_stage (releases_memory m) [] (places p)))
     at true = refl
     at false = refl
 
@@ -34,7 +34,7 @@ is_within rows before later x k seen e =
 
 pub next_as : (p : Pipe) (path : List Guard) (rows : List r_place.Place) (before later : List Place) (x : Place) (k : ℕ) → before ++ x ∷ later ≡ places p → before ++ x ∷ later ≡ map place_view rows
     → k ≡ length before
-    → next_on path (stage_behind (take k (map place_view rows))) (drop (suc k) (map place_view rows)) ≡ next_on path (stage_behind before) (behind p before)
+    → next_on path (stage_after (take k (map place_view rows))) (drop (suc k) (map place_view rows)) ≡ next_on path (stage_after before) (places_after p before)
 next_as p path rows before later x k text seen e =
-    ap₂ (λ n ys. next_on path (stage_behind (take n ys)) (drop (suc n) ys)) e (sym seen)
-    ∙ ap₂ (λ b ys. next_on path (stage_behind b) (drop (suc (length before)) ys)) (taken_front before later x) text
+    ap₂ (λ n ys. next_on path (stage_after (take n ys)) (drop (suc n) ys)) e (sym seen)
+    ∙ ap₂ (λ b ys. next_on path (stage_after b) (drop (suc (length before)) ys)) (taken_front before later x) text

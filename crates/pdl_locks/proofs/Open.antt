@@ -7,9 +7,9 @@ use Rattle.std.proofs.lemmas.Bool.{false≢true, or_left, or_right, or_cases}
 use Rattle.std.proofs.lemmas.List.Folds.{list_any-append}
 use Rattle.pdl_semantics.specs.Tree.{Location, Reserve, Block, Release}
 use Rattle.pdl_rules.specs.Places.{Place, Guard, Statement, on_path}
-use Rattle.pdl_rules.specs.Parts.{passes}
+use Rattle.pdl_rules.specs.Parts.{is_some_and}
 use Rattle.pdl_rules.specs.Locks as spec
-use Rattle.pdl_rules.specs.Locks.{Hold, held, after_place, same_location, is_unreleased, reserves_location, leaves_open}
+use Rattle.pdl_rules.specs.Locks.{Hold, hold_after, after_place, same_location, is_unreleased, reserves_location, leaves_open}
 use Rattle.pdl_rules.proofs.Once.{any_weaker, held_alike}
 use Rattle.pdl_paths.specs.declared.place.Place as r_place
 use Rattle.pdl_paths.specs.Actions.{location_at, place_view}
@@ -33,7 +33,7 @@ opens l h (Statement (Reserve s m k) bs) e = at (same_location m l) e
     at false i = or_left (is_unreleased h) false i
 opens l h (Statement (Block s m) bs) e = or_left (is_unreleased h) false (at (same_location m l) h e)
   where
-    at : (b : Bool) (g : Hold) → is_unreleased (if b then spec.blocked g else g) ≡ true → is_unreleased g ≡ true
+    at : (b : Bool) (g : Hold) → is_unreleased (if b then spec.after_block g else g) ≡ true → is_unreleased g ≡ true
     at true (spec.Reserved k) i = refl
     at true (spec.Blocked k) i = refl
     at true spec.Nothing i = i
@@ -58,20 +58,20 @@ opened l h (x ∷ xs) e = at (or_cases (is_unreleased (after_place l h x)) _ (op
         here (inl j) = or_left (is_unreleased h) _ j
         here (inr j) = or_right (is_unreleased h) _ (or_left (reserves_location l x) _ j)
 
-leaves : (earlier : List Place) (l : Location) → is_unreleased (held l earlier) ≡ true → (x : Place) → reserves_location l x ≡ true → leaves_open earlier x ≡ true
+leaves : (earlier : List Place) (l : Location) → is_unreleased (hold_after l earlier) ≡ true → (x : Place) → reserves_location l x ≡ true → leaves_open earlier x ≡ true
 leaves earlier l e (Statement (Reserve s at k) bs) same = ap is_unreleased (held_alike at l same earlier) ∙ e
 leaves earlier l e _ same = absurd (false≢true same)
 
 -- PLACES AT OPEN LOCATIONS
 
 abbrev open_at : List Place → Place → Bool
-open_at earlier x = passes (λ l. is_unreleased (held l earlier)) (location_at x)
+open_at earlier x = is_some_and (λ l. is_unreleased (hold_after l earlier)) (location_at x)
 
 some_left : (earlier xs : List Place) → list_any (open_at earlier) xs ≡ true → list_any (leaves_open earlier) earlier ≡ true
 some_left earlier [] e = absurd (false≢true e)
 some_left earlier (x ∷ xs) e = which (λ i. some_left earlier xs i) (or_cases (open_at earlier x) _ e)
   where
-    at : (o : Option Location) → passes (λ l. is_unreleased (held l earlier)) o ≡ true → list_any (leaves_open earlier) earlier ≡ true
+    at : (o : Option Location) → is_some_and (λ l. is_unreleased (hold_after l earlier)) o ≡ true → list_any (leaves_open earlier) earlier ≡ true
     at None i = absurd (false≢true i)
     at (Some l) i = any_weaker (reserves_location l) (leaves_open earlier) (leaves earlier l i) earlier (opened l spec.Nothing earlier i)
 
@@ -93,11 +93,11 @@ open_number all earlier uses h before later x e = at (location_at x) refl
     none : location.LocationUse
     none = record { hold = Nothing; reserved = false; writes = 0 }
 
-    at : (o : Option Location) → location_at x ≡ o → is_open uses (first_of Locations o all) ≡ passes (λ l. is_unreleased (held l earlier)) o
-    at None i = ap (λ o. passes (λ (used : location.LocationUse). is_unreleased (hold_view used.hold)) o) (past_last uses (length all) (sym h.one_each))
+    at : (o : Option Location) → location_at x ≡ o → is_open uses (first_of Locations o all) ≡ is_some_and (λ l. is_unreleased (hold_after l earlier)) o
+    at None i = ap (λ o. is_some_and (λ (used : location.LocationUse). is_unreleased (hold_view used.hold)) o) (past_last uses (length all) (sym h.one_each))
     at (Some l) i =
         let within : first_place Locations l all < length all = subst (λ xs. first_place Locations l xs < length xs) (sym e) (found Locations l before later x (is_own Locations l x i)) in
-        ap (passes (λ (used : location.LocationUse). is_unreleased (hold_view used.hold)))
+        ap (is_some_and (λ (used : location.LocationUse). is_unreleased (hold_view used.hold)))
         (slice_get-get_or uses (first_place Locations l all) none (subst (λ n. first_place Locations l all < n) (sym h.one_each) within))
         ∙ ap is_unreleased (h.each l none within).hold
 

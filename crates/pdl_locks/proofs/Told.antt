@@ -25,7 +25,7 @@ later rule rest p NoMemory line h i t = t
 pub none_more : (rule : Rule) (rest : List Rule) (p : Pipe) (line : Option ℕ) → line ≡ None → line ≡ broken_line rule p [] (places p) → first_broken rest p ≡ None → first_broken (rule ∷ rest) p ≡ None
 none_more rule rest p line h i t = kept rule rest p line h i ∙ t
 
--- the rules behind each
+-- the rules after each
 abbrev pub after_l7 : List Rule
 after_l7 = L8 ∷ []
 

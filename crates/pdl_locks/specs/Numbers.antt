@@ -3,7 +3,7 @@ use Rattle.std.specs.Prelude.{◌≡◌, ℕ, Bool, List, map, length, Option, S
 use Rattle.std.specs.List.{position_or_len}
 use Rattle.pdl_semantics.specs.Tree.{Location}
 use Rattle.pdl_rules.specs.Places.{Place}
-use Rattle.pdl_rules.specs.Parts.{passes}
+use Rattle.pdl_rules.specs.Parts.{is_some_and}
 use Rattle.pdl_rules.specs.Locks.{same_location}
 use Rattle.pdl_paths.specs.declared.place.Place as r_place
 use Rattle.pdl_paths.specs.Actions.{location_at, place_view}
@@ -17,7 +17,7 @@ are_one Memories a b = bytes_eq a.mem.name b.mem.name
 
 -- whether the location, or its memory, stands at the place
 abbrev pub is_at : Keys → Location → Place → Bool
-is_at keys l x = passes (λ m. are_one keys m l) (location_at x)
+is_at keys l x = is_some_and (λ m. are_one keys m l) (location_at x)
 
 -- the number of the first of these places at which it stands; how many they are, where it stands at none
 abbrev pub first_place : Keys → Location → List Place → ℕ

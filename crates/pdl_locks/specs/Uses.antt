@@ -3,7 +3,7 @@ use Rattle.std.specs.Prelude.{◌≡◌, ℕ, ◌<◌, Bool, List, length, get_o
 use Rattle.std.specs.List.{list_any}
 use Rattle.pdl_semantics.specs.Tree.{Location, R, W}
 use Rattle.pdl_rules.specs.Places.{Place}
-use Rattle.pdl_rules.specs.Parts.{passes}
+use Rattle.pdl_rules.specs.Parts.{is_some_and}
 use Rattle.pdl_rules.specs.Locks as spec
 use Rattle.pdl_paths.specs.Actions.{location_at}
 use Rattle.pdl_locks.specs.declared.numbers.Keys.{Keys}
@@ -14,25 +14,25 @@ use Rattle.pdl_locks.specs.Holds.{hold_view}
 
 -- these places did so at the location; writes count up to two
 pub record IsUsed (used : location.LocationUse) (l : Location) (earlier : List Place) : Type 0 where
-  pub hold : hold_view used.hold ≡ spec.held l earlier
+  pub hold : hold_view used.hold ≡ spec.hold_after l earlier
   pub reserved : used.reserved ≡ list_any (spec.reserves_location l) earlier
   pub writes : used.writes ≡ min 2 (count_by (spec.writes_location l) earlier)
 
 -- and so with its memory; read reservations count up to four
 pub record IsUsedMemory (used : memory.MemoryUse) (l : Location) (earlier : List Place) : Type 0 where
-  pub reads : used.reads ≡ min 4 (count_by (spec.reserves R l.mem.name) earlier)
-  pub reserved : used.reserved ≡ list_any (spec.reserves W l.mem.name) earlier
-  pub written : used.written ≡ list_any (spec.writes l.mem.name) earlier
+  pub reads : used.reads ≡ min 4 (count_by (spec.is_reserve_of R l.mem.name) earlier)
+  pub reserved : used.reserved ≡ list_any (spec.is_reserve_of W l.mem.name) earlier
+  pub written : used.written ≡ list_any (spec.is_write_of l.mem.name) earlier
 
--- the use is that of the place's own location, or of its memory, behind these places
+-- the use is that of the place's own location, or of its memory, after these places
 abbrev pub IsOwn : {T : Type 0} → (T → Location → List Place → Type 0) → T → List Place → Place → Type 0
 IsOwn Is used earlier x = (l : Location) → location_at x ≡ Some l → Is used l earlier
 
--- of each location of a pipe this is the use behind these places, by its number
+-- of each location of a pipe this is the use after these places, by its number
 pub record AreKept {T : Type 0} (keys : Keys) (Is : T → Location → List Place → Type 0) (all earlier : List Place) (uses : List T) : Type 0 where
   pub one_each : length uses ≡ length all
   pub each : (l : Location) (other : T) → first_place keys l all < length all → Is (get_or uses (first_place keys l all) other) l earlier
 
 -- whether the location that has a number is reserved and not released
 abbrev pub is_open : List location.LocationUse → ℕ → Bool
-is_open uses n = passes (λ (used : location.LocationUse). spec.is_unreleased (hold_view used.hold)) (slice_get uses n)
+is_open uses n = is_some_and (λ (used : location.LocationUse). spec.is_unreleased (hold_view used.hold)) (slice_get uses n)

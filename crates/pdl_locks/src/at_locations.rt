@@ -28,7 +28,7 @@ pub enum LocationRule {
     Held,
     /// L5: it is reserved once.
     ReservedOnce,
-    /// L6: a reservation to write is released behind exactly one write.
+    /// L6: a reservation to write is released after exactly one write.
     WrittenOnce,
     /// L7: at the end it is released, if it was reserved.
     Released,
@@ -101,7 +101,7 @@ pub fn pass(first: &[usize], uses: &mut Vec<LocationUse>, k: usize, place: &Plac
 {
     let number = number_of(first, k);
     if number < uses.len() {
-        uses[number] = uses[number].behind(place);
+        uses[number] = uses[number].after(place);
     }
 }
 

@@ -70,7 +70,7 @@ impl PathRule for AtMemories<'_, '_> {
     ) -> Result<(), NoMemory> {
         let number = number_of(self.first, k);
         if number < state.len() {
-            state[number] = state[number].behind(place);
+            state[number] = state[number].after(place);
         }
         Ok(())
     }

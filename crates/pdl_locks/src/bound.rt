@@ -2,7 +2,7 @@
 ghost use Rattle.std.specs.Prelude.{◌≡◌, None, map, get_or, nat_lt, IfOk};
 ghost use Rattle.pdl_tree.specs.View.{pipe_view};
 ghost use Rattle.pdl_rules.specs.Places.{places as spec_places};
-ghost use Rattle.pdl_rules.specs.Parts.{passes};
+ghost use Rattle.pdl_rules.specs.Parts.{is_some_and};
 ghost use Rattle.pdl_rules.specs.Stages.{bound_late};
 ghost use Rattle.pdl_paths.specs.Actions.{place_view};
 ghost use Rattle.pdl_textstages.specs.Along.{IsPath};
@@ -50,9 +50,9 @@ impl PathRule for BoundInTime<'_, '_> {
 
     fn breaks(&self, state: &Path, k: usize, place: &Place<'_>) -> bool {
         match place.action {
-            Action::CombRead(_, _) => is_behind(last_at(self.last, k), stage_at(self.stages, k)),
+            Action::CombRead(_, _) => is_after(last_at(self.last, k), stage_at(self.stages, k)),
             Action::DelayedRead(_, _) => {
-                is_behind(last_at(self.last, k), next_on(self.places, *state, k))
+                is_after(last_at(self.last, k), next_on(self.places, *state, k))
             }
             Action::Parameter(_) | Action::Memory(_) | Action::Separator => false,
             Action::Bind(_, _) | Action::SpecCall(_, _) | Action::Write(_, _) => false,
@@ -70,8 +70,8 @@ impl PathRule for BoundInTime<'_, '_> {
     ghost skips = { λ rule path before x state off stands. stands };
 }
 
-fn is_behind(last: Option<usize>, stage: usize) -> bool
-    ensures { result ≡ passes (λ c. nat_lt c stage) last }
+fn is_after(last: Option<usize>, stage: usize) -> bool
+    ensures { result ≡ is_some_and (λ c. nat_lt c stage) last }
 {
     match last {
         Some(last) => last < stage,

@@ -72,7 +72,8 @@ pub fn plan_locks(
     requires facts { AreFacts (pipe_view pipe.now) places.now facts.now }
     requires lines { AreLines (pipe_view pipe.now) lines.now }
     ensures { MatchResult result
-        (λ plan. (first_broken lock_rules (pipe_view pipe.now) ≡ None) × (plan ≡ plan_of (pipe_view pipe.now)))
+        (λ plan. (first_broken lock_rules (pipe_view pipe.now) ≡ None)
+        × (plan ≡ plan_of (pipe_view pipe.now)))
         (Tells lock_rules (pipe_view pipe.now)) }
 {
     let stages = facts.stages.as_slice();

@@ -88,7 +88,7 @@ impl Hold {
 
     /// The hold once it is blocked.
     pub fn blocked(self) -> Hold
-        ensures { hold_view result ≡ spec.blocked (hold_view self) }
+        ensures { hold_view result ≡ spec.after_block (hold_view self) }
     {
         match self {
             Hold::Reserved(kind) => Hold::Blocked(kind),
@@ -96,8 +96,8 @@ impl Hold {
         }
     }
 
-    /// The hold of a place's own location behind the place.
-    pub fn behind(self, place: &Place<'_>) -> Hold
+    /// The hold of a place's own location after the place.
+    pub fn after(self, place: &Place<'_>) -> Hold
         ensures { (l : SpecLocation) → spec_location_at (place_view place.now) ≡ Some l →
             hold_view result ≡ spec.after_place l (hold_view self) (place_view place.now) }
     {

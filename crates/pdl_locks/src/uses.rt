@@ -31,14 +31,14 @@ impl LocationUse {
         }
     }
 
-    /// The use of a place's own location behind the place.
-    pub fn behind(self, place: &Place<'_>) -> LocationUse
+    /// The use of a place's own location after the place.
+    pub fn after(self, place: &Place<'_>) -> LocationUse
         ensures { (l : SpecLocation) (earlier : List rules.Place) →
             spec_location_at (place_view place.now) ≡ Some l → IsUsed self l earlier →
             IsUsed result l (earlier ++ place_view place.now ∷ []) }
     {
         LocationUse {
-            hold: self.hold.behind(place),
+            hold: self.hold.after(place),
             reserved: self.reserved || is_reserve(place),
             writes: up_to(2, self.writes, is_write(place)),
         }
@@ -66,8 +66,8 @@ impl MemoryUse {
         }
     }
 
-    /// The use of the memory of a place's own location behind the place.
-    pub fn behind(self, place: &Place<'_>) -> MemoryUse
+    /// The use of the memory of a place's own location after the place.
+    pub fn after(self, place: &Place<'_>) -> MemoryUse
         ensures { (l : SpecLocation) (earlier : List rules.Place) →
             spec_location_at (place_view place.now) ≡ Some l → IsUsedMemory self l earlier →
             IsUsedMemory result l (earlier ++ place_view place.now ∷ []) }
@@ -107,7 +107,7 @@ fn is_reserve(place: &Place<'_>) -> bool
 
 fn is_reserve_for(place: &Place<'_>, kind: Kind) -> bool
     ensures { (l : SpecLocation) → spec_location_at (place_view place.now) ≡ Some l →
-        result ≡ spec.reserves (kind_view kind) l.mem.name (place_view place.now) }
+        result ≡ spec.is_reserve_of (kind_view kind) l.mem.name (place_view place.now) }
 {
     match place.action {
         Action::Reserve(_, other) => same_kind(kind, other),
@@ -123,7 +123,7 @@ fn is_write(place: &Place<'_>) -> bool
     ensures at { (l : SpecLocation) → spec_location_at (place_view place.now) ≡ Some l →
         result ≡ spec.writes_location l (place_view place.now) }
     ensures of { (l : SpecLocation) → spec_location_at (place_view place.now) ≡ Some l →
-        result ≡ spec.writes l.mem.name (place_view place.now) }
+        result ≡ spec.is_write_of l.mem.name (place_view place.now) }
 {
     match place.action {
         Action::Write(_, _) => true,

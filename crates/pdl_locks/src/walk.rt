@@ -79,7 +79,8 @@ impl LockRules<'_, '_> {
         ensures { IfOk result (λ course. (gs : List spec.Guard) (xs : List spec.Place)
             → AreNumbered keys.Locations self.now.bound.places.now self.now.locations.now xs
             → IsFound (at_location (pipe_view self.now.bound.pipe.now) rule) gs xs path.bits lowest
-            → StandsAt (pipe_view self.now.bound.pipe.now) self.now.bound.places.now rule gs xs path.bits 0 course.state.items course.lowest) }
+            → StandsAt (pipe_view self.now.bound.pipe.now) self.now.bound.places.now rule gs xs
+            path.bits 0 course.state.items course.lowest) }
     {
         let asked = AtLocations {
             pipe: self.bound.pipe,
@@ -100,9 +101,12 @@ impl LockRules<'_, '_> {
     ) -> Result<(), NoMemory>
         ensures { OnOk result ((gs : List spec.Guard) (xs : List spec.Place) (bits : ℕ)
             → AreNumbered keys.Locations self.now.bound.places.now self.now.locations.now xs
-            → slice_get xs k ≡ Some (place_view place.now) → spec.on_path (path_of gs bits) (place_view place.now) ≡ true
-            → StandsAt (pipe_view self.now.bound.pipe.now) self.now.bound.places.now rule gs xs bits k course.old.state.items course.old.lowest
-            → StandsAt (pipe_view self.now.bound.pipe.now) self.now.bound.places.now rule gs xs bits (k + 1) course.new.state.items course.new.lowest) }
+            → slice_get xs k ≡ Some (place_view place.now) → spec.on_path (path_of gs bits)
+            (place_view place.now) ≡ true
+            → StandsAt (pipe_view self.now.bound.pipe.now) self.now.bound.places.now rule gs xs bits
+            k course.old.state.items course.old.lowest
+            → StandsAt (pipe_view self.now.bound.pipe.now) self.now.bound.places.now rule gs xs bits
+            (k + 1) course.new.state.items course.new.lowest) }
     {
         let asked = AtLocations {
             pipe: self.bound.pipe,
@@ -124,7 +128,8 @@ impl LockRules<'_, '_> {
         ensures { IfOk result (λ course. (gs : List spec.Guard) (xs : List spec.Place)
             → AreNumbered keys.Memories self.now.bound.places.now self.now.memories.now xs
             → IsFound (of_memory rule) gs xs path.bits lowest
-            → StandsOf self.now.bound.places.now rule gs xs path.bits 0 course.state.items course.lowest) }
+            → StandsOf self.now.bound.places.now rule gs xs path.bits 0 course.state.items
+            course.lowest) }
     {
         let asked = AtMemories {
             places: self.bound.places,
@@ -144,9 +149,12 @@ impl LockRules<'_, '_> {
     ) -> Result<(), NoMemory>
         ensures { OnOk result ((gs : List spec.Guard) (xs : List spec.Place) (bits : ℕ)
             → AreNumbered keys.Memories self.now.bound.places.now self.now.memories.now xs
-            → slice_get xs k ≡ Some (place_view place.now) → spec.on_path (path_of gs bits) (place_view place.now) ≡ true
-            → StandsOf self.now.bound.places.now rule gs xs bits k course.old.state.items course.old.lowest
-            → StandsOf self.now.bound.places.now rule gs xs bits (k + 1) course.new.state.items course.new.lowest) }
+            → slice_get xs k ≡ Some (place_view place.now) → spec.on_path (path_of gs bits)
+            (place_view place.now) ≡ true
+            → StandsOf self.now.bound.places.now rule gs xs bits k course.old.state.items
+            course.old.lowest
+            → StandsOf self.now.bound.places.now rule gs xs bits (k + 1) course.new.state.items
+            course.new.lowest) }
     {
         let asked = AtMemories {
             places: self.bound.places,
@@ -165,7 +173,8 @@ impl PathRules for LockRules<'_, '_> {
     type Lines = LockLines;
 
     ghost suits = { λ rules gs xs.
-        (AreOfPipe (pipe_view rules.bound.pipe.now) rules.bound.guards.now rules.bound.all.bits rules.bound.places.now rules.bound.stages.now rules.bound.last.now gs xs)
+        (AreOfPipe (pipe_view rules.bound.pipe.now) rules.bound.guards.now rules.bound.all.bits
+        rules.bound.places.now rules.bound.stages.now rules.bound.last.now gs xs)
         × (AreNumbered keys.Locations rules.bound.places.now rules.locations.now xs)
         × (AreNumbered keys.Memories rules.bound.places.now rules.memories.now xs) };
 
@@ -182,11 +191,15 @@ impl PathRules for LockRules<'_, '_> {
         let p = pipe_view rules.bound.pipe.now in let rows = rules.bound.places.now in
         (StandsAt p rows at.Held gs xs bits k now.held.state.items now.held.lowest)
         × (StandsOf rows of.ReadFirst gs xs bits k now.read_first.state.items now.read_first.lowest)
-        × (StandsOf rows of.FewReserves gs xs bits k now.few_reserves.state.items now.few_reserves.lowest)
-        × (StandsAt p rows at.ReservedOnce gs xs bits k now.reserved_once.state.items now.reserved_once.lowest)
-        × (StandsAt p rows at.WrittenOnce gs xs bits k now.written_once.state.items now.written_once.lowest)
+        × (StandsOf rows of.FewReserves gs xs bits k now.few_reserves.state.items
+        now.few_reserves.lowest)
+        × (StandsAt p rows at.ReservedOnce gs xs bits k now.reserved_once.state.items
+        now.reserved_once.lowest)
+        × (StandsAt p rows at.WrittenOnce gs xs bits k now.written_once.state.items
+        now.written_once.lowest)
         × (StandsAt p rows at.Released gs xs bits k now.released.state.items now.released.lowest)
-        × (StandsBound p rules.bound.guards.now gs xs bits k now.bound.state.bits now.bound.lowest) };
+        × (StandsBound p rules.bound.guards.now gs xs bits k now.bound.state.bits
+        now.bound.lowest) };
 
     ghost break_at = { λ rules gs xs lines. let p = pipe_view rules.bound.pipe.now in
         gs ≡ spec.guards xs → xs ≡ spec.places p → AreLines p lines };
@@ -263,13 +276,20 @@ impl PathRules for LockRules<'_, '_> {
     }
 
     ghost skip = { λ rules gs xs bits k x now got off h. (
-      aside_at (pipe_view rules.bound.pipe.now) rules.bound.places.now at.Held gs xs bits k x now.held.state.items now.held.lowest got off h.0,
-      aside_of rules.bound.places.now of.ReadFirst gs xs bits k x now.read_first.state.items now.read_first.lowest got off h.1,
-      aside_of rules.bound.places.now of.FewReserves gs xs bits k x now.few_reserves.state.items now.few_reserves.lowest got off h.2,
-      aside_at (pipe_view rules.bound.pipe.now) rules.bound.places.now at.ReservedOnce gs xs bits k x now.reserved_once.state.items now.reserved_once.lowest got off h.3,
-      aside_at (pipe_view rules.bound.pipe.now) rules.bound.places.now at.WrittenOnce gs xs bits k x now.written_once.state.items now.written_once.lowest got off h.4,
-      aside_at (pipe_view rules.bound.pipe.now) rules.bound.places.now at.Released gs xs bits k x now.released.state.items now.released.lowest got off h.5,
-      aside_bound (pipe_view rules.bound.pipe.now) rules.bound.guards.now gs xs bits k x now.bound.state.bits now.bound.lowest got off h.6,
+      aside_at (pipe_view rules.bound.pipe.now) rules.bound.places.now at.Held gs xs bits k x
+          now.held.state.items now.held.lowest got off h.0,
+      aside_of rules.bound.places.now of.ReadFirst gs xs bits k x now.read_first.state.items
+          now.read_first.lowest got off h.1,
+      aside_of rules.bound.places.now of.FewReserves gs xs bits k x now.few_reserves.state.items
+          now.few_reserves.lowest got off h.2,
+      aside_at (pipe_view rules.bound.pipe.now) rules.bound.places.now at.ReservedOnce gs xs bits k
+          x now.reserved_once.state.items now.reserved_once.lowest got off h.3,
+      aside_at (pipe_view rules.bound.pipe.now) rules.bound.places.now at.WrittenOnce gs xs bits k x
+          now.written_once.state.items now.written_once.lowest got off h.4,
+      aside_at (pipe_view rules.bound.pipe.now) rules.bound.places.now at.Released gs xs bits k x
+          now.released.state.items now.released.lowest got off h.5,
+      aside_bound (pipe_view rules.bound.pipe.now) rules.bound.guards.now gs xs bits k x
+          now.bound.state.bits now.bound.lowest got off h.6,
     ) };
 }
 

@@ -5,7 +5,7 @@ use Rattle.std.specs.List.{list_any}
 use Rattle.std.proofs.lemmas.Slice.Eq.{bytes_eq-Decides}
 use Rattle.indexmap.specs.IndexMap.{insert_entry}
 use Rattle.pdl_rules.specs.Places.{Place}
-use Rattle.pdl_rules.specs.Parts.{passes}
+use Rattle.pdl_rules.specs.Parts.{is_some_and}
 use Rattle.pdl_names.proofs.Less.{less_more, zero_less, none_less}
 use Rattle.pdl_names.specs.First.{Entries, first_where, number_in, with_name, AreFirst, comes_before}
 use Rattle.pdl_pathrules.proofs.Nth.{take_next, taken_length}
@@ -57,7 +57,7 @@ number_new (e ∷ es) x k q h = at (bytes_eq x e.0) h (λ m. number_new es x k q
 
 -- what a place defines is added
 added : (read : Place → Option (List ℕ)) (xs : List Place) (es : Entries) (y : Place) → AreFirst read xs es → AreFirst read (xs ++ y ∷ []) (with_name es (read y) (length xs))
-added read xs es y h q = with_one (read y) ∙ ap (λ f. or_else f (if passes (bytes_eq q) (read y) then Some (length xs) else None)) (h q) ∙ sym (first_more (λ d. passes (bytes_eq q) (read d)) xs y)
+added read xs es y h q = with_one (read y) ∙ ap (λ f. or_else f (if is_some_and (bytes_eq q) (read y) then Some (length xs) else None)) (h q) ∙ sym (first_more (λ d. is_some_and (bytes_eq q) (read d)) xs y)
   where
     same : (x : List ℕ) (b : Bool) → bytes_eq q x ≡ b → is_some (number_in es x) ≡ true → number_in es q ≡ or_else (number_in es q) (if b then Some (length xs) else None)
     same x true e s = or_some _ _ (subst (λ n. is_some (number_in es n) ≡ true) (sym ((bytes_eq-Decides q x).0 e)) s)
@@ -68,7 +68,7 @@ added read xs es y h q = with_one (read y) ∙ ap (λ f. or_else f (if passes (b
     known x true s = same x (bytes_eq q x) refl s
     known x false s = number_new es x (length xs) q s
 
-    with_one : (o : Option (List ℕ)) → number_in (with_name es o (length xs)) q ≡ or_else (number_in es q) (if passes (bytes_eq q) o then Some (length xs) else None)
+    with_one : (o : Option (List ℕ)) → number_in (with_name es o (length xs)) q ≡ or_else (number_in es q) (if is_some_and (bytes_eq q) o then Some (length xs) else None)
     with_one None = or_none _
     with_one (Some x) = known x (is_some (number_in es x)) refl
 
@@ -145,7 +145,7 @@ first_below test [] d e = absurd (none_some d e)
 first_below test (x ∷ xs) zero e = omega arith
 first_below test (x ∷ xs) (suc d) e = let h = first_below test xs d (later_first (test x) (first_where test xs) d e).1 in omega (arith, h)
 
--- among the places up to one behind it
+-- among the places up to one after it
 pub first_taken : (test : Place → Bool) (xs : List Place) (d k : ℕ) → first_where test xs ≡ Some d → d < k → first_where test (take k xs) ≡ Some d
 first_taken test [] d zero e l = absurd (omega (arith, l))
 first_taken test [] d (suc k) e l = e

@@ -6,7 +6,7 @@ use Rattle.std.proofs.lemmas.Option.{same_Some}
 use Rattle.std.proofs.Math.Bool.{or-false}
 use Rattle.pdl_rules.specs.Places.{Place, Guard, on_path}
 use Rattle.pdl_rules.specs.Limits.{is_separator}
-use Rattle.pdl_rules.specs.Names.{Use, defines, is_delayed, is_given}
+use Rattle.pdl_rules.specs.Names.{Use, defines_use, is_delayed, is_given}
 use Rattle.pdl_names.specs.First.{first_where}
 use Rattle.pdl_names.specs.Ready.{is_separator_on, given_on}
 use Rattle.pdl_names.proofs.Firsts.{zero_first, later_first, none_some}
@@ -30,22 +30,22 @@ any_filtered path (y ∷ ys) = at (on_path path y) (any_filtered path ys)
     at false e = e ∙ neither (is_separator y) (list_any (is_separator_on path) ys)
 
 -- what is defined nowhere isn't given
-no_given : (u : Use) (path : List Guard) (ys : List Place) → list_any (defines u) ys ≡ false → is_given (filter (on_path path) ys) u ≡ false
+no_given : (u : Use) (path : List Guard) (ys : List Place) → list_any (defines_use u) ys ≡ false → is_given (filter (on_path path) ys) u ≡ false
 no_given u path [] h = refl
-no_given u path (y ∷ ys) h = let parts = or_parts (defines u y) (list_any (defines u) ys) h in at (on_path path y) parts.0 (no_given u path ys parts.1)
+no_given u path (y ∷ ys) h = let parts = or_parts (defines_use u y) (list_any (defines_use u) ys) h in at (on_path path y) parts.0 (no_given u path ys parts.1)
   where
-    at : (b : Bool) → defines u y ≡ false → is_given (filter (on_path path) ys) u ≡ false → is_given (cond b (y ∷ filter (on_path path) ys) (filter (on_path path) ys)) u ≡ false
+    at : (b : Bool) → defines_use u y ≡ false → is_given (filter (on_path path) ys) u ≡ false → is_given (cond b (y ∷ filter (on_path path) ys) (filter (on_path path) ys)) u ≡ false
     at true d e = ap₂ (λ a g. (a && (not (is_delayed y) || list_any is_separator (filter (on_path path) ys))) || g) d e
     at false d e = e
 
 -- the one place that defines it decides
-pub given_by : (u : Use) (path : List Guard) (ds : List Place) (d : ℕ) (x : Place) → first_where (defines u) ds ≡ Some d → slice_get ds d ≡ Some x → list_any (defines u) (drop (suc d) ds) ≡ false
+pub given_by : (u : Use) (path : List Guard) (ds : List Place) (d : ℕ) (x : Place) → first_where (defines_use u) ds ≡ Some d → slice_get ds d ≡ Some x → list_any (defines_use u) (drop (suc d) ds) ≡ false
     → is_given (filter (on_path path) ds) u ≡ given_on path ds d x
 given_by u path [] d x f g n = absurd (none_some d f)
 given_by u path (y ∷ ys) zero x f g n =
-    at (on_path path y) (zero_first (defines u y) (first_where (defines u) ys) f) (no_given u path ys n) ∙ ap (given_on path (y ∷ ys) 0) (same_Some y x g)
+    at (on_path path y) (zero_first (defines_use u y) (first_where (defines_use u) ys) f) (no_given u path ys n) ∙ ap (given_on path (y ∷ ys) 0) (same_Some y x g)
   where
-    at : (b : Bool) → defines u y ≡ true → is_given (filter (on_path path) ys) u ≡ false
+    at : (b : Bool) → defines_use u y ≡ true → is_given (filter (on_path path) ys) u ≡ false
         → is_given (cond b (y ∷ filter (on_path path) ys) (filter (on_path path) ys)) u ≡ (b && (not (is_delayed y) || list_any (is_separator_on path) ys))
     at true d e =
         ap₂ (λ a c. (a && (not (is_delayed y) || list_any is_separator (filter (on_path path) ys))) || c) d e
@@ -53,9 +53,9 @@ given_by u path (y ∷ ys) zero x f g n =
         ∙ ap (λ s. not (is_delayed y) || s) (any_filtered path ys)
     at false d e = e
 given_by u path (y ∷ ys) (suc d) x f g n =
-    let parts = later_first (defines u y) (first_where (defines u) ys) d f in at (on_path path y) parts.0 (given_by u path ys d x parts.1 g n)
+    let parts = later_first (defines_use u y) (first_where (defines_use u) ys) d f in at (on_path path y) parts.0 (given_by u path ys d x parts.1 g n)
   where
-    at : (b : Bool) → defines u y ≡ false → is_given (filter (on_path path) ys) u ≡ given_on path ys d x
+    at : (b : Bool) → defines_use u y ≡ false → is_given (filter (on_path path) ys) u ≡ given_on path ys d x
         → is_given (cond b (y ∷ filter (on_path path) ys) (filter (on_path path) ys)) u ≡ given_on path (y ∷ ys) (suc d) x
     at true h e = ap₂ (λ a c. (a && (not (is_delayed y) || list_any is_separator (filter (on_path path) ys))) || c) h e
     at false h e = e

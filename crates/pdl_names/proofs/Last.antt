@@ -22,34 +22,34 @@ any_dropped t (x ∷ xs) y zero =
     list_any-append t xs (y ∷ []) ∙ ap (λ b. list_any t xs || b) (sym (or_false (t y))) ∙ ap (λ b. list_any t xs || (b && t y)) (zero_less (length xs))
 any_dropped t (x ∷ xs) y (suc d) = any_dropped t xs y d ∙ ap (λ b. list_any t (drop (suc d) xs) || (b && t y)) (less_more d (length xs))
 
-none_behind : (t : Place → Bool) (before : List Place) (d : ℕ) → nat_lt d (length before) ≡ false → list_any t (drop (suc d) before) ≡ false
-none_behind t [] d h = refl
-none_behind t (x ∷ xs) zero h = absurd (false≢true (sym (zero_less (length xs) ∙ h)))
-none_behind t (x ∷ xs) (suc d) h = none_behind t xs d (less_more d (length xs) ∙ h)
+none_after : (t : Place → Bool) (before : List Place) (d : ℕ) → nat_lt d (length before) ≡ false → list_any t (drop (suc d) before) ≡ false
+none_after t [] d h = refl
+none_after t (x ∷ xs) zero h = absurd (false≢true (sym (zero_less (length xs) ∙ h)))
+none_after t (x ∷ xs) (suc d) h = none_after t xs d (less_more d (length xs) ∙ h)
 
 -- what a place adds
 pub last_passed : (path : List Guard) (before : List Place) (y : Place) (m : ℕ) → IsLast path before m → IsLast path (before ++ y ∷ []) (if is_separator_on path y then length before else m)
 last_passed path before y m h d = at (is_separator_on path y) ∙ sym (any_dropped (is_separator_on path) before y d)
   where
-    behind : Bool
-    behind = list_any (is_separator_on path) (drop (suc d) before)
+    after : Bool
+    after = list_any (is_separator_on path) (drop (suc d) before)
 
     nothing : (a b : Bool) → a ≡ (a || (b && false))
     nothing true b = refl
     nothing false true = refl
     nothing false false = refl
 
-    here : (b : Bool) → (b ≡ false → behind ≡ false) → b ≡ (behind || (b && true))
-    here true e = at_true behind
+    here : (b : Bool) → (b ≡ false → after ≡ false) → b ≡ (after || (b && true))
+    here true e = at_true after
       where
         at_true : (a : Bool) → true ≡ (a || true)
         at_true true = refl
         at_true false = refl
     here false e = sym (ap (λ a. a || false) (e refl))
 
-    at : (s : Bool) → nat_lt d (if s then length before else m) ≡ (behind || (nat_lt d (length before) && s))
-    at true = here (nat_lt d (length before)) (none_behind (is_separator_on path) before d)
-    at false = h d ∙ nothing behind (nat_lt d (length before))
+    at : (s : Bool) → nat_lt d (if s then length before else m) ≡ (after || (nat_lt d (length before) && s))
+    at true = here (nat_lt d (length before)) (none_after (is_separator_on path) before d)
+    at false = h d ∙ nothing after (nat_lt d (length before))
 
 -- no separator
 pub last_kept : (path : List Guard) (before : List Place) (y : Place) (m : ℕ) → is_separator y ≡ false → IsLast path before m → IsLast path (before ++ y ∷ []) m

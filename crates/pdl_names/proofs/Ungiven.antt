@@ -5,7 +5,7 @@ use Rattle.std.proofs.lemmas.Bool.{or_left, or_right, both_ways, false_from_ne_t
 use Rattle.pdl_kit.specs.declared.rule.Rule.TheVariants.{N2}
 use Rattle.pdl_semantics.specs.Tree.{Pipe}
 use Rattle.pdl_rules.specs.Places.{Place, Guard, places, guards, on_path, on_some_path}
-use Rattle.pdl_rules.specs.Names.{Use, defines, is_undefined, is_given, is_delayed}
+use Rattle.pdl_rules.specs.Names.{Use, defines_use, is_undefined, is_given, is_delayed}
 use Rattle.pdl_rules.specs.Refusal.{broken_line}
 use Rattle.pdl_paths.specs.Masks.{path_of}
 use Rattle.pdl_paths.proofs.Choices.{some_path, has_bits}
@@ -19,27 +19,27 @@ use Rattle.pdl_names.proofs.Given.{given_by}
 pub record Known (p : Pipe) (xs : List Place) (k d : ℕ) (u : Use) (x y : Place) : Type 0 where
   pub all : xs ≡ places p
   pub there : slice_get xs d ≡ Some y
-  pub first : first_where (defines u) xs ≡ Some d
+  pub first : first_where (defines_use u) xs ≡ Some d
   pub once : broken_line N2 p [] (places p) ≡ None
 
 -- what is asked of it
 abbrev pub ungiven : Pipe → List Place → ℕ → Use → Place → Bool
 ungiven p xs k u x = is_undefined (take k xs) u || on_some_path (λ earlier. not (is_given earlier u)) p (take k xs) x
 
-pub undefined_late : (xs : List Place) (k d : ℕ) (u : Use) → first_where (defines u) xs ≡ Some d → k ≤ d → is_undefined (take k xs) u ≡ true
-undefined_late xs k d u f l = ap not (any_before (defines u) xs k ∙ ap (λ o. comes_before o k) f ∙ le-ltb d k l)
+pub undefined_late : (xs : List Place) (k d : ℕ) (u : Use) → first_where (defines_use u) xs ≡ Some d → k ≤ d → is_undefined (take k xs) u ≡ true
+undefined_late xs k d u f l = ap not (any_before (defines_use u) xs k ∙ ap (λ o. comes_before o k) f ∙ le-ltb d k l)
 
-defined_before : (xs : List Place) (k d : ℕ) (u : Use) → first_where (defines u) xs ≡ Some d → d < k → is_undefined (take k xs) u ≡ false
-defined_before xs k d u f l = ap not (any_before (defines u) xs k ∙ ap (λ o. comes_before o k) f ∙ lt-ltb d k l)
+defined_before : (xs : List Place) (k d : ℕ) (u : Use) → first_where (defines_use u) xs ≡ Some d → d < k → is_undefined (take k xs) u ≡ false
+defined_before xs k d u f l = ap not (any_before (defines_use u) xs k ∙ ap (λ o. comes_before o k) f ∙ lt-ltb d k l)
 
-pub late : (p : Pipe) (xs : List Place) (k d : ℕ) (u : Use) (x : Place) → first_where (defines u) xs ≡ Some d → k ≤ d → true ≡ ungiven p xs k u x
+pub late : (p : Pipe) (xs : List Place) (k d : ℕ) (u : Use) (x : Place) → first_where (defines_use u) xs ≡ Some d → k ≤ d → true ≡ ungiven p xs k u x
 late p xs k d u x f l = sym (or_left _ _ (undefined_late xs k d u f l))
 
 -- what is given on a path
 given_here : (p : Pipe) (xs : List Place) (k d : ℕ) (u : Use) (x y : Place) → Known p xs k d u x y → d < k → (path : List Guard)
     → is_given (filter (on_path path) (take k xs)) u ≡ given_on path (take k xs) d y
 given_here p xs k d u x y h l path =
-    let first = first_taken (defines u) xs d k h.first l in
+    let first = first_taken (defines_use u) xs d k h.first l in
     given_by u path (take k xs) d y first (get_taken xs d k y h.there l)
     (only_one p u xs k d (subst (λ ys. broken_line N2 p [] ys ≡ None) (sym h.all) h.once) first)
 

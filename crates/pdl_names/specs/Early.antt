@@ -3,7 +3,7 @@ use Rattle.std.specs.Prelude.{◌<◌, Bool, ℕ, List, length, map, take, slice
 use Rattle.pdl_semantics.specs.Tree.{Pipe}
 use Rattle.pdl_tree.specs.View.{pipe_view}
 use Rattle.pdl_rules.specs.Places.{Place, places, guards}
-use Rattle.pdl_rules.specs.Parts.{passes}
+use Rattle.pdl_rules.specs.Parts.{is_some_and}
 use Rattle.pdl_rules.specs.Names.{Use, is_too_early}
 use Rattle.pdl_paths.specs.Actions.{place_view}
 use Rattle.pdl_names.specs.Ready.{SuitsPaths, AreLast}
@@ -11,7 +11,7 @@ use Rattle.pdl_names.specs.declared.early.Early.{Early}
 
 -- whether a use at the k-th of these places is too early
 abbrev pub early_at : Pipe → List Place → ℕ → Use → Bool
-early_at p xs k u = passes (λ x. is_too_early p (take k xs) x u) (slice_get xs k)
+early_at p xs k u = is_some_and (λ x. is_too_early p (take k xs) x u) (slice_get xs k)
 
 abbrev pub is_early : Early → Use → Bool
 is_early e u = early_at (pipe_view e.pipe.now) (map place_view e.places.now) e.k u

@@ -4,7 +4,7 @@ use Rattle.std.specs.Cmp.Lexicographic.{pointwise}
 use Rattle.std.specs.Map.{lookup}
 use Rattle.indexmap.specs.IndexMap.{insert_entry}
 use Rattle.pdl_rules.specs.Places.{Place}
-use Rattle.pdl_rules.specs.Parts.{passes}
+use Rattle.pdl_rules.specs.Parts.{is_some_and}
 
 -- names with numbers of places
 abbrev pub Entries : Type 0
@@ -26,7 +26,7 @@ with_name es (Some x) k = if is_some (number_in es x) then es else insert_entry 
 
 -- each name has the number of the first of these places at which it is read
 abbrev pub AreFirst : (Place → Option (List ℕ)) → List Place → Entries → Type 0
-AreFirst read xs es = (x : List ℕ) → number_in es x ≡ first_where (λ d. passes (bytes_eq x) (read d)) xs
+AreFirst read xs es = (x : List ℕ) → number_in es x ≡ first_where (λ d. is_some_and (bytes_eq x) (read d)) xs
 
 -- whether there is a number, and it is below another
 abbrev pub comes_before : Option ℕ → ℕ → Bool

@@ -18,11 +18,11 @@ use Rattle.pdl_names.specs.declared.index.Index.{Index}
 abbrev pub is_separator_on : List Guard → Place → Bool
 is_separator_on path y = is_separator y && on_path path y
 
--- whether the d-th of these places, which is y, gives what it defines behind the last of them on the path
+-- whether the d-th of these places, which is y, gives what it defines after the last of them on the path
 abbrev pub given_on : List Guard → List Place → ℕ → Place → Bool
 given_on path before d y = on_path path y && (not (is_delayed y) || list_any (is_separator_on path) (drop (suc d) before))
 
--- the number is greater than those of the places behind which a separator stands on the path, and than no others
+-- the number is greater than those of the places after which a separator stands on the path, and than no others
 abbrev pub IsLast : List Guard → List Place → ℕ → Type 0
 IsLast path before m = (d : ℕ) → nat_lt d m ≡ list_any (is_separator_on path) (drop (suc d) before)
 

@@ -63,7 +63,7 @@ impl Early<'_> {
         requires ready { IsReady self.now }
         requires there { d < length self.now.places.now }
         ensures { (u : Use) (x : spec_place) →
-            first_where (spec.defines u) (map place_view self.now.places.now) ≡ Some d →
+            first_where (spec.defines_use u) (map place_view self.now.places.now) ≡ Some d →
             slice_get (map place_view self.now.places.now) self.now.k ≡ Some x →
             result ≡ (spec.is_undefined (take self.now.k (map place_view self.now.places.now)) u
             || on_some_path (λ earlier. not (spec.is_given earlier u))

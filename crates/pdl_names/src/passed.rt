@@ -21,7 +21,7 @@ pub fn none_passed(alloc: Global, guards: &Guards) -> Result<Vec<usize>, NoMemor
     Ok(last)
 }
 
-/// The same behind the k-th place, a separator, on at most 1,024 paths.
+/// The same after the k-th place, a separator, on at most 1,024 paths.
 pub fn separator_passed(
     alloc: Global,
     last: &[usize],

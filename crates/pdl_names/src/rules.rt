@@ -4,7 +4,7 @@ ghost use Rattle.pdl_kit.specs.declared.rule.Rule.TheVariants as names;
 ghost use Rattle.pdl_tree.specs.View.{pipe_view};
 ghost use Rattle.pdl_rules.specs.Names as spec;
 ghost use Rattle.pdl_rules.specs.Places.{places as spec_places, guards as spec_guards};
-ghost use Rattle.pdl_rules.specs.Refusal.{breaks};
+ghost use Rattle.pdl_rules.specs.Refusal.{breaks_rule};
 ghost use Rattle.pdl_paths.specs.Actions.{place_view};
 ghost use Rattle.pdl_names.specs.Ready.{Suits, SuitsPaths, AreLast};
 ghost use Rattle.pdl_names.specs.Index.{IsIndex};
@@ -72,7 +72,7 @@ impl TextRule for Undefined<'_> {
 
     ghost fits = { λ rule xs. Suits rule.pipe.now rule.index.now xs };
 
-    ghost breaks_on = { λ rule. breaks names.N1 (pipe_view rule.pipe.now) };
+    ghost breaks_on = { λ rule. breaks_rule names.N1 (pipe_view rule.pipe.now) };
 
     ghost stands = { λ rule before state. ⊤ };
 
@@ -119,7 +119,7 @@ impl TextRule for Taken<'_> {
 
     ghost fits = { λ rule xs. Suits rule.pipe.now rule.index.now xs };
 
-    ghost breaks_on = { λ rule. breaks names.N2 (pipe_view rule.pipe.now) };
+    ghost breaks_on = { λ rule. breaks_rule names.N2 (pipe_view rule.pipe.now) };
 
     ghost stands = { λ rule before state. ⊤ };
 
@@ -171,7 +171,7 @@ impl TextRule for TooEarly<'_> {
         ≡ spec_guards (spec_places (pipe_view rule.pipe.now)))
         × SuitsPaths rule.pipe.now rule.index.now xs };
 
-    ghost breaks_on = { λ rule. breaks names.N3 (pipe_view rule.pipe.now) };
+    ghost breaks_on = { λ rule. breaks_rule names.N3 (pipe_view rule.pipe.now) };
 
     ghost stands = { λ rule before state.
         AreLast (spec_guards (spec_places (pipe_view rule.pipe.now))) before state.items };

@@ -58,7 +58,8 @@ fn in_location<T: UseTest>(test: &T, at: &Location) -> bool
 
 fn in_args<T: UseTest>(test: &T, args: &[Expr]) -> bool
     requires { T.fits test.now }
-    ensures { result ≡ list_any (some_part (spec.reads (T.test test.now))) (exprs_view args.now) }
+    ensures { result ≡ list_any (some_part (spec.reads_some (T.test test.now)))
+        (exprs_view args.now) }
 {
     for e in args {
         if in_expr(test, e) {
@@ -70,7 +71,7 @@ fn in_args<T: UseTest>(test: &T, args: &[Expr]) -> bool
 
 fn in_expr<T: UseTest>(test: &T, e: &Expr) -> bool
     requires { T.fits test.now }
-    ensures { result ≡ some_part (spec.reads (T.test test.now)) (expr_view e.now) }
+    ensures { result ≡ some_part (spec.reads_some (T.test test.now)) (expr_view e.now) }
 {
     match e {
         Expr::Constant(_) => false,

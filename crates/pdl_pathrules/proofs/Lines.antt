@@ -4,15 +4,15 @@ use Rattle.std.proofs.Math.Nat.{eq-or-lt_of_le}
 use Rattle.pdl_kit.specs.declared.rule.Rule.{Rule}
 use Rattle.pdl_semantics.specs.Tree.{Pipe}
 use Rattle.pdl_rules.specs.Places.{Place, line_of}
-use Rattle.pdl_rules.specs.Parts.{passes}
-use Rattle.pdl_rules.specs.Refusal.{breaks, broken_line}
+use Rattle.pdl_rules.specs.Parts.{is_some_and}
+use Rattle.pdl_rules.specs.Refusal.{breaks_rule, broken_line}
 use Rattle.pdl_pathrules.specs.Lowest.{line_where, breaks_at, nth_line, IsLowest}
 use Rattle.pdl_pathrules.proofs.Nth.{past_last}
 
 -- the lines of a rule of the definitions
-pub rule_lines : (r : Rule) (p : Pipe) (before xs : List Place) → line_where (breaks r p) before xs ≡ broken_line r p before xs
+pub rule_lines : (r : Rule) (p : Pipe) (before xs : List Place) → line_where (breaks_rule r p) before xs ≡ broken_line r p before xs
 rule_lines r p before [] = refl
-rule_lines r p before (x ∷ xs) = ap (λ later. if breaks r p before x then Some (line_of x) else later) (rule_lines r p (before ++ x ∷ []) xs)
+rule_lines r p before (x ∷ xs) = ap (λ later. if breaks_rule r p before x then Some (line_of x) else later) (rule_lines r p (before ++ x ∷ []) xs)
 
 -- and of a test that agrees with another
 pub same_lines : (f g : List Place → Place → Bool) → ((before : List Place) (x : Place) → f before x ≡ g before x) → (before xs : List Place) → line_where f before xs ≡ line_where g before xs
@@ -21,12 +21,12 @@ same_lines f g same before (x ∷ xs) =
     ap (λ b. if b then Some (line_of x) else line_where f (before ++ x ∷ []) xs) (same before x)
     ∙ ap (λ later. if g before x then Some (line_of x) else later) (same_lines f g same (before ++ x ∷ []) xs)
 
--- places behind others
+-- places after others
 abbrev at_from : (List Place → Place → Bool) → List Place → List Place → ℕ → Bool
-at_from test before xs j = passes (test (before ++ take j xs)) (slice_get xs j)
+at_from test before xs j = is_some_and (test (before ++ take j xs)) (slice_get xs j)
 
 moved : (test : List Place → Place → Bool) (before xs : List Place) (x : Place) (j : ℕ) → at_from test before (x ∷ xs) (suc j) ≡ at_from test (before ++ x ∷ []) xs j
-moved test before xs x j = ap (λ b. passes (test b) (slice_get xs j)) (sym (append_assoc before (x ∷ []) (take j xs)))
+moved test before xs x j = ap (λ b. is_some_and (test b) (slice_get xs j)) (sym (append_assoc before (x ∷ []) (take j xs)))
 
 first_fails : (test : List Place → Place → Bool) (before xs : List Place) (x : Place) → at_from test before (x ∷ xs) 0 ≡ false
     → line_where test before (x ∷ xs) ≡ line_where test (before ++ x ∷ []) xs

@@ -2,7 +2,7 @@
 use Rattle.std.specs.Prelude.{◌≡◌, ℕ, ◌<◌, ◌≤◌, Bool, true, false, ◌&&◌, List, [], ◌∷◌, ◌++◌, take, slice_get, if◌then◌else◌, Option, Some, None, option_map}
 use Rattle.std.specs.List.{list_any}
 use Rattle.pdl_rules.specs.Places.{Place, Guard, line_of, on_path, choices}
-use Rattle.pdl_rules.specs.Parts.{passes}
+use Rattle.pdl_rules.specs.Parts.{is_some_and}
 
 -- the line of the first of these places that passes a test, which is asked of the places before it and of it
 abbrev pub line_where : (List Place → Place → Bool) → List Place → List Place → Option ℕ
@@ -18,7 +18,7 @@ on_some breaks gs before x = list_any (λ path. on_path path x && breaks path be
 
 -- whether the k-th of these places passes a test
 abbrev pub breaks_at : (List Place → Place → Bool) → List Place → ℕ → Bool
-breaks_at test xs k = passes (test (take k xs)) (slice_get xs k)
+breaks_at test xs k = is_some_and (test (take k xs)) (slice_get xs k)
 
 -- and its line
 abbrev pub nth_line : List Place → ℕ → Option ℕ

@@ -1,19 +1,13 @@
 // The call of the next thread: rule S1.
-ghost use Rattle.std.specs.Prelude.{◌≡◌, ◌≤◌, [], filter, map, length, ⊤, IfOk};
+ghost use Rattle.std.specs.Prelude.{◌≡◌, filter, ⊤};
 ghost use Rattle.std.specs.List.{list_any};
-ghost use Rattle.pdl_kit.specs.declared.rule.Rule.TheVariants as names;
-ghost use Rattle.pdl_semantics.specs.Tree.{Pipe};
-ghost use Rattle.pdl_rules.specs.Places.{on_path, places as spec_places, guards as spec_guards};
-ghost use Rattle.pdl_rules.specs.Refusal.{broken_line};
+ghost use Rattle.pdl_rules.specs.Places.{on_path};
 ghost use Rattle.pdl_rules.specs.Calls as calls;
-ghost use Rattle.pdl_paths.specs.Actions.{place_view};
-ghost use Rattle.pdl_paths.specs.Masks.{AreMasked};
 ghost use Rattle.pdl_pathrules.specs.Earlier.{skipped};
 
-use crate::lowest::broken_at;
 use crate::path_rule::PathRule;
 use pdl_kit::NoMemory;
-use pdl_paths::{Action, Guards, Path, Place, is_call};
+use pdl_paths::{Action, Path, Place, is_call};
 use std::alloc::Global;
 
 /// One call on each path: a second one breaks the rule, speculative or not, and the end with none before it.
@@ -57,19 +51,4 @@ impl PathRule for OneCall {
     }
 
     ghost skips = { λ rule path before x state off stands. skipped path before x state off stands };
-}
-
-/// The line at which a pipe with these guards and places breaks S1, none where it keeps the rule.
-pub fn calls_broken_at(
-    alloc: Global,
-    guards: &Guards,
-    places: &[Place<'_>],
-) -> Result<Option<u32>, NoMemory>
-    requires few { length guards.now ≤ 10 }
-    requires own { guards.now ≡ spec_guards (map place_view places.now) }
-    requires masks { AreMasked guards.now places.now }
-    ensures { (p : Pipe) → map place_view places.now ≡ spec_places p →
-        IfOk result (λ line. line ≡ broken_line names.S1 p [] (spec_places p)) }
-{
-    broken_at(alloc, &OneCall, guards, places)
 }

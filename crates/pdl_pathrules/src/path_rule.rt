@@ -18,10 +18,10 @@ pub trait PathRule {
     /// The rule fits a pipe with these guards and these places.
     ghost suits: { Self → List rules.Guard → List rules.Place → Type 0 };
 
-    /// Whether a place that the path leads through breaks the rule on it, behind these places of the text.
+    /// Whether a place that the path leads through breaks the rule on it, after these places of the text.
     ghost breaks_on: { Self → List rules.Guard → List rules.Place → rules.Place → Bool };
 
-    /// The state is that of the path behind these places of the text.
+    /// The state is that of the path after these places of the text.
     ghost stands: { Self → List rules.Guard → List rules.Place → Self.State → Type 0 };
 
     /// The state before the first place of a path.

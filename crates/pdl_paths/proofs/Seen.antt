@@ -9,47 +9,47 @@ use Rattle.pdl_paths.specs.declared.mask.Mask.{Mask}
 use Rattle.pdl_paths.specs.declared.place.Place as r_place
 use Rattle.pdl_paths.specs.Actions.{place_view}
 use Rattle.pdl_paths.specs.Masks.{IsMasked, AreMasked, everywhere}
-use Rattle.pdl_paths.specs.Shown.{shown, masked, parameter, memory}
+use Rattle.pdl_paths.specs.Shown.{masked_view, masked_place, parameter, memory}
 
-firsts : (ps : List r_place.Place) → map (λ e. e.0) (map shown ps) ≡ map place_view ps
+firsts : (ps : List r_place.Place) → map (λ e. e.0) (map masked_view ps) ≡ map place_view ps
 firsts [] = refl
 firsts (p ∷ ps) = ap (λ xs. place_view p ∷ xs) (firsts ps)
 
-firsts-masked : (gs : List Guard) (xs : List Place) → map (λ e. e.0) (map (masked gs) xs) ≡ xs
+firsts-masked : (gs : List Guard) (xs : List Place) → map (λ e. e.0) (map (masked_place gs) xs) ≡ xs
 firsts-masked gs [] = refl
 firsts-masked gs (x ∷ xs) = ap (λ ys. x ∷ ys) (firsts-masked gs xs)
 
-pub seen_places : (gs : List Guard) (ps : List r_place.Place) (xs : List Place) → map shown ps ≡ map (masked gs) xs → map place_view ps ≡ xs
+pub seen_places : (gs : List Guard) (ps : List r_place.Place) (xs : List Place) → map masked_view ps ≡ map (masked_place gs) xs → map place_view ps ≡ xs
 seen_places gs ps xs h = sym (firsts ps) ∙ ap (map (λ e. e.0)) h ∙ firsts-masked gs xs
 
 abbrev head_mask : Mask → List (Place × Mask) → Mask
 head_mask m [] = m
 head_mask m (e ∷ es) = e.1
 
-each_masked : (gs : List Guard) (ps : List r_place.Place) → map shown ps ≡ map (masked gs) (map place_view ps) → (k : ℕ) (d : r_place.Place) → k < length ps → IsMasked gs (slice_index_or ps k d)
+each_masked : (gs : List Guard) (ps : List r_place.Place) → map masked_view ps ≡ map (masked_place gs) (map place_view ps) → (k : ℕ) (d : r_place.Place) → k < length ps → IsMasked gs (slice_index_or ps k d)
 each_masked gs [] h k d l = absurd (omega arith)
 each_masked gs (p ∷ ps) h zero d l = ap (head_mask everywhere) h
 each_masked gs (p ∷ ps) h (suc k) d l = each_masked gs ps (ap (drop 1) h) k d (omega arith)
 
-pub seen_masks : (gs : List Guard) (ps : List r_place.Place) (xs : List Place) → map shown ps ≡ map (masked gs) xs → AreMasked gs ps
-seen_masks gs ps xs h = each_masked gs ps (h ∙ ap (map (masked gs)) (sym (seen_places gs ps xs h)))
+pub seen_masks : (gs : List Guard) (ps : List r_place.Place) (xs : List Place) → map masked_view ps ≡ map (masked_place gs) xs → AreMasked gs ps
+seen_masks gs ps xs h = each_masked gs ps (h ∙ ap (map (masked_place gs)) (sym (seen_places gs ps xs h)))
 
-parameters : (gs : List Guard) (ps : List r_param.Param) → map parameter ps ≡ map (masked gs) (map Parameter (map param_view ps))
+parameters : (gs : List Guard) (ps : List r_param.Param) → map parameter ps ≡ map (masked_place gs) (map Parameter (map param_view ps))
 unfolding parameter
 parameters gs [] = refl
 parameters gs (a ∷ ps) = ap (λ xs. (Parameter (param_view a), everywhere) ∷ xs) (parameters gs ps)
 
-memories : (gs : List Guard) (ms : List r_mem.Mem) → map memory ms ≡ map (masked gs) (map Memory (map mem_view ms))
+memories : (gs : List Guard) (ms : List r_mem.Mem) → map memory ms ≡ map (masked_place gs) (map Memory (map mem_view ms))
 unfolding memory
 memories gs [] = refl
 memories gs (m ∷ ms) = ap (λ xs. (Memory (mem_view m), everywhere) ∷ xs) (memories gs ms)
 
 -- the parts of a pipe, one after the other
 pub whole : (gs : List Guard) (params : List r_param.Param) (mems : List r_mem.Mem) (body : List Place) (a b c d e : List (Place × Mask)) (x y : Place × Mask) (last start : Place)
-    → a ≡ [] ++ map parameter params → b ≡ a ++ map memory mems → c ≡ b ++ map (masked gs) body → d ≡ c ++ x ∷ [] → e ≡ d ++ y ∷ [] → x ≡ masked gs last → y ≡ masked gs start
-    → e ≡ map (masked gs) (map Parameter (map param_view params) ++ map Memory (map mem_view mems) ++ body ++ last ∷ start ∷ [])
+    → a ≡ [] ++ map parameter params → b ≡ a ++ map memory mems → c ≡ b ++ map (masked_place gs) body → d ≡ c ++ x ∷ [] → e ≡ d ++ y ∷ [] → x ≡ masked_place gs last → y ≡ masked_place gs start
+    → e ≡ map (masked_place gs) (map Parameter (map param_view params) ++ map Memory (map mem_view mems) ++ body ++ last ∷ start ∷ [])
 whole gs params mems body a b c d e x y last start ha hb hc hd he hx hy =
-    let f = masked gs in
+    let f = masked_place gs in
     let ps = map Parameter (map param_view params) in
     let ms = map Memory (map mem_view mems) in
     let front : c ≡ map f ((ps ++ ms) ++ body) =
@@ -60,5 +60,5 @@ whole gs params mems body a b c d e x y last start ha hb hc hd he hx hy =
     ∙ append_assoc (map f ((ps ++ ms) ++ body)) (f last ∷ []) (f start ∷ [])
     ∙ sym (map-append f ((ps ++ ms) ++ body) (last ∷ start ∷ []))
 
-pub one_more : (ps qs : List r_place.Place) (p : r_place.Place) → qs ≡ ps ++ p ∷ [] → map shown qs ≡ map shown ps ++ shown p ∷ []
-one_more ps qs p h = ap (map shown) h ∙ map-append shown ps (p ∷ [])
+pub one_more : (ps qs : List r_place.Place) (p : r_place.Place) → qs ≡ ps ++ p ∷ [] → map masked_view qs ≡ map masked_view ps ++ masked_view p ∷ []
+one_more ps qs p h = ap (map masked_view) h ∙ map-append masked_view ps (p ∷ [])

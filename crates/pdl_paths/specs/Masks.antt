@@ -34,8 +34,8 @@ abbrev pub with_number : ℕ → Bool → Mask → Mask
 with_number n truth m = if nat_lt n 16 then with_bit n truth m else m
 
 -- whether the path with these bits goes by the mask
-abbrev pub allows : Mask → ℕ → Bool
-allows m bits = (bit_and bits m.on == m.on) && (bit_and bits m.off == 0)
+abbrev pub allows_path : Mask → ℕ → Bool
+allows_path m bits = (bit_and bits m.on == m.on) && (bit_and bits m.off == 0)
 
 -- the mask of what stands in these branches, and of a place
 abbrev pub with_branch : List Guard → Mask → Branch → Mask

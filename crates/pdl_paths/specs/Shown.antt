@@ -9,11 +9,11 @@ use Rattle.pdl_paths.specs.declared.place.Place as r_place
 use Rattle.pdl_paths.specs.Actions.{place_view}
 use Rattle.pdl_paths.specs.Masks.{everywhere, mask_in}
 
-abbrev pub shown : r_place.Place → Place × Mask
-shown x = (place_view x, x.mask)
+abbrev pub masked_view : r_place.Place → Place × Mask
+masked_view x = (place_view x, x.mask)
 
-abbrev pub masked : List Guard → Place → Place × Mask
-masked gs x = (x, mask_in gs x)
+abbrev pub masked_place : List Guard → Place → Place × Mask
+masked_place gs x = (x, mask_in gs x)
 
 -- a parameter and a memory
 unfoldable pub parameter : Param → Place × Mask

@@ -37,8 +37,8 @@ impl Mask {
     }
 
     /// Whether the path goes by each of its guards.
-    pub fn allows(self, path: Path) -> bool
-        ensures { result ≡ spec.allows self path.bits }
+    pub fn allows_path(self, path: Path) -> bool
+        ensures { result ≡ spec.allows_path self path.bits }
     {
         path.bits & self.on == self.on && path.bits & self.off == 0
     }

@@ -46,6 +46,6 @@ impl Place<'_> {
             length gs ≤ 10 → path.bits < 2 ^ length gs →
             result ≡ rules.on_path (path_of gs path.bits) (place_view self.now) }
     {
-        self.mask.allows(path)
+        self.mask.allows_path(path)
     }
 }

@@ -5,7 +5,7 @@ ghost use Rattle.pdl_rules.specs.Places as rules;
 ghost use Rattle.pdl_paths.specs.Actions.{place_at, place_view};
 ghost use Rattle.pdl_paths.specs.Guards.{branch_view};
 ghost use Rattle.pdl_paths.specs.Masks.{AreMasked, everywhere, mask_of};
-ghost use Rattle.pdl_paths.specs.Shown.{shown, masked, parameter, memory};
+ghost use Rattle.pdl_paths.specs.Shown.{masked_view, masked_place, parameter, memory};
 
 use crate::action::{Action, action_of, span_of};
 use crate::branch::{Branch, guard_of};
@@ -54,7 +54,7 @@ pub fn guards_of(alloc: Global, pipe: &Pipe) -> Result<Guards, NoMemory>
 
 // A place that stands in no branch.
 fn bare<'a>(alloc: Global, action: Action<'a>, span: Span) -> Place<'a>
-    ensures { shown result ≡ (place_at (span_view span) [] action.entry, everywhere) }
+    ensures { masked_view result ≡ (place_at (span_view span) [] action.entry, everywhere) }
 {
     Place {
         action,
@@ -69,8 +69,8 @@ fn add_params<'a>(
     places: &mut Vec<Place<'a>>,
     params: &'a [Param],
 ) -> Result<(), NoMemory>
-    ensures { OnOk result (map shown places.new.items
-        ≡ map shown places.old.items ++ map parameter params.now) }
+    ensures { OnOk result (map masked_view places.new.items
+        ≡ map masked_view places.old.items ++ map parameter params.now) }
 {
     for param in params {
         places.push(bare(alloc, Action::Parameter(param), param.name.span))?;
@@ -79,8 +79,8 @@ fn add_params<'a>(
 }
 
 fn add_mems<'a>(alloc: Global, places: &mut Vec<Place<'a>>, mems: &'a [Mem]) -> Result<(), NoMemory>
-    ensures { OnOk result (map shown places.new.items
-        ≡ map shown places.old.items ++ map memory mems.now) }
+    ensures { OnOk result (map masked_view places.new.items
+        ≡ map masked_view places.old.items ++ map memory mems.now) }
 {
     for mem in mems {
         places.push(bare(alloc, Action::Memory(mem), mem.name.span))?;
@@ -99,8 +99,8 @@ fn add_stmt<'a>(
     stmt: &'a Stmt,
 ) -> Result<(), NoMemory>
     requires { mask ≡ mask_of guards.now (map branch_view outer.now) }
-    ensures { OnOk result (map shown places.new.items
-        ≡ map shown places.old.items ++ map (masked guards.now)
+    ensures { OnOk result (map masked_view places.new.items
+        ≡ map masked_view places.old.items ++ map (masked_place guards.now)
         (rules.with_inner (map branch_view outer.now) (stmt_view stmt.now))) }
 {
     push_stmt(places, outer, mask, stmt, alloc)?;
@@ -167,8 +167,8 @@ fn add_stmts<'a>(
     stmts: &'a [Stmt],
 ) -> Result<(), NoMemory>
     requires { mask ≡ mask_of guards.now (map branch_view outer.now) }
-    ensures { OnOk result (map shown places.new.items
-        ≡ map shown places.old.items ++ map (masked guards.now)
+    ensures { OnOk result (map masked_view places.new.items
+        ≡ map masked_view places.old.items ++ map (masked_place guards.now)
         (rules.statements (map branch_view outer.now) (stmts_view stmts.now))) }
 {
     for stmt in stmts {
@@ -185,8 +185,8 @@ fn push_stmt<'a>(
     stmt: &'a Stmt,
     alloc: Global,
 ) -> Result<(), NoMemory>
-    ensures { OnOk result (map shown places.new.items
-        ≡ map shown places.old.items ++
+    ensures { OnOk result (map masked_view places.new.items
+        ≡ map masked_view places.old.items ++
         (rules.Statement (stmt_view stmt.now) (map branch_view outer.now), mask) ∷ []) }
 {
     let branches = Seq::copy_of(alloc, outer)?;

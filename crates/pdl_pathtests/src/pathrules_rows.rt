@@ -28,8 +28,8 @@ fn call(alloc: Global, line: u32) -> Stmt {
     }
 }
 
-// `if (n) {`, a call in line 3, `}`, and behind it as many calls as asked, from line 5 on; the body ends in line 9.
-fn pipe(alloc: Global, behind: u32) -> Result<Pipe, Fail> {
+// `if (n) {`, a call in line 3, `}`, and after it as many calls as asked, from line 5 on; the body ends in line 9.
+fn pipe(alloc: Global, after: u32) -> Result<Pipe, Fail> {
     let mut then = Seq::new(alloc);
     then.push(call(alloc, 3))?;
     let mut body = Seq::new(alloc);
@@ -39,7 +39,7 @@ fn pipe(alloc: Global, behind: u32) -> Result<Pipe, Fail> {
         then,
         otherwise: Seq::new(alloc),
     })?;
-    for k in 0..behind {
+    for k in 0..after {
         body.push(call(alloc, 5 + k % 4))?;
     }
     Ok(Pipe {
@@ -57,8 +57,8 @@ fn pipe(alloc: Global, behind: u32) -> Result<Pipe, Fail> {
 }
 
 // The line at which it breaks S1, as two rules on one walk find it.
-fn line(alloc: Global, behind: u32) -> Result<Both<Option<u32>, Option<u32>>, Fail> {
-    let pipe = pipe(alloc, behind)?;
+fn line(alloc: Global, after: u32) -> Result<Both<Option<u32>, Option<u32>>, Fail> {
+    let pipe = pipe(alloc, after)?;
     let guards = guards_of(alloc, &pipe)?;
     let places = places(alloc, &pipe, &guards)?;
     let rules = Both {

@@ -39,7 +39,7 @@ fn release(alloc: Global, line: u32) -> Result<Stmt, Fail> {
     })
 }
 
-// A reserve, a separator, `if (n) {` with a separator and a release in line 5, and behind it a separator and a release in line 8.
+// A reserve, a separator, `if (n) {` with a separator and a release in line 5, and after it a separator and a release in line 8.
 fn body(alloc: Global) -> Result<Seq<Stmt>, Fail> {
     let mut then = Seq::new(alloc);
     then.push(Stmt::Separator { span: at(4) })?;
@@ -103,7 +103,7 @@ fn stages_by_the_text(rt: HostRuntime) -> Result<(), Fail> {
     Ok(())
 }
 
-// The next separator behind the `if`: in its branch, and on the other path the one behind it.
+// The next separator after the `if`: in its branch, and on the other path the one after it.
 #[test]
 fn separators_ahead(rt: HostRuntime) -> Result<(), Fail> {
     let alloc = rt.alloc();

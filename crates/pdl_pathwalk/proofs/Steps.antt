@@ -3,10 +3,11 @@ use Rattle.std.proofs.Common.{◌≡◌, refl, sym, ap, ◌∙◌, subst, ℕ, �
 use Rattle.std.proofs.Math.Nat.{eq-or-lt_of_le}
 use Rattle.std.proofs.lemmas.Bool.{both_ways, false_from_ne_true}
 use Rattle.pdl_rules.specs.Places.{Place, Guard, on_path}
-use Rattle.pdl_rules.specs.Parts.{passes}
+use Rattle.pdl_rules.specs.Parts.{is_some_and}
 use Rattle.pdl_paths.specs.Masks.{path_of}
 use Rattle.pdl_paths.proofs.Choices.{some_path, has_bits}
 use Rattle.pdl_pathrules.specs.Lowest.{on_this, on_some, breaks_at, IsLowest}
+use Rattle.pdl_pathrules.proofs.Steps.{up_to}
 use Rattle.pdl_pathwalk.specs.Course.{by_bits, IsLowestSoFar, IsUnderWay}
 
 -- before the first path
@@ -37,10 +38,7 @@ broken test S T path k end lowest low e h =
       state = λ l. absurd (omega (arith, l));
     }
 
-up_to : (b c : ℕ) → b < c + 1 → b ≤ c
-up_to b c l = omega (arith, l)
-
--- behind the last place
+-- after the last place
 pub walked : (test : ℕ → ℕ → Bool) (S : Type 0) (path end lowest : ℕ) → IsUnderWay test S path end end lowest → IsLowestSoFar test (path + 1) end lowest
 walked test S path end lowest h =
     record { within = h.earlier.within; bits = h.earlier.bits; found = h.earlier.found; others = λ b j l m. at b j m (eq-or-lt_of_le (up_to b path l)) }
@@ -53,13 +51,13 @@ walked test S path end lowest h =
     at b j m (inl e) = ap (λ c. test c j) e ∙ h.passed j (omega (arith, m, wide)) m
 
 all_paths : (breaks : List Guard → List Place → Place → Bool) (gs : List Guard) (before : List Place) (o : Option Place)
-    → ((b : ℕ) → b < 2 ^ length gs → passes (on_this breaks (path_of gs b) before) o ≡ false) → passes (on_some breaks gs before) o ≡ false
+    → ((b : ℕ) → b < 2 ^ length gs → is_some_and (on_this breaks (path_of gs b) before) o ≡ false) → is_some_and (on_some breaks gs before) o ≡ false
 all_paths breaks gs before None h = refl
 all_paths breaks gs before (Some x) h =
     false_from_ne_true _ (λ e. let s = has_bits (λ path. on_path path x && breaks path before x) gs e in both_ways _ (h s.bits s.below) s.passes)
 
 one_of_them : (breaks : List Guard → List Place → Place → Bool) (gs : List Guard) (before : List Place) (o : Option Place) (b : ℕ)
-    → passes (on_this breaks (path_of gs b) before) o ≡ true → passes (on_some breaks gs before) o ≡ true
+    → is_some_and (on_this breaks (path_of gs b) before) o ≡ true → is_some_and (on_some breaks gs before) o ≡ true
 one_of_them breaks gs before None b e = e
 one_of_them breaks gs before (Some x) b e = some_path (λ path. on_path path x && breaks path before x) gs b e
 
@@ -76,4 +74,4 @@ every_path breaks gs xs c end k e h =
 -- a place on the path
 pub on : (breaks : List Guard → List Place → Place → Bool) (path : List Guard) (xs : List Place) (k : ℕ) (x : Place) (b : Bool) → slice_get xs k ≡ Some x → on_path path x ≡ true
     → b ≡ breaks path (take k xs) x → breaks_at (on_this breaks path) xs k ≡ b
-on breaks path xs k x b got is_on e = ap (passes (on_this breaks path (take k xs))) got ∙ ap (λ o. o && breaks path (take k xs) x) is_on ∙ sym e
+on breaks path xs k x b got is_on e = ap (is_some_and (on_this breaks path (take k xs))) got ∙ ap (λ o. o && breaks path (take k xs) x) is_on ∙ sym e

@@ -2,32 +2,17 @@
 use Rattle.std.proofs.Common.{◌≡◌, sym, ap, ◌∙◌, subst, ℕ, zero, suc, ◌+◌, ◌<◌, ◌≤◌, false, Bool, ◌&&◌, List, [], ◌∷◌, ◌++◌, take, length, slice_get, Some, arith, ◌⊎◌, inl, inr}
 use Rattle.std.proofs.Math.Nat.{eq-or-lt_of_le}
 use Rattle.pdl_rules.specs.Places.{Place, Guard, on_path}
-use Rattle.pdl_rules.specs.Parts.{passes}
+use Rattle.pdl_rules.specs.Parts.{is_some_and}
 use Rattle.pdl_paths.specs.Masks.{path_of}
 use Rattle.pdl_pathrules.specs.Lowest.{on_this, breaks_at}
+use Rattle.pdl_pathrules.proofs.Nth.{take_next}
+use Rattle.pdl_pathrules.proofs.Steps.{up_to}
 use Rattle.pdl_pathwalk.specs.Course.{by_bits, IsUnderWay, IsOnPath}
-
-same : {Q : Type 0} (y x : Q) → Some y ≡ Some x → y ≡ x
-same y x e = cc
-
-taken : {Q : Type 0} (xs : List Q) (k : ℕ) (x : Q) → slice_get xs k ≡ Some x → take (suc k) xs ≡ take k xs ++ x ∷ []
-taken [] k x e = cc
-taken (y ∷ ys) zero x e = ap (λ z. z ∷ []) (same y x e)
-taken (y ∷ ys) (suc k) x e = ap (λ zs. y ∷ zs) (taken ys k x e)
-
--- the places up to the k-th, and with it
-pub take_next : {Q : Type 0} (xs : List Q) (k : ℕ) (x : Q) → slice_get xs k ≡ Some x → take k xs ++ x ∷ [] ≡ take (k + 1) xs
-take_next xs k x e =
-    let one : suc k ≡ k + 1 = omega arith in
-    sym (taken xs k x e) ∙ ap (λ n. take n xs) one
 
 -- it breaks nothing there
 pub off : (breaks : List Guard → List Place → Place → Bool) (path : List Guard) (xs : List Place) (k : ℕ) (x : Place) → slice_get xs k ≡ Some x → on_path path x ≡ false
     → breaks_at (on_this breaks path) xs k ≡ false
-off breaks path xs k x got not_on = ap (passes (on_this breaks path (take k xs))) got ∙ ap (λ o. o && breaks path (take k xs) x) not_on
-
-up_to : (j k : ℕ) → j < k + 1 → j ≤ k
-up_to j k l = omega arith
+off breaks path xs k x got not_on = ap (is_some_and (on_this breaks path (take k xs))) got ∙ ap (λ o. o && breaks path (take k xs) x) not_on
 
 -- one place more, which breaks nothing
 pub one_more : (test : ℕ → ℕ → Bool) (S T : Type 0) (path k end lowest : ℕ) → IsUnderWay test S path k end lowest → test path k ≡ false → (k < lowest → S → T)

@@ -23,13 +23,13 @@ pub record IsLowestSoFar (test : ℕ → ℕ → Bool) (paths end lowest : ℕ) 
 abbrev pub IsFound : (List Guard → List Place → Place → Bool) → List Guard → List Place → ℕ → ℕ → Type 0
 IsFound breaks gs xs paths lowest = IsLowestSoFar (by_bits breaks gs xs) paths (length xs) lowest
 
--- on this path, behind k places, none of them below the lowest breaks the rule; up to the lowest its state stands
+-- on this path, after k places, none of them below the lowest breaks the rule; up to the lowest its state stands
 pub record IsUnderWay (test : ℕ → ℕ → Bool) (Stands : Type 0) (path k end lowest : ℕ) : Type 0 where
   pub earlier : IsLowestSoFar test path end lowest
   pub passed : (j : ℕ) → j < k → j < lowest → test path j ≡ false
   pub state : k ≤ lowest → Stands
 
--- of a rule, with what is to stand behind some places of a path
+-- of a rule, with what is to stand after some places of a path
 abbrev pub IsOnPath : (List Guard → List Place → Place → Bool) → (List Guard → List Place → Type 0) → List Guard → List Place → ℕ → ℕ → ℕ → Type 0
 IsOnPath breaks Stands gs xs bits k lowest =
     IsUnderWay (by_bits breaks gs xs) (Stands (path_of gs bits) (take k xs)) bits k (length xs) lowest

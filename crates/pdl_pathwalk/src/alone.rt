@@ -37,7 +37,8 @@ impl<R: PathRule> PathRules for Alone<R> {
         IsLowestSoFar (by_bits (R.breaks_on rules.0) gs xs) paths (length xs) lowest };
 
     ghost stand = { λ rules gs xs bits k courses.
-        IsOnPath (R.breaks_on rules.0) (λ path before. R.stands rules.0 path before courses.state) gs xs bits k courses.lowest };
+        IsOnPath (R.breaks_on rules.0) (λ path before. R.stands rules.0 path before courses.state)
+        gs xs bits k courses.lowest };
 
     ghost break_at = { λ rules gs xs line. line ≡ path_line (R.breaks_on rules.0) gs xs };
 
@@ -82,8 +83,10 @@ impl<R: PathRule> PathRules for Alone<R> {
     }
 
     ghost skip = { λ rules gs xs bits k x courses got off stands.
-        aside (R.breaks_on rules.0) (λ path before. R.stands rules.0 path before courses.state) gs xs bits k courses.lowest x
-        (λ path before aside_it h. R.skips rules.0 path before x courses.state aside_it h) got off stands };
+        aside (R.breaks_on rules.0) (λ path before. R.stands rules.0 path before courses.state) gs
+        xs bits k courses.lowest x
+        (λ path before aside_it h. R.skips rules.0 path before x courses.state aside_it h) got off
+        stands };
 }
 
 /// The line of a place, none past the last one.

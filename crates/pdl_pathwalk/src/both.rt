@@ -21,10 +21,12 @@ impl<A: PathRules, B: PathRules> PathRules for Both<A, B> {
     ghost suits = { λ rules gs xs. (A.suits rules.first gs xs) × (B.suits rules.second gs xs) };
 
     ghost found = { λ rules gs xs paths lowest.
-        (A.found rules.first gs xs paths lowest.first) × (B.found rules.second gs xs paths lowest.second) };
+        (A.found rules.first gs xs paths lowest.first)
+        × (B.found rules.second gs xs paths lowest.second) };
 
     ghost stand = { λ rules gs xs bits k courses.
-        (A.stand rules.first gs xs bits k courses.first) × (B.stand rules.second gs xs bits k courses.second) };
+        (A.stand rules.first gs xs bits k courses.first)
+        × (B.stand rules.second gs xs bits k courses.second) };
 
     ghost break_at = { λ rules gs xs lines.
         (A.break_at rules.first gs xs lines.first) × (B.break_at rules.second gs xs lines.second) };
@@ -79,6 +81,8 @@ impl<A: PathRules, B: PathRules> PathRules for Both<A, B> {
         }
     }
 
-    ghost skip = { λ rules gs xs bits k x courses got off stands.
-        (A.skip rules.first gs xs bits k x courses.first got off stands.0, B.skip rules.second gs xs bits k x courses.second got off stands.1) };
+    ghost skip = { λ rules gs xs bits k x courses got off stands. (
+      A.skip rules.first gs xs bits k x courses.first got off stands.0,
+      B.skip rules.second gs xs bits k x courses.second got off stands.1,
+    ) };
 }

@@ -12,7 +12,7 @@ use std::alloc::Global;
 ///
 /// Each keeps, over the paths walked, the lowest place that breaks it.
 pub trait PathRules {
-    /// How each stands on a path, behind the places passed.
+    /// How each stands on a path, after the places passed.
     type Courses: Drop;
     /// For each the lowest place that breaks it on the paths walked.
     type Lowest: Drop;
@@ -25,7 +25,7 @@ pub trait PathRules {
     /// These are the lowest places on the paths with fewer bits.
     ghost found: { Self → List spec.Guard → List spec.Place → ℕ → Self.Lowest → Type 0 };
 
-    /// So they stand on the path with these bits, behind as many places.
+    /// So they stand on the path with these bits, after as many places.
     ghost stand: { Self → List spec.Guard → List spec.Place → ℕ → ℕ → Self.Courses → Type 0 };
 
     /// These are the lines at which a pipe with these guards and these places breaks them.
@@ -53,14 +53,16 @@ pub trait PathRules {
             suits self.now gs xs
             → slice_get xs k ≡ Some (place_view place.now)
             → spec.on_path (path_of gs bits) (place_view place.now) ≡ true
-            → stand self.now gs xs bits k courses.old → stand self.now gs xs bits (k + 1) courses.new) };
+            → stand self.now gs xs bits k courses.old → stand self.now gs xs bits (k + 1)
+            courses.new) };
 
-    /// Behind the last place of a path.
+    /// After the last place of a path.
     fn end(&self, courses: Self::Courses) -> Self::Lowest
         ensures { (gs : List spec.Guard) (xs : List spec.Place) (bits : ℕ)
-            → stand self.now gs xs bits (length xs) courses → found self.now gs xs (bits + 1) result };
+            → stand self.now gs xs bits (length xs) courses → found self.now gs xs (bits + 1)
+            result };
 
-    /// Behind the last path of a pipe with these places.
+    /// After the last path of a pipe with these places.
     fn lines(&self, places: &[Place<'_>], lowest: Self::Lowest) -> Self::Lines
         ensures { (gs : List spec.Guard) →
             found self.now gs (map place_view places.now) (2 ^ length gs) lowest

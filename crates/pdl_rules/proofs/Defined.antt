@@ -1,4 +1,4 @@
--- The variables behind some places of a pipe that breaks no rule: each is new, so their widths are those of the whole pipe.
+-- The variables after some places of a pipe that breaks no rule: each is new, so their widths are those of the whole pipe.
 use Rattle.std.proofs.Common.{◌≡◌, refl, sym, ap, ◌∙◌, subst, ℕ, Bool, true, false, ◌||◌, List, [], ◌∷◌, ◌++◌, map, fold, if◌then◌else◌, Some, None, bytes_eq, ◌⊎◌, inl, inr, ⊎_elim, append_assoc, append-nil}
 use Rattle.std.specs.Prelude.{IsTrue}
 use Rattle.std.proofs.lemmas.Bool.{false≢true, or_parts, or_cases, or_left, or_right, both_ways, false_from_ne_true}
@@ -8,8 +8,8 @@ use Rattle.std.specs.List.{list_any}
 use Rattle.pdl_semantics.specs.Tree.{CombRead, Bind, DelayedRead, Param, Mem, Pipe}
 use Rattle.pdl_semantics.specs.Flatten.{Var, var_width, mem_width, width_of, params_of}
 use Rattle.pdl_rules.specs.Places.{Place, Parameter, Memory, Statement, places}
-use Rattle.pdl_rules.specs.Parts.{passes}
-use Rattle.pdl_rules.specs.Names.{variable_at, name_at, is_taken_name, breaks_n2, defines, OfMemory}
+use Rattle.pdl_rules.specs.Parts.{is_some_and}
+use Rattle.pdl_rules.specs.Names.{variable_at, name_at, is_taken_name, breaks_n2, defines_use, OfMemory}
 use Rattle.pdl_rules.specs.Widths.{with_variable, after_place, variables}
 use Rattle.pdl_rules.specs.Typed.{is_named}
 use Rattle.pdl_rules.proofs.Once.{any_front, any_last, bytes_sym}
@@ -59,10 +59,10 @@ stays_places ms (d ∷ xs) vs x e =
 
 -- whether a place defines a variable, or any name
 abbrev pub defines_variable : List ℕ → Place → Bool
-defines_variable x d = passes (bytes_eq x) (variable_at d)
+defines_variable x d = is_some_and (bytes_eq x) (variable_at d)
 
 abbrev pub takes_name : List ℕ → Place → Bool
-takes_name x d = passes (bytes_eq x) (name_at d)
+takes_name x d = is_some_and (bytes_eq x) (name_at d)
 
 -- these are the variables that these places define
 pub record AreKnown (p : Pipe) (vs : List Var) (before : List Place) : Type 0 where
@@ -84,7 +84,7 @@ any_split f xs x e = ⊎_elim (λ a. inl a) (λ a. inr (last (f x) a)) (or_cases
 pub known_same : (p : Pipe) (vs : List Var) (before : List Place) (d : Place) → variable_at d ≡ None → after_place p.mems vs d ≡ vs → AreKnown p vs before → AreKnown p vs (before ++ d ∷ [])
 known_same p vs before d none same k = record {
   vars = fold_push (after_place p.mems) [] before d ∙ ap (λ us. after_place p.mems us d) k.vars ∙ same;
-  named = λ x e. ⊎_elim (k.named x) (λ a. absurd (false≢true (sym (ap (passes (bytes_eq x)) none) ∙ a))) (any_split (defines_variable x) before d e);
+  named = λ x e. ⊎_elim (k.named x) (λ a. absurd (false≢true (sym (ap (is_some_and (bytes_eq x)) none) ∙ a))) (any_split (defines_variable x) before d e);
   taken = λ x e. any_front (takes_name x) before d (k.taken x e);
 }
 
@@ -95,16 +95,16 @@ known_more p vs before d x w variable name after unbroken k = record {
   vars = fold_push (after_place p.mems) [] before d ∙ ap (λ us. after_place p.mems us d) k.vars ∙ after ∙ ap (λ b. if b then vs else vs ++ record { name = x; width = w } ∷ []) fresh;
   named = λ y e. ⊎_elim
       (λ a. named_more vs _ y (k.named y a))
-      (λ a. any_last (λ (v : Var). bytes_eq v.name y) vs _ (bytes_sym y x (sym (ap (passes (bytes_eq y)) variable) ∙ a)))
+      (λ a. any_last (λ (v : Var). bytes_eq v.name y) vs _ (bytes_sym y x (sym (ap (is_some_and (bytes_eq y)) variable) ∙ a)))
       (any_split (defines_variable y) before d e);
   taken = λ y e. ⊎_elim
       (λ a. any_front (takes_name y) before d (k.taken y a))
-      (λ a. any_last (takes_name y) before d (ap (passes (bytes_eq y)) name ∙ a))
+      (λ a. any_last (takes_name y) before d (ap (is_some_and (bytes_eq y)) name ∙ a))
       (any_split (λ (v : Var). bytes_eq y v.name) vs _ e);
 }
   where
     free : is_taken_name p before x ≡ false
-    free = sym (ap (passes (is_taken_name p before)) name) ∙ unbroken
+    free = sym (ap (is_some_and (is_taken_name p before)) name) ∙ unbroken
 
     fresh : list_any (λ (v : Var). bytes_eq x v.name) vs ≡ false
     fresh = false_from_ne_true (list_any (λ (v : Var). bytes_eq x v.name) vs) (λ t. both_ways (list_any (takes_name x) before) (or_parts (bytes_eq x p.name.name) (list_any (takes_name x) before) free).1 (k.taken x t))
@@ -132,6 +132,6 @@ params_named (a ∷ ps) x e =
     (or_cases (bytes_eq x a.name.name) _ e)
 
 -- a parameter is no memory
-pub no_params : (m : List ℕ) (ps : List Param) → list_any (defines (OfMemory m)) (map Parameter ps) ≡ false
+pub no_params : (m : List ℕ) (ps : List Param) → list_any (defines_use (OfMemory m)) (map Parameter ps) ≡ false
 no_params m [] = refl
 no_params m (a ∷ ps) = no_params m ps

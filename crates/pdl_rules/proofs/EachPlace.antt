@@ -23,6 +23,6 @@ pub each_back : (P : List Place → Place → Type 0) (xs ys before : List Place
 each_back P [] ys before h = rw append-nil h
 each_back P (x ∷ xs) ys before h = rw append_assoc at (each_back P xs ys (before ++ x ∷ []) h.1)
 
--- the places behind the statements
+-- the places after the statements
 abbrev pub closing : Pipe → List Place
 closing p = End p.end ∷ StartClause p.start ∷ []

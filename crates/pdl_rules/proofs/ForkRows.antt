@@ -81,7 +81,7 @@ comb_of_delayed = refl
 delayed_of_comb : of_body (a ∷ delayed_read "x" "t" "a" ∷ next ∷ separator ∷ []) ≡ at_line F4 4
 delayed_of_comb = refl
 
--- what is read is there behind the next separator
+-- what is read is there after the next separator
 used_at_once : of_body (a ∷ delayed_read "x" "d" "a" ∷ bind "y" (variable "x") ∷ next ∷ separator ∷ []) ≡ at_line N3 5
 used_at_once = refl
 
@@ -105,11 +105,11 @@ reserved_in_second_branch :
     ≡ None
 reserved_in_second_branch = refl
 
-reserved_behind_fork :
+reserved_after_fork :
     of_body (a ∷ b ∷ g ∷ reserve "m" "a" R ∷ next ∷ choice "g" (separator ∷ []) [] ∷ separator ∷ reserve "m" "b" R
     ∷ block "m" "a" ∷ block "m" "b" ∷ release "m" "a" ∷ release "m" "b" ∷ [])
     ≡ at_line L2 10
-reserved_behind_fork = refl
+reserved_after_fork = refl
 
 bound_in_time : of_body (a ∷ reserve "q" "a" R ∷ block "q" "a" ∷ delayed_read "x" "q" "a" ∷ next ∷ separator ∷ release "q" "a" ∷ []) ≡ None
 bound_in_time = refl

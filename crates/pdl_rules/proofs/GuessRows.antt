@@ -79,8 +79,8 @@ written = reserve "m" "a" W ∷ block "m" "a" ∷ write "m" "a" (variable "v") �
 released_unsure : of_body (a ∷ v ∷ spec_check ∷ written ++ guess ∷ separator ∷ verified ∷ []) ≡ at_line S4 9
 released_unsure = refl
 
-released_behind_barrier : of_body (a ∷ v ∷ spec_barrier ∷ written ++ guess ∷ separator ∷ verified ∷ []) ≡ None
-released_behind_barrier = refl
+released_after_barrier : of_body (a ∷ v ∷ spec_barrier ∷ written ++ guess ∷ separator ∷ verified ∷ []) ≡ None
+released_after_barrier = refl
 
 barrier_on_one_path : of_body (a ∷ v ∷ g ∷ spec_check ∷ choice "g" (spec_barrier ∷ []) [] ∷ written ++ guess ∷ separator ∷ verified ∷ []) ≡ at_line S4 11
 barrier_on_one_path = refl
@@ -103,5 +103,5 @@ checked_a_stage_before = refl
 checked_on_one_path : of_body (g ∷ choice "g" (spec_check ∷ []) [] ∷ guess ∷ separator ∷ verified ∷ []) ≡ at_line S5 5
 checked_on_one_path = refl
 
-checked_behind : of_body (guess ∷ spec_check ∷ separator ∷ verified ∷ []) ≡ at_line S5 3
-checked_behind = refl
+checked_after : of_body (guess ∷ spec_check ∷ separator ∷ verified ∷ []) ≡ at_line S5 3
+checked_after = refl

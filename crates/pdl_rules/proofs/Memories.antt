@@ -6,7 +6,7 @@ use Rattle.std.specs.List.{list_any, list_all}
 use Rattle.pdl_semantics.specs.Tree.{Mem, Pipe}
 use Rattle.pdl_rules.specs.Places.{Place, Memory}
 use Rattle.pdl_rules.specs.Limits.{depths, is_depth, is_width, is_wrong_lock, breaks_z7}
-use Rattle.pdl_rules.specs.Parts.{passes}
+use Rattle.pdl_rules.specs.Parts.{is_some_and}
 use Rattle.pdl_rules.specs.Widths.{mem_depth, address_bits}
 use Rattle.pdl_rules.specs.Typed.{is_memory, AreDistinct, IsSized, AreSized}
 use Rattle.pdl_rules.proofs.EachPlace.{Each}
@@ -50,7 +50,7 @@ abbrev pub has_depth : Mem → Bool
 has_depth m = is_depth m.depth.value
 
 pub shape : (m : Mem) → breaks_z7 (Memory m) ≡ false → (is_width m.width.value ≡ true) × (has_depth m ≡ true)
-shape m e = and_parts (is_width m.width.value) (has_depth m) (not-false _ (or_parts _ (passes (is_wrong_lock m) m.lock) e).0)
+shape m e = and_parts (is_width m.width.value) (has_depth m) (not-false _ (or_parts _ (is_some_and (is_wrong_lock m) m.lock) e).0)
 
 sized_one : (m : Mem) → breaks_z7 (Memory m) ≡ false → IsSized m
 sized_one m e =

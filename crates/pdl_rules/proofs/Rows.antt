@@ -210,12 +210,12 @@ released_in_two_stages :
     ≡ at_line L2 11
 released_in_two_stages = refl
 
--- whether a read of the memory behind these statements breaks L8
+-- whether a read of the memory after these statements breaks L8
 abbrev is_late : String → List Line → Bool
 is_late m body = breaks_l8 (pipe (body ++ read "x" m "a" ∷ [])) (map (λ s. Statement s []) (from_line 3 body)) (Statement (read "x" m "a" 9) [])
 
-behind_release : is_late "m" (reserve "m" "a" R ∷ release "m" "a" ∷ separator ∷ []) ≡ true
-behind_release = refl
+after_release : is_late "m" (reserve "m" "a" R ∷ release "m" "a" ∷ separator ∷ []) ≡ true
+after_release = refl
 
 -- in the stage of the releases a read is in time, and so it is before them, and of a memory without lock
 with_release : is_late "m" (reserve "m" "a" R ∷ separator ∷ release "m" "a" ∷ []) ≡ false

@@ -8,7 +8,7 @@ use Rattle.pdl_semantics.specs.Tree.{Span, Literal, Expr, Constant, Variable, Sl
 use Rattle.pdl_semantics.specs.Flatten.{Var, widest, var_width, op_width, width_of}
 use Rattle.pdl_rules.specs.Parts.{some_part, of_constant}
 use Rattle.pdl_rules.specs.Limits.{is_width, is_wrong_literal}
-use Rattle.pdl_rules.specs.Names.{Use, OfVariable, reads}
+use Rattle.pdl_rules.specs.Names.{Use, OfVariable, reads_some}
 use Rattle.pdl_rules.specs.Widths.{is_unequal, is_too_large, is_out_of_range, is_no_extension, is_wide_choice}
 use Rattle.pdl_rules.specs.Typed.{is_named, Holds, IsTyped, AreArguments, AreStarts}
 
@@ -16,7 +16,7 @@ use Rattle.pdl_rules.specs.Typed.{is_named, Holds, IsTyped, AreArguments, AreSta
 
 -- what the rules of expressions ask, each by one way to test expressions: no use is too early, and all widths are those that the operators want
 pub record Fits (early : Use → Bool) (all : List Var) (some : (Expr → Bool) → Bool) : Type 0 where
-  pub uses : some (some_part (reads early)) ≡ false
+  pub uses : some (some_part (reads_some early)) ≡ false
   pub widths : some (some_part (is_unequal all)) ≡ false
   pub ranges : some (some_part (is_out_of_range all)) ≡ false
   pub values : some (some_part (of_constant is_too_large)) ≡ false
@@ -30,7 +30,7 @@ of_one e test = test e
 -- what fits as a whole fits in a part
 fits_part : (early : Use → Bool) (all : List Var) (whole part : (Expr → Bool) → Bool) → ((test : Expr → Bool) → whole (some_part test) ≡ false → part (some_part test) ≡ false) → Fits early all whole → Fits early all part
 fits_part early all whole part less f = record {
-  uses = less (reads early) f.uses;
+  uses = less (reads_some early) f.uses;
   widths = less (is_unequal all) f.widths;
   ranges = less (is_out_of_range all) f.ranges;
   values = less (of_constant is_too_large) f.values;

@@ -4,7 +4,7 @@ use Rattle.pdl_kit.specs.declared.rule.Rule.{Rule}
 use Rattle.pdl_kit.specs.declared.rule.Rule.TheVariants.{G1, Z2, Z3, Z4, Z5, Z6, Z7, N1, N2, N3, W1, W2, W3, W4, W5, W6, F1, F2, F3, F4, F5, L1, L2, L3, L4, L5, L6, L7, L8, S1, S2, S3, S4, S5}
 use Rattle.pdl_semantics.specs.Tree.{Pipe}
 use Rattle.pdl_rules.specs.Places.{Place, places, line_of}
-use Rattle.pdl_rules.specs.Refusal.{breaks, limits, after_limits, broken_line, refused_at, Refused, first_broken, KeepsRules}
+use Rattle.pdl_rules.specs.Refusal.{breaks_rule, limits, after_limits, broken_line, refused_at, Refused, first_broken, KeepsRules}
 use Rattle.pdl_rules.proofs.EachPlace.{Each, each_back}
 use Rattle.pdl_word.proofs.Bools.{none_given}
 
@@ -13,18 +13,18 @@ no_refusal r (Some line) others e = cc
 no_refusal r None others e = (refl, e)
 
 -- a rule that has no lowest place is broken nowhere
-each_unbroken : (r : Rule) (p : Pipe) (xs before : List Place) → broken_line r p before xs ≡ None → Each (λ front x. breaks r p front x ≡ false) before xs
+each_unbroken : (r : Rule) (p : Pipe) (xs before : List Place) → broken_line r p before xs ≡ None → Each (λ front x. breaks_rule r p front x ≡ false) before xs
 each_unbroken r p [] before e = tt
 each_unbroken r p (x ∷ xs) before e =
-    let parts = none_given (breaks r p before x) (line_of x) (broken_line r p (before ++ x ∷ []) xs) e in
+    let parts = none_given (breaks_rule r p before x) (line_of x) (broken_line r p (before ++ x ∷ []) xs) e in
     (parts.0, each_unbroken r p xs (before ++ x ∷ []) parts.1)
 
 -- nor is the k-th of some rules, if none of them is broken first; a number past their end stands for a rule that no tree breaks
-unbroken : (p : Pipe) (rs : List Rule) (k : ℕ) → first_broken rs p ≡ None → (before : List Place) (x : Place) (later : List Place) → places p ≡ before ++ x ∷ later → breaks (get_or rs k G1) p before x ≡ false
+unbroken : (p : Pipe) (rs : List Rule) (k : ℕ) → first_broken rs p ≡ None → (before : List Place) (x : Place) (later : List Place) → places p ≡ before ++ x ∷ later → breaks_rule (get_or rs k G1) p before x ≡ false
 unbroken p [] k e before x later same = refl
 unbroken p (r ∷ rs) zero e before x later same =
     let none = each_unbroken r p (places p) [] (no_refusal r (broken_line r p [] (places p)) (first_broken rs p) e).0 in
-    (each_back (λ front y. breaks r p front y ≡ false) before (x ∷ later) [] (subst (Each (λ front y. breaks r p front y ≡ false) []) same none)).0
+    (each_back (λ front y. breaks_rule r p front y ≡ false) before (x ∷ later) [] (subst (Each (λ front y. breaks_rule r p front y ≡ false) []) same none)).0
 unbroken p (r ∷ rs) (suc k) e before x later same = unbroken p rs k (no_refusal r (broken_line r p [] (places p)) (first_broken rs p) e).1 before x later same
 
 pub keeps_unbroken : (p : Pipe) → first_broken (limits ++ after_limits) p ≡ None → KeepsRules p

@@ -3,10 +3,10 @@ use Rattle.std.specs.Prelude.{ℕ, ◌+◌, Bool, true, false, not, ◌&&◌, �
 use Rattle.std.specs.List.{list_any}
 use Rattle.pdl_semantics.specs.Tree.{Stmt, Separator, CombRead, Bind, SpecCall, DelayedRead, Write, Reserve, Block, Release, If, Call, Verify, SpecCheck, SpecBarrier, Stmts, Mem, Pipe}
 use Rattle.pdl_semantics.specs.Flatten.{separators}
-use Rattle.pdl_rules.specs.Places.{Place, Statement, Branch, statements, places, behind}
+use Rattle.pdl_rules.specs.Places.{Place, Statement, Branch, statements, places, places_after}
 use Rattle.pdl_rules.specs.Parts.{parts_of}
 use Rattle.pdl_rules.specs.Limits.{is_separator}
-use Rattle.pdl_rules.specs.Stages.{stage_behind, stage_in}
+use Rattle.pdl_rules.specs.Stages.{stage_after, stage_in}
 
 -- whether a separator stands somewhere in these statements
 abbrev pub holds_separator : Stmts → Bool
@@ -52,17 +52,17 @@ is_in_branch (b ∷ bs) = true
 
 abbrev pub breaks_f2 : Pipe → List Place → Place → Bool
 breaks_f2 p before (Statement s bs) =
-    is_fork s && (is_in_branch bs || not (starts_with_separator (drop (places_in (parts_of s).branches) (behind p before))))
+    is_fork s && (is_in_branch bs || not (starts_with_separator (drop (places_in (parts_of s).branches) (places_after p before))))
 breaks_f2 p before _ = false
 
 -- F3: a delayed read in the last stage, or one of a memory of which a delayed read stands before
-abbrev pub fetches : List ℕ → Place → Bool
-fetches m (Statement (DelayedRead _ _ at) _) = bytes_eq at.mem.name m
-fetches m _ = false
+abbrev pub breaks_fetch_order : List ℕ → Place → Bool
+breaks_fetch_order m (Statement (DelayedRead _ _ at) _) = bytes_eq at.mem.name m
+breaks_fetch_order m _ = false
 
 abbrev pub breaks_f3 : Pipe → List Place → Place → Bool
 breaks_f3 p before (Statement (DelayedRead _ _ at) bs) =
-    (stage_in before bs == stage_behind (places p)) || list_any (fetches at.mem.name) before
+    (stage_in before bs == stage_after (places p)) || list_any (breaks_fetch_order at.mem.name) before
 breaks_f3 p before _ = false
 
 -- F4: a comb read of a delayed memory, or a delayed read of a comb one

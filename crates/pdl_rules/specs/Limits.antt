@@ -4,7 +4,7 @@ use Rattle.std.specs.List.{list_any}
 use Rattle.std.specs.Option.{is_some}
 use Rattle.pdl_semantics.specs.Tree.{Literal, Stmt, Separator, If, Mem, LockKind, Queue, Bypass, Rename, LockDecl}
 use Rattle.pdl_rules.specs.Places.{Place, Parameter, Memory, Statement, guard_of, is_among, guards}
-use Rattle.pdl_rules.specs.Parts.{parts_of, some_literal, passes}
+use Rattle.pdl_rules.specs.Parts.{parts_of, some_literal, is_some_and}
 
 -- Z1: the bytes of a source
 abbrev pub is_too_long : List ℕ → Bool
@@ -35,12 +35,12 @@ abbrev pub breaks_z4 : List Place → Place → Bool
 breaks_z4 before x = is_memory x && (count_by is_memory before == 16)
 
 -- Z5: parameters, bound names and guesses
-abbrev pub binds : Stmt → Bool
-binds s = is_some (parts_of s).variable || is_some (parts_of s).guess
+abbrev pub binds_name : Stmt → Bool
+binds_name s = is_some (parts_of s).variable || is_some (parts_of s).guess
 
 abbrev pub is_binding : Place → Bool
 is_binding (Parameter _) = true
-is_binding (Statement s _) = binds s
+is_binding (Statement s _) = binds_name s
 is_binding _ = false
 
 abbrev pub breaks_z5 : List Place → Place → Bool
@@ -67,16 +67,16 @@ abbrev pub is_size : ℕ → Bool
 is_size s = list_any (λ n. n == s) (1 ∷ 2 ∷ 4 ∷ 8 ∷ 16 ∷ [])
 
 -- whether a memory of this depth, delayed or not, can have the kind of lock with this size
-abbrev pub allows : ℕ → Bool → LockKind → ℕ → Bool
-allows d delayed Queue s = true
-allows d delayed Bypass s = not delayed
-allows d delayed Rename s = not delayed && (nat_le d 64 && nat_le s d)
+abbrev pub allows_lock : ℕ → Bool → LockKind → ℕ → Bool
+allows_lock d delayed Queue s = true
+allows_lock d delayed Bypass s = not delayed
+allows_lock d delayed Rename s = not delayed && (nat_le d 64 && nat_le s d)
 
 abbrev pub is_wrong_lock : Mem → LockDecl → Bool
-is_wrong_lock m l = not (is_size l.size.value && allows m.depth.value m.delayed l.kind l.size.value)
+is_wrong_lock m l = not (is_size l.size.value && allows_lock m.depth.value m.delayed l.kind l.size.value)
 
 abbrev pub is_wrong_memory : Mem → Bool
-is_wrong_memory m = not (is_width m.width.value && is_depth m.depth.value) || passes (is_wrong_lock m) m.lock
+is_wrong_memory m = not (is_width m.width.value && is_depth m.depth.value) || is_some_and (is_wrong_lock m) m.lock
 
 abbrev pub is_wrong_literal : Literal → Bool
 is_wrong_literal l = not (is_width l.width)

@@ -35,19 +35,19 @@ pub data Hold : Type 0 where
   Blocked : (kind : Kind) → Hold
   Released : Hold
 
-abbrev pub blocked : Hold → Hold
-blocked (Reserved k) = Blocked k
-blocked h = h
+abbrev pub after_block : Hold → Hold
+after_block (Reserved k) = Blocked k
+after_block h = h
 
 abbrev pub after_place : Location → Hold → Place → Hold
 after_place at h (Statement (Reserve _ l k) _) = if same_location l at then Reserved k else h
-after_place at h (Statement (Block _ l) _) = if same_location l at then blocked h else h
+after_place at h (Statement (Block _ l) _) = if same_location l at then after_block h else h
 after_place at h (Statement (Release _ l) _) = if same_location l at then Released else h
 after_place at h _ = h
 
 -- what is held of a location after these places
-abbrev pub held : Location → List Place → Hold
-held at earlier = fold (after_place at) Nothing earlier
+abbrev pub hold_after : Location → List Place → Hold
+hold_after at earlier = fold (after_place at) Nothing earlier
 
 abbrev pub is_reserved : Hold → Bool
 is_reserved (Reserved _) = true
@@ -68,11 +68,11 @@ is_held_for k _ = false
 
 -- L1: a statement without the hold that it needs; a read of a memory without lock needs none
 abbrev pub lacks_hold : Pipe → List Place → Place → Bool
-lacks_hold p earlier (Statement (Block _ at) _) = not (is_reserved (held at earlier))
-lacks_hold p earlier (Statement (CombRead _ _ at) _) = is_locked p.mems at.mem.name && not (is_blocked_for R (held at earlier))
-lacks_hold p earlier (Statement (DelayedRead _ _ at) _) = is_locked p.mems at.mem.name && not (is_blocked_for R (held at earlier))
-lacks_hold p earlier (Statement (Write _ at _) _) = not (is_blocked_for W (held at earlier))
-lacks_hold p earlier (Statement (Release _ at) _) = not (is_blocked (held at earlier))
+lacks_hold p earlier (Statement (Block _ at) _) = not (is_reserved (hold_after at earlier))
+lacks_hold p earlier (Statement (CombRead _ _ at) _) = is_locked p.mems at.mem.name && not (is_blocked_for R (hold_after at earlier))
+lacks_hold p earlier (Statement (DelayedRead _ _ at) _) = is_locked p.mems at.mem.name && not (is_blocked_for R (hold_after at earlier))
+lacks_hold p earlier (Statement (Write _ at _) _) = not (is_blocked_for W (hold_after at earlier))
+lacks_hold p earlier (Statement (Release _ at) _) = not (is_blocked (hold_after at earlier))
 lacks_hold p earlier _ = false
 
 abbrev pub breaks_l1 : Pipe → List Place → Place → Bool
@@ -81,19 +81,19 @@ breaks_l1 p before x = on_some_path (λ earlier. lacks_hold p earlier x) p befor
 -- RESERVATIONS AND WRITES
 
 -- whether a place reserves the memory for this kind, and whether it writes the memory
-abbrev pub reserves : Kind → List ℕ → Place → Bool
-reserves k m (Statement (Reserve _ at j) _) = same_kind k j && bytes_eq at.mem.name m
-reserves k m _ = false
+abbrev pub is_reserve_of : Kind → List ℕ → Place → Bool
+is_reserve_of k m (Statement (Reserve _ at j) _) = same_kind k j && bytes_eq at.mem.name m
+is_reserve_of k m _ = false
 
-abbrev pub writes : List ℕ → Place → Bool
-writes m (Statement (Write _ at _) _) = bytes_eq at.mem.name m
-writes m _ = false
+abbrev pub is_write_of : List ℕ → Place → Bool
+is_write_of m (Statement (Write _ at _) _) = bytes_eq at.mem.name m
+is_write_of m _ = false
 
 -- L3: a read reservation after the memory's write reservation, or a read after a write
 abbrev pub is_late_read : List Place → Place → Bool
-is_late_read earlier (Statement (Reserve _ at R) _) = list_any (reserves W at.mem.name) earlier
-is_late_read earlier (Statement (CombRead _ _ at) _) = list_any (writes at.mem.name) earlier
-is_late_read earlier (Statement (DelayedRead _ _ at) _) = list_any (writes at.mem.name) earlier
+is_late_read earlier (Statement (Reserve _ at R) _) = list_any (is_reserve_of W at.mem.name) earlier
+is_late_read earlier (Statement (CombRead _ _ at) _) = list_any (is_write_of at.mem.name) earlier
+is_late_read earlier (Statement (DelayedRead _ _ at) _) = list_any (is_write_of at.mem.name) earlier
 is_late_read earlier _ = false
 
 abbrev pub breaks_l3 : Pipe → List Place → Place → Bool
@@ -105,7 +105,7 @@ most_reservations R = 4
 most_reservations W = 1
 
 abbrev pub is_one_too_many : List Place → Place → Bool
-is_one_too_many earlier (Statement (Reserve _ at k) _) = nat_le (most_reservations k) (count_by (reserves k at.mem.name) earlier)
+is_one_too_many earlier (Statement (Reserve _ at k) _) = nat_le (most_reservations k) (count_by (is_reserve_of k at.mem.name) earlier)
 is_one_too_many earlier _ = false
 
 abbrev pub breaks_l4 : Pipe → List Place → Place → Bool
@@ -130,7 +130,7 @@ writes_location l _ = false
 
 abbrev pub is_not_written_once : List Place → Place → Bool
 is_not_written_once earlier (Statement (Release _ at) _) =
-    is_held_for W (held at earlier) && not (count_by (writes_location at) earlier == 1)
+    is_held_for W (hold_after at earlier) && not (count_by (writes_location at) earlier == 1)
 is_not_written_once earlier _ = false
 
 abbrev pub breaks_l6 : Pipe → List Place → Place → Bool
@@ -143,7 +143,7 @@ is_unreleased (Blocked _) = true
 is_unreleased _ = false
 
 abbrev pub leaves_open : List Place → Place → Bool
-leaves_open earlier (Statement (Reserve _ at _) _) = is_unreleased (held at earlier)
+leaves_open earlier (Statement (Reserve _ at _) _) = is_unreleased (hold_after at earlier)
 leaves_open earlier _ = false
 
 abbrev pub ends_open : List Place → Place → Bool

@@ -3,7 +3,7 @@ use Rattle.std.specs.Prelude.{ℕ, Bool, true, false, not, ◌&&◌, ◌||◌, L
 use Rattle.std.specs.List.{list_any}
 use Rattle.pdl_semantics.specs.Tree.{Ident, Expr, Variable, Slice, Location, Stmt, DelayedRead, Param, Pipe}
 use Rattle.pdl_rules.specs.Places.{Place, Parameter, Memory, Statement, StartClause, places, on_some_path}
-use Rattle.pdl_rules.specs.Parts.{some_part, parts_of, some_expr_of, location_of, passes}
+use Rattle.pdl_rules.specs.Parts.{some_part, parts_of, some_expr_of, location_of, is_some_and}
 use Rattle.pdl_rules.specs.Limits.{is_separator}
 
 -- DEFINITIONS
@@ -49,28 +49,28 @@ pub data Use : Type 0 where
   OfGuess : (name : List ℕ) → Use
 
 -- whether a place defines what is used
-abbrev pub defines : Use → Place → Bool
-defines (OfVariable x) d = passes (bytes_eq x) (variable_at d)
-defines (OfMemory m) d = passes (bytes_eq m) (memory_at d)
-defines (OfGuess g) d = passes (bytes_eq g) (guess_at d)
+abbrev pub defines_use : Use → Place → Bool
+defines_use (OfVariable x) d = is_some_and (bytes_eq x) (variable_at d)
+defines_use (OfMemory m) d = is_some_and (bytes_eq m) (memory_at d)
+defines_use (OfGuess g) d = is_some_and (bytes_eq g) (guess_at d)
 
 -- whether an expression reads a variable whose use passes the test
-abbrev pub reads : (Use → Bool) → Expr → Bool
-reads test (Variable x) = test (OfVariable x.name)
-reads test (Slice x _ _) = test (OfVariable x.name)
-reads test _ = false
+abbrev pub reads_some : (Use → Bool) → Expr → Bool
+reads_some test (Variable x) = test (OfVariable x.name)
+reads_some test (Slice x _ _) = test (OfVariable x.name)
+reads_some test _ = false
 
 abbrev pub in_location : (Use → Bool) → Location → Bool
 in_location test at = test (OfMemory at.mem.name) || test (OfVariable at.address.name)
 
 abbrev pub in_verify : (Use → Bool) → Stmt → Bool
-in_verify test s = passes (λ (g : Ident). test (OfGuess g.name)) (parts_of s).verified
+in_verify test s = is_some_and (λ (g : Ident). test (OfGuess g.name)) (parts_of s).verified
 
 -- whether a use at a place passes the test
 abbrev pub some_use : (Use → Bool) → Place → Bool
 some_use test (Statement s _) =
-    passes (in_location test) (location_of s)
-    || (in_verify test s || some_expr_of (some_part (reads test)) s)
+    is_some_and (in_location test) (location_of s)
+    || (in_verify test s || some_expr_of (some_part (reads_some test)) s)
 some_use test _ = false
 
 -- N1: a name that names nothing of the kind that stands there, anywhere in the text; the start clause has to name the pipe
@@ -79,17 +79,17 @@ names_another_pipe p (StartClause s) = not (bytes_eq s.name.name p.name.name)
 names_another_pipe p _ = false
 
 abbrev pub is_undefined : List Place → Use → Bool
-is_undefined ds u = not (list_any (defines u) ds)
+is_undefined ds u = not (list_any (defines_use u) ds)
 
 abbrev pub breaks_n1 : Pipe → Place → Bool
 breaks_n1 p x = names_another_pipe p x || some_use (is_undefined (places p)) x
 
 -- N2: the name of the pipe, or one that a place before defines
 abbrev pub is_taken_name : Pipe → List Place → List ℕ → Bool
-is_taken_name p before x = bytes_eq x p.name.name || list_any (λ d. passes (bytes_eq x) (name_at d)) before
+is_taken_name p before x = bytes_eq x p.name.name || list_any (λ d. is_some_and (bytes_eq x) (name_at d)) before
 
 abbrev pub breaks_n2 : Pipe → List Place → Place → Bool
-breaks_n2 p before x = passes (is_taken_name p before) (name_at x)
+breaks_n2 p before x = is_some_and (is_taken_name p before) (name_at x)
 
 -- N3: a variable that is no parameter, or a guess, with no definition before it in the text, or none before it on some path, where that of a delayed read has a separator after it
 abbrev pub is_parameter : Pipe → List ℕ → Bool
@@ -104,10 +104,10 @@ abbrev pub is_delayed : Place → Bool
 is_delayed (Statement (DelayedRead _ _ _) _) = true
 is_delayed _ = false
 
--- whether one of these places gives what is used, to whoever stands behind the last of them
+-- whether one of these places gives what is used, to whoever stands after the last of them
 abbrev pub is_given : List Place → Use → Bool
 is_given [] u = false
-is_given (d ∷ ds) u = (defines u d && (not (is_delayed d) || list_any is_separator ds)) || is_given ds u
+is_given (d ∷ ds) u = (defines_use u d && (not (is_delayed d) || list_any is_separator ds)) || is_given ds u
 
 abbrev pub is_too_early : Pipe → List Place → Place → Use → Bool
 is_too_early p before x u =

@@ -54,9 +54,9 @@ parts_of (SpecBarrier _) = no_parts
 
 -- TESTS OF PARTS
 
-abbrev pub passes : {T : Type 0} → (T → Bool) → Option T → Bool
-passes test None = false
-passes test (Some x) = test x
+abbrev pub is_some_and : {T : Type 0} → (T → Bool) → Option T → Bool
+is_some_and test None = false
+is_some_and test (Some x) = test x
 
 -- whether an expression that stands at the statement, or at the place, passes the test
 abbrev pub some_of : (Expr → Bool) → Expressions → Bool
@@ -87,5 +87,5 @@ location_of s = (parts_of s).location
 
 -- whether the location at a place passes the test
 abbrev pub some_location : (Location → Bool) → Place → Bool
-some_location test (Statement s _) = passes test (location_of s)
+some_location test (Statement s _) = is_some_and test (location_of s)
 some_location test _ = false

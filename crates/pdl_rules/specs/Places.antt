@@ -59,9 +59,9 @@ places p =
     ++ statements [] p.body
     ++ End p.end ∷ StartClause p.start ∷ []
 
--- the places behind one that has these before it
-abbrev pub behind : Pipe → List Place → List Place
-behind p before = drop (suc (length before)) (places p)
+-- the places after one that has these before it
+abbrev pub places_after : Pipe → List Place → List Place
+places_after p before = drop (suc (length before)) (places p)
 
 -- where a statement stands
 abbrev pub span_of : Stmt → Span

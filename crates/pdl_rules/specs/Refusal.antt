@@ -15,69 +15,69 @@ use Rattle.pdl_rules.specs.Calls.{breaks_s1}
 use Rattle.pdl_rules.specs.Speculation.{breaks_s2, breaks_s3, breaks_s4, breaks_s5}
 
 -- whether the place, with these places before it in the text, breaks a rule; no tree breaks the rules of bytes and tokens, G1 and Z1, nor those of other files
-abbrev pub breaks : Rule → Pipe → List Place → Place → Bool
-breaks G1 p before x = false
-breaks Z1 p before x = false
-breaks Z2 p before x = breaks_z2 before x
-breaks Z3 p before x = breaks_z3 before x
-breaks Z4 p before x = breaks_z4 before x
-breaks Z5 p before x = breaks_z5 before x
-breaks Z6 p before x = breaks_z6 before x
-breaks Z7 p before x = breaks_z7 x
-breaks N1 p before x = breaks_n1 p x
-breaks N2 p before x = breaks_n2 p before x
-breaks N3 p before x = breaks_n3 p before x
-breaks W1 p before x = breaks_w1 p x
-breaks W2 p before x = breaks_w2 p x
-breaks W3 p before x = breaks_w3 p x
-breaks W4 p before x = breaks_w4 p x
-breaks W5 p before x = breaks_w5 p x
-breaks W6 p before x = breaks_w6 p x
-breaks F1 p before x = breaks_f1 x
-breaks F2 p before x = breaks_f2 p before x
-breaks F3 p before x = breaks_f3 p before x
-breaks F4 p before x = breaks_f4 p x
-breaks F5 p before x = breaks_f5 p x
-breaks L1 p before x = breaks_l1 p before x
-breaks L2 p before x = breaks_l2 before x
-breaks L3 p before x = breaks_l3 p before x
-breaks L4 p before x = breaks_l4 p before x
-breaks L5 p before x = breaks_l5 p before x
-breaks L6 p before x = breaks_l6 p before x
-breaks L7 p before x = breaks_l7 p before x
-breaks L8 p before x = breaks_l8 p before x
-breaks S1 p before x = breaks_s1 p before x
-breaks S2 p before x = breaks_s2 p before x
-breaks S3 p before x = breaks_s3 before x
-breaks S4 p before x = breaks_s4 p before x
-breaks S5 p before x = breaks_s5 p before x
-breaks I1 p before x = false
-breaks I2 p before x = false
-breaks I3 p before x = false
-breaks I4 p before x = false
-breaks I5 p before x = false
-breaks I6 p before x = false
-breaks Y1 p before x = false
-breaks Y2 p before x = false
-breaks Y3 p before x = false
-breaks V1 p before x = false
-breaks V2 p before x = false
-breaks V3 p before x = false
-breaks V4 p before x = false
-breaks V5 p before x = false
-breaks B1 p before x = false
-breaks B2 p before x = false
-breaks B3 p before x = false
-breaks B4 p before x = false
-breaks B5 p before x = false
-breaks A1 p before x = false
-breaks A2 p before x = false
-breaks A3 p before x = false
-breaks A4 p before x = false
-breaks A5 p before x = false
-breaks A6 p before x = false
-breaks A7 p before x = false
-breaks A8 p before x = false
+abbrev pub breaks_rule : Rule → Pipe → List Place → Place → Bool
+breaks_rule G1 p before x = false
+breaks_rule Z1 p before x = false
+breaks_rule Z2 p before x = breaks_z2 before x
+breaks_rule Z3 p before x = breaks_z3 before x
+breaks_rule Z4 p before x = breaks_z4 before x
+breaks_rule Z5 p before x = breaks_z5 before x
+breaks_rule Z6 p before x = breaks_z6 before x
+breaks_rule Z7 p before x = breaks_z7 x
+breaks_rule N1 p before x = breaks_n1 p x
+breaks_rule N2 p before x = breaks_n2 p before x
+breaks_rule N3 p before x = breaks_n3 p before x
+breaks_rule W1 p before x = breaks_w1 p x
+breaks_rule W2 p before x = breaks_w2 p x
+breaks_rule W3 p before x = breaks_w3 p x
+breaks_rule W4 p before x = breaks_w4 p x
+breaks_rule W5 p before x = breaks_w5 p x
+breaks_rule W6 p before x = breaks_w6 p x
+breaks_rule F1 p before x = breaks_f1 x
+breaks_rule F2 p before x = breaks_f2 p before x
+breaks_rule F3 p before x = breaks_f3 p before x
+breaks_rule F4 p before x = breaks_f4 p x
+breaks_rule F5 p before x = breaks_f5 p x
+breaks_rule L1 p before x = breaks_l1 p before x
+breaks_rule L2 p before x = breaks_l2 before x
+breaks_rule L3 p before x = breaks_l3 p before x
+breaks_rule L4 p before x = breaks_l4 p before x
+breaks_rule L5 p before x = breaks_l5 p before x
+breaks_rule L6 p before x = breaks_l6 p before x
+breaks_rule L7 p before x = breaks_l7 p before x
+breaks_rule L8 p before x = breaks_l8 p before x
+breaks_rule S1 p before x = breaks_s1 p before x
+breaks_rule S2 p before x = breaks_s2 p before x
+breaks_rule S3 p before x = breaks_s3 before x
+breaks_rule S4 p before x = breaks_s4 p before x
+breaks_rule S5 p before x = breaks_s5 p before x
+breaks_rule I1 p before x = false
+breaks_rule I2 p before x = false
+breaks_rule I3 p before x = false
+breaks_rule I4 p before x = false
+breaks_rule I5 p before x = false
+breaks_rule I6 p before x = false
+breaks_rule Y1 p before x = false
+breaks_rule Y2 p before x = false
+breaks_rule Y3 p before x = false
+breaks_rule V1 p before x = false
+breaks_rule V2 p before x = false
+breaks_rule V3 p before x = false
+breaks_rule V4 p before x = false
+breaks_rule V5 p before x = false
+breaks_rule B1 p before x = false
+breaks_rule B2 p before x = false
+breaks_rule B3 p before x = false
+breaks_rule B4 p before x = false
+breaks_rule B5 p before x = false
+breaks_rule A1 p before x = false
+breaks_rule A2 p before x = false
+breaks_rule A3 p before x = false
+breaks_rule A4 p before x = false
+breaks_rule A5 p before x = false
+breaks_rule A6 p before x = false
+breaks_rule A7 p before x = false
+breaks_rule A8 p before x = false
 
 -- the rules of the tree in their order
 abbrev pub limits : List Rule
@@ -94,7 +94,7 @@ pub record Refused : Type 0 where
 -- the line of the first of these places that breaks the rule
 abbrev pub broken_line : Rule → Pipe → List Place → List Place → Option ℕ
 broken_line r p before [] = None
-broken_line r p before (x ∷ xs) = if breaks r p before x then Some (line_of x) else broken_line r p (before ++ x ∷ []) xs
+broken_line r p before (x ∷ xs) = if breaks_rule r p before x then Some (line_of x) else broken_line r p (before ++ x ∷ []) xs
 
 abbrev pub refused_at : Rule → Option ℕ → Option Refused → Option Refused
 refused_at r (Some line) later = Some (record { rule = r; line = line })
@@ -112,7 +112,7 @@ refusal source p =
 
 -- no place breaks any rule
 abbrev pub KeepsRules : Pipe → Type 0
-KeepsRules p = (r : Rule) (before : List Place) (x : Place) (later : List Place) → places p ≡ before ++ x ∷ later → breaks r p before x ≡ false
+KeepsRules p = (r : Rule) (before : List Place) (x : Place) (later : List Place) → places p ≡ before ++ x ∷ later → breaks_rule r p before x ≡ false
 
 -- ONE STAGE
 

@@ -3,8 +3,8 @@ use Rattle.std.specs.Prelude.{ℕ, Bool, true, false, not, ◌&&◌, ◌==◌, n
 use Rattle.std.specs.List.{list_any}
 use Rattle.pdl_semantics.specs.Tree.{W, SpecCall, Reserve, Release, Verify, SpecCheck, SpecBarrier, Pipe}
 use Rattle.pdl_rules.specs.Places.{Place, Statement, Guard, on_path, paths, on_some_path, places}
-use Rattle.pdl_rules.specs.Parts.{passes}
-use Rattle.pdl_rules.specs.Locks.{held, is_held_for}
+use Rattle.pdl_rules.specs.Parts.{is_some_and}
+use Rattle.pdl_rules.specs.Locks.{hold_after, is_held_for}
 use Rattle.pdl_rules.specs.Stages.{stage_in, stage_of, first_stage, stages_that, is_elsewhere}
 
 abbrev pub is_verify : Place → Bool
@@ -16,15 +16,15 @@ abbrev pub verify_stage : Pipe → Option ℕ
 verify_stage p = first_stage is_verify [] (places p)
 
 abbrev pub is_before_verify : Pipe → ℕ → Bool
-is_before_verify p s = passes (λ v. nat_lt s v) (verify_stage p)
+is_before_verify p s = is_some_and (λ v. nat_lt s v) (verify_stage p)
 
 -- S2: on some path a guess that isn't verified exactly once, or not in a later stage
-abbrev pub verifies : List ℕ → Place → Bool
-verifies guess (Statement (Verify _ g _) _) = bytes_eq g.name guess
-verifies guess _ = false
+abbrev pub is_verify_of : List ℕ → Place → Bool
+is_verify_of guess (Statement (Verify _ g _) _) = bytes_eq g.name guess
+is_verify_of guess _ = false
 
 abbrev pub verify_stages : Pipe → List Guard → List ℕ → List ℕ
-verify_stages p path guess = stages_that (λ y. on_path path y && verifies guess y) [] (places p)
+verify_stages p path guess = stages_that (λ y. on_path path y && is_verify_of guess y) [] (places p)
 
 abbrev pub is_once_after : ℕ → List ℕ → Bool
 is_once_after s (v ∷ []) = nat_lt s v
@@ -47,7 +47,7 @@ is_barrier (Statement (SpecBarrier _) _) = true
 is_barrier _ = false
 
 abbrev pub releases_unsure : List Place → Place → Bool
-releases_unsure earlier (Statement (Release _ at) _) = is_held_for W (held at earlier) && not (list_any is_barrier earlier)
+releases_unsure earlier (Statement (Release _ at) _) = is_held_for W (hold_after at earlier) && not (list_any is_barrier earlier)
 releases_unsure earlier _ = false
 
 abbrev pub breaks_s4 : Pipe → List Place → Place → Bool

@@ -2,14 +2,14 @@
 use Rattle.std.specs.Prelude.{ℕ, suc, Bool, true, false, not, ◌&&◌, ◌==◌, nat_lt, List, [], ◌∷◌, ◌++◌, count_by, if◌then◌else◌, bytes_eq, Option, Some, None}
 use Rattle.std.specs.List.{list_any}
 use Rattle.pdl_semantics.specs.Tree.{CombRead, DelayedRead, Reserve, Release, Pipe}
-use Rattle.pdl_rules.specs.Places.{Place, Statement, Guard, Branch, same_guard, same_truth, on_path, paths, places, behind}
-use Rattle.pdl_rules.specs.Parts.{passes}
+use Rattle.pdl_rules.specs.Places.{Place, Statement, Guard, Branch, same_guard, same_truth, on_path, paths, places, places_after}
+use Rattle.pdl_rules.specs.Parts.{is_some_and}
 use Rattle.pdl_rules.specs.Limits.{is_separator}
 use Rattle.pdl_rules.specs.Locks.{is_locked}
 
 -- how many stages have begun after stage 0 by these places
-abbrev pub stage_behind : List Place → ℕ
-stage_behind before = count_by is_separator before
+abbrev pub stage_after : List Place → ℕ
+stage_after before = count_by is_separator before
 
 -- the branches that a place stands in
 abbrev pub branches_of : Place → List Branch
@@ -52,7 +52,7 @@ stages_that test before (x ∷ xs) =
 
 -- whether a place in stage s has one before it that passes the test, the first of them in another stage
 abbrev pub is_elsewhere : (Place → Bool) → List Place → ℕ → Bool
-is_elsewhere test before s = passes (λ k. not (k == s)) (first_stage test [] before)
+is_elsewhere test before s = is_some_and (λ k. not (k == s)) (first_stage test [] before)
 
 -- whether a place reserves the memory, and whether it releases it
 abbrev pub reserves_memory : List ℕ → Place → Bool
@@ -75,14 +75,14 @@ next_on path begun [] = 0
 next_on path begun (x ∷ xs) =
     if is_separator x then (if on_path path x then suc begun else next_on path (suc begun) xs) else next_on path begun xs
 
--- L8: on some path a read of a locked memory that is bound behind the stage of its releases; a comb read is bound in its stage, a delayed one in the next on the path
+-- L8: on some path a read of a locked memory that is bound after the stage of its releases; a comb read is bound in its stage, a delayed one in the next on the path
 abbrev pub is_bound_late : Pipe → List ℕ → ℕ → Bool
-is_bound_late p m s = is_locked p.mems m && passes (λ c. nat_lt c s) (first_stage (releases_memory m) [] (places p))
+is_bound_late p m s = is_locked p.mems m && is_some_and (λ c. nat_lt c s) (first_stage (releases_memory m) [] (places p))
 
 abbrev pub bound_late : Pipe → List Guard → List Place → Place → Bool
 bound_late p path before (Statement (CombRead _ _ at) bs) = is_bound_late p at.mem.name (stage_in before bs)
 bound_late p path before (Statement (DelayedRead _ _ at) bs) =
-    is_bound_late p at.mem.name (next_on path (stage_behind before) (behind p before))
+    is_bound_late p at.mem.name (next_on path (stage_after before) (places_after p before))
 bound_late p path before _ = false
 
 abbrev pub breaks_l8 : Pipe → List Place → Place → Bool

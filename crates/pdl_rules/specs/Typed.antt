@@ -49,14 +49,6 @@ AreStarts [] [] = ⊤
 AreStarts (a ∷ as') (l ∷ ls) = (l.width ≡ a.width.value) × Holds l.value l.width × AreStarts as' ls
 AreStarts _ _ = ⊥
 
--- STATEMENTS
-
--- whether there is a call
-abbrev pub calls : Stmts → Bool
-calls Nil = false
-calls (Cons (Call _ args) ss) = true
-calls (Cons _ ss) = calls ss
-
 -- THE WHOLE
 
 -- no memory has the name of one before

@@ -33,7 +33,7 @@ fn constant(width: u64) -> Expr {
     })
 }
 
-// As many `---`, one in each line, and behind them as many bindings of a literal of so many bits.
+// As many `---`, one in each line, and after them as many bindings of a literal of so many bits.
 fn body(alloc: Global, separators: u32, bindings: u32, width: u64) -> Result<Seq<Stmt>, Fail> {
     let mut body = Seq::new(alloc);
     for line in 0..separators {

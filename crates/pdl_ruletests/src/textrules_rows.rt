@@ -3,7 +3,7 @@ ghost use Rattle.pdl_rules.specs.Limits.{is_separator as spec_is_separator};
 
 use pdl_kit::{Name, NoMemory, Rule, Seq};
 use pdl_paths::{Guards, Place, is_separator, places};
-use pdl_textrules::{Broken, TextRule, line_broken, lowest_of, noted};
+use pdl_textrules::{Broken, TextRule, line_broken, lowest_of, noted_line};
 use pdl_tree::{Ident, Pipe, Span, Start, Stmt};
 use std::alloc::Global;
 use std::test::Fail;
@@ -85,9 +85,9 @@ fn first_places(rt: HostRuntime) -> Result<(), Fail> {
     let alloc = rt.alloc();
     assert_eq!(rt; line(alloc, 0)?, None);
     assert_eq!(rt; line(alloc, 2)?, Some(3));
-    assert_eq!(rt; noted(Some(3), true, 4), Some(3));
-    assert_eq!(rt; noted(None, false, 4), None);
-    assert_eq!(rt; noted(None, true, 4), Some(4));
+    assert_eq!(rt; noted_line(Some(3), true, 4), Some(3));
+    assert_eq!(rt; noted_line(None, false, 4), None);
+    assert_eq!(rt; noted_line(None, true, 4), Some(4));
     let later = Broken {
         rule: Rule::N3,
         line: 2,

@@ -1,7 +1,7 @@
 -- The only one of some numbers.
 use Rattle.std.proofs.Common.{◌≡◌, refl, sym, ap, ap₂, ◌∙◌, ℕ, zero, suc, ◌+◌, ◌≤◌, Bool, true, false, nat_lt, List, [], ◌∷◌, ◌++◌, take, drop, length, slice_get, arith, if◌then◌else◌, append-nil, Option, Some, None}
 use Rattle.pdl_rules.specs.Places.{Place}
-use Rattle.pdl_rules.specs.Parts.{passes}
+use Rattle.pdl_rules.specs.Parts.{is_some_and}
 use Rattle.pdl_rules.specs.Stages.{stages_that, stage_of}
 use Rattle.pdl_rules.specs.Speculation.{is_once_after}
 use Rattle.pdl_textstages.proofs.Nth.{split, taken}
@@ -16,7 +16,7 @@ pub only_one : (o : Option ℕ) → o ≡ only (as_list o)
 only_one None = refl
 only_one (Some n) = refl
 
-pub once_after : (s : ℕ) (ns : List ℕ) → passes (λ v. nat_lt s v) (only ns) ≡ is_once_after s ns
+pub once_after : (s : ℕ) (ns : List ℕ) → is_some_and (λ v. nat_lt s v) (only ns) ≡ is_once_after s ns
 once_after s [] = refl
 once_after s (n ∷ []) = refl
 once_after s (n ∷ m ∷ ms) = refl

@@ -7,17 +7,17 @@ use Rattle.pdl_textstages.proofs.Found.{that_more}
 use Rattle.pdl_spec.specs.Sure.{is_before}
 
 -- a check on the path
-abbrev pub checks : List Guard → Place → Bool
-checks path y = on_path path y && is_check y
+abbrev pub is_check_on : List Guard → Place → Bool
+is_check_on path y = on_path path y && is_check y
 
 -- on this path, in a pipe that verifies in this stage
 abbrev pub breaks_checked : Option ℕ → List Guard → List Place → Place → Bool
 breaks_checked verified path before x = (needs_check x && is_before verified (stage_of before x)) && not (is_checked path before (stage_of before x))
 
 -- a place that isn't on the path is no check there
-pub unchecked : (path : List Guard) (before : List Place) (x : Place) (stages : List ℕ) → on_path path x ≡ false → stages ≡ stages_that (checks path) [] before
-    → stages ≡ stages_that (checks path) [] (before ++ x ∷ [])
+pub unchecked : (path : List Guard) (before : List Place) (x : Place) (stages : List ℕ) → on_path path x ≡ false → stages ≡ stages_that (is_check_on path) [] before
+    → stages ≡ stages_that (is_check_on path) [] (before ++ x ∷ [])
 unchecked path before x stages off h =
-    h ∙ sym (that_more (checks path) [] before x
-    ∙ ap (λ b. stages_that (checks path) [] before ++ (if b && is_check x then stage_of before x ∷ [] else [])) off
-    ∙ append-nil (stages_that (checks path) [] before))
+    h ∙ sym (that_more (is_check_on path) [] before x
+    ∙ ap (λ b. stages_that (is_check_on path) [] before ++ (if b && is_check x then stage_of before x ∷ [] else [])) off
+    ∙ append-nil (stages_that (is_check_on path) [] before))

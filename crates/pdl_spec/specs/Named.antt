@@ -11,8 +11,8 @@ abbrev pub Lines : Type 0
 Lines = Both (Both (Option ℕ) (Option ℕ)) (Both (Option ℕ) (Option ℕ))
 
 -- each by its name
-abbrev pub named : Lines → SpecLines
-named lines = record {
+abbrev pub named_lines : Lines → SpecLines
+named_lines lines = record {
   one_call = lines.first.first;
   verified_once = lines.first.second;
   released_sure = lines.second.first;

@@ -2,7 +2,7 @@
 use Rattle.std.proofs.Common.{◌≡◌, ◌∙◌, sym, ap, ℕ, Bool, ◌&&◌, false, nat_lt, List, [], ◌∷◌, ◌++◌, map, filter, Option}
 use Rattle.std.specs.List.{list_any}
 use Rattle.pdl_rules.specs.Places.{Place, Guard, on_path}
-use Rattle.pdl_rules.specs.Parts.{passes}
+use Rattle.pdl_rules.specs.Parts.{is_some_and}
 use Rattle.pdl_rules.specs.Stages.{stage_of}
 use Rattle.pdl_rules.specs.Speculation.{is_barrier, releases_unsure}
 use Rattle.pdl_paths.specs.declared.place.Place as r_place
@@ -17,7 +17,7 @@ use Rattle.pdl_locks.specs.Passed.{passed_by}
 
 -- whether a stage is before the one that verifies
 abbrev pub is_before : Option ℕ → ℕ → Bool
-is_before verified s = passes (λ v. nat_lt s v) verified
+is_before verified s = is_some_and (λ v. nat_lt s v) verified
 
 -- on this path, in a pipe that verifies in this stage
 abbrev pub breaks_sure : Option ℕ → List Guard → List Place → Place → Bool

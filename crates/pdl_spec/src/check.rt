@@ -79,7 +79,8 @@ pub fn plan_spec(
     requires verified { verified ≡ verify_stage (pipe_view pipe.now) }
     requires lines { AreLines (pipe_view pipe.now) lines.now }
     ensures { MatchResult result
-        (λ plan. (first_broken spec_rules (pipe_view pipe.now) ≡ None) × (plan ≡ verify_stage (pipe_view pipe.now)))
+        (λ plan. (first_broken spec_rules (pipe_view pipe.now) ≡ None)
+        × (plan ≡ verify_stage (pipe_view pipe.now)))
         (Tells spec_rules (pipe_view pipe.now)) }
 {
     refuse(Rule::S1, lines.one_call)?;

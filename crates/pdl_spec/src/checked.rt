@@ -5,7 +5,7 @@ ghost use Rattle.pdl_rules.specs.Stages.{stages_that};
 ghost use Rattle.pdl_rules.specs.Speculation as spec;
 ghost use Rattle.pdl_paths.specs.Actions.{place_view};
 ghost use Rattle.pdl_textstages.specs.Stages.{stages_in};
-ghost use Rattle.pdl_spec.specs.Checked.{breaks_checked, checks, unchecked};
+ghost use Rattle.pdl_spec.specs.Checked.{breaks_checked, is_check_on, unchecked};
 
 use crate::sure::is_before;
 use pdl_kit::NoMemory;
@@ -14,7 +14,7 @@ use pdl_paths::{Action, Path, Place};
 use pdl_textstages::stage_at;
 use std::alloc::Global;
 
-/// A reserve or a guess before the stage that verifies guesses stands behind a `spec_check` or `spec_barrier` of its stage.
+/// A reserve or a guess before the stage that verifies guesses stands after a `spec_check` or `spec_barrier` of its stage.
 #[derive(Clone, Copy)]
 pub struct CheckedFirst<'a> {
     /// For each place of the pipe its stage.
@@ -31,7 +31,8 @@ impl PathRule for CheckedFirst<'_> {
 
     ghost breaks_on = { λ rule path before x. breaks_checked rule.verified path before x };
 
-    ghost stands = { λ rule path before state. state.items ≡ stages_that (checks path) [] before };
+    ghost stands = { λ rule path before state.
+        state.items ≡ stages_that (is_check_on path) [] before };
 
     fn start(&self, alloc: Global, _path: Path) -> Result<Vec<usize>, NoMemory> {
         Ok(Vec::new(alloc))

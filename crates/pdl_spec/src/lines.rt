@@ -6,7 +6,7 @@ ghost use Rattle.pdl_rules.specs.Speculation.{verify_stage};
 ghost use Rattle.pdl_paths.specs.Actions.{place_view};
 ghost use Rattle.pdl_paths.specs.Masks.{AreMasked};
 ghost use Rattle.pdl_locks.specs.Facts.{AreFacts};
-ghost use Rattle.pdl_spec.specs.Named.{AreLines, Lines, named};
+ghost use Rattle.pdl_spec.specs.Named.{AreLines, Lines, named_lines};
 
 use crate::checked::CheckedFirst;
 use crate::sure::ReleasedSure;
@@ -40,7 +40,7 @@ pub struct SpecLines {
 impl SpecLines {
     /// The lines of the rules, as one walk gives them.
     pub fn of(lines: <SpecRules<'_, '_> as PathRules>::Lines) -> SpecLines
-        ensures { result ≡ named lines }
+        ensures { result ≡ named_lines lines }
     {
         let Both { first, second } = lines;
         SpecLines {
@@ -71,7 +71,7 @@ pub fn spec_path_rules<'a, 'p>(
     ensures lines { (lines : Lines) →
         ⟦<SpecRules<'a, 'p> as PathRules>⟧.break_at result guards.now
         (map place_view places.now) lines
-        → AreLines (pipe_view pipe.now) (named lines) }
+        → AreLines (pipe_view pipe.now) (named_lines lines) }
 {
     let stages = facts.stages.as_slice();
     let verified_once = VerifiedOnce {

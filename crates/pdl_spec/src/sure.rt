@@ -16,7 +16,7 @@ use pdl_textstages::stage_at;
 use pdl_tree::Kind;
 use std::alloc::Global;
 
-/// A reservation to write is released in the stage that verifies guesses or later, or behind a `spec_barrier`.
+/// A reservation to write is released in the stage that verifies guesses or later, or after a `spec_barrier`.
 #[derive(Clone, Copy)]
 pub struct ReleasedSure<'a, 'p> {
     /// The places of the pipe.

@@ -2,7 +2,7 @@
 ghost use Rattle.std.specs.Prelude.{◌≡◌, ◌≤◌, ◌&&◌, [], List, true, map, length, nat_lt, IfOk};
 ghost use Rattle.pdl_tree.specs.View.{pipe_view};
 ghost use Rattle.pdl_rules.specs.Places.{Guard as SpecGuard, on_path};
-ghost use Rattle.pdl_rules.specs.Parts.{passes};
+ghost use Rattle.pdl_rules.specs.Parts.{is_some_and};
 ghost use Rattle.pdl_rules.specs.Stages.{stages_that};
 ghost use Rattle.pdl_rules.specs.Speculation as spec;
 ghost use Rattle.pdl_paths.specs.Actions.{place_view};
@@ -52,7 +52,7 @@ impl PathRule for VerifiedOnce<'_, '_> {
         match place.action {
             Action::SpecCall(guess, _) => {
                 let verify = only_verify(self.places, self.stages, *state, &guess.name);
-                !is_behind(verify, stage_at(self.stages, k))
+                !is_after(verify, stage_at(self.stages, k))
             }
             Action::Parameter(_) | Action::Memory(_) | Action::Separator => false,
             Action::CombRead(_, _) | Action::Bind(_, _) | Action::DelayedRead(_, _) => false,
@@ -70,8 +70,8 @@ impl PathRule for VerifiedOnce<'_, '_> {
     ghost skips = { λ rule path before x state off stands. stands };
 }
 
-fn is_behind(verify: Option<usize>, stage: usize) -> bool
-    ensures { result ≡ passes (λ v. nat_lt stage v) verify }
+fn is_after(verify: Option<usize>, stage: usize) -> bool
+    ensures { result ≡ is_some_and (λ v. nat_lt stage v) verify }
 {
     match verify {
         Some(verify) => stage < verify,
@@ -83,7 +83,7 @@ fn is_behind(verify: Option<usize>, stage: usize) -> bool
 fn only_verify(places: &[Place<'_>], stages: &[usize], path: Path, guess: &Name) -> Option<usize>
     ensures { (gs on : List SpecGuard) → HavePaths gs places.now → IsPath gs on path.bits →
         stages.now ≡ stages_in (map place_view places.now) →
-        result ≡ only (stages_that (λ y. on_path on y && spec.verifies guess.now y) []
+        result ≡ only (stages_that (λ y. on_path on y && spec.is_verify_of guess.now y) []
         (map place_view places.now)) }
 {
     let mut found = None;
@@ -103,13 +103,13 @@ fn is_verify_on(place: &Place<'_>, path: Path, guess: &Name) -> bool
     ensures { (gs on : List SpecGuard) → IsMasked gs place.now → are_distinct gs ≡ true →
         length gs ≤ 10 → IsPath gs on path.bits →
         result ≡ (on_path on (place_view place.now)
-        && spec.verifies guess.now (place_view place.now)) }
+        && spec.is_verify_of guess.now (place_view place.now)) }
 {
-    place.is_on(path) && verifies(place, guess)
+    place.is_on(path) && is_verify_of(place, guess)
 }
 
-fn verifies(place: &Place<'_>, guess: &Name) -> bool
-    ensures { result ≡ spec.verifies guess.now (place_view place.now) }
+fn is_verify_of(place: &Place<'_>, guess: &Name) -> bool
+    ensures { result ≡ spec.is_verify_of guess.now (place_view place.now) }
 {
     match place.action {
         Action::Verify(other, _) => other.name == *guess,

@@ -7,6 +7,6 @@ pub mod lowest;
 pub mod text_rule;
 
 pub use broken::{Broken, lowest_of};
-pub use first_line::noted;
+pub use first_line::noted_line;
 pub use lowest::line_broken;
 pub use text_rule::TextRule;

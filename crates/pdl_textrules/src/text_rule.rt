@@ -19,10 +19,10 @@ pub trait TextRule {
     /// The rule fits a pipe with these places.
     ghost fits: { Self → List places_of_pipe.Place → Type 0 };
 
-    /// Whether a place breaks the rule, behind these places of the text.
+    /// Whether a place breaks the rule, after these places of the text.
     ghost breaks_on: { Self → List rules.Place → rules.Place → Bool };
 
-    /// The state is that behind these places of the text.
+    /// The state is that after these places of the text.
     ghost stands: { Self → List rules.Place → Self.State → Type 0 };
 
     /// The state before the first place.

@@ -1,9 +1,9 @@
 -- Stages of places, and the first of a kind.
 use Rattle.std.proofs.Common.{◌≡◌, refl, sym, ap, ap₂, ◌∙◌, subst, ℕ, suc, ◌+◌, ◌<◌, Bool, true, false, not, ◌&&◌, ◌==◌, List, [], ◌∷◌, ◌++◌, take, drop, length, get_or, slice_get, if◌then◌else◌, Some, arith, append_assoc, append-nil, eq-eqb}
 use Rattle.pdl_rules.specs.Places.{Place, Branch, Guard, on_path}
-use Rattle.pdl_rules.specs.Parts.{passes}
+use Rattle.pdl_rules.specs.Parts.{is_some_and}
 use Rattle.pdl_rules.specs.Limits.{is_separator}
-use Rattle.pdl_rules.specs.Stages.{branches_of, same_branch, are_outer, stage_from, stage_behind, stage_of, next_on, first_stage, stages_that, is_elsewhere}
+use Rattle.pdl_rules.specs.Stages.{branches_of, same_branch, are_outer, stage_from, stage_after, stage_of, next_on, first_stage, stages_that, is_elsewhere}
 use Rattle.pdl_rules.proofs.Counts.{count_cons}
 use Rattle.pdl_textstages.specs.Stages.{each, stages_in}
 use Rattle.pdl_textstages.proofs.Nth.{dropped, taken, split}
@@ -35,8 +35,8 @@ stage_step begun found next last bs x rest false o e i j k =
     ap₂ (λ m n. stage_from m n bs rest) j k
     ∙ ap (λ (a : Bool). if a then stage_from (suc begun) (if are_outer (branches_of x) bs then suc begun else found) bs rest else stage_from begun found bs rest) (sym e)
 
-pub count_step : (x : Place) (rest : List Place) (s : Bool) → is_separator x ≡ s → stage_behind (x ∷ rest) ≡ (if s then 1 else 0) + stage_behind rest
-count_step x rest s e = let more = count_cons is_separator x rest in more ∙ ap (λ (b : Bool). (if b then 1 else 0) + stage_behind rest) e
+pub count_step : (x : Place) (rest : List Place) (s : Bool) → is_separator x ≡ s → stage_after (x ∷ rest) ≡ (if s then 1 else 0) + stage_after rest
+count_step x rest s e = let more = count_cons is_separator x rest in more ∙ ap (λ (b : Bool). (if b then 1 else 0) + stage_after rest) e
 
 -- THE NEXT SEPARATOR ON A PATH
 
@@ -53,7 +53,7 @@ next_other path begun x rest e = ap (λ (a : Bool). if a then (if on_path path x
 
 -- THE STAGES OF PLACES
 
--- those of some places and of others behind them
+-- those of some places and of others after them
 pub that_append : (test : Place → Bool) (before xs ys : List Place) → stages_that test before (xs ++ ys) ≡ stages_that test before xs ++ stages_that test (before ++ xs) ys
 that_append test before [] ys = ap (λ b. stages_that test b ys) (sym (append-nil before))
 that_append test before (x ∷ xs) ys =
@@ -103,25 +103,25 @@ first_later test xs k x e is_none =
 
 -- of all places and of those before one of the kind
 elsewhere_from : (test : Place → Bool) (front before later : List Place) (x : Place) → test x ≡ true
-    → passes (λ s. not (s == stage_of (front ++ before) x)) (first_stage test front (before ++ x ∷ later)) ≡ passes (λ s. not (s == stage_of (front ++ before) x)) (first_stage test front before)
+    → is_some_and (λ s. not (s == stage_of (front ++ before) x)) (first_stage test front (before ++ x ∷ later)) ≡ is_some_and (λ s. not (s == stage_of (front ++ before) x)) (first_stage test front before)
 elsewhere_from test front [] later x e =
-    ap (λ b. passes (λ s. not (s == stage_of (front ++ []) x)) (if b then Some (stage_of front x) else first_stage test (front ++ x ∷ []) later)) e
+    ap (λ b. is_some_and (λ s. not (s == stage_of (front ++ []) x)) (if b then Some (stage_of front x) else first_stage test (front ++ x ∷ []) later)) e
     ∙ ap not (eq-eqb (stage_of front x) (stage_of (front ++ []) x) (ap (λ b. stage_of b x) (sym (append-nil front))))
 elsewhere_from test front (y ∷ before) later x e =
     let moved : (front ++ y ∷ []) ++ before ≡ front ++ y ∷ before = append_assoc front (y ∷ []) before in
     let rest = elsewhere_from test (front ++ y ∷ []) before later x e in
-    at (test y) (subst (λ b. passes (λ s. not (s == stage_of b x)) (first_stage test (front ++ y ∷ []) (before ++ x ∷ later))
-    ≡ passes (λ s. not (s == stage_of b x)) (first_stage test (front ++ y ∷ []) before)) moved rest)
+    at (test y) (subst (λ b. is_some_and (λ s. not (s == stage_of b x)) (first_stage test (front ++ y ∷ []) (before ++ x ∷ later))
+    ≡ is_some_and (λ s. not (s == stage_of b x)) (first_stage test (front ++ y ∷ []) before)) moved rest)
   where
-    at : (b : Bool) → passes (λ s. not (s == stage_of (front ++ y ∷ before) x)) (first_stage test (front ++ y ∷ []) (before ++ x ∷ later))
-        ≡ passes (λ s. not (s == stage_of (front ++ y ∷ before) x)) (first_stage test (front ++ y ∷ []) before)
-        → passes (λ s. not (s == stage_of (front ++ y ∷ before) x)) (if b then Some (stage_of front y) else first_stage test (front ++ y ∷ []) (before ++ x ∷ later))
-        ≡ passes (λ s. not (s == stage_of (front ++ y ∷ before) x)) (if b then Some (stage_of front y) else first_stage test (front ++ y ∷ []) before)
+    at : (b : Bool) → is_some_and (λ s. not (s == stage_of (front ++ y ∷ before) x)) (first_stage test (front ++ y ∷ []) (before ++ x ∷ later))
+        ≡ is_some_and (λ s. not (s == stage_of (front ++ y ∷ before) x)) (first_stage test (front ++ y ∷ []) before)
+        → is_some_and (λ s. not (s == stage_of (front ++ y ∷ before) x)) (if b then Some (stage_of front y) else first_stage test (front ++ y ∷ []) (before ++ x ∷ later))
+        ≡ is_some_and (λ s. not (s == stage_of (front ++ y ∷ before) x)) (if b then Some (stage_of front y) else first_stage test (front ++ y ∷ []) before)
     at true h = refl
     at false h = h
 
 pub elsewhere_before : (test : Place → Bool) (xs : List Place) (k : ℕ) (x : Place) → slice_get xs k ≡ Some x → test x ≡ true
-    → passes (λ s. not (s == stage_of (take k xs) x)) (first_stage test [] xs) ≡ is_elsewhere test (take k xs) (stage_of (take k xs) x)
+    → is_some_and (λ s. not (s == stage_of (take k xs) x)) (first_stage test [] xs) ≡ is_elsewhere test (take k xs) (stage_of (take k xs) x)
 elsewhere_before test xs k x e is_one =
-    ap (λ ys. passes (λ s. not (s == stage_of (take k xs) x)) (first_stage test [] ys)) (split xs k x e)
+    ap (λ ys. is_some_and (λ s. not (s == stage_of (take k xs) x)) (first_stage test [] ys)) (split xs k x e)
     ∙ elsewhere_from test [] (take k xs) (drop (k + 1) xs) x is_one

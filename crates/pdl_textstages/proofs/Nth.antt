@@ -1,4 +1,4 @@
--- The k-th of some values, as others see it, and what stands before and behind it.
+-- The k-th of some values, as others see it, and what stands before and after it.
 use Rattle.std.proofs.Common.{◌≡◌, refl, sym, ap, ◌∙◌, ℕ, zero, suc, ◌+◌, ◌<◌, ◌≤◌, List, [], ◌∷◌, ◌++◌, map, take, drop, length, get_or, slice_get, Some, arith}
 use Rattle.std.proofs.lemmas.Option.{same_Some}
 

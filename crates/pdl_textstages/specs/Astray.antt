@@ -8,7 +8,7 @@ use Rattle.pdl_textstages.specs.declared.astray.Kinds.{Kinds}
 use Rattle.pdl_textstages.specs.declared.astray.Kinds.TheVariants.{Locks, Verifies}
 use Rattle.pdl_textstages.specs.Stages.{is_sought}
 
--- whether a place breaks the rule on these statements, behind these places
+-- whether a place breaks the rule on these statements, after these places
 abbrev pub is_astray : Kinds → List Place → Place → Bool
 is_astray Locks before x = breaks_l2 before x
 is_astray Verifies before x = breaks_s3 before x

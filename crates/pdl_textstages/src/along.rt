@@ -28,11 +28,11 @@ pub fn among(all: Path, path: Path) -> Path
     }
 }
 
-/// The stage that the next separator on a path begins behind the k-th place, 0 where there is none.
+/// The stage that the next separator on a path begins after the k-th place, 0 where there is none.
 pub fn next_on(places: &[Place<'_>], path: Path, k: usize) -> usize
     ensures { (gs on : List SpecGuard) → HavePaths gs places.now → IsPath gs on path.bits →
         k < length places.now → result
-        ≡ spec.next_on on (spec.stage_behind (take k (map place_view places.now)))
+        ≡ spec.next_on on (spec.stage_after (take k (map place_view places.now)))
         (drop (suc k) (map place_view places.now)) }
 {
     if k >= places.len() {
@@ -53,7 +53,7 @@ pub fn next_on(places: &[Place<'_>], path: Path, k: usize) -> usize
 
 /// How many stages have begun after the first by these places.
 pub fn begun_before(before: &[Place<'_>]) -> usize
-    ensures is { result ≡ spec.stage_behind (map place_view before.now) }
+    ensures is { result ≡ spec.stage_after (map place_view before.now) }
     ensures few { result ≤ length before.now }
 {
     let mut begun = 0;

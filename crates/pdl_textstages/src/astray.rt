@@ -1,6 +1,6 @@
 // Statements that stand in another stage than the first of their kind: rules L2 and S3.
 ghost use Rattle.std.specs.Prelude.{◌≡◌, ◌<◌, ◌==◌, [], map, length, not, MatchOption};
-ghost use Rattle.pdl_rules.specs.Parts.{passes};
+ghost use Rattle.pdl_rules.specs.Parts.{is_some_and};
 ghost use Rattle.pdl_paths.specs.Actions.{place_view};
 ghost use Rattle.pdl_pathrules.specs.Lowest.{breaks_at, line_where};
 ghost use Rattle.pdl_textstages.specs.Stages.{stages_in};
@@ -43,7 +43,7 @@ fn is_astray(places: &[Place<'_>], stages: &[usize], kinds: Kinds, k: usize) -> 
 }
 
 fn is_elsewhere(first: Option<usize>, stage: usize) -> bool
-    ensures { result ≡ passes (λ s. not (s == stage)) first }
+    ensures { result ≡ is_some_and (λ s. not (s == stage)) first }
 {
     match first {
         Some(first) => first != stage,

@@ -35,13 +35,13 @@ pub fn is_of(place: &Place<'_>, sought: Sought<'_>) -> bool
     ensures { result ≡ is_sought sought.entry (place_view place.now) }
 {
     match sought {
-        Sought::Reserve(name) => reserves(place, name),
-        Sought::Release(name) => releases(place, name),
-        Sought::Verify => verifies(place),
+        Sought::Reserve(name) => is_reserve_of(place, name),
+        Sought::Release(name) => is_release_of(place, name),
+        Sought::Verify => is_verify(place),
     }
 }
 
-fn reserves(place: &Place<'_>, name: &Name) -> bool
+fn is_reserve_of(place: &Place<'_>, name: &Name) -> bool
     ensures { result ≡ spec.reserves_memory name.now (place_view place.now) }
 {
     match place.action {
@@ -54,7 +54,7 @@ fn reserves(place: &Place<'_>, name: &Name) -> bool
     }
 }
 
-fn releases(place: &Place<'_>, name: &Name) -> bool
+fn is_release_of(place: &Place<'_>, name: &Name) -> bool
     ensures { result ≡ spec.releases_memory name.now (place_view place.now) }
 {
     match place.action {
@@ -68,7 +68,7 @@ fn releases(place: &Place<'_>, name: &Name) -> bool
     }
 }
 
-fn verifies(place: &Place<'_>) -> bool
+fn is_verify(place: &Place<'_>) -> bool
     ensures { result ≡ speculation.is_verify (place_view place.now) }
 {
     match place.action {

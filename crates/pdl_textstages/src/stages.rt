@@ -21,7 +21,7 @@ pub fn stages_of(alloc: Global, places: &[Place<'_>]) -> Result<Vec<usize>, NoMe
     Ok(stages)
 }
 
-/// The stage, counted from 0, of what stands in these branches behind these places.
+/// The stage, counted from 0, of what stands in these branches after these places.
 pub fn stage_in(before: &[Place<'_>], branches: &[Branch<'_>]) -> usize
     ensures { result ≡ spec.stage_in (map place_view before.now) (map branch_view branches.now) }
 {

@@ -10,16 +10,16 @@ use Rattle.pdl_semantics.specs.Tree.{Ident, Expr, Span, Separator, CombRead, Bin
 use Rattle.pdl_semantics.specs.Flatten.{Var, var_width, mem_width, width_of}
 use Rattle.pdl_rules.specs.Places.{Place, Branch, Parameter, Memory, Statement, End, StartClause, statements, places, line_of}
 use Rattle.pdl_rules.specs.Limits.{breaks_z7, is_width, is_depth}
-use Rattle.pdl_rules.specs.Names.{OfVariable, defines, variable_at, name_at, is_parameter, is_too_early, breaks_n2}
+use Rattle.pdl_rules.specs.Names.{OfVariable, defines_use, variable_at, name_at, is_parameter, is_too_early, breaks_n2}
 use Rattle.pdl_rules.specs.Widths.{with_variable, after_place, variables}
 use Rattle.pdl_rules.specs.Typed.{is_named}
-use Rattle.pdl_rules.specs.Refusal.{breaks, broken_line}
+use Rattle.pdl_rules.specs.Refusal.{breaks_rule, broken_line}
 use Rattle.pdl_rules.proofs.Typing.{width_is}
 use Rattle.pdl_rules.proofs.Defined.{AreKnown, none_known, known_same, known_more, known_stay}
 use Rattle.pdl_widths.specs.Variables.{width_among}
 use Rattle.pdl_names.proofs.Firsts.{none_some}
 use Rattle.pdl_typed.specs.Narrow.{are_narrow}
-use Rattle.pdl_typed.proofs.Unbroken.{KeepsWidths, here, behind}
+use Rattle.pdl_typed.proofs.Unbroken.{KeepsWidths, here, after}
 use Rattle.pdl_typed.proofs.Expressions.{expr_narrow}
 use Rattle.pdl_word.proofs.Bools.{none_given}
 
@@ -69,7 +69,7 @@ narrow_among vs e = among vs (each_narrow vs e)
 none_over : (p : Pipe) (before xs : List Place) → broken_line Z7 p before xs ≡ None → list_any breaks_z7 xs ≡ false
 none_over p before [] e = refl
 none_over p before (x ∷ xs) e =
-    let parts = none_given (breaks Z7 p before x) (line_of x) (broken_line Z7 p (before ++ x ∷ []) xs) e in
+    let parts = none_given (breaks_rule Z7 p before x) (line_of x) (broken_line Z7 p (before ++ x ∷ []) xs) e in
     ap (λ b. b || list_any breaks_z7 xs) parts.0 ∙ none_over p (before ++ x ∷ []) xs parts.1
 
 wide_enough : (m : Mem) → breaks_z7 (Memory m) ≡ false → m.width.value ≤ 64
@@ -96,7 +96,7 @@ mems_narrow p e m =
 
 -- ONE PLACE
 
--- the variables behind a place
+-- the variables after a place
 record Next (p : Pipe) (vs : List Var) (before : List Place) (y : Place) : Type 0 where
   pub vars : List Var
   pub is : after_place p.mems vs y ≡ vars
@@ -119,12 +119,12 @@ more p vs before y x w variable name after once l k h =
 
 -- parameters are defined
 abbrev AreThere : Pipe → List Place → Type 0
-AreThere p before = (x : List ℕ) → is_parameter p x ≡ true → list_any (defines (OfVariable x)) before ≡ true
+AreThere p before = (x : List ℕ) → is_parameter p x ≡ true → list_any (defines_use (OfVariable x)) before ≡ true
 
 -- a variable that isn't used too early is known
 knows : (p : Pipe) (vs : List Var) (before : List Place) (y : Place) → AreThere p before → AreKnown p vs before → (x : List ℕ) → is_too_early p before y (OfVariable x) ≡ false → IsTrue (is_named vs x)
 knows p vs before y there k x e =
-    ⊎_elim (λ b. k.named x (there x b)) (λ a. k.named x a) (either (is_parameter p x) (list_any (defines (OfVariable x)) before) _ e)
+    ⊎_elim (λ b. k.named x (there x b)) (λ a. k.named x a) (either (is_parameter p x) (list_any (defines_use (OfVariable x)) before) _ e)
   where
     either : (b a c : Bool) → (not b && (not a || c)) ≡ false → (b ≡ true) ⊎ (a ≡ true)
     either true a c h = inl refl
@@ -166,24 +166,24 @@ one_place p before (StartClause s) ys vs split k ms there known h = same p vs be
 -- ALL PLACES
 
 still_there : (p : Pipe) (before : List Place) (y : Place) → AreThere p before → AreThere p (before ++ y ∷ [])
-still_there p before y h x e = list_any-append (defines (OfVariable x)) before (y ∷ []) ∙ or_left _ _ (h x e)
+still_there p before y h x e = list_any-append (defines_use (OfVariable x)) before (y ∷ []) ∙ or_left _ _ (h x e)
 
-behind_params : (p : Pipe) (xs before : List Place) (vs : List Var) → places p ≡ before ++ xs → KeepsWidths p before xs → ((m : List ℕ) → mem_width p.mems m ≤ 64) → AreThere p before
+after_params : (p : Pipe) (xs before : List Place) (vs : List Var) → places p ≡ before ++ xs → KeepsWidths p before xs → ((m : List ℕ) → mem_width p.mems m ≤ 64) → AreThere p before
     → AreKnown p vs before → AreNarrow vs → AreNarrow (fold (after_place p.mems) vs xs)
-behind_params p [] before vs split k ms there known h = h
-behind_params p (y ∷ ys) before vs split k ms there known h =
+after_params p [] before vs split k ms there known h = h
+after_params p (y ∷ ys) before vs split k ms there known h =
     let n = one_place p before y ys vs split k ms there known h in
     subst (λ us. AreNarrow (fold (after_place p.mems) us ys)) (sym n.is)
-    (behind_params p ys (before ++ y ∷ []) n.vars (split ∙ sym (append_assoc before (y ∷ []) ys)) (behind p before y ys k) ms (still_there p before y there) n.known n.narrow)
+    (after_params p ys (before ++ y ∷ []) n.vars (split ∙ sym (append_assoc before (y ∷ []) ys)) (after p before y ys k) ms (still_there p before y there) n.known n.narrow)
 
 -- parameters that are defined before, or are among those to come
 abbrev WillBe : Pipe → List Place → List Param → Type 0
-WillBe p before ps = (x : List ℕ) → is_parameter p x ≡ true → (list_any (defines (OfVariable x)) before || list_any (λ (a : Param). bytes_eq x a.name.name) ps) ≡ true
+WillBe p before ps = (x : List ℕ) → is_parameter p x ≡ true → (list_any (defines_use (OfVariable x)) before || list_any (λ (a : Param). bytes_eq x a.name.name) ps) ≡ true
 
 next_param : (p : Pipe) (before : List Place) (a : Param) (ps : List Param) → WillBe p before (a ∷ ps) → WillBe p (before ++ Parameter a ∷ []) ps
 next_param p before a ps h x e =
-    ap (λ b. b || list_any (λ (c : Param). bytes_eq x c.name.name) ps) (list_any-append (defines (OfVariable x)) before (Parameter a ∷ []))
-    ∙ moved (list_any (defines (OfVariable x)) before) (bytes_eq x a.name.name) (list_any (λ (c : Param). bytes_eq x c.name.name) ps)
+    ap (λ b. b || list_any (λ (c : Param). bytes_eq x c.name.name) ps) (list_any-append (defines_use (OfVariable x)) before (Parameter a ∷ []))
+    ∙ moved (list_any (defines_use (OfVariable x)) before) (bytes_eq x a.name.name) (list_any (λ (c : Param). bytes_eq x c.name.name) ps)
     ∙ h x e
   where
     moved : (u v w : Bool) → ((u || (v || false)) || w) ≡ (u || (v || w))
@@ -192,7 +192,7 @@ next_param p before a ps h x e =
     moved false false w = refl
 
 last_param : (p : Pipe) (before : List Place) → WillBe p before [] → AreThere p before
-last_param p before h x e = always (list_any (defines (OfVariable x)) before) (h x e)
+last_param p before h x e = always (list_any (defines_use (OfVariable x)) before) (h x e)
   where
     always : (b : Bool) → (b || false) ≡ true → b ≡ true
     always true i = refl
@@ -200,13 +200,13 @@ last_param p before h x e = always (list_any (defines (OfVariable x)) before) (h
 
 from_params : (p : Pipe) (ps : List Param) (rest before : List Place) (vs : List Var) → places p ≡ before ++ (map Parameter ps ++ rest) → KeepsWidths p before (map Parameter ps ++ rest)
     → ((m : List ℕ) → mem_width p.mems m ≤ 64) → WillBe p before ps → AreKnown p vs before → AreNarrow vs → AreNarrow (fold (after_place p.mems) vs (map Parameter ps ++ rest))
-from_params p [] rest before vs split k ms there known h = behind_params p rest before vs split k ms (last_param p before there) known h
+from_params p [] rest before vs split k ms there known h = after_params p rest before vs split k ms (last_param p before there) known h
 from_params p (a ∷ ps) rest before vs split k ms there known h =
     let y = Parameter a in
     let ys = map Parameter ps ++ rest in
     let n = more p vs before y a.name.name a.width.value refl refl refl (here N2 p before y ys k.n2) (width_is a.width.value (here Z7 p before y ys k.z7)).1 known h in
     subst (λ us. AreNarrow (fold (after_place p.mems) us ys)) (sym n.is)
-    (from_params p ps rest (before ++ y ∷ []) n.vars (split ∙ sym (append_assoc before (y ∷ []) ys)) (behind p before y ys k) ms (next_param p before a ps there) n.known n.narrow)
+    (from_params p ps rest (before ++ y ∷ []) n.vars (split ∙ sym (append_assoc before (y ∷ []) ys)) (after p before y ys k) ms (next_param p before a ps there) n.known n.narrow)
 
 pub variables_narrow : (p : Pipe) → KeepsWidths p [] (places p) → are_narrow (variables p) ≡ true
 variables_narrow p k =

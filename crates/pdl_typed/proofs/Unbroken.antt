@@ -4,7 +4,7 @@ use Rattle.pdl_kit.specs.declared.rule.Rule.{Rule}
 use Rattle.pdl_kit.specs.declared.rule.Rule.TheVariants.{Z2, Z3, Z4, Z5, Z6, Z7, N1, N2, N3, W1, W2, W3, W4, W5, W6}
 use Rattle.pdl_semantics.specs.Tree.{Pipe}
 use Rattle.pdl_rules.specs.Places.{Place, places}
-use Rattle.pdl_rules.specs.Refusal.{breaks, limits, broken_line, first_broken}
+use Rattle.pdl_rules.specs.Refusal.{breaks_rule, limits, broken_line, first_broken}
 use Rattle.pdl_names.specs.Order.{name_rules}
 use Rattle.pdl_widths.specs.Order.{width_rules}
 use Rattle.pdl_word.proofs.Bools.{none_given}
@@ -35,15 +35,15 @@ keeps_widths p z n w =
     let w2 = first_kept p W2 (W3 ∷ W4 ∷ W5 ∷ W6 ∷ []) w1.1 in
     record { z7 = z7.0; n2 = n2.0; n3 = n3.0; w2 = w2.0 }
 
--- at the first of these places, and behind it
-pub here : (r : Rule) (p : Pipe) (before : List Place) (x : Place) (xs : List Place) → broken_line r p before (x ∷ xs) ≡ None → breaks r p before x ≡ false
-here r p before x xs e = (none_given (breaks r p before x) _ (broken_line r p (before ++ x ∷ []) xs) e).0
+-- at the first of these places, and after it
+pub here : (r : Rule) (p : Pipe) (before : List Place) (x : Place) (xs : List Place) → broken_line r p before (x ∷ xs) ≡ None → breaks_rule r p before x ≡ false
+here r p before x xs e = (none_given (breaks_rule r p before x) _ (broken_line r p (before ++ x ∷ []) xs) e).0
 
-pub behind : (p : Pipe) (before : List Place) (x : Place) (xs : List Place) → KeepsWidths p before (x ∷ xs) → KeepsWidths p (before ++ x ∷ []) xs
-behind p before x xs k =
+pub after : (p : Pipe) (before : List Place) (x : Place) (xs : List Place) → KeepsWidths p before (x ∷ xs) → KeepsWidths p (before ++ x ∷ []) xs
+after p before x xs k =
     record {
-      z7 = (none_given (breaks Z7 p before x) _ (broken_line Z7 p (before ++ x ∷ []) xs) k.z7).1;
-      n2 = (none_given (breaks N2 p before x) _ (broken_line N2 p (before ++ x ∷ []) xs) k.n2).1;
-      n3 = (none_given (breaks N3 p before x) _ (broken_line N3 p (before ++ x ∷ []) xs) k.n3).1;
-      w2 = (none_given (breaks W2 p before x) _ (broken_line W2 p (before ++ x ∷ []) xs) k.w2).1;
+      z7 = (none_given (breaks_rule Z7 p before x) _ (broken_line Z7 p (before ++ x ∷ []) xs) k.z7).1;
+      n2 = (none_given (breaks_rule N2 p before x) _ (broken_line N2 p (before ++ x ∷ []) xs) k.n2).1;
+      n3 = (none_given (breaks_rule N3 p before x) _ (broken_line N3 p (before ++ x ∷ []) xs) k.n3).1;
+      w2 = (none_given (breaks_rule W2 p before x) _ (broken_line W2 p (before ++ x ∷ []) xs) k.w2).1;
     }

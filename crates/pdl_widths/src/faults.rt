@@ -11,7 +11,7 @@ ghost use Rattle.pdl_widths.specs.Rules as straight;
 ghost use Rattle.pdl_widths.specs.Rules.{AreFaults};
 
 use crate::arguments::{call_fits, has_too_large, start_fits};
-use crate::measure::{measured, measured_args};
+use crate::measure::{measure_of, measured_args};
 use crate::memories::{address_bits, mem_depth, mem_width};
 use crate::variables::Variables;
 use pdl_paths::{Action, Place};
@@ -89,7 +89,7 @@ fn in_value(variables: &Variables, e: &Expr) -> Faults
     ensures w5 { result.w5 ≡ false }
     ensures w6 { result.w6 ≡ false }
 {
-    let measure = measured(variables, e);
+    let measure = measure_of(variables, e);
     let mut faults = NONE;
     faults.w1 = measure.unequal;
     faults.w2 = measure.too_large || measure.out_of_range;
@@ -109,7 +109,7 @@ fn in_write(variables: &Variables, mems: &[Mem], at: &Location, e: &Expr) -> Fau
     ensures w6 { result.w6 ≡ not (flatten.width_of variables.now
         (expr_view e.now) == flatten.mem_width (map mem_view mems.now) at.now.mem.name) }
 {
-    let measure = measured(variables, e);
+    let measure = measure_of(variables, e);
     let mut faults = NONE;
     faults.w1 = measure.unequal;
     faults.w2 = measure.too_large || measure.out_of_range;
@@ -130,7 +130,7 @@ fn in_condition(variables: &Variables, e: &Expr) -> Faults
     ensures w5 { result.w5 ≡ false }
     ensures w6 { result.w6 ≡ false }
 {
-    let measure = measured(variables, e);
+    let measure = measure_of(variables, e);
     let mut faults = NONE;
     faults.w1 = measure.unequal;
     faults.w2 = measure.too_large || measure.out_of_range;

@@ -2,12 +2,12 @@
 ghost use Rattle.std.specs.Prelude.{◌≡◌, option_map, None};
 ghost use Rattle.pdl_kit.specs.declared.rule.Rule.TheVariants as names;
 ghost use Rattle.pdl_rules.specs.Refusal.{refused_at};
-ghost use Rattle.pdl_textrules.specs.Noted.{noted as spec_noted};
+ghost use Rattle.pdl_textrules.specs.Noted.{noted_line as spec_noted};
 ghost use Rattle.pdl_textrules.specs.Refused.{refused_of};
 
 use crate::faults::Faults;
 use pdl_kit::Rule;
-use pdl_textrules::{Broken, lowest_of, noted};
+use pdl_textrules::{Broken, lowest_of, noted_line};
 
 /// Of each rule on widths the line of the first place that breaks it.
 #[derive(Clone, Copy, PartialEq, Eq, Debug)]
@@ -50,12 +50,12 @@ impl Lines {
         ensures w6 { result.w6 ≡ spec_noted self.w6 faults.w6 line }
     {
         Lines {
-            w1: noted(self.w1, faults.w1, line),
-            w2: noted(self.w2, faults.w2, line),
-            w3: noted(self.w3, faults.w3, line),
-            w4: noted(self.w4, faults.w4, line),
-            w5: noted(self.w5, faults.w5, line),
-            w6: noted(self.w6, faults.w6, line),
+            w1: noted_line(self.w1, faults.w1, line),
+            w2: noted_line(self.w2, faults.w2, line),
+            w3: noted_line(self.w3, faults.w3, line),
+            w4: noted_line(self.w4, faults.w4, line),
+            w5: noted_line(self.w5, faults.w5, line),
+            w6: noted_line(self.w6, faults.w6, line),
         }
     }
 

@@ -57,7 +57,7 @@ impl Measure {
 }
 
 /// The measure of an expression.
-pub fn measured(variables: &Variables, e: &Expr) -> Measure
+pub fn measure_of(variables: &Variables, e: &Expr) -> Measure
     ensures width { result.width ≡ flatten.width_of variables.now (expr_view e.now) }
     ensures unequal { result.unequal ≡ some_part (spec.is_unequal variables.now) (expr_view e.now) }
     ensures out_of_range { result.out_of_range
@@ -80,28 +80,28 @@ pub fn measured(variables: &Variables, e: &Expr) -> Measure
                 || variables.width(&x.name) <= high.value as u128;
             own
         }
-        Expr::Not(a) => measured(variables, a.get()),
+        Expr::Not(a) => measure_of(variables, a.get()),
         Expr::Binary { op, a, b } => {
-            let left = measured(variables, a.get());
-            let other = measured(variables, b.get());
+            let left = measure_of(variables, a.get());
+            let other = measure_of(variables, b.get());
             of_operands(op_width(*op, left.width), left, other)
         }
         Expr::Cat(a, b) => {
-            let above = measured(variables, a.get());
-            let below = measured(variables, b.get());
+            let above = measure_of(variables, a.get());
+            let below = measure_of(variables, b.get());
             of_cat(above, below)
         }
         Expr::LessSigned(a, b) => {
-            let left = measured(variables, a.get());
-            let other = measured(variables, b.get());
+            let left = measure_of(variables, a.get());
+            let other = measure_of(variables, b.get());
             of_operands(1, left, other)
         }
-        Expr::ZeroExtend(a, width) => of_extension(width.value, measured(variables, a.get())),
-        Expr::SignExtend(a, width) => of_extension(width.value, measured(variables, a.get())),
+        Expr::ZeroExtend(a, width) => of_extension(width.value, measure_of(variables, a.get())),
+        Expr::SignExtend(a, width) => of_extension(width.value, measure_of(variables, a.get())),
         Expr::Choose(c, a, b) => {
-            let condition = measured(variables, c.get());
-            let first = measured(variables, a.get());
-            let second = measured(variables, b.get());
+            let condition = measure_of(variables, c.get());
+            let first = measure_of(variables, a.get());
+            let second = measure_of(variables, b.get());
             of_choice(condition, first, second)
         }
     }
@@ -195,7 +195,7 @@ pub fn measured_args(variables: &Variables, args: &[Expr]) -> Measure
 {
     let mut all = right(0);
     for e in args {
-        all = all.with(measured(variables, e));
+        all = all.with(measure_of(variables, e));
     }
     all
 }

@@ -7,7 +7,7 @@ use Rattle.pdl_semantics.specs.Flat.{Goes}
 use Rattle.pdl_semantics.specs.Flatten as spec
 use Rattle.pdl_tree.specs.View as tree
 use Rattle.pdl_form.specs.View.{stages_view, next_view, branch_view}
-use Rattle.pdl_flat.specs.Walking.{place_of, next_at, closed}
+use Rattle.pdl_flat.specs.Walking.{place_of, next_at, closed_stages}
 use Rattle.pdl_flat.proofs.Branches.{if_closed, entry_seen, guard_begun}
 use Rattle.pdl_flat.proofs.body.+walk.Goals as goal
 use Rattle.pdl_form.proofs.Staging.{length_stages}
@@ -42,21 +42,21 @@ statement-returns-in_ok-second-in-If-clause-graph t c = λ rest.
     c.in_ok-first-in-If.ensures.place
     ∙ ap (λ j. spec.back_in j (spec.past_all ms when (place_of c.enter.new.walk))) c.in_ok-choice-in-If.ensures.stage
     ∙ ap (λ p. spec.back_in c.args.walk.now.stage (spec.past_all ms when p)) c.in_ok-choice-in-If.ensures.place in
-    let begun : c.enter.new.walk.begun ≡ c.args.walk.now.begun = ap (λ (p : spec.Place). p.begun) c.in_ok-choice-in-If.ensures.place ∙ guard_begun cond at' in
-    let stage : c.leave.new.walk.stage ≡ k = ap (λ (p : spec.Place). p.stage) (c.leave.ensures.place ∙ c.in_ok-second-in-If.ensures.place) in
-    ap (λ j. closed j c.leave.result (stages_view c.leave.new.walk.stages.items) rest) stage
-    ∙ ap (λ r. closed k r (stages_view c.leave.new.walk.stages.items) rest) c.leave.ensures.value
-    ∙ ap (λ xs. closed k (if c.branch-alloc-in-If.new.walk.begun == c.in_ok-choice-in-If.choice.begun then c.args.forked else true) xs rest) c.leave.ensures.stages
+    let begun : c.enter.new.walk.begun ≡ c.args.walk.now.begun = ap (λ (p : spec.Position). p.begun) c.in_ok-choice-in-If.ensures.place ∙ guard_begun cond at' in
+    let stage : c.leave.new.walk.stage ≡ k = ap (λ (p : spec.Position). p.stage) (c.leave.ensures.place ∙ c.in_ok-second-in-If.ensures.place) in
+    ap (λ j. closed_stages j c.leave.result (stages_view c.leave.new.walk.stages.items) rest) stage
+    ∙ ap (λ r. closed_stages k r (stages_view c.leave.new.walk.stages.items) rest) c.leave.ensures.value
+    ∙ ap (λ xs. closed_stages k (if c.branch-alloc-in-If.new.walk.begun == c.in_ok-choice-in-If.choice.begun then c.args.forked else true) xs rest) c.leave.ensures.stages
     ∙ if_closed ms (branch_view c.args.round.now.branch) (tree.span_view c.in-If.span) cond when other at' k c.in_ok-choice-in-If.choice.begun c.in_ok-choice-in-If.choice.merge c.in_ok-choice-in-If.choice.var
     c.in_ok-first-in-If.first c.in_ok-second-in-If.second c.branch-alloc-in-If.new.walk.begun
     (stages_view c.args.walk.now.stages.items) (stages_view c.branch-alloc.new.walk.stages.items) (stages_view c.branch-alloc-in-If.new.walk.stages.items)
     (next_view c.in_ok-choice-in-If.choice.before) (place_of c.enter.new.walk) (place_of c.branch-alloc.new.walk)
     c.in_ok-choice-in-If.ensures.stage c.in_ok-choice-in-If.ensures.begun em c.in_ok-choice-in-If.ensures.var c.in_ok-choice-in-If.ensures.before c.in_ok-choice-in-If.ensures.place second_at
     (omega (arith, c.requires.whole.begun, length_stages c.args.walk.now.stages.items)) c.requires.whole.stage
-    (c.in_ok-first-in-If.ensures.graph ∙ ap (λ xs. closed k false (stages_view xs)
+    (c.in_ok-first-in-If.ensures.graph ∙ ap (λ xs. closed_stages k false (stages_view xs)
     (spec.graph ms (spec.side k true) (Goes c.in_ok-choice-in-If.choice.merge) when (place_of c.enter.new.walk))) c.in_ok-choice-in-If.ensures.stages)
     c.in_ok-second-in-If.ensures.graph c.in_ok-first-in-If.ensures.entry c.in_ok-second-in-If.ensures.entry
     (omega (arith, c.in_ok-second-in-If.ensures.count, c.in_ok-first-in-If.ensures.count, begun))
     c.args.forked rest
-    ∙ ap (λ s. closed c.args.walk.now.stage c.args.forked (stages_view c.args.walk.now.stages.items)
-    (spec.joined ms (branch_view c.args.round.now.branch) s at' rest)) (sym is)
+    ∙ ap (λ s. closed_stages c.args.walk.now.stage c.args.forked (stages_view c.args.walk.now.stages.items)
+    (spec.graph_before ms (branch_view c.args.round.now.branch) s at' rest)) (sym is)

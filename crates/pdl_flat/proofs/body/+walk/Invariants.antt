@@ -3,7 +3,7 @@ use Rattle.pdl_semantics.specs.Flatten as spec
 use Rattle.pdl_tree.specs.View as tree
 use Rattle.pdl_form.specs.View.{guards_view, stmts_view, stages_view, next_view, branch_view}
 use Rattle.pdl_flat.specs.Sized.{AreSizedStmts}
-use Rattle.pdl_flat.specs.Walking.{place_of, IsWhole, closed}
+use Rattle.pdl_flat.specs.Walking.{place_of, IsWhole, closed_stages}
 use Rattle.pdl_flat.proofs.body.+walk.Given as goal
 
 -- what is made so far and what the rest gives are the whole
@@ -18,8 +18,8 @@ invariant-statements-loop-s l =
       place : spec.past_all ms rest here ≡ spec.past_all ms (tree.stmts_view l.ss) begin;
       stmts : stmts_view l.walk.stmts.items ++ spec.flat_stmts ms gs rest here ≡ stmts_view l.fn.walk.stmts.items ++ spec.flat_stmts ms gs
           (tree.stmts_view l.ss) begin;
-      graph : closed l.walk.stage l.forked (stages_view l.walk.stages.items) (spec.graph ms (branch_view l.round.branch) (next_view l.round.exit) rest here)
-          ≡ closed l.fn.walk.stage false (stages_view l.fn.walk.stages.items)
+      graph : closed_stages l.walk.stage l.forked (stages_view l.walk.stages.items) (spec.graph ms (branch_view l.round.branch) (next_view l.round.exit) rest here)
+          ≡ closed_stages l.fn.walk.stage false (stages_view l.fn.walk.stages.items)
           (spec.graph ms (branch_view l.round.branch) (next_view l.round.exit) (tree.stmts_view l.ss) begin);
       whole : IsWhole l.walk;
       count : l.walk.begun + spec.separators rest ≡ l.fn.walk.begun + spec.separators (tree.stmts_view l.ss);

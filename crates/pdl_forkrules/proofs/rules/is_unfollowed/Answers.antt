@@ -10,5 +10,5 @@ returns c =
     let n = length (statements [] (stmts_view c.args.when.now)) + (length (statements [] (stmts_view c.args.otherwise.now)) + 0) in
     ap not
     (c.is_separator.ensures
-    ∙ sym (next_is place_view c.args.later.now n c.left_behind-left.result c.index-later-later.result
-    (omega (arith, c.left_behind.ensures, c.left_behind-left.ensures)) c.if-left-eq0.false c.index-later-later.is))
+    ∙ sym (next_is place_view c.args.later.now n c.left_after-left.result c.index-later-later.result
+    (omega (arith, c.left_after.ensures, c.left_after-left.ensures)) c.if-left-eq0.false c.index-later-later.is))

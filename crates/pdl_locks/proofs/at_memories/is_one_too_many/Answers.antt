@@ -25,4 +25,4 @@ returns-in-W c earlier =
     let at = location_view c.in-Reserve.field-0.now in
     let is = c.in-Reserve.is ∙ ap (Reserve c.in-Reserve.field-0) c.in-W.is in
     subst (λ (a : Action). IsOwn IsUsedMemory c.args.used earlier (place_at s bs a) → c.args.used.reserved ≡ spec.is_one_too_many earlier (place_at s bs a)) (sym is)
-    (λ own. (own at refl).reserved ∙ any_counted (spec.reserves W at.mem.name) earlier)
+    (λ own. (own at refl).reserved ∙ any_counted (spec.is_reserve_of W at.mem.name) earlier)

@@ -1,10 +1,10 @@
 use Rattle.std.proofs.Common.{ap, ◌∙◌, map}
-use Rattle.pdl_paths.specs.Shown.{shown, memory}
+use Rattle.pdl_paths.specs.Shown.{masked_view, memory}
 use Rattle.pdl_paths.proofs.Walks.{pushed}
 use Rattle.pdl_paths.proofs.walk.add_mems.Goals as goal
 
 pub loop-mem-preserved : goal.loop-mem-preserved
 unfolding memory
 loop-mem-preserved c =
-    ap (map shown) c.in_ok-push.ensures.items
-    ∙ pushed shown memory _ _ _ _ _ _ c.loop-mem.invariant c.loop-mem-test.true c.mem-item.is c.bare.ensures
+    ap (map masked_view) c.in_ok-push.ensures.items
+    ∙ pushed masked_view memory _ _ _ _ _ _ c.loop-mem.invariant c.loop-mem-test.true c.mem-item.is c.bare.ensures

@@ -1,7 +1,7 @@
 use Rattle.std.proofs.Common.{◌≡◌, map, take, ◌++◌}
-use Rattle.pdl_paths.specs.Shown.{shown, memory}
+use Rattle.pdl_paths.specs.Shown.{masked_view, memory}
 use Rattle.pdl_paths.proofs.walk.add_mems.Given as goal
 
 -- those so far are added
 abbrev pub invariant-loop-mem : goal.invariant-loop-mem
-invariant-loop-mem l = map shown l.places.items ≡ map shown l.initial.places.items ++ map memory (take l.mem-index l.mems)
+invariant-loop-mem l = map masked_view l.places.items ≡ map masked_view l.initial.places.items ++ map memory (take l.mem-index l.mems)

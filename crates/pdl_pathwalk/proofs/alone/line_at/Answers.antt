@@ -1,7 +1,7 @@
 use Rattle.std.proofs.Common.{ap, sym, ◌∙◌, Some, option_map, arith}
 use Rattle.pdl_rules.specs.Places.{line_of}
 use Rattle.pdl_paths.specs.Actions.{place_view}
-use Rattle.pdl_pathwalk.proofs.Nth.{nth, past_end}
+use Rattle.pdl_pathrules.proofs.Nth.{nth, past_end}
 use Rattle.pdl_pathwalk.proofs.alone.line_at.Goals as goal
 
 pub returns-then-k-places : goal.returns-then-k-places

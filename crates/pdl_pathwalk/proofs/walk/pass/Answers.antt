@@ -2,7 +2,7 @@ use Rattle.std.proofs.Common.{◌≡◌, sym, ◌∙◌, subst, true, false, map
 use Rattle.pdl_rules.specs.Places.{on_path}
 use Rattle.pdl_paths.specs.Actions.{place_view}
 use Rattle.pdl_paths.specs.Masks.{IsMasked, path_of}
-use Rattle.pdl_pathwalk.proofs.Nth.{nth}
+use Rattle.pdl_pathrules.proofs.Nth.{nth}
 use Rattle.pdl_pathwalk.proofs.walk.pass.Goals as goal
 
 pub returns-in_ok-pass : goal.returns-in_ok-pass

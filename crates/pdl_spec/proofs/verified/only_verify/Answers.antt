@@ -2,7 +2,7 @@ use Rattle.std.proofs.Common.{◌∙◌, sym, ap, subst, ◌<◌, ◌≤◌, ◌
 use Rattle.std.proofs.lemmas.List.{length-map}
 use Rattle.pdl_rules.specs.Places.{Place, on_path}
 use Rattle.pdl_rules.specs.Stages.{stages_that}
-use Rattle.pdl_rules.specs.Speculation.{verifies}
+use Rattle.pdl_rules.specs.Speculation.{is_verify_of}
 use Rattle.pdl_paths.specs.Actions.{place_view}
 use Rattle.pdl_paths.specs.Masks.{IsMasked}
 use Rattle.pdl_textstages.proofs.Found.{stage_got}
@@ -19,7 +19,7 @@ returns-in-Some c gs on h p s =
     let y = c.index-places-k.result in
     let below : k < length ps = omega arith in
     let masked = subst (λ q. IsMasked gs q) (sym c.index-places-k.is) (h.masks k y below) in
-    second (λ z. on_path on z && verifies c.args.guess.now z) (map place_view ps) k (place_view y) _ (nth place_view ps k y below c.index-places-k.is)
+    second (λ z. on_path on z && is_verify_of c.args.guess.now z) (map place_view ps) k (place_view y) _ (nth place_view ps k y below c.index-places-k.is)
     (sym (c.is_verify_on.ensures gs on masked h.distinct h.few p) ∙ c.if-is_verify_on.true)
     (c.loop-k.invariant gs on h p s ∙ ap as_list c.in-Some.is)
 
@@ -33,7 +33,7 @@ loop-k-preserved c gs on h p s =
     let below : k < length ps = omega arith in
     let masked = subst (λ q. IsMasked gs q) (sym c.index-places-k.is) (h.masks k y below) in
     let got = nth place_view ps k y below c.index-places-k.is in
-    let test = λ (z : Place). on_path on z && verifies c.args.guess.now z in
+    let test = λ (z : Place). on_path on z && is_verify_of c.args.guess.now z in
     let tested = c.is_verify_on.ensures gs on masked h.distinct h.few p in
     elim c.if-is_verify_on.branch [
       | then-is_verify_on+in-None w ↦
@@ -49,4 +49,4 @@ returns c gs on h p s =
     let past : length xs ≤ c.loop-k.k = omega (arith, length-map c.args.places.now place_view) in
     only_one c.loop-k.found
     ∙ ap only (sym (c.loop-k.invariant gs on h p s))
-    ∙ ap (λ ys. only (stages_that (λ y. on_path on y && verifies c.args.guess.now y) [] ys)) (all_taken xs c.loop-k.k past)
+    ∙ ap (λ ys. only (stages_that (λ y. on_path on y && is_verify_of c.args.guess.now y) [] ys)) (all_taken xs c.loop-k.k past)

@@ -1,7 +1,7 @@
 use Rattle.std.proofs.Common.{◌≡◌, List, [], ◌&&◌, map, take}
 use Rattle.pdl_rules.specs.Places.{Guard, on_path}
 use Rattle.pdl_rules.specs.Stages.{stages_that}
-use Rattle.pdl_rules.specs.Speculation.{verifies}
+use Rattle.pdl_rules.specs.Speculation.{is_verify_of}
 use Rattle.pdl_paths.specs.Actions.{place_view}
 use Rattle.pdl_textstages.specs.Stages.{stages_in}
 use Rattle.pdl_textstages.specs.Along.{HavePaths, IsPath}
@@ -12,4 +12,4 @@ use Rattle.pdl_spec.proofs.verified.only_verify.Given as goal
 abbrev pub invariant-loop-k : goal.invariant-loop-k
 invariant-loop-k l =
     (gs on : List Guard) → HavePaths gs l.places → IsPath gs on l.path.bits → l.stages ≡ stages_in (map place_view l.places)
-    → stages_that (λ y. on_path on y && verifies l.guess y) [] (take l.k (map place_view l.places)) ≡ as_list l.found
+    → stages_that (λ y. on_path on y && is_verify_of l.guess y) [] (take l.k (map place_view l.places)) ≡ as_list l.found

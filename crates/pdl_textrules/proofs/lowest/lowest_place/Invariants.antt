@@ -3,7 +3,7 @@ use Rattle.pdl_paths.specs.Actions.{place_view}
 use Rattle.pdl_pathrules.specs.Lowest.{breaks_at}
 use Rattle.pdl_textrules.proofs.lowest.lowest_place.Given as goal
 
--- the state is behind those so far, and none of them breaks the rule
+-- the state is after those so far, and none of them breaks the rule
 abbrev pub invariant-loop-k : goal.invariant-loop-k
 invariant-loop-k g l =
     (g.R.TextRule.stands l.rule (take l.k (map place_view l.places)) l.state)

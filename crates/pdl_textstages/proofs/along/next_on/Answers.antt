@@ -1,7 +1,7 @@
 use Rattle.std.proofs.Common.{◌≡◌, ◌∙◌, sym, ap, ap₂, subst, suc, ◌+◌, ◌<◌, ◌≤◌, true, false, map, drop, length, arith}
 use Rattle.std.proofs.lemmas.List.{length-map}
 use Rattle.pdl_rules.specs.Places.{on_path}
-use Rattle.pdl_rules.specs.Stages.{next_on, stage_behind}
+use Rattle.pdl_rules.specs.Stages.{next_on, stage_after}
 use Rattle.pdl_paths.specs.Actions.{place_view}
 use Rattle.pdl_paths.specs.Masks.{IsMasked}
 use Rattle.pdl_textstages.proofs.Nth.{dropped, dropped_all, short_take, viewed}
@@ -15,7 +15,7 @@ loop-j-init c =
     let ps = c.args.places.now in
     let k = c.args.k in
     let one : k + 1 ≡ suc k = omega arith in (
-      λ gs on h p. ap₂ (λ n m. next_on on n (drop m (map place_view ps))) (c.begun_before-begun.ensures.is ∙ ap stage_behind (viewed place_view ps k)) one,
+      λ gs on h p. ap₂ (λ n m. next_on on n (drop m (map place_view ps))) (c.begun_before-begun.ensures.is ∙ ap stage_after (viewed place_view ps k)) one,
       omega (arith, c.begun_before-begun.ensures.few, short_take ps k),
     )
 

@@ -10,5 +10,5 @@ abbrev pub invariant-loop-j : goal.invariant-loop-j
 invariant-loop-j l =
     ((gs on : List Guard) → HavePaths gs l.places → IsPath gs on l.path.bits
     → spec.next_on on l.begun (drop l.j (map place_view l.places))
-    ≡ spec.next_on on (spec.stage_behind (take l.k (map place_view l.places))) (drop (suc l.k) (map place_view l.places)))
+    ≡ spec.next_on on (spec.stage_after (take l.k (map place_view l.places))) (drop (suc l.k) (map place_view l.places)))
     × (l.begun ≤ l.j)

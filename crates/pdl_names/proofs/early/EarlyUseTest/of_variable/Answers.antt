@@ -1,7 +1,7 @@
 use Rattle.std.proofs.Common.{sym, ◌∙◌, subst, map, ◌<◌}
 use Rattle.std.proofs.lemmas.List.{length-map}
 use Rattle.pdl_tree.specs.View.{pipe_view, param_view}
-use Rattle.pdl_rules.specs.Names.{OfVariable, defines}
+use Rattle.pdl_rules.specs.Names.{OfVariable, defines_use}
 use Rattle.pdl_paths.specs.Actions.{place_view}
 use Rattle.pdl_textrules.proofs.Nth.{kth}
 use Rattle.pdl_names.proofs.Firsts.{first_below}
@@ -25,7 +25,7 @@ pub is_ungiven-requires-clause-there : goal.is_ungiven-requires-clause-there
 is_ungiven-requires-clause-there c =
     let xs = map place_view c.args.self.now.places.now in
     subst (λ n. c.in-Some.d < n) (length-map c.args.self.now.places.now place_view)
-    (first_below (defines (OfVariable c.args.name.now)) xs c.in-Some.d (sym (c.requires.suits.names.first.variables c.args.name.now) ∙ sym c.in-Some.ensures))
+    (first_below (defines_use (OfVariable c.args.name.now)) xs c.in-Some.d (sym (c.requires.suits.names.first.variables c.args.name.now) ∙ sym c.in-Some.ensures))
 
 pub returns-else-d-len : goal.returns-else-d-len
 returns-else-d-len c =

@@ -4,7 +4,7 @@ use Rattle.pdl_kit.specs.declared.rule.Rule.TheVariants.{N1}
 use Rattle.pdl_tree.specs.View.{pipe_view}
 use Rattle.pdl_rules.specs.Places.{places}
 use Rattle.pdl_rules.specs.Names.{some_use, is_undefined}
-use Rattle.pdl_rules.specs.Refusal.{breaks}
+use Rattle.pdl_rules.specs.Refusal.{breaks_rule}
 use Rattle.pdl_paths.specs.Actions.{place_view}
 use Rattle.pdl_textrules.proofs.More.{breaks_kth}
 use Rattle.pdl_names.proofs.rules.UndefinedTextRule.breaks.Goals as goal
@@ -14,7 +14,7 @@ pub returns-then-names_another_pipe : goal.returns-then-names_another_pipe
 returns-then-names_another_pipe c =
     let p = pipe_view c.args.self.now.pipe.now in
     let y = c.index-places-k.result in
-    breaks_kth (breaks N1 p) (map place_view c.args.places.now) c.args.k (place_view y) c.names_another_pipe.result
+    breaks_kth (breaks_rule N1 p) (map place_view c.args.places.now) c.args.k (place_view y) c.names_another_pipe.result
     (nth place_view c.args.places.now c.args.k y c.requires.here c.index-places-k.is)
     (c.if-names_another_pipe.true ∙ sym (or_left _ _ (sym c.names_another_pipe.ensures ∙ c.if-names_another_pipe.true)))
 
@@ -22,7 +22,7 @@ pub returns-else-names_another_pipe : goal.returns-else-names_another_pipe
 returns-else-names_another_pipe c =
     let p = pipe_view c.args.self.now.pipe.now in
     let y = c.index-places-k.result in
-    breaks_kth (breaks N1 p) (map place_view c.args.places.now) c.args.k (place_view y) c.some_use.result
+    breaks_kth (breaks_rule N1 p) (map place_view c.args.places.now) c.args.k (place_view y) c.some_use.result
     (nth place_view c.args.places.now c.args.k y c.requires.here c.index-places-k.is)
     (c.some_use.ensures
     ∙ ap (λ ds. some_use (is_undefined ds) (place_view y)) c.requires.fits.all

@@ -2,8 +2,8 @@ use Rattle.std.proofs.Common.{◌+◌, ◌<◌, ◌≤◌, sym, ◌∙◌, subst
 use Rattle.pdl_paths.specs.Actions.{place_view}
 use Rattle.pdl_paths.specs.Masks.{path_of}
 use Rattle.pdl_pathwalk.specs.Course.{by_bits}
-use Rattle.pdl_pathwalk.specs.Aside.{take_next, one_more}
-use Rattle.pdl_pathwalk.proofs.Nth.{split, taken_length}
+use Rattle.pdl_pathwalk.specs.Aside.{one_more}
+use Rattle.pdl_pathrules.proofs.Nth.{split, take_next, taken_length}
 use Rattle.pdl_pathwalk.proofs.Steps.{past, broken, on}
 use Rattle.pdl_pathwalk.proofs.alone.AlonePathRules.pass.Goals as goal
 

@@ -1,8 +1,0 @@
-use Rattle.std.proofs.Common.{◌≡◌, drop}
-use Rattle.pdl_semantics.specs.Stages as stages
-use Rattle.pdl_form.specs.View.{stmts_view}
-use Rattle.pdl_form.proofs.stmts.verified.Given as goal
-
--- none before is one
-abbrev pub invariant-loop-stmt : goal.invariant-loop-stmt
-invariant-loop-stmt l = stages.verify_stage (stmts_view (drop l.stmt-index l.stmts)) ≡ stages.verify_stage (stmts_view l.stmts)
