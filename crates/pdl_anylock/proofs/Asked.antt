@@ -7,7 +7,7 @@ use Rattle.pdl_semantics.specs.Tree as tree
 use Rattle.pdl_semantics.specs.Tree.{LockKind}
 use Rattle.pdl_semantics.specs.Flat as flat
 use Rattle.pdl_semantics.specs.Flat.{Lock, has_lock}
-use Rattle.pdl_rules.specs.Limits.{allows}
+use Rattle.pdl_rules.specs.Limits.{allows_lock}
 use Rattle.pdl_lockapi.specs.Forget.{as_lock}
 use Rattle.pdl_entries.specs.Slots.{Suits, IsSize}
 use Rattle.pdl_anylock.specs.declared.AnyLock.{AnyLock}
@@ -39,7 +39,7 @@ suit_asked (flat.Rename n) l m t c s e =
     subst (λ (y : AnyLock). any_suits y m) same (record { sizes = t n s.0; comb = c; shallow = s.1; deep = s.2 })
 
 -- a lock that the rules allow has a size that it can have
-pub sized_allowed : (k : LockKind) (size depth : ℕ) (delayed : Bool) → IsSize size → allows depth delayed k size ≡ true → IsSizedLock (as_lock k size) depth
+pub sized_allowed : (k : LockKind) (size depth : ℕ) (delayed : Bool) → IsSize size → allows_lock depth delayed k size ≡ true → IsSizedLock (as_lock k size) depth
 sized_allowed tree.Queue size depth delayed s e = s
 sized_allowed tree.Bypass size depth delayed s e = s
 sized_allowed tree.Rename size depth delayed s e =

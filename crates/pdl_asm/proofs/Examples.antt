@@ -9,7 +9,7 @@ use Rattle.pdl_asm.specs.declared.line.Operation.TheVariants.{Nothing, Insn}
 use Rattle.pdl_asm.specs.declared.asm_error.AsmError.{AsmError}
 use Rattle.pdl_asm.specs.declared.asm_error.AsmError.TheVariants.{Refused}
 use Rattle.pdl_asm.specs.Lines.{line_of}
-use Rattle.pdl_asm.specs.Assembly.{Placed, first_wrong, labels_of, placed, written}
+use Rattle.pdl_asm.specs.Assembly.{Placed, first_wrong, labels_of, lines_from, written_word}
 
 -- words of 8 bits with the registers r0 and r1, `add` of a register and a number, `b` to a place, and `ld` of a number from 0 on
 abbrev small : TableValue
@@ -23,14 +23,14 @@ small = record {
 }
 
 abbrev lines_at : List ℕ → List Placed
-lines_at text = placed small (pos 0) (lines text)
+lines_at text = lines_from small (pos 0) (lines text)
 
 -- the refusal of a text, and the word that it writes at an address
 abbrev wrong : List ℕ → Option AsmError
 wrong text = first_wrong small (labels_of (lines_at text)) [] 1 (lines_at text)
 
 abbrev word : List ℕ → ℕ → Option ℕ
-word text address = written small (labels_of (lines_at text)) (lines_at text) address
+word text address = written_word small (labels_of (lines_at text)) (lines_at text) address
 
 -- ---- right texts
 

@@ -3,7 +3,7 @@ use Rattle.std.proofs.Common.{◌≡◌, ℕ, List, [], ◌∷◌, ◌++◌, Opt
 use Rattle.std.specs.List.{position, slice_split}
 use Rattle.std.proofs.lemmas.List.{take_rest}
 use Rattle.pdl_image.proofs.Parts.{parts_at, parts_whole}
-use Rattle.pdl_asm.specs.Lines.{operand_of, operands_in, trimmed, with_operand}
+use Rattle.pdl_asm.specs.Lines.{operand_of, operands_in, without_blanks, with_operand}
 use Rattle.pdl_asm.specs.declared.line.Operand.{Operand}
 
 -- those read so far, and those to come, if all are
@@ -16,7 +16,7 @@ joined-cons xs x (Some ys) = ap (λ zs. Some zs) (append_assoc xs (x ∷ []) ys)
 joined-cons xs x None = refl
 
 -- one operand more
-pub next : (ops more : List Operand) (x : Operand) (part : List ℕ) (ps rest : List (List ℕ)) (whole : Option (List Operand)) → more ≡ ops ++ x ∷ [] → operand_of (trimmed part) ≡ Some x → rest ≡ part ∷ ps
+pub next : (ops more : List Operand) (x : Operand) (part : List ℕ) (ps rest : List (List ℕ)) (whole : Option (List Operand)) → more ≡ ops ++ x ∷ [] → operand_of (without_blanks part) ≡ Some x → rest ≡ part ∷ ps
     → joined ops (operands_in rest) ≡ whole → joined more (operands_in ps) ≡ whole
 next ops more x part ps rest whole e f g h =
     ap (λ o. joined o (operands_in ps)) e ∙ joined-cons ops x (operands_in ps) ∙ ap (λ o. joined ops (with_operand o (operands_in ps))) (sym f) ∙ ap (λ r. joined ops (operands_in r)) (sym g) ∙ h

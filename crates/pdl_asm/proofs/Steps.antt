@@ -5,12 +5,12 @@ use Rattle.pdl_asmtable.specs.Tables.{TableValue}
 use Rattle.pdl_asm.specs.declared.line.Line.{Line}
 use Rattle.pdl_asm.specs.Lines.{line_of}
 use Rattle.pdl_asm.specs.Values.{Labels}
-use Rattle.pdl_asm.specs.Assembly.{Placed, after_line, label_of, placed, with_label, with_line}
+use Rattle.pdl_asm.specs.Assembly.{Placed, after_line, label_of, lines_from, with_label, with_line}
 use Rattle.pdl_asm.specs.Places.{IsNear}
 
 -- lines to come, where the first of them is read
 pub placed_first : (t : TableValue) (place after : ℤ) (text : List ℕ) (rest all : List (List ℕ)) (line : Option Line) → all ≡ text ∷ rest → line ≡ line_of text → after ≡ after_line t place line
-    → placed t place all ≡ record { place = place; line = line } ∷ placed t after rest
+    → lines_from t place all ≡ record { place = place; line = line } ∷ lines_from t after rest
 placed_first t place after text rest all line e f g = rw (e, g, f) refl
 
 pub near_later : (n m : ℕ) (place : ℤ) → IsNear n place → n ≤ m → IsNear m place

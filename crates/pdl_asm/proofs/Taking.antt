@@ -20,7 +20,7 @@ use Rattle.pdl_asm.specs.declared.line.Operation.TheVariants.{Nothing, At, Word,
 use Rattle.pdl_asm.specs.declared.line.Line.{Line}
 use Rattle.pdl_asm.specs.declared.asm_error.AsmError.TheVariants.{Refused, NoMemory}
 use Rattle.pdl_asm.specs.Values.{Labels, lower, rank}
-use Rattle.pdl_asm.specs.Assembly.{Meets, Placed, addresses, image, image_text, image_unless, placed, word_line, at_line, broken, first_wrong, free_rule, insn_rule, insn_word, is_at, is_taken, labels_of, line_rule, line_word, operation_rule, operation_word, place_rule, with_line, word_at, written}
+use Rattle.pdl_asm.specs.Assembly.{Meets, Placed, addresses, image, image_text, image_unless, lines_from, word_line, at_line, broken_rule, first_wrong, free_rule, insn_rule, insn_word, is_at, is_taken, labels_of, line_rule, line_word, operation_rule, operation_word, place_rule, with_line, word_at, written_word}
 use Rattle.pdl_asm.specs.Slots.{AreWritten, is_taken_in, slots_of, with_word}
 use Rattle.pdl_asm.specs.declared.asm_error.AsmError.{AsmError}
 
@@ -30,14 +30,14 @@ addresses_are = refl
 
 -- ---- what lines write, one line more
 
-written_push : (t : TableValue) (labels : Labels) (done : List Placed) (p : Placed) (a : ℕ) → written t labels (done ++ p ∷ []) a ≡ or_else (written t labels done a) (word_at t labels a p)
+written_push : (t : TableValue) (labels : Labels) (done : List Placed) (p : Placed) (a : ℕ) → written_word t labels (done ++ p ∷ []) a ≡ or_else (written_word t labels done a) (word_at t labels a p)
 written_push t labels [] p a = or_else_none (word_at t labels a p)
 written_push t labels (q ∷ done) p a =
-    ap (or_else (word_at t labels a q)) (written_push t labels done p a) ∙ or_else_assoc (word_at t labels a q) (written t labels done a) (word_at t labels a p)
+    ap (or_else (word_at t labels a q)) (written_push t labels done p a) ∙ or_else_assoc (word_at t labels a q) (written_word t labels done a) (word_at t labels a p)
 
-written_kept : (t : TableValue) (labels : Labels) (done : List Placed) (p : Placed) (a : ℕ) → word_at t labels a p ≡ None → written t labels done a ≡ written t labels (done ++ p ∷ []) a
+written_kept : (t : TableValue) (labels : Labels) (done : List Placed) (p : Placed) (a : ℕ) → word_at t labels a p ≡ None → written_word t labels done a ≡ written_word t labels (done ++ p ∷ []) a
 written_kept t labels done p a e =
-    sym (written_push t labels done p a ∙ ap (or_else (written t labels done a)) e ∙ or_else_none (written t labels done a))
+    sym (written_push t labels done p a ∙ ap (or_else (written_word t labels done a)) e ∙ or_else_none (written_word t labels done a))
 
 if_none : (b : Bool) (o : Option ℕ) → o ≡ None → (if b then o else None) ≡ None
 if_none true o e = e
@@ -58,13 +58,13 @@ slots_kept t labels done p none = map_same _ _ (range_with_len 0 addresses) (λ 
     let P : ℕ → Type 0 = λ n. n < addresses in
     written_kept t labels done p a (none a (subst P (sym (address_of k d l)) l)))
 
-slots_written : (t : TableValue) (labels : Labels) (done : List Placed) (p : Placed) (n w : ℕ) → n < addresses → written t labels done n ≡ None
+slots_written : (t : TableValue) (labels : Labels) (done : List Placed) (p : Placed) (n w : ℕ) → n < addresses → written_word t labels done n ≡ None
     → word_at t labels n p ≡ Some w → ((a : ℕ) → a ≢ n → word_at t labels a p ≡ None) → set (slots_of t labels done) n (Some w) ≡ slots_of t labels (done ++ p ∷ [])
 unfolding slots_of
 slots_written t labels done p n w l free here others =
-    let at : Some w ≡ written t labels (done ++ p ∷ []) n = sym (written_push t labels done p n ∙ ap (λ o. or_else o (word_at t labels n p)) free ∙ here) in
+    let at : Some w ≡ written_word t labels (done ++ p ∷ []) n = sym (written_push t labels done p n ∙ ap (λ o. or_else o (word_at t labels n p)) free ∙ here) in
     map_set _ _ (range_with_len 0 addresses) n (Some w) (let P : ℕ → Type 0 = λ m. n < m in subst P (sym (length-range_with_len 0 addresses)) l)
-    (λ d. let P : ℕ → Type 0 = λ a. Some w ≡ written t labels (done ++ p ∷ []) a in subst P (sym (address_of n d l)) at)
+    (λ d. let P : ℕ → Type 0 = λ a. Some w ≡ written_word t labels (done ++ p ∷ []) a in subst P (sym (address_of n d l)) at)
     (λ k d h ne.
     let a : ℕ = get_or (range_with_len 0 addresses) k d in
     let f : a ≡ k = address_of k d (below_all k h) in
@@ -127,9 +127,9 @@ free_line t labels before taken place (Some l) w e f = free_operation t labels t
 
 -- ---- what is taken, by slots
 
-row_at : (t : TableValue) (labels : Labels) (done : List Placed) (n : ℕ) → n < addresses → get_or (slots_of t labels done) n None ≡ written t labels done n
+row_at : (t : TableValue) (labels : Labels) (done : List Placed) (n : ℕ) → n < addresses → get_or (slots_of t labels done) n None ≡ written_word t labels done n
 unfolding slots_of
-row_at t labels done n h = get_or-map-range_with_len (written t labels done) 0 addresses n n None h (zero-add n)
+row_at t labels done n h = get_or-map-range_with_len (written_word t labels done) 0 addresses n n None h (zero-add n)
 
 pub taken_is : (t : TableValue) (labels : Labels) (done : List Placed) (place : ℤ) → is_taken_in (slots_of t labels done) place ≡ is_taken t labels done place
 taken_is t labels done (negsuc n) = refl
@@ -155,7 +155,7 @@ slots_more table labels done (pos n) line (Some w) e free = elim (cases_lt n 655
       let holds : ltb n 65536 ≡ true = lt-ltb n 65536 h in
       let p : Placed = record { place = pos n; line = line } in
       let P : ℕ → Type 0 = λ m. n < m in
-      let f : free_rule true (is_some (written table labels done n)) ≡ None = sym (ap (λ b. free_rule b (b && is_some (written table labels done n))) holds) ∙ free w refl in
+      let f : free_rule true (is_some (written_word table labels done n)) ≡ None = sym (ap (λ b. free_rule b (b && is_some (written_word table labels done n))) holds) ∙ free w refl in
       ap (λ b. if b then set (slots_of table labels done) n (Some w) else slots_of table labels done) holds
       ∙ slots_written table labels done p n w (subst P (sym addresses_are) h) (no_word _ (not_taken _ f))
       (ap (λ b. if b then line_word table labels (pos n) line else None) (eq-eqb n n refl) ∙ e)
@@ -178,7 +178,7 @@ pub record Taken (t : TableValue) (labels : Labels) (all : List Placed) (number 
   pub defined : before ≡ labels_of done
   pub slot : slots ≡ slots_of t labels done
 
-empty_from : (t : TableValue) (labels : Labels) (a n : ℕ) → replicate n None ≡ map (written t labels []) (range_with_len a n)
+empty_from : (t : TableValue) (labels : Labels) (a n : ℕ) → replicate n None ≡ map (written_word t labels []) (range_with_len a n)
 empty_from t labels a zero = refl
 empty_from t labels a (suc n) = ap (λ os. None ∷ os) (empty_from t labels (a + 1) n)
 
@@ -188,7 +188,7 @@ taken_none t labels all slots e = record { done = []; whole = refl; wrong = refl
 
 -- the rule that a line breaks is the one that the code finds
 rule_is : (t : TableValue) (labels : Labels) (all rest : List Placed) (number : ℕ) (p : Placed) (before : Labels) (slots : List (Option ℕ)) (f : Taken t labels all number (p ∷ rest) before slots)
-    → broken t labels f.done p ≡ line_rule t labels before (is_taken_in slots p.place) p.place p.line
+    → broken_rule t labels f.done p ≡ line_rule t labels before (is_taken_in slots p.place) p.place p.line
 rule_is t labels all rest number p before slots f =
     sym (ap (λ b. line_rule t labels b (is_taken_in slots p.place) p.place p.line) f.defined
     ∙ ap (λ s. line_rule t labels (labels_of f.done) (is_taken_in s p.place) p.place p.line) f.slot
@@ -218,7 +218,7 @@ pub taken_more : (t : TableValue) (labels : Labels) (all rest : List Placed) (nu
     → Taken t labels all (number + 1) rest later later_slots
 taken_more t labels all rest number place line before later slots later_slots f e g h =
     let p : Placed = record { place = place; line = line } in
-    let b : broken t labels f.done p ≡ None = rule_is t labels all rest number p before slots f ∙ e in
+    let b : broken_rule t labels f.done p ≡ None = rule_is t labels all rest number p before slots f ∙ e in
     record {
       done = f.done ++ p ∷ [];
       whole = append_assoc f.done (p ∷ []) rest ∙ f.whole;
@@ -253,38 +253,32 @@ flat_end f xs a n h =
     let e : n - a ≡ 0 = omega arith in
     rw e (append-nil xs)
 
-text_same : (t : TableValue) (labels : Labels) (ps : List Placed) (slots : List (Option ℕ)) → slots ≡ slots_of t labels ps → image_text t (λ a. get_or slots a None) ≡ image_text t (written t labels ps)
+text_same : (t : TableValue) (labels : Labels) (ps : List Placed) (slots : List (Option ℕ)) → slots ≡ slots_of t labels ps → image_text t (λ a. get_or slots a None) ≡ image_text t (written_word t labels ps)
 text_same t labels ps slots e =
-    ap (λ xs. codes "image 1\n" ++ xs) (flat_same (λ a. word_line t.mem t.word a (get_or slots a None)) (λ a. word_line t.mem t.word a (written t labels ps a)) 0 addresses (λ k h.
-    let P : ℕ → Type 0 = λ m. word_line t.mem t.word m (get_or slots m None) ≡ word_line t.mem t.word m (written t labels ps m) in
+    ap (λ xs. codes "image 1\n" ++ xs) (flat_same (λ a. word_line t.mem t.word a (get_or slots a None)) (λ a. word_line t.mem t.word a (written_word t labels ps a)) 0 addresses (λ k h.
+    let P : ℕ → Type 0 = λ m. word_line t.mem t.word m (get_or slots m None) ≡ word_line t.mem t.word m (written_word t labels ps m) in
     subst P (sym (zero-add k)) (ap (word_line t.mem t.word k) (ap (λ s. get_or s k None) e ∙ row_at t labels ps k h))))
 
 -- what a text is, where no line is wrong, and where one is
-pub image_is : (t : TableValue) (text : List ℕ) (labels : Labels) (slots : List (Option ℕ)) (bytes : List ℕ) → labels ≡ labels_of (placed t (pos 0) (lines text))
-    → first_wrong t labels [] 1 (placed t (pos 0) (lines text)) ≡ None → slots ≡ slots_of t labels (placed t (pos 0) (lines text))
+pub image_is : (t : TableValue) (text : List ℕ) (labels : Labels) (slots : List (Option ℕ)) (bytes : List ℕ) → labels ≡ labels_of (lines_from t (pos 0) (lines text))
+    → first_wrong t labels [] 1 (lines_from t (pos 0) (lines text)) ≡ None → slots ≡ slots_of t labels (lines_from t (pos 0) (lines text))
     → bytes ≡ image_text t (λ a. get_or slots a None) → image t text ≡ Ok bytes
 unfolding image
 image_is t text labels slots bytes e f g h =
-    let ps : List Placed = placed t (pos 0) (lines text) in
+    let ps : List Placed = lines_from t (pos 0) (lines text) in
     let free : first_wrong t (labels_of ps) [] 1 ps ≡ None = sym (ap (λ ls. first_wrong t ls [] 1 ps) e) ∙ f in
     let same : slots ≡ slots_of t (labels_of ps) ps = g ∙ ap (λ ls. slots_of t ls ps) e in
-    ap (λ o. image_unless o (image_text t (written t (labels_of ps) ps))) free ∙ ap Ok (sym (h ∙ text_same t (labels_of ps) ps slots same))
+    ap (λ o. image_unless o (image_text t (written_word t (labels_of ps) ps))) free ∙ ap Ok (sym (h ∙ text_same t (labels_of ps) ps slots same))
 
-pub image_wrong : (t : TableValue) (text : List ℕ) (labels : Labels) (rule : Rule) (line : ℕ) → labels ≡ labels_of (placed t (pos 0) (lines text))
-    → first_wrong t labels [] 1 (placed t (pos 0) (lines text)) ≡ Some (Refused rule line) → image t text ≡ Err (Refused rule line)
+pub image_wrong : (t : TableValue) (text : List ℕ) (labels : Labels) (rule : Rule) (line : ℕ) → labels ≡ labels_of (lines_from t (pos 0) (lines text))
+    → first_wrong t labels [] 1 (lines_from t (pos 0) (lines text)) ≡ Some (Refused rule line) → image t text ≡ Err (Refused rule line)
 unfolding image
 image_wrong t text labels rule line e f =
-    let ps : List Placed = placed t (pos 0) (lines text) in
-    ap (λ o. image_unless o (image_text t (written t (labels_of ps) ps))) (sym (ap (λ ls. first_wrong t ls [] 1 ps) e) ∙ f)
-
--- an answer about the words is one about the image
-pub words_meet : {T : Type 0} (bytes : T → List ℕ) (t : TableValue) (text : List ℕ) (labels : Labels) (e : AsmError) → labels ≡ labels_of (placed t (pos 0) (lines text))
-    → AreWritten t labels (placed t (pos 0) (lines text)) (Err e) → Meets bytes (image t text) (Err e)
-words_meet bytes t text labels NoMemory e h = tt
-words_meet bytes t text labels (Refused rule line) e h = image_wrong t text labels rule line e h
+    let ps : List Placed = lines_from t (pos 0) (lines text) in
+    ap (λ o. image_unless o (image_text t (written_word t (labels_of ps) ps))) (sym (ap (λ ls. first_wrong t ls [] 1 ps) e) ∙ f)
 
 -- no lines are left
-pub none_left_of : (t : TableValue) (place : ℤ) (rest : List ℕ) → length rest ≡ 0 → placed t place (lines rest) ≡ []
+pub none_left_of : (t : TableValue) (place : ℤ) (rest : List ℕ) → length rest ≡ 0 → lines_from t place (lines rest) ≡ []
 unfolding lines
 none_left_of t place [] h = refl
 none_left_of t place (c ∷ cs) h = absurd (omega (arith, h))

@@ -1,7 +1,7 @@
 -- Texts without blanks at their ends, and what stands before a comment.
 use Rattle.std.proofs.Common.{◌≡◌, ℕ, true, false, List, [], ◌∷◌, ◌++◌, length, ◌+◌, ◌-◌, ◌≤◌, take, drop, get_or, arith, subst, refl, ap, sym, ◌∙◌, append_assoc, if◌then◌else◌}
 use Rattle.std.proofs.lemmas.List.{take_all, take_more, take_rest}
-use Rattle.pdl_asm.specs.Lines.{is_blank, is_comment, onto_trimmed, trim_end, uncommented}
+use Rattle.pdl_asm.specs.Lines.{is_blank, is_comment, onto_trimmed, trim_end, without_comment}
 
 -- a blank at the end goes
 pub end_blank : (xs : List ℕ) (c : ℕ) → is_blank c ≡ true → trim_end (xs ++ c ∷ []) ≡ trim_end xs
@@ -21,14 +21,14 @@ end_kept (x ∷ xs) c h = ap (onto_trimmed x) (end_kept xs c h) ∙ onto_kept x 
 pub record Before (text rest : List ℕ) : Type 0 where
   pub front : List ℕ
   pub whole : front ++ rest ≡ text
-  pub free : front ++ uncommented rest ≡ uncommented text
+  pub free : front ++ without_comment rest ≡ without_comment text
 
 pub before_more : (text : List ℕ) (c : ℕ) (cs : List ℕ) → Before text (c ∷ cs) → is_comment (c ∷ cs) ≡ false → Before text cs
 before_more text c cs f h =
     record {
       front = f.front ++ c ∷ [];
       whole = append_assoc f.front (c ∷ []) cs ∙ f.whole;
-      free = append_assoc f.front (c ∷ []) (uncommented cs) ∙ sym (ap (λ b. f.front ++ (if b then [] else c ∷ uncommented cs)) h) ∙ f.free;
+      free = append_assoc f.front (c ∷ []) (without_comment cs) ∙ sym (ap (λ b. f.front ++ (if b then [] else c ∷ without_comment cs)) h) ∙ f.free;
     }
 
 -- ---- the same, of slices as code makes them

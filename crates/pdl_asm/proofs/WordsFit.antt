@@ -12,8 +12,8 @@ use Rattle.pdl_asm.specs.declared.line.Line.{Line}
 use Rattle.pdl_asm.specs.declared.line.Operand.{Operand}
 use Rattle.pdl_asm.specs.declared.line.Operation.{Operation}
 use Rattle.pdl_asm.specs.declared.line.Operation.TheVariants.{Nothing, At, Word, Insn}
-use Rattle.pdl_asm.specs.Values.{Labels, bit_of, field_bits, in_word, letter_value, signed, unsigned, word_of_bits}
-use Rattle.pdl_asm.specs.Assembly.{Placed, insn_word, is_at, line_word, operation_word, word_at, written}
+use Rattle.pdl_asm.specs.Values.{Labels, bit_of, field_bits, in_word, letter_value, signed_field, unsigned_field, word_of_bits}
+use Rattle.pdl_asm.specs.Assembly.{Placed, insn_word, is_at, line_word, operation_word, word_at, written_word}
 
 -- ---- numbers
 
@@ -21,13 +21,13 @@ some_if : (b : Bool) (n v : ℕ) → (if b then Some n else None) ≡ Some v →
 some_if true n v e = (refl, cc)
 some_if false n v e = cc
 
-unsigned_fits : (f : ℕ) (z : ℤ) (v : ℕ) → unsigned f z ≡ Some v → v < 2 ^ f
+unsigned_fits : (f : ℕ) (z : ℤ) (v : ℕ) → unsigned_field f z ≡ Some v → v < 2 ^ f
 unsigned_fits f (pos n) v e =
     let g = some_if (ltb n (2 ^ f)) n v e in
     omega (arith, ltb-true n (2 ^ f) g.0, g.1)
 unsigned_fits f (negsuc n) v e = cc
 
-signed_fits : (f n v : ℕ) → signed f (negsuc n) ≡ Some v → v < 2 ^ f
+signed_fits : (f n v : ℕ) → signed_field f (negsuc n) ≡ Some v → v < 2 ^ f
 signed_fits f n v e =
     let g = some_if (ltb n (2 ^ (f - 1))) (2 ^ f - 1 - n) v e in
     omega (arith, pow_pos f, g.1)
@@ -81,8 +81,8 @@ first_fits : (n : ℕ) (a b : Option ℕ) (v : ℕ) → ((w : ℕ) → a ≡ Som
 first_fits n None b v h k e = k v e
 first_fits n (Some w) b v h k e = h v e
 
-pub written_fits : (t : TableValue) (labels : Labels) (ps : List Placed) (a v : ℕ) → IsTable t → written t labels ps a ≡ Some v → v < 2 ^ t.word
+pub written_fits : (t : TableValue) (labels : Labels) (ps : List Placed) (a v : ℕ) → IsTable t → written_word t labels ps a ≡ Some v → v < 2 ^ t.word
 written_fits t labels [] a v h e = cc
 written_fits t labels (p ∷ ps) a v h e =
-    first_fits (2 ^ t.word) (word_at t labels a p) (written t labels ps a) v
+    first_fits (2 ^ t.word) (word_at t labels a p) (written_word t labels ps a) v
     (λ w f. word_fits t labels (is_at p.place a) p.place p.line w h f) (λ w f. written_fits t labels ps a w h f) e

@@ -6,7 +6,7 @@ use Rattle.pdl_kit.specs.declared.rule.Rule.TheVariants.{A1, A2, A5, A6, A7, A8}
 use Rattle.pdl_semantics.specs.Lines.{hex, hex_digits}
 use Rattle.pdl_image.specs.Images.{or_else}
 use Rattle.pdl_image.specs.Lines.{lines}
-use Rattle.pdl_asmtable.specs.Dictionaries.{value_of, defined}
+use Rattle.pdl_asmtable.specs.Dictionaries.{value_of, with_definition}
 use Rattle.pdl_asmtable.specs.declared.table.Insn.{Insn as TableInsn}
 use Rattle.pdl_asmtable.specs.Tables.{TableValue}
 use Rattle.pdl_asm.specs.Lines.{line_of}
@@ -38,16 +38,16 @@ pub record Placed : Type 0 where
   pub line : Option Line
 
 -- the lines of texts from a place on
-abbrev pub placed : TableValue → ℤ → List (List ℕ) → List Placed
-placed t place [] = []
-placed t place (text ∷ texts) = record { place = place; line = line_of text } ∷ placed t (after_line t place (line_of text)) texts
+abbrev pub lines_from : TableValue → ℤ → List (List ℕ) → List Placed
+lines_from t place [] = []
+lines_from t place (text ∷ texts) = record { place = place; line = line_of text } ∷ lines_from t (after_line t place (line_of text)) texts
 
 -- ---- labels
 
 -- the labels with that of a line
 abbrev pub with_label : Labels → ℤ → Option (List ℕ) → Labels
 with_label labels place None = labels
-with_label labels place (Some name) = defined labels name place
+with_label labels place (Some name) = with_definition labels name place
 
 -- the label of a line
 abbrev pub label_of : Option Line → Option (List ℕ)
@@ -89,9 +89,9 @@ abbrev pub word_at : TableValue → Labels → ℕ → Placed → Option ℕ
 word_at t labels address p = if is_at p.place address then line_word t labels p.place p.line else None
 
 -- the word that lines write at an address, if one does
-abbrev pub written : TableValue → Labels → List Placed → ℕ → Option ℕ
-written t labels [] address = None
-written t labels (p ∷ ps) address = or_else (word_at t labels address p) (written t labels ps address)
+abbrev pub written_word : TableValue → Labels → List Placed → ℕ → Option ℕ
+written_word t labels [] address = None
+written_word t labels (p ∷ ps) address = or_else (word_at t labels address p) (written_word t labels ps address)
 
 -- ---- rules
 
@@ -133,12 +133,12 @@ line_rule t labels before taken place (Some l) = lower (operation_rule t labels 
 
 -- a place is an address at which lines wrote a word
 abbrev pub is_taken : TableValue → Labels → List Placed → ℤ → Bool
-is_taken t labels before (pos n) = nat_lt n 65536 && is_some (written t labels before n)
+is_taken t labels before (pos n) = nat_lt n 65536 && is_some (written_word t labels before n)
 is_taken t labels before (negsuc n) = false
 
 -- the lowest rule that a line breaks after lines before it
-abbrev pub broken : TableValue → Labels → List Placed → Placed → Option Rule
-broken t labels before p = line_rule t labels (labels_of before) (is_taken t labels before p.place) p.place p.line
+abbrev pub broken_rule : TableValue → Labels → List Placed → Placed → Option Rule
+broken_rule t labels before p = line_rule t labels (labels_of before) (is_taken t labels before p.place) p.place p.line
 
 -- the refusal at a line that breaks a rule, else what comes of the lines after it
 abbrev pub at_line : ℕ → Option Rule → Option AsmError → Option AsmError
@@ -149,7 +149,7 @@ at_line number None later = later
 abbrev pub first_wrong : TableValue → Labels → List Placed → ℕ → List Placed → Option AsmError
 first_wrong t labels before number [] = None
 first_wrong t labels before number (p ∷ ps) =
-    at_line number (broken t labels before p) (first_wrong t labels (before ++ p ∷ []) (number + 1) ps)
+    at_line number (broken_rule t labels before p) (first_wrong t labels (before ++ p ∷ []) (number + 1) ps)
 
 -- ---- the image
 
@@ -173,11 +173,11 @@ image_unless (Some refusal) text = Err refusal
 
 -- the image of lines with places, of which all labels are known
 abbrev pub image_of_lines : TableValue → List Placed → Result (List ℕ) AsmError
-image_of_lines t ps = image_unless (first_wrong t (labels_of ps) [] 1 ps) (image_text t (written t (labels_of ps) ps))
+image_of_lines t ps = image_unless (first_wrong t (labels_of ps) [] 1 ps) (image_text t (written_word t (labels_of ps) ps))
 
 -- the image that a text is with a table, or its refusal: the lowest wrong line, counted from 1, there the lowest rule
 unfoldable pub image : TableValue → List ℕ → Result (List ℕ) AsmError
-image t text = image_of_lines t (placed t (pos 0) (lines text))
+image t text = image_of_lines t (lines_from t (pos 0) (lines text))
 
 -- an answer is what is meant, or memory ran out
 abbrev pub Meets : {T : Type 0} → (T → List ℕ) → Result (List ℕ) AsmError → Result T AsmError → Type 0

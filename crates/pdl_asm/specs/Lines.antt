@@ -29,8 +29,8 @@ trim_end [] = []
 trim_end (c ∷ cs) = onto_trimmed c (trim_end cs)
 
 -- a text without the blanks round it
-abbrev pub trimmed : List ℕ → List ℕ
-trimmed text = trim_end (trim_start text)
+abbrev pub without_blanks : List ℕ → List ℕ
+without_blanks text = trim_end (trim_start text)
 
 -- a comment begins here
 abbrev pub is_comment : List ℕ → Bool
@@ -38,9 +38,9 @@ is_comment (c ∷ d ∷ more) = c == 47 && d == 47
 is_comment _ = false
 
 -- what stands before the first `//`
-abbrev pub uncommented : List ℕ → List ℕ
-uncommented [] = []
-uncommented (c ∷ cs) = if is_comment (c ∷ cs) then [] else c ∷ uncommented cs
+abbrev pub without_comment : List ℕ → List ℕ
+without_comment [] = []
+without_comment (c ∷ cs) = if is_comment (c ∷ cs) then [] else c ∷ without_comment cs
 
 -- ---- numbers and operands
 
@@ -74,7 +74,7 @@ with_operand _ _ = None
 -- operands of texts
 abbrev pub operands_in : List (List ℕ) → Option (List Operand)
 operands_in [] = Some []
-operands_in (part ∷ parts) = with_operand (operand_of (trimmed part)) (operands_in parts)
+operands_in (part ∷ parts) = with_operand (operand_of (without_blanks part)) (operands_in parts)
 
 -- the parts of what stands after a comma, if there is one
 abbrev pub parts_after : Option (List ℕ) → List (List ℕ)
@@ -112,17 +112,17 @@ line_with label None = None
 line_with label (Some operation) = Some (record { label = label; operation = operation })
 
 -- the line of a text with a colon at a place: a label stands before it
-abbrev pub labelled : List ℕ → Option ℕ → Option Line
-labelled text None = line_with None (operation_of (trimmed text))
-labelled text (Some i) =
-    if is_name (trimmed (take i text))
-    then line_with (Some (trimmed (take i text))) (operation_of (trimmed (drop (i + 1) text)))
+abbrev pub labelled_line : List ℕ → Option ℕ → Option Line
+labelled_line text None = line_with None (operation_of (without_blanks text))
+labelled_line text (Some i) =
+    if is_name (without_blanks (take i text))
+    then line_with (Some (without_blanks (take i text))) (operation_of (without_blanks (drop (i + 1) text)))
     else None
 
 -- the line of a text without comment: a label stands before its first colon
 abbrev pub line_of_text : List ℕ → Option Line
-line_of_text text = labelled text (position (λ c. c == 58) text)
+line_of_text text = labelled_line text (position (λ c. c == 58) text)
 
 -- A1: the line that a text is, if it has a line's form
 unfoldable pub line_of : List ℕ → Option Line
-line_of text = line_of_text (uncommented text)
+line_of text = line_of_text (without_comment text)

@@ -5,15 +5,15 @@ use Rattle.pdl_kit.specs.declared.mem_info.MemInfo.{MemInfo}
 use Rattle.pdl_image.specs.Images.{image}
 use Rattle.pdl_image.specs.Lines.{lines}
 use Rattle.pdl_asmtable.specs.Tables.{TableValue}
-use Rattle.pdl_asm.specs.Assembly.{Placed, labels_of, placed, written}
+use Rattle.pdl_asm.specs.Assembly.{Placed, labels_of, lines_from, written_word}
 
 -- the lines of a text with their places
 abbrev pub lines_in : TableValue → List ℕ → List Placed
-lines_in t text = placed t (pos 0) (lines text)
+lines_in t text = lines_from t (pos 0) (lines text)
 
 -- the word that a text writes at an address, if it writes one
 unfoldable pub word_in : TableValue → List ℕ → ℕ → Option ℕ
-word_in t text address = written t (labels_of (lines_in t text)) (lines_in t text) address
+word_in t text address = written_word t (labels_of (lines_in t text)) (lines_in t text) address
 
 -- the words of the first addresses: those that a text writes, and 0 where it writes none
 abbrev pub words_in : TableValue → List ℕ → ℕ → List ℕ

@@ -3,13 +3,13 @@ use Rattle.std.specs.Prelude.{◌≡◌, ℕ, ℤ, pos, negsuc, nat_lt, Bool, fa
 use Rattle.std.specs.List.{range_with_len}
 use Rattle.pdl_asmtable.specs.Tables.{TableValue}
 use Rattle.pdl_asm.specs.Values.{Labels}
-use Rattle.pdl_asm.specs.Assembly.{Placed, addresses, first_wrong, written}
+use Rattle.pdl_asm.specs.Assembly.{Placed, addresses, first_wrong, written_word}
 use Rattle.pdl_asm.specs.declared.asm_error.AsmError.{AsmError}
 use Rattle.pdl_asm.specs.declared.asm_error.AsmError.TheVariants.{Refused, NoMemory}
 
 -- the words that lines write at the addresses
 unfoldable pub slots_of : TableValue → Labels → List Placed → List (Option ℕ)
-slots_of t labels before = map (written t labels before) (range_with_len 0 addresses)
+slots_of t labels before = map (written_word t labels before) (range_with_len 0 addresses)
 
 -- a place is an address that has a word
 abbrev pub is_taken_in : List (Option ℕ) → ℤ → Bool

@@ -17,19 +17,19 @@ Labels = List (List ℕ × ℤ)
 -- ---- numbers in fields
 
 -- a number in a field of f bits: 0 to 2^f - 1
-abbrev pub unsigned : ℕ → ℤ → Option ℕ
-unsigned f (pos n) = if nat_lt n (2 ^ f) then Some n else None
-unsigned f (negsuc n) = None
+abbrev pub unsigned_field : ℕ → ℤ → Option ℕ
+unsigned_field f (pos n) = if nat_lt n (2 ^ f) then Some n else None
+unsigned_field f (negsuc n) = None
 
 -- a number in two's complement in a field of f bits: -2^(f-1) to 2^(f-1) - 1
-abbrev pub signed : ℕ → ℤ → Option ℕ
-signed f (pos n) = if nat_lt n (2 ^ (f - 1)) then Some n else None
-signed f (negsuc n) = if nat_lt n (2 ^ (f - 1)) then Some (2 ^ f - 1 - n) else None
+abbrev pub signed_field : ℕ → ℤ → Option ℕ
+signed_field f (pos n) = if nat_lt n (2 ^ (f - 1)) then Some n else None
+signed_field f (negsuc n) = if nat_lt n (2 ^ (f - 1)) then Some (2 ^ f - 1 - n) else None
 
 -- a number in a word of so many bits: -2^(bits-1) to 2^bits - 1
 abbrev pub in_word : ℕ → ℤ → Option ℕ
-in_word bits (pos n) = unsigned bits (pos n)
-in_word bits (negsuc n) = signed bits (negsuc n)
+in_word bits (pos n) = unsigned_field bits (pos n)
+in_word bits (negsuc n) = signed_field bits (negsuc n)
 
 -- A5: a value that is outside its field
 abbrev pub or_a5 : Option ℕ → Result ℕ Rule
@@ -46,7 +46,7 @@ amount labels (Number n) = Some n
 -- A4: a register's number in a field of f bits
 abbrev pub reg_value : ℕ → Option ℕ → Result ℕ Rule
 reg_value f None = Err A4
-reg_value f (Some r) = or_a5 (unsigned f (pos r))
+reg_value f (Some r) = or_a5 (unsigned_field f (pos r))
 
 -- A6: a label that is defined nowhere
 abbrev pub amount_value : (ℤ → Option ℕ) → Option ℤ → Result ℕ Rule
@@ -57,10 +57,10 @@ amount_value field (Some n) = or_a5 (field n)
 abbrev pub operand_value : TableValue → Labels → ℤ → ℕ → Kind → Operand → Result ℕ Rule
 operand_value t labels place f Reg (Label name) = reg_value f (value_of t.regs name)
 operand_value t labels place f Reg (Number n) = Err A4
-operand_value t labels place f Uint o = amount_value (unsigned f) (amount labels o)
+operand_value t labels place f Uint o = amount_value (unsigned_field f) (amount labels o)
 operand_value t labels place f Sint (Label name) = Err A5
-operand_value t labels place f Sint (Number n) = or_a5 (signed f n)
-operand_value t labels place f Rel o = amount_value (λ n. signed f (n -ℤ place)) (amount labels o)
+operand_value t labels place f Sint (Number n) = or_a5 (signed_field f n)
+operand_value t labels place f Rel o = amount_value (λ n. signed_field f (n -ℤ place)) (amount labels o)
 
 -- how many bits the field of a letter has
 abbrev pub field_bits : List ℕ → ℕ → ℕ

@@ -2,7 +2,7 @@
 ghost use Rattle.std.specs.Prelude.{◌≡◌, ◌≤◌, IfOk, OnOk, MatchResult, [], length, pos, List, ℕ};
 ghost use Rattle.pdl_kit.specs.declared.files.TheConstants.{LONGEST_FILE};
 ghost use Rattle.pdl_image.specs.Lines.{lines};
-ghost use Rattle.pdl_asm.specs.Assembly.{image, labels_of, placed, Meets};
+ghost use Rattle.pdl_asm.specs.Assembly.{image, labels_of, lines_from, Meets};
 ghost use Rattle.pdl_asm.specs.ReadBack.{IsReadBack};
 ghost use Rattle.pdl_asm.specs.Slots.{AreWritten};
 
@@ -20,7 +20,8 @@ use std::alloc::Global;
 // The places of the labels that a text defines.
 fn read_labels(alloc: Global, table: &Table, text: &[u8]) -> Result<Dictionary<i128>, AsmError>
     requires { length text.now ≤ LONGEST_FILE }
-    ensures { MatchResult result (λ l. l ≡ labels_of (placed table.now (pos 0) (lines text.now)))
+    ensures { MatchResult result (λ l.
+        l ≡ labels_of (lines_from table.now (pos 0) (lines text.now)))
         (λ e. e ≡ AsmError.NoMemory) }
 {
     let mut labels = Dictionary::new(alloc);
@@ -44,7 +45,8 @@ fn write_words(
     text: &[u8],
 ) -> Result<Words, AsmError>
     requires { length text.now ≤ LONGEST_FILE }
-    ensures { AreWritten table.now labels.now (placed table.now (pos 0) (lines text.now)) result }
+    ensures { AreWritten table.now labels.now
+        (lines_from table.now (pos 0) (lines text.now)) result }
 {
     let mut words = Words::new(alloc)?;
     let mut before = Dictionary::new(alloc);

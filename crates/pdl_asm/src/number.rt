@@ -31,7 +31,7 @@ impl Number {
     }
 
     /// The number that is less than 0 by a magnitude.
-    pub fn negated(magnitude: u128) -> Number
+    pub fn negative(magnitude: u128) -> Number
         requires { magnitude ≤ 2 ^ 67 }
         ensures { result ≡ neg_ℤ (pos magnitude) }
     {

@@ -7,7 +7,7 @@ ghost use Rattle.pdl_asm.specs.Lines.{magnitude_of, number_of, operand_of, opera
 use crate::digits::{read_decimal, read_hexadecimal};
 use crate::line::Operand;
 use crate::number::Number;
-use crate::text::{find_byte, trimmed};
+use crate::text::{find_byte, without_blanks};
 use pdl_asmtable::is_name;
 use pdl_kit::{Name, NoMemory, Seq};
 use std::alloc::Global;
@@ -29,7 +29,7 @@ pub fn read_number(text: &[u8]) -> Option<Number>
 {
     match text {
         [b'-', magnitude @ ..] => match read_magnitude(magnitude) {
-            Some(magnitude) => Some(Number::negated(magnitude)),
+            Some(magnitude) => Some(Number::negative(magnitude)),
             None => None,
         },
         _ => match read_magnitude(text) {
@@ -76,7 +76,7 @@ pub fn read_operands(alloc: Global, text: &[u8]) -> Result<Option<Seq<Operand>>,
     let mut rest = Some(text);
     while let Some(text) = rest {
         let (part, later) = split_part(text);
-        match read_operand(alloc, trimmed(part))? {
+        match read_operand(alloc, without_blanks(part))? {
             Some(operand) => operands.push(operand)?,
             None => return Ok(None),
         }

@@ -1,10 +1,10 @@
 // The operation and the label of a line.
 ghost use Rattle.std.specs.Prelude.{◌≡◌, IfOk, Some, None, option_map};
-ghost use Rattle.pdl_asm.specs.Lines.{line_of, line_of_text, number_of, line_with, operands_of, operation_of, operation_with, trimmed as trimmed_of};
+ghost use Rattle.pdl_asm.specs.Lines.{line_of, line_of_text, number_of, line_with, operands_of, operation_of, operation_with, without_blanks as trimmed_of};
 
 use crate::line::{Line, Operation};
 use crate::operand::{read_number, read_operands};
-use crate::text::{find_blank, find_byte, trim_start, trimmed, uncommented};
+use crate::text::{find_blank, find_byte, trim_start, without_blanks, without_comment};
 use pdl_asmtable::is_name;
 use pdl_kit::{Name, NoMemory};
 use std::alloc::Global;
@@ -71,7 +71,7 @@ fn read_operation(alloc: Global, text: &[u8]) -> Result<Option<Operation>, NoMem
 fn read_after(alloc: Global, label: Option<Name>, text: &[u8]) -> Result<Option<Line>, NoMemory>
     ensures { IfOk result (λ l. l ≡ line_with label (operation_of (trimmed_of text.now))) }
 {
-    match read_operation(alloc, trimmed(text))? {
+    match read_operation(alloc, without_blanks(text))? {
         Some(operation) => Ok(Some(Line { label, operation })),
         None => Ok(None),
     }
@@ -84,7 +84,7 @@ fn read_text(alloc: Global, text: &[u8]) -> Result<Option<Line>, NoMemory>
     let Some(colon) = find_byte(text, b':') else {
         return read_after(alloc, None, text);
     };
-    let label = trimmed(&text[..colon]);
+    let label = without_blanks(&text[..colon]);
     if !is_name(label) {
         return Ok(None);
     }
@@ -97,5 +97,5 @@ fn read_text(alloc: Global, text: &[u8]) -> Result<Option<Line>, NoMemory>
 pub fn read_line(alloc: Global, text: &[u8]) -> Result<Option<Line>, NoMemory>
     ensures { IfOk result (λ l. l ≡ line_of text.now) }
 {
-    read_text(alloc, uncommented(text))
+    read_text(alloc, without_comment(text))
 }

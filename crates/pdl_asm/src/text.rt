@@ -1,7 +1,7 @@
 // Parts of a line: what stands before a comment, and texts without the blanks round them.
 ghost use Rattle.std.specs.Prelude.{◌≡◌, ◌<◌, ◌∷◌, ◌==◌, IfSome, length, position};
 ghost use Rattle.pdl_image.specs.Lines.{lines};
-ghost use Rattle.pdl_asm.specs.Lines.{is_blank as is_blank_of, is_comment as is_comment_of, trim_start as trim_start_of, trim_end as trim_end_of, trimmed as trimmed_of, uncommented as uncommented_of};
+ghost use Rattle.pdl_asm.specs.Lines.{is_blank as is_blank_of, is_comment as is_comment_of, trim_start as trim_start_of, trim_end as trim_end_of, without_blanks as trimmed_of, without_comment as uncommented_of};
 
 /// The place of the first byte that equals `byte`, if there is one.
 pub fn find_byte(text: &[u8], byte: u8) -> Option<usize>
@@ -60,7 +60,7 @@ fn trim_end(text: &[u8]) -> &[u8]
 }
 
 /// A text without the blanks round it.
-pub fn trimmed(text: &[u8]) -> &[u8]
+pub fn without_blanks(text: &[u8]) -> &[u8]
     ensures { result.now ≡ trimmed_of text.now }
 {
     trim_end(trim_start(text))
@@ -82,7 +82,7 @@ fn is_comment(text: &[u8]) -> bool
 }
 
 /// What stands before the first `//`.
-pub fn uncommented(text: &[u8]) -> &[u8]
+pub fn without_comment(text: &[u8]) -> &[u8]
     ensures { result.now ≡ uncommented_of text.now }
 {
     let mut rest = text;

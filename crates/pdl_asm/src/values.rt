@@ -1,7 +1,7 @@
 // The values of operands.
 ghost use Rattle.std.specs.Prelude.{◌≡◌, ◌≤◌, ◌<◌, ◌^◌, ◌-ℤ◌, IfOk, IfSome, Some, None, length};
 ghost use Rattle.std.specs.Option.{option_copied};
-ghost use Rattle.pdl_asm.specs.Values.{amount as amount_of, argument_value as argument_value_of, field_bits as field_bits_of, in_word as in_word_of, operand_value as operand_value_of, or_a5 as or_a5_of, reg_value, signed as signed_of, unsigned as unsigned_of};
+ghost use Rattle.pdl_asm.specs.Values.{amount as amount_of, argument_value as argument_value_of, field_bits as field_bits_of, in_word as in_word_of, operand_value as operand_value_of, or_a5 as or_a5_of, reg_value, signed_field as signed_of, unsigned_field as unsigned_of};
 
 use crate::line::Operand;
 use crate::sign::{below_minus_one, magnitude, power};
@@ -9,7 +9,7 @@ use pdl_asmtable::{Arg, Dictionary, Kind, Table};
 use pdl_kit::Rule;
 
 // A number in a field of so many bits: 0 to 2^f - 1.
-fn unsigned(field: u8, number: i128) -> Option<u64>
+fn unsigned_field(field: u8, number: i128) -> Option<u64>
     requires { field ≤ 64 }
     ensures { result ≡ unsigned_of field number }
 {
@@ -25,7 +25,7 @@ fn unsigned(field: u8, number: i128) -> Option<u64>
 }
 
 // A number in two's complement in a field of so many bits: -2^(f-1) to 2^(f-1) - 1.
-fn signed(field: u8, number: i128) -> Option<u64>
+fn signed_field(field: u8, number: i128) -> Option<u64>
     requires { field ≤ 64 }
     ensures { result ≡ signed_of field number }
 {
@@ -47,9 +47,9 @@ pub fn in_word(bits: u8, number: i128) -> Option<u64>
     ensures { result ≡ in_word_of bits number }
 {
     if number < 0 {
-        signed(bits, number)
+        signed_field(bits, number)
     } else {
-        unsigned(bits, number)
+        unsigned_field(bits, number)
     }
 }
 
@@ -82,7 +82,7 @@ fn register(field: u8, number: Option<u32>) -> Result<u64, Rule>
     ensures { result ≡ reg_value field number }
 {
     match number {
-        Some(number) => or_a5(unsigned(field, i128::from(number))),
+        Some(number) => or_a5(unsigned_field(field, i128::from(number))),
         None => Err(Rule::A4),
     }
 }
@@ -93,7 +93,7 @@ fn relative(field: u8, number: i128, place: i128) -> Option<u64>
     ensures { result ≡ signed_of field (number -ℤ place) }
 {
     match number.checked_sub(place) {
-        Some(distance) => signed(field, distance),
+        Some(distance) => signed_field(field, distance),
         None => None,
     }
 }
@@ -116,12 +116,12 @@ pub fn operand_value(
             Operand::Number(_) => Err(Rule::A4),
         },
         Kind::Uint => match amount(labels, operand) {
-            Some(number) => or_a5(unsigned(field, number)),
+            Some(number) => or_a5(unsigned_field(field, number)),
             None => Err(Rule::A6),
         },
         Kind::Sint => match operand {
             Operand::Label(_) => Err(Rule::A5),
-            Operand::Number(number) => or_a5(signed(field, number.get())),
+            Operand::Number(number) => or_a5(signed_field(field, number.get())),
         },
         Kind::Rel => match amount(labels, operand) {
             Some(number) => or_a5(relative(field, number, place)),

@@ -3,7 +3,7 @@ use Rattle.std.proofs.Common.{◌≡◌, ℕ, ◌+◌, not, ◌&&◌, Bool, true
 use Rattle.std.specs.Cmp.Lexicographic.{pointwise}
 use Rattle.std.specs.Map.{lookup}
 use Rattle.indexmap.specs.IndexMap.{insert_entry}
-use Rattle.pdl_asmtable.specs.Dictionaries.{value_of, defined}
+use Rattle.pdl_asmtable.specs.Dictionaries.{value_of, with_definition}
 use Rattle.std.proofs.lemmas.Bool.{eqb-true}
 use Rattle.pdl_asmtable.specs.Tables.{AreWide, breaks_b3, first_broken}
 use Rattle.pdl_asmtable.specs.declared.table.Insn.{Insn}
@@ -20,13 +20,13 @@ insert_new [] x v h = refl
 insert_new (e ∷ es) x v h = insert_step (bytes_eq x e.0) x v e es _ _ h (λ k. insert_new es x v k)
 
 -- a name that is there already
-pub defined_there : {T : Type 0} (es fs : List (List ℕ × T)) (x : List ℕ) (v : T) (o : Option T) → o ≡ lookup (pointwise nat_eq x) es → es ≡ fs → is_some o ≡ true → fs ≡ defined fs x v
+pub defined_there : {T : Type 0} (es fs : List (List ℕ × T)) (x : List ℕ) (v : T) (o : Option T) → o ≡ lookup (pointwise nat_eq x) es → es ≡ fs → is_some o ≡ true → fs ≡ with_definition fs x v
 defined_there es fs x v o h k s =
     let known = ap (λ gs. is_some (value_of gs x)) (sym k) ∙ ap is_some (sym h) ∙ s in
     sym (ap (λ b. if b then fs else fs ++ (x, v) ∷ []) known)
 
 pub defined_new : {T : Type 0} (es fs gs : List (List ℕ × T)) (x : List ℕ) (v : T) (o : Option T) → o ≡ lookup (pointwise nat_eq x) es → es ≡ fs → is_some o ≡ false
-    → gs ≡ insert_entry (pointwise nat_eq) es x v → gs ≡ defined fs x v
+    → gs ≡ insert_entry (pointwise nat_eq) es x v → gs ≡ with_definition fs x v
 defined_new es fs gs x v o h k s i =
     let missing = ap is_some (sym h) ∙ s in
     let unknown = ap (λ hs. is_some (value_of hs x)) (sym k) ∙ missing in

@@ -7,5 +7,5 @@ abbrev pub value_of : {T : Type 0} → List (List ℕ × T) → List ℕ → Opt
 value_of entries name = lookup (bytes_eq name) entries
 
 -- a definition more: of a name that is defined twice the first one holds
-abbrev pub defined : {T : Type 0} → List (List ℕ × T) → List ℕ → T → List (List ℕ × T)
-defined entries name value = if is_some (value_of entries name) then entries else entries ++ (name, value) ∷ []
+abbrev pub with_definition : {T : Type 0} → List (List ℕ × T) → List ℕ → T → List (List ℕ × T)
+with_definition entries name value = if is_some (value_of entries name) then entries else entries ++ (name, value) ∷ []

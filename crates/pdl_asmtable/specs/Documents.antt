@@ -7,7 +7,7 @@ use Rattle.toml.specs.Parse.{parse_document}
 use Rattle.pdl_kit.specs.declared.rule.Rule.TheVariants.{B1, B2}
 use Rattle.pdl_image.specs.Images.{is_letter, is_name}
 use Rattle.pdl_asmtable.specs.Names.{is_pipe_name}
-use Rattle.pdl_asmtable.specs.Dictionaries.{defined}
+use Rattle.pdl_asmtable.specs.Dictionaries.{with_definition}
 use Rattle.pdl_asmtable.specs.Tables.{Named, TableValue, table_with}
 use Rattle.pdl_asmtable.specs.declared.table.Kind.{Kind}
 use Rattle.pdl_asmtable.specs.declared.table.Kind.TheVariants.{Reg, Uint, Sint, Rel}
@@ -40,13 +40,13 @@ kind_of w =
     else None
 
 -- an argument of a letter
-abbrev pub lettered : ℕ → Option Kind → Option Arg
-lettered c None = None
-lettered c (Some k) = if is_letter c then Some (record { letter = c; kind = k }) else None
+abbrev pub letter_argument : ℕ → Option Kind → Option Arg
+letter_argument c None = None
+letter_argument c (Some k) = if is_letter c then Some (record { letter = c; kind = k }) else None
 
 -- an argument `<letter>:<kind>`
 abbrev pub arg_of : List ℕ → Option Arg
-arg_of (c ∷ d ∷ w) = if d == 58 then lettered c (kind_of w) else None
+arg_of (c ∷ d ∷ w) = if d == 58 then letter_argument c (kind_of w) else None
 arg_of _ = None
 
 -- an argument before those after it, if each is there
@@ -60,12 +60,12 @@ args_of no_items = Some []
 args_of (item d ds) = with_arg (option_and_then arg_of (as_str d)) (args_of ds)
 
 -- `bits` without its spaces
-abbrev pub unspaced : List ℕ → List ℕ
-unspaced bits = filter (λ c. not (c == 32)) bits
+abbrev pub text_without_spaces : List ℕ → List ℕ
+text_without_spaces bits = filter (λ c. not (c == 32)) bits
 
 -- an instruction of its parts, if each is there
 abbrev pub insn_from : Option (List ℕ) → Option (List Arg) → Option (List ℕ) → Option Named
-insn_from (Some n) (Some args) (Some b) = Some (n, record { args = args; bits = unspaced b })
+insn_from (Some n) (Some args) (Some b) = Some (n, record { args = args; bits = text_without_spaces b })
 insn_from _ _ _ = None
 
 -- the keys of an instruction
@@ -111,7 +111,7 @@ number_of (negsuc n) = None
 -- a register more, if its name has the form and its number the range
 abbrev pub with_reg : Option (List (List ℕ × ℕ)) → List ℕ → Data → Option (List (List ℕ × ℕ))
 with_reg None name d = None
-with_reg (Some regs) name d = if is_name name then option_map (λ r. defined regs name r) (option_and_then number_of (as_integer d)) else None
+with_reg (Some regs) name d = if is_name name then option_map (λ r. with_definition regs name r) (option_and_then number_of (as_integer d)) else None
 
 -- registers, and those of members after them
 abbrev pub regs_from : Option (List (List ℕ × ℕ)) → Members → Option (List (List ℕ × ℕ))

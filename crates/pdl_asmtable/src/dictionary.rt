@@ -1,7 +1,7 @@
 // Values by name.
 ghost use Rattle.std.specs.Prelude.{◌≡◌, ℕ, List, [], OnOk};
 ghost use Rattle.std.specs.Option.{option_copied};
-ghost use Rattle.pdl_asmtable.specs.Dictionaries.{value_of, defined};
+ghost use Rattle.pdl_asmtable.specs.Dictionaries.{value_of, with_definition};
 
 use indexmap::IndexMap;
 use pdl_kit::{Name, NoMemory};
@@ -46,7 +46,7 @@ impl<T> Dictionary<T> {
 impl<T: Drop> Dictionary<T> {
     /// Defines a name, unless it is defined. Where memory runs out, the value is dropped.
     pub fn define(&mut self, name: Name, value: T) -> Result<(), NoMemory>
-        ensures { OnOk result (self.new ≡ defined self.old name value) }
+        ensures { OnOk result (self.new ≡ with_definition self.old name value) }
     {
         if self.values.get(&name).is_some() {
             return Ok(());

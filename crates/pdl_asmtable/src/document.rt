@@ -115,7 +115,8 @@ pub fn word_in(table: &Document) -> Option<u8>
 pub fn mem_in(table: &Document) -> Option<&str>
     ensures name { IfSome result (λ m. is_pipe_name_of m.now ≡ true) }
     ensures value { option_copied result
-        ≡ option_and_then (where_is is_pipe_name_of) (text_of (codes "mem") (table_view table.now)) }
+        ≡ option_and_then (where_is is_pipe_name_of)
+        (text_of (codes "mem") (table_view table.now)) }
 {
     match text_at(table, "mem") {
         Some(name) => { if is_pipe_name(name) { Some(name) } else { None } }

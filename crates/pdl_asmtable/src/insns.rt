@@ -4,7 +4,7 @@ ghost use Rattle.std.specs.Option.{option_copied};
 ghost use Rattle.toml.specs.Data.{as_table, as_str, as_array, get_member};
 ghost use Rattle.toml.specs.View.{view, table_view, items_view};
 ghost use Rattle.pdl_image.specs.Images.{is_name as is_name_of};
-ghost use Rattle.pdl_asmtable.specs.Documents.{args_of, arg_of, insn_of, insn_of_members, insns_of, kind_of, lettered as lettered_of, text_at as text_of, unspaced, where_is, Meets};
+ghost use Rattle.pdl_asmtable.specs.Documents.{args_of, arg_of, insn_of, insn_of_members, insns_of, kind_of, letter_argument as lettered_of, text_at as text_of, text_without_spaces, where_is, Meets};
 
 use crate::document::{has_insn_keys, list_at, text_at};
 use crate::names::{is_letter, is_name};
@@ -28,7 +28,7 @@ fn read_kind(word: &[u8]) -> Option<Kind>
 }
 
 // The argument of a letter and a word, if they are one.
-fn lettered(letter: u8, kind: Option<Kind>) -> Option<Arg>
+fn argument_of(letter: u8, kind: Option<Kind>) -> Option<Arg>
     ensures { result ≡ lettered_of letter kind }
 {
     match kind {
@@ -48,7 +48,7 @@ fn read_arg(text: &[u8]) -> Option<Arg>
     ensures { result ≡ arg_of text.now }
 {
     match text {
-        [letter, b':', word @ ..] => lettered(*letter, read_kind(word)),
+        [letter, b':', word @ ..] => argument_of(*letter, read_kind(word)),
         _ => None,
     }
 }
@@ -90,7 +90,7 @@ fn args_in(alloc: Global, table: &Document) -> Result<Option<Seq<Arg>>, NoMemory
 
 // The bits without their spaces.
 fn without_spaces(alloc: Global, bits: &[u8]) -> Result<Seq<u8>, NoMemory>
-    ensures { IfOk result (λ b. b ≡ unspaced bits.now) }
+    ensures { IfOk result (λ b. b ≡ text_without_spaces bits.now) }
 {
     let mut kept = Seq::new(alloc);
     for bit in bits {

@@ -17,7 +17,7 @@ use std::alloc::Global;
 use toml::Table as Document;
 
 // The refusal by a rule at an instruction.
-fn refused(rule: Rule, insn: usize) -> TableError
+fn refusal_at(rule: Rule, insn: usize) -> TableError
     ensures { result ≡ TableError.Refused rule insn }
 {
     TableError::Refused { rule, insn }
@@ -31,7 +31,7 @@ fn by_name(alloc: Global, insns: Seq<(Name, Insn)>) -> Result<Dictionary<Insn>, 
     let mut number = 0;
     for (name, insn) in insns.into_vec() {
         if named.get(&name).is_some() {
-            return Err(refused(Rule::B5, number + 1));
+            return Err(refusal_at(Rule::B5, number + 1));
         }
         named.define(name, insn)?;
         number += 1;
@@ -53,10 +53,10 @@ fn to_table(
     ensures { Meets (table_with word mem regs insns) result }
 {
     if let Some(number) = first_b3(word, insns.as_slice()) {
-        return Err(refused(Rule::B3, number));
+        return Err(refusal_at(Rule::B3, number));
     }
     if let Some(number) = first_b4(insns.as_slice()) {
-        return Err(refused(Rule::B4, number));
+        return Err(refusal_at(Rule::B4, number));
     }
     let insns = by_name(alloc, insns)?;
     Ok(Table::new(word, mem, regs, insns))
@@ -67,19 +67,19 @@ fn read_members(alloc: Global, document: &Document) -> Result<Table, TableError>
     ensures { Meets (table_of_members (table_view document.now)) result }
 {
     if !has_table_keys(document) {
-        return Err(refused(Rule::B2, 0));
+        return Err(refusal_at(Rule::B2, 0));
     }
     let Some(word) = word_in(document) else {
-        return Err(refused(Rule::B2, 0));
+        return Err(refusal_at(Rule::B2, 0));
     };
     let Some(mem) = mem_in(document) else {
-        return Err(refused(Rule::B2, 0));
+        return Err(refusal_at(Rule::B2, 0));
     };
     let Some(regs) = regs_in(alloc, document)? else {
-        return Err(refused(Rule::B2, 0));
+        return Err(refusal_at(Rule::B2, 0));
     };
     let Some(list) = insns_in(document) else {
-        return Err(refused(Rule::B2, 0));
+        return Err(refusal_at(Rule::B2, 0));
     };
     let insns = read_insns(alloc, list)?;
     let mem = Name::copy_of(alloc, mem.as_bytes())?;
@@ -92,7 +92,7 @@ fn parse(alloc: Global, text: &[u8]) -> Result<Document, TableError>
         (λ e. IsNoDocument text.now e) }
 {
     let Ok(text) = std::str::from_utf8(text) else {
-        return Err(refused(Rule::B1, 0));
+        return Err(refusal_at(Rule::B1, 0));
     };
     match toml::table_from_str(alloc, text) {
         Ok(document) => Ok(document),
@@ -100,7 +100,7 @@ fn parse(alloc: Global, text: &[u8]) -> Result<Document, TableError>
             if error.is_memory() {
                 Err(TableError::NoMemory)
             } else {
-                Err(refused(Rule::B1, 0))
+                Err(refusal_at(Rule::B1, 0))
             }
         }
     }

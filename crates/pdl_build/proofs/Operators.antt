@@ -2,7 +2,7 @@
 use Rattle.std.proofs.Common.{◌≡◌, ℕ, ◌^◌, ◌<◌, ◌≤◌, refl, sym, arith, lit≤}
 use Rattle.pdl_semantics.specs.Tree.{BinaryOp, Add, Sub, Mul, And, Or, Xor, Equal, Differ, Less, ShiftLeft, ShiftRight}
 use Rattle.pdl_semantics.specs.Flatten.{op_width}
-use Rattle.pdl_semantics.specs.Flat.{applied}
+use Rattle.pdl_semantics.specs.Flat.{operator_value}
 use Rattle.pdl_word.specs.Words as words
 use Rattle.pdl_word.proofs.Bounds.{add_below, sub_below, mul_below, and_below, or_below, xor_below, equal_below, differ_below, less_below, shl_below, shr_below}
 use Rattle.pdl_net.specs.declared.BinOp.TheVariants as net_op
@@ -49,7 +49,7 @@ bounded_at s f n e l h v = record { low = omega (arith, e); high = omega (arith,
 
 -- VALUES
 
-pub op_value : (op : BinaryOp) (w a b : ℕ) → bin_word (op_of op) w a b ≡ applied op w a b
+pub op_value : (op : BinaryOp) (w a b : ℕ) → bin_word (op_of op) w a b ≡ operator_value op w a b
 op_value Add w a b = refl
 op_value Sub w a b = refl
 op_value Mul w a b = refl

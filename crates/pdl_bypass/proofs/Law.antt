@@ -7,12 +7,12 @@ use Rattle.pdl_net.specs.Signal.{Signal, const_value, read_value}
 use Rattle.pdl_lockapi.specs.declared.Kind.{Kind}
 use Rattle.pdl_lockapi.specs.declared.Kind.TheVariants.{R, W}
 use Rattle.pdl_lockapi.specs.declared.LockRegs.{LockRegs}
-use Rattle.pdl_lockapi.specs.Lock.{LockState, is_ready, Covered}
+use Rattle.pdl_lockapi.specs.Lock.{LockState, look_ready, Covered}
 use Rattle.pdl_word.specs.Words.{bit}
 use Rattle.pdl_lockapi.specs.Laws.{HasWords, StartLaw, LookLaw, first_array}
 use Rattle.pdl_entries.specs.declared.layout.Layout.{Layout}
 use Rattle.pdl_entries.specs.Slots.{IsSized, Stands, HasEntries, content_signal}
-use Rattle.pdl_entries.specs.Looks.{less_base, picked, youngest_ready, youngest_value}
+use Rattle.pdl_entries.specs.Looks.{less_base, youngest_look, youngest_ready, youngest_value}
 use Rattle.pdl_entries.proofs.Reading.{less_value}
 use Rattle.pdl_entries.proofs.Youngest.{youngest_is_ready, youngest_is_value, same_signal}
 use Rattle.pdl_bypass.specs.Bypasses.{word_signal}
@@ -31,13 +31,13 @@ unfolding read_value
 word_is l a s ws i h = ap (λ us. slice_index us (a.value s)) (word_held l.array s ws i h)
 
 picks_ready : (l : Layout) (u : Kind) (a d : Signal) (s : State) (x : LockState) (t : ℕ) → HasEntries l (content_signal l) s x → Covered x t → d.value s ≡ t - x.base
-    → (picked u (youngest_ready l a d l.size)).value s ≡ bit (is_ready Bypass u x t (a.value s))
+    → (youngest_look u (youngest_ready l a d l.size)).value s ≡ bit (look_ready Bypass u x t (a.value s))
 unfolding const_value
 picks_ready l R a d s x t h k e = youngest_is_ready l (content_signal l) s x a d t h k e
 picks_ready l W a d s x t h k e = refl
 
 pub look_law : (l : Layout) (u : Kind) (a t : Signal) → IsSized l → is_some l.array ≡ true → t.width ≡ l.ticket
-    → LookLaw (Stands l) Bypass l.ticket u a t (picked u (youngest_ready l a (less_base l t) l.size)) (Some (youngest_value l (content_signal l) (word_signal l a) a (less_base l t) l.size))
+    → LookLaw (Stands l) Bypass l.ticket u a t (youngest_look u (youngest_ready l a (less_base l t) l.size)) (Some (youngest_value l (content_signal l) (word_signal l a) a (less_base l t) l.size))
 look_law l u a t z i w = record {
   answers = λ s x n h k e. picks_ready l u a (less_base l t) s x n h.entries k (less_value l (content_signal l) s x t n z h.entries w k.from (omega (arith, k.to, h.entries.slots.room)) e);
   gives = λ f q s x n h k e fit ready.

@@ -10,8 +10,8 @@ use Rattle.pdl_net.specs.Growth.{Own}
 use Rattle.pdl_lockapi.specs.Laws.{StepSignals, SameButValues, ticket_at}
 use Rattle.pdl_entries.specs.declared.layout.Layout.{Layout}
 use Rattle.pdl_entries.specs.Slots.{valid_at, addr_at, has_at, value_at, reg_of}
-use Rattle.pdl_entries.specs.Looks.{less_base, counted}
-use Rattle.pdl_entries.specs.Steps.{push_signal, push_addr, fills, filled_bit, left_signal, valid_after, slot_addr, top_addr, top_bit}
+use Rattle.pdl_entries.specs.Looks.{less_base, valid_count}
+use Rattle.pdl_entries.specs.Steps.{push_signal, push_addr, fills_slot, filled_bit, left_signal, valid_after, slot_addr, top_addr, top_bit}
 
 -- the slots' registers are among those that are the same in two states
 pub record Alike (o : Own) (l : Layout) (f : StepSignals) (s t : State) : Type 0 where
@@ -37,7 +37,7 @@ module _ (o : Own) (l : Layout) (f : StepSignals) (s t : State) where
   unfolding bin_value reg_value
   less_same a g e = cc (e, reg_same a l.from (omega arith) (omega arith))
 
-  fills_same : Alike o l f s t → (k j : ℕ) → j < length f.writes → (fills l f k j).value s ≡ (fills l f k j).value t
+  fills_same : Alike o l f s t → (k j : ℕ) → j < length f.writes → (fills_slot l f k j).value s ≡ (fills_slot l f k j).value t
   unfolding mux_value bin_value const_value
   fills_same a k j h =
       let d = less_same a (ticket_at f.writes j).ticket (a.same.ticket j h) in
@@ -48,8 +48,8 @@ module _ (o : Own) (l : Layout) (f : StepSignals) (s t : State) where
   bit_same a k h zero le = cc (reg_same a (valid_at l k) (omega arith) (omega arith), reg_same a (has_at l k) (omega arith) (omega arith))
   bit_same a k h (suc j) le = cc (fills_same a k j (omega arith), bit_same a k h j (omega arith))
 
-  counted_same : Alike o l f s t → (k : ℕ) → k ≤ l.size → (counted l k).value s ≡ (counted l k).value t
-  unfolding counted mux_value reg_value const_value
+  counted_same : Alike o l f s t → (k : ℕ) → k ≤ l.size → (valid_count l k).value s ≡ (valid_count l k).value t
+  unfolding valid_count mux_value reg_value const_value
   counted_same a zero h = refl
   counted_same a (suc k) h = cc (reg_same a (valid_at l k) (omega arith) (omega arith), counted_same a k (omega arith))
 

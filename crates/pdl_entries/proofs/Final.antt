@@ -9,7 +9,7 @@ use Rattle.pdl_entries.specs.declared.layout.Content.TheVariants.{Value}
 use Rattle.pdl_word.specs.Words as words
 use Rattle.pdl_net.specs.Circuit.{Circuit, State}
 use Rattle.pdl_net.specs.Signal.{Signal, reg_value, const_value, bin_value, mux_value, mux_signal, const_signal}
-use Rattle.pdl_lockapi.specs.Lock.{Entry, LockState, Act, Proper, entry_at, or_zero, filled, released, squashed, committed, step, commit_addr, commit_value}
+use Rattle.pdl_lockapi.specs.Lock.{Entry, LockState, LockAct, Proper, entry_at, or_zero, filled_entries, after_release, after_squash, committed_words, step, commit_addr, commit_value}
 use Rattle.pdl_lockapi.specs.Laws.{StepSignals, Drives, HasWords, IsNext, StepLaw, after_writes, first_array, end_array}
 use Rattle.pdl_entries.specs.declared.layout.Layout.{Layout}
 use Rattle.pdl_entries.specs.Slots.{IsSized, HasEntries, Stands, content_signal, reg_of, valid_at, addr_at, has_at, value_at}
@@ -63,45 +63,45 @@ abbrev pub after_fill : Layout → StepSignals → (ℕ → Signal) → ℕ → 
 after_fill l f v k = filled_value l f (v k) k (length f.writes)
 
 -- the oldest entry is there where it is released
-pub oldest_addr : (l : Layout) (v : ℕ → Signal) (s : State) (x : LockState) (f : StepSignals) (a : Act) → Cycle l v s x f a → a.release ≡ true → (slot_addr l f 0).value s ≡ (entry_at (filled x a) 0).addr
+pub oldest_addr : (l : Layout) (v : ℕ → Signal) (s : State) (x : LockState) (f : StepSignals) (a : LockAct) → Cycle l v s x f a → a.release ≡ true → (slot_addr l f 0).value s ≡ (entry_at (filled_entries x a) 0).addr
 oldest_addr l v s x f a c o =
     let h = all_filled l v s x f a c in
-    h.has_addr 0 (there_done (filled x a) (c.proper.done o))
+    h.has_addr 0 (there_done (filled_entries x a) (c.proper.done o))
 
-pub oldest_value : (l : Layout) (v : ℕ → Signal) (s : State) (x : LockState) (f : StepSignals) (a : Act) → Cycle l v s x f a → a.release ≡ true → (after_fill l f v 0).value s ≡ or_zero (entry_at (filled x a) 0).value
+pub oldest_value : (l : Layout) (v : ℕ → Signal) (s : State) (x : LockState) (f : StepSignals) (a : LockAct) → Cycle l v s x f a → a.release ≡ true → (after_fill l f v 0).value s ≡ or_zero (entry_at (filled_entries x a) 0).value
 oldest_value l v s x f a c o =
     let h = all_filled l v s x f a c in
-    h.has_value 0 (or_zero (entry_at (filled x a) 0).value) (there_done (filled x a) (c.proper.done o)) (some_of (entry_at (filled x a) 0).value (c.proper.done o))
+    h.has_value 0 (or_zero (entry_at (filled_entries x a) 0).value) (there_done (filled_entries x a) (c.proper.done o)) (some_of (entry_at (filled_entries x a) 0).value (c.proper.done o))
 
 -- two choices by one test are equal where they are on the side that is taken
 pub same_choice : {A : Type 0} (t : Bool) (x y z : A) → (t ≡ true → x ≡ y) → (if t then x else z) ≡ (if t then y else z)
 same_choice true x y z h = h refl
 same_choice false x y z h = refl
 
-pub commits_addr : (l : Layout) (v : ℕ → Signal) (s : State) (x : LockState) (f : StepSignals) (a : Act) → Cycle l v s x f a → words.mux (f.release.value s) ((slot_addr l f 0).value s) 0 ≡ commit_addr x a
+pub commits_addr : (l : Layout) (v : ℕ → Signal) (s : State) (x : LockState) (f : StepSignals) (a : LockAct) → Cycle l v s x f a → words.mux (f.release.value s) ((slot_addr l f 0).value s) 0 ≡ commit_addr x a
 unfolding words.mux
 commits_addr l v s x f a c =
     ap (λ t. if t then (slot_addr l f 0).value s else 0) (test_bit (f.release.value s) a.release c.drives.release)
     ∙ same_choice a.release _ _ 0 (oldest_addr l v s x f a c)
 
-pub commits_value : (l : Layout) (v : ℕ → Signal) (s : State) (x : LockState) (f : StepSignals) (a : Act) → Cycle l v s x f a → words.mux (f.release.value s) ((after_fill l f v 0).value s) 0 ≡ commit_value x a
+pub commits_value : (l : Layout) (v : ℕ → Signal) (s : State) (x : LockState) (f : StepSignals) (a : LockAct) → Cycle l v s x f a → words.mux (f.release.value s) ((after_fill l f v 0).value s) 0 ≡ commit_value x a
 unfolding words.mux
 commits_value l v s x f a c =
     ap (λ t. if t then (after_fill l f v 0).value s else 0) (test_bit (f.release.value s) a.release c.drives.release)
     ∙ same_choice a.release _ _ 0 (oldest_value l v s x f a c)
 
-commits_words : (l : Layout) (v : ℕ → Signal) (s : State) (x : LockState) (f : StepSignals) (a : Act) → Cycle l v s x f a
-    → (if f.release.value s == 1 then slice_set x.words ((slot_addr l f 0).value s) ((after_fill l f v 0).value s) else x.words) ≡ committed a (filled x a) x.words
+commits_words : (l : Layout) (v : ℕ → Signal) (s : State) (x : LockState) (f : StepSignals) (a : LockAct) → Cycle l v s x f a
+    → (if f.release.value s == 1 then slice_set x.words ((slot_addr l f 0).value s) ((after_fill l f v 0).value s) else x.words) ≡ committed_words a (filled_entries x a) x.words
 commits_words l v s x f a c =
     ap (λ t. if t then slice_set x.words ((slot_addr l f 0).value s) ((after_fill l f v 0).value s) else x.words) (test_bit (f.release.value s) a.release c.drives.release)
-    ∙ same_choice a.release _ _ x.words (λ o. ap (λ n. slice_set x.words n ((after_fill l f v 0).value s)) (oldest_addr l v s x f a c o) ∙ ap (λ n. slice_set x.words (entry_at (filled x a) 0).addr n) (oldest_value l v s x f a c o))
+    ∙ same_choice a.release _ _ x.words (λ o. ap (λ n. slice_set x.words n ((after_fill l f v 0).value s)) (oldest_addr l v s x f a c o) ∙ ap (λ n. slice_set x.words (entry_at (filled_entries x a) 0).addr n) (oldest_value l v s x f a c o))
 
-entries_left : (l : Layout) (v : ℕ → Signal) (s : State) (x : LockState) (f : StepSignals) (a : Act) → Cycle l v s x f a
-    → (if f.release.value s == 1 then drop 1 (if f.squash.value s == 1 then take ((less_base l f.tail).value s) (filled x a) else filled x a) else (if f.squash.value s == 1 then take ((less_base l f.tail).value s) (filled x a) else filled x a))
-    ≡ squashed x a (released a (filled x a))
+entries_left : (l : Layout) (v : ℕ → Signal) (s : State) (x : LockState) (f : StepSignals) (a : LockAct) → Cycle l v s x f a
+    → (if f.release.value s == 1 then drop 1 (if f.squash.value s == 1 then take ((less_base l f.tail).value s) (filled_entries x a) else filled_entries x a) else (if f.squash.value s == 1 then take ((less_base l f.tail).value s) (filled_entries x a) else filled_entries x a))
+    ≡ after_squash x a (after_release a (filled_entries x a))
 entries_left l v s x f a c =
     let d = (less_base l f.tail).value s in
-    let xs = filled x a in
+    let xs = filled_entries x a in
     ap (λ t. if t then drop 1 (if f.squash.value s == 1 then take d xs else xs) else (if f.squash.value s == 1 then take d xs else xs)) (test_bit (f.release.value s) a.release c.drives.release)
     ∙ ap (λ u. if a.release then drop 1 (if u then take d xs else xs) else (if u then take d xs else xs)) (test_bit (f.squash.value s) a.squash c.drives.squash)
     ∙ order a.release a.squash d a.tail x.base xs
@@ -109,7 +109,7 @@ entries_left l v s x f a c =
     (λ o. c.proper.tail_from o)
 
 -- the numbers of the step: the next ticket, the base, and how many entries are left
-abbrev ticket_of_step : (t : Bool) (x : LockState) (a : Act) → ℕ
+abbrev ticket_of_step : (t : Bool) (x : LockState) (a : LockAct) → ℕ
 ticket_of_step t x a = if t then a.tail else x.base + length x.entries + length a.reserves
 
 pushed_number : (w n : ℕ) (ys : List ℕ) → length ys ≤ 1 → words.mux (some ys) (words.add w (n % 2 ^ w) 1) (n % 2 ^ w) ≡ (n + length ys) % 2 ^ w
@@ -122,7 +122,7 @@ squashed_number : (t : Bool) (w tail n : ℕ) (v : ℕ) → (t ≡ true → v �
 squashed_number true w tail n v h = h refl
 squashed_number false w tail n v h = refl
 
-ticket_value : (l : Layout) (v : ℕ → Signal) (s : State) (x : LockState) (f : StepSignals) (a : Act) → Cycle l v s x f a → (ticket_after l f).value s ≡ ticket_of_step a.squash x a % 2 ^ l.ticket
+ticket_value : (l : Layout) (v : ℕ → Signal) (s : State) (x : LockState) (f : StepSignals) (a : LockAct) → Cycle l v s x f a → (ticket_after l f).value s ≡ ticket_of_step a.squash x a % 2 ^ l.ticket
 unfolding mux_value bin_value const_value words.mux
 ticket_value l v s x f a c =
     let n = x.base + length x.entries in
@@ -134,7 +134,7 @@ ticket_value l v s x f a c =
     ∙ ap (λ m. if a.squash then f.tail.value s else m) pushed
     ∙ squashed_number a.squash l.ticket a.tail (n + length a.reserves) (f.tail.value s) c.drives.tail
 
-base_value : (l : Layout) (v : ℕ → Signal) (s : State) (x : LockState) (f : StepSignals) (a : Act) → Cycle l v s x f a → (base_after l f).value s ≡ (if a.release then x.base + 1 else x.base) % 2 ^ l.ticket
+base_value : (l : Layout) (v : ℕ → Signal) (s : State) (x : LockState) (f : StepSignals) (a : LockAct) → Cycle l v s x f a → (base_after l f).value s ≡ (if a.release then x.base + 1 else x.base) % 2 ^ l.ticket
 unfolding mux_value bin_value reg_value const_value words.mux
 base_value l v s x f a c =
     ap (λ m. words.mux (f.release.value s) (words.add l.ticket m 1) m) c.stands.base
@@ -152,13 +152,13 @@ left_count true false base tail n xs e some lo hi = let d = length-drop 1 xs in 
 left_count false true base tail n xs e some lo hi = let k = length-take (tail - base) xs in (lo refl, omega (arith, k, e, lo refl, hi refl))
 left_count false false base tail n xs e some lo hi = (omega arith, omega (arith, e))
 
-left_value : (l : Layout) (v : ℕ → Signal) (s : State) (x : LockState) (f : StepSignals) (a : Act) → Cycle l v s x f a → (left_signal l f).value s ≡ length (squashed x a (released a (filled x a)))
+left_value : (l : Layout) (v : ℕ → Signal) (s : State) (x : LockState) (f : StepSignals) (a : LockAct) → Cycle l v s x f a → (left_signal l f).value s ≡ length (after_squash x a (after_release a (filled_entries x a)))
 unfolding left_signal bin_value
 left_value l v s x f a c =
     let n = length x.entries + length a.reserves in
     let long = length_filled x a in
     let wide : (ticket_after l f).width ≡ l.ticket = c.fit.tail in
-    let count = left_count a.release a.squash x.base a.tail n (filled x a) long (λ o. let d = there_done (filled x a) (c.proper.done o) in omega (arith, d, long)) c.proper.tail_from (λ o. omega (arith, c.proper.tail_to o)) in
+    let count = left_count a.release a.squash x.base a.tail n (filled_entries x a) long (λ o. let d = there_done (filled_entries x a) (c.proper.done o) in omega (arith, d, long)) c.proper.tail_from (λ o. omega (arith, c.proper.tail_to o)) in
     let same : x.base + length x.entries + length a.reserves ≡ x.base + n = omega arith in
     let next : ticket_of_step a.squash x a ≡ (if a.squash then a.tail else x.base + n) = ap (λ m. if a.squash then a.tail else m) same in
     let few : (if a.squash then a.tail else x.base + n) - (if a.release then x.base + 1 else x.base) ≤ n = few_left a.squash a.release x.base a.tail n c.proper.tail_to in
@@ -186,7 +186,7 @@ pub record EntriesMove (b : Circuit) (o : Own) (l : Layout) (f : StepSignals) (l
   pub slots : NextSlots b l f last 0
   pub base : next_signal b l.from ≡ base_after l f
 
-pub entries_next : (b : Circuit) (o : Own) (l : Layout) (v : ℕ → Signal) (last : Signal) (s t : State) (x : LockState) (f : StepSignals) (a : Act) → Cycle l v s x f a → EntriesMove b o l f last → IsNext b o s t → ValuesMove l v s t f → HasEntries l v t (step x a)
+pub entries_next : (b : Circuit) (o : Own) (l : Layout) (v : ℕ → Signal) (last : Signal) (s t : State) (x : LockState) (f : StepSignals) (a : LockAct) → Cycle l v s x f a → EntriesMove b o l f last → IsNext b o s t → ValuesMove l v s t f → HasEntries l v t (step x a)
 unfolding mux_value bin_value const_value words.mux
 entries_next b o l v last s t x f a c n i m =
     let q = f.release.value s in
@@ -241,13 +241,13 @@ values_move b l s t f e n o =
       stayed = λ r k h. at k h ∙ if_other q _ _ r ∙ ap (λ (g : Signal). g.value s) (content_value l f k e);
     }
 
-stands_next : (b : Circuit) (l : Layout) (s t : State) (x : LockState) (f : StepSignals) (a : Act) → l.content ≡ Value → HasWords l.array s x.words → Cycle l (content_signal l) s x f a → NextValues b l f → IsNext b (own_all l) s t → Stands l t (step x a)
+stands_next : (b : Circuit) (l : Layout) (s t : State) (x : LockState) (f : StepSignals) (a : LockAct) → l.content ≡ Value → HasWords l.array s x.words → Cycle l (content_signal l) s x f a → NextValues b l f → IsNext b (own_all l) s t → Stands l t (step x a)
 stands_next b l s t x f a e h c n o =
     let w : slot_value l f 0 ≡ after_fill l f (content_signal l) 0 = content_value l f 0 e in
-    let W : Signal → Type 0 = λ g. (if f.release.value s == 1 then slice_set x.words ((slot_addr l f 0).value s) (g.value s) else x.words) ≡ committed a (filled x a) x.words in
+    let W : Signal → Type 0 = λ g. (if f.release.value s == 1 then slice_set x.words ((slot_addr l f 0).value s) (g.value s) else x.words) ≡ committed_words a (filled_entries x a) x.words in
     record {
       entries = entries_next b (own_all l) l (content_signal l) (const_signal l.kept 0) s t x f a c (record { from = omega arith; to = omega arith; slots = n.slots; base = n.base }) o (values_move b l s t f e n o);
-      words = words_next l.array s t f.release (slot_addr l f 0) (slot_value l f 0) x.words (committed a (filled x a) x.words) h
+      words = words_next l.array s t f.release (slot_addr l f 0) (slot_value l f 0) x.words (committed_words a (filled_entries x a) x.words) h
           (λ m e. o.arrays m (array_low l.array m e) (array_high l.array m e) ∙ ap (λ ps. after_writes s ps (slice_index_or s.arrays m [])) (n.array.writes m e))
           (subst W (sym w) (commits_words l (content_signal l) s x f a c));
     }
@@ -257,7 +257,7 @@ pub step_law : (b : Circuit) (l : Layout) (f : StepSignals) → l.content ≡ Va
 unfolding mux_value const_value words.mux
 step_law b l f e z t n =
     let w : slot_value l f 0 ≡ after_fill l f (content_signal l) 0 = content_value l f 0 e in
-    let cycle = λ (s : State) (x : LockState) (a : Act) (h : Stands l s x) (d : Drives l.ticket f s a) (p : Proper l.size x a). let c : Cycle l (content_signal l) s x f a = record { sized = z; stands = h.entries; fit = t; drives = d; proper = p } in c in
+    let cycle = λ (s : State) (x : LockState) (a : LockAct) (h : Stands l s x) (d : Drives l.ticket f s a) (p : Proper l.size x a). let c : Cycle l (content_signal l) s x f a = record { sized = z; stands = h.entries; fit = t; drives = d; proper = p } in c in
     record {
       commits = λ s x a h d p. d.release;
       commits_addr = λ s x a h d p. commits_addr l (content_signal l) s x f a (cycle s x a h d p);

@@ -6,7 +6,7 @@ use Rattle.std.proofs.lemmas.List.{append-nil, get_or_append_left, get_or_push, 
 use Rattle.pdl_word.specs.Words as words
 use Rattle.pdl_word.specs.Words.{bit}
 use Rattle.std.specs.Prelude.{is_some}
-use Rattle.pdl_lockapi.specs.Lock.{Entry, WriteAct, entry_at, no_entry, fresh, given, appended, put, written}
+use Rattle.pdl_lockapi.specs.Lock.{Entry, WriteAct, entry_at, no_entry, fresh, with_entry_value, with_reserves, with_write, with_writes}
 use Rattle.pdl_entries.specs.Slots.{Holds}
 
 pub if_one : {A : Type 0} (c : ℕ) (x y : A) → c ≡ 1 → (if c == 1 then x else y) ≡ x
@@ -89,7 +89,7 @@ no_more n V A H X xs h = record {
 }
 
 pub append_holds : (n : ℕ) (V A H X : ℕ → ℕ) (xs : List Entry) (ys : List ℕ) → length ys ≤ 1 → length xs + length ys ≤ n → Holds n V A H X xs
-    → HasContents n (λ k. words.mux (V k) (A k) (last_or ys 0)) (λ k. words.mux (V k) (H k) 0) X (appended ys xs)
+    → HasContents n (λ k. words.mux (V k) (A k) (last_or ys 0)) (λ k. words.mux (V k) (H k) 0) X (with_reserves ys xs)
 unfolding words.equal words.less words.mux
 append_holds n V A H X xs [] one room h =
     let P : List Entry → Type 0 = λ l. HasContents n (λ k. words.mux (V k) (A k) 0) (λ k. words.mux (V k) (H k) 0) X l in
@@ -107,10 +107,10 @@ eq_none i k n = ap (λ (t : Bool). if t then 1 else 0) (ne_eqb _ _ n)
 
 -- a write of entry i
 set_holds : (n i w : ℕ) (A H X E : ℕ → ℕ) (xs : List Entry) → i < length xs → ((k : ℕ) → E k ≡ words.equal i k) → HasContents n A H X xs
-    → HasContents n A (λ k. words.mux (E k) 1 (H k)) (λ k. words.mux (E k) w (X k)) (set xs i (given (entry_at xs i) w))
+    → HasContents n A (λ k. words.mux (E k) 1 (H k)) (λ k. words.mux (E k) w (X k)) (set xs i (with_entry_value (entry_at xs i) w))
 unfolding words.equal words.less words.mux
 set_holds n i w A H X E xs l e h =
-    let g = given (entry_at xs i) w in
+    let g = with_entry_value (entry_at xs i) w in
     let len : length (set xs i g) ≡ length xs = length-set xs i g in
     let here = λ (k : ℕ) (q : i ≡ k). let z : entry_at (set xs i g) k ≡ g = (let P : ℕ → Type 0 = λ j. entry_at (set xs i g) j ≡ g in subst P q (get_or-set_same xs i g no_entry l)) in z in
     let there = λ (k : ℕ) (q : k ≢ i). let z : entry_at (set xs i g) k ≡ entry_at xs k = get_or-set_other xs i k g no_entry q in z in
@@ -140,7 +140,7 @@ none_holds n w A H X E xs e h = record {
 }
 
 pub put_holds : (n base : ℕ) (w : WriteAct) (A H X E : ℕ → ℕ) (xs : List Entry) → (w.on ≡ true → w.ticket - base < length xs) → ((k : ℕ) → w.on ≡ true → E k ≡ words.equal (w.ticket - base) k) → ((k : ℕ) → k < n → w.on ≡ false → E k ≡ 0)
-    → HasContents n A H X xs → HasContents n A (λ k. words.mux (E k) 1 (H k)) (λ k. words.mux (E k) w.value (X k)) (put base w xs)
+    → HasContents n A H X xs → HasContents n A (λ k. words.mux (E k) 1 (H k)) (λ k. words.mux (E k) w.value (X k)) (with_write base w xs)
 unfolding words.equal words.less words.mux
 put_holds n base w A H X E xs i y z h =
     let P : List Entry → Type 0 = λ l. HasContents n A (λ k. words.mux (E k) 1 (H k)) (λ k. words.mux (E k) w.value (X k)) l in
@@ -149,19 +149,19 @@ put_holds n base w A H X E xs i y z h =
     (λ (o : w.on ≡ false). subst P (sym (if_false w.on _ xs o)) (none_holds n w.value A H X E xs (λ k l. z k l o) h))
     (cases_Bool w.on)
 
-pub written-push : (base : ℕ) (ws : List WriteAct) (w : WriteAct) (xs : List Entry) → written base (ws ++ w ∷ []) xs ≡ put base w (written base ws xs)
+pub written-push : (base : ℕ) (ws : List WriteAct) (w : WriteAct) (xs : List Entry) → with_writes base (ws ++ w ∷ []) xs ≡ with_write base w (with_writes base ws xs)
 written-push base [] w xs = refl
-written-push base (v ∷ ws) w xs = written-push base ws w (put base v xs)
+written-push base (v ∷ ws) w xs = written-push base ws w (with_write base v xs)
 
-length-put : (base : ℕ) (w : WriteAct) (xs : List Entry) → length (put base w xs) ≡ length xs
+length-put : (base : ℕ) (w : WriteAct) (xs : List Entry) → length (with_write base w xs) ≡ length xs
 length-put base w xs = ⊎_elim
-    (λ (o : w.on ≡ true). ap length (if_true w.on (set xs (w.ticket - base) (given (entry_at xs (w.ticket - base)) w.value)) xs o) ∙ length-set xs (w.ticket - base) _)
-    (λ (o : w.on ≡ false). ap length (if_false w.on (set xs (w.ticket - base) (given (entry_at xs (w.ticket - base)) w.value)) xs o))
+    (λ (o : w.on ≡ true). ap length (if_true w.on (set xs (w.ticket - base) (with_entry_value (entry_at xs (w.ticket - base)) w.value)) xs o) ∙ length-set xs (w.ticket - base) _)
+    (λ (o : w.on ≡ false). ap length (if_false w.on (set xs (w.ticket - base) (with_entry_value (entry_at xs (w.ticket - base)) w.value)) xs o))
     (cases_Bool w.on)
 
-pub length-written : (base : ℕ) (ws : List WriteAct) (xs : List Entry) → length (written base ws xs) ≡ length xs
+pub length-written : (base : ℕ) (ws : List WriteAct) (xs : List Entry) → length (with_writes base ws xs) ≡ length xs
 length-written base [] xs = refl
-length-written base (w ∷ ws) xs = length-written base ws (put base w xs) ∙ length-put base w xs
+length-written base (w ∷ ws) xs = length-written base ws (with_write base w xs) ∙ length-put base w xs
 
 -- the entries below d
 take_holds : (n d : ℕ) (A H X : ℕ → ℕ) (xs : List Entry) → HasContents n A H X xs → HasContents n A H X (take d xs)

@@ -10,10 +10,10 @@ use Rattle.pdl_lockapi.specs.declared.LockPorts.{LockPorts}
 use Rattle.pdl_lockapi.specs.declared.ReservePort.{ReservePort}
 use Rattle.pdl_lockapi.specs.declared.Kind.{Kind}
 use Rattle.pdl_lockapi.specs.declared.Kind.TheVariants.{R, W}
-use Rattle.pdl_lockapi.specs.Laws.{PortsFit, enabled, StepSignals, step_signals, reserve_at, reserve_signal, no_reserve}
+use Rattle.pdl_lockapi.specs.Laws.{PortsFit, enabled_reserve, StepSignals, step_signals, reserve_at, reserve_signal, no_reserve}
 use Rattle.pdl_entries.specs.declared.layout.Layout.{Layout}
 use Rattle.pdl_entries.specs.Slots.{IsSized, valid_at, has_at}
-use Rattle.pdl_entries.specs.Looks.{hit_at, hit_signal, youngest_ready, youngest_value, picked, net_by_kind, counted}
+use Rattle.pdl_entries.specs.Looks.{hit_at, hit_signal, youngest_ready, youngest_value, youngest_look, net_by_kind, valid_count}
 use Rattle.pdl_entries.specs.Steps.{push_signal, push_addr}
 
 pub hit_none : (l : Layout) (a d : Signal) → hit_signal l a d 0 ≡ const_signal 1 0
@@ -29,16 +29,16 @@ unfolding hit_signal
 hit_width l a d zero = refl
 hit_width l a d (suc k) = refl
 
-pub counted_none : (l : Layout) → counted l 0 ≡ const_signal l.ticket 0
-unfolding counted
+pub counted_none : (l : Layout) → valid_count l 0 ≡ const_signal l.ticket 0
+unfolding valid_count
 counted_none l = refl
 
-pub counted_more : (l : Layout) (k : ℕ) → counted l (k + 1) ≡ mux_signal (reg_signal 1 (valid_at l k)) (const_signal l.ticket (k + 1)) (counted l k)
-unfolding counted
-counted_more l k = ap (λ n. counted l n) (add-one k)
+pub counted_more : (l : Layout) (k : ℕ) → valid_count l (k + 1) ≡ mux_signal (reg_signal 1 (valid_at l k)) (const_signal l.ticket (k + 1)) (valid_count l k)
+unfolding valid_count
+counted_more l k = ap (λ n. valid_count l n) (add-one k)
 
-pub counted_width : (l : Layout) (k : ℕ) → (counted l k).width ≡ l.ticket
-unfolding counted
+pub counted_width : (l : Layout) (k : ℕ) → (valid_count l k).width ≡ l.ticket
+unfolding valid_count
 counted_width l zero = refl
 counted_width l (suc k) = refl
 
@@ -72,17 +72,17 @@ unfolding youngest_value
 youngest_width l w v o a d e f zero = e
 youngest_width l w v o a d e f (suc k) = f k
 
-pub picked_width : (u : Kind) (f : Signal) → f.width ≡ 1 → (picked u f).width ≡ 1
+pub picked_width : (u : Kind) (f : Signal) → f.width ≡ 1 → (youngest_look u f).width ≡ 1
 picked_width R f h = h
 picked_width W f h = refl
 
 -- a write waits for nothing
-pub picked_means : (c : Circuit) (u : Kind) (ready one : Net) → IsThere c ready → Means c one (const_signal 1 1) → Means c (net_by_kind u ready one) (picked u (signal c ready))
+pub picked_means : (c : Circuit) (u : Kind) (ready one : Net) → IsThere c ready → Means c one (const_signal 1 1) → Means c (net_by_kind u ready one) (youngest_look u (signal c ready))
 picked_means c R ready one h i = record { there = h; same = refl }
 picked_means c W ready one h i = i
 
 -- a reservation for reading takes no entry
-pub taken_means : (c : Circuit) (u : Kind) (none enable : Net) → Means c none (const_signal 1 0) → IsThere c enable → Means c (net_by_kind u none enable) (enabled u (signal c enable))
+pub taken_means : (c : Circuit) (u : Kind) (none enable : Net) → Means c none (const_signal 1 0) → IsThere c enable → Means c (net_by_kind u none enable) (enabled_reserve u (signal c enable))
 taken_means c R none enable h i = h
 taken_means c W none enable h i = record { there = i; same = refl }
 
@@ -118,12 +118,12 @@ pub reserve_is : (c : Circuit) (p : LockPorts) (k : ℕ) (q : ReservePort) → k
 unfolding step_signals
 reserve_is c p k q h e = get_or-map (reserve_signal c) p.reserves k q no_reserve h ∙ ap (reserve_signal c) e
 
-enabled_one : (k : Kind) (f : Signal) → f.width ≡ 1 → (enabled k f).width ≡ 1
+enabled_one : (k : Kind) (f : Signal) → f.width ≡ 1 → (enabled_reserve k f).width ≡ 1
 enabled_one R f h = refl
 enabled_one W f h = h
 
 -- its nets have the widths that they are to have
-pub reserve_width : (c : Circuit) (bits width w : ℕ) (p : LockPorts) (k : ℕ) (q : ReservePort) → PortsFit c bits width w p → k < length p.reserves → slice_index_or p.reserves k q ≡ q → (enabled q.kind (signal c q.enable)).width ≡ 1
+pub reserve_width : (c : Circuit) (bits width w : ℕ) (p : LockPorts) (k : ℕ) (q : ReservePort) → PortsFit c bits width w p → k < length p.reserves → slice_index_or p.reserves k q ≡ q → (enabled_reserve q.kind (signal c q.enable)).width ≡ 1
 reserve_width c bits width w p k q f h e = enabled_one q.kind (signal c q.enable) (f.ask_one k q h e)
 
 pub ruleset pushes = (push_none, push_more, push_width, addr_none, addr_more, reserve_is)

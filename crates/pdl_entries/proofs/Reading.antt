@@ -13,7 +13,7 @@ use Rattle.pdl_lockapi.specs.Lock.{Entry, LockState, entry_at, no_entry, is_free
 use Rattle.pdl_lockapi.specs.Laws.{HasWords, RoomLaw, TicketLaw}
 use Rattle.pdl_entries.specs.declared.layout.Layout.{Layout}
 use Rattle.pdl_entries.specs.Slots.{IsSized, HasEntries, reg_of, valid_at, addr_at}
-use Rattle.pdl_entries.specs.Looks.{hit_signal, less_base, counted, next_number, room_signal, GivesWord}
+use Rattle.pdl_entries.specs.Looks.{hit_signal, less_base, valid_count, next_number, room_signal, GivesWord}
 use Rattle.pdl_entries.proofs.Nums.{sub_held, sum_held}
 use Rattle.pdl_entries.proofs.Module.{some_number}
 
@@ -111,14 +111,14 @@ word_given c l a (Some x) f s ws g e h =
     ∙ ap (λ us. slice_index us (a.value s)) (words_of l.array m.0 s ws m.1 h)
 
 -- how many of the first k slots are valid
-counted_value : (l : Layout) (g : ℕ → Signal) (s : State) (x : LockState) → HasEntries l g s x → (k : ℕ) → k ≤ l.size → (counted l k).value s ≡ min k (length x.entries)
-unfolding counted mux_value reg_value const_value words.mux
+counted_value : (l : Layout) (g : ℕ → Signal) (s : State) (x : LockState) → HasEntries l g s x → (k : ℕ) → k ≤ l.size → (valid_count l k).value s ≡ min k (length x.entries)
+unfolding valid_count mux_value reg_value const_value words.mux
 counted_value l g s x h zero le = omega arith
 counted_value l g s x h (suc k) le =
     let before = counted_value l g s x h k (omega arith) in
     ⊎_elim
-    (λ (i : k < length x.entries). ap (λ m. words.mux m (k + 1) ((counted l k).value s)) (h.slots.is_valid k i) ∙ omega arith)
-    (λ (i : length x.entries ≤ k). ap (λ m. words.mux m (k + 1) ((counted l k).value s)) (h.slots.is_empty k i (omega arith)) ∙ before ∙ omega arith)
+    (λ (i : k < length x.entries). ap (λ m. words.mux m (k + 1) ((valid_count l k).value s)) (h.slots.is_valid k i) ∙ omega arith)
+    (λ (i : length x.entries ≤ k). ap (λ m. words.mux m (k + 1) ((valid_count l k).value s)) (h.slots.is_empty k i (omega arith)) ∙ before ∙ omega arith)
     (cases_lt k (length x.entries))
 
 -- the next ticket
@@ -127,7 +127,7 @@ unfolding bin_value reg_value
 next_value l g s x h =
     let n = counted_value l g s x h l.size (omega arith) in
     let e : min l.size (length x.entries) ≡ length x.entries = omega (arith, h.slots.room) in
-    ap (λ m. words.add l.ticket m ((counted l l.size).value s)) h.base
+    ap (λ m. words.add l.ticket m ((valid_count l l.size).value s)) h.base
     ∙ ap (words.add l.ticket (x.base % 2 ^ l.ticket)) (n ∙ e)
     ∙ sum_held l.ticket x.base (length x.entries)
 

@@ -12,7 +12,7 @@ use Rattle.pdl_lockapi.specs.Laws.{StepSignals, step_signals, ticket_at, ticket_
 use Rattle.pdl_entries.specs.declared.layout.Layout.{Layout}
 use Rattle.pdl_entries.specs.declared.layout.Content.TheVariants.{Value, Place}
 use Rattle.pdl_entries.specs.Slots.{valid_at, addr_at, has_at, value_at, content_signal}
-use Rattle.pdl_entries.specs.Steps.{content_after, slot_value, fills, filled_bit, filled_value, ticket_after, base_after, left_signal, slot_addr, push_addr}
+use Rattle.pdl_entries.specs.Steps.{content_after, slot_value, fills_slot, filled_bit, filled_value, ticket_after, base_after, left_signal, slot_addr, push_addr}
 
 pub ticket_is : (c : Circuit) (p : LockPorts) (k : ℕ) (q : TicketWrite) → k < length p.writes → slice_index_or p.writes k q ≡ q → ticket_at (step_signals c p).writes k ≡ ticket_signal c q
 unfolding step_signals
@@ -22,7 +22,7 @@ pub bit_none : (l : Layout) (f : StepSignals) (k : ℕ) → filled_bit l f k 0 �
 unfolding filled_bit
 bit_none l f k = refl
 
-pub bit_more : (l : Layout) (f : StepSignals) (k j : ℕ) → filled_bit l f k (j + 1) ≡ mux_signal (fills l f k j) (const_signal 1 1) (filled_bit l f k j)
+pub bit_more : (l : Layout) (f : StepSignals) (k j : ℕ) → filled_bit l f k (j + 1) ≡ mux_signal (fills_slot l f k j) (const_signal 1 1) (filled_bit l f k j)
 unfolding filled_bit
 bit_more l f k j = ap (λ n. filled_bit l f k n) (add-one j)
 
@@ -35,7 +35,7 @@ pub value_none : (l : Layout) (f : StepSignals) (v : Signal) (k : ℕ) → fille
 unfolding filled_value
 value_none l f v k = refl
 
-pub value_more : (l : Layout) (f : StepSignals) (v : Signal) (k j : ℕ) → filled_value l f v k (j + 1) ≡ mux_signal (fills l f k j) (ticket_at f.writes j).value (filled_value l f v k j)
+pub value_more : (l : Layout) (f : StepSignals) (v : Signal) (k j : ℕ) → filled_value l f v k (j + 1) ≡ mux_signal (fills_slot l f k j) (ticket_at f.writes j).value (filled_value l f v k j)
 unfolding filled_value
 value_more l f v k j = ap (λ n. filled_value l f v k n) (add-one j)
 

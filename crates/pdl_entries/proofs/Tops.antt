@@ -119,7 +119,7 @@ value_first l f o h =
     let e : l.size ≡ l.size - 1 + 1 = omega arith in
     ap (top_value l f o) e ∙ value_more l f o (l.size - 1) ∙ ap (slot_value l f) (omega arith)
 
--- a register of the slots is outside what lies before or behind them
+-- a register of the slots is outside what lies before or after them
 outside : (o : Own) (l : Layout) (r : ℕ) → l.from + 1 ≤ r → r < l.from + 4 * l.size + 1 → (o.to ≤ l.from + 1) ⊎ (l.from + 4 * l.size + 1 ≤ o.from) → Outside o.from o.to r
 outside o l r lo hi out = ⊎_elim (λ (a : o.to ≤ l.from + 1). inr (omega arith)) (λ (a : l.from + 4 * l.size + 1 ≤ o.from). inl (omega arith)) out
 

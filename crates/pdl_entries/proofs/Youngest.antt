@@ -10,7 +10,7 @@ use Rattle.pdl_net.specs.Signal.{Signal, reg_value, const_value, bin_value, mux_
 use Rattle.pdl_net.specs.declared.Net.{Net}
 use Rattle.pdl_net.specs.Meaning.{IsThere, Means, signal}
 use Rattle.pdl_lockapi.specs.Laws.{HasValueNet}
-use Rattle.pdl_lockapi.specs.Lock.{Entry, LockState, entry_at, no_entry, or_zero, youngest, older, read, Covered}
+use Rattle.pdl_lockapi.specs.Lock.{Entry, LockState, entry_at, no_entry, or_zero, youngest, older, look_value, Covered}
 use Rattle.pdl_entries.specs.declared.layout.Layout.{Layout}
 use Rattle.pdl_entries.specs.Slots.{HasEntries, reg_of, addr_at, has_at}
 use Rattle.pdl_entries.specs.Looks.{hit_at, youngest_ready, youngest_value}
@@ -126,12 +126,12 @@ youngest_is_ready l g s x a d t h c e =
 
 -- and what is given then, where what is given else is the word
 pub youngest_is_value : (l : Layout) (g : ℕ → Signal) (s : State) (x : LockState) (o a d : Signal) (t : ℕ) → HasEntries l g s x → Covered x t → o.value s ≡ slice_index x.words (a.value s) → d.value s ≡ t - x.base
-    → is_some (youngest (older x t) (a.value s) (Some 0)) ≡ true → (youngest_value l g o a d l.size).value s ≡ read x t (a.value s)
+    → is_some (youngest (older x t) (a.value s) (Some 0)) ≡ true → (youngest_value l g o a d l.size).value s ≡ look_value x t (a.value s)
 youngest_is_value l g s x o a d t h c p e ready =
     let b : d.value s ≤ length x.entries = omega (arith, e, c.from, c.to) in
     let word : Option ℕ = Some (slice_index x.words (a.value s)) in
     let k : is_some (youngest (older x t) (a.value s) word) ≡ true = same_has (older x t) (a.value s) word (Some 0) refl ∙ ready in
-    value_value l g s x o a d h b p l.size (omega arith) (read x t (a.value s)) (ap (λ zs. youngest zs (a.value s) word) (older_of l g s x (d.value s) t h e) ∙ some_of (youngest (older x t) (a.value s) word) k)
+    value_value l g s x o a d h b p l.size (omega arith) (look_value x t (a.value s)) (ap (λ zs. youngest zs (a.value s) word) (older_of l g s x (d.value s) t h e) ∙ some_of (youngest (older x t) (a.value s) word) k)
 
 -- a value that is there
 pub same_signal : (f g : Signal) → Some f ≡ Some g → f ≡ g

@@ -28,13 +28,13 @@ abbrev pub ready_signal : Layout → Signal → Signal → Signal
 ready_signal l a t = mux_signal (hit_signal l a (less_base l t) l.size) (const_signal 1 0) (const_signal 1 1)
 
 -- how many of the first k slots are valid
-unfoldable pub counted : Layout → ℕ → Signal
-counted l zero = const_signal l.ticket 0
-counted l (suc k) = mux_signal (reg_signal 1 (valid_at l k)) (const_signal l.ticket (k + 1)) (counted l k)
+unfoldable pub valid_count : Layout → ℕ → Signal
+valid_count l zero = const_signal l.ticket 0
+valid_count l (suc k) = mux_signal (reg_signal 1 (valid_at l k)) (const_signal l.ticket (k + 1)) (valid_count l k)
 
 -- the base plus the number of valid slots
 abbrev pub next_number : Layout → Signal
-next_number l = bin_signal Add (reg_signal l.ticket l.from) (counted l l.size)
+next_number l = bin_signal Add (reg_signal l.ticket l.from) (valid_count l l.size)
 
 -- room: the last slot is empty
 abbrev pub room_signal : Layout → Signal
@@ -51,9 +51,9 @@ youngest_value l value other a d zero = other
 youngest_value l value other a d (suc k) = mux_signal (hit_at l a d k) (value k) (youngest_value l value other a d k)
 
 -- a look at the youngest older slot: a write waits for nothing
-abbrev pub picked : Kind → Signal → Signal
-picked R f = f
-picked W f = const_signal 1 1
+abbrev pub youngest_look : Kind → Signal → Signal
+youngest_look R f = f
+youngest_look W f = const_signal 1 1
 
 -- the first net for reading, the second for writing
 abbrev pub net_by_kind : Kind → Net → Net → Net

@@ -22,21 +22,21 @@ push_addr bits f zero = const_signal bits 0
 push_addr bits f (suc k) = mux_signal (reserve_at f.reserves k).enable (reserve_at f.reserves k).addr (push_addr bits f k)
 
 -- the slot into which write port j writes; where it is off, a number that no slot has
-abbrev pub gated : Layout → StepSignals → ℕ → Signal
-gated l f j = mux_signal (ticket_at f.writes j).enable (less_base l (ticket_at f.writes j).ticket) (const_signal l.ticket l.size)
+abbrev pub enabled_slot : Layout → StepSignals → ℕ → Signal
+enabled_slot l f j = mux_signal (ticket_at f.writes j).enable (less_base l (ticket_at f.writes j).ticket) (const_signal l.ticket l.size)
 
 -- write port j writes into slot k
-abbrev pub fills : Layout → StepSignals → ℕ → ℕ → Signal
-fills l f k j = bin_signal Eq (gated l f j) (const_signal l.ticket k)
+abbrev pub fills_slot : Layout → StepSignals → ℕ → ℕ → Signal
+fills_slot l f k j = bin_signal Eq (enabled_slot l f j) (const_signal l.ticket k)
 
 -- slot k's value bit, and its value from this one on, after the first j write ports
 unfoldable pub filled_bit : Layout → StepSignals → ℕ → ℕ → Signal
 filled_bit l f k zero = mux_signal (reg_signal 1 (valid_at l k)) (reg_signal 1 (has_at l k)) (const_signal 1 0)
-filled_bit l f k (suc j) = mux_signal (fills l f k j) (const_signal 1 1) (filled_bit l f k j)
+filled_bit l f k (suc j) = mux_signal (fills_slot l f k j) (const_signal 1 1) (filled_bit l f k j)
 
 unfoldable pub filled_value : Layout → StepSignals → Signal → ℕ → ℕ → Signal
 filled_value l f value k zero = value
-filled_value l f value k (suc j) = mux_signal (fills l f k j) (ticket_at f.writes j).value (filled_value l f value k j)
+filled_value l f value k (suc j) = mux_signal (fills_slot l f k j) (ticket_at f.writes j).value (filled_value l f value k j)
 
 -- the next ticket after the new entry and the squash
 abbrev pub ticket_after : Layout → StepSignals → Signal

@@ -5,7 +5,7 @@ ghost use Rattle.pdl_net.specs.Meaning.{IsThere, Means, signal};
 ghost use Rattle.pdl_net.specs.Growth.{Extends};
 ghost use Rattle.pdl_lockapi.specs.Laws.{PortsThere, PortsFit, step_signals, reserve_at, ticket_at};
 ghost use Rattle.pdl_entries.specs.Slots.{IsSized, HasSlots, content_signal};
-ghost use Rattle.pdl_entries.specs.Steps.{gated, fills, filled_bit, filled_value, slot_bit, slot_value, push_signal, push_addr};
+ghost use Rattle.pdl_entries.specs.Steps.{enabled_slot, fills_slot, filled_bit, filled_value, slot_bit, slot_value, push_signal, push_addr};
 
 use crate::layout::{Content, Layout};
 use crate::look::by_kind;
@@ -97,7 +97,7 @@ pub fn emit_gate(b: &mut Builder, l: Layout, p: &LockPorts, j: usize) -> Result<
     requires ports { PortsThere b.old p.now }
     requires fit { PortsFit b.old l.bits l.width l.ticket p.now }
     requires within { j < length p.now.writes }
-    ensures means { IfOk result (λ x. Means b.new x (gated l (step_signals b.old p.now) j)) }
+    ensures means { IfOk result (λ x. Means b.new x (enabled_slot l (step_signals b.old p.now) j)) }
     ensures wide { IfOk result (λ x. (signal b.new x).width ≡ l.ticket) }
     ensures extends { Extends b.old b.new }
 {
@@ -122,7 +122,7 @@ fn emit_match(
     requires fit { PortsFit b.old l.bits l.width l.ticket p.now }
     requires slot_in { k < l.size }
     requires within { j < length p.now.writes }
-    ensures means { IfOk result (λ x. Means b.new x (fills l (step_signals b.old p.now) k j)) }
+    ensures means { IfOk result (λ x. Means b.new x (fills_slot l (step_signals b.old p.now) k j)) }
     ensures extends { Extends b.old b.new }
 {
     let gate = emit_gate(b, l, p, j)?;
@@ -211,7 +211,7 @@ fn emit_put(
     requires value_there { IsThere b.old value }
     requires value_width { (signal b.old value).width ≡ l.width }
     ensures value { IfOk result (λ x.
-        Means b.new x (mux_signal (fills l (step_signals b.old p.now) k j)
+        Means b.new x (mux_signal (fills_slot l (step_signals b.old p.now) k j)
         (ticket_at (step_signals b.old p.now).writes j).value (signal b.old value))) }
     ensures value_wide { IfOk result (λ x. (signal b.new x).width ≡ l.width) }
     ensures extends { Extends b.old b.new }

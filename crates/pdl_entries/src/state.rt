@@ -6,7 +6,7 @@ ghost use Rattle.pdl_semantics.specs.Tree.{Queue};
 ghost use Rattle.pdl_build.specs.Change.{IsNewReg};
 ghost use Rattle.pdl_lockapi.specs.Laws.{arrays_of, IsFragment, HasRegNets, HasNoPorts, StartLaw, RoomLaw, TicketLaw};
 ghost use Rattle.pdl_entries.specs.Slots.{Suits, IsMemDepth, IsSized, HasOwnArray, HasSlots, AreReset, IsMemArray, IsLayout, ArePlaced, Stands, layout_of, ticket_bits, numbers_from, first_content_of};
-ghost use Rattle.pdl_entries.specs.Looks.{counted, next_number, room_signal};
+ghost use Rattle.pdl_entries.specs.Looks.{valid_count, next_number, room_signal};
 
 use crate::layout::{Content, Layout, address_bits, ticket_width};
 use pdl_build::Builder;
@@ -20,7 +20,7 @@ use std::alloc::Global;
 fn emit_count(b: &mut Builder, l: Layout) -> Result<Net, NoMemory>
     requires sized { IsSized l }
     requires slots { HasSlots b.old l l.size }
-    ensures means { IfOk result (λ x. Means b.new x (counted l l.size)) }
+    ensures means { IfOk result (λ x. Means b.new x (valid_count l l.size)) }
     ensures extends { Extends b.old b.new }
 {
     let mut count = b.constant(l.ticket, 0)?;

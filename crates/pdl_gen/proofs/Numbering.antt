@@ -22,7 +22,7 @@ even_raised y z e h = ap (λ v. v + 1) e ∙ at (z % 2 == 1) refl
     at true i = absurd (h (ap (λ v. v % 2) e ∙ eqb-true (z % 2) 1 i))
     at false i = refl
 
--- three pieces behind what was there
+-- three pieces after what was there
 pub three_pieces : (old a b c one two three : List ℕ) → one ≡ old ++ a → two ≡ one ++ b → three ≡ two ++ c → three ≡ old ++ (a ++ (b ++ c))
 three_pieces old a b c one two three e f g =
     g ∙ ap (λ l. l ++ c) (f ∙ ap (λ l. l ++ b) e ∙ append_assoc old a b) ∙ append_assoc old (a ++ b) c ∙ ap (λ l. old ++ l) (append_assoc a b c)

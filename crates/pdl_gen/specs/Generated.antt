@@ -58,18 +58,18 @@ abbrev pub head : LockKind → List ℕ
 head k = codes "pipe g(n: uint<8>)[m: uint<8>[16] comb lock " ++ kind_name k ++ codes "(4)] {\n"
 
 -- the first two stages: a thread reserves, calls the next one, and reads
-abbrev pub reads : ℕ → List ℕ
-reads s =
+abbrev pub reading_stages : ℕ → List ℕ
+reading_stages s =
     codes "a = n[3:0];\nb = n[7:4];\nreserve(m[a], R);\nreserve(m[b], W);\ncall(n + 8'd" ++ decimal s
     ++ codes ");\n---\nblock(m[a]);\nx = m[a];\n"
 
 -- the end of the last stage: it writes and releases
-abbrev pub writes : List ℕ
-writes = codes "block(m[b]);\nm[b] <- x + n;\nrelease(m[a]);\nrelease(m[b]);\n} start g(8'd1);\n"
+abbrev pub writing_end : List ℕ
+writing_end = codes "block(m[b]);\nm[b] <- x + n;\nrelease(m[a]);\nrelease(m[b]);\n} start g(8'd1);\n"
 
 -- each further stage has a line `---` before it
 unfoldable pub source : ℕ → List ℕ
-source n = head (kind n) ++ reads (step n) ++ separators (stages n - 2) ++ writes
+source n = head (kind n) ++ reading_stages (step n) ++ separators (stages n - 2) ++ writing_end
 
 -- THE IMAGE
 

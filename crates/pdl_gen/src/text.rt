@@ -41,7 +41,7 @@ fn write_decimal(n: u64, text: &mut Vec<u8>) -> Result<(), NoMemory>
 
 // The first two stages, in which a thread reserves, calls the next one, and reads.
 fn write_reads(step: u64, text: &mut Vec<u8>) -> Result<(), NoMemory>
-    ensures { OnOk result (text.new.items ≡ text.old.items ++ spec.reads step) }
+    ensures { OnOk result (text.new.items ≡ text.old.items ++ spec.reading_stages step) }
 {
     text.extend_from_slice(
         b"a = n[3:0];\nb = n[7:4];\nreserve(m[a], R);\nreserve(m[b], W);\ncall(n + 8'd",
@@ -63,7 +63,7 @@ fn write_separators(count: u32, text: &mut Vec<u8>) -> Result<(), NoMemory>
 
 // The end of the last stage, in which it writes and releases.
 fn write_writes(text: &mut Vec<u8>) -> Result<(), NoMemory>
-    ensures { OnOk result (text.new.items ≡ text.old.items ++ spec.writes) }
+    ensures { OnOk result (text.new.items ≡ text.old.items ++ spec.writing_end) }
 {
     text.extend_from_slice(
         b"block(m[b]);\nm[b] <- x + n;\nrelease(m[a]);\nrelease(m[b]);\n} start g(8'd1);\n",

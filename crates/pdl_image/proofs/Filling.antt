@@ -12,7 +12,7 @@ use Rattle.std.proofs.lemmas.Option.{slice_get_past, slice_get-get_or}
 use Rattle.pdl_kit.specs.declared.mem_info.MemInfo.{MemInfo}
 use Rattle.pdl_kit.specs.declared.rule.Rule.{Rule}
 use Rattle.pdl_kit.specs.declared.rule.Rule.TheVariants.{I2, I3, I4, I5, I6}
-use Rattle.pdl_image.specs.Images.{Word, broken, broken_in, given, value_at, word_of, says_nothing, mem_of, fields, word_of_parts, or_else}
+use Rattle.pdl_image.specs.Images.{Word, broken_rule, broken_in, given_value, value_at, word_of, says_nothing, mem_of, fields, word_of_parts, or_else}
 use Rattle.pdl_image.specs.Slots.{slots_of, all_slots, IsFor, broken_at, Follows}
 use Rattle.pdl_image.proofs.Parts.{place_is, none_passes}
 use Rattle.pdl_image.proofs.MapSet.{map_same, map_set}
@@ -66,17 +66,17 @@ pub or_else_assoc : (o p q : Option ℕ) → or_else o (or_else p q) ≡ or_else
 or_else_assoc None p q = refl
 or_else_assoc (Some v) p q = refl
 
-pub given_push : (before : List (List ℕ)) (line name : List ℕ) (address : ℕ) → given (before ++ line ∷ []) name address ≡ or_else (given before name address) (value_at (word_of line) name address)
-unfolding given
+pub given_push : (before : List (List ℕ)) (line name : List ℕ) (address : ℕ) → given_value (before ++ line ∷ []) name address ≡ or_else (given_value before name address) (value_at (word_of line) name address)
+unfolding given_value
 given_push [] line name address = or_else_none (value_at (word_of line) name address)
 given_push (l ∷ ls) line name address =
     ap (or_else (value_at (word_of l) name address)) (given_push ls line name address)
-    ∙ or_else_assoc (value_at (word_of l) name address) (given ls name address) (value_at (word_of line) name address)
+    ∙ or_else_assoc (value_at (word_of l) name address) (given_value ls name address) (value_at (word_of line) name address)
 
 -- where a line gives nothing, what was given stays
-kept : (before : List (List ℕ)) (line name : List ℕ) (address : ℕ) → value_at (word_of line) name address ≡ None → given before name address ≡ given (before ++ line ∷ []) name address
+kept : (before : List (List ℕ)) (line name : List ℕ) (address : ℕ) → value_at (word_of line) name address ≡ None → given_value before name address ≡ given_value (before ++ line ∷ []) name address
 kept before line name address e =
-    sym (given_push before line name address ∙ ap (or_else (given before name address)) e ∙ or_else_none (given before name address))
+    sym (given_push before line name address ∙ ap (or_else (given_value before name address)) e ∙ or_else_none (given_value before name address))
 
 range_at : (n i d : ℕ) → i < n → get_or (range_with_len 0 n) i d ≡ i
 range_at n i d h = get_or-range_with_len 0 n i d h ∙ zero-add i
@@ -88,13 +88,13 @@ none_row before line m e = map_same _ _ (range_with_len 0 m.depth) (λ k d l.
     kept before line m.name a (ap (λ w. value_at w m.name a) e))
 
 pub nothing_taken : (mems : List MemInfo) (before : List (List ℕ)) (line : List ℕ) (slots : List (List (Option ℕ))) → says_nothing line ≡ true → slots ≡ all_slots mems before
-    → (broken mems before line ≡ None) × (slots ≡ all_slots mems (before ++ line ∷ []))
-unfolding broken all_slots
+    → (broken_rule mems before line ≡ None) × (slots ≡ all_slots mems (before ++ line ∷ []))
+unfolding broken_rule all_slots
 nothing_taken mems before line slots h e =
     (rw h refl, e ∙ map_same _ _ mems (λ k d l. none_row before line (get_or mems k d) (nothing_given line h)))
 
-pub no_form : (mems : List MemInfo) (before : List (List ℕ)) (line : List ℕ) → says_nothing line ≡ false → word_of line ≡ None → broken mems before line ≡ Some I2
-unfolding broken
+pub no_form : (mems : List MemInfo) (before : List (List ℕ)) (line : List ℕ) → says_nothing line ≡ false → word_of line ≡ None → broken_rule mems before line ≡ Some I2
+unfolding broken_rule
 no_form mems before line h e = rw (h, e) refl
 
 -- a word of a memory that isn't there
@@ -102,8 +102,8 @@ find_none : (p : MemInfo → Bool) (mems : List MemInfo) → position p mems ≡
 find_none p mems e = find_at p mems ∙ slice_get_past mems _ (none_passes p mems e)
 
 pub no_memory : (mems : List MemInfo) (before : List (List ℕ)) (line : List ℕ) (w : Word) → says_nothing line ≡ false → word_of line ≡ Some w
-    → position (λ m. bytes_eq m.name w.name) mems ≡ None → broken mems before line ≡ Some I3
-unfolding broken
+    → position (λ m. bytes_eq m.name w.name) mems ≡ None → broken_rule mems before line ≡ Some I3
+unfolding broken_rule
 no_memory mems before line w h e f = rw (h, e, find_none _ mems f) refl
 
 -- what a memory was given, and what the slots have
@@ -115,7 +115,7 @@ find_some p mems place m e f =
     let P : MemInfo → Type 0 = λ n. p n ≡ true in
     (find_at p mems ∙ slice_get-get_or mems _ m l ∙ ap Some at, subst P at (passes_at_first p mems m l))
 
-row_at : (before : List (List ℕ)) (m : MemInfo) (address : ℕ) → address < m.depth → get_or (slots_of before m) address None ≡ given before m.name address
+row_at : (before : List (List ℕ)) (m : MemInfo) (address : ℕ) → address < m.depth → get_or (slots_of before m) address None ≡ given_value before m.name address
 unfolding slots_of
 row_at before m address h = get_or-map-range_with_len _ 0 m.depth address address None h (omega arith)
 
@@ -123,9 +123,9 @@ broken_word : (before : List (List ℕ)) (m : MemInfo) (w : Word) → m.name ≡
 unfolding broken_at
 broken_word before m w e = elim (cases_lt w.address m.depth) [
   | inl h ↦
-      let P : Option ℕ → Type 0 = λ o. cond (leb (2 ^ m.width) w.value) (Some I5) (cond (is_some (given before w.name w.address)) (Some I6) None)
+      let P : Option ℕ → Type 0 = λ o. cond (leb (2 ^ m.width) w.value) (Some I5) (cond (is_some (given_value before w.name w.address)) (Some I6) None)
       ≡ cond (leb (2 ^ m.width) w.value) (Some I5) (cond (is_some o) (Some I6) None) in
-      let n : given before w.name w.address ≡ get_or (slots_of before m) w.address None = rw (← e) (sym (row_at before m w.address h)) in
+      let n : given_value before w.name w.address ≡ get_or (slots_of before m) w.address None = rw (← e) (sym (row_at before m w.address h)) in
       rw (lt-leb _ _ h) (subst P n refl)
   | inr h ↦ rw (le-leb _ _ h) refl
 ]
@@ -164,14 +164,14 @@ taken_facts m slots address value e =
     (leb-false m.depth address f.0, f.1)
 
 -- the memory's slots with the word's one set
-row_set : (before : List (List ℕ)) (line : List ℕ) (w : Word) (m : MemInfo) → word_of line ≡ Some w → m.name ≡ w.name → w.address < m.depth → given before m.name w.address ≡ None
+row_set : (before : List (List ℕ)) (line : List ℕ) (w : Word) (m : MemInfo) → word_of line ≡ Some w → m.name ≡ w.name → w.address < m.depth → given_value before m.name w.address ≡ None
     → set (slots_of before m) w.address (Some w.value) ≡ slots_of (before ++ line ∷ []) m
 unfolding slots_of
 row_set before line w m e n l free =
-    let here : Some w.value ≡ given (before ++ line ∷ []) m.name w.address =
+    let here : Some w.value ≡ given_value (before ++ line ∷ []) m.name w.address =
     sym (given_push before line m.name w.address ∙ ap (λ o. or_else o (value_at (word_of line) m.name w.address)) free ∙ ap (λ o. value_at o m.name w.address) e ∙ value_same w m.name n) in
     map_set _ _ (range_with_len 0 m.depth) w.address (Some w.value) (rw length-range_with_len l)
-    (λ d. let P : ℕ → Type 0 = λ a. Some w.value ≡ given (before ++ line ∷ []) m.name a in
+    (λ d. let P : ℕ → Type 0 = λ a. Some w.value ≡ given_value (before ++ line ∷ []) m.name a in
     subst P (sym (range_at m.depth w.address d l)) here)
     (λ k d h ne.
     let a : ℕ = get_or (range_with_len 0 m.depth) k d in
@@ -214,8 +214,8 @@ mem_facts mems before line w place m row slots f =
     (l, n, f.here ∙ ap (λ s. get_or s place row) f.was ∙ r ∙ ap (slots_of before) (sym f.mem))
 
 rule_at : (mems : List MemInfo) (before : List (List ℕ)) (line : List ℕ) (w : Word) (place : ℕ) (m : MemInfo) (row : List (Option ℕ)) (slots : List (List (Option ℕ)))
-    → IsNamed mems before line w place m row slots → broken mems before line ≡ broken_at m row w.address w.value
-unfolding broken
+    → IsNamed mems before line w place m row slots → broken_rule mems before line ≡ broken_at m row w.address w.value
+unfolding broken_rule
 rule_at mems before line w place m row slots f =
     let g = mem_facts mems before line w place m row slots f in
     let h : mem_of mems w.name ≡ Some m = (find_some (λ k. bytes_eq k.name w.name) mems place m f.found f.mem).0 in
@@ -228,7 +228,7 @@ unfolding all_slots
 slots_at mems before line w place m row slots distinct f e =
     let g = mem_facts mems before line w place m row slots f in
     let k = taken_facts m row w.address w.value e in
-    let free : given before m.name w.address ≡ None = sym (row_at before m w.address k.0) ∙ ap (λ r. get_or r w.address None) (sym g.2) ∙ k.1 in
+    let free : given_value before m.name w.address ≡ None = sym (row_at before m w.address k.0) ∙ ap (λ r. get_or r w.address None) (sym g.2) ∙ k.1 in
     let here : set row w.address (Some w.value) ≡ slots_of (before ++ line ∷ []) m = ap (λ r. set r w.address (Some w.value)) g.2 ∙ row_set before line w m f.word g.1 k.0 free in
     let at = λ (d : MemInfo). f.mem ∙ get_or_default mems place m d g.0 in
     ap (λ s. set s place (set row w.address (Some w.value))) f.was

@@ -4,7 +4,7 @@ use Rattle.pdl_kit.specs.declared.mem_info.MemInfo.{MemInfo}
 use Rattle.pdl_kit.specs.declared.rule.Rule.{Rule}
 use Rattle.pdl_kit.specs.declared.rule.Rule.TheVariants.{I1, I2, I3, I4, I5, I6}
 use Rattle.pdl_image.specs.Lines.{lines}
-use Rattle.pdl_image.specs.Images.{image, first_wrong, broken, word_of, fields, given}
+use Rattle.pdl_image.specs.Images.{image, first_wrong, broken_rule, word_of, fields, given_value}
 use Rattle.pdl_image.specs.declared.file_error.FileError.{FileError}
 use Rattle.pdl_image.specs.declared.file_error.FileError.TheVariants.{Refused}
 
@@ -34,13 +34,13 @@ no_header = (refl, refl, refl, refl, refl)
 
 -- nothing given
 empty : (image mems (codes "image 1") ≡ zeros) × (image mems header ≡ zeros) × (image mems (header ++ feed ++ codes "//1 2 3" ++ feed ++ feed) ≡ zeros)
-unfolding image lines feed header mems zeros first_wrong broken word_of fields given
+unfolding image lines feed header mems zeros first_wrong broken_rule word_of fields given_value
 empty = (refl, refl, refl)
 
 -- words given, the last address and the greatest values among them
 words : image mems (header ++ codes "m 3 ff" ++ feed ++ codes "k2 01 ffffffffffffffff" ++ feed ++ codes "m 0000000000 0a")
     ≡ Ok ((10 ∷ 0 ∷ 0 ∷ 255 ∷ []) ∷ (0 ∷ 0xffff_ffff_ffff_ffff ∷ []) ∷ [])
-unfolding image lines feed header mems first_wrong broken word_of fields given
+unfolding image lines feed header mems first_wrong broken_rule word_of fields given_value
 words = refl
 
 refused : Rule → ℕ → List ℕ → Type 0
@@ -48,20 +48,20 @@ refused rule line text = image mems (header ++ text) ≡ Err (Refused rule line)
 
 -- a line's form
 formless : refused I2 2 (codes "m 0") × refused I2 2 (codes "m  0 0") × refused I2 2 (codes "m 0 0 ") × refused I2 2 (codes " m 0 0") × refused I2 2 (codes "M 0 0") × refused I2 2 (codes "R 0 0") × refused I2 2 (codes "2k 0 0") × refused I2 2 (codes "m x 0") × refused I2 2 (codes "m 0 A") × refused I2 2 (codes "m 00000000000 0") × refused I2 2 (codes "m 0 00000000000000000") × refused I2 2 (codes "/ m") × refused I2 3 (feed ++ codes " ")
-unfolding refused image lines feed header mems first_wrong broken word_of fields given
+unfolding refused image lines feed header mems first_wrong broken_rule word_of fields given_value
 formless = (refl, refl, refl, refl, refl, refl, refl, refl, refl, refl, refl, refl, refl)
 
 -- a name of 33 characters has no form, and one of 32, or a keyword, isn't there
 names : refused I2 2 (codes "aaaaaaaaaaaaaaaaaaaaaaaaaaaaaaaaa 0 0") × refused I3 2 (codes "aaaaaaaaaaaaaaaaaaaaaaaaaaaaaaaa 0 0") × refused I3 2 (codes "pipe 0 0") × refused I3 2 (codes "x_1 9 999")
-unfolding refused image lines feed header mems first_wrong broken word_of fields given
+unfolding refused image lines feed header mems first_wrong broken_rule word_of fields given_value
 names = (refl, refl, refl, refl)
 
 -- the address is asked before the value, and both before a word that was given
 ranges : refused I4 2 (codes "m 4 00") × refused I4 2 (codes "m 4 100") × refused I5 2 (codes "m 0 100") × refused I5 3 (codes "m 0 1" ++ feed ++ codes "m 0 100") × refused I6 3 (codes "m 0 1" ++ feed ++ codes "m 0 1") × refused I6 4 (codes "m 0 1" ++ feed ++ feed ++ codes "m 00 2")
-unfolding refused image lines feed header mems first_wrong broken word_of fields given
+unfolding refused image lines feed header mems first_wrong broken_rule word_of fields given_value
 ranges = (refl, refl, refl, refl, refl, refl)
 
 -- of two wrong lines the lower one
 lowest : refused I4 2 (codes "m 4 0" ++ feed ++ codes "m 0") × refused I6 3 (codes "m 1 1" ++ feed ++ codes "m 1 1" ++ feed ++ codes "m")
-unfolding refused image lines feed header mems first_wrong broken word_of fields given
+unfolding refused image lines feed header mems first_wrong broken_rule word_of fields given_value
 lowest = (refl, refl)

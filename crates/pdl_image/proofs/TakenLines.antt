@@ -6,7 +6,7 @@ use Rattle.std.proofs.lemmas.Simd.{splat_is_map}
 use Rattle.std.specs.List.{range_with_len}
 use Rattle.pdl_kit.specs.declared.mem_info.MemInfo.{MemInfo}
 use Rattle.pdl_kit.specs.declared.rule.Rule.{Rule}
-use Rattle.pdl_image.specs.Images.{broken, first_wrong, at_line, given}
+use Rattle.pdl_image.specs.Images.{broken_rule, first_wrong, at_line, given_value}
 use Rattle.pdl_image.specs.Lines.{lines}
 use Rattle.pdl_image.specs.Slots.{slots_of, all_slots}
 use Rattle.pdl_image.specs.declared.file_error.FileError.TheVariants.{Refused}
@@ -33,12 +33,12 @@ front all n line later e h =
 
 -- what the next line decides
 next_line : (mems : List MemInfo) (before : List (List ℕ)) (number : ℕ) (line : List ℕ) (later : List (List ℕ))
-    → first_wrong mems before number (line ∷ later) ≡ at_line number (broken mems before line) (first_wrong mems (before ++ line ∷ []) (number + 1) later)
+    → first_wrong mems before number (line ∷ later) ≡ at_line number (broken_rule mems before line) (first_wrong mems (before ++ line ∷ []) (number + 1) later)
 unfolding first_wrong
 next_line mems before number line later = refl
 
 pub taken_more : (mems : List MemInfo) (all : List (List ℕ)) (n : ℕ) (left : List (List ℕ)) (line : List ℕ) (later : List (List ℕ)) (slots new : List (List (Option ℕ)))
-    → Taken mems all n left slots → left ≡ line ∷ later → broken mems (take n all) line ≡ None → new ≡ all_slots mems (take n all ++ line ∷ []) → Taken mems all (n + 1) later new
+    → Taken mems all n left slots → left ≡ line ∷ later → broken_rule mems (take n all) line ≡ None → new ≡ all_slots mems (take n all ++ line ∷ []) → Taken mems all (n + 1) later new
 taken_more mems all n left line later slots new t e b f =
     let whole : all ≡ take n all ++ line ∷ later = t.rest ∙ ap (λ ls. take n all ++ ls) e in
     let g : take (n + 1) all ≡ take n all ++ line ∷ [] = front all n line later whole t.many in
@@ -53,7 +53,7 @@ taken_more mems all n left line later slots new t e b f =
     }
 
 pub wrong_found : (mems : List MemInfo) (all : List (List ℕ)) (n : ℕ) (left : List (List ℕ)) (line : List ℕ) (later : List (List ℕ)) (slots : List (List (Option ℕ))) (rule : Rule)
-    → Taken mems all n left slots → left ≡ line ∷ later → broken mems (take n all) line ≡ Some rule → first_wrong mems [] 2 all ≡ Some (Refused rule (n + 2))
+    → Taken mems all n left slots → left ≡ line ∷ later → broken_rule mems (take n all) line ≡ Some rule → first_wrong mems [] 2 all ≡ Some (Refused rule (n + 2))
 wrong_found mems all n left line later slots rule t e b =
     t.same ∙ ap (first_wrong mems (take n all) (n + 2)) e ∙ next_line mems (take n all) (n + 2) line later
     ∙ ap (λ o. at_line (n + 2) o (first_wrong mems (take n all ++ line ∷ []) (n + 2 + 1) later)) b
@@ -78,7 +78,7 @@ all_taken mems all n text slots t h =
 -- ---- the slots before any line
 
 empty_row : (m : MemInfo) → replicate m.depth None ≡ slots_of [] m
-unfolding slots_of given
+unfolding slots_of given_value
 empty_row m = splat_is_map (range_with_len 0 m.depth) m.depth None (length-range_with_len 0 m.depth)
 
 pub no_slots : all_slots [] [] ≡ []

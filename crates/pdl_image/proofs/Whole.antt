@@ -15,7 +15,7 @@ use Rattle.pdl_kit.specs.declared.mem_info.MemInfo.{MemInfo}
 use Rattle.pdl_kit.specs.declared.rule.Rule.{Rule}
 use Rattle.pdl_kit.specs.declared.rule.Rule.TheVariants.{I1}
 use Rattle.pdl_image.specs.Lines.{lines}
-use Rattle.pdl_image.specs.Images.{image, image_after, contents, after_header, first_wrong, at_line, words_of, given, or_else, value_at, broken, broken_by, broken_in, mem_of, says_nothing, word_of, Word, IsRefusal, IsImage}
+use Rattle.pdl_image.specs.Images.{image, image_after, contents, after_header, first_wrong, at_line, words_of, given_value, or_else, value_at, broken_rule, broken_by, broken_in, mem_of, says_nothing, word_of, Word, IsRefusal, IsImage}
 use Rattle.pdl_image.specs.Slots.{slots_of, all_slots}
 use Rattle.pdl_image.proofs.MapSet.{map_same}
 use Rattle.pdl_image.proofs.Filling.{nothing_given, middle_passes}
@@ -38,7 +38,7 @@ refusal_of meant NoMemory e = tt
 -- the words of slots
 words_row : (rest : List (List ℕ)) (m : MemInfo) → map (λ o. unwrap_or o 0) (slots_of rest m) ≡ words_of rest m
 unfolding slots_of
-words_row rest m = map-map (λ o. unwrap_or o 0) (given rest m.name) (range_with_len 0 m.depth)
+words_row rest m = map-map (λ o. unwrap_or o 0) (given_value rest m.name) (range_with_len 0 m.depth)
 
 words_all : (mems : List MemInfo) (rest : List (List ℕ)) → map (λ row. map (λ o. unwrap_or o 0) row) (all_slots mems rest) ≡ map (words_of rest) mems
 unfolding all_slots
@@ -88,8 +88,8 @@ line_small mems before line m (Some w) address v b e f =
     omega (arith, leb-false (2 ^ m.width) w.value h, g.1)
 
 said_small : (mems : List MemInfo) (before : List (List ℕ)) (line : List ℕ) (m : MemInfo) (address v : ℕ)
-    → broken mems before line ≡ None → mem_of mems m.name ≡ Some m → value_at (word_of line) m.name address ≡ Some v → v < 2 ^ m.width
-unfolding broken
+    → broken_rule mems before line ≡ None → mem_of mems m.name ≡ Some m → value_at (word_of line) m.name address ≡ Some v → v < 2 ^ m.width
+unfolding broken_rule
 said_small mems before line m address v b f h = elim (cases_Bool (says_nothing line)) [
   | inl t ↦
       let k : None ≡ Some v = sym (ap (λ o. value_at o m.name address) (nothing_given line t)) ∙ h in
@@ -100,21 +100,21 @@ said_small mems before line m address v b f h = elim (cases_Bool (says_nothing l
 ]
 
 values_small : (mems : List MemInfo) (rest before : List (List ℕ)) (number : ℕ) (m : MemInfo) (address : ℕ) → first_wrong mems before number rest ≡ None → mem_of mems m.name ≡ Some m
-    → unwrap_or (given rest m.name address) 0 < 2 ^ m.width
-unfolding first_wrong given
+    → unwrap_or (given_value rest m.name address) 0 < 2 ^ m.width
+unfolding first_wrong given_value
 values_small mems [] before number m address e f = pow_pos m.width
 values_small mems (line ∷ more) before number m address e f =
-    let g = at_none number (broken mems before line) _ e in
+    let g = at_none number (broken_rule mems before line) _ e in
     or_small (value_at (word_of line) m.name address) _ _ (λ v h. said_small mems before line m address v g.0 f h) (values_small mems more (before ++ line ∷ []) (number + 1) m address g.1 f)
 
 word_small : (mems : List MemInfo) (rest : List (List ℕ)) (m : MemInfo) (a : ℕ) → first_wrong mems [] 2 rest ≡ None → mem_of mems m.name ≡ Some m → get_or (words_of rest m) a 0 < 2 ^ m.width
 word_small mems rest m a e f = elim (cases_lt a m.depth) [
   | inl h ↦
       let P : ℕ → Type 0 = λ n. n < 2 ^ m.width in
-      subst P (sym (get_or-map-range_with_len (λ k. unwrap_or (given rest m.name k) 0) 0 m.depth a a 0 h (zero-add a))) (values_small mems rest [] 2 m a e f)
+      subst P (sym (get_or-map-range_with_len (λ k. unwrap_or (given_value rest m.name k) 0) 0 m.depth a a 0 h (zero-add a))) (values_small mems rest [] 2 m a e f)
   | inr h ↦
       let P : ℕ → Type 0 = λ n. n < 2 ^ m.width in
-      let k : length (words_of rest m) ≤ a = omega (arith, length-map-range_with_len (λ k. unwrap_or (given rest m.name k) 0) 0 m.depth) in
+      let k : length (words_of rest m) ≤ a = omega (arith, length-map-range_with_len (λ k. unwrap_or (given_value rest m.name k) 0) 0 m.depth) in
       subst P (sym (get_or_past (words_of rest m) a 0 k)) (pow_pos m.width)
 ]
 

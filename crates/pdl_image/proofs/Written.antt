@@ -12,7 +12,7 @@ use Rattle.pdl_kit.specs.declared.mem_info.MemInfo.{MemInfo}
 use Rattle.pdl_kit.specs.declared.rule.Rule.{Rule}
 use Rattle.pdl_kit.specs.declared.rule.Rule.TheVariants.{I4, I5, I6}
 use Rattle.pdl_image.specs.Lines.{lines, byte_before}
-use Rattle.pdl_image.specs.Images.{Word, are_digits, at_line, broken, broken_by, broken_in, contents, fields, first_wrong, given, image, image_after, after_header, is_digit_of, is_letter, is_name, is_name_byte, mem_of, or_else, says_nothing, value_at, word_of, words_of}
+use Rattle.pdl_image.specs.Images.{Word, are_digits, at_line, broken_rule, broken_by, broken_in, contents, fields, first_wrong, given_value, image, image_after, after_header, is_digit_of, is_letter, is_name, is_name_byte, mem_of, or_else, says_nothing, value_at, word_of, words_of}
 use Rattle.pdl_image.specs.declared.file_error.FileError.{FileError}
 use Rattle.pdl_image.proofs.Filling.{given_push, or_else_none, value_other, value_same}
 use Rattle.pdl_image.proofs.LineWords.{word_found}
@@ -119,33 +119,33 @@ module _ (m : MemInfo) (count : ℕ) (word : ℕ → Option ℕ) (text : ℕ →
       text_lines a (word a) _ (omega (arith, h)) refl ∙ ap (λ ls. line_at line a (word a) ++ ls) (all_lines (a + 1) n (omega (arith, h)))
 
   -- what a line gives to an address
-  line_given : (a k : ℕ) (o : Option ℕ) (more : List (List ℕ)) → a < count → word a ≡ o → k ≢ a → given (line_at line a o ++ more) m.name k ≡ given more m.name k
-  unfolding given
+  line_given : (a k : ℕ) (o : Option ℕ) (more : List (List ℕ)) → a < count → word a ≡ o → k ≢ a → given_value (line_at line a o ++ more) m.name k ≡ given_value more m.name k
+  unfolding given_value
   line_given a k None more l e ne = refl
   line_given a k (Some v) more l e ne =
       let w : Word = record { name = m.name; address = a; value = v } in
-      ap (λ o. or_else (value_at o m.name k) (given more m.name k)) (g.says a v l e).word
-      ∙ ap (λ o. or_else o (given more m.name k)) (value_other w m.name k (λ p q. ne q))
+      ap (λ o. or_else (value_at o m.name k) (given_value more m.name k)) (g.says a v l e).word
+      ∙ ap (λ o. or_else o (given_value more m.name k)) (value_other w m.name k (λ p q. ne q))
 
-  here_given : (a : ℕ) (o : Option ℕ) (more : List (List ℕ)) → a < count → word a ≡ o → given more m.name a ≡ None → given (line_at line a o ++ more) m.name a ≡ o
-  unfolding given
+  here_given : (a : ℕ) (o : Option ℕ) (more : List (List ℕ)) → a < count → word a ≡ o → given_value more m.name a ≡ None → given_value (line_at line a o ++ more) m.name a ≡ o
+  unfolding given_value
   here_given a None more l e f = f
   here_given a (Some v) more l e f =
       let w : Word = record { name = m.name; address = a; value = v } in
-      ap (λ o. or_else (value_at o m.name a) (given more m.name a)) (g.says a v l e).word
-      ∙ ap (λ o. or_else o (given more m.name a)) (value_same w m.name refl)
+      ap (λ o. or_else (value_at o m.name a) (given_value more m.name a)) (g.says a v l e).word
+      ∙ ap (λ o. or_else o (given_value more m.name a)) (value_same w m.name refl)
 
   -- nothing is given to an address before
-  none_before : (a n k : ℕ) → a + n ≤ count → k < a → given (lines_from line word a n) m.name k ≡ None
-  unfolding given
+  none_before : (a n k : ℕ) → a + n ≤ count → k < a → given_value (lines_from line word a n) m.name k ≡ None
+  unfolding given_value
   none_before a zero k h l = refl
   none_before a (suc n) k h l = line_given a k (word a) _ (omega (arith, h)) refl (λ e. omega (arith, l, e)) ∙ none_before (a + 1) n k (omega (arith, h)) (omega (arith, l))
 
-  word_given : (a n k : ℕ) → a + n ≤ count → a ≤ k → k < a + n → given (lines_from line word a n) m.name k ≡ word k
+  word_given : (a n k : ℕ) → a + n ≤ count → a ≤ k → k < a + n → given_value (lines_from line word a n) m.name k ≡ word k
   word_given a zero k h l r = absurd (omega (arith, l, r))
   word_given a (suc n) k h l r = elim (cases_order k a) [
     | inl e ↦
-        let P : ℕ → Type 0 = λ i. given (lines_from line word a (suc n)) m.name i ≡ word i in
+        let P : ℕ → Type 0 = λ i. given_value (lines_from line word a (suc n)) m.name i ≡ word i in
         subst P (sym e) (here_given a (word a) _ (omega (arith, h)) refl (none_before (a + 1) n a (omega (arith, h)) (omega arith)))
     | inr o ↦ elim o [
       | inl b ↦ absurd (omega (arith, b, l))
@@ -157,11 +157,11 @@ module _ (m : MemInfo) (count : ℕ) (word : ℕ → Option ℕ) (text : ℕ →
 
   -- ---- no line breaks a rule
 
-  rule_none : (before : List (List ℕ)) (w : Word) → w.address < m.depth → w.value < 2 ^ m.width → given before w.name w.address ≡ None → broken_in before w (Some m) ≡ None
+  rule_none : (before : List (List ℕ)) (w : Word) → w.address < m.depth → w.value < 2 ^ m.width → given_value before w.name w.address ≡ None → broken_in before w (Some m) ≡ None
   rule_none before w l s e = rw (lt-leb m.depth w.address l, lt-leb (2 ^ m.width) w.value s, e) refl
 
-  line_right : (before : List (List ℕ)) (a v : ℕ) → a < count → word a ≡ Some v → given before m.name a ≡ None → broken (m ∷ []) before (line a v) ≡ None
-  unfolding broken
+  line_right : (before : List (List ℕ)) (a v : ℕ) → a < count → word a ≡ Some v → given_value before m.name a ≡ None → broken_rule (m ∷ []) before (line a v) ≡ None
+  unfolding broken_rule
   line_right before a v l e f =
       let w : Word = record { name = m.name; address = a; value = v } in
       let s = g.says a v l e in
@@ -171,14 +171,14 @@ module _ (m : MemInfo) (count : ℕ) (word : ℕ → Option ℕ) (text : ℕ →
       ∙ rule_none before w (g.fits a v l e).0 (g.fits a v l e).1 f
 
   -- a line more gives nothing to a later address
-  later_free : (before : List (List ℕ)) (a v k : ℕ) → a < count → word a ≡ Some v → a < k → given before m.name k ≡ None → given (before ++ line a v ∷ []) m.name k ≡ None
+  later_free : (before : List (List ℕ)) (a v k : ℕ) → a < count → word a ≡ Some v → a < k → given_value before m.name k ≡ None → given_value (before ++ line a v ∷ []) m.name k ≡ None
   later_free before a v k l e h f =
       let w : Word = record { name = m.name; address = a; value = v } in
       given_push before (line a v) m.name k ∙ ap (λ o. or_else o (value_at (word_of (line a v)) m.name k)) f
       ∙ ap (λ o. value_at o m.name k) (g.says a v l e).word ∙ value_other w m.name k (λ p q. omega (arith, h, q))
 
   abbrev Free : ℕ → List (List ℕ) → Type 0
-  Free a before = (k : ℕ) → a ≤ k → given before m.name k ≡ None
+  Free a before = (k : ℕ) → a ≤ k → given_value before m.name k ≡ None
 
   none_after : (before : List (List ℕ)) (number a : ℕ) (o : Option ℕ) (more : List (List ℕ)) → a < count → word a ≡ o → Free a before
       → ((b : List (List ℕ)) (i : ℕ) → Free (a + 1) b → first_wrong (m ∷ []) b i more ≡ None) → first_wrong (m ∷ []) before number (line_at line a o ++ more) ≡ None
@@ -194,8 +194,8 @@ module _ (m : MemInfo) (count : ℕ) (word : ℕ → Option ℕ) (text : ℕ →
   none_wrong a (suc n) h before number free =
       none_after before number a (word a) (lines_from line word (a + 1) n) (omega (arith, h)) refl free (none_wrong (a + 1) n (omega (arith, h)))
 
-  nothing_before : (k : ℕ) → given [] m.name k ≡ None
-  unfolding given
+  nothing_before : (k : ℕ) → given_value [] m.name k ≡ None
+  unfolding given_value
   nothing_before k = refl
 
   words_same : m.depth ≤ count → words_of (lines_from line word 0 count) m ≡ map (λ k. unwrap_or (word k) 0) (range_with_len 0 m.depth)

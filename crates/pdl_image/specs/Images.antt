@@ -75,9 +75,9 @@ or_else (Some v) later = Some v
 or_else None later = later
 
 -- the value that lines give a memory's address, if one does
-unfoldable pub given : List (List ℕ) → List ℕ → ℕ → Option ℕ
-given [] name address = None
-given (line ∷ more) name address = or_else (value_at (word_of line) name address) (given more name address)
+unfoldable pub given_value : List (List ℕ) → List ℕ → ℕ → Option ℕ
+given_value [] name address = None
+given_value (line ∷ more) name address = or_else (value_at (word_of line) name address) (given_value more name address)
 
 -- the lowest rule that a word for a memory breaks, after lines that gave others: I4 asks the address, I5 the value, I6 that it is given once
 abbrev pub broken_in : List (List ℕ) → Word → Option MemInfo → Option Rule
@@ -85,7 +85,7 @@ broken_in before w None = Some I3
 broken_in before w (Some m) =
     if nat_le m.depth w.address then Some I4
     else if nat_le (2 ^ m.width) w.value then Some I5
-    else if is_some (given before w.name w.address) then Some I6
+    else if is_some (given_value before w.name w.address) then Some I6
     else None
 
 -- the same of a line that isn't empty and no comment: I2 asks its form, I3 that there is the memory
@@ -94,8 +94,8 @@ broken_by mems before None = Some I2
 broken_by mems before (Some w) = broken_in before w (mem_of mems w.name)
 
 -- the lowest rule that a line breaks, after the lines before it
-unfoldable pub broken : List MemInfo → List (List ℕ) → List ℕ → Option Rule
-broken mems before line = if says_nothing line then None else broken_by mems before (word_of line)
+unfoldable pub broken_rule : List MemInfo → List (List ℕ) → List ℕ → Option Rule
+broken_rule mems before line = if says_nothing line then None else broken_by mems before (word_of line)
 
 -- the refusal at a line that breaks a rule, else what the lines after it say
 abbrev pub at_line : ℕ → Option Rule → Option FileError → Option FileError
@@ -106,11 +106,11 @@ at_line number None later = later
 unfoldable pub first_wrong : List MemInfo → List (List ℕ) → ℕ → List (List ℕ) → Option FileError
 first_wrong mems before number [] = None
 first_wrong mems before number (line ∷ more) =
-    at_line number (broken mems before line) (first_wrong mems (before ++ line ∷ []) (number + 1) more)
+    at_line number (broken_rule mems before line) (first_wrong mems (before ++ line ∷ []) (number + 1) more)
 
 -- a memory's words: those that lines give, and 0
 abbrev pub words_of : List (List ℕ) → MemInfo → List ℕ
-words_of given_by m = map (λ address. unwrap_or (given given_by m.name address) 0) (range_with_len 0 m.depth)
+words_of given_by m = map (λ address. unwrap_or (given_value given_by m.name address) 0) (range_with_len 0 m.depth)
 
 -- the lines after the first one, which is `image 1`
 abbrev pub after_header : List (List ℕ) → Option (List (List ℕ))

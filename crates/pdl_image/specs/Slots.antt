@@ -4,12 +4,12 @@ use Rattle.std.specs.List.{range_with_len, AllZip}
 use Rattle.pdl_kit.specs.declared.mem_info.MemInfo.{MemInfo}
 use Rattle.pdl_kit.specs.declared.rule.Rule.{Rule}
 use Rattle.pdl_kit.specs.declared.rule.Rule.TheVariants.{I4, I5, I6}
-use Rattle.pdl_image.specs.Images.{broken, given, first_wrong}
+use Rattle.pdl_image.specs.Images.{broken_rule, given_value, first_wrong}
 use Rattle.pdl_image.specs.declared.file_error.FileError.{FileError}
 
 -- the values that lines give to a memory's addresses
 unfoldable pub slots_of : List (List ℕ) → MemInfo → List (Option ℕ)
-slots_of before m = map (λ address. given before m.name address) (range_with_len 0 m.depth)
+slots_of before m = map (λ address. given_value before m.name address) (range_with_len 0 m.depth)
 
 -- the same of each memory
 unfoldable pub all_slots : List MemInfo → List (List ℕ) → List (List (Option ℕ))
@@ -29,8 +29,8 @@ broken_at m slots address value =
 
 -- a line was taken after those before it, or the lowest rule that it breaks is the answer
 abbrev pub Follows : List MemInfo → List (List ℕ) → List ℕ → Result (Unit {0}) Rule → List (List (Option ℕ)) → Type 0
-Follows mems before line (Ok _) slots = (broken mems before line ≡ None) × (slots ≡ all_slots mems (before ++ line ∷ []))
-Follows mems before line (Err rule) slots = broken mems before line ≡ Some rule
+Follows mems before line (Ok _) slots = (broken_rule mems before line ≡ None) × (slots ≡ all_slots mems (before ++ line ∷ []))
+Follows mems before line (Err rule) slots = broken_rule mems before line ≡ Some rule
 
 -- the lines after the first one were taken, or the first wrong one is the answer
 abbrev pub AreTaken : List MemInfo → List (List ℕ) → Result (Unit {0}) FileError → List (List (Option ℕ)) → Type 0

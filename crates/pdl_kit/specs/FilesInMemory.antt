@@ -2,7 +2,7 @@
 use Rattle.std.specs.Prelude.{ℕ, ◌<◌, ◌⊎◌, List, [], ◌∷◌, length, Option, Some, None, Contains, Result, Err, map, nat_eq, if◌then◌else◌}
 use Rattle.std.specs.Cmp.Lexicographic.{pointwise}
 use Rattle.std.specs.FinMap as fin
-use Rattle.pdl_kit.specs.Counts.{raised}
+use Rattle.pdl_kit.specs.Counts.{raised_count}
 use Rattle.pdl_kit.specs.Files.{Held, bytes_of}
 use Rattle.pdl_kit.specs.declared.files.ReadError.{ReadError}
 use Rattle.pdl_kit.specs.declared.files.ReadError.TheVariants.{Failed}
@@ -32,9 +32,9 @@ IsMissingOrTooLong (Some bytes) = LONGEST_FILE < length bytes
 
 -- a read fails: its call, of which the first is 1, is listed, or the name is missing or its file too long
 abbrev pub ReadFails : State → List ℕ → Type 0
-ReadFails s name = Contains s.failing (raised s.calls) ⊎ IsMissingOrTooLong (bytes_of (held_of s.files) name)
+ReadFails s name = Contains s.failing (raised_count s.calls) ⊎ IsMissingOrTooLong (bytes_of (held_of s.files) name)
 
 -- a read counts as a call, and as a fault where it failed
 abbrev pub after_read : {T : Type 0} → State → Result T ReadError → State
-after_read s (Err Failed) = record s { calls = raised s.calls; faults = raised s.faults }
-after_read s _ = record s { calls = raised s.calls }
+after_read s (Err Failed) = record s { calls = raised_count s.calls; faults = raised_count s.faults }
+after_read s _ = record s { calls = raised_count s.calls }

@@ -1,7 +1,7 @@
 // Files in memory, some of whose reads fail.
 ghost use Rattle.std.specs.Prelude.{◌≡◌, ◌≤◌, ◌↔◌, Some, true, IfOk, IsErrOf, vec_len};
 ghost use Rattle.std.specs.Option.{option_copied};
-ghost use Rattle.pdl_kit.specs.Counts.{raised};
+ghost use Rattle.pdl_kit.specs.Counts.{raised_count};
 ghost use Rattle.pdl_kit.specs.Files.{Gives, ReadHasCause};
 ghost use Rattle.pdl_kit.specs.FilesInMemory.{ReadFails, after_read, found_in, held_of};
 
@@ -53,7 +53,7 @@ impl MemFiles {
 
     // A fault is counted.
     fn fault(&mut self) -> ReadError
-        ensures state { self.new ≡ record self.old { faults = raised self.old.faults } }
+        ensures state { self.new ≡ record self.old { faults = raised_count self.old.faults } }
         ensures later { self.old.faults ≤ self.new.faults }
         ensures failed { result ≡ ReadError.Failed }
     {
@@ -74,7 +74,7 @@ fn find<'a>(files: &'a [MemFile], name: &str) -> Option<&'a Seq<u8>>
     None
 }
 
-fn copied(bytes: &Seq<u8>) -> Result<Vec<u8>, NoMemory>
+fn copy_of(bytes: &Seq<u8>) -> Result<Vec<u8>, NoMemory>
     ensures { IfOk result (λ b. b.items ≡ bytes.now) }
 {
     let copy = bytes.clone()?;
@@ -103,7 +103,7 @@ impl Files for MemFiles {
             return Err(self.fault());
         }
         match find(self.files.as_slice(), name) {
-            Some(bytes) if bytes.len() <= LONGEST_FILE => Ok(copied(bytes)?),
+            Some(bytes) if bytes.len() <= LONGEST_FILE => Ok(copy_of(bytes)?),
             _ => Err(self.fault()),
         }
     }

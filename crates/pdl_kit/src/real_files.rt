@@ -1,6 +1,6 @@
 // The files of the system.
 ghost use Rattle.std.specs.Prelude.{◌≡◌, ◌≤◌, None, true};
-ghost use Rattle.pdl_kit.specs.Counts.{raised};
+ghost use Rattle.pdl_kit.specs.Counts.{raised_count};
 
 use crate::files::{Files, LONGEST_FILE, ReadError};
 use std::io::{ErrorKind, Read};
@@ -31,7 +31,7 @@ impl<R: std::rt::Files + AllocGlobal> RealFiles<R> {
 
     // A fault is counted.
     fn fault(&mut self) -> ReadError
-        ensures state { self.new ≡ record self.old { faults = raised self.old.faults } }
+        ensures state { self.new ≡ record self.old { faults = raised_count self.old.faults } }
         ensures later { self.old.faults ≤ self.new.faults }
         ensures failed { result ≡ ReadError.Failed }
     {

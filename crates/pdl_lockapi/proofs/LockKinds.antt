@@ -4,7 +4,7 @@ use Rattle.std.specs.Prelude.{is_some}
 use Rattle.pdl_semantics.specs.Tree.{LockKind, Queue, Bypass, Rename, LockDecl}
 use Rattle.pdl_semantics.specs.Flat as flat
 use Rattle.pdl_semantics.specs.Flat.{Lock, has_lock}
-use Rattle.pdl_semantics.specs.Flatten.{lock_of}
+use Rattle.pdl_semantics.specs.Flatten.{flat_lock}
 use Rattle.pdl_semantics.specs.Locks.{has_room}
 use Rattle.pdl_lockapi.specs.Laws.{words_of}
 use Rattle.pdl_lockapi.specs.Forget.{as_lock}
@@ -22,16 +22,16 @@ locked_is Bypass n = refl
 locked_is Rename n = refl
 
 -- a declared lock is that of its kind, with its size
-pub lock_is : (l : LockDecl) → lock_of (Some l) ≡ as_lock l.kind l.size.value
+pub lock_is : (l : LockDecl) → flat_lock (Some l) ≡ as_lock l.kind l.size.value
 lock_is l = at l.kind
   where
-    at : (k : LockKind) → lock_of (Some (record l { kind = k })) ≡ as_lock k l.size.value
+    at : (k : LockKind) → flat_lock (Some (record l { kind = k })) ≡ as_lock k l.size.value
     at Queue = refl
     at Bypass = refl
     at Rename = refl
 
 -- there is a lock where one is declared
-pub lock_declared : (l : Option LockDecl) → has_lock (lock_of l) ≡ is_some l
+pub lock_declared : (l : Option LockDecl) → has_lock (flat_lock l) ≡ is_some l
 lock_declared None = refl
 lock_declared (Some l) = ap has_lock (lock_is l) ∙ locked_is l.kind l.size.value
 

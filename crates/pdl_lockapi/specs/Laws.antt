@@ -8,14 +8,14 @@ use Rattle.pdl_net.specs.Circuit.{Circuit, State, Shape, HasReg, reg_reset, HasA
 use Rattle.pdl_net.specs.Signal.{Signal, const_signal}
 use Rattle.pdl_net.specs.Meaning.{IsThere, signal, next_signal, WriteSignal, write_signals}
 use Rattle.pdl_net.specs.Growth.{Own}
-use Rattle.pdl_net.specs.Run.{filled}
+use Rattle.pdl_net.specs.Run.{filled_words}
 use Rattle.pdl_lockapi.specs.declared.Kind.{Kind}
 use Rattle.pdl_lockapi.specs.declared.Kind.TheVariants.{R, W}
 use Rattle.pdl_lockapi.specs.declared.LockRegs.{LockRegs}
 use Rattle.pdl_lockapi.specs.declared.ReservePort.{ReservePort}
 use Rattle.pdl_lockapi.specs.declared.TicketWrite.{TicketWrite}
 use Rattle.pdl_lockapi.specs.declared.LockPorts.{LockPorts}
-use Rattle.pdl_lockapi.specs.Lock.{LockState, Act, entry_at, act_at, start, step, is_ready, read, has_room, next_ticket, commit_addr, commit_value, Covered, Proper}
+use Rattle.pdl_lockapi.specs.Lock.{LockState, LockAct, entry_at, act_at, start, step, look_ready, look_value, has_room, next_ticket, commit_addr, commit_value, Covered, Proper}
 
 -- the registers of a lock: from this number up to that one
 abbrev pub first_reg : LockRegs → ℕ
@@ -60,9 +60,9 @@ abbrev pub words_of : LockKind → ℕ → ℕ
 words_of Rename d = d + d
 words_of _ d = d
 
--- the array, where there is one, has the image in front, and zeros behind it
+-- the array, where there is one, has the image in front, and zeros after it
 abbrev pub HasImage : LockKind → Option ℕ → State → List ℕ → Type 0
-HasImage k array s image = HasWords array s (filled (words_of k (length image)) image)
+HasImage k array s image = HasWords array s (filled_words (words_of k (length image)) image)
 
 abbrev pub arrays_of : LockKind → MemInfo → List Shape
 arrays_of k m = if m.delayed then [] else record { name = m.name; width = m.width; depth = words_of k m.depth } ∷ []
@@ -128,8 +128,8 @@ FitsIn f s = f.value s < 2 ^ f.width
 
 -- a look of a covered ticket says whether it is ready, and at an address that fits it gives the value of a ready read
 pub record LookLaw (stands : State → LockState → Type 0) (k : LockKind) (w : ℕ) (u : Kind) (addr ticket ready : Signal) (value : Option Signal) : Type 0 where
-  pub answers : (s : State) (x : LockState) (t : ℕ) → stands s x → Covered x t → holds_ticket w ticket s t → ready.value s ≡ bit (is_ready k u x t (addr.value s))
-  pub gives : (f : Signal) → value ≡ Some f → (s : State) (x : LockState) (t : ℕ) → stands s x → Covered x t → holds_ticket w ticket s t → FitsIn addr s → is_ready k R x t (addr.value s) ≡ true → f.value s ≡ read x t (addr.value s)
+  pub answers : (s : State) (x : LockState) (t : ℕ) → stands s x → Covered x t → holds_ticket w ticket s t → ready.value s ≡ bit (look_ready k u x t (addr.value s))
+  pub gives : (f : Signal) → value ≡ Some f → (s : State) (x : LockState) (t : ℕ) → stands s x → Covered x t → holds_ticket w ticket s t → FitsIn addr s → look_ready k R x t (addr.value s) ≡ true → f.value s ≡ look_value x t (addr.value s)
 
 -- the net of a look's value, where there is one
 pub record HasValueNet (c : Circuit) (width : ℕ) (value : Option Net) : Type 0 where
@@ -154,12 +154,12 @@ pub record StepSignals : Type 0 where
   pub tail : Signal
 
 -- a reservation for reading appends nothing
-abbrev pub enabled : Kind → Signal → Signal
-enabled R f = const_signal 1 0
-enabled W f = f
+abbrev pub enabled_reserve : Kind → Signal → Signal
+enabled_reserve R f = const_signal 1 0
+enabled_reserve W f = f
 
 abbrev pub reserve_signal : Circuit → ReservePort → ReserveSignal
-reserve_signal c p = record { enable = enabled p.kind (signal c p.enable); addr = signal c p.addr }
+reserve_signal c p = record { enable = enabled_reserve p.kind (signal c p.enable); addr = signal c p.addr }
 
 abbrev pub ticket_signal : Circuit → TicketWrite → TicketSignal
 ticket_signal c p = record { enable = signal c p.enable; ticket = signal c p.ticket; value = signal c p.value }
@@ -186,13 +186,13 @@ abbrev pub ticket_at : List TicketSignal → ℕ → TicketSignal
 ticket_at fs k = slice_index_or fs k no_ticket
 
 -- the addresses of the enabled reservations for writing
-abbrev pub asked : State → List ReserveSignal → List ℕ
-asked s [] = []
-asked s (f ∷ fs) = if f.enable.value s == 1 then f.addr.value s ∷ asked s fs else asked s fs
+abbrev pub asked_addresses : State → List ReserveSignal → List ℕ
+asked_addresses s [] = []
+asked_addresses s (f ∷ fs) = if f.enable.value s == 1 then f.addr.value s ∷ asked_addresses s fs else asked_addresses s fs
 
 -- in this state the ports' nets do this to the lock
-pub record Drives (w : ℕ) (f : StepSignals) (s : State) (a : Act) : Type 0 where
-  pub reserves : a.reserves ≡ asked s f.reserves
+pub record Drives (w : ℕ) (f : StepSignals) (s : State) (a : LockAct) : Type 0 where
+  pub reserves : a.reserves ≡ asked_addresses s f.reserves
   pub fits : (k : ℕ) → k < length f.reserves → (reserve_at f.reserves k).enable.value s ≡ 1 → FitsIn (reserve_at f.reserves k).addr s
   pub count : length a.writes ≡ length f.writes
   pub on : (k : ℕ) → k < length a.writes → (ticket_at f.writes k).enable.value s ≡ bit (act_at a.writes k).on
@@ -204,10 +204,10 @@ pub record Drives (w : ℕ) (f : StepSignals) (s : State) (a : Act) : Type 0 whe
 
 -- in a cycle of proper use the commit nets show the commit, and the next state stands for the step's
 pub record StepLaw (stands : State → LockState → Type 0) (n w : ℕ) (o : Own) (c : Circuit) (f : StepSignals) (commit addr value : Signal) : Type 0 where
-  pub commits : (s : State) (x : LockState) (a : Act) → stands s x → Drives w f s a → Proper n x a → commit.value s ≡ bit a.release
-  pub commits_addr : (s : State) (x : LockState) (a : Act) → stands s x → Drives w f s a → Proper n x a → addr.value s ≡ commit_addr x a
-  pub commits_value : (s : State) (x : LockState) (a : Act) → stands s x → Drives w f s a → Proper n x a → value.value s ≡ commit_value x a
-  pub next : (s t : State) (x : LockState) (a : Act) → stands s x → Drives w f s a → Proper n x a → IsNext c o s t → stands t (step x a)
+  pub commits : (s : State) (x : LockState) (a : LockAct) → stands s x → Drives w f s a → Proper n x a → commit.value s ≡ bit a.release
+  pub commits_addr : (s : State) (x : LockState) (a : LockAct) → stands s x → Drives w f s a → Proper n x a → addr.value s ≡ commit_addr x a
+  pub commits_value : (s : State) (x : LockState) (a : LockAct) → stands s x → Drives w f s a → Proper n x a → value.value s ≡ commit_value x a
+  pub next : (s t : State) (x : LockState) (a : LockAct) → stands s x → Drives w f s a → Proper n x a → IsNext c o s t → stands t (step x a)
 
 -- two states in which a lock's registers are the same, and the nets of a step's ports but for the written values
 pub record SameButValues (o : Own) (f : StepSignals) (s t : State) : Type 0 where

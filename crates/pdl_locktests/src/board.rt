@@ -67,7 +67,7 @@ fn operated(op: BinOp, a: Word, b: Word) -> Word {
 }
 
 impl Board {
-    /// The netlist at reset, with this image in its first array and zeros behind it.
+    /// The netlist at reset, with this image in its first array and zeros after it.
     pub fn new(alloc: Global, net: &Netlist, image: &[u64]) -> Result<Board, NoMemory> {
         let mut regs = Vec::new(alloc);
         for r in net.regs.as_slice() {

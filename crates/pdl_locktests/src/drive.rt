@@ -59,7 +59,7 @@ fn first_act(random: &mut Random, lock: &Lock) -> Act {
     }
 }
 
-/// And then: a release of a write that has its value, and a squash from a ticket behind it.
+/// And then: a release of a write that has its value, and a squash from a ticket after it.
 fn last_act(random: &mut Random, lock: &Lock, act: Act) -> Act {
     let release = lock.is_done() && random.once_in(2);
     let base = lock.base().wrapping_add(release as u64);

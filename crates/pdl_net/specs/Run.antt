@@ -38,20 +38,20 @@ answers [] bits = []
 answers (m ∷ ms) bits = answer m.words m.request (reply bits) ++ answers ms (bits / 2)
 
 -- a request is outstanding and isn't answered
-abbrev pub waits : Option ℕ → Bool → Bool
-waits (Some a) false = true
-waits _ _ = false
+abbrev pub is_waiting : Option ℕ → Bool → Bool
+is_waiting (Some a) false = true
+is_waiting _ _ = false
 
 abbrev pub some_waits : List Store → ℕ → Bool
 some_waits [] bits = false
-some_waits (m ∷ ms) bits = waits m.request (reply bits) || some_waits ms (bits / 2)
+some_waits (m ∷ ms) bits = is_waiting m.request (reply bits) || some_waits ms (bits / 2)
 
 -- the state of the circuit in a cycle with these reply bits
 abbrev pub state_in : Held → ℕ → State
 state_in h bits = record { inputs = answers h.stores bits; regs = h.regs; arrays = h.arrays }
 
-abbrev pub shown : Netlist → Held → ℕ → Shown
-shown n h bits = record { ports = output_values (circuit_of n) (state_in h bits); waited = some_waits h.stores bits }
+abbrev pub shown_ports : Netlist → Held → ℕ → Shown
+shown_ports n h bits = record { ports = output_values (circuit_of n) (state_in h bits); waited = some_waits h.stores bits }
 
 abbrev pub value_at : List ℕ → Option ℕ → ℕ
 value_at ports (Some i) = slice_index ports i
@@ -74,9 +74,9 @@ abbrev pub request_of : Circuit → List ℕ → List ℕ → Option ℕ
 request_of c ports mem = if port_value c ports (codes "q_" ++ mem) == 1 then Some (port_value c ports (codes "qa_" ++ mem)) else None
 
 -- the words after a commit
-abbrev pub committed : List ℕ → Option (ℕ × ℕ) → List ℕ
-committed words None = words
-committed words (Some (a, v)) = slice_set words a v
+abbrev pub committed_words : List ℕ → Option (ℕ × ℕ) → List ℕ
+committed_words words None = words
+committed_words words (Some (a, v)) = slice_set words a v
 
 -- a request of this cycle is the outstanding one, in place of any other; without one an answered request is over and any other stays
 abbrev pub outstanding : Option ℕ → Bool → Option ℕ → Option ℕ
@@ -89,7 +89,7 @@ abbrev pub next_stores : Circuit → List ℕ → List MemInfo → List Store �
 next_stores c ports [] stores bits = []
 next_stores c ports (i ∷ infos) [] bits = []
 next_stores c ports (i ∷ infos) (m ∷ ms) bits =
-    record { words = committed m.words (commit_of c ports i.name); request = outstanding m.request (reply bits) (request_of c ports i.name) } ∷ next_stores c ports infos ms (bits / 2)
+    record { words = committed_words m.words (commit_of c ports i.name); request = outstanding m.request (reply bits) (request_of c ports i.name) } ∷ next_stores c ports infos ms (bits / 2)
 
 -- the delayed memories, in order
 abbrev pub delayed_mems : Netlist → List MemInfo
@@ -99,30 +99,30 @@ abbrev pub next : Netlist → Held → ℕ → Held
 next n h bits = record {
   regs = next_regs (circuit_of n) (state_in h bits);
   arrays = next_arrays (circuit_of n) (state_in h bits);
-  stores = next_stores (circuit_of n) (shown n h bits).ports (delayed_mems n) h.stores bits;
+  stores = next_stores (circuit_of n) (shown_ports n h bits).ports (delayed_mems n) h.stores bits;
 }
 
 -- words, and zeros after them up to a depth
-abbrev pub filled : ℕ → List ℕ → List ℕ
-filled depth words = words ++ replicate (depth - length words) 0
+abbrev pub filled_words : ℕ → List ℕ → List ℕ
+filled_words depth words = words ++ replicate (depth - length words) 0
 
 -- each array with its part of an image
-abbrev pub loaded : List Array → List (List ℕ) → List (List ℕ)
-loaded [] image = []
-loaded (a ∷ rest) image = filled a.depth (slice_index_or image 0 []) ∷ loaded rest (drop 1 image)
+abbrev pub loaded_arrays : List Array → List (List ℕ) → List (List ℕ)
+loaded_arrays [] image = []
+loaded_arrays (a ∷ rest) image = filled_words a.depth (slice_index_or image 0 []) ∷ loaded_arrays rest (drop 1 image)
 
 -- the start of the first cycle: reset values, and the image, whose first parts are those of the delayed memories and whose others are those of the arrays
 abbrev pub start : Netlist → List (List ℕ) → Held
 start n image = record {
   regs = map (λ r. r.reset) n.regs;
-  arrays = loaded n.arrays (drop (length (delayed_mems n)) image);
+  arrays = loaded_arrays n.arrays (drop (length (delayed_mems n)) image);
   stores = map (λ words. record { words = words; request = None }) (take (length (delayed_mems n)) image);
 }
 
 -- what is seen in each cycle of a schedule, from a cycle's start on
 abbrev pub nports_from : Netlist → Held → List ℕ → List Shown
 nports_from n h [] = []
-nports_from n h (bits ∷ schedule) = shown n h bits ∷ nports_from n (next n h bits) schedule
+nports_from n h (bits ∷ schedule) = shown_ports n h bits ∷ nports_from n (next n h bits) schedule
 
 -- what is seen in each cycle: an image has a list of words for each memory of the netlist, and a schedule the reply bits of each cycle
 abbrev pub nports : Netlist → List (List ℕ) → List ℕ → List Shown

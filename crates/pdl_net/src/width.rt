@@ -26,7 +26,7 @@ impl Netlist {
         // Long chains of cells of one width are walked by the loop; each call of itself at least halves the width or leaves a bit out.
         let mut at = net;
         loop {
-            match self.widens(at) {
+            match self.check_net(at) {
                 Width::Bits(bits) => return bits,
                 Width::Same(a) => at = a,
                 Width::Sum(a, b) => return self.width(a) + self.width(b),
@@ -36,7 +36,7 @@ impl Netlist {
     }
 
     #[tactic(auto, using(crate::proofs::Widths::nets, crate::proofs::Widths::width_is))]
-    fn widens(&self, net: Net) -> Width
+    fn check_net(&self, net: Net) -> Width
         requires cells { CellsWell (circuit_of self.now) }
         requires there { IsThere (circuit_of self.now) net }
         ensures { Widens (circuit_of self.now) (place net)

@@ -10,10 +10,10 @@ use Rattle.pdl_net.specs.declared.Reg.{Reg}
 use Rattle.pdl_net.specs.declared.Netlist.{Netlist}
 use Rattle.pdl_net.specs.Circuit.{Circuit, circuit_of, inputs_of}
 use Rattle.pdl_net.specs.Well.{IsWell}
-use Rattle.pdl_net.specs.Run.{delayed_mems, loaded}
+use Rattle.pdl_net.specs.Run.{delayed_mems, loaded_arrays}
 use Rattle.pdl_net.proofs.Fix.{no_cell}
 use Rattle.pdl_netrun.specs.Plan.{place, held_at_start, IsHeld, HasConstants, ImageFits}
-use Rattle.pdl_netrun.specs.Sim.{begun, started, nothing}
+use Rattle.pdl_netrun.specs.Sim.{run_at, run_at_start, nothing}
 use Rattle.pdl_netrun.specs.Inside.{Holds, registers}
 use Rattle.pdl_netrun.proofs.Loaded.{holds_start}
 
@@ -63,12 +63,12 @@ registers_first c vs e =
     ∙ ap (take (length c.regs)) (drop_at is (rs ++ map held_at_start c.cells) (length (inputs_of c)) a)
     ∙ take_at rs (map held_at_start c.cells) (length c.regs) b
 
-pub holds_first : (n : Netlist) (image : List (List ℕ)) (vs : List ℕ) (arrays : List (List ℕ)) → IsWell (circuit_of n) → ImageFits (circuit_of n) image → vs ≡ first_values (circuit_of n) → arrays ≡ loaded n.arrays image → Holds (circuit_of n) (registers (circuit_of n) vs) arrays
+pub holds_first : (n : Netlist) (image : List (List ℕ)) (vs : List ℕ) (arrays : List (List ℕ)) → IsWell (circuit_of n) → ImageFits (circuit_of n) image → vs ≡ first_values (circuit_of n) → arrays ≡ loaded_arrays n.arrays image → Holds (circuit_of n) (registers (circuit_of n) vs) arrays
 holds_first n image vs arrays w i e f = holds_start n image (registers (circuit_of n) vs) arrays w i (registers_first (circuit_of n) vs e) f
 
 -- the simulator begins at the start of the first cycle
-pub begun_is : (n : Netlist) (image : List (List ℕ)) (vs : List ℕ) (arrays : List (List ℕ)) → delayed_mems n ≡ [] → vs ≡ first_values (circuit_of n) → arrays ≡ loaded n.arrays image → begun n (registers (circuit_of n) vs) arrays ≡ started n image
+pub begun_is : (n : Netlist) (image : List (List ℕ)) (vs : List ℕ) (arrays : List (List ℕ)) → delayed_mems n ≡ [] → vs ≡ first_values (circuit_of n) → arrays ≡ loaded_arrays n.arrays image → run_at n (registers (circuit_of n) vs) arrays ≡ run_at_start n image
 begun_is n image vs arrays d e f =
-    ap (λ x. begun n x arrays) (registers_first (circuit_of n) vs e)
-    ∙ ap (λ x. begun n (map (λ r. r.reset) n.regs) x) f
-    ∙ sym (ap (λ (ms : List MemInfo). record { netlist = n; held = record { regs = map (λ r. r.reset) n.regs; arrays = loaded n.arrays (drop (length ms) image); stores = map (λ words. record { words = words; request = None }) (take (length ms) image) }; last = nothing n }) d)
+    ap (λ x. run_at n x arrays) (registers_first (circuit_of n) vs e)
+    ∙ ap (λ x. run_at n (map (λ r. r.reset) n.regs) x) f
+    ∙ sym (ap (λ (ms : List MemInfo). record { netlist = n; held = record { regs = map (λ r. r.reset) n.regs; arrays = loaded_arrays n.arrays (drop (length ms) image); stores = map (λ words. record { words = words; request = None }) (take (length ms) image) }; last = nothing n }) d)

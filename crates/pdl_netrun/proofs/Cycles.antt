@@ -8,7 +8,7 @@ use Rattle.pdl_net.specs.Cycle.{output_values, next_regs, next_arrays}
 use Rattle.pdl_netrun.specs.declared.step.Step.{Step}
 use Rattle.pdl_netrun.specs.declared.writes.ArrayWrite.{ArrayWrite}
 use Rattle.pdl_netrun.specs.declared.sim.Sim.TheInside.{Inside}
-use Rattle.pdl_netrun.specs.Steps.{StepsFit, AreBelow, WriteFits, after_steps, after_all, lists}
+use Rattle.pdl_netrun.specs.Steps.{StepsFit, AreBelow, WriteFits, after_steps, after_all, array_words}
 use Rattle.pdl_netrun.specs.Plan.{HasValues, HasConstants, planned_writes}
 use Rattle.pdl_netrun.specs.Inside.{Holds, registers, IsReady}
 use Rattle.pdl_netrun.proofs.Holds.{next_holds}
@@ -17,13 +17,13 @@ use Rattle.pdl_netrun.proofs.Stepped.{state_now, suits_now, walked_now, drivers_
 
 -- the values after the steps
 abbrev pub walked_values : Inside → List ℕ
-walked_values a = after_steps a.steps.items a.first_cell a.values.items (lists a.arrays.items)
+walked_values a = after_steps a.steps.items a.first_cell a.values.items (array_words a.arrays.items)
 
-pub fit_now : (a : Inside) → IsReady a → (xs : List Step) (vs : List ℕ) (ws : List (Vec ℕ Global)) → xs ≡ a.steps.items → vs ≡ a.values.items → ws ≡ a.arrays.items → StepsFit xs a.first_cell vs (lists ws)
+pub fit_now : (a : Inside) → IsReady a → (xs : List Step) (vs : List ℕ) (ws : List (Vec ℕ Global)) → xs ≡ a.steps.items → vs ≡ a.values.items → ws ≡ a.arrays.items → StepsFit xs a.first_cell vs (array_words ws)
 fit_now a r xs vs ws e f g =
-    subst (λ x. StepsFit x a.first_cell vs (lists ws)) (sym e)
-    (subst (λ x. StepsFit a.steps.items a.first_cell x (lists ws)) (sym f)
-    (subst (λ x. StepsFit a.steps.items a.first_cell a.values.items (lists x)) (sym g) ((walked_now a r).fit)))
+    subst (λ x. StepsFit x a.first_cell vs (array_words ws)) (sym e)
+    (subst (λ x. StepsFit a.steps.items a.first_cell x (array_words ws)) (sym f)
+    (subst (λ x. StepsFit a.steps.items a.first_cell a.values.items (array_words x)) (sym g) ((walked_now a r).fit)))
 
 values_now : (a : Inside) → IsReady a → (vs : List ℕ) → vs ≡ walked_values a → HasValues (circuit_of a.net.now) (state_now a) vs (length a.net.now.cells)
 values_now a r vs e = subst (λ x. HasValues (circuit_of a.net.now) (state_now a) x (length a.net.now.cells)) (sym e) ((walked_now a r).values)
@@ -40,15 +40,15 @@ nexts_now a r ps vs e f = nexts_below (circuit_of a.net.now) (state_now a) r.wel
 pub regs_now : (a : Inside) → IsReady a → (ps vs next : List ℕ) → ps ≡ a.nexts.items → vs ≡ walked_values a → next ≡ map (slice_index vs) ps → next ≡ next_regs (circuit_of a.net.now) (state_now a)
 regs_now a r ps vs next e f g = g ∙ nexts_read (circuit_of a.net.now) (state_now a) r.well vs (values_now a r vs f) ps (e ∙ r.nexts)
 
-pub writes_now : (a : Inside) → IsReady a → (ps : List ArrayWrite) (vs : List ℕ) (ws : List (Vec ℕ Global)) → ps ≡ a.writes.items → vs ≡ walked_values a → ws ≡ a.arrays.items → All (λ p. WriteFits p vs (lists ws)) ps
+pub writes_now : (a : Inside) → IsReady a → (ps : List ArrayWrite) (vs : List ℕ) (ws : List (Vec ℕ Global)) → ps ≡ a.writes.items → vs ≡ walked_values a → ws ≡ a.arrays.items → All (λ p. WriteFits p vs (array_words ws)) ps
 writes_now a r ps vs ws e f g =
-    subst (λ x. All (λ p. WriteFits p vs (lists ws)) x) (sym (e ∙ r.writes))
-    (subst (λ x. All (λ p. WriteFits p vs (lists x)) (planned_writes (circuit_of a.net.now))) (sym g)
+    subst (λ x. All (λ p. WriteFits p vs (array_words ws)) x) (sym (e ∙ r.writes))
+    (subst (λ x. All (λ p. WriteFits p vs (array_words x)) (planned_writes (circuit_of a.net.now))) (sym g)
     (writes_fit (circuit_of a.net.now) (state_now a) r.well (suits_now a r) vs (values_now a r vs f)))
 
-pub arrays_now : (a : Inside) → IsReady a → (ps : List ArrayWrite) (vs : List ℕ) (ws : List (Vec ℕ Global)) (new : List (List ℕ)) → ps ≡ a.writes.items → vs ≡ walked_values a → ws ≡ a.arrays.items → new ≡ after_all ps vs (lists ws) → new ≡ next_arrays (circuit_of a.net.now) (state_now a)
+pub arrays_now : (a : Inside) → IsReady a → (ps : List ArrayWrite) (vs : List ℕ) (ws : List (Vec ℕ Global)) (new : List (List ℕ)) → ps ≡ a.writes.items → vs ≡ walked_values a → ws ≡ a.arrays.items → new ≡ after_all ps vs (array_words ws) → new ≡ next_arrays (circuit_of a.net.now) (state_now a)
 arrays_now a r ps vs ws new e f g h =
-    h ∙ ap (λ x. after_all x vs (lists ws)) (e ∙ r.writes) ∙ ap (λ x. after_all (planned_writes (circuit_of a.net.now)) vs (lists x)) g
+    h ∙ ap (λ x. after_all x vs (array_words ws)) (e ∙ r.writes) ∙ ap (λ x. after_all (planned_writes (circuit_of a.net.now)) vs (array_words x)) g
     ∙ arrays_written (circuit_of a.net.now) (state_now a) r.well (suits_now a r) vs (values_now a r vs f)
 
 -- the list at the end of the cycle, the registers in their place

@@ -14,7 +14,7 @@ use Rattle.pdl_net.specs.declared.Array.{Array}
 use Rattle.pdl_net.specs.declared.Netlist.{Netlist}
 use Rattle.pdl_net.specs.Circuit.{circuit_of, inputs_of, input_with, port_input, no_reg, array_at, no_array}
 use Rattle.pdl_net.specs.Well.{IsWell}
-use Rattle.pdl_net.specs.Run.{delayed_mems, filled, loaded, no_mem}
+use Rattle.pdl_net.specs.Run.{delayed_mems, filled_words, loaded_arrays, no_mem}
 use Rattle.pdl_net.specs.Pipe.{Head, head_of, is_input, PortMem, stage_ports, commit_ports, pipe_ports, comb_info, mems_of, IsPipe, IsWellFormed}
 use Rattle.pdl_image.specs.Images.{IsImage}
 use Rattle.pdl_netrun.specs.Plan.{ImageFits}
@@ -105,21 +105,21 @@ no_inputs n w e =
     ∙ grind (arith, filter_map-append, stages_show (range_with_len 0 p.stages), commits_show p.locked)
 
 -- each array with its part of the image
-pub loaded_at : (rest : List Array) (image : List (List ℕ)) (m : ℕ) → m < length rest → get_or (loaded rest image) m [] ≡ filled (get_or rest m no_array).depth (get_or image m [])
+pub loaded_at : (rest : List Array) (image : List (List ℕ)) (m : ℕ) → m < length rest → get_or (loaded_arrays rest image) m [] ≡ filled_words (get_or rest m no_array).depth (get_or image m [])
 loaded_at [] image m h = absurd (omega arith)
 loaded_at (a ∷ rest) image zero h = refl
 loaded_at (a ∷ rest) image (suc m) h =
     let e : 1 + m ≡ suc m = omega arith in
-    loaded_at rest (drop 1 image) m (omega arith) ∙ ap (filled (get_or rest m no_array).depth) (get_or-drop 1 image m [] ∙ ap (λ i. get_or image i []) e)
+    loaded_at rest (drop 1 image) m (omega arith) ∙ ap (filled_words (get_or rest m no_array).depth) (get_or-drop 1 image m [] ∙ ap (λ i. get_or image i []) e)
 
-loaded_length : (rest : List Array) (image : List (List ℕ)) → length (loaded rest image) ≡ length rest
+loaded_length : (rest : List Array) (image : List (List ℕ)) → length (loaded_arrays rest image) ≡ length rest
 loaded_length [] image = refl
 loaded_length (a ∷ rest) image = let e = loaded_length rest (drop 1 image) in omega (arith, e)
 
-filled_length : (d : ℕ) (ws : List ℕ) → length ws ≤ d → length (filled d ws) ≡ d
+filled_length : (d : ℕ) (ws : List ℕ) → length ws ≤ d → length (filled_words d ws) ≡ d
 filled_length d ws h = let e = length-append ws (replicate (d - length ws) 0) in let f = length-replicate {A = ℕ} (d - length ws) 0 in omega (arith, e, f)
 
-filled_below : (d w : ℕ) (ws : List ℕ) → ((a : ℕ) → get_or ws a 0 < 2 ^ w) → (a : ℕ) → get_or (filled d ws) a 0 < 2 ^ w
+filled_below : (d w : ℕ) (ws : List ℕ) → ((a : ℕ) → get_or ws a 0 < 2 ^ w) → (a : ℕ) → get_or (filled_words d ws) a 0 < 2 ^ w
 filled_below d w ws f a =
     let zs = replicate (d - length ws) 0 in
     let b = f a in
@@ -128,7 +128,7 @@ filled_below d w ws f a =
     (λ (ge : length ws ≤ a). let e = get_or-append_right ws zs (length ws) a 0 refl ge in let z : get_or zs (a - length ws) 0 ≡ 0 = zeros_at (d - length ws) (a - length ws) in omega (arith, e, z, b))
     (cases_lt a (length ws))
 
-pub holds_start : (n : Netlist) (image : List (List ℕ)) (regs : List ℕ) (arrays : List (List ℕ)) → IsWell (circuit_of n) → ImageFits (circuit_of n) image → regs ≡ map (λ r. r.reset) n.regs → arrays ≡ loaded n.arrays image → Holds (circuit_of n) regs arrays
+pub holds_start : (n : Netlist) (image : List (List ℕ)) (regs : List ℕ) (arrays : List (List ℕ)) → IsWell (circuit_of n) → ImageFits (circuit_of n) image → regs ≡ map (λ r. r.reset) n.regs → arrays ≡ loaded_arrays n.arrays image → Holds (circuit_of n) regs arrays
 holds_start n image regs arrays w i e f =
     let c = circuit_of n in
     record {

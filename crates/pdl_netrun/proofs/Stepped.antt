@@ -18,9 +18,9 @@ use Rattle.pdl_net.specs.Meaning.{signal, IsThere, IsThereAt}
 use Rattle.pdl_net.specs.Well.{IsWell, IsWellPort, IsDriven, Suits}
 use Rattle.pdl_net.specs.Cycle.{net_value, output_values, next_regs, next_arrays}
 use Rattle.pdl_net.specs.Run.{Store, next_stores, delayed_mems}
-use Rattle.pdl_netrun.specs.Steps.{AreBelow, lists}
-use Rattle.pdl_netrun.specs.Plan.{place, planned, value_count, HasValues, HasConstants, IsHeld}
-use Rattle.pdl_netrun.specs.Sim.{Run, stepped}
+use Rattle.pdl_netrun.specs.Steps.{AreBelow, array_words}
+use Rattle.pdl_netrun.specs.Plan.{place, step_of_cell, value_count, HasValues, HasConstants, IsHeld}
+use Rattle.pdl_netrun.specs.Sim.{Run, run_after}
 use Rattle.pdl_netrun.specs.Inside.{registers, run_of, IsReady}
 use Rattle.pdl_netrun.specs.declared.sim.Sim.TheInside.{Inside}
 use Rattle.pdl_netrun.proofs.Holds.{suits_of}
@@ -29,10 +29,10 @@ use Rattle.pdl_netrun.proofs.Values.{IsWalked, walked}
 
 -- the state of the circuit in the next cycle
 abbrev pub state_now : Inside → State
-state_now a = record { inputs = []; regs = registers (circuit_of a.net.now) a.values.items; arrays = lists a.arrays.items }
+state_now a = record { inputs = []; regs = registers (circuit_of a.net.now) a.values.items; arrays = array_words a.arrays.items }
 
 pub suits_now : (a : Inside) → IsReady a → Suits (circuit_of a.net.now) (state_now a)
-suits_now a r = suits_of (circuit_of a.net.now) (registers (circuit_of a.net.now) a.values.items) (lists a.arrays.items) r.holds r.inputs
+suits_now a r = suits_of (circuit_of a.net.now) (registers (circuit_of a.net.now) a.values.items) (array_words a.arrays.items) r.holds r.inputs
 
 -- at the start the list has the values of the registers
 values_first : (c : Circuit) (s : State) (vs : List ℕ) → inputs_of c ≡ [] → length vs ≡ value_count c → s.regs ≡ registers c vs → HasValues c s vs 0
@@ -52,7 +52,7 @@ pub walked_now : (a : Inside) → IsReady a → IsWalked (circuit_of a.net.now) 
 walked_now a r =
     let c = circuit_of a.net.now in
     let w = walked c (state_now a) r.well (suits_now a r) a.values.items (values_first c (state_now a) a.values.items r.inputs r.room refl) r.constants in
-    subst (λ xs. IsWalked c (state_now a) a.values.items xs a.first_cell) (sym r.steps) (subst (λ n. IsWalked c (state_now a) a.values.items (map (planned c) c.cells) n) (sym r.first_cell) w)
+    subst (λ xs. IsWalked c (state_now a) a.values.items xs a.first_cell) (sym r.steps) (subst (λ n. IsWalked c (state_now a) a.values.items (map (step_of_cell c) c.cells) n) (sym r.first_cell) w)
 
 -- OUTPUTS
 
@@ -154,7 +154,7 @@ stores_none c ports (i ∷ infos) bits = refl
 abbrev pub run_with : Netlist → List ℕ → List (List ℕ) → List Store → List ℕ → Run
 run_with n regs arrays stores ports = record { netlist = n; held = record { regs = regs; arrays = arrays; stores = stores }; last = record { ports = ports; waited = false } }
 
-pub stepped_from : (a : Inside) (bits : ℕ) (regs : List ℕ) (arrays : List (List ℕ)) (outs : List ℕ) → regs ≡ next_regs (circuit_of a.net.now) (state_now a) → arrays ≡ next_arrays (circuit_of a.net.now) (state_now a) → outs ≡ output_values (circuit_of a.net.now) (state_now a) → run_with a.net.now regs arrays [] outs ≡ stepped (run_of a) bits
+pub stepped_from : (a : Inside) (bits : ℕ) (regs : List ℕ) (arrays : List (List ℕ)) (outs : List ℕ) → regs ≡ next_regs (circuit_of a.net.now) (state_now a) → arrays ≡ next_arrays (circuit_of a.net.now) (state_now a) → outs ≡ output_values (circuit_of a.net.now) (state_now a) → run_with a.net.now regs arrays [] outs ≡ run_after (run_of a) bits
 stepped_from a bits regs arrays outs e f g =
     let n = a.net.now in
     let c = circuit_of n in

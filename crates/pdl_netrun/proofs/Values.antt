@@ -20,7 +20,7 @@ use Rattle.pdl_net.proofs.Bounds.{bounded_at}
 use Rattle.pdl_netrun.specs.declared.step.Step.{Step}
 use Rattle.pdl_netrun.specs.declared.step.Step.TheVariants.{Keep}
 use Rattle.pdl_netrun.specs.Steps.{StepFits, StepsFit, AreWords, step_value, after_step, after_steps}
-use Rattle.pdl_netrun.specs.Plan.{place, planned, planned_operation, value_count, HasValues, HasConstants, IsHeld}
+use Rattle.pdl_netrun.specs.Plan.{place, step_of_cell, planned_operation, value_count, HasValues, HasConstants, IsHeld}
 use Rattle.pdl_netrun.proofs.PlanLemmas.{place_below}
 
 -- ONE STEP
@@ -78,7 +78,7 @@ module _ (c : Circuit) (s : State) (w : IsWell c) (t : Suits c s) (vs : List ℕ
   fits x h = let e = v.each x h in let b = (bound x h).fits in omega (arith, e, b)
 
   -- the step of a cell that fits
-  pub fits_planned : (g : Cell) → FitsIn c (IsThereAt c n) (signal c) g → StepFits (planned c g) vs s.arrays
+  pub fits_planned : (g : Cell) → FitsIn c (IsThereAt c n) (signal c) g → StepFits (step_of_cell c g) vs s.arrays
   fits_planned (cell.Const b x) h = tt
   fits_planned (cell.Not a) h = record { there = here a h; low = (bound a h).low; high = (bound a h).high; fits = fits a h }
   fits_planned (cell.Bin o a b) h =
@@ -108,7 +108,7 @@ module _ (c : Circuit) (s : State) (w : IsWell c) (t : Suits c s) (vs : List ℕ
       (here a h.1, omega (arith, t.array_count, h.0), omega (arith, e, f, r))
 
   -- it gives its place the signal's value; a constant's has it
-  pub after_planned : (g : Cell) (at : ℕ) → FitsIn c (IsThereAt c n) (signal c) g → at < length vs → IsHeld g (slice_index vs at) → slice_index (after_step (planned c g) at vs s.arrays) at ≡ (cell_signal c (signal c) g).value s
+  pub after_planned : (g : Cell) (at : ℕ) → FitsIn c (IsThereAt c n) (signal c) g → at < length vs → IsHeld g (slice_index vs at) → slice_index (after_step (step_of_cell c g) at vs s.arrays) at ≡ (cell_signal c (signal c) g).value s
   unfolding const_value not_value bin_value mux_value slice_value cat_value rep_value read_value
   after_planned (cell.Const b x) at h l k = k
   after_planned (cell.Not a) at h l k = get_or-set_same vs at _ 0 l ∙ ap (λ x. words.complement (signal c a).width x) (v.each a h)
@@ -126,7 +126,7 @@ module _ (c : Circuit) (s : State) (w : IsWell c) (t : Suits c s) (vs : List ℕ
   after_planned (cell.Read m a) at h l k = get_or-set_same vs at _ 0 l ∙ ap (λ x. slice_index (get_or s.arrays m []) x) (v.each a h.1)
 
 -- a constant stays
-held_after : (c : Circuit) (g : Cell) (at : ℕ) (vs : List ℕ) (ws : List (List ℕ)) → IsHeld g (slice_index vs at) → IsHeld g (slice_index (after_step (planned c g) at vs ws) at)
+held_after : (c : Circuit) (g : Cell) (at : ℕ) (vs : List ℕ) (ws : List (List ℕ)) → IsHeld g (slice_index vs at) → IsHeld g (slice_index (after_step (step_of_cell c g) at vs ws) at)
 held_after c (cell.Const b x) at vs ws h = h
 held_after c (cell.Not a) at vs ws h = tt
 held_after c (cell.Bin o a b) at vs ws h = tt
@@ -147,12 +147,12 @@ module _ (c : Circuit) (s : State) (w : IsWell c) (t : Suits c s) (k : ℕ) (l :
   at_k = place c (CellNet k)
 
   abbrev new : List ℕ
-  new = after_step (planned c cell_k) at_k vs s.arrays
+  new = after_step (step_of_cell c cell_k) at_k vs s.arrays
 
   inside : at_k < length vs
   inside = omega (arith, v.room, l)
 
-  pub step_fits : StepFits (planned c cell_k) vs s.arrays
+  pub step_fits : StepFits (step_of_cell c cell_k) vs s.arrays
   step_fits = fits_planned c s w t vs k (omega arith) v cell_k (fits_cell c w.cells k l)
 
   own : slice_index new at_k ≡ (signal c (CellNet k)).value s
@@ -161,20 +161,20 @@ module _ (c : Circuit) (s : State) (w : IsWell c) (t : Suits c s) (k : ℕ) (l :
       ∙ ap (λ (x : Signal). x.value s) (sym (signal_cell c w.cells k l))
 
   each_new : (x : Net) → IsThereAt c (suc k) x → slice_index new (place c x) ≡ (signal c x).value s
-  each_new (Input i) h = after_other (planned c cell_k) at_k i vs s.arrays (λ e. absurd (omega (arith, e))) ∙ v.each (Input i) h
-  each_new (RegNet r) h = after_other (planned c cell_k) at_k (place c (RegNet r)) vs s.arrays (λ e. absurd (omega (arith, e))) ∙ v.each (RegNet r) h
+  each_new (Input i) h = after_other (step_of_cell c cell_k) at_k i vs s.arrays (λ e. absurd (omega (arith, e))) ∙ v.each (Input i) h
+  each_new (RegNet r) h = after_other (step_of_cell c cell_k) at_k (place c (RegNet r)) vs s.arrays (λ e. absurd (omega (arith, e))) ∙ v.each (RegNet r) h
   each_new (CellNet j) h = ⊎_elim
-      (λ (lt : j < k). after_other (planned c cell_k) at_k (place c (CellNet j)) vs s.arrays (λ e. absurd (omega (arith, e))) ∙ v.each (CellNet j) lt)
+      (λ (lt : j < k). after_other (step_of_cell c cell_k) at_k (place c (CellNet j)) vs s.arrays (λ e. absurd (omega (arith, e))) ∙ v.each (CellNet j) lt)
       (λ (ge : k ≤ j). let e : j ≡ k = omega arith in subst (λ (i : ℕ). slice_index new (place c (CellNet i)) ≡ (signal c (CellNet i)).value s) (sym e) own)
       (cases_lt j k)
 
   pub step_values : HasValues c s new (suc k)
-  step_values = record { room = after_length (planned c cell_k) at_k vs s.arrays ∙ v.room; each = each_new }
+  step_values = record { room = after_length (step_of_cell c cell_k) at_k vs s.arrays ∙ v.room; each = each_new }
 
   kept : (j : ℕ) → j < length c.cells → IsHeld (get_or c.cells j no_cell) (slice_index new (place c (CellNet j)))
   kept j h = ⊎_elim
       (λ (e : j ≡ k). subst (λ (i : ℕ). IsHeld (get_or c.cells i no_cell) (slice_index new (place c (CellNet i)))) (sym e) (held_after c cell_k at_k vs s.arrays (f.each k l)))
-      (λ (ne : j ≢ k). subst (λ (x : ℕ). IsHeld (get_or c.cells j no_cell) x) (sym (after_other (planned c cell_k) at_k (place c (CellNet j)) vs s.arrays (λ e. ne (omega (arith, e))))) (f.each j h))
+      (λ (ne : j ≢ k). subst (λ (x : ℕ). IsHeld (get_or c.cells j no_cell) x) (sym (after_other (step_of_cell c cell_k) at_k (place c (CellNet j)) vs s.arrays (λ e. ne (omega (arith, e))))) (f.each j h))
       (cases_eq j k)
 
   pub step_constants : HasConstants c new
@@ -186,23 +186,23 @@ pub record IsWalked (c : Circuit) (s : State) (vs : List ℕ) (steps : List Step
   pub values : HasValues c s (after_steps steps at vs s.arrays) (length c.cells)
   pub constants : HasConstants c (after_steps steps at vs s.arrays)
 
-pub walked_from : (c : Circuit) (s : State) → IsWell c → Suits c s → (n k : ℕ) → n + k ≡ length c.cells → (vs : List ℕ) → HasValues c s vs k → HasConstants c vs → IsWalked c s vs (map (planned c) (drop k c.cells)) (place c (CellNet k))
+pub walked_from : (c : Circuit) (s : State) → IsWell c → Suits c s → (n k : ℕ) → n + k ≡ length c.cells → (vs : List ℕ) → HasValues c s vs k → HasConstants c vs → IsWalked c s vs (map (step_of_cell c) (drop k c.cells)) (place c (CellNet k))
 walked_from c s w t zero k e vs v f =
-    let P : List Cell → Type 0 = λ l. IsWalked c s vs (map (planned c) l) (place c (CellNet k)) in
+    let P : List Cell → Type 0 = λ l. IsWalked c s vs (map (step_of_cell c) l) (place c (CellNet k)) in
     subst P (sym (drop_all k c.cells (omega arith))) (record { fit = tt; values = (let z : k ≡ length c.cells = omega (arith, e) in subst (λ (i : ℕ). HasValues c s vs i) z v); constants = f })
 walked_from c s w t (suc n) k e vs v f =
     let l : k < length c.cells = omega arith in
-    let P : List Cell → Type 0 = λ xs. IsWalked c s vs (map (planned c) xs) (place c (CellNet k)) in
+    let P : List Cell → Type 0 = λ xs. IsWalked c s vs (map (step_of_cell c) xs) (place c (CellNet k)) in
     let i : suc (place c (CellNet k)) ≡ place c (CellNet (suc k)) = omega arith in
     let j : k + 1 ≡ suc k = omega arith in
     let rest = walked_from c s w t n (suc k) (omega arith) _ (step_values c s w t k l vs v f) (step_constants c s w t k l vs v f) in
-    let Q : ℕ → Type 0 = λ a. IsWalked c s (after_step (planned c (get_or c.cells k no_cell)) (place c (CellNet k)) vs s.arrays) (map (planned c) (drop (suc k) c.cells)) a in
+    let Q : ℕ → Type 0 = λ a. IsWalked c s (after_step (step_of_cell c (get_or c.cells k no_cell)) (place c (CellNet k)) vs s.arrays) (map (step_of_cell c) (drop (suc k) c.cells)) a in
     let r = subst Q (sym i) rest in
-    let R : ℕ → Type 0 = λ a. IsWalked c s vs (planned c (get_or c.cells k no_cell) ∷ map (planned c) (drop a c.cells)) (place c (CellNet k)) in
+    let R : ℕ → Type 0 = λ a. IsWalked c s vs (step_of_cell c (get_or c.cells k no_cell) ∷ map (step_of_cell c) (drop a c.cells)) (place c (CellNet k)) in
     subst P (sym (drop_more c.cells k no_cell l)) (subst R (sym j) (record { fit = (step_fits c s w t k l vs v f, r.fit); values = r.values; constants = r.constants }))
 
 -- all steps
-pub walked : (c : Circuit) (s : State) → IsWell c → Suits c s → (vs : List ℕ) → HasValues c s vs 0 → HasConstants c vs → IsWalked c s vs (map (planned c) c.cells) (length (inputs_of c) + length c.regs)
+pub walked : (c : Circuit) (s : State) → IsWell c → Suits c s → (vs : List ℕ) → HasValues c s vs 0 → HasConstants c vs → IsWalked c s vs (map (step_of_cell c) c.cells) (length (inputs_of c) + length c.regs)
 walked c s w t vs v f =
     let e : length (inputs_of c) + length c.regs + 0 ≡ length (inputs_of c) + length c.regs = omega arith in
-    subst (λ (a : ℕ). IsWalked c s vs (map (planned c) c.cells) a) e (walked_from c s w t (length c.cells) 0 (omega arith) vs v f)
+    subst (λ (a : ℕ). IsWalked c s vs (map (step_of_cell c) c.cells) a) e (walked_from c s w t (length c.cells) 0 (omega arith) vs v f)

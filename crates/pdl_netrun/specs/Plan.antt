@@ -53,15 +53,15 @@ planned_operation op.Shl w a b = ShiftLeft w a b
 planned_operation op.Shr w a b = ShiftRight w a b
 
 -- what a cell does
-abbrev pub planned : Circuit → Cell → Step
-planned c (cell.Const w v) = Keep
-planned c (cell.Not a) = Complement (signal c a).width (place c a)
-planned c (cell.Bin op a b) = planned_operation op (signal c a).width (place c a) (place c b)
-planned c (cell.Mux x a b) = Choose (place c x) (place c a) (place c b)
-planned c (cell.Slice a high low) = Slice high low (place c a)
-planned c (cell.Cat a b) = Join (signal c b).width (place c a) (place c b)
-planned c (cell.Rep k a) = Repeat (signal c a).width k (place c a)
-planned c (cell.Read m a) = Look m (place c a)
+abbrev pub step_of_cell : Circuit → Cell → Step
+step_of_cell c (cell.Const w v) = Keep
+step_of_cell c (cell.Not a) = Complement (signal c a).width (place c a)
+step_of_cell c (cell.Bin op a b) = planned_operation op (signal c a).width (place c a) (place c b)
+step_of_cell c (cell.Mux x a b) = Choose (place c x) (place c a) (place c b)
+step_of_cell c (cell.Slice a high low) = Slice high low (place c a)
+step_of_cell c (cell.Cat a b) = Join (signal c b).width (place c a) (place c b)
+step_of_cell c (cell.Rep k a) = Repeat (signal c a).width k (place c a)
+step_of_cell c (cell.Read m a) = Look m (place c a)
 
 -- what a cell's place holds before the first cycle: a constant's value, which stands in every cycle
 abbrev pub held_at_start : Cell → ℕ

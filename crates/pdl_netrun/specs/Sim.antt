@@ -2,7 +2,7 @@
 use Rattle.std.specs.Prelude.{ℕ, List, [], ◌∷◌, length, replicate, false}
 use Rattle.pdl_net.specs.declared.Netlist.{Netlist}
 use Rattle.pdl_net.specs.Circuit.{circuit_of, outputs_of}
-use Rattle.pdl_net.specs.Run.{Held, Shown, start, shown, next}
+use Rattle.pdl_net.specs.Run.{Held, Shown, start, shown_ports, next}
 
 -- the netlist, the state at the start of the next cycle, and what the last cycle showed
 pub record Run : Type 0 where
@@ -15,13 +15,13 @@ abbrev pub nothing : Netlist → Shown
 nothing n = record { ports = replicate (length (outputs_of (circuit_of n))) 0; waited = false }
 
 -- before the first cycle, where registers and arrays hold this
-abbrev pub begun : Netlist → List ℕ → List (List ℕ) → Run
-begun n regs arrays = record { netlist = n; held = record { regs = regs; arrays = arrays; stores = [] }; last = nothing n }
+abbrev pub run_at : Netlist → List ℕ → List (List ℕ) → Run
+run_at n regs arrays = record { netlist = n; held = record { regs = regs; arrays = arrays; stores = [] }; last = nothing n }
 
 -- at the start of the first cycle
-abbrev pub started : Netlist → List (List ℕ) → Run
-started n image = record { netlist = n; held = start n image; last = nothing n }
+abbrev pub run_at_start : Netlist → List (List ℕ) → Run
+run_at_start n image = record { netlist = n; held = start n image; last = nothing n }
 
 -- after a cycle with these reply bits
-abbrev pub stepped : Run → ℕ → Run
-stepped r bits = record { netlist = r.netlist; held = next r.netlist r.held bits; last = shown r.netlist r.held bits }
+abbrev pub run_after : Run → ℕ → Run
+run_after r bits = record { netlist = r.netlist; held = next r.netlist r.held bits; last = shown_ports r.netlist r.held bits }

@@ -7,8 +7,8 @@ use Rattle.pdl_netrun.specs.declared.step.Step.TheVariants.{Keep, Complement, Ad
 use Rattle.pdl_netrun.specs.declared.writes.ArrayWrite.{ArrayWrite}
 
 -- the words of each array
-abbrev pub lists : List (Vec ℕ Global) → List (List ℕ)
-lists vs = map (λ v. v.items) vs
+abbrev pub array_words : List (Vec ℕ Global) → List (List ℕ)
+array_words vs = map (λ v. v.items) vs
 
 -- all these places are among the first n
 abbrev pub AreBelow : ℕ → List ℕ → Type 0

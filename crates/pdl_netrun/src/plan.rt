@@ -5,7 +5,7 @@ ghost use Rattle.pdl_net.specs.Circuit.{circuit_of, inputs_of, outputs_of};
 ghost use Rattle.pdl_net.specs.Meaning.{signal, IsThereAt};
 ghost use Rattle.pdl_net.specs.Well.{IsWell, FitsIn};
 ghost use Rattle.pdl_net.specs.Width.{HasWidths};
-ghost use Rattle.pdl_netrun.specs.Plan.{HasRoom, HasPlaces, place_in, layout_of, planned, planned_operation, planned_write, planned_writes, held_at_start};
+ghost use Rattle.pdl_netrun.specs.Plan.{HasRoom, HasPlaces, place_in, layout_of, step_of_cell, planned_operation, planned_write, planned_writes, held_at_start};
 
 use crate::step::Step;
 use crate::widths::width_of;
@@ -90,7 +90,7 @@ pub fn all_steps(
     requires cells { length widths.now ≡ length n.now.cells }
     requires layout { layout ≡ layout_of (circuit_of n.now) }
     requires room { HasRoom (circuit_of n.now) }
-    ensures { IfOk result (λ v. v.items ≡ map (planned (circuit_of n.now)) n.now.cells) }
+    ensures { IfOk result (λ v. v.items ≡ map (step_of_cell (circuit_of n.now)) n.now.cells) }
 {
     let mut steps = Vec::new(alloc);
     for k in 0..n.cells.len() {
@@ -111,7 +111,7 @@ fn step_of(n: &Netlist, layout: Layout, widths: &[u8], cell: Cell) -> Step
     requires room { HasRoom (circuit_of n.now) }
     requires fits { FitsIn (circuit_of n.now) (IsThereAt (circuit_of n.now) (length n.now.cells))
         (signal (circuit_of n.now)) cell }
-    ensures { result ≡ planned (circuit_of n.now) cell }
+    ensures { result ≡ step_of_cell (circuit_of n.now) cell }
 {
     match cell {
         Cell::Const { width: _, value: _ } => Step::Keep,

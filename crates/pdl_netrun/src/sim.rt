@@ -6,8 +6,8 @@ ghost use Rattle.pdl_net.specs.Well.{IsWell};
 ghost use Rattle.pdl_net.specs.Run.{delayed_mems, committed_by};
 ghost use Rattle.pdl_net.specs.Pipe.{IsWellFormed};
 ghost use Rattle.pdl_image.specs.Images.{IsImage};
-ghost use Rattle.pdl_netrun.specs.Sim.{begun, started, stepped};
-ghost use Rattle.pdl_netrun.specs.Steps.{lists};
+ghost use Rattle.pdl_netrun.specs.Sim.{run_at, run_at_start, run_after};
+ghost use Rattle.pdl_netrun.specs.Steps.{array_words};
 ghost use Rattle.pdl_netrun.specs.Plan.{HasConstants, layout_of, value_count};
 ghost use Rattle.pdl_netrun.specs.Inside.{Holds, registers};
 
@@ -65,7 +65,7 @@ impl<'a> Sim<'a> {
         requires well { IsWellFormed net.now }
         requires image { IsImage net.now.mems image.now }
         requires here { delayed_mems net.now ≡ [] }
-        ensures { IfOk result (λ sim. sim ≡ started net.now image.now) }
+        ensures { IfOk result (λ sim. sim ≡ run_at_start net.now image.now) }
     {
         let mut values = Vec::new(alloc);
         put_inputs(net, &mut values)?;
@@ -75,11 +75,11 @@ impl<'a> Sim<'a> {
         put_constants(net, &mut values)?;
         let layout = Layout { regs, cells };
         let arrays = all_arrays(alloc, net, image)?;
-        Sim::planned(alloc, net, layout, values, arrays)
+        Sim::plan_of(alloc, net, layout, values, arrays)
     }
 
     /// The plan of a netlist, with its values and arrays at the start.
-    fn planned(
+    fn plan_of(
         alloc: Global,
         net: &'a Netlist,
         layout: Layout,
@@ -92,9 +92,10 @@ impl<'a> Sim<'a> {
         requires room { length values.items ≡ value_count (circuit_of net.now) }
         requires constants { HasConstants (circuit_of net.now) values.items }
         requires holds { Holds (circuit_of net.now) (registers (circuit_of net.now) values.items)
-            (lists arrays.items) }
+            (array_words arrays.items) }
         ensures { IfOk result (λ sim. sim
-            ≡ begun net.now (registers (circuit_of net.now) values.items) (lists arrays.items)) }
+            ≡ run_at net.now (registers (circuit_of net.now) values.items)
+            (array_words arrays.items)) }
     {
         let widths = all_widths(alloc, net)?;
         let steps = all_steps(alloc, net, layout, &widths)?;
@@ -122,7 +123,7 @@ impl<'a> Sim<'a> {
 
     /// Runs one cycle; bit j of `replies` belongs to the j-th delayed memory, and bits past the last one are ignored.
     pub fn cycle(&mut self, replies: u16)
-        ensures { self.new ≡ stepped self.old replies }
+        ensures { self.new ≡ run_after self.old replies }
     {
         // No memory is delayed, so no reply bit is asked.
         let _ = replies;

@@ -1,7 +1,7 @@
 // The steps of a cycle: what each cell does, with places in one list of values instead of nets.
 
 ghost use Rattle.std.specs.Prelude.{◌≡◌, ◌+◌, ◌≤◌, ◌<◌, [], length, map, slice_index, slice_index_or};
-ghost use Rattle.pdl_netrun.specs.Steps.{StepFits, StepsFit, AreBelow, step_value, after_step, after_steps, lists};
+ghost use Rattle.pdl_netrun.specs.Steps.{StepFits, StepsFit, AreBelow, step_value, after_step, after_steps, array_words};
 
 /// What a cell does in a cycle, where `a`, `b` and `choice` are places in the list of values.
 #[derive(Clone, Copy)]
@@ -32,8 +32,8 @@ pub enum Step {
 /// The value that a step makes.
 #[tactic(auto, unfolding(pdl_word::specs::Words::and, pdl_word::specs::Words::or, pdl_word::specs::Words::xor))]
 fn evaluate(step: Step, values: &[u64], arrays: &[Vec<u64>]) -> u64
-    requires { StepFits step values.now (lists arrays.now) }
-    ensures { result ≡ step_value step values.now (lists arrays.now) }
+    requires { StepFits step values.now (array_words arrays.now) }
+    ensures { result ≡ step_value step values.now (array_words arrays.now) }
 {
     match step {
         Step::Keep => 0,
@@ -61,8 +61,8 @@ fn evaluate(step: Step, values: &[u64], arrays: &[Vec<u64>]) -> u64
 #[tactic(auto, using(crate::proofs::Words::words))]
 fn word_at(arrays: &[Vec<u64>], array: usize, at: u64) -> u64
     requires there { array < length arrays.now }
-    requires within { at < length (slice_index_or (lists arrays.now) array []) }
-    ensures { result ≡ slice_index (slice_index_or (lists arrays.now) array []) at }
+    requires within { at < length (slice_index_or (array_words arrays.now) array []) }
+    ensures { result ≡ slice_index (slice_index_or (array_words arrays.now) array []) at }
 {
     let words = &arrays[array];
     words[at as usize]
@@ -70,9 +70,9 @@ fn word_at(arrays: &[Vec<u64>], array: usize, at: u64) -> u64
 
 /// Does a step, whose value goes to a place.
 fn take_step(step: Step, at: usize, arrays: &[Vec<u64>], values: &mut [u64])
-    requires fits { StepFits step values.old (lists arrays.now) }
+    requires fits { StepFits step values.old (array_words arrays.now) }
     requires there { at < length values.old }
-    ensures { values.new ≡ after_step step at values.old (lists arrays.now) }
+    ensures { values.new ≡ after_step step at values.old (array_words arrays.now) }
 {
     if let Step::Keep = step {
         return;
@@ -84,8 +84,8 @@ fn take_step(step: Step, at: usize, arrays: &[Vec<u64>], values: &mut [u64])
 #[tactic(auto, using(crate::proofs::Steps::steps))]
 pub fn take_steps(steps: &[Step], first: usize, arrays: &[Vec<u64>], values: &mut [u64])
     requires room { first + length steps.now ≤ length values.old }
-    requires fit { StepsFit steps.now first values.old (lists arrays.now) }
-    ensures { values.new ≡ after_steps steps.now first values.old (lists arrays.now) }
+    requires fit { StepsFit steps.now first values.old (array_words arrays.now) }
+    ensures { values.new ≡ after_steps steps.now first values.old (array_words arrays.now) }
 {
     for k in 0..steps.len() {
         take_step(steps[k], first + k, arrays, values);

@@ -1,7 +1,7 @@
 // The writes of a cycle.
 
 ghost use Rattle.std.specs.Prelude.{◌≡◌, All};
-ghost use Rattle.pdl_netrun.specs.Steps.{WriteFits, after_write, after_all, lists};
+ghost use Rattle.pdl_netrun.specs.Steps.{WriteFits, after_write, after_all, array_words};
 
 /// A write port of an array, with the places of its nets in the list of values.
 #[derive(Clone, Copy)]
@@ -15,8 +15,8 @@ pub struct ArrayWrite {
 /// Does what a write port is told.
 #[tactic(auto, using(crate::proofs::Words::written))]
 fn write_word(port: ArrayWrite, values: &[u64], arrays: &mut [Vec<u64>])
-    requires { WriteFits port values.now (lists arrays.old) }
-    ensures { lists arrays.new ≡ after_write port values.now (lists arrays.old) }
+    requires { WriteFits port values.now (array_words arrays.old) }
+    ensures { array_words arrays.new ≡ after_write port values.now (array_words arrays.old) }
 {
     if values[port.enable] == 1 {
         let at = values[port.addr];
@@ -29,8 +29,8 @@ fn write_word(port: ArrayWrite, values: &[u64], arrays: &mut [Vec<u64>])
 /// Does what all write ports are told, the later port of an array last.
 #[tactic(auto, using(crate::proofs::Steps::writes))]
 pub fn write_words(ports: &[ArrayWrite], values: &[u64], arrays: &mut [Vec<u64>])
-    requires { All (λ p. WriteFits p values.now (lists arrays.old)) ports.now }
-    ensures { lists arrays.new ≡ after_all ports.now values.now (lists arrays.old) }
+    requires { All (λ p. WriteFits p values.now (array_words arrays.old)) ports.now }
+    ensures { array_words arrays.new ≡ after_all ports.now values.now (array_words arrays.old) }
 {
     for port in ports {
         write_word(*port, values, arrays);

@@ -12,10 +12,10 @@ use Rattle.pdl_entries.proofs.Steps.{content_place}
 use Rattle.pdl_entries.proofs.Alike.{Alike, reg_same, slot_addr_same, next_valid_same, next_addr_same, next_bit_same, of_each}
 use Rattle.pdl_rename.specs.declared.layout.Layout.{Layout}
 use Rattle.pdl_rename.specs.Places.{IsRenaming, map_at, map_signal}
-use Rattle.pdl_rename.specs.Nets.{selected, oldest_addr, freed, NextRename, own_rename}
+use Rattle.pdl_rename.specs.Nets.{selected_signal, oldest_addr, freed_place, NextRename, own_rename}
 
-selected_same : (fs : ℕ → Signal) (d : Signal) (s t : State) (m : ℕ) → ((k : ℕ) → k < m → (fs k).value s ≡ (fs k).value t) → d.value s ≡ d.value t → (b from : ℕ) → from + 2 ^ b ≤ m → (selected fs d b from).value s ≡ (selected fs d b from).value t
-unfolding selected mux_value slice_value
+selected_same : (fs : ℕ → Signal) (d : Signal) (s t : State) (m : ℕ) → ((k : ℕ) → k < m → (fs k).value s ≡ (fs k).value t) → d.value s ≡ d.value t → (b from : ℕ) → from + 2 ^ b ≤ m → (selected_signal fs d b from).value s ≡ (selected_signal fs d b from).value t
+unfolding selected_signal mux_value slice_value
 selected_same fs d s t m h e zero from le = h from (omega (arith, le))
 selected_same fs d s t m h e (suc b) from le =
     let p : 2 ^ suc b ≡ 2 ^ b + 2 ^ b = two-pow-succ b in
@@ -40,13 +40,13 @@ module _ (c : Circuit) (l : Layout) (f : StepSignals) (s t : State) where
   oldest_same : IsRenaming l → SameButValues (own_rename l) f s t → (oldest_addr l f).value s ≡ (oldest_addr l f).value t
   oldest_same z h = slot_addr_same (own_rename l) l.slots f s t (alike h) 0 z.sized.some
 
-  freed_same : IsRenaming l → SameButValues (own_rename l) f s t → (freed l f).value s ≡ (freed l f).value t
+  freed_same : IsRenaming l → SameButValues (own_rename l) f s t → (freed_place l f).value s ≡ (freed_place l f).value t
   freed_same z h = selected_same (map_signal l) (oldest_addr l f) s t l.depth (map_same z h) (oldest_same z h) l.slots.bits 0 (omega (arith, z.depth))
 
   slot_value_same : IsRenaming l → SameButValues (own_rename l) f s t → (k : ℕ) → k < l.slots.size → (slot_value l.slots f k).value s ≡ (slot_value l.slots f k).value t
   slot_value_same z h k lt = ap (λ (g : Signal). g.value s) (content_place l.slots f k z.place) ∙ content_same h k lt ∙ sym (ap (λ (g : Signal). g.value t) (content_place l.slots f k z.place))
 
-  top_same : IsRenaming l → SameButValues (own_rename l) f s t → (i : ℕ) → i ≤ l.slots.size → (top_value l.slots f (freed l f) i).value s ≡ (top_value l.slots f (freed l f) i).value t
+  top_same : IsRenaming l → SameButValues (own_rename l) f s t → (i : ℕ) → i ≤ l.slots.size → (top_value l.slots f (freed_place l f) i).value s ≡ (top_value l.slots f (freed_place l f) i).value t
   unfolding top_value
   top_same z h zero le = freed_same z h
   top_same z h (suc i) le = slot_value_same z h (l.slots.size - 1 - i) (omega arith)

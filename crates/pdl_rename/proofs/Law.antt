@@ -10,11 +10,11 @@ use Rattle.pdl_net.specs.Circuit.{Circuit, State}
 use Rattle.pdl_net.specs.Signal.{Signal, const_signal, mux_signal, read_signal, reg_value, const_value, bin_value, mux_value, read_value}
 use Rattle.pdl_lockapi.specs.declared.Kind.{Kind}
 use Rattle.pdl_lockapi.specs.declared.Kind.TheVariants.{R, W}
-use Rattle.pdl_lockapi.specs.Lock.{LockState, Act, act_at, entry_at, or_zero, filled, committed, step, is_ready, Proper, Covered}
+use Rattle.pdl_lockapi.specs.Lock.{LockState, LockAct, act_at, entry_at, or_zero, filled_entries, committed_words, step, look_ready, Proper, Covered}
 use Rattle.pdl_lockapi.specs.Laws.{StepSignals, Drives, IsNext, LookLaw, StepLaw, after_writes, ticket_at, reserve_at}
 use Rattle.pdl_entries.specs.Slots.{HasEntries, content_signal, value_at, reg_of}
-use Rattle.pdl_entries.specs.Looks.{hit_at, less_base, picked, youngest_ready, youngest_value}
-use Rattle.pdl_entries.specs.Steps.{gated, filled_value, slot_value, top_value}
+use Rattle.pdl_entries.specs.Looks.{hit_at, less_base, youngest_look, youngest_ready, youngest_value}
+use Rattle.pdl_entries.specs.Steps.{enabled_slot, filled_value, slot_value, top_value}
 use Rattle.pdl_entries.proofs.Law.{if_one, if_other, test_bit}
 use Rattle.pdl_entries.proofs.Reading.{less_value}
 use Rattle.pdl_entries.proofs.Youngest.{youngest_is_ready, youngest_is_value, same_signal}
@@ -24,7 +24,7 @@ use Rattle.pdl_entries.proofs.Final as final
 use Rattle.pdl_entries.proofs.Final.{after_fill, entries_next, top_value_at, top_value_end, commits_addr, commits_value, same_choice}
 use Rattle.pdl_rename.specs.declared.layout.Layout.{Layout}
 use Rattle.pdl_rename.specs.Places.{IsRenaming, Stands, AreApart, AreBelow, map_at, map_signal, store_of, word_place, slot_place, placed_signal}
-use Rattle.pdl_rename.specs.Nets.{mapped, place_of, found_word, place_writes, one_put, oldest_addr, oldest_value, freed, NextRename, own_rename}
+use Rattle.pdl_rename.specs.Nets.{mapped_place, place_of, found_word, place_writes, one_put, oldest_addr, oldest_value, freed_place, NextRename, own_rename}
 use Rattle.pdl_rename.proofs.Chosen.{chosen_value, selected_value, mux_same, mux_other}
 use Rattle.pdl_rename.proofs.Stored.{writes-push, length-writes, written_here, written_there, AreSwapped, swapped_apart}
 use Rattle.pdl_rename.proofs.Below.{asked_below, AllBelow, filled_below, step_below}
@@ -45,29 +45,29 @@ read_found l o a d s (suc k) =
     ∙ ap (λ n. words.mux hit ((placed_signal l k).value s) n) (read_found l o a d s k)
 
 -- the place that the map has for an address
-mapped_is : (l : Layout) → IsRenaming l → (a : Signal) (s : State) → a.value s < l.depth → (mapped l a).value s ≡ word_place l s (a.value s)
+mapped_is : (l : Layout) → IsRenaming l → (a : Signal) (s : State) → a.value s < l.depth → (mapped_place l a).value s ≡ word_place l s (a.value s)
 unfolding reg_value
 mapped_is l z a s h = selected_value (map_signal l) a s l.slots.bits 0 ∙ ap (λ n. reg_of s (map_at l n)) (let e : a.value s % 2 ^ l.slots.bits ≡ a.value s = mod-eq_of_lt (omega (arith, z.depth, h)) in omega (arith, e))
 
-word_is : (l : Layout) → IsRenaming l → (a : Signal) (s : State) (x : LockState) → Stands l s x → a.value s < l.depth → (read_signal l.slots.width l.array (mapped l a)).value s ≡ slice_index x.words (a.value s)
+word_is : (l : Layout) → IsRenaming l → (a : Signal) (s : State) (x : LockState) → Stands l s x → a.value s < l.depth → (read_signal l.slots.width l.array (mapped_place l a)).value s ≡ slice_index x.words (a.value s)
 unfolding read_value
 word_is l z a s x h lt = ap (slice_index (store_of l s)) (mapped_is l z a s lt) ∙ h.words (a.value s) lt
 
 picks_ready : (l : Layout) (u : Kind) (a d : Signal) (s : State) (x : LockState) (t : ℕ) → HasEntries l.slots (placed_signal l) s x → Covered x t → d.value s ≡ t - x.base
-    → (picked u (youngest_ready l.slots a d l.slots.size)).value s ≡ bit (is_ready Rename u x t (a.value s))
+    → (youngest_look u (youngest_ready l.slots a d l.slots.size)).value s ≡ bit (look_ready Rename u x t (a.value s))
 unfolding const_value
 picks_ready l R a d s x t h k e = youngest_is_ready l.slots (placed_signal l) s x a d t h k e
 picks_ready l W a d s x t h k e = refl
 
 pub look_law : (l : Layout) (u : Kind) (a t : Signal) → IsRenaming l → a.width ≡ l.slots.bits → t.width ≡ l.slots.ticket
-    → LookLaw (Stands l) Rename l.slots.ticket u a t (picked u (youngest_ready l.slots a (less_base l.slots t) l.slots.size)) (Some (found_word l a t))
+    → LookLaw (Stands l) Rename l.slots.ticket u a t (youngest_look u (youngest_ready l.slots a (less_base l.slots t) l.slots.size)) (Some (found_word l a t))
 look_law l u a t z v w = record {
   answers = λ s x n h k e. picks_ready l u a (less_base l.slots t) s x n h.entries k (less_value l.slots (placed_signal l) s x t n z.sized h.entries w k.from (omega (arith, k.to, h.entries.slots.room)) e);
   gives = λ f q s x n h k e fit ready.
       let at : a.value s < l.depth = subst (λ d. a.value s < d) (ap (λ n. 2 ^ n) v ∙ sym z.depth) fit in
       ap (λ (g : Signal). g.value s) (sym (same_signal _ f q))
-      ∙ read_found l (mapped l a) a (less_base l.slots t) s l.slots.size
-      ∙ youngest_is_value l.slots (placed_signal l) s x (read_signal l.slots.width l.array (mapped l a)) a (less_base l.slots t) n h.entries k (word_is l z a s x h at)
+      ∙ read_found l (mapped_place l a) a (less_base l.slots t) s l.slots.size
+      ∙ youngest_is_value l.slots (placed_signal l) s x (read_signal l.slots.width l.array (mapped_place l a)) a (less_base l.slots t) n h.entries k (word_is l z a s x h at)
       (less_value l.slots (placed_signal l) s x t n z.sized h.entries w k.from (omega (arith, k.to, h.entries.slots.room)) e) ready;
 }
 
@@ -78,7 +78,7 @@ pub record AddressesFit (bits : ℕ) (f : StepSignals) : Type 0 where
   pub addrs : (k : ℕ) → k < length f.reserves → (reserve_at f.reserves k).addr.width ≡ bits
 
 -- what is known in a cycle of proper use
-pub record Turn (l : Layout) (s : State) (x : LockState) (f : StepSignals) (a : Act) : Type 0 where
+pub record Turn (l : Layout) (s : State) (x : LockState) (f : StepSignals) (a : LockAct) : Type 0 where
   pub renaming : IsRenaming l
   pub stands : Stands l s x
   pub cycle : Cycle l.slots (placed_signal l) s x f a
@@ -88,7 +88,7 @@ bit_one : (t : Bool) → bit t ≡ 1 → t ≡ true
 bit_one true e = refl
 bit_one false e = absurd (cc e)
 
-module _ (l : Layout) (s : State) (x : LockState) (f : StepSignals) (a : Act) where
+module _ (l : Layout) (s : State) (x : LockState) (f : StepSignals) (a : LockAct) where
   on_is : Turn l s x f a → (j : ℕ) → j < length a.writes → (ticket_at f.writes j).enable.value s ≡ 1 → (act_at a.writes j).on ≡ true
   on_is c j lt e = bit_one (act_at a.writes j).on (sym (c.cycle.drives.on j lt) ∙ e)
 
@@ -100,18 +100,18 @@ module _ (l : Layout) (s : State) (x : LockState) (f : StepSignals) (a : Act) wh
       let q = less_value l.slots (placed_signal l) s x (ticket_at f.writes j).ticket (act_at a.writes j).ticket c.cycle.sized c.cycle.stands (c.cycle.fit.tickets j (omega (arith, c.cycle.drives.count))) (p.from j lt o) (omega (arith, p.below j lt o, p.room)) (c.cycle.drives.ticket j lt o) in
       omega (arith, q, p.from j lt o, p.below j lt o, p.room)
 
-  gate_is : (j : ℕ) → (ticket_at f.writes j).enable.value s ≡ 1 → (gated l.slots f j).value s ≡ (less_base l.slots (ticket_at f.writes j).ticket).value s
+  gate_is : (j : ℕ) → (ticket_at f.writes j).enable.value s ≡ 1 → (enabled_slot l.slots f j).value s ≡ (less_base l.slots (ticket_at f.writes j).ticket).value s
   unfolding mux_value words.mux
   gate_is j e = if_one ((ticket_at f.writes j).enable.value s) _ _ e
 
-  gate_off : (j : ℕ) → (ticket_at f.writes j).enable.value s ≢ 1 → (gated l.slots f j).value s ≡ l.slots.size
+  gate_off : (j : ℕ) → (ticket_at f.writes j).enable.value s ≢ 1 → (enabled_slot l.slots f j).value s ≡ l.slots.size
   unfolding mux_value const_value words.mux
   gate_off j e = if_other ((ticket_at f.writes j).enable.value s) _ _ e
 
   place_is : Turn l s x f a → (j : ℕ) → j < length a.writes → (ticket_at f.writes j).enable.value s ≡ 1 → (place_of l f j).value s ≡ slot_place l s ((less_base l.slots (ticket_at f.writes j).ticket).value s)
   place_is c j lt e =
       let g = gate_is j e in
-      chosen_value (content_signal l.slots) l.slots.ticket (gated l.slots f j) s (l.slots.size - 1) (omega (arith, g, slot_is c j lt e)) ∙ ap (slot_place l s) g
+      chosen_value (content_signal l.slots) l.slots.ticket (enabled_slot l.slots f j) s (l.slots.size - 1) (omega (arith, g, slot_is c j lt e)) ∙ ap (slot_place l s) g
 
   -- the array after the first j write ports
   abbrev stored : ℕ → List ℕ
@@ -168,7 +168,7 @@ module _ (l : Layout) (s : State) (x : LockState) (f : StepSignals) (a : Act) wh
       (cases_eq (g.enable.value s) 1)
 
   -- the addresses of the pending writes
-  all_below : Turn l s x f a → AreBelow l.depth (filled x a)
+  all_below : Turn l s x f a → AreBelow l.depth (filled_entries x a)
   all_below c =
       let d = c.cycle.drives in
       let fit : (k : ℕ) → k < length f.reserves → (reserve_at f.reserves k).enable.value s ≡ 1 → (reserve_at f.reserves k).addr.value s < l.depth
@@ -176,15 +176,15 @@ module _ (l : Layout) (s : State) (x : LockState) (f : StepSignals) (a : Act) wh
       filled_below l.depth x a c.cycle.proper.one (subst (AllBelow l.depth) (sym d.reserves) (asked_below s l.depth f.reserves fit)) c.stands.below
 
   -- the address of what is released
-  released_at : Turn l s x f a → a.release ≡ true → ((oldest_addr l f).value s ≡ (entry_at (filled x a) 0).addr) × ((entry_at (filled x a) 0).addr < l.depth)
-  released_at c o = (final.oldest_addr l.slots (placed_signal l) s x f a c.cycle o, all_below c 0 (final.there_done (filled x a) (c.cycle.proper.done o)))
+  released_at : Turn l s x f a → a.release ≡ true → ((oldest_addr l f).value s ≡ (entry_at (filled_entries x a) 0).addr) × ((entry_at (filled_entries x a) 0).addr < l.depth)
+  released_at c o = (final.oldest_addr l.slots (placed_signal l) s x f a c.cycle o, all_below c 0 (final.there_done (filled_entries x a) (c.cycle.proper.done o)))
 
   is_released : Turn l s x f a → f.release.value s ≡ 1 → a.release ≡ true
   is_released c e = bit_one a.release (sym c.cycle.drives.release ∙ e)
 
   module _ (b : Circuit) (t : State) where
     -- a slot's place and an address's in the next state
-    slot_next : NextRename b l f → IsNext b (own_rename l) s t → (k : ℕ) → k < l.slots.size → slot_place l t k ≡ words.mux (f.release.value s) ((top_value l.slots f (freed l f) (l.slots.size - 1 - k)).value s) ((slot_value l.slots f k).value s)
+    slot_next : NextRename b l f → IsNext b (own_rename l) s t → (k : ℕ) → k < l.slots.size → slot_place l t k ≡ words.mux (f.release.value s) ((top_value l.slots f (freed_place l f) (l.slots.size - 1 - k)).value s) ((slot_value l.slots f k).value s)
     unfolding mux_value reg_value
     slot_next n i k h = i.regs (value_at l.slots k) (omega arith) (omega arith) ∙ ap (λ (g : Signal). g.value s) (n.slots.value k (omega arith) h)
 
@@ -202,7 +202,7 @@ module _ (l : Layout) (s : State) (x : LockState) (f : StepSignals) (a : Act) wh
 
     slot_moves : IsRenaming l → NextRename b l f → IsNext b (own_rename l) s t → f.release.value s ≡ 1 → (k : ℕ) → k + 1 < l.slots.size → slot_place l t k ≡ slot_place l s (k + 1)
     unfolding words.mux
-    slot_moves z n i o k h = slot_next n i k (omega arith) ∙ if_one (f.release.value s) _ _ o ∙ ap (λ (g : Signal). g.value s) (top_value_at l.slots f (freed l f) k h ∙ content_place l.slots f (k + 1) z.place)
+    slot_moves z n i o k h = slot_next n i k (omega arith) ∙ if_one (f.release.value s) _ _ o ∙ ap (λ (g : Signal). g.value s) (top_value_at l.slots f (freed_place l f) k h ∙ content_place l.slots f (k + 1) z.place)
 
     swaps : Turn l s x f a → NextRename b l f → IsNext b (own_rename l) s t → f.release.value s ≡ 1 → AreSwapped l.depth l.slots.size ((oldest_addr l f).value s) (word_place l s) (slot_place l s) (word_place l t) (slot_place l t)
     unfolding words.mux
@@ -215,7 +215,7 @@ module _ (l : Layout) (s : State) (x : LockState) (f : StepSignals) (a : Act) wh
           here = word_next z n i at lt ∙ if_one (f.release.value s) _ _ o ∙ mux_same at at (slot_place l s 0) (word_place l s at) refl;
           there = λ k h e. word_next z n i k h ∙ if_one (f.release.value s) _ _ o ∙ mux_other at k (slot_place l s 0) (word_place l s k) (λ q. e (sym q));
           down = λ k h. slot_moves z n i o k h;
-          last = λ k h e. slot_next n i k h ∙ if_one (f.release.value s) _ _ o ∙ ap (λ (g : Signal). g.value s) (top_value_end l.slots f (freed l f) k e) ∙ mapped_is l z (oldest_addr l f) s lt;
+          last = λ k h e. slot_next n i k h ∙ if_one (f.release.value s) _ _ o ∙ ap (λ (g : Signal). g.value s) (top_value_end l.slots f (freed_place l f) k e) ∙ mapped_is l z (oldest_addr l f) s lt;
         }
 
     apart_next : Turn l s x f a → NextRename b l f → IsNext b (own_rename l) s t → AreApart l.depth l.slots.size (word_place l t) (slot_place l t)
@@ -254,11 +254,11 @@ module _ (l : Layout) (s : State) (x : LockState) (f : StepSignals) (a : Act) wh
     }
 
     -- the words in the next state
-    words_released : Turn l s x f a → NextRename b l f → IsNext b (own_rename l) s t → f.release.value s ≡ 1 → (k : ℕ) → k < l.depth → slice_index (store_of l t) (word_place l t k) ≡ slice_index (slice_set x.words (entry_at (filled x a) 0).addr (or_zero (entry_at (filled x a) 0).value)) k
+    words_released : Turn l s x f a → NextRename b l f → IsNext b (own_rename l) s t → f.release.value s ≡ 1 → (k : ℕ) → k < l.depth → slice_index (store_of l t) (word_place l t k) ≡ slice_index (slice_set x.words (entry_at (filled_entries x a) 0).addr (or_zero (entry_at (filled_entries x a) 0).value)) k
     words_released c n i o k h =
         let r = released_at c (is_released c o) in
         let w = swaps c n i o in
-        let e0 = entry_at (filled x a) 0 in
+        let e0 = entry_at (filled_entries x a) 0 in
         let at = (oldest_addr l f).value s in
         ⊎_elim
         (λ (e : k ≡ at).
@@ -270,23 +270,23 @@ module _ (l : Layout) (s : State) (x : LockState) (f : StepSignals) (a : Act) wh
         ∙ sym (written_there x.words e0.addr k (or_zero e0.value) (λ q. e (q ∙ sym r.0))))
         (cases_eq k at)
 
-    words_next : Turn l s x f a → NextRename b l f → IsNext b (own_rename l) s t → (k : ℕ) → k < l.depth → slice_index (store_of l t) (word_place l t k) ≡ slice_index (committed a (filled x a) x.words) k
+    words_next : Turn l s x f a → NextRename b l f → IsNext b (own_rename l) s t → (k : ℕ) → k < l.depth → slice_index (store_of l t) (word_place l t k) ≡ slice_index (committed_words a (filled_entries x a) x.words) k
     words_next c n i k h =
-        let ws = slice_set x.words (entry_at (filled x a) 0).addr (or_zero (entry_at (filled x a) 0).value) in
+        let ws = slice_set x.words (entry_at (filled_entries x a) 0).addr (or_zero (entry_at (filled_entries x a) 0).value) in
         let q = test_bit (f.release.value s) a.release c.cycle.drives.release in
         ⊎_elim
         (λ (o : f.release.value s ≡ 1). words_released c n i o k h ∙ ap (λ us. slice_index us k) (sym (if_one (f.release.value s) ws x.words o) ∙ ap (λ u. if u then ws else x.words) q))
         (λ (o : f.release.value s ≢ 1). ap (slice_index (store_of l t)) (word_stays c.renaming n i o k h) ∙ unchanged_at c n i k h ∙ ap (λ us. slice_index us k) (sym (if_other (f.release.value s) ws x.words o) ∙ ap (λ u. if u then ws else x.words) q))
         (cases_eq (f.release.value s) 1)
 
-    length_committed : length (committed a (filled x a) x.words) ≡ length x.words
+    length_committed : length (committed_words a (filled_entries x a) x.words) ≡ length x.words
     length_committed =
-        let e = length-set x.words (entry_at (filled x a) 0).addr (or_zero (entry_at (filled x a) 0).value) in
-        elim a.release as (λ u. length (if u then slice_set x.words (entry_at (filled x a) 0).addr (or_zero (entry_at (filled x a) 0).value) else x.words) ≡ length x.words) [ true ↦ e | false ↦ refl ]
+        let e = length-set x.words (entry_at (filled_entries x a) 0).addr (or_zero (entry_at (filled_entries x a) 0).value) in
+        elim a.release as (λ u. length (if u then slice_set x.words (entry_at (filled_entries x a) 0).addr (or_zero (entry_at (filled_entries x a) 0).value) else x.words) ≡ length x.words) [ true ↦ e | false ↦ refl ]
 
     stands_next : Turn l s x f a → NextRename b l f → IsNext b (own_rename l) s t → Stands l t (step x a)
     stands_next c n i = record {
-      entries = entries_next b (own_rename l) l.slots (placed_signal l) (freed l f) s t x f a c.cycle (record { from = omega arith; to = omega arith; slots = n.slots; base = n.base }) i (values_move c n i);
+      entries = entries_next b (own_rename l) l.slots (placed_signal l) (freed_place l f) s t x f a c.cycle (record { from = omega arith; to = omega arith; slots = n.slots; base = n.base }) i (values_move c n i);
       below = step_below l.depth x a (all_below c);
       whole = length_committed ∙ c.stands.whole;
       store = ap length (store_next c n i) ∙ length-writes s (place_writes l f (length a.writes)) (store_of l s) ∙ c.stands.store;
@@ -298,7 +298,7 @@ pub step_law : (b : Circuit) (l : Layout) (f : StepSignals) → IsRenaming l →
     → StepLaw (Stands l) l.slots.size l.slots.ticket (own_rename l) b f f.release (mux_signal f.release (oldest_addr l f) (const_signal l.slots.bits 0)) (mux_signal f.release (oldest_value l f) (const_signal l.slots.width 0))
 unfolding mux_value const_value words.mux
 step_law b l f z w v n =
-    let cycle = λ (s : State) (x : LockState) (a : Act) (h : Stands l s x) (d : Drives l.slots.ticket f s a) (p : Proper l.slots.size x a).
+    let cycle = λ (s : State) (x : LockState) (a : LockAct) (h : Stands l s x) (d : Drives l.slots.ticket f s a) (p : Proper l.slots.size x a).
     let c : Cycle l.slots (placed_signal l) s x f a = record { sized = z.sized; stands = h.entries; fit = w; drives = d; proper = p } in c in
     record {
       commits = λ s x a h d p. d.release;

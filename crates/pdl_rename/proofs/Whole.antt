@@ -15,7 +15,7 @@ use Rattle.pdl_entries.proofs.Tops.{next_kept, next_kept_but}
 use Rattle.pdl_rename.specs.declared.layout.Layout.{Layout}
 use Rattle.pdl_rename.specs.Places.{IsRenaming, HasMap, HasStore, map_at}
 use Rattle.pdl_rename.specs.Kept.{map_keep}
-use Rattle.pdl_rename.specs.Nets.{freed, next_map, one_put, place_writes, NextMap, NextRename, own_word, own_map, own_store, own_rename}
+use Rattle.pdl_rename.specs.Nets.{freed_place, next_map, one_put, place_writes, NextMap, NextRename, own_word, own_map, own_store, own_rename}
 use Rattle.pdl_entries.proofs.Made.{upto}
 
 -- the loop over the map
@@ -107,7 +107,7 @@ pub record IsStep (a b1 b2 b3 b4 b5 b6 : Circuit) (l : Layout) (p : LockPorts) (
   pub mapped : ExtendsBut (own_map l) b3 b4
   pub committed : Extends b4 b5
   pub written : ExtendsBut (own_store l) b5 b6
-  pub last_is : last ≡ freed l (step_signals a p)
+  pub last_is : last ≡ freed_place l (step_signals a p)
   pub next : NextSlots b2 l.slots (step_signals b1 p) last 0
   pub base : next_signal b3 l.slots.from ≡ base_after l.slots (step_signals b2 p)
   pub next_map : NextMap b4 l (step_signals b3 p) l.depth
@@ -132,7 +132,7 @@ module _ (a b1 b2 b3 b4 b5 b6 : Circuit) (l : Layout) (p : LockPorts) (last : Si
   pub next_rename : (count : ℕ) → count ≡ length p.writes → IsStep a b1 b2 b3 b4 b5 b6 l p last → length (step_signals a p).writes ≡ count → NextRename b6 l (step_signals a p)
   next_rename count e h len =
       let f = step_signals a p in
-      let v = freed l f in
+      let v = freed_place l f in
       let h2 = slots_keep a b2 l.slots l.slots.size h.slots (keeps2 h) in
       let h3 = slots_keep a b3 l.slots l.slots.size h.slots (keeps3 h) in
       let h4 = slots_keep a b4 l.slots l.slots.size h.slots (keeps4 h) in

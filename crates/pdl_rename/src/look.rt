@@ -3,9 +3,9 @@ ghost use Rattle.std.specs.Prelude.{◌≡◌, ℕ, ◌+◌, ◌*◌, ◌^◌, �
 ghost use Rattle.pdl_net.specs.Meaning.{IsThere, Means, signal};
 ghost use Rattle.pdl_net.specs.Growth.{Extends};
 ghost use Rattle.pdl_entries.specs.Slots.{HasSlots};
-ghost use Rattle.pdl_entries.specs.Looks.{less_base, picked, youngest_ready};
+ghost use Rattle.pdl_entries.specs.Looks.{less_base, youngest_look, youngest_ready};
 ghost use Rattle.pdl_rename.specs.Places.{IsRenaming, HasMap, HasStore, map_at, map_signal};
-ghost use Rattle.pdl_rename.specs.Nets.{selected, mapped, found_word};
+ghost use Rattle.pdl_rename.specs.Nets.{selected_signal, mapped_place, found_word};
 
 use crate::layout::Layout;
 use pdl_build::Builder;
@@ -47,7 +47,7 @@ fn emit_selected(
     requires bits { bits ≤ l.slots.bits }
     requires within { from + 2 ^ bits ≤ l.depth }
     ensures means { IfOk result (λ x.
-        Means b.new x (selected (map_signal l) (signal b.old addr) bits from)) }
+        Means b.new x (selected_signal (map_signal l) (signal b.old addr) bits from)) }
     ensures extends { Extends b.old b.new }
 {
     if bits == 0 {
@@ -68,7 +68,7 @@ pub fn emit_mapped(b: &mut Builder, l: Layout, addr: Net) -> Result<Net, NoMemor
     requires map { HasMap b.old l l.depth }
     requires addr_there { IsThere b.old addr }
     requires addr_width { (signal b.old addr).width ≡ l.slots.bits }
-    ensures means { IfOk result (λ x. Means b.new x (mapped l (signal b.old addr))) }
+    ensures means { IfOk result (λ x. Means b.new x (mapped_place l (signal b.old addr))) }
     ensures extends { Extends b.old b.new }
 {
     emit_selected(b, l, addr, l.slots.bits, 0)
@@ -92,7 +92,7 @@ pub fn emit_look(
     requires ticket_there { IsThere b.old ticket }
     requires ticket_width { (signal b.old ticket).width ≡ l.slots.ticket }
     ensures ready { IfOk result (λ x.
-        Means b.new x.0 (picked kind
+        Means b.new x.0 (youngest_look kind
         (youngest_ready l.slots (signal b.old addr)
         (less_base l.slots (signal b.old ticket)) l.slots.size))) }
     ensures value { IfOk result (λ x.

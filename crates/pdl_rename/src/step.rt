@@ -7,7 +7,7 @@ ghost use Rattle.pdl_lockapi.specs.Laws.{PortsThere, PortsFit, step_signals, tic
 ghost use Rattle.pdl_entries.specs.Slots.{HasSlots};
 ghost use Rattle.pdl_entries.specs.Steps.{push_addr, left_signal};
 ghost use Rattle.pdl_rename.specs.Places.{IsRenaming, HasMap, HasStore, map_at};
-ghost use Rattle.pdl_rename.specs.Nets.{place_of, place_writes, one_put, oldest_addr, oldest_value, freed, next_map, NextMap, NextRename, own_word, own_map, own_store, own_rename};
+ghost use Rattle.pdl_rename.specs.Nets.{place_of, place_writes, one_put, oldest_addr, oldest_value, freed_place, next_map, NextMap, NextRename, own_word, own_map, own_store, own_rename};
 
 use crate::layout::Layout;
 use crate::look::emit_mapped;
@@ -45,7 +45,8 @@ fn emit_front(b: &mut Builder, l: Layout, p: &LockPorts) -> Result<Front, NoMemo
     ensures addr_width { IfOk result (λ x. (signal b.new x.addr).width ≡ l.slots.bits) }
     ensures oldest { IfOk result (λ x.
         Means b.new x.oldest (oldest_addr l (step_signals b.old p.now))) }
-    ensures freed { IfOk result (λ x. Means b.new x.freed (freed l (step_signals b.old p.now))) }
+    ensures freed { IfOk result (λ x.
+        Means b.new x.freed (freed_place l (step_signals b.old p.now))) }
     ensures extends { Extends b.old b.new }
 {
     let (push, addr) = emit_push(b, l.slots, p)?;

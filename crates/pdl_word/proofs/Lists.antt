@@ -42,24 +42,24 @@ prefix_fits xs [] e = omega arith
 prefix_fits [] (n ∷ ns) e = cc
 prefix_fits (x ∷ xs) (n ∷ ns) e = let k = prefix_fits xs ns (and_parts (nat_eq n x) (pointwise nat_eq ns (take (length ns) xs)) e).1 in omega (arith, k)
 
--- of two fronts of one list the second is longer, with the same items behind, or they are the same
+-- of two fronts of one list the second is longer, with the same items after, or they are the same
 pub record Longer {X : Type 0} (f1 b1 f2 b2 : List X) : Type 0 where
   pub t : X
   pub more : List X
   pub front : f1 ≡ f2 ++ t ∷ more
-  pub behind : b2 ≡ t ∷ (more ++ b1)
+  pub after : b2 ≡ t ∷ (more ++ b1)
 
 pub longer : {X : Type 0} (f1 b1 f2 b2 : List X) → f1 ++ b1 ≡ f2 ++ b2 → length b1 < length b2 → Longer f1 b1 f2 b2
 longer [] b1 f2 b2 e le = let k : length b1 ≡ length (f2 ++ b2) = ap length e in let j = length-append f2 b2 in absurd (omega arith)
-longer (x ∷ f1) b1 [] b2 e le = record { t = x; more = f1; front = refl; behind = sym e }
+longer (x ∷ f1) b1 [] b2 e le = record { t = x; more = f1; front = refl; after = sym e }
 longer (x ∷ f1) b1 (y ∷ f2) b2 e le = let k : f1 ++ b1 ≡ f2 ++ b2 = cc in let j : x ≡ y = cc in let h = longer f1 b1 f2 b2 k le in
-    record { t = h.t; more = h.more; front = let i = h.front in cc; behind = h.behind }
+    record { t = h.t; more = h.more; front = let i = h.front in cc; after = h.after }
 
-pub same_behind : {X : Type 0} (f1 b1 f2 b2 : List X) → f1 ++ b1 ≡ f2 ++ b2 → length b1 ≡ length b2 → b1 ≡ b2
-same_behind [] b1 [] b2 e le = e
-same_behind [] b1 (y ∷ f2) b2 e le = let k : length b1 ≡ length (y ∷ (f2 ++ b2)) = ap length e in let j = length-append f2 b2 in absurd (omega arith)
-same_behind (x ∷ f1) b1 [] b2 e le = let k : length (x ∷ (f1 ++ b1)) ≡ length b2 = ap length e in let j = length-append f1 b1 in absurd (omega arith)
-same_behind (x ∷ f1) b1 (y ∷ f2) b2 e le = let k : f1 ++ b1 ≡ f2 ++ b2 = cc in same_behind f1 b1 f2 b2 k le
+pub same_after : {X : Type 0} (f1 b1 f2 b2 : List X) → f1 ++ b1 ≡ f2 ++ b2 → length b1 ≡ length b2 → b1 ≡ b2
+same_after [] b1 [] b2 e le = e
+same_after [] b1 (y ∷ f2) b2 e le = let k : length b1 ≡ length (y ∷ (f2 ++ b2)) = ap length e in let j = length-append f2 b2 in absurd (omega arith)
+same_after (x ∷ f1) b1 [] b2 e le = let k : length (x ∷ (f1 ++ b1)) ≡ length b2 = ap length e in let j = length-append f1 b1 in absurd (omega arith)
+same_after (x ∷ f1) b1 (y ∷ f2) b2 e le = let k : f1 ++ b1 ≡ f2 ++ b2 = cc in same_after f1 b1 f2 b2 k le
 
 pub some_filtered : {X : Type 0} (f p : X → Bool) (xs : List X) → list_any f (filter p xs) ≡ true → list_any f xs ≡ true
 some_filtered f p [] e = e

@@ -4,7 +4,7 @@ use Rattle.std.proofs.Math.Nat.{mod-eq_of_lt, add-mod_right, pow-le-pow_right, l
 use Rattle.std.proofs.lemmas.Bool.{cases_lt}
 use Rattle.std.proofs.lemmas.Nat.{pow_pos, pow-add}
 use Rattle.pdl_word.proofs.Masks.{one_shifted}
-use Rattle.pdl_word.specs.Words.{add, less, lts, sext, mask, raised}
+use Rattle.pdl_word.specs.Words.{add, less, lts, sext, mask, sign_shifted}
 
 -- words raised by half of the range, as code in 64 bits computes it, are in the order of two's complement
 pub lts_raised : (w a b x y : ℕ) → 1 ≤ w → w ≤ 64 → x ≡ add w a (1 * 2 ^ (w - 1) % 2 ^ 64) → y ≡ add w b (1 * 2 ^ (w - 1) % 2 ^ 64) → less x y ≡ lts w a b
@@ -20,10 +20,10 @@ halves w l =
     let P : ℕ → Type 0 = λ k. 2 ^ k ≡ 2 ^ (w - 1) * 2 in
     omega (arith, subst P e (pow-add 2 (w - 1) 1))
 
-pub raised_low : (w a : ℕ) → 1 ≤ w → a < 2 ^ (w - 1) → raised w a ≡ a + 2 ^ (w - 1)
+pub raised_low : (w a : ℕ) → 1 ≤ w → a < 2 ^ (w - 1) → sign_shifted w a ≡ a + 2 ^ (w - 1)
 raised_low w a l h = mod-eq_of_lt (omega (arith, halves w l))
 
-pub raised_high : (w a : ℕ) → 1 ≤ w → 2 ^ (w - 1) ≤ a → a < 2 ^ w → raised w a ≡ a - 2 ^ (w - 1)
+pub raised_high : (w a : ℕ) → 1 ≤ w → 2 ^ (w - 1) ≤ a → a < 2 ^ w → sign_shifted w a ≡ a - 2 ^ (w - 1)
 raised_high w a l h k =
     let e : a + 2 ^ (w - 1) ≡ a - 2 ^ (w - 1) + 2 ^ w = omega (arith, halves w l) in
     ap (λ x. x % 2 ^ w) e ∙ add-mod_right (a - 2 ^ (w - 1)) (2 ^ w) ∙ mod-eq_of_lt (omega (arith, pow_pos (w - 1)))
@@ -35,15 +35,15 @@ wider w n h = pow-le-pow_right (omega arith) h
 pub sext_low : (w n a : ℕ) → 1 ≤ w → w ≤ n → a < 2 ^ (w - 1) → sext w n a ≡ a
 unfolding sext
 sext_low w n a l h k =
-    let r : raised w a ≡ a + 2 ^ (w - 1) = raised_low w a l k in
-    let e : raised w a + 2 ^ n - 2 ^ (w - 1) ≡ a + 2 ^ n = omega (arith, r) in
+    let r : sign_shifted w a ≡ a + 2 ^ (w - 1) = raised_low w a l k in
+    let e : sign_shifted w a + 2 ^ n - 2 ^ (w - 1) ≡ a + 2 ^ n = omega (arith, r) in
     ap (λ x. x % 2 ^ n) e ∙ add-mod_right a (2 ^ n) ∙ mod-eq_of_lt (omega (arith, halves w l, wider w n h))
 
 pub sext_high : (w n a : ℕ) → 1 ≤ w → w ≤ n → 2 ^ (w - 1) ≤ a → a < 2 ^ w → sext w n a ≡ a + (2 ^ n - 2 ^ w)
 unfolding sext
 sext_high w n a l h k f =
-    let r : raised w a ≡ a - 2 ^ (w - 1) = raised_high w a l k f in
-    let e : raised w a + 2 ^ n - 2 ^ (w - 1) ≡ a + (2 ^ n - 2 ^ w) = omega (arith, r, halves w l, wider w n h) in
+    let r : sign_shifted w a ≡ a - 2 ^ (w - 1) = raised_high w a l k f in
+    let e : sign_shifted w a + 2 ^ n - 2 ^ (w - 1) ≡ a + (2 ^ n - 2 ^ w) = omega (arith, r, halves w l, wider w n h) in
     ap (λ x. x % 2 ^ n) e ∙ mod-eq_of_lt (omega (arith, wider w n h))
 
 -- the top bit as a shift reads it

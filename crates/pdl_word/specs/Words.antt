@@ -42,12 +42,12 @@ unfoldable pub less : ℕ → ℕ → ℕ
 less a b = bit (nat_lt a b)
 
 -- two's complement moved up by half of its range, which keeps its order
-abbrev pub raised : ℕ → ℕ → ℕ
-raised w a = (a + 2 ^ (w - 1)) % 2 ^ w
+abbrev pub sign_shifted : ℕ → ℕ → ℕ
+sign_shifted w a = (a + 2 ^ (w - 1)) % 2 ^ w
 
 -- less as two's complement
 unfoldable pub lts : ℕ → ℕ → ℕ → ℕ
-lts w a b = bit (nat_lt (raised w a) (raised w b))
+lts w a b = bit (nat_lt (sign_shifted w a) (sign_shifted w b))
 
 -- shifted by b places and filled with zeros; nothing is left where b is w or more
 unfoldable pub shl : ℕ → ℕ → ℕ → ℕ
@@ -70,7 +70,7 @@ zext a = a
 
 -- the top bit of the w bits of a above them, n bits together
 unfoldable pub sext : ℕ → ℕ → ℕ → ℕ
-sext w n a = (raised w a + 2 ^ n - 2 ^ (w - 1)) % 2 ^ n
+sext w n a = (sign_shifted w a + 2 ^ n - 2 ^ (w - 1)) % 2 ^ n
 
 -- the first where the choice is 1, else the second
 unfoldable pub mux : ℕ → ℕ → ℕ → ℕ

@@ -5,14 +5,14 @@ use Rattle.std.proofs.lemmas.Bool.{eqb-true}
 use Rattle.pdl_asm.specs.Places.{IsNear}
 use Rattle.pdl_image.specs.Lines.{lines}
 use Rattle.pdl_asm.specs.Values.{Labels}
-use Rattle.pdl_asm.specs.Assembly.{Placed, placed}
+use Rattle.pdl_asm.specs.Assembly.{Placed, lines_from}
 use Rattle.pdl_asm.proofs.Steps.{near_later, placed_first}
 use Rattle.pdl_asm.proofs.Taking.{Taken, all_taken, none_left_of, rule_by, taken_more, taken_none, words_by, wrong_found}
 use Rattle.pdl_asm.proofs.assembler.write_words.Goals as goal
 
 pub loop-rest-init : goal.loop-rest-init
 loop-rest-init c =
-    let all = placed c.args.table.now (pos 0) (lines c.args.text.now) in
+    let all = lines_from c.args.table.now (pos 0) (lines c.args.text.now) in
     let P : Labels → Type 0 = λ b. Taken c.args.table.now c.args.labels.now all 1 all b c.in_ok-words.words in
     record {
       room = omega arith;
@@ -25,7 +25,7 @@ pub loop-rest-preserved : goal.loop-rest-preserved
 loop-rest-preserved c =
     let t = c.args.table.now in
     let ls = c.args.labels.now in
-    let all = placed t (pos 0) (lines c.args.text.now) in
+    let all = lines_from t (pos 0) (lines c.args.text.now) in
     let later = lines c.split_line.result.1.now in
     let place = cast_signed w128 c.loop-rest.place-bits in
     let z : cast_signed w128 (cast_unsigned w128 c.after_line-place.result) ≡ c.after_line-place.result = search rules in
@@ -48,7 +48,7 @@ pub loop-rest-preserved-in_ok-define_label : goal.loop-rest-preserved-in_ok-defi
 loop-rest-preserved-in_ok-define_label c =
     let t = c.args.table.now in
     let ls = c.args.labels.now in
-    let all = placed t (pos 0) (lines c.args.text.now) in
+    let all = lines_from t (pos 0) (lines c.args.text.now) in
     let later = lines c.split_line.result.1.now in
     let place = cast_signed w128 c.loop-rest.place-bits in
     let z : cast_signed w128 (cast_unsigned w128 c.after_line-place.result) ≡ c.after_line-place.result = search rules in
@@ -71,7 +71,7 @@ pub loop-rest-preserved-in_ok-define_label-2 : goal.loop-rest-preserved-in_ok-de
 loop-rest-preserved-in_ok-define_label-2 c =
     let t = c.args.table.now in
     let ls = c.args.labels.now in
-    let all = placed t (pos 0) (lines c.args.text.now) in
+    let all = lines_from t (pos 0) (lines c.args.text.now) in
     let later = lines c.split_line.result.1.now in
     let place = cast_signed w128 c.loop-rest.place-bits in
     let z : cast_signed w128 (cast_unsigned w128 c.after_line-place.result) ≡ c.after_line-place.result = search rules in
@@ -94,7 +94,7 @@ pub returns-in-Some : goal.returns-in-Some
 returns-in-Some c =
     let t = c.args.table.now in
     let ls = c.args.labels.now in
-    let all = placed t (pos 0) (lines c.args.text.now) in
+    let all = lines_from t (pos 0) (lines c.args.text.now) in
     let later = lines c.split_line.result.1.now in
     let place = cast_signed w128 c.loop-rest.place-bits in
     let e = placed_first t place _ c.split_line.result.0.now later (lines c.loop-rest.rest.now) c.in_ok-line.line c.split_line.ensures.value c.in_ok-line.ensures refl in
@@ -107,7 +107,7 @@ pub returns : goal.returns
 returns c =
     let t = c.args.table.now in
     let ls = c.args.labels.now in
-    let all = placed t (pos 0) (lines c.args.text.now) in
+    let all = lines_from t (pos 0) (lines c.args.text.now) in
     let P : List Placed → Type 0 = λ r. Taken t ls all c.loop-rest.number r c.loop-rest.before c.loop-rest.words in
     all_taken t ls all c.loop-rest.number c.loop-rest.before c.loop-rest.words
     (subst P (none_left_of t _ c.loop-rest.rest.now (eqb-true _ 0 (sym c.loop-rest-test.ensures))) c.loop-rest.invariant.taken)

@@ -1,6 +1,6 @@
 use Rattle.std.proofs.Common.{◌+◌, ◌-◌, ◌≤◌, length, pos}
 use Rattle.pdl_image.specs.Lines.{lines}
-use Rattle.pdl_asm.specs.Assembly.{placed}
+use Rattle.pdl_asm.specs.Assembly.{lines_from}
 use Rattle.pdl_asm.specs.Places.{IsNear}
 use Rattle.pdl_asm.proofs.Taking.{Taken}
 use Rattle.pdl_asm.proofs.assembler.write_words.Given as goal
@@ -11,7 +11,7 @@ invariant-loop-rest l = record {
   room : length l.rest ≤ length l.text;
   near : IsNear (length l.text - length l.rest) l.place;
   count : l.number + length l.rest ≤ length l.text + 1;
-  taken : Taken l.table l.labels (placed l.table (pos 0) (lines l.text)) l.number (placed l.table l.place (lines l.rest)) l.before l.words;
+  taken : Taken l.table l.labels (lines_from l.table (pos 0) (lines l.text)) l.number (lines_from l.table l.place (lines l.rest)) l.before l.words;
 }
 
 abbrev pub decreases-loop-rest : goal.decreases-loop-rest

@@ -23,7 +23,7 @@ is_none : (text : List ℕ) (e : TableError) → e ≡ Refused B1 0 → document
 is_none text e f n = subst (IsNoDocument text) (sym f) (n, refl, refl)
 
 pub returns-in_default : goal.returns-in_default
-returns-in_default c = is_none c.args.text.now c.refused.result c.refused.ensures (no_text c.args.text.now c.in_default.ensures.cases.0)
+returns-in_default c = is_none c.args.text.now c.refusal_at.result c.refusal_at.ensures (no_text c.args.text.now c.in_default.ensures.cases.0)
 
 pub returns-in-Ok-table_from_str : goal.returns-in-Ok-table_from_str
 returns-in-Ok-table_from_str c =

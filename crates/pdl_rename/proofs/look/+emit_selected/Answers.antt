@@ -5,7 +5,7 @@ use Rattle.pdl_net.specs.Meaning.{signal}
 use Rattle.pdl_net.proofs.Keeps.{extends_trans}
 use Rattle.pdl_entries.proofs.Tops.{means_as, same_mux}
 use Rattle.pdl_rename.specs.Places.{map_signal}
-use Rattle.pdl_rename.specs.Nets.{selected}
+use Rattle.pdl_rename.specs.Nets.{selected_signal}
 use Rattle.pdl_rename.proofs.Chosen.{halved, selected_more}
 use Rattle.pdl_rename.proofs.Made.{map_kept}
 use Rattle.pdl_rename.proofs.look.+emit_selected.Goals as goal
@@ -43,6 +43,6 @@ returns-clause-means t c =
     let x12 : Extends a b2 = extends_trans a b1 b2 x1 x2 in
     let x23 : Extends b1 b3 = extends_trans b1 b2 b3 x2 x3 in
     let bit : signal b3 c.in_ok-bit.bit ≡ slice_signal top top (signal a c.args.addr) = x23.kept _ c.in_ok-bit.ensures.means.there ∙ c.in_ok-bit.ensures.means.same in
-    let low : signal b3 c.in_ok-low.low ≡ selected (map_signal l) (signal a c.args.addr) top c.args.from = x3.kept _ c.in_ok-low.ensures.means.there ∙ c.in_ok-low.ensures.means.same ∙ ap (λ d. selected (map_signal l) d top c.args.from) (x1.kept c.args.addr c.requires.addr_there) in
-    let high : signal b3 c.in_ok-high.high ≡ selected (map_signal l) (signal a c.args.addr) top (c.args.from + 2 ^ top) = c.in_ok-high.ensures.means.same ∙ ap (λ d. selected (map_signal l) d top (c.args.from + c.power-half.result)) (x12.kept c.args.addr c.requires.addr_there) ∙ ap (λ n. selected (map_signal l) (signal a c.args.addr) top (c.args.from + n)) c.power-half.ensures in
+    let low : signal b3 c.in_ok-low.low ≡ selected_signal (map_signal l) (signal a c.args.addr) top c.args.from = x3.kept _ c.in_ok-low.ensures.means.there ∙ c.in_ok-low.ensures.means.same ∙ ap (λ d. selected_signal (map_signal l) d top c.args.from) (x1.kept c.args.addr c.requires.addr_there) in
+    let high : signal b3 c.in_ok-high.high ≡ selected_signal (map_signal l) (signal a c.args.addr) top (c.args.from + 2 ^ top) = c.in_ok-high.ensures.means.same ∙ ap (λ d. selected_signal (map_signal l) d top (c.args.from + c.power-half.result)) (x12.kept c.args.addr c.requires.addr_there) ∙ ap (λ n. selected_signal (map_signal l) (signal a c.args.addr) top (c.args.from + n)) c.power-half.ensures in
     means_as c.mux.new.self _ _ _ c.in_ok-place.ensures.means (same_mux _ _ _ _ _ _ bit high low ∙ sym (selected_more (map_signal l) (signal a c.args.addr) c.args.bits c.args.from c.if-bits-eq0.false))

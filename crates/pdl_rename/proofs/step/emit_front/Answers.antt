@@ -6,7 +6,7 @@ use Rattle.pdl_lockapi.proofs.Kept.{same_signals}
 use Rattle.pdl_entries.specs.Steps.{push_signal, left_signal}
 use Rattle.pdl_entries.proofs.Steps.{reserves_count, slot_addr_width}
 use Rattle.pdl_entries.proofs.Tops.{means_as}
-use Rattle.pdl_rename.specs.Nets.{mapped, oldest_addr}
+use Rattle.pdl_rename.specs.Nets.{mapped_place, oldest_addr}
 use Rattle.pdl_rename.proofs.step.emit_front.Goals as goal
 
 pub emit_left-requires-clause-push : goal.emit_left-requires-clause-push
@@ -59,4 +59,4 @@ returns-clause-freed c =
     let b = c.emit_left.new.b in
     let p = c.args.p.now in
     let s : step_signals b p ≡ step_signals a p = same_signals a b p c.requires.ports (extends_keeps a b (extends_trans a b0 b c.in_ok-push.ensures.extends c.in_ok-left.ensures.extends)) in
-    means_as c.emit_mapped.new.b _ _ _ c.in_ok-freed.ensures.means (ap (mapped c.args.l) (c.in_ok-oldest.ensures.means.same ∙ ap (λ (g : StepSignals). oldest_addr c.args.l g) s))
+    means_as c.emit_mapped.new.b _ _ _ c.in_ok-freed.ensures.means (ap (mapped_place c.args.l) (c.in_ok-oldest.ensures.means.same ∙ ap (λ (g : StepSignals). oldest_addr c.args.l g) s))

@@ -10,16 +10,16 @@ use Rattle.pdl_netrun.proofs.sim.Sim.new.Goals as goal
 pub all_arrays-requires : goal.all_arrays-requires
 all_arrays-requires c = image_fits c.args.net.now c.args.image.now c.requires.well c.requires.image c.requires.here
 
-pub planned-requires-clause-inputs : goal.planned-requires-clause-inputs
-planned-requires-clause-inputs c = no_inputs c.args.net.now c.requires.well c.requires.here
+pub plan_of-requires-clause-inputs : goal.plan_of-requires-clause-inputs
+plan_of-requires-clause-inputs c = no_inputs c.args.net.now c.requires.well c.requires.here
 
-pub planned-requires-clause-constants : goal.planned-requires-clause-constants
-planned-requires-clause-constants c = constants_first (circuit_of c.args.net.now) c.put_constants.new.values.items (grind (arith, common_steps))
+pub plan_of-requires-clause-constants : goal.plan_of-requires-clause-constants
+plan_of-requires-clause-constants c = constants_first (circuit_of c.args.net.now) c.put_constants.new.values.items (grind (arith, common_steps))
 
-pub planned-requires-clause-holds : goal.planned-requires-clause-holds
-planned-requires-clause-holds c =
+pub plan_of-requires-clause-holds : goal.plan_of-requires-clause-holds
+plan_of-requires-clause-holds c =
     holds_first c.args.net.now c.args.image.now c.put_constants.new.values.items _ c.requires.well.well (image_fits c.args.net.now c.args.image.now c.requires.well c.requires.image c.requires.here) (grind (arith, common_steps)) (grind (arith, common_steps))
 
 pub returns : goal.returns
 returns c =
-    subst (λ (r : Run). IfOk c.planned.result (λ sim. sim ≡ r)) (begun_is c.args.net.now c.args.image.now c.put_constants.new.values.items _ c.requires.here (grind (arith, common_steps)) (grind (arith, common_steps))) c.planned.ensures
+    subst (λ (r : Run). IfOk c.plan_of.result (λ sim. sim ≡ r)) (begun_is c.args.net.now c.args.image.now c.put_constants.new.values.items _ c.requires.here (grind (arith, common_steps)) (grind (arith, common_steps))) c.plan_of.ensures

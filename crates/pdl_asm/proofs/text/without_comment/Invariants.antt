@@ -1,6 +1,6 @@
 use Rattle.std.proofs.Common.{length}
 use Rattle.pdl_asm.proofs.Trimming.{Before}
-use Rattle.pdl_asm.proofs.text.uncommented.Given as goal
+use Rattle.pdl_asm.proofs.text.without_comment.Given as goal
 
 -- what was passed has no comment
 abbrev pub invariant-loop-rest : goal.invariant-loop-rest

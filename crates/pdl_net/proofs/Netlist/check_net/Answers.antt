@@ -2,7 +2,7 @@ use Rattle.std.proofs.Common.{rules, ap, get_or}
 use Rattle.pdl_net.specs.Circuit.{circuit_of}
 use Rattle.pdl_net.proofs.Fix.{no_cell}
 use Rattle.pdl_net.proofs.Widths.{nets, fits_now, width_now}
-use Rattle.pdl_net.proofs.Netlist.widens.Goals as goal
+use Rattle.pdl_net.proofs.Netlist.check_net.Goals as goal
 
 pub cell_widens-requires-clause-fits : goal.cell_widens-requires-clause-fits
 cell_widens-requires-clause-fits c =

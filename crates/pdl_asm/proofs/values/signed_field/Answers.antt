@@ -1,6 +1,6 @@
 use Rattle.std.proofs.Common.{◌≡◌, ◌≤◌, ◌-◌, ◌^◌, ap, ◌∙◌, arith}
 use Rattle.std.proofs.Math.Nat.{pow-le-pow_right}
-use Rattle.pdl_asm.proofs.values.signed.Goals as goal
+use Rattle.pdl_asm.proofs.values.signed_field.Goals as goal
 
 pub overflow_sub-result-then-n-half : goal.overflow_sub-result-then-n-half
 overflow_sub-result-then-n-half c =
