@@ -12,7 +12,7 @@ use Rattle.pdl_check.specs.Memories.{infos_of}
 use Rattle.pdl_pipe_law.specs.Runs.{column_of}
 use Rattle.pdl_seq.specs.declared.commit.Write.{Write}
 use Rattle.pdl_seq.specs.Fits.{AreWrites}
-use Rattle.pdl_seq.specs.Runs.{numbered, write_line}
+use Rattle.pdl_seq.specs.Runs.{numbered_writes, write_line}
 use Rattle.pdl_cli.proofs.Accepting.{told_columns}
 
 -- the memory of a number as lines show it
@@ -31,14 +31,14 @@ joined (x ∷ a) b c d = ap (λ l. x ∷ l) (joined a b c d)
 
 -- the lines of the writes, and the last line
 pub printed : (p : tree.Pipe) (image : List (List ℕ)) (k : ℕ) (ms : List MemInfo) (ws : List Write) (q : Pipe) (n : ℕ) (begun middle line text : List ℕ)
-    → ms ≡ infos_of p.mems → q ≡ flat p → n ≡ k → ws ≡ numbered 1 (threads q (arrays_of image) n)
+    → ms ≡ infos_of p.mems → q ≡ flat p → n ≡ k → ws ≡ numbered_writes 1 (threads q (arrays_of image) n)
     → begun ≡ [] → middle ≡ begun ++ flat_map (write_line (map column_of ms)) ws → line ≡ codes "end threads " ++ decimal k ++ codes "\n" → text ≡ middle ++ line
-    → text ≡ flat_map (write_line (columns p.mems)) (numbered 1 (threads (flat p) (arrays_of image) k)) ++ codes "end threads " ++ decimal k ++ codes "\n"
+    → text ≡ flat_map (write_line (columns p.mems)) (numbered_writes 1 (threads (flat p) (arrays_of image) k)) ++ codes "end threads " ++ decimal k ++ codes "\n"
 printed p image k ms ws q n begun middle line text told flattened count written none more last all =
     all
     ∙ ap₂ (λ a b. a ++ b)
     (more ∙ ap (λ l. l ++ flat_map (write_line (map column_of ms)) ws) none
     ∙ ap₂ (λ cs l. flat_map (write_line cs) l) (ap (map column_of) told ∙ told_columns p.mems)
-    (written ∙ ap₂ (λ x i. numbered 1 (threads x (arrays_of image) i)) flattened count))
+    (written ∙ ap₂ (λ x i. numbered_writes 1 (threads x (arrays_of image) i)) flattened count))
     last
-    ∙ joined (flat_map (write_line (columns p.mems)) (numbered 1 (threads (flat p) (arrays_of image) k))) (codes "end threads ") (decimal k) (codes "\n")
+    ∙ joined (flat_map (write_line (columns p.mems)) (numbered_writes 1 (threads (flat p) (arrays_of image) k))) (codes "end threads ") (decimal k) (codes "\n")

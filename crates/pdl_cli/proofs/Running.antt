@@ -5,8 +5,8 @@ use Rattle.std.proofs.lemmas.List.{length-map}
 use Rattle.std.proofs.lemmas.List.Sums.{sum_by-cons}
 use Rattle.pdl_semantics.specs.Lines.{Column, Cycle, cycle_lines, lines_from}
 use Rattle.pdl_net.specs.declared.Netlist.{Netlist}
-use Rattle.pdl_net.specs.Run.{Held, shown, next, nports_from}
-use Rattle.pdl_netrun.specs.Sim.{Run, stepped}
+use Rattle.pdl_net.specs.Run.{Held, shown_ports, next, nports_from}
+use Rattle.pdl_netrun.specs.Sim.{Run, run_after}
 use Rattle.pdl_pipe_law.specs.Runs.{cycle_of}
 use Rattle.pdl_cli.specs.Printed.{cycles_from}
 use Rattle.pdl_cli.specs.declared.print.Counts.{Counts}
@@ -16,7 +16,7 @@ use Rattle.pdl_cli.specs.Tally.{one_if, tallied_of}
 abbrev pub left : Netlist → Held → ℕ → List Cycle
 left n h k = cycles_from n h (replicate k 65535)
 
-pub left_step : (n : Netlist) (h : Held) (done cycles : ℕ) → done < cycles → left n h (cycles - done) ≡ cycle_of n (shown n h 65535) ∷ left n (next n h 65535) (cycles - (done + 1))
+pub left_step : (n : Netlist) (h : Held) (done cycles : ℕ) → done < cycles → left n h (cycles - done) ≡ cycle_of n (shown_ports n h 65535) ∷ left n (next n h 65535) (cycles - (done + 1))
 left_step n h done cycles lt =
     let e : cycles - done ≡ suc (cycles - (done + 1)) = omega arith in
     rw e refl
@@ -31,7 +31,7 @@ count_step test c cs rest old new all e n a =
     omega (arith, n, a, ap (count_by test) e, sum_by-cons (λ x. if test x then 1 else 0) c rest)
 
 -- the cycles that are left where a simulator has run one more
-pub sim_step : (old new : Run) (done cycles : ℕ) → new ≡ stepped old 65535 → done < cycles
+pub sim_step : (old new : Run) (done cycles : ℕ) → new ≡ run_after old 65535 → done < cycles
     → left old.netlist old.held (cycles - done) ≡ cycle_of new.netlist new.last ∷ left new.netlist new.held (cycles - (done + 1))
 sim_step old new done cycles e lt =
     subst (λ (r : Run). left old.netlist old.held (cycles - done) ≡ cycle_of r.netlist r.last ∷ left r.netlist r.held (cycles - (done + 1))) (sym e) (left_step old.netlist old.held done cycles lt)

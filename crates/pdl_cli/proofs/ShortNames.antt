@@ -8,7 +8,7 @@ use Rattle.pdl_semantics.specs.Tree.{LockDecl, Mem, Param, Pipe}
 use Rattle.pdl_tokens.specs.declared.token.Mark.{Mark}
 use Rattle.pdl_tokens.specs.declared.token.TokenKind.{TokenKind}
 use Rattle.pdl_tokens.specs.declared.token.TokenKind.TheVariants as kind
-use Rattle.pdl_tokens.specs.Tokens.{Token, Row, Piece, Spelling, tokens, tokens_from, placed, piece_at, word_at, keyword_or_name, spelling_of, keywords, number_or_literal, mark_or_bad, blank_of, is_word, is_blank, is_lower, is_digit, symbols, spelling_at, line_after}
+use Rattle.pdl_tokens.specs.Tokens.{Token, Row, Piece, Spelling, tokens, tokens_from, placed_token, piece_at, word_at, keyword_or_name, spelling_of, keywords, number_or_literal, mark_or_bad, blank_of, is_word, is_blank, is_lower, is_digit, symbols, spelling_at, line_after}
 use Rattle.pdl_grammar.specs.Grammar.{Listed, last, further, Memory, memory, Parameter, parameter, Lock, unlocked, locked, Text, text}
 use Rattle.pdl_grammar.specs.Text.{IsText}
 use Rattle.pdl_sources.proofs.Words.{number_no_name, literal_no_name, some_same}
@@ -68,7 +68,7 @@ taken : (n : ℕ) (xs : List ℕ) → n ≤ 32 → length (take n xs) ≤ 32
 taken n xs h = let e = length-take n xs in omega (arith, e, h)
 
 placed_short : (k : Option TokenKind) (n start line : ℕ) (bytes : List ℕ) → IsShortPiece (record { kind = k; size = n }) → (rest : List Token) → AreShort rest
-    → AreShort (placed (record { kind = k; size = n }) start line bytes ++ rest)
+    → AreShort (placed_token (record { kind = k; size = n }) start line bytes ++ rest)
 placed_short None n start line bytes h rest t = t
 placed_short (Some k) n start line bytes h rest t = (λ e. taken n bytes (h (ap (λ (j : TokenKind). Some j) e)), t)
 

@@ -6,7 +6,7 @@ use Rattle.pdl_semantics.specs.Lines.{Cycle, end_line}
 use Rattle.pdl_cli.specs.declared.print.Counts.{Counts}
 use Rattle.pdl_cli.specs.Tally.{counts_of}
 
--- the words in a memory: the first of them, as many as it has, each cut to its width, with zeros behind them
+-- the words in a memory: the first of them, as many as it has, each cut to its width, with zeros after them
 abbrev pub words_in : List ℕ → MemInfo → List ℕ
 words_in ws m = map (λ address. slice_index ws address % 2 ^ m.width) (range_with_len 0 m.depth)
 

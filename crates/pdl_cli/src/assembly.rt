@@ -11,7 +11,7 @@ use pdl_kit::files::Files;
 use std::alloc::Global;
 
 // Reads the table of an instruction set.
-fn tabled<F: Files>(alloc: Global, files: &mut F, name: &str) -> Result<Table, Failure>
+fn table_of_file<F: Files>(alloc: Global, files: &mut F, name: &str) -> Result<Table, Failure>
     requires { IsTrue (F.may files.old name.now) }
     ensures ok { IfOk result (λ t. IsTabled (F.holds files.old) name.now t) }
     ensures err { IfErr result
@@ -25,7 +25,7 @@ fn tabled<F: Files>(alloc: Global, files: &mut F, name: &str) -> Result<Table, F
 }
 
 /// The text that `asm` writes for the table of an instruction set and a program with these names.
-pub fn assembled<F: Files>(
+pub fn assembly_text<F: Files>(
     alloc: Global,
     files: &mut F,
     table: &str,
@@ -40,7 +40,7 @@ pub fn assembled<F: Files>(
     ensures allowed { (n : List ℕ) → F.may files.new n ≡ F.may files.old n }
     ensures later { F.faults files.old ≤ F.faults files.new }
 {
-    let table = tabled(alloc, files, table)?;
+    let table = table_of_file(alloc, files, table)?;
     let text = files.read(program)?;
     Ok(assemble(alloc, &table, text.as_slice())?)
 }

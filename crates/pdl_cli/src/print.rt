@@ -66,7 +66,7 @@ fn one_if(holds: bool) -> u32
 }
 
 // Counts with the last cycle; `outputs` is how many outputs there are.
-fn tallied(counts: Counts, sim: &Sim, outputs: usize) -> Counts
+fn with_cycle(counts: Counts, sim: &Sim, outputs: usize) -> Counts
     requires outputs { outputs ≡ output_count sim.now.netlist }
     requires two { 2 ≤ outputs }
     requires room { (counts.ended < 1000000) × (counts.waits < 1000000)
@@ -108,7 +108,7 @@ fn run_cycles(
     for done in 0..cycles {
         sim.cycle(u16::MAX);
         push_commits(text, done + 1, mems, sim)?;
-        counts = tallied(counts, sim, outputs);
+        counts = with_cycle(counts, sim, outputs);
     }
     Ok(counts)
 }
@@ -153,7 +153,7 @@ fn count_cycles(sim: &mut Sim, outputs: usize, cycles: u32) -> Counts
     };
     for _done in 0..cycles {
         sim.cycle(u16::MAX);
-        counts = tallied(counts, sim, outputs);
+        counts = with_cycle(counts, sim, outputs);
     }
     counts
 }

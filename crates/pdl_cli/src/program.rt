@@ -7,7 +7,7 @@ ghost use Rattle.pdl_cli.specs.Texts.{Says};
 ghost use Rattle.pdl_cli.specs.Commands.{Writes, Fails};
 ghost use Rattle.pdl_cli.specs.Top.{Allows, IsFew, seen_of, Explains, Answers, Decides};
 
-use crate::assembly::assembled;
+use crate::assembly::assembly_text;
 use crate::failure::{Failure, report, status_of};
 use crate::generated::generate;
 use crate::run::{prepare, run_in_turn, verdict};
@@ -40,7 +40,7 @@ fn text_of<F: Files>(alloc: Global, line: Line<'_>, files: &mut F) -> Result<Vec
             image,
             threads,
         } => run_in_turn(alloc, files, source, image, threads),
-        Line::Asm { table, text } => assembled(alloc, files, table, text),
+        Line::Asm { table, text } => assembly_text(alloc, files, table, text),
         Line::Gen { number } => generate(alloc, number),
     }
 }

@@ -28,7 +28,7 @@ fn word_at(words: &[u64], address: usize) -> u64
 
 // A word cut to a width.
 #[tactic(auto, using(pdl_word::proofs::Masks::and_with_mask))]
-fn cut(word: u64, width: u8) -> u64
+fn cut_to(word: u64, width: u8) -> u64
     requires low { 1 ≤ width }
     requires high { width ≤ 64 }
     ensures { result ≡ word % 2 ^ width }
@@ -36,7 +36,7 @@ fn cut(word: u64, width: u8) -> u64
     word & mask(width)
 }
 
-// The first of the words, as many as a memory has, each cut to its width, with zeros behind them.
+// The first of the words, as many as a memory has, each cut to its width, with zeros after them.
 fn words_in(alloc: Global, words: &[u64], mem: &MemInfo) -> Result<Seq<u64>, NoMemory>
     requires low { 1 ≤ mem.now.width }
     requires high { mem.now.width ≤ 64 }
@@ -44,7 +44,7 @@ fn words_in(alloc: Global, words: &[u64], mem: &MemInfo) -> Result<Seq<u64>, NoM
 {
     let mut kept = Seq::new(alloc);
     for address in 0..mem.depth {
-        kept.push(cut(word_at(words, address as usize), mem.width))?;
+        kept.push(cut_to(word_at(words, address as usize), mem.width))?;
     }
     Ok(kept)
 }

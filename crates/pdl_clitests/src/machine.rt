@@ -45,7 +45,7 @@ fn push_ports(
     Ok(())
 }
 
-// The lines of what the memories commit, whose outputs begin at this place; the answer is the place behind them.
+// The lines of what the memories commit, whose outputs begin at this place; the answer is the place after them.
 fn push_commits(
     text: &mut Vec<u8>,
     cycle: u32,

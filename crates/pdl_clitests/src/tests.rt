@@ -86,7 +86,7 @@ fn runs_generated_sources(rt: HostRuntime) -> Result<(), Fail> {
     answers(&rt, rt.alloc(), &rows)
 }
 
-// The counter with its call so many stages behind its write.
+// The counter with its call so many stages after its write.
 fn late_call(alloc: Global, separators: u32) -> Result<Vec<u8>, Fail> {
     let mut source = Vec::new(alloc);
     source.extend_from_slice(WRITES)?;

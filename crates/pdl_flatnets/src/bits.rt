@@ -40,22 +40,6 @@ impl Bits {
         Ok(Bits { one, zero })
     }
 
-    /// The net `x` where `choice`, of 1 bit, is 1, else `y`.
-    pub fn pick(self, b: &mut Builder, choice: Net, x: Net, y: Net) -> Result<Net, NoMemory>
-        requires bits { AreBits b.old self }
-        requires choice { IsThere b.old choice }
-        requires one { (signal b.old choice).width ≡ 1 }
-        requires x_there { IsThere b.old x }
-        requires y_there { IsThere b.old y }
-        requires widths { (signal b.old x).width ≡ (signal b.old y).width }
-        ensures means { IfOk result (λ z.
-            Means b.new z (mux_signal (signal b.old choice) (signal b.old x) (signal b.old y))) }
-        ensures extends { Extends b.old b.new }
-        ensures regs { b.new.regs ≡ b.old.regs }
-    {
-        b.mux(choice, x, y)
-    }
-
     /// A net that is 1 where both of two nets of 1 bit are.
     pub fn both(self, b: &mut Builder, x: Net, y: Net) -> Result<Net, NoMemory>
         requires bits { AreBits b.old self }
@@ -67,6 +51,6 @@ impl Bits {
         ensures extends { Extends b.old b.new }
         ensures regs { b.new.regs ≡ b.old.regs }
     {
-        self.pick(b, x, y, self.zero)
+        b.mux(x, y, self.zero)
     }
 }

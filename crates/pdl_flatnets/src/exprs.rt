@@ -47,7 +47,7 @@ pub fn variable(b: &Builder, vars: &[Net], x: usize) -> Net
 }
 
 // Some bits of a variable.
-fn sliced(b: &mut Builder, vars: &[Net], x: usize, high: u8, low: u8) -> Result<Net, NoMemory>
+fn slice_of(b: &mut Builder, vars: &[Net], x: usize, high: u8, low: u8) -> Result<Net, NoMemory>
     requires there { NetsThere b.old vars.now }
     requires below { x < length vars.now }
     requires order { low ≤ high }
@@ -73,7 +73,7 @@ fn expr_net(b: &mut Builder, vars: &[Net], e: &Expr) -> Result<Net, NoMemory>
     match e {
         Expr::Constant { width, value } => b.constant(*width, *value),
         Expr::Variable(x) => Ok(variable(b, vars, *x)),
-        Expr::Slice { x, high, low } => sliced(b, vars, *x, *high, *low),
+        Expr::Slice { x, high, low } => slice_of(b, vars, *x, *high, *low),
         Expr::Not { a, .. } => {
             let a = expr_net(b, vars, a.get())?;
             b.not(a)

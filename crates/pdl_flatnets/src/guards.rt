@@ -46,7 +46,12 @@ fn and_taken(bits: Bits, b: &mut Builder, vars: &[Net], on: Net, g: &Guard) -> R
 }
 
 /// Whether each of the guards is taken, by the nets of the variables.
-pub fn taken(bits: Bits, b: &mut Builder, vars: &[Net], guards: &[Guard]) -> Result<Net, NoMemory>
+pub fn all_taken(
+    bits: Bits,
+    b: &mut Builder,
+    vars: &[Net],
+    guards: &[Guard],
+) -> Result<Net, NoMemory>
     requires bits { AreBits b.old bits }
     requires there { NetsThere b.old vars.now }
     requires guards { AreGuards (widths_of (signals_in b.old vars.now)) (guards_view guards.now) }

@@ -4,9 +4,7 @@
 pub mod bits;
 pub mod exprs;
 pub mod guards;
-#[cfg(test)]
-mod tests;
 
 pub use bits::{Bits, are_same};
 pub use exprs::{value, values};
-pub use guards::taken;
+pub use guards::all_taken;

@@ -17,6 +17,6 @@ any_forks_by x stages = list_any (λ (s : Stage). forks_by s.next x) stages
 abbrev pub rows_ask : ℕ → ℕ → ℕ → List Stmt → Bool
 rows_ask k m a rows = list_any (λ (r : Stmt). nat_le k r.stage && asks_held r.op m a) rows
 
--- a thread keeps its ticket of a lock in stage k: behind the stage of the reserves, up to that of the releases
+-- a thread keeps its ticket of a lock in stage k: after the stage of the reserves, up to that of the releases
 abbrev pub goes_with : Pipe → ℕ → ℕ → Bool
 goes_with p k m = is_locked p m && (nat_le (suc (reserve_stage p m)) k && nat_le k (commit_stage p m))

@@ -2,8 +2,6 @@
 #![tactic(auto)]
 
 pub mod needs;
-#[cfg(test)]
-mod tests;
 pub mod usage;
 
-pub use needs::{holds, keeps_ticket, lives};
+pub use needs::{held_from, keeps_ticket, lives_from};

@@ -4,7 +4,7 @@ ghost use Rattle.pdl_semantics.specs.Flat.{has_lock as locks};
 ghost use Rattle.pdl_semantics.specs.Stages.{list_any, mem_at, reserve_stage, commit_stage};
 ghost use Rattle.pdl_form.specs.Whole.{form};
 ghost use Rattle.pdl_form.specs.View.{act_view, lock_view, next_view, stages_view, stmt_view, stmts_view};
-ghost use Rattle.pdl_pipe_law.specs.Lives.{lives as is_live, holds as is_asked, asks_held as asks_location, forks_by as goes_by};
+ghost use Rattle.pdl_pipe_law.specs.Lives.{lives_from as is_live, held_from as is_asked, asks_held as asks_location, forks_by as goes_by};
 ghost use Rattle.pdl_pipe_law.specs.Walk.{is_locked};
 ghost use Rattle.pdl_lives.specs.Needs.{rows_use, any_forks_by, rows_ask, goes_with};
 
@@ -47,7 +47,7 @@ fn is_fork_var(stages: &[Stage], x: usize) -> bool
 }
 
 /// Whether a statement or a fork of the stage or a later one uses a variable.
-pub fn lives(pipe: &FlatPipe, stage: usize, x: usize) -> bool
+pub fn lives_from(pipe: &FlatPipe, stage: usize, x: usize) -> bool
     requires { stage ≤ length (form pipe.now).pipe.stages }
     ensures { result ≡ is_live (form pipe.now).pipe stage x }
 {
@@ -66,7 +66,7 @@ fn asks_held(op: &Op, mem: usize, var: usize) -> bool
 }
 
 /// Whether a statement of the stage or a later one asks whether a location, by its memory and the variable of its address, is held.
-pub fn holds(pipe: &FlatPipe, stage: usize, mem: usize, var: usize) -> bool
+pub fn held_from(pipe: &FlatPipe, stage: usize, mem: usize, var: usize) -> bool
     ensures { result ≡ is_asked (form pipe.now).pipe stage mem var }
 {
     for s in pipe.stmts() {
@@ -93,7 +93,7 @@ pub fn has_lock(pipe: &FlatPipe, mem: usize) -> bool
     is_lock(m.lock)
 }
 
-/// Whether a thread keeps its ticket of a memory's lock in a stage: behind that of the reserves, up to that of the releases.
+/// Whether a thread keeps its ticket of a memory's lock in a stage: after that of the reserves, up to that of the releases.
 pub fn keeps_ticket(pipe: &FlatPipe, stage: usize, mem: usize) -> bool
     requires mem { mem < length (form pipe.now).pipe.mems }
     requires reserves { length (form pipe.now).pipe.reserves_at ≡ length (form pipe.now).pipe.mems }

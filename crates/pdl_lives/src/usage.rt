@@ -1,25 +1,27 @@
 // Which statements use the value of a variable.
 ghost use Rattle.std.specs.Prelude.{◌≡◌};
 ghost use Rattle.pdl_form.specs.View.{expr_view, exprs_view, act_view, guards_view, stmt_view};
-ghost use Rattle.pdl_pipe_law.specs.Lives.{uses as uses_var, are_using as any_uses, op_uses as act_uses, guards_use as any_guard_uses, row_uses};
+ghost use Rattle.pdl_pipe_law.specs.Lives.{uses_var, are_using as any_uses, op_uses as act_uses, guards_use as any_guard_uses, row_uses};
 
 use pdl_form::{Expr, Guard, Op, Stmt};
 
 /// Whether an expression uses a variable.
-pub fn uses(e: &Expr, x: usize) -> bool
+pub fn uses_variable(e: &Expr, x: usize) -> bool
     ensures { result ≡ uses_var (expr_view e.now) x }
 {
     match e {
         Expr::Constant { .. } => false,
         Expr::Variable(y) => *y == x,
         Expr::Slice { x: y, .. } => *y == x,
-        Expr::Not { a, .. } => uses(a.get(), x),
-        Expr::Binary { a, b, .. } => uses(a.get(), x) || uses(b.get(), x),
-        Expr::Cat { a, b, .. } => uses(a.get(), x) || uses(b.get(), x),
-        Expr::LessSigned { a, b, .. } => uses(a.get(), x) || uses(b.get(), x),
-        Expr::ZeroExtend { a, .. } => uses(a.get(), x),
-        Expr::SignExtend { a, .. } => uses(a.get(), x),
-        Expr::Choose { c, a, b } => uses(c.get(), x) || uses(a.get(), x) || uses(b.get(), x),
+        Expr::Not { a, .. } => uses_variable(a.get(), x),
+        Expr::Binary { a, b, .. } => uses_variable(a.get(), x) || uses_variable(b.get(), x),
+        Expr::Cat { a, b, .. } => uses_variable(a.get(), x) || uses_variable(b.get(), x),
+        Expr::LessSigned { a, b, .. } => uses_variable(a.get(), x) || uses_variable(b.get(), x),
+        Expr::ZeroExtend { a, .. } => uses_variable(a.get(), x),
+        Expr::SignExtend { a, .. } => uses_variable(a.get(), x),
+        Expr::Choose { c, a, b } => uses_variable(c.get(), x)
+            || uses_variable(a.get(), x)
+            || uses_variable(b.get(), x),
     }
 }
 
@@ -28,7 +30,7 @@ fn are_using(es: &[Expr], x: usize) -> bool
     ensures { result ≡ any_uses (exprs_view es.now) x }
 {
     for e in es {
-        if uses(e, x) {
+        if uses_variable(e, x) {
             return true;
         }
     }
@@ -40,10 +42,10 @@ fn op_uses(op: &Op, x: usize) -> bool
     ensures { result ≡ act_uses (act_view op.now) x }
 {
     match op {
-        Op::Bind { e, .. } => uses(e, x),
+        Op::Bind { e, .. } => uses_variable(e, x),
         Op::CombRead { a, .. } => *a == x,
         Op::DelayedRead { a, .. } => *a == x,
-        Op::Write { e, .. } => uses(e, x),
+        Op::Write { e, .. } => uses_variable(e, x),
         Op::ReserveWrite { a, .. } => *a == x,
         Op::Block { a, .. } => *a == x,
         Op::Call(args) => are_using(args.as_slice(), x),

@@ -125,9 +125,9 @@ module _ {T : Type 0} (l : Members T) (a : Circuit) (p : Pipe) (xs : List (Optio
       at None e = omega arith
       at (Some x) e = regs_end (l.stands x.lock x.regs) (l.kind x.lock) (l.size x.lock) (l.tickets x.lock) a x.regs (lawful.laws m x low e)
 
-  -- registers behind those of the locks take next what they took before the steps
-  pub nexts_behind : (b c : Circuit) (k : ℕ) → ExtendsLocks xs (length p.mems) b c → HasReg b k → length a.regs ≤ k → next_signal c k ≡ next_signal b k
-  nexts_behind b c k x h low = x.nexts k h (λ m u. let d = locks_end m u in inr (omega (arith, d, low)))
+  -- registers after those of the locks take next what they took before the steps
+  pub nexts_after : (b c : Circuit) (k : ℕ) → ExtendsLocks xs (length p.mems) b c → HasReg b k → length a.regs ≤ k → next_signal c k ≡ next_signal b k
+  nexts_after b c k x h low = x.nexts k h (λ m u. let d = locks_end m u in inr (omega (arith, d, low)))
 
   -- nothing writes the array of a memory without lock
   pub plain_unwritten : (b c : Circuit) (m : ℕ) → Keeps a b → ExtendsLocks xs (length p.mems) b c → write_signals b m ≡ [] → m < length p.mems → is_locked p m ≡ false → write_signals c m ≡ []
@@ -147,9 +147,9 @@ module _ {T : Type 0} (l : Members T) (a : Circuit) (p : Pipe) (xs : List (Optio
           ] in
           subst P (sym array) differ
 
-  -- a lock stays as it is while only registers behind those of the locks change
-  pub own_behind : (m : ℕ) (b c : Circuit) (o : Own) → m < length p.mems → Keeps a b → ExtendsBut o b c → length a.regs ≤ o.from → o.last ≤ o.first → OwnKept (own_of (some_at xs m)) b c
-  own_behind m b c o low k x from none = at (some_at xs m) refl
+  -- a lock stays as it is while only registers after those of the locks change
+  pub own_after : (m : ℕ) (b c : Circuit) (o : Own) → m < length p.mems → Keeps a b → ExtendsBut o b c → length a.regs ≤ o.from → o.last ≤ o.first → OwnKept (own_of (some_at xs m)) b c
+  own_after m b c o low k x from none = at (some_at xs m) refl
     where
       at : (y : Option (MemLock T)) → some_at xs m ≡ y → OwnKept (own_of y) b c
       at None e = record {

@@ -16,7 +16,7 @@ use Rattle.pdl_flatnets.specs.Nets.{signal_at}
 use Rattle.pdl_flatnets.proofs.NetLists.{there_keeps, signals_keep}
 use Rattle.pdl_pipe_law.specs.Walk.{zero_bit}
 use Rattle.pdl_pipe_law.specs.Views.{View, no_gates}
-use Rattle.pdl_pipe_law.specs.Ports.{all_reserves, all_puts, released, step_of}
+use Rattle.pdl_pipe_law.specs.Ports.{all_reserves, all_puts, release_signal, step_of}
 use Rattle.pdl_stagenets.specs.declared.locks.MemLock.{MemLock}
 use Rattle.pdl_stagenets.specs.Parts.{Each, Parts, walk_of}
 use Rattle.pdl_stagenets.specs.Locked.{Members, some_at, of_lock, locks_in, IsLockIn, AreLocked, AreTickets}
@@ -135,7 +135,7 @@ step_by n m vs fs t =
     record {
       reserves = all_reserves m (λ k. slice_index_or vs k (view_with (λ m. no_signal) (walk_of no_parts))) (λ k. signal_at fs k) n 0;
       writes = all_puts m (λ k. slice_index_or vs k (view_with (λ m. no_signal) (walk_of no_parts))) (λ k. signal_at fs k) n 0;
-      release = released m (λ k. slice_index_or vs k (view_with (λ m. no_signal) (walk_of no_parts))) (λ k. signal_at fs k) n 0;
+      release = release_signal m (λ k. slice_index_or vs k (view_with (λ m. no_signal) (walk_of no_parts))) (λ k. signal_at fs k) n 0;
       squash = zero_bit;
       tail = t;
     }

@@ -1,4 +1,4 @@
--- Ports of a lock, one behind another, while the circuit grows.
+-- Ports of a lock, one after another, while the circuit grows.
 use Rattle.std.proofs.Common.{◌≡◌, ℕ, zero, suc, ◌+◌, ◌<◌, ◌≤◌, ◌==◌, Bool, true, false, List, [], ◌∷◌, ◌++◌, map, length, drop, get_or, refl, sym, ap, ap₂, ◌∙◌, arith, append-nil, append_assoc}
 use Rattle.std.specs.Prelude.{if◌then◌else◌}
 use Rattle.std.proofs.lemmas.List.{map-append, drop_more, drop_all}
@@ -11,7 +11,7 @@ use Rattle.pdl_net.proofs.Keeps.{extends_keeps}
 use Rattle.pdl_lockapi.specs.declared.Kind.TheVariants.{W}
 use Rattle.pdl_lockapi.specs.declared.ReservePort.{ReservePort}
 use Rattle.pdl_lockapi.specs.declared.TicketWrite.{TicketWrite}
-use Rattle.pdl_lockapi.specs.Laws.{ReserveSignal, TicketSignal, enabled, reserve_signal, ticket_signal}
+use Rattle.pdl_lockapi.specs.Laws.{ReserveSignal, TicketSignal, enabled_reserve, reserve_signal, ticket_signal}
 use Rattle.pdl_pipe_law.specs.Walk.{Reservation, Put, both}
 use Rattle.pdl_pipe_law.specs.Ports.{reserves_to, puts_to}
 use Rattle.pdl_stagenets.specs.declared.nets.ReserveNet.{ReserveNet}
@@ -28,7 +28,7 @@ module _ (a b : Circuit) (k : Keeps a b) where
   reserve_kept q t = record { kind = t.kind; enable = k.there q.enable t.enable; addr = k.there q.addr t.addr }
 
   reserve_same : (q : ReservePort) → IsThereReserve a q → reserve_signal b q ≡ reserve_signal a q
-  reserve_same q t = ap₂ (λ f g. record { enable = enabled q.kind f; addr = g }) (k.kept q.enable t.enable) (k.kept q.addr t.addr)
+  reserve_same q t = ap₂ (λ f g. record { enable = enabled_reserve q.kind f; addr = g }) (k.kept q.enable t.enable) (k.kept q.addr t.addr)
 
   pub reserves_kept : (ps : List ReservePort) → Each (IsThereReserve a) ps → Each (IsThereReserve b) ps
   reserves_kept ps t = each_map (IsThereReserve a) (IsThereReserve b) reserve_kept ps t
@@ -99,7 +99,7 @@ adds_one a b ps x y f g e t m h q =
           ∙ ap₂ (λ (fs gs : List ReserveSignal). fs ++ gs) (reserves_same a b k ps t) (ap₂ (λ u v. record { enable = u; addr = v } ∷ []) m.same (e.kept y h ∙ q));
     }
 
--- one behind another
+-- one after another
 pub reserves_split : (m : ℕ) (f : Signal) (r : Reservation) (rs : List Reservation) → reserves_to m f (r ∷ rs) ≡ reserves_to m f (r ∷ []) ++ reserves_to m f rs
 reserves_split m f r rs = at (r.mem == m)
   where

@@ -13,7 +13,7 @@ use Rattle.pdl_flatnets.specs.Nets.{signal_at}
 use Rattle.pdl_flatnets.proofs.NetLists.{there_keeps, there_at, signal_of, signals_keep}
 use Rattle.pdl_pipe_law.specs.Walk.{Put, Letting}
 use Rattle.pdl_pipe_law.specs.Views.{View}
-use Rattle.pdl_pipe_law.specs.Ports.{reserves_to, all_reserves, puts_to, all_puts, lets, released}
+use Rattle.pdl_pipe_law.specs.Ports.{reserves_to, all_reserves, puts_to, all_puts, release_moves, release_signal}
 use Rattle.pdl_stagenets.specs.Parts.{Each, reservation_in, put_in, walk_of}
 use Rattle.pdl_locknets.specs.declared.deeds.StageDeeds.{StageDeeds}
 use Rattle.pdl_locknets.specs.Deeds.{view_in, view_with, views_in, moves_in, no_parts}
@@ -129,12 +129,12 @@ same_puts m vs us f g (suc n) k h t r =
     let here : F (f k) ((vs k).tickets m) (vs k).ended.puts ≡ F (g k) ((us k).tickets m) (us k).ended.puts = cc (h k (omega arith), t k (omega arith), r k (omega arith)) in
     ap₂ (λ (xs ys : List TicketSignal). xs ++ ys) (same_puts m vs us f g n (suc k) (λ j l. h j (omega (arith, l))) (λ j l. t j (omega (arith, l))) (λ j l. r j (omega (arith, l)))) here
 
-pub same_released : (m : ℕ) (vs us : ℕ → View) (f g : ℕ → Signal) (n k : ℕ) → ((j : ℕ) → j < k + n → f j ≡ g j) → ((j : ℕ) → j < k + n → (vs j).ended.lettings ≡ (us j).ended.lettings) → released m vs f n k ≡ released m us g n k
+pub same_released : (m : ℕ) (vs us : ℕ → View) (f g : ℕ → Signal) (n k : ℕ) → ((j : ℕ) → j < k + n → f j ≡ g j) → ((j : ℕ) → j < k + n → (vs j).ended.lettings ≡ (us j).ended.lettings) → release_signal m vs f n k ≡ release_signal m us g n k
 same_released m vs us f g zero k h r = refl
 same_released m vs us f g (suc n) k h r =
-    let F = λ (x : Signal) (ys : List Letting) (z : Signal). lets m x ys z in
+    let F = λ (x : Signal) (ys : List Letting) (z : Signal). release_moves m x ys z in
     let rest = same_released m vs us f g n (suc k) (λ j l. h j (omega (arith, l))) (λ j l. r j (omega (arith, l))) in
-    let here : F (f k) (vs k).ended.lettings (released m vs f n (suc k)) ≡ F (g k) (us k).ended.lettings (released m us g n (suc k)) = cc (h k (omega arith), r k (omega arith), rest) in
+    let here : F (f k) (vs k).ended.lettings (release_signal m vs f n (suc k)) ≡ F (g k) (us k).ended.lettings (release_signal m us g n (suc k)) = cc (h k (omega arith), r k (omega arith), rest) in
     here
 
 module _ (a b : Circuit) (k : Keeps a b) (m : ℕ) where
@@ -161,5 +161,5 @@ module _ (a b : Circuit) (k : Keeps a b) (m : ℕ) where
   pub all_puts_kept : (ds : List StageDeeds) (n : ℕ) → Each (IsGiven a m) ds → all_puts m (views_in b ds) (moves_in b ds) n 0 ≡ all_puts m (views_in a ds) (moves_in a ds) n 0
   all_puts_kept ds n g = same_puts m (views_in b ds) (views_in a ds) (moves_in b ds) (moves_in a ds) n 0 (λ j l. kept_moves ds j g) (λ j l. kept_tickets ds j g) (λ j l. kept_puts ds j g)
 
-  pub released_kept : (ds : List StageDeeds) (n : ℕ) → Each (IsGiven a m) ds → released m (views_in b ds) (moves_in b ds) n 0 ≡ released m (views_in a ds) (moves_in a ds) n 0
+  pub released_kept : (ds : List StageDeeds) (n : ℕ) → Each (IsGiven a m) ds → release_signal m (views_in b ds) (moves_in b ds) n 0 ≡ release_signal m (views_in a ds) (moves_in a ds) n 0
   released_kept ds n g = same_released m (views_in b ds) (views_in a ds) (moves_in b ds) (moves_in a ds) n 0 (λ j l. kept_moves ds j g) (λ j l. kept_lettings ds j g)

@@ -10,7 +10,7 @@ use Rattle.pdl_lockapi.specs.declared.Kind.TheVariants.{W}
 use Rattle.pdl_lockapi.specs.declared.ReservePort.{ReservePort}
 use Rattle.pdl_lockapi.specs.declared.TicketWrite.{TicketWrite}
 use Rattle.pdl_lockapi.specs.declared.LockPorts.{LockPorts}
-use Rattle.pdl_lockapi.specs.Laws.{ReserveSignal, TicketSignal, StepSignals, HasNoPorts, PortsThere, PortsFit, step_signals, enabled, reserve_signal, ticket_signal}
+use Rattle.pdl_lockapi.specs.Laws.{ReserveSignal, TicketSignal, StepSignals, HasNoPorts, PortsThere, PortsFit, step_signals, enabled_reserve, reserve_signal, ticket_signal}
 use Rattle.pdl_stagenets.specs.Parts.{Each}
 use Rattle.pdl_locknets.specs.Ports.{IsThereReserve, IsThereWrite, ArePorts, SignalsFit}
 use Rattle.pdl_locknets.proofs.PortStages.{each_at}
@@ -48,7 +48,7 @@ WriteFits width tickets x = (x.enable.width ≡ 1) × (x.ticket.width ≡ ticket
 
 pub ports_fit : (c : Circuit) (bits width tickets : ℕ) (p : LockPorts) (f : StepSignals) → ArePorts c p f → SignalsFit bits width tickets f → PortsFit c bits width tickets p
 ports_fit c bits width tickets p f h w = record {
-  ask_one = λ k q l e. ap (λ (u : Kind). (enabled u (signal c q.enable)).width) (sym (kind k q l e)) ∙ (reserve k q l e).0;
+  ask_one = λ k q l e. ap (λ (u : Kind). (enabled_reserve u (signal c q.enable)).width) (sym (kind k q l e)) ∙ (reserve k q l e).0;
   addr_width = λ k q l e. (reserve k q l e).1;
   one = λ k q l e. (write k q l e).0;
   ticket_width = λ k q l e. (write k q l e).1;

@@ -44,7 +44,7 @@ fn plain(b: &mut Builder, m: &Mem) -> Result<(), NoMemory>
 }
 
 // The registers of a memory's lock, and its array.
-fn locked<L: LockModule + Copy>(
+fn lock_registers<L: LockModule + Copy>(
     alloc: Global,
     b: &mut Builder,
     m: &Mem,
@@ -86,7 +86,7 @@ fn memory<L: LockModule + Copy>(
             Ok(None)
         }
         Some(l) => {
-            let made = locked(alloc, b, m, l)?;
+            let made = lock_registers(alloc, b, m, l)?;
             Ok(Some(made))
         }
     }

@@ -2,7 +2,7 @@
 use pdl_net::Net;
 use pdl_stagenets::WalkNets;
 
-/// A stage behind its statements: whether its thread moves, 1 bit, that thread's ticket of each memory's lock, and what it does.
+/// A stage after its statements: whether its thread moves, 1 bit, that thread's ticket of each memory's lock, and what it does.
 #[derive(Clone, Copy)]
 pub struct StageDeeds<'a> {
     pub moves: Net,

@@ -8,4 +8,4 @@ pub mod steps;
 
 pub use arrays::{info, memories};
 pub use deeds::StageDeeds;
-pub use steps::step;
+pub use steps::{Round, step};

@@ -3,7 +3,7 @@ ghost use Rattle.std.specs.Prelude.{◌≡◌, ◌<◌, ◌∷◌, [], IfOk, OnO
 ghost use Rattle.pdl_net.specs.Meaning.{IsThere, Means, signal};
 ghost use Rattle.pdl_net.specs.Growth.{Extends};
 ghost use Rattle.pdl_flatnets.specs.Conditions.{AreBits};
-ghost use Rattle.pdl_pipe_law.specs.Ports.{reserves_to, all_reserves, puts_to, all_puts, lets, released};
+ghost use Rattle.pdl_pipe_law.specs.Ports.{reserves_to, all_reserves, puts_to, all_puts, release_moves, release_signal};
 ghost use Rattle.pdl_stagenets.specs.Parts.{Each, reservation_in, put_in, letting_in};
 ghost use Rattle.pdl_locknets.specs.Deeds.{views_in, moves_in};
 ghost use Rattle.pdl_locknets.specs.Ports.{IsGivenReserve, IsGivenPut, IsGivenLetting, IsGiven, IsThereReserve, IsThereWrite, AreReserves, AreWrites, AddsReserves, AddsWrites, ArePorts, signals_of};
@@ -217,7 +217,7 @@ fn write_ports<'d>(
     Ok(ports)
 }
 
-// Whether a thread moves that releases the memory, or what is said of the releases behind this one.
+// Whether a thread moves that releases the memory, or what is said of the releases after this one.
 fn release_or(
     b: &mut Builder,
     bits: Bits,
@@ -233,7 +233,7 @@ fn release_or(
     requires rest { IsThere b.old rest }
     requires rest_one { (signal b.old rest).width ≡ 1 }
     ensures means { IfOk result (λ y.
-        Means b.new y (lets m (signal b.old moves) (letting_in b.old x.now ∷ [])
+        Means b.new y (release_moves m (signal b.old moves) (letting_in b.old x.now ∷ [])
         (signal b.old rest))) }
     ensures extends { Extends b.old b.new }
 {
@@ -241,10 +241,10 @@ fn release_or(
         return Ok(rest);
     }
     let on = bits.both(b, moves, x.on)?;
-    bits.pick(b, on, bits.one, rest)
+    b.mux(on, bits.one, rest)
 }
 
-// The releases of a stage, before what is said of the stages behind it.
+// The releases of a stage, before what is said of the stages after it.
 fn releases_or(
     b: &mut Builder,
     bits: Bits,
@@ -260,7 +260,7 @@ fn releases_or(
     requires rest { IsThere b.old rest }
     requires rest_one { (signal b.old rest).width ≡ 1 }
     ensures means { IfOk result (λ y.
-        Means b.new y (lets m (signal b.old moves) (map (letting_in b.old) lettings.now)
+        Means b.new y (release_moves m (signal b.old moves) (map (letting_in b.old) lettings.now)
         (signal b.old rest))) }
     ensures extends { Extends b.old b.new }
 {
@@ -283,7 +283,7 @@ fn release<'d>(
     requires bits { AreBits b.old bits }
     requires given { Each (IsGiven b.old m) deeds.now }
     ensures means { IfOk result (λ x.
-        Means b.new x (released m (views_in b.old deeds.now) (moves_in b.old deeds.now)
+        Means b.new x (release_signal m (views_in b.old deeds.now) (moves_in b.old deeds.now)
         (length deeds.now) 0)) }
     ensures extends { Extends b.old b.new }
 {

@@ -8,9 +8,9 @@ ghost use Rattle.pdl_net.specs.Growth.{ExtendsBut};
 ghost use Rattle.pdl_lockapi.specs.Laws.{own, HasCommitNets, StepLaw};
 ghost use Rattle.pdl_flatnets.specs.Conditions.{AreBits};
 ghost use Rattle.pdl_stagenets.specs.Parts.{Each};
-ghost use Rattle.pdl_stagenets.specs.Locked.{members, some_at, AreLocked};
+ghost use Rattle.pdl_stagenets.specs.Locked.{members, some_at};
 ghost use Rattle.pdl_locknets.specs.Lawful.{AreLawful, AreUnwritten};
-ghost use Rattle.pdl_locknets.specs.Deeds.{steps_in, AreDeeds};
+ghost use Rattle.pdl_locknets.specs.Round.{HasRoundLocks, HasRoundDeeds, round_steps};
 ghost use Rattle.pdl_locknets.specs.Ports.{IsGiven, SignalsFit, signals_of};
 ghost use Rattle.pdl_locknets.specs.Stepped.{own_of, IsSteppedMemory, AreStepped, ExtendsLocks};
 
@@ -23,6 +23,15 @@ use pdl_kit::NoMemory;
 use pdl_lockapi::{LockModule, LockNets};
 use pdl_stagenets::MemLock;
 use std::alloc::Global;
+
+/// What the steps of the locks go round: the pipe, the constant bits, the locks of the memories, and what the stages do to them.
+#[derive(Drop)]
+pub struct Round<'a, 'd, L> {
+    pub pipe: &'a FlatPipe,
+    pub bits: Bits,
+    pub locks: &'a [Option<MemLock<L>>],
+    pub deeds: &'a [StageDeeds<'d>],
+}
 
 // The step of a memory's lock.
 fn lock_step<'d, L: LockModule>(
@@ -64,31 +73,27 @@ fn lock_at<L>(locks: &[Option<MemLock<L>>], m: usize) -> &Option<MemLock<L>>
 }
 
 // The step of a memory's lock, where it has one.
-fn memory_step<'d, L: LockModule>(
+fn memory_step<L: LockModule>(
     alloc: Global,
     b: &mut Builder,
-    _pipe: &FlatPipe,
-    bits: Bits,
-    locks: &[Option<MemLock<L>>],
-    deeds: &[StageDeeds<'d>],
+    round: &Round<'_, '_, L>,
     m: usize,
 ) -> Result<Option<LockNets>, NoMemory>
-    requires low { m < length (form _pipe.now).pipe.mems }
-    requires bits { AreBits b.old bits }
-    requires locked { AreLocked (members L.LockModule) b.old (form _pipe.now).pipe locks.now }
+    requires low { m < length (form round.now.pipe.now).pipe.mems }
+    requires bits { AreBits b.old round.now.bits }
+    requires locked { HasRoundLocks (members L.LockModule) b.old round.now }
     requires unwritten { write_signals b.old m ≡ [] }
-    requires deeds { AreDeeds (members L.LockModule) b.old (form _pipe.now).pipe
-        (form _pipe.now).widths locks.now deeds.now }
+    requires deeds { HasRoundDeeds (members L.LockModule) b.old round.now }
     ensures stepped { IfOk result (λ n.
-        IsSteppedMemory (members L.LockModule) b.new (mem_at (form _pipe.now).pipe m)
-        (steps_in (members L.LockModule) b.old (form _pipe.now).pipe locks.now deeds.now m)
-        (some_at locks.now m) n) }
-    ensures extends { OnOk result (ExtendsBut (own_of (some_at locks.now m)) b.old b.new) }
+        IsSteppedMemory (members L.LockModule) b.new (mem_at (form round.now.pipe.now).pipe m)
+        (round_steps (members L.LockModule) b.old round.now m) (some_at round.now.locks.now m) n) }
+    ensures extends { OnOk result (ExtendsBut
+        (own_of (some_at round.now.locks.now m)) b.old b.new) }
 {
-    match lock_at(locks, m) {
+    match lock_at(round.locks, m) {
         None => Ok(None),
         Some(x) => {
-            let nets = lock_step(alloc, b, bits, x, deeds, m)?;
+            let nets = lock_step(alloc, b, round.bits, x, round.deeds, m)?;
             Ok(Some(nets))
         }
     }
@@ -96,31 +101,28 @@ fn memory_step<'d, L: LockModule>(
 
 /// The steps of the locks of all memories, in declared order: the nets of what each memory with a lock commits.
 ///
-/// `deeds` has one for each stage, in order; no array was written before.
-pub fn step<'d, L: LockModule>(
+/// The deeds have one for each stage, in order; no array was written before.
+pub fn step<L: LockModule>(
     alloc: Global,
     b: &mut Builder,
-    pipe: &FlatPipe,
-    bits: Bits,
-    locks: &[Option<MemLock<L>>],
-    deeds: &[StageDeeds<'d>],
+    round: &Round<'_, '_, L>,
 ) -> Result<Vec<Option<LockNets>>, NoMemory>
-    requires bits { AreBits b.old bits }
-    requires locked { AreLocked (members L.LockModule) b.old (form pipe.now).pipe locks.now }
-    requires lawful { AreLawful (members L.LockModule) b.old (form pipe.now).pipe locks.now }
-    requires unwritten { AreUnwritten b.old (length (form pipe.now).pipe.mems) }
-    requires deeds { AreDeeds (members L.LockModule) b.old (form pipe.now).pipe
-        (form pipe.now).widths locks.now deeds.now }
+    requires bits { AreBits b.old round.now.bits }
+    requires locked { HasRoundLocks (members L.LockModule) b.old round.now }
+    requires lawful { AreLawful (members L.LockModule) b.old
+        (form round.now.pipe.now).pipe round.now.locks.now }
+    requires unwritten { AreUnwritten b.old (length (form round.now.pipe.now).pipe.mems) }
+    requires deeds { HasRoundDeeds (members L.LockModule) b.old round.now }
     ensures stepped { IfOk result (λ ns.
-        AreStepped (members L.LockModule) b.new (form pipe.now).pipe
-        (steps_in (members L.LockModule) b.old (form pipe.now).pipe locks.now deeds.now) locks.now
-        ns.items (length (form pipe.now).pipe.mems)) }
-    ensures extends { OnOk result (ExtendsLocks locks.now
-        (length (form pipe.now).pipe.mems) b.old b.new) }
+        AreStepped (members L.LockModule) b.new (form round.now.pipe.now).pipe
+        (round_steps (members L.LockModule) b.old round.now) round.now.locks.now ns.items
+        (length (form round.now.pipe.now).pipe.mems)) }
+    ensures extends { OnOk result (ExtendsLocks round.now.locks.now
+        (length (form round.now.pipe.now).pipe.mems) b.old b.new) }
 {
     let mut nets = Vec::new(alloc);
-    for m in 0..pipe.mems().len() {
-        let net = memory_step(alloc, b, pipe, bits, locks, deeds, m)?;
+    for m in 0..round.pipe.mems().len() {
+        let net = memory_step(alloc, b, round, m)?;
         nets.push(net)?;
     }
     Ok(nets)

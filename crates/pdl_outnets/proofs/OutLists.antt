@@ -10,7 +10,7 @@ use Rattle.pdl_net.specs.Signal.{Signal}
 use Rattle.pdl_net.specs.Meaning.{signal, IsThere}
 use Rattle.pdl_lockapi.specs.declared.LockNets.{LockNets}
 use Rattle.pdl_pipe_law.specs.Views.{View, Gates}
-use Rattle.pdl_pipe_law.specs.Ports.{Shown, Commit, shows, stages_shown, commit_shown, commits_shown, all_shown}
+use Rattle.pdl_pipe_law.specs.Ports.{Shown, Commit, shown_signal, stages_shown, commit_shown, commits_shown, all_shown}
 use Rattle.pdl_pipe_law.specs.Compiled.{shown_in}
 use Rattle.pdl_outnets.specs.declared.outputs.StageNets.{StageNets}
 use Rattle.pdl_outnets.specs.declared.outputs.OutNet.{OutNet}
@@ -18,7 +18,7 @@ use Rattle.pdl_locknets.specs.Stepped.{commit_of, commits_in}
 use Rattle.pdl_outnets.specs.Told.{AreThereStages, IsThereCommit, AreCommits, valid_in, moves_in, AreOf, output_of, OutsThere, shown_by}
 use Rattle.pdl_outnets.specs.Listed.{out, stages_outs, commit_outs, commits_outs, last_moves, all_outs}
 
--- ---- one list behind another
+-- ---- one list after another
 
 pub outs_more : (c : Circuit) (os ps : List OutNet) → OutsThere c os → OutsThere c ps → OutsThere c (os ++ ps)
 outs_more c [] ps t h = h
@@ -38,8 +38,8 @@ stages_show : (c : Circuit) (k : ℕ) (ss : List StageNets) (vs : ℕ → View) 
 stages_show c k [] vs moves v m = refl
 stages_show c k (s ∷ ss) vs moves v m =
     let rest = stages_show c (suc k) ss vs moves (λ i j e l. v (suc i) j (omega (arith, e)) (omega (arith, l))) (λ i j e l. m (suc i) j (omega (arith, e)) (omega (arith, l))) in
-    ap₂ (λ f g. shows (codes "v_" ++ decimal k) f ∷ shows (codes "g_" ++ decimal k) g ∷ shown_by c (stages_outs (suc k) ss)) (sym (v 0 k (omega arith) (omega arith))) (sym (m 0 k (omega arith) (omega arith)))
-    ∙ ap (λ (fs : List Shown). shows (codes "v_" ++ decimal k) (vs k).valid ∷ shows (codes "g_" ++ decimal k) (moves k) ∷ fs) rest
+    ap₂ (λ f g. shown_signal (codes "v_" ++ decimal k) f ∷ shown_signal (codes "g_" ++ decimal k) g ∷ shown_by c (stages_outs (suc k) ss)) (sym (v 0 k (omega arith) (omega arith))) (sym (m 0 k (omega arith) (omega arith)))
+    ∙ ap (λ (fs : List Shown). shown_signal (codes "v_" ++ decimal k) (vs k).valid ∷ shown_signal (codes "g_" ++ decimal k) (moves k) ∷ fs) rest
 
 -- ---- what the memories commit
 
@@ -101,9 +101,9 @@ module _ (c : Circuit) (p : Pipe) (names : List (List ℕ)) (ss : List StageNets
   all_show vs gates moves name h =
       let n = length p.stages in
       let back = out (codes "ended") (last_moves ss squash) ∷ out (codes "squash") squash ∷ [] in
-      let ended = shows (codes "ended") (moves (n - 1)) ∷ shows (codes "squash") gates.squash ∷ [] in
+      let ended = shown_signal (codes "ended") (moves (n - 1)) ∷ shown_signal (codes "squash") gates.squash ∷ [] in
       let last : signal c (last_moves ss squash) ≡ moves (n - 1) = last_means c ss squash some ∙ sym (h.moves (length ss - 1) (omega (arith, some))) ∙ ap (λ k. moves (k - 1)) count in
-      let end : shown_by c back ≡ ended = ap₂ (λ f g. shows (codes "ended") f ∷ shows (codes "squash") g ∷ []) last (sym h.squash) in
+      let end : shown_by c back ≡ ended = ap₂ (λ f g. shown_signal (codes "ended") f ∷ shown_signal (codes "squash") g ∷ []) last (sym h.squash) in
       let front : shown_by c (stages_outs 0 ss) ≡ stages_shown vs moves n 0 =
       stages_show c 0 ss vs moves (λ i j e l. ap (λ k. (vs k).valid) (omega (arith, e)) ∙ h.valid i l) (λ i j e l. ap moves (omega (arith, e)) ∙ h.moves i l) ∙ ap (λ k. stages_shown vs moves k 0) count in
       let middle : shown_by c (commits_outs names ns) ≡ commits_shown name (commits_in c ns) 0 p.mems =

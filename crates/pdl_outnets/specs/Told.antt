@@ -33,6 +33,12 @@ pub record AreCommits (c : Circuit) (p : Pipe) (ns : List (Option LockNets)) : T
   pub locked : (m : ℕ) → m < length p.mems → is_some (slice_index_or ns m None) ≡ is_locked p m
   pub there : (m : ℕ) → m < length p.mems → IsThereCommit c (slice_index_or ns m None)
 
+-- all nets that are told are there
+pub record AreTold (c : Circuit) (p : Pipe) (ss : List StageNets) (ns : List (Option LockNets)) (removes : Net) : Type 0 where
+  pub stages : AreThereStages c ss
+  pub commits : AreCommits c p ns
+  pub squash : IsThere c removes
+
 -- ---- as the law of a netlist sees it
 
 abbrev pub valid_in : Circuit → List StageNets → ℕ → Signal

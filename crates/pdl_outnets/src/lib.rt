@@ -3,4 +3,4 @@
 
 pub mod outputs;
 
-pub use outputs::{OutNet, StageNets, show, shown};
+pub use outputs::{OutNet, StageNets, all_outputs, show};

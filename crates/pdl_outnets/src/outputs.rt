@@ -2,10 +2,10 @@
 ghost use Rattle.std.specs.Prelude.{◌≡◌, ◌<◌, ◌≤◌, ◌∷◌, ◌++◌, [], Some, IfOk, OnOk, map, length, slice_index_or, codes, decimal};
 ghost use Rattle.pdl_form.specs.Whole.{form};
 ghost use Rattle.pdl_form.specs.View.{mem_names};
-ghost use Rattle.pdl_net.specs.Meaning.{IsThere};
+ghost use Rattle.pdl_net.specs.Circuit.{Circuit};
 ghost use Rattle.pdl_net.specs.Growth.{ExtendsPorts};
 ghost use Rattle.pdl_pipe_law.specs.Compiled.{port_in};
-ghost use Rattle.pdl_outnets.specs.Told.{AreThereStages, AreCommits, output_of, OutsThere, ShowAll};
+ghost use Rattle.pdl_outnets.specs.Told.{AreTold, output_of, OutsThere, ShowAll};
 ghost use Rattle.pdl_outnets.specs.Listed.{stages_outs, commit_outs, commits_outs, last_moves, all_outs};
 
 use itoa::Buffer;
@@ -31,7 +31,7 @@ pub struct OutNet {
 }
 
 // A name with a prefix.
-fn prefixed(alloc: Global, prefix: &[u8], name: &Name) -> Result<Name, NoMemory>
+fn with_prefix(alloc: Global, prefix: &[u8], name: &Name) -> Result<Name, NoMemory>
     ensures { IfOk result (λ n. n ≡ prefix.now ++ name.now) }
 {
     let mut bytes = Vec::from_slice(alloc, prefix)?;
@@ -40,7 +40,7 @@ fn prefixed(alloc: Global, prefix: &[u8], name: &Name) -> Result<Name, NoMemory>
 }
 
 // A number in decimal with a prefix.
-fn numbered(alloc: Global, prefix: &[u8], k: usize) -> Result<Name, NoMemory>
+fn number_with_prefix(alloc: Global, prefix: &[u8], k: usize) -> Result<Name, NoMemory>
     ensures { IfOk result (λ n. n ≡ prefix.now ++ decimal k) }
 {
     let mut buffer = Buffer::new();
@@ -66,9 +66,9 @@ fn push_stage(
 ) -> Result<(), NoMemory>
     ensures { OnOk result (outs.new ≡ outs.old ++ stages_outs k (stage.now ∷ [])) }
 {
-    let name = numbered(alloc, b"v_", k)?;
+    let name = number_with_prefix(alloc, b"v_", k)?;
     push(outs, name, stage.valid)?;
-    let name = numbered(alloc, b"g_", k)?;
+    let name = number_with_prefix(alloc, b"g_", k)?;
     push(outs, name, stage.moves)
 }
 
@@ -91,11 +91,11 @@ fn push_commit(
 ) -> Result<(), NoMemory>
     ensures { OnOk result (outs.new ≡ outs.old ++ commit_outs name.now (Some nets)) }
 {
-    let commit = prefixed(alloc, b"c_", name)?;
+    let commit = with_prefix(alloc, b"c_", name)?;
     push(outs, commit, nets.commit)?;
-    let addr = prefixed(alloc, b"ca_", name)?;
+    let addr = with_prefix(alloc, b"ca_", name)?;
     push(outs, addr, nets.addr)?;
-    let value = prefixed(alloc, b"cd_", name)?;
+    let value = with_prefix(alloc, b"cd_", name)?;
     push(outs, value, nets.value)
 }
 
@@ -179,9 +179,8 @@ fn all(
 /// The outputs of a pipe: of each stage whether it holds a thread and whether that moves, of each memory with a lock what it commits, whether a thread ends, and whether one is squashed.
 ///
 /// `stages` has one for each stage and `nets` one for each memory, in order.
-pub fn shown(
+pub fn all_outputs(
     alloc: Global,
-    _b: &Builder,
     pipe: &FlatPipe,
     stages: &[StageNets],
     nets: &[Option<LockNets>],
@@ -189,11 +188,12 @@ pub fn shown(
 ) -> Result<Seq<OutNet>, NoMemory>
     requires some { 1 ≤ length stages.now }
     requires count { length stages.now ≡ length (form pipe.now).pipe.stages }
-    requires stages { AreThereStages _b.now stages.now }
-    requires commits { AreCommits _b.now (form pipe.now).pipe nets.now }
-    requires squash { IsThere _b.now squash }
-    ensures there { IfOk result (λ os. OutsThere _b.now os) }
-    ensures shown { IfOk result (ShowAll _b.now (form pipe.now) stages.now squash nets.now) }
+    requires mems { length nets.now ≡ length (form pipe.now).pipe.mems }
+    // In each circuit in which what is told is there, so are the outputs, and they show it.
+    ensures there { (c : Circuit) → AreTold c (form pipe.now).pipe stages.now nets.now squash →
+        IfOk result (λ os. OutsThere c os) }
+    ensures shown { (c : Circuit) → AreTold c (form pipe.now).pipe stages.now nets.now squash →
+        IfOk result (ShowAll c (form pipe.now) stages.now squash nets.now) }
 {
     all(alloc, pipe.mems(), stages, nets, squash)
 }

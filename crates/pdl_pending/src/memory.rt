@@ -132,8 +132,10 @@ impl Memory {
 
     /// Puts the values that a thread writes to this memory, which has the number m, into its pending writes.
     pub fn write(&mut self, m: usize, thread: u64, writes: &[Written])
-        ensures { self.new ≡ record self.old
-            { pending = cycle.put_all m thread (map written_view writes.now) self.old.pending } }
+        ensures { self.new ≡ record self.old {
+          pending = cycle.with_writes_of m thread (map written_view writes.now)
+              self.old.pending;
+        } }
     {
         fill(self.pending.as_mut_slice(), m, thread, writes);
     }

@@ -58,8 +58,9 @@ pub fn append(pending: &mut Vec<Pending>, m: usize, thread: u64, reserves: &[Res
 }
 
 // The entry, with the value where it is the thread's.
-fn filled(entry: Pending, thread: u64, value: u64) -> Pending
-    ensures { pending_view result ∷ [] ≡ cycle.put thread value (pending_view entry ∷ []) }
+fn with_value(entry: Pending, thread: u64, value: u64) -> Pending
+    ensures { pending_view result ∷ []
+        ≡ cycle.with_value_of thread value (pending_view entry ∷ []) }
 {
     if entry.thread == thread {
         Pending {
@@ -73,11 +74,12 @@ fn filled(entry: Pending, thread: u64, value: u64) -> Pending
 }
 
 // Puts a value into the entries of a thread.
-fn put(pending: &mut [Pending], thread: u64, value: u64)
-    ensures { map pending_view pending.new ≡ cycle.put thread value (map pending_view pending.old) }
+fn put_value(pending: &mut [Pending], thread: u64, value: u64)
+    ensures { map pending_view pending.new
+        ≡ cycle.with_value_of thread value (map pending_view pending.old) }
 {
     for i in 0..pending.len() {
-        let entry = filled(pending[i], thread, value);
+        let entry = with_value(pending[i], thread, value);
         pending[i] = entry;
     }
 }
@@ -85,18 +87,19 @@ fn put(pending: &mut [Pending], thread: u64, value: u64)
 // The same where the write is to memory m.
 fn fill_one(pending: &mut [Pending], m: usize, thread: u64, written: Written)
     ensures { map pending_view pending.new
-        ≡ (if written.mem == m then cycle.put thread written.value
+        ≡ (if written.mem == m then cycle.with_value_of thread written.value
         (map pending_view pending.old) else map pending_view pending.old) }
 {
     if written.mem == m {
-        put(pending, thread, written.value);
+        put_value(pending, thread, written.value);
     }
 }
 
 /// Puts the values that a thread writes to memory m into its entries.
 pub fn fill(pending: &mut [Pending], m: usize, thread: u64, writes: &[Written])
     ensures { map pending_view pending.new
-        ≡ cycle.put_all m thread (map written_view writes.now) (map pending_view pending.old) }
+        ≡ cycle.with_writes_of m thread (map written_view writes.now)
+        (map pending_view pending.old) }
 {
     for written in writes {
         fill_one(pending, m, thread, *written);

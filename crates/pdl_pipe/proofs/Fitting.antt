@@ -3,7 +3,7 @@ use Rattle.std.proofs.Common.{◌≡◌, refl, ap, ap₂, ◌∙◌, subst, ℕ,
 use Rattle.std.specs.Prelude.{Option, Some, None, slice_index_or}
 use Rattle.pdl_semantics.specs.Tree.{LockDecl, Mem}
 use Rattle.pdl_semantics.specs.Flat as flat
-use Rattle.pdl_semantics.specs.Flatten.{lock_of, mems_of}
+use Rattle.pdl_semantics.specs.Flatten.{flat_lock, mems_of}
 use Rattle.pdl_semantics.specs.Stages.{plain_mem}
 use Rattle.pdl_net.specs.Circuit.{Circuit, Shape}
 use Rattle.pdl_form.specs.Form.{names_of}
@@ -20,7 +20,7 @@ use Rattle.pdl_stageregs.specs.Moves.{AreMovesThere, moves_in}
 
 -- ---- memories
 
-same_words : (l : Option LockDecl) (d : ℕ) → words_in (lock_of l) d ≡ array_words l d
+same_words : (l : Option LockDecl) (d : ℕ) → words_in (flat_lock l) d ≡ array_words l d
 same_words None d = refl
 same_words (Some l) d = ap (λ x. words_in x d) (lock_is l) ∙ words_are l.kind l.size.value d
 

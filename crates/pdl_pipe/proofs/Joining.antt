@@ -1,4 +1,4 @@
--- Memories, stages and the steps of the locks, made one behind the other, are joined.
+-- Memories, stages and the steps of the locks, made one after the other, are joined.
 use Rattle.std.proofs.Common.{◌≡◌, sym, ap, ◌∙◌, subst, inr, List, [], ◌++◌, length, arith}
 use Rattle.std.specs.Prelude.{Option}
 use Rattle.pdl_form.specs.Form.{Form}
@@ -28,7 +28,7 @@ no_shapes : (c : Circuit) → c ≡ empty_circuit → shapes_of c ≡ []
 unfolding shapes_of
 no_shapes c e = ap shapes_of e
 
--- behind the memories, behind the bits, and behind the stages
+-- after the memories, after the bits, and after the stages
 module _ {T : Type 0} (l : Members T) (stays : Stays l) (f : Form) (xs : List (Option (MemLock T))) (a b c : Circuit)
     (locked : AreLocked l a f.pipe xs) (lawful : AreLawful l a f.pipe xs) (unwritten : AreUnwritten a (length f.pipe.mems)) (ab : Extends a b) (bc : ExtendsBut (regs_of (length b.regs) (length c.regs)) b c) where
   kept_ab : Keeps a b
@@ -52,7 +52,7 @@ module _ {T : Type 0} (l : Members T) (stays : Stays l) (f : Form) (xs : List (O
   pub unwritten_c : AreUnwritten c (length f.pipe.mems)
   unwritten_c m low = bc.writes m (locked_b.has_array m low) (inr (omega arith)) ∙ ab.writes m (locked.has_array m low) ∙ unwritten m low
 
-  -- the locks say of themselves behind the stages what they said before
+  -- the locks say of themselves after the stages what they said before
   pub line_c : (ss : List StageNets) (ms : List MoveNets) → IsLine c f (next_signals b xs) (locks_in l b xs) ss ms → IsLine c f (next_signals c xs) (locks_in l c xs) ss ms
   line_c ss ms h =
       subst (λ (ls : Locks). IsLine c f (next_signals c xs) ls ss ms) (sym (locks_same l b c kept_bc stays f.pipe xs locked_b))

@@ -6,10 +6,10 @@ use Rattle.std.proofs.Math.Bool.{or-false}
 use Rattle.pdl_kit.specs.declared.mem_info.MemInfo.{MemInfo}
 use Rattle.pdl_kit.specs.declared.rule.Rule.TheVariants.{Z7}
 use Rattle.pdl_semantics.specs.Tree.{LockDecl, Mem, Pipe}
-use Rattle.pdl_semantics.specs.Flatten.{lock_of, mems_of}
+use Rattle.pdl_semantics.specs.Flatten.{flat_lock, mems_of}
 use Rattle.pdl_rules.specs.Places.{Place, Parameter, Memory, End, StartClause, places, statements}
-use Rattle.pdl_rules.specs.Parts.{passes}
-use Rattle.pdl_rules.specs.Limits.{is_size, is_width, is_depth, allows, is_wrong_lock}
+use Rattle.pdl_rules.specs.Parts.{is_some_and}
+use Rattle.pdl_rules.specs.Limits.{is_size, is_width, is_depth, allows_lock, is_wrong_lock}
 use Rattle.pdl_rules.specs.Refusal.{KeepsRules, is_comb}
 use Rattle.pdl_lockapi.proofs.LockKinds.{lock_is}
 use Rattle.pdl_entries.specs.Slots.{IsSize}
@@ -50,10 +50,10 @@ size_of s h =
 
 -- MEMORIES
 
-lock_fits : (m : Mem) (l : Option LockDecl) → passes (is_wrong_lock m) l ≡ false → IsSizedLock (lock_of l) m.depth.value
+lock_fits : (m : Mem) (l : Option LockDecl) → is_some_and (is_wrong_lock m) l ≡ false → IsSizedLock (flat_lock l) m.depth.value
 lock_fits m None e = tt
 lock_fits m (Some l) e =
-    let parts = and_parts (is_size l.size.value) (allows m.depth.value m.delayed l.kind l.size.value) (not-false _ e) in
+    let parts = and_parts (is_size l.size.value) (allows_lock m.depth.value m.delayed l.kind l.size.value) (not-false _ e) in
     subst (λ x. IsSizedLock x m.depth.value) (sym (lock_is l)) (sized_allowed l.kind l.size.value m.depth.value m.delayed (size_of l.size.value parts.0) parts.1)
 
 all_fit : (p : Pipe) → KeepsRules p → (ms : List Mem) (before later : List Place) → places p ≡ before ++ (map Memory ms ++ later) → AreSizedLocks (mems_of ms)

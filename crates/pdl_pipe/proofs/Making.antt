@@ -29,7 +29,7 @@ use Rattle.pdl_locknets.specs.Suited.{shapes_in}
 use Rattle.pdl_locknets.specs.Stepped.{own_of, commit_of, commits_in}
 use Rattle.pdl_locknets.specs.Deeds.{AreOf}
 use Rattle.pdl_locknets.proofs.LocksKept.{Stays}
-use Rattle.pdl_locknets.proofs.Law.{has_lock, commit_fits, nexts_behind, plain_unwritten}
+use Rattle.pdl_locknets.proofs.Law.{has_lock, commit_fits, nexts_after, plain_unwritten}
 use Rattle.pdl_outnets.specs.declared.outputs.OutNet.{OutNet}
 use Rattle.pdl_outnets.specs.Told.{output_of, OutsThere, shown_by}
 use Rattle.pdl_pipe.specs.declared.netlist.Joined.{Joined}
@@ -100,7 +100,7 @@ module _ {T : Type 0} (l : Members T) (stays : Stays l) (f : Form) (x : Joined T
   from_stages : KeepsFrom (length a.regs) b d
   from_stages = record {
     keeps = kept_bd;
-    nexts = λ r has low. sh.ports.nexts r (kept_bc.has_reg r has) ∙ nexts_behind l a p x.locks.items j.locked j.lawful b c r j.steps.extends has low;
+    nexts = λ r has low. sh.ports.nexts r (kept_bc.has_reg r has) ∙ nexts_after l a p x.locks.items j.locked j.lawful b c r j.steps.extends has low;
   }
 
   -- ---- locks

@@ -5,7 +5,7 @@ use Rattle.std.proofs.lemmas.List.Sums.{sum_by-cons}
 use Rattle.pdl_semantics.specs.Tree as tree
 use Rattle.pdl_semantics.specs.Flat.{Pipe, Arrays, arrays_of}
 use Rattle.pdl_semantics.specs.Flatten.{flat}
-use Rattle.pdl_semantics.specs.Cycle.{PortWrite, Turn, turns, shown, commits}
+use Rattle.pdl_semantics.specs.Cycle.{PortWrite, Turn, turns, commit_shown, commits}
 use Rattle.pdl_semantics.specs.Cycle as stated
 use Rattle.pdl_semantics.specs.Lines.{Cycle, put_of, puts_in, turn_cycle, turn_cycles}
 use Rattle.pdl_semantics.specs.Promises.{Refines}
@@ -13,11 +13,11 @@ use Rattle.pdl_net.specs.declared.Netlist.{Netlist}
 use Rattle.pdl_pipe_law.specs.Runs.{ShowsTurns}
 use Rattle.pdl_pipe.specs.Refined.{writes_to, commits_in, ended_in, no_replies, AreSequential, RefinesThreads}
 
-one_write : (m : ℕ) (o : Option PortWrite) → writes_to m (put_of o) ≡ shown m o
+one_write : (m : ℕ) (o : Option PortWrite) → writes_to m (put_of o) ≡ commit_shown m o
 one_write m None = refl
 one_write m (Some w) = refl
 
-puts_at : (m : ℕ) (es : List (Option PortWrite)) (k : ℕ) → writes_to m (slice_index_or (puts_in es) k []) ≡ shown m (slice_index_or es k None)
+puts_at : (m : ℕ) (es : List (Option PortWrite)) (k : ℕ) → writes_to m (slice_index_or (puts_in es) k []) ≡ commit_shown m (slice_index_or es k None)
 puts_at m [] k = refl
 puts_at m (e ∷ es) zero = one_write m e
 puts_at m (e ∷ es) (suc k) = puts_at m es k

@@ -5,7 +5,7 @@ use Rattle.std.specs.List.{list_all}
 use Rattle.std.proofs.lemmas.Bool.{false≢true, and_parts}
 use Rattle.pdl_semantics.specs.Tree.{R, W, Kind, Expr, Constant, Variable, Slice, Not, Binary, Cat, LessSigned, ZeroExtend, SignExtend, Choose, Stmt, Separator, CombRead, Bind, SpecCall, DelayedRead, Write, Reserve, Block, Release, If, Call, Verify, SpecCheck, SpecBarrier, Stmts, Nil, Cons, Mem, Pipe}
 use Rattle.pdl_semantics.specs.Flat
-use Rattle.pdl_semantics.specs.Flatten.{Place, flat, flat_stmt, flat_stmts, binds_guard, reserves, under, past, with_guard, at_otherwise, at_start}
+use Rattle.pdl_semantics.specs.Flatten.{Position, flat, flat_stmt, flat_stmts, binds_guard, reserve_op, under, past, with_guard, at_otherwise, at_start}
 use Rattle.pdl_rules.specs.Refusal.{is_comb}
 use Rattle.pdl_check.specs.Compiled.{is_compiled, are_compiled, can_compile}
 use Rattle.pdl_form.specs.Form.{Form}
@@ -20,7 +20,7 @@ walk_more : (xs ys : List Flat.Stmt) → Each Walks xs → Each Walks ys → Eac
 walk_more [] ys h k = k
 walk_more (x ∷ xs) ys h k = (h.0, walk_more xs ys h.1 k)
 
-guard_walks : (gs : List Flat.Guard) (w : Place) (c : Expr) → Each Walks (binds_guard gs w c)
+guard_walks : (gs : List Flat.Guard) (w : Position) (c : Expr) → Each Walks (binds_guard gs w c)
 guard_walks gs w (Variable x) = tt
 guard_walks gs w (Constant l) = (refl, tt)
 guard_walks gs w (Slice x h l) = (refl, tt)
@@ -32,12 +32,12 @@ guard_walks gs w (ZeroExtend a n) = (refl, tt)
 guard_walks gs w (SignExtend a n) = (refl, tt)
 guard_walks gs w (Choose c a b) = (refl, tt)
 
-reserve_walks : (k : Kind) (m a : ℕ) → is_walked (reserves k m a) ≡ true
+reserve_walks : (k : Kind) (m a : ℕ) → is_walked (reserve_op k m a) ≡ true
 reserve_walks R m a = refl
 reserve_walks W m a = refl
 
 mutual
-  stmt_walks : (ms : List Mem) (gs : List Flat.Guard) (inside : Bool) (s : Stmt) (w : Place) → is_compiled inside s ≡ true → Each Walks (flat_stmt ms gs s w)
+  stmt_walks : (ms : List Mem) (gs : List Flat.Guard) (inside : Bool) (s : Stmt) (w : Position) → is_compiled inside s ≡ true → Each Walks (flat_stmt ms gs s w)
   stmt_walks ms gs inside (Separator _) w h = tt
   stmt_walks ms gs inside (CombRead _ x from) w h = (refl, tt)
   stmt_walks ms gs inside (Bind _ x e) w h = (refl, tt)
@@ -57,7 +57,7 @@ mutual
   stmt_walks ms gs inside (SpecCheck _) w h = absurd (false≢true h)
   stmt_walks ms gs inside (SpecBarrier _) w h = absurd (false≢true h)
 
-  stmts_walk : (ms : List Mem) (gs : List Flat.Guard) (inside : Bool) (ss : Stmts) (w : Place) → are_compiled inside ss ≡ true → Each Walks (flat_stmts ms gs ss w)
+  stmts_walk : (ms : List Mem) (gs : List Flat.Guard) (inside : Bool) (ss : Stmts) (w : Position) → are_compiled inside ss ≡ true → Each Walks (flat_stmts ms gs ss w)
   stmts_walk ms gs inside Nil w h = tt
   stmts_walk ms gs inside (Cons s ss) w h =
       let parts = and_parts (is_compiled inside s) (are_compiled inside ss) h in

@@ -1,4 +1,4 @@
--- Memories, stages and the steps of the locks in one circuit, and the outputs behind them.
+-- Memories, stages and the steps of the locks in one circuit, and the outputs after them.
 use Rattle.std.specs.Prelude.{◌≡◌, ℕ, List, [], ◌∷◌, map, length, Option}
 use Rattle.pdl_semantics.specs.Flat.{Pipe}
 use Rattle.pdl_form.specs.Form.{Form}
@@ -45,7 +45,7 @@ pub record CanJoin (f : Form) : Type 0 where
 
 -- ---- what the locks and the outputs are told of the stages
 
--- whether a stage's thread moves, its tickets, and its nets behind its statements
+-- whether a stage's thread moves, its tickets, and its nets after its statements
 pub record Deed : Type 0 where
   pub moves : Net
   pub tickets : List Net
@@ -71,7 +71,7 @@ pub record HasSteps {T : Type 0} (l : Members T) (b c : Circuit) (p : Pipe) (xs 
   pub told : map deed_of deeds ≡ deeds_of y.stages.items y.moves.items
   pub stepped : AreStepped l c p (steps_in l b p xs deeds) xs ns (length p.mems)
 
--- behind the memories, behind the stages, and the whole
+-- after the memories, after the stages, and the whole
 pub record IsJoined {T : Type 0} (l : Members T) (c : Circuit) (f : Form) (x : Joined T) : Type 0 where
   pub first : Circuit
   pub second : Circuit

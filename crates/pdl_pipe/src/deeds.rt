@@ -9,7 +9,7 @@ use pdl_outnets::StageNets as ShownNets;
 use pdl_stageregs::{MoveNets, StageNets};
 use std::alloc::Global;
 
-/// Each stage behind its statements, with whether its thread moves.
+/// Each stage after its statements, with whether its thread moves.
 pub fn deeds<'a>(
     alloc: Global,
     stages: &'a [StageNets],
@@ -30,7 +30,7 @@ pub fn deeds<'a>(
 }
 
 /// Of each stage whether it holds a thread, and whether that moves.
-pub fn shown(
+pub fn stage_ports(
     alloc: Global,
     stages: &[StageNets],
     moves: &[MoveNets],

@@ -17,7 +17,7 @@ ghost use Rattle.pdl_pipe.specs.Joined.{CanJoin, HasSteps, IsJoined, IsShown};
 ghost use Rattle.pdl_pipe.specs.Finished.{IsFinished};
 ghost use Rattle.pdl_pipe.specs.Refined.{RefinesThreads};
 
-use crate::deeds::{deeds, shown};
+use crate::deeds::{deeds, stage_ports};
 use pdl_build::Builder;
 use pdl_check::Accepted;
 use pdl_flatnets::Bits;
@@ -25,7 +25,7 @@ use pdl_form::FlatPipe;
 use pdl_kit::{MemInfo, NoMemory, Seq};
 use pdl_lockapi::{LockModule, LockNets};
 use pdl_lockkinds::locks_of;
-use pdl_locknets::{memories, step};
+use pdl_locknets::{Round, memories, step};
 use pdl_net::Netlist;
 use pdl_outnets::show;
 use pdl_stagenets::MemLock;
@@ -85,7 +85,13 @@ fn steps<L: LockModule>(
         (form pipe.now).pipe locks.now line.now ns.items) }
 {
     let deeds = deeds(alloc, line.stages.as_slice(), line.moves.as_slice())?;
-    let nets = step(alloc, b, pipe, bits, locks, deeds.as_slice())?;
+    let round = Round {
+        pipe,
+        bits,
+        locks,
+        deeds: deeds.as_slice(),
+    };
+    let nets = step(alloc, b, &round)?;
     Ok(nets)
 }
 
@@ -100,11 +106,10 @@ fn emit_outputs<L: LockModule>(
     requires joined { IsJoined (members L.LockModule) b.old (form pipe.now) x.now }
     ensures { OnOk result (IsShown (members L.LockModule) b.new (form pipe.now) x.now) }
 {
-    let stages = shown(alloc, x.line.stages.as_slice(), x.line.moves.as_slice())?;
+    let stages = stage_ports(alloc, x.line.stages.as_slice(), x.line.moves.as_slice())?;
     let squash = x.bits.zero;
-    let outs = pdl_outnets::shown(
+    let outs = pdl_outnets::all_outputs(
         alloc,
-        b,
         pipe,
         stages.as_slice(),
         x.commits.as_slice(),
@@ -115,7 +120,7 @@ fn emit_outputs<L: LockModule>(
 }
 
 // A copy of the memories as they are told.
-fn copied(alloc: Global, mems: &[MemInfo]) -> Result<Seq<MemInfo>, NoMemory>
+fn copy_of(alloc: Global, mems: &[MemInfo]) -> Result<Seq<MemInfo>, NoMemory>
     ensures { IfOk result (λ ms. ms ≡ mems.now) }
 {
     let mut copies = Seq::new(alloc);
@@ -142,7 +147,7 @@ fn compile_with<L: LockModule + Copy>(
     let joined = join(alloc, &mut b, pipe, locks)?;
     emit_outputs(alloc, &mut b, pipe, &joined)?;
     let name = accepted.pipe().name.name.clone()?;
-    let mems = copied(alloc, accepted.mems())?;
+    let mems = copy_of(alloc, accepted.mems())?;
     Ok(b.finish(name, mems))
 }
 

@@ -9,18 +9,18 @@ use Rattle.pdl_semantics.specs.Stages.{stage_at, goes_to, list_any, reserve_stag
 use Rattle.pdl_semantics.specs.Machine as machine
 use Rattle.pdl_semantics.specs.Machine.{Thread, deeds, held_before, is_held, with_kept}
 use Rattle.pdl_semantics.specs.Moves.{next_stage}
-use Rattle.pdl_semantics.specs.Cycle.{is_stage, born, child_of, moved, or_then, releases, list_three, stays, squasher}
+use Rattle.pdl_semantics.specs.Cycle.{is_stage, born_thread, child_of, thread_after, or_then, has_release, list_three, is_kept, squasher}
 use Rattle.pdl_net.specs.Circuit.{State}
 use Rattle.pdl_net.specs.Signal.{Signal, no_signal}
 use Rattle.pdl_lockapi.specs.Laws.{holds_ticket}
 use Rattle.pdl_lockapi.specs.Forget.{count_older}
-use Rattle.pdl_machine_facts.specs.Slots.{LeadsOn, here, goes, movers_from, moving, reaches, ways_from, ways, passes, passed, first_of, arrives, act_at}
+use Rattle.pdl_machine_facts.specs.Slots.{LeadsOn, here, stage_moves, movers_from, moving, leads_to, ways_from, ways, passing_thread, thread_into, first_of, arriving_thread, act_at}
 use Rattle.pdl_machine_facts.specs.Cycle.{newborn, IsByStages, IsCalm}
 use Rattle.pdl_machine_facts.specs.Use.{IsInUse}
 use Rattle.pdl_pipe_law.proofs.Stood.{Stood}
-use Rattle.pdl_pipe_law.specs.Lives.{row_uses, asks_held, forks_by, lives, holds, verifies}
+use Rattle.pdl_pipe_law.specs.Lives.{row_uses, asks_held, forks_by, lives_from, held_from, verifies_from}
 use Rattle.pdl_pipe_law.specs.Walk.{Locks, Birth, Walk, is_locked, one, zero_bit, both, is_on, values_at}
-use Rattle.pdl_pipe_law.specs.Views.{View, Comer, branch, out_of, new_by, new_from, comers, picked}
+use Rattle.pdl_pipe_law.specs.Views.{View, Comer, branch, out_of, new_by, new_from, comers, first_coming}
 use Rattle.pdl_pipe_law.specs.Stands.{IsEnv, IsHolding, StandsFor, AreShort, IsSo, IsSeen, child_in}
 use Rattle.pdl_pipe_law.proofs.Signals.{mux_by, one_is, zero_is}
 use Rattle.pdl_pipe_law.proofs.Moves.{ready_of, lives_fork}
@@ -68,16 +68,16 @@ or_map true b c d f g e = ap (λ x. x || d) (f refl)
 or_map false b true d f g e = refl
 or_map false b false d f g e = g e
 
-pub lives_down : (p : Pipe) (j q x : ℕ) → j ≤ q → lives p q x ≡ true → lives p j x ≡ true
+pub lives_down : (p : Pipe) (j q x : ℕ) → j ≤ q → lives_from p q x ≡ true → lives_from p j x ≡ true
 lives_down p j q x h =
     or_map (list_any (λ (r : Stmt). nat_le q r.stage && row_uses r x) p.stmts) (list_any (λ (s : Stage). forks_by s.next x) (drop q p.stages)) _ _
     (any_more (λ (r : Stmt). nat_le q r.stage && row_uses r x) (λ (r : Stmt). nat_le j r.stage && row_uses r x) p.stmts (λ r e. lower j q r.stage (row_uses r x) h e))
     (any_dropped (λ (s : Stage). forks_by s.next x) p.stages j q h)
 
-pub holds_down : (p : Pipe) (j q m a : ℕ) → j ≤ q → holds p q m a ≡ true → holds p j m a ≡ true
+pub holds_down : (p : Pipe) (j q m a : ℕ) → j ≤ q → held_from p q m a ≡ true → held_from p j m a ≡ true
 holds_down p j q m a h e = any_more (λ (r : Stmt). nat_le q r.stage && asks_held r.op m a) (λ (r : Stmt). nat_le j r.stage && asks_held r.op m a) p.stmts (λ r i. lower j q r.stage (asks_held r.op m a) h i) e
 
-pub verifies_down : (p : Pipe) (j q : ℕ) → j ≤ q → verifies p q ≡ true → verifies p j ≡ true
+pub verifies_down : (p : Pipe) (j q : ℕ) → j ≤ q → verifies_from p q ≡ true → verifies_from p j ≡ true
 verifies_down p j q h e = any_more (λ (r : Stmt). nat_le q r.stage && is_verify r.op) (λ (r : Stmt). nat_le j r.stage && is_verify r.op) p.stmts (λ r i. lower j q r.stage (is_verify r.op) h i) e
 
 -- one of the values of signals
@@ -103,11 +103,11 @@ abbrev pub brought : State → (Comer → Signal) → Signal → Option Comer �
 brought s of f None = f.value s
 brought s of f (Some c) = (of c).value s
 
-pub picked_is : (s : State) (of : Comer → Signal) (cs : List Comer) (f : Signal) → (picked of cs f).value s ≡ brought s of f (first_come s cs)
+pub picked_is : (s : State) (of : Comer → Signal) (cs : List Comer) (f : Signal) → (first_coming of cs f).value s ≡ brought s of f (first_come s cs)
 picked_is s of [] f = refl
-picked_is s of (c ∷ cs) f = mux_by s c.comes (of c) (picked of cs f) ∙ at (is_on c.comes s) (picked_is s of cs f)
+picked_is s of (c ∷ cs) f = mux_by s c.comes (of c) (first_coming of cs f) ∙ at (is_on c.comes s) (picked_is s of cs f)
   where
-    at : (b : Bool) → (picked of cs f).value s ≡ brought s of f (first_come s cs) → (if b then (of c).value s else (picked of cs f).value s) ≡ brought s of f (if b then Some c else first_come s cs)
+    at : (b : Bool) → (first_coming of cs f).value s ≡ brought s of f (first_come s cs) → (if b then (of c).value s else (first_coming of cs f).value s) ≡ brought s of f (if b then Some c else first_come s cs)
     at true e = refl
     at false e = e
 
@@ -122,11 +122,11 @@ module _ (p : Pipe) (ls : Locks) (vs : ℕ → View) (moves : ℕ → Signal) (s
     pub long : length u.env ≡ p.vars
     pub env : IsEnv p q s c.vars (with_kept u.kept u.env)
     pub held : IsHolding p q s c.held (held_before q u.env p.stmts [])
-    pub guess : verifies p q ≡ true → length u.guess ≡ length p.start → (i : ℕ) → i < length p.start → slice_index u.guess i ≡ (c.guess i).value s
+    pub guess : verifies_from p q ≡ true → length u.guess ≡ length p.start → (i : ℕ) → i < length p.start → slice_index u.guess i ≡ (c.guess i).value s
     pub tickets : (m : ℕ) (e : is_locked p m ≡ true) → reserve_stage p m < q → q ≤ commit_stage p m
         → holds_ticket (ls.bits m) (c.tickets m) s ((stands.locks m e).base + count_older u.number (machine.lock_of st m))
-        × (count_older u.number (list_three st (moving p st bits) m) + bit (releases m (moving p st bits)) ≡ count_older u.number (machine.lock_of st m))
-        × (stays (squasher (moving p st bits)) u.number ≡ true)
+        × (count_older u.number (list_three st (moving p st bits) m) + bit (has_release m (moving p st bits)) ≡ count_older u.number (machine.lock_of st m))
+        × (is_kept (squasher (moving p st bits)) u.number ≡ true)
 
   abbrev pub AreAlike : ℕ → Option Comer → Option Thread → Type 0
   AreAlike q None None = ⊤
@@ -143,12 +143,12 @@ module _ (p : Pipe) (ls : Locks) (vs : ℕ → View) (moves : ℕ → Signal) (s
       at true (Some u) f go = f
       at false a f go = go a f
 
-  so_at : (k : ℕ) (t : Thread) → k < length p.stages → here p st bits k ≡ Some t → goes p st bits k ≡ true → IsSo p k s (vs k).ended (deeds p st k t)
+  so_at : (k : ℕ) (t : Thread) → k < length p.stages → here p st bits k ≡ Some t → stage_moves p st bits k ≡ true → IsSo p k s (vs k).ended (deeds p st k t)
   so_at k t l h g = ((seen k l).follows t h).so (ready_of p st bits k t by l h g)
 
   -- NEW THREADS
 
-  born_brings : (number : ℕ) (moves : Signal) (b : Birth) → length b.args ≤ p.vars → AreAlike 0 (Some (new_by moves b)) (born p number (Some (map (λ (f : Signal). f.value s) b.args)))
+  born_brings : (number : ℕ) (moves : Signal) (b : Birth) → length b.args ≤ p.vars → AreAlike 0 (Some (new_by moves b)) (born_thread p number (Some (map (λ (f : Signal). f.value s) b.args)))
   born_brings number moves b short =
       let vals = map (λ (f : Signal). f.value s) b.args in
       let n = length-map b.args (λ (f : Signal). f.value s) in
@@ -161,24 +161,24 @@ module _ (p : Pipe) (ls : Locks) (vs : ℕ → View) (moves : ℕ → Signal) (s
       }
 
   -- of the calls of one stage whose thread moves
-  births_alike : (number : ℕ) (moves : Signal) (bs : List Birth) → moves.value s ≡ bit true → AreShort p bs → AreAlike 0 (first_come s (map (new_by moves) bs)) (born p number (child_in s bs))
+  births_alike : (number : ℕ) (moves : Signal) (bs : List Birth) → moves.value s ≡ bit true → AreShort p bs → AreAlike 0 (first_come s (map (new_by moves) bs)) (born_thread p number (child_in s bs))
   births_alike number moves [] e h = tt
   births_alike number moves (b ∷ bs) e h = at (is_on b.on s) (both_is s moves b.on true e) (births_alike number moves bs e h.1)
     where
-      at : (o : Bool) → is_on (both moves b.on) s ≡ o → AreAlike 0 (first_come s (map (new_by moves) bs)) (born p number (child_in s bs))
-          → AreAlike 0 (if is_on (both moves b.on) s then Some (new_by moves b) else first_come s (map (new_by moves) bs)) (born p number (if o then Some (map (λ (f : Signal). f.value s) b.args) else child_in s bs))
-      at true f rest = subst (λ c. AreAlike 0 (if c then Some (new_by moves b) else first_come s (map (new_by moves) bs)) (born p number (Some (map (λ (f : Signal). f.value s) b.args)))) (sym f) (born_brings number moves b h.0)
-      at false f rest = subst (λ c. AreAlike 0 (if c then Some (new_by moves b) else first_come s (map (new_by moves) bs)) (born p number (child_in s bs))) (sym f) rest
+      at : (o : Bool) → is_on (both moves b.on) s ≡ o → AreAlike 0 (first_come s (map (new_by moves) bs)) (born_thread p number (child_in s bs))
+          → AreAlike 0 (if is_on (both moves b.on) s then Some (new_by moves b) else first_come s (map (new_by moves) bs)) (born_thread p number (if o then Some (map (λ (f : Signal). f.value s) b.args) else child_in s bs))
+      at true f rest = subst (λ c. AreAlike 0 (if c then Some (new_by moves b) else first_come s (map (new_by moves) bs)) (born_thread p number (Some (map (λ (f : Signal). f.value s) b.args)))) (sym f) (born_brings number moves b h.0)
+      at false f rest = subst (λ c. AreAlike 0 (if c then Some (new_by moves b) else first_come s (map (new_by moves) bs)) (born_thread p number (child_in s bs))) (sym f) rest
 
   no_births : (moves : Signal) (bs : List Birth) → moves.value s ≡ bit false → first_come s (map (new_by moves) bs) ≡ None
   no_births moves [] e = refl
   no_births moves (b ∷ bs) e = ap (λ c. if c then Some (new_by moves b) else first_come s (map (new_by moves) bs)) (both_is s moves b.on false e) ∙ no_births moves bs e
 
-  born_then : (number : ℕ) (o rest : Option (List ℕ)) → born p number (if is_some o then o else rest) ≡ or_then (born p number o) (born p number rest)
+  born_then : (number : ℕ) (o rest : Option (List ℕ)) → born_thread p number (if is_some o then o else rest) ≡ or_then (born_thread p number o) (born_thread p number rest)
   born_then number None rest = refl
   born_then number (Some x) rest = refl
 
-  new_alike : (n k : ℕ) → k + n ≡ length p.stages → AreAlike 0 (first_come s (new_from vs moves n k)) (born p st.next (child_of (movers_from p st bits n k)))
+  new_alike : (n k : ℕ) → k + n ≡ length p.stages → AreAlike 0 (first_come s (new_from vs moves n k)) (born_thread p st.next (child_of (movers_from p st bits n k)))
   new_alike zero k e = tt
   new_alike (suc n) k e =
       let l : k < length p.stages = omega (arith, e) in
@@ -187,17 +187,17 @@ module _ (p : Pipe) (ls : Locks) (vs : ℕ → View) (moves : ℕ → Signal) (s
       let more = new_alike n (suc k) (omega (arith, e)) in
       let P : Option Thread → Type 0 = λ o. AreAlike 0 (first_come s (bs ++ new_from vs moves n (suc k))) o in
       ⊎_elim
-      (λ (f : goes p st bits k ≡ false).
+      (λ (f : stage_moves p st bits k ≡ false).
       let none = no_births (moves k) (vs k).ended.births ((seen k l).leaves ∙ ap bit f) in
       let Q : Option Comer → Type 0 = λ c. AreAlike 0 c None in
-      subst P (ap (λ ms. born p st.next (child_of (ms ++ rest))) (sym (no_mover p st bits k f)))
-      (alike_then 0 bs (new_from vs moves n (suc k)) None (born p st.next (child_of rest)) (subst Q (sym none) tt) more))
-      (λ (f : (t : Thread) × (here p st bits k ≡ Some t) × (goes p st bits k ≡ true)).
+      subst P (ap (λ ms. born_thread p st.next (child_of (ms ++ rest))) (sym (no_mover p st bits k f)))
+      (alike_then 0 bs (new_from vs moves n (suc k)) None (born_thread p st.next (child_of rest)) (subst Q (sym none) tt) more))
+      (λ (f : (t : Thread) × (here p st bits k ≡ Some t) × (stage_moves p st bits k ≡ true)).
       let so = so_at k f.0 l f.1 f.2 in
-      let child : born p st.next (child_in s (vs k).ended.births) ≡ born p st.next (deeds p st k f.0).child = ap (born p st.next) (sym so.child) in
+      let child : born_thread p st.next (child_in s (vs k).ended.births) ≡ born_thread p st.next (deeds p st k f.0).child = ap (born_thread p st.next) (sym so.child) in
       let Q : Option Thread → Type 0 = λ o. AreAlike 0 (first_come s bs) o in
-      subst P (sym (born_then st.next (deeds p st k f.0).child (child_of rest)) ∙ ap (λ ms. born p st.next (child_of (ms ++ rest))) (sym (one_mover p st bits k f.0 f.1 f.2)))
-      (alike_then 0 bs (new_from vs moves n (suc k)) (born p st.next (deeds p st k f.0).child) (born p st.next (child_of rest)) (subst Q child (births_alike st.next (moves k) (vs k).ended.births ((seen k l).leaves ∙ ap bit f.2) so.short)) more))
+      subst P (sym (born_then st.next (deeds p st k f.0).child (child_of rest)) ∙ ap (λ ms. born_thread p st.next (child_of (ms ++ rest))) (sym (one_mover p st bits k f.0 f.1 f.2)))
+      (alike_then 0 bs (new_from vs moves n (suc k)) (born_thread p st.next (deeds p st k f.0).child) (born_thread p st.next (child_of rest)) (subst Q child (births_alike st.next (moves k) (vs k).ended.births ((seen k l).leaves ∙ ap bit f.2) so.short)) more))
       (moves_or_not p st bits k)
 
   -- OUT OF EARLIER STAGES
@@ -222,7 +222,7 @@ module _ (p : Pipe) (ls : Locks) (vs : ℕ → View) (moves : ℕ → Signal) (s
       choose false = at (b == q)
 
   -- a thread that goes from stage j to stage q
-  out_brings : (q j : ℕ) (t : Thread) → j < q → j < length p.stages → here p st bits j ≡ Some t → goes p st bits j ≡ true → is_stage q (next_stage p j (deeds p st j t)) ≡ true → Brings q (out_of p vs moves q j) (moved (act_at p st j t))
+  out_brings : (q j : ℕ) (t : Thread) → j < q → j < length p.stages → here p st bits j ≡ Some t → stage_moves p st bits j ≡ true → is_stage q (next_stage p j (deeds p st j t)) ≡ true → Brings q (out_of p vs moves q j) (thread_after (act_at p st j t))
   out_brings q j t low l h g on =
       let so = so_at j t l h g in
       let u = stood j t h in
@@ -235,7 +235,7 @@ module _ (p : Pipe) (ls : Locks) (vs : ℕ → View) (moves : ℕ → Signal) (s
         guess = λ v e i m. ap (λ l'. slice_index l' i) (so.guess (verifies_down p j q (omega (arith, low)) v) e) ∙ signal_at s (vs j).ended.guess i (let z = so.guess_long in omega (arith, m, z));
         tickets = λ m e r high. (
           subst (λ n. holds_ticket (ls.bits m) ((vs j).tickets m) s ((stands.locks m e).base + count_older n (machine.lock_of st m))) u.number ((stands.locks m e).tickets j u.thread u.slot (omega (arith, low, high))),
-          subst (λ n. count_older n (list_three st (moving p st bits) m) + bit (releases m (moving p st bits)) ≡ count_older n (machine.lock_of st m)) u.number (used.shifts j u.thread m u.slot (leads.over j q m d.env l to r) (omega (arith, low, high)) (λ c. absurd (omega (arith, c, low, high)))),
+          subst (λ n. count_older n (list_three st (moving p st bits) m) + bit (has_release m (moving p st bits)) ≡ count_older n (machine.lock_of st m)) u.number (used.shifts j u.thread m u.slot (leads.over j q m d.env l to r) (omega (arith, low, high)) (λ c. absurd (omega (arith, c, low, high)))),
           calm.spared j t h g,
         );
       }
@@ -244,44 +244,44 @@ module _ (p : Pipe) (ls : Locks) (vs : ℕ → View) (moves : ℕ → Signal) (s
       is_next None e = absurd (false≢true e)
       is_next (Some r) e = ap (λ i. Some i) (eqb-true r q e)
 
-  one_alike : (q j : ℕ) → j < q → j < length p.stages → AreAlike q (if is_on (out_of p vs moves q j).comes s then Some (out_of p vs moves q j) else None) (passes p st bits q j)
+  one_alike : (q j : ℕ) → j < q → j < length p.stages → AreAlike q (if is_on (out_of p vs moves q j).comes s then Some (out_of p vs moves q j) else None) (passing_thread p st bits q j)
   one_alike q j low l = ⊎_elim
-      (λ (f : goes p st bits j ≡ false).
+      (λ (f : stage_moves p st bits j ≡ false).
       let off : is_on (out_of p vs moves q j).comes s ≡ false = both_is s (moves j) (branch (stage_at p j).next q (vs j).ended) false ((seen j l).leaves ∙ ap bit f) in
       let P : Option Thread → Type 0 = λ o. AreAlike q (if is_on (out_of p vs moves q j).comes s then Some (out_of p vs moves q j) else None) o in
       let Q : Bool → Type 0 = λ b. AreAlike q (if b then Some (out_of p vs moves q j) else None) None in
-      subst P (ap (λ b. passed p st q j b (here p st bits j)) (sym f)) (subst Q (sym off) tt))
-      (λ (f : (t : Thread) × (here p st bits j ≡ Some t) × (goes p st bits j ≡ true)).
+      subst P (ap (λ b. thread_into p st q j b (here p st bits j)) (sym f)) (subst Q (sym off) tt))
+      (λ (f : (t : Thread) × (here p st bits j ≡ Some t) × (stage_moves p st bits j ≡ true)).
       let d = deeds p st j f.0 in
       let so = so_at j f.0 l f.1 f.2 in
       let on : is_on (out_of p vs moves q j).comes s ≡ is_stage q (next_stage p j d) =
       both_is s (moves j) (branch (stage_at p j).next q (vs j).ended) true ((seen j l).leaves ∙ ap bit f.2) ∙ on_branch (stage_at p j).next q (vs j).ended d.env (λ x e. so.env x (lives_fork p j x l e)) in
       let P : Option Thread → Type 0 = λ o. AreAlike q (if is_on (out_of p vs moves q j).comes s then Some (out_of p vs moves q j) else None) o in
-      let Q : Bool → Type 0 = λ b. AreAlike q (if b then Some (out_of p vs moves q j) else None) (if is_stage q (next_stage p j d) then Some (moved (act_at p st j f.0)) else None) in
-      subst P (sym (ap₂ (passed p st q j) f.2 f.1)) (subst Q (sym on) (at f.0 f.1 f.2 (is_stage q (next_stage p j d)) refl)))
+      let Q : Bool → Type 0 = λ b. AreAlike q (if b then Some (out_of p vs moves q j) else None) (if is_stage q (next_stage p j d) then Some (thread_after (act_at p st j f.0)) else None) in
+      subst P (sym (ap₂ (thread_into p st q j) f.2 f.1)) (subst Q (sym on) (at f.0 f.1 f.2 (is_stage q (next_stage p j d)) refl)))
       (moves_or_not p st bits j)
     where
-      at : (t : Thread) → here p st bits j ≡ Some t → goes p st bits j ≡ true → (b : Bool) → is_stage q (next_stage p j (deeds p st j t)) ≡ b → AreAlike q (if b then Some (out_of p vs moves q j) else None) (if b then Some (moved (act_at p st j t)) else None)
+      at : (t : Thread) → here p st bits j ≡ Some t → stage_moves p st bits j ≡ true → (b : Bool) → is_stage q (next_stage p j (deeds p st j t)) ≡ b → AreAlike q (if b then Some (out_of p vs moves q j) else None) (if b then Some (thread_after (act_at p st j t)) else None)
       at t h g true e = out_brings q j t low l h g e
       at t h g false e = tt
 
   ways_alike : (q m j : ℕ) → j + m ≡ q → q < length p.stages → AreAlike q (first_come s (map (out_of p vs moves q) (ways_from p q m j))) (first_of p st bits q (ways_from p q m j))
   ways_alike q zero j e l = tt
-  ways_alike q (suc m) j e l = at (reaches (stage_at p j).next q) (ways_alike q m (suc j) (omega (arith, e)) l)
+  ways_alike q (suc m) j e l = at (leads_to (stage_at p j).next q) (ways_alike q m (suc j) (omega (arith, e)) l)
     where
       rest : List ℕ
       rest = ways_from p q m (suc j)
 
       at : (b : Bool) → AreAlike q (first_come s (map (out_of p vs moves q) rest)) (first_of p st bits q rest)
           → AreAlike q (first_come s (map (out_of p vs moves q) (if b then j ∷ rest else rest))) (first_of p st bits q (if b then j ∷ rest else rest))
-      at true h = alike_then q (out_of p vs moves q j ∷ []) (map (out_of p vs moves q) rest) (passes p st bits q j) (first_of p st bits q rest) (one_alike q j (omega (arith, e)) (omega (arith, e, l))) h
+      at true h = alike_then q (out_of p vs moves q j ∷ []) (map (out_of p vs moves q) rest) (passing_thread p st bits q j) (first_of p st bits q rest) (one_alike q j (omega (arith, e)) (omega (arith, e, l))) h
       at false h = h
 
   -- ALL
 
-  pub comers_alike : (q : ℕ) → q < length p.stages → AreAlike q (first_come s (comers p vs moves q)) (or_then (newborn p st bits q) (arrives p st bits q))
-  comers_alike q l = alike_then q (if q == 0 then new_from vs moves (length p.stages) 0 else []) (map (out_of p vs moves q) (ways p q)) (newborn p st bits q) (arrives p st bits q) (at (q == 0) refl) (ways_alike q q 0 (omega arith) l)
+  pub comers_alike : (q : ℕ) → q < length p.stages → AreAlike q (first_come s (comers p vs moves q)) (or_then (newborn p st bits q) (arriving_thread p st bits q))
+  comers_alike q l = alike_then q (if q == 0 then new_from vs moves (length p.stages) 0 else []) (map (out_of p vs moves q) (ways p q)) (newborn p st bits q) (arriving_thread p st bits q) (at (q == 0) refl) (ways_alike q q 0 (omega arith) l)
     where
-      at : (b : Bool) → (q == 0) ≡ b → AreAlike q (first_come s (if b then new_from vs moves (length p.stages) 0 else [])) (if b then born p st.next (child_of (moving p st bits)) else None)
-      at true e = subst (λ i. AreAlike i (first_come s (new_from vs moves (length p.stages) 0)) (born p st.next (child_of (moving p st bits)))) (sym (eqb-true q 0 e)) (new_alike (length p.stages) 0 (omega arith))
+      at : (b : Bool) → (q == 0) ≡ b → AreAlike q (first_come s (if b then new_from vs moves (length p.stages) 0 else [])) (if b then born_thread p st.next (child_of (moving p st bits)) else None)
+      at true e = subst (λ i. AreAlike i (first_come s (new_from vs moves (length p.stages) 0)) (born_thread p st.next (child_of (moving p st bits)))) (sym (eqb-true q 0 e)) (new_alike (length p.stages) 0 (omega arith))
       at false e = tt

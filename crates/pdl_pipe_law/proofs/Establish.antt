@@ -5,7 +5,7 @@ use Rattle.std.proofs.lemmas.List.{get_or-map}
 use Rattle.std.proofs.lemmas.Bool.{false≢true, or_left, or_right}
 use Rattle.pdl_word.specs.Words as words
 use Rattle.pdl_word.specs.Words.{bit, mux}
-use Rattle.pdl_semantics.specs.Flat.{Expr, Constant, Variable, Slice, Not, Binary, Cat, LessSigned, ZeroExtend, SignExtend, Choose, Guard, Pipe, applied, takes, value_of}
+use Rattle.pdl_semantics.specs.Flat.{Expr, Constant, Variable, Slice, Not, Binary, Cat, LessSigned, ZeroExtend, SignExtend, Choose, Guard, Pipe, operator_value, takes_branch, value_of}
 use Rattle.pdl_semantics.specs.Stages.{mem_at}
 use Rattle.pdl_net.specs.declared.Reg.{Reg}
 use Rattle.pdl_net.specs.Circuit.{Circuit, State, HasReg, reg_reset, no_reg, array_depth}
@@ -13,13 +13,13 @@ use Rattle.pdl_net.specs.Signal.{Signal, const_value, reg_value, mux_value, cons
 use Rattle.pdl_net.specs.Meaning.{next_signal}
 use Rattle.pdl_net.proofs.Keeps.{next_reg}
 use Rattle.pdl_lockapi.specs.declared.Kind.TheVariants as look_kind
-use Rattle.pdl_lockapi.specs.Lock.{is_ready}
+use Rattle.pdl_lockapi.specs.Lock.{look_ready}
 use Rattle.pdl_lockapi.specs.declared.LockRegs.{LockRegs}
 use Rattle.pdl_lockapi.specs.Forget.{as_lock}
 use Rattle.pdl_lockapi.specs.Laws.{first_reg, end_reg, first_array, end_array, own, words_of, HasImage, FitsIn, StartLaw, RoomLaw, TicketLaw, LookLaw, StepLaw}
-use Rattle.pdl_pipe_law.specs.Lives.{uses}
+use Rattle.pdl_pipe_law.specs.Lives.{uses_var}
 use Rattle.pdl_pipe_law.specs.Walk.{Locks, Walk, is_locked, one, zero_bit, both, is_on, taken_in, look_of, ThroughLock, IsWord}
-use Rattle.pdl_pipe_law.specs.Views.{View, Gates, Comer, picked}
+use Rattle.pdl_pipe_law.specs.Views.{View, Gates, Comer, first_coming}
 use Rattle.pdl_pipe_law.specs.Compiled.{Becomes, StartsAs, HasLock}
 use Rattle.pdl_pipe_law.specs.Ports.{Commit, step_of}
 use Rattle.pdl_pipe_law.proofs.Signals.{mux_by, both_at, one_is, zero_is}
@@ -41,15 +41,15 @@ abbrev pub AllBring : (Comer → Signal) → ℕ → List Comer → Type 0
 AllBring of v [] = Unit {0}
 AllBring of v (o ∷ os) = ((s : State) → (of o).value s ≡ v) × AllBring of v os
 
-pub picked_same : (of : Comer → Signal) (v : ℕ) (os : List Comer) (f : Signal) (s : State) → AllBring of v os → f.value s ≡ v → (picked of os f).value s ≡ v
+pub picked_same : (of : Comer → Signal) (v : ℕ) (os : List Comer) (f : Signal) (s : State) → AllBring of v os → f.value s ≡ v → (first_coming of os f).value s ≡ v
 picked_same of v [] f s h e = e
-picked_same of v (o ∷ os) f s h e = mux_by s o.comes (of o) (picked of os f) ∙ at (is_on o.comes s) (picked_same of v os f s h.1 e)
+picked_same of v (o ∷ os) f s h e = mux_by s o.comes (of o) (first_coming of os f) ∙ at (is_on o.comes s) (picked_same of v os f s h.1 e)
   where
-    at : (b : Bool) → (picked of os f).value s ≡ v → (if b then (of o).value s else (picked of os f).value s) ≡ v
+    at : (b : Bool) → (first_coming of os f).value s ≡ v → (if b then (of o).value s else (first_coming of os f).value s) ≡ v
     at true g = h.0 s
     at false g = g
 
-pub becomes_const : (c : Circuit) (w v : ℕ) (of : Comer → Signal) (os : List Comer) → AllBring of v os → Becomes c (const_signal w v) (picked of os (const_signal w v))
+pub becomes_const : (c : Circuit) (w v : ℕ) (of : Comer → Signal) (os : List Comer) → AllBring of v os → Becomes c (const_signal w v) (first_coming of os (const_signal w v))
 unfolding const_value
 becomes_const c w v of os h s t suits regs = sym (picked_same of v os (const_signal w v) s h refl)
 
@@ -73,7 +73,7 @@ abbrev pub literal : Bool → Signal → Signal
 literal true f = mux_signal f one zero_bit
 literal false f = mux_signal f zero_bit one
 
-pub literal_is : (first : Bool) (f : Signal) (s : State) → (literal first f).value s ≡ bit (takes first (f.value s))
+pub literal_is : (first : Bool) (f : Signal) (s : State) → (literal first f).value s ≡ bit (takes_branch first (f.value s))
 literal_is true f s = mux_by s f one zero_bit ∙ ap₂ (λ a b. if f.value s == 1 then a else b) (one_is s) (zero_is s)
 literal_is false f s = mux_by s f zero_bit one ∙ ap₂ (λ a b. if f.value s == 1 then a else b) (zero_is s) (one_is s) ∙ at (f.value s == 1)
   where
@@ -88,37 +88,37 @@ all_taken (g ∷ gs) w = both (literal g.first (w.vars g.var)) (all_taken gs w)
 
 pub taken_is : (gs : List Guard) (w : Walk) (s : State) → (all_taken gs w).value s ≡ bit (taken_in gs w s)
 taken_is [] w s = one_is s
-taken_is (g ∷ gs) w s = both_at s (literal g.first (w.vars g.var)) (all_taken gs w) (takes g.first ((w.vars g.var).value s)) (taken_in gs w s) (literal_is g.first (w.vars g.var) s) (λ e. taken_is gs w s)
+taken_is (g ∷ gs) w s = both_at s (literal g.first (w.vars g.var)) (all_taken gs w) (takes_branch g.first ((w.vars g.var).value s)) (taken_in gs w s) (literal_is g.first (w.vars g.var) s) (λ e. taken_is gs w s)
 
 -- VALUES
 
 -- a value depends on the variables that its expression uses
-pub value_agrees : (e : Expr) (env other : List ℕ) → ((x : ℕ) → uses e x ≡ true → slice_index env x ≡ slice_index other x) → value_of e env ≡ value_of e other
+pub value_agrees : (e : Expr) (env other : List ℕ) → ((x : ℕ) → uses_var e x ≡ true → slice_index env x ≡ slice_index other x) → value_of e env ≡ value_of e other
 value_agrees (Constant w v) env other h = refl
 value_agrees (Variable x) env other h = h x (Rattle.std.proofs.Common.eq-eqb x x refl)
 value_agrees (Slice x high low) env other h = ap (words.slice high low) (h x (Rattle.std.proofs.Common.eq-eqb x x refl))
 value_agrees (Not w a) env other h = ap (words.complement w) (value_agrees a env other h)
-value_agrees (Binary op w a b) env other h = ap₂ (applied op w) (value_agrees a env other (λ x u. h x (or_left (uses a x) (uses b x) u))) (value_agrees b env other (λ x u. h x (or_right (uses a x) (uses b x) u)))
-value_agrees (Cat a w b) env other h = ap₂ (words.cat w) (value_agrees a env other (λ x u. h x (or_left (uses a x) (uses b x) u))) (value_agrees b env other (λ x u. h x (or_right (uses a x) (uses b x) u)))
-value_agrees (LessSigned w a b) env other h = ap₂ (words.lts w) (value_agrees a env other (λ x u. h x (or_left (uses a x) (uses b x) u))) (value_agrees b env other (λ x u. h x (or_right (uses a x) (uses b x) u)))
+value_agrees (Binary op w a b) env other h = ap₂ (operator_value op w) (value_agrees a env other (λ x u. h x (or_left (uses_var a x) (uses_var b x) u))) (value_agrees b env other (λ x u. h x (or_right (uses_var a x) (uses_var b x) u)))
+value_agrees (Cat a w b) env other h = ap₂ (words.cat w) (value_agrees a env other (λ x u. h x (or_left (uses_var a x) (uses_var b x) u))) (value_agrees b env other (λ x u. h x (or_right (uses_var a x) (uses_var b x) u)))
+value_agrees (LessSigned w a b) env other h = ap₂ (words.lts w) (value_agrees a env other (λ x u. h x (or_left (uses_var a x) (uses_var b x) u))) (value_agrees b env other (λ x u. h x (or_right (uses_var a x) (uses_var b x) u)))
 value_agrees (ZeroExtend wide a) env other h = ap words.zext (value_agrees a env other h)
 value_agrees (SignExtend w wide a) env other h = ap (words.sext w wide) (value_agrees a env other h)
 value_agrees (Choose c a b) env other h =
-    rw (value_agrees c env other (λ x u. h x (or_left (uses c x) (uses a x || uses b x) u)), value_agrees a env other (λ x u. h x (or_right (uses c x) (uses a x || uses b x) (or_left (uses a x) (uses b x) u))), value_agrees b env other (λ x u. h x (or_right (uses c x) (uses a x || uses b x) (or_right (uses a x) (uses b x) u)))) refl
+    rw (value_agrees c env other (λ x u. h x (or_left (uses_var c x) (uses_var a x || uses_var b x) u)), value_agrees a env other (λ x u. h x (or_right (uses_var c x) (uses_var a x || uses_var b x) (or_left (uses_var a x) (uses_var b x) u))), value_agrees b env other (λ x u. h x (or_right (uses_var c x) (uses_var a x || uses_var b x) (or_right (uses_var a x) (uses_var b x) u)))) refl
 
 -- LOOKS
 
 -- a block whose kind is the same wherever it is on the path takes one look
 pub block_one : (ls : Locks) (m : ℕ) (addr ticket f held : Signal) (value : Option Signal) (u : Bool) (s : State) → LookLaw (ls.stands m) (ls.kind m) (ls.bits m) (look_of u) addr ticket f value → is_on held s ≡ u
-    → ThroughLock ls m ticket s (λ x t. f.value s ≡ bit (is_ready (ls.kind m) (look_of (is_on held s)) x t (addr.value s)))
-block_one ls m addr ticket f held value u s law e x t stands covered holds = law.answers s x t stands covered holds ∙ ap (λ b. bit (is_ready (ls.kind m) (look_of b) x t (addr.value s))) (sym e)
+    → ThroughLock ls m ticket s (λ x t. f.value s ≡ bit (look_ready (ls.kind m) (look_of (is_on held s)) x t (addr.value s)))
+block_one ls m addr ticket f held value u s law e x t stands covered holds = law.answers s x t stands covered holds ∙ ap (λ b. bit (look_ready (ls.kind m) (look_of b) x t (addr.value s))) (sym e)
 
 -- and one whose kind depends on the path two
 pub block_two : (ls : Locks) (m : ℕ) (addr ticket f g held : Signal) (v u : Option Signal) (s : State) → LookLaw (ls.stands m) (ls.kind m) (ls.bits m) look_kind.W addr ticket f v → LookLaw (ls.stands m) (ls.kind m) (ls.bits m) look_kind.R addr ticket g u
-    → ThroughLock ls m ticket s (λ x t. (mux_signal held f g).value s ≡ bit (is_ready (ls.kind m) (look_of (is_on held s)) x t (addr.value s)))
+    → ThroughLock ls m ticket s (λ x t. (mux_signal held f g).value s ≡ bit (look_ready (ls.kind m) (look_of (is_on held s)) x t (addr.value s)))
 block_two ls m addr ticket f g held v u s write read x t stands covered holds = mux_by s held f g ∙ at (is_on held s)
   where
-    at : (b : Bool) → (if b then f.value s else g.value s) ≡ bit (is_ready (ls.kind m) (look_of b) x t (addr.value s))
+    at : (b : Bool) → (if b then f.value s else g.value s) ≡ bit (look_ready (ls.kind m) (look_of b) x t (addr.value s))
     at true = write.answers s x t stands covered holds
     at false = read.answers s x t stands covered holds
 

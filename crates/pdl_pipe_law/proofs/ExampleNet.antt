@@ -9,9 +9,9 @@ use Rattle.pdl_net.specs.declared.Cell.TheVariants.{Const, Not, Mux}
 use Rattle.pdl_net.specs.Circuit.{Circuit, Output, HasReg, reg_reset}
 use Rattle.pdl_net.specs.Signal.{Signal, reg_signal, not_signal, no_signal, mux_signal, reg_value, const_value, not_value, mux_value}
 use Rattle.pdl_net.specs.Meaning.{signal, signals, next_signal}
-use Rattle.pdl_pipe_law.specs.Lives.{lives}
-use Rattle.pdl_pipe_law.specs.Walk.{Locks, Walk, Row, IsRow, one, zero_bit, after}
-use Rattle.pdl_pipe_law.specs.Views.{View, Comer, comers, picked, no_gates}
+use Rattle.pdl_pipe_law.specs.Lives.{lives_from}
+use Rattle.pdl_pipe_law.specs.Walk.{Locks, Walk, Row, IsRow, one, zero_bit, walk_after}
+use Rattle.pdl_pipe_law.specs.Views.{View, Comer, comers, first_coming, no_gates}
 use Rattle.pdl_pipe_law.specs.Compiled.{Becomes, StartsAs, IsStage, IsCompiled, port_in}
 use Rattle.pdl_semantics.specs.Stages.{stage_at}
 use Rattle.pdl_net.specs.declared.Netlist.{Netlist}
@@ -132,10 +132,10 @@ module _ (ls : Locks) where
   second_signals = record { on = all_taken (branch_second ∷ []) begun; value = no_signal; args = bit_held ∷ []; guess = [] }
 
   abbrev between : Walk
-  between = after first_row.op first_signals ls begun
+  between = walk_after first_row.op first_signals ls begun
 
   abbrev ended : Walk
-  ended = after second_row.op second_signals ls between
+  ended = walk_after second_row.op second_signals ls between
 
   abbrev views : ℕ → View
   views k = record { valid = valid; kept = λ x. bit_held; tickets = ls.ticket; begun = begun; ended = ended }
@@ -156,7 +156,7 @@ module _ (ls : Locks) where
     op = (omega arith, (λ s suits t. ((λ env same. sym (same 0 refl)), tt)));
   }
 
-  no_more : (x : ℕ) → lives guarded 0 (suc x) ≡ true → ⊥
+  no_more : (x : ℕ) → lives_from guarded 0 (suc x) ≡ true → ⊥
   no_more x e = false≢true (sym (none_uses (0 == suc x) (ne_eqb 0 (suc x) (λ h. omega (arith, h)))) ∙ e)
     where
       none_uses : (b : Bool) → b ≡ false → ((((b || false) || (b || false)) || (((b || false) || (b || false)) || false)) || (false || false)) ≡ false
@@ -178,7 +178,7 @@ module _ (ls : Locks) where
     tickets = λ m e low high. absurd (false≢true e);
   }
     where
-      brings : (x : ℕ) → lives guarded 0 x ≡ true → Becomes net bit_held (picked (λ (o : Comer). o.vars x) (comers guarded views leaving 0) bit_held)
+      brings : (x : ℕ) → lives_from guarded 0 x ≡ true → Becomes net bit_held (first_coming (λ (o : Comer). o.vars x) (comers guarded views leaving 0) bit_held)
       brings zero e = becomes_reg net 1 1 _ (omega arith) refl
       brings (suc x) e = absurd (no_more x e)
 
@@ -206,7 +206,7 @@ module _ (ls : Locks) where
       only zero l = stage
       only (suc k) l = absurd (omega (arith, l))
 
-      starts : (x : ℕ) → lives guarded 0 x ≡ true → StartsAs net bit_held (slice_index (start_env guarded (1 ∷ [])) x)
+      starts : (x : ℕ) → lives_from guarded 0 x ≡ true → StartsAs net bit_held (slice_index (start_env guarded (1 ∷ [])) x)
       starts zero e = starts_reg net 1 1 (omega arith)
       starts (suc x) e = absurd (no_more x e)
 

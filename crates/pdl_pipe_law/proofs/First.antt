@@ -9,20 +9,20 @@ use Rattle.pdl_semantics.specs.Flat.{Pipe, arrays_of, start_env}
 use Rattle.pdl_semantics.specs.Stages.{mem_at, reserve_stage}
 use Rattle.pdl_semantics.specs.Machine as machine
 use Rattle.pdl_semantics.specs.Machine.{Thread, Pending, is_held, with_kept}
-use Rattle.pdl_semantics.specs.Cycle.{first, born, for_mems}
+use Rattle.pdl_semantics.specs.Cycle.{first, born_thread, for_mems}
 use Rattle.pdl_net.specs.declared.Reg.{Reg}
 use Rattle.pdl_net.specs.declared.Array.{Array}
 use Rattle.pdl_net.specs.Circuit.{Circuit, State, HasArray, array_depth, no_array}
 use Rattle.pdl_net.specs.Signal.{Signal}
 use Rattle.pdl_net.specs.Well.{Suits}
-use Rattle.pdl_net.specs.Run.{filled, loaded}
+use Rattle.pdl_net.specs.Run.{filled_words, loaded_arrays}
 use Rattle.pdl_lockapi.specs.Lock.{start}
 use Rattle.pdl_lockapi.specs.Laws.{words_of, HasImage}
-use Rattle.pdl_lockapi.specs.Forget.{lock_of, count_older}
+use Rattle.pdl_lockapi.specs.Forget.{lock_state_of, count_older}
 use Rattle.pdl_lockapi.proofs.Next.{is_reset}
 use Rattle.pdl_machine_facts.specs.Slots.{slot}
 use Rattle.pdl_machine_facts.proofs.StagewisePorts.{at_stage, past_stage}
-use Rattle.pdl_pipe_law.specs.Lives.{lives, holds}
+use Rattle.pdl_pipe_law.specs.Lives.{lives_from, held_from}
 use Rattle.pdl_pipe_law.specs.Walk.{Locks, is_locked}
 use Rattle.pdl_pipe_law.specs.Views.{Gates, View}
 use Rattle.pdl_pipe_law.specs.Compiled.{IsCompiled}
@@ -41,7 +41,7 @@ padded_at (x ∷ xs) n zero = refl
 padded_at (x ∷ xs) n (suc i) = padded_at xs n i
 
 -- each array has the words of the image
-word_loaded : (rest : List Array) (image : List (List ℕ)) (m a : ℕ) → m < length rest → arrays_of image m a ≡ slice_index (get_or (loaded rest image) m []) a
+word_loaded : (rest : List Array) (image : List (List ℕ)) (m a : ℕ) → m < length rest → arrays_of image m a ≡ slice_index (get_or (loaded_arrays rest image) m []) a
 word_loaded rest image m a l =
     let ws = get_or image m [] in
     sym (ap (λ xs. slice_index xs a) (loaded_at rest image m l) ∙ padded_at ws ((get_or rest m no_array).depth - length ws) a)
@@ -56,10 +56,10 @@ none_first (x ∷ xs) k (suc m) = none_first xs (suc k) m
 lock_first : (q : Pipe) (image : model.Arrays) (m : ℕ) → machine.lock_of (first q image) m ≡ []
 lock_first q image m = none_first q.mems 0 m
 
-slot_first : (q : Pipe) (image : model.Arrays) (k : ℕ) → k < length q.stages → slot (first q image) k ≡ (if k == 0 then born q 1 (Some q.start) else None)
-slot_first q image k l = let z : 0 + k ≡ k = omega arith in at_stage (λ i. if i == 0 then born q 1 (Some q.start) else None) 0 q.stages k None l ∙ ap (λ i. if i == 0 then born q 1 (Some q.start) else None) z
+slot_first : (q : Pipe) (image : model.Arrays) (k : ℕ) → k < length q.stages → slot (first q image) k ≡ (if k == 0 then born_thread q 1 (Some q.start) else None)
+slot_first q image k l = let z : 0 + k ≡ k = omega arith in at_stage (λ i. if i == 0 then born_thread q 1 (Some q.start) else None) 0 q.stages k None l ∙ ap (λ i. if i == 0 then born_thread q 1 (Some q.start) else None) z
 
-holds_first : (q : Pipe) (b : Bool) → (if b then 1 else 0) ≡ bit (is_some (if b then born q 1 (Some q.start) else None))
+holds_first : (q : Pipe) (b : Bool) → (if b then 1 else 0) ≡ bit (is_some (if b then born_thread q 1 (Some q.start) else None))
 holds_first q true = refl
 holds_first q false = refl
 
@@ -67,7 +67,7 @@ holds_first q false = refl
 is_first : (q : Pipe) (image : model.Arrays) (k : ℕ) (u : Thread) → slot (first q image) k ≡ Some u → (k ≡ 0) × (u.env ≡ start_env q q.start) × (0 < length q.stages) × (u.guess ≡ []) × (u.kept ≡ [])
 is_first q image k u e = ⊎_elim
     (λ (l : k < length q.stages). at k l e)
-    (λ (l : length q.stages ≤ k). absurd (none_some (sym (past_stage (λ i. if i == 0 then born q 1 (Some q.start) else None) 0 q.stages k None l) ∙ e)))
+    (λ (l : length q.stages ≤ k). absurd (none_some (sym (past_stage (λ i. if i == 0 then born_thread q 1 (Some q.start) else None) 0 q.stages k None l) ∙ e)))
     (cases_lt k (length q.stages))
   where
     none_some : None ≡ Some u → ⊥
@@ -77,10 +77,10 @@ is_first q image k u e = ⊎_elim
     at zero l e = let z = sym (slot_first q image 0 l) ∙ e in (refl, cc z, omega (arith, l), cc z, cc z)
     at (suc k) l e =
         let n : (suc k == 0) ≡ false = ne_eqb (suc k) 0 (λ h. omega (arith, h)) in
-        absurd (none_some (ap (λ b. if b then born q 1 (Some q.start) else None) (sym n) ∙ sym (slot_first q image (suc k) l) ∙ e))
+        absurd (none_some (ap (λ b. if b then born_thread q 1 (Some q.start) else None) (sym n) ∙ sym (slot_first q image (suc k) l) ∙ e))
 
 module _ (p : Pipe) (names : ℕ → List ℕ) (ls : Locks) (vs : ℕ → View) (gates : Gates) (moves : ℕ → Signal) (c : Circuit) (made : IsCompiled p names ls vs gates moves c) (in_order : (m : ℕ) → m < length p.mems → ls.array m ≡ m) (image : List (List ℕ)) (whole : (m : ℕ) → m < length p.mems → length (get_or image m []) ≡ (mem_at p m).depth) (s : State) (suits : Suits c s)
-    (regs : s.regs ≡ map (λ (r : Reg). r.reset) c.regs) (arrays : s.arrays ≡ loaded c.arrays image) where
+    (regs : s.regs ≡ map (λ (r : Reg). r.reset) c.regs) (arrays : s.arrays ≡ loaded_arrays c.arrays image) where
   abbrev st : machine.State
   st = first p (arrays_of image)
 
@@ -98,14 +98,14 @@ module _ (p : Pipe) (names : ℕ → List ℕ) (ls : Locks) (vs : ℕ → View) 
       let f = is_first p (arrays_of image) k u h in
       ap (λ ks. slice_index (with_kept ks u.env) x) f.4
       ∙ ap (λ e. slice_index e x) f.1
-      ∙ sym (made.begins.vars x (subst (λ i. lives p i x ≡ true) f.0 live) s regs)
+      ∙ sym (made.begins.vars x (subst (λ i. lives_from p i x ≡ true) f.0 live) s regs)
       ∙ ap (λ i. ((vs i).kept x).value s) (sym f.0)
 
   held_at_first : (k : ℕ) (u : Thread) → slot st k ≡ Some u → IsHolding p k s (vs k).begun.held (machine.held_before k u.env p.stmts [])
   held_at_first k u h m a live =
       let f = is_first p (arrays_of image) k u h in
       ap (λ i. ((vs i).begun.held m a).value s) f.0
-      ∙ made.begins.held m a (subst (λ i. holds p i m a ≡ true) f.0 live) s regs
+      ∙ made.begins.held m a (subst (λ i. held_from p i m a ≡ true) f.0 live) s regs
       ∙ ap (λ l. bit (is_held l m a)) (sym (held_first u.env p.stmts []))
       ∙ ap (λ i. bit (is_held (machine.held_before i u.env p.stmts []) m a)) (sym f.0)
 
@@ -134,9 +134,9 @@ module _ (p : Pipe) (names : ℕ → List ℕ) (ls : Locks) (vs : ℕ → View) 
       let deep : (get_or c.arrays m no_array).depth ≡ words_of (ls.kind m) (length (get_or image m [])) =
       ap (λ i. (get_or c.arrays i no_array).depth) (sym (in_order m l)) ∙ (made.locks m e).deep ∙ ap (words_of (ls.kind m)) (sym (whole m l)) in
       ap (λ xs. get_or xs (ls.array m) []) arrays
-      ∙ ap (λ i. get_or (loaded c.arrays image) i []) (in_order m l)
+      ∙ ap (λ i. get_or (loaded_arrays c.arrays image) i []) (in_order m l)
       ∙ loaded_at c.arrays image m there
-      ∙ ap (λ d. filled d (get_or image m [])) deep
+      ∙ ap (λ d. filled_words d (get_or image m [])) deep
 
   lock_at_first : (m : ℕ) → is_locked p m ≡ true → StandsLock p ls vs s st m
   lock_at_first m e =
@@ -151,7 +151,7 @@ module _ (p : Pipe) (names : ℕ → List ℕ) (ls : Locks) (vs : ℕ → View) 
         words = words;
         long = (let z = whole m l in omega (arith, z));
         same = λ a low. refl;
-        stands = subst (λ es. ls.stands m s (lock_of 0 es words)) (sym none) stands;
+        stands = subst (λ es. ls.stands m s (lock_state_of 0 es words)) (sym none) stands;
         few = (let z = ap length none in omega (arith, z));
         tickets = λ k u h early.
             (let f = is_first p (arrays_of image) k u h in

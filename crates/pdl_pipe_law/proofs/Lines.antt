@@ -25,7 +25,7 @@ use Rattle.pdl_pipe_law.specs.Runs.{Seen, seen_of, had, ShowsMachine, puts_of, o
 use Rattle.pdl_pipe_law.proofs.WellFormedPorts.{stage_names, commit_names}
 use Rattle.pdl_pipe_law.proofs.LinesMachine.{AreCommits, IsShaped, AllShaped, turns_shaped}
 use Rattle.pdl_pipe_law.proofs.LinesNames.{name_of_output, HasNames, names_made}
-use Rattle.pdl_pipe_law.proofs.LinesPorts.{named_value, port_is, past_stages, stages_same, behind, behind_same, found, flag_is, addr_is, word_is, put_in, put_cases, same_put, each_found}
+use Rattle.pdl_pipe_law.proofs.LinesPorts.{named_value, port_is, past_stages, stages_same, after, after_same, found, flag_is, addr_is, word_is, put_in, put_cases, same_put, each_found}
 
 -- functions that are the same at each element
 map_same : {X Y : Type 0} (f g : X → Y) → ((x : X) → f x ≡ g x) → (xs : List X) → map f xs ≡ map g xs
@@ -53,9 +53,9 @@ module _ (p : Pipe) (ms : List Mem) (same : p.mems ≡ mems_of ms) (n : Netlist)
   -- ---- one cycle
 
   module _ (o : Ports) (shape : IsShaped p o) where
-    -- the values behind those of the stages
+    -- the values after those of the stages
     abbrev rest : List ℕ
-    rest = behind ms o.commits (bit o.ended) (bit o.squash)
+    rest = after ms o.commits (bit o.ended) (bit o.squash)
 
     commits : AreCommits (mems_of ms) o.commits
     commits = subst (λ (l : List Flat.Mem). AreCommits l o.commits) same shape.commits
@@ -66,17 +66,17 @@ module _ (p : Pipe) (ms : List Mem) (same : p.mems ≡ mems_of ms) (n : Netlist)
     count : length (port_values p o) ≡ length (outputs_of (circuit_of n))
     count =
         ap length values
-        ∙ stages_same 0 (length p.stages) (commit_names (locked_of ms)) o.valid o.moves rest shape.valid shape.moves (behind_same ms o.commits (bit o.ended) (bit o.squash) commits)
+        ∙ stages_same 0 (length p.stages) (commit_names (locked_of ms)) o.valid o.moves rest shape.valid shape.moves (after_same ms o.commits (bit o.ended) (bit o.squash) commits)
         ∙ ap length (sym named.names)
         ∙ length-map (outputs_of (circuit_of n)) name_of_output
 
-    -- a port that is no stage's is looked up behind those of the stages
+    -- a port that is no stage's is looked up after those of the stages
     look : (x : List ℕ) → ((names : List (List ℕ)) (vals : List ℕ) → length vals ≡ length names → named_value (stage_names 0 (length p.stages) names) (stage_values o.valid o.moves ++ vals) x ≡ named_value names vals x)
         → port_value (circuit_of n) (port_values p o) x ≡ named_value (commit_names (locked_of ms)) rest x
     look x pass =
         port_is (circuit_of n) (port_values p o) x count
         ∙ ap₂ (λ names vals. named_value names vals x) named.names values
-        ∙ pass (commit_names (locked_of ms)) rest (behind_same ms o.commits (bit o.ended) (bit o.squash) commits)
+        ∙ pass (commit_names (locked_of ms)) rest (after_same ms o.commits (bit o.ended) (bit o.squash) commits)
 
     -- what a memory commits, by its name
     commit_found : (m : List ℕ) → commit_of (circuit_of n) (port_values p o) m ≡ put_in (found ms o.commits m)

@@ -11,7 +11,7 @@ use Rattle.pdl_net.specs.Pipe.{PortMem}
 use Rattle.pdl_net.specs.Signal.{Signal}
 use Rattle.pdl_pipe_law.specs.Walk.{Locks}
 use Rattle.pdl_pipe_law.specs.Views.{Gates, View}
-use Rattle.pdl_pipe_law.specs.Ports.{Shown, shows, Commit, stages_shown, commit_shown, commits_shown}
+use Rattle.pdl_pipe_law.specs.Ports.{Shown, shown_signal, Commit, stages_shown, commit_shown, commits_shown}
 use Rattle.pdl_pipe_law.specs.Declared.{port_mem, locked_of, mem_names}
 use Rattle.pdl_pipe_law.specs.Runs.{output_count}
 use Rattle.pdl_pipe_law.specs.Compiled.{shown_in, IsCompiled}
@@ -40,7 +40,7 @@ stages_named vs moves zero k rest = refl
 stages_named vs moves (suc n) k rest = ap (λ l. (codes "v_" ++ decimal k) ∷ (codes "g_" ++ decimal k) ∷ l) (stages_named vs moves n (suc k) rest)
 
 abbrev last_shown : Signal → Signal → List Shown
-last_shown f g = shows (codes "ended") f ∷ shows (codes "squash") g ∷ []
+last_shown f g = shown_signal (codes "ended") f ∷ shown_signal (codes "squash") g ∷ []
 
 named_if : (b : Bool) (m : Mem) (x : Commit) (rest : List Shown) → map name_of_shown ((if b then commit_shown m.name.name x else []) ++ rest) ≡ (if b then (codes "c_" ++ m.name.name) ∷ (codes "ca_" ++ m.name.name) ∷ (codes "cd_" ++ m.name.name) ∷ [] else []) ++ map name_of_shown rest
 named_if true m x rest = refl

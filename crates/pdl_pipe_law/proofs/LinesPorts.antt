@@ -8,7 +8,7 @@ use Rattle.pdl_word.specs.Words.{bit}
 use Rattle.pdl_kit.specs.declared.mem_info.MemInfo.{MemInfo}
 use Rattle.pdl_semantics.specs.Tree.{LockDecl, Mem}
 use Rattle.pdl_semantics.specs.Flat.{has_lock}
-use Rattle.pdl_semantics.specs.Flatten.{mems_of, lock_of}
+use Rattle.pdl_semantics.specs.Flatten.{mems_of, flat_lock}
 use Rattle.pdl_semantics.specs.Cycle.{PortWrite}
 use Rattle.pdl_semantics.specs.Lines.{Put, put_of, puts_in}
 use Rattle.pdl_rules.specs.Typed.{is_memory, AreDistinct}
@@ -92,7 +92,7 @@ word_of (Some e) = e.value
 abbrev commit_if : Bool → Option PortWrite → List ℕ
 commit_if b e = if b then flag_of e ∷ addr_of e ∷ word_of e ∷ [] else []
 
-commit_is : (l : Option LockDecl) (e : Option PortWrite) → commit_values (lock_of l) e ≡ commit_if (is_some l) e
+commit_is : (l : Option LockDecl) (e : Option PortWrite) → commit_values (flat_lock l) e ≡ commit_if (is_some l) e
 commit_is l e = ap (λ (b : Bool). if b then shown_values e else []) (lock_declared l) ∙ at (is_some l) e
   where
     at : (b : Bool) (w : Option PortWrite) → (if b then shown_values w else []) ≡ commit_if b w
@@ -132,50 +132,50 @@ word_step : (m : Mem) (ms : List Mem) (b : Bool) (e rest : Option PortWrite) (va
 word_step m ms true e rest vals x h = ap (λ n. if bytes_eq m.name.name x then word_of e else n) h ∙ if_both word_of (bytes_eq m.name.name x) e rest
 word_step m ms false e rest vals x h = h ∙ if_none word_of (bytes_eq m.name.name x) e rest
 
--- the values of the ports of the memories, and of two ports behind them
-abbrev pub behind : List Mem → List (Option PortWrite) → ℕ → ℕ → List ℕ
-behind ms es a b = all_commit_values (mems_of ms) es ++ a ∷ b ∷ []
+-- the values of the ports of the memories, and of two ports after them
+abbrev pub after : List Mem → List (Option PortWrite) → ℕ → ℕ → List ℕ
+after ms es a b = all_commit_values (mems_of ms) es ++ a ∷ b ∷ []
 
 -- those of the first memory come first
-behind_first : (m : Mem) (ms : List Mem) (e : Option PortWrite) (es : List (Option PortWrite)) (a b : ℕ) → behind (m ∷ ms) (e ∷ es) a b ≡ commit_if (is_some m.lock) e ++ behind ms es a b
-behind_first m ms e es a b =
-    append_assoc (commit_values (lock_of m.lock) e) (all_commit_values (mems_of ms) es) (a ∷ b ∷ [])
-    ∙ ap (λ l. l ++ behind ms es a b) (commit_is m.lock e)
+after_first : (m : Mem) (ms : List Mem) (e : Option PortWrite) (es : List (Option PortWrite)) (a b : ℕ) → after (m ∷ ms) (e ∷ es) a b ≡ commit_if (is_some m.lock) e ++ after ms es a b
+after_first m ms e es a b =
+    append_assoc (commit_values (flat_lock m.lock) e) (all_commit_values (mems_of ms) es) (a ∷ b ∷ [])
+    ∙ ap (λ l. l ++ after ms es a b) (commit_is m.lock e)
 
-pub flag_is : (ms : List Mem) (es : List (Option PortWrite)) (a b : ℕ) (x : List ℕ) → AreCommits (mems_of ms) es → named_value (commit_names (locked_of ms)) (behind ms es a b) (codes "c_" ++ x) ≡ flag_of (found ms es x)
+pub flag_is : (ms : List Mem) (es : List (Option PortWrite)) (a b : ℕ) (x : List ℕ) → AreCommits (mems_of ms) es → named_value (commit_names (locked_of ms)) (after ms es a b) (codes "c_" ++ x) ≡ flag_of (found ms es x)
 flag_is [] [] a b x h = refl
 flag_is [] (e ∷ es) a b x h = absurd h
 flag_is (m ∷ ms) [] a b x h = absurd h
 flag_is (m ∷ ms) (e ∷ es) a b x h =
-    ap (λ l. named_value (commit_names (locked_of (m ∷ ms))) l (codes "c_" ++ x)) (behind_first m ms e es a b)
-    ∙ flag_step m ms (is_some m.lock) e (found ms es x) (behind ms es a b) x (flag_is ms es a b x h.1)
+    ap (λ l. named_value (commit_names (locked_of (m ∷ ms))) l (codes "c_" ++ x)) (after_first m ms e es a b)
+    ∙ flag_step m ms (is_some m.lock) e (found ms es x) (after ms es a b) x (flag_is ms es a b x h.1)
 
-pub addr_is : (ms : List Mem) (es : List (Option PortWrite)) (a b : ℕ) (x : List ℕ) → AreCommits (mems_of ms) es → named_value (commit_names (locked_of ms)) (behind ms es a b) (codes "ca_" ++ x) ≡ addr_of (found ms es x)
+pub addr_is : (ms : List Mem) (es : List (Option PortWrite)) (a b : ℕ) (x : List ℕ) → AreCommits (mems_of ms) es → named_value (commit_names (locked_of ms)) (after ms es a b) (codes "ca_" ++ x) ≡ addr_of (found ms es x)
 addr_is [] [] a b x h = refl
 addr_is [] (e ∷ es) a b x h = absurd h
 addr_is (m ∷ ms) [] a b x h = absurd h
 addr_is (m ∷ ms) (e ∷ es) a b x h =
-    ap (λ l. named_value (commit_names (locked_of (m ∷ ms))) l (codes "ca_" ++ x)) (behind_first m ms e es a b)
-    ∙ addr_step m ms (is_some m.lock) e (found ms es x) (behind ms es a b) x (addr_is ms es a b x h.1)
+    ap (λ l. named_value (commit_names (locked_of (m ∷ ms))) l (codes "ca_" ++ x)) (after_first m ms e es a b)
+    ∙ addr_step m ms (is_some m.lock) e (found ms es x) (after ms es a b) x (addr_is ms es a b x h.1)
 
-pub word_is : (ms : List Mem) (es : List (Option PortWrite)) (a b : ℕ) (x : List ℕ) → AreCommits (mems_of ms) es → named_value (commit_names (locked_of ms)) (behind ms es a b) (codes "cd_" ++ x) ≡ word_of (found ms es x)
+pub word_is : (ms : List Mem) (es : List (Option PortWrite)) (a b : ℕ) (x : List ℕ) → AreCommits (mems_of ms) es → named_value (commit_names (locked_of ms)) (after ms es a b) (codes "cd_" ++ x) ≡ word_of (found ms es x)
 word_is [] [] a b x h = refl
 word_is [] (e ∷ es) a b x h = absurd h
 word_is (m ∷ ms) [] a b x h = absurd h
 word_is (m ∷ ms) (e ∷ es) a b x h =
-    ap (λ l. named_value (commit_names (locked_of (m ∷ ms))) l (codes "cd_" ++ x)) (behind_first m ms e es a b)
-    ∙ word_step m ms (is_some m.lock) e (found ms es x) (behind ms es a b) x (word_is ms es a b x h.1)
+    ap (λ l. named_value (commit_names (locked_of (m ∷ ms))) l (codes "cd_" ++ x)) (after_first m ms e es a b)
+    ∙ word_step m ms (is_some m.lock) e (found ms es x) (after ms es a b) x (word_is ms es a b x h.1)
 
 -- as many values as names
 same_step : (b : Bool) (m : Mem) (ms : List Mem) (e : Option PortWrite) (vals : List ℕ) → length vals ≡ length (commit_names (locked_of ms)) → length (commit_if b e ++ vals) ≡ length (names_if b m ms)
 same_step true m ms e vals h = ap (λ i. suc (suc (suc i))) h
 same_step false m ms e vals h = h
 
-pub behind_same : (ms : List Mem) (es : List (Option PortWrite)) (a b : ℕ) → AreCommits (mems_of ms) es → length (behind ms es a b) ≡ length (commit_names (locked_of ms))
-behind_same [] [] a b h = refl
-behind_same [] (e ∷ es) a b h = absurd h
-behind_same (m ∷ ms) [] a b h = absurd h
-behind_same (m ∷ ms) (e ∷ es) a b h = ap length (behind_first m ms e es a b) ∙ same_step (is_some m.lock) m ms e (behind ms es a b) (behind_same ms es a b h.1)
+pub after_same : (ms : List Mem) (es : List (Option PortWrite)) (a b : ℕ) → AreCommits (mems_of ms) es → length (after ms es a b) ≡ length (commit_names (locked_of ms))
+after_same [] [] a b h = refl
+after_same [] (e ∷ es) a b h = absurd h
+after_same (m ∷ ms) [] a b h = absurd h
+after_same (m ∷ ms) (e ∷ es) a b h = ap length (after_first m ms e es a b) ∙ same_step (is_some m.lock) m ms e (after ms es a b) (after_same ms es a b h.1)
 
 -- ---- all memories
 
@@ -201,11 +201,11 @@ found_none (m ∷ ms) (k ∷ es) x e =
     ap (λ t. if t && is_some m.lock then k else found ms es x) parts.0 ∙ found_none ms es x parts.1
 
 -- the first memory commits what is found by its name
-found_if : (l : Option LockDecl) (e rest : Option PortWrite) → (has_lock (lock_of l) ≡ false → e ≡ None) → rest ≡ None → (if is_some l then e else rest) ≡ e
+found_if : (l : Option LockDecl) (e rest : Option PortWrite) → (has_lock (flat_lock l) ≡ false → e ≡ None) → rest ≡ None → (if is_some l then e else rest) ≡ e
 found_if None e rest h r = r ∙ sym (h refl)
 found_if (Some l) e rest h r = refl
 
-found_first : (m : Mem) (ms : List Mem) (e : Option PortWrite) (es : List (Option PortWrite)) → is_memory ms m.name.name ≡ false → (has_lock (lock_of m.lock) ≡ false → e ≡ None) → found (m ∷ ms) (e ∷ es) m.name.name ≡ e
+found_first : (m : Mem) (ms : List Mem) (e : Option PortWrite) (es : List (Option PortWrite)) → is_memory ms m.name.name ≡ false → (has_lock (flat_lock m.lock) ≡ false → e ≡ None) → found (m ∷ ms) (e ∷ es) m.name.name ≡ e
 found_first m ms e es d h =
     ap (λ t. if t && is_some m.lock then e else found ms es m.name.name) (bytes_refl m.name.name)
     ∙ found_if m.lock e (found ms es m.name.name) h (found_none ms es m.name.name d)

@@ -10,21 +10,21 @@ use Rattle.pdl_semantics.specs.Locks as locks
 use Rattle.pdl_semantics.specs.Machine as machine
 use Rattle.pdl_semantics.specs.Machine.{Thread, Pending, Reserved, Written, deeds}
 use Rattle.pdl_semantics.specs.Moves.{Act as Mover, blocks_ready, have_room}
-use Rattle.pdl_semantics.specs.Cycle.{appended, filled, put_all, releases, list_two, list_three, but_oldest, squasher}
+use Rattle.pdl_semantics.specs.Cycle.{with_reserves, with_all_writes, with_writes_of, has_release, list_two, list_three, but_oldest, squasher}
 use Rattle.pdl_net.specs.Circuit.{State}
 use Rattle.pdl_net.specs.Signal.{Signal}
-use Rattle.pdl_lockapi.specs.Lock.{WriteAct, Act, LockState, written, entry_at, Proper}
+use Rattle.pdl_lockapi.specs.Lock.{WriteAct, LockAct, LockState, with_writes, entry_at, Proper}
 use Rattle.pdl_lockapi.specs.Lock as lock
-use Rattle.pdl_lockapi.specs.Laws.{holds_ticket, asked, Drives}
-use Rattle.pdl_lockapi.specs.Forget.{forget, forgotten, as_lock, AreOrdered, count_older, has_thread, lock_of, addresses, addresses_of}
+use Rattle.pdl_lockapi.specs.Laws.{holds_ticket, asked_addresses, Drives}
+use Rattle.pdl_lockapi.specs.Forget.{forget, forgotten_entries, as_lock, AreOrdered, count_older, has_thread, lock_state_of, addresses, addresses_of}
 use Rattle.pdl_lockapi.proofs.Threads.{same_append, ticket_covered}
-use Rattle.pdl_machine_facts.specs.Slots.{here, goes, movers_from, moving}
+use Rattle.pdl_machine_facts.specs.Slots.{here, stage_moves, movers_from, moving}
 use Rattle.pdl_machine_facts.specs.Cycle.{IsByStages}
 use Rattle.pdl_machine_facts.specs.Use.{IsInUse}
 use Rattle.pdl_pipe_law.proofs.Stood.{Stood}
 use Rattle.pdl_pipe_law.specs.Walk.{Locks, is_locked, Put, is_on}
 use Rattle.pdl_pipe_law.specs.Views.{Gates, View}
-use Rattle.pdl_pipe_law.specs.Ports.{reserves_to, all_reserves, puts_to, all_puts, released, step_of}
+use Rattle.pdl_pipe_law.specs.Ports.{reserves_to, all_reserves, puts_to, all_puts, release_signal, step_of}
 use Rattle.pdl_pipe_law.specs.Stands.{StandsLock, IsSo, IsSeen, IsSquashed, reserved_in, written_in, let_in}
 use Rattle.pdl_pipe_law.proofs.Signals.{zero_is}
 use Rattle.pdl_pipe_law.proofs.Moves.{ready_of}
@@ -36,10 +36,10 @@ use Rattle.pdl_pipe_law.proofs.LockPorts.{asked_append, asked_stage, lets_stage,
 
 module _ (p : Pipe) (ls : Locks) (vs : ℕ → View) (moves : ℕ → Signal) (s : State) (st : machine.State) (bits : List Bool) (by : IsByStages p st bits) (used : IsInUse p st bits) (seen : (j : ℕ) → j < length p.stages → IsSeen p vs moves s st bits j) (stood : (k : ℕ) (t : Thread) → here p st bits k ≡ Some t → Stood st k t) (m : ℕ) where
   -- what a thread that moves does
-  pub so_at : (k : ℕ) (t : Thread) → k < length p.stages → here p st bits k ≡ Some t → goes p st bits k ≡ true → IsSo p k s (vs k).ended (deeds p st k t)
+  pub so_at : (k : ℕ) (t : Thread) → k < length p.stages → here p st bits k ≡ Some t → stage_moves p st bits k ≡ true → IsSo p k s (vs k).ended (deeds p st k t)
   so_at k t l h g = ((seen k l).follows t h).so (ready_of p st bits k t by l h g)
 
-  reserves_are : (n k : ℕ) → k + n ≡ length p.stages → addresses m (movers_from p st bits n k) ≡ asked s (all_reserves m vs moves n k)
+  reserves_are : (n k : ℕ) → k + n ≡ length p.stages → addresses m (movers_from p st bits n k) ≡ asked_addresses s (all_reserves m vs moves n k)
   reserves_are zero k e = refl
   reserves_are (suc n) k e =
       let l : k < length p.stages = omega (arith, e) in
@@ -47,12 +47,12 @@ module _ (p : Pipe) (ls : Locks) (vs : ℕ → View) (moves : ℕ → Signal) (s
       let i = reserves_are n (suc k) (omega (arith, e)) in
       let rs = (vs k).ended.reserves in
       let back = sym (asked_append s (all_reserves m vs moves n (suc k)) (reserves_to m (moves k) rs)) in
-      let here' = asked_stage s m (moves k) (goes p st bits k) (seen k l).leaves rs in
+      let here' = asked_stage s m (moves k) (stage_moves p st bits k) (seen k l).leaves rs in
       ⊎_elim
-      (λ (f : goes p st bits k ≡ false).
+      (λ (f : stage_moves p st bits k ≡ false).
       ap (λ ms. addresses m (ms ++ rest)) (no_mover p st bits k f) ∙ sym (append-nil (addresses m rest))
       ∙ ap₂ (λ x y. x ++ y) i (ap (λ b. if b then addresses_of m (reserved_in s rs) else []) (sym f) ∙ here') ∙ back)
-      (λ (f : (t : Thread) × (here p st bits k ≡ Some t) × (goes p st bits k ≡ true)).
+      (λ (f : (t : Thread) × (here p st bits k ≡ Some t) × (stage_moves p st bits k ≡ true)).
       ap (λ ms. addresses m (ms ++ rest)) (one_mover p st bits k f.0 f.1 f.2)
       ∙ ap₂ (λ x y. x ++ y) i (ap (addresses_of m) (so_at k f.0 l f.1 f.2).reserves ∙ ap (λ b. if b then addresses_of m (reserved_in s rs) else []) (sym f.2) ∙ here') ∙ back)
       (moves_or_not p st bits k)
@@ -63,25 +63,25 @@ module _ (p : Pipe) (ls : Locks) (vs : ℕ → View) (moves : ℕ → Signal) (s
       let l : k < length p.stages = omega (arith, e) in
       fitting_append s (all_reserves m vs moves n (suc k)) (reserves_to m (moves k) (vs k).ended.reserves)
       (fitting n (suc k) (omega (arith, e)))
-      (fitting_stage s m (moves k) (goes p st bits k) (seen k l).leaves (vs k).ended.reserves (λ g. elim (moves_or_not p st bits k) [
+      (fitting_stage s m (moves k) (stage_moves p st bits k) (seen k l).leaves (vs k).ended.reserves (λ g. elim (moves_or_not p st bits k) [
         | inl f ↦ absurd (false≢true (sym f ∙ g))
         | inr f ↦ (so_at k f.0 l f.1 f.2).fits
       ]))
 
-  release_is : (n k : ℕ) → k + n ≡ length p.stages → (released m vs moves n k).value s ≡ bit (releases m (movers_from p st bits n k))
+  release_is : (n k : ℕ) → k + n ≡ length p.stages → (release_signal m vs moves n k).value s ≡ bit (has_release m (movers_from p st bits n k))
   release_is zero k e = zero_is s
   release_is (suc n) k e =
       let l : k < length p.stages = omega (arith, e) in
       let rest = movers_from p st bits n (suc k) in
       let i = release_is n (suc k) (omega (arith, e)) in
-      lets_stage s m (moves k) (goes p st bits k) (seen k l).leaves (vs k).ended.lettings (released m vs moves n (suc k)) (releases m rest) i
+      lets_stage s m (moves k) (stage_moves p st bits k) (seen k l).leaves (vs k).ended.lettings (release_signal m vs moves n (suc k)) (has_release m rest) i
       ∙ ap bit (⊎_elim
-      (λ (f : goes p st bits k ≡ false).
-      ap (λ b. (b && list_any (λ n. n == m) (let_in s (vs k).ended.lettings)) || releases m rest) f ∙ ap (λ ms. releases m (ms ++ rest)) (sym (no_mover p st bits k f)))
-      (λ (f : (t : Thread) × (here p st bits k ≡ Some t) × (goes p st bits k ≡ true)).
-      ap (λ b. (b && list_any (λ n. n == m) (let_in s (vs k).ended.lettings)) || releases m rest) f.2
-      ∙ ap (λ ns. list_any (λ n. n == m) ns || releases m rest) (sym (so_at k f.0 l f.1 f.2).releases)
-      ∙ ap (λ ms. releases m (ms ++ rest)) (sym (one_mover p st bits k f.0 f.1 f.2)))
+      (λ (f : stage_moves p st bits k ≡ false).
+      ap (λ b. (b && list_any (λ n. n == m) (let_in s (vs k).ended.lettings)) || has_release m rest) f ∙ ap (λ ms. has_release m (ms ++ rest)) (sym (no_mover p st bits k f)))
+      (λ (f : (t : Thread) × (here p st bits k ≡ Some t) × (stage_moves p st bits k ≡ true)).
+      ap (λ b. (b && list_any (λ n. n == m) (let_in s (vs k).ended.lettings)) || has_release m rest) f.2
+      ∙ ap (λ ns. list_any (λ n. n == m) ns || has_release m rest) (sym (so_at k f.0 l f.1 f.2).releases)
+      ∙ ap (λ ms. has_release m (ms ++ rest)) (sym (one_mover p st bits k f.0 f.1 f.2)))
       (moves_or_not p st bits k))
 
   room_from : (n k : ℕ) → k + n ≡ length p.stages → 1 ≤ length (addresses m (movers_from p st bits n k)) → locks.has_room (mem_at p m).lock (length (machine.lock_of st m)) ≡ true
@@ -89,8 +89,8 @@ module _ (p : Pipe) (ls : Locks) (vs : ℕ → View) (moves : ℕ → Signal) (s
   room_from (suc n) k e l =
       let rest = movers_from p st bits n (suc k) in
       ⊎_elim
-      (λ (f : goes p st bits k ≡ false). room_from n (suc k) (omega (arith, e)) (let e = ap (λ ms. length (addresses m (ms ++ rest))) (no_mover p st bits k f) in omega (arith, e, l)))
-      (λ (f : (t : Thread) × (here p st bits k ≡ Some t) × (goes p st bits k ≡ true)).
+      (λ (f : stage_moves p st bits k ≡ false). room_from n (suc k) (omega (arith, e)) (let e = ap (λ ms. length (addresses m (ms ++ rest))) (no_mover p st bits k f) in omega (arith, e, l)))
+      (λ (f : (t : Thread) × (here p st bits k ≡ Some t) × (stage_moves p st bits k ≡ true)).
       let d = deeds p st k f.0 in
       let g = ap (λ ms. length (addresses m (ms ++ rest))) (one_mover p st bits k f.0 f.1 f.2) ∙ length-append (addresses m rest) (addresses_of m d.reserves) in
       let room = (and_parts (blocks_ready p st f.0.number d) (have_room p st d) (ready_of p st bits k f.0 by (omega (arith, e)) f.1 f.2)).1 in
@@ -104,7 +104,7 @@ module _ (p : Pipe) (ls : Locks) (vs : ℕ → View) (moves : ℕ → Signal) (s
 
   -- the machine's pending writes with those that this cycle appends
   abbrev pub pending : List Pending
-  pending = appended m (moving p st bits) (machine.lock_of st m)
+  pending = with_reserves m (moving p st bits) (machine.lock_of st m)
 
   abbrev older_of : Option Thread → ℕ
   older_of None = 0
@@ -128,7 +128,7 @@ module _ (p : Pipe) (ls : Locks) (vs : ℕ → View) (moves : ℕ → Signal) (s
       ∙ same_count t 0 es new (subst (AreOrdered 0) e (used.ordered_next m)) (let n = new_count m (moving p st bits) in omega (arith, n, few)) (ap (has_thread t) (sym e) ∙ h)
 
   -- a thread that moves and writes has a pending write, and is in time
-  has_written : (k : ℕ) (t : Thread) → k < length p.stages → here p st bits k ≡ Some t → goes p st bits k ≡ true → writes_to m (written_in s (vs k).ended.puts) ≡ true → (k ≤ commit_stage p m) × (has_thread t.number pending ≡ true)
+  has_written : (k : ℕ) (t : Thread) → k < length p.stages → here p st bits k ≡ Some t → stage_moves p st bits k ≡ true → writes_to m (written_in s (vs k).ended.puts) ≡ true → (k ≤ commit_stage p m) × (has_thread t.number pending ≡ true)
   has_written k t l h g w =
       let c = write_among m (written_in s (vs k).ended.puts) w in
       used.writer k t m c.0 h g (let P : List Written → Type 0 = λ ws. Contains ws (record { mem = m; value = c.0 }) in subst P (sym (so_at k t l h g).writes) c.1)
@@ -140,18 +140,18 @@ module _ (p : Pipe) (ls : Locks) (vs : ℕ → View) (moves : ℕ → Signal) (s
     -- the ticket from which on a squash drops
     abbrev pub tail_with : Option ℕ → ℕ
     tail_with None = 0
-    tail_with (Some n) = base + bit (releases m (moving p st bits)) + count_older (suc n) (list_three st (moving p st bits) m)
+    tail_with (Some n) = base + bit (has_release m (moving p st bits)) + count_older (suc n) (list_three st (moving p st bits) m)
 
     -- what the write ports of these stages do
     abbrev pub acts_of : ℕ → ℕ → List WriteAct
     acts_of zero k = []
-    acts_of (suc n) k = acts_of n (suc k) ++ write_acts s m (goes p st bits k) (base + older_of (here p st bits k)) (vs k).ended.puts
+    acts_of (suc n) k = acts_of n (suc k) ++ write_acts s m (stage_moves p st bits k) (base + older_of (here p st bits k)) (vs k).ended.puts
 
-    abbrev pub act_of : Act
+    abbrev pub act_of : LockAct
     act_of = record {
       reserves = addresses m (moving p st bits);
       writes = acts_of (length p.stages) 0;
-      release = releases m (moving p st bits);
+      release = has_release m (moving p st bits);
       squash = is_some (squasher (moving p st bits));
       tail = tail_with (squasher (moving p st bits));
     }
@@ -165,9 +165,9 @@ module _ (p : Pipe) (ls : Locks) (vs : ℕ → View) (moves : ℕ → Signal) (s
     driven (suc n) k e =
         let l : k < length p.stages = omega (arith, e) in
         let xs = (vs k).ended.puts in
-        driven_append (ls.bits m) s (acts_of n (suc k)) (write_acts s m (goes p st bits k) (base + older_of (here p st bits k)) xs) (all_puts m vs moves n (suc k)) (puts_to m (moves k) ((vs k).tickets m) xs)
+        driven_append (ls.bits m) s (acts_of n (suc k)) (write_acts s m (stage_moves p st bits k) (base + older_of (here p st bits k)) xs) (all_puts m vs moves n (suc k)) (puts_to m (moves k) ((vs k).tickets m) xs)
         (driven n (suc k) (omega (arith, e)))
-        (driven_stage (ls.bits m) s m (base + older_of (here p st bits k)) (moves k) ((vs k).tickets m) (goes p st bits k) xs (seen k l).leaves
+        (driven_stage (ls.bits m) s m (base + older_of (here p st bits k)) (moves k) ((vs k).tickets m) (stage_moves p st bits k) xs (seen k l).leaves
         (λ g. at (moves_or_not p st bits k) g (λ t h g. (so_at k t l h g).bits))
         (λ g w. at (moves_or_not p st bits k) g (λ t h g.
         let low = (has_written k t l h g w).0 in
@@ -175,7 +175,7 @@ module _ (p : Pipe) (ls : Locks) (vs : ℕ → View) (moves : ℕ → Signal) (s
         let u = stood k t h in
         subst P (sym h) (subst (λ n. holds_ticket (ls.bits m) ((vs k).tickets m) s (base + count_older n (machine.lock_of st m))) u.number (stand.tickets k u.thread u.slot low)))))
       where
-        at : {R : Type 0} → (goes p st bits k ≡ false) ⊎ ((t : Thread) × (here p st bits k ≡ Some t) × (goes p st bits k ≡ true)) → goes p st bits k ≡ true → ((t : Thread) → here p st bits k ≡ Some t → goes p st bits k ≡ true → R) → R
+        at : {R : Type 0} → (stage_moves p st bits k ≡ false) ⊎ ((t : Thread) × (here p st bits k ≡ Some t) × (stage_moves p st bits k ≡ true)) → stage_moves p st bits k ≡ true → ((t : Thread) → here p st bits k ≡ Some t → stage_moves p st bits k ≡ true → R) → R
         at (inl f) g h = absurd (false≢true (sym f ∙ g))
         at (inr f) g h = h f.0 f.1 f.2
 
@@ -197,7 +197,7 @@ module _ (p : Pipe) (ls : Locks) (vs : ℕ → View) (moves : ℕ → Signal) (s
         }
 
     -- the writes of these stages go into pending writes
-    pub all_written : (n k : ℕ) → k + n ≡ length p.stages → (forgotten (filled m (movers_from p st bits n k) pending) ≡ written base (acts_of n k) (forgotten pending)) × IsAlike (filled m (movers_from p st bits n k) pending) pending
+    pub all_written : (n k : ℕ) → k + n ≡ length p.stages → (forgotten_entries (with_all_writes m (movers_from p st bits n k) pending) ≡ with_writes base (acts_of n k) (forgotten_entries pending)) × IsAlike (with_all_writes m (movers_from p st bits n k) pending) pending
     all_written zero k e = (refl, alike pending (used.ordered_next m))
     all_written (suc n) k e =
         let l : k < length p.stages = omega (arith, e) in
@@ -205,28 +205,28 @@ module _ (p : Pipe) (ls : Locks) (vs : ℕ → View) (moves : ℕ → Signal) (s
         let i = all_written n (suc k) (omega (arith, e)) in
         let ticket = base + older_of (here p st bits k) in
         let xs = (vs k).ended.puts in
-        let now = written_append base (acts_of n (suc k)) (write_acts s m (goes p st bits k) ticket xs) (forgotten pending) in
-        let before = written base (acts_of n (suc k)) (forgotten pending) in
-        let P : List Mover → Type 0 = λ ms. (forgotten (filled m (ms ++ rest) pending) ≡ written base (acts_of (suc n) k) (forgotten pending)) × IsAlike (filled m (ms ++ rest) pending) pending in
+        let now = written_append base (acts_of n (suc k)) (write_acts s m (stage_moves p st bits k) ticket xs) (forgotten_entries pending) in
+        let before = with_writes base (acts_of n (suc k)) (forgotten_entries pending) in
+        let P : List Mover → Type 0 = λ ms. (forgotten_entries (with_all_writes m (ms ++ rest) pending) ≡ with_writes base (acts_of (suc n) k) (forgotten_entries pending)) × IsAlike (with_all_writes m (ms ++ rest) pending) pending in
         ⊎_elim
-        (λ (f : goes p st bits k ≡ false).
+        (λ (f : stage_moves p st bits k ≡ false).
         subst P (sym (no_mover p st bits k f)) (
-          i.0 ∙ sym (now ∙ ap (λ b. written base (write_acts s m b ticket xs) before) f ∙ none_written s m base ticket xs before),
+          i.0 ∙ sym (now ∙ ap (λ b. with_writes base (write_acts s m b ticket xs) before) f ∙ none_written s m base ticket xs before),
           i.1,
         ))
-        (λ (f : (t : Thread) × (here p st bits k ≡ Some t) × (goes p st bits k ≡ true)).
+        (λ (f : (t : Thread) × (here p st bits k ≡ Some t) × (stage_moves p st bits k ≡ true)).
         let t = f.0.number in
-        let es = filled m rest pending in
+        let es = with_all_writes m rest pending in
         let j = stage_written s m base t ticket pending xs es i.1 (λ to.
         let has = (has_written k f.0 l f.1 f.2 to).1 in (
           has,
           ap (λ o. base + older_of o) f.1 ∙ ap (λ c. base + c) (sym (older_same t has)),
         )) in
         let writes = (so_at k f.0 l f.1 f.2).writes in
-        let Q : List Written → Type 0 = λ ws. (forgotten (put_all m t ws es) ≡ written base (write_acts s m true ticket xs) (forgotten es)) × IsAlike (put_all m t ws es) pending in
+        let Q : List Written → Type 0 = λ ws. (forgotten_entries (with_writes_of m t ws es) ≡ with_writes base (write_acts s m true ticket xs) (forgotten_entries es)) × IsAlike (with_writes_of m t ws es) pending in
         let q = subst Q (sym writes) j in
         subst P (sym (one_mover p st bits k f.0 f.1 f.2)) (
-          q.0 ∙ ap (written base (write_acts s m true ticket xs)) i.0 ∙ ap (λ b. written base (write_acts s m b ticket xs) before) (sym f.2) ∙ sym now,
+          q.0 ∙ ap (with_writes base (write_acts s m true ticket xs)) i.0 ∙ ap (λ b. with_writes base (write_acts s m b ticket xs) before) (sym f.2) ∙ sym now,
           q.1,
         ))
         (moves_or_not p st bits k)
@@ -260,9 +260,9 @@ module _ (p : Pipe) (ls : Locks) (vs : ℕ → View) (moves : ℕ → Signal) (s
     all_within : (n k : ℕ) → k + n ≡ length p.stages → AreWithin (base + length pending) (acts_of n k)
     all_within zero k e = tt
     all_within (suc n) k e =
-        within_append (base + length pending) (acts_of n (suc k)) (write_acts s m (goes p st bits k) (base + older_of (here p st bits k)) (vs k).ended.puts)
+        within_append (base + length pending) (acts_of n (suc k)) (write_acts s m (stage_moves p st bits k) (base + older_of (here p st bits k)) (vs k).ended.puts)
         (all_within n (suc k) (omega (arith, e)))
-        (within_stage (base + length pending) (goes p st bits k) (base + older_of (here p st bits k)) (vs k).ended.puts
+        (within_stage (base + length pending) (stage_moves p st bits k) (base + older_of (here p st bits k)) (vs k).ended.puts
         (λ g w. elim (moves_or_not p st bits k) [
           | inl f ↦ absurd (false≢true (sym f ∙ g))
           | inr f ↦ (
@@ -274,12 +274,12 @@ module _ (p : Pipe) (ls : Locks) (vs : ℕ → View) (moves : ℕ → Signal) (s
         ]))
 
     abbrev before : LockState
-    before = lock_of base (machine.lock_of st m) stand.words
+    before = lock_state_of base (machine.lock_of st m) stand.words
 
     -- after appends and writes the lock has the machine's pending writes
-    pub filled_is : lock.filled before act_of ≡ forgotten (list_two st (moving p st bits) m)
+    pub filled_is : lock.filled_entries before act_of ≡ forgotten_entries (list_two st (moving p st bits) m)
     filled_is =
-        ap (written base (acts_of (length p.stages) 0)) (sym (same_append m (moving p st bits) (machine.lock_of st m)))
+        ap (with_writes base (acts_of (length p.stages) 0)) (sym (same_append m (moving p st bits) (machine.lock_of st m)))
         ∙ sym (all_written (length p.stages) 0 (omega arith)).0
 
     -- a squash keeps a front of what is left
@@ -287,9 +287,9 @@ module _ (p : Pipe) (ls : Locks) (vs : ℕ → View) (moves : ℕ → Signal) (s
     next_low true c = omega arith
     next_low false c = omega arith
 
-    tail_low : (q : Option ℕ) → is_some q ≡ true → (if releases m (moving p st bits) then base + 1 else base) ≤ tail_with q
+    tail_low : (q : Option ℕ) → is_some q ≡ true → (if has_release m (moving p st bits) then base + 1 else base) ≤ tail_with q
     tail_low None g = absurd (false≢true g)
-    tail_low (Some n) g = next_low (releases m (moving p st bits)) (count_older (suc n) (list_three st (moving p st bits) m))
+    tail_low (Some n) g = next_low (has_release m (moving p st bits)) (count_older (suc n) (list_three st (moving p st bits) m))
 
     three_long : (b : Bool) (es : List Pending) → (b ≡ true → 1 ≤ length es) → length (if b then but_oldest es else es) + bit b ≤ length es
     three_long true [] h = h refl
@@ -300,7 +300,7 @@ module _ (p : Pipe) (ls : Locks) (vs : ℕ → View) (moves : ℕ → Signal) (s
     tail_high None = omega arith
     tail_high (Some n) =
         let two = (all_written (length p.stages) 0 (omega arith)).1.long in
-        let three = three_long (releases m (moving p st bits)) (list_two st (moving p st bits) m) (λ g. let r = ap length (used.releaser m g).3 in omega (arith, r)) in
+        let three = three_long (has_release m (moving p st bits)) (list_two st (moving p st bits) m) (λ g. let r = ap length (used.releaser m g).3 in omega (arith, r)) in
         let few = ticket_covered (suc n) (list_three st (moving p st bits) m) in
         omega (arith, two, three, few)
 
@@ -325,7 +325,7 @@ module _ (p : Pipe) (ls : Locks) (vs : ℕ → View) (moves : ℕ → Signal) (s
           below = λ k l o. let b = (within_at (base + length pending) (acts_of (length p.stages) 0) within k l o).1 in omega (arith, b, count, long);
           done = λ e.
               let r = used.releaser m e in
-              ap (λ xs. is_some (entry_at xs 0).value) (filled_is ∙ ap forgotten r.3) ∙ ap is_some r.4;
+              ap (λ xs. is_some (entry_at xs 0).value) (filled_is ∙ ap forgotten_entries r.3) ∙ ap is_some r.4;
           tail_from = λ g. tail_low (squasher (moving p st bits)) g;
           tail_to = λ g. let z = tail_high (squasher (moving p st bits)) in omega (arith, z, count, long);
         }

@@ -10,24 +10,24 @@ use Rattle.pdl_semantics.specs.Machine as machine
 use Rattle.pdl_semantics.specs.Machine.{Thread, Pending, Reserved, Written, deeds}
 use Rattle.pdl_net.specs.Circuit.{State}
 use Rattle.pdl_net.specs.Signal.{Signal, mux_signal}
-use Rattle.pdl_lockapi.specs.Lock.{WriteAct, Act, LockState, written, entry_at, Proper}
+use Rattle.pdl_lockapi.specs.Lock.{WriteAct, LockAct, LockState, with_writes, entry_at, Proper}
 use Rattle.pdl_lockapi.specs.Lock as lock
-use Rattle.pdl_lockapi.specs.Laws.{ReserveSignal, TicketSignal, FitsIn, holds_ticket, reserve_at, ticket_at, asked}
+use Rattle.pdl_lockapi.specs.Laws.{ReserveSignal, TicketSignal, FitsIn, holds_ticket, reserve_at, ticket_at, asked_addresses}
 use Rattle.pdl_lockapi.specs.Forget.{addresses_of}
-use Rattle.pdl_machine_facts.specs.Slots.{here, goes_of, goes, mover, act_at}
+use Rattle.pdl_machine_facts.specs.Slots.{here, slot_moves, stage_moves, mover, act_at}
 use Rattle.pdl_pipe_law.specs.Walk.{Reservation, Put, Letting, both, one, zero_bit, is_on}
-use Rattle.pdl_pipe_law.specs.Ports.{reserves_to, puts_to, lets}
+use Rattle.pdl_pipe_law.specs.Ports.{reserves_to, puts_to, release_moves}
 use Rattle.pdl_pipe_law.specs.Stands.{AddressesFit, AreBits, reserved_in, written_in, let_in}
 use Rattle.pdl_pipe_law.proofs.Signals.{mux_at, mux_by, both_at, one_is, zero_is}
 use Rattle.pdl_pipe_law.proofs.LockUse.{writes_to, write_acts}
 
 -- PORTS OF ONE STAGE
 
-pub asked_append : (s : State) (xs ys : List ReserveSignal) → asked s (xs ++ ys) ≡ asked s xs ++ asked s ys
+pub asked_append : (s : State) (xs ys : List ReserveSignal) → asked_addresses s (xs ++ ys) ≡ asked_addresses s xs ++ asked_addresses s ys
 asked_append s [] ys = refl
 asked_append s (x ∷ xs) ys = at (x.enable.value s == 1) (asked_append s xs ys)
   where
-    at : (b : Bool) → asked s (xs ++ ys) ≡ asked s xs ++ asked s ys → (if b then x.addr.value s ∷ asked s (xs ++ ys) else asked s (xs ++ ys)) ≡ (if b then x.addr.value s ∷ asked s xs else asked s xs) ++ asked s ys
+    at : (b : Bool) → asked_addresses s (xs ++ ys) ≡ asked_addresses s xs ++ asked_addresses s ys → (if b then x.addr.value s ∷ asked_addresses s (xs ++ ys) else asked_addresses s (xs ++ ys)) ≡ (if b then x.addr.value s ∷ asked_addresses s xs else asked_addresses s xs) ++ asked_addresses s ys
     at true e = ap (λ l. x.addr.value s ∷ l) e
     at false e = e
 
@@ -37,30 +37,30 @@ both_is s a b true e = ap (λ n. n == 1) (mux_at s a b zero_bit true e)
 both_is s a b false e = ap (λ n. n == 1) (mux_at s a b zero_bit false e ∙ zero_is s)
 
 -- the addresses of reservations that a stage asks
-pub asked_stage : (s : State) (m : ℕ) (moves : Signal) (g : Bool) → moves.value s ≡ bit g → (rs : List Reservation) → (if g then addresses_of m (reserved_in s rs) else []) ≡ asked s (reserves_to m moves rs)
+pub asked_stage : (s : State) (m : ℕ) (moves : Signal) (g : Bool) → moves.value s ≡ bit g → (rs : List Reservation) → (if g then addresses_of m (reserved_in s rs) else []) ≡ asked_addresses s (reserves_to m moves rs)
 asked_stage s m moves true e [] = refl
 asked_stage s m moves false e [] = refl
 asked_stage s m moves false e (r ∷ rs) = at (r.mem == m) (asked_stage s m moves false e rs)
   where
-    at : (b : Bool) → [] ≡ asked s (reserves_to m moves rs) → [] ≡ asked s (if b then record { enable = both moves r.on; addr = r.addr } ∷ reserves_to m moves rs else reserves_to m moves rs)
-    at true i = i ∙ ap (λ t. if t then r.addr.value s ∷ asked s (reserves_to m moves rs) else asked s (reserves_to m moves rs)) (sym (both_is s moves r.on false e))
+    at : (b : Bool) → [] ≡ asked_addresses s (reserves_to m moves rs) → [] ≡ asked_addresses s (if b then record { enable = both moves r.on; addr = r.addr } ∷ reserves_to m moves rs else reserves_to m moves rs)
+    at true i = i ∙ ap (λ t. if t then r.addr.value s ∷ asked_addresses s (reserves_to m moves rs) else asked_addresses s (reserves_to m moves rs)) (sym (both_is s moves r.on false e))
     at false i = i
 asked_stage s m moves true e (r ∷ rs) = at (is_on r.on s) (both_is s moves r.on true e) (asked_stage s m moves true e rs)
   where
     rest : List ReserveSignal
     rest = reserves_to m moves rs
 
-    at : (o : Bool) → ((both moves r.on).value s == 1) ≡ o → addresses_of m (reserved_in s rs) ≡ asked s rest
-        → addresses_of m (if o then record { mem = r.mem; address = r.addr.value s } ∷ reserved_in s rs else reserved_in s rs) ≡ asked s (if r.mem == m then record { enable = both moves r.on; addr = r.addr } ∷ rest else rest)
+    at : (o : Bool) → ((both moves r.on).value s == 1) ≡ o → addresses_of m (reserved_in s rs) ≡ asked_addresses s rest
+        → addresses_of m (if o then record { mem = r.mem; address = r.addr.value s } ∷ reserved_in s rs else reserved_in s rs) ≡ asked_addresses s (if r.mem == m then record { enable = both moves r.on; addr = r.addr } ∷ rest else rest)
     at true f i = by (r.mem == m)
       where
-        by : (b : Bool) → (if b then r.addr.value s ∷ [] else []) ++ addresses_of m (reserved_in s rs) ≡ asked s (if b then record { enable = both moves r.on; addr = r.addr } ∷ rest else rest)
-        by true = ap (λ l. r.addr.value s ∷ l) i ∙ ap (λ t. if t then r.addr.value s ∷ asked s rest else asked s rest) (sym f)
+        by : (b : Bool) → (if b then r.addr.value s ∷ [] else []) ++ addresses_of m (reserved_in s rs) ≡ asked_addresses s (if b then record { enable = both moves r.on; addr = r.addr } ∷ rest else rest)
+        by true = ap (λ l. r.addr.value s ∷ l) i ∙ ap (λ t. if t then r.addr.value s ∷ asked_addresses s rest else asked_addresses s rest) (sym f)
         by false = i
     at false f i = by (r.mem == m)
       where
-        by : (b : Bool) → addresses_of m (reserved_in s rs) ≡ asked s (if b then record { enable = both moves r.on; addr = r.addr } ∷ rest else rest)
-        by true = i ∙ ap (λ t. if t then r.addr.value s ∷ asked s rest else asked s rest) (sym f)
+        by : (b : Bool) → addresses_of m (reserved_in s rs) ≡ asked_addresses s (if b then record { enable = both moves r.on; addr = r.addr } ∷ rest else rest)
+        by true = i ∙ ap (λ t. if t then r.addr.value s ∷ asked_addresses s rest else asked_addresses s rest) (sym f)
         by false = i
 
 -- the address of each reservation that is made fits
@@ -92,18 +92,18 @@ fitting_stage s m moves g e (r ∷ rs) h = at (fitting_stage s m moves g e rs (�
     at i false = i
 
 -- whether a stage lets go
-pub lets_stage : (s : State) (m : ℕ) (moves : Signal) (g : Bool) → moves.value s ≡ bit g → (ls : List Letting) (rest : Signal) (b : Bool) → rest.value s ≡ bit b → (lets m moves ls rest).value s ≡ bit ((g && list_any (λ n. n == m) (let_in s ls)) || b)
+pub lets_stage : (s : State) (m : ℕ) (moves : Signal) (g : Bool) → moves.value s ≡ bit g → (ls : List Letting) (rest : Signal) (b : Bool) → rest.value s ≡ bit b → (release_moves m moves ls rest).value s ≡ bit ((g && list_any (λ n. n == m) (let_in s ls)) || b)
 lets_stage s m moves true e [] rest b h = h
 lets_stage s m moves false e [] rest b h = h
 lets_stage s m moves false e (l ∷ ls) rest b h = at (l.mem == m) (lets_stage s m moves false e ls rest b h)
   where
-    at : (t : Bool) → (lets m moves ls rest).value s ≡ bit b → (if t then mux_signal (both moves l.on) one (lets m moves ls rest) else lets m moves ls rest).value s ≡ bit b
-    at true i = mux_by s (both moves l.on) one (lets m moves ls rest) ∙ ap (λ t. if t then one.value s else (lets m moves ls rest).value s) (both_is s moves l.on false e) ∙ i
+    at : (t : Bool) → (release_moves m moves ls rest).value s ≡ bit b → (if t then mux_signal (both moves l.on) one (release_moves m moves ls rest) else release_moves m moves ls rest).value s ≡ bit b
+    at true i = mux_by s (both moves l.on) one (release_moves m moves ls rest) ∙ ap (λ t. if t then one.value s else (release_moves m moves ls rest).value s) (both_is s moves l.on false e) ∙ i
     at false i = i
 lets_stage s m moves true e (l ∷ ls) rest b h = at (is_on l.on s) (both_is s moves l.on true e) (lets_stage s m moves true e ls rest b h)
   where
     more : Signal
-    more = lets m moves ls rest
+    more = release_moves m moves ls rest
 
     left : Bool
     left = list_any (λ n. n == m) (let_in s ls)
@@ -191,16 +191,16 @@ room_of q st m (r ∷ rs) h l =
     at rest here false e i = rest i
 
 -- nobody moves out of a stage, or its thread does
-pub moves_or_not : (p : Pipe) (st : machine.State) (bits : List Bool) (k : ℕ) → (goes p st bits k ≡ false) ⊎ ((t : Thread) × (here p st bits k ≡ Some t) × (goes p st bits k ≡ true))
-moves_or_not p st bits k = at (goes p st bits k) (here p st bits k) refl refl
+pub moves_or_not : (p : Pipe) (st : machine.State) (bits : List Bool) (k : ℕ) → (stage_moves p st bits k ≡ false) ⊎ ((t : Thread) × (here p st bits k ≡ Some t) × (stage_moves p st bits k ≡ true))
+moves_or_not p st bits k = at (stage_moves p st bits k) (here p st bits k) refl refl
   where
-    at : (b : Bool) (o : Option Thread) → goes p st bits k ≡ b → here p st bits k ≡ o → (goes p st bits k ≡ false) ⊎ ((t : Thread) × (here p st bits k ≡ Some t) × (goes p st bits k ≡ true))
+    at : (b : Bool) (o : Option Thread) → stage_moves p st bits k ≡ b → here p st bits k ≡ o → (stage_moves p st bits k ≡ false) ⊎ ((t : Thread) × (here p st bits k ≡ Some t) × (stage_moves p st bits k ≡ true))
     at false o e h = inl e
     at true (Some t) e h = inr (t, h, e)
-    at true None e h = absurd (false≢true (sym (ap (goes_of p st bits k) h) ∙ e))
+    at true None e h = absurd (false≢true (sym (ap (slot_moves p st bits k) h) ∙ e))
 
-pub no_mover : (p : Pipe) (st : machine.State) (bits : List Bool) (k : ℕ) → goes p st bits k ≡ false → mover p st k (goes p st bits k) (here p st bits k) ≡ []
+pub no_mover : (p : Pipe) (st : machine.State) (bits : List Bool) (k : ℕ) → stage_moves p st bits k ≡ false → mover p st k (stage_moves p st bits k) (here p st bits k) ≡ []
 no_mover p st bits k e = ap (λ b. mover p st k b (here p st bits k)) e
 
-pub one_mover : (p : Pipe) (st : machine.State) (bits : List Bool) (k : ℕ) (t : Thread) → here p st bits k ≡ Some t → goes p st bits k ≡ true → mover p st k (goes p st bits k) (here p st bits k) ≡ act_at p st k t ∷ []
+pub one_mover : (p : Pipe) (st : machine.State) (bits : List Bool) (k : ℕ) (t : Thread) → here p st bits k ≡ Some t → stage_moves p st bits k ≡ true → mover p st k (stage_moves p st bits k) (here p st bits k) ≡ act_at p st k t ∷ []
 one_mover p st bits k t h e = ap₂ (mover p st k) e h

@@ -5,16 +5,16 @@ use Rattle.std.proofs.lemmas.Bool.{cases_lt, false≢true, eqb-true}
 use Rattle.std.proofs.lemmas.Bool.Decides.{eqb_tells}
 use Rattle.pdl_semantics.specs.Machine.{Pending, Written}
 use Rattle.pdl_semantics.specs.Moves.{Act}
-use Rattle.pdl_semantics.specs.Cycle.{new_entries, appended, put, put_all}
+use Rattle.pdl_semantics.specs.Cycle.{new_entries, with_reserves, with_value_of, with_writes_of}
 use Rattle.pdl_net.specs.Circuit.{State}
-use Rattle.pdl_lockapi.specs.Lock.{WriteAct, written}
+use Rattle.pdl_lockapi.specs.Lock.{WriteAct, with_writes}
 use Rattle.pdl_lockapi.specs.Lock as lock
-use Rattle.pdl_lockapi.specs.Forget.{forgotten, AreOrdered, count_older, has_thread, ticket_of, addresses_of, addresses}
+use Rattle.pdl_lockapi.specs.Forget.{forgotten_entries, AreOrdered, count_older, has_thread, ticket_of, addresses_of, addresses}
 use Rattle.pdl_lockapi.proofs.Lengths.{new_long}
 use Rattle.pdl_lockapi.proofs.Threads.{none_older, same_put}
 use Rattle.pdl_pipe_law.specs.Walk.{Put, is_on}
 use Rattle.pdl_pipe_law.specs.Stands.{written_in}
-use Rattle.pdl_invariant.proofs.LockCycle.{put_length}
+use Rattle.pdl_semantics.proofs.Facts.{put_length}
 
 -- THREADS
 
@@ -56,21 +56,21 @@ put_thread : (b : Bool) (v : ℕ) (e : Pending) → (if b then record e { value 
 put_thread true v e = refl
 put_thread false v e = refl
 
-put_count : (u t v : ℕ) (es : List Pending) → count_older u (put t v es) ≡ count_older u es
+put_count : (u t v : ℕ) (es : List Pending) → count_older u (with_value_of t v es) ≡ count_older u es
 put_count u t v [] = refl
 put_count u t v (e ∷ es) = ap₂ (λ n c. if nat_lt n u then suc c else c) (put_thread (e.thread == t) v e) (put_count u t v es)
 
-put_has : (u t v : ℕ) (es : List Pending) → has_thread u (put t v es) ≡ has_thread u es
+put_has : (u t v : ℕ) (es : List Pending) → has_thread u (with_value_of t v es) ≡ has_thread u es
 put_has u t v [] = refl
 put_has u t v (e ∷ es) = ap₂ (λ n c. if n == u then true else c) (put_thread (e.thread == t) v e) (put_has u t v es)
 
-put_ordered : (u t v : ℕ) (es : List Pending) → AreOrdered u es → AreOrdered u (put t v es)
+put_ordered : (u t v : ℕ) (es : List Pending) → AreOrdered u es → AreOrdered u (with_value_of t v es)
 put_ordered u t v [] o = tt
 put_ordered u t v (e ∷ es) o =
-    let P : ℕ → Type 0 = λ n. (u ≤ n) × AreOrdered (n + 1) (put t v es) in
+    let P : ℕ → Type 0 = λ n. (u ≤ n) × AreOrdered (n + 1) (with_value_of t v es) in
     subst P (sym (put_thread (e.thread == t) v e)) (o.0, put_ordered (e.thread + 1) t v es o.1)
 
-pub put_alike : (t v : ℕ) (es fs : List Pending) → IsAlike es fs → IsAlike (put t v es) fs
+pub put_alike : (t v : ℕ) (es fs : List Pending) → IsAlike es fs → IsAlike (with_value_of t v es) fs
 put_alike t v es fs h = record {
   ordered = put_ordered 0 t v es h.ordered;
   count = λ u. put_count u t v es ∙ h.count u;
@@ -85,7 +85,7 @@ abbrev pub all_new : ℕ → List Act → List Pending
 all_new m [] = []
 all_new m (a ∷ ms) = all_new m ms ++ new_entries m a.thread.number a.does.reserves
 
-pub appended_is : (m : ℕ) (ms : List Act) (es : List Pending) → appended m ms es ≡ es ++ all_new m ms
+pub appended_is : (m : ℕ) (ms : List Act) (es : List Pending) → with_reserves m ms es ≡ es ++ all_new m ms
 appended_is m [] es = sym (append-nil es)
 appended_is m (a ∷ ms) es = ap (λ l. l ++ new_entries m a.thread.number a.does.reserves) (appended_is m ms es) ∙ append_assoc es (all_new m ms) (new_entries m a.thread.number a.does.reserves)
 
@@ -120,22 +120,22 @@ abbrev pub write_acts : State → ℕ → Bool → ℕ → List Put → List Wri
 write_acts s m goes ticket [] = []
 write_acts s m goes ticket (x ∷ xs) = if x.mem == m then record { on = goes && is_on x.on s; ticket = ticket; value = x.value.value s } ∷ write_acts s m goes ticket xs else write_acts s m goes ticket xs
 
-pub written_append : (base : ℕ) (xs ys : List WriteAct) (es : List lock.Entry) → written base (xs ++ ys) es ≡ written base ys (written base xs es)
+pub written_append : (base : ℕ) (xs ys : List WriteAct) (es : List lock.Entry) → with_writes base (xs ++ ys) es ≡ with_writes base ys (with_writes base xs es)
 written_append base [] ys es = refl
-written_append base (x ∷ xs) ys es = written_append base xs ys (lock.put base x es)
+written_append base (x ∷ xs) ys es = written_append base xs ys (lock.with_write base x es)
 
 -- where the thread stays nothing is written
-pub none_written : (s : State) (m base ticket : ℕ) (xs : List Put) (es : List lock.Entry) → written base (write_acts s m false ticket xs) es ≡ es
+pub none_written : (s : State) (m base ticket : ℕ) (xs : List Put) (es : List lock.Entry) → with_writes base (write_acts s m false ticket xs) es ≡ es
 none_written s m base ticket [] es = refl
 none_written s m base ticket (x ∷ xs) es = at (none_written s m base ticket xs es) (x.mem == m)
   where
-    at : written base (write_acts s m false ticket xs) es ≡ es → (b : Bool) → written base (if b then record { on = false; ticket = ticket; value = x.value.value s } ∷ write_acts s m false ticket xs else write_acts s m false ticket xs) es ≡ es
+    at : with_writes base (write_acts s m false ticket xs) es ≡ es → (b : Bool) → with_writes base (if b then record { on = false; ticket = ticket; value = x.value.value s } ∷ write_acts s m false ticket xs else write_acts s m false ticket xs) es ≡ es
     at i true = i
     at i false = i
 
 -- where it moves the lock's pending writes become those of the machine
 pub stage_written : (s : State) (m base t ticket : ℕ) (fs : List Pending) (xs : List Put) (es : List Pending) → IsAlike es fs → (writes_to m (written_in s xs) ≡ true → (has_thread t fs ≡ true) × (ticket ≡ base + count_older t fs))
-    → (forgotten (put_all m t (written_in s xs) es) ≡ written base (write_acts s m true ticket xs) (forgotten es)) × IsAlike (put_all m t (written_in s xs) es) fs
+    → (forgotten_entries (with_writes_of m t (written_in s xs) es) ≡ with_writes base (write_acts s m true ticket xs) (forgotten_entries es)) × IsAlike (with_writes_of m t (written_in s xs) es) fs
 stage_written s m base t ticket fs [] es a h = (refl, a)
 stage_written s m base t ticket fs (x ∷ xs) es a h = at (λ gs b g. stage_written s m base t ticket fs xs gs b g) (is_on x.on s) (x.mem == m) h
   where
@@ -149,27 +149,27 @@ stage_written s m base t ticket fs (x ∷ xs) es a h = at (λ gs b g. stage_writ
     acts = write_acts s m true ticket xs
 
     at : ((gs : List Pending) → IsAlike gs fs → (writes_to m (written_in s xs) ≡ true → Has)
-        → (forgotten (put_all m t (written_in s xs) gs) ≡ written base acts (forgotten gs)) × IsAlike (put_all m t (written_in s xs) gs) fs)
+        → (forgotten_entries (with_writes_of m t (written_in s xs) gs) ≡ with_writes base acts (forgotten_entries gs)) × IsAlike (with_writes_of m t (written_in s xs) gs) fs)
         → (o b : Bool) → (writes_to m (if o then record { mem = x.mem; value = v } ∷ written_in s xs else written_in s xs) ≡ true → Has)
-        → (forgotten (put_all m t (if o then record { mem = x.mem; value = v } ∷ written_in s xs else written_in s xs) es) ≡ written base (if x.mem == m then record { on = o; ticket = ticket; value = v } ∷ acts else acts) (forgotten es))
-        × IsAlike (put_all m t (if o then record { mem = x.mem; value = v } ∷ written_in s xs else written_in s xs) es) fs
+        → (forgotten_entries (with_writes_of m t (if o then record { mem = x.mem; value = v } ∷ written_in s xs else written_in s xs) es) ≡ with_writes base (if x.mem == m then record { on = o; ticket = ticket; value = v } ∷ acts else acts) (forgotten_entries es))
+        × IsAlike (with_writes_of m t (if o then record { mem = x.mem; value = v } ∷ written_in s xs else written_in s xs) es) fs
     at rest false b g = by (rest es a g) (x.mem == m)
       where
-        by : (forgotten (put_all m t (written_in s xs) es) ≡ written base acts (forgotten es)) × IsAlike (put_all m t (written_in s xs) es) fs → (b : Bool)
-            → (forgotten (put_all m t (written_in s xs) es) ≡ written base (if b then record { on = false; ticket = ticket; value = v } ∷ acts else acts) (forgotten es)) × IsAlike (put_all m t (written_in s xs) es) fs
+        by : (forgotten_entries (with_writes_of m t (written_in s xs) es) ≡ with_writes base acts (forgotten_entries es)) × IsAlike (with_writes_of m t (written_in s xs) es) fs → (b : Bool)
+            → (forgotten_entries (with_writes_of m t (written_in s xs) es) ≡ with_writes base (if b then record { on = false; ticket = ticket; value = v } ∷ acts else acts) (forgotten_entries es)) × IsAlike (with_writes_of m t (written_in s xs) es) fs
         by i true = i
         by i false = i
     at rest true b g = by (x.mem == m) g
       where
         by : (b : Bool) → ((if b then true else writes_to m (written_in s xs)) ≡ true → Has)
-            → (forgotten (put_all m t (written_in s xs) (if b then put t v es else es)) ≡ written base (if b then record { on = true; ticket = ticket; value = v } ∷ acts else acts) (forgotten es))
-            × IsAlike (put_all m t (written_in s xs) (if b then put t v es else es)) fs
+            → (forgotten_entries (with_writes_of m t (written_in s xs) (if b then with_value_of t v es else es)) ≡ with_writes base (if b then record { on = true; ticket = ticket; value = v } ∷ acts else acts) (forgotten_entries es))
+            × IsAlike (with_writes_of m t (written_in s xs) (if b then with_value_of t v es else es)) fs
         by false g = rest es a g
         by true g =
-            let i = rest (put t v es) (put_alike t v es fs a) (λ e. g refl) in
+            let i = rest (with_value_of t v es) (put_alike t v es fs a) (λ e. g refl) in
             let k : ticket_of base t es ≡ ticket = let n = a.count t in let q = (g refl).1 in omega (arith, n, q) in
-            let e = (same_put base 0 t v es a.ordered (a.has t ∙ (g refl).0)).1 ∙ ap (λ n. lock.put base (record { on = true; ticket = n; value = v }) (forgotten es)) k in
-            (i.0 ∙ ap (written base acts) e, i.1)
+            let e = (same_put base 0 t v es a.ordered (a.has t ∙ (g refl).0)).1 ∙ ap (λ n. lock.with_write base (record { on = true; ticket = n; value = v }) (forgotten_entries es)) k in
+            (i.0 ∙ ap (with_writes base acts) e, i.1)
 
 -- the ticket of a pending write's thread is below the next one
 pub count_below : (t : ℕ) (es : List Pending) → AreOrdered 0 es → has_thread t es ≡ true → count_older t es < length es

@@ -11,11 +11,11 @@ use Rattle.pdl_semantics.specs.Moves.{is_empty, next_stage}
 use Rattle.pdl_net.specs.Circuit.{Circuit, State}
 use Rattle.pdl_net.specs.Signal.{Signal}
 use Rattle.pdl_net.specs.Well.{Suits}
-use Rattle.pdl_machine_facts.specs.Slots.{LeadsOn, slot, here, behind, is_ready, may_pass, goes_of, goes, may_enter}
+use Rattle.pdl_machine_facts.specs.Slots.{LeadsOn, slot, here, later_acts, locks_ready, may_pass, slot_moves, stage_moves, may_enter}
 use Rattle.pdl_machine_facts.specs.Cycle.{IsByStages}
 use Rattle.pdl_machine_facts.specs.Use.{IsInUse}
 use Rattle.pdl_machine_facts.proofs.StagewiseActs.{some_here}
-use Rattle.pdl_pipe_law.specs.Lives.{forks_by, lives}
+use Rattle.pdl_pipe_law.specs.Lives.{forks_by, lives_from}
 use Rattle.pdl_pipe_law.specs.Walk.{Locks, one, both}
 use Rattle.pdl_pipe_law.specs.Views.{Gates, View, free, way_on, moves_where}
 use Rattle.pdl_pipe_law.specs.Compiled.{IsCompiled}
@@ -30,7 +30,7 @@ any_dropped test [] k l e = absurd (omega (arith, l))
 any_dropped test (x ∷ xs) zero l e = ap (λ b. b || list_any test xs) e
 any_dropped test (x ∷ xs) (suc k) l e = any_dropped test xs k (omega (arith, l)) e
 
-pub lives_fork : (p : Pipe) (k x : ℕ) → k < length p.stages → forks_by (stage_at p k).next x ≡ true → lives p k x ≡ true
+pub lives_fork : (p : Pipe) (k x : ℕ) → k < length p.stages → forks_by (stage_at p k).next x ≡ true → lives_from p k x ≡ true
 lives_fork p k x l e = or_right _ _ (any_dropped (λ (s : Stage). forks_by s.next x) p.stages k l e)
 
 regroup : (r n a e : Bool) → (r && ((n && a) && e)) ≡ ((n && r) && (a && e))
@@ -40,8 +40,8 @@ regroup false true a e = refl
 regroup false false a e = refl
 
 -- who moves is ready
-pub ready_of : (p : Pipe) (st : machine.State) (bits : List Bool) (k : ℕ) (t : Thread) → IsByStages p st bits → k < length p.stages → here p st bits k ≡ Some t → goes p st bits k ≡ true → is_ready p st t.number (deeds p st k t) ≡ true
-ready_of p st bits k t by l h g = second (is_empty t.awaits) (is_ready p st t.number (deeds p st k t)) _ (sym (by.goes_where k t l h) ∙ g)
+pub ready_of : (p : Pipe) (st : machine.State) (bits : List Bool) (k : ℕ) (t : Thread) → IsByStages p st bits → k < length p.stages → here p st bits k ≡ Some t → stage_moves p st bits k ≡ true → locks_ready p st t.number (deeds p st k t) ≡ true
+ready_of p st bits k t by l h g = second (is_empty t.awaits) (locks_ready p st t.number (deeds p st k t)) _ (sym (by.goes_where k t l h) ∙ g)
   where
     second : (a b c : Bool) → ((a && b) && c) ≡ true → b ≡ true
     second true true c e = refl
@@ -56,12 +56,12 @@ module _ (p : Pipe) (names : ℕ → List ℕ) (ls : Locks) (vs : ℕ → View) 
       stage_follows c p ls vs s st bits suits (λ m e. (made.locks m e).kind) (λ m e. (made.locks m e).room) stands used k t x.rows x.fresh x.guess_long (beside.answers s st bits k t suits standing stands l h) h
 
   module _ (k : ℕ) (l : k < length p.stages) (later : (j : ℕ) → k < j → j < length p.stages → IsSeen p vs moves s st bits j) where
-    free_is : (q : ℕ) → k < q → q < length p.stages → (free vs moves q).value s ≡ bit (is_none (slot st q) || goes p st bits q)
+    free_is : (q : ℕ) → k < q → q < length p.stages → (free vs moves q).value s ≡ bit (is_none (slot st q) || stage_moves p st bits q)
     free_is q h i =
         let x = later q h i in
         mux_at s (vs q).valid (moves q) one (is_some (slot st q)) x.valid
         ∙ ap₂ (λ a b. if is_some (slot st q) then a else b) x.leaves (one_is s)
-        ∙ table (slot st q) (goes p st bits q)
+        ∙ table (slot st q) (stage_moves p st bits q)
       where
         table : (o : Option Thread) (b : Bool) → (if is_some o then bit b else 1) ≡ bit (is_none o || b)
         table None b = refl
@@ -86,7 +86,7 @@ module _ (p : Pipe) (names : ℕ → List ℕ) (ls : Locks) (vs : ℕ → View) 
             choose true g = let i = g a refl in free_is a i.0 i.1
             choose false g = let i = g b refl in free_is b i.0 i.1
 
-    leaves_is : (moves k).value s ≡ bit (goes p st bits k)
+    leaves_is : (moves k).value s ≡ bit (stage_moves p st bits k)
     leaves_is = (made.stages k l).leaves s suits ∙ at (here p st bits k) refl
       where
         way : Signal
@@ -95,13 +95,13 @@ module _ (p : Pipe) (names : ℕ → List ℕ) (ls : Locks) (vs : ℕ → View) 
         valid : (vs k).valid.value s ≡ bit (is_some (here p st bits k))
         valid = stands.valid k l ∙ ap bit (sym (some_here p st bits k))
 
-        at : (o : Option Thread) → here p st bits k ≡ o → (moves_where p vs gates.gate moves k).value s ≡ bit (goes p st bits k)
-        at None e = both_at s (vs k).valid (both (vs k).ended.ready (both (gates.gate k) way)) false true (valid ∙ ap (λ o. bit (is_some o)) e) (λ z. absurd (cc z)) ∙ ap (λ o. bit (goes_of p st bits k o)) (sym e)
+        at : (o : Option Thread) → here p st bits k ≡ o → (moves_where p vs gates.gate moves k).value s ≡ bit (stage_moves p st bits k)
+        at None e = both_at s (vs k).valid (both (vs k).ended.ready (both (gates.gate k) way)) false true (valid ∙ ap (λ o. bit (is_some o)) e) (λ z. absurd (cc z)) ∙ ap (λ o. bit (slot_moves p st bits k o)) (sym e)
         at (Some t) e =
             let d = deeds p st k t in
             let f = follows_at k t l e in
-            let ready = is_ready p st t.number d in
-            let passes = may_pass p st bits (behind p st bits k) k d in
+            let ready = locks_ready p st t.number d in
+            let passes = may_pass p st bits (later_acts p st bits k) k d in
             let enters = may_enter p st bits (next_stage p k d) in
             let none = is_empty t.awaits in
             both_at s (vs k).valid (both (vs k).ended.ready (both (gates.gate k) way)) true (ready && ((none && passes) && enters)) (valid ∙ ap (λ o. bit (is_some o)) e) (λ y.

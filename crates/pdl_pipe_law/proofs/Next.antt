@@ -9,16 +9,16 @@ use Rattle.pdl_semantics.specs.Stages.{plain_mem, mem_at, reserve_stage, commit_
 use Rattle.pdl_semantics.specs.Machine as machine
 use Rattle.pdl_semantics.specs.Machine.{Thread, Pending, held_before, is_held, with_kept}
 use Rattle.pdl_semantics.specs.Moves.{next_stage}
-use Rattle.pdl_semantics.specs.Cycle.{cycle, or_then, if_stays, is_stage, moved, squasher, stays as removed, releases, list_two, list_three, with_commit, oldest, entries_left}
+use Rattle.pdl_semantics.specs.Cycle.{cycle, or_then, if_kept, is_stage, thread_after, squasher, is_kept as removed, has_release, list_two, list_three, with_commit, oldest, entries_left}
 use Rattle.pdl_net.specs.Circuit.{Circuit, State, HasArray, HasReg}
 use Rattle.pdl_net.specs.Signal.{Signal, no_signal, mux_signal}
 use Rattle.pdl_net.specs.Cycle.{next_regs, next_arrays}
 use Rattle.pdl_net.specs.Well.{Suits}
 use Rattle.pdl_net.specs.Growth.{Own}
 use Rattle.pdl_lockapi.specs.Laws.{IsNext, holds_ticket, after_writes}
-use Rattle.pdl_lockapi.specs.Forget.{forget, lock_of, count_older}
+use Rattle.pdl_lockapi.specs.Forget.{forget, lock_state_of, count_older}
 use Rattle.pdl_lockapi.proofs.Next.{is_next}
-use Rattle.pdl_machine_facts.specs.Slots.{LeadsOn, slot, here, goes, moving, arrives}
+use Rattle.pdl_machine_facts.specs.Slots.{LeadsOn, slot, here, stage_moves, moving, arriving_thread}
 use Rattle.pdl_machine_facts.specs.Slots as slots
 use Rattle.pdl_machine_facts.specs.Cycle.{newborn, IsByStages, IsCalm}
 use Rattle.pdl_machine_facts.specs.Use.{IsInUse}
@@ -26,7 +26,7 @@ use Rattle.pdl_machine_facts.proofs.StagewiseActs.{some_here}
 use Rattle.pdl_machine_facts.proofs.StagewisePorts.{then_then}
 use Rattle.pdl_pipe_law.proofs.Stood.{Stood}
 use Rattle.pdl_pipe_law.specs.Walk.{Locks, is_locked, one, zero_bit}
-use Rattle.pdl_pipe_law.specs.Views.{Gates, View, Comer, comers, picked}
+use Rattle.pdl_pipe_law.specs.Views.{Gates, View, Comer, comers, first_coming}
 use Rattle.pdl_pipe_law.specs.Compiled.{IsCompiled, Becomes}
 use Rattle.pdl_pipe_law.specs.Stands.{IsEnv, IsHolding, StandsLock, StandsFor, IsSeen, IsSquashed, IsGuess}
 use Rattle.pdl_pipe_law.proofs.Signals.{mux_at, mux_by, one_is, zero_is}
@@ -48,12 +48,12 @@ lock_there p m e = ⊎_elim
     (cases_lt m (length p.mems))
 
 -- who comes isn't removed
-if_stays_then : (sq : Option ℕ) (a b : Option Thread) → ((u : Thread) → a ≡ Some u → removed sq u.number ≡ true) → if_stays sq (or_then a b) ≡ or_then a (if_stays sq b)
+if_stays_then : (sq : Option ℕ) (a b : Option Thread) → ((u : Thread) → a ≡ Some u → removed sq u.number ≡ true) → if_kept sq (or_then a b) ≡ or_then a (if_kept sq b)
 if_stays_then sq None b h = refl
 if_stays_then sq (Some u) b h = ap (λ c. if c then Some u else None) (h u refl)
 
 -- who is left stays
-if_stays_is : (sq : Option ℕ) (o : Option Thread) (u : Thread) → if_stays sq o ≡ Some u → (o ≡ Some u) × (removed sq u.number ≡ true)
+if_stays_is : (sq : Option ℕ) (o : Option Thread) (u : Thread) → if_kept sq o ≡ Some u → (o ≡ Some u) × (removed sq u.number ≡ true)
 if_stays_is sq None u e = absurd (cc e)
 if_stays_is sq (Some t) u e = at (removed sq t.number) refl e
   where
@@ -86,40 +86,40 @@ module _ (p : Pipe) (names : ℕ → List ℕ) (ls : Locks) (vs : ℕ → View) 
 
   -- the thread that comes into a stage
   abbrev coming : ℕ → Option Thread
-  coming q = or_then (newborn p st bits q) (arrives p st bits q)
+  coming q = or_then (newborn p st bits q) (arriving_thread p st bits q)
 
   abbrev sq : Option ℕ
   sq = squasher (moving p st bits)
 
   abbrev stays : ℕ → Option Thread
-  stays q = if_stays sq (if goes p st bits q then None else here p st bits q)
+  stays q = if_kept sq (if stage_moves p st bits q then None else here p st bits q)
 
   spared : (q : ℕ) (js : List ℕ) (u : Thread) → slots.first_of p st bits q js ≡ Some u → removed sq u.number ≡ true
   spared q [] u e = absurd (cc e)
-  spared q (j ∷ js) u e = at (goes p st bits j) (here p st bits j) refl refl (λ i. spared q js u i) e
+  spared q (j ∷ js) u e = at (stage_moves p st bits j) (here p st bits j) refl refl (λ i. spared q js u i) e
     where
-      at : (g : Bool) (o : Option Thread) → goes p st bits j ≡ g → here p st bits j ≡ o → (slots.first_of p st bits q js ≡ Some u → removed sq u.number ≡ true) → or_then (slots.passed p st q j g o) (slots.first_of p st bits q js) ≡ Some u → removed sq u.number ≡ true
+      at : (g : Bool) (o : Option Thread) → stage_moves p st bits j ≡ g → here p st bits j ≡ o → (slots.first_of p st bits q js ≡ Some u → removed sq u.number ≡ true) → or_then (slots.thread_into p st q j g o) (slots.first_of p st bits q js) ≡ Some u → removed sq u.number ≡ true
       at false o f h go i = go i
       at true None f h go i = go i
       at true (Some t) f h go i = taken (is_stage q (next_stage p j (machine.deeds p st j t))) i
         where
-          taken : (b : Bool) → or_then (if b then Some (moved (slots.act_at p st j t)) else None) (slots.first_of p st bits q js) ≡ Some u → removed sq u.number ≡ true
-          taken true k = let same : moved (slots.act_at p st j t) ≡ u = cc k in subst (λ (v : Thread). removed sq v.number ≡ true) same (calm.spared j t h f)
+          taken : (b : Bool) → or_then (if b then Some (thread_after (slots.act_at p st j t)) else None) (slots.first_of p st bits q js) ≡ Some u → removed sq u.number ≡ true
+          taken true k = let same : thread_after (slots.act_at p st j t) ≡ u = cc k in subst (λ (v : Thread). removed sq v.number ≡ true) same (calm.spared j t h f)
           taken false k = go k
 
   slot_next : (q : ℕ) → q < length p.stages → slot next q ≡ or_then (coming q) (stays q)
   slot_next q l =
       by.next q l
-      ∙ ap (or_then (newborn p st bits q)) (if_stays_then sq (arrives p st bits q) (slots.stays p st bits q) (λ u e. spared q (slots.ways p q) u e))
-      ∙ sym (then_then (newborn p st bits q) (arrives p st bits q) (if_stays sq (slots.stays p st bits q)))
+      ∙ ap (or_then (newborn p st bits q)) (if_stays_then sq (arriving_thread p st bits q) (slots.staying_thread p st bits q) (λ u e. spared q (slots.ways p q) u e))
+      ∙ sym (then_then (newborn p st bits q) (arriving_thread p st bits q) (if_kept sq (slots.staying_thread p st bits q)))
 
   -- a thread in a stage came into it with what a comer brings, or stayed
   pub data Came (q : ℕ) (u : Thread) : Type 0 where
     came : (o : Comer) → first_come s (comers p vs moves q) ≡ Some o → Brings p ls vs moves s st bits leads by used stands seen stood calm q o u → Came q u
-    stayed : first_come s (comers p vs moves q) ≡ None → goes p st bits q ≡ false → here p st bits q ≡ Some u → removed sq u.number ≡ true → Came q u
+    stayed : first_come s (comers p vs moves q) ≡ None → stage_moves p st bits q ≡ false → here p st bits q ≡ Some u → removed sq u.number ≡ true → Came q u
 
   came_how : (q : ℕ) (u : Thread) → q < length p.stages → slot next q ≡ Some u → Came q u
-  came_how q u l e = at (first_come s (comers p vs moves q)) refl (coming q) (goes p st bits q) refl (comers_alike p ls vs moves s st bits leads by used stands seen stood calm q l) (sym (slot_next q l) ∙ e)
+  came_how q u l e = at (first_come s (comers p vs moves q)) refl (coming q) (stage_moves p st bits q) refl (comers_alike p ls vs moves s st bits leads by used stands seen stood calm q l) (sym (slot_next q l) ∙ e)
     where
       none_some : None ≡ Some u → ⊥
       none_some h = cc h
@@ -127,7 +127,7 @@ module _ (p : Pipe) (names : ℕ → List ℕ) (ls : Locks) (vs : ℕ → View) 
       same : (t : Thread) → Some t ≡ Some u → t ≡ u
       same t h = cc h
 
-      at : (o : Option Comer) → first_come s (comers p vs moves q) ≡ o → (a : Option Thread) (g : Bool) → goes p st bits q ≡ g → AreAlike p ls vs moves s st bits leads by used stands seen stood calm q o a → or_then a (if_stays sq (if g then None else here p st bits q)) ≡ Some u → Came q u
+      at : (o : Option Comer) → first_come s (comers p vs moves q) ≡ o → (a : Option Thread) (g : Bool) → stage_moves p st bits q ≡ g → AreAlike p ls vs moves s st bits leads by used stands seen stood calm q o a → or_then a (if_kept sq (if g then None else here p st bits q)) ≡ Some u → Came q u
       at None f None true i h e = absurd (none_some e)
       at None f None false i h e = let z = if_stays_is sq (here p st bits q) u e in stayed f i z.0 z.1
       at None f (Some t) g i h e = absurd h
@@ -146,7 +146,7 @@ module _ (p : Pipe) (names : ℕ → List ℕ) (ls : Locks) (vs : ℕ → View) 
       none a b e f false = f
 
       -- a thread that stays, where it isn't removed
-      is_left : (o : Option Thread) → here p st bits q ≡ o → goes p st bits q ≡ false → still.value s ≡ bit (is_some (if_stays sq o))
+      is_left : (o : Option Thread) → here p st bits q ≡ o → stage_moves p st bits q ≡ false → still.value s ≡ bit (is_some (if_kept sq o))
       is_left None e g =
           mux_by s (gates.kill q) zero_bit (vs q).valid ∙ none (zero_bit.value s) ((vs q).valid.value s) (zero_is s) (stands.valid q l ∙ ap bit (sym (some_here p st bits q)) ∙ ap (λ o. bit (is_some o)) e) ((gates.kill q).value s == 1)
       is_left (Some t) e g =
@@ -158,15 +158,15 @@ module _ (p : Pipe) (names : ℕ → List ℕ) (ls : Locks) (vs : ℕ → View) 
           by' true = refl
           by' false = refl
 
-      settled : (g : Bool) → goes p st bits q ≡ g → (if g then 0 else still.value s) ≡ bit (is_some (if_stays sq (if g then None else here p st bits q)))
+      settled : (g : Bool) → stage_moves p st bits q ≡ g → (if g then 0 else still.value s) ≡ bit (is_some (if_kept sq (if g then None else here p st bits q)))
       settled true e = refl
       settled false e = is_left (here p st bits q) refl e
 
       at : (o : Option Comer) (a : Option Thread) → AreAlike p ls vs moves s st bits leads by used stands seen stood calm q o a → brought s (λ (o : Comer). one) (mux_signal (moves q) zero_bit still) o ≡ bit (is_some (or_then a (stays q)))
       at None None h =
-          mux_at s (moves q) zero_bit still (goes p st bits q) (seen q l).leaves
-          ∙ ap (λ x. if goes p st bits q then x else still.value s) (zero_is s)
-          ∙ settled (goes p st bits q) refl
+          mux_at s (moves q) zero_bit still (stage_moves p st bits q) (seen q l).leaves
+          ∙ ap (λ x. if stage_moves p st bits q then x else still.value s) (zero_is s)
+          ∙ settled (stage_moves p st bits q) refl
       at None (Some t) h = absurd h
       at (Some o) None h = absurd h
       at (Some o) (Some t) h = one_is s
@@ -182,7 +182,7 @@ module _ (p : Pipe) (names : ℕ → List ℕ) (ls : Locks) (vs : ℕ → View) 
 
   module _ (t : State) (suits' : Suits c t) (regs : t.regs ≡ next_regs c s) (arrays : t.arrays ≡ next_arrays c s) (used' : IsInUse p next []) where
     -- what a signal then has that a comer brings, or that stays
-    becomes : (q : ℕ) (of : Comer → Signal) (f g : Signal) → Becomes c f (picked of (comers p vs moves q) g) → f.value t ≡ brought s of g (first_come s (comers p vs moves q))
+    becomes : (q : ℕ) (of : Comer → Signal) (f g : Signal) → Becomes c f (first_coming of (comers p vs moves q) g) → f.value t ≡ brought s of g (first_come s (comers p vs moves q))
     becomes q of f g h = h s t suits regs ∙ picked_is s of (comers p vs moves q) g
 
     valid_next : (q : ℕ) → q < length p.stages → (vs q).valid.value t ≡ bit (is_some (slot next q))
@@ -256,7 +256,7 @@ module _ (p : Pipe) (names : ℕ → List ℕ) (ls : Locks) (vs : ℕ → View) 
       stand = stands.locks m e
 
       abbrev base : ℕ
-      base = stand.base + bit (releases m (moving p st bits))
+      base = stand.base + bit (has_release m (moving p st bits))
 
       abbrev words : List ℕ
       words = words_next p ls vs moves s st bits by used seen stood m e stand gates squashed
@@ -264,15 +264,15 @@ module _ (p : Pipe) (names : ℕ → List ℕ) (ls : Locks) (vs : ℕ → View) 
       list : machine.lock_of next m ≡ entries_left sq (list_three st (moving p st bits) m)
       list = by.locks m (lock_there p m e)
 
-      stands' : ls.stands m t (lock_of base (machine.lock_of next m) words)
+      stands' : ls.stands m t (lock_state_of base (machine.lock_of next m) words)
       stands' =
           let x = made.locks m e in
-          subst (λ es. ls.stands m t (lock_of base es words)) (sym list)
+          subst (λ es. ls.stands m t (lock_state_of base es words)) (sym list)
           (stands_next p ls vs moves s st bits by used seen stood m e stand gates squashed x.kind (made.owns m) c (made.commits m) x.step t (own_next (made.owns m) m (lock_there p m e) x.first x.last x.regs))
 
       -- the ticket of a thread is its place
       ticket_next : (q : ℕ) (u : Thread) → slot next q ≡ Some u → q ≤ commit_stage p m → holds_ticket (ls.bits m) ((vs q).tickets m) t (base + count_older u.number (machine.lock_of next m))
-      ticket_next q u h high = ⊎_elim before behind (cases_lt (reserve_stage p m) q)
+      ticket_next q u h high = ⊎_elim before after (cases_lt (reserve_stage p m) q)
         where
           l : q < length p.stages
           l = stage_low q u h
@@ -286,23 +286,23 @@ module _ (p : Pipe) (names : ℕ → List ℕ) (ls : Locks) (vs : ℕ → View) 
               now : ((vs q).tickets m).value t ≡ brought s (λ (o : Comer). o.tickets m) ((vs q).tickets m) (first_come s (comers p vs moves q))
               now = becomes q (λ (o : Comer). o.tickets m) ((vs q).tickets m) ((vs q).tickets m) ((made.stages q l).tickets m e low high)
 
-              moved : (f : Signal) → holds_ticket (ls.bits m) f s (stand.base + count_older u.number (machine.lock_of st m)) → count_older u.number (list_three st (moving p st bits) m) + bit (releases m (moving p st bits)) ≡ count_older u.number (machine.lock_of st m) → removed sq u.number ≡ true
+              thread_after : (f : Signal) → holds_ticket (ls.bits m) f s (stand.base + count_older u.number (machine.lock_of st m)) → count_older u.number (list_three st (moving p st bits) m) + bit (has_release m (moving p st bits)) ≡ count_older u.number (machine.lock_of st m) → removed sq u.number ≡ true
                   → f.value s ≡ (base + count_older u.number es) % 2 ^ ls.bits m
-              moved f i j r = i ∙ ap (λ n. n % 2 ^ ls.bits m) (let k : stand.base + count_older u.number (machine.lock_of st m) ≡ base + count_older u.number (list_three st (moving p st bits) m) = omega (arith, j) in k) ∙ ap (λ n. (base + n) % 2 ^ ls.bits m) (sym (count_left sq u.number (list_three st (moving p st bits) m) r)) ∙ ap (λ x. (base + count_older u.number x) % 2 ^ ls.bits m) (sym list)
+              thread_after f i j r = i ∙ ap (λ n. n % 2 ^ ls.bits m) (let k : stand.base + count_older u.number (machine.lock_of st m) ≡ base + count_older u.number (list_three st (moving p st bits) m) = omega (arith, j) in k) ∙ ap (λ n. (base + n) % 2 ^ ls.bits m) (sym (count_left sq u.number (list_three st (moving p st bits) m) r)) ∙ ap (λ x. (base + count_older u.number x) % 2 ^ ls.bits m) (sym list)
 
               at : Came q u → holds_ticket (ls.bits m) ((vs q).tickets m) t (base + count_older u.number es)
-              at (came o f b) = now ∙ ap (brought s (λ (o : Comer). o.tickets m) ((vs q).tickets m)) f ∙ (let z = b.tickets m e low high in moved (o.tickets m) z.0 z.1 z.2)
+              at (came o f b) = now ∙ ap (brought s (λ (o : Comer). o.tickets m) ((vs q).tickets m)) f ∙ (let z = b.tickets m e low high in thread_after (o.tickets m) z.0 z.1 z.2)
               at (stayed f g i r) =
                   now ∙ ap (brought s (λ (o : Comer). o.tickets m) ((vs q).tickets m)) f
-                  ∙ (let w = stood q u i in moved ((vs q).tickets m) (subst (λ n. holds_ticket (ls.bits m) ((vs q).tickets m) s (stand.base + count_older n (machine.lock_of st m))) w.number (stand.tickets q w.thread w.slot high))
-                  (subst (λ n. count_older n (list_three st (moving p st bits) m) + bit (releases m (moving p st bits)) ≡ count_older n (machine.lock_of st m)) w.number (used.shifts q w.thread m w.slot (let z : reserve_stage p m ≤ q = omega (arith, low) in z) high (λ z. g))) r)
+                  ∙ (let w = stood q u i in thread_after ((vs q).tickets m) (subst (λ n. holds_ticket (ls.bits m) ((vs q).tickets m) s (stand.base + count_older n (machine.lock_of st m))) w.number (stand.tickets q w.thread w.slot high))
+                  (subst (λ n. count_older n (list_three st (moving p st bits) m) + bit (has_release m (moving p st bits)) ≡ count_older n (machine.lock_of st m)) w.number (used.shifts q w.thread m w.slot (let z : reserve_stage p m ≤ q = omega (arith, low) in z) high (λ z. g))) r)
 
-          behind : q ≤ reserve_stage p m → holds_ticket (ls.bits m) ((vs q).tickets m) t (base + count_older u.number es)
-          behind low =
+          after : q ≤ reserve_stage p m → holds_ticket (ls.bits m) ((vs q).tickets m) t (base + count_older u.number es)
+          after low =
               let all = used'.unreserved q u m h low in
               let long = length-map es forget in
               (made.stages q l).tickets_first m e low t suits'
-              ∙ (made.locks m e).ticket.holds t (lock_of base es words) stands'
+              ∙ (made.locks m e).ticket.holds t (lock_state_of base es words) stands'
               ∙ ap (λ n. (base + n) % 2 ^ ls.bits m) (long ∙ sym all)
 
       lock_next : StandsLock p ls vs t next m

@@ -3,13 +3,13 @@ use Rattle.std.proofs.Common.{◌≡◌, refl, sym, ap, ap₂, ◌∙◌, ℕ, s
 use Rattle.pdl_word.specs.Words.{bit}
 use Rattle.pdl_semantics.specs.Flat.{Pipe, list_all}
 use Rattle.pdl_semantics.specs.Stages.{stage_at}
-use Rattle.pdl_semantics.specs.Machine.{Thread, State, Ask, deeds, with_answers, request_of, answers}
+use Rattle.pdl_semantics.specs.Machine.{Thread, State, Ask, deeds, with_answers, request_of, is_answered}
 use Rattle.pdl_semantics.specs.Moves.{act, acts, no_failure, is_free, none_up_to, may_merge, merges_well, next_stage, is_empty}
-use Rattle.pdl_semantics.specs.Cycle.{squasher, stays}
+use Rattle.pdl_semantics.specs.Cycle.{squasher, is_kept}
 use Rattle.pdl_facts.proofs.Texts.{no_verify}
 use Rattle.pdl_net.specs.Circuit.{Circuit}
 use Rattle.pdl_net.specs.Signal.{Signal}
-use Rattle.pdl_machine_facts.specs.Slots.{behind, may_pass, moving}
+use Rattle.pdl_machine_facts.specs.Slots.{later_acts, may_pass, moving}
 use Rattle.pdl_machine_facts.specs.Linear.{IsSimple}
 use Rattle.pdl_machine_facts.proofs.Still.{no_squash, IsStill, here_is, still_first, still_next}
 use Rattle.pdl_machine_facts.proofs.StagewiseDeeds.{no_asks, no_fails}
@@ -31,12 +31,12 @@ module _ (p : Pipe) (simple : IsSimple p) where
       at true = refl
       at false = refl
 
-  passes : (st : State) (bits : List Bool) (k : ℕ) (t : Thread) → may_pass p st bits (behind p st bits k) k (deeds p st k t) ≡ true
+  passes : (st : State) (bits : List Bool) (k : ℕ) (t : Thread) → may_pass p st bits (later_acts p st bits k) k (deeds p st k t) ≡ true
   passes st bits k t =
-      let later = behind p st bits k in
+      let later = later_acts p st bits k in
       let d = deeds p st k t in
       ap₂ (λ a b. a && b) (nobody_fails st bits (suc k) (drop (suc k) st.stages))
-      (ap₂ (λ a b. a && b) (ap (λ (qs : List Ask). list_all (λ (q : Ask). is_free (request_of st q.mem) (answers p bits q.mem) later) qs) (no_asks p st k t simple.no_fetch))
+      (ap₂ (λ a b. a && b) (ap (λ (qs : List Ask). list_all (λ (q : Ask). is_free (request_of st q.mem) (is_answered p bits q.mem) later) qs) (no_asks p st k t simple.no_fetch))
       (ap₂ (λ a b. a && b) (ap (λ v. not d.barrier || none_up_to v later) (no_verify p.stmts simple.no_verify) ∙ clear d.barrier) (merging (next_stage p k d))))
     where
       clear : (b : Bool) → (not b || true) ≡ true
@@ -61,7 +61,7 @@ module _ (p : Pipe) (simple : IsSimple p) where
     tells = λ s st bits k t suits still stands l h f ready later.
         one_is s ∙ ap bit (sym (ap₂ (λ a b. a && b) (ap is_empty (still.quiet k t (sym (here_is p st bits k (still.quiet k)) ∙ h)).0) (passes st bits k t)));
     squashes = λ s st bits suits standing stands by used seen. record {
-      kill = λ k t h g. zero_is s ∙ ap (λ q. bit (not (stays q t.number))) (sym (none_squashes st bits));
+      kill = λ k t h g. zero_is s ∙ ap (λ q. bit (not (is_kept q t.number))) (sym (none_squashes st bits));
       squash = zero_is s ∙ ap (λ q. bit (is_some q)) (sym (none_squashes st bits));
       tail = λ m n e stand f. absurd (not_some n (sym (none_squashes st bits) ∙ f));
     };

@@ -12,7 +12,7 @@ use Rattle.pdl_semantics.specs.Cycle.{for_stages, for_mems, taken_out, port_writ
 use Rattle.pdl_net.specs.Circuit.{Circuit, State, Output, port_output, outputs_of}
 use Rattle.pdl_net.specs.Signal.{Signal}
 use Rattle.pdl_net.specs.Cycle.{net_value, output_values}
-use Rattle.pdl_machine_facts.specs.Slots.{slot, here, goes, moving}
+use Rattle.pdl_machine_facts.specs.Slots.{slot, here, stage_moves, moving}
 use Rattle.pdl_machine_facts.specs.Ports.{stage_values, commit_values, all_commit_values, port_values}
 use Rattle.pdl_machine_facts.specs.Cycle.{ports_of, IsByStages, IsCalm}
 use Rattle.pdl_machine_facts.specs.Use.{IsInUse}
@@ -49,7 +49,7 @@ module _ (p : Pipe) (names : ℕ → List ℕ) (ls : Locks) (vs : ℕ → View) 
   module _ (s : State) (st : machine.State) (bits : List Bool) (stands : StandsFor p ls vs s st) (used : IsInUse p st bits) (by : IsByStages p st bits) (calm : IsCalm p st bits) (some : 1 ≤ length p.stages)
       (seen : (j : ℕ) → j < length p.stages → IsSeen p vs moves s st bits j) (stood : (k : ℕ) (t : Thread) → here p st bits k ≡ Some t → Stood st k t) (squashed : IsSquashed p ls vs gates s st bits) where
     stages_are : (n k : ℕ) (xs : List Stage) → k + n ≡ length p.stages → n ≡ length xs
-        → map (shown_value s) (stages_shown vs moves n k) ≡ stage_values (for_stages (λ i. is_some (slot st i)) k xs) (for_stages (λ i. goes p st bits i) k xs)
+        → map (shown_value s) (stages_shown vs moves n k) ≡ stage_values (for_stages (λ i. is_some (slot st i)) k xs) (for_stages (λ i. stage_moves p st bits i) k xs)
     stages_are zero k [] e f = refl
     stages_are zero k (x ∷ xs) e f = absurd (omega (arith, f))
     stages_are (suc n) k [] e f = absurd (omega (arith, f))

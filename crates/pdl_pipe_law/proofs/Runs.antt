@@ -9,7 +9,7 @@ use Rattle.pdl_net.specs.Circuit.{Circuit, State, circuit_of}
 use Rattle.pdl_net.specs.Signal.{Signal}
 use Rattle.pdl_net.specs.Cycle.{next_regs, next_arrays}
 use Rattle.pdl_net.specs.Run as net_run
-use Rattle.pdl_net.specs.Run.{Held, delayed_mems, loaded, next_stores}
+use Rattle.pdl_net.specs.Run.{Held, delayed_mems, loaded_arrays, next_stores}
 use Rattle.pdl_net.specs.Pipe.{IsWellFormed}
 use Rattle.pdl_netrun.specs.Inside.{Holds}
 use Rattle.pdl_netrun.proofs.Holds.{suits_of, next_holds}
@@ -49,15 +49,15 @@ next_is n regs arrays bits e =
     ap (λ ms. record {
       regs = next_regs (circuit_of n) (state regs arrays);
       arrays = next_arrays (circuit_of n) (state regs arrays);
-      stores = next_stores (circuit_of n) (net_run.shown n (held regs arrays) bits).ports ms [] bits;
+      stores = next_stores (circuit_of n) (net_run.shown_ports n (held regs arrays) bits).ports ms [] bits;
     }) e
 
 -- the first cycle begins with reset values and the image
-start_is : (n : Netlist) (image : List (List ℕ)) → delayed_mems n ≡ [] → net_run.start n image ≡ held (map (λ (r : Reg). r.reset) n.regs) (loaded n.arrays image)
+start_is : (n : Netlist) (image : List (List ℕ)) → delayed_mems n ≡ [] → net_run.start n image ≡ held (map (λ (r : Reg). r.reset) n.regs) (loaded_arrays n.arrays image)
 start_is n image e =
     ap (λ ms. record {
       regs = map (λ (r : Reg). r.reset) n.regs;
-      arrays = loaded n.arrays (drop (length ms) image);
+      arrays = loaded_arrays n.arrays (drop (length ms) image);
       stores = map (λ (words : List ℕ). record { words = words; request = None }) (take (length ms) image);
     }) e
 
@@ -107,7 +107,7 @@ module _ (p : Pipe) (fit : IsFit p) (names : ℕ → List ℕ) (ls : Locks) (vs 
   pub shows_beside : ShowsMachine p n
   shows_beside image schedule replies is_image l =
       let regs = map (λ (r : Reg). r.reset) n.regs in
-      let arrays = loaded n.arrays image in
+      let arrays = loaded_arrays n.arrays image in
       let h = holds_start n image regs arrays formed.well (image_fits n image formed is_image none) refl refl in
       let suits = suits_of c regs arrays h (no_inputs n formed none) in
       let stands = stands_first p names ls vs gates moves c made mems.in_order image (λ m l. let c = mems.count in is_image.depth m no_mem (omega (arith, c, l)) ∙ mems.depth m no_mem l) (state regs arrays) suits refl refl in

@@ -50,7 +50,7 @@ on_is s f b e = ap (λ n. n == 1) e ∙ at b
     at true = refl
     at false = refl
 
--- one more behind
+-- one more after
 pub reserved_more : (s : State) (rs : List Reservation) (r : Reservation) → reserved_in s (rs ++ r ∷ []) ≡ reserved_in s rs ++ (if is_on r.on s then record { mem = r.mem; address = r.addr.value s } ∷ [] else [])
 reserved_more s [] r = refl
 reserved_more s (x ∷ rs) r = at (is_on x.on s) (reserved_more s rs r)

@@ -3,10 +3,10 @@ use Rattle.std.proofs.Common.{◌≡◌, ℕ, Bool, true, false, ◌&&◌, List,
 use Rattle.std.specs.Prelude.{Some, ◌==◌, nat_le, if◌then◌else◌, slice_set}
 use Rattle.std.proofs.lemmas.Bool.{or_left, or_right, eqb-true}
 use Rattle.std.proofs.Common.{le-leb}
-use Rattle.pdl_semantics.specs.Flat.{Stmt, Pipe, taken}
+use Rattle.pdl_semantics.specs.Flat.{Stmt, Pipe, all_hold}
 use Rattle.pdl_semantics.specs.Stages.{in_stage, mem_at, list_any, is_verify}
 use Rattle.pdl_semantics.specs.Machine as machine
-use Rattle.pdl_semantics.specs.Machine.{Kept, Thread, Deeds, does, does_all, word_for, with_kept, deeds, held_before}
+use Rattle.pdl_semantics.specs.Machine.{Kept, Thread, Deeds, deeds_after, deeds_after_all, word_for, with_kept, deeds, held_before}
 use Rattle.pdl_net.specs.Circuit.{Circuit, State}
 use Rattle.pdl_net.specs.Signal.{Signal}
 use Rattle.pdl_net.specs.Well.{Suits}
@@ -16,8 +16,8 @@ use Rattle.pdl_machine_facts.specs.Slots.{here}
 use Rattle.pdl_machine_facts.specs.Use.{before_stage, AreFine, IsInUse}
 use Rattle.std.proofs.lemmas.List.{length-set}
 use Rattle.pdl_pipe_law.proofs.Stood.{stood}
-use Rattle.pdl_pipe_law.specs.Lives.{row_uses, asks_held, lives, holds, verifies}
-use Rattle.pdl_pipe_law.specs.Walk.{Locks, Put, Birth, Walk, is_locked, IsFresh, after, AreRows}
+use Rattle.pdl_pipe_law.specs.Lives.{row_uses, asks_held, lives_from, held_from, verifies_from}
+use Rattle.pdl_pipe_law.specs.Walk.{Locks, Put, Birth, Walk, is_locked, IsFresh, walk_after, AreRows}
 use Rattle.pdl_pipe_law.specs.Views.{View}
 use Rattle.pdl_pipe_law.specs.Stands.{AddressesFit, AreBits, AreShort, StandsFor, Follows, reserved_in, written_in, let_in, child_in, asked_in, IsEnv, IsHolding, IsGuess}
 use Rattle.pdl_pipe_law.proofs.Signals.{one_is, zero_is}
@@ -31,7 +31,7 @@ abbrev pub AllLive : Pipe → ℕ → List Stmt → Type 0
 AllLive p k [] = Unit {0}
 AllLive p k (x ∷ xs) = (IsLive p k x × (x.stage ≡ k)) × AllLive p k xs
 
-live_from : (p : Pipe) (k : ℕ) (xs : List Stmt) → (list_any (λ (r : Stmt). nat_le k r.stage && is_verify r.op) xs ≡ true → verifies p k ≡ true) → ((y : ℕ) → list_any (λ (r : Stmt). nat_le k r.stage && row_uses r y) xs ≡ true → lives p k y ≡ true) → ((m a : ℕ) → list_any (λ (r : Stmt). nat_le k r.stage && asks_held r.op m a) xs ≡ true → holds p k m a ≡ true) → AllLive p k (in_stage k xs)
+live_from : (p : Pipe) (k : ℕ) (xs : List Stmt) → (list_any (λ (r : Stmt). nat_le k r.stage && is_verify r.op) xs ≡ true → verifies_from p k ≡ true) → ((y : ℕ) → list_any (λ (r : Stmt). nat_le k r.stage && row_uses r y) xs ≡ true → lives_from p k y ≡ true) → ((m a : ℕ) → list_any (λ (r : Stmt). nat_le k r.stage && asks_held r.op m a) xs ≡ true → held_from p k m a ≡ true) → AllLive p k (in_stage k xs)
 live_from p k [] v f g = tt
 live_from p k (x ∷ xs) v f g = at (x.stage == k) refl (live_from p k xs (λ e. v (or_right (nat_le k x.stage && is_verify x.op) _ e)) (λ y e. f y (or_right (nat_le k x.stage && row_uses x y) _ e)) (λ m a e. g m a (or_right (nat_le k x.stage && asks_held x.op m a) _ e)))
   where
@@ -57,10 +57,10 @@ live_rows p k = live_from p k p.stmts (λ e. e) (λ y e. or_left _ _ e) (λ m a 
 -- ALL ROWS
 
 module _ (c : Circuit) (p : Pipe) (ls : Locks) (vs : ℕ → View) (s : State) (st : machine.State) (k thread : ℕ) (around : IsAround c p ls vs s st k thread) where
-  follows_all : (xs : List Stmt) (w end : Walk) (d : Deeds) → AllLive p k xs → AreRows c p ls (vs k).tickets xs w end → AreFine p st thread xs d → Follows p k s st thread w d → Follows p k s st thread end (does_all (word_for st thread) xs d)
+  follows_all : (xs : List Stmt) (w end : Walk) (d : Deeds) → AllLive p k xs → AreRows c p ls (vs k).tickets xs w end → AreFine p st thread xs d → Follows p k s st thread w d → Follows p k s st thread end (deeds_after_all (word_for st thread) xs d)
   follows_all [] w end d live rows fine q = subst (λ (x : Walk). Follows p k s st thread x d) (sym rows) q
   follows_all (x ∷ xs) w end d live rows fine q =
-      follows_all xs (after x.op rows.0 ls w) end (if taken x.guards d.env then does (word_for st thread) x.op d else d) live.1 rows.2 fine.1
+      follows_all xs (walk_after x.op rows.0 ls w) end (if all_hold x.guards d.env then deeds_after (word_for st thread) x.op d else d) live.1 rows.2 fine.1
       (follows_row c p ls vs s st k thread around x rows.0 w d live.0.0 rows.1 live.0.1 fine.0 q)
 
 -- answers add no variable

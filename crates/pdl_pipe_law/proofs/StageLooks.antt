@@ -11,8 +11,8 @@ use Rattle.pdl_semantics.specs.Machine.{older_write, word_for}
 use Rattle.pdl_net.specs.Circuit.{State}
 use Rattle.pdl_net.specs.Signal.{Signal}
 use Rattle.pdl_lockapi.specs.Laws.{holds_ticket, RoomLaw}
-use Rattle.pdl_lockapi.specs.Lock.{LockState, is_ready, Covered}
-use Rattle.pdl_lockapi.specs.Forget.{forget, as_lock, AreOrdered, count_older, lock_of}
+use Rattle.pdl_lockapi.specs.Lock.{LockState, look_ready, Covered}
+use Rattle.pdl_lockapi.specs.Forget.{forget, as_lock, AreOrdered, count_older, lock_state_of}
 use Rattle.pdl_lockapi.proofs.LockKinds as kinds
 use Rattle.pdl_lockapi.proofs.Threads.{same_meaning, ticket_covered}
 use Rattle.pdl_pipe_law.specs.Walk.{Locks, is_locked, look_of, ThroughLock, IsWord}
@@ -30,7 +30,7 @@ finds p st thread m u a =
 module _ (p : Pipe) (ls : Locks) (vs : ℕ → View) (s : State) (st : machine.State) (m : ℕ) (kind : (mem_at p m).lock ≡ as_lock (ls.kind m) (ls.size m)) (stands : StandsLock p ls vs s st m) (ordered : AreOrdered 0 (machine.lock_of st m)) where
   -- the lock that stands for the pending writes, and the number of a thread's ticket
   abbrev state_of : LockState
-  state_of = lock_of stands.base (machine.lock_of st m) stands.words
+  state_of = lock_state_of stands.base (machine.lock_of st m) stands.words
 
   abbrev number_of : ℕ → ℕ
   number_of thread = stands.base + count_older thread (machine.lock_of st m)
@@ -47,12 +47,12 @@ module _ (p : Pipe) (ls : Locks) (vs : ℕ → View) (s : State) (st : machine.S
       ∙ ap bit ((same_meaning (ls.kind m) (ls.size m) stands.base 0 0 0 (machine.lock_of st m) stands.words ordered).3 ∙ ap (λ l. has_room l (length (machine.lock_of st m))) (sym kind))
 
   module _ (thread : ℕ) (ticket : Signal) (mine : holds_ticket (ls.bits m) ticket s (stands.base + count_older thread (machine.lock_of st m))) where
-    look_same : (u : Bool) (a : ℕ) → is_ready (ls.kind m) (look_of u) state_of (number_of thread) a ≡ finds p st thread m u a
+    look_same : (u : Bool) (a : ℕ) → look_ready (ls.kind m) (look_of u) state_of (number_of thread) a ≡ finds p st thread m u a
     look_same true a = (same_meaning (ls.kind m) (ls.size m) stands.base 0 thread a (machine.lock_of st m) stands.words ordered).1 ∙ ap (λ l. write_ready l (older_write st thread m a)) (sym kind)
     look_same false a = (same_meaning (ls.kind m) (ls.size m) stands.base 0 thread a (machine.lock_of st m) stands.words ordered).0 ∙ ap (λ l. read_ready l (older_write st thread m a)) (sym kind)
 
     -- a block's signal says whether the block is ready
-    pub block_is : (u : Bool) (a : ℕ) (f : Signal) → ThroughLock ls m ticket s (λ x t. f.value s ≡ bit (is_ready (ls.kind m) (look_of u) x t a)) → f.value s ≡ bit (finds p st thread m u a)
+    pub block_is : (u : Bool) (a : ℕ) (f : Signal) → ThroughLock ls m ticket s (λ x t. f.value s ≡ bit (look_ready (ls.kind m) (look_of u) x t a)) → f.value s ≡ bit (finds p st thread m u a)
     block_is u a f h = h state_of (number_of thread) stands.stands (covered thread) mine ∙ ap bit (look_same u a)
 
     -- a ready read gives the word that the thread finds

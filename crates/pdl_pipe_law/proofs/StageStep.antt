@@ -3,16 +3,16 @@ use Rattle.std.proofs.Common.{◌≡◌, ℕ, ◌<◌, Bool, true, false, IsTrue
 use Rattle.std.specs.Prelude.{slice_index, ◌==◌}
 use Rattle.std.proofs.lemmas.List.{length-set}
 use Rattle.std.proofs.lemmas.Bool.{or_right, or_left}
-use Rattle.pdl_semantics.specs.Flat.{Expr, Op, Bind, CombRead, Write, ReserveRead, ReserveWrite, Block, Release, Call, Stmt, Pipe, taken, value_of, DelayedRead, SpecCall, Verify, SpecCheck, SpecBarrier}
+use Rattle.pdl_semantics.specs.Flat.{Expr, Op, Bind, CombRead, Write, ReserveRead, ReserveWrite, Block, Release, Call, Stmt, Pipe, all_hold, value_of, DelayedRead, SpecCall, Verify, SpecCheck, SpecBarrier}
 use Rattle.pdl_semantics.specs.Stages.{mem_at, commit_stage}
 use Rattle.pdl_semantics.specs.Locks.{read_ready}
 use Rattle.pdl_semantics.specs.Machine as machine
 use Rattle.pdl_semantics.specs.Machine.{Deeds, older_write, word_for}
 use Rattle.pdl_net.specs.Circuit.{Circuit, State}
-use Rattle.pdl_machine_facts.specs.Slots.{is_ready}
+use Rattle.pdl_machine_facts.specs.Slots.{locks_ready}
 use Rattle.pdl_machine_facts.specs.Use.{is_early, IsOpFine}
-use Rattle.pdl_pipe_law.specs.Lives.{uses, guards_use, lives}
-use Rattle.pdl_pipe_law.specs.Walk.{Locks, Row, Walk, IsRow, with_var, after}
+use Rattle.pdl_pipe_law.specs.Lives.{uses_var, guards_use, lives_from}
+use Rattle.pdl_pipe_law.specs.Walk.{Locks, Row, Walk, IsRow, with_var, walk_after}
 use Rattle.pdl_pipe_law.specs.Views.{View}
 use Rattle.pdl_pipe_law.specs.Stands.{IsSo, Follows}
 use Rattle.pdl_pipe_law.proofs.StageRow.{IsLive, IsAround, done, quiet, set_env, keep_env, word_at, is_taken, is_not, early, FollowsOp}
@@ -25,17 +25,17 @@ module _ (c : Circuit) (p : Pipe) (ls : Locks) (vs : ℕ → View) (s : State) (
   follows_bind y e j gs r w d live on row here fine q =
       quiet c p ls vs s st k thread around gs r w d glive on q (Bind y e) (with_var y r.value w) refl (λ b. same b) (λ h z b f. so h b f)
     where
-      glive : (z : ℕ) → guards_use gs z ≡ true → lives p k z ≡ true
-      glive z u = live.vars z (or_left (guards_use gs z) (uses e z) u)
+      glive : (z : ℕ) → guards_use gs z ≡ true → lives_from p k z ≡ true
+      glive z u = live.vars z (or_left (guards_use gs z) (uses_var e z) u)
 
-      same : (b : Bool) → is_ready p st thread (done st thread b (Bind y e) d) ≡ is_ready p st thread d
+      same : (b : Bool) → locks_ready p st thread (done st thread b (Bind y e) d) ≡ locks_ready p st thread d
       same true = refl
       same false = refl
 
-      so : IsSo p k s w d → (b : Bool) → taken gs d.env ≡ b → IsSo p k s (with_var y r.value w) (done st thread b (Bind y e) d)
+      so : IsSo p k s w d → (b : Bool) → all_hold gs d.env ≡ b → IsSo p k s (with_var y r.value w) (done st thread b (Bind y e) d)
       so h true f = record {
         long = length-set d.env y (value_of e d.env) ∙ h.long;
-        env = set_env c p ls vs s st k thread around gs r w d glive on q y (value_of e d.env) r.value (subst (λ n. y < n) (sym h.long) row.0) (row.1 s around.suits (is_taken c p ls vs s st k thread around gs r w d glive on q h f) d.env (λ z u. h.env z (live.vars z (or_right (guards_use gs z) (uses e z) u)))) h.env;
+        env = set_env c p ls vs s st k thread around gs r w d glive on q y (value_of e d.env) r.value (subst (λ n. y < n) (sym h.long) row.0) (row.1 s around.suits (is_taken c p ls vs s st k thread around gs r w d glive on q h f) d.env (λ z u. h.env z (live.vars z (or_right (guards_use gs z) (uses_var e z) u)))) h.env;
         held = h.held;
         reserves = h.reserves;
         fits = h.fits;
@@ -72,14 +72,14 @@ module _ (c : Circuit) (p : Pipe) (ls : Locks) (vs : ℕ → View) (s : State) (
   follows_read y m a j gs r w d live on row here fine q =
       quiet c p ls vs s st k thread around gs r w d glive on q (CombRead y m a) (with_var y r.value w) refl (λ b. same b) (λ h z b f. so h z b f)
     where
-      glive : (z : ℕ) → guards_use gs z ≡ true → lives p k z ≡ true
+      glive : (z : ℕ) → guards_use gs z ≡ true → lives_from p k z ≡ true
       glive z u = live.vars z (or_left (guards_use gs z) (a == z) u)
 
-      same : (b : Bool) → is_ready p st thread (done st thread b (CombRead y m a) d) ≡ is_ready p st thread d
+      same : (b : Bool) → locks_ready p st thread (done st thread b (CombRead y m a) d) ≡ locks_ready p st thread d
       same true = refl
       same false = refl
 
-      so : IsSo p k s w d → is_ready p st thread d ≡ true → (b : Bool) → taken gs d.env ≡ b → IsSo p k s (with_var y r.value w) (done st thread b (CombRead y m a) d)
+      so : IsSo p k s w d → locks_ready p st thread d ≡ true → (b : Bool) → all_hold gs d.env ≡ b → IsSo p k s (with_var y r.value w) (done st thread b (CombRead y m a) d)
       so h z true f =
           let addr : slice_index d.env a ≡ (w.vars a).value s = h.env a (live.vars a (or_right (guards_use gs a) (a == a) (eqb_self a))) in
           let word = row.1 s around.suits (is_taken c p ls vs s st k thread around gs r w d glive on q h f) in
@@ -136,7 +136,7 @@ module _ (c : Circuit) (p : Pipe) (ls : Locks) (vs : ℕ → View) (s : State) (
   follows_op SpecCheck = follows_check c p ls vs s st k thread around
   follows_op SpecBarrier = follows_barrier c p ls vs s st k thread around
 
-  -- the deeds follow behind each row
-  pub follows_row : (x : Stmt) (r : Row) (w : Walk) (d : Deeds) → IsLive p k x → IsRow c p ls (vs k).tickets x w r → x.stage ≡ k → (taken x.guards d.env ≡ true → is_ready p st thread d ≡ true → (is_early p x ≡ true) × IsOpFine p st thread x.op d)
-      → Follows p k s st thread w d → Follows p k s st thread (after x.op r ls w) (done st thread (taken x.guards d.env) x.op d)
+  -- the deeds follow after each row
+  pub follows_row : (x : Stmt) (r : Row) (w : Walk) (d : Deeds) → IsLive p k x → IsRow c p ls (vs k).tickets x w r → x.stage ≡ k → (all_hold x.guards d.env ≡ true → locks_ready p st thread d ≡ true → (is_early p x ≡ true) × IsOpFine p st thread x.op d)
+      → Follows p k s st thread w d → Follows p k s st thread (walk_after x.op r ls w) (done st thread (all_hold x.guards d.env) x.op d)
   follows_row x r w d live row here fine q = follows_op x.op x.stage x.guards r w d live row.on row.op here fine q

@@ -28,7 +28,7 @@ abbrev pub Among : Mem → List Mem → Type 0
 Among m [] = ⊥
 Among m (x ∷ xs) = (x ≡ m) ⊎ Among m xs
 
--- a memory behind one with a name that none of them has, has another name
+-- a memory after one with a name that none of them has, has another name
 pub among_other : (n : List ℕ) (ms : List Mem) (m : Mem) → is_memory ms n ≡ false → Among m ms → bytes_eq m.name.name n ≡ false
 among_other n [] m e a = absurd a
 among_other n (x ∷ xs) m e (inl s) = ap (λ (y : Mem). bytes_eq y.name.name n) (sym s) ∙ (or_parts (bytes_eq x.name.name n) (is_memory xs n) e).0

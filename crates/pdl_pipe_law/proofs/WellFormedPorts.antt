@@ -123,7 +123,7 @@ all_heads p ms same some commits vs gates moves wide r h =
 
 -- ---- names
 
--- the names of the ports behind those of the stages, by the names of the locked memories
+-- the names of the ports after those of the stages, by the names of the locked memories
 abbrev pub commit_names : List PortMem → List (List ℕ)
 commit_names [] = codes "ended" ∷ codes "squash" ∷ []
 commit_names (l ∷ ls) = (codes "c_" ++ l.name) ∷ (codes "ca_" ++ l.name) ∷ (codes "cd_" ++ l.name) ∷ commit_names ls
@@ -140,7 +140,7 @@ names_of_heads : (ps : List Port) → map (λ (p : Port). p.name) ps ≡ map nam
 names_of_heads [] = refl
 names_of_heads (p ∷ ps) = ap (λ l. p.name ∷ l) (names_of_heads ps)
 
--- the names of the ports of n stages, of which the first is k, and of others behind them
+-- the names of the ports of n stages, of which the first is k, and of others after them
 abbrev pub stage_names : ℕ → ℕ → List (List ℕ) → List (List ℕ)
 stage_names k zero rest = rest
 stage_names k (suc n) rest = (codes "v_" ++ decimal k) ∷ (codes "g_" ++ decimal k) ∷ stage_names (suc k) n rest

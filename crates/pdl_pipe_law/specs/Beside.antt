@@ -11,7 +11,7 @@ use Rattle.pdl_net.specs.Circuit.{Circuit, State}
 use Rattle.pdl_net.specs.Signal.{Signal}
 use Rattle.pdl_net.specs.Cycle.{next_regs, next_arrays}
 use Rattle.pdl_net.specs.Well.{Suits}
-use Rattle.pdl_machine_facts.specs.Slots.{here, behind, is_ready, may_pass}
+use Rattle.pdl_machine_facts.specs.Slots.{here, later_acts, locks_ready, may_pass}
 use Rattle.pdl_machine_facts.specs.Cycle.{IsByStages}
 use Rattle.pdl_machine_facts.specs.Use.{IsInUse}
 use Rattle.pdl_pipe_law.specs.Walk.{Locks}
@@ -24,9 +24,9 @@ pub record Beside (p : Pipe) (ls : Locks) (c : Circuit) (vs : ℕ → View) (gat
   pub starts : (image : Arrays) (s : State) → s.regs ≡ map (λ (r : Reg). r.reset) c.regs → stands s (first p image)
   pub answers : (s : State) (st : machine.State) (bits : List Bool) (k : ℕ) (t : Thread) → Suits c s → stands s st → StandsFor p ls vs s st → k < length p.stages → here p st bits k ≡ Some t → IsEnv p k s (vs k).begun.vars (with_kept t.kept t.env)
   pub tells : (s : State) (st : machine.State) (bits : List Bool) (k : ℕ) (t : Thread) → Suits c s → stands s st → StandsFor p ls vs s st → k < length p.stages → here p st bits k ≡ Some t
-      → Follows p k s st t.number (vs k).ended (deeds p st k t) → is_ready p st t.number (deeds p st k t) ≡ true
+      → Follows p k s st t.number (vs k).ended (deeds p st k t) → locks_ready p st t.number (deeds p st k t) ≡ true
       → ((j : ℕ) → k < j → j < length p.stages → IsSeen p vs moves s st bits j)
-      → (gates.gate k).value s ≡ bit (is_empty t.awaits && may_pass p st bits (behind p st bits k) k (deeds p st k t))
+      → (gates.gate k).value s ≡ bit (is_empty t.awaits && may_pass p st bits (later_acts p st bits k) k (deeds p st k t))
   pub squashes : (s : State) (st : machine.State) (bits : List Bool) → Suits c s → stands s st → StandsFor p ls vs s st → IsByStages p st bits → IsInUse p st bits
       → ((j : ℕ) → j < length p.stages → IsSeen p vs moves s st bits j) → IsSquashed p ls vs gates s st bits
   pub keeps : (s t : State) (st : machine.State) (bits : List Bool) → Suits c s → stands s st → StandsFor p ls vs s st → IsByStages p st bits → IsInUse p st bits

@@ -5,18 +5,18 @@ use Rattle.pdl_semantics.specs.Stages.{list_any, is_verify}
 use Rattle.pdl_facts.specs.Facts.{uses_in, uses_any}
 
 -- whether an expression uses a variable, and whether one of some does
-abbrev pub uses : Expr → ℕ → Bool
-uses e x = uses_in x e
+abbrev pub uses_var : Expr → ℕ → Bool
+uses_var e x = uses_in x e
 
 abbrev pub are_using : List Expr → ℕ → Bool
 are_using es x = uses_any x es
 
 -- whether a statement uses a variable; a write and a release find their location without its address
 abbrev pub op_uses : Op → ℕ → Bool
-op_uses (Bind y e) x = uses e x
+op_uses (Bind y e) x = uses_var e x
 op_uses (CombRead y m a) x = a == x
 op_uses (DelayedRead y m a) x = a == x
-op_uses (Write m a e) x = uses e x
+op_uses (Write m a e) x = uses_var e x
 op_uses (ReserveWrite m a) x = a == x
 op_uses (Block m a) x = a == x
 op_uses (Call args) x = are_using args x
@@ -37,8 +37,8 @@ forks_by (Forks y first second) x = y == x
 forks_by _ x = false
 
 -- a row or a fork of a stage from k on uses the variable
-abbrev pub lives : Pipe → ℕ → ℕ → Bool
-lives p k x = list_any (λ (r : Stmt). nat_le k r.stage && row_uses r x) p.stmts || list_any (λ (s : Stage). forks_by s.next x) (drop k p.stages)
+abbrev pub lives_from : Pipe → ℕ → ℕ → Bool
+lives_from p k x = list_any (λ (r : Stmt). nat_le k r.stage && row_uses r x) p.stmts || list_any (λ (s : Stage). forks_by s.next x) (drop k p.stages)
 
 -- a row asks whether a location is held
 abbrev pub asks_held : Op → ℕ → ℕ → Bool
@@ -47,9 +47,9 @@ asks_held (Release n b) m a = (n == m) && (b == a)
 asks_held _ m a = false
 
 -- one of a stage from k on does
-abbrev pub holds : Pipe → ℕ → ℕ → ℕ → Bool
-holds p k m a = list_any (λ (r : Stmt). nat_le k r.stage && asks_held r.op m a) p.stmts
+abbrev pub held_from : Pipe → ℕ → ℕ → ℕ → Bool
+held_from p k m a = list_any (λ (r : Stmt). nat_le k r.stage && asks_held r.op m a) p.stmts
 
 -- a row of a stage from k on verifies the guess
-abbrev pub verifies : Pipe → ℕ → Bool
-verifies p k = list_any (λ (r : Stmt). nat_le k r.stage && is_verify r.op) p.stmts
+abbrev pub verifies_from : Pipe → ℕ → Bool
+verifies_from p k = list_any (λ (r : Stmt). nat_le k r.stage && is_verify r.op) p.stmts

@@ -25,20 +25,20 @@ all_puts m vs moves zero k = []
 all_puts m vs moves (suc n) k = all_puts m vs moves n (suc k) ++ puts_to m (moves k) ((vs k).tickets m) (vs k).ended.puts
 
 -- whether a thread moves that releases its write reservation of the memory, else this
-abbrev pub lets : ℕ → Signal → List Letting → Signal → Signal
-lets m moves [] rest = rest
-lets m moves (l ∷ ls) rest = if l.mem == m then mux_signal (both moves l.on) one (lets m moves ls rest) else lets m moves ls rest
+abbrev pub release_moves : ℕ → Signal → List Letting → Signal → Signal
+release_moves m moves [] rest = rest
+release_moves m moves (l ∷ ls) rest = if l.mem == m then mux_signal (both moves l.on) one (release_moves m moves ls rest) else release_moves m moves ls rest
 
-abbrev pub released : ℕ → (ℕ → View) → (ℕ → Signal) → ℕ → ℕ → Signal
-released m vs moves zero k = zero_bit
-released m vs moves (suc n) k = lets m (moves k) (vs k).ended.lettings (released m vs moves n (suc k))
+abbrev pub release_signal : ℕ → (ℕ → View) → (ℕ → Signal) → ℕ → ℕ → Signal
+release_signal m vs moves zero k = zero_bit
+release_signal m vs moves (suc n) k = release_moves m (moves k) (vs k).ended.lettings (release_signal m vs moves n (suc k))
 
 -- all that a cycle does to a lock
 abbrev pub step_of : Pipe → (ℕ → View) → Gates → (ℕ → Signal) → ℕ → StepSignals
 step_of p vs gates moves m = record {
   reserves = all_reserves m vs moves (length p.stages) 0;
   writes = all_puts m vs moves (length p.stages) 0;
-  release = released m vs moves (length p.stages) 0;
+  release = release_signal m vs moves (length p.stages) 0;
   squash = gates.squash;
   tail = gates.tail m;
 }
@@ -50,8 +50,8 @@ pub record Shown : Type 0 where
   pub name : List ℕ
   pub signal : Signal
 
-abbrev pub shows : List ℕ → Signal → Shown
-shows x f = record { name = x; signal = f }
+abbrev pub shown_signal : List ℕ → Signal → Shown
+shown_signal x f = record { name = x; signal = f }
 
 -- what a memory commits: whether, where and what
 pub record Commit : Type 0 where
@@ -62,10 +62,10 @@ pub record Commit : Type 0 where
 -- of each of n stages whether it holds a thread and whether that moves; the first has the number k
 abbrev pub stages_shown : (ℕ → View) → (ℕ → Signal) → ℕ → ℕ → List Shown
 stages_shown vs moves zero k = []
-stages_shown vs moves (suc n) k = shows (codes "v_" ++ decimal k) (vs k).valid ∷ shows (codes "g_" ++ decimal k) (moves k) ∷ stages_shown vs moves n (suc k)
+stages_shown vs moves (suc n) k = shown_signal (codes "v_" ++ decimal k) (vs k).valid ∷ shown_signal (codes "g_" ++ decimal k) (moves k) ∷ stages_shown vs moves n (suc k)
 
 abbrev pub commit_shown : List ℕ → Commit → List Shown
-commit_shown name c = shows (codes "c_" ++ name) c.enable ∷ shows (codes "ca_" ++ name) c.addr ∷ shows (codes "cd_" ++ name) c.value ∷ []
+commit_shown name c = shown_signal (codes "c_" ++ name) c.enable ∷ shown_signal (codes "ca_" ++ name) c.addr ∷ shown_signal (codes "cd_" ++ name) c.value ∷ []
 
 -- of each memory with a lock, of which the first has the number m, by the memories' names
 abbrev pub commits_shown : (ℕ → List ℕ) → (ℕ → Commit) → ℕ → List Mem → List Shown
@@ -75,4 +75,4 @@ commits_shown names commits m (x ∷ xs) = (if has_lock x.lock then commit_shown
 abbrev pub all_shown : Pipe → (ℕ → List ℕ) → (ℕ → Commit) → (ℕ → View) → Gates → (ℕ → Signal) → List Shown
 all_shown p names commits vs gates moves =
     stages_shown vs moves (length p.stages) 0
-    ++ (commits_shown names commits 0 p.mems ++ shows (codes "ended") (moves (length p.stages - 1)) ∷ shows (codes "squash") gates.squash ∷ [])
+    ++ (commits_shown names commits 0 p.mems ++ shown_signal (codes "ended") (moves (length p.stages - 1)) ∷ shown_signal (codes "squash") gates.squash ∷ [])

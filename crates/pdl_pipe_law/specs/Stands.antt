@@ -5,26 +5,26 @@ use Rattle.pdl_semantics.specs.Flat.{Pipe}
 use Rattle.pdl_semantics.specs.Stages.{mem_at, commit_stage}
 use Rattle.pdl_semantics.specs.Machine as machine
 use Rattle.pdl_semantics.specs.Machine.{Thread, Reserved, Written, Deeds, deeds, held_before, is_held, with_kept}
-use Rattle.pdl_semantics.specs.Cycle.{stays, squasher, releases, list_three}
+use Rattle.pdl_semantics.specs.Cycle.{is_kept, squasher, has_release, list_three}
 use Rattle.pdl_net.specs.Circuit.{State}
 use Rattle.pdl_net.specs.Signal.{Signal}
 use Rattle.pdl_lockapi.specs.Laws.{FitsIn, holds_ticket}
-use Rattle.pdl_lockapi.specs.Forget.{lock_of, count_older}
-use Rattle.pdl_machine_facts.specs.Slots.{slot, here, is_ready, goes, moving}
-use Rattle.pdl_pipe_law.specs.Lives.{lives, holds, verifies}
+use Rattle.pdl_lockapi.specs.Forget.{lock_state_of, count_older}
+use Rattle.pdl_machine_facts.specs.Slots.{slot, here, locks_ready, stage_moves, moving}
+use Rattle.pdl_pipe_law.specs.Lives.{lives_from, held_from, verifies_from}
 use Rattle.pdl_pipe_law.specs.Walk.{Locks, Reservation, Put, Letting, Birth, Ask, Walk, is_locked, is_on, values_at}
 use Rattle.pdl_pipe_law.specs.Views.{View, Gates}
 
 -- values are those of the variables' signals, as far as they live from stage k on; and so is what is held
 abbrev pub IsEnv : Pipe → ℕ → State → (ℕ → Signal) → List ℕ → Type 0
-IsEnv p k s vars env = (x : ℕ) → lives p k x ≡ true → slice_index env x ≡ (vars x).value s
+IsEnv p k s vars env = (x : ℕ) → lives_from p k x ≡ true → slice_index env x ≡ (vars x).value s
 
-abbrev pub IsHolding : Pipe → ℕ → State → (ℕ → ℕ → Signal) → List machine.Place → Type 0
-IsHolding p k s held places = (m a : ℕ) → holds p k m a ≡ true → (held m a).value s ≡ bit (is_held places m a)
+abbrev pub IsHolding : Pipe → ℕ → State → (ℕ → ℕ → Signal) → List machine.HeldLocation → Type 0
+IsHolding p k s held places = (m a : ℕ) → held_from p k m a ≡ true → (held m a).value s ≡ bit (is_held places m a)
 
 -- where a verify is still to come, and a guess was made, its arguments are those of the signals
 abbrev pub IsGuess : Pipe → ℕ → State → List Signal → List ℕ → Type 0
-IsGuess p k s guess args = verifies p k ≡ true → length args ≡ length p.start → args ≡ values_at s guess
+IsGuess p k s guess args = verifies_from p k ≡ true → length args ≡ length p.start → args ≡ values_at s guess
 
 -- a lock stands for the pending writes of its memory and the words of its array, and the tickets of the threads for their places among the pending writes, up to the stage of the releases
 pub record StandsLock (p : Pipe) (ls : Locks) (vs : ℕ → View) (s : State) (st : machine.State) (m : ℕ) : Type 0 where
@@ -32,7 +32,7 @@ pub record StandsLock (p : Pipe) (ls : Locks) (vs : ℕ → View) (s : State) (s
   pub words : List ℕ
   pub long : (mem_at p m).depth ≤ length words
   pub same : (a : ℕ) → a < (mem_at p m).depth → st.arrays m a ≡ slice_index words a
-  pub stands : ls.stands m s (lock_of base (machine.lock_of st m) words)
+  pub stands : ls.stands m s (lock_state_of base (machine.lock_of st m) words)
   pub few : length (machine.lock_of st m) ≤ ls.size m
   pub tickets : (k : ℕ) (t : Thread) → slot st k ≡ Some t → k ≤ commit_stage p m → holds_ticket (ls.bits m) ((vs k).tickets m) s (base + count_older t.number (machine.lock_of st m))
 
@@ -101,18 +101,18 @@ pub record IsSo (p : Pipe) (k : ℕ) (s : State) (w : Walk) (d : Deeds) : Type 0
 
 -- the walk tells whether the locks let the thread move, and as long as they do what it does
 pub record Follows (p : Pipe) (k : ℕ) (s : State) (st : machine.State) (thread : ℕ) (w : Walk) (d : Deeds) : Type 0 where
-  pub ready : w.ready.value s ≡ bit (is_ready p st thread d)
-  pub so : is_ready p st thread d ≡ true → IsSo p k s w d
+  pub ready : w.ready.value s ≡ bit (locks_ready p st thread d)
+  pub so : locks_ready p st thread d ≡ true → IsSo p k s w d
 
 -- a stage in a state: whether it holds a thread, whether that moves, and what it does
 pub record IsSeen (p : Pipe) (vs : ℕ → View) (moves : ℕ → Signal) (s : State) (st : machine.State) (bits : List Bool) (k : ℕ) : Type 0 where
   pub valid : (vs k).valid.value s ≡ bit (is_some (slot st k))
   pub follows : (t : Thread) → here p st bits k ≡ Some t → Follows p k s st t.number (vs k).ended (deeds p st k t)
-  pub leaves : (moves k).value s ≡ bit (goes p st bits k)
+  pub leaves : (moves k).value s ≡ bit (stage_moves p st bits k)
 
--- a squash in a state: whether it removes a thread that stays, whether there is one, and the ticket of the next thread behind the squasher among the pending writes that are left
+-- a squash in a state: whether it removes a thread that stays, whether there is one, and the ticket of the next thread after the squasher among the pending writes that are left
 pub record IsSquashed (p : Pipe) (ls : Locks) (vs : ℕ → View) (gates : Gates) (s : State) (st : machine.State) (bits : List Bool) : Type 0 where
-  pub kill : (k : ℕ) (t : Thread) → here p st bits k ≡ Some t → goes p st bits k ≡ false → (gates.kill k).value s ≡ bit (not (stays (squasher (moving p st bits)) t.number))
+  pub kill : (k : ℕ) (t : Thread) → here p st bits k ≡ Some t → stage_moves p st bits k ≡ false → (gates.kill k).value s ≡ bit (not (is_kept (squasher (moving p st bits)) t.number))
   pub squash : gates.squash.value s ≡ bit (is_some (squasher (moving p st bits)))
   pub tail : (m n : ℕ) → is_locked p m ≡ true → (stand : StandsLock p ls vs s st m) → squasher (moving p st bits) ≡ Some n
-      → holds_ticket (ls.bits m) (gates.tail m) s (stand.base + bit (releases m (moving p st bits)) + count_older (suc n) (list_three st (moving p st bits) m))
+      → holds_ticket (ls.bits m) (gates.tail m) s (stand.base + bit (has_release m (moving p st bits)) + count_older (suc n) (list_three st (moving p st bits) m))

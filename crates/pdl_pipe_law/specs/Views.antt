@@ -6,7 +6,7 @@ use Rattle.pdl_net.specs.Signal.{Signal, no_signal, mux_signal}
 use Rattle.pdl_machine_facts.specs.Slots.{ways}
 use Rattle.pdl_pipe_law.specs.Walk.{Locks, Birth, Walk, one, zero_bit, both}
 
--- a stage: whether it holds a thread, that thread's variables as they were kept and its ticket of each lock, and the walk before and behind its rows; the walk begins with the answers of this cycle
+-- a stage: whether it holds a thread, that thread's variables as they were kept and its ticket of each lock, and the walk before and after its rows; the walk begins with the answers of this cycle
 pub record View : Type 0 where
   pub valid : Signal
   pub kept : ℕ → Signal
@@ -31,7 +31,7 @@ no_gates ls = record { gate = λ k. one; kill = λ k. zero_bit; squash = zero_bi
 abbrev pub free : (ℕ → View) → (ℕ → Signal) → ℕ → Signal
 free vs moves q = mux_signal (vs q).valid (moves q) one
 
--- whether the next stage is free; behind the last one all is
+-- whether the next stage is free; after the last one all is
 abbrev pub way_on : Next → (ℕ → Signal) → Walk → Signal
 way_on Ends free w = one
 way_on (Goes to) free w = free to
@@ -68,7 +68,7 @@ out_of p vs moves q j = record {
   guess = λ i. slice_index_or (vs j).ended.guess i no_signal;
 }
 
--- a new thread: its arguments, and zeros behind them
+-- a new thread: its arguments, and zeros after them
 abbrev pub new_by : Signal → Birth → Comer
 new_by moves b = record {
   comes = both moves b.on;
@@ -88,6 +88,6 @@ abbrev pub comers : Pipe → (ℕ → View) → (ℕ → Signal) → ℕ → Lis
 comers p vs moves q = (if q == 0 then new_from vs moves (length p.stages) 0 else []) ++ map (out_of p vs moves q) (ways p q)
 
 -- what the first that comes brings, else this
-abbrev pub picked : (Comer → Signal) → List Comer → Signal → Signal
-picked of [] f = f
-picked of (c ∷ cs) f = mux_signal c.comes (of c) (picked of cs f)
+abbrev pub first_coming : (Comer → Signal) → List Comer → Signal → Signal
+first_coming of [] f = f
+first_coming of (c ∷ cs) f = mux_signal c.comes (of c) (first_coming of cs f)

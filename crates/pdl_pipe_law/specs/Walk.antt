@@ -2,7 +2,7 @@
 use Rattle.std.specs.Prelude.{◌≡◌, ℕ, ◌<◌, ◌≤◌, Bool, true, false, ◌==◌, ◌&&◌, List, [], ◌∷◌, ◌++◌, if◌then◌else◌, slice_index, slice_index_or, length, map, ⊤, not}
 use Rattle.pdl_word.specs.Words.{bit}
 use Rattle.pdl_semantics.specs.Tree.{LockKind}
-use Rattle.pdl_semantics.specs.Flat.{Expr, Op, Bind, CombRead, DelayedRead, Write, ReserveRead, ReserveWrite, Block, Release, Call, SpecCall, Verify, SpecCheck, SpecBarrier, Guard, Stmt, Pipe, has_lock, takes, value_of}
+use Rattle.pdl_semantics.specs.Flat.{Expr, Op, Bind, CombRead, DelayedRead, Write, ReserveRead, ReserveWrite, Block, Release, Call, SpecCall, Verify, SpecCheck, SpecBarrier, Guard, Stmt, Pipe, has_lock, takes_branch, value_of}
 use Rattle.pdl_semantics.specs.Stages.{mem_at}
 use Rattle.pdl_semantics.specs.Machine.{same_args}
 use Rattle.pdl_net.specs.Circuit.{Circuit, State}
@@ -10,9 +10,9 @@ use Rattle.pdl_net.specs.Signal.{Signal, const_signal, mux_signal}
 use Rattle.pdl_net.specs.Well.{Suits}
 use Rattle.pdl_lockapi.specs.declared.Kind.{Kind as LookKind}
 use Rattle.pdl_lockapi.specs.declared.Kind.TheVariants as look_kind
-use Rattle.pdl_lockapi.specs.Lock.{LockState, is_ready, read, Covered}
+use Rattle.pdl_lockapi.specs.Lock.{LockState, look_ready, look_value, Covered}
 use Rattle.pdl_lockapi.specs.Laws.{FitsIn, holds_ticket}
-use Rattle.pdl_pipe_law.specs.Lives.{uses}
+use Rattle.pdl_pipe_law.specs.Lives.{uses_var}
 
 -- what is known of the locks, by the numbers of their memories: which states of the circuit stand for which of the lock, its kind, how many writes may be pending, the bits of a ticket, and the signals of room and of the next ticket; and the number of each memory's array
 pub record Locks : Type 1 where
@@ -96,7 +96,7 @@ pub record IsFresh (w : Walk) : Type 0 where
 
 -- ---- rows
 
--- the signals that a row brings: whether it stands on the thread's path; behind a row that binds the variable's, of a block whether its look is ready, of a write the value, of a verify whether it fails; the arguments of a call, and the guess behind a row that guesses
+-- the signals that a row brings: whether it stands on the thread's path; after a row that binds the variable's, of a block whether its look is ready, of a write the value, of a verify whether it fails; the arguments of a call, and the guess after a row that guesses
 pub record Row : Type 0 where
   pub on : Signal
   pub value : Signal
@@ -106,7 +106,7 @@ pub record Row : Type 0 where
 -- whether the guards are taken
 abbrev pub taken_in : List Guard → Walk → State → Bool
 taken_in [] w s = true
-taken_in (g ∷ gs) w s = takes g.first ((w.vars g.var).value s) && taken_in gs w s
+taken_in (g ∷ gs) w s = takes_branch g.first ((w.vars g.var).value s) && taken_in gs w s
 
 -- in each state in which they are taken
 abbrev pub WhereTaken : Circuit → List Guard → Walk → (State → Type 0) → Type 0
@@ -117,7 +117,7 @@ WhereNot c gs w P = (s : State) → Suits c s → taken_in gs w s ≡ false → 
 
 -- values of variables that are those of the signals, as far as an expression uses them
 abbrev pub AgreeOn : Expr → Walk → State → List ℕ → Type 0
-AgreeOn e w s env = (x : ℕ) → uses e x ≡ true → slice_index env x ≡ (w.vars x).value s
+AgreeOn e w s env = (x : ℕ) → uses_var e x ≡ true → slice_index env x ≡ (w.vars x).value s
 
 -- a signal has the value of an expression
 abbrev pub HasValue : Expr → Walk → Signal → State → Type 0
@@ -144,7 +144,7 @@ ThroughLock ls m ticket s P = (x : LockState) (t : ℕ) → ls.stands m s x → 
 pub record IsWord (p : Pipe) (ls : Locks) (m : ℕ) (addr ticket f : Signal) (s : State) : Type 0 where
   pub reach : addr.value s < (mem_at p m).depth
   pub plain : is_locked p m ≡ false → f.value s ≡ slice_index (slice_index_or s.arrays (ls.array m) []) (addr.value s)
-  pub locked : is_locked p m ≡ true → ThroughLock ls m ticket s (λ x t. is_ready (ls.kind m) look_kind.R x t (addr.value s) ≡ true → f.value s ≡ read x t (addr.value s))
+  pub locked : is_locked p m ≡ true → ThroughLock ls m ticket s (λ x t. look_ready (ls.kind m) look_kind.R x t (addr.value s) ≡ true → f.value s ≡ look_value x t (addr.value s))
 
 -- what a row's signals say, by its guards, where the thread has these tickets; the address of a reservation for writing fits
 abbrev pub IsOp : Circuit → Pipe → Locks → (ℕ → Signal) → List Guard → Op → Walk → Row → Type 0
@@ -155,7 +155,7 @@ IsOp c p ls tickets gs (ReserveRead m a) w r = ⊤
 IsOp c p ls tickets gs (ReserveWrite m a) w r = (is_locked p m ≡ true) × WhereTaken c gs w (FitsIn (w.vars a))
 IsOp c p ls tickets gs (Block m a) w r =
     (is_locked p m ≡ true)
-    × WhereTaken c gs w (λ s. ThroughLock ls m (tickets m) s (λ x t. r.value.value s ≡ bit (is_ready (ls.kind m) (look_of (is_on (w.held m a) s)) x t ((w.vars a).value s))))
+    × WhereTaken c gs w (λ s. ThroughLock ls m (tickets m) s (λ x t. r.value.value s ≡ bit (look_ready (ls.kind m) (look_of (is_on (w.held m a) s)) x t ((w.vars a).value s))))
 IsOp c p ls tickets gs (Release m a) w r = ⊤
 IsOp c p ls tickets gs (Call args) w r = (length r.args ≤ p.vars) × WhereTaken c gs w (HaveValues args w r.args)
 IsOp c p ls tickets gs (DelayedRead x m a) w r = ⊤
@@ -172,7 +172,7 @@ pub record IsRow (c : Circuit) (p : Pipe) (ls : Locks) (tickets : ℕ → Signal
   pub on : (s : State) → Suits c s → r.on.value s ≡ bit (taken_in x.guards w s)
   pub op : IsOp c p ls tickets x.guards x.op w r
 
--- ---- behind a row
+-- ---- after a row
 
 abbrev pub with_var : ℕ → Signal → Walk → Walk
 with_var x f w = record w { vars = λ y. if y == x then f else w.vars y }
@@ -184,30 +184,30 @@ with_held m a f held n b = if (m == n) && (a == b) then f else held n b
 abbrev pub if_on : Signal → Signal → Signal
 if_on on f = mux_signal on f one
 
-abbrev pub after : Op → Row → Locks → Walk → Walk
-after (Bind x e) r ls w = with_var x r.value w
-after (CombRead x m a) r ls w = with_var x r.value w
-after (Write m a e) r ls w = record w { puts = w.puts ++ record { mem = m; on = r.on; value = r.value } ∷ [] }
-after (ReserveWrite m a) r ls w =
+abbrev pub walk_after : Op → Row → Locks → Walk → Walk
+walk_after (Bind x e) r ls w = with_var x r.value w
+walk_after (CombRead x m a) r ls w = with_var x r.value w
+walk_after (Write m a e) r ls w = record w { puts = w.puts ++ record { mem = m; on = r.on; value = r.value } ∷ [] }
+walk_after (ReserveWrite m a) r ls w =
     record w {
       held = with_held m a (mux_signal r.on one (w.held m a)) w.held;
       ready = both w.ready (if_on r.on (ls.room m));
       reserves = w.reserves ++ record { mem = m; on = r.on; addr = w.vars a } ∷ [];
     }
-after (Block m a) r ls w = record w { ready = both w.ready (if_on r.on r.value) }
-after (Release m a) r ls w =
+walk_after (Block m a) r ls w = record w { ready = both w.ready (if_on r.on r.value) }
+walk_after (Release m a) r ls w =
     record w {
       held = with_held m a (mux_signal r.on zero_bit (w.held m a)) w.held;
       lettings = w.lettings ++ record { mem = m; on = both r.on (w.held m a) } ∷ [];
     }
-after (Call args) r ls w = record w { births = record { on = r.on; args = r.args } ∷ w.births }
-after (DelayedRead x m a) r ls w = record w { asks = w.asks ++ record { mem = m; var = x; on = r.on; addr = w.vars a } ∷ [] }
-after (SpecCall args) r ls w = record w { births = record { on = r.on; args = r.args } ∷ w.births; guess = r.guess }
-after (Verify args) r ls w = record w { births = record { on = both r.on r.value; args = r.args } ∷ w.births; fails = mux_signal (both r.on r.value) one w.fails }
-after SpecBarrier r ls w = record w { barrier = mux_signal r.on one w.barrier }
-after _ r ls w = w
+walk_after (Call args) r ls w = record w { births = record { on = r.on; args = r.args } ∷ w.births }
+walk_after (DelayedRead x m a) r ls w = record w { asks = w.asks ++ record { mem = m; var = x; on = r.on; addr = w.vars a } ∷ [] }
+walk_after (SpecCall args) r ls w = record w { births = record { on = r.on; args = r.args } ∷ w.births; guess = r.guess }
+walk_after (Verify args) r ls w = record w { births = record { on = both r.on r.value; args = r.args } ∷ w.births; fails = mux_signal (both r.on r.value) one w.fails }
+walk_after SpecBarrier r ls w = record w { barrier = mux_signal r.on one w.barrier }
+walk_after _ r ls w = w
 
 -- rows lead from one walk to another
 abbrev pub AreRows : Circuit → Pipe → Locks → (ℕ → Signal) → List Stmt → Walk → Walk → Type 0
 AreRows c p ls tickets [] w w' = w' ≡ w
-AreRows c p ls tickets (x ∷ xs) w w' = (r : Row) × IsRow c p ls tickets x w r × AreRows c p ls tickets xs (after x.op r ls w) w'
+AreRows c p ls tickets (x ∷ xs) w w' = (r : Row) × IsRow c p ls tickets x w r × AreRows c p ls tickets xs (walk_after x.op r ls w) w'

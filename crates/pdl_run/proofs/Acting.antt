@@ -4,8 +4,8 @@ use Rattle.std.proofs.lemmas.List.{map-append}
 use Rattle.pdl_semantics.specs.Stages.{list_any}
 use Rattle.pdl_semantics.specs.Machine.{Pending, Request, Thread, State, Deeds}
 use Rattle.pdl_semantics.specs.Moves.{Act}
-use Rattle.pdl_semantics.specs.Cycle.{new_entries, appended, put_all, filled, releases, squasher, child_of, asked_of, asked_by}
-use Rattle.pdl_machine_facts.specs.Slots.{slot, here, goes, with_now, mover, movers_from}
+use Rattle.pdl_semantics.specs.Cycle.{new_entries, with_reserves, with_writes_of, with_all_writes, has_release, squasher, child_of, asked_of, asked_by}
+use Rattle.pdl_machine_facts.specs.Slots.{slot, here, stage_moves, with_now, mover, movers_from}
 use Rattle.pdl_form.specs.Form.{Form}
 use Rattle.pdl_pending.specs.Memory.{Memory}
 use Rattle.pdl_run.specs.declared.stage.Stage as r_stage
@@ -27,15 +27,15 @@ all_kept ms = map kept_of ms
 
 -- WHAT THE PROGRAM KEEPS IS ENOUGH
 
-pub appended_kept : (m : ℕ) (ms : List Act) (list : List Pending) → appended m (all_kept ms) list ≡ appended m ms list
+pub appended_kept : (m : ℕ) (ms : List Act) (list : List Pending) → with_reserves m (all_kept ms) list ≡ with_reserves m ms list
 appended_kept m [] list = refl
 appended_kept m (a ∷ ms) list = ap (λ (es : List Pending). es ++ new_entries m a.thread.number a.does.reserves) (appended_kept m ms list)
 
-pub filled_kept : (m : ℕ) (ms : List Act) (list : List Pending) → filled m (all_kept ms) list ≡ filled m ms list
+pub filled_kept : (m : ℕ) (ms : List Act) (list : List Pending) → with_all_writes m (all_kept ms) list ≡ with_all_writes m ms list
 filled_kept m [] list = refl
-filled_kept m (a ∷ ms) list = ap (put_all m a.thread.number a.does.writes) (filled_kept m ms list)
+filled_kept m (a ∷ ms) list = ap (with_writes_of m a.thread.number a.does.writes) (filled_kept m ms list)
 
-pub releases_kept : (m : ℕ) (ms : List Act) → releases m (all_kept ms) ≡ releases m ms
+pub releases_kept : (m : ℕ) (ms : List Act) → has_release m (all_kept ms) ≡ has_release m ms
 releases_kept m [] = refl
 releases_kept m (a ∷ ms) = ap (λ b. list_any (λ n. n == m) a.does.releases || b) (releases_kept m ms)
 
@@ -88,7 +88,7 @@ module _ (f : Form) (typed : AreServed f f.pipe.stmts) (linear : IsLinear f.pipe
       → all_kept (movers_from f.pipe st bits (length ys) k) ≡ acts_of k ys
   acts_all k [] at done hold go = refl
   acts_all k (y ∷ ys) at done hold go =
-      map-append kept_of (mover f.pipe st k (goes f.pipe st bits k) (here f.pipe st bits k)) (movers_from f.pipe st bits (length ys) (suc k))
+      map-append kept_of (mover f.pipe st k (stage_moves f.pipe st bits k) (here f.pipe st bits k)) (movers_from f.pipe st bits (length ys) (suc k))
       ∙ ap₂ (λ (a b : List Act). a ++ b)
       (ap (λ (b : Bool). all_kept (mover f.pipe st k b (here f.pipe st bits k))) go.0 ∙ act_one k y y.slot.number y.moves (is_free ys) (at_here st k y ys at) done.0 hold.0)
       (acts_all (suc k) ys (at_next st k y ys at) done.1 hold.1 go.1)

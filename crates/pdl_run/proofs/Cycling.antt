@@ -7,9 +7,9 @@ use Rattle.pdl_semantics.specs.Stages.{plain_mem}
 use Rattle.pdl_semantics.specs.Machine.{Thread, Request, NoRequest, State, lock_of}
 use Rattle.pdl_semantics.specs.Moves.{Act, all_acts}
 use Rattle.pdl_semantics.specs.Moves as model
-use Rattle.pdl_semantics.specs.Cycle.{for_mems, for_stages, or_then, born, child_of, squasher, asked_by, with_commits, entries_left, list_three, taken_out, port_write, fork_next, branches_left, request_next, request_left, after_these, cycle, Ports, ports_these}
+use Rattle.pdl_semantics.specs.Cycle.{for_mems, for_stages, or_then, born_thread, child_of, squasher, asked_by, with_commits, entries_left, list_three, taken_out, port_write, fork_next, branches_left, request_next, request_left, after_these, cycle, Ports, ports_these}
 use Rattle.pdl_semantics.specs.Cycle as stated
-use Rattle.pdl_machine_facts.specs.Slots.{slot, goes, movers_from, moving}
+use Rattle.pdl_machine_facts.specs.Slots.{slot, stage_moves, movers_from, moving}
 use Rattle.pdl_machine_facts.specs.Cycle.{IsByStages, ports_of}
 use Rattle.pdl_machine_facts.specs.Ports.{stage_values, all_commit_values, port_values}
 use Rattle.pdl_machine_facts.proofs.StagewisePorts.{stages_below, then_none}
@@ -18,7 +18,7 @@ use Rattle.pdl_pending.specs.Memory.{Memory}
 use Rattle.pdl_run.specs.declared.stage.Stage as r_stage
 use Rattle.pdl_run.specs.View.{place_view, as_standing, Standing, standing_view, seats, thread_in}
 use Rattle.pdl_run.specs.Doing.{memory_at}
-use Rattle.pdl_run.specs.Acts.{AreDone, acts_of, holds, movings, memories_after, commits_shown, stages_after, called_by}
+use Rattle.pdl_run.specs.Acts.{AreDone, acts_of, are_held, are_moving, memories_after, commits_shown, stages_after, called_by}
 use Rattle.pdl_run.specs.Ready.{AllHold}
 use Rattle.pdl_run.specs.Running.{IsRunnable, state_of, AreRoomy}
 use Rattle.pdl_run.proofs.Readiness.{Shows}
@@ -112,12 +112,12 @@ module _ (f : Form) (run : IsRunnable f) (zs : List r_stage.Stage) (xs : List Me
 
     -- THE STAGES
 
-    born_is : (c : Option (List ℕ)) → born p next c ≡ thread_in (called_by p next c)
+    born_is : (c : Option (List ℕ)) → born_thread p next c ≡ thread_in (called_by p next c)
     born_is None = refl
     born_is (Some args) = refl
 
-    came : or_then (born p next (child_of (moving p st bits))) None ≡ thread_in (called_by p next (child_of ms))
-    came = then_none (born p next (child_of (moving p st bits))) ∙ ap (born p next) child ∙ born_is (child_of ms)
+    came : or_then (born_thread p next (child_of (moving p st bits))) None ≡ thread_in (called_by p next (child_of ms))
+    came = then_none (born_thread p next (child_of (moving p st bits))) ∙ ap (born_thread p next) child ∙ born_is (child_of ms)
 
     pub stages_are : (cycle p st bits).stages ≡ map thread_in (stages_after (called_by p next (child_of ms)) zs)
     stages_are =
@@ -167,7 +167,7 @@ module _ (f : Form) (run : IsRunnable f) (zs : List r_stage.Stage) (xs : List Me
 
     -- THE PORTS
 
-    holds_at : (k : ℕ) (ys : List r_stage.Stage) (ss : List Stage) → length ss ≡ length ys → At st k ys → for_stages (λ i. is_some (slot st i)) k ss ≡ holds ys
+    holds_at : (k : ℕ) (ys : List r_stage.Stage) (ss : List Stage) → length ss ≡ length ys → At st k ys → for_stages (λ i. is_some (slot st i)) k ss ≡ are_held ys
     holds_at k [] [] n h = refl
     holds_at k [] (s ∷ ss) n h = absurd (omega arith)
     holds_at k (y ∷ ys) [] n h = absurd (omega arith)
@@ -180,35 +180,35 @@ module _ (f : Form) (run : IsRunnable f) (zs : List r_stage.Stage) (xs : List Me
         some_in None = refl
         some_in (Some n) = refl
 
-    moves_at : (k : ℕ) (ys : List r_stage.Stage) (ss : List Stage) → length ss ≡ length ys → AllGo f (served f run) run.simple.linear st bits k ys → for_stages (λ i. goes p st bits i) k ss ≡ movings ys
+    moves_at : (k : ℕ) (ys : List r_stage.Stage) (ss : List Stage) → length ss ≡ length ys → AllGo f (served f run) run.simple.linear st bits k ys → for_stages (λ i. stage_moves p st bits i) k ss ≡ are_moving ys
     moves_at k [] [] n h = refl
     moves_at k [] (s ∷ ss) n h = absurd (omega arith)
     moves_at k (y ∷ ys) [] n h = absurd (omega arith)
     moves_at k (y ∷ ys) (s ∷ ss) n h = ap₂ (λ (b : Bool) (bs : List Bool). b ∷ bs) h.0 (moves_at (suc k) ys ss (omega arith) h.1)
 
-    go_at : (k i : ℕ) (ys : List r_stage.Stage) → i < length ys → AllGo f (served f run) run.simple.linear st bits k ys → goes p st bits (k + i) ≡ slice_index_or (movings ys) i false
+    go_at : (k i : ℕ) (ys : List r_stage.Stage) → i < length ys → AllGo f (served f run) run.simple.linear st bits k ys → stage_moves p st bits (k + i) ≡ slice_index_or (are_moving ys) i false
     go_at k i [] less h = absurd (omega arith)
-    go_at k zero (y ∷ ys) less h = let same : k + 0 ≡ k = omega arith in ap (goes p st bits) same ∙ h.0
-    go_at k (suc i) (y ∷ ys) less h = let same : k + suc i ≡ suc k + i = omega arith in ap (goes p st bits) same ∙ go_at (suc k) i ys (omega arith) h.1
+    go_at k zero (y ∷ ys) less h = let same : k + 0 ≡ k = omega arith in ap (stage_moves p st bits) same ∙ h.0
+    go_at k (suc i) (y ∷ ys) less h = let same : k + suc i ≡ suc k + i = omega arith in ap (stage_moves p st bits) same ∙ go_at (suc k) i ys (omega arith) h.1
 
-    go_last : 1 ≤ length zs → goes p st bits (length p.stages - 1) ≡ slice_index_or (movings zs) (length zs - 1) false
+    go_last : 1 ≤ length zs → stage_moves p st bits (length p.stages - 1) ≡ slice_index_or (are_moving zs) (length zs - 1) false
     go_last some =
         let same : length p.stages - 1 ≡ 0 + (length zs - 1) = omega arith in
-        ap (goes p st bits) same ∙ go_at 0 (length zs - 1) zs (omega arith) go
+        ap (stage_moves p st bits) same ∙ go_at 0 (length zs - 1) zs (omega arith) go
 
-    pub next_ports : stage_values (holds zs) (movings zs) ++ commits_shown 0 ms xs ++ bit (slice_index_or (movings zs) (length zs - 1) false) ∷ 0 ∷ [] ≡ port_values p (stated.ports p st (all_acts p st bits))
+    pub next_ports : stage_values (are_held zs) (are_moving zs) ++ commits_shown 0 ms xs ++ bit (slice_index_or (are_moving zs) (length zs - 1) false) ∷ 0 ∷ [] ≡ port_values p (stated.ports p st (all_acts p st bits))
     next_ports =
         let o : Ports = ports_of p st bits in
-        let first : stage_values (holds zs) (movings zs) ≡ stage_values o.valid o.moves =
+        let first : stage_values (are_held zs) (are_moving zs) ≡ stage_values o.valid o.moves =
         ap₂ stage_values (sym (holds_at 0 zs p.stages (sym count) at)) (sym (moves_at 0 zs p.stages (sym count) go)) ∙ ap₂ stage_values (sym by.valid) (sym by.moves) in
         let second : commits_shown 0 ms xs ≡ all_commit_values p.mems o.commits =
         sym (commits_after st movers ms kept_movers 0 p.mems xs mems locked (λ i e less. kinds i e less)) in
         let some : 1 ≤ length zs = subst (λ n. 1 ≤ n) (sym count) run.simple.fit.some in
-        let third : bit (slice_index_or (movings zs) (length zs - 1) false) ∷ 0 ∷ [] ≡ bit o.ended ∷ bit o.squash ∷ [] =
+        let third : bit (slice_index_or (are_moving zs) (length zs - 1) false) ∷ 0 ∷ [] ≡ bit o.ended ∷ bit o.squash ∷ [] =
         ap₂ (λ (b c : Bool). bit b ∷ bit c ∷ [])
         (sym (go_last some) ∙ sym by.ended)
         (sym (by.squash ∙ ap (λ (q : Option ℕ). is_some q) calm)) in
-        let whole : stage_values (holds zs) (movings zs) ++ commits_shown 0 ms xs ++ bit (slice_index_or (movings zs) (length zs - 1) false) ∷ 0 ∷ [] ≡ stage_values o.valid o.moves ++ all_commit_values p.mems o.commits ++ bit o.ended ∷ bit o.squash ∷ [] =
+        let whole : stage_values (are_held zs) (are_moving zs) ++ commits_shown 0 ms xs ++ bit (slice_index_or (are_moving zs) (length zs - 1) false) ∷ 0 ∷ [] ≡ stage_values o.valid o.moves ++ all_commit_values p.mems o.commits ++ bit o.ended ∷ bit o.squash ∷ [] =
         ap₂ (λ (a b : List ℕ). a ++ b) (ap₂ (λ (a b : List ℕ). a ++ b) first second) third in
         whole
       where

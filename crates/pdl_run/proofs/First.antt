@@ -4,7 +4,7 @@ use Rattle.std.proofs.lemmas.List.{length-map, length-replicate}
 use Rattle.pdl_semantics.specs.Flat.{Lock, Mem, Stage, Pipe, arrays_of, start_env}
 use Rattle.pdl_semantics.specs.Stages.{plain_mem, mem_at}
 use Rattle.pdl_semantics.specs.Machine.{Thread, Pending, NoRequest}
-use Rattle.pdl_semantics.specs.Cycle.{born, first, for_mems, for_stages}
+use Rattle.pdl_semantics.specs.Cycle.{born_thread, first, for_mems, for_stages}
 use Rattle.pdl_form.specs.declared.form.Mem as r_mem
 use Rattle.pdl_form.specs.View.{mem_view, mems_view, lock_view}
 use Rattle.pdl_form.specs.Form.{Form}
@@ -84,15 +84,15 @@ lock_at p mems m x seen h is = ap (λ (d : Mem). d.lock) (seen_at mem_view mems 
 
 -- THE FIRST STATE
 
-pub first_stages_are : (p : Pipe) (ss : List Stage) → map thread_in (seats_first p (length ss)) ≡ for_stages (λ q. if q == 0 then born p 1 (Some p.start) else None) 0 ss
+pub first_stages_are : (p : Pipe) (ss : List Stage) → map thread_in (seats_first p (length ss)) ≡ for_stages (λ q. if q == 0 then born_thread p 1 (Some p.start) else None) 0 ss
 first_stages_are p [] = refl
 first_stages_are p (s ∷ ss) = ap (λ (ts : List (Option Thread)). Some (thread_of 1 (start_env p p.start)) ∷ ts) (others 1 ss (omega arith))
   where
-    others : (k : ℕ) (ys : List Stage) → 1 ≤ k → map thread_in (replicate (length ys) (as_standing None [] [])) ≡ for_stages (λ q. if q == 0 then born p 1 (Some p.start) else None) k ys
+    others : (k : ℕ) (ys : List Stage) → 1 ≤ k → map thread_in (replicate (length ys) (as_standing None [] [])) ≡ for_stages (λ q. if q == 0 then born_thread p 1 (Some p.start) else None) k ys
     others k [] h = refl
     others k (y ∷ ys) h =
         let none : (k == 0) ≡ false = grind (arith) in
-        ap₂ (λ (t : Option Thread) (ts : List (Option Thread)). t ∷ ts) (ap (λ (b : Bool). if b then born p 1 (Some p.start) else None) (sym none)) (others (suc k) ys (omega arith))
+        ap₂ (λ (t : Option Thread) (ts : List (Option Thread)). t ∷ ts) (ap (λ (b : Bool). if b then born_thread p 1 (Some p.start) else None) (sym none)) (others (suc k) ys (omega arith))
 
 abbrev pub AllFirst : Pipe → List (List ℕ) → List Memory → Type 0
 AllFirst p image xs = (m : ℕ) → m < length p.mems → IsFirst (mem_at p m).lock (slice_index_or image m []) (memory_at xs m)

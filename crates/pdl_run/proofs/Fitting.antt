@@ -2,9 +2,9 @@
 use Rattle.std.proofs.Common.{◌≡◌, ◌≢◌, refl, sym, ◌∙◌, subst, ℕ, zero, suc, ◌^◌, ◌<◌, ◌≤◌, Bool, true, false, if◌then◌else◌, ◌==◌, List, [], ◌∷◌, ◌++◌, length, take, slice_index, slice_set, arith}
 use Rattle.std.proofs.lemmas.List.{length-set, get_or-set_same, get_or-set_other}
 use Rattle.std.proofs.lemmas.Bool.{eqb-true}
-use Rattle.pdl_semantics.specs.Flat.{Expr, Op, Bind, CombRead, DelayedRead, Write, ReserveRead, ReserveWrite, Block, Release, Call, SpecCall, Verify, SpecCheck, SpecBarrier, Stmt, Pipe, taken, value_of, values_of}
+use Rattle.pdl_semantics.specs.Flat.{Expr, Op, Bind, CombRead, DelayedRead, Write, ReserveRead, ReserveWrite, Block, Release, Call, SpecCall, Verify, SpecCheck, SpecBarrier, Stmt, Pipe, all_hold, value_of, values_of}
 use Rattle.pdl_semantics.specs.Stages.{in_stage, mem_at}
-use Rattle.pdl_semantics.specs.Machine.{Deeds, Reserved, Written, does, does_all}
+use Rattle.pdl_semantics.specs.Machine.{Deeds, Reserved, Written, deeds_after, deeds_after_all}
 use Rattle.pdl_form.specs.Form.{Form, stmt_at}
 use Rattle.pdl_formtypes.specs.Stmts.{param_widths, AreWidths, AreArguments}
 use Rattle.pdl_values.specs.Widths.{Fit}
@@ -59,7 +59,7 @@ take_most (suc n) [] = omega arith
 take_most (suc n) (x ∷ xs) = let rest = take_most n xs in omega arith
 
 module _ (f : Form) (wide : AreWidths f.widths) (xs : List Memory) (ms : AreMemories f.pipe xs) where
-  pub fit_does : (thread : ℕ) (op : Op) (d : Deeds) → IsServed f op → AreFit f d → AreFit f (does (word_of xs thread) op d)
+  pub fit_does : (thread : ℕ) (op : Op) (d : Deeds) → IsServed f op → AreFit f d → AreFit f (deeds_after (word_of xs thread) op d)
   fit_does thread (Bind x e) d t k =
       let there : x < length d.env = subst (λ n. x < n) (sym k.env.count) t.0 in
       record { env = fit_set f.widths d.env x (value_of e d.env) k.env (fits_in f.widths d.env wide k.env e _ t.1 t.2) there; reserves = k.reserves; writes = k.writes; child = k.child }
@@ -89,7 +89,7 @@ module _ (f : Form) (wide : AreWidths f.widths) (xs : List Memory) (ms : AreMemo
   fit_does thread SpecCheck d t k = k
   fit_does thread SpecBarrier d t k = record { env = k.env; reserves = k.reserves; writes = k.writes; child = k.child }
 
-  fit_if : (thread : ℕ) (b : Bool) (op : Op) (d : Deeds) → IsServed f op → AreFit f d → AreFit f (if b then does (word_of xs thread) op d else d)
+  fit_if : (thread : ℕ) (b : Bool) (op : Op) (d : Deeds) → IsServed f op → AreFit f d → AreFit f (if b then deeds_after (word_of xs thread) op d else d)
   fit_if thread true op d t k = fit_does thread op d t k
   fit_if thread false op d t k = k
 
@@ -97,8 +97,8 @@ module _ (f : Form) (wide : AreWidths f.widths) (xs : List Memory) (ms : AreMemo
   fit_strip d k = record { env = k.env; reserves = k.reserves; writes = k.writes; child = k.child }
 
   -- one statement more
-  pub fit_more : (thread : ℕ) (x : Stmt) (old new : Deeds) → new ≡ strip (does_all (word_of xs thread) (x ∷ []) old) → IsServed f x.op → AreFit f old → AreFit f new
-  fit_more thread x old new e t k = subst (AreFit f) (sym e) (fit_strip _ (fit_if thread (taken x.guards old.env) x.op old t k))
+  pub fit_more : (thread : ℕ) (x : Stmt) (old new : Deeds) → new ≡ strip (deeds_after_all (word_of xs thread) (x ∷ []) old) → IsServed f x.op → AreFit f old → AreFit f new
+  fit_more thread x old new e t k = subst (AreFit f) (sym e) (fit_strip _ (fit_if thread (all_hold x.guards old.env) x.op old t k))
 
   pub safe_op : (op : Op) (d : Deeds) (room : ℕ) → IsServed f op → AreFit f d → length f.pipe.start ≤ room → IsSafeOp (length xs) room op d.env
   safe_op (Bind x e) d room t k h = (subst (λ n. x < n) (sym k.env.count) t.0, safe f.widths d.env wide k.env e t.1)

@@ -1,9 +1,9 @@
 -- What doesn't change where stages stand in a line and memories answer at once: forks and requests.
 use Rattle.std.proofs.Common.{◌≡◌, refl, ap, ap₂, ◌∙◌, ℕ, zero, suc, Bool, true, false, if◌then◌else◌, ◌==◌, List, [], ◌∷◌, ◌++◌, Option, Some, None, slice_index_or}
 use Rattle.pdl_semantics.specs.Flat.{Mem, Stage, Pipe}
-use Rattle.pdl_semantics.specs.Machine.{State, Request, NoRequest, fork_of, request_of, answers}
+use Rattle.pdl_semantics.specs.Machine.{State, Request, NoRequest, fork_of, request_of, is_answered}
 use Rattle.pdl_semantics.specs.Moves.{Act, next_stage}
-use Rattle.pdl_semantics.specs.Cycle.{for_stages, for_mems, goes_into, entered, left, but_first, fork_next, branches_left, asked_by, request_next, request_left}
+use Rattle.pdl_semantics.specs.Cycle.{for_stages, for_mems, goes_into, entered_branches, has_left, but_first, fork_next, branches_left, asked_by, request_next, request_left}
 use Rattle.pdl_machine_facts.specs.Linear.{IsLinear}
 
 empty_fork : (ys : List Stage) (k f : ℕ) → slice_index_or {A = List Bool} (for_stages (λ i. []) k ys) f [] ≡ []
@@ -21,7 +21,7 @@ module _ (p : Pipe) (linear : IsLinear p) where
   no_way_in f None = refl
   no_way_in f (Some q) = rw (linear.no_branch q) refl
 
-  none_entered : (f : ℕ) (acts : List Act) → entered p f acts ≡ []
+  none_entered : (f : ℕ) (acts : List Act) → entered_branches p f acts ≡ []
   none_entered f [] = refl
   none_entered f (a ∷ acts) = ap₂ (λ (xs ys : List Bool). xs ++ ys) (none_entered f acts) (here (a.stage == f))
     where
@@ -32,7 +32,7 @@ module _ (p : Pipe) (linear : IsLinear p) where
   pub fork_empty : (st : State) (acts : List Act) (f : ℕ) → st.forks ≡ for_stages (λ i. []) 0 p.stages → branches_left p None f (fork_next p st acts f) ≡ []
   fork_empty st acts f empty =
       let none : fork_of st f ≡ [] = ap (λ (xs : List (List Bool)). slice_index_or xs f []) empty ∙ empty_fork p.stages 0 f in
-      ap₂ (λ (xs ys : List Bool). (if left p f acts then but_first xs else xs) ++ ys) none (none_entered f acts) ∙ here (left p f acts)
+      ap₂ (λ (xs ys : List Bool). (if has_left p f acts then but_first xs else xs) ++ ys) none (none_entered f acts) ∙ here (has_left p f acts)
     where
       here : (b : Bool) → (if b then but_first [] else []) ++ [] ≡ []
       here true = refl
@@ -41,7 +41,7 @@ module _ (p : Pipe) (linear : IsLinear p) where
 pub request_none : (p : Pipe) (st : State) (bits : List Bool) (acts : List Act) (m : ℕ) → ((old : Request) → asked_by m acts old ≡ old) → st.requests ≡ for_mems (λ i. NoRequest) 0 p.mems
     → request_left None (request_next p st bits acts m) ≡ NoRequest
 request_none p st bits acts m quiet none =
-    ap (request_left None) (quiet (if answers p bits m then NoRequest else request_of st m) ∙ here (answers p bits m))
+    ap (request_left None) (quiet (if is_answered p bits m then NoRequest else request_of st m) ∙ here (is_answered p bits m))
   where
     here : (b : Bool) → (if b then NoRequest else request_of st m) ≡ NoRequest
     here true = refl

@@ -3,9 +3,9 @@ use Rattle.std.proofs.Common.{◌≡◌, refl, sym, ap, ap₂, ◌∙◌, ℕ, s
 use Rattle.std.specs.Prelude.{⊤}
 use Rattle.pdl_semantics.specs.Flat.{list_all}
 use Rattle.pdl_semantics.specs.Stages.{in_stage, stage_at, goes_to, verify_stage}
-use Rattle.pdl_semantics.specs.Machine.{Ask, Thread, State, Deeds, deeds, word_for, with_answers, held_before, request_of, answers, Place}
-use Rattle.pdl_semantics.specs.Moves.{Act, next_stage, acts, moves, no_failure, none_up_to, merges_well, may_merge, is_free}
-use Rattle.pdl_machine_facts.specs.Slots.{slot, here, behind, goes, goes_of, with_now, may_pass, may_enter, is_ready}
+use Rattle.pdl_semantics.specs.Machine.{Ask, Thread, State, Deeds, deeds, word_for, with_answers, held_before, request_of, is_answered, HeldLocation}
+use Rattle.pdl_semantics.specs.Moves.{Act, next_stage, acts, may_move, no_failure, none_up_to, merges_well, may_merge, is_free}
+use Rattle.pdl_machine_facts.specs.Slots.{slot, here, later_acts, stage_moves, slot_moves, with_now, may_pass, may_enter, locks_ready}
 use Rattle.pdl_machine_facts.specs.Cycle.{IsByStages}
 use Rattle.pdl_machine_facts.specs.Linear.{IsLinear}
 use Rattle.pdl_form.specs.Form.{Form}
@@ -15,7 +15,7 @@ use Rattle.pdl_run.specs.View.{deeds_view, Standing, as_standing, standing_view,
 use Rattle.pdl_run.specs.Doing.{all_let_move}
 use Rattle.pdl_run.specs.Typed.{AreServed}
 use Rattle.pdl_run.specs.Acts as acts_specs
-use Rattle.pdl_run.specs.Acts.{begun, IsDone, AreDone}
+use Rattle.pdl_run.specs.Acts.{begun_deeds, IsDone, AreDone}
 use Rattle.pdl_run.specs.Ready.{IsHolding, AllHold}
 use Rattle.pdl_run.proofs.Quiet.{IsQuiet, quiet_all, none_fails, typed_stage, never_verified}
 use Rattle.pdl_run.proofs.Readiness.{Shows, ready_all, deeds_are}
@@ -45,7 +45,7 @@ module _ (f : Form) (typed : AreServed f f.pipe.stmts) (linear : IsLinear f.pipe
   no_failures j (None ∷ ts) = no_failures (suc j) ts
   no_failures j (Some t ∷ ts) =
       ap₂ (λ (a b : Bool). a && b)
-      (not_both (moves f.pipe st bits (acts f.pipe st bits (suc j) ts) j (with_answers f.pipe st bits t) (deeds f.pipe st j (with_answers f.pipe st bits t))) _ (deeds_fail j (with_answers f.pipe st bits t)))
+      (not_both (may_move f.pipe st bits (acts f.pipe st bits (suc j) ts) j (with_answers f.pipe st bits t) (deeds f.pipe st j (with_answers f.pipe st bits t))) _ (deeds_fail j (with_answers f.pipe st bits t)))
       (no_failures (suc j) ts)
 
   -- WHAT STANDS BESIDE THE STAGES LETS EVERYBODY PASS
@@ -61,7 +61,7 @@ module _ (f : Form) (typed : AreServed f f.pipe.stmts) (linear : IsLinear f.pipe
   passed : (later : List Act) (k : ℕ) (d : Deeds) → IsQuiet d → no_failure later ≡ true → may_pass f.pipe st bits later k d ≡ true
   passed later k d q none =
       ap₂ (λ (a b : Bool). a && b) none
-      (ap₂ (λ (a b : Bool). a && b) (ap (λ (as' : List Ask). list_all (λ o. is_free (request_of st o.mem) (answers f.pipe bits o.mem) later) as') q.asks)
+      (ap₂ (λ (a b : Bool). a && b) (ap (λ (as' : List Ask). list_all (λ o. is_free (request_of st o.mem) (is_answered f.pipe bits o.mem) later) as') q.asks)
       (ap₂ (λ (a b : Bool). a && b) (clear d.barrier (verify_stage f.pipe.stmts) later (never_verified f f.pipe.stmts typed)) (merged k (next_stage f.pipe k d))))
 
   -- WHO MAY COME IN
@@ -72,14 +72,14 @@ module _ (f : Form) (typed : AreServed f f.pipe.stmts) (linear : IsLinear f.pipe
   pub ends : (k : ℕ) (d : Deeds) → suc k ≡ length f.pipe.stages → next_stage f.pipe k d ≡ None
   ends k d h = ap (λ n. goes_to n d.env) (linear.ends k h)
 
-  none_in : (o : Option ℕ) (env : List ℕ) (ls : List Place) → is_none (thread_in (as_standing o env ls)) ≡ is_none o
+  none_in : (o : Option ℕ) (env : List ℕ) (ls : List HeldLocation) → is_none (thread_in (as_standing o env ls)) ≡ is_none o
   none_in None env ls = refl
   none_in (Some n) env ls = refl
 
   -- those from k on who move
   abbrev pub AllGo : ℕ → List r_stage.Stage → Type 0
   AllGo k [] = ⊤
-  AllGo k (y ∷ ys) = (goes f.pipe st bits k ≡ y.moves) × AllGo (suc k) ys
+  AllGo k (y ∷ ys) = (stage_moves f.pipe st bits k ≡ y.moves) × AllGo (suc k) ys
 
   free_is : (k : ℕ) (ys : List r_stage.Stage) (d : Deeds) → suc k + length ys ≡ length f.pipe.stages → At st (suc k) ys → AllGo (suc k) ys
       → may_enter f.pipe st bits (next_stage f.pipe k d) ≡ acts_specs.is_free ys
@@ -91,21 +91,21 @@ module _ (f : Form) (typed : AreServed f f.pipe.stmts) (linear : IsLinear f.pipe
   module _ (by : IsByStages f.pipe st bits) (xs : List Memory) (shows : Shows f.pipe xs st) where
     goes_some : (k : ℕ) (s : Standing) (free b : Bool) → k < length f.pipe.stages → here f.pipe st bits k ≡ Some (thread_of s.number s.env) → s.held ≡ held_before k s.env f.pipe.stmts []
         → may_enter f.pipe st bits (next_stage f.pipe k (deeds f.pipe st k (thread_of s.number s.env))) ≡ free
-        → goes f.pipe st bits k ≡ (all_let_move xs s.number (in_stage k f.pipe.stmts) (begun s) && free)
+        → stage_moves f.pipe st bits k ≡ (all_let_move xs s.number (in_stage k f.pipe.stmts) (begun_deeds s) && free)
     goes_some k s free b less h held enter =
         let t : Thread = thread_of s.number s.env in
         let same = deeds_are f xs st shows k s held in
         let quiet : IsQuiet (deeds f.pipe st k t) =
-        quiet_all f (word_for st t.number) (in_stage k f.pipe.stmts) (begun (record { number = s.number; env = s.env; held = held_before k s.env f.pipe.stmts [] })) (typed_stage f k f.pipe.stmts typed) (record { fails = refl; asks = refl; guess = refl }) in
-        let ready : is_ready f.pipe st t.number (deeds f.pipe st k t) ≡ all_let_move xs s.number (in_stage k f.pipe.stmts) (begun s) =
-        ap (is_ready f.pipe st s.number) same ∙ ready_all f xs st shows s.number (in_stage k f.pipe.stmts) (begun s) (typed_stage f k f.pipe.stmts typed) in
+        quiet_all f (word_for st t.number) (in_stage k f.pipe.stmts) (begun_deeds (record { number = s.number; env = s.env; held = held_before k s.env f.pipe.stmts [] })) (typed_stage f k f.pipe.stmts typed) (record { fails = refl; asks = refl; guess = refl }) in
+        let ready : locks_ready f.pipe st t.number (deeds f.pipe st k t) ≡ all_let_move xs s.number (in_stage k f.pipe.stmts) (begun_deeds s) =
+        ap (locks_ready f.pipe st s.number) same ∙ ready_all f xs st shows s.number (in_stage k f.pipe.stmts) (begun_deeds s) (typed_stage f k f.pipe.stmts typed) in
         by.goes_where k t less h
         ∙ ap₂ (λ (a c : Bool). a && c) ready
-        (ap₂ (λ (a c : Bool). a && c) (passed (behind f.pipe st bits k) k (deeds f.pipe st k t) quiet (no_failures (suc k) (drop (suc k) st.stages))) enter)
+        (ap₂ (λ (a c : Bool). a && c) (passed (later_acts f.pipe st bits k) k (deeds f.pipe st k t) quiet (no_failures (suc k) (drop (suc k) st.stages))) enter)
 
     goes_at : (k : ℕ) (o : Option Standing) (d : Deeds) (free b : Bool) → k < length f.pipe.stages → slot st k ≡ thread_in o → IsDone f xs k o d free b → IsHolding f.pipe k o
-        → ((e : Deeds) → may_enter f.pipe st bits (next_stage f.pipe k e) ≡ free) → goes f.pipe st bits k ≡ b
-    goes_at k None d free b less h done held enter = ap (λ (s : Option Thread). goes_of f.pipe st bits k (with_now f.pipe st bits s)) h ∙ sym done
+        → ((e : Deeds) → may_enter f.pipe st bits (next_stage f.pipe k e) ≡ free) → stage_moves f.pipe st bits k ≡ b
+    goes_at k None d free b less h done held enter = ap (λ (s : Option Thread). slot_moves f.pipe st bits k (with_now f.pipe st bits s)) h ∙ sym done
     goes_at k (Some s) d free b less h done held enter =
         goes_some k s free b less (ap (with_now f.pipe st bits) h) held (enter (deeds f.pipe st k (thread_of s.number s.env))) ∙ sym done.1
 

@@ -7,12 +7,12 @@ use Rattle.std.proofs.lemmas.Bool.{eqb-true}
 use Rattle.pdl_semantics.specs.Flat.{list_all, Pipe}
 use Rattle.pdl_semantics.specs.Stages.{in_stage, mem_at}
 use Rattle.pdl_semantics.specs.Locks.{has_room, commit_value}
-use Rattle.pdl_semantics.specs.Machine.{Pending, Reserved, Written, State, Deeds, lock_of, does_all}
+use Rattle.pdl_semantics.specs.Machine.{Pending, Reserved, Written, State, Deeds, lock_of, deeds_after_all}
 use Rattle.pdl_semantics.specs.Moves.{Act, blocks_ready, have_room}
-use Rattle.pdl_semantics.specs.Cycle.{new_entries, appended, put, put_all, filled, releases, oldest, but_oldest}
+use Rattle.pdl_semantics.specs.Cycle.{new_entries, with_reserves, with_value_of, with_writes_of, with_all_writes, has_release, oldest, but_oldest}
 use Rattle.pdl_derived.proofs.Writes.{and_left, and_right}
 use Rattle.pdl_lockapi.specs.Forget.{addresses_of, addresses}
-use Rattle.pdl_machine_facts.specs.Slots.{is_ready}
+use Rattle.pdl_machine_facts.specs.Slots.{locks_ready}
 use Rattle.pdl_lockapi.proofs.Lengths.{appended_long, filled_long, left_long}
 use Rattle.pdl_form.specs.Form.{Form}
 use Rattle.pdl_pending.specs.Memory.{Memory, committed_to}
@@ -21,7 +21,7 @@ use Rattle.pdl_run.specs.declared.stage.Stage as r_stage
 use Rattle.pdl_run.specs.View.{place_view, deeds_view, Standing, as_standing}
 use Rattle.pdl_run.specs.Doing.{word_of, all_let_move}
 use Rattle.pdl_run.specs.Typed.{AreServed, AreReserved, AreWritten}
-use Rattle.pdl_run.specs.Acts.{begun, is_free, IsDone, AreDone, act_of, acts_of, both, left_of, out_of, memory_after}
+use Rattle.pdl_run.specs.Acts.{begun_deeds, is_free, IsDone, AreDone, act_of, acts_of, both, left_of, out_of, memory_after}
 use Rattle.pdl_run.proofs.Quiet.{typed_stage}
 use Rattle.pdl_run.proofs.Readiness.{Shows, ready_all}
 
@@ -67,32 +67,32 @@ module _ (p : Pipe) (m : ℕ) where
   kept_here true v e h a w = (a, h)
   kept_here false v e h a w = (a, w)
 
-  kept_put : (thread v : ℕ) (es : List Pending) → v < 2 ^ (mem_at p m).width → Kept es → Kept (put thread v es)
+  kept_put : (thread v : ℕ) (es : List Pending) → v < 2 ^ (mem_at p m).width → Kept es → Kept (with_value_of thread v es)
   kept_put thread v [] h k = tt
   kept_put thread v (e ∷ es) h k =
       let here = kept_here (e.thread == thread) v e h k.0 k.1 in
       (here.0, here.1, kept_put thread v es h k.2)
 
-  kept_if : (b : Bool) (thread : ℕ) (w : Written) (es : List Pending) → (w.mem == m) ≡ b → w.value < 2 ^ (mem_at p w.mem).width → Kept es → Kept (if b then put thread w.value es else es)
+  kept_if : (b : Bool) (thread : ℕ) (w : Written) (es : List Pending) → (w.mem == m) ≡ b → w.value < 2 ^ (mem_at p w.mem).width → Kept es → Kept (if b then with_value_of thread w.value es else es)
   kept_if true thread w es e h k =
       let same : w.mem ≡ m = eqb-true w.mem m e in
       kept_put thread w.value es (subst (λ i. w.value < 2 ^ (mem_at p i).width) same h) k
   kept_if false thread w es e h k = k
 
-  kept_puts : (thread : ℕ) (ws : List Written) (es : List Pending) → AreWritten p ws → Kept es → Kept (put_all m thread ws es)
+  kept_puts : (thread : ℕ) (ws : List Written) (es : List Pending) → AreWritten p ws → Kept es → Kept (with_writes_of m thread ws es)
   kept_puts thread [] es h k = k
-  kept_puts thread (w ∷ ws) es h k = kept_puts thread ws (if w.mem == m then put thread w.value es else es) h.1 (kept_if (w.mem == m) thread w es refl h.0 k)
+  kept_puts thread (w ∷ ws) es h k = kept_puts thread ws (if w.mem == m then with_value_of thread w.value es else es) h.1 (kept_if (w.mem == m) thread w es refl h.0 k)
 
-  kept_appended : (ms : List Act) (es : List Pending) → AllSized p ms → Kept es → Kept (appended m ms es)
+  kept_appended : (ms : List Act) (es : List Pending) → AllSized p ms → Kept es → Kept (with_reserves m ms es)
   kept_appended [] es h k = k
-  kept_appended (a ∷ ms) es h k = kept_append (appended m ms es) _ (kept_appended ms es h.2 k) (kept_entries a.thread.number a.does.reserves h.0)
+  kept_appended (a ∷ ms) es h k = kept_append (with_reserves m ms es) _ (kept_appended ms es h.2 k) (kept_entries a.thread.number a.does.reserves h.0)
 
-  kept_filled : (ms : List Act) (es : List Pending) → AllSized p ms → Kept es → Kept (filled m ms es)
+  kept_filled : (ms : List Act) (es : List Pending) → AllSized p ms → Kept es → Kept (with_all_writes m ms es)
   kept_filled [] es h k = k
-  kept_filled (a ∷ ms) es h k = kept_puts a.thread.number a.does.writes (filled m ms es) h.1 (kept_filled ms es h.2 k)
+  kept_filled (a ∷ ms) es h k = kept_puts a.thread.number a.does.writes (with_all_writes m ms es) h.1 (kept_filled ms es h.2 k)
 
   pub kept_both : (ms : List Act) (es : List Pending) → AllSized p ms → Kept es → Kept (both m ms es)
-  kept_both ms es h k = kept_filled ms (appended m ms es) h (kept_appended ms es h k)
+  kept_both ms es h k = kept_filled ms (with_reserves m ms es) h (kept_appended ms es h k)
 
   pub oldest_within : (es : List Pending) → Kept es → IfSome (oldest es) (λ e. e.address < (mem_at p m).depth)
   oldest_within [] k = tt
@@ -137,16 +137,16 @@ module _ (p : Pipe) (m : ℕ) where
       let all = kept_both ms x.pending h k.pending in
       record {
         count = words_count x.words (out_of m ms x.pending) ∙ k.count;
-        words = words_below (releases m ms) x.words (both m ms x.pending) k.words all;
-        pending = left_kept (releases m ms) (both m ms x.pending) all;
+        words = words_below (has_release m ms) x.words (both m ms x.pending) k.words all;
+        pending = left_kept (has_release m ms) (both m ms x.pending) all;
       }
 
 -- HOW MANY ARE PENDING
 
 pub left_count : (m : ℕ) (ms : List Act) (es : List Pending) → length (left_of m ms es) ≤ length es + length (addresses m ms)
 left_count m ms es =
-    let left = left_long (releases m ms) (both m ms es) in
-    let fill = filled_long m ms (appended m ms es) in
+    let left = left_long (has_release m ms) (both m ms es) in
+    let fill = filled_long m ms (with_reserves m ms es) in
     let count = appended_long m ms es in
     omega arith
 
@@ -180,9 +180,9 @@ module _ (f : Form) (typed : AreServed f f.pipe.stmts) (xs : List Memory) (st : 
   mover_room k number y free done =
       let s : Standing = record { number = number; env = y.slot.values.items; held = map place_view y.slot.held.items } in
       let ss = in_stage k f.pipe.stmts in
-      let all : Deeds = does_all (word_of xs number) ss (begun s) in
-      let lets : all_let_move xs number ss (begun s) ≡ true = and_left _ free (sym done.1) in
-      let ready : is_ready f.pipe st number all ≡ true = ready_all f xs st shows number ss (begun s) (typed_stage f k f.pipe.stmts typed) ∙ lets in
+      let all : Deeds = deeds_after_all (word_of xs number) ss (begun_deeds s) in
+      let lets : all_let_move xs number ss (begun_deeds s) ≡ true = and_left _ free (sym done.1) in
+      let ready : locks_ready f.pipe st number all ≡ true = ready_all f xs st shows number ss (begun_deeds s) (typed_stage f k f.pipe.stmts typed) ∙ lets in
       let room : have_room f.pipe st all ≡ true = and_right (blocks_ready f.pipe st number all) _ ready in
       subst (λ (d : Deeds). (addresses_of m d.reserves ≡ []) ⊎ HasRoom) (sym done.0) (room_in all.reserves room)
 

@@ -3,10 +3,10 @@ use Rattle.std.proofs.Common.{◌≡◌, refl, sym, ap, ◌∙◌, subst, ℕ, z
 use Rattle.std.specs.Prelude.{IfSome}
 use Rattle.std.proofs.lemmas.List.{length-replicate}
 use Rattle.std.proofs.lemmas.Nat.{pow_pos}
-use Rattle.pdl_semantics.specs.Flat.{Op, Stmt, Pipe, taken, start_env}
+use Rattle.pdl_semantics.specs.Flat.{Op, Stmt, Pipe, all_hold, start_env}
 use Rattle.pdl_semantics.specs.Flat as flat
 use Rattle.pdl_semantics.specs.Stages.{in_stage}
-use Rattle.pdl_semantics.specs.Machine.{Place, Thread, State, Deeds, deeds, does_all, let_go, held_after, held_before}
+use Rattle.pdl_semantics.specs.Machine.{HeldLocation, Thread, State, Deeds, deeds, deeds_after_all, let_go, held_after, held_before}
 use Rattle.pdl_semantics.specs.Moves.{Act, next_stage}
 use Rattle.pdl_semantics.specs.Cycle.{is_stage, child_of}
 use Rattle.pdl_machine_facts.specs.Slots.{slot, with_now}
@@ -20,7 +20,7 @@ use Rattle.pdl_run.specs.View.{place_view, deeds_view, Standing, as_standing, st
 use Rattle.pdl_run.specs.Doing.{word_of}
 use Rattle.pdl_formtypes.specs.Stmts.{param_widths}
 use Rattle.pdl_run.specs.Typed.{AreServed}
-use Rattle.pdl_run.specs.Acts.{begun, is_free, IsDone, AreDone, act_of, acts_of, first_of, comes_of, stays_of, stages_after, called_by}
+use Rattle.pdl_run.specs.Acts.{begun_deeds, is_free, IsDone, AreDone, act_of, acts_of, first_of, comes_of, stays_of, stages_after, called_by}
 use Rattle.pdl_run.specs.Ready.{IsFine, AllFine, IsHolding, AllHold}
 use Rattle.pdl_run.proofs.Readiness.{Shows, deeds_are}
 use Rattle.pdl_run.proofs.Going.{At, at_next, at_here, leads}
@@ -29,15 +29,15 @@ use Rattle.pdl_semantics.proofs.Facts.{held_first}
 
 -- WHAT IS HELD
 
-go_count : (b : Bool) (l : Place) (ls rest : List Place) → length rest ≤ length ls → length (if b then ls else l ∷ rest) ≤ suc (length ls)
+go_count : (b : Bool) (l : HeldLocation) (ls rest : List HeldLocation) → length rest ≤ length ls → length (if b then ls else l ∷ rest) ≤ suc (length ls)
 go_count true l ls rest h = omega arith
 go_count false l ls rest h = omega arith
 
-fewer : (ls : List Place) (m a : ℕ) → length (let_go ls m a) ≤ length ls
+fewer : (ls : List HeldLocation) (m a : ℕ) → length (let_go ls m a) ≤ length ls
 fewer [] m a = omega arith
 fewer (l ∷ ls) m a = go_count ((l.mem == m) && (l.var == a)) l ls (let_go ls m a) (fewer ls m a)
 
-more_held : (op : Op) (ls : List Place) → length (held_after op ls) ≤ suc (length ls)
+more_held : (op : Op) (ls : List HeldLocation) → length (held_after op ls) ≤ suc (length ls)
 more_held (flat.Bind x e) ls = omega arith
 more_held (flat.CombRead x m a) ls = omega arith
 more_held (flat.DelayedRead x m a) ls = omega arith
@@ -52,14 +52,14 @@ more_held (flat.Verify args) ls = omega arith
 more_held flat.SpecCheck ls = omega arith
 more_held flat.SpecBarrier ls = omega arith
 
-held_if : (b : Bool) (op : Op) (ls : List Place) → length (if b then held_after op ls else ls) ≤ suc (length ls)
+held_if : (b : Bool) (op : Op) (ls : List HeldLocation) → length (if b then held_after op ls else ls) ≤ suc (length ls)
 held_if true op ls = more_held op ls
 held_if false op ls = omega arith
 
-held_few : (k : ℕ) (path : List ℕ) (xs : List Stmt) (ls : List Place) → length (held_before k path xs ls) ≤ length xs + length ls
+held_few : (k : ℕ) (path : List ℕ) (xs : List Stmt) (ls : List HeldLocation) → length (held_before k path xs ls) ≤ length xs + length ls
 held_few k path [] ls = omega arith
 held_few k path (x ∷ xs) ls =
-    let b = nat_lt x.stage k && taken x.guards path in
+    let b = nat_lt x.stage k && all_hold x.guards path in
     let one = held_if b x.op ls in
     let rest = held_few k path xs (if b then held_after x.op ls else ls) in
     omega arith
@@ -147,7 +147,7 @@ module _ (f : Form) (typed : AreServed f f.pipe.stmts) (linear : IsLinear f.pipe
   hold_next k y (Some n) true free less h done hold =
       let s : Standing = record { number = n; env = y.slot.values.items; held = map place_view y.slot.held.items } in
       let t : Thread = thread_of n y.slot.values.items in
-      let same : deeds f.pipe st k t ≡ does_all (word_of xs n) (in_stage k f.pipe.stmts) (begun s) = deeds_are f xs st shows k s hold in
+      let same : deeds f.pipe st k t ≡ deeds_after_all (word_of xs n) (in_stage k f.pipe.stmts) (begun_deeds s) = deeds_are f xs st shows k s hold in
       let onward : is_stage (suc k) (next_stage f.pipe k (deeds f.pipe st k t)) ≡ true = ap (is_stage (suc k)) (leads f typed linear st bits k (deeds f.pipe st k t) less) ∙ eqb_self (suc k) in
       let told : (deeds f.pipe st k t).held ≡ held_before (suc k) (deeds f.pipe st k t).env f.pipe.stmts [] = used.held k (suc k) t (ap (with_now f.pipe st bits) h) onward in
       let held : (deeds_view y.deeds).held ≡ (deeds f.pipe st k t).held = ap (λ (d : Deeds). d.held) done.0 ∙ sym (ap (λ (d : Deeds). d.held) same) in
@@ -160,7 +160,7 @@ module _ (f : Form) (typed : AreServed f f.pipe.stmts) (linear : IsLinear f.pipe
   fine_next k y None true free done hold = tt
   fine_next k y (Some n) true free done hold =
       let few = held_few (suc k) y.deeds.values.items f.pipe.stmts [] in
-      let long = ap (λ (ls : List Place). length ls) hold in
+      let long = ap (λ (ls : List HeldLocation). length ls) hold in
       (done.2.env, omega arith)
 
   pub good_after : (k : ℕ) (comes : Option Standing) (ys : List r_stage.Stage) → k + length ys ≡ length f.pipe.stages → At st k ys → AreDone f xs k ys → AllFine f (seats ys) → AllHold f.pipe k (seats ys) → IsFine f comes → IsHolding f.pipe k comes

@@ -7,7 +7,7 @@ use Rattle.pdl_semantics.specs.Flat.{Mem, Array, Arrays, arrays_of, with_value}
 use Rattle.pdl_semantics.specs.Locks.{commit_value}
 use Rattle.pdl_semantics.specs.Machine.{Pending, State, lock_of}
 use Rattle.pdl_semantics.specs.Moves.{Act}
-use Rattle.pdl_semantics.specs.Cycle.{appended, filled, releases, oldest, but_oldest, list_two, list_three, taken_out, port_write, with_commit, with_commits, entries_left, for_mems}
+use Rattle.pdl_semantics.specs.Cycle.{with_reserves, with_all_writes, has_release, oldest, but_oldest, list_two, list_three, taken_out, port_write, with_commit, with_commits, entries_left, for_mems}
 use Rattle.pdl_machine_facts.specs.Ports.{commit_values, all_commit_values}
 use Rattle.pdl_pending.specs.Memory.{Memory, committed_to}
 use Rattle.pdl_run.specs.Doing.{memory_at}
@@ -29,12 +29,12 @@ module _ (st : State) (all ms : List Act) (kept : all_kept all ≡ ms) where
 
   pub two_is : (m : ℕ) → list_two st all m ≡ both m ms (lock_of st m)
   two_is m =
-      sym (filled_kept m all (appended m all (lock_of st m)))
-      ∙ ap (filled m (all_kept all)) (sym (appended_kept m all (lock_of st m)))
-      ∙ ap (λ (as' : List Act). filled m as' (appended m as' (lock_of st m))) kept
+      sym (filled_kept m all (with_reserves m all (lock_of st m)))
+      ∙ ap (with_all_writes m (all_kept all)) (sym (appended_kept m all (lock_of st m)))
+      ∙ ap (λ (as' : List Act). with_all_writes m as' (with_reserves m as' (lock_of st m))) kept
 
-  releases_are : (m : ℕ) → releases m all ≡ releases m ms
-  releases_are m = sym (releases_kept m all) ∙ ap (releases m) kept
+  releases_are : (m : ℕ) → has_release m all ≡ has_release m ms
+  releases_are m = sym (releases_kept m all) ∙ ap (has_release m) kept
 
   pub three_is : (m : ℕ) → list_three st all m ≡ left_of m ms (lock_of st m)
   three_is m = ap₂ (λ (b : Bool) (es : List Pending). if b then but_oldest es else es) (releases_are m) (two_is m)

@@ -1,8 +1,8 @@
 -- In a typed pipe nothing fails, nothing is asked for, and nobody guesses.
 use Rattle.std.proofs.Common.{◌≡◌, refl, ℕ, Bool, true, false, if◌then◌else◌, ◌==◌, List, [], ◌∷◌, None}
-use Rattle.pdl_semantics.specs.Flat.{Op, Bind, CombRead, DelayedRead, Write, ReserveRead, ReserveWrite, Block, Release, Call, SpecCall, Verify, SpecCheck, SpecBarrier, Stmt, taken}
+use Rattle.pdl_semantics.specs.Flat.{Op, Bind, CombRead, DelayedRead, Write, ReserveRead, ReserveWrite, Block, Release, Call, SpecCall, Verify, SpecCheck, SpecBarrier, Stmt, all_hold}
 use Rattle.pdl_semantics.specs.Stages.{in_stage, is_verify, verify_stage}
-use Rattle.pdl_semantics.specs.Machine.{Deeds, does, does_all}
+use Rattle.pdl_semantics.specs.Machine.{Deeds, deeds_after, deeds_after_all}
 use Rattle.pdl_form.specs.Form.{Form}
 use Rattle.pdl_run.specs.Typed.{IsServed, AreServed}
 
@@ -12,7 +12,7 @@ pub record IsQuiet (d : Deeds) : Type 0 where
   pub guess : d.guess ≡ []
 
 module _ (f : Form) (read : ℕ → ℕ → ℕ) where
-  quiet_does : (op : Op) (d : Deeds) → IsServed f op → IsQuiet d → IsQuiet (does read op d)
+  quiet_does : (op : Op) (d : Deeds) → IsServed f op → IsQuiet d → IsQuiet (deeds_after read op d)
   quiet_does (Bind x e) d t q = record { fails = q.fails; asks = q.asks; guess = q.guess }
   quiet_does (CombRead x m a) d t q = record { fails = q.fails; asks = q.asks; guess = q.guess }
   quiet_does (DelayedRead x m a) d t q = absurd t
@@ -27,16 +27,16 @@ module _ (f : Form) (read : ℕ → ℕ → ℕ) where
   quiet_does SpecCheck d t q = q
   quiet_does SpecBarrier d t q = record { fails = q.fails; asks = q.asks; guess = q.guess }
 
-  quiet_if : (b : Bool) (op : Op) (d : Deeds) → IsServed f op → IsQuiet d → IsQuiet (if b then does read op d else d)
+  quiet_if : (b : Bool) (op : Op) (d : Deeds) → IsServed f op → IsQuiet d → IsQuiet (if b then deeds_after read op d else d)
   quiet_if true op d t q = quiet_does op d t q
   quiet_if false op d t q = q
 
-  pub quiet_all : (ss : List Stmt) (d : Deeds) → AreServed f ss → IsQuiet d → IsQuiet (does_all read ss d)
+  pub quiet_all : (ss : List Stmt) (d : Deeds) → AreServed f ss → IsQuiet d → IsQuiet (deeds_after_all read ss d)
   quiet_all [] d t q = q
-  quiet_all (x ∷ ss) d t q = quiet_all ss (if taken x.guards d.env then does read x.op d else d) t.1 (quiet_if (taken x.guards d.env) x.op d t.0 q)
+  quiet_all (x ∷ ss) d t q = quiet_all ss (if all_hold x.guards d.env then deeds_after read x.op d else d) t.1 (quiet_if (all_hold x.guards d.env) x.op d t.0 q)
 
   -- the same of those who may have guessed before
-  failing_does : (op : Op) (d : Deeds) → IsServed f op → d.fails ≡ false → (does read op d).fails ≡ false
+  failing_does : (op : Op) (d : Deeds) → IsServed f op → d.fails ≡ false → (deeds_after read op d).fails ≡ false
   failing_does (Bind x e) d t q = q
   failing_does (CombRead x m a) d t q = q
   failing_does (DelayedRead x m a) d t q = q
@@ -51,13 +51,13 @@ module _ (f : Form) (read : ℕ → ℕ → ℕ) where
   failing_does SpecCheck d t q = q
   failing_does SpecBarrier d t q = q
 
-  failing_if : (b : Bool) (op : Op) (d : Deeds) → IsServed f op → d.fails ≡ false → (if b then does read op d else d).fails ≡ false
+  failing_if : (b : Bool) (op : Op) (d : Deeds) → IsServed f op → d.fails ≡ false → (if b then deeds_after read op d else d).fails ≡ false
   failing_if true op d t q = failing_does op d t q
   failing_if false op d t q = q
 
-  pub none_fails : (ss : List Stmt) (d : Deeds) → AreServed f ss → d.fails ≡ false → (does_all read ss d).fails ≡ false
+  pub none_fails : (ss : List Stmt) (d : Deeds) → AreServed f ss → d.fails ≡ false → (deeds_after_all read ss d).fails ≡ false
   none_fails [] d t q = q
-  none_fails (x ∷ ss) d t q = none_fails ss (if taken x.guards d.env then does read x.op d else d) t.1 (failing_if (taken x.guards d.env) x.op d t.0 q)
+  none_fails (x ∷ ss) d t q = none_fails ss (if all_hold x.guards d.env then deeds_after read x.op d else d) t.1 (failing_if (all_hold x.guards d.env) x.op d t.0 q)
 
 typed_if : (f : Form) (b : Bool) (x : Stmt) (rest : List Stmt) → IsServed f x.op → AreServed f rest → AreServed f (if b then x ∷ rest else rest)
 typed_if f true x rest t u = (t, u)

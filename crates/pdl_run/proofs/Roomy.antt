@@ -6,7 +6,7 @@ use Rattle.pdl_semantics.specs.Stages.{mem_at}
 use Rattle.pdl_semantics.specs.Machine.{Pending, State, lock_of}
 use Rattle.pdl_semantics.specs.Moves.{Act, all_acts}
 use Rattle.pdl_semantics.specs.Moves as model
-use Rattle.pdl_semantics.specs.Cycle.{releases, oldest, entries_left, list_three, cycle, first, state_after}
+use Rattle.pdl_semantics.specs.Cycle.{has_release, oldest, entries_left, list_three, cycle, first, state_after}
 use Rattle.pdl_lockapi.specs.Forget.{addresses_of, addresses}
 use Rattle.pdl_machine_facts.specs.Slots.{moving}
 use Rattle.pdl_machine_facts.specs.Cycle.{IsByStages}
@@ -121,7 +121,7 @@ module _ (f : Form) (run : IsRunnable f) (zs : List r_stage.Stage) (xs : List Me
 
     all_within : (k : ℕ) (ys : List Memory) → AllCanStep k ms ys → Within st (model.movers (all_acts p st bits)) ms (kept_movers f run zs xs next count hold roomy done bits by) k ys
     all_within k [] h = tt
-    all_within k (y ∷ ys) h = (out_within (releases k ms) (length y.words) (both k ms y.pending) h.0.within, all_within (suc k) ys h.1)
+    all_within k (y ∷ ys) h = (out_within (has_release k ms) (length y.words) (both k ms y.pending) h.0.within, all_within (suc k) ys h.1)
 
     pub within : Within st (model.movers (all_acts p st bits)) ms (kept_movers f run zs xs next count hold roomy done bits by) 0 xs
     within = all_within 0 xs can_step

@@ -5,7 +5,7 @@ use Rattle.std.proofs.Math.ListN.{get_or-map}
 use Rattle.std.proofs.lemmas.List.{get_or_default, length-map, drop_more}
 use Rattle.pdl_semantics.specs.Flat.{Stmt, SpecCheck}
 use Rattle.pdl_semantics.specs.Stages.{in_stage}
-use Rattle.pdl_semantics.specs.Machine.{Place}
+use Rattle.pdl_semantics.specs.Machine.{HeldLocation}
 use Rattle.pdl_form.specs.declared.form.Stmt as r_stmt
 use Rattle.pdl_form.specs.View.{stmt_view, stmts_view}
 use Rattle.pdl_form.specs.Form.{Form, stmt_at}
@@ -44,11 +44,11 @@ module _ (f : Form) (stmts : List r_stmt.Stmt) (seen : stmts_view stmts ≡ f.pi
 
 -- ROOM
 
-few_held : (f : Form) (o : Option ℕ) (thread : ℕ) (env : List ℕ) (ls : List Place) → o ≡ Some thread → IsFine f (as_standing o env ls) → length ls ≤ length f.pipe.stmts
+few_held : (f : Form) (o : Option ℕ) (thread : ℕ) (env : List ℕ) (ls : List HeldLocation) → o ≡ Some thread → IsFine f (as_standing o env ls) → length ls ≤ length f.pipe.stmts
 few_held f o thread env ls e h = (subst (λ (n : Option ℕ). IsFine f (as_standing n env ls)) e h).1
 
--- room for the statements of a stage, behind a thread that stands there
-pub room_begun : (f : Form) (k thread : ℕ) (o : Option ℕ) (env : List ℕ) (ls : List Place) (r : r_deeds.Deeds) (c : Capacities) → o ≡ Some thread → IsFine f (as_standing o env ls) → capacities r ≡ c
+-- room for the statements of a stage, after a thread that stands there
+pub room_begun : (f : Form) (k thread : ℕ) (o : Option ℕ) (env : List ℕ) (ls : List HeldLocation) (r : r_deeds.Deeds) (c : Capacities) → o ≡ Some thread → IsFine f (as_standing o env ls) → capacities r ≡ c
     → IsLarge (length f.pipe.stmts) (length f.pipe.start) c → vec_len r.held ≡ length ls → vec_len r.reserves ≡ 0 → vec_len r.writes ≡ 0 → vec_len r.releases ≡ 0 → HasRoomFor (length (in_stage k f.pipe.stmts)) r
 room_begun f k thread o env ls r c e fine same large held reserves writes releases =
     let few = stage_few k f.pipe.stmts in

@@ -15,7 +15,7 @@ use Rattle.pdl_run.specs.declared.stage.Slot as r_slot
 use Rattle.pdl_run.specs.declared.stage.Stage as r_stage
 use Rattle.pdl_run.specs.View.{Standing, seats}
 use Rattle.pdl_formtypes.specs.Stmts.{param_widths}
-use Rattle.pdl_run.specs.Acts.{AreDone, acts_of, holds, movings, out_of, memories_after, commits_shown, stages_after, called_by}
+use Rattle.pdl_run.specs.Acts.{AreDone, acts_of, are_held, are_moving, out_of, memories_after, commits_shown, stages_after, called_by}
 use Rattle.pdl_run.specs.Ready.{IsWide, AreStages, AllFine, AllHold, AllCanStep}
 use Rattle.pdl_run.specs.Running.{IsRunnable, state_of, IsReached, AreRoomy, AreReady}
 use Rattle.pdl_run.proofs.Counted.{one_counted}
@@ -26,7 +26,7 @@ use Rattle.pdl_run.proofs.Typing.{served}
 
 -- HOW MANY PORTS ARE SHOWN
 
-pub stages_shown : (zs : List r_stage.Stage) → length (stage_values (holds zs) (movings zs)) ≡ 2 * length zs
+pub stages_shown : (zs : List r_stage.Stage) → length (stage_values (are_held zs) (are_moving zs)) ≡ 2 * length zs
 stages_shown [] = refl
 stages_shown (z ∷ zs) = let rest = stages_shown zs in omega arith
 
@@ -115,7 +115,7 @@ module _ (f : Form) (run : IsRunnable f) (old zs : List r_stage.Stage) (way : r_
         after_long comes [] = refl
         after_long comes (y ∷ ys) = ap suc (after_long _ ys)
 
-  pub turn_ports : (shown : List ℕ) → shown ≡ stage_values (holds zs) (movings zs) ++ commits_shown 0 ms xs ++ bit (slice_index_or (movings zs) (length zs - 1) false) ∷ 0 ∷ [] → (bits : List Bool)
+  pub turn_ports : (shown : List ℕ) → shown ≡ stage_values (are_held zs) (are_moving zs) ++ commits_shown 0 ms xs ++ bit (slice_index_or (are_moving zs) (length zs - 1) false) ∷ 0 ∷ [] → (bits : List Bool)
       → shown ≡ port_values p (stated.ports p (state_of p (seats old) xs next) (all_acts p (state_of p (seats old) xs next) bits))
   turn_ports shown e bits =
       e ∙ next_ports f run zs xs next count hold ready.roomy done bits (by f run zs xs next count hold ready.roomy done come bits)

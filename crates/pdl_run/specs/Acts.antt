@@ -2,9 +2,9 @@
 use Rattle.std.specs.Prelude.{◌≡◌, ℕ, suc, Bool, true, false, ◌&&◌, ◌||◌, if◌then◌else◌, List, [], ◌∷◌, ◌++◌, map, Option, Some, None, is_none, is_some, ⊤}
 use Rattle.pdl_semantics.specs.Flat.{Pipe, start_env}
 use Rattle.pdl_semantics.specs.Stages.{in_stage}
-use Rattle.pdl_semantics.specs.Machine.{Deeds, does_all}
+use Rattle.pdl_semantics.specs.Machine.{Deeds, deeds_after_all}
 use Rattle.pdl_semantics.specs.Moves.{Act}
-use Rattle.pdl_semantics.specs.Cycle.{appended, filled, releases, but_oldest, oldest, port_write}
+use Rattle.pdl_semantics.specs.Cycle.{with_reserves, with_all_writes, has_release, but_oldest, oldest, port_write}
 use Rattle.pdl_semantics.specs.Machine.{Pending}
 use Rattle.pdl_machine_facts.specs.Ports.{commit_values}
 use Rattle.pdl_pending.specs.Memory.{Memory, committed_to}
@@ -17,8 +17,8 @@ use Rattle.pdl_run.specs.Typed.{AreFit}
 -- WHO MOVES
 
 -- a thread before the statements of its stage
-abbrev pub begun : Standing → Deeds
-begun s =
+abbrev pub begun_deeds : Standing → Deeds
+begun_deeds s =
     record {
       env = s.env;
       guess = [];
@@ -42,8 +42,8 @@ is_free (x ∷ xs) = is_none x.slot.number || x.moves
 abbrev pub IsDone : Form → List Memory → ℕ → Option Standing → Deeds → Bool → Bool → Type 0
 IsDone f ys k None d free b = b ≡ false
 IsDone f ys k (Some s) d free b =
-    (d ≡ strip (does_all (word_of ys s.number) (in_stage k f.pipe.stmts) (begun s)))
-    × (b ≡ (all_let_move ys s.number (in_stage k f.pipe.stmts) (begun s) && free))
+    (d ≡ strip (deeds_after_all (word_of ys s.number) (in_stage k f.pipe.stmts) (begun_deeds s)))
+    × (b ≡ (all_let_move ys s.number (in_stage k f.pipe.stmts) (begun_deeds s) && free))
     × AreFit f d
 
 -- those of all stages, of which the first is k
@@ -65,23 +65,23 @@ acts_of k [] = []
 acts_of k (x ∷ xs) = act_of k (mover_of x) x ++ acts_of (suc k) xs
 
 -- of each stage whether it holds a thread, and whether that moves
-abbrev pub holds : List r_stage.Stage → List Bool
-holds xs = map (λ (x : r_stage.Stage). is_some x.slot.number) xs
+abbrev pub are_held : List r_stage.Stage → List Bool
+are_held xs = map (λ (x : r_stage.Stage). is_some x.slot.number) xs
 
-abbrev pub movings : List r_stage.Stage → List Bool
-movings xs = map (λ (x : r_stage.Stage). x.moves) xs
+abbrev pub are_moving : List r_stage.Stage → List Bool
+are_moving xs = map (λ (x : r_stage.Stage). x.moves) xs
 
 -- MEMORIES
 
 -- the pending writes of memory m with the reservations and writes of these acts, those that are left, and the one that is released
 abbrev pub both : ℕ → List Act → List Pending → List Pending
-both m ms list = filled m ms (appended m ms list)
+both m ms list = with_all_writes m ms (with_reserves m ms list)
 
 abbrev pub left_of : ℕ → List Act → List Pending → List Pending
-left_of m ms list = if releases m ms then but_oldest (both m ms list) else both m ms list
+left_of m ms list = if has_release m ms then but_oldest (both m ms list) else both m ms list
 
 abbrev pub out_of : ℕ → List Act → List Pending → Option Pending
-out_of m ms list = if releases m ms then oldest (both m ms list) else None
+out_of m ms list = if has_release m ms then oldest (both m ms list) else None
 
 abbrev pub memory_after : ℕ → List Act → Memory → Memory
 memory_after m ms x = record x { words = committed_to x.words (out_of m ms x.pending); pending = left_of m ms x.pending }

@@ -1,8 +1,8 @@
 -- What a stage's statements find in the memories, and whether these let its thread move.
 use Rattle.std.specs.Prelude.{ℕ, ◌<◌, ◌≤◌, Bool, true, false, ◌&&◌, if◌then◌else◌, List, [], ◌∷◌, slice_index, slice_index_or, length, ⊤}
-use Rattle.pdl_semantics.specs.Flat.{Op, Bind, CombRead, DelayedRead, Write, ReserveRead, ReserveWrite, Block, Release, Call, SpecCall, Verify, SpecCheck, SpecBarrier, Plain, Stmt, taken}
+use Rattle.pdl_semantics.specs.Flat.{Op, Bind, CombRead, DelayedRead, Write, ReserveRead, ReserveWrite, Block, Release, Call, SpecCall, Verify, SpecCheck, SpecBarrier, Plain, Stmt, all_hold}
 use Rattle.pdl_semantics.specs.Locks.{Latest, Nothing, value_or, read_ready, write_ready, has_room}
-use Rattle.pdl_semantics.specs.Machine.{Deeds, youngest, is_held, does}
+use Rattle.pdl_semantics.specs.Machine.{Deeds, youngest, is_held, deeds_after}
 use Rattle.pdl_values.specs.Safe.{IsSafe, AreSafe}
 use Rattle.pdl_pending.specs.Memory.{Memory}
 
@@ -30,7 +30,7 @@ block_in xs thread m a writes =
 abbrev pub is_roomy : List Memory → ℕ → Bool
 is_roomy xs m = has_room (memory_at xs m).lock (length (memory_at xs m).pending)
 
--- whether an operation behind these deeds lets its thread move
+-- whether an operation after these deeds lets its thread move
 abbrev pub lets_move : List Memory → ℕ → Op → Deeds → Bool
 lets_move xs thread (Block m a) d = block_in xs thread m (slice_index d.env a) (is_held d.held m a)
 lets_move xs thread (ReserveWrite m a) d = is_roomy xs m
@@ -40,8 +40,8 @@ lets_move xs thread _ d = true
 abbrev pub all_let_move : List Memory → ℕ → List Stmt → Deeds → Bool
 all_let_move xs thread [] d = true
 all_let_move xs thread (x ∷ ss) d =
-    (if taken x.guards d.env then lets_move xs thread x.op d else true)
-    && all_let_move xs thread ss (if taken x.guards d.env then does (word_of xs thread) x.op d else d)
+    (if all_hold x.guards d.env then lets_move xs thread x.op d else true)
+    && all_let_move xs thread ss (if all_hold x.guards d.env then deeds_after (word_of xs thread) x.op d else d)
 
 -- deeds without what the program keeps no list of
 abbrev pub strip : Deeds → Deeds

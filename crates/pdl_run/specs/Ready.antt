@@ -3,7 +3,7 @@ use Rattle.std.specs.Prelude.{◌≡◌, ℕ, suc, ◌*◌, ◌<◌, ◌≤◌, 
 use Rattle.pdl_semantics.specs.Flat.{Pipe}
 use Rattle.pdl_semantics.specs.Machine.{held_before}
 use Rattle.pdl_semantics.specs.Moves.{Act}
-use Rattle.pdl_semantics.specs.Cycle.{appended, oldest}
+use Rattle.pdl_semantics.specs.Cycle.{with_reserves, oldest}
 use Rattle.pdl_form.specs.Form.{Form}
 use Rattle.pdl_values.specs.Widths.{Fit}
 use Rattle.pdl_pending.specs.Memory.{Memory}
@@ -48,7 +48,7 @@ AllHold p k (o ∷ os) = IsHolding p k o × AllHold p (suc k) os
 
 -- room for the reservations of these acts, and a word for the pending write that they may release
 pub record CanStep (m : ℕ) (ms : List Act) (x : Memory) : Type 0 where
-  pub room : length (appended m ms x.pending) ≤ x.capacity
+  pub room : length (with_reserves m ms x.pending) ≤ x.capacity
   pub within : IfSome (oldest (both m ms x.pending)) (λ e. e.address < length x.words)
 
 abbrev pub AllCanStep : ℕ → List Act → List Memory → Type 0

@@ -26,7 +26,7 @@ pub record HasRoomFor (n : ℕ) (r : r_deeds.Deeds) : Type 0 where
   pub writes : vec_len r.writes + n ≤ vec_capacity r.writes
   pub releases : vec_len r.releases + n ≤ vec_capacity r.releases
 
--- room for the deeds of n statements behind a thread that holds at most n locations, and for k arguments
+-- room for the deeds of n statements after a thread that holds at most n locations, and for k arguments
 pub record IsLarge (n k : ℕ) (c : Capacities) : Type 0 where
   pub held : 2 * n ≤ c.held
   pub reserves : n ≤ c.reserves

@@ -1,19 +1,19 @@
 -- What values of the program stand for: what a thread holds, what a stage does, and who stands in it.
 use Rattle.std.specs.Prelude.{ℕ, Bool, true, false, List, [], map, Option, Some, None}
-use Rattle.pdl_semantics.specs.Machine.{Thread, Place, Deeds}
+use Rattle.pdl_semantics.specs.Machine.{Thread, HeldLocation, Deeds}
 use Rattle.pdl_pending.specs.View.{reserved_view, written_view}
 use Rattle.pdl_run.specs.declared.place.Place as r_place
 use Rattle.pdl_run.specs.declared.stage.Slot as r_slot
 use Rattle.pdl_run.specs.declared.stage.Stage as r_stage
 use Rattle.pdl_run.specs.declared.deeds.Deeds as r_deeds
 
-abbrev pub place_view : r_place.Place → Place
+abbrev pub place_view : r_place.Place → HeldLocation
 place_view l = record { mem = l.mem; var = l.var }
 
 -- the arguments of a call, if there was one
-abbrev pub called : Bool → List ℕ → Option (List ℕ)
-called false args = None
-called true args = Some args
+abbrev pub child_arguments : Bool → List ℕ → Option (List ℕ)
+child_arguments false args = None
+child_arguments true args = Some args
 
 -- the deeds of a stage without guesses and requests; the program keeps of its blocks only whether they are ready
 abbrev pub deeds_view : r_deeds.Deeds → Deeds
@@ -28,7 +28,7 @@ deeds_view r =
       releases = r.releases.items;
       asks = [];
       barrier = false;
-      child = called r.called r.args.items;
+      child = child_arguments r.called r.args.items;
       fails = false;
     }
 
@@ -36,10 +36,10 @@ deeds_view r =
 pub record Standing : Type 0 where
   pub number : ℕ
   pub env : List ℕ
-  pub held : List Place
+  pub held : List HeldLocation
 
 -- of this number, if there is one
-abbrev pub as_standing : Option ℕ → List ℕ → List Place → Option Standing
+abbrev pub as_standing : Option ℕ → List ℕ → List HeldLocation → Option Standing
 as_standing None env held = None
 as_standing (Some number) env held = Some (record { number = number; env = env; held = held })
 

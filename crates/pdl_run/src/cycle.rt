@@ -6,7 +6,7 @@ ghost use Rattle.pdl_semantics.specs.Cycle as stated;
 ghost use Rattle.pdl_machine_facts.specs.Ports.{port_values};
 ghost use Rattle.pdl_form.specs.Whole.{form};
 ghost use Rattle.pdl_run.specs.View.{seats};
-ghost use Rattle.pdl_run.specs.Acts.{movings};
+ghost use Rattle.pdl_run.specs.Acts.{are_moving};
 ghost use Rattle.pdl_run.specs.Running.{IsRunnable, state_of, IsReached, AreReady};
 
 use crate::decide::decide;
@@ -19,7 +19,7 @@ use pdl_pending::Memory;
 // Whether the thread in the last stage moves.
 fn is_leaving(stages: &[Stage]) -> bool
     requires { 1 ≤ length stages.now }
-    ensures { result ≡ slice_index_or (movings stages.now) (length stages.now - 1) false }
+    ensures { result ≡ slice_index_or (are_moving stages.now) (length stages.now - 1) false }
 {
     stages[stages.len() - 1].moves
 }
@@ -29,7 +29,7 @@ fn show_end(stages: &[Stage], shown: &mut Vec<u64>)
     requires some { 1 ≤ length stages.now }
     requires room { vec_len shown.old + 2 ≤ vec_capacity shown.old }
     ensures shown { shown.new.items
-        ≡ shown.old.items ++ bit (slice_index_or (movings stages.now)
+        ≡ shown.old.items ++ bit (slice_index_or (are_moving stages.now)
         (length stages.now - 1) false) ∷ 0 ∷ [] }
     ensures capacity { vec_capacity shown.new ≡ vec_capacity shown.old }
 {

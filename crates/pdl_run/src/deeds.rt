@@ -2,7 +2,7 @@
 ghost use Rattle.std.specs.Prelude.{◌≡◌, ◌≤◌, true, length, map, vec_len, vec_capacity};
 ghost use Rattle.pdl_run.specs.View.{place_view, deeds_view};
 ghost use Rattle.pdl_run.specs.Room.{capacities};
-ghost use Rattle.pdl_run.specs.Acts.{begun};
+ghost use Rattle.pdl_run.specs.Acts.{begun_deeds};
 
 use crate::place::Place;
 use crate::stage::Slot;
@@ -40,7 +40,7 @@ impl Deeds {
         requires values { length self.old.values.items ≡ length slot.now.values.items }
         requires held { length slot.now.held.items ≤ vec_capacity self.old.held }
         ensures deeds { deeds_view self.new
-            ≡ begun (record {
+            ≡ begun_deeds (record {
               number = 0;
               env = slot.now.values.items;
               held = map place_view slot.now.held.items;

@@ -5,7 +5,7 @@ ghost use Rattle.pdl_semantics.specs.Cycle as stated;
 ghost use Rattle.pdl_machine_facts.specs.Ports.{stage_values};
 ghost use Rattle.pdl_form.specs.Form.{Form};
 ghost use Rattle.pdl_run.specs.View.{standing_view, seats};
-ghost use Rattle.pdl_run.specs.Acts.{acts_of, first_of, comes_of, stays_of, stages_after, called_by, holds, movings};
+ghost use Rattle.pdl_run.specs.Acts.{acts_of, first_of, comes_of, stays_of, stages_after, called_by, are_held, are_moving};
 ghost use Rattle.pdl_run.specs.Ready.{IsWide, IsStage, AreStages};
 
 use crate::stage::{Slot, Stage};
@@ -29,7 +29,7 @@ fn show_stage(stage: &Stage, shown: &mut Vec<u64>)
 pub fn show_stages(stages: &[Stage], shown: &mut Vec<u64>)
     requires room { vec_len shown.old + 2 * length stages.now ≤ vec_capacity shown.old }
     ensures shown { shown.new.items
-        ≡ shown.old.items ++ stage_values (holds stages.now) (movings stages.now) }
+        ≡ shown.old.items ++ stage_values (are_held stages.now) (are_moving stages.now) }
     ensures capacity { vec_capacity shown.new ≡ vec_capacity shown.old }
 {
     for stage in stages {

@@ -19,10 +19,10 @@ pub fn mover(stage: &Stage) -> Option<u64>
 
 // The thread that moves out of a stage, if one does, makes its reservations of memory m.
 fn reserve_stage(memory: &mut Memory, m: usize, stage: &Stage)
-    requires { (k : ℕ) → length (stated.appended m
+    requires { (k : ℕ) → length (stated.with_reserves m
         (act_of k (mover_of stage.now) stage.now) memory.old.pending) ≤ memory.old.capacity }
     ensures { (k : ℕ) → memory.new ≡ record memory.old {
-      pending = stated.appended m
+      pending = stated.with_reserves m
           (act_of k (mover_of stage.now) stage.now) memory.old.pending;
     } }
 {
@@ -33,10 +33,10 @@ fn reserve_stage(memory: &mut Memory, m: usize, stage: &Stage)
 
 // Those of all stages do, the last one first.
 fn reserve_all(memory: &mut Memory, m: usize, stages: &[Stage])
-    requires room { length (stated.appended m (acts_of 0 stages.now) memory.old.pending)
+    requires room { length (stated.with_reserves m (acts_of 0 stages.now) memory.old.pending)
         ≤ memory.old.capacity }
     ensures { memory.new ≡ record memory.old
-        { pending = stated.appended m (acts_of 0 stages.now) memory.old.pending } }
+        { pending = stated.with_reserves m (acts_of 0 stages.now) memory.old.pending } }
 {
     let mut k = stages.len();
     while k > 0 {
@@ -47,8 +47,10 @@ fn reserve_all(memory: &mut Memory, m: usize, stages: &[Stage])
 
 // The thread that moves out of a stage, if one does, makes its writes to memory m.
 fn write_stage(memory: &mut Memory, m: usize, stage: &Stage)
-    ensures { (k : ℕ) → memory.new ≡ record memory.old
-        { pending = stated.filled m (act_of k (mover_of stage.now) stage.now) memory.old.pending } }
+    ensures { (k : ℕ) → memory.new ≡ record memory.old {
+      pending = stated.with_all_writes m (act_of k (mover_of stage.now) stage.now)
+          memory.old.pending;
+    } }
 {
     if let Some(thread) = mover(stage) {
         memory.write(m, thread, stage.deeds.writes.as_slice());
@@ -58,7 +60,7 @@ fn write_stage(memory: &mut Memory, m: usize, stage: &Stage)
 // Those of all stages do, the last one first.
 fn write_all(memory: &mut Memory, m: usize, stages: &[Stage])
     ensures { memory.new ≡ record memory.old
-        { pending = stated.filled m (acts_of 0 stages.now) memory.old.pending } }
+        { pending = stated.with_all_writes m (acts_of 0 stages.now) memory.old.pending } }
 {
     let mut k = stages.len();
     while k > 0 {
@@ -81,7 +83,7 @@ fn is_among(numbers: &[usize], m: usize) -> bool
 
 // Whether the thread that moves out of a stage, if one does, releases a write reservation of memory m.
 fn stage_releases(m: usize, stage: &Stage) -> bool
-    ensures { (k : ℕ) → result ≡ stated.releases m (act_of k (mover_of stage.now) stage.now) }
+    ensures { (k : ℕ) → result ≡ stated.has_release m (act_of k (mover_of stage.now) stage.now) }
 {
     match mover(stage) {
         None => false,
@@ -91,7 +93,7 @@ fn stage_releases(m: usize, stage: &Stage) -> bool
 
 // Whether one of all stages does.
 fn is_released(m: usize, stages: &[Stage]) -> bool
-    ensures { result ≡ stated.releases m (acts_of 0 stages.now) }
+    ensures { result ≡ stated.has_release m (acts_of 0 stages.now) }
 {
     for stage in stages {
         if stage_releases(m, stage) {

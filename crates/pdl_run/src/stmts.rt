@@ -1,8 +1,8 @@
 // The statements of a stage, carried out for its thread.
 ghost use Rattle.std.specs.Prelude.{◌≡◌, ◌≤◌, ◌<◌, ◌&&◌, ◌∷◌, [], ◌++◌, ℕ, suc, Some, true, if◌then◌else◌, length, map, slice_index, slice_set, vec_len, vec_capacity};
-ghost use Rattle.pdl_semantics.specs.Flat.{taken, value_of as spec_value_of, values_of as spec_values_of};
+ghost use Rattle.pdl_semantics.specs.Flat.{all_hold, value_of as spec_value_of, values_of as spec_values_of};
 ghost use Rattle.pdl_semantics.specs.Stages.{in_stage};
-ghost use Rattle.pdl_semantics.specs.Machine.{does, does_all, is_held as spec_is_held, let_go as spec_let_go};
+ghost use Rattle.pdl_semantics.specs.Machine.{deeds_after, deeds_after_all, is_held as spec_is_held, let_go as spec_let_go};
 ghost use Rattle.pdl_form.specs.View.{expr_view, exprs_view, act_view, stmt_view, guards_view};
 ghost use Rattle.pdl_values.specs.Safe.{IsSafe, AreSafe};
 ghost use Rattle.pdl_run.specs.View.{deeds_view};
@@ -29,7 +29,7 @@ fn bind(x: usize, e: &Expr, values: &mut [u64])
 }
 
 // A variable is bound to the word that a read finds.
-fn read(memories: &[Memory], thread: u64, x: usize, m: usize, a: usize, values: &mut [u64])
+fn read_word(memories: &[Memory], thread: u64, x: usize, m: usize, a: usize, values: &mut [u64])
     requires there { x < length values.old }
     requires memory { m < length memories.now }
     ensures { values.new ≡ slice_set values.old x
@@ -133,7 +133,8 @@ fn act(memories: &[Memory], thread: u64, op: &Op, deeds: &mut Deeds)
         (deeds_view deeds.old).env }
     requires room { HasRoomFor 1 deeds.old }
     ensures deeds { deeds_view deeds.new
-        ≡ strip (does (word_of memories.now thread) (act_view op.now) (deeds_view deeds.old)) }
+        ≡ strip (deeds_after (word_of memories.now thread) (act_view op.now)
+        (deeds_view deeds.old)) }
     ensures ready { deeds.new.ready
         ≡ (deeds.old.ready && lets_move memories.now thread (act_view op.now)
         (deeds_view deeds.old)) }
@@ -143,7 +144,7 @@ fn act(memories: &[Memory], thread: u64, op: &Op, deeds: &mut Deeds)
     match op {
         Op::Bind { x, e } => bind(*x, e, deeds.values.as_mut_slice()),
         Op::CombRead { x, m, a } => {
-            read(memories, thread, *x, *m, *a, deeds.values.as_mut_slice());
+            read_word(memories, thread, *x, *m, *a, deeds.values.as_mut_slice());
         }
         Op::Write { m, a: _, e } => write(*m, e, deeds),
         Op::ReserveWrite { m, a } => reserve(memories, *m, *a, deeds),
@@ -160,12 +161,12 @@ fn act(memories: &[Memory], thread: u64, op: &Op, deeds: &mut Deeds)
 
 // What a statement does for a thread: nothing off its path.
 fn run_stmt(memories: &[Memory], thread: u64, stmt: &Stmt, deeds: &mut Deeds)
-    requires safe { taken (stmt_view stmt.now).guards (deeds_view deeds.old).env ≡ true →
+    requires safe { all_hold (stmt_view stmt.now).guards (deeds_view deeds.old).env ≡ true →
         IsSafeOp (length memories.now) (vec_capacity deeds.old.args) (stmt_view stmt.now).op
         (deeds_view deeds.old).env }
     requires room { HasRoomFor 1 deeds.old }
     ensures deeds { deeds_view deeds.new
-        ≡ strip (does_all (word_of memories.now thread) (stmt_view stmt.now ∷ [])
+        ≡ strip (deeds_after_all (word_of memories.now thread) (stmt_view stmt.now ∷ [])
         (deeds_view deeds.old)) }
     ensures ready { deeds.new.ready
         ≡ (deeds.old.ready && all_let_move memories.now thread (stmt_view stmt.now ∷ [])
@@ -187,7 +188,8 @@ pub fn run_stage(pipe: &FlatPipe, memories: &[Memory], thread: u64, stage: usize
     requires args { length (form pipe.now).pipe.start ≤ vec_capacity deeds.old.args }
     requires room { HasRoomFor (length (in_stage stage (form pipe.now).pipe.stmts)) deeds.old }
     ensures deeds { deeds_view deeds.new
-        ≡ strip (does_all (word_of memories.now thread) (in_stage stage (form pipe.now).pipe.stmts)
+        ≡ strip (deeds_after_all (word_of memories.now thread)
+        (in_stage stage (form pipe.now).pipe.stmts)
         (deeds_view deeds.old)) }
     ensures ready { deeds.new.ready
         ≡ (deeds.old.ready && all_let_move memories.now thread

@@ -1,9 +1,9 @@
 -- A thread of a pipe that can be run writes at most 16 times.
 use Rattle.std.proofs.Common.{◌≡◌, sym, ap, ◌∙◌, subst, ℕ, ◌<◌, ◌≤◌, Bool, true, false, if◌then◌else◌, List, [], ◌∷◌, ◌++◌, length, arith}
 use Rattle.std.proofs.lemmas.List.{length-map}
-use Rattle.pdl_semantics.specs.Flat.{Op, Bind, CombRead, DelayedRead, Write, ReserveRead, ReserveWrite, Block, Release, Call, SpecCall, Verify, SpecCheck, SpecBarrier, Stmt, Arrays, Commit, of_mem, taken, start_env}
+use Rattle.pdl_semantics.specs.Flat.{Op, Bind, CombRead, DelayedRead, Write, ReserveRead, ReserveWrite, Block, Release, Call, SpecCall, Verify, SpecCheck, SpecBarrier, Stmt, Arrays, Commit, of_mem, all_hold, start_env}
 use Rattle.pdl_semantics.specs.Stages.{onpath}
-use Rattle.pdl_semantics.specs.Sequential.{Run, runs, run_all, thread}
+use Rattle.pdl_semantics.specs.Sequential.{Run, run_after, run_all, thread}
 use Rattle.pdl_facts.specs.Scans.{Fresh}
 use Rattle.pdl_facts.specs.Facts.{looked_all}
 use Rattle.pdl_turns.proofs.Paths.{run_path}
@@ -23,7 +23,7 @@ known_more n [] c k h = (h, tt)
 known_more n (w ∷ ws) c k h = (k.0, known_more n ws c k.1 h)
 
 module _ (f : Form) where
-  known_runs : (op : Op) (r : Run) → IsTypedOp f op → AreKnown (length f.pipe.mems) r.writes → AreKnown (length f.pipe.mems) (runs op r).writes
+  known_runs : (op : Op) (r : Run) → IsTypedOp f op → AreKnown (length f.pipe.mems) r.writes → AreKnown (length f.pipe.mems) (run_after op r).writes
   known_runs (Bind x e) r t k = k
   known_runs (CombRead x m a) r t k = k
   known_runs (DelayedRead x m a) r t k = k
@@ -38,13 +38,13 @@ module _ (f : Form) where
   known_runs SpecCheck r t k = k
   known_runs SpecBarrier r t k = k
 
-  known_if : (b : Bool) (op : Op) (r : Run) → IsTypedOp f op → AreKnown (length f.pipe.mems) r.writes → AreKnown (length f.pipe.mems) (if b then runs op r else r).writes
+  known_if : (b : Bool) (op : Op) (r : Run) → IsTypedOp f op → AreKnown (length f.pipe.mems) r.writes → AreKnown (length f.pipe.mems) (if b then run_after op r else r).writes
   known_if true op r t k = known_runs op r t k
   known_if false op r t k = k
 
   known_all : (xs : List Stmt) (r : Run) → AreTypedStmts f xs → AreKnown (length f.pipe.mems) r.writes → AreKnown (length f.pipe.mems) (run_all xs r).writes
   known_all [] r t k = k
-  known_all (x ∷ xs) r t k = known_all xs _ t.1 (known_if (taken x.guards r.env) x.op r t.0.1 k)
+  known_all (x ∷ xs) r t k = known_all xs _ t.1 (known_if (all_hold x.guards r.env) x.op r t.0.1 k)
 
   -- at most one to each of them, and so at most 16
   module _ (run : IsRunnable f) (arrays : Arrays) (args : List ℕ) where

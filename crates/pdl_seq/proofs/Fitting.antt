@@ -6,7 +6,7 @@ use Rattle.std.proofs.lemmas.Bool.{eqb-true, eqb-false}
 use Rattle.std.proofs.lemmas.Nat.{pow_pos}
 use Rattle.pdl_semantics.specs.Flat.{Expr, Op, Bind, CombRead, DelayedRead, Write, ReserveRead, ReserveWrite, Block, Release, Call, SpecCall, Verify, SpecCheck, SpecBarrier, Arrays, Commit, Pipe, value_of, values_of, with_value, with_word, word_at}
 use Rattle.pdl_semantics.specs.Stages.{mem_at}
-use Rattle.pdl_semantics.specs.Sequential.{Run, runs}
+use Rattle.pdl_semantics.specs.Sequential.{Run, run_after}
 use Rattle.pdl_form.specs.Form.{Form}
 use Rattle.pdl_formtypes.specs.Stmts.{param_widths, AreArguments, AreWidths, IsTypedOp}
 use Rattle.pdl_values.specs.Widths.{Fit}
@@ -95,7 +95,7 @@ module _ (f : Form) where
         let found : word_at r.arrays m (slice_index r.env a) < 2 ^ (mem_at f.pipe m).width = k.words m (slice_index r.env a) mem in
         fit_set f.widths r.env x _ k.values (subst (λ w. word_at r.arrays m (slice_index r.env a) < 2 ^ w) (sym e) found) (there_in r x k var)
 
-    fits_runs : (op : Op) (r : Run) → IsTypedOp f op → AreFitting f r → AreFitting f (runs op r)
+    fits_runs : (op : Op) (r : Run) → IsTypedOp f op → AreFitting f r → AreFitting f (run_after op r)
     fits_runs (Bind x e) r t k =
         record {
           words = k.words;
@@ -124,7 +124,7 @@ module _ (f : Form) where
     fits_runs SpecCheck r t k = k
     fits_runs SpecBarrier r t k = k
 
-    pub fits_if : (b : Bool) (op : Op) (r : Run) → IsTypedOp f op → AreFitting f r → AreFitting f (if b then runs op r else r)
+    pub fits_if : (b : Bool) (op : Op) (r : Run) → IsTypedOp f op → AreFitting f r → AreFitting f (if b then run_after op r else r)
     fits_if true op r t k = fits_runs op r t k
     fits_if false op r t k = k
 

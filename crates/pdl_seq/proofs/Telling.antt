@@ -14,22 +14,22 @@ use Rattle.pdl_seq.specs.declared.commit.Commit as r_commit
 use Rattle.pdl_seq.specs.declared.commit.Write as r_write
 use Rattle.pdl_seq.specs.Turns.{commits_view}
 use Rattle.pdl_seq.specs.Fits.{IsWord, AreCommits, AreWrites}
-use Rattle.pdl_seq.specs.Runs.{told, numbered, write_line}
+use Rattle.pdl_seq.specs.Runs.{numbered_write, numbered_writes, write_line}
 
-pub told_more : (p : Pipe) (n : ℕ) (old new : List r_write.Write) (lent cs : List r_commit.Commit) → new ≡ old ++ map (told n) (commits_view lent) → lent ≡ cs → AreWrites p old → AreCommits p (commits_view cs) → AreWrites p new
+pub told_more : (p : Pipe) (n : ℕ) (old new : List r_write.Write) (lent cs : List r_commit.Commit) → new ≡ old ++ map (numbered_write n) (commits_view lent) → lent ≡ cs → AreWrites p old → AreCommits p (commits_view cs) → AreWrites p new
 told_more p n old new lent cs e is before now =
     let P = λ (w : r_write.Write). IsWord p w.mem w.addr w.value in
-    All-same P new (old ++ map (told n) (commits_view cs)) (e ∙ ap (λ (l : List r_commit.Commit). old ++ map (told n) (commits_view l)) is)
-    (All-append P old (map (told n) (commits_view cs)) before (All-map P (told n) (commits_view cs) now))
+    All-same P new (old ++ map (numbered_write n) (commits_view cs)) (e ∙ ap (λ (l : List r_commit.Commit). old ++ map (numbered_write n) (commits_view l)) is)
+    (All-append P old (map (numbered_write n) (commits_view cs)) before (All-map P (numbered_write n) (commits_view cs) now))
 
-lines_of_threads : (ms : List Column) (n : ℕ) (css : List (List Commit)) → flat_map (write_line ms) (numbered n css) ≡ threads_lines n ms css
+lines_of_threads : (ms : List Column) (n : ℕ) (css : List (List Commit)) → flat_map (write_line ms) (numbered_writes n css) ≡ threads_lines n ms css
 lines_of_threads ms n [] = refl
 lines_of_threads ms n (cs ∷ css) =
-    flat_map-append (write_line ms) (map (told n) cs) (numbered (suc n) css)
-    ∙ ap₂ (λ a b. a ++ b) (flat_map-map (write_line ms) (told n) cs) (lines_of_threads ms (suc n) css)
+    flat_map-append (write_line ms) (map (numbered_write n) cs) (numbered_writes (suc n) css)
+    ∙ ap₂ (λ a b. a ++ b) (flat_map-map (write_line ms) (numbered_write n) cs) (lines_of_threads ms (suc n) css)
 
 pub told_lines : (p : tree.Pipe) (image : List (List ℕ)) (k : ℕ)
-    → flat_map (write_line (columns p.mems)) (numbered 1 (threads (flat p) (arrays_of image) k)) ++ codes "end threads " ++ decimal k ++ codes "\n" ≡ seq_lines p image k
+    → flat_map (write_line (columns p.mems)) (numbered_writes 1 (threads (flat p) (arrays_of image) k)) ++ codes "end threads " ++ decimal k ++ codes "\n" ≡ seq_lines p image k
 told_lines p image k =
     ap (λ l. l ++ codes "end threads " ++ decimal k ++ codes "\n") (lines_of_threads (columns p.mems) 1 (threads (flat p) (arrays_of image) k))
 

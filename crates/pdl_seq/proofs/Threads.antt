@@ -3,7 +3,7 @@ use Rattle.std.proofs.Common.{◌≡◌, refl, sym, ap, ap₂, ◌∙◌, ℕ, z
 use Rattle.pdl_semantics.specs.Flat.{Arrays, Pipe}
 use Rattle.pdl_semantics.specs.Sequential.{Run, thread, threads_from, threads, turn_at, after_turns}
 use Rattle.pdl_seq.specs.declared.commit.Write as r_write
-use Rattle.pdl_seq.specs.Runs.{told, numbered}
+use Rattle.pdl_seq.specs.Runs.{numbered_write, numbered_writes}
 
 -- where threads stand from the second on
 front : (p : Pipe) (k : ℕ) (arrays : Arrays) (args : List ℕ)
@@ -16,24 +16,24 @@ front p (suc k) arrays args =
 
 -- the writes of one thread more
 more_from : (p : Pipe) (n k : ℕ) (arrays : Arrays) (args : List ℕ)
-    → numbered n (threads_from p (suc k) arrays args) ≡ numbered n (threads_from p k arrays args) ++ map (told (n + k)) (thread p (turn_at p arrays args k).arrays (turn_at p arrays args k).next).writes
+    → numbered_writes n (threads_from p (suc k) arrays args) ≡ numbered_writes n (threads_from p k arrays args) ++ map (numbered_write (n + k)) (thread p (turn_at p arrays args k).arrays (turn_at p arrays args k).next).writes
 more_from p n zero arrays args =
     let same : n ≡ n + 0 = omega arith in
-    append-nil _ ∙ ap (λ i. map (told i) (thread p arrays args).writes) same
+    append-nil _ ∙ ap (λ i. map (numbered_write i) (thread p arrays args).writes) same
 more_from p n (suc k) arrays args =
     let h = front p k arrays args in
     let same : suc n + k ≡ n + suc k = omega arith in
     let r = thread p arrays args in
-    let next : ℕ → List r_write.Write = λ (i : ℕ). map (told i) (thread p (turn_at p r.arrays r.next k).arrays (turn_at p r.arrays r.next k).next).writes in
-    ap (λ l. map (told n) r.writes ++ l) (more_from p (suc n) k r.arrays r.next ∙ ap (λ i. numbered (suc n) (threads_from p k r.arrays r.next) ++ next i) same)
-    ∙ sym (append_assoc (map (told n) r.writes) (numbered (suc n) (threads_from p k r.arrays r.next)) (next (n + suc k)))
-    ∙ ap₂ (λ a g. (map (told n) r.writes ++ numbered (suc n) (threads_from p k r.arrays r.next)) ++ map (told (n + suc k)) (thread p a g).writes) (sym h.0) (sym h.1)
+    let next : ℕ → List r_write.Write = λ (i : ℕ). map (numbered_write i) (thread p (turn_at p r.arrays r.next k).arrays (turn_at p r.arrays r.next k).next).writes in
+    ap (λ l. map (numbered_write n) r.writes ++ l) (more_from p (suc n) k r.arrays r.next ∙ ap (λ i. numbered_writes (suc n) (threads_from p k r.arrays r.next) ++ next i) same)
+    ∙ sym (append_assoc (map (numbered_write n) r.writes) (numbered_writes (suc n) (threads_from p k r.arrays r.next)) (next (n + suc k)))
+    ∙ ap₂ (λ a g. (map (numbered_write n) r.writes ++ numbered_writes (suc n) (threads_from p k r.arrays r.next)) ++ map (numbered_write (n + suc k)) (thread p a g).writes) (sym h.0) (sym h.1)
 
 pub one_more : (p : Pipe) (image : Arrays) (k : ℕ)
-    → numbered 1 (threads p image (suc k)) ≡ numbered 1 (threads p image k) ++ map (told (suc k)) (thread p (after_turns p image k).arrays (after_turns p image k).next).writes
+    → numbered_writes 1 (threads p image (suc k)) ≡ numbered_writes 1 (threads p image k) ++ map (numbered_write (suc k)) (thread p (after_turns p image k).arrays (after_turns p image k).next).writes
 one_more p image k =
     let same : 1 + k ≡ suc k = omega arith in
-    more_from p 1 k image p.start ∙ ap (λ i. numbered 1 (threads p image k) ++ map (told i) (thread p (after_turns p image k).arrays (after_turns p image k).next).writes) same
+    more_from p 1 k image p.start ∙ ap (λ i. numbered_writes 1 (threads p image k) ++ map (numbered_write i) (thread p (after_turns p image k).arrays (after_turns p image k).next).writes) same
 
 -- a run that has told k threads tells one more
 module _ (p : Pipe) (image : Arrays) (k n : ℕ) (is_next : n ≡ suc k) (arrays : Arrays) (args : List ℕ) (r : Run) (at : arrays ≡ (after_turns p image k).arrays) (with : args ≡ (after_turns p image k).next) (ran : r ≡ thread p arrays args) where
@@ -46,10 +46,10 @@ module _ (p : Pipe) (image : Arrays) (k n : ℕ) (is_next : n ≡ suc k) (arrays
   pub args_next : r.next ≡ (after_turns p image n).next
   args_next = ap (λ (t : Run). t.next) turned
 
-  pub writes_next : (ws more : List r_write.Write) → ws ≡ numbered 1 (threads p image k) → more ≡ ws ++ map (told n) r.writes → more ≡ numbered 1 (threads p image n)
+  pub writes_next : (ws more : List r_write.Write) → ws ≡ numbered_writes 1 (threads p image k) → more ≡ ws ++ map (numbered_write n) r.writes → more ≡ numbered_writes 1 (threads p image n)
   writes_next ws more told_so_far told_more =
       told_more
-      ∙ ap₂ (λ (l : List r_write.Write) (t : Run). l ++ map (told n) t.writes) told_so_far (ran ∙ ap₂ (thread p) at with)
-      ∙ ap (λ i. numbered 1 (threads p image k) ++ map (told i) (thread p (after_turns p image k).arrays (after_turns p image k).next).writes) is_next
+      ∙ ap₂ (λ (l : List r_write.Write) (t : Run). l ++ map (numbered_write n) t.writes) told_so_far (ran ∙ ap₂ (thread p) at with)
+      ∙ ap (λ i. numbered_writes 1 (threads p image k) ++ map (numbered_write i) (thread p (after_turns p image k).arrays (after_turns p image k).next).writes) is_next
       ∙ sym (one_more p image k)
-      ∙ ap (λ i. numbered 1 (threads p image i)) (sym is_next)
+      ∙ ap (λ i. numbered_writes 1 (threads p image i)) (sym is_next)

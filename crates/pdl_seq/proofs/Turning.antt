@@ -1,8 +1,8 @@
 -- Statement by statement through a turn.
 use Rattle.std.proofs.Common.{◌≡◌, sym, ap, ◌∙◌, subst, ℕ, zero, suc, ◌+◌, ◌<◌, ◌≤◌, Bool, true, false, if◌then◌else◌, List, [], ◌∷◌, drop, length, get_or, length-append, arith}
 use Rattle.std.proofs.lemmas.List.{drop_more}
-use Rattle.pdl_semantics.specs.Flat.{Op, Bind, CombRead, DelayedRead, Write, ReserveRead, ReserveWrite, Block, Release, Call, SpecCall, Verify, SpecCheck, SpecBarrier, Stmt, Commit, taken}
-use Rattle.pdl_semantics.specs.Sequential.{Run, runs, run_all}
+use Rattle.pdl_semantics.specs.Flat.{Op, Bind, CombRead, DelayedRead, Write, ReserveRead, ReserveWrite, Block, Release, Call, SpecCall, Verify, SpecCheck, SpecBarrier, Stmt, Commit, all_hold}
+use Rattle.pdl_semantics.specs.Sequential.{Run, run_after, run_all}
 use Rattle.pdl_form.specs.declared.form.Stmt as r_stmt
 use Rattle.pdl_form.specs.View.{stmt_view, stmts_view}
 use Rattle.pdl_form.specs.Form.{Form}
@@ -10,7 +10,7 @@ use Rattle.pdl_formtypes.specs.Stmts.{IsTypedStmt, AreTypedStmts}
 
 -- WRITES ONLY COME TO THE OTHERS
 
-grow_op : (op : Op) (r : Run) → length r.writes ≤ length (runs op r).writes
+grow_op : (op : Op) (r : Run) → length r.writes ≤ length (run_after op r).writes
 grow_op (Bind x e) r = omega arith
 grow_op (CombRead x m a) r = omega arith
 grow_op (DelayedRead x m a) r = omega arith
@@ -25,15 +25,15 @@ grow_op (Verify args) r = omega arith
 grow_op SpecCheck r = omega arith
 grow_op SpecBarrier r = omega arith
 
-grow_if : (b : Bool) (op : Op) (r : Run) → length r.writes ≤ length (if b then runs op r else r).writes
+grow_if : (b : Bool) (op : Op) (r : Run) → length r.writes ≤ length (if b then run_after op r else r).writes
 grow_if true op r = grow_op op r
 grow_if false op r = omega arith
 
 pub writes_grow : (xs : List Stmt) (r : Run) → length r.writes ≤ length (run_all xs r).writes
 writes_grow [] r = omega arith
 writes_grow (x ∷ xs) r =
-    let one = grow_if (taken x.guards r.env) x.op r in
-    let rest = writes_grow xs (if taken x.guards r.env then runs x.op r else r) in
+    let one = grow_if (all_hold x.guards r.env) x.op r in
+    let rest = writes_grow xs (if all_hold x.guards r.env then run_after x.op r else r) in
     omega arith
 
 -- THE STATEMENT THAT COMES NEXT

@@ -1,9 +1,9 @@
 -- On a path that uses the lock of a memory as the rules say, a thread writes that memory at most once.
 use Rattle.std.proofs.Common.{◌≡◌, refl, sym, ap, ◌∙◌, subst, ℕ, ◌+◌, ◌≤◌, Bool, true, false, ◌||◌, not, cond, if◌then◌else◌, ◌==◌, List, [], ◌∷◌, ◌++◌, length, length-append, arith}
-use Rattle.pdl_semantics.specs.Flat.{Op, Bind, CombRead, DelayedRead, Write, ReserveRead, ReserveWrite, Block, Release, Call, SpecCall, Verify, SpecCheck, SpecBarrier, Stmt, Commit, of_mem, taken}
-use Rattle.pdl_semantics.specs.Sequential.{Run, runs, run_all}
+use Rattle.pdl_semantics.specs.Flat.{Op, Bind, CombRead, DelayedRead, Write, ReserveRead, ReserveWrite, Block, Release, Call, SpecCall, Verify, SpecCheck, SpecBarrier, Stmt, Commit, of_mem, all_hold}
+use Rattle.pdl_semantics.specs.Sequential.{Run, run_after, run_all}
 use Rattle.pdl_derived.proofs.Writes.{and_left, and_right, of_mem_append}
-use Rattle.pdl_facts.specs.Scans.{Phase, Fresh, Held, Written, Done, after_release, next_phase, holds, is_fresh, phase_ok, phases_ok}
+use Rattle.pdl_facts.specs.Scans.{Phase, Fresh, Held, Written, Done, after_release, next_phase, holds_location, is_fresh, phase_ok, phases_ok}
 use Rattle.pdl_turns.proofs.Alike.{taken_none}
 
 -- how many writes of the memory may follow
@@ -30,7 +30,7 @@ one_more m ws c b e =
     at false = refl
 
 -- a write in the phase where the location is held leaves no room for another
-write_step : (m n a k k' : ℕ) (ph : Phase) (b : Bool) → (not b || holds ph a) ≡ true → k' ≡ k + (if b then 1 else 0) → k' + left (if b then Written a else ph) ≤ k + left ph
+write_step : (m n a k k' : ℕ) (ph : Phase) (b : Bool) → (not b || holds_location ph a) ≡ true → k' ≡ k + (if b then 1 else 0) → k' + left (if b then Written a else ph) ≤ k + left ph
 write_step m n a k k' (Held x) true h e = omega arith
 write_step m n a k k' Fresh true h e = absurd (cc h)
 write_step m n a k k' (Written x) true h e = absurd (cc h)
@@ -56,12 +56,12 @@ release_step a k Done true = omega arith
 release_step a k ph false = omega arith
 
 -- one statement
-step : (m : ℕ) (ph : Phase) (op : Op) (r : Run) → phase_ok m ph op ≡ true → count m (runs op r) + left (next_phase m ph op) ≤ count m r + left ph
+step : (m : ℕ) (ph : Phase) (op : Op) (r : Run) → phase_ok m ph op ≡ true → count m (run_after op r) + left (next_phase m ph op) ≤ count m r + left ph
 step m ph (Bind x e) r h = omega arith
 step m ph (CombRead x n a) r h = omega arith
 step m ph (DelayedRead x n a) r h = omega arith
 step m ph (Write n a e) r h =
-    write_step m n a (count m r) (count m (runs (Write n a e) r)) ph (n == m) h (one_more m r.writes _ (n == m) refl)
+    write_step m n a (count m r) (count m (run_after (Write n a e) r)) ph (n == m) h (one_more m r.writes _ (n == m) refl)
 step m ph (ReserveRead n a) r h = omega arith
 step m ph (ReserveWrite n a) r h = reserve_step a (count m r) ph (n == m) h
 step m ph (Block n a) r h = omega arith
@@ -77,8 +77,8 @@ pub at_most : (m : ℕ) (xs : List Stmt) (ph : Phase) (r : Run) → phases_ok m 
 at_most m [] ph r h = omega arith
 at_most m (x ∷ xs) ph r h =
     let here = and_left _ _ h in
-    let taken_here : taken x.guards r.env ≡ true = taken_none x.guards r.env (and_left _ _ here) in
-    let one : count m (runs x.op r) + left (next_phase m ph x.op) ≤ count m r + left ph = step m ph x.op r (and_right _ _ here) in
-    let rest : count m (run_all xs (runs x.op r)) ≤ count m (runs x.op r) + left (next_phase m ph x.op) = at_most m xs (next_phase m ph x.op) (runs x.op r) (and_right _ _ h) in
-    let both : count m (run_all xs (runs x.op r)) ≤ count m r + left ph = omega arith in
-    subst (λ b. count m (run_all xs (cond b (runs x.op r) r)) ≤ count m r + left ph) (sym taken_here) both
+    let taken_here : all_hold x.guards r.env ≡ true = taken_none x.guards r.env (and_left _ _ here) in
+    let one : count m (run_after x.op r) + left (next_phase m ph x.op) ≤ count m r + left ph = step m ph x.op r (and_right _ _ here) in
+    let rest : count m (run_all xs (run_after x.op r)) ≤ count m (run_after x.op r) + left (next_phase m ph x.op) = at_most m xs (next_phase m ph x.op) (run_after x.op r) (and_right _ _ h) in
+    let both : count m (run_all xs (run_after x.op r)) ≤ count m r + left ph = omega arith in
+    subst (λ b. count m (run_all xs (cond b (run_after x.op r) r)) ≤ count m r + left ph) (sym taken_here) both

@@ -17,13 +17,13 @@ pub record IsRunnable (f : Form) : Type 0 where
   pub few : length f.pipe.mems ≤ 16
 
 -- a write with the number of its thread
-abbrev pub told : ℕ → Commit → r_write.Write
-told n c = record { thread = n; mem = c.mem; addr = c.address; value = c.value }
+abbrev pub numbered_write : ℕ → Commit → r_write.Write
+numbered_write n c = record { thread = n; mem = c.mem; addr = c.address; value = c.value }
 
 -- the writes of threads, of which the first has this number
-abbrev pub numbered : ℕ → List (List Commit) → List r_write.Write
-numbered n [] = []
-numbered n (cs ∷ rest) = map (told n) cs ++ numbered (suc n) rest
+abbrev pub numbered_writes : ℕ → List (List Commit) → List r_write.Write
+numbered_writes n [] = []
+numbered_writes n (cs ∷ rest) = map (numbered_write n) cs ++ numbered_writes (suc n) rest
 
 -- the line of a write, where the memories are these
 abbrev pub write_line : List Column → r_write.Write → List ℕ
@@ -40,6 +40,6 @@ pub record Running : Type 0 where
 
 -- it has run its threads from this image: its writes are theirs, and it stands where they have come to
 pub record HasRun (r : Running) (image : List (List ℕ)) : Type 0 where
-  pub writes : r.writes ≡ numbered 1 (threads (form r.pipe).pipe (arrays_of image) r.run)
+  pub writes : r.writes ≡ numbered_writes 1 (threads (form r.pipe).pipe (arrays_of image) r.run)
   pub memories : arrays_of r.memories ≡ (after_turns (form r.pipe).pipe (arrays_of image) r.run).arrays
   pub next : r.next ≡ (after_turns (form r.pipe).pipe (arrays_of image) r.run).next

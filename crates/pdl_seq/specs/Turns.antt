@@ -1,6 +1,6 @@
 -- A turn as the sequential meaning sees it, and which operations can be carried out in it.
 use Rattle.std.specs.Prelude.{ℕ, ◌^◌, ◌<◌, ◌≤◌, List, [], map, length, slice_index, slice_index_or, vec_capacity, ⊤}
-use Rattle.pdl_semantics.specs.Flat.{Op, Bind, CombRead, DelayedRead, Write, ReserveRead, ReserveWrite, Block, Release, Call, SpecCall, Verify, SpecCheck, SpecBarrier, Commit, arrays_of}
+use Rattle.pdl_semantics.specs.Flat.{Op, Bind, CombRead, DelayedRead, Write, ReserveRead, ReserveWrite, Block, Release, Call, SpecCall, Verify, SpecCheck, SpecBarrier, Commit, Pipe, arrays_of, start_env}
 use Rattle.pdl_semantics.specs.Sequential.{Run}
 use Rattle.pdl_values.specs.Safe.{IsSafe, AreSafe}
 use Rattle.pdl_seq.specs.declared.commit.Commit as r_commit
@@ -21,6 +21,10 @@ run_view t =
       writes = commits_view t.commits.items;
       next = t.next.items;
     }
+
+-- the next thread as it begins: it has its arguments, zeros after them, and has done nothing yet
+abbrev pub begun_run : Pipe → r_turn.Turn → Run
+begun_run p t = record { arrays = arrays_of t.memories.items; env = start_env p t.next.items; writes = []; next = [] }
 
 -- room for the next thread's arguments, and for writes
 pub record Rooms : Type 0 where

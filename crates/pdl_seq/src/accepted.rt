@@ -11,7 +11,7 @@ ghost use Rattle.pdl_form.specs.Form.{form_of};
 ghost use Rattle.pdl_image.specs.Images.{IsImage};
 ghost use Rattle.pdl_pathfacts.specs.Source.{is_source, is_named};
 ghost use Rattle.pdl_seq.specs.Fits.{infos_of, IsImageFor};
-ghost use Rattle.pdl_seq.specs.Runs.{IsRunnable, numbered, write_line};
+ghost use Rattle.pdl_seq.specs.Runs.{IsRunnable, numbered_writes, write_line};
 
 /// Every pipe that keeps the rules can be run, where no two `if`s on expressions begin at one byte and no variable has the empty name: so it is in every tree that is read from a source.
 pub fn runnable()
@@ -32,6 +32,7 @@ pub fn images()
 pub fn lines()
     ensures { (p : Pipe) (image : List (List ℕ)) (k : ℕ) →
         flat_map (write_line (text.columns p.mems))
-        (numbered 1 (threads (flat p) (arrays_of image) k)) ++ codes "end threads " ++ decimal
+        (numbered_writes 1 (threads (flat p) (arrays_of image) k)) ++ codes "end threads "
+        ++ decimal
         k ++ codes "\n" ≡ text.seq_lines p image k }
 {}

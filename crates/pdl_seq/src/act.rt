@@ -1,7 +1,7 @@
 // What an operation does.
 ghost use Rattle.std.specs.Prelude.{◌≡◌, ◌≤◌, ◌<◌, ◌+◌, ◌^◌, ◌∷◌, ◌++◌, [], length, slice_index, slice_set, vec_len, vec_capacity};
 ghost use Rattle.pdl_semantics.specs.Flat.{arrays_of, with_word, word_at, value_of as spec_value_of, values_of as spec_values_of};
-ghost use Rattle.pdl_semantics.specs.Sequential.{runs};
+ghost use Rattle.pdl_semantics.specs.Sequential.{run_after};
 ghost use Rattle.pdl_form.specs.View.{expr_view, exprs_view, act_view};
 ghost use Rattle.pdl_values.specs.Safe.{IsSafe, AreSafe};
 ghost use Rattle.pdl_seq.specs.Turns.{run_view, rooms, list_at, shape, IsSafeOp};
@@ -23,7 +23,7 @@ fn bind(x: usize, e: &Expr, values: &mut [u64])
 }
 
 // A variable is bound to a word of a memory.
-fn read(memories: &[Words], x: usize, m: usize, a: usize, values: &mut [u64])
+fn read_word(memories: &[Words], x: usize, m: usize, a: usize, values: &mut [u64])
     requires there { x < length values.old }
     requires memory { m < length memories.now }
     ensures { values.new ≡ slice_set values.old x
@@ -35,7 +35,7 @@ fn read(memories: &[Words], x: usize, m: usize, a: usize, values: &mut [u64])
 }
 
 // A word of a memory is written.
-fn put(memories: &mut [Words], m: usize, address: u64, value: u64)
+fn put_word(memories: &mut [Words], m: usize, address: u64, value: u64)
     requires memory { m < length memories.old }
     requires word { address < length (list_at memories.old m) }
     ensures arrays { arrays_of memories.new ≡ with_word (arrays_of memories.old) m address value }
@@ -68,7 +68,7 @@ fn write(m: usize, a: usize, e: &Expr, turn: &mut Turn)
 {
     let address = variable(turn.values.as_slice(), a);
     let value = value_of(e, turn.values.as_slice());
-    put(turn.memories.as_mut_slice(), m, address, value);
+    put_word(turn.memories.as_mut_slice(), m, address, value);
     turn.commits.push_reserved(Commit {
         mem: m,
         addr: address as u32,
@@ -80,16 +80,16 @@ fn write(m: usize, a: usize, e: &Expr, turn: &mut Turn)
 pub fn act(op: &Op, turn: &mut Turn)
     requires safe { IsSafeOp turn.old.memories.items (rooms turn.old).next
         (act_view op.now) turn.old.values.items }
-    requires room { length (runs (act_view op.now) (run_view turn.old)).writes
+    requires room { length (run_after (act_view op.now) (run_view turn.old)).writes
         ≤ (rooms turn.old).commits }
-    ensures run { run_view turn.new ≡ runs (act_view op.now) (run_view turn.old) }
+    ensures run { run_view turn.new ≡ run_after (act_view op.now) (run_view turn.old) }
     ensures shape { shape turn.new.memories.items ≡ shape turn.old.memories.items }
     ensures rooms { rooms turn.new ≡ rooms turn.old }
 {
     match op {
         Op::Bind { x, e } => bind(*x, e, turn.values.as_mut_slice()),
         Op::CombRead { x, m, a } | Op::DelayedRead { x, m, a } => {
-            read(
+            read_word(
                 turn.memories.as_slice(),
                 *x,
                 *m,

@@ -76,7 +76,7 @@ impl<'p> SeqRun<'p> {
         ensures count { self.new.run ≡ self.old.run + 1 }
         ensures threads { self.new.threads ≡ self.old.threads }
     {
-        begin(self.pipe, &mut self.turn);
+        begin(&mut self.turn);
         run_turn(self.pipe, &mut self.turn);
         self.run += 1;
         tell(self.run, self.turn.commits.as_slice(), &mut self.writes);

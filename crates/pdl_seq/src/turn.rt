@@ -1,6 +1,6 @@
 // The turn of a thread: its statements one after another.
 ghost use Rattle.std.specs.Prelude.{◌≡◌, ◌≤◌, ◌∷◌, [], true, length};
-ghost use Rattle.pdl_semantics.specs.Flat.{taken};
+ghost use Rattle.pdl_semantics.specs.Flat.{all_hold};
 ghost use Rattle.pdl_semantics.specs.Sequential.{run_all};
 ghost use Rattle.pdl_form.specs.View.{stmt_view};
 ghost use Rattle.pdl_form.specs.Whole.{form};
@@ -25,7 +25,7 @@ pub struct Turn {
 
 // A statement is carried out where its guards hold.
 fn run_stmt(stmt: &Stmt, turn: &mut Turn)
-    requires safe { taken (stmt_view stmt.now).guards turn.old.values.items ≡ true →
+    requires safe { all_hold (stmt_view stmt.now).guards turn.old.values.items ≡ true →
         IsSafeOp turn.old.memories.items (rooms turn.old).next
         (stmt_view stmt.now).op turn.old.values.items }
     requires room { length (run_all (stmt_view stmt.now ∷ []) (run_view turn.old)).writes

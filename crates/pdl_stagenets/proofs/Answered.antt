@@ -1,4 +1,4 @@
--- The nets of a walk behind each change, as the changes make them.
+-- The nets of a walk after each change, as the changes make them.
 use Rattle.std.proofs.Common.{◌≡◌, ℕ, ◌<◌, ◌^◌, List, [], ◌∷◌, ◌++◌, length, refl, sym, ap, ap₂, ◌∙◌, subst}
 use Rattle.std.specs.Prelude.{take, slice_index, slice_set, Result, Ok, Err, OnOk}
 use Rattle.pdl_kit.specs.declared.no_memory.NoMemory.{NoMemory}
@@ -118,7 +118,7 @@ put_same m o o' f f' q q' e g h = ap₂ (λ i k. with_put m i k q) e g ∙ ap (w
 pub set_means : (a b : Circuit) (n : Net) (on f old known : Signal) → old ≡ known → Means b n (mux_signal on f old) → Means b n (mux_signal on f known)
 set_means a b n on f old known e m = record { there = m.there; same = m.same ∙ ap (mux_signal on f) e }
 
--- the ready net behind a wait
+-- the ready net after a wait
 pub wait_signal : (a b1 b2 : Circuit) (ready asked r bit : Net) (on f : Signal) → Extends a b1 → IsThere a ready → signal a bit ≡ one → Means b1 asked (mux_signal on f (signal a bit)) → Means b2 r (both (signal b1 ready) (signal b1 asked)) → signal b2 r ≡ both (signal a ready) (if_on on f)
 wait_signal a b1 b2 ready asked r bit on f e t o m n = n.same ∙ ap₂ both (e.kept ready t) (m.same ∙ ap (mux_signal on f) o)
 

@@ -4,7 +4,7 @@ use Rattle.std.specs.Prelude.{length, slice_index_or}
 use Rattle.std.proofs.Math.Bool.{and_assoc}
 use Rattle.pdl_word.specs.Words as words
 use Rattle.pdl_word.specs.Words.{bit}
-use Rattle.pdl_semantics.specs.Flat.{Guard, takes}
+use Rattle.pdl_semantics.specs.Flat.{Guard, takes_branch}
 use Rattle.pdl_net.specs.declared.Net.{Net}
 use Rattle.pdl_net.specs.declared.Net.TheVariants.{Input}
 use Rattle.pdl_net.specs.Circuit.{Circuit, State}
@@ -41,7 +41,7 @@ turned (suc (suc v)) l = absurd (omega (arith, l))
 pub below_two : (s : State) (f : Signal) → f.width ≡ 1 → IsBounded s f → f.value s < 2
 below_two s f e b = subst (λ w. f.value s < 2 ^ w) e b.fits
 
-literal_value : (s : State) (first : Bool) (f : Signal) → f.width ≡ 1 → IsBounded s f → (literal first f).value s ≡ bit (takes first (f.value s))
+literal_value : (s : State) (first : Bool) (f : Signal) → f.width ≡ 1 → IsBounded s f → (literal first f).value s ≡ bit (takes_branch first (f.value s))
 unfolding not_value
 literal_value s true f e b = bit_of (f.value s) (below_two s f e b)
 literal_value s false f e b = ap (λ w. words.complement w (f.value s)) e ∙ turned (f.value s) (below_two s f e b)
@@ -54,9 +54,9 @@ taken_more s fs w same bounds (g ∷ gs) h f x e =
     let g_signal = signal_at fs g.var in
     let one : g_signal.width ≡ 1 = sym (width_at fs g.var) ∙ h.1 in
     let low : g.var < length fs = omega (arith, h.0, length_widths fs) in
-    let now = both_at s f (literal g.first g_signal) x (takes g.first (g_signal.value s)) e (λ u. literal_value s g.first g_signal one (bounds g.var low)) in
-    taken_more s fs w same bounds gs h.2 (conditions.both f (literal g.first g_signal)) (x && takes g.first (g_signal.value s)) now
-    ∙ ap bit (and_assoc x (takes g.first (g_signal.value s)) (taken_in gs w s) ∙ ap (λ (h : Signal). x && (takes g.first (h.value s) && taken_in gs w s)) (sym (same g.var)))
+    let now = both_at s f (literal g.first g_signal) x (takes_branch g.first (g_signal.value s)) e (λ u. literal_value s g.first g_signal one (bounds g.var low)) in
+    taken_more s fs w same bounds gs h.2 (conditions.both f (literal g.first g_signal)) (x && takes_branch g.first (g_signal.value s)) now
+    ∙ ap bit (and_assoc x (takes_branch g.first (g_signal.value s)) (taken_in gs w s) ∙ ap (λ (h : Signal). x && (takes_branch g.first (h.value s) && taken_in gs w s)) (sym (same g.var)))
 
 -- the condition of guards says whether they are taken
 pub taken_value : (s : State) (fs : List Signal) (w : Walk) → ((x : ℕ) → w.vars x ≡ signal_at fs x) → AreBounded s fs → (gs : List Guard) → AreGuards (widths_of fs) gs → (taken_signal fs gs).value s ≡ bit (taken_in gs w s)

@@ -48,7 +48,7 @@ are_bounded c d fs h k well s suits =
     let n = has_keep c d fs k h in
     subst (AreBounded s) n.same (nets_bounded d s well suits n.nets n.there)
 
--- a variable behind a change
+-- a variable after a change
 abbrev changed : ℕ → Signal → List Signal → ℕ → Signal
 changed x f fs y = if y == x then f else signal_at fs y
 

@@ -13,7 +13,7 @@ use Rattle.pdl_net.specs.Circuit.{Circuit}
 use Rattle.pdl_net.specs.Signal.{Signal}
 use Rattle.pdl_net.specs.Growth.{Keeps}
 use Rattle.pdl_net.proofs.Keeps.{keeps_trans}
-use Rattle.pdl_pipe_law.specs.Walk.{Locks, Walk, Row, IsRow, after, AreRows}
+use Rattle.pdl_pipe_law.specs.Walk.{Locks, Walk, Row, IsRow, walk_after, AreRows}
 use Rattle.pdl_stagenets.specs.Sized.{IsWalked, AreWalked, AreWalkedRows}
 use Rattle.pdl_stagenets.specs.Steps.{IsStep, AreSteps}
 use Rattle.pdl_stagenets.proofs.Lists.{each_at, each_by}
@@ -29,9 +29,9 @@ typed_as f s o h e = subst (λ (o : r_op.Op). IsTypedOp f (act_view o)) e h.0.1
 pub guards_as : (f : Form) (s : r_stmt.Stmt) (gs : List r_guard.Guard) → IsWalked f (stmt_view s) → gs ≡ s.guards → AreGuards f.widths (guards_view gs)
 guards_as f s gs h e = subst (λ l. AreGuards f.widths (guards_view l)) (sym e) h.0.0
 
-rows_push : (d : Circuit) (p : Pipe) (ls : Locks) (tickets : ℕ → Signal) (xs : List Stmt) (x : Stmt) (w v u : Walk) (r : Row) → AreRows d p ls tickets xs w v → IsRow d p ls tickets x v r → u ≡ after x.op r ls v → AreRows d p ls tickets (xs ++ x ∷ []) w u
-rows_push d p ls tickets [] x w v u r e i h = (r, subst (λ k. IsRow d p ls tickets x k r) e i, h ∙ ap (after x.op r ls) e)
-rows_push d p ls tickets (y ∷ ys) x w v u r e i h = (e.0, e.1, rows_push d p ls tickets ys x (after y.op e.0 ls w) v u r e.2 i h)
+rows_push : (d : Circuit) (p : Pipe) (ls : Locks) (tickets : ℕ → Signal) (xs : List Stmt) (x : Stmt) (w v u : Walk) (r : Row) → AreRows d p ls tickets xs w v → IsRow d p ls tickets x v r → u ≡ walk_after x.op r ls v → AreRows d p ls tickets (xs ++ x ∷ []) w u
+rows_push d p ls tickets [] x w v u r e i h = (r, subst (λ k. IsRow d p ls tickets x k r) e i, h ∙ ap (walk_after x.op r ls) e)
+rows_push d p ls tickets (y ∷ ys) x w v u r e i h = (e.0, e.1, rows_push d p ls tickets ys x (walk_after y.op e.0 ls w) v u r e.2 i h)
 
 pub steps_push : (c b : Circuit) (p : Pipe) (ls : Locks) (tickets : ℕ → Signal) (xs : List Stmt) (x : Stmt) (w v u : Walk) → Keeps c b → AreSteps c p ls tickets xs w v → IsStep b p ls tickets x.guards x.op v u → AreSteps b p ls tickets (xs ++ x ∷ []) w u
 steps_push c b p ls tickets xs x w v u e h s d k well = rows_push d p ls tickets xs x w v u s.row (h d (keeps_trans c b d e k) well) (record { on = s.on d k well; op = s.does d k well }) s.next

@@ -1,4 +1,4 @@
--- The nets of a walk behind a change.
+-- The nets of a walk after a change.
 use Rattle.std.proofs.Common.{◌≡◌, ℕ, ◌<◌, ◌^◌, List, [], ◌∷◌, ◌++◌, map, length, sym, ap, ◌∙◌}
 use Rattle.std.specs.Prelude.{take, slice_index, slice_set}
 use Rattle.std.proofs.lemmas.List.{map-append, map-set}
@@ -74,7 +74,7 @@ module _ (b : Circuit) (w : WalkNets) where
       same_parts b new (parts_in b w).vars (parts_in b w).held (parts_in b w).ready (parts_in b w).reserves (parts_in b w).puts (parts_in b w).lettings (birth_in b n ∷ (parts_in b w).births) (parts_in b w).guess
       (ap (λ h. signals_in b h.items) h1) (ap (λ h. map (held_in b) h.items) h2) (ap (signal b) h3) (ap (map (reservation_in b)) h4) (ap (map (put_in b)) h5) (ap (map (letting_in b)) h6) (ap (map (birth_in b)) h) (ap (signals_in b) h8)
 
--- ---- widths behind a change
+-- ---- widths after a change
 
 module _ (p : Pipe) (ws : List ℕ) (w : Parts) (s : IsSized p ws w) where
   pub sized_var : (x : ℕ) (on f : Signal) → f.width ≡ slice_index ws x → IsSized p ws (with_var x on f w)

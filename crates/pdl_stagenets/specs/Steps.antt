@@ -8,7 +8,7 @@ use Rattle.pdl_net.specs.Signal.{Signal, mux_signal}
 use Rattle.pdl_net.specs.Growth.{Keeps}
 use Rattle.pdl_net.specs.Well.{IsWell, Suits}
 use Rattle.pdl_flatnets.specs.Nets.{signal_at}
-use Rattle.pdl_pipe_law.specs.Walk.{Locks, Walk, Row, IsOp, taken_in, after, AreRows, one, zero_bit, both, if_on}
+use Rattle.pdl_pipe_law.specs.Walk.{Locks, Walk, Row, IsOp, taken_in, walk_after, AreRows, one, zero_bit, both, if_on}
 use Rattle.pdl_stagenets.specs.declared.locks.MemLock.{MemLock}
 use Rattle.pdl_stagenets.specs.declared.nets.WalkNets.{WalkNets}
 use Rattle.pdl_stagenets.specs.Parts.{Parts, held_of, walk_in}
@@ -50,7 +50,7 @@ pub record IsStep (c : Circuit) (p : Pipe) (ls : Locks) (tickets : ℕ → Signa
   pub row : Row
   pub on : Later c (λ d. (s : State) → Suits d s → row.on.value s ≡ bit (taken_in gs w s))
   pub does : Later c (λ d. IsOp d p ls tickets gs op w row)
-  pub next : w' ≡ after op row ls w
+  pub next : w' ≡ walk_after op row ls w
 
 -- and so do rows one after another
 abbrev pub AreSteps : Circuit → Pipe → Locks → (ℕ → Signal) → List Stmt → Walk → Walk → Type 0

@@ -7,7 +7,7 @@ use Rattle.pdl_net.specs.Circuit.{State}
 use Rattle.pdl_net.specs.Signal.{Signal, read_signal}
 use Rattle.pdl_lockapi.specs.declared.Kind.{Kind as LookKind}
 use Rattle.pdl_lockapi.specs.declared.Kind.TheVariants as look_kind
-use Rattle.pdl_lockapi.specs.Lock.{is_ready}
+use Rattle.pdl_lockapi.specs.Lock.{look_ready}
 use Rattle.pdl_lockapi.specs.Laws.{LookLaw}
 use Rattle.pdl_flatnets.specs.Nets.{signal_at}
 use Rattle.pdl_pipe_law.specs.Walk.{Locks, is_locked, is_on, look_of, ThroughLock, both, if_on}
@@ -26,7 +26,7 @@ pub record IsWordSignal (p : Pipe) (ls : Locks) (m : ℕ) (addr ticket f : Signa
 
 -- whether a location is ready: for writing where it is held, else for reading
 abbrev pub IsLooked : Locks → ℕ → Signal → Signal → Signal → Signal → Type 0
-IsLooked ls m held addr ticket f = (s : State) → ThroughLock ls m ticket s (λ x t. f.value s ≡ bit (is_ready (ls.kind m) (look_of (is_on held s)) x t (addr.value s)))
+IsLooked ls m held addr ticket f = (s : State) → ThroughLock ls m ticket s (λ x t. f.value s ≡ bit (look_ready (ls.kind m) (look_of (is_on held s)) x t (addr.value s)))
 
 -- a read: where its condition is 1 a variable becomes the word
 pub record IsRead (p : Pipe) (ls : Locks) (tickets : ℕ → Signal) (on : Signal) (x m a : ℕ) (w w' : Parts) : Type 0 where

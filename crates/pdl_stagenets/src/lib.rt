@@ -4,8 +4,6 @@
 pub mod locks;
 pub mod nets;
 pub mod rows;
-#[cfg(test)]
-mod tests;
 pub mod update;
 pub mod vars;
 

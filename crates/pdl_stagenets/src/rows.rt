@@ -61,7 +61,7 @@ impl WalkNets {
             (parts_in b.old self.old)) }
         ensures extends { Extends b.old b.new }
     {
-        let on = self.taken(b, pipe, bits, guards)?;
+        let on = self.all_taken(b, pipe, bits, guards)?;
         let net = self.value(b, pipe, e)?;
         self.set(b, pipe, bits, on, x, net)
     }
@@ -93,7 +93,7 @@ impl WalkNets {
             (parts_in b.new self.new)) }
         ensures extends { Extends b.old b.new }
     {
-        let on = self.taken(b, setting.pipe, setting.bits, guards)?;
+        let on = self.all_taken(b, setting.pipe, setting.bits, guards)?;
         let addr = self.variable(b, setting.pipe, a);
         let ticket = variable(b, setting.tickets, m);
         let net = word(b, setting, m, addr, ticket)?;
@@ -123,7 +123,7 @@ impl WalkNets {
             (parts_in b.old self.old)) }
         ensures extends { Extends b.old b.new }
     {
-        let on = self.taken(b, pipe, bits, guards)?;
+        let on = self.all_taken(b, pipe, bits, guards)?;
         let net = self.value(b, pipe, e)?;
         self.push_put(m, on, net)
     }
@@ -151,7 +151,7 @@ impl WalkNets {
             (parts_in b.old self.old)) }
         ensures extends { Extends b.old b.new }
     {
-        let on = self.taken(b, setting.pipe, setting.bits, guards)?;
+        let on = self.all_taken(b, setting.pipe, setting.bits, guards)?;
         let addr = self.variable(b, setting.pipe, a);
         self.hold(b, setting.pipe, setting.bits, on, m, a, setting.bits.one)?;
         self.wait(b, setting.pipe, setting.bits, on, room(setting.locks, m))?;
@@ -182,7 +182,7 @@ impl WalkNets {
             (signal b.new x)) }
         ensures extends { Extends b.old b.new }
     {
-        let held = self.held(b, setting.bits, m, a);
+        let held = self.is_held(b, setting.bits, m, a);
         let addr = self.variable(b, setting.pipe, a);
         let ticket = variable(b, setting.tickets, m);
         look_held(b, setting, m, held, addr, ticket)
@@ -211,7 +211,7 @@ impl WalkNets {
             (parts_in b.old self.old) (parts_in b.new self.new)) }
         ensures extends { Extends b.old b.new }
     {
-        let on = self.taken(b, setting.pipe, setting.bits, guards)?;
+        let on = self.all_taken(b, setting.pipe, setting.bits, guards)?;
         let ready = self.look_ready(b, setting, m, a)?;
         self.wait(b, setting.pipe, setting.bits, on, ready)
     }
@@ -234,8 +234,8 @@ impl WalkNets {
             ≡ with_release m a (taken_by b.old self.old guards.now) (parts_in b.old self.old)) }
         ensures extends { Extends b.old b.new }
     {
-        let on = self.taken(b, pipe, bits, guards)?;
-        let held = self.held(b, bits, m, a);
+        let on = self.all_taken(b, pipe, bits, guards)?;
+        let held = self.is_held(b, bits, m, a);
         let lets = bits.both(b, on, held)?;
         self.hold(b, pipe, bits, on, m, a, bits.zero)?;
         self.push_letting(m, lets)
@@ -262,7 +262,7 @@ impl WalkNets {
             (parts_in b.old self.old)) }
         ensures extends { Extends b.old b.new }
     {
-        let on = self.taken(b, pipe, bits, guards)?;
+        let on = self.all_taken(b, pipe, bits, guards)?;
         let nets = self.values(alloc, b, pipe, args)?;
         self.push_birth(on, nets)
     }

@@ -31,7 +31,7 @@ fn held_net(hs: &[HeldNet], zero: Net, mem: usize, var: usize) -> Net
 
 impl WalkNets {
     /// Whether a location is held.
-    pub fn held(&self, b: &Builder, bits: Bits, mem: usize, var: usize) -> Net
+    pub fn is_held(&self, b: &Builder, bits: Bits, mem: usize, var: usize) -> Net
         requires bits { AreBits b.now bits }
         requires there { IsThereWalk b.now self.now }
         ensures { Means b.now result (held_of (parts_in b.now self.now).held mem var) }
@@ -93,7 +93,7 @@ impl WalkNets {
         ensures extends { Extends b.old b.new }
     {
         let old = self.variable(b, pipe, x);
-        let new = bits.pick(b, on, net, old)?;
+        let new = b.mux(on, net, old)?;
         self.put_var(x, new);
         Ok(())
     }
@@ -120,8 +120,8 @@ impl WalkNets {
             ≡ with_held mem var (signal b.old on) (signal b.old bit) (parts_in b.old self.old)) }
         ensures extends { Extends b.old b.new }
     {
-        let old = self.held(b, bits, mem, var);
-        let net = bits.pick(b, on, bit, old)?;
+        let old = self.is_held(b, bits, mem, var);
+        let net = b.mux(on, bit, old)?;
         self.push_held(HeldNet { mem, var, net })
     }
 
@@ -148,7 +148,7 @@ impl WalkNets {
             }) }
         ensures extends { Extends b.old b.new }
     {
-        let asked = bits.pick(b, on, net, bits.one)?;
+        let asked = b.mux(on, net, bits.one)?;
         let ready = bits.both(b, self.ready, asked)?;
         self.ready = ready;
         Ok(())

@@ -30,7 +30,7 @@ impl WalkNets {
     }
 
     // Whether guards are taken.
-    pub(crate) fn taken(
+    pub(crate) fn all_taken(
         &self,
         b: &mut Builder,
         pipe: &FlatPipe,
@@ -44,7 +44,7 @@ impl WalkNets {
         ensures one { IfOk result (λ x. (signal b.new x).width ≡ 1) }
         ensures extends { Extends b.old b.new }
     {
-        conditions::taken(bits, b, self.vars.as_slice(), guards)
+        conditions::all_taken(bits, b, self.vars.as_slice(), guards)
     }
 
     // The value of an expression.

@@ -10,15 +10,15 @@ use Rattle.pdl_net.proofs.Keeps.{extends_keeps}
 use Rattle.pdl_flatnets.specs.Nets.{NetsThere, signals_in, signal_at}
 use Rattle.pdl_flatnets.proofs.NetLists.{there_keeps, signals_keep}
 use Rattle.pdl_pipe_law.specs.Walk.{Birth, both}
-use Rattle.pdl_pipe_law.specs.Views.{View, Comer, new_by, new_from, picked}
+use Rattle.pdl_pipe_law.specs.Views.{View, Comer, new_by, new_from, first_coming}
 use Rattle.pdl_stagenets.specs.declared.nets.BirthNet.{BirthNet}
 use Rattle.pdl_stagenets.specs.Parts.{birth_in}
 use Rattle.pdl_stageregs.specs.declared.births.Brings.{Brings}
 use Rattle.pdl_stageregs.specs.declared.births.Brings.TheVariants.{Thread, Arg}
-use Rattle.pdl_stageregs.specs.Comes.{brings, brings_of, BringsWide, IsBirth}
+use Rattle.pdl_stageregs.specs.Comes.{brought_signal, brings_of, BringsWide, IsBirth}
 
 -- a call brings what its arguments are
-pub brings_is : (what : Brings) (moves : Signal) (b : Birth) → brings what (new_by moves b) ≡ brings_of what b.args
+pub brings_is : (what : Brings) (moves : Signal) (b : Birth) → brought_signal what (new_by moves b) ≡ brings_of what b.args
 brings_is Thread moves b = refl
 brings_is (Arg x) moves b = refl
 
@@ -36,13 +36,13 @@ birth_keep a b w what x e h = record {
 
 -- the calls of a stage from k on
 abbrev pub from_call : Circuit → Signal → Brings → List BirthNet → ℕ → Signal → Signal
-from_call a m what xs k rest = picked (brings what) (map (new_by m) (map (birth_in a) (drop k xs))) rest
+from_call a m what xs k rest = first_coming (brought_signal what) (map (new_by m) (map (birth_in a) (drop k xs))) rest
 
 pub from_more : (a : Circuit) (m : Signal) (what : Brings) (xs : List BirthNet) (k : ℕ) (x : BirthNet) (rest : Signal) → k < length xs → x ≡ get_or xs k x
     → from_call a m what xs k rest ≡ mux_signal (both m (signal a x.on)) (brings_of what (signals_in a x.args)) (from_call a m what xs (k + 1) rest)
 from_more a m what xs k x rest l e =
-    ap (λ ys. picked (brings what) (map (new_by m) (map (birth_in a) ys)) rest) (drop_more xs k x l)
-    ∙ ap (λ (y : BirthNet). picked (brings what) (map (new_by m) (map (birth_in a) (y ∷ drop (k + 1) xs))) rest) (sym e)
+    ap (λ ys. first_coming (brought_signal what) (map (new_by m) (map (birth_in a) ys)) rest) (drop_more xs k x l)
+    ∙ ap (λ (y : BirthNet). first_coming (brought_signal what) (map (new_by m) (map (birth_in a) (y ∷ drop (k + 1) xs))) rest) (sym e)
     ∙ ap (λ f. mux_signal (both m (signal a x.on)) f (from_call a m what xs (k + 1) rest)) (brings_is what m (birth_in a x))
 
 -- one more net
@@ -66,19 +66,19 @@ call_made a b c d m moves comes value net y what xs k j x rest l next e ab bc cd
 
 -- ---- the calls of stages
 
-pub picked_append : (of : Comer → Signal) (xs ys : List Comer) (rest : Signal) → picked of (xs ++ ys) rest ≡ picked of xs (picked of ys rest)
+pub picked_append : (of : Comer → Signal) (xs ys : List Comer) (rest : Signal) → first_coming of (xs ++ ys) rest ≡ first_coming of xs (first_coming of ys rest)
 picked_append of [] ys rest = refl
 picked_append of (x ∷ xs) ys rest = ap (mux_signal x.comes (of x)) (picked_append of xs ys rest)
 
 -- of the last i of n stages
 abbrev pub from_stage : (ℕ → View) → (ℕ → Signal) → Brings → ℕ → ℕ → Signal → Signal
-from_stage vs moves what i k rest = picked (brings what) (new_from vs moves i k) rest
+from_stage vs moves what i k rest = first_coming (brought_signal what) (new_from vs moves i k) rest
 
 pub stage_more : (vs : ℕ → View) (moves : ℕ → Signal) (what : Brings) (i j k q : ℕ) (rest : Signal) → j ≡ i + 1 → q ≡ k + 1
-    → from_stage vs moves what j k rest ≡ picked (brings what) (map (new_by (moves k)) (vs k).ended.births) (from_stage vs moves what i q rest)
+    → from_stage vs moves what j k rest ≡ first_coming (brought_signal what) (map (new_by (moves k)) (vs k).ended.births) (from_stage vs moves what i q rest)
 stage_more vs moves what i j k q rest e f =
     let one_more : j ≡ suc i = omega (arith, e) in
     let next : suc k ≡ q = omega (arith, f) in
     ap (λ n. from_stage vs moves what n k rest) one_more
-    ∙ picked_append (brings what) (map (new_by (moves k)) (vs k).ended.births) (new_from vs moves i (suc k)) rest
-    ∙ ap (λ n. picked (brings what) (map (new_by (moves k)) (vs k).ended.births) (from_stage vs moves what i n rest)) next
+    ∙ picked_append (brought_signal what) (map (new_by (moves k)) (vs k).ended.births) (new_from vs moves i (suc k)) rest
+    ∙ ap (λ n. first_coming (brought_signal what) (map (new_by (moves k)) (vs k).ended.births) (from_stage vs moves what i n rest)) next

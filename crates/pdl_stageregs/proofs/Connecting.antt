@@ -22,16 +22,16 @@ use Rattle.pdl_stageregs.specs.declared.nets.StageNets.{StageNets}
 use Rattle.pdl_stageregs.specs.Items.{item_at, ended_item, comer_item}
 use Rattle.pdl_stageregs.specs.Stages.{reg_of, end_of, view_in, views_in}
 use Rattle.pdl_stageregs.specs.Moves.{AreMovesThere, moves_in, moves_at, no_moves}
-use Rattle.pdl_stageregs.specs.Comes.{IsRegNow, TakesNext, FitsBehind, FitsArg, FitsFirst, IsAt, AreFit, IsConnected, arriving, regs_of}
+use Rattle.pdl_stageregs.specs.Comes.{IsRegNow, TakesNext, FitsAfter, FitsArg, FitsFirst, IsAt, AreFit, IsConnected, arriving, regs_of}
 use Rattle.pdl_stageregs.proofs.Taken.{reg_keep, reg_wide, up_to, but_more}
 use Rattle.pdl_stageregs.proofs.Entered.{ended_keep}
 use Rattle.pdl_stageregs.proofs.NewKept.{births_keep}
 use Rattle.pdl_stageregs.proofs.Lists.{view_at, some_stage}
 use Rattle.pdl_stageregs.proofs.Lawful.{comer_out}
 
--- ---- a register behind another stage
+-- ---- a register after another stage
 
-module _ (a b : Circuit) (p : Pipe) (before s : StageNets) (keeps : Keeps a b) (fit : FitsBehind a p before s) (i r : ℕ) (item : Item) (net : Net) (low : i < length s.kept) (at : r ≡ reg_of s i) (is : item_at s.kept i ≡ item)
+module _ (a b : Circuit) (p : Pipe) (before s : StageNets) (keeps : Keeps a b) (fit : FitsAfter a p before s) (i r : ℕ) (item : Item) (net : Net) (low : i < length s.kept) (at : r ≡ reg_of s i) (is : item_at s.kept i ≡ item)
     (means : Means b net (ended_item (view_in b p before) item)) where
   ends_same : (j : Item) → ended_item (view_in b p before) j ≡ ended_item (view_in a p before) j
   ends_same j = ended_keep a b p before j keeps fit.there fit.tickets
@@ -39,15 +39,15 @@ module _ (a b : Circuit) (p : Pipe) (before s : StageNets) (keeps : Keeps a b) (
   net_same : signal b net ≡ ended_item (view_in a p before) (item_at s.kept i)
   net_same = means.same ∙ ends_same item ∙ ap (ended_item (view_in a p before)) (sym is)
 
-  pub behind_reg : IsRegNow b r (signal b net).width
-  behind_reg =
+  pub after_reg : IsRegNow b r (signal b net).width
+  after_reg =
       subst (λ n. IsRegNow b n (signal b net).width) (sym at)
       (reg_wide b (reg_of s i) (ended_item (view_in a p before) (item_at s.kept i)).width (signal b net).width (ap (λ (f : Signal). f.width) (sym net_same)) (reg_keep a b (reg_of s i) _ keeps (fit.kept i low)))
 
   -- it takes what comes out there, else what it holds
-  pub behind_next : (d : Circuit) (comes : Net) → IsThere a comes → next_signal d r ≡ mux_signal (signal b comes) (signal b net) (reg_signal (signal b net).width r)
+  pub after_next : (d : Circuit) (comes : Net) → IsThere a comes → next_signal d r ≡ mux_signal (signal b comes) (signal b net) (reg_signal (signal b net).width r)
       → next_signal d r ≡ mux_signal (signal a comes) (ended_item (view_in a p before) (item_at s.kept i)) (signal a (RegNet r))
-  behind_next d comes there e =
+  after_next d comes there e =
       let h = fit.kept i low in
       let now : signal a (RegNet r) ≡ reg_signal (ended_item (view_in a p before) (item_at s.kept i)).width r = subst (λ n. signal a (RegNet n) ≡ reg_signal (ended_item (view_in a p before) (item_at s.kept i)).width n) (sym at) h.same in
       e
@@ -93,8 +93,8 @@ all_first a ss s h = record {
   there = λ i l. arg_there a ss (reg_of s i) (item_at s.kept i) (h.kept i l);
 }
 
-pub all_behind : (a : Circuit) (p : Pipe) (before s : StageNets) → FitsBehind a p before s → HasAll a s
-all_behind a p before s h = record {
+pub all_after : (a : Circuit) (p : Pipe) (before s : StageNets) → FitsAfter a p before s → HasAll a s
+all_after a p before s h = record {
   valid = h.valid.has;
   kept = λ i l. (h.kept i l).has;
   there = λ i l. (h.kept i l).there;
@@ -102,7 +102,7 @@ all_behind a p before s h = record {
 
 pub all_at : (a : Circuit) (p : Pipe) (ss : List StageNets) (k : ℕ) (s : StageNets) → AreFit a p ss → k < length ss → IsAt ss k s → HasAll a s
 all_at a p ss zero s h l is = all_first a ss s (h.first s is)
-all_at a p ss (suc k) s h l is = let some = some_stage ss k (omega (arith, l)) in all_behind a p some.0 s (h.behind k some.0 s l some.1 is)
+all_at a p ss (suc k) s h l is = let some = some_stage ss k (omega (arith, l)) in all_after a p some.0 s (h.after k some.0 s l some.1 is)
 
 -- what they take next stays where others are told
 pub takes_keep : (b d : Circuit) (low high : ℕ) (s : StageNets) (thread : Signal) (next : Item → Signal → Signal) → end_of s ≤ low → HasAll b s → ExtendsBut (regs_of low high) b d → TakesNext b s thread next → TakesNext d s thread next
@@ -116,8 +116,8 @@ takes_as d s f g next later e n h = record { valid = h.valid ∙ e; kept = λ i 
 
 -- ---- one stage after the other
 
-pub behind_keep : (a b : Circuit) (p : Pipe) (s t : StageNets) → Keeps a b → FitsBehind a p s t → FitsBehind b p s t
-behind_keep a b p s t e h = record {
+pub after_keep : (a b : Circuit) (p : Pipe) (s t : StageNets) → Keeps a b → FitsAfter a p s t → FitsAfter b p s t
+after_keep a b p s t e h = record {
   valid = reg_keep a b t.valid 1 e h.valid;
   there = there_walk a b e s.end h.there;
   tickets = there_keeps a b s.tickets e h.tickets;
@@ -178,13 +178,13 @@ move_now a b ms k x l is e h =
     let same : signal b x.moves ≡ moves_in a ms k = ap (λ (m : MoveNets). signal b m.moves) is ∙ e.kept (moves_at ms k).moves here.0 in
     (subst (λ (m : MoveNets). IsThere b m.moves) (sym is) there, ap (λ (f : Signal). f.width) same ∙ here.1, same)
 
--- what a stage behind another one takes, by the views of all stages
-pub connected_behind : (a b d : Circuit) (p : Pipe) (ss : List StageNets) (ms : List MoveNets) (j : ℕ) (s t : StageNets) (comes moves : Signal) → Keeps a b → suc j < length ss → IsAt ss j s → IsAt ss (suc j) t
+-- what a stage after another one takes, by the views of all stages
+pub connected_after : (a b d : Circuit) (p : Pipe) (ss : List StageNets) (ms : List MoveNets) (j : ℕ) (s t : StageNets) (comes moves : Signal) → Keeps a b → suc j < length ss → IsAt ss j s → IsAt ss (suc j) t
     → AreFit a p ss → comes ≡ moves_in a ms j → moves ≡ moves_in a ms (suc j)
     → TakesNext d t (mux_signal comes one (mux_signal moves zero_bit (reg_signal 1 t.valid))) (λ i f. mux_signal comes (ended_item (view_in b p s) i) f)
     → IsConnected d p (views_in a p ss) (moves_in a ms) (length ss) (suc j) t
-connected_behind a b d p ss ms j s t comes moves e l is at fit c m h =
-    let here = fit.behind j s t l is at in
+connected_after a b d p ss ms j s t comes moves e l is at fit c m h =
+    let here = fit.after j s t l is at in
     takes_as d t (mux_signal comes one (mux_signal moves zero_bit (reg_signal 1 t.valid))) (mux_signal (moves_in a ms j) one (mux_signal (moves_in a ms (suc j)) zero_bit (reg_signal 1 t.valid)))
     (λ i f. mux_signal comes (ended_item (view_in b p s) i) f) (λ i f. mux_signal (moves_in a ms j) (comer_item i (out_of p (views_in a p ss) (moves_in a ms) (suc j) j)) f)
     (ap₂ (λ f g. mux_signal f one (mux_signal g zero_bit (reg_signal 1 t.valid))) c m)

@@ -100,7 +100,7 @@ pub keep_may : (c : Circuit) (f : Form) (k : ℕ) (i : Item) (s t : StageNets) (
 keep_may c f k i s t w v net S o (inl m) = inr (o, m.stage)
 keep_may c f k i s t w v net S o (inr m) = inl m.stage
 
--- behind the first stage
+-- after the first stage
 pub own_var : (f : Form) (k x : ℕ) → 0 < k → x < length f.widths → IsOwn f k (Var x)
 own_var f zero x l low = absurd (omega (arith, l))
 own_var f (suc k) x l low = low

@@ -21,7 +21,7 @@ use Rattle.pdl_stageregs.specs.declared.nets.StageNets.{StageNets}
 use Rattle.pdl_stageregs.specs.Items.{item_at, item_width, ended_item, IsOwn}
 use Rattle.pdl_stageregs.specs.Stages.{reg_of, IsRegister, AreOwn, view_in}
 use Rattle.pdl_stageregs.specs.Moves.{IsGated}
-use Rattle.pdl_stageregs.specs.Comes.{BringsWide, IsBirth, AreBirths, IsRegNow, HasItem, FitsBehind, FitsArg, FitsFirst, IsAt, AreFit}
+use Rattle.pdl_stageregs.specs.Comes.{BringsWide, IsBirth, AreBirths, IsRegNow, HasItem, FitsAfter, FitsArg, FitsFirst, IsAt, AreFit}
 use Rattle.pdl_stageregs.specs.Staged.{IsStaged, AreStaged, AreApart}
 use Rattle.pdl_stageregs.proofs.Taken.{reg_wide}
 
@@ -106,8 +106,8 @@ module _ (c : Circuit) (f : Form) (nexts : List Signal) (ls : Locks) (ss : List 
       wide_item (Held m a) = sym (held_width (parts_in c s.end).held m a st.walk.sized.held)
       wide_item (Ticket m) = sym (width_at nexts m) ∙ ap (λ ws. slice_index ws m) (sym st.nets.tickets_wide) ∙ width_at (signals_in c s.tickets) m
 
-    behind : (k : ℕ) (s t : StageNets) → suc k < length ss → IsAt ss k s → IsAt ss (suc k) t → FitsBehind c f.pipe s t
-    behind k s t l is at =
+    after : (k : ℕ) (s t : StageNets) → suc k < length ss → IsAt ss k s → IsAt ss (suc k) t → FitsAfter c f.pipe s t
+    after k s t l is at =
         let before = all k s (omega (arith, l)) is in
         let here = all (suc k) t l at in
         record {
@@ -122,7 +122,7 @@ module _ (c : Circuit) (f : Form) (nexts : List Signal) (ls : Locks) (ss : List 
     pub are_fit : (low : ℕ) → 0 < length ss → AreApart low (length c.regs) ss → AreFit c f.pipe ss
     are_fit low some apart = record {
       first = λ s is. first s some is;
-      behind = behind;
+      after = after;
       apart = apart.apart;
       below = apart.to;
     }

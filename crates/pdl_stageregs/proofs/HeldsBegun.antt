@@ -10,7 +10,7 @@ use Rattle.pdl_net.specs.Signal.{Signal}
 use Rattle.pdl_net.specs.Meaning.{signal, IsThere}
 use Rattle.pdl_net.specs.Growth.{Extends}
 use Rattle.pdl_net.proofs.Keeps.{extends_trans}
-use Rattle.pdl_pipe_law.specs.Lives.{holds}
+use Rattle.pdl_pipe_law.specs.Lives.{held_from}
 use Rattle.pdl_pipe_law.specs.Walk.{zero_bit}
 use Rattle.pdl_stagenets.specs.declared.nets.HeldNet.{HeldNet}
 use Rattle.pdl_stagenets.specs.Parts.{Each, Held as HeldPart, held_in, held_of, parts_in}
@@ -19,7 +19,7 @@ use Rattle.pdl_stageregs.specs.declared.nets.Item.TheVariants.{Held}
 use Rattle.pdl_stageregs.specs.declared.nets.StageNets.{StageNets}
 use Rattle.pdl_stageregs.specs.Items.{IsSameConstant}
 use Rattle.pdl_stageregs.specs.Stages.{end_of, IsFrame, IsBegunBy, AreOwn}
-use Rattle.pdl_stageregs.specs.Begun.{is_listed, MayAdd, AddsHeld, IsAtFront, HasHeldBehind}
+use Rattle.pdl_stageregs.specs.Begun.{is_listed, MayAdd, AddsHeld, IsAtFront, HasHeldAfter}
 use Rattle.pdl_stageregs.proofs.Entered.{frame_kept, frame_may, own_more, own_held, keep_may, by_may, by_new, may_there, may_wide}
 use Rattle.pdl_stageregs.proofs.VarsBegun.{may_rest, front_may}
 
@@ -83,7 +83,7 @@ pub record HeldsSoFar (a c : Circuit) (f : Form) (nexts : List Signal) (k : ℕ)
   pub there : Each (λ (h : HeldNet). IsThere c h.net) s.held
   pub one : Each (λ (h : HeldNet). (signal c h.net).width ≡ 1) s.held
   pub sound : (m v : ℕ) → is_listed s.held m v ≡ true → is_listed hs m v ≡ true
-  pub listed : (m v : ℕ) → holds f.pipe k m v ≡ true → is_listed hs m v ≡ true → is_listed s.held m v ≡ true
+  pub listed : (m v : ℕ) → held_from f.pipe k m v ≡ true → is_listed hs m v ≡ true → is_listed s.held m v ≡ true
   pub begun : (m v : ℕ) → is_listed s.held m v ≡ true → IsBegunBy f nexts s (Held m v) (held_of (map (held_in c) s.held) m v) (Settles a before m v)
   pub own : AreOwn f k s
   pub valid : s.valid ≡ s0.valid
@@ -97,7 +97,7 @@ or_cases true b e = inl refl
 or_cases false b e = inr (refl, e)
 
 module _ (a b c : Circuit) (f : Form) (nexts : List Signal) (k : ℕ) (before s0 s s' : StageNets) (hs : List HeldNet) (h : HeldNet) (bc : Extends b c) (last : end_of s' ≡ length c.regs)
-    (same : (m v : ℕ) → held_of (parts_in b before.end).held m v ≡ held_of (parts_in a before.end).held m v) (so : HeldsSoFar a b f nexts k before s0 s hs) (behind : 0 < k) where
+    (same : (m v : ℕ) → held_of (parts_in b before.end).held m v ≡ held_of (parts_in a before.end).held m v) (so : HeldsSoFar a b f nexts k before s0 s hs) (after : 0 < k) where
   there_now : Each (λ (x : HeldNet). IsThere c x.net) s.held
   there_now = each_map (λ (x : HeldNet). IsThere b x.net) (λ x. IsThere c x.net) (λ x t. bc.there x.net t) s.held so.there
 
@@ -109,7 +109,7 @@ module _ (a b c : Circuit) (f : Form) (nexts : List Signal) (k : ℕ) (before s0
   held_now m v = ap (λ xs. held_of xs m v) (sym (map_each (held_in c) (held_in b) (λ x. IsThere b x.net) (λ x t. ap (λ g. record { mem = x.mem; var = x.var; signal = g }) (bc.kept x.net t)) s.held so.there))
 
   -- nothing was added, as it was listed or isn't asked for
-  helds_same : s' ≡ s → (holds f.pipe k h.mem h.var ≡ true → is_listed s.held h.mem h.var ≡ true) → HeldsSoFar a c f nexts k before s0 s' (hs ++ h ∷ [])
+  helds_same : s' ≡ s → (held_from f.pipe k h.mem h.var ≡ true → is_listed s.held h.mem h.var ≡ true) → HeldsSoFar a c f nexts k before s0 s' (hs ++ h ∷ [])
   helds_same e old = subst (λ (u : StageNets). HeldsSoFar a c f nexts k before s0 u (hs ++ h ∷ [])) (sym e) record {
     extends = extends_trans a b c so.extends bc;
     frame = frame_kept f nexts k b c s bc (ap end_of (sym e) ∙ last) so.frame;
@@ -126,11 +126,11 @@ module _ (a b c : Circuit) (f : Form) (nexts : List Signal) (k : ℕ) (before s0
     end = so.end;
   }
     where
-      seen : (m v : ℕ) → holds f.pipe k m v ≡ true → (is_listed hs m v ≡ true) ⊎ ((is_listed hs m v ≡ false) × (is_it h m v ≡ true)) → is_listed s.held m v ≡ true
+      seen : (m v : ℕ) → held_from f.pipe k m v ≡ true → (is_listed hs m v ≡ true) ⊎ ((is_listed hs m v ≡ false) × (is_it h m v ≡ true)) → is_listed s.held m v ≡ true
       seen m v need (inl q) = so.listed m v need q
       seen m v need (inr q) =
           let i = is_it_same h m v q.1 in
-          subst (λ n. is_listed s.held m n ≡ true) i.1 (subst (λ n. is_listed s.held n h.var ≡ true) i.0 (old (subst (λ n. holds f.pipe k n h.var ≡ true) (sym i.0) (subst (λ n. holds f.pipe k m n ≡ true) (sym i.1) need))))
+          subst (λ n. is_listed s.held m n ≡ true) i.1 (subst (λ n. is_listed s.held n h.var ≡ true) i.0 (old (subst (λ n. held_from f.pipe k n h.var ≡ true) (sym i.0) (subst (λ n. held_from f.pipe k m n ≡ true) (sym i.1) need))))
 
   module _ (net : Net) (t : StageNets) (may : MayAdd c s t (Held h.mem h.var) 1 0 net (IsSameConstant (held_of (parts_in b before.end).held h.mem h.var)))
       (is : s' ≡ record t { held = t.held ++ record { mem = h.mem; var = h.var; net = net } ∷ [] }) (fresh : is_listed s.held h.mem h.var ≡ false) where
@@ -171,7 +171,7 @@ module _ (a b c : Circuit) (f : Form) (nexts : List Signal) (k : ℕ) (before s0
           sound = λ m v q. listed_more hs h m v ∙ sounds m v (or_cases (is_listed s.held m v) (is_it y m v) (sym (listed_more s.held y m v) ∙ q));
           listed = λ m v need q. listed_more s.held y m v ∙ seen m v need (or_cases (is_listed hs m v) (is_it h m v) (sym (listed_more hs h m v) ∙ q));
           begun = λ m v q. by m v (or_cases (is_listed s.held m v) (is_it y m v) (sym (listed_more s.held y m v) ∙ q));
-          own = own_more f k (Held h.mem h.var) s t (keep_may c f k (Held h.mem h.var) s t 1 0 net _ (own_held f k h.mem h.var behind) may) so.own;
+          own = own_more f k (Held h.mem h.var) s t (keep_may c f k (Held h.mem h.var) s t 1 0 net _ (own_held f k h.mem h.var after) may) so.own;
           valid = may_rest (λ u. u.valid) c s t (Held h.mem h.var) 1 0 net _ (λ i. refl) may ∙ so.valid;
           kept = front_may c s0.kept s t (Held h.mem h.var) 1 0 net _ may so.kept;
           vars = may_rest (λ u. u.vars) c s t (Held h.mem h.var) 1 0 net _ (λ i. refl) may ∙ so.vars;
@@ -183,7 +183,7 @@ module _ (a b c : Circuit) (f : Form) (nexts : List Signal) (k : ℕ) (before s0
         sounds m v (inl q) = or_left (is_listed hs m v) (is_it h m v) (so.sound m v q)
         sounds m v (inr q) = or_right (is_listed hs m v) (is_it h m v) q.1
 
-        seen : (m v : ℕ) → holds f.pipe k m v ≡ true → (is_listed hs m v ≡ true) ⊎ ((is_listed hs m v ≡ false) × (is_it h m v ≡ true)) → (is_listed s.held m v || is_it y m v) ≡ true
+        seen : (m v : ℕ) → held_from f.pipe k m v ≡ true → (is_listed hs m v ≡ true) ⊎ ((is_listed hs m v ≡ false) × (is_it h m v ≡ true)) → (is_listed s.held m v || is_it y m v) ≡ true
         seen m v need (inl q) = or_left (is_listed s.held m v) (is_it y m v) (so.listed m v need q)
         seen m v need (inr q) = or_right (is_listed s.held m v) (is_it y m v) q.1
 
@@ -198,7 +198,7 @@ pub helds_next : (a b c : Circuit) (f : Form) (nexts : List Signal) (k : ℕ) (b
 helds_next a b c f nexts k before s0 s s' hs h bc last same (inl q) so l = helds_same a b c f nexts k before s0 s s' hs h bc last same so l q.0 q.1
 helds_next a b c f nexts k before s0 s s' hs h bc last same (inr q) so l = helds_more a b c f nexts k before s0 s s' hs h bc last same so l q.0 q.1 q.2 q.3 q.4
 
-pub helds_all : (a c : Circuit) (f : Form) (nexts : List Signal) (k : ℕ) (before s0 s : StageNets) → HeldsSoFar a c f nexts k before s0 s before.end.held.items → HasHeldBehind a c f nexts k before s
+pub helds_all : (a c : Circuit) (f : Form) (nexts : List Signal) (k : ℕ) (before s0 s : StageNets) → HeldsSoFar a c f nexts k before s0 s before.end.held.items → HasHeldAfter a c f nexts k before s
 helds_all a c f nexts k before s0 s so = record {
   there = so.there;
   one = widths s.held so.one;
@@ -209,11 +209,11 @@ helds_all a c f nexts k before s0 s so = record {
     widths [] o = tt
     widths (x ∷ xs) o = (o.0, widths xs o.1)
 
-    before_none : (m v : ℕ) → holds f.pipe k m v ≡ true → is_listed s.held m v ≡ false → (b : Bool) → is_listed before.end.held.items m v ≡ b → held_of (parts_in a before.end).held m v ≡ zero_bit
+    before_none : (m v : ℕ) → held_from f.pipe k m v ≡ true → is_listed s.held m v ≡ false → (b : Bool) → is_listed before.end.held.items m v ≡ b → held_of (parts_in a before.end).held m v ≡ zero_bit
     before_none m v need e true q = absurd (false≢true (sym e ∙ so.listed m v need q))
     before_none m v need e false q = held_none a before.end.held.items m v q
 
-    by : (m v : ℕ) → holds f.pipe k m v ≡ true → (b : Bool) → is_listed s.held m v ≡ b → IsBegunBy f nexts s (Held m v) (held_of (map (held_in c) s.held) m v) (Settles a before m v)
+    by : (m v : ℕ) → held_from f.pipe k m v ≡ true → (b : Bool) → is_listed s.held m v ≡ b → IsBegunBy f nexts s (Held m v) (held_of (map (held_in c) s.held) m v) (Settles a before m v)
     by m v need true q = so.begun m v q
     by m v need false q =
         let was = before_none m v need q (is_listed before.end.held.items m v) refl in

@@ -53,11 +53,11 @@ settled_back a d f nexts ss (suc k) i g e t l h =
     ∙ ap (λ v. ended_item v i) (sym (view_at a f.pipe ss k s (omega (arith, l)) is)) in
     subst (λ x. IsSameConstant x g) same h
 
--- ---- behind another stage
+-- ---- after another stage
 
-pub settled_behind : (a : Circuit) (p : Pipe) (ss : List StageNets) (n j : ℕ) (s : StageNets) (i : Item) (f g : Signal) → j + 1 ≡ n → n ≤ length ss → get_or ss j s ≡ s → f ≡ ended_item (view_in a p s) i → IsSameConstant f g → IsSettled a p ss n i g
-settled_behind a p ss zero j s i f g e l is same h = absurd (omega (arith, e))
-settled_behind a p ss (suc k) j s i f g e l is same h =
+pub settled_after : (a : Circuit) (p : Pipe) (ss : List StageNets) (n j : ℕ) (s : StageNets) (i : Item) (f g : Signal) → j + 1 ≡ n → n ≤ length ss → get_or ss j s ≡ s → f ≡ ended_item (view_in a p s) i → IsSameConstant f g → IsSettled a p ss n i g
+settled_after a p ss zero j s i f g e l is same h = absurd (omega (arith, e))
+settled_after a p ss (suc k) j s i f g e l is same h =
     let at : j ≡ k = omega (arith, e) in
     let here : get_or ss k s ≡ s = subst (λ n. get_or ss n s ≡ s) at is in
     subst (λ x. IsSameConstant x g) (same ∙ ap (λ v. ended_item v i) (sym (view_at a p ss k s (omega (arith, l)) here))) h

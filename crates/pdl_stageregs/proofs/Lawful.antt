@@ -7,7 +7,7 @@ use Rattle.pdl_net.specs.Signal.{Signal, no_signal, const_value, const_signal, r
 use Rattle.pdl_net.specs.Meaning.{next_signal}
 use Rattle.pdl_flatnets.specs.Nets.{signal_at}
 use Rattle.pdl_pipe_law.specs.Walk.{Birth, zero_bit}
-use Rattle.pdl_pipe_law.specs.Views.{View, Comer, new_by, new_from, out_of, comers, picked}
+use Rattle.pdl_pipe_law.specs.Views.{View, Comer, new_by, new_from, out_of, comers, first_coming}
 use Rattle.pdl_pipe_law.specs.Compiled.{Becomes}
 use Rattle.pdl_pipe_law.proofs.Signals.{mux_by, zero_is}
 use Rattle.pdl_pipe_law.proofs.Establish.{becomes_reg, becomes_const, AllBring}
@@ -23,12 +23,12 @@ use Rattle.pdl_stageregs.proofs.Ways.{comers_first, comers_next, arriving_is}
 pub becomes_as : (c : Circuit) (f g h : Signal) → Becomes c f g → ((s : State) → g.value s ≡ h.value s) → Becomes c f h
 becomes_as c f g h b e s t suits regs = b s t suits regs ∙ e s
 
-pub picked_rest : (of : Comer → Signal) (os : List Comer) (f g : Signal) (s : State) → f.value s ≡ g.value s → (picked of os f).value s ≡ (picked of os g).value s
+pub picked_rest : (of : Comer → Signal) (os : List Comer) (f g : Signal) (s : State) → f.value s ≡ g.value s → (first_coming of os f).value s ≡ (first_coming of os g).value s
 picked_rest of [] f g s e = e
 picked_rest of (o ∷ os) f g s e =
-    mux_by s o.comes (of o) (picked of os f)
+    mux_by s o.comes (of o) (first_coming of os f)
     ∙ ap (λ n. if o.comes.value s == 1 then (of o).value s else n) (picked_rest of os f g s e)
-    ∙ sym (mux_by s o.comes (of o) (picked of os g))
+    ∙ sym (mux_by s o.comes (of o) (first_coming of os g))
 
 -- what is never killed
 pub stays_is : (s : State) (moves valid : Signal) → (mux_signal moves zero_bit valid).value s ≡ (mux_signal moves zero_bit (mux_signal zero_bit zero_bit valid)).value s
@@ -93,34 +93,34 @@ comer_out p vs moves q k (Ticket m) = refl
 
 module _ (d : Circuit) (p : Pipe) (line : IsInLine p) (vs : ℕ → View) (moves : ℕ → Signal) where
   -- a register that takes what arrives becomes what the comers bring
-  pub arrives : (of : Comer → Signal) (w r k : ℕ) (f : Signal) → k < length p.stages → HasReg d r → next_signal d r ≡ arriving p vs moves (length p.stages) k of f → Becomes d (reg_signal w r) (picked of (comers p vs moves k) f)
+  pub arrives : (of : Comer → Signal) (w r k : ℕ) (f : Signal) → k < length p.stages → HasReg d r → next_signal d r ≡ arriving p vs moves (length p.stages) k of f → Becomes d (reg_signal w r) (first_coming of (comers p vs moves k) f)
   arrives of w r k f l has next =
-      becomes_as d (reg_signal w r) (arriving p vs moves (length p.stages) k of f) (picked of (comers p vs moves k) f)
+      becomes_as d (reg_signal w r) (arriving p vs moves (length p.stages) k of f) (first_coming of (comers p vs moves k) f)
       (becomes_reg d w r (arriving p vs moves (length p.stages) k of f) has next) (arriving_is p line vs moves of f k l)
 
   -- a constant that all bring stays
-  constant : (of : Comer → Signal) (w v : ℕ) (f : Signal) (os : List Comer) → f ≡ const_signal w v → AllBring of v os → Becomes d f (picked of os f)
-  constant of w v f os e h = subst (λ (g : Signal). Becomes d g (picked of os g)) (sym e) (becomes_const d w v of os h)
+  constant : (of : Comer → Signal) (w v : ℕ) (f : Signal) (os : List Comer) → f ≡ const_signal w v → AllBring of v os → Becomes d f (first_coming of os f)
+  constant of w v f os e h = subst (λ (g : Signal). Becomes d g (first_coming of os g)) (sym e) (becomes_const d w v of os h)
 
   pub zero_stays : (params : ℕ) → params ≡ length p.start → 0 < length p.stages → ((j : ℕ) → j < length p.stages → AreShortCalls params (vs j).ended.births) → (i : Item) (f : Signal) → IsZero p i f
-      → Becomes d f (picked (comer_item i) (comers p vs moves 0) f)
+      → Becomes d f (first_coming (comer_item i) (comers p vs moves 0) f)
   zero_stays params e l short (Var x) f h =
       let const = h.1 in
-      subst (λ os. Becomes d f (picked (comer_item (Var x)) os f)) (sym (comers_first p line vs moves))
+      subst (λ os. Becomes d f (first_coming (comer_item (Var x)) os f)) (sym (comers_first p line vs moves))
       (constant (comer_item (Var x)) const.0 0 f (new_from vs moves (length p.stages) 0) const.1 (var_brings vs moves params x (length p.stages) 0 (let q = h.0 in omega (arith, q, e)) (λ j a b. short j (omega (arith, b)))))
   zero_stays params e l short (Held m a) f h =
-      subst (λ os. Becomes d f (picked (comer_item (Held m a)) os f)) (sym (comers_first p line vs moves))
+      subst (λ os. Becomes d f (first_coming (comer_item (Held m a)) os f)) (sym (comers_first p line vs moves))
       (constant (comer_item (Held m a)) 1 0 f (new_from vs moves (length p.stages) 0) h (held_brings vs moves m a (length p.stages) 0))
   zero_stays params e l short (Ticket m) f h =
-      subst (λ os. Becomes d f (picked (comer_item (Ticket m)) os f)) (sym (comers_first p line vs moves))
+      subst (λ os. Becomes d f (first_coming (comer_item (Ticket m)) os f)) (sym (comers_first p line vs moves))
       (constant (comer_item (Ticket m)) 1 0 f (new_from vs moves (length p.stages) 0) h (ticket_brings vs moves m (length p.stages) 0))
 
-  pub same_stays : (k : ℕ) → suc k < length p.stages → (i : Item) (g f : Signal) → g ≡ ended_item (vs k) i → IsSameConstant g f → Becomes d f (picked (comer_item i) (comers p vs moves (suc k)) f)
+  pub same_stays : (k : ℕ) → suc k < length p.stages → (i : Item) (g f : Signal) → g ≡ ended_item (vs k) i → IsSameConstant g f → Becomes d f (first_coming (comer_item i) (comers p vs moves (suc k)) f)
   same_stays k l i g f e h =
       let const = h.0 in
       let w = const.0 in
       let v = const.1 in
       let is : g ≡ const_signal w v = const.2 in
       let brings : comer_item i (out_of p vs moves (suc k) k) ≡ const_signal w v = comer_out p vs moves (suc k) k i ∙ sym e ∙ is in
-      subst (λ os. Becomes d f (picked (comer_item i) os f)) (sym (comers_next p line vs moves k l))
+      subst (λ os. Becomes d f (first_coming (comer_item i) os f)) (sym (comers_next p line vs moves k l))
       (constant (comer_item i) w v f (out_of p vs moves (suc k) k ∷ []) (h.1 ∙ is) ((λ s. const_is s w v (comer_item i (out_of p vs moves (suc k) k)) brings), tt))

@@ -15,7 +15,7 @@ use Rattle.pdl_net.specs.Well.{IsWell}
 use Rattle.pdl_flatnets.specs.Nets.{signal_at, widths_of}
 use Rattle.pdl_flatnets.proofs.NetLists.{length_widths}
 use Rattle.pdl_pipe_law.specs.Walk.{Locks, Birth, is_locked, one, zero_bit, both, IsFresh, AreRows}
-use Rattle.pdl_pipe_law.specs.Views.{View, Comer, no_gates, comers, picked, free, way_on}
+use Rattle.pdl_pipe_law.specs.Views.{View, Comer, no_gates, comers, first_coming, free, way_on}
 use Rattle.pdl_pipe_law.specs.Compiled.{Same, Becomes, StartsAs, IsStage}
 use Rattle.pdl_pipe_law.proofs.Establish.{starts_reg, both_one}
 use Rattle.pdl_lives.specs.Needs.{goes_with}
@@ -106,16 +106,16 @@ module _ (c d : Circuit) (f : Form) (nexts : List Signal) (ls : Locks) (ss : Lis
     reg_has : (i : ℕ) → i < length s.kept → HasReg d (reg_of s i)
     reg_has i l = keeps.has_reg (reg_of s i) (st.registers.kept i l).has
 
-    settled : (j : ℕ) → j ≡ k → (i : Item) (g : Signal) → IsSettled c f.pipe ss j i g → Becomes d g (picked (comer_item i) (comers f.pipe (views_in c f.pipe ss) (moves_in c ms) j) g)
+    settled : (j : ℕ) → j ≡ k → (i : Item) (g : Signal) → IsSettled c f.pipe ss j i g → Becomes d g (first_coming (comer_item i) (comers f.pipe (views_in c f.pipe ss) (moves_in c ms) j) g)
     settled zero e i g h = zero_stays d f.pipe plain.line (views_in c f.pipe ss) (moves_in c ms) (length f.pipe.start) refl (let q = plain.some in omega (arith, q)) short i g h
     settled (suc j) e i g h = same_stays d f.pipe plain.line (views_in c f.pipe ss) (moves_in c ms) j (omega (arith, e, low)) i _ g refl h
 
     -- each item becomes what the comers bring
-    item_next : (i : Item) → is_needed f.pipe k i ≡ true → Becomes d (begun_item (view_in c f.pipe s) i) (picked (comer_item i) (comers f.pipe (views_in c f.pipe ss) (moves_in c ms) k) (begun_item (view_in c f.pipe s) i))
+    item_next : (i : Item) → is_needed f.pipe k i ≡ true → Becomes d (begun_item (view_in c f.pipe s) i) (first_coming (comer_item i) (comers f.pipe (views_in c f.pipe ss) (moves_in c ms) k) (begun_item (view_in c f.pipe s) i))
     item_next i need = by (st.begun i need)
       where
         by : IsBegunBy f nexts s i (begun_item (view_in c f.pipe s) i) (IsSettled c f.pipe ss k i)
-            → Becomes d (begun_item (view_in c f.pipe s) i) (picked (comer_item i) (comers f.pipe (views_in c f.pipe ss) (moves_in c ms) k) (begun_item (view_in c f.pipe s) i))
+            → Becomes d (begun_item (view_in c f.pipe s) i) (first_coming (comer_item i) (comers f.pipe (views_in c f.pipe ss) (moves_in c ms) k) (begun_item (view_in c f.pipe s) i))
         by (inr h) = settled k refl i (begun_item (view_in c f.pipe s) i) h
         by (inl h) =
             let j = h.0 in
@@ -127,13 +127,13 @@ module _ (c d : Circuit) (f : Form) (nexts : List Signal) (ls : Locks) (ss : Lis
             (taken k s low' is).kept j l
             ∙ ap (λ (x : Item). arriving f.pipe (views_in c f.pipe ss) (moves_in c ms) (length f.pipe.stages) k (comer_item x) (signal d (RegNet (reg_of s j)))) same
             ∙ ap (arriving f.pipe (views_in c f.pipe ss) (moves_in c ms) (length f.pipe.stages) k (comer_item i)) now in
-            subst (λ (g : Signal). Becomes d g (picked (comer_item i) (comers f.pipe (views_in c f.pipe ss) (moves_in c ms) k) g)) (sym reg)
+            subst (λ (g : Signal). Becomes d g (first_coming (comer_item i) (comers f.pipe (views_in c f.pipe ss) (moves_in c ms) k) g)) (sym reg)
             (arrives d f.pipe plain.line (views_in c f.pipe ss) (moves_in c ms) (comer_item i) (item_width f nexts i) (reg_of s j) k (reg_signal (item_width f nexts i) (reg_of s j)) low (reg_has j l) next)
 
-    valid_next : Becomes d (reg_signal 1 s.valid) (picked (λ (o : Comer). one) (comers f.pipe (views_in c f.pipe ss) (moves_in c ms) k) (mux_signal (moves_in c ms k) zero_bit (mux_signal zero_bit zero_bit (reg_signal 1 s.valid))))
+    valid_next : Becomes d (reg_signal 1 s.valid) (first_coming (λ (o : Comer). one) (comers f.pipe (views_in c f.pipe ss) (moves_in c ms) k) (mux_signal (moves_in c ms k) zero_bit (mux_signal zero_bit zero_bit (reg_signal 1 s.valid))))
     valid_next =
-        becomes_as d (reg_signal 1 s.valid) (picked (λ (o : Comer). one) (comers f.pipe (views_in c f.pipe ss) (moves_in c ms) k) (mux_signal (moves_in c ms k) zero_bit (reg_signal 1 s.valid)))
-        (picked (λ (o : Comer). one) (comers f.pipe (views_in c f.pipe ss) (moves_in c ms) k) (mux_signal (moves_in c ms k) zero_bit (mux_signal zero_bit zero_bit (reg_signal 1 s.valid))))
+        becomes_as d (reg_signal 1 s.valid) (first_coming (λ (o : Comer). one) (comers f.pipe (views_in c f.pipe ss) (moves_in c ms) k) (mux_signal (moves_in c ms k) zero_bit (reg_signal 1 s.valid)))
+        (first_coming (λ (o : Comer). one) (comers f.pipe (views_in c f.pipe ss) (moves_in c ms) k) (mux_signal (moves_in c ms k) zero_bit (mux_signal zero_bit zero_bit (reg_signal 1 s.valid))))
         (arrives d f.pipe plain.line (views_in c f.pipe ss) (moves_in c ms) (λ (o : Comer). one) 1 s.valid k (mux_signal (moves_in c ms k) zero_bit (reg_signal 1 s.valid)) low (keeps.has_reg s.valid st.registers.valid.has) (taken k s low' is).valid)
         (λ t. picked_rest (λ (o : Comer). one) (comers f.pipe (views_in c f.pipe ss) (moves_in c ms) k) (mux_signal (moves_in c ms k) zero_bit (reg_signal 1 s.valid))
         (mux_signal (moves_in c ms k) zero_bit (mux_signal zero_bit zero_bit (reg_signal 1 s.valid))) t (stays_is t (moves_in c ms k) (reg_signal 1 s.valid)))
@@ -148,12 +148,12 @@ module _ (c d : Circuit) (f : Form) (nexts : List Signal) (ls : Locks) (ss : Lis
       leaves = λ t suits. ap (λ (g : Signal). g.value t)
           (moved k low ∙ ap (λ x. both (views_in c f.pipe ss k).valid (both (views_in c f.pipe ss k).ended.ready x)) (sym (both_one (way_on (stage_at f.pipe k).next (free (views_in c f.pipe ss) (moves_in c ms)) (views_in c f.pipe ss k).ended))));
       valid_start = subst (λ (u : View). StartsAs d u.valid (if k == 0 then 1 else 0)) (sym at) (starts_at 1 s.valid _ st.registers.valid);
-      valid = subst (λ (u : View). Becomes d u.valid (picked (λ (o : Comer). one) (comers f.pipe (views_in c f.pipe ss) (moves_in c ms) k) (mux_signal (moves_in c ms k) zero_bit (mux_signal zero_bit zero_bit u.valid)))) (sym at) valid_next;
-      vars = λ x need. subst (λ (u : View). Becomes d (u.kept x) (picked (λ (o : Comer). o.vars x) (comers f.pipe (views_in c f.pipe ss) (moves_in c ms) k) (u.begun.vars x))) (sym at) (item_next (Var x) need);
-      held = λ m a need. subst (λ (u : View). Becomes d (u.begun.held m a) (picked (λ (o : Comer). o.held m a) (comers f.pipe (views_in c f.pipe ss) (moves_in c ms) k) (u.begun.held m a))) (sym at) (item_next (Held m a) need);
+      valid = subst (λ (u : View). Becomes d u.valid (first_coming (λ (o : Comer). one) (comers f.pipe (views_in c f.pipe ss) (moves_in c ms) k) (mux_signal (moves_in c ms k) zero_bit (mux_signal zero_bit zero_bit u.valid)))) (sym at) valid_next;
+      vars = λ x need. subst (λ (u : View). Becomes d (u.kept x) (first_coming (λ (o : Comer). o.vars x) (comers f.pipe (views_in c f.pipe ss) (moves_in c ms) k) (u.begun.vars x))) (sym at) (item_next (Var x) need);
+      held = λ m a need. subst (λ (u : View). Becomes d (u.begun.held m a) (first_coming (λ (o : Comer). o.held m a) (comers f.pipe (views_in c f.pipe ss) (moves_in c ms) k) (u.begun.held m a))) (sym at) (item_next (Held m a) need);
       guess_long = subst (λ (u : View). length u.begun.guess ≡ length f.pipe.start) (sym at) (length-replicate (length f.pipe.start) zero_bit);
       guess = λ i l e. absurd (false≢true (sym (plain.plain k) ∙ e));
       tickets_first = λ m e l. subst (λ (u : View). Same d (u.tickets m) (ls.ticket m)) (sym at) (λ t suits. ap (λ (g : Signal). g.value t) (let q = next_is m e in st.tickets m q.0 (no_ticket f.pipe k m l) ∙ q.1));
-      tickets = λ m e under over. subst (λ (u : View). Becomes d (u.tickets m) (picked (λ (o : Comer). o.tickets m) (comers f.pipe (views_in c f.pipe ss) (moves_in c ms) k) (u.tickets m))) (sym at)
+      tickets = λ m e under over. subst (λ (u : View). Becomes d (u.tickets m) (first_coming (λ (o : Comer). o.tickets m) (comers f.pipe (views_in c f.pipe ss) (moves_in c ms) k) (u.tickets m))) (sym at)
           (item_next (Ticket m) (own_ticket f.pipe k m e under over));
     }

@@ -1,4 +1,4 @@
--- The stages of a pipe, made one behind the other.
+-- The stages of a pipe, made one after the other.
 use Rattle.std.proofs.Common.{◌≡◌, ℕ, ◌+◌, ◌<◌, ◌≤◌, List, [], ◌∷◌, ◌++◌, length, refl, sym, ap, ◌∙◌, arith}
 use Rattle.std.proofs.lemmas.List.{get_or_append_left, length-append}
 use Rattle.pdl_form.specs.Form.{Form}

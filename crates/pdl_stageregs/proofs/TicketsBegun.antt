@@ -48,12 +48,12 @@ pub record TicketsSoFar (a c : Circuit) (f : Form) (nexts : List Signal) (k : �
 pub keep_ticket : (c : Circuit) (f : Form) (k m : ℕ) (s t : StageNets) (w v : ℕ) (net : Net) (S : Signal → Type 0) → m < length f.pipe.mems → (goes_with f.pipe k m ≡ false → t ≡ s) → MayAdd c s t (Ticket m) w v net S → MayKeep f k (Ticket m) s t
 keep_ticket c f k m s t w v net S low none may = at (goes_with f.pipe k m) refl
   where
-    behind : (n : ℕ) → goes_with f.pipe n m ≡ true → 0 < n
-    behind zero e = absurd (false≢true (sym (no_ticket f.pipe 0 m (omega arith)) ∙ e))
-    behind (suc n) e = omega arith
+    after : (n : ℕ) → goes_with f.pipe n m ≡ true → 0 < n
+    after zero e = absurd (false≢true (sym (no_ticket f.pipe 0 m (omega arith)) ∙ e))
+    after (suc n) e = omega arith
 
     at : (b : Bool) → goes_with f.pipe k m ≡ b → MayKeep f k (Ticket m) s t
-    at true e = keep_may c f k (Ticket m) s t w v net S (own_ticket f k m (behind k e) low) may
+    at true e = keep_may c f k (Ticket m) s t w v net S (own_ticket f k m (after k e) low) may
     at false e = inl (none e)
 
 -- a ticket with which a stage of these ones begins

@@ -12,7 +12,7 @@ use Rattle.pdl_net.specs.Growth.{Extends}
 use Rattle.pdl_net.proofs.Keeps.{extends_trans, extends_keeps}
 use Rattle.pdl_flatnets.specs.Nets.{NetsThere, signals_in, signal_at, widths_of}
 use Rattle.pdl_flatnets.proofs.NetLists.{there_keeps, signals_keep, net_more, length_signals}
-use Rattle.pdl_pipe_law.specs.Lives.{lives}
+use Rattle.pdl_pipe_law.specs.Lives.{lives_from}
 use Rattle.pdl_stageregs.specs.declared.nets.Item.{Item}
 use Rattle.pdl_stageregs.specs.declared.nets.Item.TheVariants.{Var}
 use Rattle.pdl_stageregs.specs.declared.nets.StageNets.{StageNets}
@@ -33,7 +33,7 @@ pub record VarsSoFar (a c : Circuit) (f : Form) (nexts : List Signal) (ss : List
   pub there : NetsThere c s.vars
   pub count : length s.vars ≡ x
   pub wide : widths_of (signals_in c s.vars) ≡ take x f.widths
-  pub begun : (y : ℕ) → y < x → lives f.pipe k y ≡ true → IsBegunBy f nexts s (Var y) (signal_at (signals_in c s.vars) y) (IsSettled a f.pipe ss k (Var y))
+  pub begun : (y : ℕ) → y < x → lives_from f.pipe k y ≡ true → IsBegunBy f nexts s (Var y) (signal_at (signals_in c s.vars) y) (IsSettled a f.pipe ss k (Var y))
   pub own : AreOwn f k s
   pub valid : s.valid ≡ s0.valid
   pub held : s.held ≡ s0.held
@@ -72,11 +72,11 @@ front_may c xs s t i w v net S (inl m) h =
 
 -- a variable with which a stage of these ones begins
 abbrev VarBegun : Circuit → Circuit → Form → List Signal → List StageNets → ℕ → StageNets → List Net → ℕ → Type 0
-VarBegun a c f nexts ss k t xs y = lives f.pipe k y ≡ true → IsBegunBy f nexts (with_vars t xs) (Var y) (signal_at (signals_in c xs) y) (IsSettled a f.pipe ss k (Var y))
+VarBegun a c f nexts ss k t xs y = lives_from f.pipe k y ≡ true → IsBegunBy f nexts (with_vars t xs) (Var y) (signal_at (signals_in c xs) y) (IsSettled a f.pipe ss k (Var y))
 
 pub vars_more : (a b c : Circuit) (f : Form) (nexts : List Signal) (ss : List StageNets) (k : ℕ) (s0 s t : StageNets) (x : ℕ) (net : Net) (S : Signal → Type 0)
     → x < length f.widths → Extends b c → MayAdd c s t (Var x) (slice_index f.widths x) (first_value f.pipe k (Var x)) net S → end_of t ≡ length c.regs
-    → ((g : Signal) → S g → lives f.pipe k x ≡ true → IsSettled a f.pipe ss k (Var x) g) → MayKeep f k (Var x) s t
+    → ((g : Signal) → S g → lives_from f.pipe k x ≡ true → IsSettled a f.pipe ss k (Var x) g) → MayKeep f k (Var x) s t
     → VarsSoFar a b f nexts ss k s0 s x → VarsSoFar a c f nexts ss k s0 (with_vars t (t.vars ++ net ∷ [])) (x + 1)
 vars_more a b c f nexts ss k s0 s t x net S low bc may last settles keep h =
     let e = extends_keeps b c bc in
@@ -108,7 +108,7 @@ vars_more a b c f nexts ss k s0 s t x net S low bc may last settles keep h =
     same_vars : t.vars ≡ s.vars
     same_vars = may_rest (λ u. u.vars) c s t (Var x) (slice_index f.widths x) (first_value f.pipe k (Var x)) net S (λ i. refl) may
 
-    old : (y : ℕ) → y < x → lives f.pipe k y ≡ true → IsBegunBy f nexts s (Var y) (signal_at (signals_in b s.vars) y) (IsSettled a f.pipe ss k (Var y))
+    old : (y : ℕ) → y < x → lives_from f.pipe k y ≡ true → IsBegunBy f nexts s (Var y) (signal_at (signals_in b s.vars) y) (IsSettled a f.pipe ss k (Var y))
         → IsBegunBy f nexts (with_vars t (t.vars ++ net ∷ [])) (Var y) (signal_at (signals_in c (t.vars ++ net ∷ [])) y) (IsSettled a f.pipe ss k (Var y))
     old y l alive q =
         let is : signal_at (signals_in b s.vars) y ≡ signal_at (signals_in c (t.vars ++ net ∷ [])) y =
@@ -118,7 +118,7 @@ vars_more a b c f nexts ss k s0 s t x net S low bc may last settles keep h =
         subst (λ g. IsBegunBy f nexts t (Var y) g (IsSettled a f.pipe ss k (Var y))) is
         (by_may f nexts c s t (Var y) (Var x) (slice_index f.widths x) (first_value f.pipe k (Var x)) net (signal_at (signals_in b s.vars) y) S (IsSettled a f.pipe ss k (Var y)) may q)
 
-    new : lives f.pipe k x ≡ true → IsBegunBy f nexts (with_vars t (t.vars ++ net ∷ [])) (Var x) (signal_at (signals_in c (t.vars ++ net ∷ [])) x) (IsSettled a f.pipe ss k (Var x))
+    new : lives_from f.pipe k x ≡ true → IsBegunBy f nexts (with_vars t (t.vars ++ net ∷ [])) (Var x) (signal_at (signals_in c (t.vars ++ net ∷ [])) x) (IsSettled a f.pipe ss k (Var x))
     new alive =
         let is : signal c net ≡ signal_at (signals_in c (t.vars ++ net ∷ [])) x = sym (signal_new c t.vars net x (let n = h.count in let m : length t.vars ≡ length s.vars = ap length same_vars in omega (arith, n, m))) in
         subst (λ g. IsBegunBy f nexts t (Var x) g (IsSettled a f.pipe ss k (Var x))) is

@@ -5,21 +5,21 @@ use Rattle.pdl_semantics.specs.Flat.{Next, Pipe}
 use Rattle.pdl_semantics.specs.Stages.{stage_at}
 use Rattle.pdl_net.specs.Circuit.{State}
 use Rattle.pdl_net.specs.Signal.{Signal}
-use Rattle.pdl_machine_facts.specs.Slots.{reaches, ways, ways_from}
+use Rattle.pdl_machine_facts.specs.Slots.{leads_to, ways, ways_from}
 use Rattle.pdl_pipe_law.specs.Walk.{one, zero_bit, both, is_on}
-use Rattle.pdl_pipe_law.specs.Views.{View, Comer, out_of, new_from, comers, picked, branch}
+use Rattle.pdl_pipe_law.specs.Views.{View, Comer, out_of, new_from, comers, first_coming, branch}
 use Rattle.pdl_pipe_law.proofs.Signals.{mux_by, one_is, zero_is}
 use Rattle.pdl_stageregs.specs.Moves.{IsInLine}
 use Rattle.pdl_stageregs.specs.Comes.{arriving}
 
 module _ (p : Pipe) (line : IsInLine p) where
-  leads : (i q : ℕ) → suc i < length p.stages → reaches (stage_at p i).next q ≡ (suc i == q)
-  leads i q l = ap (λ (n : Next). reaches n q) (line.goes_on i l)
+  leads : (i q : ℕ) → suc i < length p.stages → leads_to (stage_at p i).next q ≡ (suc i == q)
+  leads i q l = ap (λ (n : Next). leads_to n q) (line.goes_on i l)
 
-  step : (i n q : ℕ) (b : Bool) → reaches (stage_at p i).next q ≡ b → ways_from p q (suc n) i ≡ (if b then i ∷ ways_from p q n (suc i) else ways_from p q n (suc i))
+  step : (i n q : ℕ) (b : Bool) → leads_to (stage_at p i).next q ≡ b → ways_from p q (suc n) i ≡ (if b then i ∷ ways_from p q n (suc i) else ways_from p q n (suc i))
   step i n q b e = ap (λ (x : Bool). if x then i ∷ ways_from p q n (suc i) else ways_from p q n (suc i)) e
 
-  -- the last of n + 1 stages leads to the one behind them, and no other
+  -- the last of n + 1 stages leads to the one after them, and no other
   last_way : (n i q : ℕ) → q ≡ suc (i + n) → q < length p.stages → ways_from p q (suc n) i ≡ (i + n) ∷ []
   last_way zero i q e l =
       let same : i + 0 ≡ i = omega arith in
@@ -54,10 +54,10 @@ module _ (p : Pipe) (line : IsInLine p) where
         at false = refl
 
     -- so what arrives is what the comers bring
-    pub arriving_is : (of : Comer → Signal) (f : Signal) (k : ℕ) → k < length p.stages → (s : State) → (arriving p vs moves (length p.stages) k of f).value s ≡ (picked of (comers p vs moves k) f).value s
-    arriving_is of f zero l s = ap (λ os. (picked of os f).value s) (sym comers_first)
+    pub arriving_is : (of : Comer → Signal) (f : Signal) (k : ℕ) → k < length p.stages → (s : State) → (arriving p vs moves (length p.stages) k of f).value s ≡ (first_coming of (comers p vs moves k) f).value s
+    arriving_is of f zero l s = ap (λ os. (first_coming of os f).value s) (sym comers_first)
     arriving_is of f (suc k) l s =
         mux_by s (moves k) (of (out_of p vs moves (suc k) k)) f
         ∙ ap (λ (b : Bool). if b then (of (out_of p vs moves (suc k) k)).value s else f.value s) (sym (comes_on k l s))
         ∙ sym (mux_by s (out_of p vs moves (suc k) k).comes (of (out_of p vs moves (suc k) k)) f)
-        ∙ ap (λ os. (picked of os f).value s) (sym (comers_next k l))
+        ∙ ap (λ os. (first_coming of os f).value s) (sym (comers_next k l))

@@ -9,7 +9,7 @@ use Rattle.pdl_net.specs.Signal.{Signal, const_signal}
 use Rattle.pdl_net.specs.Meaning.{signal, IsThere}
 use Rattle.pdl_flatnets.specs.Nets.{NetsThere, signals_in, signal_at, widths_of}
 use Rattle.pdl_flatnets.specs.Conditions.{AreBits}
-use Rattle.pdl_pipe_law.specs.Lives.{lives, holds}
+use Rattle.pdl_pipe_law.specs.Lives.{lives_from, held_from}
 use Rattle.pdl_lives.specs.Needs.{goes_with}
 use Rattle.pdl_stagenets.specs.declared.nets.HeldNet.{HeldNet}
 use Rattle.pdl_stagenets.specs.Parts.{Each, Held as HeldPart, held_in, held_of, parts_in}
@@ -82,9 +82,9 @@ MayAdd c s s' i w v net Settled = Adds c s s' i w v net ⊎ Leaves c s s' w net 
 
 -- the same of a variable, which is so where it lives in stage k
 abbrev pub MayAddVar : Circuit → Form → ℕ → ℕ → ℕ → StageNets → StageNets → Net → (Signal → Type 0) → Type 0
-MayAddVar c f k x v s s' net Settled = MayAdd c s s' (Var x) (slice_index f.widths x) v net (λ g. lives f.pipe k x ≡ true → Settled g)
+MayAddVar c f k x v s s' net Settled = MayAdd c s s' (Var x) (slice_index f.widths x) v net (λ g. lives_from f.pipe k x ≡ true → Settled g)
 
--- the same of a variable of the stage behind these
+-- the same of a variable of the stage after these
 abbrev pub MayBeginVar : Circuit → Circuit → Form → List StageNets → ℕ → StageNets → StageNets → Net → Type 0
 MayBeginVar a c f ss x s s' net =
     MayAddVar c f (length ss) x (first_value f.pipe (length ss) (Var x)) s s' net (IsSettled a f.pipe ss (length ss) (Var x))
@@ -112,10 +112,10 @@ pub record GainsHeld (s s' : StageNets) : Type 0 where
   pub tickets : s'.tickets ≡ s.tickets
   pub end : s'.end ≡ s.end
 
--- a location behind its stage before: one that is asked for and not yet listed is added, with a register or as a constant
+-- a location after its stage before: one that is asked for and not yet listed is added, with a register or as a constant
 abbrev pub AddsHeld : Circuit → Circuit → Pipe → ℕ → StageNets → StageNets → StageNets → ℕ → ℕ → Type 0
 AddsHeld a c p k before s s' m v =
-    ((s' ≡ s) × (holds p k m v ≡ true → is_listed s.held m v ≡ true))
+    ((s' ≡ s) × (held_from p k m v ≡ true → is_listed s.held m v ≡ true))
     ⊎ ((net : Net) × (t : StageNets) × MayAdd c s t (Held m v) 1 0 net (IsSameConstant (held_of (parts_in a before.end).held m v)) × (s' ≡ record t { held = t.held ++ record { mem = m; var = v; net = net } ∷ [] }) × (is_listed s.held m v ≡ false))
 
 -- the walk of a stage begins with its variables and held locations, and guesses zeros; all else stays
@@ -139,18 +139,18 @@ pub record IsReady (none : Net) (n : ℕ) (s s' : StageNets) : Type 0 where
 pub record HasVars (a c : Circuit) (f : Form) (nexts : List Signal) (ss : List StageNets) (k : ℕ) (s : StageNets) : Type 0 where
   pub there : NetsThere c s.vars
   pub wide : widths_of (signals_in c s.vars) ≡ f.widths
-  pub begun : (x : ℕ) → x < length f.widths → lives f.pipe k x ≡ true → IsBegunBy f nexts s (Var x) (signal_at (signals_in c s.vars) x) (IsSettled a f.pipe ss k (Var x))
+  pub begun : (x : ℕ) → x < length f.widths → lives_from f.pipe k x ≡ true → IsBegunBy f nexts s (Var x) (signal_at (signals_in c s.vars) x) (IsSettled a f.pipe ss k (Var x))
 
 pub record HasHeld (a c : Circuit) (f : Form) (nexts : List Signal) (ss : List StageNets) (k : ℕ) (s : StageNets) : Type 0 where
   pub there : Each (λ (h : HeldNet). IsThere c h.net) s.held
   pub one : Each (λ (h : HeldPart). h.signal.width ≡ 1) (map (held_in c) s.held)
-  pub begun : (m v : ℕ) → holds f.pipe k m v ≡ true → IsBegunBy f nexts s (Held m v) (held_of (map (held_in c) s.held) m v) (IsSettled a f.pipe ss k (Held m v))
+  pub begun : (m v : ℕ) → held_from f.pipe k m v ≡ true → IsBegunBy f nexts s (Held m v) (held_of (map (held_in c) s.held) m v) (IsSettled a f.pipe ss k (Held m v))
 
--- the same behind a stage that ends so
-pub record HasHeldBehind (a c : Circuit) (f : Form) (nexts : List Signal) (k : ℕ) (before s : StageNets) : Type 0 where
+-- the same after a stage that ends so
+pub record HasHeldAfter (a c : Circuit) (f : Form) (nexts : List Signal) (k : ℕ) (before s : StageNets) : Type 0 where
   pub there : Each (λ (h : HeldNet). IsThere c h.net) s.held
   pub one : Each (λ (h : HeldPart). h.signal.width ≡ 1) (map (held_in c) s.held)
-  pub begun : (m v : ℕ) → holds f.pipe k m v ≡ true → IsBegunBy f nexts s (Held m v) (held_of (map (held_in c) s.held) m v) (IsSameConstant (held_of (parts_in a before.end).held m v))
+  pub begun : (m v : ℕ) → held_from f.pipe k m v ≡ true → IsBegunBy f nexts s (Held m v) (held_of (map (held_in c) s.held) m v) (IsSameConstant (held_of (parts_in a before.end).held m v))
 
 pub record HasTicketNets (a c : Circuit) (f : Form) (nexts : List Signal) (ss : List StageNets) (k : ℕ) (s : StageNets) : Type 0 where
   pub there : NetsThere c s.tickets

@@ -8,7 +8,7 @@ use Rattle.pdl_net.specs.Meaning.{signal, IsThere, next_signal}
 use Rattle.pdl_net.specs.Growth.{Own}
 use Rattle.pdl_flatnets.specs.Nets.{NetsThere, signals_in, signal_at}
 use Rattle.pdl_pipe_law.specs.Walk.{one, zero_bit}
-use Rattle.pdl_pipe_law.specs.Views.{View, Comer, new_from, out_of, picked}
+use Rattle.pdl_pipe_law.specs.Views.{View, Comer, new_from, out_of, first_coming}
 use Rattle.pdl_stagenets.specs.declared.nets.BirthNet.{BirthNet}
 use Rattle.pdl_stagenets.specs.Parts.{Each, IsThereWalk}
 use Rattle.pdl_stageregs.specs.declared.births.Brings.{Brings}
@@ -24,9 +24,9 @@ use Rattle.pdl_stageregs.specs.Moves.{moves_in}
 -- ---- calls
 
 -- what a thread that comes brings
-abbrev pub brings : Brings → Comer → Signal
-brings Thread o = one
-brings (Arg x) o = o.vars x
+abbrev pub brought_signal : Brings → Comer → Signal
+brought_signal Thread o = one
+brought_signal (Arg x) o = o.vars x
 
 abbrev pub brings_of : Brings → List Signal → Signal
 brings_of Thread args = one
@@ -66,7 +66,7 @@ pub record TakesNext (c : Circuit) (s : StageNets) (thread : Signal) (next : Ite
   pub valid : next_signal c s.valid ≡ thread
   pub kept : (i : ℕ) → i < length s.kept → next_signal c (reg_of s i) ≡ next (item_at s.kept i) (signal c (RegNet (reg_of s i)))
 
--- a stage has an item for the one behind it
+-- a stage has an item for the one after it
 abbrev pub HasItem : StageNets → Item → Type 0
 HasItem s (Var x) = x < length s.end.vars.items
 HasItem s (Held m a) = ⊤
@@ -76,12 +76,12 @@ HasItem s (Ticket m) = m < length s.tickets
 abbrev pub staying : Signal → ℕ → Signal
 staying moves valid = mux_signal moves zero_bit (reg_signal 1 valid)
 
--- where a thread comes out of this stage, the registers of the one behind it take that
-abbrev pub TakesBehind : Circuit → StageNets → Signal → Signal → View → Type 0
-TakesBehind c s comes moves before = TakesNext c s (mux_signal comes one (staying moves s.valid)) (λ i f. mux_signal comes (ended_item before i) f)
+-- where a thread comes out of this stage, the registers of the one after it take that
+abbrev pub TakesAfter : Circuit → StageNets → Signal → Signal → View → Type 0
+TakesAfter c s comes moves before = TakesNext c s (mux_signal comes one (staying moves s.valid)) (λ i f. mux_signal comes (ended_item before i) f)
 
 -- a stage's registers fit what comes out of another one
-pub record FitsBehind (c : Circuit) (p : Pipe) (before s : StageNets) : Type 0 where
+pub record FitsAfter (c : Circuit) (p : Pipe) (before s : StageNets) : Type 0 where
   pub valid : IsRegNow c s.valid 1
   pub there : IsThereWalk c before.end
   pub tickets : NetsThere c before.tickets
@@ -106,7 +106,7 @@ IsAt ss k s = slice_index_or ss k s ≡ s
 -- all stages do, and the registers of one stand before those of the later ones
 pub record AreFit (c : Circuit) (p : Pipe) (ss : List StageNets) : Type 0 where
   pub first : (s : StageNets) → IsAt ss 0 s → FitsFirst c ss s
-  pub behind : (k : ℕ) (s t : StageNets) → suc k < length ss → IsAt ss k s → IsAt ss (suc k) t → FitsBehind c p s t
+  pub after : (k : ℕ) (s t : StageNets) → suc k < length ss → IsAt ss k s → IsAt ss (suc k) t → FitsAfter c p s t
   pub apart : (j k : ℕ) (s t : StageNets) → j < k → k < length ss → IsAt ss j s → IsAt ss k t → end_of s ≤ t.valid
   pub below : (k : ℕ) (s : StageNets) → k < length ss → IsAt ss k s → end_of s ≤ length c.regs
 
@@ -114,7 +114,7 @@ pub record AreFit (c : Circuit) (p : Pipe) (ss : List StageNets) : Type 0 where
 
 -- what comes into stage k of a pipe in line of n stages: what a new thread brings into the first, what comes out of the one before into another, else this
 abbrev pub arriving : Pipe → (ℕ → View) → (ℕ → Signal) → ℕ → ℕ → (Comer → Signal) → Signal → Signal
-arriving p vs moves n zero of rest = picked of (new_from vs moves n 0) rest
+arriving p vs moves n zero of rest = first_coming of (new_from vs moves n 0) rest
 arriving p vs moves n (suc k) of rest = mux_signal (moves k) (of (out_of p vs moves (suc k) k)) rest
 
 -- the new threads that the calls of all stages bring

@@ -4,7 +4,7 @@ use Rattle.pdl_semantics.specs.Flat.{Pipe}
 use Rattle.pdl_form.specs.Form.{Form}
 use Rattle.pdl_net.specs.Signal.{Signal, const_signal}
 use Rattle.pdl_flatnets.specs.Nets.{signal_at}
-use Rattle.pdl_pipe_law.specs.Lives.{lives, holds}
+use Rattle.pdl_pipe_law.specs.Lives.{lives_from, held_from}
 use Rattle.pdl_pipe_law.specs.Walk.{zero_bit}
 use Rattle.pdl_pipe_law.specs.Views.{View, Comer}
 use Rattle.pdl_lives.specs.Needs.{goes_with}
@@ -16,11 +16,11 @@ item_at xs i = slice_index_or xs i (Var 0)
 
 -- whether a thread needs it in stage k
 abbrev pub is_needed : Pipe → ℕ → Item → Bool
-is_needed p k (Var x) = lives p k x
-is_needed p k (Held m a) = holds p k m a
+is_needed p k (Var x) = lives_from p k x
+is_needed p k (Held m a) = held_from p k m a
 is_needed p k (Ticket m) = goes_with p k m
 
--- as a stage begins, behind its rows, and of a thread that comes
+-- as a stage begins, after its rows, and of a thread that comes
 abbrev pub begun_item : View → Item → Signal
 begun_item v (Var x) = v.begun.vars x
 begun_item v (Held m a) = v.begun.held m a
@@ -65,7 +65,7 @@ IsOwn f (suc k) (Ticket m) = m < length f.pipe.mems
 abbrev pub IsConstant : Signal → Type 0
 IsConstant f = (w v : ℕ) × (f ≡ const_signal w v)
 
--- as in a stage behind another one, which ends with g for it: where that is constant it is the same
+-- as in a stage after another one, which ends with g for it: where that is constant it is the same
 abbrev pub IsSameConstant : Signal → Signal → Type 0
 IsSameConstant g f = IsConstant g × (f ≡ g)
 

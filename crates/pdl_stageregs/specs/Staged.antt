@@ -1,4 +1,4 @@
--- The stages of a circuit behind their rows.
+-- The stages of a circuit after their rows.
 use Rattle.std.specs.Prelude.{◌≡◌, ℕ, ◌<◌, ◌≤◌, true, false, List, length, map, Option}
 use Rattle.pdl_semantics.specs.Flat.{Pipe}
 use Rattle.pdl_semantics.specs.Stages.{in_stage}
@@ -8,7 +8,7 @@ use Rattle.pdl_net.specs.Signal.{Signal}
 use Rattle.pdl_net.specs.Meaning.{signal, next_signal}
 use Rattle.pdl_net.specs.Growth.{Keeps}
 use Rattle.pdl_net.specs.Well.{IsWell}
-use Rattle.pdl_pipe_law.specs.Lives.{verifies}
+use Rattle.pdl_pipe_law.specs.Lives.{verifies_from}
 use Rattle.pdl_pipe_law.specs.Walk.{Locks, zero_bit}
 use Rattle.pdl_pipe_law.specs.Views.{no_gates}
 use Rattle.pdl_pipe_law.specs.Compiled.{IsStage, IsStart}
@@ -42,7 +42,7 @@ AreStaged c f nexts ls ss = (k : ℕ) (s : StageNets) → k < length ss → IsAt
 pub record IsPlainLine (p : Pipe) : Type 0 where
   pub line : IsInLine p
   pub some : 1 ≤ length p.stages
-  pub plain : (k : ℕ) → verifies p k ≡ false
+  pub plain : (k : ℕ) → verifies_from p k ≡ false
 
 -- registers from this one on take next what they took
 pub record KeepsFrom (low : ℕ) (old new : Circuit) : Type 0 where

@@ -67,7 +67,7 @@ pub record IsRegister (c : Circuit) (r w v : ℕ) : Type 0 where
 abbrev pub reg_of : StageNets → ℕ → ℕ
 reg_of s i = suc (s.valid + i)
 
--- the first register behind those of a stage
+-- the first register after those of a stage
 abbrev pub end_of : StageNets → ℕ
 end_of s = reg_of s (length s.kept)
 
@@ -105,12 +105,12 @@ pub record IsThereBegun (c : Circuit) (f : Form) (nexts : List Signal) (s : Stag
 abbrev pub HasTickets : Circuit → Pipe → List Signal → ℕ → StageNets → Type 0
 HasTickets c p nexts k s = (m : ℕ) → m < length p.mems → goes_with p k m ≡ false → tickets_in c s.tickets m ≡ signal_at nexts m
 
--- without a register of its own: in the first stage a zero, in another the same constant as behind the stage before
+-- without a register of its own: in the first stage a zero, in another the same constant as after the stage before
 abbrev pub IsSettled : Circuit → Pipe → List StageNets → ℕ → Item → Signal → Type 0
 IsSettled c p ss zero i g = IsZero p i g
 IsSettled c p ss (suc k) i g = IsSameConstant (ended_item (views_in c p ss k) i) g
 
--- stage k before its rows, behind these stages
+-- stage k before its rows, after these stages
 pub record IsBegun (c : Circuit) (f : Form) (nexts : List Signal) (ss : List StageNets) (k : ℕ) (s : StageNets) : Type 0 where
   pub frame : IsFrame c f nexts k s
   pub nets : IsThereBegun c f nexts s

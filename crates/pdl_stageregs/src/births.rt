@@ -5,10 +5,10 @@ ghost use Rattle.pdl_net.specs.Meaning.{IsThere, Means, signal};
 ghost use Rattle.pdl_net.specs.Growth.{Extends};
 ghost use Rattle.pdl_flatnets.specs.Nets.{signals_in};
 ghost use Rattle.pdl_flatnets.specs.Conditions.{AreBits};
-ghost use Rattle.pdl_pipe_law.specs.Views.{new_by, picked as picked_signal};
+ghost use Rattle.pdl_pipe_law.specs.Views.{new_by, first_coming as picked_signal};
 ghost use Rattle.pdl_stagenets.specs.Parts.{Each, birth_in};
 ghost use Rattle.pdl_stageregs.specs.Moves.{AreMovesThere};
-ghost use Rattle.pdl_stageregs.specs.Comes.{brings, brings_of, new_in, IsBirth, AreBirths};
+ghost use Rattle.pdl_stageregs.specs.Comes.{brought_signal, brings_of, new_in, IsBirth, AreBirths};
 
 use crate::moving::MoveNets;
 use crate::nets::StageNets;
@@ -55,7 +55,7 @@ fn picked_of(
     requires moves_one { (signal b.old moves).width ≡ 1 }
     requires rest { IsThere b.old rest }
     ensures means { IfOk result (λ x.
-        Means b.new x (picked_signal (brings what)
+        Means b.new x (picked_signal (brought_signal what)
         (map (new_by (signal b.old moves)) (map (birth_in b.old) births.now))
         (signal b.old rest))) }
     ensures wide { IfOk result (λ x. (signal b.new x).width ≡ (signal b.old rest).width) }
@@ -68,13 +68,13 @@ fn picked_of(
         let birth = &births[births.len() - 1 - i];
         let comes = bits.both(b, moves, birth.on)?;
         let value = brought(b, bits, birth, what, width);
-        net = bits.pick(b, comes, value, net)?;
+        net = b.mux(comes, value, net)?;
     }
     Ok(net)
 }
 
 /// What the first of the calls of all stages that is made brings, else `rest`.
-pub fn picked(
+pub fn first_coming(
     b: &mut Builder,
     pipe: &FlatPipe,
     bits: Bits,
@@ -89,7 +89,7 @@ pub fn picked(
     requires moves { AreMovesThere b.old moves.now }
     requires rest { IsThere b.old rest }
     ensures means { IfOk result (λ x.
-        Means b.new x (picked_signal (brings what)
+        Means b.new x (picked_signal (brought_signal what)
         (new_in b.old (form pipe.now).pipe stages.now moves.now) (signal b.old rest))) }
     ensures wide { IfOk result (λ x. (signal b.new x).width ≡ (signal b.old rest).width) }
     ensures extends { Extends b.old b.new }

@@ -21,7 +21,7 @@ use pdl_flatnets::exprs::variable;
 use pdl_flatnets::{Bits, are_same};
 use pdl_form::FlatPipe;
 use pdl_kit::{NoMemory, Seq};
-use pdl_lives::{keeps_ticket, lives};
+use pdl_lives::{keeps_ticket, lives_from};
 use pdl_net::Net;
 use pdl_stagenets::WalkNets;
 use std::alloc::Global;
@@ -77,7 +77,7 @@ fn start_of(pipe: &FlatPipe, x: usize) -> u64
     pipe.start()[x]
 }
 
-// The net of a variable behind a stage.
+// The net of a variable after a stage.
 fn coming(b: &Builder, pipe: &FlatPipe, s: &StageNets, x: usize) -> Net
     requires low { x < length (form pipe.now).widths }
     requires walk { IsWalk b.now (form pipe.now).pipe (form pipe.now).widths s.now.end }
@@ -131,14 +131,14 @@ impl StageNets {
         ensures last { OnOk result (end_of self.new ≡ length b.new.regs) }
         ensures extends { Extends b.old b.new }
     {
-        if x < pipe.start().len() && lives(pipe, 0, x) {
+        if x < pipe.start().len() && lives_from(pipe, 0, x) {
             self.keep(b, Item::Var(x), pipe.width(x), start_of(pipe, x))
         } else {
             Ok(zero)
         }
     }
 
-    // A variable of a stage behind another one, from where it comes as `net`; one that doesn't live, or never changes, needs no register.
+    // A variable of a stage after another one, from where it comes as `net`; one that doesn't live, or never changes, needs no register.
     fn next_var(
         &mut self,
         b: &mut Builder,
@@ -163,7 +163,7 @@ impl StageNets {
         ensures last { OnOk result (end_of self.new ≡ length b.new.regs) }
         ensures extends { Extends b.old b.new }
     {
-        if !lives(pipe, stage, x) {
+        if !lives_from(pipe, stage, x) {
             return Ok(zero);
         }
         if is_fixed(b, bits, zero, net) {
@@ -172,7 +172,7 @@ impl StageNets {
         self.keep(b, Item::Var(x), pipe.width(x), 0)
     }
 
-    // A variable of the stage behind these.
+    // A variable of the stage after these.
     fn begin_var(
         &mut self,
         b: &mut Builder,
@@ -205,7 +205,7 @@ impl StageNets {
         }
     }
 
-    // The variables of the stage behind these.
+    // The variables of the stage after these.
     fn begin_vars(
         &mut self,
         b: &mut Builder,
@@ -320,7 +320,7 @@ impl StageNets {
     }
 }
 
-/// The stage behind these, before its statements: at reset the first one holds the first thread with its arguments, and another none.
+/// The stage after these, before its statements: at reset the first one holds the first thread with its arguments, and another none.
 pub fn begin(
     alloc: Global,
     b: &mut Builder,

@@ -9,7 +9,7 @@ ghost use Rattle.pdl_stagenets.specs.Sized.{IsWalk};
 ghost use Rattle.pdl_stageregs.specs.declared.nets.Item.TheVariants.{Held};
 ghost use Rattle.pdl_stageregs.specs.Items.{IsSameConstant};
 ghost use Rattle.pdl_stageregs.specs.Stages.{end_of, IsFrame, AreOwn};
-ghost use Rattle.pdl_stageregs.specs.Begun.{is_listed as is_listed_in, IsShared, AreEnded, MayAdd, AddsHeld, GainsHeld, HasHeld, HasHeldBehind};
+ghost use Rattle.pdl_stageregs.specs.Begun.{is_listed as is_listed_in, IsShared, AreEnded, MayAdd, AddsHeld, GainsHeld, HasHeld, HasHeldAfter};
 
 use crate::entry::is_fixed;
 use crate::nets::{Item, Shared, StageNets};
@@ -17,7 +17,7 @@ use pdl_build::Builder;
 use pdl_flatnets::Bits;
 use pdl_form::FlatPipe;
 use pdl_kit::NoMemory;
-use pdl_lives::holds;
+use pdl_lives::held_from;
 use pdl_net::Net;
 use pdl_stagenets::HeldNet;
 
@@ -87,10 +87,10 @@ impl StageNets {
         ensures last { OnOk result (end_of self.new ≡ length b.new.regs) }
         ensures extends { Extends b.old b.new }
     {
-        if is_listed(self.held.as_slice(), mem, var) || !holds(pipe, stage, mem, var) {
+        if is_listed(self.held.as_slice(), mem, var) || !held_from(pipe, stage, mem, var) {
             return Ok(());
         }
-        let net = before.end.held(b, bits, mem, var);
+        let net = before.end.is_held(b, bits, mem, var);
         let net = self.begin_held(b, bits, mem, var, net)?;
         self.held.push(HeldNet { mem, var, net })?;
         Ok(())
@@ -107,7 +107,7 @@ impl StageNets {
     ) -> Result<(), NoMemory>
         requires shared { IsShared b.old (form pipe.now) shared.now }
         requires walk { IsWalk b.old (form pipe.now).pipe (form pipe.now).widths before.now.end }
-        requires behind { 0 < stage }
+        requires after { 0 < stage }
         requires frame { IsFrame b.old (form pipe.now)
             (signals_in b.old shared.now.next) stage self.old }
         requires own { AreOwn (form pipe.now) stage self.old }
@@ -115,7 +115,7 @@ impl StageNets {
         ensures frame { OnOk result (IsFrame b.new (form pipe.now)
             (signals_in b.old shared.now.next) stage self.new) }
         ensures own { OnOk result (AreOwn (form pipe.now) stage self.new) }
-        ensures held { OnOk result (HasHeldBehind b.old b.new (form pipe.now)
+        ensures held { OnOk result (HasHeldAfter b.old b.new (form pipe.now)
             (signals_in b.old shared.now.next) stage before.now self.new) }
         ensures gains { OnOk result (GainsHeld self.old self.new) }
         ensures extends { Extends b.old b.new }
@@ -127,7 +127,7 @@ impl StageNets {
         Ok(())
     }
 
-    /// The locations that a thread may come with as held, behind these stages: none in the first.
+    /// The locations that a thread may come with as held, after these stages: none in the first.
     pub fn begin_helds(
         &mut self,
         b: &mut Builder,

@@ -10,7 +10,7 @@ pub mod nexts;
 pub mod tickets;
 pub mod whole;
 
-pub use moving::{MoveNets, moves};
+pub use moving::{MoveNets, stages_moving};
 pub use nets::{Item, StageNets};
 pub use nexts::connect;
 pub use whole::{LineNets, line, stages};

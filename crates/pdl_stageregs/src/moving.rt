@@ -34,7 +34,7 @@ pub fn moves_of(nets: &[MoveNets], k: usize) -> MoveNets
     nets[k]
 }
 
-// Whether the stage that comes next is free; behind the last one all is.
+// Whether the stage that comes next is free; after the last one all is.
 fn way_on(pipe: &FlatPipe, k: usize, later: &[MoveNets], bits: Bits) -> Net
     requires line { IsInLine (form pipe.now).pipe }
     requires low { k < length (form pipe.now).pipe.stages }
@@ -72,12 +72,12 @@ fn stage_moves(b: &mut Builder, bits: Bits, s: &StageNets, way: Net) -> Result<M
     let valid = Net::Reg(s.valid);
     let ready = bits.both(b, s.end.ready, way)?;
     let moves = bits.both(b, valid, ready)?;
-    let free = bits.pick(b, valid, moves, bits.one)?;
+    let free = b.mux(valid, moves, bits.one)?;
     Ok(MoveNets { moves, free })
 }
 
 /// Of each stage whether its thread moves, and whether it is free.
-pub fn moves(
+pub fn stages_moving(
     alloc: Global,
     b: &mut Builder,
     pipe: &FlatPipe,

@@ -12,7 +12,7 @@ pub enum Item {
     Ticket(usize),
 }
 
-/// A stage: what it begins with, and its nets behind its statements.
+/// A stage: what it begins with, and its nets after its statements.
 #[derive(Drop)]
 pub struct StageNets {
     /// The register that tells whether it holds a thread; those of `kept` follow it, in order.

@@ -9,15 +9,15 @@ ghost use Rattle.pdl_build.specs.Change.{one_reg};
 ghost use Rattle.pdl_flatnets.specs.Nets.{NetsThere};
 ghost use Rattle.pdl_flatnets.specs.Conditions.{AreBits};
 ghost use Rattle.pdl_pipe_law.specs.Walk.{one};
-ghost use Rattle.pdl_pipe_law.specs.Views.{picked as picked_signal};
+ghost use Rattle.pdl_pipe_law.specs.Views.{first_coming as picked_signal};
 ghost use Rattle.pdl_stagenets.specs.Parts.{IsThereWalk};
 ghost use Rattle.pdl_stageregs.specs.declared.births.Brings.TheVariants.{Thread};
 ghost use Rattle.pdl_stageregs.specs.Items.{item_at, ended_item, comer_item};
 ghost use Rattle.pdl_stageregs.specs.Stages.{end_of, view_in};
 ghost use Rattle.pdl_stageregs.specs.Moves.{AreMovesThere, moves_in};
-ghost use Rattle.pdl_stageregs.specs.Comes.{AreBirths, IsRegNow, FitsArg, FitsFirst, FitsBehind, AreFit, HasItem, IsAt, IsConnectedIn, TakesBehind, new_in, regs_of, staying};
+ghost use Rattle.pdl_stageregs.specs.Comes.{AreBirths, IsRegNow, FitsArg, FitsFirst, FitsAfter, AreFit, HasItem, IsAt, IsConnectedIn, TakesAfter, new_in, regs_of, staying};
 
-use crate::births::{Brings, picked};
+use crate::births::{Brings, first_coming};
 use crate::moving::{MoveNets, moves_of};
 use crate::nets::{Item, StageNets};
 use pdl_build::Builder;
@@ -47,7 +47,7 @@ fn brought(b: &Builder, pipe: &FlatPipe, bits: Bits, s: &StageNets, item: Item) 
     let _vars = pipe.vars();
     match item {
         Item::Var(x) => variable(b, s.end.vars.as_slice(), x),
-        Item::Held { mem, var } => s.end.held(b, bits, mem, var),
+        Item::Held { mem, var } => s.end.is_held(b, bits, mem, var),
         Item::Ticket(m) => variable(b, s.tickets.as_slice(), m),
     }
 }
@@ -64,13 +64,13 @@ fn take(b: &mut Builder, bits: Bits, r: usize, comes: Net, net: Net) -> Result<(
         (reg_signal (signal b.old net).width r)) }
     ensures extends { ExtendsBut (one_reg r) b.old b.new }
 {
-    let next = bits.pick(b, comes, net, Net::Reg(r))?;
+    let next = b.mux(comes, net, Net::Reg(r))?;
     b.next(r, next);
     Ok(())
 }
 
 // Whether a stage holds a thread where none comes: its own, unless that moves.
-fn stays(b: &mut Builder, bits: Bits, valid: usize, moves: Net) -> Result<Net, NoMemory>
+fn staying_thread(b: &mut Builder, bits: Bits, valid: usize, moves: Net) -> Result<Net, NoMemory>
     requires bits { AreBits b.old bits }
     requires register { IsRegNow b.old valid 1 }
     requires moves { IsThere b.old moves }
@@ -79,7 +79,7 @@ fn stays(b: &mut Builder, bits: Bits, valid: usize, moves: Net) -> Result<Net, N
     ensures extends { Extends b.old b.new }
     ensures regs { b.new.regs ≡ b.old.regs }
 {
-    bits.pick(b, moves, bits.zero, Net::Reg(valid))
+    b.mux(moves, bits.zero, Net::Reg(valid))
 }
 
 // Whether the first stage holds a thread next: a new one, else its own.
@@ -102,8 +102,8 @@ fn take_thread(
         (staying (moves_in b.old moves.now 0) valid)) }
     ensures extends { ExtendsBut (one_reg valid) b.old b.new }
 {
-    let rest = stays(b, bits, valid, moves[0].moves)?;
-    let next = picked(b, pipe, bits, stages, moves, Brings::Thread, rest)?;
+    let rest = staying_thread(b, bits, valid, moves[0].moves)?;
+    let next = first_coming(b, pipe, bits, stages, moves, Brings::Thread, rest)?;
     b.next(valid, next);
     Ok(())
 }
@@ -129,7 +129,7 @@ fn take_arg(
 {
     match item {
         Item::Var(x) => {
-            let next = picked(b, pipe, bits, stages, moves, Brings::Arg(x), Net::Reg(r))?;
+            let next = first_coming(b, pipe, bits, stages, moves, Brings::Arg(x), Net::Reg(r))?;
             b.next(r, next);
             Ok(())
         }
@@ -184,14 +184,14 @@ fn take_valid(
         ≡ mux_signal (signal b.old comes) one (staying (signal b.old moves) valid)) }
     ensures extends { ExtendsBut (one_reg valid) b.old b.new }
 {
-    let rest = stays(b, bits, valid, moves)?;
-    let next = bits.pick(b, comes, bits.one, rest)?;
+    let rest = staying_thread(b, bits, valid, moves)?;
+    let next = b.mux(comes, bits.one, rest)?;
     b.next(valid, next);
     Ok(())
 }
 
-// A stage behind another one: from there a thread comes with all that it keeps.
-fn connect_behind(
+// A stage after another one: from there a thread comes with all that it keeps.
+fn connect_after(
     b: &mut Builder,
     pipe: &FlatPipe,
     bits: Bits,
@@ -201,12 +201,12 @@ fn connect_behind(
     comes: Net,
 ) -> Result<(), NoMemory>
     requires bits { AreBits b.old bits }
-    requires fit { FitsBehind b.old (form pipe.now).pipe before.now s.now }
+    requires fit { FitsAfter b.old (form pipe.now).pipe before.now s.now }
     requires moves { IsThere b.old moves }
     requires moves_one { (signal b.old moves).width ≡ 1 }
     requires comes { IsThere b.old comes }
     requires comes_one { (signal b.old comes).width ≡ 1 }
-    ensures next { OnOk result (TakesBehind b.new s.now (signal b.old comes) (signal b.old moves)
+    ensures next { OnOk result (TakesAfter b.new s.now (signal b.old comes) (signal b.old moves)
         (view_in b.old (form pipe.now).pipe before.now)) }
     ensures extends { ExtendsBut (regs_of s.now.valid (end_of s.now)) b.old b.new }
 {
@@ -251,7 +251,7 @@ pub fn connect(
         let before = &stages[j];
         let own = moves_of(moves, k);
         let comes = moves_of(moves, j);
-        connect_behind(b, pipe, bits, s, own.moves, before, comes.moves)?;
+        connect_after(b, pipe, bits, s, own.moves, before, comes.moves)?;
     }
     Ok(())
 }

@@ -13,7 +13,7 @@ ghost use Rattle.pdl_stageregs.specs.Staged.{IsStaged, AreStaged, AreApart, IsPl
 ghost use Rattle.pdl_stageregs.specs.Comes.{regs_of};
 
 use crate::entry::begin;
-use crate::moving::{MoveNets, moves};
+use crate::moving::{MoveNets, stages_moving};
 use crate::nets::{Shared, StageNets};
 use crate::nexts::connect;
 use crate::tickets::next_tickets;
@@ -49,7 +49,7 @@ fn zeros(alloc: Global, b: &mut Builder, pipe: &FlatPipe) -> Result<Seq<Net>, No
     Ok(nets)
 }
 
-// A stage behind those before it, with its statements.
+// A stage after those before it, with its statements.
 fn stage<L: LockModule>(
     alloc: Global,
     b: &mut Builder,
@@ -87,7 +87,7 @@ fn stage<L: LockModule>(
     Ok(s)
 }
 
-/// The stages of a pipe, one behind the other.
+/// The stages of a pipe, one after the other.
 pub fn stages<L: LockModule>(
     alloc: Global,
     b: &mut Builder,
@@ -152,7 +152,7 @@ pub fn line<L: LockModule>(
 {
     let all = stages(alloc, b, pipe, bits, locks)?;
     let made = all.as_slice();
-    let gates = moves(alloc, b, pipe, bits, made)?;
+    let gates = stages_moving(alloc, b, pipe, bits, made)?;
     let moving = gates.as_slice();
     connect(b, pipe, bits, made, moving)?;
     Ok(LineNets {

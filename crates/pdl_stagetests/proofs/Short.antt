@@ -4,7 +4,7 @@ use Rattle.std.specs.Prelude.{None, nat_le}
 use Rattle.std.proofs.Math.Bool.{and-false}
 use Rattle.pdl_semantics.specs.Flat.{Variable, Call, Stmt, Mem, Goes, Ends, Stage}
 use Rattle.pdl_semantics.specs.Stages.{stage_at}
-use Rattle.pdl_form.specs.Form.{Form, formed}
+use Rattle.pdl_form.specs.Form.{Form, form_with}
 use Rattle.pdl_formtypes.specs.Stmts.{IsTypedForm}
 use Rattle.pdl_stageregs.specs.Moves.{IsInLine}
 use Rattle.pdl_stageregs.specs.Staged.{IsPlainLine}
@@ -19,15 +19,15 @@ abbrev pub calls : Stmt
 calls = record { stage = 1; guards = []; op = Call (Variable 0 ∷ []) }
 
 abbrev pub caller_form : Form
-caller_form = formed (3 ∷ []) [] [] (calls ∷ []) (goes_on ∷ ends ∷ []) (5 ∷ [])
+caller_form = form_with (3 ∷ []) [] [] (calls ∷ []) (goes_on ∷ ends ∷ []) (5 ∷ [])
 
-pub caller_parts : (f : Form) (ws : List ℕ) (ms : List Mem) (ns : List (List ℕ)) (xs : List Stmt) (ss : List Stage) (vs : List ℕ) → f ≡ formed ws ms ns xs ss vs
+pub caller_parts : (f : Form) (ws : List ℕ) (ms : List Mem) (ns : List (List ℕ)) (xs : List Stmt) (ss : List Stage) (vs : List ℕ) → f ≡ form_with ws ms ns xs ss vs
     → ws ≡ 3 ∷ [] → ms ≡ [] → ns ≡ [] → xs ≡ calls ∷ [] → ss ≡ goes_on ∷ ends ∷ [] → vs ≡ 5 ∷ [] → f ≡ caller_form
 caller_parts f ws ms ns xs ss vs e a b c d s v =
     e
-    ∙ ap₂ (λ x y. formed x y ns xs ss vs) a b
-    ∙ ap₂ (λ x y. formed (3 ∷ []) [] x y ss vs) c d
-    ∙ ap₂ (λ x y. formed (3 ∷ []) [] [] (calls ∷ []) x y) s v
+    ∙ ap₂ (λ x y. form_with x y ns xs ss vs) a b
+    ∙ ap₂ (λ x y. form_with (3 ∷ []) [] x y ss vs) c d
+    ∙ ap₂ (λ x y. form_with (3 ∷ []) [] [] (calls ∷ []) x y) s v
 
 pub caller_typed : (f : Form) → f ≡ caller_form → IsTypedForm f
 caller_typed f e =

@@ -2,7 +2,7 @@
 use Rattle.std.proofs.Common.{◌≡◌, sym, subst, ℕ, suc, zero, ◌^◌, ◌<◌, List, [], ◌∷◌, length, slice_index, arith, ap, refl}
 use Rattle.pdl_word.proofs.Bounds as bounds
 use Rattle.pdl_semantics.specs.Tree.{BinaryOp, Add, Sub, Mul, And, Or, Xor, Equal, Differ, Less, ShiftLeft, ShiftRight}
-use Rattle.pdl_semantics.specs.Flat.{Expr, Constant, Variable, Slice, Not, Binary, Cat, LessSigned, ZeroExtend, SignExtend, Choose, applied, value_of, values_of}
+use Rattle.pdl_semantics.specs.Flat.{Expr, Constant, Variable, Slice, Not, Binary, Cat, LessSigned, ZeroExtend, SignExtend, Choose, operator_value, value_of, values_of}
 use Rattle.pdl_semantics.specs.Flatten.{op_width}
 use Rattle.pdl_formtypes.specs.Exprs.{width_in, IsTyped}
 use Rattle.pdl_formtypes.specs.Stmts.{AreWidths, AreArguments}
@@ -10,7 +10,7 @@ use Rattle.pdl_values.specs.Safe.{IsWidth, IsSafe, AreSafe}
 use Rattle.pdl_values.specs.Widths.{Fit}
 use Rattle.pdl_word.proofs.Numbers.{as_wide}
 
-applied_fits : (op : BinaryOp) (w a b : ℕ) → a < 2 ^ w → b < 2 ^ w → applied op w a b < 2 ^ op_width op w
+applied_fits : (op : BinaryOp) (w a b : ℕ) → a < 2 ^ w → b < 2 ^ w → operator_value op w a b < 2 ^ op_width op w
 applied_fits Add w a b f g = bounds.add_below w a b
 applied_fits Sub w a b f g = bounds.sub_below w a b
 applied_fits Mul w a b f g = bounds.mul_below w a b

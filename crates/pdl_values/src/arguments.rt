@@ -1,7 +1,7 @@
 // The values with which a thread begins.
 ghost use Rattle.std.specs.Prelude.{◌≡◌, ◌≤◌, ◌-◌, ◌++◌, length, replicate};
 
-/// The values of arguments come first, and zeros behind them.
+/// The values of arguments come first, and zeros after them.
 pub fn fill(values: &mut [u64], args: &[u64])
     requires few { length args.now ≤ length values.old }
     ensures values { values.new ≡ args.now ++ replicate (length values.old - length args.now) 0 }

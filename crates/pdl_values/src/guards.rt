@@ -1,6 +1,6 @@
 // Guards of statements.
 ghost use Rattle.std.specs.Prelude.{◌≡◌, slice_index};
-ghost use Rattle.pdl_semantics.specs.Flat.{takes, taken};
+ghost use Rattle.pdl_semantics.specs.Flat.{takes_branch, all_hold};
 ghost use Rattle.pdl_form.specs.View.{guards_view};
 
 use crate::value::variable;
@@ -8,7 +8,7 @@ use pdl_form::Guard;
 
 // Whether a branch is taken.
 fn is_taken(guard: Guard, values: &[u64]) -> bool
-    ensures { result ≡ takes guard.first (slice_index values.now guard.var) }
+    ensures { result ≡ takes_branch guard.first (slice_index values.now guard.var) }
 {
     if guard.first {
         variable(values, guard.var) == 1
@@ -19,7 +19,7 @@ fn is_taken(guard: Guard, values: &[u64]) -> bool
 
 /// Whether each of these branches is taken where the variables have these values.
 pub fn are_taken(guards: &[Guard], values: &[u64]) -> bool
-    ensures { result ≡ taken (guards_view guards.now) values.now }
+    ensures { result ≡ all_hold (guards_view guards.now) values.now }
 {
     for guard in guards {
         if !is_taken(*guard, values) {

@@ -1,6 +1,6 @@
 // Operators on words of a width that is known when they run.
 ghost use Rattle.std.specs.Prelude.{◌≡◌, ◌≤◌, ◌<◌, ◌^◌};
-ghost use Rattle.pdl_semantics.specs.Flat.{applied};
+ghost use Rattle.pdl_semantics.specs.Flat.{operator_value};
 ghost use Rattle.pdl_tree.specs.View.{op_view};
 
 use pdl_tree::BinaryOp;
@@ -12,7 +12,7 @@ pub fn apply(op: BinaryOp, width: u8, a: u64, b: u64) -> u64
     requires high { width ≤ 64 }
     requires a_fits { a < 2 ^ width }
     requires b_fits { b < 2 ^ width }
-    ensures { result ≡ applied (op_view op) width a b }
+    ensures { result ≡ operator_value (op_view op) width a b }
 {
     match op {
         BinaryOp::Add => pdl_word::add(width, a, b),

@@ -16,5 +16,5 @@ loop-done-preserved c =
     let i = c.loop-done.invariant in
     record {
       netlist = ap (λ r. r.netlist) c.cycle.ensures ∙ i.netlist;
-      counted = counted_more c.loop-done.counts c.tallied-counts.result (cycle_of new.netlist new.last) before after all done more c.tallied-counts.ensures i.counted;
+      counted = counted_more c.loop-done.counts c.with_cycle-counts.result (cycle_of new.netlist new.last) before after all done more c.with_cycle-counts.ensures i.counted;
     }

@@ -20,5 +20,5 @@ loop-done-preserved c =
       netlist = ap (λ r. r.netlist) c.cycle.ensures ∙ i.netlist;
       text = text_step (done + 1) (map column_of c.args.mems.now) one before after c.loop-done.text.items c.push_commits.new.text.items
           (c.args.text.now.items ++ lines_from 1 (map column_of c.args.mems.now) all) more c.in_ok-push_commits.ensures i.text;
-      counted = counted_more c.loop-done.counts c.tallied-counts.result one before after all done more c.tallied-counts.ensures i.counted;
+      counted = counted_more c.loop-done.counts c.with_cycle-counts.result one before after all done more c.with_cycle-counts.ensures i.counted;
     }

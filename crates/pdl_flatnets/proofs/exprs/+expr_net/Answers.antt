@@ -18,8 +18,8 @@ use Rattle.pdl_flatnets.proofs.NetLists.{width_at}
 use Rattle.pdl_flatnets.proofs.Operands.{next_typed, first, last, between, made_width, means_as}
 use Rattle.pdl_flatnets.proofs.exprs.+expr_net.Goals as goal
 
-pub sliced-requires-clause-top : goal.sliced-requires-clause-top
-sliced-requires-clause-top t c =
+pub slice_of-requires-clause-top : goal.slice_of-requires-clause-top
+slice_of-requires-clause-top t c =
     let ns = signals_in c.args.b.now c.args.vars.now in
     let seen : expr_view c.args.e.now ≡ Slice c.in-Slice.x c.in-Slice.high c.in-Slice.low = search (rules, the_lemmas) in
     let typed = subst (λ (e : Expr). IsTyped (widths_of ns) e) seen c.requires.typed in

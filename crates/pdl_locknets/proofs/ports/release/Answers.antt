@@ -3,7 +3,7 @@ use Rattle.pdl_net.specs.Meaning.{signal, Means}
 use Rattle.pdl_net.specs.Signal.{Signal}
 use Rattle.pdl_net.proofs.Keeps.{extends_keeps, extends_trans}
 use Rattle.pdl_flatnets.proofs.NetLists.{bits_kept}
-use Rattle.pdl_pipe_law.specs.Ports.{lets}
+use Rattle.pdl_pipe_law.specs.Ports.{release_moves}
 use Rattle.pdl_stagenets.specs.declared.nets.LettingNet.{LettingNet}
 use Rattle.pdl_stagenets.specs.Parts.{Each, letting_in}
 use Rattle.pdl_locknets.specs.Deeds.{views_in, moves_in}
@@ -56,7 +56,7 @@ loop-i-preserved c =
     let m = c.args.m in
     let d = c.deed_at-deed.result in
     let v = c.loop-i.invariant in
-    let means = subst (λ (xs : List LettingNet). Means e c.in_ok-net.net (lets m (signal b d.moves) (map (letting_in b) xs) (signal b c.loop-i.net))) c.as_slice.ensures c.in_ok-net.ensures.means in
+    let means = subst (λ (xs : List LettingNet). Means e c.in_ok-net.net (release_moves m (signal b d.moves) (map (letting_in b) xs) (signal b c.loop-i.net))) c.as_slice.ensures c.in_ok-net.ensures.means in
     record {
       extends = extends_trans a b e v.extends c.in_ok-net.ensures.extends;
       means = released_more a b e m c.args.deeds.now c.loop-i.i d c.loop-i.net c.in_ok-net.net (extends_keeps a b v.extends) c.loop-i-test.true c.deed_at-deed.ensures c.requires.given v.means means;

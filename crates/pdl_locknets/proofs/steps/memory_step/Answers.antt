@@ -16,10 +16,10 @@ pub returns-in-None-clause-stepped : goal.returns-in-None-clause-stepped
 returns-in-None-clause-stepped g c =
     let L = g.L.LockModule in
     let l : Members g.row.L.Denot = record { placed = L.placed; stands = L.stands; kind = L.kind_of; size = L.size; tickets = L.tickets } in
-    let p = (form c.args._pipe.now).pipe in
+    let p = (form c.args.round.now.pipe.now).pipe in
     let a = c.args.b.now in
-    let xs = c.args.locks.now in
-    let ds = c.args.deeds.now in
+    let xs = c.args.round.now.locks.now in
+    let ds = c.args.round.now.deeds.now in
     stepped_not l a (mem_at p c.args.m) (step_of p (views_in a ds) (no_gates (locks_in l a xs)) (moves_in a ds) c.args.m) (some_at xs c.args.m) (sym c.lock_at.ensures ∙ c.in-None.is)
 
 pub lock_step-requires-clause-array : goal.lock_step-requires-clause-array
@@ -32,28 +32,28 @@ pub lock_step-requires-clause-given : goal.lock_step-requires-clause-given
 lock_step-requires-clause-given g c =
     let L = g.L.LockModule in
     let l : Members g.row.L.Denot = record { placed = L.placed; stands = L.stands; kind = L.kind_of; size = L.size; tickets = L.tickets } in
-    let f = form c.args._pipe.now in
-    all_given l c.args.b.now f.pipe f.widths c.args.locks.now c.args.m c.args.deeds.now (omega (arith, c.requires.low, c.requires.locked.count)) c.requires.deeds.each
+    let f = form c.args.round.now.pipe.now in
+    all_given l c.args.b.now f.pipe f.widths c.args.round.now.locks.now c.args.m c.args.round.now.deeds.now (omega (arith, c.requires.low, c.requires.locked.count)) c.requires.deeds.each
 
 pub lock_step-requires-clause-fit : goal.lock_step-requires-clause-fit
 lock_step-requires-clause-fit g c =
     let L = g.L.LockModule in
     let l : Members g.row.L.Denot = record { placed = L.placed; stands = L.stands; kind = L.kind_of; size = L.size; tickets = L.tickets } in
-    let f = form c.args._pipe.now in
+    let f = form c.args.round.now.pipe.now in
     let e = sym c.lock_at.ensures ∙ c.in-Some.is in
-    signals_fit l c.args.b.now f.pipe f.widths c.args.locks.now c.args.m c.in-Some.x c.args.deeds.now (omega (arith, c.requires.low, c.requires.locked.count)) e (c.requires.locked.locks c.args.m c.in-Some.x c.requires.low e) c.requires.deeds.each
+    signals_fit l c.args.b.now f.pipe f.widths c.args.round.now.locks.now c.args.m c.in-Some.x c.args.round.now.deeds.now (omega (arith, c.requires.low, c.requires.locked.count)) e (c.requires.locked.locks c.args.m c.in-Some.x c.requires.low e) c.requires.deeds.each
 
 pub returns-in_ok-nets-in-Some-clause-stepped : goal.returns-in_ok-nets-in-Some-clause-stepped
 returns-in_ok-nets-in-Some-clause-stepped g c =
     let L = g.L.LockModule in
     let l : Members g.row.L.Denot = record { placed = L.placed; stands = L.stands; kind = L.kind_of; size = L.size; tickets = L.tickets } in
-    let f = form c.args._pipe.now in
+    let f = form c.args.round.now.pipe.now in
     let p = f.pipe in
     let a = c.args.b.now in
     let d = c.lock_step.new.b in
     let m = c.args.m in
-    let xs = c.args.locks.now in
-    let ds = c.args.deeds.now in
+    let xs = c.args.round.now.locks.now in
+    let ds = c.args.round.now.deeds.now in
     let x = c.in-Some.x in
     let n = c.in_ok-nets-in-Some.nets in
     let h = c.in_ok-nets-in-Some.ensures in

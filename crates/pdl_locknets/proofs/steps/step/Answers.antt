@@ -17,10 +17,10 @@ pub loop-m-init : goal.loop-m-init
 loop-m-init g c =
     let L = g.L.LockModule in
     let l : Members g.row.L.Denot = record { placed = L.placed; stands = L.stands; kind = L.kind_of; size = L.size; tickets = L.tickets } in
-    let p = (form c.args.pipe.now).pipe in
+    let p = (form c.args.round.now.pipe.now).pipe in
     let a = c.args.b.now in
-    let xs = c.args.locks.now in
-    let ds = c.args.deeds.now in
+    let xs = c.args.round.now.locks.now in
+    let ds = c.args.round.now.deeds.now in
     let f = step_of p (views_in a ds) (no_gates (locks_in l a xs)) (moves_in a ds) in
     record {
       stepped = subst (λ (ns : List (Option LockNets)). AreStepped l a p f xs ns 0) (sym c.new-nets.ensures.items) (stepped_none l a p xs c.requires.locked c.requires.lawful f);
@@ -28,41 +28,41 @@ loop-m-init g c =
     }
 
 pub memory_step-requires-clause-bits : goal.memory_step-requires-clause-bits
-memory_step-requires-clause-bits g c = bits_keep c.args.b.now c.loop-m.b c.args.bits c.loop-m.invariant.extends.keeps c.requires.bits
+memory_step-requires-clause-bits g c = bits_keep c.args.b.now c.loop-m.b c.args.round.now.bits c.loop-m.invariant.extends.keeps c.requires.bits
 
 pub memory_step-requires-clause-locked : goal.memory_step-requires-clause-locked
 memory_step-requires-clause-locked g c =
     let L = g.L.LockModule in
     let l : Members g.row.L.Denot = record { placed = L.placed; stands = L.stands; kind = L.kind_of; size = L.size; tickets = L.tickets } in
-    locked_kept l c.args.b.now c.loop-m.b (form c.args.pipe.now).pipe c.args.locks.now c.loop-m.invariant.extends.keeps g.met.L.LockModule.stays c.requires.locked
+    locked_kept l c.args.b.now c.loop-m.b (form c.args.round.now.pipe.now).pipe c.args.round.now.locks.now c.loop-m.invariant.extends.keeps g.met.L.LockModule.stays c.requires.locked
 
 pub memory_step-requires-clause-unwritten : goal.memory_step-requires-clause-unwritten
 memory_step-requires-clause-unwritten g c =
     let L = g.L.LockModule in
     let l : Members g.row.L.Denot = record { placed = L.placed; stands = L.stands; kind = L.kind_of; size = L.size; tickets = L.tickets } in
-    let p = (form c.args.pipe.now).pipe in
+    let p = (form c.args.round.now.pipe.now).pipe in
     let low : c.loop-m.m < length p.mems = omega (arith, c.loop-m-test.true, mem_count p c.mems-m-end.result.now c.mems-m-end.ensures.mems) in
-    still_unwritten l c.args.b.now p c.args.locks.now c.requires.locked c.requires.lawful c.loop-m.m c.loop-m.b low c.loop-m.invariant.extends (c.requires.unwritten c.loop-m.m low)
+    still_unwritten l c.args.b.now p c.args.round.now.locks.now c.requires.locked c.requires.lawful c.loop-m.m c.loop-m.b low c.loop-m.invariant.extends (c.requires.unwritten c.loop-m.m low)
 
 pub memory_step-requires-clause-deeds : goal.memory_step-requires-clause-deeds
 memory_step-requires-clause-deeds g c =
     let L = g.L.LockModule in
     let l : Members g.row.L.Denot = record { placed = L.placed; stands = L.stands; kind = L.kind_of; size = L.size; tickets = L.tickets } in
-    let f = form c.args.pipe.now in
-    deeds_kept l c.args.b.now c.loop-m.b f.pipe f.widths c.args.locks.now c.args.deeds.now c.loop-m.invariant.extends.keeps c.requires.deeds
+    let f = form c.args.round.now.pipe.now in
+    deeds_kept l c.args.b.now c.loop-m.b f.pipe f.widths c.args.round.now.locks.now c.args.round.now.deeds.now c.loop-m.invariant.extends.keeps c.requires.deeds
 
 pub loop-m-preserved : goal.loop-m-preserved
 loop-m-preserved g c =
     let L = g.L.LockModule in
     let l : Members g.row.L.Denot = record { placed = L.placed; stands = L.stands; kind = L.kind_of; size = L.size; tickets = L.tickets } in
-    let form = form c.args.pipe.now in
+    let form = form c.args.round.now.pipe.now in
     let p = form.pipe in
     let a = c.args.b.now in
     let b = c.loop-m.b in
     let d = c.memory_step.new.b in
     let m = c.loop-m.m in
-    let xs = c.args.locks.now in
-    let ds = c.args.deeds.now in
+    let xs = c.args.round.now.locks.now in
+    let ds = c.args.round.now.deeds.now in
     let v = c.loop-m.invariant in
     let x = c.in_ok-net.ensures in
     let low : m < length p.mems = omega (arith, c.loop-m-test.true, mem_count p c.mems-m-end.result.now c.mems-m-end.ensures.mems) in
@@ -79,16 +79,16 @@ pub returns-clause-stepped : goal.returns-clause-stepped
 returns-clause-stepped g c =
     let L = g.L.LockModule in
     let l : Members g.row.L.Denot = record { placed = L.placed; stands = L.stands; kind = L.kind_of; size = L.size; tickets = L.tickets } in
-    let p = (form c.args.pipe.now).pipe in
+    let p = (form c.args.round.now.pipe.now).pipe in
     let a = c.args.b.now in
-    let xs = c.args.locks.now in
-    let ds = c.args.deeds.now in
+    let xs = c.args.round.now.locks.now in
+    let ds = c.args.round.now.deeds.now in
     let f = step_of p (views_in a ds) (no_gates (locks_in l a xs)) (moves_in a ds) in
     let n : c.loop-m.m ≡ length p.mems = omega (arith, c.loop-m-test.false, c.loop-m.auto.m-end, mem_count p c.mems-m-end.result.now c.mems-m-end.ensures.mems) in
     subst (λ i. AreStepped l c.loop-m.b p f xs c.loop-m.nets.items i) n c.loop-m.invariant.stepped
 
 pub returns-clause-extends : goal.returns-clause-extends
 returns-clause-extends g c =
-    let p = (form c.args.pipe.now).pipe in
+    let p = (form c.args.round.now.pipe.now).pipe in
     let n : c.loop-m.m ≡ length p.mems = omega (arith, c.loop-m-test.false, c.loop-m.auto.m-end, mem_count p c.mems-m-end.result.now c.mems-m-end.ensures.mems) in
-    subst (λ i. ExtendsLocks c.args.locks.now i c.args.b.now c.loop-m.b) n c.loop-m.invariant.extends
+    subst (λ i. ExtendsLocks c.args.round.now.locks.now i c.args.b.now c.loop-m.b) n c.loop-m.invariant.extends

@@ -4,7 +4,7 @@ use Rattle.pdl_word.specs.Words.{bit}
 use Rattle.pdl_machine_facts.specs.Ports.{stage_values}
 use Rattle.pdl_form.specs.Whole.{form}
 use Rattle.pdl_run.specs.View.{Standing, seats}
-use Rattle.pdl_run.specs.Acts.{acts_of, holds, movings, commits_shown, stages_after}
+use Rattle.pdl_run.specs.Acts.{acts_of, are_held, are_moving, commits_shown, stages_after}
 use Rattle.pdl_run.proofs.Turns.{stages_shown, commits_most, steps, few_args, vars_are, turn_state, turn_ready, turn_ports}
 use Rattle.pdl_run.proofs.cycle.cycle.Goals as goal
 
@@ -20,9 +20,9 @@ step_memories-requires-clause-room c =
     let f = form c.args.pipe.now in
     let zs = c.decide.new.stages in
     let xs = c.args.memories.now in
-    let shown : c.show_stages.new.shown.items ≡ c.clear.new.self.items ++ stage_values (holds zs) (movings zs) = c.show_stages.ensures.shown in
+    let shown : c.show_stages.new.shown.items ≡ c.clear.new.self.items ++ stage_values (are_held zs) (are_moving zs) = c.show_stages.ensures.shown in
     let none : c.clear.new.self.items ≡ [] = c.clear.ensures.items in
-    let long = length-append c.clear.new.self.items (stage_values (holds zs) (movings zs)) in
+    let long = length-append c.clear.new.self.items (stage_values (are_held zs) (are_moving zs)) in
     let all = ap (λ (vs : List ℕ). length vs) shown in
     let empty = ap (λ (vs : List ℕ). length vs) none in
     let many = stages_shown zs in
@@ -39,9 +39,9 @@ show_end-requires-clause-room c =
     let zs = c.decide.new.stages in
     let xs = c.args.memories.now in
     let ms = acts_of 0 zs in
-    let shown : c.show_stages.new.shown.items ≡ c.clear.new.self.items ++ stage_values (holds zs) (movings zs) = c.show_stages.ensures.shown in
+    let shown : c.show_stages.new.shown.items ≡ c.clear.new.self.items ++ stage_values (are_held zs) (are_moving zs) = c.show_stages.ensures.shown in
     let none : c.clear.new.self.items ≡ [] = c.clear.ensures.items in
-    let long = length-append c.clear.new.self.items (stage_values (holds zs) (movings zs)) in
+    let long = length-append c.clear.new.self.items (stage_values (are_held zs) (are_moving zs)) in
     let all = ap (λ (vs : List ℕ). length vs) shown in
     let empty = ap (λ (vs : List ℕ). length vs) none in
     let many = stages_shown zs in
@@ -80,10 +80,10 @@ returns-clause-ports c bits =
     let xs = c.args.memories.now in
     let ms = acts_of 0 zs in
     let empty : c.clear.new.self.items ≡ [] = c.clear.ensures.items in
-    let first : c.show_stages.new.shown.items ≡ stage_values (holds zs) (movings zs) = c.show_stages.ensures.shown ∙ ap (λ (vs : List ℕ). vs ++ stage_values (holds zs) (movings zs)) empty in
-    let second : c.step_memories.new.shown.items ≡ stage_values (holds zs) (movings zs) ++ commits_shown 0 ms xs = c.step_memories.ensures.shown ∙ ap (λ (vs : List ℕ). vs ++ commits_shown 0 ms xs) first in
+    let first : c.show_stages.new.shown.items ≡ stage_values (are_held zs) (are_moving zs) = c.show_stages.ensures.shown ∙ ap (λ (vs : List ℕ). vs ++ stage_values (are_held zs) (are_moving zs)) empty in
+    let second : c.step_memories.new.shown.items ≡ stage_values (are_held zs) (are_moving zs) ++ commits_shown 0 ms xs = c.step_memories.ensures.shown ∙ ap (λ (vs : List ℕ). vs ++ commits_shown 0 ms xs) first in
     turn_ports f c.requires.run c.args.stages.now zs c.args.way.now xs c.args.next c.requires.ready c.decide.ensures.seats c.decide.ensures.done c.requires.reached c.show_end.new.shown.items
-    (c.show_end.ensures.shown ∙ ap (λ (vs : List ℕ). vs ++ bit (slice_index_or (movings zs) (length zs - 1) false) ∷ 0 ∷ []) second) bits
+    (c.show_end.ensures.shown ∙ ap (λ (vs : List ℕ). vs ++ bit (slice_index_or (are_moving zs) (length zs - 1) false) ∷ 0 ∷ []) second) bits
 
 pub returns-clause-ready : goal.returns-clause-ready
 returns-clause-ready c =

@@ -6,7 +6,7 @@ use Rattle.pdl_run.specs.Ready.{AreStages}
 use Rattle.pdl_run.specs.Running.{seats_first}
 use Rattle.pdl_run.proofs.setup.first_stages.Given as goal
 
--- those behind the first are empty so far
+-- those after the first are empty so far
 abbrev pub invariant-loop-alloc : goal.invariant-loop-alloc
 invariant-loop-alloc l =
     record {

@@ -5,4 +5,4 @@ use Rattle.pdl_run.proofs.step.is_released.Given as goal
 
 -- the stages left decide
 abbrev pub invariant-loop-stage : goal.invariant-loop-stage
-invariant-loop-stage l = stated.releases l.m (acts_of l.stage-index (drop l.stage-index l.stages)) ≡ stated.releases l.m (acts_of 0 l.stages)
+invariant-loop-stage l = stated.has_release l.m (acts_of l.stage-index (drop l.stage-index l.stages)) ≡ stated.has_release l.m (acts_of 0 l.stages)

@@ -8,7 +8,7 @@ abbrev pub invariant-loop-k : goal.invariant-loop-k
 invariant-loop-k l =
     record {
       small : l.k ≤ length l.stages;
-      done : l.memory ≡ record l.initial.memory { pending = stated.appended l.m (acts_of l.k (drop l.k l.stages)) l.initial.memory.pending };
+      done : l.memory ≡ record l.initial.memory { pending = stated.with_reserves l.m (acts_of l.k (drop l.k l.stages)) l.initial.memory.pending };
     }
 
 abbrev pub decreases-loop-k : goal.decreases-loop-k

@@ -10,8 +10,8 @@ pub reserve-requires : goal.reserve-requires
 reserve-requires c =
     let x = c.args.stage.now in
     let p = c.args.memory.now in
-    let all : length (stated.appended c.args.m (act_of 0 (Some c.in-Some.thread) x) p.pending) ≤ p.capacity =
-    subst (λ (o : Option ℕ). length (stated.appended c.args.m (act_of 0 o x) p.pending) ≤ p.capacity) (sym c.in-Some.ensures) (c.requires 0) in
+    let all : length (stated.with_reserves c.args.m (act_of 0 (Some c.in-Some.thread) x) p.pending) ≤ p.capacity =
+    subst (λ (o : Option ℕ). length (stated.with_reserves c.args.m (act_of 0 o x) p.pending) ≤ p.capacity) (sym c.in-Some.ensures) (c.requires 0) in
     let same : map reserved_view c.as_slice.result.now ≡ map reserved_view x.deeds.reserves.items = ap (λ (rs : List r_reserved.Reserved). map reserved_view rs) c.as_slice.ensures.value in
     let es = stated.new_entries c.args.m c.in-Some.thread in
     let long : length (es (map reserved_view c.as_slice.result.now)) ≡ length (es (map reserved_view x.deeds.reserves.items)) = ap (λ (rs : List Reserved). length (es rs)) same in

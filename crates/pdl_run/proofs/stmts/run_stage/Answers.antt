@@ -2,7 +2,7 @@ use Rattle.std.proofs.Common.{◌≡◌, ◌≤◌, ◌+◌, ◌∙◌, sym, ap,
 use Rattle.std.specs.Prelude.{vec_capacity}
 use Rattle.std.proofs.lemmas.List.{length-drop}
 use Rattle.pdl_semantics.specs.Flat.{Stmt}
-use Rattle.pdl_semantics.specs.Machine.{does_all}
+use Rattle.pdl_semantics.specs.Machine.{deeds_after_all}
 use Rattle.pdl_form.specs.Form.{stmt_at}
 use Rattle.pdl_form.specs.Whole.{form}
 use Rattle.pdl_form.specs.View.{stmt_view}
@@ -41,7 +41,7 @@ loop-row-preserved c =
     record {
       deeds =
           deeds_more ms c.args.thread s rest old new c.run_stmt.ensures.deeds
-          ∙ ap (λ (ss : List Stmt). strip (does_all (word_of ms c.args.thread) ss old)) (sym split)
+          ∙ ap (λ (ss : List Stmt). strip (deeds_after_all (word_of ms c.args.thread) ss old)) (sym split)
           ∙ c.loop-row.invariant.deeds;
       ready =
           ready_more ms c.args.thread s rest old new c.run_stmt.ensures.deeds c.loop-row.deeds.ready c.run_stmt.new.deeds.ready c.run_stmt.ensures.ready

@@ -1,5 +1,5 @@
 use Rattle.std.proofs.Common.{◌≡◌, ◌&&◌, map, drop, length}
-use Rattle.pdl_semantics.specs.Machine.{does_all}
+use Rattle.pdl_semantics.specs.Machine.{deeds_after_all}
 use Rattle.pdl_form.specs.Form.{stmt_at}
 use Rattle.pdl_form.specs.Whole.{form}
 use Rattle.pdl_run.specs.View.{deeds_view}
@@ -12,8 +12,8 @@ use Rattle.pdl_run.proofs.stmts.run_stage.Given as goal
 abbrev pub invariant-loop-row : goal.invariant-loop-row
 invariant-loop-row l =
     record {
-      deeds : strip (does_all (word_of l.memories l.thread) (map (stmt_at (form l.pipe).pipe.stmts) (drop l.row-index l.row-items)) (deeds_view l.deeds))
-          ≡ strip (does_all (word_of l.memories l.thread) (map (stmt_at (form l.pipe).pipe.stmts) l.row-items) (deeds_view l.initial.deeds));
+      deeds : strip (deeds_after_all (word_of l.memories l.thread) (map (stmt_at (form l.pipe).pipe.stmts) (drop l.row-index l.row-items)) (deeds_view l.deeds))
+          ≡ strip (deeds_after_all (word_of l.memories l.thread) (map (stmt_at (form l.pipe).pipe.stmts) l.row-items) (deeds_view l.initial.deeds));
       ready : (l.deeds.ready && all_let_move l.memories l.thread (map (stmt_at (form l.pipe).pipe.stmts) (drop l.row-index l.row-items)) (deeds_view l.deeds))
           ≡ (l.initial.deeds.ready && all_let_move l.memories l.thread (map (stmt_at (form l.pipe).pipe.stmts) l.row-items) (deeds_view l.initial.deeds));
       fit : AreFit (form l.pipe) (deeds_view l.deeds);

@@ -1,6 +1,6 @@
 use Rattle.std.proofs.Common.{◌≡◌, ◌≤◌, ◌+◌, ◌∙◌, sym, ap, subst, List, [], ◌∷◌, drop, length, arith}
 use Rattle.std.specs.Prelude.{vec_capacity}
-use Rattle.pdl_semantics.specs.Flat.{Stmt, taken}
+use Rattle.pdl_semantics.specs.Flat.{Stmt, all_hold}
 use Rattle.pdl_semantics.specs.Sequential.{Run, run_all}
 use Rattle.pdl_form.specs.Whole.{form}
 use Rattle.pdl_form.specs.View.{stmt_view, stmts_view, guards_view, act_view}
@@ -53,7 +53,7 @@ loop-stmt-preserved c =
         shaped = shaped_same f.pipe c.loop-stmt.turn.memories.items c.run_stmt.new.turn.memories.items c.run_stmt.ensures.shape c.loop-stmt.invariant.fit.shaped;
         fitting =
             subst (AreFitting f) (sym c.run_stmt.ensures.run)
-            (fits_if f c.requires.run.typed.wide (taken (guards_view x.guards) c.loop-stmt.turn.values.items) (act_view x.op) now typed.1 c.loop-stmt.invariant.fit.fitting);
+            (fits_if f c.requires.run.typed.wide (all_hold (guards_view x.guards) c.loop-stmt.turn.values.items) (act_view x.op) now typed.1 c.loop-stmt.invariant.fit.fitting);
       };
       rooms = c.run_stmt.ensures.rooms ∙ c.loop-stmt.invariant.rooms;
     }

@@ -24,12 +24,12 @@ pub returns-in_err-write-2-clause-extends : goal.returns-in_err-write-2-clause-e
 returns-in_err-write-2-clause-extends g c = extends_trans c.args.b.now c.look-2.new.b c.look-3.new.b c.look-2.ensures.extends c.look-3.ensures.extends
 
 pub returns-clause-extends : goal.returns-clause-extends
-returns-clause-extends g c = extends_trans c.args.b.now c.look-3.new.b c.pick.new.b (extends_trans c.args.b.now c.look-2.new.b c.look-3.new.b c.look-2.ensures.extends c.look-3.ensures.extends) c.pick.ensures.extends
+returns-clause-extends g c = extends_trans c.args.b.now c.look-3.new.b c.mux.new.self (extends_trans c.args.b.now c.look-2.new.b c.look-3.new.b c.look-2.ensures.extends c.look-3.ensures.extends) c.mux.ensures.extends
 
 pub returns-clause-looked : goal.returns-clause-looked
 returns-clause-looked g c =
     let a = c.args.b.now in
-    IfOk-weaker c.pick.result _ _
-    (λ x m. looked_join (locks_in (members g.L.LockModule) a c.args.setting.now.locks.now) c.args.m a c.look-2.new.b c.look-3.new.b c.pick.new.b c.args.held c.args.addr c.args.ticket c.in_ok-write-2.write.ready c.in_ok-read.read.ready x _ _
+    IfOk-weaker c.mux.result _ _
+    (λ x m. looked_join (locks_in (members g.L.LockModule) a c.args.setting.now.locks.now) c.args.m a c.look-2.new.b c.look-3.new.b c.mux.new.self c.args.held c.args.addr c.args.ticket c.in_ok-write-2.write.ready c.in_ok-read.read.ready x _ _
     c.look-2.ensures.extends c.look-3.ensures.extends c.requires.held_there c.requires.addr_there c.requires.ticket_there c.in_ok-read.ensures.ready_there c.in_ok-read.ensures.law c.in_ok-write-2.ensures.law m)
-    c.pick.ensures.means
+    c.mux.ensures.means

@@ -24,7 +24,7 @@ loop-i-preserved c =
     let a = c.args.b.now in
     let b = c.loop-i.b in
     let e = c.both.new.b in
-    let d = c.pick.new.b in
+    let d = c.mux.new.self in
     let w = (signal a c.args.rest).width in
     let t = c.loop-i-test.true in
     let x = c.index-births-births.result in
@@ -36,9 +36,9 @@ loop-i-preserved c =
     let more = extends_trans a b e c.loop-i.invariant.extends c.both.ensures.extends in
     record {
       means = call_made a b e d (signal a c.args.moves) c.args.moves c.in_ok-comes.comes c.brought-value.result c.loop-i.net c.in_ok-net.net c.args.what xs k (length xs - c.loop-i.i) x (signal a c.args.rest)
-          (omega (arith, t)) (omega (arith, t)) is (extends_keeps a b c.loop-i.invariant.extends) c.both.ensures.extends c.pick.ensures.extends c.requires.moves refl birth.on birth.args c.loop-i.invariant.means.there
+          (omega (arith, t)) (omega (arith, t)) is (extends_keeps a b c.loop-i.invariant.extends) c.both.ensures.extends c.mux.ensures.extends c.requires.moves refl birth.on birth.args c.loop-i.invariant.means.there
           c.in_ok-comes.ensures.means c.brought-value.ensures.means c.in_ok-net.ensures.means c.loop-i.invariant.means.same;
       wide = ap (λ (f : Signal). f.width) c.in_ok-net.ensures.means.same ∙ c.brought-value.ensures.wide ∙ c.width-width.ensures.value;
-      extends = extends_trans a e d more c.pick.ensures.extends;
-      regs = c.pick.ensures.regs ∙ c.both.ensures.regs ∙ c.loop-i.invariant.regs;
+      extends = extends_trans a e d more c.mux.ensures.extends;
+      regs = c.mux.ensures.regs ∙ c.both.ensures.regs ∙ c.loop-i.invariant.regs;
     }

@@ -6,7 +6,7 @@ use Rattle.pdl_net.specs.Meaning.{signal, next_signal, IsThere}
 use Rattle.pdl_net.specs.Signal.{mux_signal, reg_signal}
 use Rattle.pdl_net.proofs.Keeps.{but_keeps}
 use Rattle.pdl_pipe_law.specs.Walk.{one, zero_bit}
-use Rattle.pdl_pipe_law.specs.Views.{new_from, picked}
+use Rattle.pdl_pipe_law.specs.Views.{new_from, first_coming}
 use Rattle.pdl_stageregs.specs.declared.births.Brings.TheVariants.{Thread}
 use Rattle.pdl_stageregs.specs.Items.{item_at, comer_item}
 use Rattle.pdl_stageregs.specs.Stages.{reg_of, end_of, views_in}
@@ -76,9 +76,9 @@ loop-i-preserved c =
     let os = new_from (views_in a p ss) (moves_in a ms) (length ss) 0 in
     let fit = c.requires.fit.kept i low in
     let there = subst (λ m. IsThere a (RegNet m)) (sym at) (arg_there a ss (reg_of s i) (item_at s.kept i) fit) in
-    let next : next_signal d r ≡ picked (comer_item (item_at s.kept i)) os (signal a (RegNet r)) =
+    let next : next_signal d r ≡ first_coming (comer_item (item_at s.kept i)) os (signal a (RegNet r)) =
     c.in_ok-take_arg.ensures.next
-    ∙ ap₂ (λ xs f. picked (comer_item c.item_of-item.result) xs f) (new_keep a b p 1 Thread ss ms keeps c.requires.fit.thread c.requires.count c.requires.moves) (keeps.kept (RegNet r) there)
-    ∙ ap (λ x. picked (comer_item x) os (signal a (RegNet r))) (sym is) in
-    taken_more a b d s (picked (λ o. one) os (mux_signal (moves_in a ms 0) zero_bit (reg_signal 1 s.valid))) (λ j f. picked (comer_item j) os f)
+    ∙ ap₂ (λ xs f. first_coming (comer_item c.item_of-item.result) xs f) (new_keep a b p 1 Thread ss ms keeps c.requires.fit.thread c.requires.count c.requires.moves) (keeps.kept (RegNet r) there)
+    ∙ ap (λ x. first_coming (comer_item x) os (signal a (RegNet r))) (sym is) in
+    taken_more a b d s (first_coming (λ o. one) os (mux_signal (moves_in a ms 0) zero_bit (reg_signal 1 s.valid))) (λ j f. first_coming (comer_item j) os f)
     i r at low c.requires.fit.valid.has (λ j l. arg_has a ss (reg_of s j) (item_at s.kept j) (c.requires.fit.kept j l)) c.take_arg.ensures.extends next c.loop-i.invariant

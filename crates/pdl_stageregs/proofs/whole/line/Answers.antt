@@ -20,15 +20,15 @@ use Rattle.pdl_stageregs.proofs.LineMade.{all_keep, ended_of, all_d, moved_d, ta
 use Rattle.pdl_stageregs.proofs.whole.line.Goals as goal
 use Rattle.pdl_pipe_law.proofs.Next.{lock_there}
 
-pub moves-requires-clause-bits : goal.moves-requires-clause-bits
-moves-requires-clause-bits g c =
+pub stages_moving-requires-clause-bits : goal.stages_moving-requires-clause-bits
+stages_moving-requires-clause-bits g c =
     let a = c.args.b.now in
     let b1 = c.stages.new.b in
     let e1 : Keeps a b1 = extends_keeps a b1 c.stages.ensures.extends in
     bits_keep a b1 c.args.bits e1 c.requires.bits
 
-pub moves-requires-clause-count : goal.moves-requires-clause-count
-moves-requires-clause-count g c =
+pub stages_moving-requires-clause-count : goal.stages_moving-requires-clause-count
+stages_moving-requires-clause-count g c =
     let f = form c.args.pipe.now in
     let p = f.pipe in
     let ss = c.as_slice-made.result.now in
@@ -36,8 +36,8 @@ moves-requires-clause-count g c =
     let long : length ss ≡ length p.stages = ap length sv ∙ c.in_ok-all.ensures.count in
     long
 
-pub moves-requires-clause-gated : goal.moves-requires-clause-gated
-moves-requires-clause-gated g c =
+pub stages_moving-requires-clause-gated : goal.stages_moving-requires-clause-gated
+stages_moving-requires-clause-gated g c =
     let a = c.args.b.now in
     let b1 = c.stages.new.b in
     let f = form c.args.pipe.now in
@@ -55,8 +55,8 @@ connect-requires-clause-bits g c =
     let a = c.args.b.now in
     let b1 = c.stages.new.b in
     let e1 : Keeps a b1 = extends_keeps a b1 c.stages.ensures.extends in
-    let b2 = c.moves.new.b in
-    let e12 : Keeps b1 b2 = extends_keeps b1 b2 c.moves.ensures.extends in
+    let b2 = c.stages_moving.new.b in
+    let e12 : Keeps b1 b2 = extends_keeps b1 b2 c.stages_moving.ensures.extends in
     let e2 : Keeps a b2 = keeps_trans a b1 b2 e1 e12 in
     bits_keep a b2 c.args.bits e2 c.requires.bits
 
@@ -76,8 +76,8 @@ connect-requires-clause-fit g c =
     let long : length ss ≡ length p.stages = ap length sv ∙ c.in_ok-all.ensures.count in
     let some : 0 < length ss = (let q = c.requires.plain.some in omega (arith, q, long)) in
     let all1 : AreStaged b1 f nexts ls ss = subst (AreStaged b1 f nexts ls) (sym sv) c.in_ok-all.ensures.staged in
-    let b2 = c.moves.new.b in
-    let e12 : Keeps b1 b2 = extends_keeps b1 b2 c.moves.ensures.extends in
+    let b2 = c.stages_moving.new.b in
+    let e12 : Keeps b1 b2 = extends_keeps b1 b2 c.stages_moving.ensures.extends in
     let apart1 : AreApart low (length b1.regs) ss = subst (AreApart low (length b1.regs)) (sym sv) c.in_ok-all.ensures.apart in
     let all2 = all_keep b1 b2 e12 f nexts ls ss (ended_of b1 f nexts ls ss all1) all1 in
     let n = length-map xs (of_lock (λ x. signal a x.regs.ticket) zero_bit) in
@@ -99,7 +99,7 @@ connect-requires-clause-moves g c =
     let f = form c.args.pipe.now in
     let p = f.pipe in
     let ss = c.as_slice-made.result.now in
-    let b2 = c.moves.new.b in
+    let b2 = c.stages_moving.new.b in
     let ms = c.as_slice-moving.result.now in
     let mv = c.as_slice-moving.ensures.value in
     let count : length ms ≡ length ss = ap length mv ∙ c.in_ok-gates.ensures.count in
@@ -124,8 +124,8 @@ returns-clause-line g c =
     let long : length ss ≡ length p.stages = ap length sv ∙ c.in_ok-all.ensures.count in
     let some : 0 < length ss = (let q = c.requires.plain.some in omega (arith, q, long)) in
     let all1 : AreStaged b1 f nexts ls ss = subst (AreStaged b1 f nexts ls) (sym sv) c.in_ok-all.ensures.staged in
-    let b2 = c.moves.new.b in
-    let e12 : Keeps b1 b2 = extends_keeps b1 b2 c.moves.ensures.extends in
+    let b2 = c.stages_moving.new.b in
+    let e12 : Keeps b1 b2 = extends_keeps b1 b2 c.stages_moving.ensures.extends in
     let e2 : Keeps a b2 = keeps_trans a b1 b2 e1 e12 in
     let ms = c.as_slice-moving.result.now in
     let mv = c.as_slice-moving.ensures.value in
@@ -158,8 +158,8 @@ returns-clause-law g c =
     let long : length ss ≡ length p.stages = ap length sv ∙ c.in_ok-all.ensures.count in
     let some : 0 < length ss = (let q = c.requires.plain.some in omega (arith, q, long)) in
     let all1 : AreStaged b1 f nexts ls ss = subst (AreStaged b1 f nexts ls) (sym sv) c.in_ok-all.ensures.staged in
-    let b2 = c.moves.new.b in
-    let e12 : Keeps b1 b2 = extends_keeps b1 b2 c.moves.ensures.extends in
+    let b2 = c.stages_moving.new.b in
+    let e12 : Keeps b1 b2 = extends_keeps b1 b2 c.stages_moving.ensures.extends in
     let ms = c.as_slice-moving.result.now in
     let mv = c.as_slice-moving.ensures.value in
     let count : length ms ≡ length ss = ap length mv ∙ c.in_ok-gates.ensures.count in
@@ -190,13 +190,13 @@ returns-clause-extends g c =
     let sv = c.as_slice-made.ensures.value in
     let long : length ss ≡ length p.stages = ap length sv ∙ c.in_ok-all.ensures.count in
     let some : 0 < length ss = (let q = c.requires.plain.some in omega (arith, q, long)) in
-    let b2 = c.moves.new.b in
+    let b2 = c.stages_moving.new.b in
     let apart1 : AreApart low (length b1.regs) ss = subst (AreApart low (length b1.regs)) (sym sv) c.in_ok-all.ensures.apart in
     let b3 = c.connect.new.b in
     let first = some_stage ss 0 some in
     let s = first.0 in
     let grown : ExtendsBut (regs_of s.valid (length b2.regs)) b2 b3 = c.connect.ensures.extends s first.1 in
-    line_extends a b1 b2 b3 low s c.stages.ensures.extends c.moves.ensures.extends (apart1.from 0 s some first.1) grown
+    line_extends a b1 b2 b3 low s c.stages.ensures.extends c.stages_moving.ensures.extends (apart1.from 0 s some first.1) grown
 
 pub returns-in_err-connect-clause-extends : goal.returns-in_err-connect-clause-extends
 returns-in_err-connect-clause-extends g c =
@@ -209,20 +209,20 @@ returns-in_err-connect-clause-extends g c =
     let sv = c.as_slice-made.ensures.value in
     let long : length ss ≡ length p.stages = ap length sv ∙ c.in_ok-all.ensures.count in
     let some : 0 < length ss = (let q = c.requires.plain.some in omega (arith, q, long)) in
-    let b2 = c.moves.new.b in
+    let b2 = c.stages_moving.new.b in
     let apart1 : AreApart low (length b1.regs) ss = subst (AreApart low (length b1.regs)) (sym sv) c.in_ok-all.ensures.apart in
     let b3 = c.connect.new.b in
     let first = some_stage ss 0 some in
     let s = first.0 in
     let grown : ExtendsBut (regs_of s.valid (length b2.regs)) b2 b3 = c.connect.ensures.extends s first.1 in
-    line_extends a b1 b2 b3 low s c.stages.ensures.extends c.moves.ensures.extends (apart1.from 0 s some first.1) grown
+    line_extends a b1 b2 b3 low s c.stages.ensures.extends c.stages_moving.ensures.extends (apart1.from 0 s some first.1) grown
 
 pub returns-in_err-gates-clause-extends : goal.returns-in_err-gates-clause-extends
 returns-in_err-gates-clause-extends g c =
     let a = c.args.b.now in
     let b1 = c.stages.new.b in
-    let b2 = c.moves.new.b in
-    but_extends (regs_of (length a.regs) (length b2.regs)) a b2 (extends_trans a b1 b2 c.stages.ensures.extends c.moves.ensures.extends)
+    let b2 = c.stages_moving.new.b in
+    but_extends (regs_of (length a.regs) (length b2.regs)) a b2 (extends_trans a b1 b2 c.stages.ensures.extends c.stages_moving.ensures.extends)
 
 pub returns-in_err-all-clause-extends : goal.returns-in_err-all-clause-extends
 returns-in_err-all-clause-extends g c = but_extends (regs_of (length c.args.b.now.regs) (length c.stages.new.b.regs)) c.args.b.now c.stages.new.b c.stages.ensures.extends

@@ -4,18 +4,27 @@ use Rattle.pdl_semantics.specs.Flat.{arrays_of}
 use Rattle.pdl_semantics.specs.Sequential.{Run, run_all, thread}
 use Rattle.pdl_form.specs.Whole.{form}
 use Rattle.pdl_seq.specs.Turns.{Rooms, rooms, commits_view, run_view}
-use Rattle.pdl_seq.specs.Runs.{Running, HasRun, told}
+use Rattle.pdl_seq.specs.Runs.{Running, HasRun, numbered_write}
 use Rattle.pdl_seq.specs.declared.commit.Commit as r_commit
 use Rattle.pdl_seq.proofs.Few.{few, few_lent}
 use Rattle.pdl_seq.proofs.Telling.{told_more}
 use Rattle.pdl_seq.proofs.Threads.{arrays_next, args_next, writes_next}
 use Rattle.pdl_seq.proofs.run.SeqRun.next_thread.Goals as goal
 
+pub begin-requires : goal.begin-requires
+begin-requires c =
+    let fit = c.self.invariant.fit.fitting in
+    let params = c.self.invariant.runnable.typed.params in
+    omega (arith, fit.next_args.few, fit.values.count, params)
+
+pub run_turn-requires-clause-fit : goal.run_turn-requires-clause-fit
+run_turn-requires-clause-fit c = c.begin.ensures.fit (form c.self.inside.pipe.now) c.self.invariant.runnable c.self.invariant.fit
+
 pub run_turn-requires-clause-room : goal.run_turn-requires-clause-room
 run_turn-requires-clause-room c =
     let f = form c.self.inside.pipe.now in
     let begun : length (run_all f.pipe.stmts (run_view c.begin.new.turn)).writes ≡ length (thread f.pipe (arrays_of c.self.inside.turn.memories.items) c.self.inside.turn.next.items).writes =
-    ap (λ (r : Run). length (run_all f.pipe.stmts r).writes) c.begin.ensures.run in
+    ap (λ (r : Run). length (run_all f.pipe.stmts r).writes) (c.begin.ensures.run (form c.self.inside.pipe.now) c.self.invariant.runnable c.self.invariant.fit) in
     let most = few f c.self.invariant.runnable (arrays_of c.self.inside.turn.memories.items) c.self.inside.turn.next.items in
     let same : vec_capacity c.begin.new.turn.commits ≡ vec_capacity c.self.inside.turn.commits = ap (λ (r : Rooms). r.commits) c.begin.ensures.rooms in
     let room : 16 ≤ vec_capacity c.self.inside.turn.commits = c.self.invariant.commits in
@@ -24,7 +33,7 @@ run_turn-requires-clause-room c =
 pub tell-requires : goal.tell-requires
 tell-requires c =
     let p = (form c.self.inside.pipe.now).pipe in
-    let ran : run_view c.run_turn.new.turn ≡ thread p (arrays_of c.self.inside.turn.memories.items) c.self.inside.turn.next.items = c.run_turn.ensures.run ∙ ap (run_all p.stmts) c.begin.ensures.run in
+    let ran : run_view c.run_turn.new.turn ≡ thread p (arrays_of c.self.inside.turn.memories.items) c.self.inside.turn.next.items = c.run_turn.ensures.run ∙ ap (run_all p.stmts) (c.begin.ensures.run (form c.self.inside.pipe.now) c.self.invariant.runnable c.self.invariant.fit) in
     let most = few_lent (form c.self.inside.pipe.now) c.self.invariant.runnable _ _ (run_view c.run_turn.new.turn) c.run_turn.new.turn.commits.items c.as_slice.result.now ran refl c.as_slice.ensures.value in
     let run : c.self.inside.run ≡ c.args.self.now.run = ap (λ (r : Running). r.run) c.self.view_is in
     let threads : c.self.inside.threads ≡ c.args.self.now.threads = ap (λ (r : Running). r.threads) c.self.view_is in
@@ -35,7 +44,7 @@ tell-requires c =
 pub invariant_of-self : goal.invariant_of-self
 invariant_of-self c =
     let f = form c.self.inside.pipe.now in
-    let ran : run_view c.run_turn.new.turn ≡ thread f.pipe (arrays_of c.self.inside.turn.memories.items) c.self.inside.turn.next.items = c.run_turn.ensures.run ∙ ap (run_all f.pipe.stmts) c.begin.ensures.run in
+    let ran : run_view c.run_turn.new.turn ≡ thread f.pipe (arrays_of c.self.inside.turn.memories.items) c.self.inside.turn.next.items = c.run_turn.ensures.run ∙ ap (run_all f.pipe.stmts) (c.begin.ensures.run (form c.self.inside.pipe.now) c.self.invariant.runnable c.self.invariant.fit) in
     let most = few_lent f c.self.invariant.runnable _ _ (run_view c.run_turn.new.turn) c.run_turn.new.turn.commits.items c.as_slice.result.now ran refl c.as_slice.ensures.value in
     let run : c.self.inside.run ≡ c.args.self.now.run = ap (λ (r : Running). r.run) c.self.view_is in
     let threads : c.self.inside.threads ≡ c.args.self.now.threads = ap (λ (r : Running). r.threads) c.self.view_is in
@@ -65,11 +74,11 @@ returns-clause-run c = λ image h.
     let more : k + 1 ≡ suc k = omega arith in
     let arrays = arrays_of c.self.inside.turn.memories.items in
     let args = c.self.inside.turn.next.items in
-    let ran : run_view c.run_turn.new.turn ≡ thread p arrays args = c.run_turn.ensures.run ∙ ap (run_all p.stmts) c.begin.ensures.run in
+    let ran : run_view c.run_turn.new.turn ≡ thread p arrays args = c.run_turn.ensures.run ∙ ap (run_all p.stmts) (c.begin.ensures.run (form c.self.inside.pipe.now) c.self.invariant.runnable c.self.invariant.fit) in
     record {
       writes =
           writes_next p start k (k + 1) more arrays args (run_view c.run_turn.new.turn) old.memories old.next ran c.self.inside.writes.items c.tell.new.writes.items old.writes
-          (c.tell.ensures.writes ∙ ap (λ (cs : List r_commit.Commit). c.self.inside.writes.items ++ map (told (k + 1)) (commits_view cs)) c.as_slice.ensures.value);
+          (c.tell.ensures.writes ∙ ap (λ (cs : List r_commit.Commit). c.self.inside.writes.items ++ map (numbered_write (k + 1)) (commits_view cs)) c.as_slice.ensures.value);
       memories = arrays_next p start k (k + 1) more arrays args (run_view c.run_turn.new.turn) old.memories old.next ran;
       next = args_next p start k (k + 1) more arrays args (run_view c.run_turn.new.turn) old.memories old.next ran;
     }

@@ -14,10 +14,10 @@ use Rattle.pdl_stagenets.proofs.Answered.{var_same}
 use Rattle.pdl_stagenets.proofs.nets.WalkNets.bind.Goals as goal
 
 pub value-requires-clause-walk : goal.value-requires-clause-walk
-value-requires-clause-walk c = walk_more c.args.b.now c.taken.new.b c.taken.ensures.extends (form c.args.pipe.now).pipe (form c.args.pipe.now).widths c.args.self.now c.requires.walk
+value-requires-clause-walk c = walk_more c.args.b.now c.all_taken.new.b c.all_taken.ensures.extends (form c.args.pipe.now).pipe (form c.args.pipe.now).widths c.args.self.now c.requires.walk
 
 pub set-requires-clause-walk : goal.set-requires-clause-walk
-set-requires-clause-walk c = walk_more c.args.b.now c.value.new.b (extends_trans c.args.b.now c.taken.new.b c.value.new.b c.taken.ensures.extends c.value.ensures.extends) (form c.args.pipe.now).pipe (form c.args.pipe.now).widths c.args.self.now c.requires.walk
+set-requires-clause-walk c = walk_more c.args.b.now c.value.new.b (extends_trans c.args.b.now c.all_taken.new.b c.value.new.b c.all_taken.ensures.extends c.value.ensures.extends) (form c.args.pipe.now).pipe (form c.args.pipe.now).widths c.args.self.now c.requires.walk
 
 pub set-requires-clause-wide : goal.set-requires-clause-wide
 set-requires-clause-wide c = c.in_ok-net.ensures.wide ∙ c.requires.wide
@@ -25,9 +25,9 @@ set-requires-clause-wide c = c.in_ok-net.ensures.wide ∙ c.requires.wide
 pub returns-clause-parts : goal.returns-clause-parts
 returns-clause-parts c =
     let a = c.args.b.now in
-    let one = c.taken.new.b in
+    let one = c.all_taken.new.b in
     let w = c.args.self.now in
-    let first = c.taken.ensures.extends in
+    let first = c.all_taken.ensures.extends in
     let two = c.value.new.b in
     let far = extends_trans a one two first c.value.ensures.extends in
     let fs = signals_in a w.vars.items in

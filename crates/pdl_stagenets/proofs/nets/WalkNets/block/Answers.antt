@@ -16,25 +16,25 @@ use Rattle.pdl_stagenets.proofs.MadeLocks.{locked_keep, tickets_keep, looked_as}
 use Rattle.pdl_stagenets.proofs.nets.WalkNets.block.Goals as goal
 
 pub look_ready-requires-clause-walk : goal.look_ready-requires-clause-walk
-look_ready-requires-clause-walk g c = walk_more c.args.b.now c.taken.new.b c.taken.ensures.extends (form c.args.setting.now.pipe.now).pipe (form c.args.setting.now.pipe.now).widths c.args.self.now c.requires.walk
+look_ready-requires-clause-walk g c = walk_more c.args.b.now c.all_taken.new.b c.all_taken.ensures.extends (form c.args.setting.now.pipe.now).pipe (form c.args.setting.now.pipe.now).widths c.args.self.now c.requires.walk
 
 pub look_ready-requires-clause-locks : goal.look_ready-requires-clause-locks
-look_ready-requires-clause-locks g c = locked_keep (members g.L.LockModule) c.args.b.now c.taken.new.b (extends_keeps c.args.b.now c.taken.new.b c.taken.ensures.extends) g.met.L.LockModule.stays (form c.args.setting.now.pipe.now).pipe c.args.setting.now.locks.now c.requires.locks
+look_ready-requires-clause-locks g c = locked_keep (members g.L.LockModule) c.args.b.now c.all_taken.new.b (extends_keeps c.args.b.now c.all_taken.new.b c.all_taken.ensures.extends) g.met.L.LockModule.stays (form c.args.setting.now.pipe.now).pipe c.args.setting.now.locks.now c.requires.locks
 
 pub look_ready-requires-clause-tickets : goal.look_ready-requires-clause-tickets
 look_ready-requires-clause-tickets g c =
-    tickets_keep (members g.L.LockModule) c.args.b.now c.taken.new.b (extends_keeps c.args.b.now c.taken.new.b c.taken.ensures.extends) g.met.L.LockModule.stays (form c.args.setting.now.pipe.now).pipe c.args.setting.now.locks.now c.requires.locks c.args.setting.now.tickets.now c.requires.tickets
+    tickets_keep (members g.L.LockModule) c.args.b.now c.all_taken.new.b (extends_keeps c.args.b.now c.all_taken.new.b c.all_taken.ensures.extends) g.met.L.LockModule.stays (form c.args.setting.now.pipe.now).pipe c.args.setting.now.locks.now c.requires.locks c.args.setting.now.tickets.now c.requires.tickets
 
 pub returns-in_err-ready-clause-extends : goal.returns-in_err-ready-clause-extends
-returns-in_err-ready-clause-extends g c = extends_trans c.args.b.now c.taken.new.b c.look_ready.new.b c.taken.ensures.extends c.look_ready.ensures.extends
+returns-in_err-ready-clause-extends g c = extends_trans c.args.b.now c.all_taken.new.b c.look_ready.new.b c.all_taken.ensures.extends c.look_ready.ensures.extends
 
 pub wait-requires-clause-walk : goal.wait-requires-clause-walk
 wait-requires-clause-walk g c =
     let a = c.args.b.now in
-    let one = c.taken.new.b in
+    let one = c.all_taken.new.b in
     let two = c.look_ready.new.b in
     let w = c.args.self.now in
-    let first = c.taken.ensures.extends in
+    let first = c.all_taken.ensures.extends in
     let after = c.look_ready.ensures.extends in
     let far = extends_trans a one two first after in
     walk_more a two far (form c.args.setting.now.pipe.now).pipe (form c.args.setting.now.pipe.now).widths w c.requires.walk
@@ -42,10 +42,10 @@ wait-requires-clause-walk g c =
 pub returns-clause-extends : goal.returns-clause-extends
 returns-clause-extends g c =
     let a = c.args.b.now in
-    let one = c.taken.new.b in
+    let one = c.all_taken.new.b in
     let two = c.look_ready.new.b in
     let w = c.args.self.now in
-    let first = c.taken.ensures.extends in
+    let first = c.all_taken.ensures.extends in
     let after = c.look_ready.ensures.extends in
     let far = extends_trans a one two first after in
     extends_trans a two c.wait.new.b far c.wait.ensures.extends
@@ -53,10 +53,10 @@ returns-clause-extends g c =
 pub returns-clause-parts : goal.returns-clause-parts
 returns-clause-parts g c =
     let a = c.args.b.now in
-    let one = c.taken.new.b in
+    let one = c.all_taken.new.b in
     let two = c.look_ready.new.b in
     let w = c.args.self.now in
-    let first = c.taken.ensures.extends in
+    let first = c.all_taken.ensures.extends in
     let after = c.look_ready.ensures.extends in
     let far = extends_trans a one two first after in
     let fs = signals_in a w.vars.items in

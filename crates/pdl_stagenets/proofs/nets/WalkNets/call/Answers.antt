@@ -14,14 +14,14 @@ use Rattle.pdl_stagenets.proofs.Answered.{birth_made, call_same}
 use Rattle.pdl_stagenets.proofs.nets.WalkNets.call.Goals as goal
 
 pub values-requires-clause-walk : goal.values-requires-clause-walk
-values-requires-clause-walk c = walk_more c.args.b.now c.taken.new.b c.taken.ensures.extends (form c.args.pipe.now).pipe (form c.args.pipe.now).widths c.args.self.now c.requires.walk
+values-requires-clause-walk c = walk_more c.args.b.now c.all_taken.new.b c.all_taken.ensures.extends (form c.args.pipe.now).pipe (form c.args.pipe.now).widths c.args.self.now c.requires.walk
 
 pub returns-clause-walk : goal.returns-clause-walk
 returns-clause-walk c =
     let a = c.args.b.now in
-    let one = c.taken.new.b in
+    let one = c.all_taken.new.b in
     let w = c.args.self.now in
-    let first = c.taken.ensures.extends in
+    let first = c.all_taken.ensures.extends in
     let two = c.values.new.b in
     let after = c.values.ensures.extends in
     let far = extends_trans a one two first after in
@@ -34,9 +34,9 @@ returns-clause-walk c =
 pub returns-clause-parts : goal.returns-clause-parts
 returns-clause-parts c =
     let a = c.args.b.now in
-    let one = c.taken.new.b in
+    let one = c.all_taken.new.b in
     let w = c.args.self.now in
-    let first = c.taken.ensures.extends in
+    let first = c.all_taken.ensures.extends in
     let two = c.values.new.b in
     let after = c.values.ensures.extends in
     let far = extends_trans a one two first after in

@@ -8,17 +8,17 @@ use Rattle.pdl_stagenets.proofs.Lists.{on_ok}
 use Rattle.pdl_stagenets.proofs.Answered.{set_means, hold_parts, hold_walk}
 use Rattle.pdl_stagenets.proofs.nets.WalkNets.hold.Goals as goal
 
-pub pick-requires-clause-widths : goal.pick-requires-clause-widths
-pick-requires-clause-widths c =
-    c.requires.one ∙ sym (ap (λ (f : Signal). f.width) c.held-old.ensures.same ∙ held_width (parts_in c.args.b.now c.args.self.now).held c.args.mem c.args.var c.requires.walk.sized.held)
+pub mux-requires-clause-widths : goal.mux-requires-clause-widths
+mux-requires-clause-widths c =
+    c.requires.one ∙ sym (ap (λ (f : Signal). f.width) c.is_held-old.ensures.same ∙ held_width (parts_in c.args.b.now c.args.self.now).held c.args.mem c.args.var c.requires.walk.sized.held)
 
 pub returns-clause-parts : goal.returns-clause-parts
 returns-clause-parts c =
     let a = c.args.b.now in
     let e = c.push_held.ensures in
     on_ok c.push_held.result
-    (λ q. hold_parts a c.pick.new.b c.pick.ensures.extends (form c.args.pipe.now).pipe (form c.args.pipe.now).widths c.args.self.now c.requires.walk c.push_held.new.self c.args.mem c.args.var c.in_ok-net.net (signal a c.args.on) (signal a c.args.bit)
-    (set_means a c.pick.new.b c.in_ok-net.net (signal a c.args.on) (signal a c.args.bit) _ _ c.held-old.ensures.same c.in_ok-net.ensures.means) q e.vars e.ready e.reserves e.puts e.lettings e.births e.guess)
+    (λ q. hold_parts a c.mux.new.self c.mux.ensures.extends (form c.args.pipe.now).pipe (form c.args.pipe.now).widths c.args.self.now c.requires.walk c.push_held.new.self c.args.mem c.args.var c.in_ok-net.net (signal a c.args.on) (signal a c.args.bit)
+    (set_means a c.mux.new.self c.in_ok-net.net (signal a c.args.on) (signal a c.args.bit) _ _ c.is_held-old.ensures.same c.in_ok-net.ensures.means) q e.vars e.ready e.reserves e.puts e.lettings e.births e.guess)
     e.held
 
 pub returns-clause-walk : goal.returns-clause-walk
@@ -26,6 +26,6 @@ returns-clause-walk c =
     let a = c.args.b.now in
     let e = c.push_held.ensures in
     on_ok c.push_held.result
-    (λ q. hold_walk a c.pick.new.b c.pick.ensures.extends (form c.args.pipe.now).pipe (form c.args.pipe.now).widths c.args.self.now c.requires.walk c.push_held.new.self c.args.mem c.args.var c.in_ok-net.net (signal a c.args.on) (signal a c.args.bit)
-    (set_means a c.pick.new.b c.in_ok-net.net (signal a c.args.on) (signal a c.args.bit) _ _ c.held-old.ensures.same c.in_ok-net.ensures.means) q e.vars e.ready e.reserves e.puts e.lettings e.births e.guess c.requires.one)
+    (λ q. hold_walk a c.mux.new.self c.mux.ensures.extends (form c.args.pipe.now).pipe (form c.args.pipe.now).widths c.args.self.now c.requires.walk c.push_held.new.self c.args.mem c.args.var c.in_ok-net.net (signal a c.args.on) (signal a c.args.bit)
+    (set_means a c.mux.new.self c.in_ok-net.net (signal a c.args.on) (signal a c.args.bit) _ _ c.is_held-old.ensures.same c.in_ok-net.ensures.means) q e.vars e.ready e.reserves e.puts e.lettings e.births e.guess c.requires.one)
     e.held

@@ -11,7 +11,7 @@ use Rattle.pdl_stagenets.proofs.MadeLocks.{looked_as, ticket_bits}
 use Rattle.pdl_stagenets.proofs.nets.WalkNets.look_ready.Goals as goal
 
 pub look_held-requires-clause-held_one : goal.look_held-requires-clause-held_one
-look_held-requires-clause-held_one g c = ap (λ (f : Signal). f.width) c.held-held.ensures.same ∙ held_width (parts_in c.args.b.now c.args.self.now).held c.args.m c.args.a c.requires.walk.sized.held
+look_held-requires-clause-held_one g c = ap (λ (f : Signal). f.width) c.is_held-held.ensures.same ∙ held_width (parts_in c.args.b.now c.args.self.now).held c.args.m c.args.a c.requires.walk.sized.held
 
 pub look_held-requires-clause-ticket_wide : goal.look_held-requires-clause-ticket_wide
 look_held-requires-clause-ticket_wide g c =
@@ -27,5 +27,5 @@ returns-clause-looked g c =
     let addr = signal_at (signals_in a w.vars.items) c.args.a in
     let ticket = signal_at (signals_in a c.args.setting.now.tickets.now) c.args.m in
     IfOk-weaker c.look_held.result _ _
-    (λ x h. looked_as ls c.args.m (signal a c.held-held.result) held (signal a c.variable-addr.result) addr (signal a c.variable-ticket.result) ticket (signal c.look_held.new.b x) c.held-held.ensures.same c.variable-addr.ensures.same c.variable-ticket.ensures.same h)
+    (λ x h. looked_as ls c.args.m (signal a c.is_held-held.result) held (signal a c.variable-addr.result) addr (signal a c.variable-ticket.result) ticket (signal c.look_held.new.b x) c.is_held-held.ensures.same c.variable-addr.ensures.same c.variable-ticket.ensures.same h)
     c.look_held.ensures.looked

@@ -16,44 +16,44 @@ use Rattle.pdl_stagenets.proofs.MadeLocks.{locked_keep, tickets_keep, ticket_bit
 use Rattle.pdl_stagenets.proofs.nets.WalkNets.read.Goals as goal
 
 pub variable-addr-requires-clause-walk : goal.variable-addr-requires-clause-walk
-variable-addr-requires-clause-walk g c = walk_more c.args.b.now c.taken.new.b c.taken.ensures.extends (form c.args.setting.now.pipe.now).pipe (form c.args.setting.now.pipe.now).widths c.args.self.now c.requires.walk
+variable-addr-requires-clause-walk g c = walk_more c.args.b.now c.all_taken.new.b c.all_taken.ensures.extends (form c.args.setting.now.pipe.now).pipe (form c.args.setting.now.pipe.now).widths c.args.self.now c.requires.walk
 
 pub variable-ticket-requires-clause-there : goal.variable-ticket-requires-clause-there
-variable-ticket-requires-clause-there g c = nets_there c.args.b.now c.taken.new.b c.args.setting.now.tickets.now c.taken.ensures.extends c.requires.tickets.there
+variable-ticket-requires-clause-there g c = nets_there c.args.b.now c.all_taken.new.b c.args.setting.now.tickets.now c.all_taken.ensures.extends c.requires.tickets.there
 
 pub word-requires-clause-locks : goal.word-requires-clause-locks
-word-requires-clause-locks g c = locked_keep (members g.L.LockModule) c.args.b.now c.taken.new.b (extends_keeps c.args.b.now c.taken.new.b c.taken.ensures.extends) g.met.L.LockModule.stays (form c.args.setting.now.pipe.now).pipe c.args.setting.now.locks.now c.requires.locks
+word-requires-clause-locks g c = locked_keep (members g.L.LockModule) c.args.b.now c.all_taken.new.b (extends_keeps c.args.b.now c.all_taken.new.b c.all_taken.ensures.extends) g.met.L.LockModule.stays (form c.args.setting.now.pipe.now).pipe c.args.setting.now.locks.now c.requires.locks
 
 pub word-requires-clause-addr_reach : goal.word-requires-clause-addr_reach
 word-requires-clause-addr_reach g c =
     let a = c.args.b.now in
-    let first_b = c.taken.new.b in
+    let first_b = c.all_taken.new.b in
     let w = c.args.self.now in
-    let first = c.taken.ensures.extends in
+    let first = c.all_taken.ensures.extends in
     let grown = extends_keeps a first_b first in
     reach_at first_b (form c.args.setting.now.pipe.now).pipe (form c.args.setting.now.pipe.now).widths w (walk_more a first_b first (form c.args.setting.now.pipe.now).pipe (form c.args.setting.now.pipe.now).widths w c.requires.walk) c.args.m c.args.a c.variable-addr.result (signal first_b c.variable-addr.result) c.requires.at c.variable-addr.ensures.same
 
 pub word-requires-clause-ticket_wide : goal.word-requires-clause-ticket_wide
 word-requires-clause-ticket_wide g c locked =
     let a = c.args.b.now in
-    let first_b = c.taken.new.b in
+    let first_b = c.all_taken.new.b in
     let w = c.args.self.now in
-    let first = c.taken.ensures.extends in
+    let first = c.all_taken.ensures.extends in
     let grown = extends_keeps a first_b first in
     ap (λ (f : Signal). f.width) c.variable-ticket.ensures.same
     ∙ ticket_bits (members g.L.LockModule) first_b (form c.args.setting.now.pipe.now).pipe c.args.setting.now.locks.now (locked_keep (members g.L.LockModule) a first_b grown g.met.L.LockModule.stays (form c.args.setting.now.pipe.now).pipe c.args.setting.now.locks.now c.requires.locks) c.args.m c.requires.at.memory locked c.args.setting.now.tickets.now
     (tickets_keep (members g.L.LockModule) a first_b grown g.met.L.LockModule.stays (form c.args.setting.now.pipe.now).pipe c.args.setting.now.locks.now c.requires.locks c.args.setting.now.tickets.now c.requires.tickets)
 
 pub returns-in_err-net-clause-extends : goal.returns-in_err-net-clause-extends
-returns-in_err-net-clause-extends g c = extends_trans c.args.b.now c.taken.new.b c.word.new.b c.taken.ensures.extends c.word.ensures.extends
+returns-in_err-net-clause-extends g c = extends_trans c.args.b.now c.all_taken.new.b c.word.new.b c.all_taken.ensures.extends c.word.ensures.extends
 
 pub set-requires-clause-walk : goal.set-requires-clause-walk
 set-requires-clause-walk g c =
     let a = c.args.b.now in
-    let first_b = c.taken.new.b in
+    let first_b = c.all_taken.new.b in
     let two = c.word.new.b in
     let w = c.args.self.now in
-    let first = c.taken.ensures.extends in
+    let first = c.all_taken.ensures.extends in
     let after = c.word.ensures.extends in
     let far = extends_trans a first_b two first after in
     walk_more a two far (form c.args.setting.now.pipe.now).pipe (form c.args.setting.now.pipe.now).widths w c.requires.walk
@@ -61,10 +61,10 @@ set-requires-clause-walk g c =
 pub returns-clause-extends : goal.returns-clause-extends
 returns-clause-extends g c =
     let a = c.args.b.now in
-    let first_b = c.taken.new.b in
+    let first_b = c.all_taken.new.b in
     let two = c.word.new.b in
     let w = c.args.self.now in
-    let first = c.taken.ensures.extends in
+    let first = c.all_taken.ensures.extends in
     let after = c.word.ensures.extends in
     let far = extends_trans a first_b two first after in
     extends_trans a two c.set.new.b far c.set.ensures.extends
@@ -72,10 +72,10 @@ returns-clause-extends g c =
 pub returns-clause-parts : goal.returns-clause-parts
 returns-clause-parts g c =
     let a = c.args.b.now in
-    let first_b = c.taken.new.b in
+    let first_b = c.all_taken.new.b in
     let two = c.word.new.b in
     let w = c.args.self.now in
-    let first = c.taken.ensures.extends in
+    let first = c.all_taken.ensures.extends in
     let after = c.word.ensures.extends in
     let far = extends_trans a first_b two first after in
     let fs = signals_in a w.vars.items in

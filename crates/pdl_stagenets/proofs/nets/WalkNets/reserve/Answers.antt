@@ -18,21 +18,21 @@ use Rattle.pdl_stagenets.proofs.MadeLocks.{room_signal, room_there}
 use Rattle.pdl_stagenets.proofs.nets.WalkNets.reserve.Goals as goal
 
 pub variable-addr-requires-clause-walk : goal.variable-addr-requires-clause-walk
-variable-addr-requires-clause-walk g c = walk_more c.args.b.now c.taken.new.b c.taken.ensures.extends (form c.args.setting.now.pipe.now).pipe (form c.args.setting.now.pipe.now).widths c.args.self.now c.requires.walk
+variable-addr-requires-clause-walk g c = walk_more c.args.b.now c.all_taken.new.b c.all_taken.ensures.extends (form c.args.setting.now.pipe.now).pipe (form c.args.setting.now.pipe.now).widths c.args.self.now c.requires.walk
 
 pub hold-requires-clause-walk : goal.hold-requires-clause-walk
-hold-requires-clause-walk g c = walk_more c.args.b.now c.taken.new.b c.taken.ensures.extends (form c.args.setting.now.pipe.now).pipe (form c.args.setting.now.pipe.now).widths c.args.self.now c.requires.walk
+hold-requires-clause-walk g c = walk_more c.args.b.now c.all_taken.new.b c.all_taken.ensures.extends (form c.args.setting.now.pipe.now).pipe (form c.args.setting.now.pipe.now).widths c.args.self.now c.requires.walk
 
 pub returns-in_err-hold-clause-extends : goal.returns-in_err-hold-clause-extends
-returns-in_err-hold-clause-extends g c = extends_trans c.args.b.now c.taken.new.b c.hold.new.b c.taken.ensures.extends c.hold.ensures.extends
+returns-in_err-hold-clause-extends g c = extends_trans c.args.b.now c.all_taken.new.b c.hold.new.b c.all_taken.ensures.extends c.hold.ensures.extends
 
 pub wait-requires-clause-there : goal.wait-requires-clause-there
 wait-requires-clause-there g c =
     let a = c.args.b.now in
-    let first_b = c.taken.new.b in
+    let first_b = c.all_taken.new.b in
     let two = c.hold.new.b in
     let w = c.args.self.now in
-    let first = c.taken.ensures.extends in
+    let first = c.all_taken.ensures.extends in
     let after = c.hold.ensures.extends in
     let far = extends_trans a first_b two first after in
     let room = room_there (members g.L.LockModule) a (form c.args.setting.now.pipe.now).pipe c.args.setting.now.locks.now c.requires.locks c.args.m c.requires.at.memory c.requires.locked in
@@ -41,10 +41,10 @@ wait-requires-clause-there g c =
 pub wait-requires-clause-one : goal.wait-requires-clause-one
 wait-requires-clause-one g c =
     let a = c.args.b.now in
-    let first_b = c.taken.new.b in
+    let first_b = c.all_taken.new.b in
     let two = c.hold.new.b in
     let w = c.args.self.now in
-    let first = c.taken.ensures.extends in
+    let first = c.all_taken.ensures.extends in
     let after = c.hold.ensures.extends in
     let far = extends_trans a first_b two first after in
     let room = room_there (members g.L.LockModule) a (form c.args.setting.now.pipe.now).pipe c.args.setting.now.locks.now c.requires.locks c.args.m c.requires.at.memory c.requires.locked in
@@ -52,20 +52,20 @@ wait-requires-clause-one g c =
 
 pub returns-in_err-wait-clause-extends : goal.returns-in_err-wait-clause-extends
 returns-in_err-wait-clause-extends g c =
-    extends_trans c.args.b.now c.hold.new.b c.wait.new.b (extends_trans c.args.b.now c.taken.new.b c.hold.new.b c.taken.ensures.extends c.hold.ensures.extends) c.wait.ensures.extends
+    extends_trans c.args.b.now c.hold.new.b c.wait.new.b (extends_trans c.args.b.now c.all_taken.new.b c.hold.new.b c.all_taken.ensures.extends c.hold.ensures.extends) c.wait.ensures.extends
 
 pub returns-clause-extends : goal.returns-clause-extends
 returns-clause-extends g c =
-    extends_trans c.args.b.now c.hold.new.b c.wait.new.b (extends_trans c.args.b.now c.taken.new.b c.hold.new.b c.taken.ensures.extends c.hold.ensures.extends) c.wait.ensures.extends
+    extends_trans c.args.b.now c.hold.new.b c.wait.new.b (extends_trans c.args.b.now c.all_taken.new.b c.hold.new.b c.all_taken.ensures.extends c.hold.ensures.extends) c.wait.ensures.extends
 
 pub returns-clause-walk : goal.returns-clause-walk
 returns-clause-walk g c =
     let a = c.args.b.now in
-    let first_b = c.taken.new.b in
+    let first_b = c.all_taken.new.b in
     let two = c.hold.new.b in
     let three = c.wait.new.b in
     let w = c.args.self.now in
-    let first = c.taken.ensures.extends in
+    let first = c.all_taken.ensures.extends in
     let after = c.hold.ensures.extends in
     let last = c.wait.ensures.extends in
     let far = extends_trans a first_b two first after in
@@ -85,11 +85,11 @@ returns-clause-walk g c =
 pub returns-clause-parts : goal.returns-clause-parts
 returns-clause-parts g c =
     let a = c.args.b.now in
-    let first_b = c.taken.new.b in
+    let first_b = c.all_taken.new.b in
     let two = c.hold.new.b in
     let three = c.wait.new.b in
     let w = c.args.self.now in
-    let first = c.taken.ensures.extends in
+    let first = c.all_taken.ensures.extends in
     let after = c.hold.ensures.extends in
     let last = c.wait.ensures.extends in
     let far = extends_trans a first_b two first after in

@@ -16,14 +16,14 @@ use Rattle.pdl_stagenets.proofs.Updates.{put_parts}
 use Rattle.pdl_stagenets.proofs.nets.WalkNets.write.Goals as goal
 
 pub value-requires-clause-walk : goal.value-requires-clause-walk
-value-requires-clause-walk c = walk_more c.args.b.now c.taken.new.b c.taken.ensures.extends (form c.args.pipe.now).pipe (form c.args.pipe.now).widths c.args.self.now c.requires.walk
+value-requires-clause-walk c = walk_more c.args.b.now c.all_taken.new.b c.all_taken.ensures.extends (form c.args.pipe.now).pipe (form c.args.pipe.now).widths c.args.self.now c.requires.walk
 
 pub returns-clause-walk : goal.returns-clause-walk
 returns-clause-walk c =
     let a = c.args.b.now in
-    let one = c.taken.new.b in
+    let one = c.all_taken.new.b in
     let w = c.args.self.now in
-    let first = c.taken.ensures.extends in
+    let first = c.all_taken.ensures.extends in
     let two = c.value.new.b in
     let after = c.value.ensures.extends in
     let far = extends_trans a one two first after in
@@ -37,9 +37,9 @@ returns-clause-walk c =
 pub returns-clause-parts : goal.returns-clause-parts
 returns-clause-parts c =
     let a = c.args.b.now in
-    let one = c.taken.new.b in
+    let one = c.all_taken.new.b in
     let w = c.args.self.now in
-    let first = c.taken.ensures.extends in
+    let first = c.all_taken.ensures.extends in
     let two = c.value.new.b in
     let far = extends_trans a one two first c.value.ensures.extends in
     let fs = signals_in a w.vars.items in

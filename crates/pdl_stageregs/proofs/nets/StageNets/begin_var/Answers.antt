@@ -7,13 +7,13 @@ use Rattle.pdl_flatnets.specs.Nets.{NetsThere, signals_in, widths_of}
 use Rattle.pdl_stagenets.specs.Sized.{IsWalk}
 use Rattle.pdl_stageregs.specs.declared.nets.Item.TheVariants.{Var}
 use Rattle.pdl_stageregs.specs.declared.nets.StageNets.{StageNets}
-use Rattle.pdl_pipe_law.specs.Lives.{lives as is_live}
+use Rattle.pdl_pipe_law.specs.Lives.{lives_from as is_live}
 use Rattle.pdl_stageregs.specs.Items.{first_value, IsSameConstant, IsZero}
 use Rattle.pdl_stageregs.specs.Stages.{IsSettled}
 use Rattle.pdl_stageregs.specs.Begun.{MayAdd, MayKeep}
 use Rattle.pdl_stageregs.proofs.Lists.{each_at}
 use Rattle.pdl_stageregs.proofs.Entered.{own_var, keep_may}
-use Rattle.pdl_stageregs.proofs.Keeping.{may_as, if_ok, on_both, first_keep, settled_behind, first_zero}
+use Rattle.pdl_stageregs.proofs.Keeping.{may_as, if_ok, on_both, first_keep, settled_after, first_zero}
 use Rattle.pdl_stageregs.proofs.nets.StageNets.begin_var.Goals as goal
 
 pub coming-net-requires-clause-walk : goal.coming-net-requires-clause-walk
@@ -42,7 +42,7 @@ returns-else-is_empty-clause-may c =
     (λ y. MayAdd c.next_var.new.b c.args.self.now c.next_var.new.self (Var x) w (first_value f.pipe k (Var x)) y (λ g. is_live f.pipe k x ≡ true → IsSettled b f.pipe ss k (Var x) g))
     (λ y q. may_as c.next_var.new.b c.args.self.now c.next_var.new.self (Var x) w w 0 (first_value f.pipe k (Var x)) y (λ g. is_live f.pipe k x ≡ true → IsSameConstant (signal b net) g)
     (λ g. is_live f.pipe k x ≡ true → IsSettled b f.pipe ss k (Var x) g)
-    refl (first_zero f.pipe k x (omega (arith, some))) (λ g h alive. settled_behind b f.pipe ss k (k - 1) s (Var x) (signal b net) g (omega (arith, some)) (omega arith) (sym c.index-before-before.is) c.coming-net.ensures.means.same (h alive)) q)
+    refl (first_zero f.pipe k x (omega (arith, some))) (λ g h alive. settled_after b f.pipe ss k (k - 1) s (Var x) (signal b net) g (omega (arith, some)) (omega arith) (sym c.index-before-before.is) c.coming-net.ensures.means.same (h alive)) q)
     c.next_var.ensures.may
 
 pub returns-then-is_empty-clause-own : goal.returns-then-is_empty-clause-own

@@ -3,7 +3,7 @@ use Rattle.pdl_form.specs.Whole.{form}
 use Rattle.pdl_net.proofs.Keeps.{extends_keeps}
 use Rattle.pdl_flatnets.specs.Nets.{signals_in}
 use Rattle.pdl_flatnets.proofs.NetLists.{signals_keep}
-use Rattle.pdl_pipe_law.specs.Lives.{lives as is_live}
+use Rattle.pdl_pipe_law.specs.Lives.{lives_from as is_live}
 use Rattle.pdl_stageregs.specs.Stages.{IsSettled}
 use Rattle.pdl_stageregs.specs.declared.nets.Item.TheVariants.{Var}
 use Rattle.pdl_stageregs.proofs.Keeping.{shared_keep, ended_all, settled_back}

@@ -12,7 +12,7 @@ use Rattle.pdl_stageregs.proofs.nets.StageNets.next_held.Goals as goal
 
 pub begin_held-requires-clause-one : goal.begin_held-requires-clause-one
 begin_held-requires-clause-one c =
-    ap (λ (f : Signal). f.width) c.held-net.ensures.same ∙ held_width (parts_in c.args.b.now c.args.before.now.end).held c.args.mem c.args.var c.requires.walk.sized.held
+    ap (λ (f : Signal). f.width) c.is_held-net.ensures.same ∙ held_width (parts_in c.args.b.now c.args.before.now.end).held c.args.mem c.args.var c.requires.walk.sized.held
 
 pub returns-clause-next : goal.returns-clause-next
 returns-clause-next c =
@@ -21,8 +21,8 @@ returns-clause-next c =
     inr (
       net,
       t,
-      may_as c.begin_held.new.b c.args.self.now t (Held c.args.mem c.args.var) 1 1 0 0 net (IsSameConstant (signal c.args.b.now c.held-net.result))
-          (IsSameConstant (held_of (parts_in c.args.b.now c.args.before.now.end).held c.args.mem c.args.var)) refl refl (λ g q. subst (λ f. IsSameConstant f g) c.held-net.ensures.same q) c.in_ok-net.ensures.may,
+      may_as c.begin_held.new.b c.args.self.now t (Held c.args.mem c.args.var) 1 1 0 0 net (IsSameConstant (signal c.args.b.now c.is_held-net.result))
+          (IsSameConstant (held_of (parts_in c.args.b.now c.args.before.now.end).held c.args.mem c.args.var)) refl refl (λ g q. subst (λ f. IsSameConstant f g) c.is_held-net.ensures.same q) c.in_ok-net.ensures.may,
       ap (with_held t) c.in_ok-push.ensures.ok,
       subst (λ hs. is_listed_in hs c.args.mem c.args.var ≡ false) c.as_slice.ensures (sym c.is_listed.ensures ∙ c.if-is_listed.false),
     )

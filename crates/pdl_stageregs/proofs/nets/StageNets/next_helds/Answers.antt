@@ -31,7 +31,7 @@ loop-i-preserved c =
     let keeps : Keeps a b = extends_keeps a b c.loop-i.invariant.extends in
     let same = λ (m v : ℕ). ap (λ (q : Parts). held_of q.held m v) (parts_keep a b keeps before.end c.requires.walk.there) in
     let more = helds_next a b d f nexts c.args.stage before c.args.self.now c.loop-i.self c.next_held.new.self
-    (take i items) h c.next_held.ensures.extends c.in_ok-next_held.ensures.last same c.in_ok-next_held.ensures.next c.loop-i.invariant c.requires.behind in
+    (take i items) h c.next_held.ensures.extends c.in_ok-next_held.ensures.last same c.in_ok-next_held.ensures.next c.loop-i.invariant c.requires.after in
     let on : take i items ++ h ∷ [] ≡ take (i + 1) items = ap (λ x. take i items ++ x ∷ []) is ∙ sym (take_more items i h low) in
     subst (HeldsSoFar a d f nexts c.args.stage before c.args.self.now c.next_held.new.self) on more
 
