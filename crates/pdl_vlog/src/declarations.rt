@@ -31,7 +31,7 @@ fn clock_and_reset(text: &mut Text) -> Result<(), NoMemory>
     text.push(b"(input wire clk, input wire [0:0] rst")
 }
 
-// The ports behind the reset.
+// The ports after the reset.
 fn ports(text: &mut Text, ports: &[Port]) -> Result<(), NoMemory>
     requires { spec.HavePortWidths ports.now }
     ensures { OnOk result (text.new ≡ text.old ++ flat_map spec.port ports.now) }

@@ -112,7 +112,7 @@ cell_of f k (t.Cat a b) = with_two c.Cat (net_of f k a) (net_of f k b)
 cell_of f k (t.Rep count a) = with_one (c.Rep (small count)) (net_of f k a)
 cell_of f k (t.Read m a) = with_two c.Read (array_place f m) (net_of f k a)
 
--- the cell of a declaration; the `assign` behind a wire is to that wire
+-- the cell of a declaration; the `assign` after a wire is to that wire
 abbrev pub wired_cell : File → ℕ → CellDecl → Option Cell
 wired_cell f k d = cond (bytes_eq d.target d.name) (cell_of f k d.term) None
 
@@ -189,9 +189,9 @@ Gives wanted (Err (Broken line)) = wanted ≡ Err line
 Gives wanted (Err NoMemory) = Unit {0}
 
 -- what is done, and what is to come
-abbrev pub behind : {B : Type 0} → List B → Result (List B) ℕ → Result (List B) ℕ
-behind done (Ok rest) = Ok (done ++ rest)
-behind done (Err line) = Err line
+abbrev pub after : {B : Type 0} → List B → Result (List B) ℕ → Result (List B) ℕ
+after done (Ok rest) = Ok (done ++ rest)
+after done (Err line) = Err line
 
 -- the k-th cell has this name
 abbrev pub IsNamed : File → ℕ → List ℕ → Type 0

@@ -212,9 +212,9 @@ fn blocks(
     Ok(blocks)
 }
 
-// What is named behind the cells.
+// What is named after the cells.
 #[tactic(auto, using(crate::proofs::Steps::outputs_stop, crate::proofs::Steps::regs_stop, crate::proofs::Steps::blocks_stop, crate::proofs::Steps::wired_so))]
-fn wire_behind(
+fn wire_after(
     alloc: Global,
     scope: &Scope<'_>,
     file: &File,
@@ -250,7 +250,7 @@ pub fn wire(alloc: Global, file: &File) -> Result<Wiring, Stop>
 {
     let mut scope = Scope::of(alloc, file)?;
     match cells(alloc, &mut scope, file.cells.as_slice()) {
-        Ok(cells) => wire_behind(alloc, &scope, file, cells),
+        Ok(cells) => wire_after(alloc, &scope, file, cells),
         Err(stop) => Err(stop),
     }
 }

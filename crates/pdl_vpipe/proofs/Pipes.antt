@@ -217,7 +217,7 @@ is_kept delayed arrays m (inr c) = or_right _ _ (array_found arrays m.name c)
 
 -- ---- all of it
 
-length_mems : (d l : List PortMem) (arrays : List Array) → length (mems_of d l arrays) ≡ length d + length arrays
+pub length_mems : (d l : List PortMem) (arrays : List Array) → length (mems_of d l arrays) ≡ length d + length arrays
 length_mems d l arrays =
     let info : Array → MemInfo = λ a. comb_info a (spec.find_named a.name l) in
     length-append (map delayed_info d) (map info arrays) ∙ (ap (λ k. k + length (map info arrays)) (length-map d delayed_info) ∙ ap (λ k. length d + k) (length-map arrays info))

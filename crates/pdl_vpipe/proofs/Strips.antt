@@ -38,7 +38,7 @@ stripped_as : (p s : List ℕ) (r : Option (Bor (List ℕ))) → MatchOption r (
 stripped_as p s None h = strip_none p s h
 stripped_as p s (Some x) h = sym (ap (strip p) h ∙ strip_of p x.now)
 
--- what is left of a name behind a prefix
+-- what is left of a name after a prefix
 pub stripped : (s p : List ℕ) (r : Option (Bor (List ℕ))) → MatchOption r (pointwise nat_eq (take (length p) s) p ≡ false) (λ x. (pointwise nat_eq (take (length p) s) p ≡ true) × (x.now ≡ drop (length p) s) × (length x.now + length p ≡ length s))
     → option_copied r ≡ strip p s
 stripped s p r h = stripped_as p s r (strip_prefix_is Decides-eqb s p r h)

@@ -10,13 +10,13 @@ use Rattle.pdl_vpipe.specs.declared.shape.Shape.{Shape}
 abbrev pub with_mems : Netlist → List MemInfo → Netlist
 with_mems n ms = record n { mems = ms }
 
--- what stands behind a prefix, where a name begins with it
+-- what stands after a prefix, where a name begins with it
 abbrev pub strip : List ℕ → List ℕ → Option (List ℕ)
 strip [] x = Some x
 strip (p ∷ ps) [] = None
 strip (p ∷ ps) (c ∷ cs) = cond (p == c) (strip ps cs) None
 
--- of each port whose name begins with a prefix, what stands behind it
+-- of each port whose name begins with a prefix, what stands after it
 abbrev pub names : List ℕ → List Head → List (List ℕ)
 names prefix heads = filter_map (λ h. strip prefix h.name) heads
 

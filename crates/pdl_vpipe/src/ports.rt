@@ -21,13 +21,13 @@ fn comes_in(dir: Dir) -> bool
     }
 }
 
-// Whether a name is a prefix with what stands behind it.
+// Whether a name is a prefix with what stands after it.
 #[tactic(auto, using(crate::proofs::Strips::named))]
 fn is_named(name: &[u8], prefix: &[u8], rest: &[u8]) -> bool
     ensures { result ≡ bytes_eq name.now (prefix.now ++ rest.now) }
 {
     match rest_of(name, prefix) {
-        Some(behind) => behind == rest,
+        Some(after) => after == rest,
         None => false,
     }
 }
@@ -47,7 +47,7 @@ fn is_port(port: &Port, prefix: &[u8], rest: &[u8], width: u8, input: bool) -> b
         }
 }
 
-// The ports behind one of this name and width.
+// The ports after one of this name and width.
 fn expect<'a>(
     ports: &'a [Port],
     prefix: &[u8],
@@ -69,7 +69,7 @@ fn expect<'a>(
     }
 }
 
-// The ports behind those of a delayed memory that answer.
+// The ports after those of a delayed memory that answer.
 #[tactic(auto, using(crate::proofs::Strips::one_by_one))]
 fn reply<'a>(ports: &'a [Port], mem: &PortMem) -> Option<&'a [Port]>
     ensures { Leaves (reply_ports mem.now) ports.now result }
@@ -90,7 +90,7 @@ fn replies<'a>(ports: &'a [Port], mems: &[PortMem]) -> Option<&'a [Port]>
     Some(left)
 }
 
-// The ports behind those of a stage.
+// The ports after those of a stage.
 #[tactic(auto, using(crate::proofs::Strips::one_by_one))]
 fn stage<'a>(ports: &'a [Port], k: usize) -> Option<&'a [Port]>
     ensures { Leaves (stage_ports k) ports.now result }
@@ -112,7 +112,7 @@ fn stages<'a>(ports: &'a [Port], count: usize) -> Option<&'a [Port]>
     Some(left)
 }
 
-// The ports behind those of a locked memory that commit.
+// The ports after those of a locked memory that commit.
 #[tactic(auto, using(crate::proofs::Strips::one_by_one))]
 fn commit<'a>(ports: &'a [Port], mem: &PortMem) -> Option<&'a [Port]>
     ensures { Leaves (commit_ports mem.now) ports.now result }
@@ -134,7 +134,7 @@ fn commits<'a>(ports: &'a [Port], mems: &[PortMem]) -> Option<&'a [Port]>
     Some(left)
 }
 
-// The ports behind those of a delayed memory that ask.
+// The ports after those of a delayed memory that ask.
 #[tactic(auto, using(crate::proofs::Strips::one_by_one))]
 fn request<'a>(ports: &'a [Port], mem: &PortMem) -> Option<&'a [Port]>
     ensures { Leaves (request_ports mem.now) ports.now result }
@@ -155,7 +155,7 @@ fn requests<'a>(ports: &'a [Port], mems: &[PortMem]) -> Option<&'a [Port]>
     Some(left)
 }
 
-// The ports behind those of each pipe.
+// The ports after those of each pipe.
 #[tactic(auto, using(crate::proofs::Strips::one_by_one))]
 fn ends<'a>(ports: &'a [Port]) -> Option<&'a [Port]>
     ensures { Leaves spec.last_ports ports.now result }
@@ -164,7 +164,7 @@ fn ends<'a>(ports: &'a [Port]) -> Option<&'a [Port]>
     expect(left, b"squash", b"", 1, false)
 }
 
-// The ports behind those of a shape.
+// The ports after those of a shape.
 #[tactic(auto, using(crate::proofs::Strips::after_both, crate::proofs::Strips::after_stop))]
 fn all<'a>(ports: &'a [Port], shape: &Shape) -> Option<&'a [Port]>
     ensures { Leaves

@@ -18,7 +18,7 @@ pub struct Shape {
     pub locked: Seq<PortMem>,
 }
 
-/// What stands behind a prefix, where a name begins with it.
+/// What stands after a prefix, where a name begins with it.
 #[tactic(auto, using(crate::proofs::Strips::stripped))]
 pub fn rest_of<'a>(name: &'a [u8], prefix: &[u8]) -> Option<&'a [u8]>
     ensures { option_copied result ≡ spec.strip prefix.now name.now }
@@ -44,7 +44,7 @@ fn push_name(
     }
 }
 
-// Of each port whose name begins with a prefix, what stands behind it.
+// Of each port whose name begins with a prefix, what stands after it.
 #[tactic(auto, using(crate::proofs::Strips::names_more))]
 fn names(alloc: Global, ports: &[Port], prefix: &[u8]) -> Result<Seq<Name>, NoMemory>
     ensures { IfOk result (λ ns. ns ≡ spec.names prefix.now (heads ports.now)) }

@@ -11,7 +11,7 @@ use Rattle.pdl_vrules.specs.Widths.{asked_write, asked_writes}
 use Rattle.pdl_vrules.proofs.Passes.{front_tells}
 
 -- where the first are right
-rest_first : (xs ys : List Asked) → first_wrong xs ≡ None → first_wrong (xs ++ ys) ≡ first_wrong ys
+pub rest_first : (xs ys : List Asked) → first_wrong xs ≡ None → first_wrong (xs ++ ys) ≡ first_wrong ys
 rest_first [] ys h = refl
 rest_first (a ∷ xs) ys h = go a.right (rest_first xs ys) h
   where

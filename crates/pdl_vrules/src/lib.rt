@@ -1,8 +1,10 @@
-//! V3: the widths of a file whose names stand for nets, of its arrays and constants.
+//! V3 and V4: the widths of a file whose names stand for nets, and what is declared or driven more than once or not at all.
 #![tactic(auto)]
 
+pub mod once;
 pub mod table;
 pub mod widths;
 
+pub use once::check_once;
 pub use table::bits;
 pub use widths::check_widths;

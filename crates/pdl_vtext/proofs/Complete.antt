@@ -74,7 +74,7 @@ pub record Ends (part : Part) : Type 0 where
   pub rules : List Taken
   pub derives : Derives part row rules
 
--- a part ends by a rule, and what ends the part behind it
+-- a part ends by a rule, and what ends the part after it
 by : (part : Part) (rule : Rule) (g : Field) (gs : List Field) → fields rule ≡ g ∷ gs → chosen part (example g) ≡ Some rule → Ends (next rule) → Ends part
 unfolding examples
 by part rule g gs e h k = record {

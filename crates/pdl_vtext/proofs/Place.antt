@@ -17,7 +17,7 @@ use Rattle.pdl_vtext.specs.Cursor.{token_view, maybe_token_view, first}
 use Rattle.pdl_vtext.specs.Text.{IsFile, Begins, line_of, IsOutOfPlace, GivesFile, GivesLine, IsRefused}
 use Rattle.pdl_vtext.proofs.Rules.{chosen_begins, all_found_more}
 use Rattle.pdl_vtext.proofs.Complete.{Rest, rest, ends}
-use Rattle.pdl_word.proofs.Lists.{longer, same_behind}
+use Rattle.pdl_word.proofs.Lists.{longer, same_after}
 
 -- ---- what leads to a part
 
@@ -177,7 +177,7 @@ misplaced bytes new line h e =
     let split : tokens bytes ≡ front ++ new = h.split ∙ sym (append_assoc (all_found h.rules) h.front new) in
     record {
       front = front;
-      behind = new;
+      after = new;
       split = split;
       place = e;
       begins = record {
@@ -207,11 +207,11 @@ none_finished t ts rs d = go p.Finished (t ∷ ts) rs refl refl d
     go _ _ _ e f finished = cc
     go _ _ _ e f (goes {t = u} h a d) = let k : None ≡ Some _ = sym (ap (λ y. chosen y u.text) e) ∙ h in cc
 
--- more tokens behind a whole file
-pub behind_all : (bytes : List ℕ) (t : Token) (ts : Row) (line : ℕ) (d : Draft) → AreTaken (tokens bytes) (t ∷ ts) d → line ≡ t.line → IsOutOfPlace bytes line
-behind_all bytes t ts line d h e = record {
+-- more tokens after a whole file
+pub after_all : (bytes : List ℕ) (t : Token) (ts : Row) (line : ℕ) (d : Draft) → AreTaken (tokens bytes) (t ∷ ts) d → line ≡ t.line → IsOutOfPlace bytes line
+after_all bytes t ts line d h e = record {
   front = all_found h.rules;
-  behind = t ∷ ts;
+  after = t ∷ ts;
   split = h.split;
   place = e;
   begins = record { more = []; rules = h.rules ++ []; derives = lead_on h.rules p.Finished [] [] h.leads finished };
@@ -230,16 +230,16 @@ whole bytes d h = record {
   same = ap (λ x. x.file) h.draft ∙ ap file_of (sym (append-nil h.rules));
 }
 
--- the reader's next token is behind a whole file, or there is none
-pub next_behind : (bytes : List ℕ) (old new : Row) (t : r.Token) (d : Draft) → old ≡ tokens bytes → AreTaken old new d → maybe_token_view (Some t) ≡ first new → IsOutOfPlace bytes t.line
-next_behind bytes old [] t d o h e = cc
-next_behind bytes old (u ∷ us) t d o h e =
+-- the reader's next token is after a whole file, or there is none
+pub next_after : (bytes : List ℕ) (old new : Row) (t : r.Token) (d : Draft) → old ≡ tokens bytes → AreTaken old new d → maybe_token_view (Some t) ≡ first new → IsOutOfPlace bytes t.line
+next_after bytes old [] t d o h e = cc
+next_after bytes old (u ∷ us) t d o h e =
     let k : token_view t ≡ u = cc in
-    behind_all bytes u us t.line d (subst (λ x. AreTaken x (u ∷ us) d) o h) (ap (λ x. x.line) k)
+    after_all bytes u us t.line d (subst (λ x. AreTaken x (u ∷ us) d) o h) (ap (λ x. x.line) k)
 
-pub none_behind : (bytes : List ℕ) (old new : Row) (d : Draft) → old ≡ tokens bytes → AreTaken old new d → None ≡ first new → IsFile bytes d.file
-none_behind bytes old [] d o h e = whole bytes d (subst (λ x. AreTaken x [] d) o h)
-none_behind bytes old (u ∷ us) d o h e = cc
+pub none_after : (bytes : List ℕ) (old new : Row) (d : Draft) → old ≡ tokens bytes → AreTaken old new d → None ≡ first new → IsFile bytes d.file
+none_after bytes old [] d o h e = whole bytes d (subst (λ x. AreTaken x [] d) o h)
+none_after bytes old (u ∷ us) d o h e = cc
 
 pub stopped_there : (bytes : List ℕ) (old new : Row) (line : ℕ) → old ≡ tokens bytes → AreStopped old new → line ≡ line_of new (last_line bytes) → IsOutOfPlace bytes line
 stopped_there bytes old new line o h e = misplaced bytes new line (subst (λ x. AreStopped x new) o h) e
@@ -263,15 +263,15 @@ one_file bytes f g h k = h.same ∙ (ap file_of (one_list p.Start (tokens bytes)
 front_begins : (xs ys : Row) → Begins (xs ++ ys) → Begins xs
 front_begins xs ys b = record { more = ys ++ b.more; rules = b.rules; derives = subst (λ x. Derives p.Start x b.rules) (append_assoc xs ys b.more) b.derives }
 
-not_before : (bytes : List ℕ) (n m : ℕ) (h : IsOutOfPlace bytes n) (i : IsOutOfPlace bytes m) → length h.behind < length i.behind → ⊥
+not_before : (bytes : List ℕ) (n m : ℕ) (h : IsOutOfPlace bytes n) (i : IsOutOfPlace bytes m) → length h.after < length i.after → ⊥
 not_before bytes n m h i le =
-    let k = longer h.front h.behind i.front i.behind (sym h.split ∙ i.split) le in
-    i.bad k.t (k.more ++ h.behind) k.behind (front_begins (i.front ++ k.t ∷ []) k.more (subst Begins (k.front ∙ sym (append_assoc i.front (k.t ∷ []) k.more)) h.begins))
+    let k = longer h.front h.after i.front i.after (sym h.split ∙ i.split) le in
+    i.bad k.t (k.more ++ h.after) k.after (front_begins (i.front ++ k.t ∷ []) k.more (subst Begins (k.front ∙ sym (append_assoc i.front (k.t ∷ []) k.more)) h.begins))
 
 one_place : (bytes : List ℕ) (n m : ℕ) → IsOutOfPlace bytes n → IsOutOfPlace bytes m → n ≡ m
 one_place bytes n m h i =
-    let le : length h.behind ≡ length i.behind = grind (arith, not_before bytes n m h i, not_before bytes m n i h) in
-    h.place ∙ (ap (λ b. line_of b (last_line bytes)) (same_behind h.front h.behind i.front i.behind (sym h.split ∙ i.split) le) ∙ sym i.place)
+    let le : length h.after ≡ length i.after = grind (arith, not_before bytes n m h i, not_before bytes m n i h) in
+    h.place ∙ (ap (λ b. line_of b (last_line bytes)) (same_after h.front h.after i.front i.after (sym h.split ∙ i.split) le) ∙ sym i.place)
 
 -- ---- what the reader answers
 

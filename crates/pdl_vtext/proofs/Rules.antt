@@ -55,7 +55,7 @@ pub all_found_more : (ts : List Taken) (t : Taken) → all_found (ts ++ t ∷ []
 all_found_more [] t = append-nil t.found
 all_found_more (u ∷ us) t = ap (λ x. u.found ++ x) (all_found_more us t) ∙ sym (append_assoc u.found (all_found us) t.found)
 
--- the tokens behind a part, from which a rule's were taken
+-- the tokens after a part, from which a rule's were taken
 pub comes : (part : Part) (rule : Rule) (old found new : Row) → chosen_at part old ≡ Some rule → Found (fields rule) old found new → Comes part (record { rule = rule; found = found })
 comes part rule [] found new e f = cc
 comes part rule (t ∷ ts) [] new e f = absurd (no_tokens (fields rule) (chosen_begins part t.text rule e) f.fit)

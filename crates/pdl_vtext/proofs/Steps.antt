@@ -8,7 +8,7 @@ use Rattle.std.proofs.lemmas.Bool.Decides.{nat_tests}
 use Rattle.std.proofs.lemmas.Bool.{and_parts}
 use Rattle.pdl_vtext.specs.declared.piece.Piece as r
 use Rattle.pdl_vtext.specs.Tokens.{Piece, is_blank, is_word, in_line, begins_pair, piece_at, placed, line_after, tokens_from}
-use Rattle.pdl_vtext.specs.Pieces.{piece_view, IsFront, IsLineBehind}
+use Rattle.pdl_vtext.specs.Pieces.{piece_view, IsFront, IsLineAfter}
 use Rattle.pdl_word.proofs.Lists.{run_least, prefix_fits}
 
 pub record Sized (p : Piece) (n : ℕ) : Type 0 where
@@ -56,31 +56,31 @@ inside k line [] = rw (drop-nil k) refl
 inside zero line (c ∷ cs) = refl
 inside (suc k) line (c ∷ cs) = inside k line cs
 
-behind_piece : (n c line : ℕ) (cs : List ℕ) → 1 ≤ n → tokens_from (n - 1) line cs ≡ tokens_from 0 line (drop n (c ∷ cs))
-behind_piece zero c line cs h = absurd (omega arith)
-behind_piece (suc k) c line cs h = let e : suc k - 1 ≡ k = omega arith in rw e (inside k line cs)
+after_piece : (n c line : ℕ) (cs : List ℕ) → 1 ≤ n → tokens_from (n - 1) line cs ≡ tokens_from 0 line (drop n (c ∷ cs))
+after_piece zero c line cs h = absurd (omega arith)
+after_piece (suc k) c line cs h = let e : suc k - 1 ≡ k = omega arith in rw e (inside k line cs)
 
--- the tokens are that of the piece at the front, and those behind it
+-- the tokens are that of the piece at the front, and those after it
 one_piece : (c : ℕ) (cs : List ℕ) (line : ℕ) → let p = piece_at c (c ∷ cs) in
     tokens_from 0 line (c ∷ cs) ≡ placed p line (c ∷ cs) ++ tokens_from 0 (line_after c line) (drop p.size (c ∷ cs))
 one_piece c cs line = let p = piece_at c (c ∷ cs) in
-    ap (λ ts. placed p line (c ∷ cs) ++ ts) (behind_piece p.size c (line_after c line) cs (piece_sized c cs).least)
+    ap (λ ts. placed p line (c ∷ cs) ++ ts) (after_piece p.size c (line_after c line) cs (piece_sized c cs).least)
 
--- the place behind the piece at the front
+-- the place after the piece at the front
 step_is : (bytes rest : List ℕ) (p : r.Piece) (line line2 : ℕ) → IsFront bytes (Some p) → rest ≡ drop p.size bytes →
-    IsLineBehind bytes line line2 → tokens_from 0 line bytes ≡ placed (piece_view p) line bytes ++ tokens_from 0 line2 rest
+    IsLineAfter bytes line line2 → tokens_from 0 line bytes ≡ placed (piece_view p) line bytes ++ tokens_from 0 line2 rest
 step_is [] rest p line line2 h er el = absurd h
 step_is (c ∷ cs) rest p line line2 h er el =
     let P : Piece → Type 0 = λ q. tokens_from 0 line (c ∷ cs) ≡ placed q line (c ∷ cs) ++ tokens_from 0 (line_after c line) (drop q.size (c ∷ cs)) in
     rw (er, el) (subst P (sym h) (one_piece c cs line))
 
 pub step_blank : (bytes rest : List ℕ) (p : r.Piece) (line line2 : ℕ) → IsFront bytes (Some p) → rest ≡ drop p.size bytes →
-    IsLineBehind bytes line line2 → p.is_token ≡ false → tokens_from 0 line2 rest ≡ tokens_from 0 line bytes
+    IsLineAfter bytes line line2 → p.is_token ≡ false → tokens_from 0 line2 rest ≡ tokens_from 0 line bytes
 step_blank bytes rest p line line2 h er el e =
     let k = step_is bytes rest p line line2 h er el in sym (k ∙ rw e refl)
 
 pub step_token : (bytes rest : List ℕ) (p : r.Piece) (line line2 : ℕ) → IsFront bytes (Some p) → rest ≡ drop p.size bytes →
-    IsLineBehind bytes line line2 → p.is_token ≡ true →
+    IsLineAfter bytes line line2 → p.is_token ≡ true →
     record { text = take p.size bytes; line = line } ∷ tokens_from 0 line2 rest ≡ tokens_from 0 line bytes
 step_token bytes rest p line line2 h er el e =
     let j = step_is bytes rest p line line2 h er el in sym (j ∙ rw e refl)

@@ -105,7 +105,7 @@ rules p.FirstWrite = r.Written ∷ []
 rules p.Writes = r.Written ∷ r.ArrayEnd ∷ []
 rules p.Finished = []
 
--- the part behind a rule
+-- the part after a rule
 abbrev pub next : Rule → Part
 next r.Opening = p.Ports
 next r.NextPort = p.Direction
@@ -136,7 +136,7 @@ next r.Written = p.Writes
 next r.ArrayEnd = p.ArrayBlocks
 next r.Ending = p.Finished
 
--- a part behind the end of a file
+-- a part after the end of a file
 abbrev pub is_finished : Part → Bool
 is_finished p.Finished = true
 is_finished _ = false

@@ -13,7 +13,7 @@ IsFront [] None = Unit {0}
 IsFront (c ∷ cs) (Some p) = piece_view p ≡ piece_at c (c ∷ cs)
 IsFront (c ∷ cs) None = ⊥
 
--- the line behind the piece at the front of bytes
-abbrev pub IsLineBehind : List ℕ → ℕ → ℕ → Type 0
-IsLineBehind [] before after = before ≡ after
-IsLineBehind (c ∷ cs) before after = after ≡ line_after c before
+-- the line after the piece at the front of bytes
+abbrev pub IsLineAfter : List ℕ → ℕ → ℕ → Type 0
+IsLineAfter [] before after = before ≡ after
+IsLineAfter (c ∷ cs) before after = after ≡ line_after c before

@@ -78,7 +78,7 @@ pub data Leads : List Taken → Part → Type 0 where
 abbrev pub all_found : List Taken → Row
 all_found done = flat_map (λ t. t.found) done
 
--- the tokens behind a part begin no rule that comes there, or begin one, up to a token that isn't what is asked then
+-- the tokens after a part begin no rule that comes there, or begin one, up to a token that isn't what is asked then
 pub data IsStuck : Part → Row → Row → Type 0 where
   nothing : {part : Part} {left : Row} → part ≢ Finished → chosen_at part left ≡ None → IsStuck part [] left
   inside : {part : Part} {rule : Rule} {old front left : Row} → chosen_at part old ≡ Some rule → Stopped (fields rule) old front left → IsStuck part front left

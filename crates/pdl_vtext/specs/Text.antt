@@ -32,11 +32,11 @@ line_of (t ∷ ts) last = t.line
 -- the bytes are no text, and the first of their tokens with which no text begins stands on the line; or each of them is in place and the text ends there too early
 pub record IsOutOfPlace (bytes : List ℕ) (line : ℕ) : Type 0 where
   pub front : Row
-  pub behind : Row
-  pub split : tokens bytes ≡ front ++ behind
-  pub place : line ≡ line_of behind (last_line bytes)
+  pub after : Row
+  pub split : tokens bytes ≡ front ++ after
+  pub place : line ≡ line_of after (last_line bytes)
   pub begins : Begins front
-  pub bad : (t : Token) (more : Row) → behind ≡ t ∷ more → Begins (front ++ t ∷ []) → ⊥
+  pub bad : (t : Token) (more : Row) → after ≡ t ∷ more → Begins (front ++ t ∷ []) → ⊥
   pub no_text : (f : File) → IsFile bytes f → ⊥
 
 -- a result is this file, or memory ran out

@@ -1,7 +1,7 @@
 // A cursor over the tokens of a text, which are found as they are asked for.
 ghost use Rattle.std.specs.Prelude.{◌≡◌, ◌≤◌, ◌<◌, ◌+◌, length, take, drop, Some};
 ghost use Rattle.pdl_vtext.specs.Tokens.{tokens, tokens_from};
-ghost use Rattle.pdl_vtext.specs.Pieces.{IsFront, IsLineBehind};
+ghost use Rattle.pdl_vtext.specs.Pieces.{IsFront, IsLineAfter};
 ghost use Rattle.pdl_vtext.specs.Cursor.{token_view, maybe_token_view, onto, first, next};
 
 use crate::piece::{Piece, front};
@@ -16,20 +16,20 @@ struct Place<'a> {
     ghost lines: { line + length rest.now ≤ 268435457 },
 }
 
-// A token, if there is one, and the place behind it.
+// A token, if there is one, and the place after it.
 #[derive(Clone, Copy)]
 struct Step<'a> {
     token: Option<Token<'a>>,
-    behind: Place<'a>,
+    after: Place<'a>,
 }
 
 impl<'a> Place<'a> {
-    // The place behind the piece at the front.
+    // The place after the piece at the front.
     #[tactic(auto, using(crate::proofs::Steps::piece_fits))]
-    fn behind(&self, piece: Piece) -> Place<'a>
+    fn after(&self, piece: Piece) -> Place<'a>
         requires { IsFront self.now.rest.now (Some piece) }
         ensures rest { result.rest.now ≡ drop piece.size self.now.rest.now }
-        ensures line { IsLineBehind self.now.rest.now self.now.line result.line }
+        ensures line { IsLineAfter self.now.rest.now self.now.line result.line }
         ensures fits { piece.size ≤ length self.now.rest.now }
         ensures less { length result.rest.now < length self.now.rest.now }
     {
@@ -59,23 +59,23 @@ impl<'a> Place<'a> {
 
     // The first token from here on.
     fn step(&self) -> Step<'a>
-        ensures { onto result.token (tokens_from 0 result.behind.line result.behind.rest.now)
+        ensures { onto result.token (tokens_from 0 result.after.line result.after.rest.now)
             ≡ tokens_from 0 self.now.line self.now.rest.now }
     {
         let mut place = *self;
         while let Some(piece) = front(place.rest) {
-            let behind = place.behind(piece);
+            let after = place.after(piece);
             if piece.is_token {
                 return Step {
                     token: Some(place.token(piece.size)),
-                    behind,
+                    after,
                 };
             }
-            place = behind;
+            place = after;
         }
         Step {
             token: None,
-            behind: place,
+            after: place,
         }
     }
 }
@@ -84,7 +84,7 @@ impl<'a> Place<'a> {
 #[derive(Drop)]
 pub struct Tokens<'a> {
     known: Option<Token<'a>>,
-    behind: Place<'a>,
+    after: Place<'a>,
 }
 
 impl<'a> Model for Tokens<'a> {
@@ -94,7 +94,7 @@ impl<'a> Model for Tokens<'a> {
 
     ghost Value = { List Token };
 
-    ghost view = { λ t. onto t.known (tokens_from 0 t.behind.line t.behind.rest.now) };
+    ghost view = { λ t. onto t.known (tokens_from 0 t.after.line t.after.rest.now) };
 }
 
 impl<'a> Tokens<'a> {
@@ -110,7 +110,7 @@ impl<'a> Tokens<'a> {
         let step = place.step();
         Tokens {
             known: step.token,
-            behind: step.behind,
+            after: step.after,
         }
     }
 
@@ -126,9 +126,9 @@ impl<'a> Tokens<'a> {
         ensures { self.new ≡ next self.old }
     {
         if self.known.is_some() {
-            let step = self.behind.step();
+            let step = self.after.step();
             self.known = step.token;
-            self.behind = step.behind;
+            self.after = step.after;
         }
     }
 }

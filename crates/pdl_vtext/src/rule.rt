@@ -45,7 +45,7 @@ pub enum Part {
     Finished,
 }
 
-/// A rule: a row of tokens that may come at some part, and the part behind it.
+/// A rule: a row of tokens that may come at some part, and the part after it.
 #[derive(Clone, Copy, PartialEq, Eq, Debug)]
 pub enum Rule {
     /// `module module_name ( input wire clk , input wire [ num : 0 ] rst`
@@ -466,7 +466,7 @@ impl Rule {
         }
     }
 
-    /// The part behind it.
+    /// The part after it.
     pub fn next(self) -> Part
         ensures { result ≡ spec.next self }
     {

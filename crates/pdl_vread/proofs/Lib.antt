@@ -1,0 +1,5 @@
+pub mod Filled
+pub mod Depths
+pub mod Steps
+pub mod Verdicts
+pub mod Examples

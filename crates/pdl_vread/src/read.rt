@@ -1,0 +1,126 @@
+//! The reader of netlists.
+ghost use Rattle.std.specs.Prelude.{◌≡◌, ◌≤◌, ℕ, length, MatchResult};
+ghost use Rattle.pdl_kit.specs.declared.rule.Rule.{Rule as Rule'};
+ghost use Rattle.pdl_net.specs.declared.Netlist.{Netlist as Netlist'};
+ghost use Rattle.pdl_vtext.specs.Text.{IsFile};
+ghost use Rattle.pdl_vread.specs.Reads.{Breaks, FileBreaks, GivesNetlist, GivesRefusal, IsWired, IsNetlistOf, Judges, Reads, Refuses};
+ghost use Rattle.pdl_vread.specs.Reads as spec;
+
+use crate::build::build;
+use pdl_kit::{NoMemory, Rule};
+use pdl_net::Netlist;
+use pdl_vnets::{Stop, Wiring, wire};
+use pdl_vpipe::pipe_mems;
+use pdl_vrules::{check_once, check_widths};
+use pdl_vtext::{File, TextError, read_file};
+use std::alloc::Global;
+
+/// Why a text was not taken: the lowest rule that it breaks, with the lowest line where it breaks it (counted from 1), or want of memory.
+#[derive(Clone, Copy, PartialEq, Eq, Debug)]
+pub enum VError {
+    Refused { rule: Rule, line: u32 },
+    NoMemory,
+}
+
+impl From<NoMemory> for VError {
+    ghost from_gives = { λ _ e. e ≡ spec.no_memory };
+
+    fn from(_e: NoMemory) -> VError {
+        VError::NoMemory
+    }
+}
+
+// The refusal by a rule.
+fn refusal(rule: Rule, stop: Stop) -> VError
+    ensures { result ≡ spec.refusal rule stop }
+{
+    match stop {
+        Stop::Broken { line } => VError::Refused { rule, line },
+        Stop::NoMemory => VError::NoMemory,
+    }
+}
+
+// The file that a text declares, or V1.
+fn file_of(alloc: Global, text: &[u8]) -> Result<File, VError>
+    requires { length text.now ≤ 268435456 }
+    ensures { MatchResult result (IsFile text.now) (Refuses (Breaks text.now)) }
+{
+    match read_file(alloc, text) {
+        Ok(file) => Ok(file),
+        Err(TextError::Misplaced { line }) => Err(VError::Refused {
+            rule: Rule::V1,
+            line,
+        }),
+        Err(TextError::NoMemory) => Err(VError::NoMemory),
+    }
+}
+
+// The wiring of a file that keeps V2 to V4, or the first that it breaks.
+fn wiring_of(alloc: Global, file: &File) -> Result<Wiring, VError>
+    ensures { MatchResult result (IsWired file.now) (Refuses (FileBreaks file.now)) }
+{
+    let wiring = match wire(alloc, file) {
+        Ok(wiring) => wiring,
+        Err(stop) => return Err(refusal(Rule::V2, stop)),
+    };
+    if let Err(stop) = check_widths(alloc, file, &wiring) {
+        return Err(refusal(Rule::V3, stop));
+    }
+    if let Err(stop) = check_once(alloc, file, &wiring) {
+        return Err(refusal(Rule::V4, stop));
+    }
+    Ok(wiring)
+}
+
+// The netlist of a file and its wiring, with the memories that its ports and arrays tell, or V5.
+#[tactic(auto, using(crate::proofs::Steps::last_rule))]
+fn netlist_of(alloc: Global, file: File, wiring: Wiring) -> Result<Netlist, VError>
+    requires { IsWired file wiring }
+    ensures { MatchResult result (IsNetlistOf file) (Refuses (FileBreaks file)) }
+{
+    let broken = VError::Refused {
+        rule: Rule::V5,
+        line: file.line,
+    };
+    // No pipe has so many arrays, and for few of them the netlist is built in linear time.
+    if file.arrays.len() > 16 {
+        return Err(broken);
+    }
+    let netlist = build(alloc, file, wiring)?;
+    match pipe_mems(alloc, &netlist)? {
+        Some(mems) => Ok(Netlist {
+            name: netlist.name,
+            ports: netlist.ports,
+            regs: netlist.regs,
+            arrays: netlist.arrays,
+            cells: netlist.cells,
+            mems,
+        }),
+        None => Err(broken),
+    }
+}
+
+// Reads a text, or tells what it breaks first.
+fn read(alloc: Global, text: &[u8]) -> Result<Netlist, VError>
+    requires { length text.now ≤ 268435456 }
+    ensures { Judges text.now result }
+{
+    let file = file_of(alloc, text)?;
+    let wiring = wiring_of(alloc, &file)?;
+    netlist_of(alloc, file, wiring)
+}
+
+/// Reads a netlist from a text of at most 268,435,456 bytes, in time and memory linear in its length.
+#[tactic(auto, using(crate::proofs::Verdicts::one_way))]
+pub fn read_verilog(alloc: Global, text: &[u8]) -> Result<Netlist, VError>
+    requires { length text.now ≤ 268435456 }
+    // What is read is what the text reads as, and a refusal tells what it breaks first.
+    ensures judges { Judges text.now result }
+    // A text that reads as a netlist gives it, unless memory runs out.
+    ensures only { (n : Netlist') → Reads text.now n → GivesNetlist n result }
+    // A text that breaks a rule first is refused by it at its line, unless memory runs out.
+    ensures exact { (rule : Rule') → (line : ℕ) →
+        Breaks text.now rule line → GivesRefusal rule line result }
+{
+    read(alloc, text)
+}
