@@ -1,6 +1,6 @@
 // Fills an array, data 4 to 9, with 3, 6, 9 and so on, and then stores the sum of its words at data 0.
       li   r1, 4          // the address of a word
-      addi r2, r1, 6      // the address behind the last
+      addi r2, r1, 6      // the address after the last
 fill: addi r3, r3, 3
       st   r3, r1, 0
       addi r1, r1, 1
