@@ -5,8 +5,6 @@
 
 mod extend;
 mod same;
-#[cfg(test)]
-mod tests;
 
 ghost use Rattle.std.specs.Prelude.{◌≡◌, ℕ, ◌+◌, ◌*◌, ◌^◌, ◌<◌, ◌≤◌, [], ◌∷◌, ◌++◌, length, IfOk, IfSome, OnOk, OnErr};
 ghost use Rattle.pdl_net.specs.Circuit.{circuit_of, inputs_of, outputs_of, array_at, HasReg, reg_width, HasArray, array_width, array_depth};

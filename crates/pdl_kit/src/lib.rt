@@ -15,8 +15,6 @@ pub mod rule;
 pub mod seq;
 pub mod sink;
 pub mod std_sink;
-#[cfg(test)]
-mod tests;
 
 pub use boxed::Boxed;
 pub use files::{Files, LONGEST_FILE, ReadError};

@@ -4,6 +4,8 @@
 #![tactic(auto)]
 
 #[cfg(test)]
+mod build_rows;
+#[cfg(test)]
 mod bypass_rows;
 #[cfg(test)]
 mod netrun_rows;

@@ -8,9 +8,6 @@
 ghost use Rattle.pdl_word.specs.Words.{add as add_of, cat as cat_of, complement as complement_of, differ as differ_of, equal as equal_of, less as less_of, lts as lts_of, mask as mask_of, mul as mul_of, mux as mux_of, rep as rep_of, sext as sext_of, shl as shl_of, shr as shr_of, slice as slice_of, sub as sub_of, zext as zext_of};
 ghost use Rattle.std.specs.Prelude.{◌*◌, ◌+◌, ◌-◌, ◌<◌, ◌^◌, ◌≡◌, ◌≤◌};
 
-#[cfg(test)]
-mod tests;
-
 /// The largest word of `width` bits, all of them 1.
 #[tactic(auto, using(crate::proofs::Masks::one_shifted), unfolding(crate::specs::Words::mask))]
 pub fn mask(width: u8) -> u64

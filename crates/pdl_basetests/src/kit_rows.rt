@@ -1,4 +1,4 @@
-use crate::{
+use pdl_kit::{
     Boxed, Files, MemFile, MemFiles, MemInfo, MemSink, Name, ReadError, RealFiles, Refusal, Rule,
     Seq, Sink, StdSink, WriteFailed, write_whole,
 };

@@ -1,4 +1,4 @@
-use crate::Builder;
+use pdl_build::Builder;
 use pdl_kit::{Name, Seq};
 use pdl_net::{BinOp, Cell, Net};
 use std::test::Fail;

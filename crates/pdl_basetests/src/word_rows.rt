@@ -1,6 +1,6 @@
 //! Each call at values that were worked out by hand.
 
-use super::*;
+use pdl_word::*;
 
 #[test]
 fn masks(rt: HostRuntime) {
