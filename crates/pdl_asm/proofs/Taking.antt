@@ -18,7 +18,7 @@ use Rattle.pdl_asm.specs.declared.line.Operand.{Operand}
 use Rattle.pdl_asm.specs.declared.line.Operation.{Operation}
 use Rattle.pdl_asm.specs.declared.line.Operation.TheVariants.{Nothing, At, Word, Insn}
 use Rattle.pdl_asm.specs.declared.line.Line.{Line}
-use Rattle.pdl_asm.specs.declared.asm_error.AsmError.TheVariants.{Refused, NoMemory}
+use Rattle.pdl_asm.specs.declared.asm_error.AsmError.TheVariants.{Refused}
 use Rattle.pdl_asm.specs.Values.{Labels, lower, rank}
 use Rattle.pdl_asm.specs.Assembly.{Meets, Placed, addresses, image, image_text, image_unless, lines_from, word_line, at_line, broken_rule, first_wrong, free_rule, insn_rule, insn_word, is_at, is_taken, labels_of, line_rule, line_word, operation_rule, operation_word, place_rule, with_line, word_at, written_word}
 use Rattle.pdl_asm.specs.Slots.{AreWritten, is_taken_in, slots_of, with_word}
@@ -269,13 +269,6 @@ image_is t text labels slots bytes e f g h =
     let free : first_wrong t (labels_of ps) [] 1 ps ≡ None = sym (ap (λ ls. first_wrong t ls [] 1 ps) e) ∙ f in
     let same : slots ≡ slots_of t (labels_of ps) ps = g ∙ ap (λ ls. slots_of t ls ps) e in
     ap (λ o. image_unless o (image_text t (written_word t (labels_of ps) ps))) free ∙ ap Ok (sym (h ∙ text_same t (labels_of ps) ps slots same))
-
-pub image_wrong : (t : TableValue) (text : List ℕ) (labels : Labels) (rule : Rule) (line : ℕ) → labels ≡ labels_of (lines_from t (pos 0) (lines text))
-    → first_wrong t labels [] 1 (lines_from t (pos 0) (lines text)) ≡ Some (Refused rule line) → image t text ≡ Err (Refused rule line)
-unfolding image
-image_wrong t text labels rule line e f =
-    let ps : List Placed = lines_from t (pos 0) (lines text) in
-    ap (λ o. image_unless o (image_text t (written_word t (labels_of ps) ps))) (sym (ap (λ ls. first_wrong t ls [] 1 ps) e) ∙ f)
 
 -- no lines are left
 pub none_left_of : (t : TableValue) (place : ℤ) (rest : List ℕ) → length rest ≡ 0 → lines_from t place (lines rest) ≡ []

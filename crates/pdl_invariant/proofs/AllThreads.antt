@@ -30,18 +30,18 @@ module _ (p : Pipe) (sound : Sound p) (st : State) (d : Derived.State) (ls : Lis
   live_here = live_is p st st.next ls sim.stages (each_map (λ k h. h.keeps_on.inside) ls sim.seated) sim.ordered sim.falls
 
   -- 1.
-  order_pairs : (ks : List Live) (n : ℕ) → Ordered p ks → Falls n ks → Along (Lasting p st) ks → Pairwise (λ k l. (nat_lt k.number l.number && Sound.is_after p (told k) (told l)) ≡ true) ks
+  order_pairs : (ks : List Live) (n : ℕ) → Ordered p ks → Falls n ks → Along (Lasting p st) ks → Pairwise (λ k l. (nat_lt k.number l.number && Sound.is_behind p (told k) (told l)) ≡ true) ks
   order_pairs [] n o f a = tt
   order_pairs (l ∷ ks) n o f a = (each ks o.0 (falls_each l.number ks f.1) a.1, order_pairs ks l.number o.1 f.1 a.1)
     where
-      each : (js : List Live) → Each (λ k. Behind p l.thread.stage k.thread.stage) js → Each (λ k. k.number < l.number) js → Along (Lasting p st) js → Each (λ k. (nat_lt k.number l.number && Sound.is_after p (told k) (told l)) ≡ true) js
+      each : (js : List Live) → Each (λ k. Behind p l.thread.stage k.thread.stage) js → Each (λ k. k.number < l.number) js → Along (Lasting p st) js → Each (λ k. (nat_lt k.number l.number && Sound.is_behind p (told k) (told l)) ≡ true) js
       each [] b g c = tt
       each (j ∷ js) b g c = (both_true (lt-ltb _ _ g.0) (behind_is p (sound_flows p sound).graph (told j) (told l) j.env l.env c.0.local.trail a.0.local.trail c.0.local.walked a.0.local.walked b.0), each js b.1 g.1 c.1)
 
   pub order_point : in_order p st ≡ true
   order_point =
       both_true
-      (ap (all_pairs (λ older younger. nat_lt older.thread.number younger.thread.number && Sound.is_after p older younger)) live_here ∙ pairs_all _ ls (order_pairs ls st.next sim.ordered sim.falls whole.along))
+      (ap (all_pairs (λ older younger. nat_lt older.thread.number younger.thread.number && Sound.is_behind p older younger)) live_here ∙ pairs_all _ ls (order_pairs ls st.next sim.ordered sim.falls whole.along))
       (from_all _ 0 p.stages (λ f. ap₂ Sound.same_sides (sim.forks f) (ap (Sound.sides_in p f) live_here ∙ sides_are p f ls) ∙ sides_same (sides p f ls)))
 
   -- 2.

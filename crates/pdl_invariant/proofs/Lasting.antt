@@ -1,4 +1,4 @@
--- What holds of each live thread beside the simulation, whatever its guess: it keeps to one path, owns what it awaits, is certain behind a barrier, and its blocks stay ready.
+-- What holds of each live thread beside the simulation, whatever its guess: it keeps to one path, owns what it awaits, is certain after a barrier, and its blocks stay ready.
 use Rattle.std.proofs.Common.{◌≡◌, refl, sym, subst, ℕ, ◌≤◌, ◌<◌, ◌⊎◌, inl, inr, Bool, true, false, ◌||◌, not, List, [], ◌∷◌, ◌++◌, Option, Some, None, nat_lt, nat_le, cond, if◌then◌else◌, arith, slice_index, ltb-true, leb-true, le_refl}
 use Rattle.pdl_semantics.specs.Flat.{Pipe, Op, SpecBarrier, Block, Stmt, Branch, all_hold}
 use Rattle.pdl_semantics.specs.Stages.{onpath, in_stage, stage_at, goes_to, verify_stage, reserve_stage, mem_at}

@@ -27,7 +27,7 @@ module _ (p : Pipe) (g : Ways p) where
       at false e (inr i) f = absurd (let j = i.0 in let k = ltb-false _ _ e in omega arith)
 
   -- a younger one behind an older one
-  pub behind_is : (older younger : Sound.Live) (env env' : List ℕ) (trail trail' : List ℕ) → Trail p env older.stage trail → Trail p env' younger.stage trail' → Behind p younger.stage older.stage → Sound.is_after p older younger ≡ true
+  pub behind_is : (older younger : Sound.Live) (env env' : List ℕ) (trail trail' : List ℕ) → Trail p env older.stage trail → Trail p env' younger.stage trail' → Behind p younger.stage older.stage → Sound.is_behind p older younger ≡ true
   behind_is older younger env env' trail trail' t t' h = at (stage_at p younger.stage).branch refl (stage_at p older.stage).branch refl
     where
       goal : Type 0

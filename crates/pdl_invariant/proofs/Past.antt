@@ -42,7 +42,7 @@ any_both f [] h k = absurd k
 any_both f (op ∷ ops) h (inl k) = inl (f op h.0 k)
 any_both f (op ∷ ops) h (inr k) = inr (any_both f ops h.1 k)
 
--- statements behind others that were carried out, the last one first
+-- statements after others that were carried out, the last one first
 abbrev pub onto : List Stmt → List Op → List Op
 onto [] past = past
 onto (x ∷ xs) past = onto xs (x.op ∷ past)

@@ -332,7 +332,7 @@ unbarred (x ∷ xs) h = ap (λ b. some_barrier b (looked_all xs)) (barrier_looke
     at true i f = absurd (cc i)
     at false i f = f i
 
--- before V and behind no barrier
+-- before V and after no barrier
 pub early_unreleased : (p : Pipe) (sound : Sound p) (st : State) (l : Live) → Seated p st l → (v : ℕ) → verify_stage p.stmts ≡ Some v → l.thread.stage < v → list_any (λ (x : Stmt). Sound.is_barrier x.op) (on_way p l.env l.thread.stage) ≡ false → (m : ℕ) → has_released m p (told l) ≡ false
 early_unreleased p sound st l seated v verifies low clear m = not_released p sound st l seated m
     (ap is_done (sym (phases_looked m Fresh (on_way p l.env l.thread.stage))) ∙ ap (λ xs. is_done (phase_all m Fresh xs)) (sym (way_looked p l.env l.thread.stage))

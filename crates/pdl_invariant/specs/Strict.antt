@@ -35,7 +35,7 @@ abbrev pub all_new : ℕ → List Op → List Stmt → Bool
 all_new vars past [] = true
 all_new vars past (y ∷ ys) = (is_new vars past (bound_by y.op) && not (uses_own y.op)) && all_new vars (y.op ∷ past) ys
 
--- behind a block its location is released
+-- after a block its location is released
 abbrev pub lets_go : Op → List Stmt → Bool
 lets_go (Block m a) ys = list_any (λ (z : Stmt). is_release_at m a z.op) ys
 lets_go _ ys = true

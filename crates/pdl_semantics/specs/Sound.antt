@@ -157,8 +157,8 @@ abbrev pub other_branch : Option Branch → Option Branch → Bool
 other_branch (Some a) (Some b) = (a.fork == b.fork) && (if a.first then not b.first else b.first)
 other_branch _ _ = false
 
-abbrev pub is_after : Pipe → Live → Live → Bool
-is_after p older younger =
+abbrev pub is_behind : Pipe → Live → Live → Bool
+is_behind p older younger =
     nat_lt younger.stage older.stage || other_branch (stage_at p older.stage).branch (stage_at p younger.stage).branch
 
 -- a fork's list holds the branches of just the threads inside, oldest first
@@ -176,7 +176,7 @@ same_sides (a ∷ xs) (b ∷ ys) = (if a then b else not b) && same_sides xs ys
 same_sides _ _ = false
 
 abbrev pub in_order : Pipe → State → Bool
-in_order p st = all_pairs (λ older younger. nat_lt older.thread.number younger.thread.number && is_after p older younger) (live st) && all_from (λ f. same_sides (fork_of st f) (sides_in p f (live st))) 0 p.stages
+in_order p st = all_pairs (λ older younger. nat_lt older.thread.number younger.thread.number && is_behind p older younger) (live st) && all_from (λ f. same_sides (fork_of st f) (sides_in p f (live st))) 0 p.stages
 
 -- 2. CHAIN. At least one thread lives; each but the youngest has made its successor, the youngest hasn't
 

@@ -72,7 +72,7 @@ pub record Ways (p : Pipe) : Type 0 where
   pub next_in : (s q b : ℕ) (x : Branch) → Leads p s q → (stage_at p q).branch ≡ Some x → (stage_at p b).branch ≡ Some x → s < b → q ≤ b
   -- out of a branch it comes into the merge
   pub out_of : (s q : ℕ) (x : Branch) → Leads p s q → (stage_at p s).branch ≡ Some x → ((stage_at p q).branch ≡ Some x) ⊎ ((stage_at p q).merges ≡ Some x.fork)
-  -- a branch's stages stand behind its fork, a trunk stage
+  -- a branch's stages stand after its fork, a trunk stage
   pub fork_below : (s : ℕ) (x : Branch) → (stage_at p s).branch ≡ Some x → (x.fork < s) × ((stage_at p x.fork).branch ≡ None)
   -- into a merge, a trunk stage, a thread comes straight from the fork or from the last stage of a branch
   pub merge : (s q f : ℕ) → Leads p s q → (stage_at p q).merges ≡ Some f
@@ -104,7 +104,7 @@ pub record Flows (p : Pipe) : Type 0 where
   -- N2, N3: what a path's statements of stage s bind at once is no guard of an earlier stage's statement, nor of the fork around s, so values that differ in these alone take the same earlier statements
   pub steady : (s : ℕ) (env env' : List ℕ) → visits_stage p env s ≡ true → SameBut sets (onpath env' (in_stage s p.stmts)) env env'
       → (onpath env (stages_before s p.stmts) ≡ onpath env' (stages_before s p.stmts)) × (visits_stage p env s ≡ visits_stage p env' s)
-  -- N2, N3: a delayed read's variable is used behind the next separator on the path, so it is no guard in its own stage either, nor that of the next stage's fork
+  -- N2, N3: a delayed read's variable is used after the next separator on the path, so it is no guard in its own stage either, nor that of the next stage's fork
   pub settled : (s : ℕ) (env env' : List ℕ) → s < length p.stages → visits_stage p env' s ≡ true → SameBut is_fetch_of (onpath env' (in_stage s p.stmts)) env env'
       → (onpath env (stages_before (next_of p s env') p.stmts) ≡ onpath env' (stages_before (next_of p s env') p.stmts)) × (visits_stage p env (next_of p s env') ≡ visits_stage p env' (next_of p s env'))
   -- L1, L4, L5, L6: on each path at most one write reservation of a memory, one write through it, and no release before it
@@ -115,7 +115,7 @@ pub record Flows (p : Pipe) : Type 0 where
   pub unreserved : (m : ℕ) → length p.mems ≤ m → none_of (is_reserve m) p.stmts ≡ true
   pub unreleased : (m : ℕ) → length p.mems ≤ m → length p.stages ≤ commit_stage p m
   pub unfetched : (m : ℕ) → length p.mems ≤ m → none_of (fetches_from m) p.stmts ≡ true
-  -- S1, S2, N3: on each path one call or speculative call, and a verify behind it
+  -- S1, S2, N3: on each path one call or speculative call, and a verify after it
   pub calls : (path : List ℕ) → calls_ok false (onpath path p.stmts) ≡ true
   -- F3: no second delayed read statement of one memory, and none in the last stage
   pub one_fetch : (m : ℕ) → at_most_one (fetches_from m) p.stmts ≡ true

@@ -204,7 +204,7 @@ module _ (p : Pipe) (rules : FlowRules p) where
           apart y a c (inl d) = absurd (omega arith)
           apart y a c (inr d) = absurd (omega arith)
 
-      -- a fork's guard isn't read in the fork's stage or behind it
+      -- a fork's guard isn't read in the fork's stage or after it
       guard_same : (f v a c : ℕ) → f ≤ s → (stage_at p f).next ≡ Forks v a c → slice_index env v ≡ slice_index env' v
       guard_same f v a c i e = keeps v (all_map (λ y g. λ j u w. let d = (g j).1 u in absurd (omega arith)) p.stmts (rules.forks_late f v a c e))
 

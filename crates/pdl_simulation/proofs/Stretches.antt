@@ -244,12 +244,12 @@ on_way p path s = onpath path (stages_before s p.stmts)
 abbrev pub Unlike : List Awaited → List ℕ → List ℕ → Type 0
 Unlike rs env env' = (g : ℕ) → awaits_var rs g ≡ false → slice_index env g ≡ slice_index env' g
 
--- stage s stands behind stage b: each trunk stage that was reached from s on was left from b on, and in one branch s is the smaller
+-- stage s stands after stage b: each trunk stage that was reached from s on was left from b on, and in one branch s is the smaller
 pub record Behind (p : Pipe) (s b : ℕ) : Type 0 where
   pub trunk : (r : ℕ) → (stage_at p r).branch ≡ None → r ≤ s → r < b
   pub branch : (stage_at p s).branch ≡ (stage_at p b).branch → s < b
 
--- a stage does not stand behind one that leads to it
+-- a stage does not stand after one that leads to it
 pub not_behind : (p : Pipe) → Ways p → (k s : ℕ) → Leads p k s → Behind p s k → ⊥
 not_behind p g k s l h = at (stage_at p s).branch refl
   where

@@ -58,7 +58,7 @@ pub no_guess : (k : Making) (xs : List Stmt) → makings_ok None k xs ≡ true �
 no_guess k [] h e = e
 no_guess k (x ∷ xs) h e = no_guess (next_making k x.op) xs (and_right (making_ok None k x.stage x.op) _ h) (unguessed_op k x.stage x.op (and_left _ _ h) e)
 
--- behind a call or a verify there is no verify, and none in a stage other than V
+-- after a call or a verify there is no verify, and none in a stage other than V
 abbrev pub Elsewhere : Option ℕ → Making → ℕ → Type 0
 Elsewhere v k s = is_guessed k ≡ true → stands_at v s ≡ false
 

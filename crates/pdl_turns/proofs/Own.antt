@@ -89,7 +89,7 @@ pub fixed_second : (xs ys : List Stmt) → is_fixed (xs ++ ys) ≡ true → is_f
 fixed_second [] ys h = h
 fixed_second (x ∷ xs) ys h = fixed_second xs ys (and_right _ _ h)
 
--- statements are carried out as the values at their end, or behind later ones, tell
+-- statements are carried out as the values at their end, or after later ones, tell
 pub fixed_to : (path : List ℕ) (o : Around) (xs ys : List Stmt) (w : Work) → is_fixed (xs ++ ys) ≡ true
     → ((g : ℕ) → none_of (binds_var g) ys ≡ true → slice_index path g ≡ slice_index (do_all o xs w).env g) → Fixed path o xs w
 fixed_to path o [] ys w h e = tt

@@ -22,6 +22,6 @@ abbrev pub right_guess : Option (List ℕ) → List ℕ → Bool
 right_guess None next = false
 right_guess (Some x) next = same_args x next
 
--- the stage of a turn behind stage s
+-- the stage of a turn after stage s
 abbrev pub next_at : Pipe → Arrays → List ℕ → ℕ → ℕ
 next_at p arrays args s = next_of p s (stage_work p arrays args s).env

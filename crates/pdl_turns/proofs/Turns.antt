@@ -20,7 +20,7 @@ use Rattle.pdl_turns.proofs.Pending
 use Rattle.pdl_turns.proofs.Whole
 use Rattle.pdl_turns.proofs.Own.{fixed_second}
 
--- what holds of a stage and of those behind it holds of all from it on
+-- what holds of a stage and of those after it holds of all from it on
 pub none_parts : (test : Op → Bool) (s : ℕ) (xs : List Stmt) → none_of test (in_stage s xs ++ from (suc s) xs) ≡ true → none_of test (from s xs) ≡ true
 none_parts test s xs h = both xs (none_first test (in_stage s xs) (from (suc s) xs) h) (none_second test (in_stage s xs) (from (suc s) xs) h)
   where
