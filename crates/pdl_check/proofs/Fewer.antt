@@ -1,5 +1,5 @@
 -- A text has no more tokens than bytes.
-use Rattle.std.proofs.Common.{◌≡◌, ℕ, ◌+◌, ◌-◌, ◌≤◌, List, [], ◌∷◌, ◌++◌, length}
+use Rattle.std.proofs.Common.{ℕ, ◌≤◌, List, length}
 use Rattle.pdl_tokens.specs.Tokens.{tokens}
 use Rattle.pdl_grammar.proofs.Places.{from_fewer}
 

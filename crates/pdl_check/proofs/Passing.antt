@@ -1,6 +1,9 @@
 -- The gate, a token at a time.
-use Rattle.std.proofs.Common.{◌≡◌, ℕ, suc, ◌≤◌, ◌<◌, ◌+◌, Bool, true, false, List, [], ◌∷◌, length, Option, Some, None, is_some, refl, sym, ap, ◌∙◌, subst, if◌then◌else◌, arith}
+use Rattle.std.proofs.Common.{◌≡◌, ℕ, ◌≤◌, true, false, List, [], ◌∷◌, length, Option, Some, None, is_some, refl, sym, ap, ◌∙◌, subst, arith}
+use Rattle.pdl_tokens.specs.declared.token.Mark.{Mark}
+use Rattle.pdl_tokens.specs.declared.token.Mark.TheVariants as mark
 use Rattle.pdl_tokens.specs.declared.token.TokenKind.{TokenKind}
+use Rattle.pdl_tokens.specs.declared.token.TokenKind.TheVariants as kind
 use Rattle.pdl_tree.specs.declared.tree.Span as r_span
 use Rattle.pdl_tree.specs.View.{span_view}
 use Rattle.pdl_tokens.specs.Cursor.{next, first, first_kind, first_span}
@@ -10,40 +13,56 @@ use Rattle.pdl_cursor.specs.Marked.{marked_row}
 use Rattle.pdl_grammar.proofs.Within.{marked_length}
 use Rattle.pdl_check.proofs.Fewer.{fewer_tokens}
 use Rattle.pdl_check.specs.declared.gate.Gate.{Gate}
-use Rattle.pdl_check.specs.Gate.{begins_gated, open_after, gated_from, gated_line}
-use Rattle.pdl_check.specs.Passing.{known_or, line_once, IsPast}
+use Rattle.pdl_check.specs.Gate.{is_fetching, begins_gated, open_after, gated_from, gated_line}
+use Rattle.pdl_check.specs.Passing.{is_name, name_if, known_or, line_once, IsPast}
 
 pub fewer_marked : (bytes : List ℕ) → length (marked_row at_start (tokens bytes)) ≤ length bytes
 fewer_marked bytes = let h = fewer_tokens bytes in omega (arith, h, marked_length at_start (tokens bytes))
+
+-- ---- the token before
+
+same_fetch : (m : Mark) (k : TokenKind) → is_fetching m (name_if (is_name k)) ≡ is_fetching m (Some k)
+same_fetch mark.Arrow kind.Name = refl
+same_fetch mark.Arrow _ = refl
+same_fetch _ k = refl
+
+same_begin : (braces : ℕ) (before k : TokenKind) → begins_gated braces (name_if (is_name before)) k ≡ begins_gated braces (Some before) k
+same_begin braces before (kind.Mark m) = rw (same_fetch m before) refl
+same_begin braces before _ = refl
+
+-- only whether it is a name is asked
+same_from : (braces : ℕ) (before : TokenKind) (ts : Row) → gated_from braces (name_if (is_name before)) ts ≡ gated_from braces (Some before) ts
+same_from braces before [] = refl
+same_from braces before (t ∷ ts) = rw (same_begin braces before t.kind) refl
 
 -- ---- one token
 
 pub stays : (g : Gate) (k : TokenKind) (line : ℕ) → is_some g.line ≡ true → IsPast k line g g
 stays g k line e t ts i j = go g.line e
   where
-    go : (o : Option ℕ) → is_some o ≡ true → known_or o (gated_from g.braces g.before ts) ≡ known_or o (gated_from g.braces g.before (t ∷ ts))
+    go : (o : Option ℕ) → is_some o ≡ true → known_or o (gated_from g.braces (name_if g.after_name) ts) ≡ known_or o (gated_from g.braces (name_if g.after_name) (t ∷ ts))
     go (Some l) e = refl
     go None e = cc
 
-pub goes_on : (g new : Gate) (k : TokenKind) (line : ℕ) → is_some g.line ≡ false → begins_gated g.braces g.before k ≡ false →
-    new.line ≡ g.line → new.braces ≡ open_after k g.braces → new.before ≡ Some k → IsPast k line g new
-goes_on g new k line n b el eb ek t ts i j = rw (el, eb, ek) (go g.line n)
+pub goes_on : (g new : Gate) (k : TokenKind) (line : ℕ) → is_some g.line ≡ false → begins_gated g.braces (name_if g.after_name) k ≡ false →
+    new.line ≡ g.line → new.braces ≡ open_after k g.braces → new.after_name ≡ is_name k → IsPast k line g new
+goes_on g new k line n b el eb en t ts i j = rw (el, eb, en, same_from (open_after k g.braces) k ts) (go g.line n)
   where
-    tail : gated_from (open_after k g.braces) (Some k) ts ≡ gated_from g.braces g.before (t ∷ ts)
+    tail : gated_from (open_after k g.braces) (Some k) ts ≡ gated_from g.braces (name_if g.after_name) (t ∷ ts)
     tail = rw i (rw b refl)
 
-    go : (o : Option ℕ) → is_some o ≡ false → known_or o (gated_from (open_after k g.braces) (Some k) ts) ≡ known_or o (gated_from g.braces g.before (t ∷ ts))
+    go : (o : Option ℕ) → is_some o ≡ false → known_or o (gated_from (open_after k g.braces) (Some k) ts) ≡ known_or o (gated_from g.braces (name_if g.after_name) (t ∷ ts))
     go None e = tail
     go (Some l) e = cc
 
-pub begins : (g new : Gate) (k : TokenKind) (line : ℕ) → is_some g.line ≡ false → begins_gated g.braces g.before k ≡ true →
+pub begins : (g new : Gate) (k : TokenKind) (line : ℕ) → is_some g.line ≡ false → begins_gated g.braces (name_if g.after_name) k ≡ true →
     new.line ≡ Some line → IsPast k line g new
 begins g new k line n b el t ts i j = rw el (go g.line n)
   where
-    here : Some line ≡ gated_from g.braces g.before (t ∷ ts)
+    here : Some line ≡ gated_from g.braces (name_if g.after_name) (t ∷ ts)
     here = rw i (rw (b, j) refl)
 
-    go : (o : Option ℕ) → is_some o ≡ false → Some line ≡ known_or o (gated_from g.braces g.before (t ∷ ts))
+    go : (o : Option ℕ) → is_some o ≡ false → Some line ≡ known_or o (gated_from g.braces (name_if g.after_name) (t ∷ ts))
     go None e = here
     go (Some l) e = cc
 

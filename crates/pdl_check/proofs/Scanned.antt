@@ -1,5 +1,5 @@
 -- Why a source over the limit of length is refused.
-use Rattle.std.proofs.Common.{◌≡◌, ℕ, ◌≤◌, ◌<◌, List, [], ◌∷◌, length, Option, Some, None, true, false, Ok, Err, refl, sym, ap, ◌∙◌, inl, inr}
+use Rattle.std.proofs.Common.{◌≡◌, ℕ, ◌≤◌, ◌<◌, List, [], ◌∷◌, length, Option, Some, None, false, Ok, Err, refl, sym, ap, ◌∙◌, inl, inr}
 use Rattle.pdl_kit.specs.declared.rule.Rule.{Rule}
 use Rattle.pdl_kit.specs.declared.rule.Rule.TheVariants.{Z1, G1}
 use Rattle.pdl_kit.specs.declared.refusal.Refusal.TheVariants as error
@@ -7,7 +7,7 @@ use Rattle.pdl_semantics.specs.Tree.{Pipe}
 use Rattle.pdl_tree.specs.declared.tree.Span as r_span
 use Rattle.pdl_tree.specs.View.{span_view}
 use Rattle.pdl_tokens.specs.declared.token.TokenKind.{TokenKind}
-use Rattle.pdl_tokens.specs.Cursor.{first, next, first_kind, first_span}
+use Rattle.pdl_tokens.specs.Cursor.{first, first_kind, first_span}
 use Rattle.pdl_tokens.specs.Tokens.{Token, Row, tokens, last_line}
 use Rattle.pdl_cursor.specs.Limits.{at_start}
 use Rattle.pdl_cursor.specs.Marked.{marked_row, first_line}
@@ -15,7 +15,6 @@ use Rattle.pdl_grammar.specs.Automaton.{Stack, run, whole}
 use Rattle.pdl_grammar.specs.Text.{IsText}
 use Rattle.pdl_grammar.proofs.Places.{as_they_are}
 use Rattle.pdl_recogniser.specs.Answers.{StepsTo, stack_after}
-use Rattle.pdl_recogniser.proofs.Running as running
 use Rattle.pdl_recogniser.proofs.Running.{refused_so, ended_so, early_so}
 use Rattle.pdl_syntax.specs.Text as text
 use Rattle.pdl_syntax.proofs.Answers.{too_long, short_enough}
@@ -26,14 +25,6 @@ use Rattle.pdl_check.specs.Answers.{IsCause}
 use Rattle.pdl_check.specs.Passing.{line_once, IsScanned}
 use Rattle.pdl_check.proofs.Judged.{read_gated, read_long}
 use Rattle.pdl_check.proofs.Passing.{ended}
-
--- a token that is taken
-pub goes_on : (source : List ℕ) (ts : Row) (stack now : Stack) (k : TokenKind) → first_kind ts ≡ Some k → StepsTo (stack_after stack k) (Ok true) now →
-    run ts stack ≡ run (marked_row at_start (tokens source)) whole → run (next ts) now ≡ run (marked_row at_start (tokens source)) whole
-goes_on = running.goes_on
-
-pub shorter : (ts : Row) (k : TokenKind) → first_kind ts ≡ Some k → length (next ts) < length ts
-shorter = running.shorter
 
 -- a token that isn't taken
 pub misplaced : (source : List ℕ) (ts : Row) (stack now : Stack) (k : TokenKind) (span : r_span.Span) → first_kind ts ≡ Some k → span_view span ≡ first_span ts →

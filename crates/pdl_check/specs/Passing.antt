@@ -1,9 +1,10 @@
 -- What the gate knows of the tokens that passed.
-use Rattle.std.specs.Prelude.{◌≡◌, ℕ, List, [], ◌∷◌, Option, Some, None, Result, Ok, Err}
+use Rattle.std.specs.Prelude.{◌≡◌, ℕ, Bool, true, false, List, ◌∷◌, Option, Some, None, Result, Ok, Err}
 use Rattle.pdl_kit.specs.declared.refusal.Refusal.{Refusal}
 use Rattle.pdl_semantics.specs.Tree.{Pipe}
 use Rattle.pdl_grammar.specs.Text.{IsText}
 use Rattle.pdl_tokens.specs.declared.token.TokenKind.{TokenKind}
+use Rattle.pdl_tokens.specs.declared.token.TokenKind.TheVariants as kind
 use Rattle.pdl_tokens.specs.Tokens.{Token, Row}
 use Rattle.pdl_check.specs.declared.gate.Gate.{Gate}
 use Rattle.pdl_check.specs.Answers.{IsCause}
@@ -14,9 +15,18 @@ abbrev pub known_or : Option ℕ → Option ℕ → Option ℕ
 known_or (Some line) later = Some line
 known_or None later = later
 
+abbrev pub is_name : TokenKind → Bool
+is_name kind.Name = true
+is_name _ = false
+
+-- the token before, as far as the gate asks what it is
+abbrev pub name_if : Bool → Option TokenKind
+name_if true = Some kind.Name
+name_if false = None
+
 -- the line of the first form of a source, once the tokens that are left pass too
 abbrev pub line_once : Gate → Row → Option ℕ
-line_once g ts = known_or g.line (gated_from g.braces g.before ts)
+line_once g ts = known_or g.line (gated_from g.braces (name_if g.after_name) ts)
 
 -- what was to be told with a token of this kind, on this line, to come is told after it
 abbrev pub IsPast : TokenKind → ℕ → Gate → Gate → Type 0

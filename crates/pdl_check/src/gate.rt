@@ -5,7 +5,7 @@ ghost use Rattle.pdl_semantics.specs.Tree as tree;
 ghost use Rattle.pdl_grammar.specs.Text.{IsText};
 ghost use Rattle.pdl_tokens.specs.Tokens.{Row};
 ghost use Rattle.pdl_check.specs.Gate as spec;
-ghost use Rattle.pdl_check.specs.Passing.{line_once, IsPast};
+ghost use Rattle.pdl_check.specs.Passing.{name_if, is_name, line_once, IsPast};
 ghost use Rattle.pdl_check.specs.Compiled.{can_compile};
 
 use pdl_tokens::{Mark, TokenKind, Tokens};
@@ -32,24 +32,21 @@ fn is_forking(mark: Mark, braces: u32) -> bool
 }
 
 // The arrow of a delayed read stands after a name, that of a write after a bracket.
-fn is_fetching(mark: Mark, before: Option<TokenKind>) -> bool
-    ensures { result ≡ spec.is_fetching mark before }
+fn is_fetching(mark: Mark, after_name: bool) -> bool
+    ensures { result ≡ spec.is_fetching mark (name_if after_name) }
 {
     match mark {
-        Mark::Arrow => match before {
-            Some(TokenKind::Name) => true,
-            _ => false,
-        },
+        Mark::Arrow => after_name,
         _ => false,
     }
 }
 
-fn begins_gated(braces: u32, before: Option<TokenKind>, kind: TokenKind) -> bool
-    ensures { result ≡ spec.begins_gated braces before kind }
+fn begins_gated(braces: u32, after_name: bool, kind: TokenKind) -> bool
+    ensures { result ≡ spec.begins_gated braces (name_if after_name) kind }
 {
     match kind {
         TokenKind::Mark(mark) => {
-            is_gated(mark) || is_forking(mark, braces) || is_fetching(mark, before)
+            is_gated(mark) || is_forking(mark, braces) || is_fetching(mark, after_name)
         }
         _ => false,
     }
@@ -68,11 +65,20 @@ fn open_after(kind: TokenKind, braces: u32) -> u32
     }
 }
 
-/// What the gate knows of the tokens that passed: how many braces are open, what the last of them is, and the line of the first form that isn't compiled yet, by that form's own first token.
+fn is_name(kind: TokenKind) -> bool
+    ensures { result ≡ is_name kind }
+{
+    match kind {
+        TokenKind::Name => true,
+        _ => false,
+    }
+}
+
+/// What the gate knows of the tokens that passed: how many braces are open, whether the last of them is a name, and the line of the first form that isn't compiled yet, by that form's own first token.
 #[derive(Clone, Copy)]
 pub struct Gate {
     braces: u32,
-    before: Option<TokenKind>,
+    after_name: bool,
     pub line: Option<u32>,
 }
 
@@ -84,7 +90,7 @@ impl Gate {
     {
         Gate {
             braces: 0,
-            before: None,
+            after_name: false,
             line: None,
         }
     }
@@ -100,11 +106,11 @@ impl Gate {
         if self.line.is_some() {
             return;
         }
-        if begins_gated(self.braces, self.before, kind) {
+        if begins_gated(self.braces, self.after_name, kind) {
             self.line = Some(line);
         }
         self.braces = open_after(kind, self.braces);
-        self.before = Some(kind);
+        self.after_name = is_name(kind);
     }
 }
 

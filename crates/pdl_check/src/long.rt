@@ -23,7 +23,7 @@ pub fn not_read(line: u32) -> Refusal
 }
 
 // The line of the first form of a text of the grammar that isn't compiled yet, or the refusal of any other text.
-#[tactic(auto, using(crate::proofs::Passing::fewer_marked, crate::proofs::Passing::passed_marked, crate::proofs::Scanned::misplaced, crate::proofs::Scanned::early, crate::proofs::Scanned::whole_text, crate::proofs::Scanned::goes_on, crate::proofs::Scanned::shorter))]
+#[tactic(auto, using(crate::proofs::Passing::fewer_marked, crate::proofs::Passing::passed_marked, crate::proofs::Scanned::misplaced, crate::proofs::Scanned::early, crate::proofs::Scanned::whole_text, pdl_recogniser::proofs::Running::goes_on, pdl_recogniser::proofs::Running::shorter))]
 fn scan(alloc: Global, source: &[u8]) -> Result<Option<u32>, Refusal>
     requires { length source.now ≤ 268435456 }
     ensures { IsScanned source.now result }

@@ -1,7 +1,7 @@
 -- What a cursor with limits sees at the front, by the tokens that it holds.
-use Rattle.std.proofs.Common.{◌≡◌, ◌≤◌, true, [], ◌∷◌, Some, None, refl, arith}
+use Rattle.std.proofs.Common.{◌≡◌, ◌≤◌, Bool, true, false, cond, [], ◌∷◌, Some, None, refl, arith}
 use Rattle.std.proofs.lemmas.Bool.Decides.{nat_tests}
-use Rattle.pdl_tokens.specs.Cursor.{kind_in, first, first_kind, next}
+use Rattle.pdl_tokens.specs.Cursor.{first, first_kind, first_span, next}
 use Rattle.pdl_tokens.specs.Tokens.{Token}
 use Rattle.pdl_cursor.specs.declared.limits.Counts.{Counts}
 use Rattle.pdl_tokens.specs.Tokens.{Row}
@@ -12,17 +12,29 @@ use Rattle.pdl_cursor.specs.Looks.{is_place, begins_place}
 pub within_parts : (c : Counts) → is_within c ≡ true → (c.brackets ≤ 64) × (c.operators ≤ 256)
 within_parts c e = grind (arith, nat_tests)
 
-pub head_is : (c : Counts) (ts : Row) → headed_row (passed_if c (kind_in (first ts))) ts ≡ marked_row c ts
+-- a token that isn't counted
+pub kept : (c : Counts) → c ≡ cond (is_within c) c c
+kept c = go (is_within c)
+  where
+    go : (b : Bool) → c ≡ cond b c c
+    go true = refl
+    go false = refl
+
+pub head_is : (c : Counts) (ts : Row) → headed_row (passed_if c (first_kind ts)) ts ≡ marked_row c ts
 head_is c [] = refl
 head_is c (t ∷ ts) = refl
 
-pub next_head : (c : Counts) (ts : Row) → headed_row (passed_if c (kind_in (first (next ts)))) (next ts) ≡ next (headed_row c ts)
+pub next_head : (c : Counts) (ts : Row) → headed_row (passed_if c (first_kind (next ts))) (next ts) ≡ next (headed_row c ts)
 next_head c [] = refl
 next_head c (t ∷ ts) = head_is c ts
 
-pub kind_head : (c : Counts) (ts : Row) → seen_if c (kind_in (first ts)) ≡ first_kind (headed_row c ts)
+pub kind_head : (c : Counts) (ts : Row) → seen_if c (first_kind ts) ≡ first_kind (headed_row c ts)
 kind_head c [] = refl
 kind_head c (t ∷ ts) = refl
+
+pub span_head : (c : Counts) (ts : Row) → first_span ts ≡ first_span (headed_row c ts)
+span_head c [] = refl
+span_head c (t ∷ ts) = refl
 
 -- what the tokens begin with, where there are some
 pub some_head : (c : Counts) (ts : Row) (t : Token) → Some t ≡ first ts → headed_row c ts ≡ mark_token c t ∷ marked_row c (next ts)

@@ -1,7 +1,6 @@
 // A cursor over the tokens of a source text, which reads a token over a limit as a bad one.
 ghost use Rattle.std.specs.Prelude.{◌≡◌, ◌≤◌, IfOk, length};
 ghost use Rattle.pdl_tokens.specs.Cursor as spec;
-ghost use Rattle.pdl_tokens.specs.Cursor.{maybe_token_view};
 ghost use Rattle.pdl_tokens.specs.Tokens as lexed;
 ghost use Rattle.pdl_tree.specs.View.{span_view, ident_view};
 ghost use Rattle.pdl_cursor.specs.Limits.{at_start};
@@ -10,7 +9,7 @@ ghost use Rattle.pdl_cursor.specs.Looks.{is_mark, is_place, begins_place};
 
 use crate::limits::Counts;
 use pdl_kit::{Name, NoMemory};
-use pdl_tokens::{Mark, Token, TokenKind, Tokens};
+use pdl_tokens::{Mark, TokenKind, Tokens};
 use pdl_tree::{Ident, Span};
 use std::alloc::Global;
 use std::marker::Model;
@@ -40,7 +39,7 @@ impl<'a> Cursor<'a> {
         ensures { result ≡ marked_row at_start (lexed.tokens source.entry.now) }
     {
         let tokens = Tokens::new(source);
-        let counts = Counts::new().after_token(kind_of(tokens.peek()));
+        let counts = Counts::new().after_token(tokens.kind());
         Cursor { tokens, counts }
     }
 
@@ -50,7 +49,7 @@ impl<'a> Cursor<'a> {
         ensures { self.new ≡ spec.next self.old }
     {
         self.tokens.skip();
-        self.counts = self.counts.after_token(kind_of(self.tokens.peek()));
+        self.counts.pass(self.tokens.kind());
     }
 
     /// What the first token is.
@@ -58,7 +57,7 @@ impl<'a> Cursor<'a> {
     pub fn kind(&self) -> Option<TokenKind>
         ensures { result ≡ spec.first_kind self.now }
     {
-        self.counts.kind_of(kind_of(self.tokens.peek()))
+        self.counts.kind_of(self.tokens.kind())
     }
 
     /// The line of the first token.
@@ -73,18 +72,11 @@ impl<'a> Cursor<'a> {
     }
 
     /// Where the first token stands; nowhere if there is none.
-    #[tactic(auto, using(crate::proofs::Fronts::some_head, crate::proofs::Fronts::none_head))]
+    #[tactic(auto, using(crate::proofs::Fronts::span_head))]
     pub fn span(&self) -> Span
         ensures { span_view result ≡ spec.first_span self.now }
     {
-        match self.tokens.peek() {
-            Some(token) => token.span,
-            None => Span {
-                start: 0,
-                end: 0,
-                line: 0,
-            },
-        }
+        self.tokens.span()
     }
 
     #[tactic(auto, using(crate::proofs::Fronts::some_head, crate::proofs::Fronts::none_head))]
@@ -131,15 +123,6 @@ impl<'a> Cursor<'a> {
             at_second.kind_of(second),
             at_third.kind_of(third),
         )
-    }
-}
-
-fn kind_of(token: Option<Token<'_>>) -> Option<TokenKind>
-    ensures { result ≡ spec.kind_in (maybe_token_view token.entry) }
-{
-    match token {
-        Some(token) => Some(token.kind),
-        None => None,
     }
 }
 

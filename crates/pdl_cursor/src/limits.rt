@@ -1,5 +1,6 @@
 // The limits on open brackets and on the operators of a statement.
 ghost use Rattle.std.specs.Prelude.{◌≡◌, true};
+ghost use Rattle.pdl_tokens.specs.declared.token.TokenKind.TheVariants as kind;
 ghost use Rattle.pdl_cursor.specs.Limits as spec;
 ghost use Rattle.pdl_cursor.specs.Marked.{counts_passing, passed_if, kind_counted, seen_if};
 
@@ -32,87 +33,6 @@ fn is_operator(mark: Mark) -> bool
     }
 }
 
-#[tactic(auto, using(crate::proofs::Fronts::within_parts))]
-fn after_open(counts: Counts) -> Counts
-    requires { spec.is_within counts ≡ true }
-    ensures { result ≡ spec.after_open counts }
-{
-    Counts {
-        brackets: counts.brackets + 1,
-        ..counts
-    }
-}
-
-fn after_close(counts: Counts) -> Counts
-    ensures { result ≡ spec.after_close counts }
-{
-    Counts {
-        brackets: counts.brackets.saturating_sub(1),
-        ..counts
-    }
-}
-
-#[tactic(auto, using(crate::proofs::Fronts::within_parts))]
-fn after_operator(counts: Counts) -> Counts
-    requires { spec.is_within counts ≡ true }
-    ensures { result ≡ spec.after_operator counts }
-{
-    if counts.in_body {
-        Counts {
-            operators: counts.operators + 1,
-            ..counts
-        }
-    } else {
-        counts
-    }
-}
-
-fn afresh(counts: Counts) -> Counts
-    ensures { result ≡ spec.afresh counts }
-{
-    Counts {
-        operators: 0,
-        ..counts
-    }
-}
-
-#[tactic(auto, using(crate::proofs::Fronts::within_parts))]
-fn after_brace(counts: Counts) -> Counts
-    requires { spec.is_within counts ≡ true }
-    ensures { result ≡ spec.after_brace counts }
-{
-    Counts {
-        brackets: counts.brackets + 1,
-        in_body: true,
-        operators: 0,
-    }
-}
-
-// The counts after a token.
-fn counts_after(counts: Counts, kind: TokenKind) -> Counts
-    requires { spec.is_within counts ≡ true }
-    ensures { result ≡ spec.counts_after counts kind }
-{
-    match kind {
-        TokenKind::Mark(Mark::OpenRound) => after_open(counts),
-        TokenKind::Mark(Mark::OpenSquare) => after_open(counts),
-        TokenKind::Mark(Mark::OpenBrace) => after_brace(counts),
-        TokenKind::Mark(Mark::CloseRound) => after_close(counts),
-        TokenKind::Mark(Mark::CloseSquare) => after_close(counts),
-        TokenKind::Mark(Mark::CloseBrace) => afresh(after_close(counts)),
-        TokenKind::Mark(Mark::Semicolon) => afresh(counts),
-        TokenKind::Mark(Mark::Separator) => afresh(counts),
-        TokenKind::Mark(mark) => {
-            if is_operator(mark) {
-                after_operator(counts)
-            } else {
-                counts
-            }
-        }
-        _ => counts,
-    }
-}
-
 impl Counts {
     /// The counts before the first token.
     pub fn new() -> Counts
@@ -125,26 +45,96 @@ impl Counts {
         }
     }
 
-    fn is_within(self) -> bool
-        ensures { result ≡ spec.is_within self }
+    fn is_within(&self) -> bool
+        ensures { result ≡ spec.is_within self.now }
     {
         self.brackets <= MOST_BRACKETS && self.operators <= MOST_OPERATORS
     }
 
-    /// The counts after a token, if there is one; once over a limit they stay so.
+    #[tactic(auto, using(crate::proofs::Fronts::within_parts))]
+    fn open_bracket(&mut self)
+        requires { spec.is_within self.old ≡ true }
+        ensures { self.new ≡ spec.after_open self.old }
+    {
+        self.brackets += 1;
+    }
+
+    fn close_bracket(&mut self)
+        ensures { self.new ≡ spec.after_close self.old }
+    {
+        self.brackets = self.brackets.saturating_sub(1);
+    }
+
+    #[tactic(auto, using(crate::proofs::Fronts::within_parts))]
+    fn count_operator(&mut self)
+        requires { spec.is_within self.old ≡ true }
+        ensures { self.new ≡ spec.after_operator self.old }
+    {
+        if self.in_body {
+            self.operators += 1;
+        }
+    }
+
+    fn end_statement(&mut self)
+        ensures { self.new ≡ spec.afresh self.old }
+    {
+        self.operators = 0;
+    }
+
+    #[tactic(auto, using(crate::proofs::Fronts::within_parts))]
+    fn open_brace(&mut self)
+        requires { spec.is_within self.old ≡ true }
+        ensures { self.new ≡ spec.after_brace self.old }
+    {
+        self.brackets += 1;
+        self.in_body = true;
+        self.operators = 0;
+    }
+
+    // A keyword or a symbol passes.
+    fn pass_mark(&mut self, mark: Mark)
+        requires { spec.is_within self.old ≡ true }
+        ensures { self.new ≡ spec.counts_after self.old (kind.Mark mark) }
+    {
+        match mark {
+            Mark::OpenRound | Mark::OpenSquare => self.open_bracket(),
+            Mark::OpenBrace => self.open_brace(),
+            Mark::CloseRound | Mark::CloseSquare => self.close_bracket(),
+            Mark::CloseBrace => {
+                self.close_bracket();
+                self.end_statement();
+            }
+            Mark::Semicolon | Mark::Separator => self.end_statement(),
+            _ => {
+                if is_operator(mark) {
+                    self.count_operator();
+                }
+            }
+        }
+    }
+
+    /// A token passes, if there is one; once over a limit the counts stay so. Only keywords and symbols are counted.
+    #[tactic(auto, using(crate::proofs::Fronts::kept))]
+    pub fn pass(&mut self, kind: Option<TokenKind>)
+        ensures { self.new ≡ passed_if self.old kind }
+    {
+        match kind {
+            Some(TokenKind::Mark(mark)) => {
+                if self.is_within() {
+                    self.pass_mark(mark);
+                }
+            }
+            _ => {}
+        }
+    }
+
+    /// The counts after a token, if there is one.
     pub fn after_token(self, kind: Option<TokenKind>) -> Counts
         ensures { result ≡ passed_if self kind }
     {
-        match kind {
-            Some(kind) => {
-                if self.is_within() {
-                    counts_after(self, kind)
-                } else {
-                    self
-                }
-            }
-            None => self,
-        }
+        let mut counts = self;
+        counts.pass(kind);
+        counts
     }
 
     /// What a token is by the counts after it: a bad one where they are over a limit.

@@ -2,7 +2,8 @@
 ghost use Rattle.std.specs.Prelude.{◌≡◌, ◌≤◌, ◌<◌, ◌+◌, ◌^◌, ◌∷◌, length, take, drop, Some};
 ghost use Rattle.pdl_tokens.specs.Tokens.{tokens, tokens_from, last_line};
 ghost use Rattle.pdl_tokens.specs.Pieces.{IsFront, IsLineAfter};
-ghost use Rattle.pdl_tokens.specs.Cursor.{token_view, maybe_token_view, kind_in, onto, first, first_kind, next};
+ghost use Rattle.pdl_tokens.specs.Cursor.{token_view, maybe_token_view, kind_in, onto, first, first_kind, first_span, next};
+ghost use Rattle.pdl_tree.specs.View.{span_view};
 
 use crate::piece::{Piece, front};
 use crate::token::{Token, TokenKind};
@@ -144,6 +145,30 @@ impl<'a> Tokens<'a> {
         ensures { maybe_token_view result ≡ first self.now }
     {
         self.first
+    }
+
+    /// What the first of them is.
+    pub fn kind(&self) -> Option<TokenKind>
+        ensures { result ≡ first_kind self.now }
+    {
+        match &self.first {
+            Some(token) => Some(token.kind),
+            None => None,
+        }
+    }
+
+    /// Where the first of them stands; nowhere if there is none.
+    pub fn span(&self) -> Span
+        ensures { span_view result ≡ first_span self.now }
+    {
+        match &self.first {
+            Some(token) => token.span,
+            None => Span {
+                start: 0,
+                end: 0,
+                line: 0,
+            },
+        }
     }
 
     /// What the second of them is.
