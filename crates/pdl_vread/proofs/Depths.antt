@@ -8,18 +8,18 @@ use Rattle.pdl_vtext.specs.declared.file.File.{File}
 use Rattle.pdl_vtext.specs.declared.file.ArrayDecl.{ArrayDecl}
 use Rattle.pdl_vnets.specs.declared.wiring.ArrayWrite.{ArrayWrite}
 use Rattle.pdl_vnets.specs.declared.wiring.Wiring.{Wiring}
-use Rattle.pdl_vrules.specs.Asked.{Asked, first_wrong}
-use Rattle.pdl_vrules.specs.Widths.{asked_port, asked_reg, asked_array, declared_questions, driven_questions, widths_of, width_line, bits, is_width, is_depth}
+use Rattle.pdl_vrules.specs.Asked.{Asked, first_wrong, both}
+use Rattle.pdl_vrules.specs.Widths.{asked_port, asked_reg, asked_array, asked_cell, asked_output, asked_block, asked_writes, declared_questions, driven_questions, widths_of, width_line, bits, is_width, is_depth}
 use Rattle.pdl_vpipe.specs.Told.{with_mems}
 use Rattle.pdl_vpipe.proofs.Pipes.{length_mems}
 use Rattle.pdl_vread.specs.Built.{built, arrays}
 
-right_both : (b : Bool) (o : Option ℕ) (n : ℕ) → cond b o (Some n) ≡ None → (b ≡ true) × (o ≡ None)
+pub right_both : (b : Bool) (o : Option ℕ) (n : ℕ) → cond b o (Some n) ≡ None → (b ≡ true) × (o ≡ None)
 right_both true o n h = (refl, h)
 right_both false o n h = absurd (cc)
 
 -- where all are right, so are the first and the others
-right_parts : (xs ys : List Asked) → first_wrong (xs ++ ys) ≡ None → (first_wrong xs ≡ None) × (first_wrong ys ≡ None)
+pub right_parts : (xs ys : List Asked) → first_wrong (xs ++ ys) ≡ None → (first_wrong xs ≡ None) × (first_wrong ys ≡ None)
 right_parts [] ys h = (refl, h)
 right_parts (a ∷ xs) ys h =
     let k = right_both a.right (first_wrong (xs ++ ys)) a.line h in
@@ -46,18 +46,39 @@ all_reached (a ∷ rest) h =
       | suc n ↦ λ d l. i n d (omega arith)
     ]
 
--- where V3 is kept each depth is a number of 32 bits
-pub reached : (f : File) (w : Wiring) → width_line f w ≡ None → All IsReached f.arrays
+-- what V3 asks, part by part
+pub record WidthParts (f : File) (w : Wiring) : Type 0 where
+  pub ports : first_wrong (map asked_port f.ports) ≡ None
+  pub regs : first_wrong (map asked_reg f.regs) ≡ None
+  pub arrays : first_wrong (map asked_array f.arrays) ≡ None
+  pub cells : first_wrong (both (asked_cell (widths_of f)) f.cells w.cells) ≡ None
+  pub outputs : first_wrong (both (asked_output (widths_of f)) f.outputs w.outputs) ≡ None
+  pub blocks : first_wrong (both (asked_block (widths_of f)) f.reg_blocks w.regs) ≡ None
+  pub writes : first_wrong (asked_writes (widths_of f) f.array_blocks w.blocks) ≡ None
+
+pub width_parts : (f : File) (w : Wiring) → width_line f w ≡ None → WidthParts f w
 unfolding width_line
-reached f w h =
+width_parts f w h =
     let ps = map asked_port f.ports in
     let rs = map asked_reg f.regs in
     let qs = map asked_array f.arrays in
-    let d = (right_parts (declared_questions f) (driven_questions f (widths_of f) w) h).0 in
-    let t = (right_both _ (first_wrong (ps ++ (rs ++ qs))) f.reset_line d).1 in
-    all_reached f.arrays (right_parts rs qs (right_parts ps (rs ++ qs) t).1).1
+    let cs = both (asked_cell (widths_of f)) f.cells w.cells in
+    let os = both (asked_output (widths_of f)) f.outputs w.outputs in
+    let bs = both (asked_block (widths_of f)) f.reg_blocks w.regs in
+    let ws = asked_writes (widths_of f) f.array_blocks w.blocks in
+    let a = right_parts (declared_questions f) (driven_questions f (widths_of f) w) h in
+    let b = right_parts ps (rs ++ qs) (right_both _ (first_wrong (ps ++ (rs ++ qs))) f.reset_line a.0).1 in
+    let c = right_parts rs qs b.1 in
+    let d = right_parts cs (os ++ (bs ++ ws)) a.1 in
+    let e = right_parts os (bs ++ ws) d.1 in
+    let g = right_parts bs ws e.1 in
+    record { ports = b.0; regs = c.0; arrays = c.1; cells = d.0; outputs = e.0; blocks = g.0; writes = g.1 }
 
-length_arrays : (blocks : List (List ArrayWrite)) (m : ℕ) (decls : List ArrayDecl) → length (arrays blocks m decls) ≡ length decls
+-- where V3 is kept each depth is a number of 32 bits
+pub reached : (f : File) (w : Wiring) → width_line f w ≡ None → All IsReached f.arrays
+reached f w h = all_reached f.arrays (width_parts f w h).arrays
+
+pub length_arrays : (blocks : List (List ArrayWrite)) (m : ℕ) (decls : List ArrayDecl) → length (arrays blocks m decls) ≡ length decls
 length_arrays blocks m [] = refl
 length_arrays blocks m (a ∷ rest) = ap suc (length_arrays blocks (suc m) rest)
 

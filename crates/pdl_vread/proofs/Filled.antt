@@ -87,7 +87,7 @@ length_regs_from ds r (c ∷ cs) = ap suc (length_regs_from ds (suc r) cs)
 pub length_regs : (ds : List RegDrive) (decls : List RegDecl) → length (regs ds 0 decls) ≡ length decls
 length_regs ds decls = length_regs_from ds 0 decls
 
-get_regs_from : (ds : List RegDrive) (r i j : ℕ) (decls : List RegDecl) (x : Reg) (z : RegDecl) → i < length decls → r + i ≡ j → get_or (regs ds r decls) i x ≡ driven j (undriven (get_or decls i z)) ds
+pub get_regs_from : (ds : List RegDrive) (r i j : ℕ) (decls : List RegDecl) (x : Reg) (z : RegDecl) → i < length decls → r + i ≡ j → get_or (regs ds r decls) i x ≡ driven j (undriven (get_or decls i z)) ds
 get_regs_from ds r i j [] x z h e = absurd (omega arith)
 get_regs_from ds r zero j (c ∷ cs) x z h e = let k : r ≡ j = omega arith in ap (λ q. driven q (undriven c) ds) k
 get_regs_from ds r (suc i) j (c ∷ cs) x z h e = get_regs_from ds (suc r) i j cs x z (omega arith) (omega arith)

@@ -3,3 +3,10 @@ pub mod Depths
 pub mod Steps
 pub mod Verdicts
 pub mod Examples
+pub mod There
+pub mod Powers
+pub mod Wide
+pub mod Parts
+pub mod Named
+pub mod WellFormed
+pub mod Memories

@@ -1,7 +1,8 @@
 //! The reader of netlists.
-ghost use Rattle.std.specs.Prelude.{◌≡◌, ◌≤◌, ℕ, length, MatchResult};
+ghost use Rattle.std.specs.Prelude.{◌≡◌, ◌≢◌, ◌≤◌, ℕ, length, All, AllPairs, IfOk, MatchResult};
 ghost use Rattle.pdl_kit.specs.declared.rule.Rule.{Rule as Rule'};
 ghost use Rattle.pdl_net.specs.declared.Netlist.{Netlist as Netlist'};
+ghost use Rattle.pdl_net.specs.Pipe.{IsWellFormed};
 ghost use Rattle.pdl_vtext.specs.Text.{IsFile};
 ghost use Rattle.pdl_vread.specs.Reads.{Breaks, FileBreaks, GivesNetlist, GivesRefusal, IsWired, IsNetlistOf, Judges, Reads, Refuses};
 ghost use Rattle.pdl_vread.specs.Reads as spec;
@@ -111,11 +112,17 @@ fn read(alloc: Global, text: &[u8]) -> Result<Netlist, VError>
 }
 
 /// Reads a netlist from a text of at most 268,435,456 bytes, in time and memory linear in its length.
-#[tactic(auto, using(crate::proofs::Verdicts::one_way))]
+#[tactic(auto, using(crate::proofs::Verdicts::one_way, crate::proofs::Memories::well_read))]
 pub fn read_verilog(alloc: Global, text: &[u8]) -> Result<Netlist, VError>
     requires { length text.now ≤ 268435456 }
     // What is read is what the text reads as, and a refusal tells what it breaks first.
     ensures judges { Judges text.now result }
+    // What is read is well formed, so that it can be run.
+    ensures well { IfOk result IsWellFormed }
+    // Its memories have different names and words of 1 to 64 bits, so that they can have an image.
+    ensures names { IfOk result (λ n. AllPairs (λ a b. a.name ≢ b.name) n.mems) }
+    ensures low { IfOk result (λ n. All (λ m. 1 ≤ m.width) n.mems) }
+    ensures high { IfOk result (λ n. All (λ m. m.width ≤ 64) n.mems) }
     // A text that reads as a netlist gives it, unless memory runs out.
     ensures only { (n : Netlist') → Reads text.now n → GivesNetlist n result }
     // A text that breaks a rule first is refused by it at its line, unless memory runs out.
