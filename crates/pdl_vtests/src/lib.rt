@@ -1,8 +1,10 @@
-//! The rules of netlists as text, asked of small texts and netlists, and the reader of netlists.
+//! The rules of netlists as text, asked of small texts and netlists, the reader of netlists, and the texts that netlists are given.
 //!
 //! It has tests alone, and nothing stands on it.
 #![tactic(auto)]
 
+#[cfg(test)]
+mod verilog_rows;
 #[cfg(test)]
 mod vpipe_rows;
 #[cfg(test)]

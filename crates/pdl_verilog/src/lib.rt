@@ -1,0 +1,8 @@
+//! The text of a netlist, given only where it reads as that netlist.
+//!
+//! It is written by `pdl_vlog`, read back by `pdl_vread` and compared by `pdl_netsame`.
+#![tactic(auto)]
+
+pub mod checked;
+
+pub use checked::verilog_text;
