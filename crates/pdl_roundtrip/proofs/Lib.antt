@@ -1,0 +1,15 @@
+pub mod Places
+pub mod Inputs
+pub mod Nets
+pub mod Found
+pub mod Wired
+pub mod Questions
+pub mod Table
+pub mod Right
+pub mod Names
+pub mod Drives
+pub mod Again
+pub mod Once
+pub mod NetlistOf
+pub mod Bridge
+pub mod RoundTrip
