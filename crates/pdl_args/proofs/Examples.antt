@@ -1,7 +1,7 @@
 -- What single lists of words are.
 use Rattle.std.proofs.Common.{◌≡◌, [], ◌∷◌, Some, None, codes, refl}
 use Rattle.clap.proofs.OnLiterals.{clap_on_literals}
-use Rattle.pdl_args.specs.Line.{line, check, run, seq, asm, gen}
+use Rattle.pdl_args.specs.Line.{line, check, run, seq, asm, gen, build, sim}
 
 ran : line (codes "run" ∷ codes "a.pdl" ∷ codes "e.img" ∷ codes "17" ∷ []) ≡ Some (run (codes "a.pdl") (codes "e.img") 17)
 unfolding clap_on_literals line
@@ -210,3 +210,31 @@ eleven_digits = refl
 gen_alone : line (codes "gen" ∷ []) ≡ None
 unfolding clap_on_literals line
 gen_alone = refl
+
+built : line (codes "build" ∷ codes "a.pdl" ∷ []) ≡ Some (build (codes "a.pdl"))
+unfolding clap_on_literals line
+built = refl
+
+build_alone : line (codes "build" ∷ []) ≡ None
+unfolding clap_on_literals line
+build_alone = refl
+
+build_two : line (codes "build" ∷ codes "a.pdl" ∷ codes "e.img" ∷ []) ≡ None
+unfolding clap_on_literals line
+build_two = refl
+
+simulated : line (codes "sim" ∷ codes "a.v" ∷ codes "e.img" ∷ codes "17" ∷ []) ≡ Some (sim (codes "a.v") (codes "e.img") 17)
+unfolding clap_on_literals line
+simulated = refl
+
+most_simulated : line (codes "sim" ∷ codes "v" ∷ codes "i" ∷ codes "1000000" ∷ []) ≡ Some (sim (codes "v") (codes "i") 1000000)
+unfolding clap_on_literals line
+most_simulated = refl
+
+above_most_simulated : line (codes "sim" ∷ codes "v" ∷ codes "i" ∷ codes "1000001" ∷ []) ≡ None
+unfolding clap_on_literals line
+above_most_simulated = refl
+
+sim_two : line (codes "sim" ∷ codes "v" ∷ codes "i" ∷ []) ≡ None
+unfolding clap_on_literals line
+sim_two = refl

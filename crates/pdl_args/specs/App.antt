@@ -32,6 +32,16 @@ asm_app = with_rule (with_rule (new_app (codes "asm")) (word_rule (codes "table"
 abbrev pub gen_app : App
 gen_app = with_rule (new_app (codes "gen")) (word_rule (codes "number"))
 
+-- `build SRC`
+abbrev pub build_app : App
+build_app = with_rule (new_app (codes "build")) (word_rule (codes "source"))
+
+-- `sim V IMG CYCLES`
+abbrev pub sim_app : App
+sim_app =
+    with_rule (with_rule (with_rule (new_app (codes "sim"))
+    (word_rule (codes "netlist"))) (word_rule (codes "image"))) (word_rule (codes "cycles"))
+
 -- the command without its subcommands, over the words after the program's name
 abbrev pub bare_app : App
 bare_app = on_top (λ s. record s { no_binary_name = true }) (new_app (codes "pdl"))
@@ -39,5 +49,6 @@ bare_app = on_top (λ s. record s { no_binary_name = true }) (new_app (codes "pd
 -- the command
 abbrev pub pdl_app : App
 pdl_app =
-    with_subcommand (with_subcommand (with_subcommand (with_subcommand (with_subcommand bare_app
-    check_app.top) run_app.top) seq_app.top) asm_app.top) gen_app.top
+    with_subcommand (with_subcommand (with_subcommand (with_subcommand (with_subcommand
+    (with_subcommand (with_subcommand bare_app
+    check_app.top) run_app.top) seq_app.top) asm_app.top) gen_app.top) build_app.top) sim_app.top

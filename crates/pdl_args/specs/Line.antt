@@ -15,6 +15,8 @@ pub data Command : Type 0 where
   seq : (source image : Text) (threads : ℕ) → Command
   asm : (table text : Text) → Command
   gen : (number : ℕ) → Command
+  build : (source : Text) → Command
+  sim : (netlist image : Text) (cycles : ℕ) → Command
 
 -- `check`
 abbrev pub check_of : Option Text → Option Command
@@ -41,6 +43,26 @@ abbrev pub gen_of : Option Text → Option Command
 gen_of (Some number) = option_map gen (number_of 10 2147483647 number)
 gen_of None = None
 
+-- `build`
+abbrev pub build_of : Option Text → Option Command
+build_of (Some source) = Some (build source)
+build_of None = None
+
+-- `sim`, with a number of cycles up to 1,000,000
+abbrev pub sim_of : Option Text → Option Text → Option Text → Option Command
+sim_of (Some netlist) (Some image) (Some cycles) = option_map (sim netlist image) (number_of 7 1000000 cycles)
+sim_of _ _ _ = None
+
+-- the command of a subcommand that writes or reads a netlist's text, by its name, with the words that it was given
+abbrev pub netlist_command_of : Text × List Row → Option Command
+netlist_command_of (name, rows) =
+    if bytes_eq name (codes "build")
+    then build_of (first_of (codes "source") rows)
+    else
+    if bytes_eq name (codes "sim")
+    then sim_of (first_of (codes "netlist") rows) (first_of (codes "image") rows) (first_of (codes "cycles") rows)
+    else None
+
 -- the command of a subcommand's name with the words that it was given
 abbrev pub command_of : Text × List Row → Option Command
 command_of (name, rows) =
@@ -58,7 +80,7 @@ command_of (name, rows) =
     else
     if bytes_eq name (codes "gen")
     then gen_of (first_of (codes "number") rows)
-    else None
+    else netlist_command_of (name, rows)
 
 -- the command of a subcommand, where `clap` has no fault to name
 abbrev pub where_taken : Kinds → Option (Text × List Row) → Option Command

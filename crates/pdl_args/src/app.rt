@@ -3,7 +3,7 @@ ghost use Rattle.std.specs.Prelude.{◌≡◌, false, IfOk};
 ghost use Rattle.clap.specs.Walk.{rule_of};
 ghost use Rattle.clap.specs.Words.{app_of};
 ghost use Rattle.clap.specs.declared.builder.command.Command.TheViews.{out-Command as fields_of};
-ghost use Rattle.pdl_args.specs.App.{pdl_app, bare_app, check_app, run_app, seq_app, asm_app, gen_app, word_rule};
+ghost use Rattle.pdl_args.specs.App.{pdl_app, bare_app, check_app, run_app, seq_app, asm_app, gen_app, build_app, sim_app, word_rule};
 
 use clap::{Arg, ArgAction, Command};
 use std::alloc::{AllocError, Global};
@@ -61,6 +61,24 @@ fn gen_command<'a>(alloc: Global) -> Result<Command<'a>, AllocError>
     Ok(all)
 }
 
+// `build SRC`
+fn build_command<'a>(alloc: Global) -> Result<Command<'a>, AllocError>
+    ensures { IfOk result (λ c. (app_of c ≡ build_app) × ((fields_of c).has_globals ≡ false)) }
+{
+    let all = Command::new(alloc, "build").arg(word(alloc, "source"))?;
+    Ok(all)
+}
+
+// `sim V IMG CYCLES`
+fn sim_command<'a>(alloc: Global) -> Result<Command<'a>, AllocError>
+    ensures { IfOk result (λ c. (app_of c ≡ sim_app) × ((fields_of c).has_globals ≡ false)) }
+{
+    let one = Command::new(alloc, "sim").arg(word(alloc, "netlist"))?;
+    let two = one.arg(word(alloc, "image"))?;
+    let all = two.arg(word(alloc, "cycles"))?;
+    Ok(all)
+}
+
 // The command without its subcommands.
 fn bare_command<'a>(alloc: Global) -> Command<'a>
     ensures { app_of result ≡ bare_app }
@@ -76,10 +94,14 @@ pub(crate) fn command<'a>(alloc: Global) -> Result<Command<'a>, AllocError>
     let seq = seq_command(alloc)?;
     let asm = asm_command(alloc)?;
     let generated = gen_command(alloc)?;
+    let built = build_command(alloc)?;
+    let simulated = sim_command(alloc)?;
     let one = bare_command(alloc).subcommand(check)?;
     let two = one.subcommand(run)?;
     let three = two.subcommand(seq)?;
     let four = three.subcommand(asm)?;
-    let all = four.subcommand(generated)?;
+    let five = four.subcommand(generated)?;
+    let six = five.subcommand(built)?;
+    let all = six.subcommand(simulated)?;
     Ok(all)
 }

@@ -4,7 +4,5 @@
 mod app;
 mod line;
 mod number;
-#[cfg(test)]
-mod tests;
 
 pub use line::{Line, LineError, read_line};

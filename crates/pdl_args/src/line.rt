@@ -1,7 +1,7 @@
 // The command that a list of words is.
 ghost use Rattle.std.specs.Prelude.{◌≡◌, ◌≢◌, map, IfOk, Some, None, IsErrOf, string_bytes, option_map};
 ghost use Rattle.clap.specs.Words.{found_of, rows_of, first_of};
-ghost use Rattle.pdl_args.specs.Line.{line, command_of, check_of, run_of, seq_of, asm_of, gen_of};
+ghost use Rattle.pdl_args.specs.Line.{line, command_of, netlist_command_of, check_of, run_of, seq_of, asm_of, gen_of, build_of, sim_of};
 ghost use Rattle.pdl_args.specs.View.{view};
 ghost use Rattle.pdl_args.specs.declared.line.LineError.TheVariants.{NoMemory as no_memory};
 
@@ -38,6 +38,16 @@ pub enum Line<'a> {
     /// `gen N`: the number of a generated run, below 2 ^ 31.
     Gen {
         number: u32,
+    },
+    /// `build SRC`: the name of a source.
+    Build {
+        source: &'a str,
+    },
+    /// `sim V IMG CYCLES`: the names of a netlist's text and of an image, and how many cycles to run, up to 1,000,000.
+    Sim {
+        netlist: &'a str,
+        image: &'a str,
+        cycles: u32,
     },
 }
 
@@ -106,6 +116,27 @@ fn command_line<'a>(name: &str, inner: &ArgMatches<'a>) -> Result<Line<'a>, Line
     }
     if name == "gen" {
         return gen_line(value(inner, "number"));
+    }
+    netlist_line(name, inner)
+}
+
+// The command that the matches of a subcommand are that writes or reads a netlist's text.
+fn netlist_line<'a>(name: &str, inner: &ArgMatches<'a>) -> Result<Line<'a>, LineError>
+    ensures ok { IfOk result (λ l. netlist_command_of (name.now, rows_of (found_of inner.now))
+        ≡ Some (view l)) }
+    ensures usage { IsErrOf result LineError.Usage →
+        netlist_command_of (name.now, rows_of (found_of inner.now)) ≡ None }
+    ensures memory { result ≢ Err LineError.NoMemory }
+{
+    if name == "build" {
+        return build_line(value(inner, "source"));
+    }
+    if name == "sim" {
+        return sim_line(
+            value(inner, "netlist"),
+            value(inner, "image"),
+            value(inner, "cycles"),
+        );
     }
     Err(LineError::Usage)
 }
@@ -223,4 +254,49 @@ fn gen_line<'a>(text: Option<&'a str>) -> Result<Line<'a>, LineError>
         return Err(LineError::Usage);
     };
     Ok(Line::Gen { number })
+}
+
+fn build_line<'a>(source: Option<&'a str>) -> Result<Line<'a>, LineError>
+    ensures ok { IfOk result (λ l. build_of (option_map (λ s. s.now) source.entry)
+        ≡ Some (view l)) }
+    ensures usage { IsErrOf result LineError.Usage →
+        build_of (option_map (λ s. s.now) source.entry) ≡ None }
+    ensures memory { result ≢ Err LineError.NoMemory }
+{
+    match source {
+        Some(source) => Ok(Line::Build { source }),
+        None => Err(LineError::Usage),
+    }
+}
+
+fn sim_line<'a>(
+    netlist: Option<&'a str>,
+    image: Option<&'a str>,
+    cycles: Option<&'a str>,
+) -> Result<Line<'a>, LineError>
+    ensures ok { IfOk result (λ l. sim_of (option_map (λ s. s.now) netlist.entry)
+        (option_map (λ s. s.now) image.entry) (option_map (λ s. s.now) cycles.entry)
+        ≡ Some (view l)) }
+    ensures usage { IsErrOf result LineError.Usage →
+        sim_of (option_map (λ s. s.now) netlist.entry) (option_map (λ s. s.now) image.entry)
+        (option_map (λ s. s.now) cycles.entry) ≡ None }
+    ensures memory { result ≢ Err LineError.NoMemory }
+{
+    let Some(netlist) = netlist else {
+        return Err(LineError::Usage);
+    };
+    let Some(image) = image else {
+        return Err(LineError::Usage);
+    };
+    let Some(cycles) = cycles else {
+        return Err(LineError::Usage);
+    };
+    let Some(cycles) = number(cycles, 7, 1_000_000) else {
+        return Err(LineError::Usage);
+    };
+    Ok(Line::Sim {
+        netlist,
+        image,
+        cycles,
+    })
 }

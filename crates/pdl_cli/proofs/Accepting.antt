@@ -1,11 +1,11 @@
 -- What an accepted pipe gives the run of its netlist.
 use Rattle.std.proofs.Common.{◌≡◌, ◌≢◌, ℕ, zero, suc, [], ◌∷◌, ◌≤◌, ◌<◌, false, List, length, map, get_or, All, AllPairs, refl, sym, ap, ap₂, ◌∙◌, subst, inl, inr, bytes_eq, arith}
-use Rattle.std.specs.Prelude.{Option, IsTrue}
+use Rattle.std.specs.Prelude.{Option, IsTrue, Result, Ok, Err, IfOk}
 use Rattle.std.proofs.lemmas.Bool.{or_parts}
 use Rattle.std.proofs.lemmas.List.Elements.{All-from_recursion}
 use Rattle.std.specs.List.{AllByRecursion}
 use Rattle.pdl_kit.specs.declared.mem_info.MemInfo.{MemInfo}
-use Rattle.pdl_kit.specs.Files.{Held}
+use Rattle.pdl_kit.specs.Files.{Held, Gives}
 use Rattle.pdl_semantics.specs.Tree.{Mem, Pipe}
 use Rattle.pdl_semantics.specs.Flat.{arrays_of}
 use Rattle.pdl_semantics.specs.Flatten.{flat}
@@ -23,8 +23,10 @@ use Rattle.pdl_pipe_law.proofs.WellFormedNames.{Among, name_apart}
 use Rattle.pdl_pipe_law.proofs.WellFormedMems.{sized_among}
 use Rattle.pdl_pipe_law.proofs.Accepted.{declared}
 use Rattle.pdl_pipe.specs.Refined.{RefinesThreads}
-use Rattle.pdl_cli.specs.Commands.{IsAccepted, IsLoaded, IsOutput, replies}
+use Rattle.pdl_vlog.specs.Layout.{verilog}
+use Rattle.pdl_cli.specs.Commands.{IsAccepted, IsLoaded, IsOutput, IsBuilt, replies}
 use Rattle.pdl_cli.specs.Printed.{run_text, schedule}
+use Rattle.pdl_cli.specs.Simulated.{IsTextOf}
 use Rattle.pdl_cli.proofs.ShortNames.{HaveShortNames, short_names}
 use Rattle.pdl_gated.proofs.Lines.{comb_mems}
 
@@ -102,3 +104,27 @@ is_output p n words cycles text kept follows writes turns image printed holds so
       moves = λ k low. advances loaded.source_text p read kept (arrays_of words) (replies k) [];
       pace = paces loaded.source_text p read kept (arrays_of words) (replies cycles);
     }
+
+-- two facts of what a call gives, together
+pub both_ok : {X Y : Type 0} (r : Result X Y) (P Q R : X → Type 0) → ((x : X) → P x → Q x → R x) → IfOk r P → IfOk r Q → IfOk r R
+both_ok (Ok x) P Q R f p q = f x p q
+both_ok (Err e) P Q R f p q = tt
+
+-- its text is what is built of the pipe
+pub is_built : (p : Pipe) (n : Netlist) (text : List ℕ) → KeepsRules p → Follows p n → RefinesThreads p n → ShowsTurns (flat p) n → text ≡ verilog n → IsTextOf text n
+    → (holds : Option Held) (source b : List ℕ) → Gives holds source b → IsAccepted b p → IsBuilt holds source text
+is_built p n text kept follows writes turns written read holds source b given accepted = record {
+  pipe = p;
+  source_text = b;
+  source_given = given;
+  accepted = accepted;
+  netlist = n;
+  follows = follows;
+  writes = writes;
+  written = written;
+  read = read;
+  lines = λ words cycles image. prints p n words cycles follows.mems image turns;
+  refines = λ words cycles. refines b p accepted.text kept (arrays_of words) (replies cycles);
+  moves = λ words cycles. advances b p accepted.text kept (arrays_of words) (replies cycles) [];
+  pace = λ words cycles. paces b p accepted.text kept (arrays_of words) (replies cycles);
+}

@@ -9,23 +9,27 @@ use Rattle.pdl_grammar.proofs.Places.{one_tree}
 use Rattle.pdl_rules.specs.Refusal.{refused_at, refusal}
 use Rattle.pdl_check.specs.Answers.{source_refusal}
 use Rattle.pdl_check.specs.Memories.{infos_of}
+use Rattle.pdl_net.specs.declared.Netlist.{Netlist}
 use Rattle.pdl_image.specs.Images.{image}
 use Rattle.pdl_image.specs.declared.file_error.FileError.TheVariants as file
+use Rattle.pdl_vread.specs.Reads.{Reads}
 use Rattle.pdl_asmtable.specs.declared.table_error.TableError.TheVariants as table_error
 use Rattle.pdl_asmtable.specs.Tables.{TableValue}
 use Rattle.pdl_asmtable.specs.Documents as documents
 use Rattle.pdl_asm.specs.declared.asm_error.AsmError.TheVariants as asm_error
 use Rattle.pdl_asm.specs.Assembly as assembly
 use Rattle.pdl_gen.specs.Generated.{source}
-use Rattle.pdl_args.specs.Line.{Command, check, run, seq, asm, gen}
+use Rattle.pdl_args.specs.Line.{Command, check, run, seq, asm, gen, build, sim}
 use Rattle.pdl_cli.specs.declared.failure.Position.{Position}
 use Rattle.pdl_cli.specs.declared.failure.Position.TheVariants.{Line, Insn}
 use Rattle.pdl_cli.specs.declared.failure.Failure.{Failure}
 use Rattle.pdl_cli.specs.declared.failure.Failure.TheVariants.{Usage, Refused, ReadFault, WriteFault, NoMemory}
 use Rattle.pdl_cli.specs.Failures.{status_of}
 use Rattle.pdl_cli.specs.Assembled.{IsTabled, IsWrongTable, IsWrongText, IsAssembled}
+use Rattle.pdl_cli.specs.Simulated.{NetlistRefused, HoldsNetlist, IsWrongNetlist, IsWrongStart, IsWrongSim, IsSimulated}
 use Rattle.pdl_cli.specs.Commands.{SourceRefused, IsAccepted, IsLoaded, IsWrongSource, IsWrongImage, IsWrong, IsWrongFor, Writes}
 use Rattle.pdl_cli.specs.Top.{Seen, Explains, IsDecided, Decides}
+use Rattle.pdl_cli.proofs.OneNetlist.{one_netlist, read_right}
 
 pub one_text : (held : Held) (name b c : List ℕ) → Gives (Some held) name b → Gives (Some held) name c → b ≡ c
 one_text held name b c g h = let k : Some b ≡ Some c = sym g ∙ h in cc
@@ -81,6 +85,30 @@ program_right held table program text rule line a w =
     (subst (λ (x : List ℕ). assembly.image w.value x ≡ Err (asm_error.Refused rule line)) t w.refused) in
     let l : assembly.image a.value a.program_text ≡ Ok text = a.made in absurd cc
 
+-- a file holds one netlist
+pub one_held : (held : Held) (v : List ℕ) (n m : Netlist) → HoldsNetlist (Some held) v n → HoldsNetlist (Some held) v m → n ≡ m
+one_held held v n m a b =
+    let t : a.netlist_text ≡ b.netlist_text = one_text held v a.netlist_text b.netlist_text a.netlist_given b.netlist_given in
+    one_netlist a.netlist_text n m a.read.reads (subst (λ (x : List ℕ). Reads x m) (sym t) b.read.reads)
+
+pub netlist_right : (held : Held) (v : List ℕ) (rule : Rule) (line : ℕ) (n : Netlist) → HoldsNetlist (Some held) v n → IsWrongNetlist (Some held) v rule line → ⊥
+netlist_right held v rule line n a w =
+    let t : w.netlist_text ≡ a.netlist_text = one_text held v w.netlist_text a.netlist_text w.netlist_given a.netlist_given in
+    read_right a.netlist_text n rule line a.read (subst (λ (x : List ℕ). NetlistRefused x rule line) t w.refused)
+
+start_right : (held : Held) (v image' : List ℕ) (cycles : ℕ) (text : List ℕ) (rule : Rule) (line : ℕ) → IsSimulated (Some held) v image' cycles text → IsWrongStart (Some held) v image' rule line → ⊥
+start_right held v image' cycles text rule line s w =
+    let n : w.netlist ≡ s.netlist = one_held held v w.netlist s.netlist w.held s.held in
+    let i : w.image_text ≡ s.image_text = one_text held image' w.image_text s.image_text w.image_given s.image_given in
+    let r : image s.netlist.mems s.image_text ≡ Err (file.Refused rule line) =
+    subst (λ (x : List ℕ). image s.netlist.mems x ≡ Err (file.Refused rule line)) i
+    (subst (λ (m : Netlist). image m.mems w.image_text ≡ Err (file.Refused rule line)) n w.refused) in
+    let k : image s.netlist.mems s.image_text ≡ Ok s.words = s.taken in absurd cc
+
+sim_right : (held : Held) (v image' : List ℕ) (cycles : ℕ) (text : List ℕ) (rule : Rule) (line : ℕ) → IsSimulated (Some held) v image' cycles text → IsWrongSim (Some held) v image' rule line → ⊥
+sim_right held v image' cycles text rule line s (inl w) = netlist_right held v rule line s.netlist s.held w
+sim_right held v image' cycles text rule line s (inr w) = start_right held v image' cycles text rule line s w
+
 -- a command that writes its text has no wrong file
 exclusive_told : (held : Held) (command : Command) (text : List ℕ) (rule : Rule) (position : Position) → Writes (Some held) command text → IsWrongFor (Some held) command rule position → ⊥
 exclusive_told held (check source) text rule (Line n) o w = source_right held source rule n o.source_text o.pipe o.source_given o.accepted w
@@ -91,6 +119,10 @@ exclusive_told held (seq source image' threads) text rule (Line n) o w = none_wr
 exclusive_told held (seq source image' threads) text rule (Insn n) o w = w
 exclusive_told held (gen number) text rule (Line n) o w = kept_unrefused (source number) o.summary.pipe rule n o.summary.accepted w
 exclusive_told held (gen number) text rule (Insn n) o w = w
+exclusive_told held (build source) text rule (Line n) o w = source_right held source rule n o.source_text o.pipe o.source_given o.accepted w
+exclusive_told held (build source) text rule (Insn n) o w = w
+exclusive_told held (sim v image' cycles) text rule (Line n) o w = sim_right held v image' cycles text rule n o w
+exclusive_told held (sim v image' cycles) text rule (Insn n) o w = w
 exclusive_told held (asm table program) text rule (Line n) o (inl w) = w
 exclusive_told held (asm table program) text rule (Line n) o (inr w) = program_right held table program text rule n o w
 exclusive_told held (asm table program) text rule (Insn n) o (inl w) = table_right held table rule n o.value o.tabled w

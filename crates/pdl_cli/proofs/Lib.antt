@@ -1,7 +1,11 @@
 pub mod Accepting
 pub mod ShortNames
+pub mod Simulating
+pub mod ReadNames
+pub mod OneNetlist
 pub mod Decided
 pub mod Refusals
+pub mod SameRun
 pub mod Lined
 pub mod Preparing
 pub mod Printing

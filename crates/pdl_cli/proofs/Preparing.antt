@@ -4,6 +4,7 @@ use Rattle.pdl_kit.specs.declared.rule.Rule.{Rule}
 use Rattle.pdl_kit.specs.Counts.{Rose}
 use Rattle.pdl_kit.specs.Files.{Held, Gives}
 use Rattle.pdl_semantics.specs.Tree.{Pipe}
+use Rattle.pdl_check.specs.Memories.{infos_of}
 use Rattle.pdl_cli.specs.declared.failure.Position.{Position}
 use Rattle.pdl_cli.specs.declared.failure.Position.TheVariants.{Line, Insn}
 use Rattle.pdl_cli.specs.declared.failure.Failure.{Failure}
@@ -18,7 +19,7 @@ rose_before before mid now h r = omega (arith, r)
 -- the image of a command with a source and an image
 pub image_fails : (holds after : Option Held) (before mid now : ℕ) (source image' text : List ℕ) (command : Command) (p : Pipe) → after ≡ holds → before ≤ mid → Gives holds source text → IsAccepted text p
     → ((rule : Rule) (position : Position) → AtLine (IsWrong holds source image' rule) position → IsWrongFor holds command rule position)
-    → (f : Failure) → ImageFails after mid now image' p f → Fails holds before now command f
+    → (f : Failure) → ImageFails after mid now image' (infos_of p.mems) f → Fails holds before now command f
 image_fails holds after before mid now source image' text command p e h given a wrong Usage w = w
 image_fails holds after before mid now source image' text command p e h given a wrong (Refused rule (Insn n)) w = absurd w
 image_fails holds after before mid now source image' text command p e h given a wrong (Refused rule (Line n)) w =

@@ -1,5 +1,5 @@
 -- The lines of a cycle, memory by memory.
-use Rattle.std.proofs.Common.{◌≡◌, ℕ, ◌+◌, ◌<◌, List, ◌∷◌, ◌++◌, map, Option, ◌∙◌}
+use Rattle.std.proofs.Common.{ℕ, List, map, Option}
 use Rattle.pdl_kit.specs.declared.mem_info.MemInfo.{MemInfo}
 use Rattle.pdl_semantics.specs.Lines.{cycle_lines}
 use Rattle.pdl_pipe_law.specs.Runs.{column_of, puts_of}

@@ -8,6 +8,7 @@ use Rattle.pdl_grammar.proofs.Places.{one_tree, one_place}
 use Rattle.pdl_rules.specs.Refusal.{Refused}
 use Rattle.pdl_check.specs.Answers.{source_refusal}
 use Rattle.pdl_check.specs.Memories.{infos_of}
+use Rattle.pdl_net.specs.declared.Netlist.{Netlist}
 use Rattle.pdl_image.specs.Images.{image}
 use Rattle.pdl_image.specs.declared.file_error.FileError.TheVariants as file
 use Rattle.pdl_asmtable.specs.declared.table_error.TableError.TheVariants as table_error
@@ -16,12 +17,14 @@ use Rattle.pdl_asmtable.specs.Documents as documents
 use Rattle.pdl_asm.specs.declared.asm_error.AsmError.TheVariants as asm_error
 use Rattle.pdl_asm.specs.Assembly as assembly
 use Rattle.pdl_gen.specs.Generated.{source}
-use Rattle.pdl_args.specs.Line.{Command, check, run, seq, asm, gen}
+use Rattle.pdl_args.specs.Line.{Command, check, run, seq, asm, gen, build, sim}
 use Rattle.pdl_cli.specs.declared.failure.Position.{Position}
 use Rattle.pdl_cli.specs.declared.failure.Position.TheVariants.{Line, Insn}
 use Rattle.pdl_cli.specs.Assembled.{IsWrongTable, IsWrongText}
+use Rattle.pdl_cli.specs.Simulated.{NetlistRefused, IsWrongNetlist, IsWrongStart, IsWrongSim}
 use Rattle.pdl_cli.specs.Commands.{SourceRefused, IsWrongSource, IsWrongImage, IsWrong, IsWrongFor}
-use Rattle.pdl_cli.proofs.Decided.{one_text, source_right, one_table, table_right}
+use Rattle.pdl_cli.proofs.OneNetlist.{one_netlist_refusal}
+use Rattle.pdl_cli.proofs.Decided.{one_text, source_right, one_table, table_right, one_held, netlist_right}
 
 -- a refusal of a source, an image, a table or a text is one
 same_some : (a b : Refused) → Some a ≡ Some b → a ≡ b
@@ -80,6 +83,27 @@ wrong_text held table program r s n m v w =
     let l : assembly.image w.value w.program_text ≡ Err (asm_error.Refused s m) = w.refused in
     (cc, cc)
 
+wrong_netlist : (held : Held) (v : List ℕ) (r s : Rule) (n m : ℕ) → IsWrongNetlist (Some held) v r n → IsWrongNetlist (Some held) v s m → (r ≡ s) × (n ≡ m)
+wrong_netlist held v r s n m a b =
+    let t : a.netlist_text ≡ b.netlist_text = one_text held v a.netlist_text b.netlist_text a.netlist_given b.netlist_given in
+    one_netlist_refusal b.netlist_text r s n m (subst (λ (x : List ℕ). NetlistRefused x r n) t a.refused) b.refused
+
+wrong_start : (held : Held) (v image' : List ℕ) (r s : Rule) (n m : ℕ) → IsWrongStart (Some held) v image' r n → IsWrongStart (Some held) v image' s m → (r ≡ s) × (n ≡ m)
+wrong_start held v image' r s n m a b =
+    let q : a.netlist ≡ b.netlist = one_held held v a.netlist b.netlist a.held b.held in
+    let i : a.image_text ≡ b.image_text = one_text held image' a.image_text b.image_text a.image_given b.image_given in
+    let k : image b.netlist.mems b.image_text ≡ Err (file.Refused r n) =
+    subst (λ (x : List ℕ). image b.netlist.mems x ≡ Err (file.Refused r n)) i
+    (subst (λ (x : Netlist). image x.mems a.image_text ≡ Err (file.Refused r n)) q a.refused) in
+    let l : image b.netlist.mems b.image_text ≡ Err (file.Refused s m) = b.refused in
+    (cc, cc)
+
+wrong_sim : (held : Held) (v image' : List ℕ) (r s : Rule) (n m : ℕ) → IsWrongSim (Some held) v image' r n → IsWrongSim (Some held) v image' s m → (r ≡ s) × (n ≡ m)
+wrong_sim held v image' r s n m (inl a) (inl b) = wrong_netlist held v r s n m a b
+wrong_sim held v image' r s n m (inl a) (inr b) = absurd (netlist_right held v r n b.netlist b.held a)
+wrong_sim held v image' r s n m (inr a) (inl b) = absurd (netlist_right held v s m a.netlist a.held b)
+wrong_sim held v image' r s n m (inr a) (inr b) = wrong_start held v image' r s n m a b
+
 -- THE COMMANDS
 
 wrong_asm : (held : Held) (table program : List ℕ) (r s : Rule) (p q : Position) → IsWrongFor (Some held) (asm table program) r p → IsWrongFor (Some held) (asm table program) s q → (r ≡ s) × (p ≡ q)
@@ -105,6 +129,12 @@ one_refusal held (seq source image' threads) r s (Insn n) q v w = absurd v
 one_refusal held (seq source image' threads) r s (Line n) (Insn m) v w = absurd w
 one_refusal held (seq source image' threads) r s (Line n) (Line m) v w = let h = wrong_run held source image' r s n m v w in (h.0, ap Line h.1)
 one_refusal held (asm table program) r s p q v w = wrong_asm held table program r s p q v w
+one_refusal held (build source) r s (Insn n) q v w = absurd v
+one_refusal held (build source) r s (Line n) (Insn m) v w = absurd w
+one_refusal held (build source) r s (Line n) (Line m) v w = let h = wrong_source held source r s n m v w in (h.0, ap Line h.1)
+one_refusal held (sim netlist image' cycles) r s (Insn n) q v w = absurd v
+one_refusal held (sim netlist image' cycles) r s (Line n) (Insn m) v w = absurd w
+one_refusal held (sim netlist image' cycles) r s (Line n) (Line m) v w = let h = wrong_sim held netlist image' r s n m v w in (h.0, ap Line h.1)
 one_refusal held (gen number) r s (Insn n) q v w = absurd v
 one_refusal held (gen number) r s (Line n) (Insn m) v w = absurd w
 one_refusal held (gen number) r s (Line n) (Line m) v w = let h = source_one (source number) r s n m v w in (h.0, ap Line h.1)

@@ -4,6 +4,7 @@ use Rattle.pdl_kit.specs.declared.rule.Rule.{Rule}
 use Rattle.pdl_kit.specs.declared.rule.Rule.TheVariants.{G1}
 use Rattle.pdl_kit.specs.Files.{Held, Gives}
 use Rattle.pdl_kit.specs.Counts.{Rose}
+use Rattle.pdl_kit.specs.declared.mem_info.MemInfo.{MemInfo}
 use Rattle.pdl_semantics.specs.Tree.{Pipe}
 use Rattle.pdl_semantics.specs.Flat.{arrays_of}
 use Rattle.pdl_semantics.specs.Flatten.{flat}
@@ -20,10 +21,11 @@ use Rattle.pdl_net.specs.Run.{nports}
 use Rattle.pdl_pipe_law.specs.Follows.{Follows}
 use Rattle.pdl_pipe_law.specs.Runs.{cycle_of}
 use Rattle.pdl_pipe.specs.Refined.{RefinesThreads}
-use Rattle.pdl_image.specs.Images.{image}
+use Rattle.pdl_image.specs.Images.{IsImage, image}
 use Rattle.pdl_image.specs.declared.file_error.FileError.TheVariants as file
+use Rattle.pdl_vlog.specs.Layout.{verilog}
 use Rattle.pdl_gen.specs.Generated as generated
-use Rattle.pdl_args.specs.Line.{Command, check, run, seq, asm, gen}
+use Rattle.pdl_args.specs.Line.{Command, check, run, seq, asm, gen, build, sim}
 use Rattle.pdl_cli.specs.declared.failure.Position.{Position}
 use Rattle.pdl_cli.specs.declared.failure.Position.TheVariants.{Line, Insn}
 use Rattle.pdl_cli.specs.declared.failure.Failure.{Failure}
@@ -31,6 +33,7 @@ use Rattle.pdl_cli.specs.declared.failure.Failure.TheVariants as failure
 use Rattle.pdl_cli.specs.Assembled.{IsWrongTable, IsWrongText, IsAssembled}
 use Rattle.pdl_cli.specs.Printed.{run_text, schedule}
 use Rattle.pdl_cli.specs.Summaries.{image_of, end_of}
+use Rattle.pdl_cli.specs.Simulated.{IsTextOf, NetlistRefused, IsWrongNetlist, IsWrongSim, IsSimulated}
 
 -- ONE FILE
 
@@ -69,15 +72,23 @@ TextFails source failure.ReadFault = ⊥
 TextFails source failure.WriteFault = ⊥
 TextFails source failure.NoMemory = Unit {0}
 
--- why an image for a pipe is not there
-abbrev pub ImageFails : Option Held → ℕ → ℕ → List ℕ → Pipe → Failure → Type 0
-ImageFails holds before now name p failure.Usage = ⊥
-ImageFails holds before now name p (failure.Refused rule position) =
+-- why an image for some memories is not there
+abbrev pub ImageFails : Option Held → ℕ → ℕ → List ℕ → List MemInfo → Failure → Type 0
+ImageFails holds before now name mems failure.Usage = ⊥
+ImageFails holds before now name mems (failure.Refused rule position) =
     AtLine (λ line. (text : List ℕ) × Gives holds name text
-    × (image (infos_of p.mems) text ≡ Err (file.Refused rule line))) position
-ImageFails holds before now name p failure.ReadFault = Rose before now
-ImageFails holds before now name p failure.WriteFault = ⊥
-ImageFails holds before now name p failure.NoMemory = Unit {0}
+    × (image mems text ≡ Err (file.Refused rule line))) position
+ImageFails holds before now name mems failure.ReadFault = Rose before now
+ImageFails holds before now name mems failure.WriteFault = ⊥
+ImageFails holds before now name mems failure.NoMemory = Unit {0}
+
+-- why a text gives no netlist to run
+abbrev pub NetlistTextFails : List ℕ → Failure → Type 0
+NetlistTextFails text failure.Usage = ⊥
+NetlistTextFails text (failure.Refused rule position) = AtLine (NetlistRefused text rule) position
+NetlistTextFails text failure.ReadFault = ⊥
+NetlistTextFails text failure.WriteFault = ⊥
+NetlistTextFails text failure.NoMemory = Unit {0}
 
 -- THE FILES OF A COMMAND, where files are told
 
@@ -158,6 +169,31 @@ pub record IsOutput (holds : Option Held) (source image' : List ℕ) (cycles : �
   -- and so enough threads end
   pub pace : KeepsPace (flat pipe) (arrays_of words) (replies cycles)
 
+-- the text that `build` writes where all is well: a netlist that follows the pipe, as text that reads as it
+pub record IsBuilt (holds : Option Held) (source : List ℕ) (text : List ℕ) : Type 0 where
+  pub pipe : Pipe
+  pub source_text : List ℕ
+  pub source_given : Gives holds source source_text
+  pub accepted : IsAccepted source_text pipe
+  -- the netlist has the ports, memories and arrays of the pipe, and shows its machine from each image with each schedule
+  pub netlist : Netlist
+  pub follows : Follows pipe netlist
+  -- it writes what the threads write that run one after another, from each image with each schedule
+  pub writes : RefinesThreads pipe netlist
+  -- the text is that of the netlist, byte for byte, and reads as it
+  pub written : text ≡ verilog netlist
+  pub read : IsTextOf text netlist
+  -- what is printed of the netlist are the lines of the machine, from each image for so many cycles
+  pub lines : (words : List (List ℕ)) (cycles : ℕ) → IsImage netlist.mems words
+      → run_text netlist words (schedule cycles) ≡ run_lines pipe words (replies cycles)
+  -- and of each such run holds what is promised of `run`
+  pub refines : (words : List (List ℕ)) (cycles : ℕ)
+      → Refines (flat pipe) (arrays_of words) (replies cycles)
+  pub moves : (words : List (List ℕ)) (cycles : ℕ)
+      → Advances (flat pipe) (arrays_of words) (replies cycles) []
+  pub pace : (words : List (List ℕ)) (cycles : ℕ)
+      → KeepsPace (flat pipe) (arrays_of words) (replies cycles)
+
 -- the text that `seq` writes where all is well: the writes of the threads, run one after another from the image, and how many they are
 pub record IsSequential (holds : Option Held) (source image' : List ℕ) (threads : ℕ) (text : List ℕ)
     : Type 0 where
@@ -193,6 +229,8 @@ Writes holds (run source image' cycles) text = IsOutput holds source image' cycl
 Writes holds (seq source image' threads) text = IsSequential holds source image' threads text
 Writes holds (asm table program) text = IsAssembled holds table program text
 Writes holds (gen number) text = IsGenerated number text
+Writes holds (build source) text = IsBuilt holds source text
+Writes holds (sim v image' cycles) text = IsSimulated holds v image' cycles text
 
 -- of the files that a command names, in order, the first wrong one is refused by the rule at the position; `gen` names none, and its source is asked
 abbrev pub IsWrongFor : Option Held → Command → Rule → Position → Type 0
@@ -206,6 +244,18 @@ IsWrongFor holds (asm table program) rule position =
     ⊎ AtLine (IsWrongText holds table program rule) position
 IsWrongFor holds (gen number) rule position =
     AtLine (SourceRefused (generated.source number) rule) position
+IsWrongFor holds (build source) rule position = AtLine (IsWrongSource holds source rule) position
+IsWrongFor holds (sim v image' cycles) rule position =
+    AtLine (IsWrongSim holds v image' rule) position
+
+-- why a netlist is not there
+abbrev pub NetlistFails : Option Held → ℕ → ℕ → List ℕ → Failure → Type 0
+NetlistFails holds before now name failure.Usage = ⊥
+NetlistFails holds before now name (failure.Refused rule position) =
+    AtLine (IsWrongNetlist holds name rule) position
+NetlistFails holds before now name failure.ReadFault = Rose before now
+NetlistFails holds before now name failure.WriteFault = ⊥
+NetlistFails holds before now name failure.NoMemory = Unit {0}
 
 -- why the table of an instruction set is not there
 abbrev pub TableFails : Option Held → ℕ → ℕ → List ℕ → Failure → Type 0

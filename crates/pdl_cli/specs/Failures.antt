@@ -15,6 +15,8 @@ use Rattle.pdl_asmtable.specs.declared.table_error.TableError.{TableError}
 use Rattle.pdl_asmtable.specs.declared.table_error.TableError.TheVariants as table
 use Rattle.pdl_asm.specs.declared.asm_error.AsmError.{AsmError}
 use Rattle.pdl_asm.specs.declared.asm_error.AsmError.TheVariants as asm
+use Rattle.pdl_vread.specs.declared.read.VError.{VError}
+use Rattle.pdl_vread.specs.declared.read.VError.TheVariants as netlist
 use Rattle.pdl_args.specs.declared.line.LineError.{LineError}
 use Rattle.pdl_args.specs.declared.line.LineError.TheVariants as line
 use Rattle.pdl_cli.specs.Texts.{refusal_text, refused_insn_text}
@@ -68,6 +70,11 @@ of_table table.NoMemory = NoMemory
 abbrev pub of_asm : AsmError → Failure
 of_asm (asm.Refused rule line) = Refused rule (Line line)
 of_asm asm.NoMemory = NoMemory
+
+-- why a text was not read as a netlist
+abbrev pub of_netlist : VError → Failure
+of_netlist (netlist.Refused rule line) = Refused rule (Line line)
+of_netlist netlist.NoMemory = NoMemory
 
 abbrev pub of_line : LineError → Failure
 of_line line.Usage = Usage

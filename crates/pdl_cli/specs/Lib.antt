@@ -5,5 +5,7 @@ pub mod Printed
 pub mod Tally
 pub mod Summaries
 pub mod Assembled
+pub mod Simulated
 pub mod Commands
+pub mod Alike
 pub mod Top

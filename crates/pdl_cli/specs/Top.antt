@@ -4,7 +4,7 @@ use Rattle.pdl_kit.specs.declared.rule.Rule.{Rule}
 use Rattle.pdl_kit.specs.Counts.{Rose}
 use Rattle.pdl_kit.specs.Files.{Held}
 use Rattle.pdl_kit.specs.Sinks.{TakesPrefix, with_bytes}
-use Rattle.pdl_args.specs.Line.{Command, check, run, seq, asm, gen}
+use Rattle.pdl_args.specs.Line.{Command, check, run, seq, asm, gen, build, sim}
 use Rattle.pdl_cli.specs.declared.failure.Position.{Position}
 use Rattle.pdl_cli.specs.declared.failure.Failure.{Failure}
 use Rattle.pdl_cli.specs.declared.failure.Failure.TheVariants.{Usage, Refused, ReadFault, WriteFault, NoMemory}
@@ -19,6 +19,8 @@ Allows may (Some (run source image cycles)) = IsTrue (may source) × IsTrue (may
 Allows may (Some (seq source image threads)) = IsTrue (may source) × IsTrue (may image)
 Allows may (Some (asm table program)) = IsTrue (may table) × IsTrue (may program)
 Allows may (Some (gen number)) = ⊤
+Allows may (Some (build source)) = IsTrue (may source)
+Allows may (Some (sim v image cycles)) = IsTrue (may v) × IsTrue (may image)
 
 -- a run is of at most 1,000,000 cycles
 abbrev pub IsFew : Command → Type 0
@@ -27,6 +29,8 @@ IsFew (run source image cycles) = cycles ≤ 1000000
 IsFew (seq source image threads) = ⊤
 IsFew (asm table program) = ⊤
 IsFew (gen number) = ⊤
+IsFew (build source) = ⊤
+IsFew (sim v image cycles) = cycles ≤ 1000000
 
 -- what is seen from outside, before and after: what the files hold and their count of faults, what out has and its count of faults
 pub record Seen : Type 0 where

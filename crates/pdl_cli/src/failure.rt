@@ -13,6 +13,7 @@ use pdl_kit::files::ReadError;
 use pdl_kit::sink::{Sink, WriteFailed, write_whole};
 use pdl_kit::{NoMemory, Refusal, Rule};
 use pdl_trace::{refused_insn, refused_line};
+use pdl_vread::VError;
 
 /// Where a file breaks a rule.
 #[derive(Clone, Copy, PartialEq, Eq, Debug)]
@@ -137,6 +138,23 @@ impl From<AsmError> for Failure {
                 position: Position::Line(line),
             },
             AsmError::NoMemory => Failure::NoMemory,
+        }
+    }
+}
+
+impl From<VError> for Failure {
+    ghost use Rattle.std.specs.Prelude.{◌≡◌};
+    ghost use Rattle.pdl_cli.specs.Failures.{of_netlist};
+
+    ghost from_gives = { λ e f. f ≡ of_netlist e };
+
+    fn from(e: VError) -> Failure {
+        match e {
+            VError::Refused { rule, line } => Failure::Refused {
+                rule,
+                position: Position::Line(line),
+            },
+            VError::NoMemory => Failure::NoMemory,
         }
     }
 }

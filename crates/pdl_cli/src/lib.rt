@@ -1,17 +1,21 @@
-//! The whole program as one call: `top` reads the words, the files and writes the lines; and `without_words`, what is answered where there are no words.
+//! The whole program as one call: `top` reads the words, the files and writes the lines; `without_words`, what is answered where there are no words; and two sentences of its commands, `one_refusal` and `same_as_run`.
 #![tactic(auto)]
 
+mod alike;
 mod assembly;
+mod built;
 mod failure;
 mod generated;
 mod print;
 mod program;
 mod run;
 mod sequential;
+mod simulated;
 mod summary;
 mod unique;
 mod words;
 
+pub use alike::same_as_run;
 pub use program::top;
 pub use unique::one_refusal;
 pub use words::{NoWords, without_words};

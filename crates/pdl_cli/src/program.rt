@@ -8,9 +8,11 @@ ghost use Rattle.pdl_cli.specs.Commands.{Writes, Fails};
 ghost use Rattle.pdl_cli.specs.Top.{Allows, IsFew, seen_of, Explains, Answers, Decides};
 
 use crate::assembly::assembly_text;
+use crate::built::build;
 use crate::failure::{Failure, report, status_of};
 use crate::generated::generate;
 use crate::run::{prepare, run_in_turn, verdict};
+use crate::simulated::simulate;
 use pdl_args::{Line, read_line};
 use pdl_kit::files::Files;
 use pdl_kit::sink::{Sink, write_whole};
@@ -42,6 +44,12 @@ fn text_of<F: Files>(alloc: Global, line: Line<'_>, files: &mut F) -> Result<Vec
         } => run_in_turn(alloc, files, source, image, threads),
         Line::Asm { table, text } => assembly_text(alloc, files, table, text),
         Line::Gen { number } => generate(alloc, number),
+        Line::Build { source } => build(alloc, files, source),
+        Line::Sim {
+            netlist,
+            image,
+            cycles,
+        } => simulate(alloc, files, netlist, image, cycles),
     }
 }
 

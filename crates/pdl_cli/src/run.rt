@@ -20,8 +20,8 @@ use pdl_pipe::compile;
 use pdl_trace::accepted_line;
 use std::alloc::Global;
 
-// Reads and checks a source.
-fn accept<F: Files>(alloc: Global, files: &mut F, name: &str) -> Result<Accepted, Failure>
+/// Reads and checks a source.
+pub fn accept<F: Files>(alloc: Global, files: &mut F, name: &str) -> Result<Accepted, Failure>
     requires { IsTrue (F.may files.old name.now) }
     ensures ok { IfOk result (λ a. (b : List ℕ) × Gives (F.holds files.old) name.now b
         × IsAccepted b (pipe_view a.typed.pipe)) }
@@ -49,7 +49,7 @@ fn load<F: Files>(
         × IsImage (infos_of (pipe_view accepted.now.typed.pipe).mems) i) }
     ensures err { IfErr result
         (ImageFails (F.holds files.old) (F.faults files.old) (F.faults files.new) name.now
-        (pipe_view accepted.now.typed.pipe)) }
+        (infos_of (pipe_view accepted.now.typed.pipe).mems)) }
     ensures held { F.holds files.new ≡ F.holds files.old }
     ensures allowed { (n : List ℕ) → F.may files.new n ≡ F.may files.old n }
     ensures later { F.faults files.old ≤ F.faults files.new }

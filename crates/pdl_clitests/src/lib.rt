@@ -6,6 +6,8 @@
 #[cfg(test)]
 mod machine;
 #[cfg(test)]
+mod netlists;
+#[cfg(test)]
 mod random;
 #[cfg(test)]
 mod rows;

@@ -1,8 +1,10 @@
-//! Images, tables of instruction sets, programs in assembly, printed lines, generated sources and the text of netlists.
+//! Images, tables of instruction sets, programs in assembly, command lines, printed lines, generated sources and the text of netlists.
 //!
 //! It has tests alone, and nothing stands on it.
 #![tactic(auto)]
 
+#[cfg(test)]
+mod args_rows;
 #[cfg(test)]
 mod asm_rows;
 #[cfg(test)]

@@ -1,4 +1,4 @@
-use crate::{Line, LineError, read_line};
+use pdl_args::{Line, LineError, read_line};
 use std::alloc::Global;
 use std::test::Fail;
 
@@ -38,10 +38,22 @@ fn generated<'a>(number: u32) -> Result<Line<'a>, LineError> {
     Ok(Line::Gen { number })
 }
 
+fn built<'a>(source: &'a str) -> Result<Line<'a>, LineError> {
+    Ok(Line::Build { source })
+}
+
+fn simulated<'a>(netlist: &'a str, image: &'a str, cycles: u32) -> Result<Line<'a>, LineError> {
+    Ok(Line::Sim {
+        netlist,
+        image,
+        cycles,
+    })
+}
+
 #[test]
 fn reads_lines(rt: HostRuntime) -> Result<(), Fail> {
     let usage = Err(LineError::Usage);
-    let table: [(&[&str], Result<Line<'_>, LineError>); 21] = [
+    let table: [(&[&str], Result<Line<'_>, LineError>); 27] = [
         (&["asm", "t", "p"], asm("t", "p")),
         (&["asm", "t"], usage),
         (&["seq", "a", "b", "1000000"], seq("a", "b", 1_000_000)),
@@ -50,6 +62,12 @@ fn reads_lines(rt: HostRuntime) -> Result<(), Fail> {
         (&["gen", "2147483647"], generated(2_147_483_647)),
         (&["gen", "2147483648"], usage),
         (&["gen", "00000000001"], usage),
+        (&["build", "a"], built("a")),
+        (&["build"], usage),
+        (&["build", "a", "b"], usage),
+        (&["sim", "v", "i", "17"], simulated("v", "i", 17)),
+        (&["sim", "v", "i", "1000001"], usage),
+        (&["sim", "v", "i"], usage),
         (&["check", "a.pdl"], check("a.pdl")),
         (&["check", "--", "-a"], check("-a")),
         (&["check"], usage),
