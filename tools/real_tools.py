@@ -3,7 +3,7 @@
 
     real_tools.py PDL [PIPES [SEED]]
 
-PDL is the program. Every pipe of examples/ and PIPES random ones (200 where none is given) are built. Each text
+PDL is the program. The pipe of each run of examples/ and PIPES random ones (200 where none is given) are built. Each text
 is read by `iverilog -g2005 -Wall`, `verilator --lint-only -Wall` and `yosys check`, which have to say nothing.
 Then Icarus runs it in a test bench that shows all ports in each cycle: no port may be unknown, and the commits,
 the ended threads and the squashes among them have to be the lines of `pdl sim`, and those of `pdl run`.
