@@ -1,12 +1,12 @@
+// A rule of the text that is made here, and what joins the answers of such rules.
 ghost use Rattle.std.specs.Prelude.{⊤};
 ghost use Rattle.pdl_rules.specs.Limits.{is_separator as spec_is_separator};
 
-use pdl_kit::{Name, NoMemory, Rule, Seq};
+use crate::asked::pipe_of;
+use pdl_kit::{NoMemory, Rule};
 use pdl_paths::{Guards, Place, is_separator, places};
 use pdl_textrules::{Broken, TextRule, line_broken, lowest_of, noted_line};
-use pdl_tree::{Ident, Pipe, Span, Start, Stmt};
 use std::alloc::Global;
-use std::test::Fail;
 
 // A rule that each separator breaks.
 struct NoSeparator;
@@ -39,64 +39,52 @@ impl TextRule for NoSeparator {
     }
 }
 
-fn at(line: u32) -> Span {
-    Span {
-        start: 0,
-        end: 0,
-        line,
-    }
-}
+const NO_SEPARATOR: &[u8] = b"pipe p(n: uint<1>)[m: uint<8>[2] comb] {
+spec_check();
+} start p(1'd0);";
 
-fn ident(alloc: Global) -> Result<Ident, Fail> {
-    Ok(Ident {
-        name: Name::copy_of(alloc, b"p")?,
-        span: at(1),
-    })
-}
+const TWO_SEPARATORS: &[u8] = b"pipe p(n: uint<1>)[m: uint<8>[2] comb] {
+spec_check();
+---
+---
+} start p(1'd0);";
 
-// A pipe with a `spec_check` in line 2 and separators in lines 3 and 4, where they are asked for.
-fn line(alloc: Global, separators: u32) -> Result<Option<u32>, Fail> {
-    let mut body = Seq::new(alloc);
-    body.push(Stmt::SpecCheck { span: at(2) })?;
-    for k in 0..separators {
-        body.push(Stmt::Separator {
-            span: at(3 + k % 2),
-        })?;
-    }
-    let pipe = Pipe {
-        name: ident(alloc)?,
-        params: Seq::new(alloc),
-        mems: Seq::new(alloc),
-        body,
-        end: at(5),
-        start: Start {
-            span: at(6),
-            name: ident(alloc)?,
-            args: Seq::new(alloc),
-        },
+// The line in which the pipe of a text breaks it, 0 without an answer.
+fn line_of(alloc: Global, text: &[u8]) -> Option<u32> {
+    let Some(pipe) = pipe_of(alloc, text) else {
+        return Some(0);
     };
     let none = Guards::new(alloc);
-    let places = places(alloc, &pipe, &none)?;
-    Ok(line_broken(alloc, &NoSeparator, places.as_slice())?)
+    match places(alloc, &pipe, &none) {
+        Ok(places) => line_broken(alloc, &NoSeparator, places.as_slice()).unwrap_or(Some(0)),
+        Err(_) => Some(0),
+    }
 }
 
 #[test]
-fn first_places(rt: HostRuntime) -> Result<(), Fail> {
+fn separators(rt: HostRuntime) {
     let alloc = rt.alloc();
-    assert_eq!(rt; line(alloc, 0)?, None);
-    assert_eq!(rt; line(alloc, 2)?, Some(3));
+    assert_eq!(rt; line_of(alloc, NO_SEPARATOR), None);
+    assert_eq!(rt; line_of(alloc, TWO_SEPARATORS), Some(3));
+}
+
+#[test]
+fn first_lines(rt: HostRuntime) {
     assert_eq!(rt; noted_line(Some(3), true, 4), Some(3));
     assert_eq!(rt; noted_line(None, false, 4), None);
     assert_eq!(rt; noted_line(None, true, 4), Some(4));
-    let later = Broken {
-        rule: Rule::N3,
-        line: 2,
-    };
-    let broken = Broken {
+}
+
+#[test]
+fn lowest_rules(rt: HostRuntime) {
+    let broken = Some(Broken {
         rule: Rule::N1,
         line: 7,
-    };
-    assert_eq!(rt; lowest_of(Rule::N1, Some(7), Some(later)), Some(broken));
-    assert_eq!(rt; lowest_of(Rule::N1, None, Some(later)), Some(later));
-    Ok(())
+    });
+    let later = Some(Broken {
+        rule: Rule::N3,
+        line: 2,
+    });
+    assert_eq!(rt; lowest_of(Rule::N1, Some(7), later), broken);
+    assert_eq!(rt; lowest_of(Rule::N1, None, later), later);
 }
