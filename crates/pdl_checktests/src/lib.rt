@@ -4,6 +4,8 @@
 #![tactic(auto)]
 
 #[cfg(test)]
+mod answer;
+#[cfg(test)]
 mod check_rows;
 #[cfg(test)]
 mod long_rows;

@@ -5,7 +5,7 @@ ghost use Rattle.pdl_check.specs.Memories.{infos_of};
 ghost use Rattle.pdl_image.specs.Images.{IsImage};
 
 use crate::random::RANDOM;
-use crate::rows::{answers, at};
+use crate::rows::{Row, answers};
 use crate::sources::{FIVE, FIVE_IMAGE};
 use pdl_check::Accepted;
 use pdl_check::check::check;
@@ -124,7 +124,7 @@ fn is_shown<'a>(
 {
     match machine_text(alloc, source, image, cycles) {
         Some(text) => {
-            let rows = [at(words, source, image, text.as_slice())];
+            let rows: [Row<'_>; 1] = [(words, source, image, 0, text.as_slice())];
             answers(rt, alloc, &rows)
         }
         None => {

@@ -1,10 +1,12 @@
 // Netlists that are built as text, and simulated from it.
-use crate::rows::{answers, at, not, ran};
+use crate::rows::{Row, answers, ran};
 use crate::sources::{CHAIN_RENAME, COUNTER, EMPTY, FIVE, FIVE_IMAGE, THREE, TOO_WIDE};
 use pdl_kit::MemSink;
 use std::alloc::Global;
 use std::process::Abort;
 use std::test::Fail;
+
+const SIM: &[&str] = &["sim", "a.pdl", "e.img", "3"];
 
 // The first line of the counter's netlist.
 const COUNTER_HEAD: &[u8] =
@@ -75,10 +77,10 @@ fn written(
     first: &[u8],
     image: &[u8],
 ) -> Result<Vec<u8>, Fail> {
-    let row = at(words, first, image, b"");
+    let row: Row<'_> = (words, first, image, 0, b"");
     let mut out = MemSink::unfailing(alloc, 65536)?;
     let mut err = MemSink::unfailing(alloc, 65536)?;
-    assert_eq!(rt; ran(alloc, &row, &mut out, &mut err)?, 0);
+    assert_eq!(rt; ran(alloc, row, &mut out, &mut err)?, 0);
     Ok(Vec::from_slice(alloc, out.written())?)
 }
 
@@ -91,6 +93,8 @@ fn builds_the_counter(rt: HostRuntime) -> Result<(), Fail> {
     Ok(())
 }
 
+const LONG_SIM: &[&str] = &["sim", "a.pdl", "e.img", "60"];
+
 /// What is built runs as its source does.
 #[test]
 fn simulates_what_is_built(rt: HostRuntime) -> Result<(), Fail> {
@@ -99,17 +103,16 @@ fn simulates_what_is_built(rt: HostRuntime) -> Result<(), Fail> {
     for (source, image) in table {
         let text = written(&rt, alloc, &["build", "a.pdl"], source, b"")?;
         let ran = written(&rt, alloc, &["run", "a.pdl", "e.img", "60"], source, image)?;
-        let sim = ["sim", "a.pdl", "e.img", "60"];
-        let rows = [
-            at(&sim, text.as_slice(), image, ran.as_slice()),
-            not(
-                &sim,
+        let rows: [Row<'_>; 3] = [
+            (LONG_SIM, text.as_slice(), image, 0, ran.as_slice()),
+            (
+                LONG_SIM,
                 text.as_slice(),
                 b"image 1\nx 0 0\n",
                 2,
                 b"refused I3 line 2\n",
             ),
-            not(
+            (
                 &["sim", "a.pdl", "f", "60"],
                 text.as_slice(),
                 image,
@@ -122,49 +125,56 @@ fn simulates_what_is_built(rt: HostRuntime) -> Result<(), Fail> {
     Ok(())
 }
 
+const SIMULATED: [Row<'static>; 2] = [
+    (
+        &["sim", "a.pdl", "e.img", "5"],
+        COMMITS,
+        STEPS,
+        0,
+        COMMITTED,
+    ),
+    (
+        &["sim", "a.pdl", "e.img", "5"],
+        COMMITS,
+        b"image 1\nm 4 1\n",
+        2,
+        b"refused I4 line 2\n",
+    ),
+];
+
 /// A netlist by hand.
 #[test]
 fn simulates_a_netlist(rt: HostRuntime) -> Result<(), Fail> {
-    let rows = [
-        at(&["sim", "a.pdl", "e.img", "5"], COMMITS, STEPS, COMMITTED),
-        not(
-            &["sim", "a.pdl", "e.img", "5"],
-            COMMITS,
-            b"image 1\nm 4 1\n",
-            2,
-            b"refused I4 line 2\n",
-        ),
-    ];
-    answers(&rt, rt.alloc(), &rows)
+    answers(&rt, rt.alloc(), &SIMULATED)
 }
+
+const REFUSED: [Row<'static>; 10] = [
+    (
+        &["build", "a.pdl"],
+        TOO_WIDE,
+        EMPTY,
+        2,
+        b"refused W2 line 1\n",
+    ),
+    (&["build", "b.pdl"], COUNTER, EMPTY, 3, b"read fault\n"),
+    (SIM, b"", EMPTY, 2, b"refused V1 line 1\n"),
+    (SIM, COUNTER, b"", 2, b"refused V1 line 1\n"),
+    (SIM, EARLY, EMPTY, 2, b"refused V2 line 2\n"),
+    (SIM, WIDE, EMPTY, 2, b"refused V3 line 2\n"),
+    (SIM, STAGELESS, EMPTY, 2, b"refused V5 line 1\n"),
+    (SIM, DELAYED, EMPTY, 2, b"refused V5 line 2\n"),
+    (
+        &["sim", "a.pdl", "e.img", "1000001"],
+        COUNTER,
+        EMPTY,
+        1,
+        b"usage\n",
+    ),
+    (&["run", "a.pdl", "e.img", "3"], COUNTER, EMPTY, 0, THREE),
+];
 
 /// Sources and netlists that are refused.
 #[test]
 fn refuses_netlists(rt: HostRuntime) -> Result<(), Fail> {
-    let sim = ["sim", "a.pdl", "e.img", "3"];
-    let rows = [
-        not(
-            &["build", "a.pdl"],
-            TOO_WIDE,
-            EMPTY,
-            2,
-            b"refused W2 line 1\n",
-        ),
-        not(&["build", "b.pdl"], COUNTER, EMPTY, 3, b"read fault\n"),
-        not(&sim, b"", EMPTY, 2, b"refused V1 line 1\n"),
-        not(&sim, COUNTER, b"", 2, b"refused V1 line 1\n"),
-        not(&sim, EARLY, EMPTY, 2, b"refused V2 line 2\n"),
-        not(&sim, WIDE, EMPTY, 2, b"refused V3 line 2\n"),
-        not(&sim, STAGELESS, EMPTY, 2, b"refused V5 line 1\n"),
-        not(&sim, DELAYED, EMPTY, 2, b"refused V5 line 2\n"),
-        not(
-            &["sim", "a.pdl", "e.img", "1000001"],
-            COUNTER,
-            EMPTY,
-            1,
-            b"usage\n",
-        ),
-        at(&["run", "a.pdl", "e.img", "3"], COUNTER, EMPTY, THREE),
-    ];
-    answers(&rt, rt.alloc(), &rows)
+    answers(&rt, rt.alloc(), &REFUSED)
 }

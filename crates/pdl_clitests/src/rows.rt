@@ -5,16 +5,8 @@ use std::alloc::Global;
 use std::process::Abort;
 use std::test::Fail;
 
-/// One run: the words, the bytes of a.pdl and of e.img, and what is seen.
-#[derive(Drop)]
-pub struct Row<'a> {
-    words: &'a [&'a str],
-    source: &'a [u8],
-    image: &'a [u8],
-    status: u8,
-    out: &'a [u8],
-    err: &'a [u8],
-}
+/// One run: the words, the bytes of a.pdl and of e.img, the status, and what is written: as output where the status is 0, else as the error.
+pub type Row<'a> = (&'a [&'a str], &'a [u8], &'a [u8], u8, &'a [u8]);
 
 fn file(alloc: Global, name: &str, bytes: &[u8]) -> Result<MemFile, Fail> {
     Ok(MemFile {
@@ -39,49 +31,32 @@ fn texts(alloc: Global, words: &[&str]) -> Result<Vec<String>, Fail> {
 }
 
 /// Runs a row, with the output given.
-pub fn ran(alloc: Global, row: &Row<'_>, out: &mut MemSink, err: &mut MemSink) -> Result<u8, Fail> {
-    let words = texts(alloc, row.words)?;
-    let mut files = held(alloc, row.source, row.image)?;
+pub fn ran(alloc: Global, row: Row<'_>, out: &mut MemSink, err: &mut MemSink) -> Result<u8, Fail> {
+    let (words, source, image, _, _) = row;
+    let words = texts(alloc, words)?;
+    let mut files = held(alloc, source, image)?;
     Ok(top(alloc, &words, &mut files, out, err))
-}
-
-pub fn at<'a>(cycles: &'a [&'a str], source: &'a [u8], image: &'a [u8], out: &'a [u8]) -> Row<'a> {
-    Row {
-        words: cycles,
-        source,
-        image,
-        status: 0,
-        out,
-        err: b"",
-    }
-}
-
-pub fn not<'a>(
-    words: &'a [&'a str],
-    source: &'a [u8],
-    image: &'a [u8],
-    status: u8,
-    err: &'a [u8],
-) -> Row<'a> {
-    Row {
-        words,
-        source,
-        image,
-        status,
-        out: b"",
-        err,
-    }
 }
 
 /// Each row is answered as it says.
 pub fn answers(rt: &impl Abort, alloc: Global, rows: &[Row<'_>]) -> Result<(), Fail> {
     for row in rows {
+        let (words, _, _, status, written) = *row;
         let mut out = MemSink::unfailing(alloc, 65536)?;
         let mut err = MemSink::unfailing(alloc, 65536)?;
-        let status = ran(alloc, row, &mut out, &mut err)?;
-        assert_eq!(rt; status, row.status, "at {:?}", row.words);
-        assert!(rt; out.written() == row.out, "at {:?}", row.words);
-        assert!(rt; err.written() == row.err, "at {:?}", row.words);
+        assert_eq!(rt;
+            ran(alloc, *row, &mut out, &mut err)?,
+            status,
+            "at {:?}",
+            words
+        );
+        let (told, silent) = if status == 0 {
+            (&out, &err)
+        } else {
+            (&err, &out)
+        };
+        assert!(rt; told.written() == written, "at {:?}", words);
+        assert!(rt; silent.written().is_empty(), "at {:?}", words);
     }
     Ok(())
 }

@@ -1,6 +1,8 @@
-//! The grammar at small texts.
+// The grammar of netlists at a small text.
+ghost use Rattle.std.specs.Prelude.{◌≤◌, length};
+
 use pdl_vtext::*;
-use std::test::Fail;
+use std::alloc::Global;
 
 const SMALL: &[u8] =
     b"module pdl_p(input wire clk, input wire [0:0] rst, output wire [0:0] ended, output wire [0:0] squash);
@@ -10,12 +12,22 @@ assign ended = n1; assign squash = n1;
 endmodule
 ";
 
+// How many ports, cells and outputs a text declares, and on which line its second cell stands.
+fn counts(alloc: Global, text: &[u8]) -> Option<(usize, usize, usize, u32)> {
+    if text.len() > 1000 {
+        return None;
+    }
+    let Ok(file) = read_file(alloc, text) else {
+        return None;
+    };
+    let line = match file.cells.as_slice().get(1) {
+        Some(cell) => cell.line,
+        None => 0,
+    };
+    Some((file.ports.len(), file.cells.len(), file.outputs.len(), line))
+}
+
 #[test]
-fn declares_what_stands_there(rt: HostRuntime) -> Result<(), Fail> {
-    let file = read_file(rt.alloc(), SMALL)?;
-    assert_eq!(rt; file.ports.len(), 2);
-    assert_eq!(rt; file.cells.len(), 2);
-    assert_eq!(rt; file.outputs.len(), 2);
-    assert_eq!(rt; file.cells.as_slice()[1].line, 3);
-    Ok(())
+fn declares_what_stands_there(rt: HostRuntime) {
+    assert_eq!(rt; counts(rt.alloc(), SMALL), Some((2, 2, 2, 3)));
 }

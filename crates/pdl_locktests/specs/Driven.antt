@@ -6,11 +6,11 @@ use Rattle.pdl_net.specs.Meaning.{IsThere, signal}
 use Rattle.pdl_lockapi.specs.declared.Kind.TheVariants.{W}
 use Rattle.pdl_lockapi.specs.declared.ReservePort.{ReservePort}
 use Rattle.pdl_lockapi.specs.declared.TicketWrite.{TicketWrite}
-use Rattle.pdl_locktests.specs.declared.bench.LookDrive.{LookDrive}
-use Rattle.pdl_locktests.specs.declared.bench.ReserveDrive.{ReserveDrive}
-use Rattle.pdl_locktests.specs.declared.bench.WriteDrive.{WriteDrive}
-use Rattle.pdl_locktests.specs.declared.bench.EndDrive.{EndDrive}
-use Rattle.pdl_locktests.specs.declared.bench.PortDrive.{PortDrive}
+use Rattle.pdl_locktests.specs.declared.drives.LookDrive.{LookDrive}
+use Rattle.pdl_locktests.specs.declared.drives.ReserveDrive.{ReserveDrive}
+use Rattle.pdl_locktests.specs.declared.drives.WriteDrive.{WriteDrive}
+use Rattle.pdl_locktests.specs.declared.drives.EndDrive.{EndDrive}
+use Rattle.pdl_locktests.specs.declared.drives.PortDrive.{PortDrive}
 
 -- a register of this width
 pub record Drives (c : Circuit) (width r : ℕ) : Type 0 where

@@ -5,6 +5,7 @@ ghost use Rattle.pdl_net.specs.Growth.{Extends};
 ghost use Rattle.pdl_lockapi.specs.Laws.{HasNoPorts};
 ghost use Rattle.pdl_locktests.specs.Driven.{IsLook, IsReserve, IsWrite, IsEnd, AreDrivers, reserve_of, write_of};
 
+use crate::drives::{EndDrive, LookDrive, PortDrive, ReserveDrive, WriteDrive};
 use pdl_build::Builder;
 use pdl_kit::{MemInfo, NoMemory, Seq};
 use pdl_lockapi::{
@@ -12,44 +13,6 @@ use pdl_lockapi::{
 };
 use pdl_net::{Net, Netlist};
 use std::alloc::Global;
-
-/// The registers that drive the looks.
-#[derive(Clone, Copy)]
-pub struct LookDrive {
-    pub addr: usize,
-    pub ticket: usize,
-}
-
-/// Those that drive a reservation for writing.
-#[derive(Clone, Copy)]
-pub struct ReserveDrive {
-    pub enable: usize,
-    pub addr: usize,
-}
-
-/// Those that drive a write.
-#[derive(Clone, Copy)]
-pub struct WriteDrive {
-    pub enable: usize,
-    pub ticket: usize,
-    pub value: usize,
-}
-
-/// Those that drive the release and the squash.
-#[derive(Clone, Copy)]
-pub struct EndDrive {
-    pub release: usize,
-    pub squash: usize,
-    pub tail: usize,
-}
-
-/// Those that drive all ports.
-#[derive(Clone, Copy)]
-pub struct PortDrive {
-    pub reserve: ReserveDrive,
-    pub write: WriteDrive,
-    pub end: EndDrive,
-}
 
 /// A lock in a circuit: what drives it, and what it shows.
 #[derive(Drop)]

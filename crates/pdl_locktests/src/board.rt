@@ -1,7 +1,8 @@
 // The cells of a netlist, worked out one by one: what a test reads and sets.
 use pdl_kit::NoMemory;
-use pdl_net::{BinOp, Cell, Net, Netlist, WritePort};
+use pdl_net::{BinOp, Cell, Net, Netlist, Reg, WritePort};
 use std::alloc::Global;
+use std::mem::swap;
 
 /// A width in bits and a value.
 #[derive(Clone, Copy)]
@@ -10,12 +11,12 @@ pub struct Word {
     pub value: u64,
 }
 
-/// The registers, arrays and cells of a netlist without inputs.
+/// The registers, the array's words and the cells of a netlist with one array and no inputs.
 #[derive(Drop)]
 pub struct Board {
-    alloc: Global,
     regs: Vec<u64>,
-    arrays: Vec<Vec<u64>>,
+    next: Vec<u64>,
+    words: Vec<u64>,
     cells: Vec<Word>,
 }
 
@@ -30,10 +31,15 @@ pub fn lowest(width: u8, value: u64) -> u64 {
     }
 }
 
-fn number(xs: &[u64], i: usize) -> u64 {
-    match xs.get(i) {
-        Some(x) => *x,
-        None => 0,
+/// The number at a place, 0 past the end.
+pub fn number(xs: &[u64], i: usize) -> u64 {
+    if i < xs.len() { xs[i] } else { 0 }
+}
+
+/// Puts a number at a place, if there is one.
+pub fn put(xs: &mut [u64], i: usize, value: u64) {
+    if i < xs.len() {
+        xs[i] = value;
     }
 }
 
@@ -67,33 +73,27 @@ fn operated(op: BinOp, a: Word, b: Word) -> Word {
 }
 
 impl Board {
-    /// The netlist at reset, with this image in its first array and zeros after it.
+    /// The netlist at reset, with this image in its array.
     pub fn new(alloc: Global, net: &Netlist, image: &[u64]) -> Result<Board, NoMemory> {
-        let mut regs = Vec::new(alloc);
-        for r in net.regs.as_slice() {
-            regs.push(r.reset)?;
+        let mut board = Board {
+            regs: vec![in alloc; 0; net.regs.len()]?,
+            next: vec![in alloc; 0; net.regs.len()]?,
+            words: Vec::from_slice(alloc, image)?,
+            cells: vec![in alloc; ZERO; net.cells.len()]?,
+        };
+        board.reset(net.regs.as_slice());
+        Ok(board)
+    }
+
+    fn reset(&mut self, regs: &[Reg]) {
+        for k in 0..regs.len() {
+            put(self.regs.as_mut_slice(), k, regs[k].reset);
         }
-        let mut arrays = Vec::new(alloc);
-        for a in net.arrays.as_slice() {
-            let mut words = Vec::new(alloc);
-            for k in 0..a.depth {
-                words.push(number(image, k as usize))?;
-            }
-            arrays.push(words)?;
-        }
-        Ok(Board {
-            alloc,
-            regs,
-            arrays,
-            cells: Vec::new(alloc),
-        })
     }
 
     /// Sets a register for this cycle.
     pub fn set(&mut self, reg: usize, value: u64) {
-        if let Some(r) = self.regs.get_mut(reg) {
-            *r = value;
-        }
+        put(self.regs.as_mut_slice(), reg, value);
     }
 
     fn word(&self, net: &Netlist, x: Net) -> Word {
@@ -119,12 +119,12 @@ impl Board {
     }
 
     fn read(&self, net: &Netlist, array: usize, addr: u64) -> Word {
-        match (net.arrays.as_slice().get(array), self.arrays.get(array)) {
-            (Some(a), Some(words)) => Word {
+        match net.arrays.get(array) {
+            Some(a) => Word {
                 width: a.width,
-                value: number(words.as_slice(), addr as usize),
+                value: number(self.words.as_slice(), addr as usize),
             },
-            _ => ZERO,
+            None => ZERO,
         }
     }
 
@@ -168,52 +168,49 @@ impl Board {
         }
     }
 
-    /// Works out the cells from the registers and arrays.
-    pub fn settle(&mut self, net: &Netlist) -> Result<(), NoMemory> {
-        self.cells.clear();
-        for c in net.cells.as_slice() {
-            let word = self.cell(net, *c);
-            self.cells.push(word)?;
-        }
-        Ok(())
-    }
-
-    fn next_regs(&self, net: &Netlist) -> Result<Vec<u64>, NoMemory> {
-        let mut next = Vec::new(self.alloc);
-        for r in net.regs.as_slice() {
-            next.push(self.word(net, r.next).value)?;
-        }
-        Ok(next)
-    }
-
-    fn store(&mut self, net: &Netlist, array: usize, p: WritePort) {
-        let enable = self.word(net, p.enable).value;
-        let addr = self.word(net, p.addr).value as usize;
-        let value = self.word(net, p.value).value;
-        if enable != 1 {
-            return;
-        }
-        if let Some(words) = self.arrays.get_mut(array) {
-            if let Some(w) = words.get_mut(addr) {
-                *w = value;
-            }
+    fn put_cell(&mut self, k: usize, word: Word) {
+        if k < self.cells.len() {
+            self.cells[k] = word;
         }
     }
 
-    fn store_all(&mut self, net: &Netlist, array: usize, ports: &[WritePort]) {
+    /// Works out the cells from the registers and the array.
+    pub fn settle(&mut self, net: &Netlist) {
+        let cells = net.cells.as_slice();
+        for k in 0..cells.len() {
+            let word = self.cell(net, cells[k]);
+            self.put_cell(k, word);
+        }
+    }
+
+    fn next_regs(&mut self, net: &Netlist) {
+        let regs = net.regs.as_slice();
+        for k in 0..regs.len() {
+            let value = self.show(net, regs[k].next);
+            put(self.next.as_mut_slice(), k, value);
+        }
+    }
+
+    fn store(&mut self, net: &Netlist, p: &WritePort) {
+        if self.show(net, p.enable) == 1 {
+            let addr = self.show(net, p.addr) as usize;
+            let value = self.show(net, p.value);
+            put(self.words.as_mut_slice(), addr, value);
+        }
+    }
+
+    fn store_all(&mut self, net: &Netlist, ports: &[WritePort]) {
         for p in ports {
-            self.store(net, array, *p);
+            self.store(net, p);
         }
     }
 
     /// Goes on to the next cycle, whose cells are to be worked out.
-    pub fn step(&mut self, net: &Netlist) -> Result<(), NoMemory> {
-        let next = self.next_regs(net)?;
-        let arrays = net.arrays.as_slice();
-        for m in 0..arrays.len() {
-            self.store_all(net, m, arrays[m].writes.as_slice());
+    pub fn step(&mut self, net: &Netlist) {
+        self.next_regs(net);
+        if let Some(array) = net.arrays.get(0) {
+            self.store_all(net, array.writes.as_slice());
         }
-        self.regs = next;
-        Ok(())
+        swap(&mut self.regs, &mut self.next);
     }
 }

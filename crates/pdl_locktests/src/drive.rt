@@ -2,7 +2,6 @@
 use crate::bench::Bench;
 use crate::board::Board;
 use crate::model::{Act, Lock};
-use pdl_kit::NoMemory;
 
 /// Numbers that look random (Marsaglia's xorshift).
 #[derive(Clone, Copy)]
@@ -44,7 +43,7 @@ fn first_act(random: &mut Random, lock: &Lock) -> Act {
     } else {
         None
     };
-    let count = (lock.count() as u64).wrapping_add(reserve.is_some() as u64);
+    let count = lock.count().wrapping_add(reserve.is_some() as u64);
     let ticket = lock.base().wrapping_add(random.below(count));
     let write = if count > 0 && random.once_in(2) {
         Some((ticket, random.below(256)))
@@ -102,25 +101,22 @@ fn looks_agree(
 ) -> bool {
     let net = &bench.netlist;
     let found = lock.find(addr, ticket);
-    let value = match bench.read.value {
-        Some(x) => board.show(net, x),
-        None => 0,
-    };
-    let ready = board.show(net, bench.read.ready);
-    ready == found.ready as u64
-        && (!found.ready || value == found.word)
-        && board.show(net, bench.write.ready) == lock.may_write(addr, ticket) as u64
-        && board.show(net, bench.room) == lock.has_room() as u64
-        && board.show(net, bench.ticket) == lock.next() & tickets
+    let word = board.show(net, bench.read.value.unwrap_or(bench.room));
+    let read = board.show(net, bench.read.ready) == found.ready as u64;
+    let value = !found.ready | (word == found.word);
+    let write = board.show(net, bench.write.ready) == lock.may_write(addr, ticket) as u64;
+    let room = board.show(net, bench.room) == lock.has_room() as u64;
+    let next = board.show(net, bench.ticket) == lock.next() & tickets;
+    read & value & write & room & next
 }
 
 /// Whether the commit port shows this commit, and zeros where there is none.
 fn commits_agree(board: &Board, bench: &Bench, committed: Option<(u64, u64)>) -> bool {
     let net = &bench.netlist;
     let (addr, value) = committed.unwrap_or((0, 0));
-    board.show(net, bench.nets.commit) == committed.is_some() as u64
-        && board.show(net, bench.nets.addr) == addr
-        && board.show(net, bench.nets.value) == value
+    let commit = board.show(net, bench.nets.commit) == committed.is_some() as u64;
+    let place = board.show(net, bench.nets.addr) == addr;
+    commit & place & (board.show(net, bench.nets.value) == value)
 }
 
 /// One cycle in both; whether they agree.
@@ -130,37 +126,32 @@ fn agree_once(
     lock: &mut Lock,
     random: &mut Random,
     tickets: u64,
-) -> Result<bool, NoMemory> {
+) -> bool {
     let span = lock.next().wrapping_sub(lock.base()).wrapping_add(1);
     let ticket = lock.base().wrapping_add(random.below(span));
     let addr = random.below(DEPTH) % 4;
     let act = first_act(random, lock);
     board.set(bench.looks.addr, addr);
     board.set(bench.looks.ticket, ticket & tickets);
-    board.settle(&bench.netlist)?;
+    board.settle(&bench.netlist);
     let looks = looks_agree(board, bench, lock, addr, ticket, tickets);
-    lock.fill(act)?;
+    lock.fill(act);
     let act = last_act(random, lock, act);
     set_ports(board, bench, act, tickets);
-    board.settle(&bench.netlist)?;
+    board.settle(&bench.netlist);
     let commits = commits_agree(board, bench, lock.leave(act));
-    board.step(&bench.netlist)?;
-    Ok(looks && commits)
+    board.step(&bench.netlist);
+    looks & commits
 }
 
 /// How many of 200 cycles agree.
-pub fn agreed(
-    board: &mut Board,
-    bench: &Bench,
-    lock: &mut Lock,
-    random: &mut Random,
-    tickets: u64,
-) -> Result<u32, NoMemory> {
+pub fn agreed(board: &mut Board, bench: &Bench, lock: &mut Lock, tickets: u64) -> u32 {
+    let mut random = Random::new(2463534242);
     let mut count: u32 = 0;
     for _ in 0..200u32 {
-        if agree_once(board, bench, lock, random, tickets)? {
+        if agree_once(board, bench, lock, &mut random, tickets) {
             count = count.wrapping_add(1);
         }
     }
-    Ok(count)
+    count
 }

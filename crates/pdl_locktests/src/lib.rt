@@ -3,9 +3,14 @@
 //! It has tests alone, and nothing stands on it.
 #![tactic(auto)]
 
-pub mod bench;
-pub mod board;
-pub mod drive;
-pub mod model;
+#[cfg(test)]
+mod bench;
+#[cfg(test)]
+mod board;
+#[cfg(test)]
+mod drive;
+pub mod drives;
+#[cfg(test)]
+mod model;
 #[cfg(test)]
 mod tests;

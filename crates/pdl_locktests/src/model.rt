@@ -1,18 +1,11 @@
 // A lock as one would write it by hand: tickets that only grow, and a list of the pending writes.
+use crate::board::{number, put};
 use pdl_kit::NoMemory;
 use std::alloc::Global;
 
-/// Whether reads see pending values.
-#[derive(Clone, Copy, PartialEq, Eq)]
-pub enum Sight {
-    Memory,
-    Pending,
-}
-
-/// A pending write.
+/// A pending write; its ticket is that of the oldest one and its place in the list together.
 #[derive(Clone, Copy)]
 struct Pending {
-    ticket: u64,
     addr: u64,
     value: Option<u64>,
 }
@@ -27,7 +20,7 @@ pub struct Act {
 }
 
 /// What a read finds: whether it is ready, and the word.
-#[derive(Clone, Copy, PartialEq, Eq)]
+#[derive(Clone, Copy)]
 pub struct Found {
     pub ready: bool,
     pub word: u64,
@@ -35,19 +28,26 @@ pub struct Found {
 
 #[derive(Drop)]
 pub struct Lock {
-    sight: Sight,
+    /// Whether reads see pending values.
+    sees_pending: bool,
     size: usize,
-    next: u64,
+    /// The ticket of the oldest pending write, or of the next one.
+    base: u64,
     pending: Vec<Pending>,
     words: Vec<u64>,
 }
 
 impl Lock {
-    pub fn new(alloc: Global, sight: Sight, size: usize, image: &[u64]) -> Result<Lock, NoMemory> {
+    pub fn new(
+        alloc: Global,
+        sees_pending: bool,
+        size: u8,
+        image: &[u64],
+    ) -> Result<Lock, NoMemory> {
         Ok(Lock {
-            sight,
-            size,
-            next: 0,
+            sees_pending,
+            size: size as usize,
+            base: 0,
             pending: Vec::new(alloc),
             words: Vec::from_slice(alloc, image)?,
         })
@@ -57,17 +57,19 @@ impl Lock {
         self.pending.len() < self.size
     }
 
-    /// The ticket of the next reservation.
-    pub fn next(&self) -> u64 {
-        self.next
+    /// How many writes are pending.
+    pub fn count(&self) -> u64 {
+        self.pending.len() as u64
     }
 
     /// The ticket of the oldest pending write, or of the next one.
     pub fn base(&self) -> u64 {
-        match self.pending.first() {
-            Some(p) => p.ticket,
-            None => self.next,
-        }
+        self.base
+    }
+
+    /// The ticket of the next reservation.
+    pub fn next(&self) -> u64 {
+        self.base.wrapping_add(self.count())
     }
 
     /// Whether the oldest pending write has its value.
@@ -78,65 +80,48 @@ impl Lock {
         }
     }
 
-    /// How many writes are pending.
-    pub fn count(&self) -> usize {
-        self.pending.len()
-    }
-
-    fn word(&self, addr: u64) -> u64 {
-        match self.words.get(addr as usize) {
-            Some(w) => *w,
-            None => 0,
-        }
+    /// What a read finds in a pending write.
+    fn seen(&self, value: Option<u64>) -> Found {
+        let word = value.unwrap_or(0);
+        let ready = self.sees_pending & value.is_some();
+        Found { ready, word }
     }
 
     /// What a read at an address finds among the writes below a ticket.
     pub fn find(&self, addr: u64, ticket: u64) -> Found {
-        let mut found = Found {
-            ready: true,
-            word: self.word(addr),
-        };
+        let word = number(self.words.as_slice(), addr as usize);
+        let mut found = Found { ready: true, word };
+        let mut at = self.base;
         for p in self.pending.as_slice() {
-            if p.ticket < ticket && p.addr == addr {
-                found = match (self.sight, p.value) {
-                    (Sight::Pending, Some(word)) => Found { ready: true, word },
-                    _ => Found {
-                        ready: false,
-                        word: 0,
-                    },
-                };
+            if at < ticket && p.addr == addr {
+                found = self.seen(p.value);
             }
+            at = at.wrapping_add(1);
         }
         found
     }
 
     /// Whether a write at an address may go.
     pub fn may_write(&self, addr: u64, ticket: u64) -> bool {
-        self.sight == Sight::Pending || self.find(addr, ticket).ready
+        self.sees_pending | self.find(addr, ticket).ready
     }
 
+    /// Puts the value of a pending write.
     fn put(&mut self, ticket: u64, value: u64) {
-        for p in self.pending.as_mut_slice() {
-            if p.ticket == ticket {
-                p.value = Some(value);
-            }
+        let at = ticket.wrapping_sub(self.base) as usize;
+        if let Some(p) = self.pending.get_mut(at) {
+            p.value = Some(value);
         }
     }
 
-    /// Appends and writes.
-    pub fn fill(&mut self, act: Act) -> Result<(), NoMemory> {
+    /// Appends and writes; where memory runs out the lock falls behind the circuit.
+    pub fn fill(&mut self, act: Act) {
         if let Some(addr) = act.reserve {
-            self.pending.push(Pending {
-                ticket: self.next,
-                addr,
-                value: None,
-            })?;
-            self.next = self.next.wrapping_add(1);
+            let _ = self.pending.push(Pending { addr, value: None });
         }
         if let Some((ticket, value)) = act.write {
             self.put(ticket, value);
         }
-        Ok(())
     }
 
     /// Takes the oldest pending write out, into the memory.
@@ -145,10 +130,9 @@ impl Lock {
             return None;
         }
         let oldest = self.pending.remove(0);
+        self.base = self.base.wrapping_add(1);
         let value = oldest.value.unwrap_or(0);
-        if let Some(w) = self.words.get_mut(oldest.addr as usize) {
-            *w = value;
-        }
+        put(self.words.as_mut_slice(), oldest.addr as usize, value);
         Some((oldest.addr, value))
     }
 
@@ -156,8 +140,7 @@ impl Lock {
     pub fn leave(&mut self, act: Act) -> Option<(u64, u64)> {
         let committed = if act.release { self.release() } else { None };
         if let Some(tail) = act.tail {
-            self.pending.retain(|p| p.ticket < tail);
-            self.next = tail;
+            self.pending.truncate(tail.wrapping_sub(self.base) as usize);
         }
         committed
     }

@@ -1,20 +1,20 @@
 ghost use Rattle.std.specs.Prelude.{◌≡◌, false, IfOk};
 
-use crate::bench::emit_bench;
+use crate::bench::{Bench, emit_bench};
 use crate::board::{Board, lowest};
-use crate::drive::{Random, agreed};
-use crate::model::{Lock, Sight};
+use crate::drive::agreed;
+use crate::model::Lock;
 use pdl_bypass::BypassLock;
 use pdl_kit::{MemInfo, Name, NoMemory};
 use pdl_lockapi::LockModule;
 use pdl_queue::QueueLock;
 use pdl_rename::RenameFile;
 use std::alloc::Global;
-use std::test::Fail;
 
-/// Words that differ.
-const IMAGE: [u64; 16] = [
-    3, 14, 15, 92, 65, 35, 89, 79, 32, 38, 46, 26, 43, 83, 27, 95,
+/// Words that differ, with zeros after them where a lock has more.
+const IMAGE: [u64; 32] = [
+    3, 14, 15, 92, 65, 35, 89, 79, 32, 38, 46, 26, 43, 83, 27, 95, 0, 0, 0, 0, 0, 0, 0, 0, 0, 0, 0,
+    0, 0, 0, 0, 0,
 ];
 
 fn memory(alloc: Global) -> Result<MemInfo, NoMemory>
@@ -35,56 +35,56 @@ fn driven<L: LockModule>(
     module: &L,
     alloc: Global,
     mem: &MemInfo,
-    sight: Sight,
-    size: usize,
+    sees_pending: bool,
+    size: u8,
 ) -> Result<u32, NoMemory>
     requires suits { L.suits module.now mem.now }
     requires width { mem.now.width ≡ 8 }
 {
     let bench = emit_bench(module, alloc, mem)?;
+    let tickets = lowest(module.ticket_width(), u64::MAX);
+    agreed_from_reset(alloc, &bench, sees_pending, size, tickets)
+}
+
+/// How many of 200 cycles from reset on a circuit and a lock written by hand go through alike.
+fn agreed_from_reset(
+    alloc: Global,
+    bench: &Bench,
+    sees_pending: bool,
+    size: u8,
+    tickets: u64,
+) -> Result<u32, NoMemory> {
     let mut board = Board::new(alloc, &bench.netlist, IMAGE.as_slice())?;
-    let mut lock = Lock::new(alloc, sight, size, IMAGE.as_slice())?;
-    let mut random = Random::new(2463534242);
-    let width = module.ticket_width();
-    let tickets = lowest(width, u64::MAX);
-    agreed(&mut board, &bench, &mut lock, &mut random, tickets)
+    let mut lock = Lock::new(alloc, sees_pending, size, IMAGE.as_slice())?;
+    Ok(agreed(&mut board, bench, &mut lock, tickets))
 }
 
 #[test]
-fn queues(rt: HostRuntime) -> Result<(), Fail> {
+fn queues(rt: HostRuntime) -> Result<(), NoMemory> {
     let alloc = rt.alloc();
     let mem = memory(alloc)?;
-    let one = QueueLock { size: 1 };
-    assert_eq!(rt; driven(&one, alloc, &mem, Sight::Memory, 1)?, 200);
-    let two = QueueLock { size: 2 };
-    assert_eq!(rt; driven(&two, alloc, &mem, Sight::Memory, 2)?, 200);
-    let most = QueueLock { size: 16 };
-    assert_eq!(rt; driven(&most, alloc, &mem, Sight::Memory, 16)?, 200);
+    assert!(rt; driven(&QueueLock { size: 1 }, alloc, &mem, false, 1) == Ok(200));
+    assert!(rt; driven(&QueueLock { size: 2 }, alloc, &mem, false, 2) == Ok(200));
+    assert!(rt; driven(&QueueLock { size: 16 }, alloc, &mem, false, 16) == Ok(200));
     Ok(())
 }
 
 #[test]
-fn bypasses(rt: HostRuntime) -> Result<(), Fail> {
+fn bypasses(rt: HostRuntime) -> Result<(), NoMemory> {
     let alloc = rt.alloc();
     let mem = memory(alloc)?;
-    let one = BypassLock { size: 1 };
-    assert_eq!(rt; driven(&one, alloc, &mem, Sight::Pending, 1)?, 200);
-    let two = BypassLock { size: 2 };
-    assert_eq!(rt; driven(&two, alloc, &mem, Sight::Pending, 2)?, 200);
-    let most = BypassLock { size: 16 };
-    assert_eq!(rt; driven(&most, alloc, &mem, Sight::Pending, 16)?, 200);
+    assert!(rt; driven(&BypassLock { size: 1 }, alloc, &mem, true, 1) == Ok(200));
+    assert!(rt; driven(&BypassLock { size: 2 }, alloc, &mem, true, 2) == Ok(200));
+    assert!(rt; driven(&BypassLock { size: 16 }, alloc, &mem, true, 16) == Ok(200));
     Ok(())
 }
 
 #[test]
-fn renamings(rt: HostRuntime) -> Result<(), Fail> {
+fn renamings(rt: HostRuntime) -> Result<(), NoMemory> {
     let alloc = rt.alloc();
     let mem = memory(alloc)?;
-    let one = RenameFile { size: 1 };
-    assert_eq!(rt; driven(&one, alloc, &mem, Sight::Pending, 1)?, 200);
-    let two = RenameFile { size: 2 };
-    assert_eq!(rt; driven(&two, alloc, &mem, Sight::Pending, 2)?, 200);
-    let most = RenameFile { size: 16 };
-    assert_eq!(rt; driven(&most, alloc, &mem, Sight::Pending, 16)?, 200);
+    assert!(rt; driven(&RenameFile { size: 1 }, alloc, &mem, true, 1) == Ok(200));
+    assert!(rt; driven(&RenameFile { size: 2 }, alloc, &mem, true, 2) == Ok(200));
+    assert!(rt; driven(&RenameFile { size: 16 }, alloc, &mem, true, 16) == Ok(200));
     Ok(())
 }

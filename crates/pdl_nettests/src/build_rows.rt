@@ -1,95 +1,89 @@
+// Calls of a builder, and the nets that they give.
 use pdl_build::Builder;
-use pdl_kit::{Name, Seq};
+use pdl_kit::{Name, NoMemory, Seq};
 use pdl_net::{BinOp, Cell, Net};
-use std::test::Fail;
 
 /// Of equal cells there is one.
-#[test]
-fn equal_cells(rt: HostRuntime) -> Result<(), Fail> {
-    let mut b = Builder::new(rt.alloc());
+fn equal_cells(b: &mut Builder) -> Result<[Net; 4], NoMemory> {
     let x = b.constant(8, 5)?;
     let sum = b.bin(BinOp::Add, x, x)?;
-    assert_eq!(rt; sum, Net::Cell(1));
     let again = b.constant(8, 5)?;
-    assert_eq!(rt; again, x);
     let not = b.not(again)?;
-    assert_eq!(rt; not, Net::Cell(2));
-    Ok(())
+    Ok([x, sum, again, not])
 }
 
-/// A choice, which costs no cell where it is known, and a part of a net.
-#[test]
-fn parts(rt: HostRuntime) -> Result<(), Fail> {
-    let mut b = Builder::new(rt.alloc());
+/// A choice, which costs no cell where it is known.
+fn known_choice(b: &mut Builder) -> Result<[Net; 4], NoMemory> {
     let one = b.constant(1, 1)?;
     let x = b.constant(8, 5)?;
     let y = b.constant(8, 6)?;
     let known = b.mux(one, x, y)?;
-    assert_eq!(rt; known, x);
-    let low = b.slice(x, 0, 0)?;
-    assert_eq!(rt; b.width(low), 1);
-    let same = b.mux(low, y, y)?;
-    assert_eq!(rt; same, y);
-    let picked = b.mux(low, x, y)?;
-    assert_eq!(rt; picked, Net::Cell(4));
-    Ok(())
+    Ok([one, x, y, known])
 }
 
-/// Nets in a row.
-#[test]
-fn rows(rt: HostRuntime) -> Result<(), Fail> {
-    let mut b = Builder::new(rt.alloc());
+/// A part of a net, and a choice by it.
+fn choice_by_part(b: &mut Builder) -> Result<[Net; 3], NoMemory> {
     let x = b.constant(8, 5)?;
+    let low = b.slice(x, 0, 0)?;
+    let y = b.constant(8, 6)?;
+    let same = b.mux(low, y, y)?;
+    let picked = b.mux(low, x, y)?;
+    Ok([low, same, picked])
+}
+
+/// The widths of nets in a row, and of a part.
+fn row_widths(b: &mut Builder) -> Result<[u8; 3], NoMemory> {
+    let x = b.constant(8, 5)?;
+    let low = b.slice(x, 0, 0)?;
     let both = b.cat(x, x)?;
-    assert_eq!(rt; b.width(both), 16);
-    let x = b.constant(8, 5)?;
     let three = b.rep(3, x)?;
-    assert_eq!(rt; b.width(three), 24);
-    Ok(())
+    Ok([b.width(low), b.width(both), b.width(three)])
 }
 
 /// Extensions; a net that is wide enough is its own.
-#[test]
-fn extensions(rt: HostRuntime) -> Result<(), Fail> {
-    let mut b = Builder::new(rt.alloc());
-    let x = b.constant(8, 5)?;
-    let same = b.zero_extend(x, 8)?;
-    assert_eq!(rt; same, x);
+fn extensions(b: &mut Builder) -> Result<(Net, u8), NoMemory> {
     let x = b.constant(8, 5)?;
     let wide = b.sign_extend(x, 12)?;
-    assert_eq!(rt; b.width(wide), 12);
-    Ok(())
+    let x = b.constant(8, 5)?;
+    let same = b.zero_extend(x, 8)?;
+    Ok((same, b.width(wide)))
 }
 
 /// Signed order, as an output; an input and a register.
-#[test]
-fn ports(rt: HostRuntime) -> Result<(), Fail> {
-    let name = Name::copy_of(rt.alloc(), b"less")?;
-    let mut b = Builder::new(rt.alloc());
+fn ports(b: &mut Builder, name: &Name) -> Result<usize, NoMemory> {
     let reg = b.reg(8, 3)?;
     b.next(reg, Net::Reg(reg));
-    assert_eq!(rt; b.reg_count(), 1);
-    let x = b.input(&name, 8)?;
+    let x = b.input(name, 8)?;
     let less = b.less_signed(x, x)?;
-    let shown = b.output(&name, less)?;
-    assert_eq!(rt; shown, 0);
-    Ok(())
+    b.output(name, less)
 }
 
-/// An array.
+/// An array: its write port, and a cell over what it reads.
+fn arrays(b: &mut Builder, name: &Name) -> Result<(usize, Net), NoMemory> {
+    let x = b.constant(1, 1)?;
+    let array = b.array(name, 1, 2)?;
+    let port = b.write(array, x, x, x)?;
+    let word = b.read(array, x)?;
+    let not = b.cell(Cell::Not(word))?;
+    Ok((port, not))
+}
+
 #[test]
-fn arrays(rt: HostRuntime) -> Result<(), Fail> {
+fn nets(rt: HostRuntime) -> Result<(), NoMemory> {
     let alloc = rt.alloc();
     let name = Name::copy_of(alloc, b"words")?;
     let mut b = Builder::new(alloc);
-    let x = b.constant(1, 1)?;
-    let array = b.array(&name, 1, 2)?;
-    let port = b.write(array, x, x, x)?;
-    assert_eq!(rt; port, 0);
-    let word = b.read(array, x)?;
-    let not = b.cell(Cell::Not(word))?;
-    assert_eq!(rt; not, Net::Cell(2));
+    let [five, sum, not] = [Net::Cell(0), Net::Cell(1), Net::Cell(2)];
+    let [one, six, low, picked] = [Net::Cell(3), Net::Cell(4), Net::Cell(5), Net::Cell(6)];
+    assert!(rt; equal_cells(&mut b) == Ok([five, sum, five, not]));
+    assert!(rt; known_choice(&mut b) == Ok([one, five, six, five]));
+    assert!(rt; choice_by_part(&mut b) == Ok([low, six, picked]));
+    assert!(rt; row_widths(&mut b) == Ok([1, 16, 24]));
+    assert!(rt; extensions(&mut b) == Ok((five, 12)));
+    assert!(rt; ports(&mut b, &name) == Ok(0));
+    assert!(rt; b.reg_count() == 1);
+    assert!(rt; arrays(&mut b, &name) == Ok((0, Net::Cell(16))));
     let netlist = b.finish(name, Seq::new(alloc));
-    assert_eq!(rt; netlist.cells.len(), 3);
+    assert!(rt; netlist.cells.len() == 17);
     Ok(())
 }

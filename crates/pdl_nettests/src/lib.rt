@@ -6,14 +6,10 @@
 #[cfg(test)]
 mod build_rows;
 #[cfg(test)]
-mod bypass_rows;
+mod lock_rows;
 #[cfg(test)]
 mod netrun_rows;
 #[cfg(test)]
 mod pending_rows;
-#[cfg(test)]
-mod queue_rows;
-#[cfg(test)]
-mod rename_rows;
 #[cfg(test)]
 mod values_rows;

@@ -1,4 +1,4 @@
-//! A netlist of one stage, whose ports and commits were worked out by hand.
+// A netlist of one stage, whose ports and commits were worked out by hand.
 
 ghost use Rattle.std.specs.Prelude.{◌≡◌, ◌++◌, ◌∷◌, [], IfOk, OnOk};
 ghost use Rattle.pdl_netrun.specs.Sample.{out, sample};
@@ -8,7 +8,6 @@ use pdl_kit::{MemInfo, Name, NoMemory, Seq};
 use pdl_net::{Array, BinOp, Cell, Dir, Net, Netlist, Port, Reg, WritePort};
 use pdl_netrun::Sim;
 use std::alloc::Global;
-use std::test::Fail;
 
 fn output(
     alloc: Global,
@@ -24,36 +23,39 @@ fn output(
     ports.push(Port { name, width, dir })
 }
 
-fn outputs(alloc: Global) -> Result<Seq<Port>, NoMemory>
-    ensures { IfOk result (λ ps. ps ≡ sample.ports) }
+// Its outputs, in their order.
+fn put_outputs(alloc: Global, ports: &mut Seq<Port>) -> Result<(), NoMemory>
+    requires { ports.old ≡ [] }
+    ensures { OnOk result (ports.new ≡ sample.ports) }
 {
-    let mut ports = Seq::new(alloc);
-    output(alloc, &mut ports, b"v_0", 1, Net::Cell(0))?;
-    output(alloc, &mut ports, b"g_0", 1, Net::Cell(0))?;
-    output(alloc, &mut ports, b"c_m", 1, Net::Cell(3))?;
-    output(alloc, &mut ports, b"ca_m", 1, Net::Cell(5))?;
-    output(alloc, &mut ports, b"cd_m", 4, Net::Cell(7))?;
-    output(alloc, &mut ports, b"ended", 1, Net::Cell(0))?;
-    output(alloc, &mut ports, b"squash", 1, Net::Cell(4))?;
-    Ok(ports)
+    output(alloc, ports, b"v_0", 1, Net::Cell(0))?;
+    output(alloc, ports, b"g_0", 1, Net::Cell(0))?;
+    output(alloc, ports, b"c_m", 1, Net::Cell(3))?;
+    output(alloc, ports, b"ca_m", 1, Net::Cell(5))?;
+    output(alloc, ports, b"cd_m", 4, Net::Cell(7))?;
+    output(alloc, ports, b"ended", 1, Net::Cell(0))?;
+    output(alloc, ports, b"squash", 1, Net::Cell(4))
 }
 
-fn arrays(alloc: Global) -> Result<Seq<Array>, NoMemory>
-    ensures { IfOk result (λ ms. ms ≡ sample.arrays) }
+// Its array, with one write port.
+fn put_array(alloc: Global, arrays: &mut Seq<Array>) -> Result<(), NoMemory>
+    requires { arrays.old ≡ [] }
+    ensures { OnOk result (arrays.new ≡ sample.arrays) }
 {
     let write = WritePort {
         enable: Net::Cell(3),
         addr: Net::Cell(5),
         value: Net::Cell(7),
     };
-    let mut arrays = Seq::new(alloc);
+    let name = Name::copy_of(alloc, b"m")?;
+    let writes = Seq::copy_of(alloc, &[write])?;
+    let (width, depth) = (4, 2);
     arrays.push(Array {
-        name: Name::copy_of(alloc, b"m")?,
-        width: 4,
-        depth: 2,
-        writes: Seq::copy_of(alloc, &[write])?,
-    })?;
-    Ok(arrays)
+        name,
+        width,
+        depth,
+        writes,
+    })
 }
 
 fn cells(alloc: Global) -> Result<Seq<Cell>, NoMemory>
@@ -86,55 +88,60 @@ fn cells(alloc: Global) -> Result<Seq<Cell>, NoMemory>
     )
 }
 
-fn mems(alloc: Global) -> Result<Seq<MemInfo>, NoMemory>
-    ensures { IfOk result (λ ms. ms ≡ sample.mems) }
+// Its memory.
+fn put_mem(alloc: Global, mems: &mut Seq<MemInfo>) -> Result<(), NoMemory>
+    requires { mems.old ≡ [] }
+    ensures { OnOk result (mems.new ≡ sample.mems) }
 {
-    let mut mems = Seq::new(alloc);
+    let name = Name::copy_of(alloc, b"m")?;
+    let (width, depth, delayed) = (4, 2, false);
     mems.push(MemInfo {
-        name: Name::copy_of(alloc, b"m")?,
-        width: 4,
-        depth: 2,
-        delayed: false,
-    })?;
-    Ok(mems)
+        name,
+        width,
+        depth,
+        delayed,
+    })
+}
+
+// All but its name.
+fn put_parts(alloc: Global, net: &mut Netlist) -> Result<(), NoMemory>
+    requires name { net.old.name ≡ sample.name }
+    requires ports { net.old.ports ≡ [] }
+    requires arrays { net.old.arrays ≡ [] }
+    requires mems { net.old.mems ≡ [] }
+    ensures { OnOk result (net.new ≡ sample) }
+{
+    put_outputs(alloc, &mut net.ports)?;
+    put_array(alloc, &mut net.arrays)?;
+    put_mem(alloc, &mut net.mems)?;
+    let (width, reset, next) = (4, 1, Net::Cell(2));
+    net.regs = Seq::copy_of(alloc, &[Reg { width, reset, next }])?;
+    net.cells = cells(alloc)?;
+    Ok(())
 }
 
 fn counter(alloc: Global) -> Result<Netlist, NoMemory>
     ensures { IfOk result (λ n. n ≡ sample) }
 {
-    let reg = Reg {
-        width: 4,
-        reset: 1,
-        next: Net::Cell(2),
-    };
-    Ok(Netlist {
+    let mut net = Netlist {
         name: Name::copy_of(alloc, b"sample")?,
-        ports: outputs(alloc)?,
-        regs: Seq::copy_of(alloc, &[reg])?,
-        arrays: arrays(alloc)?,
-        cells: cells(alloc)?,
-        mems: mems(alloc)?,
-    })
+        ports: Seq::new(alloc),
+        regs: Seq::new(alloc),
+        arrays: Seq::new(alloc),
+        cells: Seq::new(alloc),
+        mems: Seq::new(alloc),
+    };
+    put_parts(alloc, &mut net)?;
+    Ok(net)
 }
 
-#[test]
+// Whether each cycle shows its sum, and commits it where the count is odd.
 #[tactic(auto, using(pdl_netrun::proofs::Sample::samples))]
-fn widths_of_nets(rt: HostRuntime) -> Result<(), Fail> {
-    let net = counter(rt.alloc())?;
-    let sum = net.width(Net::Cell(7));
-    assert_eq!(rt; sum, 4);
-    Ok(())
-}
-
-#[test]
-#[tactic(auto, using(pdl_netrun::proofs::Sample::samples))]
-fn counts_and_commits(rt: HostRuntime) -> Result<(), Fail> {
-    let alloc = rt.alloc();
-    let net = counter(alloc)?;
-    let image = read_image(alloc, net.mems.as_slice(), b"image 1\nm 0 5\nm 1 9\n")?;
-    let mut sim = Sim::new(alloc, &net, &image)?;
-    assert_eq!(rt; (sim.port(0), sim.port(4)), (0, 0));
-    assert!(rt; sim.commit(0).is_none() && !sim.waited());
+fn shows_sums(sim: &mut Sim<'_>) -> bool
+    requires { sim.old.netlist ≡ sample }
+{
+    let is_still = (sim.port(0) == 0) & (sim.port(4) == 0);
+    let mut agrees = is_still & sim.commit(0).is_none() & !sim.waited();
     for (sum, commit) in [
         (6, Some((0, 6))),
         (11, None),
@@ -145,10 +152,31 @@ fn counts_and_commits(rt: HostRuntime) -> Result<(), Fail> {
         (3, Some((1, 3))),
     ] {
         sim.cycle(0);
-        assert_eq!(rt; sim.port(0), 1);
-        assert_eq!(rt; sim.port(4), sum);
-        assert!(rt; sim.commit(0) == commit);
-        assert!(rt; !sim.waited());
+        let is_shown = (sim.port(0) == 1) & (sim.port(4) == sum);
+        agrees = agrees & is_shown & (sim.commit(0) == commit) & !sim.waited();
     }
+    agrees
+}
+
+// Whether it has the widths and shows the sums that it should.
+#[tactic(auto, using(pdl_netrun::proofs::Sample::samples))]
+fn counts_and_commits(alloc: Global, net: &Netlist) -> bool
+    requires { net.now ≡ sample }
+{
+    let width = net.width(Net::Cell(7));
+    let text = b"image 1\nm 0 5\nm 1 9\n";
+    let Ok(image) = read_image(alloc, net.mems.as_slice(), text) else {
+        return false;
+    };
+    let Ok(mut sim) = Sim::new(alloc, net, &image) else {
+        return false;
+    };
+    (width == 4) & shows_sums(&mut sim)
+}
+
+#[test]
+fn sample_runs(rt: HostRuntime) -> Result<(), NoMemory> {
+    let net = counter(rt.alloc())?;
+    assert!(rt; counts_and_commits(rt.alloc(), &net));
     Ok(())
 }

@@ -1,43 +1,39 @@
+// The pending writes of a memory.
 use pdl_form::Lock;
+use pdl_kit::NoMemory;
 use pdl_pending::{Memory, Reserved, Written};
-use std::test::Fail;
+use std::alloc::Global;
 
-#[test]
-fn a_queue_waits_for_the_release(rt: HostRuntime) -> Result<(), Fail> {
-    let mut memory = Memory::new(rt.alloc(), &[10, 11, 12, 13], Lock::Queue(1), 1)?;
+/// Whether a queue waits for the release.
+fn queue_waits(alloc: Global) -> Result<bool, NoMemory> {
+    let mut memory = Memory::new(alloc, &[10, 11, 12, 13], Lock::Queue(1), 1)?;
     memory.reserve(0, 1, &[Reserved { mem: 0, address: 2 }]);
-    assert!(rt; !memory.has_room());
-    assert!(rt; memory.is_locked());
+    let is_full = memory.is_locked() & !memory.has_room();
     memory.write(0, 1, &[Written { mem: 0, value: 7 }]);
-    assert!(rt; !memory.is_ready(2, 2, false));
-    assert!(rt; !memory.is_ready(2, 2, true));
-    assert!(rt; memory.is_ready(1, 2, true));
-    assert_eq!(rt; memory.word(2), 12);
-    assert!(rt; memory.release().is_some());
-    assert_eq!(rt; memory.word(2), 7);
-    assert!(rt; memory.is_ready(2, 2, false));
-    Ok(())
+    let waits = !(memory.is_ready(2, 2, false) | memory.is_ready(2, 2, true));
+    let goes = memory.is_ready(1, 2, true) & (memory.word(2) == 12);
+    let is_released = memory.release().is_some();
+    let is_written = (memory.word(2) == 7) & memory.is_ready(2, 2, false);
+    Ok(is_full & waits & goes & is_released & is_written)
+}
+
+/// Whether another lock waits for the value alone.
+fn waits_for_value(alloc: Global, lock: Lock) -> Result<bool, NoMemory> {
+    let mut memory = Memory::new(alloc, &[10, 11, 12, 13], lock, 2)?;
+    let other = Reserved { mem: 1, address: 3 };
+    memory.reserve(0, 1, &[other, Reserved { mem: 0, address: 2 }]);
+    let has_room = memory.has_room();
+    let waits = memory.is_ready(2, 2, true) & !memory.is_ready(2, 2, false);
+    memory.write(0, 1, &[Written { mem: 0, value: 7 }]);
+    let goes = memory.is_ready(2, 2, false);
+    let reads = (memory.read(2, 2) == 7) & (memory.read(1, 2) == 12);
+    Ok(has_room & waits & goes & reads)
 }
 
 #[test]
-fn the_other_locks_wait_for_the_value(rt: HostRuntime) -> Result<(), Fail> {
-    for lock in [Lock::Bypass(2), Lock::Rename(2)] {
-        let mut memory = Memory::new(rt.alloc(), &[10, 11, 12, 13], lock, 2)?;
-        memory.reserve(
-            0,
-            1,
-            &[
-                Reserved { mem: 1, address: 3 },
-                Reserved { mem: 0, address: 2 },
-            ],
-        );
-        assert!(rt; memory.has_room());
-        assert!(rt; !memory.is_ready(2, 2, false));
-        assert!(rt; memory.is_ready(2, 2, true));
-        memory.write(0, 1, &[Written { mem: 0, value: 7 }]);
-        assert!(rt; memory.is_ready(2, 2, false));
-        assert_eq!(rt; memory.read(2, 2), 7);
-        assert_eq!(rt; memory.read(1, 2), 12);
-    }
-    Ok(())
+fn locks_wait(rt: HostRuntime) {
+    let alloc = rt.alloc();
+    assert!(rt; queue_waits(alloc) == Ok(true));
+    assert!(rt; waits_for_value(alloc, Lock::Bypass(2)) == Ok(true));
+    assert!(rt; waits_for_value(alloc, Lock::Rename(2)) == Ok(true));
 }

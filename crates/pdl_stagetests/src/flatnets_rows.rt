@@ -2,30 +2,34 @@
 use pdl_build::Builder;
 use pdl_flatnets::{Bits, all_taken, value};
 use pdl_form::{Expr, Guard};
-use pdl_kit::Boxed;
+use pdl_kit::{Boxed, NoMemory};
 use pdl_net::Net;
 use pdl_tree::BinaryOp;
-use std::test::Fail;
+use std::alloc::Global;
+
+/// What is always 0; the sum of it and 1; a guard that this sum is 0; whether both the guard and what is always 0 are 1.
+fn emit_cells(alloc: Global, b: &mut Builder) -> Result<[Net; 4], NoMemory> {
+    let (op, width) = (BinaryOp::Add, 1);
+    let x = Boxed::new(alloc, Expr::Variable(0))?;
+    let one = Boxed::new(alloc, Expr::Constant { width, value: 1 })?;
+    let e = Expr::Binary {
+        op,
+        width,
+        a: x,
+        b: one,
+    };
+    let bits = Bits::new(b)?;
+    let sum = value(b, &[bits.zero], &e)?;
+    drop(e);
+    let (var, first) = (0, false);
+    let on = all_taken(bits, b, &[sum], &[Guard { var, first }])?;
+    let off = bits.both(b, bits.zero, on)?;
+    Ok([bits.zero, sum, on, off])
+}
 
 #[test]
-fn cells(rt: HostRuntime) -> Result<(), Fail> {
+fn cells(rt: HostRuntime) {
     let mut b = Builder::new(rt.alloc());
-    let bits = Bits::new(&mut b)?;
-    let e = Expr::Binary {
-        op: BinaryOp::Add,
-        width: 1,
-        a: Boxed::new(rt.alloc(), Expr::Variable(0))?,
-        b: Boxed::new(rt.alloc(), Expr::Constant { width: 1, value: 1 })?,
-    };
-    let sum = value(&mut b, &[bits.zero], &e)?;
-    assert_eq!(rt; sum, Net::Cell(2));
-    let guard = Guard {
-        var: 0,
-        first: false,
-    };
-    let on = all_taken(bits, &mut b, &[sum], &[guard])?;
-    assert_eq!(rt; on, Net::Cell(3));
-    let off = bits.both(&mut b, bits.zero, on)?;
-    assert_eq!(rt; off, bits.zero);
-    Ok(())
+    let [zero, sum, on] = [Net::Cell(1), Net::Cell(2), Net::Cell(3)];
+    assert!(rt; emit_cells(rt.alloc(), &mut b) == Ok([zero, sum, on, zero]));
 }

@@ -7,15 +7,14 @@ ghost use Rattle.pdl_stagenets.specs.Sized.{IsWalkOf, AreWalked};
 use pdl_build::Builder;
 use pdl_flatnets::Bits;
 use pdl_form::{FlatPipe, Next, Op, Stage, Stmt};
-use pdl_kit::Seq;
+use pdl_kit::{NoMemory, Seq};
 use pdl_queue::QueueLock;
-use pdl_stagenets::{MemLock, Setting, WalkNets};
+use pdl_stagenets::{Setting, WalkNets};
 use std::alloc::Global;
-use std::test::Fail;
 
 // One stage, from which a thread without arguments is begun.
 #[tactic(auto, using(pdl_stagenets::proofs::Bare::call_walked))]
-fn caller(alloc: Global) -> Result<FlatPipe, Fail>
+fn caller(alloc: Global) -> Result<FlatPipe, NoMemory>
     ensures walked { IfOk result (λ f. AreWalked (form f) (form f).pipe.stmts) }
     ensures widths { IfOk result (λ f. (form f).widths ≡ []) }
     ensures mems { IfOk result (λ f. (form f).pipe.mems ≡ []) }
@@ -64,24 +63,32 @@ fn begun(alloc: Global, b: &Builder, bits: Bits, pipe: &FlatPipe) -> WalkNets
     }
 }
 
-#[test]
+// Whether nothing is held there, and its walk makes the call alone.
 #[tactic(auto, using(pdl_stagenets::proofs::Bare::no_locks, pdl_stagenets::proofs::Bare::no_tickets))]
-fn called(rt: HostRuntime) -> Result<(), Fail> {
-    let flat = caller(rt.alloc())?;
-    let mut b = Builder::new(rt.alloc());
-    let bits = Bits::new(&mut b)?;
-    let mut nets = begun(rt.alloc(), &b, bits, &flat);
-    let held = nets.is_held(&b, bits, 0, 0);
-    assert_eq!(rt; held, bits.zero);
-    let locks: Vec<Option<MemLock<QueueLock>>> = Vec::new(rt.alloc());
-    let setting = Setting {
-        pipe: &flat,
+fn is_called(alloc: Global, b: &mut Builder, flat: &FlatPipe) -> Result<bool, NoMemory>
+    requires walked { AreWalked (form flat.now) (form flat.now).pipe.stmts }
+    requires widths { (form flat.now).widths ≡ [] }
+    requires mems { (form flat.now).pipe.mems ≡ [] }
+    requires stages { length (form flat.now).pipe.stages ≡ 1 }
+{
+    let bits = Bits::new(b)?;
+    let mut nets = begun(alloc, b, bits, flat);
+    let held = nets.is_held(b, bits, 0, 0);
+    let setting: Setting<'_, QueueLock> = Setting {
+        pipe: flat,
         bits,
-        locks: locks.as_slice(),
+        locks: &[],
         tickets: &[],
     };
-    nets.walk(rt.alloc(), &mut b, &setting, 0)?;
-    assert_eq!(rt; nets.births.len(), 1);
-    assert_eq!(rt; nets.ready, bits.one);
+    nets.walk(alloc, b, &setting, 0)?;
+    let is_free = (held == bits.zero) & (nets.ready == bits.one);
+    Ok(is_free & (nets.births.len() == 1))
+}
+
+#[test]
+fn called(rt: HostRuntime) -> Result<(), NoMemory> {
+    let flat = caller(rt.alloc())?;
+    let mut b = Builder::new(rt.alloc());
+    assert!(rt; is_called(rt.alloc(), &mut b, &flat) == Ok(true));
     Ok(())
 }

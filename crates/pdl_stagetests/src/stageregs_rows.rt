@@ -8,12 +8,10 @@ ghost use Rattle.pdl_stageregs.specs.Staged.{IsPlainLine};
 use pdl_build::Builder;
 use pdl_flatnets::Bits;
 use pdl_form::{Expr, FlatPipe, Next, Op, Stage, Stmt};
-use pdl_kit::Seq;
+use pdl_kit::{NoMemory, Seq};
 use pdl_queue::QueueLock;
-use pdl_stagenets::MemLock;
-use pdl_stageregs::{Item, line, stages};
+use pdl_stageregs::{Item, StageNets, line, stages};
 use std::alloc::Global;
-use std::test::Fail;
 
 fn stage(next: Next) -> Stage
     ensures { result ≡ record { next = next; branch = None; merges = None } }
@@ -26,7 +24,7 @@ fn stage(next: Next) -> Stage
 }
 
 // Two stages, of which the second begins a thread with the same argument.
-fn caller(alloc: Global) -> Result<FlatPipe, Fail>
+fn caller(alloc: Global) -> Result<FlatPipe, NoMemory>
     ensures typed { IfOk result (λ f. IsTypedForm (form f)) }
     ensures walked { IfOk result (λ f. AreWalked (form f) (form f).pipe.stmts) }
     ensures plain { IfOk result (λ f. IsPlainLine (form f).pipe) }
@@ -53,33 +51,47 @@ fn caller(alloc: Global) -> Result<FlatPipe, Fail>
     Ok(flat)
 }
 
-#[test]
+// Whether each stage keeps the argument.
 #[tactic(auto, using(pdl_stagenets::proofs::Bare::no_locks))]
-fn registers(rt: HostRuntime) -> Result<(), Fail> {
-    let alloc = rt.alloc();
-    let pipe = caller(alloc)?;
-    let mut b = Builder::new(alloc);
-    let bits = Bits::new(&mut b)?;
-    let locks: Vec<Option<MemLock<QueueLock>>> = Vec::new(alloc);
-    let made = stages(alloc, &mut b, &pipe, bits, locks.as_slice())?;
-    assert_eq!(rt; made.len(), 2);
-    assert_eq!(rt; made[0].kept.len(), 1);
-    assert_eq!(rt; made[1].kept.len(), 1);
-    assert!(rt; matches!(made[1].kept.as_slice()[0], Item::Var(0)));
-    Ok(())
+fn keeps_argument(alloc: Global, b: &mut Builder, pipe: &FlatPipe) -> Result<bool, NoMemory>
+    requires typed { IsTypedForm (form pipe.now) }
+    requires walked { AreWalked (form pipe.now) (form pipe.now).pipe.stmts }
+    requires mems { (form pipe.now).pipe.mems ≡ [] }
+    requires reserves { (form pipe.now).pipe.reserves_at ≡ [] }
+    requires releases { (form pipe.now).pipe.releases_at ≡ [] }
+{
+    let bits = Bits::new(b)?;
+    let made = stages::<QueueLock>(alloc, b, pipe, bits, &[])?;
+    Ok(matches!(made.as_slice(), [first, second] if first.kept.len() == 1 && is_argument(second)))
+}
+
+// Whether a stage keeps the argument alone.
+fn is_argument(nets: &StageNets) -> bool {
+    matches!(nets.kept.as_slice(), [Item::Var(0)])
+}
+
+// How many stages there are, how many of them move, and how many registers they have.
+#[tactic(auto, using(pdl_stagenets::proofs::Bare::no_locks))]
+fn line_sizes(alloc: Global, b: &mut Builder, pipe: &FlatPipe) -> Result<[usize; 3], NoMemory>
+    requires typed { IsTypedForm (form pipe.now) }
+    requires walked { AreWalked (form pipe.now) (form pipe.now).pipe.stmts }
+    requires plain { IsPlainLine (form pipe.now).pipe }
+    requires mems { (form pipe.now).pipe.mems ≡ [] }
+    requires reserves { (form pipe.now).pipe.reserves_at ≡ [] }
+    requires releases { (form pipe.now).pipe.releases_at ≡ [] }
+{
+    let bits = Bits::new(b)?;
+    let nets = line::<QueueLock>(alloc, b, pipe, bits, &[])?;
+    Ok([nets.stages.len(), nets.moves.len(), b.reg_count()])
 }
 
 #[test]
-#[tactic(auto, using(pdl_stagenets::proofs::Bare::no_locks))]
-fn whole(rt: HostRuntime) -> Result<(), Fail> {
+fn registers(rt: HostRuntime) -> Result<(), NoMemory> {
     let alloc = rt.alloc();
     let pipe = caller(alloc)?;
     let mut b = Builder::new(alloc);
-    let bits = Bits::new(&mut b)?;
-    let locks: Vec<Option<MemLock<QueueLock>>> = Vec::new(alloc);
-    let nets = line(alloc, &mut b, &pipe, bits, locks.as_slice())?;
-    assert_eq!(rt; nets.stages.len(), 2);
-    assert_eq!(rt; nets.moves.len(), 2);
-    assert_eq!(rt; b.reg_count(), 4);
+    assert!(rt; keeps_argument(alloc, &mut b, &pipe) == Ok(true));
+    let mut b = Builder::new(alloc);
+    assert!(rt; line_sizes(alloc, &mut b, &pipe) == Ok([2, 2, 4]));
     Ok(())
 }

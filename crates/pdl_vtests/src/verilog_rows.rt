@@ -1,10 +1,12 @@
 // Texts that netlists are given, and netlists that differ in one place.
+ghost use Rattle.std.specs.Prelude.{◌≤◌, length};
+
 use pdl_kit::Seq;
-use pdl_net::{Cell, Net, Reg};
+use pdl_net::{Cell, Net, Netlist, Reg};
 use pdl_netsame::is_same_netlist;
 use pdl_verilog::verilog_text;
 use pdl_vread::read_verilog;
-use std::test::Fail;
+use std::alloc::Global;
 
 // A memory with a lock whose words go down by turns, as it is written.
 const COUNTS: &[u8] =
@@ -61,37 +63,79 @@ always @(posedge clk) r0 <= rst ? 4'ha : n5;
 endmodule
 ";
 
-// What is read of a text is given that text.
-#[test]
-fn gives(rt: HostRuntime) -> Result<(), Fail> {
-    for text in [COUNTS, CELLS] {
-        let netlist = read_verilog(rt.alloc(), text)?;
-        assert_eq!(rt; verilog_text(rt.alloc(), &netlist)?.as_slice(), text);
+// Whether what is read of a text is given that text.
+fn is_given_back(alloc: Global, text: &[u8]) -> bool {
+    if text.len() > 1_000_000 {
+        return false;
     }
-    Ok(())
+    let Ok(netlist) = read_verilog(alloc, text) else {
+        return false;
+    };
+    match verilog_text(alloc, &netlist) {
+        Ok(given) => given.as_slice() == text,
+        Err(_) => false,
+    }
+}
+
+#[test]
+fn gives(rt: HostRuntime) {
+    assert!(rt; is_given_back(rt.alloc(), COUNTS));
+    assert!(rt; is_given_back(rt.alloc(), CELLS));
+}
+
+// Puts a register of 2 bits with a reset value in the place of all registers.
+fn put_reg(alloc: Global, netlist: &mut Netlist, reset: u64) {
+    let reg = Reg {
+        width: 2,
+        reset,
+        next: Net::Cell(2),
+    };
+    if let Ok(regs) = Seq::copy_of(alloc, &[reg]) {
+        netlist.regs = regs;
+    }
+}
+
+// Puts a cell in the place of another.
+fn put_cell(alloc: Global, netlist: &mut Netlist, at: usize, cell: Cell) {
+    if let Ok(mut cells) = Vec::from_slice(alloc, netlist.cells.as_slice()) {
+        if let Some(old) = cells.get_mut(at) {
+            *old = cell;
+        }
+        netlist.cells = Seq::from_vec(cells);
+    }
+}
+
+// Whether a netlist is the same as another, as read, with another reset value, with the old one, and with another cell.
+fn compared(alloc: Global, netlist: &Netlist, mut other: Netlist) -> [bool; 4] {
+    let as_read = is_same_netlist(netlist, &other);
+    put_reg(alloc, &mut other, 2);
+    let other_reset = is_same_netlist(netlist, &other);
+    put_reg(alloc, &mut other, 3);
+    let old_reset = is_same_netlist(netlist, &other);
+    put_cell(alloc, &mut other, 1, Cell::Const { width: 2, value: 2 });
+    let other_cell = is_same_netlist(netlist, &other);
+    [as_read, other_reset, old_reset, other_cell]
+}
+
+// The same of two netlists that are read of one text.
+fn compared_as_read(alloc: Global, text: &[u8]) -> Option<[bool; 4]> {
+    if text.len() > 1_000_000 {
+        return None;
+    }
+    let Ok(netlist) = read_verilog(alloc, text) else {
+        return None;
+    };
+    let Ok(other) = read_verilog(alloc, text) else {
+        return None;
+    };
+    Some(compared(alloc, &netlist, other))
 }
 
 // A netlist is the same as another only where the reset values and the cells are.
 #[test]
-fn differ(rt: HostRuntime) -> Result<(), Fail> {
-    let alloc = rt.alloc();
-    let netlist = read_verilog(alloc, COUNTS)?;
-    let mut other = read_verilog(alloc, COUNTS)?;
-    assert!(rt; is_same_netlist(&netlist, &other));
-    let reg = Reg {
-        width: 2,
-        reset: 2,
-        next: Net::Cell(2),
-    };
-    other.regs = Seq::copy_of(alloc, &[reg])?;
-    assert!(rt; !is_same_netlist(&netlist, &other));
-    other.regs = Seq::copy_of(alloc, netlist.regs.as_slice())?;
-    assert!(rt; is_same_netlist(&netlist, &other));
-    let mut cells = Vec::from_slice(alloc, netlist.cells.as_slice())?;
-    if let Some(cell) = cells.get_mut(1) {
-        *cell = Cell::Const { width: 2, value: 2 };
-    }
-    other.cells = Seq::from_vec(cells);
-    assert!(rt; !is_same_netlist(&netlist, &other));
-    Ok(())
+fn differ(rt: HostRuntime) {
+    assert_eq!(rt;
+        compared_as_read(rt.alloc(), COUNTS),
+        Some([true, false, true, false])
+    );
 }

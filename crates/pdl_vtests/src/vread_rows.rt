@@ -1,17 +1,11 @@
 // Texts that are read, and texts that are refused.
-use pdl_kit::{NoMemory, Rule};
-use pdl_net::{Cell, Net};
+ghost use Rattle.std.specs.Prelude.{◌≤◌, length};
+
+use pdl_kit::Rule;
+use pdl_net::{Cell, Dir, Net, Netlist, Reg, WritePort};
 use pdl_vread::{VError, read_verilog};
 use std::alloc::Global;
-use std::test::Fail;
-
-const HEAD: &[u8] =
-    b"module pdl_p(input wire clk, input wire [0:0] rst, output wire [0:0] v_0, output wire [0:0] g_0, output wire [0:0] ended, output wire [0:0] squash);\n";
-
-const TAIL: &[u8] =
-    b"assign v_0 = n0;\nassign g_0 = n0;\nassign ended = n0;\nassign squash = n0;\nendmodule";
-
-const ZERO: &[u8] = b"wire [0:0] n0; assign n0 = 1'h0;\n";
+use std::process::Abort;
 
 // A memory with a lock, which is written at each cycle; its names are out of order.
 const COMMITS: &[u8] =
@@ -27,163 +21,200 @@ always @(posedge clk) r7 <= rst ? 2'h3 : r7;
 always @(posedge clk) begin if (n5) a_m[r7] <= n2; end
 endmodule";
 
-// A text with these declarations before the outputs.
-fn text(alloc: Global, declared: &[u8]) -> Result<Vec<u8>, NoMemory> {
-    let mut text = Vec::from_slice(alloc, HEAD)?;
-    text.extend_from_slice(declared)?;
-    text.extend_from_slice(TAIL)?;
-    Ok(text)
+// Whether a netlist has the array that the text declares, with its write, and its memory.
+fn has_memory(netlist: &Netlist) -> bool {
+    let write = WritePort {
+        enable: Net::Cell(0),
+        addr: Net::Reg(0),
+        value: Net::Cell(1),
+    };
+    let Some(array) = netlist.arrays.as_slice().first() else {
+        return false;
+    };
+    let Some(mem) = netlist.mems.as_slice().first() else {
+        return false;
+    };
+    array.name.as_bytes() == b"m".as_slice()
+        && array.depth == 4
+        && array.writes.as_slice().first() == Some(&write)
+        && mem.depth == 4
+}
+
+// Whether it has the text's name, port `squash`, register and second cell.
+fn has_rest(netlist: &Netlist) -> bool {
+    let reg = Reg {
+        width: 2,
+        reset: 3,
+        next: Net::Reg(0),
+    };
+    let cell = Cell::Read {
+        array: 0,
+        addr: Net::Reg(0),
+    };
+    let Some(squash) = netlist.ports.as_slice().get(6) else {
+        return false;
+    };
+    netlist.name.as_bytes() == b"p".as_slice()
+        && squash.dir == Dir::Out(Net::Cell(0))
+        && netlist.regs.as_slice().first() == Some(&reg)
+        && netlist.cells.as_slice().get(1) == Some(&cell)
+}
+
+// Whether a text is read as the netlist of `COMMITS`.
+fn reads_commits(alloc: Global, text: &[u8]) -> bool {
+    if text.len() > 1_000_000 {
+        return false;
+    }
+    match read_verilog(alloc, text) {
+        Ok(netlist) => has_memory(&netlist) && has_rest(&netlist),
+        Err(_) => false,
+    }
 }
 
 #[test]
-fn reads(rt: HostRuntime) -> Result<(), Fail> {
-    let netlist = read_verilog(rt.alloc(), COMMITS)?;
-    assert_eq!(rt; netlist.name.as_bytes(), b"p".as_slice());
-    let squash = netlist.ports.as_slice().get(6).expect(&rt, "squash");
-    assert_eq!(rt; squash.dir, pdl_net::Dir::Out(Net::Cell(0)));
-    let r7 = netlist.regs.as_slice().first().expect(&rt, "r7");
-    assert_eq!(rt; r7.reset, 3);
-    assert_eq!(rt; r7.next, Net::Reg(0));
-    let array = netlist.arrays.as_slice().first().expect(&rt, "a_m");
-    assert_eq!(rt; array.name.as_bytes(), b"m".as_slice());
-    assert_eq!(rt; array.depth, 4);
-    let write = array.writes.as_slice().first().expect(&rt, "a write");
-    assert_eq!(rt; write.value, Net::Cell(1));
-    let read = netlist.cells.as_slice().get(1).expect(&rt, "n2");
-    assert_eq!(rt;
-        *read,
-        Cell::Read {
-            array: 0,
-            addr: Net::Reg(0)
-        }
-    );
-    let mem = netlist.mems.as_slice().first().expect(&rt, "m");
-    assert_eq!(rt; mem.depth, 4);
-    Ok(())
+fn reads(rt: HostRuntime) {
+    assert!(rt; reads_commits(rt.alloc(), COMMITS));
+}
+
+const HEAD: &[u8] =
+    b"module pdl_p(input wire clk, input wire [0:0] rst, output wire [0:0] v_0, output wire [0:0] g_0, output wire [0:0] ended, output wire [0:0] squash);\n";
+
+const TAIL: &[u8] =
+    b"assign v_0 = n0;\nassign g_0 = n0;\nassign ended = n0;\nassign squash = n0;\nendmodule";
+
+// A text with these declarations before the outputs.
+fn text(alloc: Global, declared: &[u8]) -> Vec<u8> {
+    let mut text = Vec::new(alloc);
+    for part in [HEAD, declared, TAIL] {
+        let _ = text.extend_from_slice(part);
+    }
+    text
 }
 
 // Whether a text is refused by a rule at a line.
 fn is_refused(alloc: Global, text: &[u8], rule: Rule, line: u32) -> bool {
-    if text.len() > 268_435_456 {
+    if text.len() > 1_000_000 {
         return false;
     }
     read_verilog(alloc, text).err() == Some(VError::Refused { rule, line })
 }
 
-// Whether a text with these declarations before the outputs is.
-fn refuses(alloc: Global, declared: &[u8], rule: Rule, line: u32) -> Result<bool, NoMemory> {
-    let text = text(alloc, declared)?;
-    Ok(is_refused(alloc, text.as_slice(), rule, line))
+// Whether one with these declarations before the outputs is.
+fn refuses(alloc: Global, declared: &[u8], rule: Rule, line: u32) -> bool {
+    let text = text(alloc, declared);
+    is_refused(alloc, text.as_slice(), rule, line)
 }
 
-#[test]
-fn refuses_words(rt: HostRuntime) -> Result<(), Fail> {
-    let rows: [(&[u8], u32); 4] = [
-        (b"wire [0:0] n0; assign n0 = 1'h0\n", 3),
-        (b"wire [0:0] n0; assign n0 = 1'h0;\nreg [0:0] r0;\n", 3),
-        (b"wire [0:0] n0; assign n0 = 1'h00000000000000000000;\n", 2),
-        (b"wire [0:0] n0; assign n0 = 1 'h0;\n", 2),
-    ];
-    for (declared, line) in rows {
-        assert_eq!(rt; refuses(rt.alloc(), declared, Rule::V1, line)?, true);
+const REFUSED: [(&[u8], Rule, u32); 21] = [
+    (b"wire [0:0] n0; assign n0 = 1'h0\n", Rule::V1, 3),
+    (
+        b"wire [0:0] n0; assign n0 = 1'h0;\nreg [0:0] r0;\n",
+        Rule::V1,
+        3,
+    ),
+    (
+        b"wire [0:0] n0; assign n0 = 1'h00000000000000000000;\n",
+        Rule::V1,
+        2,
+    ),
+    (b"wire [0:0] n0; assign n0 = 1 'h0;\n", Rule::V1, 2),
+    (b"wire [0:0] n0; assign n0 = ~r0;\n", Rule::V2, 2),
+    (
+        b"wire [0:0] n0; assign n0 = ~n1;\nwire [0:0] n1; assign n1 = 1'h0;\n",
+        Rule::V2,
+        2,
+    ),
+    (b"wire [0:0] n0; assign n1 = 1'h0;\n", Rule::V2, 2),
+    (b"wire [0:0] n0;\nassign n0 = a_m[n0];\n", Rule::V2, 3),
+    (
+        b"wire [0:0] n0; assign n0 = 1'h2;\nwire [0:0] n1; assign n1 = ~n9;\n",
+        Rule::V2,
+        3,
+    ),
+    (
+        b"wire [0:0] n0; assign n0 = 1'h0;\nassign c_m = n0;\n",
+        Rule::V2,
+        3,
+    ),
+    (b"wire [0:0] n0; assign n0 = 0'h0;\n", Rule::V3, 2),
+    (b"wire [0:0] n0; assign n0 = 1'h2;\n", Rule::V3, 2),
+    (
+        b"wire [64:0] n1; assign n1 = 65'h0;\nwire [0:0] n0; assign n0 = 1'h0;\n",
+        Rule::V3,
+        2,
+    ),
+    (
+        b"reg [0:0] a_m [0:2];\nwire [0:0] n0; assign n0 = 1'h0;\n",
+        Rule::V3,
+        2,
+    ),
+    (
+        b"wire [0:0] n0; assign n0 = 1'h0;\nwire [1:0] n1; assign n1 = n0 + n0;\n",
+        Rule::V3,
+        3,
+    ),
+    (
+        b"wire [0:0] n0; assign n0 = 1'h0;\nwire [0:0] n0; assign n0 = 1'h2;\n",
+        Rule::V3,
+        3,
+    ),
+    (
+        b"wire [0:0] n0; assign n0 = 1'h0;\nwire [0:0] n0; assign n0 = 1'h1;\n",
+        Rule::V4,
+        3,
+    ),
+    (
+        b"reg [0:0] r0;\nwire [0:0] n0; assign n0 = 1'h0;\n",
+        Rule::V4,
+        2,
+    ),
+    (
+        b"wire [0:0] n0; assign n0 = 1'h0;\nassign g_0 = n0;\n",
+        Rule::V4,
+        1,
+    ),
+    (
+        b"reg [0:0] a_m [0:1];\nreg [0:0] a_m [0:1];\nwire [0:0] n0; assign n0 = 1'h0;\n",
+        Rule::V4,
+        3,
+    ),
+    (
+        b"reg [0:0] a_m [0:131071];\nwire [0:0] n0; assign n0 = 1'h0;\n",
+        Rule::V5,
+        1,
+    ),
+];
+
+fn ask_refused(rt: &impl Abort, alloc: Global, rows: &[(&[u8], Rule, u32)]) {
+    for row in rows {
+        let (declared, rule, line) = *row;
+        assert!(rt; refuses(alloc, declared, rule, line));
     }
-    assert_eq!(rt; is_refused(rt.alloc(), b"", Rule::V1, 1), true);
-    Ok(())
 }
 
 #[test]
-fn refuses_names(rt: HostRuntime) -> Result<(), Fail> {
-    let rows: [(&[u8], u32); 6] = [
-        (b"wire [0:0] n0; assign n0 = ~r0;\n", 2),
-        (
-            b"wire [0:0] n0; assign n0 = ~n1;\nwire [0:0] n1; assign n1 = 1'h0;\n",
-            2,
-        ),
-        (b"wire [0:0] n0; assign n1 = 1'h0;\n", 2),
-        (b"wire [0:0] n0;\nassign n0 = a_m[n0];\n", 3),
-        (
-            b"wire [0:0] n0; assign n0 = 1'h2;\nwire [0:0] n1; assign n1 = ~n9;\n",
-            3,
-        ),
-        (b"wire [0:0] n0; assign n0 = 1'h0;\nassign c_m = n0;\n", 3),
-    ];
-    for (declared, line) in rows {
-        assert_eq!(rt; refuses(rt.alloc(), declared, Rule::V2, line)?, true);
-    }
-    Ok(())
+fn refuses_declarations(rt: HostRuntime) {
+    ask_refused(&rt, rt.alloc(), &REFUSED);
 }
 
-#[test]
-fn refuses_widths(rt: HostRuntime) -> Result<(), Fail> {
-    let rows: [(&[u8], u32); 6] = [
-        (b"wire [0:0] n0; assign n0 = 0'h0;\n", 2),
-        (b"wire [0:0] n0; assign n0 = 1'h2;\n", 2),
-        (
-            b"wire [64:0] n1; assign n1 = 65'h0;\nwire [0:0] n0; assign n0 = 1'h0;\n",
-            2,
-        ),
-        (
-            b"reg [0:0] a_m [0:2];\nwire [0:0] n0; assign n0 = 1'h0;\n",
-            2,
-        ),
-        (
-            b"wire [0:0] n0; assign n0 = 1'h0;\nwire [1:0] n1; assign n1 = n0 + n0;\n",
-            3,
-        ),
-        (
-            b"wire [0:0] n0; assign n0 = 1'h0;\nwire [0:0] n0; assign n0 = 1'h2;\n",
-            3,
-        ),
-    ];
-    for (declared, line) in rows {
-        assert_eq!(rt; refuses(rt.alloc(), declared, Rule::V3, line)?, true);
-    }
-    Ok(())
-}
+const NO_STAGE: &[u8] =
+    b"module pdl_p(input wire clk, input wire [0:0] rst, output wire [0:0] ended, output wire [0:0] squash);\nwire [0:0] n0; assign n0 = 1'h0;\nassign ended = n0; assign squash = n0;\nendmodule\n";
 
 #[test]
-fn refuses_drives(rt: HostRuntime) -> Result<(), Fail> {
-    let rows: [(&[u8], u32); 4] = [
-        (
-            b"wire [0:0] n0; assign n0 = 1'h0;\nwire [0:0] n0; assign n0 = 1'h1;\n",
-            3,
-        ),
-        (b"reg [0:0] r0;\nwire [0:0] n0; assign n0 = 1'h0;\n", 2),
-        (b"wire [0:0] n0; assign n0 = 1'h0;\nassign g_0 = n0;\n", 1),
-        (
-            b"reg [0:0] a_m [0:1];\nreg [0:0] a_m [0:1];\nwire [0:0] n0; assign n0 = 1'h0;\n",
-            3,
-        ),
-    ];
-    for (declared, line) in rows {
-        assert_eq!(rt; refuses(rt.alloc(), declared, Rule::V4, line)?, true);
-    }
-    Ok(())
-}
-
-#[test]
-fn refuses_pipes(rt: HostRuntime) -> Result<(), Fail> {
-    let deep = b"reg [0:0] a_m [0:131071];\nwire [0:0] n0; assign n0 = 1'h0;\n";
-    assert_eq!(rt; refuses(rt.alloc(), deep.as_slice(), Rule::V5, 1)?, true);
-    let no_stage =
-        b"module pdl_p(input wire clk, input wire [0:0] rst, output wire [0:0] ended, output wire [0:0] squash);\nwire [0:0] n0; assign n0 = 1'h0;\nassign ended = n0; assign squash = n0;\nendmodule\n";
-    assert_eq!(rt;
-        is_refused(rt.alloc(), no_stage.as_slice(), Rule::V5, 1),
-        true
-    );
-    Ok(())
+fn refuses_texts(rt: HostRuntime) {
+    assert!(rt; is_refused(rt.alloc(), b"", Rule::V1, 1));
+    assert!(rt; is_refused(rt.alloc(), NO_STAGE, Rule::V5, 1));
 }
 
 // A text that ends too early is refused at the line on which it ends.
 #[test]
-fn refuses_prefixes(rt: HostRuntime) -> Result<(), Fail> {
-    let text = text(rt.alloc(), ZERO)?;
+fn refuses_prefixes(rt: HostRuntime) {
+    let text = text(rt.alloc(), b"wire [0:0] n0; assign n0 = 1'h0;\n");
     let mut line: u32 = 1;
     for n in 0..text.len() {
-        assert_eq!(rt; is_refused(rt.alloc(), &text[..n], Rule::V1, line), true);
+        assert!(rt; is_refused(rt.alloc(), &text[..n], Rule::V1, line));
         if text[n] == b'\n' {
             line = line.saturating_add(1);
         }
     }
-    Ok(())
 }

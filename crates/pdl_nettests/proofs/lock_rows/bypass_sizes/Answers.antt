@@ -1,8 +1,8 @@
 use Rattle.std.proofs.Common.{refl, arith}
-use Rattle.pdl_nettests.proofs.bypass_rows.one_array_of_the_depth.Goals as goal
+use Rattle.pdl_nettests.proofs.lock_rows.bypass_sizes.Goals as goal
 
-pub emit_writer-requires-clause-suits : goal.emit_writer-requires-clause-suits
-emit_writer-requires-clause-suits g c =
+pub sizes-requires-clause-suits : goal.sizes-requires-clause-suits
+sizes-requires-clause-suits c =
     let e = c.in_ok-mem.ensures in
     record {
       sizes = record {
