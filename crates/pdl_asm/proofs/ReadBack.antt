@@ -12,6 +12,7 @@ use Rattle.std.proofs.lemmas.Int.Digits.{digits_value_push}
 use Rattle.std.proofs.lemmas.List.Folds.{list_all-append}
 use Rattle.std.proofs.lemmas.Str.{digit_value-digit_char}
 use Rattle.std.proofs.lemmas.Str.Parse.{digit_from_value}
+use Rattle.pdl_word.proofs.Digits.{GivesHex, decimal_digits, are_hex_digits, hex_value}
 use Rattle.pdl_kit.specs.declared.mem_info.MemInfo.{MemInfo}
 use Rattle.pdl_semantics.specs.Lines.{hex, hex_digit, hex_digits}
 use Rattle.pdl_image.specs.Images.{are_digits, image as image_read, is_digit_of, is_name}
@@ -23,93 +24,17 @@ use Rattle.pdl_asm.specs.ReadBack.{IsReadBack, Takes, lines_in, word_in, words_i
 use Rattle.pdl_asm.proofs.Taking.{addresses_are}
 use Rattle.pdl_asm.proofs.WordsFit.{written_fits}
 
--- ---- decimal digits
+-- ---- digits
 
-ten : (c : ℕ) → digit_value c < 10 → is_digit_of 10 c ≡ true
-ten c h =
-    let r = digit_from_value c h in
-    let low : leb 65 c ≡ false = lt-leb 65 c (omega (arith, r)) in
-    and_from _ _ (lt-ltb _ _ h) (ap (λ b. not (b && leb c 90)) low)
-
-all_ten : (ds : List ℕ) → AllDigits 10 ds → list_all (is_digit_of 10) ds ≡ true
-all_ten [] h = refl
-all_ten (d ∷ ds) h = and_from _ _ (ten d h.0) (all_ten ds h.1)
-
-decimal_digits : (n : ℕ) → n < 65536 → are_digits 10 10 (decimal n) ≡ true
-decimal_digits n h =
-    let d = (decimal_is_IsNumeral n (omega (arith, h))).0 in
-    and_from _ _ (all_ten (decimal n) d.1)
-    (and_from _ _ (le-leb 1 (length (decimal n)) (omega (arith, d.0))) (le-leb (length (decimal n)) 10 (length-decimal-le 10 n (omega arith) (omega (arith, h)) (omega (arith, h)))))
+-- `hex` gives digits as they are meant there
+hex_given : GivesHex hex
+hex_given = record {
+  none = λ v. refl;
+  more = λ n v. refl;
+}
 
 decimal_value : (n : ℕ) → n < 65536 → n ≡ digits_value 10 (decimal n)
 decimal_value n h = sym (decimal_is_IsNumeral n (omega (arith, h))).1
-
--- ---- hexadecimal digits
-
-not_both : (b : Bool) → not (b && false) ≡ true
-not_both true = refl
-not_both false = refl
-
-no_capital : (d : ℕ) → not (leb 65 (hex_digit d) && leb (hex_digit d) 90) ≡ true
-no_capital d = elim (cases_lt d 10) [
-  | inl h ↦
-      let e : hex_digit d ≡ 48 + d = ap (λ b. if b then 48 + d else 87 + d) (lt-ltb d 10 h) in
-      let low : leb 65 (48 + d) ≡ false = lt-leb 65 (48 + d) (omega (arith, h)) in
-      ap (λ c. not (leb 65 c && leb c 90)) e ∙ ap (λ b. not (b && leb (48 + d) 90)) low
-  | inr h ↦
-      let e : hex_digit d ≡ 87 + d = ap (λ b. if b then 48 + d else 87 + d) (le-ltb d 10 h) in
-      let high : leb (87 + d) 90 ≡ false = lt-leb (87 + d) 90 (omega (arith, h)) in
-      ap (λ c. not (leb 65 c && leb c 90)) e ∙ ap (λ b. not (leb 65 (87 + d) && b)) high ∙ not_both (leb 65 (87 + d))
-]
-
-hex_digit_value : (d : ℕ) → d < 16 → digit_value (hex_digit d) ≡ d
-hex_digit_value d h = digit_value-digit_char d (omega (arith, h))
-
-sixteen : (d : ℕ) → d < 16 → is_digit_of 16 (hex_digit d) ≡ true
-sixteen d h =
-    let small : digit_value (hex_digit d) < 16 = omega (arith, hex_digit_value d h, h) in
-    and_from _ _ (lt-ltb _ _ small) (no_capital d)
-
-all_sixteen : (n v : ℕ) → list_all (is_digit_of 16) (hex n v) ≡ true
-all_sixteen zero v = refl
-all_sixteen (suc n) v =
-    list_all-append (is_digit_of 16) (hex n (v / 16)) (hex_digit (v % 16) ∷ [])
-    ∙ and_from _ _ (all_sixteen n (v / 16)) (and_from _ _ (sixteen (v % 16) (mod-lt v {m = 16} (omega arith))) refl)
-
-hex_length : (n v : ℕ) → length (hex n v) ≡ n
-hex_length zero v = refl
-hex_length (suc n) v = length-append (hex n (v / 16)) (hex_digit (v % 16) ∷ []) ∙ omega (arith, hex_length n (v / 16))
-
-hex_value : (n v : ℕ) → v < 16 ^ n → digits_value 16 (hex n v) ≡ v
-hex_value zero v h = omega (arith, h)
-hex_value (suc n) v h =
-    let high : v / 16 < 16 ^ n = (div-lt_iff_lt-mul {k = 16} {x = v} {y = 16 ^ n} (omega arith)).1 (omega (arith, h, pow-suc 16 n)) in
-    let last : digit_value (hex_digit (v % 16)) ≡ v % 16 = hex_digit_value (v % 16) (mod-lt v {m = 16} (omega arith)) in
-    digits_value_push 16 (hex n (v / 16)) (hex_digit (v % 16))
-    ∙ omega (arith, hex_value n (v / 16) high, last, div-add-mod v 16)
-
-four_bits : (k : ℕ) → 2 ^ (4 * k) ≡ 16 ^ k
-four_bits zero = refl
-four_bits (suc k) =
-    let e : 4 * suc k ≡ 4 * k + 4 = omega arith in
-    ap (λ n. 2 ^ n) e ∙ pow-add 2 (4 * k) 4 ∙ ap (λ n. n * 16) (four_bits k) ∙ sym (pow-suc 16 k)
-
--- a word's digits hold it
-digits_hold : (w : ℕ) → 2 ^ w ≤ 16 ^ hex_digits w
-digits_hold w =
-    let wide : w ≤ 4 * ((w + 3) / 4) = omega (arith, div-add-mod (w + 3) 4, mod-lt (w + 3) {m = 4} (omega arith)) in
-    let four : 2 ^ (4 * ((w + 3) / 4)) ≡ 16 ^ ((w + 3) / 4) = four_bits ((w + 3) / 4) in
-    let more : 2 ^ w ≤ 2 ^ (4 * ((w + 3) / 4)) = pow-le-pow_right (omega arith) {i = w} {j = 4 * ((w + 3) / 4)} wide in
-    let all : 2 ^ w ≤ 16 ^ ((w + 3) / 4) = omega (arith, more, four) in
-    all
-
-hex_are_digits : (w v : ℕ) → 1 ≤ w → w ≤ 64 → are_digits 16 16 (hex (hex_digits w) v) ≡ true
-hex_are_digits w v low high =
-    let n : length (hex (hex_digits w) v) ≡ (w + 3) / 4 = hex_length (hex_digits w) v in
-    let parts = div-add-mod (w + 3) 4 in
-    let left = mod-lt (w + 3) {m = 4} (omega arith) in
-    and_from _ _ (all_sixteen (hex_digits w) v)
-    (and_from _ _ (le-leb 1 (length (hex (hex_digits w) v)) (omega (arith, n, parts, left, low))) (le-leb (length (hex (hex_digits w) v)) 16 (omega (arith, n, parts, left, high))))
 
 -- ---- the lines
 
@@ -127,9 +52,9 @@ fed t a v =
 word_said : (t : TableValue) (a v : ℕ) → IsTable t → a < 65536 → v < 2 ^ t.word → Says (line_of_word t a v) t.mem a v
 unfolding line_of_word
 word_said t a v h l s =
-    let fits : v < 16 ^ hex_digits t.word = omega (arith, s, digits_hold t.word) in
     says t.mem (decimal a) (hex (hex_digits t.word) v) a v (and_parts (is_name t.mem) _ h.mem).0
-    (decimal_digits a l) (hex_are_digits t.word v h.low h.high) (decimal_value a l) (sym (hex_value (hex_digits t.word) v fits))
+    (decimal_digits 10 a (omega arith) (omega (arith, l)) (omega (arith, l))) (are_hex_digits hex hex_given t.word v h.low h.high)
+    (decimal_value a l) (sym (hex_value hex hex_given t.word v s))
 
 -- an address is below 65,536
 below_all : (a : ℕ) → a < addresses → a < 65536

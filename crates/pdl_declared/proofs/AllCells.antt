@@ -14,12 +14,12 @@ use Rattle.pdl_vtext.specs.declared.file.Term.{Term}
 use Rattle.pdl_vtext.specs.declared.file.Term.TheVariants as t
 use Rattle.pdl_vtext.specs.Words.{is_name}
 use Rattle.pdl_vlog.specs.Layout.{net, array, range, operator, term, wire, cell, cells}
-use Rattle.pdl_declared.proofs.Names.{IsOperandText}
-use Rattle.pdl_declared.proofs.Reading.{CompletesFile}
-use Rattle.pdl_declared.proofs.Declared.{range_split}
-use Rattle.pdl_declared.proofs.Terms.{add_cell, cell_decl, CompletesTerm, Continues, const_term, not_term, bin_term, mux_term}
-use Rattle.pdl_declared.proofs.Braced.{slice_term, cat_term, rep_term, read_term}
-use Rattle.pdl_declared.proofs.Cells.{cell_head}
+use Rattle.pdl_printed.proofs.Names.{IsOperandText}
+use Rattle.pdl_printed.proofs.Reading.{CompletesFile}
+use Rattle.pdl_printed.proofs.Declared.{range_split}
+use Rattle.pdl_printed.proofs.Terms.{add_cell, cell_decl, CompletesTerm, Continues, const_term, not_term, bin_term, mux_term}
+use Rattle.pdl_printed.proofs.Braced.{slice_term, cat_term, rep_term, read_term}
+use Rattle.pdl_printed.proofs.Cells.{cell_head}
 use Rattle.pdl_declared.proofs.Parts.{MayDrive, MayCompute, at_cells}
 
 -- the name of an array without `a_`

@@ -12,9 +12,9 @@ use Rattle.pdl_vtext.specs.declared.file.OutputDecl.{OutputDecl}
 use Rattle.pdl_vtext.specs.declared.file.RegBlock.{RegBlock}
 use Rattle.pdl_vtext.specs.Words.{is_port}
 use Rattle.pdl_vlog.specs.Layout.{net, constant, always, drive, output, block, blocks}
-use Rattle.pdl_declared.proofs.Lexed.{IsWordText}
-use Rattle.pdl_declared.proofs.Reading.{CompletesFile}
-use Rattle.pdl_declared.proofs.Drives.{output_decl, output_line, block_line}
+use Rattle.pdl_printed.proofs.Lexed.{IsWordText}
+use Rattle.pdl_printed.proofs.Reading.{CompletesFile}
+use Rattle.pdl_printed.proofs.Drives.{output_decl, output_line, block_line}
 use Rattle.pdl_declared.proofs.AllCells.{IsNetText}
 use Rattle.pdl_declared.proofs.Parts.{MayBlock, MayDrive, at_outputs, at_blocks}
 

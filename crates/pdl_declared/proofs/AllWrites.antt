@@ -11,8 +11,8 @@ use Rattle.pdl_vtext.specs.declared.file.WriteDecl.{WriteDecl}
 use Rattle.pdl_vtext.specs.Words.{is_name}
 use Rattle.pdl_vtext.specs.Grammar.{chosen}
 use Rattle.pdl_vlog.specs.Layout.{net, always, write, array_block, block_of}
-use Rattle.pdl_declared.proofs.Reading.{CompletesFile}
-use Rattle.pdl_declared.proofs.Writes.{CompletesBlock, write_line, block_end, first_block, later_block, last_line}
+use Rattle.pdl_printed.proofs.Reading.{CompletesFile}
+use Rattle.pdl_printed.proofs.Writes.{CompletesBlock, write_line, block_end, first_block, later_block, last_line}
 use Rattle.pdl_declared.proofs.AllCells.{IsNetText}
 use Rattle.pdl_declared.proofs.Parts.{MayBlock}
 

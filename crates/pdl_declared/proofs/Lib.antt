@@ -1,15 +1,3 @@
-pub mod Numbers
-pub mod Lexed
-pub mod Names
-pub mod Reading
-pub mod Declared
-pub mod Terms
-pub mod Braced
-pub mod Head
-pub mod Drives
-pub mod Writes
-pub mod Cells
-pub mod Arrays
 pub mod Parts
 pub mod AllCells
 pub mod AllDrives

@@ -5,9 +5,9 @@ use Rattle.std.proofs.lemmas.Bool.{and_from, or_left, or_right, le-leb}
 use Rattle.std.proofs.lemmas.Fmt.{length-decimal-le}
 use Rattle.pdl_net.specs.Pipe.{Head, PortMem, input, output, reply_ports, stage_ports, commit_ports, request_ports, pipe_ports}
 use Rattle.pdl_vtext.specs.Words.{is_name, is_named, is_counted, is_stage_port, is_input, is_memory_output, is_port, are_decimals}
-use Rattle.pdl_declared.proofs.Numbers.{decimals_are}
-use Rattle.pdl_declared.proofs.Lexed.{IsWordText}
-use Rattle.pdl_declared.proofs.Names.{IsOperandText, decimal_word, name_word, after_prefix, p_text, pd_text}
+use Rattle.pdl_printed.proofs.Numbers.{decimals_are}
+use Rattle.pdl_printed.proofs.Lexed.{IsWordText}
+use Rattle.pdl_printed.proofs.Names.{IsOperandText, decimal_word, name_word, after_prefix, p_text, pd_text}
 
 -- ---- each element
 

@@ -28,10 +28,10 @@ use Rattle.pdl_vtext.specs.declared.file.File.{File}
 use Rattle.pdl_vtext.specs.Text.{IsFile}
 use Rattle.pdl_vlog.specs.Layout.{input_name, named_input, input_names, cell_width, verilog}
 use Rattle.pdl_declared.specs.Names.{HasNames, IsCounted}
-use Rattle.pdl_declared.proofs.Names.{IsOperandText, reg_text, cell_text}
-use Rattle.pdl_declared.proofs.Head.{ArePortTexts}
-use Rattle.pdl_declared.proofs.Declared.{HaveWidths}
-use Rattle.pdl_declared.proofs.Arrays.{AreArrayTexts}
+use Rattle.pdl_printed.proofs.Names.{IsOperandText, reg_text, cell_text}
+use Rattle.pdl_printed.proofs.Head.{ArePortTexts}
+use Rattle.pdl_printed.proofs.Declared.{HaveWidths}
+use Rattle.pdl_printed.proofs.Arrays.{AreArrayTexts}
 use Rattle.pdl_declared.proofs.AllCells.{IsNetText, IsCellText, AreCellTexts}
 use Rattle.pdl_declared.proofs.AllDrives.{IsDrivenText, AreDrivenTexts, AreRegTexts}
 use Rattle.pdl_declared.proofs.AllWrites.{AreWriteTexts, AreBlockTexts}

@@ -13,12 +13,12 @@ use Rattle.pdl_vtext.specs.Grammar.{Row, AllFit, none, more, fields, chosen}
 use Rattle.pdl_vtext.specs.Drafts.{no_draft, no_file, opened}
 use Rattle.pdl_vtext.specs.Text.{IsFile}
 use Rattle.pdl_vlog.specs.Layout.{input_names, port, module_word, clock_and_reset, head, regs, array_line, cells, output, blocks, block_of, cell_width, verilog}
-use Rattle.pdl_declared.proofs.Lexed.{IsWordText, token, word_token}
-use Rattle.pdl_declared.proofs.Names.{name_word, after_prefix}
-use Rattle.pdl_declared.proofs.Reading.{Completes, CompletesFile, one_rule}
-use Rattle.pdl_declared.proofs.Head.{ArePortTexts, closing, ports_start, port_decls, add_ports, port_texts}
-use Rattle.pdl_declared.proofs.Declared.{HaveWidths, reg_decls, add_regs, reg_lines}
-use Rattle.pdl_declared.proofs.Arrays.{AreArrayTexts, array_decl, array_decls, add_array, add_arrays, first_array, later_arrays}
+use Rattle.pdl_printed.proofs.Lexed.{IsWordText, token, word_token}
+use Rattle.pdl_printed.proofs.Names.{name_word, after_prefix}
+use Rattle.pdl_printed.proofs.Reading.{Completes, CompletesFile, one_rule}
+use Rattle.pdl_printed.proofs.Head.{ArePortTexts, closing, ports_start, port_decls, add_ports, port_texts}
+use Rattle.pdl_printed.proofs.Declared.{HaveWidths, reg_decls, add_regs, reg_lines}
+use Rattle.pdl_printed.proofs.Arrays.{AreArrayTexts, array_decl, array_decls, add_array, add_arrays, first_array, later_arrays}
 use Rattle.pdl_declared.proofs.AllCells.{AreCellTexts, cell_decls, cells_end, add_cells, cell_lines}
 use Rattle.pdl_declared.proofs.AllDrives.{AreDrivenTexts, output_decls, outputs_end, add_outputs, output_lines, AreRegTexts, block_decls, blocks_end, add_blocks, block_lines}
 use Rattle.pdl_declared.proofs.AllWrites.{AreBlockTexts, array_blocks_decls, add_array_blocks, all_blocks_at}

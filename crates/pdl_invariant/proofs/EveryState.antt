@@ -11,7 +11,7 @@ use Rattle.pdl_turns.proofs.CourseOf.{course}
 use Rattle.pdl_refinement.proofs.Follows
 use Rattle.pdl_refinement.proofs.Spots.{Spot, seats, is_nil}
 use Rattle.pdl_derived.proofs.Slots.{rev}
-use Rattle.pdl_simulation.proofs.Seats.{Live, threads_of, Each}
+use Rattle.pdl_simulation.proofs.Seats.{threads_of, Each}
 use Rattle.pdl_simulation.proofs.Together.{Sim}
 use Rattle.pdl_semantics.specs.Machine.{same_args}
 use Rattle.pdl_semantics.specs.Sound
@@ -47,9 +47,6 @@ module _ (p : Pipe) (sound : Sound p) (strict : Strict p) (image : Arrays) (sche
 
   abbrev d : Derived.State
   d = Derived.state_after p (Derived.first p image) schedule
-
-  abbrev lives : List Live
-  lives = (reached p sound strict image schedule).0
 
   sim_here : Sim p (state_after p (first p image) schedule) (Derived.state_after p (Derived.first p image) schedule) (reached p sound strict image schedule).0
   sim_here = (reached p sound strict image schedule).1

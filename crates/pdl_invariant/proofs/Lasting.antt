@@ -126,9 +126,6 @@ module _ (p : Pipe) (sound : Sound p) (strict : Strict p) where
       asks_known : AllAwaited (λ r. AnyAsk (λ q. q.var ≡ r.var) h.local.asks) l.thread.awaits
       asks_known = awaited_map (λ r i. any_ask_map (λ q j. j.0) h.local.asks i) l.thread.awaits h.owns
 
-      abbrev pub kept' : List Kept
-      kept' = l.kept ++ Machine.answered_reads p st bits l.number l.thread.awaits
-
       pub now_local : Local p l.env (l.kept ++ Machine.answered_reads p st bits l.number l.thread.awaits) (now_of p d bits l)
       now_local = local_answered p st bits l.number l.env l.kept l.thread (now_of p d bits l).env (still p bits l.thread.awaits) k.waits h.local asks_known
 

@@ -404,10 +404,6 @@ module _ (p : Pipe) (flows : Flows p) (sound : Sound p) (strict : Strict p) (o :
   asks_here : awaited_of (work_of_stage p o t).asks ≡ fetches_of (onpath (work_of_stage p o t).env (in_stage t.stage p.stmts))
   asks_here = asks_are (work_of_stage p o t).env o (in_stage t.stage p.stmts) (start_of t) (fixed_here p flows env t kept_answer o)
 
-  awaited_length : (qs : List Ask) → length (awaited_of qs) ≡ length qs
-  awaited_length [] = refl
-  awaited_length (q ∷ qs) = ap suc (awaited_length qs)
-
   module _ (q : ℕ) (goes : goes_to (stage_at p t.stage).next (work_of_stage p o t).env ≡ Some q) where
     is_next : next_of p t.stage (work_of_stage p o t).env ≡ q
     is_next = ap (stage_or (length p.stages)) goes

@@ -1,13 +1,13 @@
 -- What a cycle's reservations do to the list of a lock.
-use Rattle.std.proofs.Common.{◌≡◌, ◌≢◌, refl, sym, ap, ap₂, ◌∙◌, subst, ℕ, suc, ◌+◌, ◌≤◌, ◌<◌, ◌⊎◌, inl, inr, Bool, true, false, List, [], ◌∷◌, ◌++◌, length, Option, Some, None, ◌==◌, cond, if◌then◌else◌, nat_le, arith, append_assoc, length-append, le_refl, leb-true, leb-false}
+use Rattle.std.proofs.Common.{◌≡◌, ◌≢◌, refl, sym, ap, ap₂, ◌∙◌, subst, ℕ, suc, ◌+◌, ◌≤◌, ◌<◌, ◌⊎◌, inl, inr, Bool, true, false, List, [], ◌∷◌, ◌++◌, length, Option, Some, None, ◌==◌, cond, nat_le, arith, append_assoc, length-append, le_refl, leb-true, leb-false}
 use Rattle.std.proofs.lemmas.Bool.{eqb-true, eqb-false}
 use Rattle.pdl_semantics.specs.Flat.{Pipe}
 use Rattle.pdl_semantics.specs.Stages
 use Rattle.pdl_semantics.specs.Stages.{in_stage, stage_at, goes_to, mem_at, is_reserve, reserve_stage}
 use Rattle.pdl_semantics.specs.Locks.{has_room}
-use Rattle.pdl_semantics.specs.Machine.{State, Pending, Reserved, Written, lock_of, word_for}
+use Rattle.pdl_semantics.specs.Machine.{State, Pending, Reserved, lock_of, word_for}
 use Rattle.pdl_semantics.specs.Moves.{Act, movers, block_ready}
-use Rattle.pdl_semantics.specs.Cycle.{new_entries, with_reserves, with_value_of, with_writes_of, but_oldest}
+use Rattle.pdl_semantics.specs.Cycle.{new_entries, with_reserves, with_writes_of, but_oldest}
 use Rattle.pdl_derived.specs.Derived.{around, port_free}
 use Rattle.pdl_derived.specs.Derived
 use Rattle.pdl_facts.specs.Scans.{phase_all, Fresh}

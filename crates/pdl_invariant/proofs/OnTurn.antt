@@ -306,9 +306,6 @@ module _ (p : Pipe) (sound : Sound p) (arrays : Arrays) (args : List ℕ) where
           ∙ any_looked (is_write m) (write_looked m) (on_way p (thread (at_once p) arrays args).env s)
 
   -- its guess
-  abbrev pub making : ℕ → Making
-  making s = making_all Unmade (before s (onpath (thread (at_once p) arrays args).env (looked_all p.stmts)))
-
   pub turn_guess : (s : ℕ) → is_guessed (making_all Unmade (before s (onpath (thread (at_once p) arrays args).env (looked_all p.stmts)))) ≡ (list_any (λ (x : Stmt). is_spec_call x.op) (on_way p (thread (at_once p) arrays args).env s) && not (list_any (λ (x : Stmt). is_verify x.op) (on_way p (thread (at_once p) arrays args).env s)))
   turn_guess s =
       guess_all (verify_stage (looked_all p.stmts)) Unmade (before s (onpath (thread (at_once p) arrays args).env (looked_all p.stmts))) (Makes.makings_before (at_once p) sound.pathwise (thread (at_once p) arrays args).env arrays args s)

@@ -164,9 +164,6 @@ done_empty m Done es s h = s
 -- A LIVE THREAD
 
 module _ (p : Pipe) (sound : Sound p) (st : State) (l : Live) (seated : Seated p st l) (m : ℕ) where
-  abbrev pub phase_of : Phase
-  phase_of = phase_all m Fresh (on_way p l.env l.thread.stage)
-
   released_done : has_released m p (told l) ≡ true → is_done (phase_all m Fresh (on_way p l.env l.thread.stage)) ≡ true
   released_done h =
       used_done m (phase_all m Fresh (on_way p l.env l.thread.stage)) (entries_of m l.thread.entries) (seated.keeps_on.shape m) (reserved_used m Fresh (on_way p l.env l.thread.stage) (and_left _ _ h))

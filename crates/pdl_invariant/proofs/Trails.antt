@@ -87,17 +87,6 @@ module _ (p : Pipe) (g : Ways p) where
   among_next env s (r ∷ rs) h q (inl i) = (s, ap (λ k. goes_to (stage_at p k).next env) i ∙ h.0, omega arith)
   among_next env s (r ∷ rs) h q (inr i) = let k = among_next env r rs h.2 q i in let u = trail_up env s r h.0 h.1 in (k.0, k.1, (let j = k.2 in omega arith))
 
-  -- only the last one leads to it
-  pub among_last : (env : List ℕ) (s r : ℕ) (rs : List ℕ) → Trail p env s (r ∷ rs) → (q : ℕ) → Among q (r ∷ rs) → goes_to (stage_at p q).next env ≡ Some s → q ≡ r
-  among_last env s r rs h q (inl i) e = i
-  among_last env s r rs h q (inr i) e = absurd (let k = among_next env r rs h.2 q i in let j = k.2 in let u = trail_up env s r h.0 h.1 in apart (same (sym k.1 ∙ e)) j u)
-    where
-      same : {a b : ℕ} → Some a ≡ Some b → a ≡ b
-      same h = cc
-
-      apart : {n : ℕ} → n ≡ s → n ≤ r → r < s → ⊥
-      apart a b c = omega arith
-
   comes_or : (b c d : Bool) → (c ≡ true → d ≡ true) → (b || c) ≡ true → (b || d) ≡ true
   comes_or true c d f h = refl
   comes_or false c d f h = f h

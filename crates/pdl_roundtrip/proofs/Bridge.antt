@@ -18,12 +18,12 @@ use Rattle.pdl_vtext.specs.declared.file.RegBlock.{RegBlock}
 use Rattle.pdl_vtext.specs.declared.file.OutputDecl.{OutputDecl}
 use Rattle.pdl_vtext.specs.declared.file.ArrayBlock.{ArrayBlock}
 use Rattle.pdl_vlog.specs.Layout.{net, input_names, cell_width}
-use Rattle.pdl_declared.proofs.Head as head
-use Rattle.pdl_declared.proofs.Declared as declaring
-use Rattle.pdl_declared.proofs.Arrays as arrays
-use Rattle.pdl_declared.proofs.Terms.{cell_decl}
+use Rattle.pdl_printed.proofs.Head as head
+use Rattle.pdl_printed.proofs.Declared as declaring
+use Rattle.pdl_printed.proofs.Arrays as arrays
+use Rattle.pdl_printed.proofs.Terms.{cell_decl}
+use Rattle.pdl_printed.proofs.Drives.{output_decl}
 use Rattle.pdl_declared.proofs.AllCells as cells
-use Rattle.pdl_declared.proofs.Drives.{output_decl}
 use Rattle.pdl_declared.proofs.AllDrives as drives
 use Rattle.pdl_declared.proofs.AllWrites as writing
 use Rattle.pdl_declared.proofs.Whole.{declared_file, regs_at, arrays_at, cells_at, outputs_at, blocks_at, writes_at}

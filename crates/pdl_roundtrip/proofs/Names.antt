@@ -1,8 +1,7 @@
 -- The names that the text of a netlist declares are apart.
-use Rattle.std.proofs.Common.{◌≡◌, ◌≢◌, ℕ, zero, suc, ◌+◌, ◌^◌, ◌<◌, ◌≤◌, true, not, List, [], ◌∷◌, ◌++◌, length, map, take, get_or, codes, decimal, bytes_eq, Some, None, is_some, refl, sym, ap, ◌∙◌, subst, arith}
+use Rattle.std.proofs.Common.{◌≡◌, ◌≢◌, ℕ, zero, suc, ◌+◌, ◌^◌, ◌<◌, ◌≤◌, true, not, List, [], ◌∷◌, ◌++◌, length, map, take, get_or, codes, bytes_eq, Some, None, is_some, refl, sym, ap, ◌∙◌, subst, arith}
 use Rattle.std.specs.List.{AllPairs}
 use Rattle.std.proofs.lemmas.Bool.{cond-false, false_from_ne_true}
-use Rattle.std.proofs.lemmas.Fmt.{decimal_injective}
 use Rattle.std.proofs.lemmas.List.{append_cancel_left, get_or-map, get_or-take, length-map, length-take, take-map}
 use Rattle.pdl_word.proofs.Bytes.{bytes_same}
 use Rattle.pdl_net.specs.declared.Cell.{Cell}
@@ -15,8 +14,9 @@ use Rattle.pdl_vtext.specs.declared.file.ArrayDecl.{ArrayDecl}
 use Rattle.pdl_vtext.specs.declared.file.CellDecl.{CellDecl}
 use Rattle.pdl_vnets.specs.Wired.{place, shifted}
 use Rattle.pdl_vrules.specs.Once.{is_new}
-use Rattle.pdl_roundtrip.proofs.Nets.{port_names}
-use Rattle.pdl_roundtrip.specs.Declared.{port_decl, reg_decls, array_decls, cell_decls}
+use Rattle.pdl_roundtrip.specs.Declared.{reg_name, cell_name, port_decl, reg_decls, array_decls, cell_decls}
+use Rattle.pdl_roundtrip.proofs.Places.{AreApart, numbered, regs_apart as reg_names_apart, cells_apart as cell_names_apart}
+use Rattle.pdl_roundtrip.proofs.Nets.{port_names, reg_names}
 
 -- ---- names that are apart are new in turn
 
@@ -38,42 +38,34 @@ apart_new name xs d i h l =
 
 -- ---- names by number
 
--- so many names of a prefix and a number, from the k-th on
-abbrev numbered_names : List ℕ → ℕ → ℕ → List (List ℕ)
-numbered_names prefix k zero = []
-numbered_names prefix k (suc n) = (prefix ++ decimal k) ∷ numbered_names prefix (suc k) n
+length_numbered : (f : ℕ → List ℕ) (k n : ℕ) → length (numbered f k n) ≡ n
+length_numbered f k zero = refl
+length_numbered f k (suc n) = ap suc (length_numbered f (suc k) n)
 
-length_numbered : (prefix : List ℕ) (k n : ℕ) → length (numbered_names prefix k n) ≡ n
-length_numbered prefix k zero = refl
-length_numbered prefix k (suc n) = ap suc (length_numbered prefix (suc k) n)
+get_numbered : (f : ℕ → List ℕ) (k n i : ℕ) (d : List ℕ) → i < n → get_or (numbered f k n) i d ≡ f (k + i)
+get_numbered f k zero i d l = absurd (omega arith)
+get_numbered f k (suc n) zero d l = let e : k ≡ k + 0 = omega arith in ap f e
+get_numbered f k (suc n) (suc i) d l = let e : suc k + i ≡ k + suc i = omega arith in get_numbered f (suc k) n i d (omega arith) ∙ ap f e
 
-get_numbered : (prefix : List ℕ) (k n i : ℕ) (d : List ℕ) → i < n → get_or (numbered_names prefix k n) i d ≡ prefix ++ decimal (k + i)
-get_numbered prefix k zero i d l = absurd (omega arith)
-get_numbered prefix k (suc n) zero d l = let e : k ≡ k + 0 = omega arith in ap (λ z. prefix ++ decimal z) e
-get_numbered prefix k (suc n) (suc i) d l = let e : suc k + i ≡ k + suc i = omega arith in get_numbered prefix (suc k) n i d (omega arith) ∙ ap (λ z. prefix ++ decimal z) e
-
-numbered_apart : (prefix : List ℕ) (k n : ℕ) → k + n ≤ 2 ^ 64 → AllPairs (λ a b. a ≢ b) (numbered_names prefix k n)
-numbered_apart prefix k n h = λ i j d l m q.
-    let o = length_numbered prefix k n in
+numbered_apart : (f : ℕ → List ℕ) (m : ℕ) → AreApart f m → (k n : ℕ) → k + n ≤ m → AllPairs (λ a b. a ≢ b) (numbered f k n)
+numbered_apart f m apart k n h = λ i j d l o q.
+    let p = length_numbered f k n in
     let a : i < n = omega arith in
     let b : j < n = omega arith in
-    let e : decimal (k + i) ≡ decimal (k + j) = append_cancel_left prefix (decimal (k + i)) (decimal (k + j)) (sym (get_numbered prefix k n i d a) ∙ (q ∙ get_numbered prefix k n j d b)) in
-    let s : k + i ≡ k + j = decimal_injective (k + i) (k + j) (omega arith) (omega arith) e in
+    let x : k + i < m = omega arith in
+    let y : k + j < m = omega arith in
+    let s : k + i ≡ k + j = apart (k + i) (k + j) x y (sym (get_numbered f k n i d a) ∙ (q ∙ get_numbered f k n j d b)) in
     absurd (omega arith)
 
-reg_names : (at : ℕ → ℕ) (r : ℕ) (xs : List Reg) → map (λ (d : RegDecl). d.name) (reg_decls at r xs) ≡ numbered_names (codes "r") r (length xs)
-reg_names at r [] = refl
-reg_names at r (x ∷ xs) = ap (λ z. (codes "r" ++ decimal r) ∷ z) (reg_names at (suc r) xs)
-
 pub regs_apart : (at : ℕ → ℕ) (xs : List Reg) → length xs ≤ 2 ^ 64 → AllPairs (λ a b. a ≢ b) (map (λ (d : RegDecl). d.name) (reg_decls at 0 xs))
-regs_apart at xs h = subst (AllPairs (λ (a b : List ℕ). a ≢ b)) (sym (reg_names at 0 xs)) (numbered_apart (codes "r") 0 (length xs) (omega arith))
+regs_apart at xs h = subst (AllPairs (λ (a b : List ℕ). a ≢ b)) (sym (reg_names at 0 xs)) (numbered_apart reg_name (2 ^ 64) reg_names_apart 0 (length xs) (omega arith))
 
-cell_names : (at : ℕ → ℕ) (inputs : List (List ℕ)) (arrays : List Array) (width : ℕ → ℕ) (k : ℕ) (gs : List Cell) → map (λ (d : CellDecl). d.name) (cell_decls at inputs arrays width k gs) ≡ numbered_names (codes "n") k (length gs)
+cell_names : (at : ℕ → ℕ) (inputs : List (List ℕ)) (arrays : List Array) (width : ℕ → ℕ) (k : ℕ) (gs : List Cell) → map (λ (d : CellDecl). d.name) (cell_decls at inputs arrays width k gs) ≡ numbered cell_name k (length gs)
 cell_names at inputs arrays width k [] = refl
-cell_names at inputs arrays width k (g ∷ gs) = ap (λ z. (codes "n" ++ decimal k) ∷ z) (cell_names at inputs arrays width (suc k) gs)
+cell_names at inputs arrays width k (g ∷ gs) = ap (λ z. cell_name k ∷ z) (cell_names at inputs arrays width (suc k) gs)
 
 pub cells_apart : (at : ℕ → ℕ) (inputs : List (List ℕ)) (arrays : List Array) (width : ℕ → ℕ) (gs : List Cell) → length gs ≤ 2 ^ 64 → AllPairs (λ a b. a ≢ b) (map (λ (d : CellDecl). d.name) (cell_decls at inputs arrays width 0 gs))
-cells_apart at inputs arrays width gs h = subst (AllPairs (λ (a b : List ℕ). a ≢ b)) (sym (cell_names at inputs arrays width 0 gs)) (numbered_apart (codes "n") 0 (length gs) (omega arith))
+cells_apart at inputs arrays width gs h = subst (AllPairs (λ (a b : List ℕ). a ≢ b)) (sym (cell_names at inputs arrays width 0 gs)) (numbered_apart cell_name (2 ^ 64) cell_names_apart 0 (length gs) (omega arith))
 
 -- ---- ports and arrays
 

@@ -32,7 +32,7 @@ pub port_names : (line : ℕ) (ps : List Port) → map (λ (d : PortDecl). d.nam
 port_names line [] = refl
 port_names line (p ∷ ps) = ap (λ z. p.name ∷ z) (port_names line ps)
 
-reg_names : (at : ℕ → ℕ) (r : ℕ) (xs : List Reg) → map (λ (d : RegDecl). d.name) (reg_decls at r xs) ≡ numbered reg_name r (length xs)
+pub reg_names : (at : ℕ → ℕ) (r : ℕ) (xs : List Reg) → map (λ (d : RegDecl). d.name) (reg_decls at r xs) ≡ numbered reg_name r (length xs)
 reg_names at r [] = refl
 reg_names at r (x ∷ xs) = ap (λ z. reg_name r ∷ z) (reg_names at (suc r) xs)
 

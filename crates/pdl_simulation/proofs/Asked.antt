@@ -345,9 +345,6 @@ module _ (p : Pipe) (flows : Flows p) (st : State) (d : Derived.State) (bits : L
       → Matched (request_now sq ls m) (asked_now ls m) m (born_live p n c ++ go_on p st d bits ls)
   matched_next m n c sq ls k g h = at (asking ls m) refl
     where
-      after : List Live
-      after = born_live p n c ++ go_on p st d bits ls
-
       old : (q : Request) → request_of st m ≡ q → Matched q (asked_at d m) m ls → is_answered p bits m ≡ false → Matched (request_left sq q) (asked_at d m) m (born_live p n c ++ go_on p st d bits ls)
       old NoRequest e h i = h
       old (Orphan a) e h i = h

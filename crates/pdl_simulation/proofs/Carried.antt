@@ -60,9 +60,6 @@ older_swap : (x y : Moves.Act) (z : Option Moves.Act) → y.thread.number < x.th
 older_swap x y None h = ap (λ c. if c then x else y) (not_less _ _ h) ∙ sym (ap (λ c. if c then y else x) (lt-ltb _ _ h))
 older_swap x y (Some b) h = at (nat_lt b.thread.number x.thread.number) refl (nat_lt b.thread.number y.thread.number) refl
   where
-    two : Moves.Act → Moves.Act → Moves.Act
-    two a c = older_of a (Some c)
-
     at : (c : Bool) → nat_lt b.thread.number x.thread.number ≡ c → (e : Bool) → nat_lt b.thread.number y.thread.number ≡ e
         → older_of y (Some (if nat_lt b.thread.number x.thread.number then b else x)) ≡ older_of x (Some (if nat_lt b.thread.number y.thread.number then b else y))
     at true i true j =

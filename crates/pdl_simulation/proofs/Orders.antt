@@ -419,9 +419,6 @@ module _ (p : Pipe) (flows : Flows p) (st : State) (d : Derived.State) (bits : L
         act_same = act_is p flows st d bits arrays older l (acts_of later) mine.0 tells
 
       -- where each thread stands among all of them
-      Seen : Pair → Type 0
-      Seen x = (ys : List Live) × (all ≡ ys ++ x.live ∷ x.older)
-
       seen_all : (ys xs : List Live) → all ≡ ys ++ xs → EachPair (λ x. (ys : List Live) × (all ≡ ys ++ x.live ∷ x.older)) (pairs xs)
       seen_all ys [] e = tt
       seen_all ys (x ∷ xs) e = ((ys, e), seen_all (ys ++ x ∷ []) xs (e ∙ sym (append_assoc ys (x ∷ []) xs)))

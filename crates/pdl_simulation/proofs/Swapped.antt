@@ -38,14 +38,6 @@ put_swap : (n v k w : ℕ) (xs : List Pending) → (n ≡ k → ⊥) → with_va
 put_swap n v k w [] h = refl
 put_swap n v k w (e ∷ es) h = ap₂ (λ a l. a ∷ l) (at (e.thread == n) refl (e.thread == k) refl) (put_swap n v k w es h)
   where
-    keeps : (c : Bool) → (cond c (record e { value = Some w }) e).thread ≡ e.thread
-    keeps true = refl
-    keeps false = refl
-
-    keeps' : (c : Bool) → (cond c (record e { value = Some v }) e).thread ≡ e.thread
-    keeps' true = refl
-    keeps' false = refl
-
     at : (b : Bool) → (e.thread == n) ≡ b → (c : Bool) → (e.thread == k) ≡ c
         → (if (if e.thread == k then record e { value = Some w } else e).thread == n then record (if e.thread == k then record e { value = Some w } else e) { value = Some v } else (if e.thread == k then record e { value = Some w } else e))
         ≡ (if (if e.thread == n then record e { value = Some v } else e).thread == k then record (if e.thread == n then record e { value = Some v } else e) { value = Some w } else (if e.thread == n then record e { value = Some v } else e))

@@ -268,9 +268,6 @@ module _ (p : Pipe) (flows : Flows p) where
     owned_on [] k o g h = tt
     owned_on (l ∷ ks) k o g h = at (fell p d bits ks) refl (owned_on ks k.1 o.1 g.1 (λ m a e. h m a (older m a e (did p d bits ks l).moves)))
       where
-        A : Live → Type 0
-        A k = AllOwned (Cycle.after_these p st bits (lacts p st d bits ls) (movers (lacts p st d bits ls)) (squasher (movers (lacts p st d bits ls)))) k.number k.thread.awaits
-
         older : (m : ℕ) (a : Asker) → asking p flows st d bits sim.arrays ks m ≡ Some a → (b : Bool) → cond b (first_of (find_ask (work_of_live p d bits ks l).asks m) l.number (asking p flows st d bits sim.arrays ks m)) (asking p flows st d bits sim.arrays ks m) ≡ Some a
         older m a e true = ap (λ x. first_of x l.number (asking p flows st d bits sim.arrays ks m)) (one_asks p flows st d bits sim.arrays m a l ks k o e) ∙ e
         older m a e false = e

@@ -9,3 +9,4 @@ pub mod Bools
 pub mod Lists
 pub mod Bytes
 pub mod Numbers
+pub mod Digits

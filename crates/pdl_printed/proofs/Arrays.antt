@@ -13,10 +13,10 @@ use Rattle.pdl_vtext.specs.Words.{number_of, is_name}
 use Rattle.pdl_vtext.specs.Grammar.{Row, AllFit, none, more, fields, chosen}
 use Rattle.pdl_vtext.specs.Drafts.{with_range, with_array}
 use Rattle.pdl_vlog.specs.Layout.{range, array_line}
-use Rattle.pdl_declared.proofs.Lexed.{token, word_token, space_first}
-use Rattle.pdl_declared.proofs.Names.{decimal_word, name_word, after_prefix}
-use Rattle.pdl_declared.proofs.Reading.{CompletesFile, one_rule}
-use Rattle.pdl_declared.proofs.Declared.{range_row, range_split, range_tokens, reg_start, number_fits, high_back}
+use Rattle.pdl_printed.proofs.Lexed.{token, word_token, space_first}
+use Rattle.pdl_printed.proofs.Names.{decimal_word, name_word, after_prefix}
+use Rattle.pdl_printed.proofs.Reading.{CompletesFile, one_rule}
+use Rattle.pdl_printed.proofs.Declared.{range_row, range_split, range_tokens, reg_start, number_fits, high_back}
 
 -- an array that can be written
 pub record IsArrayText (a : Array) : Type 0 where

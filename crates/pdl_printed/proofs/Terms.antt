@@ -17,10 +17,10 @@ use Rattle.pdl_vtext.specs.Words.{number_of, constant_of, operator_of}
 use Rattle.pdl_vtext.specs.Grammar.{Row, AllFit, none, more, fields, chosen}
 use Rattle.pdl_vtext.specs.Drafts.{term, with_cell, with_operand}
 use Rattle.pdl_vlog.specs.Layout.{constant, operator}
-use Rattle.pdl_declared.proofs.Numbers.{constant_back, operator_back}
-use Rattle.pdl_declared.proofs.Lexed.{token, word_token, line_end}
-use Rattle.pdl_declared.proofs.Names.{IsOperandText, constant_word}
-use Rattle.pdl_declared.proofs.Reading.{Completes, CompletesFile, one_rule}
+use Rattle.pdl_printed.proofs.Numbers.{constant_back, operator_back}
+use Rattle.pdl_printed.proofs.Lexed.{token, word_token, line_end}
+use Rattle.pdl_printed.proofs.Names.{IsOperandText, constant_word}
+use Rattle.pdl_printed.proofs.Reading.{Completes, CompletesFile, one_rule}
 
 abbrev pub add_cell : File → CellDecl → File
 add_cell f g = record f { cells = f.cells ++ g ∷ [] }

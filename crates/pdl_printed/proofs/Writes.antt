@@ -12,10 +12,10 @@ use Rattle.pdl_vtext.specs.Words.{is_name}
 use Rattle.pdl_vtext.specs.Grammar.{Row, AllFit, none, more, finished, fields, chosen}
 use Rattle.pdl_vtext.specs.Drafts.{all_taken, with_block, with_array_block}
 use Rattle.pdl_vlog.specs.Layout.{always}
-use Rattle.pdl_declared.proofs.Lexed.{token, word_token, line_end}
-use Rattle.pdl_declared.proofs.Names.{IsOperandText, name_word, after_prefix}
-use Rattle.pdl_declared.proofs.Reading.{Completes, CompletesFile, one_rule}
-use Rattle.pdl_declared.proofs.Drives.{always_row, always_fits}
+use Rattle.pdl_printed.proofs.Lexed.{token, word_token, line_end}
+use Rattle.pdl_printed.proofs.Names.{IsOperandText, name_word, after_prefix}
+use Rattle.pdl_printed.proofs.Reading.{Completes, CompletesFile, one_rule}
+use Rattle.pdl_printed.proofs.Drives.{always_row, always_fits}
 
 -- the text, from a line on, completes each draft with this file, with these writes and with a block that begins at a line
 abbrev pub CompletesBlock : Part → ℕ → List ℕ → File → List WriteDecl → ℕ → File → Type 0

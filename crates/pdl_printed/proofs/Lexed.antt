@@ -6,7 +6,7 @@ use Rattle.pdl_vtext.specs.declared.piece.Piece as r
 use Rattle.pdl_vtext.specs.Tokens.{Token, Piece, is_word, is_blank, piece_at, line_after, tokens_from}
 use Rattle.pdl_vtext.specs.Pieces.{piece_view}
 use Rattle.pdl_vtext.proofs.Steps.{step_token}
-use Rattle.pdl_declared.proofs.Numbers.{run_before, take_front, drop_front}
+use Rattle.pdl_printed.proofs.Numbers.{run_before, take_front, drop_front}
 
 -- a byte of a word is no white space
 pub word_not_blank : (c : ℕ) → is_word c ≡ true → is_blank c ≡ false

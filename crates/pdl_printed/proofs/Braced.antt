@@ -13,13 +13,13 @@ use Rattle.pdl_vtext.specs.Tokens.{is_digit, piece_at, tokens_from}
 use Rattle.pdl_vtext.specs.Words.{number_of, constant_of, operator_of, is_name, is_cell, is_reg, is_named, is_operand}
 use Rattle.pdl_vtext.specs.Grammar.{Row, AllFit, none, more, fields, chosen}
 use Rattle.pdl_vtext.specs.Drafts.{term, with_operand}
-use Rattle.pdl_declared.proofs.Numbers.{decimal_bytes}
-use Rattle.pdl_declared.proofs.Lexed.{token, word_token}
-use Rattle.pdl_declared.proofs.Names.{IsOperandText, decimal_word, name_word, after_prefix}
-use Rattle.pdl_declared.proofs.Reading.{Completes, one_rule}
-use Rattle.pdl_declared.proofs.Declared.{number_fits, high_back}
-use Rattle.pdl_declared.proofs.Terms as terms
-use Rattle.pdl_declared.proofs.Terms.{IsHeaded, CompletesTerm, cell_added}
+use Rattle.pdl_printed.proofs.Numbers.{decimal_bytes}
+use Rattle.pdl_printed.proofs.Lexed.{token, word_token}
+use Rattle.pdl_printed.proofs.Names.{IsOperandText, decimal_word, name_word, after_prefix}
+use Rattle.pdl_printed.proofs.Reading.{Completes, one_rule}
+use Rattle.pdl_printed.proofs.Declared.{number_fits, high_back}
+use Rattle.pdl_printed.proofs.Terms as terms
+use Rattle.pdl_printed.proofs.Terms.{IsHeaded, CompletesTerm, cell_added}
 
 -- a word that begins with a digit is no operand
 digit_other : (c n : ℕ) → is_digit c ≡ true → 57 < n → eqb n c ≡ false

@@ -11,8 +11,8 @@ use Rattle.pdl_vtext.specs.Words.{number_of, constant_of, is_name, has_name_form
 use Rattle.pdl_vtext.specs.Grammar.{chosen}
 use Rattle.pdl_vlog.specs.Digits.{hex}
 use Rattle.pdl_vlog.specs.Layout.{constant}
-use Rattle.pdl_declared.proofs.Numbers.{digit_is_word, lower_is_word, all_weaker, decimal_words, decimals_are, constant_words}
-use Rattle.pdl_declared.proofs.Lexed.{IsWordText}
+use Rattle.pdl_printed.proofs.Numbers.{digit_is_word, lower_is_word, all_weaker, decimal_words, decimals_are, constant_words}
+use Rattle.pdl_printed.proofs.Lexed.{IsWordText}
 
 -- ---- words
 

@@ -17,9 +17,9 @@ use Rattle.pdl_vtext.specs.Words.{number_of, is_port}
 use Rattle.pdl_vtext.specs.Grammar.{Row, AllFit, none, more, fields, chosen}
 use Rattle.pdl_vtext.specs.Drafts.{with_port}
 use Rattle.pdl_vlog.specs.Layout.{range, direction, port}
-use Rattle.pdl_declared.proofs.Lexed.{IsWordText, token, word_token, space_first}
-use Rattle.pdl_declared.proofs.Reading.{CompletesFile, one_rule}
-use Rattle.pdl_declared.proofs.Declared.{range_row, range_tokens, number_fits, high_back}
+use Rattle.pdl_printed.proofs.Lexed.{IsWordText, token, word_token, space_first}
+use Rattle.pdl_printed.proofs.Reading.{CompletesFile, one_rule}
+use Rattle.pdl_printed.proofs.Declared.{range_row, range_tokens, number_fits, high_back}
 
 -- a port that can be written
 pub record IsPortText (p : Port) : Type 0 where

@@ -8,12 +8,12 @@ use Rattle.pdl_vtext.specs.Tokens.{piece_at, tokens_from}
 use Rattle.pdl_vtext.specs.Grammar.{Row, AllFit, none, more, fields, chosen}
 use Rattle.pdl_vtext.specs.Drafts.{with_head}
 use Rattle.pdl_vlog.specs.Layout.{range}
-use Rattle.pdl_declared.proofs.Numbers.{decimals_are}
-use Rattle.pdl_declared.proofs.Lexed.{token, word_token, space_first}
-use Rattle.pdl_declared.proofs.Names.{cell_text}
-use Rattle.pdl_declared.proofs.Reading.{CompletesFile, one_rule}
-use Rattle.pdl_declared.proofs.Declared.{range_row, range_tokens, number_fits, high_back}
-use Rattle.pdl_declared.proofs.Terms.{IsHeaded, CompletesTerm}
+use Rattle.pdl_printed.proofs.Numbers.{decimals_are}
+use Rattle.pdl_printed.proofs.Lexed.{token, word_token, space_first}
+use Rattle.pdl_printed.proofs.Names.{cell_text}
+use Rattle.pdl_printed.proofs.Reading.{CompletesFile, one_rule}
+use Rattle.pdl_printed.proofs.Declared.{range_row, range_tokens, number_fits, high_back}
+use Rattle.pdl_printed.proofs.Terms.{IsHeaded, CompletesTerm}
 
 wire_first : (x : List ℕ) (line : ℕ) → tokens_from 0 line (codes "wire " ++ x) ≡ token (codes "wire") line ∷ tokens_from 0 line x
 unfolding piece_at

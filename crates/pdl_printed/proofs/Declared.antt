@@ -13,10 +13,10 @@ use Rattle.pdl_vtext.specs.Words.{number_of, are_decimals}
 use Rattle.pdl_vtext.specs.Grammar.{Row, AllFit, none, more, fields, chosen}
 use Rattle.pdl_vtext.specs.Drafts.{with_range, with_reg}
 use Rattle.pdl_vlog.specs.Layout.{range, reg, regs}
-use Rattle.pdl_declared.proofs.Numbers.{number_back, decimals_are}
-use Rattle.pdl_declared.proofs.Lexed.{token, word_token, space_first, line_end}
-use Rattle.pdl_declared.proofs.Names.{decimal_word, reg_text}
-use Rattle.pdl_declared.proofs.Reading.{CompletesFile, one_rule}
+use Rattle.pdl_printed.proofs.Numbers.{number_back, decimals_are}
+use Rattle.pdl_printed.proofs.Lexed.{token, word_token, space_first, line_end}
+use Rattle.pdl_printed.proofs.Names.{decimal_word, reg_text}
+use Rattle.pdl_printed.proofs.Reading.{CompletesFile, one_rule}
 
 -- ---- ranges
 

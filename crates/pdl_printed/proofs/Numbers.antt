@@ -1,20 +1,16 @@
 -- Numbers, constants and operators that are written read as what they were written from.
-use Rattle.std.proofs.Common.{◌≡◌, inl, inr, ℕ, zero, suc, ◌+◌, ◌*◌, ◌/◌, ◌%◌, ◌^◌, ◌<◌, ◌≤◌, Bool, true, false, not, ◌&&◌, ◌||◌, cond, leb, eqb, if◌then◌else◌, List, [], ◌∷◌, ◌++◌, length, length-append, append_assoc, take, drop, codes, decimal, Option, Some, None, refl, sym, ap, ◌∙◌, arith}
+use Rattle.std.proofs.Common.{◌≡◌, inl, inr, ℕ, suc, ◌+◌, ◌/◌, ◌^◌, ◌<◌, ◌≤◌, Bool, true, false, ◌&&◌, ◌||◌, cond, leb, eqb, if◌then◌else◌, List, [], ◌∷◌, ◌++◌, length, append_assoc, take, drop, codes, decimal, Option, Some, None, refl, ap, ◌∙◌, arith}
 use Rattle.std.specs.List.{list_all, prefix_len}
-use Rattle.std.specs.Char.{digit_value}
 use Rattle.std.specs.Str.Parse.{AllDigits, digits_value}
-use Rattle.std.proofs.Math.Nat.{div-add-mod, div-lt_iff_lt-mul, mod-lt, pow-le-pow_right, pow-suc}
-use Rattle.std.proofs.Math.Pow.{pow-add}
-use Rattle.std.proofs.lemmas.Bool.{and_from, or_left, or_right, cases_lt, le-leb, lt-leb, lt-ltb, le-ltb}
-use Rattle.std.proofs.lemmas.Fmt.{decimal_is_IsNumeral, length-decimal-le}
-use Rattle.std.proofs.lemmas.Int.Digits.{digits_value_push}
+use Rattle.std.proofs.lemmas.Bool.{and_from, or_left, or_right, cases_lt, le-leb, lt-ltb, le-ltb}
+use Rattle.std.proofs.lemmas.Fmt.{decimal_is_IsNumeral}
 use Rattle.std.proofs.lemmas.List.Folds.{list_all-append}
-use Rattle.std.proofs.lemmas.Str.{digit_value-digit_char}
 use Rattle.std.proofs.lemmas.Str.Parse.{digit_from_value}
+use Rattle.pdl_word.proofs.Digits.{GivesHex, decimal_digits, hex_all, are_hex_digits, hex_value}
 use Rattle.pdl_net.specs.declared.BinOp.{BinOp}
 use Rattle.pdl_net.specs.declared.BinOp.TheVariants as op
 use Rattle.pdl_vtext.specs.Tokens.{is_lower, is_digit, is_word}
-use Rattle.pdl_vtext.specs.Words.{is_digit_of, are_digits, number_of, hex_part, with_parts, constant_of, operator_of, are_decimals}
+use Rattle.pdl_vtext.specs.Words.{are_digits, number_of, hex_part, with_parts, constant_of, operator_of, are_decimals}
 use Rattle.pdl_vlog.specs.Digits.{hex, hex_digit}
 use Rattle.pdl_vlog.specs.Layout.{constant, operator}
 
@@ -55,16 +51,6 @@ all_weaker p q step (x ∷ xs) h = at_test (p x) refl h (all_weaker p q step xs)
 
 -- ---- decimal digits
 
-ten_value : (c : ℕ) → digit_value c < 10 → is_digit_of 10 c ≡ true
-ten_value c h =
-    let r = digit_from_value c h in
-    let low : leb 65 c ≡ false = lt-leb 65 c (omega (arith, r)) in
-    and_from _ _ (lt-ltb _ _ h) (ap (λ b. not (b && leb c 90)) low)
-
-ten_digits : (ds : List ℕ) → AllDigits 10 ds → list_all (is_digit_of 10) ds ≡ true
-ten_digits [] h = refl
-ten_digits (d ∷ ds) h = and_from _ _ (ten_value d h.0) (ten_digits ds h.1)
-
 byte_digits : (ds : List ℕ) → AllDigits 10 ds → list_all is_digit ds ≡ true
 byte_digits [] h = refl
 byte_digits (d ∷ ds) h =
@@ -88,36 +74,17 @@ pub number_back : (n : ℕ) → n < 1000000 → number_of (decimal n) ≡ Some n
 unfolding number_of
 number_back n h =
     let d = decimal_is_IsNumeral n (omega (arith, h)) in
-    let e : are_digits 10 6 (decimal n) ≡ true =
-    and_from _ _ (ten_digits (decimal n) d.0.1)
-    (and_from _ _ (le-leb 1 (length (decimal n)) (omega (arith, d.0.0))) (le-leb (length (decimal n)) 6 (length-decimal-le 6 n (omega arith) (omega (arith, h)) (omega (arith, h))))) in
+    let e : are_digits 10 6 (decimal n) ≡ true = decimal_digits 6 n (omega arith) (omega (arith, h)) (omega (arith, h)) in
     ap (λ b. cond b (Some (digits_value 10 (decimal n))) None) e ∙ ap Some d.1
 
 -- ---- hexadecimal digits
 
-not_both : (b : Bool) → not (b && false) ≡ true
-not_both true = refl
-not_both false = refl
-
-no_capital : (d : ℕ) → not (leb 65 (hex_digit d) && leb (hex_digit d) 90) ≡ true
-no_capital d = elim (cases_lt d 10) [
-  | inl h ↦
-      let e : hex_digit d ≡ 48 + d = ap (λ b. if b then 48 + d else 87 + d) (lt-ltb d 10 h) in
-      let low : leb 65 (48 + d) ≡ false = lt-leb 65 (48 + d) (omega (arith, h)) in
-      ap (λ c. not (leb 65 c && leb c 90)) e ∙ ap (λ b. not (b && leb (48 + d) 90)) low
-  | inr h ↦
-      let e : hex_digit d ≡ 87 + d = ap (λ b. if b then 48 + d else 87 + d) (le-ltb d 10 h) in
-      let high : leb (87 + d) 90 ≡ false = lt-leb (87 + d) 90 (omega (arith, h)) in
-      ap (λ c. not (leb 65 c && leb c 90)) e ∙ ap (λ b. not (leb 65 (87 + d) && b)) high ∙ not_both (leb 65 (87 + d))
-]
-
-hex_digit_value : (d : ℕ) → d < 16 → digit_value (hex_digit d) ≡ d
-hex_digit_value d h = digit_value-digit_char d (omega (arith, h))
-
-sixteen_value : (d : ℕ) → d < 16 → is_digit_of 16 (hex_digit d) ≡ true
-sixteen_value d h =
-    let small : digit_value (hex_digit d) < 16 = omega (arith, hex_digit_value d h, h) in
-    and_from _ _ (lt-ltb _ _ small) (no_capital d)
+-- `hex` gives digits as they are meant there
+hex_given : GivesHex hex
+hex_given = record {
+  none = λ v. refl;
+  more = λ n v. refl;
+}
 
 hex_digit_word : (d : ℕ) → d < 16 → is_word (hex_digit d) ≡ true
 hex_digit_word d h = elim (cases_lt d 10) [
@@ -129,51 +96,12 @@ hex_digit_word d h = elim (cases_lt d 10) [
       ap is_word e ∙ lower_is_word (87 + d) (and_from _ _ (le-leb 97 (87 + d) (omega arith)) (le-leb (87 + d) 122 (omega arith)))
 ]
 
-hex_all : (p : ℕ → Bool) → ((d : ℕ) → d < 16 → p (hex_digit d) ≡ true) → (n v : ℕ) → list_all p (hex n v) ≡ true
-hex_all p one zero v = refl
-hex_all p one (suc n) v =
-    list_all-append p (hex n (v / 16)) (hex_digit (v % 16) ∷ [])
-    ∙ and_from _ _ (hex_all p one n (v / 16)) (and_from _ _ (one (v % 16) (mod-lt v {m = 16} (omega arith))) refl)
-
-hex_length : (n v : ℕ) → length (hex n v) ≡ n
-hex_length zero v = refl
-hex_length (suc n) v = length-append (hex n (v / 16)) (hex_digit (v % 16) ∷ []) ∙ omega (arith, hex_length n (v / 16))
-
-hex_value : (n v : ℕ) → v < 16 ^ n → digits_value 16 (hex n v) ≡ v
-hex_value zero v h = omega (arith, h)
-hex_value (suc n) v h =
-    let high : v / 16 < 16 ^ n = (div-lt_iff_lt-mul {k = 16} {x = v} {y = 16 ^ n} (omega arith)).1 (omega (arith, h, pow-suc 16 n)) in
-    let last : digit_value (hex_digit (v % 16)) ≡ v % 16 = hex_digit_value (v % 16) (mod-lt v {m = 16} (omega arith)) in
-    digits_value_push 16 (hex n (v / 16)) (hex_digit (v % 16))
-    ∙ omega (arith, hex_value n (v / 16) high, last, div-add-mod v 16)
-
-four_bits : (k : ℕ) → 2 ^ (4 * k) ≡ 16 ^ k
-four_bits zero = refl
-four_bits (suc k) =
-    let e : 4 * suc k ≡ 4 * k + 4 = omega arith in
-    ap (λ n. 2 ^ n) e ∙ pow-add 2 (4 * k) 4 ∙ ap (λ n. n * 16) (four_bits k) ∙ sym (pow-suc 16 k)
-
-digits_hold : (w : ℕ) → 2 ^ w ≤ 16 ^ ((w + 3) / 4)
-digits_hold w =
-    let wide : w ≤ 4 * ((w + 3) / 4) = omega (arith, div-add-mod (w + 3) 4, mod-lt (w + 3) {m = 4} (omega arith)) in
-    let four : 2 ^ (4 * ((w + 3) / 4)) ≡ 16 ^ ((w + 3) / 4) = four_bits ((w + 3) / 4) in
-    let more : 2 ^ w ≤ 2 ^ (4 * ((w + 3) / 4)) = pow-le-pow_right (omega arith) {i = w} {j = 4 * ((w + 3) / 4)} wide in
-    omega (arith, more, four)
-
-hex_are_digits : (w v : ℕ) → 1 ≤ w → w ≤ 64 → are_digits 16 16 (hex ((w + 3) / 4) v) ≡ true
-hex_are_digits w v low high =
-    let n : length (hex ((w + 3) / 4) v) ≡ (w + 3) / 4 = hex_length ((w + 3) / 4) v in
-    let parts = div-add-mod (w + 3) 4 in
-    let left = mod-lt (w + 3) {m = 4} (omega arith) in
-    and_from _ _ (hex_all (is_digit_of 16) sixteen_value ((w + 3) / 4) v)
-    (and_from _ _ (le-leb 1 (length (hex ((w + 3) / 4) v)) (omega (arith, n, parts, left, low))) (le-leb (length (hex ((w + 3) / 4) v)) 16 (omega (arith, n, parts, left, high))))
-
 -- ---- constants
 
 hex_back : (w v : ℕ) → 1 ≤ w → w ≤ 64 → v < 2 ^ w → hex_part (codes "'h" ++ hex ((w + 3) / 4) v) ≡ Some v
 hex_back w v low high h =
-    ap (λ b. cond b (Some (digits_value 16 (hex ((w + 3) / 4) v))) None) (hex_are_digits w v low high)
-    ∙ ap Some (hex_value ((w + 3) / 4) v (let k = digits_hold w in omega arith))
+    ap (λ b. cond b (Some (digits_value 16 (hex ((w + 3) / 4) v))) None) (are_hex_digits hex hex_given w v low high)
+    ∙ ap Some (hex_value hex hex_given w v h)
 
 pub constant_back : (w v : ℕ) → 1 ≤ w → w ≤ 64 → v < 2 ^ w → constant_of (constant w v) ≡ Some (record { width = w; value = v })
 unfolding constant_of
@@ -195,7 +123,7 @@ constant_words w v h =
     let d = decimal w ++ codes "'h" in
     let x = hex ((w + 3) / 4) v in
     list_all-append is_word d x
-    ∙ and_from _ _ (list_all-append is_word (decimal w) (codes "'h") ∙ and_from _ _ (decimal_words w h) refl) (hex_all is_word hex_digit_word ((w + 3) / 4) v)
+    ∙ and_from _ _ (list_all-append is_word (decimal w) (codes "'h") ∙ and_from _ _ (decimal_words w h) refl) (hex_all hex hex_given is_word hex_digit_word ((w + 3) / 4) v)
 
 -- ---- operators
 

@@ -13,10 +13,10 @@ use Rattle.pdl_vtext.specs.Words.{constant_of, are_decimals, is_port}
 use Rattle.pdl_vtext.specs.Grammar.{Row, AllFit, none, more, fields, chosen}
 use Rattle.pdl_vtext.specs.Drafts.{with_block}
 use Rattle.pdl_vlog.specs.Layout.{constant, always}
-use Rattle.pdl_declared.proofs.Numbers.{constant_back, decimals_are}
-use Rattle.pdl_declared.proofs.Lexed.{IsWordText, token, word_token, space_first, line_end}
-use Rattle.pdl_declared.proofs.Names.{IsOperandText, constant_word, reg_text}
-use Rattle.pdl_declared.proofs.Reading.{CompletesFile, one_rule}
+use Rattle.pdl_printed.proofs.Numbers.{constant_back, decimals_are}
+use Rattle.pdl_printed.proofs.Lexed.{IsWordText, token, word_token, space_first, line_end}
+use Rattle.pdl_printed.proofs.Names.{IsOperandText, constant_word, reg_text}
+use Rattle.pdl_printed.proofs.Reading.{CompletesFile, one_rule}
 
 -- ---- outputs
 

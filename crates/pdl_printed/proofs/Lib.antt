@@ -1,0 +1,12 @@
+pub mod Numbers
+pub mod Lexed
+pub mod Names
+pub mod Reading
+pub mod Declared
+pub mod Terms
+pub mod Braced
+pub mod Head
+pub mod Drives
+pub mod Writes
+pub mod Cells
+pub mod Arrays
