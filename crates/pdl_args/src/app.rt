@@ -90,18 +90,18 @@ pub(crate) fn command<'a>(alloc: Global) -> Result<Command<'a>, AllocError>
     ensures { IfOk result (λ c. app_of c ≡ pdl_app) }
 {
     let check = check_command(alloc)?;
-    let run = run_command(alloc)?;
-    let seq = seq_command(alloc)?;
-    let asm = asm_command(alloc)?;
-    let generated = gen_command(alloc)?;
-    let built = build_command(alloc)?;
-    let simulated = sim_command(alloc)?;
     let one = bare_command(alloc).subcommand(check)?;
+    let run = run_command(alloc)?;
     let two = one.subcommand(run)?;
+    let seq = seq_command(alloc)?;
     let three = two.subcommand(seq)?;
+    let asm = asm_command(alloc)?;
     let four = three.subcommand(asm)?;
+    let generated = gen_command(alloc)?;
     let five = four.subcommand(generated)?;
+    let built = build_command(alloc)?;
     let six = five.subcommand(built)?;
+    let simulated = sim_command(alloc)?;
     let all = six.subcommand(simulated)?;
     Ok(all)
 }

@@ -1,3 +1,4 @@
+mod InMemory
 pub mod Accepting
 pub mod ShortNames
 pub mod Simulating

@@ -11,7 +11,7 @@ use Rattle.pdl_cli.specs.declared.failure.Failure.{Failure}
 use Rattle.pdl_cli.specs.declared.failure.Failure.TheVariants.{Usage, Refused, ReadFault, WriteFault, NoMemory}
 use Rattle.pdl_gen.specs.Generated.{source}
 use Rattle.pdl_args.specs.Line.{Command, gen}
-use Rattle.pdl_cli.specs.Commands.{AtLine, IsAccepted, IsWrong, IsWrongFor, ImageFails, TextFails, Fails}
+use Rattle.pdl_cli.specs.Commands.{AtLine, IsAccepted, IsTaken, IsLoaded, IsWrong, IsWrongFor, ImageFails, TextFails, Fails}
 
 pub rose_before : (before mid now : ℕ) → before ≤ mid → Rose mid now → Rose before now
 rose_before before mid now h r = omega (arith, r)
@@ -35,3 +35,8 @@ text_fails holds before now number (Refused rule position) w = w
 text_fails holds before now number ReadFault w = absurd w
 text_fails holds before now number WriteFault w = w
 text_fails holds before now number NoMemory w = tt
+
+-- the image is that of the files as they were before the source was read
+pub is_loaded : (holds after : Option Held) (source image' text image_text : List ℕ) (p : Pipe) (words : List (List ℕ)) → after ≡ holds → Gives holds source text → IsAccepted text p → Gives after image' image_text → IsTaken p image_text words → IsLoaded holds source image' p words
+is_loaded holds after source image' text image_text p words e given a held taken =
+    record { source_text = text; source_given = given; accepted = a; image_text = image_text; image_given = subst (λ (o : Option Held). Gives o image' image_text) e held; taken = taken }

@@ -5,7 +5,7 @@ ghost use Rattle.pdl_tree.specs.View.{pipe_view};
 ghost use Rattle.pdl_args.specs.Line as command;
 ghost use Rattle.pdl_cli.specs.Commands.{IsAccepted, IsBuilt, Fails};
 
-use crate::failure::Failure;
+use crate::failure::{Failure, in_memory};
 use crate::run::accept;
 use pdl_check::Accepted;
 use pdl_kit::NoMemory;
@@ -35,8 +35,5 @@ pub fn build<F: Files>(alloc: Global, files: &mut F, source: &str) -> Result<Vec
     ensures later { F.faults files.old ≤ F.faults files.new }
 {
     let accepted = accept(alloc, files, source)?;
-    match text_of(alloc, &accepted) {
-        Ok(text) => Ok(text),
-        Err(_) => Err(Failure::NoMemory),
-    }
+    in_memory(text_of(alloc, &accepted))
 }

@@ -1,9 +1,10 @@
 // Why a command was not done, with its status and its text.
-ghost use Rattle.std.specs.Prelude.{◌≡◌, ◌≤◌, length};
+ghost use Rattle.std.specs.Prelude.{◌≡◌, ◌≤◌, IfOk, IfErr, Ok, length};
 ghost use Rattle.pdl_kit.specs.Sinks.{TakesPrefix};
 ghost use Rattle.pdl_cli.specs.Texts.{Says};
 ghost use Rattle.pdl_cli.specs.Failures.{refused_at};
 ghost use Rattle.pdl_cli.specs.Failures as spec;
+ghost use Rattle.pdl_cli.specs.declared.failure.Failure.TheVariants.{NoMemory as no_memory};
 
 use pdl_args::LineError;
 use pdl_asm::AsmError;
@@ -36,6 +37,17 @@ pub enum Failure {
     /// The output could not be written.
     WriteFault,
     NoMemory,
+}
+
+/// What was made, or that memory was wanting.
+pub fn in_memory<T>(made: Result<T, NoMemory>) -> Result<T, Failure>
+    ensures ok { IfOk result (λ t. made ≡ Ok t) }
+    ensures err { IfErr result (λ f. f ≡ no_memory) }
+{
+    match made {
+        Ok(t) => Ok(t),
+        Err(_) => Err(Failure::NoMemory),
+    }
 }
 
 impl From<ReadError> for Failure {

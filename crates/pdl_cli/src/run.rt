@@ -8,7 +8,7 @@ ghost use Rattle.pdl_image.specs.Images.{IsImage, IsRefusal, image as image_word
 ghost use Rattle.pdl_args.specs.Line as command;
 ghost use Rattle.pdl_cli.specs.Commands.{IsAccepted, SourceFails, ImageFails, IsTaken, IsLoaded, IsVerdict, IsOutput, IsSequential, Fails};
 
-use crate::failure::Failure;
+use crate::failure::{Failure, in_memory};
 use crate::print;
 use crate::sequential::sequential;
 use pdl_check::Accepted;
@@ -109,10 +109,7 @@ pub fn verdict<F: Files>(alloc: Global, files: &mut F, source: &str) -> Result<V
     ensures later { F.faults files.old ≤ F.faults files.new }
 {
     let accepted = accept(alloc, files, source)?;
-    match verdict_of(alloc, &accepted) {
-        Ok(text) => Ok(text),
-        Err(_) => Err(Failure::NoMemory),
-    }
+    in_memory(verdict_of(alloc, &accepted))
 }
 
 /// The text that `run` writes for a source and an image with these names, and so many cycles.
@@ -136,10 +133,7 @@ pub fn prepare<F: Files>(
 {
     let accepted = accept(alloc, files, source)?;
     match load(alloc, files, image, &accepted) {
-        Ok(words) => match text_of(alloc, &accepted, &words, cycles) {
-            Ok(text) => Ok(text),
-            Err(_) => Err(Failure::NoMemory),
-        },
+        Ok(words) => in_memory(text_of(alloc, &accepted, &words, cycles)),
         Err(failure) => Err(failure),
     }
 }
@@ -164,10 +158,7 @@ pub fn run_in_turn<F: Files>(
 {
     let accepted = accept(alloc, files, source)?;
     match load(alloc, files, image, &accepted) {
-        Ok(words) => match sequential(alloc, &accepted, &words, threads) {
-            Ok(text) => Ok(text),
-            Err(_) => Err(Failure::NoMemory),
-        },
+        Ok(words) => in_memory(sequential(alloc, &accepted, &words, threads)),
         Err(failure) => Err(failure),
     }
 }

@@ -5,7 +5,7 @@ ghost use Rattle.pdl_tree.specs.View.{pipe_view};
 ghost use Rattle.pdl_cli.specs.Commands.{IsAccepted, IsSummary, TextFails};
 ghost use Rattle.pdl_cli.specs.Summaries as spec;
 
-use crate::failure::Failure;
+use crate::failure::{Failure, in_memory};
 use crate::print::count;
 use pdl_check::Accepted;
 use pdl_check::check::check;
@@ -83,8 +83,5 @@ pub fn summary(alloc: Global, source: &[u8], words: &[u64], cycles: u32) -> Resu
     ensures err { IfErr result (TextFails source.now) }
 {
     let accepted = check(alloc, source)?;
-    match end_of(alloc, &accepted, words, cycles) {
-        Ok(line) => Ok(line),
-        Err(_) => Err(Failure::NoMemory),
-    }
+    in_memory(end_of(alloc, &accepted, words, cycles))
 }

@@ -277,7 +277,7 @@ fn emit_none(b: &mut Builder, l: Layout, p: &LockPorts, last: Net) -> Result<Slo
 }
 
 /// What all slots take next, the last one taking this content at a release. Answers slot 0.
-#[tactic(auto, using(crate::proofs::Tops::tops, crate::proofs::Kept::slots_kept_but, crate::proofs::Kept::slots_kept, pdl_lockapi::proofs::Kept::ports_but))]
+#[tactic(auto, using(crate::proofs::Tops::addr_width))]
 pub fn emit_slots(
     b: &mut Builder,
     l: Layout,

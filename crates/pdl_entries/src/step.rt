@@ -5,7 +5,7 @@ ghost use Rattle.pdl_net.specs.Meaning.{IsThere, Means, signal, next_signal, wri
 ghost use Rattle.pdl_net.specs.Growth.{Extends, ExtendsBut};
 ghost use Rattle.pdl_lockapi.specs.Laws.{PortsThere, PortsFit, HasNoPorts, HasCommitNets, StepLaw, own, step_signals};
 ghost use Rattle.pdl_entries.specs.Slots.{IsSized, HasSlots, ArePlaced, Stands, layout_of, ticket_bits};
-ghost use Rattle.pdl_entries.specs.Steps.{push_signal, ticket_after, base_after, left_signal, slot_addr, slot_value, NextValues, WritesArray, own_base, own_array, own_all};
+ghost use Rattle.pdl_entries.specs.Steps.{push_signal, ticket_after, base_after, left_signal, slot_addr, slot_value, NextSlots, NextValues, WritesArray, own_base, own_slots, own_array, own_all};
 
 use crate::fill::emit_push;
 use crate::layout::Layout;
@@ -81,7 +81,7 @@ pub fn emit_base(b: &mut Builder, l: Layout, p: &LockPorts) -> Result<(), NoMemo
 }
 
 /// The next ticket after the new entry and the squash.
-#[tactic(auto, using(crate::proofs::Looks::push_width, crate::proofs::Steps::afters, pdl_lockapi::proofs::Kept::ports))]
+#[tactic(auto, using(crate::proofs::Looks::push_width, crate::proofs::Steps::afters))]
 fn emit_ticket_after(b: &mut Builder, l: Layout, p: &LockPorts, push: Net) -> Result<Net, NoMemory>
     requires sized { IsSized l }
     requires slots { HasSlots b.old l l.size }
@@ -142,8 +142,30 @@ fn emit_write(b: &mut Builder, l: Layout, p: &LockPorts, first: Slot) -> Result<
     }
 }
 
+/// What all slots take next, the last one nothing at a release. Answers slot 0.
+fn emit_first(b: &mut Builder, l: Layout, p: &LockPorts) -> Result<Slot, NoMemory>
+    requires sized { IsSized l }
+    requires slots { HasSlots b.old l l.size }
+    requires ports { PortsThere b.old p.now }
+    requires fit { PortsFit b.old l.bits l.width l.ticket p.now }
+    ensures addr { IfOk result (λ s.
+        Means b.new s.addr (slot_addr l (step_signals b.old p.now) 0)) }
+    ensures value { IfOk result (λ s.
+        Means b.new s.value (slot_value l (step_signals b.old p.now) 0)) }
+    ensures addr_width { IfOk result (λ s. (signal b.new s.addr).width ≡ l.bits) }
+    ensures value_width { IfOk result (λ s. (signal b.new s.value).width ≡ l.kept) }
+    ensures slots { OnOk result (NextSlots b.new l (step_signals b.old p.now)
+        (const_signal l.kept 0) 0) }
+    ensures extends { ExtendsBut (own_slots l) b.old b.new }
+{
+    let (push, addr) = emit_push(b, l, p)?;
+    let left = emit_left(b, l, p, push)?;
+    let none = b.constant(l.kept, 0)?;
+    let first = emit_slots(b, l, p, left, addr, none)?;
+    Ok(first)
+}
+
 /// The nets of the commit port, and what base, slots and array take next.
-#[tactic(auto, using(crate::proofs::Kept::slots_kept, crate::proofs::Kept::slots_kept_but))]
 fn emit_all(b: &mut Builder, l: Layout, p: &LockPorts) -> Result<LockNets, NoMemory>
     requires sized { IsSized l }
     requires slots { HasSlots b.old l l.size }
@@ -163,10 +185,7 @@ fn emit_all(b: &mut Builder, l: Layout, p: &LockPorts) -> Result<LockNets, NoMem
     ensures value_width { IfOk result (λ n. (signal b.new n.value).width ≡ l.kept) }
     ensures extends { ExtendsBut (own_all l) b.old b.new }
 {
-    let (push, addr) = emit_push(b, l, p)?;
-    let left = emit_left(b, l, p, push)?;
-    let none = b.constant(l.kept, 0)?;
-    let first = emit_slots(b, l, p, left, addr, none)?;
+    let first = emit_first(b, l, p)?;
     let nets = emit_commit(b, l, p, first)?;
     emit_base(b, l, p)?;
     emit_write(b, l, p, first)?;

@@ -1,5 +1,5 @@
 // Expressions over numbered variables.
-ghost use Rattle.std.specs.Prelude.{◌≡◌, ℕ, ◌+◌, ◌-◌, ◌≤◌, if◌then◌else◌, nat_lt, unwrap_or, map, IfOk};
+ghost use Rattle.std.specs.Prelude.{◌≡◌, ℕ, ◌+◌, ◌-◌, ◌≤◌, if◌then◌else◌, nat_lt, unwrap_or, map, IfOk, Ok};
 ghost use Rattle.pdl_semantics.specs.Flat as flat;
 ghost use Rattle.pdl_semantics.specs.Flatten as spec;
 ghost use Rattle.pdl_tree.specs.View.{expr_view as tree_view, exprs_view as trees_view, op_view};
@@ -98,13 +98,14 @@ fn op_width(op: BinaryOp, width: u8) -> u8
     }
 }
 
-fn binary(alloc: Global, op: BinaryOp, a: Wide, b: Wide) -> Result<Wide, NoMemory>
-    requires { a.width ≤ 64 }
-    ensures form { IfOk result (λ r.
-        expr_view r.e ≡ flat.Binary (op_view op) a.width (expr_view a.e) (expr_view b.e)) }
-    ensures width { IfOk result (λ r. r.width ≡ spec.op_width (op_view op) a.width) }
+fn binary(alloc: Global, op: BinaryOp, of: Operands) -> Result<Wide, NoMemory>
+    requires { of.a.width ≤ 64 }
+    ensures form { IfOk result (λ r. expr_view r.e
+        ≡ flat.Binary (op_view op) of.a.width (expr_view of.a.e) (expr_view of.b.e)) }
+    ensures width { IfOk result (λ r. r.width ≡ spec.op_width (op_view op) of.a.width) }
     ensures small { IfOk result (λ r. r.width ≤ 64) }
 {
+    let Operands { a, b } = of;
     let width = a.width;
     let a = Boxed::new(alloc, a.e)?;
     let b = Boxed::new(alloc, b.e)?;
@@ -125,15 +126,16 @@ fn cat_width(above: u8, below: u8) -> u8
     if both > 64 { 1 } else { both }
 }
 
-fn cat(alloc: Global, a: Wide, b: Wide) -> Result<Wide, NoMemory>
-    requires a_small { a.width ≤ 64 }
-    requires b_small { b.width ≤ 64 }
+fn cat(alloc: Global, of: Operands) -> Result<Wide, NoMemory>
+    requires a_small { of.a.width ≤ 64 }
+    requires b_small { of.b.width ≤ 64 }
     ensures form { IfOk result (λ r.
-        expr_view r.e ≡ flat.Cat (expr_view a.e) b.width (expr_view b.e)) }
+        expr_view r.e ≡ flat.Cat (expr_view of.a.e) of.b.width (expr_view of.b.e)) }
     ensures width { IfOk result (λ r.
-        r.width ≡ (if nat_lt 64 (a.width + b.width) then 1 else a.width + b.width)) }
+        r.width ≡ (if nat_lt 64 (of.a.width + of.b.width) then 1 else of.a.width + of.b.width)) }
     ensures small { IfOk result (λ r. r.width ≤ 64) }
 {
+    let Operands { a, b } = of;
     let wide = cat_width(a.width, b.width);
     let width = b.width;
     let a = Boxed::new(alloc, a.e)?;
@@ -144,11 +146,12 @@ fn cat(alloc: Global, a: Wide, b: Wide) -> Result<Wide, NoMemory>
     })
 }
 
-fn less_signed(alloc: Global, a: Wide, b: Wide) -> Result<Wide, NoMemory>
+fn less_signed(alloc: Global, of: Operands) -> Result<Wide, NoMemory>
     ensures form { IfOk result (λ r.
-        expr_view r.e ≡ flat.LessSigned a.width (expr_view a.e) (expr_view b.e)) }
+        expr_view r.e ≡ flat.LessSigned of.a.width (expr_view of.a.e) (expr_view of.b.e)) }
     ensures width { IfOk result (λ r. r.width ≡ 1) }
 {
+    let Operands { a, b } = of;
     let width = a.width;
     let a = Boxed::new(alloc, a.e)?;
     let b = Boxed::new(alloc, b.e)?;
@@ -185,11 +188,12 @@ fn sign_extend(alloc: Global, a: Wide, wide: u64) -> Result<Wide, NoMemory>
     })
 }
 
-fn choose(alloc: Global, c: Wide, a: Wide, b: Wide) -> Result<Wide, NoMemory>
+fn choose(alloc: Global, c: Wide, of: Operands) -> Result<Wide, NoMemory>
     ensures form { IfOk result (λ r.
-        expr_view r.e ≡ flat.Choose (expr_view c.e) (expr_view a.e) (expr_view b.e)) }
-    ensures width { IfOk result (λ r. r.width ≡ a.width) }
+        expr_view r.e ≡ flat.Choose (expr_view c.e) (expr_view of.a.e) (expr_view of.b.e)) }
+    ensures width { IfOk result (λ r. r.width ≡ of.a.width) }
 {
+    let Operands { a, b } = of;
     let width = a.width;
     let c = Boxed::new(alloc, c.e)?;
     let a = Boxed::new(alloc, a.e)?;
@@ -198,6 +202,22 @@ fn choose(alloc: Global, c: Wide, a: Wide, b: Wide) -> Result<Wide, NoMemory>
         e: Expr::Choose { c, a, b },
         width,
     })
+}
+
+// Two operands, each with its width.
+#[derive(Drop)]
+struct Operands {
+    a: Wide,
+    b: Wide,
+}
+
+// Both operands, where memory held for each.
+fn both(a: Result<Wide, NoMemory>, b: Result<Wide, NoMemory>) -> Result<Operands, NoMemory>
+    ensures a { IfOk result (λ r. a ≡ Ok r.a) }
+    ensures b { IfOk result (λ r. b ≡ Ok r.b) }
+{
+    let a = a?;
+    Ok(Operands { a, b: b? })
 }
 
 /// An expression over the variables' numbers, with its width.
@@ -211,24 +231,21 @@ pub fn flat_expr(alloc: Global, vars: &Vars, e: &Tree) -> Result<Wide, NoMemory>
         Tree::Constant(l) => Ok(constant(l)),
         Tree::Variable(x) => Ok(variable(vars, &x.name)),
         Tree::Slice { x, high, low } => Ok(slice(vars, &x.name, high.value, low.value)),
-        Tree::Not(a) => {
-            let a = flat_expr(alloc, vars, a.get())?;
-            not(alloc, a)
-        }
+        Tree::Not(a) => not(alloc, flat_expr(alloc, vars, a.get())?),
         Tree::Binary { op, a, b } => {
-            let a = flat_expr(alloc, vars, a.get())?;
-            let b = flat_expr(alloc, vars, b.get())?;
-            binary(alloc, *op, a, b)
+            let a = flat_expr(alloc, vars, a.get());
+            let b = flat_expr(alloc, vars, b.get());
+            binary(alloc, *op, both(a, b)?)
         }
         Tree::Cat(a, b) => {
-            let a = flat_expr(alloc, vars, a.get())?;
-            let b = flat_expr(alloc, vars, b.get())?;
-            cat(alloc, a, b)
+            let a = flat_expr(alloc, vars, a.get());
+            let b = flat_expr(alloc, vars, b.get());
+            cat(alloc, both(a, b)?)
         }
         Tree::LessSigned(a, b) => {
-            let a = flat_expr(alloc, vars, a.get())?;
-            let b = flat_expr(alloc, vars, b.get())?;
-            less_signed(alloc, a, b)
+            let a = flat_expr(alloc, vars, a.get());
+            let b = flat_expr(alloc, vars, b.get());
+            less_signed(alloc, both(a, b)?)
         }
         Tree::ZeroExtend(a, wide) => {
             let a = flat_expr(alloc, vars, a.get())?;
@@ -239,10 +256,10 @@ pub fn flat_expr(alloc: Global, vars: &Vars, e: &Tree) -> Result<Wide, NoMemory>
             sign_extend(alloc, a, wide.value)
         }
         Tree::Choose(c, a, b) => {
-            let c = flat_expr(alloc, vars, c.get())?;
-            let a = flat_expr(alloc, vars, a.get())?;
-            let b = flat_expr(alloc, vars, b.get())?;
-            choose(alloc, c, a, b)
+            let a = flat_expr(alloc, vars, a.get());
+            let b = flat_expr(alloc, vars, b.get());
+            let arms = both(a, b)?;
+            choose(alloc, flat_expr(alloc, vars, c.get())?, arms)
         }
     }
 }

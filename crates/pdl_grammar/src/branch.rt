@@ -104,15 +104,13 @@ fn add(done: &mut Seq<Stmt>, item: Item) -> Result<(), NoMemory>
     ensures { OnOk result (map stmt_view done.new ≡ map stmt_view done.old ++ item_view item) }
 {
     match item {
-        Item::One(only) => {
-            done.push(only)?;
-        }
+        Item::One(only) => done.push(only),
         Item::Two(first, second) => {
-            done.push(first)?;
-            done.push(second)?;
+            let one = done.push(first);
+            let two = done.push(second);
+            one.and(two)
         }
     }
-    Ok(())
 }
 
 /// Items up to a closing brace, at most `most`.

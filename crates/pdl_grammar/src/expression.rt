@@ -5,7 +5,7 @@ ghost use Rattle.pdl_grammar.specs.Grammar.{operator_of, loose, levels};
 ghost use Rattle.pdl_grammar.specs.Read.{Reads, pair_view, sized_view};
 ghost use Rattle.pdl_grammar.specs.Reading as spec;
 ghost use Rattle.pdl_tokens.specs.Cursor.{first_kind};
-ghost use Rattle.pdl_tree.specs.View.{ident_view, op_view, expr_view, maybe_op_view};
+ghost use Rattle.pdl_tree.specs.View.{ident_view, op_view, expr_view, number_view, maybe_op_view};
 
 use crate::item::{Pair, Sized};
 use crate::stop::Stop;
@@ -60,6 +60,42 @@ fn choice(alloc: Global, c: Expr, a: Expr, b: Expr) -> Result<Expr, NoMemory>
     let c = Boxed::new(alloc, c)?;
     let a = Boxed::new(alloc, a)?;
     Ok(Expr::Choose(c, a, Boxed::new(alloc, b)?))
+}
+
+fn not(alloc: Global, e: Expr) -> Result<Expr, NoMemory>
+    ensures { IfOk result (λ r. expr_view r ≡ tree.Not (expr_view e)) }
+{
+    Ok(Expr::Not(Boxed::new(alloc, e)?))
+}
+
+fn cat(alloc: Global, of: Pair) -> Result<Expr, NoMemory>
+    ensures { IfOk result (λ r. expr_view r ≡ tree.Cat (expr_view of.a) (expr_view of.b)) }
+{
+    let Pair { a, b } = of;
+    Ok(Expr::Cat(Boxed::new(alloc, a)?, Boxed::new(alloc, b)?))
+}
+
+fn less_signed(alloc: Global, of: Pair) -> Result<Expr, NoMemory>
+    ensures { IfOk result (λ r. expr_view r ≡ tree.LessSigned (expr_view of.a) (expr_view of.b)) }
+{
+    let Pair { a, b } = of;
+    Ok(Expr::LessSigned(Boxed::new(alloc, a)?, Boxed::new(alloc, b)?))
+}
+
+fn zero_extend(alloc: Global, of: Sized) -> Result<Expr, NoMemory>
+    ensures { IfOk result (λ r. expr_view r
+        ≡ tree.ZeroExtend (expr_view of.e) (number_view of.width)) }
+{
+    let Sized { e, width } = of;
+    Ok(Expr::ZeroExtend(Boxed::new(alloc, e)?, width))
+}
+
+fn sign_extend(alloc: Global, of: Sized) -> Result<Expr, NoMemory>
+    ensures { IfOk result (λ r. expr_view r
+        ≡ tree.SignExtend (expr_view of.e) (number_view of.width)) }
+{
+    let Sized { e, width } = of;
+    Ok(Expr::SignExtend(Boxed::new(alloc, e)?, width))
 }
 
 // What stands between round brackets, after the first.
@@ -143,28 +179,23 @@ fn operand(alloc: Global, tokens: &mut Cursor<'_>, room: usize) -> Result<Expr, 
         }
         Some(TokenKind::Mark(Mark::Tilde)) => {
             tokens.skip();
-            let e = operand_inside(alloc, tokens, room)?;
-            Ok(Expr::Not(Boxed::new(alloc, e)?))
+            Ok(not(alloc, operand_inside(alloc, tokens, room)?)?)
         }
         Some(TokenKind::Mark(Mark::Cat)) => {
             tokens.skip();
-            let Pair { a, b } = pair(alloc, tokens, room)?;
-            Ok(Expr::Cat(Boxed::new(alloc, a)?, Boxed::new(alloc, b)?))
+            Ok(cat(alloc, pair(alloc, tokens, room)?)?)
         }
         Some(TokenKind::Mark(Mark::LessSigned)) => {
             tokens.skip();
-            let Pair { a, b } = pair(alloc, tokens, room)?;
-            Ok(Expr::LessSigned(Boxed::new(alloc, a)?, Boxed::new(alloc, b)?))
+            Ok(less_signed(alloc, pair(alloc, tokens, room)?)?)
         }
         Some(TokenKind::Mark(Mark::ZeroExtend)) => {
             tokens.skip();
-            let Sized { e, width } = sized_expr(alloc, tokens, room)?;
-            Ok(Expr::ZeroExtend(Boxed::new(alloc, e)?, width))
+            Ok(zero_extend(alloc, sized_expr(alloc, tokens, room)?)?)
         }
         Some(TokenKind::Mark(Mark::SignExtend)) => {
             tokens.skip();
-            let Sized { e, width } = sized_expr(alloc, tokens, room)?;
-            Ok(Expr::SignExtend(Boxed::new(alloc, e)?, width))
+            Ok(sign_extend(alloc, sized_expr(alloc, tokens, room)?)?)
         }
         _ => Err(Stop::Misplaced),
     }

@@ -2,4 +2,5 @@ pub mod Steps
 pub mod Digits
 pub mod Rules
 pub mod Complete
+pub mod Fields
 pub mod Place

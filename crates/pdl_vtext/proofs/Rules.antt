@@ -1,5 +1,5 @@
 -- Rules taken one after another.
-use Rattle.std.proofs.Common.{◌≡◌, ◌≢◌, ℕ, suc, ◌+◌, ◌<◌, ◌≤◌, Bool, true, false, cond, List, [], ◌∷◌, ◌++◌, length, take, map, get_or, Some, None, Err, refl, sym, ap, ◌∙◌, subst, arith, append_assoc, append-nil, length-append, drop}
+use Rattle.std.proofs.Common.{◌≡◌, ◌≢◌, ℕ, suc, ◌+◌, ◌<◌, Bool, true, false, cond, List, [], ◌∷◌, ◌++◌, length, take, map, get_or, Some, None, Err, refl, sym, ap, ◌∙◌, subst, arith, append_assoc, append-nil, length-append, drop}
 use Rattle.std.proofs.lemmas.List.{take_more, take-append-drop, drop_more, map-append}
 use Rattle.pdl_vtext.specs.declared.field.Field.{Field}
 use Rattle.pdl_vtext.specs.declared.rule.Part.{Part}
@@ -13,7 +13,7 @@ use Rattle.pdl_vtext.specs.declared.token.Token as r
 use Rattle.pdl_vtext.specs.declared.read.Stop.{Stop}
 use Rattle.pdl_vtext.specs.declared.read.Stop.TheVariants as stop
 use Rattle.pdl_vtext.specs.Cursor.{token_view, next as skipped}
-use Rattle.pdl_vtext.specs.Read.{IsFitting, Sentence, TakesRules, IsUnfit, Found, Stopped, Comes, Leads, here, further, all_found, chosen_at, nothing, inside, AreStopped, AreTaken}
+use Rattle.pdl_vtext.specs.Read.{IsFitting, Sentence, TakesRules, IsUnfit, Found, Stopped, Comes, Leads, here, further, all_found, chosen_at, nothing, inside, IsTaken, IsOff, TakesRule, AreTaken}
 
 -- ---- the tokens of one rule
 
@@ -88,13 +88,6 @@ fewer_left part rule old found new e f =
 not_finished : (part : Part) → is_finished part ≡ false → part ≢ p.Finished
 not_finished part h = λ e. let k : true ≡ false = subst (λ x. is_finished x ≡ false) e h in cc
 
-pub no_rule : (old mid : Row) (part : Part) (d : Draft) → AreSoFar old mid part d → is_finished part ≡ false → chosen_at part mid ≡ None → AreStopped old mid
-no_rule old mid part d h n e = record { rules = h.rules; part = part; leads = h.leads; front = []; split = h.split; stuck = nothing (not_finished part n) e }
-
-pub no_more : (old mid found new : Row) (part : Part) (rule : Rule) (d : Draft) → AreSoFar old mid part d → chosen_at part mid ≡ Some rule → Stopped (fields rule) mid found new → AreStopped old new
-no_more old mid found new part rule d h e s =
-    record { rules = h.rules; part = part; leads = h.leads; front = found; split = h.split ∙ ap (λ x. all_found h.rules ++ x) s.split; stuck = inside e s }
-
 it_is_finished : (part : Part) → is_finished part ≡ true → part ≡ p.Finished
 it_is_finished p.Finished e = refl
 it_is_finished _ e = cc
@@ -141,16 +134,25 @@ no_more_token gs i d old mid items l a s f = record {
 pub begun : (ts : Row) (d : Draft) → d ≡ no_draft → AreSoFar ts ts p.Start d
 begun ts d e = subst (AreSoFar ts ts p.Start) (sym e) (none_yet ts)
 
-pub gone_on : (old mid found new : Row) (part part2 : Part) (rule : Rule) (gs : List Field) (d d2 : Draft) → AreSoFar old mid part d → Some rule ≡ chosen_at part mid → gs ≡ fields rule → Found gs mid found new
-    → part2 ≡ next rule → d2 ≡ taken d rule found → AreSoFar old new part2 d2
-gone_on old mid found new part part2 rule gs d d2 h c g f e k =
-    let o = one_more_rule old mid found new part rule d h (sym c) (subst (λ y. Found y mid found new) g f) in
-    subst (λ x. AreSoFar old new x d2) (sym e) (subst (AreSoFar old new (next rule)) (sym k) o)
+pub one_stopped : (old found new : Row) (part : Part) (rule : Rule) (gs : List Field) (d e : Draft) (stop : Stop) → Some rule ≡ chosen_at part old → gs ≡ fields rule
+    → Sentence gs old found new (Err stop) → TakesRule part old new d e (Err stop)
+one_stopped old found new part rule gs d e stop.NoMemory c g s = tt
+one_stopped old found new part rule gs d e stop.Misplaced c g s =
+    let k : Stopped (fields rule) old found new = subst (λ y. Stopped y old found new) g s in
+    record { front = found; split = k.split; stuck = λ n. inside (sym c) k }
 
-pub fewer : (part : Part) (rule : Rule) (gs : List Field) (old found new : Row) → Some rule ≡ chosen_at part old → gs ≡ fields rule → Found gs old found new → length new < length old
-fewer part rule gs old found new e g f = fewer_left part rule old found new (sym e) (subst (λ y. Found y old found new) g f)
+pub none_chosen : (part : Part) (old : Row) → None ≡ chosen_at part old → IsOff part old old
+none_chosen part old e = record { front = []; split = refl; stuck = λ n. nothing n (sym e) }
 
-pub stopped_so : (old mid found new : Row) (part : Part) (rule : Rule) (gs : List Field) (d : Draft) (e : Stop) → AreSoFar old mid part d → Some rule ≡ chosen_at part mid → gs ≡ fields rule
-    → Sentence gs mid found new (Err e) → TakesRules old new (Err e)
-stopped_so old mid found new part rule gs d stop.NoMemory h c g s = tt
-stopped_so old mid found new part rule gs d stop.Misplaced h c g s = no_more old mid found new part rule d h (sym c) (subst (λ y. Stopped y mid found new) g s)
+pub gone_on : (old mid new : Row) (part after : Part) (d e : Draft) → AreSoFar old mid part d → IsTaken part mid new d e after → AreSoFar old new after e
+gone_on old mid new part after d e h t =
+    let o = one_more_rule old mid t.row new part t.rule d h t.comes t.front in
+    subst (λ x. AreSoFar old new x e) (sym t.goes_on) (subst (AreSoFar old new (next t.rule)) (sym t.draft) o)
+
+pub fewer : (part after : Part) (old new : Row) (d e : Draft) → IsTaken part old new d e after → length new < length old
+fewer part after old new d e t = fewer_left part t.rule old t.row new t.comes t.front
+
+pub stopped_so : (old mid new : Row) (part : Part) (d e : Draft) (stop : Stop) → AreSoFar old mid part d → is_finished part ≡ false → TakesRule part mid new d e (Err stop) → TakesRules old new (Err stop)
+stopped_so old mid new part d e stop.NoMemory h n s = tt
+stopped_so old mid new part d e stop.Misplaced h n s =
+    record { rules = h.rules; part = part; leads = h.leads; front = s.front; split = h.split ∙ ap (λ x. all_found h.rules ++ x) s.split; stuck = s.stuck (not_finished part n) }

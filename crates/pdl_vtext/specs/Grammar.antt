@@ -50,6 +50,52 @@ fits f.ArrayName t = is_array t
 fits f.CellName t = is_cell t
 fits f.Operand t = is_operand t
 
+-- the one word that a token has to be, if it is one alone
+abbrev pub word : Field → Option (List ℕ)
+word f.Module = Some (codes "module")
+word f.Input = Some (codes "input")
+word f.Output = Some (codes "output")
+word f.Wire = Some (codes "wire")
+word f.Reg = Some (codes "reg")
+word f.Assign = Some (codes "assign")
+word f.Always = Some (codes "always")
+word f.Posedge = Some (codes "posedge")
+word f.Begin = Some (codes "begin")
+word f.If = Some (codes "if")
+word f.End = Some (codes "end")
+word f.EndModule = Some (codes "endmodule")
+word f.Clock = Some (codes "clk")
+word f.Reset = Some (codes "rst")
+word f.Zero = Some (codes "0")
+word f.OpenRound = Some (codes "(")
+word f.CloseRound = Some (codes ")")
+word f.OpenSquare = Some (codes "[")
+word f.CloseSquare = Some (codes "]")
+word f.OpenBrace = Some (codes "{")
+word f.CloseBrace = Some (codes "}")
+word f.Comma = Some (codes ",")
+word f.Colon = Some (codes ":")
+word f.Semicolon = Some (codes ";")
+word f.Equals = Some (codes "=")
+word f.At = Some (codes "@")
+word f.Takes = Some (codes "<=")
+word f.Question = Some (codes "?")
+word f.Tilde = Some (codes "~")
+word _ = None
+
+-- a word is of the kind that is asked of a token, where that isn't one word alone
+abbrev pub is_of_kind : Field → List ℕ → Bool
+is_of_kind f.Number t = is_some (number_of t)
+is_of_kind f.Constant t = is_some (constant_of t)
+is_of_kind f.Operator t = is_some (operator_of t)
+is_of_kind f.ModuleName t = is_module t
+is_of_kind f.PortName t = is_port t
+is_of_kind f.RegName t = is_reg t
+is_of_kind f.ArrayName t = is_array t
+is_of_kind f.CellName t = is_cell t
+is_of_kind f.Operand t = is_operand t
+is_of_kind _ t = false
+
 abbrev range : List Field → List Field
 range more = f.OpenSquare ∷ f.Number ∷ f.Colon ∷ f.Zero ∷ f.CloseSquare ∷ more
 

@@ -1,5 +1,5 @@
 -- What the parts of the reader ensure.
-use Rattle.std.specs.Prelude.{◌≡◌, ◌≢◌, ℕ, Bool, true, false, List, [], ◌∷◌, ◌++◌, flat_map, Option, Some, None, Result, Ok, Err}
+use Rattle.std.specs.Prelude.{◌≡◌, ◌≢◌, ℕ, true, false, List, [], ◌∷◌, ◌++◌, flat_map, Option, Some, None, Result, Ok, Err}
 use Rattle.pdl_vtext.specs.declared.field.Field.{Field}
 use Rattle.pdl_vtext.specs.declared.rule.Part.{Part}
 use Rattle.pdl_vtext.specs.declared.rule.Part.TheVariants.{Start, Finished}
@@ -11,7 +11,7 @@ use Rattle.pdl_vtext.specs.declared.read.Stop.TheVariants.{Misplaced, NoMemory}
 use Rattle.pdl_vtext.specs.Tokens.{Token}
 use Rattle.pdl_vtext.specs.Cursor.{token_view}
 use Rattle.pdl_vtext.specs.Grammar.{Row, Taken, AllFit, fits, fields, chosen, next}
-use Rattle.pdl_vtext.specs.Drafts.{no_draft, all_taken}
+use Rattle.pdl_vtext.specs.Drafts.{no_draft, all_taken, taken}
 use Rattle.pdl_vtext.specs.Text as text
 use Rattle.pdl_vtext.specs.Text.{IsFile, IsOutOfPlace}
 use Rattle.pdl_vtext.specs.declared.file.File.{File}
@@ -82,6 +82,27 @@ all_found done = flat_map (λ t. t.found) done
 pub data IsStuck : Part → Row → Row → Type 0 where
   nothing : {part : Part} {left : Row} → part ≢ Finished → chosen_at part left ≡ None → IsStuck part [] left
   inside : {part : Part} {rule : Rule} {old front left : Row} → chosen_at part old ≡ Some rule → Stopped (fields rule) old front left → IsStuck part front left
+
+-- the rule that comes at a part was taken
+pub record IsTaken (part : Part) (old new : Row) (d e : Draft) (after : Part) : Type 0 where
+  pub rule : Rule
+  pub row : Row
+  pub comes : chosen_at part old ≡ Some rule
+  pub front : Found (fields rule) old row new
+  pub draft : e ≡ taken d rule row
+  pub goes_on : after ≡ next rule
+
+-- at a part that isn't the end the tokens are stuck
+pub record IsOff (part : Part) (old new : Row) : Type 0 where
+  pub front : Row
+  pub split : old ≡ front ++ new
+  pub stuck : part ≢ Finished → IsStuck part front new
+
+-- what taking the rule that comes at a part answers
+abbrev pub TakesRule : Part → Row → Row → Draft → Draft → Result Part Stop → Type 0
+TakesRule part old new d e (Ok after) = IsTaken part old new d e after
+TakesRule part old new d e (Err Misplaced) = IsOff part old new
+TakesRule part old new d e (Err NoMemory) = Unit {0}
 
 -- rules up to the end of a file were taken
 pub record AreTaken (old new : Row) (d : Draft) : Type 0 where

@@ -2,6 +2,7 @@
 ghost use Rattle.std.specs.Prelude.{◌≡◌, IfOk, OnOk, drop, map};
 ghost use Rattle.pdl_vtext.specs.Cursor.{token_view};
 ghost use Rattle.pdl_vtext.specs.Drafts as spec;
+ghost use Rattle.pdl_vtext.specs.declared.file.Term.TheVariants.{Bin, Mux, Cat, Read};
 
 use crate::field::operator_of;
 use crate::file::{
@@ -69,6 +70,36 @@ fn name_at(alloc: Global, found: &[Token<'_>], i: usize) -> Result<Name, NoMemor
     Name::copy_of(alloc, text_at(found, i))
 }
 
+// The names at two places.
+fn names_at(
+    alloc: Global,
+    found: &[Token<'_>],
+    i: usize,
+    j: usize,
+) -> Result<(Name, Name), NoMemory>
+    ensures { IfOk result (λ (a, b). (a ≡ spec.text_at (map token_view found.now) i)
+        × (b ≡ spec.text_at (map token_view found.now) j)) }
+{
+    let one = name_at(alloc, found, i)?;
+    let other = name_at(alloc, found, j)?;
+    Ok((one, other))
+}
+
+// An operand that was taken before, and the name at a place.
+fn operands(
+    alloc: Global,
+    first: &Name,
+    found: &[Token<'_>],
+    i: usize,
+) -> Result<(Name, Name), NoMemory>
+    ensures { IfOk result (λ (a, b). (a ≡ first.now)
+        × (b ≡ spec.text_at (map token_view found.now) i)) }
+{
+    let first = first.clone()?;
+    let second = name_at(alloc, found, i)?;
+    Ok((first, second))
+}
+
 // The name of a module without `pdl_`.
 fn module_at(alloc: Global, found: &[Token<'_>], i: usize) -> Result<Name, NoMemory>
     ensures { IfOk result (λ n. n ≡ drop 4 (spec.text_at (map token_view found.now) i)) }
@@ -78,6 +109,58 @@ fn module_at(alloc: Global, found: &[Token<'_>], i: usize) -> Result<Name, NoMem
         Some(name) => Name::copy_of(alloc, name),
         None => Name::copy_of(alloc, &[]),
     }
+}
+
+fn read_term(alloc: Global, found: &[Token<'_>]) -> Result<Term, NoMemory>
+    ensures { IfOk result (λ t. t ≡ Read (spec.text_at (map token_view found.now) 0)
+        (spec.text_at (map token_view found.now) 2)) }
+{
+    let (array, addr) = names_at(alloc, found, 0, 2)?;
+    Ok(Term::Read { array, addr })
+}
+
+fn cat_term(alloc: Global, found: &[Token<'_>]) -> Result<Term, NoMemory>
+    ensures { IfOk result (λ t. t ≡ Cat (spec.text_at (map token_view found.now) 0)
+        (spec.text_at (map token_view found.now) 2)) }
+{
+    let (a, b) = names_at(alloc, found, 0, 2)?;
+    Ok(Term::Cat(a, b))
+}
+
+fn bin_term(alloc: Global, first: &Name, found: &[Token<'_>]) -> Result<Term, NoMemory>
+    ensures { IfOk result (λ t. t ≡ Bin (spec.operator_at (map token_view found.now) 0) first.now
+        (spec.text_at (map token_view found.now) 1)) }
+{
+    let (a, b) = operands(alloc, first, found, 1)?;
+    Ok(Term::Bin(operator_at(found, 0), a, b))
+}
+
+fn mux_term(alloc: Global, first: &Name, found: &[Token<'_>]) -> Result<Term, NoMemory>
+    ensures { IfOk result (λ t. t ≡ Mux first.now (spec.text_at (map token_view found.now) 1)
+        (spec.text_at (map token_view found.now) 3)) }
+{
+    let (chosen, a) = operands(alloc, first, found, 1)?;
+    Ok(Term::Mux(chosen, a, name_at(alloc, found, 3)?))
+}
+
+fn write_decl(alloc: Global, found: &[Token<'_>]) -> Result<WriteDecl, NoMemory>
+    ensures { IfOk result (λ w. w ≡ record {
+      line = spec.line_at (map token_view found.now) 0;
+      enable = spec.text_at (map token_view found.now) 2;
+      array = spec.text_at (map token_view found.now) 4;
+      addr = spec.text_at (map token_view found.now) 6;
+      value = spec.text_at (map token_view found.now) 9;
+    }) }
+{
+    let (enable, array) = names_at(alloc, found, 2, 4)?;
+    let (addr, value) = names_at(alloc, found, 6, 9)?;
+    Ok(WriteDecl {
+        line: line_at(found, 0),
+        enable,
+        array,
+        addr,
+        value,
+    })
 }
 
 impl File {
@@ -115,6 +198,13 @@ impl Draft {
             operand: Name::from_vec(Vec::new(alloc)),
             writes: Seq::new(alloc),
         }
+    }
+
+    /// What was declared.
+    pub fn into_file(self) -> File
+        ensures { result ≡ self.file }
+    {
+        self.file
     }
 
     /// Takes the tokens of a rule.
@@ -204,8 +294,9 @@ impl Draft {
     fn cell_head(&mut self, alloc: Global, found: &[Token<'_>]) -> Result<(), NoMemory>
         ensures { OnOk result (self.new ≡ spec.with_head self.old (map token_view found.now)) }
     {
-        self.name = name_at(alloc, found, 6)?;
-        self.target = name_at(alloc, found, 9)?;
+        let (name, target) = names_at(alloc, found, 6, 9)?;
+        self.name = name;
+        self.target = target;
         self.line = line_at(found, 8);
         self.high = number_at(found, 2);
         Ok(())
@@ -223,62 +314,72 @@ impl Draft {
         ensures { IfOk result (λ t. t ≡ spec.term self.now.operand rule
             (map token_view found.now)) }
     {
-        Ok(match rule {
-            Rule::NotTerm => Term::Not(name_at(alloc, found, 1)?),
-            Rule::ReadTerm => Term::Read {
-                array: name_at(alloc, found, 0)?,
-                addr: name_at(alloc, found, 2)?,
-            },
-            Rule::CatTerm => Term::Cat(name_at(alloc, found, 0)?, name_at(alloc, found, 2)?),
-            Rule::RepTerm => Term::Rep {
+        match rule {
+            Rule::NotTerm => Ok(Term::Not(name_at(alloc, found, 1)?)),
+            Rule::ReadTerm => read_term(alloc, found),
+            Rule::CatTerm => cat_term(alloc, found),
+            Rule::RepTerm => Ok(Term::Rep {
                 count: number_at(found, 0),
                 a: name_at(alloc, found, 2)?,
-            },
-            Rule::BinTerm => Term::Bin(
-                operator_at(found, 0),
-                self.operand.clone()?,
-                name_at(alloc, found, 1)?,
-            ),
-            Rule::MuxTerm => Term::Mux(
-                self.operand.clone()?,
-                name_at(alloc, found, 1)?,
-                name_at(alloc, found, 3)?,
-            ),
-            Rule::SliceTerm => Term::Slice {
+            }),
+            Rule::BinTerm => bin_term(alloc, &self.operand, found),
+            Rule::MuxTerm => mux_term(alloc, &self.operand, found),
+            Rule::SliceTerm => Ok(Term::Slice {
                 a: self.operand.clone()?,
                 high: number_at(found, 1),
                 low: number_at(found, 3),
-            },
+            }),
             _ => {
                 let constant = constant_at(found, 0);
-                Term::Const {
+                Ok(Term::Const {
                     width: constant.width,
                     value: constant.value,
-                }
+                })
             }
+        }
+    }
+
+    // The cell that a rule ends.
+    fn cell_decl(
+        &self,
+        alloc: Global,
+        rule: Rule,
+        found: &[Token<'_>],
+    ) -> Result<CellDecl, NoMemory>
+        ensures { IfOk result (λ c. c ≡ record {
+          line = self.now.line;
+          name = self.now.name;
+          high = self.now.high;
+          target = self.now.target;
+          term = spec.term self.now.operand rule (map token_view found.now);
+        }) }
+    {
+        let name = self.name.clone()?;
+        let target = self.target.clone()?;
+        Ok(CellDecl {
+            line: self.line,
+            name,
+            high: self.high,
+            target,
+            term: self.term(alloc, rule, found)?,
         })
     }
 
     fn cell(&mut self, alloc: Global, rule: Rule, found: &[Token<'_>]) -> Result<(), NoMemory>
         ensures { OnOk result (self.new ≡ spec.with_cell self.old rule (map token_view found.now)) }
     {
-        let term = self.term(alloc, rule, found)?;
-        self.file.cells.push(CellDecl {
-            line: self.line,
-            name: self.name.clone()?,
-            high: self.high,
-            target: self.target.clone()?,
-            term,
-        })
+        let decl = self.cell_decl(alloc, rule, found)?;
+        self.file.cells.push(decl)
     }
 
     fn output(&mut self, alloc: Global, found: &[Token<'_>]) -> Result<(), NoMemory>
         ensures { OnOk result (self.new ≡ spec.with_output self.old (map token_view found.now)) }
     {
+        let (port, source) = names_at(alloc, found, 1, 3)?;
         self.file.outputs.push(OutputDecl {
             line: line_at(found, 0),
-            port: name_at(alloc, found, 1)?,
-            source: name_at(alloc, found, 3)?,
+            port,
+            source,
         })
     }
 
@@ -293,25 +394,21 @@ impl Draft {
         ensures { OnOk result (self.new ≡ spec.with_reg_block self.old (map token_view found.now)) }
     {
         let constant = constant_at(found, 4);
+        let (reg, source) = names_at(alloc, found, 0, 6)?;
         self.file.reg_blocks.push(RegBlock {
             line: self.line,
-            reg: name_at(alloc, found, 0)?,
+            reg,
             width: constant.width,
             reset: constant.value,
-            source: name_at(alloc, found, 6)?,
+            source,
         })
     }
 
     fn write(&mut self, alloc: Global, found: &[Token<'_>]) -> Result<(), NoMemory>
         ensures { OnOk result (self.new ≡ spec.with_write self.old (map token_view found.now)) }
     {
-        self.writes.push(WriteDecl {
-            line: line_at(found, 0),
-            enable: name_at(alloc, found, 2)?,
-            array: name_at(alloc, found, 4)?,
-            addr: name_at(alloc, found, 6)?,
-            value: name_at(alloc, found, 9)?,
-        })
+        let decl = write_decl(alloc, found)?;
+        self.writes.push(decl)
     }
 
     // Ends a block that writes to an array.

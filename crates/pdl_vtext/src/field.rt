@@ -1,6 +1,7 @@
 //! What the grammar asks of single tokens.
 ghost use Rattle.std.specs.Prelude.{◌≡◌};
-ghost use Rattle.pdl_vtext.specs.Grammar.{fits};
+ghost use Rattle.std.specs.Option.{option_copied};
+ghost use Rattle.pdl_vtext.specs.Grammar.{fits, is_of_kind, word};
 ghost use Rattle.pdl_vtext.specs.Words as words;
 
 use crate::names::{is_array, is_cell, is_module, is_operand, is_port, is_reg};
@@ -91,40 +92,49 @@ fn comparison_or_shift(text: &[u8]) -> Option<BinOp>
 }
 
 impl Field {
-    /// Whether a token is what is asked.
-    pub fn fits(self, text: &[u8]) -> bool
-        ensures { result ≡ fits self text.now }
+    // The one word that is asked, if it is one alone.
+    fn word(self) -> Option<&'static [u8]>
+        ensures { option_copied result ≡ word self }
     {
         match self {
-            Field::Module => text == b"module".as_slice(),
-            Field::Input => text == b"input".as_slice(),
-            Field::Output => text == b"output".as_slice(),
-            Field::Wire => text == b"wire".as_slice(),
-            Field::Reg => text == b"reg".as_slice(),
-            Field::Assign => text == b"assign".as_slice(),
-            Field::Always => text == b"always".as_slice(),
-            Field::Posedge => text == b"posedge".as_slice(),
-            Field::Begin => text == b"begin".as_slice(),
-            Field::If => text == b"if".as_slice(),
-            Field::End => text == b"end".as_slice(),
-            Field::EndModule => text == b"endmodule".as_slice(),
-            Field::Clock => text == b"clk".as_slice(),
-            Field::Reset => text == b"rst".as_slice(),
-            Field::Zero => text == b"0".as_slice(),
-            Field::OpenRound => text == b"(".as_slice(),
-            Field::CloseRound => text == b")".as_slice(),
-            Field::OpenSquare => text == b"[".as_slice(),
-            Field::CloseSquare => text == b"]".as_slice(),
-            Field::OpenBrace => text == b"{".as_slice(),
-            Field::CloseBrace => text == b"}".as_slice(),
-            Field::Comma => text == b",".as_slice(),
-            Field::Colon => text == b":".as_slice(),
-            Field::Semicolon => text == b";".as_slice(),
-            Field::Equals => text == b"=".as_slice(),
-            Field::At => text == b"@".as_slice(),
-            Field::Takes => text == b"<=".as_slice(),
-            Field::Question => text == b"?".as_slice(),
-            Field::Tilde => text == b"~".as_slice(),
+            Field::Module => Some(b"module"),
+            Field::Input => Some(b"input"),
+            Field::Output => Some(b"output"),
+            Field::Wire => Some(b"wire"),
+            Field::Reg => Some(b"reg"),
+            Field::Assign => Some(b"assign"),
+            Field::Always => Some(b"always"),
+            Field::Posedge => Some(b"posedge"),
+            Field::Begin => Some(b"begin"),
+            Field::If => Some(b"if"),
+            Field::End => Some(b"end"),
+            Field::EndModule => Some(b"endmodule"),
+            Field::Clock => Some(b"clk"),
+            Field::Reset => Some(b"rst"),
+            Field::Zero => Some(b"0"),
+            Field::OpenRound => Some(b"("),
+            Field::CloseRound => Some(b")"),
+            Field::OpenSquare => Some(b"["),
+            Field::CloseSquare => Some(b"]"),
+            Field::OpenBrace => Some(b"{"),
+            Field::CloseBrace => Some(b"}"),
+            Field::Comma => Some(b","),
+            Field::Colon => Some(b":"),
+            Field::Semicolon => Some(b";"),
+            Field::Equals => Some(b"="),
+            Field::At => Some(b"@"),
+            Field::Takes => Some(b"<="),
+            Field::Question => Some(b"?"),
+            Field::Tilde => Some(b"~"),
+            _ => None,
+        }
+    }
+
+    // Whether a token is of the kind that is asked.
+    fn is_of_kind(self, text: &[u8]) -> bool
+        ensures { result ≡ is_of_kind self text.now }
+    {
+        match self {
             Field::Number => number_of(text).is_some(),
             Field::Constant => constant_of(text).is_some(),
             Field::Operator => operator_of(text).is_some(),
@@ -134,6 +144,18 @@ impl Field {
             Field::ArrayName => is_array(text),
             Field::CellName => is_cell(text),
             Field::Operand => is_operand(text),
+            _ => false,
+        }
+    }
+
+    /// Whether a token is what is asked.
+    #[tactic(auto, using(crate::proofs::Fields::of_word, crate::proofs::Fields::of_kind))]
+    pub fn fits(self, text: &[u8]) -> bool
+        ensures { result ≡ fits self text.now }
+    {
+        match self.word() {
+            Some(word) => text == word,
+            None => self.is_of_kind(text),
         }
     }
 }

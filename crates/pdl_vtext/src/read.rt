@@ -93,6 +93,28 @@ fn sentence<'a>(
     Ok(())
 }
 
+// Takes the rule that comes at a part, and answers the part after it.
+fn take_rule<'a>(
+    alloc: Global,
+    tokens: &mut Tokens<'a>,
+    part: Part,
+    draft: &mut Draft,
+    found: &mut Vec<Token<'a>>,
+) -> Result<Part, Stop>
+    ensures { spec.TakesRule part tokens.old tokens.new draft.old draft.new result }
+{
+    match rule_at(part, tokens) {
+        Some(rule) => match sentence(tokens, rule.fields(), found) {
+            Ok(()) => {
+                draft.take(alloc, rule, found.as_slice())?;
+                Ok(rule.next())
+            }
+            Err(stop) => Err(stop),
+        },
+        None => Err(Stop::Misplaced),
+    }
+}
+
 // Takes rules up to the end of a file.
 fn take_rules(alloc: Global, tokens: &mut Tokens<'_>) -> Result<Draft, Stop>
     ensures { spec.TakesRules tokens.old tokens.new result }
@@ -101,15 +123,9 @@ fn take_rules(alloc: Global, tokens: &mut Tokens<'_>) -> Result<Draft, Stop>
     let mut found = Vec::new(alloc);
     let mut part = Part::Start;
     while !part.is_finished() {
-        match rule_at(part, tokens) {
-            Some(rule) => match sentence(tokens, rule.fields(), &mut found) {
-                Ok(()) => {
-                    draft.take(alloc, rule, found.as_slice())?;
-                    part = rule.next();
-                }
-                Err(stop) => return Err(stop),
-            },
-            None => return Err(Stop::Misplaced),
+        match take_rule(alloc, tokens, part, &mut draft, &mut found) {
+            Ok(after) => part = after,
+            Err(stop) => return Err(stop),
         }
     }
     Ok(draft)
@@ -144,7 +160,7 @@ fn read(alloc: Global, source: &[u8]) -> Result<File, TextError>
     match take_rules(alloc, &mut tokens) {
         Ok(draft) => match tokens.peek() {
             Some(token) => Err(TextError::Misplaced { line: token.line }),
-            None => Ok(draft.file),
+            None => Ok(draft.into_file()),
         },
         Err(Stop::Misplaced) => Err(TextError::Misplaced {
             line: line_of(source, &tokens),

@@ -1,4 +1,4 @@
-use Rattle.std.proofs.Common.{◌≡◌, ◌-◌, ◌+◌, ◌<◌, ℕ, arith, subst, ◌∙◌, ap, sym}
+use Rattle.std.proofs.Common.{◌≡◌, ◌-◌, ◌+◌, ◌<◌, ℕ, length, arith, subst, ◌∙◌, ap, sym}
 use Rattle.pdl_net.specs.declared.BinOp.TheVariants.{Lt}
 use Rattle.pdl_net.specs.Signal.{Signal, bin_signal, const_signal}
 use Rattle.pdl_net.specs.Growth.{Extends, ExtendsBut}
@@ -6,11 +6,73 @@ use Rattle.pdl_net.specs.Meaning.{signal}
 use Rattle.pdl_net.proofs.Keeps.{extends_keeps, but_keeps, extends_trans, but_extends, but_trans, means_kept, but_means}
 use Rattle.pdl_lockapi.specs.Laws.{step_signals, StepSignals}
 use Rattle.pdl_entries.specs.Slots.{HasSlots}
-use Rattle.pdl_entries.specs.Steps.{own_slots, own_slot, NextSlots, slot_addr, slot_bit, slot_value, top_addr, top_bit, top_value}
+use Rattle.pdl_entries.specs.Steps.{push_addr, own_slots, own_slot, NextSlots, slot_addr, slot_bit, slot_value, top_addr, top_bit, top_value}
 use Rattle.pdl_entries.proofs.Kept.{slots_kept, slots_kept_but}
 use Rattle.pdl_lockapi.proofs.Kept.{ports_there, ports_fit, same_signals}
-use Rattle.pdl_entries.proofs.Tops.{next_none, next_more, next_kept, slots_but, means_as, same_mux, addr_more, bit_more, value_more}
+use Rattle.pdl_entries.proofs.Tops.{next_none, next_more, next_kept, slots_but, means_as, same_mux, addr_more, bit_more, value_more, addr_width, bit_width_top}
+use Rattle.pdl_entries.proofs.Steps.{slot_addr_width, bit_width}
 use Rattle.pdl_entries.proofs.slot.emit_slots.Goals as goal
+
+pub emit_none-requires : goal.emit_none-requires
+emit_none-requires c =
+    let two : Extends c.args.b.now c.constant-2.new.self = extends_trans c.args.b.now c.constant.new.self c.constant-2.new.self c.in_ok-one.ensures.extends c.in_ok-zero.ensures.extends in
+    record {
+      sized = c.requires.sized;
+      last = two.there c.args.last c.requires.last;
+      last_width = ap (λ (g : Signal). g.width) (two.kept c.args.last c.requires.last) ∙ c.requires.last_width;
+    }
+
+pub emit_slot-requires : goal.emit_slot-requires
+emit_slot-requires c =
+    let i = c.loop-i.invariant in
+    let b = c.loop-i.b in
+    let l = c.args.l in
+    record {
+      sized = c.requires.sized;
+      slots = i.slots;
+      ports = i.ports;
+      fit = i.fit;
+      slot_in = omega arith;
+      addr = means_as b _ _ _ i.addr (ap (λ (g : StepSignals). push_addr l.bits g (length g.reserves)) (sym i.same));
+      addr_width = i.addr_width;
+      one = i.one;
+      zero = i.zero;
+    }
+
+pub emit_next-requires : goal.emit_next-requires
+emit_next-requires c =
+    let i = c.loop-i.invariant in
+    let b = c.loop-i.b in
+    let m = c.emit_slot.new.b in
+    let l = c.args.l in
+    let p = c.args.p.now in
+    let k = l.size - 1 - c.loop-i.i in
+    let f = step_signals c.args.b.now p in
+    let g = step_signals b p in
+    let x : Extends b m = c.in_ok-here.ensures.extends in
+    let y = extends_keeps b m x in
+    let here = c.in_ok-here.ensures in
+    record {
+      sized = c.requires.sized;
+      slots = slots_kept b m l l.size i.slots x;
+      ports = ports_there b m p i.ports y;
+      fit = ports_fit b m l.bits l.width l.ticket p i.ports i.fit y;
+      slot_in = omega arith;
+      up_addr = x.there _ i.above_addr.there;
+      up_addr_width = ap (λ (s : Signal). s.width) (x.kept _ i.above_addr.there ∙ i.above_addr.same) ∙ addr_width l f c.loop-i.i;
+      up_bit = x.there _ i.above_bit.there;
+      up_bit_one = ap (λ (s : Signal). s.width) (x.kept _ i.above_bit.there ∙ i.above_bit.same) ∙ bit_width_top l f c.loop-i.i;
+      up_value = x.there _ i.above_value.there;
+      up_value_width = ap (λ (s : Signal). s.width) (x.kept _ i.above_value.there) ∙ i.above_width;
+      left = x.there _ i.left.there;
+      left_width = ap (λ (s : Signal). s.width) (x.kept _ i.left.there) ∙ i.left_width;
+      addr = here.addr.there;
+      addr_width = ap (λ (s : Signal). s.width) here.addr.same ∙ slot_addr_width l g k;
+      bit = here.bit.there;
+      bit_one = ap (λ (s : Signal). s.width) here.bit.same ∙ bit_width l g k (length g.writes);
+      value = here.value.there;
+      value_width = here.value_wide;
+    }
 
 pub loop-i-init : goal.loop-i-init
 loop-i-init c =
@@ -18,8 +80,7 @@ loop-i-init c =
     let b = c.emit_none.new.b in
     let l = c.args.l in
     let p = c.args.p.now in
-    let one : Extends a c.constant.new.self = grind arith in
-    let two : Extends a c.constant-2.new.self = grind arith in
+    let two : Extends a c.constant-2.new.self = extends_trans a c.constant.new.self c.constant-2.new.self c.in_ok-one.ensures.extends c.in_ok-zero.ensures.extends in
     let e : Extends a b = extends_trans a c.constant-2.new.self b two c.in_ok-above.ensures.extends in
     let s : step_signals c.constant-2.new.self p ≡ step_signals a p = same_signals a c.constant-2.new.self p c.requires.ports (extends_keeps a c.constant-2.new.self two) in
     let k = extends_keeps a b e in
@@ -33,11 +94,11 @@ loop-i-init c =
       left = means_kept a b c.args.left _ e c.requires.left;
       left_width = ap (λ (g : Signal). g.width) (e.kept c.args.left c.requires.left.there) ∙ c.requires.left_width;
       addr = means_kept a b c.args.addr _ e c.requires.addr;
-      addr_width = grind arith;
-      one = grind arith;
-      zero = grind arith;
-      above_addr = grind arith;
-      above_bit = grind arith;
+      addr_width = ap (λ (g : Signal). g.width) (e.kept c.args.addr c.requires.addr.there) ∙ c.requires.addr_width;
+      one = means_kept c.constant.new.self b _ _ (extends_trans c.constant.new.self c.constant-2.new.self b c.in_ok-zero.ensures.extends c.in_ok-above.ensures.extends) c.in_ok-one.ensures.means;
+      zero = means_kept c.constant-2.new.self b _ _ c.in_ok-above.ensures.extends c.in_ok-zero.ensures.means;
+      above_addr = means_as b _ _ _ c.in_ok-above.ensures.addr (ap (λ (g : StepSignals). top_addr l g 0) s);
+      above_bit = means_as b _ _ _ c.in_ok-above.ensures.bit (ap (λ (g : StepSignals). top_bit l g 0) s);
       above_value = value_means;
       above_width = c.in_ok-above.ensures.value_width;
       next = next_none b l (step_signals a p) (signal a c.args.last) (l.size - 0) (omega arith);

@@ -1,6 +1,4 @@
-use Rattle.std.proofs.Common.{length, List, ◌≡◌, ◌++◌}
-use Rattle.pdl_vtext.specs.Grammar.{Taken}
-use Rattle.pdl_vtext.specs.Read.{Leads, all_found}
+use Rattle.std.proofs.Common.{length}
 use Rattle.pdl_vtext.proofs.Rules.{AreSoFar}
 use Rattle.pdl_vtext.proofs.read.take_rules.Given as goal
 
