@@ -1,4 +1,5 @@
 pub mod App
+pub mod Told
 pub mod Number
 pub mod Line
 pub mod View

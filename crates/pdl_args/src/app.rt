@@ -1,9 +1,10 @@
 // The command line as `clap` is told it: one command, whose subcommands take words in fixed places.
-ghost use Rattle.std.specs.Prelude.{◌≡◌, false, IfOk};
+ghost use Rattle.std.specs.Prelude.{◌≡◌, false};
 ghost use Rattle.clap.specs.Walk.{rule_of};
+ghost use Rattle.clap.specs.Simple.{App, new_app, with_rule, with_subcommand};
 ghost use Rattle.clap.specs.Words.{app_of};
-ghost use Rattle.clap.specs.declared.builder.command.Command.TheViews.{out-Command as fields_of};
 ghost use Rattle.pdl_args.specs.App.{pdl_app, bare_app, check_app, run_app, seq_app, asm_app, gen_app, build_app, sim_app, word_rule};
+ghost use Rattle.pdl_args.specs.Told.{IsTold, IsToldAlone};
 
 use clap::{Arg, ArgAction, Command};
 use std::alloc::{AllocError, Global};
@@ -16,67 +17,96 @@ fn word<'a>(alloc: Global, id: &'a str) -> Arg<'a>
     Arg::new(alloc, id).required(true).action(ArgAction::Set)
 }
 
+// A command without words.
+fn named<'a>(alloc: Global, name: &'a str) -> Result<Command<'a>, AllocError>
+    ensures { IsToldAlone (new_app name.entry.now) result }
+{
+    Ok(Command::new(alloc, name))
+}
+
+// The command with one word more, that must be there.
+fn with_word<'a>(
+    command: Result<Command<'a>, AllocError>,
+    alloc: Global,
+    id: &'a str,
+) -> Result<Command<'a>, AllocError>
+    ensures { (app : App) → IsToldAlone app command.entry
+        → IsToldAlone (with_rule app (word_rule id.entry.now)) result }
+{
+    match command {
+        Ok(command) => command.arg(word(alloc, id)),
+        Err(error) => Err(error),
+    }
+}
+
+// The command with one subcommand more.
+fn joined<'a>(
+    command: Result<Command<'a>, AllocError>,
+    part: Result<Command<'a>, AllocError>,
+) -> Result<Command<'a>, AllocError>
+    ensures { (app one : App) → IsTold app command.entry → IsToldAlone one part.entry
+        → IsTold (with_subcommand app one.top) result }
+{
+    match (command, part) {
+        (Ok(command), Ok(part)) => command.subcommand(part),
+        _ => Err(AllocError),
+    }
+}
+
 // `check SRC`
 fn check_command<'a>(alloc: Global) -> Result<Command<'a>, AllocError>
-    ensures { IfOk result (λ c. (app_of c ≡ check_app) × ((fields_of c).has_globals ≡ false)) }
+    ensures { IsToldAlone check_app result }
 {
-    let all = Command::new(alloc, "check").arg(word(alloc, "source"))?;
-    Ok(all)
+    with_word(named(alloc, "check"), alloc, "source")
 }
 
 // `run SRC IMG CYCLES`
 fn run_command<'a>(alloc: Global) -> Result<Command<'a>, AllocError>
-    ensures { IfOk result (λ c. (app_of c ≡ run_app) × ((fields_of c).has_globals ≡ false)) }
+    ensures { IsToldAlone run_app result }
 {
-    let one = Command::new(alloc, "run").arg(word(alloc, "source"))?;
-    let two = one.arg(word(alloc, "image"))?;
-    let all = two.arg(word(alloc, "cycles"))?;
-    Ok(all)
+    let one = with_word(named(alloc, "run"), alloc, "source");
+    let two = with_word(one, alloc, "image");
+    with_word(two, alloc, "cycles")
 }
 
 // `seq SRC IMG THREADS`
 fn seq_command<'a>(alloc: Global) -> Result<Command<'a>, AllocError>
-    ensures { IfOk result (λ c. (app_of c ≡ seq_app) × ((fields_of c).has_globals ≡ false)) }
+    ensures { IsToldAlone seq_app result }
 {
-    let one = Command::new(alloc, "seq").arg(word(alloc, "source"))?;
-    let two = one.arg(word(alloc, "image"))?;
-    let all = two.arg(word(alloc, "threads"))?;
-    Ok(all)
+    let one = with_word(named(alloc, "seq"), alloc, "source");
+    let two = with_word(one, alloc, "image");
+    with_word(two, alloc, "threads")
 }
 
 // `asm TABLE TEXT`
 fn asm_command<'a>(alloc: Global) -> Result<Command<'a>, AllocError>
-    ensures { IfOk result (λ c. (app_of c ≡ asm_app) × ((fields_of c).has_globals ≡ false)) }
+    ensures { IsToldAlone asm_app result }
 {
-    let one = Command::new(alloc, "asm").arg(word(alloc, "table"))?;
-    let all = one.arg(word(alloc, "text"))?;
-    Ok(all)
+    let one = with_word(named(alloc, "asm"), alloc, "table");
+    with_word(one, alloc, "text")
 }
 
 // `gen N`
 fn gen_command<'a>(alloc: Global) -> Result<Command<'a>, AllocError>
-    ensures { IfOk result (λ c. (app_of c ≡ gen_app) × ((fields_of c).has_globals ≡ false)) }
+    ensures { IsToldAlone gen_app result }
 {
-    let all = Command::new(alloc, "gen").arg(word(alloc, "number"))?;
-    Ok(all)
+    with_word(named(alloc, "gen"), alloc, "number")
 }
 
 // `build SRC`
 fn build_command<'a>(alloc: Global) -> Result<Command<'a>, AllocError>
-    ensures { IfOk result (λ c. (app_of c ≡ build_app) × ((fields_of c).has_globals ≡ false)) }
+    ensures { IsToldAlone build_app result }
 {
-    let all = Command::new(alloc, "build").arg(word(alloc, "source"))?;
-    Ok(all)
+    with_word(named(alloc, "build"), alloc, "source")
 }
 
 // `sim V IMG CYCLES`
 fn sim_command<'a>(alloc: Global) -> Result<Command<'a>, AllocError>
-    ensures { IfOk result (λ c. (app_of c ≡ sim_app) × ((fields_of c).has_globals ≡ false)) }
+    ensures { IsToldAlone sim_app result }
 {
-    let one = Command::new(alloc, "sim").arg(word(alloc, "netlist"))?;
-    let two = one.arg(word(alloc, "image"))?;
-    let all = two.arg(word(alloc, "cycles"))?;
-    Ok(all)
+    let one = with_word(named(alloc, "sim"), alloc, "netlist");
+    let two = with_word(one, alloc, "image");
+    with_word(two, alloc, "cycles")
 }
 
 // The command without its subcommands.
@@ -87,21 +117,13 @@ fn bare_command<'a>(alloc: Global) -> Command<'a>
 }
 
 pub(crate) fn command<'a>(alloc: Global) -> Result<Command<'a>, AllocError>
-    ensures { IfOk result (λ c. app_of c ≡ pdl_app) }
+    ensures { IsTold pdl_app result }
 {
-    let check = check_command(alloc)?;
-    let one = bare_command(alloc).subcommand(check)?;
-    let run = run_command(alloc)?;
-    let two = one.subcommand(run)?;
-    let seq = seq_command(alloc)?;
-    let three = two.subcommand(seq)?;
-    let asm = asm_command(alloc)?;
-    let four = three.subcommand(asm)?;
-    let generated = gen_command(alloc)?;
-    let five = four.subcommand(generated)?;
-    let built = build_command(alloc)?;
-    let six = five.subcommand(built)?;
-    let simulated = sim_command(alloc)?;
-    let all = six.subcommand(simulated)?;
-    Ok(all)
+    let one = joined(Ok(bare_command(alloc)), check_command(alloc));
+    let two = joined(one, run_command(alloc));
+    let three = joined(two, seq_command(alloc));
+    let four = joined(three, asm_command(alloc));
+    let five = joined(four, gen_command(alloc));
+    let six = joined(five, build_command(alloc));
+    joined(six, sim_command(alloc))
 }

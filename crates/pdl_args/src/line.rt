@@ -1,6 +1,6 @@
 // The command that a list of words is.
-ghost use Rattle.std.specs.Prelude.{◌≡◌, ◌≢◌, map, IfOk, Some, None, IsErrOf, string_bytes, option_map};
-ghost use Rattle.clap.specs.Words.{found_of, rows_of, first_of};
+ghost use Rattle.std.specs.Prelude.{◌≡◌, map, IfOk, Some, None, IsErrOf, string_bytes, option_and_then, option_map, codes};
+ghost use Rattle.clap.specs.Words.{found_of, rows_of, first_of, subcommand_rows_of};
 ghost use Rattle.pdl_args.specs.Line.{line, command_of, netlist_command_of, check_of, run_of, seq_of, asm_of, gen_of, build_of, sim_of};
 ghost use Rattle.pdl_args.specs.View.{view};
 ghost use Rattle.pdl_args.specs.declared.line.LineError.TheVariants.{NoMemory as no_memory};
@@ -75,8 +75,8 @@ pub fn read_line<'a>(alloc: Global, words: &'a [String]) -> Result<Line<'a>, Lin
 {
     let command = command(alloc)?;
     match command.try_get_matches_from(words) {
-        Ok(matches) => match matches.subcommand() {
-            Some((name, inner)) => command_line(name, inner),
+        Ok(matches) => match matched_line(&matches) {
+            Some(line) => Ok(line),
             None => Err(LineError::Usage),
         },
         Err(error) => match error.kind() {
@@ -86,59 +86,51 @@ pub fn read_line<'a>(alloc: Global, words: &'a [String]) -> Result<Line<'a>, Lin
     }
 }
 
+// The command that matches are, if they have a subcommand.
+fn matched_line<'a>(matches: &ArgMatches<'a>) -> Option<Line<'a>>
+    ensures { option_map view result
+        ≡ option_and_then command_of (subcommand_rows_of matches.now) }
+{
+    match matches.subcommand() {
+        Some((name, inner)) => command_line(name, inner),
+        None => None,
+    }
+}
+
 // The command that a subcommand's matches are.
-fn command_line<'a>(name: &str, inner: &ArgMatches<'a>) -> Result<Line<'a>, LineError>
-    ensures ok { IfOk result (λ l. command_of (name.now, rows_of (found_of inner.now))
-        ≡ Some (view l)) }
-    ensures usage { IsErrOf result LineError.Usage →
-        command_of (name.now, rows_of (found_of inner.now)) ≡ None }
-    ensures memory { result ≢ Err LineError.NoMemory }
+fn command_line<'a>(name: &str, inner: &ArgMatches<'a>) -> Option<Line<'a>>
+    ensures { option_map view result ≡ command_of (name.now, rows_of (found_of inner.now)) }
 {
     if name == "check" {
-        return check_line(value(inner, "source"));
+        return check_line(inner);
     }
     if name == "run" {
-        return run_line(
-            value(inner, "source"),
-            value(inner, "image"),
-            value(inner, "cycles"),
-        );
+        return run_line(inner);
     }
     if name == "seq" {
-        return seq_line(
-            value(inner, "source"),
-            value(inner, "image"),
-            value(inner, "threads"),
-        );
+        return seq_line(inner);
     }
     if name == "asm" {
-        return asm_line(value(inner, "table"), value(inner, "text"));
+        return asm_line(inner);
     }
     if name == "gen" {
-        return gen_line(value(inner, "number"));
+        return gen_line(inner);
     }
     netlist_line(name, inner)
 }
 
 // The command that the matches of a subcommand are that writes or reads a netlist's text.
-fn netlist_line<'a>(name: &str, inner: &ArgMatches<'a>) -> Result<Line<'a>, LineError>
-    ensures ok { IfOk result (λ l. netlist_command_of (name.now, rows_of (found_of inner.now))
-        ≡ Some (view l)) }
-    ensures usage { IsErrOf result LineError.Usage →
-        netlist_command_of (name.now, rows_of (found_of inner.now)) ≡ None }
-    ensures memory { result ≢ Err LineError.NoMemory }
+fn netlist_line<'a>(name: &str, inner: &ArgMatches<'a>) -> Option<Line<'a>>
+    ensures { option_map view result
+        ≡ netlist_command_of (name.now, rows_of (found_of inner.now)) }
 {
     if name == "build" {
-        return build_line(value(inner, "source"));
+        return build_line(inner);
     }
     if name == "sim" {
-        return sim_line(
-            value(inner, "netlist"),
-            value(inner, "image"),
-            value(inner, "cycles"),
-        );
+        return sim_line(inner);
     }
-    Err(LineError::Usage)
+    None
 }
 
 // The word of a name.
@@ -148,153 +140,122 @@ fn value<'a>(inner: &ArgMatches<'a>, id: &str) -> Option<&'a str>
     inner.get_str(id)
 }
 
-fn check_line<'a>(source: Option<&'a str>) -> Result<Line<'a>, LineError>
-    ensures ok { IfOk result (λ l. check_of (option_map (λ s. s.now) source.entry)
-        ≡ Some (view l)) }
-    ensures usage { IsErrOf result LineError.Usage →
-        check_of (option_map (λ s. s.now) source.entry) ≡ None }
-    ensures memory { result ≢ Err LineError.NoMemory }
+fn check_line<'a>(inner: &ArgMatches<'a>) -> Option<Line<'a>>
+    ensures { option_map view result
+        ≡ check_of (first_of (codes "source") (rows_of (found_of inner.now))) }
 {
-    match source {
-        Some(source) => Ok(Line::Check { source }),
-        None => Err(LineError::Usage),
-    }
+    let Some(source) = value(inner, "source") else {
+        return None;
+    };
+    Some(Line::Check { source })
 }
 
-fn run_line<'a>(
-    source: Option<&'a str>,
-    image: Option<&'a str>,
-    cycles: Option<&'a str>,
-) -> Result<Line<'a>, LineError>
-    ensures ok { IfOk result (λ l. run_of (option_map (λ s. s.now) source.entry)
-        (option_map (λ s. s.now) image.entry) (option_map (λ s. s.now) cycles.entry)
-        ≡ Some (view l)) }
-    ensures usage { IsErrOf result LineError.Usage →
-        run_of (option_map (λ s. s.now) source.entry) (option_map (λ s. s.now) image.entry)
-        (option_map (λ s. s.now) cycles.entry) ≡ None }
-    ensures memory { result ≢ Err LineError.NoMemory }
+fn run_line<'a>(inner: &ArgMatches<'a>) -> Option<Line<'a>>
+    ensures { option_map view result
+        ≡ run_of (first_of (codes "source") (rows_of (found_of inner.now)))
+        (first_of (codes "image") (rows_of (found_of inner.now)))
+        (first_of (codes "cycles") (rows_of (found_of inner.now))) }
 {
-    let Some(source) = source else {
-        return Err(LineError::Usage);
+    let Some(source) = value(inner, "source") else {
+        return None;
     };
-    let Some(image) = image else {
-        return Err(LineError::Usage);
+    let Some(image) = value(inner, "image") else {
+        return None;
     };
-    let Some(cycles) = cycles else {
-        return Err(LineError::Usage);
+    let Some(cycles) = value(inner, "cycles") else {
+        return None;
     };
     let Some(cycles) = number(cycles, 7, 1_000_000) else {
-        return Err(LineError::Usage);
+        return None;
     };
-    Ok(Line::Run {
+    Some(Line::Run {
         source,
         image,
         cycles,
     })
 }
 
-fn seq_line<'a>(
-    source: Option<&'a str>,
-    image: Option<&'a str>,
-    threads: Option<&'a str>,
-) -> Result<Line<'a>, LineError>
-    ensures ok { IfOk result (λ l. seq_of (option_map (λ s. s.now) source.entry)
-        (option_map (λ s. s.now) image.entry) (option_map (λ s. s.now) threads.entry)
-        ≡ Some (view l)) }
-    ensures usage { IsErrOf result LineError.Usage →
-        seq_of (option_map (λ s. s.now) source.entry) (option_map (λ s. s.now) image.entry)
-        (option_map (λ s. s.now) threads.entry) ≡ None }
-    ensures memory { result ≢ Err LineError.NoMemory }
+fn seq_line<'a>(inner: &ArgMatches<'a>) -> Option<Line<'a>>
+    ensures { option_map view result
+        ≡ seq_of (first_of (codes "source") (rows_of (found_of inner.now)))
+        (first_of (codes "image") (rows_of (found_of inner.now)))
+        (first_of (codes "threads") (rows_of (found_of inner.now))) }
 {
-    let Some(source) = source else {
-        return Err(LineError::Usage);
+    let Some(source) = value(inner, "source") else {
+        return None;
     };
-    let Some(image) = image else {
-        return Err(LineError::Usage);
+    let Some(image) = value(inner, "image") else {
+        return None;
     };
-    let Some(threads) = threads else {
-        return Err(LineError::Usage);
+    let Some(threads) = value(inner, "threads") else {
+        return None;
     };
     let Some(threads) = number(threads, 7, 1_000_000) else {
-        return Err(LineError::Usage);
+        return None;
     };
-    Ok(Line::Seq {
+    Some(Line::Seq {
         source,
         image,
         threads,
     })
 }
 
-fn asm_line<'a>(table: Option<&'a str>, text: Option<&'a str>) -> Result<Line<'a>, LineError>
-    ensures ok { IfOk result (λ l. asm_of (option_map (λ s. s.now) table.entry)
-        (option_map (λ s. s.now) text.entry) ≡ Some (view l)) }
-    ensures usage { IsErrOf result LineError.Usage →
-        asm_of (option_map (λ s. s.now) table.entry) (option_map (λ s. s.now) text.entry) ≡ None }
-    ensures memory { result ≢ Err LineError.NoMemory }
+fn asm_line<'a>(inner: &ArgMatches<'a>) -> Option<Line<'a>>
+    ensures { option_map view result
+        ≡ asm_of (first_of (codes "table") (rows_of (found_of inner.now)))
+        (first_of (codes "text") (rows_of (found_of inner.now))) }
 {
-    let Some(table) = table else {
-        return Err(LineError::Usage);
+    let Some(table) = value(inner, "table") else {
+        return None;
     };
-    let Some(text) = text else {
-        return Err(LineError::Usage);
+    let Some(text) = value(inner, "text") else {
+        return None;
     };
-    Ok(Line::Asm { table, text })
+    Some(Line::Asm { table, text })
 }
 
-fn gen_line<'a>(text: Option<&'a str>) -> Result<Line<'a>, LineError>
-    ensures ok { IfOk result (λ l. gen_of (option_map (λ s. s.now) text.entry) ≡ Some (view l)) }
-    ensures usage { IsErrOf result LineError.Usage →
-        gen_of (option_map (λ s. s.now) text.entry) ≡ None }
-    ensures memory { result ≢ Err LineError.NoMemory }
+fn gen_line<'a>(inner: &ArgMatches<'a>) -> Option<Line<'a>>
+    ensures { option_map view result
+        ≡ gen_of (first_of (codes "number") (rows_of (found_of inner.now))) }
 {
-    let Some(text) = text else {
-        return Err(LineError::Usage);
+    let Some(text) = value(inner, "number") else {
+        return None;
     };
     let Some(number) = number(text, 10, 2_147_483_647) else {
-        return Err(LineError::Usage);
+        return None;
     };
-    Ok(Line::Gen { number })
+    Some(Line::Gen { number })
 }
 
-fn build_line<'a>(source: Option<&'a str>) -> Result<Line<'a>, LineError>
-    ensures ok { IfOk result (λ l. build_of (option_map (λ s. s.now) source.entry)
-        ≡ Some (view l)) }
-    ensures usage { IsErrOf result LineError.Usage →
-        build_of (option_map (λ s. s.now) source.entry) ≡ None }
-    ensures memory { result ≢ Err LineError.NoMemory }
+fn build_line<'a>(inner: &ArgMatches<'a>) -> Option<Line<'a>>
+    ensures { option_map view result
+        ≡ build_of (first_of (codes "source") (rows_of (found_of inner.now))) }
 {
-    match source {
-        Some(source) => Ok(Line::Build { source }),
-        None => Err(LineError::Usage),
-    }
+    let Some(source) = value(inner, "source") else {
+        return None;
+    };
+    Some(Line::Build { source })
 }
 
-fn sim_line<'a>(
-    netlist: Option<&'a str>,
-    image: Option<&'a str>,
-    cycles: Option<&'a str>,
-) -> Result<Line<'a>, LineError>
-    ensures ok { IfOk result (λ l. sim_of (option_map (λ s. s.now) netlist.entry)
-        (option_map (λ s. s.now) image.entry) (option_map (λ s. s.now) cycles.entry)
-        ≡ Some (view l)) }
-    ensures usage { IsErrOf result LineError.Usage →
-        sim_of (option_map (λ s. s.now) netlist.entry) (option_map (λ s. s.now) image.entry)
-        (option_map (λ s. s.now) cycles.entry) ≡ None }
-    ensures memory { result ≢ Err LineError.NoMemory }
+fn sim_line<'a>(inner: &ArgMatches<'a>) -> Option<Line<'a>>
+    ensures { option_map view result
+        ≡ sim_of (first_of (codes "netlist") (rows_of (found_of inner.now)))
+        (first_of (codes "image") (rows_of (found_of inner.now)))
+        (first_of (codes "cycles") (rows_of (found_of inner.now))) }
 {
-    let Some(netlist) = netlist else {
-        return Err(LineError::Usage);
+    let Some(netlist) = value(inner, "netlist") else {
+        return None;
     };
-    let Some(image) = image else {
-        return Err(LineError::Usage);
+    let Some(image) = value(inner, "image") else {
+        return None;
     };
-    let Some(cycles) = cycles else {
-        return Err(LineError::Usage);
+    let Some(cycles) = value(inner, "cycles") else {
+        return None;
     };
     let Some(cycles) = number(cycles, 7, 1_000_000) else {
-        return Err(LineError::Usage);
+        return None;
     };
-    Ok(Line::Sim {
+    Some(Line::Sim {
         netlist,
         image,
         cycles,

@@ -7,7 +7,7 @@ ghost use Rattle.pdl_bounds.specs.Counts.{AreCounts};
 use pdl_paths::{Action, Place, is_separator};
 
 /// How many statements, separators, memories and bindings were passed; the parameters count as bindings.
-#[derive(Clone, Copy, PartialEq, Eq, Debug)]
+#[derive(Clone, Copy)]
 pub struct Counts {
     pub statements: usize,
     pub separators: usize,

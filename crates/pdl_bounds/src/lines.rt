@@ -10,7 +10,7 @@ use pdl_kit::Rule;
 use pdl_textrules::{Broken, lowest_of, noted_line};
 
 /// Of each limit the line of the first place that breaks it.
-#[derive(Clone, Copy, PartialEq, Eq, Debug)]
+#[derive(Clone, Copy)]
 pub struct Lines {
     pub z2: Option<u32>,
     pub z3: Option<u32>,

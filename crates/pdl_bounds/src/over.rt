@@ -13,7 +13,7 @@ use pdl_paths::branch::guard_of;
 use pdl_paths::{Action, Guard, Guards, Place, is_separator};
 
 /// The limits that a place is over.
-#[derive(Clone, Copy, PartialEq, Eq, Debug)]
+#[derive(Clone, Copy)]
 pub struct Over {
     pub z2: bool,
     pub z3: bool,

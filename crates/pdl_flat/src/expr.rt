@@ -6,6 +6,7 @@ ghost use Rattle.pdl_tree.specs.View.{expr_view as tree_view, exprs_view as tree
 ghost use Rattle.pdl_form.specs.View.{expr_view};
 ghost use Rattle.pdl_flat.specs.Sized.{IsSized, AreSized};
 
+use crate::both::both;
 use crate::vars::Vars;
 use pdl_form::Expr;
 use pdl_kit::{Boxed, Name, NoMemory, Seq};
@@ -74,14 +75,45 @@ fn slice(vars: &Vars, name: &Name, high: u64, low: u64) -> Wide
     }
 }
 
-fn not(alloc: Global, a: Wide) -> Result<Wide, NoMemory>
-    ensures form { IfOk result (λ r. expr_view r.e ≡ flat.Not a.width (expr_view a.e)) }
-    ensures width { IfOk result (λ r. r.width ≡ a.width) }
+// An operand in a place of its own, with the width of its value.
+#[derive(Drop)]
+struct Operand {
+    e: Boxed<Expr>,
+    width: u8,
+}
+
+// An expression as an operand, where memory held for it.
+fn boxed(alloc: Global, of: Result<Wide, NoMemory>) -> Result<Operand, NoMemory>
+    ensures { IfOk result (λ r. of ≡ Ok (record { e = r.e; width = r.width })) }
 {
-    let Wide { e, width } = a;
-    let a = Boxed::new(alloc, e)?;
+    let Wide { e, width } = of?;
+    Ok(Operand {
+        e: Boxed::new(alloc, e)?,
+        width,
+    })
+}
+
+// Two expressions as operands, where memory held for each.
+fn both_boxed(
+    alloc: Global,
+    a: Result<Wide, NoMemory>,
+    b: Result<Wide, NoMemory>,
+) -> Result<(Operand, Operand), NoMemory>
+    ensures a { IfOk result (λ r. a ≡ Ok (record { e = r.0.e; width = r.0.width })) }
+    ensures b { IfOk result (λ r. b ≡ Ok (record { e = r.1.e; width = r.1.width })) }
+{
+    both(boxed(alloc, a), boxed(alloc, b))
+}
+
+fn not(alloc: Global, a: Result<Wide, NoMemory>) -> Result<Wide, NoMemory>
+    ensures form { (x : flat.Expr) (w : ℕ) → IfOk a (λ a. expr_view a.e ≡ x) →
+        IfOk a (λ a. a.width ≡ w) → IfOk result (λ r. expr_view r.e ≡ flat.Not w x) }
+    ensures width { (w : ℕ) → IfOk a (λ a. a.width ≡ w) → IfOk result (λ r. r.width ≡ w) }
+    ensures small { IfOk a (λ a. a.width ≤ 64) → IfOk result (λ r. r.width ≤ 64) }
+{
+    let Operand { e, width } = boxed(alloc, a)?;
     Ok(Wide {
-        e: Expr::Not { width, a },
+        e: Expr::Not { width, a: e },
         width,
     })
 }
@@ -98,19 +130,29 @@ fn op_width(op: BinaryOp, width: u8) -> u8
     }
 }
 
-fn binary(alloc: Global, op: BinaryOp, of: Operands) -> Result<Wide, NoMemory>
-    requires { of.a.width ≤ 64 }
-    ensures form { IfOk result (λ r. expr_view r.e
-        ≡ flat.Binary (op_view op) of.a.width (expr_view of.a.e) (expr_view of.b.e)) }
-    ensures width { IfOk result (λ r. r.width ≡ spec.op_width (op_view op) of.a.width) }
+fn binary(
+    alloc: Global,
+    op: BinaryOp,
+    a: Result<Wide, NoMemory>,
+    b: Result<Wide, NoMemory>,
+) -> Result<Wide, NoMemory>
+    requires { IfOk a (λ a. a.width ≤ 64) }
+    ensures form { (x y : flat.Expr) (w : ℕ) → IfOk a (λ a. expr_view a.e ≡ x) →
+        IfOk b (λ b. expr_view b.e ≡ y) → IfOk a (λ a. a.width ≡ w) →
+        IfOk result (λ r. expr_view r.e ≡ flat.Binary (op_view op) w x y) }
+    ensures width { (w : ℕ) → IfOk a (λ a. a.width ≡ w) →
+        IfOk result (λ r. r.width ≡ spec.op_width (op_view op) w) }
     ensures small { IfOk result (λ r. r.width ≤ 64) }
 {
-    let Operands { a, b } = of;
+    let (a, b) = both_boxed(alloc, a, b)?;
     let width = a.width;
-    let a = Boxed::new(alloc, a.e)?;
-    let b = Boxed::new(alloc, b.e)?;
     Ok(Wide {
-        e: Expr::Binary { op, width, a, b },
+        e: Expr::Binary {
+            op,
+            width,
+            a: a.e,
+            b: b.e,
+        },
         width: op_width(op, width),
     })
 }
@@ -126,98 +168,105 @@ fn cat_width(above: u8, below: u8) -> u8
     if both > 64 { 1 } else { both }
 }
 
-fn cat(alloc: Global, of: Operands) -> Result<Wide, NoMemory>
-    requires a_small { of.a.width ≤ 64 }
-    requires b_small { of.b.width ≤ 64 }
-    ensures form { IfOk result (λ r.
-        expr_view r.e ≡ flat.Cat (expr_view of.a.e) of.b.width (expr_view of.b.e)) }
-    ensures width { IfOk result (λ r.
-        r.width ≡ (if nat_lt 64 (of.a.width + of.b.width) then 1 else of.a.width + of.b.width)) }
+fn cat(
+    alloc: Global,
+    a: Result<Wide, NoMemory>,
+    b: Result<Wide, NoMemory>,
+) -> Result<Wide, NoMemory>
+    requires a_small { IfOk a (λ a. a.width ≤ 64) }
+    requires b_small { IfOk b (λ b. b.width ≤ 64) }
+    ensures form { (x y : flat.Expr) (w : ℕ) → IfOk a (λ a. expr_view a.e ≡ x) →
+        IfOk b (λ b. expr_view b.e ≡ y) → IfOk b (λ b. b.width ≡ w) →
+        IfOk result (λ r. expr_view r.e ≡ flat.Cat x w y) }
+    ensures width { (v w : ℕ) → IfOk a (λ a. a.width ≡ v) → IfOk b (λ b. b.width ≡ w) →
+        IfOk result (λ r. r.width ≡ (if nat_lt 64 (v + w) then 1 else v + w)) }
     ensures small { IfOk result (λ r. r.width ≤ 64) }
 {
-    let Operands { a, b } = of;
-    let wide = cat_width(a.width, b.width);
+    let (a, b) = both_boxed(alloc, a, b)?;
     let width = b.width;
-    let a = Boxed::new(alloc, a.e)?;
-    let b = Boxed::new(alloc, b.e)?;
     Ok(Wide {
-        e: Expr::Cat { a, width, b },
-        width: wide,
+        e: Expr::Cat {
+            a: a.e,
+            width,
+            b: b.e,
+        },
+        width: cat_width(a.width, width),
     })
 }
 
-fn less_signed(alloc: Global, of: Operands) -> Result<Wide, NoMemory>
-    ensures form { IfOk result (λ r.
-        expr_view r.e ≡ flat.LessSigned of.a.width (expr_view of.a.e) (expr_view of.b.e)) }
+fn less_signed(
+    alloc: Global,
+    a: Result<Wide, NoMemory>,
+    b: Result<Wide, NoMemory>,
+) -> Result<Wide, NoMemory>
+    ensures form { (x y : flat.Expr) (w : ℕ) → IfOk a (λ a. expr_view a.e ≡ x) →
+        IfOk b (λ b. expr_view b.e ≡ y) → IfOk a (λ a. a.width ≡ w) →
+        IfOk result (λ r. expr_view r.e ≡ flat.LessSigned w x y) }
     ensures width { IfOk result (λ r. r.width ≡ 1) }
 {
-    let Operands { a, b } = of;
+    let (a, b) = both_boxed(alloc, a, b)?;
     let width = a.width;
-    let a = Boxed::new(alloc, a.e)?;
-    let b = Boxed::new(alloc, b.e)?;
     Ok(Wide {
-        e: Expr::LessSigned { width, a, b },
+        e: Expr::LessSigned {
+            width,
+            a: a.e,
+            b: b.e,
+        },
         width: 1,
     })
 }
 
-fn zero_extend(alloc: Global, a: Wide, wide: u64) -> Result<Wide, NoMemory>
+fn zero_extend(alloc: Global, a: Result<Wide, NoMemory>, wide: u64) -> Result<Wide, NoMemory>
     requires { wide ≤ 64 }
-    ensures form { IfOk result (λ r. expr_view r.e ≡ flat.ZeroExtend wide (expr_view a.e)) }
+    ensures form { (x : flat.Expr) → IfOk a (λ a. expr_view a.e ≡ x) →
+        IfOk result (λ r. expr_view r.e ≡ flat.ZeroExtend wide x) }
     ensures width { IfOk result (λ r. r.width ≡ wide) }
 {
     let wide = wide as u8;
-    let a = Boxed::new(alloc, a.e)?;
+    let a = boxed(alloc, a)?.e;
     Ok(Wide {
         e: Expr::ZeroExtend { wide, a },
         width: wide,
     })
 }
 
-fn sign_extend(alloc: Global, a: Wide, wide: u64) -> Result<Wide, NoMemory>
+fn sign_extend(alloc: Global, a: Result<Wide, NoMemory>, wide: u64) -> Result<Wide, NoMemory>
     requires { wide ≤ 64 }
-    ensures form { IfOk result (λ r. expr_view r.e ≡ flat.SignExtend a.width wide (expr_view a.e)) }
+    ensures form { (x : flat.Expr) (w : ℕ) → IfOk a (λ a. expr_view a.e ≡ x) →
+        IfOk a (λ a. a.width ≡ w) → IfOk result (λ r. expr_view r.e ≡ flat.SignExtend w wide x) }
     ensures width { IfOk result (λ r. r.width ≡ wide) }
 {
-    let width = a.width;
     let wide = wide as u8;
-    let a = Boxed::new(alloc, a.e)?;
+    let Operand { e, width } = boxed(alloc, a)?;
     Ok(Wide {
-        e: Expr::SignExtend { width, wide, a },
+        e: Expr::SignExtend { width, wide, a: e },
         width: wide,
     })
 }
 
-fn choose(alloc: Global, c: Wide, of: Operands) -> Result<Wide, NoMemory>
-    ensures form { IfOk result (λ r.
-        expr_view r.e ≡ flat.Choose (expr_view c.e) (expr_view of.a.e) (expr_view of.b.e)) }
-    ensures width { IfOk result (λ r. r.width ≡ of.a.width) }
+fn choose(
+    alloc: Global,
+    c: Result<Wide, NoMemory>,
+    a: Result<Wide, NoMemory>,
+    b: Result<Wide, NoMemory>,
+) -> Result<Wide, NoMemory>
+    ensures form { (z x y : flat.Expr) → IfOk c (λ c. expr_view c.e ≡ z) →
+        IfOk a (λ a. expr_view a.e ≡ x) → IfOk b (λ b. expr_view b.e ≡ y) →
+        IfOk result (λ r. expr_view r.e ≡ flat.Choose z x y) }
+    ensures width { (w : ℕ) → IfOk a (λ a. a.width ≡ w) → IfOk result (λ r. r.width ≡ w) }
+    ensures small { IfOk a (λ a. a.width ≤ 64) → IfOk result (λ r. r.width ≤ 64) }
 {
-    let Operands { a, b } = of;
+    let (c, arms) = both(boxed(alloc, c), both_boxed(alloc, a, b))?;
+    let (a, b) = arms;
     let width = a.width;
-    let c = Boxed::new(alloc, c.e)?;
-    let a = Boxed::new(alloc, a.e)?;
-    let b = Boxed::new(alloc, b.e)?;
     Ok(Wide {
-        e: Expr::Choose { c, a, b },
+        e: Expr::Choose {
+            c: c.e,
+            a: a.e,
+            b: b.e,
+        },
         width,
     })
-}
-
-// Two operands, each with its width.
-#[derive(Drop)]
-struct Operands {
-    a: Wide,
-    b: Wide,
-}
-
-// Both operands, where memory held for each.
-fn both(a: Result<Wide, NoMemory>, b: Result<Wide, NoMemory>) -> Result<Operands, NoMemory>
-    ensures a { IfOk result (λ r. a ≡ Ok r.a) }
-    ensures b { IfOk result (λ r. b ≡ Ok r.b) }
-{
-    let a = a?;
-    Ok(Operands { a, b: b? })
 }
 
 /// An expression over the variables' numbers, with its width.
@@ -231,35 +280,33 @@ pub fn flat_expr(alloc: Global, vars: &Vars, e: &Tree) -> Result<Wide, NoMemory>
         Tree::Constant(l) => Ok(constant(l)),
         Tree::Variable(x) => Ok(variable(vars, &x.name)),
         Tree::Slice { x, high, low } => Ok(slice(vars, &x.name, high.value, low.value)),
-        Tree::Not(a) => not(alloc, flat_expr(alloc, vars, a.get())?),
+        Tree::Not(a) => not(alloc, flat_expr(alloc, vars, a.get())),
         Tree::Binary { op, a, b } => {
             let a = flat_expr(alloc, vars, a.get());
             let b = flat_expr(alloc, vars, b.get());
-            binary(alloc, *op, both(a, b)?)
+            binary(alloc, *op, a, b)
         }
         Tree::Cat(a, b) => {
             let a = flat_expr(alloc, vars, a.get());
             let b = flat_expr(alloc, vars, b.get());
-            cat(alloc, both(a, b)?)
+            cat(alloc, a, b)
         }
         Tree::LessSigned(a, b) => {
             let a = flat_expr(alloc, vars, a.get());
             let b = flat_expr(alloc, vars, b.get());
-            less_signed(alloc, both(a, b)?)
+            less_signed(alloc, a, b)
         }
         Tree::ZeroExtend(a, wide) => {
-            let a = flat_expr(alloc, vars, a.get())?;
-            zero_extend(alloc, a, wide.value)
+            zero_extend(alloc, flat_expr(alloc, vars, a.get()), wide.value)
         }
         Tree::SignExtend(a, wide) => {
-            let a = flat_expr(alloc, vars, a.get())?;
-            sign_extend(alloc, a, wide.value)
+            sign_extend(alloc, flat_expr(alloc, vars, a.get()), wide.value)
         }
         Tree::Choose(c, a, b) => {
+            let c = flat_expr(alloc, vars, c.get());
             let a = flat_expr(alloc, vars, a.get());
             let b = flat_expr(alloc, vars, b.get());
-            let arms = both(a, b)?;
-            choose(alloc, flat_expr(alloc, vars, c.get())?, arms)
+            choose(alloc, c, a, b)
         }
     }
 }

@@ -2,6 +2,7 @@
 #![tactic(auto)]
 
 pub mod body;
+mod both;
 pub mod count;
 pub mod expr;
 pub mod mems;

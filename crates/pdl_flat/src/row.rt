@@ -7,6 +7,7 @@ ghost use Rattle.pdl_form.specs.View.{guards_view, stmts_view, act_view, expr_vi
 ghost use Rattle.pdl_flat.specs.Sized.{IsSized, IsSizedStmt, AreSizedMems};
 ghost use Rattle.pdl_flat.specs.Walking.{place_of, is_plain, is_act, read_op};
 
+use crate::both::both;
 use crate::expr::{flat_expr, flat_exprs};
 use crate::mems::{mem_of, mem_width};
 use crate::vars::Vars;
@@ -41,12 +42,25 @@ pub fn add(alloc: Global, walk: &mut Walk, guards: &[Guard], op: Op) -> Result<(
     ensures place { OnOk result (place_of walk.new ≡ place_of walk.old) }
     ensures stages { OnOk result (walk.new.stages.items ≡ walk.old.stages.items) }
 {
-    let guards = Seq::copy_of(alloc, guards)?;
-    walk.stmts.push(Stmt {
-        stage: walk.stage,
-        guards,
-        op,
-    })?;
+    push(alloc, &mut walk.stmts, walk.stage, guards, op)
+}
+
+// Adds a statement of a stage.
+fn push(
+    alloc: Global,
+    stmts: &mut Vec<Stmt>,
+    stage: usize,
+    guards: &[Guard],
+    op: Op,
+) -> Result<(), NoMemory>
+    ensures { OnOk result (stmts_view stmts.new.items ≡ stmts_view stmts.old.items ++ record {
+      stage = stage;
+      guards = guards_view guards.now;
+      op = act_view op;
+    } ∷ []) }
+{
+    let (guards, op) = both(Seq::copy_of(alloc, guards), Ok(op))?;
+    stmts.push(Stmt { stage, guards, op })?;
     Ok(())
 }
 

@@ -9,7 +9,7 @@ use std::alloc::{AllocError, Global};
 use std::marker::Model;
 
 /// A variable with its width in bits; the guard of an `if` on an expression has no name.
-#[derive(Drop, Debug)]
+#[derive(Drop)]
 pub struct Variable {
     pub name: Name,
     pub width: u8,

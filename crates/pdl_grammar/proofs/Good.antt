@@ -174,6 +174,20 @@ pace_good (t ∷ ts) = go t.kind (word_of t)
     go (kind.Mark mark.Delayed) w = reads (w, refl) (omega arith) (λ below. refl)
     go _ w = stops (λ below. refl)
 
+-- the tokens begin with the name in square brackets
+pub record IsIndex (ts : Row) (x : Ident) (r : Row) : Type 0 where
+  pub o : Word
+  pub c : Word
+  pub is : ts ≡ at o mark.OpenSquare ∷ on (word x.name x.span) kind.Name ∷ at c mark.CloseSquare ∷ r
+
+index_good : (ts : Row) → Good (IsIndex ts) (a mark.OpenSquare ∷ a_name ∷ a mark.CloseSquare ∷ []) [] (reading.index ts) ts
+unfolding reading.index
+index_good ts =
+    then _ _ (take_good mark.OpenSquare ts) (λ o r1 p1 _.
+    then _ _ (name_good r1) (λ y r2 p2 _.
+    then _ _ (take_good mark.CloseSquare r2) (λ c r3 p3 _.
+    reads (record { o = word p1.0 o; c = word p3.0 c; is = rw (p1.1, p2, p3.1) refl }) (omega arith) (λ below. refl))))
+
 -- the tokens begin with the location
 pub record IsPlace (ts : Row) (l : Location) (r : Row) : Type 0 where
   pub o : Word
@@ -184,7 +198,5 @@ pub place_good : (ts : Row) → Good (IsPlace ts) (a_name ∷ a mark.OpenSquare 
 unfolding reading.place
 place_good ts =
     then _ _ (name_good ts) (λ x r1 p1 _.
-    then _ _ (take_good mark.OpenSquare r1) (λ o r2 p2 _.
-    then _ _ (name_good r2) (λ y r3 p3 _.
-    then _ _ (take_good mark.CloseSquare r3) (λ c r4 p4 _.
-    reads (record { o = word p2.0 o; c = word p4.0 c; is = rw (p1, p2.1, p3, p4.1) refl }) (omega arith) (λ below. refl)))))
+    then _ _ (index_good r1) (λ y r2 p2 _.
+    reads (record { o = p2.o; c = p2.c; is = rw (p1, p2.is) refl }) (omega arith) (λ below. refl)))

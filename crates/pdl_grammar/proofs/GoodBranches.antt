@@ -34,7 +34,7 @@ condition_good top ts le =
     reads (record { p = word p1.0 p; z = word p3.0 z; o = word p4.0 o; a = r1; is = p1.1; full = rw (p3.1, p4.1) at p2 }) (omega arith) (λ below. refl)))))
 
 -- the tokens are statements and a closing brace
-abbrev IsBranch : Row → Stmts × Span → Row → Type 0
+abbrev pub IsBranch : Row → Stmts × Span → Row → Type 0
 IsBranch ts v r = (x : List ℕ) × Items v.0 ts (at (word x v.1) mark.CloseBrace ∷ r)
 
 -- the tokens are the other branch, or none
@@ -57,7 +57,7 @@ no_else (t ∷ ts) below e = go t.kind (word_of t) e
     go _ w e = refl
 
 module _ (top n : ℕ) (inside : Parser Stmts) (good : (ts : Row) → length ts < n → length ts ≤ top → Good (λ ss r. Items ss ts r) (m.items ∷ []) (a mark.CloseBrace ∷ []) (inside ts) ts) where
-  branch_good : (ts : Row) → length ts < n → length ts ≤ top → Good (IsBranch ts) (m.items ∷ []) [] (branch inside ts) ts
+  pub branch_good : (ts : Row) → length ts < n → length ts ≤ top → Good (IsBranch ts) (m.items ∷ []) [] (branch inside ts) ts
   branch_good ts le le2 =
       then [] _ (good ts le le2) (λ ss r1 p1 _.
       then _ _ (take_good mark.CloseBrace r1) (λ e r2 p2 _.

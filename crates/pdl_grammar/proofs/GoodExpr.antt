@@ -10,7 +10,7 @@ use Rattle.pdl_tokens.specs.Cursor.{next, first_kind}
 use Rattle.pdl_tokens.specs.Tokens.{Row}
 use Rattle.pdl_grammar.specs.Grammar.{Word, on, at, ident, operator_of, loose, levels, Level, Full, constant, variable, sliced, bracketed, inverted, catenated, compared, extended, sign_extended, tighter, joined, whole, chosen}
 use Rattle.pdl_cursor.specs.Looks.{is_mark}
-use Rattle.pdl_grammar.specs.Reading.{Parser, Inner, and_then, slice_of, after_name, operand_by, op_by, op_in, chain, joined_expr, level, arms, choose, full, inside, expr}
+use Rattle.pdl_grammar.specs.Reading.{Parser, Inner, and_then, bounds, slice_of, after_name, operand_by, op_by, op_in, chain, joined_expr, level, arms, choose, full, inside, expr}
 use Rattle.pdl_grammar.specs.Reading as reading
 use Rattle.pdl_grammar.specs.Automaton.{a, a_number, operand, slicing, rest, Closer, semicolon, round, comma, colon, in_args, closing, act, act_rest, act_choice, act_close, run_after, Stack, run}
 use Rattle.pdl_grammar.proofs.Good.{Good, reads, stops, weaker, then, step, word, word_of, take_good, number_good, on_test, on_option, begins}
@@ -24,13 +24,25 @@ no_slice q (t ∷ r) below e = go t.kind (word_of t) e
     go (kind.Mark mark.OpenSquare) w e = cc
     go _ w e = refl
 
-slice_good : (q : Closer) (x o : Word) (ts : Row) → Good (λ e r. Level 0 e (on x kind.Name ∷ at o mark.OpenSquare ∷ ts) r) (a_number ∷ a mark.Colon ∷ a_number ∷ a mark.CloseSquare ∷ rest q ∷ []) (rest q ∷ []) (slice_of (ident x) ts) ts
-slice_good q x o ts =
+-- the tokens are the two numbers of a slice and its closing bracket
+record IsBounds (ts : Row) (v : Number × Number) (r : Row) : Type 0 where
+  c : Word
+  d : Word
+  x : List ℕ
+  y : List ℕ
+  is : ts ≡ on (word x v.0.span) (kind.Number v.0.value) ∷ at c mark.Colon ∷ on (word y v.1.span) (kind.Number v.1.value) ∷ at d mark.CloseSquare ∷ r
+
+bounds_good : (ts : Row) → Good (IsBounds ts) (a_number ∷ a mark.Colon ∷ a_number ∷ a mark.CloseSquare ∷ []) [] (bounds ts) ts
+unfolding bounds
+bounds_good ts =
     then _ _ (number_good ts) (λ h r1 p1 _.
-    then _ _ (take_good mark.Colon r1) (λ _ r2 p2 _.
+    then _ _ (take_good mark.Colon r1) (λ c r2 p2 _.
     then _ _ (number_good r2) (λ n r3 p3 _.
-    then _ _ (take_good mark.CloseSquare r3) (λ _ r4 p4 _.
-    reads (rw (p1.1, p2.1, p3.1, p4.1) sliced) (omega arith) (λ below. refl)))))
+    then _ _ (take_good mark.CloseSquare r3) (λ d r4 p4 _.
+    reads (record { c = word p2.0 c; d = word p4.0 d; x = p1.0; y = p3.0; is = rw (p1.1, p2.1, p3.1, p4.1) refl }) (omega arith) (λ below. refl)))))
+
+slice_good : (q : Closer) (x o : Word) (ts : Row) → Good (λ e r. Level 0 e (on x kind.Name ∷ at o mark.OpenSquare ∷ ts) r) (a_number ∷ a mark.Colon ∷ a_number ∷ a mark.CloseSquare ∷ rest q ∷ []) (rest q ∷ []) (slice_of (ident x) ts) ts
+slice_good q x o ts = then _ _ (bounds_good ts) (λ b r p _. reads (rw p.is sliced) (omega arith) (λ below. refl))
 
 name_operand : (q : Closer) (x : Word) (ts : Row) → Good (λ e r. Level 0 e (on x kind.Name ∷ ts) r) (slicing q ∷ []) (rest q ∷ []) (after_name (ident x) ts) ts
 name_operand q x ts = on_test (λ b. Good (λ e r. Level 0 e (on x kind.Name ∷ ts) r) (slicing q ∷ []) (rest q ∷ []) (cond b (slice_of (ident x) (next ts)) (Ok (Variable (ident x), ts))) ts) (is_mark mark.OpenSquare (first_kind ts))

@@ -1,6 +1,6 @@
 -- Items without others inside are read as the automaton takes them, and what is read is so.
 use Rattle.std.proofs.Common.{◌≡◌, ℕ, zero, suc, ◌≤◌, ◌<◌, Bool, true, false, List, [], ◌∷◌, length, Option, Some, None, Ok, cond, refl, ap, sym, subst, arith}
-use Rattle.pdl_semantics.specs.Tree.{Span, Location, Kind, Stmt}
+use Rattle.pdl_semantics.specs.Tree.{Span, Ident, Expr, Location, Kind, Stmt}
 use Rattle.pdl_tokens.specs.declared.token.Mark.{Mark}
 use Rattle.pdl_tokens.specs.declared.token.Mark.TheVariants as mark
 use Rattle.pdl_tokens.specs.declared.token.TokenKind.{TokenKind}
@@ -10,7 +10,7 @@ use Rattle.pdl_tokens.specs.Tokens.{Token}
 use Rattle.pdl_tokens.specs.Tokens.{Row}
 use Rattle.pdl_grammar.specs.Grammar.{Word, on, at, ident, location_row, mark_of, Listed, last, further, Full, Item, separating, reading, binding, guessing, fetching, writing, reserving, acquiring, blocking, releasing, calling, verifying, checking, barring}
 use Rattle.pdl_cursor.specs.Looks.{is_mark, begins_place, is_place}
-use Rattle.pdl_grammar.specs.Reading.{Outcome, Parser, and_then, goes_on, list_of, listed_by, expr, args, read_of, guess_of, bind_of, computed_stmt, assigned_stmt, named_by, named_stmt, reserved_location, held_location, bare, locking, plain_by, plain}
+use Rattle.pdl_grammar.specs.Reading.{Outcome, Parser, and_then, goes_on, list_of, listed_by, ended, place, address, purpose, closed, expr, args, read_of, guess_of, bind_of, computed_stmt, assigned_stmt, named_by, named_stmt, reserved_location, held_location, bare, locking, plain_by, plain}
 use Rattle.pdl_grammar.specs.Automaton.{Sym, a, a_name, an_access, operand, slicing, rest, after_name, assigned_name, in_square, Listing, closer, first_of, Closer, semicolon, round, comma, in_args, closing, act_on, Stack, run, run_after}
 use Rattle.pdl_grammar.specs.Automaton as m
 use Rattle.pdl_grammar.proofs.Good.{Good, reads, stops, beyond, instead, under, weaker, then, step, word, word_of, take_good, name_good, access_good, place_good, is_that, on_test, on_option, begins}
@@ -132,27 +132,76 @@ a_place ts below e = let p = front_place ts e in rw p.is refl
 args_good : (top : ℕ) (ts : Row) → length ts < top → Good (λ es r. Listed Full mark.CloseRound es ts r) (operand in_args ∷ []) [] (args top ts) ts
 args_good top ts le = listed_good Full (expr top) m.args top (λ us h. expr_good top in_args us h) top ts le (omega arith)
 
+-- ---- what stands up to a semicolon
+
+-- the tokens are a location and a semicolon
+record IsPlaceEnd (ts : Row) (v : Location × Span) (r : Row) : Type 0 where
+  o : Word
+  c : Word
+  x : List ℕ
+  is : ts ≡ location_row (word v.0.mem.name v.0.mem.span) o (word v.0.address.name v.0.address.span) c (at (word x v.1) mark.Semicolon ∷ r)
+
+place_end_good : (ts : Row) → Good (IsPlaceEnd ts) (a_name ∷ a mark.OpenSquare ∷ a_name ∷ a mark.CloseSquare ∷ a mark.Semicolon ∷ []) [] (ended place ts) ts
+unfolding ended
+place_end_good ts =
+    then _ _ (place_good ts) (λ v r1 p1 _.
+    then _ _ (take_good mark.Semicolon r1) (λ e r2 p2 _.
+    reads (record { o = p1.o; c = p1.c; x = p2.0; is = rw (p1.is, p2.1) refl }) (omega arith) (λ below. refl)))
+
+-- the tokens are an expression and a semicolon
+abbrev IsExprEnd : Row → Expr × Span → Row → Type 0
+IsExprEnd ts v r = (x : List ℕ) × Full v.0 ts (at (word x v.1) mark.Semicolon ∷ r)
+
+expr_end_good : (top : ℕ) (ts : Row) → length ts ≤ top → Good (IsExprEnd ts) (operand semicolon ∷ []) [] (ended (expr top) ts) ts
+unfolding ended
+expr_end_good top ts le =
+    then _ _ (expr_good top semicolon ts le) (λ v r1 p1 _.
+    then _ _ (take_good mark.Semicolon r1) (λ e r2 p2 _.
+    reads (p2.0, rw p2.1 at p1) (omega arith) (λ below. refl)))
+
+-- the tokens are arguments and a semicolon
+abbrev IsArgsEnd : Row → List Expr × Span → Row → Type 0
+IsArgsEnd ts v r = (x : List ℕ) × Listed Full mark.CloseRound v.0 ts (at (word x v.1) mark.Semicolon ∷ r)
+
+args_end_good : (top : ℕ) (ts : Row) → length ts < top → Good (IsArgsEnd ts) (operand in_args ∷ a mark.Semicolon ∷ []) [] (ended (args top) ts) ts
+unfolding ended
+args_end_good top ts le =
+    then _ _ (args_good top ts le) (λ es r1 p1 _.
+    then _ _ (take_good mark.Semicolon r1) (λ e r2 p2 _.
+    reads (p2.0, rw p2.1 at p1) (omega arith) (λ below. refl)))
+
 computed_good : (top : ℕ) (x q : Word) (ts : Row) → length ts ≤ top → begins_place ts ≡ false → Good (λ s r. Item (s ∷ []) (on x kind.Name ∷ at q mark.Assign ∷ ts) r) (m.assigned ∷ []) [] (computed_stmt top (ident x) ts) ts
 computed_good top x q ts le e = on_test (λ b. Good (λ s r. Item (s ∷ []) (on x kind.Name ∷ at q mark.Assign ∷ ts) r) (m.assigned ∷ []) [] (cond b (guess_of top (ident x) (next ts)) (bind_of (expr top) (ident x) ts)) ts) (is_mark mark.SpecCall (first_kind ts))
     (λ f. let s = begins mark.SpecCall ts f in let k : length ts ≡ length (at s.w mark.SpecCall ∷ s.more) = ap length s.is in
     subst (λ us. Good (λ s r. Item (s ∷ []) (on x kind.Name ∷ at q mark.Assign ∷ us) r) (m.assigned ∷ []) [] (guess_of top (ident x) (next us)) us) (sym s.is)
     (step refl
     (then _ _ (take_good mark.OpenRound s.more) (λ _ r1 p1 le1.
-    then _ _ (args_good top r1 (omega arith)) (λ es r2 p2 _.
-    then _ _ (take_good mark.Semicolon r2) (λ _ r3 p3 _.
-    reads (rw p1.1 (guessing (rw p3.1 at p2))) (omega arith) (λ below. refl)))))))
+    then _ _ (args_end_good top r1 (omega arith)) (λ v r2 p2 _.
+    reads (rw p1.1 (guessing p2.1)) (omega arith) (λ below. refl))))))
     (λ f. instead (operand semicolon ∷ []) (λ below. no_place ts below e f)
-    (then _ _ (expr_good top semicolon ts le) (λ v r1 p1 _.
-    then _ _ (take_good mark.Semicolon r1) (λ _ r2 p2 _.
-    reads (binding (rw p2.1 at p1)) (omega arith) (λ below. refl)))))
+    (then _ _ (expr_end_good top ts le) (λ v r1 p1 _.
+    reads (binding p1.1) (omega arith) (λ below. refl))))
 
 assigned_good : (top : ℕ) (x q : Word) (ts : Row) → length ts ≤ top → Good (λ s r. Item (s ∷ []) (on x kind.Name ∷ at q mark.Assign ∷ ts) r) (m.assigned ∷ []) [] (assigned_stmt top (ident x) ts) ts
 assigned_good top x q ts le = on_test (λ b. Good (λ s r. Item (s ∷ []) (on x kind.Name ∷ at q mark.Assign ∷ ts) r) (m.assigned ∷ []) [] (cond b (read_of (ident x) ts) (computed_stmt top (ident x) ts)) ts) (begins_place ts)
     (λ e. instead (a_name ∷ a mark.OpenSquare ∷ a_name ∷ a mark.CloseSquare ∷ a mark.Semicolon ∷ []) (λ below. a_place ts below e)
-    (then _ _ (place_good ts) (λ v r1 p1 _.
-    then _ _ (take_good mark.Semicolon r1) (λ _ r2 p2 _.
-    reads (rw (p1.is, p2.1) reading) (omega arith) (λ below. refl)))))
+    (then _ _ (place_end_good ts) (λ v r1 p1 _.
+    reads (rw p1.is reading) (omega arith) (λ below. refl))))
     (λ e. computed_good top x q ts le e)
+
+-- the tokens are an address, a closing bracket and an arrow
+record IsAddress (ts : Row) (y : Ident) (r : Row) : Type 0 where
+  c : Word
+  d : Word
+  is : ts ≡ on (word y.name y.span) kind.Name ∷ at c mark.CloseSquare ∷ at d mark.Arrow ∷ r
+
+address_good : (ts : Row) → Good (IsAddress ts) (a_name ∷ a mark.CloseSquare ∷ a mark.Arrow ∷ []) [] (address ts) ts
+unfolding address
+address_good ts =
+    then _ _ (name_good ts) (λ y r1 p1 _.
+    then _ _ (take_good mark.CloseSquare r1) (λ c r2 p2 _.
+    then _ _ (take_good mark.Arrow r2) (λ d r3 p3 _.
+    reads (record { c = word p2.0 c; d = word p3.0 d; is = rw (p1, p2.1, p3.1) refl }) (omega arith) (λ below. refl))))
 
 named_good : (top : ℕ) (x : Word) (ts : Row) → length ts ≤ top → Good (λ s r. Item (s ∷ []) (on x kind.Name ∷ ts) r) (after_name ∷ []) [] (named_stmt top (ident x) ts) ts
 unfolding named_stmt
@@ -162,19 +211,45 @@ named_good top x (t ∷ ts) le = go t.kind (word_of t) le
     go : (k : TokenKind) (q : Word) → length (on q k ∷ ts) ≤ top → Good (λ s r. Item (s ∷ []) (on x kind.Name ∷ on q k ∷ ts) r) (after_name ∷ []) [] (named_by top (ident x) (Some k) (on q k ∷ ts)) (on q k ∷ ts)
     go (kind.Mark mark.Assign) q le = step refl (assigned_good top x q ts (omega arith))
     go (kind.Mark mark.Arrow) q le = step refl
-        (then _ _ (place_good ts) (λ v r1 p1 _.
-        then _ _ (take_good mark.Semicolon r1) (λ _ r2 p2 _.
-        reads (rw (p1.is, p2.1) fetching) (omega arith) (λ below. refl))))
+        (then _ _ (place_end_good ts) (λ v r1 p1 _.
+        reads (rw p1.is fetching) (omega arith) (λ below. refl)))
     go (kind.Mark mark.OpenSquare) q le = step refl
-        (then _ _ (name_good ts) (λ y r1 p1 le1.
-        then _ _ (take_good mark.CloseSquare r1) (λ _ r2 p2 le2.
-        then _ _ (take_good mark.Arrow r2) (λ _ r3 p3 le3.
-        then _ _ (expr_good top semicolon r3 (omega arith)) (λ e r4 p4 le4.
-        then _ _ (take_good mark.Semicolon r4) (λ _ r5 p5 _.
-        reads (rw (p1, p2.1, p3.1) (writing (rw p5.1 at p4))) (omega arith) (λ below. refl)))))))
+        (then _ _ (address_good ts) (λ y r1 p1 le1.
+        then _ _ (expr_end_good top r1 (omega arith)) (λ v r2 p2 _.
+        reads (rw p1.is (writing p2.1)) (omega arith) (λ below. refl))))
     go _ q le = stops (λ below. refl)
 
 -- ---- locations in brackets
+
+-- the tokens are what a location is reserved for, a bracket and a semicolon
+record IsPurpose (ts : Row) (v : Kind × Span) (r : Row) : Type 0 where
+  q : Word
+  k : Word
+  z : Word
+  x : List ℕ
+  is : ts ≡ at q mark.Comma ∷ at k (mark_of v.0) ∷ at z mark.CloseRound ∷ at (word x v.1) mark.Semicolon ∷ r
+
+purpose_good : (ts : Row) → Good (IsPurpose ts) (a mark.Comma ∷ an_access ∷ a mark.CloseRound ∷ a mark.Semicolon ∷ []) [] (purpose ts) ts
+unfolding purpose
+purpose_good ts =
+    then _ _ (take_good mark.Comma ts) (λ q r1 p1 _.
+    then _ _ (access_good r1) (λ k r2 p2 _.
+    then _ _ (take_good mark.CloseRound r2) (λ z r3 p3 _.
+    then _ _ (take_good mark.Semicolon r3) (λ e r4 p4 _.
+    reads (record { q = word p1.0 q; k = p2.0; z = word p3.0 z; x = p4.0; is = rw (p1.1, p2.1, p3.1, p4.1) refl }) (omega arith) (λ below. refl)))))
+
+-- the tokens are a bracket and a semicolon
+record IsClosed (ts : Row) (v : Span) (r : Row) : Type 0 where
+  z : Word
+  x : List ℕ
+  is : ts ≡ at z mark.CloseRound ∷ at (word x v) mark.Semicolon ∷ r
+
+closed_good : (ts : Row) → Good (IsClosed ts) (a mark.CloseRound ∷ a mark.Semicolon ∷ []) [] (closed ts) ts
+unfolding closed
+closed_good ts =
+    then _ _ (take_good mark.CloseRound ts) (λ z r1 p1 _.
+    then _ _ (take_good mark.Semicolon r1) (λ e r2 p2 _.
+    reads (record { z = word p1.0 z; x = p2.0; is = rw (p1.1, p2.1) refl }) (omega arith) (λ below. refl)))
 
 -- the tokens are a location and what it is reserved for, in brackets, and a semicolon
 record IsReserved (ts : Row) (v : Location × Kind × Span) (r : Row) : Type 0 where
@@ -192,11 +267,8 @@ unfolding reserved_location
 reserved_good ts =
     then _ _ (take_good mark.OpenRound ts) (λ p r1 p1 _.
     then _ _ (place_good r1) (λ v r2 p2 _.
-    then _ _ (take_good mark.Comma r2) (λ q r3 p3 _.
-    then _ _ (access_good r3) (λ k r4 p4 _.
-    then _ _ (take_good mark.CloseRound r4) (λ z r5 p5 _.
-    then _ _ (take_good mark.Semicolon r5) (λ e r6 p6 _.
-    reads (record { p = word p1.0 p; o = p2.o; c = p2.c; q = word p3.0 q; k = p4.0; z = word p5.0 z; x = p6.0; is = rw (p1.1, p2.is, p3.1, p4.1, p5.1, p6.1) refl }) (omega arith) (λ below. refl)))))))
+    then _ _ (purpose_good r2) (λ u r3 p3 _.
+    reads (record { p = word p1.0 p; o = p2.o; c = p2.c; q = p3.q; k = p3.k; z = p3.z; x = p3.x; is = rw (p1.1, p2.is, p3.is) refl }) (omega arith) (λ below. refl))))
 
 -- the tokens are a location in brackets and a semicolon
 record IsHeld (ts : Row) (v : Location × Span) (r : Row) : Type 0 where
@@ -212,9 +284,8 @@ unfolding held_location
 held_good ts =
     then _ _ (take_good mark.OpenRound ts) (λ p r1 p1 _.
     then _ _ (place_good r1) (λ v r2 p2 _.
-    then _ _ (take_good mark.CloseRound r2) (λ z r3 p3 _.
-    then _ _ (take_good mark.Semicolon r3) (λ e r4 p4 _.
-    reads (record { p = word p1.0 p; o = p2.o; c = p2.c; z = word p3.0 z; x = p4.0; is = rw (p1.1, p2.is, p3.1, p4.1) refl }) (omega arith) (λ below. refl)))))
+    then _ _ (closed_good r2) (λ e r3 p3 _.
+    reads (record { p = word p1.0 p; o = p2.o; c = p2.c; z = p3.z; x = p3.x; is = rw (p1.1, p2.is, p3.is) refl }) (omega arith) (λ below. refl))))
 
 -- the tokens are empty brackets and a semicolon
 record IsBare (ts : Row) (v : Span) (r : Row) : Type 0 where
@@ -255,16 +326,14 @@ plain_at top (kind.Mark mark.Release) w ts le e f = step refl
     (then _ _ (held_good ts) (λ v r p le2. reads (rw p.is releasing, omega arith) (omega arith) (λ below. refl)))
 plain_at top (kind.Mark mark.Call) w ts le e f = step refl
     (then _ _ (take_good mark.OpenRound ts) (λ _ r1 p1 le1.
-    then _ _ (args_good top r1 (omega arith)) (λ es r2 p2 le2.
-    then _ _ (take_good mark.Semicolon r2) (λ _ r3 p3 le3.
-    reads (rw p1.1 (calling (rw p3.1 at p2)), omega arith) (omega arith) (λ below. refl)))))
+    then _ _ (args_end_good top r1 (omega arith)) (λ v r2 p2 le2.
+    reads (rw p1.1 (calling p2.1), omega arith) (omega arith) (λ below. refl))))
 plain_at top (kind.Mark mark.Verify) w ts le e f = step refl
     (then _ _ (take_good mark.OpenRound ts) (λ _ r1 p1 le1.
     then _ _ (name_good r1) (λ g r2 p2 le2.
     then _ _ (take_good mark.Comma r2) (λ _ r3 p3 le3.
-    then _ _ (args_good top r3 (omega arith)) (λ es r4 p4 le4.
-    then _ _ (take_good mark.Semicolon r4) (λ _ r5 p5 le5.
-    reads (rw (p1.1, p2, p3.1) (verifying (rw p5.1 at p4)), omega arith) (omega arith) (λ below. refl)))))))
+    then _ _ (args_end_good top r3 (omega arith)) (λ v r4 p4 le4.
+    reads (rw (p1.1, p2, p3.1) (verifying p4.1), omega arith) (omega arith) (λ below. refl))))))
 plain_at top (kind.Mark mark.SpecCheck) w ts le e f = step refl
     (then _ _ (bare_good ts) (λ v r p le2. reads (rw p.is checking, omega arith) (omega arith) (λ below. refl)))
 plain_at top (kind.Mark mark.SpecBarrier) w ts le e f = step refl

@@ -151,7 +151,7 @@ gone_on p room m op w x y ts b r i h e le = go h.0 h.1 h.2
     go (suc n) le2 s = (n, omega arith, s ∙ rw (op_there m op i) (rw e refl))
 
 mutual
-  unfolding Reached spec.operand spec.number spec.take inside full
+  unfolding Reached spec.operand spec.bounds spec.number spec.take inside full
 
   only_level : {n : ℕ} {e : Expr} {ts r : Row} → Level n e ts r → (k : ℕ) → length ts ≤ k → After (pred n) r → Reached (spec.operand (inside k)) k n e ts r
   only_level constant k le f = refl
@@ -260,7 +260,7 @@ no_else (none {r = r}) f = brace_no_else (first_kind r) f
 no_else (more h i) f = not_else h
 
 mutual
-  unfolding item items spec.plain spec.locking spec.named_stmt spec.reserved_location spec.held_location spec.bare spec.condition spec.place spec.take spec.name
+  unfolding item items spec.plain spec.locking spec.named_stmt spec.reserved_location spec.held_location spec.ended spec.address spec.purpose spec.closed spec.bare spec.condition spec.place spec.index spec.take spec.name
 
   only_item : {s : List Stmt} {ts r : Row} → Item s ts r → (k n : ℕ) → length ts ≤ k → length ts ≤ n → is_mark mark.Else (first_kind r) ≡ false → item k (items k n) ts ≡ Ok (s, r)
   only_item separating k n le le2 f = refl
@@ -313,7 +313,7 @@ only_lock unlocked f = rw f refl
 only_lock (locked {how = k}) f = rw only_lock_kind refl
 
 only_mem : {x : Mem} {ts r : Row} → Memory x ts r → is_mark mark.Lock (first_kind r) ≡ false → spec.mem ts ≡ Ok (x, r)
-unfolding spec.mem spec.width spec.name spec.take spec.number
+unfolding spec.mem spec.shape spec.width spec.name spec.take spec.number
 only_mem (memory {delayed = d} h) f = rw only_pace (rw (only_lock h f) refl)
 
 only_given : {x : Literal} {ts r : Row} → Given x ts r → spec.literal ts ≡ Ok (x, r)
@@ -325,7 +325,7 @@ unfolding spec.start spec.name spec.take
 only_start (starting h) k le = rw (only_listed spec.literal mark.CloseRound k given_shorter (λ x a b w f le2. only_given f) (λ x a b w f le2. only_given f) refl h k (omega arith) (omega arith)) refl
 
 pub only_pipe : {p : Pipe} {ts r : Row} → Text p ts r → (n : ℕ) → length ts < n → pipe n ts ≡ Ok (p, r)
-unfolding pipe spec.take spec.name
+unfolding pipe spec.pipe_head spec.pipe_rest spec.take spec.name
 only_pipe (text h i j s) n le =
     let sh = shorter_listed param_shorter h in let si = shorter_listed mem_shorter i in let sj = shorter_items j in
     rw (only_listed spec.param mark.CloseRound n param_shorter (λ x a b w f le2. only_param f) (λ x a b w f le2. only_param f) refl h n (omega arith) (omega arith))

@@ -83,14 +83,27 @@ access_by _ = refuse
 unfoldable pub access : Parser Kind
 access = λ ts. access_by (first_kind ts) ts
 
+-- a name in square brackets
+unfoldable pub index : Parser Ident
+index = do
+  _ ← take mark.OpenSquare
+  a ← name
+  _ ← take mark.CloseSquare
+  pure a
+
 -- a location
 unfoldable pub place : Parser Location
 place = do
   m ← name
-  _ ← take mark.OpenSquare
-  a ← name
-  _ ← take mark.CloseSquare
+  a ← index
   pure (record { mem = m; address = a })
+
+-- a value, and where the semicolon after it stands
+unfoldable pub ended : {A : Type 0} → Parser A → Parser (A × Span)
+ended p = do
+  v ← p
+  e ← take mark.Semicolon
+  pure (v, e)
 
 -- ---- values with commas between them
 
@@ -111,14 +124,18 @@ list_of p close (suc n) = p >>= (λ x ts. listed_by (list_of p close n) x (goes_
 
 -- ---- expressions
 
--- a slice, after the name and the bracket
-abbrev pub slice_of : Ident → Parser Expr
-slice_of x = do
+-- the two numbers of a slice, after its bracket
+unfoldable pub bounds : Parser (Number × Number)
+bounds = do
   h ← number
   _ ← take mark.Colon
   l ← number
   _ ← take mark.CloseSquare
-  pure (Slice x h l)
+  pure (h, l)
+
+-- a slice, after the name and the bracket
+abbrev pub slice_of : Ident → Parser Expr
+slice_of x = bounds >>= (λ b. pure (Slice x b.0 b.1))
 
 -- a slice or a variable, after the name
 abbrev pub after_name : Ident → Parser Expr
@@ -156,16 +173,36 @@ pub record Inner : Type 0 where
   pub operand : Parser Expr
   pub full : Parser Expr
 
+-- what `~` inverts, after it
+abbrev pub inverted : Inner → Parser Expr
+inverted inner = inner.operand >>= (λ e. pure (Not e))
+
+-- two expressions one after the other, after the word
+abbrev pub catenated : Inner → Parser Expr
+catenated inner = pair inner.full >>= (λ p. pure (Cat p.0 p.1))
+
+-- a comparison of signed numbers, after its word
+abbrev pub compared : Inner → Parser Expr
+compared inner = pair inner.full >>= (λ p. pure (LessSigned p.0 p.1))
+
+-- an extension by zeros, after its word
+abbrev pub extended : Inner → Parser Expr
+extended inner = sized_expr inner.full >>= (λ p. pure (ZeroExtend p.0 p.1))
+
+-- an extension by the sign, after its word
+abbrev pub sign_extended : Inner → Parser Expr
+sign_extended inner = sized_expr inner.full >>= (λ p. pure (SignExtend p.0 p.1))
+
 -- by what the first token is
 abbrev pub operand_by : Inner → Option TokenKind → Parser Expr
 operand_by inner (Some (kind.Literal w v)) = λ ts. Ok (Constant (first_literal w v ts), next ts)
 operand_by inner (Some kind.Name) = λ ts. after_name (first_name ts) (next ts)
 operand_by inner (Some (kind.Mark mark.OpenRound)) = λ ts. bracketed_expr inner.full (next ts)
-operand_by inner (Some (kind.Mark mark.Tilde)) = λ ts. (inner.operand >>= (λ e. pure (Not e))) (next ts)
-operand_by inner (Some (kind.Mark mark.Cat)) = λ ts. (pair inner.full >>= (λ p. pure (Cat p.0 p.1))) (next ts)
-operand_by inner (Some (kind.Mark mark.LessSigned)) = λ ts. (pair inner.full >>= (λ p. pure (LessSigned p.0 p.1))) (next ts)
-operand_by inner (Some (kind.Mark mark.ZeroExtend)) = λ ts. (sized_expr inner.full >>= (λ p. pure (ZeroExtend p.0 p.1))) (next ts)
-operand_by inner (Some (kind.Mark mark.SignExtend)) = λ ts. (sized_expr inner.full >>= (λ p. pure (SignExtend p.0 p.1))) (next ts)
+operand_by inner (Some (kind.Mark mark.Tilde)) = λ ts. inverted inner (next ts)
+operand_by inner (Some (kind.Mark mark.Cat)) = λ ts. catenated inner (next ts)
+operand_by inner (Some (kind.Mark mark.LessSigned)) = λ ts. compared inner (next ts)
+operand_by inner (Some (kind.Mark mark.ZeroExtend)) = λ ts. extended inner (next ts)
+operand_by inner (Some (kind.Mark mark.SignExtend)) = λ ts. sign_extended inner (next ts)
 operand_by inner _ = refuse
 
 -- what stands between operators
@@ -234,25 +271,18 @@ args room = list_of (expr room) mark.CloseRound room
 
 -- a read of a memory, after `x =`
 abbrev pub read_of : Ident → Parser Stmt
-read_of x = do
-  l ← place
-  e ← take mark.Semicolon
-  pure (CombRead (across x.span e) x l)
+read_of x = ended place >>= (λ v. pure (CombRead (across x.span v.1) x v.0))
 
 -- a binding, after `x =`
 abbrev pub bind_of : Parser Expr → Ident → Parser Stmt
-bind_of full x = do
-  v ← full
-  e ← take mark.Semicolon
-  pure (Bind (across x.span e) x v)
+bind_of full x = ended full >>= (λ v. pure (Bind (across x.span v.1) x v.0))
 
 -- a guess, after `x = spec_call`
 abbrev pub guess_of : ℕ → Ident → Parser Stmt
 guess_of room x = do
   _ ← take mark.OpenRound
-  es ← args room
-  e ← take mark.Semicolon
-  pure (SpecCall (across x.span e) x es)
+  v ← ended (args room)
+  pure (SpecCall (across x.span v.1) x v.0)
 
 -- a guess or a binding, after `x =`
 abbrev pub computed_stmt : ℕ → Ident → Parser Stmt
@@ -264,20 +294,22 @@ assigned_stmt room x = λ ts. cond (begins_place ts) (read_of x ts) (computed_st
 
 -- a read of a delayed memory, after `x <-`
 abbrev pub fetch_of : Ident → Parser Stmt
-fetch_of x = do
-  l ← place
-  e ← take mark.Semicolon
-  pure (DelayedRead (across x.span e) x l)
+fetch_of x = ended place >>= (λ v. pure (DelayedRead (across x.span v.1) x v.0))
+
+-- the address that is written, after `m [`, up to the arrow
+unfoldable pub address : Parser Ident
+address = do
+  a ← name
+  _ ← take mark.CloseSquare
+  _ ← take mark.Arrow
+  pure a
 
 -- after `m [`
 abbrev pub write_of : Parser Expr → Ident → Parser Stmt
 write_of full m = do
-  a ← name
-  _ ← take mark.CloseSquare
-  _ ← take mark.Arrow
-  v ← full
-  e ← take mark.Semicolon
-  pure (Write (across m.span e) (record { mem = m; address = a }) v)
+  a ← address
+  v ← ended full
+  pure (Write (across m.span v.1) (record { mem = m; address = a }) v.0)
 
 -- by what comes after the name
 abbrev pub named_by : ℕ → Ident → Option TokenKind → Parser Stmt
@@ -290,24 +322,36 @@ named_by room x _ = refuse
 unfoldable pub named_stmt : ℕ → Ident → Parser Stmt
 named_stmt room x = λ ts. named_by room x (first_kind ts) ts
 
+-- what a location is reserved for, after it, and where the statement ends
+unfoldable pub purpose : Parser (Kind × Span)
+purpose = do
+  _ ← take mark.Comma
+  k ← access
+  _ ← take mark.CloseRound
+  e ← take mark.Semicolon
+  pure (k, e)
+
+-- a closing bracket and a semicolon, and where that stands
+unfoldable pub closed : Parser Span
+closed = do
+  _ ← take mark.CloseRound
+  e ← take mark.Semicolon
+  pure e
+
 -- a location and what it is reserved for, in brackets, and where the statement ends
 unfoldable pub reserved_location : Parser (Location × Kind × Span)
 reserved_location = do
   _ ← take mark.OpenRound
   l ← place
-  _ ← take mark.Comma
-  k ← access
-  _ ← take mark.CloseRound
-  e ← take mark.Semicolon
-  pure (l, k, e)
+  p ← purpose
+  pure (l, p.0, p.1)
 
 -- a location in brackets, and where the statement ends
 unfoldable pub held_location : Parser (Location × Span)
 held_location = do
   _ ← take mark.OpenRound
   l ← place
-  _ ← take mark.CloseRound
-  e ← take mark.Semicolon
+  e ← closed
   pure (l, e)
 
 -- a reservation, after its word
@@ -330,9 +374,8 @@ release_of s = held_location >>= (λ v. pure (Release (across s v.1) v.0 ∷ [])
 abbrev pub call_of : ℕ → Span → Parser (List Stmt)
 call_of room s = do
   _ ← take mark.OpenRound
-  es ← args room
-  e ← take mark.Semicolon
-  pure (Call (across s e) es ∷ [])
+  v ← ended (args room)
+  pure (Call (across s v.1) v.0 ∷ [])
 
 -- a test of a guess, after its word
 abbrev pub verify_of : ℕ → Span → Parser (List Stmt)
@@ -340,9 +383,8 @@ verify_of room s = do
   _ ← take mark.OpenRound
   g ← name
   _ ← take mark.Comma
-  es ← args room
-  e ← take mark.Semicolon
-  pure (Verify (across s e) g es ∷ [])
+  v ← ended (args room)
+  pure (Verify (across s v.1) g v.0 ∷ [])
 
 -- empty brackets, and where the statement ends
 unfoldable pub bare : Parser Span
@@ -404,9 +446,13 @@ locking_by _ = refuse
 unfoldable pub locking : Parser (List Stmt)
 locking = λ ts. locking_by (first_kind ts) ts
 
+-- a statement that begins with a name
+abbrev pub named_item : ℕ → Parser (List Stmt)
+named_item room = λ ts. alone (named_stmt room (first_name ts)) (next ts)
+
 -- by what the first token is
 abbrev pub plain_by : ℕ → Option TokenKind → Parser (List Stmt)
-plain_by room (Some kind.Name) = λ ts. alone (named_stmt room (first_name ts)) (next ts)
+plain_by room (Some kind.Name) = named_item room
 plain_by room (Some (kind.Mark mark.Separator)) = λ ts. Ok (Separator (first_span ts) ∷ [], next ts)
 plain_by room (Some (kind.Mark mark.Call)) = λ ts. call_of room (first_span ts) (next ts)
 plain_by room (Some (kind.Mark mark.Verify)) = λ ts. verify_of room (first_span ts) (next ts)
@@ -484,10 +530,9 @@ pace_by _ = refuse
 unfoldable pub pace : Parser Bool
 pace = λ ts. pace_by (first_kind ts) ts
 
--- a memory
-unfoldable pub mem : Parser Mem
-mem = do
-  x ← name
+-- what stands after the name of a memory
+unfoldable pub shape : Parser (Number × Number × Bool × Option LockDecl)
+shape = do
   _ ← take mark.Colon
   w ← width
   _ ← take mark.OpenSquare
@@ -495,7 +540,14 @@ mem = do
   _ ← take mark.CloseSquare
   d ← pace
   l ← lock
-  pure (record { name = x; width = w; depth = n; delayed = d; lock = l })
+  pure (w, n, d, l)
+
+-- a memory
+unfoldable pub mem : Parser Mem
+mem = do
+  x ← name
+  s ← shape
+  pure (record { name = x; width = s.0; depth = s.1; delayed = s.2; lock = s.3 })
 
 -- the start clause
 unfoldable pub start : ℕ → Parser Start
@@ -507,20 +559,31 @@ start room = do
   e ← take mark.Semicolon
   pure (record { span = across s e; name = x; args = args })
 
--- a pipe and its start clause
-unfoldable pub pipe : ℕ → Parser Pipe
-pipe room = do
+-- what stands before the body of a pipe
+unfoldable pub pipe_head : ℕ → Parser (Ident × List Param × List Mem)
+pipe_head room = do
   _ ← take mark.Pipe
   x ← name
   _ ← take mark.OpenRound
   params ← list_of param mark.CloseRound room
   _ ← take mark.OpenSquare
   mems ← list_of mem mark.CloseSquare room
+  pure (x, params, mems)
+
+-- the body of a pipe, where its closing brace stands, and the start clause
+unfoldable pub pipe_rest : ℕ → Parser (Stmts × Span × Start)
+pipe_rest room = do
   _ ← take mark.OpenBrace
-  body ← items room room
-  e ← take mark.CloseBrace
+  b ← branch (items room room)
   s ← start room
-  pure (record { name = x; params = params; mems = mems; body = body; end = e; start = s })
+  pure (b.0, b.1, s)
+
+-- a pipe and its start clause
+unfoldable pub pipe : ℕ → Parser Pipe
+pipe room = do
+  h ← pipe_head room
+  r ← pipe_rest room
+  pure (record { name = h.0; params = h.1; mems = h.2; body = r.0; end = r.1; start = r.2 })
 
 -- a text up to the end of the tokens
 abbrev pub whole_of : Outcome Pipe → Result Pipe Row

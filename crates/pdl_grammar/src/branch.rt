@@ -10,14 +10,14 @@ use crate::statement::{across, plain};
 use crate::stop::Stop;
 use crate::words::take;
 use pdl_cursor::Cursor;
-use pdl_kit::{NoMemory, Seq};
+use pdl_kit::{Boxed, NoMemory, Seq};
 use pdl_tokens::Mark;
 use pdl_tree::{Expr, Span, Stmt};
 use std::alloc::Global;
 
 // A condition, up to the brace after it.
 #[tactic(auto, unfolding(crate::specs::Reading::condition))]
-fn condition(alloc: Global, tokens: &mut Cursor<'_>, room: usize) -> Result<Expr, Stop>
+fn condition(alloc: Global, tokens: &mut Cursor<'_>, room: usize) -> Result<Boxed<Expr>, Stop>
     ensures { Reads expr_view (spec.condition room tokens.old) result tokens.new }
 {
     take(tokens, Mark::OpenRound)?;
@@ -27,9 +27,14 @@ fn condition(alloc: Global, tokens: &mut Cursor<'_>, room: usize) -> Result<Expr
     Ok(condition)
 }
 
-// The statements of a branch and its closing brace, after the opening one.
+/// The statements of a branch and its closing brace, after the opening one.
 #[cycle(items)]
-fn branch(alloc: Global, tokens: &mut Cursor<'_>, room: usize, most: usize) -> Result<Branch, Stop>
+pub fn branch(
+    alloc: Global,
+    tokens: &mut Cursor<'_>,
+    room: usize,
+    most: usize,
+) -> Result<Branch, Stop>
     ensures { Reads branch_view (spec.branch (spec.items room most) tokens.old) result tokens.new }
 {
     let stmts = items(alloc, tokens, room, most)?;
@@ -78,7 +83,7 @@ fn choice(
     let other = otherwise(alloc, tokens, room, most, end)?;
     Ok(Item::One(Stmt::If {
         span: across(word, other.end),
-        condition,
+        condition: condition.into_inner(),
         then,
         otherwise: other.stmts,
     }))

@@ -1,10 +1,11 @@
 // Parameters and memories.
 ghost use Rattle.std.specs.Prelude.{◌≡◌, map};
-ghost use Rattle.pdl_grammar.specs.Read.{Reads};
+ghost use Rattle.pdl_grammar.specs.Read.{Reads, shape_view};
 ghost use Rattle.pdl_grammar.specs.Reading as spec;
 ghost use Rattle.pdl_tree.specs.View.{number_view, param_view, mem_view, maybe_lock_view};
 ghost use Rattle.pdl_tokens.specs.declared.token.Mark.TheVariants as mark;
 
+use crate::item::Shape;
 use crate::stop::Stop;
 use crate::words::{goes_on, lock_kind, name, number, pace, take};
 use pdl_cursor::Cursor;
@@ -83,11 +84,11 @@ fn lock(tokens: &mut Cursor<'_>) -> Result<Option<LockDecl>, Stop>
     }
 }
 
-#[tactic(auto, unfolding(crate::specs::Reading::mem))]
-fn mem(alloc: Global, tokens: &mut Cursor<'_>) -> Result<Mem, Stop>
-    ensures { Reads mem_view (spec.mem tokens.old) result tokens.new }
+// What stands after the name of a memory.
+#[tactic(auto, unfolding(crate::specs::Reading::shape))]
+fn shape(tokens: &mut Cursor<'_>) -> Result<Shape, Stop>
+    ensures { Reads shape_view (spec.shape tokens.old) result tokens.new }
 {
-    let name = name(alloc, tokens)?;
     take(tokens, Mark::Colon)?;
     let width = width(tokens)?;
     take(tokens, Mark::OpenSquare)?;
@@ -95,12 +96,26 @@ fn mem(alloc: Global, tokens: &mut Cursor<'_>) -> Result<Mem, Stop>
     take(tokens, Mark::CloseSquare)?;
     let delayed = pace(tokens)?;
     let lock = lock(tokens)?;
-    Ok(Mem {
-        name,
+    Ok(Shape {
         width,
         depth,
         delayed,
         lock,
+    })
+}
+
+#[tactic(auto, unfolding(crate::specs::Reading::mem))]
+fn mem(alloc: Global, tokens: &mut Cursor<'_>) -> Result<Mem, Stop>
+    ensures { Reads mem_view (spec.mem tokens.old) result tokens.new }
+{
+    let name = name(alloc, tokens)?;
+    let shape = shape(tokens)?;
+    Ok(Mem {
+        name,
+        width: shape.width,
+        depth: shape.depth,
+        delayed: shape.delayed,
+        lock: shape.lock,
     })
 }
 

@@ -1,13 +1,14 @@
 // Expressions.
-ghost use Rattle.std.specs.Prelude.{◌≡◌, ◌≤◌, IfOk, map};
+ghost use Rattle.std.specs.Prelude.{◌≡◌, ◌≤◌, ◌++◌, ◌∷◌, [], MatchResult, OnOk, map};
 ghost use Rattle.pdl_semantics.specs.Tree as tree;
 ghost use Rattle.pdl_grammar.specs.Grammar.{operator_of, loose, levels};
-ghost use Rattle.pdl_grammar.specs.Read.{Reads, pair_view, sized_view};
+ghost use Rattle.pdl_grammar.specs.Read.{Reads, bounds_view, pair_view, sized_view};
 ghost use Rattle.pdl_grammar.specs.Reading as spec;
+ghost use Rattle.pdl_grammar.specs.declared.stop.Stop.TheVariants.{NoMemory as no_memory};
 ghost use Rattle.pdl_tokens.specs.Cursor.{first_kind};
-ghost use Rattle.pdl_tree.specs.View.{ident_view, op_view, expr_view, number_view, maybe_op_view};
+ghost use Rattle.pdl_tree.specs.View.{ident_view, op_view, expr_view, maybe_op_view};
 
-use crate::item::{Pair, Sized};
+use crate::item::{Bounds, Pair, Sized};
 use crate::stop::Stop;
 use crate::words::{goes_on, literal, number, take};
 use pdl_cursor::Cursor;
@@ -19,88 +20,57 @@ use std::alloc::Global;
 // How many kinds of binding the operators have.
 const LEVELS: u32 = 8;
 
-// A slice, after the name and the bracket.
-fn slice(tokens: &mut Cursor<'_>, x: Ident) -> Result<Expr, Stop>
-    ensures { Reads expr_view (spec.slice_of (ident_view x) tokens.old) result tokens.new }
+// An expression in a place of its own.
+fn boxed(alloc: Global, e: Expr) -> Result<Boxed<Expr>, Stop>
+    ensures { MatchResult result (λ b. b ≡ e) (λ e. e ≡ no_memory) }
+{
+    Ok(Boxed::new(alloc, e)?)
+}
+
+// The two numbers of a slice, after its bracket.
+#[tactic(auto, unfolding(crate::specs::Reading::bounds))]
+fn bounds(tokens: &mut Cursor<'_>) -> Result<Bounds, Stop>
+    ensures { Reads bounds_view (spec.bounds tokens.old) result tokens.new }
 {
     let high = number(tokens)?;
     take(tokens, Mark::Colon)?;
     let low = number(tokens)?;
     take(tokens, Mark::CloseSquare)?;
-    Ok(Expr::Slice { x, high, low })
+    Ok(Bounds { high, low })
+}
+
+// A slice, after the name and the bracket.
+fn slice(alloc: Global, tokens: &mut Cursor<'_>, x: Ident) -> Result<Boxed<Expr>, Stop>
+    ensures { Reads expr_view (spec.slice_of (ident_view x) tokens.old) result tokens.new }
+{
+    let Bounds { high, low } = bounds(tokens)?;
+    boxed(alloc, Expr::Slice { x, high, low })
 }
 
 // A variable or a slice of it, after the name.
-fn after_name(tokens: &mut Cursor<'_>, x: Ident) -> Result<Expr, Stop>
+fn after_name(alloc: Global, tokens: &mut Cursor<'_>, x: Ident) -> Result<Boxed<Expr>, Stop>
     ensures { Reads expr_view (spec.after_name (ident_view x) tokens.old) result tokens.new }
 {
     if tokens.is(Mark::OpenSquare) {
         tokens.skip();
-        slice(tokens, x)
+        slice(alloc, tokens, x)
     } else {
-        Ok(Expr::Variable(x))
+        boxed(alloc, Expr::Variable(x))
     }
 }
 
-fn binary(alloc: Global, op: BinaryOp, a: Expr, b: Expr) -> Result<Expr, NoMemory>
-    ensures { IfOk result (λ e. expr_view e
-        ≡ tree.Binary (op_view op) (expr_view a) (expr_view b)) }
+// Two operands and the operator between them.
+fn binary(alloc: Global, op: BinaryOp, a: Boxed<Expr>, b: Boxed<Expr>) -> Result<Boxed<Expr>, Stop>
+    ensures { MatchResult result
+        (λ e. expr_view e ≡ tree.Binary (op_view op) (expr_view a) (expr_view b))
+        (λ e. e ≡ no_memory) }
 {
-    Ok(Expr::Binary {
-        op,
-        a: Boxed::new(alloc, a)?,
-        b: Boxed::new(alloc, b)?,
-    })
-}
-
-fn choice(alloc: Global, c: Expr, a: Expr, b: Expr) -> Result<Expr, NoMemory>
-    ensures { IfOk result (λ e. expr_view e
-        ≡ tree.Choose (expr_view c) (expr_view a) (expr_view b)) }
-{
-    let c = Boxed::new(alloc, c)?;
-    let a = Boxed::new(alloc, a)?;
-    Ok(Expr::Choose(c, a, Boxed::new(alloc, b)?))
-}
-
-fn not(alloc: Global, e: Expr) -> Result<Expr, NoMemory>
-    ensures { IfOk result (λ r. expr_view r ≡ tree.Not (expr_view e)) }
-{
-    Ok(Expr::Not(Boxed::new(alloc, e)?))
-}
-
-fn cat(alloc: Global, of: Pair) -> Result<Expr, NoMemory>
-    ensures { IfOk result (λ r. expr_view r ≡ tree.Cat (expr_view of.a) (expr_view of.b)) }
-{
-    let Pair { a, b } = of;
-    Ok(Expr::Cat(Boxed::new(alloc, a)?, Boxed::new(alloc, b)?))
-}
-
-fn less_signed(alloc: Global, of: Pair) -> Result<Expr, NoMemory>
-    ensures { IfOk result (λ r. expr_view r ≡ tree.LessSigned (expr_view of.a) (expr_view of.b)) }
-{
-    let Pair { a, b } = of;
-    Ok(Expr::LessSigned(Boxed::new(alloc, a)?, Boxed::new(alloc, b)?))
-}
-
-fn zero_extend(alloc: Global, of: Sized) -> Result<Expr, NoMemory>
-    ensures { IfOk result (λ r. expr_view r
-        ≡ tree.ZeroExtend (expr_view of.e) (number_view of.width)) }
-{
-    let Sized { e, width } = of;
-    Ok(Expr::ZeroExtend(Boxed::new(alloc, e)?, width))
-}
-
-fn sign_extend(alloc: Global, of: Sized) -> Result<Expr, NoMemory>
-    ensures { IfOk result (λ r. expr_view r
-        ≡ tree.SignExtend (expr_view of.e) (number_view of.width)) }
-{
-    let Sized { e, width } = of;
-    Ok(Expr::SignExtend(Boxed::new(alloc, e)?, width))
+    boxed(alloc, Expr::Binary { op, a, b })
 }
 
 // What stands between round brackets, after the first.
 #[cycle(expr)]
-fn bracketed_expr(alloc: Global, tokens: &mut Cursor<'_>, room: usize) -> Result<Expr, Stop>
+fn bracketed_expr(alloc: Global, tokens: &mut Cursor<'_>, room: usize) -> Result<Boxed<Expr>, Stop>
     ensures { Reads expr_view (spec.bracketed_expr (spec.inside room).full tokens.old) result
         tokens.new }
 {
@@ -139,7 +109,7 @@ fn sized_expr(alloc: Global, tokens: &mut Cursor<'_>, room: usize) -> Result<Siz
 // An expression that stands inside another.
 #[cycle(expr)]
 #[tactic(auto, using(crate::proofs::Inside::inside_more, crate::proofs::Inside::inside_none))]
-fn inside(alloc: Global, tokens: &mut Cursor<'_>, room: usize) -> Result<Expr, Stop>
+fn inside(alloc: Global, tokens: &mut Cursor<'_>, room: usize) -> Result<Boxed<Expr>, Stop>
     ensures { Reads expr_view ((spec.inside room).full tokens.old) result tokens.new }
 {
     if room == 0 {
@@ -151,7 +121,7 @@ fn inside(alloc: Global, tokens: &mut Cursor<'_>, room: usize) -> Result<Expr, S
 // An operand that stands inside another.
 #[cycle(expr)]
 #[tactic(auto, using(crate::proofs::Inside::operand_more, crate::proofs::Inside::operand_none))]
-fn operand_inside(alloc: Global, tokens: &mut Cursor<'_>, room: usize) -> Result<Expr, Stop>
+fn operand_inside(alloc: Global, tokens: &mut Cursor<'_>, room: usize) -> Result<Boxed<Expr>, Stop>
     ensures { Reads expr_view ((spec.inside room).operand tokens.old) result tokens.new }
 {
     if room == 0 {
@@ -160,18 +130,63 @@ fn operand_inside(alloc: Global, tokens: &mut Cursor<'_>, room: usize) -> Result
     operand(alloc, tokens, room - 1)
 }
 
+// What `~` inverts, after it.
+#[cycle(expr)]
+fn inverted(alloc: Global, tokens: &mut Cursor<'_>, room: usize) -> Result<Boxed<Expr>, Stop>
+    ensures { Reads expr_view (spec.inverted (spec.inside room) tokens.old) result tokens.new }
+{
+    let e = operand_inside(alloc, tokens, room)?;
+    boxed(alloc, Expr::Not(e))
+}
+
+// Two expressions one after the other, after the word `cat`.
+#[cycle(expr)]
+fn catenated(alloc: Global, tokens: &mut Cursor<'_>, room: usize) -> Result<Boxed<Expr>, Stop>
+    ensures { Reads expr_view (spec.catenated (spec.inside room) tokens.old) result tokens.new }
+{
+    let Pair { a, b } = pair(alloc, tokens, room)?;
+    boxed(alloc, Expr::Cat(a, b))
+}
+
+// A comparison of signed numbers, after its word.
+#[cycle(expr)]
+fn compared(alloc: Global, tokens: &mut Cursor<'_>, room: usize) -> Result<Boxed<Expr>, Stop>
+    ensures { Reads expr_view (spec.compared (spec.inside room) tokens.old) result tokens.new }
+{
+    let Pair { a, b } = pair(alloc, tokens, room)?;
+    boxed(alloc, Expr::LessSigned(a, b))
+}
+
+// An extension by zeros, after its word.
+#[cycle(expr)]
+fn extended(alloc: Global, tokens: &mut Cursor<'_>, room: usize) -> Result<Boxed<Expr>, Stop>
+    ensures { Reads expr_view (spec.extended (spec.inside room) tokens.old) result tokens.new }
+{
+    let Sized { e, width } = sized_expr(alloc, tokens, room)?;
+    boxed(alloc, Expr::ZeroExtend(e, width))
+}
+
+// An extension by the sign, after its word.
+#[cycle(expr)]
+fn sign_extended(alloc: Global, tokens: &mut Cursor<'_>, room: usize) -> Result<Boxed<Expr>, Stop>
+    ensures { Reads expr_view (spec.sign_extended (spec.inside room) tokens.old) result tokens.new }
+{
+    let Sized { e, width } = sized_expr(alloc, tokens, room)?;
+    boxed(alloc, Expr::SignExtend(e, width))
+}
+
 // What stands between operators.
 #[cycle(expr)]
 #[tactic(auto, unfolding(crate::specs::Reading::operand, crate::specs::Reading::literal))]
-fn operand(alloc: Global, tokens: &mut Cursor<'_>, room: usize) -> Result<Expr, Stop>
+fn operand(alloc: Global, tokens: &mut Cursor<'_>, room: usize) -> Result<Boxed<Expr>, Stop>
     ensures { Reads expr_view (spec.operand (spec.inside room) tokens.old) result tokens.new }
 {
     match tokens.kind() {
-        Some(TokenKind::Literal { .. }) => Ok(Expr::Constant(literal(tokens)?)),
+        Some(TokenKind::Literal { .. }) => boxed(alloc, Expr::Constant(literal(tokens)?)),
         Some(TokenKind::Name) => {
             let x = tokens.name(alloc)?;
             tokens.skip();
-            after_name(tokens, x)
+            after_name(alloc, tokens, x)
         }
         Some(TokenKind::Mark(Mark::OpenRound)) => {
             tokens.skip();
@@ -179,23 +194,23 @@ fn operand(alloc: Global, tokens: &mut Cursor<'_>, room: usize) -> Result<Expr, 
         }
         Some(TokenKind::Mark(Mark::Tilde)) => {
             tokens.skip();
-            Ok(not(alloc, operand_inside(alloc, tokens, room)?)?)
+            inverted(alloc, tokens, room)
         }
         Some(TokenKind::Mark(Mark::Cat)) => {
             tokens.skip();
-            Ok(cat(alloc, pair(alloc, tokens, room)?)?)
+            catenated(alloc, tokens, room)
         }
         Some(TokenKind::Mark(Mark::LessSigned)) => {
             tokens.skip();
-            Ok(less_signed(alloc, pair(alloc, tokens, room)?)?)
+            compared(alloc, tokens, room)
         }
         Some(TokenKind::Mark(Mark::ZeroExtend)) => {
             tokens.skip();
-            Ok(zero_extend(alloc, sized_expr(alloc, tokens, room)?)?)
+            extended(alloc, tokens, room)
         }
         Some(TokenKind::Mark(Mark::SignExtend)) => {
             tokens.skip();
-            Ok(sign_extend(alloc, sized_expr(alloc, tokens, room)?)?)
+            sign_extended(alloc, tokens, room)
         }
         _ => Err(Stop::Misplaced),
     }
@@ -253,7 +268,7 @@ fn operator_at(tokens: &Cursor<'_>, n: u32) -> Option<BinaryOp>
 // Operands, and the operators that bind tighter than looseness n, which group to the left.
 #[cycle(expr)]
 #[tactic(auto, using(crate::proofs::Inside::level_none, crate::proofs::Inside::level_more, crate::proofs::Inside::level_fails), unfolding(crate::specs::Reading::chain))]
-fn level(alloc: Global, tokens: &mut Cursor<'_>, room: usize, n: u32) -> Result<Expr, Stop>
+fn level(alloc: Global, tokens: &mut Cursor<'_>, room: usize, n: u32) -> Result<Boxed<Expr>, Stop>
     requires { n ≤ levels }
     ensures { Reads expr_view (spec.level (spec.operand (spec.inside room)) room n tokens.old)
         result tokens.new }
@@ -277,20 +292,25 @@ fn level(alloc: Global, tokens: &mut Cursor<'_>, room: usize, n: u32) -> Result<
 
 // The arms of a choice, after its `?`.
 #[cycle(expr)]
-fn arms(alloc: Global, tokens: &mut Cursor<'_>, room: usize, c: Expr) -> Result<Expr, Stop>
+fn arms(
+    alloc: Global,
+    tokens: &mut Cursor<'_>,
+    room: usize,
+    c: Boxed<Expr>,
+) -> Result<Boxed<Expr>, Stop>
     ensures { Reads expr_view (spec.arms (spec.inside room).full (expr_view c) tokens.old) result
         tokens.new }
 {
     let a = inside(alloc, tokens, room)?;
     take(tokens, Mark::Colon)?;
     let b = inside(alloc, tokens, room)?;
-    Ok(choice(alloc, c, a, b)?)
+    boxed(alloc, Expr::Choose(c, a, b))
 }
 
 /// An expression of at most `room` tokens.
 #[cycle(expr)]
 #[tactic(auto, unfolding(crate::specs::Reading::full))]
-pub fn expr(alloc: Global, tokens: &mut Cursor<'_>, room: usize) -> Result<Expr, Stop>
+pub fn expr(alloc: Global, tokens: &mut Cursor<'_>, room: usize) -> Result<Boxed<Expr>, Stop>
     ensures { Reads expr_view (spec.expr room tokens.old) result tokens.new }
 {
     let e = level(alloc, tokens, room, LEVELS)?;
@@ -302,6 +322,13 @@ pub fn expr(alloc: Global, tokens: &mut Cursor<'_>, room: usize) -> Result<Expr,
     }
 }
 
+// Adds an expression.
+fn add(done: &mut Seq<Expr>, next: Boxed<Expr>) -> Result<(), NoMemory>
+    ensures { OnOk result (done.new ≡ done.old ++ next ∷ []) }
+{
+    done.push(next.into_inner())
+}
+
 /// Expressions with commas between them, up to a closing round bracket.
 #[tactic(auto, using(crate::proofs::Rows::listed_none, crate::proofs::Rows::after_nothing))]
 pub fn args(alloc: Global, tokens: &mut Cursor<'_>, room: usize) -> Result<Seq<Expr>, Stop>
@@ -310,7 +337,7 @@ pub fn args(alloc: Global, tokens: &mut Cursor<'_>, room: usize) -> Result<Seq<E
     let mut done = Seq::new(alloc);
     for _turn in 0..room {
         let next = expr(alloc, tokens, room)?;
-        done.push(next)?;
+        add(&mut done, next)?;
         match goes_on(tokens, Mark::CloseRound) {
             Some(more) => {
                 tokens.skip();

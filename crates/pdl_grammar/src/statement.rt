@@ -1,12 +1,12 @@
 // Statements without others inside.
 ghost use Rattle.std.specs.Prelude.{◌≡◌, IfOk};
 ghost use Rattle.pdl_grammar.specs.Grammar.{across};
-ghost use Rattle.pdl_grammar.specs.Read.{Reads, item_view, reserved_view, held_view};
+ghost use Rattle.pdl_grammar.specs.Read.{Reads, item_view, expr_end_view, args_end_view, purpose_view, reserved_view, held_view};
 ghost use Rattle.pdl_grammar.specs.Reading as spec;
 ghost use Rattle.pdl_tree.specs.View.{span_view, ident_view, location_view, stmt_view};
 
 use crate::expression::{args, expr};
-use crate::item::{Held, Item, Reserved};
+use crate::item::{ArgsEnd, ExprEnd, Held, Item, Purpose, Reserved};
 use crate::stop::Stop;
 use crate::words::{access, name, place, take};
 use pdl_cursor::Cursor;
@@ -26,16 +26,45 @@ pub fn across(first: Span, last: Span) -> Span
     }
 }
 
+// A location, and where the semicolon after it stands.
+#[tactic(auto, unfolding(crate::specs::Reading::ended))]
+fn ended_place(alloc: Global, tokens: &mut Cursor<'_>) -> Result<Held, Stop>
+    ensures { Reads held_view (spec.ended spec.place tokens.old) result tokens.new }
+{
+    let at = place(alloc, tokens)?;
+    let end = take(tokens, Mark::Semicolon)?;
+    Ok(Held { at, end })
+}
+
+// An expression, and where the semicolon after it stands.
+#[tactic(auto, unfolding(crate::specs::Reading::ended))]
+fn ended_expr(alloc: Global, tokens: &mut Cursor<'_>, room: usize) -> Result<ExprEnd, Stop>
+    ensures { Reads expr_end_view (spec.ended (spec.expr room) tokens.old) result tokens.new }
+{
+    let e = expr(alloc, tokens, room)?;
+    let end = take(tokens, Mark::Semicolon)?;
+    Ok(ExprEnd { e, end })
+}
+
+// Arguments, and where the semicolon after them stands.
+#[tactic(auto, unfolding(crate::specs::Reading::ended))]
+fn ended_args(alloc: Global, tokens: &mut Cursor<'_>, room: usize) -> Result<ArgsEnd, Stop>
+    ensures { Reads args_end_view (spec.ended (spec.args room) tokens.old) result tokens.new }
+{
+    let args = args(alloc, tokens, room)?;
+    let end = take(tokens, Mark::Semicolon)?;
+    Ok(ArgsEnd { args, end })
+}
+
 // A read of a memory, after `x =`.
 fn memory_read(alloc: Global, tokens: &mut Cursor<'_>, x: Ident) -> Result<Stmt, Stop>
     ensures { Reads stmt_view (spec.read_of (ident_view x) tokens.old) result tokens.new }
 {
-    let from = place(alloc, tokens)?;
-    let end = take(tokens, Mark::Semicolon)?;
+    let Held { at, end } = ended_place(alloc, tokens)?;
     Ok(Stmt::CombRead {
         span: across(x.span, end),
         x,
-        from,
+        from: at,
     })
 }
 
@@ -44,12 +73,11 @@ fn bind(alloc: Global, tokens: &mut Cursor<'_>, room: usize, x: Ident) -> Result
     ensures { Reads stmt_view (spec.bind_of (spec.expr room) (ident_view x) tokens.old) result
         tokens.new }
 {
-    let e = expr(alloc, tokens, room)?;
-    let end = take(tokens, Mark::Semicolon)?;
+    let ExprEnd { e, end } = ended_expr(alloc, tokens, room)?;
     Ok(Stmt::Bind {
         span: across(x.span, end),
         x,
-        e,
+        e: e.into_inner(),
     })
 }
 
@@ -58,8 +86,7 @@ fn guess(alloc: Global, tokens: &mut Cursor<'_>, room: usize, x: Ident) -> Resul
     ensures { Reads stmt_view (spec.guess_of room (ident_view x) tokens.old) result tokens.new }
 {
     take(tokens, Mark::OpenRound)?;
-    let args = args(alloc, tokens, room)?;
-    let end = take(tokens, Mark::Semicolon)?;
+    let ArgsEnd { args, end } = ended_args(alloc, tokens, room)?;
     Ok(Stmt::SpecCall {
         span: across(x.span, end),
         guess: x,
@@ -106,13 +133,23 @@ fn assigned_stmt(
 fn fetch(alloc: Global, tokens: &mut Cursor<'_>, x: Ident) -> Result<Stmt, Stop>
     ensures { Reads stmt_view (spec.fetch_of (ident_view x) tokens.old) result tokens.new }
 {
-    let from = place(alloc, tokens)?;
-    let end = take(tokens, Mark::Semicolon)?;
+    let Held { at, end } = ended_place(alloc, tokens)?;
     Ok(Stmt::DelayedRead {
         span: across(x.span, end),
         x,
-        from,
+        from: at,
     })
+}
+
+// The address that is written, after `m [`, up to the arrow.
+#[tactic(auto, unfolding(crate::specs::Reading::address))]
+fn written_address(alloc: Global, tokens: &mut Cursor<'_>) -> Result<Ident, Stop>
+    ensures { Reads ident_view (spec.address tokens.old) result tokens.new }
+{
+    let address = name(alloc, tokens)?;
+    take(tokens, Mark::CloseSquare)?;
+    take(tokens, Mark::Arrow)?;
+    Ok(address)
 }
 
 // A write, after `m [`.
@@ -120,15 +157,12 @@ fn write(alloc: Global, tokens: &mut Cursor<'_>, room: usize, mem: Ident) -> Res
     ensures { Reads stmt_view (spec.write_of (spec.expr room) (ident_view mem) tokens.old) result
         tokens.new }
 {
-    let address = name(alloc, tokens)?;
-    take(tokens, Mark::CloseSquare)?;
-    take(tokens, Mark::Arrow)?;
-    let e = expr(alloc, tokens, room)?;
-    let end = take(tokens, Mark::Semicolon)?;
+    let address = written_address(alloc, tokens)?;
+    let ExprEnd { e, end } = ended_expr(alloc, tokens, room)?;
     Ok(Stmt::Write {
         span: across(mem.span, end),
         to: Location { mem, address },
-        e,
+        e: e.into_inner(),
     })
 }
 
@@ -154,6 +188,27 @@ fn named_stmt(alloc: Global, tokens: &mut Cursor<'_>, room: usize, x: Ident) -> 
     }
 }
 
+// What a location is reserved for, after it, up to the semicolon.
+#[tactic(auto, unfolding(crate::specs::Reading::purpose))]
+fn purpose(tokens: &mut Cursor<'_>) -> Result<Purpose, Stop>
+    ensures { Reads purpose_view (spec.purpose tokens.old) result tokens.new }
+{
+    take(tokens, Mark::Comma)?;
+    let kind = access(tokens)?;
+    take(tokens, Mark::CloseRound)?;
+    let end = take(tokens, Mark::Semicolon)?;
+    Ok(Purpose { kind, end })
+}
+
+// A closing bracket and a semicolon, and where that stands.
+#[tactic(auto, unfolding(crate::specs::Reading::closed))]
+fn closed(tokens: &mut Cursor<'_>) -> Result<Span, Stop>
+    ensures { Reads span_view (spec.closed tokens.old) result tokens.new }
+{
+    take(tokens, Mark::CloseRound)?;
+    take(tokens, Mark::Semicolon)
+}
+
 // A location and what it is reserved for, up to the semicolon.
 #[tactic(auto, unfolding(crate::specs::Reading::reserved_location))]
 fn reserved_location(alloc: Global, tokens: &mut Cursor<'_>) -> Result<Reserved, Stop>
@@ -161,10 +216,7 @@ fn reserved_location(alloc: Global, tokens: &mut Cursor<'_>) -> Result<Reserved,
 {
     take(tokens, Mark::OpenRound)?;
     let at = place(alloc, tokens)?;
-    take(tokens, Mark::Comma)?;
-    let kind = access(tokens)?;
-    take(tokens, Mark::CloseRound)?;
-    let end = take(tokens, Mark::Semicolon)?;
+    let Purpose { kind, end } = purpose(tokens)?;
     Ok(Reserved { at, kind, end })
 }
 
@@ -175,8 +227,7 @@ fn held_location(alloc: Global, tokens: &mut Cursor<'_>) -> Result<Held, Stop>
 {
     take(tokens, Mark::OpenRound)?;
     let at = place(alloc, tokens)?;
-    take(tokens, Mark::CloseRound)?;
-    let end = take(tokens, Mark::Semicolon)?;
+    let end = closed(tokens)?;
     Ok(Held { at, end })
 }
 
@@ -248,8 +299,7 @@ fn call(alloc: Global, tokens: &mut Cursor<'_>, room: usize, word: Span) -> Resu
     ensures { Reads item_view (spec.call_of room (span_view word) tokens.old) result tokens.new }
 {
     take(tokens, Mark::OpenRound)?;
-    let args = args(alloc, tokens, room)?;
-    let end = take(tokens, Mark::Semicolon)?;
+    let ArgsEnd { args, end } = ended_args(alloc, tokens, room)?;
     Ok(Item::One(Stmt::Call {
         span: across(word, end),
         args,
@@ -263,8 +313,7 @@ fn verify(alloc: Global, tokens: &mut Cursor<'_>, room: usize, word: Span) -> Re
     take(tokens, Mark::OpenRound)?;
     let guess = name(alloc, tokens)?;
     take(tokens, Mark::Comma)?;
-    let args = args(alloc, tokens, room)?;
-    let end = take(tokens, Mark::Semicolon)?;
+    let ArgsEnd { args, end } = ended_args(alloc, tokens, room)?;
     Ok(Item::One(Stmt::Verify {
         span: across(word, end),
         guess,
@@ -329,6 +378,15 @@ fn locking(alloc: Global, tokens: &mut Cursor<'_>) -> Result<Item, Stop>
     }
 }
 
+// A statement that begins with a name.
+fn named_item(alloc: Global, tokens: &mut Cursor<'_>, room: usize) -> Result<Item, Stop>
+    ensures { Reads item_view (spec.named_item room tokens.old) result tokens.new }
+{
+    let x = tokens.name(alloc)?;
+    tokens.skip();
+    Ok(Item::One(named_stmt(alloc, tokens, room, x)?))
+}
+
 /// An item without statements inside: a separator, or what stands up to a semicolon.
 #[tactic(auto, unfolding(crate::specs::Reading::plain))]
 pub fn plain(alloc: Global, tokens: &mut Cursor<'_>, room: usize) -> Result<Item, Stop>
@@ -336,11 +394,7 @@ pub fn plain(alloc: Global, tokens: &mut Cursor<'_>, room: usize) -> Result<Item
 {
     let span = tokens.span();
     match tokens.kind() {
-        Some(TokenKind::Name) => {
-            let x = tokens.name(alloc)?;
-            tokens.skip();
-            Ok(Item::One(named_stmt(alloc, tokens, room, x)?))
-        }
+        Some(TokenKind::Name) => named_item(alloc, tokens, room),
         Some(TokenKind::Mark(Mark::Separator)) => {
             tokens.skip();
             Ok(Item::One(Stmt::Separator { span }))

@@ -5,7 +5,7 @@ ghost use Rattle.pdl_grammar.specs.declared.stop.Stop.TheVariants.{NoMemory as n
 use pdl_kit::NoMemory;
 
 /// Why the reading stopped: the first token left is out of place, or memory ran out.
-#[derive(Clone, Copy, PartialEq, Eq, Debug)]
+#[derive(Clone, Copy)]
 pub enum Stop {
     Misplaced,
     NoMemory,

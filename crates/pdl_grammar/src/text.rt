@@ -1,12 +1,13 @@
 // Whole texts.
 ghost use Rattle.std.specs.Prelude.{◌≡◌, map};
-ghost use Rattle.pdl_grammar.specs.Read.{Reads, ReadsWhole};
+ghost use Rattle.pdl_grammar.specs.Read.{Reads, ReadsWhole, head_view, rest_view};
 ghost use Rattle.pdl_grammar.specs.Reading as spec;
 ghost use Rattle.pdl_tree.specs.View.{literal_view, start_view, pipe_view};
 ghost use Rattle.pdl_tokens.specs.declared.token.Mark.TheVariants as mark;
 
-use crate::branch::items;
+use crate::branch::branch;
 use crate::declaration::{mems, params};
+use crate::item::{Branch, Head, Rest};
 use crate::statement::across;
 use crate::stop::Stop;
 use crate::words::{goes_on, literal, name, take};
@@ -56,10 +57,10 @@ fn start(alloc: Global, tokens: &mut Cursor<'_>, room: usize) -> Result<Start, S
     })
 }
 
-// A pipe and its start clause.
-#[tactic(auto, unfolding(crate::specs::Reading::pipe))]
-fn pipe(alloc: Global, tokens: &mut Cursor<'_>, room: usize) -> Result<Pipe, Stop>
-    ensures { Reads pipe_view (spec.pipe room tokens.old) result tokens.new }
+// What stands before the body of a pipe.
+#[tactic(auto, unfolding(crate::specs::Reading::pipe_head))]
+fn head(alloc: Global, tokens: &mut Cursor<'_>, room: usize) -> Result<Head, Stop>
+    ensures { Reads head_view (spec.pipe_head room tokens.old) result tokens.new }
 {
     take(tokens, Mark::Pipe)?;
     let name = name(alloc, tokens)?;
@@ -67,10 +68,31 @@ fn pipe(alloc: Global, tokens: &mut Cursor<'_>, room: usize) -> Result<Pipe, Sto
     let params = params(alloc, tokens, room)?;
     take(tokens, Mark::OpenSquare)?;
     let mems = mems(alloc, tokens, room)?;
+    Ok(Head { name, params, mems })
+}
+
+// The body of a pipe and the start clause.
+#[tactic(auto, unfolding(crate::specs::Reading::pipe_rest))]
+fn rest(alloc: Global, tokens: &mut Cursor<'_>, room: usize) -> Result<Rest, Stop>
+    ensures { Reads rest_view (spec.pipe_rest room tokens.old) result tokens.new }
+{
     take(tokens, Mark::OpenBrace)?;
-    let body = items(alloc, tokens, room, room)?;
-    let end = take(tokens, Mark::CloseBrace)?;
+    let Branch { stmts, end } = branch(alloc, tokens, room, room)?;
     let start = start(alloc, tokens, room)?;
+    Ok(Rest {
+        body: stmts,
+        end,
+        start,
+    })
+}
+
+// A pipe and its start clause.
+#[tactic(auto, unfolding(crate::specs::Reading::pipe))]
+fn pipe(alloc: Global, tokens: &mut Cursor<'_>, room: usize) -> Result<Pipe, Stop>
+    ensures { Reads pipe_view (spec.pipe room tokens.old) result tokens.new }
+{
+    let Head { name, params, mems } = head(alloc, tokens, room)?;
+    let Rest { body, end, start } = rest(alloc, tokens, room)?;
     Ok(Pipe {
         name,
         params,

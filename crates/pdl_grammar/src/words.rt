@@ -128,15 +128,24 @@ pub fn pace(tokens: &mut Cursor<'_>) -> Result<bool, Stop>
     }
 }
 
+// Takes a name in square brackets.
+#[tactic(auto, unfolding(crate::specs::Reading::index))]
+fn index(alloc: Global, tokens: &mut Cursor<'_>) -> Result<Ident, Stop>
+    ensures { Reads ident_view (spec.index tokens.old) result tokens.new }
+{
+    take(tokens, Mark::OpenSquare)?;
+    let address = name(alloc, tokens)?;
+    take(tokens, Mark::CloseSquare)?;
+    Ok(address)
+}
+
 /// Takes a location.
 #[tactic(auto, unfolding(crate::specs::Reading::place))]
 pub fn place(alloc: Global, tokens: &mut Cursor<'_>) -> Result<Location, Stop>
     ensures { Reads location_view (spec.place tokens.old) result tokens.new }
 {
     let mem = name(alloc, tokens)?;
-    take(tokens, Mark::OpenSquare)?;
-    let address = name(alloc, tokens)?;
-    take(tokens, Mark::CloseSquare)?;
+    let address = index(alloc, tokens)?;
     Ok(Location { mem, address })
 }
 

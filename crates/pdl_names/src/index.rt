@@ -1,5 +1,5 @@
 // The definitions of a pipe.
-ghost use Rattle.std.specs.Prelude.{◌≡◌, ◌+◌, ◌<◌, length, map, take, IfOk, OnOk};
+ghost use Rattle.std.specs.Prelude.{◌≡◌, ◌+◌, ◌<◌, [], length, map, take, IfOk, OnOk};
 ghost use Rattle.pdl_paths.specs.Actions.{place_view};
 ghost use Rattle.pdl_names.specs.Index.{IsIndex};
 
@@ -22,16 +22,32 @@ impl Index {
     pub fn of(alloc: Global, places: &[Place<'_>]) -> Result<Index, NoMemory>
         ensures { IfOk result (λ index. IsIndex index (map place_view places.now)) }
     {
-        let mut index = Index {
+        let mut index = Index::new(alloc);
+        index.add_all(places)?;
+        Ok(index)
+    }
+
+    // No names yet.
+    fn new(alloc: Global) -> Index
+        ensures { IsIndex result [] }
+    {
+        Index {
             variables: First::new(alloc),
             memories: First::new(alloc),
             guesses: First::new(alloc),
             names: First::new(alloc),
-        };
-        for k in 0..places.len() {
-            index.add(places, k)?;
         }
-        Ok(index)
+    }
+
+    // Adds what these places define.
+    fn add_all(&mut self, places: &[Place<'_>]) -> Result<(), NoMemory>
+        requires { IsIndex self.old [] }
+        ensures { OnOk result (IsIndex self.new (map place_view places.now)) }
+    {
+        for k in 0..places.len() {
+            self.add(places, k)?;
+        }
+        Ok(())
     }
 
     // Adds what the k-th place defines.

@@ -33,19 +33,37 @@ pub fn check_names(
         option_map refused_of broken ≡ first_broken name_rules (pipe_view pipe.now)) }
 {
     let index = Index::of(alloc, places)?;
-    if let Some(line) = undefined_at(alloc, pipe, &index, places)? {
+    lowest(alloc, pipe, &index, guards, places)
+}
+
+// The same with the names that the places define.
+fn lowest(
+    alloc: Global,
+    pipe: &Pipe,
+    index: &Index,
+    guards: &Guards,
+    places: &[Place<'_>],
+) -> Result<Option<Broken>, NoMemory>
+    requires few { length guards.now ≤ 10 }
+    requires own { guards.now ≡ spec_guards (spec_places (pipe_view pipe.now)) }
+    requires masks { AreMasked guards.now places.now }
+    requires suits { Suits pipe.now index.now places.now }
+    ensures { IfOk result (λ broken.
+        option_map refused_of broken ≡ first_broken name_rules (pipe_view pipe.now)) }
+{
+    if let Some(line) = undefined_at(alloc, pipe, index, places)? {
         return Ok(Some(Broken {
             rule: Rule::N1,
             line,
         }));
     }
-    if let Some(line) = taken_at(alloc, pipe, &index, places)? {
+    if let Some(line) = taken_at(alloc, pipe, index, places)? {
         return Ok(Some(Broken {
             rule: Rule::N2,
             line,
         }));
     }
-    match too_early_at(alloc, pipe, &index, guards, places)? {
+    match too_early_at(alloc, pipe, index, guards, places)? {
         Some(line) => Ok(Some(Broken {
             rule: Rule::N3,
             line,

@@ -152,7 +152,7 @@ gone_on old mid new part after d e h t =
 pub fewer : (part after : Part) (old new : Row) (d e : Draft) → IsTaken part old new d e after → length new < length old
 fewer part after old new d e t = fewer_left part t.rule old t.row new t.comes t.front
 
-pub stopped_so : (old mid new : Row) (part : Part) (d e : Draft) (stop : Stop) → AreSoFar old mid part d → is_finished part ≡ false → TakesRule part mid new d e (Err stop) → TakesRules old new (Err stop)
+pub stopped_so : (old mid new : Row) (part : Part) (d e : Draft) (stop : Stop) → AreSoFar old mid part d → is_finished part ≡ false → TakesRule part mid new d e (Err stop) → TakesRules old new e (Err stop)
 stopped_so old mid new part d e stop.NoMemory h n s = tt
 stopped_so old mid new part d e stop.Misplaced h n s =
     record { rules = h.rules; part = part; leads = h.leads; front = s.front; split = h.split ∙ ap (λ x. all_found h.rules ++ x) s.split; stuck = s.stuck (not_finished part n) }

@@ -121,10 +121,16 @@ pub record AreStopped (old new : Row) : Type 0 where
   pub stuck : IsStuck part front new
 
 -- what taking rules up to the end of a file answers
-abbrev pub TakesRules : Row → Row → Result Draft Stop → Type 0
-TakesRules old new (Ok d) = AreTaken old new d
-TakesRules old new (Err Misplaced) = AreStopped old new
-TakesRules old new (Err NoMemory) = Unit {0}
+abbrev pub TakesRules : Row → Row → Draft → Result (Unit {0}) Stop → Type 0
+TakesRules old new d (Ok _) = AreTaken old new d
+TakesRules old new d (Err Misplaced) = AreStopped old new
+TakesRules old new d (Err NoMemory) = Unit {0}
+
+-- what is drafted is what the text declares, and a refusal is at the first token out of place
+abbrev pub JudgesDraft : List ℕ → Draft → Result (Unit {0}) TextError → Type 0
+JudgesDraft bytes d (Ok _) = IsFile bytes d.file
+JudgesDraft bytes d (Err OutOfPlace.NoMemory) = Unit {0}
+JudgesDraft bytes d (Err (OutOfPlace.Misplaced line)) = IsOutOfPlace bytes line
 
 -- what is read is what the text declares, and a refusal is at the first token out of place
 abbrev pub Judges : List ℕ → Result File TextError → Type 0

@@ -1,5 +1,5 @@
 //! A file while its rules are taken one after another.
-ghost use Rattle.std.specs.Prelude.{◌≡◌, IfOk, OnOk, drop, map};
+ghost use Rattle.std.specs.Prelude.{◌≡◌, ◌++◌, ◌∷◌, [], IfOk, OnOk, drop, map};
 ghost use Rattle.pdl_vtext.specs.Cursor.{token_view};
 ghost use Rattle.pdl_vtext.specs.Drafts as spec;
 ghost use Rattle.pdl_vtext.specs.declared.file.Term.TheVariants.{Bin, Mux, Cat, Read};
@@ -163,6 +163,159 @@ fn write_decl(alloc: Global, found: &[Token<'_>]) -> Result<WriteDecl, NoMemory>
     })
 }
 
+fn add_port(
+    alloc: Global,
+    ports: &mut Seq<PortDecl>,
+    found: &[Token<'_>],
+    input: bool,
+) -> Result<(), NoMemory>
+    ensures { OnOk result (ports.new ≡ ports.old ++ record {
+      line = spec.line_at (map token_view found.now) 0;
+      name = spec.text_at (map token_view found.now) 7;
+      high = spec.number_at (map token_view found.now) 3;
+      input = input;
+    } ∷ []) }
+{
+    ports.push(PortDecl {
+        line: line_at(found, 0),
+        name: name_at(alloc, found, 7)?,
+        high: number_at(found, 3),
+        input,
+    })
+}
+
+fn add_reg(
+    alloc: Global,
+    regs: &mut Seq<RegDecl>,
+    line: u32,
+    high: u32,
+    found: &[Token<'_>],
+) -> Result<(), NoMemory>
+    ensures { OnOk result (regs.new ≡ regs.old ++ record {
+      line = line;
+      name = spec.text_at (map token_view found.now) 0;
+      high = high;
+    } ∷ []) }
+{
+    regs.push(RegDecl {
+        line,
+        name: name_at(alloc, found, 0)?,
+        high,
+    })
+}
+
+fn add_array(
+    alloc: Global,
+    arrays: &mut Seq<ArrayDecl>,
+    line: u32,
+    high: u32,
+    found: &[Token<'_>],
+) -> Result<(), NoMemory>
+    ensures { OnOk result (arrays.new ≡ arrays.old ++ record {
+      line = line;
+      name = spec.text_at (map token_view found.now) 0;
+      high = high;
+      last = spec.number_at (map token_view found.now) 4;
+    } ∷ []) }
+{
+    arrays.push(ArrayDecl {
+        line,
+        name: name_at(alloc, found, 0)?,
+        high,
+        last: number_at(found, 4),
+    })
+}
+
+fn add_output(
+    alloc: Global,
+    outputs: &mut Seq<OutputDecl>,
+    found: &[Token<'_>],
+) -> Result<(), NoMemory>
+    ensures { OnOk result (outputs.new ≡ outputs.old ++ record {
+      line = spec.line_at (map token_view found.now) 0;
+      port = spec.text_at (map token_view found.now) 1;
+      source = spec.text_at (map token_view found.now) 3;
+    } ∷ []) }
+{
+    let (port, source) = names_at(alloc, found, 1, 3)?;
+    outputs.push(OutputDecl {
+        line: line_at(found, 0),
+        port,
+        source,
+    })
+}
+
+fn add_reg_block(
+    alloc: Global,
+    blocks: &mut Seq<RegBlock>,
+    line: u32,
+    found: &[Token<'_>],
+) -> Result<(), NoMemory>
+    ensures { OnOk result (blocks.new ≡ blocks.old ++ record {
+      line = line;
+      reg = spec.text_at (map token_view found.now) 0;
+      width = (spec.constant_at (map token_view found.now) 4).width;
+      reset = (spec.constant_at (map token_view found.now) 4).value;
+      source = spec.text_at (map token_view found.now) 6;
+    } ∷ []) }
+{
+    let constant = constant_at(found, 4);
+    let (reg, source) = names_at(alloc, found, 0, 6)?;
+    blocks.push(RegBlock {
+        line,
+        reg,
+        width: constant.width,
+        reset: constant.value,
+        source,
+    })
+}
+
+fn add_write(
+    alloc: Global,
+    writes: &mut Seq<WriteDecl>,
+    found: &[Token<'_>],
+) -> Result<(), NoMemory>
+    ensures { OnOk result (writes.new ≡ writes.old ++ record {
+      line = spec.line_at (map token_view found.now) 0;
+      enable = spec.text_at (map token_view found.now) 2;
+      array = spec.text_at (map token_view found.now) 4;
+      addr = spec.text_at (map token_view found.now) 6;
+      value = spec.text_at (map token_view found.now) 9;
+    } ∷ []) }
+{
+    writes.push(write_decl(alloc, found)?)
+}
+
+// The term that a rule ends, where its first operand may stand before.
+fn term(alloc: Global, operand: &Name, rule: Rule, found: &[Token<'_>]) -> Result<Term, NoMemory>
+    ensures { IfOk result (λ t. t ≡ spec.term operand.now rule
+        (map token_view found.now)) }
+{
+    match rule {
+        Rule::NotTerm => Ok(Term::Not(name_at(alloc, found, 1)?)),
+        Rule::ReadTerm => read_term(alloc, found),
+        Rule::CatTerm => cat_term(alloc, found),
+        Rule::RepTerm => Ok(Term::Rep {
+            count: number_at(found, 0),
+            a: name_at(alloc, found, 2)?,
+        }),
+        Rule::BinTerm => bin_term(alloc, operand, found),
+        Rule::MuxTerm => mux_term(alloc, operand, found),
+        Rule::SliceTerm => Ok(Term::Slice {
+            a: operand.clone()?,
+            high: number_at(found, 1),
+            low: number_at(found, 3),
+        }),
+        _ => {
+            let constant = constant_at(found, 0);
+            Ok(Term::Const {
+                width: constant.width,
+                value: constant.value,
+            })
+        }
+    }
+}
+
 impl File {
     // Nothing is declared.
     fn new(alloc: Global) -> File
@@ -213,11 +366,17 @@ impl Draft {
     {
         match rule {
             Rule::Opening => self.open(alloc, found),
-            Rule::InputPort => self.port(alloc, found, true),
-            Rule::OutputPort => self.port(alloc, found, false),
+            Rule::InputPort => add_port(alloc, &mut self.file.ports, found, true),
+            Rule::OutputPort => add_port(alloc, &mut self.file.ports, found, false),
             Rule::RegRange | Rule::ArrayRange => self.range(found),
-            Rule::RegDeclared => self.reg(alloc, found),
-            Rule::ArrayDeclared => self.array(alloc, found),
+            Rule::RegDeclared => add_reg(alloc, &mut self.file.regs, self.line, self.high, found),
+            Rule::ArrayDeclared => add_array(
+                alloc,
+                &mut self.file.arrays,
+                self.line,
+                self.high,
+                found,
+            ),
             Rule::CellHead => self.cell_head(alloc, found),
             Rule::FirstOperand => self.first_operand(alloc, found),
             Rule::ConstTerm
@@ -228,10 +387,10 @@ impl Draft {
             | Rule::SliceTerm
             | Rule::CatTerm
             | Rule::RepTerm => self.cell(alloc, rule, found),
-            Rule::OutputDriven => self.output(alloc, found),
+            Rule::OutputDriven => add_output(alloc, &mut self.file.outputs, found),
             Rule::BlockHead | Rule::ArrayHead => self.block_head(found),
-            Rule::RegDriven => self.reg_block(alloc, found),
-            Rule::Written => self.write(alloc, found),
+            Rule::RegDriven => add_reg_block(alloc, &mut self.file.reg_blocks, self.line, found),
+            Rule::Written => add_write(alloc, &mut self.writes, found),
             Rule::ArrayEnd => self.array_block(alloc),
             Rule::NextPort | Rule::Closing | Rule::OpenTerm | Rule::ArrayBegin | Rule::Ending => Ok(
                 (),
@@ -250,45 +409,12 @@ impl Draft {
         Ok(())
     }
 
-    fn port(&mut self, alloc: Global, found: &[Token<'_>], input: bool) -> Result<(), NoMemory>
-        ensures { OnOk result (self.new
-            ≡ spec.with_port self.old input (map token_view found.now)) }
-    {
-        self.file.ports.push(PortDecl {
-            line: line_at(found, 0),
-            name: name_at(alloc, found, 7)?,
-            high: number_at(found, 3),
-            input,
-        })
-    }
-
     fn range(&mut self, found: &[Token<'_>]) -> Result<(), NoMemory>
         ensures { OnOk result (self.new ≡ spec.with_range self.old (map token_view found.now)) }
     {
         self.line = line_at(found, 0);
         self.high = number_at(found, 2);
         Ok(())
-    }
-
-    fn reg(&mut self, alloc: Global, found: &[Token<'_>]) -> Result<(), NoMemory>
-        ensures { OnOk result (self.new ≡ spec.with_reg self.old (map token_view found.now)) }
-    {
-        self.file.regs.push(RegDecl {
-            line: self.line,
-            name: name_at(alloc, found, 0)?,
-            high: self.high,
-        })
-    }
-
-    fn array(&mut self, alloc: Global, found: &[Token<'_>]) -> Result<(), NoMemory>
-        ensures { OnOk result (self.new ≡ spec.with_array self.old (map token_view found.now)) }
-    {
-        self.file.arrays.push(ArrayDecl {
-            line: self.line,
-            name: name_at(alloc, found, 0)?,
-            high: self.high,
-            last: number_at(found, 4),
-        })
     }
 
     fn cell_head(&mut self, alloc: Global, found: &[Token<'_>]) -> Result<(), NoMemory>
@@ -307,36 +433,6 @@ impl Draft {
     {
         self.operand = name_at(alloc, found, 0)?;
         Ok(())
-    }
-
-    // The term that a rule ends.
-    fn term(&self, alloc: Global, rule: Rule, found: &[Token<'_>]) -> Result<Term, NoMemory>
-        ensures { IfOk result (λ t. t ≡ spec.term self.now.operand rule
-            (map token_view found.now)) }
-    {
-        match rule {
-            Rule::NotTerm => Ok(Term::Not(name_at(alloc, found, 1)?)),
-            Rule::ReadTerm => read_term(alloc, found),
-            Rule::CatTerm => cat_term(alloc, found),
-            Rule::RepTerm => Ok(Term::Rep {
-                count: number_at(found, 0),
-                a: name_at(alloc, found, 2)?,
-            }),
-            Rule::BinTerm => bin_term(alloc, &self.operand, found),
-            Rule::MuxTerm => mux_term(alloc, &self.operand, found),
-            Rule::SliceTerm => Ok(Term::Slice {
-                a: self.operand.clone()?,
-                high: number_at(found, 1),
-                low: number_at(found, 3),
-            }),
-            _ => {
-                let constant = constant_at(found, 0);
-                Ok(Term::Const {
-                    width: constant.width,
-                    value: constant.value,
-                })
-            }
-        }
     }
 
     // The cell that a rule ends.
@@ -361,7 +457,7 @@ impl Draft {
             name,
             high: self.high,
             target,
-            term: self.term(alloc, rule, found)?,
+            term: term(alloc, &self.operand, rule, found)?,
         })
     }
 
@@ -372,43 +468,11 @@ impl Draft {
         self.file.cells.push(decl)
     }
 
-    fn output(&mut self, alloc: Global, found: &[Token<'_>]) -> Result<(), NoMemory>
-        ensures { OnOk result (self.new ≡ spec.with_output self.old (map token_view found.now)) }
-    {
-        let (port, source) = names_at(alloc, found, 1, 3)?;
-        self.file.outputs.push(OutputDecl {
-            line: line_at(found, 0),
-            port,
-            source,
-        })
-    }
-
     fn block_head(&mut self, found: &[Token<'_>]) -> Result<(), NoMemory>
         ensures { OnOk result (self.new ≡ spec.with_block self.old (map token_view found.now)) }
     {
         self.line = line_at(found, 0);
         Ok(())
-    }
-
-    fn reg_block(&mut self, alloc: Global, found: &[Token<'_>]) -> Result<(), NoMemory>
-        ensures { OnOk result (self.new ≡ spec.with_reg_block self.old (map token_view found.now)) }
-    {
-        let constant = constant_at(found, 4);
-        let (reg, source) = names_at(alloc, found, 0, 6)?;
-        self.file.reg_blocks.push(RegBlock {
-            line: self.line,
-            reg,
-            width: constant.width,
-            reset: constant.value,
-            source,
-        })
-    }
-
-    fn write(&mut self, alloc: Global, found: &[Token<'_>]) -> Result<(), NoMemory>
-        ensures { OnOk result (self.new ≡ spec.with_write self.old (map token_view found.now)) }
-    {
-        let decl = write_decl(alloc, found)?;
-        self.writes.push(decl)
     }
 
     // Ends a block that writes to an array.

@@ -9,7 +9,7 @@ use crate::numbers::{constant_of, number_of};
 use pdl_net::BinOp;
 
 /// What a token has to be: a keyword, a symbol, a number, a constant, an operator, or a name of a kind.
-#[derive(Clone, Copy, PartialEq, Eq, Debug)]
+#[derive(Clone, Copy)]
 pub enum Field {
     Module,
     Input,

@@ -1,5 +1,5 @@
 // Kinds of names.
-ghost use Rattle.std.specs.Prelude.{◌≡◌, ◌≤◌, length};
+ghost use Rattle.std.specs.Prelude.{◌≡◌, ◌≤◌, bytes_eq, length};
 ghost use Rattle.std.specs.List.{list_all};
 ghost use Rattle.pdl_vtext.specs.Words as spec;
 ghost use Rattle.pdl_vtext.specs.Tokens.{is_digit as is_digit_byte};
@@ -19,40 +19,54 @@ fn is_name_byte(byte: u8) -> bool
     is_lower(byte) || is_digit(byte) || byte == b'_'
 }
 
+// Whether a text is a word.
+fn is(text: &[u8], word: &[u8]) -> bool
+    ensures { result ≡ bytes_eq text.now word.now }
+{
+    text == word
+}
+
+// Whether a word is a keyword of PDL for a branch, a call or a speculation.
+fn is_flow_keyword(text: &[u8]) -> bool
+    ensures { result ≡ spec.is_flow_keyword text.now }
+{
+    is(text, b"if")
+        || is(text, b"else")
+        || is(text, b"call")
+        || is(text, b"spec_call")
+        || is(text, b"verify")
+        || is(text, b"spec_check")
+        || is(text, b"spec_barrier")
+}
+
 // Whether a word is a keyword of PDL that begins a statement or is a function's name.
 fn is_statement_keyword(text: &[u8]) -> bool
     ensures { result ≡ spec.is_statement_keyword text.now }
 {
-    text == b"if".as_slice()
-        || text == b"else".as_slice()
-        || text == b"call".as_slice()
-        || text == b"spec_call".as_slice()
-        || text == b"verify".as_slice()
-        || text == b"spec_check".as_slice()
-        || text == b"spec_barrier".as_slice()
-        || text == b"reserve".as_slice()
-        || text == b"acquire".as_slice()
-        || text == b"block".as_slice()
-        || text == b"release".as_slice()
-        || text == b"cat".as_slice()
-        || text == b"zext".as_slice()
-        || text == b"sext".as_slice()
-        || text == b"lts".as_slice()
+    is_flow_keyword(text)
+        || is(text, b"reserve")
+        || is(text, b"acquire")
+        || is(text, b"block")
+        || is(text, b"release")
+        || is(text, b"cat")
+        || is(text, b"zext")
+        || is(text, b"sext")
+        || is(text, b"lts")
 }
 
 // Whether a word is a keyword of PDL that stands in declarations.
 fn is_declaration_keyword(text: &[u8]) -> bool
     ensures { result ≡ spec.is_declaration_keyword text.now }
 {
-    text == b"pipe".as_slice()
-        || text == b"start".as_slice()
-        || text == b"uint".as_slice()
-        || text == b"comb".as_slice()
-        || text == b"delayed".as_slice()
-        || text == b"lock".as_slice()
-        || text == b"queue".as_slice()
-        || text == b"bypass".as_slice()
-        || text == b"rename".as_slice()
+    is(text, b"pipe")
+        || is(text, b"start")
+        || is(text, b"uint")
+        || is(text, b"comb")
+        || is(text, b"delayed")
+        || is(text, b"lock")
+        || is(text, b"queue")
+        || is(text, b"bypass")
+        || is(text, b"rename")
 }
 
 // Whether each byte may follow a name's first letter.
@@ -148,8 +162,8 @@ fn is_memory_output(text: &[u8]) -> bool
 pub fn is_port(text: &[u8]) -> bool
     ensures { result ≡ spec.is_port text.now }
 {
-    text == b"ended".as_slice()
-        || text == b"squash".as_slice()
+    is(text, b"ended")
+        || is(text, b"squash")
         || is_stage_port(b"v_", text)
         || is_stage_port(b"g_", text)
         || is_input(text)

@@ -9,7 +9,7 @@ ghost use Rattle.pdl_vtext.specs.Tokens.{is_digit as is_digit_byte};
 use crate::bytes::is_digit;
 
 /// A constant: its width in bits as it is written, and its value.
-#[derive(Clone, Copy, PartialEq, Eq, Debug)]
+#[derive(Clone, Copy)]
 pub struct Constant {
     pub width: u32,
     pub value: u64,

@@ -1,9 +1,11 @@
 //! The reader of a text.
 ghost use Rattle.std.specs.Prelude.{◌≡◌, ◌≤◌, ◌++◌, ℕ, IfOk, OnOk, length, map};
 ghost use Rattle.pdl_vtext.specs.Cursor.{token_view};
+ghost use Rattle.pdl_vtext.specs.Drafts.{no_draft};
 ghost use Rattle.pdl_vtext.specs.Read as spec;
 ghost use Rattle.pdl_vtext.specs.Text.{IsFile, IsOutOfPlace, GivesFile, GivesLine, IsRefused};
 ghost use Rattle.pdl_vtext.specs.Tokens as lexed;
+ghost use Rattle.pdl_vtext.specs.declared.draft.Draft.{Draft as Draft'};
 ghost use Rattle.pdl_vtext.specs.declared.file.File.{File as File'};
 
 use crate::draft::Draft;
@@ -16,7 +18,7 @@ use pdl_kit::NoMemory;
 use std::alloc::{AllocFailed, Global};
 
 /// Why a text was not taken: a token out of place, with the line of the first one (counted from 1), or want of memory.
-#[derive(Clone, Copy, PartialEq, Eq, Debug)]
+#[derive(Clone, Copy)]
 pub enum TextError {
     Misplaced { line: u32 },
     NoMemory,
@@ -116,19 +118,23 @@ fn take_rule<'a>(
 }
 
 // Takes rules up to the end of a file.
-fn take_rules(alloc: Global, tokens: &mut Tokens<'_>) -> Result<Draft, Stop>
-    ensures { spec.TakesRules tokens.old tokens.new result }
+fn take_rules<'a>(
+    alloc: Global,
+    tokens: &mut Tokens<'a>,
+    draft: &mut Draft,
+    found: &mut Vec<Token<'a>>,
+) -> Result<(), Stop>
+    requires { draft.old ≡ no_draft }
+    ensures { spec.TakesRules tokens.old tokens.new draft.new result }
 {
-    let mut draft = Draft::new(alloc);
-    let mut found = Vec::new(alloc);
     let mut part = Part::Start;
     while !part.is_finished() {
-        match take_rule(alloc, tokens, part, &mut draft, &mut found) {
+        match take_rule(alloc, tokens, part, draft, found) {
             Ok(after) => part = after,
             Err(stop) => return Err(stop),
         }
     }
-    Ok(draft)
+    Ok(())
 }
 
 // The line on which a text ends.
@@ -151,21 +157,47 @@ fn line_of(source: &[u8], tokens: &Tokens<'_>) -> u32
     }
 }
 
+// What is answered of a text whose rules were taken up to some token.
+fn verdict(source: &[u8], tokens: &Tokens<'_>, taken: Result<(), Stop>) -> Result<(), TextError>
+    requires { length source.now ≤ 268435456 }
+    ensures { (d : Draft') → spec.TakesRules (lexed.tokens source.now) tokens.now d taken →
+        spec.JudgesDraft source.now d result }
+{
+    match taken {
+        Ok(()) => match tokens.peek() {
+            Some(token) => Err(TextError::Misplaced { line: token.line }),
+            None => Ok(()),
+        },
+        Err(stop) => match stop {
+            Stop::Misplaced => Err(TextError::Misplaced {
+                line: line_of(source, tokens),
+            }),
+            Stop::NoMemory => Err(TextError::NoMemory),
+        },
+    }
+}
+
+// Reads a text by the grammar, into a draft for which nothing is taken yet.
+fn read_into(alloc: Global, source: &[u8], draft: &mut Draft) -> Result<(), TextError>
+    requires size { length source.now ≤ 268435456 }
+    requires nothing { draft.old ≡ no_draft }
+    ensures { spec.JudgesDraft source.now draft.new result }
+{
+    let mut tokens = Tokens::new(source);
+    let mut found = Vec::new(alloc);
+    let taken = take_rules(alloc, &mut tokens, draft, &mut found);
+    verdict(source, &tokens, taken)
+}
+
 // Reads a text by the grammar.
 fn read(alloc: Global, source: &[u8]) -> Result<File, TextError>
     requires { length source.now ≤ 268435456 }
     ensures { spec.Judges source.now result }
 {
-    let mut tokens = Tokens::new(source);
-    match take_rules(alloc, &mut tokens) {
-        Ok(draft) => match tokens.peek() {
-            Some(token) => Err(TextError::Misplaced { line: token.line }),
-            None => Ok(draft.into_file()),
-        },
-        Err(Stop::Misplaced) => Err(TextError::Misplaced {
-            line: line_of(source, &tokens),
-        }),
-        Err(Stop::NoMemory) => Err(TextError::NoMemory),
+    let mut draft = Draft::new(alloc);
+    match read_into(alloc, source, &mut draft) {
+        Ok(()) => Ok(draft.into_file()),
+        Err(error) => Err(error),
     }
 }
 

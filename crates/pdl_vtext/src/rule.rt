@@ -5,7 +5,7 @@ ghost use Rattle.pdl_vtext.specs.Grammar as spec;
 use crate::field::Field;
 
 /// A place in a file, by what may come there.
-#[derive(Clone, Copy, PartialEq, Eq, Debug)]
+#[derive(Clone, Copy)]
 pub enum Part {
     /// The beginning of a file.
     Start,
@@ -46,7 +46,7 @@ pub enum Part {
 }
 
 /// A rule: a row of tokens that may come at some part, and the part after it.
-#[derive(Clone, Copy, PartialEq, Eq, Debug)]
+#[derive(Clone, Copy)]
 pub enum Rule {
     /// `module module_name ( input wire clk , input wire [ num : 0 ] rst`
     Opening,

@@ -18,7 +18,7 @@ use pdl_paths::{Action, Place};
 use pdl_tree::{Expr, Literal, Location, Mem, Param};
 
 /// The rules on widths that a place breaks.
-#[derive(Clone, Copy, PartialEq, Eq, Debug)]
+#[derive(Clone, Copy)]
 pub struct Faults {
     pub w1: bool,
     pub w2: bool,

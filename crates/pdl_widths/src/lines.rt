@@ -10,7 +10,7 @@ use pdl_kit::Rule;
 use pdl_textrules::{Broken, lowest_of, noted_line};
 
 /// Of each rule on widths the line of the first place that breaks it.
-#[derive(Clone, Copy, PartialEq, Eq, Debug)]
+#[derive(Clone, Copy)]
 pub struct Lines {
     pub w1: Option<u32>,
     pub w2: Option<u32>,

@@ -1,14 +1,11 @@
-use Rattle.std.proofs.Common.{ap, ap₂, ◌∙◌}
-use Rattle.clap.specs.Simple.{App, with_subcommand}
 use Rattle.pdl_args.proofs.app.command.Goals as goal
 
 pub returns : goal.returns
 returns c =
-    let top = λ (a : App). a.top in
-    let one = c.in_ok-one.ensures.shape c.in_ok-check.ensures.1 ∙ ap₂ with_subcommand c.bare_command.ensures (ap top c.in_ok-check.ensures.0) in
-    let two = c.in_ok-two.ensures.shape c.in_ok-run.ensures.1 ∙ ap₂ with_subcommand one (ap top c.in_ok-run.ensures.0) in
-    let three = c.in_ok-three.ensures.shape c.in_ok-seq.ensures.1 ∙ ap₂ with_subcommand two (ap top c.in_ok-seq.ensures.0) in
-    let four = c.in_ok-four.ensures.shape c.in_ok-asm.ensures.1 ∙ ap₂ with_subcommand three (ap top c.in_ok-asm.ensures.0) in
-    let five = c.in_ok-five.ensures.shape c.in_ok-generated.ensures.1 ∙ ap₂ with_subcommand four (ap top c.in_ok-generated.ensures.0) in
-    let six = c.in_ok-six.ensures.shape c.in_ok-built.ensures.1 ∙ ap₂ with_subcommand five (ap top c.in_ok-built.ensures.0) in
-    c.in_ok-all.ensures.shape c.in_ok-simulated.ensures.1 ∙ ap₂ with_subcommand six (ap top c.in_ok-simulated.ensures.0)
+    let one = c.joined-one.ensures _ _ c.bare_command.ensures c.check_command.ensures in
+    let two = c.joined-two.ensures _ _ one c.run_command.ensures in
+    let three = c.joined-three.ensures _ _ two c.seq_command.ensures in
+    let four = c.joined-four.ensures _ _ three c.asm_command.ensures in
+    let five = c.joined-five.ensures _ _ four c.gen_command.ensures in
+    let six = c.joined-six.ensures _ _ five c.build_command.ensures in
+    c.joined.ensures _ _ six c.sim_command.ensures

@@ -17,7 +17,7 @@ pub returns-then-not-more : goal.returns-then-not-more
 returns-then-not-more c =
     let read : (spec.expr c.args.room) c.loop-turn.tokens ≡ Ok (expr_view c.in_ok-next.next, c.expr.new.tokens) = search rules in
     let last : spec.goes_on mark.CloseRound (first_kind c.expr.new.tokens) ≡ Some false = search rules in
-    sym c.loop-turn.invariant ∙ value_last expr_view (spec.expr c.args.room) mark.CloseRound (c.args.room - c.loop-turn._turn) c.loop-turn.done c.push.new.self c.in_ok-next.next c.loop-turn.tokens c.expr.new.tokens c.skip.new.self (omega arith) read last c.in_ok-push.ensures.ok c.skip.ensures
+    sym c.loop-turn.invariant ∙ value_last expr_view (spec.expr c.args.room) mark.CloseRound (c.args.room - c.loop-turn._turn) c.loop-turn.done c.add.new.done c.in_ok-next.next c.loop-turn.tokens c.expr.new.tokens c.skip.new.self (omega arith) read last c.in_ok-add.ensures c.skip.ensures
 
 pub returns-in-None : goal.returns-in-None
 returns-in-None c h =
@@ -29,4 +29,4 @@ pub loop-turn-preserved : goal.loop-turn-preserved
 loop-turn-preserved c =
     let read : (spec.expr c.args.room) c.loop-turn.tokens ≡ Ok (expr_view c.in_ok-next.next, c.expr.new.tokens) = search rules in
     let more : spec.goes_on mark.CloseRound (first_kind c.expr.new.tokens) ≡ Some true = search rules in
-    sym (value_more expr_view (spec.expr c.args.room) mark.CloseRound (c.args.room - c.loop-turn._turn) (c.args.room - (c.loop-turn._turn + 1)) c.loop-turn.done c.push.new.self c.in_ok-next.next c.loop-turn.tokens c.expr.new.tokens c.skip.new.self (omega arith) read more c.in_ok-push.ensures.ok c.skip.ensures) ∙ c.loop-turn.invariant
+    sym (value_more expr_view (spec.expr c.args.room) mark.CloseRound (c.args.room - c.loop-turn._turn) (c.args.room - (c.loop-turn._turn + 1)) c.loop-turn.done c.add.new.done c.in_ok-next.next c.loop-turn.tokens c.expr.new.tokens c.skip.new.self (omega arith) read more c.in_ok-add.ensures c.skip.ensures) ∙ c.loop-turn.invariant

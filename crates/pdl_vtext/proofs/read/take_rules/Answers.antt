@@ -3,7 +3,7 @@ use Rattle.pdl_vtext.proofs.Rules.{begun, gone_on, fewer, stopped_so}
 use Rattle.pdl_vtext.proofs.read.take_rules.Goals as goal
 
 pub loop-alloc-init : goal.loop-alloc-init
-loop-alloc-init c = begun c.args.tokens.now _ c.new-draft.ensures
+loop-alloc-init c = begun c.args.tokens.now _ c.requires
 
 pub loop-alloc-smaller : goal.loop-alloc-smaller
 loop-alloc-smaller c = fewer _ _ _ _ _ _ c.in-Ok.ensures
