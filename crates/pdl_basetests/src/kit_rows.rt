@@ -1,77 +1,11 @@
-// Lists, names, files, sinks, rules and refusals. Each helper answers without memory as it would where the call is wrong.
+// Faults of files and sinks. Each helper answers without memory as it would where the call is wrong.
 use pdl_kit::{
-    Boxed, Files, MemFile, MemFiles, MemInfo, MemSink, Name, ReadError, RealFiles, Refusal, Rule,
-    Seq, Sink, StdSink, WriteFailed, write_whole,
+    Files, MemFile, MemFiles, MemSink, Name, ReadError, RealFiles, Refusal, Seq, Sink, StdSink,
+    WriteFailed, write_whole,
 };
 use std::alloc::{AllocError, Global};
+use std::io;
 use std::io::Write;
-use std::path::Path;
-use std::{env, fs, io};
-
-// Whether a list is empty at first, and then what stands second in it.
-fn second_of_list(alloc: Global) -> (bool, Option<u32>) {
-    let mut list = Seq::new(alloc);
-    let was_empty = list.is_empty();
-    let _ = list.push(7u32);
-    let _ = list.push(9);
-    (was_empty, list.get(1).copied())
-}
-
-// The length of a name to which a byte was added, or 0 where its bytes are others.
-fn length_of_name(alloc: Global) -> usize {
-    let Ok(mut name) = Name::copy_of(alloc, b"rf") else {
-        return 0;
-    };
-    let _ = name.push(b'2');
-    if name.as_bytes() == b"rf2".as_slice() {
-        name.len()
-    } else {
-        0
-    }
-}
-
-fn boxed(alloc: Global, value: usize) -> usize {
-    match Boxed::new(alloc, value) {
-        Ok(place) => place.into_inner(),
-        Err(_) => 0,
-    }
-}
-
-// Whether a declaration of a memory is its copy.
-fn is_copied(alloc: Global) -> bool {
-    let Ok(name) = Name::copy_of(alloc, b"rf2") else {
-        return false;
-    };
-    let info = MemInfo {
-        name,
-        width: 32,
-        depth: 32,
-        delayed: false,
-    };
-    let copy: Result<MemInfo, AllocError> = info.clone();
-    copy == Ok(info)
-}
-
-#[test]
-fn lists_and_names(rt: HostRuntime) {
-    assert_eq!(rt; second_of_list(rt.alloc()), (true, Some(9)));
-    assert_eq!(rt; length_of_name(rt.alloc()), 3);
-    assert_eq!(rt; boxed(rt.alloc(), 3), 3);
-    assert!(rt; is_copied(rt.alloc()));
-}
-
-#[test]
-fn names_of_rules(rt: HostRuntime) {
-    for (rule, want) in [
-        (Rule::G1, b"G1"),
-        (Rule::Z7, b"Z7"),
-        (Rule::Y3, b"Y3"),
-        (Rule::A8, b"A8"),
-    ] {
-        assert_eq!(rt; rule.text(), *want);
-    }
-    assert!(rt; Refusal::from(AllocError) == Refusal::NoMemory);
-}
 
 // Adds a file `a`.
 fn add_file(held: &mut Vec<MemFile>, alloc: Global, bytes: &[u8]) {
@@ -92,22 +26,40 @@ fn two_files(alloc: Global) -> MemFiles {
     MemFiles::new(held, failing)
 }
 
-// Whether a read gives these bytes.
-fn gives(read: Result<Vec<u8>, ReadError>, wanted: &[u8]) -> bool {
-    match read {
+// Whether a read of a file gives these bytes.
+fn gives(files: &mut MemFiles, name: &str, wanted: &[u8]) -> bool {
+    match files.read(name) {
         Ok(bytes) => bytes.as_slice() == wanted,
         Err(_) => false,
     }
 }
 
+// Whether a read of a file fails.
+fn fails(files: &mut MemFiles, name: &str) -> bool {
+    files.read(name).err() == Some(ReadError::Failed)
+}
+
+fn reads_as_listed(files: &mut MemFiles) -> [bool; 4] {
+    [
+        gives(files, "a", b"one"),
+        fails(files, "a"),
+        fails(files, "b"),
+        gives(files, "a", b"one"),
+    ]
+}
+
 #[test]
 fn reads_files_in_memory(rt: HostRuntime) {
     let mut files = two_files(rt.alloc());
-    let first = gives(files.read("a"), b"one");
-    let failed = [files.read("a").err(), files.read("b").err()];
-    let last = gives(files.read("a"), b"one");
-    assert_eq!(rt; failed, [Some(ReadError::Failed), Some(ReadError::Failed)]);
-    assert!(rt; first && last);
+    assert!(rt; reads_as_listed(&mut files) == [true; 4]);
+}
+
+// A name that the system can't take.
+#[test]
+fn reads_no_odd_name(rt: HostRuntime) {
+    let mut files = RealFiles::new(rt);
+    assert!(rt; files.read("a\0b").err() == Some(ReadError::Failed));
+    assert!(rt; Refusal::from(AllocError) == Refusal::NoMemory);
 }
 
 // Whether a sink takes these bytes of `hello`, and whether the write of it fails.
@@ -144,45 +96,6 @@ fn writes_into_memory(rt: HostRuntime) {
     assert!(rt; answers_when_full(alloc) == Some([Ok(5), Ok(0), Err(WriteFailed)]));
 }
 
-// So many bytes, of which those that stand near one another differ.
-fn many_bytes(alloc: Global, count: u32) -> Vec<u8> {
-    let mut bytes = Vec::new(alloc);
-    for i in 0..count {
-        let _ = bytes.push((i % 251) as u8);
-    }
-    bytes
-}
-
-// Whether a file of the system is read as it was written.
-fn reads_back(rt: HostRuntime, path: Path<'_>, bytes: &[u8]) -> bool {
-    let written = fs::write(&rt, path, bytes).is_ok();
-    let read = RealFiles::new(rt).read(path.as_str());
-    let removed = fs::remove_file(&rt, path).is_ok();
-    written && removed && gives(read, bytes)
-}
-
-// Whether a new file of the system is.
-fn reads_back_new(rt: HostRuntime, bytes: &[u8]) -> bool {
-    let Ok(folder) = env::temp_dir(&rt) else {
-        return false;
-    };
-    let Ok(path) = folder.join(rt.alloc(), "pdl_kit_reads_real_files") else {
-        return false;
-    };
-    reads_back(rt, path.as_path(), bytes)
-}
-
-#[test]
-fn reads_real_files(rt: HostRuntime) {
-    let bytes = many_bytes(rt.alloc(), 200_000);
-    assert_eq!(rt; bytes.len(), 200_000);
-    assert!(rt; reads_back_new(rt, bytes.as_slice()));
-    let mut files = RealFiles::new(rt);
-    for name in ["/", "no/such/file", "", "a\0b"] {
-        assert!(rt; files.read(name).err() == Some(ReadError::Failed));
-    }
-}
-
 #[derive(Drop)]
 struct Full;
 
@@ -197,9 +110,7 @@ impl Write for Full {
 }
 
 #[test]
-fn writes_to_the_system(rt: HostRuntime) {
-    let mut out = StdSink::new(rt.stdout());
-    assert!(rt; out.write(b"a line\n") == Ok(7));
+fn writes_to_a_full_writer(rt: HostRuntime) {
     assert!(rt; StdSink::new(Full).write(b"a line\n") == Err(WriteFailed));
     assert!(rt; StdSink::new(Full).write(b"") == Ok(0));
 }

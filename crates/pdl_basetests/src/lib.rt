@@ -1,4 +1,4 @@
-//! Words of each width, and lists, names, files, sinks, rules and refusals.
+//! Faults of files and sinks, and words that no expression asks for.
 //!
 //! It has tests alone, and nothing stands on it.
 #![tactic(auto)]

@@ -1,17 +1,21 @@
-//! The whole program over files and sinks in memory: rows by hand, and runs held against the machines of their pipes.
+//! What no row of tests/ can ask of the program: sinks that fail, runs held against the machines of their pipes, and calls whose answers it doesn't print.
 //!
 //! It has tests alone, and nothing stands on it.
 #![tactic(auto)]
 
 #[cfg(test)]
-mod machine;
+mod asked;
 #[cfg(test)]
-mod netlists;
+mod faults;
+#[cfg(test)]
+mod generated;
+#[cfg(test)]
+mod lines;
+#[cfg(test)]
+mod machine;
 #[cfg(test)]
 mod random;
 #[cfg(test)]
-mod rows;
+mod verilog;
 #[cfg(test)]
-mod sources;
-#[cfg(test)]
-mod tests;
+mod widths;

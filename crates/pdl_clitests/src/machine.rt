@@ -4,20 +4,18 @@ ghost use Rattle.pdl_tree.specs.View.{pipe_view};
 ghost use Rattle.pdl_check.specs.Memories.{infos_of};
 ghost use Rattle.pdl_image.specs.Images.{IsImage};
 
+use crate::asked::{is_done, prints};
 use crate::random::RANDOM;
-use crate::rows::{Row, answers};
-use crate::sources::{FIVE, FIVE_IMAGE};
 use pdl_check::Accepted;
 use pdl_check::check::check;
 use pdl_form::{Lock, Mem};
 use pdl_image::{FileError, Image, read_image};
-use pdl_kit::NoMemory;
 use pdl_kit::files::LONGEST_FILE;
+use pdl_kit::{MemSink, NoMemory};
 use pdl_machine::Machine;
 use pdl_trace::{commit_line, end_line};
 use std::alloc::Global;
 use std::process::Abort;
-use std::test::Fail;
 
 // An output of the machine in its last cycle, 0 where there is none at this place.
 fn shown(machine: &Machine<'_>, i: usize) -> u64 {
@@ -109,60 +107,69 @@ fn machine_text(alloc: Global, source: &[u8], image: &[u8], cycles: u32) -> Opti
     machine_lines(alloc, &accepted, &words, cycles).ok()
 }
 
-// Whether what is printed of a run is what the machine shows.
-fn is_shown<'a>(
-    rt: &impl Abort,
-    alloc: Global,
-    words: &'a [&'a str],
-    source: &'a [u8],
-    image: &'a [u8],
-    cycles: u32,
-) -> Result<(), Fail>
-    requires source { length source.now ≤ LONGEST_FILE }
-    requires image { length image.now ≤ LONGEST_FILE }
-    requires few { cycles ≤ 1000000 }
-{
-    match machine_text(alloc, source, image, cycles) {
-        Some(text) => {
-            let rows: [Row<'_>; 1] = [(words, source, image, 0, text.as_slice())];
-            answers(rt, alloc, &rows)
+// Whether what is built of a source prints this by `sim`.
+fn simulates(alloc: Global, source: &[u8], image: &[u8], wanted: &[u8]) -> bool {
+    match MemSink::unfailing(alloc, 1_000_000) {
+        Ok(mut built) => {
+            let is_built = is_done(alloc, &["build", "a.pdl"], source, b"", &mut built);
+            let words = ["sim", "a.pdl", "e.img", "60"];
+            is_built & prints(alloc, &words, built.written(), image, wanted)
         }
-        None => {
-            assert!(rt; false, "not accepted");
-            Ok(())
-        }
+        Err(_) => false,
     }
 }
 
+// Whether what is printed of a run of 60 cycles, by `run` and by `sim`, is what the machine shows.
+fn is_shown(alloc: Global, source: &[u8], image: &[u8]) -> bool {
+    if source.len() > 2000 || image.len() > 2000 {
+        return false;
+    }
+    match machine_text(alloc, source, image, 60) {
+        Some(text) => {
+            let words = ["run", "a.pdl", "e.img", "60"];
+            let is_printed = prints(alloc, &words, source, image, text.as_slice());
+            is_printed & simulates(alloc, source, image, text.as_slice())
+        }
+        None => false,
+    }
+}
+
+// Whether what is printed of a run of 200 cycles is what the machine shows.
+fn is_shown_long(alloc: Global, source: &[u8], image: &[u8]) -> bool {
+    if source.len() > 2000 || image.len() > 2000 {
+        return false;
+    }
+    match machine_text(alloc, source, image, 200) {
+        Some(text) => {
+            let words = ["run", "a.pdl", "e.img", "200"];
+            prints(alloc, &words, source, image, text.as_slice())
+        }
+        None => false,
+    }
+}
+
+// Five stages: each thread reads three memories and writes them elsewhere, each in stages of its own.
+const FIVE: &[u8] =
+    b"pipe five(n: uint<8>, s: uint<8>)\n[a: uint<8>[8] comb lock queue(1), b: uint<8>[16] comb lock queue(2), c: uint<4>[4] comb lock queue(16)] {\n  i = n[2:0]; k = s[2:0];\n  reserve(a[i], R); reserve(a[k], W);\n  call(n + 8'd3, s + n);\n  ---\n  block(a[i]); x = a[i];\n  j = n[3:0]; l = s[4:1];\n  reserve(b[j], R); reserve(b[l], W);\n  ---\n  block(b[j]); y = b[j];\n  q = y[1:0]; r = x[1:0];\n  reserve(c[r], R); reserve(c[q], W);\n  block(a[k]); a[k] <- x + y;\n  ---\n  release(a[i]); release(a[k]);\n  block(b[l]); b[l] <- y + x + 8'd1; release(b[j]); release(b[l]);\n  block(c[r]); z = c[r];\n  ---\n  block(c[q]); c[q] <- z + x[3:0] + 4'd1; release(c[r]); release(c[q]);\n} start five(8'd0, 8'd1);\n";
+
+const FIVE_IMAGE: &[u8] = b"image 1\na 0 11\na 3 7\nb 2 2f\nc 1 9\n";
+
 /// What is printed of a pipe of five stages is what its machine shows.
 #[test]
-fn prints_the_machine(rt: HostRuntime) -> Result<(), Fail> {
-    is_shown(
-        &rt,
-        rt.alloc(),
-        &["run", "a.pdl", "e.img", "200"],
-        FIVE,
-        FIVE_IMAGE,
-        200,
-    )
+fn prints_the_machine(rt: HostRuntime) {
+    assert!(rt; is_shown_long(rt.alloc(), FIVE, FIVE_IMAGE));
+    assert!(rt; is_shown(rt.alloc(), FIVE, FIVE_IMAGE));
+}
+
+fn ask_shown(rt: &impl Abort, alloc: Global, runs: &[(&[u8], &[u8])]) {
+    for run in runs {
+        let (source, image) = *run;
+        assert!(rt; is_shown(alloc, source, image));
+    }
 }
 
 /// And of ten made at random.
 #[test]
-fn prints_the_machines(rt: HostRuntime) -> Result<(), Fail> {
-    for (source, image) in RANDOM {
-        if source.len() <= 2000 && image.len() <= 2000 {
-            is_shown(
-                &rt,
-                rt.alloc(),
-                &["run", "a.pdl", "e.img", "60"],
-                source,
-                image,
-                60,
-            )?;
-        } else {
-            assert!(rt; false, "too long");
-        }
-    }
-    Ok(())
+fn prints_the_machines(rt: HostRuntime) {
+    ask_shown(&rt, rt.alloc(), &RANDOM);
 }

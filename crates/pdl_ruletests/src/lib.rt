@@ -1,27 +1,15 @@
-//! The rules of the tree, each kind by itself and all together, and the places, stages, plans and flat forms of pipes.
+//! What no row of the program asks of the text, of the rules and of the stages: forms that aren't compiled yet, and public calls that the program doesn't make.
 //!
 //! It has tests alone, and nothing stands on it.
 #![tactic(auto)]
 
 #[cfg(test)]
-mod asked;
-#[cfg(test)]
-mod flat_rows;
-#[cfg(test)]
 mod form_rows;
 #[cfg(test)]
 mod judge_rows;
 #[cfg(test)]
-mod limit_rows;
-#[cfg(test)]
-mod place_rows;
-#[cfg(test)]
 mod plan_rows;
 #[cfg(test)]
-mod rule_rows;
+mod text_rows;
 #[cfg(test)]
-mod rules;
-#[cfg(test)]
-mod stage_rows;
-#[cfg(test)]
-mod textrules_rows;
+mod token_rows;

@@ -1,148 +1,118 @@
-// What is planned of pipes that keep the rules, and what is known of the locations of a pipe.
+// The rules on locks and on guesses by themselves, with what they plan, and what is read of places.
 ghost use Rattle.std.specs.Prelude.{◌≡◌, ◌≤◌, map, length};
 ghost use Rattle.pdl_tree.specs.View.{pipe_view};
 ghost use Rattle.pdl_rules.specs.Places.{places as spec_places, guards as spec_guards};
 ghost use Rattle.pdl_paths.specs.Actions.{place_view};
 ghost use Rattle.pdl_paths.specs.Masks.{AreMasked};
 
-use crate::asked::{Question, told};
-use pdl_kit::{Refusal, Rule};
-use pdl_locks::{
-    Keys, LocationUse, MemoryUse, check_locks, first_places, is_locked, number_of, refuse, use_at,
-};
-use pdl_paths::{Guards, Place, memory_at};
-use pdl_spec::sure::is_before;
-use pdl_spec::{SpecPlan, check_spec};
-use pdl_tree::{Kind, Pipe};
+use pdl_locks::check_locks;
+use pdl_paths::{Guards, Place, guards_of, guess_at, memory_at, places, variable_at};
+use pdl_spec::check_spec;
+use pdl_syntax::parse::parse;
+use pdl_tree::Pipe;
 use std::alloc::Global;
 
-// Its places from 0 on are the parameter, the memory, the reserve, the block, the read, the release, and the ends.
-const LOCKED: &[u8] = b"pipe p(n: uint<1>)[m: uint<8>[4] comb lock queue(2)] {
-reserve(m[a], R);
-block(m[a]);
-x = m[a];
-release(m[a]);
-} start p(1'd0);";
-
-const GUESSED: &[u8] = b"pipe p(n: uint<1>)[m: uint<8>[2] comb] {
+// Its places from 0 on are the parameter, the memory, the barrier, and the guess.
+const TEXT: &[u8] = b"pipe p(n: uint<1>)[m: uint<8>[2] comb lock queue(1)] {
 spec_barrier();
-reserve(m[a], W);
-release(m[a]);
 g = spec_call(n);
+acquire(m[n], W);
+m[n] <- 8'd1;
+---
+release(m[n]);
 ---
 verify(g, n);
 } start p(1'd0);";
 
 // The stages of the reserves and the releases of the memory, and of the reserves of a memory that is not there.
-type Planned = [Option<usize>; 3];
-
-fn plan_of(alloc: Global, pipe: &Pipe, guards: &Guards, places: &[Place<'_>]) -> Option<Planned>
+fn locks_of(alloc: Global, pipe: &Pipe, guards: &Guards, places: &[Place<'_>]) -> [Option<usize>; 3]
     requires few { length guards.now ≤ 10 }
     requires own { guards.now ≡ spec_guards (map place_view places.now) }
     requires masks { AreMasked guards.now places.now }
     requires of { map place_view places.now ≡ spec_places (pipe_view pipe.now) }
 {
     match check_locks(alloc, pipe, guards, places) {
-        Ok(plan) => Some([plan.reserved(0), plan.released(0), plan.reserved(1)]),
+        Ok(plan) => [plan.reserved(0), plan.released(0), plan.reserved(1)],
+        Err(_) => [None; 3],
+    }
+}
+
+// The stage of the verifies.
+fn verifies_of(alloc: Global, pipe: &Pipe, guards: &Guards, places: &[Place<'_>]) -> Option<usize>
+    requires few { length guards.now ≤ 10 }
+    requires own { guards.now ≡ spec_guards (map place_view places.now) }
+    requires masks { AreMasked guards.now places.now }
+    requires of { map place_view places.now ≡ spec_places (pipe_view pipe.now) }
+{
+    match check_spec(alloc, pipe, guards, places) {
+        Ok(plan) => plan.verified(),
         Err(_) => None,
     }
 }
 
-// How many places are numbered by their locations, the number of a place at the location, of one at none, and of one past the last.
-fn numbers(alloc: Global, places: &[Place<'_>]) -> [usize; 4] {
-    match first_places(alloc, Keys::Locations, places) {
-        Ok(first) => [
-            first.len(),
-            number_of(first.as_slice(), 3),
-            number_of(first.as_slice(), 1),
-            use_at(first.as_slice(), 9, 5),
+// Whether a place has a variable, a memory and a guess.
+fn seen(places: &[Place<'_>], k: usize) -> [bool; 3] {
+    match places.get(k) {
+        Some(place) => [
+            variable_at(place).is_some(),
+            memory_at(place).is_some(),
+            guess_at(place).is_some(),
         ],
-        Err(_) => [0; 4],
+        None => [false; 3],
     }
 }
 
-// What is known of a location after a reserve for reading.
-fn used(reserve: &Place<'_>) -> [bool; 7] {
-    let used = LocationUse::none().after(reserve);
-    let hold = used.hold;
-    [
-        used.reserved && used.writes == 0,
-        hold.is_reserved(),
-        hold.is_held_for(Kind::R),
-        hold.is_unreleased(),
-        hold.blocked().is_blocked(),
-        hold.blocked().is_blocked_for(Kind::R),
-        MemoryUse::none().after(reserve).reads == 1,
-    ]
+type Told = ([Option<usize>; 3], Option<usize>, [[bool; 3]; 4]);
+
+fn told(alloc: Global, pipe: &Pipe, guards: &Guards, places: &[Place<'_>]) -> Told
+    requires few { length guards.now ≤ 10 }
+    requires own { guards.now ≡ spec_guards (map place_view places.now) }
+    requires masks { AreMasked guards.now places.now }
+    requires of { map place_view places.now ≡ spec_places (pipe_view pipe.now) }
+{
+    (
+        locks_of(alloc, pipe, guards, places),
+        verifies_of(alloc, pipe, guards, places),
+        [
+            seen(places, 0),
+            seen(places, 1),
+            seen(places, 2),
+            seen(places, 3),
+        ],
+    )
 }
 
-struct Locks;
-
-impl Question for Locks {
-    type Told = (Option<Planned>, [usize; 4], [bool; 7], bool);
-
-    fn ask(
-        &self,
-        alloc: Global,
-        pipe: &Pipe,
-        guards: &Guards,
-        places: &[Place<'_>],
-    ) -> Option<(Option<Planned>, [usize; 4], [bool; 7], bool)> {
-        if places.len() != 8 {
-            return None;
-        }
-        let Some(memory) = memory_at(&places[1]) else {
-            return None;
-        };
-        Some((
-            plan_of(alloc, pipe, guards, places),
-            numbers(alloc, places),
-            used(&places[2]),
-            is_locked(pipe.mems.as_slice(), memory),
-        ))
-    }
-}
-
-#[test]
-fn lock_plans(rt: HostRuntime) {
-    assert_eq!(rt;
-        told(rt.alloc(), &Locks, LOCKED),
-        Some((
-            Some([Some(0), Some(0), None]),
-            [8, 2, 8, 5],
-            [true; 7],
-            true
-        ))
-    );
-}
-
-// The stage of the verifies.
-struct Verifies;
-
-impl Question for Verifies {
-    type Told = Option<usize>;
-
-    fn ask(
-        &self,
-        alloc: Global,
-        pipe: &Pipe,
-        guards: &Guards,
-        places: &[Place<'_>],
-    ) -> Option<Option<usize>> {
-        match check_spec(alloc, pipe, guards, places) {
-            Ok(plan) => Some(plan.verified()),
-            Err(_) => None,
-        }
-    }
-}
-
-#[test]
-fn guess_plans(rt: HostRuntime) {
-    assert_eq!(rt; told(rt.alloc(), &Verifies, GUESSED), Some(Some(1)));
-    assert!(rt; SpecPlan::new(Some(1)).verified() == Some(1) && is_before(Some(1), 0));
-    let refused = Refusal::Refused {
-        rule: Rule::L1,
-        line: 4,
+fn told_of(alloc: Global, pipe: &Pipe) -> Option<Told> {
+    let Ok(guards) = guards_of(alloc, pipe) else {
+        return None;
     };
-    assert!(rt; refuse(Rule::L1, Some(4)) == Err(refused));
+    let Ok(places) = places(alloc, pipe, &guards) else {
+        return None;
+    };
+    if guards.len() > 10 {
+        return None;
+    }
+    Some(told(alloc, pipe, &guards, places.as_slice()))
+}
+
+fn told_of_text(alloc: Global) -> Option<Told> {
+    match parse(alloc, TEXT) {
+        Ok(pipe) => told_of(alloc, &pipe),
+        Err(_) => None,
+    }
+}
+
+#[test]
+fn plans(rt: HostRuntime) {
+    let wanted = (
+        [Some(0), Some(1), None],
+        Some(2),
+        [
+            [true, false, false],
+            [false, true, false],
+            [false; 3],
+            [false, false, true],
+        ],
+    );
+    assert!(rt; told_of_text(rt.alloc()) == Some(wanted));
 }
