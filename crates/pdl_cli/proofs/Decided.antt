@@ -20,14 +20,14 @@ use Rattle.pdl_asm.specs.declared.asm_error.AsmError.TheVariants as asm_error
 use Rattle.pdl_asm.specs.Assembly as assembly
 use Rattle.pdl_gen.specs.Generated.{source}
 use Rattle.pdl_args.specs.Line.{Command, check, run, seq, asm, gen, build, sim}
-use Rattle.pdl_cli.specs.declared.failure.Position.{Position}
-use Rattle.pdl_cli.specs.declared.failure.Position.TheVariants.{Line, Insn}
-use Rattle.pdl_cli.specs.declared.failure.Failure.{Failure}
-use Rattle.pdl_cli.specs.declared.failure.Failure.TheVariants.{Usage, Refused, ReadFault, WriteFault, NoMemory}
-use Rattle.pdl_cli.specs.Failures.{status_of}
-use Rattle.pdl_cli.specs.Assembled.{IsTabled, IsWrongTable, IsWrongText, IsAssembled}
-use Rattle.pdl_cli.specs.Simulated.{NetlistRefused, HoldsNetlist, IsWrongNetlist, IsWrongStart, IsWrongSim, IsSimulated}
-use Rattle.pdl_cli.specs.Commands.{SourceRefused, IsAccepted, IsLoaded, IsWrongSource, IsWrongImage, IsWrong, IsWrongFor, Writes}
+use Rattle.pdl_failure.specs.declared.failure.Position.{Position}
+use Rattle.pdl_failure.specs.declared.failure.Position.TheVariants.{Line, Insn}
+use Rattle.pdl_failure.specs.declared.failure.Failure.{Failure}
+use Rattle.pdl_failure.specs.declared.failure.Failure.TheVariants.{Usage, Refused, ReadFault, WriteFault, NoMemory}
+use Rattle.pdl_failure.specs.Failures.{status_of}
+use Rattle.pdl_commands.specs.Assembled.{IsTabled, IsWrongTable, IsWrongText, IsAssembled}
+use Rattle.pdl_commands.specs.Simulated.{NetlistRefused, HoldsNetlist, IsWrongNetlist, IsWrongStart, IsWrongSim, IsSimulated}
+use Rattle.pdl_commands.specs.Commands.{SourceRefused, IsAccepted, IsLoaded, IsWrongSource, IsWrongImage, IsWrong, IsWrongFor, Writes}
 use Rattle.pdl_cli.specs.Top.{Seen, Explains, IsDecided, Decides}
 use Rattle.pdl_cli.proofs.OneNetlist.{one_netlist, read_right}
 

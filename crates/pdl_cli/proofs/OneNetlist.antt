@@ -8,7 +8,7 @@ use Rattle.pdl_vtext.proofs.Place.{one_file}
 use Rattle.pdl_vread.specs.declared.read.VError.TheVariants.{Refused}
 use Rattle.pdl_vread.specs.Reads.{Reads}
 use Rattle.pdl_vread.proofs.Verdicts.{gives_netlist, gives_refusal}
-use Rattle.pdl_cli.specs.Simulated.{IsTextOf, NetlistRefused}
+use Rattle.pdl_commands.specs.Simulated.{IsTextOf, NetlistRefused}
 
 pub one_netlist : (text : List ℕ) (n m : Netlist) → Reads text n → Reads text m → n ≡ m
 one_netlist text n m r s = gives_netlist text (Ok n) m r s

@@ -18,11 +18,11 @@ use Rattle.pdl_asm.specs.declared.asm_error.AsmError.TheVariants as asm_error
 use Rattle.pdl_asm.specs.Assembly as assembly
 use Rattle.pdl_gen.specs.Generated.{source}
 use Rattle.pdl_args.specs.Line.{Command, check, run, seq, asm, gen, build, sim}
-use Rattle.pdl_cli.specs.declared.failure.Position.{Position}
-use Rattle.pdl_cli.specs.declared.failure.Position.TheVariants.{Line, Insn}
-use Rattle.pdl_cli.specs.Assembled.{IsWrongTable, IsWrongText}
-use Rattle.pdl_cli.specs.Simulated.{NetlistRefused, IsWrongNetlist, IsWrongStart, IsWrongSim}
-use Rattle.pdl_cli.specs.Commands.{SourceRefused, IsWrongSource, IsWrongImage, IsWrong, IsWrongFor}
+use Rattle.pdl_failure.specs.declared.failure.Position.{Position}
+use Rattle.pdl_failure.specs.declared.failure.Position.TheVariants.{Line, Insn}
+use Rattle.pdl_commands.specs.Assembled.{IsWrongTable, IsWrongText}
+use Rattle.pdl_commands.specs.Simulated.{NetlistRefused, IsWrongNetlist, IsWrongStart, IsWrongSim}
+use Rattle.pdl_commands.specs.Commands.{SourceRefused, IsWrongSource, IsWrongImage, IsWrong, IsWrongFor}
 use Rattle.pdl_cli.proofs.OneNetlist.{one_netlist_refusal}
 use Rattle.pdl_cli.proofs.Decided.{one_text, source_right, one_table, table_right, one_held, netlist_right}
 

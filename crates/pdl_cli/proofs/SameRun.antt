@@ -18,12 +18,12 @@ use Rattle.pdl_image.specs.declared.file_error.FileError.TheVariants as file
 use Rattle.pdl_image.proofs.Whole.{no_header, wrong_line, image_read, whole}
 use Rattle.pdl_vread.proofs.Memories.{read_names}
 use Rattle.pdl_args.specs.Line.{run, sim}
-use Rattle.pdl_cli.specs.declared.failure.Position.{Position}
-use Rattle.pdl_cli.specs.declared.failure.Position.TheVariants.{Line, Insn}
+use Rattle.pdl_failure.specs.declared.failure.Position.{Position}
+use Rattle.pdl_failure.specs.declared.failure.Position.TheVariants.{Line, Insn}
 use Rattle.pdl_cli.specs.Alike.{DoTheSame}
-use Rattle.pdl_cli.specs.Commands.{IsBuilt, IsOutput, IsWrong, IsWrongFor, replies}
-use Rattle.pdl_cli.specs.Printed.{run_text, schedule}
-use Rattle.pdl_cli.specs.Simulated.{HoldsNetlist, IsSimulated, IsWrongSim}
+use Rattle.pdl_commands.specs.Commands.{IsBuilt, IsOutput, IsWrong, IsWrongFor, replies}
+use Rattle.pdl_runs.specs.Printed.{run_text, schedule}
+use Rattle.pdl_commands.specs.Simulated.{HoldsNetlist, IsSimulated, IsWrongSim}
 use Rattle.pdl_cli.proofs.Decided.{one_text, source_right, one_held, netlist_right}
 
 -- ---- images that are taken

@@ -1,11 +1,3 @@
-pub mod Texts
-pub mod Failures
 pub mod Words
-pub mod Printed
-pub mod Tally
-pub mod Summaries
-pub mod Assembled
-pub mod Simulated
-pub mod Commands
 pub mod Alike
 pub mod Top

@@ -5,11 +5,11 @@ use Rattle.pdl_kit.specs.Counts.{Rose}
 use Rattle.pdl_kit.specs.Files.{Held}
 use Rattle.pdl_kit.specs.Sinks.{TakesPrefix, with_bytes}
 use Rattle.pdl_args.specs.Line.{Command, check, run, seq, asm, gen, build, sim}
-use Rattle.pdl_cli.specs.declared.failure.Position.{Position}
-use Rattle.pdl_cli.specs.declared.failure.Failure.{Failure}
-use Rattle.pdl_cli.specs.declared.failure.Failure.TheVariants.{Usage, Refused, ReadFault, WriteFault, NoMemory}
-use Rattle.pdl_cli.specs.Failures.{status_of, text_of}
-use Rattle.pdl_cli.specs.Commands.{IsWrongFor, Writes}
+use Rattle.pdl_failure.specs.declared.failure.Position.{Position}
+use Rattle.pdl_failure.specs.declared.failure.Failure.{Failure}
+use Rattle.pdl_failure.specs.declared.failure.Failure.TheVariants.{Usage, Refused, ReadFault, WriteFault, NoMemory}
+use Rattle.pdl_failure.specs.Failures.{status_of, text_of}
+use Rattle.pdl_commands.specs.Commands.{IsWrongFor, Writes}
 
 -- the files that a command names may be read
 abbrev pub Allows : (List ℕ → Bool) → Option Command → Type 0

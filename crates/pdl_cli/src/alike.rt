@@ -3,7 +3,7 @@ ghost use Rattle.std.specs.Prelude.{ℕ, List, Some};
 ghost use Rattle.pdl_kit.specs.Files.{Held, Gives};
 ghost use Rattle.pdl_args.specs.Line.{run, sim};
 ghost use Rattle.pdl_cli.specs.Alike.{DoTheSame};
-ghost use Rattle.pdl_cli.specs.Commands.{IsBuilt};
+ghost use Rattle.pdl_commands.specs.Commands.{IsBuilt};
 
 /// Where a file has the text that `build` writes for a source, `sim` of this file writes what `run` of the source writes, with each image and each number of cycles, and is refused where `run` is.
 pub fn same_as_run()

@@ -2,16 +2,7 @@
 #![tactic(auto)]
 
 mod alike;
-mod assembly;
-mod built;
-mod failure;
-mod generated;
-mod print;
 mod program;
-mod run;
-mod sequential;
-mod simulated;
-mod summary;
 mod unique;
 mod words;
 

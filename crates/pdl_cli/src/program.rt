@@ -3,23 +3,19 @@ ghost use Rattle.std.specs.Prelude.{◌≡◌, ◌≤◌, ℕ, List, Option, IsT
 ghost use Rattle.std.specs.Prelude.{Some};
 ghost use Rattle.pdl_args.specs.Line.{line};
 ghost use Rattle.pdl_args.specs.View.{view};
-ghost use Rattle.pdl_cli.specs.Texts.{Says};
-ghost use Rattle.pdl_cli.specs.Commands.{Writes, Fails};
+ghost use Rattle.pdl_failure.specs.Texts.{Says};
+ghost use Rattle.pdl_commands.specs.Commands.{Writes, Fails};
 ghost use Rattle.pdl_cli.specs.Top.{Allows, IsFew, seen_of, Explains, Answers, Decides};
 
-use crate::assembly::assembly_text;
-use crate::built::build;
-use crate::failure::{Failure, report, status_of};
-use crate::generated::generate;
-use crate::run::{prepare, run_in_turn, verdict};
-use crate::simulated::simulate;
 use pdl_args::{Line, read_line};
+use pdl_commands::{assembly_text, build, generate, prepare, run_in_turn, simulate, verdict};
+use pdl_failure::{Failure, report, status_of};
 use pdl_kit::files::Files;
 use pdl_kit::sink::{Sink, write_whole};
 use std::alloc::Global;
 
 // The text of what a command asks for.
-#[tactic(auto, using(crate::proofs::Preparing::text_fails))]
+#[tactic(auto, using(pdl_commands::proofs::Preparing::text_fails))]
 fn text_of<F: Files>(alloc: Global, line: Line<'_>, files: &mut F) -> Result<Vec<u8>, Failure>
     requires allowed { Allows (F.may files.old) (Some (view line)) }
     requires few { IsFew (view line) }

@@ -1,0 +1,7 @@
+pub mod Accepting
+pub mod ShortNames
+pub mod Simulating
+pub mod ReadNames
+pub mod Preparing
+pub mod InTurn
+pub mod Summing

@@ -1,0 +1,276 @@
+-- What the commands do with the files that they name.
+use Rattle.std.specs.Prelude.{◌≡◌, ℕ, ◌<◌, ◌⊎◌, ◌++◌, Bool, List, [], map, replicate, Option, Some, None, Ok, Err}
+use Rattle.pdl_kit.specs.declared.rule.Rule.{Rule}
+use Rattle.pdl_kit.specs.declared.rule.Rule.TheVariants.{G1}
+use Rattle.pdl_kit.specs.Files.{Held, Gives}
+use Rattle.pdl_kit.specs.Counts.{Rose}
+use Rattle.pdl_kit.specs.declared.mem_info.MemInfo.{MemInfo}
+use Rattle.pdl_semantics.specs.Tree.{Pipe}
+use Rattle.pdl_semantics.specs.Flat.{arrays_of}
+use Rattle.pdl_semantics.specs.Flatten.{flat}
+use Rattle.pdl_semantics.specs.Cycle.{turns}
+use Rattle.pdl_semantics.specs.Lines.{accepted_line, run_lines, seq_lines, turn_cycles}
+use Rattle.pdl_semantics.specs.Promises.{Refines, Advances, KeepsPace}
+use Rattle.pdl_grammar.specs.Text.{IsText, IsOutOfPlace}
+use Rattle.pdl_rules.specs.Refusal.{refusal}
+use Rattle.pdl_check.specs.Gate.{gated_line}
+use Rattle.pdl_check.specs.Answers.{source_refusal}
+use Rattle.pdl_check.specs.Memories.{infos_of}
+use Rattle.pdl_net.specs.declared.Netlist.{Netlist}
+use Rattle.pdl_net.specs.Run.{nports}
+use Rattle.pdl_pipe_law.specs.Follows.{Follows}
+use Rattle.pdl_pipe_law.specs.Runs.{cycle_of}
+use Rattle.pdl_pipe.specs.Refined.{RefinesThreads}
+use Rattle.pdl_image.specs.Images.{IsImage, image}
+use Rattle.pdl_image.specs.declared.file_error.FileError.TheVariants as file
+use Rattle.pdl_vlog.specs.Layout.{verilog}
+use Rattle.pdl_gen.specs.Generated as generated
+use Rattle.pdl_args.specs.Line.{Command, check, run, seq, asm, gen, build, sim}
+use Rattle.pdl_failure.specs.declared.failure.Position.{Position}
+use Rattle.pdl_failure.specs.declared.failure.Position.TheVariants.{Line, Insn}
+use Rattle.pdl_failure.specs.declared.failure.Failure.{Failure}
+use Rattle.pdl_failure.specs.declared.failure.Failure.TheVariants as failure
+use Rattle.pdl_commands.specs.Assembled.{IsWrongTable, IsWrongText, IsAssembled}
+use Rattle.pdl_runs.specs.Printed.{run_text, schedule}
+use Rattle.pdl_commands.specs.Summaries.{image_of, end_of}
+use Rattle.pdl_commands.specs.Simulated.{IsTextOf, NetlistRefused, IsWrongNetlist, IsWrongSim, IsSimulated}
+
+-- ONE FILE
+
+-- a refusal at a line
+abbrev pub AtLine : (ℕ → Type 0) → Position → Type 0
+AtLine refused (Line n) = refused n
+AtLine refused (Insn n) = ⊥
+
+-- a refusal at an instruction
+abbrev pub AtInsn : (ℕ → Type 0) → Position → Type 0
+AtInsn refused (Line n) = ⊥
+AtInsn refused (Insn n) = refused n
+
+-- the source is refused by the rule at the line: it is no text of the grammar, or one with a form that isn't compiled yet, or one that breaks the rule
+abbrev pub SourceRefused : List ℕ → Rule → ℕ → Type 0
+SourceRefused source rule line =
+    ((rule ≡ G1) × IsOutOfPlace source line)
+    ⊎ ((p : Pipe) × IsText source p
+    × (source_refusal source p ≡ Some (record { rule = rule; line = line })))
+
+-- the source is the text of the pipe, which passes the gate and breaks no rule
+pub record IsAccepted (source : List ℕ) (p : Pipe) : Type 0 where
+  pub text : IsText source p
+  pub passed : gated_line source ≡ None
+  pub kept : refusal source p ≡ None
+
+-- the image text gives these words for the pipe's memories
+abbrev pub IsTaken : Pipe → List ℕ → List (List ℕ) → Type 0
+IsTaken p text words = image (infos_of p.mems) text ≡ Ok words
+
+-- why a text is no accepted source
+abbrev pub TextFails : List ℕ → Failure → Type 0
+TextFails source failure.Usage = ⊥
+TextFails source (failure.Refused rule position) = AtLine (SourceRefused source rule) position
+TextFails source failure.ReadFault = ⊥
+TextFails source failure.WriteFault = ⊥
+TextFails source failure.NoMemory = Unit {0}
+
+-- why an image for some memories is not there
+abbrev pub ImageFails : Option Held → ℕ → ℕ → List ℕ → List MemInfo → Failure → Type 0
+ImageFails holds before now name mems failure.Usage = ⊥
+ImageFails holds before now name mems (failure.Refused rule position) =
+    AtLine (λ line. (text : List ℕ) × Gives holds name text
+    × (image mems text ≡ Err (file.Refused rule line))) position
+ImageFails holds before now name mems failure.ReadFault = Rose before now
+ImageFails holds before now name mems failure.WriteFault = ⊥
+ImageFails holds before now name mems failure.NoMemory = Unit {0}
+
+-- why a text gives no netlist to run
+abbrev pub NetlistTextFails : List ℕ → Failure → Type 0
+NetlistTextFails text failure.Usage = ⊥
+NetlistTextFails text (failure.Refused rule position) = AtLine (NetlistRefused text rule) position
+NetlistTextFails text failure.ReadFault = ⊥
+NetlistTextFails text failure.WriteFault = ⊥
+NetlistTextFails text failure.NoMemory = Unit {0}
+
+-- THE FILES OF A COMMAND, where files are told
+
+-- the source and the image of a run with these names, both taken
+pub record IsLoaded (holds : Option Held) (source image' : List ℕ) (p : Pipe)
+    (words : List (List ℕ)) : Type 0 where
+  pub source_text : List ℕ
+  pub source_given : Gives holds source source_text
+  pub accepted : IsAccepted source_text p
+  pub image_text : List ℕ
+  pub image_given : Gives holds image' image_text
+  pub taken : IsTaken p image_text words
+
+-- the source is the first wrong file
+pub record IsWrongSource (holds : Option Held) (source : List ℕ) (rule : Rule) (line : ℕ)
+    : Type 0 where
+  pub source_text : List ℕ
+  pub source_given : Gives holds source source_text
+  pub refused : SourceRefused source_text rule line
+
+-- why a source is not there
+abbrev pub SourceFails : Option Held → ℕ → ℕ → List ℕ → Failure → Type 0
+SourceFails holds before now name failure.Usage = ⊥
+SourceFails holds before now name (failure.Refused rule position) =
+    AtLine (IsWrongSource holds name rule) position
+SourceFails holds before now name failure.ReadFault = Rose before now
+SourceFails holds before now name failure.WriteFault = ⊥
+SourceFails holds before now name failure.NoMemory = Unit {0}
+
+-- the source is accepted, and the image is wrong
+pub record IsWrongImage (holds : Option Held) (source image' : List ℕ) (rule : Rule) (line : ℕ)
+    : Type 0 where
+  pub source_text : List ℕ
+  pub source_given : Gives holds source source_text
+  pub pipe : Pipe
+  pub accepted : IsAccepted source_text pipe
+  pub image_text : List ℕ
+  pub image_given : Gives holds image' image_text
+  pub refused : image (infos_of pipe.mems) image_text ≡ Err (file.Refused rule line)
+
+-- the first wrong file is refused by the rule at the line
+abbrev pub IsWrong : Option Held → List ℕ → List ℕ → Rule → ℕ → Type 0
+IsWrong holds source image' rule line =
+    IsWrongSource holds source rule line ⊎ IsWrongImage holds source image' rule line
+
+-- WHAT A COMMAND DOES
+
+-- the replies of some cycles: the pipe has no delayed memory, so each cycle has no reply bit
+abbrev pub replies : ℕ → List (List Bool)
+replies cycles = replicate cycles []
+
+-- the text that `check` writes where all is well: how many stages the pipe of the source has, and the greatest number of them on a path
+pub record IsVerdict (holds : Option Held) (source : List ℕ) (text : List ℕ) : Type 0 where
+  pub pipe : Pipe
+  pub source_text : List ℕ
+  pub source_given : Gives holds source source_text
+  pub accepted : IsAccepted source_text pipe
+  pub line : text ≡ accepted_line pipe
+
+-- the text that `run` writes where all is well: the lines of the machine of the pipe, which a netlist shows
+pub record IsOutput (holds : Option Held) (source image' : List ℕ) (cycles : ℕ) (text : List ℕ)
+    : Type 0 where
+  pub pipe : Pipe
+  pub words : List (List ℕ)
+  pub loaded : IsLoaded holds source image' pipe words
+  -- the text has the lines of the machine's ports
+  pub lines : text ≡ run_lines pipe words (replies cycles)
+  -- and is what a netlist commits that follows the pipe: its ports by name, its memories and arrays, and each port in each cycle the machine's, for each image and schedule
+  pub netlist : Netlist
+  pub follows : Follows pipe netlist
+  -- what the netlist writes to each memory are the writes of the threads run one after another, for each image and schedule
+  pub writes : RefinesThreads pipe netlist
+  pub printed : text ≡ run_text netlist words (schedule cycles)
+  -- each memory's commits have the sequential writes of the threads that ended, and are a prefix of the sequential writes
+  pub refines : Refines (flat pipe) (arrays_of words) (replies cycles)
+  -- in each cycle that is no wait the oldest thread moves
+  pub moves : (n : ℕ) → n < cycles → Advances (flat pipe) (arrays_of words) (replies n) []
+  -- and so enough threads end
+  pub pace : KeepsPace (flat pipe) (arrays_of words) (replies cycles)
+
+-- the text that `build` writes where all is well: a netlist that follows the pipe, as text that reads as it
+pub record IsBuilt (holds : Option Held) (source : List ℕ) (text : List ℕ) : Type 0 where
+  pub pipe : Pipe
+  pub source_text : List ℕ
+  pub source_given : Gives holds source source_text
+  pub accepted : IsAccepted source_text pipe
+  -- the netlist has the ports, memories and arrays of the pipe, and shows its machine from each image with each schedule
+  pub netlist : Netlist
+  pub follows : Follows pipe netlist
+  -- it writes what the threads write that run one after another, from each image with each schedule
+  pub writes : RefinesThreads pipe netlist
+  -- the text is that of the netlist, byte for byte, and reads as it
+  pub written : text ≡ verilog netlist
+  pub read : IsTextOf text netlist
+  -- what is printed of the netlist are the lines of the machine, from each image for so many cycles
+  pub lines : (words : List (List ℕ)) (cycles : ℕ) → IsImage netlist.mems words
+      → run_text netlist words (schedule cycles) ≡ run_lines pipe words (replies cycles)
+  -- and of each such run holds what is promised of `run`
+  pub refines : (words : List (List ℕ)) (cycles : ℕ)
+      → Refines (flat pipe) (arrays_of words) (replies cycles)
+  pub moves : (words : List (List ℕ)) (cycles : ℕ)
+      → Advances (flat pipe) (arrays_of words) (replies cycles) []
+  pub pace : (words : List (List ℕ)) (cycles : ℕ)
+      → KeepsPace (flat pipe) (arrays_of words) (replies cycles)
+
+-- the text that `seq` writes where all is well: the writes of the threads, run one after another from the image, and how many they are
+pub record IsSequential (holds : Option Held) (source image' : List ℕ) (threads : ℕ) (text : List ℕ)
+    : Type 0 where
+  pub pipe : Pipe
+  pub words : List (List ℕ)
+  pub loaded : IsLoaded holds source image' pipe words
+  pub lines : text ≡ seq_lines pipe words threads
+
+-- the end line of a run of a source's pipe, of so many cycles from these words in each memory
+pub record IsSummary (source words : List ℕ) (cycles : ℕ) (line : List ℕ) : Type 0 where
+  pub pipe : Pipe
+  pub accepted : IsAccepted source pipe
+  pub start : List (List ℕ)
+  pub filled : start ≡ image_of words (infos_of pipe.mems)
+  pub counted : line ≡ end_of (turn_cycles (turns (flat pipe) (arrays_of start) (replies cycles)))
+  -- the counts are those of a netlist that follows the pipe
+  pub netlist : Netlist
+  pub follows : Follows pipe netlist
+  pub shown : line ≡ end_of (map (cycle_of netlist) (nports netlist start (schedule cycles)))
+  -- and enough threads end
+  pub pace : KeepsPace (flat pipe) (arrays_of start) (replies cycles)
+
+-- the text that `gen` writes where all is well: the first line of the generated run, and its end line
+pub record IsGenerated (number : ℕ) (text : List ℕ) : Type 0 where
+  pub last : List ℕ
+  pub summary : IsSummary (generated.source number) (generated.words number) generated.cycles last
+  pub lines : text ≡ generated.first_line number ++ last
+
+-- the text that a command writes where all is well
+abbrev pub Writes : Option Held → Command → List ℕ → Type 0
+Writes holds (check source) text = IsVerdict holds source text
+Writes holds (run source image' cycles) text = IsOutput holds source image' cycles text
+Writes holds (seq source image' threads) text = IsSequential holds source image' threads text
+Writes holds (asm table program) text = IsAssembled holds table program text
+Writes holds (gen number) text = IsGenerated number text
+Writes holds (build source) text = IsBuilt holds source text
+Writes holds (sim v image' cycles) text = IsSimulated holds v image' cycles text
+
+-- of the files that a command names, in order, the first wrong one is refused by the rule at the position; `gen` names none, and its source is asked
+abbrev pub IsWrongFor : Option Held → Command → Rule → Position → Type 0
+IsWrongFor holds (check source) rule position = AtLine (IsWrongSource holds source rule) position
+IsWrongFor holds (run source image' cycles) rule position =
+    AtLine (IsWrong holds source image' rule) position
+IsWrongFor holds (seq source image' threads) rule position =
+    AtLine (IsWrong holds source image' rule) position
+IsWrongFor holds (asm table program) rule position =
+    AtInsn (IsWrongTable holds table rule) position
+    ⊎ AtLine (IsWrongText holds table program rule) position
+IsWrongFor holds (gen number) rule position =
+    AtLine (SourceRefused (generated.source number) rule) position
+IsWrongFor holds (build source) rule position = AtLine (IsWrongSource holds source rule) position
+IsWrongFor holds (sim v image' cycles) rule position =
+    AtLine (IsWrongSim holds v image' rule) position
+
+-- why a netlist is not there
+abbrev pub NetlistFails : Option Held → ℕ → ℕ → List ℕ → Failure → Type 0
+NetlistFails holds before now name failure.Usage = ⊥
+NetlistFails holds before now name (failure.Refused rule position) =
+    AtLine (IsWrongNetlist holds name rule) position
+NetlistFails holds before now name failure.ReadFault = Rose before now
+NetlistFails holds before now name failure.WriteFault = ⊥
+NetlistFails holds before now name failure.NoMemory = Unit {0}
+
+-- why the table of an instruction set is not there
+abbrev pub TableFails : Option Held → ℕ → ℕ → List ℕ → Failure → Type 0
+TableFails holds before now name failure.Usage = ⊥
+TableFails holds before now name (failure.Refused rule position) =
+    AtInsn (IsWrongTable holds name rule) position
+TableFails holds before now name failure.ReadFault = Rose before now
+TableFails holds before now name failure.WriteFault = ⊥
+TableFails holds before now name failure.NoMemory = Unit {0}
+
+-- why a command fails before anything is written
+abbrev pub Fails : Option Held → ℕ → ℕ → Command → Failure → Type 0
+Fails holds before now command failure.Usage = ⊥
+Fails holds before now command (failure.Refused rule position) =
+    IsWrongFor holds command rule position
+Fails holds before now command failure.ReadFault = Rose before now
+Fails holds before now command failure.WriteFault = ⊥
+Fails holds before now command failure.NoMemory = Unit {0}

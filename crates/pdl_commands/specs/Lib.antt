@@ -1,0 +1,4 @@
+pub mod Summaries
+pub mod Assembled
+pub mod Simulated
+pub mod Commands

@@ -1,0 +1,138 @@
+// The text that the command `sim` writes.
+ghost use Rattle.std.specs.Prelude.{◌≡◌, ◌≢◌, ◌≤◌, IsTrue, IfOk, IfErr, ℕ, List, [], length};
+ghost use Rattle.std.specs.List.{list_any};
+ghost use Rattle.pdl_kit.specs.Files.{Gives};
+ghost use Rattle.pdl_net.specs.declared.Netlist.{Netlist as Netlist'};
+ghost use Rattle.pdl_net.specs.Run.{delayed_mems};
+ghost use Rattle.pdl_image.specs.Images.{IsImage, image as image_words};
+ghost use Rattle.pdl_vread.specs.Reads.{Reads};
+ghost use Rattle.pdl_args.specs.Line as command;
+ghost use Rattle.pdl_commands.specs.Commands.{Fails, ImageFails, NetlistFails, NetlistTextFails};
+ghost use Rattle.pdl_runs.specs.Printed.{run_text, schedule};
+ghost use Rattle.pdl_commands.specs.Simulated.{HoldsNetlist, IsSimulated, IsTextOf};
+
+use pdl_failure::{Failure, Position};
+use pdl_image::{Image, read_image};
+use pdl_kit::files::{Files, LONGEST_FILE};
+use pdl_kit::{NoMemory, Rule};
+use pdl_net::Netlist;
+use pdl_runs::run;
+use pdl_vread::read_verilog;
+use pdl_vtext::read_file;
+use std::alloc::Global;
+
+// Whether some memory of a netlist is delayed.
+fn has_delayed(netlist: &Netlist) -> bool
+    ensures { result ≡ list_any (λ m. m.delayed) netlist.now.mems }
+{
+    netlist.mems.as_slice().iter().any(|mem| mem.delayed)
+}
+
+// The refusal of a text whose netlist has a delayed memory.
+fn delayed_refusal(alloc: Global, text: &[u8]) -> Failure
+    requires short { length text.now ≤ LONGEST_FILE }
+    ensures { (n : Netlist') → Reads text.now n → delayed_mems n ≢ []
+        → NetlistTextFails text.now result }
+{
+    match read_file(alloc, text) {
+        Ok(file) => Failure::Refused {
+            rule: Rule::V5,
+            position: Position::Line(file.line),
+        },
+        // It was read before, so only memory can be wanting.
+        Err(_) => Failure::NoMemory,
+    }
+}
+
+// The netlist of a text.
+fn netlist_of(alloc: Global, text: &[u8]) -> Result<Netlist, Failure>
+    requires short { length text.now ≤ LONGEST_FILE }
+    ensures ok { IfOk result (λ n. IsTextOf text.now n) }
+    ensures err { IfErr result (NetlistTextFails text.now) }
+{
+    let netlist = read_verilog(alloc, text)?;
+    if has_delayed(&netlist) {
+        return Err(delayed_refusal(alloc, text));
+    }
+    Ok(netlist)
+}
+
+// Reads a netlist.
+fn netlist_of_file<F: Files>(alloc: Global, files: &mut F, name: &str) -> Result<Netlist, Failure>
+    requires { IsTrue (F.may files.old name.now) }
+    ensures ok { IfOk result (λ n. HoldsNetlist (F.holds files.old) name.now n) }
+    ensures err { IfErr result
+        (NetlistFails (F.holds files.old) (F.faults files.old) (F.faults files.new) name.now) }
+    ensures held { F.holds files.new ≡ F.holds files.old }
+    ensures allowed { (n : List ℕ) → F.may files.new n ≡ F.may files.old n }
+    ensures later { F.faults files.old ≤ F.faults files.new }
+{
+    let text = files.read(name)?;
+    netlist_of(alloc, text.as_slice())
+}
+
+// Reads an image for the memories of a netlist.
+fn image_of_file<F: Files>(
+    alloc: Global,
+    files: &mut F,
+    name: &str,
+    netlist: &Netlist,
+) -> Result<Image, Failure>
+    requires may { IsTrue (F.may files.old name.now) }
+    requires read { (text : List ℕ) × IsTextOf text netlist.now }
+    ensures ok { IfOk result (λ i. (b : List ℕ) × Gives (F.holds files.old) name.now b
+        × (image_words netlist.now.mems b ≡ Ok i) × IsImage netlist.now.mems i) }
+    ensures err { IfErr result
+        (ImageFails (F.holds files.old) (F.faults files.old) (F.faults files.new) name.now
+        netlist.now.mems) }
+    ensures held { F.holds files.new ≡ F.holds files.old }
+    ensures allowed { (n : List ℕ) → F.may files.new n ≡ F.may files.old n }
+    ensures later { F.faults files.old ≤ F.faults files.new }
+{
+    let text = files.read(name)?;
+    Ok(read_image(alloc, netlist.mems.as_slice(), text.as_slice())?)
+}
+
+// The text of a run of a netlist that was read.
+fn text_of(
+    alloc: Global,
+    netlist: &Netlist,
+    image: &Image,
+    cycles: u32,
+) -> Result<Vec<u8>, NoMemory>
+    requires read { (text : List ℕ) × IsTextOf text netlist.now }
+    requires image { IsImage netlist.now.mems image.now }
+    requires few { cycles ≤ 1000000 }
+    ensures { IfOk result (λ t. t.items ≡ run_text netlist.now image.now (schedule cycles)) }
+{
+    run(alloc, netlist, image, cycles)
+}
+
+/// The text that `sim` writes for a netlist and an image with these names, and so many cycles.
+pub fn simulate<F: Files>(
+    alloc: Global,
+    files: &mut F,
+    netlist: &str,
+    image: &str,
+    cycles: u32,
+) -> Result<Vec<u8>, Failure>
+    requires netlist { IsTrue (F.may files.old netlist.now) }
+    requires image { IsTrue (F.may files.old image.now) }
+    requires few { cycles ≤ 1000000 }
+    ensures ok { IfOk result
+        (λ t. IsSimulated (F.holds files.old) netlist.now image.now cycles t.items) }
+    ensures err { IfErr result (Fails (F.holds files.old) (F.faults files.old) (F.faults files.new)
+        (command.sim netlist.now image.now cycles)) }
+    ensures held { F.holds files.new ≡ F.holds files.old }
+    ensures allowed { (n : List ℕ) → F.may files.new n ≡ F.may files.old n }
+    ensures later { F.faults files.old ≤ F.faults files.new }
+{
+    let read = netlist_of_file(alloc, files, netlist)?;
+    match image_of_file(alloc, files, image, &read) {
+        Ok(words) => match text_of(alloc, &read, &words, cycles) {
+            Ok(text) => Ok(text),
+            Err(_) => Err(Failure::NoMemory),
+        },
+        Err(failure) => Err(failure),
+    }
+}

@@ -1,0 +1,77 @@
+-- One cycle more of a run.
+use Rattle.std.proofs.Common.{◌≡◌, ℕ, zero, suc, ◌+◌, ◌-◌, ◌<◌, List, ◌∷◌, ◌++◌, length, ◌≤◌, true, false, refl, sym, ap, subst, ◌∙◌, append_assoc, add-one, arith}
+use Rattle.std.specs.Prelude.{Bool, replicate, count_by, if◌then◌else◌}
+use Rattle.std.proofs.lemmas.List.{length-map}
+use Rattle.std.proofs.lemmas.List.Sums.{sum_by-cons}
+use Rattle.pdl_semantics.specs.Lines.{Column, Cycle, cycle_lines, lines_from}
+use Rattle.pdl_net.specs.declared.Netlist.{Netlist}
+use Rattle.pdl_net.specs.Run.{Held, shown_ports, next, nports_from}
+use Rattle.pdl_netrun.specs.Sim.{Run, run_after}
+use Rattle.pdl_pipe_law.specs.Runs.{cycle_of}
+use Rattle.pdl_runs.specs.Printed.{cycles_from}
+use Rattle.pdl_runs.specs.declared.print.Counts.{Counts}
+use Rattle.pdl_runs.specs.Tally.{one_if, tallied_of}
+
+-- the cycles that are left of a run
+abbrev pub left : Netlist → Held → ℕ → List Cycle
+left n h k = cycles_from n h (replicate k 65535)
+
+pub left_step : (n : Netlist) (h : Held) (done cycles : ℕ) → done < cycles → left n h (cycles - done) ≡ cycle_of n (shown_ports n h 65535) ∷ left n (next n h 65535) (cycles - (done + 1))
+left_step n h done cycles lt =
+    let e : cycles - done ≡ suc (cycles - (done + 1)) = omega arith in
+    rw e refl
+
+pub text_step : (number : ℕ) (ms : List Column) (c : Cycle) (cs rest : List Cycle) (old new all : List ℕ) → cs ≡ c ∷ rest
+    → new ≡ old ++ cycle_lines number ms c.puts → old ++ lines_from number ms cs ≡ all → new ++ lines_from (number + 1) ms rest ≡ all
+text_step number ms c cs rest old new all e n a =
+    rw (n, append_assoc, add-one) (ap (λ xs. old ++ lines_from number ms xs) (sym e) ∙ a)
+
+count_step : (test : Cycle → Bool) (c : Cycle) (cs rest : List Cycle) (old new all : ℕ) → cs ≡ c ∷ rest → new ≡ old + one_if (test c) → old + count_by test cs ≡ all → new + count_by test rest ≡ all
+count_step test c cs rest old new all e n a =
+    omega (arith, n, a, ap (count_by test) e, sum_by-cons (λ x. if test x then 1 else 0) c rest)
+
+-- the cycles that are left where a simulator has run one more
+pub sim_step : (old new : Run) (done cycles : ℕ) → new ≡ run_after old 65535 → done < cycles
+    → left old.netlist old.held (cycles - done) ≡ cycle_of new.netlist new.last ∷ left new.netlist new.held (cycles - (done + 1))
+sim_step old new done cycles e lt =
+    subst (λ (r : Run). left old.netlist old.held (cycles - done) ≡ cycle_of r.netlist r.last ∷ left r.netlist r.held (cycles - (done + 1))) (sym e) (left_step old.netlist old.held done cycles lt)
+
+at_most_one : (b : Bool) → one_if b ≤ 1
+at_most_one true = omega arith
+at_most_one false = omega arith
+
+few_more : (b : Bool) (old new done : ℕ) → new ≡ old + one_if b → old ≤ done → new ≤ done + 1
+few_more b old new done e h = omega (arith, e, at_most_one b)
+
+-- counts of the cycles so far, which with those of the rest are those of all
+pub record Counted (n : Counts) (rest all : List Cycle) (done : ℕ) : Type 0 where
+  pub ended : n.ended + count_by (λ (c : Cycle). c.ended) rest ≡ count_by (λ (c : Cycle). c.ended) all
+  pub waits : n.waits + count_by (λ (c : Cycle). c.wait) rest ≡ count_by (λ (c : Cycle). c.wait) all
+  pub squashes : n.squashes + count_by (λ (c : Cycle). c.squash) rest ≡ count_by (λ (c : Cycle). c.squash) all
+  pub few_ended : n.ended ≤ done
+  pub few_waits : n.waits ≤ done
+  pub few_squashes : n.squashes ≤ done
+
+-- one cycle more
+pub counted_more : (old new : Counts) (c : Cycle) (cs rest all : List Cycle) (done : ℕ) → cs ≡ c ∷ rest → new ≡ tallied_of old c
+    → Counted old cs all done → Counted new rest all (done + 1)
+counted_more old new c cs rest all done more e h =
+    let ended = ap (λ (k : Counts). k.ended) e in
+    let waits = ap (λ (k : Counts). k.waits) e in
+    let squashes = ap (λ (k : Counts). k.squashes) e in
+    record {
+      ended = count_step (λ (x : Cycle). x.ended) c cs rest old.ended new.ended (count_by (λ (x : Cycle). x.ended) all) more ended h.ended;
+      waits = count_step (λ (x : Cycle). x.wait) c cs rest old.waits new.waits (count_by (λ (x : Cycle). x.wait) all) more waits h.waits;
+      squashes = count_step (λ (x : Cycle). x.squash) c cs rest old.squashes new.squashes (count_by (λ (x : Cycle). x.squash) all) more squashes h.squashes;
+      few_ended = few_more c.ended old.ended new.ended done ended h.few_ended;
+      few_waits = few_more c.wait old.waits new.waits done waits h.few_waits;
+      few_squashes = few_more c.squash old.squashes new.squashes done squashes h.few_squashes;
+    }
+
+shown_length : (n : Netlist) (h : Held) (k : ℕ) → length (nports_from n h (replicate k 65535)) ≡ k
+shown_length n h zero = refl
+shown_length n h (suc k) = ap suc (shown_length n (next n h 65535) k)
+
+-- as many cycles as reply bits
+pub left_length : (n : Netlist) (h : Held) (k : ℕ) → length (cycles_from n h (replicate k 65535)) ≡ k
+left_length n h k = length-map (nports_from n h (replicate k 65535)) (cycle_of n) ∙ shown_length n h k
