@@ -26,7 +26,7 @@ use Rattle.pdl_pipe_law.specs.Follows.{IsMade}
 use Rattle.pdl_pipe_law.proofs.WellFormedMems.{none_delayed}
 use Rattle.pdl_pipe_law.proofs.LinesNames.{names_made, few_outputs}
 use Rattle.pdl_pipe_law.proofs.Lines.{shows_turns_made}
-use Rattle.pdl_pipe_law.proofs.Accepted.{declared, follows_source}
+use Rattle.pdl_pipe.proofs.Accepted.{declared, follows_source}
 use Rattle.pdl_stagenets.specs.Locked.{Members, locks_in}
 use Rattle.pdl_stageregs.specs.Stages.{views_in}
 use Rattle.pdl_stageregs.specs.Moves.{moves_in}

@@ -7,4 +7,7 @@ pub mod Joining
 pub mod Showing
 pub mod Making
 pub mod Fitting
+pub mod Accepted
+pub mod Told
+pub mod ExampleNet
 pub mod Finishing

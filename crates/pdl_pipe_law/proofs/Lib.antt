@@ -28,6 +28,4 @@ pub mod LinesPorts
 pub mod Lines
 pub mod Establish
 pub mod Stood
-pub mod ExampleNet
 pub mod FollowsMade
-pub mod Accepted

@@ -1,6 +1,6 @@
 use Rattle.std.proofs.Common.{◌∙◌}
 use Rattle.pdl_tree.specs.View.{pipe_view}
-use Rattle.pdl_commands.proofs.Accepting.{names_differ, widths_low, widths_high}
+use Rattle.pdl_pipe.proofs.Told.{names_differ, widths_low, widths_high}
 use Rattle.pdl_commands.proofs.run.image_of.Goals as goal
 
 pub read_image-requires-clause-names : goal.read_image-requires-clause-names

@@ -3,7 +3,8 @@ use Rattle.std.proofs.lemmas.Result.{IfOk-weaker}
 use Rattle.pdl_tree.specs.View.{pipe_view}
 use Rattle.pdl_check.specs.Memories.{infos_of}
 use Rattle.pdl_image.specs.Images.{IsImage}
-use Rattle.pdl_commands.proofs.Accepting.{names_short, widths_high, is_output}
+use Rattle.pdl_pipe.proofs.Told.{widths_high}
+use Rattle.pdl_commands.proofs.Accepting.{names_short, is_output}
 use Rattle.pdl_commands.proofs.run.text_of.Goals as goal
 
 pub run-requires-clause-image : goal.run-requires-clause-image

@@ -4,7 +4,8 @@ use Rattle.pdl_form.specs.Form.{Form}
 use Rattle.pdl_form.specs.Whole.{form}
 use Rattle.pdl_seq.specs.Fits.{IsImageFor}
 use Rattle.pdl_seq.specs.Runs.{IsRunnable}
-use Rattle.pdl_commands.proofs.Accepting.{names_short, widths_high}
+use Rattle.pdl_pipe.proofs.Told.{widths_high}
+use Rattle.pdl_commands.proofs.Accepting.{names_short}
 use Rattle.pdl_commands.proofs.InTurn.{all_there, printed}
 use Rattle.pdl_commands.proofs.sequential.sequential.Goals as goal
 

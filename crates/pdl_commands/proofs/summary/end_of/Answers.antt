@@ -2,7 +2,7 @@ use Rattle.std.proofs.Common.{◌≡◌, ◌∙◌, ap, sym, subst, ℕ, List}
 use Rattle.pdl_tree.specs.View.{pipe_view}
 use Rattle.pdl_image.specs.Images.{IsImage}
 use Rattle.pdl_commands.specs.Summaries.{image_of}
-use Rattle.pdl_commands.proofs.Accepting.{widths_low, widths_high}
+use Rattle.pdl_pipe.proofs.Told.{widths_low, widths_high}
 use Rattle.pdl_commands.proofs.Summing.{is_image, is_summary}
 use Rattle.pdl_commands.proofs.summary.end_of.Goals as goal
 
