@@ -1,4 +1,6 @@
-//! Runs a processor in PDL: `pdl run SOURCE.pdl IMAGE.img CYCLES`.
+//! The program `pdl`: it gives the words of the system, its files and its two outputs to `pdl_cli::top`, and ends with the status that this answers.
+//!
+//! Nothing stands on it; where the system doesn't give the words it asks `pdl_cli::without_words`.
 #![tactic(auto)]
 
 use pdl_cli::NoWords;

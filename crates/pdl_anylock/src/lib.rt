@@ -1,4 +1,6 @@
-//! A lock of any kind.
+//! A lock of any of the three kinds, chosen when a pipe is compiled.
+//!
+//! The layers above may use `AnyLock` by the laws of `LockModule` alone, and the lemmas `Asked`, that the lock which a memory asks for serves it.
 #![tactic(auto)]
 
 ghost use Rattle.pdl_anylock.specs.Any.{any_kind, any_size, any_tickets, any_suits, any_placed, any_stands, any_stays};

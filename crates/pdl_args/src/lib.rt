@@ -1,4 +1,6 @@
 //! The command line: which lists of words are commands, as `clap` reads them.
+//!
+//! The layers above may use `read_line`, and match on `Line`.
 #![tactic(auto)]
 
 mod app;

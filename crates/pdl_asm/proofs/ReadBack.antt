@@ -1,21 +1,14 @@
 -- The image of a text, read back.
-use Rattle.std.proofs.Common.{◌≡◌, ℕ, zero, suc, ◌+◌, ◌*◌, ◌/◌, ◌%◌, ◌^◌, ◌<◌, ◌≤◌, refl, sym, ◌∙◌, ap, subst, arith, inl, inr, Bool, true, false, not, ◌&&◌, List, [], ◌∷◌, ◌++◌, length, length-append, append_assoc, Option, Some, None, leb, decimal, if◌then◌else◌}
+use Rattle.std.proofs.Common.{◌≡◌, ℕ, ◌+◌, ◌*◌, ◌/◌, ◌%◌, ◌^◌, ◌<◌, ◌≤◌, refl, sym, ◌∙◌, ap, subst, arith, inl, inr, ◌&&◌, List, [], ◌∷◌, ◌++◌, append_assoc, Option, Some, None, decimal, if◌then◌else◌}
 use Rattle.std.specs.Prelude.{Ok}
-use Rattle.std.specs.List.{list_all}
-use Rattle.std.specs.Char.{digit_value}
-use Rattle.std.specs.Str.Parse.{AllDigits, digits_value}
-use Rattle.std.proofs.Math.Nat.{div-add-mod, div-lt_iff_lt-mul, mod-lt, pow-le-pow_right, pow-suc}
-use Rattle.std.proofs.Math.Pow.{pow-add}
-use Rattle.std.proofs.lemmas.Bool.{and_from, and_parts, cases_lt, le-leb, lt-leb, lt-ltb, le-ltb}
-use Rattle.std.proofs.lemmas.Fmt.{decimal_is_IsNumeral, length-decimal-le}
-use Rattle.std.proofs.lemmas.Int.Digits.{digits_value_push}
-use Rattle.std.proofs.lemmas.List.Folds.{list_all-append}
-use Rattle.std.proofs.lemmas.Str.{digit_value-digit_char}
-use Rattle.std.proofs.lemmas.Str.Parse.{digit_from_value}
-use Rattle.pdl_word.proofs.Digits.{GivesHex, decimal_digits, are_hex_digits, hex_value}
+use Rattle.std.specs.Str.Parse.{digits_value}
+use Rattle.std.proofs.Math.Nat.{pow-le-pow_right}
+use Rattle.std.proofs.lemmas.Bool.{and_parts, cases_lt}
+use Rattle.std.proofs.lemmas.Fmt.{decimal_is_IsNumeral}
+use Rattle.pdl_word.proofs.Digits.{decimal_digits, are_hex_digits, hex_value}
 use Rattle.pdl_kit.specs.declared.mem_info.MemInfo.{MemInfo}
-use Rattle.pdl_semantics.specs.Lines.{hex, hex_digit, hex_digits}
-use Rattle.pdl_image.specs.Images.{are_digits, image as image_read, is_digit_of, is_name}
+use Rattle.pdl_semantics.specs.Lines.{hex_digits}
+use Rattle.pdl_image.specs.Images.{image as image_read, is_name}
 use Rattle.pdl_image.proofs.Written.{Gives, Says, read_back, says}
 use Rattle.pdl_asmtable.specs.Tables.{IsTable, TableValue}
 use Rattle.pdl_asm.specs.declared.asm_error.AsmError.{AsmError}
@@ -23,15 +16,9 @@ use Rattle.pdl_asm.specs.Assembly.{addresses, first_wrong, image, image_text, im
 use Rattle.pdl_asm.specs.ReadBack.{IsReadBack, Takes, lines_in, word_in, words_in}
 use Rattle.pdl_asm.proofs.Taking.{addresses_are}
 use Rattle.pdl_asm.proofs.WordsFit.{written_fits}
+use Rattle.pdl_word.specs.Digits.{hex}
 
 -- ---- digits
-
--- `hex` gives digits as they are meant there
-hex_given : GivesHex hex
-hex_given = record {
-  none = λ v. refl;
-  more = λ n v. refl;
-}
 
 decimal_value : (n : ℕ) → n < 65536 → n ≡ digits_value 10 (decimal n)
 decimal_value n h = sym (decimal_is_IsNumeral n (omega (arith, h))).1
@@ -53,8 +40,8 @@ word_said : (t : TableValue) (a v : ℕ) → IsTable t → a < 65536 → v < 2 ^
 unfolding line_of_word
 word_said t a v h l s =
     says t.mem (decimal a) (hex (hex_digits t.word) v) a v (and_parts (is_name t.mem) _ h.mem).0
-    (decimal_digits 10 a (omega arith) (omega (arith, l)) (omega (arith, l))) (are_hex_digits hex hex_given t.word v h.low h.high)
-    (decimal_value a l) (sym (hex_value hex hex_given t.word v s))
+    (decimal_digits 10 a (omega arith) (omega (arith, l)) (omega (arith, l))) (are_hex_digits t.word v h.low h.high)
+    (decimal_value a l) (sym (hex_value t.word v s))
 
 -- an address is below 65,536
 below_all : (a : ℕ) → a < addresses → a < 65536

@@ -3,7 +3,7 @@ use Rattle.std.specs.Prelude.{◌≡◌, ℕ, ℤ, pos, negsuc, ◌+ℤ◌, ◌+
 use Rattle.std.specs.List.{range_with_len}
 use Rattle.pdl_kit.specs.declared.rule.Rule.{Rule}
 use Rattle.pdl_kit.specs.declared.rule.Rule.TheVariants.{A1, A2, A5, A6, A7, A8}
-use Rattle.pdl_semantics.specs.Lines.{hex, hex_digits}
+use Rattle.pdl_semantics.specs.Lines.{hex_digits}
 use Rattle.pdl_image.specs.Images.{or_else}
 use Rattle.pdl_image.specs.Lines.{lines}
 use Rattle.pdl_asmtable.specs.Dictionaries.{value_of, with_definition}
@@ -17,6 +17,7 @@ use Rattle.pdl_asm.specs.declared.line.Operation.TheVariants.{Nothing, At, Word,
 use Rattle.pdl_asm.specs.declared.line.Line.{Line}
 use Rattle.pdl_asm.specs.declared.asm_error.AsmError.{AsmError}
 use Rattle.pdl_asm.specs.declared.asm_error.AsmError.TheVariants.{Refused, NoMemory}
+use Rattle.pdl_word.specs.Digits.{hex}
 
 -- ---- places
 

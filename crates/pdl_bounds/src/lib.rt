@@ -1,4 +1,6 @@
 //! The limits of a source: the lowest that its tree breaks, Z2 to Z7, at its lowest place.
+//!
+//! The layers above may use `check_limits`.
 #![tactic(auto)]
 
 mod counts;

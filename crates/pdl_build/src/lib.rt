@@ -1,6 +1,6 @@
-//! A builder of netlists: each call adds what it is told, and all nets keep the values that they had.
+//! A builder of netlists: each call adds what it is told, and all nets keep the values that they had; of equal cells only the first is made, but by `cell`, which always makes one.
 //!
-//! Of equal cells only the first is made, but by `cell`, which always makes one.
+//! The layers above make a netlist by a `Builder`, and take what they know of its nets from the clauses of its calls.
 #![tactic(auto)]
 
 mod extend;

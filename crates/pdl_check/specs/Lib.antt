@@ -1,4 +1,3 @@
-pub mod Memories
 pub mod Gate
 pub mod Answers
 pub mod Compiled

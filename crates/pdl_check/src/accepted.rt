@@ -10,9 +10,9 @@ ghost use Rattle.pdl_form.specs.Form.{form_of};
 ghost use Rattle.pdl_form.specs.Whole.{form};
 ghost use Rattle.pdl_formtypes.specs.Same.{same_form};
 ghost use Rattle.pdl_stagegraph.specs.Graph.{graph_of};
-ghost use Rattle.pdl_check.specs.Memories.{infos_of};
 ghost use Rattle.pdl_check.specs.Compiled.{can_compile};
 ghost use Rattle.pdl_pathfacts.specs.Source.{is_source, is_named};
+ghost use Rattle.pdl_rules.specs.Memories.{infos_of};
 
 use pdl_form::FlatPipe;
 use pdl_judge::Plans;

@@ -2,7 +2,7 @@
 ghost use Rattle.std.specs.Prelude.{◌≡◌, IfOk, map};
 ghost use Rattle.pdl_tree.specs.View.{mem_view};
 ghost use Rattle.pdl_flat.specs.Sized.{AreSizedMems, IsSizedMem};
-ghost use Rattle.pdl_check.specs.Memories as spec;
+ghost use Rattle.pdl_rules.specs.Memories as spec;
 
 use pdl_kit::{MemInfo, NoMemory, Seq};
 use pdl_tree::tree::Mem;

@@ -8,7 +8,6 @@ use Rattle.pdl_grammar.specs.Text.{IsText}
 use Rattle.pdl_grammar.proofs.Places.{one_tree}
 use Rattle.pdl_rules.specs.Refusal.{refused_at, refusal}
 use Rattle.pdl_check.specs.Answers.{source_refusal}
-use Rattle.pdl_check.specs.Memories.{infos_of}
 use Rattle.pdl_net.specs.declared.Netlist.{Netlist}
 use Rattle.pdl_image.specs.Images.{image}
 use Rattle.pdl_image.specs.declared.file_error.FileError.TheVariants as file
@@ -30,6 +29,7 @@ use Rattle.pdl_commands.specs.Simulated.{NetlistRefused, HoldsNetlist, IsWrongNe
 use Rattle.pdl_commands.specs.Commands.{SourceRefused, IsAccepted, IsLoaded, IsWrongSource, IsWrongImage, IsWrong, IsWrongFor, Writes}
 use Rattle.pdl_cli.specs.Top.{Seen, Explains, IsDecided, Decides}
 use Rattle.pdl_cli.proofs.OneNetlist.{one_netlist, read_right}
+use Rattle.pdl_rules.specs.Memories.{infos_of}
 
 pub one_text : (held : Held) (name b c : List ℕ) → Gives (Some held) name b → Gives (Some held) name c → b ≡ c
 one_text held name b c g h = let k : Some b ≡ Some c = sym g ∙ h in cc

@@ -7,7 +7,6 @@ use Rattle.pdl_grammar.specs.Text.{IsText}
 use Rattle.pdl_grammar.proofs.Places.{one_tree, one_place}
 use Rattle.pdl_rules.specs.Refusal.{Refused}
 use Rattle.pdl_check.specs.Answers.{source_refusal}
-use Rattle.pdl_check.specs.Memories.{infos_of}
 use Rattle.pdl_net.specs.declared.Netlist.{Netlist}
 use Rattle.pdl_image.specs.Images.{image}
 use Rattle.pdl_image.specs.declared.file_error.FileError.TheVariants as file
@@ -25,6 +24,7 @@ use Rattle.pdl_commands.specs.Simulated.{NetlistRefused, IsWrongNetlist, IsWrong
 use Rattle.pdl_commands.specs.Commands.{SourceRefused, IsWrongSource, IsWrongImage, IsWrong, IsWrongFor}
 use Rattle.pdl_cli.proofs.OneNetlist.{one_netlist_refusal}
 use Rattle.pdl_cli.proofs.Decided.{one_text, source_right, one_table, table_right, one_held, netlist_right}
+use Rattle.pdl_rules.specs.Memories.{infos_of}
 
 -- a refusal of a source, an image, a table or a text is one
 same_some : (a b : Refused) → Some a ≡ Some b → a ≡ b

@@ -8,7 +8,6 @@ use Rattle.pdl_semantics.specs.Tree.{Pipe}
 use Rattle.pdl_semantics.specs.Lines.{run_lines}
 use Rattle.pdl_grammar.specs.Text.{IsText}
 use Rattle.pdl_grammar.proofs.Places.{one_tree}
-use Rattle.pdl_check.specs.Memories.{infos_of}
 use Rattle.pdl_net.specs.declared.Netlist.{Netlist}
 use Rattle.pdl_image.specs.Lines as image_lines
 use Rattle.pdl_image.specs.Images.{IsImage, image, after_header, first_wrong}
@@ -25,6 +24,7 @@ use Rattle.pdl_commands.specs.Commands.{IsBuilt, IsOutput, IsWrong, IsWrongFor, 
 use Rattle.pdl_runs.specs.Printed.{run_text, schedule}
 use Rattle.pdl_commands.specs.Simulated.{HoldsNetlist, IsSimulated, IsWrongSim}
 use Rattle.pdl_cli.proofs.Decided.{one_text, source_right, one_held, netlist_right}
+use Rattle.pdl_rules.specs.Memories.{infos_of}
 
 -- ---- images that are taken
 

@@ -1,4 +1,6 @@
-//! The whole program as one call: `top` reads the words, the files and writes the lines; `without_words`, what is answered where there are no words; and two sentences of its commands, `one_refusal` and `same_as_run`.
+//! The whole program as one call, `top`, which reads the words and the files and writes the lines; and what is answered where there are no words, `without_words`.
+//!
+//! The program may use these two; `one_refusal` and `same_as_run` say two things of its commands by their clauses alone.
 #![tactic(auto)]
 
 mod alike;

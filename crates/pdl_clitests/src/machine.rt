@@ -1,8 +1,8 @@
 // A run held against the machine of its pipe.
 ghost use Rattle.std.specs.Prelude.{◌≤◌, length, IfOk};
 ghost use Rattle.pdl_tree.specs.View.{pipe_view};
-ghost use Rattle.pdl_check.specs.Memories.{infos_of};
 ghost use Rattle.pdl_image.specs.Images.{IsImage};
+ghost use Rattle.pdl_rules.specs.Memories.{infos_of};
 
 use crate::asked::{is_done, prints};
 use crate::random::RANDOM;

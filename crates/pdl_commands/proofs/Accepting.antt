@@ -8,7 +8,6 @@ use Rattle.pdl_semantics.specs.Flat.{arrays_of}
 use Rattle.pdl_semantics.specs.Flatten.{flat}
 use Rattle.pdl_semantics.specs.Lines.{columns, lines, run_lines}
 use Rattle.pdl_rules.specs.Refusal.{KeepsRules}
-use Rattle.pdl_check.specs.Memories.{infos_of}
 use Rattle.pdl_image.specs.Images.{IsImage}
 use Rattle.pdl_net.specs.declared.Netlist.{Netlist}
 use Rattle.pdl_sources.proofs.Promised.{refines, advances, paces}
@@ -22,6 +21,7 @@ use Rattle.pdl_commands.specs.Commands.{IsAccepted, IsLoaded, IsOutput, IsBuilt,
 use Rattle.pdl_runs.specs.Printed.{run_text, schedule}
 use Rattle.pdl_commands.specs.Simulated.{IsTextOf}
 use Rattle.pdl_commands.proofs.ShortNames.{HaveShortNames, short_names}
+use Rattle.pdl_rules.specs.Memories.{infos_of}
 
 -- ---- its memories
 

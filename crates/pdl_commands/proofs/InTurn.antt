@@ -8,12 +8,12 @@ use Rattle.pdl_semantics.specs.Flat.{Pipe, arrays_of}
 use Rattle.pdl_semantics.specs.Flatten.{flat}
 use Rattle.pdl_semantics.specs.Sequential.{threads}
 use Rattle.pdl_semantics.specs.Lines.{column_at, columns}
-use Rattle.pdl_check.specs.Memories.{infos_of}
 use Rattle.pdl_pipe_law.specs.Runs.{column_of}
 use Rattle.pdl_seq.specs.declared.commit.Write.{Write}
 use Rattle.pdl_seq.specs.Fits.{AreWrites}
 use Rattle.pdl_seq.specs.Runs.{numbered_writes, write_line}
 use Rattle.pdl_commands.proofs.Accepting.{told_columns}
+use Rattle.pdl_rules.specs.Memories.{infos_of}
 
 -- the memory of a number as lines show it
 pub column_is : (ms : List MemInfo) (i : ℕ) (m : MemInfo) → i < length ms → m ≡ get_or ms i m → column_at (map column_of ms) i ≡ column_of m

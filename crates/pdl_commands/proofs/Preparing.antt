@@ -4,7 +4,6 @@ use Rattle.pdl_kit.specs.declared.rule.Rule.{Rule}
 use Rattle.pdl_kit.specs.Counts.{Rose}
 use Rattle.pdl_kit.specs.Files.{Held, Gives}
 use Rattle.pdl_semantics.specs.Tree.{Pipe}
-use Rattle.pdl_check.specs.Memories.{infos_of}
 use Rattle.pdl_failure.specs.declared.failure.Position.{Position}
 use Rattle.pdl_failure.specs.declared.failure.Position.TheVariants.{Line, Insn}
 use Rattle.pdl_failure.specs.declared.failure.Failure.{Failure}
@@ -12,6 +11,7 @@ use Rattle.pdl_failure.specs.declared.failure.Failure.TheVariants.{Usage, Refuse
 use Rattle.pdl_gen.specs.Generated.{source}
 use Rattle.pdl_args.specs.Line.{Command, gen}
 use Rattle.pdl_commands.specs.Commands.{AtLine, IsAccepted, IsTaken, IsLoaded, IsWrong, IsWrongFor, ImageFails, TextFails, Fails}
+use Rattle.pdl_rules.specs.Memories.{infos_of}
 
 pub rose_before : (before mid now : ℕ) → before ≤ mid → Rose mid now → Rose before now
 rose_before before mid now h r = omega (arith, r)

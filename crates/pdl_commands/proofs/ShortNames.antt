@@ -11,7 +11,7 @@ use Rattle.pdl_tokens.specs.declared.token.TokenKind.TheVariants as kind
 use Rattle.pdl_tokens.specs.Tokens.{Token, Row, Piece, Spelling, tokens, tokens_from, placed_token, piece_at, word_at, keyword_or_name, spelling_of, keywords, number_or_literal, mark_or_bad, blank_of, is_word, is_blank, is_lower, is_digit, symbols, spelling_at, line_after}
 use Rattle.pdl_grammar.specs.Grammar.{Listed, last, further, Memory, memory, Parameter, parameter, Lock, unlocked, locked, Text, text}
 use Rattle.pdl_grammar.specs.Text.{IsText}
-use Rattle.pdl_sources.proofs.Words.{number_no_name, literal_no_name, some_same}
+use Rattle.pdl_tokens.proofs.OtherKinds.{same_kind, number_no_name, literal_no_name}
 
 -- ---- pieces
 
@@ -31,9 +31,9 @@ mark_short None e = absurd (cc e)
 mark_short (Some s) e = absurd (cc e)
 
 number_short : (n ds hs : List ℕ) → IsShortPiece (number_or_literal n ds hs)
-number_short n [] [] e = absurd (number_no_name _ _ (some_same _ _ e))
-number_short n [] (h ∷ hs) e = absurd (literal_no_name _ _ _ (some_same _ _ e))
-number_short n (d ∷ ds) hs e = absurd (literal_no_name _ _ _ (some_same _ _ e))
+number_short n [] [] e = absurd (number_no_name _ _ (same_kind _ _ e))
+number_short n [] (h ∷ hs) e = absurd (literal_no_name _ _ _ (same_kind _ _ e))
+number_short n (d ∷ ds) hs e = absurd (literal_no_name _ _ _ (same_kind _ _ e))
 
 word_case : (b : Bool) (n : ℕ) (k : TokenKind) → nat_le n 32 ≡ b → cond b k kind.Bad ≡ kind.Name → n ≤ 32
 word_case true n k e h = leb-true n 32 e
@@ -42,7 +42,7 @@ word_case false n k e h = absurd (cc h)
 word_short : (bytes : List ℕ) → IsShortPiece (word_at bytes)
 word_short bytes e =
     let w = take_while is_word bytes in
-    let n : length w ≤ 32 = word_case (nat_le (length w) 32) (length w) (keyword_or_name (spelling_of keywords w)) refl (some_same _ _ e) in
+    let n : length w ≤ 32 = word_case (nat_le (length w) 32) (length w) (keyword_or_name (spelling_of keywords w)) refl (same_kind _ _ e) in
     subst (λ k. k ≤ 32) (length-prefix_len is_word bytes) n
 
 piece_short : (c : ℕ) (bytes : List ℕ) → IsShortPiece (piece_at c bytes)

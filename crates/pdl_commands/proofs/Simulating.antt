@@ -1,5 +1,5 @@
 -- What a netlist that is read gives its run.
-use Rattle.std.proofs.Common.{◌≡◌, ◌≢◌, ℕ, suc, ◌≤◌, Bool, true, false, cond, ◌||◌, List, [], ◌∷◌, ◌++◌, length, map, filter, filter_map, find, All, Option, Some, None, bytes_eq, codes, refl, sym, ap, ◌∙◌, subst, arith}
+use Rattle.std.proofs.Common.{◌≡◌, ◌≢◌, ℕ, suc, ◌≤◌, Bool, true, false, cond, ◌||◌, List, [], ◌∷◌, ◌++◌, length, map, filter, filter_map, All, Option, Some, None, codes, refl, sym, ap, ◌∙◌, subst, arith}
 use Rattle.std.specs.List.{AllByRecursion, cons_option, flat_map, list_any, range_with_len}
 use Rattle.std.proofs.lemmas.Bool.{or_parts}
 use Rattle.std.proofs.lemmas.List.Elements.{All-from_recursion}
@@ -7,12 +7,12 @@ use Rattle.pdl_kit.specs.declared.mem_info.MemInfo.{MemInfo}
 use Rattle.pdl_net.specs.declared.Dir.{Dir}
 use Rattle.pdl_net.specs.declared.Dir.TheVariants.{In, Out}
 use Rattle.pdl_net.specs.declared.Port.{Port}
-use Rattle.pdl_net.specs.declared.Array.{Array}
 use Rattle.pdl_net.specs.declared.Netlist.{Netlist}
 use Rattle.pdl_net.specs.Circuit.{Output, output_with, port_output}
 use Rattle.pdl_net.specs.Run.{delayed_mems}
-use Rattle.pdl_net.specs.Pipe.{Head, PortMem, head_of, is_input, output, reply_ports, stage_ports, commit_ports, request_ports, pipe_ports, comb_info, mems_of, IsPipe}
+use Rattle.pdl_net.specs.Pipe.{Head, head_of, is_input, output, reply_ports, stage_ports, commit_ports, request_ports, pipe_ports, mems_of, IsPipe}
 use Rattle.pdl_pipe_law.specs.Runs.{output_count}
+use Rattle.pdl_net.proofs.PipeMems.{none_delayed as no_ports, told, told_names}
 
 -- ---- its memories
 
@@ -37,28 +37,11 @@ none_delayed n b e f = none_any n.mems (sym e ∙ f)
 pub some_delayed : (n : Netlist) (b : Bool) → b ≡ list_any (λ m. m.delayed) n.mems → b ≡ true → delayed_mems n ≢ []
 some_delayed n b e f = some_any n.mems (sym e ∙ f)
 
-no_ports : (delayed locked : List PortMem) (arrays : List Array) → filter (λ m. m.delayed) (mems_of delayed locked arrays) ≡ [] → delayed ≡ []
-no_ports [] locked arrays e = refl
-no_ports (d ∷ ds) locked arrays e = let n = ap length e in absurd (omega (arith, n))
-
--- the memory that an array and the locked memories tell
-abbrev told : List PortMem → Array → MemInfo
-told locked a = comb_info a (find (λ m. bytes_eq m.name a.name) locked)
-
 mems_told : (n : Netlist) (p : IsPipe n) → delayed_mems n ≡ [] → n.mems ≡ map (told p.locked) n.arrays
 mems_told n p e = p.mems ∙ ap (λ d. mems_of d p.locked n.arrays) (no_ports p.delayed p.locked n.arrays (ap (filter (λ m. m.delayed)) (sym p.mems) ∙ e))
 
-name_told : (a : Array) (o : Option PortMem) → (comb_info a o).name ≡ a.name
-name_told a None = refl
-name_told a (Some m) = refl
-
--- the names of the memories are those of the arrays
-names_told : (locked : List PortMem) (xs : List Array) → map (λ m. m.name) (map (told locked) xs) ≡ map (λ a. a.name) xs
-names_told locked [] = refl
-names_told locked (a ∷ xs) = ap (λ x. x ∷ map (λ (m : MemInfo). m.name) (map (told locked) xs)) (name_told a (find (λ m. bytes_eq m.name a.name) locked)) ∙ ap (λ ns. a.name ∷ ns) (names_told locked xs)
-
 mem_names : (n : Netlist) → IsPipe n → delayed_mems n ≡ [] → map (λ m. m.name) n.mems ≡ map (λ a. a.name) n.arrays
-mem_names n p e = ap (map (λ (m : MemInfo). m.name)) (mems_told n p e) ∙ names_told p.locked n.arrays
+mem_names n p e = ap (map (λ (m : MemInfo). m.name)) (mems_told n p e) ∙ told_names p.locked n.arrays
 
 -- ---- its outputs
 

@@ -10,7 +10,6 @@ use Rattle.pdl_semantics.specs.Tree.{Pipe}
 use Rattle.pdl_semantics.specs.Flat.{arrays_of}
 use Rattle.pdl_semantics.specs.Flatten.{flat}
 use Rattle.pdl_rules.specs.Refusal.{KeepsRules}
-use Rattle.pdl_check.specs.Memories.{infos_of}
 use Rattle.pdl_image.specs.Images.{IsImage}
 use Rattle.pdl_sources.proofs.Promised.{paces}
 use Rattle.pdl_net.specs.declared.Netlist.{Netlist}
@@ -24,6 +23,7 @@ use Rattle.pdl_runs.specs.Tally.{counts_of}
 use Rattle.pdl_commands.specs.Summaries.{words_in, image_of, line_of, end_of}
 use Rattle.pdl_commands.proofs.Accepting.{same_length}
 use Rattle.pdl_runs.proofs.Running.{left_length}
+use Rattle.pdl_rules.specs.Memories.{infos_of}
 
 -- ---- its image
 

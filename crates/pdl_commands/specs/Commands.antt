@@ -15,7 +15,6 @@ use Rattle.pdl_grammar.specs.Text.{IsText, IsOutOfPlace}
 use Rattle.pdl_rules.specs.Refusal.{refusal}
 use Rattle.pdl_check.specs.Gate.{gated_line}
 use Rattle.pdl_check.specs.Answers.{source_refusal}
-use Rattle.pdl_check.specs.Memories.{infos_of}
 use Rattle.pdl_net.specs.declared.Netlist.{Netlist}
 use Rattle.pdl_net.specs.Run.{nports}
 use Rattle.pdl_pipe_law.specs.Follows.{Follows}
@@ -34,6 +33,7 @@ use Rattle.pdl_commands.specs.Assembled.{IsWrongTable, IsWrongText, IsAssembled}
 use Rattle.pdl_runs.specs.Printed.{run_text, schedule}
 use Rattle.pdl_commands.specs.Summaries.{image_of, end_of}
 use Rattle.pdl_commands.specs.Simulated.{IsTextOf, NetlistRefused, IsWrongNetlist, IsWrongSim, IsSimulated}
+use Rattle.pdl_rules.specs.Memories.{infos_of}
 
 -- ONE FILE
 

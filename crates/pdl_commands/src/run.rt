@@ -3,10 +3,10 @@ ghost use Rattle.std.specs.Prelude.{◌≡◌, ◌≤◌, IsTrue, IfOk, IfErr, �
 ghost use Rattle.pdl_kit.specs.Files.{Held, Gives};
 ghost use Rattle.pdl_tree.specs.View.{pipe_view};
 ghost use Rattle.pdl_semantics.specs.Lines.{accepted_line as accepted_text};
-ghost use Rattle.pdl_check.specs.Memories.{infos_of};
 ghost use Rattle.pdl_image.specs.Images.{IsImage, IsRefusal, image as image_words};
 ghost use Rattle.pdl_args.specs.Line as command;
 ghost use Rattle.pdl_commands.specs.Commands.{IsAccepted, SourceFails, ImageFails, IsTaken, IsLoaded, IsVerdict, IsOutput, IsSequential, Fails};
+ghost use Rattle.pdl_rules.specs.Memories.{infos_of};
 
 use crate::sequential::sequential;
 use pdl_check::Accepted;

@@ -3,11 +3,11 @@ ghost use Rattle.std.specs.Prelude.{◌≡◌, ◌≤◌, ◌<◌, ◌++◌, ℕ
 ghost use Rattle.std.specs.List.{flat_map};
 ghost use Rattle.pdl_tree.specs.View.{pipe_view};
 ghost use Rattle.pdl_semantics.specs.Lines.{seq_lines};
-ghost use Rattle.pdl_check.specs.Memories.{infos_of};
 ghost use Rattle.pdl_image.specs.Images.{IsImage};
 ghost use Rattle.pdl_pipe_law.specs.Runs.{column_of};
 ghost use Rattle.pdl_seq.specs.Runs.{HasRun, write_line};
 ghost use Rattle.pdl_commands.specs.Commands.{IsAccepted};
+ghost use Rattle.pdl_rules.specs.Memories.{infos_of};
 
 use pdl_check::Accepted;
 use pdl_image::Image;

@@ -1,5 +1,5 @@
 -- The names of a pipe's ports are those that a text may have.
-use Rattle.std.proofs.Common.{◌≡◌, ℕ, zero, suc, ◌+◌, ◌<◌, ◌≤◌, true, false, ◌||◌, List, [], ◌∷◌, ◌++◌, length, map, flat_map, get_or, All, codes, decimal, bytes_eq, refl, arith}
+use Rattle.std.proofs.Common.{◌≡◌, ℕ, zero, suc, ◌+◌, ◌<◌, ◌≤◌, true, ◌||◌, List, [], ◌∷◌, ◌++◌, length, get_or, codes, decimal, bytes_eq, refl, arith}
 use Rattle.std.specs.List.{range_with_len}
 use Rattle.std.proofs.lemmas.Bool.{and_from, or_left, or_right, le-leb}
 use Rattle.std.proofs.lemmas.Fmt.{length-decimal-le}
@@ -8,45 +8,16 @@ use Rattle.pdl_vtext.specs.Words.{is_name, is_named, is_counted, is_stage_port, 
 use Rattle.pdl_printed.proofs.Numbers.{decimals_are}
 use Rattle.pdl_printed.proofs.Lexed.{IsWordText}
 use Rattle.pdl_printed.proofs.Names.{IsOperandText, decimal_word, name_word, after_prefix, p_text, pd_text}
+use Rattle.pdl_word.proofs.Bools.{untrue}
+use Rattle.pdl_word.specs.Each.{Each}
+use Rattle.pdl_word.proofs.Each.{each_append, each_weaker, each_flat}
 
 -- ---- each element
-
-abbrev pub Each : {A : Type 0} → (A → Type 0) → List A → Type 0
-Each P [] = Unit {0}
-Each P (x ∷ xs) = P x × Each P xs
-
-pub each_append : {A : Type 0} (P : A → Type 0) (xs ys : List A) → Each P xs → Each P ys → Each P (xs ++ ys)
-each_append P [] ys h k = k
-each_append P (x ∷ xs) ys h k = (h.0, each_append P xs ys h.1 k)
-
-pub each_front : {A : Type 0} (P : A → Type 0) (xs ys : List A) → Each P (xs ++ ys) → Each P xs
-each_front P [] ys h = tt
-each_front P (x ∷ xs) ys h = (h.0, each_front P xs ys h.1)
-
-pub each_back : {A : Type 0} (P : A → Type 0) (xs ys : List A) → Each P (xs ++ ys) → Each P ys
-each_back P [] ys h = h
-each_back P (x ∷ xs) ys h = each_back P xs ys h.1
-
-pub each_unmapped : {A B : Type 0} (P : B → Type 0) (f : A → B) (xs : List A) → Each P (map f xs) → Each (λ x. P (f x)) xs
-each_unmapped P f [] h = tt
-each_unmapped P f (x ∷ xs) h = (h.0, each_unmapped P f xs h.1)
-
-pub each_weaker : {A : Type 0} (P Q : A → Type 0) → ((x : A) → P x → Q x) → (xs : List A) → Each P xs → Each Q xs
-each_weaker P Q step [] h = tt
-each_weaker P Q step (x ∷ xs) h = (step x h.0, each_weaker P Q step xs h.1)
-
-pub each_from_all : {A : Type 0} (P : A → Type 0) (xs : List A) → All P xs → Each P xs
-each_from_all P [] h = tt
-each_from_all P (x ∷ xs) h = (h 0 x (omega arith), each_from_all P xs (λ k d l. h (suc k) d (omega arith)))
 
 pub all_from_each : {A : Type 0} (P : A → Type 0) (xs : List A) → Each P xs → (k : ℕ) (d : A) → k < length xs → P (get_or xs k d)
 all_from_each P [] h k d l = absurd (omega arith)
 all_from_each P (x ∷ xs) h zero d l = h.0
 all_from_each P (x ∷ xs) h (suc k) d l = all_from_each P xs h.1 k d (omega arith)
-
-each_flat : {A B : Type 0} (P : B → Type 0) (f : A → List B) (xs : List A) → Each (λ x. Each P (f x)) xs → Each P (flat_map f xs)
-each_flat P f [] h = tt
-each_flat P f (x ∷ xs) h = each_append P (f x) (flat_map f xs) h.0 (each_flat P f xs h.1)
 
 -- ---- kinds of ports
 
@@ -100,11 +71,8 @@ pub record IsHeadText (h : Head) : Type 0 where
 abbrev pub IsMemName : PortMem → Type 0
 IsMemName m = is_name m.name ≡ true
 
-no_input : {A : Type 0} → false ≡ true → A
-no_input h = absurd (cc)
-
 output_text : (prefix x : List ℕ) (w : ℕ) → IsWordText (prefix ++ x) → is_memory_output (prefix ++ x) ≡ true → IsHeadText (output (prefix ++ x) w)
-output_text prefix x w o h = record { word = o; named = memory_output (prefix ++ x) h; operand = λ e. no_input e }
+output_text prefix x w o h = record { word = o; named = memory_output (prefix ++ x) h; operand = λ e. untrue e }
 
 reply_texts : (m : PortMem) → IsMemName m → Each IsHeadText (reply_ports m)
 reply_texts m h =
@@ -153,12 +121,12 @@ stage_texts k l =
     let one : IsHeadText (output v 1) = record {
       word = after_prefix (codes "v_") d refl w;
       named = valid_port v (and_from (is_counted (codes "v_") v) _ e (le-leb (length v) 12 (omega arith)));
-      operand = λ e. no_input e;
+      operand = λ e. untrue e;
     } in
     let two : IsHeadText (output g 1) = record {
       word = after_prefix (codes "g_") d refl w;
       named = moves_port g (and_from (is_counted (codes "g_") g) _ e (le-leb (length g) 12 (omega arith)));
-      operand = λ e. no_input e;
+      operand = λ e. untrue e;
     } in
     (one, (two, tt))
 
@@ -168,8 +136,8 @@ stages_texts from (suc n) l = (stage_texts from (omega arith), stages_texts (fro
 
 last_texts : Each IsHeadText (output (codes "ended") 1 ∷ output (codes "squash") 1 ∷ [])
 last_texts =
-    let one : IsHeadText (output (codes "ended") 1) = record { word = record { some = omega arith; all = refl }; named = ended_port; operand = λ e. no_input e } in
-    let two : IsHeadText (output (codes "squash") 1) = record { word = record { some = omega arith; all = refl }; named = squash_port; operand = λ e. no_input e } in
+    let one : IsHeadText (output (codes "ended") 1) = record { word = record { some = omega arith; all = refl }; named = ended_port; operand = λ e. untrue e } in
+    let two : IsHeadText (output (codes "squash") 1) = record { word = record { some = omega arith; all = refl }; named = squash_port; operand = λ e. untrue e } in
     (one, (two, tt))
 
 pub pipe_texts : (stages : ℕ) (delayed locked : List PortMem) → stages ≤ 64 → Each IsMemName delayed → Each IsMemName locked → Each IsHeadText (pipe_ports stages delayed locked)

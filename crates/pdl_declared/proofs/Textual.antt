@@ -1,5 +1,5 @@
 -- A well formed netlist whose names are names of PDL has a text that the grammar has.
-use Rattle.std.proofs.Common.{◌≡◌, inl, inr, ℕ, zero, suc, ◌+◌, ◌*◌, ◌^◌, ◌<◌, ◌≤◌, true, List, [], ◌∷◌, ◌++◌, length, map, filter_map, find, get_or, bytes_eq, Option, Some, None, refl, sym, ap, subst, arith}
+use Rattle.std.proofs.Common.{◌≡◌, inl, inr, ℕ, zero, suc, ◌+◌, ◌*◌, ◌^◌, ◌<◌, ◌≤◌, true, List, [], ◌∷◌, ◌++◌, length, map, filter_map, find, get_or, bytes_eq, refl, sym, ap, subst, arith}
 use Rattle.std.specs.List.{cons_option}
 use Rattle.std.proofs.Math.Pow.{pow_mono}
 use Rattle.std.proofs.lemmas.List.{get_or_default}
@@ -36,17 +36,12 @@ use Rattle.pdl_declared.proofs.AllCells.{IsNetText, IsCellText, AreCellTexts}
 use Rattle.pdl_declared.proofs.AllDrives.{IsDrivenText, AreDrivenTexts, AreRegTexts}
 use Rattle.pdl_declared.proofs.AllWrites.{AreWriteTexts, AreBlockTexts}
 use Rattle.pdl_declared.proofs.Whole.{IsTextual, declared_file, text_of_file}
-use Rattle.pdl_declared.proofs.Ports.{Each, each_front, each_back, each_append, each_unmapped, each_weaker, each_from_all, all_from_each, IsHeadText, IsMemName, pipe_texts}
+use Rattle.pdl_declared.proofs.Ports.{all_from_each, IsHeadText, IsMemName, pipe_texts}
+use Rattle.pdl_net.proofs.PipeMems.{told_name}
+use Rattle.pdl_word.specs.Each.{Each}
+use Rattle.pdl_word.proofs.Each.{each_append, each_front, each_back, each_unmapped, each_weaker, each_from_all, each_mapped}
 
 -- ---- lists
-
-each_mapped : {A B : Type 0} (P : B → Type 0) (f : A → B) (xs : List A) → Each (λ x. P (f x)) xs → Each P (map f xs)
-each_mapped P f [] h = tt
-each_mapped P f (x ∷ xs) h = (h.0, each_mapped P f xs h.1)
-
-info_name : (a : Array) (o : Option PortMem) → (comb_info a o).name ≡ a.name
-info_name a None = refl
-info_name a (Some m) = refl
 
 port_texts_of : (ps : List Port) → Each (λ p. IsHeadText (head_of p)) ps → Each (λ (p : Port). IsWidth p.width) ps → ArePortTexts ps
 port_texts_of [] h w = tt
@@ -104,7 +99,7 @@ module _ (n : Netlist) (h : IsWellFormed n) (names : HasNames n) (few_regs : len
 
   arrays_named : Each IsArrayNamed n.arrays
   arrays_named =
-      each_weaker (λ a. IsInfoName (info_of a)) IsArrayNamed (λ a e. subst (λ z. is_name z ≡ true) (info_name a (find (λ m. bytes_eq m.name a.name) locked)) e) n.arrays
+      each_weaker (λ a. IsInfoName (info_of a)) IsArrayNamed (λ a e. subst (λ z. is_name z ≡ true) (told_name a (find (λ m. bytes_eq m.name a.name) locked)) e) n.arrays
       (each_unmapped IsInfoName info_of n.arrays (each_back IsInfoName (map delayed_info delayed) (map info_of n.arrays) infos_named))
 
   kept_named : (m : PortMem) → IsKept delayed n.arrays m → IsMemName m

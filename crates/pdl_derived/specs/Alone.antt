@@ -1,6 +1,6 @@
 -- A thread that runs alone in the machine that the proofs use, and what that machine's runs are shown to do.
 use Rattle.std.specs.Prelude.{◌≡◌, ℕ, ◌+◌, ◌-◌, ◌/◌, ◌≤◌, Bool, true, false, ◌&&◌, List, [], ◌∷◌, None, if◌then◌else◌, nat_lt, ◌==◌, IsTrue, IsFalse, length}
-use Rattle.pdl_semantics.specs.Flat.{Arrays, Op, CombRead, DelayedRead, Call, SpecCall, Stmt, Pipe, start_env, word_at, Commit, of_mem, after_commits}
+use Rattle.pdl_semantics.specs.Flat.{Arrays, Op, CombRead, DelayedRead, Stmt, Pipe, start_env, word_at, Commit, of_mem, after_commits}
 use Rattle.pdl_semantics.specs.Stages.{commit_stage, depth}
 use Rattle.pdl_semantics.specs.Sequential.{thread, seqwrites}
 use Rattle.pdl_semantics.specs.Promises.{IsPrefix}
@@ -54,11 +54,6 @@ thread_at p arrays args s =
 -- the writes to m of this turn that a thread in stage s has not released
 abbrev pub undone : Pipe → Arrays → List ℕ → ℕ → ℕ → List Commit
 undone p arrays args s m = if nat_lt (commit_stage p m) s then [] else of_mem m (thread p arrays args).writes
-
-abbrev pub is_call : Op → Bool
-is_call (Call args) = true
-is_call (SpecCall args) = true
-is_call _ = false
 
 -- a location: a memory and the variable of its address
 pub record Location : Type 0 where

@@ -48,8 +48,6 @@ bit_width_top l f (suc i) = bit_width l f (l.size - 1 - i) _
 
 pub ruleset none = (addr_none, bit_none, value_none)
 
-pub ruleset tops = (addr_more, bit_more, value_more, addr_width, bit_width_top, slot_addr_width, bit_width)
-
 pub next_none : (c : Circuit) (l : Layout) (f : StepSignals) (o : Signal) (n : ℕ) → l.size ≤ n → NextSlots c l f o n
 next_none c l f o n h = record {
   valid = λ k a b. absurd (omega arith);

@@ -4,9 +4,9 @@ use Rattle.std.proofs.lemmas.Bool.{eqb-true, ne_eqb}
 use Rattle.pdl_semantics.specs.Flat.{list_all, Stmt, Mem, Pipe}
 use Rattle.pdl_semantics.specs.Stages.{onpath, in_stage, mem_at, plain_mem, commit_stage, reserve_stage, is_reserve, is_release, verify_stage}
 use Rattle.pdl_semantics.specs.Locks.{has_room}
-use Rattle.pdl_semantics.specs.Sound.{all_below}
+use Rattle.pdl_semantics.specs.Sound.{all_below, stages_from, is_fetch}
 use Rattle.pdl_derived.specs.Alone.{before}
-use Rattle.pdl_facts.specs.Scans.{from, is_plain, none_of, all_at, reads_ok, no_scan, phases_ok, phase_all, Fresh, is_over, is_fixed, is_fetch}
+use Rattle.pdl_facts.specs.Scans.{is_plain, none_of, all_at, reads_ok, no_scan, phases_ok, phase_all, Fresh, is_over, is_fixed}
 use Rattle.pdl_facts.specs.Certain.{Unmade, makings_ok, making_all, is_made, all_sure}
 use Rattle.pdl_facts.specs.Checks.{in_text_order, knows_memory, on_paths, guard_vars, mem_passes, path_passes, lock_passes, is_below, locks_pass, text_passes, paths_pass}
 use Rattle.pdl_facts.specs.Accepted.{Accepted, Pathwise, along}
@@ -129,7 +129,7 @@ module _ (p : Pipe) (h : Parts p) where
     path_unfetched : none_of is_fetch (onpath path p.stmts) ≡ true
     path_unfetched = no_fetch p no_scan (onpath path p.stmts) path_reads
 
-    path_whole : (s : ℕ) → onpath path p.stmts ≡ before s (onpath path p.stmts) ++ from s (onpath path p.stmts)
+    path_whole : (s : ℕ) → onpath path p.stmts ≡ before s (onpath path p.stmts) ++ stages_from s (onpath path p.stmts)
     path_whole s = ordered s 0 (onpath path p.stmts) path_order path_unfetched
 
     mem_ok : (m : ℕ) → m < length p.mems → mem_passes p (onpath path p.stmts) m ≡ true
@@ -193,7 +193,7 @@ module _ (p : Pipe) (h : Parts p) where
           plain = path_plain;
           plain_from = plain_from;
           plain_to = plain_to;
-          reads = λ s. reads_first p no_scan (before s (onpath path p.stmts)) (from s (onpath path p.stmts)) (subst (λ ys. reads_ok p no_scan ys ≡ true) (path_whole s) path_reads);
+          reads = λ s. reads_first p no_scan (before s (onpath path p.stmts)) (stages_from s (onpath path p.stmts)) (subst (λ ys. reads_ok p no_scan ys ≡ true) (path_whole s) path_reads);
           phases = path_phases;
           over = path_over;
           reserves = path_reserves;
@@ -204,7 +204,7 @@ module _ (p : Pipe) (h : Parts p) where
   verify_low v e = ltb-true _ _ (subst (λ o. is_below (length p.stages) o ≡ true) e h.below)
 
   -- the facts of paths
-  pub pathwise : is_fixed p.stmts ≡ true → ((s : ℕ) → is_fixed (before s p.stmts ++ (in_stage s p.stmts ++ from (suc s) p.stmts)) ≡ true) → Pathwise p
+  pub pathwise : is_fixed p.stmts ≡ true → ((s : ℕ) → is_fixed (before s p.stmts ++ (in_stage s p.stmts ++ stages_from (suc s) p.stmts)) ≡ true) → Pathwise p
   pathwise guards by =
       record {
         some_stage = some_stage;
@@ -225,16 +225,16 @@ module _ (p : Pipe) (h : paths_pass p ≡ true) where
   text_ok : text_passes p ≡ true
   text_ok = and_left (text_passes p) _ after_locks
 
-  after_known : (none_of is_fetch p.stmts && (is_below (length p.stages) (verify_stage p.stmts) && (is_fixed p.stmts && (list_all (λ x. nat_lt x.stage (length p.stages)) p.stmts && all_below (λ s. is_fixed (before s p.stmts ++ (in_stage s p.stmts ++ from (suc s) p.stmts))) (length p.stages))))) ≡ true
+  after_known : (none_of is_fetch p.stmts && (is_below (length p.stages) (verify_stage p.stmts) && (is_fixed p.stmts && (list_all (λ x. nat_lt x.stage (length p.stages)) p.stmts && all_below (λ s. is_fixed (before s p.stmts ++ (in_stage s p.stmts ++ stages_from (suc s) p.stmts))) (length p.stages))))) ≡ true
   after_known = and_right (list_all (λ x. knows_memory (length p.mems) x.op) p.stmts) _ text_ok
 
-  after_fetch : (is_below (length p.stages) (verify_stage p.stmts) && (is_fixed p.stmts && (list_all (λ x. nat_lt x.stage (length p.stages)) p.stmts && all_below (λ s. is_fixed (before s p.stmts ++ (in_stage s p.stmts ++ from (suc s) p.stmts))) (length p.stages)))) ≡ true
+  after_fetch : (is_below (length p.stages) (verify_stage p.stmts) && (is_fixed p.stmts && (list_all (λ x. nat_lt x.stage (length p.stages)) p.stmts && all_below (λ s. is_fixed (before s p.stmts ++ (in_stage s p.stmts ++ stages_from (suc s) p.stmts))) (length p.stages)))) ≡ true
   after_fetch = and_right (none_of is_fetch p.stmts) _ after_known
 
-  after_below : (is_fixed p.stmts && (list_all (λ x. nat_lt x.stage (length p.stages)) p.stmts && all_below (λ s. is_fixed (before s p.stmts ++ (in_stage s p.stmts ++ from (suc s) p.stmts))) (length p.stages))) ≡ true
+  after_below : (is_fixed p.stmts && (list_all (λ x. nat_lt x.stage (length p.stages)) p.stmts && all_below (λ s. is_fixed (before s p.stmts ++ (in_stage s p.stmts ++ stages_from (suc s) p.stmts))) (length p.stages))) ≡ true
   after_below = and_right (is_below (length p.stages) (verify_stage p.stmts)) _ after_fetch
 
-  after_fixed : (list_all (λ x. nat_lt x.stage (length p.stages)) p.stmts && all_below (λ s. is_fixed (before s p.stmts ++ (in_stage s p.stmts ++ from (suc s) p.stmts))) (length p.stages)) ≡ true
+  after_fixed : (list_all (λ x. nat_lt x.stage (length p.stages)) p.stmts && all_below (λ s. is_fixed (before s p.stmts ++ (in_stage s p.stmts ++ stages_from (suc s) p.stmts))) (length p.stages)) ≡ true
   after_fixed = and_right (is_fixed p.stmts) _ after_below
 
   pub parts_paths : Parts p
@@ -249,13 +249,13 @@ module _ (p : Pipe) (h : paths_pass p ≡ true) where
       }
 
   -- past the last stage there is nothing more
-  none_left : (s : ℕ) (xs : List Stmt) → length p.stages ≤ s → list_all (λ x. nat_lt x.stage (length p.stages)) xs ≡ true → (in_stage s xs ≡ []) × (from (suc s) xs ≡ [])
+  none_left : (s : ℕ) (xs : List Stmt) → length p.stages ≤ s → list_all (λ x. nat_lt x.stage (length p.stages)) xs ≡ true → (in_stage s xs ≡ []) × (stages_from (suc s) xs ≡ [])
   none_left s [] low k = (refl, refl)
   none_left s (x ∷ xs) low k =
       let i : x.stage < length p.stages = ltb-true _ _ (and_left (nat_lt x.stage (length p.stages)) _ k) in
       let r = none_left s xs low (and_right (nat_lt x.stage (length p.stages)) _ k) in (
         ap (λ b. cond b (x ∷ in_stage s xs) (in_stage s xs)) (ne_eqb x.stage s (λ e. absurd (omega arith))) ∙ r.0,
-        ap (λ b. cond b (x ∷ from (suc s) xs) (from (suc s) xs)) (late (nat_le (suc s) x.stage) refl i) ∙ r.1,
+        ap (λ b. cond b (x ∷ stages_from (suc s) xs) (stages_from (suc s) xs)) (late (nat_le (suc s) x.stage) refl i) ∙ r.1,
       )
     where
       late : (b : Bool) → nat_le (suc s) x.stage ≡ b → x.stage < length p.stages → nat_le (suc s) x.stage ≡ false
@@ -270,10 +270,10 @@ module _ (p : Pipe) (h : paths_pass p ≡ true) where
       longer (y ∷ ys) i =
           ap₂ (λ a b. a && b) (lt-ltb y.stage s (let j : y.stage < length p.stages = ltb-true _ _ (and_left (nat_lt y.stage (length p.stages)) _ i) in omega arith)) (longer ys (and_right (nat_lt y.stage (length p.stages)) _ i))
 
-  fixed_each : (s : ℕ) → is_fixed (before s p.stmts ++ (in_stage s p.stmts ++ from (suc s) p.stmts)) ≡ true
+  fixed_each : (s : ℕ) → is_fixed (before s p.stmts ++ (in_stage s p.stmts ++ stages_from (suc s) p.stmts)) ≡ true
   fixed_each s =
       by_bound (length p.stages) s _
-      (λ low. below_at (λ s. is_fixed (before s p.stmts ++ (in_stage s p.stmts ++ from (suc s) p.stmts))) (length p.stages) s (and_right (list_all (λ x. nat_lt x.stage (length p.stages)) p.stmts) _ after_fixed) low)
+      (λ low. below_at (λ s. is_fixed (before s p.stmts ++ (in_stage s p.stmts ++ stages_from (suc s) p.stmts))) (length p.stages) s (and_right (list_all (λ x. nat_lt x.stage (length p.stages)) p.stmts) _ after_fixed) low)
       (λ past.
       let n = none_left s p.stmts past (and_left (list_all (λ x. nat_lt x.stage (length p.stages)) p.stmts) _ after_fixed) in
       ap₂ (λ k l. is_fixed (k ++ l)) (whole_before s p.stmts past (and_left (list_all (λ x. nat_lt x.stage (length p.stages)) p.stmts) _ after_fixed) (and_left (none_of is_fetch p.stmts) _ after_known)) (ap₂ (λ k l. k ++ l) n.0 n.1)

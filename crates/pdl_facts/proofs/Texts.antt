@@ -3,9 +3,9 @@ use Rattle.std.proofs.Common.{◌≡◌, refl, sym, ap, ap₂, ◌∙◌, subst,
 use Rattle.std.proofs.lemmas.Bool.{eqb-true, eqb-false, ne_eqb, lt-leb, and_from, or_left, or_right}
 use Rattle.pdl_semantics.specs.Flat.{list_all, takes_branch, all_hold, Op, Bind, CombRead, DelayedRead, Write, ReserveRead, ReserveWrite, Block, Release, Call, SpecCall, Verify, SpecCheck, SpecBarrier, Stmt, Guard, Pipe}
 use Rattle.pdl_semantics.specs.Stages.{onpath, in_stage, is_reserve, is_release, is_verify, verify_stage}
-use Rattle.pdl_semantics.specs.Sound.{all_below}
+use Rattle.pdl_semantics.specs.Sound.{all_below, stages_from, is_fetch}
 use Rattle.pdl_derived.specs.Alone.{before, answered_op}
-use Rattle.pdl_facts.specs.Scans.{from, no_guards, none_of, all_at, Scan, scan_after, op_ok, reads_ok, Fresh, next_phase, phase_ok, phases_ok, phase_all, is_fetch}
+use Rattle.pdl_facts.specs.Scans.{no_guards, none_of, all_at, Scan, scan_after, op_ok, reads_ok, Fresh, next_phase, phase_ok, phases_ok, phase_all}
 use Rattle.pdl_facts.specs.Scans
 use Rattle.pdl_facts.specs.Checks.{in_text_order, knows_memory, alike, agrees_with, without, choose, on_paths}
 use Rattle.pdl_derived.proofs.Writes.{and_left, and_right}
@@ -72,19 +72,19 @@ pieces s l (x ∷ xs) h f = at (nat_lt x.stage (suc s)) (nat_lt x.stage s) (x.st
     at false false true e g i k = absurd (let u : suc s ≤ x.stage = ltb-false _ _ e in let j = eqb-true x.stage s i in omega arith)
     at false false false e g i k = k
 
-pub ordered : (s l : ℕ) (xs : List Stmt) → in_text_order l xs ≡ true → none_of is_fetch xs ≡ true → xs ≡ before s xs ++ from s xs
+pub ordered : (s l : ℕ) (xs : List Stmt) → in_text_order l xs ≡ true → none_of is_fetch xs ≡ true → xs ≡ before s xs ++ stages_from s xs
 ordered s l [] h f = refl
 ordered s l (x ∷ xs) h f = at (nat_lt x.stage s) refl (ordered s x.stage xs (and_right _ _ h) (and_right _ _ f))
   where
-    at : (b : Bool) → nat_lt x.stage s ≡ b → xs ≡ before s xs ++ from s xs → x ∷ xs ≡ cond b (record x { op = answered_op x.op } ∷ before s xs) (before s xs) ++ from s (x ∷ xs)
+    at : (b : Bool) → nat_lt x.stage s ≡ b → xs ≡ before s xs ++ stages_from s xs → x ∷ xs ≡ cond b (record x { op = answered_op x.op } ∷ before s xs) (before s xs) ++ stages_from s (x ∷ xs)
     at true e k =
         ap₂ (λ op ys. record x { op = op } ∷ ys) (sym (looked_same x.op (and_left _ _ f))) k
-        ∙ ap (λ c. record x { op = answered_op x.op } ∷ (before s xs ++ cond c (x ∷ from s xs) (from s xs))) (sym (lt-leb s x.stage (ltb-true _ _ e)))
+        ∙ ap (λ c. record x { op = answered_op x.op } ∷ (before s xs ++ cond c (x ∷ stages_from s xs) (stages_from s xs))) (sym (lt-leb s x.stage (ltb-true _ _ e)))
     at false e k =
         let none : before s xs ≡ [] = none_before s x.stage xs (and_right _ _ h) (ltb-false _ _ e) in
-        ap (λ ys. x ∷ ys) (k ∙ ap (λ ys. ys ++ from s xs) none)
-        ∙ ap (λ c. cond c (x ∷ from s xs) (from s xs)) (sym (le-leb s x.stage (ltb-false _ _ e)))
-        ∙ ap (λ ys. ys ++ from s (x ∷ xs)) (sym none)
+        ap (λ ys. x ∷ ys) (k ∙ ap (λ ys. ys ++ stages_from s xs) none)
+        ∙ ap (λ c. cond c (x ∷ stages_from s xs) (stages_from s xs)) (sym (le-leb s x.stage (ltb-false _ _ e)))
+        ∙ ap (λ ys. ys ++ stages_from s (x ∷ xs)) (sym none)
 
 pub whole : (k : ℕ) (xs : List Stmt) → list_all (λ x. nat_lt x.stage k) xs ≡ true → none_of is_fetch xs ≡ true → before k xs ≡ xs
 whole k [] h f = refl

@@ -4,14 +4,15 @@ use Rattle.pdl_semantics.specs.Flat.{Pipe}
 use Rattle.pdl_semantics.specs.Stages.{onpath, in_stage, mem_at, verify_stage, commit_stage, reserve_stage, is_reserve, is_release}
 use Rattle.pdl_semantics.specs.Locks.{has_room}
 use Rattle.pdl_derived.specs.Alone.{before}
-use Rattle.pdl_facts.specs.Scans.{from, is_plain, none_of, reads_ok, no_scan, phases_ok, phase_all, Fresh, is_over, all_at, is_fixed}
+use Rattle.pdl_facts.specs.Scans.{is_plain, none_of, reads_ok, no_scan, phases_ok, phase_all, Fresh, is_over, all_at, is_fixed}
 use Rattle.pdl_facts.specs.Certain.{Unmade, makings_ok, making_all, is_made, all_sure}
+use Rattle.pdl_semantics.specs.Sound.{stages_from}
 
 -- of a pipe without guards: what holds of the statements of one path
 pub record Accepted (p : Pipe) : Type 0 where
   -- statements stand in the order of their stages, which are as many as the pipe has
   pub pieces : (s : ℕ) → before (suc s) p.stmts ≡ before s p.stmts ++ in_stage s p.stmts
-  pub ordered : (s : ℕ) → p.stmts ≡ before s p.stmts ++ from s p.stmts
+  pub ordered : (s : ℕ) → p.stmts ≡ before s p.stmts ++ stages_from s p.stmts
   pub start_first : before 0 p.stmts ≡ []
   pub whole : before (length p.stages) p.stmts ≡ p.stmts
   pub some_stage : 0 < length p.stages
@@ -39,7 +40,7 @@ pub record Pathwise (p : Pipe) : Type 0 where
   pub some_stage : 0 < length p.stages
   -- N2, N3: a guard's variable is not bound where it is tested or later in the text, nor in a later stage
   pub fixed_guards : is_fixed p.stmts ≡ true
-  pub fixed_by : (s : ℕ) → is_fixed (before s p.stmts ++ (in_stage s p.stmts ++ from (suc s) p.stmts)) ≡ true
+  pub fixed_by : (s : ℕ) → is_fixed (before s p.stmts ++ (in_stage s p.stmts ++ stages_from (suc s) p.stmts)) ≡ true
   pub releases : (m : ℕ) → all_at (is_release m) (commit_stage p m) p.stmts ≡ true
   pub verify_inside : (v : ℕ) → verify_stage p.stmts ≡ Some v → v < length p.stages
   pub paths : (path : List ℕ) → Accepted (along path p)

@@ -4,8 +4,8 @@ use Rattle.pdl_semantics.specs.Flat.{list_all, Op, CombRead, DelayedRead, Write,
 use Rattle.pdl_derived.specs.Alone.{before}
 use Rattle.pdl_semantics.specs.Stages.{in_stage, mem_at, commit_stage, reserve_stage, is_reserve, is_release, verify_stage}
 use Rattle.pdl_semantics.specs.Locks.{has_room}
-use Rattle.pdl_semantics.specs.Sound.{all_below}
-use Rattle.pdl_facts.specs.Scans.{from, is_plain, none_of, reads_ok, no_scan, phases_ok, phase_all, Fresh, is_over, all_at, is_fixed, is_fetch}
+use Rattle.pdl_semantics.specs.Sound.{all_below, stages_from, is_fetch}
+use Rattle.pdl_facts.specs.Scans.{is_plain, none_of, reads_ok, no_scan, phases_ok, phase_all, Fresh, is_over, all_at, is_fixed}
 use Rattle.pdl_facts.specs.Certain.{Unmade, makings_ok, making_all, is_made, all_sure}
 
 -- statements stand in the order of their stages, the first in stage s or after it
@@ -102,7 +102,7 @@ text_passes p =
     && (none_of is_fetch p.stmts
     && (is_below (length p.stages) (verify_stage p.stmts)
     && (is_fixed p.stmts
-    && (list_all (λ x. nat_lt x.stage (length p.stages)) p.stmts && all_below (λ s. is_fixed (before s p.stmts ++ (in_stage s p.stmts ++ from (suc s) p.stmts))) (length p.stages)))))
+    && (list_all (λ x. nat_lt x.stage (length p.stages)) p.stmts && all_below (λ s. is_fixed (before s p.stmts ++ (in_stage s p.stmts ++ stages_from (suc s) p.stmts))) (length p.stages)))))
 
 abbrev pub paths_pass : Pipe → Bool
 paths_pass p = nat_lt 0 (length p.stages) && (locks_pass p && (text_passes p && on_paths (guard_vars p.stmts) (path_passes p) p.stmts))

@@ -3,11 +3,12 @@ use Rattle.std.specs.Prelude.{◌≡◌, ℕ, suc, ◌≤◌, ◌<◌, Bool, tru
 use Rattle.pdl_semantics.specs.Flat.{list_all, Op, Bind, CombRead, DelayedRead, Write, ReserveRead, ReserveWrite, Block, Release, Call, SpecCall, Verify, SpecCheck, SpecBarrier, Expr, Constant, Variable, Slice, Not, Binary, Cat, LessSigned, ZeroExtend, SignExtend, Choose, Guard, Stmt, Lock, Plain, Queue, Forks, Branch, Pipe}
 use Rattle.pdl_semantics.specs.Stages.{is_inside, is_reserve, is_verify, onpath, in_stage, stage_at, mem_at, verify_stage, commit_stage, reserve_stage}
 use Rattle.pdl_derived.specs.Alone.{before, answered_op}
-use Rattle.pdl_facts.specs.Scans.{from, none_of, all_at, binds_var, is_fetch}
+use Rattle.pdl_facts.specs.Scans.{none_of, all_at, binds_var}
 pub use Rattle.pdl_facts.specs.Scans.{against, is_dead}
 use Rattle.pdl_semantics.specs.Cycle.{merges_by}
 use Rattle.pdl_facts.specs.Graphs.{next_of, Graph, In, Branches, goes_by}
 use Rattle.pdl_facts.specs.Accepted.{Pathwise}
+use Rattle.pdl_semantics.specs.Sound.{stages_from, is_fetch}
 
 -- USES OF A VARIABLE
 
@@ -183,7 +184,7 @@ pub record Sound (p : Pipe) : Type 0 where
   -- part C: a path has no statement in the stages that it passes over
   pub skips : (path : List ℕ) (s : ℕ) → s < length p.stages → visits_stage p path s ≡ true → before (next_of p s path) (onpath path p.stmts) ≡ before (suc s) (onpath path p.stmts)
   -- N2, N3: a fork's variable is bound before its stage ends, and read at once
-  pub fork_bound : (s x a b : ℕ) → (stage_at p s).next ≡ Forks x a b → none_of (binds_var x) (from (suc s) p.stmts) ≡ true
+  pub fork_bound : (s x a b : ℕ) → (stage_at p s).next ≡ Forks x a b → none_of (binds_var x) (stages_from (suc s) p.stmts) ≡ true
   pub fork_known : (s x a b : ℕ) → (stage_at p s).next ≡ Forks x a b → x < p.vars
   pub fork_seen : (s x a b : ℕ) → (stage_at p s).next ≡ Forks x a b → none_of (is_fetch_of x) (in_stage s p.stmts) ≡ true
   -- delayed reads

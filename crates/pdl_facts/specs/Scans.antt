@@ -2,7 +2,8 @@
 use Rattle.std.specs.Prelude.{ℕ, Bool, true, false, ◌&&◌, ◌||◌, not, List, [], ◌∷◌, if◌then◌else◌, ◌==◌, nat_le}
 use Rattle.pdl_semantics.specs.Flat.{Op, Bind, CombRead, DelayedRead, Write, ReserveWrite, Block, Release, Stmt, Guard, Pipe, Lock, Plain}
 use Rattle.pdl_semantics.specs.Stages.{mem_at, commit_stage, reserve_stage}
-use Rattle.pdl_derived.specs.Alone.{Location, is_call}
+use Rattle.pdl_derived.specs.Alone.{Location}
+use Rattle.pdl_semantics.specs.Sound.{is_call}
 
 abbrev pub no_guards : List Guard → Bool
 no_guards [] = true
@@ -62,11 +63,6 @@ all_at test s (x ∷ xs) = (not (test x.op) || (x.stage == s)) && all_at test s 
 abbrev pub none_of : (Op → Bool) → List Stmt → Bool
 none_of test [] = true
 none_of test (x ∷ xs) = not (test x.op) && none_of test xs
-
--- the statements of stage s and the later ones
-abbrev pub from : ℕ → List Stmt → List Stmt
-from s [] = []
-from s (x ∷ xs) = if nat_le s x.stage then x ∷ from s xs else from s xs
 
 -- how far a thread is with its write to a memory; x is the location's variable
 pub data Phase : Type 0 where
@@ -154,7 +150,3 @@ keeps_guards gs xs = is_dead gs || free_of gs xs
 abbrev pub is_fixed : List Stmt → Bool
 is_fixed [] = true
 is_fixed (x ∷ xs) = keeps_guards x.guards (x ∷ xs) && is_fixed xs
-
-abbrev pub is_fetch : Op → Bool
-is_fetch (DelayedRead x m a) = true
-is_fetch _ = false

@@ -2,9 +2,9 @@
 use Rattle.std.specs.Prelude.{ℕ, suc, Bool, true, false, ◌&&◌, ◌||◌, not, List, [], ◌∷◌, ◌++◌, Option, Some, None, is_none, if◌then◌else◌, nat_lt, nat_le, ◌==◌, length, slice_set}
 use Rattle.pdl_semantics.specs.Flat.{list_all, Op, DelayedRead, Guard, Stmt, Next, Ends, Goes, Forks, Branch, Pipe, all_hold, start_env}
 use Rattle.pdl_semantics.specs.Stages.{onpath, in_stage, stage_at, is_inside, mem_at, commit_stage, reserve_stage, verify_stage, is_verify, fork_guards}
-use Rattle.pdl_semantics.specs.Sound.{all_below}
+use Rattle.pdl_semantics.specs.Sound.{all_below, stages_from, is_fetch}
 use Rattle.pdl_derived.specs.Alone.{before}
-use Rattle.pdl_facts.specs.Scans.{from, none_of, all_at, binds_var, is_fetch}
+use Rattle.pdl_facts.specs.Scans.{none_of, all_at, binds_var}
 use Rattle.pdl_semantics.specs.Cycle.{merges_by}
 use Rattle.pdl_facts.specs.Graphs.{next_of}
 use Rattle.pdl_facts.specs.Facts.{trunk_only, is_dead, late_for, is_unseen, fetch_apart, is_exact, is_fetch_of, visits_stage, at_once}
@@ -45,7 +45,7 @@ abbrev pub is_in_merge : Pipe → Option ℕ → ℕ → Bool
 is_in_merge p None b = false
 is_in_merge p (Some f) b = is_inside p f b
 
--- a branch is entered in its first stage from its fork, else from the stage before
+-- a branch is entered in its first stage stages_from its fork, else stages_from the stage before
 abbrev pub is_entered : Pipe → ℕ → ℕ → Option Branch → Bool
 is_entered p s n None = true
 is_entered p s n (Some c) =
@@ -66,7 +66,7 @@ abbrev pub branch_passes : Pipe → ℕ → Option Branch → Bool
 branch_passes p s None = true
 branch_passes p s (Some c) = is_trunk p c.fork && nat_lt c.fork s
 
--- a way from a fork leads into a branch of its own side
+-- a way stages_from a fork leads into a branch of its own side
 abbrev pub side_is : ℕ → Bool → Option Branch → Bool
 side_is s first None = true
 side_is s first (Some c) = not (c.fork == s) || (if c.first then first else not first)
@@ -90,14 +90,14 @@ stage_sound p s =
 abbrev pub fork_sound : Pipe → ℕ → Next → Bool
 fork_sound p s Ends = true
 fork_sound p s (Goes to) = true
-fork_sound p s (Forks x a b) = nat_lt x p.vars && (none_of (binds_var x) (from (suc s) p.stmts) && none_of (is_fetch_of x) (in_stage s p.stmts))
+fork_sound p s (Forks x a b) = nat_lt x p.vars && (none_of (binds_var x) (stages_from (suc s) p.stmts) && none_of (is_fetch_of x) (in_stage s p.stmts))
 
 -- a stage is the last one of a branch of this fork
 abbrev pub is_last_of : Pipe → ℕ → ℕ → Option Branch → Bool
 is_last_of p s f None = false
 is_last_of p s f (Some c) = (c.fork == f) && all_below (λ b. not (same_branch (stage_at p b).branch c) || nat_le b s) (length p.stages)
 
--- a merge is entered from its fork or from the last stage of a branch
+-- a merge is entered stages_from its fork or stages_from the last stage of a branch
 abbrev pub merge_sound : Pipe → ℕ → Option ℕ → ℕ → Bool
 merge_sound p s None n = true
 merge_sound p s (Some f) n = is_trunk p n && (((s == f) && is_trunk p s) || is_last_of p s f (stage_at p s).branch)
@@ -122,7 +122,7 @@ abbrev pub all_paths : List ℕ → (List ℕ → Bool) → List ℕ → Bool
 all_paths [] test path = test path
 all_paths (g ∷ gs) test path = all_paths gs test (slice_set path g 0) && all_paths gs test (slice_set path g 1)
 
--- no statement stands in a stage from a on and before b
+-- no statement stands in a stage stages_from a on and before b
 abbrev pub none_between : ℕ → ℕ → List Stmt → Bool
 none_between a b [] = true
 none_between a b (x ∷ xs) = not (nat_le a x.stage && nat_lt x.stage b) && none_between a b xs

@@ -1,4 +1,6 @@
 //! Expressions over numbered variables and conditions of guards, as nets of a builder.
+//!
+//! The layers above may use `value`, `values` and `all_taken`, and `Bits`, the constant bits; each says which value its net has.
 #![tactic(auto)]
 
 pub mod bits;

@@ -5,7 +5,7 @@ use Rattle.pdl_semantics.specs.Tree.{Span, Expr, Stmt, If, Stmts, Nil, Cons}
 use Rattle.pdl_rules.specs.Places.{Place, Branch, guard_of, with_inner, statements}
 use Rattle.pdl_rules.specs.Limits.{is_separator}
 use Rattle.pdl_rules.specs.Forks.{starts_with_separator}
-use Rattle.pdl_forkrules.proofs.Steps.{drop_next}
+use Rattle.pdl_word.proofs.Lists.{drop_next}
 
 -- PLACES
 

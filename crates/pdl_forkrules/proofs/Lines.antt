@@ -6,8 +6,9 @@ use Rattle.pdl_rules.specs.Places.{Place, places, places_after, line_of}
 use Rattle.pdl_rules.specs.Refusal.{refused_at, breaks_rule, broken_line, first_broken}
 use Rattle.pdl_forkrules.specs.declared.scan.ForkRule.{ForkRule}
 use Rattle.pdl_forkrules.specs.declared.scan.ForkRule.TheVariants.{F1, F2, F3, F4, F5}
-use Rattle.pdl_forkrules.proofs.Steps.{drop_next, take_next}
+use Rattle.pdl_forkrules.proofs.Steps.{take_next}
 use Rattle.pdl_forkrules.specs.Order as order
+use Rattle.pdl_word.proofs.Lists.{drop_next}
 
 asked : (r : ForkRule) (p : Pipe) (before : List Place) (x : Place) → breaks_rule (order.rule_of r) p before x ≡ order.breaks_fork_rule r p before x
 unfolding order.breaks_fork_rule

@@ -1,4 +1,6 @@
 //! The flat form of a pipe: its statements in text order over numbered variables and memories, each with its stage and its guards, and its stages.
+//!
+//! The layers above may use its types, and read a `FlatPipe` by its calls; contracts see it as the flat form of the definitions.
 #![tactic(auto)]
 
 pub mod flat;

@@ -1,11 +1,11 @@
 -- The memories of a pipe that keeps the rules, by name and by number.
-use Rattle.std.proofs.Common.{◌≡◌, refl, sym, ap, ap₂, ◌∙◌, ℕ, suc, ◌<◌, Bool, true, false, ◌||◌, ◌&&◌, if◌then◌else◌, nat_le, List, [], ◌∷◌, ◌++◌, map, length, slice_index_or, Option, Some, None, is_some, bytes_eq, ◌==◌, append_assoc, ⊎_elim, leb-true}
+use Rattle.std.proofs.Common.{◌≡◌, refl, sym, ap, ap₂, ◌∙◌, ℕ, suc, ◌<◌, Bool, true, false, ◌||◌, ◌&&◌, if◌then◌else◌, nat_le, List, [], ◌∷◌, ◌++◌, map, length, slice_index_or, bytes_eq, ◌==◌, append_assoc, ⊎_elim, leb-true}
 use Rattle.std.specs.Prelude.{IsTrue}
 use Rattle.std.specs.List.{list_any, list_all}
 use Rattle.std.proofs.lemmas.Bool.{false≢true, and_parts, and_from, or_cases, or_left, or_right, not-false}
 use Rattle.std.proofs.lemmas.List.Folds.{list_any-append}
 use Rattle.pdl_kit.specs.declared.rule.Rule.TheVariants.{Z7}
-use Rattle.pdl_semantics.specs.Tree.{Stmt, If, Stmts, Nil, Cons, LockKind, Queue, Bypass, Rename, LockDecl, Mem, Pipe}
+use Rattle.pdl_semantics.specs.Tree.{Stmt, If, Stmts, Nil, Cons, Mem, Pipe}
 use Rattle.pdl_semantics.specs.Flat as flat
 use Rattle.pdl_semantics.specs.Flat.{has_lock}
 use Rattle.pdl_semantics.specs.Flatten.{mem_of, mem_width, flat_lock, mems_of}
@@ -24,6 +24,7 @@ use Rattle.pdl_formtypes.specs.Stmts.{IsTypedMem, AreTypedMems}
 use Rattle.pdl_formtypes.proofs.Values.{IsWide}
 use Rattle.pdl_formtypes.proofs.Found.{rest_named, number_step}
 use Rattle.pdl_rules.proofs.Defined.{no_params}
+use Rattle.pdl_semantics.proofs.Facts.{lock_declared}
 
 -- SIZES
 
@@ -83,20 +84,11 @@ pub found_depth : (ms : List Mem) (m : List ℕ) → (mem_found ms m).depth ≡ 
 found_depth [] m = refl
 found_depth (x ∷ ms) m = found_step (λ (y : flat.Mem). y.depth) (bytes_eq x.name.name m) _ (mems_of ms) (mem_of ms m) (mem_depth ms m) (found_depth ms m)
 
-same_lock : (l : Option LockDecl) → has_lock (flat_lock l) ≡ is_some l
-same_lock None = refl
-same_lock (Some l) = of_kind l.kind refl
-  where
-    of_kind : (k : LockKind) → l.kind ≡ k → has_lock (flat_lock (Some l)) ≡ true
-    of_kind Queue e = rw e refl
-    of_kind Bypass e = rw e refl
-    of_kind Rename e = rw e refl
-
 pub found_lock : (ms : List Mem) (m : List ℕ) → has_lock (mem_found ms m).lock ≡ is_locked ms m
 found_lock [] m = refl
 found_lock (x ∷ ms) m =
     found_step (λ (y : flat.Mem). has_lock y.lock) (bytes_eq x.name.name m) _ (mems_of ms) (mem_of ms m) (is_locked ms m) (found_lock ms m)
-    ∙ ap (λ c. if bytes_eq x.name.name m then c else is_locked ms m) (same_lock x.lock)
+    ∙ ap (λ c. if bytes_eq x.name.name m then c else is_locked ms m) (lock_declared x.lock)
 
 wide_step : (b : Bool) (w u : ℕ) → IsWide w → (b ≡ false → IsWide u) → IsWide (if b then w else u)
 wide_step true w u h k = h

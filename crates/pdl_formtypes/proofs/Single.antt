@@ -6,7 +6,7 @@ use Rattle.std.proofs.lemmas.Bool.{true≢false, eqb-true, not-false}
 use Rattle.pdl_kit.specs.declared.rule.Rule.TheVariants.{N2, W5, W6, F5}
 use Rattle.pdl_semantics.specs.Tree.{Expr, Location, R, W, Stmt, Separator, CombRead, Bind, SpecCall, DelayedRead, Write, Reserve, Block, Release, If, Call, Verify, SpecCheck, SpecBarrier, Param, Pipe}
 use Rattle.pdl_semantics.specs.Flat as flat
-use Rattle.pdl_semantics.specs.Flatten.{Var, var_of, mem_of, mems_of, mem_width, width_of, flat_expr, flat_exprs, flat_stmt, past, past_all, at_start}
+use Rattle.pdl_semantics.specs.Flatten.{var_of, mem_of, mems_of, mem_width, width_of, flat_expr, flat_exprs, flat_stmt, past}
 use Rattle.pdl_semantics.specs.Flatten
 use Rattle.pdl_form.specs.Form.{form_of}
 use Rattle.pdl_rules.specs.Places.{Place, Statement, Branch, places}
@@ -23,14 +23,11 @@ use Rattle.pdl_formtypes.proofs.After.{After, after_same, after_more, has_letter
 use Rattle.pdl_formtypes.proofs.Standing.{fits, tree_typed, tree_arguments, memory, located, locked}
 use Rattle.pdl_formtypes.proofs.Starting.{params_are}
 use Rattle.pdl_formtypes.proofs.Growing.{begins_same, new_last}
+use Rattle.pdl_semantics.proofs.Facts.{all_vars}
 
 abbrev pub is_if : Stmt → Bool
 is_if (If _ _ _ _) = true
 is_if _ = false
-
--- all variables
-abbrev pub all_vars : Pipe → List Var
-all_vars p = (past_all p.mems p.body (at_start p)).vars
 
 module _ (p : Pipe) (rules : KeepsRules p) (before : List Place) (bs : List Branch) (later : List Place) (w : Flatten.Position) (b : After p before w.vars) where
   -- ITS FLAT STATEMENT

@@ -5,7 +5,7 @@ use Rattle.pdl_kit.specs.declared.rule.Rule.TheVariants.{W3}
 use Rattle.pdl_semantics.specs.Tree.{Span, Expr, Variable, Stmt, If, Stmts, Nil, Cons, Pipe}
 use Rattle.pdl_semantics.specs.Tree
 use Rattle.pdl_semantics.specs.Flat as flat
-use Rattle.pdl_semantics.specs.Flatten.{Graph, guard_of, with_guard, back_in, at_otherwise, past, past_all, binds_guard, under, flat_stmt, flat_stmts, separators, entry, side, with_merge, graph_with_fork, graph_with_stage, graph_before, graph, mems_of, width_of}
+use Rattle.pdl_semantics.specs.Flatten.{Graph, guard_of, with_guard, at_otherwise, past, past_all, binds_guard, under, flat_stmt, flat_stmts, separators, side, with_merge, graph_with_fork, graph_with_stage, graph_before, graph, mems_of, width_of}
 use Rattle.pdl_semantics.specs.Flatten
 use Rattle.pdl_form.specs.Form.{form_of}
 use Rattle.pdl_rules.specs.Places.{Place, Statement, Branch, with_inner, statements, places}
@@ -19,7 +19,8 @@ use Rattle.pdl_formtypes.proofs.Values.{Alike, alike}
 use Rattle.pdl_formtypes.proofs.After.{After, after_same, after_guard}
 use Rattle.pdl_formtypes.proofs.Standing.{fits, tree_typed}
 use Rattle.pdl_formtypes.proofs.Growing.{new_last, guard_begins, past_all_begins}
-use Rattle.pdl_formtypes.proofs.Single.{all_vars, single, after_single}
+use Rattle.pdl_formtypes.proofs.Single.{single, after_single}
+use Rattle.pdl_semantics.proofs.Facts.{all_vars}
 
 -- LISTS
 

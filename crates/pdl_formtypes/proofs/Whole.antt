@@ -14,8 +14,8 @@ use Rattle.pdl_formtypes.proofs.Memories.{typed_mems}
 use Rattle.pdl_formtypes.proofs.After.{by_params, by_body, after_front}
 use Rattle.pdl_formtypes.proofs.Starting.{params_few, start_below}
 use Rattle.pdl_formtypes.proofs.Growing.{begins_same}
-use Rattle.pdl_formtypes.proofs.Single.{all_vars}
 use Rattle.pdl_formtypes.proofs.Walking.{AllWalked, all_walked}
+use Rattle.pdl_semantics.proofs.Facts.{all_vars}
 
 module _ (p : Pipe) (rules : KeepsRules p) where
   mems : AreTypedMems (mems_of p.mems)

@@ -1,5 +1,6 @@
 pub mod Grammar
 pub mod Text
+pub mod ReadingExprs
 pub mod Reading
 pub mod Automaton
 pub mod Read

@@ -28,7 +28,7 @@ fn boxed(alloc: Global, e: Expr) -> Result<Boxed<Expr>, Stop>
 }
 
 // The two numbers of a slice, after its bracket.
-#[tactic(auto, unfolding(crate::specs::Reading::bounds))]
+#[tactic(auto, unfolding(crate::specs::ReadingExprs::bounds))]
 fn bounds(tokens: &mut Cursor<'_>) -> Result<Bounds, Stop>
     ensures { Reads bounds_view (spec.bounds tokens.old) result tokens.new }
 {
@@ -177,7 +177,7 @@ fn sign_extended(alloc: Global, tokens: &mut Cursor<'_>, room: usize) -> Result<
 
 // What stands between operators.
 #[cycle(expr)]
-#[tactic(auto, unfolding(crate::specs::Reading::operand, crate::specs::Reading::literal))]
+#[tactic(auto, unfolding(crate::specs::ReadingExprs::operand, crate::specs::ReadingExprs::literal))]
 fn operand(alloc: Global, tokens: &mut Cursor<'_>, room: usize) -> Result<Boxed<Expr>, Stop>
     ensures { Reads expr_view (spec.operand (spec.inside room) tokens.old) result tokens.new }
 {
@@ -267,7 +267,7 @@ fn operator_at(tokens: &Cursor<'_>, n: u32) -> Option<BinaryOp>
 
 // Operands, and the operators that bind tighter than looseness n, which group to the left.
 #[cycle(expr)]
-#[tactic(auto, using(crate::proofs::Inside::level_none, crate::proofs::Inside::level_more, crate::proofs::Inside::level_fails), unfolding(crate::specs::Reading::chain))]
+#[tactic(auto, using(crate::proofs::Inside::level_none, crate::proofs::Inside::level_more, crate::proofs::Inside::level_fails), unfolding(crate::specs::ReadingExprs::chain))]
 fn level(alloc: Global, tokens: &mut Cursor<'_>, room: usize, n: u32) -> Result<Boxed<Expr>, Stop>
     requires { n ≤ levels }
     ensures { Reads expr_view (spec.level (spec.operand (spec.inside room)) room n tokens.old)
@@ -309,7 +309,7 @@ fn arms(
 
 /// An expression of at most `room` tokens.
 #[cycle(expr)]
-#[tactic(auto, unfolding(crate::specs::Reading::full))]
+#[tactic(auto, unfolding(crate::specs::ReadingExprs::full))]
 pub fn expr(alloc: Global, tokens: &mut Cursor<'_>, room: usize) -> Result<Boxed<Expr>, Stop>
     ensures { Reads expr_view (spec.expr room tokens.old) result tokens.new }
 {

@@ -27,7 +27,7 @@ pub fn across(first: Span, last: Span) -> Span
 }
 
 // A location, and where the semicolon after it stands.
-#[tactic(auto, unfolding(crate::specs::Reading::ended))]
+#[tactic(auto, unfolding(crate::specs::ReadingExprs::ended))]
 fn ended_place(alloc: Global, tokens: &mut Cursor<'_>) -> Result<Held, Stop>
     ensures { Reads held_view (spec.ended spec.place tokens.old) result tokens.new }
 {
@@ -37,7 +37,7 @@ fn ended_place(alloc: Global, tokens: &mut Cursor<'_>) -> Result<Held, Stop>
 }
 
 // An expression, and where the semicolon after it stands.
-#[tactic(auto, unfolding(crate::specs::Reading::ended))]
+#[tactic(auto, unfolding(crate::specs::ReadingExprs::ended))]
 fn ended_expr(alloc: Global, tokens: &mut Cursor<'_>, room: usize) -> Result<ExprEnd, Stop>
     ensures { Reads expr_end_view (spec.ended (spec.expr room) tokens.old) result tokens.new }
 {
@@ -47,7 +47,7 @@ fn ended_expr(alloc: Global, tokens: &mut Cursor<'_>, room: usize) -> Result<Exp
 }
 
 // Arguments, and where the semicolon after them stands.
-#[tactic(auto, unfolding(crate::specs::Reading::ended))]
+#[tactic(auto, unfolding(crate::specs::ReadingExprs::ended))]
 fn ended_args(alloc: Global, tokens: &mut Cursor<'_>, room: usize) -> Result<ArgsEnd, Stop>
     ensures { Reads args_end_view (spec.ended (spec.args room) tokens.old) result tokens.new }
 {

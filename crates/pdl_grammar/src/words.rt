@@ -12,7 +12,7 @@ use pdl_tree::{Ident, Kind, Literal, Location, LockKind, Number, Span};
 use std::alloc::Global;
 
 /// Takes a keyword or a symbol, and tells where it stands.
-#[tactic(auto, unfolding(crate::specs::Reading::take))]
+#[tactic(auto, unfolding(crate::specs::ReadingExprs::take))]
 pub fn take(tokens: &mut Cursor<'_>, mark: Mark) -> Result<Span, Stop>
     ensures { Reads span_view (spec.take mark tokens.old) result tokens.new }
 {
@@ -26,7 +26,7 @@ pub fn take(tokens: &mut Cursor<'_>, mark: Mark) -> Result<Span, Stop>
 }
 
 /// Takes a name.
-#[tactic(auto, unfolding(crate::specs::Reading::name))]
+#[tactic(auto, unfolding(crate::specs::ReadingExprs::name))]
 pub fn name(alloc: Global, tokens: &mut Cursor<'_>) -> Result<Ident, Stop>
     ensures { Reads ident_view (spec.name tokens.old) result tokens.new }
 {
@@ -41,7 +41,7 @@ pub fn name(alloc: Global, tokens: &mut Cursor<'_>) -> Result<Ident, Stop>
 }
 
 /// Takes a number.
-#[tactic(auto, unfolding(crate::specs::Reading::number))]
+#[tactic(auto, unfolding(crate::specs::ReadingExprs::number))]
 pub fn number(tokens: &mut Cursor<'_>) -> Result<Number, Stop>
     ensures { Reads number_view (spec.number tokens.old) result tokens.new }
 {
@@ -56,7 +56,7 @@ pub fn number(tokens: &mut Cursor<'_>) -> Result<Number, Stop>
 }
 
 /// Takes a literal.
-#[tactic(auto, unfolding(crate::specs::Reading::literal))]
+#[tactic(auto, unfolding(crate::specs::ReadingExprs::literal))]
 pub fn literal(tokens: &mut Cursor<'_>) -> Result<Literal, Stop>
     ensures { Reads literal_view (spec.literal tokens.old) result tokens.new }
 {
@@ -71,7 +71,7 @@ pub fn literal(tokens: &mut Cursor<'_>) -> Result<Literal, Stop>
 }
 
 /// Takes an `R` or a `W`.
-#[tactic(auto, unfolding(crate::specs::Reading::access))]
+#[tactic(auto, unfolding(crate::specs::ReadingExprs::access))]
 pub fn access(tokens: &mut Cursor<'_>) -> Result<Kind, Stop>
     ensures { Reads kind_view (spec.access tokens.old) result tokens.new }
 {
@@ -129,7 +129,7 @@ pub fn pace(tokens: &mut Cursor<'_>) -> Result<bool, Stop>
 }
 
 // Takes a name in square brackets.
-#[tactic(auto, unfolding(crate::specs::Reading::index))]
+#[tactic(auto, unfolding(crate::specs::ReadingExprs::index))]
 fn index(alloc: Global, tokens: &mut Cursor<'_>) -> Result<Ident, Stop>
     ensures { Reads ident_view (spec.index tokens.old) result tokens.new }
 {
@@ -140,7 +140,7 @@ fn index(alloc: Global, tokens: &mut Cursor<'_>) -> Result<Ident, Stop>
 }
 
 /// Takes a location.
-#[tactic(auto, unfolding(crate::specs::Reading::place))]
+#[tactic(auto, unfolding(crate::specs::ReadingExprs::place))]
 pub fn place(alloc: Global, tokens: &mut Cursor<'_>) -> Result<Location, Stop>
     ensures { Reads location_view (spec.place tokens.old) result tokens.new }
 {

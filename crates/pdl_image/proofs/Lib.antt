@@ -1,5 +1,4 @@
 pub mod Parts
-pub mod Numbers
 pub mod LineWords
 pub mod MapSet
 pub mod Filling

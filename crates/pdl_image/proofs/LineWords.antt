@@ -4,7 +4,8 @@ use Rattle.std.proofs.lemmas.Bool.{cases_Bool, and_parts, and_left, eqb-true}
 use Rattle.std.proofs.lemmas.List.Splits.{slice_split-cons_no, join_with_byte-slice_split}
 use Rattle.std.specs.List.{onto_first, join_with_byte, list_all}
 use Rattle.std.specs.Str.Parse.{digits_value}
-use Rattle.pdl_image.specs.Images.{Word, fields, word_of, word_of_parts, is_name, are_digits, is_digit_of}
+use Rattle.pdl_image.specs.Images.{Word, fields, word_of, word_of_parts, is_name}
+use Rattle.pdl_word.specs.Digits.{is_digit_of, are_digits}
 
 abbrev word_if : Bool → List ℕ → List ℕ → List ℕ → Option Word
 word_if b n a v = cond b (Some (record { name = n; address = digits_value 10 a; value = digits_value 16 v })) None

@@ -1,22 +1,19 @@
 -- Lines that give words, read back as an image.
-use Rattle.std.proofs.Common.{◌≡◌, ◌≢◌, ℕ, zero, suc, ◌+◌, ◌*◌, ◌^◌, ◌<◌, ◌≤◌, refl, sym, ◌∙◌, ap, subst, arith, inl, inr, Bool, true, false, cond, ◌&&◌, eqb, leb, zero-add, List, [], ◌∷◌, ◌++◌, length, map, get_or, append_assoc, Option, Some, None, is_some, unwrap_or, Result, Ok, Err, codes}
+use Rattle.std.proofs.Common.{◌≡◌, ◌≢◌, ℕ, zero, suc, ◌+◌, ◌*◌, ◌^◌, ◌<◌, ◌≤◌, refl, sym, ◌∙◌, ap, subst, arith, inl, inr, Bool, true, false, cond, ◌&&◌, eqb, zero-add, List, [], ◌∷◌, ◌++◌, map, get_or, append_assoc, Option, Some, None, unwrap_or, Ok, codes}
 use Rattle.std.specs.Prelude.{flat_map}
-use Rattle.std.specs.List.{range_with_len, list_all, slice_split}
+use Rattle.std.specs.List.{range_with_len, list_all}
 use Rattle.std.specs.Str.Parse.{digits_value}
 use Rattle.std.proofs.lemmas.Bool.{cases_Bool, cases_order, and_parts, eqb-true, lt-leb}
 use Rattle.std.proofs.lemmas.List.FromFn.{get_or-range_with_len, length-range_with_len}
 use Rattle.std.proofs.lemmas.List.Splits.{slice_split-cons_yes, slice_split-cons_no}
 use Rattle.std.proofs.lemmas.Slice.Eq.{bytes_eq-Decides}
-use Rattle.std.specs.Str.{bytes_eq}
 use Rattle.pdl_kit.specs.declared.mem_info.MemInfo.{MemInfo}
-use Rattle.pdl_kit.specs.declared.rule.Rule.{Rule}
-use Rattle.pdl_kit.specs.declared.rule.Rule.TheVariants.{I4, I5, I6}
 use Rattle.pdl_image.specs.Lines.{lines, byte_before}
-use Rattle.pdl_image.specs.Images.{Word, are_digits, at_line, broken_rule, broken_by, broken_in, contents, fields, first_wrong, given_value, image, image_after, after_header, is_digit_of, is_letter, is_name, is_name_byte, mem_of, or_else, says_nothing, value_at, word_of, words_of}
-use Rattle.pdl_image.specs.declared.file_error.FileError.{FileError}
-use Rattle.pdl_image.proofs.Filling.{given_push, or_else_none, value_other, value_same}
+use Rattle.pdl_image.specs.Images.{Word, at_line, broken_rule, broken_by, broken_in, contents, fields, first_wrong, given_value, image, image_after, after_header, is_letter, is_name, is_name_byte, mem_of, or_else, says_nothing, value_at, word_of, words_of}
+use Rattle.pdl_image.proofs.Filling.{given_push, value_other, value_same}
 use Rattle.pdl_image.proofs.LineWords.{word_found}
 use Rattle.pdl_image.proofs.MapSet.{map_same}
+use Rattle.pdl_word.specs.Digits.{is_digit_of, are_digits}
 
 -- ---- a line
 

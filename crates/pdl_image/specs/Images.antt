@@ -1,6 +1,5 @@
 -- What an image file is: the line `image 1`, and then lines that give words of memories.
-use Rattle.std.specs.Prelude.{◌≡◌, ℕ, ◌+◌, ◌^◌, ◌<◌, ◌==◌, nat_le, nat_lt, Bool, true, false, not, ◌&&◌, ◌||◌, List, [], ◌∷◌, ◌++◌, length, map, slice_index, slice_index_or, Option, Some, None, is_some, unwrap_or, Result, Ok, Err, codes, if◌then◌else◌}
-use Rattle.std.specs.Char.{digit_value}
+use Rattle.std.specs.Prelude.{◌≡◌, ℕ, ◌+◌, ◌^◌, ◌<◌, ◌==◌, nat_le, nat_lt, Bool, true, false, ◌&&◌, ◌||◌, List, [], ◌∷◌, ◌++◌, length, map, slice_index, slice_index_or, Option, Some, None, is_some, unwrap_or, Result, Ok, Err, codes, if◌then◌else◌}
 use Rattle.std.specs.List.{list_all, find, slice_split, range_with_len}
 use Rattle.std.specs.Str.{bytes_eq}
 use Rattle.std.specs.Str.Parse.{digits_value}
@@ -10,14 +9,11 @@ use Rattle.pdl_kit.specs.declared.rule.Rule.TheVariants.{I1, I2, I3, I4, I5, I6}
 use Rattle.pdl_image.specs.Lines.{lines}
 use Rattle.pdl_image.specs.declared.file_error.FileError.{FileError}
 use Rattle.pdl_image.specs.declared.file_error.FileError.TheVariants.{Refused, NoMemory}
+use Rattle.pdl_word.specs.Digits.{is_digit_of, are_digits}
 
 -- a lower letter
 abbrev pub is_letter : ℕ → Bool
 is_letter c = nat_le 97 c && nat_le c 122
-
--- a digit of a base up to 36, where a letter is a lower one
-abbrev pub is_digit_of : ℕ → ℕ → Bool
-is_digit_of base c = nat_lt (digit_value c) base && not (nat_le 65 c && nat_le c 90)
 
 -- what may follow a name's first letter: letters, digits and `_`
 abbrev pub is_name_byte : ℕ → Bool
@@ -27,10 +23,6 @@ is_name_byte c = is_letter c || (is_digit_of 10 c || c == 95)
 abbrev pub is_name : List ℕ → Bool
 is_name [] = false
 is_name (c ∷ cs) = is_letter c && (nat_lt (length cs) 32 && list_all is_name_byte cs)
-
--- digits of a base, at least one and at most so many
-abbrev pub are_digits : ℕ → ℕ → List ℕ → Bool
-are_digits base most ds = list_all (is_digit_of base) ds && (nat_le 1 (length ds) && nat_le (length ds) most)
 
 -- a word that a line gives: the memory's name, the address and the value
 pub record Word : Type 0 where

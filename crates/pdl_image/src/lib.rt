@@ -1,4 +1,6 @@
 //! Files that a run reads beside its source: images, which give the words of memories at the start.
+//!
+//! The layers above may use `read_image` and `Image`.
 #![tactic(auto)]
 
 mod fields;

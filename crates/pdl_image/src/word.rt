@@ -2,7 +2,8 @@
 ghost use Rattle.std.specs.Prelude.{MatchOption, None, Some, ◌≡◌};
 ghost use Rattle.pdl_image.specs.Images.{says_nothing as says_nothing_of, word_of};
 
-use crate::fields::{is_name, read_number, split_field};
+use crate::fields::{is_name, split_field};
+use pdl_word::read_digits;
 
 /// A word that a line gives: the memory's name, the address and the value.
 #[derive(Clone, Copy)]
@@ -32,7 +33,7 @@ pub fn read_word(line: &[u8]) -> Option<Word<'_>>
     }
     Some(Word {
         name,
-        address: read_number(address, 10, 10)?,
-        value: read_number(value, 16, 16)?,
+        address: read_digits(address, 10, 10)? as u64,
+        value: read_digits(value, 16, 16)? as u64,
     })
 }

@@ -13,10 +13,10 @@ use Rattle.pdl_turns.proofs.CourseOf
 use Rattle.pdl_simulation.proofs.Joined.{sound_flows}
 use Rattle.pdl_derived.proofs.Lists.{pend}
 use Rattle.pdl_simulation.proofs.Stretches.{Behind, on_way}
-use Rattle.pdl_simulation.proofs.Seats.{Live, Each, each_map, Ordered, Falls, falls_each, pends, befores_are}
+use Rattle.pdl_simulation.proofs.Seats.{Live, each_map, Ordered, Falls, falls_each, pends, befores_are}
 use Rattle.pdl_simulation.proofs.Choices.{AllKnown, Seated, Matched}
 use Rattle.pdl_simulation.proofs.Telling.{sides}
-use Rattle.pdl_simulation.proofs.Together.{Sim, HaveMade, known}
+use Rattle.pdl_simulation.proofs.Together.{known}
 use Rattle.pdl_invariant.proofs.OldestFirst.{told, oldest_first, live_is, all_each, Pairwise, pairs_all}
 use Rattle.pdl_invariant.proofs.Stage.{barred}
 use Rattle.pdl_invariant.proofs.Lasting.{Lasting, Along}
@@ -24,6 +24,8 @@ use Rattle.pdl_invariant.proofs.Reached.{Whole, Youngest}
 use Rattle.pdl_invariant.proofs.Order.{behind_is, sides_are, sides_same, from_all}
 use Rattle.pdl_invariant.proofs.Points.{chain, asks_point, owner_any, blocks_point, path_point, any_onto, both_true}
 use Rattle.pdl_invariant.proofs.Local.{any_append, any_front}
+use Rattle.pdl_word.specs.Each.{Each}
+use Rattle.pdl_simulation.proofs.Simulated.{HaveMade, Sim}
 
 module _ (p : Pipe) (sound : Sound p) (st : State) (d : Derived.State) (ls : List Live) (sim : Sim p st d ls) (whole : Whole p st ls) where
   pub live_here : live st ≡ oldest_first ls

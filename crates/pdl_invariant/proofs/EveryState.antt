@@ -11,8 +11,7 @@ use Rattle.pdl_turns.proofs.CourseOf.{course}
 use Rattle.pdl_refinement.proofs.Follows
 use Rattle.pdl_refinement.proofs.Spots.{Spot, seats, is_nil}
 use Rattle.pdl_derived.proofs.Slots.{rev}
-use Rattle.pdl_simulation.proofs.Seats.{threads_of, Each}
-use Rattle.pdl_simulation.proofs.Together.{Sim}
+use Rattle.pdl_simulation.proofs.Seats.{threads_of}
 use Rattle.pdl_semantics.specs.Machine.{same_args}
 use Rattle.pdl_semantics.specs.Sound
 use Rattle.pdl_semantics.specs.Cycle
@@ -34,6 +33,8 @@ use Rattle.pdl_invariant.proofs.Order.{from_all}
 use Rattle.pdl_invariant.proofs.TurnByTurn.{lined, behind, parted, past_is, pairs_good, strays_good}
 use Rattle.pdl_invariant.proofs.Holders.{holders_same, holders_point}
 use Rattle.pdl_invariant.proofs.AllThreads.{live_here, order_point, chain_point, certain_point, requests_point, owners_point, ready_point, paths_point}
+use Rattle.pdl_word.specs.Each.{Each}
+use Rattle.pdl_simulation.proofs.Simulated.{Sim}
 
 true_is : (b : Bool) → b ≡ true → IsTrue b
 true_is b h = h

@@ -11,20 +11,17 @@ use Rattle.pdl_facts.specs.Scans.{none_of, Phase, Fresh, Held, Written, Done}
 use Rattle.pdl_simulation.proofs.FlowFacts.{Flows, stage_or}
 use Rattle.pdl_derived.proofs.Writes.{and_left, and_right}
 use Rattle.pdl_derived.proofs.Entries.{entries_of, filled_other, without_own, without_other, entries_of-filled}
-use Rattle.pdl_turns.proofs.Marks.{latest_own}
+use Rattle.pdl_turns.proofs.Marks.{latest_own, Calm}
 use Rattle.pdl_derived.proofs.Stages.{step}
 use Rattle.pdl_turns.proofs.Turn.{none_in_stage}
 use Rattle.pdl_simulation.proofs.Shapes.{Shape}
 use Rattle.pdl_simulation.proofs.Stretches.{Behind, late, start_of}
-use Rattle.pdl_simulation.proofs.Seats.{Live, threads_of, Each, Ordered, dacts, did, now_of, work_of_live}
+use Rattle.pdl_simulation.proofs.Seats.{Live, threads_of, Ordered, dacts, did, now_of, work_of_live}
 use Rattle.pdl_simulation.proofs.Choices.{AllKnown, ends_here}
 use Rattle.pdl_simulation.proofs.Turned.{fell, moved_live, stood, go_on}
 use Rattle.pdl_simulation.proofs.Placed.{ways_on, behind_stay}
 use Rattle.pdl_simulation.proofs.Placed
-
--- the second says no less ready a thing than the first
-abbrev pub Calm : Latest → Latest → Type 0
-Calm l k = (is_nothing l ≡ true → is_nothing k ≡ true) × (is_coming l ≡ false → is_coming k ≡ false)
+use Rattle.pdl_word.specs.Each.{Each}
 
 pub calm_write : (lock : Lock) (l k : Latest) → Calm l k → write_ready lock l ≡ true → write_ready lock k ≡ true
 calm_write Plain l k c h = refl

@@ -36,7 +36,7 @@ use Rattle.pdl_derived.proofs.Entries.{entries_of}
 use Rattle.pdl_derived.proofs.Lists.{own, pend}
 use Rattle.pdl_turns.proofs.Own.{pend_own}
 use Rattle.pdl_simulation.proofs.Stretches.{on_way, awaits_var, early}
-use Rattle.pdl_simulation.proofs.Seats.{Live, seat, threads_of, Each}
+use Rattle.pdl_simulation.proofs.Seats.{Live, seat, threads_of}
 use Rattle.pdl_simulation.proofs.Choices.{Seated, Matched, OwnedBy, AllOwned}
 use Rattle.pdl_invariant.proofs.OldestFirst.{told, oldest_first}
 use Rattle.pdl_invariant.proofs.Past.{AllOps, AnyOp, ops_both, any_both, onto, touches, AskedBy}
@@ -45,6 +45,8 @@ use Rattle.pdl_invariant.proofs.Lasting.{awaited_map, any_ask_map}
 use Rattle.pdl_invariant.proofs.Points.{onto_any}
 use Rattle.pdl_invariant.proofs.Mine.{Mine, of_thread, all_append}
 use Rattle.pdl_invariant.proofs.OnTurn.{AllEntries, turn_way, turn_env, turn_entries, turn_guess, turn_wrong}
+use Rattle.pdl_word.specs.Each.{Each}
+use Rattle.pdl_word.proofs.Each.{each_push}
 
 abbrev pub tells : List Live → List Sound.Live
 tells [] = []
@@ -66,13 +68,9 @@ pub threads_back : (ls : List Live) → rev (threads_of ls) ≡ threads_of (rev 
 threads_back [] = refl
 threads_back (l ∷ ls) = ap (λ k. k ++ l.thread ∷ []) (threads_back ls) ∙ sym (threads_snoc (rev ls) l)
 
-each_snoc : (P : Live → Type 0) (xs : List Live) (l : Live) → Each P xs → P l → Each P (xs ++ l ∷ [])
-each_snoc P [] l h k = (k, tt)
-each_snoc P (x ∷ xs) l h k = (h.0, each_snoc P xs l h.1 k)
-
 pub each_back : (P : Live → Type 0) (ls : List Live) → Each P ls → Each P (rev ls)
 each_back P [] h = tt
-each_back P (l ∷ ls) h = each_snoc P (rev ls) l (each_back P ls h.1) h.0
+each_back P (l ∷ ls) h = each_push P (rev ls) l (each_back P ls h.1) h.0
 
 -- answers change only what is awaited
 not_awaited : (g : ℕ) (qs : List Ask) → awaits_var (awaited_of qs) g ≡ false → AllAsks (λ q. not (q.var == g) ≡ true) qs

@@ -10,12 +10,13 @@ use Rattle.pdl_facts.specs.Facts.{Sound}
 use Rattle.pdl_turns.proofs.Guesses.{same_args_refl}
 use Rattle.pdl_derived.proofs.Deeds.{places}
 use Rattle.pdl_derived.proofs.Lists.{own, pend}
-use Rattle.pdl_simulation.proofs.Seats.{Live, Each, each_map, pends}
-use Rattle.pdl_simulation.proofs.Together.{Sim}
+use Rattle.pdl_simulation.proofs.Seats.{Live, each_map, pends}
 use Rattle.pdl_invariant.proofs.OldestFirst.{told, oldest_first}
 use Rattle.pdl_invariant.proofs.Order.{from_all}
 use Rattle.pdl_invariant.proofs.Reached.{Whole}
 use Rattle.pdl_invariant.proofs.AllThreads.{live_here}
+use Rattle.pdl_word.specs.Each.{Each}
+use Rattle.pdl_simulation.proofs.Simulated.{Sim}
 
 owners_append : (xs ys : List Pending) → owners (xs ++ ys) ≡ owners xs ++ owners ys
 owners_append [] ys = refl

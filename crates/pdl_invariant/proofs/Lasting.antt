@@ -3,7 +3,7 @@ use Rattle.std.proofs.Common.{◌≡◌, refl, sym, subst, ℕ, ◌≤◌, ◌<�
 use Rattle.pdl_semantics.specs.Flat.{Pipe, Op, SpecBarrier, Block, Stmt, Branch, all_hold}
 use Rattle.pdl_semantics.specs.Stages.{onpath, in_stage, stage_at, goes_to, verify_stage, reserve_stage, mem_at}
 use Rattle.pdl_semantics.specs.Locks.{read_ready, write_ready}
-use Rattle.pdl_semantics.specs.Machine.{Ask, Awaited, Kept, is_answered, State, Owned, request_of}
+use Rattle.pdl_semantics.specs.Machine.{Ask, Awaited, is_answered, State, Owned, request_of}
 use Rattle.pdl_semantics.specs.Moves.{movers}
 use Rattle.pdl_semantics.specs.Cycle.{awaited_of, squasher, is_kept}
 use Rattle.pdl_semantics.specs.Sound.{is_barrier}
@@ -19,12 +19,12 @@ use Rattle.pdl_simulation.proofs.Joined.{sound_flows}
 use Rattle.pdl_derived.proofs.Answering.{AllAsks, found}
 use Rattle.pdl_turns.proofs.CourseOf.{apart_asks}
 use Rattle.pdl_simulation.proofs.Stretches.{Behind, AsksFrom, AllFetched, fixed_here, start_of, on_way, Keeps}
-use Rattle.pdl_simulation.proofs.Seats.{Live, threads_of, Each, each_map, Ordered, dacts, lacts, did, now_of, work_of_live, befores_are}
+use Rattle.pdl_simulation.proofs.Seats.{Live, threads_of, each_map, Ordered, dacts, lacts, did, now_of, work_of_live, befores_are}
 use Rattle.pdl_simulation.proofs.Choices.{Known, AllKnown, keeps_now, told_here, asks_here}
 use Rattle.pdl_simulation.proofs.Turned.{fell, moved_one, stood, next_live, go_on}
-use Rattle.pdl_simulation.proofs.Placed.{each_append, each_next, leads_of}
+use Rattle.pdl_simulation.proofs.Placed.{each_next, leads_of}
 use Rattle.pdl_simulation.proofs.Asked.{asking}
-use Rattle.pdl_simulation.proofs.Together.{Sim, fetch_low, request_stays, request_made}
+use Rattle.pdl_simulation.proofs.Together.{fetch_low, request_stays, request_made}
 use Rattle.pdl_invariant.specs.Strict.{Strict}
 use Rattle.pdl_invariant.proofs.Past.{AllOps, ops_map, ops_both, onto, BlockOk, Past, Kind}
 use Rattle.pdl_invariant.proofs.Trails.{AllStmts, stmts_map, stmts_both, ops_stmts, Among, among_low}
@@ -32,6 +32,9 @@ use Rattle.pdl_invariant.proofs.Local.{Local, AnyAsk, AllAwaited, past_of, local
 use Rattle.pdl_invariant.proofs.Fading.{calm_write, read_write, calm_next}
 use Rattle.pdl_invariant.proofs.Stage.{barred, some_barrier, barred_onto, clear_all, look_at, block_like, kept_blocks, LowBlock, low_blocks}
 use Rattle.pdl_turns.proofs.Marks.{calm_ready}
+use Rattle.pdl_word.specs.Each.{Each}
+use Rattle.pdl_word.proofs.Each.{each_append}
+use Rattle.pdl_simulation.proofs.Simulated.{Sim}
 
 -- each awaited read is one of the requests, which are outstanding as its own
 abbrev pub Owns : State → ℕ → List Ask → List Awaited → Type 0

@@ -7,11 +7,10 @@ use Rattle.pdl_semantics.specs.Flat.{Op, Bind, CombRead, DelayedRead, Write, Res
 use Rattle.pdl_semantics.specs.Stages.{list_any, onpath, in_stage, stage_at, goes_to}
 use Rattle.pdl_semantics.specs.Machine.{Ask, Awaited, Kept, same_args, with_kept, State, answer_for, kept_answer, unanswered_reads}
 use Rattle.pdl_semantics.specs.Cycle.{awaited_of}
-use Rattle.pdl_semantics.specs.Sound.{one_of, is_fetch, stages_from}
+use Rattle.pdl_semantics.specs.Sound.{one_of, is_fetch, stages_from, is_call}
 use Rattle.pdl_semantics.specs.Machine
 use Rattle.pdl_derived.specs.Derived.{Entry, Work, Around, work_after, do_all, work_of_stage}
 use Rattle.pdl_derived.specs.Derived
-use Rattle.pdl_derived.specs.Alone.{is_call}
 use Rattle.pdl_facts.specs.Scans.{none_of, binds_var, called}
 use Rattle.pdl_facts.specs.Facts.{Sound, is_fetch_of}
 use Rattle.pdl_derived.proofs.Writes.{and_left}

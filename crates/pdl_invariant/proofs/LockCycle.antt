@@ -18,15 +18,17 @@ use Rattle.pdl_derived.proofs.Entries.{entries_of}
 use Rattle.pdl_derived.proofs.Lists.{pend, Reserveless, appended_back}
 use Rattle.pdl_turns.proofs.Own.{Worked, quiet_reserves, pend_own}
 use Rattle.pdl_simulation.proofs.Stretches.{Behind, keeps_next, on_way}
-use Rattle.pdl_simulation.proofs.Seats.{Live, Each, each_map, Falls, falls_each, Ordered, pends, lact, lacts, dacts, did, deeds_of, now_of, work_of_live}
+use Rattle.pdl_simulation.proofs.Seats.{Live, each_map, Falls, falls_each, Ordered, pends, lact, lacts, dacts, did, deeds_of, now_of, work_of_live}
 use Rattle.pdl_simulation.proofs.Telling.{Pair, pairs, EachPair, pair_both, pairs_each, sorted}
 use Rattle.pdl_simulation.proofs.Orders.{acts_of}
 use Rattle.pdl_simulation.proofs.Choices.{Seated, Known, AllKnown, keeps_now, worked_here, ends_here, fit_all}
 use Rattle.pdl_simulation.proofs.Swapped.{Swap, Swaps, same_movers}
 use Rattle.pdl_semantics.proofs.Facts.{put_all_length}
-use Rattle.pdl_invariant.specs.Use.{count_older, reserved_in, reserved_count}
+use Rattle.pdl_invariant.specs.Use.{reserved_in, reserved_count}
 use Rattle.pdl_invariant.proofs.PendingLists.{Within, within_append, within_one, of_append, of_pend, of_new, none_older, count_append}
 use Rattle.pdl_invariant.proofs.OwnWrites.{own_short, pend_short, one_pending, none_pending}
+use Rattle.pdl_semantics.specs.PendingLists.{count_older}
+use Rattle.pdl_word.specs.Each.{Each}
 
 as_many : (m n : ℕ) (rs : List Reserved) → reserved_in m rs ≡ length (new_entries m n rs)
 as_many m n [] = refl

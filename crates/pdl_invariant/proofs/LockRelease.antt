@@ -2,7 +2,7 @@
 use Rattle.std.proofs.Common.{◌≡◌, refl, sym, ap, ◌∙◌, subst, ℕ, suc, ◌+◌, ◌≤◌, ◌<◌, Bool, true, false, ◌||◌, List, [], ◌∷◌, ◌++◌, Some, ◌==◌, cond, arith, lt-ltb}
 use Rattle.pdl_semantics.specs.Flat.{Pipe}
 use Rattle.pdl_semantics.specs.Stages
-use Rattle.pdl_semantics.specs.Stages.{reserve_stage, commit_stage}
+use Rattle.pdl_semantics.specs.Stages.{commit_stage}
 use Rattle.pdl_semantics.specs.Machine.{State, Pending, Written}
 use Rattle.pdl_semantics.specs.Moves.{Act, movers}
 use Rattle.pdl_semantics.specs.Cycle.{with_reserves, with_value_of, with_writes_of, with_all_writes, but_oldest, has_release}
@@ -10,13 +10,14 @@ use Rattle.pdl_derived.specs.Derived
 use Rattle.pdl_simulation.proofs.FlowFacts.{Flows}
 use Rattle.pdl_derived.proofs.Lists.{pend}
 use Rattle.pdl_simulation.proofs.Stretches.{Behind}
-use Rattle.pdl_simulation.proofs.Seats.{Live, Each, Falls, Ordered, pends, lact, lacts, did, deeds_of}
+use Rattle.pdl_simulation.proofs.Seats.{Live, Falls, Ordered, pends, lact, lacts, did, deeds_of}
 use Rattle.pdl_simulation.proofs.Telling.{Pair, pairs, EachPair, pair_map, pairs_each}
 use Rattle.pdl_simulation.proofs.Choices.{Seated, AllKnown}
 use Rattle.pdl_simulation.proofs.Turned.{two, release_here, two_is, three_is}
-use Rattle.pdl_invariant.specs.Use.{count_older}
 use Rattle.pdl_invariant.proofs.PendingLists.{Within, count_filled}
 use Rattle.pdl_invariant.proofs.LockCycle.{within_new, appended_more}
+use Rattle.pdl_semantics.specs.PendingLists.{count_older}
+use Rattle.pdl_word.specs.Each.{Each}
 
 -- writes keep the threads of a list
 put_cons : (m n : ℕ) (ws : List Written) (e : Pending) (rest : List Pending) → (x : Pending) × (xs : List Pending) × (with_writes_of m n ws (e ∷ rest) ≡ x ∷ xs) × (x.thread ≡ e.thread)

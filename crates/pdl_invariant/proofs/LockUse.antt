@@ -12,14 +12,16 @@ use Rattle.pdl_simulation.proofs.Seats.{Live, pends, lact, lacts}
 use Rattle.pdl_simulation.proofs.Telling.{Pair, pairs, EachPair, pair_map, sorted, sorted_each}
 use Rattle.pdl_simulation.proofs.Orders.{acts_of}
 use Rattle.pdl_simulation.proofs.Swapped.{Swaps, swaps_all, same_any}
-use Rattle.pdl_simulation.proofs.Together.{Sim, known, acts_are}
+use Rattle.pdl_simulation.proofs.Together.{known, acts_are}
 use Rattle.pdl_invariant.specs.Strict.{Strict}
-use Rattle.pdl_invariant.specs.Use.{AreOrdered, count_older, AllActs, FindsOlder, moving, with_new, with_release, bit, reserved_count, Reserves, KeepsPlace, ShiftsPlace}
+use Rattle.pdl_invariant.specs.Use.{AllActs, FindsOlder, moving, with_new, with_release, bit, reserved_count, Reserves, KeepsPlace, ShiftsPlace}
 use Rattle.pdl_invariant.proofs.Reached.{reached}
 use Rattle.pdl_invariant.proofs.PendingLists.{within_ordered, count_filled}
 use Rattle.pdl_invariant.proofs.OwnWrites.{within_pends, all_older}
 use Rattle.pdl_invariant.proofs.LockCycle.{within_new, one_reserved, places_kept, same_appended, same_reserved}
 use Rattle.pdl_invariant.proofs.LockRelease.{count_released, some_pending, older_released}
+use Rattle.pdl_semantics.specs.PendingLists.{AreOrdered, count_older}
+use Rattle.pdl_simulation.proofs.Simulated.{Sim}
 
 module _ (p : Pipe) (sound : Sound p) (st : State) (d : Derived.State) (bits : List Bool) (ls : List Live) (sim : Sim p st d ls) (m : ℕ) where
   pub list_ordered : AreOrdered 0 (lock_of st m)

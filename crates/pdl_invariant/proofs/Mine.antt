@@ -6,9 +6,10 @@ use Rattle.pdl_semantics.specs.Machine.{State, Pending, lock_of}
 use Rattle.pdl_derived.specs.Derived.{Entry}
 use Rattle.pdl_derived.proofs.Writes.{and_left, and_right}
 use Rattle.pdl_derived.proofs.Lists.{own, pend}
-use Rattle.pdl_simulation.proofs.Seats.{Live, Each, Falls, pends}
+use Rattle.pdl_simulation.proofs.Seats.{Live, Falls, pends}
 use Rattle.pdl_invariant.proofs.Local.{Local}
 use Rattle.pdl_invariant.proofs.Lasting.{Lasting, Along, Owns}
+use Rattle.pdl_word.specs.Each.{Each}
 
 -- a test of the entries of one thread
 abbrev pub of_thread : ℕ → (Pending → Bool) → Pending → Bool

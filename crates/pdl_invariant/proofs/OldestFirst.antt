@@ -8,8 +8,9 @@ use Rattle.pdl_semantics.specs.Sound.{put_in, live_from, live, all_pairs}
 use Rattle.pdl_semantics.specs.Sound
 use Rattle.pdl_derived.proofs.Writes.{and_left, and_right}
 use Rattle.pdl_derived.proofs.Slots.{stages_same}
-use Rattle.pdl_simulation.proofs.Seats.{Live, seat, find, Each, Ordered, Rises, Falls, falls_each, rises_hi, rises_from, find_none}
+use Rattle.pdl_simulation.proofs.Seats.{Live, seat, find, Ordered, Rises, Falls, falls_each, rises_hi, rises_from, find_none}
 use Rattle.pdl_simulation.proofs.Telling.{Pair, place, sorted, lives_of, EachPair, sorted_each, pairs_each, find_sorted, rises_sorted}
+use Rattle.pdl_word.specs.Each.{Each}
 
 -- a live thread as the tests of Sound state see it, and all of them, oldest first
 abbrev pub told : Live → Sound.Live

@@ -5,11 +5,11 @@ use Rattle.pdl_semantics.specs.Flat.{Arrays, Pipe, Op, Bind, CombRead, DelayedRe
 use Rattle.pdl_semantics.specs.Stages.{list_any, onpath, in_stage, is_verify, verify_stage, reserve_stage}
 use Rattle.pdl_semantics.specs.Machine.{same_args}
 use Rattle.pdl_semantics.specs.Sequential.{Run, run_after, run_all, thread}
-use Rattle.pdl_semantics.specs.Sound.{stages_before, is_right_entry, is_write, is_spec_call}
+use Rattle.pdl_semantics.specs.Sound.{stages_before, is_right_entry, is_write, is_spec_call, stages_from}
 use Rattle.pdl_derived.specs.Derived.{Entry, Work, work_after, do_all}
 use Rattle.pdl_derived.specs.Alone.{alone, before, answered_op, start_work, so_far}
 use Rattle.pdl_facts.specs.Certain.{Making, Unmade, Guessed, Made, next_making, making_all, makings_ok, making_ok, is_guessed, is_unmade}
-use Rattle.pdl_facts.specs.Scans.{Phase, Fresh, Held, Written, Done, next_phase, phase_all, phase_ok, phases_ok, is_fresh, after_release, none_of, binds_var, is_fixed, from, no_guards}
+use Rattle.pdl_facts.specs.Scans.{Phase, Fresh, Held, Written, Done, next_phase, phase_all, phase_ok, phases_ok, is_fresh, after_release, none_of, binds_var, is_fixed, no_guards}
 use Rattle.pdl_facts.specs.Facts.{Sound, looked_all, at_once}
 use Rattle.pdl_facts.specs.Accepted.{Accepted, along}
 use Rattle.pdl_derived.proofs.Writes.{and_left, and_right}
@@ -277,8 +277,8 @@ module _ (p : Pipe) (sound : Sound p) (arrays : Arrays) (args : List ℕ) where
   -- its way
   pub turn_way : (s : ℕ) → on_way p (so_far p arrays args s).env s ≡ on_way p (thread (at_once p) arrays args).env s
   turn_way s =
-      way_same (so_far p arrays args s).env (thread (at_once p) arrays args).env (stages_before s p.stmts) (in_stage s (looked_all p.stmts) ++ from (suc s) (looked_all p.stmts))
-      (subst (λ l. is_fixed (l ++ (in_stage s (looked_all p.stmts) ++ from (suc s) (looked_all p.stmts))) ≡ true) (before_looked s p.stmts ∙ before_stages s p.stmts) (sound.pathwise.fixed_by s))
+      way_same (so_far p arrays args s).env (thread (at_once p) arrays args).env (stages_before s p.stmts) (in_stage s (looked_all p.stmts) ++ stages_from (suc s) (looked_all p.stmts))
+      (subst (λ l. is_fixed (l ++ (in_stage s (looked_all p.stmts) ++ stages_from (suc s) (looked_all p.stmts))) ≡ true) (before_looked s p.stmts ∙ before_stages s p.stmts) (sound.pathwise.fixed_by s))
       (λ g k. sym (ap (λ (w : Work). slice_index w.env g) (so s) ∙ Turns.value_kept (at_once p) sound.pathwise arrays args s g (Turns.none_parts (binds_var g) s (looked_all p.stmts) k)))
 
   -- its values

@@ -11,11 +11,12 @@ use Rattle.pdl_derived.proofs.Lists.{own, pend}
 use Rattle.pdl_turns.proofs.Own.{pend_own}
 use Rattle.pdl_simulation.proofs.Shapes.{Shape}
 use Rattle.pdl_simulation.proofs.Stretches.{Behind, on_way, early}
-use Rattle.pdl_simulation.proofs.Seats.{Live, Each, Falls, Ordered, pends}
+use Rattle.pdl_simulation.proofs.Seats.{Live, Falls, Ordered, pends}
 use Rattle.pdl_simulation.proofs.Telling.{Pair, pairs, EachPair, pair_both, pairs_each}
 use Rattle.pdl_simulation.proofs.Choices.{Seated}
-use Rattle.pdl_invariant.specs.Use.{count_older}
 use Rattle.pdl_invariant.proofs.PendingLists.{Within, within_append, within_one, within_count, of_pend}
+use Rattle.pdl_semantics.specs.PendingLists.{count_older}
+use Rattle.pdl_word.specs.Each.{Each}
 
 -- a thread has at most one pending write of a memory
 pub own_short : (m : ℕ) (ph : Phase) (es : List Entry) → Shape m ph es → length es ≤ 1

@@ -6,9 +6,8 @@ use Rattle.pdl_word.specs.Words
 use Rattle.pdl_semantics.specs.Flat.{Op, Bind, CombRead, DelayedRead, Write, ReserveRead, ReserveWrite, Block, Release, Call, SpecCall, Verify, SpecCheck, SpecBarrier, Expr, Constant, Variable, Slice, Not, Binary, Cat, LessSigned, ZeroExtend, SignExtend, Choose, Stmt, value_of, values_of, operator_value, all_hold}
 use Rattle.pdl_semantics.specs.Stages.{onpath}
 use Rattle.pdl_semantics.specs.Machine.{Ask, same_args}
-use Rattle.pdl_semantics.specs.Sound.{is_release_at}
+use Rattle.pdl_semantics.specs.Sound.{is_release_at, is_call}
 use Rattle.pdl_derived.specs.Derived.{Entry, Work, Around, work_after, do_all, without, with_entry_value, has_entry}
-use Rattle.pdl_derived.specs.Alone.{is_call}
 use Rattle.pdl_facts.specs.Facts.{uses_in, uses_any, mentions_var, asks_for, silent_on, unseen_op, is_unseen}
 use Rattle.pdl_facts.specs.Scans.{is_dead}
 use Rattle.pdl_derived.proofs.Writes.{and_left, and_right}
@@ -18,6 +17,7 @@ use Rattle.pdl_turns.proofs.Paths.{Fixed, dead_none}
 use Rattle.pdl_derived.proofs.Answering.{AllAsks, all_more, all_both, all_snoc}
 use Rattle.pdl_invariant.specs.Strict.{bound_by, uses_own, is_mentioned, is_new, all_new}
 use Rattle.pdl_turns.proofs.Alike.{has_filled}
+use Rattle.pdl_word.proofs.Bools.{untrue}
 
 -- LISTS OF STATEMENTS
 
@@ -66,9 +66,6 @@ all_new_front vars (x ∷ xs) ys past h =
 abbrev pub touches : ℕ → Op → Bool
 touches x (DelayedRead y m a) = a == x
 touches x op = mentions_var x op
-
-clash : {A : Type 0} → false ≡ true → A
-clash h = absurd (cc h)
 
 pub value_agree : (e : Expr) (env env' : List ℕ) → ((g : ℕ) → uses_in g e ≡ true → slice_index env g ≡ slice_index env' g) → value_of e env ≡ value_of e env'
 value_agree (Constant w v) env env' f = refl
@@ -153,7 +150,7 @@ untouched x (op ∷ ops) h = let k = or_parts (mentions_var x op) (is_mentioned 
 
 -- another value of a variable on which a statement doesn't hang
 pub set_agrees : (x v : ℕ) (op : Op) (env : List ℕ) → touches x op ≡ false → Agrees op env (slice_set env x v)
-set_agrees x v op env h g k = sym (get_or-set_other env x g v 0 (λ e. clash (sym h ∙ ap (λ n. touches n op) (sym e) ∙ k)))
+set_agrees x v op env h g k = sym (get_or-set_other env x g v 0 (λ e. untrue (sym h ∙ ap (λ n. touches n op) (sym e) ∙ k)))
 
 -- THREADS
 
@@ -195,7 +192,7 @@ pub record Past (o : Around) (vars : ℕ) (past : List Op) (w : Work) : Type 0 w
 -- a variable with which no statement has to do gets a value
 pub placed_set : (x v : ℕ) (env : List ℕ) (past : List Op) (es : List Entry) → touched x past ≡ false → AllPlaced env past es → AllPlaced (slice_set env x v) past es
 placed_set x v env past [] h k = tt
-placed_set x v env past (e ∷ es) h k = (k.0 ∙ sym (get_or-set_other env x e.var v 0 (λ i. clash (sym h ∙ ap (λ n. touched n past) (sym i) ∙ k.1))), k.1, placed_set x v env past es h k.2)
+placed_set x v env past (e ∷ es) h k = (k.0 ∙ sym (get_or-set_other env x e.var v 0 (λ i. untrue (sym h ∙ ap (λ n. touched n past) (sym i) ∙ k.1))), k.1, placed_set x v env past es h k.2)
 
 asked_set : (x v : ℕ) (env : List ℕ) (past : List Op) (q : Ask) → AllOps (λ op. touches x op ≡ false) past → AskedBy env past q → AskedBy (slice_set env x v) past q
 asked_set x v env past q h k = any_both (λ op t i. (i.0, i.1, sym (set_agrees x v op env t i.0 (ap (touches i.0) i.1 ∙ eq-eqb i.0 i.0 refl)) ∙ i.2)) past h k
@@ -360,7 +357,7 @@ module _ (o : Around) (vars : ℕ) (kind : Kind o) where
       here : slice_index (slice_set w.env x (value_of e w.env)) x ≡ value_of e (slice_set w.env x (value_of e w.env))
       here =
           get_or-set_same w.env x (value_of e w.env) 0 (low (ltb-true _ _ (and_left _ _ new)) h.long)
-          ∙ value_agree e w.env (slice_set w.env x (value_of e w.env)) (λ g k. sym (get_or-set_other w.env x g (value_of e w.env) 0 (λ i. clash (sym (not-true _ own) ∙ ap (λ n. uses_in n e) (sym i) ∙ k))))
+          ∙ value_agree e w.env (slice_set w.env x (value_of e w.env)) (λ g k. sym (get_or-set_other w.env x g (value_of e w.env) 0 (λ i. untrue (sym (not-true _ own) ∙ ap (λ n. uses_in n e) (sym i) ∙ k))))
         where
           low : x < vars → vars ≤ length w.env → x < length w.env
           low i j = omega arith
@@ -427,7 +424,7 @@ module _ (o : Around) (vars : ℕ) (kind : Kind o) where
   asks_silent SpecBarrier w ys u h = h
 
   call_flag : (c : Bool) (op : Op) (past : List Op) → call_ok c op ≡ true → Uncalled c past → is_call op ≡ true → AllOps (λ op. is_call op ≡ false) past
-  call_flag true op past k u i = clash (sym (ap (λ b. not (true && b)) i) ∙ and_left (not (true && is_call op)) _ k)
+  call_flag true op past k u i = untrue (sym (ap (λ b. not (true && b)) i) ∙ and_left (not (true && is_call op)) _ k)
   call_flag false op past k u i = u refl
 
   pub past_all : (path : List ℕ) (c : Bool) (xs : List Stmt) (past : List Op) (w : Work) → Fixed path o xs w → all_new vars past (onpath path xs) ≡ true → calls_ok c (onpath path xs) ≡ true → Uncalled c past → is_unseen xs ≡ true → AllAsks (λ q. silent_on q.var xs ≡ true) w.asks → (do_all o xs w).ready ≡ true
@@ -450,7 +447,7 @@ module _ (o : Around) (vars : ℕ) (kind : Kind o) where
           → (do_all o ys (cond b (work_after o y.op w) w)).ready ≡ true → Fixed path o ys (cond b (work_after o y.op w) w)
           → ((c' : Bool) (past' : List Op) (w' : Work) → Fixed path o ys w' → all_new vars past' (onpath path ys) ≡ true → calls_ok c' (onpath path ys) ≡ true → Uncalled c' past' → AllAsks (λ q. silent_on q.var ys ≡ true) w'.asks → (do_all o ys w').ready ≡ true → Past o vars past' w' → Past o vars (onto (onpath path ys) past') (do_all o ys w'))
           → Past o vars (onto (cond d (record y { guards = [] } ∷ onpath path ys) (onpath path ys)) past) (do_all o ys (cond b (work_after o y.op w) w))
-      at true i true j true k n l r g go = clash (sym (dead_none y.guards w.env k) ∙ i)
+      at true i true j true k n l r g go = untrue (sym (dead_none y.guards w.env k) ∙ i)
       at true i true j false k n l r g go =
           go (c || is_call y.op) (y.op ∷ past) (work_after o y.op w) g (and_right (is_new vars past (bound_by y.op) && not (uses_own y.op)) _ n) (and_right (call_ok c y.op) _ l) (flags y.op none) (asks_silent y.op w ys (and_left _ _ u) rest) r
           (past_step y.op past w (and_left _ _ (and_left _ _ n)) (and_right (is_new vars past (bound_by y.op)) _ (and_left _ _ n)) (quiet k) (call_flag c y.op past (and_left _ _ l) none) (was_ready o ys (work_after o y.op w) r) h)

@@ -1,11 +1,12 @@
 -- Lists of pending writes by their threads.
-use Rattle.std.proofs.Common.{◌≡◌, refl, ap, ap₂, ◌∙◌, ℕ, suc, ◌+◌, ◌≤◌, ◌<◌, Bool, true, false, List, [], ◌∷◌, ◌++◌, length, Some, ◌==◌, cond, if◌then◌else◌, arith, nat_lt, lt-ltb, le-ltb}
+use Rattle.std.proofs.Common.{◌≡◌, refl, ap, ◌∙◌, ℕ, suc, ◌+◌, ◌≤◌, ◌<◌, Bool, true, false, List, [], ◌∷◌, ◌++◌, length, ◌==◌, cond, if◌then◌else◌, arith, nat_lt, lt-ltb, le-ltb}
 use Rattle.pdl_semantics.specs.Machine.{Pending, Reserved, Written}
 use Rattle.pdl_semantics.specs.Moves.{Act}
 use Rattle.pdl_semantics.specs.Cycle.{new_entries, with_value_of, with_writes_of, with_all_writes}
 use Rattle.pdl_derived.specs.Derived.{Entry}
 use Rattle.pdl_derived.proofs.Lists.{own, pend}
-use Rattle.pdl_invariant.specs.Use.{AreOrdered, count_older}
+use Rattle.pdl_semantics.specs.PendingLists.{AreOrdered, count_older}
+use Rattle.pdl_semantics.proofs.Facts.{put_older}
 
 -- how many are older
 pub count_append : (t : ℕ) (xs ys : List Pending) → count_older t (xs ++ ys) ≡ count_older t xs + count_older t ys
@@ -16,20 +17,12 @@ count_append t (x ∷ xs) ys = at (nat_lt x.thread t) (count_append t xs ys)
     at true h = omega arith
     at false h = h
 
-count_put : (t n v : ℕ) (xs : List Pending) → count_older t (with_value_of n v xs) ≡ count_older t xs
-count_put t n v [] = refl
-count_put t n v (x ∷ xs) = ap₂ (λ b k. cond b (suc k) k) (at (x.thread == n)) (count_put t n v xs)
-  where
-    at : (b : Bool) → nat_lt (cond b (record x { value = Some v }) x).thread t ≡ nat_lt x.thread t
-    at true = refl
-    at false = refl
-
 count_put_all : (t m n : ℕ) (ws : List Written) (xs : List Pending) → count_older t (with_writes_of m n ws xs) ≡ count_older t xs
 count_put_all t m n [] xs = refl
 count_put_all t m n (w ∷ ws) xs = count_put_all t m n ws (if w.mem == m then with_value_of n w.value xs else xs) ∙ at (w.mem == m)
   where
     at : (b : Bool) → count_older t (cond b (with_value_of n w.value xs) xs) ≡ count_older t xs
-    at true = count_put t n w.value xs
+    at true = put_older t n w.value xs
     at false = refl
 
 pub count_filled : (t m : ℕ) (ms : List Act) (xs : List Pending) → count_older t (with_all_writes m ms xs) ≡ count_older t xs

@@ -6,10 +6,9 @@ use Rattle.pdl_semantics.specs.Stages.{list_any, mem_at}
 use Rattle.pdl_semantics.specs.Locks.{read_ready, write_ready}
 use Rattle.pdl_semantics.specs.Machine.{State, Awaited, Kept, Pending, HeldLocation, lock_of, request_of, same_args, is_held, held_before, older_write}
 use Rattle.pdl_semantics.specs.Moves.{block_ready}
-use Rattle.pdl_semantics.specs.Sound.{are_linked, is_kept_or_awaited, asks_right, is_owner, is_release_at, stays_ready, on_path, is_done, right_place, is_fetch, held_places, has_done}
+use Rattle.pdl_semantics.specs.Sound.{are_linked, is_kept_or_awaited, asks_right, is_owner, is_release_at, stays_ready, on_path, is_done, right_place, is_fetch, held_places, has_done, is_call}
 use Rattle.pdl_semantics.specs.Sound
 use Rattle.pdl_derived.specs.Derived.{Entry, has_entry, latest, awaits_mem}
-use Rattle.pdl_derived.specs.Alone.{is_call}
 use Rattle.pdl_facts.specs.Scans.{called}
 use Rattle.pdl_facts.specs.Facts.{Sound}
 use Rattle.pdl_simulation.proofs.Joined.{sound_flows}
@@ -20,12 +19,12 @@ use Rattle.pdl_simulation.proofs.Stretches.{on_way, has_made}
 use Rattle.pdl_simulation.proofs.Seats.{Live, threads_of, each_map}
 use Rattle.pdl_simulation.proofs.Choices.{Seated}
 use Rattle.pdl_simulation.proofs.Choices
-use Rattle.pdl_simulation.proofs.Together.{HaveMade}
 use Rattle.pdl_invariant.proofs.OldestFirst.{told, oldest_first, AllLive, live_each}
 use Rattle.pdl_invariant.proofs.Past.{AllOps, onto, BlockOk, Done, AllPlaced, is_released}
 use Rattle.pdl_invariant.proofs.Trails.{AllStmts, stmts_map, stmts_ops, trail_comes}
 use Rattle.pdl_invariant.proofs.Local.{Local, HeldOp, here, past_of, count_is, any_append, any_front}
 use Rattle.pdl_invariant.proofs.Stage.{look_at}
+use Rattle.pdl_simulation.proofs.Simulated.{HaveMade}
 
 pub both_true : {a b : Bool} → a ≡ true → b ≡ true → (a && b) ≡ true
 both_true h k = ap₂ (λ a b. a && b) h k

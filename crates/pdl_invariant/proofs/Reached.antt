@@ -4,11 +4,10 @@ use Rattle.pdl_semantics.specs.Flat.{Arrays, Pipe, Op, Call, SpecCall, Verify, S
 use Rattle.pdl_semantics.specs.Stages.{onpath, in_stage, stage_at, goes_to}
 use Rattle.pdl_semantics.specs.Machine.{State}
 use Rattle.pdl_semantics.specs.Moves.{movers}
-use Rattle.pdl_semantics.specs.Cycle.{squasher, is_kept, state_after, cycle, first}
+use Rattle.pdl_semantics.specs.Cycle.{squasher, state_after, cycle, first}
 use Rattle.pdl_semantics.specs.Cycle
-use Rattle.pdl_derived.specs.Derived.{Work, find_ask, fresh, around}
+use Rattle.pdl_derived.specs.Derived.{find_ask, fresh, around}
 use Rattle.pdl_derived.specs.Derived
-use Rattle.pdl_derived.specs.Alone.{is_call}
 use Rattle.pdl_facts.specs.Certain.{Unmade, next_making, making_all, is_made}
 use Rattle.pdl_facts.specs.Scans.{called}
 use Rattle.pdl_facts.specs.Facts.{Sound}
@@ -24,12 +23,14 @@ use Rattle.pdl_simulation.proofs.Choices.{Known, AllKnown, keeps_now}
 use Rattle.pdl_simulation.proofs.Turned.{fell, moved_live, stood, go_on, Agrees}
 use Rattle.pdl_simulation.proofs.Onward.{made, childed_here, born_live, lives_next}
 use Rattle.pdl_simulation.proofs.Asked.{Asker, asking, one_asks, first_of}
-use Rattle.pdl_simulation.proofs.Together.{Sim, known, fit, after_is, cycle_sim, first_sim, first_live}
+use Rattle.pdl_simulation.proofs.Together.{known, fit, after_is, cycle_sim, first_sim, first_live}
 use Rattle.pdl_invariant.specs.Strict.{Strict}
 use Rattle.pdl_invariant.proofs.Past.{AllOps, onto, BlockOk}
 use Rattle.pdl_invariant.proofs.Local.{local_fresh}
 use Rattle.pdl_invariant.proofs.Stage.{barred, look_at, childless}
 use Rattle.pdl_invariant.proofs.Lasting.{Lasting, Along, lasting_stood, lasting_moved}
+use Rattle.pdl_semantics.specs.Sound.{is_call}
+use Rattle.pdl_simulation.proofs.Simulated.{Sim}
 
 -- the youngest has not made its successor
 abbrev pub Youngest : Pipe → List Live → Type 0

@@ -9,7 +9,7 @@ use Rattle.pdl_semantics.specs.Sound.{stages_before, stages_from, is_write_reser
 use Rattle.pdl_derived.specs.Derived.{Entry}
 use Rattle.pdl_semantics.specs.Sound
 use Rattle.pdl_derived.specs.Alone.{before, answered_op}
-use Rattle.pdl_facts.specs.Scans.{Phase, Fresh, Held, Written, Done, next_phase, phase_all, phase_ok, phases_ok, after_release, holds_location, is_fresh, none_of, from, Scan, no_scan, has_location, scan_after, no_guards}
+use Rattle.pdl_facts.specs.Scans.{Phase, Fresh, Held, Written, Done, next_phase, phase_all, phase_ok, phases_ok, after_release, holds_location, is_fresh, none_of, Scan, no_scan, has_location, scan_after, no_guards}
 use Rattle.pdl_facts.specs.Certain.{is_barrier, is_sure, all_sure}
 use Rattle.pdl_facts.specs.Facts.{Sound, looked_all, at_once}
 use Rattle.pdl_facts.specs.Accepted.{along}
@@ -336,7 +336,7 @@ early_unreleased p sound st l seated v verifies low clear m = not_released p sou
     ∙ sure_done m v no_scan Fresh (before l.thread.stage (onpath l.env (looked_all p.stmts)))
     (Whole.ok_before (along l.env (at_once p)) (sound.pathwise.paths l.env) (λ k a. 0) [] l.thread.stage m)
     (subst (λ o. all_sure o false no_scan (before l.thread.stage (onpath l.env (looked_all p.stmts))) ≡ true) (verify_looked p.stmts ∙ verifies)
-    (sure_first (verify_stage (looked_all p.stmts)) false no_scan (before l.thread.stage (onpath l.env (looked_all p.stmts))) (from l.thread.stage (onpath l.env (looked_all p.stmts)))
+    (sure_first (verify_stage (looked_all p.stmts)) false no_scan (before l.thread.stage (onpath l.env (looked_all p.stmts))) (stages_from l.thread.stage (onpath l.env (looked_all p.stmts)))
     (subst (λ xs. all_sure (verify_stage (looked_all p.stmts)) false no_scan xs ≡ true) ((sound.pathwise.paths l.env).ordered l.thread.stage) (sound.pathwise.sure l.env))))
     (ap (some_barrier false) (way_looked p l.env l.thread.stage) ∙ unbarred (on_way p l.env l.thread.stage) clear)
     (subst (AllStmts (λ x. nat_lt x.stage v ≡ true)) (sym (way_looked p l.env l.thread.stage))

@@ -5,10 +5,10 @@ use Rattle.pdl_semantics.specs.Flat.{Op, Bind, CombRead, DelayedRead, Write, Res
 use Rattle.pdl_semantics.specs.Stages.{onpath, reserve_stage, mem_at}
 use Rattle.pdl_semantics.specs.Locks.{read_ready, write_ready}
 use Rattle.pdl_semantics.specs.Machine.{Kept, same_args, with_kept}
-use Rattle.pdl_semantics.specs.Sound.{stages_before, is_barrier}
+use Rattle.pdl_semantics.specs.Sound.{stages_before, is_barrier, is_call}
 use Rattle.pdl_derived.specs.Derived.{Entry, Work, Around, work_after, do_all, has_entry, latest}
 use Rattle.pdl_derived.specs.Derived
-use Rattle.pdl_derived.specs.Alone.{is_call, before, answered_op}
+use Rattle.pdl_derived.specs.Alone.{before, answered_op}
 use Rattle.pdl_facts.specs.Scans.{Scan, no_scan, scan_after, op_ok, reads_ok, no_guards, called}
 use Rattle.pdl_facts.specs.Facts.{Sound, looked_all, at_once}
 use Rattle.pdl_facts.specs.Accepted.{along}

@@ -19,7 +19,7 @@ use Rattle.pdl_turns.proofs.Lives.{Writes, Marks}
 use Rattle.pdl_turns.proofs.TurnFacts.{right_guess}
 use Rattle.pdl_refinement.proofs.Spots.{Spot, seats, Standing, Tail, Last, Strays}
 use Rattle.pdl_simulation.proofs.Stretches.{on_way}
-use Rattle.pdl_simulation.proofs.Seats.{Live, threads_of, Each}
+use Rattle.pdl_simulation.proofs.Seats.{Live, threads_of}
 use Rattle.pdl_simulation.proofs.Choices.{Seated}
 use Rattle.pdl_invariant.specs.Strict.{Strict}
 use Rattle.pdl_invariant.proofs.OldestFirst.{told}
@@ -27,6 +27,7 @@ use Rattle.pdl_invariant.proofs.Followers.{tells, way_of, wrong_of, cons_head, c
 use Rattle.pdl_invariant.proofs.Local.{here}
 use Rattle.pdl_invariant.proofs.Releases.{is_done, released_late, done_released, not_released, turn_kept, early_unreleased}
 use Rattle.pdl_invariant.proofs.StillLooks.{looks_early, binds_early}
+use Rattle.pdl_word.specs.Each.{Each}
 
 -- the threads on the turns that begin with these arrays and arguments, one for each spot, and those behind
 abbrev pub lined : Pipe → Arrays → List ℕ → List Live → List Spot → List Follower

@@ -1,22 +1,13 @@
 -- How the threads use the locks, in each state of a run of any pipe: with guesses and squashes, forks, and delayed memories.
-use Rattle.std.specs.Prelude.{◌≡◌, ℕ, suc, ◌+◌, ◌≤◌, Bool, true, false, List, [], ◌∷◌, Some, length, if◌then◌else◌, nat_lt, ◌==◌}
+use Rattle.std.specs.Prelude.{◌≡◌, ℕ, suc, ◌+◌, ◌≤◌, Bool, true, false, List, [], ◌∷◌, Some, length, if◌then◌else◌, ◌==◌}
 use Rattle.pdl_semantics.specs.Flat.{Pipe}
 use Rattle.pdl_semantics.specs.Stages.{reserve_stage, commit_stage, verify_stage}
 use Rattle.pdl_semantics.specs.Machine.{State, Pending, Reserved, lock_of}
 use Rattle.pdl_semantics.specs.Moves.{Act, all_acts, movers}
 use Rattle.pdl_semantics.specs.Cycle.{with_reserves, has_release, list_two, list_three}
+use Rattle.pdl_semantics.specs.PendingLists.{AreOrdered, count_older}
 
 -- PENDING WRITES
-
--- the threads of some pending writes are these, from a number on, in order and each once
-abbrev pub AreOrdered : ℕ → List Pending → Type 0
-AreOrdered t [] = Unit {0}
-AreOrdered t (e ∷ es) = (t ≤ e.thread) × AreOrdered (e.thread + 1) es
-
--- how many of them are of threads older than this one
-abbrev pub count_older : ℕ → List Pending → ℕ
-count_older t [] = 0
-count_older t (e ∷ es) = if nat_lt e.thread t then suc (count_older t es) else count_older t es
 
 -- THREADS
 

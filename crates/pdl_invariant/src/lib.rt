@@ -13,7 +13,8 @@ ghost use Rattle.pdl_semantics.specs.Sound.{live, all_pairs, all_from, in_order,
 ghost use Rattle.pdl_facts.specs.Facts.{Sound};
 ghost use Rattle.pdl_invariant.specs.States.{state_of_run};
 ghost use Rattle.pdl_invariant.specs.Strict.{Strict};
-ghost use Rattle.pdl_invariant.specs.Use.{AreOrdered, AllActs, FindsOlder, Reserves, KeepsPlace, ShiftsPlace};
+ghost use Rattle.pdl_invariant.specs.Use.{AllActs, FindsOlder, Reserves, KeepsPlace, ShiftsPlace};
+ghost use Rattle.pdl_semantics.specs.PendingLists.{AreOrdered};
 
 /// The points of Sound state that hold of all live threads, whatever their guess: their order and the forks' lists, who has made its successor, certainty behind a barrier, requests, blocks that stay ready, and each thread's path.
 pub fn every_thread()

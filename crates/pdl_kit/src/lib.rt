@@ -1,4 +1,6 @@
 //! What every crate of the compiler may use: lists and names that contracts see as their values, files and sinks with a count of faults, rules and refusals.
+//!
+//! The layers above read and write by the traits `Files` and `Sink` with `write_whole`, keep lists in `Seq` and `Boxed`, and name what is wrong by `Rule` and `Refusal`.
 #![tactic(auto)]
 
 pub mod boxed;

@@ -1,4 +1,6 @@
 //! What a thread still needs from a stage on: the values of variables, whether it holds locations, its tickets.
+//!
+//! The layer above may use `held_from`, `keeps_ticket` and `lives_from`.
 #![tactic(auto)]
 
 pub mod needs;

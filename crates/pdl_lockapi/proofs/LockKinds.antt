@@ -1,6 +1,5 @@
 -- What holds of a lock by its kind. Proofs on the machine and on netlists name no kind: what they need of the kinds is here.
-use Rattle.std.proofs.Common.{◌≡◌, refl, sym, ap, ◌∙◌, ℕ, ◌+◌, ◌*◌, ◌<◌, nat_lt, true, false, Option, Some, None, ◌⊎◌, inl, inr, ltb-true, arith}
-use Rattle.std.specs.Prelude.{is_some}
+use Rattle.std.proofs.Common.{◌≡◌, refl, sym, ap, ◌∙◌, ℕ, ◌+◌, ◌*◌, ◌<◌, nat_lt, true, false, Some, ◌⊎◌, inl, inr, ltb-true, arith}
 use Rattle.pdl_semantics.specs.Tree.{LockKind, Queue, Bypass, Rename, LockDecl}
 use Rattle.pdl_semantics.specs.Flat as flat
 use Rattle.pdl_semantics.specs.Flat.{Lock, has_lock}
@@ -29,11 +28,6 @@ lock_is l = at l.kind
     at Queue = refl
     at Bypass = refl
     at Rename = refl
-
--- there is a lock where one is declared
-pub lock_declared : (l : Option LockDecl) → has_lock (flat_lock l) ≡ is_some l
-lock_declared None = refl
-lock_declared (Some l) = ap has_lock (lock_is l) ∙ locked_is l.kind l.size.value
 
 -- ROOM
 

@@ -1,4 +1,6 @@
-//! The locks that the memories of a pipe ask for.
+//! The locks that the memories of a pipe ask for, by kind and size.
+//!
+//! The layer above may use `locks_of`.
 #![tactic(auto)]
 
 pub mod kinds;

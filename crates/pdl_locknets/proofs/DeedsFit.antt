@@ -7,7 +7,6 @@ use Rattle.pdl_semantics.specs.Stages.{mem_at}
 use Rattle.pdl_net.specs.Circuit.{Circuit}
 use Rattle.pdl_net.specs.Signal.{Signal, no_signal}
 use Rattle.pdl_net.specs.Meaning.{signal, IsThere}
-use Rattle.pdl_lockapi.specs.Laws.{ReserveSignal, TicketSignal}
 use Rattle.pdl_pipe_law.specs.Walk.{Reservation, Put, Letting}
 use Rattle.pdl_pipe_law.specs.Views.{View}
 use Rattle.pdl_pipe_law.specs.Ports.{reserves_to, all_reserves, puts_to, all_puts}
@@ -15,7 +14,7 @@ use Rattle.pdl_stagenets.specs.declared.nets.ReserveNet.{ReserveNet}
 use Rattle.pdl_stagenets.specs.declared.nets.PutNet.{PutNet}
 use Rattle.pdl_stagenets.specs.declared.nets.LettingNet.{LettingNet}
 use Rattle.pdl_stagenets.specs.declared.locks.MemLock.{MemLock}
-use Rattle.pdl_stagenets.specs.Parts.{Each, reservation_in, put_in, letting_in, walk_of}
+use Rattle.pdl_stagenets.specs.Parts.{reservation_in, put_in, letting_in, walk_of}
 use Rattle.pdl_stagenets.specs.Sized.{IsSizedReserve, IsSizedPut}
 use Rattle.pdl_stagenets.specs.Locked.{Members, some_at, IsLockIn}
 use Rattle.pdl_locknets.specs.declared.deeds.StageDeeds.{StageDeeds}
@@ -23,6 +22,9 @@ use Rattle.pdl_locknets.specs.Deeds.{no_parts, view_with, view_in, views_in, mov
 use Rattle.pdl_locknets.specs.Ports.{IsGivenReserve, IsGivenPut, IsGivenLetting, IsGiven, SignalsFit, signals_of}
 use Rattle.pdl_locknets.proofs.Releases.{released_one}
 use Rattle.pdl_pipe_law.proofs.WellFormedMems.{power_one}
+use Rattle.pdl_locknets.proofs.PortsFit.{WriteFits, ReserveFits}
+use Rattle.pdl_word.specs.Each.{Each}
+use Rattle.pdl_word.proofs.Each.{each_append}
 
 -- ---- the nets are there
 
@@ -39,16 +41,6 @@ lettings_given c [] t s = tt
 lettings_given c (x ∷ xs) t s = (record { on = t.0; one = s.0 }, lettings_given c xs t.1 s.1)
 
 -- ---- their widths
-
-each_both : {X : Type 0} (P : X → Type 0) (xs ys : List X) → Each P xs → Each P ys → Each P (xs ++ ys)
-each_both P [] ys h k = k
-each_both P (x ∷ xs) ys h k = (h.0, each_both P xs ys h.1 k)
-
-abbrev ReserveFits : ℕ → ReserveSignal → Type 0
-ReserveFits bits r = (r.enable.width ≡ 1) × (r.addr.width ≡ bits)
-
-abbrev WriteFits : ℕ → ℕ → TicketSignal → Type 0
-WriteFits width tickets x = (x.enable.width ≡ 1) × (x.ticket.width ≡ tickets) × (x.value.width ≡ width)
 
 reserves_fit : (p : Pipe) (m bits : ℕ) (f : Signal) (rs : List Reservation) → 2 ^ bits ≡ (mem_at p m).depth → Each (IsSizedReserve p) rs → Each (ReserveFits bits) (reserves_to m f rs)
 reserves_fit p m bits f [] d s = tt
@@ -70,11 +62,11 @@ puts_fit p m tickets f t (x ∷ xs) w s =
 
 all_reserves_fit : (m bits : ℕ) (vs : ℕ → View) (moves : ℕ → Signal) (n k : ℕ) → ((j : ℕ) → Each (ReserveFits bits) (reserves_to m (moves j) (vs j).ended.reserves)) → Each (ReserveFits bits) (all_reserves m vs moves n k)
 all_reserves_fit m bits vs moves zero k h = tt
-all_reserves_fit m bits vs moves (suc n) k h = each_both (ReserveFits bits) (all_reserves m vs moves n (suc k)) (reserves_to m (moves k) (vs k).ended.reserves) (all_reserves_fit m bits vs moves n (suc k) h) (h k)
+all_reserves_fit m bits vs moves (suc n) k h = each_append (ReserveFits bits) (all_reserves m vs moves n (suc k)) (reserves_to m (moves k) (vs k).ended.reserves) (all_reserves_fit m bits vs moves n (suc k) h) (h k)
 
 all_puts_fit : (m width tickets : ℕ) (vs : ℕ → View) (moves : ℕ → Signal) (n k : ℕ) → ((j : ℕ) → Each (WriteFits width tickets) (puts_to m (moves j) ((vs j).tickets m) (vs j).ended.puts)) → Each (WriteFits width tickets) (all_puts m vs moves n k)
 all_puts_fit m width tickets vs moves zero k h = tt
-all_puts_fit m width tickets vs moves (suc n) k h = each_both (WriteFits width tickets) (all_puts m vs moves n (suc k)) (puts_to m (moves k) ((vs k).tickets m) (vs k).ended.puts) (all_puts_fit m width tickets vs moves n (suc k) h) (h k)
+all_puts_fit m width tickets vs moves (suc n) k h = each_append (WriteFits width tickets) (all_puts m vs moves n (suc k)) (puts_to m (moves k) ((vs k).tickets m) (vs k).ended.puts) (all_puts_fit m width tickets vs moves n (suc k) h) (h k)
 
 -- what holds of each stage, and of one that does nothing, holds at each number
 views_have : (c : Circuit) (P : View → Type 0) (ds : List StageDeeds) (k : ℕ) → P (view_with (λ m. no_signal) (walk_of no_parts)) → Each (λ d. P (view_in c d)) ds → P (views_in c ds k)

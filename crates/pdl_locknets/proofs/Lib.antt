@@ -8,3 +8,4 @@ pub mod LockSteps
 pub mod NewLock
 pub mod AllMade
 pub mod Law
+pub mod Backwards

@@ -18,13 +18,14 @@ use Rattle.pdl_pipe_law.specs.Walk.{zero_bit}
 use Rattle.pdl_pipe_law.specs.Views.{View, no_gates}
 use Rattle.pdl_pipe_law.specs.Ports.{all_reserves, all_puts, release_signal, step_of}
 use Rattle.pdl_stagenets.specs.declared.locks.MemLock.{MemLock}
-use Rattle.pdl_stagenets.specs.Parts.{Each, Parts, walk_of}
+use Rattle.pdl_stagenets.specs.Parts.{Parts, walk_of}
 use Rattle.pdl_stagenets.specs.Locked.{Members, some_at, of_lock, locks_in, IsLockIn, AreLocked, AreTickets}
 use Rattle.pdl_stagenets.proofs.Kept.{parts_keep, walk_keep}
 use Rattle.pdl_locknets.specs.declared.deeds.StageDeeds.{StageDeeds}
 use Rattle.pdl_locknets.specs.Lawful.{IsLawful, AreLawful}
 use Rattle.pdl_locknets.specs.Deeds.{no_parts, view_with, view_in, views_in, moves_in, IsDeed, AreDeeds}
 use Rattle.pdl_locknets.specs.Ports.{signals_of}
+use Rattle.pdl_word.specs.Each.{Each}
 
 abbrev pub Stays : {T : Type 0} → Members T → Type 0
 Stays {T} l = (x : T) (a b : Circuit) (r : LockRegs) → Keeps a b → l.placed x a r → l.placed x b r

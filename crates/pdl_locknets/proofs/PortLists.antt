@@ -1,5 +1,5 @@
 -- Ports of a lock, one after another, while the circuit grows.
-use Rattle.std.proofs.Common.{◌≡◌, ℕ, zero, suc, ◌+◌, ◌<◌, ◌≤◌, ◌==◌, Bool, true, false, List, [], ◌∷◌, ◌++◌, map, length, drop, get_or, refl, sym, ap, ap₂, ◌∙◌, arith, append-nil, append_assoc}
+use Rattle.std.proofs.Common.{◌≡◌, ℕ, ◌+◌, ◌<◌, ◌≤◌, ◌==◌, Bool, true, false, List, [], ◌∷◌, ◌++◌, map, length, drop, get_or, refl, sym, ap, ap₂, ◌∙◌, append-nil, append_assoc}
 use Rattle.std.specs.Prelude.{if◌then◌else◌}
 use Rattle.std.proofs.lemmas.List.{map-append, drop_more, drop_all}
 use Rattle.pdl_net.specs.declared.Net.{Net}
@@ -17,9 +17,11 @@ use Rattle.pdl_pipe_law.specs.Ports.{reserves_to, puts_to}
 use Rattle.pdl_stagenets.specs.declared.nets.ReserveNet.{ReserveNet}
 use Rattle.pdl_stagenets.specs.declared.nets.PutNet.{PutNet}
 use Rattle.pdl_stagenets.specs.declared.nets.LettingNet.{LettingNet}
-use Rattle.pdl_stagenets.specs.Parts.{Each, reservation_in, put_in, letting_in}
-use Rattle.pdl_stagenets.proofs.Lists.{each_map, each_more, map_each}
+use Rattle.pdl_stagenets.specs.Parts.{reservation_in, put_in, letting_in}
+use Rattle.pdl_stagenets.proofs.Lists.{map_each}
 use Rattle.pdl_locknets.specs.Ports.{IsGivenReserve, IsGivenPut, IsGivenLetting, IsThereReserve, IsThereWrite, AreReserves, AreWrites, AddsReserves, AddsWrites}
+use Rattle.pdl_word.specs.Each.{Each}
+use Rattle.pdl_word.proofs.Each.{each_weaker, each_push}
 
 -- ---- what is kept
 
@@ -31,7 +33,7 @@ module _ (a b : Circuit) (k : Keeps a b) where
   reserve_same q t = ap₂ (λ f g. record { enable = enabled_reserve q.kind f; addr = g }) (k.kept q.enable t.enable) (k.kept q.addr t.addr)
 
   pub reserves_kept : (ps : List ReservePort) → Each (IsThereReserve a) ps → Each (IsThereReserve b) ps
-  reserves_kept ps t = each_map (IsThereReserve a) (IsThereReserve b) reserve_kept ps t
+  reserves_kept ps t = each_weaker (IsThereReserve a) (IsThereReserve b) reserve_kept ps t
 
   pub reserves_same : (ps : List ReservePort) → Each (IsThereReserve a) ps → map (reserve_signal b) ps ≡ map (reserve_signal a) ps
   reserves_same ps t = map_each (reserve_signal b) (reserve_signal a) (IsThereReserve a) reserve_same ps t
@@ -43,7 +45,7 @@ module _ (a b : Circuit) (k : Keeps a b) where
   write_same q t = cc (k.kept q.enable t.enable, k.kept q.ticket t.ticket, k.kept q.value t.value)
 
   pub writes_kept : (ps : List TicketWrite) → Each (IsThereWrite a) ps → Each (IsThereWrite b) ps
-  writes_kept ps t = each_map (IsThereWrite a) (IsThereWrite b) write_kept ps t
+  writes_kept ps t = each_weaker (IsThereWrite a) (IsThereWrite b) write_kept ps t
 
   pub writes_same : (ps : List TicketWrite) → Each (IsThereWrite a) ps → map (ticket_signal b) ps ≡ map (ticket_signal a) ps
   writes_same ps t = map_each (ticket_signal b) (ticket_signal a) (IsThereWrite a) write_same ps t
@@ -59,7 +61,7 @@ module _ (a b : Circuit) (k : Keeps a b) where
   given_reserve r g = record { on = k.there r.on g.on; one = ap (λ (f : Signal). f.width) (k.kept r.on g.on) ∙ g.one; addr = k.there r.addr g.addr }
 
   pub given_reserves : (rs : List ReserveNet) → Each (IsGivenReserve a) rs → Each (IsGivenReserve b) rs
-  given_reserves rs g = each_map (IsGivenReserve a) (IsGivenReserve b) given_reserve rs g
+  given_reserves rs g = each_weaker (IsGivenReserve a) (IsGivenReserve b) given_reserve rs g
 
   pub reservations_same : (rs : List ReserveNet) → Each (IsGivenReserve a) rs → map (reservation_in b) rs ≡ map (reservation_in a) rs
   reservations_same rs g = map_each (reservation_in b) (reservation_in a) (IsGivenReserve a) (λ r t. ap₂ (λ f h. record { mem = r.mem; on = f; addr = h }) (k.kept r.on t.on) (k.kept r.addr t.addr)) rs g
@@ -68,7 +70,7 @@ module _ (a b : Circuit) (k : Keeps a b) where
   given_put x g = record { on = k.there x.on g.on; one = ap (λ (f : Signal). f.width) (k.kept x.on g.on) ∙ g.one; value = k.there x.value g.value }
 
   pub given_puts : (xs : List PutNet) → Each (IsGivenPut a) xs → Each (IsGivenPut b) xs
-  given_puts xs g = each_map (IsGivenPut a) (IsGivenPut b) given_put xs g
+  given_puts xs g = each_weaker (IsGivenPut a) (IsGivenPut b) given_put xs g
 
   pub puts_same : (xs : List PutNet) → Each (IsGivenPut a) xs → map (put_in b) xs ≡ map (put_in a) xs
   puts_same xs g = map_each (put_in b) (put_in a) (IsGivenPut a) (λ x t. ap₂ (λ f h. record { mem = x.mem; on = f; value = h }) (k.kept x.on t.on) (k.kept x.value t.value)) xs g
@@ -77,15 +79,10 @@ module _ (a b : Circuit) (k : Keeps a b) where
   given_letting x g = record { on = k.there x.on g.on; one = ap (λ (f : Signal). f.width) (k.kept x.on g.on) ∙ g.one }
 
   pub given_lettings : (xs : List LettingNet) → Each (IsGivenLetting a) xs → Each (IsGivenLetting b) xs
-  given_lettings xs g = each_map (IsGivenLetting a) (IsGivenLetting b) given_letting xs g
+  given_lettings xs g = each_weaker (IsGivenLetting a) (IsGivenLetting b) given_letting xs g
 
   pub lettings_same : (xs : List LettingNet) → Each (IsGivenLetting a) xs → map (letting_in b) xs ≡ map (letting_in a) xs
   lettings_same xs g = map_each (letting_in b) (letting_in a) (IsGivenLetting a) (λ x t. ap (λ f. record { mem = x.mem; on = f }) (k.kept x.on t.on)) xs g
-
-pub each_get : {X : Type 0} (P : X → Type 0) (xs : List X) (k : ℕ) (d : X) → k < length xs → Each P xs → P (get_or xs k d)
-each_get P [] k d l h = absurd (omega (arith, l))
-each_get P (x ∷ xs) zero d l h = h.0
-each_get P (x ∷ xs) (suc k) d l h = each_get P xs k d (omega (arith, l)) h.1
 
 -- ---- reservations
 
@@ -94,7 +91,7 @@ pub adds_one : (a b : Circuit) (ps : List ReservePort) (x y : Net) (f g : Signal
 adds_one a b ps x y f g e t m h q =
     let k = extends_keeps a b e in
     record {
-      there = each_more (IsThereReserve b) ps (record { enable = x; kind = W; addr = y }) (reserves_kept a b k ps t) (record { kind = refl; enable = m.there; addr = e.there y h });
+      there = each_push (IsThereReserve b) ps (record { enable = x; kind = W; addr = y }) (reserves_kept a b k ps t) (record { kind = refl; enable = m.there; addr = e.there y h });
       same = map-append (reserve_signal b) ps (record { enable = x; kind = W; addr = y } ∷ [])
           ∙ ap₂ (λ (fs gs : List ReserveSignal). fs ++ gs) (reserves_same a b k ps t) (ap₂ (λ u v. record { enable = u; addr = v } ∷ []) m.same (e.kept y h ∙ q));
     }
@@ -114,7 +111,7 @@ pub adds_write : (a b : Circuit) (ps : List TicketWrite) (x y z : Net) (f g h : 
 adds_write a b ps x y z f g h e t m u p v q =
     let k = extends_keeps a b e in
     record {
-      there = each_more (IsThereWrite b) ps (record { enable = x; ticket = y; value = z }) (writes_kept a b k ps t) (record { enable = m.there; ticket = e.there y u; value = e.there z v });
+      there = each_push (IsThereWrite b) ps (record { enable = x; ticket = y; value = z }) (writes_kept a b k ps t) (record { enable = m.there; ticket = e.there y u; value = e.there z v });
       same = map-append (ticket_signal b) ps (record { enable = x; ticket = y; value = z } ∷ [])
           ∙ ap₂ (λ (fs gs : List TicketSignal). fs ++ gs) (writes_same a b k ps t) (cc (m.same, e.kept y u ∙ p, e.kept z v ∙ q));
     }

@@ -14,11 +14,13 @@ use Rattle.pdl_flatnets.proofs.NetLists.{there_keeps, there_at, signal_of, signa
 use Rattle.pdl_pipe_law.specs.Walk.{Put, Letting}
 use Rattle.pdl_pipe_law.specs.Views.{View}
 use Rattle.pdl_pipe_law.specs.Ports.{reserves_to, all_reserves, puts_to, all_puts, release_moves, release_signal}
-use Rattle.pdl_stagenets.specs.Parts.{Each, reservation_in, put_in, walk_of}
+use Rattle.pdl_stagenets.specs.Parts.{reservation_in, put_in, walk_of}
 use Rattle.pdl_locknets.specs.declared.deeds.StageDeeds.{StageDeeds}
 use Rattle.pdl_locknets.specs.Deeds.{view_in, view_with, views_in, moves_in, no_parts}
 use Rattle.pdl_locknets.specs.Ports.{IsGiven, AreReserves, AreWrites, AddsReserves, AddsWrites}
 use Rattle.pdl_locknets.proofs.PortLists.{given_reserves, reservations_same, given_puts, puts_same, given_lettings, lettings_same}
+use Rattle.pdl_word.specs.Each.{Each}
+use Rattle.pdl_locknets.proofs.Backwards.{one_further}
 
 -- ---- the stage of a number
 
@@ -52,11 +54,7 @@ given_all a b k m (d ∷ ds) g = (given_kept a b k m d g.0, given_all a b k m ds
 
 reserves_next : (m : ℕ) (vs : ℕ → View) (moves : ℕ → Signal) (n i k : ℕ) → i < n → k ≡ n - 1 - i
     → all_reserves m vs moves (i + 1) (n - (i + 1)) ≡ all_reserves m vs moves i (n - i) ++ reserves_to m (moves k) (vs k).ended.reserves
-reserves_next m vs moves n i k l e =
-    let one : i + 1 ≡ suc i = omega arith in
-    let now : n - (i + 1) ≡ k = omega (arith, l, e) in
-    let next : suc k ≡ n - i = omega (arith, l, e) in
-    ap₂ (all_reserves m vs moves) one now ∙ ap (λ x. all_reserves m vs moves i x ++ reserves_to m (moves k) (vs k).ended.reserves) next
+reserves_next m vs moves n i k l e = let f = one_further (all_reserves m vs moves) n i k l e in f.0 ∙ ap (λ xs. xs ++ reserves_to m (moves k) (vs k).ended.reserves) f.1
 
 pub reserves_more : (a b c : Circuit) (m : ℕ) (ds : List StageDeeds) (i : ℕ) (d : StageDeeds) (ps qs : List ReservePort) → Keeps a b → i < length ds → d ≡ get_or ds (length ds - 1 - i) d → Each (IsGiven a m) ds
     → AreReserves b ps (all_reserves m (views_in a ds) (moves_in a ds) i (length ds - i)) → AddsReserves b c ps qs (reserves_to m (signal b d.moves) (map (reservation_in b) d.ended.now.reserves))
@@ -81,11 +79,7 @@ reserves_more a b c m ds i d ps qs k l e g h x =
 
 puts_next : (m : ℕ) (vs : ℕ → View) (moves : ℕ → Signal) (n i k : ℕ) → i < n → k ≡ n - 1 - i
     → all_puts m vs moves (i + 1) (n - (i + 1)) ≡ all_puts m vs moves i (n - i) ++ puts_to m (moves k) ((vs k).tickets m) (vs k).ended.puts
-puts_next m vs moves n i k l e =
-    let one : i + 1 ≡ suc i = omega arith in
-    let now : n - (i + 1) ≡ k = omega (arith, l, e) in
-    let next : suc k ≡ n - i = omega (arith, l, e) in
-    ap₂ (all_puts m vs moves) one now ∙ ap (λ x. all_puts m vs moves i x ++ puts_to m (moves k) ((vs k).tickets m) (vs k).ended.puts) next
+puts_next m vs moves n i k l e = let f = one_further (all_puts m vs moves) n i k l e in f.0 ∙ ap (λ xs. xs ++ puts_to m (moves k) ((vs k).tickets m) (vs k).ended.puts) f.1
 
 -- the net of a ticket
 pub ticket_there : (c : Circuit) (m : ℕ) (d : StageDeeds) (t : Net) → t ≡ get_or d.tickets.now m t → IsGiven c m d → IsThere c t

@@ -11,9 +11,9 @@ use Rattle.pdl_lockapi.specs.declared.ReservePort.{ReservePort}
 use Rattle.pdl_lockapi.specs.declared.TicketWrite.{TicketWrite}
 use Rattle.pdl_lockapi.specs.declared.LockPorts.{LockPorts}
 use Rattle.pdl_lockapi.specs.Laws.{ReserveSignal, TicketSignal, StepSignals, HasNoPorts, PortsThere, PortsFit, step_signals, enabled_reserve, reserve_signal, ticket_signal}
-use Rattle.pdl_stagenets.specs.Parts.{Each}
 use Rattle.pdl_locknets.specs.Ports.{IsThereReserve, IsThereWrite, ArePorts, SignalsFit}
 use Rattle.pdl_locknets.proofs.PortStages.{each_at}
+use Rattle.pdl_word.specs.Each.{Each}
 
 -- what holds of each image holds of each element
 of_map : {X Y : Type 0} (f : X → Y) (P : Y → Type 0) (xs : List X) → Each P (map f xs) → Each (λ x. P (f x)) xs
@@ -40,10 +40,10 @@ ports_mean c p f h =
     cc (h.reserves.same, h.writes.same, h.release.same, h.squash.same, h.tail.same) in
     same
 
-abbrev ReserveFits : ℕ → ReserveSignal → Type 0
+abbrev pub ReserveFits : ℕ → ReserveSignal → Type 0
 ReserveFits bits r = (r.enable.width ≡ 1) × (r.addr.width ≡ bits)
 
-abbrev WriteFits : ℕ → ℕ → TicketSignal → Type 0
+abbrev pub WriteFits : ℕ → ℕ → TicketSignal → Type 0
 WriteFits width tickets x = (x.enable.width ≡ 1) × (x.ticket.width ≡ tickets) × (x.value.width ≡ width)
 
 pub ports_fit : (c : Circuit) (bits width tickets : ℕ) (p : LockPorts) (f : StepSignals) → ArePorts c p f → SignalsFit bits width tickets f → PortsFit c bits width tickets p

@@ -1,5 +1,5 @@
 -- Whether a memory is released, by one stage after another from the last one on.
-use Rattle.std.proofs.Common.{◌≡◌, ℕ, zero, suc, ◌+◌, ◌-◌, ◌<◌, ◌≤◌, ◌==◌, Bool, true, false, List, [], ◌∷◌, map, length, drop, get_or, refl, sym, ap, ap₂, ◌∙◌, subst, arith}
+use Rattle.std.proofs.Common.{◌≡◌, ℕ, zero, suc, ◌+◌, ◌-◌, ◌<◌, ◌≤◌, ◌==◌, Bool, true, false, List, [], ◌∷◌, map, length, drop, get_or, refl, sym, ap, ◌∙◌, subst, arith}
 use Rattle.std.specs.Prelude.{if◌then◌else◌}
 use Rattle.std.proofs.lemmas.List.{drop_more, drop_all}
 use Rattle.pdl_net.specs.declared.Net.{Net}
@@ -11,12 +11,14 @@ use Rattle.pdl_pipe_law.specs.Walk.{Letting, one, both}
 use Rattle.pdl_pipe_law.specs.Views.{View}
 use Rattle.pdl_pipe_law.specs.Ports.{release_moves, release_signal}
 use Rattle.pdl_stagenets.specs.declared.nets.LettingNet.{LettingNet}
-use Rattle.pdl_stagenets.specs.Parts.{Each, letting_in}
+use Rattle.pdl_stagenets.specs.Parts.{letting_in}
 use Rattle.pdl_locknets.specs.declared.deeds.StageDeeds.{StageDeeds}
 use Rattle.pdl_locknets.specs.Deeds.{views_in, moves_in}
 use Rattle.pdl_locknets.specs.Ports.{IsGivenLetting, IsGiven}
 use Rattle.pdl_locknets.proofs.PortLists.{lettings_same}
 use Rattle.pdl_locknets.proofs.PortStages.{each_at, view_is, moves_is}
+use Rattle.pdl_word.specs.Each.{Each}
+use Rattle.pdl_locknets.proofs.Backwards.{one_further}
 
 lets_split : (m : ℕ) (f : Signal) (x : Letting) (xs : List Letting) (rest : Signal) → release_moves m f (x ∷ xs) rest ≡ release_moves m f (x ∷ []) (release_moves m f xs rest)
 lets_split m f x xs rest = at (x.mem == m)
@@ -71,11 +73,7 @@ lets_more a b c m f g xs i x net y rest k l e given q h z =
 
 released_next : (m : ℕ) (vs : ℕ → View) (moves : ℕ → Signal) (n i k : ℕ) → i < n → k ≡ n - 1 - i
     → release_signal m vs moves (i + 1) (n - (i + 1)) ≡ release_moves m (moves k) (vs k).ended.lettings (release_signal m vs moves i (n - i))
-released_next m vs moves n i k l e =
-    let one : i + 1 ≡ suc i = omega arith in
-    let now : n - (i + 1) ≡ k = omega (arith, l, e) in
-    let next : suc k ≡ n - i = omega (arith, l, e) in
-    ap₂ (release_signal m vs moves) one now ∙ ap (λ x. release_moves m (moves k) (vs k).ended.lettings (release_signal m vs moves i x)) next
+released_next m vs moves n i k l e = let f = one_further (release_signal m vs moves) n i k l e in f.0 ∙ ap (release_moves m (moves k) (vs k).ended.lettings) f.1
 
 pub released_more : (a b c : Circuit) (m : ℕ) (ds : List StageDeeds) (i : ℕ) (d : StageDeeds) (net y : Net) → Keeps a b → i < length ds → d ≡ get_or ds (length ds - 1 - i) d → Each (IsGiven a m) ds
     → Means b net (release_signal m (views_in a ds) (moves_in a ds) i (length ds - i)) → Means c y (release_moves m (signal b d.moves) (map (letting_in b) d.ended.now.lettings) (signal b net))

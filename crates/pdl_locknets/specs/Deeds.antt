@@ -9,11 +9,12 @@ use Rattle.pdl_flatnets.specs.Nets.{signal_at}
 use Rattle.pdl_pipe_law.specs.Walk.{Walk, one, zero_bit}
 use Rattle.pdl_pipe_law.specs.Views.{View, no_gates}
 use Rattle.pdl_pipe_law.specs.Ports.{step_of}
-use Rattle.pdl_stagenets.specs.Parts.{Parts, walk_of, walk_in, Each}
+use Rattle.pdl_stagenets.specs.Parts.{Parts, walk_of, walk_in}
 use Rattle.pdl_stagenets.specs.Sized.{IsWalk}
 use Rattle.pdl_stagenets.specs.declared.locks.MemLock.{MemLock}
 use Rattle.pdl_stagenets.specs.Locked.{Members, locks_in, AreTickets, tickets_in}
 use Rattle.pdl_locknets.specs.declared.deeds.StageDeeds.{StageDeeds}
+use Rattle.pdl_word.specs.Each.{Each}
 
 -- a walk that does nothing
 abbrev pub no_parts : Parts

@@ -14,9 +14,9 @@ use Rattle.pdl_pipe_law.specs.Ports.{all_reserves, all_puts, release_signal}
 use Rattle.pdl_stagenets.specs.declared.nets.ReserveNet.{ReserveNet}
 use Rattle.pdl_stagenets.specs.declared.nets.PutNet.{PutNet}
 use Rattle.pdl_stagenets.specs.declared.nets.LettingNet.{LettingNet}
-use Rattle.pdl_stagenets.specs.Parts.{Each}
 use Rattle.pdl_locknets.specs.declared.deeds.StageDeeds.{StageDeeds}
 use Rattle.pdl_locknets.specs.Deeds.{views_in, moves_in}
+use Rattle.pdl_word.specs.Each.{Each}
 
 -- ---- what a stage brings for a memory's lock
 

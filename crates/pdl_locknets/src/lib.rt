@@ -1,4 +1,6 @@
-//! The arrays of the memories, the registers of their locks, and what these take next.
+//! The arrays of the memories, the registers of their locks, and what these take next, round any lock module.
+//!
+//! The layers above may use `memories`, `StageDeeds`, and `step` of a `Round`.
 #![tactic(auto)]
 
 pub mod arrays;

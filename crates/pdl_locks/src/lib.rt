@@ -1,4 +1,6 @@
-//! The rules on locks that are asked on each path of a pipe, and what was done on a path so far.
+//! The rules on locks, L1 to L8, and what was done on a path so far; L2 is asked of the text, the others on each path.
+//!
+//! The layers above may use `check_locks` and `LockPlan`, the stages of each memory's reserves and releases, and for a walk with further rules `LockFacts`, `lock_path_rules`, `LockLines` and `plan_locks`.
 #![tactic(auto)]
 
 pub mod at_locations;

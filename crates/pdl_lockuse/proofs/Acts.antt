@@ -6,7 +6,8 @@ use Rattle.pdl_semantics.specs.Machine.{State, Thread, Pending, Reserved, with_a
 use Rattle.pdl_semantics.specs.Moves.{Act, act, acts, all_acts}
 use Rattle.pdl_lockapi.specs.Forget as forget
 use Rattle.pdl_machine_facts.specs.Slots.{slot, with_now, here, stage_moves, slot_moves, later_acts}
-use Rattle.pdl_invariant.specs.Use.{AllActs, AreOrdered, count_older, bit, reserved_in, reserved_count}
+use Rattle.pdl_invariant.specs.Use.{AllActs, bit, reserved_in, reserved_count}
+use Rattle.pdl_semantics.specs.PendingLists.{AreOrdered, count_older}
 
 -- EACH STAGE
 
@@ -55,11 +56,11 @@ module _ (p : Pipe) (st : State) (bits : List Bool) (P : Act → Type 0) where
 
 -- LISTS
 
-pub same_order : (t : ℕ) (es : List Pending) → AreOrdered t es → forget.AreOrdered t es
+pub same_order : (t : ℕ) (es : List Pending) → AreOrdered t es → AreOrdered t es
 same_order t [] h = tt
 same_order t (e ∷ es) h = (h.0, same_order (e.thread + 1) es h.1)
 
-pub same_count : (t : ℕ) (es : List Pending) → count_older t es ≡ forget.count_older t es
+pub same_count : (t : ℕ) (es : List Pending) → count_older t es ≡ count_older t es
 same_count t [] = refl
 same_count t (e ∷ es) = ap (λ n. if nat_lt e.thread t then suc n else n) (same_count t es)
 

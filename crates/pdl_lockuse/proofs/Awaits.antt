@@ -4,12 +4,12 @@ use Rattle.std.proofs.lemmas.Bool.{false≢true, eqb-true}
 use Rattle.pdl_semantics.specs.Flat.{Pipe, Op, DelayedRead, Stmt, Guard, all_hold}
 use Rattle.pdl_semantics.specs.Stages.{list_any, onpath, in_stage, commit_stage}
 use Rattle.pdl_semantics.specs.Machine.{State, Awaited, Ask, answer_for, unanswered_reads}
-use Rattle.pdl_semantics.specs.Sound.{stages_before}
+use Rattle.pdl_semantics.specs.Sound.{stages_before, is_delayed_read}
 use Rattle.pdl_facts.specs.Scans.{none_of, is_dead}
 use Rattle.pdl_facts.specs.Graphs.{next_of, stage_or}
 use Rattle.pdl_facts.specs.Facts.{Sound, FetchOk, FetchIf, AllFetches}
 use Rattle.pdl_turns.proofs.Paths.{dead_none}
-use Rattle.pdl_simulation.proofs.FlowFacts.{fetches_from, Leads}
+use Rattle.pdl_simulation.proofs.FlowFacts.{Leads}
 use Rattle.pdl_simulation.proofs.Stretches.{Fetched, AllFetched}
 use Rattle.pdl_simulation.proofs.Seats.{Live}
 use Rattle.pdl_simulation.proofs.Choices.{Seated}
@@ -67,15 +67,15 @@ module _ (p : Pipe) (fetch : ℕ → ℕ) where
       at false r = r
 
   -- all delayed reads of a memory stand in one stage
-  fetch_at : (s m : ℕ) (xs : List Stmt) → AllFetches p fetch s xs → none_of (fetches_from m) xs ≡ false → fetch m ≡ s
+  fetch_at : (s m : ℕ) (xs : List Stmt) → AllFetches p fetch s xs → none_of (is_delayed_read m) xs ≡ false → fetch m ≡ s
   fetch_at s m [] h e = absurd (false≢true (sym e))
-  fetch_at s m (x ∷ xs) h e = at (fetches_from m x.op) refl e (fetch_at s m xs h.1)
+  fetch_at s m (x ∷ xs) h e = at (is_delayed_read m x.op) refl e (fetch_at s m xs h.1)
     where
-      found : (op : Op) → FetchIf p fetch s x.guards op → fetches_from m op ≡ true → fetch m ≡ s
+      found : (op : Op) → FetchIf p fetch s x.guards op → is_delayed_read m op ≡ true → fetch m ≡ s
       found (DelayedRead y n a) k i = subst (λ j. fetch j ≡ s) (eqb-true n m i) k.0.0
       found _ k i = absurd (false≢true i)
 
-      at : (b : Bool) → fetches_from m x.op ≡ b → (not b && none_of (fetches_from m) xs) ≡ false → (none_of (fetches_from m) xs ≡ false → fetch m ≡ s)
+      at : (b : Bool) → is_delayed_read m x.op ≡ b → (not b && none_of (is_delayed_read m) xs) ≡ false → (none_of (is_delayed_read m) xs ≡ false → fetch m ≡ s)
           → fetch m ≡ s
       at true i k f = found x.op h.0 i
       at false i k f = f k

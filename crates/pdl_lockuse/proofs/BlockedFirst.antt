@@ -10,11 +10,11 @@ use Rattle.pdl_rules.specs.Parts.{location_of}
 use Rattle.pdl_rules.specs.Locks
 use Rattle.pdl_rules.specs.Locks.{same_location, Hold, Nothing, Reserved, Blocked, Released, after_place, hold_after, is_blocked, is_blocked_for}
 use Rattle.pdl_rules.specs.Typed.{is_named}
-use Rattle.pdl_rules.proofs.EachPlace.{Each}
+use Rattle.pdl_rules.proofs.EachPlace.{Each, closing}
 use Rattle.pdl_rules.proofs.Once.{KeepsLocks}
 use Rattle.pdl_derived.specs.Alone.{answered_op}
 use Rattle.pdl_facts.specs.Facts.{looked_all}
-use Rattle.pdl_stagefacts.proofs.Sites.{Site, front_of, place_of, closing, All}
+use Rattle.pdl_stagefacts.proofs.Sites.{Site, front_of, place_of, All}
 use Rattle.pdl_pathfacts.proofs.Numbers.{var_stays}
 use Rattle.pdl_pathfacts.proofs.Along.{ops_of, seen_ops, seen}
 use Rattle.pdl_pathfacts.proofs.Growth.{Grown, Grows, grown_more, past_grown, vars_past}

@@ -7,7 +7,7 @@ use Rattle.pdl_semantics.specs.Machine.{State}
 use Rattle.pdl_semantics.specs.Sound
 use Rattle.pdl_derived.specs.Derived
 use Rattle.pdl_derived.specs.Derived.{Around, around, befores}
-use Rattle.pdl_facts.specs.Scans.{Fresh, phase_all, phases_ok, no_scan, none_of, from}
+use Rattle.pdl_facts.specs.Scans.{Fresh, phase_all, phases_ok, no_scan, none_of}
 use Rattle.pdl_facts.specs.Certain.{all_sure}
 use Rattle.pdl_facts.specs.Facts.{Sound, trunk_only, looked_all, at_once}
 use Rattle.pdl_facts.specs.Accepted.{along}
@@ -18,7 +18,7 @@ use Rattle.pdl_turns.proofs.Whole
 use Rattle.pdl_simulation.proofs.FlowFacts.{next_of}
 use Rattle.pdl_simulation.proofs.Joined.{sound_flows, phases_looked}
 use Rattle.pdl_simulation.proofs.Stretches.{Behind, Keeps, start_of, fixed_here}
-use Rattle.pdl_simulation.proofs.Seats.{Live, Each, each_map, threads_of, dacts, did, now_of, work_of_live, deeds_of, befores_are}
+use Rattle.pdl_simulation.proofs.Seats.{Live, each_map, threads_of, dacts, did, now_of, work_of_live, deeds_of, befores_are}
 use Rattle.pdl_simulation.proofs.Choices.{Known, keeps_now}
 use Rattle.pdl_invariant.proofs.Trails.{stmts_append, stmts_map, stage_stmts}
 use Rattle.pdl_invariant.proofs.Points.{any_onto}
@@ -29,6 +29,8 @@ use Rattle.pdl_invariant.proofs.Releases.{is_done, sure_done, low_stages, stages
 use Rattle.pdl_lockuse.proofs.Paths.{path, mine, passed, way_is}
 use Rattle.pdl_lockuse.proofs.OwnWrite.{used_here}
 use Rattle.pdl_turns.proofs.Pending.{phase_append}
+use Rattle.pdl_semantics.specs.Sound.{stages_from}
+use Rattle.pdl_word.specs.Each.{Each}
 
 -- barriers stand in the trunk alone
 not_barred : (xs : List Stmt) (path : List ℕ) → none_of trunk_only xs ≡ true → stage.some_barrier (onpath path xs) ≡ true → ⊥
@@ -98,7 +100,7 @@ module _ (p : Pipe) (sound : Sound p) (st : State) (d : Derived.State) (bits : L
       (subst (λ xs. phases_ok m Fresh xs ≡ true) looked_way (Whole.ok_before (along q (at_once p)) (sound.pathwise.paths q) (λ k a. 0) [] n m))
       (subst (λ o. all_sure o false no_scan (looked_all way) ≡ true) (verify_looked p.stmts ∙ verifies)
       (subst (λ xs. all_sure (verify_stage (looked_all p.stmts)) false no_scan xs ≡ true) looked_way
-      (sure_first (verify_stage (looked_all p.stmts)) false no_scan (Rattle.pdl_derived.specs.Alone.before n (onpath q (looked_all p.stmts))) (from n (onpath q (looked_all p.stmts)))
+      (sure_first (verify_stage (looked_all p.stmts)) false no_scan (Rattle.pdl_derived.specs.Alone.before n (onpath q (looked_all p.stmts))) (stages_from n (onpath q (looked_all p.stmts)))
       (subst (λ xs. all_sure (verify_stage (looked_all p.stmts)) false no_scan xs ≡ true) ((sound.pathwise.paths q).ordered n) (sound.pathwise.sure q)))))
       (unbarred way clear)
       (stages_looked (λ s. nat_lt s v ≡ true) way

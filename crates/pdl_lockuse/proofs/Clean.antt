@@ -1,36 +1,17 @@
 -- Locations that a thread has blocked for reading, and those that it holds for writing, as its statements go by.
-use Rattle.std.proofs.Common.{◌≡◌, ◌≢◌, refl, sym, ap, ◌∙◌, subst, ℕ, suc, ◌≤◌, Bool, true, false, ◌&&◌, ◌||◌, not, List, [], ◌∷◌, Some, ◌==◌, cond, if◌then◌else◌, arith, slice_index, slice_set}
-use Rattle.std.proofs.lemmas.List.{get_or-set_other}
-use Rattle.std.proofs.lemmas.Bool.{false≢true, or_right, eqb-true, eqb-false}
+use Rattle.std.proofs.Common.{◌≡◌, ◌≢◌, refl, sym, ap, ◌∙◌, subst, ℕ, suc, ◌≤◌, Bool, true, false, ◌&&◌, ◌||◌, not, List, [], ◌∷◌, Some, ◌==◌, cond, if◌then◌else◌, arith, slice_index}
+use Rattle.std.proofs.lemmas.Bool.{false≢true, or_right, eqb-true}
 use Rattle.pdl_semantics.specs.Flat.{Op, DelayedRead, Write, ReserveWrite, Block, Release, Verify, Pipe, values_of}
 use Rattle.pdl_semantics.specs.Stages.{commit_stage}
 use Rattle.pdl_semantics.specs.Machine.{HeldLocation, Deeds, deeds_after, is_held, let_go, held_after, same_args}
 use Rattle.pdl_derived.specs.Alone.{Location, answered_op}
-use Rattle.pdl_facts.specs.Scans.{Phase, Fresh, Held, Written, Done, after_release, next_phase, is_fresh, Scan, is_address, has_location, scan_after, location}
+use Rattle.pdl_facts.specs.Scans.{Phase, Fresh, Held, Written, Done, after_release, next_phase, is_fresh, Scan, has_location, scan_after, location}
 use Rattle.pdl_derived.proofs.Writes.{and_left}
 use Rattle.pdl_turns.proofs.Alike.{Right}
 use Rattle.pdl_simulation.proofs.FlowFacts.{use_ok}
 use Rattle.pdl_word.proofs.Bools.{or_map}
 
 -- BLOCKED FOR READING
-
--- setting a variable that is no address keeps locations right
-pub right_set : (p : Pipe) (s : ℕ) (clean : ℕ → ℕ → Type 0) (ls : List Location) (env : List ℕ) (x v : ℕ) → not (is_address ls x) ≡ true → Right p s clean ls env
-    → Right p s clean ls (slice_set env x v)
-right_set p s clean [] env x v h r = tt
-right_set p s clean (l ∷ ls) env x v h r = (
-  r.0,
-  subst (λ n. s ≤ commit_stage p l.mem → clean l.mem n) (sym (get_or-set_other env x l.var v 0 (apart (l.var == x) refl h))) r.1,
-  right_set p s clean ls env x v (later (l.var == x) h) r.2,
-)
-  where
-    apart : (b : Bool) → (l.var == x) ≡ b → not (b || is_address ls x) ≡ true → l.var ≢ x
-    apart true e t q = cc
-    apart false e t q = eqb-false l.var x e q
-
-    later : (b : Bool) → not (b || is_address ls x) ≡ true → not (is_address ls x) ≡ true
-    later true t = cc
-    later false t = t
 
 -- a location among them is clean
 pub right_at : (p : Pipe) (s : ℕ) (clean : ℕ → ℕ → Type 0) (ls : List Location) (env : List ℕ) (m a : ℕ) → has_location ls m a ≡ true → s ≤ commit_stage p m

@@ -3,7 +3,7 @@ use Rattle.std.proofs.Common.{◌≡◌, refl, sym, ap, ◌∙◌, ℕ, zero, su
 use Rattle.pdl_semantics.specs.Machine.{Pending, Written}
 use Rattle.pdl_semantics.specs.Moves.{Act}
 use Rattle.pdl_semantics.specs.Cycle.{with_value_of, with_writes_of, with_all_writes, but_oldest, is_kept, entries_left}
-use Rattle.pdl_invariant.specs.Use.{AreOrdered, count_older}
+use Rattle.pdl_semantics.specs.PendingLists.{AreOrdered, count_older}
 
 -- THE ORDER OF A LIST
 

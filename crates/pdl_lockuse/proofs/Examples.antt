@@ -7,12 +7,13 @@ use Rattle.pdl_semantics.proofs.Pipes.{one_stage, two_stages, under_guard, share
 use Rattle.pdl_semantics.specs.Flat.{Pipe}
 use Rattle.pdl_semantics.specs.Machine.{State, lock_of}
 use Rattle.pdl_semantics.specs.Cycle.{squasher, has_release, cycle, first, state_after}
-use Rattle.pdl_invariant.specs.Use.{moving, with_new, with_release, count_older}
+use Rattle.pdl_invariant.specs.Use.{moving, with_new, with_release}
 use Rattle.pdl_machine_facts.specs.Fit.{IsFit}
 use Rattle.pdl_machine_facts.specs.Linear.{IsSimple}
 use Rattle.pdl_machine_facts.proofs.LinearSources.{linear_source}
 use Rattle.pdl_lockuse.specs.Careful.{is_careful}
 use Rattle.pdl_lockuse.proofs.Tried.{fit_tested, simple_tested}
+use Rattle.pdl_semantics.specs.PendingLists.{count_older}
 
 one_stage_careful : is_careful (flat one_stage) ≡ true
 one_stage_careful = refl

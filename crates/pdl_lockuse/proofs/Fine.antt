@@ -11,13 +11,13 @@ use Rattle.pdl_facts.specs.Scans.{no_guards, Phase, next_phase, Scan, is_plain, 
 use Rattle.pdl_facts.specs.Certain.{Making, next_making, making_ok, makings_ok, is_guessed, stands_at}
 use Rattle.pdl_facts.specs.Facts.{looked_all}
 use Rattle.pdl_derived.proofs.Writes.{and_left, and_right}
-use Rattle.pdl_turns.proofs.Alike.{Right, AllIn}
+use Rattle.pdl_turns.proofs.Alike.{Right, AllIn, right_set}
 use Rattle.pdl_simulation.proofs.FlowFacts.{use_ok, uses_ok}
 use Rattle.pdl_machine_facts.specs.Slots.{locks_ready}
 use Rattle.pdl_machine_facts.specs.Use.{is_early, IsOpFine, AreFine}
 use Rattle.pdl_machine_facts.proofs.UsingTurn.{IsAlong}
 use Rattle.pdl_lockuse.specs.Careful.{passes_on}
-use Rattle.pdl_lockuse.proofs.Clean.{right_set, right_at, Covers, covers_op, held_does, IsOnce, released_here, once_op}
+use Rattle.pdl_lockuse.proofs.Clean.{right_at, Covers, covers_op, held_does, IsOnce, released_here, once_op}
 
 pub all_last : {X : Type 0} → (test : X → Bool) (xs : List X) (x : X) → list_all test (xs ++ x ∷ []) ≡ true → (list_all test xs ≡ true) × (test x ≡ true)
 all_last test [] x h = (refl, and_left (test x) true h)

@@ -4,7 +4,7 @@ use Rattle.pdl_semantics.specs.Flat.{Arrays, Mem, Pipe}
 use Rattle.pdl_semantics.specs.Machine.{State, Thread, Request, NoRequest, request_of, is_answered, with_answers}
 use Rattle.pdl_semantics.specs.Moves.{Act, acts, all_acts, movers}
 use Rattle.pdl_semantics.specs.Cycle.{for_mems, asked_of, asked_by, request_left, squasher, is_kept, is_wait, waits_from, cycle, first, state_after}
-use Rattle.pdl_facts.specs.Scans.{none_of, is_fetch}
+use Rattle.pdl_facts.specs.Scans.{none_of}
 use Rattle.pdl_facts.specs.Facts.{Sound}
 use Rattle.pdl_simulation.proofs.Joined.{sound_flows}
 use Rattle.pdl_machine_facts.specs.Cycle.{IsCalm}
@@ -18,6 +18,7 @@ use Rattle.pdl_lockuse.specs.Use.{IsSpared}
 use Rattle.pdl_lockuse.proofs.Acts.{at_here}
 use Rattle.pdl_lockuse.proofs.InUse.{leads_sound}
 use Rattle.pdl_lockuse.proofs.InRuns.{in_use_here, stages_here, spared_here}
+use Rattle.pdl_semantics.specs.Sound.{is_fetch}
 
 -- WAITS
 

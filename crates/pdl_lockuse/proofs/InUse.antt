@@ -21,12 +21,12 @@ use Rattle.pdl_turns.proofs.Looks.{path_looked}
 use Rattle.pdl_simulation.proofs.Joined.{sound_flows}
 use Rattle.pdl_simulation.proofs.Shapes.{shape_over, over_early}
 use Rattle.pdl_simulation.proofs.Stretches.{on_way}
-use Rattle.pdl_simulation.proofs.Seats.{Live, Each, find, pends, dacts, lact, lacts, did, deeds_of}
+use Rattle.pdl_simulation.proofs.Seats.{Live, find, pends, dacts, lact, lacts, did, deeds_of}
 use Rattle.pdl_simulation.proofs.Telling.{Pair, pairs, EachPair, pair_map, pair_both}
 use Rattle.pdl_simulation.proofs.Choices.{Known, AllKnown, Seated}
 use Rattle.pdl_simulation.proofs.Turned.{two, Agrees, unreleased}
 use Rattle.pdl_simulation.proofs.Swapped.{Swaps, same_taken, same_squasher}
-use Rattle.pdl_simulation.proofs.Together.{Sim, known, acts_are, fit}
+use Rattle.pdl_simulation.proofs.Together.{known, acts_are, fit}
 use Rattle.pdl_simulation.proofs.Turned.{two_is}
 use Rattle.pdl_lockapi.specs.Forget as forget
 use Rattle.pdl_machine_facts.specs.Slots
@@ -36,7 +36,7 @@ use Rattle.pdl_machine_facts.specs.Use.{before_stage, AreFine, IsInUse}
 use Rattle.pdl_machine_facts.proofs.Stagewise.{by_stages}
 use Rattle.pdl_machine_facts.proofs.StagewisePorts.{stages_count}
 use Rattle.pdl_invariant.specs.Strict.{Strict}
-use Rattle.pdl_invariant.specs.Use.{AllActs, moving, with_new, with_values, with_release, count_older, bit, AreOrdered, FindsOlder, KeepsPlace, ShiftsPlace, ShiftsTail}
+use Rattle.pdl_invariant.specs.Use.{AllActs, moving, with_new, with_values, with_release, bit, FindsOlder, KeepsPlace, ShiftsPlace, ShiftsTail}
 use Rattle.pdl_invariant.proofs.Lasting.{Lasting, Along}
 use Rattle.pdl_invariant.proofs.Reached.{Whole}
 use Rattle.pdl_invariant.proofs.PendingLists.{count_filled}
@@ -52,6 +52,9 @@ use Rattle.pdl_lockuse.proofs.Awaits.{still_early}
 use Rattle.pdl_lockuse.proofs.Tails.{Bars, up_released, bars_commit, bars_verify, all_own, tail_kept}
 use Rattle.pdl_lockuse.proofs.Cuts.{order_filled, order_behind, tail_left, front_left}
 use Rattle.pdl_turns.proofs.Pending.{phase_append}
+use Rattle.pdl_semantics.specs.PendingLists.{AreOrdered, count_older}
+use Rattle.pdl_word.specs.Each.{Each}
+use Rattle.pdl_simulation.proofs.Simulated.{Sim}
 
 -- STAGES
 
@@ -427,7 +430,7 @@ module _ (p : Pipe) (sound : Sound p) (strict : Strict p) (st : State) (d : Deri
       plain = no_pending;
       unreleased = λ m h. ap (has_release m) (sym by.movers) ∙ no_release m h;
       ordered = λ m. same_order 0 (lock_of st m) (list_ordered p sound st d bits ls sim m);
-      ordered_next = λ m. subst (forget.AreOrdered 0) (sym (list_is m)) (same_order 0 (with_new p st bits m) (reserves p sound st d bits ls sim m).ordered);
+      ordered_next = λ m. subst (AreOrdered 0) (sym (list_is m)) (same_order 0 (with_new p st bits m) (reserves p sound st d bits ls sim m).ordered);
       one =
           λ m. subst (λ n. n ≤ 1) (same_reserved m (moving p st bits) ∙ ap (λ ms. length (forget.addresses m ms)) by.movers)
           (reserves p sound st d bits ls sim m).one;
@@ -436,7 +439,7 @@ module _ (p : Pipe) (sound : Sound p) (strict : Strict p) (st : State) (d : Deri
           ∙ at_slot p st bits (FindsOlder st m (reserve_stage p m)) (finds_older p sound st d bits ls sim m) k t h low;
       writer = λ k t m v h g c. let w = at_here p st bits (Writes m v) (writes_all m v) k t h g c in (w.0, ap (forget.has_thread t.number) (list_is m) ∙ w.1);
       after =
-          λ k t m h low. ap (forget.count_older t.number) (list_is m) ∙ sym (same_count t.number (with_new p st bits m))
+          λ k t m h low. ap (count_older t.number) (list_is m) ∙ sym (same_count t.number (with_new p st bits m))
           ∙ at_slot p st bits (KeepsPlace p st bits m) (places p sound st d bits ls sim m) k t h low ∙ same_count t.number (lock_of st m);
       releaser = λ m h.
           let w = written m (ap (has_release m) by.movers ∙ h) in
@@ -444,7 +447,7 @@ module _ (p : Pipe) (sound : Sound p) (strict : Strict p) (st : State) (d : Deri
       shifts = λ k t m h low early stands.
           let s = at_slot p st bits (ShiftsPlace p st bits m) (shifts p sound st d bits ls sim m) k t h early stands in
           let b = at_slot p st bits (KeepsPlace p st bits m) (places p sound st d bits ls sim m) k t h low in
-          ap (λ ms. forget.count_older t.number (list_three st ms m) + Words.bit (has_release m ms)) (sym by.movers)
+          ap (λ ms. count_older t.number (list_three st ms m) + Words.bit (has_release m ms)) (sym by.movers)
           ∙ sym (ap₂ (λ x y. x + y) (same_count t.number (with_release p st bits m)) (same_bit (has_release m (moving p st bits))))
           ∙ s ∙ b ∙ same_count t.number (lock_of st m);
       held = λ k q t h e. at_here p st bits (Holds q) (holds_all q) k t h e;

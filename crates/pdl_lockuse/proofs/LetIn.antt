@@ -11,7 +11,7 @@ use Rattle.pdl_derived.specs.Alone.{Location, answered_op}
 use Rattle.pdl_facts.specs.Scans.{no_guards, Scan, is_address, has_location, scan_after, op_ok, reads_ok, location}
 use Rattle.pdl_facts.specs.Facts.{looked_all, mentions_var}
 use Rattle.pdl_derived.proofs.Writes.{and_left, and_right}
-use Rattle.pdl_turns.proofs.Alike.{Right, AllIn}
+use Rattle.pdl_turns.proofs.Alike.{Right, AllIn, right_set}
 use Rattle.pdl_machine_facts.specs.Slots.{locks_ready}
 use Rattle.pdl_machine_facts.specs.Use.{in_time, is_early}
 use Rattle.pdl_machine_facts.proofs.UsingTurn.{IsAlong}
@@ -21,7 +21,7 @@ use Rattle.pdl_invariant.proofs.Fading.{read_write}
 use Rattle.pdl_invariant.proofs.Stage.{LowBlock}
 use Rattle.pdl_lockuse.specs.Careful.{is_block_at, was_blocked, is_let_in, all_let_in}
 use Rattle.pdl_lockuse.specs.Use.{IsLetIn, AreLetIn}
-use Rattle.pdl_lockuse.proofs.Clean.{right_set, right_at, Covers, covers_op, held_does}
+use Rattle.pdl_lockuse.proofs.Clean.{right_at, Covers, covers_op, held_does}
 use Rattle.pdl_lockuse.proofs.Fine.{RightIf, all_last, read_here, right_next}
 
 -- the locations that these statements blocked

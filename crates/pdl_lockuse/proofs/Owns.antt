@@ -13,7 +13,7 @@ use Rattle.pdl_derived.proofs.Lists.{pend}
 use Rattle.pdl_turns.proofs.Own.{Worked, pend_own}
 use Rattle.pdl_simulation.proofs.Joined.{sound_flows}
 use Rattle.pdl_simulation.proofs.Stretches.{late}
-use Rattle.pdl_simulation.proofs.Seats.{Live, Each, each_map, Ordered, pends, lact, lacts, did, deeds_of, work_of_live}
+use Rattle.pdl_simulation.proofs.Seats.{Live, each_map, Ordered, pends, lact, lacts, did, deeds_of, work_of_live}
 use Rattle.pdl_simulation.proofs.Telling.{Pair, pairs, EachPair, pair_map}
 use Rattle.pdl_simulation.proofs.Choices.{AllKnown, Seated, worked_here, late_here}
 use Rattle.pdl_simulation.proofs.Turned.{part, two, release_here, next_up}
@@ -23,6 +23,7 @@ use Rattle.pdl_invariant.proofs.LockCycle.{appended_more}
 use Rattle.pdl_lockuse.specs.Use.{Own, is_open}
 use Rattle.pdl_lockuse.proofs.OwnWrite.{used_here}
 use Rattle.pdl_invariant.proofs.Local.{any_append, any_front}
+use Rattle.pdl_word.specs.Each.{Each}
 
 -- a write among others
 pub contains_write : (m : ℕ) (ws : List Written) (w : Written) → w.mem ≡ m → Contains ws w → writes_to m ws ≡ true

@@ -8,12 +8,13 @@ use Rattle.pdl_facts.specs.Facts.{Sound}
 use Rattle.pdl_lockapi.specs.Forget as forget
 use Rattle.pdl_machine_facts.specs.Slots
 use Rattle.pdl_invariant.specs.Strict.{Strict}
-use Rattle.pdl_invariant.specs.Use.{moving, with_new, with_release, count_older, ShiftsTail}
+use Rattle.pdl_invariant.specs.Use.{moving, with_new, with_release, ShiftsTail}
 use Rattle.pdl_lockuse.specs.Use.{FindsAll, KeepsTail}
 use Rattle.pdl_lockuse.specs.Cut.{IsCut}
 use Rattle.pdl_lockuse.proofs.Acts.{at_slot, same_count, same_bit}
 use Rattle.pdl_lockuse.proofs.Cuts.{tail_left}
 use Rattle.pdl_lockuse.proofs.InRuns.{stages_here, all_here, kept_here, tails_here, cuts_here}
+use Rattle.pdl_semantics.specs.PendingLists.{count_older}
 
 module _ (p : Pipe) (sound : Sound p) (strict : Strict p) (image : Arrays) (before : List (List Bool)) (bits : List Bool) where
   abbrev now : State
@@ -28,11 +29,11 @@ module _ (p : Pipe) (sound : Sound p) (strict : Strict p) (image : Arrays) (befo
   three_is : (m : ℕ) → list_three now (Slots.moving p now bits) m ≡ with_release p now bits m
   three_is m = ap (λ ms. list_three now ms m) (sym movers)
 
-  count_new : (t m : ℕ) → forget.count_older t (with_reserves m (Slots.moving p now bits) (lock_of now m)) ≡ count_older t (with_new p now bits m)
-  count_new t m = ap (forget.count_older t) (new_is m) ∙ sym (same_count t (with_new p now bits m))
+  count_new : (t m : ℕ) → count_older t (with_reserves m (Slots.moving p now bits) (lock_of now m)) ≡ count_older t (with_new p now bits m)
+  count_new t m = ap (count_older t) (new_is m) ∙ sym (same_count t (with_new p now bits m))
 
-  count_three : (t m : ℕ) → forget.count_older t (list_three now (Slots.moving p now bits) m) ≡ count_older t (with_release p now bits m)
-  count_three t m = ap (forget.count_older t) (three_is m) ∙ sym (same_count t (with_release p now bits m))
+  count_three : (t m : ℕ) → count_older t (list_three now (Slots.moving p now bits) m) ≡ count_older t (with_release p now bits m)
+  count_three t m = ap (count_older t) (three_is m) ∙ sym (same_count t (with_release p now bits m))
 
   pub cut_here : IsCut p (state_after p (first p image) before) bits
   cut_here = record {

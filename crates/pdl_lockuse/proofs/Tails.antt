@@ -11,17 +11,18 @@ use Rattle.pdl_turns.proofs.CourseOf
 use Rattle.pdl_derived.proofs.Lists.{pend}
 use Rattle.pdl_simulation.proofs.Joined.{sound_flows}
 use Rattle.pdl_simulation.proofs.Stretches.{Behind}
-use Rattle.pdl_simulation.proofs.Seats.{Live, Each, Falls, falls_each, Ordered, pends, lact, lacts, did, deeds_of}
+use Rattle.pdl_simulation.proofs.Seats.{Live, Falls, falls_each, Ordered, pends, lact, lacts, did, deeds_of}
 use Rattle.pdl_simulation.proofs.Telling.{Pair, pairs, EachPair, pair_map, pair_both, pairs_each}
 use Rattle.pdl_simulation.proofs.Choices.{Seated, AllKnown}
 use Rattle.pdl_simulation.proofs.Turned.{release_here}
-use Rattle.pdl_invariant.specs.Use.{count_older}
 use Rattle.pdl_invariant.proofs.Lasting.{Lasting, Along}
 use Rattle.pdl_invariant.proofs.PendingLists.{within_count}
 use Rattle.pdl_invariant.proofs.LockCycle.{NoOlder, movers_no_older, count_appended, quiet_new, past_new, older_past, within_new, appended_more}
 use Rattle.pdl_invariant.proofs.OwnWrites.{none_pending}
 use Rattle.pdl_invariant.proofs.LockRelease.{some_pending, first_low}
 use Rattle.pdl_lockuse.proofs.Certain.{certain_here}
+use Rattle.pdl_semantics.specs.PendingLists.{count_older}
+use Rattle.pdl_word.specs.Each.{Each}
 
 -- V is a trunk stage
 verify_trunk : (p : Pipe) → Sound p → (v : ℕ) → verify_stage p.stmts ≡ Some v → (stage_at p v).branch ≡ None

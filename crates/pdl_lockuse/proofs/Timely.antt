@@ -6,7 +6,7 @@ use Rattle.pdl_semantics.specs.Stages.{list_any, onpath, is_release, commit_stag
 use Rattle.pdl_semantics.specs.Machine.{State}
 use Rattle.pdl_semantics.specs.Moves.{Act}
 use Rattle.pdl_derived.specs.Alone.{before, answered_op}
-use Rattle.pdl_facts.specs.Scans.{no_guards, Phase, Fresh, Written, next_phase, phase_all, is_over, Scan, no_scan, scan_after, op_ok, reads_ok, all_at, none_of, from}
+use Rattle.pdl_facts.specs.Scans.{no_guards, Phase, Fresh, Written, next_phase, phase_all, is_over, Scan, no_scan, scan_after, op_ok, reads_ok, all_at, none_of}
 use Rattle.pdl_facts.specs.Facts.{Sound, looked_all, at_once}
 use Rattle.pdl_facts.specs.Accepted.{Accepted, along}
 use Rattle.pdl_derived.proofs.Writes.{and_left, and_right}
@@ -19,6 +19,7 @@ use Rattle.pdl_invariant.specs.Use.{AllActs}
 use Rattle.pdl_invariant.proofs.Trails.{AllStmts, stmts_map}
 use Rattle.pdl_lockuse.specs.Use.{ReleasesOlder, UsesOlder, uses_mem}
 use Rattle.pdl_lockuse.proofs.Paths.{one}
+use Rattle.pdl_semantics.specs.Sound.{stages_from}
 
 -- THE ORDER OF A PATH
 
@@ -31,16 +32,16 @@ low_before s (x ∷ xs) = at (nat_lt x.stage s) refl (low_before s xs)
     at true e r = (ltb-true _ _ e, r)
     at false e r = r
 
-high_from : (s : ℕ) (xs : List Stmt) → AllStmts (λ z. s ≤ z.stage) (from s xs)
+high_from : (s : ℕ) (xs : List Stmt) → AllStmts (λ z. s ≤ z.stage) (stages_from s xs)
 high_from s [] = tt
 high_from s (x ∷ xs) = at (nat_le s x.stage) refl (high_from s xs)
   where
-    at : (b : Bool) → nat_le s x.stage ≡ b → AllStmts (λ z. s ≤ z.stage) (from s xs) → AllStmts (λ z. s ≤ z.stage) (cond b (x ∷ from s xs) (from s xs))
+    at : (b : Bool) → nat_le s x.stage ≡ b → AllStmts (λ z. s ≤ z.stage) (stages_from s xs) → AllStmts (λ z. s ≤ z.stage) (cond b (x ∷ stages_from s xs) (stages_from s xs))
     at true e r = (leb-true _ _ e, r)
     at false e r = r
 
--- where all stand from a stage on, none stands before it
-none_before : (s : ℕ) (xs : List Stmt) → AllStmts (λ z. s ≤ z.stage) xs → (before s xs ≡ []) × (from s xs ≡ xs)
+-- where all stand stages_from a stage on, none stands before it
+none_before : (s : ℕ) (xs : List Stmt) → AllStmts (λ z. s ≤ z.stage) xs → (before s xs ≡ []) × (stages_from s xs ≡ xs)
 none_before s [] h = (refl, refl)
 none_before s (x ∷ xs) h =
     let r = none_before s xs h.1 in (
@@ -54,7 +55,7 @@ Rising [] = Unit {0}
 Rising (x ∷ xs) = AllStmts (λ z. x.stage ≤ z.stage) xs × Rising xs
 
 abbrev Split : List Stmt → Type 0
-Split xs = (s : ℕ) → xs ≡ before s xs ++ from s xs
+Split xs = (s : ℕ) → xs ≡ before s xs ++ stages_from s xs
 
 module _ (x : Stmt) (xs : List Stmt) (split : Split (x ∷ xs)) where
   tail_is : {a b : Stmt} {as' bs : List Stmt} → a ∷ as' ≡ b ∷ bs → as' ≡ bs
@@ -66,25 +67,25 @@ module _ (x : Stmt) (xs : List Stmt) (split : Split (x ∷ xs)) where
   behind : AllStmts (λ z. x.stage ≤ z.stage) xs
   behind = at (before x.stage xs) refl (low_before x.stage xs)
     where
-      here : x ∷ xs ≡ before x.stage xs ++ x ∷ from x.stage xs
+      here : x ∷ xs ≡ before x.stage xs ++ x ∷ stages_from x.stage xs
       here =
           split x.stage
-          ∙ ap₂ (λ b c. cond b (record x { op = answered_op x.op } ∷ before x.stage xs) (before x.stage xs) ++ cond c (x ∷ from x.stage xs) (from x.stage xs))
+          ∙ ap₂ (λ b c. cond b (record x { op = answered_op x.op } ∷ before x.stage xs) (before x.stage xs) ++ cond c (x ∷ stages_from x.stage xs) (stages_from x.stage xs))
           (le-ltb x.stage x.stage (le_refl x.stage)) (le-leb x.stage x.stage (le_refl x.stage))
 
       at : (l : List Stmt) → before x.stage xs ≡ l → AllStmts (λ z. z.stage < x.stage) l → AllStmts (λ z. x.stage ≤ z.stage) xs
-      at [] e low = subst (AllStmts (λ z. x.stage ≤ z.stage)) (sym (tail_is (here ∙ ap (λ l. l ++ x ∷ from x.stage xs) e))) (high_from x.stage xs)
+      at [] e low = subst (AllStmts (λ z. x.stage ≤ z.stage)) (sym (tail_is (here ∙ ap (λ l. l ++ x ∷ stages_from x.stage xs) e))) (high_from x.stage xs)
       at (b ∷ bs) e low =
-          let same : x.stage ≡ b.stage = ap (λ (z : Stmt). z.stage) (head_is (here ∙ ap (λ l. l ++ x ∷ from x.stage xs) e)) in
+          let same : x.stage ≡ b.stage = ap (λ (z : Stmt). z.stage) (head_is (here ∙ ap (λ l. l ++ x ∷ stages_from x.stage xs) e)) in
           absurd (let i = low.0 in omega (arith, same, i))
 
   split_tail : Split xs
   split_tail s = at (nat_lt x.stage s) refl
     where
-      at : (b : Bool) → nat_lt x.stage s ≡ b → xs ≡ before s xs ++ from s xs
+      at : (b : Bool) → nat_lt x.stage s ≡ b → xs ≡ before s xs ++ stages_from s xs
       at true e =
           let i = ltb-true _ _ e in
-          tail_is (split s ∙ ap₂ (λ b c. cond b (record x { op = answered_op x.op } ∷ before s xs) (before s xs) ++ cond c (x ∷ from s xs) (from s xs)) e (far i))
+          tail_is (split s ∙ ap₂ (λ b c. cond b (record x { op = answered_op x.op } ∷ before s xs) (before s xs) ++ cond c (x ∷ stages_from s xs) (stages_from s xs)) e (far i))
         where
           far : x.stage < s → nat_le s x.stage ≡ false
           far i = go (nat_le s x.stage) refl

@@ -3,7 +3,7 @@ use Rattle.std.proofs.Common.{◌≡◌, sym, ap, ◌∙◌, ℕ, Bool, true, �
 use Rattle.pdl_semantics.specs.Flat.{Pipe, Stmt, list_all, start_env}
 use Rattle.pdl_semantics.specs.Stages.{onpath, fork_guards, is_verify}
 use Rattle.pdl_facts.specs.Checks.{guard_vars}
-use Rattle.pdl_facts.specs.Scans.{none_of, is_fetch}
+use Rattle.pdl_facts.specs.Scans.{none_of}
 use Rattle.pdl_facts.specs.SoundChecks.{passes_tests, all_paths, all_guards}
 use Rattle.pdl_derived.proofs.Writes.{and_left, and_right}
 use Rattle.pdl_progress.proofs.Rates.{picks, among, among_append}
@@ -14,6 +14,7 @@ use Rattle.pdl_machine_facts.specs.Linear.{IsLinear, IsSimple}
 use Rattle.pdl_invariant.specs.Strict.{Strict, is_strict, all_new, all_let_go}
 use Rattle.pdl_lockuse.specs.Careful.{Careful, is_careful, all_keep_kind, all_let_in}
 use Rattle.pdl_lockuse.proofs.Fits.{fit_sound}
+use Rattle.pdl_semantics.specs.Sound.{is_fetch}
 
 module _ (p : Pipe) (low : list_all (λ g. nat_lt g (length (start_env p []))) (all_guards p) ≡ true) where
   guard_among : (g : ℕ) → among g (guard_vars p.stmts) ≡ true → among g (all_guards p) ≡ true

@@ -5,8 +5,8 @@ use Rattle.pdl_semantics.specs.Flat.{Pipe}
 use Rattle.pdl_semantics.specs.Stages.{reserve_stage, verify_stage}
 use Rattle.pdl_semantics.specs.Machine.{Thread, State, lock_of}
 use Rattle.pdl_semantics.specs.Cycle.{with_reserves, has_release, list_three, is_kept, entries_left, squasher}
-use Rattle.pdl_lockapi.specs.Forget.{count_older}
 use Rattle.pdl_machine_facts.specs.Slots.{slot, moving}
+use Rattle.pdl_semantics.specs.PendingLists.{count_older}
 
 -- where a thread's squash cuts the list of pending writes: after its own and older ones
 pub record IsCut (p : Pipe) (st : State) (bits : List Bool) : Type 0 where

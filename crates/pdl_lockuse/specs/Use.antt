@@ -8,7 +8,8 @@ use Rattle.pdl_semantics.specs.Moves.{Act, have_room}
 use Rattle.pdl_semantics.specs.Cycle.{has_release, is_kept, entries_left, squasher}
 use Rattle.pdl_machine_facts.specs.Slots.{locks_ready}
 use Rattle.pdl_machine_facts.specs.Use.{before_stage}
-use Rattle.pdl_invariant.specs.Use.{moving, with_new, with_values, with_release, count_older, bit}
+use Rattle.pdl_invariant.specs.Use.{moving, with_new, with_values, with_release, bit}
+use Rattle.pdl_semantics.specs.PendingLists.{count_older}
 
 -- A THREAD AND A LOCK IN A CYCLE
 

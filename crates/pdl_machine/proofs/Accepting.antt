@@ -1,5 +1,5 @@
 -- The machine runs each accepted pipe, with each image of it.
-use Rattle.std.proofs.Common.{◌≡◌, refl, sym, ap, ◌∙◌, subst, ℕ, zero, suc, ◌^◌, ◌<◌, false, List, [], ◌∷◌, length, slice_index, slice_index_or, arith}
+use Rattle.std.proofs.Common.{◌≡◌, refl, sym, ◌∙◌, subst, ℕ, zero, suc, ◌^◌, ◌<◌, false, List, [], ◌∷◌, length, slice_index, slice_index_or, arith}
 use Rattle.std.specs.Prelude.{IsTrue}
 use Rattle.pdl_semantics.specs.Tree.{Mem, Pipe}
 use Rattle.pdl_semantics.specs.Flatten.{mems_of, flat}
@@ -11,11 +11,12 @@ use Rattle.pdl_form.specs.Form.{form_of}
 use Rattle.pdl_formtypes.specs.Stmts.{IsTypedForm}
 use Rattle.pdl_kit.specs.declared.mem_info.MemInfo.{MemInfo}
 use Rattle.pdl_image.specs.Images.{IsImage}
-use Rattle.pdl_check.specs.Memories.{infos_of}
 use Rattle.pdl_check.specs.Compiled.{can_compile}
 use Rattle.pdl_gated.proofs.Guesses.{no_guess}
 use Rattle.pdl_gated.proofs.Simple.{simple}
 use Rattle.pdl_run.specs.Running.{IsRunnable, AreImages}
+use Rattle.pdl_rules.specs.Memories.{infos_of}
+use Rattle.pdl_rules.proofs.Memories.{infos_count}
 
 -- THE PIPE
 
@@ -32,10 +33,6 @@ runnable p kept source letters can typed =
 
 no_info : MemInfo
 no_info = record { name = []; width = 0; depth = 0; delayed = false }
-
-infos_count : (ms : List Mem) → length (infos_of ms) ≡ length (mems_of ms)
-infos_count [] = refl
-infos_count (m ∷ ms) = ap suc (infos_count ms)
 
 info_depth : (ms : List Mem) (m : ℕ) → m < length (infos_of ms) → (slice_index_or (infos_of ms) m no_info).depth ≡ (slice_index_or (mems_of ms) m plain_mem).depth
 info_depth [] m h = absurd (omega arith)

@@ -1,4 +1,6 @@
-//! The pipeline machine of an accepted pipe.
+//! The pipeline machine of an accepted pipe, as a program that shares no code with its netlist.
+//!
+//! The layer above may use `Machine`, whose clauses have both theorems and Sound state of what it has run.
 #![tactic(auto)]
 
 mod machine;

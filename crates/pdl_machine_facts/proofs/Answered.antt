@@ -8,12 +8,13 @@ use Rattle.pdl_kit.specs.declared.rule.Rule.TheVariants.{F4}
 use Rattle.pdl_rules.specs.Places.{Statement}
 use Rattle.pdl_rules.specs.Forks.{is_delayed_memory, breaks_f4}
 use Rattle.pdl_rules.specs.Refusal.{KeepsRules, is_comb}
-use Rattle.pdl_facts.specs.Scans.{none_of, is_fetch}
+use Rattle.pdl_facts.specs.Scans.{none_of}
 use Rattle.pdl_stagefacts.proofs.Sites.{Site, sites_of, place_of, stmts_are}
 use Rattle.pdl_stagefacts.proofs.Standing.{all_map}
 use Rattle.pdl_pathfacts.proofs.Along.{ops, ops_of, if_ops}
 use Rattle.pdl_pathfacts.proofs.Variables.{Here, all_here}
 use Rattle.pdl_pathfacts.proofs.Sited.{some_op, none_sited}
+use Rattle.pdl_semantics.specs.Sound.{is_fetch}
 
 none_delayed : (ms : List Mem) (n : List ℕ) → list_all is_comb ms ≡ true → is_delayed_memory ms n ≡ false
 none_delayed [] n h = refl

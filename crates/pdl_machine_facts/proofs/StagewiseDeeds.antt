@@ -4,8 +4,9 @@ use Rattle.std.proofs.lemmas.Bool.{and_parts, not-true}
 use Rattle.pdl_semantics.specs.Flat.{Op, Bind, CombRead, DelayedRead, Write, ReserveRead, ReserveWrite, Block, Release, Call, SpecCall, Verify, SpecCheck, SpecBarrier, Stmt, Pipe, values_of, all_hold}
 use Rattle.pdl_semantics.specs.Stages.{in_stage, is_verify}
 use Rattle.pdl_semantics.specs.Machine.{State, Thread, Deeds, same_args, deeds_after, deeds_after_all, deeds, word_for}
-use Rattle.pdl_facts.specs.Scans.{none_of, is_fetch}
+use Rattle.pdl_facts.specs.Scans.{none_of}
 use Rattle.pdl_turns.proofs.OfStage.{none_stage}
+use Rattle.pdl_semantics.specs.Sound.{is_fetch}
 
 same_asks : (read : ℕ → ℕ → ℕ) (o : Op) (d : Deeds) → is_fetch o ≡ false → (deeds_after read o d).asks ≡ d.asks
 same_asks read (Bind x e) d h = refl

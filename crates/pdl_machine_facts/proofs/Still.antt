@@ -6,7 +6,7 @@ use Rattle.pdl_semantics.specs.Machine.{Thread, State, Request, NoRequest, Ask, 
 use Rattle.pdl_semantics.specs.Moves.{Act, next_stage}
 use Rattle.pdl_semantics.specs.Cycle.{cycle, first, for_mems, request_left, request_next, asked_by, asked_of, awaited_of, thread_after, or_then, if_kept, born_thread, child_of, squasher, is_stage}
 use Rattle.pdl_semantics.specs.Cycle
-use Rattle.pdl_facts.specs.Scans.{none_of, is_fetch}
+use Rattle.pdl_facts.specs.Scans.{none_of}
 use Rattle.pdl_simulation.proofs.PerMemory.{mems_same}
 use Rattle.pdl_machine_facts.specs.Slots
 use Rattle.pdl_machine_facts.specs.Slots.{LeadsOn, slot, with_now, here, stage_moves, act_at, mover, movers_from, moving, first_of, passing_thread, thread_into, ways, arriving_thread}
@@ -14,6 +14,7 @@ use Rattle.pdl_machine_facts.specs.Cycle.{newborn}
 use Rattle.pdl_machine_facts.proofs.StagewiseDeeds.{no_asks, no_fails}
 use Rattle.pdl_machine_facts.proofs.StagewisePorts.{stages_count, at_stage, past_stage}
 use Rattle.pdl_machine_facts.proofs.Stagewise.{by_stages, next_is}
+use Rattle.pdl_semantics.specs.Sound.{is_fetch}
 
 -- a state whose threads await nothing and where nothing is requested
 pub record IsStill (p : Pipe) (st : State) : Type 0 where

@@ -4,10 +4,11 @@ use Rattle.pdl_semantics.specs.Tree.{If, Stmts, Nil, Cons}
 use Rattle.pdl_semantics.specs.Flat.{Pipe, Ends, Goes}
 use Rattle.pdl_semantics.specs.Flatten.{separators}
 use Rattle.pdl_semantics.specs.Stages.{stage_at, is_verify}
-use Rattle.pdl_facts.specs.Scans.{none_of, is_fetch}
+use Rattle.pdl_facts.specs.Scans.{none_of}
 use Rattle.pdl_facts.specs.Checks.{in_text_order}
 use Rattle.pdl_facts.specs.Facts.{Sound}
 use Rattle.pdl_machine_facts.specs.Fit.{IsFit}
+use Rattle.pdl_semantics.specs.Sound.{is_fetch}
 
 -- each stage leads to the next one and the last out of the pipe, and statements stand in the order of their stages
 pub record IsLinear (p : Pipe) : Type 0 where

@@ -7,8 +7,9 @@ use Rattle.pdl_semantics.specs.Locks.{read_ready}
 use Rattle.pdl_semantics.specs.Machine.{Thread, State, Pending, lock_of, Deeds, deeds, deeds_after, held_before, is_held, let_go, with_kept, older_write, word_for}
 use Rattle.pdl_semantics.specs.Moves.{next_stage}
 use Rattle.pdl_semantics.specs.Cycle.{is_stage, with_reserves, has_release, list_two, list_three}
-use Rattle.pdl_lockapi.specs.Forget.{AreOrdered, count_older, has_thread, addresses}
+use Rattle.pdl_lockapi.specs.Forget.{has_thread, addresses}
 use Rattle.pdl_machine_facts.specs.Slots.{slot, here, stage_moves, locks_ready, moving}
+use Rattle.pdl_semantics.specs.PendingLists.{AreOrdered, count_older}
 
 -- a thread before the statements of its stage
 abbrev pub before_stage : Pipe → ℕ → Thread → Deeds

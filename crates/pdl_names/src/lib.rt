@@ -1,4 +1,6 @@
 //! The names of a pipe: which place defines each, and the rules on names, N1 to N3.
+//!
+//! The layers above may use `check_names`.
 #![tactic(auto)]
 
 mod branches;

@@ -6,3 +6,4 @@ pub mod Bounds
 pub mod Widths
 pub mod Examples
 pub mod WidthLists
+pub mod PipeMems

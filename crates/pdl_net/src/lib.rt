@@ -1,4 +1,6 @@
-//! Netlists: ports, registers, arrays and cells, what their nets mean, and that nets keep their values when more is added.
+//! Netlists: ports, registers, arrays and cells, what their nets mean, which are well formed, and that nets keep their values when more is added.
+//!
+//! The layers above may use its types and definitions, `Netlist::width`, and the lemmas on nets that are kept (`Keeps`).
 #![tactic(auto)]
 
 mod width;

@@ -20,11 +20,7 @@ use Rattle.pdl_image.specs.Images.{IsImage}
 use Rattle.pdl_netrun.specs.Plan.{ImageFits}
 use Rattle.pdl_netrun.specs.Inside.{Holds}
 use Rattle.pdl_word.proofs.Lists.{zeros_at}
-
--- a netlist without delayed memories has none among its ports
-none_delayed : (delayed locked : List PortMem) (arrays : List Array) → filter (λ m. m.delayed) (mems_of delayed locked arrays) ≡ [] → delayed ≡ []
-none_delayed [] locked arrays e = refl
-none_delayed (d ∷ ds) locked arrays e = let n = ap length e in absurd (omega (arith, n))
+use Rattle.pdl_net.proofs.PipeMems.{none_delayed}
 
 -- the memory that an array and the locked memories tell has the array's width and at most its depth
 record IsHeld (a : Array) (m : MemInfo) : Type 0 where

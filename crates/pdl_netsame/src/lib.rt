@@ -1,6 +1,6 @@
-//! Whether two netlists are the same.
+//! Whether two netlists are the same: whether their names, ports, registers, arrays, cells and memories are, each in one order.
 //!
-//! They are where their names, ports, registers, arrays, cells and memories are, each in one order.
+//! The layers above may use `is_same_netlist`.
 #![tactic(auto)]
 
 pub mod same;

@@ -1,4 +1,6 @@
-//! The outputs of a pipe's netlist.
+//! The outputs of a pipe's netlist, with their names.
+//!
+//! The layer above may use `all_outputs` and `show`.
 #![tactic(auto)]
 
 pub mod outputs;

@@ -11,19 +11,21 @@ use Rattle.pdl_rules.specs.Places.{places}
 use Rattle.pdl_rules.specs.Names.{OfVariable, defines_use}
 use Rattle.pdl_rules.specs.Refusal.{KeepsRules}
 use Rattle.pdl_derived.specs.Alone.{before, answered_op}
-use Rattle.pdl_facts.specs.Scans.{none_of, binds_var, is_fetch}
+use Rattle.pdl_facts.specs.Scans.{none_of, binds_var}
 use Rattle.pdl_facts.specs.Graphs.{stage_or, next_of, on_side}
 use Rattle.pdl_facts.specs.Facts.{is_fetch_of, DifferIn, comes_by, visits_stage}
 use Rattle.pdl_stagefacts.specs.StageFacts.{StageFacts}
 use Rattle.pdl_stagefacts.proofs.Facts.{stage_facts}
 use Rattle.pdl_stagefacts.proofs.Sites.{Site, sites_of}
 use Rattle.pdl_stagefacts.proofs.Standing.{Standing, OnTrunk, OnBranch, all_map}
-use Rattle.pdl_stagefacts.proofs.Fine.{Each, each_stmt, each_in_stage, none_each, AtSite, op_of, from_op, row_at}
+use Rattle.pdl_stagefacts.proofs.Fine.{each_stmt, each_in_stage, none_each, AtSite, op_of, from_op, row_at}
 use Rattle.pdl_pathfacts.specs.Source.{are_apart}
 use Rattle.pdl_pathfacts.proofs.Live.{AllGuards, guards_map}
 use Rattle.pdl_pathfacts.proofs.Known.{Known}
 use Rattle.pdl_pathfacts.proofs.Guarded.{Guarded}
 use Rattle.pdl_pathfacts.proofs.GuardFacts.{Told, no_cut, fetch_delayed, all_told}
+use Rattle.pdl_semantics.specs.Sound.{is_fetch}
+use Rattle.pdl_word.specs.Each.{Each}
 
 -- A SITE ON A PATH
 

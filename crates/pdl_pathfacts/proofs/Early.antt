@@ -19,15 +19,15 @@ use Rattle.pdl_rules.specs.Locks.{is_locked}
 use Rattle.pdl_rules.specs.Forks
 use Rattle.pdl_rules.specs.Stages.{stage_in, stage_from, stage_after, first_stage, branches_of, are_outer, releases_memory, next_on, bound_late}
 use Rattle.pdl_rules.specs.Refusal.{KeepsRules}
-use Rattle.pdl_facts.specs.Scans.{none_of, is_dead, is_fetch}
-use Rattle.pdl_stagefacts.proofs.Sites.{Site, sites_of, front_of, closing, place_of, All, stmts_are}
+use Rattle.pdl_facts.specs.Scans.{none_of, is_dead}
+use Rattle.pdl_stagefacts.proofs.Sites.{Site, sites_of, front_of, place_of, All, stmts_are}
 use Rattle.pdl_stagefacts.proofs.Walks.{cut, cut_append, cut_in, at_front}
 use Rattle.pdl_stagefacts.proofs.Shapes.{is_whole, is_forked, fork_fits, begins_stage}
 use Rattle.pdl_stagefacts.proofs.Standing.{all_map, none_of_whole}
 use Rattle.pdl_stagefacts.proofs.Formed.{body_forked}
 use Rattle.pdl_stagefacts.proofs.Staged.{from_append, from_none, all_staged}
 use Rattle.pdl_stagefacts.proofs.Firsts.{any_params, any_mems}
-use Rattle.pdl_stagefacts.proofs.Fine.{Each, each_stmt, AtSite, op_of, from_op}
+use Rattle.pdl_stagefacts.proofs.Fine.{each_stmt, AtSite, op_of, from_op}
 use Rattle.pdl_pathfacts.specs.Source.{are_apart}
 use Rattle.pdl_pathfacts.proofs.Choices.{by_choice}
 use Rattle.pdl_pathfacts.proofs.Along.{ops}
@@ -43,6 +43,9 @@ use Rattle.pdl_pathfacts.proofs.Live.{some_path}
 use Rattle.pdl_pathfacts.proofs.Known.{Known, way}
 use Rattle.pdl_pathfacts.proofs.GuardFacts.{Told, all_told}
 use Rattle.pdl_word.proofs.Bytes.{bytes_same}
+use Rattle.pdl_semantics.specs.Sound.{is_fetch}
+use Rattle.pdl_rules.proofs.EachPlace.{closing}
+use Rattle.pdl_word.specs.Each.{Each}
 
 -- THE LAST SEPARATOR
 

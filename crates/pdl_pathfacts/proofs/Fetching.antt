@@ -14,11 +14,11 @@ use Rattle.pdl_rules.specs.Names.{OfVariable, defines_use, is_delayed, is_too_ea
 use Rattle.pdl_rules.specs.Stages.{stage_in, stage_after}
 use Rattle.pdl_rules.specs.Forks
 use Rattle.pdl_rules.specs.Refusal.{KeepsRules}
-use Rattle.pdl_facts.specs.Scans.{binds_var, is_dead, is_fetch}
+use Rattle.pdl_facts.specs.Scans.{binds_var, is_dead}
 use Rattle.pdl_facts.specs.Facts.{asks_for, mentions_var, silent_on, unseen_op, is_unseen, fetches_no, none_like, alone_op, fetch_apart}
 use Rattle.pdl_stagefacts.proofs.Sites.{Site, sites_of, place_of, owns, All, stmts_are}
 use Rattle.pdl_stagefacts.proofs.Walks.{names, names_append}
-use Rattle.pdl_stagefacts.proofs.Fine.{Each, op_of, rows_of, own_is, from_op, row_at}
+use Rattle.pdl_stagefacts.proofs.Fine.{op_of, rows_of, own_is, from_op, row_at}
 use Rattle.pdl_stagefacts.proofs.Firsts.{known_one}
 use Rattle.pdl_stagefacts.proofs.Forking.{Order, Before, Same, After, order}
 use Rattle.pdl_stagefacts.proofs.ForkVars
@@ -31,6 +31,8 @@ use Rattle.pdl_pathfacts.proofs.Guarded.{Guarded, used_here}
 use Rattle.pdl_pathfacts.proofs.GuardFacts.{Told, no_cut, fetch_delayed, all_told}
 use Rattle.pdl_pathfacts.proofs.Uses.{AtStmt, mention}
 use Rattle.pdl_word.proofs.Bytes.{bytes_same}
+use Rattle.pdl_semantics.specs.Sound.{is_fetch}
+use Rattle.pdl_word.specs.Each.{Each}
 
 -- each two of some statements, in text order
 abbrev pub Pairs : (Flat.Stmt → Flat.Stmt → Type 0) → List Flat.Stmt → Type 0

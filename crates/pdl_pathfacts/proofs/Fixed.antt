@@ -4,11 +4,13 @@ use Rattle.std.proofs.lemmas.Bool.{and_parts, and_from, or_parts, eqb-true, not-
 use Rattle.pdl_semantics.specs.Flat.{Guard, Stmt, Op, list_all}
 use Rattle.pdl_semantics.specs.Stages.{in_stage}
 use Rattle.pdl_derived.specs.Alone.{before, answered_op}
-use Rattle.pdl_facts.specs.Scans.{from, none_of, binds_var, free_of, is_dead, keeps_guards, is_fixed}
+use Rattle.pdl_facts.specs.Scans.{none_of, binds_var, free_of, is_dead, keeps_guards, is_fixed}
 use Rattle.pdl_facts.specs.Facts.{binds_guard}
 use Rattle.pdl_turns.proofs.Sounds.{binds_looked}
-use Rattle.pdl_stagefacts.proofs.Fine.{Each, each_append}
 use Rattle.pdl_turns.proofs.OfStage.{fixed_stage}
+use Rattle.pdl_semantics.specs.Sound.{stages_from}
+use Rattle.pdl_word.specs.Each.{Each}
+use Rattle.pdl_word.proofs.Each.{each_append}
 
 -- PARTS OF A TEXT
 
@@ -21,11 +23,11 @@ module _ (P Q : Stmt → Type 0) (s : ℕ) where
       at true e k = (f x h.0 (ltb-true x.stage s e), k)
       at false e k = k
 
-  pub each_from : ((y : Stmt) → Q y → s ≤ y.stage → P y) → (xs : List Stmt) → Each Q xs → Each P (from s xs)
+  pub each_from : ((y : Stmt) → Q y → s ≤ y.stage → P y) → (xs : List Stmt) → Each Q xs → Each P (stages_from s xs)
   each_from f [] h = tt
   each_from f (x ∷ xs) h = at (nat_le s x.stage) refl (each_from f xs h.1)
     where
-      at : (b : Bool) → nat_le s x.stage ≡ b → Each P (from s xs) → Each P (cond b (x ∷ from s xs) (from s xs))
+      at : (b : Bool) → nat_le s x.stage ≡ b → Each P (stages_from s xs) → Each P (cond b (x ∷ stages_from s xs) (stages_from s xs))
       at true e k = (f x h.0 (leb-true s x.stage e), k)
       at false e k = k
 
@@ -112,13 +114,13 @@ fixed_before s (x ∷ xs) h = let parts = and_parts (keeps_guards x.guards (x �
         ))) r
     at false k r = r
 
-fixed_from : (s : ℕ) (xs : List Stmt) → is_fixed xs ≡ true → is_fixed (from s xs) ≡ true
+fixed_from : (s : ℕ) (xs : List Stmt) → is_fixed xs ≡ true → is_fixed (stages_from s xs) ≡ true
 fixed_from s [] h = refl
 fixed_from s (x ∷ xs) h = let parts = and_parts (keeps_guards x.guards (x ∷ xs)) (is_fixed xs) h in at (nat_le s x.stage) parts.0 (fixed_from s xs parts.1)
   where
-    at : (b : Bool) → keeps_guards x.guards (x ∷ xs) ≡ true → is_fixed (from s xs) ≡ true → is_fixed (cond b (x ∷ from s xs) (from s xs)) ≡ true
+    at : (b : Bool) → keeps_guards x.guards (x ∷ xs) ≡ true → is_fixed (stages_from s xs) ≡ true → is_fixed (cond b (x ∷ stages_from s xs) (stages_from s xs)) ≡ true
     at true k r =
-        and_from _ _ (keeps_to (x ∷ from s xs) x (λ e. let own = to_keeps (x ∷ xs) x k e in (own.0, each_from (λ y. binds_guard y.op x.guards ≡ false) (λ y. binds_guard y.op x.guards ≡ false) s (λ y f up. f) xs own.1))) r
+        and_from _ _ (keeps_to (x ∷ stages_from s xs) x (λ e. let own = to_keeps (x ∷ xs) x k e in (own.0, each_from (λ y. binds_guard y.op x.guards ≡ false) (λ y. binds_guard y.op x.guards ≡ false) s (λ y f up. f) xs own.1))) r
     at false k r = r
 
 -- no statement binds a guard's variable in a later stage
@@ -132,13 +134,13 @@ unbound y z f low = at (binds_guard y.op z.guards) refl
     at true e = absurd (let i = f e in omega arith)
     at false e = refl
 
-pub fixed_stages : (xs : List Stmt) → is_fixed xs ≡ true → Each (Rests xs) xs → (s : ℕ) → is_fixed (before s xs ++ (in_stage s xs ++ from (suc s) xs)) ≡ true
+pub fixed_stages : (xs : List Stmt) → is_fixed xs ≡ true → Each (Rests xs) xs → (s : ℕ) → is_fixed (before s xs ++ (in_stage s xs ++ stages_from (suc s) xs)) ≡ true
 fixed_stages xs h r s =
-    fixed_append (before s xs) (in_stage s xs ++ from (suc s) xs) (fixed_before s xs h)
-    (fixed_append (in_stage s xs) (from (suc s) xs) (fixed_stage s xs h) (fixed_from (suc s) xs h)
-    (each_stage (Keeps (from (suc s) xs)) (Rests xs) s (λ z f here e. each_from (λ y. binds_guard y.op z.guards ≡ false) (λ y. binds_guard y.op z.guards ≡ true → y.stage ≤ z.stage) (suc s) (λ y g up. unbound y z g (omega arith)) xs (f e)) xs r))
-    (each_before (Keeps (in_stage s xs ++ from (suc s) xs)) (Rests xs) s
+    fixed_append (before s xs) (in_stage s xs ++ stages_from (suc s) xs) (fixed_before s xs h)
+    (fixed_append (in_stage s xs) (stages_from (suc s) xs) (fixed_stage s xs h) (fixed_from (suc s) xs h)
+    (each_stage (Keeps (stages_from (suc s) xs)) (Rests xs) s (λ z f here e. each_from (λ y. binds_guard y.op z.guards ≡ false) (λ y. binds_guard y.op z.guards ≡ true → y.stage ≤ z.stage) (suc s) (λ y g up. unbound y z g (omega arith)) xs (f e)) xs r))
+    (each_before (Keeps (in_stage s xs ++ stages_from (suc s) xs)) (Rests xs) s
     (λ z f low e.
-    each_append (λ y. binds_guard y.op z.guards ≡ false) (in_stage s xs) (from (suc s) xs)
+    each_append (λ y. binds_guard y.op z.guards ≡ false) (in_stage s xs) (stages_from (suc s) xs)
     (each_stage (λ y. binds_guard y.op z.guards ≡ false) (λ y. binds_guard y.op z.guards ≡ true → y.stage ≤ z.stage) s (λ y g here. unbound y z g (omega arith)) xs (f e))
     (each_from (λ y. binds_guard y.op z.guards ≡ false) (λ y. binds_guard y.op z.guards ≡ true → y.stage ≤ z.stage) (suc s) (λ y g up. unbound y z g (omega arith)) xs (f e))) xs r)

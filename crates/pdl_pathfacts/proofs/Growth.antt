@@ -7,6 +7,7 @@ use Rattle.pdl_semantics.specs.Flatten
 use Rattle.pdl_rules.specs.Places.{Place, Statement, Guard, Branch, with_inner, statements, on_path}
 use Rattle.pdl_stagefacts.proofs.Sites.{Site, branch, sites_in, sites, sites_of, front_of, place_of}
 use Rattle.pdl_pathfacts.proofs.Along.{on_sites}
+use Rattle.pdl_semantics.proofs.Facts.{all_vars}
 
 -- the variables after a statement alone
 abbrev pub if_past : List Var → Expr → List Var
@@ -78,10 +79,6 @@ mutual
   grows ms front w gs bs (Cons s ss) =
       grows_append ms w.vars (past ms s w).vars (past_all ms ss (past ms s w)).vars (sites_in ms front w gs bs s) (sites ms (front ++ with_inner bs s) (past ms s w) gs bs ss)
       (grows_in ms front w gs bs s) (grows ms (front ++ with_inner bs s) (past ms s w) gs bs ss)
-
--- the variables of the whole text
-abbrev pub all_vars : Pipe → List Var
-all_vars p = (past_all p.mems p.body (at_start p)).vars
 
 pub grows_all : (p : Pipe) → Grows p.mems (params_of p.params) (sites_of p) (all_vars p)
 grows_all p = grows p.mems (front_of p) (at_start p) [] [] p.body

@@ -10,11 +10,11 @@ use Rattle.pdl_rules.specs.Places.{Statement, Branch, places}
 use Rattle.pdl_rules.specs.Limits.{is_separator}
 use Rattle.pdl_rules.specs.Names.{OfVariable, defines_use, is_delayed}
 use Rattle.pdl_rules.specs.Refusal.{KeepsRules}
-use Rattle.pdl_facts.specs.Scans.{none_of, binds_var, free_of, is_dead, is_fixed, is_fetch}
+use Rattle.pdl_facts.specs.Scans.{none_of, binds_var, free_of, is_dead, is_fixed}
 use Rattle.pdl_facts.specs.Facts.{binds_guard, defined_by, late_for}
 use Rattle.pdl_stagefacts.proofs.Sites.{Site, sites_of, own, owns, All, stmts_are}
 use Rattle.pdl_stagefacts.proofs.Standing.{all_both, all_map}
-use Rattle.pdl_stagefacts.proofs.Fine.{Each, each_stmt, each_map, AtSite, op_of, rows_of, own_is, from_op, row_at}
+use Rattle.pdl_stagefacts.proofs.Fine.{each_stmt, AtSite, op_of, rows_of, own_is, from_op, row_at}
 use Rattle.pdl_stagefacts.proofs.ForkVars
 use Rattle.pdl_pathfacts.specs.Source.{are_apart}
 use Rattle.pdl_pathfacts.proofs.Growth.{Grown, Grows, vars_past, past_grown, grown_same, grows_all}
@@ -22,6 +22,9 @@ use Rattle.pdl_pathfacts.proofs.Live.{AllGuards, some_path}
 use Rattle.pdl_pathfacts.proofs.Known.{Known, Settled, all_known, all_settled}
 use Rattle.pdl_pathfacts.proofs.Guarded.{Guarded, all_guarded}
 use Rattle.pdl_pathfacts.proofs.Fixed.{Rests, each_all}
+use Rattle.pdl_semantics.specs.Sound.{is_fetch}
+use Rattle.pdl_word.specs.Each.{Each}
+use Rattle.pdl_word.proofs.Each.{each_weaker}
 
 -- all that is known of a site
 pub record Told (p : Pipe) (t : Site) : Type 0 where
@@ -121,7 +124,7 @@ module _ (p : Pipe) (rules : KeepsRules p) (apart : are_apart (places p) ≡ tru
           (r.0, λ d. r.2 (fetch_delayed p.mems y.walk.vars y.stmt y.branches o f d))) (sites_of p) all_told)
 
   pub guards_late : list_all (λ z. is_dead z.guards || late_for z (flat p).stmts) (flat p).stmts ≡ true
-  guards_late = each_all (λ z. is_dead z.guards || late_for z (flat p).stmts) (flat p).stmts (each_map (λ z. is_dead z.guards ≡ false → Each (Late z) (flat p).stmts) (λ z. (is_dead z.guards || late_for z (flat p).stmts) ≡ true) one (flat p).stmts all_late)
+  guards_late = each_all (λ z. is_dead z.guards || late_for z (flat p).stmts) (flat p).stmts (each_weaker (λ z. is_dead z.guards ≡ false → Each (Late z) (flat p).stmts) (λ z. (is_dead z.guards || late_for z (flat p).stmts) ≡ true) one (flat p).stmts all_late)
     where
       defined : (y z : Flat.Stmt) → Late z y → (not (binds_guard y.op z.guards) || defined_by y.stage y.op z.stage) ≡ true
       defined y z h = at (binds_guard y.op z.guards) refl
@@ -146,4 +149,4 @@ module _ (p : Pipe) (rules : KeepsRules p) (apart : are_apart (places p) ≡ tru
           at false e = late z (flat p).stmts (h e)
 
   pub all_rest : Each (Rests (flat p).stmts) (flat p).stmts
-  all_rest = each_map (λ z. is_dead z.guards ≡ false → Each (Late z) (flat p).stmts) (Rests (flat p).stmts) (λ z h e. each_map (Late z) (λ y. binds_guard y.op z.guards ≡ true → y.stage ≤ z.stage) (λ y k b. (k b).0) (flat p).stmts (h e)) (flat p).stmts all_late
+  all_rest = each_weaker (λ z. is_dead z.guards ≡ false → Each (Late z) (flat p).stmts) (Rests (flat p).stmts) (λ z h e. each_weaker (Late z) (λ y. binds_guard y.op z.guards ≡ true → y.stage ≤ z.stage) (λ y k b. (k b).0) (flat p).stmts (h e)) (flat p).stmts all_late

@@ -14,7 +14,7 @@ use Rattle.pdl_rules.specs.Limits.{is_separator}
 use Rattle.pdl_rules.specs.Names.{OfVariable, defines_use, is_delayed, is_given, is_parameter, is_undefined, is_too_early}
 use Rattle.pdl_rules.specs.Refusal.{KeepsRules}
 use Rattle.pdl_facts.specs.Scans.{binds_var}
-use Rattle.pdl_stagefacts.proofs.Sites.{Site, sites_of, front_of, closing, place_of, All}
+use Rattle.pdl_stagefacts.proofs.Sites.{Site, sites_of, front_of, place_of, All}
 use Rattle.pdl_stagefacts.proofs.Walks.{names, names_at, names_by, names_append, Choice, its_if, flat_guard, rule_branch, Chosen, AllChosen, Nested}
 use Rattle.pdl_stagefacts.proofs.Standing.{all_both}
 use Rattle.pdl_stagefacts.proofs.Fine.{op_of, from_op}
@@ -31,6 +31,7 @@ use Rattle.pdl_pathfacts.proofs.Same.{value, after_of}
 use Rattle.pdl_pathfacts.proofs.Live.{AllGuards}
 use Rattle.pdl_pathfacts.proofs.Known.{Known, long, all_known, way, Bounds, Settled, Owned, given_more, bound_name, number_name, no_parameter, all_settled, all_owned}
 use Rattle.pdl_word.proofs.Bytes.{bytes_same}
+use Rattle.pdl_rules.proofs.EachPlace.{closing}
 
 pub record Guarded (p : Pipe) (t : Site) (g : Flat.Guard) : Type 0 where
   pub low : g.var < length t.walk.vars

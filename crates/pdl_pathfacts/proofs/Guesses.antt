@@ -21,7 +21,7 @@ use Rattle.pdl_rules.proofs.Defined.{any_split}
 use Rattle.pdl_facts.specs.Scans
 use Rattle.pdl_facts.specs.Certain.{stands_at, stands_before}
 use Rattle.pdl_facts.proofs.Texts.{no_verify}
-use Rattle.pdl_stagefacts.proofs.Sites.{Site, sites_of, front_of, closing, place_of, All, stmts_are}
+use Rattle.pdl_stagefacts.proofs.Sites.{Site, sites_of, front_of, place_of, All, stmts_are}
 use Rattle.pdl_stagefacts.proofs.Staged.{Staged}
 use Rattle.pdl_semantics.specs.Flatten.{flat}
 use Rattle.pdl_pathfacts.proofs.Choices.{path_of, unbroken_on, by_choice}
@@ -33,6 +33,7 @@ use Rattle.pdl_pathfacts.proofs.Sited.{first_skip, first_sited, each_sited, some
 use Rattle.pdl_pathfacts.proofs.Calls.{Asked, guess_calls}
 use Rattle.pdl_pathfacts.proofs.Scanning.{AllAsked, AllSure}
 use Rattle.pdl_word.proofs.Bytes.{bytes_same, bytes_refl}
+use Rattle.pdl_rules.proofs.EachPlace.{closing}
 
 -- COUNTS
 

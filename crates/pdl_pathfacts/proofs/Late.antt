@@ -7,9 +7,9 @@ use Rattle.pdl_rules.specs.Limits.{is_separator}
 use Rattle.pdl_rules.specs.Locks
 use Rattle.pdl_rules.specs.Locks.{is_locked, same_location, Hold, Nothing, Reserved, Blocked, Released, after_block, after_place, hold_after, is_blocked_for, is_unreleased, reserves_location, leaves_open}
 use Rattle.pdl_rules.specs.Stages.{releases_memory}
-use Rattle.pdl_rules.proofs.EachPlace.{Each}
+use Rattle.pdl_rules.proofs.EachPlace.{Each, closing}
 use Rattle.pdl_rules.proofs.Once.{KeepsLocks, any_weaker, held_alike}
-use Rattle.pdl_stagefacts.proofs.Sites.{Site, closing, place_of, All}
+use Rattle.pdl_stagefacts.proofs.Sites.{Site, place_of, All}
 use Rattle.pdl_pathfacts.proofs.Order.{Next, Rises}
 use Rattle.pdl_pathfacts.proofs.ReadsKept.{open_reserved, read_open, held_more, reads_at}
 

@@ -19,9 +19,9 @@ use Rattle.pdl_rules.specs.Typed.{is_memory, AreDistinct}
 use Rattle.pdl_rules.proofs.Once.{any_front, any_last}
 use Rattle.pdl_rules.proofs.Defined.{takes_name}
 use Rattle.pdl_facts.specs.Scans.{is_plain, none_of}
-use Rattle.pdl_stagefacts.proofs.Sites.{closing}
 use Rattle.pdl_word.proofs.Bytes.{bytes_same, bytes_refl}
 use Rattle.pdl_stagefacts.proofs.Trunks.{first_index}
+use Rattle.pdl_rules.proofs.EachPlace.{closing}
 
 -- NUMBERS
 

@@ -6,6 +6,7 @@ use Rattle.pdl_semantics.specs.Tree.{Mem}
 use Rattle.pdl_semantics.specs.Flatten.{Var, var_of, mem_of}
 use Rattle.pdl_rules.specs.Typed.{is_named, is_memory}
 use Rattle.pdl_word.proofs.Bytes.{bytes_same, bytes_refl}
+use Rattle.pdl_stagefacts.proofs.Walks.{told}
 
 -- the number of the first of these names that is this one
 abbrev pub place_of : List (List ℕ) → List ℕ → ℕ
@@ -46,15 +47,11 @@ in_stays (y ∷ ys) zs x h = at (bytes_eq y x) h (in_stays ys zs x)
 
 -- VARIABLES AND MEMORIES
 
-abbrev pub var_names : List Var → List (List ℕ)
-var_names [] = []
-var_names (v ∷ vs) = v.name ∷ var_names vs
-
 abbrev pub mem_names : List Mem → List (List ℕ)
 mem_names [] = []
 mem_names (m ∷ ms) = m.name.name ∷ mem_names ms
 
-pub var_place : (vs : List Var) (x : List ℕ) → (var_of vs x ≡ place_of (var_names vs) x) × (is_named vs x ≡ is_in (var_names vs) x) × (length (var_names vs) ≡ length vs)
+pub var_place : (vs : List Var) (x : List ℕ) → (var_of vs x ≡ place_of (told vs) x) × (is_named vs x ≡ is_in (told vs) x) × (length (told vs) ≡ length vs)
 var_place [] x = (refl, refl, refl)
 var_place (v ∷ vs) x =
     let h = var_place vs x in
@@ -66,24 +63,24 @@ mem_place (m ∷ ms) x =
     let h = mem_place ms x in
     (ap (λ n. if bytes_eq m.name.name x then 0 else suc n) h.0, ap (λ b. bytes_eq m.name.name x || b) h.1, ap suc h.2)
 
-var_names_more : (vs us : List Var) → var_names (vs ++ us) ≡ var_names vs ++ var_names us
+var_names_more : (vs us : List Var) → told (vs ++ us) ≡ told vs ++ told us
 var_names_more [] us = refl
 var_names_more (v ∷ vs) us = ap (λ l. v.name ∷ l) (var_names_more vs us)
 
 pub var_low : (vs : List Var) (x : List ℕ) → is_named vs x ≡ true → var_of vs x < length vs
 var_low vs x h =
     let k = var_place vs x in
-    let i : place_of (var_names vs) x < length (var_names vs) = in_low (var_names vs) x (sym k.1 ∙ h) in
+    let i : place_of (told vs) x < length (told vs) = in_low (told vs) x (sym k.1 ∙ h) in
     let e = k.0 in
     let f = k.2 in
     omega arith
 
 pub var_same : (vs : List Var) (a b : List ℕ) → is_named vs a ≡ true → is_named vs b ≡ true → var_of vs a ≡ var_of vs b → a ≡ b
-var_same vs a b h k e = in_same (var_names vs) a b (sym (var_place vs a).1 ∙ h) (sym (var_place vs b).1 ∙ k) (sym (var_place vs a).0 ∙ e ∙ (var_place vs b).0)
+var_same vs a b h k e = in_same (told vs) a b (sym (var_place vs a).1 ∙ h) (sym (var_place vs b).1 ∙ k) (sym (var_place vs a).0 ∙ e ∙ (var_place vs b).0)
 
 pub var_stays : (vs us : List Var) (x : List ℕ) → is_named vs x ≡ true → var_of (vs ++ us) x ≡ var_of vs x
 var_stays vs us x h =
-    (var_place (vs ++ us) x).0 ∙ ap (λ l. place_of l x) (var_names_more vs us) ∙ in_stays (var_names vs) (var_names us) x (sym (var_place vs x).1 ∙ h) ∙ sym (var_place vs x).0
+    (var_place (vs ++ us) x).0 ∙ ap (λ l. place_of l x) (var_names_more vs us) ∙ in_stays (told vs) (told us) x (sym (var_place vs x).1 ∙ h) ∙ sym (var_place vs x).0
 
 pub mem_low : (ms : List Mem) (x : List ℕ) → is_memory ms x ≡ true → mem_of ms x < length ms
 mem_low ms x h =

@@ -17,7 +17,7 @@ use Rattle.pdl_rules.specs.Names.{OfGuess, defines_use}
 use Rattle.pdl_rules.specs.Calls.{is_call, is_wrong_call}
 use Rattle.pdl_rules.specs.Speculation
 use Rattle.pdl_rules.specs.Refusal.{KeepsRules}
-use Rattle.pdl_rules.proofs.EachPlace.{Each}
+use Rattle.pdl_rules.proofs.EachPlace.{Each, closing}
 use Rattle.pdl_rules.proofs.Once.{KeepsLocks, AreBacked, none_backed, backed_next, reserves_to_write, count_none}
 use Rattle.pdl_facts.specs.Scans.{is_plain, none_of, all_at, reads_ok, no_scan, phases_ok, phase_all, Fresh, is_over}
 use Rattle.pdl_derived.specs.Alone
@@ -26,7 +26,7 @@ use Rattle.pdl_facts.specs.Certain.{Unmade, makings_ok, making_all, is_made, all
 use Rattle.pdl_facts.specs.Checks.{knows_memory, mem_passes, path_passes, lock_passes, locks_pass}
 use Rattle.pdl_facts.specs.Facts.{looked_all, at_once}
 use Rattle.pdl_facts.proofs.Passes.{Parts}
-use Rattle.pdl_stagefacts.proofs.Sites.{Site, sites_of, front_of, closing, place_of, owns, All, stmts_are}
+use Rattle.pdl_stagefacts.proofs.Sites.{Site, sites_of, front_of, place_of, owns, All, stmts_are}
 use Rattle.pdl_stagefacts.proofs.Staged.{Staged, all_staged}
 use Rattle.pdl_stagefacts.proofs.Standing.{all_both, all_map}
 use Rattle.pdl_stagefacts.proofs.Formed.{body_forked}

@@ -5,14 +5,14 @@ use Rattle.std.proofs.lemmas.List.Folds.{list_any-append}
 use Rattle.std.specs.List.{list_any, list_all}
 use Rattle.pdl_semantics.specs.Tree.{Span, Ident, Stmts, Expr, Constant, Variable, Slice, Not, Binary, Cat, LessSigned, ZeroExtend, SignExtend, Choose, Stmt, If, Param, Mem, Pipe}
 use Rattle.pdl_semantics.specs.Flat.{all_hold, takes_branch}
-use Rattle.pdl_semantics.specs.Flatten.{Var, var_of}
+use Rattle.pdl_semantics.specs.Flatten.{var_of}
 use Rattle.pdl_semantics.specs.Flatten
 use Rattle.pdl_kit.specs.declared.rule.Rule.TheVariants.{N3}
 use Rattle.pdl_rules.specs.Places.{Place, Parameter, Memory, Statement, Guard, Shared, Own, Branch, guard_of, same_guard, is_among, same_truth, is_taken, places, guards, statements}
 use Rattle.pdl_rules.specs.Names.{is_too_early, some_use}
 use Rattle.pdl_rules.specs.Refusal.{KeepsRules}
 use Rattle.pdl_stagefacts.proofs.Sites
-use Rattle.pdl_stagefacts.proofs.Sites.{Site, sites_of, front_of, closing, All}
+use Rattle.pdl_stagefacts.proofs.Sites.{Site, sites_of, front_of, All}
 use Rattle.pdl_stagefacts.proofs.Walks.{names, names_at, names_append, Named, Choice, its_if, flat_guard, rule_branch, AllChosen}
 use Rattle.pdl_pathfacts.specs.Source
 use Rattle.pdl_pathfacts.specs.Source.{begins_at, own_start, is_new, are_apart}
@@ -20,6 +20,7 @@ use Rattle.pdl_pathfacts.proofs.Choices.{path_of, among_chosen, if_among}
 use Rattle.pdl_pathfacts.proofs.Along.{Alike}
 use Rattle.pdl_pathfacts.proofs.Numbers.{place_of, in_stays, var_place}
 use Rattle.pdl_pathfacts.proofs.Variables.{Here, all_here, After, known, named_is, told_is}
+use Rattle.pdl_rules.proofs.EachPlace.{closing}
 
 -- BEHIND THE MEMORIES
 

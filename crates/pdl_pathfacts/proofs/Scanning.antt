@@ -14,13 +14,13 @@ use Rattle.pdl_rules.specs.Stages.{reserves_memory}
 use Rattle.pdl_rules.specs.Speculation.{releases_unsure}
 use Rattle.pdl_rules.specs.Speculation
 use Rattle.pdl_rules.specs.Typed.{is_memory}
-use Rattle.pdl_rules.proofs.EachPlace.{Each}
+use Rattle.pdl_rules.proofs.EachPlace.{Each, closing}
 use Rattle.pdl_rules.proofs.Once.{KeepsLocks, AreBacked, backed_next}
 use Rattle.pdl_rules.proofs.Defined.{any_split}
 use Rattle.pdl_facts.specs.Scans.{is_plain, Scan, reads_ok, Phase, phases_ok, phase_all, is_over}
 use Rattle.pdl_facts.specs.Certain.{Making, makings_ok, making_all, stands_before, all_sure}
 use Rattle.pdl_facts.specs.Checks.{in_text_order}
-use Rattle.pdl_stagefacts.proofs.Sites.{Site, closing, place_of, All}
+use Rattle.pdl_stagefacts.proofs.Sites.{Site, place_of, All}
 use Rattle.pdl_pathfacts.proofs.Along.{ops_of, ops, seen_ops, seen}
 use Rattle.pdl_pathfacts.proofs.Variables.{IsNamed}
 use Rattle.pdl_pathfacts.proofs.Growth.{vars_past, Grows}

@@ -8,7 +8,7 @@ use Rattle.pdl_semantics.specs.Stages.{is_reserve, is_release, is_verify, verify
 use Rattle.pdl_rules.specs.Parts.{location_of}
 use Rattle.pdl_rules.specs.Typed.{is_memory}
 use Rattle.pdl_derived.specs.Alone.{answered_op}
-use Rattle.pdl_facts.specs.Scans.{none_of, all_at, is_fetch}
+use Rattle.pdl_facts.specs.Scans.{none_of, all_at}
 use Rattle.pdl_facts.specs.Checks.{knows_memory, is_below}
 use Rattle.pdl_facts.specs.Facts.{looked_all}
 use Rattle.pdl_stagefacts.proofs.Sites.{Site, own, owns, All}
@@ -16,6 +16,7 @@ use Rattle.pdl_pathfacts.proofs.Along.{ops_of, ops, stmts_at, own_is, seen_ops, 
 use Rattle.pdl_pathfacts.proofs.Numbers.{mem_low}
 use Rattle.pdl_pathfacts.proofs.Sited.{some_op, none_append}
 use Rattle.pdl_pathfacts.proofs.Scanning.{ops_all, list_append}
+use Rattle.pdl_semantics.specs.Sound.{is_fetch}
 
 -- a test that takes a delayed read for a read
 abbrev pub Blind : (Flat.Op → Bool) → Type 0

@@ -13,14 +13,15 @@ use Rattle.pdl_rules.specs.Names.{OfVariable, OfMemory, Use, defines_use, in_loc
 use Rattle.pdl_rules.specs.Refusal.{KeepsRules}
 use Rattle.pdl_rules.specs.Typed.{is_named, is_memory}
 use Rattle.pdl_rules.proofs.Once.{bytes_sym}
-use Rattle.pdl_stagefacts.proofs.Sites.{Site, branch, sites_of, front_of, closing, place_of, All, Stands, all_stand}
+use Rattle.pdl_stagefacts.proofs.Sites.{Site, branch, sites_of, front_of, place_of, All, Stands, all_stand}
 use Rattle.pdl_stagefacts.proofs.Walks.{told, names, names_at, names_append, Named, At, holds_all, all_at}
-use Rattle.pdl_pathfacts.proofs.Numbers.{is_in, var_names, var_place}
+use Rattle.pdl_pathfacts.proofs.Numbers.{is_in, var_place}
 use Rattle.pdl_rules.proofs.Defined.{no_params}
+use Rattle.pdl_rules.proofs.EachPlace.{closing}
 
 -- NAMES
 
-pub told_is : (vs : List Var) → told vs ≡ var_names vs
+pub told_is : (vs : List Var) → told vs ≡ told vs
 told_is [] = refl
 told_is (v ∷ vs) = ap (λ l. v.name ∷ l) (told_is vs)
 

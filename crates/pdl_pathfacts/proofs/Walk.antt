@@ -9,9 +9,9 @@ use Rattle.pdl_rules.specs.Places.{Place, Statement, End, StartClause, Guard, Br
 use Rattle.pdl_rules.specs.Locks.{lacks_hold, is_late_read, is_one_too_many, is_reserved_again, is_not_written_once, ends_open}
 use Rattle.pdl_rules.specs.Calls.{is_wrong_call}
 use Rattle.pdl_rules.specs.Refusal.{KeepsRules}
-use Rattle.pdl_rules.proofs.EachPlace.{Each}
+use Rattle.pdl_rules.proofs.EachPlace.{Each, closing}
 use Rattle.pdl_rules.proofs.Once.{KeepsLocks}
-use Rattle.pdl_stagefacts.proofs.Sites.{Site, branch, sites_in, sites, sites_of, front_of, closing, place_of, All, places_in, places_all}
+use Rattle.pdl_stagefacts.proofs.Sites.{Site, branch, sites_in, sites, sites_of, front_of, place_of, All, places_in, places_all}
 use Rattle.pdl_pathfacts.proofs.Choices.{path_of, unbroken_on}
 use Rattle.pdl_pathfacts.proofs.Along.{on_sites}
 use Rattle.pdl_pathfacts.proofs.Variables.{Here, all_here}

@@ -17,7 +17,7 @@ use Rattle.pdl_facts.proofs.Passes
 use Rattle.pdl_turns.proofs.Roams.{fixed_looked}
 use Rattle.pdl_stagefacts.specs.StageFacts.{FoundIf, AllFound, StageFacts}
 use Rattle.pdl_stagefacts.proofs.Facts.{stage_facts}
-use Rattle.pdl_stagefacts.proofs.Fine.{Each, each_map, each_in_stage}
+use Rattle.pdl_stagefacts.proofs.Fine.{each_in_stage}
 use Rattle.pdl_pathfacts.specs.Source.{are_apart, is_source, is_named}
 use Rattle.pdl_pathfacts.proofs.Passing.{parts}
 use Rattle.pdl_pathfacts.proofs.Fixed.{Rests, each_of_all, guard_looked, fixed_stages}
@@ -25,6 +25,8 @@ use Rattle.pdl_pathfacts.proofs.GuardFacts.{fixed_text, all_rest, guards_late}
 use Rattle.pdl_pathfacts.proofs.Fetching.{fetch_unseen, fetch_alone}
 use Rattle.pdl_pathfacts.proofs.Blind.{fetch_blind}
 use Rattle.pdl_pathfacts.proofs.Early.{IsEarly, all_early}
+use Rattle.pdl_word.specs.Each.{Each}
+use Rattle.pdl_word.proofs.Each.{each_weaker}
 
 looked_each : (P : Flat.Stmt → Type 0) (xs : List Flat.Stmt) → Each (λ y. P (record y { op = answered_op y.op })) xs → Each P (looked_all xs)
 looked_each P [] h = tt
@@ -33,10 +35,10 @@ looked_each P (x ∷ xs) h = (h.0, looked_each P xs h.1)
 looked_rest : (xs : List Flat.Stmt) → Each (Rests xs) xs → Each (Rests (looked_all xs)) (looked_all xs)
 looked_rest xs h =
     looked_each (Rests (looked_all xs)) xs
-    (each_map (Rests xs) (λ z. Rests (looked_all xs) (record z { op = answered_op z.op }))
+    (each_weaker (Rests xs) (λ z. Rests (looked_all xs) (record z { op = answered_op z.op }))
     (λ z k e.
     looked_each (λ y. binds_guard y.op z.guards ≡ true → y.stage ≤ z.stage) xs
-    (each_map (λ y. binds_guard y.op z.guards ≡ true → y.stage ≤ z.stage) (λ y. binds_guard (answered_op y.op) z.guards ≡ true → y.stage ≤ z.stage) (λ y l b. l (sym (guard_looked y.op z.guards) ∙ b)) xs (k e))) xs h)
+    (each_weaker (λ y. binds_guard y.op z.guards ≡ true → y.stage ≤ z.stage) (λ y. binds_guard (answered_op y.op) z.guards ≡ true → y.stage ≤ z.stage) (λ y l b. l (sym (guard_looked y.op z.guards) ∙ b)) xs (k e))) xs h)
 
 -- a live delayed read of stage s stands before the releases
 abbrev Before : Flat.Pipe → ℕ → Flat.Stmt → Type 0

@@ -11,11 +11,10 @@ use Rattle.pdl_rules.specs.Places.{Place, Statement, End, StartClause, Branch}
 use Rattle.pdl_rules.specs.Parts.{location_of}
 use Rattle.pdl_rules.specs.Locks.{same_location, Hold, Nothing, Reserved, Blocked, Released, after_block, after_place, hold_after, is_held_for, is_unreleased, is_reserve_of, is_write_of, reserves_location, writes_location, leaves_open}
 use Rattle.pdl_rules.specs.Typed.{is_named, is_memory}
-use Rattle.pdl_rules.proofs.EachPlace.{Each}
+use Rattle.pdl_rules.proofs.EachPlace.{Each, closing}
 use Rattle.pdl_rules.proofs.Once.{KeepsLocks, AreBacked, any_weaker, any_front, any_last, location_refl, held_alike, reserves_alike, reserves_to_write, reserves_some, reserves_mem, unique, held_if_blocked, reserved_if_blocked, counted, count_none, written_once}
 use Rattle.pdl_derived.specs.Alone.{answered_op}
 use Rattle.pdl_facts.specs.Scans.{Phase, Fresh, Held, Written, Done, after_release, next_phase, holds_location, is_fresh, may_read, phase_ok, phases_ok, phase_all, is_over}
-use Rattle.pdl_stagefacts.proofs.Sites.{closing}
 use Rattle.pdl_pathfacts.proofs.Numbers.{var_low, var_same, var_stays, mem_is}
 use Rattle.pdl_pathfacts.proofs.Along
 use Rattle.pdl_pathfacts.proofs.Along.{ops_of, seen_ops}

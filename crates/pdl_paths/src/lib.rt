@@ -1,4 +1,6 @@
-//! The places of a pipe, its guards and paths, and rules that are asked on each path.
+//! The places of a pipe: what stands at each, under which guards, and the paths that lead through it.
+//!
+//! The layers above may use `guards_of`, `places` and `PathIter`, and read a `Place` by its line, its names and its location.
 #![tactic(auto)]
 
 pub mod action;

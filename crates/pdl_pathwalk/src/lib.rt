@@ -1,4 +1,6 @@
 //! Rules of paths that are asked together, on one walk along each path: for each the line of the lowest place that breaks it on some path.
+//!
+//! The layers above may use `broken_lines` over the trait `PathRules`, with `Alone` for one rule and `Both` for more.
 #![tactic(auto)]
 
 pub mod alone;

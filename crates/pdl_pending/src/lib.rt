@@ -1,4 +1,6 @@
 //! A memory with its pending writes, and what each kind of lock says of them.
+//!
+//! The layer above may use `Memory`, which it makes with `new`, asks and changes.
 #![tactic(auto)]
 
 mod latest;

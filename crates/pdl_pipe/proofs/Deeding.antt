@@ -11,7 +11,7 @@ use Rattle.pdl_flatnets.specs.Nets.{signal_at}
 use Rattle.pdl_pipe_law.specs.Walk.{Locks}
 use Rattle.pdl_pipe_law.specs.Views.{View}
 use Rattle.pdl_stagenets.specs.declared.locks.MemLock.{MemLock}
-use Rattle.pdl_stagenets.specs.Parts.{Each, walk_in, walk_of}
+use Rattle.pdl_stagenets.specs.Parts.{walk_in, walk_of}
 use Rattle.pdl_stagenets.specs.Sized.{IsWalk}
 use Rattle.pdl_stagenets.specs.Locked.{Members, tickets_in, AreLocked, AreTickets}
 use Rattle.pdl_stageregs.specs.declared.moving.MoveNets.{MoveNets}
@@ -26,6 +26,7 @@ use Rattle.pdl_stageregs.proofs.TicketsMade.{tickets_fit}
 use Rattle.pdl_locknets.specs.declared.deeds.StageDeeds.{StageDeeds}
 use Rattle.pdl_locknets.specs.Deeds.{no_parts, view_with, view_in, IsDeed, AreDeeds, AreOf}
 use Rattle.pdl_pipe.specs.Joined.{Deed, deed_of, deeds_of}
+use Rattle.pdl_word.specs.Each.{Each}
 
 -- ---- one for each stage
 

@@ -16,7 +16,6 @@ use Rattle.pdl_net.specs.Well.{IsWell}
 use Rattle.pdl_machine_facts.specs.Linear.{IsSimple}
 use Rattle.pdl_machine_facts.specs.Fit.{IsFit}
 use Rattle.pdl_check.specs.Compiled.{can_compile}
-use Rattle.pdl_check.specs.Memories.{infos_of}
 use Rattle.pdl_gated.proofs.Lines.{linear_body, comb_mems}
 use Rattle.pdl_gated.proofs.Simple.{simple}
 use Rattle.pdl_pipe_law.specs.Walk.{Locks}
@@ -37,6 +36,7 @@ use Rattle.pdl_pipe.specs.Finished.{IsFinished}
 use Rattle.pdl_pipe.proofs.Sequential.{refines_threads}
 use Rattle.pdl_pipe.proofs.Making.{IsLawful, fits_at, shapes_made, lawful}
 use Rattle.pdl_pipe.proofs.Fitting.{same_shapes, same_names, commits_fit, same_begun, one_valid, one_moves}
+use Rattle.pdl_rules.specs.Memories.{infos_of}
 
 shapes_listed : (n : Netlist) → map shape_of n.arrays ≡ shapes_of (circuit_of n)
 unfolding shapes_of

@@ -10,13 +10,14 @@ use Rattle.pdl_form.specs.Form.{names_of}
 use Rattle.pdl_pipe_law.specs.Ports.{Commit}
 use Rattle.pdl_pipe_law.specs.Declared.{array_words, shape_of_mem, mem_names, CommitsFit}
 use Rattle.pdl_lockapi.specs.Sizes.{words_in}
-use Rattle.pdl_lockapi.proofs.LockKinds.{lock_is, lock_declared, words_are}
+use Rattle.pdl_lockapi.proofs.LockKinds.{lock_is, words_are}
 use Rattle.pdl_semantics.specs.Flat.{Pipe, has_lock}
 use Rattle.pdl_locknets.specs.Suited.{shapes_in}
 use Rattle.pdl_stageregs.specs.declared.moving.MoveNets.{MoveNets}
 use Rattle.pdl_stageregs.specs.declared.nets.StageNets.{StageNets}
 use Rattle.pdl_stageregs.specs.Stages.{views_in}
 use Rattle.pdl_stageregs.specs.Moves.{AreMovesThere, moves_in}
+use Rattle.pdl_semantics.proofs.Facts.{lock_declared}
 
 -- ---- memories
 

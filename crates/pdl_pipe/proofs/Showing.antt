@@ -13,7 +13,6 @@ use Rattle.pdl_lockapi.specs.declared.LockNets.{LockNets}
 use Rattle.pdl_pipe_law.specs.Walk.{Locks}
 use Rattle.pdl_pipe_law.specs.Views.{no_gates}
 use Rattle.pdl_stagenets.specs.declared.locks.MemLock.{MemLock}
-use Rattle.pdl_stagenets.specs.Parts.{Each}
 use Rattle.pdl_stagenets.specs.Locked.{Members, some_at, locks_in}
 use Rattle.pdl_stageregs.specs.declared.moving.MoveNets.{MoveNets}
 use Rattle.pdl_stageregs.specs.declared.nets.StageNets.{StageNets}
@@ -25,6 +24,7 @@ use Rattle.pdl_stageregs.proofs.FitMade.{each_all}
 use Rattle.pdl_outnets.specs.Told.{AreThereStages, IsThereCommit, AreCommits, AreOf, valid_in, moves_in}
 use Rattle.pdl_pipe.specs.declared.netlist.Joined.{Joined}
 use Rattle.pdl_pipe.specs.Joined.{CanJoin, shown_of, IsJoined}
+use Rattle.pdl_word.specs.Each.{Each}
 
 -- a stage's first register is there, and means one of 1 bit
 abbrev IsValid : Circuit → StageNets → Type 0

@@ -8,12 +8,12 @@ use Rattle.pdl_kit.specs.declared.mem_info.MemInfo.{MemInfo}
 use Rattle.pdl_semantics.specs.Tree.{Mem, Pipe}
 use Rattle.pdl_rules.specs.Refusal.{KeepsRules}
 use Rattle.pdl_rules.specs.Typed.{AreDistinct, is_memory}
-use Rattle.pdl_check.specs.Memories.{info_of, infos_of}
 use Rattle.pdl_check.specs.Compiled.{can_compile}
 use Rattle.pdl_gated.proofs.Lines.{comb_mems}
 use Rattle.pdl_pipe_law.proofs.WellFormedNames.{Among, name_apart}
 use Rattle.pdl_pipe_law.proofs.WellFormedMems.{sized_among}
 use Rattle.pdl_pipe.proofs.Accepted.{declared}
+use Rattle.pdl_rules.specs.Memories.{infos_of, info_of}
 
 infos_none : (n : List ℕ) (ms : List Mem) → is_memory ms n ≡ false → (j : ℕ) (d : MemInfo) → j < length (infos_of ms) → n ≢ (get_or (infos_of ms) j d).name
 infos_none n [] e j d l s = absurd (omega arith)

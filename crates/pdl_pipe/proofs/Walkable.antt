@@ -10,8 +10,8 @@ use Rattle.pdl_rules.specs.Refusal.{is_comb}
 use Rattle.pdl_check.specs.Compiled.{is_compiled, are_compiled, can_compile}
 use Rattle.pdl_form.specs.Form.{Form}
 use Rattle.pdl_formtypes.specs.Stmts.{AreTypedStmts}
-use Rattle.pdl_stagenets.specs.Parts.{Each}
 use Rattle.pdl_stagenets.specs.Sized.{is_walked, AreWalked}
+use Rattle.pdl_word.specs.Each.{Each}
 
 abbrev Walks : Flat.Stmt → Type 0
 Walks x = is_walked x.op ≡ true

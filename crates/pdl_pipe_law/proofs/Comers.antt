@@ -13,7 +13,6 @@ use Rattle.pdl_semantics.specs.Cycle.{is_stage, born_thread, child_of, thread_af
 use Rattle.pdl_net.specs.Circuit.{State}
 use Rattle.pdl_net.specs.Signal.{Signal, no_signal}
 use Rattle.pdl_lockapi.specs.Laws.{holds_ticket}
-use Rattle.pdl_lockapi.specs.Forget.{count_older}
 use Rattle.pdl_machine_facts.specs.Slots.{LeadsOn, here, stage_moves, movers_from, moving, leads_to, ways_from, ways, passing_thread, thread_into, first_of, arriving_thread, act_at}
 use Rattle.pdl_machine_facts.specs.Cycle.{newborn, IsByStages, IsCalm}
 use Rattle.pdl_machine_facts.specs.Use.{IsInUse}
@@ -27,6 +26,7 @@ use Rattle.pdl_pipe_law.proofs.Moves.{ready_of, lives_fork}
 use Rattle.pdl_pipe_law.proofs.LockPorts.{both_is, moves_or_not, no_mover, one_mover}
 use Rattle.pdl_word.proofs.Lists.{zeros_at}
 use Rattle.pdl_semantics.proofs.Facts.{held_first}
+use Rattle.pdl_semantics.specs.PendingLists.{count_older}
 
 -- WHAT LIVES ON LIVED BEFORE
 

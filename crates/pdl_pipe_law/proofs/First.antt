@@ -18,7 +18,7 @@ use Rattle.pdl_net.specs.Well.{Suits}
 use Rattle.pdl_net.specs.Run.{filled_words, loaded_arrays}
 use Rattle.pdl_lockapi.specs.Lock.{start}
 use Rattle.pdl_lockapi.specs.Laws.{words_of, HasImage}
-use Rattle.pdl_lockapi.specs.Forget.{lock_state_of, count_older}
+use Rattle.pdl_lockapi.specs.Forget.{lock_state_of}
 use Rattle.pdl_lockapi.proofs.Next.{is_reset}
 use Rattle.pdl_machine_facts.specs.Slots.{slot}
 use Rattle.pdl_machine_facts.proofs.StagewisePorts.{at_stage, past_stage}
@@ -32,6 +32,7 @@ use Rattle.pdl_pipe_law.proofs.Next.{mem_there, lock_there}
 use Rattle.pdl_word.proofs.Lists.{zeros_at}
 use Rattle.pdl_netrun.proofs.Loaded.{loaded_at}
 use Rattle.pdl_semantics.proofs.Facts.{held_first}
+use Rattle.pdl_semantics.specs.PendingLists.{count_older}
 
 -- THE IMAGE
 

@@ -14,13 +14,14 @@ use Rattle.pdl_machine_facts.specs.Fit.{IsFit}
 use Rattle.pdl_pipe_law.specs.Walk.{Locks}
 use Rattle.pdl_pipe_law.specs.Views.{View, Gates}
 use Rattle.pdl_pipe_law.specs.Beside.{Beside}
-use Rattle.pdl_pipe_law.specs.Declared.{info_of, mem_names, AreDeclared}
+use Rattle.pdl_pipe_law.specs.Declared.{mem_names, AreDeclared}
 use Rattle.pdl_pipe_law.specs.Runs.{HasMems, ShowsTurns}
 use Rattle.pdl_pipe_law.specs.Follows.{Follows, IsMade}
 use Rattle.pdl_pipe_law.proofs.WellFormedMems.{none_delayed}
 use Rattle.pdl_pipe_law.proofs.WellFormed.{ports, well_formed}
 use Rattle.pdl_pipe_law.proofs.Runs.{shows_beside}
 use Rattle.pdl_pipe_law.proofs.Lines.{shows_turns_made}
+use Rattle.pdl_rules.specs.Memories.{info_of}
 
 -- memories in the flat form, and as they are told
 same_count : (ms : List tree.Mem) → length (mems_of ms) ≡ length ms

@@ -18,7 +18,7 @@ use Rattle.pdl_machine_facts.specs.Ports.{stage_values, all_commit_values, port_
 use Rattle.pdl_net.specs.Signal.{Signal}
 use Rattle.pdl_pipe_law.specs.Walk.{Locks}
 use Rattle.pdl_pipe_law.specs.Views.{Gates, View}
-use Rattle.pdl_pipe_law.specs.Declared.{info_of, locked_of, mem_names}
+use Rattle.pdl_pipe_law.specs.Declared.{locked_of, mem_names}
 use Rattle.pdl_machine_facts.specs.Fit.{IsFit}
 use Rattle.pdl_pipe_law.specs.Compiled.{IsCompiled}
 use Rattle.pdl_pipe_law.specs.Runs.{Seen, seen_of, had, ShowsMachine, puts_of, output_count, cycle_of, ShowsTurns}
@@ -26,6 +26,7 @@ use Rattle.pdl_pipe_law.proofs.WellFormedPorts.{stage_names, commit_names}
 use Rattle.pdl_pipe_law.proofs.LinesMachine.{AreCommits, IsShaped, AllShaped, turns_shaped}
 use Rattle.pdl_pipe_law.proofs.LinesNames.{name_of_output, HasNames, names_made}
 use Rattle.pdl_pipe_law.proofs.LinesPorts.{named_value, port_is, past_stages, stages_same, after, after_same, found, flag_is, addr_is, word_is, put_in, put_cases, same_put, each_found}
+use Rattle.pdl_rules.specs.Memories.{info_of}
 
 -- functions that are the same at each element
 map_same : {X Y : Type 0} (f g : X → Y) → ((x : X) → f x ≡ g x) → (xs : List X) → map f xs ≡ map g xs

@@ -16,8 +16,8 @@ use Rattle.pdl_pipe_law.specs.Declared.{port_mem, locked_of, mem_names}
 use Rattle.pdl_pipe_law.specs.Runs.{output_count}
 use Rattle.pdl_pipe_law.specs.Compiled.{shown_in, IsCompiled}
 use Rattle.pdl_pipe_law.proofs.WellFormedPorts.{stage_names, commit_names}
-use Rattle.pdl_lockapi.proofs.LockKinds.{lock_declared}
 use Rattle.pdl_pipe_law.proofs.Outputs.{outputs_made}
+use Rattle.pdl_semantics.proofs.Facts.{lock_declared}
 
 abbrev pub name_of_output : Output → List ℕ
 name_of_output o = o.name

@@ -12,17 +12,18 @@ use Rattle.pdl_semantics.specs.Flatten.{mems_of, flat_lock}
 use Rattle.pdl_semantics.specs.Cycle.{PortWrite}
 use Rattle.pdl_semantics.specs.Lines.{Put, put_of, puts_in}
 use Rattle.pdl_rules.specs.Typed.{is_memory, AreDistinct}
-use Rattle.pdl_lockapi.proofs.LockKinds.{lock_declared}
 use Rattle.pdl_net.specs.Circuit.{Circuit, Output, outputs_of}
 use Rattle.pdl_net.specs.Run.{value_at, port_value}
 use Rattle.pdl_machine_facts.specs.Ports.{stage_values, shown_values, commit_values, all_commit_values}
-use Rattle.pdl_pipe_law.specs.Declared.{info_of, port_mem, locked_of}
+use Rattle.pdl_pipe_law.specs.Declared.{port_mem, locked_of}
 use Rattle.pdl_pipe_law.specs.Runs.{puts_of}
 use Rattle.pdl_pipe_law.proofs.WellFormedNames.{Among, name_turned, among_other}
 use Rattle.pdl_pipe_law.proofs.WellFormedPorts.{stage_names, commit_names}
 use Rattle.pdl_pipe_law.proofs.LinesMachine.{AreCommits}
 use Rattle.pdl_pipe_law.proofs.LinesNames.{name_of_output}
 use Rattle.pdl_word.proofs.Bytes.{bytes_refl}
+use Rattle.pdl_semantics.proofs.Facts.{lock_declared}
+use Rattle.pdl_rules.specs.Memories.{info_of}
 
 -- ---- ports by name
 

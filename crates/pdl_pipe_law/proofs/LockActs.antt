@@ -8,7 +8,7 @@ use Rattle.pdl_semantics.specs.Flat.{Pipe}
 use Rattle.pdl_semantics.specs.Stages.{mem_at, commit_stage, list_any}
 use Rattle.pdl_semantics.specs.Locks as locks
 use Rattle.pdl_semantics.specs.Machine as machine
-use Rattle.pdl_semantics.specs.Machine.{Thread, Pending, Reserved, Written, deeds}
+use Rattle.pdl_semantics.specs.Machine.{Thread, Pending, Written, deeds}
 use Rattle.pdl_semantics.specs.Moves.{Act as Mover, blocks_ready, have_room}
 use Rattle.pdl_semantics.specs.Cycle.{with_reserves, with_all_writes, with_writes_of, has_release, list_two, list_three, but_oldest, squasher}
 use Rattle.pdl_net.specs.Circuit.{State}
@@ -16,7 +16,7 @@ use Rattle.pdl_net.specs.Signal.{Signal}
 use Rattle.pdl_lockapi.specs.Lock.{WriteAct, LockAct, LockState, with_writes, entry_at, Proper}
 use Rattle.pdl_lockapi.specs.Lock as lock
 use Rattle.pdl_lockapi.specs.Laws.{holds_ticket, asked_addresses, Drives}
-use Rattle.pdl_lockapi.specs.Forget.{forget, forgotten_entries, as_lock, AreOrdered, count_older, has_thread, lock_state_of, addresses, addresses_of}
+use Rattle.pdl_lockapi.specs.Forget.{forget, forgotten_entries, as_lock, has_thread, lock_state_of, addresses, addresses_of}
 use Rattle.pdl_lockapi.proofs.Threads.{same_append, ticket_covered}
 use Rattle.pdl_machine_facts.specs.Slots.{here, stage_moves, movers_from, moving}
 use Rattle.pdl_machine_facts.specs.Cycle.{IsByStages}
@@ -31,6 +31,7 @@ use Rattle.pdl_pipe_law.proofs.Moves.{ready_of}
 use Rattle.pdl_pipe_law.proofs.LockUse.{IsAlike, alike, same_count, all_new, appended_is, new_count, writes_to, write_among, write_acts, written_append, none_written, stage_written, count_below}
 use Rattle.pdl_lockapi.proofs.LockKinds.{room_there}
 use Rattle.pdl_pipe_law.proofs.LockPorts.{asked_append, asked_stage, lets_stage, AreFitting, fitting_append, fitting_at, fitting_stage, AreDriven, driven_append, driven_count, driven_at, driven_stage, room_of, moves_or_not, no_mover, one_mover}
+use Rattle.pdl_semantics.specs.PendingLists.{AreOrdered, count_older}
 
 -- OF ALL STAGES
 

@@ -6,7 +6,7 @@ use Rattle.std.proofs.lemmas.List.{length-map, length-set, get_or-set_same, get_
 use Rattle.pdl_word.specs.Words.{bit}
 use Rattle.pdl_semantics.specs.Tree.{LockKind}
 use Rattle.pdl_semantics.specs.Flat as model
-use Rattle.pdl_semantics.specs.Flat.{Pipe, Arrays, with_word, with_value}
+use Rattle.pdl_semantics.specs.Flat.{Pipe, Arrays, with_value}
 use Rattle.pdl_semantics.specs.Stages.{mem_at}
 use Rattle.pdl_semantics.specs.Locks.{commit_value}
 use Rattle.pdl_semantics.specs.Machine as machine
@@ -19,7 +19,7 @@ use Rattle.pdl_net.specs.Growth.{Own}
 use Rattle.pdl_lockapi.specs.Lock.{Entry, LockState, entry_at, or_zero, step}
 use Rattle.pdl_lockapi.specs.Lock as lock
 use Rattle.pdl_lockapi.specs.Laws.{IsNext, StepLaw}
-use Rattle.pdl_lockapi.specs.Forget.{forget, forgotten_entries, as_lock, AreOrdered, count_older, lock_state_of}
+use Rattle.pdl_lockapi.specs.Forget.{forget, forgotten_entries, as_lock, lock_state_of}
 use Rattle.pdl_lockapi.proofs.LockKinds.{locked_is}
 use Rattle.pdl_lockapi.proofs.Threads.{same_squash}
 use Rattle.pdl_machine_facts.specs.Slots.{here, moving}
@@ -32,6 +32,7 @@ use Rattle.pdl_pipe_law.specs.Views.{Gates, View}
 use Rattle.pdl_pipe_law.specs.Ports.{Commit, step_of}
 use Rattle.pdl_pipe_law.specs.Stands.{StandsLock, IsSeen, IsSquashed}
 use Rattle.pdl_pipe_law.proofs.LockActs.{tail_with, act_of, filled_is, proper, drives, pending_count, all_written}
+use Rattle.pdl_semantics.specs.PendingLists.{AreOrdered, count_older}
 
 -- what a release does to pending writes and words, without threads
 abbrev words_after : Bool → List Entry → List ℕ → List ℕ

@@ -1,5 +1,5 @@
 -- What writes do to the pending writes of a lock: the machine's by their threads, the lock's by tickets.
-use Rattle.std.proofs.Common.{◌≡◌, refl, sym, ap, ap₂, ◌∙◌, subst, ℕ, suc, ◌+◌, ◌<◌, ◌≤◌, Bool, true, false, ◌&&◌, List, [], ◌∷◌, ◌++◌, length, Some, arith, ◌==◌, nat_lt, ⊎_elim, inl, inr, append_assoc, append-nil, length-append, lt-ltb, le-ltb}
+use Rattle.std.proofs.Common.{◌≡◌, refl, sym, ap, ap₂, ◌∙◌, subst, ℕ, suc, ◌+◌, ◌<◌, ◌≤◌, Bool, true, false, ◌&&◌, List, [], ◌∷◌, ◌++◌, length, Some, arith, ◌==◌, ⊎_elim, inl, inr, append_assoc, append-nil, length-append, lt-ltb, le-ltb}
 use Rattle.std.specs.Prelude.{if◌then◌else◌, Contains}
 use Rattle.std.proofs.lemmas.Bool.{cases_lt, false≢true, eqb-true}
 use Rattle.std.proofs.lemmas.Bool.Decides.{eqb_tells}
@@ -9,12 +9,13 @@ use Rattle.pdl_semantics.specs.Cycle.{new_entries, with_reserves, with_value_of,
 use Rattle.pdl_net.specs.Circuit.{State}
 use Rattle.pdl_lockapi.specs.Lock.{WriteAct, with_writes}
 use Rattle.pdl_lockapi.specs.Lock as lock
-use Rattle.pdl_lockapi.specs.Forget.{forgotten_entries, AreOrdered, count_older, has_thread, ticket_of, addresses_of, addresses}
+use Rattle.pdl_lockapi.specs.Forget.{forgotten_entries, has_thread, ticket_of, addresses_of, addresses}
 use Rattle.pdl_lockapi.proofs.Lengths.{new_long}
 use Rattle.pdl_lockapi.proofs.Threads.{none_older, same_put}
 use Rattle.pdl_pipe_law.specs.Walk.{Put, is_on}
 use Rattle.pdl_pipe_law.specs.Stands.{written_in}
-use Rattle.pdl_semantics.proofs.Facts.{put_length}
+use Rattle.pdl_semantics.proofs.Facts.{put_length, put_older}
+use Rattle.pdl_semantics.specs.PendingLists.{AreOrdered, count_older}
 
 -- THREADS
 
@@ -56,10 +57,6 @@ put_thread : (b : Bool) (v : ℕ) (e : Pending) → (if b then record e { value 
 put_thread true v e = refl
 put_thread false v e = refl
 
-put_count : (u t v : ℕ) (es : List Pending) → count_older u (with_value_of t v es) ≡ count_older u es
-put_count u t v [] = refl
-put_count u t v (e ∷ es) = ap₂ (λ n c. if nat_lt n u then suc c else c) (put_thread (e.thread == t) v e) (put_count u t v es)
-
 put_has : (u t v : ℕ) (es : List Pending) → has_thread u (with_value_of t v es) ≡ has_thread u es
 put_has u t v [] = refl
 put_has u t v (e ∷ es) = ap₂ (λ n c. if n == u then true else c) (put_thread (e.thread == t) v e) (put_has u t v es)
@@ -73,7 +70,7 @@ put_ordered u t v (e ∷ es) o =
 pub put_alike : (t v : ℕ) (es fs : List Pending) → IsAlike es fs → IsAlike (with_value_of t v es) fs
 put_alike t v es fs h = record {
   ordered = put_ordered 0 t v es h.ordered;
-  count = λ u. put_count u t v es ∙ h.count u;
+  count = λ u. put_older u t v es ∙ h.count u;
   has = λ u. put_has u t v es ∙ h.has u;
   long = put_length t v es ∙ h.long;
 }

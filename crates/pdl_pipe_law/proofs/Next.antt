@@ -16,7 +16,7 @@ use Rattle.pdl_net.specs.Cycle.{next_regs, next_arrays}
 use Rattle.pdl_net.specs.Well.{Suits}
 use Rattle.pdl_net.specs.Growth.{Own}
 use Rattle.pdl_lockapi.specs.Laws.{IsNext, holds_ticket, after_writes}
-use Rattle.pdl_lockapi.specs.Forget.{forget, lock_state_of, count_older}
+use Rattle.pdl_lockapi.specs.Forget.{forget, lock_state_of}
 use Rattle.pdl_lockapi.proofs.Next.{is_next}
 use Rattle.pdl_machine_facts.specs.Slots.{LeadsOn, slot, here, stage_moves, moving, arriving_thread}
 use Rattle.pdl_machine_facts.specs.Slots as slots
@@ -33,6 +33,7 @@ use Rattle.pdl_pipe_law.proofs.Signals.{mux_at, mux_by, one_is, zero_is}
 use Rattle.pdl_pipe_law.proofs.StageLooks.{plain_is}
 use Rattle.pdl_pipe_law.proofs.LockStep.{words_next, words_long, words_same, few_next, stands_next}
 use Rattle.pdl_pipe_law.proofs.Comers.{first_come, brought, picked_is, AreAlike, Brings, comers_alike, signal_at, signals_are}
+use Rattle.pdl_semantics.specs.PendingLists.{count_older}
 
 -- a memory that has words, or a lock, is there
 pub mem_there : (p : Pipe) (m a : ℕ) → a < (mem_at p m).depth → m < length p.mems

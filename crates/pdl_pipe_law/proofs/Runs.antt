@@ -1,5 +1,5 @@
 -- A compiled netlist shows in each cycle what the machine shows.
-use Rattle.std.proofs.Common.{◌≡◌, refl, sym, ap, ap₂, ◌∙◌, subst, ℕ, Bool, false, List, [], ◌∷◌, ◌++◌, length, map, drop, take, None, arith}
+use Rattle.std.proofs.Common.{◌≡◌, refl, sym, ap, ap₂, ◌∙◌, subst, ℕ, Bool, List, [], ◌∷◌, ◌++◌, length, map, drop, take, None, arith}
 use Rattle.pdl_semantics.specs.Flat.{Pipe, arrays_of}
 use Rattle.pdl_semantics.specs.Machine as machine
 use Rattle.pdl_semantics.specs.Cycle.{first, cycle, state_after, turns_from}
@@ -9,12 +9,11 @@ use Rattle.pdl_net.specs.Circuit.{Circuit, State, circuit_of}
 use Rattle.pdl_net.specs.Signal.{Signal}
 use Rattle.pdl_net.specs.Cycle.{next_regs, next_arrays}
 use Rattle.pdl_net.specs.Run as net_run
-use Rattle.pdl_net.specs.Run.{Held, delayed_mems, loaded_arrays, next_stores}
+use Rattle.pdl_net.specs.Run.{Held, delayed_mems, loaded_arrays, next_stores, no_mem}
 use Rattle.pdl_net.specs.Pipe.{IsWellFormed}
 use Rattle.pdl_netrun.specs.Inside.{Holds}
 use Rattle.pdl_netrun.proofs.Holds.{suits_of, next_holds}
 use Rattle.pdl_netrun.proofs.Loaded.{holds_start, image_fits, no_inputs}
-use Rattle.pdl_kit.specs.declared.mem_info.MemInfo.{MemInfo}
 use Rattle.pdl_machine_facts.specs.Cycle.{IsByStages, IsCalm}
 use Rattle.pdl_machine_facts.specs.Use.{IsInUse}
 use Rattle.pdl_machine_facts.specs.Linear.{IsSimple}
@@ -38,10 +37,6 @@ held regs arrays = record { regs = regs; arrays = arrays; stores = [] }
 
 abbrev state : List ℕ → List (List ℕ) → State
 state regs arrays = record { inputs = []; regs = regs; arrays = arrays }
-
--- what a memory that is not there is taken for
-abbrev no_mem : MemInfo
-no_mem = record { name = []; width = 0; depth = 0; delayed = false }
 
 -- the next cycle begins with what registers and arrays take next
 next_is : (n : Netlist) (regs : List ℕ) (arrays : List (List ℕ)) (bits : ℕ) → delayed_mems n ≡ [] → net_run.next n (held regs arrays) bits ≡ held (next_regs (circuit_of n) (state regs arrays)) (next_arrays (circuit_of n) (state regs arrays))

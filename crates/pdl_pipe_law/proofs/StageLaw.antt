@@ -11,7 +11,7 @@ use Rattle.pdl_net.specs.Circuit.{Circuit, State}
 use Rattle.pdl_net.specs.Signal.{Signal}
 use Rattle.pdl_net.specs.Well.{Suits}
 use Rattle.pdl_lockapi.specs.Laws.{RoomLaw, holds_ticket}
-use Rattle.pdl_lockapi.specs.Forget.{as_lock, count_older}
+use Rattle.pdl_lockapi.specs.Forget.{as_lock}
 use Rattle.pdl_machine_facts.specs.Slots.{here}
 use Rattle.pdl_machine_facts.specs.Use.{before_stage, AreFine, IsInUse}
 use Rattle.std.proofs.lemmas.List.{length-set}
@@ -24,6 +24,7 @@ use Rattle.pdl_pipe_law.proofs.Signals.{one_is, zero_is}
 use Rattle.pdl_pipe_law.proofs.StageLooks.{plain_is}
 use Rattle.pdl_pipe_law.proofs.StageRow.{IsLive, IsAround}
 use Rattle.pdl_pipe_law.proofs.StageStep.{follows_row}
+use Rattle.pdl_semantics.specs.PendingLists.{count_older}
 
 -- LIVE ROWS
 

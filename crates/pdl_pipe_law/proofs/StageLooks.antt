@@ -12,12 +12,13 @@ use Rattle.pdl_net.specs.Circuit.{State}
 use Rattle.pdl_net.specs.Signal.{Signal}
 use Rattle.pdl_lockapi.specs.Laws.{holds_ticket, RoomLaw}
 use Rattle.pdl_lockapi.specs.Lock.{LockState, look_ready, Covered}
-use Rattle.pdl_lockapi.specs.Forget.{forget, as_lock, AreOrdered, count_older, lock_state_of}
+use Rattle.pdl_lockapi.specs.Forget.{forget, as_lock, lock_state_of}
 use Rattle.pdl_lockapi.proofs.LockKinds as kinds
 use Rattle.pdl_lockapi.proofs.Threads.{same_meaning, ticket_covered}
 use Rattle.pdl_pipe_law.specs.Walk.{Locks, is_locked, look_of, ThroughLock, IsWord}
 use Rattle.pdl_pipe_law.specs.Views.{View}
 use Rattle.pdl_pipe_law.specs.Stands.{StandsLock}
+use Rattle.pdl_semantics.specs.PendingLists.{AreOrdered, count_older}
 
 pub plain_is : (p : Pipe) (m : ℕ) → is_locked p m ≡ false → (mem_at p m).lock ≡ Plain
 plain_is p m e = kinds.plain_is (mem_at p m).lock e

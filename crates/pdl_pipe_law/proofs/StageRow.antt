@@ -13,7 +13,7 @@ use Rattle.pdl_net.specs.Circuit.{Circuit, State}
 use Rattle.pdl_net.specs.Signal.{Signal}
 use Rattle.pdl_net.specs.Well.{Suits}
 use Rattle.pdl_lockapi.specs.Laws.{holds_ticket, RoomLaw}
-use Rattle.pdl_lockapi.specs.Forget.{as_lock, count_older}
+use Rattle.pdl_lockapi.specs.Forget.{as_lock}
 use Rattle.pdl_machine_facts.specs.Slots.{locks_ready}
 use Rattle.pdl_machine_facts.specs.Use.{is_early, IsOpFine}
 use Rattle.pdl_pipe_law.specs.Lives.{uses_var, are_using, guards_use, row_uses, asks_held, lives_from, held_from, verifies_from}
@@ -23,6 +23,7 @@ use Rattle.pdl_pipe_law.specs.Stands.{IsEnv, IsHolding, StandsLock, IsSo, Follow
 use Rattle.pdl_pipe_law.proofs.Signals.{both_at, if_on_at}
 use Rattle.pdl_pipe_law.proofs.StageLooks.{read_is, word_is}
 use Rattle.pdl_word.proofs.Numbers.{eqb_self}
+use Rattle.pdl_semantics.specs.PendingLists.{count_older}
 
 -- TESTS
 
@@ -48,7 +49,7 @@ pub record IsAround (c : Circuit) (p : Pipe) (ls : Locks) (vs : ℕ → View) (s
   pub suits : Suits c s
   pub kind : (m : ℕ) → is_locked p m ≡ true → (mem_at p m).lock ≡ as_lock (ls.kind m) (ls.size m)
   pub room : (m : ℕ) → is_locked p m ≡ true → RoomLaw (ls.stands m) (ls.size m) (ls.room m)
-  pub ordered : (m : ℕ) → Rattle.pdl_lockapi.specs.Forget.AreOrdered 0 (machine.lock_of st m)
+  pub ordered : (m : ℕ) → Rattle.pdl_semantics.specs.PendingLists.AreOrdered 0 (machine.lock_of st m)
   pub unlocked : (m : ℕ) → is_locked p m ≡ false → machine.lock_of st m ≡ []
   pub words : (m : ℕ) → is_locked p m ≡ false → (a : ℕ) → a < (mem_at p m).depth → st.arrays m a ≡ slice_index (slice_index_or s.arrays (ls.array m) []) a
   pub locks : (m : ℕ) → is_locked p m ≡ true → StandsLock p ls vs s st m

@@ -13,12 +13,13 @@ use Rattle.pdl_net.specs.Well.{IsWell}
 use Rattle.pdl_net.specs.Pipe.{IsAddress, IsPipeArray, IsKept, IsPipe, IsWellFormed, head_of, pipe_ports}
 use Rattle.pdl_pipe_law.specs.Walk.{Locks}
 use Rattle.pdl_pipe_law.specs.Views.{Gates, View}
-use Rattle.pdl_pipe_law.specs.Declared.{info_of, port_mem, locked_of, mem_names, shape_of_mem, AreDeclared, CommitsFit, AreBitsWide}
+use Rattle.pdl_pipe_law.specs.Declared.{port_mem, locked_of, mem_names, shape_of_mem, AreDeclared, CommitsFit, AreBitsWide}
 use Rattle.pdl_pipe_law.specs.Compiled.{IsCompiled}
 use Rattle.pdl_pipe_law.proofs.WellFormedNames.{Among, name_of_mem, all_pairs, mem_names_differ}
 use Rattle.pdl_pipe_law.proofs.WellFormedPorts.{heads_of, head_shown, all_heads, names_are, stage_names, commit_names, port_names_differ}
 use Rattle.pdl_pipe_law.proofs.WellFormedMems.{never_delayed, Reaches, reaches_all, sized_among, IsAddressed, addressed}
 use Rattle.pdl_pipe_law.proofs.WellFormedArrays.{array_mem, mem_array, never_written, locked_all, pipe_array, infos_same}
+use Rattle.pdl_rules.specs.Memories.{info_of}
 
 -- ---- memories
 

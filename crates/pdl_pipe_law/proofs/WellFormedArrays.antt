@@ -19,15 +19,17 @@ use Rattle.pdl_net.specs.Circuit.{Circuit, Shape, shape_of, array_at}
 use Rattle.pdl_net.specs.Meaning.{write_signal, write_signals}
 use Rattle.pdl_net.specs.Pipe.{PortMem, IsPipeArray, comb_info}
 use Rattle.pdl_net.specs.Signal.{Signal}
-use Rattle.pdl_lockapi.proofs.LockKinds.{lock_declared, once_or_twice}
+use Rattle.pdl_lockapi.proofs.LockKinds.{once_or_twice}
 use Rattle.pdl_pipe_law.specs.Walk.{Locks}
 use Rattle.pdl_pipe_law.specs.Views.{Gates, View}
-use Rattle.pdl_pipe_law.specs.Declared.{info_of, port_mem, locked_of, has_lock, array_words, shape_of_mem}
+use Rattle.pdl_pipe_law.specs.Declared.{port_mem, locked_of, has_lock, array_words, shape_of_mem}
 use Rattle.pdl_pipe_law.specs.Compiled.{IsCompiled}
 use Rattle.pdl_pipe_law.proofs.WellFormedNames.{Among, among_one}
 use Rattle.pdl_pipe_law.proofs.WellFormedPorts.{locked_named, found}
 use Rattle.pdl_pipe_law.proofs.WellFormedMems.{Reaches, IsAddressed}
 use Rattle.pdl_pathfacts.proofs.Memories.{mems_length}
+use Rattle.pdl_semantics.proofs.Facts.{lock_declared}
+use Rattle.pdl_rules.specs.Memories.{info_of}
 
 -- ---- the array of a memory
 

@@ -15,8 +15,8 @@ use Rattle.pdl_rules.specs.Typed.{IsSized, AreSized}
 use Rattle.pdl_rules.proofs.EachPlace.{Each, each_from, each_front, each_back, closing}
 use Rattle.pdl_rules.proofs.Once.{count_push, count_cons}
 use Rattle.pdl_rules.proofs.Memories.{has_depth, bits_reach}
-use Rattle.pdl_pipe_law.specs.Declared.{info_of}
 use Rattle.pdl_pipe_law.proofs.WellFormedNames.{Among}
+use Rattle.pdl_rules.specs.Memories.{info_of}
 
 -- ---- linear sources
 

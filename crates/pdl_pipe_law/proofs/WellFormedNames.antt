@@ -1,22 +1,19 @@
 -- The names of ports and of memories: which differ, and which memory has a name.
 use Rattle.std.proofs.Common.{◌≡◌, ◌≢◌, ◌⊎◌, inl, inr, ℕ, zero, suc, ◌<◌, false, List, [], ◌∷◌, ◌++◌, length, get_or, map, AllPairs, bytes_eq, sym, ap, ◌∙◌, arith}
 use Rattle.std.specs.Prelude.{⊤}
-use Rattle.std.proofs.lemmas.Bool.{false≢true, or_parts, false_from_ne_true}
+use Rattle.std.proofs.lemmas.Bool.{false≢true, or_parts}
 use Rattle.std.proofs.lemmas.Slice.Eq.{bytes_eq-Decides}
 use Rattle.pdl_semantics.specs.Tree.{Mem}
 use Rattle.pdl_rules.specs.Typed.{is_memory, AreDistinct}
-use Rattle.pdl_word.proofs.Bytes.{bytes_same}
+use Rattle.pdl_word.proofs.Bytes.{bytes_differ}
 
 -- ---- equal names
 
 pub name_apart : (x y : List ℕ) → bytes_eq x y ≡ false → x ≢ y
 name_apart x y e s = false≢true (sym e ∙ (bytes_eq-Decides x y).1 s)
 
-pub name_differs : (x y : List ℕ) → x ≢ y → bytes_eq x y ≡ false
-name_differs x y d = false_from_ne_true (bytes_eq x y) (λ e. d (bytes_same x y e))
-
 pub name_turned : (x y : List ℕ) → bytes_eq x y ≡ false → bytes_eq y x ≡ false
-name_turned x y e = name_differs y x (λ s. name_apart x y e (sym s))
+name_turned x y e = bytes_differ y x (λ s. name_apart x y e (sym s))
 
 -- ---- memories
 

@@ -13,14 +13,14 @@ use Rattle.pdl_net.specs.declared.Port.{Port}
 use Rattle.pdl_net.specs.Circuit.{Circuit, Output}
 use Rattle.pdl_net.specs.Pipe.{Head, PortMem, head_of, output, stage_ports, commit_ports, pipe_ports}
 use Rattle.pdl_net.specs.Signal.{Signal}
-use Rattle.pdl_lockapi.proofs.LockKinds.{lock_declared}
 use Rattle.pdl_pipe_law.specs.Views.{Gates, View}
 use Rattle.pdl_pipe_law.specs.Declared.{port_mem, locked_of, mem_names, FitsMem, CommitsFit, AreBitsWide}
 use Rattle.pdl_pipe_law.proofs.WellFormedMems.{Reaches, power_one}
 use Rattle.pdl_pipe_law.specs.Ports.{Shown, Commit, stages_shown, commit_shown, commits_shown, all_shown}
 use Rattle.pdl_pipe_law.specs.Compiled.{shown_in, port_in}
-use Rattle.pdl_pipe_law.proofs.WellFormedNames.{Among, IsNone, AllDiffer, name_of_mem, name_differs, name_turned, among_other, mem_none}
-use Rattle.pdl_word.proofs.Bytes.{bytes_refl}
+use Rattle.pdl_pipe_law.proofs.WellFormedNames.{Among, IsNone, AllDiffer, name_of_mem, name_turned, among_other, mem_none}
+use Rattle.pdl_word.proofs.Bytes.{bytes_refl, bytes_differ}
+use Rattle.pdl_semantics.proofs.Facts.{lock_declared}
 
 -- ---- the locked memories
 
@@ -38,7 +38,7 @@ found_first false l ls n e = refl
 
 none_named : (ms : List Mem) (n : List ℕ) → IsNone n (map name_of_mem ms) → locked_named ms n ≡ None
 none_named [] n h = refl
-none_named (m ∷ ms) n h = found_first (is_some m.lock) (port_mem m) (locked_of ms) n (name_differs m.name.name n (λ s. h.0 (sym s))) ∙ none_named ms n h.1
+none_named (m ∷ ms) n h = found_first (is_some m.lock) (port_mem m) (locked_of ms) n (bytes_differ m.name.name n (λ s. h.0 (sym s))) ∙ none_named ms n h.1
 
 found_here : (b : Bool) (l : PortMem) (ls : List PortMem) → find (λ (k : PortMem). bytes_eq k.name l.name) ls ≡ None
     → find (λ (k : PortMem). bytes_eq k.name l.name) ((if b then l ∷ [] else []) ++ ls) ≡ (if b then Some l else None)

@@ -1,12 +1,11 @@
 -- The memories of a netlist as a pipe declares them: the names of ports and arrays, and their sizes.
-use Rattle.std.specs.Prelude.{◌≡◌, ℕ, zero, suc, ◌+◌, ◌^◌, ◌<◌, ◌≤◌, Bool, true, false, List, [], ◌∷◌, ◌++◌, if◌then◌else◌, map, length, Option, Some, None, slice_index_or}
+use Rattle.std.specs.Prelude.{◌≡◌, ℕ, zero, suc, ◌+◌, ◌^◌, ◌<◌, ◌≤◌, Bool, true, false, List, [], ◌∷◌, ◌++◌, if◌then◌else◌, length, Option, Some, None}
 use Rattle.std.specs.Option.{is_some}
 use Rattle.std.specs.List.{list_all}
 use Rattle.pdl_semantics.specs.Tree.{LockDecl, Mem}
 use Rattle.pdl_lockapi.specs.Laws.{words_of}
 use Rattle.pdl_rules.specs.Refusal.{is_comb}
 use Rattle.pdl_rules.specs.Typed.{AreDistinct, AreSized}
-use Rattle.pdl_kit.specs.declared.mem_info.MemInfo.{MemInfo}
 use Rattle.pdl_rules.specs.Widths.{address_bits}
 use Rattle.pdl_net.specs.Circuit.{Shape}
 use Rattle.pdl_net.specs.Pipe.{PortMem}
@@ -33,10 +32,6 @@ array_words (Some l) d = words_of l.kind d
 
 abbrev pub shape_of_mem : Mem → Shape
 shape_of_mem m = record { name = m.name.name; width = m.width.value; depth = array_words m.lock m.depth.value }
-
--- a memory as it is told to later steps
-abbrev pub info_of : Mem → MemInfo
-info_of m = record { name = m.name.name; width = m.width.value; depth = m.depth.value; delayed = m.delayed }
 
 -- a memory as its ports tell it
 abbrev pub port_mem : Mem → PortMem

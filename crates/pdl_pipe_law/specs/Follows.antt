@@ -10,8 +10,9 @@ use Rattle.pdl_net.specs.Pipe.{head_of, pipe_ports, IsWellFormed}
 use Rattle.pdl_pipe_law.specs.Walk.{Locks}
 use Rattle.pdl_pipe_law.specs.Views.{View, Gates}
 use Rattle.pdl_pipe_law.specs.Compiled.{IsCompiled}
-use Rattle.pdl_pipe_law.specs.Declared.{info_of, locked_of, mem_names, shape_of_mem, AreBitsWide, CommitsFit}
+use Rattle.pdl_pipe_law.specs.Declared.{locked_of, mem_names, shape_of_mem, AreBitsWide, CommitsFit}
 use Rattle.pdl_pipe_law.specs.Runs.{ShowsMachine}
+use Rattle.pdl_rules.specs.Memories.{info_of}
 
 pub record Follows (p : tree.Pipe) (n : Netlist) : Type 0 where
   pub name : n.name ≡ p.name.name

@@ -9,11 +9,12 @@ use Rattle.pdl_semantics.specs.Cycle.{is_kept, squasher, has_release, list_three
 use Rattle.pdl_net.specs.Circuit.{State}
 use Rattle.pdl_net.specs.Signal.{Signal}
 use Rattle.pdl_lockapi.specs.Laws.{FitsIn, holds_ticket}
-use Rattle.pdl_lockapi.specs.Forget.{lock_state_of, count_older}
+use Rattle.pdl_lockapi.specs.Forget.{lock_state_of}
 use Rattle.pdl_machine_facts.specs.Slots.{slot, here, locks_ready, stage_moves, moving}
 use Rattle.pdl_pipe_law.specs.Lives.{lives_from, held_from, verifies_from}
 use Rattle.pdl_pipe_law.specs.Walk.{Locks, Reservation, Put, Letting, Birth, Ask, Walk, is_locked, is_on, values_at}
 use Rattle.pdl_pipe_law.specs.Views.{View, Gates}
+use Rattle.pdl_semantics.specs.PendingLists.{count_older}
 
 -- values are those of the variables' signals, as far as they live from stage k on; and so is what is held
 abbrev pub IsEnv : Pipe → ℕ → State → (ℕ → Signal) → List ℕ → Type 0

@@ -9,10 +9,11 @@ use Rattle.pdl_vtext.specs.declared.rule.Rule.TheVariants as rule
 use Rattle.pdl_vtext.specs.Tokens.{is_word, is_lower, is_digit}
 use Rattle.pdl_vtext.specs.Words.{number_of, constant_of, is_name, has_name_form, is_name_byte, is_statement_keyword, are_decimals, is_named, is_input, is_reg, is_cell, is_operand}
 use Rattle.pdl_vtext.specs.Grammar.{chosen}
-use Rattle.pdl_vlog.specs.Digits.{hex}
 use Rattle.pdl_vlog.specs.Layout.{constant}
-use Rattle.pdl_printed.proofs.Numbers.{digit_is_word, lower_is_word, all_weaker, decimal_words, decimals_are, constant_words}
+use Rattle.pdl_printed.proofs.Numbers.{digit_is_word, lower_is_word, decimal_words, decimals_are, constant_words}
 use Rattle.pdl_printed.proofs.Lexed.{IsWordText}
+use Rattle.pdl_word.specs.Digits.{hex}
+use Rattle.pdl_word.proofs.Lists.{all_weaker}
 
 -- ---- words
 

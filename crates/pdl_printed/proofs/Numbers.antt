@@ -6,13 +6,14 @@ use Rattle.std.proofs.lemmas.Bool.{and_from, or_left, or_right, cases_lt, le-leb
 use Rattle.std.proofs.lemmas.Fmt.{decimal_is_IsNumeral}
 use Rattle.std.proofs.lemmas.List.Folds.{list_all-append}
 use Rattle.std.proofs.lemmas.Str.Parse.{digit_from_value}
-use Rattle.pdl_word.proofs.Digits.{GivesHex, decimal_digits, hex_all, are_hex_digits, hex_value}
+use Rattle.pdl_word.proofs.Digits.{decimal_digits, hex_all, are_hex_digits, hex_value}
 use Rattle.pdl_net.specs.declared.BinOp.{BinOp}
 use Rattle.pdl_net.specs.declared.BinOp.TheVariants as op
 use Rattle.pdl_vtext.specs.Tokens.{is_lower, is_digit, is_word}
-use Rattle.pdl_vtext.specs.Words.{are_digits, number_of, hex_part, with_parts, constant_of, operator_of, are_decimals}
-use Rattle.pdl_vlog.specs.Digits.{hex, hex_digit}
+use Rattle.pdl_vtext.specs.Words.{number_of, hex_part, with_parts, constant_of, operator_of, are_decimals}
 use Rattle.pdl_vlog.specs.Layout.{constant, operator}
+use Rattle.pdl_word.specs.Digits.{are_digits, hex_digit, hex}
+use Rattle.pdl_word.proofs.Lists.{all_weaker}
 
 -- ---- bytes
 
@@ -40,14 +41,6 @@ run_before p (x ∷ xs) rest h e = at_test (p x) h (run_before p xs rest)
     at_test : (b : Bool) → (b && list_all p xs) ≡ true → (list_all p xs ≡ true → prefix_len p rest ≡ 0 → prefix_len p (xs ++ rest) ≡ length xs) → cond b (1 + prefix_len p (xs ++ rest)) 0 ≡ suc (length xs)
     at_test true k more = let i = more k e in omega arith
     at_test false k more = absurd (cc)
-
-pub all_weaker : {X : Type 0} (p q : X → Bool) → ((x : X) → p x ≡ true → q x ≡ true) → (xs : List X) → list_all p xs ≡ true → list_all q xs ≡ true
-all_weaker p q step [] h = refl
-all_weaker p q step (x ∷ xs) h = at_test (p x) refl h (all_weaker p q step xs)
-  where
-    at_test : (b : Bool) → p x ≡ b → (b && list_all p xs) ≡ true → (list_all p xs ≡ true → list_all q xs ≡ true) → (q x && list_all q xs) ≡ true
-    at_test true e k more = and_from (q x) (list_all q xs) (step x e) (more k)
-    at_test false e k more = absurd (cc)
 
 -- ---- decimal digits
 
@@ -79,13 +72,6 @@ number_back n h =
 
 -- ---- hexadecimal digits
 
--- `hex` gives digits as they are meant there
-hex_given : GivesHex hex
-hex_given = record {
-  none = λ v. refl;
-  more = λ n v. refl;
-}
-
 hex_digit_word : (d : ℕ) → d < 16 → is_word (hex_digit d) ≡ true
 hex_digit_word d h = elim (cases_lt d 10) [
   | inl l ↦
@@ -100,8 +86,8 @@ hex_digit_word d h = elim (cases_lt d 10) [
 
 hex_back : (w v : ℕ) → 1 ≤ w → w ≤ 64 → v < 2 ^ w → hex_part (codes "'h" ++ hex ((w + 3) / 4) v) ≡ Some v
 hex_back w v low high h =
-    ap (λ b. cond b (Some (digits_value 16 (hex ((w + 3) / 4) v))) None) (are_hex_digits hex hex_given w v low high)
-    ∙ ap Some (hex_value hex hex_given w v h)
+    ap (λ b. cond b (Some (digits_value 16 (hex ((w + 3) / 4) v))) None) (are_hex_digits w v low high)
+    ∙ ap Some (hex_value w v h)
 
 pub constant_back : (w v : ℕ) → 1 ≤ w → w ≤ 64 → v < 2 ^ w → constant_of (constant w v) ≡ Some (record { width = w; value = v })
 unfolding constant_of
@@ -123,7 +109,7 @@ constant_words w v h =
     let d = decimal w ++ codes "'h" in
     let x = hex ((w + 3) / 4) v in
     list_all-append is_word d x
-    ∙ and_from _ _ (list_all-append is_word (decimal w) (codes "'h") ∙ and_from _ _ (decimal_words w h) refl) (hex_all hex hex_given is_word hex_digit_word ((w + 3) / 4) v)
+    ∙ and_from _ _ (list_all-append is_word (decimal w) (codes "'h") ∙ and_from _ _ (decimal_words w h) refl) (hex_all is_word hex_digit_word ((w + 3) / 4) v)
 
 -- ---- operators
 

@@ -3,9 +3,9 @@ use Rattle.std.proofs.Common.{◌≡◌, refl, sym, ap, ap₂, ◌∙◌, subst,
 use Rattle.std.proofs.lemmas.Bool.{eqb-true, ne_eqb, not-true}
 use Rattle.pdl_semantics.specs.Flat.{list_all, Op, DelayedRead, Stmt, Guard, Next, Ends, Goes, Forks, Branch, Stage, Pipe, start_env}
 use Rattle.pdl_semantics.specs.Stages.{onpath, in_stage, stage_at, last_stage, is_inside, is_branch_of, is_reserve, mem_at, goes_to, commit_stage, reserve_stage, verify_stage, fork_guards}
-use Rattle.pdl_semantics.specs.Sound.{all_below}
+use Rattle.pdl_semantics.specs.Sound.{all_below, stages_from, is_fetch}
 use Rattle.pdl_derived.specs.Alone.{before, answered_op}
-use Rattle.pdl_facts.specs.Scans.{from, none_of, all_at, binds_var, is_fetch}
+use Rattle.pdl_facts.specs.Scans.{none_of, all_at, binds_var}
 use Rattle.pdl_semantics.specs.Cycle.{merges_by}
 use Rattle.pdl_facts.specs.Facts.{trunk_only}
 use Rattle.pdl_turns.proofs.Sounds.{none_looked}
@@ -290,7 +290,7 @@ module _ (p : Pipe) (h : passes_tests p ≡ true) where
 
   -- FORKS, BARRIERS AND PATHS
 
-  fork_ok : (s x a b : ℕ) → (stage_at p s).next ≡ Forks x a b → (nat_lt x p.vars && (none_of (binds_var x) (from (suc s) p.stmts) && none_of (is_fetch_of x) (in_stage s p.stmts))) ≡ true
+  fork_ok : (s x a b : ℕ) → (stage_at p s).next ≡ Forks x a b → (nat_lt x p.vars && (none_of (binds_var x) (stages_from (suc s) p.stmts) && none_of (is_fetch_of x) (in_stage s p.stmts))) ≡ true
   fork_ok s x a b e =
       by_bool (nat_lt s (length p.stages)) _
       (λ i. subst (λ n. fork_sound p s n ≡ true) e (below_at (λ s. fork_sound p s (stage_at p s).next) (length p.stages) s all.1.1.1.1.1.0 (ltb-true _ _ i)))
@@ -441,9 +441,9 @@ module _ (p : Pipe) (h : passes_tests p ≡ true) where
         unreleased = λ m past. let e : commit_stage p m ≡ length p.stages = commit_past (at_once p) (parts_paths (at_once p) all.0) m past in omega arith;
         guards_late = all.1.1.1.1.1.1.1.1.1.1.1.1.1.1.1.0;
         skips = skips;
-        fork_bound = λ s x a b e. and_left (none_of (binds_var x) (from (suc s) p.stmts)) _ (and_right (nat_lt x p.vars) _ (fork_ok s x a b e));
+        fork_bound = λ s x a b e. and_left (none_of (binds_var x) (stages_from (suc s) p.stmts)) _ (and_right (nat_lt x p.vars) _ (fork_ok s x a b e));
         fork_known = λ s x a b e. ltb-true _ _ (and_left (nat_lt x p.vars) _ (fork_ok s x a b e));
-        fork_seen = λ s x a b e. and_right (none_of (binds_var x) (from (suc s) p.stmts)) _ (and_right (nat_lt x p.vars) _ (fork_ok s x a b e));
+        fork_seen = λ s x a b e. and_right (none_of (binds_var x) (stages_from (suc s) p.stmts)) _ (and_right (nat_lt x p.vars) _ (fork_ok s x a b e));
         fetch = λ m. fetch_stage m p.stmts;
         fetch_ok = λ s. fetch_all s p.stmts all.1.1.1.1.1.1.1.1.0;
         fetch_blind = fetch_blind;

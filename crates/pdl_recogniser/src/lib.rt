@@ -1,5 +1,5 @@
 //! Whether a text is one of the grammar, found token by token, without its tree and with a stack that the limits of the grammar bound.
-//! The layers above may use `misplaced` for texts of which no tree is wanted, or go through the tokens with a `Recogniser` themselves.
+//! The layers above may use `misplaced_line` for texts of which no tree is wanted, or go through the tokens with a `Recogniser` themselves.
 #![tactic(auto)]
 
 mod expecting;

@@ -1,17 +1,9 @@
 -- The writes of the sequential run, turn by turn.
-use Rattle.std.proofs.Common.{◌≡◌, refl, sym, ap, ap₂, ◌∙◌, ℕ, zero, suc, ◌+◌, ◌≤◌, List, ◌++◌, arith, append-nil, append_assoc, add-zero, add-suc, suc-add, ◌-◌}
+use Rattle.std.proofs.Common.{◌≡◌, sym, ap, ap₂, ◌∙◌, ℕ, zero, suc, ◌+◌, ◌≤◌, List, ◌++◌, arith, append-nil, append_assoc, add-zero, add-suc, suc-add, ◌-◌}
 use Rattle.pdl_semantics.specs.Flat.{Arrays, Pipe, Commit, of_mem}
 use Rattle.pdl_semantics.specs.Sequential.{thread, writes_from, turn_at}
 use Rattle.pdl_derived.proofs.Writes.{of_mem_append}
-
--- the turns from the second on
-turn_front : (p : Pipe) (k : ℕ) (arrays : Arrays) (args : List ℕ)
-    → ((turn_at p arrays args (suc k)).arrays ≡ (turn_at p (thread p arrays args).arrays (thread p arrays args).next k).arrays)
-    × ((turn_at p arrays args (suc k)).next ≡ (turn_at p (thread p arrays args).arrays (thread p arrays args).next k).next)
-turn_front p zero arrays args = (refl, refl)
-turn_front p (suc k) arrays args =
-    let h = turn_front p k arrays args in
-    (ap₂ (λ a g. (thread p a g).arrays) h.0 h.1, ap₂ (λ a g. (thread p a g).next) h.0 h.1)
+use Rattle.pdl_semantics.proofs.Facts.{turn_front}
 
 -- one more turn's writes
 pub writes_more : (p : Pipe) (k : ℕ) (arrays : Arrays) (args : List ℕ) → writes_from p (suc k) arrays args ≡ writes_from p k arrays args ++ (thread p (turn_at p arrays args k).arrays (turn_at p arrays args k).next).writes

@@ -18,10 +18,10 @@ use Rattle.pdl_vnets.specs.declared.wiring.RegDrive.{RegDrive}
 use Rattle.pdl_vnets.specs.declared.wiring.ArrayWrite.{ArrayWrite}
 use Rattle.pdl_vpipe.specs.Told.{with_mems}
 use Rattle.pdl_vread.specs.Built.{driver, port, ports, undriven, given, driven, regs, writes, arrays, built}
-use Rattle.pdl_vread.proofs.Parts.{Each}
 use Rattle.pdl_roundtrip.specs.Declared.{Lines, declared, wiring_of, port_decl, reg_name, reg_decls, array_decls, onto_output, output_drives, reg_drives, block_writes}
 use Rattle.pdl_roundtrip.proofs.Table.{bits_back, depth_back, IsSized, well_ports, well_regs, well_arrays, port_wide, reg_wide, all_sized}
 use Rattle.pdl_roundtrip.proofs.Drives.{no_port, of_port, ports_at, driver_kept, of_reg, reg_drive, regs_at, driven_kept, writes_at}
+use Rattle.pdl_word.specs.Each.{Each}
 
 -- ---- ports
 

@@ -1,5 +1,5 @@
 -- Which inputs the names of a netlist's ports stand for, and how they begin.
-use Rattle.std.proofs.Common.{◌≡◌, ◌≢◌, ℕ, zero, suc, ◌+◌, ◌<◌, true, false, cond, List, [], ◌∷◌, ◌++◌, length, map, flat_map, filter_map, get_or, codes, Option, Some, None, All, refl, sym, ap, ◌∙◌, subst, arith}
+use Rattle.std.proofs.Common.{◌≡◌, ◌≢◌, ℕ, zero, suc, ◌+◌, ◌<◌, true, cond, List, [], ◌∷◌, ◌++◌, length, map, flat_map, filter_map, get_or, codes, Option, Some, None, All, refl, sym, ap, ◌∙◌, subst, arith}
 use Rattle.std.specs.List.{AllPairs, cons_option, range_with_len}
 use Rattle.pdl_net.specs.declared.Net.{Net}
 use Rattle.pdl_net.specs.declared.Net.TheVariants.{Input}
@@ -12,9 +12,11 @@ use Rattle.pdl_net.specs.Pipe.{Head, PortMem, head_of, is_input, output, reply_p
 use Rattle.pdl_vtext.specs.declared.file.PortDecl.{PortDecl}
 use Rattle.pdl_vlog.specs.Layout.{input_name, input_names}
 use Rattle.pdl_vnets.specs.Wired.{place, shifted, port_nets, net_at}
-use Rattle.pdl_vread.proofs.Parts.{Each}
 use Rattle.pdl_roundtrip.specs.Declared.{port_decl}
 use Rattle.pdl_roundtrip.proofs.Places.{Begins, place_first, place_later}
+use Rattle.pdl_word.proofs.Bools.{untrue}
+use Rattle.pdl_word.specs.Each.{Each}
+use Rattle.pdl_word.proofs.Each.{each_append, each_unmapped}
 
 -- ---- where inputs stand
 
@@ -70,24 +72,13 @@ input_placed line (p ∷ ps) i j k h l e =
 
 -- ---- how their names begin
 
-pub each_append : {A : Type 0} (P : A → Type 0) (xs ys : List A) → Each P xs → Each P ys → Each P (xs ++ ys)
-each_append P [] ys h k = k
-each_append P (x ∷ xs) ys h k = (h.0, each_append P xs ys h.1 k)
-
 each_flat : {A B : Type 0} (P : B → Type 0) (f : A → List B) → ((x : A) → Each P (f x)) → (xs : List A) → Each P (flat_map f xs)
 each_flat P f h [] = tt
 each_flat P f h (x ∷ xs) = each_append P (f x) (flat_map f xs) (h x) (each_flat P f h xs)
 
-each_back : {A B : Type 0} (P : B → Type 0) (f : A → B) (xs : List A) → Each P (map f xs) → Each (λ x. P (f x)) xs
-each_back P f [] h = tt
-each_back P f (x ∷ xs) h = (h.0, each_back P f xs h.1)
-
 -- an input has a name that begins with `p`
 abbrev IsMarked : Head → Type 0
 IsMarked h = h.input ≡ true → Begins 112 h.name
-
-not_input : {A : Type 0} → false ≡ true → A
-not_input e = absurd (cc)
 
 pipe_marked : (s : ℕ) (d l : List PortMem) → Each IsMarked (pipe_ports s d l)
 pipe_marked s d l =
@@ -97,10 +88,10 @@ pipe_marked s d l =
     let r = flat_map request_ports d in
     let last = output (codes "ended") 1 ∷ output (codes "squash") 1 ∷ [] in
     let ha : Each IsMarked a = each_flat IsMarked reply_ports (λ m. ((λ e. refl), ((λ e. refl), tt))) d in
-    let hb : Each IsMarked b = each_flat IsMarked stage_ports (λ k. ((λ e. not_input e), ((λ e. not_input e), tt))) (range_with_len 0 s) in
-    let hc : Each IsMarked c = each_flat IsMarked commit_ports (λ m. ((λ e. not_input e), ((λ e. not_input e), ((λ e. not_input e), tt)))) l in
-    let hr : Each IsMarked r = each_flat IsMarked request_ports (λ m. ((λ e. not_input e), ((λ e. not_input e), tt))) d in
-    let hl : Each IsMarked last = ((λ e. not_input e), ((λ e. not_input e), tt)) in
+    let hb : Each IsMarked b = each_flat IsMarked stage_ports (λ k. ((λ e. untrue e), ((λ e. untrue e), tt))) (range_with_len 0 s) in
+    let hc : Each IsMarked c = each_flat IsMarked commit_ports (λ m. ((λ e. untrue e), ((λ e. untrue e), ((λ e. untrue e), tt)))) l in
+    let hr : Each IsMarked r = each_flat IsMarked request_ports (λ m. ((λ e. untrue e), ((λ e. untrue e), tt))) d in
+    let hl : Each IsMarked last = ((λ e. untrue e), ((λ e. untrue e), tt)) in
     each_append IsMarked (((a ++ b) ++ c) ++ r) last (each_append IsMarked ((a ++ b) ++ c) r (each_append IsMarked (a ++ b) c (each_append IsMarked a b ha hb) hc) hr) hl
 
 input_marked : (ps : List Port) (i : ℕ) → Each (λ p. IsMarked (head_of p)) ps → i < count ps → Begins 112 (name_at ps i)
@@ -114,4 +105,4 @@ input_marked (p ∷ ps) i h l = go (λ j m. input_marked ps j h.1 m) p.dir h.0 i
 
 -- the inputs of a pipe have names that begin with `p`
 pub input_begins : (n : Netlist) → IsPipe n → (i : ℕ) → i < count n.ports → Begins 112 (name_at n.ports i)
-input_begins n h i l = input_marked n.ports i (each_back IsMarked head_of n.ports (subst (Each IsMarked) (sym h.ports) (pipe_marked h.stages h.delayed h.locked))) l
+input_begins n h i l = input_marked n.ports i (each_unmapped IsMarked head_of n.ports (subst (Each IsMarked) (sym h.ports) (pipe_marked h.stages h.delayed h.locked))) l

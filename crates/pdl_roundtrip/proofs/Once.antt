@@ -22,23 +22,15 @@ use Rattle.pdl_vnets.specs.declared.wiring.RegDrive.{RegDrive}
 use Rattle.pdl_vrules.specs.Asked.{first_wrong, both}
 use Rattle.pdl_vrules.specs.Once.{is_new, output_drives as drives_of_port, reg_drives as drives_of_reg, in_turn, port_once, reg_once, array_once, cell_once, write_once, blocks_once, declared_once, once_line}
 use Rattle.pdl_vlog.specs.Layout.{input_names, cell_width}
-use Rattle.pdl_vread.proofs.Parts.{Each}
 use Rattle.pdl_declared.specs.Names.{IsCounted}
 use Rattle.pdl_roundtrip.specs.Declared.{Lines, declared, wiring_of, port_decl, reg_decls, array_name, array_decls, write_decls, onto_block, array_blocks, output_drives, reg_drives, written_to, onto_writes, block_writes}
 use Rattle.pdl_roundtrip.proofs.Questions.{right_then, append_right, turns_right}
 use Rattle.pdl_roundtrip.proofs.Names.{apart_new, regs_apart, cells_apart, ports_apart, arrays_apart}
 use Rattle.pdl_roundtrip.proofs.Drives.{no_port, ports_at, driven_once, regs_at}
+use Rattle.pdl_vread.proofs.WellFormed.{no_port_decl, no_array_decl, no_decl}
+use Rattle.pdl_word.specs.Each.{Each}
 
 -- ---- declarations
-
-abbrev no_port_decl : PortDecl
-no_port_decl = record { line = 0; name = []; high = 0; input = false }
-
-abbrev no_reg_decl : RegDecl
-no_reg_decl = record { line = 0; name = []; high = 0 }
-
-abbrev no_array_decl : ArrayDecl
-no_array_decl = record { line = 0; name = []; high = 0; last = 0 }
 
 abbrev no_cell_decl : CellDecl
 no_cell_decl = record { line = 0; name = []; high = 0; target = []; term = t.Const 0 0 }
@@ -87,11 +79,11 @@ module _ (at : ℕ → ℕ) (xs : List Reg) where
 
   regs_once : length xs ≤ 2 ^ 64 → first_wrong (in_turn (reg_once driven_regs) [] declared_regs) ≡ None
   regs_once h =
-      turns_right (reg_once driven_regs) [] declared_regs no_reg_decl (λ i l.
+      turns_right (reg_once driven_regs) [] declared_regs no_decl (λ i l.
       let m = length_reg_decls at 0 xs in
-      let d = get_or declared_regs i no_reg_decl in
+      let d = get_or declared_regs i no_decl in
       and_from (is_new (map (λ (q : RegDecl). q.name) (take i declared_regs)) d.name) (eqb (drives_of_reg driven_regs (length (take i declared_regs))) 1)
-      (apart_new (λ (q : RegDecl). q.name) declared_regs no_reg_decl i (regs_apart at xs h) l) (reg_driven i (omega arith)))
+      (apart_new (λ (q : RegDecl). q.name) declared_regs no_decl i (regs_apart at xs h) l) (reg_driven i (omega arith)))
 
 arrays_once : (at : ℕ → ℕ) (xs : List Array) → AllPairs (λ a b. a ≢ b) (map (λ (a : Array). a.name) xs) → first_wrong (in_turn array_once [] (array_decls at 0 xs)) ≡ None
 arrays_once at xs h = turns_right array_once [] (array_decls at 0 xs) no_array_decl (λ i l. apart_new (λ (q : ArrayDecl). q.name) (array_decls at 0 xs) no_array_decl i (arrays_apart at xs h) l)

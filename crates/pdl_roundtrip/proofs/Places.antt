@@ -1,28 +1,21 @@
 -- Where a name stands among names that differ, and that it stands among none of another kind.
-use Rattle.std.proofs.Common.{◌≡◌, ◌≢◌, ℕ, zero, suc, ◌+◌, ◌^◌, ◌<◌, ◌≤◌, false, true, cond, List, [], ◌∷◌, length, map, get_or, bytes_eq, Some, None, refl, sym, ap, ◌∙◌, arith}
+use Rattle.std.proofs.Common.{◌≡◌, ◌≢◌, ℕ, zero, suc, ◌+◌, ◌^◌, ◌<◌, ◌≤◌, cond, List, [], ◌∷◌, length, map, get_or, bytes_eq, Some, None, refl, sym, ap, ◌∙◌, arith}
 use Rattle.std.specs.List.{AllPairs}
 use Rattle.std.proofs.lemmas.Fmt.{decimal_injective}
-use Rattle.std.proofs.lemmas.Slice.Eq.{bytes_eq-Decides}
-use Rattle.pdl_word.proofs.Bools.{by_bool, same_bools}
-use Rattle.pdl_word.proofs.Bytes.{bytes_same}
+use Rattle.pdl_word.proofs.Bools.{same_bools}
+use Rattle.pdl_word.proofs.Bytes.{bytes_same, bytes_differ, same_bytes}
 use Rattle.pdl_word.proofs.Lists.{tail_same}
 use Rattle.pdl_vnets.specs.Wired.{place, shifted}
-use Rattle.pdl_vread.proofs.Parts.{Each}
 use Rattle.pdl_roundtrip.specs.Declared.{reg_name, cell_name}
+use Rattle.pdl_word.specs.Each.{Each}
 
 -- ---- one name
 
-same_true : (x y : List ℕ) → x ≡ y → bytes_eq x y ≡ true
-same_true x y e = (bytes_eq-Decides x y).1 e
-
-differ_false : (x y : List ℕ) → x ≢ y → bytes_eq x y ≡ false
-differ_false x y h = by_bool (bytes_eq x y) (bytes_eq x y ≡ false) (λ e. absurd (h (bytes_same x y e))) (λ e. e)
-
 pub place_first : (y : List ℕ) (ys : List (List ℕ)) (x : List ℕ) → x ≡ y → place (y ∷ ys) x ≡ Some 0
-place_first y ys x e = ap (λ b. cond b (Some 0) (shifted (place ys x))) (same_true x y e)
+place_first y ys x e = ap (λ b. cond b (Some 0) (shifted (place ys x))) (same_bytes x y e)
 
 pub place_later : (y : List ℕ) (ys : List (List ℕ)) (x : List ℕ) → x ≢ y → place (y ∷ ys) x ≡ shifted (place ys x)
-place_later y ys x h = ap (λ b. cond b (Some 0) (shifted (place ys x))) (differ_false x y h)
+place_later y ys x h = ap (λ b. cond b (Some 0) (shifted (place ys x))) (bytes_differ x y h)
 
 -- ---- names that differ
 
@@ -40,7 +33,7 @@ place_mapped g back [] x = refl
 place_mapped g back (y ∷ ys) x =
     ap (λ o. cond (bytes_eq (g x) (g y)) (Some 0) (shifted o)) (place_mapped g back ys x)
     ∙ ap (λ b. cond b (Some 0) (shifted (place ys x)))
-    (same_bools (bytes_eq (g x) (g y)) (bytes_eq x y) (λ e. same_true x y (back x y (bytes_same (g x) (g y) e))) (λ e. same_true (g x) (g y) (ap g (bytes_same x y e))))
+    (same_bools (bytes_eq (g x) (g y)) (bytes_eq x y) (λ e. same_bytes x y (back x y (bytes_same (g x) (g y) e))) (λ e. same_bytes (g x) (g y) (ap g (bytes_same x y e))))
 
 -- ---- kinds of names
 

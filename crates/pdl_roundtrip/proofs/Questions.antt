@@ -5,7 +5,7 @@ use Rattle.std.proofs.lemmas.Bool.{cond-true}
 use Rattle.pdl_vrules.specs.Asked.{Asked, first_wrong}
 use Rattle.pdl_vrules.specs.Once.{in_turn}
 use Rattle.pdl_vrules.proofs.Blocks.{rest_first}
-use Rattle.pdl_vread.proofs.Parts.{Each}
+use Rattle.pdl_word.specs.Each.{Each}
 
 pub right_then : (b : Bool) (o : Option ℕ) (line : ℕ) → b ≡ true → o ≡ None → cond b o (Some line) ≡ None
 right_then b o line h k = cond-true b o (Some line) h ∙ k

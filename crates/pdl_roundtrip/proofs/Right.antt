@@ -28,10 +28,10 @@ use Rattle.pdl_vlog.specs.Layout.{input_names, cell_width}
 use Rattle.pdl_vrules.specs.declared.table.Widths.{Widths}
 use Rattle.pdl_vrules.specs.Asked.{first_wrong, both}
 use Rattle.pdl_vrules.specs.Widths.{bits, widths_of, net_width, is_width, is_depth, fits, fits_cell, fits_write, asked_port, asked_reg, asked_array, asked_cell, asked_output, asked_block, asked_write, asked_writes, declared_questions, width_line}
-use Rattle.pdl_vread.proofs.Parts.{Each}
 use Rattle.pdl_roundtrip.specs.Declared.{Lines, declared, port_decl, reg_decls, array_name, array_decls, cell_decls, onto_drive, output_decls, reg_blocks, write_decls, onto_block, array_blocks, onto_output, output_drives, reg_drives, written_to, onto_writes, block_writes, wiring_of}
 use Rattle.pdl_roundtrip.proofs.Questions.{right_then, append_right, each_found, each_so, GoesOn, goes_on_here, goes_on_later, goes_on_all}
 use Rattle.pdl_roundtrip.proofs.Table.{bits_back, depth_back, IsSized, IsTable, net_is, word_is, depth_is, well_ports, well_regs, well_arrays, port_wide, reg_wide, all_sized, table}
+use Rattle.pdl_word.specs.Each.{Each}
 
 -- ---- widths and depths
 

@@ -25,9 +25,9 @@ use Rattle.pdl_vtext.specs.declared.file.CellDecl.{CellDecl}
 use Rattle.pdl_vlog.specs.Layout.{input_names, cell_width}
 use Rattle.pdl_vrules.specs.declared.table.Widths.{Widths}
 use Rattle.pdl_vrules.specs.Widths.{bits, input_width, widths_of, net_width}
-use Rattle.pdl_vread.proofs.Parts.{Each}
 use Rattle.pdl_roundtrip.specs.Declared.{Lines, declared, port_decl, reg_decls, array_decls, cell_decls}
 use Rattle.pdl_roundtrip.proofs.Questions.{each_found, each_got, each_so}
+use Rattle.pdl_word.specs.Each.{Each}
 
 -- a range tells its bits
 pub bits_back : (w : ℕ) → IsWidth w → bits (w - 1) ≡ w

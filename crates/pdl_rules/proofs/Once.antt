@@ -13,6 +13,7 @@ use Rattle.pdl_rules.proofs.EachPlace.{Each}
 pub use Rattle.pdl_rules.proofs.Counts.{weight, count_push, count_cons, counted, count_none}
 use Rattle.pdl_rules.proofs.Counts.{weight, count_push, count_cons, counted}
 use Rattle.pdl_word.proofs.Bytes.{bytes_same, bytes_refl}
+use Rattle.pdl_word.proofs.Lists.{all_weaker}
 
 -- what the rules of locks say of a place, with the places before it on a path
 pub record KeepsLocks (p : Pipe) (before : List Place) (x : Place) : Type 0 where
@@ -29,12 +30,6 @@ pub any_weaker : {X : Type 0} (f g : X → Bool) → ((x : X) → f x ≡ true �
 any_weaker f g h [] e = e
 any_weaker f g h (x ∷ xs) e =
     ⊎_elim (λ a. or_left (g x) (list_any g xs) (h x a)) (λ a. or_right (g x) (list_any g xs) (any_weaker f g h xs a)) (or_cases (f x) (list_any f xs) e)
-
-pub all_weaker : {X : Type 0} (f g : X → Bool) → ((x : X) → f x ≡ true → g x ≡ true) → (xs : List X) → list_all f xs ≡ true → list_all g xs ≡ true
-all_weaker f g h [] e = e
-all_weaker f g h (x ∷ xs) e =
-    let parts = and_parts (f x) (list_all f xs) e in
-    and_from (g x) (list_all g xs) (h x parts.0) (all_weaker f g h xs parts.1)
 
 -- one more place, at the end
 pub any_front : {X : Type 0} (f : X → Bool) (xs : List X) (x : X) → list_any f xs ≡ true → list_any f (xs ++ x ∷ []) ≡ true

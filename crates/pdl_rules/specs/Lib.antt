@@ -10,3 +10,4 @@ pub mod Calls
 pub mod Speculation
 pub mod Refusal
 pub mod Typed
+pub mod Memories

@@ -2,13 +2,14 @@
 use Rattle.std.proofs.Common.{◌≡◌, refl, ap, ℕ, zero, suc, ◌^◌, ◌<◌, true, ◌&&◌, not, List, [], ◌∷◌, length, slice_index, arith}
 use Rattle.pdl_semantics.specs.Flat.{Op, Bind, CombRead, DelayedRead, Write, ReserveRead, ReserveWrite, Block, Release, Call, SpecCall, Verify, SpecCheck, SpecBarrier, Stmt}
 use Rattle.pdl_derived.proofs.Writes.{and_left, and_right}
-use Rattle.pdl_facts.specs.Scans.{none_of, is_fetch}
+use Rattle.pdl_facts.specs.Scans.{none_of}
 use Rattle.pdl_form.specs.Form.{Form}
 use Rattle.pdl_formtypes.specs.Stmts.{param_widths, IsTypedOp, AreTypedStmts, AreBelow}
 use Rattle.pdl_values.specs.Widths.{Fit}
 use Rattle.pdl_facts.specs.Checks.{is_guess}
 use Rattle.pdl_run.specs.Typed.{IsServed, AreServed}
 use Rattle.pdl_run.specs.Running.{IsRunnable}
+use Rattle.pdl_semantics.specs.Sound.{is_fetch}
 
 module _ (f : Form) where
   served_op : (op : Op) → not (is_fetch op) ≡ true → not (is_guess op) ≡ true → IsTypedOp f op → IsServed f op

@@ -1,4 +1,6 @@
-//! Runs of pipes in flat form, cycle by cycle as the stated machine says.
+//! Runs of pipes in flat form, cycle by cycle as the stated machine says, with guards and any locks, where stages are linear, no read is delayed and nothing is guessed.
+//!
+//! The layer above may use `Run`, which it begins with `new`, steps with `cycle` and reads with `shown`.
 #![tactic(auto)]
 
 mod cycle;

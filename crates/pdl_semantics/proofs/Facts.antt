@@ -1,11 +1,15 @@
 -- Facts on the definitions that several layers cite.
-use Rattle.std.proofs.Common.{◌≡◌, refl, sym, ap, ◌∙◌, ℕ, suc, ◌<◌, ◌≤◌, Bool, true, false, ◌&&◌, List, [], ◌∷◌, ◌++◌, length, if◌then◌else◌, nat_lt, ◌==◌, Some, arith, le-ltb}
+use Rattle.std.proofs.Common.{◌≡◌, refl, sym, ap, ◌∙◌, ℕ, suc, ◌<◌, ◌≤◌, Bool, true, false, ◌&&◌, List, [], ◌∷◌, ◌++◌, length, if◌then◌else◌, nat_lt, ◌==◌, Some, arith, le-ltb, zero, cond, ap₂, Option, None}
 use Rattle.std.proofs.Math.Bool.{and_assoc, and-true}
-use Rattle.pdl_semantics.specs.Flat.{Stmt, all_hold, list_all}
+use Rattle.std.specs.Option.{is_some}
+use Rattle.pdl_semantics.specs.Flat.{Stmt, all_hold, list_all, has_lock, Pipe, Arrays}
 use Rattle.pdl_semantics.specs.Machine.{Pending, Written, HeldLocation, held_after, held_before}
 use Rattle.pdl_semantics.specs.Cycle.{with_value_of, with_writes_of}
-use Rattle.pdl_semantics.specs.Tree.{BinaryOp, Equal, Differ, Less}
-use Rattle.pdl_semantics.specs.Flatten.{op_width}
+use Rattle.pdl_semantics.specs.Tree as tree
+use Rattle.pdl_semantics.specs.Tree.{BinaryOp, Equal, Differ, Less, LockDecl, LockKind, Queue, Bypass, Rename}
+use Rattle.pdl_semantics.specs.Flatten.{op_width, flat_lock, Var, past_all, at_start}
+use Rattle.pdl_semantics.specs.PendingLists.{count_older}
+use Rattle.pdl_semantics.specs.Sequential.{thread, turn_at}
 
 pub all_push : {X : Type 0} (test : X → Bool) (xs : List X) (x : X) → list_all test (xs ++ x ∷ []) ≡ (list_all test xs && test x)
 all_push test [] x = and-true (test x)
@@ -42,3 +46,35 @@ op_narrow Equal w h = omega arith
 op_narrow Differ w h = omega arith
 op_narrow Less w h = omega arith
 op_narrow _ w h = h
+
+-- writes keep how many entries are older
+pub put_older : (t n v : ℕ) (xs : List Pending) → count_older t (with_value_of n v xs) ≡ count_older t xs
+put_older t n v [] = refl
+put_older t n v (x ∷ xs) = ap₂ (λ b k. cond b (suc k) k) (at (x.thread == n)) (put_older t n v xs)
+  where
+    at : (b : Bool) → nat_lt (cond b (record x { value = Some v }) x).thread t ≡ nat_lt x.thread t
+    at true = refl
+    at false = refl
+
+-- there is a lock where one is declared
+pub lock_declared : (l : Option LockDecl) → has_lock (flat_lock l) ≡ is_some l
+lock_declared None = refl
+lock_declared (Some l) = of_kind l.kind refl
+  where
+    of_kind : (k : LockKind) → l.kind ≡ k → has_lock (flat_lock (Some l)) ≡ true
+    of_kind Queue e = rw e refl
+    of_kind Bypass e = rw e refl
+    of_kind Rename e = rw e refl
+
+-- the turns from the second on
+pub turn_front : (p : Pipe) (k : ℕ) (arrays : Arrays) (args : List ℕ)
+    → ((turn_at p arrays args (suc k)).arrays ≡ (turn_at p (thread p arrays args).arrays (thread p arrays args).next k).arrays)
+    × ((turn_at p arrays args (suc k)).next ≡ (turn_at p (thread p arrays args).arrays (thread p arrays args).next k).next)
+turn_front p zero arrays args = (refl, refl)
+turn_front p (suc k) arrays args =
+    let h = turn_front p k arrays args in
+    (ap₂ (λ a g. (thread p a g).arrays) h.0 h.1, ap₂ (λ a g. (thread p a g).next) h.0 h.1)
+
+-- the variables of the whole text
+abbrev pub all_vars : tree.Pipe → List Var
+all_vars p = (past_all p.mems p.body (at_start p)).vars

@@ -10,3 +10,4 @@ pub mod Moves
 pub mod Cycle
 pub mod Promises
 pub mod Sound
+pub mod PendingLists

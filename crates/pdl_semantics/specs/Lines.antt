@@ -1,20 +1,12 @@
 -- The text that runs print, as bytes.
-use Rattle.std.specs.Prelude.{ℕ, zero, suc, ◌+◌, ◌/◌, ◌%◌, Bool, true, false, List, [], ◌∷◌, ◌++◌, Option, Some, None, if◌then◌else◌, nat_lt, codes, decimal, length, count_by, flat_map}
+use Rattle.std.specs.Prelude.{ℕ, zero, suc, ◌+◌, ◌/◌, ◌%◌, Bool, true, false, List, [], ◌∷◌, ◌++◌, Option, Some, None, if◌then◌else◌, codes, decimal, length, count_by, flat_map}
 use Rattle.pdl_semantics.specs.Tree.{Mem, Pipe}
 use Rattle.pdl_semantics.specs.Flat.{Commit, of_mem, arrays_of}
 use Rattle.pdl_semantics.specs.Flatten.{flat}
 use Rattle.pdl_semantics.specs.Sequential.{threads}
 use Rattle.pdl_semantics.specs.Stages.{depth}
 use Rattle.pdl_semantics.specs.Cycle.{PortWrite, Turn, turns, view}
-
--- a lower hexadecimal digit
-abbrev pub hex_digit : ℕ → ℕ
-hex_digit d = if nat_lt d 10 then 48 + d else 87 + d
-
--- the lowest n hexadecimal digits of a word, the highest of them first
-abbrev pub hex : ℕ → ℕ → List ℕ
-hex zero v = []
-hex (suc n) v = hex n (v / 16) ++ hex_digit (v % 16) ∷ []
+use Rattle.pdl_word.specs.Digits.{hex}
 
 -- how many digits a word of so many bits has
 abbrev pub hex_digits : ℕ → ℕ

@@ -1,18 +1,10 @@
 -- One thread more.
-use Rattle.std.proofs.Common.{◌≡◌, refl, sym, ap, ap₂, ◌∙◌, ℕ, zero, suc, ◌+◌, List, ◌++◌, map, append-nil, append_assoc, arith}
+use Rattle.std.proofs.Common.{◌≡◌, sym, ap, ap₂, ◌∙◌, ℕ, zero, suc, ◌+◌, List, ◌++◌, map, append-nil, append_assoc, arith}
 use Rattle.pdl_semantics.specs.Flat.{Arrays, Pipe}
 use Rattle.pdl_semantics.specs.Sequential.{Run, thread, threads_from, threads, turn_at, after_turns}
 use Rattle.pdl_seq.specs.declared.commit.Write as r_write
 use Rattle.pdl_seq.specs.Runs.{numbered_write, numbered_writes}
-
--- where threads stand from the second on
-front : (p : Pipe) (k : ℕ) (arrays : Arrays) (args : List ℕ)
-    → ((turn_at p arrays args (suc k)).arrays ≡ (turn_at p (thread p arrays args).arrays (thread p arrays args).next k).arrays)
-    × ((turn_at p arrays args (suc k)).next ≡ (turn_at p (thread p arrays args).arrays (thread p arrays args).next k).next)
-front p zero arrays args = (refl, refl)
-front p (suc k) arrays args =
-    let h = front p k arrays args in
-    (ap₂ (λ a g. (thread p a g).arrays) h.0 h.1, ap₂ (λ a g. (thread p a g).next) h.0 h.1)
+use Rattle.pdl_semantics.proofs.Facts.{turn_front}
 
 -- the writes of one thread more
 more_from : (p : Pipe) (n k : ℕ) (arrays : Arrays) (args : List ℕ)
@@ -21,7 +13,7 @@ more_from p n zero arrays args =
     let same : n ≡ n + 0 = omega arith in
     append-nil _ ∙ ap (λ i. map (numbered_write i) (thread p arrays args).writes) same
 more_from p n (suc k) arrays args =
-    let h = front p k arrays args in
+    let h = turn_front p k arrays args in
     let same : suc n + k ≡ n + suc k = omega arith in
     let r = thread p arrays args in
     let next : ℕ → List r_write.Write = λ (i : ℕ). map (numbered_write i) (thread p (turn_at p r.arrays r.next k).arrays (turn_at p r.arrays r.next k).next).writes in

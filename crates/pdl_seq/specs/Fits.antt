@@ -1,7 +1,6 @@
 -- Images, and turns, of a pipe whose words and values have their widths.
-use Rattle.std.specs.Prelude.{◌≡◌, ℕ, ◌^◌, ◌<◌, ◌≤◌, List, map, length, slice_index}
+use Rattle.std.specs.Prelude.{◌≡◌, ℕ, ◌^◌, ◌<◌, ◌≤◌, List, length, slice_index}
 use Rattle.std.specs.List.{All}
-use Rattle.pdl_kit.specs.declared.mem_info.MemInfo.{MemInfo}
 use Rattle.pdl_semantics.specs.Tree as tree
 use Rattle.pdl_semantics.specs.Flat.{Pipe, Commit, word_at}
 use Rattle.pdl_semantics.specs.Stages.{mem_at}
@@ -17,13 +16,6 @@ pub record IsImageFor (p : Pipe) (lists : List (List ℕ)) : Type 0 where
   pub count : length lists ≡ length p.mems
   pub depth : (m : ℕ) → m < length p.mems → length (list_at lists m) ≡ (mem_at p m).depth
   pub words : (m a : ℕ) → m < length p.mems → slice_index (list_at lists m) a < 2 ^ (mem_at p m).width
-
--- the memories of a tree, as files of images know them
-abbrev pub info_of : tree.Mem → MemInfo
-info_of m = record { name = m.name.name; width = m.width.value; depth = m.depth.value; delayed = m.delayed }
-
-abbrev pub infos_of : List tree.Mem → List MemInfo
-infos_of ms = map info_of ms
 
 -- a word that is there, with a value of its width
 abbrev pub IsWord : Pipe → ℕ → ℕ → ℕ → Type 0

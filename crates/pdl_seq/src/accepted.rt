@@ -10,8 +10,9 @@ ghost use Rattle.pdl_rules.specs.Refusal.{KeepsRules};
 ghost use Rattle.pdl_form.specs.Form.{form_of};
 ghost use Rattle.pdl_image.specs.Images.{IsImage};
 ghost use Rattle.pdl_pathfacts.specs.Source.{is_source, is_named};
-ghost use Rattle.pdl_seq.specs.Fits.{infos_of, IsImageFor};
+ghost use Rattle.pdl_seq.specs.Fits.{IsImageFor};
 ghost use Rattle.pdl_seq.specs.Runs.{IsRunnable, numbered_writes, write_line};
+ghost use Rattle.pdl_rules.specs.Memories.{infos_of};
 
 /// Every pipe that keeps the rules can be run, where no two `if`s on expressions begin at one byte and no variable has the empty name: so it is in every tree that is read from a source.
 pub fn runnable()

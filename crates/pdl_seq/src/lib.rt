@@ -1,4 +1,6 @@
 //! The sequential run of a pipe: its threads one after another on plain arrays, without stages, locks, guesses or clock.
+//!
+//! The layer above may use `SeqRun`, which runs a thread with `next_thread` and has all writes so far in `writes`.
 #![tactic(auto)]
 
 mod accepted;

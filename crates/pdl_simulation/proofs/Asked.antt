@@ -9,8 +9,8 @@ use Rattle.pdl_semantics.specs.Moves.{movers, is_empty, block_ready}
 use Rattle.pdl_semantics.specs.Cycle.{awaited_of, asked_of, asked_by, asked_in, address_of, request_left, is_kept}
 use Rattle.pdl_derived.specs.Derived.{Work, awaits_mem, asked_at, find_ask, asks_of, next_ask, port_free, still, around}
 use Rattle.pdl_derived.specs.Derived
-use Rattle.pdl_facts.specs.Scans.{none_of, is_fetch}
-use Rattle.pdl_simulation.proofs.FlowFacts.{Flows, fetches_from}
+use Rattle.pdl_facts.specs.Scans.{none_of}
+use Rattle.pdl_simulation.proofs.FlowFacts.{Flows}
 use Rattle.pdl_derived.proofs.Writes.{and_left, and_right}
 use Rattle.pdl_derived.proofs.Slots.{rev}
 use Rattle.pdl_simulation.proofs.Stretches.{Behind, AsksFrom}
@@ -20,6 +20,7 @@ use Rattle.pdl_simulation.proofs.Telling.{someone, behind_someone}
 use Rattle.pdl_simulation.proofs.Turned.{fell, moved_live, stood, next_live, go_on, Agrees}
 use Rattle.pdl_simulation.proofs.Onward.{stuck_here, born_live}
 use Rattle.pdl_derived.proofs.Answering.{find_append}
+use Rattle.pdl_semantics.specs.Sound.{is_fetch, is_delayed_read}
 
 -- who asks for a memory, and the address
 pub record Asker : Type 0 where
@@ -83,15 +84,15 @@ awaits_found (q ∷ qs) m = at (q.mem == m) (awaits_found qs m)
     at false h = h
 
 -- a found ask is one of the list
-found_from : (xs : List Stmt) (qs : List Ask) (m a : ℕ) → AsksFrom xs qs → find_ask qs m ≡ Some a → none_of (fetches_from m) xs ≡ false
+found_from : (xs : List Stmt) (qs : List Ask) (m a : ℕ) → AsksFrom xs qs → find_ask qs m ≡ Some a → none_of (is_delayed_read m) xs ≡ false
 found_from xs [] m a h e = absurd (clash e)
   where
     clash : None ≡ Some a → ⊥
     clash i = cc
 found_from xs (q ∷ qs) m a h e = at (q.mem == m) refl e (λ i. found_from xs qs m a h.1 i)
   where
-    at : (b : Bool) → (q.mem == m) ≡ b → (if b then Some q.address else find_ask qs m) ≡ Some a → (find_ask qs m ≡ Some a → none_of (fetches_from m) xs ≡ false) → none_of (fetches_from m) xs ≡ false
-    at true e i f = subst (λ n. none_of (fetches_from n) xs ≡ false) (eqb-true q.mem m e) h.0
+    at : (b : Bool) → (q.mem == m) ≡ b → (if b then Some q.address else find_ask qs m) ≡ Some a → (find_ask qs m ≡ Some a → none_of (is_delayed_read m) xs ≡ false) → none_of (is_delayed_read m) xs ≡ false
+    at true e i f = subst (λ n. none_of (is_delayed_read n) xs ≡ false) (eqb-true q.mem m e) h.0
     at false e i f = f i
 
 found_test : (test : ℕ → Bool) (qs : List Ask) (m a : ℕ) → list_all (λ q. test q.mem) qs ≡ true → find_ask qs m ≡ Some a → test m ≡ true
@@ -121,11 +122,11 @@ owner_behind n m xs ys h = owner_append n m xs ys ∙ ap (λ b. has_owner n m xs
     or_true false = refl
 
 -- no delayed read at all is none of m
-pub none_fetches : (m : ℕ) (xs : List Stmt) → none_of is_fetch xs ≡ true → none_of (fetches_from m) xs ≡ true
+pub none_fetches : (m : ℕ) (xs : List Stmt) → none_of is_fetch xs ≡ true → none_of (is_delayed_read m) xs ≡ true
 none_fetches m [] h = refl
 none_fetches m (x ∷ xs) h = ap₂ (λ a b. a && b) (off x.op (and_left _ _ h)) (none_fetches m xs (and_right _ _ h))
   where
-    off : (op : Op) → not (is_fetch op) ≡ true → not (fetches_from m op) ≡ true
+    off : (op : Op) → not (is_fetch op) ≡ true → not (is_delayed_read m op) ≡ true
     off (DelayedRead y n a) h = absurd (cc h)
     off _ h = refl
 
@@ -173,10 +174,10 @@ module _ (p : Pipe) (flows : Flows p) (st : State) (d : Derived.State) (bits : L
       at false h = h
 
   -- a thread that asks for m stands in the stage of its delayed read
-  pub asks_at : (ls : List Live) (l : Live) → Known p flows st d bits arrays ls l → (m a : ℕ) → find_ask (work_of_live p d bits ls l).asks m ≡ Some a → none_of (fetches_from m) (in_stage l.thread.stage p.stmts) ≡ false
+  pub asks_at : (ls : List Live) (l : Live) → Known p flows st d bits arrays ls l → (m a : ℕ) → find_ask (work_of_live p d bits ls l).asks m ≡ Some a → none_of (is_delayed_read m) (in_stage l.thread.stage p.stmts) ≡ false
   asks_at ls l k m a e = found_from (in_stage l.thread.stage p.stmts) (work_of_live p d bits ls l).asks m a (subst (λ q. AsksFrom (in_stage l.thread.stage p.stmts) q) (asks_are ls l k) (asks_here p flows st d bits arrays ls l k)) e
 
-  asking_at : (m : ℕ) (a : Asker) (ls : List Live) → AllKnown p flows st d bits arrays ls → asking ls m ≡ Some a → (s : ℕ) × (none_of (fetches_from m) (in_stage s p.stmts) ≡ false) × (someone s ls ≡ true)
+  asking_at : (m : ℕ) (a : Asker) (ls : List Live) → AllKnown p flows st d bits arrays ls → asking ls m ≡ Some a → (s : ℕ) × (none_of (is_delayed_read m) (in_stage s p.stmts) ≡ false) × (someone s ls ≡ true)
   asking_at m a [] k e = absurd (clash e)
     where
       clash : None ≡ Some a → ⊥
@@ -187,12 +188,12 @@ module _ (p : Pipe) (flows : Flows p) (st : State) (d : Derived.State) (bits : L
       or_true true = refl
       or_true false = refl
 
-      later : (s : ℕ) × (none_of (fetches_from m) (in_stage s p.stmts) ≡ false) × (someone s ls ≡ true) → (s : ℕ) × (none_of (fetches_from m) (in_stage s p.stmts) ≡ false) × (someone s (l ∷ ls) ≡ true)
+      later : (s : ℕ) × (none_of (is_delayed_read m) (in_stage s p.stmts) ≡ false) × (someone s ls ≡ true) → (s : ℕ) × (none_of (is_delayed_read m) (in_stage s p.stmts) ≡ false) × (someone s (l ∷ ls) ≡ true)
       later h = (h.0, h.1, ap (λ b. (l.thread.stage == h.0) || b) h.2 ∙ or_true (l.thread.stage == h.0))
 
       at : (b : Bool) (o : Option ℕ) → find_ask (work_of_live p d bits ls l).asks m ≡ o → cond b (first_of o l.number (asking ls m)) (asking ls m) ≡ Some a
-          → (asking ls m ≡ Some a → (s : ℕ) × (none_of (fetches_from m) (in_stage s p.stmts) ≡ false) × (someone s (l ∷ ls) ≡ true))
-          → (s : ℕ) × (none_of (fetches_from m) (in_stage s p.stmts) ≡ false) × (someone s (l ∷ ls) ≡ true)
+          → (asking ls m ≡ Some a → (s : ℕ) × (none_of (is_delayed_read m) (in_stage s p.stmts) ≡ false) × (someone s (l ∷ ls) ≡ true))
+          → (s : ℕ) × (none_of (is_delayed_read m) (in_stage s p.stmts) ≡ false) × (someone s (l ∷ ls) ≡ true)
       at true (Some x) g i f = (l.thread.stage, asks_at ls l k.0 m x g, ap (λ b. b || someone l.thread.stage ls) (eq-eqb _ _ refl))
       at true None g i f = f i
       at false o g i f = f i
@@ -205,7 +206,7 @@ module _ (p : Pipe) (flows : Flows p) (st : State) (d : Derived.State) (bits : L
       at None g = g
       at (Some x) g =
           absurd (let h = asking_at m a ls k.1 e in
-          let same : l.thread.stage ≡ h.0 = one_stage (fetches_from m) p.stmts l.thread.stage h.0 (flows.one_fetch m) (asks_at ls l k.0 m x g) h.1 in
+          let same : l.thread.stage ≡ h.0 = one_stage (is_delayed_read m) p.stmts l.thread.stage h.0 (flows.one_fetch m) (asks_at ls l k.0 m x g) h.1 in
           let behind : Behind p l.thread.stage h.0 = behind_someone p l.thread.stage h.0 ls o.0 h.2 in
           let less : l.thread.stage < h.0 = behind.branch (ap (λ n. (stage_at p n).branch) same) in omega arith)
 

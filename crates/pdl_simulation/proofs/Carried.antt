@@ -20,7 +20,8 @@ use Rattle.pdl_simulation.proofs.Seats.{Live, Falls, dacts, lacts, lact}
 use Rattle.pdl_simulation.proofs.Telling.{sorted}
 use Rattle.pdl_simulation.proofs.Orders.{acts_of}
 use Rattle.pdl_simulation.proofs.Swapped.{swaps_all, same_fold}
-use Rattle.pdl_simulation.proofs.Together.{Sim, known, acts_are, derived_acts_are, first_live, first_sim, runs_same, turn_same}
+use Rattle.pdl_simulation.proofs.Together.{known, acts_are, derived_acts_are, first_live, first_sim, runs_same, turn_same}
+use Rattle.pdl_simulation.proofs.Simulated.{Sim}
 
 -- WHAT THE TURNS TELL
 

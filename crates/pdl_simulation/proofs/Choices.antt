@@ -12,15 +12,17 @@ use Rattle.pdl_semantics.specs.Moves
 use Rattle.pdl_derived.specs.Derived.{Work, latest, pending, befores, around, awaits_mem, port_free, still, asked_at, word_of}
 use Rattle.pdl_derived.specs.Derived
 use Rattle.pdl_facts.specs.Scans.{all_at, none_of}
-use Rattle.pdl_simulation.proofs.FlowFacts.{Flows, fetches_from, at_most_one, next_of}
+use Rattle.pdl_simulation.proofs.FlowFacts.{Flows, at_most_one, next_of}
 use Rattle.pdl_derived.proofs.Writes.{and_left, and_right}
 use Rattle.pdl_derived.proofs.Entries.{entries_of}
 use Rattle.pdl_derived.proofs.Deeds.{Told, Fits, AllFit, told_all}
 use Rattle.pdl_derived.proofs.Lists.{pend}
 use Rattle.pdl_turns.proofs.Own.{Worked}
 use Rattle.pdl_simulation.proofs.Stretches.{Keeps, Fetched, AllFetched, AsksFrom, asks_from, start_deeds, start_of, keeps_answered, stage_worked, ends_empty, late_empty}
-use Rattle.pdl_simulation.proofs.Seats.{Live, seat, Each, Falls, dacts, lacts, lact, did, now_of, work_of_live, deeds_of}
+use Rattle.pdl_simulation.proofs.Seats.{Live, seat, Falls, dacts, lacts, lact, did, now_of, work_of_live, deeds_of}
 use Rattle.pdl_turns.proofs.OfStage.{none_stage}
+use Rattle.pdl_semantics.specs.Sound.{is_delayed_read}
+use Rattle.pdl_word.specs.Each.{Each}
 
 -- REQUESTS
 
@@ -328,7 +330,7 @@ module _ (p : Pipe) (flows : Flows p) (st : State) (d : Derived.State) (bits : L
   -- what the acts of the later stages say, as the derived machine's acts of the older threads say it
   pub record Tells (ls : List Live) (l : Live) (later : List Moves.Act) : Type 0 where
     pub fails : Moves.no_failure later ≡ list_all (λ (o : Derived.Act). not (o.moves && o.work.fails)) (dacts p d bits ls)
-    pub port : (m : ℕ) → none_of (fetches_from m) (in_stage l.thread.stage p.stmts) ≡ false → is_free (request_of st m) (is_answered p bits m) later ≡ port_free p d bits (dacts p d bits ls) m
+    pub port : (m : ℕ) → none_of (is_delayed_read m) (in_stage l.thread.stage p.stmts) ≡ false → is_free (request_of st m) (is_answered p bits m) later ≡ port_free p d bits (dacts p d bits ls) m
     pub clear : Moves.barrier_clear p later (deeds_of p st bits l) ≡ (not (deeds_of p st bits l).barrier || (around p d bits (dacts p d bits ls) l.thread.stage).clear)
     pub enters : (Moves.can_enter (next_stage p l.thread.stage (deeds_of p st bits l)) later && Moves.merges_well p st l.thread.stage (next_stage p l.thread.stage (deeds_of p st bits l))) ≡ Derived.can_enter p (dacts p d bits ls) (next_stage p l.thread.stage (deeds_of p st bits l))
 

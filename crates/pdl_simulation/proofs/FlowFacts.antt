@@ -1,18 +1,12 @@
 -- The forms in which the simulation takes the facts of an accepted pipe of the whole language (all follow from the record of Facts).
 use Rattle.std.specs.Prelude.{◌≡◌, ◌⊎◌, ℕ, suc, ◌<◌, ◌≤◌, Bool, true, false, ◌&&◌, ◌||◌, not, List, [], ◌∷◌, ◌++◌, Some, None, if◌then◌else◌, ◌==◌, length, slice_index}
-use Rattle.pdl_semantics.specs.Flat.{Op, Bind, CombRead, DelayedRead, Write, ReserveWrite, Release, Stmt, Forks, Branch, Pipe, all_hold}
+use Rattle.pdl_semantics.specs.Flat.{Op, Bind, CombRead, Write, ReserveWrite, Release, Stmt, Forks, Branch, Pipe, all_hold}
 use Rattle.pdl_semantics.specs.Stages.{onpath, in_stage, stage_at, is_inside, goes_to, verify_stage, commit_stage, reserve_stage, is_reserve, is_release, is_verify}
 use Rattle.pdl_semantics.specs.Cycle.{merges_by}
-use Rattle.pdl_semantics.specs.Sound.{stages_before, stages_from}
-use Rattle.pdl_derived.specs.Alone.{is_call}
+use Rattle.pdl_semantics.specs.Sound.{stages_before, stages_from, is_fetch, is_call, is_delayed_read}
 pub use Rattle.pdl_facts.specs.Graphs.{stage_or, next_of, on_side}
-use Rattle.pdl_facts.specs.Scans.{Phase, Fresh, next_phase, holds_location, is_fresh, is_over, phase_all, all_at, none_of, binds_var, is_fixed, is_fetch}
+use Rattle.pdl_facts.specs.Scans.{Phase, Fresh, next_phase, holds_location, is_fresh, is_over, phase_all, all_at, none_of, binds_var, is_fixed}
 pub use Rattle.pdl_facts.specs.Facts.{trunk_only, binds_guard, is_fetch_of, comes_by, visits_stage}
-
--- a delayed read of memory m
-abbrev pub fetches_from : ℕ → Op → Bool
-fetches_from m (DelayedRead x n a) = n == m
-fetches_from m _ = false
 
 -- a statement that gives variable x its value in its own stage
 abbrev pub sets : ℕ → Op → Bool
@@ -114,11 +108,11 @@ pub record Flows (p : Pipe) : Type 0 where
   -- N1: only memories that are there are reserved, released and read
   pub unreserved : (m : ℕ) → length p.mems ≤ m → none_of (is_reserve m) p.stmts ≡ true
   pub unreleased : (m : ℕ) → length p.mems ≤ m → length p.stages ≤ commit_stage p m
-  pub unfetched : (m : ℕ) → length p.mems ≤ m → none_of (fetches_from m) p.stmts ≡ true
+  pub unfetched : (m : ℕ) → length p.mems ≤ m → none_of (is_delayed_read m) p.stmts ≡ true
   -- S1, S2, N3: on each path one call or speculative call, and a verify after it
   pub calls : (path : List ℕ) → calls_ok false (onpath path p.stmts) ≡ true
   -- F3: no second delayed read statement of one memory, and none in the last stage
-  pub one_fetch : (m : ℕ) → at_most_one (fetches_from m) p.stmts ≡ true
+  pub one_fetch : (m : ℕ) → at_most_one (is_delayed_read m) p.stmts ≡ true
   pub fetch_inside : (s : ℕ) → suc s ≡ length p.stages → none_of is_fetch (in_stage s p.stmts) ≡ true
 
 -- THE SAME FACTS, AS THE RULES SAY THEM
@@ -160,9 +154,9 @@ pub record FlowRules (p : Pipe) : Type 0 where
   -- N1
   pub unreserved : (m : ℕ) → length p.mems ≤ m → none_of (is_reserve m) p.stmts ≡ true
   pub unreleased : (m : ℕ) → length p.mems ≤ m → length p.stages ≤ commit_stage p m
-  pub unfetched : (m : ℕ) → length p.mems ≤ m → none_of (fetches_from m) p.stmts ≡ true
+  pub unfetched : (m : ℕ) → length p.mems ≤ m → none_of (is_delayed_read m) p.stmts ≡ true
   -- S1, S2, N3
   pub calls : (path : List ℕ) → calls_ok false (onpath path p.stmts) ≡ true
   -- F3
-  pub one_fetch : (m : ℕ) → at_most_one (fetches_from m) p.stmts ≡ true
+  pub one_fetch : (m : ℕ) → at_most_one (is_delayed_read m) p.stmts ≡ true
   pub fetch_inside : (s : ℕ) → suc s ≡ length p.stages → none_of is_fetch (in_stage s p.stmts) ≡ true

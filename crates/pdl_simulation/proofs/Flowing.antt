@@ -1,11 +1,11 @@
 -- What the scans of locks and calls tell the simulation.
 use Rattle.std.proofs.Common.{◌≡◌, refl, ap, ap₂, ◌∙◌, ℕ, ◌&&◌, ◌||◌, not, List, [], ◌∷◌, Option, true}
 use Rattle.pdl_semantics.specs.Flat.{Op, Write, ReserveWrite, Release, SpecCall, Verify, Call, Stmt}
-use Rattle.pdl_derived.specs.Alone.{is_call}
 use Rattle.pdl_facts.specs.Scans.{Phase, phase_ok, phases_ok, next_phase}
 use Rattle.pdl_facts.specs.Certain.{Making, Unmade, Guessed, Made, next_making, is_unmade, making_ok, makings_ok}
 use Rattle.pdl_simulation.proofs.FlowFacts.{use_ok, uses_ok, call_ok, calls_ok}
 use Rattle.pdl_derived.proofs.Writes.{and_left, and_right}
+use Rattle.pdl_semantics.specs.Sound.{is_call}
 
 -- the use of a lock
 use_of : (m : ℕ) (ph : Phase) (op : Op) → phase_ok m ph op ≡ true → use_ok m ph op ≡ true

@@ -16,15 +16,17 @@ use Rattle.pdl_simulation.proofs.FlowFacts.{Flows, Leads, trunk_only}
 use Rattle.pdl_derived.proofs.Writes.{and_left, and_right}
 use Rattle.pdl_turns.proofs.Turn.{none_in_stage}
 use Rattle.pdl_simulation.proofs.Stretches.{Behind, start_of}
-use Rattle.pdl_simulation.proofs.Seats.{Live, Each, each_map, Ordered, dacts, lacts, lact, did, now_of, deeds_of, work_of_live}
+use Rattle.pdl_simulation.proofs.Seats.{Live, each_map, Ordered, dacts, lacts, lact, did, now_of, deeds_of, work_of_live}
 use Rattle.pdl_simulation.proofs.Choices.{Known, AllKnown, told_here}
 use Rattle.pdl_simulation.proofs.Telling.{someone, behind_someone, sides, sides_append}
 use Rattle.pdl_simulation.proofs.Orders.{sides_none, sides_nobody}
 use Rattle.pdl_simulation.proofs.Turned.{fell, moved_live, stood, next_live, go_on}
 use Rattle.pdl_simulation.proofs.Onward.{stuck_here, born_live}
-use Rattle.pdl_simulation.proofs.Placed.{behind_stay, leads_of, enters_here, each_next, each_append}
+use Rattle.pdl_simulation.proofs.Placed.{behind_stay, leads_of, enters_here, each_next}
 use Rattle.pdl_turns.proofs.Guesses.{unfailed}
 use Rattle.pdl_turns.proofs.OfStage.{none_stage}
+use Rattle.pdl_word.specs.Each.{Each}
+use Rattle.pdl_word.proofs.Each.{each_append}
 
 no_verifies : (xs : List Stmt) → verify_stage xs ≡ None → none_of is_verify xs ≡ true
 no_verifies [] h = refl

@@ -1,15 +1,15 @@
--- The facts that the simulation takes follow from those of an accepted pipe.
+-- The facts that the simulation takes follow stages_from those of an accepted pipe.
 use Rattle.std.proofs.Common.{◌≡◌, refl, sym, ap, ap₂, ◌∙◌, subst, ℕ, suc, ◌≤◌, ◌<◌, ◌⊎◌, inl, inr, Bool, true, false, ◌&&◌, ◌||◌, not, List, [], ◌∷◌, ◌++◌, length, Option, Some, None, ◌==◌, nat_lt, nat_le, cond, arith, ltb-true, ltb-false, leb-true, leb-false, le_refl, eq-eqb}
 use Rattle.std.proofs.lemmas.Bool.{eqb-true, eqb-false, ne_eqb}
 use Rattle.pdl_semantics.specs.Flat.{list_all, Pipe, Branch, Op, DelayedRead, Stmt, all_hold}
 use Rattle.pdl_semantics.specs.Stages.{onpath, in_stage, stage_at, goes_to, is_inside, is_branch_of, commit_stage, verify_stage}
-use Rattle.pdl_semantics.specs.Sound.{stages_before, stages_from}
-use Rattle.pdl_derived.specs.Alone.{before, answered_op, is_call}
-use Rattle.pdl_facts.specs.Scans.{from, Phase, Fresh, next_phase, phase_all, is_over, none_of, binds_var, is_fetch, is_dead}
+use Rattle.pdl_semantics.specs.Sound.{stages_before, stages_from, is_fetch, is_call, is_delayed_read}
+use Rattle.pdl_derived.specs.Alone.{before, answered_op}
+use Rattle.pdl_facts.specs.Scans.{Phase, Fresh, next_phase, phase_all, is_over, none_of, binds_var, is_dead}
 use Rattle.pdl_facts.specs.Certain.{Unmade}
 use Rattle.pdl_facts.specs.Graphs.{Trunk, In, stage_or, next_of, goes_by}
 use Rattle.pdl_facts.specs.Facts.{is_fetch_of, none_like, alone_op, fetch_apart, Found, FetchIf, AllFetches, looked_all, at_once, comes_by, visits_stage, defined_by, late_for, Sound}
-use Rattle.pdl_simulation.proofs.FlowFacts.{Ways, Flows, FlowRules, Leads, AllOf, DefinedBy, binds_guard, use_ok, uses_ok, call_ok, calls_ok, fetches_from, at_most_one}
+use Rattle.pdl_simulation.proofs.FlowFacts.{Ways, Flows, FlowRules, Leads, AllOf, DefinedBy, binds_guard, use_ok, uses_ok, call_ok, calls_ok, at_most_one}
 use Rattle.pdl_derived.proofs.Writes.{and_left, and_right}
 use Rattle.pdl_turns.proofs.Paths.{dead_none}
 use Rattle.pdl_turns.proofs.Looks.{path_looked}
@@ -48,14 +48,14 @@ early_first s (x ∷ xs) z zs h = at (nat_lt x.stage s) refl h (early_first s xs
     at false e i f = f i
 
 -- reads at once stand where the delayed reads stand
-order_looked : (s : ℕ) (xs : List Stmt) → looked_all xs ≡ before s (looked_all xs) ++ from s (looked_all xs) → xs ≡ stages_before s xs ++ stages_from s xs
+order_looked : (s : ℕ) (xs : List Stmt) → looked_all xs ≡ before s (looked_all xs) ++ stages_from s (looked_all xs) → xs ≡ stages_before s xs ++ stages_from s xs
 order_looked s [] h = refl
 order_looked s (x ∷ xs) h = at (nat_lt x.stage s) refl (nat_le s x.stage) refl h (order_looked s xs)
   where
-    two : (l : List Stmt) → before s (looked_all xs) ≡ l → looked_all (x ∷ xs) ≡ l ++ (record x { op = answered_op x.op } ∷ from s (looked_all xs)) → s ≤ x.stage
-        → (looked_all xs ≡ before s (looked_all xs) ++ from s (looked_all xs) → xs ≡ stages_before s xs ++ stages_from s xs) → x ∷ xs ≡ stages_before s xs ++ (x ∷ stages_from s xs)
+    two : (l : List Stmt) → before s (looked_all xs) ≡ l → looked_all (x ∷ xs) ≡ l ++ (record x { op = answered_op x.op } ∷ stages_from s (looked_all xs)) → s ≤ x.stage
+        → (looked_all xs ≡ before s (looked_all xs) ++ stages_from s (looked_all xs) → xs ≡ stages_before s xs ++ stages_from s xs) → x ∷ xs ≡ stages_before s xs ++ (x ∷ stages_from s xs)
     two [] e k low f =
-        let r = f (tail_same k ∙ ap (λ l. l ++ from s (looked_all xs)) (sym e)) in
+        let r = f (tail_same k ∙ ap (λ l. l ++ stages_from s (looked_all xs)) (sym e)) in
         let none : stages_before s xs ≡ [] = no_early xs e in
         ap (λ l. x ∷ l) (r ∙ ap (λ l. l ++ stages_from s xs) none) ∙ ap (λ l. l ++ (x ∷ stages_from s xs)) (sym none)
       where
@@ -69,8 +69,8 @@ order_looked s (x ∷ xs) h = at (nat_lt x.stage s) refl (nat_le s x.stage) refl
     two (z ∷ zs) e k low f = absurd (let i : z.stage < s = early_first s (looked_all xs) z zs e in let j : x.stage ≡ z.stage = cons_head k in omega arith)
 
     at : (b : Bool) → nat_lt x.stage s ≡ b → (c : Bool) → nat_le s x.stage ≡ c
-        → looked_all (x ∷ xs) ≡ cond b (record x { op = answered_op (answered_op x.op) } ∷ before s (looked_all xs)) (before s (looked_all xs)) ++ cond c (record x { op = answered_op x.op } ∷ from s (looked_all xs)) (from s (looked_all xs))
-        → (looked_all xs ≡ before s (looked_all xs) ++ from s (looked_all xs) → xs ≡ stages_before s xs ++ stages_from s xs)
+        → looked_all (x ∷ xs) ≡ cond b (record x { op = answered_op (answered_op x.op) } ∷ before s (looked_all xs)) (before s (looked_all xs)) ++ cond c (record x { op = answered_op x.op } ∷ stages_from s (looked_all xs)) (stages_from s (looked_all xs))
+        → (looked_all xs ≡ before s (looked_all xs) ++ stages_from s (looked_all xs) → xs ≡ stages_before s xs ++ stages_from s xs)
         → x ∷ xs ≡ cond b (x ∷ stages_before s xs) (stages_before s xs) ++ cond c (x ∷ stages_from s xs) (stages_from s xs)
     at true d true e k f = absurd (let i = ltb-true _ _ d in let j = leb-true _ _ e in omega arith)
     at true d false e k f = ap (λ l. x ∷ l) (f (tail_same k))
@@ -123,7 +123,7 @@ late_each z (y ∷ ys) h = (one (binds_guard y.op z.guards) (and_left (not (bind
     one false k e = absurd (clash e)
 
 -- a definition that stands in no later stage, and if it is a delayed read not in this one
-fork_each : (x s : ℕ) (xs : List Stmt) → none_of (binds_var x) (from (suc s) xs) ≡ true → none_of (is_fetch_of x) (in_stage s xs) ≡ true → AllOf (λ y. binds_var x y.op ≡ true → DefinedBy y.stage y.op s) xs
+fork_each : (x s : ℕ) (xs : List Stmt) → none_of (binds_var x) (stages_from (suc s) xs) ≡ true → none_of (is_fetch_of x) (in_stage s xs) ≡ true → AllOf (λ y. binds_var x y.op ≡ true → DefinedBy y.stage y.op s) xs
 fork_each x s [] h k = tt
 fork_each x s (y ∷ ys) h k = at (nat_le (suc s) y.stage) refl (y.stage == s) refl h k (fork_each x s ys)
   where
@@ -131,8 +131,8 @@ fork_each x s (y ∷ ys) h k = at (nat_le (suc s) y.stage) refl (y.stage == s) r
     fetch_of (DelayedRead z m a) e b = b
     fetch_of _ e b = absurd (clash e)
 
-    at : (b : Bool) → nat_le (suc s) y.stage ≡ b → (c : Bool) → (y.stage == s) ≡ c → none_of (binds_var x) (cond b (y ∷ from (suc s) ys) (from (suc s) ys)) ≡ true → none_of (is_fetch_of x) (cond c (y ∷ in_stage s ys) (in_stage s ys)) ≡ true
-        → (none_of (binds_var x) (from (suc s) ys) ≡ true → none_of (is_fetch_of x) (in_stage s ys) ≡ true → AllOf (λ y. binds_var x y.op ≡ true → DefinedBy y.stage y.op s) ys)
+    at : (b : Bool) → nat_le (suc s) y.stage ≡ b → (c : Bool) → (y.stage == s) ≡ c → none_of (binds_var x) (cond b (y ∷ stages_from (suc s) ys) (stages_from (suc s) ys)) ≡ true → none_of (is_fetch_of x) (cond c (y ∷ in_stage s ys) (in_stage s ys)) ≡ true
+        → (none_of (binds_var x) (stages_from (suc s) ys) ≡ true → none_of (is_fetch_of x) (in_stage s ys) ≡ true → AllOf (λ y. binds_var x y.op ≡ true → DefinedBy y.stage y.op s) ys)
         → (binds_var x y.op ≡ true → DefinedBy y.stage y.op s) × AllOf (λ y. binds_var x y.op ≡ true → DefinedBy y.stage y.op s) ys
     at true d true e i j go = absurd (let u : suc s ≤ y.stage = leb-true _ _ d in let v = eqb-true _ _ e in omega arith)
     at true d false e i j go = ((λ b. absurd (clash (sym (ap not b) ∙ and_left (not (binds_var x y.op)) _ i))), go (and_right (not (binds_var x y.op)) _ i) j)
@@ -174,32 +174,32 @@ calls_looked b (x ∷ xs) =
 
 -- DELAYED READS
 
-from_mem : (m : ℕ) (op : Op) → fetches_from m op ≡ true → (R : Type 0) → ((x n a : ℕ) → op ≡ DelayedRead x n a → n ≡ m → R) → R
+from_mem : (m : ℕ) (op : Op) → is_delayed_read m op ≡ true → (R : Type 0) → ((x n a : ℕ) → op ≡ DelayedRead x n a → n ≡ m → R) → R
 from_mem m (DelayedRead x n a) h R go = go x n a refl (eqb-true n m h)
 from_mem m _ h R go = absurd (clash h)
 
-like_none : (x m : ℕ) (ys : List Stmt) → none_like x m ys ≡ true → none_of (fetches_from m) ys ≡ true
+like_none : (x m : ℕ) (ys : List Stmt) → none_like x m ys ≡ true → none_of (is_delayed_read m) ys ≡ true
 like_none x m [] h = refl
 like_none x m (y ∷ ys) h = ap₂ (λ a b. a && b) (one y.op (and_left (Rattle.pdl_facts.specs.Facts.fetches_no x m y.op) _ h)) (like_none x m ys (and_right (Rattle.pdl_facts.specs.Facts.fetches_no x m y.op) _ h))
   where
-    one : (op : Op) → Rattle.pdl_facts.specs.Facts.fetches_no x m op ≡ true → not (fetches_from m op) ≡ true
+    one : (op : Op) → Rattle.pdl_facts.specs.Facts.fetches_no x m op ≡ true → not (is_delayed_read m op) ≡ true
     one (DelayedRead z n a) k = ap not (ne_eqb n m (λ e. clash (sym (ap not (eq-eqb m n (sym e))) ∙ and_right (not (x == z)) _ k)))
     one _ k = refl
 
 -- at most one read of a memory, where they stand in one stage and differ there
-one_there : (m s : ℕ) (xs : List Stmt) → AllOf (λ y. fetches_from m y.op ≡ true → y.stage ≡ s) xs → fetch_apart (in_stage s xs) ≡ true → at_most_one (fetches_from m) xs ≡ true
+one_there : (m s : ℕ) (xs : List Stmt) → AllOf (λ y. is_delayed_read m y.op ≡ true → y.stage ≡ s) xs → fetch_apart (in_stage s xs) ≡ true → at_most_one (is_delayed_read m) xs ≡ true
 one_there m s [] h k = refl
-one_there m s (x ∷ xs) h k = at (fetches_from m x.op) refl (one_there m s xs h.1)
+one_there m s (x ∷ xs) h k = at (is_delayed_read m x.op) refl (one_there m s xs h.1)
   where
-    none_else : (ys : List Stmt) → AllOf (λ y. fetches_from m y.op ≡ true → y.stage ≡ s) ys → none_of (fetches_from m) (in_stage s ys) ≡ true → none_of (fetches_from m) ys ≡ true
+    none_else : (ys : List Stmt) → AllOf (λ y. is_delayed_read m y.op ≡ true → y.stage ≡ s) ys → none_of (is_delayed_read m) (in_stage s ys) ≡ true → none_of (is_delayed_read m) ys ≡ true
     none_else [] i j = refl
-    none_else (y ∷ ys) i j = by (fetches_from m y.op) refl (y.stage == s) refl j (none_else ys i.1)
+    none_else (y ∷ ys) i j = by (is_delayed_read m y.op) refl (y.stage == s) refl j (none_else ys i.1)
       where
-        by : (b : Bool) → fetches_from m y.op ≡ b → (c : Bool) → (y.stage == s) ≡ c → none_of (fetches_from m) (cond c (y ∷ in_stage s ys) (in_stage s ys)) ≡ true
-            → (none_of (fetches_from m) (in_stage s ys) ≡ true → none_of (fetches_from m) ys ≡ true) → none_of (fetches_from m) (y ∷ ys) ≡ true
-        by true d true e u go = absurd (clash (sym (ap not d) ∙ and_left (not (fetches_from m y.op)) _ u))
+        by : (b : Bool) → is_delayed_read m y.op ≡ b → (c : Bool) → (y.stage == s) ≡ c → none_of (is_delayed_read m) (cond c (y ∷ in_stage s ys) (in_stage s ys)) ≡ true
+            → (none_of (is_delayed_read m) (in_stage s ys) ≡ true → none_of (is_delayed_read m) ys ≡ true) → none_of (is_delayed_read m) (y ∷ ys) ≡ true
+        by true d true e u go = absurd (clash (sym (ap not d) ∙ and_left (not (is_delayed_read m y.op)) _ u))
         by true d false e u go = absurd (eqb-false _ _ e (i.0 d))
-        by false d true e u go = ap₂ (λ a b. not a && b) d (go (and_right (not (fetches_from m y.op)) _ u))
+        by false d true e u go = ap₂ (λ a b. not a && b) d (go (and_right (not (is_delayed_read m y.op)) _ u))
         by false d false e u go = ap₂ (λ a b. not a && b) d (go u)
 
     rest : fetch_apart (in_stage s xs) ≡ true
@@ -209,15 +209,15 @@ one_there m s (x ∷ xs) h k = at (fetches_from m x.op) refl (one_there m s xs h
         by true j = and_right (alone_op x.op (in_stage s xs)) _ j
         by false j = j
 
-    others : fetches_from m x.op ≡ true → none_of (fetches_from m) xs ≡ true
+    others : is_delayed_read m x.op ≡ true → none_of (is_delayed_read m) xs ≡ true
     others f =
         let here : x.stage ≡ s = h.0 f in
         let k' : fetch_apart (x ∷ in_stage s xs) ≡ true = subst (λ b. fetch_apart (cond b (x ∷ in_stage s xs) (in_stage s xs)) ≡ true) (eq-eqb x.stage s here) k in
-        from_mem m x.op f _ (λ y n a e i. none_else xs h.1 (subst (λ o. none_of (fetches_from o) (in_stage s xs) ≡ true) i (like_none y n (in_stage s xs) (subst (λ op. alone_op op (in_stage s xs) ≡ true) e (and_left (alone_op x.op (in_stage s xs)) _ k')))))
+        from_mem m x.op f _ (λ y n a e i. none_else xs h.1 (subst (λ o. none_of (is_delayed_read o) (in_stage s xs) ≡ true) i (like_none y n (in_stage s xs) (subst (λ op. alone_op op (in_stage s xs) ≡ true) e (and_left (alone_op x.op (in_stage s xs)) _ k')))))
 
-    at : (b : Bool) → fetches_from m x.op ≡ b → (fetch_apart (in_stage s xs) ≡ true → at_most_one (fetches_from m) xs ≡ true) → at_most_one (fetches_from m) (x ∷ xs) ≡ true
-    at true e go = ap (λ b. cond b (none_of (fetches_from m) xs) (at_most_one (fetches_from m) xs)) e ∙ others e
-    at false e go = ap (λ b. cond b (none_of (fetches_from m) xs) (at_most_one (fetches_from m) xs)) e ∙ go rest
+    at : (b : Bool) → is_delayed_read m x.op ≡ b → (fetch_apart (in_stage s xs) ≡ true → at_most_one (is_delayed_read m) xs ≡ true) → at_most_one (is_delayed_read m) (x ∷ xs) ≡ true
+    at true e go = ap (λ b. cond b (none_of (is_delayed_read m) xs) (at_most_one (is_delayed_read m) xs)) e ∙ others e
+    at false e go = ap (λ b. cond b (none_of (is_delayed_read m) xs) (at_most_one (is_delayed_read m) xs)) e ∙ go rest
 
 -- what holds of each statement of each stage holds of all
 each_stage : (P : Stmt → Type 0) (xs : List Stmt) → ((s : ℕ) → AllOf P (in_stage s xs)) → AllOf P xs
@@ -331,7 +331,7 @@ module _ (p : Pipe) (acc : Sound p) where
 
   path_order : (path : List ℕ) (s : ℕ) → onpath path p.stmts ≡ onpath path (stages_before s p.stmts) ++ onpath path (stages_from s p.stmts)
   path_order path s =
-      order_looked s (onpath path p.stmts) (subst (λ l. l ≡ before s l ++ from s l) (path_looked path p.stmts) ((acc.pathwise.paths path).ordered s))
+      order_looked s (onpath path p.stmts) (subst (λ l. l ≡ before s l ++ stages_from s l) (path_looked path p.stmts) ((acc.pathwise.paths path).ordered s))
       ∙ ap₂ (λ a b. a ++ b) (before_path path s p.stmts) (from_path path s p.stmts)
 
   stages_on : (path : List ℕ) (s : ℕ) → s < length p.stages → visits_stage p path s ≡ true → AllOf (λ z. all_hold z.guards path ≡ true → (z.stage ≤ s) ⊎ (next_of p s path ≤ z.stage)) p.stmts
@@ -344,7 +344,7 @@ module _ (p : Pipe) (acc : Sound p) where
 
   -- DELAYED READS
 
-  fetch_ok_at : (s : ℕ) (ys : List Stmt) → AllFetches p acc.fetch s ys → AllOf (λ y. (m : ℕ) → fetches_from m y.op ≡ true → (acc.fetch m ≡ s) × (m < length p.mems)) ys
+  fetch_ok_at : (s : ℕ) (ys : List Stmt) → AllFetches p acc.fetch s ys → AllOf (λ y. (m : ℕ) → is_delayed_read m y.op ≡ true → (acc.fetch m ≡ s) × (m < length p.mems)) ys
   fetch_ok_at s [] h = tt
   fetch_ok_at s (y ∷ ys) h = (
     (λ m f. from_mem m y.op f _ (λ x n a e i. let k : Found p acc.fetch s n = (subst (λ op. FetchIf p acc.fetch s y.guards op) e h.0).0 in subst (λ o. (acc.fetch o ≡ s) × (o < length p.mems)) i (k.0, k.1))),
@@ -363,7 +363,7 @@ module _ (p : Pipe) (acc : Sound p) where
   both_of f [] h k = tt
   both_of f (x ∷ xs) h k = (f x h.0 k.0, both_of f xs h.1 k.1)
 
-  fetched : AllOf (λ y. (m : ℕ) → fetches_from m y.op ≡ true → (acc.fetch m ≡ y.stage) × (m < length p.mems)) p.stmts
+  fetched : AllOf (λ y. (m : ℕ) → is_delayed_read m y.op ≡ true → (acc.fetch m ≡ y.stage) × (m < length p.mems)) p.stmts
   fetched =
       each_stage _ p.stmts
       (λ s. both_of (λ y f e. λ m i. subst (λ r. (acc.fetch m ≡ r) × (m < length p.mems)) (sym e) (f m i)) (in_stage s p.stmts) (fetch_ok_at s (in_stage s p.stmts) (acc.fetch_ok s)) (in_same s p.stmts))
@@ -390,7 +390,7 @@ module _ (p : Pipe) (acc : Sound p) where
         over = λ path m. ap is_over (sym (phases_looked m Fresh (onpath path p.stmts)) ∙ ap (phase_all m Fresh) (sym (path_looked path p.stmts))) ∙ (acc.pathwise.paths path).over m;
         unreserved = acc.unreserved;
         unreleased = acc.unreleased;
-        unfetched = λ m past. none_all (fetches_from m) p.stmts (all_map (λ y f e. let k = (f m e).1 in absurd (omega arith)) p.stmts fetched);
+        unfetched = λ m past. none_all (is_delayed_read m) p.stmts (all_map (λ y f e. let k = (f m e).1 in absurd (omega arith)) p.stmts fetched);
         calls = λ path. sym (calls_looked false (onpath path p.stmts)) ∙ ap (calls_ok false) (sym (path_looked path p.stmts)) ∙ calls_of (verify_stage (at_once p).stmts) Unmade (onpath path (at_once p).stmts) (acc.pathwise.makings path);
         one_fetch = λ m. one_there m (acc.fetch m) p.stmts (all_map (λ y f e. sym (f m e).0) p.stmts fetched) (acc.fetch_alone (acc.fetch m));
         fetch_inside = acc.fetch_inside;

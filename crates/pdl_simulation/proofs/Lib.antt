@@ -11,6 +11,7 @@ pub mod Onward
 pub mod Placed
 pub mod Asked
 pub mod PerMemory
+pub mod Simulated
 pub mod Together
 pub mod Swapped
 pub mod Forked

@@ -3,18 +3,19 @@ use Rattle.std.proofs.Common.{◌≡◌, refl, sym, ap, ap₂, ◌∙◌, subst,
 use Rattle.pdl_semantics.specs.Flat.{Pipe, list_all}
 use Rattle.pdl_semantics.specs.Stages.{list_any, stage_at, goes_to}
 use Rattle.pdl_semantics.specs.Machine.{State, with_answers}
-use Rattle.pdl_semantics.specs.Cycle.{awaited_of, coming_thread, next_thread, or_then, squasher, child_of, is_kept, if_kept}
+use Rattle.pdl_semantics.specs.Cycle.{awaited_of, coming_thread, or_then, squasher, child_of, is_kept}
 use Rattle.pdl_semantics.specs.Moves.{movers, next_stage}
 use Rattle.pdl_semantics.specs.Cycle
-use Rattle.pdl_derived.specs.Derived.{Work, work_of_stage, around, survivors, moved_to, born_threads, exit_of, fresh}
+use Rattle.pdl_derived.specs.Derived.{Work, around, survivors, moved_to, born_threads, exit_of, fresh}
 use Rattle.pdl_derived.specs.Derived
 use Rattle.pdl_simulation.proofs.FlowFacts.{Flows, next_of}
 use Rattle.pdl_derived.proofs.Writes.{and_left}
 use Rattle.pdl_derived.proofs.Slots.{rev}
 use Rattle.pdl_simulation.proofs.Stretches.{Childed, has_made, stage_child}
-use Rattle.pdl_simulation.proofs.Seats.{Live, seat, find, threads_of, Each, each_map, Falls, falls_each, dacts, lacts, lact, did, now_of, work_of_live, deeds_of}
+use Rattle.pdl_simulation.proofs.Seats.{Live, seat, find, threads_of, each_map, Falls, falls_each, dacts, lacts, lact, did, now_of, work_of_live, deeds_of}
 use Rattle.pdl_simulation.proofs.Choices.{Known, AllKnown, told_here, keeps_now}
 use Rattle.pdl_simulation.proofs.Turned.{fell, moved_live, stood, next_live, go_on, Agrees}
+use Rattle.pdl_word.specs.Each.{Each}
 
 pub rev_append : {X : Type 0} → (xs ys : List X) → rev (xs ++ ys) ≡ rev ys ++ rev xs
 rev_append [] ys = sym (append-nil (rev ys))

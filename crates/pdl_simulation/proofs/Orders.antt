@@ -6,19 +6,20 @@ use Rattle.pdl_semantics.specs.Stages.{list_any, in_stage, stage_at, verify_stag
 use Rattle.pdl_semantics.specs.Locks.{Nothing}
 use Rattle.pdl_semantics.specs.Machine.{is_answered, Request, NoRequest, Owned, Orphan, State, lock_of, fork_of, request_of, youngest, with_answers}
 use Rattle.pdl_semantics.specs.Moves.{next_stage, is_free, is_first, is_nobody}
-use Rattle.pdl_semantics.specs.Sound.{side_in}
+use Rattle.pdl_semantics.specs.Sound.{side_in, is_delayed_read}
 use Rattle.pdl_semantics.specs.Machine
 use Rattle.pdl_semantics.specs.Moves
 use Rattle.pdl_derived.specs.Derived.{Work, latest, pending, befores, awaits_mem, asked_at, port_free}
 use Rattle.pdl_derived.specs.Derived
 use Rattle.pdl_facts.specs.Scans.{none_of}
-use Rattle.pdl_simulation.proofs.FlowFacts.{Flows, Leads, fetches_from}
+use Rattle.pdl_simulation.proofs.FlowFacts.{Flows, Leads}
 use Rattle.pdl_derived.proofs.Lists.{pend, youngest_append, youngest_other}
 use Rattle.pdl_turns.proofs.Own.{pend_own}
 use Rattle.pdl_simulation.proofs.Stretches.{Behind, not_behind, early}
-use Rattle.pdl_simulation.proofs.Seats.{Live, seat, Each, each_map, Ordered, Rises, Falls, sacts, dacts, lacts, lact, did, deeds_of, befores_are, pends, youngest_all, length_pends}
+use Rattle.pdl_simulation.proofs.Seats.{Live, seat, each_map, Ordered, Rises, Falls, sacts, dacts, lacts, lact, did, deeds_of, befores_are, pends, youngest_all, length_pends}
 use Rattle.pdl_simulation.proofs.Choices.{has_owner, Matched, Seated, fetched_of, one_stage, waits_are, env_is, port_is, Known, AllKnown, Tells, told_here, act_is}
 use Rattle.pdl_simulation.proofs.Telling.{someone, someone_more, behind_someone, sides, sides_append, Pair, pairs, sorted, lives_of, EachPair, pair_map, pair_both, sorted_each, each_sorted, pairs_each, rises_sorted, fails_none, all_pairs, later_older}
+use Rattle.pdl_word.specs.Each.{Each}
 
 -- THE OLDER PART
 
@@ -257,17 +258,17 @@ module _ (p : Pipe) (flows : Flows p) (st : State) (d : Derived.State) (bits : L
             calm false e = refl
 
         -- the thread in the stage of m's delayed read is younger than the owner of a request to m
-        not_owner : (n m : ℕ) → none_of (fetches_from m) (in_stage l.thread.stage p.stmts) ≡ false → (y : Live) → Seated p st y → (Leads p l.thread.stage y.thread.stage → ⊥) → ((y.number == n) && awaits_mem y.thread.awaits m) ≡ false
+        not_owner : (n m : ℕ) → none_of (is_delayed_read m) (in_stage l.thread.stage p.stmts) ≡ false → (y : Live) → Seated p st y → (Leads p l.thread.stage y.thread.stage → ⊥) → ((y.number == n) && awaits_mem y.thread.awaits m) ≡ false
         not_owner n m g y seat_y away = at (y.number == n) (awaits_mem y.thread.awaits m) refl
           where
             at : (b c : Bool) → awaits_mem y.thread.awaits m ≡ c → (b && c) ≡ false
             at true true e =
                 absurd (let k = fetched_of p y.thread.stage m y.thread.awaits seat_y.keeps_on.fetched e in
-                away (subst (λ s. Leads p s y.thread.stage) (one_stage (fetches_from m) p.stmts k.0 l.thread.stage (flows.one_fetch m) k.2 g) k.1))
+                away (subst (λ s. Leads p s y.thread.stage) (one_stage (is_delayed_read m) p.stmts k.0 l.thread.stage (flows.one_fetch m) k.2 g) k.1))
             at true false e = refl
             at false c e = refl
 
-        owner_older : (n m : ℕ) → none_of (fetches_from m) (in_stage l.thread.stage p.stmts) ≡ false → has_owner n m all ≡ true → has_owner n m older ≡ true
+        owner_older : (n m : ℕ) → none_of (is_delayed_read m) (in_stage l.thread.stage p.stmts) ≡ false → has_owner n m all ≡ true → has_owner n m older ≡ true
         owner_older n m g h =
             first ys young (subst (λ x. Each (Seated p st) x) is seated) (subst (λ x. has_owner n m x ≡ true) is h)
           where
@@ -278,7 +279,7 @@ module _ (p : Pipe) (flows : Flows p) (st : State) (d : Derived.State) (bits : L
             first [] b s i = ap (λ c. c || has_owner n m older) (sym (not_owner n m g l s.0 self)) ∙ i
             first (z ∷ zs) b s i = first zs b.1 s.1 (ap (λ c. c || has_owner n m (zs ++ l ∷ older)) (sym (not_owner n m g z s.0 (λ k. not_behind p flows.graph l.thread.stage z.thread.stage k b.0))) ∙ i)
 
-        port_same : (m : ℕ) → none_of (fetches_from m) (in_stage l.thread.stage p.stmts) ≡ false → is_free (request_of st m) (is_answered p bits m) (acts_of later) ≡ port_free p d bits (dacts p d bits older) m
+        port_same : (m : ℕ) → none_of (is_delayed_read m) (in_stage l.thread.stage p.stmts) ≡ false → is_free (request_of st m) (is_answered p bits m) (acts_of later) ≡ port_free p d bits (dacts p d bits older) m
         port_same m g = at (request_of st m) refl ∙ port_is p flows st d bits arrays all matched m l.number older older_seated (older_falls bound ys l older (subst (λ x. Falls bound x) is falls)) (λ n a e. owner_older n m g (owned n a e))
           where
             owned : (n a : ℕ) → request_of st m ≡ Owned n a → has_owner n m all ≡ true
@@ -302,7 +303,7 @@ module _ (p : Pipe) (flows : Flows p) (st : State) (d : Derived.State) (bits : L
                 ∙ sym (ap (λ q. is_free q (is_answered p bits m) (lacts p st d bits older)) e)
               where
                 leads : (y : Live) → Seated p st y → awaits_mem y.thread.awaits m ≡ true → Leads p l.thread.stage y.thread.stage
-                leads y s w = let k = fetched_of p y.thread.stage m y.thread.awaits s.keeps_on.fetched w in subst (λ s. Leads p s y.thread.stage) (one_stage (fetches_from m) p.stmts k.0 l.thread.stage (flows.one_fetch m) k.2 g) k.1
+                leads y s w = let k = fetched_of p y.thread.stage m y.thread.awaits s.keeps_on.fetched w in subst (λ s. Leads p s y.thread.stage) (one_stage (is_delayed_read m) p.stmts k.0 l.thread.stage (flows.one_fetch m) k.2 g) k.1
 
         clear_same : Moves.barrier_clear p (acts_of later) (deeds_of p st bits l) ≡ (not (deeds_of p st bits l).barrier || Derived.barrier_clear (verify_stage p.stmts) l.thread.stage (befores (dacts p d bits older)))
         clear_same = at (stage_at p l.thread.stage).branch refl

@@ -3,26 +3,24 @@ use Rattle.std.proofs.Common.{◌≡◌, refl, sym, ap, ap₂, ◌∙◌, subst,
 use Rattle.std.proofs.lemmas.Bool.{eqb-true, eqb-false, ne_eqb}
 use Rattle.pdl_semantics.specs.Flat.{Pipe, Branch, list_all}
 use Rattle.pdl_semantics.specs.Stages.{stage_at, goes_to, is_inside, mem_at}
-use Rattle.pdl_semantics.specs.Machine.{is_answered, State, with_answers}
+use Rattle.pdl_semantics.specs.Machine.{State}
 use Rattle.pdl_semantics.specs.Moves.{block_ready}
 use Rattle.pdl_semantics.specs.Locks.{has_room}
 use Rattle.pdl_semantics.specs.Cycle.{next_thread, or_then, is_kept, if_kept}
 use Rattle.pdl_semantics.specs.Cycle
 use Rattle.pdl_semantics.specs.Machine
-use Rattle.pdl_derived.specs.Derived.{Work, around, befores}
+use Rattle.pdl_derived.specs.Derived.{around}
 use Rattle.pdl_derived.specs.Derived
 use Rattle.pdl_simulation.proofs.FlowFacts.{Flows, Ways, Leads, stage_or, next_of}
 use Rattle.pdl_derived.proofs.Writes.{and_left, and_right}
 use Rattle.pdl_simulation.proofs.Stretches.{Behind, Keeps, has_made, keeps_next, keeps_fresh}
-use Rattle.pdl_simulation.proofs.Seats.{Live, seat, find, Each, each_map, Ordered, Falls, falls_up, dacts, lacts, did, now_of, work_of_live}
+use Rattle.pdl_simulation.proofs.Seats.{Live, seat, find, each_map, Ordered, Falls, falls_up, dacts, lacts, did, now_of, work_of_live}
 use Rattle.pdl_simulation.proofs.Choices.{Known, AllKnown, keeps_now, fit_all}
 use Rattle.pdl_simulation.proofs.Telling.{EachPair, pairs}
 use Rattle.pdl_simulation.proofs.Turned.{fell, moved_one, moved_live, stood, next_live, go_on, Agrees}
 use Rattle.pdl_simulation.proofs.Onward.{stuck_here, childed_here, Made, MadeBehind, made, made_none, born_live, lives_next, comes_is, find_append}
-
-pub each_append : (A : Live → Type 0) (xs ys : List Live) → Each A xs → Each A ys → Each A (xs ++ ys)
-each_append A [] ys h k = k
-each_append A (x ∷ xs) ys h k = (h.0, each_append A xs ys h.1 k)
+use Rattle.pdl_word.specs.Each.{Each}
+use Rattle.pdl_word.proofs.Each.{each_append}
 
 -- nobody stands in stage q where all stand before it
 none_found : (p : Pipe) (q : ℕ) (ls : List Live) → Each (λ k. Behind p q k.thread.stage) ls → find q ls ≡ None

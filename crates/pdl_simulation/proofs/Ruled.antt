@@ -3,8 +3,8 @@ use Rattle.std.proofs.Common.{◌≡◌, refl, sym, ap, ap₂, ◌∙◌, subst,
 use Rattle.std.proofs.lemmas.Bool.{eqb-true, eqb-false}
 use Rattle.pdl_semantics.specs.Flat.{Pipe, Branch, Next, Ends, Goes, Forks, Op, Bind, CombRead, DelayedRead, Guard, Stmt, takes_branch, all_hold}
 use Rattle.pdl_semantics.specs.Stages.{onpath, in_stage, stage_at, goes_to}
-use Rattle.pdl_semantics.specs.Sound.{stages_before, stages_from}
-use Rattle.pdl_facts.specs.Scans.{none_of, binds_var, is_fetch}
+use Rattle.pdl_semantics.specs.Sound.{stages_before, stages_from, is_fetch}
+use Rattle.pdl_facts.specs.Scans.{none_of, binds_var}
 use Rattle.pdl_simulation.proofs.FlowFacts.{Flows, FlowRules, AllOf, DefinedBy, SameBut, binds_guard, visits_stage, comes_by, on_side, next_of, stage_or, sets, is_fetch_of}
 use Rattle.pdl_turns.proofs.Paths.{stage_path, none_onpath}
 

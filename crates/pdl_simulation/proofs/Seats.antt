@@ -12,6 +12,7 @@ use Rattle.pdl_derived.specs.Derived
 use Rattle.pdl_derived.proofs.Slots.{rev, stages_same}
 use Rattle.pdl_simulation.proofs.Stretches.{Behind}
 use Rattle.pdl_derived.proofs.Lists.{pend, youngest_append, youngest_older, length_pend}
+use Rattle.pdl_word.specs.Each.{Each}
 
 -- a live thread of the derived machine, its number, the values with which it came into its stage, and the answers that the stated machine keeps for it
 pub record Live : Type 0 where
@@ -32,11 +33,6 @@ find q (l ∷ ls) = if l.thread.stage == q then Some (seat l) else find q ls
 abbrev pub threads_of : List Live → List Derived.Thread
 threads_of [] = []
 threads_of (l ∷ ls) = l.thread ∷ threads_of ls
-
--- what holds of each of them
-abbrev pub Each : (Live → Type 0) → List Live → Type 0
-Each holds [] = Unit {0}
-Each holds (l ∷ ls) = holds l × Each holds ls
 
 pub each_map : {A B : Live → Type 0} → ((l : Live) → A l → B l) → (ls : List Live) → Each A ls → Each B ls
 each_map f [] h = tt

@@ -4,10 +4,9 @@ use Rattle.std.proofs.lemmas.Bool.{eqb-true}
 use Rattle.pdl_semantics.specs.Flat.{Commit, Op, Write, ReserveWrite, Release, Verify, Stmt, values_of, all_hold}
 use Rattle.pdl_semantics.specs.Stages.{onpath, is_reserve, is_release}
 use Rattle.pdl_semantics.specs.Machine.{same_args, Pending, HeldLocation, held_after, held_before}
-use Rattle.pdl_semantics.specs.Sound.{stages_before, stages_from}
+use Rattle.pdl_semantics.specs.Sound.{stages_before, stages_from, is_call}
 use Rattle.pdl_semantics.specs.Machine
 use Rattle.pdl_derived.specs.Derived.{Entry, Work, Around, work_after, do_all}
-use Rattle.pdl_derived.specs.Alone.{is_call}
 use Rattle.pdl_facts.specs.Scans.{Phase, Fresh, Held, Written, Done, after_release, next_phase, phase_all, is_over, none_of, all_at, is_fixed, called}
 use Rattle.pdl_simulation.proofs.FlowFacts.{use_ok, uses_ok, calls_ok}
 use Rattle.pdl_derived.proofs.Writes.{and_left, and_right}

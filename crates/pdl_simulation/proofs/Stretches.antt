@@ -6,13 +6,12 @@ use Rattle.pdl_semantics.specs.Flat.{Commit, of_mem, Op, Bind, CombRead, Delayed
 use Rattle.pdl_semantics.specs.Stages.{onpath, in_stage, stage_at, goes_to, is_reserve, is_release, reserve_stage, commit_stage}
 use Rattle.pdl_semantics.specs.Machine.{Ask, Awaited, same_args, is_answered, Pending, Blocked, Reserved, Deeds, held_before, deeds_after_all, is_held}
 use Rattle.pdl_semantics.specs.Cycle.{awaited_of}
-use Rattle.pdl_semantics.specs.Sound.{stages_before, stages_from}
+use Rattle.pdl_semantics.specs.Sound.{stages_before, stages_from, is_call, is_delayed_read}
 use Rattle.pdl_semantics.specs.Machine
 use Rattle.pdl_derived.specs.Derived.{Entry, Work, Around, work_after, do_all, work_of_stage, still, with_answers, answered_thread}
-use Rattle.pdl_derived.specs.Alone.{is_call}
 use Rattle.pdl_derived.specs.Derived
 use Rattle.pdl_facts.specs.Scans.{Phase, Fresh, next_phase, phase_all, is_over, none_of, called}
-use Rattle.pdl_simulation.proofs.FlowFacts.{Flows, SameBut, sets, fetches_from, is_fetch_of, use_ok, uses_ok, call_ok, calls_ok, visits_stage, next_of, stage_or, comes_by, Leads, Ways}
+use Rattle.pdl_simulation.proofs.FlowFacts.{Flows, SameBut, sets, is_fetch_of, use_ok, uses_ok, call_ok, calls_ok, visits_stage, next_of, stage_or, comes_by, Leads, Ways}
 use Rattle.pdl_derived.proofs.Writes.{and_left, and_right}
 use Rattle.pdl_derived.proofs.Entries.{entries_of}
 use Rattle.pdl_derived.proofs.Stages.{step}
@@ -138,9 +137,9 @@ only_asks path o (x ∷ xs) w f g h = at (all_hold x.guards w.env) (all_hold x.g
 -- a memory that is asked for is one that a statement of the stage reads
 abbrev pub AsksFrom : List Stmt → List Ask → Type 0
 AsksFrom all [] = Unit {0}
-AsksFrom all (q ∷ qs) = (none_of (fetches_from q.mem) all ≡ false) × AsksFrom all qs
+AsksFrom all (q ∷ qs) = (none_of (is_delayed_read q.mem) all ≡ false) × AsksFrom all qs
 
-op_from : (all : List Stmt) (o : Around) (op : Op) (w : Work) → ((m : ℕ) → not (fetches_from m op) ≡ false → none_of (fetches_from m) all ≡ false) → AsksFrom all w.asks → AsksFrom all (work_after o op w).asks
+op_from : (all : List Stmt) (o : Around) (op : Op) (w : Work) → ((m : ℕ) → not (is_delayed_read m op) ≡ false → none_of (is_delayed_read m) all ≡ false) → AsksFrom all w.asks → AsksFrom all (work_after o op w).asks
 op_from all o (DelayedRead x m a) w f h = more w.asks h
   where
     same : (m == m) ≡ true
@@ -156,9 +155,9 @@ op_from all o (Verify args) w f h = at (same_args (values_of args w.env) w.guess
     at false = h
 op_from all o _ w f h = h
 
-pub asks_from : (all : List Stmt) (o : Around) (xs : List Stmt) (w : Work) → ((m : ℕ) → none_of (fetches_from m) xs ≡ false → none_of (fetches_from m) all ≡ false) → AsksFrom all w.asks → AsksFrom all (do_all o xs w).asks
+pub asks_from : (all : List Stmt) (o : Around) (xs : List Stmt) (w : Work) → ((m : ℕ) → none_of (is_delayed_read m) xs ≡ false → none_of (is_delayed_read m) all ≡ false) → AsksFrom all w.asks → AsksFrom all (do_all o xs w).asks
 asks_from all o [] w f h = h
-asks_from all o (x ∷ xs) w f h = asks_from all o xs (step o x w) (λ m k. f m (more (not (fetches_from m x.op)) k)) (at (all_hold x.guards w.env))
+asks_from all o (x ∷ xs) w f h = asks_from all o xs (step o x w) (λ m k. f m (more (not (is_delayed_read m x.op)) k)) (at (all_hold x.guards w.env))
   where
     more : (b : Bool) {c : Bool} → c ≡ false → (b && c) ≡ false
     more true k = k
@@ -169,7 +168,7 @@ asks_from all o (x ∷ xs) w f h = asks_from all o xs (step o x w) (λ m k. f m 
     first false c k = refl
 
     at : (b : Bool) → AsksFrom all (cond b (work_after o x.op w) w).asks
-    at true = op_from all o x.op w (λ m k. f m (first (not (fetches_from m x.op)) (none_of (fetches_from m) xs) k)) h
+    at true = op_from all o x.op w (λ m k. f m (first (not (is_delayed_read m x.op)) (none_of (is_delayed_read m) xs) k)) h
     at false = h
 
 -- to the successor: no second one is made but by a failing verify, and one that is made was called
@@ -266,7 +265,7 @@ not_behind p g k s l h = at (stage_at p s).branch refl
 
 -- each awaited memory is read in the stage before
 abbrev pub Fetched : Pipe → ℕ → ℕ → Type 0
-Fetched p s m = (k : ℕ) × Leads p k s × (none_of (fetches_from m) (in_stage k p.stmts) ≡ false)
+Fetched p s m = (k : ℕ) × Leads p k s × (none_of (is_delayed_read m) (in_stage k p.stmts) ≡ false)
 
 abbrev pub AllFetched : Pipe → ℕ → List Awaited → Type 0
 AllFetched p s [] = Unit {0}

@@ -5,18 +5,18 @@ use Rattle.pdl_semantics.specs.Flat.{Arrays, Pipe, Branch, Mem, Op, ReserveWrite
 use Rattle.pdl_semantics.specs.Stages.{list_any, in_stage, stage_at, goes_to, is_branch_of}
 use Rattle.pdl_semantics.specs.Machine.{Ask, is_answered, Request, NoRequest, State, Pending, Deeds, lock_of, fork_of, request_of, with_answers, deeds_after_all, word_for}
 use Rattle.pdl_semantics.specs.Moves.{movers, next_stage}
-use Rattle.pdl_semantics.specs.Cycle.{new_entries, with_reserves, with_value_of, with_writes_of, with_all_writes, has_release, child_of, squasher, asked_by, asked_of, asked_in, address_of, next_thread, coming_thread, or_then, entered_branches, goes_into, goes_out, has_left, for_mems, for_stages, taken_out, list_two, with_commit, with_commits}
-use Rattle.pdl_semantics.specs.Sound.{side_in}
+use Rattle.pdl_semantics.specs.Cycle.{new_entries, with_reserves, with_value_of, with_writes_of, with_all_writes, has_release, child_of, squasher, asked_by, asked_of, asked_in, address_of, next_thread, coming_thread, or_then, entered_branches, goes_into, goes_out, for_mems, for_stages, taken_out, list_two, with_commit, with_commits}
+use Rattle.pdl_semantics.specs.Sound.{side_in, is_delayed_read}
 use Rattle.pdl_semantics.specs.Cycle
 use Rattle.pdl_semantics.specs.Machine
 use Rattle.pdl_semantics.specs.Moves
 use Rattle.pdl_derived.specs.Derived.{Work, find_ask}
 use Rattle.pdl_derived.specs.Derived
 use Rattle.pdl_facts.specs.Scans.{none_of}
-use Rattle.pdl_simulation.proofs.FlowFacts.{Flows, Leads, trunk_only, fetches_from}
+use Rattle.pdl_simulation.proofs.FlowFacts.{Flows, Leads, trunk_only}
 use Rattle.pdl_derived.proofs.Writes.{and_left, and_right}
 use Rattle.pdl_simulation.proofs.Stretches.{Behind}
-use Rattle.pdl_simulation.proofs.Seats.{Live, seat, find, Each, Ordered, Falls, falls_each, dacts, lacts, lact, did, deeds_of, work_of_live}
+use Rattle.pdl_simulation.proofs.Seats.{Live, seat, find, Ordered, Falls, falls_each, dacts, lacts, lact, did, deeds_of, work_of_live}
 use Rattle.pdl_simulation.proofs.Choices.{Known, AllKnown, one_stage, told_here}
 use Rattle.pdl_simulation.proofs.Telling.{Pair, EachPair, pairs, place, sorted, pair_map, pair_both, sorted_each}
 use Rattle.pdl_simulation.proofs.Orders.{acts_of}
@@ -24,6 +24,7 @@ use Rattle.pdl_simulation.proofs.Turned.{next_live}
 use Rattle.pdl_simulation.proofs.Onward.{comes_is}
 use Rattle.pdl_simulation.proofs.Placed.{become_stay, become_move, enters_here, leads_of}
 use Rattle.pdl_simulation.proofs.Asked.{asks_at, asks_are}
+use Rattle.pdl_word.specs.Each.{Each}
 
 -- WHAT ORDER DOESN'T MATTER
 
@@ -268,7 +269,7 @@ module _ (p : Pipe) (flows : Flows p) (st : State) (d : Derived.State) (bits : L
       at None e b f = inl e
       at (Some a) e None f = inr f
       at (Some a) e (Some b) f =
-          absurd (let same : x.live.thread.stage ≡ y.live.thread.stage = one_stage (fetches_from m) p.stmts x.live.thread.stage y.live.thread.stage (flows.one_fetch m)
+          absurd (let same : x.live.thread.stage ≡ y.live.thread.stage = one_stage (is_delayed_read m) p.stmts x.live.thread.stage y.live.thread.stage (flows.one_fetch m)
           (asks_at p flows st d bits arrays x.older x.live s.known_x m a (ap (λ q. find_ask q m) (sym works_x) ∙ e))
           (asks_at p flows st d bits arrays y.older y.live s.known_y m b (ap (λ q. find_ask q m) (sym works_y) ∙ f)) in
           let less : x.live.thread.stage < y.live.thread.stage = s.behind.branch (ap (λ n. (stage_at p n).branch) same) in omega arith)

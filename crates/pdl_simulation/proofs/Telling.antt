@@ -10,8 +10,9 @@ use Rattle.pdl_facts.specs.Scans.{none_of}
 use Rattle.pdl_simulation.proofs.FlowFacts.{trunk_only}
 use Rattle.pdl_derived.proofs.Writes.{and_left, and_right}
 use Rattle.pdl_simulation.proofs.Stretches.{Behind}
-use Rattle.pdl_simulation.proofs.Seats.{Live, seat, find, Each, each_map, Ordered, Rises}
+use Rattle.pdl_simulation.proofs.Seats.{Live, seat, find, each_map, Ordered, Rises}
 use Rattle.pdl_word.proofs.Bools.{same_bools}
+use Rattle.pdl_word.specs.Each.{Each}
 
 -- whether somebody stands in this stage
 abbrev pub someone : ℕ → List Live → Bool

@@ -3,7 +3,7 @@ use Rattle.std.proofs.Common.{◌≡◌, refl, sym, ap, ap₂, ◌∙◌, subst,
 use Rattle.std.proofs.lemmas.Bool.{eqb-true, eqb-false}
 use Rattle.pdl_semantics.specs.Flat.{Arrays, Pipe, Branch, Mem, Stage, of_mem, after_commits}
 use Rattle.pdl_semantics.specs.Stages.{list_any, stage_at, goes_to, in_stage, is_inside, is_branch_of}
-use Rattle.pdl_semantics.specs.Sound.{side_in}
+use Rattle.pdl_semantics.specs.Sound.{side_in, is_delayed_read}
 use Rattle.pdl_semantics.specs.Machine.{Ask, Awaited, Request, NoRequest, Owned, Orphan, is_answered, State, Pending, lock_of, fork_of, request_of, with_kept}
 use Rattle.pdl_semantics.specs.Cycle.{awaited_of, for_mems, for_stages, has_release, oldest, but_oldest, list_two, list_three, taken_out, with_commits, entries_left, request_left, request_next, commit_shown, port_write, is_kept, squasher}
 use Rattle.pdl_turns.proofs.Released.{released}
@@ -16,7 +16,7 @@ use Rattle.pdl_semantics.specs.Moves
 use Rattle.pdl_derived.specs.Derived.{Work, commits_of, asks_of, asked_at, next_ask, next_asks, find_ask, stage_flags, still}
 use Rattle.pdl_derived.specs.Derived
 use Rattle.pdl_facts.specs.Scans.{none_of}
-use Rattle.pdl_simulation.proofs.FlowFacts.{Flows, fetches_from}
+use Rattle.pdl_simulation.proofs.FlowFacts.{Flows}
 use Rattle.pdl_derived.specs.Simulation.{SameTurn, SameTurns}
 use Rattle.pdl_derived.proofs.Writes.{row_committed}
 use Rattle.pdl_derived.proofs.Slots.{rev, stages_same}
@@ -24,8 +24,8 @@ use Rattle.pdl_simulation.proofs.PerMemory.{at_mem, past_mems, mems_same, row_co
 use Rattle.pdl_simulation.proofs.Leaving.{Out}
 use Rattle.pdl_derived.proofs.Lists.{pend}
 use Rattle.pdl_turns.proofs.Own.{pend_own}
-use Rattle.pdl_simulation.proofs.Stretches.{Keeps, AsksFrom, Fetched, AllFetched, unknown, has_made, keeps_fresh}
-use Rattle.pdl_simulation.proofs.Seats.{Live, find, threads_of, Each, each_map, Ordered, Rises, Falls, dacts, lacts, lact, did, work_of_live, acts_slots, acts_back, pends, pends_append}
+use Rattle.pdl_simulation.proofs.Stretches.{Keeps, AsksFrom, Fetched, AllFetched, unknown, keeps_fresh}
+use Rattle.pdl_simulation.proofs.Seats.{Live, each_map, Ordered, Rises, Falls, dacts, lacts, lact, did, work_of_live, acts_slots, acts_back, pends, pends_append}
 use Rattle.pdl_simulation.proofs.Choices.{Matched, OwnedBy, AllOwned, Seated, Known, AllKnown, told_here, asks_here}
 use Rattle.pdl_simulation.proofs.Telling.{sides, sorted, lives_of, find_sorted, rises_sorted}
 use Rattle.pdl_simulation.proofs.Orders.{sides_none, known_all, acts_of, acts_sorted}
@@ -33,35 +33,12 @@ use Rattle.pdl_simulation.proofs.Swapped.{swaps_all, same_after, same_ports}
 use Rattle.pdl_simulation.proofs.Forked.{fork_next}
 use Rattle.pdl_simulation.proofs.Turned.{fell, next_live, go_on, Agrees, two, three, two_is, three_is, commits_here, unreleased, pends_on}
 use Rattle.pdl_simulation.proofs.Onward.{made, born_live, lives_next, child_is, survive, agrees, squashes, any_rev}
-use Rattle.pdl_simulation.proofs.Placed.{each_append, each_next, ordered_next, falls_next, made_next, ways_next, stage_is}
+use Rattle.pdl_simulation.proofs.Placed.{each_next, ordered_next, falls_next, made_next, ways_next, stage_is}
 use Rattle.pdl_simulation.proofs.Asked.{Asker, owned_by, asking, asked_is, shown_is, finds_is, one_asks, port_was_free, request_now, asked_now, matched_next, first_of}
 use Rattle.pdl_turns.proofs.OfStage.{none_stage}
-
--- each but the youngest has made its successor
-abbrev pub HaveMade : Pipe → List Live → Type 0
-HaveMade p [] = Unit {0}
-HaveMade p (l ∷ ls) = Each (λ k. has_made p k.env k.thread.stage ≡ true) ls
-
--- a stated state, a derived state, and the live threads, the youngest first
-pub record Sim (p : Pipe) (st : State) (d : Derived.State) (ls : List Live) : Type 0 where
-  pub arrays : st.arrays ≡ d.arrays
-  -- the live threads stand in their stages
-  pub threads : d.threads ≡ rev (threads_of ls)
-  pub stages : st.stages ≡ for_stages (λ q. find q ls) 0 p.stages
-  -- each lock's list is their entries, the oldest thread's first
-  pub locks : (m : ℕ) → lock_of st m ≡ pends m ls
-  -- younger threads have greater numbers, and stand behind
-  pub falls : Falls st.next ls
-  pub ordered : Ordered p ls
-  -- each keeps to its way, has its answers and owns its requests
-  pub seated : Each (Seated p st) ls
-  pub have_made : HaveMade p ls
-  -- each fork's list has the branches of just the threads inside
-  pub forks : (f : ℕ) → fork_of st f ≡ sides p f ls
-  -- the same requests are outstanding
-  pub requests : st.requests ≡ for_mems (request_of st) 0 p.mems
-  pub asked : d.asked ≡ for_mems (asked_at d) 0 p.mems
-  pub matched : (m : ℕ) → Matched (request_of st m) (asked_at d m) m ls
+use Rattle.pdl_word.specs.Each.{Each}
+use Rattle.pdl_word.proofs.Each.{each_append}
+use Rattle.pdl_simulation.proofs.Simulated.{Sim}
 
 mems_range : {X : Type 0} → (f g : ℕ → X) (k : ℕ) (xs : List Mem) → ((m : ℕ) → k ≤ m → m < k + length xs → f m ≡ g m) → for_mems f k xs ≡ for_mems g k xs
 mems_range f g k [] h = refl
@@ -73,12 +50,12 @@ asks_mems p bits qs f k (x ∷ xs) = ap (λ l. next_ask (find_ask qs k) (is_answ
 
 module _ (p : Pipe) (flows : Flows p) where
   -- only memories that are there are read
-  pub fetch_low : (m s : ℕ) → none_of (fetches_from m) (in_stage s p.stmts) ≡ false → m < length p.mems
+  pub fetch_low : (m s : ℕ) → none_of (is_delayed_read m) (in_stage s p.stmts) ≡ false → m < length p.mems
   fetch_low m s h = at (nat_lt m (length p.mems)) refl
     where
       at : (b : Bool) → nat_lt m (length p.mems) ≡ b → m < length p.mems
       at true e = ltb-true _ _ e
-      at false e = absurd (cc (sym h ∙ none_stage (fetches_from m) s p.stmts (flows.unfetched m (ltb-false _ _ e))))
+      at false e = absurd (cc (sym h ∙ none_stage (is_delayed_read m) s p.stmts (flows.unfetched m (ltb-false _ _ e))))
 
   module _ (st : State) (d : Derived.State) (bits : List Bool) (ls : List Live) (sim : Sim p st d ls) where
     pub known : AllKnown p flows st d bits sim.arrays ls

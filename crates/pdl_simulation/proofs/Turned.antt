@@ -9,7 +9,7 @@ use Rattle.pdl_semantics.specs.Moves.{movers}
 use Rattle.pdl_semantics.specs.Cycle.{awaited_of, new_entries, with_reserves, with_writes_of, with_all_writes, has_release, oldest, but_oldest, is_kept, entries_left}
 use Rattle.pdl_turns.proofs.Released.{released}
 use Rattle.pdl_semantics.specs.Moves
-use Rattle.pdl_derived.specs.Derived.{Entry, Work, work_of_stage, around, commits_of}
+use Rattle.pdl_derived.specs.Derived.{Entry, Work, around, commits_of}
 use Rattle.pdl_derived.specs.Derived
 use Rattle.pdl_simulation.proofs.FlowFacts.{Flows, stage_or, next_of}
 use Rattle.pdl_derived.proofs.Writes.{of_mem_append}
@@ -20,8 +20,9 @@ use Rattle.pdl_derived.proofs.Lists.{own, pend, Foreign, AllForeign, Reserveless
 use Rattle.pdl_turns.proofs.Own.{Worked, pend_own, quiet_reserves}
 use Rattle.pdl_simulation.proofs.Leaving.{Out, Still, out_more, foreign_append, foreign_pend, foreign_new, foreign_put_all, commits_more}
 use Rattle.pdl_simulation.proofs.Stretches.{Behind, early, late, start_of}
-use Rattle.pdl_simulation.proofs.Seats.{Live, seat, Each, each_map, Ordered, Falls, falls_up, dacts, lacts, lact, did, now_of, work_of_live, deeds_of, pends, pends_append}
+use Rattle.pdl_simulation.proofs.Seats.{Live, seat, each_map, Ordered, Falls, falls_up, dacts, lacts, lact, did, now_of, work_of_live, deeds_of, pends, pends_append}
 use Rattle.pdl_simulation.proofs.Choices.{Known, AllKnown, Seated, worked_here, ends_here, late_here}
+use Rattle.pdl_word.specs.Each.{Each}
 
 -- THE LIVE THREADS AFTER A CYCLE
 

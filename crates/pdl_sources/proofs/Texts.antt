@@ -6,13 +6,14 @@ use Rattle.pdl_tokens.specs.declared.token.Mark.{Mark}
 use Rattle.pdl_tokens.specs.Tokens.{Row, tokens}
 use Rattle.pdl_grammar.specs.Grammar.{Listed, last, further, Lock, unlocked, locked, Memory, memory, Parameter, parameter, Text, text}
 use Rattle.pdl_grammar.specs.Text.{IsText}
-use Rattle.pdl_rules.specs.Places.{Place, End, StartClause, statements, places}
+use Rattle.pdl_rules.specs.Places.{Place, statements, places}
 use Rattle.pdl_rules.specs.Places as place
 use Rattle.pdl_rules.specs.Names.{OfVariable, defines_use}
 use Rattle.pdl_pathfacts.specs.Source.{own_start, is_source, is_named}
 use Rattle.pdl_pathfacts.proofs.Ascending.{Next, Ascends, apart_ascending}
 use Rattle.pdl_sources.proofs.Words.{Stand, letters, later, tokens_stand}
 use Rattle.pdl_sources.proofs.Statements.{Ordered, Follows, items_ordered}
+use Rattle.pdl_rules.proofs.EachPlace.{closing}
 
 -- ---- before the body
 
@@ -29,10 +30,6 @@ memories_ordered close ms a r (last (memory l)) xs f n h = (refl, f n (later 1 (
 memories_ordered close ms a r (further (memory l) ls) xs f n h = (refl, memories_ordered _ _ _ _ ls xs f n (later 1 (after_lock _ _ _ l n (later 10 h))))
 
 -- ---- texts
-
--- the last places
-abbrev closing : Pipe → List Place
-closing p = End p.end ∷ StartClause p.start ∷ []
 
 closing_ordered : (p : Pipe) (r : Row) → Follows r (closing p)
 closing_ordered p r n h = (refl, (refl, tt))

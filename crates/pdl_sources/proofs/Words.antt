@@ -5,6 +5,7 @@ use Rattle.std.specs.List.{starts_with}
 use Rattle.pdl_tokens.specs.declared.token.TokenKind.{TokenKind}
 use Rattle.pdl_tokens.specs.declared.token.TokenKind.TheVariants as kind
 use Rattle.pdl_tokens.specs.Tokens.{Token, Row, Piece, Spelling, tokens_from, placed_token, piece_at, word_at, number_or_literal, mark_or_bad, blank_of, is_blank, is_lower, is_digit, symbols, spelling_at, line_after}
+use Rattle.pdl_tokens.proofs.OtherKinds.{same_kind, number_no_name, literal_no_name}
 
 -- a token has letters if it is a name
 abbrev pub HasLetters : Token → Type 0
@@ -54,21 +55,10 @@ one_of : (b : Bool) (p q : Piece) → (b ≡ true → IsLong p) → IsLong q →
 one_of true p q h k = h refl
 one_of false p q h k = k
 
-pub some_same : (k j : TokenKind) → Some k ≡ Some j → k ≡ j
-some_same k j e = cc e
-
-pub number_no_name : (b : Bool) (n : ℕ) → cond b (kind.Number n) kind.Bad ≡ kind.Name → ⊥
-number_no_name true n e = cc e
-number_no_name false n e = cc e
-
-pub literal_no_name : (b : Bool) (n : ℕ) (v : Option ℕ) → cond b (kind.Literal n v) kind.Bad ≡ kind.Name → ⊥
-literal_no_name true n v e = cc e
-literal_no_name false n v e = cc e
-
 number_long : (n ds hs : List ℕ) → IsLong (number_or_literal n ds hs)
-number_long n [] [] e = absurd (number_no_name _ _ (some_same _ _ e))
-number_long n [] (h ∷ hs) e = absurd (literal_no_name _ _ _ (some_same _ _ e))
-number_long n (d ∷ ds) hs e = absurd (literal_no_name _ _ _ (some_same _ _ e))
+number_long n [] [] e = absurd (number_no_name _ _ (same_kind _ _ e))
+number_long n [] (h ∷ hs) e = absurd (literal_no_name _ _ _ (same_kind _ _ e))
+number_long n (d ∷ ds) hs e = absurd (literal_no_name _ _ _ (same_kind _ _ e))
 
 blank_long : (n : ℕ) → IsLong (blank_of n)
 blank_long n e = absurd (cc e)

@@ -1,4 +1,6 @@
-//! The rules on calls and guesses, and the stage that verifies guesses.
+//! The rules on calls and guesses, S1 to S5, and the stage that verifies guesses; S3 is asked of the text, the others on each path.
+//!
+//! The layers above may use `check_spec` and `SpecPlan`, and for a walk with further rules `spec_path_rules`, `SpecLines` and `plan_spec`.
 #![tactic(auto)]
 
 pub mod check;

@@ -8,10 +8,11 @@ use Rattle.pdl_semantics.specs.Stages.{in_stage, mem_at}
 use Rattle.pdl_rules.specs.Refusal.{KeepsRules}
 use Rattle.pdl_facts.specs.Facts.{is_exact, Found}
 use Rattle.pdl_stagefacts.specs.StageFacts.{StageFacts, FoundIf, AllFound}
-use Rattle.pdl_stagefacts.proofs.Fine.{Each, each_in_stage}
+use Rattle.pdl_stagefacts.proofs.Fine.{each_in_stage}
 use Rattle.pdl_stagefacts.proofs.Trunks
 use Rattle.pdl_stagefacts.proofs.Homes
 use Rattle.pdl_stagefacts.proofs.ForkFacts
+use Rattle.pdl_word.specs.Each.{Each}
 
 all_inside : (n : ℕ) (ys : List Flat.Stmt) → Each (λ y. y.stage < n) ys → Flat.list_all (λ y. nat_lt y.stage n) ys ≡ true
 all_inside n [] h = refl

@@ -3,7 +3,7 @@ use Rattle.std.proofs.Common.{◌≡◌, refl, sym, ap, ◌∙◌, subst, ℕ, s
 use Rattle.std.proofs.lemmas.Bool.{false≢true, and_parts, and_from}
 use Rattle.pdl_semantics.specs.Tree.{Variable, Stmt, Separator, CombRead, Bind, SpecCall, DelayedRead, Write, Reserve, Block, Release, If, Call, Verify, SpecCheck, SpecBarrier, Stmts, Nil, Cons, Mem, Pipe}
 use Rattle.pdl_semantics.specs.Flat
-use Rattle.pdl_semantics.specs.Flatten.{Var, var_of, mem_of, flat_expr, flat_exprs, reserve_op, at_position, binds_guard, past, guard_of, separators_in, separators, at_start, flat}
+use Rattle.pdl_semantics.specs.Flatten.{Var, var_of, mem_of, flat_expr, flat_exprs, reserve_op, at_position, past, separators, at_start, flat}
 use Rattle.pdl_semantics.specs.Flatten
 use Rattle.pdl_rules.specs.Places.{Place, places}
 use Rattle.pdl_rules.specs.Forks.{is_trunk_only}
@@ -19,6 +19,8 @@ use Rattle.pdl_stagefacts.proofs.Spots.{Groups, merge_at}
 use Rattle.pdl_stagefacts.proofs.Formed.{body_forked, body_groups}
 use Rattle.pdl_stagefacts.proofs.Standing.{Standing, all_standing, all_both, all_map, stages_all, none_of_whole, fitting, rest_shape, either_shape}
 use Rattle.pdl_stagefacts.proofs.Staged.{Staged, all_staged}
+use Rattle.pdl_word.specs.Each.{Each}
+use Rattle.pdl_word.proofs.Each.{each_append}
 
 -- HOW MANY STAGES
 
@@ -118,15 +120,6 @@ from_op test (Some op) = test op
 abbrev pub row_at : Site → Flat.Op → Flat.Stmt
 row_at t op = record { stage = t.walk.stage; guards = t.gs; op = op }
 
--- something that holds of each flat statement
-abbrev pub Each : (Flat.Stmt → Type 0) → List Flat.Stmt → Type 0
-Each P [] = Unit {0}
-Each P (y ∷ ys) = P y × Each P ys
-
-pub each_append : (P : Flat.Stmt → Type 0) (xs ys : List Flat.Stmt) → Each P xs → Each P ys → Each P (xs ++ ys)
-each_append P [] ys h k = k
-each_append P (x ∷ xs) ys h k = (h.0, each_append P xs ys h.1 k)
-
 -- it holds of each where it holds of each site's
 abbrev pub AtSite : (Flat.Stmt → Type 0) → List Mem → Site → Type 0
 AtSite P ms t = (op : Flat.Op) → op_of ms t.walk.vars t.stmt ≡ Some op → P (row_at t op)
@@ -141,10 +134,6 @@ each_owns P ms (t ∷ ts) h = each_append P (own ms t) (owns ms ts) (subst (Each
 
 pub each_stmt : (p : Pipe) (P : Flat.Stmt → Type 0) → All (AtSite P p.mems) (sites_of p) → Each P (flat p).stmts
 each_stmt p P h = subst (Each P) (sym (stmts_are p)) (each_owns P p.mems (sites_of p) h)
-
-pub each_map : (P R : Flat.Stmt → Type 0) → ((y : Flat.Stmt) → P y → R y) → (ys : List Flat.Stmt) → Each P ys → Each R ys
-each_map P R f [] h = tt
-each_map P R f (y ∷ ys) h = (f y h.0, each_map P R f ys h.1)
 
 -- and of each site that breaks no rule
 pub each_fine : (p : Pipe) → KeepsRules p → (P : Flat.Stmt → Type 0) → ((t : Site) → Fine p t → AtSite P p.mems t) → Each P (flat p).stmts

@@ -13,11 +13,12 @@ use Rattle.pdl_rules.specs.Parts.{is_some_and, location_of, some_expr_of, some_p
 use Rattle.pdl_rules.specs.Names.{OfMemory, OfVariable, defines_use, is_undefined, in_location, in_verify, reads_some}
 use Rattle.pdl_rules.specs.Stages.{first_stage, is_elsewhere, stage_of, stage_in}
 use Rattle.pdl_rules.specs.Refusal.{KeepsRules}
-use Rattle.pdl_stagefacts.proofs.Sites.{Site, branch, sites_in, sites, sites_of, front_of, place_of, places_in, places_all, All, owns, stmts_are, closing}
+use Rattle.pdl_stagefacts.proofs.Sites.{Site, branch, sites_in, sites, sites_of, front_of, place_of, places_in, places_all, All, owns, stmts_are}
 use Rattle.pdl_stagefacts.proofs.Standing.{all_map}
 use Rattle.pdl_stagefacts.proofs.Staged.{Staged}
 use Rattle.pdl_stagefacts.proofs.Fine.{Fine, all_fine, op_of, rows_of, own_is, from_op}
 use Rattle.pdl_word.proofs.Bytes.{bytes_same, bytes_swap}
+use Rattle.pdl_rules.proofs.EachPlace.{closing}
 
 -- FRONTS
 

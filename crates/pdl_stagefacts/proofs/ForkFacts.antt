@@ -14,16 +14,19 @@ use Rattle.pdl_rules.specs.Parts.{is_some_and}
 use Rattle.pdl_rules.specs.Limits.{is_separator}
 use Rattle.pdl_rules.specs.Names.{OfVariable, defines_use, name_at, is_undefined, is_parameter, is_delayed, is_given, is_too_early}
 use Rattle.pdl_rules.specs.Refusal.{KeepsRules}
-use Rattle.pdl_facts.specs.Scans.{none_of, binds_var, from}
+use Rattle.pdl_facts.specs.Scans.{none_of, binds_var}
 use Rattle.pdl_facts.specs.Facts.{is_fetch_of}
-use Rattle.pdl_stagefacts.proofs.Sites.{Site, sites_of, front_of, place_of, All, closing}
+use Rattle.pdl_stagefacts.proofs.Sites.{Site, sites_of, front_of, place_of, All}
 use Rattle.pdl_stagefacts.proofs.Walks.{cut, cut_append, names, names_at, names_by, names_append, told_past_all, at_front}
 use Rattle.pdl_stagefacts.proofs.Formed.{body_forked, body_groups}
 use Rattle.pdl_stagefacts.proofs.Standing.{all_both}
-use Rattle.pdl_stagefacts.proofs.Fine.{Fine, all_fine, AtSite, Each, each_stmt, each_in_stage, none_each, op_of, from_op}
+use Rattle.pdl_stagefacts.proofs.Fine.{Fine, all_fine, AtSite, each_stmt, each_in_stage, none_each, op_of, from_op}
 use Rattle.pdl_stagefacts.proofs.Forking.{ForkSite, pick, fork_sites, fork_var, Order, Before, Same, After, order}
 use Rattle.pdl_stagefacts.proofs.ForkVars
 use Rattle.pdl_word.proofs.Bytes.{bytes_same, bytes_refl}
+use Rattle.pdl_semantics.specs.Sound.{stages_from}
+use Rattle.pdl_rules.proofs.EachPlace.{closing}
+use Rattle.pdl_word.specs.Each.{Each}
 
 -- a fine site, in a stage that has begun, after the parameters and memories
 abbrev Deep : Pipe → Site → Type 0
@@ -172,7 +175,7 @@ module _ (p : Pipe) (rules : KeepsRules p) where
         each_of ts h.1,
       )
 
-  pub fork_bound : (s x a b : ℕ) → (stage_at (flat p) s).next ≡ Flat.Forks x a b → none_of (binds_var x) (from (suc s) (flat p).stmts) ≡ true
+  pub fork_bound : (s x a b : ℕ) → (stage_at (flat p) s).next ≡ Flat.Forks x a b → none_of (binds_var x) (stages_from (suc s) (flat p).stmts) ≡ true
   fork_bound s x a b e = ForkVars.none_from (binds_var x) (suc s) (flat p).stmts (bound_by s x a b e)
 
   -- a delayed read before the fork that binds its variable has a separator after it

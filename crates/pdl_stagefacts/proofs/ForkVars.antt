@@ -13,12 +13,14 @@ use Rattle.pdl_rules.specs.Parts.{is_some_and}
 use Rattle.pdl_rules.specs.Limits.{is_separator}
 use Rattle.pdl_rules.specs.Names.{Use, OfVariable, defines_use, name_at, is_taken_name, is_delayed, is_given}
 use Rattle.pdl_rules.specs.Refusal.{KeepsRules}
-use Rattle.pdl_facts.specs.Scans.{none_of, binds_var, from}
+use Rattle.pdl_facts.specs.Scans.{none_of, binds_var}
 use Rattle.pdl_stagefacts.proofs.Sites.{branch, sites_of, front_of, All}
 use Rattle.pdl_stagefacts.proofs.Walks.{holds_all, guard_begun, guard_stage, past_begun, past_all_begun, cut, cut_append, names, names_at, told}
-use Rattle.pdl_stagefacts.proofs.Fine.{Each, op_of, from_op}
+use Rattle.pdl_stagefacts.proofs.Fine.{op_of, from_op}
 use Rattle.pdl_word.proofs.Bytes.{bytes_same, bytes_swap}
 use Rattle.pdl_word.proofs.Lists.{some_filtered}
+use Rattle.pdl_semantics.specs.Sound.{stages_from}
+use Rattle.pdl_word.specs.Each.{Each}
 
 -- STAGES AND FRONTS
 
@@ -110,7 +112,7 @@ bound_last ms vs (Reserve sp l R) x e = absurd (false≢true e)
 bound_last ms vs (Reserve sp l W) x e = absurd (false≢true e)
 bound_last ms vs _ x e = absurd (false≢true e)
 
-pub none_from : (test : Flat.Op → Bool) (s : ℕ) (ys : List Flat.Stmt) → Each (λ y. test y.op ≡ true → y.stage < s) ys → none_of test (from s ys) ≡ true
+pub none_from : (test : Flat.Op → Bool) (s : ℕ) (ys : List Flat.Stmt) → Each (λ y. test y.op ≡ true → y.stage < s) ys → none_of test (stages_from s ys) ≡ true
 none_from test s [] h = refl
 none_from test s (y ∷ ys) h = at (nat_le s y.stage) refl (none_from test s ys h.1)
   where
@@ -118,8 +120,8 @@ none_from test s (y ∷ ys) h = at (nat_le s y.stage) refl (none_from test s ys 
     here true e l = absurd (let k = h.0 e in omega arith)
     here false e l = refl
 
-    at : (b : Bool) → nat_le s y.stage ≡ b → none_of test (from s ys) ≡ true → none_of test (if b then y ∷ from s ys else from s ys) ≡ true
-    at true e k = and_from (not (test y.op)) (none_of test (from s ys)) (here (test y.op) refl (leb-true s y.stage e)) k
+    at : (b : Bool) → nat_le s y.stage ≡ b → none_of test (stages_from s ys) ≡ true → none_of test (if b then y ∷ stages_from s ys else stages_from s ys) ≡ true
+    at true e k = and_from (not (test y.op)) (none_of test (stages_from s ys)) (here (test y.op) refl (leb-true s y.stage e)) k
     at false e k = k
 
 -- PATHS AND DEFINITIONS

@@ -4,14 +4,15 @@ use Rattle.std.proofs.Math.Seq.{drop-append_seam}
 use Rattle.std.proofs.lemmas.Bool.{false≢true, and_from, or_parts, not-false}
 use Rattle.pdl_kit.specs.declared.rule.Rule.TheVariants.{F2}
 use Rattle.pdl_semantics.specs.Tree.{Span, Expr, Stmt, Separator, If, Stmts, Nil, Cons, Mem, Pipe}
-use Rattle.pdl_semantics.specs.Flatten.{past, guard_of, separators, at_start, flat, stages_of}
+use Rattle.pdl_semantics.specs.Flatten.{past, guard_of, separators, at_start, flat}
 use Rattle.pdl_semantics.specs.Flatten
 use Rattle.pdl_rules.specs.Places.{Place, Statement, Branch, with_inner, statements, places, places_after}
 use Rattle.pdl_rules.specs.Forks.{holds_separator, is_fork, places_in, starts_with_separator}
 use Rattle.pdl_rules.specs.Refusal.{KeepsRules}
-use Rattle.pdl_stagefacts.proofs.Sites.{branch, front_of, closing}
+use Rattle.pdl_stagefacts.proofs.Sites.{branch, front_of}
 use Rattle.pdl_stagefacts.proofs.Shapes.{is_whole, is_plain, begins_stage, fork_fits, is_forked, Shape, Cut, Fork, shape, stage, leads_on, after, graph_trunk}
 use Rattle.pdl_stagefacts.proofs.Spots.{Proper, Groups, groups, Spot, spot}
+use Rattle.pdl_rules.proofs.EachPlace.{closing}
 
 -- how many places stand in some statements is told by no branch
 mutual

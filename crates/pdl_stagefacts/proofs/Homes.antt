@@ -15,16 +15,20 @@ use Rattle.pdl_rules.specs.Stages.{reserves_memory, releases_memory, is_elsewher
 use Rattle.pdl_rules.specs.Speculation
 use Rattle.pdl_rules.specs.Forks.{breaks_fetch_order, is_delayed_memory}
 use Rattle.pdl_rules.specs.Refusal.{KeepsRules}
-use Rattle.pdl_facts.specs.Scans.{none_of, all_at, is_fetch}
+use Rattle.pdl_facts.specs.Scans.{none_of, all_at}
 use Rattle.pdl_facts.specs.Facts.{is_exact}
-use Rattle.pdl_stagefacts.proofs.Sites.{Site, sites_of, place_of, All, front_of, closing}
+use Rattle.pdl_stagefacts.proofs.Sites.{Site, sites_of, place_of, All, front_of}
 use Rattle.pdl_stagefacts.proofs.Walks.{cut, cut_append, cut_all, at_front}
 use Rattle.pdl_stagefacts.proofs.Formed.{body_forked}
 use Rattle.pdl_stagefacts.proofs.Standing.{all_both}
-use Rattle.pdl_stagefacts.proofs.Fine.{Fine, all_fine, AtSite, Each, each_stmt, each_fine, each_map, each_in_stage, all_at_each, none_each, op_of, from_op, stage_count}
+use Rattle.pdl_stagefacts.proofs.Fine.{Fine, all_fine, AtSite, each_stmt, each_fine, each_in_stage, all_at_each, none_each, op_of, from_op, stage_count}
 use Rattle.pdl_stagefacts.proofs.Trunks.{first_index, first_past, verify_first}
 use Rattle.pdl_stagefacts.proofs.Firsts.{Alike, one_stage, none_elsewhere, is_known, known_low, known_one, located}
 use Rattle.pdl_word.proofs.Bytes.{bytes_same, bytes_refl}
+use Rattle.pdl_semantics.specs.Sound.{is_fetch}
+use Rattle.pdl_rules.proofs.EachPlace.{closing}
+use Rattle.pdl_word.specs.Each.{Each}
+use Rattle.pdl_word.proofs.Each.{each_weaker}
 
 -- ALL OF A KIND
 
@@ -154,13 +158,13 @@ module _ (p : Pipe) (rules : KeepsRules p) where
   pub reserves_in : (m : ℕ) → all_at (is_reserve m) (reserve_stage (flat p) m) (flat p).stmts ≡ true
   reserves_in m =
       all_at_each (is_reserve m) (reserve_stage (flat p) m) (flat p).stmts
-      (each_map (λ y. (i : ℕ) → is_reserve i y.op ≡ true → (i < length p.mems) × (Some y.stage ≡ Flatten.first_stage (is_reserve i) (flat p).stmts)) (λ y. is_reserve m y.op ≡ true → y.stage ≡ reserve_stage (flat p) m)
+      (each_weaker (λ y. (i : ℕ) → is_reserve i y.op ≡ true → (i < length p.mems) × (Some y.stage ≡ Flatten.first_stage (is_reserve i) (flat p).stmts)) (λ y. is_reserve m y.op ≡ true → y.stage ≡ reserve_stage (flat p) m)
       (λ y h e. let r = h m e in stage_or is_reserve 0 m y.stage r.0 r.1) (flat p).stmts each_reserve)
 
   pub releases_in : (m : ℕ) → all_at (is_release m) (commit_stage (flat p) m) (flat p).stmts ≡ true
   releases_in m =
       all_at_each (is_release m) (commit_stage (flat p) m) (flat p).stmts
-      (each_map (λ y. (i : ℕ) → is_release i y.op ≡ true → (i < length p.mems) × (Some y.stage ≡ Flatten.first_stage (is_release i) (flat p).stmts)) (λ y. is_release m y.op ≡ true → y.stage ≡ commit_stage (flat p) m)
+      (each_weaker (λ y. (i : ℕ) → is_release i y.op ≡ true → (i < length p.mems) × (Some y.stage ≡ Flatten.first_stage (is_release i) (flat p).stmts)) (λ y. is_release m y.op ≡ true → y.stage ≡ commit_stage (flat p) m)
       (λ y h e. let r = h m e in stage_or is_release (length (flat p).stages) m y.stage r.0 r.1) (flat p).stmts each_release)
 
   mems_long : (ms : List Mem) → length (mems_of ms) ≡ length ms
@@ -171,7 +175,7 @@ module _ (p : Pipe) (rules : KeepsRules p) where
   pub unreserved : (m : ℕ) → length (flat p).mems ≤ m → none_of (is_reserve m) (flat p).stmts ≡ true
   unreserved m l =
       none_each (is_reserve m) (flat p).stmts
-      (each_map (λ y. (i : ℕ) → is_reserve i y.op ≡ true → (i < length p.mems) × (Some y.stage ≡ Flatten.first_stage (is_reserve i) (flat p).stmts)) (λ y. is_reserve m y.op ≡ false) at (flat p).stmts each_reserve)
+      (each_weaker (λ y. (i : ℕ) → is_reserve i y.op ≡ true → (i < length p.mems) × (Some y.stage ≡ Flatten.first_stage (is_reserve i) (flat p).stmts)) (λ y. is_reserve m y.op ≡ false) at (flat p).stmts each_reserve)
     where
       at : (y : Flat.Stmt) → ((i : ℕ) → is_reserve i y.op ≡ true → (i < length p.mems) × (Some y.stage ≡ Flatten.first_stage (is_reserve i) (flat p).stmts)) → is_reserve m y.op ≡ false
       at y h = by (is_reserve m y.op) refl
@@ -218,7 +222,7 @@ module _ (p : Pipe) (rules : KeepsRules p) where
   pub verifies_in : (v : ℕ) → verify_stage (flat p).stmts ≡ Some v → all_at is_verify v (flat p).stmts ≡ true
   verifies_in v e =
       all_at_each is_verify v (flat p).stmts
-      (each_map (λ y. is_verify y.op ≡ true → Some y.stage ≡ Flatten.first_stage is_verify (flat p).stmts) (λ y. is_verify y.op ≡ true → y.stage ≡ v)
+      (each_weaker (λ y. is_verify y.op ≡ true → Some y.stage ≡ Flatten.first_stage is_verify (flat p).stmts) (λ y. is_verify y.op ≡ true → y.stage ≡ v)
       (λ y h f. ap (λ o. unwrap_or o 0) (h f ∙ sym (verify_first (flat p).stmts) ∙ e)) (flat p).stmts each_verify)
 
   -- DELAYED READS
@@ -268,7 +272,7 @@ module _ (p : Pipe) (rules : KeepsRules p) where
 
   pub fetch_here : Each (λ y. (x m a : ℕ) → y.op ≡ Flat.DelayedRead x m a → (fetch_at m ≡ y.stage) × (m < length (flat p).mems)) (flat p).stmts
   fetch_here =
-      each_map (λ y. (m : ℕ) → is_fetch_of m y.op ≡ true → (m < length p.mems) × (Some y.stage ≡ Flatten.first_stage (is_fetch_of m) (flat p).stmts)) (λ y. (x m a : ℕ) → y.op ≡ Flat.DelayedRead x m a → (fetch_at m ≡ y.stage) × (m < length (flat p).mems))
+      each_weaker (λ y. (m : ℕ) → is_fetch_of m y.op ≡ true → (m < length p.mems) × (Some y.stage ≡ Flatten.first_stage (is_fetch_of m) (flat p).stmts)) (λ y. (x m a : ℕ) → y.op ≡ Flat.DelayedRead x m a → (fetch_at m ≡ y.stage) × (m < length (flat p).mems))
       (λ y h x m a e.
       let r = h m (ap (is_fetch_of m) e ∙ eq-eqb m m refl) in
       (ap (λ o. unwrap_or o 0) (sym r.1), subst (λ n. m < n) (sym (mems_long p.mems)) r.0))
@@ -306,7 +310,7 @@ module _ (p : Pipe) (rules : KeepsRules p) where
   pub fetch_inside : (s : ℕ) → suc s ≡ length (flat p).stages → none_of is_fetch (in_stage s (flat p).stmts) ≡ true
   fetch_inside s e =
       none_each is_fetch (in_stage s (flat p).stmts)
-      (each_in_stage (λ y. is_fetch y.op ≡ false) s (flat p).stmts (each_map (λ y. is_fetch y.op ≡ true → suc y.stage ≡ length (flat p).stages → ⊥) (λ y. y.stage ≡ s → is_fetch y.op ≡ false) at (flat p).stmts each_last))
+      (each_in_stage (λ y. is_fetch y.op ≡ false) s (flat p).stmts (each_weaker (λ y. is_fetch y.op ≡ true → suc y.stage ≡ length (flat p).stages → ⊥) (λ y. y.stage ≡ s → is_fetch y.op ≡ false) at (flat p).stmts each_last))
     where
       at : (y : Flat.Stmt) → (is_fetch y.op ≡ true → suc y.stage ≡ length (flat p).stages → ⊥) → y.stage ≡ s → is_fetch y.op ≡ false
       at y h f = by (is_fetch y.op) refl

@@ -2,9 +2,10 @@
 use Rattle.std.proofs.Common.{◌≡◌, refl, sym, ap, ap₂, ◌∙◌, Bool, true, false, List, [], ◌∷◌, ◌++◌, map, append_assoc, append-nil}
 use Rattle.pdl_semantics.specs.Tree.{Span, Expr, Stmt, If, Stmts, Nil, Cons, Mem, Pipe}
 use Rattle.pdl_semantics.specs.Flat
-use Rattle.pdl_semantics.specs.Flatten.{with_guard, past, past_all, at_otherwise, binds_guard, under, flat_stmt, flat_stmts, at_start}
+use Rattle.pdl_semantics.specs.Flatten.{with_guard, past, at_otherwise, binds_guard, under, flat_stmt, flat_stmts, at_start}
 use Rattle.pdl_semantics.specs.Flatten
-use Rattle.pdl_rules.specs.Places.{Place, Parameter, Memory, Statement, End, StartClause, Branch, guard_of, with_inner, statements, places}
+use Rattle.pdl_rules.specs.Places.{Place, Parameter, Memory, Statement, Branch, guard_of, with_inner, statements, places}
+use Rattle.pdl_rules.proofs.EachPlace.{closing}
 
 -- a statement, the places before it, where the walk of the flat form is, the guards of its flat statements, and its branches
 pub record Site : Type 0 where
@@ -142,9 +143,6 @@ mutual
       (e ∙ ap (λ l. front ++ l) (append_assoc (with_inner bs s) (statements bs ss) tail) ∙ sym (append_assoc front (with_inner bs s) (statements bs ss ++ tail))))
 
 -- THE WHOLE
-
-abbrev pub closing : Pipe → List Place
-closing p = End p.end ∷ StartClause p.start ∷ []
 
 -- each site of a source stands in it
 pub all_stand : (p : Pipe) → All (Stands (places p)) (sites_of p)

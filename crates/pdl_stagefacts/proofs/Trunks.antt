@@ -20,7 +20,9 @@ use Rattle.pdl_stagefacts.proofs.Spots.{merge_at, start, long, Groups, group_tru
 use Rattle.pdl_stagefacts.proofs.Ways.{Way, Ends, Steps, Enters, Skips, Stays, Leaves, way, start_low, start_high, graph_of, branches_of}
 use Rattle.pdl_stagefacts.proofs.Formed.{body_forked, body_shape, body_groups, spots}
 use Rattle.pdl_stagefacts.proofs.Standing.{Standing, OnTrunk, OnBranch, HasGuard, in_fork}
-use Rattle.pdl_stagefacts.proofs.Fine.{Fine, Each, each_fine, each_map, each_in_stage, none_each, op_of, op_trunk_only}
+use Rattle.pdl_stagefacts.proofs.Fine.{Fine, each_fine, each_in_stage, none_each, op_of, op_trunk_only}
+use Rattle.pdl_word.specs.Each.{Each}
+use Rattle.pdl_word.proofs.Each.{each_weaker}
 
 -- MERGES
 
@@ -180,7 +182,7 @@ module _ (p : Pipe) (rules : KeepsRules p) where
   pub trunk_holds : (s : ℕ) (c : Flat.Branch) → In (flat p) c s → none_of trunk_only (in_stage s (flat p).stmts) ≡ true
   trunk_holds s c i =
       none_each trunk_only (in_stage s (flat p).stmts)
-      (each_in_stage (λ y. trunk_only y.op ≡ false) s (flat p).stmts (each_map (λ y. trunk_only y.op ≡ true → Trunk (flat p) y.stage) (λ y. y.stage ≡ s → trunk_only y.op ≡ false) at (flat p).stmts each_trunk))
+      (each_in_stage (λ y. trunk_only y.op ≡ false) s (flat p).stmts (each_weaker (λ y. trunk_only y.op ≡ true → Trunk (flat p) y.stage) (λ y. y.stage ≡ s → trunk_only y.op ≡ false) at (flat p).stmts each_trunk))
     where
       at : (y : Flat.Stmt) → (trunk_only y.op ≡ true → Trunk (flat p) y.stage) → y.stage ≡ s → trunk_only y.op ≡ false
       at y h e = by (trunk_only y.op) refl
@@ -193,7 +195,7 @@ module _ (p : Pipe) (rules : KeepsRules p) where
   first_trunk : (test : Flat.Op → Bool) → ((op : Flat.Op) → test op ≡ true → trunk_only op ≡ true) → (s : ℕ) → first_stage test (flat p).stmts ≡ Some s → Trunk (flat p) s
   first_trunk test f s e =
       first_good (Trunk (flat p)) test (flat p).stmts s
-      (each_map (λ y. trunk_only y.op ≡ true → Trunk (flat p) y.stage) (λ y. test y.op ≡ true → Trunk (flat p) y.stage) (λ y h k. h (f y.op k)) (flat p).stmts each_trunk) e
+      (each_weaker (λ y. trunk_only y.op ≡ true → Trunk (flat p) y.stage) (λ y. test y.op ≡ true → Trunk (flat p) y.stage) (λ y h k. h (f y.op k)) (flat p).stmts each_trunk) e
 
   some_stage : 0 < length (flat p).stages
   some_stage = group_inside (flat p) 0 None (body_shape p) (body_groups p (body_forked p rules))
@@ -230,7 +232,7 @@ module _ (p : Pipe) (rules : KeepsRules p) where
   pub verify_low : (v : ℕ) → verify_stage (flat p).stmts ≡ Some v → v < length (flat p).stages
   verify_low v e =
       first_good (λ n. n < length (flat p).stages) is_verify (flat p).stmts v
-      (each_map (λ y. y.stage < length (flat p).stages) (λ y. is_verify y.op ≡ true → y.stage < length (flat p).stages) (λ y h k. h) (flat p).stmts each_inside)
+      (each_weaker (λ y. y.stage < length (flat p).stages) (λ y. is_verify y.op ≡ true → y.stage < length (flat p).stages) (λ y h k. h) (flat p).stmts each_inside)
       (sym (verify_first (flat p).stmts) ∙ e)
 
   -- a stage inside a fork
@@ -310,7 +312,7 @@ module _ (p : Pipe) (rules : KeepsRules p) where
       far n f x a b first k e l m u v none =
           ap (λ i. before i (onpath path (flat p).stmts)) e
           ∙ before_same path (suc s) n (flat p).stmts m
-          (each_map (λ y. all_hold y.guards path ≡ true → (c : Flat.Branch) → In (flat p) c y.stage → goes_by (flat p) c path ≡ true) (λ y. all_hold y.guards path ≡ true → suc s ≤ y.stage → y.stage < n → ⊥) by (flat p).stmts (each_side path))
+          (each_weaker (λ y. all_hold y.guards path ≡ true → (c : Flat.Branch) → In (flat p) c y.stage → goes_by (flat p) c path ≡ true) (λ y. all_hold y.guards path ≡ true → suc s ≤ y.stage → y.stage < n → ⊥) by (flat p).stmts (each_side path))
         where
           by : (y : Flat.Stmt) → (all_hold y.guards path ≡ true → (c : Flat.Branch) → In (flat p) c y.stage → goes_by (flat p) c path ≡ true) → all_hold y.guards path ≡ true → suc s ≤ y.stage → y.stage < n → ⊥
           by y h t q r =

@@ -4,9 +4,10 @@ use Rattle.pdl_semantics.specs.Flat.{list_all, Op, DelayedRead, Stmt, Branch, Fo
 use Rattle.pdl_semantics.specs.Stages.{is_inside, is_reserve, is_release, is_verify, onpath, in_stage, stage_at, verify_stage, commit_stage, reserve_stage}
 use Rattle.pdl_semantics.specs.Cycle.{merges_by}
 use Rattle.pdl_derived.specs.Alone.{before}
-use Rattle.pdl_facts.specs.Scans.{from, none_of, all_at, binds_var, is_fetch}
+use Rattle.pdl_facts.specs.Scans.{none_of, all_at, binds_var}
 use Rattle.pdl_facts.specs.Graphs.{next_of, Graph, In, Branches}
 use Rattle.pdl_facts.specs.Facts.{trunk_only, is_fetch_of, visits_stage, Found}
+use Rattle.pdl_semantics.specs.Sound.{stages_from, is_fetch}
 
 -- what is known of the delayed reads of stage s
 abbrev pub FoundIf : Pipe → (ℕ → ℕ) → ℕ → Op → Type 0
@@ -39,7 +40,7 @@ pub record StageFacts (p : Pipe) : Type 0 where
   -- a path has no statement in the stages that it passes over
   pub skips : (path : List ℕ) (s : ℕ) → s < length p.stages → visits_stage p path s ≡ true → before (next_of p s path) (onpath path p.stmts) ≡ before (suc s) (onpath path p.stmts)
   -- N2, N3: a fork's variable is bound before its stage ends, and read at once
-  pub fork_bound : (s x a b : ℕ) → (stage_at p s).next ≡ Forks x a b → none_of (binds_var x) (from (suc s) p.stmts) ≡ true
+  pub fork_bound : (s x a b : ℕ) → (stage_at p s).next ≡ Forks x a b → none_of (binds_var x) (stages_from (suc s) p.stmts) ≡ true
   pub fork_known : (s x a b : ℕ) → (stage_at p s).next ≡ Forks x a b → x < p.vars
   pub fork_seen : (s x a b : ℕ) → (stage_at p s).next ≡ Forks x a b → none_of (is_fetch_of x) (in_stage s p.stmts) ≡ true
   -- F3, F4, N1, Z7: delayed reads, none of them in the last stage

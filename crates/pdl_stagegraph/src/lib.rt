@@ -1,4 +1,6 @@
 //! The stages of a pipe: where each leads, its forks, the stage of each place, and the greatest number of stages on a path.
+//!
+//! The layers above may use `stage_graph`, and read a `StageGraph` by its calls.
 #![tactic(auto)]
 
 pub mod depth;

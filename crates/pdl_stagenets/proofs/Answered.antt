@@ -18,12 +18,14 @@ use Rattle.pdl_stagenets.specs.declared.nets.PutNet.{PutNet}
 use Rattle.pdl_stagenets.specs.declared.nets.LettingNet.{LettingNet}
 use Rattle.pdl_stagenets.specs.declared.nets.BirthNet.{BirthNet}
 use Rattle.pdl_stagenets.specs.declared.nets.WalkNets.{WalkNets}
-use Rattle.pdl_stagenets.specs.Parts.{Each, Parts, held_of, reservation_in, letting_in, parts_in, IsThereWalk}
+use Rattle.pdl_stagenets.specs.Parts.{Parts, held_of, reservation_in, letting_in, parts_in, IsThereWalk}
 use Rattle.pdl_stagenets.specs.Sized.{IsSized, IsWalk}
 use Rattle.pdl_stagenets.specs.Steps.{with_var, with_put, with_held, with_reserve, with_call}
-use Rattle.pdl_stagenets.proofs.Lists.{each_more, there_set}
+use Rattle.pdl_stagenets.proofs.Lists.{there_set}
 use Rattle.pdl_stagenets.proofs.Kept.{there_walk}
 use Rattle.pdl_stagenets.proofs.Updates.{vars_parts, ready_parts, held_parts, reserve_parts, put_parts, letting_parts, birth_parts, sized_var, sized_ready, sized_held, sized_put, sized_reserve, sized_letting, sized_call}
+use Rattle.pdl_word.specs.Each.{Each}
+use Rattle.pdl_word.proofs.Each.{each_push}
 
 -- a part of what an equal value has
 as_sized : (p : Pipe) (ws : List ℕ) (q r : Parts) → q ≡ r → IsSized p ws r → IsSized p ws q
@@ -90,19 +92,19 @@ module _ (a b : Circuit) (e : Extends a b) (p : Pipe) (ws : List ℕ) (w : WalkN
 module _ (b : Circuit) (p : Pipe) (ws : List ℕ) (w : WalkNets) (h : IsWalk b p ws w) where
   pub put_walk : (m : ℕ) (on value : Net) → IsThere b on → IsThere b value → m < length p.mems → (signal b on).width ≡ 1 → (signal b value).width ≡ (mem_at p m).width → IsWalk b p ws (record w { puts = w.puts ++ record { mem = m; on = on; value = value } ∷ [] })
   put_walk m on value t u l o k = let n : PutNet = record { mem = m; on = on; value = value } in let s = h.there in record {
-    there = record { vars = s.vars; held = s.held; ready = s.ready; reserves = s.reserves; lettings = s.lettings; births = s.births; guess = s.guess; puts = each_more (λ (y : PutNet). IsThere b y.on × IsThere b y.value) w.puts n s.puts (t, u) };
+    there = record { vars = s.vars; held = s.held; ready = s.ready; reserves = s.reserves; lettings = s.lettings; births = s.births; guess = s.guess; puts = each_push (λ (y : PutNet). IsThere b y.on × IsThere b y.value) w.puts n s.puts (t, u) };
     sized = as_sized p ws (parts_in b (record w { puts = w.puts ++ n ∷ [] })) (with_put m (signal b on) (signal b value) (parts_in b w)) (put_parts b w n) (sized_put p ws (parts_in b w) h.sized m (signal b on) (signal b value) l o k);
   }
 
   pub reserve_walk : (m : ℕ) (on addr : Net) → IsThere b on → IsThere b addr → m < length p.mems → (signal b on).width ≡ 1 → 2 ^ (signal b addr).width ≡ (mem_at p m).depth → IsWalk b p ws (record w { reserves = w.reserves ++ record { mem = m; on = on; addr = addr } ∷ [] })
   reserve_walk m on addr t u l o k = let n : ReserveNet = record { mem = m; on = on; addr = addr } in let s = h.there in record {
-    there = record { vars = s.vars; held = s.held; ready = s.ready; puts = s.puts; lettings = s.lettings; births = s.births; guess = s.guess; reserves = each_more (λ (y : ReserveNet). IsThere b y.on × IsThere b y.addr) w.reserves n s.reserves (t, u) };
+    there = record { vars = s.vars; held = s.held; ready = s.ready; puts = s.puts; lettings = s.lettings; births = s.births; guess = s.guess; reserves = each_push (λ (y : ReserveNet). IsThere b y.on × IsThere b y.addr) w.reserves n s.reserves (t, u) };
     sized = as_sized p ws (parts_in b (record w { reserves = w.reserves ++ n ∷ [] })) (record (parts_in b w) { reserves = (parts_in b w).reserves ++ reservation_in b n ∷ [] }) (reserve_parts b w n) (sized_reserve p ws (parts_in b w) h.sized m (signal b on) (signal b addr) l o k);
   }
 
   pub letting_walk : (m : ℕ) (on : Net) → IsThere b on → (signal b on).width ≡ 1 → IsWalk b p ws (record w { lettings = w.lettings ++ record { mem = m; on = on } ∷ [] })
   letting_walk m on t o = let n : LettingNet = record { mem = m; on = on } in let s = h.there in record {
-    there = record { vars = s.vars; held = s.held; ready = s.ready; reserves = s.reserves; puts = s.puts; births = s.births; guess = s.guess; lettings = each_more (λ (y : LettingNet). IsThere b y.on) w.lettings n s.lettings t };
+    there = record { vars = s.vars; held = s.held; ready = s.ready; reserves = s.reserves; puts = s.puts; births = s.births; guess = s.guess; lettings = each_push (λ (y : LettingNet). IsThere b y.on) w.lettings n s.lettings t };
     sized = as_sized p ws (parts_in b (record w { lettings = w.lettings ++ n ∷ [] })) (record (parts_in b w) { lettings = (parts_in b w).lettings ++ letting_in b n ∷ [] }) (letting_parts b w n) (sized_letting p ws (parts_in b w) h.sized m (signal b on) o);
   }
 

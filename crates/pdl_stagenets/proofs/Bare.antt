@@ -16,9 +16,10 @@ use Rattle.pdl_stagenets.specs.declared.nets.PutNet.{PutNet}
 use Rattle.pdl_stagenets.specs.declared.nets.LettingNet.{LettingNet}
 use Rattle.pdl_stagenets.specs.declared.nets.BirthNet.{BirthNet}
 use Rattle.pdl_stagenets.specs.declared.nets.WalkNets.{WalkNets}
-use Rattle.pdl_stagenets.specs.Parts.{Each, Held, held_in, reservation_in, put_in, letting_in, birth_in}
+use Rattle.pdl_stagenets.specs.Parts.{Held, held_in, reservation_in, put_in, letting_in, birth_in}
 use Rattle.pdl_stagenets.specs.Locked.{Members, AreLocked, AreTickets}
 use Rattle.pdl_stagenets.specs.Sized.{IsSizedReserve, IsSizedPut, IsSizedBirth, IsWalk, AreWalked}
+use Rattle.pdl_word.specs.Each.{Each}
 
 -- a call without arguments
 pub call_walked : (f : Form) (k : ℕ) (xs : List Stmt) → xs ≡ record { stage = k; guards = []; op = Call [] } ∷ [] → f.pipe.start ≡ [] → AreWalked f xs

@@ -17,10 +17,12 @@ use Rattle.pdl_stagenets.specs.declared.nets.PutNet.{PutNet}
 use Rattle.pdl_stagenets.specs.declared.nets.LettingNet.{LettingNet}
 use Rattle.pdl_stagenets.specs.declared.nets.BirthNet.{BirthNet}
 use Rattle.pdl_stagenets.specs.declared.nets.WalkNets.{WalkNets}
-use Rattle.pdl_stagenets.specs.Parts.{Each, Held, Parts, held_of, held_in, reservation_in, put_in, letting_in, birth_in, parts_in, IsThereWalk}
+use Rattle.pdl_stagenets.specs.Parts.{Held, Parts, held_of, held_in, reservation_in, put_in, letting_in, birth_in, parts_in, IsThereWalk}
 use Rattle.pdl_stagenets.specs.Finding.{held_net}
 use Rattle.pdl_stagenets.specs.Sized.{IsSized, IsWalk}
-use Rattle.pdl_stagenets.proofs.Lists.{each_map, map_each}
+use Rattle.pdl_stagenets.proofs.Lists.{map_each}
+use Rattle.pdl_word.specs.Each.{Each}
+use Rattle.pdl_word.proofs.Each.{each_weaker}
 
 pub bits_keep : (a b : Circuit) (x : Bits) → Keeps a b → AreBits a x → AreBits b x
 bits_keep a b x e t = record {
@@ -51,12 +53,12 @@ module _ (a b : Circuit) (e : Keeps a b) where
   pub there_walk : (w : WalkNets) → IsThereWalk a w → IsThereWalk b w
   there_walk w t = record {
     vars = there_keeps a b w.vars.items e t.vars;
-    held = each_map (λ (h : HeldNet). IsThere a h.net) (λ h. IsThere b h.net) (λ h k. e.there h.net k) w.held.items t.held;
+    held = each_weaker (λ (h : HeldNet). IsThere a h.net) (λ h. IsThere b h.net) (λ h k. e.there h.net k) w.held.items t.held;
     ready = e.there w.ready t.ready;
-    reserves = each_map (λ (r : ReserveNet). IsThere a r.on × IsThere a r.addr) (λ r. IsThere b r.on × IsThere b r.addr) (λ r k. (e.there r.on k.0, e.there r.addr k.1)) w.reserves t.reserves;
-    puts = each_map (λ (x : PutNet). IsThere a x.on × IsThere a x.value) (λ x. IsThere b x.on × IsThere b x.value) (λ x k. (e.there x.on k.0, e.there x.value k.1)) w.puts t.puts;
-    lettings = each_map (λ (x : LettingNet). IsThere a x.on) (λ x. IsThere b x.on) (λ x k. e.there x.on k) w.lettings t.lettings;
-    births = each_map (λ (x : BirthNet). IsThere a x.on × NetsThere a x.args) (λ x. IsThere b x.on × NetsThere b x.args) (λ x k. (e.there x.on k.0, there_keeps a b x.args e k.1)) w.births.items t.births;
+    reserves = each_weaker (λ (r : ReserveNet). IsThere a r.on × IsThere a r.addr) (λ r. IsThere b r.on × IsThere b r.addr) (λ r k. (e.there r.on k.0, e.there r.addr k.1)) w.reserves t.reserves;
+    puts = each_weaker (λ (x : PutNet). IsThere a x.on × IsThere a x.value) (λ x. IsThere b x.on × IsThere b x.value) (λ x k. (e.there x.on k.0, e.there x.value k.1)) w.puts t.puts;
+    lettings = each_weaker (λ (x : LettingNet). IsThere a x.on) (λ x. IsThere b x.on) (λ x k. e.there x.on k) w.lettings t.lettings;
+    births = each_weaker (λ (x : BirthNet). IsThere a x.on × NetsThere a x.args) (λ x. IsThere b x.on × NetsThere b x.args) (λ x k. (e.there x.on k.0, there_keeps a b x.args e k.1)) w.births.items t.births;
     guess = there_keeps a b w.guess e t.guess;
   }
 

@@ -10,15 +10,7 @@ use Rattle.pdl_net.specs.Circuit.{Circuit}
 use Rattle.pdl_net.specs.Signal.{Signal, no_signal}
 use Rattle.pdl_net.specs.Meaning.{IsThere}
 use Rattle.pdl_flatnets.specs.Nets.{NetsThere, signal_at, widths_of}
-use Rattle.pdl_stagenets.specs.Parts.{Each}
-
-pub each_map : {X : Type 0} (P Q : X → Type 0) → ((x : X) → P x → Q x) → (xs : List X) → Each P xs → Each Q xs
-each_map P Q f [] h = tt
-each_map P Q f (x ∷ xs) h = (f x h.0, each_map P Q f xs h.1)
-
-pub each_more : {X : Type 0} (P : X → Type 0) (xs : List X) (x : X) → Each P xs → P x → Each P (xs ++ x ∷ [])
-each_more P [] x h k = (k, tt)
-each_more P (y ∷ ys) x h k = (h.0, each_more P ys x h.1 k)
+use Rattle.pdl_word.specs.Each.{Each}
 
 pub each_at : {X : Type 0} (P : X → Type 0) (xs : List X) (i : ℕ) (d : X) → i < length xs → Each P xs → P (slice_index_or xs i d)
 each_at P [] i d l h = absurd (omega (arith, l))

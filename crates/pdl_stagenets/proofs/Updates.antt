@@ -19,8 +19,9 @@ use Rattle.pdl_stagenets.specs.declared.nets.WalkNets.{WalkNets}
 use Rattle.pdl_stagenets.specs.Parts.{Held, Parts, held_in, reservation_in, put_in, letting_in, birth_in, parts_in, IsThereWalk}
 use Rattle.pdl_stagenets.specs.Sized.{IsSized, IsSizedReserve, IsSizedPut}
 use Rattle.pdl_stagenets.specs.Steps.{with_var, with_put, with_held, with_call}
-use Rattle.pdl_stagenets.proofs.Lists.{each_more, widths_set}
+use Rattle.pdl_stagenets.proofs.Lists.{widths_set}
 use Rattle.pdl_stagenets.proofs.Kept.{parts_keep, var_width}
+use Rattle.pdl_word.proofs.Each.{each_push}
 
 -- ---- parts by their lists
 
@@ -102,7 +103,7 @@ module _ (p : Pipe) (ws : List ℕ) (w : Parts) (s : IsSized p ws w) where
     reserves = s.reserves;
     lettings = s.lettings;
     births = s.births;
-    puts = each_more (IsSizedPut p) w.puts (record { mem = m; on = on; value = f }) s.puts (l, o, e);
+    puts = each_push (IsSizedPut p) w.puts (record { mem = m; on = on; value = f }) s.puts (l, o, e);
   }
 
   pub sized_reserve : (m : ℕ) (on f : Signal) → m < length p.mems → on.width ≡ 1 → 2 ^ f.width ≡ (mem_at p m).depth → IsSized p ws (record w { reserves = w.reserves ++ record { mem = m; on = on; addr = f } ∷ [] })
@@ -113,7 +114,7 @@ module _ (p : Pipe) (ws : List ℕ) (w : Parts) (s : IsSized p ws w) where
     puts = s.puts;
     lettings = s.lettings;
     births = s.births;
-    reserves = each_more (IsSizedReserve p) w.reserves (record { mem = m; on = on; addr = f }) s.reserves (l, o, e);
+    reserves = each_push (IsSizedReserve p) w.reserves (record { mem = m; on = on; addr = f }) s.reserves (l, o, e);
   }
 
   pub sized_letting : (m : ℕ) (on : Signal) → on.width ≡ 1 → IsSized p ws (record w { lettings = w.lettings ++ record { mem = m; on = on } ∷ [] })
@@ -124,7 +125,7 @@ module _ (p : Pipe) (ws : List ℕ) (w : Parts) (s : IsSized p ws w) where
     reserves = s.reserves;
     puts = s.puts;
     births = s.births;
-    lettings = each_more (λ (x : Letting). x.on.width ≡ 1) w.lettings (record { mem = m; on = on }) s.lettings o;
+    lettings = each_push (λ (x : Letting). x.on.width ≡ 1) w.lettings (record { mem = m; on = on }) s.lettings o;
   }
 
   pub sized_call : (on : Signal) (args : List Signal) → on.width ≡ 1 → widths_of args ≡ take (length p.start) ws → IsSized p ws (with_call on args w)

@@ -1,5 +1,5 @@
 -- What the nets of a stage mean in a circuit.
-use Rattle.std.specs.Prelude.{ℕ, ◌==◌, ◌&&◌, List, [], ◌∷◌, map, if◌then◌else◌, ⊤}
+use Rattle.std.specs.Prelude.{ℕ, ◌==◌, ◌&&◌, List, [], ◌∷◌, map, if◌then◌else◌}
 use Rattle.pdl_form.specs.declared.form.Expr as r_expr
 use Rattle.pdl_form.specs.declared.form.Guard as r_guard
 use Rattle.pdl_form.specs.View.{guards_view, expr_view, exprs_view}
@@ -16,11 +16,7 @@ use Rattle.pdl_stagenets.specs.declared.nets.PutNet.{PutNet}
 use Rattle.pdl_stagenets.specs.declared.nets.LettingNet.{LettingNet}
 use Rattle.pdl_stagenets.specs.declared.nets.BirthNet.{BirthNet}
 use Rattle.pdl_stagenets.specs.declared.nets.WalkNets.{WalkNets}
-
--- each element has a property
-abbrev pub Each : {X : Type 0} → (X → Type 0) → List X → Type 0
-Each P [] = ⊤
-Each P (x ∷ xs) = P x × Each P xs
+use Rattle.pdl_word.specs.Each.{Each}
 
 -- a location with the signal of whether it is held
 pub record Held : Type 0 where

@@ -8,7 +8,8 @@ use Rattle.pdl_net.specs.Circuit.{Circuit}
 use Rattle.pdl_flatnets.specs.Nets.{widths_of}
 use Rattle.pdl_pipe_law.specs.Walk.{Reservation, Put, Letting, Birth}
 use Rattle.pdl_stagenets.specs.declared.nets.WalkNets.{WalkNets}
-use Rattle.pdl_stagenets.specs.Parts.{Each, Held, Parts, parts_in, IsThereWalk}
+use Rattle.pdl_stagenets.specs.Parts.{Held, Parts, parts_in, IsThereWalk}
+use Rattle.pdl_word.specs.Each.{Each}
 
 -- conditions have 1 bit, an address reaches each word of its memory and no more, a value has its memory's width
 abbrev pub IsSizedReserve : Pipe → Reservation → Type 0

@@ -1,4 +1,6 @@
-//! The statements of a stage as nets.
+//! The statements of a stage as nets, round any lock module.
+//!
+//! The layers above may use `WalkNets`, which walks over a stage's statements, and `MemLock`, a memory with its lock.
 #![tactic(auto)]
 
 pub mod locks;

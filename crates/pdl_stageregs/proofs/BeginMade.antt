@@ -23,7 +23,7 @@ use Rattle.pdl_stagenets.specs.declared.nets.ReserveNet.{ReserveNet}
 use Rattle.pdl_stagenets.specs.declared.nets.PutNet.{PutNet}
 use Rattle.pdl_stagenets.specs.declared.nets.LettingNet.{LettingNet}
 use Rattle.pdl_stagenets.specs.declared.nets.BirthNet.{BirthNet}
-use Rattle.pdl_stagenets.specs.Parts.{Each, Held as HeldPart, held_in, reservation_in, put_in, letting_in, birth_in, parts_in, walk_of}
+use Rattle.pdl_stagenets.specs.Parts.{Held as HeldPart, held_in, reservation_in, put_in, letting_in, birth_in, parts_in, walk_of}
 use Rattle.pdl_stagenets.specs.Sized.{IsWalk, IsSizedReserve, IsSizedPut, IsSizedBirth}
 use Rattle.pdl_pipe_law.specs.Walk.{Letting}
 use Rattle.pdl_stageregs.specs.declared.nets.Item.{Item}
@@ -35,6 +35,7 @@ use Rattle.pdl_stageregs.specs.Begun.{IsBare, IsReady, IsAtFront, AreEnded, Gain
 use Rattle.pdl_stageregs.proofs.Lists.{each_at, view_at, some_stage}
 use Rattle.pdl_stageregs.proofs.WholeBegun.{vars_keep, held_keep, tickets_keep}
 use Rattle.pdl_pipe_law.proofs.Next.{lock_there}
+use Rattle.pdl_word.specs.Each.{Each}
 
 -- ---- what is past the last
 

@@ -10,7 +10,7 @@ use Rattle.pdl_flatnets.specs.Nets.{NetsThere, signals_in, widths_of}
 use Rattle.pdl_flatnets.proofs.NetLists.{width_at, length_widths, length_signals}
 use Rattle.pdl_pipe_law.specs.Walk.{Locks}
 use Rattle.pdl_stagenets.specs.declared.nets.BirthNet.{BirthNet}
-use Rattle.pdl_stagenets.specs.Parts.{Each, birth_in, parts_in}
+use Rattle.pdl_stagenets.specs.Parts.{birth_in, parts_in}
 use Rattle.pdl_stagenets.specs.Sized.{IsSizedBirth}
 use Rattle.pdl_stagenets.proofs.Kept.{held_width, var_width, var_count}
 use Rattle.pdl_stageregs.specs.declared.births.Brings.{Brings}
@@ -24,6 +24,7 @@ use Rattle.pdl_stageregs.specs.Moves.{IsGated}
 use Rattle.pdl_stageregs.specs.Comes.{BringsWide, IsBirth, AreBirths, IsRegNow, HasItem, FitsAfter, FitsArg, FitsFirst, IsAt, AreFit}
 use Rattle.pdl_stageregs.specs.Staged.{IsStaged, AreStaged, AreApart}
 use Rattle.pdl_stageregs.proofs.Taken.{reg_wide}
+use Rattle.pdl_word.specs.Each.{Each}
 
 pub each_all : (P : StageNets → Type 0) (ss : List StageNets) → ((k : ℕ) (s : StageNets) → k < length ss → IsAt ss k s → P s) → Each P ss
 each_all P [] h = tt

@@ -13,8 +13,8 @@ use Rattle.pdl_net.proofs.Keeps.{extends_trans}
 use Rattle.pdl_pipe_law.specs.Lives.{held_from}
 use Rattle.pdl_pipe_law.specs.Walk.{zero_bit}
 use Rattle.pdl_stagenets.specs.declared.nets.HeldNet.{HeldNet}
-use Rattle.pdl_stagenets.specs.Parts.{Each, Held as HeldPart, held_in, held_of, parts_in}
-use Rattle.pdl_stagenets.proofs.Lists.{each_map, each_more, map_each}
+use Rattle.pdl_stagenets.specs.Parts.{Held as HeldPart, held_in, held_of, parts_in}
+use Rattle.pdl_stagenets.proofs.Lists.{map_each}
 use Rattle.pdl_stageregs.specs.declared.nets.Item.TheVariants.{Held}
 use Rattle.pdl_stageregs.specs.declared.nets.StageNets.{StageNets}
 use Rattle.pdl_stageregs.specs.Items.{IsSameConstant}
@@ -22,6 +22,8 @@ use Rattle.pdl_stageregs.specs.Stages.{end_of, IsFrame, IsBegunBy, AreOwn}
 use Rattle.pdl_stageregs.specs.Begun.{is_listed, MayAdd, AddsHeld, IsAtFront, HasHeldAfter}
 use Rattle.pdl_stageregs.proofs.Entered.{frame_kept, frame_may, own_more, own_held, keep_may, by_may, by_new, may_there, may_wide}
 use Rattle.pdl_stageregs.proofs.VarsBegun.{may_rest, front_may}
+use Rattle.pdl_word.specs.Each.{Each}
+use Rattle.pdl_word.proofs.Each.{each_weaker, each_push}
 
 -- ---- lists of locations
 
@@ -99,7 +101,7 @@ or_cases false b e = inr (refl, e)
 module _ (a b c : Circuit) (f : Form) (nexts : List Signal) (k : ℕ) (before s0 s s' : StageNets) (hs : List HeldNet) (h : HeldNet) (bc : Extends b c) (last : end_of s' ≡ length c.regs)
     (same : (m v : ℕ) → held_of (parts_in b before.end).held m v ≡ held_of (parts_in a before.end).held m v) (so : HeldsSoFar a b f nexts k before s0 s hs) (after : 0 < k) where
   there_now : Each (λ (x : HeldNet). IsThere c x.net) s.held
-  there_now = each_map (λ (x : HeldNet). IsThere b x.net) (λ x. IsThere c x.net) (λ x t. bc.there x.net t) s.held so.there
+  there_now = each_weaker (λ (x : HeldNet). IsThere b x.net) (λ x. IsThere c x.net) (λ x t. bc.there x.net t) s.held so.there
 
   one_now : (xs : List HeldNet) → Each (λ (x : HeldNet). IsThere b x.net) xs → Each (λ (x : HeldNet). (signal b x.net).width ≡ 1) xs → Each (λ (x : HeldNet). (signal c x.net).width ≡ 1) xs
   one_now [] t o = tt
@@ -166,8 +168,8 @@ module _ (a b c : Circuit) (f : Form) (nexts : List Signal) (k : ℕ) (before s0
         subst (λ (u : StageNets). HeldsSoFar a c f nexts k before s0 u (hs ++ h ∷ [])) (sym (is ∙ ap (λ xs. with_held t (xs ++ y ∷ [])) held_same)) record {
           extends = extends_trans a b c so.extends bc;
           frame = again t (s.held ++ y ∷ []) (frame_may f nexts k b c s t (Held h.mem h.var) 1 0 net _ bc may refl refl last_t so.frame);
-          there = each_more (λ (x : HeldNet). IsThere c x.net) s.held y there_now (may_there c s t (Held h.mem h.var) 1 0 net _ may);
-          one = each_more (λ (x : HeldNet). (signal c x.net).width ≡ 1) s.held y (one_now s.held so.there so.one) (may_wide c s t (Held h.mem h.var) 1 0 net _ may);
+          there = each_push (λ (x : HeldNet). IsThere c x.net) s.held y there_now (may_there c s t (Held h.mem h.var) 1 0 net _ may);
+          one = each_push (λ (x : HeldNet). (signal c x.net).width ≡ 1) s.held y (one_now s.held so.there so.one) (may_wide c s t (Held h.mem h.var) 1 0 net _ may);
           sound = λ m v q. listed_more hs h m v ∙ sounds m v (or_cases (is_listed s.held m v) (is_it y m v) (sym (listed_more s.held y m v) ∙ q));
           listed = λ m v need q. listed_more s.held y m v ∙ seen m v need (or_cases (is_listed hs m v) (is_it h m v) (sym (listed_more hs h m v) ∙ q));
           begun = λ m v q. by m v (or_cases (is_listed s.held m v) (is_it y m v) (sym (listed_more s.held y m v) ∙ q));

@@ -4,9 +4,9 @@ use Rattle.std.proofs.lemmas.Bool.Decides.{leb_tells}
 use Rattle.std.proofs.lemmas.List.{get_or-map}
 use Rattle.pdl_semantics.specs.Flat.{Pipe}
 use Rattle.pdl_net.specs.Circuit.{Circuit}
-use Rattle.pdl_stagenets.specs.Parts.{Each}
 use Rattle.pdl_stageregs.specs.declared.nets.StageNets.{StageNets}
 use Rattle.pdl_stageregs.specs.Stages.{view_in, views_in, no_view}
+use Rattle.pdl_word.specs.Each.{Each}
 
 pub each_at : {X : Type 0} (P : X → Type 0) (xs : List X) (i : ℕ) (d : X) → i < length xs → get_or xs i d ≡ d → Each P xs → P d
 each_at P [] i d l e h = absurd (omega (arith, l))

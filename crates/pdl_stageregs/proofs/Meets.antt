@@ -19,7 +19,7 @@ use Rattle.pdl_pipe_law.specs.Views.{View, Comer, no_gates, comers, first_coming
 use Rattle.pdl_pipe_law.specs.Compiled.{Same, Becomes, StartsAs, IsStage}
 use Rattle.pdl_pipe_law.proofs.Establish.{starts_reg, both_one}
 use Rattle.pdl_lives.specs.Needs.{goes_with}
-use Rattle.pdl_stagenets.specs.Parts.{Each, walk_in}
+use Rattle.pdl_stagenets.specs.Parts.{walk_in}
 use Rattle.pdl_stageregs.specs.declared.moving.MoveNets.{MoveNets}
 use Rattle.pdl_stageregs.specs.declared.nets.Item.{Item}
 use Rattle.pdl_stageregs.specs.declared.nets.Item.TheVariants.{Var, Held, Ticket}
@@ -31,6 +31,7 @@ use Rattle.pdl_stageregs.specs.Comes.{IsAt, IsConnected, arriving}
 use Rattle.pdl_stageregs.specs.Staged.{IsStaged, AreStaged, IsPlainLine}
 use Rattle.pdl_stageregs.proofs.Lists.{view_at, some_stage}
 use Rattle.pdl_stageregs.proofs.Lawful.{AreShortCalls, becomes_as, picked_rest, stays_is, arrives, zero_stays, same_stays}
+use Rattle.pdl_word.specs.Each.{Each}
 
 -- ---- pieces of the law
 

@@ -8,7 +8,7 @@ use Rattle.pdl_net.specs.Growth.{Keeps}
 use Rattle.pdl_flatnets.proofs.NetLists.{signals_keep}
 use Rattle.pdl_pipe_law.specs.Walk.{Birth}
 use Rattle.pdl_pipe_law.specs.Views.{View, new_by, new_from}
-use Rattle.pdl_stagenets.specs.Parts.{Each, birth_in}
+use Rattle.pdl_stagenets.specs.Parts.{birth_in}
 use Rattle.pdl_stagenets.proofs.Lists.{map_each, each_at as each_in}
 use Rattle.pdl_stageregs.specs.declared.births.Brings.{Brings}
 use Rattle.pdl_stageregs.specs.declared.moving.MoveNets.{MoveNets}
@@ -18,6 +18,7 @@ use Rattle.pdl_stageregs.specs.Moves.{AreMovesThere, moves_in, no_moves}
 use Rattle.pdl_stageregs.specs.Comes.{IsBirth, AreBirths}
 use Rattle.pdl_stageregs.proofs.Lists.{each_at, each_map, view_at, some_stage}
 use Rattle.pdl_stageregs.proofs.BirthsMade.{birth_keep}
+use Rattle.pdl_word.specs.Each.{Each}
 
 pub births_keep : (a b : Circuit) (w : ℕ) (what : Brings) (ss : List StageNets) → Keeps a b → AreBirths a w what ss → AreBirths b w what ss
 births_keep a b w what ss e h =

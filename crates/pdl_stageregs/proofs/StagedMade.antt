@@ -7,7 +7,7 @@ use Rattle.pdl_semantics.specs.Stages.{in_stage}
 use Rattle.pdl_form.specs.Form.{Form}
 use Rattle.pdl_net.specs.Circuit.{Circuit}
 use Rattle.pdl_net.specs.Signal.{Signal}
-use Rattle.pdl_net.specs.Meaning.{signal, IsThere}
+use Rattle.pdl_net.specs.Meaning.{IsThere}
 use Rattle.pdl_net.specs.Growth.{Keeps}
 use Rattle.pdl_net.proofs.Keeps.{keeps_trans}
 use Rattle.pdl_net.specs.Well.{IsWell}
@@ -15,12 +15,11 @@ use Rattle.pdl_flatnets.specs.Nets.{NetsThere, signal_at, widths_of}
 use Rattle.pdl_flatnets.proofs.NetLists.{there_keeps, signals_keep}
 use Rattle.pdl_pipe_law.specs.Walk.{Locks, Walk, AreRows}
 use Rattle.pdl_stagenets.specs.declared.nets.HeldNet.{HeldNet}
-use Rattle.pdl_stagenets.specs.Parts.{Each, Parts, Held as HeldPart, walk_of, walk_in}
+use Rattle.pdl_stagenets.specs.Parts.{Parts, Held as HeldPart, walk_of, walk_in}
 use Rattle.pdl_stagenets.specs.Locked.{tickets_in}
 use Rattle.pdl_stagenets.specs.Sized.{IsWalk}
 use Rattle.pdl_stagenets.specs.Steps.{AreSteps}
 use Rattle.pdl_stagenets.proofs.Kept.{held_keep, parts_keep, walk_keep}
-use Rattle.pdl_stagenets.proofs.Lists.{each_map as each_in}
 use Rattle.pdl_stageregs.specs.declared.nets.Item.{Item}
 use Rattle.pdl_stageregs.specs.declared.nets.Item.TheVariants.{Var, Held, Ticket}
 use Rattle.pdl_stageregs.specs.declared.nets.StageNets.{StageNets}
@@ -32,6 +31,8 @@ use Rattle.pdl_stageregs.specs.Comes.{IsAt}
 use Rattle.pdl_stageregs.proofs.Entered.{register_keep, by_weaker}
 use Rattle.pdl_stageregs.proofs.WholeBegun.{settled_keep}
 use Rattle.pdl_stageregs.proofs.Taken.{up_to}
+use Rattle.pdl_word.specs.Each.{Each}
+use Rattle.pdl_word.proofs.Each.{each_weaker}
 
 module _ (c d : Circuit) (e : Keeps c d) where
   registers_keep : (f : Form) (nexts : List Signal) (k : ℕ) (s : StageNets) → HasRegisters c f nexts k s → HasRegisters d f nexts k s
@@ -44,7 +45,7 @@ module _ (c d : Circuit) (e : Keeps c d) where
   begun_keep f nexts s h = record {
     vars = there_keeps c d s.vars e h.vars;
     vars_wide = ap widths_of (signals_keep c d s.vars e h.vars) ∙ h.vars_wide;
-    held = each_in (λ (x : HeldNet). IsThere c x.net) (λ x. IsThere d x.net) (λ x t. e.there x.net t) s.held h.held;
+    held = each_weaker (λ (x : HeldNet). IsThere c x.net) (λ x. IsThere d x.net) (λ x t. e.there x.net t) s.held h.held;
     held_one = subst (Each (λ (x : HeldPart). x.signal.width ≡ 1)) (sym (held_keep c d e s.held h.held)) h.held_one;
     tickets = there_keeps c d s.tickets e h.tickets;
     tickets_wide = ap widths_of (signals_keep c d s.tickets e h.tickets) ∙ h.tickets_wide;

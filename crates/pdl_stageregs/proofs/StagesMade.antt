@@ -10,7 +10,6 @@ use Rattle.pdl_flatnets.specs.Nets.{NetsThere, signals_in, widths_of}
 use Rattle.pdl_flatnets.proofs.NetLists.{signals_keep}
 use Rattle.pdl_pipe_law.specs.Walk.{Locks}
 use Rattle.pdl_stagenets.specs.Sized.{IsWalk}
-use Rattle.pdl_stagenets.proofs.Lists.{each_more}
 use Rattle.pdl_stageregs.specs.declared.nets.Shared.{Shared}
 use Rattle.pdl_stageregs.specs.declared.nets.StageNets.{StageNets}
 use Rattle.pdl_stageregs.specs.Stages.{end_of, AreOwn}
@@ -19,6 +18,7 @@ use Rattle.pdl_stageregs.specs.Staged.{IsStaged, AreStaged, AreApart}
 use Rattle.pdl_stageregs.specs.Comes.{IsAt}
 use Rattle.pdl_stageregs.proofs.Keeping.{shared_keep, ended_all}
 use Rattle.pdl_stageregs.proofs.StagedMade.{all_staged, at_more}
+use Rattle.pdl_word.proofs.Each.{each_push}
 
 apart_none : (low high : ℕ) → AreApart low high []
 apart_none low high = record {
@@ -71,7 +71,7 @@ stages_more a c d f nexts ls x ss i t cd new place last o h =
       next = signals_keep c d x.next e h.shared.next_there ∙ h.next;
       count = length-append ss (t ∷ []) ∙ ap (λ n. n + 1) h.count;
       staged = all_staged c d f nexts ls ss t e h.ended h.staged new;
-      ended = each_more (λ (s : StageNets). IsWalk d f.pipe f.widths s.end × NetsThere d s.tickets × (widths_of (signals_in d s.tickets) ≡ widths_of nexts)) ss t (ended_all c d f nexts nexts ss e refl h.ended)
+      ended = each_push (λ (s : StageNets). IsWalk d f.pipe f.widths s.end × NetsThere d s.tickets × (widths_of (signals_in d s.tickets) ≡ widths_of nexts)) ss t (ended_all c d f nexts nexts ss e refl h.ended)
           (new.walk, new.nets.tickets, new.nets.tickets_wide);
       own = at_more (AreOwn f) ss t h.own o;
       apart = apart_more (length a.regs) (length c.regs) (length d.regs) ss t (regs_grow a c (extends_keeps a c h.extends)) place last h.apart;

@@ -9,8 +9,8 @@ use Rattle.pdl_net.specs.Growth.{Keeps}
 use Rattle.pdl_flatnets.specs.Nets.{NetsThere, signals_in, signal_at, widths_of}
 use Rattle.pdl_flatnets.proofs.NetLists.{there_keeps, signals_keep}
 use Rattle.pdl_stagenets.specs.declared.nets.HeldNet.{HeldNet}
-use Rattle.pdl_stagenets.specs.Parts.{Each, Held as HeldPart, held_in, held_of}
-use Rattle.pdl_stagenets.proofs.Lists.{each_map, map_each}
+use Rattle.pdl_stagenets.specs.Parts.{Held as HeldPart, held_in, held_of}
+use Rattle.pdl_stagenets.proofs.Lists.{map_each}
 use Rattle.pdl_stageregs.specs.declared.nets.Item.{Item}
 use Rattle.pdl_stageregs.specs.declared.nets.Item.TheVariants.{Var, Held, Ticket}
 use Rattle.pdl_stageregs.specs.declared.nets.StageNets.{StageNets}
@@ -19,6 +19,8 @@ use Rattle.pdl_stageregs.specs.Stages.{IsBegunBy, IsSettled, views_in}
 use Rattle.pdl_stageregs.specs.Begun.{IsAtFront, AreEnded, HasVars, HasHeld, HasTicketNets}
 use Rattle.pdl_stageregs.proofs.Lists.{view_at, some_stage, each_at}
 use Rattle.pdl_stageregs.proofs.Entered.{ended_keep, by_weaker}
+use Rattle.pdl_word.specs.Each.{Each}
+use Rattle.pdl_word.proofs.Each.{each_weaker}
 
 -- an item stays where more items follow
 pub by_front : (f : Form) (nexts : List Signal) (s t : StageNets) (i : Item) (g : Signal) (S : Signal → Type 0) → t.valid ≡ s.valid → IsAtFront s.kept t.kept → IsBegunBy f nexts s i g S → IsBegunBy f nexts t i g S
@@ -75,7 +77,7 @@ module _ (a c d : Circuit) (f : Form) (nexts : List Signal) (ss : List StageNets
       let same : map (held_in d) t.held ≡ map (held_in c) s.held =
       ap (map (held_in d)) e ∙ map_each (held_in d) (held_in c) (λ x. IsThere c x.net) (λ x q. ap (λ g. record { mem = x.mem; var = x.var; signal = g }) (cd.kept x.net q)) s.held h.there in
       record {
-        there = subst (Each (λ (x : HeldNet). IsThere d x.net)) (sym e) (each_map (λ (x : HeldNet). IsThere c x.net) (λ x. IsThere d x.net) (λ x q. cd.there x.net q) s.held h.there);
+        there = subst (Each (λ (x : HeldNet). IsThere d x.net)) (sym e) (each_weaker (λ (x : HeldNet). IsThere c x.net) (λ x. IsThere d x.net) (λ x q. cd.there x.net q) s.held h.there);
         one = subst (Each (λ (x : HeldPart). x.signal.width ≡ 1)) (sym same) h.one;
         begun = λ m v need. subst (λ xs. IsBegunBy f nexts t (Held m v) (held_of xs m v) (IsSettled d f.pipe ss k (Held m v))) (sym same)
             (by_weaker f nexts t (Held m v) (held_of (map (held_in c) s.held) m v) (IsSettled a f.pipe ss k (Held m v)) (IsSettled d f.pipe ss k (Held m v))

@@ -12,7 +12,7 @@ use Rattle.pdl_flatnets.specs.Conditions.{AreBits}
 use Rattle.pdl_pipe_law.specs.Lives.{lives_from, held_from}
 use Rattle.pdl_lives.specs.Needs.{goes_with}
 use Rattle.pdl_stagenets.specs.declared.nets.HeldNet.{HeldNet}
-use Rattle.pdl_stagenets.specs.Parts.{Each, Held as HeldPart, held_in, held_of, parts_in}
+use Rattle.pdl_stagenets.specs.Parts.{Held as HeldPart, held_in, held_of, parts_in}
 use Rattle.pdl_stagenets.specs.declared.locks.MemLock.{MemLock}
 use Rattle.pdl_stagenets.specs.Locked.{of_lock, tickets_in}
 use Rattle.pdl_stagenets.specs.Sized.{IsWalk}
@@ -22,6 +22,7 @@ use Rattle.pdl_stageregs.specs.declared.nets.Shared.{Shared}
 use Rattle.pdl_stageregs.specs.declared.nets.StageNets.{StageNets}
 use Rattle.pdl_stageregs.specs.Items.{first_value, IsOwn, IsSameConstant}
 use Rattle.pdl_stageregs.specs.Stages.{end_of, IsRegister, IsBegunBy, IsSettled, HasTickets}
+use Rattle.pdl_word.specs.Each.{Each}
 
 abbrev pub zero_signal : ℕ → Signal
 zero_signal w = const_signal w 0

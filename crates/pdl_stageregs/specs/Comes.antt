@@ -10,7 +10,7 @@ use Rattle.pdl_flatnets.specs.Nets.{NetsThere, signals_in, signal_at}
 use Rattle.pdl_pipe_law.specs.Walk.{one, zero_bit}
 use Rattle.pdl_pipe_law.specs.Views.{View, Comer, new_from, out_of, first_coming}
 use Rattle.pdl_stagenets.specs.declared.nets.BirthNet.{BirthNet}
-use Rattle.pdl_stagenets.specs.Parts.{Each, IsThereWalk}
+use Rattle.pdl_stagenets.specs.Parts.{IsThereWalk}
 use Rattle.pdl_stageregs.specs.declared.births.Brings.{Brings}
 use Rattle.pdl_stageregs.specs.declared.births.Brings.TheVariants.{Thread, Arg}
 use Rattle.pdl_stageregs.specs.declared.moving.MoveNets.{MoveNets}
@@ -20,6 +20,7 @@ use Rattle.pdl_stageregs.specs.declared.nets.StageNets.{StageNets}
 use Rattle.pdl_stageregs.specs.Items.{item_at, comer_item, ended_item}
 use Rattle.pdl_stageregs.specs.Stages.{reg_of, end_of, view_in, views_in}
 use Rattle.pdl_stageregs.specs.Moves.{moves_in}
+use Rattle.pdl_word.specs.Each.{Each}
 
 -- ---- calls
 

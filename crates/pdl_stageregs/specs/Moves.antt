@@ -8,9 +8,9 @@ use Rattle.pdl_net.specs.Signal.{Signal, reg_signal}
 use Rattle.pdl_net.specs.Meaning.{signal, IsThere, Means}
 use Rattle.pdl_pipe_law.specs.Walk.{both}
 use Rattle.pdl_pipe_law.specs.Views.{View, free, way_on}
-use Rattle.pdl_stagenets.specs.Parts.{Each}
 use Rattle.pdl_stageregs.specs.declared.moving.MoveNets.{MoveNets}
 use Rattle.pdl_stageregs.specs.declared.nets.StageNets.{StageNets}
+use Rattle.pdl_word.specs.Each.{Each}
 
 -- each stage leads to the next one, and the last one out of the pipe
 pub record IsInLine (p : Pipe) : Type 0 where

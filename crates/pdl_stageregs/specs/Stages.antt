@@ -11,11 +11,12 @@ use Rattle.pdl_pipe_law.specs.Walk.{Walk, one, zero_bit}
 use Rattle.pdl_pipe_law.specs.Views.{View}
 use Rattle.pdl_lives.specs.Needs.{goes_with}
 use Rattle.pdl_stagenets.specs.declared.nets.HeldNet.{HeldNet}
-use Rattle.pdl_stagenets.specs.Parts.{Parts, Each, Held as HeldPart, walk_of, held_in, walk_in}
+use Rattle.pdl_stagenets.specs.Parts.{Parts, Held as HeldPart, walk_of, held_in, walk_in}
 use Rattle.pdl_stagenets.specs.Locked.{tickets_in}
 use Rattle.pdl_stageregs.specs.declared.nets.Item.{Item}
 use Rattle.pdl_stageregs.specs.declared.nets.StageNets.{StageNets}
 use Rattle.pdl_stageregs.specs.Items.{item_at, is_needed, begun_item, ended_item, item_width, first_value, IsOwn, IsSameConstant, IsZero}
+use Rattle.pdl_word.specs.Each.{Each}
 
 -- ---- views
 

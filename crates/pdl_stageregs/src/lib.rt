@@ -1,4 +1,6 @@
 //! The registers of a pipe's stages, which threads move, and what comes into each stage.
+//!
+//! The layer above may use `line`, whose stages are those of the law in each later netlist that leaves their registers alone.
 #![tactic(auto)]
 
 pub mod births;

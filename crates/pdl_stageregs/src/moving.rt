@@ -8,7 +8,7 @@ ghost use Rattle.pdl_net.specs.Growth.{Extends};
 ghost use Rattle.pdl_flatnets.specs.Conditions.{AreBits};
 ghost use Rattle.pdl_pipe_law.specs.Walk.{one, both as both_signal};
 ghost use Rattle.pdl_stageregs.specs.Stages.{views_in};
-ghost use Rattle.pdl_stagenets.specs.Parts.{Each};
+ghost use Rattle.pdl_word.specs.Each.{Each};
 ghost use Rattle.pdl_stageregs.specs.Moves.{IsInLine, IsGated, IsMoved, moves_at};
 
 use crate::nets::StageNets;

@@ -11,9 +11,9 @@ use Rattle.pdl_rules.specs.Parts.{location_of}
 use Rattle.pdl_rules.specs.Locks
 use Rattle.pdl_rules.specs.Locks.{same_location, Hold, Nothing, Reserved, Blocked, Released, after_block, after_place, hold_after, is_reserved, is_unreleased, reserves_location, leaves_open}
 use Rattle.pdl_rules.specs.Typed.{is_named}
-use Rattle.pdl_rules.proofs.EachPlace.{Each}
+use Rattle.pdl_rules.proofs.EachPlace.{Each, closing}
 use Rattle.pdl_rules.proofs.Once.{KeepsLocks, any_weaker, held_alike}
-use Rattle.pdl_stagefacts.proofs.Sites.{Site, closing, place_of, All}
+use Rattle.pdl_stagefacts.proofs.Sites.{Site, place_of, All}
 use Rattle.pdl_pathfacts.proofs.Numbers.{var_stays}
 use Rattle.pdl_pathfacts.proofs.Along.{ops_of, seen_ops, seen}
 use Rattle.pdl_pathfacts.proofs.Growth.{Grown, Grows, grown_more, past_grown, vars_past}

@@ -22,11 +22,12 @@ use Rattle.pdl_pathfacts.proofs.Choices.{path_of}
 use Rattle.pdl_pathfacts.proofs.Along.{seen, on_sites, path_is}
 use Rattle.pdl_pathfacts.proofs.Variables.{Here, all_here, located, known}
 use Rattle.pdl_pathfacts.proofs.Walk.{all_on, keeps_all}
-use Rattle.pdl_pathfacts.proofs.Growth.{all_vars, grows_all, grows_on}
+use Rattle.pdl_pathfacts.proofs.Growth.{grows_all, grows_on}
 use Rattle.pdl_pathfacts.proofs.Same.{value, all_alike}
 use Rattle.pdl_invariant.specs.Strict.{Strict, bound_by, uses_own, is_mentioned, is_new, all_new, lets_go, all_let_go}
 use Rattle.pdl_strict.proofs.Fresh.{Uses, sites_new}
 use Rattle.pdl_strict.proofs.LetGo.{sites_let_go}
+use Rattle.pdl_semantics.proofs.Facts.{all_vars}
 
 -- WHERE DELAYED READS ARE READS
 

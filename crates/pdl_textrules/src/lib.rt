@@ -1,4 +1,6 @@
 //! Rules that are asked at each place of a text, by the places before it: the first place that breaks one.
+//!
+//! The layers above write a rule as a `TextRule`, ask it by `line_broken`, and keep what is broken as `Broken`, a rule with a line.
 #![tactic(auto)]
 
 pub mod broken;

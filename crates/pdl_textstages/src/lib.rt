@@ -1,4 +1,6 @@
 //! The stage of each place of a pipe, by the text, and the rules that ask for it alone: which statements stand in one stage.
+//!
+//! The layers above may use `stages_of`, `stage_in` and `begun_before`, `first_stage` of a kind of statement, `astray_line`, and `next_on`, the stage that comes next on a path.
 #![tactic(auto)]
 
 pub mod along;

@@ -19,7 +19,7 @@ use Rattle.pdl_derived.specs.Simulation.{SameTurns}
 use Rattle.pdl_derived.specs.OneStage.{IsThread, AreThreads}
 use Rattle.pdl_derived.proofs.Stages.{step}
 use Rattle.pdl_derived.proofs.Writes.{and_left, and_right, of_mem_append}
-use Rattle.pdl_facts.specs.Scans.{none_of, is_fetch}
+use Rattle.pdl_facts.specs.Scans.{none_of}
 use Rattle.pdl_facts.specs.Certain.{Making, Unmade, is_unmade, is_guessed, next_making, making_ok, makings_ok, stands_before}
 use Rattle.pdl_facts.specs.Facts.{looked_all, Sound}
 use Rattle.pdl_turns.proofs.CourseOf.{course}
@@ -33,6 +33,7 @@ use Rattle.pdl_progress.proofs.Rates.{left_some, cycle_left, leads, lead, left, 
 use Rattle.pdl_simulation.proofs.PerMemory.{at_mem}
 use Rattle.pdl_theorems.proofs.Stated.{whole_same}
 use Rattle.pdl_turns.proofs.OfStage.{none_stage}
+use Rattle.pdl_semantics.specs.Sound.{is_fetch}
 
 -- VERIFIES
 

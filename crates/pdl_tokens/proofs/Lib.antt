@@ -1,3 +1,4 @@
 mod Examples
 mod Values
 mod Steps
+pub mod OtherKinds

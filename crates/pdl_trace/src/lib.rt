@@ -2,7 +2,6 @@
 //! The layer above may use the calls that make a line; none of them takes memory or fails.
 #![tactic(auto)]
 
-mod digits;
 pub mod line;
 pub mod lines;
 

@@ -1,9 +1,9 @@
 // A line of text in a buffer of fixed size, so that printing takes no memory.
 ghost use Rattle.std.specs.Prelude.{◌≡◌, ◌+◌, ◌*◌, ◌≤◌, ◌<◌, ◌^◌, ◌++◌, [], ◌∷◌, length, decimal};
-ghost use Rattle.pdl_semantics.specs.Lines as text;
+ghost use Rattle.pdl_word.specs.Digits.{hex};
 
-use crate::digits::hex_digit;
 use itoa::Buffer;
+use pdl_word::hex_digit;
 use std::marker::Model;
 
 /// A line of up to 128 bytes, its line feed included, seen as those bytes.
@@ -69,7 +69,7 @@ impl Line {
     pub(crate) fn push_hex(&mut self, count: u8, value: u64)
         requires digits { count ≤ 16 }
         requires room { length self.old + 16 ≤ 128 }
-        ensures text { self.new ≡ self.old ++ text.hex count value }
+        ensures text { self.new ≡ self.old ++ hex count value }
         ensures len { length self.new ≡ length self.old + count }
     {
         for done in 0..count {

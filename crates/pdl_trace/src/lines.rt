@@ -1,6 +1,7 @@
 // The lines of runs and of checks.
 ghost use Rattle.std.specs.Prelude.{◌≡◌, ◌≤◌, ◌<◌, ◌^◌, ◌++◌, codes, decimal, length};
 ghost use Rattle.pdl_semantics.specs.Lines as text;
+ghost use Rattle.pdl_word.specs.Digits.{hex};
 ghost use Rattle.pdl_kit.specs.Rules.{text_of};
 
 use crate::line::Line;
@@ -13,7 +14,7 @@ pub fn word_line(mem: &Name, address: u64, value: u64, width: u8) -> Line
     requires name { length mem.now ≤ 32 }
     requires width { width ≤ 64 }
     ensures { result ≡ mem.now ++ codes " " ++ decimal address ++ codes " "
-        ++ text.hex (text.hex_digits width) value ++ codes "\n" }
+        ++ hex (text.hex_digits width) value ++ codes "\n" }
 {
     let mut line = Line::new();
     line.push(mem.as_bytes());

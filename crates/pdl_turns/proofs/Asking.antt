@@ -6,7 +6,7 @@ use Rattle.pdl_semantics.specs.Stages.{onpath, mem_at, commit_stage}
 use Rattle.pdl_semantics.specs.Machine.{Ask, same_args}
 use Rattle.pdl_derived.specs.Derived.{Work, Around, work_after, do_all}
 use Rattle.pdl_derived.specs.Alone.{alone, answered_op, Location}
-use Rattle.pdl_facts.specs.Scans.{is_plain, is_address, has_location, scan_after, scan_after_all, op_ok, reads_ok, Scan, location, is_fetch}
+use Rattle.pdl_facts.specs.Scans.{is_plain, is_address, has_location, scan_after, scan_after_all, op_ok, reads_ok, Scan, location}
 use Rattle.pdl_facts.specs.Facts.{mentions_var, asks_for, is_dead, silent_on, unseen_op, is_unseen, looked_all}
 use Rattle.pdl_derived.proofs.Writes.{and_left, and_right}
 use Rattle.pdl_turns.proofs.Paths.{Fixed}
@@ -15,6 +15,7 @@ use Rattle.pdl_turns.proofs.Alike.{Surrounds, Right, AllIn, Covers, covers_op, r
 use Rattle.pdl_derived.proofs.Answering.{caught, AllAsks, all_more, all_snoc}
 use Rattle.pdl_turns.proofs.Looks.{look, keeps_clear, dead_none}
 use Rattle.pdl_word.proofs.Bools.{by_bool}
+use Rattle.pdl_semantics.specs.Sound.{is_fetch}
 
 -- what is known of a request that was made before these statements
 abbrev pub Known : (ℕ → ℕ → Type 0) → Scan → List Stmt → Ask → Type 0

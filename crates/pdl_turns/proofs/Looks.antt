@@ -10,7 +10,6 @@ use Rattle.pdl_semantics.specs.Sequential.{Run, run_after, run_all}
 use Rattle.pdl_word.specs.Words
 use Rattle.pdl_derived.specs.Derived.{Work, Around, work_after, do_all, with_entry_value}
 use Rattle.pdl_derived.specs.Alone.{alone, before, answered_op}
-use Rattle.pdl_facts.specs.Scans.{is_fetch}
 use Rattle.pdl_facts.specs.Facts.{uses_in, uses_any, mentions_var, asks_for, is_dead, silent_on, unseen_op, is_unseen, looked_all}
 use Rattle.pdl_derived.proofs.Writes.{and_left, and_right}
 use Rattle.pdl_derived.proofs.Stages.{step, joined, do_all_joined, or_else}
@@ -18,6 +17,7 @@ use Rattle.pdl_turns.proofs.Paths.{Fixed}
 pub use Rattle.pdl_turns.proofs.Paths.{dead_none}
 use Rattle.pdl_derived.proofs.Answering.{caught, caught_set, AllAsks, all_snoc}
 use Rattle.pdl_word.proofs.Bools.{by_or}
+use Rattle.pdl_semantics.specs.Sound.{is_fetch}
 
 not_or : (a b : Bool) → not (a || b) ≡ true → (not a ≡ true) × (not b ≡ true)
 not_or true b h = absurd (cc h)

@@ -6,7 +6,7 @@ use Rattle.pdl_semantics.specs.Machine.{same_args}
 use Rattle.pdl_semantics.specs.Sequential.{Run, run_all, thread}
 use Rattle.pdl_derived.specs.Derived.{Around, work_of_stage}
 use Rattle.pdl_derived.specs.Alone.{alone, before, start_work, so_far, thread_at}
-use Rattle.pdl_facts.specs.Scans.{Phase, Fresh, no_guards, next_phase, phase_ok, phases_ok, phase_all, from, none_of}
+use Rattle.pdl_facts.specs.Scans.{Phase, Fresh, no_guards, next_phase, phase_ok, phases_ok, phase_all, none_of}
 use Rattle.pdl_facts.specs.Certain.{stands_at, Making, Unmade, Guessed, Made, making_all, is_unmade, is_guessed, is_made, makings_ok}
 use Rattle.pdl_facts.specs.Accepted.{Pathwise, along}
 use Rattle.pdl_derived.proofs.Writes.{and_left, and_right}
@@ -17,6 +17,7 @@ use Rattle.pdl_turns.proofs.Whole.{start_run, run_at, run_append, related_at, ok
 use Rattle.pdl_turns.proofs.Guesses.{same_args_eq, same_args_refl, making_append, makings_first, makings_second, verify_at, no_guess, unverified, unverified_made, settled, run_settled, unfailed, Calls, calls_all, Verified, verified_all, Along, along_all, along_joined, unguarded}
 use Rattle.pdl_turns.proofs.TurnFacts.{right_guess}
 use Rattle.pdl_word.proofs.Bools.{by_bool}
+use Rattle.pdl_semantics.specs.Sound.{stages_from}
 
 free_all : (m : ℕ) (ph : Phase) (xs : List Stmt) → phases_ok m ph xs ≡ true → unguarded xs ≡ true
 free_all m ph [] h = refl
@@ -44,12 +45,12 @@ clash h = cc
 module _ (p : Pipe) (acc : Pathwise p) (path : List ℕ) (arrays : Arrays) (args : List ℕ) where
   pub makings_before : (s : ℕ) → makings_ok (verify_stage p.stmts) Unmade (before s (onpath path p.stmts)) ≡ true
   makings_before s =
-      makings_first (verify_stage p.stmts) Unmade (before s (onpath path p.stmts)) (from s (onpath path p.stmts))
+      makings_first (verify_stage p.stmts) Unmade (before s (onpath path p.stmts)) (stages_from s (onpath path p.stmts))
       (subst (λ l. makings_ok (verify_stage p.stmts) Unmade l ≡ true) ((acc.paths path).ordered s) (acc.makings path))
 
-  makings_from : (s : ℕ) → makings_ok (verify_stage p.stmts) (making_all Unmade (before s (onpath path p.stmts))) (from s (onpath path p.stmts)) ≡ true
+  makings_from : (s : ℕ) → makings_ok (verify_stage p.stmts) (making_all Unmade (before s (onpath path p.stmts))) (stages_from s (onpath path p.stmts)) ≡ true
   makings_from s =
-      makings_second (verify_stage p.stmts) Unmade (before s (onpath path p.stmts)) (from s (onpath path p.stmts))
+      makings_second (verify_stage p.stmts) Unmade (before s (onpath path p.stmts)) (stages_from s (onpath path p.stmts))
       (subst (λ l. makings_ok (verify_stage p.stmts) Unmade l ≡ true) ((acc.paths path).ordered s) (acc.makings path))
 
   pub makings_stage : (s : ℕ) → makings_ok (verify_stage p.stmts) (making_all Unmade (before s (onpath path p.stmts))) (in_stage s (onpath path p.stmts)) ≡ true
@@ -61,9 +62,9 @@ module _ (p : Pipe) (acc : Pathwise p) (path : List ℕ) (arrays : Arrays) (args
   next_making s = ap (making_all Unmade) ((acc.paths path).pieces s) ∙ making_append Unmade (before s (onpath path p.stmts)) (in_stage s (onpath path p.stmts))
 
   -- in the end the next thread is made for certain
-  at_last : (s : ℕ) → making_all (making_all Unmade (before s (onpath path p.stmts))) (from s (onpath path p.stmts)) ≡ Made
+  at_last : (s : ℕ) → making_all (making_all Unmade (before s (onpath path p.stmts))) (stages_from s (onpath path p.stmts)) ≡ Made
   at_last s =
-      sym (making_append Unmade (before s (onpath path p.stmts)) (from s (onpath path p.stmts))) ∙ ap (making_all Unmade) (sym ((acc.paths path).ordered s))
+      sym (making_append Unmade (before s (onpath path p.stmts)) (stages_from s (onpath path p.stmts))) ∙ ap (making_all Unmade) (sym ((acc.paths path).ordered s))
       ∙ made_is _ (acc.made path)
 
   pub calls_at : (s : ℕ) → Calls (making_all Unmade (before s (onpath path p.stmts))) (so_far (along path p) arrays args s).child (so_far (along path p) arrays args s).guess (run_at (along path p) arrays args s).next
@@ -74,10 +75,10 @@ module _ (p : Pipe) (acc : Pathwise p) (path : List ℕ) (arrays : Arrays) (args
   -- the next arguments stay once the next thread is made for certain
   rest_next : (s : ℕ) → making_all Unmade (before s (onpath path p.stmts)) ≡ Made → (thread (along path p) arrays args).next ≡ (run_at (along path p) arrays args s).next
   rest_next s e =
-      let ok = subst (λ k. makings_ok (verify_stage p.stmts) k (from s (onpath path p.stmts)) ≡ true) e (makings_from s) in
+      let ok = subst (λ k. makings_ok (verify_stage p.stmts) k (stages_from s (onpath path p.stmts)) ≡ true) e (makings_from s) in
       ap (λ l. (run_all l (start_run (along path p) arrays args)).next) ((acc.paths path).ordered s)
-      ∙ ap (λ (r : Run). r.next) (run_append (before s (onpath path p.stmts)) (from s (onpath path p.stmts)) (start_run (along path p) arrays args))
-      ∙ run_settled (verify_stage p.stmts) Made (from s (onpath path p.stmts)) (run_at (along path p) arrays args s) refl ok (unverified_made (verify_stage p.stmts) (from s (onpath path p.stmts)) ok)
+      ∙ ap (λ (r : Run). r.next) (run_append (before s (onpath path p.stmts)) (stages_from s (onpath path p.stmts)) (start_run (along path p) arrays args))
+      ∙ run_settled (verify_stage p.stmts) Made (stages_from s (onpath path p.stmts)) (run_at (along path p) arrays args s) refl ok (unverified_made (verify_stage p.stmts) (stages_from s (onpath path p.stmts)) ok)
 
   pub made_child : (s : ℕ) → making_all Unmade (before s (onpath path p.stmts)) ≡ Made → (so_far (along path p) arrays args s).child ≡ Some (thread (along path p) arrays args).next
   made_child s e =
@@ -106,9 +107,9 @@ module _ (p : Pipe) (acc : Pathwise p) (path : List ℕ) (arrays : Arrays) (args
         where
           never : v < s → ⊥
           never low =
-              let none : none_of is_verify (from s (onpath path p.stmts)) ≡ true = none_from is_verify v s (onpath path p.stmts) (verify_at v Unmade (onpath path p.stmts) (subst (λ o. makings_ok o Unmade (onpath path p.stmts) ≡ true) i (acc.makings path))) low in
-              let ok = subst (λ k. makings_ok (verify_stage p.stmts) k (from s (onpath path p.stmts)) ≡ true) e (makings_from s) in
-              apart (sym (settled (alone arrays) (verify_stage p.stmts) Guessed (from s (onpath path p.stmts)) (start_work p args) refl ok none).1 ∙ ap (λ k. making_all k (from s (onpath path p.stmts))) (sym e) ∙ at_last s)
+              let none : none_of is_verify (stages_from s (onpath path p.stmts)) ≡ true = none_from is_verify v s (onpath path p.stmts) (verify_at v Unmade (onpath path p.stmts) (subst (λ o. makings_ok o Unmade (onpath path p.stmts) ≡ true) i (acc.makings path))) low in
+              let ok = subst (λ k. makings_ok (verify_stage p.stmts) k (stages_from s (onpath path p.stmts)) ≡ true) e (makings_from s) in
+              apart (sym (settled (alone arrays) (verify_stage p.stmts) Guessed (stages_from s (onpath path p.stmts)) (start_work p args) refl ok none).1 ∙ ap (λ k. making_all k (stages_from s (onpath path p.stmts))) (sym e) ∙ at_last s)
             where
               apart : Guessed ≡ Made → ⊥
               apart k = cc

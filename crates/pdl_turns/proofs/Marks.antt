@@ -114,7 +114,7 @@ later_more m ks d ks' xs e xs' l k (inr h) =
     }
 
 -- the second says no less ready a thing than the first
-abbrev Calm : Latest → Latest → Type 0
+abbrev pub Calm : Latest → Latest → Type 0
 Calm l k = (is_nothing l ≡ true → is_nothing k ≡ true) × (is_coming l ≡ false → is_coming k ≡ false)
 
 calm_mark : (k j : Mark) → (k.known ≡ true → j.known ≡ true) → Calm (mark_latest k) (mark_latest j)

@@ -10,11 +10,12 @@ use Rattle.pdl_derived.specs.Alone.{alone, before, so_far, thread_at, undone}
 use Rattle.pdl_derived.proofs.Writes.{and_left, and_right, of_mem_append}
 use Rattle.pdl_derived.proofs.Entries.{entries_of, entry, write_of, addresses, places}
 use Rattle.pdl_turns.proofs.Phases.{Tied}
-use Rattle.pdl_facts.specs.Scans.{Phase, Fresh, Held, Written, Done, after_release, next_phase, holds_location, is_fresh, phase_ok, phases_ok, phase_all, from, is_plain}
+use Rattle.pdl_facts.specs.Scans.{Phase, Fresh, Held, Written, Done, after_release, next_phase, holds_location, is_fresh, phase_ok, phases_ok, phase_all, is_plain}
 use Rattle.pdl_facts.specs.Accepted.{Accepted}
 use Rattle.pdl_turns.proofs.Marks.{Mark, seen, strips, marked, Later, raised_marked, strips_marked, latest_own, no_strips}
 use Rattle.pdl_turns.proofs.Whole.{phases_second, no_more, ok_before, ok_from, related_at, commits_early, commits_late, all_places, run_at, start_run, run_append, quiet_at, undone_step, plain_writes, undone_in_end}
 use Rattle.pdl_turns.proofs.Alike.{taken_none}
+use Rattle.pdl_semantics.specs.Sound.{stages_from}
 
 -- a write that is made is the thread's only one
 abbrev pub is_settled : Phase → Bool
@@ -152,8 +153,8 @@ module _ (p : Pipe) (acc : Accepted p) (arrays : Arrays) (args : List ℕ) where
   pub settled_whole : (s m : ℕ) → is_settled (phase_all m Fresh (before s p.stmts)) ≡ true → of_mem m (thread p arrays args).writes ≡ of_mem m (run_at p arrays args s).writes
   settled_whole s m h =
       ap (λ l. of_mem m (run_all l (start_run p arrays args)).writes) (acc.ordered s)
-      ∙ ap (λ (r : Run). of_mem m r.writes) (run_append (before s p.stmts) (from s p.stmts) (start_run p arrays args))
-      ∙ (settled_all m (from s p.stmts) (phase_all m Fresh (before s p.stmts)) (run_at p arrays args s) (ok_from p acc arrays args s m) h).1
+      ∙ ap (λ (r : Run). of_mem m r.writes) (run_append (before s p.stmts) (stages_from s p.stmts) (start_run p arrays args))
+      ∙ (settled_all m (stages_from s p.stmts) (phase_all m Fresh (before s p.stmts)) (run_at p arrays args s) (ok_from p acc arrays args s m) h).1
 
   settled_next : (s m : ℕ) → is_settled (phase_all m Fresh (before s p.stmts)) ≡ true → is_settled (phase_all m Fresh (before (suc s) p.stmts)) ≡ true
   settled_next s m h =

@@ -4,9 +4,9 @@ use Rattle.pdl_semantics.specs.Flat.{Stmt, Pipe, Branch, Next, Ends, Goes, Forks
 use Rattle.pdl_semantics.specs.Stages.{onpath, in_stage, stage_at, is_verify, verify_stage}
 use Rattle.pdl_semantics.specs.Machine.{Ask, Awaited, is_answered}
 use Rattle.pdl_semantics.specs.Cycle.{awaited_of}
-use Rattle.pdl_derived.specs.Derived.{Work, Around, Thread, State, do_all, work_of_stage, has_entry, fresh, answered_thread, with_answers, still, word_of, asked_at}
+use Rattle.pdl_derived.specs.Derived.{Work, Around, Thread, State, do_all, work_of_stage, fresh, answered_thread, with_answers, still, word_of, asked_at}
 use Rattle.pdl_derived.specs.Alone.{before}
-use Rattle.pdl_facts.specs.Scans.{Scan, no_scan, scan_after_all, from, none_of, binds_var, is_fixed}
+use Rattle.pdl_facts.specs.Scans.{Scan, no_scan, scan_after_all, none_of, binds_var, is_fixed}
 use Rattle.pdl_facts.specs.Certain.{stands_at, stands_before, Making, Unmade, Guessed, Made, making_all, is_unmade, makings_ok, all_sure}
 use Rattle.pdl_facts.specs.Facts.{looked_all, at_once, is_fetch_of, comes_by, visits_stage, Sound}
 use Rattle.pdl_facts.specs.Graphs.{next_of, goes_by, In}
@@ -25,6 +25,7 @@ use Rattle.pdl_turns.proofs.Sounds.{EachFetch, asks_each, not_fetched}
 use Rattle.pdl_turns.proofs.Makes
 use Rattle.pdl_turns.proofs.Whole
 use Rattle.pdl_turns.proofs.Roams.{clash, making_looked, ok_looked, opens_looked, barred_looked, sure_looked, fixed_looked, looked_append, looked_before, verify_looked, Barred, roam_all, steers_by, steers, side_same, Aside, AllAside, visits_answers, still_aside, aside_asks, none_stage_from, fetch_binds, before_none}
+use Rattle.pdl_semantics.specs.Sound.{stages_from}
 
 -- ROAMING THREADS
 
@@ -98,7 +99,7 @@ module _ (p : Pipe) (acc : Sound p) where
     fixed_both =
         sym (fixed_looked (before t.stage p.stmts ++ in_stage t.stage p.stmts))
         ∙ ap is_fixed (looked_append (before t.stage p.stmts) (in_stage t.stage p.stmts) ∙ ap₂ (λ k l. k ++ l) (looked_before t.stage p.stmts ∙ sym (before_looked t.stage p.stmts)) (sym (stage_looked t.stage p.stmts)))
-        ∙ fixed_front (before t.stage (looked_all p.stmts) ++ in_stage t.stage (looked_all p.stmts)) (from (suc t.stage) (looked_all p.stmts)) (subst (λ l. is_fixed l ≡ true) (sym (append_assoc (before t.stage (looked_all p.stmts)) (in_stage t.stage (looked_all p.stmts)) (from (suc t.stage) (looked_all p.stmts)))) (acc.pathwise.fixed_by t.stage))
+        ∙ fixed_front (before t.stage (looked_all p.stmts) ++ in_stage t.stage (looked_all p.stmts)) (stages_from (suc t.stage) (looked_all p.stmts)) (subst (λ l. is_fixed l ≡ true) (sym (append_assoc (before t.stage (looked_all p.stmts)) (in_stage t.stage (looked_all p.stmts)) (stages_from (suc t.stage) (looked_all p.stmts)))) (acc.pathwise.fixed_by t.stage))
 
     -- its stage's statements are those of the path that it is seen to take when the stage is done
     along_path : work_of_stage p o t ≡ do_all o (onpath (work_of_stage p o t).env (in_stage t.stage p.stmts)) (record { env = t.env; entries = t.entries; guess = t.guess; asks = []; commits = []; child = None; fails = false; ready = true })
@@ -136,7 +137,7 @@ module _ (p : Pipe) (acc : Sound p) where
         sym (sure_looked (verify_stage p.stmts) _ _ (onpath (work_of_stage p o t).env (in_stage t.stage p.stmts)))
         ∙ sure_second (verify_stage p.stmts) false no_scan (onpath (work_of_stage p o t).env (before t.stage p.stmts)) (looked_all (onpath (work_of_stage p o t).env (in_stage t.stage p.stmts)))
         (subst (λ l. all_sure (verify_stage p.stmts) false no_scan l ≡ true) (before_on (suc t.stage) ∙ piece_on)
-        (sure_first (verify_stage p.stmts) false no_scan (before (suc t.stage) (onpath (work_of_stage p o t).env (looked_all p.stmts))) (from (suc t.stage) (onpath (work_of_stage p o t).env (looked_all p.stmts)))
+        (sure_first (verify_stage p.stmts) false no_scan (before (suc t.stage) (onpath (work_of_stage p o t).env (looked_all p.stmts))) (stages_from (suc t.stage) (onpath (work_of_stage p o t).env (looked_all p.stmts)))
         (subst (λ l. all_sure (verify_stage p.stmts) false no_scan l ≡ true) ((acc.pathwise.paths (work_of_stage p o t).env).ordered (suc t.stage)) (subst (λ v. all_sure v false no_scan (onpath (work_of_stage p o t).env (looked_all p.stmts)) ≡ true) vis (acc.pathwise.sure (work_of_stage p o t).env)))))
 
     free_stage : unguarded (onpath (work_of_stage p o t).env (in_stage t.stage p.stmts)) ≡ true

@@ -6,7 +6,7 @@ use Rattle.pdl_semantics.specs.Machine.{Ask, Awaited, is_answered, same_args}
 use Rattle.pdl_semantics.specs.Cycle.{awaited_of}
 use Rattle.pdl_derived.specs.Derived.{Work, Around, State, work_after, do_all, has_entry, with_answers, still, word_of, asked_at}
 use Rattle.pdl_derived.specs.Alone.{before, answered_op}
-use Rattle.pdl_facts.specs.Scans.{Scan, has_location, scan_after, scan_after_all, no_guards, from, none_of, binds_var, free_of, is_fixed}
+use Rattle.pdl_facts.specs.Scans.{Scan, has_location, scan_after, scan_after_all, no_guards, none_of, binds_var, free_of, is_fixed}
 use Rattle.pdl_facts.specs.Certain.{stands_before, Making, next_making, making_all, making_ok, makings_ok, is_barrier, is_sure, all_sure}
 use Rattle.pdl_facts.specs.Facts.{is_dead, looked_all, is_fetch_of, comes_by, visits_stage}
 use Rattle.pdl_facts.specs.Graphs.{on_side, In}
@@ -20,6 +20,7 @@ use Rattle.pdl_turns.proofs.Astray.{some_barrier, unreleased}
 use Rattle.pdl_derived.proofs.Answering.{AllAsks}
 use Rattle.pdl_turns.proofs.Looks.{look, looked_twice}
 use Rattle.pdl_turns.proofs.Sounds.{binds_looked}
+use Rattle.pdl_semantics.specs.Sound.{stages_from}
 
 pub clash : false ≡ true → ⊥
 clash k = cc
@@ -210,11 +211,11 @@ pub aside_asks : (p : Pipe) (s : ℕ) (qs : List Ask) → AllAsks (λ q. Aside p
 aside_asks p s [] h = tt
 aside_asks p s (q ∷ qs) h = (h.0, aside_asks p s qs h.1)
 
-pub none_stage_from : (test : Op → Bool) (k s : ℕ) (xs : List Stmt) → k ≤ s → none_of test (from k xs) ≡ true → none_of test (in_stage s xs) ≡ true
+pub none_stage_from : (test : Op → Bool) (k s : ℕ) (xs : List Stmt) → k ≤ s → none_of test (stages_from k xs) ≡ true → none_of test (in_stage s xs) ≡ true
 none_stage_from test k s [] low h = refl
 none_stage_from test k s (x ∷ xs) low h = at (x.stage == s) refl (nat_le k x.stage) refl h (none_stage_from test k s xs low)
   where
-    at : (b : Bool) → (x.stage == s) ≡ b → (c : Bool) → nat_le k x.stage ≡ c → none_of test (cond c (x ∷ from k xs) (from k xs)) ≡ true → (none_of test (from k xs) ≡ true → none_of test (in_stage s xs) ≡ true)
+    at : (b : Bool) → (x.stage == s) ≡ b → (c : Bool) → nat_le k x.stage ≡ c → none_of test (cond c (x ∷ stages_from k xs) (stages_from k xs)) ≡ true → (none_of test (stages_from k xs) ≡ true → none_of test (in_stage s xs) ≡ true)
         → none_of test (cond b (x ∷ in_stage s xs) (in_stage s xs)) ≡ true
     at true e true f i g = ap₂ (λ a d. a && d) (and_left (not (test x.op)) _ i) (g (and_right (not (test x.op)) _ i))
     at true e false f i g = absurd (late (eqb-true x.stage s e) (leb-false k x.stage f))

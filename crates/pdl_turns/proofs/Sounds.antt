@@ -1,4 +1,4 @@
--- One turn of a pipe of the whole language: from the facts of its path, where delayed reads are reads, to those of its stages, where they ask.
+-- One turn of a pipe of the whole language: stages_from the facts of its path, where delayed reads are reads, to those of its stages, where they ask.
 use Rattle.std.proofs.Common.{◌≡◌, refl, sym, ap, ap₂, ◌∙◌, subst, ℕ, suc, ◌≤◌, ◌<◌, ◌⊎◌, inl, inr, Bool, true, false, ◌&&◌, not, List, [], ◌∷◌, length, Option, Some, None, ◌==◌, nat_lt, nat_le, cond, if◌then◌else◌, arith, slice_index, ltb-true, ltb-false}
 use Rattle.std.proofs.lemmas.List.{get_or-set_other}
 use Rattle.std.proofs.lemmas.Bool.{eqb-false}
@@ -10,7 +10,7 @@ use Rattle.pdl_semantics.specs.Sequential.{Run, thread}
 use Rattle.pdl_semantics.specs.Promises.{wrote, row}
 use Rattle.pdl_derived.specs.Derived.{Work, Around, Thread, work_of_stage, work_after, do_all, latest_in, has_entry}
 use Rattle.pdl_derived.specs.Alone.{alone, before, answered_op, start_work, so_far, thread_at}
-use Rattle.pdl_facts.specs.Scans.{from, is_plain, none_of, binds_var, no_scan, scan_after_all, reads_ok, has_location}
+use Rattle.pdl_facts.specs.Scans.{is_plain, none_of, binds_var, no_scan, scan_after_all, reads_ok, has_location}
 use Rattle.pdl_facts.specs.Graphs.{stage_or, next_of, goes_by}
 use Rattle.pdl_facts.specs.Facts.{is_dead, is_fetch_of, FetchOk, FetchIf, AllFetches, looked_all, at_once, comes_by, visits_stage, Sound}
 use Rattle.pdl_facts.specs.Accepted.{along}
@@ -29,6 +29,7 @@ use Rattle.pdl_turns.proofs.Asking.{Known, alike_asking, right_caught}
 use Rattle.pdl_turns.proofs.Whole
 use Rattle.pdl_turns.proofs.Turns
 use Rattle.pdl_turns.proofs.Turns.{none_from_path}
+use Rattle.pdl_semantics.specs.Sound.{stages_from}
 
 -- scans over reads at once
 pub none_looked : (test : Op → Bool) → ((op : Op) → test (answered_op op) ≡ test op) → (xs : List Stmt) → none_of test (looked_all xs) ≡ none_of test xs
@@ -39,15 +40,15 @@ pub binds_looked : (g : ℕ) (op : Op) → binds_var g (answered_op op) ≡ bind
 binds_looked g (DelayedRead x m a) = refl
 binds_looked g _ = refl
 
-from_looked : (s : ℕ) (xs : List Stmt) → from s (looked_all xs) ≡ looked_all (from s xs)
+from_looked : (s : ℕ) (xs : List Stmt) → stages_from s (looked_all xs) ≡ looked_all (stages_from s xs)
 from_looked s [] = refl
 from_looked s (x ∷ xs) = at (nat_le s x.stage) (from_looked s xs)
   where
-    at : (b : Bool) → from s (looked_all xs) ≡ looked_all (from s xs) → cond b (look x ∷ from s (looked_all xs)) (from s (looked_all xs)) ≡ looked_all (cond b (x ∷ from s xs) (from s xs))
+    at : (b : Bool) → stages_from s (looked_all xs) ≡ looked_all (stages_from s xs) → cond b (look x ∷ stages_from s (looked_all xs)) (stages_from s (looked_all xs)) ≡ looked_all (cond b (x ∷ stages_from s xs) (stages_from s xs))
     at true h = ap (λ l. look x ∷ l) h
     at false h = h
 
--- requests come from delayed reads
+-- requests come stages_from delayed reads
 asks_op : (P : Ask → Type 0) (o : Around) (op : Op) (w : Work) → ((x m a : ℕ) → op ≡ DelayedRead x m a → P (record { mem = m; var = x; address = slice_index w.env a })) → AllAsks P w.asks → AllAsks P (work_after o op w).asks
 asks_op P o (DelayedRead x m a) w f h = all_snoc P w.asks _ h (f x m a refl)
 asks_op P o (Verify args) w f h = at (same_args (values_of args w.env) w.guess)
@@ -123,14 +124,14 @@ module _ (p : Pipe) (acc : Sound p) (arrays : Arrays) (args : List ℕ) where
       ∙ ap (λ (w : Work). slice_index w.env x) (sym (same_stage s))
       ∙ ap (λ (t : Thread). slice_index t.env x) (sym (Turns.placed_next (at_once p) acc.pathwise arrays args s))
       ∙ ap (λ (w : Work). slice_index w.env x) (Turns.so_path (at_once p) acc.pathwise arrays args (suc s))
-      ∙ sym (all_stays x (alone arrays) (from (suc s) (onpath path (looked_all p.stmts))) (so_far (along (thread (at_once p) arrays args).env (at_once p)) arrays args (suc s)) rest)
+      ∙ sym (all_stays x (alone arrays) (stages_from (suc s) (onpath path (looked_all p.stmts))) (so_far (along (thread (at_once p) arrays args).env (at_once p)) arrays args (suc s)) rest)
       ∙ ap (λ (w : Work). slice_index w.env x) (sym (Whole.rest_of (along (thread (at_once p) arrays args).env (at_once p)) (acc.pathwise.paths path) arrays args (suc s)))
       ∙ ap (λ l. slice_index l x) ((Whole.related_whole (along (thread (at_once p) arrays args).env (at_once p)) (acc.pathwise.paths path) arrays args).env ∙ ap (λ (r : Run). r.env) (sym (Turns.thread_path (at_once p) acc.pathwise arrays args)))
     where
-      rest : none_of (binds_var x) (from (suc s) (onpath (thread (at_once p) arrays args).env (looked_all p.stmts))) ≡ true
+      rest : none_of (binds_var x) (stages_from (suc s) (onpath (thread (at_once p) arrays args).env (looked_all p.stmts))) ≡ true
       rest =
           none_from_path (binds_var x) (thread (at_once p) arrays args).env (suc s) (looked_all p.stmts)
-          (ap (none_of (binds_var x)) (from_looked (suc s) p.stmts) ∙ none_looked (binds_var x) (binds_looked x) (from (suc s) p.stmts) ∙ acc.fork_bound s x a b e)
+          (ap (none_of (binds_var x)) (from_looked (suc s) p.stmts) ∙ none_looked (binds_var x) (binds_looked x) (stages_from (suc s) p.stmts) ∙ acc.fork_bound s x a b e)
 
   -- so it goes on as its path tells
   pub path_next : (s : ℕ) → next_at p arrays args s ≡ next_of p s (thread (at_once p) arrays args).env

@@ -12,9 +12,10 @@ use Rattle.pdl_derived.specs.Alone.{alone, before, answered_op}
 use Rattle.pdl_derived.proofs.Writes.{and_left, and_right, of_mem_append}
 use Rattle.pdl_derived.proofs.Entries.{entries_of, filled_other, without_own, without_other, released_own, released_other, entry, write_of, addresses, places, without_one, without_no, released_one, released_no, entries_of-filled}
 use Rattle.pdl_turns.proofs.Phases.{Tied}
-use Rattle.pdl_facts.specs.Scans.{Phase, Fresh, Held, Written, Done, holds_location, from, all_at, none_of}
+use Rattle.pdl_facts.specs.Scans.{Phase, Fresh, Held, Written, Done, holds_location, all_at, none_of}
 use Rattle.pdl_turns.proofs.Related.{Related, Ok}
 use Rattle.pdl_derived.proofs.Stages.{step}
+use Rattle.pdl_semantics.specs.Sound.{stages_from}
 
 -- statements without a release of m commit nothing of m
 quiet_op : (m : ℕ) (o : Around) (op : Op) (w : Work) → not (is_release m op) ≡ true → of_mem m (work_after o op w).commits ≡ of_mem m w.commits
@@ -65,17 +66,17 @@ pub release_looked : (m : ℕ) (op : Op) → is_release m (answered_op op) ≡ i
 release_looked m (DelayedRead x n a) = refl
 release_looked m _ = refl
 
-pub none_from : (test : Op → Bool) (c s : ℕ) (xs : List Stmt) → all_at test c xs ≡ true → c < s → none_of test (from s xs) ≡ true
+pub none_from : (test : Op → Bool) (c s : ℕ) (xs : List Stmt) → all_at test c xs ≡ true → c < s → none_of test (stages_from s xs) ≡ true
 none_from test c s [] h k = refl
 none_from test c s (x ∷ xs) h k = at (nat_le s x.stage) refl (test x.op) refl (none_from test c s xs (and_right _ _ h) k) (and_left _ _ h)
   where
-    at : (b : Bool) → nat_le s x.stage ≡ b → (t : Bool) → test x.op ≡ t → none_of test (from s xs) ≡ true → (not (test x.op) || (x.stage == c)) ≡ true
-        → none_of test (cond b (x ∷ from s xs) (from s xs)) ≡ true
+    at : (b : Bool) → nat_le s x.stage ≡ b → (t : Bool) → test x.op ≡ t → none_of test (stages_from s xs) ≡ true → (not (test x.op) || (x.stage == c)) ≡ true
+        → none_of test (cond b (x ∷ stages_from s xs) (stages_from s xs)) ≡ true
     at true e true f r q = absurd (late (eqb-true x.stage c (subst (λ t. (not t || (x.stage == c)) ≡ true) f q)) (leb-true s x.stage e))
       where
         late : x.stage ≡ c → s ≤ x.stage → ⊥
         late u v = omega arith
-    at true e false f r q = ap (λ t. not t && none_of test (from s xs)) f ∙ r
+    at true e false f r q = ap (λ t. not t && none_of test (stages_from s xs)) f ∙ r
     at false e t f r q = r
 
 -- the addresses of a thread's pending write and commit of m

@@ -9,7 +9,7 @@ use Rattle.pdl_derived.specs.Derived.{Work, work_of_stage, do_all, latest_in}
 use Rattle.pdl_derived.specs.Alone.{alone, before, start_work, so_far, thread_at}
 use Rattle.pdl_derived.proofs.Entries.{entries_of}
 use Rattle.pdl_derived.proofs.Stages.{or_else, next_piece, joined, reset}
-use Rattle.pdl_facts.specs.Scans.{from, is_plain, none_of, binds_var, no_scan, scan_after_all}
+use Rattle.pdl_facts.specs.Scans.{is_plain, none_of, binds_var, no_scan, scan_after_all}
 use Rattle.pdl_facts.specs.Accepted.{Accepted, along, Pathwise}
 use Rattle.pdl_turns.proofs.Paths.{Fixed, run_path, fixed_path_to, fixed_all, all_stays, before_path, stage_path}
 use Rattle.pdl_derived.proofs.Writes.{and_left, and_right}
@@ -19,10 +19,11 @@ use Rattle.pdl_turns.proofs.Pending.{marks, has_value}
 use Rattle.pdl_turns.proofs.Pending
 use Rattle.pdl_turns.proofs.Whole
 use Rattle.pdl_turns.proofs.Own.{fixed_second}
+use Rattle.pdl_semantics.specs.Sound.{stages_from}
 
--- what holds of a stage and of those after it holds of all from it on
-pub none_parts : (test : Op → Bool) (s : ℕ) (xs : List Stmt) → none_of test (in_stage s xs ++ from (suc s) xs) ≡ true → none_of test (from s xs) ≡ true
-none_parts test s xs h = both xs (none_first test (in_stage s xs) (from (suc s) xs) h) (none_second test (in_stage s xs) (from (suc s) xs) h)
+-- what holds of a stage and of those after it holds of all stages_from it on
+pub none_parts : (test : Op → Bool) (s : ℕ) (xs : List Stmt) → none_of test (in_stage s xs ++ stages_from (suc s) xs) ≡ true → none_of test (stages_from s xs) ≡ true
+none_parts test s xs h = both xs (none_first test (in_stage s xs) (stages_from (suc s) xs) h) (none_second test (in_stage s xs) (stages_from (suc s) xs) h)
   where
     none_first : (test : Op → Bool) (us vs : List Stmt) → none_of test (us ++ vs) ≡ true → none_of test us ≡ true
     none_first test [] vs k = refl
@@ -32,13 +33,13 @@ none_parts test s xs h = both xs (none_first test (in_stage s xs) (from (suc s) 
     none_second test [] vs k = k
     none_second test (u ∷ us) vs k = none_second test us vs (and_right _ _ k)
 
-    both : (ys : List Stmt) → none_of test (in_stage s ys) ≡ true → none_of test (from (suc s) ys) ≡ true → none_of test (from s ys) ≡ true
+    both : (ys : List Stmt) → none_of test (in_stage s ys) ≡ true → none_of test (stages_from (suc s) ys) ≡ true → none_of test (stages_from s ys) ≡ true
     both [] h k = refl
     both (y ∷ ys) h k = at (y.stage == s) refl (nat_le (suc s) y.stage) refl (nat_le s y.stage) refl h k (both ys)
       where
         at : (b : Bool) → (y.stage == s) ≡ b → (c : Bool) → nat_le (suc s) y.stage ≡ c → (d : Bool) → nat_le s y.stage ≡ d
-            → none_of test (cond b (y ∷ in_stage s ys) (in_stage s ys)) ≡ true → none_of test (cond c (y ∷ from (suc s) ys) (from (suc s) ys)) ≡ true
-            → (none_of test (in_stage s ys) ≡ true → none_of test (from (suc s) ys) ≡ true → none_of test (from s ys) ≡ true) → none_of test (cond d (y ∷ from s ys) (from s ys)) ≡ true
+            → none_of test (cond b (y ∷ in_stage s ys) (in_stage s ys)) ≡ true → none_of test (cond c (y ∷ stages_from (suc s) ys) (stages_from (suc s) ys)) ≡ true
+            → (none_of test (in_stage s ys) ≡ true → none_of test (stages_from (suc s) ys) ≡ true → none_of test (stages_from s ys) ≡ true) → none_of test (cond d (y ∷ stages_from s ys) (stages_from s ys)) ≡ true
         at true e true f d g i j go = absurd (let x : y.stage ≡ s = eqb-true _ _ e in let z : suc s ≤ y.stage = leb-true _ _ f in omega arith)
         at true e false f true g i j go = ap₂ (λ a b. a && b) (and_left (not (test y.op)) _ i) (go (and_right (not (test y.op)) _ i) j)
         at true e false f false g i j go = absurd (let x : y.stage ≡ s = eqb-true _ _ e in let z : y.stage < s = leb-false _ _ g in omega arith)
@@ -50,14 +51,14 @@ none_parts test s xs h = both xs (none_first test (in_stage s xs) (from (suc s) 
             apart u v w = u (omega arith)
         at false e false f false g i j go = go i j
 
-pub none_from_path : (test : Op → Bool) (path : List ℕ) (s : ℕ) (xs : List Stmt) → none_of test (from s xs) ≡ true → none_of test (from s (onpath path xs)) ≡ true
+pub none_from_path : (test : Op → Bool) (path : List ℕ) (s : ℕ) (xs : List Stmt) → none_of test (stages_from s xs) ≡ true → none_of test (stages_from s (onpath path xs)) ≡ true
 none_from_path test path s [] h = refl
 none_from_path test path s (x ∷ xs) h = at (nat_le s x.stage) refl (all_hold x.guards path) h (none_from_path test path s xs)
   where
-    at : (b : Bool) → nat_le s x.stage ≡ b → (c : Bool) → none_of test (cond b (x ∷ from s xs) (from s xs)) ≡ true → (none_of test (from s xs) ≡ true → none_of test (from s (onpath path xs)) ≡ true)
-        → none_of test (from s (cond c (record x { guards = [] } ∷ onpath path xs) (onpath path xs))) ≡ true
-    at true e true k f = ap (λ b. none_of test (cond b (record x { guards = [] } ∷ from s (onpath path xs)) (from s (onpath path xs)))) e ∙ ap₂ (λ a d. a && d) (and_left (not (test x.op)) _ k) (f (and_right (not (test x.op)) _ k))
-    at false e true k f = ap (λ b. none_of test (cond b (record x { guards = [] } ∷ from s (onpath path xs)) (from s (onpath path xs)))) e ∙ f k
+    at : (b : Bool) → nat_le s x.stage ≡ b → (c : Bool) → none_of test (cond b (x ∷ stages_from s xs) (stages_from s xs)) ≡ true → (none_of test (stages_from s xs) ≡ true → none_of test (stages_from s (onpath path xs)) ≡ true)
+        → none_of test (stages_from s (cond c (record x { guards = [] } ∷ onpath path xs) (onpath path xs))) ≡ true
+    at true e true k f = ap (λ b. none_of test (cond b (record x { guards = [] } ∷ stages_from s (onpath path xs)) (stages_from s (onpath path xs)))) e ∙ ap₂ (λ a d. a && d) (and_left (not (test x.op)) _ k) (f (and_right (not (test x.op)) _ k))
+    at false e true k f = ap (λ b. none_of test (cond b (record x { guards = [] } ∷ stages_from s (onpath path xs)) (stages_from s (onpath path xs)))) e ∙ f k
     at true e false k f = f (and_right (not (test x.op)) _ k)
     at false e false k f = f k
 
@@ -72,15 +73,15 @@ module _ (p : Pipe) (acc : Pathwise p) (arrays : Arrays) (args : List ℕ) where
   thread_path = run_path (thread p arrays args).env p.stmts (Whole.start_run p arrays args) acc.fixed_guards refl
 
   -- a variable that is bound no more has its value of the path
-  pub value_kept : (s g : ℕ) → none_of (binds_var g) (from s p.stmts) ≡ true → slice_index (so_far (along (thread p arrays args).env p) arrays args s).env g ≡ slice_index (thread p arrays args).env g
+  pub value_kept : (s g : ℕ) → none_of (binds_var g) (stages_from s p.stmts) ≡ true → slice_index (so_far (along (thread p arrays args).env p) arrays args s).env g ≡ slice_index (thread p arrays args).env g
   value_kept s g h =
-      sym (all_stays g (alone arrays) (from s (onpath (thread p arrays args).env p.stmts)) (so_far (along (thread p arrays args).env p) arrays args s) (none_from_path (binds_var g) (thread p arrays args).env s p.stmts h))
+      sym (all_stays g (alone arrays) (stages_from s (onpath (thread p arrays args).env p.stmts)) (so_far (along (thread p arrays args).env p) arrays args s) (none_from_path (binds_var g) (thread p arrays args).env s p.stmts h))
       ∙ ap (λ (w : Work). slice_index w.env g) (sym (Whole.rest_of (along (thread p arrays args).env p) accq arrays args s))
       ∙ ap (λ l. slice_index l g) ((Whole.related_whole (along (thread p arrays args).env p) accq arrays args).env ∙ ap (λ (r : Run). r.env) (sym thread_path))
 
   pub fixed_before : (s : ℕ) → Fixed (thread p arrays args).env (alone arrays) (before s p.stmts) (start_work p args)
   fixed_before s =
-      fixed_path_to (thread p arrays args).env (alone arrays) (before s p.stmts) (in_stage s p.stmts ++ from (suc s) p.stmts) (start_work p args) (acc.fixed_by s)
+      fixed_path_to (thread p arrays args).env (alone arrays) (before s p.stmts) (in_stage s p.stmts ++ stages_from (suc s) p.stmts) (start_work p args) (acc.fixed_by s)
       (λ g k. ap (λ l. slice_index (do_all (alone arrays) l (start_work p args)).env g) (sym (before_path (thread p arrays args).env s p.stmts)) ∙ value_kept s g (none_parts (binds_var g) s p.stmts k))
 
   pub so_path : (s : ℕ) → so_far p arrays args s ≡ so_far (along (thread p arrays args).env p) arrays args s
@@ -90,7 +91,7 @@ module _ (p : Pipe) (acc : Pathwise p) (arrays : Arrays) (args : List ℕ) where
 
   pub fixed_stage : (s : ℕ) → Fixed (thread p arrays args).env (alone arrays) (in_stage s p.stmts) (reset (so_far p arrays args s))
   fixed_stage s =
-      fixed_path_to (thread p arrays args).env (alone arrays) (in_stage s p.stmts) (from (suc s) p.stmts) (reset (so_far p arrays args s)) (fixed_second (before s p.stmts) (in_stage s p.stmts ++ from (suc s) p.stmts) (acc.fixed_by s))
+      fixed_path_to (thread p arrays args).env (alone arrays) (in_stage s p.stmts) (stages_from (suc s) p.stmts) (reset (so_far p arrays args s)) (fixed_second (before s p.stmts) (in_stage s p.stmts ++ stages_from (suc s) p.stmts) (acc.fixed_by s))
       (λ g k. (λ i. slice_index (do_all (alone arrays) (sym (stage_path (thread p arrays args).env s p.stmts) i) (reset (so_path s i))).env g)
       ∙ ap (λ (w : Work). slice_index w.env g) (sym (next_piece (along (thread p arrays args).env p) arrays args s (accq.pieces s))) ∙ value_kept (suc s) g k)
 

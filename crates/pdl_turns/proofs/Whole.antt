@@ -10,12 +10,13 @@ use Rattle.pdl_derived.specs.Alone.{alone, before, start_work, so_far, thread_at
 use Rattle.pdl_derived.proofs.Writes.{and_left, and_right, of_mem_append, row_committed}
 use Rattle.pdl_derived.proofs.Entries.{entries_of, addresses, places}
 use Rattle.pdl_turns.proofs.Phases.{Tied}
-use Rattle.pdl_facts.specs.Scans.{Phase, Fresh, Held, Written, Done, next_phase, phase_ok, no_guards, phases_ok, phase_all, is_over, from, none_of, scan_after, reads_ok, scan_after_all, is_plain, Scan, no_scan}
+use Rattle.pdl_facts.specs.Scans.{Phase, Fresh, Held, Written, Done, next_phase, phase_ok, no_guards, phases_ok, phase_all, is_over, none_of, scan_after, reads_ok, scan_after_all, is_plain, Scan, no_scan}
 use Rattle.pdl_turns.proofs.Related.{Related, related_all, related_step, Ok, next_phases}
 use Rattle.pdl_derived.proofs.Stages.{step, joined, next_piece, do_all_append}
 use Rattle.pdl_facts.specs.Accepted.{Accepted}
 use Rattle.pdl_turns.proofs.Turn.{quiet, none_in_stage, none_before, none_from, release_looked, spots, spots_op}
 use Rattle.pdl_turns.proofs.Alike.{taken_none}
+use Rattle.pdl_semantics.specs.Sound.{stages_from}
 
 ok_here : (n : ℕ) (ph : Phase) (x : Stmt) (xs : List Stmt) → phases_ok n ph (x ∷ xs) ≡ true → phase_ok n ph x.op ≡ true
 ok_here n ph x xs h = and_right _ _ (and_left _ _ h)
@@ -106,10 +107,10 @@ module _ (p : Pipe) (acc : Accepted p) (arrays : Arrays) (args : List ℕ) where
   start_related = record { env = refl; arrays_now = refl; tied = λ m. (refl, refl, refl) }
 
   pub ok_before : (s m : ℕ) → phases_ok m Fresh (before s p.stmts) ≡ true
-  ok_before s m = phases_first m (before s p.stmts) (from s p.stmts) Fresh (subst (λ l. phases_ok m Fresh l ≡ true) (acc.ordered s) (acc.phases m))
+  ok_before s m = phases_first m (before s p.stmts) (stages_from s p.stmts) Fresh (subst (λ l. phases_ok m Fresh l ≡ true) (acc.ordered s) (acc.phases m))
 
-  pub ok_from : (s m : ℕ) → phases_ok m (phase_all m Fresh (before s p.stmts)) (from s p.stmts) ≡ true
-  ok_from s m = phases_second m (before s p.stmts) (from s p.stmts) Fresh (subst (λ l. phases_ok m Fresh l ≡ true) (acc.ordered s) (acc.phases m))
+  pub ok_from : (s m : ℕ) → phases_ok m (phase_all m Fresh (before s p.stmts)) (stages_from s p.stmts) ≡ true
+  ok_from s m = phases_second m (before s p.stmts) (stages_from s p.stmts) Fresh (subst (λ l. phases_ok m Fresh l ≡ true) (acc.ordered s) (acc.phases m))
 
   pub related_at : (s : ℕ) → Related arrays (λ m. phase_all m Fresh (before s p.stmts)) (so_far p arrays args s) (run_at p arrays args s)
   related_at s = related_all arrays (before s p.stmts) (λ m. Fresh) (start_work p args) (start_run p arrays args) (ok_before s) start_related
@@ -117,9 +118,9 @@ module _ (p : Pipe) (acc : Accepted p) (arrays : Arrays) (args : List ℕ) where
   pub related_whole : Related arrays (λ m. phase_all m Fresh p.stmts) (do_all (alone arrays) p.stmts (start_work p args)) (thread p arrays args)
   related_whole = related_all arrays p.stmts (λ m. Fresh) (start_work p args) (start_run p arrays args) acc.phases start_related
 
-  -- the rest of the thread from stage s on
-  pub rest_of : (s : ℕ) → do_all (alone arrays) p.stmts (start_work p args) ≡ do_all (alone arrays) (from s p.stmts) (so_far p arrays args s)
-  rest_of s = ap (λ l. do_all (alone arrays) l (start_work p args)) (acc.ordered s) ∙ do_all_append (alone arrays) (before s p.stmts) (from s p.stmts) (start_work p args)
+  -- the rest of the thread stages_from stage s on
+  pub rest_of : (s : ℕ) → do_all (alone arrays) p.stmts (start_work p args) ≡ do_all (alone arrays) (stages_from s p.stmts) (so_far p arrays args s)
+  rest_of s = ap (λ l. do_all (alone arrays) l (start_work p args)) (acc.ordered s) ∙ do_all_append (alone arrays) (before s p.stmts) (stages_from s p.stmts) (start_work p args)
 
   -- in the end nothing of m is pending, and the commits are the writes
   pub at_end : (m : ℕ) → (entries_of m (do_all (alone arrays) p.stmts (start_work p args)).entries ≡ []) × (of_mem m (do_all (alone arrays) p.stmts (start_work p args)).commits ≡ of_mem m (thread p arrays args).writes)
@@ -131,7 +132,7 @@ module _ (p : Pipe) (acc : Accepted p) (arrays : Arrays) (args : List ℕ) where
 
   pub commits_late : (s m : ℕ) → commit_stage p m < s → of_mem m (so_far p arrays args s).commits ≡ of_mem m (thread p arrays args).writes
   commits_late s m h =
-      sym (quiet m (alone arrays) (from s p.stmts) (so_far p arrays args s) (none_from (is_release m) (commit_stage p m) s p.stmts (acc.releases m) h))
+      sym (quiet m (alone arrays) (stages_from s p.stmts) (so_far p arrays args s) (none_from (is_release m) (commit_stage p m) s p.stmts (acc.releases m) h))
       ∙ ap (λ (w : Work). of_mem m w.commits) (sym (rest_of s)) ∙ (at_end m).1
 
   pub piece : (s : ℕ) → so_far p arrays args (suc s) ≡ joined (so_far p arrays args s) (work_of_stage p (alone arrays) (thread_at p arrays args s))
@@ -154,7 +155,7 @@ module _ (p : Pipe) (acc : Accepted p) (arrays : Arrays) (args : List ℕ) where
   -- past the reserves, the pending addresses are those of the undone writes
   pub all_places : (s m : ℕ) → reserve_stage p m < s → spots (entries_of m (so_far p arrays args s).entries) (of_mem m (so_far p arrays args s).commits) ≡ places (of_mem m (thread p arrays args).writes)
   all_places s m h =
-      sym (spots_all arrays m (from s p.stmts) (λ n. phase_all n Fresh (before s p.stmts)) (so_far p arrays args s) (run_at p arrays args s) (none_from (is_reserve m) (reserve_stage p m) s p.stmts (acc.reserves m) h) (ok_from s) (related_at s))
+      sym (spots_all arrays m (stages_from s p.stmts) (λ n. phase_all n Fresh (before s p.stmts)) (so_far p arrays args s) (run_at p arrays args s) (none_from (is_reserve m) (reserve_stage p m) s p.stmts (acc.reserves m) h) (ok_from s) (related_at s))
       ∙ ap (λ (w : Work). spots (entries_of m w.entries) (of_mem m w.commits)) (sym (rest_of s))
       ∙ ap₂ spots (at_end m).0 (at_end m).1
 

@@ -1,6 +1,6 @@
-//! The text of a netlist, given only where it reads as that netlist.
+//! The text of a netlist, given only where it reads as that netlist: it is written by `pdl_vlog`, read back by `pdl_vread` and compared by `pdl_netsame`.
 //!
-//! It is written by `pdl_vlog`, read back by `pdl_vread` and compared by `pdl_netsame`.
+//! The layer above may use `verilog_text`.
 #![tactic(auto)]
 
 pub mod checked;

@@ -1,5 +1,5 @@
 -- The text of a netlist.
-use Rattle.std.specs.Prelude.{◌≡◌, ◌≤◌, slice_get, ℕ, suc, ◌+◌, ◌-◌, ◌/◌, List, [], ◌∷◌, ◌++◌, flat_map, slice_index_or, codes, decimal, Option, Some, None}
+use Rattle.std.specs.Prelude.{◌≡◌, ◌≤◌, slice_get, ℕ, suc, ◌+◌, ◌-◌, ◌/◌, List, [], ◌∷◌, ◌++◌, flat_map, slice_index_or, codes, decimal, Some}
 use Rattle.pdl_net.specs.declared.Net.{Net}
 use Rattle.pdl_net.specs.declared.Net.TheVariants.{Input, Reg as RegNet, Cell as CellNet}
 use Rattle.pdl_net.specs.declared.Cell.{Cell}
@@ -15,7 +15,7 @@ use Rattle.pdl_net.specs.declared.WritePort.{WritePort}
 use Rattle.pdl_net.specs.declared.Netlist.{Netlist}
 use Rattle.pdl_net.specs.Circuit.{circuit_of}
 use Rattle.pdl_net.specs.Meaning.{signal}
-use Rattle.pdl_vlog.specs.Digits.{hex}
+use Rattle.pdl_word.specs.Digits.{hex}
 
 -- ---- names
 

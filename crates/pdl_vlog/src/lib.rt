@@ -1,4 +1,6 @@
-//! The text of a netlist in the Verilog subset.
+//! The text of a netlist in the Verilog subset, as a definition and as it is written.
+//!
+//! The layers above may use `write_verilog`.
 #![tactic(auto)]
 
 mod cells;

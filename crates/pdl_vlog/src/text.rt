@@ -1,9 +1,10 @@
 // A text that grows.
-ghost use Rattle.std.specs.Prelude.{◌≡◌, ◌++◌, ◌≤◌, OnOk, decimal};
-ghost use Rattle.pdl_vlog.specs.Digits as spec;
+ghost use Rattle.std.specs.Prelude.{◌≡◌, ◌++◌, ◌≤◌, [], OnOk, decimal};
+ghost use Rattle.pdl_word.specs.Digits.{hex};
 
 use itoa::Buffer;
 use pdl_kit::NoMemory;
+use pdl_word::hex_digit;
 use std::alloc::Global;
 use std::marker::Model;
 
@@ -24,7 +25,7 @@ impl Model for Text {
 impl Text {
     /// Nothing is written.
     pub fn new(alloc: Global) -> Text
-        ensures { result ≡ spec.nothing }
+        ensures { result ≡ [] }
     {
         Text {
             bytes: Vec::new(alloc),
@@ -57,24 +58,12 @@ impl Text {
     /// Appends the `count` lowest hexadecimal digits of a value, most significant first.
     pub fn push_hex(&mut self, count: u8, value: u64) -> Result<(), NoMemory>
         requires { count ≤ 16 }
-        ensures { OnOk result (self.new ≡ self.old ++ spec.hex count value) }
+        ensures { OnOk result (self.new ≡ self.old ++ hex count value) }
     {
         for done in 0..count {
             let place = count - 1 - done;
             self.push(&[hex_digit((value >> (4 * place)) % 16)])?;
         }
         Ok(())
-    }
-}
-
-// The lower hexadecimal digit of a number below 16.
-fn hex_digit(n: u64) -> u8
-    requires { spec.IsDigit n }
-    ensures { result ≡ spec.hex_digit n }
-{
-    if n < 10 {
-        b'0' + n as u8
-    } else {
-        b'a' + (n as u8 - 10)
     }
 }

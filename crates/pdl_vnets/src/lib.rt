@@ -1,4 +1,6 @@
-//! The nets that the names of a file stand for, or the first name that stands for nothing of its kind.
+//! The nets that the names of a file stand for, or the first name that stands for nothing of its kind (V2).
+//!
+//! The layers above may use `wire`, which gives all cells, `assign`s and blocks over nets, and `Places`.
 #![tactic(auto)]
 
 pub mod passes;

@@ -2,7 +2,6 @@
 use Rattle.std.proofs.Common.{◌≡◌, ◌≢◌, ◌⊎◌, inl, inr, ℕ, ◌+◌, ◌*◌, ◌^◌, ◌<◌, ◌≤◌, Bool, true, false, not, ◌&&◌, ◌||◌, cond, eqb, leb, List, [], ◌∷◌, length, get_or, map, Some, None, All, Contains, bytes_eq, refl, sym, ap, ◌∙◌, subst, arith, length-append}
 use Rattle.std.specs.List.{list_all, list_any}
 use Rattle.std.proofs.lemmas.Bool.{and_parts, and_from, or_cases, or_left, or_right, leb-true, le-leb, eqb-true, eq-eqb, not-true, not_from_false, true≢false, false_from_ne_true, cond_both}
-use Rattle.std.proofs.lemmas.Slice.Eq.{bytes_eq-Decides}
 use Rattle.std.proofs.lemmas.List.{get_or_default, get_or-map, length-map}
 use Rattle.std.proofs.lemmas.List.Sums.{AllPass-from_list_all, list_all-from_AllPass}
 use Rattle.std.proofs.lemmas.List.Folds.{Any-from_list_any, list_any-from_Any, list_any_none}
@@ -18,14 +17,9 @@ use Rattle.pdl_vpipe.specs.Matched.{heads, same, after}
 use Rattle.pdl_vpipe.specs.Tests as spec
 use Rattle.pdl_vpipe.specs.Tests.{judged}
 use Rattle.pdl_vpipe.proofs.Telling.{told_of}
+use Rattle.pdl_word.proofs.Bytes.{same_bytes, bytes_same}
 
 -- ---- names
-
-named_is : (x y : List ℕ) → bytes_eq x y ≡ true → x ≡ y
-named_is x y h = (bytes_eq-Decides x y).0 h
-
-is_named : (x y : List ℕ) → x ≡ y → bytes_eq x y ≡ true
-is_named x y e = (bytes_eq-Decides x y).1 e
 
 -- ---- lists
 
@@ -59,10 +53,10 @@ same_is e h k =
     let make : List ℕ → ℕ → Bool → Head = λ n w i. record { name = n; width = w; input = i } in
     let a = and_parts (bytes_eq h.name e.name) _ k in
     let b = and_parts (eqb h.width e.width) _ a.1 in
-    ap (λ n. make n h.width h.input) (named_is h.name e.name a.0) ∙ (ap (λ w. make e.name w h.input) (eqb-true h.width e.width b.0) ∙ ap (λ i. make e.name e.width i) (flag e.input h.input b.1))
+    ap (λ n. make n h.width h.input) (bytes_same h.name e.name a.0) ∙ (ap (λ w. make e.name w h.input) (eqb-true h.width e.width b.0) ∙ ap (λ i. make e.name e.width i) (flag e.input h.input b.1))
 
 same_self : (e : Head) → same e e ≡ true
-same_self e = and_from _ _ (is_named e.name e.name refl) (and_from _ _ (eq-eqb e.width e.width refl) (flag_same e.input))
+same_self e = and_from _ _ (same_bytes e.name e.name refl) (and_from _ _ (eq-eqb e.width e.width refl) (flag_same e.input))
 
 over_is : (es hs : List Head) → spec.is_over (after es hs) ≡ true → hs ≡ es
 over_is [] [] h = refl
@@ -98,10 +92,10 @@ sizes_same d l e = and_from _ _ (eq-eqb d.width l.width (ap (λ m. m.width) e)) 
 agree_is : (delayed locked : List PortMem) → list_all (spec.all_agree locked) delayed ≡ true → (d l : PortMem) → Contains delayed d → Contains locked l → d.name ≡ l.name → d ≡ l
 agree_is delayed locked h d l c k e =
     let a : spec.agrees d l ≡ true = at_element (spec.agrees d) locked l (at_element (spec.all_agree locked) delayed d h c) k in
-    sizes_are d l e (ap (λ b. cond b (spec.same_sizes d l) true) (sym (is_named d.name l.name e)) ∙ a)
+    sizes_are d l e (ap (λ b. cond b (spec.same_sizes d l) true) (sym (same_bytes d.name l.name e)) ∙ a)
 
 is_agree : (delayed locked : List PortMem) → ((d l : PortMem) → Contains delayed d → Contains locked l → d.name ≡ l.name → d ≡ l) → list_all (spec.all_agree locked) delayed ≡ true
-is_agree delayed locked h = each_element (spec.all_agree locked) delayed (λ d c. each_element (spec.agrees d) locked (λ l k. cond_both (bytes_eq d.name l.name) (spec.same_sizes d l) true (λ b. b ≡ true) (λ e. sizes_same d l (h d l c k (named_is d.name l.name e))) (λ e. refl)))
+is_agree delayed locked h = each_element (spec.all_agree locked) delayed (λ d c. each_element (spec.agrees d) locked (λ l k. cond_both (bytes_eq d.name l.name) (spec.same_sizes d l) true (λ b. b ≡ true) (λ e. sizes_same d l (h d l c k (bytes_same d.name l.name e))) (λ e. refl)))
 
 -- ---- arrays
 
@@ -109,10 +103,10 @@ is_agree delayed locked h = each_element (spec.all_agree locked) delayed (λ d c
 none_named : (x : List ℕ) (ms : List PortMem) → list_any (spec.is_named x) ms ≡ false → All (λ m. m.name ≢ x) ms
 none_named x ms h = λ k d l e.
     let m = get_or ms k d in
-    true≢false (sym (list_any-from_Any (spec.is_named x) ms (k, m, l, get_or_default ms k m d l, is_named m.name x e)) ∙ h)
+    true≢false (sym (list_any-from_Any (spec.is_named x) ms (k, m, l, get_or_default ms k m d l, same_bytes m.name x e)) ∙ h)
 
 named_none : (x : List ℕ) (ms : List PortMem) → All (λ m. m.name ≢ x) ms → list_any (spec.is_named x) ms ≡ false
-named_none x ms h = list_any_none (spec.is_named x) ms (λ k d l. false_from_ne_true _ (λ e. h k d l (named_is _ x e)))
+named_none x ms h = list_any_none (spec.is_named x) ms (λ k d l. false_from_ne_true _ (λ e. h k d l (bytes_same _ x e)))
 
 -- where all have other names none is found
 unnamed_clash : (x : List ℕ) (ms : List PortMem) → list_any (spec.is_named x) ms ≡ true → All (λ m. m.name ≢ x) ms → ⊥
@@ -132,13 +126,13 @@ is_depth b d (inr e) = or_right _ _ (eq-eqb d (2 * 2 ^ b) e)
 -- what the test of a locked memory says where it has the array's name
 lock_is : (a : Array) (m : PortMem) → spec.fits_lock a m ≡ true → m.name ≡ a.name → (a.width ≡ m.width) × ((a.depth ≡ 2 ^ m.bits) ⊎ (a.depth ≡ 2 * 2 ^ m.bits))
 lock_is a m h e =
-    let k : eqb a.width m.width && spec.has_depth m.bits a.depth ≡ true = ap (λ b. cond b (eqb a.width m.width && spec.has_depth m.bits a.depth) true) (sym (is_named m.name a.name e)) ∙ h in
+    let k : eqb a.width m.width && spec.has_depth m.bits a.depth ≡ true = ap (λ b. cond b (eqb a.width m.width && spec.has_depth m.bits a.depth) true) (sym (same_bytes m.name a.name e)) ∙ h in
     let p = and_parts (eqb a.width m.width) (spec.has_depth m.bits a.depth) k in
     (eqb-true a.width m.width p.0, depth_is m.bits a.depth p.1)
 
 is_lock : (a : Array) (m : PortMem) → (m.name ≡ a.name → a.width ≡ m.width) → (m.name ≡ a.name → (a.depth ≡ 2 ^ m.bits) ⊎ (a.depth ≡ 2 * 2 ^ m.bits)) → spec.fits_lock a m ≡ true
 is_lock a m w d = cond_both (bytes_eq m.name a.name) (eqb a.width m.width && spec.has_depth m.bits a.depth) true (λ b. b ≡ true)
-    (λ e. let n = named_is m.name a.name e in and_from _ _ (eq-eqb a.width m.width (w n)) (is_depth m.bits a.depth (d n))) (λ e. refl)
+    (λ e. let n = bytes_same m.name a.name e in and_from _ _ (eq-eqb a.width m.width (w n)) (is_depth m.bits a.depth (d n))) (λ e. refl)
 
 unwritten_is : (ws : List WritePort) → spec.is_unwritten ws ≡ true → ws ≡ []
 unwritten_is [] h = refl
@@ -181,11 +175,11 @@ found_mem delayed m h =
     let a = Any-from_list_any (spec.same_mem m) delayed h in
     let d = a.1 in
     let p = and_parts (bytes_eq d.name m.name) (spec.same_sizes d m) a.4 in
-    let e : d ≡ m = sizes_are d m (named_is d.name m.name p.0) p.1 in
+    let e : d ≡ m = sizes_are d m (bytes_same d.name m.name p.0) p.1 in
     (a.0, a.2, get_or_default delayed a.0 m d a.2 ∙ (a.3 ∙ e))
 
 mem_found : (delayed : List PortMem) (m : PortMem) → Contains delayed m → list_any (spec.same_mem m) delayed ≡ true
-mem_found delayed m c = list_any-from_Any (spec.same_mem m) delayed (c.0, m, c.1, c.2, and_from _ _ (is_named m.name m.name refl) (sizes_same m m refl))
+mem_found delayed m c = list_any-from_Any (spec.same_mem m) delayed (c.0, m, c.1, c.2, and_from _ _ (same_bytes m.name m.name refl) (sizes_same m m refl))
 
 abbrev has : List ℕ → Array → Bool
 has x a = bytes_eq a.name x
@@ -194,7 +188,7 @@ found_array : (arrays : List Array) (x : List ℕ) → list_any (has x) arrays �
 found_array arrays x h =
     let a = Any-from_list_any (has x) arrays h in
     let n = length-map arrays (λ (y : Array). y.name) in
-    (a.0, omega (arith, n, a.2), get_or-map (λ (y : Array). y.name) arrays a.0 a.1 x a.2 ∙ (ap (λ (y : Array). y.name) a.3 ∙ named_is a.1.name x a.4))
+    (a.0, omega (arith, n, a.2), get_or-map (λ (y : Array). y.name) arrays a.0 a.1 x a.2 ∙ (ap (λ (y : Array). y.name) a.3 ∙ bytes_same a.1.name x a.4))
 
 array_found : (arrays : List Array) (x : List ℕ) → Contains (map (λ a. a.name) arrays) x → list_any (has x) arrays ≡ true
 array_found arrays x c =
@@ -202,7 +196,7 @@ array_found arrays x c =
     let l : c.0 < length arrays = omega (arith, n, c.1) in
     let a = get_or arrays c.0 no_array in
     let e : a.name ≡ x = sym (get_or-map (λ (y : Array). y.name) arrays c.0 no_array x l) ∙ c.2 in
-    list_any-from_Any (has x) arrays (c.0, a, l, get_or_default arrays c.0 a no_array l, is_named a.name x e)
+    list_any-from_Any (has x) arrays (c.0, a, l, get_or_default arrays c.0 a no_array l, same_bytes a.name x e)
 
 kept_is : (delayed : List PortMem) (arrays : List Array) (m : PortMem) → spec.is_kept delayed arrays m ≡ true → IsKept delayed arrays m
 kept_is delayed arrays m h = go (or_cases (list_any (spec.same_mem m) delayed) (list_any (has m.name) arrays) h)

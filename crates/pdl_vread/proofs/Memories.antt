@@ -1,5 +1,5 @@
 -- The memories of a netlist that is well formed have different names, and words of 1 to 64 bits, as an image of them wants.
-use Rattle.std.proofs.Common.{◌≡◌, ◌≢◌, ℕ, suc, ◌<◌, ◌≤◌, Bool, true, false, cond, List, [], ◌∷◌, ◌++◌, length, map, get_or, append_assoc, flat_map, find, All, AllPairs, codes, bytes_eq, Option, Some, None, Result, Ok, Err, IfOk, refl, sym, ap, ◌∙◌, subst, arith}
+use Rattle.std.proofs.Common.{◌≡◌, ◌≢◌, ℕ, suc, ◌<◌, ◌≤◌, Bool, true, false, cond, List, [], ◌∷◌, ◌++◌, length, map, get_or, append_assoc, flat_map, find, All, AllPairs, codes, bytes_eq, Some, Result, Ok, Err, IfOk, refl, sym, ap, ◌∙◌, subst, arith}
 use Rattle.std.specs.List.{range_with_len}
 use Rattle.std.proofs.lemmas.Option.{slice_get-get_or}
 use Rattle.std.proofs.lemmas.List.{length-map, get_or_default}
@@ -16,6 +16,7 @@ use Rattle.pdl_vread.specs.declared.read.VError.{VError}
 use Rattle.pdl_vread.specs.Reads.{Judges}
 use Rattle.pdl_vread.proofs.Named.{get_mapped}
 use Rattle.pdl_vread.proofs.WellFormed.{reads_well, read_well}
+use Rattle.pdl_net.proofs.PipeMems.{told, told_names}
 
 abbrev pub IsWide : ℕ → Type 0
 IsWide w = (1 ≤ w) × (w ≤ 64)
@@ -62,18 +63,11 @@ delayed_wide (e ∷ ds) rest h =
 
 -- ---- the others
 
-abbrev info_of : List PortMem → Array → MemInfo
-info_of locked a = comb_info a (find (λ m. bytes_eq m.name a.name) locked)
-
-info_name : (a : Array) (o : Option PortMem) → (comb_info a o).name ≡ a.name
-info_name a None = refl
-info_name a (Some m) = refl
-
-info_wide : (a : Array) (locked : List PortMem) → All (λ (m : PortMem). m.name ≡ a.name → a.width ≡ m.width) locked → IsWide a.width → IsWide (info_of locked a).width
+info_wide : (a : Array) (locked : List PortMem) → All (λ (m : PortMem). m.name ≡ a.name → a.width ≡ m.width) locked → IsWide a.width → IsWide (told locked a).width
 info_wide a [] h w = w
 info_wide a (m ∷ ms) h w = at_test (info_wide a ms (λ k d l. h (suc k) d (omega arith)) w) (bytes_eq m.name a.name) refl
   where
-    at_test : IsWide (info_of ms a).width → (b : Bool) → bytes_eq m.name a.name ≡ b → IsWide (comb_info a (cond b (Some m) (find (λ m. bytes_eq m.name a.name) ms))).width
+    at_test : IsWide (told ms a).width → (b : Bool) → bytes_eq m.name a.name ≡ b → IsWide (comb_info a (cond b (Some m) (find (λ m. bytes_eq m.name a.name) ms))).width
     at_test rest true e = subst IsWide (h 0 m (omega arith) ((bytes_eq-Decides m.name a.name).0 e)) w
     at_test rest false e = rest
 
@@ -86,12 +80,6 @@ head_names (p ∷ ps) = ap (λ z. p.name ∷ z) (head_names ps)
 delayed_front : (ds : List PortMem) (xs : List MemInfo) → map (λ (m : MemInfo). m.name) (map delayed_info ds ++ xs) ≡ map (λ (m : PortMem). m.name) ds ++ map (λ (m : MemInfo). m.name) xs
 delayed_front [] xs = refl
 delayed_front (d ∷ ds) xs = ap (λ z. d.name ∷ z) (delayed_front ds xs)
-
-array_names : (locked : List PortMem) (xs : List Array) → map (λ (m : MemInfo). m.name) (map (info_of locked) xs) ≡ map (λ (a : Array). a.name) xs
-array_names locked [] = refl
-array_names locked (a ∷ xs) =
-    ap (λ z. z ∷ map (λ (m : MemInfo). m.name) (map (info_of locked) xs)) (info_name a (find (λ m. bytes_eq m.name a.name) locked))
-    ∙ ap (λ z. a.name ∷ z) (array_names locked xs)
 
 module _ (n : Netlist) (h : IsWellFormed n) where
   abbrev delayed : List PortMem
@@ -143,22 +131,22 @@ module _ (n : Netlist) (h : IsWellFormed n) where
       let apart = pairs_append (λ a b. a ≢ b) (map (λ (m : PortMem). m.name) delayed) (map (λ (a : Array). a.name) n.arrays) fronts h.array_names none_shared in
       let e : map (λ (m : MemInfo). m.name) n.mems ≡ map (λ (m : PortMem). m.name) delayed ++ map (λ (a : Array). a.name) n.arrays =
       ap (map (λ (m : MemInfo). m.name)) h.pipe.mems
-      ∙ (delayed_front delayed (map (info_of locked) n.arrays) ∙ ap (λ z. map (λ (m : PortMem). m.name) delayed ++ z) (array_names locked n.arrays)) in
+      ∙ (delayed_front delayed (map (told locked) n.arrays) ∙ ap (λ z. map (λ (m : PortMem). m.name) delayed ++ z) (told_names locked n.arrays)) in
       names_differ (λ (m : MemInfo). m.name) n.mems (subst (AllPairs (λ (a b : List ℕ). a ≢ b)) (sym e) apart)
 
   mems_wide : All (λ (m : MemInfo). IsWide m.width) n.mems
   mems_wide =
       let front = delayed_wide delayed later (subst (All (λ (p : Head). IsWide p.width)) ports_split ports_wide) in
-      let back : All (λ (a : Array). IsWide (info_of locked a).width) n.arrays = λ k d l.
+      let back : All (λ (a : Array). IsWide (told locked a).width) n.arrays = λ k d l.
       let w = h.well.arrays k l in
       let p = h.pipe.arrays k no_array l in
       info_wide_at k d l (info_wide (get_or n.arrays k no_array) locked p.width (w.low, w.high)) in
-      subst (All (λ (m : MemInfo). IsWide m.width)) (sym h.pipe.mems) (All-append (λ (m : MemInfo). IsWide m.width) (map delayed_info delayed) (map (info_of locked) n.arrays)
+      subst (All (λ (m : MemInfo). IsWide m.width)) (sym h.pipe.mems) (All-append (λ (m : MemInfo). IsWide m.width) (map delayed_info delayed) (map (told locked) n.arrays)
       (All-map (λ (m : MemInfo). IsWide m.width) delayed_info delayed front)
-      (All-map (λ (m : MemInfo). IsWide m.width) (info_of locked) n.arrays back))
+      (All-map (λ (m : MemInfo). IsWide m.width) (told locked) n.arrays back))
     where
-      info_wide_at : (k : ℕ) (d : Array) → k < length n.arrays → IsWide (info_of locked (get_or n.arrays k no_array)).width → IsWide (info_of locked (get_or n.arrays k d)).width
-      info_wide_at k d l w = subst (λ a. IsWide (info_of locked a).width) (get_or_default n.arrays k no_array d l) w
+      info_wide_at : (k : ℕ) (d : Array) → k < length n.arrays → IsWide (told locked (get_or n.arrays k no_array)).width → IsWide (told locked (get_or n.arrays k d)).width
+      info_wide_at k d l w = subst (λ a. IsWide (told locked a).width) (get_or_default n.arrays k no_array d l) w
 
 -- ---- of what is read
 

@@ -16,7 +16,8 @@ use Rattle.pdl_vtext.specs.Words.{is_name, is_array}
 use Rattle.pdl_vtext.specs.Grammar.{Row, Taken, AllFit, none, more, Derives, finished, goes, fits, fields}
 use Rattle.pdl_vtext.specs.Drafts.{no_draft, taken, all_taken, text_at}
 use Rattle.pdl_vtext.specs.Text.{IsFile}
-use Rattle.pdl_vread.proofs.Parts.{Each}
+use Rattle.pdl_word.specs.Each.{Each}
+use Rattle.pdl_word.proofs.Each.{each_push}
 
 abbrev pub IsArrayName : List ℕ → Type 0
 IsArrayName x = take 2 x ≡ codes "a_"
@@ -34,10 +35,6 @@ first_name _ later _ none e = absurd (cc)
 first_name _ later _ (more {g = g} {t = t} q rest) e =
     let i : g ≡ field.ArrayName = cc in
     array_name t.text (subst (λ z. fits z t.text ≡ true) i q)
-
-each_push : {A : Type 0} (P : A → Type 0) (xs : List A) (x : A) → Each P xs → P x → Each P (xs ++ x ∷ [])
-each_push P [] x h p = (p, tt)
-each_push P (y ∷ ys) x h p = (h.0, each_push P ys x h.1 p)
 
 taken_named : (d : Draft) (ru : Rule) (ts : Row) → AllFit (fields ru) ts → Each IsNamed d.file.arrays → Each IsNamed (taken d ru ts).file.arrays
 taken_named d rule.ArrayDeclared ts a h = each_push IsNamed d.file.arrays _ h (first_name (fields rule.ArrayDeclared) _ ts a refl)

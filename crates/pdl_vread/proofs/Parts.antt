@@ -1,6 +1,6 @@
 -- What V2 to V4 say of outputs, registers and arrays, one after another.
 use Rattle.std.proofs.Common.{◌≡◌, ◌≢◌, ℕ, zero, suc, ◌<◌, Bool, true, false, cond, List, [], ◌∷◌, ◌++◌, length, map, take, get_or, append-nil, append_assoc, bytes_eq, Option, Some, None, is_some, Result, Ok, Err, refl, sym, ap, ◌∙◌, subst, arith}
-use Rattle.std.specs.List.{slice_get, AllPairs}
+use Rattle.std.specs.List.{AllPairs}
 use Rattle.std.proofs.lemmas.Bool.{eqb-true}
 use Rattle.std.proofs.lemmas.List.{length-take, get_or-take}
 use Rattle.std.proofs.lemmas.Slice.Eq.{bytes_eq-Decides}
@@ -18,17 +18,9 @@ use Rattle.pdl_vrules.specs.Widths.{asked_write, asked_writes, widths_of}
 use Rattle.pdl_vrules.specs.Once.{owner, in_turn, port_once, reg_once, array_once, cell_once, write_once, blocks_once, once_line}
 use Rattle.pdl_vread.proofs.Depths.{right_both, right_parts}
 use Rattle.pdl_vread.proofs.Wide.{onto_inv}
+use Rattle.pdl_word.specs.Each.{Each}
 
 -- ---- each element
-
-abbrev pub Each : {A : Type 0} → (A → Type 0) → List A → Type 0
-Each P [] = Unit {0}
-Each P (x ∷ xs) = P x × Each P xs
-
-pub each_at : {A : Type 0} (P : A → Type 0) (xs : List A) (k : ℕ) (x : A) → Each P xs → slice_get xs k ≡ Some x → P x
-each_at P [] k x h e = absurd (cc)
-each_at P (y ∷ ys) zero x h e = let i : y ≡ x = cc in subst P i h.0
-each_at P (y ∷ ys) (suc k) x h e = each_at P ys k x h.1 e
 
 -- each that is found and asked is right
 pub each_right : {A B : Type 0} (find : A → Option B) (line : A → ℕ) (ask : A → B → Asked) (P : B → Type 0) → ((a : A) (b : B) → find a ≡ Some b → (ask a b).right ≡ true → P b)

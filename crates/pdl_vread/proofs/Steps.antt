@@ -1,38 +1,17 @@
 -- What the steps of the reader answer.
-use Rattle.std.proofs.Common.{◌≡◌, ◌<◌, List, length, Some, None, Ok, Err, refl, sym, ap, subst}
+use Rattle.std.proofs.Common.{◌≡◌, ◌<◌, List, length, Some, None, refl, sym, ap, subst}
 use Rattle.pdl_kit.specs.declared.mem_info.MemInfo.{MemInfo}
-use Rattle.pdl_kit.specs.declared.rule.Rule.TheVariants.{V2, V3, V4, V5}
+use Rattle.pdl_kit.specs.declared.rule.Rule.TheVariants.{V5}
 use Rattle.pdl_net.specs.declared.Netlist.{Netlist}
 use Rattle.pdl_net.specs.Pipe.{IsPipe}
 use Rattle.pdl_vtext.specs.declared.file.File.{File}
-use Rattle.pdl_vnets.specs.declared.passes.Stop.{Stop}
 use Rattle.pdl_vnets.specs.declared.passes.Stop.TheVariants as stop
 use Rattle.pdl_vnets.specs.declared.wiring.Wiring.{Wiring}
-use Rattle.pdl_vnets.specs.Wired.{wiring, Gives}
-use Rattle.pdl_vrules.specs.Asked.{Tells}
-use Rattle.pdl_vrules.specs.Widths.{width_line}
-use Rattle.pdl_vrules.specs.Once.{once_line}
+use Rattle.pdl_vnets.specs.Wired.{wiring}
 use Rattle.pdl_vpipe.specs.Told.{with_mems}
-use Rattle.pdl_vread.specs.declared.read.VError.{VError}
 use Rattle.pdl_vread.specs.Built.{built}
-use Rattle.pdl_vread.specs.Reads.{IsWired, IsNetlistOf, FileBreaks, Refuses, refusal}
+use Rattle.pdl_vread.specs.Reads.{IsWired, IsNetlistOf, FileBreaks}
 use Rattle.pdl_vread.proofs.Depths.{many_arrays}
-
--- ---- V2 to V4
-
-pub breaks_names : (f : File) (e : Stop) (x : VError) → Gives {A = Wiring} (wiring f) (Err e) → x ≡ refusal V2 e → Refuses (FileBreaks f) x
-breaks_names f (stop.Broken line) x h i = subst (Refuses (FileBreaks f)) (sym i) h
-breaks_names f stop.NoMemory x h i = subst (Refuses (FileBreaks f)) (sym i) tt
-
-pub breaks_widths : (f : File) (w : Wiring) (e : Stop) (x : VError) → wiring f ≡ Ok w → Tells (width_line f w) (Err e) → x ≡ refusal V3 e → Refuses (FileBreaks f) x
-breaks_widths f w (stop.Broken line) x g h i = subst (Refuses (FileBreaks f)) (sym i) (w, g, h)
-breaks_widths f w stop.NoMemory x g h i = subst (Refuses (FileBreaks f)) (sym i) tt
-
-pub breaks_once : (f : File) (w : Wiring) (e : Stop) (x : VError) → wiring f ≡ Ok w → width_line f w ≡ None → Tells (once_line f w) (Err e) → x ≡ refusal V4 e → Refuses (FileBreaks f) x
-breaks_once f w (stop.Broken line) x g k h i = subst (Refuses (FileBreaks f)) (sym i) (w, g, k, h)
-breaks_once f w stop.NoMemory x g k h i = subst (Refuses (FileBreaks f)) (sym i) tt
-
-pub ruleset file_rules = (breaks_names, breaks_widths, breaks_once)
 
 -- ---- V5
 

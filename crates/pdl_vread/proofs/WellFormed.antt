@@ -39,9 +39,11 @@ use Rattle.pdl_vread.proofs.Depths.{WidthParts, width_parts, length_arrays}
 use Rattle.pdl_vread.proofs.Filled.{length_regs, get_regs_from}
 use Rattle.pdl_vread.proofs.There.{Has, two_inv, three_inv, net_there}
 use Rattle.pdl_vread.proofs.Wide.{is_width_parts, onto_inv, CellsRight, cells_right}
-use Rattle.pdl_vread.proofs.Parts.{Each, each_at, each_right, each_write, turn_at, new_apart, map_right, WiringParts, wiring_parts, OnceParts, once_parts}
+use Rattle.pdl_vread.proofs.Parts.{each_right, each_write, turn_at, new_apart, map_right, WiringParts, wiring_parts, OnceParts, once_parts}
 use Rattle.pdl_vread.proofs.Powers.{depth_is}
 use Rattle.pdl_vread.proofs.Named.{file_named, apart_rests, get_mapped}
+use Rattle.pdl_word.specs.Each.{Each}
+use Rattle.pdl_word.proofs.Each.{each_got}
 
 -- the circuit that is built
 abbrev circuit : File → Wiring → Circuit
@@ -80,13 +82,13 @@ number_at f [] i d l = absurd (omega arith)
 number_at f (x ∷ xs) zero d l = refl
 number_at f (x ∷ xs) (suc i) d l = number_at f xs i d (omega arith)
 
-abbrev no_decl : RegDecl
+abbrev pub no_decl : RegDecl
 no_decl = record { line = 0; name = []; high = 0 }
 
-abbrev no_array_decl : ArrayDecl
+abbrev pub no_array_decl : ArrayDecl
 no_array_decl = record { line = 0; name = []; high = 0; last = 0 }
 
-abbrev no_port_decl : PortDecl
+abbrev pub no_port_decl : PortDecl
 no_port_decl = record { line = 0; name = []; high = 0; input = false }
 
 abbrev array : List (List ArrayWrite) → ℕ → ArrayDecl → Array
@@ -349,7 +351,7 @@ module _ (f : File) (w : Wiring) (k : KeepsRules f w) where
         low = wd.0;
         high = wd.1;
         depth = depth_is (d.last + 1) p.1;
-        writes = λ i x e. each_at (IsWellWrite c a) (writes m w.blocks) i x all e;
+        writes = λ i x e. each_got (IsWellWrite c a) (writes m w.blocks) i x all e;
       })
 
   well : IsWell c

@@ -1,6 +1,6 @@
 -- What is asked of each of a list by those before it, one after another.
-use Rattle.std.proofs.Common.{◌≡◌, ℕ, ◌+◌, ◌<◌, ◌≤◌, Bool, true, false, cond, List, [], ◌∷◌, ◌++◌, length, take, drop, get_or, Option, Some, None, sym, ap, ◌∙◌, map, ◌&&◌, ◌||◌, ◌==◌, arith}
-use Rattle.std.proofs.lemmas.List.{drop_more, drop_all, take_more, length-take-le, map-append}
+use Rattle.std.proofs.Common.{◌≡◌, ℕ, ◌+◌, ◌<◌, ◌≤◌, Bool, true, false, cond, List, [], ◌∷◌, ◌++◌, length, take, drop, get_or, Option, Some, sym, ap, ◌∙◌, map, ◌&&◌, ◌||◌, ◌==◌, arith}
+use Rattle.std.proofs.lemmas.List.{drop_more, take_more, length-take-le, map-append}
 use Rattle.pdl_vrules.specs.Asked.{Asked, first_wrong}
 use Rattle.pdl_vtext.specs.declared.file.PortDecl.{PortDecl}
 use Rattle.pdl_vtext.specs.declared.file.RegDecl.{RegDecl}
@@ -27,11 +27,6 @@ module _ {A : Type 0} (ask : List A → A → Asked) where
       let a = ask (take i xs) (get_or xs i x) in
       let rest = in_turn ask (take (i + 1) xs) (drop (i + 1) xs) in
       sym w ∙ (ap first_wrong (one_turn xs i x h) ∙ (ap (λ b. cond b (first_wrong rest) (Some a.line)) r ∙ ap Some (sym m)))
-
-  pub turn_end : (xs : List A) (i : ℕ) (whole : Option ℕ) → length xs ≤ i → first_wrong (in_turn ask (take i xs) (drop i xs)) ≡ whole → whole ≡ None
-  turn_end xs i whole h w = sym w ∙ ap (λ z. first_wrong (in_turn ask (take i xs) z)) (drop_all i xs h)
-
-pub ruleset turns = (turn_more, turn_stop, turn_end)
 
 -- the names of the first declarations and of the next one
 pub names_more : {A : Type 0} (name : A → List ℕ) (xs : List A) (i j : ℕ) (x : A) → i < length xs → j ≡ i + 1 → x ≡ get_or xs i x → map name (take i xs) ++ name x ∷ [] ≡ map name (take j xs)

@@ -1,7 +1,7 @@
 -- Blocks of arrays, one after another, after blocks of other arrays.
 use Rattle.std.proofs.Common.{◌≡◌, ◌⊎◌, inl, inr, ℕ, ◌+◌, ◌<◌, ◌≤◌, ◌==◌, Bool, true, false, not, cond, min, List, [], ◌∷◌, ◌++◌, length, drop, get_or, Option, Some, None, Err, refl, sym, ap, ◌∙◌, subst, arith}
 use Rattle.std.specs.List.{list_any}
-use Rattle.std.proofs.lemmas.List.{drop_more, drop_all}
+use Rattle.std.proofs.lemmas.List.{drop_all}
 use Rattle.std.proofs.lemmas.Bool.{cases_lt}
 use Rattle.pdl_vtext.specs.declared.file.WriteDecl.{WriteDecl}
 use Rattle.pdl_vtext.specs.declared.file.ArrayBlock.{ArrayBlock}
@@ -11,6 +11,7 @@ use Rattle.pdl_vrules.specs.Asked.{Asked, first_wrong, both, Tells}
 use Rattle.pdl_vrules.specs.Once.{owner, write_once, blocks_once}
 use Rattle.pdl_vrules.proofs.Passes.{front_tells}
 use Rattle.pdl_vrules.proofs.Blocks.{rest_first}
+use Rattle.pdl_word.proofs.Lists.{drop_next}
 
 -- the array of a block is one of these
 abbrev pub has_owner : List ℕ → List ArrayWrite → Bool
@@ -19,9 +20,6 @@ has_owner before ws = list_any (λ m. owner ws == m) before
 -- what is asked of the writes of a block
 abbrev pub inside : ArrayBlock → List ArrayWrite → List Asked
 inside b ws = both (write_once (owner ws)) b.writes ws
-
-next : {A : Type 0} (xs : List A) (i : ℕ) (x : A) → i < length xs → x ≡ get_or xs i x → drop i xs ≡ x ∷ drop (i + 1) xs
-next xs i x h e = drop_more xs i x h ∙ ap (λ z. z ∷ drop (i + 1) xs) (sym e)
 
 -- a block whose array is new to a set of arrays
 pub is_other : (before : List ℕ) (ws : List ArrayWrite) (m : ℕ) (b : Bool) → m ≡ owner ws → b ≡ true → b ≡ not (list_any (λ k. m == k) before) → has_owner before ws ≡ false
@@ -51,7 +49,7 @@ module _ (bs : List ArrayBlock) (more : List (List ArrayWrite)) (i : ℕ) (b : A
     (h : i < length bs) (k : i < length more) (is : b ≡ get_or bs i b) (are : ws ≡ get_or more i ws)
     (w : first_wrong (blocks_once before (drop i bs) (drop i more)) ≡ whole) where
   one_block : whole ≡ cond (not (has_owner before ws)) (first_wrong (inside b ws ++ blocks_once (before ++ owner ws ∷ []) (drop (i + 1) bs) (drop (i + 1) more))) (Some b.line)
-  one_block = sym w ∙ (ap (λ z. first_wrong (blocks_once before z (drop i more))) (next bs i b h is) ∙ ap (λ z. first_wrong (blocks_once before (b ∷ drop (i + 1) bs) z)) (next more i ws k are))
+  one_block = sym w ∙ (ap (λ z. first_wrong (blocks_once before z (drop i more))) (drop_next bs i b h is) ∙ ap (λ z. first_wrong (blocks_once before (b ∷ drop (i + 1) bs) z)) (drop_next more i ws k are))
 
   pub second_block : has_owner before ws ≡ true → whole ≡ Some b.line
   second_block r = one_block ∙ ap (λ z. cond (not z) (first_wrong (inside b ws ++ blocks_once (before ++ owner ws ∷ []) (drop (i + 1) bs) (drop (i + 1) more))) (Some b.line)) r

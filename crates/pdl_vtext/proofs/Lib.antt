@@ -1,5 +1,4 @@
 pub mod Steps
-pub mod Digits
 pub mod Rules
 pub mod Complete
 pub mod Fields

@@ -13,7 +13,7 @@ use Rattle.pdl_vtext.specs.declared.token.Token as r
 use Rattle.pdl_vtext.specs.declared.read.Stop.{Stop}
 use Rattle.pdl_vtext.specs.declared.read.Stop.TheVariants as stop
 use Rattle.pdl_vtext.specs.Cursor.{token_view, next as skipped}
-use Rattle.pdl_vtext.specs.Read.{IsFitting, Sentence, TakesRules, IsUnfit, Found, Stopped, Comes, Leads, here, further, all_found, chosen_at, nothing, inside, IsTaken, IsOff, TakesRule, AreTaken}
+use Rattle.pdl_vtext.specs.Read.{IsFitting, Sentence, TakesRules, IsUnfit, Found, Stopped, Comes, Leads, here, further, all_found, chosen_at, nothing, inside, IsTaken, IsOff, TakesRule}
 
 -- ---- the tokens of one rule
 
@@ -87,13 +87,6 @@ fewer_left part rule old found new e f =
 
 not_finished : (part : Part) → is_finished part ≡ false → part ≢ p.Finished
 not_finished part h = λ e. let k : true ≡ false = subst (λ x. is_finished x ≡ false) e h in cc
-
-it_is_finished : (part : Part) → is_finished part ≡ true → part ≡ p.Finished
-it_is_finished p.Finished e = refl
-it_is_finished _ e = cc
-
-pub all_done : (old new : Row) (part : Part) (d : Draft) → AreSoFar old new part d → is_finished part ≡ true → AreTaken old new d
-all_done old new part d h e = record { rules = h.rules; leads = subst (Leads h.rules) (it_is_finished part e) h.leads; split = h.split; draft = h.draft }
 
 -- ---- steps of the reader
 

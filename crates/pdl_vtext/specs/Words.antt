@@ -1,22 +1,14 @@
 -- What single tokens may be: numbers, constants, operators, and names of each kind.
-use Rattle.std.specs.Prelude.{ℕ, ◌+◌, Bool, true, false, not, ◌&&◌, ◌||◌, ◌==◌, nat_eq, nat_le, nat_lt, cond, List, [], ◌∷◌, length, take, drop, codes, Option, Some, None, bytes_eq}
-use Rattle.std.specs.Char.{digit_value}
+use Rattle.std.specs.Prelude.{ℕ, ◌+◌, Bool, false, not, ◌&&◌, ◌||◌, ◌==◌, nat_eq, nat_le, nat_lt, cond, List, [], ◌∷◌, length, take, drop, codes, Option, Some, None, bytes_eq}
 use Rattle.std.specs.List.{list_all, starts_with, prefix_len}
 use Rattle.std.specs.Str.Parse.{digits_value}
 use Rattle.pdl_net.specs.declared.BinOp.{BinOp}
 use Rattle.pdl_net.specs.declared.BinOp.TheVariants.{Add, Sub, Mul, And, Or, Xor, Eq, Ne, Lt, Shl, Shr}
 use Rattle.pdl_vtext.specs.declared.numbers.Constant.{Constant}
 use Rattle.pdl_vtext.specs.Tokens.{is_lower, is_digit}
+use Rattle.pdl_word.specs.Digits.{are_digits}
 
 -- ---- numbers
-
--- a digit of a base up to 36, where a letter is a lower one
-abbrev pub is_digit_of : ℕ → ℕ → Bool
-is_digit_of base c = nat_lt (digit_value c) base && not (nat_le 65 c && nat_le c 90)
-
--- digits of a base, at least one and at most so many
-abbrev pub are_digits : ℕ → ℕ → List ℕ → Bool
-are_digits base most ds = list_all (is_digit_of base) ds && (nat_le 1 (length ds) && nat_le (length ds) most)
 
 -- the value of 1 to 6 decimal digits
 unfoldable pub number_of : List ℕ → Option ℕ

@@ -1,4 +1,6 @@
-//! The text of the Verilog subset: its tokens, its grammar, and the file that a text declares.
+//! The text of the Verilog subset: its tokens, its grammar as a table, and the file that a text declares.
+//!
+//! The layers above may use `read_file`, which answers the file or the line of the first token out of place, and the types of a `File`.
 #![tactic(auto)]
 
 mod bytes;

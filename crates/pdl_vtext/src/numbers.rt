@@ -7,46 +7,13 @@ ghost use Rattle.pdl_vtext.specs.Words as spec;
 ghost use Rattle.pdl_vtext.specs.Tokens.{is_digit as is_digit_byte};
 
 use crate::bytes::is_digit;
+use pdl_word::read_digits;
 
 /// A constant: its width in bits as it is written, and its value.
 #[derive(Clone, Copy)]
 pub struct Constant {
     pub width: u32,
     pub value: u64,
-}
-
-// The value of a digit of a base, where a letter is a lower one.
-fn digit_in(byte: u8, base: u64) -> Option<u64>
-    requires { base ≤ 36 }
-    ensures { MatchOption result (spec.is_digit_of base byte ≡ false) (λ d.
-        (spec.is_digit_of base byte ≡ true) × (d ≡ digit_value byte) × (d < base)) }
-{
-    let digit = match byte {
-        b'0'..=b'9' => u64::from(byte - b'0'),
-        b'a'..=b'z' => u64::from(byte - b'a') + 10,
-        _ => return None,
-    };
-    if digit < base { Some(digit) } else { None }
-}
-
-// The number that digits of a base write, where there is at least one and there are at most so many.
-fn read_digits(digits: &[u8], base: u64, most: usize) -> Option<u64>
-    requires least { 1 ≤ base }
-    requires base { base ≤ 36 }
-    requires room { base ^ most ≤ 2 ^ 64 }
-    ensures value { MatchOption result (spec.are_digits base most digits.now ≡ false) (λ n.
-        (spec.are_digits base most digits.now ≡ true) × (n ≡ digits_value base digits.now)) }
-    ensures below { IfSome result (λ n. n < base ^ most) }
-{
-    if digits.is_empty() || digits.len() > most {
-        return None;
-    }
-    let mut number = 0;
-    for byte in digits {
-        let digit = digit_in(*byte, base)?;
-        number = number * base + digit;
-    }
-    Some(number)
 }
 
 /// The value of 1 to 6 decimal digits.
@@ -75,7 +42,10 @@ fn hex_part(text: &[u8]) -> Option<u64>
     if !text.starts_with(b"'h") {
         return None;
     }
-    read_digits(&text[2..], 16, 16)
+    match read_digits(&text[2..], 16, 16) {
+        Some(value) => Some(value as u64),
+        None => None,
+    }
 }
 
 /// The constant that a number of 1 to 6 decimal digits, `'h` and 1 to 16 lower hexadecimal digits write.

@@ -1,4 +1,6 @@
 //! The widths of a pipe: its variables with theirs, and the rules on widths, W1 to W6.
+//!
+//! The layers above may use `check_widths`, and `Variables`, the variables with their widths.
 #![tactic(auto)]
 
 mod arguments;

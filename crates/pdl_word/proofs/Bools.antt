@@ -34,3 +34,7 @@ or_map false c d f h = f h
 pub none_given : (b : Bool) (k : ℕ) (o : Option ℕ) → (if b then Some k else o) ≡ None → (b ≡ false) × (o ≡ None)
 none_given true k o h = cc
 none_given false k o h = (refl, h)
+
+-- false is not true
+pub untrue : {A : Type 0} → false ≡ true → A
+untrue h = absurd (cc h)

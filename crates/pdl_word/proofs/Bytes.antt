@@ -1,7 +1,8 @@
 -- When two texts are equal.
-use Rattle.std.proofs.Common.{◌≡◌, refl, sym, ℕ, true, List, bytes_eq}
+use Rattle.std.proofs.Common.{◌≡◌, refl, sym, ℕ, true, List, bytes_eq, false, ◌≢◌}
 use Rattle.std.proofs.lemmas.Slice.Eq.{bytes_eq-Decides}
 use Rattle.std.proofs.lemmas.Bool.Decides.{same_from_decides}
+use Rattle.std.proofs.lemmas.Bool.{false_from_ne_true}
 
 pub bytes_same : (a b : List ℕ) → bytes_eq a b ≡ true → a ≡ b
 bytes_same a b e = (bytes_eq-Decides a b).0 e
@@ -14,3 +15,9 @@ bytes_swap a b =
     let there = bytes_eq-Decides a b in
     let back = bytes_eq-Decides b a in
     same_from_decides _ _ there (λ e. sym (back.0 e), λ e. back.1 (sym e))
+
+pub same_bytes : (a b : List ℕ) → a ≡ b → bytes_eq a b ≡ true
+same_bytes a b e = (bytes_eq-Decides a b).1 e
+
+pub bytes_differ : (a b : List ℕ) → a ≢ b → bytes_eq a b ≡ false
+bytes_differ a b d = false_from_ne_true (bytes_eq a b) (λ e. d (bytes_same a b e))

@@ -1,25 +1,17 @@
 -- The digits of numbers that are written in base 10 and 16.
-use Rattle.std.proofs.Common.{◌≡◌, ℕ, zero, suc, ◌+◌, ◌*◌, ◌/◌, ◌%◌, ◌^◌, ◌<◌, ◌≤◌, refl, sym, ◌∙◌, ap, arith, inl, inr, Bool, true, false, not, ◌&&◌, List, [], ◌∷◌, ◌++◌, length, length-append, leb, decimal, if◌then◌else◌}
-use Rattle.std.specs.Prelude.{nat_le, nat_lt}
+use Rattle.std.proofs.Common.{◌≡◌, ℕ, zero, suc, ◌+◌, ◌-◌, ◌*◌, ◌/◌, ◌%◌, ◌^◌, ◌<◌, ◌≤◌, refl, sym, ◌∙◌, ap, arith, inl, inr, Bool, true, false, not, ◌&&◌, List, [], ◌∷◌, ◌++◌, length, length-append, add-one, take, get_or, leb, decimal, if◌then◌else◌}
 use Rattle.std.specs.List.{list_all}
 use Rattle.std.specs.Char.{digit_value}
 use Rattle.std.specs.Str.Parse.{AllDigits, digits_value}
-use Rattle.std.proofs.Math.Nat.{div-add-mod, div-lt_iff_lt-mul, mod-lt, pow-le-pow_right, pow-suc}
+use Rattle.std.proofs.Math.Nat.{div-add-mod, div-div-eq-div-mul, div-lt_iff_lt-mul, mod-lt, pow-le-pow_right, pow-suc}
 use Rattle.std.proofs.Math.Pow.{pow-add}
 use Rattle.std.proofs.lemmas.Bool.{and_from, cases_lt, le-leb, lt-leb, lt-ltb, le-ltb}
 use Rattle.std.proofs.lemmas.Fmt.{decimal_is_IsNumeral, length-decimal-le}
-use Rattle.std.proofs.lemmas.Int.Digits.{digits_value_push}
-use Rattle.std.proofs.lemmas.List.Folds.{list_all-append}
+use Rattle.std.proofs.lemmas.Int.Digits.{digits_value_push, digits_value_more}
+use Rattle.std.proofs.lemmas.List.Folds.{list_all-append, list_all_more}
 use Rattle.std.proofs.lemmas.Str.{digit_value-digit_char}
 use Rattle.std.proofs.lemmas.Str.Parse.{digit_from_value}
-
--- a digit of a base up to 36, where a letter is a lower one
-abbrev pub is_digit_of : ℕ → ℕ → Bool
-is_digit_of base c = nat_lt (digit_value c) base && not (nat_le 65 c && nat_le c 90)
-
--- digits of a base, at least one and at most so many
-abbrev pub are_digits : ℕ → ℕ → List ℕ → Bool
-are_digits base most ds = list_all (is_digit_of base) ds && (nat_le 1 (length ds) && nat_le (length ds) most)
+use Rattle.pdl_word.specs.Digits.{is_digit_of, are_digits, hex_digit, hex}
 
 -- ---- decimal digits
 
@@ -41,10 +33,6 @@ decimal_digits most n some fits h =
     (and_from _ _ (le-leb 1 (length (decimal n)) (omega (arith, d.0.0))) (le-leb (length (decimal n)) most (length-decimal-le most n some fits h)))
 
 -- ---- hexadecimal digits
-
--- a lower hexadecimal digit
-abbrev pub hex_digit : ℕ → ℕ
-hex_digit d = if nat_lt d 10 then 48 + d else 87 + d
 
 not_both : (b : Bool) → not (b && false) ≡ true
 not_both true = refl
@@ -84,41 +72,55 @@ digits_hold w =
     let more : 2 ^ w ≤ 2 ^ (4 * ((w + 3) / 4)) = pow-le-pow_right (omega arith) {i = w} {j = 4 * ((w + 3) / 4)} wide in
     omega (arith, more, four)
 
--- what gives the lowest n hexadecimal digits of a number, the highest of them first
-pub record GivesHex (hex : ℕ → ℕ → List ℕ) : Type 0 where
-  pub none : (v : ℕ) → hex zero v ≡ []
-  pub more : (n v : ℕ) → hex (suc n) v ≡ hex n (v / 16) ++ hex_digit (v % 16) ∷ []
+-- what each hexadecimal digit passes
+pub hex_all : (p : ℕ → Bool) → ((d : ℕ) → d < 16 → p (hex_digit d) ≡ true) → (n v : ℕ) → list_all p (hex n v) ≡ true
+hex_all p one zero v = refl
+hex_all p one (suc n) v =
+    list_all-append p (hex n (v / 16)) (hex_digit (v % 16) ∷ [])
+    ∙ and_from _ _ (hex_all p one n (v / 16)) (and_from _ _ (one (v % 16) (mod-lt v {m = 16} (omega arith))) refl)
 
-module _ (hex : ℕ → ℕ → List ℕ) (h : GivesHex hex) where
-  -- what each hexadecimal digit passes
-  pub hex_all : (p : ℕ → Bool) → ((d : ℕ) → d < 16 → p (hex_digit d) ≡ true) → (n v : ℕ) → list_all p (hex n v) ≡ true
-  hex_all p one zero v = ap (list_all p) (h.none v)
-  hex_all p one (suc n) v =
-      ap (list_all p) (h.more n v)
-      ∙ (list_all-append p (hex n (v / 16)) (hex_digit (v % 16) ∷ [])
-      ∙ and_from _ _ (hex_all p one n (v / 16)) (and_from _ _ (one (v % 16) (mod-lt v {m = 16} (omega arith))) refl))
+hex_length : (n v : ℕ) → length (hex n v) ≡ n
+hex_length zero v = refl
+hex_length (suc n) v = length-append (hex n (v / 16)) (hex_digit (v % 16) ∷ []) ∙ omega (arith, hex_length n (v / 16))
 
-  hex_length : (n v : ℕ) → length (hex n v) ≡ n
-  hex_length zero v = ap length (h.none v)
-  hex_length (suc n) v = ap length (h.more n v) ∙ (length-append (hex n (v / 16)) (hex_digit (v % 16) ∷ []) ∙ omega (arith, hex_length n (v / 16)))
+value_back : (n v : ℕ) → v < 16 ^ n → digits_value 16 (hex n v) ≡ v
+value_back zero v l = omega (arith, l)
+value_back (suc n) v l =
+    let high : v / 16 < 16 ^ n = (div-lt_iff_lt-mul {k = 16} {x = v} {y = 16 ^ n} (omega arith)).1 (omega (arith, l, pow-suc 16 n)) in
+    let last : digit_value (hex_digit (v % 16)) ≡ v % 16 = hex_digit_value (v % 16) (mod-lt v {m = 16} (omega arith)) in
+    digits_value_push 16 (hex n (v / 16)) (hex_digit (v % 16))
+    ∙ omega (arith, value_back n (v / 16) high, last, div-add-mod v 16)
 
-  value_back : (n v : ℕ) → v < 16 ^ n → digits_value 16 (hex n v) ≡ v
-  value_back zero v l = ap (digits_value 16) (h.none v) ∙ omega (arith, l)
-  value_back (suc n) v l =
-      let high : v / 16 < 16 ^ n = (div-lt_iff_lt-mul {k = 16} {x = v} {y = 16 ^ n} (omega arith)).1 (omega (arith, l, pow-suc 16 n)) in
-      let last : digit_value (hex_digit (v % 16)) ≡ v % 16 = hex_digit_value (v % 16) (mod-lt v {m = 16} (omega arith)) in
-      ap (digits_value 16) (h.more n v)
-      ∙ (digits_value_push 16 (hex n (v / 16)) (hex_digit (v % 16))
-      ∙ omega (arith, value_back n (v / 16) high, last, div-add-mod v 16))
+-- the digits of a word of 1 to 64 bits
+pub are_hex_digits : (w v : ℕ) → 1 ≤ w → w ≤ 64 → are_digits 16 16 (hex ((w + 3) / 4) v) ≡ true
+are_hex_digits w v low high =
+    let n : length (hex ((w + 3) / 4) v) ≡ (w + 3) / 4 = hex_length ((w + 3) / 4) v in
+    let parts = div-add-mod (w + 3) 4 in
+    let left = mod-lt (w + 3) {m = 4} (omega arith) in
+    and_from _ _ (hex_all (is_digit_of 16) sixteen_value ((w + 3) / 4) v)
+    (and_from _ _ (le-leb 1 (length (hex ((w + 3) / 4) v)) (omega (arith, n, parts, left, low))) (le-leb (length (hex ((w + 3) / 4) v)) 16 (omega (arith, n, parts, left, high))))
 
-  -- the digits of a word of 1 to 64 bits
-  pub are_hex_digits : (w v : ℕ) → 1 ≤ w → w ≤ 64 → are_digits 16 16 (hex ((w + 3) / 4) v) ≡ true
-  are_hex_digits w v low high =
-      let n : length (hex ((w + 3) / 4) v) ≡ (w + 3) / 4 = hex_length ((w + 3) / 4) v in
-      let parts = div-add-mod (w + 3) 4 in
-      let left = mod-lt (w + 3) {m = 4} (omega arith) in
-      and_from _ _ (hex_all (is_digit_of 16) sixteen_value ((w + 3) / 4) v)
-      (and_from _ _ (le-leb 1 (length (hex ((w + 3) / 4) v)) (omega (arith, n, parts, left, low))) (le-leb (length (hex ((w + 3) / 4) v)) 16 (omega (arith, n, parts, left, high))))
+pub hex_value : (w v : ℕ) → v < 2 ^ w → digits_value 16 (hex ((w + 3) / 4) v) ≡ v
+hex_value w v l = value_back ((w + 3) / 4) v (let k = digits_hold w in omega arith)
 
-  pub hex_value : (w v : ℕ) → v < 2 ^ w → digits_value 16 (hex ((w + 3) / 4) v) ≡ v
-  hex_value w v l = value_back ((w + 3) / 4) v (let k = digits_hold w in omega arith)
+-- ---- one digit more of a text
+
+pub digits_next : (base : ℕ) (xs : List ℕ) (i v d : ℕ) → i < length xs → list_all (is_digit_of base) (take i xs) ≡ true → v ≡ digits_value base (take i xs)
+    → is_digit_of base (get_or xs i 0) ≡ true → d ≡ digit_value (get_or xs i 0)
+    → (list_all (is_digit_of base) (take (i + 1) xs) ≡ true) × (v * base + d ≡ digits_value base (take (i + 1) xs))
+digits_next base xs i v d l all e this f =
+    (list_all_more (is_digit_of base) xs i 0 l ∙ and_from _ _ all this, rw (e, f) (sym (digits_value_more base xs i l)))
+
+-- ---- one hexadecimal digit more
+
+four_more : (v k : ℕ) → v / 2 ^ (4 * k) / 16 ≡ v / 2 ^ (4 * (k + 1))
+four_more v k =
+    let e : 4 * (k + 1) ≡ 4 * k + 4 = omega arith in
+    div-div-eq-div-mul v (2 ^ (4 * k)) 16 ∙ ap (λ n. v / n) (sym (pow-add 2 (4 * k) 4) ∙ ap (λ n. 2 ^ n) (sym e))
+
+pub hex_next : (count done v : ℕ) → done < count →
+    hex (done + 1) (v / 2 ^ (4 * (count - (done + 1)))) ≡ hex done (v / 2 ^ (4 * (count - done))) ++ hex_digit (v / 2 ^ (4 * (count - 1 - done)) % 16) ∷ []
+hex_next count done v h =
+    let one : count - done ≡ count - 1 - done + 1 = omega arith in
+    let same : count - (done + 1) ≡ count - 1 - done = omega arith in
+    rw (same, one, ← four_more v (count - 1 - done), add-one) refl

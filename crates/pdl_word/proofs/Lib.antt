@@ -10,3 +10,4 @@ pub mod Lists
 pub mod Bytes
 pub mod Numbers
 pub mod Digits
+pub mod Each

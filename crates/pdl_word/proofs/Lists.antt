@@ -1,11 +1,11 @@
 -- Facts on lists and options that std doesn't have.
-use Rattle.std.proofs.Common.{◌≡◌, refl, sym, ap, ◌∙◌, ℕ, zero, suc, ◌+◌, ◌<◌, ◌≤◌, Bool, true, false, cond, filter, ◌||◌, ◌&&◌, nat_eq, List, [], ◌∷◌, ◌++◌, length, take, drop, replicate, slice_index, Option, Some, None, is_some, Vec, Global, arith, ⊎_elim}
+use Rattle.std.proofs.Common.{◌≡◌, refl, sym, ap, ◌∙◌, ℕ, zero, suc, ◌+◌, ◌<◌, ◌≤◌, Bool, true, false, cond, filter, ◌||◌, ◌&&◌, nat_eq, List, [], ◌∷◌, ◌++◌, length, take, drop, replicate, slice_index, Option, Some, None, is_some, Vec, Global, arith, ⊎_elim, get_or}
 use Rattle.std.specs.Option.{option_map}
-use Rattle.std.specs.List.{prefix_len, starts_with, list_any}
+use Rattle.std.specs.List.{prefix_len, starts_with, list_any, list_all}
 use Rattle.std.specs.Cmp.Lexicographic.{pointwise}
 use Rattle.std.specs.Vec.{with_items}
-use Rattle.std.proofs.lemmas.Bool.{and_parts, or_right, cases_lt}
-use Rattle.std.proofs.lemmas.List.{append-nil, drop_all, take_all, length-append, length-replicate, get_or-replicate, get_or_past}
+use Rattle.std.proofs.lemmas.Bool.{and_parts, or_right, cases_lt, and_from}
+use Rattle.std.proofs.lemmas.List.{append-nil, drop_all, take_all, length-append, length-replicate, get_or-replicate, get_or_past, drop_more}
 use Rattle.pdl_word.proofs.Bools.{or_map}
 
 pub head_same : {X : Type 0} {x y : X} {xs ys : List X} → x ∷ xs ≡ y ∷ ys → x ≡ y
@@ -68,3 +68,12 @@ some_filtered f p (x ∷ xs) e = at (p x) e (some_filtered f p xs)
     at : (b : Bool) → list_any f (cond b (x ∷ filter p xs) (filter p xs)) ≡ true → (list_any f (filter p xs) ≡ true → list_any f xs ≡ true) → (f x || list_any f xs) ≡ true
     at true i k = or_map (f x) (list_any f (filter p xs)) (list_any f xs) k i
     at false i k = or_right (f x) (list_any f xs) (k i)
+
+pub all_weaker : {X : Type 0} (f g : X → Bool) → ((x : X) → f x ≡ true → g x ≡ true) → (xs : List X) → list_all f xs ≡ true → list_all g xs ≡ true
+all_weaker f g h [] e = e
+all_weaker f g h (x ∷ xs) e =
+    let parts = and_parts (f x) (list_all f xs) e in
+    and_from (g x) (list_all g xs) (h x parts.0) (all_weaker f g h xs parts.1)
+
+pub drop_next : {A : Type 0} (xs : List A) (i : ℕ) (x : A) → i < length xs → x ≡ get_or xs i x → drop i xs ≡ x ∷ drop (i + 1) xs
+drop_next xs i x h e = drop_more xs i x h ∙ ap (λ z. z ∷ drop (i + 1) xs) (sym e)

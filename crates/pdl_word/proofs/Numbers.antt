@@ -16,7 +16,7 @@ next_below base i v d h k =
     let q : base ^ (i + 1) ≡ base ^ i * base = rw (add-one) (pow-suc base i) in
     omega (arith, p, q)
 
-pub next_fits : (base most i v d : ℕ) → v < base ^ i → d < base → i < most → base ^ most ≤ 2 ^ 64 → v * base + d < 2 ^ 64
+pub next_fits : (base most i v d : ℕ) → v < base ^ i → d < base → i < most → base ^ most ≤ 2 ^ 128 → v * base + d < 2 ^ 128
 next_fits base most i v d h k l room =
     let p : base ^ (i + 1) ≤ base ^ most = pow-le-pow_right (omega arith) (omega arith) in
     omega (arith, next_below base i v d h k, p)

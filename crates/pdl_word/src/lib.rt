@@ -3,10 +3,16 @@
 //! A width is counted in bits. Each call gives what the definition of its name says, on whole numbers below `2 ^ width`.
 //! They are the operators of IEEE 1364-2005 on unsigned operands of one width.
 //! `&`, `|` and `^` need no call, since the operators on `u64` keep words of a width.
+//!
+//! The layers above may use these calls, `read_digits` and `hex_digit` for the digits that numbers are written with, the definitions of `specs/`, and the lemmas of `Bools`, `Lists`, `Each`, `Bytes`, `Numbers` and `Digits`.
 #![tactic(auto)]
 
 ghost use Rattle.pdl_word.specs.Words.{add as add_of, cat as cat_of, complement as complement_of, differ as differ_of, equal as equal_of, less as less_of, lts as lts_of, mask as mask_of, mul as mul_of, mux as mux_of, rep as rep_of, sext as sext_of, shl as shl_of, shr as shr_of, slice as slice_of, sub as sub_of, zext as zext_of};
 ghost use Rattle.std.specs.Prelude.{◌*◌, ◌+◌, ◌-◌, ◌<◌, ◌^◌, ◌≡◌, ◌≤◌};
+
+mod numerals;
+
+pub use numerals::{hex_digit, read_digits};
 
 /// The largest word of `width` bits, all of them 1.
 #[tactic(auto, using(crate::proofs::Masks::one_shifted), unfolding(crate::specs::Words::mask))]

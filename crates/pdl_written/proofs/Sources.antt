@@ -10,7 +10,6 @@ use Rattle.pdl_tokens.specs.Tokens.{Row, tokens}
 use Rattle.pdl_grammar.specs.Grammar.{Listed, last, further, Memory, memory, Parameter, parameter, Lock, unlocked, locked, Text, text}
 use Rattle.pdl_grammar.specs.Text.{IsText}
 use Rattle.pdl_net.specs.declared.Netlist.{Netlist}
-use Rattle.pdl_pipe_law.specs.Declared.{info_of}
 use Rattle.pdl_pipe_law.specs.Follows.{Follows}
 use Rattle.pdl_vtext.specs.Words.{is_name}
 use Rattle.pdl_vlog.specs.Layout.{verilog}
@@ -18,6 +17,7 @@ use Rattle.pdl_vread.specs.Reads.{Reads}
 use Rattle.pdl_declared.specs.Names.{HasNames, IsCounted}
 use Rattle.pdl_roundtrip.proofs.RoundTrip.{round_trip}
 use Rattle.pdl_written.proofs.Words.{AreNamed, tokens_named}
+use Rattle.pdl_rules.specs.Memories.{info_of}
 
 -- the memories have names of PDL
 abbrev HaveNames : List Mem → Type 0

@@ -8,17 +8,7 @@ use Rattle.pdl_tokens.specs.declared.token.TokenKind.{TokenKind}
 use Rattle.pdl_tokens.specs.declared.token.TokenKind.TheVariants as kind
 use Rattle.pdl_tokens.specs.Tokens.{Token, Piece, Spelling, tokens_from, placed_token, piece_at, word_at, word_kind, keyword_or_name, spelling_of, keywords, number_or_literal, mark_or_bad, blank_of, is_word, is_blank, is_lower, is_digit, symbols, spelling_at, line_after}
 use Rattle.pdl_vtext.specs.Words.{is_name, is_name_byte, has_name_form, is_statement_keyword, is_declaration_keyword}
-
-some_same : (k j : TokenKind) → Some k ≡ Some j → k ≡ j
-some_same k j e = cc e
-
-number_no_name : (b : Bool) (n : ℕ) → cond b (kind.Number n) kind.Bad ≡ kind.Name → ⊥
-number_no_name true n e = cc e
-number_no_name false n e = cc e
-
-literal_no_name : (b : Bool) (n : ℕ) (v : Option ℕ) → cond b (kind.Literal n v) kind.Bad ≡ kind.Name → ⊥
-literal_no_name true n v e = cc e
-literal_no_name false n v e = cc e
+use Rattle.pdl_tokens.proofs.OtherKinds.{same_kind, number_no_name, literal_no_name}
 
 -- ---- words
 
@@ -97,7 +87,7 @@ word_piece : (c : ℕ) (cs : List ℕ) → is_lower c ≡ true → IsNamePiece (
 word_piece c cs e k =
     let w : List ℕ = take_while is_word (c ∷ cs) in
     let front : w ≡ c ∷ take_while is_word cs = taken_front c cs e in
-    let p = word_named w (nat_le (length w) 32) refl (some_same (word_kind w) kind.Name k) in
+    let p = word_named w (nat_le (length w) 32) refl (same_kind (word_kind w) kind.Name k) in
     let n = ap length front in
     let form : has_name_form w ≡ true = ap has_name_form front ∙ form_of c cs e (omega (arith, n, p.0)) in
     name_of w (le-leb (length w) 32 p.0) p.1 form
@@ -107,9 +97,9 @@ one_of true p q bytes h k = h refl
 one_of false p q bytes h k = k
 
 number_piece : (n ds hs bytes : List ℕ) → IsNamePiece (number_or_literal n ds hs) bytes
-number_piece n [] [] bytes e = absurd (number_no_name _ _ (some_same _ _ e))
-number_piece n [] (h ∷ hs) bytes e = absurd (literal_no_name _ _ _ (some_same _ _ e))
-number_piece n (d ∷ ds) hs bytes e = absurd (literal_no_name _ _ _ (some_same _ _ e))
+number_piece n [] [] bytes e = absurd (number_no_name _ _ (same_kind _ _ e))
+number_piece n [] (h ∷ hs) bytes e = absurd (literal_no_name _ _ _ (same_kind _ _ e))
+number_piece n (d ∷ ds) hs bytes e = absurd (literal_no_name _ _ _ (same_kind _ _ e))
 
 mark_piece : (s : Option Spelling) (bytes : List ℕ) → IsNamePiece (mark_or_bad s) bytes
 mark_piece None bytes e = absurd (cc e)

@@ -14,7 +14,6 @@ use Rattle.pdl_widths.specs.Order.{width_rules}
 use Rattle.pdl_judge.specs.Told.{after_names, after_widths}
 use Rattle.pdl_flat.specs.Sized.{AreSizedMems}
 use Rattle.pdl_flat.proofs.Accepted.{keeps_lowered}
-use Rattle.pdl_check.specs.Memories.{infos_of}
 use Rattle.pdl_form.specs.Form.{Form, form_of}
 use Rattle.pdl_form.specs.Whole.{form}
 use Rattle.pdl_formtypes.specs.Same.{same_form}
@@ -24,6 +23,7 @@ use Rattle.pdl_stagegraph.specs.Graph.{graph_of}
 use Rattle.pdl_rules.specs.Places.{places, guards}
 use Rattle.pdl_check.proofs.Parts.{kept_parts}
 use Rattle.pdl_check.proofs.check.accept.Goals as goal
+use Rattle.pdl_rules.specs.Memories.{infos_of}
 
 pub infos_of-requires : goal.infos_of-requires
 infos_of-requires c =

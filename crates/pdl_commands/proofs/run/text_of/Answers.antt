@@ -1,11 +1,11 @@
 use Rattle.std.proofs.Common.{◌≡◌, ◌∙◌, sym, subst}
 use Rattle.std.proofs.lemmas.Result.{IfOk-weaker}
 use Rattle.pdl_tree.specs.View.{pipe_view}
-use Rattle.pdl_check.specs.Memories.{infos_of}
 use Rattle.pdl_image.specs.Images.{IsImage}
 use Rattle.pdl_pipe.proofs.Told.{widths_high}
 use Rattle.pdl_commands.proofs.Accepting.{names_short, is_output}
 use Rattle.pdl_commands.proofs.run.text_of.Goals as goal
+use Rattle.pdl_rules.specs.Memories.{infos_of}
 
 pub run-requires-clause-image : goal.run-requires-clause-image
 run-requires-clause-image c = subst (λ ms. IsImage ms c.args.image.now) (sym (c.in_ok-netlist.ensures.mems ∙ c.args.accepted.now.told)) c.requires.image

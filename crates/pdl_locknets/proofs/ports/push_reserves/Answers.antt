@@ -5,8 +5,9 @@ use Rattle.pdl_net.proofs.Keeps.{extends_keeps, extends_trans}
 use Rattle.pdl_flatnets.proofs.NetLists.{bits_kept}
 use Rattle.pdl_stagenets.specs.declared.nets.ReserveNet.{ReserveNet}
 use Rattle.pdl_locknets.specs.Ports.{IsGivenReserve}
-use Rattle.pdl_locknets.proofs.PortLists.{each_get, given_reserves, reserves_step, reserves_end}
+use Rattle.pdl_locknets.proofs.PortLists.{given_reserves, reserves_step, reserves_end}
 use Rattle.pdl_locknets.proofs.ports.push_reserves.Goals as goal
+use Rattle.pdl_word.proofs.Each.{each_get}
 
 abbrev no_reserve : ReserveNet
 no_reserve = record { mem = 0; on = Input 0; addr = Input 0 }

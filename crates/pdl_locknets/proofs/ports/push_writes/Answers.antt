@@ -5,8 +5,9 @@ use Rattle.pdl_net.proofs.Keeps.{extends_keeps, extends_trans}
 use Rattle.pdl_flatnets.proofs.NetLists.{bits_kept}
 use Rattle.pdl_stagenets.specs.declared.nets.PutNet.{PutNet}
 use Rattle.pdl_locknets.specs.Ports.{IsGivenPut}
-use Rattle.pdl_locknets.proofs.PortLists.{each_get, given_puts, writes_step, writes_end}
+use Rattle.pdl_locknets.proofs.PortLists.{given_puts, writes_step, writes_end}
 use Rattle.pdl_locknets.proofs.ports.push_writes.Goals as goal
+use Rattle.pdl_word.proofs.Each.{each_get}
 
 abbrev no_put : PutNet
 no_put = record { mem = 0; on = Input 0; value = Input 0 }

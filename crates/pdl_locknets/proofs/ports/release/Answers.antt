@@ -5,12 +5,13 @@ use Rattle.pdl_net.proofs.Keeps.{extends_keeps, extends_trans}
 use Rattle.pdl_flatnets.proofs.NetLists.{bits_kept}
 use Rattle.pdl_pipe_law.specs.Ports.{release_moves}
 use Rattle.pdl_stagenets.specs.declared.nets.LettingNet.{LettingNet}
-use Rattle.pdl_stagenets.specs.Parts.{Each, letting_in}
+use Rattle.pdl_stagenets.specs.Parts.{letting_in}
 use Rattle.pdl_locknets.specs.Deeds.{views_in, moves_in}
 use Rattle.pdl_locknets.specs.Ports.{IsGivenLetting, IsGiven}
 use Rattle.pdl_locknets.proofs.PortStages.{each_at, given_kept}
 use Rattle.pdl_locknets.proofs.Releases.{released_one, released_more}
 use Rattle.pdl_locknets.proofs.ports.release.Goals as goal
+use Rattle.pdl_word.specs.Each.{Each}
 
 pub releases_or-requires-clause-bits : goal.releases_or-requires-clause-bits
 releases_or-requires-clause-bits c = bits_kept c.args.b.now c.loop-i.b c.args.bits c.loop-i.invariant.extends c.requires.bits

@@ -4,10 +4,11 @@ use Rattle.pdl_net.proofs.Keeps.{extends_keeps, extends_trans}
 use Rattle.pdl_flatnets.proofs.NetLists.{bits_kept}
 use Rattle.pdl_pipe_law.specs.Ports.{reserves_to}
 use Rattle.pdl_stagenets.specs.declared.nets.ReserveNet.{ReserveNet}
-use Rattle.pdl_stagenets.specs.Parts.{Each, reservation_in}
+use Rattle.pdl_stagenets.specs.Parts.{reservation_in}
 use Rattle.pdl_locknets.specs.Ports.{IsGivenReserve, IsGiven, AddsReserves}
 use Rattle.pdl_locknets.proofs.PortStages.{each_at, given_kept, reserves_more}
 use Rattle.pdl_locknets.proofs.ports.reserve_ports.Goals as goal
+use Rattle.pdl_word.specs.Each.{Each}
 
 pub push_reserves-requires-clause-bits : goal.push_reserves-requires-clause-bits
 push_reserves-requires-clause-bits c = bits_kept c.args.b.now c.loop-i.b c.args.bits c.loop-i.invariant.extends c.requires.bits

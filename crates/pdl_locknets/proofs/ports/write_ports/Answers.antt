@@ -4,10 +4,11 @@ use Rattle.pdl_net.proofs.Keeps.{extends_keeps, extends_trans}
 use Rattle.pdl_flatnets.proofs.NetLists.{bits_kept}
 use Rattle.pdl_pipe_law.specs.Ports.{puts_to}
 use Rattle.pdl_stagenets.specs.declared.nets.PutNet.{PutNet}
-use Rattle.pdl_stagenets.specs.Parts.{Each, put_in}
+use Rattle.pdl_stagenets.specs.Parts.{put_in}
 use Rattle.pdl_locknets.specs.Ports.{IsGivenPut, IsGiven, AddsWrites}
 use Rattle.pdl_locknets.proofs.PortStages.{each_at, given_kept, ticket_there, writes_more}
 use Rattle.pdl_locknets.proofs.ports.write_ports.Goals as goal
+use Rattle.pdl_word.specs.Each.{Each}
 
 pub push_writes-requires-clause-bits : goal.push_writes-requires-clause-bits
 push_writes-requires-clause-bits c = bits_kept c.args.b.now c.loop-i.b c.args.bits c.loop-i.invariant.extends c.requires.bits

@@ -7,7 +7,7 @@ use Rattle.pdl_flatnets.proofs.NetLists.{signals_keep}
 use Rattle.pdl_pipe_law.specs.Walk.{Birth}
 use Rattle.pdl_pipe_law.specs.Views.{View, new_by, first_coming}
 use Rattle.pdl_stagenets.specs.declared.nets.BirthNet.{BirthNet}
-use Rattle.pdl_stagenets.specs.Parts.{Each, birth_in}
+use Rattle.pdl_stagenets.specs.Parts.{birth_in}
 use Rattle.pdl_stagenets.proofs.Lists.{map_each, each_at as each_in}
 use Rattle.pdl_stageregs.specs.declared.moving.MoveNets.{MoveNets}
 use Rattle.pdl_stageregs.specs.declared.nets.StageNets.{StageNets}
@@ -17,6 +17,7 @@ use Rattle.pdl_stageregs.specs.Comes.{brought_signal, IsBirth}
 use Rattle.pdl_stageregs.proofs.Lists.{each_at, each_map, view_at}
 use Rattle.pdl_stageregs.proofs.BirthsMade.{birth_keep, stage_more}
 use Rattle.pdl_stageregs.proofs.births.first_coming.Goals as goal
+use Rattle.pdl_word.specs.Each.{Each}
 
 pub picked_of-requires-clause-births : goal.picked_of-requires-clause-births
 picked_of-requires-clause-births c =

@@ -1,6 +1,6 @@
 use Rattle.std.proofs.Common.{◌≡◌, ◌+◌, ◌*◌, ◌-◌, ◌/◌, ◌^◌, ◌++◌, length}
-use Rattle.pdl_semantics.specs.Lines.{hex}
 use Rattle.pdl_trace.proofs.line.Line.push_hex.Given as goal
+use Rattle.pdl_word.specs.Digits.{hex}
 
 -- the highest digits are there
 abbrev pub invariant-loop-done : goal.invariant-loop-done

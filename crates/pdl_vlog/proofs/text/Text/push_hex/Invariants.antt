@@ -1,6 +1,6 @@
 use Rattle.std.proofs.Common.{◌≡◌, ◌*◌, ◌-◌, ◌/◌, ◌^◌, ◌++◌}
-use Rattle.pdl_vlog.specs.Digits.{hex}
 use Rattle.pdl_vlog.proofs.text.Text.push_hex.Given as goal
+use Rattle.pdl_word.specs.Digits.{hex}
 
 -- the highest digits are there
 abbrev pub invariant-loop-done : goal.invariant-loop-done

@@ -1,8 +1,8 @@
 use Rattle.std.proofs.Common.{◌≡◌, ◌<◌, ◌^◌, true, take}
 use Rattle.std.specs.List.{list_all}
 use Rattle.std.specs.Str.Parse.{digits_value}
-use Rattle.pdl_image.specs.Images.{is_digit_of}
-use Rattle.pdl_image.proofs.fields.read_number.Given as goal
+use Rattle.pdl_word.proofs.numerals.read_digits.Given as goal
+use Rattle.pdl_word.specs.Digits.{is_digit_of}
 
 abbrev pub invariant-loop-byte : goal.invariant-loop-byte
 invariant-loop-byte l = record {

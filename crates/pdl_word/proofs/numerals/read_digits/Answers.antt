@@ -1,7 +1,8 @@
-use Rattle.std.proofs.Common.{arith}
-use Rattle.pdl_image.proofs.Numbers.{digits_next}
-use Rattle.pdl_image.proofs.fields.read_number.Goals as goal
+use Rattle.std.proofs.Common.{◌≡◌, ◌^◌, ◌<◌, ◌≤◌, arith, length, subst}
+use Rattle.std.proofs.Math.Nat.{pow-le-pow_right}
+use Rattle.pdl_word.proofs.numerals.read_digits.Goals as goal
 use Rattle.pdl_word.proofs.Numbers.{next_below, next_fits}
+use Rattle.pdl_word.proofs.Digits.{digits_next}
 
 pub overflow_mul-number : goal.overflow_mul-number
 overflow_mul-number c =
@@ -19,3 +20,10 @@ loop-byte-preserved c =
       value = f.1;
       below = next_below _ _ _ _ c.loop-byte.invariant.below c.in_ok-digit.ensures.2;
     }
+
+pub returns-clause-below : goal.returns-clause-below
+returns-clause-below c =
+    let p : c.args.base ^ length c.args.digits.now ≤ c.args.base ^ c.args.most = pow-le-pow_right (omega (arith, c.requires.low)) (omega arith) in
+    let q : c.loop-byte.byte-index ≡ length c.args.digits.now = omega arith in
+    let r : c.loop-byte.number < c.args.base ^ length c.args.digits.now = subst (λ n. c.loop-byte.number < c.args.base ^ n) q c.loop-byte.invariant.below in
+    omega (arith, p, r)

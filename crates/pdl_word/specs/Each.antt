@@ -1,0 +1,7 @@
+-- Lists of which each element has a property.
+use Rattle.std.specs.Prelude.{List, [], ◌∷◌}
+
+-- each element has the property
+abbrev pub Each : {A : Type 0} → (A → Type 0) → List A → Type 0
+Each P [] = Unit {0}
+Each P (x ∷ xs) = P x × Each P xs
