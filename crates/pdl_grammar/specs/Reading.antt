@@ -8,7 +8,8 @@ use Rattle.pdl_tokens.specs.Cursor.{next, first_kind, first_span, first_name}
 use Rattle.pdl_cursor.specs.Looks.{is_mark, begins_place}
 use Rattle.pdl_tokens.specs.Tokens.{Row}
 use Rattle.pdl_grammar.specs.Grammar.{across, prepend}
-pub use Rattle.pdl_grammar.specs.ReadingExprs.{Outcome, Parser, and_then, ◌>>=◌, pure, refuse, take, name_by, name, number_by, number, first_literal, literal_by, literal, access_by, access, index, place, ended, goes_on, listed_by, list_of, bounds, slice_of, after_name, bracketed_expr, sized_expr, pair, Inner, inverted, catenated, compared, extended, sign_extended, operand_by, operand, op_by, op_in, joined_expr, chain, level, arms, choose, full, nothing_inside, inside, expr, args}
+pub use Rattle.pdl_grammar.specs.ReadingExprs.{Outcome, Parser, and_then, ◌>>=◌, pure, refuse, name_by, number_by, first_literal, literal_by, access_by, goes_on, listed_by, slice_of, after_name, bracketed_expr, sized_expr, pair, Inner, inverted, catenated, compared, extended, sign_extended, operand_by, op_by, op_in, joined_expr, arms, choose, nothing_inside, expr, args}
+unfoldable pub use Rattle.pdl_grammar.specs.ReadingExprs.{take, name, number, literal, access, index, place, ended, list_of, bounds, operand, chain, level, full, inside}
 
 -- ---- statements
 

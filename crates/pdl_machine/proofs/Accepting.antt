@@ -16,7 +16,7 @@ use Rattle.pdl_gated.proofs.Guesses.{no_guess}
 use Rattle.pdl_gated.proofs.Simple.{simple}
 use Rattle.pdl_run.specs.Running.{IsRunnable, AreImages}
 use Rattle.pdl_rules.specs.Memories.{infos_of}
-use Rattle.pdl_rules.proofs.Memories.{infos_count}
+use Rattle.pdl_rules.proofs.ToldMemories.{infos_count}
 
 -- THE PIPE
 

@@ -7,3 +7,5 @@ pub mod Widths
 pub mod Examples
 pub mod WidthLists
 pub mod PipeMems
+pub mod Holds
+pub mod Loaded

@@ -7,3 +7,4 @@ pub mod Cycle
 pub mod Run
 pub mod Pipe
 pub mod Width
+pub mod Holds

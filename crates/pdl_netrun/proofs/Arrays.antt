@@ -9,7 +9,7 @@ use Rattle.pdl_net.specs.declared.Net.{Net}
 use Rattle.pdl_net.specs.declared.WritePort.{WritePort}
 use Rattle.pdl_net.specs.declared.Array.{Array}
 use Rattle.pdl_net.specs.Circuit.{Circuit, State, array_at, no_array}
-use Rattle.pdl_net.specs.Meaning.{signal, IsThere}
+use Rattle.pdl_net.specs.Meaning.{IsThere}
 use Rattle.pdl_net.specs.Cycle.{net_value, after_writes, arrays_from, next_arrays}
 use Rattle.pdl_net.specs.Well.{IsWell, IsWellWrite, IsWellArray, Suits}
 use Rattle.pdl_net.proofs.Bounds.{bounded}
@@ -17,20 +17,6 @@ use Rattle.pdl_netrun.specs.declared.writes.ArrayWrite.{ArrayWrite}
 use Rattle.pdl_netrun.specs.Steps.{WriteFits, after_write, after_all}
 use Rattle.pdl_netrun.specs.Plan.{place, layout_of, planned_write, planned_writes, writes_from, HasValues}
 use Rattle.pdl_netrun.proofs.PlanLemmas.{place_below}
-
--- all arrays after their writes
-pub arrays_at : (c : Circuit) (s : State) (ms : List Array) (k j : ℕ) → j < length ms → get_or (arrays_from c s ms k) j [] ≡ after_writes c s (get_or ms j no_array).writes (get_or s.arrays (k + j) [])
-arrays_at c s [] k j h = absurd (omega arith)
-arrays_at c s (m ∷ ms) k zero h =
-    let e : k ≡ k + 0 = omega arith in
-    ap (λ i. after_writes c s m.writes (get_or s.arrays i [])) e
-arrays_at c s (m ∷ ms) k (suc j) h =
-    let e : suc k + j ≡ k + suc j = omega arith in
-    arrays_at c s ms (suc k) j (omega arith) ∙ ap (λ i. after_writes c s (get_or ms j no_array).writes (get_or s.arrays i [])) e
-
-pub arrays_length : (c : Circuit) (s : State) (ms : List Array) (k : ℕ) → length (arrays_from c s ms k) ≡ length ms
-arrays_length c s [] k = refl
-arrays_length c s (m ∷ ms) k = let e = arrays_length c s ms (suc k) in omega (arith, e)
 
 -- WRITES ONE AFTER ANOTHER
 

@@ -12,10 +12,11 @@ use Rattle.pdl_net.specs.Circuit.{Circuit, circuit_of, inputs_of}
 use Rattle.pdl_net.specs.Well.{IsWell}
 use Rattle.pdl_net.specs.Run.{delayed_mems, loaded_arrays}
 use Rattle.pdl_net.proofs.Fix.{no_cell}
-use Rattle.pdl_netrun.specs.Plan.{place, held_at_start, IsHeld, HasConstants, ImageFits}
+use Rattle.pdl_netrun.specs.Plan.{place, held_at_start, IsHeld, HasConstants}
 use Rattle.pdl_netrun.specs.Sim.{run_at, run_at_start, nothing}
-use Rattle.pdl_netrun.specs.Inside.{Holds, registers}
-use Rattle.pdl_netrun.proofs.Loaded.{holds_start}
+use Rattle.pdl_netrun.specs.Inside.{registers}
+use Rattle.pdl_net.proofs.Loaded.{holds_start}
+use Rattle.pdl_net.specs.Holds.{Holds, ImageFits}
 
 -- the list of values before the first cycle
 abbrev pub first_values : Circuit → List ℕ

@@ -1,19 +1,19 @@
 -- The parts of a cycle, from the fields of a simulator that is ready.
-use Rattle.std.proofs.Common.{◌≡◌, refl, sym, ap, ◌∙◌, subst, ℕ, ◌+◌, ◌<◌, ◌≤◌, List, [], ◌++◌, length, take, drop, map, All, Vec, Global, arith}
+use Rattle.std.proofs.Common.{◌≡◌, sym, ap, ◌∙◌, subst, ℕ, ◌+◌, ◌<◌, ◌≤◌, List, [], ◌++◌, length, take, drop, map, All, Vec, Global, arith}
 use Rattle.std.specs.Prelude.{slice_index}
 use Rattle.std.proofs.lemmas.List.{length-map}
-use Rattle.pdl_net.specs.declared.Reg.{Reg}
-use Rattle.pdl_net.specs.Circuit.{circuit_of, inputs_of, outputs_of}
+use Rattle.pdl_net.specs.Circuit.{circuit_of, inputs_of}
 use Rattle.pdl_net.specs.Cycle.{output_values, next_regs, next_arrays}
 use Rattle.pdl_netrun.specs.declared.step.Step.{Step}
 use Rattle.pdl_netrun.specs.declared.writes.ArrayWrite.{ArrayWrite}
 use Rattle.pdl_netrun.specs.declared.sim.Sim.TheInside.{Inside}
 use Rattle.pdl_netrun.specs.Steps.{StepsFit, AreBelow, WriteFits, after_steps, after_all, array_words}
 use Rattle.pdl_netrun.specs.Plan.{HasValues, HasConstants, planned_writes}
-use Rattle.pdl_netrun.specs.Inside.{Holds, registers, IsReady}
-use Rattle.pdl_netrun.proofs.Holds.{next_holds}
+use Rattle.pdl_netrun.specs.Inside.{registers, IsReady}
+use Rattle.pdl_net.proofs.Holds.{next_holds}
 use Rattle.pdl_netrun.proofs.Arrays.{arrays_written, writes_fit}
 use Rattle.pdl_netrun.proofs.Stepped.{state_now, suits_now, walked_now, drivers_below, outputs_read, nexts_below, nexts_read, registers_put, put_length, constants_put}
+use Rattle.pdl_net.specs.Holds.{Holds}
 
 -- the values after the steps
 abbrev pub walked_values : Inside → List ℕ

@@ -3,9 +3,7 @@ pub mod Steps
 pub mod PlanLemmas
 pub mod Values
 pub mod Arrays
-pub mod Holds
 pub mod Begun
 pub mod Stepped
 pub mod Cycles
-pub mod Loaded
 pub mod Sample

@@ -23,7 +23,7 @@ use Rattle.pdl_netrun.specs.Plan.{place, step_of_cell, value_count, HasValues, H
 use Rattle.pdl_netrun.specs.Sim.{Run, run_after}
 use Rattle.pdl_netrun.specs.Inside.{registers, run_of, IsReady}
 use Rattle.pdl_netrun.specs.declared.sim.Sim.TheInside.{Inside}
-use Rattle.pdl_netrun.proofs.Holds.{suits_of}
+use Rattle.pdl_net.proofs.Holds.{suits_of}
 use Rattle.pdl_netrun.proofs.PlanLemmas.{place_below}
 use Rattle.pdl_netrun.proofs.Values.{IsWalked, walked}
 

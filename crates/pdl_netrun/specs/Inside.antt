@@ -1,20 +1,13 @@
 -- The fields of a simulator.
-use Rattle.std.specs.Prelude.{◌≡◌, ℕ, ◌<◌, ◌^◌, List, [], length, slice_index, slice_index_or, map, take, drop, ◌+◌, false}
-use Rattle.pdl_net.specs.Circuit.{Circuit, circuit_of, inputs_of, outputs_of, reg_at, array_at}
+use Rattle.std.specs.Prelude.{◌≡◌, ℕ, ◌<◌, ◌^◌, List, [], length, map, take, drop, ◌+◌, false}
+use Rattle.pdl_net.specs.Circuit.{Circuit, circuit_of, inputs_of, outputs_of}
 use Rattle.pdl_net.specs.Well.{IsWell}
 use Rattle.pdl_netrun.specs.Steps.{array_words}
 use Rattle.pdl_netrun.specs.Plan.{place, step_of_cell, planned_writes, value_count, HasConstants}
 use Rattle.pdl_netrun.specs.Places.{places_of}
 use Rattle.pdl_netrun.specs.Sim.{Run}
 use Rattle.pdl_netrun.specs.declared.sim.Sim.TheInside.{Inside}
-
--- registers and arrays of the circuit, with values that fit their widths
-pub record Holds (c : Circuit) (regs : List ℕ) (arrays : List (List ℕ)) : Type 0 where
-  pub reg_count : length regs ≡ length c.regs
-  pub each : (r : ℕ) → r < length c.regs → slice_index regs r < 2 ^ (reg_at c r).width
-  pub array_count : length arrays ≡ length c.arrays
-  pub depth : (m : ℕ) → m < length c.arrays → length (slice_index_or arrays m []) ≡ (array_at c m).depth
-  pub words : (m : ℕ) → m < length c.arrays → (a : ℕ) → slice_index (slice_index_or arrays m []) a < 2 ^ (array_at c m).width
+use Rattle.pdl_net.specs.Holds.{Holds}
 
 -- the values of the registers in the list of values
 abbrev pub registers : Circuit → List ℕ → List ℕ

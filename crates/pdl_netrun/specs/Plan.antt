@@ -8,7 +8,7 @@ use Rattle.pdl_net.specs.declared.Cell.{Cell}
 use Rattle.pdl_net.specs.declared.Cell.TheVariants as cell
 use Rattle.pdl_net.specs.declared.WritePort.{WritePort}
 use Rattle.pdl_net.specs.declared.Array.{Array}
-use Rattle.pdl_net.specs.Circuit.{Circuit, State, inputs_of, array_at}
+use Rattle.pdl_net.specs.Circuit.{Circuit, State, inputs_of}
 use Rattle.pdl_net.specs.Meaning.{signal, IsThereAt}
 use Rattle.pdl_netrun.specs.declared.plan.Layout.{Layout}
 use Rattle.pdl_netrun.specs.declared.step.Step.{Step}
@@ -101,11 +101,3 @@ IsHeld _ x = Unit {0}
 -- the list has the values of all constants
 pub record HasConstants (c : Circuit) (vs : List ℕ) : Type 0 where
   pub each : (k : ℕ) → k < length c.cells → IsHeld (slice_index_or c.cells k (cell.Const 0 0)) (slice_index vs (place c (CellNet k)))
-
--- ARRAYS
-
--- an image with a part for each array, of its width and no longer than it
-pub record ImageFits (c : Circuit) (image : List (List ℕ)) : Type 0 where
-  pub count : length image ≡ length c.arrays
-  pub depth : (m : ℕ) → m < length c.arrays → length (slice_index_or image m []) ≤ (array_at c m).depth
-  pub words : (m : ℕ) → m < length c.arrays → (a : ℕ) → slice_index (slice_index_or image m []) a < 2 ^ (array_at c m).width

@@ -9,7 +9,8 @@ ghost use Rattle.pdl_image.specs.Images.{IsImage};
 ghost use Rattle.pdl_netrun.specs.Sim.{run_at, run_at_start, run_after};
 ghost use Rattle.pdl_netrun.specs.Steps.{array_words};
 ghost use Rattle.pdl_netrun.specs.Plan.{HasConstants, layout_of, value_count};
-ghost use Rattle.pdl_netrun.specs.Inside.{Holds, registers};
+ghost use Rattle.pdl_net.specs.Holds.{Holds};
+ghost use Rattle.pdl_netrun.specs.Inside.{registers};
 
 use crate::places::{CommitPlaces, all_places, value_at_place};
 use crate::plan::{

@@ -3,7 +3,7 @@
 ghost use Rattle.std.specs.Prelude.{◌≡◌, ◌≤◌, length, IfOk};
 ghost use Rattle.pdl_net.specs.Circuit.{circuit_of};
 ghost use Rattle.pdl_net.specs.Run.{filled_words, loaded_arrays};
-ghost use Rattle.pdl_netrun.specs.Plan.{ImageFits};
+ghost use Rattle.pdl_net.specs.Holds.{ImageFits};
 ghost use Rattle.pdl_netrun.specs.Steps.{array_words};
 
 use pdl_image::Image;

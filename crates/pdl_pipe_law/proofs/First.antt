@@ -30,7 +30,7 @@ use Rattle.pdl_pipe_law.specs.Stands.{IsEnv, IsHolding, StandsLock, StandsFor, I
 use Rattle.pdl_pipe_law.proofs.Comers.{signals_are}
 use Rattle.pdl_pipe_law.proofs.Next.{mem_there, lock_there}
 use Rattle.pdl_word.proofs.Lists.{zeros_at}
-use Rattle.pdl_netrun.proofs.Loaded.{loaded_at}
+use Rattle.pdl_net.proofs.Loaded.{loaded_at}
 use Rattle.pdl_semantics.proofs.Facts.{held_first}
 use Rattle.pdl_semantics.specs.PendingLists.{count_older}
 

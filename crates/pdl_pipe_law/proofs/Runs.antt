@@ -11,9 +11,8 @@ use Rattle.pdl_net.specs.Cycle.{next_regs, next_arrays}
 use Rattle.pdl_net.specs.Run as net_run
 use Rattle.pdl_net.specs.Run.{Held, delayed_mems, loaded_arrays, next_stores, no_mem}
 use Rattle.pdl_net.specs.Pipe.{IsWellFormed}
-use Rattle.pdl_netrun.specs.Inside.{Holds}
-use Rattle.pdl_netrun.proofs.Holds.{suits_of, next_holds}
-use Rattle.pdl_netrun.proofs.Loaded.{holds_start, image_fits, no_inputs}
+use Rattle.pdl_net.proofs.Holds.{suits_of, next_holds}
+use Rattle.pdl_net.proofs.Loaded.{holds_start, image_fits, no_inputs}
 use Rattle.pdl_machine_facts.specs.Cycle.{IsByStages, IsCalm}
 use Rattle.pdl_machine_facts.specs.Use.{IsInUse}
 use Rattle.pdl_machine_facts.specs.Linear.{IsSimple}
@@ -30,6 +29,7 @@ use Rattle.pdl_pipe_law.proofs.Next.{stands_after}
 use Rattle.pdl_pipe_law.proofs.First.{stands_first}
 use Rattle.pdl_pipe_law.proofs.Outputs.{ports_shown}
 use Rattle.pdl_pipe_law.proofs.Nothing.{nothing}
+use Rattle.pdl_net.specs.Holds.{Holds}
 
 -- registers and arrays where no memory is delayed, and the circuit's state
 abbrev held : List ℕ → List (List ℕ) → Held
@@ -103,7 +103,7 @@ module _ (p : Pipe) (fit : IsFit p) (names : ℕ → List ℕ) (ls : Locks) (vs 
   shows_beside image schedule replies is_image l =
       let regs = map (λ (r : Reg). r.reset) n.regs in
       let arrays = loaded_arrays n.arrays image in
-      let h = holds_start n image regs arrays formed.well (image_fits n image formed is_image none) refl refl in
+      let h = holds_start n image regs arrays formed.well (image_fits n image formed none is_image.count is_image.depth is_image.width) refl refl in
       let suits = suits_of c regs arrays h (no_inputs n formed none) in
       let stands = stands_first p names ls vs gates moves c made mems.in_order image (λ m l. let c = mems.count in is_image.depth m no_mem (omega (arith, c, l)) ∙ mems.depth m no_mem l) (state regs arrays) suits refl refl in
       ap (λ g. map seen_of (net_run.nports_from n g schedule)) (start_is n image none)

@@ -7,6 +7,7 @@ pub mod Once
 pub mod Typing
 pub mod Defined
 pub mod Memories
+pub mod ToldMemories
 pub mod Unbroken
 pub mod Guards
 pub mod EachPlace

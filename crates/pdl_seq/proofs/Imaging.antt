@@ -8,7 +8,7 @@ use Rattle.pdl_image.specs.Images.{IsImage}
 use Rattle.pdl_seq.specs.Turns.{list_at}
 use Rattle.pdl_seq.specs.Fits.{IsImageFor}
 use Rattle.pdl_rules.specs.Memories.{infos_of}
-use Rattle.pdl_rules.proofs.Memories.{infos_count}
+use Rattle.pdl_rules.proofs.ToldMemories.{infos_count}
 
 -- what an index past the end would give
 no_info : MemInfo

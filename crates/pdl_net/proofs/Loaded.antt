@@ -16,11 +16,9 @@ use Rattle.pdl_net.specs.Circuit.{circuit_of, inputs_of, input_with, port_input,
 use Rattle.pdl_net.specs.Well.{IsWell}
 use Rattle.pdl_net.specs.Run.{delayed_mems, filled_words, loaded_arrays, no_mem}
 use Rattle.pdl_net.specs.Pipe.{Head, head_of, is_input, PortMem, stage_ports, commit_ports, pipe_ports, comb_info, mems_of, IsPipe, IsWellFormed}
-use Rattle.pdl_image.specs.Images.{IsImage}
-use Rattle.pdl_netrun.specs.Plan.{ImageFits}
-use Rattle.pdl_netrun.specs.Inside.{Holds}
 use Rattle.pdl_word.proofs.Lists.{zeros_at}
 use Rattle.pdl_net.proofs.PipeMems.{none_delayed}
+use Rattle.pdl_net.specs.Holds.{Holds, ImageFits}
 
 -- the memory that an array and the locked memories tell has the array's width and at most its depth
 record IsHeld (a : Array) (m : MemInfo) : Type 0 where
@@ -55,14 +53,19 @@ mem_held n p e =
           subst P (sym (ap (λ l. get_or l m no_mem) mems ∙ get_or-map info n.arrays m no_array no_mem h)) (held_found a p.locked f.width f.depth),
     )
 
-pub image_fits : (n : Netlist) (image : List (List ℕ)) → IsWellFormed n → IsImage n.mems image → delayed_mems n ≡ [] → ImageFits (circuit_of n) image
-image_fits n image w i e =
+-- words for each memory, as many as it has and of its width, fit the arrays
+pub image_fits : (n : Netlist) (image : List (List ℕ)) → IsWellFormed n → delayed_mems n ≡ []
+    → length image ≡ length n.mems
+    → ((m : ℕ) (d : MemInfo) → m < length n.mems → length (get_or image m []) ≡ (get_or n.mems m d).depth)
+    → ((m : ℕ) (d : MemInfo) → m < length n.mems → (a : ℕ) → get_or (get_or image m []) a 0 < 2 ^ (get_or n.mems m d).width)
+    → ImageFits (circuit_of n) image
+image_fits n image w e count depth width =
     let h = mem_held n w.pipe e in
     record {
-      count = i.count ∙ h.0;
-      depth = λ m l. let d = i.depth m no_mem (omega (arith, l, h.0)) in let f = (h.1 m l).depth in omega (arith, d, f);
+      count = count ∙ h.0;
+      depth = λ m l. let d = depth m no_mem (omega (arith, l, h.0)) in let f = (h.1 m l).depth in omega (arith, d, f);
       words = λ m l a.
-          let x = i.width m no_mem (omega (arith, l, h.0)) a in
+          let x = width m no_mem (omega (arith, l, h.0)) a in
           let P : ℕ → Type 0 = λ b. get_or (get_or image m []) a 0 < 2 ^ b in
           subst P (sym ((h.1 m l).width)) x;
     }

@@ -5,13 +5,26 @@ use Rattle.std.proofs.lemmas.List.{get_or-set_same, get_or-set_other, length-set
 use Rattle.std.proofs.lemmas.Bool.{cases_lt, cases_eq}
 use Rattle.pdl_net.specs.declared.Reg.{Reg}
 use Rattle.pdl_net.specs.declared.WritePort.{WritePort}
-use Rattle.pdl_net.specs.Circuit.{Circuit, State, inputs_of, array_at, reg_at, no_reg}
-use Rattle.pdl_net.specs.Cycle.{net_value, after_writes, next_arrays, next_regs}
+use Rattle.pdl_net.specs.Circuit.{Circuit, State, inputs_of, array_at, reg_at, no_reg, no_array}
+use Rattle.pdl_net.specs.Cycle.{net_value, after_writes, next_arrays, next_regs, arrays_from}
 use Rattle.pdl_net.specs.Well.{IsWell, IsWellWrite, Suits}
 use Rattle.pdl_net.specs.declared.Array.{Array}
 use Rattle.pdl_net.proofs.Bounds.{bounded}
-use Rattle.pdl_netrun.specs.Inside.{Holds}
-use Rattle.pdl_netrun.proofs.Arrays.{arrays_at, arrays_length}
+use Rattle.pdl_net.specs.Holds.{Holds}
+
+-- all arrays after their writes
+pub arrays_at : (c : Circuit) (s : State) (ms : List Array) (k j : ℕ) → j < length ms → get_or (arrays_from c s ms k) j [] ≡ after_writes c s (get_or ms j no_array).writes (get_or s.arrays (k + j) [])
+arrays_at c s [] k j h = absurd (omega arith)
+arrays_at c s (m ∷ ms) k zero h =
+    let e : k ≡ k + 0 = omega arith in
+    ap (λ i. after_writes c s m.writes (get_or s.arrays i [])) e
+arrays_at c s (m ∷ ms) k (suc j) h =
+    let e : suc k + j ≡ k + suc j = omega arith in
+    arrays_at c s ms (suc k) j (omega arith) ∙ ap (λ i. after_writes c s (get_or ms j no_array).writes (get_or s.arrays i [])) e
+
+pub arrays_length : (c : Circuit) (s : State) (ms : List Array) (k : ℕ) → length (arrays_from c s ms k) ≡ length ms
+arrays_length c s [] k = refl
+arrays_length c s (m ∷ ms) k = let e = arrays_length c s ms (suc k) in omega (arith, e)
 
 -- where there are no inputs
 pub suits_of : (c : Circuit) (regs : List ℕ) (arrays : List (List ℕ)) → Holds c regs arrays → inputs_of c ≡ [] → Suits c (record { inputs = []; regs = regs; arrays = arrays })
