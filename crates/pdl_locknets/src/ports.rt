@@ -4,7 +4,8 @@ ghost use Rattle.pdl_net.specs.Meaning.{IsThere, Means, signal};
 ghost use Rattle.pdl_net.specs.Growth.{Extends};
 ghost use Rattle.pdl_flatnets.specs.Conditions.{AreBits};
 ghost use Rattle.pdl_pipe_law.specs.Ports.{reserves_to, all_reserves, puts_to, all_puts, release_moves, release_signal};
-ghost use Rattle.pdl_stagenets.specs.Parts.{Each, reservation_in, put_in, letting_in};
+ghost use Rattle.pdl_stagenets.specs.Parts.{reservation_in, put_in, letting_in};
+ghost use Rattle.pdl_word.specs.Each.{Each};
 ghost use Rattle.pdl_locknets.specs.Deeds.{views_in, moves_in};
 ghost use Rattle.pdl_locknets.specs.Ports.{IsGivenReserve, IsGivenPut, IsGivenLetting, IsGiven, IsThereReserve, IsThereWrite, AreReserves, AreWrites, AddsReserves, AddsWrites, ArePorts, signals_of};
 

@@ -7,7 +7,7 @@ ghost use Rattle.pdl_net.specs.Meaning.{IsThere, signal, write_signals};
 ghost use Rattle.pdl_net.specs.Growth.{ExtendsBut};
 ghost use Rattle.pdl_lockapi.specs.Laws.{own, HasCommitNets, StepLaw};
 ghost use Rattle.pdl_flatnets.specs.Conditions.{AreBits};
-ghost use Rattle.pdl_stagenets.specs.Parts.{Each};
+ghost use Rattle.pdl_word.specs.Each.{Each};
 ghost use Rattle.pdl_stagenets.specs.Locked.{members, some_at};
 ghost use Rattle.pdl_locknets.specs.Lawful.{AreLawful, AreUnwritten};
 ghost use Rattle.pdl_locknets.specs.Round.{HasRoundLocks, HasRoundDeeds, round_steps};

@@ -6,7 +6,8 @@ ghost use Rattle.pdl_net.specs.Growth.{Extends};
 ghost use Rattle.pdl_flatnets.specs.Nets.{signals_in};
 ghost use Rattle.pdl_flatnets.specs.Conditions.{AreBits};
 ghost use Rattle.pdl_pipe_law.specs.Views.{new_by, first_coming as picked_signal};
-ghost use Rattle.pdl_stagenets.specs.Parts.{Each, birth_in};
+ghost use Rattle.pdl_stagenets.specs.Parts.{birth_in};
+ghost use Rattle.pdl_word.specs.Each.{Each};
 ghost use Rattle.pdl_stageregs.specs.Moves.{AreMovesThere};
 ghost use Rattle.pdl_stageregs.specs.Comes.{brought_signal, brings_of, new_in, IsBirth, AreBirths};
 
