@@ -15,7 +15,7 @@ use pdl_rename::RenameFile;
 use std::alloc::Global;
 
 /// One of the three kinds.
-#[derive(Clone, Copy, PartialEq, Eq, Debug)]
+#[derive(Clone, Copy, PartialEq, Eq)]
 pub enum AnyLock {
     Queue(QueueLock),
     Bypass(BypassLock),

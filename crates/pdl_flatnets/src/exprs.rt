@@ -36,7 +36,7 @@ fn bin_op(op: BinaryOp) -> BinOp
     }
 }
 
-// The net of a variable.
+/// The net of a variable.
 pub fn variable(b: &Builder, vars: &[Net], x: usize) -> Net
     requires there { NetsThere b.now vars.now }
     requires low { x < length vars.now }

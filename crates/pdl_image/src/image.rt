@@ -5,7 +5,7 @@ use pdl_kit::Seq;
 use std::marker::Model;
 
 /// The words that memories have at the start: one list for each memory, in the order of their declarations.
-#[derive(Drop, Debug)]
+#[derive(Drop)]
 pub struct Image {
     words: Seq<Seq<u64>>,
 }

@@ -9,7 +9,7 @@ use crate::no_memory::NoMemory;
 pub const LONGEST_FILE: usize = 268_435_456;
 
 /// Why a file was not read: the files had a fault, or memory ran out.
-#[derive(Clone, Copy, PartialEq, Eq, Debug)]
+#[derive(Clone, Copy, PartialEq, Eq)]
 pub enum ReadError {
     Failed,
     NoMemory,

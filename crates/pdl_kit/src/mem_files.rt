@@ -12,7 +12,7 @@ use crate::seq::Seq;
 use std::marker::Model;
 
 /// Files in memory, of which every name may be read, and some of whose calls fail.
-#[derive(Drop, Debug)]
+#[derive(Drop)]
 pub struct MemFiles {
     files: Vec<MemFile>,
     failing: Vec<u64>,

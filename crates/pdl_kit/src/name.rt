@@ -14,7 +14,7 @@ use std::hash::{Hash, Hasher};
 use std::marker::Model;
 
 /// A name that contracts see as the list of its bytes, compared byte by byte.
-#[derive(Drop, Debug)]
+#[derive(Drop)]
 pub struct Name {
     bytes: Vec<u8>,
 }

@@ -7,7 +7,7 @@ use crate::rule::Rule;
 use std::alloc::{AllocError, AllocFailed};
 
 /// Why a file was not taken: a rule that it breaks, with the line (counted from 1) of the place, or want of memory.
-#[derive(Clone, Copy, PartialEq, Eq, Debug)]
+#[derive(Clone, Copy, PartialEq, Eq)]
 pub enum Refusal {
     Refused { rule: Rule, line: u32 },
     NoMemory,

@@ -3,7 +3,7 @@ ghost use Rattle.std.specs.Prelude.{◌≡◌, [], ◌∷◌, drop};
 ghost use Rattle.pdl_kit.specs.Rules.{text_of};
 
 /// A rule whose breaking a refusal names.
-#[derive(Clone, Copy, PartialEq, Eq, Debug)]
+#[derive(Clone, Copy, PartialEq, Eq)]
 pub enum Rule {
     G1,
     Z1,

@@ -12,7 +12,7 @@ use std::hash::{Hash, Hasher};
 use std::marker::Model;
 
 /// A list that contracts see as the list of its items.
-#[derive(Drop, Debug)]
+#[derive(Drop)]
 pub struct Seq<T> {
     items: Vec<T>,
 }

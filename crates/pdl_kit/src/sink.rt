@@ -5,7 +5,7 @@ ghost use Rattle.pdl_kit.specs.Counts.{HasCause};
 ghost use Rattle.pdl_kit.specs.Sinks.{Takes, TakesPrefix, with_bytes};
 
 /// A write failed, and the sink took nothing.
-#[derive(Clone, Copy, PartialEq, Eq, Debug)]
+#[derive(Clone, Copy, PartialEq, Eq)]
 pub struct WriteFailed;
 
 /// What takes bytes.

@@ -22,7 +22,7 @@ use pdl_tree::{Kind, Mem, Pipe};
 use std::alloc::Global;
 
 /// What is asked of the places at one location.
-#[derive(Clone, Copy, Debug)]
+#[derive(Clone, Copy)]
 pub enum LocationRule {
     /// L1: each statement has the hold that it needs.
     Held,

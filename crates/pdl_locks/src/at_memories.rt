@@ -19,7 +19,7 @@ use pdl_tree::Kind;
 use std::alloc::Global;
 
 /// What is asked of the places of one memory.
-#[derive(Clone, Copy, Debug)]
+#[derive(Clone, Copy)]
 pub enum MemoryRule {
     /// L3: it is reserved to read before it is reserved to write, and read before it is written.
     ReadFirst,

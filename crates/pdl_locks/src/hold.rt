@@ -10,7 +10,7 @@ use pdl_paths::{Action, Place};
 use pdl_tree::{Kind, Location};
 
 /// What a thread holds of a location.
-#[derive(Clone, Copy, Debug)]
+#[derive(Clone, Copy)]
 pub enum Hold {
     Nothing,
     Reserved(Kind),

@@ -11,7 +11,7 @@ use pdl_tree::Location;
 use std::alloc::Global;
 
 /// What has one number: a location, by its memory and its address, or a memory with all its locations.
-#[derive(Clone, Copy, Debug)]
+#[derive(Clone, Copy)]
 pub enum Keys {
     Locations,
     Memories,

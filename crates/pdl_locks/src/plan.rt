@@ -15,14 +15,14 @@ use std::alloc::Global;
 use std::marker::Model;
 
 // The stages of a memory's reserves and of its releases.
-#[derive(Clone, Copy, Debug)]
+#[derive(Clone, Copy)]
 struct MemStages {
     reserved: Option<usize>,
     released: Option<usize>,
 }
 
 /// The stages in which each memory of a pipe is reserved and released, in the order of the memories.
-#[derive(Drop, Debug)]
+#[derive(Drop)]
 pub struct LockPlan {
     mems: Vec<MemStages>,
 }

@@ -12,7 +12,7 @@ use pdl_paths::{Action, Place};
 use pdl_tree::Kind;
 
 /// What was done so far at a location. Writes count up to two.
-#[derive(Clone, Copy, Debug)]
+#[derive(Clone, Copy)]
 pub struct LocationUse {
     pub hold: Hold,
     pub reserved: bool,
@@ -46,7 +46,7 @@ impl LocationUse {
 }
 
 /// What was done so far with a memory. Read reservations count up to four.
-#[derive(Clone, Copy, Debug)]
+#[derive(Clone, Copy)]
 pub struct MemoryUse {
     pub reads: u8,
     /// Whether it was reserved to write.

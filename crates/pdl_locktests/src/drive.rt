@@ -10,6 +10,7 @@ pub struct Random {
 }
 
 impl Random {
+    /// Numbers that go on from a seed.
     pub fn new(seed: u64) -> Random {
         Random { state: seed | 1 }
     }

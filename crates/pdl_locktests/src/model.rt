@@ -38,6 +38,7 @@ pub struct Lock {
 }
 
 impl Lock {
+    /// A lock of so many writes over the words of an image, where reads see pending values or wait for them.
     pub fn new(
         alloc: Global,
         sees_pending: bool,
@@ -53,6 +54,7 @@ impl Lock {
         })
     }
 
+    /// Whether one more write may be pending.
     pub fn has_room(&self) -> bool {
         self.pending.len() < self.size
     }

@@ -32,17 +32,17 @@ fn memory(alloc: Global) -> Result<MemInfo, NoMemory>
 
 /// How many of 200 cycles of random proper use a module and a lock written by hand go through alike.
 fn driven<L: LockModule>(
-    module: &L,
+    lock: &L,
     alloc: Global,
     mem: &MemInfo,
     sees_pending: bool,
     size: u8,
 ) -> Result<u32, NoMemory>
-    requires suits { L.suits module.now mem.now }
+    requires suits { L.suits lock.now mem.now }
     requires width { mem.now.width ≡ 8 }
 {
-    let bench = emit_bench(module, alloc, mem)?;
-    let tickets = lowest(module.ticket_width(), u64::MAX);
+    let bench = emit_bench(lock, alloc, mem)?;
+    let tickets = lowest(lock.ticket_width(), u64::MAX);
     agreed_from_reset(alloc, &bench, sees_pending, size, tickets)
 }
 

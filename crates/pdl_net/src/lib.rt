@@ -10,7 +10,7 @@ use pdl_kit::{MemInfo, Name, Seq};
 /// What a cell, a register, an array or an output reads: an input, a register or a cell, each counted from 0.
 ///
 /// `Input(i)` is the i-th input of `ports`; the clock and the reset are no inputs in this sense.
-#[derive(Clone, Copy, PartialEq, Eq, Hash, Debug)]
+#[derive(Clone, Copy, PartialEq, Eq, Hash)]
 pub enum Net {
     Input(usize),
     Reg(usize),
@@ -20,7 +20,7 @@ pub enum Net {
 /// An operator on two words of one width (IEEE 1364-2005, clause 5.1, for unsigned operands).
 ///
 /// The comparisons give 1 bit, the others the width of their operands.
-#[derive(Clone, Copy, PartialEq, Eq, Hash, Debug)]
+#[derive(Clone, Copy, PartialEq, Eq, Hash)]
 pub enum BinOp {
     Add,
     Sub,
@@ -36,7 +36,7 @@ pub enum BinOp {
 }
 
 /// A cell: one value made of the values of inputs, registers, arrays and earlier cells.
-#[derive(Clone, Copy, PartialEq, Eq, Hash, Debug)]
+#[derive(Clone, Copy, PartialEq, Eq, Hash)]
 pub enum Cell {
     /// A constant of a width of 1 to 64 bits, with a value that fits it.
     Const { width: u8, value: u64 },
@@ -57,14 +57,14 @@ pub enum Cell {
 }
 
 /// Whether a port is an input, or an output with the net that drives it.
-#[derive(Clone, Copy, PartialEq, Eq, Debug)]
+#[derive(Clone, Copy, PartialEq, Eq)]
 pub enum Dir {
     In,
     Out(Net),
 }
 
 /// A port, with its width in bits, 1 to 64.
-#[derive(Drop, Debug)]
+#[derive(Drop)]
 pub struct Port {
     pub name: Name,
     pub width: u8,
@@ -72,7 +72,7 @@ pub struct Port {
 }
 
 /// A register, with its width in bits, 1 to 64, its value in the first cycle, and the net whose value it takes after each cycle.
-#[derive(Clone, Copy, PartialEq, Eq, Debug)]
+#[derive(Clone, Copy, PartialEq, Eq)]
 pub struct Reg {
     pub width: u8,
     pub reset: u64,
@@ -80,7 +80,7 @@ pub struct Reg {
 }
 
 /// A write port of an array: after a cycle in which `enable` is 1, the word at `addr` is `value`.
-#[derive(Clone, Copy, PartialEq, Eq, Debug)]
+#[derive(Clone, Copy, PartialEq, Eq)]
 pub struct WritePort {
     pub enable: Net,
     pub addr: Net,
@@ -90,7 +90,7 @@ pub struct WritePort {
 /// An array of `depth` words of `width` bits; of two writes of one word in one cycle the later port's holds.
 ///
 /// The depth is a power of two from 2 to 131,072. The name is that of the memory which the array holds.
-#[derive(Drop, Debug)]
+#[derive(Drop)]
 pub struct Array {
     pub name: Name,
     pub width: u8,
@@ -99,7 +99,7 @@ pub struct Array {
 }
 
 /// A netlist: its ports but for the clock and the reset, its registers, arrays and cells, and the memories of the pipe that it carries out.
-#[derive(Drop, Debug)]
+#[derive(Drop)]
 pub struct Netlist {
     pub name: Name,
     pub ports: Seq<Port>,

@@ -17,7 +17,7 @@ use pdl_net::Net;
 use std::alloc::Global;
 
 /// Whether a stage holds a thread, and whether that moves, 1 bit each.
-#[derive(Clone, Copy, Debug)]
+#[derive(Clone, Copy)]
 pub struct StageNets {
     pub valid: Net,
     pub moves: Net,

@@ -11,7 +11,7 @@ use pdl_paths::{Action, Path, Place, is_call};
 use std::alloc::Global;
 
 /// One call on each path: a second one breaks the rule, speculative or not, and the end with none before it.
-#[derive(Clone, Copy, Debug)]
+#[derive(Clone, Copy)]
 pub struct OneCall;
 
 impl PathRule for OneCall {

@@ -14,14 +14,14 @@ use std::alloc::Global;
 use std::marker::Model;
 
 // A guard that keeps its name.
-#[derive(Drop, Debug)]
+#[derive(Drop)]
 enum Kept {
     Shared(Name),
     Own(u32),
 }
 
 /// Guards in text order, each once; each is known by its number, counted from 0.
-#[derive(Drop, Debug)]
+#[derive(Drop)]
 pub struct Guards {
     items: Vec<Kept>,
 }

@@ -9,13 +9,13 @@ ghost use Rattle.pdl_paths.specs.Paths.{paths_below, paths_left};
 use crate::guards::Guards;
 
 /// A choice of the truth of each guard: bit i is the truth of the i-th guard in text order.
-#[derive(Clone, Copy, PartialEq, Eq, Debug)]
+#[derive(Clone, Copy, PartialEq, Eq)]
 pub struct Path {
     pub bits: u16,
 }
 
 /// Each choice of the truth of some guards, once.
-#[derive(Drop, Debug)]
+#[derive(Drop)]
 pub struct PathIter {
     left: u16,
 }

@@ -4,7 +4,7 @@ ghost use Rattle.std.specs.Prelude.{◌≡◌};
 use std::marker::Model;
 
 /// The stage in which a pipe verifies its guesses.
-#[derive(Drop, Debug)]
+#[derive(Drop)]
 pub struct SpecPlan {
     verified: Option<usize>,
 }

@@ -1,5 +1,5 @@
 /// A fork: its stage, and the stage in which its branches meet.
-#[derive(Clone, Copy, PartialEq, Eq, Debug)]
+#[derive(Clone, Copy, PartialEq, Eq)]
 pub struct Fork {
     pub stage: usize,
     pub merge: usize,

@@ -3,7 +3,7 @@ use pdl_kit::Seq;
 use pdl_net::Net;
 
 /// Whether a location, by its memory and the variable of its address, is reserved for writing and not yet released, 1 bit.
-#[derive(Clone, Copy, Debug)]
+#[derive(Clone, Copy)]
 pub struct HeldNet {
     pub mem: usize,
     pub var: usize,
@@ -11,7 +11,7 @@ pub struct HeldNet {
 }
 
 /// A reservation for writing: whether it is made, 1 bit, and its address.
-#[derive(Clone, Copy, Debug)]
+#[derive(Clone, Copy)]
 pub struct ReserveNet {
     pub mem: usize,
     pub on: Net,
@@ -19,7 +19,7 @@ pub struct ReserveNet {
 }
 
 /// A write: whether it is made, 1 bit, and its value.
-#[derive(Clone, Copy, Debug)]
+#[derive(Clone, Copy)]
 pub struct PutNet {
     pub mem: usize,
     pub on: Net,
@@ -27,7 +27,7 @@ pub struct PutNet {
 }
 
 /// A release of a write reservation: whether it is made, 1 bit.
-#[derive(Clone, Copy, Debug)]
+#[derive(Clone, Copy)]
 pub struct LettingNet {
     pub mem: usize,
     pub on: Net,

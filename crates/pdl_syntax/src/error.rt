@@ -8,7 +8,7 @@ use pdl_kit::{NoMemory, Rule};
 use std::alloc::AllocError;
 
 /// Why a source text was not taken: the line (counted from 1) of the first token out of place (rule G1), a broken limit with its line, or want of memory.
-#[derive(Clone, Copy, PartialEq, Eq, Debug)]
+#[derive(Clone, Copy, PartialEq, Eq)]
 pub enum ParseError {
     Grammar { line: u32 },
     Limit { rule: Rule, line: u32 },

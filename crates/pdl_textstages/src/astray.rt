@@ -12,7 +12,7 @@ use crate::stages::stage_at;
 use pdl_paths::{Action, Place};
 
 /// Which statements are asked: reserves and releases, of which those of one memory stand in one stage, or verifies, all in one.
-#[derive(Clone, Copy, Debug)]
+#[derive(Clone, Copy)]
 pub enum Kinds {
     Locks,
     Verifies,

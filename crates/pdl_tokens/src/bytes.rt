@@ -3,12 +3,14 @@ ghost use Rattle.std.specs.Prelude.{◌≡◌, ◌≤◌, ◌<◌, length, take,
 ghost use Rattle.std.specs.List.{prefix_len};
 ghost use Rattle.pdl_tokens.specs.Tokens as spec;
 
+/// A lower letter.
 pub fn is_lower(c: u8) -> bool
     ensures { result ≡ spec.is_lower c }
 {
     b'a' <= c && c <= b'z'
 }
 
+/// A decimal digit.
 pub fn is_digit(c: u8) -> bool
     ensures { result ≡ spec.is_digit c }
 {

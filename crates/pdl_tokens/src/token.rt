@@ -2,7 +2,7 @@
 use pdl_tree::tree::Span;
 
 /// A keyword or a symbol.
-#[derive(Clone, Copy, PartialEq, Eq, Debug)]
+#[derive(Clone, Copy, PartialEq, Eq)]
 pub enum Mark {
     Pipe,
     Start,
@@ -59,7 +59,7 @@ pub enum Mark {
 }
 
 /// What a token is. A literal whose value is 2^64 or more has none. A byte that begins no token, a name over 32 characters and digits that are too many are bad.
-#[derive(Clone, Copy, PartialEq, Eq, Debug)]
+#[derive(Clone, Copy, PartialEq, Eq)]
 pub enum TokenKind {
     Name,
     Number(u64),

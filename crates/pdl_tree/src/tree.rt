@@ -2,7 +2,7 @@
 use pdl_kit::{Boxed, Name, Seq};
 
 /// Where words stand in the source: the bytes from `start` up to `end`, counted from 0, the last one left out, and the line of the first, counted from 1.
-#[derive(Clone, Copy, PartialEq, Eq, Debug)]
+#[derive(Clone, Copy, PartialEq, Eq)]
 pub struct Span {
     pub start: u32,
     pub end: u32,
@@ -10,21 +10,21 @@ pub struct Span {
 }
 
 /// A name, and where it stands.
-#[derive(Drop, Debug)]
+#[derive(Drop)]
 pub struct Ident {
     pub name: Name,
     pub span: Span,
 }
 
 /// A decimal number of 1 to 10 digits.
-#[derive(Clone, Copy, PartialEq, Eq, Debug)]
+#[derive(Clone, Copy, PartialEq, Eq)]
 pub struct Number {
     pub value: u64,
     pub span: Span,
 }
 
 /// A literal with its width in bits; a value of 2^64 or more, which fits no width, is none.
-#[derive(Clone, Copy, PartialEq, Eq, Debug)]
+#[derive(Clone, Copy, PartialEq, Eq)]
 pub struct Literal {
     pub width: u64,
     pub value: Option<u64>,
@@ -32,7 +32,7 @@ pub struct Literal {
 }
 
 /// An operator between two operands of one width.
-#[derive(Clone, Copy, PartialEq, Eq, Debug)]
+#[derive(Clone, Copy, PartialEq, Eq)]
 pub enum BinaryOp {
     Add,
     Sub,
@@ -71,14 +71,14 @@ pub enum Expr {
 }
 
 /// A location of a memory: its name, and the variable that holds the address.
-#[derive(Drop, Debug)]
+#[derive(Drop)]
 pub struct Location {
     pub mem: Ident,
     pub address: Ident,
 }
 
 /// What a location is reserved for: to be read or to be written.
-#[derive(Clone, Copy, PartialEq, Eq, Debug)]
+#[derive(Clone, Copy, PartialEq, Eq)]
 pub enum Kind {
     R,
     W,
@@ -152,14 +152,14 @@ pub enum Stmt {
 }
 
 /// A parameter of the pipe, with its width in bits.
-#[derive(Drop, Debug)]
+#[derive(Drop)]
 pub struct Param {
     pub name: Ident,
     pub width: Number,
 }
 
 /// The three kinds of lock.
-#[derive(Clone, Copy, PartialEq, Eq, Debug)]
+#[derive(Clone, Copy, PartialEq, Eq)]
 pub enum LockKind {
     Queue,
     Bypass,
@@ -167,14 +167,14 @@ pub enum LockKind {
 }
 
 /// A memory's lock, with how many writes may be pending.
-#[derive(Clone, Copy, PartialEq, Eq, Debug)]
+#[derive(Clone, Copy, PartialEq, Eq)]
 pub struct LockDecl {
     pub kind: LockKind,
     pub size: Number,
 }
 
 /// A memory: the width of its words in bits, how many words it has, whether it answers in a later cycle, and its lock or none.
-#[derive(Drop, Debug)]
+#[derive(Drop)]
 pub struct Mem {
     pub name: Ident,
     pub width: Number,
@@ -184,7 +184,7 @@ pub struct Mem {
 }
 
 /// The start clause: the pipe that it names and the first thread's arguments; its span begins at `start`.
-#[derive(Drop, Debug)]
+#[derive(Drop)]
 pub struct Start {
     pub span: Span,
     pub name: Ident,
