@@ -13,12 +13,12 @@ use Rattle.pdl_derived.proofs.Writes.{and_left, and_right}
 use Rattle.pdl_simulation.proofs.Joined.{sound_flows}
 use Rattle.pdl_turns.proofs.Looks.{path_looked}
 use Rattle.pdl_turns.proofs.Sounds.{alive}
-use Rattle.pdl_simulation.proofs.Shapes.{none_past}
 use Rattle.pdl_simulation.proofs.Stretches.{on_way}
 use Rattle.pdl_invariant.specs.Strict.{Strict, all_let_go, lets_go}
 use Rattle.pdl_invariant.proofs.Trails.{AllStmts}
 use Rattle.pdl_invariant.proofs.Local.{here}
 use Rattle.pdl_turns.proofs.Paths.{none_onpath}
+use Rattle.pdl_turns.proofs.Turn.{none_from}
 
 -- BLOCKS AND READS TO DO
 
@@ -125,7 +125,7 @@ module _ (p : Pipe) (sound : Sound p) where
               let r = reads_behind (along path (at_once p)) no_scan (on_way p path s) (onpath path (stages_from s p.stmts)) reads in
               no_looks p (along path (at_once p)) m s late i r.0 (onpath path (stages_from s p.stmts)) (late_stages path s p.stmts) r.1
               (let_go_behind (on_way p path s) (onpath path (stages_from s p.stmts)) (subst (λ xs. all_let_go xs ≡ true) pieces (strict.blocks path)))
-              (none_onpath (is_release m) path (stages_from s p.stmts) (none_past (is_release m) (commit_stage p m) s p.stmts ((sound_flows p sound).releases m) late)) h
+              (none_onpath (is_release m) path (stages_from s p.stmts) (none_from (is_release m) (commit_stage p m) s p.stmts ((sound_flows p sound).releases m) late)) h
 
   -- READS TO BIND
 

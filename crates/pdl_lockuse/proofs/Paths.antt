@@ -14,10 +14,10 @@ use Rattle.pdl_facts.specs.Facts.{Sound, looked_all, at_once}
 use Rattle.pdl_facts.specs.Accepted.{along}
 use Rattle.pdl_derived.proofs.Writes.{and_left, and_right}
 use Rattle.pdl_turns.proofs.Looks.{path_looked}
-use Rattle.pdl_turns.proofs.Turn.{none_in_stage}
+use Rattle.pdl_turns.proofs.Turn.{none_in_stage, none_from}
 use Rattle.pdl_simulation.proofs.FlowFacts.{uses_ok, next_of}
 use Rattle.pdl_simulation.proofs.Joined.{sound_flows}
-use Rattle.pdl_simulation.proofs.Shapes.{uses_front, uses_back, none_past, over_early}
+use Rattle.pdl_simulation.proofs.Shapes.{uses_front, uses_back, over_early}
 use Rattle.pdl_simulation.proofs.Stretches.{Keeps, on_way, way_next}
 use Rattle.pdl_simulation.proofs.Seats.{Live, dacts, now_of, work_of_live}
 use Rattle.pdl_simulation.proofs.Choices.{Known, keeps_now}
@@ -189,7 +189,7 @@ module _ (p : Pipe) (sound : Sound p) (st : State) (d : Derived.State) (bits : L
       let up : l.thread.stage < next = next_up p (sound_flows p sound) st d bits arrays l.thread.stage path k.seated.keeps_on.inside in
       none_both (is_release m) mine rest
       (none_onpath (is_release m) path (in_stage l.thread.stage p.stmts) (none_in_stage (is_release m) (commit_stage p m) l.thread.stage p.stmts ((sound_flows p sound).releases m) (λ e. absurd (omega (arith, h, e)))))
-      (none_onpath (is_release m) path (stages_from next p.stmts) (none_past (is_release m) (commit_stage p m) next p.stmts ((sound_flows p sound).releases m) (omega (arith, h, up))))
+      (none_onpath (is_release m) path (stages_from next p.stmts) (none_from (is_release m) (commit_stage p m) next p.stmts ((sound_flows p sound).releases m) (omega (arith, h, up))))
 
   over_here : (m : ℕ) → is_over (phase_all m (phase_all m Fresh passed) (mine ++ rest)) ≡ true
   over_here m =

@@ -6,7 +6,7 @@ use Rattle.pdl_semantics.specs.Tree.{Mem}
 use Rattle.pdl_semantics.specs.Flatten.{Var, var_of, mem_of}
 use Rattle.pdl_rules.specs.Typed.{is_named, is_memory}
 use Rattle.pdl_word.proofs.Bytes.{bytes_same, bytes_refl}
-use Rattle.pdl_stagefacts.proofs.Walks.{told}
+use Rattle.pdl_stagefacts.proofs.Walks.{told, told_append}
 
 -- the number of the first of these names that is this one
 abbrev pub place_of : List (List ℕ) → List ℕ → ℕ
@@ -63,10 +63,6 @@ mem_place (m ∷ ms) x =
     let h = mem_place ms x in
     (ap (λ n. if bytes_eq m.name.name x then 0 else suc n) h.0, ap (λ b. bytes_eq m.name.name x || b) h.1, ap suc h.2)
 
-var_names_more : (vs us : List Var) → told (vs ++ us) ≡ told vs ++ told us
-var_names_more [] us = refl
-var_names_more (v ∷ vs) us = ap (λ l. v.name ∷ l) (var_names_more vs us)
-
 pub var_low : (vs : List Var) (x : List ℕ) → is_named vs x ≡ true → var_of vs x < length vs
 var_low vs x h =
     let k = var_place vs x in
@@ -80,7 +76,7 @@ var_same vs a b h k e = in_same (told vs) a b (sym (var_place vs a).1 ∙ h) (sy
 
 pub var_stays : (vs us : List Var) (x : List ℕ) → is_named vs x ≡ true → var_of (vs ++ us) x ≡ var_of vs x
 var_stays vs us x h =
-    (var_place (vs ++ us) x).0 ∙ ap (λ l. place_of l x) (var_names_more vs us) ∙ in_stays (told vs) (told us) x (sym (var_place vs x).1 ∙ h) ∙ sym (var_place vs x).0
+    (var_place (vs ++ us) x).0 ∙ ap (λ l. place_of l x) (told_append vs us) ∙ in_stays (told vs) (told us) x (sym (var_place vs x).1 ∙ h) ∙ sym (var_place vs x).0
 
 pub mem_low : (ms : List Mem) (x : List ℕ) → is_memory ms x ≡ true → mem_of ms x < length ms
 mem_low ms x h =

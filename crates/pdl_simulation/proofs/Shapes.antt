@@ -91,19 +91,6 @@ none_till test c s (x ∷ xs) h k = at (nat_lt x.stage s) refl (test x.op) refl 
     at true e false f r q = ap (λ t. not t && none_of test (stages_before s xs)) f ∙ r
     at false e t f r q = r
 
-pub none_past : (test : Op → Bool) (c s : ℕ) (xs : List Stmt) → all_at test c xs ≡ true → c < s → none_of test (stages_from s xs) ≡ true
-none_past test c s [] h k = refl
-none_past test c s (x ∷ xs) h k = at (nat_le s x.stage) refl (test x.op) refl (none_past test c s xs (and_right _ _ h) k) (and_left _ _ h)
-  where
-    at : (b : Bool) → nat_le s x.stage ≡ b → (t : Bool) → test x.op ≡ t → none_of test (stages_from s xs) ≡ true → (not (test x.op) || (x.stage == c)) ≡ true
-        → none_of test (cond b (x ∷ stages_from s xs) (stages_from s xs)) ≡ true
-    at true e true f r q = absurd (late (eqb-true x.stage c (subst (λ t. (not t || (x.stage == c)) ≡ true) f q)) (leb-true s x.stage e))
-      where
-        late : x.stage ≡ c → s ≤ x.stage → ⊥
-        late u v = omega arith
-    at true e false f r q = ap (λ t. not t && none_of test (stages_from s xs)) f ∙ r
-    at false e t f r q = r
-
 -- statements are carried out as the values at their end tell
 pub fixed_to : (path : List ℕ) (o : Around) (xs : List Stmt) (w : Work) → is_fixed xs ≡ true → (do_all o xs w).env ≡ path → Fixed path o xs w
 fixed_to path o [] w h e = tt

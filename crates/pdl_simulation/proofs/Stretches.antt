@@ -20,9 +20,10 @@ use Rattle.pdl_derived.proofs.Deeds.{places, places_has, work_of, AllFit, told_s
 use Rattle.pdl_derived.proofs.Lists.{pend}
 use Rattle.pdl_turns.proofs.Steps.{Here, step_write, step_reserve, step_release}
 use Rattle.pdl_turns.proofs.Own.{Worked, worked}
-use Rattle.pdl_simulation.proofs.Shapes.{Shape, shape_over, shape_start, shape_end, uses_front, uses_back, called_append, calls_front, calls_back, none_before, none_till, none_past, fixed_to, stays_fresh, over_early, held_ops, held_append, held_path, held_work}
+use Rattle.pdl_simulation.proofs.Shapes.{Shape, shape_over, shape_start, shape_end, uses_front, uses_back, called_append, calls_front, calls_back, none_before, none_till, fixed_to, stays_fresh, over_early, held_ops, held_append, held_path, held_work}
 use Rattle.pdl_turns.proofs.Pending.{phase_append}
 use Rattle.pdl_turns.proofs.OfStage.{fixed_stage}
+use Rattle.pdl_turns.proofs.Turn.{none_from}
 
 -- WHAT A STAGE DOES
 
@@ -383,7 +384,7 @@ module _ (p : Pipe) (flows : Flows p) (env : List ℕ) (t : Derived.Thread) (k :
 
   over_at : (path : List ℕ) (s m : ℕ) → commit_stage p m < s → is_over (phase_all m Fresh (on_way p path s)) ≡ true
   over_at path s m h =
-      over_early m (onpath path (stages_from s p.stmts)) _ (none_onpath (is_release m) path (stages_from s p.stmts) (none_past (is_release m) (commit_stage p m) s p.stmts (flows.releases m) h))
+      over_early m (onpath path (stages_from s p.stmts)) _ (none_onpath (is_release m) path (stages_from s p.stmts) (none_from (is_release m) (commit_stage p m) s p.stmts (flows.releases m) h))
       (subst (λ q. is_over q ≡ true) (ap (phase_all m Fresh) (flows.all_pieces path s) ∙ phase_append m (on_way p path s) (onpath path (stages_from s p.stmts)) Fresh) (flows.over path m))
 
   over_end : (path : List ℕ) (s m : ℕ) → s ≡ length p.stages → is_over (phase_all m Fresh (on_way p path s)) ≡ true
