@@ -15,7 +15,7 @@ use pdl_rename::RenameFile;
 use std::alloc::Global;
 
 /// One of the three kinds.
-#[derive(Clone, Copy, PartialEq, Eq)]
+#[derive(Clone, Copy)]
 pub enum AnyLock {
     Queue(QueueLock),
     Bypass(BypassLock),

@@ -12,7 +12,7 @@ use clap::error::ErrorKind;
 use std::alloc::{AllocError, Global};
 
 /// A command with its words.
-#[derive(Clone, Copy, PartialEq, Eq)]
+#[derive(Clone, Copy)]
 pub enum Line<'a> {
     /// `check SRC`: the name of a source.
     Check {
@@ -52,7 +52,7 @@ pub enum Line<'a> {
 }
 
 /// Why there is no command: the words are none, or memory ran out.
-#[derive(Clone, Copy, PartialEq, Eq)]
+#[derive(Clone, Copy)]
 pub enum LineError {
     Usage,
     NoMemory,

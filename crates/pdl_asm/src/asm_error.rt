@@ -6,7 +6,7 @@ use pdl_kit::{NoMemory, Rule};
 use std::alloc::{AllocError, AllocFailed};
 
 /// Why a text was not assembled: a rule that it breaks, with the line (counted from 1), or want of memory.
-#[derive(Clone, Copy, PartialEq, Eq)]
+#[derive(Clone, Copy)]
 pub enum AsmError {
     Refused { rule: Rule, line: u32 },
     NoMemory,

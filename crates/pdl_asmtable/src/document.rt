@@ -8,7 +8,7 @@ ghost use Rattle.pdl_asmtable.specs.Names.{is_pipe_name as is_pipe_name_of};
 ghost use Rattle.pdl_asmtable.specs.Documents.{are_tables as are_tables_of, has_only, insn_keys, number_of, regs_from, regs_of, some_tables, table_keys, text_at as text_of, where_is, width_of};
 
 use crate::dictionary::Dictionary;
-use crate::names::{is_name, is_pipe_name};
+use crate::names::{is_name, is_one_of, is_pipe_name};
 use pdl_kit::{Name, NoMemory};
 use std::alloc::Global;
 use toml::{Table as Document, Value};
@@ -48,7 +48,7 @@ pub fn list_at<'a>(table: &'a Document, key: &str) -> Option<&'a [Value]>
 fn is_insn_key(key: &str) -> bool
     ensures { result ≡ list_any (λ k. bytes_eq key.now k) insn_keys }
 {
-    key == "name" || key == "args" || key == "bits"
+    is_one_of(key, &["name", "args", "bits"])
 }
 
 /// Whether each key is one of an instruction's.
@@ -68,7 +68,7 @@ pub fn has_insn_keys(table: &Document) -> bool
 fn is_table_key(key: &str) -> bool
     ensures { result ≡ list_any (λ k. bytes_eq key.now k) table_keys }
 {
-    key == "word" || key == "mem" || key == "regs" || key == "insn"
+    is_one_of(key, &["word", "mem", "regs", "insn"])
 }
 
 /// Whether each key is one of a table's.

@@ -2,7 +2,7 @@
 ghost use Rattle.std.specs.Prelude.{◌≡◌, ◌<◌, bytes_eq};
 ghost use Rattle.std.specs.List.{list_all, list_any};
 ghost use Rattle.pdl_image.specs.Images.{is_name as is_name_of, is_name_byte as is_name_byte_of, is_letter as is_letter_of};
-ghost use Rattle.pdl_asmtable.specs.Names.{early_keywords, is_pipe_name as is_pipe_name_of, late_keywords};
+ghost use Rattle.pdl_asmtable.specs.Names.{is_keyword as is_keyword_of, is_pipe_name as is_pipe_name_of};
 
 /// The longest name, in characters.
 const LONGEST_NAME: usize = 32;
@@ -38,45 +38,51 @@ pub fn is_name(bytes: &[u8]) -> bool
     }
 }
 
-// Whether a text is a keyword that begins with one of the letters a to l.
-fn is_early_keyword(name: &str) -> bool
-    ensures { result ≡ list_any (λ k. bytes_eq name.now k) early_keywords }
+/// Whether a text is one of some words.
+pub fn is_one_of(text: &str, words: &[&str]) -> bool
+    ensures { result ≡ list_any (λ w. bytes_eq text.now w.now) words.now }
 {
-    name == "acquire"
-        || name == "block"
-        || name == "bypass"
-        || name == "call"
-        || name == "cat"
-        || name == "comb"
-        || name == "delayed"
-        || name == "else"
-        || name == "if"
-        || name == "lock"
-        || name == "lts"
+    words.iter().any(|word| *word == text)
 }
 
-// Whether a text is a keyword that begins with a later letter.
-fn is_late_keyword(name: &str) -> bool
-    ensures { result ≡ list_any (λ k. bytes_eq name.now k) late_keywords }
+// Whether a text is a keyword of the pipeline language.
+fn is_keyword(text: &str) -> bool
+    ensures { result ≡ is_keyword_of text.now }
 {
-    name == "pipe"
-        || name == "queue"
-        || name == "release"
-        || name == "rename"
-        || name == "reserve"
-        || name == "sext"
-        || name == "spec_barrier"
-        || name == "spec_call"
-        || name == "spec_check"
-        || name == "start"
-        || name == "uint"
-        || name == "verify"
-        || name == "zext"
+    is_one_of(
+        text,
+        &[
+            "acquire",
+            "block",
+            "bypass",
+            "call",
+            "cat",
+            "comb",
+            "delayed",
+            "else",
+            "if",
+            "lock",
+            "lts",
+            "pipe",
+            "queue",
+            "release",
+            "rename",
+            "reserve",
+            "sext",
+            "spec_barrier",
+            "spec_call",
+            "spec_check",
+            "start",
+            "uint",
+            "verify",
+            "zext",
+        ],
+    )
 }
 
 /// Whether a text is a name of the pipeline language: a name and no keyword.
 pub fn is_pipe_name(name: &str) -> bool
     ensures { result ≡ is_pipe_name_of name.now }
 {
-    is_name(name.as_bytes()) && !(is_early_keyword(name) || is_late_keyword(name))
+    is_name(name.as_bytes()) && !is_keyword(name)
 }

@@ -10,7 +10,7 @@ use pdl_kit::{Name, Seq};
 use std::marker::Model;
 
 /// What an argument of an instruction is.
-#[derive(Clone, Copy, PartialEq, Eq)]
+#[derive(Clone, Copy)]
 pub enum Kind {
     /// A register, by its name.
     Reg,
@@ -23,7 +23,7 @@ pub enum Kind {
 }
 
 /// An argument of an instruction: the letter of its field in the instruction's bits, and what it is.
-#[derive(Clone, Copy, PartialEq, Eq)]
+#[derive(Clone, Copy)]
 pub struct Arg {
     pub letter: u8,
     pub kind: Kind,

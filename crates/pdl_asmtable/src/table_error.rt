@@ -6,7 +6,7 @@ use pdl_kit::{NoMemory, Rule};
 use std::alloc::{AllocError, AllocFailed};
 
 /// Why a table was not taken: a rule that it breaks, with the instruction (counted from 1; 0 for what stands in none), or want of memory.
-#[derive(Clone, Copy, PartialEq, Eq)]
+#[derive(Clone, Copy)]
 pub enum TableError {
     Refused { rule: Rule, insn: usize },
     NoMemory,

@@ -13,6 +13,7 @@ ghost use Rattle.pdl_stagegraph.specs.Graph.{graph_of};
 ghost use Rattle.pdl_check.specs.Compiled.{can_compile};
 ghost use Rattle.pdl_pathfacts.specs.Source.{is_source, is_named};
 ghost use Rattle.pdl_check.specs.Gate.{gated_line as first_gated};
+ghost use Rattle.pdl_check.specs.Made.{IsMadeOf};
 ghost use Rattle.pdl_check.specs.Answers.{check_answer, Gives, Refuses, IsRefused, IsChecked, IsJudged};
 
 use crate::accepted::Accepted;
@@ -21,7 +22,7 @@ use crate::read::read;
 use pdl_flat::lower;
 use pdl_form::FlatPipe;
 use pdl_judge::{Plans, judge as plan};
-use pdl_kit::{NoMemory, Refusal};
+use pdl_kit::{MemInfo, NoMemory, Refusal, Seq};
 use pdl_paths::{Guards, guards_of, places};
 use pdl_stagegraph::{StageGraph, stage_graph};
 use pdl_tree::Pipe;
@@ -72,6 +73,15 @@ fn judge(alloc: Global, pipe: Pipe) -> Result<Accepted, Refusal>
     }
 }
 
+/// What is made of a pipe that breaks no rule, beside its types: its guards, its memories as they are told, its flat form, and its stages.
+#[derive(Drop)]
+pub struct Made {
+    guards: Guards,
+    mems: Seq<MemInfo>,
+    flat: FlatPipe,
+    graph: StageGraph,
+}
+
 // A pipe that breaks no rule, with all that is kept of it.
 fn accept(alloc: Global, pipe: Pipe, plans: Plans) -> Result<Accepted, NoMemory>
     requires source { IsTrue (is_source (pipe_view pipe)) }
@@ -82,16 +92,30 @@ fn accept(alloc: Global, pipe: Pipe, plans: Plans) -> Result<Accepted, NoMemory>
     requires spec { plans.spec ≡ verify_stage (pipe_view pipe) }
     ensures { IfOk result (λ a. pipe_view a.typed.pipe ≡ pipe_view pipe) }
 {
-    let guards = guards_of(alloc, &pipe)?;
-    let mems = infos_of(alloc, pipe.mems.as_slice())?;
-    let flat = lower(alloc, &pipe)?;
-    let graph = graph_of(alloc, &pipe, &guards, &flat)?;
+    let made = make(alloc, &pipe)?;
     let typed = TypedPipe::new(alloc, pipe)?;
     Ok(Accepted {
         typed,
+        guards: made.guards,
+        mems: made.mems,
+        plans,
+        flat: made.flat,
+        graph: made.graph,
+    })
+}
+
+// What is made of a pipe that breaks no rule.
+fn make(alloc: Global, pipe: &Pipe) -> Result<Made, NoMemory>
+    requires kept { first_broken (limits ++ after_limits) (pipe_view pipe.now) ≡ None }
+    ensures { IfOk result (IsMadeOf (pipe_view pipe.now)) }
+{
+    let guards = guards_of(alloc, pipe)?;
+    let mems = infos_of(alloc, pipe.mems.as_slice())?;
+    let flat = lower(alloc, pipe)?;
+    let graph = graph_of(alloc, pipe, &guards, &flat)?;
+    Ok(Made {
         guards,
         mems,
-        plans,
         flat,
         graph,
     })

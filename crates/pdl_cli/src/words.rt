@@ -8,7 +8,7 @@ use pdl_failure::{Failure, report, status_of};
 use pdl_kit::sink::Sink;
 
 /// Why the words after the program's name are not there.
-#[derive(Clone, Copy, PartialEq, Eq)]
+#[derive(Clone, Copy)]
 pub enum NoWords {
     /// One of them is not UTF-8.
     Unreadable,

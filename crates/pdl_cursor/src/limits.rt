@@ -13,7 +13,7 @@ const MOST_BRACKETS: u32 = 64;
 const MOST_OPERATORS: u32 = 256;
 
 /// How many brackets are open, whether the statements have begun, and how many operators and function words the statement has so far.
-#[derive(Clone, Copy, PartialEq, Eq)]
+#[derive(Clone, Copy)]
 pub struct Counts {
     brackets: u32,
     in_body: bool,

@@ -17,7 +17,7 @@ use pdl_trace::{refused_insn, refused_line};
 use pdl_vread::VError;
 
 /// Where a file breaks a rule.
-#[derive(Clone, Copy, PartialEq, Eq)]
+#[derive(Clone, Copy)]
 pub enum Position {
     /// A line, counted from 1.
     Line(u32),
@@ -26,7 +26,7 @@ pub enum Position {
 }
 
 /// Why a command was not done.
-#[derive(Clone, Copy, PartialEq, Eq)]
+#[derive(Clone, Copy)]
 pub enum Failure {
     /// The words are no command.
     Usage,

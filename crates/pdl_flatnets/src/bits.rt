@@ -10,7 +10,7 @@ use pdl_kit::NoMemory;
 use pdl_net::Net;
 
 /// Nets of 1 bit that are always 1 and always 0.
-#[derive(Clone, Copy, PartialEq, Eq)]
+#[derive(Clone, Copy)]
 pub struct Bits {
     pub one: Net,
     pub zero: Net,

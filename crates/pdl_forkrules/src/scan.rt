@@ -13,7 +13,7 @@ use pdl_paths::Place;
 use pdl_tree::Pipe;
 
 /// A rule that is broken, and the line of its lowest place.
-#[derive(Clone, Copy, PartialEq, Eq)]
+#[derive(Clone, Copy)]
 pub struct Broken {
     pub rule: Rule,
     pub line: u32,

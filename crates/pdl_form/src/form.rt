@@ -70,7 +70,7 @@ pub enum Op {
 }
 
 /// A branch of an `if`, with the variable of its truth value: the first branch is taken where that is 1, the second where it isn't.
-#[derive(Clone, Copy, PartialEq, Eq)]
+#[derive(Clone, Copy)]
 pub struct Guard {
     pub var: usize,
     pub first: bool,
@@ -104,7 +104,7 @@ pub struct Mem {
 }
 
 /// Where a thread goes from a stage: out of the pipe, to one stage, or where `x` is 1 to the first stage, else to the second.
-#[derive(Clone, Copy, PartialEq, Eq)]
+#[derive(Clone, Copy)]
 pub enum Next {
     Ends,
     Goes(usize),
@@ -116,14 +116,14 @@ pub enum Next {
 }
 
 /// One of the two branches of the fork in this stage.
-#[derive(Clone, Copy, PartialEq, Eq)]
+#[derive(Clone, Copy)]
 pub struct Branch {
     pub fork: usize,
     pub first: bool,
 }
 
 /// A stage: where it leads, the branch that it stands in, and the fork stage whose branches meet in it.
-#[derive(Clone, Copy, PartialEq, Eq)]
+#[derive(Clone, Copy)]
 pub struct Stage {
     pub next: Next,
     pub branch: Option<Branch>,

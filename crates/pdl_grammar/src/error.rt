@@ -5,7 +5,7 @@ ghost use Rattle.pdl_grammar.specs.declared.error.ReadError.TheVariants.{NoMemor
 use pdl_kit::NoMemory;
 
 /// Why a source text was not read: a token out of place, with the line (counted from 1) of the first one, or want of memory.
-#[derive(Clone, Copy, PartialEq, Eq)]
+#[derive(Clone, Copy)]
 pub enum ReadError {
     Misplaced { line: u32 },
     NoMemory,

@@ -6,7 +6,7 @@ use pdl_kit::{NoMemory, Rule};
 use std::alloc::AllocError;
 
 /// Why a file was not taken: a rule that its text breaks, with the line (counted from 1), or want of memory.
-#[derive(Clone, Copy, PartialEq, Eq)]
+#[derive(Clone, Copy)]
 pub enum FileError {
     Refused { rule: Rule, line: u32 },
     NoMemory,

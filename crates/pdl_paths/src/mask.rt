@@ -5,7 +5,7 @@ ghost use Rattle.pdl_paths.specs.Masks as spec;
 use crate::path::Path;
 
 /// The guards that are true on each path through a place, and those that are false, as bits by their numbers. Where one is both, no path leads there.
-#[derive(Clone, Copy, PartialEq, Eq)]
+#[derive(Clone, Copy)]
 pub struct Mask {
     pub on: u16,
     pub off: u16,

@@ -9,7 +9,7 @@ ghost use Rattle.pdl_paths.specs.Paths.{paths_below, paths_left};
 use crate::guards::Guards;
 
 /// A choice of the truth of each guard: bit i is the truth of the i-th guard in text order.
-#[derive(Clone, Copy, PartialEq, Eq)]
+#[derive(Clone, Copy)]
 pub struct Path {
     pub bits: u16,
 }

@@ -4,7 +4,7 @@ ghost use Rattle.pdl_semantics.specs.Cycle as cycle;
 ghost use Rattle.pdl_pending.specs.View.{pending_view, reserved_view, written_view};
 
 /// A pending write: the number of its thread, its address, and its value or none.
-#[derive(Clone, Copy, PartialEq, Eq)]
+#[derive(Clone, Copy)]
 pub struct Pending {
     pub thread: u64,
     pub address: u64,
@@ -12,14 +12,14 @@ pub struct Pending {
 }
 
 /// A reservation for writing: the numbers of its memory and of the word.
-#[derive(Clone, Copy, PartialEq, Eq)]
+#[derive(Clone, Copy)]
 pub struct Reserved {
     pub mem: usize,
     pub address: u64,
 }
 
 /// A value that is written through a reservation of a memory.
-#[derive(Clone, Copy, PartialEq, Eq)]
+#[derive(Clone, Copy)]
 pub struct Written {
     pub mem: usize,
     pub value: u64,

@@ -18,7 +18,7 @@ use pdl_trace::{commit_line, end_line};
 use std::alloc::Global;
 
 /// How many cycles a run has had, in how many a thread ended, a request stayed unanswered, and a squash happened.
-#[derive(Clone, Copy, PartialEq, Eq)]
+#[derive(Clone, Copy)]
 pub struct Counts {
     pub ended: u32,
     pub waits: u32,

@@ -1,7 +1,7 @@
 // Writes.
 
 /// A write that a thread has done: its memory, the address there and the value.
-#[derive(Clone, Copy, PartialEq, Eq)]
+#[derive(Clone, Copy)]
 pub struct Commit {
     pub mem: usize,
     pub addr: u32,
@@ -9,7 +9,7 @@ pub struct Commit {
 }
 
 /// A write of a run: the number of its thread, counted from 1, its memory, counted from 0 in declared order, the address there and the value.
-#[derive(Clone, Copy, PartialEq, Eq)]
+#[derive(Clone, Copy)]
 pub struct Write {
     pub thread: u32,
     pub mem: usize,

@@ -6,7 +6,7 @@ ghost use Rattle.pdl_textrules.specs.Refused.{refused_of};
 use pdl_kit::Rule;
 
 /// A broken rule, and the line of the lowest place that breaks it, counted from 1.
-#[derive(Clone, Copy, PartialEq, Eq)]
+#[derive(Clone, Copy)]
 pub struct Broken {
     pub rule: Rule,
     pub line: u32,

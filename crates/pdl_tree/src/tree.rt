@@ -2,7 +2,7 @@
 use pdl_kit::{Boxed, Name, Seq};
 
 /// Where words stand in the source: the bytes from `start` up to `end`, counted from 0, the last one left out, and the line of the first, counted from 1.
-#[derive(Clone, Copy, PartialEq, Eq)]
+#[derive(Clone, Copy)]
 pub struct Span {
     pub start: u32,
     pub end: u32,
@@ -17,14 +17,14 @@ pub struct Ident {
 }
 
 /// A decimal number of 1 to 10 digits.
-#[derive(Clone, Copy, PartialEq, Eq)]
+#[derive(Clone, Copy)]
 pub struct Number {
     pub value: u64,
     pub span: Span,
 }
 
 /// A literal with its width in bits; a value of 2^64 or more, which fits no width, is none.
-#[derive(Clone, Copy, PartialEq, Eq)]
+#[derive(Clone, Copy)]
 pub struct Literal {
     pub width: u64,
     pub value: Option<u64>,
@@ -32,7 +32,7 @@ pub struct Literal {
 }
 
 /// An operator between two operands of one width.
-#[derive(Clone, Copy, PartialEq, Eq)]
+#[derive(Clone, Copy)]
 pub enum BinaryOp {
     Add,
     Sub,
@@ -78,7 +78,7 @@ pub struct Location {
 }
 
 /// What a location is reserved for: to be read or to be written.
-#[derive(Clone, Copy, PartialEq, Eq)]
+#[derive(Clone, Copy)]
 pub enum Kind {
     R,
     W,
@@ -159,7 +159,7 @@ pub struct Param {
 }
 
 /// The three kinds of lock.
-#[derive(Clone, Copy, PartialEq, Eq)]
+#[derive(Clone, Copy)]
 pub enum LockKind {
     Queue,
     Bypass,
@@ -167,7 +167,7 @@ pub enum LockKind {
 }
 
 /// A memory's lock, with how many writes may be pending.
-#[derive(Clone, Copy, PartialEq, Eq)]
+#[derive(Clone, Copy)]
 pub struct LockDecl {
     pub kind: LockKind,
     pub size: Number,

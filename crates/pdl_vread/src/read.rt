@@ -17,7 +17,7 @@ use pdl_vtext::{File, TextError, read_file};
 use std::alloc::Global;
 
 /// Why a text was not taken: the lowest rule that it breaks, with the lowest line where it breaks it (counted from 1), or want of memory.
-#[derive(Clone, Copy, PartialEq, Eq)]
+#[derive(Clone, Copy)]
 pub enum VError {
     Refused { rule: Rule, line: u32 },
     NoMemory,

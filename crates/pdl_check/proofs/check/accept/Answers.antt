@@ -25,19 +25,6 @@ use Rattle.pdl_check.proofs.Parts.{kept_parts}
 use Rattle.pdl_check.proofs.check.accept.Goals as goal
 use Rattle.pdl_rules.specs.Memories.{infos_of}
 
-pub infos_of-requires : goal.infos_of-requires
-infos_of-requires c =
-    let low = keeps_lowered (pipe_view c.args.pipe) (keeps_unbroken (pipe_view c.args.pipe) c.requires.kept) in
-    subst (λ ms. AreSizedMems (map mem_view ms)) (sym c.as_slice.ensures) low.0.mems
-
-pub lower-requires : goal.lower-requires
-lower-requires c =
-    let low = keeps_lowered (pipe_view c.args.pipe) (keeps_unbroken (pipe_view c.args.pipe) c.requires.kept) in
-    record {
-      sized = low.0;
-      few = low.1;
-    }
-
 pub new-requires : goal.new-requires
 new-requires c =
     let p = pipe_view c.args.pipe in
@@ -58,12 +45,12 @@ invariant_of-result c =
       letters = at (λ p. IsTrue (is_named p)) c.requires.letters;
       kept = at KeepsRules (keeps_unbroken (pipe_view c.args.pipe) c.requires.kept);
       compiled = at (λ p. IsTrue (can_compile p)) c.requires.compiled;
-      guarded = at (λ p. c.in_ok-guards.guards ≡ guards (places p)) c.in_ok-guards.ensures;
-      told = at (λ p. c.in_ok-mems.mems ≡ infos_of p.mems) (c.in_ok-mems.ensures ∙ ap (λ ms. infos_of (map mem_view ms)) c.as_slice.ensures);
+      guarded = at (λ p. c.in_ok-made.made.guards ≡ guards (places p)) c.in_ok-made.ensures.guarded;
+      told = at (λ p. c.in_ok-made.made.mems ≡ infos_of p.mems) c.in_ok-made.ensures.told;
       planned = at (λ p. c.args.plans.locks ≡ plan_of p) c.requires.locks;
       verified = at (λ p. c.args.plans.spec ≡ verify_stage p) c.requires.spec;
-      lowered = at (λ p. IsTrue (same_form (form c.in_ok-flat.flat) (form_of p))) (forms_pass _ _ c.in_ok-flat.ensures);
-      staged = at (λ p. c.in_ok-graph.graph ≡ graph_of (flat p) (places p)) (c.in_ok-graph.ensures ∙ ap (λ (f : Form). graph_of f.pipe (places (pipe_view c.args.pipe))) c.in_ok-flat.ensures);
+      lowered = at (λ p. IsTrue (same_form (form c.in_ok-made.made.flat) (form_of p))) (forms_pass _ _ c.in_ok-made.ensures.lowered);
+      staged = at (λ p. c.in_ok-made.made.graph ≡ graph_of (flat p) (places p)) c.in_ok-made.ensures.staged;
     }
 
 pub returns : goal.returns

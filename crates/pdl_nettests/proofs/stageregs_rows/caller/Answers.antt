@@ -5,8 +5,8 @@ use Rattle.pdl_form.specs.declared.form.Expr.{the_lemmas}
 use Rattle.pdl_form.specs.declared.form.Op.TheVariants as r_ops
 use Rattle.pdl_form.specs.Whole.{form}
 use Rattle.pdl_form.specs.View.{exprs_view, guards_view, stmts_view}
-use Rattle.pdl_stagetests.proofs.Short.{calls, caller_form, caller_parts, caller_typed, caller_plain}
-use Rattle.pdl_stagetests.proofs.stageregs_rows.caller.Goals as goal
+use Rattle.pdl_nettests.proofs.Short.{calls, caller_form, caller_parts, caller_typed, caller_plain}
+use Rattle.pdl_nettests.proofs.stageregs_rows.caller.Goals as goal
 
 made : (c : goal.In_ok-flat) → form c.in_ok-flat.flat ≡ caller_form
 made c =
