@@ -316,10 +316,10 @@ pub fn flat_exprs(alloc: Global, vars: &Vars, es: &[Tree]) -> Result<Seq<Expr>, 
     requires { AreSized (trees_view es.now) }
     ensures { IfOk result (λ r. map expr_view r ≡ spec.flat_exprs vars.now (trees_view es.now)) }
 {
-    let mut args = Vec::new(alloc);
+    let mut args = Seq::new(alloc);
     for e in es {
         let arg = flat_expr(alloc, vars, e)?;
         args.push(arg.e)?;
     }
-    Ok(Seq::from_vec(args))
+    Ok(args)
 }

@@ -3,7 +3,8 @@
 //! The layers above may use `lower`, and the lemma that a pipe which keeps the rules can be lowered.
 #![tactic(auto)]
 
-pub mod body;
+pub mod append;
+mod body;
 mod both;
 pub mod count;
 pub mod expr;

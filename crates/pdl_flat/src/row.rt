@@ -7,7 +7,7 @@ ghost use Rattle.pdl_form.specs.View.{guards_view, stmts_view, act_view, expr_vi
 ghost use Rattle.pdl_flat.specs.Sized.{IsSized, IsSizedStmt, AreSizedMems};
 ghost use Rattle.pdl_flat.specs.Walking.{place_of, is_plain, is_act, read_op};
 
-use crate::both::both;
+use crate::append::append;
 use crate::expr::{flat_expr, flat_exprs};
 use crate::mems::{mem_of, mem_width};
 use crate::vars::Vars;
@@ -59,9 +59,8 @@ fn push(
       op = act_view op;
     } ∷ []) }
 {
-    let (guards, op) = both(Seq::copy_of(alloc, guards), Ok(op))?;
-    stmts.push(Stmt { stage, guards, op })?;
-    Ok(())
+    let guards = Seq::copy_of(alloc, guards)?;
+    append(stmts, Stmt { stage, guards, op })
 }
 
 // Adds a binding.

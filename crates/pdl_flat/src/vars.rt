@@ -1,8 +1,11 @@
 // Variables by number.
-ghost use Rattle.std.specs.Prelude.{◌≡◌, ◌<◌, ◌≤◌, [], ◌∷◌, ◌++◌, map, IfOk, OnOk, length, slice_index_or};
+ghost use Rattle.std.specs.Prelude.{◌≡◌, ◌<◌, ◌≤◌, [], ◌∷◌, ◌++◌, map, nat_eq, IfOk, OnOk, OnErr, length, slice_index_or};
+ghost use Rattle.std.specs.Cmp.Lexicographic.{pointwise};
+ghost use Rattle.indexmap.specs.IndexMap.{insert_entry};
 ghost use Rattle.pdl_semantics.specs.Flatten.{Var, var_of, var_width};
 ghost use Rattle.pdl_flat.specs.declared.vars.Variable.{Variable};
 
+use crate::append::append;
 use indexmap::IndexMap;
 use pdl_kit::{Name, NoMemory};
 use std::alloc::{AllocError, Global};
@@ -59,17 +62,16 @@ impl Vars {
         ensures ok { OnOk result (self.new
             ≡ self.old ++ record { name = name.now; width = width } ∷ []) }
     {
-        let number = self.vars.len();
-        let own = name.clone()?;
-        let variable = Variable { name: own, width };
         if self.numbers.get(name).is_some() {
-            self.vars.push(variable)?;
+            let again = named(name, width)?;
+            append(&mut self.vars, again)?;
             return Ok(());
         }
-        let key = name.clone()?;
+        let number = self.vars.len();
         self.vars.reserve(1)?;
-        self.numbers.insert(key, number)?;
-        self.vars.push(variable)?;
+        let variable = named(name, width)?;
+        enter(&mut self.numbers, name, number)?;
+        append(&mut self.vars, variable)?;
         Ok(())
     }
 
@@ -100,6 +102,27 @@ impl Vars {
     {
         Ok(widths_of(alloc, self.vars.as_slice())?)
     }
+}
+
+// A variable of this name and width.
+fn named(name: &Name, width: u8) -> Result<Variable, NoMemory>
+    ensures { IfOk result (λ v. v ≡ record { name = name.now; width = width }) }
+{
+    Ok(Variable {
+        name: name.clone()?,
+        width,
+    })
+}
+
+// Gives a name its number.
+fn enter(numbers: &mut IndexMap<Name, usize>, name: &Name, number: usize) -> Result<(), NoMemory>
+    ensures ok { OnOk result (numbers.new.entries
+        ≡ insert_entry (pointwise nat_eq) numbers.old.entries name.now number) }
+    ensures err { OnErr result (numbers.new.entries ≡ numbers.old.entries) }
+{
+    let key = name.clone()?;
+    numbers.insert(key, number)?;
+    Ok(())
 }
 
 fn width_at(vars: &[Variable], number: usize) -> u8

@@ -9,6 +9,6 @@ use Rattle.pdl_flat.proofs.expr.flat_exprs.Given as goal
 abbrev pub invariant-loop-e : goal.invariant-loop-e
 invariant-loop-e l =
     record {
-      all : map expr_view l.args.items ++ spec.flat_exprs l.vars (trees_view (drop l.e-index l.es)) ≡ spec.flat_exprs l.vars (trees_view l.es);
+      all : map expr_view l.args ++ spec.flat_exprs l.vars (trees_view (drop l.e-index l.es)) ≡ spec.flat_exprs l.vars (trees_view l.es);
       sized : AreSized (trees_view (drop l.e-index l.es));
     }
