@@ -1,5 +1,5 @@
 -- What all stages share, and the ends of the earlier stages, stay while the circuit grows.
-use Rattle.std.proofs.Common.{◌≡◌, ℕ, zero, suc, ◌+◌, ◌<◌, ◌≤◌, List, length, get_or, ◌⊎◌, inl, inr, true, false, leb, refl, sym, ap, ◌∙◌, subst, arith}
+use Rattle.std.proofs.Common.{◌≡◌, ℕ, zero, suc, ◌+◌, ◌<◌, ◌≤◌, List, length, map, get_or, ◌⊎◌, inl, inr, true, false, leb, refl, sym, ap, ◌∙◌, subst, arith}
 use Rattle.std.specs.Prelude.{Result, Ok, Err, IfOk, OnOk}
 use Rattle.std.proofs.lemmas.Bool.Decides.{leb_tells}
 use Rattle.pdl_kit.specs.declared.no_memory.NoMemory.{NoMemory}
@@ -12,15 +12,16 @@ use Rattle.pdl_net.specs.Meaning.{signal}
 use Rattle.pdl_net.specs.Growth.{Keeps}
 use Rattle.pdl_flatnets.specs.Nets.{NetsThere, signals_in, widths_of}
 use Rattle.pdl_flatnets.proofs.NetLists.{there_keeps, signals_keep}
+use Rattle.pdl_stagenets.specs.Parts.{held_in, held_of, parts_in}
 use Rattle.pdl_stagenets.specs.Sized.{IsWalk}
 use Rattle.pdl_stagenets.proofs.Kept.{bits_keep, walk_keep}
 use Rattle.pdl_stageregs.specs.declared.nets.Item.{Item}
-use Rattle.pdl_stageregs.specs.declared.nets.Item.TheVariants.{Var}
+use Rattle.pdl_stageregs.specs.declared.nets.Item.TheVariants.{Var, Held}
 use Rattle.pdl_stageregs.specs.declared.nets.Shared.{Shared}
 use Rattle.pdl_stageregs.specs.declared.nets.StageNets.{StageNets}
 use Rattle.pdl_stageregs.specs.Items.{ended_item, first_value, IsSameConstant}
-use Rattle.pdl_stageregs.specs.Stages.{end_of, IsRegister, IsSettled, view_in, views_in}
-use Rattle.pdl_stageregs.specs.Begun.{IsShared, AreEnded, MayAdd, MayKeep}
+use Rattle.pdl_stageregs.specs.Stages.{end_of, IsRegister, IsBegunBy, IsSettled, view_in, views_in}
+use Rattle.pdl_stageregs.specs.Begun.{IsShared, AreEnded, MayAdd, MayKeep, HasHeld, HasHeldAfter}
 use Rattle.pdl_stageregs.proofs.Lists.{each_at, each_map, view_at, some_stage}
 use Rattle.pdl_stageregs.proofs.Entered.{ended_keep, keep_may}
 
@@ -62,6 +63,18 @@ settled_after a p ss (suc k) j s i f g e l is same h =
     let here : get_or ss k s ≡ s = subst (λ n. get_or ss n s ≡ s) at is in
     subst (λ x. IsSameConstant x g) (same ∙ ap (λ v. ended_item v i) (sym (view_at a p ss k s (omega (arith, l)) here))) h
 
+-- what is held after a stage that ends so is held after all of them, of which it is the last
+pub held_after : (a c : Circuit) (f : Form) (nexts : List Signal) (ss : List StageNets) (k j : ℕ) (before s : StageNets) → j + 1 ≡ k → k ≤ length ss → get_or ss j before ≡ before → HasHeldAfter a c f nexts k before s → HasHeld a c f nexts ss k s
+held_after a c f nexts ss k j before s e l is h = record {
+  there = h.there;
+  one = h.one;
+  begun = λ m v need. by m v (held_of (map (held_in c) s.held) m v) (h.begun m v need);
+}
+  where
+    by : (m v : ℕ) (g : Signal) → IsBegunBy f nexts s (Held m v) g (IsSameConstant (held_of (parts_in a before.end).held m v)) → IsBegunBy f nexts s (Held m v) g (IsSettled a f.pipe ss k (Held m v))
+    by m v g (inl q) = inl q
+    by m v g (inr q) = inr (settled_after a f.pipe ss k j before (Held m v) (held_of (parts_in a before.end).held m v) g e l is refl q)
+
 pub first_zero : (p : Pipe) (n x : ℕ) → 0 < n → 0 ≡ first_value p n (Var x)
 first_zero p zero x l = absurd (omega (arith, l))
 first_zero p (suc k) x l = refl
@@ -82,6 +95,10 @@ first_keep c f k x s t w v net S e may past = subst (λ n. MayKeep f n (Var x) s
     at : ((leb (suc x) (length f.pipe.start) ≡ true) × (suc x ≤ length f.pipe.start)) ⊎ ((leb (suc x) (length f.pipe.start) ≡ false) × (length f.pipe.start < suc x)) → MayKeep f 0 (Var x) s t
     at (inl q) = let r = q.1 in keep_may c f 0 (Var x) s t w v net S (omega (arith, r)) may
     at (inr q) = let r = q.1 in inl (past (omega (arith, r)))
+
+pub on_ok : {A : Type 0} {B C : Type 0} (r : Result A NoMemory) → (B → C) → OnOk r B → OnOk r C
+on_ok (Ok x) f h = f h
+on_ok (Err e) f h = h
 
 pub if_ok : {A : Type 0} (r : Result A NoMemory) (P Q : A → Type 0) → ((x : A) → P x → Q x) → IfOk r P → IfOk r Q
 if_ok (Ok x) P Q f h = f x h

@@ -318,6 +318,42 @@ impl StageNets {
         self.end.guess = Seq::from_vec(guess);
         Ok(())
     }
+
+    // What a bare stage begins with after these, with registers for what its thread keeps.
+    fn begin_parts(
+        &mut self,
+        alloc: Global,
+        b: &mut Builder,
+        pipe: &FlatPipe,
+        shared: &Shared,
+        before: &[StageNets],
+    ) -> Result<(), NoMemory>
+        requires typed { IsTypedForm (form pipe.now) }
+        requires shared { IsShared b.old (form pipe.now) shared.now }
+        requires before { AreEnded b.old (form pipe.now)
+            (signals_in b.old shared.now.next) before.now }
+        requires stage { length before.now < length (form pipe.now).pipe.stages }
+        requires reserves { length (form pipe.now).pipe.reserves_at
+            ≡ length (form pipe.now).pipe.mems }
+        requires releases { length (form pipe.now).pipe.releases_at
+            ≡ length (form pipe.now).pipe.mems }
+        requires bare { IsBare self.old.valid shared.now.bits.one self.old }
+        requires frame { IsFrame b.old (form pipe.now) (signals_in b.old shared.now.next)
+            (length before.now) self.old }
+        ensures begun { OnOk result (IsBegun b.new (form pipe.now)
+            (signals_in b.old shared.now.next) before.now (length before.now) self.new) }
+        ensures own { OnOk result (AreOwn (form pipe.now) (length before.now) self.new) }
+        ensures walk { OnOk result (IsWalk b.new (form pipe.now).pipe
+            (form pipe.now).widths self.new.end) }
+        ensures place { OnOk result (self.new.valid ≡ self.old.valid) }
+        ensures extends { Extends b.old b.new }
+    {
+        self.begin_vars(b, pipe, shared, before)?;
+        self.begin_helds(b, pipe, shared, before)?;
+        self.begin_tickets(b, pipe, shared, before)?;
+        self.begin_walk(alloc, shared.bits, pipe.start().len())?;
+        Ok(())
+    }
 }
 
 /// The stage after these, before its statements: at reset the first one holds the first thread with its arguments, and another none.
@@ -345,9 +381,6 @@ pub fn begin(
 {
     let reset = if before.is_empty() { 1 } else { 0 };
     let mut s = bare(alloc, b, shared.bits, reset)?;
-    s.begin_vars(b, pipe, shared, before)?;
-    s.begin_helds(b, pipe, shared, before)?;
-    s.begin_tickets(b, pipe, shared, before)?;
-    s.begin_walk(alloc, shared.bits, pipe.start().len())?;
+    s.begin_parts(alloc, b, pipe, shared, before)?;
     Ok(s)
 }

@@ -151,9 +151,10 @@ impl StageNets {
         ensures extends { Extends b.old b.new }
     {
         if before.is_empty() {
-            return Ok(());
+            Ok(())
+        } else {
+            let last = &before[before.len() - 1];
+            self.next_helds(b, pipe, shared, last, before.len())
         }
-        let k = before.len();
-        self.next_helds(b, pipe, shared, &before[k - 1], k)
     }
 }

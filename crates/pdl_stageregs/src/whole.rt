@@ -1,5 +1,5 @@
 // All stages of a pipe whose stages stand in a line.
-ghost use Rattle.std.specs.Prelude.{◌≡◌, ◌<◌, ◌≤◌, ℕ, IfOk, length, map, slice_index_or};
+ghost use Rattle.std.specs.Prelude.{◌≡◌, ◌<◌, ◌≤◌, ◌++◌, ◌∷◌, [], ℕ, IfOk, OnOk, length, map, slice_index_or};
 ghost use Rattle.pdl_form.specs.Whole.{form};
 ghost use Rattle.pdl_net.specs.Growth.{Extends, ExtendsBut};
 ghost use Rattle.pdl_flatnets.specs.Nets.{NetsThere, signals_in};
@@ -87,6 +87,14 @@ fn stage<L: LockModule>(
     Ok(s)
 }
 
+// Adds an item.
+fn append<T: Drop>(items: &mut Vec<T>, item: T) -> Result<(), NoMemory>
+    ensures { OnOk result (items.new.items ≡ items.old.items ++ item ∷ []) }
+{
+    items.push(item)?;
+    Ok(())
+}
+
 /// The stages of a pipe, one after the other.
 pub fn stages<L: LockModule>(
     alloc: Global,
@@ -121,7 +129,7 @@ pub fn stages<L: LockModule>(
     let line = pipe.stages();
     for _ in 0..line.len() {
         let s = stage(alloc, b, pipe, &shared, locks, stages.as_slice())?;
-        stages.push(s)?;
+        append(&mut stages, s)?;
     }
     Ok(stages)
 }

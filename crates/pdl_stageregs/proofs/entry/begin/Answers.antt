@@ -1,19 +1,16 @@
-use Rattle.std.proofs.Common.{◌≡◌, ℕ, ◌<◌, length, refl, sym, ap, ◌∙◌, subst, arith}
+use Rattle.std.proofs.Common.{◌≡◌, length, sym, subst}
 use Rattle.pdl_form.specs.Whole.{form}
 use Rattle.pdl_net.specs.Growth.{Keeps}
-use Rattle.pdl_net.proofs.Keeps.{extends_keeps, keeps_trans}
+use Rattle.pdl_net.proofs.Keeps.{extends_keeps}
 use Rattle.pdl_flatnets.specs.Nets.{signals_in}
 use Rattle.pdl_flatnets.proofs.NetLists.{signals_keep}
-use Rattle.pdl_stagenets.proofs.Kept.{bits_keep}
-use Rattle.pdl_stageregs.specs.Items.{IsOwn, item_at}
-use Rattle.pdl_stageregs.specs.Stages.{IsFrame}
-use Rattle.pdl_stageregs.specs.Begun.{IsReady, HasVars, HasHeld, HasTicketNets}
+use Rattle.pdl_stageregs.specs.Stages.{IsBegun}
+use Rattle.pdl_stageregs.specs.Begun.{IsBare}
 use Rattle.pdl_stageregs.proofs.Keeping.{shared_keep, ended_all}
-use Rattle.pdl_stageregs.proofs.BeginMade.{begun_walk, begun_all, place}
 use Rattle.pdl_stageregs.proofs.entry.begin.Goals as goal
 
-pub begin_vars-requires-clause-shared : goal.begin_vars-requires-clause-shared
-begin_vars-requires-clause-shared c =
+pub begin_parts-requires-clause-shared : goal.begin_parts-requires-clause-shared
+begin_parts-requires-clause-shared c =
     let a = c.args.b.now in
     let f = form c.args.pipe.now in
     let shared = c.args.shared.now in
@@ -21,8 +18,8 @@ begin_vars-requires-clause-shared c =
     let e0 : Keeps a b0 = extends_keeps a b0 c.bare.ensures.extends in
     shared_keep a b0 f shared e0 c.requires.shared
 
-pub begin_vars-requires-clause-before : goal.begin_vars-requires-clause-before
-begin_vars-requires-clause-before c =
+pub begin_parts-requires-clause-before : goal.begin_parts-requires-clause-before
+begin_parts-requires-clause-before c =
     let a = c.args.b.now in
     let f = form c.args.pipe.now in
     let xs = c.args.shared.now.next in
@@ -33,172 +30,18 @@ begin_vars-requires-clause-before c =
     let n0 : signals_in b0 xs ≡ nexts = signals_keep a b0 xs e0 c.requires.shared.next_there in
     ended_all a b0 f nexts (signals_in b0 xs) ss e0 n0 c.requires.before
 
-pub begin_vars-requires-clause-own : goal.begin_vars-requires-clause-own
-begin_vars-requires-clause-own c = λ i l. let none = ap length c.in_ok-s.ensures.bare.kept in absurd (omega (arith, l, none))
-
-pub begin_helds-requires-clause-shared : goal.begin_helds-requires-clause-shared
-begin_helds-requires-clause-shared c =
-    let a = c.args.b.now in
-    let f = form c.args.pipe.now in
-    let shared = c.args.shared.now in
-    let b0 = c.bare.new.b in
-    let e0 : Keeps a b0 = extends_keeps a b0 c.bare.ensures.extends in
-    let b1 = c.begin_vars.new.b in
-    let ab1 : Keeps b0 b1 = extends_keeps b0 b1 c.begin_vars.ensures.extends in
-    let e1 : Keeps a b1 = keeps_trans a b0 b1 e0 ab1 in
-    shared_keep a b1 f shared e1 c.requires.shared
-
-pub begin_helds-requires-clause-before : goal.begin_helds-requires-clause-before
-begin_helds-requires-clause-before c =
-    let a = c.args.b.now in
-    let f = form c.args.pipe.now in
-    let xs = c.args.shared.now.next in
-    let nexts = signals_in a xs in
-    let ss = c.args.before.now in
-    let b0 = c.bare.new.b in
-    let e0 : Keeps a b0 = extends_keeps a b0 c.bare.ensures.extends in
-    let b1 = c.begin_vars.new.b in
-    let ab1 : Keeps b0 b1 = extends_keeps b0 b1 c.begin_vars.ensures.extends in
-    let e1 : Keeps a b1 = keeps_trans a b0 b1 e0 ab1 in
-    let n1 : signals_in b1 xs ≡ nexts = signals_keep a b1 xs e1 c.requires.shared.next_there in
-    ended_all a b1 f nexts (signals_in b1 xs) ss e1 n1 c.requires.before
-
-pub begin_helds-requires-clause-frame : goal.begin_helds-requires-clause-frame
-begin_helds-requires-clause-frame c =
-    let a = c.args.b.now in
-    let f = form c.args.pipe.now in
-    let xs = c.args.shared.now.next in
-    let nexts = signals_in a xs in
-    let ss = c.args.before.now in
-    let k = length ss in
-    let b0 = c.bare.new.b in
-    let e0 : Keeps a b0 = extends_keeps a b0 c.bare.ensures.extends in
-    let n0 : signals_in b0 xs ≡ nexts = signals_keep a b0 xs e0 c.requires.shared.next_there in
-    let b1 = c.begin_vars.new.b in
-    let ab1 : Keeps b0 b1 = extends_keeps b0 b1 c.begin_vars.ensures.extends in
-    let e1 : Keeps a b1 = keeps_trans a b0 b1 e0 ab1 in
-    let n1 : signals_in b1 xs ≡ nexts = signals_keep a b1 xs e1 c.requires.shared.next_there in
-    subst (λ fs. IsFrame b1 f fs k c.begin_vars.new.self) (n0 ∙ sym n1) c.in_ok-begin_vars.ensures.frame
-
-pub begin_tickets-requires-clause-shared : goal.begin_tickets-requires-clause-shared
-begin_tickets-requires-clause-shared c =
-    let a = c.args.b.now in
-    let f = form c.args.pipe.now in
-    let shared = c.args.shared.now in
-    let b0 = c.bare.new.b in
-    let e0 : Keeps a b0 = extends_keeps a b0 c.bare.ensures.extends in
-    let b1 = c.begin_vars.new.b in
-    let ab1 : Keeps b0 b1 = extends_keeps b0 b1 c.begin_vars.ensures.extends in
-    let e1 : Keeps a b1 = keeps_trans a b0 b1 e0 ab1 in
-    let b2 = c.begin_helds.new.b in
-    let ab2 : Keeps b1 b2 = extends_keeps b1 b2 c.begin_helds.ensures.extends in
-    let e2 : Keeps a b2 = keeps_trans a b1 b2 e1 ab2 in
-    shared_keep a b2 f shared e2 c.requires.shared
-
-pub begin_tickets-requires-clause-frame : goal.begin_tickets-requires-clause-frame
-begin_tickets-requires-clause-frame c =
-    let a = c.args.b.now in
-    let f = form c.args.pipe.now in
-    let xs = c.args.shared.now.next in
-    let nexts = signals_in a xs in
-    let ss = c.args.before.now in
-    let k = length ss in
-    let b0 = c.bare.new.b in
-    let e0 : Keeps a b0 = extends_keeps a b0 c.bare.ensures.extends in
-    let b1 = c.begin_vars.new.b in
-    let ab1 : Keeps b0 b1 = extends_keeps b0 b1 c.begin_vars.ensures.extends in
-    let e1 : Keeps a b1 = keeps_trans a b0 b1 e0 ab1 in
-    let n1 : signals_in b1 xs ≡ nexts = signals_keep a b1 xs e1 c.requires.shared.next_there in
-    let b2 = c.begin_helds.new.b in
-    let ab2 : Keeps b1 b2 = extends_keeps b1 b2 c.begin_helds.ensures.extends in
-    let e2 : Keeps a b2 = keeps_trans a b1 b2 e1 ab2 in
-    let n2 : signals_in b2 xs ≡ nexts = signals_keep a b2 xs e2 c.requires.shared.next_there in
-    subst (λ fs. IsFrame b2 f fs k c.begin_helds.new.self) (n1 ∙ sym n2) c.in_ok-begin_helds.ensures.frame
+pub begin_parts-requires-clause-bare : goal.begin_parts-requires-clause-bare
+begin_parts-requires-clause-bare c =
+    let bare = c.in_ok-s.ensures.bare in
+    subst (λ n. IsBare n c.args.shared.now.bits.one c.in_ok-s.s) (sym bare.valid) bare
 
 pub returns-clause-begun : goal.returns-clause-begun
 returns-clause-begun c =
     let a = c.args.b.now in
     let f = form c.args.pipe.now in
-    let shared = c.args.shared.now in
     let xs = c.args.shared.now.next in
-    let nexts = signals_in a xs in
-    let ss = c.args.before.now in
-    let k = length ss in
     let b0 = c.bare.new.b in
     let e0 : Keeps a b0 = extends_keeps a b0 c.bare.ensures.extends in
-    let n0 : signals_in b0 xs ≡ nexts = signals_keep a b0 xs e0 c.requires.shared.next_there in
-    let b1 = c.begin_vars.new.b in
-    let ab1 : Keeps b0 b1 = extends_keeps b0 b1 c.begin_vars.ensures.extends in
-    let e1 : Keeps a b1 = keeps_trans a b0 b1 e0 ab1 in
-    let n1 : signals_in b1 xs ≡ nexts = signals_keep a b1 xs e1 c.requires.shared.next_there in
-    let b2 = c.begin_helds.new.b in
-    let ab2 : Keeps b1 b2 = extends_keeps b1 b2 c.begin_helds.ensures.extends in
-    let e2 : Keeps a b2 = keeps_trans a b1 b2 e1 ab2 in
-    let n2 : signals_in b2 xs ≡ nexts = signals_keep a b2 xs e2 c.requires.shared.next_there in
-    let d = c.begin_tickets.new.b in
-    let ab3 : Keeps b2 d = extends_keeps b2 d c.begin_tickets.ensures.extends in
-    let e3 : Keeps a d = keeps_trans a b2 d e2 ab3 in
-    begun_all b0 b1 b2 d f nexts ss k c.args.shared.now.bits (length a.regs) c.in_ok-s.s c.begin_vars.new.self c.begin_helds.new.self c.begin_tickets.new.self c.begin_walk.new.self ab1 ab2 ab3
-    c.in_ok-s.ensures.bare c.in_ok-begin_vars.ensures.place c.in_ok-begin_vars.ensures.end c.in_ok-begin_helds.ensures.gains c.in_ok-begin_tickets.ensures.longer c.in_ok-begin_tickets.ensures.end
-    (subst (λ ns. IsReady c.args.shared.now.bits.zero (length ns) c.begin_tickets.new.self c.begin_walk.new.self) c.start.ensures c.in_ok-begin_walk.ensures)
-    (ended_all a b0 f nexts nexts ss e0 refl c.requires.before) (ended_all a b1 f nexts nexts ss e1 refl c.requires.before) (ended_all a b2 f nexts nexts ss e2 refl c.requires.before) (ended_all a d f nexts nexts ss e3 refl c.requires.before)
-    (omega arith) (bits_keep a d shared.bits e3 c.requires.shared.bits) (subst (λ fs. HasVars b0 b1 f fs ss k c.begin_vars.new.self) n0 c.in_ok-begin_vars.ensures.vars)
-    (subst (λ fs. HasHeld b1 b2 f fs ss k c.begin_helds.new.self) n1 c.in_ok-begin_helds.ensures.held)
-    (subst (λ fs. HasTicketNets b2 d f fs ss k c.begin_tickets.new.self) n2 c.in_ok-begin_tickets.ensures.tickets)
-    c.requires.typed.params (subst (λ fs. IsFrame d f fs k c.begin_tickets.new.self) n2 c.in_ok-begin_tickets.ensures.frame)
-
-pub returns-clause-walk : goal.returns-clause-walk
-returns-clause-walk c =
-    let a = c.args.b.now in
-    let f = form c.args.pipe.now in
-    let shared = c.args.shared.now in
-    let xs = c.args.shared.now.next in
-    let nexts = signals_in a xs in
+    let n0 : signals_in b0 xs ≡ signals_in a xs = signals_keep a b0 xs e0 c.requires.shared.next_there in
     let ss = c.args.before.now in
-    let k = length ss in
-    let b0 = c.bare.new.b in
-    let e0 : Keeps a b0 = extends_keeps a b0 c.bare.ensures.extends in
-    let n0 : signals_in b0 xs ≡ nexts = signals_keep a b0 xs e0 c.requires.shared.next_there in
-    let b1 = c.begin_vars.new.b in
-    let ab1 : Keeps b0 b1 = extends_keeps b0 b1 c.begin_vars.ensures.extends in
-    let e1 : Keeps a b1 = keeps_trans a b0 b1 e0 ab1 in
-    let n1 : signals_in b1 xs ≡ nexts = signals_keep a b1 xs e1 c.requires.shared.next_there in
-    let b2 = c.begin_helds.new.b in
-    let ab2 : Keeps b1 b2 = extends_keeps b1 b2 c.begin_helds.ensures.extends in
-    let e2 : Keeps a b2 = keeps_trans a b1 b2 e1 ab2 in
-    let n2 : signals_in b2 xs ≡ nexts = signals_keep a b2 xs e2 c.requires.shared.next_there in
-    let d = c.begin_tickets.new.b in
-    let ab3 : Keeps b2 d = extends_keeps b2 d c.begin_tickets.ensures.extends in
-    let e3 : Keeps a d = keeps_trans a b2 d e2 ab3 in
-    begun_walk b0 b1 b2 d f nexts ss k c.args.shared.now.bits (length a.regs) c.in_ok-s.s c.begin_vars.new.self c.begin_helds.new.self c.begin_tickets.new.self c.begin_walk.new.self ab1 ab2 ab3
-    c.in_ok-s.ensures.bare c.in_ok-begin_vars.ensures.place c.in_ok-begin_vars.ensures.end c.in_ok-begin_helds.ensures.gains c.in_ok-begin_tickets.ensures.longer c.in_ok-begin_tickets.ensures.end
-    (subst (λ ns. IsReady c.args.shared.now.bits.zero (length ns) c.begin_tickets.new.self c.begin_walk.new.self) c.start.ensures c.in_ok-begin_walk.ensures)
-    (ended_all a b0 f nexts nexts ss e0 refl c.requires.before) (ended_all a b1 f nexts nexts ss e1 refl c.requires.before) (ended_all a b2 f nexts nexts ss e2 refl c.requires.before) (ended_all a d f nexts nexts ss e3 refl c.requires.before)
-    (omega arith) (bits_keep a d shared.bits e3 c.requires.shared.bits) (subst (λ fs. HasVars b0 b1 f fs ss k c.begin_vars.new.self) n0 c.in_ok-begin_vars.ensures.vars)
-    (subst (λ fs. HasHeld b1 b2 f fs ss k c.begin_helds.new.self) n1 c.in_ok-begin_helds.ensures.held)
-    (subst (λ fs. HasTicketNets b2 d f fs ss k c.begin_tickets.new.self) n2 c.in_ok-begin_tickets.ensures.tickets)
-
-pub returns-clause-place : goal.returns-clause-place
-returns-clause-place c =
-    let a = c.args.b.now in
-    let f = form c.args.pipe.now in
-    let xs = c.args.shared.now.next in
-    let nexts = signals_in a xs in
-    let ss = c.args.before.now in
-    let k = length ss in
-    let b0 = c.bare.new.b in
-    let b1 = c.begin_vars.new.b in
-    let ab1 : Keeps b0 b1 = extends_keeps b0 b1 c.begin_vars.ensures.extends in
-    let b2 = c.begin_helds.new.b in
-    let ab2 : Keeps b1 b2 = extends_keeps b1 b2 c.begin_helds.ensures.extends in
-    let d = c.begin_tickets.new.b in
-    let ab3 : Keeps b2 d = extends_keeps b2 d c.begin_tickets.ensures.extends in
-    place b0 b1 b2 d f nexts ss k c.args.shared.now.bits (length a.regs) c.in_ok-s.s c.begin_vars.new.self c.begin_helds.new.self c.begin_tickets.new.self c.begin_walk.new.self ab1 ab2 ab3
-    c.in_ok-s.ensures.bare c.in_ok-begin_vars.ensures.place c.in_ok-begin_vars.ensures.end c.in_ok-begin_helds.ensures.gains c.in_ok-begin_tickets.ensures.longer c.in_ok-begin_tickets.ensures.end
-    (subst (λ ns. IsReady c.args.shared.now.bits.zero (length ns) c.begin_tickets.new.self c.begin_walk.new.self) c.start.ensures c.in_ok-begin_walk.ensures)
-
-pub returns-clause-own : goal.returns-clause-own
-returns-clause-own c =
-    let f = form c.args.pipe.now in
-    let k = length c.args.before.now in
-    subst (λ xs. (i : ℕ) → i < length xs → IsOwn f k (item_at xs i)) (sym c.in_ok-begin_walk.ensures.kept) c.in_ok-begin_tickets.ensures.own
+    subst (λ fs. IsBegun c.begin_parts.new.b f fs ss (length ss) c.begin_parts.new.self) n0 c.in_ok-begin_parts.ensures.begun

@@ -85,7 +85,7 @@ loop-preserved g c =
     let more = stages_more a b d f (next_signals a xs) (locks_in l a xs)
     (record { bits = c.args.bits; zeros = c.in_ok-blank.blank; next = c.in_ok-next.next }) ss c.loop.counter t c.stage.ensures.extends new c.in_ok-s.ensures.place c.in_ok-s.ensures.last
     (subst (λ ys. AreOwn f (length ys) t) c.as_slice.ensures.value c.in_ok-s.ensures.own) inv in
-    subst (λ ys. StagesSoFar a d f (next_signals a xs) (locks_in l a xs) (record { bits = c.args.bits; zeros = c.in_ok-blank.blank; next = c.in_ok-next.next }) ys (c.loop.counter + 1)) (sym c.in_ok-push.ensures.items) more
+    subst (λ ys. StagesSoFar a d f (next_signals a xs) (locks_in l a xs) (record { bits = c.args.bits; zeros = c.in_ok-blank.blank; next = c.in_ok-next.next }) ys (c.loop.counter + 1)) (sym c.in_ok-append.ensures) more
 
 pub returns-clause-count : goal.returns-clause-count
 returns-clause-count g c =
@@ -98,5 +98,5 @@ returns-clause-count g c =
 pub returns-in_err-s-clause-extends : goal.returns-in_err-s-clause-extends
 returns-in_err-s-clause-extends g c = extends_trans c.args.b.now c.loop.b c.stage.new.b c.loop.invariant.extends c.stage.ensures.extends
 
-pub returns-in_err-push-clause-extends : goal.returns-in_err-push-clause-extends
-returns-in_err-push-clause-extends g c = extends_trans c.args.b.now c.loop.b c.stage.new.b c.loop.invariant.extends c.stage.ensures.extends
+pub returns-in_err-append-clause-extends : goal.returns-in_err-append-clause-extends
+returns-in_err-append-clause-extends g c = extends_trans c.args.b.now c.loop.b c.stage.new.b c.loop.invariant.extends c.stage.ensures.extends
