@@ -18,10 +18,10 @@ use Rattle.pdl_asm.specs.declared.line.Operand.{Operand}
 use Rattle.pdl_asm.specs.declared.line.Operation.{Operation}
 use Rattle.pdl_asm.specs.declared.line.Operation.TheVariants.{Nothing, At, Word, Insn}
 use Rattle.pdl_asm.specs.declared.line.Line.{Line}
-use Rattle.pdl_asm.specs.declared.asm_error.AsmError.TheVariants.{Refused}
+use Rattle.pdl_asm.specs.declared.asm_error.AsmError.TheVariants.{NoMemory, Refused}
 use Rattle.pdl_asm.specs.Values.{Labels, lower, rank}
 use Rattle.pdl_asm.specs.Assembly.{Meets, Placed, addresses, image, image_text, image_unless, lines_from, word_line, at_line, broken_rule, first_wrong, free_rule, insn_rule, insn_word, is_at, is_taken, labels_of, line_rule, line_word, operation_rule, operation_word, place_rule, with_line, word_at, written_word}
-use Rattle.pdl_asm.specs.Slots.{AreWritten, is_taken_in, slots_of, with_word}
+use Rattle.pdl_asm.specs.Slots.{AreWritten, IsRefusal, is_taken_in, slots_of, with_word}
 use Rattle.pdl_asm.specs.declared.asm_error.AsmError.{AsmError}
 
 pub addresses_are : addresses ≡ 65536
@@ -202,13 +202,13 @@ wrong_found t labels all rest number place line before slots rule f e =
     let b = rule_is t labels all rest number p before slots f ∙ e in
     sym f.wrong ∙ ap (λ o. at_line number o (first_wrong t labels (f.done ++ p ∷ []) (number + 1) rest)) b
 
--- what the code finds of a line
-pub rule_by : (t : TableValue) (labels before : Labels) (place : ℤ) (line : Option Line) (a b : Bool) (o : Option Rule) → a ≡ b → o ≡ line_rule t labels before a place line → line_rule t labels before b place line ≡ o
-rule_by t labels before place line a b o e f = ap (λ c. line_rule t labels before c place line) (sym e) ∙ sym f
-
-pub words_by : (t : TableValue) (labels : Labels) (place : ℤ) (line : Option Line) (slots more : List (Option ℕ)) (w : Option ℕ) → more ≡ with_word slots place w → w ≡ line_word t labels place line
-    → more ≡ with_word slots place (line_word t labels place line)
-words_by t labels place line slots more w e f = e ∙ ap (with_word slots place) f
+-- the refusal of a line is the first of all lines
+pub refused_first : (t : TableValue) (labels : Labels) (all rest : List Placed) (number : ℕ) (place : ℤ) (line : Option Line) (before : Labels) (slots : List (Option ℕ)) (e : AsmError)
+    → Taken t labels all number (record { place = place; line = line } ∷ rest) before slots
+    → IsRefusal (line_rule t labels before (is_taken_in slots place) place line) number e → AreWritten t labels all (Err e)
+refused_first t labels all rest number place line before slots NoMemory f h = tt
+refused_first t labels all rest number place line before slots (Refused rule n) f h =
+    wrong_found t labels all rest number place line before slots rule f h.0 ∙ ap (λ m. Some (Refused rule m)) (sym h.1)
 
 pub taken_more : (t : TableValue) (labels : Labels) (all rest : List Placed) (number : ℕ) (place : ℤ) (line : Option Line) (before later : Labels) (slots later_slots : List (Option ℕ))
     → Taken t labels all number (record { place = place; line = line } ∷ rest) before slots

@@ -1,6 +1,7 @@
 -- What each address has, while lines are taken one after another.
 use Rattle.std.specs.Prelude.{◌≡◌, ℕ, ℤ, pos, negsuc, nat_lt, Bool, false, ◌&&◌, List, [], map, slice_index_or, slice_set, Option, Some, None, is_some, Result, Ok, Err, if◌then◌else◌}
 use Rattle.std.specs.List.{range_with_len}
+use Rattle.pdl_kit.specs.declared.rule.Rule.{Rule}
 use Rattle.pdl_asmtable.specs.Tables.{TableValue}
 use Rattle.pdl_asm.specs.Values.{Labels}
 use Rattle.pdl_asm.specs.Assembly.{Placed, addresses, first_wrong, written_word}
@@ -21,6 +22,11 @@ abbrev pub with_word : List (Option ℕ) → ℤ → Option ℕ → List (Option
 with_word slots place None = slots
 with_word slots (pos n) (Some w) = if nat_lt n 65536 then slice_set slots n (Some w) else slots
 with_word slots (negsuc n) (Some w) = slots
+
+-- the refusal of a line with this number for the rule that it breaks, unless memory ran out
+abbrev pub IsRefusal : Option Rule → ℕ → AsmError → Type 0
+IsRefusal broken number NoMemory = Unit {0}
+IsRefusal broken number (Refused rule line) = (broken ≡ Some rule) × (line ≡ number)
 
 -- the lines were taken one after another: each address has the word that they write, or the first wrong line is the answer
 abbrev pub AreWritten : TableValue → Labels → List Placed → Result (List (Option ℕ)) AsmError → Type 0

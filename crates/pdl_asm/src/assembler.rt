@@ -1,40 +1,117 @@
 // The assembly of a text.
-ghost use Rattle.std.specs.Prelude.{◌≡◌, ◌≤◌, IfOk, OnOk, MatchResult, [], length, pos, List, ℕ};
+ghost use Rattle.std.specs.Prelude.{◌≡◌, ◌≤◌, IfOk, IfErr, OnOk, MatchResult, Ok, Err, None, [], length, pos, replicate, List, ℕ};
 ghost use Rattle.pdl_kit.specs.declared.files.TheConstants.{LONGEST_FILE};
 ghost use Rattle.pdl_image.specs.Lines.{lines};
-ghost use Rattle.pdl_asm.specs.Assembly.{image, labels_of, lines_from, Meets};
+ghost use Rattle.pdl_asm.specs.Assembly.{addresses, image, label_of, labels_of, line_rule as line_rule_of, line_word as line_word_of, lines_from, with_label, Meets};
 ghost use Rattle.pdl_asm.specs.ReadBack.{IsReadBack};
-ghost use Rattle.pdl_asm.specs.Slots.{AreWritten};
+ghost use Rattle.pdl_asm.specs.Slots.{AreWritten, IsRefusal, is_taken_in, with_word};
 
 use crate::asm_error::AsmError;
 use crate::encode::line_word;
 use crate::image::to_image;
+use crate::line::Line;
 use crate::operation::read_line;
 use crate::place::{after_line, define_label};
 use crate::rules::line_rule;
 use crate::text::split_line;
 use crate::words::Words;
 use pdl_asmtable::{Dictionary, Table};
+use pdl_kit::NoMemory;
 use std::alloc::Global;
 
-// The places of the labels that a text defines.
-fn read_labels(alloc: Global, table: &Table, text: &[u8]) -> Result<Dictionary<i128>, AsmError>
-    requires { length text.now ≤ LONGEST_FILE }
-    ensures { MatchResult result (λ l.
-        l ≡ labels_of (lines_from table.now (pos 0) (lines text.now)))
-        (λ e. e ≡ AsmError.NoMemory) }
+// Defines the labels of a text, where none is defined yet.
+fn define_labels(
+    alloc: Global,
+    table: &Table,
+    text: &[u8],
+    labels: &mut Dictionary<i128>,
+) -> Result<(), NoMemory>
+    requires size { length text.now ≤ LONGEST_FILE }
+    requires none { labels.old ≡ [] }
+    ensures { OnOk result
+        (labels.new ≡ labels_of (lines_from table.now (pos 0) (lines text.now))) }
 {
-    let mut labels = Dictionary::new(alloc);
     let mut place = 0;
     let mut rest = text;
     while !rest.is_empty() {
         let (first, later) = split_line(rest);
         let line = read_line(alloc, first)?;
-        define_label(&mut labels, place, &line)?;
+        define_label(labels, place, &line)?;
         place = after_line(table, place, &line);
         rest = later;
     }
+    Ok(())
+}
+
+// The places of the labels that a text defines.
+fn read_labels(alloc: Global, table: &Table, text: &[u8]) -> Result<Dictionary<i128>, NoMemory>
+    requires { length text.now ≤ LONGEST_FILE }
+    ensures { IfOk result (λ l. l ≡ labels_of (lines_from table.now (pos 0) (lines text.now))) }
+{
+    let mut labels = Dictionary::new(alloc);
+    define_labels(alloc, table, text, &mut labels)?;
     Ok(labels)
+}
+
+// Writes the word of a line at a place and defines its label, or refuses the line, which has this number.
+fn take_line(
+    table: &Table,
+    labels: &Dictionary<i128>,
+    before: &mut Dictionary<i128>,
+    words: &mut Words,
+    place: i128,
+    number: u32,
+    line: &Option<Line>,
+) -> Result<(), AsmError>
+    ensures right { OnOk result (line_rule_of table.now labels.now before.old
+        (is_taken_in words.old place) place line.now ≡ None) }
+    ensures label { OnOk result (before.new ≡ with_label before.old place (label_of line.now)) }
+    ensures word { OnOk result (words.new ≡ with_word words.old place
+        (line_word_of table.now labels.now place line.now)) }
+    ensures refused { IfErr result (IsRefusal (line_rule_of table.now labels.now before.old
+        (is_taken_in words.old place) place line.now) number) }
+{
+    let taken = words.is_taken(place);
+    if let Some(rule) = line_rule(table, labels, before, taken, place, line) {
+        return Err(AsmError::Refused { rule, line: number });
+    }
+    words.write(place, line_word(table, labels, place, line));
+    Ok(define_label(before, place, line)?)
+}
+
+// Writes the words of the lines of a text, up to the first wrong line, where no word is written and no label defined before.
+fn write_lines(
+    alloc: Global,
+    table: &Table,
+    labels: &Dictionary<i128>,
+    text: &[u8],
+    before: &mut Dictionary<i128>,
+    words: &mut Words,
+) -> Result<(), AsmError>
+    requires size { length text.now ≤ LONGEST_FILE }
+    requires none { before.old ≡ [] }
+    requires empty { words.old ≡ replicate addresses None }
+    ensures { MatchResult result
+        (λ _. AreWritten table.now labels.now
+        (lines_from table.now (pos 0) (lines text.now)) (Ok words.new))
+        (λ e. AreWritten table.now labels.now
+        (lines_from table.now (pos 0) (lines text.now)) (Err e)) }
+{
+    let mut place = 0;
+    let mut number = 1;
+    let mut rest = text;
+    while !rest.is_empty() {
+        let (first, later) = split_line(rest);
+        let line = read_line(alloc, first)?;
+        match take_line(table, labels, before, words, place, number, &line) {
+            Ok(()) => (),
+            Err(error) => return Err(error),
+        }
+        place = after_line(table, place, &line);
+        rest = later;
+        number += 1;
+    }
+    Ok(())
 }
 
 // The words that the lines of a text write, or the refusal of the first wrong line, where all labels are known.
@@ -50,23 +127,18 @@ fn write_words(
 {
     let mut words = Words::new(alloc)?;
     let mut before = Dictionary::new(alloc);
-    let mut place = 0;
-    let mut number = 1;
-    let mut rest = text;
-    while !rest.is_empty() {
-        let (first, later) = split_line(rest);
-        let line = read_line(alloc, first)?;
-        let taken = words.is_taken(place);
-        if let Some(rule) = line_rule(table, labels, &before, taken, place, &line) {
-            return Err(AsmError::Refused { rule, line: number });
-        }
-        words.write(place, line_word(table, labels, place, &line));
-        define_label(&mut before, place, &line)?;
-        place = after_line(table, place, &line);
-        rest = later;
-        number += 1;
-    }
+    write_lines(alloc, table, labels, text, &mut before, &mut words)?;
     Ok(words)
+}
+
+// The words that a text writes, or the refusal of its first wrong line.
+fn words_of(alloc: Global, table: &Table, text: &[u8]) -> Result<Words, AsmError>
+    requires { length text.now ≤ LONGEST_FILE }
+    ensures { AreWritten table.now (labels_of (lines_from table.now (pos 0) (lines text.now)))
+        (lines_from table.now (pos 0) (lines text.now)) result }
+{
+    let labels = read_labels(alloc, table, text)?;
+    write_words(alloc, table, &labels, text)
 }
 
 /// Assembles a text to the text of an image, for a table of an instruction set.
@@ -82,7 +154,6 @@ pub fn assemble(alloc: Global, table: &Table, text: &[u8]) -> Result<Vec<u8>, As
     ensures meets { Meets (λ t. t.items) (image table.now text.now) result }
     ensures read_back { IfOk result (λ t. IsReadBack table.now text.now t.items) }
 {
-    let labels = read_labels(alloc, table, text)?;
-    let words = write_words(alloc, table, &labels, text)?;
+    let words = words_of(alloc, table, text)?;
     Ok(to_image(alloc, table, &words)?)
 }

@@ -7,18 +7,18 @@ use Rattle.pdl_image.specs.Lines.{lines}
 use Rattle.pdl_asm.specs.Values.{Labels}
 use Rattle.pdl_asm.specs.Assembly.{Placed, lines_from}
 use Rattle.pdl_asm.proofs.Steps.{near_later, placed_first}
-use Rattle.pdl_asm.proofs.Taking.{Taken, all_taken, none_left_of, rule_by, taken_more, taken_none, words_by, wrong_found}
-use Rattle.pdl_asm.proofs.assembler.write_words.Goals as goal
+use Rattle.pdl_asm.proofs.Taking.{Taken, all_taken, none_left_of, refused_first, taken_more, taken_none}
+use Rattle.pdl_asm.proofs.assembler.write_lines.Goals as goal
 
 pub loop-rest-init : goal.loop-rest-init
 loop-rest-init c =
     let all = lines_from c.args.table.now (pos 0) (lines c.args.text.now) in
-    let P : Labels → Type 0 = λ b. Taken c.args.table.now c.args.labels.now all 1 all b c.in_ok-words.words in
+    let P : Labels → Type 0 = λ b. Taken c.args.table.now c.args.labels.now all 1 all b c.args.words.now in
     record {
       room = omega arith;
       near = (omega (arith, ints), omega (arith, ints));
       count = omega arith;
-      taken = subst P (sym c.new-before.ensures) (taken_none c.args.table.now c.args.labels.now all c.in_ok-words.words c.in_ok-words.ensures);
+      taken = subst P (sym c.requires.none) (taken_none c.args.table.now c.args.labels.now all c.args.words.now c.requires.empty);
     }
 
 pub loop-rest-preserved : goal.loop-rest-preserved
@@ -39,13 +39,11 @@ loop-rest-preserved c =
       count = omega (arith, c.split_line.ensures.shorter);
       taken = taken_more t ls all _ c.loop-rest.number place c.in_ok-line.line c.loop-rest.before _ c.loop-rest.words _
           (subst P e c.loop-rest.invariant.taken)
-          (rule_by t ls c.loop-rest.before place c.in_ok-line.line _ _ _ c.is_taken-taken.ensures c.in_default.ensures)
-          c.in_ok-define_label.ensures
-          (words_by t ls place c.in_ok-line.line c.loop-rest.words _ _ c.write.ensures c.line_word.ensures);
+          c.in-Ok.ensures.right c.in-Ok.ensures.label c.in-Ok.ensures.word;
     }
 
-pub loop-rest-preserved-in_ok-define_label : goal.loop-rest-preserved-in_ok-define_label
-loop-rest-preserved-in_ok-define_label c =
+pub loop-rest-preserved-in-Ok : goal.loop-rest-preserved-in-Ok
+loop-rest-preserved-in-Ok c =
     let t = c.args.table.now in
     let ls = c.args.labels.now in
     let all = lines_from t (pos 0) (lines c.args.text.now) in
@@ -62,13 +60,11 @@ loop-rest-preserved-in_ok-define_label c =
       count = omega (arith, c.split_line.ensures.shorter);
       taken = taken_more t ls all _ c.loop-rest.number place c.in_ok-line.line c.loop-rest.before _ c.loop-rest.words _
           (subst P e c.loop-rest.invariant.taken)
-          (rule_by t ls c.loop-rest.before place c.in_ok-line.line _ _ _ c.is_taken-taken.ensures c.in_default.ensures)
-          c.in_ok-define_label.ensures
-          (words_by t ls place c.in_ok-line.line c.loop-rest.words _ _ c.write.ensures c.line_word.ensures);
+          c.in-Ok.ensures.right c.in-Ok.ensures.label c.in-Ok.ensures.word;
     }
 
-pub loop-rest-preserved-in_ok-define_label-2 : goal.loop-rest-preserved-in_ok-define_label-2
-loop-rest-preserved-in_ok-define_label-2 c =
+pub loop-rest-preserved-in-Ok-2 : goal.loop-rest-preserved-in-Ok-2
+loop-rest-preserved-in-Ok-2 c =
     let t = c.args.table.now in
     let ls = c.args.labels.now in
     let all = lines_from t (pos 0) (lines c.args.text.now) in
@@ -85,13 +81,11 @@ loop-rest-preserved-in_ok-define_label-2 c =
       count = omega (arith, c.split_line.ensures.shorter);
       taken = taken_more t ls all _ c.loop-rest.number place c.in_ok-line.line c.loop-rest.before _ c.loop-rest.words _
           (subst P e c.loop-rest.invariant.taken)
-          (rule_by t ls c.loop-rest.before place c.in_ok-line.line _ _ _ c.is_taken-taken.ensures c.in_default.ensures)
-          c.in_ok-define_label.ensures
-          (words_by t ls place c.in_ok-line.line c.loop-rest.words _ _ c.write.ensures c.line_word.ensures);
+          c.in-Ok.ensures.right c.in-Ok.ensures.label c.in-Ok.ensures.word;
     }
 
-pub returns-in-Some : goal.returns-in-Some
-returns-in-Some c =
+pub returns-in-Err : goal.returns-in-Err
+returns-in-Err c =
     let t = c.args.table.now in
     let ls = c.args.labels.now in
     let all = lines_from t (pos 0) (lines c.args.text.now) in
@@ -99,9 +93,8 @@ returns-in-Some c =
     let place = cast_signed w128 c.loop-rest.place-bits in
     let e = placed_first t place _ c.split_line.result.0.now later (lines c.loop-rest.rest.now) c.in_ok-line.line c.split_line.ensures.value c.in_ok-line.ensures refl in
     let P : List Placed → Type 0 = λ r. Taken t ls all c.loop-rest.number r c.loop-rest.before c.loop-rest.words in
-    wrong_found t ls all _ c.loop-rest.number place c.in_ok-line.line c.loop-rest.before c.loop-rest.words c.in-Some.rule
-    (subst P e c.loop-rest.invariant.taken)
-    (rule_by t ls c.loop-rest.before place c.in_ok-line.line _ _ _ c.is_taken-taken.ensures c.in-Some.ensures)
+    refused_first t ls all _ c.loop-rest.number place c.in_ok-line.line c.loop-rest.before c.loop-rest.words _
+    (subst P e c.loop-rest.invariant.taken) c.in-Err.ensures.refused
 
 pub returns : goal.returns
 returns c =

@@ -2,7 +2,7 @@ use Rattle.std.proofs.Common.{◌≡◌, ◌-◌, ◌≤◌, [], length, fold, p
 use Rattle.pdl_image.specs.Lines.{lines}
 use Rattle.pdl_asm.specs.Assembly.{lines_from, with_line}
 use Rattle.pdl_asm.specs.Places.{IsNear}
-use Rattle.pdl_asm.proofs.assembler.read_labels.Given as goal
+use Rattle.pdl_asm.proofs.assembler.define_labels.Given as goal
 
 -- labels of the lines so far, and of those to come, are all
 abbrev pub invariant-loop-rest : goal.invariant-loop-rest
