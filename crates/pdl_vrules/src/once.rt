@@ -60,18 +60,31 @@ fn port_is_right(places: &Places, decl: &PortDecl, drives: usize) -> bool
     places.find(&decl.name).is_none() && (decl.input || drives == 1)
 }
 
-fn ports(alloc: Global, decls: &[PortDecl], drives: &[OutputDrive]) -> Result<(), Stop>
+// Declares ports, where no name is declared yet.
+fn add_ports(
+    alloc: Global,
+    places: &mut Places,
+    decls: &[PortDecl],
+    drives: &[OutputDrive],
+) -> Result<(), Stop>
+    requires { AreFirsts [] places.old }
     ensures { Tells (first_wrong (spec.in_turn (spec.port_once drives.now) [] decls.now)) result }
 {
     let counts = output_counts(alloc, decls.len(), drives)?;
-    let mut places = Places::new(alloc);
     for (decl, count) in decls.iter().zip(counts.as_slice()) {
-        if !port_is_right(&places, decl, *count) {
+        if !port_is_right(places, decl, *count) {
             return Err(Stop::Broken { line: decl.line });
         }
         places.add(&decl.name)?;
     }
     Ok(())
+}
+
+fn ports(alloc: Global, decls: &[PortDecl], drives: &[OutputDrive]) -> Result<(), Stop>
+    ensures { Tells (first_wrong (spec.in_turn (spec.port_once drives.now) [] decls.now)) result }
+{
+    let mut places = Places::new(alloc);
+    add_ports(alloc, &mut places, decls, drives)
 }
 
 // Whether a register has a new name and is driven once.
@@ -82,13 +95,40 @@ fn reg_is_right(places: &Places, decl: &RegDecl, drives: usize) -> bool
     places.find(&decl.name).is_none() && drives == 1
 }
 
-fn regs(alloc: Global, decls: &[RegDecl], drives: &[RegDrive]) -> Result<(), Stop>
+// Declares registers, where no name is declared yet.
+fn add_regs(
+    alloc: Global,
+    places: &mut Places,
+    decls: &[RegDecl],
+    drives: &[RegDrive],
+) -> Result<(), Stop>
+    requires { AreFirsts [] places.old }
     ensures { Tells (first_wrong (spec.in_turn (spec.reg_once drives.now) [] decls.now)) result }
 {
     let counts = reg_counts(alloc, decls.len(), drives)?;
-    let mut places = Places::new(alloc);
     for (decl, count) in decls.iter().zip(counts.as_slice()) {
-        if !reg_is_right(&places, decl, *count) {
+        if !reg_is_right(places, decl, *count) {
+            return Err(Stop::Broken { line: decl.line });
+        }
+        places.add(&decl.name)?;
+    }
+    Ok(())
+}
+
+fn regs(alloc: Global, decls: &[RegDecl], drives: &[RegDrive]) -> Result<(), Stop>
+    ensures { Tells (first_wrong (spec.in_turn (spec.reg_once drives.now) [] decls.now)) result }
+{
+    let mut places = Places::new(alloc);
+    add_regs(alloc, &mut places, decls, drives)
+}
+
+// Declares arrays, where no name is declared yet.
+fn add_arrays(places: &mut Places, decls: &[ArrayDecl]) -> Result<(), Stop>
+    requires { AreFirsts [] places.old }
+    ensures { Tells (first_wrong (spec.in_turn spec.array_once [] decls.now)) result }
+{
+    for decl in decls {
+        if places.find(&decl.name).is_some() {
             return Err(Stop::Broken { line: decl.line });
         }
         places.add(&decl.name)?;
@@ -100,6 +140,14 @@ fn arrays(alloc: Global, decls: &[ArrayDecl]) -> Result<(), Stop>
     ensures { Tells (first_wrong (spec.in_turn spec.array_once [] decls.now)) result }
 {
     let mut places = Places::new(alloc);
+    add_arrays(&mut places, decls)
+}
+
+// Declares cells, where no name is declared yet.
+fn add_cells(places: &mut Places, decls: &[CellDecl]) -> Result<(), Stop>
+    requires { AreFirsts [] places.old }
+    ensures { Tells (first_wrong (spec.in_turn spec.cell_once [] decls.now)) result }
+{
     for decl in decls {
         if places.find(&decl.name).is_some() {
             return Err(Stop::Broken { line: decl.line });
@@ -113,13 +161,7 @@ fn cells(alloc: Global, decls: &[CellDecl]) -> Result<(), Stop>
     ensures { Tells (first_wrong (spec.in_turn spec.cell_once [] decls.now)) result }
 {
     let mut places = Places::new(alloc);
-    for decl in decls {
-        if places.find(&decl.name).is_some() {
-            return Err(Stop::Broken { line: decl.line });
-        }
-        places.add(&decl.name)?;
-    }
-    Ok(())
+    add_cells(&mut places, decls)
 }
 
 // The array that a block's first write names.
@@ -145,10 +187,15 @@ fn writes(array: usize, decls: &[WriteDecl], writes: &[ArrayWrite]) -> Result<()
     Ok(())
 }
 
-fn blocks(alloc: Global, decls: &[ArrayBlock], blocks: &[Seq<ArrayWrite>]) -> Result<(), Stop>
+// Takes blocks as the owners of their arrays, where no array has an owner yet.
+fn add_blocks(
+    owners: &mut IndexSet<usize>,
+    decls: &[ArrayBlock],
+    blocks: &[Seq<ArrayWrite>],
+) -> Result<(), Stop>
+    requires { owners.old.keys ≡ [] }
     ensures { Tells (first_wrong (spec.blocks_once [] decls.now blocks.now)) result }
 {
-    let mut owners = IndexSet::new(alloc);
     for (decl, block) in decls.iter().zip(blocks) {
         let array = owner(block.as_slice());
         let is_first = owners.insert(array)?;
@@ -158,6 +205,13 @@ fn blocks(alloc: Global, decls: &[ArrayBlock], blocks: &[Seq<ArrayWrite>]) -> Re
         writes(array, decl.writes.as_slice(), block.as_slice())?;
     }
     Ok(())
+}
+
+fn blocks(alloc: Global, decls: &[ArrayBlock], blocks: &[Seq<ArrayWrite>]) -> Result<(), Stop>
+    ensures { Tells (first_wrong (spec.blocks_once [] decls.now blocks.now)) result }
+{
+    let mut owners = IndexSet::new(alloc);
+    add_blocks(&mut owners, decls, blocks)
 }
 
 // What V4 asks of declarations.

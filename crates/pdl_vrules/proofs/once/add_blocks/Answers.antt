@@ -6,7 +6,7 @@ use Rattle.std.proofs.lemmas.List.{length_push}
 use Rattle.std.proofs.lemmas.Slice.Zip.{zip_turn, zip_end}
 use Rattle.pdl_vrules.specs.Once.{owner}
 use Rattle.pdl_vrules.proofs.Owners.{is_other, is_second, added, same_inside, second_block, blocks_more, blocks_stop, blocks_end}
-use Rattle.pdl_vrules.proofs.once.blocks.Goals as goal
+use Rattle.pdl_vrules.proofs.once.add_blocks.Goals as goal
 
 pub returns-then-not-is_first : goal.returns-then-not-is_first
 returns-then-not-is_first c =
