@@ -1,8 +1,8 @@
 // The netlist of a file that breaks none of V1 to V4.
-ghost use Rattle.std.specs.Prelude.{◌≡◌, ◌≤◌, ◌+◌, ◌<◌, ◌^◌, IfOk, None, All, drop, length, map};
+ghost use Rattle.std.specs.Prelude.{◌≡◌, ◌≤◌, ◌+◌, ◌<◌, ◌^◌, IfOk, OnOk, None, All, [], drop, length, map};
 ghost use Rattle.pdl_net.specs.declared.Net.TheVariants.{Input};
 ghost use Rattle.pdl_vrules.specs.Once.{owner};
-ghost use Rattle.pdl_vrules.specs.Widths.{width_line};
+ghost use Rattle.pdl_vrules.specs.Widths.{bits as width_of, width_line};
 ghost use Rattle.pdl_vread.specs.Built as spec;
 
 use pdl_kit::{Name, NoMemory, Seq};
@@ -37,15 +37,21 @@ fn port(decl: &PortDecl, net: Net) -> Result<Port, NoMemory>
     })
 }
 
-fn ports(alloc: Global, decls: &[PortDecl], drives: &[OutputDrive]) -> Result<Seq<Port>, NoMemory>
-    ensures { IfOk result (λ ps. ps ≡ spec.ports drives.now 0 decls.now) }
+// Adds the ports, where none is there yet.
+fn add_ports(
+    alloc: Global,
+    ports: &mut Seq<Port>,
+    decls: &[PortDecl],
+    drives: &[OutputDrive],
+) -> Result<(), NoMemory>
+    requires { ports.old ≡ [] }
+    ensures { OnOk result (ports.new ≡ spec.ports drives.now 0 decls.now) }
 {
     let nets = drivers(alloc, decls.len(), drives)?;
-    let mut ports = Seq::new(alloc);
     for (decl, net) in decls.iter().zip(&nets) {
         ports.push(port(decl, *net)?)?;
     }
-    Ok(ports)
+    Ok(())
 }
 
 fn undriven(alloc: Global, decls: &[RegDecl]) -> Result<Vec<Reg>, NoMemory>
@@ -126,42 +132,129 @@ fn memory_name(alloc: Global, name: &Name) -> Result<Name, NoMemory>
     }
 }
 
-fn arrays(
+// An array, the m-th of its file.
+fn array(
     alloc: Global,
+    m: usize,
+    decl: &ArrayDecl,
+    blocks: &[Seq<ArrayWrite>],
+) -> Result<Array, NoMemory>
+    requires { decl.now.last + 1 < 2 ^ 32 }
+    ensures { IfOk result (λ a. a ≡ record {
+      name = drop 2 decl.now.name;
+      width = width_of decl.now.high;
+      depth = decl.now.last + 1;
+      writes = spec.writes m blocks.now;
+    }) }
+{
+    let name = memory_name(alloc, &decl.name)?;
+    Ok(Array {
+        name,
+        width: bits(decl.high),
+        depth: decl.last + 1,
+        writes: writes_of(alloc, m, blocks)?,
+    })
+}
+
+// Adds the arrays, where none is there yet.
+fn add_arrays(
+    alloc: Global,
+    arrays: &mut Seq<Array>,
     decls: &[ArrayDecl],
     blocks: &[Seq<ArrayWrite>],
-) -> Result<Seq<Array>, NoMemory>
-    requires { All (λ d. d.last + 1 < 2 ^ 32) decls.now }
-    ensures { IfOk result (λ arrays. arrays ≡ spec.arrays blocks.now 0 decls.now) }
+) -> Result<(), NoMemory>
+    requires depth { All (λ d. d.last + 1 < 2 ^ 32) decls.now }
+    requires empty { arrays.old ≡ [] }
+    ensures { OnOk result (arrays.new ≡ spec.arrays blocks.now 0 decls.now) }
 {
-    let mut arrays = Seq::new(alloc);
     for m in 0..decls.len() {
-        let decl = &decls[m];
-        arrays.push(Array {
-            name: memory_name(alloc, &decl.name)?,
-            width: bits(decl.high),
-            depth: decl.last + 1,
-            writes: writes_of(alloc, m, blocks)?,
-        })?;
+        arrays.push(array(alloc, m, &decls[m], blocks)?)?;
     }
-    Ok(arrays)
+    Ok(())
+}
+
+// The ports, registers and arrays of a netlist.
+#[derive(Drop)]
+struct Parts {
+    ports: Seq<Port>,
+    regs: Seq<Reg>,
+    arrays: Seq<Array>,
+}
+
+// Adds the parts that a file declares and its wiring drives, where none is there yet.
+#[tactic(auto, using(crate::proofs::Depths::reached))]
+fn add_parts(alloc: Global, parts: &mut Parts, file: &File, wiring: &Wiring) -> Result<(), NoMemory>
+    requires widths { width_line file.now wiring.now ≡ None }
+    requires ports { parts.old.ports ≡ [] }
+    requires arrays { parts.old.arrays ≡ [] }
+    ensures { OnOk result (parts.new ≡ record {
+      ports = spec.ports wiring.now.outputs 0 file.now.ports;
+      regs = spec.regs wiring.now.regs 0 file.now.regs;
+      arrays = spec.arrays wiring.now.blocks 0 file.now.arrays;
+    }) }
+{
+    parts.regs = regs(alloc, file.regs.as_slice(), wiring.regs.as_slice())?;
+    add_ports(
+        alloc,
+        &mut parts.ports,
+        file.ports.as_slice(),
+        wiring.outputs.as_slice(),
+    )?;
+    add_arrays(
+        alloc,
+        &mut parts.arrays,
+        file.arrays.as_slice(),
+        wiring.blocks.as_slice(),
+    )
+}
+
+// The parts that a file declares and its wiring drives.
+fn parts_of(alloc: Global, file: &File, wiring: &Wiring) -> Result<Parts, NoMemory>
+    requires { width_line file.now wiring.now ≡ None }
+    ensures { IfOk result (λ p. p ≡ record {
+      ports = spec.ports wiring.now.outputs 0 file.now.ports;
+      regs = spec.regs wiring.now.regs 0 file.now.regs;
+      arrays = spec.arrays wiring.now.blocks 0 file.now.arrays;
+    }) }
+{
+    let mut parts = Parts {
+        ports: Seq::new(alloc),
+        regs: Seq::new(alloc),
+        arrays: Seq::new(alloc),
+    };
+    add_parts(alloc, &mut parts, file, wiring)?;
+    Ok(parts)
+}
+
+// The netlist of the name of a file, the cells of its wiring, and these parts.
+fn netlist_with(alloc: Global, file: File, wiring: Wiring, parts: Parts) -> Netlist
+    ensures { result ≡ record {
+      name = file.name;
+      ports = parts.ports;
+      regs = parts.regs;
+      arrays = parts.arrays;
+      cells = wiring.cells;
+      mems = [];
+    } }
+{
+    Netlist {
+        name: file.name,
+        ports: parts.ports,
+        regs: parts.regs,
+        arrays: parts.arrays,
+        cells: wiring.cells,
+        mems: Seq::new(alloc),
+    }
 }
 
 /// The netlist of a file and its wiring, with no memories yet. It takes time linear in these where there are few arrays.
-#[tactic(auto, using(crate::proofs::Depths::reached), unfolding(crate::specs::Built::built))]
+#[tactic(auto, unfolding(crate::specs::Built::built))]
 pub fn build(alloc: Global, file: File, wiring: Wiring) -> Result<Netlist, NoMemory>
     requires { width_line file wiring ≡ None }
     ensures { IfOk result (λ n. n ≡ spec.built file wiring) }
 {
-    let ports = ports(alloc, file.ports.as_slice(), wiring.outputs.as_slice())?;
-    let regs = regs(alloc, file.regs.as_slice(), wiring.regs.as_slice())?;
-    let arrays = arrays(alloc, file.arrays.as_slice(), wiring.blocks.as_slice())?;
-    Ok(Netlist {
-        name: file.name,
-        ports,
-        regs,
-        arrays,
-        cells: wiring.cells,
-        mems: Seq::new(alloc),
-    })
+    match parts_of(alloc, &file, &wiring) {
+        Ok(parts) => Ok(netlist_with(alloc, file, wiring, parts)),
+        Err(error) => Err(error),
+    }
 }

@@ -1,8 +1,12 @@
 //! The reader of netlists.
-ghost use Rattle.std.specs.Prelude.{◌≡◌, ◌≢◌, ◌≤◌, ℕ, length, All, AllPairs, IfOk, MatchResult};
+ghost use Rattle.std.specs.Prelude.{◌≡◌, ◌≢◌, ◌≤◌, ℕ, List, Ok, length, All, AllPairs, IfOk, MatchResult};
+ghost use Rattle.pdl_kit.specs.declared.mem_info.MemInfo.{MemInfo as MemInfo'};
 ghost use Rattle.pdl_kit.specs.declared.rule.Rule.{Rule as Rule'};
+ghost use Rattle.pdl_kit.specs.declared.rule.Rule.TheVariants.{V5};
 ghost use Rattle.pdl_net.specs.declared.Netlist.{Netlist as Netlist'};
-ghost use Rattle.pdl_net.specs.Pipe.{IsWellFormed};
+ghost use Rattle.pdl_net.specs.Pipe.{IsPipe, IsWellFormed};
+ghost use Rattle.pdl_vnets.specs.Wired.{wiring as names_of};
+ghost use Rattle.pdl_vpipe.specs.Told.{with_mems};
 ghost use Rattle.pdl_vtext.specs.Text.{IsFile};
 ghost use Rattle.pdl_vread.specs.Reads.{Breaks, FileBreaks, GivesNetlist, GivesRefusal, IsWired, IsNetlistOf, Judges, Reads, Refuses};
 ghost use Rattle.pdl_vread.specs.Reads as spec;
@@ -56,48 +60,81 @@ fn file_of(alloc: Global, text: &[u8]) -> Result<File, VError>
     }
 }
 
+// Asks V3 and V4 of a file and its wiring, or tells the first that it breaks.
+fn check_wiring(alloc: Global, file: &File, wiring: &Wiring) -> Result<(), VError>
+    requires { names_of file.now ≡ Ok wiring.now }
+    ensures { MatchResult result
+        (λ _. IsWired file.now wiring.now) (Refuses (FileBreaks file.now)) }
+{
+    if let Err(stop) = check_widths(alloc, file, wiring) {
+        return Err(refusal(Rule::V3, stop));
+    }
+    if let Err(stop) = check_once(alloc, file, wiring) {
+        return Err(refusal(Rule::V4, stop));
+    }
+    Ok(())
+}
+
 // The wiring of a file that keeps V2 to V4, or the first that it breaks.
 fn wiring_of(alloc: Global, file: &File) -> Result<Wiring, VError>
     ensures { MatchResult result (IsWired file.now) (Refuses (FileBreaks file.now)) }
 {
-    let wiring = match wire(alloc, file) {
-        Ok(wiring) => wiring,
-        Err(stop) => return Err(refusal(Rule::V2, stop)),
-    };
-    if let Err(stop) = check_widths(alloc, file, &wiring) {
-        return Err(refusal(Rule::V3, stop));
+    match wire(alloc, file) {
+        Ok(wiring) => match check_wiring(alloc, file, &wiring) {
+            Ok(()) => Ok(wiring),
+            Err(error) => Err(error),
+        },
+        Err(stop) => Err(refusal(Rule::V2, stop)),
     }
-    if let Err(stop) = check_once(alloc, file, &wiring) {
-        return Err(refusal(Rule::V4, stop));
+}
+
+// Adds the memories that the ports and arrays of a netlist tell, or answers V5 of this line where they tell none.
+fn add_mems(alloc: Global, netlist: &mut Netlist, line: u32) -> Result<(), VError>
+    ensures { MatchResult result
+        (λ _. (netlist.new ≡ with_mems netlist.old netlist.new.mems) × IsPipe netlist.new)
+        (Refuses (λ rule at. (rule ≡ V5) × (at ≡ line)
+        × ((ms : List MemInfo') → IsPipe (with_mems netlist.old ms) → ⊥))) }
+{
+    match pipe_mems(alloc, netlist)? {
+        Some(mems) => {
+            netlist.mems = mems;
+            Ok(())
+        }
+        None => Err(VError::Refused {
+            rule: Rule::V5,
+            line,
+        }),
     }
-    Ok(wiring)
+}
+
+// The netlist of a file of few arrays and its wiring, with the memories that its ports and arrays tell, or V5.
+#[tactic(auto, using(crate::proofs::Steps::last_rule))]
+fn with_memories(alloc: Global, file: File, wiring: Wiring) -> Result<Netlist, VError>
+    requires { IsWired file wiring }
+    ensures { MatchResult result (IsNetlistOf file) (Refuses (FileBreaks file)) }
+{
+    let line = file.line;
+    let mut netlist = build(alloc, file, wiring)?;
+    match add_mems(alloc, &mut netlist, line) {
+        Ok(()) => Ok(netlist),
+        Err(error) => Err(error),
+    }
 }
 
 // The netlist of a file and its wiring, with the memories that its ports and arrays tell, or V5.
-#[tactic(auto, using(crate::proofs::Steps::last_rule))]
+#[tactic(auto, using(crate::proofs::Steps::breaks_many))]
 fn netlist_of(alloc: Global, file: File, wiring: Wiring) -> Result<Netlist, VError>
     requires { IsWired file wiring }
     ensures { MatchResult result (IsNetlistOf file) (Refuses (FileBreaks file)) }
 {
-    let broken = VError::Refused {
-        rule: Rule::V5,
-        line: file.line,
-    };
     // No pipe has so many arrays, and for few of them the netlist is built in linear time.
     if file.arrays.len() > 16 {
-        return Err(broken);
-    }
-    let netlist = build(alloc, file, wiring)?;
-    match pipe_mems(alloc, &netlist)? {
-        Some(mems) => Ok(Netlist {
-            name: netlist.name,
-            ports: netlist.ports,
-            regs: netlist.regs,
-            arrays: netlist.arrays,
-            cells: netlist.cells,
-            mems,
-        }),
-        None => Err(broken),
+        Err(VError::Refused {
+            rule: Rule::V5,
+            line: file.line,
+        })
+    } else {
+        with_memories(alloc, file, wiring)
     }
 }
 

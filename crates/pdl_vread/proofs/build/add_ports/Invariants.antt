@@ -1,6 +1,6 @@
 use Rattle.std.proofs.Common.{◌≡◌, ◌++◌, length, drop}
 use Rattle.pdl_vread.specs.Built as spec
-use Rattle.pdl_vread.proofs.build.ports.Given as goal
+use Rattle.pdl_vread.proofs.build.add_ports.Given as goal
 
 -- what is done and what is to come are the whole
 abbrev pub invariant-loop-decl : goal.invariant-loop-decl

@@ -1,6 +1,6 @@
 use Rattle.std.proofs.Common.{◌≡◌, ◌++◌, drop}
 use Rattle.pdl_vread.specs.Built as spec
-use Rattle.pdl_vread.proofs.build.arrays.Given as goal
+use Rattle.pdl_vread.proofs.build.add_arrays.Given as goal
 
 -- what is done and what is to come are the whole
 abbrev pub invariant-loop-m : goal.invariant-loop-m
