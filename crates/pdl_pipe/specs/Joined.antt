@@ -97,3 +97,8 @@ pub record IsShown {T : Type 0} (l : Members T) (c : Circuit) (f : Form) (x : Jo
   pub shown : (vs : ℕ → View) (gates : Gates) (moves : ℕ → Signal) (names : ℕ → List ℕ)
       → AreOf before (shown_of x.line.stages.items x.line.moves.items) x.bits.zero f.names vs gates moves names
       → shown_by before outs ≡ all_shown f.pipe names (commits_in before x.commits.items) vs gates moves
+
+-- the whole, whatever its parts are
+pub record IsEmitted {T : Type 0} (l : Members T) (c : Circuit) (f : Form) : Type 0 where
+  pub joined : Joined T
+  pub shown : IsShown l c f joined

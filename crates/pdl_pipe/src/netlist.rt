@@ -13,7 +13,7 @@ ghost use Rattle.pdl_locknets.specs.Suited.{AreSuited};
 ghost use Rattle.pdl_locknets.specs.Lawful.{AreLawful, AreUnwritten};
 ghost use Rattle.pdl_pipe_law.specs.Runs.{ShowsTurns, output_count};
 ghost use Rattle.pdl_pipe_law.specs.Follows.{Follows};
-ghost use Rattle.pdl_pipe.specs.Joined.{CanJoin, HasSteps, IsJoined, IsShown};
+ghost use Rattle.pdl_pipe.specs.Joined.{CanJoin, HasSteps, IsEmitted, IsJoined, IsShown};
 ghost use Rattle.pdl_pipe.specs.Finished.{IsFinished};
 ghost use Rattle.pdl_pipe.specs.Refined.{RefinesThreads};
 
@@ -131,6 +131,23 @@ fn copy_of(alloc: Global, mems: &[MemInfo]) -> Result<Seq<MemInfo>, NoMemory>
     Ok(copies)
 }
 
+// The memories with their locks, the stages, and the outputs.
+fn emit_all<L: LockModule + Copy>(
+    alloc: Global,
+    b: &mut Builder,
+    pipe: &FlatPipe,
+    locks: &[Option<L>],
+) -> Result<(), NoMemory>
+    requires empty { b.old ≡ empty_circuit }
+    requires pipe { CanJoin (form pipe.now) }
+    requires suited { AreSuited L.suits (members L.LockModule) (form pipe.now) locks.now }
+    ensures { OnOk result (IsEmitted (members L.LockModule) b.new (form pipe.now)) }
+{
+    let joined = join(alloc, b, pipe, locks)?;
+    emit_outputs(alloc, b, pipe, &joined)?;
+    Ok(())
+}
+
 // The netlist of an accepted pipe with these locks.
 fn compile_with<L: LockModule + Copy>(
     alloc: Global,
@@ -142,10 +159,8 @@ fn compile_with<L: LockModule + Copy>(
     ensures finished { IfOk result (λ n. IsFinished (pipe_view accepted.now.typed.pipe) n) }
     ensures mems { IfOk result (λ n. n.mems ≡ accepted.now.mems) }
 {
-    let pipe = accepted.flat();
     let mut b = Builder::new(alloc);
-    let joined = join(alloc, &mut b, pipe, locks)?;
-    emit_outputs(alloc, &mut b, pipe, &joined)?;
+    emit_all(alloc, &mut b, accepted.flat(), locks)?;
     let name = accepted.pipe().name.name.clone()?;
     let mems = copy_of(alloc, accepted.mems())?;
     Ok(b.finish(name, mems))

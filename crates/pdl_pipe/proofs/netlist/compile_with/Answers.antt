@@ -9,29 +9,24 @@ use Rattle.pdl_pipe.proofs.Joinable.{can_join}
 use Rattle.pdl_pipe.proofs.Finishing.{whole}
 use Rattle.pdl_pipe.proofs.netlist.compile_with.Goals as goal
 
-pub join-requires-clause-pipe : goal.join-requires-clause-pipe
-join-requires-clause-pipe g c =
+pub emit_all-requires-clause-pipe : goal.emit_all-requires-clause-pipe
+emit_all-requires-clause-pipe g c =
     let a = c.args.accepted.now in
-    subst CanJoin (sym c.flat-pipe.ensures) (can_join (pipe_view a.typed.pipe) a.kept a.source a.letters a.compiled)
+    subst CanJoin (sym c.flat.ensures) (can_join (pipe_view a.typed.pipe) a.kept a.source a.letters a.compiled)
 
-pub join-requires-clause-suited : goal.join-requires-clause-suited
-join-requires-clause-suited g c =
-    subst (λ (f : Form). AreSuited g.L.LockModule.suits (members g.L.LockModule) f c.args.locks.now) (sym c.flat-pipe.ensures) c.requires.suited
-
-pub emit_outputs-requires-clause-pipe : goal.emit_outputs-requires-clause-pipe
-emit_outputs-requires-clause-pipe g c =
-    let a = c.args.accepted.now in
-    subst CanJoin (sym c.flat-pipe.ensures) (can_join (pipe_view a.typed.pipe) a.kept a.source a.letters a.compiled)
+pub emit_all-requires-clause-suited : goal.emit_all-requires-clause-suited
+emit_all-requires-clause-suited g c =
+    subst (λ (f : Form). AreSuited g.L.LockModule.suits (members g.L.LockModule) f c.args.locks.now) (sym c.flat.ensures) c.requires.suited
 
 pub returns-clause-finished : goal.returns-clause-finished
 returns-clause-finished g c =
     let a = c.args.accepted.now in
     let p = pipe_view a.typed.pipe in
     let l = members g.L.LockModule in
-    let x = c.in_ok-joined.joined in
+    let x = c.in_ok-emit_all.ensures.joined in
     let n = c.finish.result in
     let shown : IsShown l (circuit_of n) (form_of p) x =
     subst (λ (y : Circuit). IsShown l y (form_of p) x) (sym c.finish.ensures.value)
-    (subst (λ (f : Form). IsShown l c.emit_outputs.new.b f x) c.flat-pipe.ensures c.in_ok-emit_outputs.ensures) in
+    (subst (λ (f : Form). IsShown l c.emit_all.new.b f x) c.flat.ensures c.in_ok-emit_all.ensures.shown) in
     let name : n.name ≡ p.name.name = search rules in
     whole p a.kept a.source a.letters a.compiled l g.met.L.LockModule.stays x n shown name (c.finish.ensures.mems ∙ c.in_ok-mems.ensures ∙ c.mems.ensures ∙ a.told) c.finish.ensures.well
