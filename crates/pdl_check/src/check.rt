@@ -76,10 +76,10 @@ fn judge(alloc: Global, pipe: Pipe) -> Result<Accepted, Refusal>
 /// What is made of a pipe that breaks no rule, beside its types: its guards, its memories as they are told, its flat form, and its stages.
 #[derive(Drop)]
 pub struct Made {
-    guards: Guards,
-    mems: Seq<MemInfo>,
-    flat: FlatPipe,
-    graph: StageGraph,
+    pub guards: Guards,
+    pub mems: Seq<MemInfo>,
+    pub flat: FlatPipe,
+    pub graph: StageGraph,
 }
 
 // A pipe that breaks no rule, with all that is kept of it.

@@ -13,6 +13,7 @@ use pdl_kit::files::Files;
 use pdl_pipe::compile;
 use pdl_verilog::verilog_text;
 use std::alloc::Global;
+use std::mem::drop;
 
 // The text of the netlist of an accepted pipe: what is built of whatever file gives the pipe.
 fn text_of(alloc: Global, accepted: &Accepted) -> Result<Vec<u8>, NoMemory>
@@ -21,7 +22,9 @@ fn text_of(alloc: Global, accepted: &Accepted) -> Result<Vec<u8>, NoMemory>
         → IsBuilt holds source t.items) }
 {
     let netlist = compile(alloc, accepted)?;
-    verilog_text(alloc, &netlist)
+    let text = verilog_text(alloc, &netlist);
+    drop(netlist);
+    text
 }
 
 /// The text that `build` writes for a source with this name.
@@ -35,5 +38,7 @@ pub fn build<F: Files>(alloc: Global, files: &mut F, source: &str) -> Result<Vec
     ensures later { F.faults files.old ≤ F.faults files.new }
 {
     let accepted = accept(alloc, files, source)?;
-    in_memory(text_of(alloc, &accepted))
+    let text = in_memory(text_of(alloc, &accepted));
+    drop(accepted);
+    text
 }

@@ -19,6 +19,7 @@ use pdl_pipe::compile;
 use pdl_runs::run;
 use pdl_trace::accepted_line;
 use std::alloc::Global;
+use std::mem::drop;
 
 /// Reads and checks a source.
 pub fn accept<F: Files>(alloc: Global, files: &mut F, name: &str) -> Result<Accepted, Failure>
@@ -109,7 +110,9 @@ pub fn verdict<F: Files>(alloc: Global, files: &mut F, source: &str) -> Result<V
     ensures later { F.faults files.old ≤ F.faults files.new }
 {
     let accepted = accept(alloc, files, source)?;
-    in_memory(verdict_of(alloc, &accepted))
+    let text = in_memory(verdict_of(alloc, &accepted));
+    drop(accepted);
+    text
 }
 
 // The text of a run of an accepted pipe from the image with this name: the output for whatever source gives the pipe.
@@ -181,7 +184,9 @@ pub fn prepare<F: Files>(
     ensures later { F.faults files.old ≤ F.faults files.new }
 {
     let accepted = accept(alloc, files, source)?;
-    run_accepted(alloc, files, &accepted, image, cycles)
+    let text = run_accepted(alloc, files, &accepted, image, cycles);
+    drop(accepted);
+    text
 }
 
 /// The text that `seq` writes for a source and an image with these names, and so many threads.
@@ -203,5 +208,7 @@ pub fn run_in_turn<F: Files>(
     ensures later { F.faults files.old ≤ F.faults files.new }
 {
     let accepted = accept(alloc, files, source)?;
-    run_accepted_in_turn(alloc, files, &accepted, image, threads)
+    let text = run_accepted_in_turn(alloc, files, &accepted, image, threads);
+    drop(accepted);
+    text
 }

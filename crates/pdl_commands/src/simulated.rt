@@ -20,6 +20,7 @@ use pdl_runs::run;
 use pdl_vread::read_verilog;
 use pdl_vtext::read_file;
 use std::alloc::Global;
+use std::mem::drop;
 
 // Whether some memory of a netlist is delayed.
 fn has_delayed(netlist: &Netlist) -> bool
@@ -128,11 +129,13 @@ pub fn simulate<F: Files>(
     ensures later { F.faults files.old ≤ F.faults files.new }
 {
     let read = netlist_of_file(alloc, files, netlist)?;
-    match image_of_file(alloc, files, image, &read) {
+    let text = match image_of_file(alloc, files, image, &read) {
         Ok(words) => match text_of(alloc, &read, &words, cycles) {
             Ok(text) => Ok(text),
             Err(_) => Err(Failure::NoMemory),
         },
         Err(failure) => Err(failure),
-    }
+    };
+    drop(read);
+    text
 }

@@ -15,6 +15,7 @@ use pdl_runs::count;
 use pdl_trace::{Line, end_line};
 use pdl_word::mask;
 use std::alloc::Global;
+use std::mem::drop;
 
 // The word at an address; past the last one it is 0.
 fn word_at(words: &[u64], address: usize) -> u64
@@ -83,5 +84,7 @@ pub fn summary(alloc: Global, source: &[u8], words: &[u64], cycles: u32) -> Resu
     ensures err { IfErr result (TextFails source.now) }
 {
     let accepted = check(alloc, source)?;
-    in_memory(end_of(alloc, &accepted, words, cycles))
+    let line = in_memory(end_of(alloc, &accepted, words, cycles));
+    drop(accepted);
+    line
 }

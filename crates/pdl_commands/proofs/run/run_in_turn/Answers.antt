@@ -5,17 +5,17 @@ use Rattle.pdl_commands.specs.Commands.{IsSequential}
 use Rattle.pdl_commands.proofs.Preparing.{image_fails, as_before}
 use Rattle.pdl_commands.proofs.run.run_in_turn.Goals as goal
 
-pub run_accepted_in_turn-requires-clause-accepted : goal.run_accepted_in_turn-requires-clause-accepted
-run_accepted_in_turn-requires-clause-accepted g c = (c.in_ok-accepted.ensures.ok.0, c.in_ok-accepted.ensures.ok.2)
+pub run_accepted_in_turn-text-requires-clause-accepted : goal.run_accepted_in_turn-text-requires-clause-accepted
+run_accepted_in_turn-text-requires-clause-accepted g c = (c.in_ok-accepted.ensures.ok.0, c.in_ok-accepted.ensures.ok.2)
 
 pub returns-clause-ok : goal.returns-clause-ok
 returns-clause-ok g c =
     let a = c.in_ok-accepted.ensures.ok in
-    IfOk-weaker c.run_accepted_in_turn.result _ _ (λ t f. as_before (λ o. IsSequential o c.args.source.now c.args.image.now c.args.threads t.items) (g.F.Files.holds c.args.files.now) (g.F.Files.holds c.accept.new.files)
-    c.args.source.now a.0 (pipe_view c.in_ok-accepted.accepted.typed.pipe) c.accept.ensures.held a.1 a.2 (f c.args.source.now)) c.run_accepted_in_turn.ensures.ok
+    IfOk-weaker c.run_accepted_in_turn-text.result _ _ (λ t f. as_before (λ o. IsSequential o c.args.source.now c.args.image.now c.args.threads t.items) (g.F.Files.holds c.args.files.now) (g.F.Files.holds c.accept.new.files)
+    c.args.source.now a.0 (pipe_view c.in_ok-accepted.accepted.typed.pipe) c.accept.ensures.held a.1 a.2 (f c.args.source.now)) c.run_accepted_in_turn-text.ensures.ok
 
 pub returns-clause-err : goal.returns-clause-err
 returns-clause-err g c =
     let a = c.in_ok-accepted.ensures.ok in
-    IfErr-weaker c.run_accepted_in_turn.result _ _ (image_fails (g.F.Files.holds c.args.files.now) (g.F.Files.holds c.accept.new.files) (g.F.Files.faults c.args.files.now) (g.F.Files.faults c.accept.new.files) (g.F.Files.faults c.run_accepted_in_turn.new.files)
-    c.args.source.now c.args.image.now a.0 (seq c.args.source.now c.args.image.now c.args.threads) (pipe_view c.in_ok-accepted.accepted.typed.pipe) c.accept.ensures.held c.accept.ensures.later a.1 a.2 (λ rule position w. w)) c.run_accepted_in_turn.ensures.err
+    IfErr-weaker c.run_accepted_in_turn-text.result _ _ (image_fails (g.F.Files.holds c.args.files.now) (g.F.Files.holds c.accept.new.files) (g.F.Files.faults c.args.files.now) (g.F.Files.faults c.accept.new.files) (g.F.Files.faults c.run_accepted_in_turn-text.new.files)
+    c.args.source.now c.args.image.now a.0 (seq c.args.source.now c.args.image.now c.args.threads) (pipe_view c.in_ok-accepted.accepted.typed.pipe) c.accept.ensures.held c.accept.ensures.later a.1 a.2 (λ rule position w. w)) c.run_accepted_in_turn-text.ensures.err
