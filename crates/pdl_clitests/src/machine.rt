@@ -1,5 +1,5 @@
 // A run held against the machine of its pipe.
-ghost use Rattle.std.specs.Prelude.{◌≤◌, length, IfOk};
+ghost use Rattle.std.specs.Prelude.{◌≡◌, ◌≤◌, length, IfOk};
 ghost use Rattle.pdl_tree.specs.View.{pipe_view};
 ghost use Rattle.pdl_image.specs.Images.{IsImage};
 ghost use Rattle.pdl_rules.specs.Memories.{infos_of};
@@ -15,6 +15,7 @@ use pdl_kit::{MemSink, NoMemory};
 use pdl_machine::Machine;
 use pdl_trace::{commit_line, end_line};
 use std::alloc::Global;
+use std::mem::drop;
 use std::process::Abort;
 
 // An output of the machine in its last cycle, 0 where there is none at this place.
@@ -61,7 +62,32 @@ fn push_commits(
     Ok(at)
 }
 
-// The lines of the machine of a pipe. Of its outputs two of each stage stand first, then three of each memory with a lock, then whether a thread ended.
+// Puts the lines of so many cycles of the machine of a pipe, from its first on. Of its outputs two of each stage stand first, then three of each memory with a lock, then whether a thread ended.
+fn put_lines(
+    text: &mut Vec<u8>,
+    machine: &mut Machine<'_>,
+    accepted: &Accepted,
+    cycles: u32,
+) -> Result<(), NoMemory>
+    requires begun { machine.old.cycles ≡ 0 }
+    requires few { cycles ≤ 1000000 }
+{
+    let first = accepted.graph().count().saturating_mul(2);
+    let mems = accepted.flat().mems();
+    let mut ended: u32 = 0;
+    for done in 0..cycles {
+        machine.cycle(u16::MAX);
+        let last = push_commits(text, done + 1, machine, mems, first)?;
+        if shown(machine, last) == 1 {
+            ended += 1;
+        }
+    }
+    let line = end_line(cycles, ended, 0, 0);
+    text.extend_from_slice(line.as_bytes())?;
+    Ok(())
+}
+
+// The lines of the machine of a pipe.
 fn machine_lines(
     alloc: Global,
     accepted: &Accepted,
@@ -71,20 +97,9 @@ fn machine_lines(
     requires image { IsImage (infos_of (pipe_view accepted.now.typed.pipe).mems) image.now }
     requires few { cycles ≤ 1000000 }
 {
-    let first = accepted.graph().count().saturating_mul(2);
-    let mems = accepted.flat().mems();
-    let mut machine = Machine::new(alloc, accepted, image)?;
     let mut text = Vec::new(alloc);
-    let mut ended: u32 = 0;
-    for done in 0..cycles {
-        machine.cycle(u16::MAX);
-        let last = push_commits(&mut text, done + 1, &machine, mems, first)?;
-        if shown(&machine, last) == 1 {
-            ended += 1;
-        }
-    }
-    let line = end_line(cycles, ended, 0, 0);
-    text.extend_from_slice(line.as_bytes())?;
+    let mut machine = Machine::new(alloc, accepted, image)?;
+    put_lines(&mut text, &mut machine, accepted, cycles)?;
     Ok(text)
 }
 
@@ -96,15 +111,31 @@ fn image_of(alloc: Global, accepted: &Accepted, text: &[u8]) -> Result<Image, Fi
     read_image(alloc, accepted.mems(), text)
 }
 
-// The same of its source and its image, if they are taken.
+// The same of the text of an image, if it is taken.
+fn image_lines(alloc: Global, accepted: &Accepted, image: &[u8], cycles: u32) -> Option<Vec<u8>>
+    requires image { length image.now ≤ LONGEST_FILE }
+    requires few { cycles ≤ 1000000 }
+{
+    match image_of(alloc, accepted, image) {
+        Ok(words) => machine_lines(alloc, accepted, &words, cycles).ok(),
+        Err(_) => None,
+    }
+}
+
+// The same of a source too, if it is taken.
 fn machine_text(alloc: Global, source: &[u8], image: &[u8], cycles: u32) -> Option<Vec<u8>>
     requires source { length source.now ≤ LONGEST_FILE }
     requires image { length image.now ≤ LONGEST_FILE }
     requires few { cycles ≤ 1000000 }
 {
-    let accepted = check(alloc, source).ok()?;
-    let words = image_of(alloc, &accepted, image).ok()?;
-    machine_lines(alloc, &accepted, &words, cycles).ok()
+    match check(alloc, source) {
+        Ok(accepted) => {
+            let text = image_lines(alloc, &accepted, image, cycles);
+            drop(accepted);
+            text
+        }
+        Err(_) => None,
+    }
 }
 
 // Whether what is built of a source prints this by `sim`.

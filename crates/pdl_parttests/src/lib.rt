@@ -1,0 +1,40 @@
+//! What no row of the program asks of its parts: faults of files and sinks, forms that aren't compiled yet, each lock alone and in a netlist, simulated netlists, flat forms as registers and nets, and public calls that the program doesn't make.
+//!
+//! It has tests alone, and nothing stands on it.
+#![tactic(auto)]
+
+#[cfg(test)]
+mod build_rows;
+pub mod drives;
+#[cfg(test)]
+mod flatnets_rows;
+#[cfg(test)]
+mod form_rows;
+#[cfg(test)]
+mod judge_rows;
+#[cfg(test)]
+mod kit_rows;
+#[cfg(test)]
+mod lives_rows;
+#[cfg(test)]
+mod lock_rows;
+#[cfg(test)]
+mod locks;
+#[cfg(test)]
+mod netrun_rows;
+#[cfg(test)]
+mod pending_rows;
+#[cfg(test)]
+mod plan_rows;
+#[cfg(test)]
+mod stagenets_rows;
+#[cfg(test)]
+mod stageregs_rows;
+#[cfg(test)]
+mod text_rows;
+#[cfg(test)]
+mod token_rows;
+#[cfg(test)]
+mod values_rows;
+#[cfg(test)]
+mod word_rows;

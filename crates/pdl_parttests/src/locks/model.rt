@@ -1,0 +1,149 @@
+// A lock as one would write it by hand: tickets that only grow, and a list of the pending writes.
+use crate::locks::board::{number, put};
+use pdl_kit::NoMemory;
+use std::alloc::Global;
+
+/// A pending write; its ticket is that of the oldest one and its place in the list together.
+#[derive(Clone, Copy)]
+struct Pending {
+    addr: u64,
+    value: Option<u64>,
+}
+
+/// What a cycle does.
+#[derive(Clone, Copy)]
+pub struct Act {
+    pub reserve: Option<u64>,
+    pub write: Option<(u64, u64)>,
+    pub release: bool,
+    pub tail: Option<u64>,
+}
+
+/// What a read finds: whether it is ready, and the word.
+#[derive(Clone, Copy)]
+pub struct Found {
+    pub ready: bool,
+    pub word: u64,
+}
+
+#[derive(Drop)]
+pub struct Lock {
+    /// Whether reads see pending values.
+    sees_pending: bool,
+    size: usize,
+    /// The ticket of the oldest pending write, or of the next one.
+    base: u64,
+    pending: Vec<Pending>,
+    words: Vec<u64>,
+}
+
+impl Lock {
+    /// A lock of so many writes over the words of an image, where reads see pending values or wait for them.
+    pub fn new(
+        alloc: Global,
+        sees_pending: bool,
+        size: u8,
+        image: &[u64],
+    ) -> Result<Lock, NoMemory> {
+        Ok(Lock {
+            sees_pending,
+            size: size as usize,
+            base: 0,
+            pending: Vec::new(alloc),
+            words: Vec::from_slice(alloc, image)?,
+        })
+    }
+
+    /// Whether one more write may be pending.
+    pub fn has_room(&self) -> bool {
+        self.pending.len() < self.size
+    }
+
+    /// How many writes are pending.
+    pub fn count(&self) -> u64 {
+        self.pending.len() as u64
+    }
+
+    /// The ticket of the oldest pending write, or of the next one.
+    pub fn base(&self) -> u64 {
+        self.base
+    }
+
+    /// The ticket of the next reservation.
+    pub fn next(&self) -> u64 {
+        self.base.wrapping_add(self.count())
+    }
+
+    /// Whether the oldest pending write has its value.
+    pub fn is_done(&self) -> bool {
+        match self.pending.first() {
+            Some(p) => p.value.is_some(),
+            None => false,
+        }
+    }
+
+    /// What a read finds in a pending write.
+    fn seen(&self, value: Option<u64>) -> Found {
+        let word = value.unwrap_or(0);
+        let ready = self.sees_pending & value.is_some();
+        Found { ready, word }
+    }
+
+    /// What a read at an address finds among the writes below a ticket.
+    pub fn find(&self, addr: u64, ticket: u64) -> Found {
+        let word = number(self.words.as_slice(), addr as usize);
+        let mut found = Found { ready: true, word };
+        let mut at = self.base;
+        for p in self.pending.as_slice() {
+            if at < ticket && p.addr == addr {
+                found = self.seen(p.value);
+            }
+            at = at.wrapping_add(1);
+        }
+        found
+    }
+
+    /// Whether a write at an address may go.
+    pub fn may_write(&self, addr: u64, ticket: u64) -> bool {
+        self.sees_pending | self.find(addr, ticket).ready
+    }
+
+    /// Puts the value of a pending write.
+    fn put(&mut self, ticket: u64, value: u64) {
+        let at = ticket.wrapping_sub(self.base) as usize;
+        if let Some(p) = self.pending.get_mut(at) {
+            p.value = Some(value);
+        }
+    }
+
+    /// Appends and writes; where memory runs out the lock falls behind the circuit.
+    pub fn fill(&mut self, act: Act) {
+        if let Some(addr) = act.reserve {
+            let _ = self.pending.push(Pending { addr, value: None });
+        }
+        if let Some((ticket, value)) = act.write {
+            self.put(ticket, value);
+        }
+    }
+
+    /// Takes the oldest pending write out, into the memory.
+    fn release(&mut self) -> Option<(u64, u64)> {
+        if self.pending.is_empty() {
+            return None;
+        }
+        let oldest = self.pending.remove(0);
+        self.base = self.base.wrapping_add(1);
+        let value = oldest.value.unwrap_or(0);
+        put(self.words.as_mut_slice(), oldest.addr as usize, value);
+        Some((oldest.addr, value))
+    }
+
+    /// Releases and squashes; answers what is committed.
+    pub fn leave(&mut self, act: Act) -> Option<(u64, u64)> {
+        let committed = if act.release { self.release() } else { None };
+        if let Some(tail) = act.tail {
+            self.pending.truncate(tail.wrapping_sub(self.base) as usize);
+        }
+        committed
+    }
+}
