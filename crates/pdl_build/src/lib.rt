@@ -14,15 +14,14 @@ ghost use Rattle.pdl_net.specs.Well.{Fits, IsWell, IsDepth};
 ghost use Rattle.pdl_net.specs.Growth.{Extends, ExtendsBut, ExtendsPorts, ExtendsArrays};
 ghost use Rattle.pdl_build.specs.Change.{empty_circuit, with_cell, with_port, input_port, output_port, with_reg, with_next, new_shape, with_array, with_write, write_port, one_reg, one_array, IsNewReg, IsNewArray};
 
-use indexmap::IndexMap;
 use pdl_kit::{MemInfo, Name, NoMemory, Seq};
 use pdl_net::{Array, BinOp, Cell, Dir, Net, Netlist, Port, Reg, WritePort};
 use same::{is_same_cell, is_same_net};
 use std::alloc::Global;
+use std::collections::HashMap;
 use std::marker::Model;
 
 /// A netlist that grows.
-#[derive(Drop)]
 pub struct Builder {
     alloc: Global,
     ports: Vec<Port>,
@@ -33,7 +32,23 @@ pub struct Builder {
     input_widths: Vec<u8>,
     cell_widths: Vec<u8>,
     /// Where a cell may be found again; what stands there is compared before it is used.
-    places: IndexMap<Cell, usize>,
+    places: HashMap<Cell, usize>,
+}
+
+// As the derive would, but by a call of its owners: docs/DECISIONS.md says why.
+impl Drop for Builder {
+    fn drop(self) {
+        let Builder {
+            alloc: _,
+            ports: _,
+            regs: _,
+            arrays: _,
+            cells: _,
+            input_widths: _,
+            cell_widths: _,
+            places: _,
+        } = self;
+    }
 }
 
 impl Model for Builder {
@@ -61,7 +76,7 @@ impl Builder {
             cells: Vec::new(alloc),
             input_widths: Vec::new(alloc),
             cell_widths: Vec::new(alloc),
-            places: IndexMap::new(alloc),
+            places: HashMap::new(alloc),
         }
     }
 
@@ -321,12 +336,22 @@ impl Builder {
         ensures mems { result.mems ≡ mems }
         ensures well { IsWell (circuit_of result) }
     {
+        let Builder {
+            alloc: _,
+            ports,
+            regs,
+            arrays,
+            cells,
+            input_widths: _,
+            cell_widths: _,
+            places: _,
+        } = self;
         Netlist {
             name,
-            ports: Seq::from_vec(self.ports),
-            regs: Seq::from_vec(self.regs),
-            arrays: Seq::from_vec(self.arrays),
-            cells: Seq::from_vec(self.cells),
+            ports: Seq::from_vec(ports),
+            regs: Seq::from_vec(regs),
+            arrays: Seq::from_vec(arrays),
+            cells: Seq::from_vec(cells),
             mems,
         }
     }

@@ -3,16 +3,16 @@
 //! The layers above may use `lower`, and the lemma that a pipe which keeps the rules can be lowered.
 #![tactic(auto)]
 
-pub mod append;
+mod append;
 mod body;
 mod both;
-pub mod count;
-pub mod expr;
-pub mod mems;
-pub mod parts;
-pub mod pipe;
-pub mod row;
-pub mod vars;
-pub mod walk;
+mod count;
+mod expr;
+mod mems;
+mod parts;
+mod pipe;
+mod row;
+mod vars;
+mod walk;
 
 pub use pipe::lower;

@@ -3,7 +3,7 @@ use Rattle.std.proofs.Common.{◌≡◌, ◌≢◌, ℕ, suc, ◌+◌, Bool, tru
 use Rattle.std.proofs.lemmas.Slice.Eq.{bytes_eq-Decides}
 use Rattle.std.specs.Option.{option_map}
 use Rattle.std.specs.Cmp.Lexicographic.{pointwise}
-use Rattle.indexmap.specs.IndexMap.{get, Updates}
+use Rattle.std.specs.HashMap.{get, Updates}
 use Rattle.pdl_vnets.specs.declared.places.Places as r
 use Rattle.pdl_vnets.specs.Wired.{place, shifted}
 use Rattle.pdl_vnets.specs.Places.{AreFirsts}

@@ -1,6 +1,6 @@
 -- Which declarations a map of names tells.
 use Rattle.std.specs.Prelude.{◌≡◌, ℕ, List, length, nat_eq}
-use Rattle.indexmap.specs.IndexMap.{get}
+use Rattle.std.specs.HashMap.{get}
 use Rattle.std.specs.Cmp.Lexicographic.{pointwise}
 use Rattle.pdl_vnets.specs.declared.places.Places as r
 use Rattle.pdl_vnets.specs.Wired.{place}

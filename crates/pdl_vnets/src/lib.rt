@@ -4,8 +4,8 @@
 #![tactic(auto)]
 
 pub mod passes;
-pub mod places;
-pub mod scope;
+mod places;
+mod scope;
 pub mod wiring;
 
 pub use passes::{Stop, wire};

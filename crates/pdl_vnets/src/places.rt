@@ -3,14 +3,14 @@ ghost use Rattle.std.specs.Prelude.{◌≡◌, ◌++◌, ◌∷◌, ◌<◌, ◌
 ghost use Rattle.pdl_vnets.specs.Places.{AreFirsts};
 ghost use Rattle.pdl_vnets.specs.Wired.{place};
 
-use indexmap::IndexMap;
 use pdl_kit::{Name, NoMemory};
 use std::alloc::Global;
+use std::collections::HashMap;
 
 /// Where each name was first declared, counted from 0, and how many declarations there are.
 #[derive(Drop)]
 pub struct Places {
-    firsts: IndexMap<Name, usize>,
+    firsts: HashMap<Name, usize>,
     count: usize,
 }
 
@@ -20,7 +20,7 @@ impl Places {
         ensures { AreFirsts [] result }
     {
         Places {
-            firsts: IndexMap::new(alloc),
+            firsts: HashMap::new(alloc),
             count: 0,
         }
     }

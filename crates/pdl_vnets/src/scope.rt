@@ -11,7 +11,6 @@ use pdl_vtext::{ArrayDecl, File, PortDecl, RegDecl};
 use std::alloc::Global;
 
 /// The declarations of a file by their names; of its cells those before a place.
-#[derive(Drop)]
 pub struct Scope<'a> {
     file: &'a File,
     ports: Places,
@@ -19,6 +18,13 @@ pub struct Scope<'a> {
     regs: Places,
     arrays: Places,
     cells: Places,
+}
+
+// As the derive would, but by a call of its owners: docs/DECISIONS.md says why.
+impl Drop for Scope<'_> {
+    fn drop(self) {
+        let Scope { file: _, ports: _, nets: _, regs: _, arrays: _, cells: _ } = self;
+    }
 }
 
 impl<'a> Scope<'a> {

@@ -1,4 +1,6 @@
 // The nets that a file's names stand for.
+ghost use Rattle.std.specs.Prelude.{◌≡◌};
+
 use pdl_kit::Seq;
 use pdl_net::{Cell, Net, WritePort};
 
@@ -26,10 +28,31 @@ pub struct ArrayWrite {
 }
 
 /// All cells, `assign`s and blocks of a file, in its order.
-#[derive(Drop)]
 pub struct Wiring {
     pub cells: Seq<Cell>,
     pub outputs: Seq<OutputDrive>,
     pub regs: Seq<RegDrive>,
     pub blocks: Seq<Seq<ArrayWrite>>,
+}
+
+impl Wiring {
+    /// Its cells, and nothing else.
+    pub fn into_cells(self) -> Seq<Cell>
+        ensures { result ≡ self.cells }
+    {
+        let Wiring {
+            cells,
+            outputs: _,
+            regs: _,
+            blocks: _,
+        } = self;
+        cells
+    }
+}
+
+// As the derive would, but by a call of its owners: docs/DECISIONS.md says why.
+impl Drop for Wiring {
+    fn drop(self) {
+        let Wiring { cells: _, outputs: _, regs: _, blocks: _ } = self;
+    }
 }

@@ -1,5 +1,5 @@
 use Rattle.std.proofs.Common.{refl, subst, Some}
-use Rattle.indexmap.specs.IndexMap.{Updates}
+use Rattle.std.specs.HashMap.{Updates}
 use Rattle.pdl_vnets.proofs.Entries.{same, added_there, added_new, is_there}
 use Rattle.pdl_vnets.proofs.places.Places.add.Goals as goal
 
