@@ -9,9 +9,15 @@ use std::alloc::Global;
 use std::marker::Model;
 
 /// Values by name, in the order of their definitions, of which each name has its first.
-#[derive(Drop)]
 pub struct Dictionary<T> {
     values: IndexMap<Name, T>,
+}
+
+// As the derive would, but by a call of its owners: docs/DECISIONS.md says why.
+impl<T: Drop> Drop for Dictionary<T> {
+    fn drop(self) {
+        let Dictionary { values: _ } = self;
+    }
 }
 
 impl<T> Model for Dictionary<T> {

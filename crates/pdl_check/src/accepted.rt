@@ -25,7 +25,6 @@ use pdl_tree::Pipe;
 use pdl_typed::TypedPipe;
 
 /// A pipe that is read from a text and breaks no rule, with the widths of its variables, its guards in text order, its memories in declared order, the stages of its locks and verifies, its flat form, and its stages.
-#[derive(Drop)]
 pub struct Accepted {
     pub typed: TypedPipe,
     pub guards: Guards,
@@ -44,6 +43,13 @@ pub struct Accepted {
     pub ghost lowered: { IsTrue (same_form (form flat) (form_of (pipe_view typed.pipe))) },
     pub ghost staged: { graph
         ≡ graph_of (flat_of (pipe_view typed.pipe)) (places (pipe_view typed.pipe)) },
+}
+
+// As the derive would, but by a call of its owners: docs/DECISIONS.md says why.
+impl Drop for Accepted {
+    fn drop(self) {
+        let Accepted { typed: _, guards: _, mems: _, plans: _, flat: _, graph: _ } = self;
+    }
 }
 
 impl Accepted {

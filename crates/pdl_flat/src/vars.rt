@@ -19,11 +19,17 @@ pub struct Variable {
 }
 
 /// Variables in the order of their definitions; of a name that is defined twice the first definition holds.
-#[derive(Drop)]
 pub struct Vars {
     // The number of each name.
     numbers: IndexMap<Name, usize>,
     vars: Vec<Variable>,
+}
+
+// As the derive would, but by a call of its owners: docs/DECISIONS.md says why.
+impl Drop for Vars {
+    fn drop(self) {
+        let Vars { numbers: _, vars: _ } = self;
+    }
 }
 
 impl Model for Vars {

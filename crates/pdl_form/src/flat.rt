@@ -8,7 +8,6 @@ use crate::form::{Mem, Stage, Stmt};
 use pdl_kit::Seq;
 
 /// A pipe in flat form: what its threads, its machine and its circuit are made from.
-#[derive(Drop)]
 pub struct FlatPipe {
     pub(crate) widths: Vec<u8>,
     pub(crate) mems: Vec<Mem>,
@@ -22,4 +21,21 @@ pub struct FlatPipe {
     pub(crate) rows: Vec<Seq<usize>>,
     pub ghost told: { verified ≡ verify_stage (stmts_view stmts.items) },
     pub ghost by_stage: { rows.items ≡ rows_below (length stages.items) (stmts_view stmts.items) },
+}
+
+// As the derive would, but by a call of its owners: docs/DECISIONS.md says why.
+impl Drop for FlatPipe {
+    fn drop(self) {
+        let FlatPipe {
+            widths: _,
+            mems: _,
+            stmts: _,
+            stages: _,
+            start: _,
+            reserved: _,
+            released: _,
+            verified: _,
+            rows: _,
+        } = self;
+    }
 }

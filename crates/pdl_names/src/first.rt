@@ -9,9 +9,15 @@ use std::alloc::Global;
 use std::marker::Model;
 
 /// Names, each with the number of the place that defines it first.
-#[derive(Drop)]
 pub struct First {
     numbers: IndexMap<Name, usize>,
+}
+
+// As the derive would, but by a call of its owners: docs/DECISIONS.md says why.
+impl Drop for First {
+    fn drop(self) {
+        let First { numbers: _ } = self;
+    }
 }
 
 impl Model for First {

@@ -1,5 +1,5 @@
 // The definitions of a pipe.
-ghost use Rattle.std.specs.Prelude.{◌≡◌, ◌+◌, ◌<◌, [], length, map, take, IfOk, OnOk};
+ghost use Rattle.std.specs.Prelude.{◌≡◌, ◌+◌, ◌<◌, [], length, map, take, OnOk};
 ghost use Rattle.pdl_paths.specs.Actions.{place_view};
 ghost use Rattle.pdl_names.specs.Index.{IsIndex};
 
@@ -18,17 +18,8 @@ pub struct Index {
 }
 
 impl Index {
-    /// The names that these places define.
-    pub fn of(alloc: Global, places: &[Place<'_>]) -> Result<Index, NoMemory>
-        ensures { IfOk result (λ index. IsIndex index (map place_view places.now)) }
-    {
-        let mut index = Index::new(alloc);
-        index.add_all(places)?;
-        Ok(index)
-    }
-
-    // No names yet.
-    fn new(alloc: Global) -> Index
+    /// No names yet.
+    pub fn new(alloc: Global) -> Index
         ensures { IsIndex result [] }
     {
         Index {
@@ -39,8 +30,8 @@ impl Index {
         }
     }
 
-    // Adds what these places define.
-    fn add_all(&mut self, places: &[Place<'_>]) -> Result<(), NoMemory>
+    /// Adds what these places define.
+    pub fn add_all(&mut self, places: &[Place<'_>]) -> Result<(), NoMemory>
         requires { IsIndex self.old [] }
         ensures { OnOk result (IsIndex self.new (map place_view places.now)) }
     {

@@ -7,6 +7,7 @@ ghost use Rattle.pdl_rules.specs.Refusal.{broken_line, first_broken};
 ghost use Rattle.pdl_paths.specs.Actions.{place_view};
 ghost use Rattle.pdl_paths.specs.Masks.{AreMasked};
 ghost use Rattle.pdl_textrules.specs.Refused.{refused_of};
+ghost use Rattle.pdl_names.specs.Index.{IsIndex};
 ghost use Rattle.pdl_names.specs.Ready.{Suits, SuitsPaths};
 ghost use Rattle.pdl_names.specs.Order.{name_rules};
 
@@ -17,6 +18,7 @@ use pdl_paths::{Guards, Place};
 use pdl_textrules::{Broken, line_broken};
 use pdl_tree::Pipe;
 use std::alloc::Global;
+use std::mem::drop;
 
 /// The lowest rule on names, N1 to N3, that a pipe with these guards and places breaks, at its lowest place; none where it keeps them.
 pub fn check_names(
@@ -32,8 +34,30 @@ pub fn check_names(
     ensures { IfOk result (λ broken.
         option_map refused_of broken ≡ first_broken name_rules (pipe_view pipe.now)) }
 {
-    let index = Index::of(alloc, places)?;
-    lowest(alloc, pipe, &index, guards, places)
+    let mut index = Index::new(alloc);
+    let broken = lowest_filled(alloc, pipe, &mut index, guards, places);
+    drop(index);
+    broken
+}
+
+// The same, where there is room for the names that the places define.
+fn lowest_filled(
+    alloc: Global,
+    pipe: &Pipe,
+    index: &mut Index,
+    guards: &Guards,
+    places: &[Place<'_>],
+) -> Result<Option<Broken>, NoMemory>
+    requires few { length guards.now ≤ 10 }
+    requires own { guards.now ≡ spec_guards (spec_places (pipe_view pipe.now)) }
+    requires masks { AreMasked guards.now places.now }
+    requires places { map place_view places.now ≡ spec_places (pipe_view pipe.now) }
+    requires empty { IsIndex index.old [] }
+    ensures { IfOk result (λ broken.
+        option_map refused_of broken ≡ first_broken name_rules (pipe_view pipe.now)) }
+{
+    index.add_all(places)?;
+    lowest(alloc, pipe, index, guards, places)
 }
 
 // The same with the names that the places define.

@@ -99,7 +99,6 @@ pub struct Array {
 }
 
 /// A netlist: its ports but for the clock and the reset, its registers, arrays and cells, and the memories of the pipe that it carries out.
-#[derive(Drop)]
 pub struct Netlist {
     pub name: Name,
     pub ports: Seq<Port>,
@@ -107,4 +106,11 @@ pub struct Netlist {
     pub arrays: Seq<Array>,
     pub cells: Seq<Cell>,
     pub mems: Seq<MemInfo>,
+}
+
+// As the derive would, but by a call of its owners: docs/DECISIONS.md says why.
+impl Drop for Netlist {
+    fn drop(self) {
+        let Netlist { name: _, ports: _, regs: _, arrays: _, cells: _, mems: _ } = self;
+    }
 }

@@ -30,7 +30,6 @@ use std::marker::Model;
 ///
 /// Its plan is made once: one list of values for inputs, registers and cells, and for each cell a step over places in that list, so that a cycle looks up no net and no width.
 /// Between cycles it holds the values of registers and arrays at the start of the next cycle, and those of the outputs in the last one.
-#[derive(Drop)]
 pub struct Sim<'a> {
     net: &'a Netlist,
     first_reg: usize,
@@ -44,6 +43,26 @@ pub struct Sim<'a> {
     arrays: Vec<Vec<u64>>,
     next: Vec<u64>,
     outs: Vec<u64>,
+}
+
+// As the derive would, but by a call of its owners: docs/DECISIONS.md says why.
+impl Drop for Sim<'_> {
+    fn drop(self) {
+        let Sim {
+            net: _,
+            first_reg: _,
+            first_cell: _,
+            steps: _,
+            nexts: _,
+            drivers: _,
+            writes: _,
+            commits: _,
+            values: _,
+            arrays: _,
+            next: _,
+            outs: _,
+        } = self;
+    }
 }
 
 impl<'a> Model for Sim<'a> {

@@ -9,7 +9,6 @@ use crate::stage::Slot;
 use pdl_pending::{Reserved, Written};
 
 /// What the statements of a stage on its thread's path have done so far: its values and what it holds, whether its blocks were ready and its reservations had room, the reservations, the writes, the memories whose write reservation was released, and the arguments of the thread that it called, if it did.
-#[derive(Drop)]
 pub struct Deeds {
     pub values: Vec<u64>,
     pub held: Vec<Place>,
@@ -19,6 +18,22 @@ pub struct Deeds {
     pub releases: Vec<usize>,
     pub called: bool,
     pub args: Vec<u64>,
+}
+
+// As the derive would, but by a call of its owners: docs/DECISIONS.md says why.
+impl Drop for Deeds {
+    fn drop(self) {
+        let Deeds {
+            values: _,
+            held: _,
+            ready: _,
+            reserves: _,
+            writes: _,
+            releases: _,
+            called: _,
+            args: _,
+        } = self;
+    }
 }
 
 // Copies places into a vector in place of what it held.

@@ -19,7 +19,6 @@ use pdl_pending::Memory;
 use std::alloc::Global;
 
 /// A run of a pipe whose stages stand in a line, whose memories answer at once, and that guesses nothing: its threads by their stages, its memories with their pending writes, and what its ports showed in the last cycle.
-#[derive(Drop)]
 pub struct Run {
     memories: Vec<Memory>,
     stages: Vec<Stage>,
@@ -27,6 +26,13 @@ pub struct Run {
     way: Slot,
     next: u64,
     shown: Vec<u64>,
+}
+
+// As the derive would, but by a call of its owners: docs/DECISIONS.md says why.
+impl Drop for Run {
+    fn drop(self) {
+        let Run { memories: _, stages: _, way: _, next: _, shown: _ } = self;
+    }
 }
 
 impl Run {

@@ -41,7 +41,6 @@ pub struct BirthNet {
 }
 
 /// A stage on the way through its statements: its variables by their numbers, what it holds for writing, whether the locks let its thread move so far (1 bit), and what it does.
-#[derive(Drop)]
 pub struct WalkNets {
     pub vars: Vec<Net>,
     /// Of two entries of one location the first counts; a location without entry is not held.
@@ -54,4 +53,20 @@ pub struct WalkNets {
     pub births: Vec<BirthNet>,
     /// The arguments of the guess.
     pub guess: Seq<Net>,
+}
+
+// As the derive would, but by a call of its owners: docs/DECISIONS.md says why.
+impl Drop for WalkNets {
+    fn drop(self) {
+        let WalkNets {
+            vars: _,
+            held: _,
+            ready: _,
+            reserves: _,
+            puts: _,
+            lettings: _,
+            births: _,
+            guess: _,
+        } = self;
+    }
 }

@@ -13,7 +13,6 @@ pub enum Item {
 }
 
 /// A stage: what it begins with, and its nets after its statements.
-#[derive(Drop)]
 pub struct StageNets {
     /// The register that tells whether it holds a thread; those of `kept` follow it, in order.
     pub valid: usize,
@@ -25,6 +24,13 @@ pub struct StageNets {
     /// The tickets by the numbers of their memories, the whole stage long.
     pub tickets: Seq<Net>,
     pub end: WalkNets,
+}
+
+// As the derive would, but by a call of its owners: docs/DECISIONS.md says why.
+impl Drop for StageNets {
+    fn drop(self) {
+        let StageNets { valid: _, kept: _, vars: _, held: _, tickets: _, end: _ } = self;
+    }
 }
 
 /// What all stages share: the bits, a zero of the width of each variable, and the next ticket of each memory's lock, a bit that is 0 where it has none.

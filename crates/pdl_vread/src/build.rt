@@ -238,11 +238,11 @@ fn netlist_with(alloc: Global, file: File, wiring: Wiring, parts: Parts) -> Netl
     } }
 {
     Netlist {
-        name: file.name,
+        name: file.into_name(),
         ports: parts.ports,
         regs: parts.regs,
         arrays: parts.arrays,
-        cells: wiring.cells,
+        cells: wiring.into_cells(),
         mems: Seq::new(alloc),
     }
 }

@@ -8,7 +8,6 @@ use pdl_vtext::{ArrayDecl, CellDecl, File, PortDecl, RegDecl};
 use std::alloc::Global;
 
 /// The declared widths of ports, inputs, registers, words of arrays and cells, and the depths of arrays.
-#[derive(Drop)]
 pub struct Widths {
     pub ports: Seq<u8>,
     pub inputs: Seq<u8>,
@@ -16,6 +15,13 @@ pub struct Widths {
     pub words: Seq<u8>,
     pub depths: Seq<u64>,
     pub cells: Seq<u8>,
+}
+
+// As the derive would, but by a call of its owners: docs/DECISIONS.md says why.
+impl Drop for Widths {
+    fn drop(self) {
+        let Widths { ports: _, inputs: _, regs: _, words: _, depths: _, cells: _ } = self;
+    }
 }
 
 /// The bits of a range up to its highest bit; 255 stands for 255 and more.

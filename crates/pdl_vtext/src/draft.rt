@@ -17,7 +17,6 @@ use std::alloc::Global;
 use std::mem;
 
 /// What was declared so far, and of a declaration that isn't whole its line, name, highest bit, target and first operand, or its writes.
-#[derive(Drop)]
 pub struct Draft {
     pub file: File,
     pub line: u32,
@@ -26,6 +25,13 @@ pub struct Draft {
     pub target: Name,
     pub operand: Name,
     pub writes: Seq<WriteDecl>,
+}
+
+// As the derive would, but by a call of its owners: docs/DECISIONS.md says why.
+impl Drop for Draft {
+    fn drop(self) {
+        let Draft { file: _, line: _, high: _, name: _, target: _, operand: _, writes: _ } = self;
+    }
 }
 
 fn text_at<'a>(found: &[Token<'a>], i: usize) -> &'a [u8]
@@ -357,7 +363,16 @@ impl Draft {
     pub fn into_file(self) -> File
         ensures { result ≡ self.file }
     {
-        self.file
+        let Draft {
+            file,
+            line: _,
+            high: _,
+            name: _,
+            target: _,
+            operand: _,
+            writes: _,
+        } = self;
+        file
     }
 
     /// Takes the tokens of a rule.

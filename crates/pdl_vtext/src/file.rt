@@ -1,4 +1,6 @@
 //! What a text of the subset declares, with the lines of what it declares and with names as they are written.
+ghost use Rattle.std.specs.Prelude.{◌≡◌};
+
 use pdl_kit::{Name, Seq};
 use pdl_net::BinOp;
 
@@ -87,7 +89,6 @@ pub struct ArrayBlock {
 }
 
 /// A whole file: the line and name of its module without `pdl_`, the line and highest bit of `rst`, and all that it declares, in the order of the text.
-#[derive(Drop)]
 pub struct File {
     pub line: u32,
     pub name: Name,
@@ -100,4 +101,45 @@ pub struct File {
     pub outputs: Seq<OutputDecl>,
     pub reg_blocks: Seq<RegBlock>,
     pub array_blocks: Seq<ArrayBlock>,
+}
+
+impl File {
+    /// The name of its module, and nothing else.
+    pub fn into_name(self) -> Name
+        ensures { result ≡ self.name }
+    {
+        let File {
+            line: _,
+            name,
+            reset_line: _,
+            reset_high: _,
+            ports: _,
+            regs: _,
+            arrays: _,
+            cells: _,
+            outputs: _,
+            reg_blocks: _,
+            array_blocks: _,
+        } = self;
+        name
+    }
+}
+
+// As the derive would, but by a call of its owners: docs/DECISIONS.md says why.
+impl Drop for File {
+    fn drop(self) {
+        let File {
+            line: _,
+            name: _,
+            reset_line: _,
+            reset_high: _,
+            ports: _,
+            regs: _,
+            arrays: _,
+            cells: _,
+            outputs: _,
+            reg_blocks: _,
+            array_blocks: _,
+        } = self;
+    }
 }

@@ -16,9 +16,15 @@ use std::alloc::Global;
 use std::marker::Model;
 
 /// Variables, each by its first definition, with its width in bits.
-#[derive(Drop)]
 pub struct Variables {
     widths: IndexMap<Name, u128>,
+}
+
+// As the derive would, but by a call of its owners: docs/DECISIONS.md says why.
+impl Drop for Variables {
+    fn drop(self) {
+        let Variables { widths: _ } = self;
+    }
 }
 
 impl Model for Variables {
