@@ -48,7 +48,14 @@ pub struct Accepted {
 // As the derive would, but by a call of its owners: docs/DECISIONS.md says why.
 impl Drop for Accepted {
     fn drop(self) {
-        let Accepted { typed: _, guards: _, mems: _, plans: _, flat: _, graph: _ } = self;
+        let Accepted {
+            typed: _,
+            guards: _,
+            mems: _,
+            plans: _,
+            flat: _,
+            graph: _,
+        } = self;
     }
 }
 

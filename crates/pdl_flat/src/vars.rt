@@ -28,7 +28,10 @@ pub struct Vars {
 // As the derive would, but by a call of its owners: docs/DECISIONS.md says why.
 impl Drop for Vars {
     fn drop(self) {
-        let Vars { numbers: _, vars: _ } = self;
+        let Vars {
+            numbers: _,
+            vars: _,
+        } = self;
     }
 }
 

@@ -111,6 +111,13 @@ pub struct Netlist {
 // As the derive would, but by a call of its owners: docs/DECISIONS.md says why.
 impl Drop for Netlist {
     fn drop(self) {
-        let Netlist { name: _, ports: _, regs: _, arrays: _, cells: _, mems: _ } = self;
+        let Netlist {
+            name: _,
+            ports: _,
+            regs: _,
+            arrays: _,
+            cells: _,
+            mems: _,
+        } = self;
     }
 }

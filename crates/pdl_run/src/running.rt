@@ -31,7 +31,13 @@ pub struct Run {
 // As the derive would, but by a call of its owners: docs/DECISIONS.md says why.
 impl Drop for Run {
     fn drop(self) {
-        let Run { memories: _, stages: _, way: _, next: _, shown: _ } = self;
+        let Run {
+            memories: _,
+            stages: _,
+            way: _,
+            next: _,
+            shown: _,
+        } = self;
     }
 }
 

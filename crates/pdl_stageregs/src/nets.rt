@@ -29,7 +29,14 @@ pub struct StageNets {
 // As the derive would, but by a call of its owners: docs/DECISIONS.md says why.
 impl Drop for StageNets {
     fn drop(self) {
-        let StageNets { valid: _, kept: _, vars: _, held: _, tickets: _, end: _ } = self;
+        let StageNets {
+            valid: _,
+            kept: _,
+            vars: _,
+            held: _,
+            tickets: _,
+            end: _,
+        } = self;
     }
 }
 

@@ -204,6 +204,13 @@ pub struct Pipe {
 // As the derive would, but by a call of its owners: docs/DECISIONS.md says why.
 impl Drop for Pipe {
     fn drop(self) {
-        let Pipe { name: _, params: _, mems: _, body: _, end: _, start: _ } = self;
+        let Pipe {
+            name: _,
+            params: _,
+            mems: _,
+            body: _,
+            end: _,
+            start: _,
+        } = self;
     }
 }

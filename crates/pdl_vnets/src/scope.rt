@@ -23,7 +23,14 @@ pub struct Scope<'a> {
 // As the derive would, but by a call of its owners: docs/DECISIONS.md says why.
 impl Drop for Scope<'_> {
     fn drop(self) {
-        let Scope { file: _, ports: _, nets: _, regs: _, arrays: _, cells: _ } = self;
+        let Scope {
+            file: _,
+            ports: _,
+            nets: _,
+            regs: _,
+            arrays: _,
+            cells: _,
+        } = self;
     }
 }
 

@@ -53,6 +53,11 @@ impl Wiring {
 // As the derive would, but by a call of its owners: docs/DECISIONS.md says why.
 impl Drop for Wiring {
     fn drop(self) {
-        let Wiring { cells: _, outputs: _, regs: _, blocks: _ } = self;
+        let Wiring {
+            cells: _,
+            outputs: _,
+            regs: _,
+            blocks: _,
+        } = self;
     }
 }

@@ -20,7 +20,14 @@ pub struct Widths {
 // As the derive would, but by a call of its owners: docs/DECISIONS.md says why.
 impl Drop for Widths {
     fn drop(self) {
-        let Widths { ports: _, inputs: _, regs: _, words: _, depths: _, cells: _ } = self;
+        let Widths {
+            ports: _,
+            inputs: _,
+            regs: _,
+            words: _,
+            depths: _,
+            cells: _,
+        } = self;
     }
 }
 

@@ -30,7 +30,15 @@ pub struct Draft {
 // As the derive would, but by a call of its owners: docs/DECISIONS.md says why.
 impl Drop for Draft {
     fn drop(self) {
-        let Draft { file: _, line: _, high: _, name: _, target: _, operand: _, writes: _ } = self;
+        let Draft {
+            file: _,
+            line: _,
+            high: _,
+            name: _,
+            target: _,
+            operand: _,
+            writes: _,
+        } = self;
     }
 }
 
