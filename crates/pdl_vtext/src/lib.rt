@@ -7,6 +7,7 @@ mod bytes;
 pub mod draft;
 pub mod field;
 pub mod file;
+mod found;
 mod lexer;
 mod names;
 mod numbers;
