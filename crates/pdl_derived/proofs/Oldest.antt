@@ -1,11 +1,12 @@
 -- In a cycle that is no wait the oldest thread moves. Of any pipe of the whole language.
 use Rattle.std.proofs.Common.{◌≡◌, refl, sym, ap, ◌∙◌, subst, ℕ, zero, suc, ◌+◌, Bool, true, false, ◌&&◌, ◌||◌, not, List, [], ◌∷◌, Option, Some, None, is_none, is_some, cond, arith, slice_index, slice_index_or, zero-add, add-suc, suc-add}
 use Rattle.std.proofs.lemmas.Bool.{and_from}
-use Rattle.pdl_semantics.specs.Flat.{Op, DelayedRead, ReserveWrite, Block, Verify, SpecBarrier, Stmt, Pipe, Lock, Plain, Queue, Bypass, Rename, all_hold, values_of}
+use Rattle.pdl_semantics.specs.Flat.{Op, DelayedRead, ReserveWrite, Block, Verify, SpecBarrier, Stmt, Pipe, all_hold, values_of}
 use Rattle.pdl_semantics.specs.Stages.{in_stage, mem_at, stage_at, verify_stage}
 use Rattle.pdl_semantics.specs.Machine.{Awaited, is_answered, same_args}
 use Rattle.pdl_semantics.specs.Moves.{is_empty}
-use Rattle.pdl_semantics.specs.Locks.{has_room, read_ready, write_ready, Nothing}
+use Rattle.pdl_semantics.specs.Locks.{has_room}
+use Rattle.pdl_semantics.proofs.Readiness.{read_free, write_free}
 use Rattle.pdl_derived.specs.Derived.{Work, Around, Thread, State, work_after, do_all, around, act, asked_at, still, has_entry, port_free, barrier_clear, can_enter, fork_clear, is_wait, waits_from}
 use Rattle.pdl_derived.proofs.Stages.{step}
 
@@ -44,18 +45,6 @@ ready_all o (x ∷ xs) w f h = ready_all o xs (step o x w) f (ready_step (all_ho
 -- each lock has room for one
 abbrev pub HasRoom : Pipe → Type 0
 HasRoom p = (m : ℕ) → has_room (mem_at p m).lock 0 ≡ true
-
-read_free : (k : Lock) → read_ready k Nothing ≡ true
-read_free Plain = refl
-read_free (Queue n) = refl
-read_free (Bypass n) = refl
-read_free (Rename n) = refl
-
-write_free : (k : Lock) → write_ready k Nothing ≡ true
-write_free Plain = refl
-write_free (Queue n) = refl
-write_free (Bypass n) = refl
-write_free (Rename n) = refl
 
 -- a cycle that is no wait answers each outstanding request
 answered_at : (p : Pipe) (bits : List Bool) (k : ℕ) (asked : List (Option ℕ)) (j : ℕ) → waits_from p bits k asked ≡ false → is_some (slice_index_or asked j None) ≡ true → is_answered p bits (k + j) ≡ true

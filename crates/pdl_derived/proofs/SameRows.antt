@@ -3,7 +3,6 @@ use Rattle.std.proofs.Common.{◌≡◌, refl, ℕ, suc, Bool, true, false, ◌&
 use Rattle.std.specs.Fmt.{digits}
 use Rattle.pdl_word.specs.Words.{add, slice, zext, complement}
 use Rattle.pdl_semantics.specs.Tree
-use Rattle.pdl_semantics.specs.Tree.{Queue, Bypass, Rename}
 use Rattle.pdl_semantics.specs.Flat.{Commit, of_mem, arrays_of}
 use Rattle.pdl_semantics.specs.Flatten.{flat}
 use Rattle.pdl_semantics.specs.Lines.{Column, columns, lines, by_mem, run_lines}
@@ -11,7 +10,7 @@ use Rattle.pdl_semantics.specs.Lines
 use Rattle.pdl_semantics.specs.Machine.{Ask}
 use Rattle.pdl_semantics.specs.Cycle.{PortWrite, commit_shown, turns}
 use Rattle.pdl_semantics.specs.Cycle
-use Rattle.pdl_semantics.proofs.Pipes.{one_stage, two_stages, under_guard, shared_guard, count_up, count_late, guess, guess_reserved, copy, copy_guessed, two_branches, one_branch, count_slow, barrier, far_barrier}
+use Rattle.pdl_semantics.proofs.Pipes.{one_stage, two_stages, under_guard, shared_guard, count_queue, count_bypass, count_rename, count_late, guess, guess_reserved, copy, copy_guessed, two_branches, one_branch, count_slow, barrier, far_barrier}
 use Rattle.pdl_semantics.proofs.MachineRows.{zeros, idle, bits, copied}
 use Rattle.pdl_derived.specs.Derived
 
@@ -63,8 +62,8 @@ all_true [] = true
 all_true (b ∷ bs) = b && all_true bs
 
 trunk_ports : all_true (both_agree one_stage (zeros ∷ []) (idle 6) ∷ both_agree two_stages (zeros ∷ []) (idle 8) ∷ both_agree under_guard (zeros ∷ []) (idle 8)
-    ∷ both_agree shared_guard (zeros ∷ []) (idle 8) ∷ both_agree (count_up Queue 1) (zeros ∷ []) (idle 12) ∷ both_agree (count_up Bypass 4) (zeros ∷ []) (idle 12)
-    ∷ both_agree (count_up Rename 2) (zeros ∷ []) (idle 12) ∷ both_agree count_late (zeros ∷ []) (idle 12) ∷ []) ≡ true
+    ∷ both_agree shared_guard (zeros ∷ []) (idle 8) ∷ both_agree (count_queue 1) (zeros ∷ []) (idle 12) ∷ both_agree (count_bypass 4) (zeros ∷ []) (idle 12)
+    ∷ both_agree (count_rename 2) (zeros ∷ []) (idle 12) ∷ both_agree count_late (zeros ∷ []) (idle 12) ∷ []) ≡ true
 unfolding add slice zext complement
 trunk_ports = refl
 
@@ -96,7 +95,7 @@ derived_lines p image schedule = lines (columns p.mems) (derived_cycles (columns
 abbrev prints_alike : Tree.Pipe → List (List ℕ) → List (List Bool) → Bool
 prints_alike p image schedule = bytes_eq (derived_lines p image schedule) (run_lines p image schedule)
 
-trunk_lines : all_true (prints_alike one_stage (zeros ∷ []) (idle 17) ∷ prints_alike (count_up Queue 4) (zeros ∷ []) (idle 10) ∷ prints_alike (count_up Bypass 4) (zeros ∷ []) (idle 8) ∷ prints_alike (count_up Rename 4) (zeros ∷ []) (idle 8) ∷ prints_alike two_stages (zeros ∷ []) (idle 3) ∷ prints_alike (count_up Queue 1) (zeros ∷ []) (idle 8) ∷ prints_alike under_guard (zeros ∷ []) (idle 4) ∷ []) ≡ true
+trunk_lines : all_true (prints_alike one_stage (zeros ∷ []) (idle 17) ∷ prints_alike (count_queue 4) (zeros ∷ []) (idle 10) ∷ prints_alike (count_bypass 4) (zeros ∷ []) (idle 8) ∷ prints_alike (count_rename 4) (zeros ∷ []) (idle 8) ∷ prints_alike two_stages (zeros ∷ []) (idle 3) ∷ prints_alike (count_queue 1) (zeros ∷ []) (idle 8) ∷ prints_alike under_guard (zeros ∷ []) (idle 4) ∷ []) ≡ true
 unfolding digits add slice zext
 trunk_lines = refl
 

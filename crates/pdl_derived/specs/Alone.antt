@@ -1,5 +1,5 @@
 -- A thread that runs alone in the machine that the proofs use, and what that machine's runs are shown to do.
-use Rattle.std.specs.Prelude.{◌≡◌, ℕ, ◌+◌, ◌-◌, ◌/◌, ◌≤◌, Bool, true, false, ◌&&◌, List, [], ◌∷◌, None, if◌then◌else◌, nat_lt, ◌==◌, IsTrue, IsFalse, length}
+use Rattle.std.specs.Prelude.{◌≡◌, ℕ, ◌+◌, ◌-◌, ◌/◌, ◌≤◌, Bool, true, false, List, [], ◌∷◌, None, if◌then◌else◌, nat_lt, IsTrue, IsFalse, length}
 use Rattle.pdl_semantics.specs.Flat.{Arrays, Op, CombRead, DelayedRead, Stmt, Pipe, start_env, word_at, Commit, of_mem, after_commits}
 use Rattle.pdl_semantics.specs.Stages.{commit_stage, depth}
 use Rattle.pdl_semantics.specs.Sequential.{thread, seqwrites}

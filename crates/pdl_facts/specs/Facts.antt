@@ -1,7 +1,8 @@
 -- WHAT IS TAKEN OF AN ACCEPTED PIPE OF THE WHOLE LANGUAGE: facts that the rules of the language give, of its text, of its stage graph, and of the statements of each path.
 use Rattle.std.specs.Prelude.{◌≡◌, ℕ, suc, ◌≤◌, ◌<◌, Bool, true, false, ◌&&◌, ◌||◌, not, List, [], ◌∷◌, Option, Some, None, ◌==◌, length, nat_lt, nat_le, slice_index}
-use Rattle.pdl_semantics.specs.Flat.{list_all, Op, Bind, CombRead, DelayedRead, Write, ReserveRead, ReserveWrite, Block, Release, Call, SpecCall, Verify, SpecCheck, SpecBarrier, Expr, Constant, Variable, Slice, Not, Binary, Cat, LessSigned, ZeroExtend, SignExtend, Choose, Guard, Stmt, Lock, Plain, Queue, Forks, Branch, Pipe}
+use Rattle.pdl_semantics.specs.Flat.{list_all, Op, Bind, CombRead, DelayedRead, Write, ReserveRead, ReserveWrite, Block, Release, Call, SpecCall, Verify, SpecCheck, SpecBarrier, Expr, Constant, Variable, Slice, Not, Binary, Cat, LessSigned, ZeroExtend, SignExtend, Choose, Guard, Stmt, Forks, Branch, Pipe}
 use Rattle.pdl_semantics.specs.Stages.{is_inside, is_reserve, is_verify, onpath, in_stage, stage_at, mem_at, verify_stage, commit_stage, reserve_stage}
+pub use Rattle.pdl_semantics.specs.Locks.{is_exact}
 use Rattle.pdl_derived.specs.Alone.{before, answered_op}
 use Rattle.pdl_facts.specs.Scans.{none_of, all_at, binds_var}
 pub use Rattle.pdl_facts.specs.Scans.{against, is_dead}
@@ -92,13 +93,7 @@ abbrev pub fetch_apart : List Stmt → Bool
 fetch_apart [] = true
 fetch_apart (y ∷ ys) = alone_op y.op ys && fetch_apart ys
 
--- Z7: the lock of a delayed memory finds no pending write where it is ready
-abbrev pub is_exact : Lock → Bool
-is_exact Plain = true
-is_exact (Queue n) = true
-is_exact _ = false
-
--- a delayed read of m in stage s, whether it stands on a path or not: F3, N1, Z7
+-- a delayed read of m in stage s, whether it stands on a path or not: F3, N1, and Z7, that the lock of a delayed memory finds no pending write where it is ready
 abbrev pub Found : Pipe → (ℕ → ℕ) → ℕ → ℕ → Type 0
 Found p fetch s m = (fetch m ≡ s) × (m < length p.mems) × (is_exact (mem_at p m).lock ≡ true)
 

@@ -1,17 +1,14 @@
 -- Scans over the statements of one path, and over a text, that tell whether locks and values are used as the rules of the language say.
 use Rattle.std.specs.Prelude.{ℕ, Bool, true, false, ◌&&◌, ◌||◌, not, List, [], ◌∷◌, if◌then◌else◌, ◌==◌, nat_le}
-use Rattle.pdl_semantics.specs.Flat.{Op, Bind, CombRead, DelayedRead, Write, ReserveWrite, Block, Release, Stmt, Guard, Pipe, Lock, Plain}
+use Rattle.pdl_semantics.specs.Flat.{Op, Bind, CombRead, DelayedRead, Write, ReserveWrite, Block, Release, Stmt, Guard, Pipe}
 use Rattle.pdl_semantics.specs.Stages.{mem_at, commit_stage, reserve_stage}
+pub use Rattle.pdl_semantics.specs.Locks.{is_plain}
 use Rattle.pdl_derived.specs.Alone.{Location}
 use Rattle.pdl_semantics.specs.Sound.{is_call}
 
 abbrev pub no_guards : List Guard → Bool
 no_guards [] = true
 no_guards (g ∷ gs) = false
-
-abbrev pub is_plain : Lock → Bool
-is_plain Plain = true
-is_plain _ = false
 
 -- whether a variable is the address of one of these locations, and whether this location is among them
 abbrev pub is_address : List Location → ℕ → Bool

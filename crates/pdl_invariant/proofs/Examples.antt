@@ -1,8 +1,7 @@
 -- Written pipes pass the tests.
 use Rattle.std.proofs.Common.{◌≡◌, refl, true}
-use Rattle.pdl_semantics.specs.Tree.{Queue}
 use Rattle.pdl_semantics.specs.Flatten.{flat}
-use Rattle.pdl_semantics.proofs.Pipes.{one_stage, two_stages, under_guard, shared_guard, count_up, count_late, guess, guess_reserved, far_barrier, copy, copy_guessed, count_slow, two_branches, one_branch}
+use Rattle.pdl_semantics.proofs.Pipes.{one_stage, two_stages, under_guard, shared_guard, count_queue, count_late, guess, guess_reserved, far_barrier, copy, copy_guessed, count_slow, two_branches, one_branch}
 use Rattle.pdl_invariant.specs.Strict.{is_strict}
 
 one_stage_strict : is_strict (flat one_stage) ≡ true
@@ -17,7 +16,7 @@ guard_strict = refl
 shared_strict : is_strict (flat shared_guard) ≡ true
 shared_strict = refl
 
-queue_strict : is_strict (flat (count_up Queue 1)) ≡ true
+queue_strict : is_strict (flat (count_queue 1)) ≡ true
 queue_strict = refl
 
 late_strict : is_strict (flat count_late) ≡ true

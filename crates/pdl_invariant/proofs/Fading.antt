@@ -1,17 +1,18 @@
 -- What older threads' pending writes say of an address grows only more ready, where they are past the reserves.
 use Rattle.std.proofs.Common.{◌≡◌, ◌≢◌, refl, sym, ap, ◌∙◌, subst, ℕ, ◌≤◌, ◌<◌, ◌⊎◌, inl, inr, Bool, true, false, ◌&&◌, ◌||◌, not, List, [], ◌∷◌, ◌++◌, length, Option, Some, None, is_none, ◌==◌, cond, if◌then◌else◌, arith, eq-eqb, slice_index}
 use Rattle.std.proofs.lemmas.Bool.{eqb-true, eqb-false}
-use Rattle.pdl_semantics.specs.Flat.{Pipe, Op, Bind, CombRead, DelayedRead, Write, ReserveRead, ReserveWrite, Block, Release, Call, SpecCall, Verify, SpecCheck, SpecBarrier, Stmt, Lock, Plain, Queue, Bypass, Rename, value_of, values_of, all_hold}
+use Rattle.pdl_semantics.specs.Flat.{Pipe, Op, Bind, CombRead, DelayedRead, Write, ReserveRead, ReserveWrite, Block, Release, Call, SpecCall, Verify, SpecCheck, SpecBarrier, Stmt, value_of, values_of, all_hold}
 use Rattle.pdl_semantics.specs.Stages.{in_stage, stage_at, goes_to, is_reserve, is_release, reserve_stage, commit_stage}
-use Rattle.pdl_semantics.specs.Locks.{Latest, Nothing, as_latest, is_nothing, is_coming, read_ready, write_ready}
+use Rattle.pdl_semantics.specs.Locks.{Latest, Nothing, as_latest}
 use Rattle.pdl_semantics.specs.Machine.{State, same_args}
+use Rattle.pdl_semantics.proofs.Readiness.{Calm, calm_nothing, calm_value}
 use Rattle.pdl_derived.specs.Derived.{Entry, Work, Around, work_after, do_all, with_entry_value, without, latest_in, latest, around}
 use Rattle.pdl_derived.specs.Derived
 use Rattle.pdl_facts.specs.Scans.{none_of, Phase, Fresh, Held, Written, Done}
 use Rattle.pdl_simulation.proofs.FlowFacts.{Flows, stage_or}
 use Rattle.pdl_derived.proofs.Writes.{and_left, and_right}
 use Rattle.pdl_derived.proofs.Entries.{entries_of, filled_other, without_own, without_other, entries_of-filled}
-use Rattle.pdl_turns.proofs.Marks.{latest_own, Calm}
+use Rattle.pdl_turns.proofs.Marks.{latest_own}
 use Rattle.pdl_derived.proofs.Stages.{step}
 use Rattle.pdl_turns.proofs.Turn.{none_in_stage}
 use Rattle.pdl_simulation.proofs.Shapes.{Shape}
@@ -22,19 +23,6 @@ use Rattle.pdl_simulation.proofs.Turned.{fell, moved_live, stood, go_on}
 use Rattle.pdl_simulation.proofs.Placed.{ways_on, behind_stay}
 use Rattle.pdl_simulation.proofs.Placed
 use Rattle.pdl_word.specs.Each.{Each}
-
-pub calm_write : (lock : Lock) (l k : Latest) → Calm l k → write_ready lock l ≡ true → write_ready lock k ≡ true
-calm_write Plain l k c h = refl
-calm_write (Queue n) l k c h = c.0 h
-calm_write (Bypass n) l k c h = refl
-calm_write (Rename n) l k c h = refl
-
--- where a read is ready, so is a write
-pub read_write : (lock : Lock) (l : Latest) → read_ready lock l ≡ true → write_ready lock l ≡ true
-read_write Plain l h = refl
-read_write (Queue n) l h = h
-read_write (Bypass n) l h = refl
-read_write (Rename n) l h = refl
 
 -- what becomes of a thread's only pending write of a memory
 abbrev pub Fades : List Entry → List Entry → Type 0
@@ -165,14 +153,6 @@ lost_all m o (x ∷ xs) w r q h = at (all_hold x.guards w.env) (lost_all m o xs 
 
 -- READINESS
 
-calm_any : (l k : Latest) → k ≡ Nothing → Calm l k
-calm_any l k e = ((λ h. ap is_nothing e), (λ h. ap is_coming e))
-
-calm_value : (v u : Option ℕ) → (is_none u ≡ true → is_none v ≡ true) → Calm (as_latest v) (as_latest u)
-calm_value None u f = ((λ h. absurd (cc h)), (λ h. absurd (cc h)))
-calm_value (Some v) None f = absurd (cc (f refl))
-calm_value (Some v) (Some u) f = ((λ h. absurd (cc h)), (λ h. refl))
-
 calm_fades : (m a : ℕ) (es fs : List Entry) (r r' : Latest) → Fades es fs → Calm r r' → (fs ≡ [] → (es ≡ []) ⊎ (r' ≡ Nothing)) → Calm (latest_in es m a r) (latest_in fs m a r')
 calm_fades m a [] [] r r' h c f = c
 calm_fades m a [] (x ∷ fs) r r' h c f = absurd h
@@ -180,7 +160,7 @@ calm_fades m a (e ∷ []) [] r r' h c f = at (f refl)
   where
     at : ((e ∷ []) ≡ []) ⊎ (r' ≡ Nothing) → Calm (latest_in (e ∷ []) m a r) r'
     at (inl i) = absurd (cc i)
-    at (inr i) = calm_any (latest_in (e ∷ []) m a r) r' i
+    at (inr i) = calm_nothing (latest_in (e ∷ []) m a r) r' i
 calm_fades m a (e ∷ []) (x ∷ []) r r' h c f =
     subst (λ n. Calm (latest_in (e ∷ []) m a r) (cond ((n == m) && (x.address == a)) (as_latest x.value) r')) (sym h.0)
     (subst (λ n. Calm (latest_in (e ∷ []) m a r) (cond ((e.mem == m) && (n == a)) (as_latest x.value) r')) (sym h.1) (at ((e.mem == m) && (e.address == a))))

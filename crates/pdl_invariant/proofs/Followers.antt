@@ -30,7 +30,8 @@ use Rattle.pdl_turns.proofs.Sounds.{caught_other}
 use Rattle.pdl_turns.proofs.CourseOf.{course}
 use Rattle.pdl_turns.proofs.Lives.{Writes, Marks, RowsAt}
 use Rattle.pdl_refinement.proofs.Cycles.{rows_next}
-use Rattle.pdl_refinement.proofs.Spots.{Spot, seats, Sure, Here, Standing, Tail, Last, exact_none}
+use Rattle.pdl_refinement.proofs.Spots.{Spot, seats, Sure, Here, Standing, Tail, Last}
+use Rattle.pdl_semantics.proofs.Readiness.{exact_none}
 use Rattle.pdl_simulation.proofs.Joined.{sound_flows}
 use Rattle.pdl_derived.proofs.Entries.{entries_of}
 use Rattle.pdl_derived.proofs.Lists.{own, pend}

@@ -29,9 +29,9 @@ use Rattle.pdl_invariant.specs.Strict.{Strict}
 use Rattle.pdl_invariant.proofs.Past.{AllOps, ops_map, ops_both, onto, BlockOk, Past, Kind}
 use Rattle.pdl_invariant.proofs.Trails.{AllStmts, stmts_map, stmts_both, ops_stmts, Among, among_low}
 use Rattle.pdl_invariant.proofs.Local.{Local, AnyAsk, AllAwaited, past_of, local_answered, answered_asks, local_moved, moved_asks, moved_trail, past_end, past_q, kept_unused}
-use Rattle.pdl_invariant.proofs.Fading.{calm_write, read_write, calm_next}
+use Rattle.pdl_invariant.proofs.Fading.{calm_next}
 use Rattle.pdl_invariant.proofs.Stage.{barred, some_barrier, barred_onto, clear_all, look_at, block_like, kept_blocks, LowBlock, low_blocks}
-use Rattle.pdl_turns.proofs.Marks.{calm_ready}
+use Rattle.pdl_semantics.proofs.Readiness.{calm_read, calm_write, read_write}
 use Rattle.pdl_word.specs.Each.{Each}
 use Rattle.pdl_word.proofs.Each.{each_append}
 use Rattle.pdl_simulation.proofs.Simulated.{Sim}
@@ -122,7 +122,7 @@ module _ (p : Pipe) (sound : Sound p) (strict : Strict p) where
           × (write_ready (mem_at p m).lock (latest (threads_of ks) m (slice_index env a)) ≡ true → write_ready (mem_at p m).lock (latest (threads_of (go_on p st d bits ks)) m (slice_index env a)) ≡ true)
       calm_block env op low m a e =
           let c = calm_next p (sound_flows p sound) st d bits sim.arrays m (slice_index env a) ks older ordered (past_reserve l.thread.stage m ks behind (low m a e)) calm in
-          ((λ i. calm_ready (mem_at p m).lock _ _ c i), (λ i. calm_write (mem_at p m).lock _ _ c i))
+          ((λ i. calm_read (mem_at p m).lock _ _ c i), (λ i. calm_write (mem_at p m).lock _ _ c i))
 
       -- THE THREAD STANDS
 

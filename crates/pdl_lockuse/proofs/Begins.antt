@@ -32,7 +32,7 @@ use Rattle.pdl_invariant.specs.Strict.{Strict}
 use Rattle.pdl_invariant.proofs.Past.{AllOps, onto, Done as DoneOp, BlockOk, is_released}
 use Rattle.pdl_invariant.proofs.Trails.{AllStmts, stmts_ops, ops_stmts}
 use Rattle.pdl_invariant.proofs.Local.{Local, past_of, local_answered, kept_unused}
-use Rattle.pdl_invariant.proofs.Fading.{read_write}
+use Rattle.pdl_semantics.proofs.Readiness.{read_write}
 use Rattle.pdl_invariant.proofs.Releases.{low_stages}
 use Rattle.pdl_invariant.proofs.Stage.{look_at, kept_blocks, LowBlock, low_blocks}
 use Rattle.pdl_invariant.proofs.Lasting.{Lasting, any_ask_map, awaited_map}

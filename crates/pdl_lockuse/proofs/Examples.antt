@@ -1,9 +1,8 @@
 -- Written pipes with guards, guesses, barriers, delayed memories and forks pass the tests.
 use Rattle.std.proofs.Common.{◌≡◌, refl, true, [], ◌∷◌, length, Some}
 use Rattle.pdl_word.specs.Words.{add}
-use Rattle.pdl_semantics.specs.Tree.{Queue, Bypass, Rename}
 use Rattle.pdl_semantics.specs.Flatten.{flat}
-use Rattle.pdl_semantics.proofs.Pipes.{one_stage, two_stages, under_guard, shared_guard, count_up, count_late, guess, guess_reserved, far_barrier, copy, copy_guessed, count_slow, two_branches, one_branch}
+use Rattle.pdl_semantics.proofs.Pipes.{one_stage, two_stages, under_guard, shared_guard, count_queue, count_bypass, count_rename, count_late, guess, guess_reserved, far_barrier, copy, copy_guessed, count_slow, two_branches, one_branch}
 use Rattle.pdl_semantics.specs.Flat.{Pipe}
 use Rattle.pdl_semantics.specs.Machine.{State, lock_of}
 use Rattle.pdl_semantics.specs.Cycle.{squasher, has_release, cycle, first, state_after}
@@ -27,7 +26,7 @@ guard_careful = refl
 shared_careful : is_careful (flat shared_guard) ≡ true
 shared_careful = refl
 
-queue_careful : is_careful (flat (count_up Queue 1)) ≡ true
+queue_careful : is_careful (flat (count_queue 1)) ≡ true
 queue_careful = refl
 
 late_careful : is_careful (flat count_late) ≡ true
@@ -83,14 +82,14 @@ guard_fits = fit_tested (flat under_guard) refl refl refl refl
 guards_fit : IsFit (flat shared_guard)
 guards_fit = fit_tested (flat shared_guard) refl refl refl refl
 
-queue_fits : IsFit (flat (count_up Queue 1))
-queue_fits = fit_tested (flat (count_up Queue 1)) refl refl refl refl
+queue_fits : IsFit (flat (count_queue 1))
+queue_fits = fit_tested (flat (count_queue 1)) refl refl refl refl
 
-bypass_fits : IsFit (flat (count_up Bypass 4))
-bypass_fits = fit_tested (flat (count_up Bypass 4)) refl refl refl refl
+bypass_fits : IsFit (flat (count_bypass 4))
+bypass_fits = fit_tested (flat (count_bypass 4)) refl refl refl refl
 
-rename_fits : IsFit (flat (count_up Rename 2))
-rename_fits = fit_tested (flat (count_up Rename 2)) refl refl refl refl
+rename_fits : IsFit (flat (count_rename 2))
+rename_fits = fit_tested (flat (count_rename 2)) refl refl refl refl
 
 late_fits : IsFit (flat count_late)
 late_fits = fit_tested (flat count_late) refl refl refl refl
@@ -100,8 +99,8 @@ late_fits = fit_tested (flat count_late) refl refl refl refl
 guards_simple : IsSimple (flat shared_guard)
 guards_simple = simple_tested (flat shared_guard) refl refl refl refl refl (linear_source shared_guard refl)
 
-rename_simple : IsSimple (flat (count_up Rename 2))
-rename_simple = simple_tested (flat (count_up Rename 2)) refl refl refl refl refl (linear_source (count_up Rename 2) refl)
+rename_simple : IsSimple (flat (count_rename 2))
+rename_simple = simple_tested (flat (count_rename 2)) refl refl refl refl refl (linear_source (count_rename 2) refl)
 
 -- A SQUASH
 

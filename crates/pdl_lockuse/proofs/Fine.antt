@@ -1,11 +1,12 @@
 -- The statements of a thread's stage, one after another: reads are ready where its blocks are, what is released is held no more, and a verify has as many arguments as the guess.
 use Rattle.std.proofs.Common.{◌≡◌, refl, sym, ap, ap₂, ◌∙◌, subst, ℕ, suc, Bool, true, false, ◌&&◌, ◌||◌, not, List, [], ◌∷◌, ◌++◌, length, Option, Some, cond, nat_le, slice_index}
 use Rattle.std.proofs.lemmas.Bool.{false≢true, leb-true, eqb-true}
-use Rattle.pdl_semantics.specs.Flat.{list_all, Op, Bind, CombRead, DelayedRead, ReserveWrite, Block, Release, Call, SpecCall, Verify, Stmt, Expr, Lock, Plain, Pipe, all_hold, value_of, values_of}
+use Rattle.pdl_semantics.specs.Flat.{list_all, Op, Bind, CombRead, DelayedRead, ReserveWrite, Block, Release, Call, SpecCall, Verify, Stmt, Expr, Pipe, all_hold, value_of, values_of}
 use Rattle.pdl_semantics.specs.Stages.{onpath, mem_at, reserve_stage, commit_stage}
-use Rattle.pdl_semantics.specs.Locks.{Latest, read_ready, write_ready}
+use Rattle.pdl_semantics.specs.Locks.{read_ready, write_ready}
 use Rattle.pdl_semantics.specs.Machine.{State, Blocked, Deeds, deeds_after, is_held, older_write, word_for, same_args}
 use Rattle.pdl_semantics.specs.Moves.{block_ready, blocks_ready, have_room}
+use Rattle.pdl_semantics.proofs.Readiness.{plain_ready}
 use Rattle.pdl_derived.specs.Alone.{answered_op}
 use Rattle.pdl_facts.specs.Scans.{no_guards, Phase, next_phase, Scan, is_plain, is_address, has_location, scan_after, op_ok, reads_ok, location}
 use Rattle.pdl_facts.specs.Certain.{Making, next_making, making_ok, makings_ok, is_guessed, stands_at}
@@ -37,10 +38,6 @@ module _ (p : Pipe) (st : State) (n : ℕ) where
   -- before a statement of stage s
   abbrev pub RightIf : ℕ → Scan → Deeds → Type 0
   RightIf s c d = locks_ready p st n d ≡ true → Right p s Clean c.blocked d.env
-
-  plain_ready : (k : Lock) (l : Latest) → is_plain k ≡ true → read_ready k l ≡ true
-  plain_ready Plain l h = refl
-  plain_ready _ l h = absurd (cc h)
 
   pub read_here : (s : ℕ) (c : Scan) (x m a : ℕ) (d : Deeds) → op_ok p s c (CombRead x m a) ≡ true → RightIf s c d → locks_ready p st n d ≡ true
       → read_ready (mem_at p m).lock (older_write st n m (slice_index d.env a)) ≡ true

@@ -17,7 +17,7 @@ use Rattle.pdl_machine_facts.specs.Use.{in_time, is_early}
 use Rattle.pdl_machine_facts.proofs.UsingTurn.{IsAlong}
 use Rattle.pdl_invariant.specs.Strict.{bound_by, uses_own, is_mentioned, is_new, all_new}
 use Rattle.pdl_invariant.proofs.Past.{AllOps, BlockOk, is_released}
-use Rattle.pdl_invariant.proofs.Fading.{read_write}
+use Rattle.pdl_semantics.proofs.Readiness.{read_write}
 use Rattle.pdl_invariant.proofs.Stage.{LowBlock}
 use Rattle.pdl_lockuse.specs.Careful.{is_block_at, was_blocked, is_let_in, all_let_in}
 use Rattle.pdl_lockuse.specs.Use.{IsLetIn, AreLetIn}

@@ -1,13 +1,14 @@
 -- The live threads in the whole language: each on its turn, in a stage of its path, with the answers that it still awaits.
-use Rattle.std.proofs.Common.{◌≡◌, refl, sym, ap, ap₂, ◌∙◌, ℕ, ◌≤◌, ◌<◌, Bool, true, false, not, List, [], ◌∷◌, ◌++◌, length, Option, Some, None, is_some, nat_lt, if◌then◌else◌, arith}
-use Rattle.pdl_semantics.specs.Flat.{Arrays, Array, Pipe, Lock, Plain, Queue, Bypass, Rename, of_mem, word_at}
+use Rattle.std.proofs.Common.{◌≡◌, sym, ap, ap₂, ◌∙◌, ℕ, ◌≤◌, ◌<◌, Bool, true, false, not, List, [], ◌∷◌, ◌++◌, length, Option, Some, None, is_some, nat_lt, if◌then◌else◌, arith}
+use Rattle.pdl_semantics.specs.Flat.{Arrays, Array, Pipe, of_mem, word_at}
 use Rattle.pdl_semantics.specs.Stages.{mem_at, commit_stage, reserve_stage}
-use Rattle.pdl_semantics.specs.Locks.{Latest, Nothing, Coming, Known, value_or, read_ready, is_nothing}
+use Rattle.pdl_semantics.specs.Locks.{Nothing, value_or, read_ready}
 use Rattle.pdl_semantics.specs.Machine.{Ask}
 use Rattle.pdl_semantics.specs.Cycle.{awaited_of}
 use Rattle.pdl_semantics.specs.Moves.{is_empty}
 use Rattle.pdl_semantics.specs.Sequential.{thread}
 use Rattle.pdl_semantics.specs.Promises.{wrote, row}
+use Rattle.pdl_semantics.proofs.Readiness.{plain_ready, exact_none}
 use Rattle.pdl_derived.specs.Derived.{Thread, State, Act, around, latest, befores, answered_thread, with_answers}
 use Rattle.pdl_derived.specs.Alone.{so_far, thread_at}
 use Rattle.pdl_derived.proofs.Writes.{wrote_append}
@@ -109,26 +110,8 @@ pub record Behind (p : Pipe) (acc : Course p) (older : List Act) (v v' : Marks) 
   pub moves : Moves p older ahead ahead'
   pub asked : (m r : ℕ) → AllUnder p ahead r → is_some (asks m) ≡ true → Under p (acc.fetch m) r
 
-plain_ready : (k : Lock) (l : Latest) → is_plain k ≡ true → read_ready k l ≡ true
-plain_ready Plain l h = refl
-plain_ready (Queue n) l h = absurd (cc h)
-plain_ready (Bypass n) l h = absurd (cc h)
-plain_ready (Rename n) l h = absurd (cc h)
-
 pub plain_clean : (p : Pipe) (v : Marks) (m a : ℕ) → is_plain (mem_at p m).lock ≡ true → Clean p v m a
 plain_clean p v m a h = plain_ready (mem_at p m).lock _ h
-
--- an exact lock's ready read finds no pending write
-pub exact_none : (k : Lock) (l : Latest) → is_exact k ≡ true → (is_plain k ≡ true → l ≡ Nothing) → read_ready k l ≡ true → l ≡ Nothing
-exact_none Plain l h f r = f refl
-exact_none (Queue n) l h f r = none l r
-  where
-    none : (l : Latest) → is_nothing l ≡ true → l ≡ Nothing
-    none Nothing e = refl
-    none Coming e = absurd (cc e)
-    none (Known x) e = absurd (cc e)
-exact_none (Bypass n) l h f r = absurd (cc h)
-exact_none (Rename n) l h f r = absurd (cc h)
 
 module _ (p : Pipe) (acc : Course p) (image : Arrays) (st : State) (past : Writes) (rows : RowsAt image past st.arrays) where
   -- where a read at an address is ready, the word that it finds is the turn's

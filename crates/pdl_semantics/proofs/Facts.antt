@@ -1,5 +1,5 @@
 -- Facts on the definitions that several layers cite.
-use Rattle.std.proofs.Common.{◌≡◌, refl, sym, ap, ◌∙◌, ℕ, suc, ◌<◌, ◌≤◌, Bool, true, false, ◌&&◌, List, [], ◌∷◌, ◌++◌, length, if◌then◌else◌, nat_lt, ◌==◌, Some, arith, le-ltb, zero, cond, ap₂, Option, None}
+use Rattle.std.proofs.Common.{◌≡◌, refl, sym, ap, ◌∙◌, ℕ, suc, ◌≤◌, Bool, true, false, ◌&&◌, List, [], ◌∷◌, ◌++◌, length, if◌then◌else◌, nat_lt, ◌==◌, Some, arith, le-ltb, zero, cond, ap₂, Option, None}
 use Rattle.std.proofs.Math.Bool.{and_assoc, and-true}
 use Rattle.std.specs.Option.{is_some}
 use Rattle.pdl_semantics.specs.Flat.{Stmt, all_hold, list_all, has_lock, Pipe, Arrays}

@@ -6,4 +6,5 @@ pub mod MachineRows
 pub mod WrongMachines
 pub mod FeatureRows
 mod SoundRows
+pub mod Readiness
 pub mod Facts

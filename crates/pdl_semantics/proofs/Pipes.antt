@@ -1,6 +1,6 @@
 -- Pipes on which the definitions are computed, as trees.
 use Rattle.std.specs.Prelude.{ℕ, List, [], ◌∷◌, ◌++◌, None}
-use Rattle.pdl_semantics.specs.Tree.{Not, ZeroExtend, R, W, LockKind, Queue, Bypass, Stmt, Pipe}
+use Rattle.pdl_semantics.specs.Tree.{Not, ZeroExtend, R, W, LockKind, Queue, Bypass, Rename, Stmt, Pipe}
 use Rattle.pdl_semantics.proofs.Texts.{number, constant, variable, slice, plus, separator, bind, comb_read, delayed_read, write, reserve, block, release, call, spec_call, verify, spec_check, spec_barrier, if_else, lock, comb, slow, pipe}
 
 -- one stage: each thread writes its argument
@@ -44,6 +44,16 @@ count_after gap kind n =
 
 abbrev pub count_up : LockKind → ℕ → Pipe
 count_up kind n = count_after [] kind n
+
+-- through each kind of lock
+abbrev pub count_queue : ℕ → Pipe
+count_queue n = count_up Queue n
+
+abbrev pub count_bypass : ℕ → Pipe
+count_bypass n = count_up Bypass n
+
+abbrev pub count_rename : ℕ → Pipe
+count_rename n = count_up Rename n
 
 -- with an empty stage before the read
 abbrev pub count_late : Pipe
@@ -127,3 +137,19 @@ without_barrier =
     (spec_check ∷ reserve "m" "n" W ∷ spec_call "s" (plus (variable "n") (constant 2 1)) ∷ block "m" "n"
     ∷ write "m" "n" (constant 8 7) ∷ release "m" "n" ∷ separator ∷ separator ∷ separator
     ∷ verify "s" (plus (variable "n") (constant 2 2)) ∷ [])
+
+-- all at once: a guess, a fork with a delayed read in its first branch, and behind the merge a verify, a reserve and a release
+abbrev pub everything : Pipe
+everything =
+    pipe 2 (slow "d" 4 None ∷ comb "m" 4 (lock Bypass 4) ∷ [])
+    (spec_check ∷ bind "g" (slice "n" 0 0) ∷ spec_call "s" (plus (variable "n") (constant 2 1))
+    ∷ if_else (variable "g") (delayed_read "x" "d" "n" ∷ separator ∷ bind "y" (variable "x") ∷ separator ∷ []) (separator ∷ separator ∷ separator ∷ [])
+    ∷ separator ∷ verify "s" (plus (variable "n") (constant 2 2))
+    ∷ reserve "m" "n" W ∷ block "m" "n" ∷ write "m" "n" (constant 8 7) ∷ release "m" "n" ∷ [])
+
+-- a delayed read on no path, behind the stage of the releases
+abbrev pub dead_read : Pipe
+dead_read =
+    pipe 2 (slow "m" 4 (lock Queue 1) ∷ [])
+    (bind "g" (slice "n" 0 0) ∷ reserve "m" "n" R ∷ block "m" "n" ∷ release "m" "n" ∷ call (plus (variable "n") (constant 2 1))
+    ∷ separator ∷ if_else (variable "g") (if_else (variable "g") [] (delayed_read "x" "m" "n" ∷ []) ∷ []) [] ∷ separator ∷ [])

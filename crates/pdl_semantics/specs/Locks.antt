@@ -38,6 +38,20 @@ abbrev pub write_ready : Lock → Latest → Bool
 write_ready (Queue size) l = is_nothing l
 write_ready _ l = true
 
+-- whether there is no lock
+abbrev pub is_plain : Lock → Bool
+is_plain Plain = true
+is_plain (Queue size) = false
+is_plain (Bypass size) = false
+is_plain (Rename size) = false
+
+-- whether a ready read finds no pending write
+abbrev pub is_exact : Lock → Bool
+is_exact Plain = true
+is_exact (Queue size) = true
+is_exact (Bypass size) = false
+is_exact (Rename size) = false
+
 -- whether there is room beside n pending writes
 abbrev pub has_room : Lock → ℕ → Bool
 has_room Plain n = true

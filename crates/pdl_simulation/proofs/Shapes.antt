@@ -1,10 +1,10 @@
 -- What a live thread keeps on its own way through the stages, whatever stands around it: the locations that it holds, its pending writes, the reads that it awaits.
-use Rattle.std.proofs.Common.{◌≡◌, refl, sym, ap, ap₂, ◌∙◌, subst, ℕ, ◌≤◌, ◌<◌, inl, Bool, true, false, ◌&&◌, ◌||◌, not, List, [], ◌∷◌, ◌++◌, Some, None, ◌==◌, nat_lt, nat_le, cond, if◌then◌else◌, arith, slice_index, append-nil, ltb-true, leb-true}
+use Rattle.std.proofs.Common.{◌≡◌, refl, sym, ap, ap₂, ◌∙◌, subst, ℕ, ◌≤◌, ◌<◌, inl, Bool, true, false, ◌&&◌, ◌||◌, not, List, [], ◌∷◌, ◌++◌, Some, None, ◌==◌, nat_lt, cond, if◌then◌else◌, arith, slice_index, append-nil, ltb-true}
 use Rattle.std.proofs.lemmas.Bool.{eqb-true}
 use Rattle.pdl_semantics.specs.Flat.{Commit, Op, Write, ReserveWrite, Release, Verify, Stmt, values_of, all_hold}
 use Rattle.pdl_semantics.specs.Stages.{onpath, is_reserve, is_release}
 use Rattle.pdl_semantics.specs.Machine.{same_args, Pending, HeldLocation, held_after, held_before}
-use Rattle.pdl_semantics.specs.Sound.{stages_before, stages_from, is_call}
+use Rattle.pdl_semantics.specs.Sound.{stages_before, is_call}
 use Rattle.pdl_semantics.specs.Machine
 use Rattle.pdl_derived.specs.Derived.{Entry, Work, Around, work_after, do_all}
 use Rattle.pdl_facts.specs.Scans.{Phase, Fresh, Held, Written, Done, after_release, next_phase, phase_all, is_over, none_of, all_at, is_fixed, called}

@@ -1,10 +1,9 @@
 -- Written pipes pass the tests of the whole language.
 use Rattle.std.proofs.Common.{◌≡◌, refl, Bool, true, false, List, [], ◌∷◌, None}
-use Rattle.pdl_semantics.specs.Tree.{R, W, Queue, Bypass}
 use Rattle.pdl_semantics.specs.Tree
 use Rattle.pdl_semantics.specs.Flatten.{flat}
-use Rattle.pdl_semantics.proofs.Pipes.{one_stage, shared_guard, count_up, guess, far_barrier, copy, copy_guessed, count_slow, two_branches, one_branch, forked}
-use Rattle.pdl_semantics.proofs.Texts.{number, constant, variable, slice, plus, separator, bind, delayed_read, write, reserve, block, release, call, spec_call, verify, spec_check, spec_barrier, if_else, lock, comb, slow, pipe}
+use Rattle.pdl_semantics.proofs.Pipes.{one_stage, shared_guard, count_queue, guess, far_barrier, copy, copy_guessed, count_slow, two_branches, one_branch, forked, everything, dead_read}
+use Rattle.pdl_semantics.proofs.Texts.{number, constant, variable, slice, plus, separator, bind, delayed_read, call, spec_barrier, if_else, slow, pipe}
 use Rattle.pdl_semantics.specs.Flat.{Arrays, Pipe}
 use Rattle.pdl_derived.specs.Alone.{Refines, Advances, KeepsPace}
 use Rattle.pdl_facts.specs.SoundChecks.{passes_tests}
@@ -22,7 +21,7 @@ one_stage_sounds = refl
 guards_sound : passes_tests (flat shared_guard) ≡ true
 guards_sound = refl
 
-queue_sounds : passes_tests (flat (count_up Queue 1)) ≡ true
+queue_sounds : passes_tests (flat (count_queue 1)) ≡ true
 queue_sounds = refl
 
 guess_sounds : passes_tests (flat (guess 3)) ≡ true
@@ -50,24 +49,8 @@ fork_text_sounds = refl
 one_branch_sounds : passes_tests (flat one_branch) ≡ true
 one_branch_sounds = refl
 
--- all at once: a guess, a fork with a delayed read in its first branch, and behind the merge a verify, a reserve and a release
-abbrev everything : Tree.Pipe
-everything =
-    pipe 2 (slow "d" 4 None ∷ comb "m" 4 (lock Bypass 4) ∷ [])
-    (spec_check ∷ bind "g" (slice "n" 0 0) ∷ spec_call "s" (plus (variable "n") (constant 2 1))
-    ∷ if_else (variable "g") (delayed_read "x" "d" "n" ∷ separator ∷ bind "y" (variable "x") ∷ separator ∷ []) (separator ∷ separator ∷ separator ∷ [])
-    ∷ separator ∷ verify "s" (plus (variable "n") (constant 2 2))
-    ∷ reserve "m" "n" W ∷ block "m" "n" ∷ write "m" "n" (constant 8 7) ∷ release "m" "n" ∷ [])
-
 everything_sounds : passes_tests (flat everything) ≡ true
 everything_sounds = refl
-
--- a delayed read on no path, behind the stage of the releases
-abbrev pub dead_read : Tree.Pipe
-dead_read =
-    pipe 2 (slow "m" 4 (lock Queue 1) ∷ [])
-    (bind "g" (slice "n" 0 0) ∷ reserve "m" "n" R ∷ block "m" "n" ∷ release "m" "n" ∷ call (plus (variable "n") (constant 2 1))
-    ∷ separator ∷ if_else (variable "g") (if_else (variable "g") [] (delayed_read "x" "m" "n" ∷ []) ∷ []) [] ∷ separator ∷ [])
 
 dead_read_sounds : passes_tests (flat dead_read) ≡ true
 dead_read_sounds = refl

@@ -1,9 +1,10 @@
 -- Undone writes, each with whether its value is known already.
-use Rattle.std.proofs.Common.{◌≡◌, refl, sym, ap, ap₂, ◌∙◌, subst, ℕ, Bool, true, false, ◌&&◌, not, List, [], ◌∷◌, ◌++◌, ◌⊎◌, inl, inr, ◌==◌, cond, if◌then◌else◌, append-nil, append_assoc}
+use Rattle.std.proofs.Common.{◌≡◌, refl, sym, ap, ap₂, ◌∙◌, subst, ℕ, Bool, true, false, ◌&&◌, List, [], ◌∷◌, ◌++◌, ◌⊎◌, inl, inr, ◌==◌, cond, if◌then◌else◌, append-nil, append_assoc}
 use Rattle.std.proofs.lemmas.Bool.{eqb-true, eqb-false}
-use Rattle.pdl_semantics.specs.Flat.{Array, with_value, Commit, of_mem, Lock, Plain, Queue, Bypass, Rename}
-use Rattle.pdl_semantics.specs.Locks.{Latest, Nothing, Coming, Known, as_latest, is_nothing, is_coming, value_or, read_ready}
+use Rattle.pdl_semantics.specs.Flat.{Array, with_value, Commit, of_mem, Lock}
+use Rattle.pdl_semantics.specs.Locks.{Latest, Nothing, Coming, Known, as_latest, is_coming, value_or, read_ready}
 use Rattle.pdl_semantics.specs.Promises.{wrote}
+use Rattle.pdl_semantics.proofs.Readiness.{Calm, calm_nothing, calm_read, read_known}
 use Rattle.pdl_derived.specs.Derived.{Entry, latest_in}
 use Rattle.pdl_derived.proofs.Entries.{entries_of, write_of}
 use Rattle.pdl_facts.specs.Scans.{is_plain}
@@ -113,10 +114,6 @@ later_more m ks d ks' xs e xs' l k (inr h) =
       raised = subst (λ a. Raised k.rest (a ++ xs')) (sym (raised_none l.rest ks' n.1 l.raised)) k.raised;
     }
 
--- the second says no less ready a thing than the first
-abbrev pub Calm : Latest → Latest → Type 0
-Calm l k = (is_nothing l ≡ true → is_nothing k ≡ true) × (is_coming l ≡ false → is_coming k ≡ false)
-
 calm_mark : (k j : Mark) → (k.known ≡ true → j.known ≡ true) → Calm (mark_latest k) (mark_latest j)
 calm_mark k j h = at k.known j.known h
   where
@@ -138,28 +135,11 @@ calm_raised a (i ∷ ks) (j ∷ js) l k r c = calm_raised a ks js _ _ r.3 (at (i
     at false true e = absurd (cc e)
     at false false e = c
 
-calm_nothing : (l : Latest) → Calm l Nothing
-calm_nothing l = ((λ e. refl), (λ e. refl))
-
-pub calm_ready : (k : Lock) (l j : Latest) → Calm l j → read_ready k l ≡ true → read_ready k j ≡ true
-calm_ready Plain l j c h = refl
-calm_ready (Queue n) l j c h = c.0 h
-calm_ready (Bypass n) l j c h = not_coming (is_coming l) (is_coming j) c.1 h
-  where
-    not_coming : (a b : Bool) → (a ≡ false → b ≡ false) → not a ≡ true → not b ≡ true
-    not_coming true b f e = absurd (cc e)
-    not_coming false b f e = ap not (f refl)
-calm_ready (Rename n) l j c h = not_coming (is_coming l) (is_coming j) c.1 h
-  where
-    not_coming : (a b : Bool) → (a ≡ false → b ≡ false) → not a ≡ true → not b ≡ true
-    not_coming true b f e = absurd (cc e)
-    not_coming false b f e = ap not (f refl)
-
 -- a ready location stays ready
 pub later_ready : (m a : ℕ) (k : Lock) (ks : List Mark) (gone : List Commit) (js : List Mark) → Later m ks gone js → read_ready k (seen a ks Nothing) ≡ true → read_ready k (seen a js Nothing) ≡ true
 later_ready m a k ks gone js l h =
-    calm_ready k (seen a ks Nothing) (seen a js Nothing)
-    (subst (λ x. Calm x (seen a js Nothing)) (sym (ap (λ x. seen a x Nothing) l.whole ∙ seen_append a l.front l.rest Nothing)) (calm_raised a l.rest js _ Nothing l.raised (calm_nothing _)))
+    calm_read k (seen a ks Nothing) (seen a js Nothing)
+    (subst (λ x. Calm x (seen a js Nothing)) (sym (ap (λ x. seen a x Nothing) l.whole ∙ seen_append a l.front l.rest Nothing)) (calm_raised a l.rest js _ Nothing l.raised (calm_nothing _ Nothing refl)))
     h
 
 -- what marks give of a word, where it is not still to come, is the word after their writes
@@ -178,22 +158,10 @@ seen_value m a (k ∷ ks) rest words base h f = seen_value m a ks _ (with_value 
     at false e true g = absurd (eqb-false _ _ e (sym (eqb-true _ _ g)))
     at false e false g = f
 
-ready_here : (k : Lock) (l : Latest) → (is_plain k ≡ true → l ≡ Nothing) → read_ready k l ≡ true → is_coming l ≡ false
-ready_here Plain l p h = ap is_coming (p refl)
-ready_here (Queue n) Nothing p h = refl
-ready_here (Queue n) Coming p h = absurd (cc h)
-ready_here (Queue n) (Known v) p h = refl
-ready_here (Bypass n) Nothing p h = refl
-ready_here (Bypass n) Coming p h = absurd (cc h)
-ready_here (Bypass n) (Known v) p h = refl
-ready_here (Rename n) Nothing p h = refl
-ready_here (Rename n) Coming p h = absurd (cc h)
-ready_here (Rename n) (Known v) p h = refl
-
 -- a ready read gives the word after the undone writes
 pub ready_value : (m a : ℕ) (k : Lock) (ks : List Mark) (words : Array) → (is_plain k ≡ true → ks ≡ []) → read_ready k (seen a ks Nothing) ≡ true
     → value_or (seen a ks Nothing) (words a) ≡ wrote words (strips m ks) a
-ready_value m a k ks words p h = seen_value m a ks Nothing words (words a) (ready_here k _ (λ e. ap (λ l. seen a l Nothing) (p e)) h) (λ e. refl)
+ready_value m a k ks words p h = seen_value m a ks Nothing words (words a) (read_known k _ (λ e. ap (λ l. seen a l Nothing) (p e)) h) (λ e. refl)
 
 -- only a memory's own entries tell of it
 pub latest_own : (es : List Entry) (m a : ℕ) (rest : Latest) → latest_in es m a rest ≡ latest_in (entries_of m es) m a rest

@@ -1,5 +1,5 @@
 -- What statements have, those of one stage have.
-use Rattle.std.proofs.Common.{◌≡◌, refl, ap₂, ◌∙◌, subst, ℕ, ◌≤◌, ◌<◌, Bool, true, false, ◌&&◌, ◌||◌, List, [], ◌∷◌, ◌++◌, ◌==◌, cond, if◌then◌else◌}
+use Rattle.std.proofs.Common.{◌≡◌, refl, ap₂, subst, ℕ, Bool, true, false, ◌&&◌, ◌||◌, List, [], ◌∷◌, ◌==◌, cond}
 use Rattle.pdl_semantics.specs.Flat.{Op, Stmt, Guard}
 use Rattle.pdl_semantics.specs.Stages.{in_stage}
 use Rattle.pdl_facts.specs.Scans.{none_of, binds_var, is_fixed, free_of, is_dead, keeps_guards}
