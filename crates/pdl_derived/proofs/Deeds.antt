@@ -83,7 +83,15 @@ module _ (o : Around) (read : ℕ → ℕ → ℕ) (block : Blocked → Bool) (r
   Fits (ReserveWrite m a) = (n : ℕ) → o.room m ≡ room (record { mem = m; address = n })
   Fits (Block m a) =
       (n : ℕ) → (o.can_write m n ≡ block (record { mem = m; address = n; writes = true })) × (o.can_read m n ≡ block (record { mem = m; address = n; writes = false }))
-  Fits _ = Unit {0}
+  Fits (Bind x e) = Unit {0}
+  Fits (Write m a e) = Unit {0}
+  Fits (ReserveRead m a) = Unit {0}
+  Fits (Release m a) = Unit {0}
+  Fits (Call args) = Unit {0}
+  Fits (SpecCall args) = Unit {0}
+  Fits (Verify args) = Unit {0}
+  Fits SpecCheck = Unit {0}
+  Fits SpecBarrier = Unit {0}
 
   abbrev pub AllFit : List Stmt → Type 0
   AllFit [] = Unit {0}

@@ -1,6 +1,7 @@
 -- A thread that runs alone in the machine that the proofs use, and what that machine's runs are shown to do.
 use Rattle.std.specs.Prelude.{◌≡◌, ℕ, ◌+◌, ◌-◌, ◌/◌, ◌≤◌, Bool, true, false, List, [], ◌∷◌, None, if◌then◌else◌, nat_lt, IsTrue, IsFalse, length}
-use Rattle.pdl_semantics.specs.Flat.{Arrays, Op, CombRead, DelayedRead, Stmt, Pipe, start_env, word_at, Commit, of_mem, after_commits}
+use Rattle.pdl_semantics.specs.Flat.{Arrays, Op, CombRead, Stmt, Pipe, start_env, word_at, Commit, of_mem, after_commits}
+use Rattle.pdl_semantics.specs.Forms.{on_delayed_read}
 use Rattle.pdl_semantics.specs.Stages.{commit_stage, depth}
 use Rattle.pdl_semantics.specs.Sequential.{thread, seqwrites}
 use Rattle.pdl_semantics.specs.Promises.{IsPrefix}
@@ -20,8 +21,7 @@ alone arrays =
 
 -- alone, a fetch has its answer at once
 abbrev pub answered_op : Op → Op
-answered_op (DelayedRead x m a) = CombRead x m a
-answered_op op = op
+answered_op op = on_delayed_read CombRead op op
 
 -- the statements of the stages before s, in text order
 abbrev pub before : ℕ → List Stmt → List Stmt

@@ -1,6 +1,8 @@
 -- Facts of an accepted pipe on guesses: scans over the statements of one path that tell who makes the next thread, and that nothing is released before it is certain.
 use Rattle.std.specs.Prelude.{ℕ, Bool, true, false, ◌&&◌, ◌||◌, not, List, [], ◌∷◌, Option, Some, None, ◌==◌, nat_lt}
-use Rattle.pdl_semantics.specs.Flat.{Op, Release, Call, SpecCall, Verify, SpecBarrier, Stmt}
+use Rattle.pdl_semantics.specs.Flat.{Op, Bind, CombRead, DelayedRead, Write, ReserveRead, ReserveWrite, Block, Release, Call, SpecCall, Verify, SpecCheck, SpecBarrier, Stmt}
+use Rattle.pdl_semantics.specs.Forms.{on_release}
+pub use Rattle.pdl_semantics.specs.Sound.{is_barrier}
 use Rattle.pdl_facts.specs.Scans.{has_location, scan_after, Scan}
 
 -- whether a stage is V, and whether it stands before V
@@ -24,7 +26,16 @@ abbrev pub next_making : Making → Op → Making
 next_making k (Call args) = Made
 next_making k (SpecCall args) = Guessed
 next_making k (Verify args) = Made
-next_making k _ = k
+next_making k (Bind x e) = k
+next_making k (CombRead x m a) = k
+next_making k (DelayedRead x m a) = k
+next_making k (Write m a e) = k
+next_making k (ReserveRead m a) = k
+next_making k (ReserveWrite m a) = k
+next_making k (Block m a) = k
+next_making k (Release m a) = k
+next_making k SpecCheck = k
+next_making k SpecBarrier = k
 
 abbrev pub making_all : Making → List Stmt → Making
 making_all k [] = k
@@ -47,7 +58,16 @@ abbrev pub making_ok : Option ℕ → Making → ℕ → Op → Bool
 making_ok v k s (Call args) = is_unmade k
 making_ok v k s (SpecCall args) = is_unmade k && stands_before v s
 making_ok v k s (Verify args) = is_guessed k && stands_at v s
-making_ok v k s _ = true
+making_ok v k s (Bind x e) = true
+making_ok v k s (CombRead x m a) = true
+making_ok v k s (DelayedRead x m a) = true
+making_ok v k s (Write m a e) = true
+making_ok v k s (ReserveRead m a) = true
+making_ok v k s (ReserveWrite m a) = true
+making_ok v k s (Block m a) = true
+making_ok v k s (Release m a) = true
+making_ok v k s SpecCheck = true
+making_ok v k s SpecBarrier = true
 
 abbrev pub makings_ok : Option ℕ → Making → List Stmt → Bool
 makings_ok v k [] = true
@@ -55,14 +75,9 @@ makings_ok v k (x ∷ xs) = making_ok v k x.stage x.op && makings_ok v (next_mak
 
 -- CERTAINTY
 
-abbrev pub is_barrier : Op → Bool
-is_barrier SpecBarrier = true
-is_barrier _ = false
-
 -- S4: after a barrier, or in V and later, anything is released; else only what was not reserved for writing
 abbrev pub is_sure : Option ℕ → Bool → Scan → ℕ → Op → Bool
-is_sure v barred c s (Release m a) = barred || (not (has_location c.held m a) || not (stands_before v s))
-is_sure v barred c s _ = true
+is_sure v barred c s op = on_release (λ m a. barred || (not (has_location c.held m a) || not (stands_before v s))) true op
 
 abbrev pub all_sure : Option ℕ → Bool → Scan → List Stmt → Bool
 all_sure v barred c [] = true

@@ -1,10 +1,10 @@
 -- The facts of an accepted pipe's text and of each of its paths, as tests that compute.
 use Rattle.std.specs.Prelude.{ℕ, suc, Bool, true, false, ◌&&◌, ◌||◌, not, List, [], ◌∷◌, ◌++◌, Option, Some, None, if◌then◌else◌, nat_lt, nat_le, ◌==◌, length}
-use Rattle.pdl_semantics.specs.Flat.{list_all, Op, CombRead, DelayedRead, Write, ReserveRead, ReserveWrite, Block, Release, SpecCall, Verify, Stmt, Guard, Pipe}
+use Rattle.pdl_semantics.specs.Flat.{list_all, Op, Bind, CombRead, DelayedRead, Write, ReserveRead, ReserveWrite, Block, Release, Call, SpecCall, Verify, SpecCheck, SpecBarrier, Stmt, Guard, Pipe}
 use Rattle.pdl_derived.specs.Alone.{before}
-use Rattle.pdl_semantics.specs.Stages.{in_stage, mem_at, commit_stage, reserve_stage, is_reserve, is_release, verify_stage}
+use Rattle.pdl_semantics.specs.Stages.{in_stage, mem_at, commit_stage, reserve_stage, is_reserve, is_release, is_verify, verify_stage}
 use Rattle.pdl_semantics.specs.Locks.{has_room}
-use Rattle.pdl_semantics.specs.Sound.{all_below, stages_from, is_fetch}
+use Rattle.pdl_semantics.specs.Sound.{all_below, stages_from, is_fetch, is_spec_call}
 use Rattle.pdl_facts.specs.Scans.{is_plain, none_of, reads_ok, no_scan, phases_ok, phase_all, Fresh, is_over, all_at, is_fixed}
 use Rattle.pdl_facts.specs.Certain.{Unmade, makings_ok, making_all, is_made, all_sure}
 
@@ -22,13 +22,16 @@ knows_memory n (ReserveRead m a) = nat_lt m n
 knows_memory n (ReserveWrite m a) = nat_lt m n
 knows_memory n (Block m a) = nat_lt m n
 knows_memory n (Release m a) = nat_lt m n
-knows_memory n _ = true
+knows_memory n (Bind x e) = true
+knows_memory n (Call args) = true
+knows_memory n (SpecCall args) = true
+knows_memory n (Verify args) = true
+knows_memory n SpecCheck = true
+knows_memory n SpecBarrier = true
 
 -- a guess, and its verify
 abbrev pub is_guess : Op → Bool
-is_guess (SpecCall args) = true
-is_guess (Verify args) = true
-is_guess _ = false
+is_guess op = is_spec_call op || is_verify op
 
 -- PATHS
 

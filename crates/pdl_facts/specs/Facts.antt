@@ -1,6 +1,7 @@
 -- WHAT IS TAKEN OF AN ACCEPTED PIPE OF THE WHOLE LANGUAGE: facts that the rules of the language give, of its text, of its stage graph, and of the statements of each path.
 use Rattle.std.specs.Prelude.{◌≡◌, ℕ, suc, ◌≤◌, ◌<◌, Bool, true, false, ◌&&◌, ◌||◌, not, List, [], ◌∷◌, Option, Some, None, ◌==◌, length, nat_lt, nat_le, slice_index}
 use Rattle.pdl_semantics.specs.Flat.{list_all, Op, Bind, CombRead, DelayedRead, Write, ReserveRead, ReserveWrite, Block, Release, Call, SpecCall, Verify, SpecCheck, SpecBarrier, Expr, Constant, Variable, Slice, Not, Binary, Cat, LessSigned, ZeroExtend, SignExtend, Choose, Guard, Stmt, Forks, Branch, Pipe}
+use Rattle.pdl_semantics.specs.Forms.{on_delayed_read}
 use Rattle.pdl_semantics.specs.Stages.{is_inside, is_reserve, is_verify, onpath, in_stage, stage_at, mem_at, verify_stage, commit_stage, reserve_stage}
 pub use Rattle.pdl_semantics.specs.Locks.{is_exact}
 use Rattle.pdl_derived.specs.Alone.{before, answered_op}
@@ -40,7 +41,10 @@ mentions_var x (Block m a) = a == x
 mentions_var x (Call args) = uses_any x args
 mentions_var x (SpecCall args) = uses_any x args
 mentions_var x (Verify args) = uses_any x args
-mentions_var x _ = false
+mentions_var x (ReserveRead m a) = false
+mentions_var x (Release m a) = false
+mentions_var x SpecCheck = false
+mentions_var x SpecBarrier = false
 
 abbrev pub asks_for : ℕ → List Guard → Bool
 asks_for x [] = false
@@ -63,14 +67,17 @@ trunk_only (SpecCall args) = true
 trunk_only (Verify args) = true
 trunk_only SpecCheck = true
 trunk_only SpecBarrier = true
-trunk_only _ = false
+trunk_only (Bind x e) = false
+trunk_only (CombRead x m a) = false
+trunk_only (DelayedRead x m a) = false
+trunk_only (Write m a e) = false
+trunk_only (Block m a) = false
 
 -- DELAYED READS
 
 -- N3: in its stage nothing after a delayed read has to do with its variable
 abbrev pub unseen_op : Op → List Stmt → Bool
-unseen_op (DelayedRead x m a) ys = silent_on x ys
-unseen_op _ ys = true
+unseen_op op ys = on_delayed_read (λ x m a. silent_on x ys) true op
 
 abbrev pub is_unseen : List Stmt → Bool
 is_unseen [] = true
@@ -78,16 +85,14 @@ is_unseen (y ∷ ys) = unseen_op y.op ys && is_unseen ys
 
 -- N2, F3: delayed reads of one stage have different memories and variables
 abbrev pub fetches_no : ℕ → ℕ → Op → Bool
-fetches_no x m (DelayedRead y n a) = not (x == y) && not (m == n)
-fetches_no x m _ = true
+fetches_no x m op = on_delayed_read (λ y n a. not (x == y) && not (m == n)) true op
 
 abbrev pub none_like : ℕ → ℕ → List Stmt → Bool
 none_like x m [] = true
 none_like x m (y ∷ ys) = fetches_no x m y.op && none_like x m ys
 
 abbrev pub alone_op : Op → List Stmt → Bool
-alone_op (DelayedRead x m a) ys = none_like x m ys
-alone_op _ ys = true
+alone_op op ys = on_delayed_read (λ x m a. none_like x m ys) true op
 
 abbrev pub fetch_apart : List Stmt → Bool
 fetch_apart [] = true
@@ -107,16 +112,14 @@ pub record FetchOk (p : Pipe) (fetch : ℕ → ℕ) (s x m : ℕ) : Type 0 where
   pub early : (env : List ℕ) → next_of p s env ≤ commit_stage p m
 
 abbrev pub FetchIf : Pipe → (ℕ → ℕ) → ℕ → List Guard → Op → Type 0
-FetchIf p fetch s gs (DelayedRead x m a) = Found p fetch s m × (is_dead gs ≡ false → FetchOk p fetch s x m)
-FetchIf p fetch s gs _ = Unit {0}
+FetchIf p fetch s gs op = on_delayed_read (λ x m a. Found p fetch s m × (is_dead gs ≡ false → FetchOk p fetch s x m)) (Unit {0}) op
 
 abbrev pub AllFetches : Pipe → (ℕ → ℕ) → ℕ → List Stmt → Type 0
 AllFetches p fetch s [] = Unit {0}
 AllFetches p fetch s (y ∷ ys) = FetchIf p fetch s y.guards y.op × AllFetches p fetch s ys
 
 abbrev pub is_fetch_of : ℕ → Op → Bool
-is_fetch_of x (DelayedRead y m a) = y == x
-is_fetch_of x _ = false
+is_fetch_of x op = on_delayed_read (λ y m a. y == x) false op
 
 -- values that differ in what these statements read delayed, and in nothing else
 abbrev pub DifferIn : List Stmt → List ℕ → List ℕ → Type 0

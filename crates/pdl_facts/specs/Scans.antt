@@ -1,6 +1,7 @@
 -- Scans over the statements of one path, and over a text, that tell whether locks and values are used as the rules of the language say.
 use Rattle.std.specs.Prelude.{ℕ, Bool, true, false, ◌&&◌, ◌||◌, not, List, [], ◌∷◌, if◌then◌else◌, ◌==◌, nat_le}
-use Rattle.pdl_semantics.specs.Flat.{Op, Bind, CombRead, DelayedRead, Write, ReserveWrite, Block, Release, Stmt, Guard, Pipe}
+use Rattle.pdl_semantics.specs.Flat.{Op, Bind, CombRead, DelayedRead, Write, ReserveRead, ReserveWrite, Block, Release, Call, SpecCall, Verify, SpecCheck, SpecBarrier, Stmt, Guard, Pipe}
+use Rattle.pdl_semantics.specs.Forms.{on_binding}
 use Rattle.pdl_semantics.specs.Stages.{mem_at, commit_stage, reserve_stage}
 pub use Rattle.pdl_semantics.specs.Locks.{is_plain}
 use Rattle.pdl_derived.specs.Alone.{Location}
@@ -33,7 +34,17 @@ location m a = record { mem = m; var = a }
 abbrev pub scan_after : Op → Scan → Scan
 scan_after (Block m a) c = if has_location c.held m a then c else record { held = c.held; blocked = location m a ∷ c.blocked }
 scan_after (ReserveWrite m a) c = record { held = location m a ∷ c.held; blocked = c.blocked }
-scan_after _ c = c
+scan_after (Bind x e) c = c
+scan_after (CombRead x m a) c = c
+scan_after (DelayedRead x m a) c = c
+scan_after (Write m a e) c = c
+scan_after (ReserveRead m a) c = c
+scan_after (Release m a) c = c
+scan_after (Call args) c = c
+scan_after (SpecCall args) c = c
+scan_after (Verify args) c = c
+scan_after SpecCheck c = c
+scan_after SpecBarrier c = c
 
 abbrev pub scan_after_all : List Stmt → Scan → Scan
 scan_after_all [] c = c
@@ -46,7 +57,15 @@ op_ok p s c (CombRead x m a) =
     not (is_address c.blocked x) && (is_plain (mem_at p m).lock || (has_location c.blocked m a && nat_le s (commit_stage p m)))
 op_ok p s c (Block m a) = nat_le (reserve_stage p m) s
 op_ok p s c (DelayedRead x m a) = false
-op_ok p s c _ = true
+op_ok p s c (Write m a e) = true
+op_ok p s c (ReserveRead m a) = true
+op_ok p s c (ReserveWrite m a) = true
+op_ok p s c (Release m a) = true
+op_ok p s c (Call args) = true
+op_ok p s c (SpecCall args) = true
+op_ok p s c (Verify args) = true
+op_ok p s c SpecCheck = true
+op_ok p s c SpecBarrier = true
 
 abbrev pub reads_ok : Pipe → Scan → List Stmt → Bool
 reads_ok p c [] = true
@@ -78,7 +97,16 @@ abbrev pub next_phase : ℕ → Phase → Op → Phase
 next_phase m ph (ReserveWrite n a) = if n == m then Held a else ph
 next_phase m ph (Write n a e) = if n == m then Written a else ph
 next_phase m ph (Release n a) = if n == m then after_release ph a else ph
-next_phase m ph _ = ph
+next_phase m ph (Bind x e) = ph
+next_phase m ph (CombRead x n a) = ph
+next_phase m ph (DelayedRead x n a) = ph
+next_phase m ph (ReserveRead n a) = ph
+next_phase m ph (Block n a) = ph
+next_phase m ph (Call args) = ph
+next_phase m ph (SpecCall args) = ph
+next_phase m ph (Verify args) = ph
+next_phase m ph SpecCheck = ph
+next_phase m ph SpecBarrier = ph
 
 abbrev pub holds_location : Phase → ℕ → Bool
 holds_location (Held y) x = y == x
@@ -101,7 +129,13 @@ phase_ok m ph (DelayedRead x n a) = false
 phase_ok m ph (Write n a e) = not (n == m) || holds_location ph a
 phase_ok m ph (ReserveWrite n a) = not (n == m) || is_fresh ph
 phase_ok m ph (Release n a) = not (n == m) || not (holds_location ph a)
-phase_ok m ph _ = true
+phase_ok m ph (ReserveRead n a) = true
+phase_ok m ph (Block n a) = true
+phase_ok m ph (Call args) = true
+phase_ok m ph (SpecCall args) = true
+phase_ok m ph (Verify args) = true
+phase_ok m ph SpecCheck = true
+phase_ok m ph SpecBarrier = true
 
 abbrev pub phases_ok : ℕ → Phase → List Stmt → Bool
 phases_ok m ph [] = true
@@ -121,10 +155,7 @@ called c [] = c
 called c (x ∷ xs) = called (c || is_call x.op) xs
 
 abbrev pub binds_var : ℕ → Op → Bool
-binds_var g (Bind x e) = x == g
-binds_var g (CombRead x m a) = x == g
-binds_var g (DelayedRead x m a) = x == g
-binds_var g _ = false
+binds_var g op = on_binding (λ x. x == g) false op
 
 -- a guard's variable is not bound where it is tested or later
 abbrev pub free_of : List Guard → List Stmt → Bool

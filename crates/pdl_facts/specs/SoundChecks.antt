@@ -1,8 +1,9 @@
 -- The facts of an accepted pipe of the whole language, as tests that compute.
 use Rattle.std.specs.Prelude.{ℕ, suc, Bool, true, false, ◌&&◌, ◌||◌, not, List, [], ◌∷◌, ◌++◌, Option, Some, None, is_none, if◌then◌else◌, nat_lt, nat_le, ◌==◌, length, slice_set}
-use Rattle.pdl_semantics.specs.Flat.{list_all, Op, DelayedRead, Guard, Stmt, Next, Ends, Goes, Forks, Branch, Pipe, all_hold, start_env}
+use Rattle.pdl_semantics.specs.Flat.{list_all, Op, Guard, Stmt, Next, Ends, Goes, Forks, Branch, Pipe, all_hold, start_env}
+use Rattle.pdl_semantics.specs.Forms.{on_delayed_read}
 use Rattle.pdl_semantics.specs.Stages.{onpath, in_stage, stage_at, is_inside, mem_at, commit_stage, reserve_stage, verify_stage, is_verify, fork_guards}
-use Rattle.pdl_semantics.specs.Sound.{all_below, stages_from, is_fetch}
+use Rattle.pdl_semantics.specs.Sound.{all_below, stages_from, is_fetch, is_delayed_read}
 use Rattle.pdl_derived.specs.Alone.{before}
 use Rattle.pdl_facts.specs.Scans.{none_of, all_at, binds_var}
 use Rattle.pdl_semantics.specs.Cycle.{merges_by}
@@ -138,19 +139,15 @@ all_guards p = guard_vars p.stmts ++ fork_guards p.stages
 -- the stage of the first delayed read of m
 abbrev pub fetch_stage : ℕ → List Stmt → ℕ
 fetch_stage m [] = 0
-fetch_stage m (y ∷ ys) = if fetches_from m y.op then y.stage else fetch_stage m ys
-  where
-    fetches_from : ℕ → Op → Bool
-    fetches_from m (DelayedRead x n a) = n == m
-    fetches_from m _ = false
+fetch_stage m (y ∷ ys) = if is_delayed_read m y.op then y.stage else fetch_stage m ys
 
 abbrev pub fetch_sound : Pipe → ℕ → List Guard → Op → Bool
-fetch_sound p s gs (DelayedRead x m a) =
-    (fetch_stage m p.stmts == s)
+fetch_sound p s gs op =
+    on_delayed_read (λ x m a. (fetch_stage m p.stmts == s)
     && (nat_lt m (length p.mems)
     && (is_exact (mem_at p m).lock
-    && (is_dead gs || list_all (λ n. nat_le n (commit_stage p m)) (nexts p s))))
-fetch_sound p s gs _ = true
+    && (is_dead gs || list_all (λ n. nat_le n (commit_stage p m)) (nexts p s)))))
+    true op
 
 -- the guards on variables that these statements don't read delayed
 abbrev pub unfetched_guards : List Stmt → List Guard → List Guard

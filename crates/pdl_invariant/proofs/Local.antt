@@ -4,6 +4,7 @@ use Rattle.std.proofs.lemmas.List.{get_or-set_other, length-replicate}
 use Rattle.std.proofs.lemmas.Bool.{ne_eqb}
 use Rattle.std.proofs.lemmas.List.Recursion.{is_count_by}
 use Rattle.pdl_semantics.specs.Flat.{Op, Bind, CombRead, DelayedRead, Write, ReserveRead, ReserveWrite, Block, Release, Call, SpecCall, Verify, SpecCheck, SpecBarrier, Stmt, Pipe, Forks, values_of, all_hold, start_env}
+use Rattle.pdl_semantics.specs.Forms.{on_delayed_read}
 use Rattle.pdl_semantics.specs.Stages.{list_any, onpath, in_stage, stage_at, goes_to}
 use Rattle.pdl_semantics.specs.Machine.{Ask, Awaited, Kept, same_args, with_kept, State, answer_for, kept_answer, unanswered_reads}
 use Rattle.pdl_semantics.specs.Cycle.{awaited_of}
@@ -30,8 +31,7 @@ use Rattle.pdl_invariant.proofs.Trails.{AllStmts, stmts_append, stmts_map, stage
 
 -- the reads that these statements ask for
 abbrev pub fetch_of : Op → List Awaited
-fetch_of (DelayedRead x m a) = record { mem = m; var = x } ∷ []
-fetch_of _ = []
+fetch_of op = on_delayed_read (λ x m a. record { mem = m; var = x } ∷ []) [] op
 
 abbrev pub fetches_of : List Stmt → List Awaited
 fetches_of [] = []

@@ -4,6 +4,7 @@ use Rattle.std.proofs.lemmas.List.{get_or-set_other, get_or-set_same, length-set
 use Rattle.std.proofs.lemmas.Bool.{eqb-true, not-true, or_parts, or_right, or_left}
 use Rattle.pdl_word.specs.Words
 use Rattle.pdl_semantics.specs.Flat.{Op, Bind, CombRead, DelayedRead, Write, ReserveRead, ReserveWrite, Block, Release, Call, SpecCall, Verify, SpecCheck, SpecBarrier, Expr, Constant, Variable, Slice, Not, Binary, Cat, LessSigned, ZeroExtend, SignExtend, Choose, Stmt, value_of, values_of, operator_value, all_hold}
+use Rattle.pdl_semantics.specs.Forms.{on_delayed_read, on_block}
 use Rattle.pdl_semantics.specs.Stages.{onpath}
 use Rattle.pdl_semantics.specs.Machine.{Ask, same_args}
 use Rattle.pdl_semantics.specs.Sound.{is_release_at, is_call}
@@ -64,8 +65,7 @@ all_new_front vars (x ∷ xs) ys past h =
 
 -- whether a statement hangs on the value of a variable when it has been carried out
 abbrev pub touches : ℕ → Op → Bool
-touches x (DelayedRead y m a) = a == x
-touches x op = mentions_var x op
+touches x op = on_delayed_read (λ y m a. a == x) (mentions_var x op) op
 
 pub value_agree : (e : Expr) (env env' : List ℕ) → ((g : ℕ) → uses_in g e ≡ true → slice_index env g ≡ slice_index env' g) → value_of e env ≡ value_of e env'
 value_agree (Constant w v) env env' f = refl
@@ -91,7 +91,17 @@ values_agree (e ∷ es) env env' f = ap₂ (λ a l. a ∷ l) (value_agree e env 
 abbrev pub Done : List ℕ → List ℕ → Op → Type 0
 Done env guess (Bind x e) = slice_index env x ≡ value_of e env
 Done env guess (SpecCall args) = guess ≡ values_of args env
-Done env guess _ = Unit {0}
+Done env guess (CombRead x m a) = Unit {0}
+Done env guess (DelayedRead x m a) = Unit {0}
+Done env guess (Write m a e) = Unit {0}
+Done env guess (ReserveRead m a) = Unit {0}
+Done env guess (ReserveWrite m a) = Unit {0}
+Done env guess (Block m a) = Unit {0}
+Done env guess (Release m a) = Unit {0}
+Done env guess (Call args) = Unit {0}
+Done env guess (Verify args) = Unit {0}
+Done env guess SpecCheck = Unit {0}
+Done env guess SpecBarrier = Unit {0}
 
 -- values agree on what a statement hangs on
 abbrev pub Agrees : Op → List ℕ → List ℕ → Type 0
@@ -178,8 +188,8 @@ is_released m a (op ∷ ops) = is_release_at m a op || is_released m a ops
 
 -- a block's location was released, or the block is ready
 abbrev pub BlockOk : Around → List ℕ → List Entry → List Op → Op → Type 0
-BlockOk o env es past (Block m a) = (is_released m a past ≡ true) ⊎ (cond (has_entry es m a) (o.can_write m (slice_index env a)) (o.can_read m (slice_index env a)) ≡ true)
-BlockOk o env es past _ = Unit {0}
+BlockOk o env es past op =
+    on_block (λ m a. (is_released m a past ≡ true) ⊎ (cond (has_entry es m a) (o.can_write m (slice_index env a)) (o.can_read m (slice_index env a)) ≡ true)) (Unit {0}) op
 
 pub record Past (o : Around) (vars : ℕ) (past : List Op) (w : Work) : Type 0 where
   pub long : vars ≤ length w.env

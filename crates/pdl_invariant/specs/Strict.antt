@@ -1,6 +1,7 @@
 -- What Sound state takes of an accepted pipe beside the facts of a sound one: each path binds a variable before it is used, and lets go of each location that it blocks.
 use Rattle.std.specs.Prelude.{◌≡◌, ℕ, Bool, true, false, ◌&&◌, ◌||◌, not, List, [], ◌∷◌, Option, Some, None, ◌==◌, nat_lt}
-use Rattle.pdl_semantics.specs.Flat.{Op, Bind, CombRead, DelayedRead, Block, Stmt, Pipe, start_env}
+use Rattle.pdl_semantics.specs.Flat.{Op, Bind, CombRead, DelayedRead, Write, ReserveRead, ReserveWrite, Block, Release, Call, SpecCall, Verify, SpecCheck, SpecBarrier, Stmt, Pipe, start_env}
+use Rattle.pdl_semantics.specs.Forms.{on_binding, on_block}
 use Rattle.pdl_semantics.specs.Stages.{list_any, onpath}
 use Rattle.pdl_semantics.specs.Sound.{is_release_at}
 use Rattle.pdl_facts.specs.Facts.{uses_in, mentions_var}
@@ -8,17 +9,23 @@ use Rattle.pdl_facts.specs.SoundChecks.{all_paths, all_guards}
 
 -- the variable that a statement binds
 abbrev pub bound_by : Op → Option ℕ
-bound_by (Bind x e) = Some x
-bound_by (CombRead x m a) = Some x
-bound_by (DelayedRead x m a) = Some x
-bound_by _ = None
+bound_by op = on_binding Some None op
 
 -- whether a statement uses the variable that it binds
 abbrev pub uses_own : Op → Bool
 uses_own (Bind x e) = uses_in x e
 uses_own (CombRead x m a) = a == x
 uses_own (DelayedRead x m a) = a == x
-uses_own _ = false
+uses_own (Write m a e) = false
+uses_own (ReserveRead m a) = false
+uses_own (ReserveWrite m a) = false
+uses_own (Block m a) = false
+uses_own (Release m a) = false
+uses_own (Call args) = false
+uses_own (SpecCall args) = false
+uses_own (Verify args) = false
+uses_own SpecCheck = false
+uses_own SpecBarrier = false
 
 -- whether one of these binds or uses a variable
 abbrev pub is_mentioned : ℕ → List Op → Bool
@@ -37,8 +44,7 @@ all_new vars past (y ∷ ys) = (is_new vars past (bound_by y.op) && not (uses_ow
 
 -- after a block its location is released
 abbrev pub lets_go : Op → List Stmt → Bool
-lets_go (Block m a) ys = list_any (λ (z : Stmt). is_release_at m a z.op) ys
-lets_go _ ys = true
+lets_go op ys = on_block (λ m a. list_any (λ (z : Stmt). is_release_at m a z.op) ys) true op
 
 abbrev pub all_let_go : List Stmt → Bool
 all_let_go [] = true

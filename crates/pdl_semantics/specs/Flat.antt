@@ -85,7 +85,9 @@ pub data Lock : Type 0 where
 -- whether there is a lock
 abbrev pub has_lock : Lock → Bool
 has_lock Plain = false
-has_lock _ = true
+has_lock (Queue size) = true
+has_lock (Bypass size) = true
+has_lock (Rename size) = true
 
 -- a memory, with the width of its words in bits and how many words it has
 pub record Mem : Type 0 where

@@ -1,6 +1,6 @@
 -- The flat form of a tree: names become numbers, each statement gets its stage and its guards, and the separators give the stage graph. Total; a tree that breaks a rule of the language gets a flat form that nobody uses.
 use Rattle.std.specs.Prelude.{ℕ, suc, ◌+◌, ◌-◌, Bool, true, false, List, [], ◌∷◌, ◌++◌, Option, Some, None, unwrap_or, if◌then◌else◌, ◌==◌, nat_lt, bytes_eq, length}
-use Rattle.pdl_semantics.specs.Tree.{Literal, BinaryOp, Equal, Differ, Less, Expr, Constant, Variable, Slice, Not, Binary, Cat, LessSigned, ZeroExtend, SignExtend, Choose, Kind, R, W, Stmt, Separator, CombRead, Bind, SpecCall, DelayedRead, Write, Reserve, Block, Release, If, Call, Verify, SpecCheck, SpecBarrier, Stmts, Nil, Cons, Param, LockKind, Queue, Bypass, Rename, LockDecl, Mem, Pipe}
+use Rattle.pdl_semantics.specs.Tree.{Literal, BinaryOp, Add, Sub, Mul, And, Or, Xor, Equal, Differ, Less, ShiftLeft, ShiftRight, Expr, Constant, Variable, Slice, Not, Binary, Cat, LessSigned, ZeroExtend, SignExtend, Choose, Kind, R, W, Stmt, Separator, CombRead, Bind, SpecCall, DelayedRead, Write, Reserve, Block, Release, If, Call, Verify, SpecCheck, SpecBarrier, Stmts, Nil, Cons, Param, LockKind, Queue, Bypass, Rename, LockDecl, Mem, Pipe}
 use Rattle.pdl_semantics.specs.Flat
 use Rattle.pdl_semantics.specs.Stages.{is_reserve, is_release}
 
@@ -35,10 +35,17 @@ mem_width (x ∷ xs) m = if bytes_eq x.name.name m then x.width.value else mem_w
 
 -- the width of an operator's value, by its operands' width
 abbrev pub op_width : BinaryOp → ℕ → ℕ
+op_width Add w = w
+op_width Sub w = w
+op_width Mul w = w
+op_width And w = w
+op_width Or w = w
+op_width Xor w = w
 op_width Equal w = 1
 op_width Differ w = 1
 op_width Less w = 1
-op_width _ w = w
+op_width ShiftLeft w = w
+op_width ShiftRight w = w
 
 -- the width of an expression; a slice of no bits, and bits side by side that are too many, count as one
 abbrev pub width_of : List Var → Expr → ℕ
@@ -89,14 +96,25 @@ next_position at' = record at' { stage = suc at'.begun; begun = suc at'.begun }
 abbrev pub back_in : ℕ → Position → Position
 back_in s at' = record at' { stage = s }
 
+-- of the name of a plain variable; of any other expression the rest
+abbrev pub on_variable : {X : Type 0} → (List ℕ → X) → X → Expr → X
+on_variable f rest (Constant l) = rest
+on_variable f rest (Variable x) = f x.name
+on_variable f rest (Slice x high low) = rest
+on_variable f rest (Not a) = rest
+on_variable f rest (Binary op a b) = rest
+on_variable f rest (Cat a b) = rest
+on_variable f rest (LessSigned a b) = rest
+on_variable f rest (ZeroExtend a width) = rest
+on_variable f rest (SignExtend a width) = rest
+on_variable f rest (Choose c a b) = rest
+
 -- the guard of a condition: the plain variable itself, else the variable of its own that the `if` binds
 abbrev pub guard_of : List Var → Expr → ℕ
-guard_of vs (Variable x) = var_of vs x.name
-guard_of vs _ = length vs
+guard_of vs e = on_variable (var_of vs) (length vs) e
 
 abbrev pub with_guard : Expr → Position → Position
-with_guard (Variable x) at' = at'
-with_guard _ at' = with_var [] 1 at'
+with_guard e at' = on_variable (λ x. at') (with_var [] 1 at') e
 
 -- the place after a statement, and after some; a branch begins in the stage of its `if`
 abbrev mutual
@@ -107,7 +125,15 @@ abbrev mutual
   past ms (DelayedRead _ x from) at' = with_var x.name (mem_width ms from.mem.name) at'
   past ms (If _ c when otherwise) at' =
       back_in at'.stage (past_all ms otherwise (back_in at'.stage (past_all ms when (with_guard c at'))))
-  past ms _ at' = at'
+  past ms (SpecCall _ guess args) at' = at'
+  past ms (Write _ to e) at' = at'
+  past ms (Reserve _ at kind) at' = at'
+  past ms (Block _ at) at' = at'
+  past ms (Release _ at) at' = at'
+  past ms (Call _ args) at' = at'
+  past ms (Verify _ guess args) at' = at'
+  past ms (SpecCheck _) at' = at'
+  past ms (SpecBarrier _) at' = at'
 
   pub past_all : List Mem → Stmts → Position → Position
   past_all ms Nil at' = at'
@@ -124,8 +150,7 @@ at_position gs at' op = record { stage = at'.stage; guards = gs; op = op } ∷ [
 
 -- an `if` on an expression binds its guard
 abbrev pub binds_guard : List Flat.Guard → Position → Expr → List Flat.Stmt
-binds_guard gs at' (Variable x) = []
-binds_guard gs at' e = at_position gs at' (Flat.Bind (length at'.vars) (flat_expr at'.vars e))
+binds_guard gs at' e = on_variable (λ x. []) (at_position gs at' (Flat.Bind (length at'.vars) (flat_expr at'.vars e))) e
 
 -- under one branch more
 abbrev pub under : List Flat.Guard → List Var → Expr → Bool → List Flat.Guard
@@ -170,7 +195,18 @@ abbrev mutual
   pub separators_in : Stmt → ℕ
   separators_in (Separator _) = 1
   separators_in (If _ c when otherwise) = separators when + separators otherwise
-  separators_in _ = 0
+  separators_in (CombRead _ x from) = 0
+  separators_in (Bind _ x e) = 0
+  separators_in (SpecCall _ guess args) = 0
+  separators_in (DelayedRead _ x from) = 0
+  separators_in (Write _ to e) = 0
+  separators_in (Reserve _ at kind) = 0
+  separators_in (Block _ at) = 0
+  separators_in (Release _ at) = 0
+  separators_in (Call _ args) = 0
+  separators_in (Verify _ guess args) = 0
+  separators_in (SpecCheck _) = 0
+  separators_in (SpecBarrier _) = 0
 
   pub separators : Stmts → ℕ
   separators Nil = 0
@@ -221,7 +257,18 @@ abbrev mutual
       (graph ms (side at'.stage true) merge when (with_guard c at'))
       (graph ms (side at'.stage false) merge otherwise (at_otherwise ms c when at'))
       rest)
-  graph_before ms branch _ at' rest = rest
+  graph_before ms branch (CombRead _ x from) at' rest = rest
+  graph_before ms branch (Bind _ x e) at' rest = rest
+  graph_before ms branch (SpecCall _ guess args) at' rest = rest
+  graph_before ms branch (DelayedRead _ x from) at' rest = rest
+  graph_before ms branch (Write _ to e) at' rest = rest
+  graph_before ms branch (Reserve _ at kind) at' rest = rest
+  graph_before ms branch (Block _ at) at' rest = rest
+  graph_before ms branch (Release _ at) at' rest = rest
+  graph_before ms branch (Call _ args) at' rest = rest
+  graph_before ms branch (Verify _ guess args) at' rest = rest
+  graph_before ms branch (SpecCheck _) at' rest = rest
+  graph_before ms branch (SpecBarrier _) at' rest = rest
 
   pub graph : List Mem → Option Flat.Branch → Flat.Next → Stmts → Position → Graph
   graph ms branch exit Nil at' = record { next = exit; later = [] }

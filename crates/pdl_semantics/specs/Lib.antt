@@ -1,5 +1,6 @@
 pub mod Tree
 pub mod Flat
+pub mod Forms
 pub mod Flatten
 pub mod Sequential
 pub mod Lines

@@ -35,8 +35,10 @@ read_ready (Rename size) l = not (is_coming l)
 
 -- a queue's write waits likewise, the others' never
 abbrev pub write_ready : Lock → Latest → Bool
+write_ready Plain l = true
 write_ready (Queue size) l = is_nothing l
-write_ready _ l = true
+write_ready (Bypass size) l = true
+write_ready (Rename size) l = true
 
 -- whether there is no lock
 abbrev pub is_plain : Lock → Bool

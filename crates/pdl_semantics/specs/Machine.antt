@@ -83,7 +83,17 @@ let_go (l ∷ ls) m a = if (l.mem == m) && (l.var == a) then ls else l ∷ let_g
 abbrev pub held_after : Op → List HeldLocation → List HeldLocation
 held_after (ReserveWrite m a) ls = record { mem = m; var = a } ∷ ls
 held_after (Release m a) ls = let_go ls m a
-held_after _ ls = ls
+held_after (Bind x e) ls = ls
+held_after (CombRead x m a) ls = ls
+held_after (DelayedRead x m a) ls = ls
+held_after (Write m a e) ls = ls
+held_after (ReserveRead m a) ls = ls
+held_after (Block m a) ls = ls
+held_after (Call args) ls = ls
+held_after (SpecCall args) ls = ls
+held_after (Verify args) ls = ls
+held_after SpecCheck ls = ls
+held_after SpecBarrier ls = ls
 
 -- after the statements of the path in the stages before s
 abbrev pub held_before : ℕ → List ℕ → List Stmt → List HeldLocation → List HeldLocation

@@ -1,6 +1,7 @@
 -- Sound state: what holds, between cycles, in every state that a run of an accepted pipe comes to. Each point is a test, so that it computes. A turn is a thread of the sequential run.
 use Rattle.std.specs.Prelude.{IsTrue, ℕ, zero, suc, ◌+◌, count_by, Bool, true, false, ◌&&◌, ◌||◌, not, List, [], ◌∷◌, ◌++◌, Option, Some, None, is_none, if◌then◌else◌, nat_lt, nat_le, ◌==◌, slice_index, length}
-use Rattle.pdl_semantics.specs.Flat.{Arrays, list_all, Op, Bind, CombRead, DelayedRead, Write, ReserveWrite, Block, Release, Call, SpecCall, SpecBarrier, Stmt, Mem, Branch, Pipe, value_of, values_of, start_env, word_at, Commit, of_mem}
+use Rattle.pdl_semantics.specs.Flat.{Arrays, list_all, Op, Bind, CombRead, DelayedRead, Write, ReserveRead, ReserveWrite, Block, Release, Call, SpecCall, Verify, SpecCheck, SpecBarrier, Stmt, Mem, Branch, Pipe, value_of, values_of, start_env, word_at, Commit, of_mem}
+use Rattle.pdl_semantics.specs.Forms.{on_delayed_read, on_block, on_release}
 use Rattle.pdl_semantics.specs.Stages.{list_any, onpath, stage_at, goes_to, is_verify, verify_stage}
 use Rattle.pdl_semantics.specs.Sequential.{Run, run_all, thread, seqwrites, after_turns}
 use Rattle.pdl_semantics.specs.Machine.{Awaited, Kept, Thread, Pending, Request, NoRequest, Owned, Orphan, State, lock_of, fork_of, request_of, HeldLocation, is_held, held_before, same_args, with_kept}
@@ -74,34 +75,96 @@ holds_mem m p l = list_any (λ h. h.mem == m) (held_places p l)
 abbrev pub is_call : Op → Bool
 is_call (Call args) = true
 is_call (SpecCall args) = true
-is_call _ = false
+is_call (Bind x e) = false
+is_call (CombRead x m a) = false
+is_call (DelayedRead x m a) = false
+is_call (Write m a e) = false
+is_call (ReserveRead m a) = false
+is_call (ReserveWrite m a) = false
+is_call (Block m a) = false
+is_call (Release m a) = false
+is_call (Verify args) = false
+is_call SpecCheck = false
+is_call SpecBarrier = false
 
 abbrev pub is_spec_call : Op → Bool
 is_spec_call (SpecCall args) = true
-is_spec_call _ = false
+is_spec_call (Bind x e) = false
+is_spec_call (CombRead x m a) = false
+is_spec_call (DelayedRead x m a) = false
+is_spec_call (Write m a e) = false
+is_spec_call (ReserveRead m a) = false
+is_spec_call (ReserveWrite m a) = false
+is_spec_call (Block m a) = false
+is_spec_call (Release m a) = false
+is_spec_call (Call args) = false
+is_spec_call (Verify args) = false
+is_spec_call SpecCheck = false
+is_spec_call SpecBarrier = false
 
 abbrev pub is_barrier : Op → Bool
 is_barrier SpecBarrier = true
-is_barrier _ = false
+is_barrier (Bind x e) = false
+is_barrier (CombRead x m a) = false
+is_barrier (DelayedRead x m a) = false
+is_barrier (Write m a e) = false
+is_barrier (ReserveRead m a) = false
+is_barrier (ReserveWrite m a) = false
+is_barrier (Block m a) = false
+is_barrier (Release m a) = false
+is_barrier (Call args) = false
+is_barrier (SpecCall args) = false
+is_barrier (Verify args) = false
+is_barrier SpecCheck = false
 
 abbrev pub is_write : ℕ → Op → Bool
 is_write m (Write n a e) = n == m
-is_write m _ = false
+is_write m (Bind x e) = false
+is_write m (CombRead x n a) = false
+is_write m (DelayedRead x n a) = false
+is_write m (ReserveRead n a) = false
+is_write m (ReserveWrite n a) = false
+is_write m (Block n a) = false
+is_write m (Release n a) = false
+is_write m (Call args) = false
+is_write m (SpecCall args) = false
+is_write m (Verify args) = false
+is_write m SpecCheck = false
+is_write m SpecBarrier = false
 
 abbrev pub is_write_reserve : ℕ → Op → Bool
 is_write_reserve m (ReserveWrite n a) = n == m
-is_write_reserve m _ = false
+is_write_reserve m (Bind x e) = false
+is_write_reserve m (CombRead x n a) = false
+is_write_reserve m (DelayedRead x n a) = false
+is_write_reserve m (Write n a e) = false
+is_write_reserve m (ReserveRead n a) = false
+is_write_reserve m (Block n a) = false
+is_write_reserve m (Release n a) = false
+is_write_reserve m (Call args) = false
+is_write_reserve m (SpecCall args) = false
+is_write_reserve m (Verify args) = false
+is_write_reserve m SpecCheck = false
+is_write_reserve m SpecBarrier = false
 
 abbrev pub is_release_at : ℕ → ℕ → Op → Bool
-is_release_at m a (Release n b) = (n == m) && (b == a)
-is_release_at m a _ = false
+is_release_at m a op = on_release (λ n b. (n == m) && (b == a)) false op
 
 -- a block or a read of m
 abbrev pub looks_at : ℕ → Op → Bool
 looks_at m (Block n a) = n == m
 looks_at m (CombRead x n a) = n == m
 looks_at m (DelayedRead x n a) = n == m
-looks_at m _ = false
+looks_at m (Bind x e) = false
+looks_at m (Write n a e) = false
+looks_at m (ReserveRead n a) = false
+looks_at m (ReserveWrite n a) = false
+looks_at m (Release n a) = false
+looks_at m (Call args) = false
+looks_at m (SpecCall args) = false
+looks_at m (Verify args) = false
+looks_at m SpecCheck = false
+looks_at m SpecBarrier = false
 
 -- a thread has released a write of m
 abbrev pub has_released : ℕ → Pipe → Live → Bool
@@ -203,8 +266,7 @@ abbrev pub once_answered : State → Thread → List ℕ
 once_answered st t = with_kept (awaited_words st t.awaits) (with_kept t.kept t.env)
 
 abbrev pub has_asked : List ℕ → ℕ → ℕ → ℕ → Op → Bool
-has_asked env x m address (DelayedRead y n a) = (y == x) && (n == m) && (slice_index env a == address)
-has_asked env x m address _ = false
+has_asked env x m address op = on_delayed_read (λ y n a. (y == x) && (n == m) && (slice_index env a == address)) false op
 
 abbrev pub follows_values : Pipe → State → Follower → Bool
 follows_values p st f =
@@ -280,12 +342,11 @@ is_owner thread (Owned owner a) = owner == thread
 is_owner thread (Orphan a) = false
 
 abbrev pub is_kept_or_awaited : Thread → Op → Bool
-is_kept_or_awaited t (DelayedRead x m a) = list_any (λ k. k.var == x) t.kept || list_any (λ r. (r.var == x) && (r.mem == m)) t.awaits
-is_kept_or_awaited t _ = true
+is_kept_or_awaited t op =
+    on_delayed_read (λ x m a. list_any (λ k. k.var == x) t.kept || list_any (λ r. (r.var == x) && (r.mem == m)) t.awaits) true op
 
 abbrev pub is_fetch : Op → Bool
-is_fetch (DelayedRead x m a) = true
-is_fetch _ = false
+is_fetch op = on_delayed_read (λ x m a. true) false op
 
 abbrev pub asks_right : Pipe → State → Live → Bool
 asks_right p st l =
@@ -302,8 +363,7 @@ has_owner st m (Orphan a) = true
 -- 8. READS BEFORE COMMITS. While a thread has a block or a read of m to do, or a read of m to bind, no younger one has released a write of m
 
 abbrev pub is_delayed_read : ℕ → Op → Bool
-is_delayed_read m (DelayedRead x n a) = n == m
-is_delayed_read m _ = false
+is_delayed_read m op = on_delayed_read (λ x n a. n == m) false op
 
 abbrev pub still_looks : ℕ → Pipe → Follower → Bool
 still_looks m p f =
@@ -313,10 +373,10 @@ still_looks m p f =
 -- 9. BLOCKS. A block that a live thread has moved on from is still ready for it until it releases that location
 
 abbrev pub stays_ready : Pipe → State → Live → Op → Bool
-stays_ready p st l (Block m a) =
-    has_done (is_release_at m a) p l
-    || block_ready p st l.thread.number (record { mem = m; address = slice_index l.thread.env a; writes = is_held (held_places p l) m a })
-stays_ready p st l _ = true
+stays_ready p st l op =
+    on_block (λ m a. has_done (is_release_at m a) p l
+    || block_ready p st l.thread.number (record { mem = m; address = slice_index l.thread.env a; writes = is_held (held_places p l) m a }))
+    true op
 
 -- WHAT THE INDUCTION NEEDS BESIDE. A thread stands on a stage of its path, and has done just what the statements of its earlier stages say
 
@@ -327,7 +387,17 @@ comes_to p path q (suc limit) s = (s == q) || one_of (comes_to p path q limit) (
 abbrev pub is_done : State → Live → Op → Bool
 is_done st l (Bind x e) = slice_index l.thread.env x == value_of e l.thread.env
 is_done st l (SpecCall args) = same_args l.thread.guess (values_of args l.thread.env)
-is_done st l _ = true
+is_done st l (CombRead x m a) = true
+is_done st l (DelayedRead x m a) = true
+is_done st l (Write m a e) = true
+is_done st l (ReserveRead m a) = true
+is_done st l (ReserveWrite m a) = true
+is_done st l (Block m a) = true
+is_done st l (Release m a) = true
+is_done st l (Call args) = true
+is_done st l (Verify args) = true
+is_done st l SpecCheck = true
+is_done st l SpecBarrier = true
 
 abbrev pub right_place : State → Live → HeldLocation → Bool
 right_place st l h = list_any (λ e. (e.thread == l.thread.number) && (e.address == slice_index l.thread.env h.var)) (lock_of st h.mem)

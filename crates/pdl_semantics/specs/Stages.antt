@@ -1,6 +1,7 @@
 -- Stages and paths of a pipe in flat form. A path is a truth value for each guard: a list of values of all variables, of which those of guards count.
 use Rattle.std.specs.Prelude.{ℕ, zero, suc, max, Bool, true, false, ◌||◌, List, [], ◌∷◌, ◌++◌, Option, Some, None, if◌then◌else◌, ◌==◌, slice_index, slice_index_or, slice_set, length, take, count_by, unwrap_or}
-use Rattle.pdl_semantics.specs.Flat.{Op, ReserveRead, ReserveWrite, Release, Verify, Stmt, Plain, Mem, Next, Ends, Goes, Forks, Branch, Stage, Pipe, all_hold, start_env}
+use Rattle.pdl_semantics.specs.Flat.{Op, Bind, CombRead, DelayedRead, Write, ReserveRead, ReserveWrite, Block, Release, Call, SpecCall, Verify, SpecCheck, SpecBarrier, Stmt, Plain, Mem, Next, Ends, Goes, Forks, Branch, Stage, Pipe, all_hold, start_env}
+use Rattle.pdl_semantics.specs.Forms.{on_release}
 
 -- whether some element passes the test
 abbrev pub list_any : {X : Type 0} → (X → Bool) → List X → Bool
@@ -63,16 +64,36 @@ commit_stage p m = unwrap_or (slice_index_or p.releases_at m None) (length p.sta
 abbrev pub is_reserve : ℕ → Op → Bool
 is_reserve m (ReserveRead n a) = n == m
 is_reserve m (ReserveWrite n a) = n == m
-is_reserve m _ = false
+is_reserve m (Bind x e) = false
+is_reserve m (CombRead x n a) = false
+is_reserve m (DelayedRead x n a) = false
+is_reserve m (Write n a e) = false
+is_reserve m (Block n a) = false
+is_reserve m (Release n a) = false
+is_reserve m (Call args) = false
+is_reserve m (SpecCall args) = false
+is_reserve m (Verify args) = false
+is_reserve m SpecCheck = false
+is_reserve m SpecBarrier = false
 
 abbrev pub is_release : ℕ → Op → Bool
-is_release m (Release n a) = n == m
-is_release m _ = false
+is_release m op = on_release (λ n a. n == m) false op
 
 -- V, the stage of the verifies
 abbrev pub is_verify : Op → Bool
 is_verify (Verify args) = true
-is_verify _ = false
+is_verify (Bind x e) = false
+is_verify (CombRead x m a) = false
+is_verify (DelayedRead x m a) = false
+is_verify (Write m a e) = false
+is_verify (ReserveRead m a) = false
+is_verify (ReserveWrite m a) = false
+is_verify (Block m a) = false
+is_verify (Release m a) = false
+is_verify (Call args) = false
+is_verify (SpecCall args) = false
+is_verify SpecCheck = false
+is_verify SpecBarrier = false
 
 abbrev pub verify_stage : List Stmt → Option ℕ
 verify_stage [] = None

@@ -1,6 +1,6 @@
 -- The forms in which the simulation takes the facts of an accepted pipe of the whole language (all follow from the record of Facts).
 use Rattle.std.specs.Prelude.{◌≡◌, ◌⊎◌, ℕ, suc, ◌<◌, ◌≤◌, Bool, true, false, ◌&&◌, ◌||◌, not, List, [], ◌∷◌, ◌++◌, Some, None, if◌then◌else◌, ◌==◌, length, slice_index}
-use Rattle.pdl_semantics.specs.Flat.{Op, Bind, CombRead, Write, ReserveWrite, Release, Stmt, Forks, Branch, Pipe, all_hold}
+use Rattle.pdl_semantics.specs.Flat.{Op, Bind, CombRead, DelayedRead, Write, ReserveRead, ReserveWrite, Block, Release, Call, SpecCall, Verify, SpecCheck, SpecBarrier, Stmt, Forks, Branch, Pipe, all_hold}
 use Rattle.pdl_semantics.specs.Stages.{onpath, in_stage, stage_at, is_inside, goes_to, verify_stage, commit_stage, reserve_stage, is_reserve, is_release, is_verify}
 use Rattle.pdl_semantics.specs.Cycle.{merges_by}
 use Rattle.pdl_semantics.specs.Sound.{stages_before, stages_from, is_fetch, is_call, is_delayed_read}
@@ -12,7 +12,17 @@ pub use Rattle.pdl_facts.specs.Facts.{trunk_only, binds_guard, is_fetch_of, come
 abbrev pub sets : ℕ → Op → Bool
 sets x (Bind y e) = y == x
 sets x (CombRead y m a) = y == x
-sets x _ = false
+sets x (DelayedRead y m a) = false
+sets x (Write m a e) = false
+sets x (ReserveRead m a) = false
+sets x (ReserveWrite m a) = false
+sets x (Block m a) = false
+sets x (Release m a) = false
+sets x (Call args) = false
+sets x (SpecCall args) = false
+sets x (Verify args) = false
+sets x SpecCheck = false
+sets x SpecBarrier = false
 
 -- whether at most one statement is of a kind
 abbrev pub at_most_one : (Op → Bool) → List Stmt → Bool
@@ -24,7 +34,16 @@ abbrev pub use_ok : ℕ → Phase → Op → Bool
 use_ok m ph (Write n a e) = not (n == m) || holds_location ph a
 use_ok m ph (ReserveWrite n a) = not (n == m) || is_fresh ph
 use_ok m ph (Release n a) = not (n == m) || not (holds_location ph a)
-use_ok m ph _ = true
+use_ok m ph (Bind x e) = true
+use_ok m ph (CombRead x n a) = true
+use_ok m ph (DelayedRead x n a) = true
+use_ok m ph (ReserveRead n a) = true
+use_ok m ph (Block n a) = true
+use_ok m ph (Call args) = true
+use_ok m ph (SpecCall args) = true
+use_ok m ph (Verify args) = true
+use_ok m ph SpecCheck = true
+use_ok m ph SpecBarrier = true
 
 abbrev pub uses_ok : ℕ → Phase → List Stmt → Bool
 uses_ok m ph [] = true
