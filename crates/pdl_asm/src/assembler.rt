@@ -147,7 +147,7 @@ fn words_of(alloc: Global, table: &Table, text: &[u8]) -> Result<Words, AsmError
 ///
 /// A1: a line's form. A2: an unknown instruction. A3: the number of operands. A4: an operand for a register that is the name of none. A5: a value outside its field, no number where one must stand, or a `.word` outside `-2^(word-1)` to `2^word - 1`. A6: a label that is defined nowhere, or was defined before. A7: `.at`, or the place of a word, outside 0 to 65,535. A8: a word written before. A refusal is that of the lowest wrong line, counted from 1, there of the lowest rule.
 ///
-/// The text has at most `LONGEST_FILE` bytes. The answer is `image 1` and for each word that is written, by ascending address, `<mem> <address> <hex>`. Read as an image for one memory of the table's name and width that has the addresses, it gives the same words, and 0 at all others.
+/// The text has at most `LONGEST_FILE` bytes. The answer is `image 1` and for each word that is written, by ascending address, `<mem> <address> <hex>`. Read as an image for one memory of the table's name, of at most 65,536 words at least as wide as the table's, that has each address at which the text writes, it gives the same words, and 0 at all others.
 #[tactic(auto, unfolding(crate::specs::Assembly::image))]
 pub fn assemble(alloc: Global, table: &Table, text: &[u8]) -> Result<Vec<u8>, AsmError>
     requires { length text.now ≤ LONGEST_FILE }

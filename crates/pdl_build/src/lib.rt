@@ -1,4 +1,4 @@
-//! A builder of netlists: each call adds what it is told, and all nets keep the values that they had; of equal cells only the first is made, but by `cell`, which always makes one.
+//! A builder of netlists: each call adds what it is told, and all nets keep the values that they had. Of equal cells only the first is made, but by `cell`, which always makes one: no clause says so, and tests of `pdl_parttests` try it.
 //!
 //! The layers above make a netlist by a `Builder`, and take what they know of its nets from the clauses of its calls.
 #![tactic(auto)]

@@ -100,7 +100,7 @@ fn obey<F: Files, O: Sink>(
 
 /// Does all that the program does: reads the words after its name, the files that they name, writes to `out`, and says on `err` why it does not.
 ///
-/// The status that it answers is 0 where all was done; 1 where the words are no command; 2 where the first wrong file is refused; 3 at a fault of the files; 4 at a fault of `out`; 5 where memory ran out.
+/// The status that it answers is 0 where all was done; 1 where the words are no command; 2 where the first wrong file is refused; 3 where the count of faults of the files rose, and 4 where that of `out` did, or where it stands at the last value of a `u64`; 5 where memory ran out, which no clause tells.
 #[tactic(auto, using(crate::proofs::Decided::decided))]
 pub fn top<F: Files, O: Sink, E: Sink>(
     alloc: Global,

@@ -1,6 +1,6 @@
-//! That the text which is written of a netlist is that of the file which the netlist declares.
+//! That the text which is written of a well formed netlist, with names of PDL, is that of the file which the netlist declares.
 //!
-//! The function does nothing: its clause is a theorem on every netlist.
+//! The function does nothing: its clause is a theorem on every such netlist.
 #![tactic(auto)]
 
 ghost use Rattle.pdl_net.specs.declared.Netlist.{Netlist};
@@ -10,7 +10,7 @@ ghost use Rattle.pdl_vtext.specs.Text.{IsFile};
 ghost use Rattle.pdl_vlog.specs.Layout.{verilog};
 ghost use Rattle.pdl_declared.specs.Names.{HasNames, IsCounted};
 
-/// The text of each well formed netlist whose names are names of PDL is a text of the grammar, so it doesn't break V1.
+/// The text of each well formed netlist whose names are names of PDL, and whose registers and cells are fewer than 2^64 each, is a text of the grammar, so it doesn't break V1.
 #[tactic(auto, using(crate::proofs::Textual::has_text))]
 pub fn texts()
     ensures { (n : Netlist) → IsWellFormed n → HasNames n → IsCounted n →

@@ -39,7 +39,7 @@ pub trait Files {
 
     /// Reads a file to its end.
     ///
-    /// The count of faults never falls, and `Failed` comes only where it rose. A name that isn't there is a fault, and so is a file of more than `LONGEST_FILE` bytes. Want of memory may come at any call.
+    /// The count of faults never falls, and `Failed` comes only where it rose, or stands at the last value of a `u64`. A name that isn't there is a fault, and so is a file of more than `LONGEST_FILE` bytes. Want of memory may come at any call.
     fn read(&mut self, name: &str) -> Result<Vec<u8>, ReadError>
         requires { IsTrue (may self.old name.now) }
         ensures bytes { IfOk result (λ b. Gives (holds self.old) name.now b.items) }

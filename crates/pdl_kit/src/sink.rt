@@ -18,7 +18,7 @@ pub trait Sink {
 
     /// Takes a prefix of the piece and answers its length in bytes, or takes nothing and fails.
     ///
-    /// `WriteFailed` comes only where the count of faults rose. To take nothing of a piece that isn't empty is a fault.
+    /// `WriteFailed` comes only where the count of faults rose, or stands at the last value of a `u64`. To take nothing of a piece that isn't empty is a fault.
     fn write(&mut self, piece: &[u8]) -> Result<usize, WriteFailed>
         ensures bound { IfOk result (λ n. n ≤ length piece.now) }
         ensures progress { IfOk result (λ n. 0 < length piece.now → 0 < n) }

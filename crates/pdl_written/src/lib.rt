@@ -12,7 +12,7 @@ ghost use Rattle.pdl_vlog.specs.Layout.{verilog};
 ghost use Rattle.pdl_vread.specs.Reads.{Reads};
 ghost use Rattle.pdl_declared.specs.Names.{HasNames, IsCounted};
 
-/// A netlist that follows the pipe of a text has the text's names, which are names of PDL; so what is written of it reads as it.
+/// A netlist that follows the pipe of a text has the text's names, which are names of PDL; so what is written of it reads as it, where its registers and cells are fewer than 2^64 each.
 pub fn sources_read_back()
     ensures names { (source : List ℕ) (p : Pipe) (n : Netlist) → IsText source p → Follows p n
         → HasNames n }
