@@ -1,9 +1,8 @@
 -- New guards.
 use Rattle.std.specs.Prelude.{Bool, false, not, List}
-use Rattle.pdl_semantics.specs.Tree.{If}
-use Rattle.pdl_rules.specs.Places.{Place, Statement, Guard, guard_of, is_among}
+use Rattle.pdl_rules.specs.Places.{Place, Guard, at_statement, guard_of, is_among}
+use Rattle.pdl_rules.specs.Forms.{of_if}
 
 -- whether a place is an `if` whose guard is none of these
 abbrev pub adds_guard : List Guard → Place → Bool
-adds_guard gs (Statement (If s c _ _) _) = not (is_among (guard_of s c) gs)
-adds_guard gs _ = false
+adds_guard gs x = at_statement false (λ s bs. of_if false (λ from c. not (is_among (guard_of from c) gs)) s) x

@@ -27,7 +27,9 @@ fn is_reserve_of(op: &Op, mem: usize) -> bool
 {
     match op {
         Op::ReserveRead { m, .. } | Op::ReserveWrite { m, .. } => *m == mem,
-        _ => false,
+        Op::Bind { .. } | Op::CombRead { .. } | Op::DelayedRead { .. } | Op::Write { .. } => false,
+        Op::Block { .. } | Op::Release { .. } => false,
+        Op::Call(_) | Op::SpecCall(_) | Op::Verify(_) | Op::SpecCheck | Op::SpecBarrier => false,
     }
 }
 
@@ -36,7 +38,9 @@ fn is_release_of(op: &Op, mem: usize) -> bool
 {
     match op {
         Op::Release { m, .. } => *m == mem,
-        _ => false,
+        Op::Bind { .. } | Op::CombRead { .. } | Op::DelayedRead { .. } | Op::Write { .. } => false,
+        Op::ReserveRead { .. } | Op::ReserveWrite { .. } | Op::Block { .. } => false,
+        Op::Call(_) | Op::SpecCall(_) | Op::Verify(_) | Op::SpecCheck | Op::SpecBarrier => false,
     }
 }
 

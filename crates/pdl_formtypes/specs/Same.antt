@@ -39,32 +39,53 @@ number_of ShiftRight = 10
 
 abbrev pub same_expr : Expr → Expr → Bool
 same_expr (Constant w v) (Constant w' v') = (w == w') && (v == v')
+same_expr (Constant _ _) _ = false
 same_expr (Variable x) (Variable x') = x == x'
+same_expr (Variable _) _ = false
 same_expr (Slice x high low) (Slice x' high' low') = (x == x') && ((high == high') && (low == low'))
+same_expr (Slice _ _ _) _ = false
 same_expr (Not w a) (Not w' a') = (w == w') && same_expr a a'
+same_expr (Not _ _) _ = false
 same_expr (Binary op w a b) (Binary op' w' a' b') = (number_of op == number_of op') && ((w == w') && (same_expr a a' && same_expr b b'))
+same_expr (Binary _ _ _ _) _ = false
 same_expr (Cat a w b) (Cat a' w' b') = same_expr a a' && ((w == w') && same_expr b b')
+same_expr (Cat _ _ _) _ = false
 same_expr (LessSigned w a b) (LessSigned w' a' b') = (w == w') && (same_expr a a' && same_expr b b')
+same_expr (LessSigned _ _ _) _ = false
 same_expr (ZeroExtend wide a) (ZeroExtend wide' a') = (wide == wide') && same_expr a a'
+same_expr (ZeroExtend _ _) _ = false
 same_expr (SignExtend w wide a) (SignExtend w' wide' a') = (w == w') && ((wide == wide') && same_expr a a')
+same_expr (SignExtend _ _ _) _ = false
 same_expr (Choose c a b) (Choose c' a' b') = same_expr c c' && (same_expr a a' && same_expr b b')
-same_expr _ _ = false
+same_expr (Choose _ _ _) _ = false
 
 abbrev pub same_op : Op → Op → Bool
 same_op (Bind x e) (Bind x' e') = (x == x') && same_expr e e'
+same_op (Bind _ _) _ = false
 same_op (CombRead x m a) (CombRead x' m' a') = (x == x') && ((m == m') && (a == a'))
+same_op (CombRead _ _ _) _ = false
 same_op (DelayedRead x m a) (DelayedRead x' m' a') = (x == x') && ((m == m') && (a == a'))
+same_op (DelayedRead _ _ _) _ = false
 same_op (Write m a e) (Write m' a' e') = (m == m') && ((a == a') && same_expr e e')
+same_op (Write _ _ _) _ = false
 same_op (ReserveRead m a) (ReserveRead m' a') = (m == m') && (a == a')
+same_op (ReserveRead _ _) _ = false
 same_op (ReserveWrite m a) (ReserveWrite m' a') = (m == m') && (a == a')
+same_op (ReserveWrite _ _) _ = false
 same_op (Block m a) (Block m' a') = (m == m') && (a == a')
+same_op (Block _ _) _ = false
 same_op (Release m a) (Release m' a') = (m == m') && (a == a')
+same_op (Release _ _) _ = false
 same_op (Call es) (Call es') = same_list same_expr es es'
+same_op (Call _) _ = false
 same_op (SpecCall es) (SpecCall es') = same_list same_expr es es'
+same_op (SpecCall _) _ = false
 same_op (Verify es) (Verify es') = same_list same_expr es es'
+same_op (Verify _) _ = false
 same_op SpecCheck SpecCheck = true
+same_op SpecCheck _ = false
 same_op SpecBarrier SpecBarrier = true
-same_op _ _ = false
+same_op SpecBarrier _ = false
 
 abbrev pub same_guard : Guard → Guard → Bool
 same_guard g h = (g.var == h.var) && same_bool g.first h.first
@@ -74,19 +95,24 @@ same_stmt x y = (x.stage == y.stage) && (same_list same_guard x.guards y.guards 
 
 abbrev pub same_lock : Lock → Lock → Bool
 same_lock Plain Plain = true
+same_lock Plain _ = false
 same_lock (Queue n) (Queue n') = n == n'
+same_lock (Queue _) _ = false
 same_lock (Bypass n) (Bypass n') = n == n'
+same_lock (Bypass _) _ = false
 same_lock (Rename n) (Rename n') = n == n'
-same_lock _ _ = false
+same_lock (Rename _) _ = false
 
 abbrev pub same_mem : Mem → Mem → Bool
 same_mem x y = (x.width == y.width) && ((x.depth == y.depth) && (same_bool x.delayed y.delayed && same_lock x.lock y.lock))
 
 abbrev pub same_next : Next → Next → Bool
 same_next Ends Ends = true
+same_next Ends _ = false
 same_next (Goes k) (Goes k') = k == k'
+same_next (Goes _) _ = false
 same_next (Forks x k l) (Forks x' k' l') = (x == x') && ((k == k') && (l == l'))
-same_next _ _ = false
+same_next (Forks _ _ _) _ = false
 
 abbrev pub same_branch : Branch → Branch → Bool
 same_branch x y = (x.fork == y.fork) && same_bool x.first y.first

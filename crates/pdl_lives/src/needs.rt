@@ -61,7 +61,9 @@ fn asks_held(op: &Op, mem: usize, var: usize) -> bool
     match op {
         Op::Block { m, a } => *m == mem && *a == var,
         Op::Release { m, a } => *m == mem && *a == var,
-        _ => false,
+        Op::Bind { .. } | Op::CombRead { .. } | Op::DelayedRead { .. } | Op::Write { .. } => false,
+        Op::ReserveRead { .. } | Op::ReserveWrite { .. } => false,
+        Op::Call(_) | Op::SpecCall(_) | Op::Verify(_) | Op::SpecCheck | Op::SpecBarrier => false,
     }
 }
 

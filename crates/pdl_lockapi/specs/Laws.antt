@@ -2,7 +2,7 @@
 use Rattle.std.specs.Prelude.{◌≡◌, ◌≢◌, ℕ, ◌+◌, ◌%◌, ◌^◌, ◌<◌, ◌≤◌, List, [], ◌∷◌, length, map, slice_index, slice_index_or, slice_set, ◌==◌, if◌then◌else◌, true, Option, Some, None}
 use Rattle.pdl_word.specs.Words.{bit}
 use Rattle.pdl_kit.specs.declared.mem_info.MemInfo.{MemInfo}
-use Rattle.pdl_semantics.specs.Tree.{LockKind, Rename}
+use Rattle.pdl_semantics.specs.Tree.{LockKind, Queue, Bypass, Rename}
 use Rattle.pdl_net.specs.declared.Net.{Net}
 use Rattle.pdl_net.specs.Circuit.{Circuit, State, Shape, HasReg, reg_reset, HasArray}
 use Rattle.pdl_net.specs.Signal.{Signal, const_signal}
@@ -57,8 +57,9 @@ HasWords (Some m) s ws = slice_index_or s.arrays m [] ≡ ws
 
 -- the array that a lock of this kind has for a memory: none where it is delayed; a renaming lock keeps twice as many words
 abbrev pub words_of : LockKind → ℕ → ℕ
+words_of Queue d = d
+words_of Bypass d = d
 words_of Rename d = d + d
-words_of _ d = d
 
 -- the array, where there is one, has the image in front, and zeros after it
 abbrev pub HasImage : LockKind → Option ℕ → State → List ℕ → Type 0
@@ -107,8 +108,9 @@ pub record HasPlaces (bits m : ℕ) (s : State) (x : LockState) : Type 0 where
 
 -- a renaming lock keeps words and values in its array
 abbrev pub PlacesLaw : (State → LockState → Type 0) → LockKind → LockRegs → Type 0
+PlacesLaw stands Queue r = Unit {0}
+PlacesLaw stands Bypass r = Unit {0}
 PlacesLaw stands Rename r = (m : ℕ) (s : State) (x : LockState) → r.array ≡ Some m → stands s x → HasPlaces r.bits m s x
-PlacesLaw stands _ r = Unit {0}
 
 -- the net of room says whether there is room
 pub record RoomLaw (stands : State → LockState → Type 0) (n : ℕ) (room : Signal) : Type 0 where
@@ -226,8 +228,9 @@ pub record HidesValues (c : Circuit) (o : Own) (f : StepSignals) : Type 0 where
 
 -- no written value comes into a register of a renaming lock
 abbrev pub HidesLaw : LockKind → Circuit → Own → StepSignals → Type 0
+HidesLaw Queue c o f = Unit {0}
+HidesLaw Bypass c o f = Unit {0}
 HidesLaw Rename c o f = HidesValues c o f
-HidesLaw _ c o f = Unit {0}
 
 -- the nets of a commit: 1 bit, an address, a value
 pub record HasCommitNets (c : Circuit) (bits width : ℕ) (commit addr value : Net) : Type 0 where

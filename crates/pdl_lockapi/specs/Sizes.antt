@@ -11,5 +11,7 @@ size_of (Rename n) = n
 
 -- how many words the array of a memory of so many words has
 abbrev pub words_in : Lock → ℕ → ℕ
+words_in Plain d = d
+words_in (Queue _) d = d
+words_in (Bypass _) d = d
 words_in (Rename n) d = d + d
-words_in _ d = d

@@ -1,6 +1,6 @@
 -- Pipes whose stages stand in a line, without delayed reads and guesses.
 use Rattle.std.specs.Prelude.{◌≡◌, ℕ, suc, ◌+◌, ◌<◌, ◌==◌, Bool, true, ◌&&◌, None, length}
-use Rattle.pdl_semantics.specs.Tree.{If, Stmts, Nil, Cons}
+use Rattle.pdl_semantics.specs.Tree.{Separator, CombRead, Bind, SpecCall, DelayedRead, Write, Reserve, Block, Release, If, Call, Verify, SpecCheck, SpecBarrier, Stmts, Nil, Cons}
 use Rattle.pdl_semantics.specs.Flat.{Pipe, Ends, Goes}
 use Rattle.pdl_semantics.specs.Flatten.{separators}
 use Rattle.pdl_semantics.specs.Stages.{stage_at, is_verify}
@@ -21,8 +21,20 @@ pub record IsLinear (p : Pipe) : Type 0 where
 -- of a source: no `if` holds a separator
 abbrev pub is_linear : Stmts → Bool
 is_linear Nil = true
+is_linear (Cons (Separator _) ss) = is_linear ss
+is_linear (Cons (CombRead _ _ _) ss) = is_linear ss
+is_linear (Cons (Bind _ _ _) ss) = is_linear ss
+is_linear (Cons (SpecCall _ _ _) ss) = is_linear ss
+is_linear (Cons (DelayedRead _ _ _) ss) = is_linear ss
+is_linear (Cons (Write _ _ _) ss) = is_linear ss
+is_linear (Cons (Reserve _ _ _) ss) = is_linear ss
+is_linear (Cons (Block _ _) ss) = is_linear ss
+is_linear (Cons (Release _ _) ss) = is_linear ss
 is_linear (Cons (If _ c when otherwise) ss) = (separators when + separators otherwise == 0) && is_linear ss
-is_linear (Cons s ss) = is_linear ss
+is_linear (Cons (Call _ _) ss) = is_linear ss
+is_linear (Cons (Verify _ _ _) ss) = is_linear ss
+is_linear (Cons (SpecCheck _) ss) = is_linear ss
+is_linear (Cons (SpecBarrier _) ss) = is_linear ss
 
 -- the facts of an accepted pipe, of linear stages
 pub record IsSimple (p : Pipe) : Type 0 where

@@ -1,7 +1,7 @@
 -- How the threads of a pipe use the locks, in each state of a run.
 use Rattle.std.specs.Prelude.{◌≡◌, ℕ, ◌+◌, ◌≤◌, Bool, true, false, IsTrue, List, [], ◌∷◌, Some, None, length, slice_index, nat_le, if◌then◌else◌, Contains, ⊤}
 use Rattle.pdl_word.specs.Words.{bit}
-use Rattle.pdl_semantics.specs.Flat.{Op, CombRead, Write, Block, Release, Verify, Stmt, Plain, Pipe, all_hold}
+use Rattle.pdl_semantics.specs.Flat.{Op, Bind, CombRead, DelayedRead, Write, ReserveRead, ReserveWrite, Block, Release, Call, SpecCall, Verify, SpecCheck, SpecBarrier, Stmt, Plain, Pipe, all_hold}
 use Rattle.pdl_semantics.specs.Stages.{in_stage, mem_at, reserve_stage, commit_stage}
 use Rattle.pdl_semantics.specs.Locks.{read_ready}
 use Rattle.pdl_semantics.specs.Machine.{Thread, State, Pending, lock_of, Deeds, deeds, deeds_after, held_before, is_held, let_go, with_kept, older_write, word_for}
@@ -30,20 +30,38 @@ before_stage p k t =
 
 -- whether a statement looks at a memory or writes it in a stage no later than that of its releases
 abbrev pub in_time : Pipe → ℕ → Op → Bool
+in_time p k (Bind _ _) = true
 in_time p k (CombRead y m a) = nat_le k (commit_stage p m)
-in_time p k (Block m a) = nat_le k (commit_stage p m)
+in_time p k (DelayedRead _ _ _) = true
 in_time p k (Write m a e) = nat_le k (commit_stage p m)
-in_time p k _ = true
+in_time p k (ReserveRead _ _) = true
+in_time p k (ReserveWrite _ _) = true
+in_time p k (Block m a) = nat_le k (commit_stage p m)
+in_time p k (Release _ _) = true
+in_time p k (Call _) = true
+in_time p k (SpecCall _) = true
+in_time p k (Verify _) = true
+in_time p k SpecCheck = true
+in_time p k SpecBarrier = true
 
 abbrev pub is_early : Pipe → Stmt → Bool
 is_early p x = in_time p x.stage x.op
 
 -- a read is ready, what is released is held no more, and a verify has as many arguments as the guess
 abbrev pub IsOpFine : Pipe → State → ℕ → Op → Deeds → Type 0
+IsOpFine p st thread (Bind _ _) d = ⊤
 IsOpFine p st thread (CombRead x m a) d = IsTrue (read_ready (mem_at p m).lock (older_write st thread m (slice_index d.env a)))
+IsOpFine p st thread (DelayedRead _ _ _) d = ⊤
+IsOpFine p st thread (Write _ _ _) d = ⊤
+IsOpFine p st thread (ReserveRead _ _) d = ⊤
+IsOpFine p st thread (ReserveWrite _ _) d = ⊤
+IsOpFine p st thread (Block _ _) d = ⊤
 IsOpFine p st thread (Release m a) d = is_held (let_go d.held m a) m a ≡ false
+IsOpFine p st thread (Call _) d = ⊤
+IsOpFine p st thread (SpecCall _) d = ⊤
 IsOpFine p st thread (Verify args) d = length d.guess ≡ length args
-IsOpFine p st thread _ d = ⊤
+IsOpFine p st thread SpecCheck d = ⊤
+IsOpFine p st thread SpecBarrier d = ⊤
 
 -- after these deeds each statement on the thread's path is early and fine, as long as the locks let the thread move so far
 abbrev pub AreFine : Pipe → State → ℕ → List Stmt → Deeds → Type 0

@@ -62,10 +62,17 @@ read_value m a s = slice_index (slice_index_or s.arrays m []) (a s)
 
 -- the width of what an operator makes of words of w bits
 abbrev pub bin_width : BinOp → ℕ → ℕ
+bin_width Add w = w
+bin_width Sub w = w
+bin_width Mul w = w
+bin_width And w = w
+bin_width Or w = w
+bin_width Xor w = w
 bin_width Eq w = 1
 bin_width Ne w = 1
 bin_width Lt w = 1
-bin_width _ w = w
+bin_width Shl w = w
+bin_width Shr w = w
 
 abbrev pub input_signal : ℕ → ℕ → Signal
 input_signal w i = record { width = w; value = input_value i }

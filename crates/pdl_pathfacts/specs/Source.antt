@@ -1,14 +1,14 @@
 -- What holds of each tree that is read from a source, besides the rules: where its `if`s begin, and that its names have letters.
 use Rattle.std.specs.Prelude.{ℕ, Bool, true, false, not, ◌&&◌, List, [], ◌∷◌, Option, Some, None}
 use Rattle.std.specs.List.{list_any}
-use Rattle.pdl_semantics.specs.Tree.{If, Pipe}
+use Rattle.pdl_semantics.specs.Tree.{Pipe}
 use Rattle.pdl_rules.specs.Names.{OfVariable, defines_use}
-use Rattle.pdl_rules.specs.Places.{Place, Statement, Guard, Shared, Own, guard_of, same_guard, places}
+use Rattle.pdl_rules.specs.Places.{Place, Guard, Shared, Own, at_statement, guard_of, same_guard, places}
+use Rattle.pdl_rules.specs.Forms.{of_if}
 
 -- whether a place is an `if` on an expression that begins at byte n
 abbrev pub begins_at : ℕ → Place → Bool
-begins_at n (Statement (If s c _ _) _) = same_guard (Own n) (guard_of s c)
-begins_at n _ = false
+begins_at n x = at_statement false (λ s bs. of_if false (λ from c. same_guard (Own n) (guard_of from c)) s) x
 
 -- where an `if` on an expression begins
 abbrev pub start_of : Guard → Option ℕ
@@ -16,8 +16,7 @@ start_of (Shared x) = None
 start_of (Own n) = Some n
 
 abbrev pub own_start : Place → Option ℕ
-own_start (Statement (If s c _ _) _) = start_of (guard_of s c)
-own_start _ = None
+own_start x = at_statement None (λ s bs. of_if None (λ from c. start_of (guard_of from c)) s) x
 
 abbrev pub is_new : Option ℕ → List Place → Bool
 is_new None xs = true

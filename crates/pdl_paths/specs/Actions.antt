@@ -2,7 +2,7 @@
 use Rattle.std.specs.Prelude.{List, map, Option, None}
 use Rattle.pdl_semantics.specs.Tree as tree
 use Rattle.pdl_semantics.specs.Tree.{Span, Location}
-use Rattle.pdl_rules.specs.Places.{Branch, Place, Parameter, Memory, Statement, End, StartClause}
+use Rattle.pdl_rules.specs.Places.{Branch, Place, Parameter, Memory, Statement, End, StartClause, at_statement}
 use Rattle.pdl_rules.specs.Parts.{location_of}
 use Rattle.pdl_tree.specs.View.{span_view, param_view, mem_view, start_view, ident_view, location_view, kind_view, expr_view, exprs_view, stmts_view}
 use Rattle.pdl_paths.specs.Guards.{branch_view}
@@ -33,8 +33,7 @@ place_at s bs (actions.StartClause x) = StartClause (start_view x.now)
 
 -- the location that stands at a place
 abbrev pub location_at : Place → Option Location
-location_at (Statement s _) = location_of s
-location_at _ = None
+location_at x = at_statement None (λ s bs. location_of s) x
 
 abbrev pub place_view : r_place.Place → Place
 place_view x = place_at (span_view x.span) (map branch_view x.branches) x.action

@@ -205,7 +205,8 @@ walk_after (DelayedRead x m a) r ls w = record w { asks = w.asks ++ record { mem
 walk_after (SpecCall args) r ls w = record w { births = record { on = r.on; args = r.args } ∷ w.births; guess = r.guess }
 walk_after (Verify args) r ls w = record w { births = record { on = both r.on r.value; args = r.args } ∷ w.births; fails = mux_signal (both r.on r.value) one w.fails }
 walk_after SpecBarrier r ls w = record w { barrier = mux_signal r.on one w.barrier }
-walk_after _ r ls w = w
+walk_after (ReserveRead _ _) r ls w = w
+walk_after SpecCheck r ls w = w
 
 -- rows lead from one walk to another
 abbrev pub AreRows : Circuit → Pipe → Locks → (ℕ → Signal) → List Stmt → Walk → Walk → Type 0

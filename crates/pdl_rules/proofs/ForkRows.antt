@@ -1,5 +1,5 @@
 -- Forks and delayed reads: pipes that are accepted, and for each rule some that break it; computed.
-use Rattle.std.specs.Prelude.{◌≡◌, ℕ, List, [], ◌∷◌, ◌++◌, Option, Some, None, refl}
+use Rattle.std.specs.Prelude.{◌≡◌, ℕ, List, [], ◌∷◌, Option, Some, None, refl}
 use Rattle.pdl_kit.specs.declared.rule.Rule.{Rule}
 use Rattle.pdl_kit.specs.declared.rule.Rule.TheVariants.{N3, F1, F2, F3, F4, L2, L8}
 use Rattle.pdl_semantics.specs.Tree.{ZeroExtend, R, W}

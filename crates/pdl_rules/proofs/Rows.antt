@@ -1,6 +1,6 @@
 -- A source that is accepted, and for each rule one that breaks it, with the line; computed.
 use Prim.Native.String.{String}
-use Rattle.std.specs.Prelude.{Bool, true, false, ◌≡◌, ℕ, ◌+◌, List, [], ◌∷◌, ◌++◌, map, replicate, Option, Some, None, refl}
+use Rattle.std.specs.Prelude.{Bool, true, false, ◌≡◌, ℕ, List, [], ◌∷◌, ◌++◌, map, replicate, Option, Some, None, refl}
 use Rattle.pdl_kit.specs.declared.rule.Rule.{Rule}
 use Rattle.pdl_kit.specs.declared.rule.Rule.TheVariants.{Z4, Z7, N1, N2, N3, W1, W2, W3, W4, W5, W6, F5, L1, L2, L3, L4, L5, L6, L7, S1}
 use Rattle.pdl_semantics.specs.Tree.{ZeroExtend, SignExtend, Cat, Choose, R, W, Pipe}

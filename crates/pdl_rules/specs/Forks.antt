@@ -1,9 +1,10 @@
 -- Forks and delayed reads: rules F1 to F4. A fork is an `if` that holds a separator.
 use Rattle.std.specs.Prelude.{ℕ, ◌+◌, Bool, true, false, not, ◌&&◌, ◌||◌, ◌==◌, List, [], ◌∷◌, drop, length, if◌then◌else◌, bytes_eq}
 use Rattle.std.specs.List.{list_any}
-use Rattle.pdl_semantics.specs.Tree.{Stmt, Separator, CombRead, Bind, SpecCall, DelayedRead, Write, Reserve, Block, Release, If, Call, Verify, SpecCheck, SpecBarrier, Stmts, Mem, Pipe}
+use Rattle.pdl_semantics.specs.Tree.{Stmt, Separator, CombRead, Bind, SpecCall, DelayedRead, Write, Reserve, Block, Release, If, Call, Verify, SpecCheck, SpecBarrier, Stmts, Location, Mem, Pipe}
 use Rattle.pdl_semantics.specs.Flatten.{separators}
-use Rattle.pdl_rules.specs.Places.{Place, Statement, Branch, statements, places, places_after}
+use Rattle.pdl_rules.specs.Places.{Place, Branch, at_statement, statements, places, places_after}
+use Rattle.pdl_rules.specs.Forms.{fetches}
 use Rattle.pdl_rules.specs.Parts.{parts_of}
 use Rattle.pdl_rules.specs.Limits.{is_separator}
 use Rattle.pdl_rules.specs.Stages.{stage_after, stage_in}
@@ -30,8 +31,7 @@ is_trunk_only (SpecCheck _) = true
 is_trunk_only (SpecBarrier _) = true
 
 abbrev pub breaks_f1 : Place → Bool
-breaks_f1 (Statement s bs) = is_trunk_only s && list_any (λ (b : Branch). holds_separator b.inside) bs
-breaks_f1 _ = false
+breaks_f1 x = at_statement false (λ s bs. is_trunk_only s && list_any (λ (b : Branch). holds_separator b.inside) bs) x
 
 -- F2: a fork inside a branch, or one that isn't directly followed by a separator
 abbrev pub is_fork : Stmt → Bool
@@ -50,27 +50,44 @@ abbrev pub is_in_branch : List Branch → Bool
 is_in_branch [] = false
 is_in_branch (b ∷ bs) = true
 
+-- in these branches, with these places after it
+abbrev pub is_wrong_fork : List Place → Stmt → List Branch → Bool
+is_wrong_fork later s bs =
+    is_fork s && (is_in_branch bs || not (starts_with_separator (drop (places_in (parts_of s).branches) later)))
+
 abbrev pub breaks_f2 : Pipe → List Place → Place → Bool
-breaks_f2 p before (Statement s bs) =
-    is_fork s && (is_in_branch bs || not (starts_with_separator (drop (places_in (parts_of s).branches) (places_after p before))))
-breaks_f2 p before _ = false
+breaks_f2 p before x = at_statement false (λ s bs. is_wrong_fork (places_after p before) s bs) x
 
 -- F3: a delayed read in the last stage, or one of a memory of which a delayed read stands before
 abbrev pub breaks_fetch_order : List ℕ → Place → Bool
-breaks_fetch_order m (Statement (DelayedRead _ _ at) _) = bytes_eq at.mem.name m
-breaks_fetch_order m _ = false
+breaks_fetch_order m x = at_statement false (λ s bs. fetches (λ at. bytes_eq at.mem.name m) s) x
+
+abbrev pub is_wrong_fetch : Pipe → List Place → ℕ → Location → Bool
+is_wrong_fetch p before k at = (k == stage_after (places p)) || list_any (breaks_fetch_order at.mem.name) before
 
 abbrev pub breaks_f3 : Pipe → List Place → Place → Bool
-breaks_f3 p before (Statement (DelayedRead _ _ at) bs) =
-    (stage_in before bs == stage_after (places p)) || list_any (breaks_fetch_order at.mem.name) before
-breaks_f3 p before _ = false
+breaks_f3 p before x = at_statement false (λ s bs. fetches (is_wrong_fetch p before (stage_in before bs)) s) x
 
 -- F4: a comb read of a delayed memory, or a delayed read of a comb one
 abbrev pub is_delayed_memory : List Mem → List ℕ → Bool
 is_delayed_memory [] m = false
 is_delayed_memory (x ∷ xs) m = if bytes_eq x.name.name m then x.delayed else is_delayed_memory xs m
 
+abbrev pub is_wrong_read : List Mem → Stmt → Bool
+is_wrong_read ms (Separator _) = false
+is_wrong_read ms (CombRead _ _ at) = is_delayed_memory ms at.mem.name
+is_wrong_read ms (Bind _ _ _) = false
+is_wrong_read ms (SpecCall _ _ _) = false
+is_wrong_read ms (DelayedRead _ _ at) = not (is_delayed_memory ms at.mem.name)
+is_wrong_read ms (Write _ _ _) = false
+is_wrong_read ms (Reserve _ _ _) = false
+is_wrong_read ms (Block _ _) = false
+is_wrong_read ms (Release _ _) = false
+is_wrong_read ms (If _ _ _ _) = false
+is_wrong_read ms (Call _ _) = false
+is_wrong_read ms (Verify _ _ _) = false
+is_wrong_read ms (SpecCheck _) = false
+is_wrong_read ms (SpecBarrier _) = false
+
 abbrev pub breaks_f4 : Pipe → Place → Bool
-breaks_f4 p (Statement (CombRead _ _ at) _) = is_delayed_memory p.mems at.mem.name
-breaks_f4 p (Statement (DelayedRead _ _ at) _) = not (is_delayed_memory p.mems at.mem.name)
-breaks_f4 p _ = false
+breaks_f4 p x = at_statement false (λ s bs. is_wrong_read p.mems s) x

@@ -1,3 +1,4 @@
+pub mod Forms
 pub mod Places
 pub mod Parts
 pub mod Limits

@@ -2,8 +2,9 @@
 use Rattle.std.specs.Prelude.{ℕ, Bool, true, false, not, ◌&&◌, ◌||◌, ◌==◌, nat_lt, nat_le, List, [], ◌∷◌, length, count_by}
 use Rattle.std.specs.List.{list_any}
 use Rattle.std.specs.Option.{is_some}
-use Rattle.pdl_semantics.specs.Tree.{Literal, Stmt, Separator, If, Mem, LockKind, Queue, Bypass, Rename, LockDecl}
-use Rattle.pdl_rules.specs.Places.{Place, Parameter, Memory, Statement, guard_of, is_among, guards}
+use Rattle.pdl_semantics.specs.Tree.{Literal, Stmt, Mem, LockKind, Queue, Bypass, Rename, LockDecl}
+use Rattle.pdl_rules.specs.Places.{Guard, Place, Parameter, Memory, Statement, End, StartClause, at_statement, guard_of, is_among, guards}
+use Rattle.pdl_rules.specs.Forms.{of_if, separates}
 use Rattle.pdl_rules.specs.Parts.{parts_of, some_literal, is_some_and}
 
 -- Z1: the bytes of a source
@@ -12,24 +13,25 @@ is_too_long source = nat_lt 1048576 (length source)
 
 -- Z2: statements
 abbrev pub is_statement : Place → Bool
-is_statement (Statement _ _) = true
-is_statement _ = false
+is_statement x = at_statement false (λ s bs. true) x
 
 abbrev pub breaks_z2 : List Place → Place → Bool
 breaks_z2 before x = is_statement x && (count_by is_statement before == 1024)
 
 -- Z3: separators
 abbrev pub is_separator : Place → Bool
-is_separator (Statement (Separator _) _) = true
-is_separator _ = false
+is_separator x = at_statement false (λ s bs. separates s) x
 
 abbrev pub breaks_z3 : List Place → Place → Bool
 breaks_z3 before x = is_separator x && (count_by is_separator before == 63)
 
 -- Z4: memories
 abbrev pub is_memory : Place → Bool
+is_memory (Parameter _) = false
 is_memory (Memory _) = true
-is_memory _ = false
+is_memory (Statement _ _) = false
+is_memory (End _) = false
+is_memory (StartClause _) = false
 
 abbrev pub breaks_z4 : List Place → Place → Bool
 breaks_z4 before x = is_memory x && (count_by is_memory before == 16)
@@ -40,16 +42,20 @@ binds_name s = is_some (parts_of s).variable || is_some (parts_of s).guess
 
 abbrev pub is_binding : Place → Bool
 is_binding (Parameter _) = true
+is_binding (Memory _) = false
 is_binding (Statement s _) = binds_name s
-is_binding _ = false
+is_binding (End _) = false
+is_binding (StartClause _) = false
 
 abbrev pub breaks_z5 : List Place → Place → Bool
 breaks_z5 before x = is_binding x && (count_by is_binding before == 512)
 
 -- Z6: guards
+abbrev pub adds_guard : List Place → Guard → Bool
+adds_guard before g = not (is_among g (guards before)) && (length (guards before) == 10)
+
 abbrev pub breaks_z6 : List Place → Place → Bool
-breaks_z6 before (Statement (If s c _ _) _) = not (is_among (guard_of s c) (guards before)) && (length (guards before) == 10)
-breaks_z6 before _ = false
+breaks_z6 before x = at_statement false (λ s bs. of_if false (λ from c. adds_guard before (guard_of from c)) s) x
 
 -- Z7: widths, depths, and locks with their sizes
 abbrev pub is_width : ℕ → Bool
@@ -84,4 +90,6 @@ is_wrong_literal l = not (is_width l.width)
 abbrev pub breaks_z7 : Place → Bool
 breaks_z7 (Parameter a) = not (is_width a.width.value)
 breaks_z7 (Memory m) = is_wrong_memory m
-breaks_z7 x = some_literal is_wrong_literal x
+breaks_z7 (Statement s bs) = some_literal is_wrong_literal (Statement s bs)
+breaks_z7 (End s) = some_literal is_wrong_literal (End s)
+breaks_z7 (StartClause s) = some_literal is_wrong_literal (StartClause s)

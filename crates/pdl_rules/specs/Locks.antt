@@ -2,8 +2,9 @@
 use Rattle.std.specs.Prelude.{ℕ, Bool, true, false, not, ◌&&◌, ◌==◌, nat_le, List, [], ◌∷◌, fold, count_by, if◌then◌else◌, bytes_eq}
 use Rattle.std.specs.List.{list_any}
 use Rattle.std.specs.Option.{is_some}
-use Rattle.pdl_semantics.specs.Tree.{Location, Kind, R, W, CombRead, DelayedRead, Write, Reserve, Block, Release, Mem, Pipe}
-use Rattle.pdl_rules.specs.Places.{Place, Statement, End, on_some_path}
+use Rattle.pdl_semantics.specs.Tree.{Location, Kind, R, W, Stmt, Separator, CombRead, Bind, SpecCall, DelayedRead, Write, Reserve, Block, Release, If, Call, Verify, SpecCheck, SpecBarrier, Mem, Pipe}
+use Rattle.pdl_rules.specs.Places.{Place, Parameter, Memory, Statement, End, StartClause, at_statement, on_some_path}
+use Rattle.pdl_rules.specs.Forms.{writes, reserves, releases}
 
 -- whether a memory has a lock, by its name
 abbrev pub is_locked : List Mem → List ℕ → Bool
@@ -11,12 +12,24 @@ is_locked [] m = false
 is_locked (x ∷ xs) m = if bytes_eq x.name.name m then is_some x.lock else is_locked xs m
 
 -- F5: reserve, block, write or release of a memory without lock
+abbrev pub lacks_lock : List Mem → Stmt → Bool
+lacks_lock ms (Separator _) = false
+lacks_lock ms (CombRead _ _ _) = false
+lacks_lock ms (Bind _ _ _) = false
+lacks_lock ms (SpecCall _ _ _) = false
+lacks_lock ms (DelayedRead _ _ _) = false
+lacks_lock ms (Write _ at _) = not (is_locked ms at.mem.name)
+lacks_lock ms (Reserve _ at _) = not (is_locked ms at.mem.name)
+lacks_lock ms (Block _ at) = not (is_locked ms at.mem.name)
+lacks_lock ms (Release _ at) = not (is_locked ms at.mem.name)
+lacks_lock ms (If _ _ _ _) = false
+lacks_lock ms (Call _ _) = false
+lacks_lock ms (Verify _ _ _) = false
+lacks_lock ms (SpecCheck _) = false
+lacks_lock ms (SpecBarrier _) = false
+
 abbrev pub breaks_f5 : Pipe → Place → Bool
-breaks_f5 p (Statement (Write _ at _) _) = not (is_locked p.mems at.mem.name)
-breaks_f5 p (Statement (Reserve _ at _) _) = not (is_locked p.mems at.mem.name)
-breaks_f5 p (Statement (Block _ at) _) = not (is_locked p.mems at.mem.name)
-breaks_f5 p (Statement (Release _ at) _) = not (is_locked p.mems at.mem.name)
-breaks_f5 p _ = false
+breaks_f5 p x = at_statement false (λ s bs. lacks_lock p.mems s) x
 
 -- THE STATE OF A LOCATION
 
@@ -25,8 +38,9 @@ same_location a b = bytes_eq a.mem.name b.mem.name && bytes_eq a.address.name b.
 
 abbrev pub same_kind : Kind → Kind → Bool
 same_kind R R = true
+same_kind R W = false
+same_kind W R = false
 same_kind W W = true
-same_kind _ _ = false
 
 -- what a thread holds of a location
 pub data Hold : Type 0 where
@@ -36,44 +50,77 @@ pub data Hold : Type 0 where
   Released : Hold
 
 abbrev pub after_block : Hold → Hold
+after_block Nothing = Nothing
 after_block (Reserved k) = Blocked k
-after_block h = h
+after_block (Blocked k) = Blocked k
+after_block Released = Released
+
+abbrev pub after_statement : Location → Hold → Stmt → Hold
+after_statement at h (Separator _) = h
+after_statement at h (CombRead _ _ _) = h
+after_statement at h (Bind _ _ _) = h
+after_statement at h (SpecCall _ _ _) = h
+after_statement at h (DelayedRead _ _ _) = h
+after_statement at h (Write _ _ _) = h
+after_statement at h (Reserve _ l k) = if same_location l at then Reserved k else h
+after_statement at h (Block _ l) = if same_location l at then after_block h else h
+after_statement at h (Release _ l) = if same_location l at then Released else h
+after_statement at h (If _ _ _ _) = h
+after_statement at h (Call _ _) = h
+after_statement at h (Verify _ _ _) = h
+after_statement at h (SpecCheck _) = h
+after_statement at h (SpecBarrier _) = h
 
 abbrev pub after_place : Location → Hold → Place → Hold
-after_place at h (Statement (Reserve _ l k) _) = if same_location l at then Reserved k else h
-after_place at h (Statement (Block _ l) _) = if same_location l at then after_block h else h
-after_place at h (Statement (Release _ l) _) = if same_location l at then Released else h
-after_place at h _ = h
+after_place at h x = at_statement h (λ s bs. after_statement at h s) x
 
 -- what is held of a location after these places
 abbrev pub hold_after : Location → List Place → Hold
 hold_after at earlier = fold (after_place at) Nothing earlier
 
 abbrev pub is_reserved : Hold → Bool
+is_reserved Nothing = false
 is_reserved (Reserved _) = true
-is_reserved _ = false
+is_reserved (Blocked _) = false
+is_reserved Released = false
 
 abbrev pub is_blocked : Hold → Bool
+is_blocked Nothing = false
+is_blocked (Reserved _) = false
 is_blocked (Blocked _) = true
-is_blocked _ = false
+is_blocked Released = false
 
 abbrev pub is_blocked_for : Kind → Hold → Bool
+is_blocked_for k Nothing = false
+is_blocked_for k (Reserved _) = false
 is_blocked_for k (Blocked j) = same_kind k j
-is_blocked_for k _ = false
+is_blocked_for k Released = false
 
 abbrev pub is_held_for : Kind → Hold → Bool
+is_held_for k Nothing = false
 is_held_for k (Reserved j) = same_kind k j
 is_held_for k (Blocked j) = same_kind k j
-is_held_for k _ = false
+is_held_for k Released = false
 
 -- L1: a statement without the hold that it needs; a read of a memory without lock needs none
+abbrev pub acts_unheld : List Mem → List Place → Stmt → Bool
+acts_unheld ms earlier (Separator _) = false
+acts_unheld ms earlier (CombRead _ _ at) = is_locked ms at.mem.name && not (is_blocked_for R (hold_after at earlier))
+acts_unheld ms earlier (Bind _ _ _) = false
+acts_unheld ms earlier (SpecCall _ _ _) = false
+acts_unheld ms earlier (DelayedRead _ _ at) = is_locked ms at.mem.name && not (is_blocked_for R (hold_after at earlier))
+acts_unheld ms earlier (Write _ at _) = not (is_blocked_for W (hold_after at earlier))
+acts_unheld ms earlier (Reserve _ _ _) = false
+acts_unheld ms earlier (Block _ at) = not (is_reserved (hold_after at earlier))
+acts_unheld ms earlier (Release _ at) = not (is_blocked (hold_after at earlier))
+acts_unheld ms earlier (If _ _ _ _) = false
+acts_unheld ms earlier (Call _ _) = false
+acts_unheld ms earlier (Verify _ _ _) = false
+acts_unheld ms earlier (SpecCheck _) = false
+acts_unheld ms earlier (SpecBarrier _) = false
+
 abbrev pub lacks_hold : Pipe → List Place → Place → Bool
-lacks_hold p earlier (Statement (Block _ at) _) = not (is_reserved (hold_after at earlier))
-lacks_hold p earlier (Statement (CombRead _ _ at) _) = is_locked p.mems at.mem.name && not (is_blocked_for R (hold_after at earlier))
-lacks_hold p earlier (Statement (DelayedRead _ _ at) _) = is_locked p.mems at.mem.name && not (is_blocked_for R (hold_after at earlier))
-lacks_hold p earlier (Statement (Write _ at _) _) = not (is_blocked_for W (hold_after at earlier))
-lacks_hold p earlier (Statement (Release _ at) _) = not (is_blocked (hold_after at earlier))
-lacks_hold p earlier _ = false
+lacks_hold p earlier x = at_statement false (λ s bs. acts_unheld p.mems earlier s) x
 
 abbrev pub breaks_l1 : Pipe → List Place → Place → Bool
 breaks_l1 p before x = on_some_path (λ earlier. lacks_hold p earlier x) p before x
@@ -82,19 +129,31 @@ breaks_l1 p before x = on_some_path (λ earlier. lacks_hold p earlier x) p befor
 
 -- whether a place reserves the memory for this kind, and whether it writes the memory
 abbrev pub is_reserve_of : Kind → List ℕ → Place → Bool
-is_reserve_of k m (Statement (Reserve _ at j) _) = same_kind k j && bytes_eq at.mem.name m
-is_reserve_of k m _ = false
+is_reserve_of k m x = at_statement false (λ s bs. reserves (λ at j. same_kind k j && bytes_eq at.mem.name m) s) x
 
 abbrev pub is_write_of : List ℕ → Place → Bool
-is_write_of m (Statement (Write _ at _) _) = bytes_eq at.mem.name m
-is_write_of m _ = false
+is_write_of m x = at_statement false (λ s bs. writes (λ at e. bytes_eq at.mem.name m) s) x
 
 -- L3: a read reservation after the memory's write reservation, or a read after a write
+abbrev pub reads_late : List Place → Stmt → Bool
+reads_late earlier (Separator _) = false
+reads_late earlier (CombRead _ _ at) = list_any (is_write_of at.mem.name) earlier
+reads_late earlier (Bind _ _ _) = false
+reads_late earlier (SpecCall _ _ _) = false
+reads_late earlier (DelayedRead _ _ at) = list_any (is_write_of at.mem.name) earlier
+reads_late earlier (Write _ _ _) = false
+reads_late earlier (Reserve _ at R) = list_any (is_reserve_of W at.mem.name) earlier
+reads_late earlier (Reserve _ _ W) = false
+reads_late earlier (Block _ _) = false
+reads_late earlier (Release _ _) = false
+reads_late earlier (If _ _ _ _) = false
+reads_late earlier (Call _ _) = false
+reads_late earlier (Verify _ _ _) = false
+reads_late earlier (SpecCheck _) = false
+reads_late earlier (SpecBarrier _) = false
+
 abbrev pub is_late_read : List Place → Place → Bool
-is_late_read earlier (Statement (Reserve _ at R) _) = list_any (is_reserve_of W at.mem.name) earlier
-is_late_read earlier (Statement (CombRead _ _ at) _) = list_any (is_write_of at.mem.name) earlier
-is_late_read earlier (Statement (DelayedRead _ _ at) _) = list_any (is_write_of at.mem.name) earlier
-is_late_read earlier _ = false
+is_late_read earlier x = at_statement false (λ s bs. reads_late earlier s) x
 
 abbrev pub breaks_l3 : Pipe → List Place → Place → Bool
 breaks_l3 p before x = on_some_path (λ earlier. is_late_read earlier x) p before x
@@ -105,50 +164,51 @@ most_reservations R = 4
 most_reservations W = 1
 
 abbrev pub is_one_too_many : List Place → Place → Bool
-is_one_too_many earlier (Statement (Reserve _ at k) _) = nat_le (most_reservations k) (count_by (is_reserve_of k at.mem.name) earlier)
-is_one_too_many earlier _ = false
+is_one_too_many earlier x =
+    at_statement false (λ s bs. reserves (λ at k. nat_le (most_reservations k) (count_by (is_reserve_of k at.mem.name) earlier)) s) x
 
 abbrev pub breaks_l4 : Pipe → List Place → Place → Bool
 breaks_l4 p before x = on_some_path (λ earlier. is_one_too_many earlier x) p before x
 
 -- L5: a location that is reserved again
 abbrev pub reserves_location : Location → Place → Bool
-reserves_location l (Statement (Reserve _ at _) _) = same_location at l
-reserves_location l _ = false
+reserves_location l x = at_statement false (λ s bs. reserves (λ at k. same_location at l) s) x
 
 abbrev pub is_reserved_again : List Place → Place → Bool
-is_reserved_again earlier (Statement (Reserve _ at _) _) = list_any (reserves_location at) earlier
-is_reserved_again earlier _ = false
+is_reserved_again earlier x = at_statement false (λ s bs. reserves (λ at k. list_any (reserves_location at) earlier) s) x
 
 abbrev pub breaks_l5 : Pipe → List Place → Place → Bool
 breaks_l5 p before x = on_some_path (λ earlier. is_reserved_again earlier x) p before x
 
 -- L6: the release of a write reservation through which there was no write, or more than one
 abbrev pub writes_location : Location → Place → Bool
-writes_location l (Statement (Write _ at _) _) = same_location at l
-writes_location l _ = false
+writes_location l x = at_statement false (λ s bs. writes (λ at e. same_location at l) s) x
+
+abbrev pub is_not_written : List Place → Location → Bool
+is_not_written earlier at = is_held_for W (hold_after at earlier) && not (count_by (writes_location at) earlier == 1)
 
 abbrev pub is_not_written_once : List Place → Place → Bool
-is_not_written_once earlier (Statement (Release _ at) _) =
-    is_held_for W (hold_after at earlier) && not (count_by (writes_location at) earlier == 1)
-is_not_written_once earlier _ = false
+is_not_written_once earlier x = at_statement false (λ s bs. releases (is_not_written earlier) s) x
 
 abbrev pub breaks_l6 : Pipe → List Place → Place → Bool
 breaks_l6 p before x = on_some_path (λ earlier. is_not_written_once earlier x) p before x
 
 -- L7: at the end, a location that is reserved and not released
 abbrev pub is_unreleased : Hold → Bool
+is_unreleased Nothing = false
 is_unreleased (Reserved _) = true
 is_unreleased (Blocked _) = true
-is_unreleased _ = false
+is_unreleased Released = false
 
 abbrev pub leaves_open : List Place → Place → Bool
-leaves_open earlier (Statement (Reserve _ at _) _) = is_unreleased (hold_after at earlier)
-leaves_open earlier _ = false
+leaves_open earlier x = at_statement false (λ s bs. reserves (λ at k. is_unreleased (hold_after at earlier)) s) x
 
 abbrev pub ends_open : List Place → Place → Bool
+ends_open earlier (Parameter _) = false
+ends_open earlier (Memory _) = false
+ends_open earlier (Statement _ _) = false
 ends_open earlier (End _) = list_any (leaves_open earlier) earlier
-ends_open earlier _ = false
+ends_open earlier (StartClause _) = false
 
 abbrev pub breaks_l7 : Pipe → List Place → Place → Bool
 breaks_l7 p before x = on_some_path (λ earlier. ends_open earlier x) p before x

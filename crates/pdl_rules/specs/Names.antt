@@ -1,8 +1,9 @@
 -- Names: rules N1 to N3.
 use Rattle.std.specs.Prelude.{ℕ, Bool, true, false, not, ◌&&◌, ◌||◌, List, [], ◌∷◌, bytes_eq, Option, Some, None}
 use Rattle.std.specs.List.{list_any}
-use Rattle.pdl_semantics.specs.Tree.{Ident, Expr, Variable, Slice, Location, Stmt, DelayedRead, Param, Pipe}
-use Rattle.pdl_rules.specs.Places.{Place, Parameter, Memory, Statement, StartClause, places, on_some_path}
+use Rattle.pdl_semantics.specs.Tree.{Ident, Expr, Constant, Variable, Slice, Not, Binary, Cat, LessSigned, ZeroExtend, SignExtend, Choose, Location, Stmt, Param, Pipe}
+use Rattle.pdl_rules.specs.Places.{Place, Parameter, Memory, Statement, End, StartClause, at_statement, places, on_some_path}
+use Rattle.pdl_rules.specs.Forms.{fetches}
 use Rattle.pdl_rules.specs.Parts.{some_part, parts_of, some_expr_of, location_of, is_some_and}
 use Rattle.pdl_rules.specs.Limits.{is_separator}
 
@@ -18,16 +19,20 @@ bound_by s = name_of (parts_of s).variable
 
 abbrev pub variable_at : Place → Option (List ℕ)
 variable_at (Parameter a) = Some a.name.name
+variable_at (Memory _) = None
 variable_at (Statement s _) = bound_by s
-variable_at _ = None
+variable_at (End _) = None
+variable_at (StartClause _) = None
 
 abbrev pub memory_at : Place → Option (List ℕ)
+memory_at (Parameter _) = None
 memory_at (Memory m) = Some m.name.name
-memory_at _ = None
+memory_at (Statement _ _) = None
+memory_at (End _) = None
+memory_at (StartClause _) = None
 
 abbrev pub guess_at : Place → Option (List ℕ)
-guess_at (Statement s _) = name_of (parts_of s).guess
-guess_at _ = None
+guess_at x = at_statement None (λ s bs. name_of (parts_of s).guess) x
 
 -- the name that a place defines, of whatever kind
 abbrev pub either_name : Option (List ℕ) → Option (List ℕ) → Option (List ℕ)
@@ -38,7 +43,8 @@ abbrev pub name_at : Place → Option (List ℕ)
 name_at (Parameter a) = Some a.name.name
 name_at (Memory m) = Some m.name.name
 name_at (Statement s _) = either_name (bound_by s) (name_of (parts_of s).guess)
-name_at _ = None
+name_at (End _) = None
+name_at (StartClause _) = None
 
 -- USES
 
@@ -54,11 +60,18 @@ defines_use (OfVariable x) d = is_some_and (bytes_eq x) (variable_at d)
 defines_use (OfMemory m) d = is_some_and (bytes_eq m) (memory_at d)
 defines_use (OfGuess g) d = is_some_and (bytes_eq g) (guess_at d)
 
--- whether an expression reads a variable whose use passes the test
+-- whether an expression by itself, without its parts, reads a variable whose use passes the test
 abbrev pub reads_some : (Use → Bool) → Expr → Bool
+reads_some test (Constant _) = false
 reads_some test (Variable x) = test (OfVariable x.name)
 reads_some test (Slice x _ _) = test (OfVariable x.name)
-reads_some test _ = false
+reads_some test (Not _) = false
+reads_some test (Binary _ _ _) = false
+reads_some test (Cat _ _) = false
+reads_some test (LessSigned _ _) = false
+reads_some test (ZeroExtend _ _) = false
+reads_some test (SignExtend _ _) = false
+reads_some test (Choose _ _ _) = false
 
 abbrev pub in_location : (Use → Bool) → Location → Bool
 in_location test at = test (OfMemory at.mem.name) || test (OfVariable at.address.name)
@@ -66,17 +79,22 @@ in_location test at = test (OfMemory at.mem.name) || test (OfVariable at.address
 abbrev pub in_verify : (Use → Bool) → Stmt → Bool
 in_verify test s = is_some_and (λ (g : Ident). test (OfGuess g.name)) (parts_of s).verified
 
--- whether a use at a place passes the test
-abbrev pub some_use : (Use → Bool) → Place → Bool
-some_use test (Statement s _) =
+-- whether a use at a statement, or at a place, passes the test
+abbrev pub uses_some : (Use → Bool) → Stmt → Bool
+uses_some test s =
     is_some_and (in_location test) (location_of s)
     || (in_verify test s || some_expr_of (some_part (reads_some test)) s)
-some_use test _ = false
+
+abbrev pub some_use : (Use → Bool) → Place → Bool
+some_use test x = at_statement false (λ s bs. uses_some test s) x
 
 -- N1: a name that names nothing of the kind that stands there, anywhere in the text; the start clause has to name the pipe
 abbrev pub names_another_pipe : Pipe → Place → Bool
+names_another_pipe p (Parameter _) = false
+names_another_pipe p (Memory _) = false
+names_another_pipe p (Statement _ _) = false
+names_another_pipe p (End _) = false
 names_another_pipe p (StartClause s) = not (bytes_eq s.name.name p.name.name)
-names_another_pipe p _ = false
 
 abbrev pub is_undefined : List Place → Use → Bool
 is_undefined ds u = not (list_any (defines_use u) ds)
@@ -101,8 +119,7 @@ needs_definition p (OfMemory _) = false
 needs_definition p (OfGuess _) = true
 
 abbrev pub is_delayed : Place → Bool
-is_delayed (Statement (DelayedRead _ _ _) _) = true
-is_delayed _ = false
+is_delayed x = at_statement false (λ s bs. fetches (λ at. true) s) x
 
 -- whether one of these places gives what is used, to whoever stands after the last of them
 abbrev pub is_given : List Place → Use → Bool

@@ -2,7 +2,7 @@
 use Rattle.std.specs.Prelude.{Bool, false, ◌||◌, List, [], ◌∷◌, Option, Some, None}
 use Rattle.std.specs.List.{list_any}
 use Rattle.pdl_semantics.specs.Tree.{Ident, Literal, Expr, Constant, Variable, Slice, Not, Binary, Cat, LessSigned, ZeroExtend, SignExtend, Choose, Location, Stmt, Separator, CombRead, Bind, SpecCall, DelayedRead, Write, Reserve, Block, Release, If, Call, Verify, SpecCheck, SpecBarrier, Stmts}
-use Rattle.pdl_rules.specs.Places.{Place, Statement, StartClause}
+use Rattle.pdl_rules.specs.Places.{Place, Parameter, Memory, Statement, End, StartClause, at_statement}
 
 -- whether an expression or a part of it passes the test
 abbrev pub some_part : (Expr → Bool) → Expr → Bool
@@ -68,18 +68,28 @@ abbrev pub some_expr_of : (Expr → Bool) → Stmt → Bool
 some_expr_of test s = some_of test (parts_of s).expressions
 
 abbrev pub some_expr : (Expr → Bool) → Place → Bool
-some_expr test (Statement s _) = some_expr_of test s
-some_expr test _ = false
+some_expr test x = at_statement false (λ s bs. some_expr_of test s) x
 
 -- the test of a literal, for one that is an expression
 abbrev pub of_constant : (Literal → Bool) → Expr → Bool
 of_constant test (Constant l) = test l
-of_constant test _ = false
+of_constant test (Variable _) = false
+of_constant test (Slice _ _ _) = false
+of_constant test (Not _) = false
+of_constant test (Binary _ _ _) = false
+of_constant test (Cat _ _) = false
+of_constant test (LessSigned _ _) = false
+of_constant test (ZeroExtend _ _) = false
+of_constant test (SignExtend _ _) = false
+of_constant test (Choose _ _ _) = false
 
 -- whether a literal at the place passes the test
 abbrev pub some_literal : (Literal → Bool) → Place → Bool
+some_literal test (Parameter _) = false
+some_literal test (Memory _) = false
+some_literal test (Statement s _) = some_expr_of (some_part (of_constant test)) s
+some_literal test (End _) = false
 some_literal test (StartClause s) = list_any test s.args
-some_literal test x = some_expr (some_part (of_constant test)) x
 
 -- the location at a statement, where there is one
 abbrev pub location_of : Stmt → Option Location
@@ -87,5 +97,4 @@ location_of s = (parts_of s).location
 
 -- whether the location at a place passes the test
 abbrev pub some_location : (Location → Bool) → Place → Bool
-some_location test (Statement s _) = is_some_and test (location_of s)
-some_location test _ = false
+some_location test x = at_statement false (λ s bs. is_some_and test (location_of s)) x

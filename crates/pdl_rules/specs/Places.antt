@@ -1,7 +1,8 @@
 -- The places of a source in text order, and its paths: the ways in which its `if`s can go.
 use Rattle.std.specs.Prelude.{ℕ, suc, Bool, true, false, not, ◌&&◌, List, [], ◌∷◌, ◌++◌, map, filter, fold, drop, length, if◌then◌else◌, ◌==◌, bytes_eq}
 use Rattle.std.specs.List.{list_any, list_all}
-use Rattle.pdl_semantics.specs.Tree.{Span, Expr, Variable, Stmt, Separator, CombRead, Bind, SpecCall, DelayedRead, Write, Reserve, Block, Release, If, Call, Verify, SpecCheck, SpecBarrier, Stmts, Nil, Cons, Param, Mem, Start, Pipe}
+use Rattle.pdl_semantics.specs.Tree.{Span, Expr, Constant, Variable, Slice, Not, Binary, Cat, LessSigned, ZeroExtend, SignExtend, Choose, Stmt, Separator, CombRead, Bind, SpecCall, DelayedRead, Write, Reserve, Block, Release, If, Call, Verify, SpecCheck, SpecBarrier, Stmts, Nil, Cons, Param, Mem, Start, Pipe}
+use Rattle.pdl_rules.specs.Forms.{of_if}
 
 -- GUARDS
 
@@ -11,13 +12,22 @@ pub data Guard : Type 0 where
   Own : (at : ℕ) → Guard
 
 abbrev pub guard_of : Span → Expr → Guard
+guard_of s (Constant _) = Own s.start
 guard_of s (Variable x) = Shared x.name
-guard_of s _ = Own s.start
+guard_of s (Slice _ _ _) = Own s.start
+guard_of s (Not _) = Own s.start
+guard_of s (Binary _ _ _) = Own s.start
+guard_of s (Cat _ _) = Own s.start
+guard_of s (LessSigned _ _) = Own s.start
+guard_of s (ZeroExtend _ _) = Own s.start
+guard_of s (SignExtend _ _) = Own s.start
+guard_of s (Choose _ _ _) = Own s.start
 
 abbrev pub same_guard : Guard → Guard → Bool
 same_guard (Shared x) (Shared y) = bytes_eq x y
 same_guard (Own m) (Own n) = m == n
-same_guard _ _ = false
+same_guard (Shared _) (Own _) = false
+same_guard (Own _) (Shared _) = false
 
 abbrev pub is_among : Guard → List Guard → Bool
 is_among g gs = list_any (same_guard g) gs
@@ -38,14 +48,34 @@ pub data Place : Type 0 where
   End : (at : Span) → Place
   StartClause : (start : Start) → Place
 
+-- what is told of a statement in its branches; of any other place the same
+abbrev pub at_statement : {T : Type 0} → T → (Stmt → List Branch → T) → Place → T
+at_statement other told (Parameter _) = other
+at_statement other told (Memory _) = other
+at_statement other told (Statement s bs) = told s bs
+at_statement other told (End _) = other
+at_statement other told (StartClause _) = other
+
 -- a statement, and what stands inside it after it
 abbrev mutual
   pub with_inner : List Branch → Stmt → List Place
+  with_inner bs (Separator s) = Statement (Separator s) bs ∷ []
+  with_inner bs (CombRead s x at) = Statement (CombRead s x at) bs ∷ []
+  with_inner bs (Bind s x e) = Statement (Bind s x e) bs ∷ []
+  with_inner bs (SpecCall s g args) = Statement (SpecCall s g args) bs ∷ []
+  with_inner bs (DelayedRead s x at) = Statement (DelayedRead s x at) bs ∷ []
+  with_inner bs (Write s at e) = Statement (Write s at e) bs ∷ []
+  with_inner bs (Reserve s at k) = Statement (Reserve s at k) bs ∷ []
+  with_inner bs (Block s at) = Statement (Block s at) bs ∷ []
+  with_inner bs (Release s at) = Statement (Release s at) bs ∷ []
   with_inner bs (If s c when otherwise) =
       Statement (If s c when otherwise) bs
       ∷ (statements (bs ++ record { guard = guard_of s c; truth = true; inside = when } ∷ []) when
       ++ statements (bs ++ record { guard = guard_of s c; truth = false; inside = otherwise } ∷ []) otherwise)
-  with_inner bs s = Statement s bs ∷ []
+  with_inner bs (Call s args) = Statement (Call s args) bs ∷ []
+  with_inner bs (Verify s g args) = Statement (Verify s g args) bs ∷ []
+  with_inner bs (SpecCheck s) = Statement (SpecCheck s) bs ∷ []
+  with_inner bs (SpecBarrier s) = Statement (SpecBarrier s) bs ∷ []
 
   pub statements : List Branch → Stmts → List Place
   statements bs Nil = []
@@ -92,8 +122,8 @@ line_of (StartClause s) = s.span.line
 
 -- the guards of these places, each once
 abbrev pub with_guard : List Guard → Place → List Guard
-with_guard gs (Statement (If s c _ _) _) = if is_among (guard_of s c) gs then gs else gs ++ guard_of s c ∷ []
-with_guard gs _ = gs
+with_guard gs x =
+    at_statement gs (λ s bs. of_if gs (λ from c. if is_among (guard_of from c) gs then gs else gs ++ guard_of from c ∷ []) s) x
 
 abbrev pub guards : List Place → List Guard
 guards xs = fold with_guard [] xs
@@ -116,8 +146,7 @@ is_taken path b = same_truth b.truth (is_among b.guard path)
 
 -- whether a path leads through a place
 abbrev pub on_path : List Guard → Place → Bool
-on_path path (Statement _ bs) = list_all (is_taken path) bs
-on_path path _ = true
+on_path path x = at_statement true (λ s bs. list_all (is_taken path) bs) x
 
 -- whether some path leads through the place x where what stands before x on that path passes the test
 abbrev pub on_some_path : (List Place → Bool) → Pipe → List Place → Place → Bool

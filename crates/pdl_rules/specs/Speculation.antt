@@ -1,15 +1,15 @@
 -- Guesses: rules S2 to S5. V is the stage of the first `verify` in the text.
 use Rattle.std.specs.Prelude.{ℕ, Bool, true, false, not, ◌&&◌, ◌==◌, nat_lt, List, [], ◌∷◌, bytes_eq, Option}
 use Rattle.std.specs.List.{list_any}
-use Rattle.pdl_semantics.specs.Tree.{W, SpecCall, Reserve, Release, Verify, SpecCheck, SpecBarrier, Pipe}
-use Rattle.pdl_rules.specs.Places.{Place, Statement, Guard, on_path, paths, on_some_path, places}
+use Rattle.pdl_semantics.specs.Tree.{W, Stmt, Separator, CombRead, Bind, SpecCall, DelayedRead, Write, Reserve, Block, Release, If, Call, Verify, SpecCheck, SpecBarrier, Pipe}
+use Rattle.pdl_rules.specs.Places.{Place, Guard, at_statement, on_path, paths, on_some_path, places}
+use Rattle.pdl_rules.specs.Forms.{releases, guesses, verifies, bars}
 use Rattle.pdl_rules.specs.Parts.{is_some_and}
 use Rattle.pdl_rules.specs.Locks.{hold_after, is_held_for}
 use Rattle.pdl_rules.specs.Stages.{stage_in, stage_of, first_stage, stages_that, is_elsewhere}
 
 abbrev pub is_verify : Place → Bool
-is_verify (Statement (Verify _ _ _) _) = true
-is_verify _ = false
+is_verify x = at_statement false (λ s bs. verifies (λ g. true) s) x
 
 -- V, none in a pipe without a `verify`
 abbrev pub verify_stage : Pipe → Option ℕ
@@ -20,8 +20,7 @@ is_before_verify p s = is_some_and (λ v. nat_lt s v) (verify_stage p)
 
 -- S2: on some path a guess that isn't verified exactly once, or not in a later stage
 abbrev pub is_verify_of : List ℕ → Place → Bool
-is_verify_of guess (Statement (Verify _ g _) _) = bytes_eq g.name guess
-is_verify_of guess _ = false
+is_verify_of guess x = at_statement false (λ s bs. verifies (λ g. bytes_eq g.name guess) s) x
 
 abbrev pub verify_stages : Pipe → List Guard → List ℕ → List ℕ
 verify_stages p path guess = stages_that (λ y. on_path path y && is_verify_of guess y) [] (places p)
@@ -31,8 +30,8 @@ is_once_after s (v ∷ []) = nat_lt s v
 is_once_after s _ = false
 
 abbrev pub is_unverified : Pipe → List Guard → List Place → Place → Bool
-is_unverified p path before (Statement (SpecCall _ g _) bs) = not (is_once_after (stage_in before bs) (verify_stages p path g.name))
-is_unverified p path before _ = false
+is_unverified p path before x =
+    at_statement false (λ s bs. guesses (λ g. not (is_once_after (stage_in before bs) (verify_stages p path g.name))) s) x
 
 abbrev pub breaks_s2 : Pipe → List Place → Place → Bool
 breaks_s2 p before x = list_any (λ path. on_path path x && is_unverified p path before x) (paths p)
@@ -43,26 +42,53 @@ breaks_s3 before x = is_verify x && is_elsewhere is_verify before (stage_of befo
 
 -- S4: on some path the release of a write reservation in a stage before V with no `spec_barrier` before it on the path
 abbrev pub is_barrier : Place → Bool
-is_barrier (Statement (SpecBarrier _) _) = true
-is_barrier _ = false
+is_barrier x = at_statement false (λ s bs. bars s) x
 
 abbrev pub releases_unsure : List Place → Place → Bool
-releases_unsure earlier (Statement (Release _ at) _) = is_held_for W (hold_after at earlier) && not (list_any is_barrier earlier)
-releases_unsure earlier _ = false
+releases_unsure earlier x =
+    at_statement false (λ s bs. releases (λ at. is_held_for W (hold_after at earlier) && not (list_any is_barrier earlier)) s) x
 
 abbrev pub breaks_s4 : Pipe → List Place → Place → Bool
 breaks_s4 p before x = is_before_verify p (stage_of before x) && on_some_path (λ earlier. releases_unsure earlier x) p before x
 
 -- S5: on some path a reserve or a `spec_call` in a stage before V with no `spec_check` or `spec_barrier` before it in that stage
+abbrev pub acts_unsure : Stmt → Bool
+acts_unsure (Separator _) = false
+acts_unsure (CombRead _ _ _) = false
+acts_unsure (Bind _ _ _) = false
+acts_unsure (SpecCall _ _ _) = true
+acts_unsure (DelayedRead _ _ _) = false
+acts_unsure (Write _ _ _) = false
+acts_unsure (Reserve _ _ _) = true
+acts_unsure (Block _ _) = false
+acts_unsure (Release _ _) = false
+acts_unsure (If _ _ _ _) = false
+acts_unsure (Call _ _) = false
+acts_unsure (Verify _ _ _) = false
+acts_unsure (SpecCheck _) = false
+acts_unsure (SpecBarrier _) = false
+
 abbrev pub needs_check : Place → Bool
-needs_check (Statement (Reserve _ _ _) _) = true
-needs_check (Statement (SpecCall _ _ _) _) = true
-needs_check _ = false
+needs_check x = at_statement false (λ s bs. acts_unsure s) x
+
+abbrev pub checks : Stmt → Bool
+checks (Separator _) = false
+checks (CombRead _ _ _) = false
+checks (Bind _ _ _) = false
+checks (SpecCall _ _ _) = false
+checks (DelayedRead _ _ _) = false
+checks (Write _ _ _) = false
+checks (Reserve _ _ _) = false
+checks (Block _ _) = false
+checks (Release _ _) = false
+checks (If _ _ _ _) = false
+checks (Call _ _) = false
+checks (Verify _ _ _) = false
+checks (SpecCheck _) = true
+checks (SpecBarrier _) = true
 
 abbrev pub is_check : Place → Bool
-is_check (Statement (SpecCheck _) _) = true
-is_check (Statement (SpecBarrier _) _) = true
-is_check _ = false
+is_check x = at_statement false (λ s bs. checks s) x
 
 -- whether one of these places on the path is a check in stage s
 abbrev pub is_checked : List Guard → List Place → ℕ → Bool

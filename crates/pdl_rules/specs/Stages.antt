@@ -1,8 +1,9 @@
 -- Stages: rules L2 and L8. The stage of a place goes by the text: the k-th separator begins stage k.
 use Rattle.std.specs.Prelude.{ℕ, suc, Bool, true, false, not, ◌&&◌, ◌==◌, nat_lt, List, [], ◌∷◌, ◌++◌, count_by, if◌then◌else◌, bytes_eq, Option, Some, None}
 use Rattle.std.specs.List.{list_any}
-use Rattle.pdl_semantics.specs.Tree.{CombRead, DelayedRead, Reserve, Release, Pipe}
-use Rattle.pdl_rules.specs.Places.{Place, Statement, Guard, Branch, same_guard, same_truth, on_path, paths, places, places_after}
+use Rattle.pdl_semantics.specs.Tree.{Stmt, Separator, CombRead, Bind, SpecCall, DelayedRead, Write, Reserve, Block, Release, If, Call, Verify, SpecCheck, SpecBarrier, Pipe}
+use Rattle.pdl_rules.specs.Places.{Place, Guard, Branch, at_statement, same_guard, same_truth, on_path, paths, places, places_after}
+use Rattle.pdl_rules.specs.Forms.{reserves, releases}
 use Rattle.pdl_rules.specs.Parts.{is_some_and}
 use Rattle.pdl_rules.specs.Limits.{is_separator}
 use Rattle.pdl_rules.specs.Locks.{is_locked}
@@ -13,8 +14,7 @@ stage_after before = count_by is_separator before
 
 -- the branches that a place stands in
 abbrev pub branches_of : Place → List Branch
-branches_of (Statement s bs) = bs
-branches_of _ = []
+branches_of x = at_statement [] (λ s bs. bs) x
 
 abbrev pub same_branch : Branch → Branch → Bool
 same_branch a b = same_guard a.guard b.guard && same_truth a.truth b.truth
@@ -56,18 +56,30 @@ is_elsewhere test before s = is_some_and (λ k. not (k == s)) (first_stage test 
 
 -- whether a place reserves the memory, and whether it releases it
 abbrev pub reserves_memory : List ℕ → Place → Bool
-reserves_memory m (Statement (Reserve _ at _) _) = bytes_eq at.mem.name m
-reserves_memory m _ = false
+reserves_memory m x = at_statement false (λ s bs. reserves (λ at k. bytes_eq at.mem.name m) s) x
 
 abbrev pub releases_memory : List ℕ → Place → Bool
-releases_memory m (Statement (Release _ at) _) = bytes_eq at.mem.name m
-releases_memory m _ = false
+releases_memory m x = at_statement false (λ s bs. releases (λ at. bytes_eq at.mem.name m) s) x
 
 -- L2: a reserve of a memory in another stage than its first reserve, or a release in another one than its first release
+abbrev pub moves_stage : List Place → ℕ → Stmt → Bool
+moves_stage before k (Separator _) = false
+moves_stage before k (CombRead _ _ _) = false
+moves_stage before k (Bind _ _ _) = false
+moves_stage before k (SpecCall _ _ _) = false
+moves_stage before k (DelayedRead _ _ _) = false
+moves_stage before k (Write _ _ _) = false
+moves_stage before k (Reserve _ at _) = is_elsewhere (reserves_memory at.mem.name) before k
+moves_stage before k (Block _ _) = false
+moves_stage before k (Release _ at) = is_elsewhere (releases_memory at.mem.name) before k
+moves_stage before k (If _ _ _ _) = false
+moves_stage before k (Call _ _) = false
+moves_stage before k (Verify _ _ _) = false
+moves_stage before k (SpecCheck _) = false
+moves_stage before k (SpecBarrier _) = false
+
 abbrev pub breaks_l2 : List Place → Place → Bool
-breaks_l2 before (Statement (Reserve _ at _) bs) = is_elsewhere (reserves_memory at.mem.name) before (stage_in before bs)
-breaks_l2 before (Statement (Release _ at) bs) = is_elsewhere (releases_memory at.mem.name) before (stage_in before bs)
-breaks_l2 before _ = false
+breaks_l2 before x = at_statement false (λ s bs. moves_stage before (stage_in before bs) s) x
 
 -- the stage that the next separator on a path begins, of which this many began before; 0 where there is none
 abbrev pub next_on : List Guard → ℕ → List Place → ℕ
@@ -79,11 +91,26 @@ next_on path begun (x ∷ xs) =
 abbrev pub is_bound_late : Pipe → List ℕ → ℕ → Bool
 is_bound_late p m s = is_locked p.mems m && is_some_and (λ c. nat_lt c s) (first_stage (releases_memory m) [] (places p))
 
+-- where its own stage is k, and the next on the path is l
+abbrev pub binds_late : Pipe → ℕ → ℕ → Stmt → Bool
+binds_late p k l (Separator _) = false
+binds_late p k l (CombRead _ _ at) = is_bound_late p at.mem.name k
+binds_late p k l (Bind _ _ _) = false
+binds_late p k l (SpecCall _ _ _) = false
+binds_late p k l (DelayedRead _ _ at) = is_bound_late p at.mem.name l
+binds_late p k l (Write _ _ _) = false
+binds_late p k l (Reserve _ _ _) = false
+binds_late p k l (Block _ _) = false
+binds_late p k l (Release _ _) = false
+binds_late p k l (If _ _ _ _) = false
+binds_late p k l (Call _ _) = false
+binds_late p k l (Verify _ _ _) = false
+binds_late p k l (SpecCheck _) = false
+binds_late p k l (SpecBarrier _) = false
+
 abbrev pub bound_late : Pipe → List Guard → List Place → Place → Bool
-bound_late p path before (Statement (CombRead _ _ at) bs) = is_bound_late p at.mem.name (stage_in before bs)
-bound_late p path before (Statement (DelayedRead _ _ at) bs) =
-    is_bound_late p at.mem.name (next_on path (stage_after before) (places_after p before))
-bound_late p path before _ = false
+bound_late p path before x =
+    at_statement false (λ s bs. binds_late p (stage_in before bs) (next_on path (stage_after before) (places_after p before)) s) x
 
 abbrev pub breaks_l8 : Pipe → List Place → Place → Bool
 breaks_l8 p before x = list_any (λ path. on_path path x && bound_late p path before x) (paths p)

@@ -32,9 +32,19 @@ is_roomy xs m = has_room (memory_at xs m).lock (length (memory_at xs m).pending)
 
 -- whether an operation after these deeds lets its thread move
 abbrev pub lets_move : List Memory → ℕ → Op → Deeds → Bool
-lets_move xs thread (Block m a) d = block_in xs thread m (slice_index d.env a) (is_held d.held m a)
+lets_move xs thread (Bind _ _) d = true
+lets_move xs thread (CombRead _ _ _) d = true
+lets_move xs thread (DelayedRead _ _ _) d = true
+lets_move xs thread (Write _ _ _) d = true
+lets_move xs thread (ReserveRead _ _) d = true
 lets_move xs thread (ReserveWrite m a) d = is_roomy xs m
-lets_move xs thread _ d = true
+lets_move xs thread (Block m a) d = block_in xs thread m (slice_index d.env a) (is_held d.held m a)
+lets_move xs thread (Release _ _) d = true
+lets_move xs thread (Call _) d = true
+lets_move xs thread (SpecCall _) d = true
+lets_move xs thread (Verify _) d = true
+lets_move xs thread SpecCheck d = true
+lets_move xs thread SpecBarrier d = true
 
 -- whether some statements do
 abbrev pub all_let_move : List Memory → ℕ → List Stmt → Deeds → Bool

@@ -1,6 +1,6 @@
 -- Statements that the machine serves; values, reservations and writes of their widths.
 use Rattle.std.specs.Prelude.{◌≡◌, ℕ, ◌^◌, ◌<◌, List, [], ◌∷◌, length, IfSome, ⊤}
-use Rattle.pdl_semantics.specs.Flat.{Op, DelayedRead, SpecCall, Verify, Stmt, Pipe}
+use Rattle.pdl_semantics.specs.Flat.{Op, Bind, CombRead, DelayedRead, Write, ReserveRead, ReserveWrite, Block, Release, Call, SpecCall, Verify, SpecCheck, SpecBarrier, Stmt, Pipe}
 use Rattle.pdl_semantics.specs.Stages.{mem_at}
 use Rattle.pdl_semantics.specs.Machine.{Deeds, Reserved, Written}
 use Rattle.pdl_form.specs.Form.{Form}
@@ -12,10 +12,19 @@ use Rattle.pdl_run.specs.Doing.{memory_at}
 
 -- an operation that is typed, not a delayed read nor a guess
 abbrev pub IsServed : Form → Op → Type 0
+IsServed f (Bind x y) = IsTypedOp f (Bind x y)
+IsServed f (CombRead x y z) = IsTypedOp f (CombRead x y z)
 IsServed f (DelayedRead x m a) = ⊥
+IsServed f (Write x y z) = IsTypedOp f (Write x y z)
+IsServed f (ReserveRead x y) = IsTypedOp f (ReserveRead x y)
+IsServed f (ReserveWrite x y) = IsTypedOp f (ReserveWrite x y)
+IsServed f (Block x y) = IsTypedOp f (Block x y)
+IsServed f (Release x y) = IsTypedOp f (Release x y)
+IsServed f (Call x) = IsTypedOp f (Call x)
 IsServed f (SpecCall args) = ⊥
 IsServed f (Verify args) = ⊥
-IsServed f op = IsTypedOp f op
+IsServed f SpecCheck = IsTypedOp f SpecCheck
+IsServed f SpecBarrier = IsTypedOp f SpecBarrier
 
 abbrev pub AreServed : Form → List Stmt → Type 0
 AreServed f [] = ⊤

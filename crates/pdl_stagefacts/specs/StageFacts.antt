@@ -1,6 +1,6 @@
 -- What the rules of the language give of an accepted pipe's stage graph and of its text: the facts of `Sound` that no path's statements are asked for.
 use Rattle.std.specs.Prelude.{◌≡◌, ℕ, suc, ◌≤◌, ◌<◌, true, false, List, [], ◌∷◌, Some, length, nat_lt}
-use Rattle.pdl_semantics.specs.Flat.{list_all, Op, DelayedRead, Stmt, Branch, Forks, Pipe}
+use Rattle.pdl_semantics.specs.Flat.{list_all, Op, Bind, CombRead, DelayedRead, Write, ReserveRead, ReserveWrite, Block, Release, Call, SpecCall, Verify, SpecCheck, SpecBarrier, Stmt, Branch, Forks, Pipe}
 use Rattle.pdl_semantics.specs.Stages.{is_inside, is_reserve, is_release, is_verify, onpath, in_stage, stage_at, verify_stage, commit_stage, reserve_stage}
 use Rattle.pdl_semantics.specs.Cycle.{merges_by}
 use Rattle.pdl_derived.specs.Alone.{before}
@@ -11,8 +11,19 @@ use Rattle.pdl_semantics.specs.Sound.{stages_from, is_fetch}
 
 -- what is known of the delayed reads of stage s
 abbrev pub FoundIf : Pipe → (ℕ → ℕ) → ℕ → Op → Type 0
+FoundIf p fetch s (Bind _ _) = Unit {0}
+FoundIf p fetch s (CombRead _ _ _) = Unit {0}
 FoundIf p fetch s (DelayedRead x m a) = Found p fetch s m
-FoundIf p fetch s _ = Unit {0}
+FoundIf p fetch s (Write _ _ _) = Unit {0}
+FoundIf p fetch s (ReserveRead _ _) = Unit {0}
+FoundIf p fetch s (ReserveWrite _ _) = Unit {0}
+FoundIf p fetch s (Block _ _) = Unit {0}
+FoundIf p fetch s (Release _ _) = Unit {0}
+FoundIf p fetch s (Call _) = Unit {0}
+FoundIf p fetch s (SpecCall _) = Unit {0}
+FoundIf p fetch s (Verify _) = Unit {0}
+FoundIf p fetch s SpecCheck = Unit {0}
+FoundIf p fetch s SpecBarrier = Unit {0}
 
 abbrev pub AllFound : Pipe → (ℕ → ℕ) → ℕ → List Stmt → Type 0
 AllFound p fetch s [] = Unit {0}
