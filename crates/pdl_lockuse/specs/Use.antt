@@ -1,6 +1,6 @@
 -- How the threads use the locks in a cycle, of any pipe, beside what the law of a netlist takes: room, whose write is released, and where a squash cuts the list of pending writes.
 use Rattle.std.specs.Prelude.{◌≡◌, ℕ, suc, ◌+◌, ◌≤◌, ◌<◌, Bool, true, false, ◌&&◌, List, [], ◌∷◌, Some, is_none, nat_le, length, take, if◌then◌else◌, ◌==◌, slice_index, Contains, IsTrue, ⊤}
-use Rattle.pdl_semantics.specs.Flat.{Op, CombRead, DelayedRead, Write, Block, Stmt, Pipe, all_hold}
+use Rattle.pdl_semantics.specs.Flat.{Op, Bind, CombRead, DelayedRead, Write, ReserveRead, ReserveWrite, Block, Release, Call, SpecCall, Verify, SpecCheck, SpecBarrier, Stmt, Pipe, all_hold}
 use Rattle.pdl_semantics.specs.Stages.{list_any, onpath, in_stage, mem_at, reserve_stage, commit_stage}
 use Rattle.pdl_semantics.specs.Machine.{Awaited, State, Pending, Written, Deeds, deeds_after, lock_of, older_write, word_for}
 use Rattle.pdl_semantics.specs.Locks.{read_ready, write_ready}
@@ -40,10 +40,19 @@ ReleasesOlder p st bits m a = a.stage ≤ commit_stage p m → ShiftsUpTo p st b
 
 -- a read finds the block of its location ready, and so does a write, where the thread came so far
 abbrev pub IsLetIn : Pipe → State → ℕ → Op → Deeds → Type 0
+IsLetIn p st thread (Bind _ _) d = ⊤
 IsLetIn p st thread (CombRead x m a) d = IsTrue (read_ready (mem_at p m).lock (older_write st thread m (slice_index d.env a)))
 IsLetIn p st thread (DelayedRead x m a) d = IsTrue (read_ready (mem_at p m).lock (older_write st thread m (slice_index d.env a)))
 IsLetIn p st thread (Write m a e) d = IsTrue (write_ready (mem_at p m).lock (older_write st thread m (slice_index d.env a)))
-IsLetIn p st thread _ d = ⊤
+IsLetIn p st thread (ReserveRead _ _) d = ⊤
+IsLetIn p st thread (ReserveWrite _ _) d = ⊤
+IsLetIn p st thread (Block _ _) d = ⊤
+IsLetIn p st thread (Release _ _) d = ⊤
+IsLetIn p st thread (Call _) d = ⊤
+IsLetIn p st thread (SpecCall _) d = ⊤
+IsLetIn p st thread (Verify _) d = ⊤
+IsLetIn p st thread SpecCheck d = ⊤
+IsLetIn p st thread SpecBarrier d = ⊤
 
 -- each statement after these deeds, as long as the locks let the thread move so far
 abbrev pub AreLetIn : Pipe → State → ℕ → List Stmt → Deeds → Type 0
@@ -71,11 +80,19 @@ WritesOnce p st bits m a =
 
 -- whether a statement blocks, reads or writes a memory
 abbrev pub uses_mem : ℕ → Op → Bool
+uses_mem m (Bind _ _) = false
 uses_mem m (CombRead x n a) = n == m
 uses_mem m (DelayedRead x n a) = n == m
-uses_mem m (Block n a) = n == m
 uses_mem m (Write n a e) = n == m
-uses_mem m _ = false
+uses_mem m (ReserveRead _ _) = false
+uses_mem m (ReserveWrite _ _) = false
+uses_mem m (Block n a) = n == m
+uses_mem m (Release _ _) = false
+uses_mem m (Call _) = false
+uses_mem m (SpecCall _) = false
+uses_mem m (Verify _) = false
+uses_mem m SpecCheck = false
+uses_mem m SpecBarrier = false
 
 -- as long as such a statement may be to come, on whatever path, what is released is no younger
 abbrev pub UsesOlder : Pipe → State → List Bool → ℕ → Act → Type 0

@@ -1,6 +1,6 @@
 -- Widths of what stands in a stage, and statements that can be walked.
 use Rattle.std.specs.Prelude.{◌≡◌, ℕ, ◌^◌, ◌<◌, Bool, true, false, List, length, take}
-use Rattle.pdl_semantics.specs.Flat.{Op, DelayedRead, SpecCall, Verify, SpecCheck, SpecBarrier, Stmt, Pipe}
+use Rattle.pdl_semantics.specs.Flat.{Op, Bind, CombRead, DelayedRead, Write, ReserveRead, ReserveWrite, Block, Release, Call, SpecCall, Verify, SpecCheck, SpecBarrier, Stmt, Pipe}
 use Rattle.pdl_semantics.specs.Stages.{mem_at}
 use Rattle.pdl_form.specs.Form.{Form, stmt_at}
 use Rattle.pdl_formtypes.specs.Stmts.{IsTypedStmt}
@@ -45,12 +45,19 @@ IsWalkOf f c w = IsWalk c f.pipe f.widths w
 
 -- statements of which nets are made here: none of them has to do with guesses or delayed memories
 abbrev pub is_walked : Op → Bool
+is_walked (Bind _ _) = true
+is_walked (CombRead _ _ _) = true
 is_walked (DelayedRead x m a) = false
+is_walked (Write _ _ _) = true
+is_walked (ReserveRead _ _) = true
+is_walked (ReserveWrite _ _) = true
+is_walked (Block _ _) = true
+is_walked (Release _ _) = true
+is_walked (Call _) = true
 is_walked (SpecCall args) = false
 is_walked (Verify args) = false
 is_walked SpecCheck = false
 is_walked SpecBarrier = false
-is_walked _ = true
 
 abbrev pub IsWalked : Form → Stmt → Type 0
 IsWalked f x = IsTypedStmt f x × (is_walked x.op ≡ true)

@@ -92,7 +92,8 @@ pub record FitsAfter (c : Circuit) (p : Pipe) (before s : StageNets) : Type 0 wh
 -- a register for an argument of new threads
 abbrev pub FitsArg : Circuit → List StageNets → ℕ → Item → Type 0
 FitsArg c ss r (Var x) = (w : ℕ) × IsRegNow c r w × AreBirths c w (Arg x) ss
-FitsArg c ss r i = ⊥
+FitsArg c ss r (Held m a) = ⊥
+FitsArg c ss r (Ticket m) = ⊥
 
 -- the first stage's registers fit what new threads bring
 pub record FitsFirst (c : Circuit) (ss : List StageNets) (s : StageNets) : Type 0 where

@@ -72,4 +72,5 @@ IsSameConstant g f = IsConstant g × (f ≡ g)
 -- as in stage 0: a variable that is no parameter is zero, and nothing is held
 abbrev pub IsZero : Pipe → Item → Signal → Type 0
 IsZero p (Var x) f = (length p.start ≤ x) × ((w : ℕ) × (f ≡ const_signal w 0))
-IsZero p i f = f ≡ zero_bit
+IsZero p (Held m a) f = f ≡ zero_bit
+IsZero p (Ticket m) f = f ≡ zero_bit

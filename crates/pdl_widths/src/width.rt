@@ -41,7 +41,9 @@ pub fn op_width(op: BinaryOp, width: u128) -> u128
 {
     match op {
         BinaryOp::Equal | BinaryOp::Differ | BinaryOp::Less => 1,
-        _ => width,
+        BinaryOp::Add | BinaryOp::Sub | BinaryOp::Mul => width,
+        BinaryOp::And | BinaryOp::Or | BinaryOp::Xor => width,
+        BinaryOp::ShiftLeft | BinaryOp::ShiftRight => width,
     }
 }
 
