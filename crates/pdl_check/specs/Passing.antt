@@ -17,7 +17,10 @@ known_or None later = later
 
 abbrev pub is_name : TokenKind → Bool
 is_name kind.Name = true
-is_name _ = false
+is_name (kind.Number _) = false
+is_name (kind.Literal _ _) = false
+is_name (kind.Mark _) = false
+is_name kind.Bad = false
 
 -- the token before, as far as the gate asks what it is
 abbrev pub name_if : Bool → Option TokenKind

@@ -22,13 +22,20 @@ AreSized (e ∷ es) = IsSized e × AreSized es
 -- nor in a statement
 abbrev mutual
   pub IsSizedStmt : Stmt → Type 0
+  IsSizedStmt (Separator _) = Unit {0}
+  IsSizedStmt (CombRead _ _ _) = Unit {0}
   IsSizedStmt (Bind _ x e) = IsSized e
   IsSizedStmt (SpecCall _ guess args) = AreSized args
+  IsSizedStmt (DelayedRead _ _ _) = Unit {0}
   IsSizedStmt (Write _ to e) = IsSized e
+  IsSizedStmt (Reserve _ _ _) = Unit {0}
+  IsSizedStmt (Block _ _) = Unit {0}
+  IsSizedStmt (Release _ _) = Unit {0}
   IsSizedStmt (If _ c when otherwise) = IsSized c × (AreSizedStmts when × AreSizedStmts otherwise)
   IsSizedStmt (Call _ args) = AreSized args
   IsSizedStmt (Verify _ guess args) = AreSized args
-  IsSizedStmt _ = Unit {0}
+  IsSizedStmt (SpecCheck _) = Unit {0}
+  IsSizedStmt (SpecBarrier _) = Unit {0}
 
   pub AreSizedStmts : Stmts → Type 0
   AreSizedStmts Nil = Unit {0}

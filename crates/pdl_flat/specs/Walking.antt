@@ -1,6 +1,6 @@
 -- A walk over the statements of a pipe: what it has made, and how the stages that it has begun are closed.
 use Rattle.std.specs.Prelude.{◌≡◌, ℕ, zero, suc, ◌≤◌, Bool, true, false, List, [], ◌∷◌, ◌++◌, Some, length, slice_index_or}
-use Rattle.pdl_semantics.specs.Tree.{Stmt, Separator, CombRead, Bind, DelayedRead, If}
+use Rattle.pdl_semantics.specs.Tree.{Stmt, Separator, CombRead, Bind, SpecCall, DelayedRead, Write, Reserve, Block, Release, If, Call, Verify, SpecCheck, SpecBarrier}
 use Rattle.pdl_semantics.specs.Flat as flat
 use Rattle.pdl_semantics.specs.Flat.{Op, Next, Stage}
 use Rattle.pdl_semantics.specs.Flatten.{Position, Graph, with_merge}
@@ -46,15 +46,36 @@ settled_stages false true k n before fork xs = with_merge_at (suc n) k (leading 
 -- a statement that is neither a separator nor an `if`
 abbrev pub is_plain : Stmt → Bool
 is_plain (Separator _) = false
+is_plain (CombRead _ _ _) = true
+is_plain (Bind _ _ _) = true
+is_plain (SpecCall _ _ _) = true
+is_plain (DelayedRead _ _ _) = true
+is_plain (Write _ _ _) = true
+is_plain (Reserve _ _ _) = true
+is_plain (Block _ _) = true
+is_plain (Release _ _) = true
 is_plain (If _ _ _ _) = false
-is_plain _ = true
+is_plain (Call _ _) = true
+is_plain (Verify _ _ _) = true
+is_plain (SpecCheck _) = true
+is_plain (SpecBarrier _) = true
 
 -- one of these that binds nothing
 abbrev pub is_act : Stmt → Bool
+is_act (Separator _) = false
 is_act (CombRead _ _ _) = false
 is_act (Bind _ _ _) = false
+is_act (SpecCall _ _ _) = true
 is_act (DelayedRead _ _ _) = false
-is_act s = is_plain s
+is_act (Write _ _ _) = true
+is_act (Reserve _ _ _) = true
+is_act (Block _ _) = true
+is_act (Release _ _) = true
+is_act (If _ _ _ _) = false
+is_act (Call _ _) = true
+is_act (Verify _ _ _) = true
+is_act (SpecCheck _) = true
+is_act (SpecBarrier _) = true
 
 -- a read, delayed or not
 abbrev pub read_op : Bool → ℕ → ℕ → ℕ → Op

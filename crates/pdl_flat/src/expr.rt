@@ -126,7 +126,9 @@ fn op_width(op: BinaryOp, width: u8) -> u8
 {
     match op {
         BinaryOp::Equal | BinaryOp::Differ | BinaryOp::Less => 1,
-        _ => width,
+        BinaryOp::Add | BinaryOp::Sub | BinaryOp::Mul => width,
+        BinaryOp::And | BinaryOp::Or | BinaryOp::Xor => width,
+        BinaryOp::ShiftLeft | BinaryOp::ShiftRight => width,
     }
 }
 

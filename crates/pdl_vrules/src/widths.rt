@@ -49,7 +49,9 @@ fn fits_bin(widths: &Widths, op: BinOp, a: Net, b: Net, width: u8) -> bool
     own == widths.net(b)
         && match op {
             BinOp::Eq | BinOp::Ne | BinOp::Lt => width == 1,
-            _ => width == own,
+            BinOp::Add | BinOp::Sub | BinOp::Mul => width == own,
+            BinOp::And | BinOp::Or | BinOp::Xor => width == own,
+            BinOp::Shl | BinOp::Shr => width == own,
         }
 }
 
