@@ -1,26 +1,24 @@
--- The start of a simulator: the list of values has resets and constants.
-use Rattle.std.proofs.Common.{◌≡◌, refl, sym, ap, ◌∙◌, subst, ℕ, ◌+◌, ◌<◌, ◌≤◌, List, [], ◌∷◌, ◌++◌, length, get_or, take, drop, map, None, arith, ◌-◌, length-append, append_assoc}
+-- The start of a simulator: registers have their reset values, and the list of values has constants.
+use Rattle.std.proofs.Common.{◌≡◌, ◌⊎◌, inl, inr, refl, sym, ap, ◌∙◌, subst, ℕ, ◌+◌, ◌<◌, List, [], ◌++◌, length, take, drop, map, replicate, None, arith, ◌-◌, length-append}
 use Rattle.std.specs.Prelude.{slice_index}
-use Rattle.std.proofs.lemmas.List.{get_or-append_right, get_or-map, length-map, take_at, drop_at}
+use Rattle.std.proofs.lemmas.List.{get_or-append_right, get_or-map, length-map, length-replicate}
 use Rattle.pdl_kit.specs.declared.mem_info.MemInfo.{MemInfo}
-use Rattle.pdl_net.specs.declared.Net.TheVariants.{Cell as CellNet}
 use Rattle.pdl_net.specs.declared.Cell.{Cell}
 use Rattle.pdl_net.specs.declared.Cell.TheVariants as cell
-use Rattle.pdl_net.specs.declared.Reg.{Reg}
 use Rattle.pdl_net.specs.declared.Netlist.{Netlist}
 use Rattle.pdl_net.specs.Circuit.{Circuit, circuit_of, inputs_of}
 use Rattle.pdl_net.specs.Well.{IsWell}
 use Rattle.pdl_net.specs.Run.{delayed_mems, loaded_arrays}
-use Rattle.pdl_net.proofs.Fix.{no_cell}
-use Rattle.pdl_netrun.specs.Plan.{place, held_at_start, IsHeld, HasConstants}
-use Rattle.pdl_netrun.specs.Sim.{run_at, run_at_start, nothing}
-use Rattle.pdl_netrun.specs.Inside.{registers}
-use Rattle.pdl_net.proofs.Loaded.{holds_start}
 use Rattle.pdl_net.specs.Holds.{Holds, ImageFits}
+use Rattle.pdl_net.proofs.Loaded.{holds_start}
+use Rattle.pdl_netrun.specs.Order.{first_place, cell_at, cell_of, unplaced, HasTurn, IsOrder, IsOrderOf, AllEarly, AllPlaced}
+use Rattle.pdl_netrun.specs.Plan.{held_at_start, IsHeld, HasConstants}
+use Rattle.pdl_netrun.specs.declared.order.Order.{Order}
+use Rattle.pdl_netrun.specs.Sim.{run_at, run_at_start, nothing}
 
 -- the list of values before the first cycle
-abbrev pub first_values : Circuit → List ℕ
-first_values c = map (λ w. 0) (inputs_of c) ++ map (λ r. r.reset) c.regs ++ map held_at_start c.cells
+abbrev pub first_values : Circuit → List ℕ → List ℕ
+first_values c order = replicate (first_place c) 0 ++ map (λ k. held_at_start (cell_at c k)) order
 
 -- what a place holds at the start is what a constant holds
 held_first : (g : Cell) → IsHeld g (held_at_start g)
@@ -33,43 +31,57 @@ held_first (cell.Cat a b) = tt
 held_first (cell.Rep k a) = tt
 held_first (cell.Read m a) = tt
 
-front_length : (c : Circuit) → length (map (λ w. 0) (inputs_of c) ++ map (λ (r : Reg). r.reset) c.regs) ≡ length (inputs_of c) + length c.regs
-front_length c =
-    let e = length-append (map (λ w. 0) (inputs_of c)) (map (λ (r : Reg). r.reset) c.regs) in
-    let a : length {A = ℕ} (map (λ w. 0) (inputs_of c)) ≡ length (inputs_of c) = simp length-map in
-    let b : length (map (λ (r : Reg). r.reset) c.regs) ≡ length c.regs = simp length-map in
-    omega (arith, e, a, b)
+front_length : (c : Circuit) → length (replicate {A = ℕ} (first_place c) 0) ≡ first_place c
+front_length c = simp length-replicate
 
-pub constants_first : (c : Circuit) (vs : List ℕ) → vs ≡ first_values c → HasConstants c vs
-constants_first c vs e = record {
-  each = λ k h.
-      let front = map (λ w. 0) (inputs_of c) ++ map (λ (r : Reg). r.reset) c.regs in
-      let n = length (inputs_of c) + length c.regs in
-      let j : n + k - n ≡ k = omega arith in
-      let v : slice_index vs (place c (CellNet k)) ≡ held_at_start (get_or c.cells k no_cell) =
-      ap (λ xs. slice_index xs (n + k)) e
-      ∙ get_or-append_right front (map held_at_start c.cells) n (n + k) 0 (front_length c) (omega arith)
-      ∙ ap (λ i. slice_index (map held_at_start c.cells) i) j
-      ∙ get_or-map held_at_start c.cells k no_cell 0 h in
-      subst (λ x. IsHeld (get_or c.cells k no_cell) x) (sym v) (held_first (get_or c.cells k no_cell));
-}
+pub values_count : (c : Circuit) (order vs : List ℕ) → vs ≡ first_values c order → length vs ≡ first_place c + length order
+values_count c order vs e =
+    let a = length-append (replicate (first_place c) 0) (map (λ k. held_at_start (cell_at c k)) order) in
+    let b : length (map (λ k. held_at_start (cell_at c k)) order) ≡ length order = simp length-map in
+    let d = ap length e in
+    let f = front_length c in
+    omega (arith, a, b, d, f)
 
-pub registers_first : (c : Circuit) (vs : List ℕ) → vs ≡ first_values c → registers c vs ≡ map (λ r. r.reset) c.regs
-registers_first c vs e =
-    let is = map (λ w. 0) (inputs_of c) in
-    let rs = map (λ (r : Reg). r.reset) c.regs in
-    let a : length is ≡ length (inputs_of c) = simp length-map in
-    let b : length rs ≡ length c.regs = simp length-map in
-    ap (registers c) (e ∙ append_assoc is rs (map held_at_start c.cells))
-    ∙ ap (take (length c.regs)) (drop_at is (rs ++ map held_at_start c.cells) (length (inputs_of c)) a)
-    ∙ take_at rs (map held_at_start c.cells) (length c.regs) b
+pub constants_first : (c : Circuit) (order ps vs : List ℕ) (n : ℕ) → IsOrder c order ps → n < unplaced → vs ≡ first_values c order → HasConstants c ps n vs
+constants_first c order ps vs n o l e = record { each = λ k h b. held k h b (o.known k h) }
+  where
+    held : (k : ℕ) → k < length c.cells → slice_index ps k < n → (slice_index ps k ≡ unplaced) ⊎ HasTurn c order ps k → IsHeld (cell_at c k) (slice_index vs (slice_index ps k))
+    held k h b (inl u) = absurd (omega (arith, u, b, l))
+    held k h b (inr t) =
+        let front : List ℕ = replicate (first_place c) 0 in
+        let f = first_place c in
+        let j : f + t.turn - f ≡ t.turn = omega arith in
+        let v : slice_index vs (slice_index ps k) ≡ held_at_start (cell_at c k) =
+        ap (slice_index vs) t.own
+        ∙ ap (λ xs. slice_index xs (f + t.turn)) e
+        ∙ get_or-append_right front (map (λ i. held_at_start (cell_at c i)) order) f (f + t.turn) 0 (front_length c) (omega arith)
+        ∙ ap (λ i. slice_index (map (λ i. held_at_start (cell_at c i)) order) i) j
+        ∙ get_or-map (λ i. held_at_start (cell_at c i)) order t.turn 0 0 t.within
+        ∙ ap (λ i. held_at_start (cell_at c i)) t.same in
+        subst (λ x. IsHeld (cell_at c k) x) (sym v) (held_first (cell_at c k))
 
-pub holds_first : (n : Netlist) (image : List (List ℕ)) (vs : List ℕ) (arrays : List (List ℕ)) → IsWell (circuit_of n) → ImageFits (circuit_of n) image → vs ≡ first_values (circuit_of n) → arrays ≡ loaded_arrays n.arrays image → Holds (circuit_of n) (registers (circuit_of n) vs) arrays
-holds_first n image vs arrays w i e f = holds_start n image (registers (circuit_of n) vs) arrays w i (registers_first (circuit_of n) vs e) f
+pub holds_first : (n : Netlist) (image : List (List ℕ)) (regs : List ℕ) (arrays : List (List ℕ)) → IsWell (circuit_of n) → ImageFits (circuit_of n) image → regs ≡ map (λ r. r.reset) n.regs → arrays ≡ loaded_arrays n.arrays image → Holds (circuit_of n) regs arrays
+holds_first n image regs arrays w i e f = holds_start n image regs arrays w i e f
 
 -- the simulator begins at the start of the first cycle
-pub begun_is : (n : Netlist) (image : List (List ℕ)) (vs : List ℕ) (arrays : List (List ℕ)) → delayed_mems n ≡ [] → vs ≡ first_values (circuit_of n) → arrays ≡ loaded_arrays n.arrays image → run_at n (registers (circuit_of n) vs) arrays ≡ run_at_start n image
-begun_is n image vs arrays d e f =
-    ap (λ x. run_at n x arrays) (registers_first (circuit_of n) vs e)
+pub begun_is : (n : Netlist) (image : List (List ℕ)) (regs : List ℕ) (arrays : List (List ℕ)) → delayed_mems n ≡ [] → regs ≡ map (λ r. r.reset) n.regs → arrays ≡ loaded_arrays n.arrays image → run_at n regs arrays ≡ run_at_start n image
+begun_is n image regs arrays d e f =
+    ap (λ x. run_at n x arrays) e
     ∙ ap (λ x. run_at n (map (λ r. r.reset) n.regs) x) f
     ∙ sym (ap (λ (ms : List MemInfo). record { netlist = n; held = record { regs = map (λ r. r.reset) n.regs; arrays = loaded_arrays n.arrays (drop (length ms) image); stores = map (λ words. record { words = words; request = None }) (take (length ms) image) }; last = nothing n }) d)
+
+-- OF A NETLIST
+
+-- what is known of an order of a netlist
+pub record IsOrdered (o : Order) (n : Netlist) : Type 0 where
+  pub regs : o.regs ≡ length (inputs_of (circuit_of n))
+  pub order : IsOrder (circuit_of n) o.cells.items o.places.items
+  pub all : AllEarly (circuit_of n) o.places.items (first_place (circuit_of n) + length o.cells.items)
+
+pub ordered : (o : Order) (n : Netlist) → o.net.now ≡ n → IsOrderOf o → AllPlaced o → IsOrdered o n
+ordered o n e f a = subst (IsOrdered o) e (record { regs = f.regs; order = f.order; all = subst (λ i. AllEarly (circuit_of o.net.now) o.places.items i) f.next a })
+
+pub first_is : (o : Order) (n : Netlist) (front vs : List ℕ) (k : ℕ) → o.net.now ≡ n → vs ≡ front ++ map (λ i. held_at_start (cell_of o i)) o.cells.items → front ≡ replicate k 0 → k ≡ first_place (circuit_of n) → vs ≡ first_values (circuit_of n) o.cells.items
+first_is o n front vs k e f g h =
+    f ∙ ap (λ l. l ++ map (λ i. held_at_start (cell_of o i)) o.cells.items) (g ∙ ap (λ (i : ℕ). replicate {A = ℕ} i 0) h)
+    ∙ ap (λ (m : Netlist). replicate {A = ℕ} (first_place (circuit_of n)) 0 ++ map (λ i. held_at_start (cell_at (circuit_of m) i)) o.cells.items) e

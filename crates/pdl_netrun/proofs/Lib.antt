@@ -1,5 +1,6 @@
 pub mod Words
 pub mod Steps
+pub mod Orders
 pub mod PlanLemmas
 pub mod Values
 pub mod Arrays

@@ -1,12 +1,11 @@
 -- One cycle of a simulator.
-use Rattle.std.proofs.Common.{◌≡◌, refl, sym, ap, ◌∙◌, subst, ℕ, zero, suc, ◌+◌, ◌<◌, ◌≤◌, false, List, [], ◌∷◌, ◌++◌, length, get_or, take, drop, map, filter_map, All, Some, ap₂, ◌-◌, length-append, append_assoc, arith}
+use Rattle.std.proofs.Common.{◌≡◌, ◌⊎◌, inl, inr, refl, sym, ap, ◌∙◌, subst, ℕ, zero, suc, ◌+◌, ◌<◌, ◌≤◌, false, List, [], ◌∷◌, ◌++◌, length, get_or, take, drop, map, filter_map, All, Some, ap₂, ◌-◌, length-append, append_assoc, arith}
 use Rattle.std.specs.Prelude.{slice_index, slice_get}
 use Rattle.std.specs.List.{cons_option}
-use Rattle.std.proofs.lemmas.List.{get_or-take, get_or-drop, get_or-map, get_or-append_right, length-map, length-take-le, length-drop, take_at, drop_at}
+use Rattle.std.proofs.lemmas.List.{get_or-drop, get_or-map, get_or-append_right, get_or_append_left, length-map, length-take-le, length-drop}
 use Rattle.pdl_kit.specs.declared.mem_info.MemInfo.{MemInfo}
 use Rattle.pdl_net.specs.declared.Net.{Net}
 use Rattle.pdl_net.specs.declared.Net.TheVariants.{Input, Reg as RegNet, Cell as CellNet}
-use Rattle.pdl_net.specs.declared.Cell.TheVariants.{Const}
 use Rattle.pdl_net.specs.declared.Dir.{Dir}
 use Rattle.pdl_net.specs.declared.Dir.TheVariants.{In, Out}
 use Rattle.pdl_net.specs.declared.Port.{Port}
@@ -14,47 +13,106 @@ use Rattle.pdl_net.specs.declared.Reg.{Reg}
 use Rattle.pdl_net.specs.declared.Netlist.{Netlist}
 use Rattle.pdl_net.specs.Circuit.{Circuit, State, Output, circuit_of, inputs_of, outputs_of, output_with, port_output, no_reg, reg_at}
 use Rattle.pdl_net.specs.Signal.{reg_value}
-use Rattle.pdl_net.specs.Meaning.{signal, IsThere, IsThereAt}
+use Rattle.pdl_net.specs.Meaning.{signal, IsThere}
 use Rattle.pdl_net.specs.Well.{IsWell, IsWellPort, IsDriven, Suits}
 use Rattle.pdl_net.specs.Cycle.{net_value, output_values, next_regs, next_arrays}
 use Rattle.pdl_net.specs.Run.{Store, next_stores, delayed_mems}
-use Rattle.pdl_netrun.specs.Steps.{AreBelow, array_words}
-use Rattle.pdl_netrun.specs.Plan.{place, step_of_cell, value_count, HasValues, HasConstants, IsHeld}
+use Rattle.pdl_netrun.specs.Steps.{AreBelow, array_words, steps_of}
+use Rattle.pdl_netrun.specs.Order.{first_place, place, unplaced, cell_at, HasTurn, IsPlaced, IsOrder, AllEarly}
+use Rattle.pdl_netrun.specs.Plan.{HasValues, HasConstants, IsHeld}
 use Rattle.pdl_netrun.specs.Sim.{Run, run_after}
-use Rattle.pdl_netrun.specs.Inside.{registers, run_of, IsReady}
+use Rattle.pdl_netrun.specs.Inside.{run_of, IsReady}
 use Rattle.pdl_netrun.specs.declared.sim.Sim.TheInside.{Inside}
 use Rattle.pdl_net.proofs.Holds.{suits_of}
-use Rattle.pdl_netrun.proofs.PlanLemmas.{place_below}
-use Rattle.pdl_netrun.proofs.Values.{IsWalked, walked}
+use Rattle.pdl_netrun.proofs.Orders.{all_placed}
+use Rattle.pdl_netrun.proofs.Values.{IsWalked, order_steps, walked}
 
 -- the state of the circuit in the next cycle
 abbrev pub state_now : Inside → State
-state_now a = record { inputs = []; regs = registers (circuit_of a.net.now) a.values.items; arrays = array_words a.arrays.items }
+state_now a = record { inputs = []; regs = a.next.items; arrays = array_words a.arrays.items }
 
 pub suits_now : (a : Inside) → IsReady a → Suits (circuit_of a.net.now) (state_now a)
-suits_now a r = suits_of (circuit_of a.net.now) (registers (circuit_of a.net.now) a.values.items) (array_words a.arrays.items) r.holds r.inputs
+suits_now a r = suits_of (circuit_of a.net.now) a.next.items (array_words a.arrays.items) r.holds r.inputs
 
--- at the start the list has the values of the registers
-values_first : (c : Circuit) (s : State) (vs : List ℕ) → inputs_of c ≡ [] → length vs ≡ value_count c → s.regs ≡ registers c vs → HasValues c s vs 0
+-- the list of values with those of the registers put in
+abbrev pub values_put : ℕ → List ℕ → List ℕ → List ℕ
+values_put n vs next = take n vs ++ next ++ drop (n + length next) vs
+
+-- the registers are those that were put there, and nothing after them has changed
+put_within : (vs next : List ℕ) (n r : ℕ) → n ≤ length vs → r < length next → slice_index (values_put n vs next) (n + r) ≡ slice_index next r
+put_within vs next n r h l =
+    let m : length (take n vs) ≡ n = length-take-le n vs h in
+    let e : n + r - n ≡ r = omega arith in
+    ap (λ xs. slice_index xs (n + r)) (append_assoc (take n vs) next (drop (n + length next) vs))
+    ∙ get_or-append_right (take n vs) (next ++ drop (n + length next) vs) n (n + r) 0 m (omega arith)
+    ∙ ap (slice_index (next ++ drop (n + length next) vs)) e
+    ∙ get_or_append_left next (drop (n + length next) vs) 0 r l
+
+put_after : (vs next : List ℕ) (n j : ℕ) → n + length next ≤ j → n + length next ≤ length vs → slice_index (values_put n vs next) j ≡ slice_index vs j
+put_after vs next n j h l =
+    let m : length (take n vs) ≡ n = length-take-le n vs (omega arith) in
+    let e : n + length next + (j - n - length next) ≡ j = omega arith in
+    ap (λ xs. slice_index xs j) (append_assoc (take n vs) next (drop (n + length next) vs))
+    ∙ get_or-append_right (take n vs) (next ++ drop (n + length next) vs) n j 0 m (omega arith)
+    ∙ get_or-append_right next (drop (n + length next) vs) (length next) (j - n) 0 refl (omega arith)
+    ∙ get_or-drop (n + length next) vs (j - n - length next) 0
+    ∙ ap (λ i. slice_index vs i) e
+
+pub put_length : (vs next : List ℕ) (n : ℕ) → n + length next ≤ length vs → length (values_put n vs next) ≡ length vs
+put_length vs next n l =
+    let a = length-take-le n vs (omega arith) in
+    let b = length-append (take n vs ++ next) (drop (n + length next) vs) in
+    let d = length-append (take n vs) next in
+    let e = length-drop (n + length next) vs in
+    omega (arith, a, b, d, e)
+
+-- at the start of a cycle the list has the values of the registers
+values_first : (c : Circuit) (s : State) (ps vs : List ℕ) (order : List ℕ) → inputs_of c ≡ [] → IsOrder c order ps → length s.regs ≡ length c.regs → length vs ≡ first_place c + length order → HasValues c ps s (values_put (length (inputs_of c)) vs s.regs) (first_place c)
 unfolding signal reg_value
-values_first c s vs n l e = record {
-  room = l;
-  each = at;
-}
+values_first c s ps vs order n o g l = record { each = at }
   where
-    at : (x : Net) → IsThereAt c 0 x → slice_index vs (place c x) ≡ (signal c x).value s
-    at (Input i) h = let z = ap length n in absurd (omega (arith, z, h))
-    at (RegNet r) h = sym (ap (λ xs. slice_index xs r) e ∙ get_or-take (length c.regs) (drop (length (inputs_of c)) vs) r 0 h ∙ get_or-drop (length (inputs_of c)) vs r 0)
-    at (CellNet k) h = absurd (omega arith)
+    at : (x : Net) → IsPlaced c ps (first_place c) x → slice_index (values_put (length (inputs_of c)) vs s.regs) (place c ps x) ≡ (signal c x).value s
+    at (Input i) h = let z = ap length n in let q = h.there in absurd (omega (arith, z, q))
+    at (RegNet r) h = let q = h.there in put_within vs s.regs (length (inputs_of c)) r (omega (arith, l)) (omega (arith, g, q))
+    at (CellNet k) h = absurd (late k (o.known k h.there) h.early)
+      where
+        late : (k : ℕ) → (slice_index ps k ≡ unplaced) ⊎ HasTurn c order ps k → slice_index ps k < first_place c → ⊥
+        late k (inl u) h = let r = o.room in omega (arith, u, r, h)
+        late k (inr t) h = let e = t.own in omega (arith, e, h)
+
+constants_put : (c : Circuit) (order ps vs next : List ℕ) → IsOrder c order ps → length next ≡ length c.regs → length vs ≡ first_place c + length order → HasConstants c ps (length vs) vs → HasConstants c ps (length vs) (values_put (length (inputs_of c)) vs next)
+constants_put c order ps vs next o e l f = record { each = λ k h b. held k h b (o.known k h) }
+  where
+    held : (k : ℕ) → k < length c.cells → slice_index ps k < length vs → (slice_index ps k ≡ unplaced) ⊎ HasTurn c order ps k → IsHeld (cell_at c k) (slice_index (values_put (length (inputs_of c)) vs next) (slice_index ps k))
+    held k h b (inl u) = let r = o.room in absurd (omega (arith, u, b, l, r))
+    held k h b (inr t) =
+        let q = t.own in
+        subst (λ x. IsHeld (cell_at c k) x) (sym (put_after vs next (length (inputs_of c)) (slice_index ps k) (omega (arith, e, q)) (omega (arith, e, l)))) (f.each k h b)
+
+-- the list of values as a cycle begins to walk
+abbrev pub begun_values : Inside → List ℕ
+begun_values a = values_put a.first_reg a.values.items a.next.items
+
+next_count : (a : Inside) → IsReady a → length a.next.items ≡ length a.net.now.regs
+next_count a r = (r.holds).reg_count
+
+pub begun_count : (a : Inside) → IsReady a → length (begun_values a) ≡ length a.values.items
+begun_count a r = let e = r.first_reg in let l = r.room in let n = next_count a r in put_length a.values.items a.next.items a.first_reg (omega (arith, e, l, n))
 
 -- what the steps of a cycle do
-pub walked_now : (a : Inside) → IsReady a → IsWalked (circuit_of a.net.now) (state_now a) a.values.items a.steps.items a.first_cell
+pub walked_now : (a : Inside) (r : IsReady a) → IsWalked (circuit_of a.net.now) r.places (state_now a) (begun_values a) (steps_of a.runs.items) a.first_cell
 walked_now a r =
     let c = circuit_of a.net.now in
-    let w = walked c (state_now a) r.well (suits_now a r) a.values.items (values_first c (state_now a) a.values.items r.inputs r.room refl) r.constants in
-    subst (λ xs. IsWalked c (state_now a) a.values.items xs a.first_cell) (sym r.steps) (subst (λ n. IsWalked c (state_now a) a.values.items (map (step_of_cell c) c.cells) n) (sym r.first_cell) w)
+    let n = next_count a r in
+    let i = length (inputs_of c) in
+    let e : values_put i a.values.items a.next.items ≡ begun_values a = ap (λ k. values_put k a.values.items a.next.items) (sym r.first_reg) in
+    let m = begun_count a r in
+    let v = subst (λ (xs : List ℕ). HasValues c r.places (state_now a) xs (first_place c)) e (values_first c (state_now a) r.places a.values.items r.order r.inputs r.ordered n r.room) in
+    let k = subst (λ (xs : List ℕ). HasConstants c r.places (length a.values.items) xs) e (constants_put c r.order r.places a.values.items a.next.items r.ordered n r.room r.constants) in
+    let w = walked c (state_now a) r.well (suits_now a r) r.order r.places r.ordered (begun_values a) (m ∙ r.room) v (subst (λ (j : ℕ). HasConstants c r.places j (begun_values a)) (sym m) k) in
+    subst (λ xs. IsWalked c r.places (state_now a) (begun_values a) xs a.first_cell) (sym r.runs) (subst (λ n. IsWalked c r.places (state_now a) (begun_values a) (order_steps c r.places r.order) n) (sym r.first_cell) w)
 
--- OUTPUTS
+-- OUTPUTS AND REGISTERS
 
 -- the nets that drive outputs are there
 driver_step : (c : Circuit) (d : Dir) (w : ℕ) (name : List ℕ) (os : List Output) → IsDriven c w d → All (λ o. IsThere c o.net) os → All (λ o. IsThere c o.net) (cons_option (output_with d name) os)
@@ -66,82 +124,47 @@ drivers_in : (c : Circuit) (ps : List Port) → ((k : ℕ) (p : Port) → slice_
 drivers_in c [] w k x l = absurd (omega arith)
 drivers_in c (p ∷ ps) w k x l = driver_step c p.dir p.width p.name (filter_map port_output ps) ((w zero p refl).driven) (drivers_in c ps (λ j q e. w (suc j) q e)) k x l
 
-module _ (c : Circuit) (s : State) (w : IsWell c) (vs : List ℕ) (v : HasValues c s vs (length c.cells)) where
-  below : (x : Net) → IsThere c x → place c x < length vs
+module _ (c : Circuit) (w : IsWell c) (ps : List ℕ) (n : ℕ) (all : AllEarly c ps n) (few : first_place c ≤ n) where
+  below : (x : Net) → IsThere c x → place c ps x < n
   unfolding IsThere
-  below x h = let b = place_below c (length c.cells) x (omega arith) h in omega (arith, b, v.room)
+  below x h = (all_placed c ps n all few x h).early
 
-  valued : (x : Net) → IsThere c x → slice_index vs (place c x) ≡ net_value c s x
-  unfolding IsThere
-  valued x h = v.each x h
-
-  outputs_below : (os : List Output) → All (λ o. IsThere c o.net) os → AreBelow (length vs) (map (λ o. place c o.net) os)
+  outputs_below : (os : List Output) → All (λ o. IsThere c o.net) os → AreBelow n (map (λ o. place c ps o.net) os)
   outputs_below [] f k d h = absurd (omega arith)
   outputs_below (o ∷ os) f zero d h = below o.net (f 0 o (omega arith))
   outputs_below (o ∷ os) f (suc k) d h = outputs_below os (λ j x l. f (suc j) x (omega arith)) k d (omega arith)
 
-  outputs_valued : (os : List Output) → All (λ o. IsThere c o.net) os → map (slice_index vs) (map (λ o. place c o.net) os) ≡ map (λ o. net_value c s o.net) os
+  pub drivers_below : (places : List ℕ) → places ≡ map (λ o. place c ps o.net) (outputs_of c) → AreBelow n places
+  drivers_below places e = subst (AreBelow n) (sym e) (outputs_below (outputs_of c) (drivers_in c c.ports w.ports))
+
+  next_below : (k d : ℕ) → k < length (map (λ (r : Reg). place c ps r.next) c.regs) → get_or (map (λ (r : Reg). place c ps r.next) c.regs) k d < n
+  next_below k d h =
+      let l : k < length c.regs = omega (arith, h, simp length-map at h) in
+      subst (λ m. m < n) (sym (get_or-map (λ (r : Reg). place c ps r.next) c.regs k no_reg d l)) (below (reg_at c k).next ((w.regs k l).next))
+
+  pub nexts_below : (places : List ℕ) → places ≡ map (λ r. place c ps r.next) c.regs → AreBelow n places
+  nexts_below places e = subst (AreBelow n) (sym e) next_below
+
+module _ (c : Circuit) (s : State) (w : IsWell c) (ps vs : List ℕ) (v : HasValues c ps s vs (length vs)) (all : AllEarly c ps (length vs)) (few : first_place c ≤ length vs) where
+  valued : (x : Net) → IsThere c x → slice_index vs (place c ps x) ≡ net_value c s x
+  unfolding IsThere
+  valued x h = v.each x (all_placed c ps (length vs) all few x h)
+
+  outputs_valued : (os : List Output) → All (λ o. IsThere c o.net) os → map (slice_index vs) (map (λ o. place c ps o.net) os) ≡ map (λ o. net_value c s o.net) os
   outputs_valued [] f = refl
   outputs_valued (o ∷ os) f = ap₂ (λ x xs. x ∷ xs) (valued o.net (f 0 o (omega arith))) (outputs_valued os (λ j x l. f (suc j) x (omega arith)))
 
-  pub drivers_below : (places : List ℕ) → places ≡ map (λ o. place c o.net) (outputs_of c) → AreBelow (length vs) places
-  drivers_below places e = subst (AreBelow (length vs)) (sym e) (outputs_below (outputs_of c) (drivers_in c c.ports w.ports))
-
-  pub outputs_read : (places : List ℕ) → places ≡ map (λ o. place c o.net) (outputs_of c) → map (slice_index vs) places ≡ output_values c s
+  pub outputs_read : (places : List ℕ) → places ≡ map (λ o. place c ps o.net) (outputs_of c) → map (slice_index vs) places ≡ output_values c s
   unfolding output_values
   outputs_read places e = ap (map (slice_index vs)) e ∙ outputs_valued (outputs_of c) (drivers_in c c.ports w.ports)
 
-  -- REGISTERS
-
-  next_below : (k d : ℕ) → k < length (map (λ (r : Reg). place c r.next) c.regs) → get_or (map (λ (r : Reg). place c r.next) c.regs) k d < length vs
-  next_below k d h =
-      let l : k < length c.regs = omega (arith, h, simp length-map at h) in
-      subst (λ n. n < length vs) (sym (get_or-map (λ (r : Reg). place c r.next) c.regs k no_reg d l)) (below (reg_at c k).next ((w.regs k l).next))
-
-  pub nexts_below : (places : List ℕ) → places ≡ map (λ r. place c r.next) c.regs → AreBelow (length vs) places
-  nexts_below places e = subst (AreBelow (length vs)) (sym e) next_below
-
-  regs_valued : (rs : List Reg) → ((k : ℕ) → k < length rs → IsThere c (get_or rs k no_reg).next) → map (slice_index vs) (map (λ r. place c r.next) rs) ≡ map (λ r. net_value c s r.next) rs
+  regs_valued : (rs : List Reg) → ((k : ℕ) → k < length rs → IsThere c (get_or rs k no_reg).next) → map (slice_index vs) (map (λ r. place c ps r.next) rs) ≡ map (λ r. net_value c s r.next) rs
   regs_valued [] f = refl
   regs_valued (r ∷ rs) f = ap₂ (λ x xs. x ∷ xs) (valued r.next (f 0 (omega arith))) (regs_valued rs (λ k l. f (suc k) (omega arith)))
 
-  pub nexts_read : (places : List ℕ) → places ≡ map (λ r. place c r.next) c.regs → map (slice_index vs) places ≡ next_regs c s
+  pub nexts_read : (places : List ℕ) → places ≡ map (λ r. place c ps r.next) c.regs → map (slice_index vs) places ≡ next_regs c s
   unfolding next_regs
   nexts_read places e = ap (map (slice_index vs)) e ∙ regs_valued c.regs (λ k l. (w.regs k l).next)
-
--- THE NEXT LIST
-
--- the registers are those that were put there, and nothing else has changed
-pub registers_put : (c : Circuit) (vs next : List ℕ) → length next ≡ length c.regs → length (inputs_of c) + length c.regs ≤ length vs → registers c (take (length (inputs_of c)) vs ++ next ++ drop (length (inputs_of c) + length next) vs) ≡ next
-registers_put c vs next e l =
-    let n = length (inputs_of c) in
-    let m : length (take n vs) ≡ n = length-take-le n vs (omega arith) in
-    ap (registers c) (append_assoc (take n vs) next (drop (n + length next) vs))
-    ∙ ap (take (length c.regs)) (drop_at (take n vs) (next ++ drop (n + length next) vs) n m) ∙ take_at next (drop (n + length next) vs) (length c.regs) e
-
-put_after : (vs next : List ℕ) (n j : ℕ) → n + length next ≤ j → n + length next ≤ length vs → slice_index (take n vs ++ next ++ drop (n + length next) vs) j ≡ slice_index vs j
-put_after vs next n j h l =
-    let m : length (take n vs) ≡ n = length-take-le n vs (omega arith) in
-    let e : n + length next + (j - n - length next) ≡ j = omega arith in
-    ap (λ xs. slice_index xs j) (append_assoc (take n vs) next (drop (n + length next) vs))
-    ∙ get_or-append_right (take n vs) (next ++ drop (n + length next) vs) n j 0 m (omega arith)
-    ∙ get_or-append_right next (drop (n + length next) vs) (length next) (j - n) 0 refl (omega arith)
-    ∙ get_or-drop (n + length next) vs (j - n - length next) 0
-    ∙ ap (λ i. slice_index vs i) e
-
-pub put_length : (vs next : List ℕ) (n : ℕ) → n + length next ≤ length vs → length (take n vs ++ next ++ drop (n + length next) vs) ≡ length vs
-put_length vs next n l =
-    let a = length-take-le n vs (omega arith) in
-    let b = length-append (take n vs ++ next) (drop (n + length next) vs) in
-    let d = length-append (take n vs) next in
-    let e = length-drop (n + length next) vs in
-    omega (arith, a, b, d, e)
-
-pub constants_put : (c : Circuit) (vs next : List ℕ) → length next ≡ length c.regs → length vs ≡ value_count c → HasConstants c vs → HasConstants c (take (length (inputs_of c)) vs ++ next ++ drop (length (inputs_of c) + length next) vs)
-constants_put c vs next e l h = record {
-  each = λ k i.
-      subst (λ x. IsHeld (get_or c.cells k (Const 0 0)) x) (sym (put_after vs next (length (inputs_of c)) (place c (CellNet k)) (omega (arith, e)) (omega (arith, e, l)))) (h.each k i);
-}
 
 -- THE CYCLE
 

@@ -1,34 +1,105 @@
--- The steps of the loops over steps, places and writes.
-use Rattle.std.proofs.Common.{◌≡◌, ℕ, zero, suc, ◌+◌, ◌<◌, ◌≤◌, List, [], ◌∷◌, ◌++◌, length, get_or, take, drop, set, map, All, refl, sym, ap, ◌∙◌, subst, arith}
-use Rattle.std.specs.Prelude.{slice_index}
-use Rattle.std.proofs.lemmas.List.{take_all, map_more, take-map, drop_more, drop_all, length-set}
+-- The steps of the loops over cells, runs, places and writes.
+use Rattle.std.proofs.Common.{◌≡◌, ℕ, suc, ◌+◌, ◌<◌, ◌≤◌, List, [], ◌∷◌, ◌++◌, length, get_or, take, drop, set, map, refl, sym, ap, ◌∙◌, subst, arith, length-append}
+use Rattle.std.proofs.lemmas.List.{take_all, map_more, drop_more, drop_all, length-set, length-map}
 use Rattle.std.proofs.lemmas.Grind.{take-set_at}
-use Rattle.pdl_netrun.specs.declared.step.Step.{Step}
+use Rattle.pdl_netrun.specs.declared.operation.Kind.{Kind}
+use Rattle.pdl_netrun.specs.declared.operation.Kind.TheVariants as kinds
+use Rattle.pdl_netrun.specs.declared.operation.Operands.{Operands}
+use Rattle.pdl_netrun.specs.declared.walk.CellRun.{CellRun}
 use Rattle.pdl_netrun.specs.declared.writes.ArrayWrite.{ArrayWrite}
-use Rattle.pdl_netrun.specs.Steps.{StepFits, StepsFit, after_step, after_steps, AreBelow, WriteFits, after_write, after_all}
+use Rattle.pdl_netrun.specs.Steps.{Step, KindFits, StepsFit, steps_with, steps_of, after_kind, after_step, after_steps, after_write, after_all}
 
--- a step that stands at k is the first of those from k on
-pub steps_more : (xs : List Step) (first k : ℕ) (x : Step) (vs : List ℕ) (ws : List (List ℕ)) → k < length xs → x ≡ get_or xs k x → after_steps (drop (k + 1) xs) (first + (k + 1)) (after_step x (first + k) vs ws) ws ≡ after_steps (drop k xs) (first + k) vs ws
-steps_more xs first k x vs ws h e =
+-- CELLS OF ONE KIND
+
+-- a cell that stands at k is the first of those from k on
+pub cells_more : (kind : Kind) (os : List Operands) (first k : ℕ) (o : Operands) (vs : List ℕ) (ws : List (List ℕ)) → k < length os → o ≡ get_or os k o → after_steps (steps_with kind (drop (k + 1) os)) (first + (k + 1)) (after_kind kind o (first + k) vs ws) ws ≡ after_steps (steps_with kind (drop k os)) (first + k) vs ws
+cells_more kind os first k o vs ws h e =
     let n : first + (k + 1) ≡ suc (first + k) = omega arith in
-    ap (λ j. after_steps (drop (k + 1) xs) j (after_step x (first + k) vs ws) ws) n
-    ∙ ap (λ y. after_steps (drop (k + 1) xs) (suc (first + k)) (after_step y (first + k) vs ws) ws) e
-    ∙ sym (ap (λ l. after_steps l (first + k) vs ws) (drop_more xs k x h))
+    ap (λ j. after_steps (steps_with kind (drop (k + 1) os)) j (after_kind kind o (first + k) vs ws) ws) n
+    ∙ ap (λ y. after_steps (steps_with kind (drop (k + 1) os)) (suc (first + k)) (after_kind kind y (first + k) vs ws) ws) e
+    ∙ sym (ap (λ l. after_steps (steps_with kind l) (first + k) vs ws) (drop_more os k o h))
 
 -- it fits, and so do those after it
-pub fits_now : (xs : List Step) (first k : ℕ) (x : Step) (vs : List ℕ) (ws : List (List ℕ)) → k < length xs → x ≡ get_or xs k x → StepsFit (drop k xs) (first + k) vs ws → StepFits x vs ws × StepsFit (drop (k + 1) xs) (first + (k + 1)) (after_step x (first + k) vs ws) ws
-fits_now xs first k x vs ws h e f =
-    let P : List Step → Type 0 = λ l. StepsFit l (first + k) vs ws in
-    let g : StepsFit (get_or xs k x ∷ drop (k + 1) xs) (first + k) vs ws = subst P (drop_more xs k x h) f in
+pub cells_fit : (kind : Kind) (os : List Operands) (first k : ℕ) (o : Operands) (vs : List ℕ) (ws : List (List ℕ)) → k < length os → o ≡ get_or os k o → StepsFit (steps_with kind (drop k os)) (first + k) vs ws → KindFits kind o vs ws × StepsFit (steps_with kind (drop (k + 1) os)) (first + (k + 1)) (after_kind kind o (first + k) vs ws) ws
+cells_fit kind os first k o vs ws h e f =
+    let P : List Operands → Type 0 = λ l. StepsFit (steps_with kind l) (first + k) vs ws in
+    let g : StepsFit (steps_with kind (get_or os k o ∷ drop (k + 1) os)) (first + k) vs ws = subst P (drop_more os k o h) f in
     let n : suc (first + k) ≡ first + (k + 1) = omega arith in
-    let Q : Step → Type 0 = λ y. StepFits y vs ws × StepsFit (drop (k + 1) xs) (suc (first + k)) (after_step y (first + k) vs ws) ws in
-    let q : Q x = subst Q (sym e) g in
-    (q.0, let R : ℕ → Type 0 = λ j. StepsFit (drop (k + 1) xs) j (after_step x (first + k) vs ws) ws in subst R n q.1)
+    let Q : Operands → Type 0 = λ y. KindFits kind y vs ws × StepsFit (steps_with kind (drop (k + 1) os)) (suc (first + k)) (after_kind kind y (first + k) vs ws) ws in
+    let q : Q o = subst Q (sym e) g in
+    (q.0, let R : ℕ → Type 0 = λ j. StepsFit (steps_with kind (drop (k + 1) os)) j (after_kind kind o (first + k) vs ws) ws in subst R n q.1)
 
-pub steps_all : (xs : List Step) (first k : ℕ) (vs : List ℕ) (ws : List (List ℕ)) → length xs ≤ k → after_steps (drop k xs) (first + k) vs ws ≡ vs
-steps_all xs first k vs ws h = ap (λ l. after_steps l (first + k) vs ws) (drop_all k xs h)
+pub cells_all : (kind : Kind) (os : List Operands) (first k : ℕ) (vs : List ℕ) (ws : List (List ℕ)) → length os ≤ k → after_steps (steps_with kind (drop k os)) (first + k) vs ws ≡ vs
+cells_all kind os first k vs ws h = ap (λ l. after_steps (steps_with kind l) (first + k) vs ws) (drop_all k os h)
 
-pub ruleset steps = (steps_more, fits_now, steps_all)
+-- RUNS
+
+-- steps after others
+pub after_append : (xs ys : List Step) (at : ℕ) (vs : List ℕ) (ws : List (List ℕ)) → after_steps (xs ++ ys) at vs ws ≡ after_steps ys (at + length xs) (after_steps xs at vs ws) ws
+after_append [] ys at vs ws = let e : at + 0 ≡ at = omega arith in ap (λ n. after_steps ys n vs ws) (sym e)
+after_append (x ∷ xs) ys at vs ws =
+    let e : suc at + length xs ≡ at + suc (length xs) = omega arith in
+    after_append xs ys (suc at) (after_step x at vs ws) ws ∙ ap (λ n. after_steps ys n (after_steps xs (suc at) (after_step x at vs ws) ws) ws) e
+
+pub fit_append : (xs ys : List Step) (at : ℕ) (vs : List ℕ) (ws : List (List ℕ)) → StepsFit (xs ++ ys) at vs ws → StepsFit xs at vs ws × StepsFit ys (at + length xs) (after_steps xs at vs ws) ws
+fit_append [] ys at vs ws f = let e : at ≡ at + 0 = omega arith in (tt, subst (λ n. StepsFit ys n vs ws) e f)
+fit_append (x ∷ xs) ys at vs ws f =
+    let e : suc at + length xs ≡ at + suc (length xs) = omega arith in
+    let r = fit_append xs ys (suc at) (after_step x at vs ws) ws f.1 in
+    ((f.0, r.0), subst (λ n. StepsFit ys n (after_steps xs (suc at) (after_step x at vs ws) ws) ws) e r.1)
+
+-- constants change nothing
+pub constants_stand : (os : List Operands) (at : ℕ) (vs : List ℕ) (ws : List (List ℕ)) → after_steps (steps_with kinds.Constant os) at vs ws ≡ vs
+constants_stand [] at vs ws = refl
+constants_stand (o ∷ os) at vs ws = constants_stand os (suc at) vs ws
+
+pub with_length : (kind : Kind) (os : List Operands) → length (steps_with kind os) ≡ length os
+with_length kind os = simp length-map
+
+-- the steps from the k-th run on
+abbrev run_steps : CellRun → List Step
+run_steps r = steps_with r.kind r.operands.items
+
+pub runs_more : (rs : List CellRun) (k : ℕ) (r : CellRun) → k < length rs → r ≡ get_or rs k r → steps_of (drop k rs) ≡ steps_with r.kind r.operands.items ++ steps_of (drop (k + 1) rs)
+runs_more rs k r h e = ap steps_of (drop_more rs k r h) ∙ ap (λ (q : CellRun). run_steps q ++ steps_of (drop (k + 1) rs)) (sym e)
+
+-- a run that stands at k fits, and so do those after it
+pub run_fits : (rs : List CellRun) (k n at : ℕ) (r : CellRun) (vs : List ℕ) (ws : List (List ℕ)) → k < length rs → r ≡ get_or rs k r → n ≡ length r.operands.items → StepsFit (steps_of (drop k rs)) at vs ws → StepsFit (steps_with r.kind r.operands.items) at vs ws × StepsFit (steps_of (drop (k + 1) rs)) (at + n) (after_steps (steps_with r.kind r.operands.items) at vs ws) ws
+run_fits rs k n at r vs ws h e m f =
+    let P : List Step → Type 0 = λ l. StepsFit l at vs ws in
+    let g = fit_append (steps_with r.kind r.operands.items) (steps_of (drop (k + 1) rs)) at vs ws (subst P (runs_more rs k r h e) f) in
+    (g.0, subst (λ i. StepsFit (steps_of (drop (k + 1) rs)) (at + i) (after_steps (steps_with r.kind r.operands.items) at vs ws) ws) (with_length r.kind r.operands.items ∙ sym m) g.1)
+
+-- and after it those are left
+pub run_rest : (rs : List CellRun) (k n at : ℕ) (r : CellRun) (vs : List ℕ) (ws : List (List ℕ)) → k < length rs → r ≡ get_or rs k r → n ≡ length r.operands.items → after_steps (steps_of (drop (k + 1) rs)) (at + n) (after_steps (steps_with r.kind r.operands.items) at vs ws) ws ≡ after_steps (steps_of (drop k rs)) at vs ws
+run_rest rs k n at r vs ws h e m =
+    ap (λ i. after_steps (steps_of (drop (k + 1) rs)) (at + i) (after_steps (steps_with r.kind r.operands.items) at vs ws) ws) (m ∙ sym (with_length r.kind r.operands.items))
+    ∙ sym (after_append (steps_with r.kind r.operands.items) (steps_of (drop (k + 1) rs)) at vs ws)
+    ∙ sym (ap (λ l. after_steps l at vs ws) (runs_more rs k r h e))
+
+pub run_length : (rs : List CellRun) (k : ℕ) (r : CellRun) → k < length rs → r ≡ get_or rs k r → length (steps_of (drop k rs)) ≡ length r.operands.items + length (steps_of (drop (k + 1) rs))
+run_length rs k r h e =
+    ap length (runs_more rs k r h e)
+    ∙ length-append (steps_with r.kind r.operands.items) (steps_of (drop (k + 1) rs))
+    ∙ ap (λ i. i + length (steps_of (drop (k + 1) rs))) (with_length r.kind r.operands.items)
+
+-- steps leave the number of values
+after_kind_length : (kind : Kind) (o : Operands) (at : ℕ) (vs : List ℕ) (ws : List (List ℕ)) → length (after_kind kind o at vs ws) ≡ length vs
+after_kind_length kinds.Constant o at vs ws = refl
+after_kind_length _ o at vs ws = length-set vs at _
+
+pub after_length : (xs : List Step) (at : ℕ) (vs : List ℕ) (ws : List (List ℕ)) → length (after_steps xs at vs ws) ≡ length vs
+after_length [] at vs ws = refl
+after_length (x ∷ xs) at vs ws = after_length xs (suc at) (after_step x at vs ws) ws ∙ after_kind_length x.kind x.operands at vs ws
+
+pub runs_all : (rs : List CellRun) (k at : ℕ) (vs : List ℕ) (ws : List (List ℕ)) → length rs ≤ k → after_steps (steps_of (drop k rs)) at vs ws ≡ vs
+runs_all rs k at vs ws h = ap (λ l. after_steps (steps_of l) at vs ws) (drop_all k rs h)
+
+pub ruleset walks = (cells_more, cells_fit, cells_all)
+
+pub ruleset runs = (constants_stand, with_length, run_length, after_length, runs_all)
+
+-- PLACES AND WRITES
 
 -- one more of a mapped list
 pub mapped_more : {X : Type 0} → (f : X → ℕ) (xs : List X) (ys : List ℕ) (k v : ℕ) (d : X) → take k ys ≡ map f (take k xs) → k < length xs → k < length ys → v ≡ f (get_or xs k d) → take (k + 1) (set ys k v) ≡ map f (take (k + 1) xs)

@@ -10,56 +10,59 @@ use Rattle.pdl_net.specs.declared.BinOp.{BinOp}
 use Rattle.pdl_net.specs.declared.BinOp.TheVariants as op
 use Rattle.pdl_net.specs.declared.Cell.{Cell}
 use Rattle.pdl_net.specs.declared.Cell.TheVariants as cell
-use Rattle.pdl_net.specs.Circuit.{Circuit, State, inputs_of, array_at}
+use Rattle.pdl_net.specs.Circuit.{Circuit, State}
 use Rattle.pdl_word.specs.Words as words
 use Rattle.pdl_net.specs.Signal.{Signal, bin_word, const_value, not_value, bin_value, mux_value, slice_value, cat_value, rep_value, read_value}
-use Rattle.pdl_net.specs.Meaning.{signal, cell_signal, IsThereAt}
+use Rattle.pdl_net.specs.Meaning.{signal, cell_signal}
 use Rattle.pdl_net.specs.Well.{FitsIn, IsWell, Suits, IsBounded}
-use Rattle.pdl_net.proofs.Fix.{no_cell, signal_cell, fits_cell}
+use Rattle.pdl_net.proofs.Fix.{signal_cell}
 use Rattle.pdl_net.proofs.Bounds.{bounded_at}
-use Rattle.pdl_netrun.specs.declared.step.Step.{Step}
-use Rattle.pdl_netrun.specs.declared.step.Step.TheVariants.{Keep}
-use Rattle.pdl_netrun.specs.Steps.{StepFits, StepsFit, AreWords, step_value, after_step, after_steps}
-use Rattle.pdl_netrun.specs.Plan.{place, step_of_cell, planned_operation, value_count, HasValues, HasConstants, IsHeld}
-use Rattle.pdl_netrun.proofs.PlanLemmas.{place_below}
+use Rattle.pdl_netrun.specs.declared.operation.Kind.{Kind}
+use Rattle.pdl_netrun.specs.declared.operation.Kind.TheVariants as kinds
+use Rattle.pdl_netrun.specs.declared.operation.Operands.{Operands}
+use Rattle.pdl_netrun.specs.Kinds.{operator_kind}
+use Rattle.pdl_netrun.specs.Steps.{Step, KindFits, StepsFit, AreWords, after_kind, after_step, after_steps}
+use Rattle.pdl_netrun.specs.Order.{first_place, place, unplaced, IsPlaced, cell_at, IsTurn, HasTurn, IsOrder}
+use Rattle.pdl_netrun.specs.Plan.{step_of_cell, cell_operands, HasValues, HasConstants, IsHeld}
+use Rattle.pdl_netrun.proofs.Orders.{fits_turn}
 
 -- ONE STEP
 
 -- a step changes no other place, and no number of places
-pub after_other : (x : Step) (at j : ℕ) (vs : List ℕ) (ws : List (List ℕ)) → j ≢ at → slice_index (after_step x at vs ws) j ≡ slice_index vs j
-after_other Keep at j vs ws ne = refl
-after_other _ at j vs ws ne = get_or-set_other vs at j _ 0 ne
+after_other : (k : Kind) (o : Operands) (at j : ℕ) (vs : List ℕ) (ws : List (List ℕ)) → j ≢ at → slice_index (after_kind k o at vs ws) j ≡ slice_index vs j
+after_other kinds.Constant o at j vs ws ne = refl
+after_other _ o at j vs ws ne = get_or-set_other vs at j _ 0 ne
 
-pub after_length : (x : Step) (at : ℕ) (vs : List ℕ) (ws : List (List ℕ)) → length (after_step x at vs ws) ≡ length vs
-after_length Keep at vs ws = refl
-after_length _ at vs ws = length-set vs at _
+after_count : (k : Kind) (o : Operands) (at : ℕ) (vs : List ℕ) (ws : List (List ℕ)) → length (after_kind k o at vs ws) ≡ length vs
+after_count kinds.Constant o at vs ws = refl
+after_count _ o at vs ws = length-set vs at _
 
--- an operator's step
-operated : (o : BinOp) (w a b at : ℕ) (vs : List ℕ) (ws : List (List ℕ)) → after_step (planned_operation o w a b) at vs ws ≡ set vs at (bin_word o w (slice_index vs a) (slice_index vs b))
-operated op.Add w a b at vs ws = refl
-operated op.Sub w a b at vs ws = refl
-operated op.Mul w a b at vs ws = refl
-operated op.And w a b at vs ws = refl
-operated op.Or w a b at vs ws = refl
-operated op.Xor w a b at vs ws = refl
-operated op.Eq w a b at vs ws = refl
-operated op.Ne w a b at vs ws = refl
-operated op.Lt w a b at vs ws = refl
-operated op.Shl w a b at vs ws = refl
-operated op.Shr w a b at vs ws = refl
+-- an operator's cell
+operated : (f : BinOp) (o : Operands) (at : ℕ) (vs : List ℕ) (ws : List (List ℕ)) → after_kind (operator_kind f) o at vs ws ≡ set vs at (bin_word f o.width (slice_index vs (slice_index o.places 0)) (slice_index vs (slice_index o.places 1)))
+operated op.Add o at vs ws = refl
+operated op.Sub o at vs ws = refl
+operated op.Mul o at vs ws = refl
+operated op.And o at vs ws = refl
+operated op.Or o at vs ws = refl
+operated op.Xor o at vs ws = refl
+operated op.Eq o at vs ws = refl
+operated op.Ne o at vs ws = refl
+operated op.Lt o at vs ws = refl
+operated op.Shl o at vs ws = refl
+operated op.Shr o at vs ws = refl
 
-operation_fits : (o : BinOp) (w a b : ℕ) (vs : List ℕ) (ws : List (List ℕ)) → AreWords w a b vs → StepFits (planned_operation o w a b) vs ws
-operation_fits op.Add w a b vs ws h = h
-operation_fits op.Sub w a b vs ws h = h
-operation_fits op.Mul w a b vs ws h = h
-operation_fits op.And w a b vs ws h = (h.first, h.second)
-operation_fits op.Or w a b vs ws h = (h.first, h.second)
-operation_fits op.Xor w a b vs ws h = (h.first, h.second)
-operation_fits op.Eq w a b vs ws h = (h.first, h.second)
-operation_fits op.Ne w a b vs ws h = (h.first, h.second)
-operation_fits op.Lt w a b vs ws h = (h.first, h.second)
-operation_fits op.Shl w a b vs ws h = h
-operation_fits op.Shr w a b vs ws h = h
+operation_fits : (f : BinOp) (o : Operands) (vs : List ℕ) (ws : List (List ℕ)) → AreWords o.width o vs → KindFits (operator_kind f) o vs ws
+operation_fits op.Add o vs ws h = h
+operation_fits op.Sub o vs ws h = h
+operation_fits op.Mul o vs ws h = h
+operation_fits op.And o vs ws h = record { first = h.there; second = h.second_there }
+operation_fits op.Or o vs ws h = record { first = h.there; second = h.second_there }
+operation_fits op.Xor o vs ws h = record { first = h.there; second = h.second_there }
+operation_fits op.Eq o vs ws h = record { first = h.there; second = h.second_there }
+operation_fits op.Ne o vs ws h = record { first = h.there; second = h.second_there }
+operation_fits op.Lt o vs ws h = record { first = h.there; second = h.second_there }
+operation_fits op.Shl o vs ws h = h
+operation_fits op.Shr o vs ws h = h
 
 -- what fits a width fits a greater one
 room : (x high low : ℕ) → x < 2 ^ high → high + low ≤ 64 → x < 2 ^ (64 - low)
@@ -67,58 +70,87 @@ room x high low h l =
     let e : high ≤ 64 - low = omega arith in
     omega (arith, h, pow-le-pow_right {n = 2} (omega arith) e)
 
-module _ (c : Circuit) (s : State) (w : IsWell c) (t : Suits c s) (vs : List ℕ) (n : ℕ) (few : n ≤ length c.cells) (v : HasValues c s vs n) where
-  bound : (x : Net) → IsThereAt c n x → IsBounded s (signal c x)
-  bound x h = bounded_at c s w t n few x h
+-- a choice between two places
+chosen : (vs : List ℕ) (x a b n : ℕ) → x ≡ n → n < 2 → slice_index vs (slice_index (b ∷ a ∷ []) x) ≡ words.mux n (slice_index vs a) (slice_index vs b)
+unfolding words.mux
+chosen vs x a b zero e l = ap (λ i. slice_index vs (slice_index (b ∷ a ∷ []) i)) e
+chosen vs x a b (suc zero) e l = ap (λ i. slice_index vs (slice_index (b ∷ a ∷ []) i)) e
+chosen vs x a b (suc (suc n)) e l = absurd (omega arith)
 
-  here : (x : Net) → IsThereAt c n x → place c x < length vs
-  here x h = let b = place_below c n x few h in omega (arith, b, v.room)
+-- the first two of a list, by their numbers
+either : (P : ℕ → Type 0) (a b : ℕ) → P a → P b → (i : ℕ) → i < 2 → P (slice_index (a ∷ b ∷ []) i)
+either P a b p q zero l = p
+either P a b p q (suc zero) l = q
+either P a b p q (suc (suc i)) l = absurd (omega arith)
 
-  fits : (x : Net) → IsThereAt c n x → slice_index vs (place c x) < 2 ^ (signal c x).width
+module _ (c : Circuit) (s : State) (w : IsWell c) (t : Suits c s) (ps vs : List ℕ) (n : ℕ) (few : n ≤ length vs) (v : HasValues c ps s vs n) where
+  bound : (x : Net) → IsPlaced c ps n x → IsBounded s (signal c x)
+  bound x h = bounded_at c s w t (length c.cells) (omega arith) x h.there
+
+  here : (x : Net) → IsPlaced c ps n x → place c ps x < length vs
+  here x h = let e = h.early in omega (arith, e, few)
+
+  fits : (x : Net) → IsPlaced c ps n x → slice_index vs (place c ps x) < 2 ^ (signal c x).width
   fits x h = let e = v.each x h in let b = (bound x h).fits in omega (arith, e, b)
 
+  -- a bit
+  is_bit : (x : Net) → IsPlaced c ps n x → (signal c x).width ≡ 1 → slice_index vs (place c ps x) < 2
+  is_bit x h e = subst (λ (u : ℕ). slice_index vs (place c ps x) < 2 ^ u) e (fits x h)
+
   -- the step of a cell that fits
-  pub fits_planned : (g : Cell) → FitsIn c (IsThereAt c n) (signal c) g → StepFits (step_of_cell c g) vs s.arrays
+  pub fits_planned : (g : Cell) → FitsIn c (IsPlaced c ps n) (signal c) g → KindFits (step_of_cell c ps g).kind (cell_operands c ps g) vs s.arrays
   fits_planned (cell.Const b x) h = tt
   fits_planned (cell.Not a) h = record { there = here a h; low = (bound a h).low; high = (bound a h).high; fits = fits a h }
   fits_planned (cell.Bin o a b) h =
-      operation_fits o (signal c a).width (place c a) (place c b) vs s.arrays (record {
-        first = here a h.0;
-        second = here b h.1;
+      operation_fits o (cell_operands c ps (cell.Bin o a b)) vs s.arrays (record {
+        there = here a h.0;
+        second_there = here b h.1;
         low = (bound a h.0).low;
         high = (bound a h.0).high;
-        first_fits = fits a h.0;
-        second_fits = subst (λ (u : ℕ). slice_index vs (place c b) < 2 ^ u) (sym h.2) (fits b h.1);
+        fits = fits a h.0;
+        second_fits = subst (λ (u : ℕ). slice_index vs (place c ps b) < 2 ^ u) (sym h.2) (fits b h.1);
       })
-  fits_planned (cell.Mux x a b) h = (here x h.0, here a h.1, here b h.2)
-  fits_planned (cell.Slice a high low) h = let b = (bound a h.0).high in let l = h.2 in (here a h.0, h.1, omega (arith, b, l))
+  fits_planned (cell.Mux x a b) h = record {
+    count = refl;
+    bit_there = here x h.0;
+    bit_fits = is_bit x h.0 h.3;
+    each = either (λ i. i < length vs) (place c ps b) (place c ps a) (here b h.2) (here a h.1);
+  }
+  fits_planned (cell.Slice a high low) h = let b = (bound a h.0).high in let l = h.2 in record { there = here a h.0; order = h.1; top = omega (arith, b, l) }
   fits_planned (cell.Cat a b) h =
       let l = (bound a h.0).low in
-      let m = h.2 in (
-        here a h.0,
-        record { there = here b h.1; low = (bound b h.1).low; high = (bound b h.1).high; fits = fits b h.1 },
-        omega (arith, l, m),
-        room (slice_index vs (place c a)) (signal c a).width (signal c b).width (fits a h.0) h.2,
-      )
-  fits_planned (cell.Rep k a) h = (record { there = here a h.0; low = (bound a h.0).low; high = (bound a h.0).high; fits = fits a h.0 }, h.1, h.2)
+      let m = h.2 in
+      record {
+        there = here a h.0;
+        second_there = here b h.1;
+        some = (bound b h.1).low;
+        room = omega (arith, l, m);
+        fits = room (slice_index vs (place c ps a)) (signal c a).width (signal c b).width (fits a h.0) h.2;
+        second_fits = fits b h.1;
+      }
+  fits_planned (cell.Rep k a) h = record {
+    word = record { there = here a h.0; low = (bound a h.0).low; high = (bound a h.0).high; fits = fits a h.0 };
+    some = h.1;
+    room = h.2;
+  }
   fits_planned (cell.Read m a) h =
       let e = t.depth m h.0 in
       let f = fits a h.1 in
       let r = h.2 in
-      (here a h.1, omega (arith, t.array_count, h.0), omega (arith, e, f, r))
+      record { there = here a h.1; array = omega (arith, t.array_count, h.0); within = omega (arith, e, f, r) }
 
   -- it gives its place the signal's value; a constant's has it
-  pub after_planned : (g : Cell) (at : ℕ) → FitsIn c (IsThereAt c n) (signal c) g → at < length vs → IsHeld g (slice_index vs at) → slice_index (after_step (step_of_cell c g) at vs s.arrays) at ≡ (cell_signal c (signal c) g).value s
+  pub after_planned : (g : Cell) (at : ℕ) → FitsIn c (IsPlaced c ps n) (signal c) g → at < length vs → IsHeld g (slice_index vs at) → slice_index (after_step (step_of_cell c ps g) at vs s.arrays) at ≡ (cell_signal c (signal c) g).value s
   unfolding const_value not_value bin_value mux_value slice_value cat_value rep_value read_value
   after_planned (cell.Const b x) at h l k = k
   after_planned (cell.Not a) at h l k = get_or-set_same vs at _ 0 l ∙ ap (λ x. words.complement (signal c a).width x) (v.each a h)
   after_planned (cell.Bin o a b) at h l k =
-      ap (λ xs. slice_index xs at) (operated o (signal c a).width (place c a) (place c b) at vs s.arrays)
+      ap (λ xs. slice_index xs at) (operated o (cell_operands c ps (cell.Bin o a b)) at vs s.arrays)
       ∙ get_or-set_same vs at _ 0 l
       ∙ ap₂ (λ x y. bin_word o (signal c a).width x y) (v.each a h.0) (v.each b h.1)
   after_planned (cell.Mux x a b) at h l k =
       get_or-set_same vs at _ 0 l
-      ∙ ap (λ z. words.mux z (slice_index vs (place c a)) (slice_index vs (place c b))) (v.each x h.0)
+      ∙ chosen vs (slice_index vs (place c ps x)) (place c ps a) (place c ps b) ((signal c x).value s) (v.each x h.0) (let q = is_bit x h.0 h.3 in let e = v.each x h.0 in omega (arith, q, e))
       ∙ ap₂ (λ y z. words.mux ((signal c x).value s) y z) (v.each a h.1) (v.each b h.2)
   after_planned (cell.Slice a high low) at h l k = get_or-set_same vs at _ 0 l ∙ ap (λ x. words.slice high low x) (v.each a h.0)
   after_planned (cell.Cat a b) at h l k = get_or-set_same vs at _ 0 l ∙ ap₂ (λ x y. words.cat (signal c b).width x y) (v.each a h.0) (v.each b h.1)
@@ -126,83 +158,121 @@ module _ (c : Circuit) (s : State) (w : IsWell c) (t : Suits c s) (vs : List ℕ
   after_planned (cell.Read m a) at h l k = get_or-set_same vs at _ 0 l ∙ ap (λ x. slice_index (get_or s.arrays m []) x) (v.each a h.1)
 
 -- a constant stays
-held_after : (c : Circuit) (g : Cell) (at : ℕ) (vs : List ℕ) (ws : List (List ℕ)) → IsHeld g (slice_index vs at) → IsHeld g (slice_index (after_step (step_of_cell c g) at vs ws) at)
-held_after c (cell.Const b x) at vs ws h = h
-held_after c (cell.Not a) at vs ws h = tt
-held_after c (cell.Bin o a b) at vs ws h = tt
-held_after c (cell.Mux x a b) at vs ws h = tt
-held_after c (cell.Slice a high low) at vs ws h = tt
-held_after c (cell.Cat a b) at vs ws h = tt
-held_after c (cell.Rep m a) at vs ws h = tt
-held_after c (cell.Read m a) at vs ws h = tt
+held_after : (c : Circuit) (ps : List ℕ) (g : Cell) (at : ℕ) (vs : List ℕ) (ws : List (List ℕ)) → IsHeld g (slice_index vs at) → IsHeld g (slice_index (after_step (step_of_cell c ps g) at vs ws) at)
+held_after c ps (cell.Const b x) at vs ws h = h
+held_after c ps (cell.Not a) at vs ws h = tt
+held_after c ps (cell.Bin o a b) at vs ws h = tt
+held_after c ps (cell.Mux x a b) at vs ws h = tt
+held_after c ps (cell.Slice a high low) at vs ws h = tt
+held_after c ps (cell.Cat a b) at vs ws h = tt
+held_after c ps (cell.Rep m a) at vs ws h = tt
+held_after c ps (cell.Read m a) at vs ws h = tt
 
 -- ALL STEPS
 
--- what a step keeps: the values before it, its own value, and the constants
-module _ (c : Circuit) (s : State) (w : IsWell c) (t : Suits c s) (k : ℕ) (l : k < length c.cells) (vs : List ℕ) (v : HasValues c s vs k) (f : HasConstants c vs) where
-  abbrev cell_k : Cell
-  cell_k = get_or c.cells k no_cell
+-- the cell that has the place of a turn is that of the turn
+pub turn_of : (c : Circuit) (order ps : List ℕ) (j k : ℕ) → IsOrder c order ps → j < length order → k < length c.cells → slice_index ps k ≡ first_place c + j → slice_index order j ≡ k
+turn_of c order ps j k o l h e = ⊎_elim
+    (λ (u : slice_index ps k ≡ unplaced). let r = o.room in absurd (omega (arith, u, e, r, l)))
+    (λ (t : HasTurn c order ps k). let q = t.own in let i : t.turn ≡ j = omega (arith, q, e) in ap (slice_index order) (sym i) ∙ t.same)
+    (o.known k h)
 
-  abbrev at_k : ℕ
-  at_k = place c (CellNet k)
+-- what a step keeps: the values before it, its own value, and the constants
+module _ (c : Circuit) (s : State) (w : IsWell c) (t : Suits c s) (order ps : List ℕ) (o : IsOrder c order ps) (j : ℕ) (l : j < length order) (vs : List ℕ) (count : length vs ≡ first_place c + length order) (v : HasValues c ps s vs (first_place c + j)) (f : HasConstants c ps (length vs) vs) where
+  abbrev own_cell : Cell
+  own_cell = cell_at c (slice_index order j)
+
+  abbrev at : ℕ
+  at = first_place c + j
 
   abbrev new : List ℕ
-  new = after_step (step_of_cell c cell_k) at_k vs s.arrays
+  new = after_step (step_of_cell c ps own_cell) at vs s.arrays
 
-  inside : at_k < length vs
-  inside = omega (arith, v.room, l)
+  turn : IsTurn c ps (slice_index order j) at
+  turn = o.turns j l
 
-  pub step_fits : StepFits (step_of_cell c cell_k) vs s.arrays
-  step_fits = fits_planned c s w t vs k (omega arith) v cell_k (fits_cell c w.cells k l)
+  inside : at < length vs
+  inside = omega (arith, count, l)
 
-  own : slice_index new at_k ≡ (signal c (CellNet k)).value s
+  fits_own : FitsIn c (IsPlaced c ps at) (signal c) own_cell
+  fits_own = fits_turn c ps (slice_index order j) at w turn
+
+  pub step_fits : KindFits (step_of_cell c ps own_cell).kind (cell_operands c ps own_cell) vs s.arrays
+  step_fits = fits_planned c s w t ps vs at (omega (arith, count, l)) v own_cell fits_own
+
+  held : IsHeld own_cell (slice_index vs at)
+  held = subst (λ (i : ℕ). IsHeld own_cell (slice_index vs i)) (turn.own) (f.each (slice_index order j) turn.there (let e = turn.own in omega (arith, e, inside)))
+
+  own : slice_index new at ≡ (signal c (CellNet (slice_index order j))).value s
   own =
-      after_planned c s w t vs k (omega arith) v cell_k at_k (fits_cell c w.cells k l) inside (f.each k l)
-      ∙ ap (λ (x : Signal). x.value s) (sym (signal_cell c w.cells k l))
+      after_planned c s w t ps vs at (omega (arith, count, l)) v own_cell at fits_own inside held
+      ∙ ap (λ (x : Signal). x.value s) (sym (signal_cell c w.cells (slice_index order j) turn.there))
 
-  each_new : (x : Net) → IsThereAt c (suc k) x → slice_index new (place c x) ≡ (signal c x).value s
-  each_new (Input i) h = after_other (step_of_cell c cell_k) at_k i vs s.arrays (λ e. absurd (omega (arith, e))) ∙ v.each (Input i) h
-  each_new (RegNet r) h = after_other (step_of_cell c cell_k) at_k (place c (RegNet r)) vs s.arrays (λ e. absurd (omega (arith, e))) ∙ v.each (RegNet r) h
-  each_new (CellNet j) h = ⊎_elim
-      (λ (lt : j < k). after_other (step_of_cell c cell_k) at_k (place c (CellNet j)) vs s.arrays (λ e. absurd (omega (arith, e))) ∙ v.each (CellNet j) lt)
-      (λ (ge : k ≤ j). let e : j ≡ k = omega arith in subst (λ (i : ℕ). slice_index new (place c (CellNet i)) ≡ (signal c (CellNet i)).value s) (sym e) own)
-      (cases_lt j k)
+  other : (i : ℕ) → i ≢ at → slice_index new i ≡ slice_index vs i
+  other i ne = after_other (step_of_cell c ps own_cell).kind (cell_operands c ps own_cell) at i vs s.arrays ne
 
-  pub step_values : HasValues c s new (suc k)
-  step_values = record { room = after_length (step_of_cell c cell_k) at_k vs s.arrays ∙ v.room; each = each_new }
+  each_new : (x : Net) → IsPlaced c ps (suc at) x → slice_index new (place c ps x) ≡ (signal c x).value s
+  each_new (Input i) h = let q = h.there in other i (λ e. absurd (omega (arith, e, q))) ∙ v.each (Input i) (record { there = q; early = omega (arith, q) })
+  each_new (RegNet r) h = let q = h.there in other (place c ps (RegNet r)) (λ e. absurd (omega (arith, e, q))) ∙ v.each (RegNet r) (record { there = q; early = omega (arith, q) })
+  each_new (CellNet k) h = ⊎_elim
+      (λ (lt : slice_index ps k < at). other (slice_index ps k) (λ e. absurd (omega (arith, e, lt))) ∙ v.each (CellNet k) (record { there = h.there; early = lt }))
+      (λ (ge : at ≤ slice_index ps k).
+      let q = h.early in
+      let e : slice_index ps k ≡ at = omega (arith, q, ge) in
+      let i = turn_of c order ps j k o l h.there e in
+      ap (slice_index new) e ∙ own ∙ ap (λ m. (signal c (CellNet m)).value s) i)
+      (cases_lt (slice_index ps k) at)
 
-  kept : (j : ℕ) → j < length c.cells → IsHeld (get_or c.cells j no_cell) (slice_index new (place c (CellNet j)))
-  kept j h = ⊎_elim
-      (λ (e : j ≡ k). subst (λ (i : ℕ). IsHeld (get_or c.cells i no_cell) (slice_index new (place c (CellNet i)))) (sym e) (held_after c cell_k at_k vs s.arrays (f.each k l)))
-      (λ (ne : j ≢ k). subst (λ (x : ℕ). IsHeld (get_or c.cells j no_cell) x) (sym (after_other (step_of_cell c cell_k) at_k (place c (CellNet j)) vs s.arrays (λ e. ne (omega (arith, e))))) (f.each j h))
-      (cases_eq j k)
+  pub step_values : HasValues c ps s new (suc at)
+  step_values = record { each = each_new }
 
-  pub step_constants : HasConstants c new
-  step_constants = record { each = kept }
+  pub step_count : length new ≡ length vs
+  step_count = after_count (step_of_cell c ps own_cell).kind (cell_operands c ps own_cell) at vs s.arrays
 
--- what the steps from the k-th cell on do
-pub record IsWalked (c : Circuit) (s : State) (vs : List ℕ) (steps : List Step) (at : ℕ) : Type 0 where
+  kept : (k : ℕ) → k < length c.cells → slice_index ps k < length vs → IsHeld (cell_at c k) (slice_index new (slice_index ps k))
+  kept k h b = ⊎_elim
+      (λ (e : slice_index ps k ≡ at).
+      let i = turn_of c order ps j k o l h e in
+      subst (λ (m : ℕ). IsHeld (cell_at c k) (slice_index new m)) (sym e) (subst (λ (m : ℕ). IsHeld (cell_at c m) (slice_index new at)) i (held_after c ps own_cell at vs s.arrays held)))
+      (λ (ne : slice_index ps k ≢ at). subst (λ (x : ℕ). IsHeld (cell_at c k) x) (sym (other (slice_index ps k) ne)) (f.each k h b))
+      (cases_eq (slice_index ps k) at)
+
+  pub step_constants : HasConstants c ps (length new) new
+  step_constants = record { each = λ k h b. kept k h (omega (arith, b, step_count)) }
+
+-- what the steps from a turn on do
+pub record IsWalked (c : Circuit) (ps : List ℕ) (s : State) (vs : List ℕ) (steps : List Step) (at : ℕ) : Type 0 where
   pub fit : StepsFit steps at vs s.arrays
-  pub values : HasValues c s (after_steps steps at vs s.arrays) (length c.cells)
-  pub constants : HasConstants c (after_steps steps at vs s.arrays)
+  pub values : HasValues c ps s (after_steps steps at vs s.arrays) (length vs)
+  pub constants : HasConstants c ps (length vs) (after_steps steps at vs s.arrays)
+  pub count : length (after_steps steps at vs s.arrays) ≡ length vs
 
-pub walked_from : (c : Circuit) (s : State) → IsWell c → Suits c s → (n k : ℕ) → n + k ≡ length c.cells → (vs : List ℕ) → HasValues c s vs k → HasConstants c vs → IsWalked c s vs (map (step_of_cell c) (drop k c.cells)) (place c (CellNet k))
-walked_from c s w t zero k e vs v f =
-    let P : List Cell → Type 0 = λ l. IsWalked c s vs (map (step_of_cell c) l) (place c (CellNet k)) in
-    subst P (sym (drop_all k c.cells (omega arith))) (record { fit = tt; values = (let z : k ≡ length c.cells = omega (arith, e) in subst (λ (i : ℕ). HasValues c s vs i) z v); constants = f })
-walked_from c s w t (suc n) k e vs v f =
-    let l : k < length c.cells = omega arith in
-    let P : List Cell → Type 0 = λ xs. IsWalked c s vs (map (step_of_cell c) xs) (place c (CellNet k)) in
-    let i : suc (place c (CellNet k)) ≡ place c (CellNet (suc k)) = omega arith in
-    let j : k + 1 ≡ suc k = omega arith in
-    let rest = walked_from c s w t n (suc k) (omega arith) _ (step_values c s w t k l vs v f) (step_constants c s w t k l vs v f) in
-    let Q : ℕ → Type 0 = λ a. IsWalked c s (after_step (step_of_cell c (get_or c.cells k no_cell)) (place c (CellNet k)) vs s.arrays) (map (step_of_cell c) (drop (suc k) c.cells)) a in
+abbrev pub order_steps : Circuit → List ℕ → List ℕ → List Step
+order_steps c ps order = map (λ k. step_of_cell c ps (cell_at c k)) order
+
+walked_from : (c : Circuit) (s : State) → IsWell c → Suits c s → (order ps : List ℕ) → IsOrder c order ps → (n j : ℕ) → n + j ≡ length order → (vs : List ℕ) → length vs ≡ first_place c + length order → HasValues c ps s vs (first_place c + j) → HasConstants c ps (length vs) vs → IsWalked c ps s vs (order_steps c ps (drop j order)) (first_place c + j)
+walked_from c s w t order ps o zero j e vs m v f =
+    let P : List ℕ → Type 0 = λ l. IsWalked c ps s vs (order_steps c ps l) (first_place c + j) in
+    subst P (sym (drop_all j order (omega (arith, e)))) (record { fit = tt; values = (let z : first_place c + j ≡ length vs = omega (arith, e, m) in subst (λ (i : ℕ). HasValues c ps s vs i) z v); constants = f; count = refl })
+walked_from c s w t order ps o (suc n) j e vs m v f =
+    let l : j < length order = omega (arith, e) in
+    let x = slice_index order j in
+    let new = after_step (step_of_cell c ps (cell_at c x)) (first_place c + j) vs s.arrays in
+    let k = step_count c s w t order ps o j l vs m v f in
+    let i : suc (first_place c + j) ≡ first_place c + (j + 1) = omega arith in
+    let rest = walked_from c s w t order ps o n (j + 1) (omega (arith, e)) new (k ∙ m) (subst (λ (a : ℕ). HasValues c ps s new a) i (step_values c s w t order ps o j l vs m v f)) (step_constants c s w t order ps o j l vs m v f) in
+    let Q : ℕ → Type 0 = λ a. IsWalked c ps s new (order_steps c ps (drop (j + 1) order)) a in
     let r = subst Q (sym i) rest in
-    let R : ℕ → Type 0 = λ a. IsWalked c s vs (step_of_cell c (get_or c.cells k no_cell) ∷ map (step_of_cell c) (drop a c.cells)) (place c (CellNet k)) in
-    subst P (sym (drop_more c.cells k no_cell l)) (subst R (sym j) (record { fit = (step_fits c s w t k l vs v f, r.fit); values = r.values; constants = r.constants }))
+    let P : List ℕ → Type 0 = λ xs. IsWalked c ps s vs (order_steps c ps xs) (first_place c + j) in
+    subst P (sym (drop_more order j 0 l)) (record {
+      fit = (step_fits c s w t order ps o j l vs m v f, r.fit);
+      values = subst (λ (a : ℕ). HasValues c ps s (after_steps (order_steps c ps (drop (j + 1) order)) (suc (first_place c + j)) new s.arrays) a) k r.values;
+      constants = subst (λ (a : ℕ). HasConstants c ps a (after_steps (order_steps c ps (drop (j + 1) order)) (suc (first_place c + j)) new s.arrays)) k r.constants;
+      count = r.count ∙ k;
+    })
 
 -- all steps
-pub walked : (c : Circuit) (s : State) → IsWell c → Suits c s → (vs : List ℕ) → HasValues c s vs 0 → HasConstants c vs → IsWalked c s vs (map (step_of_cell c) c.cells) (length (inputs_of c) + length c.regs)
-walked c s w t vs v f =
-    let e : length (inputs_of c) + length c.regs + 0 ≡ length (inputs_of c) + length c.regs = omega arith in
-    subst (λ (a : ℕ). IsWalked c s vs (map (step_of_cell c) c.cells) a) e (walked_from c s w t (length c.cells) 0 (omega arith) vs v f)
+pub walked : (c : Circuit) (s : State) → IsWell c → Suits c s → (order ps : List ℕ) → IsOrder c order ps → (vs : List ℕ) → length vs ≡ first_place c + length order → HasValues c ps s vs (first_place c) → HasConstants c ps (length vs) vs → IsWalked c ps s vs (order_steps c ps order) (first_place c)
+walked c s w t order ps o vs m v f =
+    let e : first_place c + 0 ≡ first_place c = omega arith in
+    subst (λ (a : ℕ). IsWalked c ps s vs (order_steps c ps order) a) e (walked_from c s w t order ps o (length order) 0 (omega arith) vs m (subst (λ (a : ℕ). HasValues c ps s vs a) (sym e) v) f)

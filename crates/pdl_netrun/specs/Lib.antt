@@ -1,4 +1,6 @@
 pub mod Steps
+pub mod Kinds
+pub mod Order
 pub mod Plan
 pub mod Places
 pub mod Sim

@@ -1,5 +1,5 @@
 -- What a caller sees of a simulator.
-use Rattle.std.specs.Prelude.{ℕ, List, [], ◌∷◌, length, replicate, false}
+use Rattle.std.specs.Prelude.{ℕ, List, [], length, replicate, false}
 use Rattle.pdl_net.specs.declared.Netlist.{Netlist}
 use Rattle.pdl_net.specs.Circuit.{circuit_of, outputs_of}
 use Rattle.pdl_net.specs.Run.{Held, Shown, start, shown_ports, next}

@@ -1,9 +1,11 @@
 -- What steps do to a list of values, where the arrays hold these words.
-use Rattle.std.specs.Prelude.{ℕ, suc, ◌+◌, ◌-◌, ◌*◌, ◌^◌, ◌<◌, ◌≤◌, ◌==◌, List, [], ◌∷◌, length, map, slice_index, slice_index_or, slice_set, Vec, All, if◌then◌else◌}
+use Rattle.std.specs.Prelude.{◌≡◌, ℕ, suc, ◌-◌, ◌*◌, ◌^◌, ◌<◌, ◌≤◌, ◌==◌, List, [], ◌∷◌, ◌++◌, length, map, slice_index, slice_index_or, slice_set, Vec, All, if◌then◌else◌}
 use Rattle.std.specs.declared.alloc.Global.{Global}
 use Rattle.pdl_word.specs.Words as words
-use Rattle.pdl_netrun.specs.declared.step.Step.{Step}
-use Rattle.pdl_netrun.specs.declared.step.Step.TheVariants.{Keep, Complement, Add, Sub, Mul, And, Or, Xor, Equal, Differ, Less, ShiftLeft, ShiftRight, Choose, Slice, Join, Repeat, Look}
+use Rattle.pdl_netrun.specs.declared.operation.Kind.{Kind}
+use Rattle.pdl_netrun.specs.declared.operation.Kind.TheVariants.{Constant, Complement, Add, Sub, Mul, And, Or, Xor, Equal, Differ, Less, ShiftLeft, ShiftRight, Choose, Slice, Join, Repeat, Look}
+use Rattle.pdl_netrun.specs.declared.operation.Operands.{Operands}
+use Rattle.pdl_netrun.specs.declared.walk.CellRun.{CellRun}
 use Rattle.pdl_netrun.specs.declared.writes.ArrayWrite.{ArrayWrite}
 
 -- the words of each array
@@ -14,68 +16,147 @@ array_words vs = map (λ v. v.items) vs
 abbrev pub AreBelow : ℕ → List ℕ → Type 0
 AreBelow n places = All (λ p. p < n) places
 
--- the value that a step makes
-abbrev pub step_value : Step → List ℕ → List (List ℕ) → ℕ
-step_value Keep vs ws = 0
-step_value (Complement w a) vs ws = words.complement w (slice_index vs a)
-step_value (Add w a b) vs ws = words.add w (slice_index vs a) (slice_index vs b)
-step_value (Sub w a b) vs ws = words.sub w (slice_index vs a) (slice_index vs b)
-step_value (Mul w a b) vs ws = words.mul w (slice_index vs a) (slice_index vs b)
-step_value (And a b) vs ws = words.and (slice_index vs a) (slice_index vs b)
-step_value (Or a b) vs ws = words.or (slice_index vs a) (slice_index vs b)
-step_value (Xor a b) vs ws = words.xor (slice_index vs a) (slice_index vs b)
-step_value (Equal a b) vs ws = words.equal (slice_index vs a) (slice_index vs b)
-step_value (Differ a b) vs ws = words.differ (slice_index vs a) (slice_index vs b)
-step_value (Less a b) vs ws = words.less (slice_index vs a) (slice_index vs b)
-step_value (ShiftLeft w a b) vs ws = words.shl w (slice_index vs a) (slice_index vs b)
-step_value (ShiftRight w a b) vs ws = words.shr w (slice_index vs a) (slice_index vs b)
-step_value (Choose c a b) vs ws = words.mux (slice_index vs c) (slice_index vs a) (slice_index vs b)
-step_value (Slice high low a) vs ws = words.slice high low (slice_index vs a)
-step_value (Join low a b) vs ws = words.cat low (slice_index vs a) (slice_index vs b)
-step_value (Repeat w k a) vs ws = words.rep w k (slice_index vs a)
-step_value (Look m a) vs ws = slice_index (slice_index_or ws m []) (slice_index vs a)
+-- ONE STEP
 
--- a place that is there holds a word of w bits
-pub record IsWord (w a : ℕ) (vs : List ℕ) : Type 0 where
-  pub there : a < length vs
+-- a cell that reads the words at these places
+abbrev pub reading_at : ℕ → ℕ → Operands
+reading_at a b = record { places = a ∷ b ∷ []; selector = 0; width = 0; high = 0; low = 0; count = 0 }
+
+-- the places of the two words
+abbrev pub first_of : Operands → ℕ
+first_of o = slice_index o.places 0
+
+abbrev pub second_of : Operands → ℕ
+second_of o = slice_index o.places 1
+
+-- the words there
+abbrev pub first : Operands → List ℕ → ℕ
+first o vs = slice_index vs (first_of o)
+
+abbrev pub second : Operands → List ℕ → ℕ
+second o vs = slice_index vs (second_of o)
+
+-- the value that a cell makes; a constant's stands, and none is made
+abbrev pub kind_value : Kind → Operands → List ℕ → List (List ℕ) → ℕ
+kind_value Constant o vs ws = 0
+kind_value Complement o vs ws = words.complement o.width (first o vs)
+kind_value Add o vs ws = words.add o.width (first o vs) (second o vs)
+kind_value Sub o vs ws = words.sub o.width (first o vs) (second o vs)
+kind_value Mul o vs ws = words.mul o.width (first o vs) (second o vs)
+kind_value And o vs ws = words.and (first o vs) (second o vs)
+kind_value Or o vs ws = words.or (first o vs) (second o vs)
+kind_value Xor o vs ws = words.xor (first o vs) (second o vs)
+kind_value Equal o vs ws = words.equal (first o vs) (second o vs)
+kind_value Differ o vs ws = words.differ (first o vs) (second o vs)
+kind_value Less o vs ws = words.less (first o vs) (second o vs)
+kind_value ShiftLeft o vs ws = words.shl o.width (first o vs) (second o vs)
+kind_value ShiftRight o vs ws = words.shr o.width (first o vs) (second o vs)
+kind_value Choose o vs ws = slice_index vs (slice_index o.places (slice_index vs o.selector))
+kind_value Slice o vs ws = words.slice o.high o.low (first o vs)
+kind_value Join o vs ws = words.cat o.low (first o vs) (second o vs)
+kind_value Repeat o vs ws = words.rep o.width o.count (first o vs)
+kind_value Look o vs ws = slice_index (slice_index_or ws o.selector []) (first o vs)
+
+-- the first place is there, and holds a word of w bits
+pub record IsWord (w : ℕ) (o : Operands) (vs : List ℕ) : Type 0 where
+  pub there : first_of o < length vs
   pub low : 1 ≤ w
   pub high : w ≤ 64
-  pub fits : slice_index vs a < 2 ^ w
+  pub fits : first o vs < 2 ^ w
 
--- two places that are there hold words of w bits
-pub record AreWords (w a b : ℕ) (vs : List ℕ) : Type 0 where
-  pub first : a < length vs
-  pub second : b < length vs
+-- both places are there
+pub record AreThere (o : Operands) (vs : List ℕ) : Type 0 where
+  pub first : first_of o < length vs
+  pub second : second_of o < length vs
+
+-- they hold words of w bits
+pub record AreWords (w : ℕ) (o : Operands) (vs : List ℕ) : Type 0 where
+  pub there : first_of o < length vs
+  pub second_there : second_of o < length vs
   pub low : 1 ≤ w
   pub high : w ≤ 64
-  pub first_fits : slice_index vs a < 2 ^ w
-  pub second_fits : slice_index vs b < 2 ^ w
+  pub fits : first o vs < 2 ^ w
+  pub second_fits : second o vs < 2 ^ w
 
--- a step reads places that are there, and its words are as wide as it takes them to be
-abbrev pub StepFits : Step → List ℕ → List (List ℕ) → Type 0
-StepFits Keep vs ws = Unit {0}
-StepFits (Complement w a) vs ws = IsWord w a vs
-StepFits (Add w a b) vs ws = AreWords w a b vs
-StepFits (Sub w a b) vs ws = AreWords w a b vs
-StepFits (Mul w a b) vs ws = AreWords w a b vs
-StepFits (And a b) vs ws = (a < length vs) × (b < length vs)
-StepFits (Or a b) vs ws = (a < length vs) × (b < length vs)
-StepFits (Xor a b) vs ws = (a < length vs) × (b < length vs)
-StepFits (Equal a b) vs ws = (a < length vs) × (b < length vs)
-StepFits (Differ a b) vs ws = (a < length vs) × (b < length vs)
-StepFits (Less a b) vs ws = (a < length vs) × (b < length vs)
-StepFits (ShiftLeft w a b) vs ws = AreWords w a b vs
-StepFits (ShiftRight w a b) vs ws = AreWords w a b vs
-StepFits (Choose c a b) vs ws = (c < length vs) × (a < length vs) × (b < length vs)
-StepFits (Slice high low a) vs ws = (a < length vs) × (low ≤ high) × (high < 64)
-StepFits (Join low a b) vs ws = (a < length vs) × IsWord low b vs × (low < 64) × (slice_index vs a < 2 ^ (64 - low))
-StepFits (Repeat w k a) vs ws = IsWord w a vs × (1 ≤ k) × (k * w ≤ 64)
-StepFits (Look m a) vs ws = (a < length vs) × (m < length ws) × (slice_index vs a < length (slice_index_or ws m []))
+-- the two places of a choice are there, and its bit
+pub record IsChoice (o : Operands) (vs : List ℕ) : Type 0 where
+  pub count : length o.places ≡ 2
+  pub bit_there : o.selector < length vs
+  pub bit_fits : slice_index vs o.selector < 2
+  pub each : (i : ℕ) → i < 2 → slice_index o.places i < length vs
 
--- the values after a step whose value goes to a place; a constant's stands
+-- the first place holds the address of a word of the array
+pub record IsAddress (o : Operands) (vs : List ℕ) (ws : List (List ℕ)) : Type 0 where
+  pub there : first_of o < length vs
+  pub array : o.selector < length ws
+  pub within : first o vs < length (slice_index_or ws o.selector [])
+
+-- the first place's word is joined above another that leaves it room
+pub record AreJoined (o : Operands) (vs : List ℕ) : Type 0 where
+  pub there : first_of o < length vs
+  pub second_there : second_of o < length vs
+  pub some : 1 ≤ o.low
+  pub room : o.low < 64
+  pub fits : first o vs < 2 ^ (64 - o.low)
+  pub second_fits : second o vs < 2 ^ o.low
+
+-- the first place is there, and the bits from high down to low are bits of a word
+pub record IsSliced (o : Operands) (vs : List ℕ) : Type 0 where
+  pub there : first_of o < length vs
+  pub order : o.low ≤ o.high
+  pub top : o.high < 64
+
+-- the first place's word is repeated within 64 bits
+pub record IsRepeated (o : Operands) (vs : List ℕ) : Type 0 where
+  pub word : IsWord o.width o vs
+  pub some : 1 ≤ o.count
+  pub room : o.count * o.width ≤ 64
+
+-- a cell of this kind reads places that are there, and its words are as wide as it takes them to be
+abbrev pub KindFits : Kind → Operands → List ℕ → List (List ℕ) → Type 0
+KindFits Constant o vs ws = Unit {0}
+KindFits Complement o vs ws = IsWord o.width o vs
+KindFits Add o vs ws = AreWords o.width o vs
+KindFits Sub o vs ws = AreWords o.width o vs
+KindFits Mul o vs ws = AreWords o.width o vs
+KindFits And o vs ws = AreThere o vs
+KindFits Or o vs ws = AreThere o vs
+KindFits Xor o vs ws = AreThere o vs
+KindFits Equal o vs ws = AreThere o vs
+KindFits Differ o vs ws = AreThere o vs
+KindFits Less o vs ws = AreThere o vs
+KindFits ShiftLeft o vs ws = AreWords o.width o vs
+KindFits ShiftRight o vs ws = AreWords o.width o vs
+KindFits Choose o vs ws = IsChoice o vs
+KindFits Slice o vs ws = IsSliced o vs
+KindFits Join o vs ws = AreJoined o vs
+KindFits Repeat o vs ws = IsRepeated o vs
+KindFits Look o vs ws = IsAddress o vs ws
+
+-- the values after a cell of this kind gave its value to a place; a constant's stands
+abbrev pub after_kind : Kind → Operands → ℕ → List ℕ → List (List ℕ) → List ℕ
+after_kind Constant o at vs ws = vs
+after_kind k o at vs ws = slice_set vs at (kind_value k o vs ws)
+
+-- MANY STEPS
+
+-- what one cell does
+pub record Step : Type 0 where
+  pub kind : Kind
+  pub operands : Operands
+
+-- the steps of cells of one kind
+abbrev pub steps_with : Kind → List Operands → List Step
+steps_with k os = map (λ o. record { kind = k; operands = o }) os
+
+-- the steps of runs, one after another
+abbrev pub steps_of : List CellRun → List Step
+steps_of [] = []
+steps_of (r ∷ rs) = steps_with r.kind r.operands.items ++ steps_of rs
+
+-- the values after a step whose value goes to a place
 abbrev pub after_step : Step → ℕ → List ℕ → List (List ℕ) → List ℕ
-after_step Keep at vs ws = vs
-after_step x at vs ws = slice_set vs at (step_value x vs ws)
+after_step x at vs ws = after_kind x.kind x.operands at vs ws
 
 -- the values after some steps, the first of which goes to this place
 abbrev pub after_steps : List Step → ℕ → List ℕ → List (List ℕ) → List ℕ
@@ -85,7 +166,9 @@ after_steps (x ∷ xs) at vs ws = after_steps xs (suc at) (after_step x at vs ws
 -- each step fits when its turn comes
 abbrev pub StepsFit : List Step → ℕ → List ℕ → List (List ℕ) → Type 0
 StepsFit [] at vs ws = Unit {0}
-StepsFit (x ∷ xs) at vs ws = StepFits x vs ws × StepsFit xs (suc at) (after_step x at vs ws) ws
+StepsFit (x ∷ xs) at vs ws = KindFits x.kind x.operands vs ws × StepsFit xs (suc at) (after_step x at vs ws) ws
+
+-- WRITES
 
 -- the arrays after one write
 abbrev pub after_write : ArrayWrite → List ℕ → List (List ℕ) → List (List ℕ)

@@ -1,13 +1,17 @@
-//! Runs a netlist cycle by cycle, by walking its cells in their order: `Sim` keeps what the meaning of netlists says of registers, arrays and ports.
+//! Runs a netlist cycle by cycle, by walking its cells in an order of its own: `Sim` keeps what the meaning of netlists says of registers, arrays and ports.
 //!
-//! The layer above may use `Sim` alone; its plan of places and steps is its own affair.
+//! The layer above may use `Sim` alone; its plan of places and runs is its own affair.
 #![tactic(auto)]
 
+mod kinds;
+mod operation;
+mod operations;
+mod order;
 mod places;
 mod plan;
 mod sim;
 mod start;
-mod step;
+mod walk;
 mod widths;
 mod writes;
 

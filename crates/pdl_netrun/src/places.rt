@@ -3,7 +3,7 @@
 ghost use Rattle.std.specs.Prelude.{◌≡◌, ◌++◌, map, filter_map, bytes_eq, IfOk};
 ghost use Rattle.std.specs.List.{position_from};
 ghost use Rattle.pdl_net.specs.Circuit.{circuit_of, port_output};
-ghost use Rattle.pdl_net.specs.Run.{value_at, place_of as place_in};
+ghost use Rattle.pdl_net.specs.Run.{place_of as place_in};
 ghost use Rattle.pdl_netrun.specs.Places.{places_of};
 
 use pdl_kit::{MemInfo, Name, NoMemory};
@@ -73,17 +73,4 @@ fn place_of(ports: &[Port], name: &[u8]) -> Option<usize>
         }
     }
     None
-}
-
-/// The value at a place among the outputs, 0 where there is none.
-pub fn value_at_place(ports: &[u64], place: Option<usize>) -> u64
-    ensures { result ≡ value_at ports.now place }
-{
-    match place {
-        Some(i) => match ports.get(i) {
-            Some(value) => *value,
-            None => 0,
-        },
-        None => 0,
-    }
 }

@@ -1,69 +1,34 @@
-// The plan of a netlist: one list of values, and for each cell, register, output and write port the places that it reads there.
+// The plan of a netlist: for each cell, register, output and write port the places that it reads in one list of values.
 
-ghost use Rattle.std.specs.Prelude.{◌≡◌, ◌++◌, ◌<◌, ◌^◌, length, map, All, IfOk, OnOk};
-ghost use Rattle.pdl_net.specs.Circuit.{circuit_of, inputs_of, outputs_of};
+ghost use Rattle.std.specs.Prelude.{◌≡◌, ◌++◌, ◌∷◌, [], ◌<◌, length, map, All, IfOk, OnOk, slice_index};
+ghost use Rattle.pdl_net.specs.Circuit.{circuit_of, outputs_of};
 ghost use Rattle.pdl_net.specs.Meaning.{signal, IsThereAt};
 ghost use Rattle.pdl_net.specs.Well.{IsWell, FitsIn};
 ghost use Rattle.pdl_net.specs.Width.{HasWidths};
-ghost use Rattle.pdl_netrun.specs.Plan.{HasRoom, HasPlaces, place_in, layout_of, step_of_cell, planned_operation, planned_write, planned_writes, held_at_start};
+ghost use Rattle.pdl_netrun.specs.Order.{IsOrderOf, cell_of, place_in, order_circuit};
+ghost use Rattle.pdl_netrun.specs.Steps.{steps_of, steps_with};
+ghost use Rattle.pdl_netrun.specs.Plan.{cell_operands, step_of, step_of_cell, planned_write, planned_writes, held_at_start, IsWriteThere};
 
-use crate::step::Step;
+use crate::kinds::kind_of;
+use crate::operation::{Kind, Operands};
+use crate::order::Order;
+use crate::walk::CellRun;
 use crate::widths::width_of;
 use crate::writes::ArrayWrite;
 use pdl_kit::NoMemory;
-use pdl_net::{BinOp, Cell, Dir, Net, Netlist, WritePort};
+use pdl_net::{Cell, Dir, Netlist, WritePort};
 use std::alloc::Global;
 
-/// Where the values of registers and of cells begin in the list of values; those of inputs begin at 0.
-#[derive(Clone, Copy)]
-pub struct Layout {
-    pub regs: usize,
-    pub cells: usize,
-}
-
-impl Layout {
-    /// The place of a net's value.
-    fn place(self, net: Net) -> usize
-        requires { place_in self net < 2 ^ 64 }
-        ensures { result ≡ place_in self net }
-    {
-        match net {
-            Net::Input(i) => i,
-            Net::Reg(r) => self.regs + r,
-            Net::Cell(k) => self.cells + k,
-        }
-    }
-}
-
-/// Adds a place for each input.
-pub fn put_inputs(n: &Netlist, values: &mut Vec<u64>) -> Result<(), NoMemory>
-    ensures { OnOk result (values.new.items
-        ≡ values.old.items ++ map (λ w. 0) (inputs_of (circuit_of n.now))) }
+/// Adds the values of all cells at the start, in the order of their places: a constant's value, and 0 for any other cell.
+pub fn put_constants(n: &Netlist, order: &Order, values: &mut Vec<u64>) -> Result<(), NoMemory>
+    requires order { IsOrderOf order.now }
+    requires net { order.now.net.now ≡ n.now }
+    ensures { OnOk result (values.new.items ≡ values.old.items
+        ++ map (λ k. held_at_start (cell_of order.now k)) order.now.cells.items) }
 {
-    for port in n.ports.as_slice() {
-        if let Dir::In = port.dir {
-            values.push(0)?;
-        }
-    }
-    Ok(())
-}
-
-/// Adds the reset value of each register.
-pub fn put_resets(n: &Netlist, values: &mut Vec<u64>) -> Result<(), NoMemory>
-    ensures { OnOk result (values.new.items ≡ values.old.items ++ map (λ r. r.reset) n.now.regs) }
-{
-    for reg in n.regs.as_slice() {
-        values.push(reg.reset)?;
-    }
-    Ok(())
-}
-
-/// Adds the value of each constant, and 0 for any other cell.
-pub fn put_constants(n: &Netlist, values: &mut Vec<u64>) -> Result<(), NoMemory>
-    ensures { OnOk result (values.new.items ≡ values.old.items ++ map held_at_start n.now.cells) }
-{
-    for cell in n.cells.as_slice() {
-        values.push(at_start(*cell))?;
+    for j in 0..order.cells.len() {
+        let cell = n.cells.as_slice()[order.cells[j]];
+        values.push(at_start(cell))?;
     }
     Ok(())
 }
@@ -77,129 +42,163 @@ fn at_start(cell: Cell) -> u64
     }
 }
 
-/// The steps of all cells, in order.
-#[tactic(auto, using(crate::proofs::PlanLemmas::steps))]
-pub fn all_steps(
+/// The reset value of each register.
+pub fn all_resets(alloc: Global, n: &Netlist) -> Result<Vec<u64>, NoMemory>
+    ensures { IfOk result (λ v. v.items ≡ map (λ r. r.reset) n.now.regs) }
+{
+    let mut resets = Vec::new(alloc);
+    for reg in n.regs.as_slice() {
+        resets.push(reg.reset)?;
+    }
+    Ok(resets)
+}
+
+/// The runs of all cells, in the order of their places.
+#[tactic(auto, using(crate::proofs::PlanLemmas::runs))]
+pub fn all_runs(
     alloc: Global,
     n: &Netlist,
-    layout: Layout,
+    order: &Order,
     widths: &[u8],
-) -> Result<Vec<Step>, NoMemory>
+) -> Result<Vec<CellRun>, NoMemory>
     requires well { IsWell (circuit_of n.now) }
+    requires order { IsOrderOf order.now }
+    requires net { order.now.net.now ≡ n.now }
     requires widths { HasWidths (circuit_of n.now) widths.now }
     requires cells { length widths.now ≡ length n.now.cells }
-    requires layout { layout ≡ layout_of (circuit_of n.now) }
-    requires room { HasRoom (circuit_of n.now) }
-    ensures { IfOk result (λ v. v.items ≡ map (step_of_cell (circuit_of n.now)) n.now.cells) }
+    ensures { IfOk result (λ v. steps_of v.items ≡ map
+        (λ k. step_of_cell (circuit_of n.now) order.now.places.items (cell_of order.now k))
+        order.now.cells.items) }
 {
-    let mut steps = Vec::new(alloc);
-    for k in 0..n.cells.len() {
-        let cell = n.cells.as_slice()[k];
-        let step = step_of(n, layout, widths, cell);
-        steps.push(step)?;
+    let mut runs = Vec::new(alloc);
+    let mut run = CellRun {
+        kind: Kind::Constant,
+        operands: Vec::new(alloc),
+    };
+    for j in 0..order.cells.len() {
+        let cell = n.cells.as_slice()[order.cells[j]];
+        let operands = operands_of(n, order, widths, cell);
+        push_step(alloc, &mut runs, &mut run, kind_of(cell), operands)?;
     }
-    Ok(steps)
+    runs.push(run)?;
+    Ok(runs)
 }
 
-/// The step of a cell.
+/// Adds a step to the run that is being made, which ends where the step is of another kind.
+#[tactic(auto, using(crate::proofs::PlanLemmas::pushes))]
+fn push_step(
+    alloc: Global,
+    runs: &mut Vec<CellRun>,
+    run: &mut CellRun,
+    kind: Kind,
+    operands: Operands,
+) -> Result<(), NoMemory>
+    ensures { OnOk result (steps_of runs.new.items
+        ++ steps_with run.new.kind run.new.operands.items
+        ≡ (steps_of runs.old.items ++ steps_with run.old.kind run.old.operands.items)
+        ++ step_of kind operands ∷ []) }
+{
+    if run.kind != kind {
+        let next = CellRun {
+            kind,
+            operands: Vec::new(alloc),
+        };
+        let ended = std::mem::replace(run, next);
+        runs.push(ended)?;
+    }
+    run.operands.push(operands)?;
+    Ok(())
+}
+
+/// What a cell reads, at the places of an order.
 #[tactic(auto, using(crate::proofs::PlanLemmas::places))]
-fn step_of(n: &Netlist, layout: Layout, widths: &[u8], cell: Cell) -> Step
+fn operands_of(n: &Netlist, order: &Order, widths: &[u8], cell: Cell) -> Operands
     requires well { IsWell (circuit_of n.now) }
+    requires order { IsOrderOf order.now }
+    requires net { order.now.net.now ≡ n.now }
     requires widths { HasWidths (circuit_of n.now) widths.now }
     requires cells { length widths.now ≡ length n.now.cells }
-    requires layout { layout ≡ layout_of (circuit_of n.now) }
-    requires room { HasRoom (circuit_of n.now) }
     requires fits { FitsIn (circuit_of n.now) (IsThereAt (circuit_of n.now) (length n.now.cells))
         (signal (circuit_of n.now)) cell }
-    ensures { result ≡ step_of_cell (circuit_of n.now) cell }
+    ensures { result ≡ cell_operands (circuit_of n.now) order.now.places.items cell }
 {
     match cell {
-        Cell::Const { width: _, value: _ } => Step::Keep,
-        Cell::Not(a) => Step::Complement {
-            width: width_of(n, widths, a),
-            a: layout.place(a),
-        },
-        Cell::Bin(op, a, b) => {
-            operation(op, width_of(n, widths, a), layout.place(a), layout.place(b))
+        Cell::Const { width: _, value: _ } => Operands::reading(0, 0),
+        Cell::Not(a) => {
+            let place = order.place(a);
+            Operands {
+                width: width_of(n, widths, a),
+                ..Operands::reading(place, place)
+            }
         }
-        Cell::Mux(choice, a, b) => Step::Choose {
-            choice: layout.place(choice),
-            a: layout.place(a),
-            b: layout.place(b),
-        },
-        Cell::Slice { a, high, low } => Step::Slice {
-            high,
-            low,
-            a: layout.place(a),
-        },
-        Cell::Cat(a, b) => Step::Join {
-            low: width_of(n, widths, b),
-            a: layout.place(a),
-            b: layout.place(b),
-        },
-        Cell::Rep { count, a } => Step::Repeat {
+        Cell::Bin(_, a, b) => Operands {
             width: width_of(n, widths, a),
-            count,
-            a: layout.place(a),
+            ..Operands::reading(order.place(a), order.place(b))
         },
-        Cell::Read { array, addr } => Step::Look {
-            array,
-            a: layout.place(addr),
+        Cell::Mux(choice, a, b) => Operands {
+            selector: order.place(choice),
+            ..Operands::reading(order.place(b), order.place(a))
         },
-    }
-}
-
-/// The step of an operator on words of `width` bits.
-fn operation(op: BinOp, width: u8, a: usize, b: usize) -> Step
-    ensures { result ≡ planned_operation op width a b }
-{
-    match op {
-        BinOp::Add => Step::Add { width, a, b },
-        BinOp::Sub => Step::Sub { width, a, b },
-        BinOp::Mul => Step::Mul { width, a, b },
-        BinOp::And => Step::And { a, b },
-        BinOp::Or => Step::Or { a, b },
-        BinOp::Xor => Step::Xor { a, b },
-        BinOp::Eq => Step::Equal { a, b },
-        BinOp::Ne => Step::Differ { a, b },
-        BinOp::Lt => Step::Less { a, b },
-        BinOp::Shl => Step::ShiftLeft { width, a, b },
-        BinOp::Shr => Step::ShiftRight { width, a, b },
+        Cell::Slice { a, high, low } => {
+            let place = order.place(a);
+            Operands {
+                high,
+                low,
+                ..Operands::reading(place, place)
+            }
+        }
+        Cell::Cat(a, b) => Operands {
+            low: width_of(n, widths, b),
+            ..Operands::reading(order.place(a), order.place(b))
+        },
+        Cell::Rep { count, a } => {
+            let place = order.place(a);
+            Operands {
+                width: width_of(n, widths, a),
+                count,
+                ..Operands::reading(place, place)
+            }
+        }
+        Cell::Read { array, addr } => {
+            let place = order.place(addr);
+            Operands {
+                selector: array as u32,
+                ..Operands::reading(place, place)
+            }
+        }
     }
 }
 
 /// The places of the registers' next values.
 #[tactic(auto, using(crate::proofs::PlanLemmas::nexts))]
-pub fn all_nexts(alloc: Global, n: &Netlist, layout: Layout) -> Result<Vec<usize>, NoMemory>
+pub fn all_nexts(alloc: Global, n: &Netlist, order: &Order) -> Result<Vec<u32>, NoMemory>
     requires well { IsWell (circuit_of n.now) }
-    requires layout { layout ≡ layout_of (circuit_of n.now) }
-    requires room { HasRoom (circuit_of n.now) }
-    ensures { IfOk result (λ v. v.items
-        ≡ map (λ r. place_in (layout_of (circuit_of n.now)) r.next) n.now.regs) }
+    requires order { IsOrderOf order.now }
+    requires net { order.now.net.now ≡ n.now }
+    ensures { IfOk result (λ v. v.items ≡ map (λ r. place_in order.now r.next) n.now.regs) }
 {
     let mut places = Vec::new(alloc);
     for r in 0..n.regs.len() {
         let reg = n.regs.as_slice()[r];
-        places.push(layout.place(reg.next))?;
+        places.push(order.place(reg.next))?;
     }
     Ok(places)
 }
 
 /// The places of the outputs' values, in order.
 #[tactic(auto, using(crate::proofs::PlanLemmas::drivers))]
-pub fn all_drivers(alloc: Global, n: &Netlist, layout: Layout) -> Result<Vec<usize>, NoMemory>
+pub fn all_drivers(alloc: Global, n: &Netlist, order: &Order) -> Result<Vec<u32>, NoMemory>
     requires well { IsWell (circuit_of n.now) }
-    requires layout { layout ≡ layout_of (circuit_of n.now) }
-    requires room { HasRoom (circuit_of n.now) }
+    requires order { IsOrderOf order.now }
+    requires net { order.now.net.now ≡ n.now }
     ensures { IfOk result (λ v. v.items
-        ≡ map (λ o. place_in (layout_of (circuit_of n.now)) o.net)
-        (outputs_of (circuit_of n.now))) }
+        ≡ map (λ o. place_in order.now o.net) (outputs_of (circuit_of n.now))) }
 {
     let mut places = Vec::new(alloc);
     for i in 0..n.ports.len() {
         let port = &n.ports.as_slice()[i];
         if let Dir::Out(driver) = port.dir {
-            places.push(layout.place(driver))?;
+            places.push(order.place(driver))?;
         }
     }
     Ok(places)
@@ -207,16 +206,17 @@ pub fn all_drivers(alloc: Global, n: &Netlist, layout: Layout) -> Result<Vec<usi
 
 /// The write ports of all arrays, array by array, each array's in order.
 #[tactic(auto, using(crate::proofs::PlanLemmas::writes))]
-pub fn all_writes(alloc: Global, n: &Netlist, layout: Layout) -> Result<Vec<ArrayWrite>, NoMemory>
+pub fn all_writes(alloc: Global, n: &Netlist, order: &Order) -> Result<Vec<ArrayWrite>, NoMemory>
     requires well { IsWell (circuit_of n.now) }
-    requires layout { layout ≡ layout_of (circuit_of n.now) }
-    requires room { HasRoom (circuit_of n.now) }
-    ensures { IfOk result (λ v. v.items ≡ planned_writes (circuit_of n.now)) }
+    requires order { IsOrderOf order.now }
+    requires net { order.now.net.now ≡ n.now }
+    ensures { IfOk result (λ v. v.items
+        ≡ planned_writes (circuit_of n.now) order.now.places.items) }
 {
     let mut ports = Vec::new(alloc);
     for array in 0..n.arrays.len() {
         let found = &n.arrays.as_slice()[array];
-        put_writes(layout, array, found.writes.as_slice(), &mut ports)?;
+        put_writes(order, array, found.writes.as_slice(), &mut ports)?;
     }
     Ok(ports)
 }
@@ -224,22 +224,23 @@ pub fn all_writes(alloc: Global, n: &Netlist, layout: Layout) -> Result<Vec<Arra
 /// Adds the write ports of an array.
 #[tactic(auto, using(crate::proofs::PlanLemmas::array_writes))]
 fn put_writes(
-    layout: Layout,
+    order: &Order,
     array: usize,
     writes: &[WritePort],
     ports: &mut Vec<ArrayWrite>,
 ) -> Result<(), NoMemory>
-    requires { All (HasPlaces layout) writes.now }
-    ensures { OnOk result (ports.new.items
-        ≡ ports.old.items ++ map (planned_write layout array) writes.now) }
+    requires order { IsOrderOf order.now }
+    requires there { All (IsWriteThere order.now) writes.now }
+    ensures { OnOk result (ports.new.items ≡ ports.old.items
+        ++ map (planned_write (order_circuit order.now) order.now.places.items array) writes.now) }
 {
     for k in 0..writes.len() {
         let port = writes[k];
         ports.push(ArrayWrite {
             array,
-            enable: layout.place(port.enable),
-            addr: layout.place(port.addr),
-            value: layout.place(port.value),
+            enable: order.place(port.enable),
+            addr: order.place(port.addr),
+            value: order.place(port.value),
         })?;
     }
     Ok(())

@@ -3,21 +3,19 @@
 ghost use Rattle.std.specs.Prelude.{◌≡◌, ◌+◌, ◌++◌, ◌<◌, ◌≤◌, [], drop, length, slice_index, take, IfOk};
 ghost use Rattle.pdl_net.specs.Circuit.{circuit_of, inputs_of, outputs_of};
 ghost use Rattle.pdl_net.specs.Well.{IsWell};
-ghost use Rattle.pdl_net.specs.Run.{delayed_mems, committed_by};
+ghost use Rattle.pdl_net.specs.Run.{delayed_mems, committed_by, value_at};
 ghost use Rattle.pdl_net.specs.Pipe.{IsWellFormed};
 ghost use Rattle.pdl_image.specs.Images.{IsImage};
 ghost use Rattle.pdl_netrun.specs.Sim.{run_at, run_at_start, run_after};
 ghost use Rattle.pdl_netrun.specs.Steps.{array_words};
-ghost use Rattle.pdl_netrun.specs.Plan.{HasConstants, layout_of, value_count};
+ghost use Rattle.pdl_netrun.specs.Order.{IsOrderOf, AllPlaced};
 ghost use Rattle.pdl_net.specs.Holds.{Holds};
-ghost use Rattle.pdl_netrun.specs.Inside.{registers};
 
-use crate::places::{CommitPlaces, all_places, value_at_place};
-use crate::plan::{
-    Layout, all_drivers, all_nexts, all_steps, all_writes, put_constants, put_inputs, put_resets,
-};
+use crate::order::{Order, order_of};
+use crate::places::{CommitPlaces, all_places};
+use crate::plan::{all_drivers, all_nexts, all_resets, all_runs, all_writes, put_constants};
 use crate::start::all_arrays;
-use crate::step::{Step, read_places, take_steps};
+use crate::walk::{CellRun, read_place, read_places, walk_runs};
 use crate::widths::all_widths;
 use crate::writes::{ArrayWrite, write_words};
 use pdl_image::Image;
@@ -28,21 +26,24 @@ use std::marker::Model;
 
 /// A netlist that runs, cycle by cycle, with room made for all that its calls use.
 ///
-/// Its plan is made once: one list of values for inputs, registers and cells, and for each cell a step over places in that list, so that a cycle looks up no net and no width.
-/// Between cycles it holds the values of registers and arrays at the start of the next cycle, and those of the outputs in the last one.
+/// Its plan is made once: one list of values for inputs, registers and cells, and the cells in runs of one kind over places in that list, so that a cycle looks up no net and no width and asks for a kind once a run.
+/// Between cycles it holds the values of registers and arrays at the start of the next cycle, and those of all nets in the last one.
 pub struct Sim<'a> {
     net: &'a Netlist,
     first_reg: usize,
     first_cell: usize,
-    steps: Vec<Step>,
-    nexts: Vec<usize>,
-    drivers: Vec<usize>,
+    runs: Vec<CellRun>,
+    nexts: Vec<u32>,
+    drivers: Vec<u32>,
     writes: Vec<ArrayWrite>,
     commits: Vec<CommitPlaces>,
+    /// The values of all nets in the last cycle.
     values: Vec<u64>,
     arrays: Vec<Vec<u64>>,
+    /// The values of the registers in the next cycle.
     next: Vec<u64>,
-    outs: Vec<u64>,
+    /// Whether there was a cycle.
+    shown: bool,
 }
 
 // As the derive would, but by a call of its owners: docs/DECISIONS.md says why.
@@ -52,7 +53,7 @@ impl Drop for Sim<'_> {
             net: _,
             first_reg: _,
             first_cell: _,
-            steps: _,
+            runs: _,
             nexts: _,
             drivers: _,
             writes: _,
@@ -60,7 +61,7 @@ impl Drop for Sim<'_> {
             values: _,
             arrays: _,
             next: _,
-            outs: _,
+            shown: _,
         } = self;
     }
 }
@@ -87,49 +88,43 @@ impl<'a> Sim<'a> {
         requires here { delayed_mems net.now ≡ [] }
         ensures { IfOk result (λ sim. sim ≡ run_at_start net.now image.now) }
     {
-        let mut values = Vec::new(alloc);
-        put_inputs(net, &mut values)?;
-        let regs = values.len();
-        put_resets(net, &mut values)?;
-        let cells = values.len();
-        put_constants(net, &mut values)?;
-        let layout = Layout { regs, cells };
+        let order = order_of(alloc, net)?;
+        let resets = all_resets(alloc, net)?;
         let arrays = all_arrays(alloc, net, image)?;
-        Sim::plan_of(alloc, net, layout, values, arrays)
+        Sim::plan_of(alloc, net, &order, resets, arrays)
     }
 
-    /// The plan of a netlist, with its values and arrays at the start.
+    /// The plan of a netlist, with the values of its registers and arrays at the start.
     fn plan_of(
         alloc: Global,
         net: &'a Netlist,
-        layout: Layout,
-        values: Vec<u64>,
+        order: &Order,
+        next: Vec<u64>,
         arrays: Vec<Vec<u64>>,
     ) -> Result<Sim<'a>, NoMemory>
         requires well { IsWell (circuit_of net.now) }
         requires inputs { inputs_of (circuit_of net.now) ≡ [] }
-        requires layout { layout ≡ layout_of (circuit_of net.now) }
-        requires room { length values.items ≡ value_count (circuit_of net.now) }
-        requires constants { HasConstants (circuit_of net.now) values.items }
-        requires holds { Holds (circuit_of net.now) (registers (circuit_of net.now) values.items)
-            (array_words arrays.items) }
-        ensures { IfOk result (λ sim. sim
-            ≡ run_at net.now (registers (circuit_of net.now) values.items)
-            (array_words arrays.items)) }
+        requires order { IsOrderOf order.now }
+        requires same { order.now.net.now ≡ net.now }
+        requires all { AllPlaced order.now }
+        requires holds { Holds (circuit_of net.now) next.items (array_words arrays.items) }
+        ensures { IfOk result (λ sim. sim ≡ run_at net.now next.items (array_words arrays.items)) }
     {
         let widths = all_widths(alloc, net)?;
-        let steps = all_steps(alloc, net, layout, &widths)?;
-        let nexts = all_nexts(alloc, net, layout)?;
-        let drivers = all_drivers(alloc, net, layout)?;
-        let writes = all_writes(alloc, net, layout)?;
+        let runs = all_runs(alloc, net, order, &widths)?;
+        let nexts = all_nexts(alloc, net, order)?;
+        let drivers = all_drivers(alloc, net, order)?;
+        let writes = all_writes(alloc, net, order)?;
         let commits = all_places(alloc, net)?;
-        let next = vec![in alloc; 0; nexts.len()]?;
-        let outs = vec![in alloc; 0; drivers.len()]?;
+        let first_reg = order.regs as usize;
+        let first_cell = first_reg + next.len();
+        let mut values = vec![in alloc; 0; first_cell]?;
+        put_constants(net, order, &mut values)?;
         Ok(Sim {
             net,
-            first_reg: layout.regs,
-            first_cell: layout.cells,
-            steps,
+            first_reg,
+            first_cell,
+            runs,
             nexts,
             drivers,
             writes,
@@ -137,7 +132,7 @@ impl<'a> Sim<'a> {
             values,
             arrays,
             next,
-            outs,
+            shown: false,
         })
     }
 
@@ -147,11 +142,11 @@ impl<'a> Sim<'a> {
     {
         // No memory is delayed, so no reply bit is asked.
         let _ = replies;
-        take_steps(&self.steps, self.first_cell, &self.arrays, &mut self.values);
-        read_places(&self.drivers, &self.values, &mut self.outs);
+        put_words(&self.next, self.first_reg, &mut self.values);
+        walk_runs(&self.runs, self.first_cell, &self.arrays, &mut self.values);
         read_places(&self.nexts, &self.values, &mut self.next);
         write_words(&self.writes, &self.values, &mut self.arrays);
-        put_words(&self.next, self.first_reg, &mut self.values);
+        self.shown = true;
     }
 
     /// The value of an output in the last cycle, 0 before the first one; outputs are counted from 0 in their order.
@@ -159,7 +154,21 @@ impl<'a> Sim<'a> {
         requires { i < length (outputs_of (circuit_of self.now.netlist)) }
         ensures { result ≡ slice_index self.now.last.ports i }
     {
-        self.outs[i]
+        if self.shown {
+            read_place(&self.drivers, i, &self.values)
+        } else {
+            0
+        }
+    }
+
+    /// The value of an output in the last cycle, 0 where there is none.
+    fn port_at(&self, place: Option<usize>) -> u64
+        ensures { result ≡ value_at self.now.last.ports place }
+    {
+        match place {
+            Some(i) if i < self.drivers.len() => self.port(i),
+            _ => 0,
+        }
     }
 
     /// The address and the value that the m-th memory of the netlist committed in the last cycle.
@@ -170,9 +179,9 @@ impl<'a> Sim<'a> {
         ensures { result ≡ committed_by self.now.netlist self.now.last m }
     {
         let places = self.commits[m];
-        if value_at_place(&self.outs, places.commit) == 1 {
-            let addr = value_at_place(&self.outs, places.addr);
-            Some((addr, value_at_place(&self.outs, places.value)))
+        if self.port_at(places.commit) == 1 {
+            let addr = self.port_at(places.addr);
+            Some((addr, self.port_at(places.value)))
         } else {
             None
         }

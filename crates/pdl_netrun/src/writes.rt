@@ -7,9 +7,9 @@ ghost use Rattle.pdl_netrun.specs.Steps.{WriteFits, after_write, after_all, arra
 #[derive(Clone, Copy)]
 pub struct ArrayWrite {
     pub array: usize,
-    pub enable: usize,
-    pub addr: usize,
-    pub value: usize,
+    pub enable: u32,
+    pub addr: u32,
+    pub value: u32,
 }
 
 /// Does what a write port is told.
@@ -18,9 +18,9 @@ fn write_word(port: ArrayWrite, values: &[u64], arrays: &mut [Vec<u64>])
     requires { WriteFits port values.now (array_words arrays.old) }
     ensures { array_words arrays.new ≡ after_write port values.now (array_words arrays.old) }
 {
-    if values[port.enable] == 1 {
-        let at = values[port.addr];
-        let value = values[port.value];
+    if values[port.enable as usize] == 1 {
+        let at = values[port.addr as usize];
+        let value = values[port.value as usize];
         let words = &mut arrays[port.array];
         words[at as usize] = value;
     }

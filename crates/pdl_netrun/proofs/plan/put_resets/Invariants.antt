@@ -1,5 +1,0 @@
-use Rattle.std.proofs.Common.{◌≡◌, ◌++◌, take, map}
-use Rattle.pdl_netrun.proofs.plan.put_resets.Given as goal
-
-abbrev pub invariant-loop-reg : goal.invariant-loop-reg
-invariant-loop-reg l = l.values.items ≡ l.initial.values.items ++ map (λ r. r.reset) (take l.reg-index l.n.regs)

@@ -1,0 +1,10 @@
+use Rattle.std.proofs.Common.{◌≡◌, ◌+◌, drop, length}
+use Rattle.pdl_netrun.specs.Steps.{StepsFit, steps_with, after_steps, array_words}
+use Rattle.pdl_netrun.proofs.walk.walk.Given as goal
+
+abbrev pub invariant-loop-k : goal.invariant-loop-k
+invariant-loop-k g l = record {
+  rest : after_steps (steps_with g.K.Operation.kind (drop l.k l.operands)) (l.first + l.k) l.values (array_words l.arrays) ≡ after_steps (steps_with g.K.Operation.kind l.operands) l.first l.initial.values (array_words l.arrays);
+  fit : StepsFit (steps_with g.K.Operation.kind (drop l.k l.operands)) (l.first + l.k) l.values (array_words l.arrays);
+  count : length l.values ≡ length l.initial.values;
+}

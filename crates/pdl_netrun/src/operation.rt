@@ -1,0 +1,97 @@
+// What cells do: their kinds, what a cell of a kind reads, and the value that it makes.
+
+ghost use Rattle.std.specs.Prelude.{◌≡◌, ◌<◌, ℕ, List, [], length, slice_index, slice_index_or, slice_set};
+ghost use Rattle.pdl_netrun.specs.Steps.{KindFits, kind_value, after_kind, array_words, reading_at};
+
+/// What a cell does, apart from what it reads.
+#[derive(Clone, Copy, PartialEq, Eq)]
+pub enum Kind {
+    /// Nothing, since the value of a constant stands.
+    Constant,
+    Complement,
+    Add,
+    Sub,
+    Mul,
+    And,
+    Or,
+    Xor,
+    Equal,
+    Differ,
+    Less,
+    ShiftLeft,
+    ShiftRight,
+    Choose,
+    Slice,
+    Join,
+    Repeat,
+    Look,
+}
+
+/// What a cell reads, and the widths that it goes by; its kind says which of these it looks at.
+#[derive(Clone, Copy)]
+pub struct Operands {
+    /// The places of the two words, of a choice that for 0 first; one that reads one word has it first.
+    pub places: [u32; 2],
+    /// The place of a choice's bit, or the number of the array.
+    pub selector: u32,
+    /// The width of the words in bits, 1 to 64.
+    pub width: u8,
+    /// The highest bit of a slice.
+    pub high: u8,
+    /// The lowest bit of a slice, or the width of the lower word of two that are joined.
+    pub low: u8,
+    /// How often a word is repeated.
+    pub count: u8,
+}
+
+impl Operands {
+    /// A cell that reads the words at these places.
+    pub fn reading(first: u32, second: u32) -> Operands
+        ensures { result ≡ reading_at first second }
+    {
+        Operands {
+            places: [first, second],
+            selector: 0,
+            width: 0,
+            high: 0,
+            low: 0,
+            count: 0,
+        }
+    }
+
+    /// The word at the first place.
+    pub fn first(&self, values: &[u64]) -> u64
+        requires { slice_index self.now.places 0 < length values.now }
+        ensures { result ≡ slice_index values.now (slice_index self.now.places 0) }
+    {
+        values[self.places[0] as usize]
+    }
+
+    /// The word at the second place.
+    pub fn second(&self, values: &[u64]) -> u64
+        requires { slice_index self.now.places 1 < length values.now }
+        ensures { result ≡ slice_index values.now (slice_index self.now.places 1) }
+    {
+        values[self.places[1] as usize]
+    }
+}
+
+/// How a kind of cells that aren't constants makes its value.
+///
+/// A loop over cells of one kind is generic over it, so that it asks for the kind once and not for each cell.
+pub trait Operation {
+    ghost use Rattle.pdl_netrun.specs.declared.operation.Kind.{Kind};
+    ghost use Rattle.pdl_netrun.specs.declared.operation.Operands.{Operands};
+
+    /// The kind of its cells.
+    ghost kind: { Kind };
+
+    /// The value that a cell makes.
+    fn value(operands: &Operands, values: &[u64], arrays: &[Vec<u64>]) -> u64
+        requires { KindFits kind operands.now values.now (array_words arrays.now) }
+        ensures { result ≡ kind_value kind operands.now values.now (array_words arrays.now) };
+
+    /// A cell's place has this value afterwards.
+    ghost acts: { (o : Operands) (at : ℕ) (vs : List ℕ) (ws : List (List ℕ)) →
+        after_kind kind o at vs ws ≡ slice_set vs at (kind_value kind o vs ws) };
+}

@@ -1,0 +1,241 @@
+// The kinds of cells, one by one.
+
+ghost use Rattle.std.specs.Prelude.{◌≡◌, refl};
+ghost use Rattle.pdl_netrun.specs.Steps.{KindFits, kind_value, array_words};
+ghost use Rattle.pdl_netrun.specs.declared.operation.Kind.TheVariants as kinds;
+
+use crate::operation::{Kind, Operands, Operation};
+
+pub struct Complement;
+
+impl Operation for Complement {
+    ghost kind = { kinds.Complement };
+
+    fn value(operands: &Operands, values: &[u64], arrays: &[Vec<u64>]) -> u64 {
+        pdl_word::complement(operands.width, operands.first(values))
+    }
+
+    ghost acts = { λ o at vs ws. refl };
+}
+
+pub struct Add;
+
+impl Operation for Add {
+    ghost kind = { kinds.Add };
+
+    fn value(operands: &Operands, values: &[u64], arrays: &[Vec<u64>]) -> u64 {
+        pdl_word::add(
+            operands.width,
+            operands.first(values),
+            operands.second(values),
+        )
+    }
+
+    ghost acts = { λ o at vs ws. refl };
+}
+
+pub struct Sub;
+
+impl Operation for Sub {
+    ghost kind = { kinds.Sub };
+
+    fn value(operands: &Operands, values: &[u64], arrays: &[Vec<u64>]) -> u64 {
+        pdl_word::sub(
+            operands.width,
+            operands.first(values),
+            operands.second(values),
+        )
+    }
+
+    ghost acts = { λ o at vs ws. refl };
+}
+
+pub struct Mul;
+
+impl Operation for Mul {
+    ghost kind = { kinds.Mul };
+
+    fn value(operands: &Operands, values: &[u64], arrays: &[Vec<u64>]) -> u64 {
+        pdl_word::mul(
+            operands.width,
+            operands.first(values),
+            operands.second(values),
+        )
+    }
+
+    ghost acts = { λ o at vs ws. refl };
+}
+
+pub struct And;
+
+impl Operation for And {
+    ghost kind = { kinds.And };
+
+    #[tactic(auto, unfolding(pdl_word::specs::Words::and))]
+    fn value(operands: &Operands, values: &[u64], arrays: &[Vec<u64>]) -> u64 {
+        operands.first(values) & operands.second(values)
+    }
+
+    ghost acts = { λ o at vs ws. refl };
+}
+
+pub struct Or;
+
+impl Operation for Or {
+    ghost kind = { kinds.Or };
+
+    #[tactic(auto, unfolding(pdl_word::specs::Words::or))]
+    fn value(operands: &Operands, values: &[u64], arrays: &[Vec<u64>]) -> u64 {
+        operands.first(values) | operands.second(values)
+    }
+
+    ghost acts = { λ o at vs ws. refl };
+}
+
+pub struct Xor;
+
+impl Operation for Xor {
+    ghost kind = { kinds.Xor };
+
+    #[tactic(auto, unfolding(pdl_word::specs::Words::xor))]
+    fn value(operands: &Operands, values: &[u64], arrays: &[Vec<u64>]) -> u64 {
+        operands.first(values) ^ operands.second(values)
+    }
+
+    ghost acts = { λ o at vs ws. refl };
+}
+
+pub struct Equal;
+
+impl Operation for Equal {
+    ghost kind = { kinds.Equal };
+
+    fn value(operands: &Operands, values: &[u64], arrays: &[Vec<u64>]) -> u64 {
+        pdl_word::equal(operands.first(values), operands.second(values))
+    }
+
+    ghost acts = { λ o at vs ws. refl };
+}
+
+pub struct Differ;
+
+impl Operation for Differ {
+    ghost kind = { kinds.Differ };
+
+    fn value(operands: &Operands, values: &[u64], arrays: &[Vec<u64>]) -> u64 {
+        pdl_word::differ(operands.first(values), operands.second(values))
+    }
+
+    ghost acts = { λ o at vs ws. refl };
+}
+
+pub struct Less;
+
+impl Operation for Less {
+    ghost kind = { kinds.Less };
+
+    fn value(operands: &Operands, values: &[u64], arrays: &[Vec<u64>]) -> u64 {
+        pdl_word::less(operands.first(values), operands.second(values))
+    }
+
+    ghost acts = { λ o at vs ws. refl };
+}
+
+pub struct ShiftLeft;
+
+impl Operation for ShiftLeft {
+    ghost kind = { kinds.ShiftLeft };
+
+    fn value(operands: &Operands, values: &[u64], arrays: &[Vec<u64>]) -> u64 {
+        pdl_word::shl(
+            operands.width,
+            operands.first(values),
+            operands.second(values),
+        )
+    }
+
+    ghost acts = { λ o at vs ws. refl };
+}
+
+pub struct ShiftRight;
+
+impl Operation for ShiftRight {
+    ghost kind = { kinds.ShiftRight };
+
+    fn value(operands: &Operands, values: &[u64], arrays: &[Vec<u64>]) -> u64 {
+        pdl_word::shr(
+            operands.width,
+            operands.first(values),
+            operands.second(values),
+        )
+    }
+
+    ghost acts = { λ o at vs ws. refl };
+}
+
+pub struct Choose;
+
+impl Operation for Choose {
+    ghost kind = { kinds.Choose };
+
+    fn value(operands: &Operands, values: &[u64], arrays: &[Vec<u64>]) -> u64 {
+        let choice = values[operands.selector as usize];
+        values[operands.places[choice as usize] as usize]
+    }
+
+    ghost acts = { λ o at vs ws. refl };
+}
+
+pub struct Slice;
+
+impl Operation for Slice {
+    ghost kind = { kinds.Slice };
+
+    fn value(operands: &Operands, values: &[u64], arrays: &[Vec<u64>]) -> u64 {
+        pdl_word::slice(operands.high, operands.low, operands.first(values))
+    }
+
+    ghost acts = { λ o at vs ws. refl };
+}
+
+pub struct Join;
+
+impl Operation for Join {
+    ghost kind = { kinds.Join };
+
+    fn value(operands: &Operands, values: &[u64], arrays: &[Vec<u64>]) -> u64 {
+        pdl_word::cat(
+            operands.low,
+            operands.first(values),
+            operands.second(values),
+        )
+    }
+
+    ghost acts = { λ o at vs ws. refl };
+}
+
+pub struct Repeat;
+
+impl Operation for Repeat {
+    ghost kind = { kinds.Repeat };
+
+    fn value(operands: &Operands, values: &[u64], arrays: &[Vec<u64>]) -> u64 {
+        pdl_word::rep(operands.width, operands.count, operands.first(values))
+    }
+
+    ghost acts = { λ o at vs ws. refl };
+}
+
+pub struct Look;
+
+impl Operation for Look {
+    ghost kind = { kinds.Look };
+
+    #[tactic(auto, using(crate::proofs::Words::words))]
+    fn value(operands: &Operands, values: &[u64], arrays: &[Vec<u64>]) -> u64 {
+        let words = &arrays[operands.selector as usize];
+        words[operands.first(values) as usize]
+    }
+
+    ghost acts = { λ o at vs ws. refl };
+}

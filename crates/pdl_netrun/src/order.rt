@@ -1,0 +1,262 @@
+// The order in which cells get their values: runs of one kind, each cell after all that it reads.
+
+ghost use Rattle.std.specs.Prelude.{◌≡◌, ◌+◌, ◌<◌, ◌≤◌, IsTrue, IfOk, OnOk, length, slice_index};
+ghost use Rattle.pdl_net.specs.Circuit.{circuit_of, inputs_of};
+ghost use Rattle.pdl_net.specs.Well.{IsWell};
+ghost use Rattle.pdl_netrun.specs.Order.{IsOrderOf, IsSameNet, IsNextOf, AllPlaced, AreThere, AreEarly, IsNetThere, cell_of, order_circuit, place_in, unplaced};
+ghost use Rattle.pdl_netrun.specs.Kinds.{cell_kind};
+
+use crate::kinds::kind_of;
+use crate::operation::Kind;
+use pdl_kit::NoMemory;
+use pdl_net::{Cell, Dir, Net, Netlist};
+use std::alloc::Global;
+
+/// The place of a cell that has none yet, past all places that are given.
+const UNPLACED: u32 = u32::MAX;
+
+/// How many runs are chosen by their kind at most; the cells that are left then are placed in the list's order.
+const RUNS: u32 = 64;
+
+/// The kinds of cells, in the order in which runs are tried.
+const KINDS: [Kind; 18] = [
+    Kind::Constant,
+    Kind::Complement,
+    Kind::Add,
+    Kind::Sub,
+    Kind::Mul,
+    Kind::And,
+    Kind::Or,
+    Kind::Xor,
+    Kind::Equal,
+    Kind::Differ,
+    Kind::Less,
+    Kind::ShiftLeft,
+    Kind::ShiftRight,
+    Kind::Choose,
+    Kind::Slice,
+    Kind::Join,
+    Kind::Repeat,
+    Kind::Look,
+];
+
+/// The places of the values of a netlist, and its cells in the order of their places.
+///
+/// Inputs stand first, then registers, then cells.
+#[derive(Drop)]
+pub struct Order<'a> {
+    net: &'a Netlist,
+    /// The place of the first register.
+    pub regs: u32,
+    /// The place of the cell that is placed next.
+    pub next: u32,
+    /// The place of each cell, `UNPLACED` for one that has none yet.
+    pub places: Vec<u32>,
+    /// The cells that have a place, by number.
+    pub cells: Vec<usize>,
+}
+
+impl<'a> Order<'a> {
+    /// An order in which no cell has a place yet.
+    fn new(alloc: Global, net: &'a Netlist) -> Result<Order<'a>, NoMemory>
+        ensures order { IfOk result IsOrderOf }
+        ensures net { IfOk result (λ o. o.net.now ≡ net.now) }
+    {
+        let inputs = count_inputs(net);
+        let regs = net.regs.len();
+        let most = UNPLACED as usize;
+        if inputs >= most || regs >= most - inputs || net.arrays.len() >= most {
+            return Err(NoMemory);
+        }
+        let places = vec![in alloc; UNPLACED; net.cells.len()]?;
+        Ok(Order {
+            net,
+            regs: inputs as u32,
+            next: (inputs + regs) as u32,
+            places,
+            cells: Vec::new(alloc),
+        })
+    }
+
+    /// The place of a net's value.
+    pub fn place(&self, net: Net) -> u32
+        requires order { IsOrderOf self.now }
+        requires there { IsNetThere self.now net }
+        ensures { result ≡ place_in self.now net }
+    {
+        match net {
+            Net::Input(i) => i as u32,
+            Net::Reg(r) => self.regs + r as u32,
+            Net::Cell(k) => self.places[k],
+        }
+    }
+
+    /// A cell, which reads nets that are there.
+    fn cell(&self, k: usize) -> Cell
+        requires well { IsWell (order_circuit self.now) }
+        requires there { k < length self.now.net.now.cells }
+        ensures is { result ≡ cell_of self.now k }
+        ensures reads { AreThere self.now result }
+    {
+        self.net.cells.as_slice()[k]
+    }
+
+    /// Whether a net has a place already.
+    fn is_placed(&self, net: Net) -> bool
+        requires order { IsOrderOf self.now }
+        requires there { IsNetThere self.now net }
+        ensures { IsTrue result → place_in self.now net < self.now.next }
+    {
+        self.place(net) < self.next
+    }
+
+    /// Whether all that a cell reads has a place already.
+    fn is_ready(&self, cell: Cell) -> bool
+        requires order { IsOrderOf self.now }
+        requires there { AreThere self.now cell }
+        ensures { IsTrue result → AreEarly self.now cell }
+    {
+        match cell {
+            Cell::Const { width: _, value: _ } => true,
+            Cell::Not(a) => self.is_placed(a),
+            Cell::Bin(_, a, b) => self.is_placed(a) && self.is_placed(b),
+            Cell::Mux(choice, a, b) => {
+                self.is_placed(choice) && self.is_placed(a) && self.is_placed(b)
+            }
+            Cell::Slice { a, high: _, low: _ } => self.is_placed(a),
+            Cell::Cat(a, b) => self.is_placed(a) && self.is_placed(b),
+            Cell::Rep { count: _, a } => self.is_placed(a),
+            Cell::Read { array: _, addr } => self.is_placed(addr),
+        }
+    }
+
+    /// Gives the next place to a cell that has none yet.
+    fn place_cell(&mut self, k: usize) -> Result<(), NoMemory>
+        requires order { IsOrderOf self.old }
+        requires there { k < length self.old.net.now.cells }
+        requires new { slice_index self.old.places.items k ≡ unplaced }
+        requires ready { AreEarly self.old (cell_of self.old k) }
+        ensures order { OnOk result (IsOrderOf self.new) }
+        ensures next { OnOk result (IsNextOf self.old k self.new) }
+    {
+        if self.next == UNPLACED - 1 {
+            return Err(NoMemory);
+        }
+        self.places[k] = self.next;
+        self.cells.push(k)?;
+        self.next += 1;
+        Ok(())
+    }
+
+    /// Gives the next places to the cells of a kind, as far as all that they read has one.
+    fn place_kind(&mut self, kind: Kind) -> Result<(), NoMemory>
+        requires well { IsWell (order_circuit self.old) }
+        requires order { IsOrderOf self.old }
+        ensures order { OnOk result (IsOrderOf self.new) }
+        ensures net { OnOk result (IsSameNet self.old self.new) }
+    {
+        for k in 0..self.net.cells.len() {
+            let cell = self.cell(k);
+            if self.places[k] == UNPLACED && kind_of(cell) == kind && self.is_ready(cell) {
+                self.place_cell(k)?;
+            }
+        }
+        Ok(())
+    }
+
+    /// Gives the next places to all cells that have none yet, in the list's order.
+    fn place_left(&mut self) -> Result<(), NoMemory>
+        requires well { IsWell (order_circuit self.old) }
+        requires order { IsOrderOf self.old }
+        ensures order { OnOk result (IsOrderOf self.new) }
+        ensures net { OnOk result (IsSameNet self.old self.new) }
+        ensures all { OnOk result (AllPlaced self.new) }
+    {
+        for k in 0..self.net.cells.len() {
+            if self.places[k] == UNPLACED {
+                self.place_cell(k)?;
+            }
+        }
+        Ok(())
+    }
+
+    /// How many of the cells of a kind that have no place yet could be given one.
+    fn share(&self, kind: Kind) -> Share
+        requires well { IsWell (order_circuit self.now) }
+        requires order { IsOrderOf self.now }
+    {
+        let mut share = Share { ready: 0, left: 0 };
+        for k in 0..self.net.cells.len() {
+            let cell = self.cell(k);
+            if self.places[k] == UNPLACED && kind_of(cell) == kind {
+                share.left += 1;
+                if self.is_ready(cell) {
+                    share.ready += 1;
+                }
+            }
+        }
+        share
+    }
+
+    /// The kind of which the greatest share of the cells that are left could be given a place, if some could.
+    fn best_kind(&self) -> Option<Kind>
+        requires well { IsWell (order_circuit self.now) }
+        requires order { IsOrderOf self.now }
+    {
+        let mut best = None;
+        let mut most = Share { ready: 0, left: 1 };
+        for kind in KINDS {
+            let share = self.share(kind);
+            if share.is_above(most) {
+                best = Some(kind);
+                most = share;
+            }
+        }
+        best
+    }
+}
+
+/// How many cells could be given a place, of how many that are left.
+#[derive(Clone, Copy)]
+struct Share {
+    ready: usize,
+    left: usize,
+}
+
+impl Share {
+    /// Whether it is the greater share; the products fit, since no more than `UNPLACED` cells are placed.
+    fn is_above(self, other: Share) -> bool {
+        self.ready.wrapping_mul(other.left) > other.ready.wrapping_mul(self.left)
+    }
+}
+
+/// How many inputs a netlist has.
+fn count_inputs(net: &Netlist) -> usize
+    ensures { result ≡ length (inputs_of (circuit_of net.now)) }
+{
+    let mut inputs = 0;
+    for port in net.ports.as_slice() {
+        if let Dir::In = port.dir {
+            inputs += 1;
+        }
+    }
+    inputs
+}
+
+/// An order of all cells, in runs of one kind as long as some choices of kinds make them.
+pub fn order_of<'a>(alloc: Global, net: &'a Netlist) -> Result<Order<'a>, NoMemory>
+    requires { IsWell (circuit_of net.now) }
+    ensures order { IfOk result IsOrderOf }
+    ensures net { IfOk result (λ o. o.net.now ≡ net.now) }
+    ensures all { IfOk result AllPlaced }
+{
+    let mut order = Order::new(alloc, net)?;
+    for _ in 0..RUNS {
+        let Some(kind) = order.best_kind() else {
+            break;
+        };
+        order.place_kind(kind)?;
+    }
+    order.place_left()?;
+    Ok(order)
+}

@@ -1,0 +1,99 @@
+// The walk of a cycle: runs of cells of one kind, one after another, each cell's value going to the next place.
+
+ghost use Rattle.std.specs.Prelude.{◌≡◌, ◌+◌, ◌<◌, ◌≤◌, length, map, slice_index};
+ghost use Rattle.pdl_netrun.specs.Steps.{StepsFit, AreBelow, steps_with, steps_of, after_steps, array_words};
+
+use crate::operation::{Kind, Operands, Operation};
+use crate::operations::{
+    Add, And, Choose, Complement, Differ, Equal, Join, Less, Look, Mul, Or, Repeat, ShiftLeft,
+    ShiftRight, Slice, Sub, Xor,
+};
+
+/// Cells of one kind whose places follow one another.
+#[derive(Drop)]
+pub struct CellRun {
+    pub kind: Kind,
+    pub operands: Vec<Operands>,
+}
+
+/// Gives cells of one kind their values, the first of which goes to a place and the others to those after it.
+#[tactic(auto, using(crate::proofs::Steps::walks))]
+fn walk<K: Operation>(operands: &[Operands], first: usize, arrays: &[Vec<u64>], values: &mut [u64])
+    requires room { first + length operands.now ≤ length values.old }
+    requires fit { StepsFit (steps_with K.kind operands.now) first values.old
+        (array_words arrays.now) }
+    ensures { values.new ≡ after_steps (steps_with K.kind operands.now) first values.old
+        (array_words arrays.now) }
+{
+    for k in 0..operands.len() {
+        values[first + k] = K::value(&operands[k], values, arrays);
+    }
+}
+
+/// Gives the cells of a run their values.
+#[tactic(auto, using(crate::proofs::Steps::runs))]
+fn walk_run(run: &CellRun, first: usize, arrays: &[Vec<u64>], values: &mut [u64])
+    requires room { first + length run.now.operands.items ≤ length values.old }
+    requires fit { StepsFit (steps_with run.now.kind run.now.operands.items) first values.old
+        (array_words arrays.now) }
+    ensures { values.new ≡ after_steps (steps_with run.now.kind run.now.operands.items) first
+        values.old (array_words arrays.now) }
+{
+    let operands = run.operands.as_slice();
+    match run.kind {
+        Kind::Constant => (),
+        Kind::Complement => walk::<Complement>(operands, first, arrays, values),
+        Kind::Add => walk::<Add>(operands, first, arrays, values),
+        Kind::Sub => walk::<Sub>(operands, first, arrays, values),
+        Kind::Mul => walk::<Mul>(operands, first, arrays, values),
+        Kind::And => walk::<And>(operands, first, arrays, values),
+        Kind::Or => walk::<Or>(operands, first, arrays, values),
+        Kind::Xor => walk::<Xor>(operands, first, arrays, values),
+        Kind::Equal => walk::<Equal>(operands, first, arrays, values),
+        Kind::Differ => walk::<Differ>(operands, first, arrays, values),
+        Kind::Less => walk::<Less>(operands, first, arrays, values),
+        Kind::ShiftLeft => walk::<ShiftLeft>(operands, first, arrays, values),
+        Kind::ShiftRight => walk::<ShiftRight>(operands, first, arrays, values),
+        Kind::Choose => walk::<Choose>(operands, first, arrays, values),
+        Kind::Slice => walk::<Slice>(operands, first, arrays, values),
+        Kind::Join => walk::<Join>(operands, first, arrays, values),
+        Kind::Repeat => walk::<Repeat>(operands, first, arrays, values),
+        Kind::Look => walk::<Look>(operands, first, arrays, values),
+    }
+}
+
+/// Gives the cells of all runs their values, in order.
+#[tactic(auto, using(crate::proofs::Steps::runs))]
+pub fn walk_runs(runs: &[CellRun], first: usize, arrays: &[Vec<u64>], values: &mut [u64])
+    requires room { first + length (steps_of runs.now) ≤ length values.old }
+    requires fit { StepsFit (steps_of runs.now) first values.old (array_words arrays.now) }
+    ensures { values.new ≡ after_steps (steps_of runs.now) first values.old
+        (array_words arrays.now) }
+{
+    let mut at = first;
+    for run in runs {
+        walk_run(run, at, arrays, values);
+        at += run.operands.as_slice().len();
+    }
+}
+
+/// The value at one of these places.
+pub fn read_place(places: &[u32], k: usize, values: &[u64]) -> u64
+    requires there { AreBelow (length values.now) places.now }
+    requires within { k < length places.now }
+    ensures { result ≡ slice_index values.now (slice_index places.now k) }
+{
+    values[places[k] as usize]
+}
+
+/// The values at these places.
+#[tactic(auto, using(crate::proofs::Steps::reads))]
+pub fn read_places(places: &[u32], values: &[u64], out: &mut [u64])
+    requires there { AreBelow (length values.now) places.now }
+    requires room { length out.old ≡ length places.now }
+    ensures { out.new ≡ map (slice_index values.now) places.now }
+{
+    for k in 0..out.len() {
+        out[k] = values[places[k] as usize];
+    }
+}
