@@ -65,8 +65,8 @@ same_count n ms ns test h (x ∷ xs) =
 abbrev pub end_of : List Cycle → List ℕ
 end_of cs = end_line (length cs) (count_by (λ (c : Cycle). c.ended) cs) (count_by (λ (c : Cycle). c.wait) cs) (count_by (λ (c : Cycle). c.squash) cs)
 
--- nor the end line
-same_end : (n : Netlist) (ms ns : List MemInfo) (xs : List Shown) → end_of (map (cycle_by n ms) xs) ≡ end_of (map (cycle_by n ns) xs)
+-- nor does it change the end line
+pub same_end : (n : Netlist) (ms ns : List MemInfo) (xs : List Shown) → end_of (map (cycle_by n ms) xs) ≡ end_of (map (cycle_by n ns) xs)
 same_end n ms ns xs =
     let long : length (map (cycle_by n ms) xs) ≡ length (map (cycle_by n ns) xs) = length-map xs (cycle_by n ms) ∙ sym (length-map xs (cycle_by n ns)) in
     let ended = same_count n ms ns (λ (c : Cycle). c.ended) (λ x. refl) xs in
