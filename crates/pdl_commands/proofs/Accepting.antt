@@ -44,12 +44,12 @@ same_length zero = refl
 same_length (suc k) = ap suc (same_length k)
 
 -- a netlist that shows the turns of the machine of the pipe prints its lines
-prints : (p : Pipe) (n : Netlist) (image : List (List ℕ)) (cycles : ℕ) → n.mems ≡ infos_of p.mems → IsImage n.mems image → ShowsTurns (flat p) n
+prints : (p : Pipe) (n : Netlist) (image : List (List ℕ)) (cycles : ℕ) → IsImage n.mems image → ShowsTurns p n
     → run_text n image (schedule cycles) ≡ run_lines p image (replies cycles)
-prints p n image cycles e i h = ap₂ lines (ap (map column_of) e ∙ told_columns p.mems) (h image (schedule cycles) (replies cycles) i (same_length cycles))
+prints p n image cycles i h = h.lines image (schedule cycles) (replies cycles) i (same_length cycles)
 
 -- and what it prints is the output of a run of the pipe
-pub is_output : (p : Pipe) (n : Netlist) (words : List (List ℕ)) (cycles : ℕ) (text : List ℕ) → KeepsRules p → Follows p n → RefinesThreads p n → ShowsTurns (flat p) n
+pub is_output : (p : Pipe) (n : Netlist) (words : List (List ℕ)) (cycles : ℕ) (text : List ℕ) → KeepsRules p → Follows p n → RefinesThreads p n → ShowsTurns p n
     → IsImage n.mems words → text ≡ run_text n words (schedule cycles)
     → (holds : Option Held) (source image' : List ℕ) → IsLoaded holds source image' p words → IsOutput holds source image' cycles text
 is_output p n words cycles text kept follows writes turns image printed holds source image' loaded =
@@ -58,7 +58,7 @@ is_output p n words cycles text kept follows writes turns image printed holds so
       pipe = p;
       words = words;
       loaded = loaded;
-      lines = printed ∙ prints p n words cycles follows.mems image turns;
+      lines = printed ∙ prints p n words cycles image turns;
       netlist = n;
       follows = follows;
       writes = writes;
@@ -74,7 +74,7 @@ both_ok (Ok x) P Q R f p q = f x p q
 both_ok (Err e) P Q R f p q = tt
 
 -- its text is what is built of the pipe
-pub is_built : (p : Pipe) (n : Netlist) (text : List ℕ) → KeepsRules p → Follows p n → RefinesThreads p n → ShowsTurns (flat p) n → text ≡ verilog n → IsTextOf text n
+pub is_built : (p : Pipe) (n : Netlist) (text : List ℕ) → KeepsRules p → Follows p n → RefinesThreads p n → ShowsTurns p n → text ≡ verilog n → IsTextOf text n
     → (holds : Option Held) (source b : List ℕ) → Gives holds source b → IsAccepted b p → IsBuilt holds source text
 is_built p n text kept follows writes turns written read holds source b given accepted = record {
   pipe = p;
@@ -86,7 +86,7 @@ is_built p n text kept follows writes turns written read holds source b given ac
   writes = writes;
   written = written;
   read = read;
-  lines = λ words cycles image. prints p n words cycles follows.mems image turns;
+  lines = λ words cycles image. prints p n words cycles image turns;
   refines = λ words cycles. refines b p accepted.text kept (arrays_of words) (replies cycles);
   moves = λ words cycles. advances b p accepted.text kept (arrays_of words) (replies cycles) [];
   pace = λ words cycles. paces b p accepted.text kept (arrays_of words) (replies cycles);

@@ -14,8 +14,9 @@ use Rattle.pdl_image.specs.Images.{IsImage}
 use Rattle.pdl_sources.proofs.Promised.{paces}
 use Rattle.pdl_net.specs.declared.Netlist.{Netlist}
 use Rattle.pdl_net.specs.Run.{start as begin, nports}
-use Rattle.pdl_pipe_law.specs.Runs.{cycle_of, ShowsTurns}
+use Rattle.pdl_pipe_law.specs.Runs.{cycle_of, commit_mems, ShowsTurns}
 use Rattle.pdl_pipe_law.specs.Follows.{Follows}
+use Rattle.pdl_pipe_law.proofs.Lines.{same_end}
 use Rattle.pdl_runs.specs.declared.print.Counts.{Counts}
 use Rattle.pdl_commands.specs.Commands.{IsAccepted, IsSummary, replies}
 use Rattle.pdl_runs.specs.Printed.{schedule}
@@ -59,7 +60,7 @@ is_image ws ms = record { count = length-map ms (words_in ws); depth = depths ws
 
 -- the counts of a netlist that shows the turns of the machine of the pipe
 pub is_summary : (p : Pipe) (n : Netlist) (words : List ℕ) (start : List (List ℕ)) (cycles : ℕ) (counts : Counts) (line : List ℕ)
-    → KeepsRules p → Follows p n → ShowsTurns (flat p) n → IsImage n.mems start → start ≡ image_of words (infos_of p.mems)
+    → KeepsRules p → Follows p n → ShowsTurns p n → IsImage n.mems start → start ≡ image_of words (infos_of p.mems)
     → counts ≡ counts_of (map (cycle_of n) (nports n start (schedule cycles))) → line ≡ line_of cycles counts
     → (source : List ℕ) → IsAccepted source p → IsSummary source words cycles line
 is_summary p n words start cycles counts line kept follows turns image filled e said source accepted =
@@ -70,7 +71,10 @@ is_summary p n words start cycles counts line kept follows turns image filled e 
       accepted = accepted;
       start = start;
       filled = filled;
-      counted = shown ∙ ap end_of (turns start (schedule cycles) (replies cycles) image (same_length cycles));
+      counted =
+          shown
+          ∙ same_end n (commit_mems n) (infos_of p.mems) (nports n start (schedule cycles))
+          ∙ ap end_of (turns.cycles start (schedule cycles) (replies cycles) image (same_length cycles));
       netlist = n;
       follows = follows;
       shown = shown;

@@ -54,7 +54,7 @@ module _ (p : tree.Pipe) (rules : KeepsRules p) (source : IsTrue (is_source p)) 
   finished ls vs moves n made same =
       let comb = comb_mems p can in
       let follows = follows_source p rules source (linear_body p can) comb is_simple.no_verify named ls vs moves n made same in
-      let turns = shows_turns_made (flat p) p.mems refl (declared p rules comb).distinct is_fit ls vs (no_gates ls) moves n made.mems made.compiled follows.shows in
+      let turns = shows_turns_made p (declared p rules comb).distinct is_fit ls vs (no_gates ls) moves n made.mems made.compiled follows.shows in
       record {
         follows = follows;
         refines = refines_threads p n (whole_refines (flat p) (of_source p rules source named)) turns;

@@ -45,8 +45,8 @@ machine_sequential p image schedule r =
       end = λ m. rw (commits_same m ts) (r.end m);
     }
 
-pub refines_threads : (p : tree.Pipe) (n : Netlist) → ((image : Arrays) (schedule : List (List Bool)) → Refines (flat p) image schedule) → ShowsTurns (flat p) n → RefinesThreads p n
+pub refines_threads : (p : tree.Pipe) (n : Netlist) → ((image : Arrays) (schedule : List (List Bool)) → Refines (flat p) image schedule) → ShowsTurns p n → RefinesThreads p n
 refines_threads p n refines turned image schedule shaped =
     let none = no_replies schedule in
-    subst (AreSequential (flat p) (arrays_of image) none) (sym (turned image schedule none shaped (length-map schedule (λ (bits : ℕ). []))))
+    subst (AreSequential (flat p) (arrays_of image) none) (sym (turned.cycles image schedule none shaped (length-map schedule (λ (bits : ℕ). []))))
     (machine_sequential (flat p) (arrays_of image) none (refines (arrays_of image) none))

@@ -1,7 +1,6 @@
 -- What is promised of the netlist of a pipe.
 use Rattle.std.specs.Prelude.{◌≡◌, ◌≤◌, []}
 use Rattle.pdl_semantics.specs.Tree as tree
-use Rattle.pdl_semantics.specs.Flatten.{flat}
 use Rattle.pdl_net.specs.declared.Netlist.{Netlist}
 use Rattle.pdl_net.specs.Run.{delayed_mems}
 use Rattle.pdl_pipe_law.specs.Runs.{ShowsTurns, output_count}
@@ -12,6 +11,6 @@ use Rattle.pdl_pipe.specs.Refined.{RefinesThreads}
 pub record IsFinished (p : tree.Pipe) (n : Netlist) : Type 0 where
   pub follows : Follows p n
   pub refines : RefinesThreads p n
-  pub turns : ShowsTurns (flat p) n
+  pub turns : ShowsTurns p n
   pub here : delayed_mems n ≡ []
   pub outputs : 2 ≤ output_count n

@@ -8,10 +8,11 @@ use Rattle.pdl_semantics.specs.Stages.{mem_at}
 use Rattle.pdl_semantics.specs.Lines.{Put, Cycle}
 use Rattle.pdl_semantics.specs.Cycle.{first, state_after}
 use Rattle.pdl_semantics.specs.Promises.{IsPrefix, row, wrote}
+use Rattle.pdl_rules.specs.Memories.{infos_of}
 use Rattle.pdl_net.specs.declared.Netlist.{Netlist}
 use Rattle.pdl_net.specs.Run.{nports}
 use Rattle.pdl_image.specs.Images.{IsImage}
-use Rattle.pdl_pipe_law.specs.Runs.{cycle_of}
+use Rattle.pdl_pipe_law.specs.Runs.{cycle_by}
 
 -- the writes that reach memory m in some cycles, in order
 abbrev pub writes_to : ℕ → List Put → List Commit
@@ -26,9 +27,9 @@ commits_in m (c ∷ cs) = writes_to m (slice_index_or c.puts m []) ++ commits_in
 abbrev pub ended_in : List Cycle → ℕ
 ended_in cs = count_by (λ c. c.ended) cs
 
--- the cycles of a run of the netlist, by its commit ports and `ended`
-abbrev pub cycles_of : Netlist → List (List ℕ) → List ℕ → List Cycle
-cycles_of n image schedule = map (cycle_of n) (nports n image schedule)
+-- the cycles of a run of the netlist, by `ended` and the commit ports of the pipe's memories, in declared order
+abbrev pub cycles_of : tree.Pipe → Netlist → List (List ℕ) → List ℕ → List Cycle
+cycles_of p n image schedule = map (cycle_by n (infos_of p.mems)) (nports n image schedule)
 
 -- what a memory receives in these cycles has all sequential writes of the threads that ended, and is a prefix of the sequential writes of as many threads more as there are stages; a memory without lock receives nothing; the machine's array at the end is the image with what was received, in order
 pub record AreSequential (p : Pipe) (image : Arrays) (schedule : List (List Bool)) (cs : List Cycle) : Type 0 where
@@ -44,4 +45,4 @@ no_replies schedule = map (λ (bits : ℕ). []) schedule
 -- from each image, with each schedule
 abbrev pub RefinesThreads : tree.Pipe → Netlist → Type 0
 RefinesThreads p n =
-    (image : List (List ℕ)) (schedule : List ℕ) → IsImage n.mems image → AreSequential (flat p) (arrays_of image) (no_replies schedule) (cycles_of n image schedule)
+    (image : List (List ℕ)) (schedule : List ℕ) → IsImage n.mems image → AreSequential (flat p) (arrays_of image) (no_replies schedule) (cycles_of p n image schedule)

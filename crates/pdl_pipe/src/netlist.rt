@@ -1,7 +1,6 @@
 // The netlist of a pipe.
 ghost use Rattle.std.specs.Prelude.{◌≡◌, ◌≤◌, [], IfOk, OnOk, length};
 ghost use Rattle.pdl_tree.specs.View.{pipe_view};
-ghost use Rattle.pdl_semantics.specs.Flatten.{flat};
 ghost use Rattle.pdl_form.specs.Form.{form_of};
 ghost use Rattle.pdl_form.specs.Whole.{form};
 ghost use Rattle.pdl_build.specs.Change.{empty_circuit};
@@ -170,7 +169,7 @@ fn compile_with<L: LockModule + Copy>(
 pub fn compile(alloc: Global, accepted: &Accepted) -> Result<Netlist, NoMemory>
     ensures follows { IfOk result (λ n. Follows (pipe_view accepted.now.typed.pipe) n) }
     ensures refines { IfOk result (λ n. RefinesThreads (pipe_view accepted.now.typed.pipe) n) }
-    ensures turns { IfOk result (λ n. ShowsTurns (flat (pipe_view accepted.now.typed.pipe)) n) }
+    ensures turns { IfOk result (λ n. ShowsTurns (pipe_view accepted.now.typed.pipe) n) }
     ensures mems { IfOk result (λ n. n.mems ≡ accepted.now.mems) }
     ensures here { IfOk result (λ n. delayed_mems n ≡ []) }
     ensures outputs { IfOk result (λ n. 2 ≤ output_count n) }

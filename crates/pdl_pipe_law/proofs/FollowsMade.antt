@@ -61,5 +61,5 @@ module _ (p : tree.Pipe) (declared : AreDeclared p.mems) (most : length (flat p)
       none_delayed_here e = ap (λ (l : List MemInfo). filter (λ (m : MemInfo). m.delayed) l) e ∙ none_delayed p.mems declared.comb
 
   -- and prints the machine's lines
-  pub prints : ShowsTurns (flat p) n
-  prints = shows_turns_made (flat p) p.mems refl declared.distinct fit ls vs gates moves n made.mems made.compiled follows.shows
+  pub prints : ShowsTurns p n
+  prints = shows_turns_made p declared.distinct fit ls vs gates moves n made.mems made.compiled follows.shows

@@ -25,6 +25,7 @@ pub mod Runs
 pub mod LinesMachine
 pub mod LinesNames
 pub mod LinesPorts
+pub mod LinesColumns
 pub mod Lines
 pub mod Establish
 pub mod Stood

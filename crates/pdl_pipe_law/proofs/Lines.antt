@@ -1,15 +1,17 @@
 -- A netlist that shows the machine of a pipe has the machine's lines: what its outputs say by their names and places is what the machine does.
-use Rattle.std.proofs.Common.{◌≡◌, ℕ, ◌+◌, ◌-◌, ◌==◌, Bool, true, false, List, [], ◌∷◌, ◌++◌, length, map, codes, refl, sym, ap, ap₂, ◌∙◌, subst, arith, append_assoc}
-use Rattle.std.specs.Prelude.{slice_index}
+use Rattle.std.proofs.Common.{◌≡◌, ℕ, suc, ◌+◌, ◌-◌, ◌==◌, Bool, true, false, List, [], ◌∷◌, ◌++◌, length, map, codes, refl, sym, ap, ap₂, ◌∙◌, subst, arith, append_assoc}
+use Rattle.std.specs.Prelude.{slice_index, count_by, if◌then◌else◌}
 use Rattle.std.proofs.lemmas.List.{length-map, length-append, get_or_at}
+use Rattle.std.proofs.lemmas.List.Sums.{sum_by-cons}
 use Rattle.pdl_word.specs.Words.{bit}
 use Rattle.pdl_kit.specs.declared.mem_info.MemInfo.{MemInfo}
+use Rattle.pdl_semantics.specs.Tree as tree
 use Rattle.pdl_semantics.specs.Tree.{Mem}
 use Rattle.pdl_semantics.specs.Flat.{Pipe, arrays_of}
 use Rattle.pdl_semantics.specs.Flat
-use Rattle.pdl_semantics.specs.Flatten.{mems_of}
+use Rattle.pdl_semantics.specs.Flatten.{flat, mems_of}
 use Rattle.pdl_semantics.specs.Cycle.{Ports, Turn, turns}
-use Rattle.pdl_semantics.specs.Lines.{Put, Cycle, put_of, puts_in, turn_cycle, turn_cycles}
+use Rattle.pdl_semantics.specs.Lines.{Put, Cycle, columns, cycle_lines, lines_from, end_line, lines, put_of, puts_in, turn_cycle, turn_cycles}
 use Rattle.pdl_rules.specs.Typed.{AreDistinct}
 use Rattle.pdl_net.specs.declared.Netlist.{Netlist}
 use Rattle.pdl_net.specs.Circuit.{circuit_of, outputs_of}
@@ -21,11 +23,12 @@ use Rattle.pdl_pipe_law.specs.Views.{Gates, View}
 use Rattle.pdl_pipe_law.specs.Declared.{locked_of, mem_names}
 use Rattle.pdl_machine_facts.specs.Fit.{IsFit}
 use Rattle.pdl_pipe_law.specs.Compiled.{IsCompiled}
-use Rattle.pdl_pipe_law.specs.Runs.{Seen, seen_of, had, ShowsMachine, puts_of, output_count, cycle_of, ShowsTurns}
+use Rattle.pdl_pipe_law.specs.Runs.{Seen, seen_of, had, ShowsMachine, column_of, puts_of, output_count, cycle_by, cycle_of, commit_mems, ShowsTurns}
 use Rattle.pdl_pipe_law.proofs.WellFormedPorts.{stage_names, commit_names}
 use Rattle.pdl_pipe_law.proofs.LinesMachine.{AreCommits, IsShaped, AllShaped, turns_shaped}
 use Rattle.pdl_pipe_law.proofs.LinesNames.{name_of_output, HasNames, names_made}
 use Rattle.pdl_pipe_law.proofs.LinesPorts.{named_value, port_is, past_stages, stages_same, after, after_same, found, flag_is, addr_is, word_is, put_in, put_cases, same_put, each_found}
+use Rattle.pdl_pipe_law.proofs.LinesColumns.{AreFound, declared_found, locked_infos, locked_shown, locked_lines}
 use Rattle.pdl_rules.specs.Memories.{info_of}
 
 -- functions that are the same at each element
@@ -50,7 +53,28 @@ last_two xs a b n e =
 abbrev cycle : List (List Put) → Bool → Bool → Bool → Cycle
 cycle puts ended wait squash = record { puts = puts; ended = ended; wait = wait; squash = squash }
 
-module _ (p : Pipe) (ms : List Mem) (same : p.mems ≡ mems_of ms) (n : Netlist) (distinct : AreDistinct ms) (mems : n.mems ≡ map info_of ms) (named : HasNames p ms n) where
+-- which memories are shown changes no count that doesn't ask them
+pub same_count : (n : Netlist) (ms ns : List MemInfo) (test : Cycle → Bool) → ((x : Shown) → test (cycle_by n ms x) ≡ test (cycle_by n ns x)) → (xs : List Shown) → count_by test (map (cycle_by n ms) xs) ≡ count_by test (map (cycle_by n ns) xs)
+same_count n ms ns test h [] = refl
+same_count n ms ns test h (x ∷ xs) =
+    sum_by-cons (λ c. if test c then 1 else 0) (cycle_by n ms x) (map (cycle_by n ms) xs)
+    ∙ ap₂ (λ b k. (if b then 1 else 0) + k) (h x) (same_count n ms ns test h xs)
+    ∙ sym (sum_by-cons (λ c. if test c then 1 else 0) (cycle_by n ns x) (map (cycle_by n ns) xs))
+
+-- the end line of these cycles
+abbrev pub end_of : List Cycle → List ℕ
+end_of cs = end_line (length cs) (count_by (λ (c : Cycle). c.ended) cs) (count_by (λ (c : Cycle). c.wait) cs) (count_by (λ (c : Cycle). c.squash) cs)
+
+-- nor does it change the end line
+pub same_end : (n : Netlist) (ms ns : List MemInfo) (xs : List Shown) → end_of (map (cycle_by n ms) xs) ≡ end_of (map (cycle_by n ns) xs)
+same_end n ms ns xs =
+    let long : length (map (cycle_by n ms) xs) ≡ length (map (cycle_by n ns) xs) = length-map xs (cycle_by n ms) ∙ sym (length-map xs (cycle_by n ns)) in
+    let ended = same_count n ms ns (λ (c : Cycle). c.ended) (λ x. refl) xs in
+    let waits = same_count n ms ns (λ (c : Cycle). c.wait) (λ x. refl) xs in
+    let squashes = same_count n ms ns (λ (c : Cycle). c.squash) (λ x. refl) xs in
+    rw (long, ended, waits, squashes) refl
+
+module _ (p : Pipe) (ms : List Mem) (same : p.mems ≡ mems_of ms) (n : Netlist) (distinct : AreDistinct ms) (there : AreFound ms n.mems) (named : HasNames p ms n) where
   -- ---- one cycle
 
   module _ (o : Ports) (shape : IsShaped p o) where
@@ -90,30 +114,51 @@ module _ (p : Pipe) (ms : List Mem) (same : p.mems ≡ mems_of ms) (n : Netlist)
         (look (codes "cd_" ++ m) (λ names vals l. past_stages (codes "cd_" ++ m) (λ j. refl) (λ j. refl) 0 (length p.stages) names o.valid o.moves vals shape.valid shape.moves)
         ∙ word_is ms o.commits (bit o.ended) (bit o.squash) m commits)
 
+    -- what a memory commits by its ports, and what it does
+    abbrev by_ports : MemInfo → List Put
+    by_ports m = puts_of (commit_of (circuit_of n) (port_values p o) m.name)
+
+    abbrev by_turn : MemInfo → List Put
+    by_turn m = put_of (found ms o.commits m.name)
+
+    by_name : (m : MemInfo) → by_ports m ≡ by_turn m
+    by_name m = ap puts_of (commit_found m.name) ∙ same_put (found ms o.commits m.name)
+
     -- and memory by memory
-    commits_are : map (λ (m : MemInfo). puts_of (commit_of (circuit_of n) (port_values p o) m.name)) n.mems ≡ puts_in o.commits
-    commits_are =
-        ap (map (λ (m : MemInfo). puts_of (commit_of (circuit_of n) (port_values p o) m.name))) mems
-        ∙ map_same _ (λ (m : MemInfo). put_of (found ms o.commits m.name)) (λ m. ap puts_of (commit_found m.name) ∙ same_put (found ms o.commits m.name)) (map info_of ms)
-        ∙ each_found (found ms o.commits) ms o.commits distinct commits (λ m a. refl)
+    commits_are : map by_ports (map info_of ms) ≡ puts_in o.commits
+    commits_are = map_same by_ports by_turn by_name (map info_of ms) ∙ each_found (found ms o.commits) ms o.commits distinct commits (λ m a. refl)
+
+    -- and as lines, by the commit ports in their order
+    lines_are : (number : ℕ) → cycle_lines number (map column_of (commit_mems n)) (map by_ports (commit_mems n)) ≡ cycle_lines number (columns ms) (puts_in o.commits)
+    lines_are number =
+        ap (λ l. cycle_lines number (map column_of l) (map by_ports l)) (locked_shown n ms (length p.stages) named.names there)
+        ∙ ap (cycle_lines number (map column_of (locked_infos ms))) (map_same by_ports by_turn by_name (locked_infos ms))
+        ∙ locked_lines (found ms o.commits) number ms o.commits distinct commits (λ m a. refl)
 
     last_are : (slice_index (port_values p o) (output_count n - 2) ≡ bit o.ended) × (slice_index (port_values p o) (output_count n - 1) ≡ bit o.squash)
     last_are = last_two (stage_values o.valid o.moves ++ all_commit_values p.mems o.commits) (bit o.ended) (bit o.squash) (output_count n) count
 
   -- what is seen of a cycle is the machine's
-  cycle_is : (x : Shown) (t : Turn) → IsShaped p t.ports → seen_of x ≡ had p t → cycle_of n x ≡ turn_cycle t
+  cycle_is : (x : Shown) (t : Turn) → IsShaped p t.ports → seen_of x ≡ had p t → cycle_by n (map info_of ms) x ≡ turn_cycle t
   cycle_is x t shape e =
       let ports : x.ports ≡ port_values p t.ports = ap (λ (s : Seen). s.ports) e in
       let wait : x.waited ≡ t.wait = ap (λ (s : Seen). s.wait) e in
       let last = last_are t.ports shape in
-      ap₂ (λ ps w. cycle (map (λ (m : MemInfo). puts_of (commit_of (circuit_of n) ps m.name)) n.mems) (slice_index ps (output_count n - 2) == 1) w (slice_index ps (output_count n - 1) == 1)) ports wait
+      ap₂ (λ ps w. cycle (map (λ (m : MemInfo). puts_of (commit_of (circuit_of n) ps m.name)) (map info_of ms)) (slice_index ps (output_count n - 2) == 1) w (slice_index ps (output_count n - 1) == 1)) ports wait
       ∙ ap (λ puts. cycle puts (slice_index (port_values p t.ports) (output_count n - 2) == 1) t.wait (slice_index (port_values p t.ports) (output_count n - 1) == 1)) (commits_are t.ports shape)
       ∙ ap₂ (λ a b. cycle (puts_in t.ports.commits) (a == 1) t.wait (b == 1)) last.0 last.1
       ∙ ap₂ (λ a b. cycle (puts_in t.ports.commits) a t.wait b) (bit_one t.ports.ended) (bit_one t.ports.squash)
 
+  -- and so are its lines
+  puts_are : (number : ℕ) (x : Shown) (t : Turn) → IsShaped p t.ports → seen_of x ≡ had p t → cycle_lines number (map column_of (commit_mems n)) (cycle_of n x).puts ≡ cycle_lines number (columns ms) (turn_cycle t).puts
+  puts_are number x t shape e =
+      let ports : x.ports ≡ port_values p t.ports = ap (λ (s : Seen). s.ports) e in
+      ap (λ ps. cycle_lines number (map column_of (commit_mems n)) (map (λ (m : MemInfo). puts_of (commit_of (circuit_of n) ps m.name)) (commit_mems n))) ports
+      ∙ lines_are t.ports shape number
+
   -- ---- all cycles
 
-  cycles_are : (xs : List Shown) (ts : List Turn) → AllShaped p ts → map seen_of xs ≡ map (had p) ts → map (cycle_of n) xs ≡ turn_cycles ts
+  cycles_are : (xs : List Shown) (ts : List Turn) → AllShaped p ts → map seen_of xs ≡ map (had p) ts → map (cycle_by n (map info_of ms)) xs ≡ turn_cycles ts
   cycles_are [] [] h e = refl
   cycles_are [] (t ∷ ts) h e = absurd (cc e)
   cycles_are (x ∷ xs) [] h e = absurd (cc e)
@@ -122,13 +167,28 @@ module _ (p : Pipe) (ms : List Mem) (same : p.mems ≡ mems_of ms) (n : Netlist)
       let others : map seen_of xs ≡ map (had p) ts = cc e in
       ap₂ (λ y ys. y ∷ ys) (cycle_is x t h.0 first) (cycles_are xs ts h.1 others)
 
--- a netlist that shows the machine, with the names of its ports, has the machine's lines
-pub shows_turns : (p : Pipe) (ms : List Mem) → p.mems ≡ mems_of ms → AreDistinct ms → IsFit p → (n : Netlist) → n.mems ≡ map info_of ms → HasNames p ms n → ShowsMachine p n → ShowsTurns p n
-shows_turns p ms same distinct fit n mems named shows image schedule replies is_image l =
-    cycles_are p ms same n distinct mems named (nports n image schedule) (turns p (arrays_of image) replies)
-    (turns_shaped p fit (arrays_of image) replies)
-    (shows image schedule replies is_image l)
+  puts_lines : (number : ℕ) (xs : List Shown) (ts : List Turn) → AllShaped p ts → map seen_of xs ≡ map (had p) ts → lines_from number (map column_of (commit_mems n)) (map (cycle_of n) xs) ≡ lines_from number (columns ms) (turn_cycles ts)
+  puts_lines number [] [] h e = refl
+  puts_lines number [] (t ∷ ts) h e = absurd (cc e)
+  puts_lines number (x ∷ xs) [] h e = absurd (cc e)
+  puts_lines number (x ∷ xs) (t ∷ ts) h e =
+      let first : seen_of x ≡ had p t = cc e in
+      let others : map seen_of xs ≡ map (had p) ts = cc e in
+      ap₂ (λ a b. a ++ b) (puts_are number x t h.0 first) (puts_lines (suc number) xs ts h.1 others)
+
+  all_lines : (xs : List Shown) (ts : List Turn) → AllShaped p ts → map seen_of xs ≡ map (had p) ts → lines (map column_of (commit_mems n)) (map (cycle_of n) xs) ≡ lines (columns ms) (turn_cycles ts)
+  all_lines xs ts h e =
+      ap₂ (λ a b. a ++ b) (puts_lines 1 xs ts h e)
+      (same_end n (commit_mems n) (map info_of ms) xs ∙ ap end_of (cycles_are xs ts h e))
+
+-- a netlist that shows the machine, with the names of its ports and each memory by its name, has the machine's lines
+pub shows_turns : (p : tree.Pipe) → AreDistinct p.mems → IsFit (flat p) → (n : Netlist) → AreFound p.mems n.mems → HasNames (flat p) p.mems n → ShowsMachine (flat p) n → ShowsTurns p n
+shows_turns p distinct fit n there named shows = record {
+  cycles = λ image schedule replies is_image l. cycles_are (flat p) p.mems refl n distinct there named (nports n image schedule) (turns (flat p) (arrays_of image) replies) (turns_shaped (flat p) fit (arrays_of image) replies) (shows image schedule replies is_image l);
+  lines = λ image schedule replies is_image l. all_lines (flat p) p.mems refl n distinct there named (nports n image schedule) (turns (flat p) (arrays_of image) replies) (turns_shaped (flat p) fit (arrays_of image) replies) (shows image schedule replies is_image l);
+}
 
 -- a compiled one has those names
-pub shows_turns_made : (p : Pipe) (ms : List Mem) → p.mems ≡ mems_of ms → AreDistinct ms → IsFit p → (ls : Locks) (vs : ℕ → View) (gates : Gates) (moves : ℕ → Signal) (n : Netlist) → n.mems ≡ map info_of ms → IsCompiled p (mem_names ms) ls vs gates moves (circuit_of n) → ShowsMachine p n → ShowsTurns p n
-shows_turns_made p ms same distinct fit ls vs gates moves n mems made = shows_turns p ms same distinct fit n mems (names_made p ms same ls vs gates moves n made)
+pub shows_turns_made : (p : tree.Pipe) → AreDistinct p.mems → IsFit (flat p) → (ls : Locks) (vs : ℕ → View) (gates : Gates) (moves : ℕ → Signal) (n : Netlist) → n.mems ≡ map info_of p.mems → IsCompiled (flat p) (mem_names p.mems) ls vs gates moves (circuit_of n) → ShowsMachine (flat p) n → ShowsTurns p n
+shows_turns_made p distinct fit ls vs gates moves n mems made =
+    shows_turns p distinct fit n (subst (AreFound p.mems) (sym mems) (declared_found p.mems distinct)) (names_made (flat p) p.mems refl ls vs gates moves n made)

@@ -206,7 +206,7 @@ found_if : (l : Option LockDecl) (e rest : Option PortWrite) → (has_lock (flat
 found_if None e rest h r = r ∙ sym (h refl)
 found_if (Some l) e rest h r = refl
 
-found_first : (m : Mem) (ms : List Mem) (e : Option PortWrite) (es : List (Option PortWrite)) → is_memory ms m.name.name ≡ false → (has_lock (flat_lock m.lock) ≡ false → e ≡ None) → found (m ∷ ms) (e ∷ es) m.name.name ≡ e
+pub found_first : (m : Mem) (ms : List Mem) (e : Option PortWrite) (es : List (Option PortWrite)) → is_memory ms m.name.name ≡ false → (has_lock (flat_lock m.lock) ≡ false → e ≡ None) → found (m ∷ ms) (e ∷ es) m.name.name ≡ e
 found_first m ms e es d h =
     ap (λ t. if t && is_some m.lock then e else found ms es m.name.name) (bytes_refl m.name.name)
     ∙ found_if m.lock e (found ms es m.name.name) h (found_none ms es m.name.name d)

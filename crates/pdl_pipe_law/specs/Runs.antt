@@ -1,15 +1,18 @@
 -- A netlist shows what the machine of a pipe shows.
-use Rattle.std.specs.Prelude.{◌≡◌, ℕ, ◌-◌, ◌==◌, ◌<◌, Bool, List, [], ◌∷◌, Option, Some, None, map, length, slice_index, slice_index_or}
+use Rattle.std.specs.Prelude.{◌≡◌, ℕ, ◌-◌, ◌==◌, ◌<◌, Bool, List, [], ◌∷◌, ◌++◌, Option, Some, None, map, filter_map, find, length, slice_index, slice_index_or, codes, bytes_eq}
 use Rattle.pdl_kit.specs.declared.mem_info.MemInfo.{MemInfo}
+use Rattle.pdl_semantics.specs.Tree as tree
 use Rattle.pdl_semantics.specs.Flat.{Pipe, arrays_of}
+use Rattle.pdl_semantics.specs.Flatten.{flat}
 use Rattle.pdl_semantics.specs.Stages.{mem_at}
 use Rattle.pdl_semantics.specs.Cycle.{Turn, turns}
-use Rattle.pdl_semantics.specs.Lines.{Column, Put, Cycle, turn_cycles}
+use Rattle.pdl_semantics.specs.Lines.{Column, Put, Cycle, turn_cycles, lines, run_lines}
 use Rattle.pdl_net.specs.declared.Netlist.{Netlist}
-use Rattle.pdl_net.specs.Circuit.{circuit_of, outputs_of}
+use Rattle.pdl_net.specs.Circuit.{Output, circuit_of, outputs_of}
 use Rattle.pdl_net.specs.Run.{Shown, nports, commit_of}
 use Rattle.pdl_image.specs.Images.{IsImage}
 use Rattle.pdl_machine_facts.specs.Ports.{port_values}
+use Rattle.pdl_rules.specs.Memories.{infos_of}
 use Rattle.pdl_pipe_law.specs.Walk.{Locks}
 
 -- what is seen of a cycle, and what the machine has
@@ -50,19 +53,40 @@ puts_of (Some (address, value)) = record { address = address; value = value } �
 abbrev pub output_count : Netlist → ℕ
 output_count n = length (outputs_of (circuit_of n))
 
--- a cycle as lines show it
-abbrev pub cycle_of : Netlist → Shown → Cycle
-cycle_of n seen = record {
-  puts = map (λ (m : MemInfo). puts_of (commit_of (circuit_of n) seen.ports m.name)) n.mems;
+-- a cycle by what these memories commit, by the names of their ports
+abbrev pub cycle_by : Netlist → List MemInfo → Shown → Cycle
+cycle_by n mems seen = record {
+  puts = map (λ (m : MemInfo). puts_of (commit_of (circuit_of n) seen.ports m.name)) mems;
   ended = slice_index seen.ports (output_count n - 2) == 1;
   wait = seen.waited;
   squash = slice_index seen.ports (output_count n - 1) == 1;
 }
 
--- and so each cycle has the machine's lines
-abbrev pub ShowsTurns : Pipe → Netlist → Type 0
-ShowsTurns p n =
-    (image : List (List ℕ)) (schedule : List ℕ) (replies : List (List Bool))
-    → IsImage n.mems image
-    → length replies ≡ length schedule
-    → map (cycle_of n) (nports n image schedule) ≡ turn_cycles (turns p (arrays_of image) replies)
+-- the memory whose commit port has this name
+abbrev pub commit_mem : List MemInfo → List ℕ → Option MemInfo
+commit_mem mems port = find (λ (m : MemInfo). bytes_eq port (codes "c_" ++ m.name)) mems
+
+-- the memories with a commit port, in the order of these ports
+abbrev pub commit_mems : Netlist → List MemInfo
+commit_mems n = filter_map (λ (o : Output). commit_mem n.mems o.name) (outputs_of (circuit_of n))
+
+-- a cycle as lines show it
+abbrev pub cycle_of : Netlist → Shown → Cycle
+cycle_of n seen = cycle_by n (commit_mems n) seen
+
+-- the lines of a run
+abbrev pub shown_lines : Netlist → List (List ℕ) → List ℕ → List ℕ
+shown_lines n image schedule =
+    lines (map column_of (commit_mems n)) (map (cycle_of n) (nports n image schedule))
+
+-- and so from each image and with each schedule, in each cycle each memory commits what the machine's does, and the lines are the machine's
+pub record ShowsTurns (p : tree.Pipe) (n : Netlist) : Type 0 where
+  pub cycles : (image : List (List ℕ)) (schedule : List ℕ) (replies : List (List Bool))
+      → IsImage n.mems image
+      → length replies ≡ length schedule
+      → map (cycle_by n (infos_of p.mems)) (nports n image schedule)
+      ≡ turn_cycles (turns (flat p) (arrays_of image) replies)
+  pub lines : (image : List (List ℕ)) (schedule : List ℕ) (replies : List (List Bool))
+      → IsImage n.mems image
+      → length replies ≡ length schedule
+      → shown_lines n image schedule ≡ run_lines p image replies

@@ -1,20 +1,20 @@
 // The text of a run.
 ghost use Rattle.std.specs.Prelude.{◌≡◌, ◌≤◌, ◌<◌, ◌+◌, ◌-◌, ◌++◌, ℕ, List, All, IfOk, OnOk, length, map, replicate, [], vec_len, if◌then◌else◌};
-ghost use Rattle.pdl_semantics.specs.Lines.{mem_lines, cycle_lines, lines_from, lines, end_line as end_text};
+ghost use Rattle.pdl_semantics.specs.Lines.{lines_from, lines, end_line as end_text};
 ghost use Rattle.pdl_net.specs.Circuit.{circuit_of, outputs_of};
-ghost use Rattle.pdl_net.specs.Run.{commit_of};
-ghost use Rattle.pdl_pipe_law.specs.Runs.{column_of, puts_of, cycle_of, output_count};
-ghost use Rattle.pdl_runs.specs.Printed.{cycles_from, run_text, schedule};
+ghost use Rattle.pdl_pipe_law.specs.Runs.{column_of, cycle_of, commit_mems, output_count};
+ghost use Rattle.pdl_runs.specs.Printed.{AreOrdered, cycles_from, run_text, schedule};
 ghost use Rattle.pdl_net.specs.Pipe.{IsWellFormed};
 ghost use Rattle.pdl_net.specs.Run.{delayed_mems, nports};
 ghost use Rattle.pdl_image.specs.Images.{IsImage};
 ghost use Rattle.pdl_runs.specs.Tally.{tallied_of, counts_of};
 
+use crate::commits::{commit_order, push_commits};
 use pdl_image::Image;
 use pdl_kit::{MemInfo, NoMemory};
 use pdl_net::{Dir, Netlist};
 use pdl_netrun::Sim;
-use pdl_trace::{commit_line, end_line};
+use pdl_trace::end_line;
 use std::alloc::Global;
 
 /// How many cycles a run has had, in how many a thread ended, a request stayed unanswered, and a squash happened.
@@ -23,39 +23,6 @@ pub struct Counts {
     pub ended: u32,
     pub waits: u32,
     pub squashes: u32,
-}
-
-// The line of what one memory commits in a cycle of this number, if it does.
-fn push_commit(
-    text: &mut Vec<u8>,
-    cycle: u32,
-    mem: &MemInfo,
-    commit: Option<(u64, u64)>,
-) -> Result<(), NoMemory>
-    requires name { length mem.now.name ≤ 32 }
-    requires width { mem.now.width ≤ 64 }
-    ensures { OnOk result (text.new.items
-        ≡ text.old.items ++ mem_lines cycle (column_of mem.now) (puts_of commit)) }
-{
-    if let Some((address, value)) = commit {
-        let line = commit_line(cycle, &mem.name, address, value, mem.width);
-        text.extend_from_slice(line.as_bytes())?;
-    }
-    Ok(())
-}
-
-// The lines of what the memories commit in the last cycle, which has this number.
-fn push_commits(text: &mut Vec<u8>, cycle: u32, mems: &[MemInfo], sim: &Sim) -> Result<(), NoMemory>
-    requires mems { mems.now ≡ sim.now.netlist.mems }
-    requires names { All (λ m. length m.name ≤ 32) mems.now }
-    requires widths { All (λ m. m.width ≤ 64) mems.now }
-    ensures { OnOk result (text.new.items ≡ text.old.items ++ cycle_lines cycle
-        (map column_of mems.now) (cycle_of sim.now.netlist sim.now.last).puts) }
-{
-    for (i, m) in mems.iter().enumerate() {
-        push_commit(text, cycle, m, sim.commit(i))?;
-    }
-    Ok(())
 }
 
 // One where it holds, else none.
@@ -85,17 +52,19 @@ fn run_cycles(
     text: &mut Vec<u8>,
     sim: &mut Sim,
     mems: &[MemInfo],
+    order: &[usize],
     outputs: usize,
     cycles: u32,
 ) -> Result<Counts, NoMemory>
     requires mems { mems.now ≡ sim.old.netlist.mems }
+    requires order { AreOrdered sim.old.netlist order.now }
     requires names { All (λ m. length m.name ≤ 32) mems.now }
     requires widths { All (λ m. m.width ≤ 64) mems.now }
     requires outputs { outputs ≡ output_count sim.old.netlist }
     requires two { 2 ≤ outputs }
     requires few { cycles ≤ 1000000 }
     ensures text { OnOk result (text.new.items ≡ text.old.items
-        ++ lines_from 1 (map column_of mems.now)
+        ++ lines_from 1 (map column_of (commit_mems sim.old.netlist))
         (cycles_from sim.old.netlist sim.old.held (schedule cycles))) }
     ensures counts { IfOk result
         (λ c. c ≡ counts_of (cycles_from sim.old.netlist sim.old.held (schedule cycles))) }
@@ -107,7 +76,7 @@ fn run_cycles(
     };
     for done in 0..cycles {
         sim.cycle(u16::MAX);
-        push_commits(text, done + 1, mems, sim)?;
+        push_commits(text, done + 1, mems, order, sim)?;
         counts = with_cycle(counts, sim, outputs);
     }
     Ok(counts)
@@ -119,21 +88,23 @@ fn print_run(
     alloc: Global,
     sim: &mut Sim,
     mems: &[MemInfo],
+    order: &[usize],
     outputs: usize,
     cycles: u32,
 ) -> Result<Vec<u8>, NoMemory>
     requires mems { mems.now ≡ sim.old.netlist.mems }
+    requires order { AreOrdered sim.old.netlist order.now }
     requires names { All (λ m. length m.name ≤ 32) mems.now }
     requires widths { All (λ m. m.width ≤ 64) mems.now }
     requires outputs { outputs ≡ output_count sim.old.netlist }
     requires two { 2 ≤ outputs }
     requires few { cycles ≤ 1000000 }
     ensures { IfOk result (λ t. t.items
-        ≡ lines (map column_of mems.now)
+        ≡ lines (map column_of (commit_mems sim.old.netlist))
         (cycles_from sim.old.netlist sim.old.held (schedule cycles))) }
 {
     let mut text = Vec::new(alloc);
-    let counts = run_cycles(&mut text, sim, mems, outputs, cycles)?;
+    let counts = run_cycles(&mut text, sim, mems, order, outputs, cycles)?;
     let line = end_line(cycles, counts.ended, counts.waits, counts.squashes);
     text.extend_from_slice(line.as_bytes())?;
     Ok(text)
@@ -182,11 +153,13 @@ pub fn run(alloc: Global, net: &Netlist, image: &Image, cycles: u32) -> Result<V
     requires few { cycles ≤ 1000000 }
     ensures { IfOk result (λ t. t.items ≡ run_text net.now image.now (schedule cycles)) }
 {
+    let order = commit_order(alloc, net)?;
     let mut sim = Sim::new(alloc, net, image)?;
     print_run(
         alloc,
         &mut sim,
         net.mems.as_slice(),
+        &order,
         count_outputs(net),
         cycles,
     )

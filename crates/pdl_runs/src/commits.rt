@@ -1,0 +1,85 @@
+// The lines of what the memories commit in a cycle, in the order of their commit ports.
+ghost use Rattle.std.specs.Prelude.{◌≡◌, ◌≤◌, ◌<◌, ◌++◌, All, IfOk, IfSome, OnOk, length, map, position, bytes_eq, codes};
+ghost use Rattle.pdl_semantics.specs.Lines.{mem_lines, cycle_lines};
+ghost use Rattle.pdl_pipe_law.specs.Runs.{column_of, puts_of, cycle_of, commit_mems};
+ghost use Rattle.pdl_runs.specs.Printed.{AreOrdered};
+
+use pdl_kit::{MemInfo, Name, NoMemory};
+use pdl_net::{Dir, Netlist};
+use pdl_netrun::Sim;
+use pdl_trace::commit_line;
+use std::alloc::Global;
+
+// Whether a port of this name is the one by which a memory of that name commits.
+fn is_commit_port(port: &[u8], mem: &Name) -> bool
+    ensures { result ≡ bytes_eq port.now (codes "c_" ++ mem.now) }
+{
+    match port.strip_prefix(b"c_") {
+        Some(name) => name == mem.as_bytes(),
+        None => false,
+    }
+}
+
+// The number of the memory whose commit port has this name.
+fn committing(mems: &[MemInfo], port: &[u8]) -> Option<usize>
+    ensures value { result ≡ position (λ m. bytes_eq port.now (codes "c_" ++ m.name)) mems.now }
+    ensures within { IfSome result (λ i. i < length mems.now) }
+{
+    mems.iter().position(|mem| is_commit_port(port, &mem.name))
+}
+
+/// The numbers of the memories with a commit port, in the order of these ports.
+pub fn commit_order(alloc: Global, net: &Netlist) -> Result<Vec<usize>, NoMemory>
+    ensures { IfOk result (λ v. AreOrdered net.now v.items) }
+{
+    let mut order = Vec::new(alloc);
+    for port in net.ports.as_slice() {
+        if let Dir::Out(_) = port.dir {
+            if let Some(mem) = committing(net.mems.as_slice(), port.name.as_bytes()) {
+                order.push(mem)?;
+            }
+        }
+    }
+    Ok(order)
+}
+
+// The line of what one memory commits in a cycle of this number, if it does.
+fn push_commit(
+    text: &mut Vec<u8>,
+    cycle: u32,
+    mem: &MemInfo,
+    commit: Option<(u64, u64)>,
+) -> Result<(), NoMemory>
+    requires name { length mem.now.name ≤ 32 }
+    requires width { mem.now.width ≤ 64 }
+    ensures { OnOk result (text.new.items
+        ≡ text.old.items ++ mem_lines cycle (column_of mem.now) (puts_of commit)) }
+{
+    if let Some((address, value)) = commit {
+        let line = commit_line(cycle, &mem.name, address, value, mem.width);
+        text.extend_from_slice(line.as_bytes())?;
+    }
+    Ok(())
+}
+
+/// The lines of what the memories commit in the last cycle, which has this number.
+pub fn push_commits(
+    text: &mut Vec<u8>,
+    cycle: u32,
+    mems: &[MemInfo],
+    order: &[usize],
+    sim: &Sim,
+) -> Result<(), NoMemory>
+    requires mems { mems.now ≡ sim.now.netlist.mems }
+    requires order { AreOrdered sim.now.netlist order.now }
+    requires names { All (λ m. length m.name ≤ 32) mems.now }
+    requires widths { All (λ m. m.width ≤ 64) mems.now }
+    ensures { OnOk result (text.new.items ≡ text.old.items ++ cycle_lines cycle
+        (map column_of (commit_mems sim.now.netlist))
+        (cycle_of sim.now.netlist sim.now.last).puts) }
+{
+    for i in order {
+        push_commit(text, cycle, &mems[*i], sim.commit(*i))?;
+    }
+    Ok(())
+}
