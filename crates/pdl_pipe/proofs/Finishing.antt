@@ -125,7 +125,7 @@ module _ (p : tree.Pipe) (rules : KeepsRules p) (source : IsTrue (is_source p)) 
     has_mems_here = has_mems p (declared p rules (comb_mems p can)) (few_stages p rules) is_fit ls vs (no_gates ls) goes n made beside
 
     -- its locks, which are used in each cycle as the machine's threads use them
-    with_locks : HasLocks l (flat p) n
+    with_locks : HasLocks l p n
     with_locks =
         let again = sym (locks_made l stays (form_of p) x d shown) in
         record {

@@ -21,4 +21,4 @@ pub record IsFinished (p : tree.Pipe) (n : Netlist) : Type 0 where
 -- and with the locks that the pipe asks for
 pub record IsWhole {T : Type 0} (l : Members T) (p : tree.Pipe) (n : Netlist) : Type 0 where
   pub finished : IsFinished p n
-  pub locks : HasLocks l (flat p) n
+  pub locks : HasLocks l p n

@@ -1,6 +1,8 @@
 -- The locks of a netlist: for each memory with a lock the one that the pipe asks for, by the laws of its module.
 use Rattle.std.specs.Prelude.{◌≡◌, ℕ, ◌<◌, List, [], length, slice_index, Option, Some}
+use Rattle.pdl_semantics.specs.Tree as tree
 use Rattle.pdl_semantics.specs.Flat.{Pipe, arrays_of}
+use Rattle.pdl_semantics.specs.Flatten.{flat}
 use Rattle.pdl_semantics.specs.Stages.{mem_at}
 use Rattle.pdl_semantics.specs.Machine.{lock_of}
 use Rattle.pdl_semantics.specs.Machine as machine
@@ -45,23 +47,23 @@ abbrev pub ports_of : {T : Type 0} → Members T → Netlist → Pipe → List (
 ports_of l n p locks views moves = step_of p views (no_gates (locks_in l (circuit_of n) locks)) moves
 
 -- a netlist with the locks that a pipe asks for
-pub record HasLocks {T : Type 0} (l : Members T) (p : Pipe) (n : Netlist) : Type 0 where
+pub record HasLocks {T : Type 0} (l : Members T) (p : tree.Pipe) (n : Netlist) : Type 0 where
   -- each memory with a lock has one, with the memory's array and registers that no other lock has
   pub locks : List (Option (MemLock T))
-  pub locked : AreLocked l (circuit_of n) p locks
+  pub locked : AreLocked l (circuit_of n) (flat p) locks
   -- it is of the kind and size that the memory asks for, and keeps the laws of its start, of the places in its array, of room and of the next ticket
-  pub lawful : AreLawful l (circuit_of n) p locks
+  pub lawful : AreLawful l (circuit_of n) (flat p) locks
   -- the stages go by these locks: each of their blocks and reads asks the memory's lock
   pub views : ℕ → View
   pub moves : ℕ → Signal
-  pub stages : (k : ℕ) → k < length p.stages → IsStage p (locks_in l (circuit_of n) locks) (circuit_of n) views (no_gates (locks_in l (circuit_of n) locks)) moves k
+  pub stages : (k : ℕ) → k < length (flat p).stages → IsStage (flat p) (locks_in l (circuit_of n) locks) (circuit_of n) views (no_gates (locks_in l (circuit_of n) locks)) moves k
   -- and so do their reservations, writes and releases: each lock keeps the laws of its step and of hidden values
   pub commits : List (Option LockNets)
-  pub stepped : AreStepped l (circuit_of n) p (ports_of l n p locks views moves) locks commits (length p.mems)
+  pub stepped : AreStepped l (circuit_of n) (flat p) (ports_of l n (flat p) locks views moves) locks commits (length (flat p).mems)
   -- in each cycle of each run, from each image, each lock is used as the machine's threads use it
   pub used : (image : List (List ℕ)) (schedule : List ℕ) (bits m : ℕ) (x : MemLock T)
-      → IsImage n.mems image → m < length p.mems → some_at locks m ≡ Some x
-      → IsUsed l p m x (ports_of l n p locks views moves m) (state_in (held_after n (start n image) schedule) bits) (state_after p (first p (arrays_of image)) (no_replies schedule))
+      → IsImage n.mems image → m < length (flat p).mems → some_at locks m ≡ Some x
+      → IsUsed l (flat p) m x (ports_of l n (flat p) locks views moves m) (state_in (held_after n (start n image) schedule) bits) (state_after (flat p) (first (flat p) (arrays_of image)) (no_replies schedule))
 
 -- what the definitions take of a lock of any kind
 abbrev pub any_lock : Members AnyLock

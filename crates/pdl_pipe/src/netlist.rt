@@ -171,10 +171,9 @@ fn compile_with<L: LockModule + Copy>(
 /// The netlist of an accepted pipe: it follows the pipe, what it writes to each memory is what the threads write that run one after another, and each memory with a lock has the lock that it asks for. The error is that memory ran out.
 pub fn compile(alloc: Global, accepted: &Accepted) -> Result<Netlist, NoMemory>
     ensures follows { IfOk result (λ n. Follows (pipe_view accepted.now.typed.pipe) n) }
+    ensures locks { IfOk result (λ n. HasLocks any_lock (pipe_view accepted.now.typed.pipe) n) }
     ensures refines { IfOk result (λ n. RefinesThreads (pipe_view accepted.now.typed.pipe) n) }
     ensures turns { IfOk result (λ n. ShowsTurns (flat (pipe_view accepted.now.typed.pipe)) n) }
-    ensures locks { IfOk result (λ n.
-        HasLocks any_lock (flat (pipe_view accepted.now.typed.pipe)) n) }
     ensures mems { IfOk result (λ n. n.mems ≡ accepted.now.mems) }
     ensures here { IfOk result (λ n. delayed_mems n ≡ []) }
     ensures outputs { IfOk result (λ n. 2 ≤ output_count n) }
