@@ -1,11 +1,15 @@
 -- What holds of a lock by its kind. Proofs on the machine and on netlists name no kind: what they need of the kinds is here.
-use Rattle.std.proofs.Common.{◌≡◌, refl, sym, ap, ◌∙◌, ℕ, ◌+◌, ◌*◌, ◌<◌, nat_lt, true, false, Some, ◌⊎◌, inl, inr, ltb-true, arith}
+use Rattle.std.proofs.Common.{◌≡◌, refl, sym, ap, ◌∙◌, ℕ, ◌+◌, ◌*◌, ◌<◌, nat_lt, true, false, [], Some, ◌⊎◌, inl, inr, ltb-true, arith}
+use Rattle.std.specs.Prelude.{slice_index_or}
 use Rattle.pdl_semantics.specs.Tree.{LockKind, Queue, Bypass, Rename, LockDecl}
 use Rattle.pdl_semantics.specs.Flat as flat
 use Rattle.pdl_semantics.specs.Flat.{Lock, has_lock}
 use Rattle.pdl_semantics.specs.Flatten.{flat_lock}
 use Rattle.pdl_semantics.specs.Locks.{has_room}
-use Rattle.pdl_lockapi.specs.Laws.{words_of}
+use Rattle.pdl_net.specs.Circuit.{Circuit, State}
+use Rattle.pdl_net.specs.Signal.{Signal}
+use Rattle.pdl_net.specs.Growth.{Own}
+use Rattle.pdl_lockapi.specs.Laws.{words_of, after_writes, IsNext, OwnKept, StepSignals, HidesLaw}
 use Rattle.pdl_lockapi.specs.Forget.{as_lock}
 use Rattle.pdl_lockapi.specs.Sizes.{size_of, words_in}
 
@@ -65,3 +69,18 @@ once_or_twice Rename d = inr (twice d)
   where
     twice : (n : ℕ) → n + n ≡ 2 * n
     twice n = omega arith
+
+-- HIDDEN VALUES
+
+-- a fragment has the same next states in a circuit that keeps what it takes next
+pub next_kept : (o : Own) (a b : Circuit) (s t : State) → OwnKept o a b → IsNext b o s t → IsNext a o s t
+next_kept o a b s t k n = record {
+  regs = λ i lo hi. n.regs i lo hi ∙ ap (λ (f : Signal). f.value s) (k.nexts i lo hi);
+  arrays = λ m lo hi. n.arrays m lo hi ∙ ap (λ ps. after_writes s ps (slice_index_or s.arrays m [])) (k.writes m lo hi);
+}
+
+-- and so it hides written values there too
+pub hides_kept : (k : LockKind) (o : Own) (a b : Circuit) (f : StepSignals) → OwnKept o a b → HidesLaw k a o f → HidesLaw k b o f
+hides_kept Queue o a b f k x = tt
+hides_kept Bypass o a b f k x = tt
+hides_kept Rename o a b f k x = record { same = λ s t u v same m n. x.same s t u v same (next_kept o a b s u k m) (next_kept o a b t v k n) }

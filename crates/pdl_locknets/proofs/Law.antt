@@ -22,7 +22,7 @@ use Rattle.pdl_stagenets.specs.Locked.{Members, some_at, of_lock, kind_in, locks
 use Rattle.pdl_locknets.specs.declared.deeds.StageDeeds.{StageDeeds}
 use Rattle.pdl_locknets.specs.Lawful.{AreLawful}
 use Rattle.pdl_locknets.specs.Deeds.{views_in, moves_in, AreOf}
-use Rattle.pdl_locknets.specs.Stepped.{own_of, AreStepped, ExtendsLocks, commit_of, commits_in}
+use Rattle.pdl_locknets.specs.Stepped.{own_of, IsSteppedMemory, AreStepped, ExtendsLocks, commit_of, commits_in}
 use Rattle.pdl_locknets.proofs.PortStages.{same_reserves, same_puts, same_released}
 use Rattle.pdl_locknets.proofs.LocksKept.{Stays, laws_kept, locked_kept, regs_end, ticket_kept}
 use Rattle.pdl_locknets.proofs.LockSteps.{stepped_kept}
@@ -96,6 +96,14 @@ module _ {T : Type 0} (l : Members T) (stays : Stays l) (p : Pipe) (xs : List (O
       let (x, e) = some_of (some_at xs m) (locked.locked m low ∙ h) in
       let (n, q) = some_of (some_at ns m) ((stepped.each m low).has ∙ locked.locked m low ∙ h) in
       has_lock_of x n e q
+
+  -- its step in the whole netlist, by what the netlist's stages do
+  pub stepped_here : IsSteppedMemory l c (mem_at p m) (step_of p vs (no_gates (locks_in l a xs)) goes m) (some_at xs m) (some_at ns m)
+  stepped_here =
+      let own_kept : (x : MemLock T) → some_at xs m ≡ Some x → OwnKept (own x.regs) b c = λ x e. subst (λ (o : Own). OwnKept o b c) (ap own_of e) kept in
+      let f = step_of p (views_in s ds) (no_gates (locks_in l s xs)) (moves_in s ds) m in
+      subst (λ (g : StepSignals). IsSteppedMemory l c (mem_at p m) g (some_at xs m) (some_at ns m)) (step_is l a s p xs ds vs goes m before locked count low of)
+      (record { has = (stepped.each m low).has; lock = λ x n e q. stepped_kept l b c (mem_at p m) f x n after (own_kept x e) ((stepped.each m low).lock x n e q) })
 
   -- what the memory commits has the memory's widths
   fits_of : (x : MemLock T) (n : LockNets) → some_at xs m ≡ Some x → some_at ns m ≡ Some n → ((commits_in c ns m).enable.width ≡ 1) × (2 ^ (commits_in c ns m).addr.width ≡ (mem_at p m).depth) × ((commits_in c ns m).value.width ≡ (mem_at p m).width)

@@ -12,7 +12,8 @@ use Rattle.pdl_net.specs.Growth.{Own, Outside, Keeps, ExtendsBut}
 use Rattle.pdl_net.proofs.Keeps.{but_keeps, keeps_refl, keeps_trans}
 use Rattle.pdl_lockapi.specs.declared.LockNets.{LockNets}
 use Rattle.pdl_lockapi.specs.Lock.{LockState}
-use Rattle.pdl_lockapi.specs.Laws.{first_reg, end_reg, first_array, end_array, own, after_writes, OwnKept, HasCommitNets, StepLaw, StepSignals}
+use Rattle.pdl_lockapi.specs.Laws.{first_reg, end_reg, first_array, end_array, own, after_writes, OwnKept, HasCommitNets, HidesLaw, StepLaw, StepSignals}
+use Rattle.pdl_lockapi.proofs.LockKinds.{next_kept, hides_kept}
 use Rattle.pdl_stagenets.specs.declared.locks.MemLock.{MemLock}
 use Rattle.pdl_stagenets.specs.Locked.{Members, some_at, IsLockIn, AreLocked}
 use Rattle.pdl_locknets.specs.Lawful.{AreLawful}
@@ -21,9 +22,10 @@ use Rattle.pdl_locknets.specs.Stepped.{own_of, IsStepped, IsSteppedMemory, AreSt
 -- ---- the step of one lock
 
 pub is_stepped : {T : Type 0} (l : Members T) (a c : Circuit) (m : ℕ) (mem : Mem) (f : StepSignals) (x : MemLock T) (n : LockNets) → IsLockIn l a m mem x → HasCommitNets c x.regs.bits x.regs.width n.commit n.addr n.value
-    → StepLaw (l.stands x.lock x.regs) (l.size x.lock) (l.tickets x.lock) (own x.regs) c f (signal c n.commit) (signal c n.addr) (signal c n.value) → IsStepped l c mem f x n
-is_stepped l a c m mem f x n i h law = record {
+    → StepLaw (l.stands x.lock x.regs) (l.size x.lock) (l.tickets x.lock) (own x.regs) c f (signal c n.commit) (signal c n.addr) (signal c n.value) → HidesLaw (l.kind x.lock) c (own x.regs) f → IsStepped l c mem f x n
+is_stepped l a c m mem f x n i h law hides = record {
   law = law;
+  hides = hides;
   commit_there = h.commit_there;
   commit_one = h.commit_one;
   addr_there = h.addr_there;
@@ -55,10 +57,7 @@ law_kept stands size tickets o a b f commit addr value commit' addr' value' k e 
       commits = x.commits;
       commits_addr = x.commits_addr;
       commits_value = x.commits_value;
-      next = λ s t y d z dr p n. x.next s t y d z dr p (record {
-        regs = λ i lo hi. n.regs i lo hi ∙ ap (λ (q : Signal). q.value s) (k.nexts i lo hi);
-        arrays = λ m lo hi. n.arrays m lo hi ∙ ap (λ ps. after_writes s ps (slice_index_or s.arrays m [])) (k.writes m lo hi);
-      });
+      next = λ s t y d z dr p n. x.next s t y d z dr p (next_kept o a b s t k n);
     } in
     let P : Signal → Type 0 = λ q. StepLaw stands size tickets o b f q addr value in
     let Q : Signal → Type 0 = λ q. StepLaw stands size tickets o b f commit' q value in
@@ -72,6 +71,7 @@ stepped_kept l a b mem f y n k w x =
     let h = k.kept n.value x.value_there in
     record {
       law = law_kept (l.stands y.lock y.regs) (l.size y.lock) (l.tickets y.lock) (own y.regs) a b f (signal a n.commit) (signal a n.addr) (signal a n.value) (signal b n.commit) (signal b n.addr) (signal b n.value) w e g h x.law;
+      hides = hides_kept (l.kind y.lock) (own y.regs) a b f w x.hides;
       commit_there = k.there n.commit x.commit_there;
       commit_one = ap (λ (q : Signal). q.width) e ∙ x.commit_one;
       addr_there = k.there n.addr x.addr_there;

@@ -50,6 +50,7 @@ lawful_kept stands kind size tickets a b r k room ticket x = record {
   some = x.some;
   regs = λ n lo hi. k.has_reg n (x.regs n lo hi);
   start = record { starts = λ s image z long words. x.start.starts s image (record { regs = λ n lo hi. z.regs n lo hi ∙ k.reset n (x.regs n lo hi) }) long words };
+  places = x.places;
   room = subst (λ f. RoomLaw stands size f) (sym (k.kept r.room room)) x.room;
   ticket = subst (λ f. TicketLaw stands tickets f) (sym (k.kept r.ticket ticket)) x.ticket;
 }

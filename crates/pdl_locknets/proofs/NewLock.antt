@@ -8,7 +8,7 @@ use Rattle.pdl_net.specs.Circuit.{Circuit, Shape, shape_of, shapes_of, no_array,
 use Rattle.pdl_net.specs.Meaning.{signal, write_signals}
 use Rattle.pdl_net.specs.Growth.{ExtendsArrays}
 use Rattle.pdl_lockapi.specs.declared.LockRegs.{LockRegs}
-use Rattle.pdl_lockapi.specs.Laws.{words_of, arrays_of, IsFragment, HasRegNets, HasNoPorts, StartLaw, RoomLaw, TicketLaw}
+use Rattle.pdl_lockapi.specs.Laws.{words_of, arrays_of, IsFragment, HasRegNets, HasNoPorts, StartLaw, PlacesLaw, RoomLaw, TicketLaw}
 use Rattle.pdl_lockapi.specs.Forget.{as_lock}
 use Rattle.pdl_lockapi.specs.Sizes.{words_in}
 use Rattle.pdl_lockapi.proofs.LockKinds.{words_are}
@@ -63,9 +63,9 @@ new_array old new r e n f = at r.array refl
 
 pub new_lock : {T : Type 0} (l : Members T) (old new : Circuit) (name : List ℕ) (mem : Mem) (x : MemLock T) → mem.delayed ≡ false → mem.lock ≡ as_lock (l.kind x.lock) (l.size x.lock) → ExtendsArrays old new (shape_in name mem ∷ [])
     → x.regs.width ≡ mem.width → 2 ^ x.regs.bits ≡ mem.depth → is_some x.regs.array ≡ not mem.delayed → l.placed x.lock new x.regs → IsFragment old new x.regs → HasRegNets (l.tickets x.lock) new x.regs
-    → StartLaw (l.stands x.lock x.regs) (l.kind x.lock) new x.regs → RoomLaw (l.stands x.lock x.regs) (l.size x.lock) (signal new x.regs.room) → TicketLaw (l.stands x.lock x.regs) (l.tickets x.lock) (signal new x.regs.ticket)
+    → StartLaw (l.stands x.lock x.regs) (l.kind x.lock) new x.regs → PlacesLaw (l.stands x.lock x.regs) (l.kind x.lock) x.regs → RoomLaw (l.stands x.lock x.regs) (l.size x.lock) (signal new x.regs.room) → TicketLaw (l.stands x.lock x.regs) (l.tickets x.lock) (signal new x.regs.ticket)
     → IsNewLock l old new mem x
-new_lock l old new name mem x comb kind grows w d a placed f nets start room ticket = record {
+new_lock l old new name mem x comb kind grows w d a placed f nets start places room ticket = record {
   is_in = record {
     is_placed = placed;
     room_there = nets.room_there;
@@ -76,7 +76,7 @@ new_lock l old new name mem x comb kind grows w d a placed f nets start room tic
     bits = d;
     array = new_array old new x.regs (a ∙ ap not comb) (array_more old new (shape_in name mem) grows) f;
   };
-  laws = record { some = f.some; regs = f.has_reg; start = start; room = room; ticket = ticket };
+  laws = record { some = f.some; regs = f.has_reg; start = start; places = places; room = room; ticket = ticket };
   kind = kind;
   above = f.above;
 }

@@ -7,16 +7,17 @@ use Rattle.pdl_net.specs.Circuit.{Circuit, State, HasReg, array_depth}
 use Rattle.pdl_net.specs.Meaning.{signal, write_signals}
 use Rattle.pdl_lockapi.specs.declared.LockRegs.{LockRegs}
 use Rattle.pdl_lockapi.specs.Lock.{LockState}
-use Rattle.pdl_lockapi.specs.Laws.{first_reg, end_reg, words_of, StartLaw, RoomLaw, TicketLaw}
+use Rattle.pdl_lockapi.specs.Laws.{first_reg, end_reg, words_of, StartLaw, PlacesLaw, RoomLaw, TicketLaw}
 use Rattle.pdl_lockapi.specs.Forget.{as_lock}
 use Rattle.pdl_stagenets.specs.declared.locks.MemLock.{MemLock}
 use Rattle.pdl_stagenets.specs.Locked.{Members, some_at}
 
--- a lock's registers are there, and the laws of its start, its room and its tickets hold
+-- a lock's registers are there, and the laws of its start, its places, its room and its tickets hold
 pub record IsLawful (stands : State → LockState → Type 0) (kind : LockKind) (size tickets : ℕ) (c : Circuit) (r : LockRegs) : Type 0 where
   pub some : 1 ≤ length r.regs
   pub regs : (k : ℕ) → first_reg r ≤ k → k < end_reg r → HasReg c k
   pub start : StartLaw stands kind c r
+  pub places : PlacesLaw stands kind r
   pub room : RoomLaw stands size (signal c r.room)
   pub ticket : TicketLaw stands tickets (signal c r.ticket)
 

@@ -6,15 +6,16 @@ use Rattle.pdl_net.specs.Circuit.{Circuit, HasReg, HasArray, shapes_of}
 use Rattle.pdl_net.specs.Meaning.{IsThere, signal, next_signal, write_signals}
 use Rattle.pdl_net.specs.Growth.{Own, Outside, Keeps}
 use Rattle.pdl_lockapi.specs.declared.LockNets.{LockNets}
-use Rattle.pdl_lockapi.specs.Laws.{own, StepLaw, StepSignals}
+use Rattle.pdl_lockapi.specs.Laws.{own, HidesLaw, StepLaw, StepSignals}
 use Rattle.pdl_pipe_law.specs.Walk.{zero_bit}
 use Rattle.pdl_pipe_law.specs.Ports.{Commit}
 use Rattle.pdl_stagenets.specs.declared.locks.MemLock.{MemLock}
 use Rattle.pdl_stagenets.specs.Locked.{Members, some_at}
 
--- a lock's step keeps its law, and its commit nets are there with the widths of its memory
+-- a lock's step keeps its law and that of hidden values, and its commit nets are there with the widths of its memory
 pub record IsStepped {T : Type 0} (l : Members T) (c : Circuit) (mem : Mem) (f : StepSignals) (x : MemLock T) (n : LockNets) : Type 0 where
   pub law : StepLaw (l.stands x.lock x.regs) (l.size x.lock) (l.tickets x.lock) (own x.regs) c f (signal c n.commit) (signal c n.addr) (signal c n.value)
+  pub hides : HidesLaw (l.kind x.lock) c (own x.regs) f
   pub commit_there : IsThere c n.commit
   pub commit_one : (signal c n.commit).width ≡ 1
   pub addr_there : IsThere c n.addr

@@ -5,7 +5,7 @@ ghost use Rattle.pdl_form.specs.Whole.{form};
 ghost use Rattle.pdl_net.specs.Circuit.{HasArray};
 ghost use Rattle.pdl_net.specs.Meaning.{IsThere, signal, write_signals};
 ghost use Rattle.pdl_net.specs.Growth.{ExtendsBut};
-ghost use Rattle.pdl_lockapi.specs.Laws.{own, HasCommitNets, StepLaw};
+ghost use Rattle.pdl_lockapi.specs.Laws.{own, HasCommitNets, HidesLaw, StepLaw};
 ghost use Rattle.pdl_flatnets.specs.Conditions.{AreBits};
 ghost use Rattle.pdl_word.specs.Each.{Each};
 ghost use Rattle.pdl_stagenets.specs.Locked.{members, some_at};
@@ -57,6 +57,8 @@ fn lock_step<'d, L: LockModule>(
         StepLaw (L.stands x.now.lock x.now.regs) (L.size x.now.lock) (L.tickets x.now.lock)
         (own x.now.regs) b.new (signals_of b.old deeds.now m (signal b.old x.now.regs.ticket))
         (signal b.new n.commit) (signal b.new n.addr) (signal b.new n.value)) }
+    ensures hides { OnOk result (HidesLaw (L.kind_of x.now.lock) b.new (own x.now.regs)
+        (signals_of b.old deeds.now m (signal b.old x.now.regs.ticket))) }
     ensures extends { OnOk result (ExtendsBut (own x.now.regs) b.old b.new) }
 {
     let ports = lock_ports(alloc, b, bits, deeds, m, x.regs.ticket)?;

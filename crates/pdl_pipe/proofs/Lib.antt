@@ -10,4 +10,6 @@ pub mod Fitting
 pub mod Accepted
 pub mod Told
 pub mod ExampleNet
+pub mod Locking
 pub mod Finishing
+pub mod Renamed

@@ -18,18 +18,20 @@ use Rattle.pdl_lockapi.specs.declared.LockNets.{LockNets}
 use Rattle.pdl_lockapi.specs.Laws.{first_array, end_array, OwnKept}
 use Rattle.pdl_pipe_law.specs.Walk.{Locks, is_locked}
 use Rattle.pdl_pipe_law.specs.Views.{View, no_gates}
-use Rattle.pdl_pipe_law.specs.Ports.{Shown, Commit, all_shown}
+use Rattle.pdl_pipe_law.specs.Ports.{Shown, Commit, all_shown, step_of}
 use Rattle.pdl_pipe_law.specs.Compiled.{HasLock, IsCompiled, port_in}
 use Rattle.pdl_stagenets.specs.declared.locks.MemLock.{MemLock}
-use Rattle.pdl_stagenets.specs.Locked.{Members, some_at, locks_in}
+use Rattle.pdl_stagenets.specs.Locked.{Members, some_at, locks_in, AreLocked}
+use Rattle.pdl_stagenets.proofs.MadeLocks.{locks_same}
 use Rattle.pdl_stageregs.specs.Stages.{views_in}
 use Rattle.pdl_stageregs.specs.Moves.{moves_in}
 use Rattle.pdl_stageregs.specs.Staged.{KeepsFrom, MeetsLaw}
 use Rattle.pdl_locknets.specs.Suited.{shapes_in}
-use Rattle.pdl_locknets.specs.Stepped.{own_of, commit_of, commits_in}
+use Rattle.pdl_locknets.specs.Lawful.{AreLawful}
+use Rattle.pdl_locknets.specs.Stepped.{own_of, AreStepped, commit_of, commits_in}
 use Rattle.pdl_locknets.specs.Deeds.{AreOf}
-use Rattle.pdl_locknets.proofs.LocksKept.{Stays}
-use Rattle.pdl_locknets.proofs.Law.{has_lock, commit_fits, nexts_after, plain_unwritten}
+use Rattle.pdl_locknets.proofs.LocksKept.{Stays, locked_kept, laws_kept}
+use Rattle.pdl_locknets.proofs.Law.{has_lock, stepped_here, commit_fits, nexts_after, plain_unwritten}
 use Rattle.pdl_outnets.specs.declared.outputs.OutNet.{OutNet}
 use Rattle.pdl_outnets.specs.Told.{output_of, OutsThere, shown_by}
 use Rattle.pdl_pipe.specs.declared.netlist.Joined.{Joined}
@@ -146,6 +148,23 @@ module _ {T : Type 0} (l : Members T) (stays : Stays l) (f : Form) (x : Joined T
   lock_at m h =
       let low = lock_there p m h in
       has_lock l stays p x.locks.items j.steps.deeds x.commits.items vs goes a b c d j.locked j.lawful deeds_count of j.keeps j.steps.stepped kept_ad kept_cd m low (own_kept m low) h
+
+  -- all of them are in the netlist, with their laws and their steps, and are what they were before the stages
+  pub locks_made : locks_in l d x.locks.items ≡ ls
+  locks_made = locks_same l a d kept_ad stays p x.locks.items j.locked
+
+  pub locked_made : AreLocked l d p x.locks.items
+  locked_made = locked_kept l a d p x.locks.items kept_ad stays j.locked
+
+  pub lawful_made : AreLawful l d p x.locks.items
+  lawful_made = laws_kept l a d p x.locks.items kept_ad j.locked j.lawful
+
+  pub stepped_made : AreStepped l d p (step_of p vs (no_gates ls) goes) x.locks.items x.commits.items (length p.mems)
+  stepped_made = record {
+    count = j.steps.stepped.count;
+    each = λ m low.
+        stepped_here l stays p x.locks.items j.steps.deeds x.commits.items vs goes a b c d j.locked j.lawful deeds_count of j.keeps j.steps.stepped kept_ad kept_cd m low (own_kept m low);
+  }
 
   -- what a memory commits has the memory's widths
   pub fits_at : (m : ℕ) → is_locked p m ≡ true → ((commits_in d x.commits.items m).enable.width ≡ 1) × (2 ^ (commits_in d x.commits.items m).addr.width ≡ (mem_at p m).depth) × ((commits_in d x.commits.items m).value.width ≡ (mem_at p m).width)

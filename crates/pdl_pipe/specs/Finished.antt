@@ -5,7 +5,9 @@ use Rattle.pdl_net.specs.declared.Netlist.{Netlist}
 use Rattle.pdl_net.specs.Run.{delayed_mems}
 use Rattle.pdl_pipe_law.specs.Runs.{ShowsTurns, output_count}
 use Rattle.pdl_pipe_law.specs.Follows.{Follows}
+use Rattle.pdl_stagenets.specs.Locked.{Members}
 use Rattle.pdl_pipe.specs.Refined.{RefinesThreads}
+use Rattle.pdl_pipe.specs.Locks.{HasLocks}
 
 -- it follows the pipe, shows the turns of its machine and refines its threads; no memory is delayed, and there are the two outputs that each pipe has
 pub record IsFinished (p : tree.Pipe) (n : Netlist) : Type 0 where
@@ -14,3 +16,8 @@ pub record IsFinished (p : tree.Pipe) (n : Netlist) : Type 0 where
   pub turns : ShowsTurns p n
   pub here : delayed_mems n ≡ []
   pub outputs : 2 ≤ output_count n
+
+-- and with the locks that the pipe asks for
+pub record IsWhole {T : Type 0} (l : Members T) (p : tree.Pipe) (n : Netlist) : Type 0 where
+  pub finished : IsFinished p n
+  pub locks : HasLocks l p n

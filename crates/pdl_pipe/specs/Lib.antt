@@ -1,3 +1,4 @@
 pub mod Refined
 pub mod Joined
+pub mod Locks
 pub mod Finished

@@ -13,7 +13,8 @@ ghost use Rattle.pdl_locknets.specs.Lawful.{AreLawful, AreUnwritten};
 ghost use Rattle.pdl_pipe_law.specs.Runs.{ShowsTurns, output_count};
 ghost use Rattle.pdl_pipe_law.specs.Follows.{Follows};
 ghost use Rattle.pdl_pipe.specs.Joined.{CanJoin, HasSteps, IsEmitted, IsJoined, IsShown};
-ghost use Rattle.pdl_pipe.specs.Finished.{IsFinished};
+ghost use Rattle.pdl_pipe.specs.Finished.{IsWhole};
+ghost use Rattle.pdl_pipe.specs.Locks.{HasLocks, any_lock};
 ghost use Rattle.pdl_pipe.specs.Refined.{RefinesThreads};
 
 use crate::deeds::{deeds, stage_ports};
@@ -155,7 +156,8 @@ fn compile_with<L: LockModule + Copy>(
 ) -> Result<Netlist, NoMemory>
     requires suited { AreSuited L.suits (members L.LockModule)
         (form_of (pipe_view accepted.now.typed.pipe)) locks.now }
-    ensures finished { IfOk result (λ n. IsFinished (pipe_view accepted.now.typed.pipe) n) }
+    ensures whole { IfOk result (λ n.
+        IsWhole (members L.LockModule) (pipe_view accepted.now.typed.pipe) n) }
     ensures mems { IfOk result (λ n. n.mems ≡ accepted.now.mems) }
 {
     let mut b = Builder::new(alloc);
@@ -165,9 +167,10 @@ fn compile_with<L: LockModule + Copy>(
     Ok(b.finish(name, mems))
 }
 
-/// The netlist of an accepted pipe: it follows the pipe, and what it writes to each memory is what the threads write that run one after another. The error is that memory ran out.
+/// The netlist of an accepted pipe: it follows the pipe, what it writes to each memory is what the threads write that run one after another, and each memory with a lock has the lock that it asks for. The error is that memory ran out.
 pub fn compile(alloc: Global, accepted: &Accepted) -> Result<Netlist, NoMemory>
     ensures follows { IfOk result (λ n. Follows (pipe_view accepted.now.typed.pipe) n) }
+    ensures locks { IfOk result (λ n. HasLocks any_lock (pipe_view accepted.now.typed.pipe) n) }
     ensures refines { IfOk result (λ n. RefinesThreads (pipe_view accepted.now.typed.pipe) n) }
     ensures turns { IfOk result (λ n. ShowsTurns (pipe_view accepted.now.typed.pipe) n) }
     ensures mems { IfOk result (λ n. n.mems ≡ accepted.now.mems) }

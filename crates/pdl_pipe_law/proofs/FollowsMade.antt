@@ -38,7 +38,7 @@ module _ (p : tree.Pipe) (declared : AreDeclared p.mems) (most : length (flat p)
   in_order : (m : ℕ) → m < length (flat p).mems → ls.array m ≡ m
   in_order m l = made.in_order m (let e = same_count p.mems in omega (arith, e, l))
 
-  has_mems : HasMems (flat p) ls n
+  pub has_mems : HasMems (flat p) ls n
   has_mems = record {
     in_order = in_order;
     count = ap length made.mems ∙ length-map p.mems info_of ∙ sym (same_count p.mems);

@@ -21,6 +21,7 @@ pub mod Next
 pub mod First
 pub mod Outputs
 pub mod Nothing
+pub mod Standing
 pub mod Runs
 pub mod LinesMachine
 pub mod LinesNames

@@ -11,7 +11,7 @@ use Rattle.pdl_machine_facts.specs.Cycle.{ports_of, IsByStages}
 use Rattle.pdl_machine_facts.specs.Use.{IsInUse}
 use Rattle.pdl_machine_facts.specs.Fit.{IsFit}
 use Rattle.pdl_lockapi.proofs.LockKinds.{plain_is}
-use Rattle.pdl_pipe_law.proofs.Runs.{after_more}
+use Rattle.pdl_pipe_law.proofs.Standing.{after_more}
 
 -- what each memory commits, where one without lock commits nothing
 abbrev pub AreCommits : List Flat.Mem → List (Option PortWrite) → Type 0

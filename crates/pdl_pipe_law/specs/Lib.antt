@@ -7,4 +7,5 @@ pub mod Stands
 pub mod Beside
 pub mod Declared
 pub mod Runs
+pub mod States
 pub mod Follows

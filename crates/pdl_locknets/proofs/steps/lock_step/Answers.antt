@@ -1,7 +1,7 @@
 use Rattle.std.proofs.Common.{subst}
 use Rattle.pdl_net.proofs.Keeps.{extends_keeps}
 use Rattle.pdl_net.specs.Meaning.{signal}
-use Rattle.pdl_lockapi.specs.Laws.{own, StepLaw, StepSignals}
+use Rattle.pdl_lockapi.specs.Laws.{own, HidesLaw, StepLaw, StepSignals}
 use Rattle.pdl_locknets.specs.Ports.{signals_of}
 use Rattle.pdl_locknets.proofs.PortsFit.{ports_there, ports_fit, ports_mean, unwritten_array}
 use Rattle.pdl_locknets.proofs.steps.lock_step.Goals as goal
@@ -33,3 +33,10 @@ returns-clause-law g c =
     let f = signals_of c.args.b.now c.args.deeds.now c.args.m (signal c.args.b.now r.ticket) in
     subst (λ (s : StepSignals). StepLaw (L.stands l r) (L.size l) (L.tickets l) (own r) d s (signal d n.commit) (signal d n.addr) (signal d n.value))
     (ports_mean c.lock_ports.new.b c.in_ok-ports.ports f c.in_ok-ports.ensures.ports) c.in_ok-nets.ensures.law
+
+pub returns-clause-hides : goal.returns-clause-hides
+returns-clause-hides g c =
+    let l = c.args.x.now.lock in
+    let r = c.args.x.now.regs in
+    let f = signals_of c.args.b.now c.args.deeds.now c.args.m (signal c.args.b.now r.ticket) in
+    subst (λ (s : StepSignals). HidesLaw (g.L.LockModule.kind_of l) c.emit_step.new.b (own r) s) (ports_mean c.lock_ports.new.b c.in_ok-ports.ports f c.in_ok-ports.ensures.ports) c.in_ok-nets.ensures.hides

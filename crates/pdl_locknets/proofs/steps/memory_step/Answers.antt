@@ -2,7 +2,7 @@ use Rattle.std.proofs.Common.{sym, ◌∙◌, arith, subst}
 use Rattle.pdl_form.specs.Whole.{form}
 use Rattle.pdl_semantics.specs.Stages.{mem_at}
 use Rattle.pdl_net.specs.Meaning.{signal}
-use Rattle.pdl_lockapi.specs.Laws.{StepSignals, StepLaw, own}
+use Rattle.pdl_lockapi.specs.Laws.{StepSignals, HidesLaw, StepLaw, own}
 use Rattle.pdl_pipe_law.specs.Views.{no_gates}
 use Rattle.pdl_pipe_law.specs.Ports.{step_of}
 use Rattle.pdl_stagenets.specs.Locked.{Members, some_at, locks_in}
@@ -61,4 +61,5 @@ returns-in_ok-nets-in-Some-clause-stepped g c =
     let signals = step_of p (views_in a ds) (no_gates (locks_in l a xs)) (moves_in a ds) m in
     let law = subst (λ (s : StepSignals). StepLaw (L.stands x.lock x.regs) (L.size x.lock) (L.tickets x.lock) (own x.regs) d s (signal d n.commit) (signal d n.addr) (signal d n.value))
     (signals_are l a p f.widths xs ds m x e c.requires.deeds) h.law in
-    stepped_some l d (mem_at p m) signals (some_at xs m) x n e (is_stepped l a d m (mem_at p m) signals x n (c.requires.locked.locks m x c.requires.low e) h.nets law)
+    let hides = subst (λ (s : StepSignals). HidesLaw (L.kind_of x.lock) d (own x.regs) s) (signals_are l a p f.widths xs ds m x e c.requires.deeds) h.hides in
+    stepped_some l d (mem_at p m) signals (some_at xs m) x n e (is_stepped l a d m (mem_at p m) signals x n (c.requires.locked.locks m x c.requires.low e) h.nets law hides)

@@ -18,8 +18,8 @@ pub emit_all-requires-clause-suited : goal.emit_all-requires-clause-suited
 emit_all-requires-clause-suited g c =
     subst (λ (f : Form). AreSuited g.L.LockModule.suits (members g.L.LockModule) f c.args.locks.now) (sym c.flat.ensures) c.requires.suited
 
-pub returns-clause-finished : goal.returns-clause-finished
-returns-clause-finished g c =
+pub returns-clause-whole : goal.returns-clause-whole
+returns-clause-whole g c =
     let a = c.args.accepted.now in
     let p = pipe_view a.typed.pipe in
     let l = members g.L.LockModule in
