@@ -1,12 +1,11 @@
 -- What an accepted pipe gives the run of its netlist.
-use Rattle.std.proofs.Common.{◌≡◌, ℕ, zero, suc, [], ◌∷◌, ◌≤◌, List, length, map, All, refl, ap, ap₂, ◌∙◌, subst, inl, inr}
+use Rattle.std.proofs.Common.{◌≡◌, ℕ, zero, suc, [], ◌∷◌, ◌≤◌, List, length, map, All, refl, ap, ◌∙◌, subst, inl, inr}
 use Rattle.std.specs.Prelude.{Option, Result, Ok, Err, IfOk}
 use Rattle.pdl_kit.specs.declared.mem_info.MemInfo.{MemInfo}
 use Rattle.pdl_kit.specs.Files.{Held, Gives}
 use Rattle.pdl_semantics.specs.Tree.{Mem, Pipe}
 use Rattle.pdl_semantics.specs.Flat.{arrays_of}
-use Rattle.pdl_semantics.specs.Flatten.{flat}
-use Rattle.pdl_semantics.specs.Lines.{columns, lines, run_lines}
+use Rattle.pdl_semantics.specs.Lines.{columns, run_lines}
 use Rattle.pdl_rules.specs.Refusal.{KeepsRules}
 use Rattle.pdl_image.specs.Images.{IsImage}
 use Rattle.pdl_net.specs.declared.Netlist.{Netlist}

@@ -8,7 +8,6 @@ use Rattle.std.proofs.lemmas.List.FromFn.{length-range_with_len, map-range_with_
 use Rattle.pdl_kit.specs.declared.mem_info.MemInfo.{MemInfo}
 use Rattle.pdl_semantics.specs.Tree.{Pipe}
 use Rattle.pdl_semantics.specs.Flat.{arrays_of}
-use Rattle.pdl_semantics.specs.Flatten.{flat}
 use Rattle.pdl_rules.specs.Refusal.{KeepsRules}
 use Rattle.pdl_image.specs.Images.{IsImage}
 use Rattle.pdl_sources.proofs.Promised.{paces}
