@@ -7,3 +7,4 @@ mod EachPath
 mod Walks
 mod Numbers
 mod Seen
+mod Nth

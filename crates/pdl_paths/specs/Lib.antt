@@ -4,3 +4,4 @@ pub mod Kept
 pub mod Masks
 pub mod Shown
 pub mod Paths
+pub mod Numbered

@@ -1,12 +1,13 @@
 //! The places of a pipe: what stands at each, under which guards, and the paths that lead through it.
 //!
-//! The layers above may use `guards_of`, `places` and `PathIter`, and read a `Place` by its line, its names and its location.
+//! The layers above may use `guards_of`, `places` and `PathIter`, read a `Place` by its line, its names and its location, and ask whether a path leads through a place by `on_path`.
 #![tactic(auto)]
 
 pub mod action;
 pub mod branch;
 pub mod guards;
 pub mod mask;
+pub mod numbered;
 pub mod path;
 pub mod place;
 pub mod readers;
@@ -16,6 +17,7 @@ pub use action::Action;
 pub use branch::{Branch, Guard};
 pub use guards::Guards;
 pub use mask::Mask;
+pub use numbered::on_path;
 pub use path::{Path, PathIter};
 pub use place::Place;
 pub use readers::{guess_at, is_call, is_separator, location_at, memory_at, name_at, variable_at};
