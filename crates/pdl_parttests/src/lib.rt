@@ -23,6 +23,8 @@ mod locks;
 #[cfg(test)]
 mod netrun_rows;
 #[cfg(test)]
+mod path_rows;
+#[cfg(test)]
 mod pending_rows;
 #[cfg(test)]
 mod plan_rows;
