@@ -1,6 +1,7 @@
 // The netlist of a pipe.
 ghost use Rattle.std.specs.Prelude.{◌≡◌, ◌≤◌, [], IfOk, OnOk, length};
 ghost use Rattle.pdl_tree.specs.View.{pipe_view};
+ghost use Rattle.pdl_rules.specs.Memories.{infos_of};
 ghost use Rattle.pdl_semantics.specs.Flatten.{flat};
 ghost use Rattle.pdl_form.specs.Form.{form_of};
 ghost use Rattle.pdl_form.specs.Whole.{form};
@@ -157,7 +158,8 @@ fn compile_with<L: LockModule + Copy>(
     requires suited { AreSuited L.suits (members L.LockModule)
         (form_of (pipe_view accepted.now.typed.pipe)) locks.now }
     ensures finished { IfOk result (λ n. IsFinished (pipe_view accepted.now.typed.pipe) n) }
-    ensures mems { IfOk result (λ n. n.mems ≡ accepted.now.mems) }
+    ensures mems { IfOk result (λ n.
+        n.mems ≡ infos_of (pipe_view accepted.now.typed.pipe).mems) }
 {
     let mut b = Builder::new(alloc);
     emit_all(alloc, &mut b, accepted.flat(), locks)?;
@@ -171,7 +173,8 @@ pub fn compile(alloc: Global, accepted: &Accepted) -> Result<Netlist, NoMemory>
     ensures follows { IfOk result (λ n. Follows (pipe_view accepted.now.typed.pipe) n) }
     ensures refines { IfOk result (λ n. RefinesThreads (pipe_view accepted.now.typed.pipe) n) }
     ensures turns { IfOk result (λ n. ShowsTurns (flat (pipe_view accepted.now.typed.pipe)) n) }
-    ensures mems { IfOk result (λ n. n.mems ≡ accepted.now.mems) }
+    ensures mems { IfOk result (λ n.
+        n.mems ≡ infos_of (pipe_view accepted.now.typed.pipe).mems) }
     ensures here { IfOk result (λ n. delayed_mems n ≡ []) }
     ensures outputs { IfOk result (λ n. 2 ≤ output_count n) }
 {

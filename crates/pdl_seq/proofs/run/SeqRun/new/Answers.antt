@@ -1,19 +1,16 @@
-use Rattle.std.proofs.Common.{arith}
-use Rattle.pdl_seq.proofs.Telling.{none_told}
-use Rattle.pdl_form.specs.Whole.{form}
-use Rattle.pdl_seq.proofs.First.{first_fits}
+use Rattle.std.proofs.Common.{subst, sym}
+use Rattle.pdl_tree.specs.View.{pipe_view}
+use Rattle.pdl_form.specs.Form.{Form}
+use Rattle.pdl_seq.specs.Fits.{IsImageFor}
+use Rattle.pdl_seq.specs.Runs.{IsRunnable}
+use Rattle.pdl_seq.proofs.Imaging.{images}
 use Rattle.pdl_seq.proofs.run.SeqRun.new.Goals as goal
 
-pub invariant_of-result : goal.invariant_of-result
-invariant_of-result c =
-    let len = c.in_ok-writes.ensures.len in
-    let capacity = c.in_ok-writes.ensures.capacity in
-    record {
-      runnable = c.requires.run;
-      fit = first_fits (form c.args.pipe.now) c.requires.run c.args.image.now c.requires.image c.in_ok-turn.turn c.in_ok-turn.ensures.memories c.in_ok-turn.ensures.values c.in_ok-turn.ensures.next c.in_ok-turn.ensures.none;
-      next = c.in_ok-turn.ensures.args;
-      commits = c.in_ok-turn.ensures.commits;
-      writes = omega arith;
-      count = omega arith;
-      told = none_told (form c.args.pipe.now).pipe c.in_ok-writes.writes.items c.in_ok-writes.ensures.items;
-    }
+pub of_flat-requires-clause-run : goal.of_flat-requires-clause-run
+of_flat-requires-clause-run c =
+    let a = c.args.accepted.now in
+    subst IsRunnable (sym c.flat.ensures) (c.runnable.ensures (pipe_view a.typed.pipe) a.kept a.source a.letters)
+
+pub of_flat-requires-clause-image : goal.of_flat-requires-clause-image
+of_flat-requires-clause-image c =
+    subst (λ (f : Form). IsImageFor f.pipe c.args.image.now) (sym c.flat.ensures) (images (pipe_view c.args.accepted.now.typed.pipe) c.args.image.now c.requires)
