@@ -6,6 +6,7 @@ ghost use Rattle.pdl_rules.specs.Refusal.{KeepsRules};
 ghost use Rattle.pdl_rules.specs.Speculation.{verify_stage};
 ghost use Rattle.pdl_locks.specs.Plan.{plan_of};
 ghost use Rattle.pdl_semantics.specs.Flatten.{flat as flat_of};
+ghost use Rattle.pdl_semantics.specs.Stages.{depth as depth_of};
 ghost use Rattle.pdl_form.specs.Form.{form_of};
 ghost use Rattle.pdl_form.specs.Whole.{form};
 ghost use Rattle.pdl_formtypes.specs.Same.{same_form};
@@ -76,35 +77,36 @@ impl Accepted {
 
     /// Lends the guards in text order.
     pub fn guards(&self) -> &Guards
-        ensures { result.now ≡ self.now.guards }
+        ensures { result.now ≡ guards_in (places (pipe_view self.now.typed.pipe)) }
     {
         &self.guards
     }
 
     /// Lends the memories in declared order.
     pub fn mems(&self) -> &[MemInfo]
-        ensures { result.now ≡ self.now.mems }
+        ensures { result.now ≡ infos_of (pipe_view self.now.typed.pipe).mems }
     {
         self.mems.as_slice()
     }
 
     /// Lends the stages.
     pub fn graph(&self) -> &StageGraph
-        ensures { result.now ≡ self.now.graph }
+        ensures { result.now ≡ graph_of (flat_of (pipe_view self.now.typed.pipe))
+            (places (pipe_view self.now.typed.pipe)) }
     {
         &self.graph
     }
 
-    /// Lends the stages of the reserves and releases of each memory.
+    /// Lends the stages of the reserves and releases of each memory, in declared order; of a memory of which the text has no reserve, or no release, there is none.
     pub fn locks(&self) -> &LockPlan
-        ensures { result.now ≡ self.now.plans.locks }
+        ensures { result.now ≡ plan_of (pipe_view self.now.typed.pipe) }
     {
         &self.plans.locks
     }
 
-    /// Lends the stage of the verifies.
+    /// Lends the stage of the verifies, none where the text has no verify.
     pub fn spec(&self) -> &SpecPlan
-        ensures { result.now ≡ self.now.plans.spec }
+        ensures { result.now ≡ verify_stage (pipe_view self.now.typed.pipe) }
     {
         &self.plans.spec
     }
@@ -118,7 +120,7 @@ impl Accepted {
 
     /// The greatest number of stages on a path, from 1 to 64.
     pub fn depth(&self) -> usize
-        ensures { result ≡ self.now.graph.depth }
+        ensures { result ≡ depth_of (flat_of (pipe_view self.now.typed.pipe)) }
     {
         self.graph.depth()
     }

@@ -14,6 +14,8 @@ mod lines;
 #[cfg(test)]
 mod machine;
 #[cfg(test)]
+mod plans;
+#[cfg(test)]
 mod random;
 #[cfg(test)]
 mod verilog;

@@ -70,10 +70,8 @@ pub fn sequential(
     ensures { IfOk result
         (λ t. t.items ≡ seq_lines (pipe_view accepted.now.typed.pipe) image.now threads) }
 {
-    pdl_seq::runnable();
-    pdl_seq::images();
     pdl_seq::lines();
-    let mut run = SeqRun::new(alloc, accepted.flat(), image, threads)?;
+    let mut run = SeqRun::new(alloc, accepted, image, threads)?;
     run_threads(&mut run, threads);
     let mut text = Vec::new(alloc);
     push_writes(&mut text, accepted.mems(), run.writes())?;

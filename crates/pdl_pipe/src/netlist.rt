@@ -1,6 +1,7 @@
 // The netlist of a pipe.
 ghost use Rattle.std.specs.Prelude.{◌≡◌, ◌≤◌, [], IfOk, OnOk, length};
 ghost use Rattle.pdl_tree.specs.View.{pipe_view};
+ghost use Rattle.pdl_rules.specs.Memories.{infos_of};
 ghost use Rattle.pdl_form.specs.Form.{form_of};
 ghost use Rattle.pdl_form.specs.Whole.{form};
 ghost use Rattle.pdl_build.specs.Change.{empty_circuit};
@@ -158,7 +159,8 @@ fn compile_with<L: LockModule + Copy>(
         (form_of (pipe_view accepted.now.typed.pipe)) locks.now }
     ensures whole { IfOk result (λ n.
         IsWhole (members L.LockModule) (pipe_view accepted.now.typed.pipe) n) }
-    ensures mems { IfOk result (λ n. n.mems ≡ accepted.now.mems) }
+    ensures mems { IfOk result (λ n.
+        n.mems ≡ infos_of (pipe_view accepted.now.typed.pipe).mems) }
 {
     let mut b = Builder::new(alloc);
     emit_all(alloc, &mut b, accepted.flat(), locks)?;
@@ -173,7 +175,8 @@ pub fn compile(alloc: Global, accepted: &Accepted) -> Result<Netlist, NoMemory>
     ensures locks { IfOk result (λ n. HasLocks any_lock (pipe_view accepted.now.typed.pipe) n) }
     ensures refines { IfOk result (λ n. RefinesThreads (pipe_view accepted.now.typed.pipe) n) }
     ensures turns { IfOk result (λ n. ShowsTurns (pipe_view accepted.now.typed.pipe) n) }
-    ensures mems { IfOk result (λ n. n.mems ≡ accepted.now.mems) }
+    ensures mems { IfOk result (λ n.
+        n.mems ≡ infos_of (pipe_view accepted.now.typed.pipe).mems) }
     ensures here { IfOk result (λ n. delayed_mems n ≡ []) }
     ensures outputs { IfOk result (λ n. 2 ≤ output_count n) }
 {

@@ -1,4 +1,4 @@
-// Which pipes can be run, from which images, and what is printed.
+// Which pipes can be run, and what is printed.
 ghost use Rattle.std.specs.Prelude.{◌≡◌, ◌++◌, ℕ, List, IsTrue, codes, decimal};
 ghost use Rattle.std.specs.List.{flat_map};
 ghost use Rattle.pdl_semantics.specs.Tree.{Pipe};
@@ -8,11 +8,8 @@ ghost use Rattle.pdl_semantics.specs.Sequential.{threads};
 ghost use Rattle.pdl_semantics.specs.Lines as text;
 ghost use Rattle.pdl_rules.specs.Refusal.{KeepsRules};
 ghost use Rattle.pdl_form.specs.Form.{form_of};
-ghost use Rattle.pdl_image.specs.Images.{IsImage};
 ghost use Rattle.pdl_pathfacts.specs.Source.{is_source, is_named};
-ghost use Rattle.pdl_seq.specs.Fits.{IsImageFor};
 ghost use Rattle.pdl_seq.specs.Runs.{IsRunnable, numbered_writes, write_line};
-ghost use Rattle.pdl_rules.specs.Memories.{infos_of};
 
 /// Every pipe that keeps the rules can be run, where no two `if`s on expressions begin at one byte and no variable has the empty name: so it is in every tree that is read from a source.
 pub fn runnable()
@@ -22,12 +19,6 @@ pub fn runnable()
     pdl_formtypes::typed_form();
     pdl_pathfacts::sound();
 }
-
-/// An image for the memories of a tree is one for its flat form.
-pub fn images()
-    ensures { (p : Pipe) (image : List (List ℕ)) → IsImage (infos_of p.mems) image →
-        IsImageFor (flat p) image }
-{}
 
 /// The lines of the writes of k threads, and the line that ends them, are the text of the sequential run.
 pub fn lines()

@@ -1,4 +1,4 @@
-//! The sequential run of a pipe: its threads one after another on plain arrays, without stages, locks, guesses or clock.
+//! The sequential run of an accepted pipe: its threads one after another on plain arrays, without stages, locks, guesses or clock.
 //!
 //! The layer above may use `SeqRun`, which runs a thread with `next_thread` and has all writes so far in `writes`.
 #![tactic(auto)]
@@ -12,6 +12,6 @@ mod setup;
 mod turn;
 mod words;
 
-pub use accepted::{images, lines, runnable};
+pub use accepted::lines;
 pub use commit::Write;
 pub use run::SeqRun;

@@ -1,13 +1,19 @@
 // A sequential run.
 ghost use Rattle.std.specs.Prelude.{◌≡◌, ◌<◌, ◌+◌, [], List, ℕ, IfOk};
+ghost use Rattle.pdl_tree.specs.View.{pipe_view};
+ghost use Rattle.pdl_rules.specs.Memories.{infos_of};
+ghost use Rattle.pdl_form.specs.Form.{form_of};
 ghost use Rattle.pdl_form.specs.Whole.{form};
+ghost use Rattle.pdl_image.specs.Images.{IsImage};
 ghost use Rattle.pdl_seq.specs.Fits.{IsImageFor, AreWrites};
 ghost use Rattle.pdl_seq.specs.Runs.{IsRunnable, HasRun};
 
+use crate::accepted::runnable;
 use crate::begin::{begin, tell};
 use crate::commit::Write;
 use crate::setup::{MOST_WRITES, before_all};
 use crate::turn::{Turn, run_turn};
+use pdl_check::Accepted;
 use pdl_form::FlatPipe;
 use pdl_image::Image;
 use pdl_kit::NoMemory;
@@ -41,8 +47,27 @@ impl<'p> Model for SeqRun<'p> {
 }
 
 impl<'p> SeqRun<'p> {
-    /// The run of a pipe whose memories hold the image, with room for so many threads, of which none was run.
+    /// The run of an accepted pipe whose memories hold the image, with room for so many threads, of which none was run.
     pub fn new(
+        alloc: Global,
+        accepted: &'p Accepted,
+        image: &Image,
+        threads: u32,
+    ) -> Result<SeqRun<'p>, NoMemory>
+        requires { IsImage (infos_of (pipe_view accepted.now.typed.pipe).mems) image.now }
+        ensures run { IfOk result (λ r. HasRun r image.now) }
+        ensures pipe { IfOk result (λ r.
+            form r.pipe ≡ form_of (pipe_view accepted.now.typed.pipe)) }
+        ensures count { IfOk result (λ r. r.run ≡ 0) }
+        ensures threads { IfOk result (λ r. r.threads ≡ threads) }
+        ensures writes { IfOk result (λ r. r.writes ≡ []) }
+    {
+        runnable();
+        SeqRun::of_flat(alloc, accepted.flat(), image, threads)
+    }
+
+    // The same of a pipe in flat form, of the whole language.
+    fn of_flat(
         alloc: Global,
         pipe: &'p FlatPipe,
         image: &Image,

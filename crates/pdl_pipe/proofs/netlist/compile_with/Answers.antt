@@ -29,4 +29,4 @@ returns-clause-whole g c =
     subst (λ (y : Circuit). IsShown l y (form_of p) x) (sym c.finish.ensures.value)
     (subst (λ (f : Form). IsShown l c.emit_all.new.b f x) c.flat.ensures c.in_ok-emit_all.ensures.shown) in
     let name : n.name ≡ p.name.name = search rules in
-    whole p a.kept a.source a.letters a.compiled l g.met.L.LockModule.stays x n shown name (c.finish.ensures.mems ∙ c.in_ok-mems.ensures ∙ c.mems.ensures ∙ a.told) c.finish.ensures.well
+    whole p a.kept a.source a.letters a.compiled l g.met.L.LockModule.stays x n shown name (c.finish.ensures.mems ∙ c.in_ok-mems.ensures ∙ c.mems.ensures) c.finish.ensures.well

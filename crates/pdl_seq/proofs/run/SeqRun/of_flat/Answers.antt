@@ -2,7 +2,7 @@ use Rattle.std.proofs.Common.{arith}
 use Rattle.pdl_seq.proofs.Telling.{none_told}
 use Rattle.pdl_form.specs.Whole.{form}
 use Rattle.pdl_seq.proofs.First.{first_fits}
-use Rattle.pdl_seq.proofs.run.SeqRun.new.Goals as goal
+use Rattle.pdl_seq.proofs.run.SeqRun.of_flat.Goals as goal
 
 pub invariant_of-result : goal.invariant_of-result
 invariant_of-result c =
