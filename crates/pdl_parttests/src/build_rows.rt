@@ -1,4 +1,8 @@
-// Calls of a builder, and the nets that they give.
+// Calls of a builder, and the nets that they give; `n` is an input of 8 bits.
+ghost use Rattle.std.specs.Prelude.{◌≡◌};
+ghost use Rattle.pdl_net.specs.Meaning.{IsThere, signal};
+ghost use Rattle.pdl_net.specs.Growth.{Extends};
+
 use pdl_build::Builder;
 use pdl_kit::{Name, NoMemory, Seq};
 use pdl_net::{BinOp, Cell, Net};
@@ -6,7 +10,11 @@ use std::alloc::Global;
 use std::mem::drop;
 
 /// Of equal cells there is one.
-fn equal_cells(b: &mut Builder, n: Net) -> Result<[Net; 4], NoMemory> {
+fn equal_cells(b: &mut Builder, n: Net) -> Result<[Net; 4], NoMemory>
+    requires there { IsThere b.old n }
+    requires width { (signal b.old n).width ≡ 8 }
+    ensures { Extends b.old b.new }
+{
     let x = b.constant(8, 5)?;
     let sum = b.bin(BinOp::Add, n, x)?;
     let again = b.constant(8, 5)?;
@@ -15,7 +23,9 @@ fn equal_cells(b: &mut Builder, n: Net) -> Result<[Net; 4], NoMemory> {
 }
 
 /// A choice, which costs no cell where it is known.
-fn known_choice(b: &mut Builder) -> Result<[Net; 4], NoMemory> {
+fn known_choice(b: &mut Builder) -> Result<[Net; 4], NoMemory>
+    ensures { Extends b.old b.new }
+{
     let one = b.constant(1, 1)?;
     let x = b.constant(8, 5)?;
     let y = b.constant(8, 6)?;
@@ -24,7 +34,11 @@ fn known_choice(b: &mut Builder) -> Result<[Net; 4], NoMemory> {
 }
 
 /// A part of a net, and a choice by it.
-fn choice_by_part(b: &mut Builder, n: Net) -> Result<[Net; 3], NoMemory> {
+fn choice_by_part(b: &mut Builder, n: Net) -> Result<[Net; 3], NoMemory>
+    requires there { IsThere b.old n }
+    requires width { (signal b.old n).width ≡ 8 }
+    ensures { Extends b.old b.new }
+{
     let x = b.constant(8, 5)?;
     let low = b.slice(n, 0, 0)?;
     let y = b.constant(8, 6)?;
@@ -34,7 +48,11 @@ fn choice_by_part(b: &mut Builder, n: Net) -> Result<[Net; 3], NoMemory> {
 }
 
 /// The widths of nets in a row, and of a part.
-fn row_widths(b: &mut Builder, n: Net) -> Result<[u8; 3], NoMemory> {
+fn row_widths(b: &mut Builder, n: Net) -> Result<[u8; 3], NoMemory>
+    requires there { IsThere b.old n }
+    requires width { (signal b.old n).width ≡ 8 }
+    ensures { Extends b.old b.new }
+{
     let low = b.slice(n, 0, 0)?;
     let both = b.cat(n, n)?;
     let three = b.rep(3, n)?;
@@ -42,14 +60,21 @@ fn row_widths(b: &mut Builder, n: Net) -> Result<[u8; 3], NoMemory> {
 }
 
 /// Extensions; a net that is wide enough is its own.
-fn extensions(b: &mut Builder, n: Net) -> Result<(Net, u8), NoMemory> {
+fn extensions(b: &mut Builder, n: Net) -> Result<(Net, u8), NoMemory>
+    requires there { IsThere b.old n }
+    requires width { (signal b.old n).width ≡ 8 }
+    ensures { Extends b.old b.new }
+{
     let wide = b.sign_extend(n, 12)?;
     let same = b.zero_extend(n, 8)?;
     Ok((same, b.width(wide)))
 }
 
 /// Signed order, as an output; a register.
-fn ports(b: &mut Builder, name: &Name, n: Net) -> Result<usize, NoMemory> {
+fn ports(b: &mut Builder, name: &Name, n: Net) -> Result<usize, NoMemory>
+    requires there { IsThere b.old n }
+    requires width { (signal b.old n).width ≡ 8 }
+{
     let reg = b.reg(8, 3)?;
     b.next(reg, Net::Reg(reg));
     let less = b.less_signed(n, Net::Reg(reg))?;
@@ -67,7 +92,11 @@ fn arrays(b: &mut Builder, name: &Name) -> Result<(usize, Net), NoMemory> {
 }
 
 /// Operators on a net and 0, and on one net twice.
-fn laws(b: &mut Builder, n: Net) -> Result<[Net; 5], NoMemory> {
+fn laws(b: &mut Builder, n: Net) -> Result<[Net; 5], NoMemory>
+    requires there { IsThere b.old n }
+    requires width { (signal b.old n).width ≡ 8 }
+    ensures { Extends b.old b.new }
+{
     let zero = b.constant(8, 0)?;
     let none = b.bin(BinOp::And, n, zero)?;
     let all = b.bin(BinOp::Or, n, zero)?;
@@ -77,33 +106,40 @@ fn laws(b: &mut Builder, n: Net) -> Result<[Net; 5], NoMemory> {
 }
 
 /// A shift by more than the width, a part of a part, and a complement twice.
-fn more_laws(b: &mut Builder, n: Net, sum: Net) -> Result<[Net; 4], NoMemory> {
+fn more_laws(b: &mut Builder, n: Net) -> Result<[Net; 4], NoMemory>
+    requires there { IsThere b.old n }
+    requires width { (signal b.old n).width ≡ 8 }
+    ensures { Extends b.old b.new }
+{
     let nine = b.constant(8, 9)?;
     let shifted = b.bin(BinOp::Shl, n, nine)?;
     let outer = b.slice(n, 6, 1)?;
     let inner = b.slice(outer, 4, 2)?;
     let straight = b.slice(n, 5, 3)?;
-    let not = b.not(sum)?;
+    let not = b.not(straight)?;
     let twice = b.not(not)?;
     Ok([shifted, inner, straight, twice])
 }
 
 /// Which of these calls, one after the other, give what they should.
-fn given(b: &mut Builder, name: &Name, n: Net) -> [bool; 10] {
+fn given(b: &mut Builder, name: &Name, n: Net) -> [bool; 10]
+    requires there { IsThere b.old n }
+    requires width { (signal b.old n).width ≡ 8 }
+{
     let [five, sum, not] = [Net::Cell(0), Net::Cell(1), Net::Cell(2)];
     let [one, six, low, picked] = [Net::Cell(3), Net::Cell(4), Net::Cell(5), Net::Cell(6)];
-    let [zero, part] = [Net::Cell(18), Net::Cell(21)];
+    let [zero, part] = [Net::Cell(12), Net::Cell(15)];
     [
         equal_cells(b, n) == Ok([five, sum, five, not]),
         known_choice(b) == Ok([one, five, six, five]),
         choice_by_part(b, n) == Ok([low, six, picked]),
         row_widths(b, n) == Ok([1, 16, 24]),
         extensions(b, n) == Ok((n, 12)),
+        laws(b, n) == Ok([zero, zero, n, zero, one]),
+        more_laws(b, n) == Ok([zero, part, part, part]),
         ports(b, name, n) == Ok(0),
         b.reg_count() == 1,
-        arrays(b, name) == Ok((0, Net::Cell(17))),
-        laws(b, n) == Ok([zero, zero, n, zero, one]),
-        more_laws(b, n, sum) == Ok([zero, part, part, sum]),
+        arrays(b, name) == Ok((0, Net::Cell(22))),
     ]
 }
 
@@ -121,12 +157,16 @@ fn nets(rt: HostRuntime) -> Result<(), NoMemory> {
     let mut b = Builder::new(rt.alloc());
     let n = b.input(&name, 8)?;
     assert!(rt; given(&mut b, &name, n) == [true; 10]);
-    assert!(rt; b.cell_count() == 22);
+    assert!(rt; b.cell_count() == 23);
     Ok(())
 }
 
 /// A word and 1, above itself.
-fn doubled(b: &mut Builder, n: Net) -> Result<usize, NoMemory> {
+fn doubled(b: &mut Builder, n: Net) -> Result<usize, NoMemory>
+    requires there { IsThere b.old n }
+    requires width { (signal b.old n).width ≡ 8 }
+    ensures { Extends b.old b.new }
+{
     let one = b.constant(8, 1)?;
     let above = b.bin(BinOp::Add, n, one)?;
     let one = b.constant(8, 1)?;
@@ -136,7 +176,11 @@ fn doubled(b: &mut Builder, n: Net) -> Result<usize, NoMemory> {
 }
 
 /// A word and the sum of 2 and 3.
-fn added(b: &mut Builder, n: Net) -> Result<usize, NoMemory> {
+fn added(b: &mut Builder, n: Net) -> Result<usize, NoMemory>
+    requires there { IsThere b.old n }
+    requires width { (signal b.old n).width ≡ 8 }
+    ensures { Extends b.old b.new }
+{
     let two = b.constant(8, 2)?;
     let three = b.constant(8, 3)?;
     let five = b.bin(BinOp::Add, two, three)?;
