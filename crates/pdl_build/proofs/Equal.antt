@@ -10,7 +10,7 @@ use Rattle.pdl_net.specs.Well.{AllFit, IsWell}
 use Rattle.pdl_net.specs.Growth.{Grows}
 use Rattle.pdl_net.proofs.Signals.{signals_from_front, look_front, cell_signal_same}
 
-same_grows : (c : Circuit) → Grows c c
+pub same_grows : (c : Circuit) → Grows c c
 same_grows c = record {
   inputs = λ i h. (h, refl);
   regs = λ r h. (h, refl);

@@ -5,3 +5,7 @@ pub mod Extensions
 pub mod Operators
 pub mod Equal
 pub mod Choices
+pub mod Found
+pub mod Known
+pub mod Folds
+pub mod Simpler

@@ -1,5 +1,5 @@
 -- The widths of nets, as the builder keeps them beside its circuit.
-use Rattle.std.proofs.Common.{◌≡◌, ℕ, zero, ◌+◌, ◌-◌, ◌^◌, ◌<◌, List, [], ◌∷◌, map, length, get_or, refl, sym, ap, ◌∙◌, subst, arith, replicate}
+use Rattle.std.proofs.Common.{◌≡◌, ℕ, zero, ◌+◌, ◌-◌, ◌^◌, ◌<◌, List, [], map, length, get_or, refl, sym, ap, ◌∙◌, subst, arith, replicate}
 use Rattle.std.specs.Prelude.{slice_index, slice_index_or}
 use Rattle.std.proofs.lemmas.List.{get_or-map, length-map, length-replicate}
 use Rattle.std.proofs.lemmas.Nat.{pow_pos}
@@ -63,13 +63,13 @@ pub cell_is : (c v : Circuit) (ins ws : List ℕ) (x : Net) (k : ℕ) → HasWid
 cell_is c v ins ws x k h e f t = cell_width c ins ws k h (there_as c v x (CellNet k) e f t) ∙ width_as c v x (CellNet k) e f
 
 -- a state in which all is 0
-abbrev nothing : Circuit → State
+abbrev pub nothing : Circuit → State
 nothing c = record { inputs = map (λ (w : ℕ). zero) (inputs_of c); regs = map (λ (r : Reg). zero) c.regs; arrays = map (λ (a : Array). replicate a.depth 0) c.arrays }
 
 zero_fits : (v w : ℕ) → v ≡ 0 → v < 2 ^ w
 zero_fits v w e = omega (arith, e, pow_pos w)
 
-nothing_suits : (c : Circuit) → Suits c (nothing c)
+pub nothing_suits : (c : Circuit) → Suits c (nothing c)
 nothing_suits c =
     let at = λ (m : ℕ) (h : m < length c.arrays). get_or-map (λ (a : Array). replicate a.depth 0) c.arrays m no_array [] h in
     record {

@@ -1,3 +1,6 @@
 pub mod Parts
 pub mod Change
 pub mod Operators
+pub mod Distinct
+pub mod Folded
+pub mod Rules

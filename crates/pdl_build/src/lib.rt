@@ -1,24 +1,29 @@
-//! A builder of netlists: each call adds what it is told, and all nets keep the values that they had. Of equal cells only the first is made, but by `cell`, which always makes one: no clause says so, and tests of `pdl_parttests` try it.
+//! A builder of netlists: each call adds what it is told, and all nets keep the values that they had; no two cells are equal, and a cell whose operands are all constants is the constant that it gives.
 //!
 //! The layers above make a netlist by a `Builder`, and take what they know of its nets from the clauses of its calls.
 #![tactic(auto)]
 
+mod calls;
+mod distinct;
 mod extend;
+mod fold;
+mod rules;
 mod same;
+mod simplify;
 
-ghost use Rattle.std.specs.Prelude.{◌≡◌, ℕ, ◌+◌, ◌*◌, ◌^◌, ◌<◌, ◌≤◌, [], ◌∷◌, ◌++◌, length, IfOk, IfSome, OnOk, OnErr};
+ghost use Rattle.std.specs.Prelude.{◌≡◌, ◌≢◌, ℕ, ◌+◌, ◌*◌, ◌^◌, ◌<◌, ◌≤◌, [], ◌∷◌, ◌++◌, length, AllPairs, IfOk, OnOk, OnErr};
 ghost use Rattle.pdl_net.specs.Circuit.{circuit_of, inputs_of, outputs_of, array_at, HasReg, reg_width, HasArray, array_width, array_depth};
-ghost use Rattle.pdl_net.specs.Signal.{input_signal, const_signal, const_value, not_signal, bin_signal, mux_signal, slice_signal, cat_signal, rep_signal, read_signal, bin_width as op_width};
+ghost use Rattle.pdl_net.specs.Signal.{input_signal, bin_width as op_width};
 ghost use Rattle.pdl_net.specs.Meaning.{IsThere, Means, signal, cell_signal, next_signal, write_signal, write_signals};
 ghost use Rattle.pdl_net.specs.Well.{Fits, IsWell, IsDepth};
 ghost use Rattle.pdl_net.specs.Growth.{Extends, ExtendsBut, ExtendsPorts, ExtendsArrays};
-ghost use Rattle.pdl_build.specs.Change.{empty_circuit, with_cell, with_port, input_port, output_port, with_reg, with_next, new_shape, with_array, with_write, write_port, one_reg, one_array, IsNewReg, IsNewArray};
+ghost use Rattle.pdl_build.specs.Folded.{AreFolded};
+ghost use Rattle.pdl_build.specs.Change.{empty_circuit, with_port, input_port, output_port, with_reg, with_next, new_shape, with_array, with_write, write_port, one_reg, one_array, IsNewReg, IsNewArray};
 
+use distinct::DistinctCells;
 use pdl_kit::{MemInfo, Name, NoMemory, Seq};
 use pdl_net::{Array, BinOp, Cell, Dir, Net, Netlist, Port, Reg, WritePort};
-use same::{is_same_cell, is_same_net};
 use std::alloc::Global;
-use std::collections::HashMap;
 use std::marker::Model;
 
 /// A netlist that grows.
@@ -27,12 +32,10 @@ pub struct Builder {
     ports: Vec<Port>,
     regs: Vec<Reg>,
     arrays: Vec<Array>,
-    cells: Vec<Cell>,
+    cells: DistinctCells,
     /// The width of each input and of each cell, in bits.
     input_widths: Vec<u8>,
     cell_widths: Vec<u8>,
-    /// Where a cell may be found again; what stands there is compared before it is used.
-    places: HashMap<Cell, usize>,
 }
 
 // As the derive would, but by a call of its owners: docs/DECISIONS.md says why.
@@ -46,7 +49,6 @@ impl Drop for Builder {
             cells: _,
             input_widths: _,
             cell_widths: _,
-            places: _,
         } = self;
     }
 }
@@ -73,10 +75,9 @@ impl Builder {
             ports: Vec::new(alloc),
             regs: Vec::new(alloc),
             arrays: Vec::new(alloc),
-            cells: Vec::new(alloc),
+            cells: DistinctCells::new(alloc),
             input_widths: Vec::new(alloc),
             cell_widths: Vec::new(alloc),
-            places: HashMap::new(alloc),
         }
     }
 
@@ -85,6 +86,13 @@ impl Builder {
         ensures { result ≡ length self.now.regs }
     {
         self.regs.len()
+    }
+
+    /// How many cells there are.
+    pub fn cell_count(&self) -> usize
+        ensures { result ≡ length self.now.cells }
+    {
+        self.cells.len()
     }
 
     /// The width of a net in bits, 1 to 64.
@@ -244,97 +252,14 @@ impl Builder {
         Ok(at)
     }
 
-    /// One more cell; the nets that it reads are there, with the widths that it takes.
-    pub fn cell(&mut self, cell: Cell) -> Result<Net, NoMemory>
-        requires { Fits self.old cell }
-        ensures exact { OnOk result (self.new ≡ with_cell self.old cell) }
-        ensures place { IfOk result (λ x. x ≡ Net.Cell (length self.old.cells)) }
-        ensures means { IfOk result (λ x.
-            Means self.new x (cell_signal self.old (signal self.old) cell)) }
-        ensures extends { Extends self.old self.new }
-        ensures regs { self.new.regs ≡ self.old.regs }
-        ensures err { OnErr result (self.new ≡ self.old) }
-    {
-        let at = self.cells.len();
-        let width = self.cell_width(cell);
-        self.cell_widths.push(width)?;
-        match self.cells.push(cell) {
-            Ok(()) => Ok(Net::Cell(at)),
-            Err(_) => {
-                self.cell_widths.pop();
-                Err(NoMemory)
-            }
-        }
-    }
-
-    /// The net of an equal cell, where one is known.
-    fn equal(&self, cell: Cell) -> Option<Net>
-        ensures { IfSome result (λ x. Means self.now x
-            (cell_signal self.now (signal self.now) cell)) }
-    {
-        let at = *self.places.get(&cell)?;
-        if at < self.cells.len() && is_same_cell(self.cells[at], cell) {
-            Some(Net::Cell(at))
-        } else {
-            None
-        }
-    }
-
-    /// The net of an equal cell, where one is known, else of one more cell.
-    fn once(&mut self, cell: Cell) -> Result<Net, NoMemory>
-        requires { Fits self.old cell }
-        ensures means { IfOk result (λ x.
-            Means self.new x (cell_signal self.old (signal self.old) cell)) }
-        ensures extends { Extends self.old self.new }
-        ensures regs { self.new.regs ≡ self.old.regs }
-    {
-        if let Some(net) = self.equal(cell) {
-            return Ok(net);
-        }
-        self.places.insert(cell, self.cells.len())?;
-        self.cell(cell)
-    }
-
-    /// The value of a net that is a constant, none of any other net.
-    fn constant_of(&self, net: Net) -> Option<u64>
-        requires { IsThere self.now net }
-        ensures { IfSome result (λ v. (signal self.now net).value ≡ const_value v) }
-    {
-        match net {
-            Net::Cell(k) => match self.cells[k] {
-                Cell::Const { value, .. } => Some(value),
-                _ => None,
-            },
-            _ => None,
-        }
-    }
-
-    /// The arm that a choice takes, where that is known without a cell: both are one net, or the choice is a constant.
-    #[tactic(auto, using(crate::proofs::Choices::same_arm, crate::proofs::Choices::first_arm, crate::proofs::Choices::second_arm))]
-    fn known_arm(&self, choice: Net, a: Net, b: Net) -> Option<Net>
-        requires choice_there { IsThere self.now choice }
-        requires a_there { IsThere self.now a }
-        requires b_there { IsThere self.now b }
-        requires widths { (signal self.now a).width ≡ (signal self.now b).width }
-        ensures { IfSome result (λ x. Means self.now x
-            (mux_signal (signal self.now choice) (signal self.now a) (signal self.now b))) }
-    {
-        if is_same_net(a, b) {
-            return Some(a);
-        }
-        match self.constant_of(choice) {
-            Some(1) => Some(a),
-            Some(_) => Some(b),
-            None => None,
-        }
-    }
-
     /// The whole netlist, with its name and the memories of its pipe.
     pub fn finish(self, name: Name, mems: Seq<MemInfo>) -> Netlist
         ensures value { circuit_of result ≡ self }
         ensures name { result.name ≡ name }
         ensures mems { result.mems ≡ mems }
         ensures well { IsWell (circuit_of result) }
+        ensures different { AllPairs (λ a b. a ≢ b) result.cells }
+        ensures folded { AreFolded result.cells }
     {
         let Builder {
             alloc: _,
@@ -344,122 +269,15 @@ impl Builder {
             cells,
             input_widths: _,
             cell_widths: _,
-            places: _,
         } = self;
         Netlist {
             name,
             ports: Seq::from_vec(ports),
             regs: Seq::from_vec(regs),
             arrays: Seq::from_vec(arrays),
-            cells: Seq::from_vec(cells),
+            cells: cells.into_seq(),
             mems,
         }
-    }
-
-    /// A cell that is always this value, of 1 to 64 bits.
-    pub fn constant(&mut self, width: u8, value: u64) -> Result<Net, NoMemory>
-        requires low { 1 ≤ width }
-        requires high { width ≤ 64 }
-        requires fits { value < 2 ^ width }
-        ensures means { IfOk result (λ x. Means self.new x (const_signal width value)) }
-        ensures extends { Extends self.old self.new }
-        ensures regs { self.new.regs ≡ self.old.regs }
-    {
-        self.once(Cell::Const { width, value })
-    }
-
-    /// Each bit of a net the other way.
-    pub fn not(&mut self, a: Net) -> Result<Net, NoMemory>
-        requires { IsThere self.old a }
-        ensures means { IfOk result (λ x. Means self.new x (not_signal (signal self.old a))) }
-        ensures extends { Extends self.old self.new }
-        ensures regs { self.new.regs ≡ self.old.regs }
-    {
-        self.once(Cell::Not(a))
-    }
-
-    /// An operator on two nets of one width.
-    pub fn bin(&mut self, op: BinOp, a: Net, b: Net) -> Result<Net, NoMemory>
-        requires a_there { IsThere self.old a }
-        requires b_there { IsThere self.old b }
-        requires widths { (signal self.old a).width ≡ (signal self.old b).width }
-        ensures means { IfOk result (λ x.
-            Means self.new x (bin_signal op (signal self.old a) (signal self.old b))) }
-        ensures extends { Extends self.old self.new }
-        ensures regs { self.new.regs ≡ self.old.regs }
-    {
-        self.once(Cell::Bin(op, a, b))
-    }
-
-    /// The net `a` where `choice`, of 1 bit, is 1, else `b`; no cell is made where the choice is a constant or both are one net.
-    pub fn mux(&mut self, choice: Net, a: Net, b: Net) -> Result<Net, NoMemory>
-        requires choice_there { IsThere self.old choice }
-        requires a_there { IsThere self.old a }
-        requires b_there { IsThere self.old b }
-        requires one { (signal self.old choice).width ≡ 1 }
-        requires widths { (signal self.old a).width ≡ (signal self.old b).width }
-        ensures means { IfOk result (λ x.
-            Means self.new x (mux_signal (signal self.old choice) (signal self.old a)
-            (signal self.old b))) }
-        ensures extends { Extends self.old self.new }
-        ensures regs { self.new.regs ≡ self.old.regs }
-    {
-        if let Some(arm) = self.known_arm(choice, a, b) {
-            return Ok(arm);
-        }
-        self.once(Cell::Mux(choice, a, b))
-    }
-
-    /// The bits of a net from `high` down to `low`.
-    pub fn slice(&mut self, a: Net, high: u8, low: u8) -> Result<Net, NoMemory>
-        requires a_there { IsThere self.old a }
-        requires order { low ≤ high }
-        requires top { high < (signal self.old a).width }
-        ensures means { IfOk result (λ x.
-            Means self.new x (slice_signal high low (signal self.old a))) }
-        ensures extends { Extends self.old self.new }
-        ensures regs { self.new.regs ≡ self.old.regs }
-    {
-        self.once(Cell::Slice { a, high, low })
-    }
-
-    /// The net `a` above `b`, of at most 64 bits together.
-    pub fn cat(&mut self, a: Net, b: Net) -> Result<Net, NoMemory>
-        requires a_there { IsThere self.old a }
-        requires b_there { IsThere self.old b }
-        requires widths { (signal self.old a).width + (signal self.old b).width ≤ 64 }
-        ensures means { IfOk result (λ x.
-            Means self.new x (cat_signal (signal self.old a) (signal self.old b))) }
-        ensures extends { Extends self.old self.new }
-        ensures regs { self.new.regs ≡ self.old.regs }
-    {
-        self.once(Cell::Cat(a, b))
-    }
-
-    /// A net `count` times in a row, of at most 64 bits together.
-    pub fn rep(&mut self, count: u8, a: Net) -> Result<Net, NoMemory>
-        requires a_there { IsThere self.old a }
-        requires some { 1 ≤ count }
-        requires widths { count * (signal self.old a).width ≤ 64 }
-        ensures means { IfOk result (λ x. Means self.new x (rep_signal count (signal self.old a))) }
-        ensures extends { Extends self.old self.new }
-        ensures regs { self.new.regs ≡ self.old.regs }
-    {
-        self.once(Cell::Rep { count, a })
-    }
-
-    /// The word of an array at an address.
-    pub fn read(&mut self, array: usize, addr: Net) -> Result<Net, NoMemory>
-        requires has { HasArray self.old array }
-        requires addr_there { IsThere self.old addr }
-        requires reach { 2 ^ (signal self.old addr).width ≡ array_depth self.old array }
-        ensures means { IfOk result (λ x.
-            Means self.new x (read_signal (array_width self.old array) array
-            (signal self.old addr))) }
-        ensures extends { Extends self.old self.new }
-        ensures regs { self.new.regs ≡ self.old.regs }
-    {
-        self.once(Cell::Read { array, addr })
     }
 }
 

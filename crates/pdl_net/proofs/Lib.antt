@@ -7,5 +7,6 @@ pub mod Widths
 pub mod Examples
 pub mod WidthLists
 pub mod PipeMems
+pub mod Equal
 pub mod Holds
 pub mod Loaded

@@ -2,13 +2,16 @@
 use pdl_build::Builder;
 use pdl_flatnets::{Bits, all_taken, value};
 use pdl_form::{Expr, Guard};
-use pdl_kit::{Boxed, NoMemory};
+use pdl_kit::{Boxed, Name, NoMemory};
 use pdl_net::Net;
 use pdl_tree::BinaryOp;
 use std::alloc::Global;
 
-/// What is always 0; the sum of it and 1; a guard that this sum is 0; whether both the guard and what is always 0 are 1.
+/// What is always 0; the sum of an input of 1 bit and 1; a guard that this sum is 0; whether both the guard and what is always 0 are 1.
 fn emit_cells(alloc: Global, b: &mut Builder) -> Result<[Net; 4], NoMemory> {
+    let name = Name::copy_of(alloc, b"x")?;
+    let input = b.input(&name, 1)?;
+    let bits = Bits::new(b)?;
     let (op, width) = (BinaryOp::Add, 1);
     let x = Boxed::new(alloc, Expr::Variable(0))?;
     let one = Boxed::new(alloc, Expr::Constant { width, value: 1 })?;
@@ -18,8 +21,7 @@ fn emit_cells(alloc: Global, b: &mut Builder) -> Result<[Net; 4], NoMemory> {
         a: x,
         b: one,
     };
-    let bits = Bits::new(b)?;
-    let sum = value(b, &[bits.zero], &e)?;
+    let sum = value(b, &[input], &e)?;
     drop(e);
     let (var, first) = (0, false);
     let on = all_taken(bits, b, &[sum], &[Guard { var, first }])?;

@@ -4,6 +4,7 @@ pub mod Shifts
 pub mod Signs
 pub mod Bounds
 pub mod Copies
+pub mod Laws
 pub mod Rows
 pub mod Bools
 pub mod Lists

@@ -9,6 +9,7 @@ invariant_of-self-2 c =
     record {
       well = rw (c.in_ok-push.ensures.items, c.in_ok-name.ensures.cases, c.new-writes.ensures) (well_array k c.args.name.now c.args.width c.args.depth c.self.invariant.well c.requires.low c.requires.high c.requires.depth);
       widths = rw (c.in_ok-push.ensures.items, c.in_ok-name.ensures.cases, c.new-writes.ensures) (widths_array k c.args.name.now c.args.width c.args.depth b.input_widths.items b.cell_widths.items c.self.invariant.well c.self.invariant.widths);
+      folded = c.self.invariant.folded;
     }
 
 pub returns-clause-has : goal.returns-clause-has

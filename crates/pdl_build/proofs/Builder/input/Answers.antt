@@ -10,6 +10,7 @@ invariant_of-self-in-Ok c =
     record {
       well = rw c.in-Ok.ensures.ok (well_input k c.args.name.now c.args.width c.self.invariant.well c.requires.low c.requires.high);
       widths = rw (c.in-Ok.ensures.ok, c.in_ok-push.ensures.items) (widths_input k c.args.name.now c.args.width b.input_widths.items b.cell_widths.items c.self.invariant.well c.self.invariant.widths);
+      folded = c.self.invariant.folded;
     }
 
 pub returns-in-Ok-clause-means : goal.returns-in-Ok-clause-means

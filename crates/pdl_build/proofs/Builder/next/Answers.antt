@@ -28,6 +28,7 @@ invariant_of-self c =
     record {
       well = subst IsWell same (well_next k c.args.reg c.args.net h (subst T e c.requires.there) (subst W e c.requires.width) w);
       widths = subst D same (widths_next k c.args.reg c.args.net b.input_widths.items b.cell_widths.items h w c.self.invariant.widths);
+      folded = c.self.invariant.folded;
     }
 
 pub returns-clause-set : goal.returns-clause-set

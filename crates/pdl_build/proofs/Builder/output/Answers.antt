@@ -25,6 +25,7 @@ invariant_of-self-2 c =
     record {
       well = rw (c.in_ok-push_port.ensures.ok, e) (well_output k c.args.name.now c.args.net c.self.invariant.well t z.low z.high);
       widths = rw (c.in_ok-push_port.ensures.ok, e) (widths_output k c.args.name.now c.args.net b.input_widths.items b.cell_widths.items c.self.invariant.well c.self.invariant.widths);
+      folded = c.self.invariant.folded;
     }
 
 pub returns-clause-place : goal.returns-clause-place

@@ -9,6 +9,7 @@ invariant_of-self-2 c =
     record {
       well = rw (c.in_ok-push.ensures.items, c.len-at.ensures, b.regs.ok.0) (well_reg k c.args.width c.args.reset c.self.invariant.well c.requires.low c.requires.high c.requires.fits);
       widths = rw (c.in_ok-push.ensures.items, c.len-at.ensures, b.regs.ok.0) (widths_reg k c.args.width c.args.reset b.input_widths.items b.cell_widths.items c.self.invariant.well c.self.invariant.widths);
+      folded = c.self.invariant.folded;
     }
 
 pub returns-clause-has : goal.returns-clause-has

@@ -30,6 +30,7 @@ invariant_of-self-2 c =
     record {
       well = rw c.in_ok-push.ensures.ok (subst IsWell (sym same) (well_write k c.args.array p h f c.self.invariant.well));
       widths = rw c.in_ok-push.ensures.ok (subst D (sym same) (widths_write k c.args.array p b.input_widths.items b.cell_widths.items h c.self.invariant.well c.self.invariant.widths));
+      folded = c.self.invariant.folded;
     }
 
 pub returns-clause-place : goal.returns-clause-place

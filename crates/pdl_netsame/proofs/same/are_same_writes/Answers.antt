@@ -1,5 +1,5 @@
 use Rattle.std.proofs.lemmas.Slice.Eq.{slice_eq-Decides}
-use Rattle.pdl_netsame.proofs.Equal.{write_equal}
+use Rattle.pdl_net.proofs.Equal.{write_equal}
 use Rattle.pdl_netsame.proofs.same.are_same_writes.Goals as goal
 
 pub returns : goal.returns

@@ -12,10 +12,10 @@ use Rattle.pdl_net.specs.contracts.BinOpPartialEq.TheImpl as op
 use Rattle.pdl_net.specs.contracts.WritePortPartialEq.TheImpl as write
 use Rattle.pdl_net.specs.contracts.CellPartialEq.TheImpl as cell
 
-net_equal : (x y : Net) → Decides (net.ghosts.eq x y) (x ≡ y)
+pub net_equal : (x y : Net) → Decides (net.ghosts.eq x y) (x ≡ y)
 net_equal x y = search rules
 
-op_equal : (x y : BinOp) → Decides (op.ghosts.eq x y) (x ≡ y)
+pub op_equal : (x y : BinOp) → Decides (op.ghosts.eq x y) (x ≡ y)
 op_equal x y = search rules
 
 pub write_equal : (x y : WritePort) → Decides (write.ghosts.eq x y) (x ≡ y)
