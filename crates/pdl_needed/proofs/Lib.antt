@@ -7,5 +7,6 @@ pub mod Shown
 pub mod Needs
 pub mod Added
 pub mod Marked
+pub mod Distinct
 pub mod Whole
 pub mod Copies

@@ -58,7 +58,7 @@ used_moved k n =
     ∙ ap (λ xs. map (moved_net k) shown ++ xs) (arrays_moved k n.arrays)
     ∙ sym (map-append (moved_net k) shown (flat_map written_from n.arrays))
 
-cell_moved : (k : Choice) (n : Netlist) → IsClosed (circuit_of n) k → (j : ℕ) → IsKept k (CellNet j) → cell_at (after k n) (kept_before k.cells j) ≡ moved_cell k (cell_at (circuit_of n) j)
+pub cell_moved : (k : Choice) (n : Netlist) → IsClosed (circuit_of n) k → (j : ℕ) → IsKept k (CellNet j) → cell_at (after k n) (kept_before k.cells j) ≡ moved_cell k (cell_at (circuit_of n) j)
 cell_moved k n h j kept =
     let e = kept_length k.cells n.cells h.cell_count in
     let b = kept_within k.cells j kept in

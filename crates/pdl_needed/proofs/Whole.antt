@@ -1,5 +1,5 @@
 -- What holds of a netlist with its needed registers and cells alone.
-use Rattle.std.proofs.Common.{◌≡◌, ℕ, List, Result, Ok, Err, IfOk, sym, subst}
+use Rattle.std.proofs.Common.{◌≡◌, ◌≢◌, AllPairs, ℕ, List, Result, Ok, Err, IfOk, sym, subst}
 use Rattle.pdl_net.specs.declared.Netlist.{Netlist}
 use Rattle.pdl_net.specs.Circuit.{circuit_of}
 use Rattle.pdl_net.specs.Pipe.{IsWellFormed}
@@ -10,6 +10,7 @@ use Rattle.pdl_needed.proofs.Closed.{closed}
 use Rattle.pdl_needed.proofs.Well.{frame, well_formed as well_formed_by}
 use Rattle.pdl_needed.proofs.Shown.{shows_same}
 use Rattle.pdl_needed.proofs.Needs.{all_needed}
+use Rattle.pdl_needed.proofs.Distinct.{distinct_cells}
 
 -- what an answer makes known of a netlist, where it is one
 lifted : {E : Type 0} (P Q : Netlist → Type 0) (r : Result Netlist E) → ((p : Netlist) → P p → Q p) → IfOk r P → IfOk r Q
@@ -31,6 +32,9 @@ same_frame n p h = subst (HasSameFrame n) (sym h.same) (frame h.kept n)
 needed : (n p : Netlist) → IsPruned n p → AllNeeded (circuit_of p)
 needed n p h = subst (λ (q : Netlist). AllNeeded (circuit_of q)) (sym h.same) (all_needed h.kept n h.needed)
 
+distinct : (n p : Netlist) → IsPruned n p → AllPairs (λ a b. a ≢ b) n.cells → AllPairs (λ a b. a ≢ b) p.cells
+distinct n p h a = subst (λ (q : Netlist). AllPairs (λ x y. x ≢ y) q.cells) (sym h.same) (distinct_cells h.kept n (closed (circuit_of n) h.kept h.needed) a)
+
 pub all_well : {E : Type 0} (n : Netlist) (r : Result Netlist E) → IsWellFormed n → IfOk r (IsPruned n) → IfOk r IsWellFormed
 all_well n r w o = lifted (IsPruned n) IsWellFormed r (λ p h. well_formed n p w h) o
 
@@ -42,3 +46,6 @@ all_framed n r o = lifted (IsPruned n) (HasSameFrame n) r (same_frame n) o
 
 pub all_need : {E : Type 0} (n : Netlist) (r : Result Netlist E) → IfOk r (IsPruned n) → IfOk r (λ p. AllNeeded (circuit_of p))
 all_need n r o = lifted (IsPruned n) (λ p. AllNeeded (circuit_of p)) r (needed n) o
+
+pub all_distinct : {E : Type 0} (n : Netlist) (r : Result Netlist E) → IfOk r (IsPruned n) → IfOk r (λ p. AllPairs (λ a b. a ≢ b) n.cells → AllPairs (λ a b. a ≢ b) p.cells)
+all_distinct n r o = lifted (IsPruned n) (λ p. AllPairs (λ a b. a ≢ b) n.cells → AllPairs (λ a b. a ≢ b) p.cells) r (distinct n) o

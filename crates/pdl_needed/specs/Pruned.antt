@@ -33,15 +33,19 @@ moved_net k (Input i) = Input i
 moved_net k (RegNet r) = RegNet (kept_before k.regs r)
 moved_net k (CellNet j) = CellNet (kept_before k.cells j)
 
+-- a cell over other nets
+abbrev pub over_nets : (Net → Net) → Cell → Cell
+over_nets f (Const w v) = Const w v
+over_nets f (Not a) = Not (f a)
+over_nets f (Bin op a b) = Bin op (f a) (f b)
+over_nets f (Mux x a b) = Mux (f x) (f a) (f b)
+over_nets f (Slice a high low) = Slice (f a) high low
+over_nets f (Cat a b) = Cat (f a) (f b)
+over_nets f (Rep n a) = Rep n (f a)
+over_nets f (Read m a) = Read m (f a)
+
 abbrev pub moved_cell : Choice → Cell → Cell
-moved_cell k (Const w v) = Const w v
-moved_cell k (Not a) = Not (moved_net k a)
-moved_cell k (Bin op a b) = Bin op (moved_net k a) (moved_net k b)
-moved_cell k (Mux x a b) = Mux (moved_net k x) (moved_net k a) (moved_net k b)
-moved_cell k (Slice a high low) = Slice (moved_net k a) high low
-moved_cell k (Cat a b) = Cat (moved_net k a) (moved_net k b)
-moved_cell k (Rep n a) = Rep n (moved_net k a)
-moved_cell k (Read m a) = Read m (moved_net k a)
+moved_cell k g = over_nets (moved_net k) g
 
 abbrev pub moved_dir : Choice → Dir → Dir
 moved_dir k In = In

@@ -8,7 +8,7 @@ mod marking;
 mod marks;
 mod parts;
 
-ghost use Rattle.std.specs.Prelude.{◌≡◌, ℕ, List, IfOk};
+ghost use Rattle.std.specs.Prelude.{◌≡◌, ◌≢◌, ℕ, List, AllPairs, IfOk};
 ghost use Rattle.pdl_net.specs.Circuit.{circuit_of};
 ghost use Rattle.pdl_net.specs.Pipe.{IsWellFormed};
 ghost use Rattle.pdl_net.specs.Run.{nports};
@@ -32,6 +32,8 @@ pub fn needed_part(alloc: Global, net: &Netlist) -> Result<Netlist, NoMemory>
         → nports p image schedule ≡ nports net.now image schedule) }
     ensures frame { IfOk result (λ p. HasSameFrame net.now p) }
     ensures needed { IfOk result (λ p. AllNeeded (circuit_of p)) }
+    ensures distinct { IfOk result (λ p. AllPairs (λ a b. a ≢ b) net.now.cells
+        → AllPairs (λ a b. a ≢ b) p.cells) }
     ensures pruned { IfOk result (λ p. IsPruned net.now p) }
 {
     let marks = needed_marks(alloc, net)?;

@@ -1,7 +1,7 @@
 use Rattle.std.proofs.Common.{sym, subst}
 use Rattle.pdl_net.specs.Circuit.{circuit_of}
 use Rattle.pdl_needed.specs.Needed.{KeepsNeeded}
-use Rattle.pdl_needed.proofs.Whole.{all_pruned, all_well, all_show, all_framed, all_need}
+use Rattle.pdl_needed.proofs.Whole.{all_pruned, all_well, all_show, all_framed, all_need, all_distinct}
 use Rattle.pdl_needed.proofs.needed_part.Goals as goal
 
 pub returns-clause-pruned : goal.returns-clause-pruned
@@ -18,3 +18,6 @@ returns-clause-frame c = all_framed c.args.net.now c.pruned_netlist.result (retu
 
 pub returns-clause-needed : goal.returns-clause-needed
 returns-clause-needed c = all_need c.args.net.now c.pruned_netlist.result (returns-clause-pruned c)
+
+pub returns-clause-distinct : goal.returns-clause-distinct
+returns-clause-distinct c = all_distinct c.args.net.now c.pruned_netlist.result (returns-clause-pruned c)
