@@ -7,7 +7,13 @@ use Rattle.pdl_net.specs.declared.Cell.TheVariants.{Const, Not, Bin, Mux, Slice,
 
 abbrev pub is_const : Cell → Bool
 is_const (Const w v) = true
-is_const _ = false
+is_const (Not a) = false
+is_const (Bin op a b) = false
+is_const (Mux c a b) = false
+is_const (Slice a high low) = false
+is_const (Cat a b) = false
+is_const (Rep k a) = false
+is_const (Read m a) = false
 
 abbrev pub cell_in : List Cell → ℕ → Cell
 cell_in cells k = slice_index_or cells k (Const 0 0)

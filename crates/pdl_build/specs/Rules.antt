@@ -1,9 +1,9 @@
 -- What may stand for a cell.
 use Rattle.std.specs.Prelude.{◌≡◌, ℕ, ◌<◌, ◌^◌, Bool, true, false, Option, Some, None}
 use Rattle.pdl_net.specs.declared.BinOp.{BinOp}
-use Rattle.pdl_net.specs.declared.BinOp.TheVariants.{And, Or, Xor, Shr}
+use Rattle.pdl_net.specs.declared.BinOp.TheVariants.{Add, Sub, Mul, And, Or, Xor, Eq, Ne, Lt, Shl, Shr}
 use Rattle.pdl_net.specs.declared.Cell.{Cell}
-use Rattle.pdl_net.specs.declared.Cell.TheVariants.{Const, Not, Bin, Slice}
+use Rattle.pdl_net.specs.declared.Cell.TheVariants.{Const, Not, Bin, Mux, Slice, Cat, Rep, Read}
 use Rattle.pdl_net.specs.Circuit.{Circuit, State}
 use Rattle.pdl_net.specs.Signal.{Signal, bin_word, bin_width, const_value}
 use Rattle.pdl_net.specs.Meaning.{Means, cell_signal, signal}
@@ -32,14 +32,23 @@ is_cut_by And = false
 is_cut_by Or = false
 is_cut_by Xor = false
 is_cut_by Shr = false
-is_cut_by _ = true
+is_cut_by Add = true
+is_cut_by Sub = true
+is_cut_by Mul = true
+is_cut_by Eq = true
+is_cut_by Ne = true
+is_cut_by Lt = true
+is_cut_by Shl = true
 
 abbrev pub is_cut : Cell → Bool
 is_cut (Const w v) = true
 is_cut (Not a) = true
 is_cut (Slice a high low) = true
 is_cut (Bin op a b) = is_cut_by op
-is_cut _ = false
+is_cut (Mux c a b) = false
+is_cut (Cat a b) = false
+is_cut (Rep k a) = false
+is_cut (Read m a) = false
 
 -- in every state, also one that doesn't suit the circuit, a signal's value is below the power of two of its width
 abbrev pub IsBelow : Signal → Type 0
