@@ -1,10 +1,33 @@
 // The kinds of cells, one by one.
 
-ghost use Rattle.std.specs.Prelude.{◌≡◌, refl};
+ghost use Rattle.std.specs.Prelude.{◌≡◌, ◌<◌, ◌≤◌, ◌%◌, ◌^◌, refl};
+ghost use Rattle.pdl_word.specs.Words.{rep};
 ghost use Rattle.pdl_netrun.specs.Steps.{KindFits, kind_value, array_words};
 ghost use Rattle.pdl_netrun.specs.declared.operation.Kind.TheVariants as kinds;
 
 use crate::operation::{Kind, Operands, Operation};
+
+/// The lowest `width` bits of a word.
+#[tactic(auto, using(crate::proofs::Bits::top_off))]
+fn low_bits(width: u8, word: u64) -> u64
+    requires low { 1 ≤ width }
+    requires high { width ≤ 64 }
+    ensures { result ≡ word % 2 ^ width }
+{
+    let above = 64 - width;
+    (word << above) >> above
+}
+
+/// A bit, so many times.
+#[tactic(auto, using(crate::proofs::Bits::no_bits, crate::proofs::Bits::all_bits))]
+fn repeated_bit(count: u8, bit: u64) -> u64
+    requires some { 1 ≤ count }
+    requires few { count ≤ 64 }
+    requires bit { bit < 2 }
+    ensures { result ≡ rep 1 count bit }
+{
+    if bit == 0 { 0 } else { pdl_word::mask(count) }
+}
 
 pub struct Complement;
 
@@ -23,12 +46,10 @@ pub struct Add;
 impl Operation for Add {
     ghost kind = { kinds.Add };
 
+    #[tactic(auto, using(crate::proofs::Bits::added))]
     fn value(operands: &Operands, values: &[u64], arrays: &[Vec<u64>]) -> u64 {
-        pdl_word::add(
-            operands.width,
-            operands.first(values),
-            operands.second(values),
-        )
+        let sum = operands.first(values).wrapping_add(operands.second(values));
+        low_bits(operands.width, sum)
     }
 
     ghost acts = { λ o at vs ws. refl };
@@ -55,12 +76,10 @@ pub struct Mul;
 impl Operation for Mul {
     ghost kind = { kinds.Mul };
 
+    #[tactic(auto, using(crate::proofs::Bits::multiplied))]
     fn value(operands: &Operands, values: &[u64], arrays: &[Vec<u64>]) -> u64 {
-        pdl_word::mul(
-            operands.width,
-            operands.first(values),
-            operands.second(values),
-        )
+        let product = operands.first(values).wrapping_mul(operands.second(values));
+        low_bits(operands.width, product)
     }
 
     ghost acts = { λ o at vs ws. refl };
@@ -191,8 +210,9 @@ pub struct Slice;
 impl Operation for Slice {
     ghost kind = { kinds.Slice };
 
+    #[tactic(auto, using(crate::proofs::Bits::sliced))]
     fn value(operands: &Operands, values: &[u64], arrays: &[Vec<u64>]) -> u64 {
-        pdl_word::slice(operands.high, operands.low, operands.first(values))
+        low_bits(operands.high + 1, operands.first(values)) >> operands.low
     }
 
     ghost acts = { λ o at vs ws. refl };
@@ -220,7 +240,13 @@ impl Operation for Repeat {
     ghost kind = { kinds.Repeat };
 
     fn value(operands: &Operands, values: &[u64], arrays: &[Vec<u64>]) -> u64 {
-        pdl_word::rep(operands.width, operands.count, operands.first(values))
+        let word = operands.first(values);
+        // One bit, as the sign of a number, is what is repeated most.
+        if operands.width == 1 {
+            repeated_bit(operands.count, word)
+        } else {
+            pdl_word::rep(operands.width, operands.count, word)
+        }
     }
 
     ghost acts = { λ o at vs ws. refl };
