@@ -60,12 +60,10 @@ pub struct Sub;
 impl Operation for Sub {
     ghost kind = { kinds.Sub };
 
+    #[tactic(auto, using(crate::proofs::Bits::subtracted))]
     fn value(operands: &Operands, values: &[u64], arrays: &[Vec<u64>]) -> u64 {
-        pdl_word::sub(
-            operands.width,
-            operands.first(values),
-            operands.second(values),
-        )
+        let difference = operands.first(values).wrapping_sub(operands.second(values));
+        low_bits(operands.width, difference)
     }
 
     ghost acts = { λ o at vs ws. refl };
@@ -165,12 +163,16 @@ pub struct ShiftLeft;
 impl Operation for ShiftLeft {
     ghost kind = { kinds.ShiftLeft };
 
+    #[tactic(auto, using(crate::proofs::Bits::moved_up, pdl_word::proofs::Shifts::shl_past))]
     fn value(operands: &Operands, values: &[u64], arrays: &[Vec<u64>]) -> u64 {
-        pdl_word::shl(
-            operands.width,
-            operands.first(values),
-            operands.second(values),
-        )
+        // The word is moved in any case, so that no jump hangs on a value.
+        let by = operands.second(values);
+        let moved = low_bits(operands.width, operands.first(values) << (by % 64));
+        if by < u64::from(operands.width) {
+            moved
+        } else {
+            0
+        }
     }
 
     ghost acts = { λ o at vs ws. refl };
@@ -181,12 +183,15 @@ pub struct ShiftRight;
 impl Operation for ShiftRight {
     ghost kind = { kinds.ShiftRight };
 
+    #[tactic(auto, using(crate::proofs::Bits::moved_down, pdl_word::proofs::Shifts::shr_past))]
     fn value(operands: &Operands, values: &[u64], arrays: &[Vec<u64>]) -> u64 {
-        pdl_word::shr(
-            operands.width,
-            operands.first(values),
-            operands.second(values),
-        )
+        let by = operands.second(values);
+        let moved = operands.first(values) >> (by % 64);
+        if by < u64::from(operands.width) {
+            moved
+        } else {
+            0
+        }
     }
 
     ghost acts = { λ o at vs ws. refl };
