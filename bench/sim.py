@@ -1,21 +1,27 @@
 #!/usr/bin/env python3
-"""Times `pdl sim`, Icarus Verilog and Verilator on the same text, one run each.
+"""Measures `pdl sim`, Icarus Verilog and Verilator on the same text.
 
-    sim.py PDL [CYCLES]
+    sim.py PDL [CYCLES [SOURCE IMAGE].. ]
 
-PDL is the program. It needs `iverilog`, `vvp`, `verilator` and a C++ compiler. Three pipes are built: the
+PDL is the program. It needs `iverilog`, `vvp`, `verilator`, a C++ compiler and `valgrind`. Three pipes are built: the
 load/store machine of five stages with a bypass lock, one of 64 stages, and one with eight memories that are all
-read and written in each thread. The start of a program is timed by a run of no cycle, and taken off.
+read and written in each thread; then each SOURCE, with the words of its IMAGE. All three have to end as many threads.
+The start of a program is measured by a run of no cycle, and taken off. A time is that of a processor, the least of
+five runs, and the instructions of `pdl sim` are counted by `valgrind`, over fewer cycles.
 """
 
 import pathlib
 import re
+import resource
 import subprocess
 import sys
 import tempfile
-import time
 
 ROOT = pathlib.Path(__file__).resolve().parent.parent
+EMPTY = "image 1\n"
+RUNS = 5
+# Verilator is done with the cycles too soon to be timed.
+TIMES = {"verilator": 10}
 
 MAIN = """#include "Vpdl.h"
 #include "verilated.h"
@@ -60,11 +66,32 @@ def memory_pipe():
     return "\n".join(lines)
 
 
+def run(words, folder):
+    """What a command writes; it has to end well."""
+    return subprocess.run(words, cwd=folder, check=True, capture_output=True, text=True).stdout
+
+
 def seconds(words, folder):
-    """How long a command takes; it has to end well."""
-    before = time.perf_counter()
-    subprocess.run(words, cwd=folder, check=True, stdout=subprocess.DEVNULL)
-    return time.perf_counter() - before
+    """How much time of a processor a command takes, the least of some runs."""
+    times = []
+    for k in range(RUNS + 1):
+        if k:
+            run(words, folder)
+        used = resource.getrusage(resource.RUSAGE_CHILDREN)
+        times.append(used.ru_utime + used.ru_stime)
+    return min(after - before for before, after in zip(times, times[1:]))
+
+
+def ended(words, folder):
+    """How many threads a command says have ended."""
+    return int(re.findall(r"ended (\d+)", run(words, folder))[-1])
+
+
+def instructions(words, folder):
+    """How many instructions a command takes."""
+    counted = ["valgrind", "--tool=callgrind", "--callgrind-out-file=/dev/null", *words]
+    said = subprocess.run(counted, cwd=folder, check=True, capture_output=True, text=True).stderr
+    return int(re.search(r"Collected : (\d+)", said)[1])
 
 
 def bench(text, cycles):
@@ -97,18 +124,32 @@ def bench(text, cycles):
     )
 
 
-def prepared(program, source, cycles, folder):
-    """The commands of the three simulators, each with a number of cycles."""
+def with_words(text, image, folder):
+    """The text with the words of an image put into its arrays, and zeros elsewhere."""
+    words = {}
+    for name, address, value in (line.split() for line in image.splitlines()[1:] if line.strip()):
+        words[name, int(address)] = value
+    loads = []
+    for name, last in re.findall(r"^reg \[\d+:0\] a_(\w+) ?\[0:(\d+)\];", text, re.M):
+        lines = [words.get((name, address), "0") for address in range(int(last) + 1)]
+        (folder / f"{name}.hex").write_text("\n".join([*lines, ""]))
+        loads.append(f'initial $readmemh("{name}.hex", a_{name});')
+    return text.replace("endmodule", "\n".join([*loads, "endmodule"]))
+
+
+def prepared(program, source, image, cycles, folder):
+    """The commands of the three simulators, each with a number of cycles, and how many cells there are."""
     (folder / "source.pdl").write_text(source)
-    (folder / "image.img").write_text("image 1\n")
-    text = subprocess.run([program, "build", "source.pdl"], cwd=folder, check=True, capture_output=True, text=True).stdout
+    (folder / "image.img").write_text(image)
+    text = run([program, "build", "source.pdl"], folder)
     (folder / "build.v").write_text(text)
+    (folder / "loaded.v").write_text(with_words(text, image, folder))
     (folder / "main.cpp").write_text(MAIN)
     for count in (0, cycles):
         (folder / "bench.v").write_text(bench(text, count))
-        seconds(["iverilog", "-g2005", "-o", f"bench{count}.vvp", "bench.v", "build.v"], folder)
+        run(["iverilog", "-g2005", "-o", f"bench{count}.vvp", "bench.v", "loaded.v"], folder)
     verilated = ["verilator", "--cc", "--exe", "--build", "-O3", "-CFLAGS", "-O3", "--prefix", "Vpdl", "-Wno-fatal"]
-    seconds([*verilated, "main.cpp", "build.v"], folder)
+    run([*verilated, "main.cpp", "loaded.v"], folder)
     return {
         "pdl sim": lambda count: [program, "sim", "build.v", "image.img", str(count)],
         "vvp": lambda count: ["vvp", "-n", f"bench{count}.vvp"],
@@ -116,17 +157,38 @@ def prepared(program, source, cycles, folder):
     }, len(re.findall(r"^wire ", text, re.M))
 
 
+def measure(name, program, source, image, cycles):
+    """Prints a line for each simulator."""
+    with tempfile.TemporaryDirectory() as path:
+        folder = pathlib.Path(path)
+        commands, cells = prepared(program, source, image, cycles, folder)
+        threads = {tool: ended(words(cycles), folder) for tool, words in commands.items()}
+        if len(set(threads.values())) > 1:
+            sys.exit(f"{name}: the simulators end different numbers of threads: {threads}")
+        took = {}
+        for tool, words in commands.items():
+            times = TIMES.get(tool, 1)
+            took[tool] = (seconds(words(cycles * times), folder) - seconds(words(0), folder)) / times
+        words = commands["pdl sim"]
+        few = min(cycles, 2000)
+        each = (instructions(words(few), folder) - instructions(words(0), folder)) / few / cells
+    for tool, time_taken in took.items():
+        line = f"{name:15} {cells:5} cells  {tool:10} {cycles / time_taken:12.0f} cycles a second"
+        line += f"  {time_taken * 1e9 / cycles / cells:7.2f} ns for a cell"
+        print(line + (f"  {each:6.2f} instructions for a cell" if tool == "pdl sim" else ""))
+    ours = took["pdl sim"]
+    print(f"{name:15} {took['vvp'] / ours:6.1f} times Icarus, {took['verilator'] / ours:5.0%} of Verilator", flush=True)
+
+
 def main():
     program = str(pathlib.Path(sys.argv[1]).resolve())
     cycles = int(sys.argv[2]) if len(sys.argv) > 2 else 100000
     five = (ROOT / "examples" / "loadstore_bypass.pdl").read_text()
-    for name, source in (("five stages", five), ("64 stages", long_pipe()), ("eight memories", memory_pipe())):
-        with tempfile.TemporaryDirectory() as folder:
-            commands, cells = prepared(program, source, cycles, pathlib.Path(folder))
-            for tool, words in commands.items():
-                took = seconds(words(cycles), folder) - seconds(words(0), folder)
-                each = took * 1e9 / cycles / cells
-                print(f"{name:15} {cells:5} cells  {tool:10} {cycles / took:12.0f} cycles a second  {each:7.2f} ns for a cell")
+    pipes = [("five stages", five, EMPTY), ("64 stages", long_pipe(), EMPTY), ("eight memories", memory_pipe(), EMPTY)]
+    for source, image in zip(sys.argv[3::2], sys.argv[4::2]):
+        pipes.append((pathlib.Path(source).stem, pathlib.Path(source).read_text(), pathlib.Path(image).read_text()))
+    for name, source, image in pipes:
+        measure(name, program, source, image, cycles)
 
 
 if __name__ == "__main__":

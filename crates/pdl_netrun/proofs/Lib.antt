@@ -1,4 +1,5 @@
 pub mod Words
+pub mod Bits
 pub mod Steps
 pub mod Orders
 pub mod PlanLemmas

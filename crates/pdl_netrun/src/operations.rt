@@ -1,10 +1,33 @@
 // The kinds of cells, one by one.
 
-ghost use Rattle.std.specs.Prelude.{◌≡◌, refl};
+ghost use Rattle.std.specs.Prelude.{◌≡◌, ◌<◌, ◌≤◌, ◌%◌, ◌^◌, refl};
+ghost use Rattle.pdl_word.specs.Words.{rep};
 ghost use Rattle.pdl_netrun.specs.Steps.{KindFits, kind_value, array_words};
 ghost use Rattle.pdl_netrun.specs.declared.operation.Kind.TheVariants as kinds;
 
 use crate::operation::{Kind, Operands, Operation};
+
+/// The lowest `width` bits of a word.
+#[tactic(auto, using(crate::proofs::Bits::top_off))]
+fn low_bits(width: u8, word: u64) -> u64
+    requires low { 1 ≤ width }
+    requires high { width ≤ 64 }
+    ensures { result ≡ word % 2 ^ width }
+{
+    let above = 64 - width;
+    (word << above) >> above
+}
+
+/// A bit, so many times.
+#[tactic(auto, using(crate::proofs::Bits::no_bits, crate::proofs::Bits::all_bits))]
+fn repeated_bit(count: u8, bit: u64) -> u64
+    requires some { 1 ≤ count }
+    requires few { count ≤ 64 }
+    requires bit { bit < 2 }
+    ensures { result ≡ rep 1 count bit }
+{
+    if bit == 0 { 0 } else { pdl_word::mask(count) }
+}
 
 pub struct Complement;
 
@@ -23,12 +46,10 @@ pub struct Add;
 impl Operation for Add {
     ghost kind = { kinds.Add };
 
+    #[tactic(auto, using(crate::proofs::Bits::added))]
     fn value(operands: &Operands, values: &[u64], arrays: &[Vec<u64>]) -> u64 {
-        pdl_word::add(
-            operands.width,
-            operands.first(values),
-            operands.second(values),
-        )
+        let sum = operands.first(values).wrapping_add(operands.second(values));
+        low_bits(operands.width, sum)
     }
 
     ghost acts = { λ o at vs ws. refl };
@@ -39,12 +60,10 @@ pub struct Sub;
 impl Operation for Sub {
     ghost kind = { kinds.Sub };
 
+    #[tactic(auto, using(crate::proofs::Bits::subtracted))]
     fn value(operands: &Operands, values: &[u64], arrays: &[Vec<u64>]) -> u64 {
-        pdl_word::sub(
-            operands.width,
-            operands.first(values),
-            operands.second(values),
-        )
+        let difference = operands.first(values).wrapping_sub(operands.second(values));
+        low_bits(operands.width, difference)
     }
 
     ghost acts = { λ o at vs ws. refl };
@@ -55,12 +74,10 @@ pub struct Mul;
 impl Operation for Mul {
     ghost kind = { kinds.Mul };
 
+    #[tactic(auto, using(crate::proofs::Bits::multiplied))]
     fn value(operands: &Operands, values: &[u64], arrays: &[Vec<u64>]) -> u64 {
-        pdl_word::mul(
-            operands.width,
-            operands.first(values),
-            operands.second(values),
-        )
+        let product = operands.first(values).wrapping_mul(operands.second(values));
+        low_bits(operands.width, product)
     }
 
     ghost acts = { λ o at vs ws. refl };
@@ -146,12 +163,16 @@ pub struct ShiftLeft;
 impl Operation for ShiftLeft {
     ghost kind = { kinds.ShiftLeft };
 
+    #[tactic(auto, using(crate::proofs::Bits::moved_up, pdl_word::proofs::Shifts::shl_past))]
     fn value(operands: &Operands, values: &[u64], arrays: &[Vec<u64>]) -> u64 {
-        pdl_word::shl(
-            operands.width,
-            operands.first(values),
-            operands.second(values),
-        )
+        // The word is moved in any case, so that no jump hangs on a value.
+        let by = operands.second(values);
+        let moved = low_bits(operands.width, operands.first(values) << (by % 64));
+        if by < u64::from(operands.width) {
+            moved
+        } else {
+            0
+        }
     }
 
     ghost acts = { λ o at vs ws. refl };
@@ -162,12 +183,15 @@ pub struct ShiftRight;
 impl Operation for ShiftRight {
     ghost kind = { kinds.ShiftRight };
 
+    #[tactic(auto, using(crate::proofs::Bits::moved_down, pdl_word::proofs::Shifts::shr_past))]
     fn value(operands: &Operands, values: &[u64], arrays: &[Vec<u64>]) -> u64 {
-        pdl_word::shr(
-            operands.width,
-            operands.first(values),
-            operands.second(values),
-        )
+        let by = operands.second(values);
+        let moved = operands.first(values) >> (by % 64);
+        if by < u64::from(operands.width) {
+            moved
+        } else {
+            0
+        }
     }
 
     ghost acts = { λ o at vs ws. refl };
@@ -191,8 +215,9 @@ pub struct Slice;
 impl Operation for Slice {
     ghost kind = { kinds.Slice };
 
+    #[tactic(auto, using(crate::proofs::Bits::sliced))]
     fn value(operands: &Operands, values: &[u64], arrays: &[Vec<u64>]) -> u64 {
-        pdl_word::slice(operands.high, operands.low, operands.first(values))
+        low_bits(operands.high + 1, operands.first(values)) >> operands.low
     }
 
     ghost acts = { λ o at vs ws. refl };
@@ -220,7 +245,13 @@ impl Operation for Repeat {
     ghost kind = { kinds.Repeat };
 
     fn value(operands: &Operands, values: &[u64], arrays: &[Vec<u64>]) -> u64 {
-        pdl_word::rep(operands.width, operands.count, operands.first(values))
+        let word = operands.first(values);
+        // One bit, as the sign of a number, is what is repeated most.
+        if operands.width == 1 {
+            repeated_bit(operands.count, word)
+        } else {
+            pdl_word::rep(operands.width, operands.count, word)
+        }
     }
 
     ghost acts = { λ o at vs ws. refl };

@@ -180,33 +180,68 @@ impl<'a> Order<'a> {
         Ok(())
     }
 
-    /// How many of the cells of a kind that have no place yet could be given one.
-    fn share(&self, kind: Kind) -> Share
+    /// Whether a net has a place, or gets one in a run that has these cells.
+    fn is_reached(&self, net: Net, run: &[bool]) -> bool
+        requires order { IsOrderOf self.now }
+        requires there { IsNetThere self.now net }
+        requires run { length run.now ≡ length self.now.net.now.cells }
+    {
+        match net {
+            Net::Cell(k) if run[k] => true,
+            _ => self.is_placed(net),
+        }
+    }
+
+    /// Whether a cell can follow in a run that has these cells.
+    fn can_follow(&self, cell: Cell, run: &[bool]) -> bool
+        requires order { IsOrderOf self.now }
+        requires there { AreThere self.now cell }
+        requires run { length run.now ≡ length self.now.net.now.cells }
+    {
+        match cell {
+            Cell::Const { width: _, value: _ } => true,
+            Cell::Not(a) => self.is_reached(a, run),
+            Cell::Bin(_, a, b) => self.is_reached(a, run) && self.is_reached(b, run),
+            Cell::Mux(choice, a, b) => {
+                self.is_reached(choice, run) && self.is_reached(a, run) && self.is_reached(b, run)
+            }
+            Cell::Slice { a, high: _, low: _ } => self.is_reached(a, run),
+            Cell::Cat(a, b) => self.is_reached(a, run) && self.is_reached(b, run),
+            Cell::Rep { count: _, a } => self.is_reached(a, run),
+            Cell::Read { array: _, addr } => self.is_reached(addr, run),
+        }
+    }
+
+    /// How many cells a run of a kind would have, of how many of the kind that have no place yet; `run` tells which they are.
+    fn share(&self, kind: Kind, run: &mut [bool]) -> Share
         requires well { IsWell (order_circuit self.now) }
         requires order { IsOrderOf self.now }
+        requires run { length run.old ≡ length self.now.net.now.cells }
+        ensures { length run.new ≡ length run.old }
     {
         let mut share = Share { ready: 0, left: 0 };
         for k in 0..self.net.cells.len() {
             let cell = self.cell(k);
-            if self.places[k] == UNPLACED && kind_of(cell) == kind {
-                share.left += 1;
-                if self.is_ready(cell) {
-                    share.ready += 1;
-                }
-            }
+            let is_left = self.places[k] == UNPLACED && kind_of(cell) == kind;
+            // A cell reads earlier ones, which are told already.
+            run[k] = is_left && self.can_follow(cell, run);
+            share.left += usize::from(is_left);
+            share.ready += usize::from(run[k]);
         }
         share
     }
 
-    /// The kind of which the greatest share of the cells that are left could be given a place, if some could.
-    fn best_kind(&self) -> Option<Kind>
+    /// The kind of which a run would have the greatest share of the cells that are left, if some run would have any.
+    fn best_kind(&self, run: &mut [bool]) -> Option<Kind>
         requires well { IsWell (order_circuit self.now) }
         requires order { IsOrderOf self.now }
+        requires run { length run.old ≡ length self.now.net.now.cells }
+        ensures { length run.new ≡ length run.old }
     {
         let mut best = None;
         let mut most = Share { ready: 0, left: 1 };
         for kind in KINDS {
-            let share = self.share(kind);
+            let share = self.share(kind, run);
             if share.is_above(most) {
                 best = Some(kind);
                 most = share;
@@ -216,7 +251,7 @@ impl<'a> Order<'a> {
     }
 }
 
-/// How many cells could be given a place, of how many that are left.
+/// How many cells a run would have, of how many that are left.
 #[derive(Clone, Copy)]
 struct Share {
     ready: usize,
@@ -251,8 +286,9 @@ pub fn order_of<'a>(alloc: Global, net: &'a Netlist) -> Result<Order<'a>, NoMemo
     ensures all { IfOk result AllPlaced }
 {
     let mut order = Order::new(alloc, net)?;
+    let mut run = vec![in alloc; false; net.cells.len()]?;
     for _ in 0..RUNS {
-        let Some(kind) = order.best_kind() else {
+        let Some(kind) = order.best_kind(&mut run) else {
             break;
         };
         order.place_kind(kind)?;

@@ -1,4 +1,4 @@
-use Rattle.std.proofs.Common.{◌≡◌}
+use Rattle.std.proofs.Common.{◌≡◌, length}
 use Rattle.pdl_netrun.specs.Order.{IsOrderOf}
 use Rattle.pdl_netrun.proofs.order.order_of.Given as goal
 
@@ -6,4 +6,5 @@ abbrev pub invariant-loop : goal.invariant-loop
 invariant-loop l = record {
   order : IsOrderOf l.order;
   net : l.order.net.now ≡ l.net;
+  run : length l.run.items ≡ length l.net.cells;
 }

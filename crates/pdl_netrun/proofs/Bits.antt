@@ -1,0 +1,72 @@
+-- Words of a width, cut out of 64 bits by shifts.
+use Rattle.std.proofs.Common.{◌≡◌, refl, sym, ap, ap₂, ◌∙◌, ℕ, zero, suc, ◌+◌, ◌-◌, ◌*◌, ◌/◌, ◌%◌, ◌^◌, ◌<◌, ◌≤◌, pow-add, arith}
+use Rattle.std.proofs.lemmas.Nat.{mod-pow-add, shr_high, shl-shr, pow_pos}
+use Rattle.std.proofs.Math.Nat.{mul-mod_left, mul-suc, add-mul-mod_self_left, mod-eq_of_lt, mod-lt, pow-succ'}
+use Rattle.pdl_word.specs.Words.{mask, add, sub, mul, shl, shr, slice, rep}
+use Rattle.pdl_word.proofs.Masks.{mod_of_64}
+use Rattle.pdl_word.proofs.Shifts.{shl_within, shr_within}
+
+-- what is shifted out at the top and back is gone
+pub top_off : (n w : ℕ) → w ≤ 64 → n * 2 ^ (64 - w) % 2 ^ 64 / 2 ^ (64 - w) ≡ n % 2 ^ w
+top_off n w h =
+    let s = 64 - w in
+    let e : w + s ≡ 64 = omega arith in
+    let z : n % 2 ^ w * 2 ^ s + 0 ≡ n % 2 ^ w * 2 ^ s = omega arith in
+    let p : n * 2 ^ s % 2 ^ (w + s) ≡ n % 2 ^ w * 2 ^ s = mod-pow-add (n * 2 ^ s) w s ∙ ap₂ (λ x y. x % 2 ^ w * 2 ^ s + y) (shl-shr n s) (mul-mod_left n (2 ^ s)) ∙ z in
+    ap (λ k. n * 2 ^ s % 2 ^ k / 2 ^ s) (sym e) ∙ ap (λ x. x / 2 ^ s) p ∙ shl-shr (n % 2 ^ w) s
+
+pub added : (w a b : ℕ) → w ≤ 64 → (a + b) % 2 ^ 64 % 2 ^ w ≡ add w a b
+unfolding add
+added w a b h = mod_of_64 (a + b) w h
+
+pub multiplied : (w a b : ℕ) → w ≤ 64 → a * b % 2 ^ 64 % 2 ^ w ≡ mul w a b
+unfolding mul
+multiplied w a b h = mod_of_64 (a * b) w h
+
+-- the bits up to one, and of them those from another on
+pub sliced : (high low a : ℕ) → low ≤ high → a % 2 ^ (high + 1) / 2 ^ low ≡ slice high low a
+unfolding slice
+sliced high low a h =
+    let j = high + 1 - low in
+    let e : j + low ≡ high + 1 = omega arith in
+    ap (λ k. a % 2 ^ k / 2 ^ low) (sym e) ∙ ap (λ x. x / 2 ^ low) (mod-pow-add a j low) ∙ shr_high (a / 2 ^ low % 2 ^ j) low (a % 2 ^ low) (mod-lt a (pow_pos low))
+
+-- A BIT, REPEATED
+
+pub no_bits : (k a : ℕ) → a ≡ 0 → rep 1 k a ≡ 0
+unfolding rep
+no_bits zero a e = refl
+no_bits (suc k) a e = let r = no_bits k a e in omega (arith, r, e)
+
+pub all_bits : (k a : ℕ) → a ≡ 1 → rep 1 k a ≡ mask k
+unfolding rep mask
+all_bits zero a e = refl
+all_bits (suc k) a e = let r = all_bits k a e in let p = pow_pos k in let q = pow-succ' 2 k in omega (arith, r, e, p, q)
+
+-- DIFFERENCES AND SHIFTS
+
+-- 64 bits of a difference have its lower ones
+pub subtracted : (w a b : ℕ) → w ≤ 64 → b < 2 ^ w → (a + (2 ^ 64 - b)) % 2 ^ 64 % 2 ^ w ≡ sub w a b
+unfolding sub
+subtracted w a b h l =
+    let e : w + (64 - w) ≡ 64 = omega arith in
+    let p : 2 ^ 64 ≡ 2 ^ w * 2 ^ (64 - w) = ap (λ k. 2 ^ k) (sym e) ∙ pow-add 2 w (64 - w) in
+    go (2 ^ (64 - w)) p (pow_pos (64 - w))
+  where
+    go : (q : ℕ) → 2 ^ 64 ≡ 2 ^ w * q → 0 < q → (a + (2 ^ 64 - b)) % 2 ^ 64 % 2 ^ w ≡ (a + 2 ^ w - b) % 2 ^ w
+    go zero p z = absurd (omega arith)
+    go (suc r) p z =
+        let m : 2 ^ w * suc r ≡ 2 ^ w * r + 2 ^ w = mul-suc (2 ^ w) r in
+        let f : a + (2 ^ 64 - b) ≡ (a + 2 ^ w - b) + 2 ^ w * r = omega (arith, p, m, l) in
+        mod_of_64 (a + (2 ^ 64 - b)) w h ∙ ap (λ x. x % 2 ^ w) f ∙ add-mul-mod_self_left (a + 2 ^ w - b) (2 ^ w) r
+
+-- a shift by less than the width
+pub moved_up : (w a b : ℕ) → w ≤ 64 → b < w → a * 2 ^ (b % 64) % 2 ^ 64 % 2 ^ w ≡ shl w a b
+moved_up w a b h l =
+    let m : b % 64 ≡ b = mod-eq_of_lt (omega arith) in
+    ap (λ k. a * 2 ^ k % 2 ^ 64 % 2 ^ w) m ∙ mod_of_64 (a * 2 ^ b) w h ∙ sym (shl_within w a b l)
+
+pub moved_down : (w a b : ℕ) → w ≤ 64 → b < w → a / 2 ^ (b % 64) ≡ shr w a b
+moved_down w a b h l =
+    let m : b % 64 ≡ b = mod-eq_of_lt (omega arith) in
+    ap (λ k. a / 2 ^ k) m ∙ sym (shr_within w a b l)
