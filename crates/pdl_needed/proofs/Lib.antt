@@ -1,0 +1,12 @@
+pub mod Counts
+pub mod Values
+pub mod Closed
+pub mod Moved
+pub mod Well
+pub mod Shown
+pub mod Needs
+pub mod Added
+pub mod Marked
+pub mod Distinct
+pub mod Whole
+pub mod Copies

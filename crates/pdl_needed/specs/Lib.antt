@@ -1,0 +1,5 @@
+pub mod Needed
+pub mod Pruned
+pub mod Marks
+pub mod Numbers
+pub mod Marking
