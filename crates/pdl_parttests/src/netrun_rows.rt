@@ -5,6 +5,7 @@ ghost use Rattle.pdl_netrun.specs.Sample.{out, sample};
 
 use pdl_image::read_image;
 use pdl_kit::{MemInfo, Name, NoMemory, Seq};
+use pdl_needed::needed_part;
 use pdl_net::{Array, BinOp, Cell, Dir, Net, Netlist, Port, Reg, WritePort};
 use pdl_netrun::Sim;
 use std::alloc::Global;
@@ -178,5 +179,22 @@ fn counts_and_commits(alloc: Global, net: &Netlist) -> bool
 fn sample_runs(rt: HostRuntime) -> Result<(), NoMemory> {
     let net = counter(rt.alloc())?;
     assert!(rt; counts_and_commits(rt.alloc(), &net));
+    Ok(())
+}
+
+// Whether its part that is needed is the whole.
+fn needs_all(alloc: Global, net: &Netlist) -> bool
+    requires { net.now ≡ sample }
+{
+    match needed_part(alloc, net) {
+        Ok(part) => (part.cells == net.cells) & (part.regs == net.regs),
+        Err(NoMemory) => false,
+    }
+}
+
+#[test]
+fn sample_is_needed(rt: HostRuntime) -> Result<(), NoMemory> {
+    let net = counter(rt.alloc())?;
+    assert!(rt; needs_all(rt.alloc(), &net));
     Ok(())
 }
