@@ -15,7 +15,7 @@ use Rattle.pdl_pipe_law.specs.Follows.{Follows}
 use Rattle.pdl_pipe_law.proofs.WellFormedNames.{Among}
 use Rattle.pdl_pipe.proofs.Told.{told_all}
 use Rattle.pdl_pipe.specs.Refined.{RefinesThreads}
-use Rattle.pdl_pipe.specs.Locks.{HasLocks, any_lock}
+use Rattle.pdl_pipe.specs.Locks.{HasLocksOf, any_lock}
 use Rattle.pdl_vlog.specs.Layout.{verilog}
 use Rattle.pdl_commands.specs.Commands.{IsAccepted, IsLoaded, IsOutput, IsBuilt, replies}
 use Rattle.pdl_runs.specs.Printed.{run_text, schedule}
@@ -75,7 +75,7 @@ both_ok (Err e) P Q R f p q = tt
 
 -- its text is what is built of the pipe
 pub is_built : (p : Pipe) (n : Netlist) (text : List ℕ) → KeepsRules p → Follows p n → RefinesThreads p n → ShowsTurns p n → text ≡ verilog n → IsTextOf text n
-    → HasLocks any_lock p n → (holds : Option Held) (source b : List ℕ) → Gives holds source b → IsAccepted b p → IsBuilt holds source text
+    → HasLocksOf any_lock p n → (holds : Option Held) (source b : List ℕ) → Gives holds source b → IsAccepted b p → IsBuilt holds source text
 is_built p n text kept follows writes turns written read locks holds source b given accepted = record {
   pipe = p;
   source_text = b;

@@ -20,7 +20,7 @@ use Rattle.pdl_net.specs.Run.{nports}
 use Rattle.pdl_pipe_law.specs.Follows.{Follows}
 use Rattle.pdl_pipe_law.specs.Runs.{cycle_of}
 use Rattle.pdl_pipe.specs.Refined.{RefinesThreads}
-use Rattle.pdl_pipe.specs.Locks.{HasLocks, any_lock}
+use Rattle.pdl_pipe.specs.Locks.{HasLocksOf, any_lock}
 use Rattle.pdl_image.specs.Images.{IsImage, image}
 use Rattle.pdl_image.specs.declared.file_error.FileError.TheVariants as file
 use Rattle.pdl_vlog.specs.Layout.{verilog}
@@ -181,8 +181,8 @@ pub record IsBuilt (holds : Option Held) (source : List ℕ) (text : List ℕ) :
   pub follows : Follows pipe netlist
   -- it writes what the threads write that run one after another, from each image with each schedule
   pub writes : RefinesThreads pipe netlist
-  -- its memories have the locks that the pipe asks for
-  pub locks : HasLocks any_lock pipe netlist
+  -- its memories have the locks that the pipe asks for, without what nothing needs
+  pub locks : HasLocksOf any_lock pipe netlist
   -- the text is that of the netlist, byte for byte, and reads as it
   pub written : text ≡ verilog netlist
   pub read : IsTextOf text netlist

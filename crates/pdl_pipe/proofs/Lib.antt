@@ -13,3 +13,4 @@ pub mod ExampleNet
 pub mod Locking
 pub mod Finishing
 pub mod Renamed
+pub mod Smaller

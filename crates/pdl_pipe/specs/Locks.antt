@@ -12,6 +12,7 @@ use Rattle.pdl_net.specs.declared.Netlist.{Netlist}
 use Rattle.pdl_net.specs.Circuit.{State, circuit_of}
 use Rattle.pdl_net.specs.Signal.{Signal}
 use Rattle.pdl_net.specs.Run.{start, state_in}
+use Rattle.pdl_needed.specs.Pruned.{IsPruned}
 use Rattle.pdl_image.specs.Images.{IsImage}
 use Rattle.pdl_lockapi.specs.declared.LockNets.{LockNets}
 use Rattle.pdl_lockapi.specs.Lock.{LockAct, filled_entries, Proper}
@@ -64,6 +65,12 @@ pub record HasLocks {T : Type 0} (l : Members T) (p : tree.Pipe) (n : Netlist) :
   pub used : (image : List (List ℕ)) (schedule : List ℕ) (bits m : ℕ) (x : MemLock T)
       → IsImage n.mems image → m < length (flat p).mems → some_at locks m ≡ Some x
       → IsUsed l (flat p) m x (ports_of l n (flat p) locks views moves m) (state_in (held_after n (start n image) schedule) bits) (state_after (flat p) (first (flat p) (arrays_of image)) (no_replies schedule))
+
+-- it is the needed part of a netlist with the locks that the pipe asks for
+pub record HasLocksOf {T : Type 0} (l : Members T) (p : tree.Pipe) (n : Netlist) : Type 0 where
+  pub whole : Netlist
+  pub locks : HasLocks l p whole
+  pub part : IsPruned whole n
 
 -- what the definitions take of a lock of any kind
 abbrev pub any_lock : Members AnyLock

@@ -5,7 +5,9 @@ ghost use Rattle.pdl_rules.specs.Memories.{infos_of};
 ghost use Rattle.pdl_form.specs.Form.{form_of};
 ghost use Rattle.pdl_form.specs.Whole.{form};
 ghost use Rattle.pdl_build.specs.Change.{empty_circuit};
+ghost use Rattle.pdl_net.specs.Circuit.{circuit_of};
 ghost use Rattle.pdl_net.specs.Run.{delayed_mems};
+ghost use Rattle.pdl_needed.specs.Needed.{AllNeeded};
 ghost use Rattle.pdl_flatnets.specs.Conditions.{AreBits};
 ghost use Rattle.pdl_stagenets.specs.Locked.{members, locks_in, AreLocked};
 ghost use Rattle.pdl_stageregs.specs.Staged.{IsLine, next_signals};
@@ -14,8 +16,8 @@ ghost use Rattle.pdl_locknets.specs.Lawful.{AreLawful, AreUnwritten};
 ghost use Rattle.pdl_pipe_law.specs.Runs.{ShowsTurns, output_count};
 ghost use Rattle.pdl_pipe_law.specs.Follows.{Follows};
 ghost use Rattle.pdl_pipe.specs.Joined.{CanJoin, HasSteps, IsEmitted, IsJoined, IsShown};
-ghost use Rattle.pdl_pipe.specs.Finished.{IsWhole};
-ghost use Rattle.pdl_pipe.specs.Locks.{HasLocks, any_lock};
+ghost use Rattle.pdl_pipe.specs.Finished.{IsWhole, IsNeededPart};
+ghost use Rattle.pdl_pipe.specs.Locks.{HasLocksOf, any_lock};
 ghost use Rattle.pdl_pipe.specs.Refined.{RefinesThreads};
 
 use crate::deeds::{deeds, stage_ports};
@@ -27,11 +29,13 @@ use pdl_kit::{MemInfo, NoMemory, Seq};
 use pdl_lockapi::{LockModule, LockNets};
 use pdl_lockkinds::locks_of;
 use pdl_locknets::{Round, memories, step};
+use pdl_needed::needed_part;
 use pdl_net::Netlist;
 use pdl_outnets::show;
 use pdl_stagenets::MemLock;
 use pdl_stageregs::{LineNets, line};
 use std::alloc::Global;
+use std::mem::drop;
 
 /// The memories with their locks, the stages, and what each lock commits, before the outputs.
 #[derive(Drop)]
@@ -169,18 +173,38 @@ fn compile_with<L: LockModule + Copy>(
     Ok(b.finish(name, mems))
 }
 
-/// The netlist of an accepted pipe: it follows the pipe, what it writes to each memory is what the threads write that run one after another, and each memory with a lock has the lock that it asks for. The error is that memory ran out.
+// The needed part of that netlist.
+fn needed_with<L: LockModule + Copy>(
+    alloc: Global,
+    accepted: &Accepted,
+    locks: &[Option<L>],
+) -> Result<Netlist, NoMemory>
+    requires suited { AreSuited L.suits (members L.LockModule)
+        (form_of (pipe_view accepted.now.typed.pipe)) locks.now }
+    ensures part { IfOk result (λ n.
+        IsNeededPart (members L.LockModule) (pipe_view accepted.now.typed.pipe) n) }
+    ensures mems { IfOk result (λ n.
+        n.mems ≡ infos_of (pipe_view accepted.now.typed.pipe).mems) }
+{
+    let whole = compile_with(alloc, accepted, locks)?;
+    let part = needed_part(alloc, &whole);
+    drop(whole);
+    part
+}
+
+/// The netlist of an accepted pipe, without what nothing needs: it follows the pipe, what it writes to each memory is what the threads write that run one after another, and each memory with a lock has the lock that it asks for. The error is that memory ran out.
 pub fn compile(alloc: Global, accepted: &Accepted) -> Result<Netlist, NoMemory>
     ensures follows { IfOk result (λ n. Follows (pipe_view accepted.now.typed.pipe) n) }
-    ensures locks { IfOk result (λ n. HasLocks any_lock (pipe_view accepted.now.typed.pipe) n) }
+    ensures locks { IfOk result (λ n. HasLocksOf any_lock (pipe_view accepted.now.typed.pipe) n) }
     ensures refines { IfOk result (λ n. RefinesThreads (pipe_view accepted.now.typed.pipe) n) }
     ensures turns { IfOk result (λ n. ShowsTurns (pipe_view accepted.now.typed.pipe) n) }
     ensures mems { IfOk result (λ n.
         n.mems ≡ infos_of (pipe_view accepted.now.typed.pipe).mems) }
     ensures here { IfOk result (λ n. delayed_mems n ≡ []) }
     ensures outputs { IfOk result (λ n. 2 ≤ output_count n) }
+    ensures needed { IfOk result (λ n. AllNeeded (circuit_of n)) }
 {
     let locks = locks_of(alloc, accepted.flat())?;
-    let netlist = compile_with(alloc, accepted, locks.as_slice())?;
+    let netlist = needed_with(alloc, accepted, locks.as_slice())?;
     Ok(netlist)
 }

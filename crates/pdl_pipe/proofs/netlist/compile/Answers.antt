@@ -24,5 +24,5 @@ locks_of-requires-clause-sizes c =
     let a = c.args.accepted.now in
     subst (λ (f : Form). AreSizedLocks f.pipe.mems) (sym c.flat.ensures) (sized_locks (pipe_view a.typed.pipe) a.kept)
 
-pub compile_with-requires : goal.compile_with-requires
-compile_with-requires c = record { suited = suited_as _ _ _ _ _ _ c.flat.ensures c.as_slice.ensures.value c.in_ok-locks.ensures.suited }
+pub needed_with-requires : goal.needed_with-requires
+needed_with-requires c = record { suited = suited_as _ _ _ _ _ _ c.flat.ensures c.as_slice.ensures.value c.in_ok-locks.ensures.suited }
