@@ -14,3 +14,4 @@ pub mod Locking
 pub mod Finishing
 pub mod Renamed
 pub mod Smaller
+mod Folding

@@ -1,10 +1,11 @@
 // The netlist of a pipe.
-ghost use Rattle.std.specs.Prelude.{◌≡◌, ◌≤◌, [], IfOk, OnOk, length};
+ghost use Rattle.std.specs.Prelude.{◌≡◌, ◌≢◌, ◌≤◌, [], AllPairs, IfOk, OnOk, length};
 ghost use Rattle.pdl_tree.specs.View.{pipe_view};
 ghost use Rattle.pdl_rules.specs.Memories.{infos_of};
 ghost use Rattle.pdl_form.specs.Form.{form_of};
 ghost use Rattle.pdl_form.specs.Whole.{form};
 ghost use Rattle.pdl_build.specs.Change.{empty_circuit};
+ghost use Rattle.pdl_build.specs.Folded.{AreFolded};
 ghost use Rattle.pdl_net.specs.Circuit.{circuit_of};
 ghost use Rattle.pdl_net.specs.Run.{delayed_mems};
 ghost use Rattle.pdl_needed.specs.Needed.{AllNeeded};
@@ -165,6 +166,8 @@ fn compile_with<L: LockModule + Copy>(
         IsWhole (members L.LockModule) (pipe_view accepted.now.typed.pipe) n) }
     ensures mems { IfOk result (λ n.
         n.mems ≡ infos_of (pipe_view accepted.now.typed.pipe).mems) }
+    ensures different { IfOk result (λ n. AllPairs (λ a b. a ≢ b) n.cells) }
+    ensures folded { IfOk result (λ n. AreFolded n.cells) }
 {
     let mut b = Builder::new(alloc);
     emit_all(alloc, &mut b, accepted.flat(), locks)?;
@@ -185,6 +188,8 @@ fn needed_with<L: LockModule + Copy>(
         IsNeededPart (members L.LockModule) (pipe_view accepted.now.typed.pipe) n) }
     ensures mems { IfOk result (λ n.
         n.mems ≡ infos_of (pipe_view accepted.now.typed.pipe).mems) }
+    ensures different { IfOk result (λ n. AllPairs (λ a b. a ≢ b) n.cells) }
+    ensures folded { IfOk result (λ n. AreFolded n.cells) }
 {
     let whole = compile_with(alloc, accepted, locks)?;
     let part = needed_part(alloc, &whole);
@@ -192,7 +197,7 @@ fn needed_with<L: LockModule + Copy>(
     part
 }
 
-/// The netlist of an accepted pipe, without what nothing needs: it follows the pipe, what it writes to each memory is what the threads write that run one after another, and each memory with a lock has the lock that it asks for. The error is that memory ran out.
+/// The netlist of an accepted pipe, without what nothing needs, equal cells, or cells that could be constants: it follows the pipe, what it writes to each memory is what the threads write that run one after another, and each memory with a lock has the lock that it asks for. The error is that memory ran out.
 pub fn compile(alloc: Global, accepted: &Accepted) -> Result<Netlist, NoMemory>
     ensures follows { IfOk result (λ n. Follows (pipe_view accepted.now.typed.pipe) n) }
     ensures locks { IfOk result (λ n. HasLocksOf any_lock (pipe_view accepted.now.typed.pipe) n) }
@@ -203,6 +208,8 @@ pub fn compile(alloc: Global, accepted: &Accepted) -> Result<Netlist, NoMemory>
     ensures here { IfOk result (λ n. delayed_mems n ≡ []) }
     ensures outputs { IfOk result (λ n. 2 ≤ output_count n) }
     ensures needed { IfOk result (λ n. AllNeeded (circuit_of n)) }
+    ensures different { IfOk result (λ n. AllPairs (λ a b. a ≢ b) n.cells) }
+    ensures folded { IfOk result (λ n. AreFolded n.cells) }
 {
     let locks = locks_of(alloc, accepted.flat())?;
     let netlist = needed_with(alloc, accepted, locks.as_slice())?;
