@@ -1,0 +1,163 @@
+#!/usr/bin/env python3
+"""Worked rows for the model in tools/pdl_model: `test_model.py` runs them all and names those that fail."""
+
+import sys
+
+from pdl_model import files, rules
+from pdl_model.syntax import Refused
+
+A = """pipe p(n: uint<4>)[m: uint<8>[4] comb lock queue(1)] { a = n[1:0]; v = zext(n, 8); reserve(m[a], W); block(m[a]);
+m[a] <- v; release(m[a]); call(n + 4'd1); } start p(4'd0);"""
+B = """pipe p(n: uint<2>)[m: uint<8>[4] comb lock KIND(4)] { a = 2'd0; b = 2'd0; reserve(m[a], R); reserve(m[b], W);
+call(n + 2'd1); --- block(m[a]); x = m[a]; --- block(m[b]); m[b] <- x + 8'd1; --- release(m[a]); release(m[b]); }
+start p(2'd0);"""
+C = """pipe p(n: uint<8>)[m: uint<8>[4] comb lock queue(1)] { spec_check(); s = spec_call(n + 8'd1); --- t = n + 8'dK; ---
+verify(s, t); a = n[1:0]; reserve(m[a], W); block(m[a]); m[a] <- n; release(m[a]); } start p(8'd0);"""
+C_EARLY = """pipe p(n: uint<8>)[m: uint<8>[4] comb lock queue(2)] { spec_check(); a = n[1:0]; reserve(m[a], W);
+s = spec_call(n + 8'd1); --- t = n + 8'd2; --- verify(s, t); block(m[a]); m[a] <- n; release(m[a]); } start p(8'd0);"""
+E = """pipe p(n: uint<2>)[d: uint<8>[4] delayed, m: uint<8>[4] comb lock queue(1)] { x <- d[n]; call(n + 2'd1); ---
+reserve(m[n], W); block(m[n]); m[n] <- x; release(m[n]); } start p(2'd0);"""
+F = """pipe p(n: uint<2>)[d: uint<8>[4] delayed, m: uint<8>[4] comb lock queue(1)] { spec_check(); x <- d[n];
+s = spec_call(n + 2'd1); --- t = n + 2'd2; y = x; --- verify(s, t); reserve(m[n], W); block(m[n]); m[n] <- y;
+release(m[n]); } start p(2'd0);"""
+G = """pipe p(n: uint<2>)[m: uint<8>[4] comb lock bypass(4)] { g = n[0:0]; z = zext(n, 8); reserve(m[n], W);
+call(n + 2'd1); if (g) { --- } else { --- --- --- } --- block(m[n]); m[n] <- z; release(m[n]); } start p(2'd0);"""
+H = G.replace("if (g) { --- }", "if (g) { }")
+BARRIER = """pipe p(n: uint<2>)[m: uint<8>[4] comb lock queue(2)] {
+spec_check(); reserve(m[n], W); s = spec_call(n + 2'd1);
+block(m[n]); m[n] <- 8'd7;
+release(m[n]);
+---
+verify(s, n + 2'd1);
+} start p(2'd0);"""
+GUARDS = """pipe p(n: uint<2>)[m: uint<8>[4] comb lock queue(1)] {
+g = n[0:0]; h = n[1:1];
+if (g) { reserve(m[n], W); block(m[n]); m[n] <- 8'd1; }
+if (h) { release(m[n]); }
+call(n + 2'd1);
+} start p(2'd0);"""
+DELAYED_LOCK = """pipe p(n: uint<1>)[m: uint<8>[2] delayed lock queue(2)] { a = 1'd0; b = 1'd0; reserve(m[a], R);
+reserve(m[b], W); call(n + 1'd1); --- block(m[a]); x <- m[a]; --- y = x + 8'd1; block(m[b]); m[b] <- y; release(m[a]);
+release(m[b]); } start p(1'd0);"""
+GUARDED = """pipe p(n: uint<2>)[m: uint<8>[4] comb lock queue(1)] { g = n[0:0]; if (g) { reserve(m[n], W); block(m[n]);
+m[n] <- 8'd5; release(m[n]); } call(n + 2'd1); } start p(2'd0);"""
+
+EMPTY = "image 1\n"
+D = "image 1\nd 0 0a\nd 1 0b\nd 2 0c\n"
+
+
+def kind(name, size="4"):
+    return B.replace("KIND(4)", f"{name}({size})")
+
+
+def guess(step):
+    return C.replace("K;", f"{step};")
+
+
+# Source, image, cycles, delay rows, the lines of `run` without the words of its last one, and that one's four numbers.
+RUNS = [
+    (A, EMPTY, 3, "", "1 m 0 00, 2 m 1 01, 3 m 2 02", "3 3 0 0"),
+    (A, EMPTY, 0, "", "", "0 0 0 0"),
+    (A.replace("call", "--- call"), EMPTY, 3, "", "1 m 0 00, 3 m 1 01", "3 1 0 0"),
+    (kind("queue"), EMPTY, 10, "", "4 m 0 01, 7 m 0 02, 10 m 0 03", "10 3 0 0"),
+    (kind("queue", "1"), EMPTY, 8, "", "4 m 0 01, 8 m 0 02", "8 2 0 0"),
+    (kind("bypass"), EMPTY, 8, "", "4 m 0 01, 6 m 0 02, 8 m 0 03", "8 3 0 0"),
+    (kind("rename"), EMPTY, 8, "", "4 m 0 01, 6 m 0 02, 8 m 0 03", "8 3 0 0"),
+    (guess(1), EMPTY, 5, "", "3 m 0 00, 4 m 1 01, 5 m 2 02", "5 3 0 0"),
+    (guess(2), EMPTY, 9, "", "3 m 0 00, 6 m 2 02, 9 m 0 04", "9 3 0 3"),
+    (C_EARLY, EMPTY, 9, "", "3 m 0 00, 6 m 2 02, 9 m 0 04", "9 3 0 3"),
+    (E, D, 6, "0 0 0 1", "4 m 0 0a, 5 m 1 0b, 6 m 2 0c", "6 3 2 0"),
+    (E, D, 4, "", "2 m 0 0a, 3 m 1 0b, 4 m 2 0c", "4 3 0 0"),
+    (E, D, 6, "0 0 0 0 0 0", "", "6 0 5 0"),
+    (F, D, 7, "1 1 0 0 1", "3 m 0 0a, 7 m 2 0c", "7 2 2 2"),
+    (F, D, 6, "1 1 0 1", "3 m 0 0a, 6 m 2 0c", "6 2 1 2"),
+    (F, D, 6, "", "3 m 0 0a, 6 m 2 0c", "6 2 0 2"),
+    (G, EMPTY, 8, "", "5 m 0 00, 6 m 1 01, 7 m 2 02, 8 m 3 03", "8 4 0 0"),
+    (H, EMPTY, 11, "", "5 m 0 00, 6 m 1 01, 10 m 2 02, 11 m 3 03", "11 4 0 0"),
+    (DELAYED_LOCK, EMPTY, 6, "", "3 m 0 01, 5 m 0 02", "6 2 0 0"),
+    (BARRIER.replace("spec_check", "spec_barrier"), EMPTY, 3, "", "1 m 0 07, 3 m 1 07", "3 1 0 0"),
+    (GUARDED, EMPTY, 4, "", "2 m 1 05, 4 m 3 05", "4 4 0 0"),
+]
+
+# Source, cycles, the lines of `view`.
+VIEWS = [(guess(2), 4, "1 M.., 2 MM., 3 SSM, 4 M..")]
+
+# Source, threads, the lines of `seq` without the last one.
+SEQUENTIAL = [
+    (A, 2, "1 m 0 00, 2 m 1 01"),
+    (guess(2), 3, "1 m 0 00, 2 m 2 02, 3 m 0 04"),
+]
+
+# Source, what `check` says of it.
+CHECKS = [
+    (A, "accepted stages 1 depth 1"),
+    (A.replace("call", "--- call"), "accepted stages 2 depth 2"),
+    (A.replace("4'd1", "8'd1"), "refused W1 line 2"),
+    (A.replace("call(n + 4'd1)", "call(k)"), "refused N1 line 2"),
+    (A.replace("uint<4>", "uint<65>"), "refused Z7 line 1"),
+    (A.replace("[4] comb lock queue(1)", "[2] comb lock rename(4)"), "refused Z7 line 1"),
+    ("", "refused G1 line 1"),
+    (G, "accepted stages 6 depth 5"),
+    (G.replace("} ---", "}"), "refused F2 line 2"),
+    (BARRIER, "refused S4 line 4"),
+    (BARRIER.replace("spec_check", "spec_barrier"), "accepted stages 2 depth 2"),
+    (GUARDS, "refused L1 line 4"),
+    (GUARDS.replace("(h)", "(g)"), "accepted stages 1 depth 1"),
+    (GUARDS.replace("(h)", "(g)").replace("call(n + 2'd1)", "call(n + 8'd1)"), "refused W1 line 5"),
+]
+
+
+def shown(make, *given):
+    """What a command prints, or its refusal, as lines joined by commas."""
+    try:
+        return ", ".join(make(*given))
+    except Refused as refusal:
+        return str(refusal)
+
+
+def run(source, image, cycles, delays):
+    layout = rules.checked(source)
+    rows = files.read_delays(layout.pipe, delays.replace(" ", "\n"))
+    return files.run_lines(layout, files.read_image(layout.pipe, image), cycles, rows)
+
+
+def view(source, cycles):
+    layout = rules.checked(source)
+    return files.view_lines(layout, files.read_image(layout.pipe, EMPTY), cycles)
+
+
+def sequential(source, threads):
+    layout = rules.checked(source)
+    return files.seq_lines(layout, files.read_image(layout.pipe, EMPTY), threads)
+
+
+def check(source):
+    layout = rules.checked(source)
+    return [f"accepted stages {layout.count} depth {layout.depth()}"]
+
+
+def rows():
+    """Each row's name, what came and what had to come."""
+    for number, (source, image, cycles, delays, lines, counts) in enumerate(RUNS, 1):
+        last = "end cycles {} ended {} waits {} squashes {}".format(*counts.split())
+        yield f"run {number}", shown(run, source, image, cycles, delays), ", ".join(filter(None, [lines, last]))
+    for number, (source, cycles, lines) in enumerate(VIEWS, 1):
+        yield f"view {number}", shown(view, source, cycles), lines
+    for number, (source, threads, lines) in enumerate(SEQUENTIAL, 1):
+        yield f"seq {number}", shown(sequential, source, threads), f"{lines}, end threads {threads}"
+    for number, (source, answer) in enumerate(CHECKS, 1):
+        yield f"check {number}", shown(check, source), answer
+    wrapped = shown(run, A, EMPTY, 17, "").split(", ")
+    yield "arguments wrap", ", ".join(wrapped[15:17]), "16 m 3 0f, 17 m 0 00"
+
+
+def main():
+    failed = [(name, came, due) for name, came, due in rows() if came != due]
+    for name, came, due in failed:
+        print(f"{name}: came {came}; due {due}")
+    print(f"{sum(1 for _ in rows())} rows, {len(failed)} failed")
+    sys.exit(1 if failed else 0)
+
+
+if __name__ == "__main__":
+    main()
