@@ -1,0 +1,172 @@
+#!/usr/bin/env python3
+"""Runs random pipes by the model in tools/pdl_model.
+
+    random_runs.py promises [PIPES [SEED]]
+    random_runs.py program PDL [PIPES [SEED]]
+
+`promises` takes random pipes of the whole base language, with random images and replies, and asks of each cycle and of
+each whole run what has to hold (pdl_model/sound.py and promises.py). A pipe that fails is made smaller and printed.
+
+`program` takes the runs of examples/ and random pipes of the forms that the program PDL compiles. What `pdl check`, `run`
+and `seq` print has to be what the model says.
+
+PIPES is 200 and SEED is 1 where they aren't given. A pipe runs for 100 cycles.
+"""
+
+import pathlib
+import random
+import subprocess
+import sys
+import tempfile
+from collections import Counter
+
+import random_pipes
+import random_whole
+from pdl_model import files, promises, rules
+from pdl_model.syntax import Refused
+
+CYCLES = 100
+THREADS = 40
+EXAMPLES = pathlib.Path(__file__).resolve().parent.parent / "examples"
+
+
+# Promises
+
+
+def complaints(source, image, delays):
+    """What a run doesn't keep, an error of the model among it; and the run, where there is one."""
+    layout = rules.checked(source)
+    run = promises.Run(layout, files.read_image(layout.pipe, image), files.read_delays(layout.pipe, delays))
+    try:
+        return run.go(CYCLES), run
+    except (AssertionError, AttributeError, IndexError, KeyError, StopIteration, TypeError) as error:
+        return [f"cycle {run.cycles}: {error!r}"], run
+
+
+def still_fails(source, image, delays):
+    try:
+        return complaints(source, image, delays)[0] != []
+    except Refused:
+        return False
+
+
+def smaller(source, image, delays):
+    """The same failure with as many lines left out as can be: of 8 lines together, then of 4, 2 and 1."""
+    for size in (8, 4, 2, 1):
+        at = 0
+        lines = source.splitlines(keepends=True)
+        while at < len(lines):
+            left = lines[:at] + lines[at + size :]
+            if still_fails("".join(left), image, delays):
+                lines = left
+            else:
+                at += 1
+        source = "".join(lines)
+    return source
+
+
+def watch(seed):
+    """One random pipe: counts of what was seen, and its failure or None."""
+    chance = random.Random(seed)
+    pipe = random_whole.RandomPipe(chance, random_whole.random_features(chance))
+    source, image = pipe.source(), pipe.image()
+    delays = pipe.delay_rows(CYCLES)
+    try:
+        found, run = complaints(source, image, delays)
+    except Refused as refusal:
+        return Counter({str(refusal).split()[1]: 1, "refused": 1}), None
+    seen = Counter(pipes=1, cycles=run.cycles, ended=run.ended, waits=run.waits, squashes=run.squashes,
+                   commits=sum(map(len, run.commits.values())))
+    return seen, (source, image, delays) if found else None
+
+
+def watch_all(count, seed):
+    """Random pipes up to the first that fails."""
+    seen = Counter()
+    for number in range(count):
+        counts, failure = watch(f"{seed} {number}")
+        seen += counts
+        if failure:
+            source, image, delays = failure
+            source = smaller(source, image, delays)
+            print(f"pipe {number}:\n{source}\nimage:\n{image}\ndelays:\n{delays}")
+            print("\n".join(complaints(source, image, delays)[0]))
+            return 1
+    print(", ".join(f"{name} {count}" for name, count in seen.items()))
+    return 0
+
+
+# The program
+
+
+def answer(program, words, folder):
+    """What the program prints, or the refusal."""
+    ran = subprocess.run([program, *words], cwd=folder, capture_output=True, text=True)
+    return (ran.stdout or ran.stderr).splitlines()
+
+
+def differences(program, source, image, cycles, threads, folder):
+    """The commands whose answers differ; None where the source is refused, and rightly."""
+    (folder / "pipe.pdl").write_text(source)
+    (folder / "pipe.img").write_text(image)
+    checked = answer(program, ["check", "pipe.pdl"], folder)
+    try:
+        layout = rules.checked(source)
+    except Refused as refusal:
+        return None if checked == [str(refusal)] else ["check"]
+    words = files.read_image(layout.pipe, image)
+    due = {
+        ("check", "pipe.pdl"): [f"accepted stages {layout.count} depth {layout.depth()}"],
+        ("run", "pipe.pdl", "pipe.img", str(cycles)): files.run_lines(layout, words, cycles),
+        ("seq", "pipe.pdl", "pipe.img", str(threads)): files.seq_lines(layout, words, threads),
+    }
+    return [command[0] for command, lines in due.items() if answer(program, command, folder) != lines]
+
+
+def example_runs():
+    """The runs of examples/: name, source, image and count of each."""
+    for line in (EXAMPLES / "runs").read_text().splitlines():
+        name, command = line.split(": ")
+        command, *words = command.split()
+        if command in ("run", "seq"):
+            source, image, count = words
+            yield name, (EXAMPLES / source).read_text(), (EXAMPLES / image).read_text(), int(count)
+
+
+def compare_all(program, count, seed):
+    """The examples, and random pipes until so many are accepted and run."""
+    program = str(pathlib.Path(program).resolve())
+    chance, wrong, done = random.Random(seed), [], Counter()
+    with tempfile.TemporaryDirectory() as name:
+        folder = pathlib.Path(name)
+        for name, source, image, count_given in example_runs():
+            done["examples"] += 1
+            if differences(program, source, image, count_given, count_given, folder) != []:
+                wrong.append(name)
+        while done["pipes"] < count and not wrong:
+            source, image = random_pipes.source_and_image(chance)
+            found = differences(program, source, image, CYCLES, THREADS, folder)
+            done["refused" if found is None else "pipes"] += 1
+            if found:
+                wrong.append(f"{found}:\n{source}\nimage:\n{image}")
+    print(", ".join(f"{name} {count}" for name, count in done.items()))
+    print("\n".join(wrong) if wrong else "all answers are the model's")
+    return 1 if wrong else 0
+
+
+def main(words):
+    match words:
+        case ["promises", *more] if len(more) <= 2:
+            return watch_all(*numbers(more))
+        case ["program", program, *more] if len(more) <= 2:
+            return compare_all(program, *numbers(more))
+    sys.exit(__doc__)
+
+
+def numbers(words):
+    """How many pipes, and the seed."""
+    return [*map(int, words), *[200, 1][len(words) :]]
+
+
+if __name__ == "__main__":
+    sys.exit(main(sys.argv[1:]))

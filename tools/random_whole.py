@@ -1,0 +1,426 @@
+"""Random pipes of the whole base language: `RandomPipe(random, features).source()`, with `image()` and `delay_rows(..)`.
+
+The features are some of `delayed`, `guess` and `fork`. What is made keeps the rules by its construction, but for few
+pipes; ask `pdl_model.rules.checked`, and take another where it doesn't.
+
+A pipe is made of *segments*, its trunk stages, and of forks: that of segment s stands at the segment's end, and its
+branches lead to segment s + 1. Each memory and each call has a plan first: its steps, each with a moment. Then the text is
+written from the first moment to the last one, and the statements get their expressions.
+"""
+
+from collections import defaultdict
+from typing import NamedTuple
+
+from random_pipes import Scope
+
+FEATURES = ("delayed", "guess", "fork")
+MOST_GUARDS = 5
+
+
+class Moment(NamedTuple):
+    """When a step is done: in a segment, or in both branches of the fork at its end, so far on the way through them."""
+
+    segment: int
+    in_fork: bool = False
+    way: float = 0.0
+
+
+class Spot(NamedTuple):
+    """Where text is written: in a segment, or in a run of a branch. Run 0 of a branch belongs to the fork's stage."""
+
+    segment: int
+    side: bool | None = None
+    run: int = 0
+
+
+class Known(NamedTuple):
+    """A variable: it is there after a spot (at once, but for an answer), on the paths with these branches."""
+
+    name: str
+    width: int
+    branches: frozenset
+    answered_after: Spot | None
+
+
+class Memory:
+    """A memory's declaration."""
+
+    def __init__(self, random, number, delayed, locked):
+        self.name = f"{'d' if delayed else 'm'}{number}"
+        self.delayed = delayed
+        self.width = random.choice([1, 4, 8, 8, 16])
+        self.address = random.choice([1, 1, 2, 2, 3])
+        self.lock = random.choice(["queue"] if delayed else ["queue", "bypass", "rename"]) if locked else None
+        self.size = 1 << random.randint(0, self.address if self.lock == "rename" else 3)
+        # Of a hot memory all threads use one word mostly.
+        self.hot = random.random() < 0.35
+
+    def text(self):
+        lock = f" lock {self.lock}({self.size})" if self.lock else ""
+        return f"{self.name}: uint<{self.width}>[{1 << self.address}] {'delayed' if self.delayed else 'comb'}{lock}"
+
+
+class Location:
+    """An address that a thread reserves, for reading or writing; `guard` is a variable on whose path it does, or None."""
+
+    def __init__(self, memory, kind):
+        self.memory, self.kind = memory, kind
+        self.address = self.guard = None
+
+    def at(self):
+        return f"{self.memory.name}[{self.address}]"
+
+
+class RandomPipe:
+    def __init__(self, random, features):
+        self.random, self.scope = random, Scope(random)
+        self.segments = random.choice([2, 3, 4, 5, 6] if features else [1, 2, 3, 4, 5, 6])
+        self.forks = self.make_forks() if "fork" in features else {}
+        self.verify = random.randint(1, self.segments - 1) if "guess" in features else None
+        self.memories = self.make_memories("delayed" in features)
+        self.parameters = [(f"n{k}", random.choice([2, 4, 4, 8])) for k in range(random.randint(1, 2))]
+        self.known = [Known(name, width, frozenset(), None) for name, width in self.parameters]
+        self.guards = []
+        self.guard_count = 0
+        self.branches = frozenset()
+        self.spot = Spot(0)
+        # Of each spot the steps of each memory, and of the calls, in order.
+        self.steps = defaultdict(lambda: defaultdict(list))
+        self.checks_apart = {segment for segment in range(self.segments) if random.random() < 0.3}
+        self.barriers = {segment for segment in range(self.segments) if random.random() < 0.12}
+        self.needs_check = set()
+        self.plan()
+
+    def chance(self, of_one):
+        return self.random.random() < of_one
+
+    def make_forks(self):
+        """Forks at the end of some segments: the numbers of stages of their branches, not both 0."""
+        forks = {}
+        while not forks:
+            for segment in range(self.segments - 1):
+                lengths = self.random.randint(0, 3), self.random.randint(0, 3)
+                if self.chance(0.5) and lengths != (0, 0):
+                    forks[segment] = {True: lengths[0], False: lengths[1]}
+        return forks
+
+    def make_memories(self, with_delayed):
+        kinds = [(False, True)] * self.random.randint(1, 2)
+        if self.chance(0.3):
+            kinds.append((False, False))
+        if with_delayed:
+            kinds += [(True, self.chance(0.4)) for _ in range(self.random.choice([1, 1, 2, 3]))]
+        self.random.shuffle(kinds)
+        return [Memory(self.random, number, delayed, locked) for number, (delayed, locked) in enumerate(kinds)]
+
+    # The plan
+
+    def plan(self):
+        for memory in self.memories:
+            if memory.lock:
+                self.plan_locked(memory)
+            else:
+                self.plan_reads(memory)
+        call = self.random.choice([0, 0, 0, self.random.randrange(self.segments)])
+        if self.verify is None:
+            self.put(Moment(call), "call", self.call)
+            return
+        self.put(Moment(min(call, self.verify - 1)), "call", self.speculate)
+        self.put(Moment(self.verify), "verify", self.check_guess)
+        self.needs_check.add(min(call, self.verify - 1))
+
+    def put(self, moment, track, step, one_side=False):
+        """Plans a step, in each branch where its moment is in a fork, or in one of them."""
+        if not moment.in_fork:
+            self.steps[Spot(moment.segment)][track].append(step)
+            return
+        sides = [self.random.choice([True, False])] if one_side else [True, False]
+        for side in sides:
+            run = round(moment.way * self.forks[moment.segment][side])
+            self.steps[Spot(moment.segment, side, run)][track].append(step)
+
+    def moment(self, first, last):
+        """A random moment from one to another."""
+        moments = [Moment(segment) for segment in range(first.segment, last.segment + 1)]
+        moments += [Moment(segment, True, self.random.choice([0.0, 0.4, 0.7, 1.0])) for segment in self.forks]
+        return self.random.choice([moment for moment in moments if first <= moment <= last])
+
+    def plan_reads(self, memory):
+        """Reads of a memory without lock; of a delayed one there is one statement."""
+        if not memory.delayed:
+            for _ in range(self.random.randint(1, 3)):
+                self.put(self.moment(Moment(0), Moment(self.segments - 1)), memory.name, lambda: self.look(memory), self.chance(0.5))
+            return
+        moment = self.moment(Moment(0), Moment(self.segments - 2, self.segments - 2 in self.forks, 1.0))
+        self.put(moment, memory.name, lambda: self.ask(memory), True)
+
+    def plan_locked(self, memory):
+        """Reservations, blocks, reads, writes and releases of a locked memory, in an order that the rules allow."""
+        reserve, release = sorted(self.random.randrange(self.segments) for _ in range(2))
+        if self.chance(0.4):
+            reserve, release = 0, self.segments - 1
+        if self.verify is not None and release < self.verify and self.chance(0.7):
+            release = self.random.randint(self.verify, self.segments - 1)
+        first, last = Moment(reserve), Moment(release)
+        write = self.moment(first, last)
+        most = 1 if memory.delayed else 2
+        reads = [Location(memory, "R") for _ in range(self.random.randint(0, most))]
+        writes = [Location(memory, "W")] if self.chance(0.9) or not reads else []
+        steps = []
+        for location in reads:
+            steps += self.plan_read(location, first, write if writes else last, last)
+        for location in writes:
+            steps.append((self.moment(first, write), 2, lambda location=location: self.block(location)))
+            steps.append((write, 4, lambda location=location: self.write(location)))
+        for location in [*reads, *writes]:
+            steps.append((first, 0, lambda location=location: self.reserve(location)))
+            steps.append((last, 5, lambda location=location: self.release(location)))
+        for moment, rank, step in sorted(steps, key=lambda it: it[:2]):
+            self.put(moment, memory.name, step, rank == 3 and (memory.delayed or self.chance(0.4)))
+        if self.verify is not None and reserve < self.verify:
+            self.needs_check.add(reserve)
+        if self.verify is not None and writes and release < self.verify:
+            self.barriers.add(self.random.randint(0, release))
+
+    def plan_read(self, location, first, before, last):
+        """The block and the read of a location, up to the moment of the write; a delayed read is bound by the release."""
+        latest = before
+        if location.memory.delayed:
+            if last == first:
+                return [(first, 2, lambda: self.block(location))]
+            latest = min(before, Moment(last.segment - 1, last.segment - 1 in self.forks, 1.0))
+        read = self.moment(first, latest)
+        if self.chance(0.1):
+            return [(read, 2, lambda: self.block(location))]
+        return [(self.moment(first, read), 2, lambda: self.block(location)), (read, 3, lambda: self.read(location))]
+
+    # Names
+
+    def see(self):
+        """Lets expressions use just the variables that are there."""
+        here = self.spot.segment, self.spot.run
+        self.scope.variables = [
+            (it.name, it.width) for it in self.known
+            if it.branches <= self.branches
+            and (it.answered_after is None or (it.answered_after.segment, it.answered_after.run) < here)]
+
+    def define(self, letter, width, is_answer=False):
+        name = self.scope.fresh(letter)
+        self.known.append(Known(name, width, self.branches, self.spot if is_answer else None))
+        self.see()
+        return name
+
+    def address(self, memory):
+        """A variable for an address in a memory, and the line that binds it."""
+        if memory.hot and self.chance(0.8):
+            name = self.define("a", memory.address)
+            return name, f"{name} = {memory.address}'d1;"
+        return self.bind("a", memory.address)
+
+    def bind(self, letter, width):
+        """A new variable with an expression; an answer or read is taken often, so that values go on."""
+        self.see()
+        text = self.scope.expression(width, self.random.randint(0, 2))
+        wider = [name for name, bits in self.scope.variables if bits >= width and name[0] in "xw"]
+        if wider and self.chance(0.5):
+            name = self.random.choice(wider)
+            text = f"{name}[{width - 1}:0]"
+            if self.chance(0.4):
+                text += f" + {self.scope.leaf(width)}"
+        name = self.define(letter, width)
+        return name, f"{name} = {text};"
+
+    def new_guard(self):
+        """A variable for a condition, and the line that binds it: one that is there, or a new one, or none."""
+        there = [name for name, branches in self.guards if branches <= self.branches]
+        if there and self.chance(0.4):
+            return self.random.choice(there), []
+        if self.guard_count >= MOST_GUARDS:
+            return None, []
+        self.guard_count += 1
+        name, line = self.bind("g", 1)
+        self.guards.append((name, self.branches))
+        return name, [line]
+
+    def under(self, guard, make):
+        """Lines under a guard: as they are where it is known to hold, none where it is known not to."""
+        if guard is None or (guard, True) in self.branches:
+            return make()
+        if (guard, False) in self.branches:
+            return []
+        outside, self.branches = self.branches, self.branches | {(guard, True)}
+        lines = make()
+        self.branches = outside
+        self.see()
+        return [f"if ({guard}) {{", *lines, "}"] if lines else []
+
+    # Steps of memories
+
+    def look(self, memory):
+        address, line = self.address(memory)
+        return [line, f"{self.define('x', memory.width)} = {memory.name}[{address}];"]
+
+    def ask(self, memory):
+        guard, lines = self.new_guard() if self.chance(0.3) else (None, [])
+        address, line = self.address(memory)
+        return [*lines, line,
+                *self.under(guard, lambda: [f"{self.define('w', memory.width, True)} <- {memory.name}[{address}];"])]
+
+    def own_check(self):
+        """A check before a reservation or a guess, where the segment has none of its own."""
+        segment = self.spot.segment
+        if self.verify is None or segment >= self.verify or segment not in self.checks_apart:
+            return []
+        return [self.random.choice(["spec_check();", "spec_check();", "spec_barrier();"])]
+
+    def reserve(self, location):
+        location.guard, lines = self.new_guard() if self.chance(0.3) else (None, [])
+        location.address, line = self.address(location.memory)
+        return [*lines, line,
+                *self.under(location.guard, lambda: [*self.own_check(), f"reserve({location.at()}, {location.kind});"])]
+
+    def block(self, location):
+        return self.under(location.guard, lambda: [f"block({location.at()});"])
+
+    def read(self, location):
+        if location.memory.delayed:
+            make = lambda: [f"{self.define('w', location.memory.width, True)} <- {location.at()};"]
+        else:
+            make = lambda: [f"{self.define('x', location.memory.width)} = {location.at()};"]
+        return self.under(location.guard, make)
+
+    def write(self, location):
+        value, line = self.bind("y", location.memory.width)
+        return [line, *self.under(location.guard, lambda: [f"{location.at()} <- {value};"])]
+
+    def release(self, location):
+        return self.under(location.guard, lambda: [f"release({location.at()});"])
+
+    # Steps of calls
+
+    def arguments(self):
+        """What the next thread gets: mostly what counts up, so that addresses differ."""
+        self.see()
+        return [
+            f"{name} + {width}'d{self.random.randint(0, 3)}" if self.chance(0.6) else self.scope.expression(width, 2)
+            for name, width in self.parameters]
+
+    def call(self):
+        return [f"call({', '.join(self.arguments())});"]
+
+    def speculate(self):
+        """A guess, under a guard now and then; on the other path a call."""
+        self.guess_guard, lines = self.new_guard() if self.chance(0.2) else (None, [])
+        self.guess = []
+
+        def guessed():
+            self.guess = self.arguments()
+            return [*self.own_check(), f"s = spec_call({', '.join(self.guess)});"]
+
+        lines += self.under(self.guess_guard, guessed)
+        return [*lines[:-1], "} else {", *self.call(), "}"] if self.guess_guard else lines
+
+    def check_guess(self):
+        """The verify: the guess is always right, always wrong, or right by chance."""
+        return self.under(self.guess_guard, lambda: [f"verify(s, {', '.join(self.right_arguments())});"])
+
+    def right_arguments(self):
+        self.see()
+        how = self.random.choice(["right", "wrong", "chance", "chance", "free"])
+        if how == "right":
+            return self.guess
+        if how == "free":
+            return self.arguments()
+        _, width = self.parameters[0]
+        other = f"({self.guess[0]}) + {width}'d1"
+        if how == "chance":
+            other = f"({self.scope.expression(1, 2)} ? {self.guess[0]} : {other})"
+        return [other, *self.guess[1:]]
+
+    # The text
+
+    def lines_at(self, spot):
+        """The lines of a spot: of each track in their order, the tracks mixed."""
+        self.spot = spot
+        self.see()
+        tracks = [list(steps) for steps in self.steps[spot].values()]
+        lines = []
+        while any(tracks):
+            track = self.random.choice([it for it in tracks if it])
+            lines += track.pop(0)()
+            if self.chance(0.15):
+                lines.append(self.bind("t", self.random.choice([1, 4, 8, 16]))[1])
+        return lines
+
+    def segment_lines(self, segment):
+        """A segment, from its check or barrier to its fork."""
+        lines = []
+        if segment in self.barriers:
+            lines.append("spec_barrier();")
+        elif segment in self.needs_check and segment not in self.checks_apart:
+            lines.append("spec_check();")
+        lines += self.lines_at(Spot(segment))
+        return lines + self.fork_lines(segment) if segment in self.forks else lines
+
+    def fork_lines(self, segment):
+        guard, lines = self.new_guard()
+        condition = guard
+        if guard is None or self.chance(0.15):
+            # A condition of its own, which no other `if` shares.
+            guard, condition = segment, f"{self.scope.leaf(1)} ^ 1'd{self.random.randint(0, 1)}"
+        first, second = (self.branch_lines(segment, guard, side) for side in (True, False))
+        return [*lines, f"if ({condition}) {{", *first, *(["} else {", *second] if second else []), "}"]
+
+    def branch_lines(self, segment, guard, side):
+        outside, self.branches = self.branches, self.branches | {(guard, side)}
+        lines = self.lines_at(Spot(segment, side, 0))
+        for run in range(1, self.forks[segment][side] + 1):
+            lines += ["---", *self.lines_at(Spot(segment, side, run))]
+        self.branches, self.spot = outside, Spot(segment)
+        self.see()
+        return lines
+
+    def source(self):
+        """The text of the pipe."""
+        parameters = ", ".join(f"{name}: uint<{width}>" for name, width in self.parameters)
+        memories = ", ".join(memory.text() for memory in self.memories)
+        segments = ["\n".join([*self.segment_lines(segment), ""]) for segment in range(self.segments)]
+        body = "---\n".join(segments)
+        start = ", ".join(self.scope.literal(width) for _, width in self.parameters)
+        return f"pipe p({parameters})[{memories}] {{\n{body}}} start p({start});\n"
+
+    def image(self):
+        """An image in which most words are given."""
+        lines = [
+            f"{memory.name} {address} {self.random.getrandbits(memory.width):x}"
+            for memory in self.memories for address in range(1 << memory.address) if self.chance(0.8)]
+        return "\n".join(["image 1", *lines]) + "\n"
+
+    def delay_rows(self, cycles):
+        """The text of a delay file."""
+        count = sum(memory.delayed for memory in self.memories)
+        rows = bits(self.random, count, cycles)
+        return "".join("".join(map(str, row)) + "\n" for row in rows)
+
+
+def bits(random, count, cycles):
+    """Reply bits: all ones, all zeros for a while, by a rate, in bursts, or a rate for each memory."""
+    kind = random.choice(["ones", "zeros", "half", "fifth", "bursts", "each"])
+    if kind == "ones":
+        return []
+    if kind == "zeros":
+        return [[0] * count] * random.choice([10, cycles])
+    if kind == "bursts":
+        rows, bit = [], 0
+        while len(rows) < cycles:
+            rows += [[bit] * count] * random.randint(1, 6)
+            bit = 1 - bit
+        return rows
+    rates = [{"half": 0.5, "fifth": 0.2}.get(kind) or random.choice([0.1, 0.3, 0.9, 1]) for _ in range(count)]
+    return [[int(random.random() < rate) for rate in rates] for _ in range(cycles)]
+
+
+def random_features(random):
+    """Some of the features, each one alone as often as together."""
+    return random.choice([(), ("delayed",), ("guess",), ("fork",), ("delayed", "guess"), ("delayed", "fork"),
+                          ("guess", "fork"), FEATURES, FEATURES])
