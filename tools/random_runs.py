@@ -3,18 +3,21 @@
 
     random_runs.py promises [PIPES [SEED]]
     random_runs.py program PDL [PIPES [SEED]]
+    random_runs.py whole PDL [PIPES [SEED]]
 
 `promises` takes random pipes of the whole base language, with random images and replies, and asks of each cycle and of
 each whole run what has to hold (pdl_model/sound.py and promises.py). A pipe that fails is made smaller and printed.
 
 `program` takes the runs of examples/ and random pipes of the forms that the program PDL compiles. What `pdl check`, `run`
-and `seq` print has to be what the model says.
+and `seq` print has to be what the model says. `whole` does the same with pipes of the whole base language and with delay
+files, for a program that compiles it.
 
 PIPES is 200 and SEED is 1 where they aren't given. A pipe runs for 100 cycles.
 """
 
 import pathlib
 import random
+import re
 import subprocess
 import sys
 import tempfile
@@ -50,18 +53,27 @@ def still_fails(source, image, delays):
         return False
 
 
-def smaller(source, image, delays):
-    """The same failure with as many lines left out as can be: of 8 lines together, then of 4, 2 and 1."""
+def left_out(lines):
+    """Sets of lines that may be left out together: neighbours, all that use one address, and an `if` with its end."""
     for size in (8, 4, 2, 1):
-        at = 0
-        lines = source.splitlines(keepends=True)
-        while at < len(lines):
-            left = lines[:at] + lines[at + size :]
-            if still_fails("".join(left), image, delays):
-                lines = left
-            else:
-                at += 1
-        source = "".join(lines)
+        yield from (set(range(at, at + size)) for at in range(len(lines)))
+    for name in sorted(set(re.findall(r"\[(\w+)\]", "".join(lines)))):
+        yield {number for number, line in enumerate(lines) if f"[{name}]" in line}
+    opened = []
+    for number, line in enumerate(lines):
+        if line.startswith("}") and opened:
+            yield {opened.pop(), number}
+        if line.endswith("{\n"):
+            opened.append(number)
+
+
+def smaller(source, image, delays):
+    """The same failure with as many lines left out as can be."""
+    lines = source.splitlines(keepends=True)
+    for out in left_out(lines):
+        left = "".join(line for number, line in enumerate(lines) if number not in out)
+        if len(left) < len(source) and still_fails(left, image, delays):
+            return smaller(left, image, delays)
     return source
 
 
@@ -105,22 +117,28 @@ def answer(program, words, folder):
     return (ran.stdout or ran.stderr).splitlines()
 
 
-def differences(program, source, image, cycles, threads, folder):
+def due(layout, image, delays, cycles, threads):
+    """What the program has to print for each command on the files pipe.pdl, pipe.img and pipe.delays."""
+    words, rows = files.read_image(layout.pipe, image), files.read_delays(layout.pipe, delays)
+    option = ["--delays", "pipe.delays"] if delays else []
+    return [
+        (["check", "pipe.pdl"], [f"accepted stages {layout.count} depth {layout.depth()}"]),
+        (["run", "pipe.pdl", "pipe.img", str(cycles), *option], files.run_lines(layout, words, cycles, rows)),
+        (["seq", "pipe.pdl", "pipe.img", str(threads)], files.seq_lines(layout, words, threads)),
+    ]
+
+
+def differences(program, source, image, delays, cycles, threads, folder):
     """The commands whose answers differ; None where the source is refused, and rightly."""
     (folder / "pipe.pdl").write_text(source)
     (folder / "pipe.img").write_text(image)
-    checked = answer(program, ["check", "pipe.pdl"], folder)
+    (folder / "pipe.delays").write_text(delays)
     try:
         layout = rules.checked(source)
     except Refused as refusal:
-        return None if checked == [str(refusal)] else ["check"]
-    words = files.read_image(layout.pipe, image)
-    due = {
-        ("check", "pipe.pdl"): [f"accepted stages {layout.count} depth {layout.depth()}"],
-        ("run", "pipe.pdl", "pipe.img", str(cycles)): files.run_lines(layout, words, cycles),
-        ("seq", "pipe.pdl", "pipe.img", str(threads)): files.seq_lines(layout, words, threads),
-    }
-    return [command[0] for command, lines in due.items() if answer(program, command, folder) != lines]
+        return None if answer(program, ["check", "pipe.pdl"], folder) == [str(refusal)] else ["check"]
+    return [" ".join(command) for command, lines in due(layout, image, delays, cycles, threads)
+            if answer(program, command, folder) != lines]
 
 
 def example_runs():
@@ -133,22 +151,33 @@ def example_runs():
             yield name, (EXAMPLES / source).read_text(), (EXAMPLES / image).read_text(), int(count)
 
 
-def compare_all(program, count, seed):
-    """The examples, and random pipes until so many are accepted and run."""
+def plain_pipe(chance):
+    """A random pipe of the forms that the program compiles: source, image and delays."""
+    return *random_pipes.source_and_image(chance), ""
+
+
+def whole_pipe(chance):
+    """A random pipe of the whole base language."""
+    pipe = random_whole.RandomPipe(chance, random_whole.random_features(chance))
+    return pipe.source(), pipe.image(), pipe.delay_rows(CYCLES)
+
+
+def compare_all(program, make_pipe, count, seed):
+    """The examples, and random pipes until so many are accepted and run; ends at the first difference."""
     program = str(pathlib.Path(program).resolve())
     chance, wrong, done = random.Random(seed), [], Counter()
     with tempfile.TemporaryDirectory() as name:
         folder = pathlib.Path(name)
         for name, source, image, count_given in example_runs():
             done["examples"] += 1
-            if differences(program, source, image, count_given, count_given, folder) != []:
+            if differences(program, source, image, "", count_given, count_given, folder) != []:
                 wrong.append(name)
         while done["pipes"] < count and not wrong:
-            source, image = random_pipes.source_and_image(chance)
-            found = differences(program, source, image, CYCLES, THREADS, folder)
+            source, image, delays = make_pipe(chance)
+            found = differences(program, source, image, delays, CYCLES, THREADS, folder)
             done["refused" if found is None else "pipes"] += 1
             if found:
-                wrong.append(f"{found}:\n{source}\nimage:\n{image}")
+                wrong.append(f"{found}:\n{source}\nimage:\n{image}\ndelays:\n{delays}")
     print(", ".join(f"{name} {count}" for name, count in done.items()))
     print("\n".join(wrong) if wrong else "all answers are the model's")
     return 1 if wrong else 0
@@ -159,7 +188,9 @@ def main(words):
         case ["promises", *more] if len(more) <= 2:
             return watch_all(*numbers(more))
         case ["program", program, *more] if len(more) <= 2:
-            return compare_all(program, *numbers(more))
+            return compare_all(program, plain_pipe, *numbers(more))
+        case ["whole", program, *more] if len(more) <= 2:
+            return compare_all(program, whole_pipe, *numbers(more))
     sys.exit(__doc__)
 
 

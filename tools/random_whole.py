@@ -51,9 +51,9 @@ class Memory:
         self.width = random.choice([1, 4, 8, 8, 16])
         self.address = random.choice([1, 1, 2, 2, 3])
         self.lock = random.choice(["queue"] if delayed else ["queue", "bypass", "rename"]) if locked else None
-        self.size = 1 << random.randint(0, self.address if self.lock == "rename" else 3)
+        self.size = min(random.choice([1, 2, 4, 4, 8]), 1 << self.address if self.lock == "rename" else 8)
         # Of a hot memory all threads use one word mostly.
-        self.hot = random.random() < 0.35
+        self.hot = random.random() < 0.25
 
     def text(self):
         lock = f" lock {self.lock}({self.size})" if self.lock else ""
@@ -76,7 +76,8 @@ class RandomPipe:
         self.random, self.scope = random, Scope(random)
         self.segments = random.choice([2, 3, 4, 5, 6] if features else [1, 2, 3, 4, 5, 6])
         self.forks = self.make_forks() if "fork" in features else {}
-        self.verify = random.randint(1, self.segments - 1) if "guess" in features else None
+        stages = range(1, self.segments)
+        self.verify = max(random.choice(stages), random.choice(stages)) if "guess" in features else None
         self.memories = self.make_memories("delayed" in features)
         self.parameters = [(f"n{k}", random.choice([2, 4, 4, 8])) for k in range(random.randint(1, 2))]
         self.known = [Known(name, width, frozenset(), None) for name, width in self.parameters]
@@ -87,7 +88,7 @@ class RandomPipe:
         # Of each spot the steps of each memory, and of the calls, in order.
         self.steps = defaultdict(lambda: defaultdict(list))
         self.checks_apart = {segment for segment in range(self.segments) if random.random() < 0.3}
-        self.barriers = {segment for segment in range(self.segments) if random.random() < 0.12}
+        self.barriers = {segment for segment in range(self.segments) if random.random() < 0.06}
         self.needs_check = set()
         self.plan()
 
@@ -151,7 +152,8 @@ class RandomPipe:
             for _ in range(self.random.randint(1, 3)):
                 self.put(self.moment(Moment(0), Moment(self.segments - 1)), memory.name, lambda: self.look(memory), self.chance(0.5))
             return
-        moment = self.moment(Moment(0), Moment(self.segments - 2, self.segments - 2 in self.forks, 1.0))
+        last = self.segments - 2 if self.verify is None or self.chance(0.3) else self.verify - 1
+        moment = self.moment(Moment(0), Moment(last, last in self.forks, 1.0))
         self.put(moment, memory.name, lambda: self.ask(memory), True)
 
     def plan_locked(self, memory):
@@ -159,7 +161,7 @@ class RandomPipe:
         reserve, release = sorted(self.random.randrange(self.segments) for _ in range(2))
         if self.chance(0.4):
             reserve, release = 0, self.segments - 1
-        if self.verify is not None and release < self.verify and self.chance(0.7):
+        if self.verify is not None and release < self.verify and self.chance(0.85):
             release = self.random.randint(self.verify, self.segments - 1)
         first, last = Moment(reserve), Moment(release)
         write = self.moment(first, last)
@@ -271,7 +273,7 @@ class RandomPipe:
         segment = self.spot.segment
         if self.verify is None or segment >= self.verify or segment not in self.checks_apart:
             return []
-        return [self.random.choice(["spec_check();", "spec_check();", "spec_barrier();"])]
+        return ["spec_barrier();" if self.chance(0.15) else "spec_check();"]
 
     def reserve(self, location):
         location.guard, lines = self.new_guard() if self.chance(0.3) else (None, [])
