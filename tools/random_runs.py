@@ -9,8 +9,9 @@
 each whole run what has to hold (pdl_model/sound.py and promises.py). A pipe that fails is made smaller and printed.
 
 `program` takes the runs of examples/ and random pipes of the forms that the program PDL compiles. What `pdl check`, `run`
-and `seq` print has to be what the model says. `whole` does the same with pipes of the whole base language and with delay
-files, for a program that compiles it.
+and `seq` print has to be what the model says, of a pipe that is refused the rule and the line; so each pipe is asked once
+more with a line left out, said twice, moved or changed. `whole` does the same with pipes of the whole base language and
+with delay files, for a program that compiles it.
 
 PIPES is 200 and SEED is 1 where they aren't given. A pipe runs for 100 cycles.
 """
@@ -136,19 +137,32 @@ def differences(program, source, image, delays, cycles, threads, folder):
     try:
         layout = rules.checked(source)
     except Refused as refusal:
-        return None if answer(program, ["check", "pipe.pdl"], folder) == [str(refusal)] else ["check"]
+        return None if answer(program, ["check", "pipe.pdl"], folder) == [str(refusal)] else ["check pipe.pdl"]
     return [" ".join(command) for command, lines in due(layout, image, delays, cycles, threads)
             if answer(program, command, folder) != lines]
 
 
+def spoiled(chance, source):
+    """The source with a line left out, said twice or moved, or with another number: it breaks a rule mostly."""
+    lines = source.splitlines(keepends=True)
+    at, to = chance.randrange(len(lines)), chance.randrange(len(lines))
+    kind = chance.choice(["out", "twice", "moved", "number"])
+    if kind == "number":
+        lines[at] = re.sub(r"[0-9]+", lambda _: str(chance.randint(0, 20)), lines[at], count=1)
+        return "".join(lines)
+    line = lines[at] if kind == "twice" else lines.pop(at)
+    if kind != "out":
+        lines.insert(to, line)
+    return "".join(lines)
+
+
 def example_runs():
-    """The runs of examples/: name, source, image and count of each."""
+    """The runs of examples/: source, image and count of each."""
     for line in (EXAMPLES / "runs").read_text().splitlines():
-        name, command = line.split(": ")
-        command, *words = command.split()
+        command, *words = line.split(": ")[1].split()
         if command in ("run", "seq"):
             source, image, count = words
-            yield name, (EXAMPLES / source).read_text(), (EXAMPLES / image).read_text(), int(count)
+            yield (EXAMPLES / source).read_text(), (EXAMPLES / image).read_text(), int(count)
 
 
 def plain_pipe(chance):
@@ -162,24 +176,33 @@ def whole_pipe(chance):
     return pipe.source(), pipe.image(), pipe.delay_rows(CYCLES)
 
 
+class Comparison:
+    """The program beside the model, in a folder for the files; `done` counts what was asked."""
+
+    def __init__(self, program, folder):
+        self.program, self.folder, self.done = str(pathlib.Path(program).resolve()), pathlib.Path(folder), Counter()
+
+    def differs(self, kind, source, image, delays="", cycles=CYCLES, threads=THREADS):
+        """Whether an answer differs; then it is told."""
+        found = differences(self.program, source, image, delays, cycles, threads, self.folder)
+        self.done[f"{kind} refused" if found is None else kind] += 1
+        if found:
+            print(f"{', '.join(found)}:\n{source}\nimage:\n{image}\ndelays:\n{delays}")
+        return bool(found)
+
+
 def compare_all(program, make_pipe, count, seed):
-    """The examples, and random pipes until so many are accepted and run; ends at the first difference."""
-    program = str(pathlib.Path(program).resolve())
-    chance, wrong, done = random.Random(seed), [], Counter()
-    with tempfile.TemporaryDirectory() as name:
-        folder = pathlib.Path(name)
-        for name, source, image, count_given in example_runs():
-            done["examples"] += 1
-            if differences(program, source, image, "", count_given, count_given, folder) != []:
-                wrong.append(name)
-        while done["pipes"] < count and not wrong:
+    """The examples, random pipes and spoiled ones, until so many are accepted and run; ends at the first difference."""
+    chance = random.Random(seed)
+    with tempfile.TemporaryDirectory() as folder:
+        beside = Comparison(program, folder)
+        wrong = any(beside.differs("examples", source, image, "", number, number)
+                    for source, image, number in example_runs())
+        while beside.done["pipes"] < count and not wrong:
             source, image, delays = make_pipe(chance)
-            found = differences(program, source, image, delays, CYCLES, THREADS, folder)
-            done["refused" if found is None else "pipes"] += 1
-            if found:
-                wrong.append(f"{found}:\n{source}\nimage:\n{image}\ndelays:\n{delays}")
-    print(", ".join(f"{name} {count}" for name, count in done.items()))
-    print("\n".join(wrong) if wrong else "all answers are the model's")
+            wrong = (beside.differs("pipes", source, image, delays)
+                     or beside.differs("spoiled pipes", spoiled(chance, source), "image 1\n"))
+    print(", ".join(f"{name} {count}" for name, count in beside.done.items()))
     return 1 if wrong else 0
 
 

@@ -150,7 +150,8 @@ class RandomPipe:
         """Reads of a memory without lock; of a delayed one there is one statement."""
         if not memory.delayed:
             for _ in range(self.random.randint(1, 3)):
-                self.put(self.moment(Moment(0), Moment(self.segments - 1)), memory.name, lambda: self.look(memory), self.chance(0.5))
+                moment = self.moment(Moment(0), Moment(self.segments - 1))
+                self.put(moment, memory.name, lambda: self.look(memory), self.chance(0.5))
             return
         last = self.segments - 2 if self.verify is None or self.chance(0.3) else self.verify - 1
         moment = self.moment(Moment(0), Moment(last, last in self.forks, 1.0))

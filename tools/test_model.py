@@ -79,8 +79,55 @@ RUNS = [
     (GUARDED, EMPTY, 4, "", "2 m 1 05, 4 m 3 05", "4 4 0 0"),
 ]
 
-# Source, cycles, the lines of `view`.
-VIEWS = [(guess(2), 4, "1 M.., 2 MM., 3 SSM, 4 M..")]
+# Source, cycles, delay rows, the lines of `view`.
+VIEWS = [
+    (guess(2), 4, "", "1 M.., 2 MM., 3 SSM, 4 M.."),
+    # A write through a queue waits until no older write of its address is pending.
+    ("""pipe p(n: uint<2>)[m: uint<8>[4] comb lock queue(2)] { a = 2'd1; z = zext(n, 8); reserve(m[a], W); call(n +
+     2'd1); --- block(m[a]); m[a] <- z; --- release(m[a]); } start p(2'd0);""", 9, "",
+     "1 M.., 2 MM., 3 SSM, 4 MM., 5 SSM, 6 MM., 7 SSM, 8 MM., 9 SSM"),
+    # A block or release is of the kind for which its path reserved the location.
+    ("""pipe p(n: uint<2>)[m: uint<8>[4] comb lock bypass(4)] { g = n[0:0]; if (g) { reserve(m[n], W); } else {
+     reserve(m[n], R); } call(n + 2'd1); --- block(m[n]); if (g) { m[n] <- 8'd5; } --- release(m[n]); } start
+     p(2'd0);""", 9, "",
+     "1 M.., 2 MM., 3 MMM, 4 MMM, 5 MMM, 6 MMM, 7 MMM, 8 MMM, 9 MMM"),
+    # A port isn't free while the owner of its answered request stands.
+    ("""pipe p(n: uint<2>)[d: uint<8>[4] delayed, m: uint<8>[4] comb lock queue(4)] { a = 2'd0; x <- d[n]; reserve(m[a],
+     W); call(n + 2'd1); --- block(m[a]); m[a] <- x; --- release(m[a]); } start p(2'd0);""", 9, "0 1 0 0 1 1 0 1 1",
+     "1 M.., 2 MM., 3 SSM, 4 SS., 5 MM., 6 SSM, 7 MM., 8 SSM, 9 MM."),
+    # An answer that comes while its owner stands is kept.
+    ("""pipe p(n: uint<2>)[d: uint<8>[4] delayed, m: uint<8>[4] comb lock queue(4)] { a = 2'd0; reserve(m[a], W); x <-
+     d[n]; call(n + 2'd1); --- block(m[a]); y = x; m[a] <- y; --- --- release(m[a]); } start p(2'd0);""", 9, "0 1 0 0 1 1 0 1 1",
+     "1 M..., 2 MM.., 3 SSM., 4 SS.M, 5 MM.., 6 SSM., 7 SS.M, 8 MM.., 9 SSM."),
+    # A port is free where its owner moves in a later stage.
+    ("""pipe p(n: uint<2>)[d: uint<8>[4] delayed, m: uint<8>[4] comb lock queue(4)] { g = n[0:0]; a = 2'd0;
+     reserve(m[a], W); x <- d[n]; call(n + 2'd1); if (g) { --- } else { --- block(m[a]); } --- if (g) {
+     block(m[a]); } m[a] <- x; --- --- release(m[a]); } start p(2'd0);""", 9, "0 1 0 0 1 1 0 1 1",
+     "1 M....., 2 M.M..., 3 SS.M.., 4 SS..M., 5 MM...M, 6 S.SM.., 7 M.S.M., 8 SSS..M, 9 MSM..."),
+    # Two forks on one variable go the same way.
+    ("""pipe p(n: uint<2>)[m: uint<8>[4] comb lock bypass(4)] { g = n[0:0]; z = zext(n, 8); reserve(m[n], W); call(n +
+     2'd1); if (g) { --- --- } --- if (g) { } else { --- --- --- } --- block(m[n]); m[n] <- z; release(m[n]); }
+     start p(2'd0);""", 9, "",
+     "1 M......., 2 M..M...., 3 SM..M..., 4 S.M..M.., 5 S..S..M., 6 M..M...M, 7 M..M...M, 8 SM..M..., 9 S.M..M.."),
+    # A squash empties the list of a fork that merges no later than V.
+    ("""pipe p(n: uint<2>)[m: uint<8>[4] comb lock queue(4)] { spec_check(); g = n[0:0]; s = spec_call(n + 2'd1); if (g)
+     { --- --- } else { --- } --- verify(s, n + 2'd2); reserve(m[n], W); block(m[n]); m[n] <- 8'd9;
+     release(m[n]); } start p(2'd0);""", 9, "",
+     "1 M...., 2 M..M., 3 SS..M, 4 M...., 5 M..M., 6 SS..M, 7 M...., 8 M..M., 9 SS..M"),
+    # And it keeps the list of a fork after V.
+    ("""pipe p(n: uint<2>)[m: uint<8>[4] comb lock queue(4)] { spec_check(); g = n[0:0]; s = spec_call(n + 2'd1); ---
+     verify(s, n + 2'd3); if (g) { --- --- --- --- } else { --- --- --- } --- reserve(m[n], W); block(m[n]);
+     m[n] <- zext(n, 8); release(m[n]); } start p(2'd0);""", 9, "",
+     "1 M........., 2 SM........, 3 M.....M..., 4 SM.....M.., 5 M.M.....M., 6 SM.M.....M, 7 M...M.M..., 8 SM...M.M.., 9 M.M.....MM"),
+    # A barrier looks as far as V, and no further.
+    ("""pipe p(n: uint<2>)[m: uint<8>[4] comb lock queue(4)] { spec_barrier(); reserve(m[n], W); s = spec_call(n +
+     2'd1); --- verify(s, n + 2'd1); --- --- block(m[n]); m[n] <- 8'd3; release(m[n]); } start p(2'd0);""", 9, "",
+     "1 M..., 2 SM.., 3 M.M., 4 SM.M, 5 M.M., 6 SM.M, 7 M.M., 8 SM.M, 9 M.M."),
+    # In a pipe without verify it holds nobody up.
+    ("""pipe p(n: uint<2>)[m: uint<8>[4] comb lock queue(4)] { spec_barrier(); reserve(m[n], W); call(n + 2'd1); --- ---
+     block(m[n]); m[n] <- 8'd3; release(m[n]); } start p(2'd0);""", 9, "",
+     "1 M.., 2 MM., 3 MMM, 4 MMM, 5 MMM, 6 MMM, 7 MMM, 8 MMM, 9 MMM"),
+]
 
 # Source, threads, the lines of `seq` without the last one.
 SEQUENTIAL = [
@@ -115,15 +162,18 @@ def shown(make, *given):
         return str(refusal)
 
 
+def delay_rows(layout, delays):
+    return files.read_delays(layout.pipe, delays.replace(" ", "\n"))
+
+
 def run(source, image, cycles, delays):
     layout = rules.checked(source)
-    rows = files.read_delays(layout.pipe, delays.replace(" ", "\n"))
-    return files.run_lines(layout, files.read_image(layout.pipe, image), cycles, rows)
+    return files.run_lines(layout, files.read_image(layout.pipe, image), cycles, delay_rows(layout, delays))
 
 
-def view(source, cycles):
+def view(source, cycles, delays):
     layout = rules.checked(source)
-    return files.view_lines(layout, files.read_image(layout.pipe, EMPTY), cycles)
+    return files.view_lines(layout, files.read_image(layout.pipe, EMPTY), cycles, delay_rows(layout, delays))
 
 
 def sequential(source, threads):
@@ -141,8 +191,8 @@ def rows():
     for number, (source, image, cycles, delays, lines, counts) in enumerate(RUNS, 1):
         last = "end cycles {} ended {} waits {} squashes {}".format(*counts.split())
         yield f"run {number}", shown(run, source, image, cycles, delays), ", ".join(filter(None, [lines, last]))
-    for number, (source, cycles, lines) in enumerate(VIEWS, 1):
-        yield f"view {number}", shown(view, source, cycles), lines
+    for number, (source, cycles, delays, lines) in enumerate(VIEWS, 1):
+        yield f"view {number}", shown(view, source, cycles, delays), lines
     for number, (source, threads, lines) in enumerate(SEQUENTIAL, 1):
         yield f"seq {number}", shown(sequential, source, threads), f"{lines}, end threads {threads}"
     for number, (source, answer) in enumerate(CHECKS, 1):

@@ -66,7 +66,7 @@ def can_enter(layout, state, own, moves, stage):
 
 
 def merges_well(layout, state, own, stage):
-    """8: who goes from a branch into the merge is of the first branch of the fork's list; who goes there straight finds it empty."""
+    """8: who comes to the merge from a branch comes from the first one of the fork's list; who comes straight finds it empty."""
     fork = layout.merges.get(layout.next_stage(stage, own.truths))
     if fork is None:
         return True

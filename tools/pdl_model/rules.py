@@ -68,7 +68,8 @@ def limits(layout):
     yield from (("Z6", statement_place(it.place)) for it in layout.statements if it.guard == 10)
     yield from (("Z7", parameter_place(k)) for k, it in enumerate(layout.pipe.parameters) if not 1 <= it.width <= 64)
     yield from (("Z7", memory_place(k)) for k, it in enumerate(layout.pipe.memories) if not memory_fits(it))
-    yield from (("Z7", statement_place(k)) for k, it in enumerate(statements) if not literals_fit(rule_names.expressions_of(it)))
+    yield from (("Z7", statement_place(k)) for k, it in enumerate(statements)
+                if not literals_fit(rule_names.expressions_of(it)))
     if not literals_fit(layout.pipe.start):
         yield "Z7", START
 
