@@ -72,6 +72,8 @@ class Location:
 
 
 class RandomPipe:
+    """A pipe: its plan, made at once, and the text, which `source` writes."""
+
     def __init__(self, random, features):
         self.random, self.scope = random, Scope(random)
         self.segments = random.choice([2, 3, 4, 5, 6] if features else [1, 2, 3, 4, 5, 6])
@@ -83,6 +85,7 @@ class RandomPipe:
         self.known = [Known(name, width, frozenset(), None) for name, width in self.parameters]
         self.guards = []
         self.guard_count = 0
+        self.guess, self.guess_guard = [], None
         self.branches = frozenset()
         self.spot = Spot(0)
         # Of each spot the steps of each memory, and of the calls, in order.

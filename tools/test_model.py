@@ -39,6 +39,9 @@ call(n + 2'd1);
 DELAYED_LOCK = """pipe p(n: uint<1>)[m: uint<8>[2] delayed lock queue(2)] { a = 1'd0; b = 1'd0; reserve(m[a], R);
 reserve(m[b], W); call(n + 1'd1); --- block(m[a]); x <- m[a]; --- y = x + 8'd1; block(m[b]); m[b] <- y; release(m[a]);
 release(m[b]); } start p(1'd0);"""
+YOUNGEST = """pipe p(n: uint<2>)[m: uint<8>[4] comb lock bypass(4)] { a = 2'd0; b = 2'd0; reserve(m[a], R); reserve(m[b], W);
+call(n + 2'd1); --- block(m[a]); x = m[a]; block(m[b]); m[b] <- x + 8'd1; --- --- release(m[a]); release(m[b]); }
+start p(2'd0);"""
 GUARDED = """pipe p(n: uint<2>)[m: uint<8>[4] comb lock queue(1)] { g = n[0:0]; if (g) { reserve(m[n], W); block(m[n]);
 m[n] <- 8'd5; release(m[n]); } call(n + 2'd1); } start p(2'd0);"""
 
@@ -76,6 +79,7 @@ RUNS = [
     (H, EMPTY, 11, "", "5 m 0 00, 6 m 1 01, 10 m 2 02, 11 m 3 03", "11 4 0 0"),
     (DELAYED_LOCK, EMPTY, 6, "", "3 m 0 01, 5 m 0 02", "6 2 0 0"),
     (BARRIER.replace("spec_check", "spec_barrier"), EMPTY, 3, "", "1 m 0 07, 3 m 1 07", "3 1 0 0"),
+    (YOUNGEST, EMPTY + "m 0 3\n", 8, "", "4 m 0 04, 5 m 0 05, 6 m 0 06, 7 m 0 07, 8 m 0 08", "8 5 0 0"),
     (GUARDED, EMPTY, 4, "", "2 m 1 05, 4 m 3 05", "4 4 0 0"),
 ]
 
