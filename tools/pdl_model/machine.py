@@ -62,6 +62,7 @@ class Step:
         self.asked = dict.fromkeys(state.requests)
 
     def take(self):
+        """Everything that the moves of this cycle bring about."""
         self.reserve()
         self.write()
         self.release()

@@ -14,9 +14,8 @@ class Thread:
     truths    of each guard that it has passed, whether the first branch was taken
     held      of each location (memory, variable) that it has reserved and not released, the kind, `R` or `W`
     guess     the arguments of its speculative call, or None
-    awaited   of each memory that it asked in its last stage and that hasn't answered, the variable to bind
-    kept      of each memory that answered while it couldn't move, the word
-    asked     the variables to bind by what is kept
+    asked     of each delayed memory that it asked in its last stage, the variable to bind
+    kept      of those that answered while it couldn't move, the word
     """
 
     number: int
@@ -51,7 +50,14 @@ class Request:
 
 @dataclass
 class State:
-    """Everything that is there at the start of a cycle."""
+    """Everything that is there at the start of a cycle.
+
+    stages     for each stage its thread, or None
+    arrays     the words of each memory, by its name
+    pending    of each locked memory the pending writes, the oldest first
+    branches   of each fork the branches that the threads inside have taken, the oldest first: True is the first branch
+    requests   of each delayed memory what is outstanding, or None
+    """
 
     stages: list
     arrays: dict
