@@ -123,17 +123,23 @@ def lines_of(module, shown, cycles):
     return "\n".join([*lines, f"end cycles {cycles} ended {ended} waits 0 squashes {squashes}", ""])
 
 
-def simulated(module, image, cycles, folder):
-    """The lines by Icarus, or what it has against the test bench."""
+def ports_shown(module, image, cycles, folder):
+    """The values of all ports in each cycle by Icarus, or what it has against the test bench."""
     (folder / "bench.v").write_text(bench(module, image, cycles))
     status, text = said(["iverilog", "-g2005", "-o", "bench.vvp", "bench.v", module.file], folder)
     if status:
-        return f"iverilog: {text}"
+        return None, f"iverilog: {text}"
     status, text = said(["vvp", "-n", "bench.vvp"], folder)
     rows = [line.split() for line in text.splitlines() if not line.startswith("bench.v:")]
     if status or len(rows) != cycles or any(not re.fullmatch("[0-9a-f]+", it) for row in rows for it in row):
-        return f"vvp (status {status}): {text[:500]}"
-    return lines_of(module, [[int(it, 16) for it in row] for row in rows], cycles)
+        return None, f"vvp (status {status}): {text[:500]}"
+    return [[int(it, 16) for it in row] for row in rows], None
+
+
+def simulated(module, image, cycles, folder):
+    """The lines by Icarus, or what it has against the test bench."""
+    shown, complaint = ports_shown(module, image, cycles, folder)
+    return complaint or lines_of(module, shown, cycles)
 
 
 def judged(program, source, image, cycles, folder):

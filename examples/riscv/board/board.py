@@ -1,0 +1,133 @@
+#!/usr/bin/env python3
+"""Puts the RV32I core on a board with an iCE40-HX8K, where yosys, nextpnr-ice40, icestorm and iverilog are installed.
+
+    board.py make PDL IMAGE LAMPS FOLDER      writes top.bin, the bitstream, and what it took
+    board.py try PDL IMAGE LAMPS CYCLES FOLDER  runs the netlist that `make` left, and compares it with `pdl run`
+    board.py contents NETLIST IMAGE FOLDER    adds the words of an image to the arrays of any text of `pdl build`
+
+PDL is the program, IMAGE an image of examples/riscv, LAMPS the word of `data` whose low byte the lamps show, and FOLDER a
+folder for what is made. The core is rv32i.pdl with memories of 4 KiB in place of 64: eight block memories each.
+"""
+import pathlib
+import re
+import subprocess
+import sys
+
+HERE = pathlib.Path(__file__).resolve().parent
+WORDS = 1024
+CELLS = "/usr/share/yosys/ice40/cells_sim.v"
+
+
+def run(words, folder, log=None):
+    """What a tool prints; it has to end well."""
+    ran = subprocess.run([str(it) for it in words], cwd=folder, capture_output=True, text=True)
+    if log:
+        (folder / log).write_text(ran.stdout + ran.stderr)
+    if ran.returncode:
+        raise SystemExit("%s ends with status %d: %s" % (words[0], ran.returncode, (ran.stdout + ran.stderr)[-2000:]))
+    return ran.stdout
+
+
+def core(folder):
+    """The source of the core with small memories: their depths, and the bits of an address that name a word."""
+    text = (HERE.parent / "rv32i.pdl").read_text()
+    high = WORDS.bit_length()
+    text = text.replace("[16384]", "[%d]" % WORDS).replace("[15:2]", "[%d:2]" % high)
+    (folder / "core.pdl").write_text(text)
+
+
+def words_of(image):
+    """The words of an image, by memory and address."""
+    lines = [line.split() for line in image.splitlines()[1:] if line and not line.startswith("//")]
+    return {(memory, int(address)): value for memory, address, value in lines}
+
+
+def with_contents(text, image, folder):
+    """A text of `pdl build` whose arrays begin with the words of an image: one line for each before its `endmodule`.
+
+    The words of the array a_m stand in m.hex. Words that the image doesn't give are 0.
+    """
+    given = words_of(image)
+    loads = []
+    for name, last in re.findall(r"^reg \[\d+:0\] a_(\w+) \[0:(\d+)\];$", text, re.M):
+        depth = int(last) + 1
+        (folder / (name + ".hex")).write_text("".join(given.get((name, at), "0") + "\n" for at in range(depth)))
+        loads.append('initial $readmemh("%s.hex", a_%s);\n' % (name, name))
+        outside = [at for memory, at in given if memory == name and at >= depth]
+        if outside:
+            raise SystemExit("%s has %d words, and the image gives word %d" % (name, depth, max(outside)))
+    return text.replace("endmodule", "".join(loads) + "endmodule")
+
+
+def make(pdl, image, lamps, folder):
+    core(folder)
+    text = run([pdl, "build", "core.pdl"], folder)
+    (folder / "core.v").write_text(with_contents(text, image, folder))
+    (folder / "top.v").write_text((HERE / "top.v").read_text())
+    synthesis = ("read_verilog top.v core.v; chparam -set LAMPS %d top; synth_ice40 -top top -json top.json; "
+                 "write_verilog -noattr netlist.v; tee -o cells.txt stat" % lamps)
+    run(["yosys", "-p", synthesis], folder, "yosys.log")
+    run(["nextpnr-ice40", "--hx8k", "--package", "ct256", "--json", "top.json", "--pcf", HERE / "hx8k.pcf",
+         "--asc", "top.asc", "--freq", "12", "--seed", "1"], folder, "nextpnr.log")
+    run(["icepack", "top.asc", "top.bin"], folder)
+    run(["icetime", "-d", "hx8k", "-m", "-r", "icetime.txt", "top.asc"], folder, "icetime.log")
+    print((folder / "cells.txt").read_text())
+    log = (folder / "nextpnr.log").read_text()
+    print("\n".join(re.findall(r"Info:\s+((?:ICESTORM_(?:LC|RAM)|SB_\w+):.*)", log)))
+    print(re.findall(r"Max frequency for clock .*", log)[-1])
+    print(re.findall(r"Timing estimate: .*", (folder / "icetime.log").read_text())[-1])
+
+
+BENCH = """
+module bench;
+  reg clk = 0;
+  wire [7:0] lamps;
+  integer cycle = 0;
+  top dut(.clk(clk), .lamps(lamps));
+  initial begin
+    while (cycle < %d) begin
+      #1 if (!dut.rst) begin
+        cycle = cycle + 1;
+        if (dut.c_data !== 0) $display("%%0d data %%0d %%h", cycle, dut.ca_data, dut.cd_data);
+      end
+      clk = 1;
+      #1 clk = 0;
+    end
+    #1 $display("lamps %%h", lamps);
+    $finish;
+  end
+endmodule
+"""
+
+
+def attempt(pdl, image, lamps, cycles, folder):
+    """Compares the writes of `data` in the netlist with those of `pdl run`, cycle by cycle, and the lamps at the end."""
+    (folder / "bench.v").write_text(BENCH % cycles)
+    (folder / "core.img").write_text(image)
+    run(["iverilog", "-g2005", "-DNO_ICE40_DEFAULT_ASSIGNMENTS", "-o", "bench.vvp", "bench.v", "netlist.v", CELLS], folder)
+    lines = [it for it in run(["vvp", "-n", "bench.vvp"], folder).splitlines() if not it.startswith("bench.v:")]
+    text = run([pdl, "run", "core.pdl", "core.img", cycles], folder)
+    wanted = [line for line in text.splitlines() if " data " in line]
+    shown = [line.split()[3][-2:] for line in wanted if line.split()[2] == str(lamps)]
+    wanted.append("lamps " + (shown or ["00"])[-1])
+    if lines != wanted:
+        first = next((pair for pair in zip(lines + [""], wanted + [""]) if pair[0] != pair[1]), None)
+        raise SystemExit("the netlist and `pdl run` differ: %s" % (first,))
+    print("%d cycles, %d writes of data, %s: the same" % (cycles, len(wanted) - 1, lines[-1]))
+
+
+def main(words):
+    if words[:1] == ["make"] and len(words) == 5:
+        folder = pathlib.Path(words[4])
+        folder.mkdir(parents=True, exist_ok=True)
+        make(pathlib.Path(words[1]).resolve(), pathlib.Path(words[2]).read_text(), int(words[3]), folder)
+    elif words[:1] == ["try"] and len(words) == 6:
+        attempt(pathlib.Path(words[1]).resolve(), pathlib.Path(words[2]).read_text(), int(words[3]), int(words[4]), pathlib.Path(words[5]))
+    elif words[:1] == ["contents"] and len(words) == 4:
+        sys.stdout.write(with_contents(pathlib.Path(words[1]).read_text(), pathlib.Path(words[2]).read_text(), pathlib.Path(words[3])))
+    else:
+        sys.exit(__doc__)
+
+
+if __name__ == "__main__":
+    main(sys.argv[1:])
