@@ -251,14 +251,14 @@ stand_outside n image ms w i e f g =
     let few = (few_delayed n p).0 in
     let part : length (take (length (delayed_mems n)) image) ≡ length ds = length-take-le (length (delayed_mems n)) image (let q = i.count in omega (arith, q, few)) ∙ count in
     let words : (k : ℕ) (d : PortMem) → k < length ds → (a : ℕ) → slice_index (get_or (take (length (delayed_mems n)) image) k []) a < 2 ^ (get_or ds k d).width =
-        λ k d l a.
-        let u : k < length (delayed_mems n) = omega (arith, l, count) in
-        let mem : get_or n.mems k (delayed_info d) ≡ delayed_info (get_or ds k d) = sym (get_or-take (length (delayed_mems n)) n.mems k (delayed_info d) u) ∙ ap (λ (x : List MemInfo). get_or x k (delayed_info d)) (sym front ∙ told) ∙ get_or-map delayed_info ds k d (delayed_info d) l in
-        let x = i.width k (delayed_info d) (omega (arith, u, few)) a in
-        let y = subst (λ (m : MemInfo). slice_index (get_or image k []) a < 2 ^ m.width) mem x in
-        subst (λ (r : List ℕ). slice_index r a < 2 ^ (get_or ds k d).width) (sym (get_or-take (length (delayed_mems n)) image k [] u)) y in
+    λ k d l a.
+    let u : k < length (delayed_mems n) = omega (arith, l, count) in
+    let mem : get_or n.mems k (delayed_info d) ≡ delayed_info (get_or ds k d) = sym (get_or-take (length (delayed_mems n)) n.mems k (delayed_info d) u) ∙ ap (λ (x : List MemInfo). get_or x k (delayed_info d)) (sym front ∙ told) ∙ get_or-map delayed_info ds k d (delayed_info d) l in
+    let x = i.width k (delayed_info d) (omega (arith, u, few)) a in
+    let y = subst (λ (m : MemInfo). slice_index (get_or image k []) a < 2 ^ m.width) mem x in
+    subst (λ (r : List ℕ). slice_index r a < 2 ^ (get_or ds k d).width) (sym (get_or-take (length (delayed_mems n)) image k [] u)) y in
     let values : (k : ℕ) (d : PortMem) → k < length ds → (s : State) → Suits c s → port_value c (output_values c s) (codes "cd_" ++ (get_or ds k d).name) < 2 ^ (get_or ds k d).width =
-        λ k d l s t. committed_fits n w (get_or ds k d) (k, l, get_or_default ds k (get_or ds k d) d l) s t in
+    λ k d l s t. committed_fits n w (get_or ds k d) (k, l, get_or_default ds k (get_or ds k d) d l) s t in
     record {
       commits = f;
       requests = g;

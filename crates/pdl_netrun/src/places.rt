@@ -27,7 +27,11 @@ pub struct RequestPlaces {
 }
 
 /// The places of a delayed memory's request ports.
-pub fn request_places(alloc: Global, net: &Netlist, mem: &MemInfo) -> Result<RequestPlaces, NoMemory>
+pub fn request_places(
+    alloc: Global,
+    net: &Netlist,
+    mem: &MemInfo,
+) -> Result<RequestPlaces, NoMemory>
     ensures { IfOk result (λ p. p ≡ requests_of (circuit_of net.now) mem.now.name) }
 {
     let request = prefixed_place(alloc, net, b"q_", &mem.name)?;

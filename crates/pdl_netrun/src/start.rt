@@ -76,12 +76,7 @@ pub fn all_outside(
 }
 
 /// A delayed memory with these words and no request.
-fn outside_of(
-    alloc: Global,
-    n: &Netlist,
-    mem: &MemInfo,
-    words: &[u64],
-) -> Result<Outside, NoMemory>
+fn outside_of(alloc: Global, n: &Netlist, mem: &MemInfo, words: &[u64]) -> Result<Outside, NoMemory>
     ensures { IfOk result (λ o. IsOutsideOf (circuit_of n.now) mem.now.name words.now o) }
 {
     let commits = places_of_mem(alloc, n, mem)?;
