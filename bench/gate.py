@@ -3,7 +3,7 @@
 
     gate.py [--sizes]
 
-To be run at the top of a clone, on a machine with nothing else to do. It runs `rt ci --anew`, looks once a second at
+To be run at the top of a clone, on a machine with nothing else to do. It runs `rt ci` from nothing, looks once a second at
 the provers that this starts, and adds up the processor seconds of each crate: of its proof, of that of its tests, and
 of its edits with the checks that these begin and end with. With --sizes nothing is proved: the lines and edits are
 counted anew, and the seconds stay as they stand in the table.
@@ -58,11 +58,17 @@ def told_by_ancestors(process, found):
     return None
 
 
+def anew():
+    """The word by which the gate proves all anew, in a toolchain whose gate keeps what it proved before."""
+    said = subprocess.run(["rt", "help"], capture_output=True, text=True)
+    return ["--anew"] if "--anew" in said.stdout + said.stderr else []
+
+
 def run_gate():
     """Runs the gate, and returns its status, its minutes, and the processor seconds by crate and kind."""
     seen = {}
     began = time.monotonic()
-    gate = subprocess.Popen(["rt", "ci", "--anew"], cwd=ROOT, stdin=subprocess.DEVNULL)
+    gate = subprocess.Popen(["rt", "ci", *anew()], cwd=ROOT, stdin=subprocess.DEVNULL)
     while gate.poll() is None:
         found = processes()
         for process, (_, _, seconds, start) in found.items():

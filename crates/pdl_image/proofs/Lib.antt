@@ -3,6 +3,8 @@ pub mod LineWords
 pub mod MapSet
 pub mod Filling
 pub mod TakenLines
+pub mod DelayRows
+pub mod DelayFiles
 pub mod Whole
 pub mod Rows
 pub mod Written

@@ -1,3 +1,4 @@
 pub mod Lines
 pub mod Images
+pub mod Delays
 pub mod Slots

@@ -1,16 +1,20 @@
-//! Files that a run reads beside its source: images, which give the words of memories at the start.
+//! Files that a run reads beside its source: images, which give the words of memories at the start, and delay files, which give the replies of delayed memories cycle by cycle.
 //!
-//! The layers above may use `read_image` and `Image`.
+//! The layers above may use `read_image` with `Image`, and `read_delays` with `Delays`.
 #![tactic(auto)]
 
+pub mod delays;
 mod fields;
 pub mod file_error;
 pub mod image;
 mod lines;
 pub mod read;
+mod schedule;
 mod slots;
 mod word;
 
+pub use delays::Delays;
 pub use file_error::FileError;
 pub use image::Image;
 pub use read::read_image;
+pub use schedule::read_delays;

@@ -10,3 +10,4 @@ pub mod PipeMems
 pub mod Equal
 pub mod Holds
 pub mod Loaded
+pub mod Committed

@@ -1,7 +1,7 @@
 -- The state at the start.
-use Rattle.std.proofs.Common.{◌≡◌, ℕ, zero, suc, ◌+◌, ◌-◌, ◌*◌, ◌^◌, ◌<◌, ◌≤◌, ◌⊎◌, ⊎_elim, Bool, true, false, cond, List, [], ◌∷◌, length, map, filter, filter_map, flat_map, find, replicate, drop, get_or, All, Option, Some, None, bytes_eq, refl, sym, ap, ◌∙◌, subst, arith, length-append}
+use Rattle.std.proofs.Common.{◌≡◌, ℕ, zero, suc, ◌+◌, ◌-◌, ◌*◌, ◌^◌, ◌<◌, ◌≤◌, ◌⊎◌, ⊎_elim, Bool, true, false, cond, List, [], ◌∷◌, length, map, filter, filter_map, flat_map, find, replicate, drop, get_or, All, Option, Some, None, bytes_eq, refl, sym, ap, ◌∙◌, subst, arith, length-append, append-nil}
 use Rattle.std.specs.List.{cons_option, range_with_len}
-use Rattle.std.proofs.lemmas.List.{get_or-map, length-map, length-replicate, get_or_append_left, get_or-append_right, get_or-drop}
+use Rattle.std.proofs.lemmas.List.{get_or-map, length-map, length-replicate, get_or_append_left, get_or-append_right, get_or-drop, length-drop}
 use Rattle.std.proofs.lemmas.List.Elements.{filter_map-append}
 use Rattle.std.proofs.lemmas.Bool.{cases_lt}
 use Rattle.std.proofs.lemmas.Slice.Eq.{bytes_eq-Decides}
@@ -15,9 +15,9 @@ use Rattle.pdl_net.specs.declared.Netlist.{Netlist}
 use Rattle.pdl_net.specs.Circuit.{circuit_of, inputs_of, input_with, port_input, no_reg, array_at, no_array}
 use Rattle.pdl_net.specs.Well.{IsWell}
 use Rattle.pdl_net.specs.Run.{delayed_mems, filled_words, loaded_arrays, no_mem}
-use Rattle.pdl_net.specs.Pipe.{Head, head_of, is_input, PortMem, stage_ports, commit_ports, pipe_ports, comb_info, mems_of, IsPipe, IsWellFormed}
+use Rattle.pdl_net.specs.Pipe.{Head, head_of, is_input, PortMem, reply_ports, reply_widths, stage_ports, commit_ports, request_ports, pipe_ports, comb_info, delayed_info, mems_of, IsPipe, IsWellFormed}
 use Rattle.pdl_word.proofs.Lists.{zeros_at}
-use Rattle.pdl_net.proofs.PipeMems.{none_delayed}
+use Rattle.pdl_net.proofs.PipeMems.{none_delayed, delayed_told}
 use Rattle.pdl_net.specs.Holds.{Holds, ImageFits}
 
 -- the memory that an array and the locked memories tell has the array's width and at most its depth
@@ -39,36 +39,52 @@ held_found a (l ∷ ls) w d =
     let P : Bool → Type 0 = λ t. (t ≡ true → l.name ≡ a.name) → IsHeld a (comb_info a (cond t (Some l) (find (λ m. bytes_eq m.name a.name) ls))) in
     (elim (bytes_eq l.name a.name) as P [ true ↦ (λ f. held_in a l (w zero l (omega arith) (f refl)) (d zero l (omega arith) (f refl))) | false ↦ (λ f. rest) ]) same
 
--- the image of a netlist's memories fits its arrays
-mem_held : (n : Netlist) → IsPipe n → delayed_mems n ≡ [] → (length n.mems ≡ length n.arrays) × ((m : ℕ) → m < length n.arrays → IsHeld (array_at (circuit_of n) m) (get_or n.mems m no_mem))
-mem_held n p e =
-    let none = none_delayed p.delayed p.locked n.arrays (ap (filter (λ m. m.delayed)) (sym p.mems) ∙ e) in
+-- the memories of arrays stand after the delayed ones, and an array holds its own
+mem_held : (n : Netlist) (p : IsPipe n) → (length n.mems ≡ length p.delayed + length n.arrays) × ((m : ℕ) → m < length n.arrays → IsHeld (array_at (circuit_of n) m) (get_or n.mems (length p.delayed + m) no_mem))
+mem_held n p =
     let info = λ (a : Array). comb_info a (find (λ l. bytes_eq l.name a.name) p.locked) in
-    let mems : n.mems ≡ map info n.arrays = p.mems ∙ ap (λ d. mems_of d p.locked n.arrays) none in (
-      ap length mems ∙ (simp length-map),
+    let front = map delayed_info p.delayed in
+    let many : length front ≡ length p.delayed = simp length-map in
+    let last : length (map info n.arrays) ≡ length n.arrays = simp length-map in
+    let all = length-append front (map info n.arrays) in
+    let count = ap length p.mems in (
+      omega (arith, many, last, all, count),
       λ m h.
           let a = array_at (circuit_of n) m in
           let f = p.arrays m no_array h in
           let P : MemInfo → Type 0 = λ x. IsHeld a x in
-          subst P (sym (ap (λ l. get_or l m no_mem) mems ∙ get_or-map info n.arrays m no_array no_mem h)) (held_found a p.locked f.width f.depth),
+          let after : length p.delayed + m - length p.delayed ≡ m = omega arith in
+          subst P (sym (ap (λ l. get_or l (length p.delayed + m) no_mem) p.mems ∙ get_or-append_right front (map info n.arrays) (length p.delayed) (length p.delayed + m) no_mem many (omega arith) ∙ ap (λ i. get_or (map info n.arrays) i no_mem) after ∙ get_or-map info n.arrays m no_array no_mem h)) (held_found a p.locked f.width f.depth),
     )
 
--- words for each memory, as many as it has and of its width, fit the arrays
+-- words for each memory, as many as it has and of its width: those after the delayed memories' fit the arrays
+pub image_part_fits : (n : Netlist) (image : List (List ℕ)) → IsWellFormed n
+    → length image ≡ length n.mems
+    → ((m : ℕ) (d : MemInfo) → m < length n.mems → length (get_or image m []) ≡ (get_or n.mems m d).depth)
+    → ((m : ℕ) (d : MemInfo) → m < length n.mems → (a : ℕ) → get_or (get_or image m []) a 0 < 2 ^ (get_or n.mems m d).width)
+    → ImageFits (circuit_of n) (drop (length (delayed_mems n)) image)
+image_part_fits n image w count depth width =
+    let p = w.pipe in
+    let h = mem_held n p in
+    let k = length p.delayed in
+    let told : k ≡ length (delayed_mems n) = sym (ap length (delayed_told n p) ∙ (simp length-map)) in
+    let part : (m : ℕ) → get_or image (k + m) [] ≡ get_or (drop k image) m [] = λ m. sym (get_or-drop k image m []) in
+    subst (λ j. ImageFits (circuit_of n) (drop j image)) told (record {
+      count = let l = length-drop k image in let all = h.0 in omega (arith, l, all, count);
+      depth = λ m l. let d = depth (k + m) no_mem (omega (arith, l, h.0)) in let f = (h.1 m l).depth in let e = ap length (part m) in omega (arith, d, f, e);
+      words = λ m l a.
+          let x = width (k + m) no_mem (omega (arith, l, h.0)) a in
+          let P : ℕ → Type 0 = λ b. get_or (get_or (drop k image) m []) a 0 < 2 ^ b in
+          subst P (sym ((h.1 m l).width)) (subst (λ (r : List ℕ). get_or r a 0 < 2 ^ (get_or n.mems (k + m) no_mem).width) (part m) x);
+    })
+
+-- where no memory is delayed the whole does
 pub image_fits : (n : Netlist) (image : List (List ℕ)) → IsWellFormed n → delayed_mems n ≡ []
     → length image ≡ length n.mems
     → ((m : ℕ) (d : MemInfo) → m < length n.mems → length (get_or image m []) ≡ (get_or n.mems m d).depth)
     → ((m : ℕ) (d : MemInfo) → m < length n.mems → (a : ℕ) → get_or (get_or image m []) a 0 < 2 ^ (get_or n.mems m d).width)
     → ImageFits (circuit_of n) image
-image_fits n image w e count depth width =
-    let h = mem_held n w.pipe e in
-    record {
-      count = count ∙ h.0;
-      depth = λ m l. let d = depth m no_mem (omega (arith, l, h.0)) in let f = (h.1 m l).depth in omega (arith, d, f);
-      words = λ m l a.
-          let x = width m no_mem (omega (arith, l, h.0)) a in
-          let P : ℕ → Type 0 = λ b. get_or (get_or image m []) a 0 < 2 ^ b in
-          subst P (sym ((h.1 m l).width)) x;
-    }
+image_fits n image w e count depth width = subst (λ (ms : List MemInfo). ImageFits (circuit_of n) (drop (length ms) image)) e (image_part_fits n image w count depth width)
 
 -- no head among these is an input
 head_input : Head → Option ℕ
@@ -92,16 +108,33 @@ unfolding head_input
 commits_show [] = refl
 commits_show (m ∷ ms) = commits_show ms
 
-pub no_inputs : (n : Netlist) → IsWellFormed n → delayed_mems n ≡ [] → inputs_of (circuit_of n) ≡ []
+requests_show : (ms : List PortMem) → filter_map head_input (flat_map request_ports ms) ≡ []
 unfolding head_input
+requests_show [] = refl
+requests_show (m ∷ ms) = requests_show ms
+
+replies_show : (ms : List PortMem) → filter_map head_input (flat_map reply_ports ms) ≡ flat_map reply_widths ms
+unfolding head_input
+replies_show [] = refl
+replies_show (m ∷ ms) = ap (λ l. 1 ∷ m.width ∷ l) (replies_show ms)
+
+-- each delayed memory has an input of one bit and one for its words, and there is no other
+pub inputs_told : (n : Netlist) (p : IsPipe n) → inputs_of (circuit_of n) ≡ flat_map reply_widths p.delayed
+unfolding head_input
+inputs_told n p =
+    let replies = flat_map reply_ports p.delayed in
+    let stages = flat_map stage_ports (range_with_len 0 p.stages) in
+    let commits = flat_map commit_ports p.locked in
+    let requests = flat_map request_ports p.delayed in
+    inputs_of_heads n.ports
+    ∙ ap (filter_map head_input) p.ports
+    ∙ grind (arith, filter_map-append, append-nil, replies_show p.delayed, stages_show (range_with_len 0 p.stages), commits_show p.locked, requests_show p.delayed)
+
+pub no_inputs : (n : Netlist) → IsWellFormed n → delayed_mems n ≡ [] → inputs_of (circuit_of n) ≡ []
 no_inputs n w e =
     let p = w.pipe in
     let none = none_delayed p.delayed p.locked n.arrays (ap (filter (λ m. m.delayed)) (sym p.mems) ∙ e) in
-    let stages = flat_map stage_ports (range_with_len 0 p.stages) in
-    let commits = flat_map commit_ports p.locked in
-    inputs_of_heads n.ports
-    ∙ ap (filter_map head_input) (p.ports ∙ ap (λ d. pipe_ports p.stages d p.locked) none)
-    ∙ grind (arith, filter_map-append, stages_show (range_with_len 0 p.stages), commits_show p.locked)
+    inputs_told n p ∙ ap (flat_map reply_widths) none
 
 -- each array with its part of the image
 pub loaded_at : (rest : List Array) (image : List (List ℕ)) (m : ℕ) → m < length rest → get_or (loaded_arrays rest image) m [] ≡ filled_words (get_or rest m no_array).depth (get_or image m [])

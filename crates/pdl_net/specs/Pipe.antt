@@ -39,6 +39,10 @@ pub record PortMem : Type 0 where
 abbrev pub reply_ports : PortMem → List Head
 reply_ports m = input (codes "p_" ++ m.name) 1 ∷ input (codes "pd_" ++ m.name) m.width ∷ []
 
+-- the widths of these
+abbrev pub reply_widths : PortMem → List ℕ
+reply_widths m = 1 ∷ m.width ∷ []
+
 -- of a stage: whether it holds a thread, and whether this one moves
 abbrev pub stage_ports : ℕ → List Head
 stage_ports k = output (codes "v_" ++ decimal k) 1 ∷ output (codes "g_" ++ decimal k) 1 ∷ []

@@ -1,20 +1,20 @@
 -- The start of a simulator: registers have their reset values, and the list of values has constants.
-use Rattle.std.proofs.Common.{◌≡◌, ◌⊎◌, inl, inr, refl, sym, ap, ◌∙◌, subst, ℕ, ◌+◌, ◌<◌, List, [], ◌++◌, length, take, drop, map, replicate, None, arith, ◌-◌, length-append}
+use Rattle.std.proofs.Common.{◌≡◌, ◌⊎◌, inl, inr, refl, sym, ap, ◌∙◌, subst, ℕ, ◌+◌, ◌<◌, List, ◌++◌, length, take, drop, map, replicate, arith, ◌-◌, length-append}
 use Rattle.std.specs.Prelude.{slice_index}
 use Rattle.std.proofs.lemmas.List.{get_or-append_right, get_or-map, length-map, length-replicate}
-use Rattle.pdl_kit.specs.declared.mem_info.MemInfo.{MemInfo}
 use Rattle.pdl_net.specs.declared.Cell.{Cell}
 use Rattle.pdl_net.specs.declared.Cell.TheVariants as cell
 use Rattle.pdl_net.specs.declared.Netlist.{Netlist}
 use Rattle.pdl_net.specs.Circuit.{Circuit, circuit_of, inputs_of}
 use Rattle.pdl_net.specs.Well.{IsWell}
-use Rattle.pdl_net.specs.Run.{delayed_mems, loaded_arrays}
+use Rattle.pdl_net.specs.Run.{Store, delayed_mems, loaded_arrays}
 use Rattle.pdl_net.specs.Holds.{Holds, ImageFits}
 use Rattle.pdl_net.proofs.Loaded.{holds_start}
 use Rattle.pdl_netrun.specs.Order.{first_place, cell_at, cell_of, unplaced, HasTurn, IsOrder, IsOrderOf, AllEarly, AllPlaced}
 use Rattle.pdl_netrun.specs.Plan.{held_at_start, IsHeld, HasConstants}
 use Rattle.pdl_netrun.specs.declared.order.Order.{Order}
-use Rattle.pdl_netrun.specs.Sim.{run_at, run_at_start, nothing}
+use Rattle.pdl_netrun.specs.Sim.{run_at, run_at_start}
+use Rattle.pdl_netrun.specs.Outside.{first_stores}
 
 -- the list of values before the first cycle
 abbrev pub first_values : Circuit → List ℕ → List ℕ
@@ -64,11 +64,11 @@ pub holds_first : (n : Netlist) (image : List (List ℕ)) (regs : List ℕ) (arr
 holds_first n image regs arrays w i e f = holds_start n image regs arrays w i e f
 
 -- the simulator begins at the start of the first cycle
-pub begun_is : (n : Netlist) (image : List (List ℕ)) (regs : List ℕ) (arrays : List (List ℕ)) → delayed_mems n ≡ [] → regs ≡ map (λ r. r.reset) n.regs → arrays ≡ loaded_arrays n.arrays image → run_at n regs arrays ≡ run_at_start n image
-begun_is n image regs arrays d e f =
-    ap (λ x. run_at n x arrays) e
-    ∙ ap (λ x. run_at n (map (λ r. r.reset) n.regs) x) f
-    ∙ sym (ap (λ (ms : List MemInfo). record { netlist = n; held = record { regs = map (λ r. r.reset) n.regs; arrays = loaded_arrays n.arrays (drop (length ms) image); stores = map (λ words. record { words = words; request = None }) (take (length ms) image) }; last = nothing n }) d)
+pub begun_is : (n : Netlist) (image : List (List ℕ)) (k : ℕ) (regs : List ℕ) (arrays : List (List ℕ)) (stores : List Store) → k ≡ length (delayed_mems n) → regs ≡ map (λ r. r.reset) n.regs → arrays ≡ loaded_arrays n.arrays (drop k image) → stores ≡ first_stores (take k image) → run_at n regs arrays stores ≡ run_at_start n image
+begun_is n image k regs arrays stores d e f g =
+    ap (λ x. run_at n x arrays stores) e
+    ∙ ap (λ x. run_at n (map (λ r. r.reset) n.regs) x stores) (f ∙ ap (λ (j : ℕ). loaded_arrays n.arrays (drop j image)) d)
+    ∙ ap (run_at n (map (λ r. r.reset) n.regs) (loaded_arrays n.arrays (drop (length (delayed_mems n)) image))) (g ∙ ap (λ (j : ℕ). first_stores (take j image)) d)
 
 -- OF A NETLIST
 

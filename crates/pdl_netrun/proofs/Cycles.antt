@@ -1,8 +1,9 @@
 -- The parts of a cycle, from the fields of a simulator that is ready.
-use Rattle.std.proofs.Common.{◌≡◌, true, sym, ap, ◌∙◌, subst, ℕ, ◌<◌, ◌≤◌, List, length, map, All, Vec, Global, arith}
+use Rattle.std.proofs.Common.{◌≡◌, true, sym, ap, ◌∙◌, subst, ℕ, ◌+◌, ◌*◌, ◌<◌, ◌≤◌, List, length, map, All, Vec, Global, arith}
 use Rattle.std.specs.Prelude.{slice_index}
-use Rattle.std.proofs.lemmas.List.{get_or-map}
-use Rattle.pdl_net.specs.Circuit.{circuit_of}
+use Rattle.std.proofs.lemmas.List.{get_or-map, length-map}
+use Rattle.pdl_net.specs.Circuit.{circuit_of, inputs_of}
+use Rattle.pdl_net.specs.Run.{answers, delayed_mems, next_stores}
 use Rattle.pdl_net.specs.Cycle.{output_values, next_regs, next_arrays}
 use Rattle.pdl_net.specs.Holds.{Holds}
 use Rattle.pdl_net.proofs.Holds.{next_holds}
@@ -12,69 +13,110 @@ use Rattle.pdl_netrun.specs.declared.sim.Sim.TheInside.{Inside}
 use Rattle.pdl_netrun.specs.Steps.{StepsFit, AreBelow, WriteFits, after_steps, after_all, array_words, steps_of}
 use Rattle.pdl_netrun.specs.Order.{first_place, AllEarly}
 use Rattle.pdl_netrun.specs.Plan.{HasValues, HasConstants, planned_writes}
+use Rattle.pdl_netrun.specs.declared.outside.Outside.{Outside}
+use Rattle.pdl_netrun.specs.Outside.{AreOutside, WordsFit, stores_of, stores_after}
 use Rattle.pdl_netrun.specs.Inside.{IsReady, run_of, seen_at}
 use Rattle.pdl_netrun.proofs.Arrays.{arrays_written, writes_fit}
-use Rattle.pdl_netrun.proofs.Stepped.{state_now, suits_now, begun_values, begun_count, walked_now, drivers_below, outputs_read, nexts_below, nexts_read}
+use Rattle.pdl_netrun.proofs.Environment.{stores_named, words_kept}
+use Rattle.pdl_netrun.proofs.Stepped.{state_now, suits_now, answered_values, answered_count, answers_count, begun_values, begun_count, walked_now, drivers_below, outputs_read, nexts_below, nexts_read}
 
 -- the values after the walk
-abbrev pub walked_values : Inside → List ℕ
-walked_values a = after_steps (steps_of a.runs.items) a.first_cell (begun_values a) (array_words a.arrays.items)
+abbrev pub walked_values : Inside → ℕ → List ℕ
+walked_values a bits = after_steps (steps_of a.runs.items) a.first_cell (begun_values a bits) (array_words a.arrays.items)
 
-pub fit_now : (a : Inside) → IsReady a → (xs : List CellRun) (vs : List ℕ) (ws : List (Vec ℕ Global)) → xs ≡ a.runs.items → vs ≡ begun_values a → ws ≡ a.arrays.items → StepsFit (steps_of xs) a.first_cell vs (array_words ws)
-fit_now a r xs vs ws e f g =
+pub fit_now : (a : Inside) (bits : ℕ) → IsReady a → (xs : List CellRun) (vs : List ℕ) (ws : List (Vec ℕ Global)) → xs ≡ a.runs.items → vs ≡ begun_values a bits → ws ≡ a.arrays.items → StepsFit (steps_of xs) a.first_cell vs (array_words ws)
+fit_now a bits r xs vs ws e f g =
     subst (λ x. StepsFit (steps_of x) a.first_cell vs (array_words ws)) (sym e)
     (subst (λ x. StepsFit (steps_of a.runs.items) a.first_cell x (array_words ws)) (sym f)
-    (subst (λ x. StepsFit (steps_of a.runs.items) a.first_cell (begun_values a) (array_words x)) (sym g) ((walked_now a r).fit)))
+    (subst (λ x. StepsFit (steps_of a.runs.items) a.first_cell (begun_values a bits) (array_words x)) (sym g) ((walked_now a bits r).fit)))
 
 -- what holds of the values after the walk
-pub record AreWalked (a : Inside) (ps : List ℕ) (vs : List ℕ) : Type 0 where
+pub record AreWalked (a : Inside) (bits : ℕ) (ps : List ℕ) (vs : List ℕ) : Type 0 where
   pub count : length vs ≡ length a.values.items
-  pub values : HasValues (circuit_of a.net.now) ps (state_now a) vs (length vs)
+  pub values : HasValues (circuit_of a.net.now) ps (state_now a bits) vs (length vs)
   pub all : AllEarly (circuit_of a.net.now) ps (length vs)
   pub few : first_place (circuit_of a.net.now) ≤ length vs
   pub constants : HasConstants (circuit_of a.net.now) ps (length vs) vs
 
-pub now_walked : (a : Inside) (r : IsReady a) (vs : List ℕ) → vs ≡ walked_values a → AreWalked a r.places vs
-now_walked a r vs e =
+pub now_walked : (a : Inside) (bits : ℕ) (r : IsReady a) (vs : List ℕ) → vs ≡ walked_values a bits → AreWalked a bits r.places vs
+now_walked a bits r vs e =
     let c = circuit_of a.net.now in
-    let w = walked_now a r in
-    let k : length (begun_values a) ≡ length (walked_values a) = sym w.count in
-    let n : length (walked_values a) ≡ length a.values.items = w.count ∙ begun_count a r in
-    subst (AreWalked a r.places) (sym e) (record {
+    let w = walked_now a bits r in
+    let k : length (begun_values a bits) ≡ length (walked_values a bits) = sym w.count in
+    let n : length (walked_values a bits) ≡ length a.values.items = w.count ∙ begun_count a bits r in
+    subst (AreWalked a bits r.places) (sym e) (record {
       count = n;
-      values = subst (λ (i : ℕ). HasValues c r.places (state_now a) (walked_values a) i) k w.values;
+      values = subst (λ (i : ℕ). HasValues c r.places (state_now a bits) (walked_values a bits) i) k w.values;
       all = subst (λ (i : ℕ). AllEarly c r.places i) (sym n) r.all;
       few = (let m = r.room in omega (arith, m, n));
-      constants = subst (λ (i : ℕ). HasConstants c r.places i (walked_values a)) k w.constants;
+      constants = subst (λ (i : ℕ). HasConstants c r.places i (walked_values a bits)) k w.constants;
     })
 
-pub nexts_now : (a : Inside) → IsReady a → (ps vs : List ℕ) → ps ≡ a.nexts.items → vs ≡ walked_values a → AreBelow (length vs) ps
-nexts_now a r ps vs e f = let w = now_walked a r vs f in nexts_below (circuit_of a.net.now) r.well r.places (length vs) w.all w.few ps (e ∙ r.nexts)
+pub nexts_now : (a : Inside) (bits : ℕ) → IsReady a → (ps vs : List ℕ) → ps ≡ a.nexts.items → vs ≡ walked_values a bits → AreBelow (length vs) ps
+nexts_now a bits r ps vs e f = let w = now_walked a bits r vs f in nexts_below (circuit_of a.net.now) r.well r.places (length vs) w.all w.few ps (e ∙ r.nexts)
 
-pub regs_now : (a : Inside) → IsReady a → (ps vs next : List ℕ) → ps ≡ a.nexts.items → vs ≡ walked_values a → next ≡ map (slice_index vs) ps → next ≡ next_regs (circuit_of a.net.now) (state_now a)
-regs_now a r ps vs next e f g = let w = now_walked a r vs f in g ∙ nexts_read (circuit_of a.net.now) (state_now a) r.well r.places vs w.values w.all w.few ps (e ∙ r.nexts)
+pub regs_now : (a : Inside) (bits : ℕ) → IsReady a → (ps vs next : List ℕ) → ps ≡ a.nexts.items → vs ≡ walked_values a bits → next ≡ map (slice_index vs) ps → next ≡ next_regs (circuit_of a.net.now) (state_now a bits)
+regs_now a bits r ps vs next e f g = let w = now_walked a bits r vs f in g ∙ nexts_read (circuit_of a.net.now) (state_now a bits) r.well r.places vs w.values w.all w.few ps (e ∙ r.nexts)
 
-pub outs_now : (a : Inside) → IsReady a → (vs : List ℕ) → vs ≡ walked_values a → map (slice_index vs) a.drivers.items ≡ output_values (circuit_of a.net.now) (state_now a)
-outs_now a r vs f = let w = now_walked a r vs f in outputs_read (circuit_of a.net.now) (state_now a) r.well r.places vs w.values w.all w.few a.drivers.items r.drivers
+pub outs_now : (a : Inside) (bits : ℕ) → IsReady a → (vs : List ℕ) → vs ≡ walked_values a bits → map (slice_index vs) a.drivers.items ≡ output_values (circuit_of a.net.now) (state_now a bits)
+outs_now a bits r vs f = let w = now_walked a bits r vs f in outputs_read (circuit_of a.net.now) (state_now a bits) r.well r.places vs w.values w.all w.few a.drivers.items r.drivers
 
-pub writes_now : (a : Inside) → IsReady a → (ps : List ArrayWrite) (vs : List ℕ) (ws : List (Vec ℕ Global)) → ps ≡ a.writes.items → vs ≡ walked_values a → ws ≡ a.arrays.items → All (λ p. WriteFits p vs (array_words ws)) ps
-writes_now a r ps vs ws e f g =
-    let w = now_walked a r vs f in
+pub writes_now : (a : Inside) (bits : ℕ) → IsReady a → (ps : List ArrayWrite) (vs : List ℕ) (ws : List (Vec ℕ Global)) → ps ≡ a.writes.items → vs ≡ walked_values a bits → ws ≡ a.arrays.items → All (λ p. WriteFits p vs (array_words ws)) ps
+writes_now a bits r ps vs ws e f g =
+    let w = now_walked a bits r vs f in
     subst (λ x. All (λ p. WriteFits p vs (array_words ws)) x) (sym (e ∙ r.writes))
     (subst (λ x. All (λ p. WriteFits p vs (array_words x)) (planned_writes (circuit_of a.net.now) r.places)) (sym g)
-    (writes_fit (circuit_of a.net.now) (state_now a) r.well (suits_now a r) r.places vs w.values w.all w.few))
+    (writes_fit (circuit_of a.net.now) (state_now a bits) r.well (suits_now a bits r) r.places vs w.values w.all w.few))
 
-pub arrays_now : (a : Inside) → IsReady a → (ps : List ArrayWrite) (vs : List ℕ) (ws : List (Vec ℕ Global)) (new : List (List ℕ)) → ps ≡ a.writes.items → vs ≡ walked_values a → ws ≡ a.arrays.items → new ≡ after_all ps vs (array_words ws) → new ≡ next_arrays (circuit_of a.net.now) (state_now a)
-arrays_now a r ps vs ws new e f g h =
-    let w = now_walked a r vs f in
+pub arrays_now : (a : Inside) (bits : ℕ) → IsReady a → (ps : List ArrayWrite) (vs : List ℕ) (ws : List (Vec ℕ Global)) (new : List (List ℕ)) → ps ≡ a.writes.items → vs ≡ walked_values a bits → ws ≡ a.arrays.items → new ≡ after_all ps vs (array_words ws) → new ≡ next_arrays (circuit_of a.net.now) (state_now a bits)
+arrays_now a bits r ps vs ws new e f g h =
+    let w = now_walked a bits r vs f in
     h ∙ ap (λ x. after_all x vs (array_words ws)) (e ∙ r.writes) ∙ ap (λ x. after_all (planned_writes (circuit_of a.net.now) r.places) vs (array_words x)) g
-    ∙ arrays_written (circuit_of a.net.now) (state_now a) r.well (suits_now a r) r.places vs w.values w.all w.few
+    ∙ arrays_written (circuit_of a.net.now) (state_now a bits) r.well (suits_now a bits r) r.places vs w.values w.all w.few
+
+-- what the delayed memories show goes by the outputs
+pub outs_below_now : (a : Inside) (bits : ℕ) → IsReady a → (ps vs : List ℕ) → ps ≡ a.drivers.items → vs ≡ walked_values a bits → AreBelow (length vs) ps
+outs_below_now a bits r ps vs e f = let w = now_walked a bits r vs f in drivers_below (circuit_of a.net.now) r.well r.places (length vs) w.all w.few ps (e ∙ r.drivers)
+
+pub stores_now : (a : Inside) (bits : ℕ) → IsReady a → (ps vs : List ℕ) (old new : List Outside) → ps ≡ a.drivers.items → vs ≡ walked_values a bits → old ≡ a.outside.items → stores_of new ≡ stores_after (map (slice_index vs) ps) old bits
+    → stores_of new ≡ stores_after (output_values (circuit_of a.net.now) (state_now a bits)) a.outside.items bits
+stores_now a bits r ps vs old new e f g h = h ∙ ap (λ l. stores_after (map (slice_index vs) ps) l bits) g ∙ ap (λ l. stores_after l a.outside.items bits) (ap (map (slice_index vs)) e ∙ outs_now a bits r vs f)
+
+-- they go on standing outside the netlist
+pub outside_now : (a : Inside) (bits : ℕ) → IsReady a → (new : List Outside) → stores_of new ≡ stores_after (output_values (circuit_of a.net.now) (state_now a bits)) a.outside.items bits
+    → map (λ (m : Outside). m.commits) new ≡ map (λ (m : Outside). m.commits) a.outside.items → map (λ (m : Outside). m.requests) new ≡ map (λ (m : Outside). m.requests) a.outside.items → AreOutside (circuit_of a.net.now) (delayed_mems a.net.now) new
+outside_now a bits r new e f g =
+    let c = circuit_of a.net.now in
+    let s = state_now a bits in
+    let o = r.outside in
+    let infos = delayed_mems a.net.now in
+    let same : next_stores c (output_values c s) infos (stores_of a.outside.items) bits ≡ stores_of new = stores_named c (output_values c s) infos a.outside.items bits o.commits o.requests ∙ sym e in
+    record {
+      commits = f ∙ o.commits;
+      requests = g ∙ o.requests;
+      fit = subst (WordsFit (inputs_of c)) same (words_kept c s (inputs_of c) infos (stores_of a.outside.items) bits (suits_now a bits r) o.wide o.fit);
+      wide = o.wide;
+    }
+
+-- there is room for the inputs among the values
+pub answers_room : (a : Inside) (bits : ℕ) → IsReady a → (xs vs : List ℕ) → xs ≡ answers (stores_of a.outside.items) bits → vs ≡ a.values.items → 0 + length xs ≤ length vs
+answers_room a bits r xs vs e f = let n = answers_count a bits r in let l = r.room in let d = ap length e in let g = ap length f in omega (arith, n, l, d, g)
+
+pub regs_room : (a : Inside) (bits : ℕ) → IsReady a → (vs next : List ℕ) → vs ≡ answered_values a bits → next ≡ a.next.items → a.first_reg + length next ≤ length vs
+regs_room a bits r vs next e f = let n = answered_count a bits r in let l = r.room in let d = ap length e in let g = ap length f in let h = r.holds.reg_count in let q = r.first_reg in omega (arith, n, l, d, g, h, q)
+
+pub inputs_kept : (old new : List Outside) (n : ℕ) → map (λ (m : Outside). m.commits) new ≡ map (λ (m : Outside). m.commits) old → 2 * length old ≤ n → 2 * length new ≤ n
+inputs_kept old new n e h =
+    let l = ap length e in
+    let a : length (map (λ (m : Outside). m.commits) new) ≡ length new = simp length-map in
+    let b : length (map (λ (m : Outside). m.commits) old) ≡ length old = simp length-map in
+    omega (arith, l, a, b, h)
 
 -- registers and arrays go on fitting
-pub holds_now : (a : Inside) → IsReady a → (next : List ℕ) (arrays : List (List ℕ)) → next ≡ next_regs (circuit_of a.net.now) (state_now a) → arrays ≡ next_arrays (circuit_of a.net.now) (state_now a) → Holds (circuit_of a.net.now) next arrays
-holds_now a r next arrays g h =
+pub holds_now : (a : Inside) (bits : ℕ) → IsReady a → (next : List ℕ) (arrays : List (List ℕ)) → next ≡ next_regs (circuit_of a.net.now) (state_now a bits) → arrays ≡ next_arrays (circuit_of a.net.now) (state_now a bits) → Holds (circuit_of a.net.now) next arrays
+holds_now a bits r next arrays g h =
     let c = circuit_of a.net.now in
-    subst (λ x. Holds c x arrays) (sym g) (subst (λ x. Holds c (next_regs c (state_now a)) x) (sym h) (next_holds c (state_now a) r.well (suits_now a r)))
+    subst (λ x. Holds c x arrays) (sym g) (subst (λ x. Holds c (next_regs c (state_now a bits)) x) (sym h) (next_holds c (state_now a bits) r.well (suits_now a bits r)))
 
 -- OUTPUTS
 

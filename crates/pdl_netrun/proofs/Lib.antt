@@ -5,6 +5,7 @@ pub mod Orders
 pub mod PlanLemmas
 pub mod Values
 pub mod Arrays
+pub mod Environment
 pub mod Begun
 pub mod Stepped
 pub mod Cycles

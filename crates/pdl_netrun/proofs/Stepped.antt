@@ -1,9 +1,8 @@
 -- One cycle of a simulator.
-use Rattle.std.proofs.Common.{◌≡◌, ◌⊎◌, inl, inr, refl, sym, ap, ◌∙◌, subst, ℕ, zero, suc, ◌+◌, ◌<◌, ◌≤◌, false, List, [], ◌∷◌, ◌++◌, length, get_or, take, drop, map, filter_map, All, Some, ap₂, ◌-◌, length-append, append_assoc, arith}
+use Rattle.std.proofs.Common.{◌≡◌, ◌⊎◌, inl, inr, refl, sym, ap, ◌∙◌, subst, ℕ, zero, suc, ◌+◌, ◌<◌, ◌≤◌, Bool, List, [], ◌∷◌, ◌++◌, length, get_or, take, drop, map, filter_map, All, Some, ap₂, ◌-◌, length-append, append_assoc, arith}
 use Rattle.std.specs.Prelude.{slice_index, slice_get}
 use Rattle.std.specs.List.{cons_option}
-use Rattle.std.proofs.lemmas.List.{get_or-drop, get_or-map, get_or-append_right, get_or_append_left, length-map, length-take-le, length-drop}
-use Rattle.pdl_kit.specs.declared.mem_info.MemInfo.{MemInfo}
+use Rattle.std.proofs.lemmas.List.{get_or-drop, get_or-take, get_or-map, get_or-append_right, get_or_append_left, length-map, length-take-le, length-drop}
 use Rattle.pdl_net.specs.declared.Net.{Net}
 use Rattle.pdl_net.specs.declared.Net.TheVariants.{Input, Reg as RegNet, Cell as CellNet}
 use Rattle.pdl_net.specs.declared.Dir.{Dir}
@@ -12,27 +11,31 @@ use Rattle.pdl_net.specs.declared.Port.{Port}
 use Rattle.pdl_net.specs.declared.Reg.{Reg}
 use Rattle.pdl_net.specs.declared.Netlist.{Netlist}
 use Rattle.pdl_net.specs.Circuit.{Circuit, State, Output, circuit_of, inputs_of, outputs_of, output_with, port_output, no_reg, reg_at}
-use Rattle.pdl_net.specs.Signal.{reg_value}
+use Rattle.pdl_net.specs.Signal.{reg_value, input_value}
 use Rattle.pdl_net.specs.Meaning.{signal, IsThere}
 use Rattle.pdl_net.specs.Well.{IsWell, IsWellPort, IsDriven, Suits}
 use Rattle.pdl_net.specs.Cycle.{net_value, output_values, next_regs, next_arrays}
-use Rattle.pdl_net.specs.Run.{Store, next_stores, delayed_mems}
+use Rattle.pdl_net.specs.Run.{Store, next_stores, delayed_mems, answers, some_waits}
 use Rattle.pdl_netrun.specs.Steps.{AreBelow, array_words, steps_of}
 use Rattle.pdl_netrun.specs.Order.{first_place, place, unplaced, cell_at, HasTurn, IsPlaced, IsOrder, AllEarly}
 use Rattle.pdl_netrun.specs.Plan.{HasValues, HasConstants, IsHeld}
 use Rattle.pdl_netrun.specs.Sim.{Run, run_after}
 use Rattle.pdl_netrun.specs.Inside.{run_of, IsReady}
 use Rattle.pdl_netrun.specs.declared.sim.Sim.TheInside.{Inside}
-use Rattle.pdl_net.proofs.Holds.{suits_of}
+use Rattle.pdl_netrun.specs.Outside.{stores_of, stores_after}
+use Rattle.pdl_netrun.proofs.Environment.{inputs_fit, stores_named}
 use Rattle.pdl_netrun.proofs.Orders.{all_placed}
 use Rattle.pdl_netrun.proofs.Values.{IsWalked, order_steps, walked}
 
--- the state of the circuit in the next cycle
-abbrev pub state_now : Inside → State
-state_now a = record { inputs = []; regs = a.next.items; arrays = array_words a.arrays.items }
+-- the state of the circuit in the next cycle, with these reply bits
+abbrev pub state_now : Inside → ℕ → State
+state_now a bits = record { inputs = answers (stores_of a.outside.items) bits; regs = a.next.items; arrays = array_words a.arrays.items }
 
-pub suits_now : (a : Inside) → IsReady a → Suits (circuit_of a.net.now) (state_now a)
-suits_now a r = suits_of (circuit_of a.net.now) a.next.items (array_words a.arrays.items) r.holds r.inputs
+pub suits_now : (a : Inside) (bits : ℕ) → IsReady a → Suits (circuit_of a.net.now) (state_now a bits)
+suits_now a bits r =
+    let h = r.holds in
+    let i = inputs_fit (inputs_of (circuit_of a.net.now)) (stores_of a.outside.items) bits (r.outside).fit in
+    record { input_count = i.count; inputs = i.each; reg_count = h.reg_count; regs = h.each; array_count = h.array_count; depth = h.depth; words = h.words }
 
 -- the list of values with those of the registers put in
 abbrev pub values_put : ℕ → List ℕ → List ℕ → List ℕ
@@ -66,51 +69,84 @@ put_length vs next n l =
     let e = length-drop (n + length next) vs in
     omega (arith, a, b, d, e)
 
--- at the start of a cycle the list has the values of the registers
-values_first : (c : Circuit) (s : State) (ps vs : List ℕ) (order : List ℕ) → inputs_of c ≡ [] → IsOrder c order ps → length s.regs ≡ length c.regs → length vs ≡ first_place c + length order → HasValues c ps s (values_put (length (inputs_of c)) vs s.regs) (first_place c)
-unfolding signal reg_value
+-- nothing before them has changed
+put_before : (vs next : List ℕ) (n j : ℕ) → j < n → n ≤ length vs → slice_index (values_put n vs next) j ≡ slice_index vs j
+put_before vs next n j h l =
+    let m : length (take n vs) ≡ n = length-take-le n vs l in
+    ap (λ xs. slice_index xs j) (append_assoc (take n vs) next (drop (n + length next) vs))
+    ∙ get_or_append_left (take n vs) (next ++ drop (n + length next) vs) 0 j (omega (arith, m, h))
+    ∙ get_or-take n vs j 0 h
+
+-- at the start of a cycle the list has the values of the inputs and registers
+values_first : (c : Circuit) (s : State) (ps vs : List ℕ) (order : List ℕ) → length s.inputs ≡ length (inputs_of c) → IsOrder c order ps → length s.regs ≡ length c.regs → length vs ≡ first_place c + length order → HasValues c ps s (values_put (length (inputs_of c)) (values_put 0 vs s.inputs) s.regs) (first_place c)
+unfolding signal reg_value input_value
 values_first c s ps vs order n o g l = record { each = at }
   where
-    at : (x : Net) → IsPlaced c ps (first_place c) x → slice_index (values_put (length (inputs_of c)) vs s.regs) (place c ps x) ≡ (signal c x).value s
-    at (Input i) h = let z = ap length n in let q = h.there in absurd (omega (arith, z, q))
-    at (RegNet r) h = let q = h.there in put_within vs s.regs (length (inputs_of c)) r (omega (arith, l)) (omega (arith, g, q))
+    long : length (values_put 0 vs s.inputs) ≡ length vs
+    long = put_length vs s.inputs 0 (omega (arith, n, l))
+
+    at : (x : Net) → IsPlaced c ps (first_place c) x → slice_index (values_put (length (inputs_of c)) (values_put 0 vs s.inputs) s.regs) (place c ps x) ≡ (signal c x).value s
+    at (Input i) h =
+        let q = h.there in
+        let z : 0 + i ≡ i = omega arith in
+        put_before (values_put 0 vs s.inputs) s.regs (length (inputs_of c)) i q (omega (arith, l, long))
+        ∙ ap (slice_index (values_put 0 vs s.inputs)) (sym z)
+        ∙ put_within vs s.inputs 0 i (omega arith) (omega (arith, n, q))
+    at (RegNet r) h = let q = h.there in put_within (values_put 0 vs s.inputs) s.regs (length (inputs_of c)) r (omega (arith, l, long)) (omega (arith, g, q))
     at (CellNet k) h = absurd (late k (o.known k h.there) h.early)
       where
         late : (k : ℕ) → (slice_index ps k ≡ unplaced) ⊎ HasTurn c order ps k → slice_index ps k < first_place c → ⊥
         late k (inl u) h = let r = o.room in omega (arith, u, r, h)
         late k (inr t) h = let e = t.own in omega (arith, e, h)
 
-constants_put : (c : Circuit) (order ps vs next : List ℕ) → IsOrder c order ps → length next ≡ length c.regs → length vs ≡ first_place c + length order → HasConstants c ps (length vs) vs → HasConstants c ps (length vs) (values_put (length (inputs_of c)) vs next)
-constants_put c order ps vs next o e l f = record { each = λ k h b. held k h b (o.known k h) }
+-- what is put before the cells leaves the constants
+constants_put : (c : Circuit) (order ps vs next : List ℕ) (n : ℕ) → IsOrder c order ps → n + length next ≤ first_place c → length vs ≡ first_place c + length order → HasConstants c ps (length vs) vs → HasConstants c ps (length vs) (values_put n vs next)
+constants_put c order ps vs next n o e l f = record { each = λ k h b. held k h b (o.known k h) }
   where
-    held : (k : ℕ) → k < length c.cells → slice_index ps k < length vs → (slice_index ps k ≡ unplaced) ⊎ HasTurn c order ps k → IsHeld (cell_at c k) (slice_index (values_put (length (inputs_of c)) vs next) (slice_index ps k))
+    held : (k : ℕ) → k < length c.cells → slice_index ps k < length vs → (slice_index ps k ≡ unplaced) ⊎ HasTurn c order ps k → IsHeld (cell_at c k) (slice_index (values_put n vs next) (slice_index ps k))
     held k h b (inl u) = let r = o.room in absurd (omega (arith, u, b, l, r))
     held k h b (inr t) =
         let q = t.own in
-        subst (λ x. IsHeld (cell_at c k) x) (sym (put_after vs next (length (inputs_of c)) (slice_index ps k) (omega (arith, e, q)) (omega (arith, e, l)))) (f.each k h b)
+        subst (λ x. IsHeld (cell_at c k) x) (sym (put_after vs next n (slice_index ps k) (omega (arith, e, q)) (omega (arith, e, l)))) (f.each k h b)
+
+-- the list of values with those of the inputs
+abbrev pub answered_values : Inside → ℕ → List ℕ
+answered_values a bits = values_put 0 a.values.items (answers (stores_of a.outside.items) bits)
 
 -- the list of values as a cycle begins to walk
-abbrev pub begun_values : Inside → List ℕ
-begun_values a = values_put a.first_reg a.values.items a.next.items
+abbrev pub begun_values : Inside → ℕ → List ℕ
+begun_values a bits = values_put a.first_reg (answered_values a bits) a.next.items
 
 next_count : (a : Inside) → IsReady a → length a.next.items ≡ length a.net.now.regs
 next_count a r = (r.holds).reg_count
 
-pub begun_count : (a : Inside) → IsReady a → length (begun_values a) ≡ length a.values.items
-begun_count a r = let e = r.first_reg in let l = r.room in let n = next_count a r in put_length a.values.items a.next.items a.first_reg (omega (arith, e, l, n))
+pub answers_count : (a : Inside) (bits : ℕ) → IsReady a → length (answers (stores_of a.outside.items) bits) ≡ length (inputs_of (circuit_of a.net.now))
+answers_count a bits r = (inputs_fit (inputs_of (circuit_of a.net.now)) (stores_of a.outside.items) bits (r.outside).fit).count
+
+pub answered_count : (a : Inside) (bits : ℕ) → IsReady a → length (answered_values a bits) ≡ length a.values.items
+answered_count a bits r = let l = r.room in let n = answers_count a bits r in put_length a.values.items (answers (stores_of a.outside.items) bits) 0 (omega (arith, l, n))
+
+pub begun_count : (a : Inside) (bits : ℕ) → IsReady a → length (begun_values a bits) ≡ length a.values.items
+begun_count a bits r = let e = r.first_reg in let l = r.room in let n = next_count a r in let k = answered_count a bits r in put_length (answered_values a bits) a.next.items a.first_reg (omega (arith, e, l, n, k)) ∙ k
 
 -- what the steps of a cycle do
-pub walked_now : (a : Inside) (r : IsReady a) → IsWalked (circuit_of a.net.now) r.places (state_now a) (begun_values a) (steps_of a.runs.items) a.first_cell
-walked_now a r =
+pub walked_now : (a : Inside) (bits : ℕ) (r : IsReady a) → IsWalked (circuit_of a.net.now) r.places (state_now a bits) (begun_values a bits) (steps_of a.runs.items) a.first_cell
+walked_now a bits r =
     let c = circuit_of a.net.now in
+    let s = state_now a bits in
     let n = next_count a r in
     let i = length (inputs_of c) in
-    let e : values_put i a.values.items a.next.items ≡ begun_values a = ap (λ k. values_put k a.values.items a.next.items) (sym r.first_reg) in
-    let m = begun_count a r in
-    let v = subst (λ (xs : List ℕ). HasValues c r.places (state_now a) xs (first_place c)) e (values_first c (state_now a) r.places a.values.items r.order r.inputs r.ordered n r.room) in
-    let k = subst (λ (xs : List ℕ). HasConstants c r.places (length a.values.items) xs) e (constants_put c r.order r.places a.values.items a.next.items r.ordered n r.room r.constants) in
-    let w = walked c (state_now a) r.well (suits_now a r) r.order r.places r.ordered (begun_values a) (m ∙ r.room) v (subst (λ (j : ℕ). HasConstants c r.places j (begun_values a)) (sym m) k) in
-    subst (λ xs. IsWalked c r.places (state_now a) (begun_values a) xs a.first_cell) (sym r.runs) (subst (λ n. IsWalked c r.places (state_now a) (begun_values a) (order_steps c r.places r.order) n) (sym r.first_cell) w)
+    let j = answers_count a bits r in
+    let k = answered_count a bits r in
+    let l = r.room in
+    let e : values_put i (answered_values a bits) a.next.items ≡ begun_values a bits = ap (λ x. values_put x (answered_values a bits) a.next.items) (sym r.first_reg) in
+    let m = begun_count a bits r in
+    let v = subst (λ (xs : List ℕ). HasValues c r.places s xs (first_place c)) e (values_first c s r.places a.values.items r.order j r.ordered n r.room) in
+    let asked = constants_put c r.order r.places a.values.items (answers (stores_of a.outside.items) bits) 0 r.ordered (omega (arith, j)) r.room r.constants in
+    let held = constants_put c r.order r.places (answered_values a bits) a.next.items i r.ordered (omega (arith, n)) (k ∙ l) (subst (λ (x : ℕ). HasConstants c r.places x (answered_values a bits)) (sym k) asked) in
+    let constants = subst (λ (xs : List ℕ). HasConstants c r.places (length (answered_values a bits)) xs) e held in
+    let w = walked c s r.well (suits_now a bits r) r.order r.places r.ordered (begun_values a bits) (m ∙ r.room) v (subst (λ (x : ℕ). HasConstants c r.places x (begun_values a bits)) (k ∙ sym m) constants) in
+    subst (λ xs. IsWalked c r.places s (begun_values a bits) xs a.first_cell) (sym r.runs) (subst (λ n. IsWalked c r.places s (begun_values a bits) (order_steps c r.places r.order) n) (sym r.first_cell) w)
 
 -- OUTPUTS AND REGISTERS
 
@@ -168,21 +204,19 @@ module _ (c : Circuit) (s : State) (w : IsWell c) (ps vs : List ℕ) (v : HasVal
 
 -- THE CYCLE
 
--- no delayed memory comes to be
-stores_none : (c : Circuit) (ports : List ℕ) (infos : List MemInfo) (bits : ℕ) → next_stores c ports infos [] bits ≡ []
-stores_none c ports [] bits = refl
-stores_none c ports (i ∷ infos) bits = refl
-
 -- a run from its parts
-abbrev pub run_with : Netlist → List ℕ → List (List ℕ) → List Store → List ℕ → Run
-run_with n regs arrays stores ports = record { netlist = n; held = record { regs = regs; arrays = arrays; stores = stores }; last = record { ports = ports; waited = false } }
+abbrev pub run_with : Netlist → List ℕ → List (List ℕ) → List Store → List ℕ → Bool → Run
+run_with n regs arrays stores ports waited = record { netlist = n; held = record { regs = regs; arrays = arrays; stores = stores }; last = record { ports = ports; waited = waited } }
 
-pub stepped_from : (a : Inside) (bits : ℕ) (regs : List ℕ) (arrays : List (List ℕ)) (outs : List ℕ) → regs ≡ next_regs (circuit_of a.net.now) (state_now a) → arrays ≡ next_arrays (circuit_of a.net.now) (state_now a) → outs ≡ output_values (circuit_of a.net.now) (state_now a) → run_with a.net.now regs arrays [] outs ≡ run_after (run_of a) bits
-stepped_from a bits regs arrays outs e f g =
+pub stepped_from : (a : Inside) (bits : ℕ) (regs : List ℕ) (arrays : List (List ℕ)) (stores : List Store) (outs : List ℕ) (waited : Bool) → IsReady a
+    → regs ≡ next_regs (circuit_of a.net.now) (state_now a bits) → arrays ≡ next_arrays (circuit_of a.net.now) (state_now a bits) → outs ≡ output_values (circuit_of a.net.now) (state_now a bits)
+    → stores ≡ stores_after outs a.outside.items bits → waited ≡ some_waits (stores_of a.outside.items) bits → run_with a.net.now regs arrays stores outs waited ≡ run_after (run_of a) bits
+stepped_from a bits regs arrays stores outs waited r e f g h w =
     let n = a.net.now in
     let c = circuit_of n in
-    let s = state_now a in
-    ap (λ x. run_with n x arrays [] outs) e
-    ∙ ap (λ x. run_with n (next_regs c s) x [] outs) f
-    ∙ ap (λ x. run_with n (next_regs c s) (next_arrays c s) [] x) g
-    ∙ ap (λ x. run_with n (next_regs c s) (next_arrays c s) x (output_values c s)) (sym (stores_none c (output_values c s) (delayed_mems n) bits))
+    let s = state_now a bits in
+    ap (λ x. run_with n x arrays stores outs waited) e
+    ∙ ap (λ x. run_with n (next_regs c s) x stores outs waited) f
+    ∙ ap (λ x. run_with n (next_regs c s) (next_arrays c s) x outs waited) (h ∙ sym (stores_named c outs (delayed_mems n) a.outside.items bits (r.outside).commits (r.outside).requests))
+    ∙ ap (λ x. run_with n (next_regs c s) (next_arrays c s) (next_stores c x (delayed_mems n) (stores_of a.outside.items) bits) x waited) g
+    ∙ ap (run_with n (next_regs c s) (next_arrays c s) (next_stores c (output_values c s) (delayed_mems n) (stores_of a.outside.items) bits) (output_values c s)) w

@@ -1,11 +1,13 @@
 -- The fields of a simulator.
-use Rattle.std.specs.Prelude.{◌≡◌, ℕ, ◌+◌, Bool, true, false, List, [], length, map, replicate, slice_index}
+use Rattle.std.specs.Prelude.{◌≡◌, ℕ, ◌+◌, ◌*◌, ◌≤◌, Bool, true, false, List, length, map, replicate, slice_index, vec_capacity}
 use Rattle.pdl_net.specs.Circuit.{circuit_of, inputs_of, outputs_of}
 use Rattle.pdl_net.specs.Well.{IsWell}
 use Rattle.pdl_net.specs.Holds.{Holds}
+use Rattle.pdl_net.specs.Run.{delayed_mems}
 use Rattle.pdl_netrun.specs.Steps.{array_words, steps_of}
 use Rattle.pdl_netrun.specs.Order.{place, first_place, cell_at, IsOrder, AllEarly}
 use Rattle.pdl_netrun.specs.Plan.{step_of_cell, planned_writes, HasConstants}
+use Rattle.pdl_netrun.specs.Outside.{AreOutside, stores_of}
 use Rattle.pdl_netrun.specs.Places.{places_of}
 use Rattle.pdl_netrun.specs.Sim.{Run}
 use Rattle.pdl_netrun.specs.declared.sim.Sim.TheInside.{Inside}
@@ -15,12 +17,12 @@ abbrev pub seen_at : Bool → List ℕ → List ℕ → List ℕ
 seen_at true vs ds = map (slice_index vs) ds
 seen_at false vs ds = replicate (length ds) 0
 
--- no delayed memory stands outside, so nothing ever waits
+-- what a caller sees
 abbrev pub run_of : Inside → Run
 run_of a = record {
   netlist = a.net.now;
-  held = record { regs = a.next.items; arrays = array_words a.arrays.items; stores = [] };
-  last = record { ports = seen_at a.shown a.values.items a.drivers.items; waited = false };
+  held = record { regs = a.next.items; arrays = array_words a.arrays.items; stores = stores_of a.outside.items };
+  last = record { ports = seen_at a.shown a.values.items a.drivers.items; waited = a.waits };
 }
 
 -- the plan is that of the netlist in some order of its cells, and the values of constants stand
@@ -28,7 +30,8 @@ pub record IsReady (a : Inside) : Type 0 where
   pub order : List ℕ
   pub places : List ℕ
   pub well : IsWell (circuit_of a.net.now)
-  pub inputs : inputs_of (circuit_of a.net.now) ≡ []
+  pub outside : AreOutside (circuit_of a.net.now) (delayed_mems a.net.now) a.outside.items
+  pub inputs : 2 * length a.outside.items ≤ vec_capacity a.inputs
   pub ordered : IsOrder (circuit_of a.net.now) order places
   pub all : AllEarly (circuit_of a.net.now) places (length a.values.items)
   pub first_reg : a.first_reg ≡ length (inputs_of (circuit_of a.net.now))

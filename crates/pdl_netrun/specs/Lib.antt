@@ -3,6 +3,7 @@ pub mod Kinds
 pub mod Order
 pub mod Plan
 pub mod Places
+pub mod Outside
 pub mod Sim
 pub mod Inside
 pub mod Sample

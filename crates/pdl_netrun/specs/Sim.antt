@@ -1,8 +1,8 @@
 -- What a caller sees of a simulator.
-use Rattle.std.specs.Prelude.{ℕ, List, [], length, replicate, false}
+use Rattle.std.specs.Prelude.{ℕ, List, length, replicate, false}
 use Rattle.pdl_net.specs.declared.Netlist.{Netlist}
 use Rattle.pdl_net.specs.Circuit.{circuit_of, outputs_of}
-use Rattle.pdl_net.specs.Run.{Held, Shown, start, shown_ports, next}
+use Rattle.pdl_net.specs.Run.{Held, Shown, Store, start, shown_ports, next}
 
 -- the netlist, the state at the start of the next cycle, and what the last cycle showed
 pub record Run : Type 0 where
@@ -14,9 +14,9 @@ pub record Run : Type 0 where
 abbrev pub nothing : Netlist → Shown
 nothing n = record { ports = replicate (length (outputs_of (circuit_of n))) 0; waited = false }
 
--- before the first cycle, where registers and arrays hold this
-abbrev pub run_at : Netlist → List ℕ → List (List ℕ) → Run
-run_at n regs arrays = record { netlist = n; held = record { regs = regs; arrays = arrays; stores = [] }; last = nothing n }
+-- before the first cycle, where registers, arrays and delayed memories hold this
+abbrev pub run_at : Netlist → List ℕ → List (List ℕ) → List Store → Run
+run_at n regs arrays stores = record { netlist = n; held = record { regs = regs; arrays = arrays; stores = stores }; last = nothing n }
 
 -- at the start of the first cycle
 abbrev pub run_at_start : Netlist → List (List ℕ) → Run

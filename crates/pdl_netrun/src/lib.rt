@@ -1,4 +1,4 @@
-//! Runs a netlist cycle by cycle, by walking its cells in an order of its own: `Sim` keeps what the meaning of netlists says of registers, arrays and ports.
+//! Runs a netlist cycle by cycle, by walking its cells in an order of its own: `Sim` keeps what the meaning of netlists says of registers, arrays, ports and the delayed memories outside.
 //!
 //! The layer above may use `Sim` alone; its plan of places and runs is its own affair.
 #![tactic(auto)]
@@ -7,6 +7,7 @@ mod kinds;
 mod operation;
 mod operations;
 mod order;
+mod outside;
 mod places;
 mod plan;
 mod sim;

@@ -1,9 +1,10 @@
-// Where a memory's commit ports stand among the outputs.
+// Where a memory's commit and request ports stand among the outputs.
 
 ghost use Rattle.std.specs.Prelude.{◌≡◌, ◌++◌, map, filter_map, bytes_eq, IfOk};
 ghost use Rattle.std.specs.List.{position_from};
 ghost use Rattle.pdl_net.specs.Circuit.{circuit_of, port_output};
 ghost use Rattle.pdl_net.specs.Run.{place_of as place_in};
+ghost use Rattle.pdl_netrun.specs.Outside.{requests_of};
 ghost use Rattle.pdl_netrun.specs.Places.{places_of};
 
 use pdl_kit::{MemInfo, Name, NoMemory};
@@ -16,6 +17,26 @@ pub struct CommitPlaces {
     pub commit: Option<usize>,
     pub addr: Option<usize>,
     pub value: Option<usize>,
+}
+
+/// The places of a delayed memory's request ports among the outputs, where they are.
+#[derive(Clone, Copy)]
+pub struct RequestPlaces {
+    pub request: Option<usize>,
+    pub addr: Option<usize>,
+}
+
+/// The places of a delayed memory's request ports.
+pub fn request_places(
+    alloc: Global,
+    net: &Netlist,
+    mem: &MemInfo,
+) -> Result<RequestPlaces, NoMemory>
+    ensures { IfOk result (λ p. p ≡ requests_of (circuit_of net.now) mem.now.name) }
+{
+    let request = prefixed_place(alloc, net, b"q_", &mem.name)?;
+    let addr = prefixed_place(alloc, net, b"qa_", &mem.name)?;
+    Ok(RequestPlaces { request, addr })
 }
 
 /// The places of all memories' commit ports, in the memories' order.
@@ -31,7 +52,8 @@ pub fn all_places(alloc: Global, net: &Netlist) -> Result<Vec<CommitPlaces>, NoM
     Ok(places)
 }
 
-fn places_of_mem(alloc: Global, net: &Netlist, mem: &MemInfo) -> Result<CommitPlaces, NoMemory>
+/// The places of a memory's commit ports.
+pub fn places_of_mem(alloc: Global, net: &Netlist, mem: &MemInfo) -> Result<CommitPlaces, NoMemory>
     ensures { IfOk result (λ p. p ≡ places_of (circuit_of net.now) mem.now.name) }
 {
     let commit = prefixed_place(alloc, net, b"c_", &mem.name)?;

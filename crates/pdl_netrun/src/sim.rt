@@ -1,20 +1,22 @@
 // The simulator.
 
-ghost use Rattle.std.specs.Prelude.{◌≡◌, ◌+◌, ◌++◌, ◌<◌, ◌≤◌, [], drop, length, slice_index, take, IfOk};
-ghost use Rattle.pdl_net.specs.Circuit.{circuit_of, inputs_of, outputs_of};
+ghost use Rattle.std.specs.Prelude.{◌≡◌, ◌+◌, ◌++◌, ◌<◌, ◌≤◌, drop, length, slice_index, take, IfOk};
+ghost use Rattle.pdl_net.specs.Circuit.{circuit_of, outputs_of};
 ghost use Rattle.pdl_net.specs.Well.{IsWell};
 ghost use Rattle.pdl_net.specs.Run.{delayed_mems, committed_by, value_at};
 ghost use Rattle.pdl_net.specs.Pipe.{IsWellFormed};
 ghost use Rattle.pdl_image.specs.Images.{IsImage};
+ghost use Rattle.pdl_netrun.specs.Outside.{AreOutside, stores_of};
 ghost use Rattle.pdl_netrun.specs.Sim.{run_at, run_at_start, run_after};
 ghost use Rattle.pdl_netrun.specs.Steps.{array_words};
 ghost use Rattle.pdl_netrun.specs.Order.{IsOrderOf, AllPlaced};
 ghost use Rattle.pdl_net.specs.Holds.{Holds};
 
 use crate::order::{Order, order_of};
+use crate::outside::{Outside, answer_all, step_all};
 use crate::places::{CommitPlaces, all_places};
 use crate::plan::{all_drivers, all_nexts, all_resets, all_runs, all_writes, put_constants};
-use crate::start::all_arrays;
+use crate::start::{all_arrays, all_outside, count_delayed};
 use crate::walk::{CellRun, read_place, read_places, walk_runs};
 use crate::widths::all_widths;
 use crate::writes::{ArrayWrite, write_words};
@@ -40,10 +42,16 @@ pub struct Sim<'a> {
     /// The values of all nets in the last cycle.
     values: Vec<u64>,
     arrays: Vec<Vec<u64>>,
+    /// The delayed memories, in the order of their inputs.
+    outside: Vec<Outside>,
+    /// Room for the values of the inputs.
+    inputs: Vec<u64>,
     /// The values of the registers in the next cycle.
     next: Vec<u64>,
     /// Whether there was a cycle.
     shown: bool,
+    /// Whether some request waited in the last cycle.
+    waits: bool,
 }
 
 // As the derive would, but by a call of its owners: docs/DECISIONS.md says why.
@@ -60,8 +68,11 @@ impl Drop for Sim<'_> {
             commits: _,
             values: _,
             arrays: _,
+            outside: _,
+            inputs: _,
             next: _,
             shown: _,
+            waits: _,
         } = self;
     }
 }
@@ -79,36 +90,37 @@ impl<'a> Model for Sim<'a> {
 }
 
 impl<'a> Sim<'a> {
-    /// A simulator at the start of the first cycle: each register has its reset value, and each array its part of the image, with zeros after it.
-    ///
-    /// No memory of the netlist is delayed yet.
+    /// A simulator at the start of the first cycle: each register has its reset value, each delayed memory its part of the image, and each array its part, with zeros after it.
     pub fn new(alloc: Global, net: &'a Netlist, image: &Image) -> Result<Sim<'a>, NoMemory>
         requires well { IsWellFormed net.now }
         requires image { IsImage net.now.mems image.now }
-        requires here { delayed_mems net.now ≡ [] }
         ensures { IfOk result (λ sim. sim ≡ run_at_start net.now image.now) }
     {
         let order = order_of(alloc, net)?;
+        let delayed = count_delayed(net);
         let resets = all_resets(alloc, net)?;
-        let arrays = all_arrays(alloc, net, image)?;
-        Sim::plan_of(alloc, net, &order, resets, arrays)
+        let arrays = all_arrays(alloc, net, image, delayed)?;
+        let outside = all_outside(alloc, net, image, delayed)?;
+        Sim::plan_of(alloc, net, &order, resets, arrays, outside)
     }
 
-    /// The plan of a netlist, with the values of its registers and arrays at the start.
+    /// The plan of a netlist, with the values of its registers and arrays at the start and its delayed memories.
     fn plan_of(
         alloc: Global,
         net: &'a Netlist,
         order: &Order,
         next: Vec<u64>,
         arrays: Vec<Vec<u64>>,
+        outside: Vec<Outside>,
     ) -> Result<Sim<'a>, NoMemory>
         requires well { IsWell (circuit_of net.now) }
-        requires inputs { inputs_of (circuit_of net.now) ≡ [] }
+        requires outside { AreOutside (circuit_of net.now) (delayed_mems net.now) outside.items }
         requires order { IsOrderOf order.now }
         requires same { order.now.net.now ≡ net.now }
         requires all { AllPlaced order.now }
         requires holds { Holds (circuit_of net.now) next.items (array_words arrays.items) }
-        ensures { IfOk result (λ sim. sim ≡ run_at net.now next.items (array_words arrays.items)) }
+        ensures { IfOk result (λ sim. sim ≡ run_at net.now next.items (array_words arrays.items)
+            (stores_of outside.items)) }
     {
         let widths = all_widths(alloc, net)?;
         let runs = all_runs(alloc, net, order, &widths)?;
@@ -116,6 +128,7 @@ impl<'a> Sim<'a> {
         let drivers = all_drivers(alloc, net, order)?;
         let writes = all_writes(alloc, net, order)?;
         let commits = all_places(alloc, net)?;
+        let inputs = Vec::with_capacity(alloc, 2 * outside.len())?;
         let first_reg = order.regs as usize;
         let first_cell = first_reg + next.len();
         let mut values = vec![in alloc; 0; first_cell]?;
@@ -131,8 +144,11 @@ impl<'a> Sim<'a> {
             commits,
             values,
             arrays,
+            outside,
+            inputs,
             next,
             shown: false,
+            waits: false,
         })
     }
 
@@ -140,12 +156,13 @@ impl<'a> Sim<'a> {
     pub fn cycle(&mut self, replies: u16)
         ensures { self.new ≡ run_after self.old replies }
     {
-        // No memory is delayed, so no reply bit is asked.
-        let _ = replies;
+        self.waits = answer_all(&mut self.inputs, &self.outside, replies);
+        put_words(&self.inputs, 0, &mut self.values);
         put_words(&self.next, self.first_reg, &mut self.values);
         walk_runs(&self.runs, self.first_cell, &self.arrays, &mut self.values);
         read_places(&self.nexts, &self.values, &mut self.next);
         write_words(&self.writes, &self.values, &mut self.arrays);
+        step_all(&mut self.outside, replies, &self.drivers, &self.values);
         self.shown = true;
     }
 
@@ -191,9 +208,7 @@ impl<'a> Sim<'a> {
     pub fn waited(&self) -> bool
         ensures { result ≡ self.now.last.waited }
     {
-        // Without a delayed memory there is no request.
-        let _ = &self.net;
-        false
+        self.waits
     }
 }
 

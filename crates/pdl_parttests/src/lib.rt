@@ -1,10 +1,12 @@
-//! What no row of the program asks of its parts: faults of files and sinks, forms that aren't compiled yet, each lock alone and in a netlist, simulated netlists, flat forms as registers and nets, and public calls that the program doesn't make.
+//! What no row of the program asks of its parts: faults of files and sinks, forms that aren't compiled yet, delay files, each lock alone and in a netlist, simulated netlists, flat forms as registers and nets, and public calls that the program doesn't make.
 //!
 //! It has tests alone, and nothing stands on it.
 #![tactic(auto)]
 
 #[cfg(test)]
 mod build_rows;
+#[cfg(test)]
+mod delay_rows;
 pub mod drives;
 #[cfg(test)]
 mod flatnets_rows;

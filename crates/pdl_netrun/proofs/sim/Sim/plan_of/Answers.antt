@@ -14,14 +14,15 @@ invariant_of-result c =
     let e = c.requires.same in
     let k = ordered o n e c.requires.order c.requires.all in
     let h = c.requires.holds.reg_count in
-    let m : o.regs + c.len.result ≡ first_place (circuit_of n) = (let r = k.regs in let l = c.len.ensures in grind (arith, common_steps, r, l, h)) in
-    let f = first_is o n c.in_ok-values.values.items c.put_constants.new.values.items (o.regs + c.len.result) e c.in_ok-put_constants.ensures (grind (arith, common_steps)) m in
+    let m : o.regs + c.len-2.result ≡ first_place (circuit_of n) = (let r = k.regs in let l = c.len-2.ensures in grind (arith, common_steps, r, l, h)) in
+    let f = first_is o n c.in_ok-values.values.items c.put_constants.new.values.items (o.regs + c.len-2.result) e c.in_ok-put_constants.ensures (grind (arith, common_steps)) m in
     let l = values_count (circuit_of n) o.cells.items c.put_constants.new.values.items f in
     record {
       order = o.cells.items;
       places = o.places.items;
       well = c.requires.well;
-      inputs = c.requires.inputs;
+      outside = c.requires.outside;
+      inputs = (let n = c.len.ensures in let q = c.in_ok-inputs.ensures.capacity in grind (arith, common_steps, n, q));
       ordered = k.order;
       all = subst (λ (i : ℕ). AllEarly (circuit_of n) o.places.items i) (sym l) k.all;
       first_reg = k.regs;
