@@ -38,8 +38,11 @@ pub record IsFragment (old new : Circuit) (r : PortRegs) : Type 0 where
 abbrev pub no_answer : Answer
 no_answer = record { answered = Input 0; given = Input 0; value = Input 0 }
 
+abbrev pub answer_in : List Answer → ℕ → Answer
+answer_in answers k = slice_index_or answers k no_answer
+
 abbrev pub answer_at : PortRegs → ℕ → Answer
-answer_at r k = slice_index_or r.answers k no_answer
+answer_at r k = answer_in r.answers k
 
 -- the nets of the answers are there: 1 bit, 1 bit, and a word
 pub record HasAnswerNets (c : Circuit) (width : ℕ) (r : PortRegs) : Type 0 where
@@ -74,9 +77,18 @@ pub record AnswerLaw (stands : State → PortState → Type 0) (n : ℕ) (reply 
   pub given : (s : State) (x : PortState) (r : Bool) (w : ℕ) → stands s x → Replies reply word s r w → (k : ℕ) → k < n → (f k).given.value s ≡ bit (is_some (answer x r w k))
   pub value : (s : State) (x : PortState) (r : Bool) (w : ℕ) → stands s x → Replies reply word s r w → (k v : ℕ) → k < n → answer x r w k ≡ Some v → (f k).value.value s ≡ v
 
--- the k-th of some nets, as a signal
+-- the k-th of some nets, and its signal
+abbrev pub net_at : List Net → ℕ → Net
+net_at nets k = slice_index_or nets k (Input 0)
+
 abbrev pub signal_at : Circuit → List Net → ℕ → Signal
-signal_at c nets k = signal c (slice_index_or nets k (Input 0))
+signal_at c nets k = signal c (net_at nets k)
+
+-- these are n nets that are there, each of 1 bit
+pub record HasBits (c : Circuit) (nets : List Net) (n : ℕ) : Type 0 where
+  pub count : length nets ≡ n
+  pub there : (k : ℕ) → k < n → IsThere c (net_at nets k)
+  pub one : (k : ℕ) → k < n → (signal_at c nets k).width ≡ 1
 
 -- in this state the nets of n places are these bits
 abbrev pub AreBits : ℕ → State → (ℕ → Signal) → (ℕ → Bool) → Type 0

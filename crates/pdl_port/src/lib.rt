@@ -3,8 +3,16 @@
 //! The layers above may use the calls that emit its state, whether it is free and its step, and know their nets by the laws of `specs/Laws` alone. A place is one of the stages that follow the reading stage, by its position among them.
 #![tactic(auto)]
 
+mod free;
+mod layout;
+mod state;
+mod step;
+
+pub use free::emit_port_free;
 use pdl_kit::Seq;
 use pdl_net::Net;
+pub use state::emit_port_state;
+pub use step::emit_port_step;
 
 /// What a port tells of one place.
 #[derive(Clone, Copy)]
@@ -28,6 +36,8 @@ pub struct PortRegs {
     pub word: Net,
     /// What it tells of each place.
     pub answers: Seq<Answer>,
+    /// The bits of a word of its memory, 1 to 64.
+    pub width: u8,
 }
 
 /// What a cycle does to a port: of each place three nets of 1 bit.

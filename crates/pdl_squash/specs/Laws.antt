@@ -1,16 +1,25 @@
 -- What the nets of a stage that squashes say.
-use Rattle.std.specs.Prelude.{◌≡◌, ℕ, zero, suc, ◌+◌, ◌<◌, ◌≤◌, Bool, true, false, ◌&&◌, if◌then◌else◌, List, slice_index_or}
+use Rattle.std.specs.Prelude.{◌≡◌, ℕ, zero, suc, ◌+◌, ◌<◌, ◌≤◌, Bool, true, false, ◌&&◌, if◌then◌else◌, List, length, slice_index_or}
 use Rattle.pdl_word.specs.Words.{bit}
 use Rattle.pdl_net.specs.declared.Net.{Net}
 use Rattle.pdl_net.specs.declared.Net.TheVariants.{Input}
 use Rattle.pdl_net.specs.Circuit.{Circuit, State}
 use Rattle.pdl_net.specs.Signal.{Signal}
-use Rattle.pdl_net.specs.Meaning.{signal}
+use Rattle.pdl_net.specs.Meaning.{IsThere, signal}
 use Rattle.pdl_squash.specs.declared.SquashPorts.{SquashPorts}
 
--- the k-th of some nets, as a signal
+-- the k-th of some nets, and its signal
+abbrev pub net_at : List Net → ℕ → Net
+net_at nets k = slice_index_or nets k (Input 0)
+
 abbrev pub signal_at : Circuit → List Net → ℕ → Signal
-signal_at c nets k = signal c (slice_index_or nets k (Input 0))
+signal_at c nets k = signal c (net_at nets k)
+
+-- these are n nets that are there, each of 1 bit
+pub record AreBits (c : Circuit) (nets : List Net) (n : ℕ) : Type 0 where
+  pub count : length nets ≡ n
+  pub there : (k : ℕ) → k < n → IsThere c (net_at nets k)
+  pub one : (k : ℕ) → k < n → (signal_at c nets k).width ≡ 1
 
 -- what a squash goes by: whether each stage holds a thread, which stage squashes, whether its thread moves, and whether its guess fails
 pub record SquashSignals : Type 0 where
