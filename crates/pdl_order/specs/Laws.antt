@@ -59,6 +59,17 @@ step_signals c p = record {
   emptied = signal c p.emptied;
 }
 
+-- the nets of a step are there, each of 1 bit
+pub record HasPorts (c : Circuit) (p : OrderPorts) : Type 0 where
+  pub first_there : IsThere c p.entered_first
+  pub first_one : (signal c p.entered_first).width ≡ 1
+  pub second_there : IsThere c p.entered_second
+  pub second_one : (signal c p.entered_second).width ≡ 1
+  pub left_there : IsThere c p.left
+  pub left_one : (signal c p.left).width ≡ 1
+  pub emptied_there : IsThere c p.emptied
+  pub emptied_one : (signal c p.emptied).width ≡ 1
+
 -- in this state the nets of a step do this to an order
 pub record Drives (f : StepSignals) (s : State) (a : OrderAct) : Type 0 where
   pub entered_first : f.entered_first.value s ≡ bit a.entered_first

@@ -3,8 +3,14 @@
 //! The layers above may use the calls that emit its state and its step, and know their nets by the laws of `specs/Laws` alone.
 #![tactic(auto)]
 
+mod layout;
+mod state;
+mod step;
+
 use pdl_kit::Seq;
 use pdl_net::Net;
+pub use state::emit_order_state;
+pub use step::emit_order_step;
 
 /// The part of a circuit that an order is made of.
 #[derive(Drop)]
@@ -15,6 +21,8 @@ pub struct OrderRegs {
     pub first: Net,
     /// Whether no thread is inside, 1 bit.
     pub empty: Net,
+    /// How many threads may be inside, 1 to 64.
+    pub stages: u8,
 }
 
 /// What a cycle does to an order, each net 1 bit.
