@@ -1,0 +1,4 @@
+pub mod Order
+pub mod Laws
+pub mod Words
+pub mod Nets

@@ -1,0 +1,4 @@
+pub mod Port
+pub mod Laws
+pub mod Places
+pub mod Nets
