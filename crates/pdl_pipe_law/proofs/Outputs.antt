@@ -14,7 +14,7 @@ use Rattle.pdl_net.specs.Signal.{Signal}
 use Rattle.pdl_net.specs.Cycle.{net_value, output_values}
 use Rattle.pdl_machine_facts.specs.Slots.{slot, here, stage_moves, moving}
 use Rattle.pdl_machine_facts.specs.Ports.{stage_values, commit_values, all_commit_values, port_values}
-use Rattle.pdl_machine_facts.specs.Cycle.{ports_of, IsByStages, IsCalm}
+use Rattle.pdl_machine_facts.specs.Cycle.{ports_of, IsByStages}
 use Rattle.pdl_machine_facts.specs.Use.{IsInUse}
 use Rattle.pdl_lockapi.proofs.LockKinds.{plain_is}
 use Rattle.pdl_pipe_law.proofs.Stood.{Stood}
@@ -46,7 +46,7 @@ module _ (p : Pipe) (names : ℕ → List ℕ) (ls : Locks) (vs : ℕ → View) 
   unfolding output_values
   outputs_are s = ap (map (λ (o : Output). net_value c s o.net)) outputs_made ∙ values_shown c s made.outs ∙ ap (map (shown_value s)) made.shown
 
-  module _ (s : State) (st : machine.State) (bits : List Bool) (stands : StandsFor p ls vs s st) (used : IsInUse p st bits) (by : IsByStages p st bits) (calm : IsCalm p st bits) (some : 1 ≤ length p.stages)
+  module _ (s : State) (st : machine.State) (bits : List Bool) (stands : StandsFor p ls vs s st) (used : IsInUse p st bits) (by : IsByStages p st bits) (some : 1 ≤ length p.stages)
       (seen : (j : ℕ) → j < length p.stages → IsSeen p vs moves s st bits j) (stood : (k : ℕ) (t : Thread) → here p st bits k ≡ Some t → Stood st k t) (squashed : IsSquashed p ls vs gates s st bits) where
     stages_are : (n k : ℕ) (xs : List Stage) → k + n ≡ length p.stages → n ≡ length xs
         → map (shown_value s) (stages_shown vs moves n k) ≡ stage_values (for_stages (λ i. is_some (slot st i)) k xs) (for_stages (λ i. stage_moves p st bits i) k xs)
