@@ -1,1 +1,4 @@
-
+pub mod Seats
+pub mod ReadingFacts
+pub mod ForkLists
+pub mod Flights
