@@ -1,6 +1,6 @@
 -- What stands beside the stages of a pipe, by the laws of its circuits.
-use Rattle.std.specs.Prelude.{◌≡◌, ℕ, ◌+◌, ◌<◌, ◌≤◌, true, Option, Some, None, length}
-use Rattle.pdl_semantics.specs.Flat.{Pipe, Forks}
+use Rattle.std.specs.Prelude.{◌≡◌, ℕ, ◌+◌, ◌<◌, ◌≤◌, true, Some, None, length}
+use Rattle.pdl_semantics.specs.Flat.{Pipe}
 use Rattle.pdl_semantics.specs.Stages.{stage_at, reserve_stage, verify_stage}
 use Rattle.pdl_net.specs.Circuit.{Circuit, State, HasReg}
 use Rattle.pdl_net.specs.Signal.{Signal}
@@ -63,6 +63,6 @@ pub record HasSides (p : Pipe) (ls : Locks) (c : Circuit) (vs : ℕ → View) (g
   pub port_owns : ℕ → Own
   pub ports : (m : ℕ) (r : Reading) → reading p m ≡ Some r → HasPort p c vs gates moves sides (port_owns m) m r
   pub order_owns : ℕ → Own
-  pub orders : (f x a b : ℕ) → f < length p.stages → (stage_at p f).next ≡ Forks x a b → HasOrder p c vs gates moves sides (order_owns f) f
+  pub orders : (f q : ℕ) → f < length p.stages → (stage_at p q).merges ≡ Some f → HasOrder p c vs gates moves sides (order_owns f) f
   pub removals : HasRemovals p c vs gates moves sides
   pub tails : (v : ℕ) → verify_stage p.stmts ≡ Some v → HasTails p ls c vs gates moves sides v

@@ -1,14 +1,14 @@
 -- The netlist of a pipe of the whole language, in signals, and what it shows with its delayed memories outside.
-use Rattle.std.specs.Prelude.{◌≡◌, ℕ, zero, suc, ◌+◌, ◌*◌, ◌-◌, ◌/◌, ◌<◌, Bool, true, false, List, [], ◌∷◌, ◌++◌, Option, Some, None, if◌then◌else◌, length, map, codes, count_by, slice_index, slice_index_or, take}
+use Rattle.std.specs.Prelude.{◌≡◌, ℕ, zero, suc, ◌+◌, ◌*◌, ◌-◌, ◌/◌, ◌<◌, Bool, true, false, List, [], ◌∷◌, ◌++◌, Option, Some, None, if◌then◌else◌, length, map, codes, count_by, slice_index_or, take}
 use Rattle.pdl_word.specs.Words.{bit}
 use Rattle.pdl_kit.specs.declared.mem_info.MemInfo.{MemInfo}
-use Rattle.pdl_semantics.specs.Flat.{Mem, Pipe, Arrays, arrays_of, has_lock}
+use Rattle.pdl_semantics.specs.Flat.{Mem, Pipe, arrays_of}
 use Rattle.pdl_semantics.specs.Stages.{mem_at, reply_place}
 use Rattle.pdl_semantics.specs.Cycle.{Ports, Turn, turns, for_mems}
 use Rattle.pdl_net.specs.declared.Dir.TheVariants.{In}
 use Rattle.pdl_net.specs.declared.Port.{Port}
 use Rattle.pdl_net.specs.declared.Netlist.{Netlist}
-use Rattle.pdl_net.specs.Circuit.{Circuit, State, Output, HasArray, array_depth}
+use Rattle.pdl_net.specs.Circuit.{Circuit, State, Output, array_depth}
 use Rattle.pdl_net.specs.Signal.{Signal, input_signal}
 use Rattle.pdl_net.specs.Run.{reply, nports}
 use Rattle.pdl_image.specs.Images.{IsImage}
