@@ -1,3 +1,5 @@
 pub mod Forking
 pub mod Waiting
 pub mod WaitingStep
+pub mod PortSides
+pub mod PortsNext
