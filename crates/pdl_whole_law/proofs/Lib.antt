@@ -1,1 +1,3 @@
 pub mod Forking
+pub mod Removals
+pub mod OrderSides
