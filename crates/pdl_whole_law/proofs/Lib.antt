@@ -3,3 +3,5 @@ pub mod Waiting
 pub mod WaitingStep
 pub mod PortSides
 pub mod PortsNext
+pub mod Removals
+pub mod OrderSides
