@@ -5,3 +5,5 @@ pub mod PortSides
 pub mod PortsNext
 pub mod Removals
 pub mod OrderSides
+pub mod Tails
+pub mod WholeCycle
