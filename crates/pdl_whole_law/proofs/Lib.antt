@@ -1,3 +1,4 @@
 pub mod Forking
 pub mod Removals
 pub mod OrderSides
+pub mod Tails
