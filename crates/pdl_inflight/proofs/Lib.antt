@@ -6,3 +6,4 @@ pub mod DeedsIn
 pub mod LaterActs
 pub mod Squashing
 pub mod Comings
+pub mod Answers
