@@ -6,3 +6,4 @@ pub mod PortsNext
 pub mod Removals
 pub mod OrderSides
 pub mod Tails
+pub mod Squashed
