@@ -2,6 +2,7 @@
 use Rattle.std.proofs.Common.{◌≡◌, refl, sym, ap, ap₂, ◌∙◌, subst, ℕ, zero, suc, ◌+◌, ◌≤◌, ◌<◌, ◌⊎◌, inl, inr, ⊎_elim, Bool, true, false, ◌&&◌, ◌||◌, not, List, [], ◌∷◌, ◌++◌, length, Option, Some, None, is_some, arith, ◌==◌, cond, eq-eqb, ne_eqb}
 use Rattle.std.specs.Prelude.{if◌then◌else◌, slice_index, ⊤}
 use Rattle.std.proofs.lemmas.Bool.{eqb-true, eqb-false, and_parts, false≢true, cases_lt}
+use Rattle.std.proofs.lemmas.List.{get_or_past}
 use Rattle.pdl_semantics.specs.Flat.{Pipe, list_all}
 use Rattle.pdl_semantics.specs.Stages.{stage_at, list_any, goes_to}
 use Rattle.pdl_semantics.specs.Machine as machine
@@ -74,6 +75,16 @@ free_of_ask m test (q ∷ qs) h e = at (q.mem == m) refl e (free_of_ask m test q
     at : (b : Bool) → (q.mem == m) ≡ b → (b || asks_of m qs) ≡ true → (asks_of m qs ≡ true → (q : Ask) × (q.mem ≡ m) × (test q ≡ true)) → (y : Ask) × (y.mem ≡ m) × (test y ≡ true)
     at true f g rest = (q, eqb-true q.mem m f, (and_parts (test q) (list_all test qs) h).0)
     at false f g rest = rest g
+
+-- a stage that holds a thread is one of the pipe's
+pub here_low : (p : Pipe) (st : State) (bits : List Bool) → length st.stages ≡ length p.stages → (k : ℕ) (t : Thread) → here p st bits k ≡ Some t → k < length p.stages
+here_low p st bits count k t e = ⊎_elim
+    (λ (l : k < length p.stages). l)
+    (λ (l : length p.stages ≤ k). absurd (none_some (sym (ap (with_now p st bits) (get_or_past st.stages k None (omega (arith, l, count)))) ∙ e)))
+    (cases_lt k (length p.stages))
+  where
+    none_some : None ≡ Some t → ⊥
+    none_some i = cc i
 
 -- the request of the thread of the reading stage, else this
 abbrev asked_one : Pipe → State → ℕ → Reading → Bool → Option Thread → machine.Request → machine.Request
@@ -184,13 +195,7 @@ module _ (p : Pipe) (reads : Reads p) (leads : LeadsOn p) (some : 0 < length p.s
     sq = squasher (moving p st bits)
 
     low_here : (k : ℕ) (t : Thread) → here p st bits k ≡ Some t → k < length p.stages
-    low_here k t e = ⊎_elim
-        (λ (l : k < length p.stages). l)
-        (λ (l : length p.stages ≤ k). absurd (none_some (sym (ap (with_now p st bits) (Rattle.std.proofs.lemmas.List.get_or_past st.stages k None (let c = flight.count in omega (arith, l, c)))) ∙ e)))
-        (cases_lt k (length p.stages))
-      where
-        none_some : None ≡ Some t → ⊥
-        none_some i = cc i
+    low_here k t e = here_low p st bits flight.count k t e
 
     -- one that moves awaits nothing
     moved_none : (k : ℕ) (t : Thread) → here p st bits k ≡ Some t → stage_moves p st bits k ≡ true → is_empty t.awaits ≡ true

@@ -1,3 +1,4 @@
 pub mod Sides
 pub mod HasSides
 pub mod Whole
+pub mod Standing
