@@ -178,7 +178,7 @@ module _ (p : Pipe) (sound : Sound p) (st : State) (bits : List Bool) (flight : 
   -- WHO IS REMOVED
 
   -- the thread in V is the squasher
-  squasher_in : (n : ℕ) → squasher (moving p st bits) ≡ Some n → (u : Thread) × (slot st v ≡ Some u) × (u.number ≡ n)
+  pub squasher_in : (n : ℕ) → squasher (moving p st bits) ≡ Some n → (u : Thread) × (slot st v ≡ Some u) × (u.number ≡ n)
   squasher_in n e = at (stage_moves p st bits v) (here p st bits v) refl (sym squasher_is ∙ e)
     where
       at : (b : Bool) (o : Option Thread) → here p st bits v ≡ o → squasher_at p st v b o ≡ Some n → (u : Thread) × (slot st v ≡ Some u) × (u.number ≡ n)

@@ -6,4 +6,5 @@ pub mod PortsNext
 pub mod Removals
 pub mod OrderSides
 pub mod Tails
+pub mod Squashed
 pub mod WholeCycle

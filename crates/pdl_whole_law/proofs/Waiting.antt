@@ -234,10 +234,14 @@ module _ (p : Pipe) (reads : Reads p) (leads : LeadsOn p) (st : State) (bits : L
   -- and it gives what comes
   pub answer_comes : (k : ℕ) (u : Thread) → slot st k ≡ Some u → Awaits u m → is_answered p bits m ≡ true → (i : ℕ) × (i < length (places p r)) × (place_at p r i ≡ k) × (answer x (reply_bit p st bits m) (word_asked st m) i ≡ Some (word_asked st m))
   answer_comes k u f w a =
-      let o = waits_at k u f w in
-      (o.1, o.4, o.5, ap (λ q. if owns q o.1 then (if reply_bit p st bits m then Some (word_asked st m) else None) else x.kept o.1) o.3
-      ∙ ap (λ b. if b then (if reply_bit p st bits m then Some (word_asked st m) else None) else x.kept o.1) (eq-eqb o.1 o.1 refl)
-      ∙ ap (λ b. if b then Some (word_asked st m) else None) (owned_reply u.number o.0 o.2 ∙ a))
+      let o = waits_at k u f w in (
+        o.1,
+        o.4,
+        o.5,
+        ap (λ q. if owns q o.1 then (if reply_bit p st bits m then Some (word_asked st m) else None) else x.kept o.1) o.3
+            ∙ ap (λ b. if b then (if reply_bit p st bits m then Some (word_asked st m) else None) else x.kept o.1) (eq-eqb o.1 o.1 refl)
+            ∙ ap (λ b. if b then Some (word_asked st m) else None) (owned_reply u.number o.0 o.2 ∙ a),
+      )
 
   -- FREE
 
