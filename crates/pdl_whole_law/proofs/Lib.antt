@@ -8,3 +8,4 @@ pub mod OrderSides
 pub mod Tails
 pub mod Squashed
 pub mod WholeCycle
+pub mod Stores
