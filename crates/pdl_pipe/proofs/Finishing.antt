@@ -38,6 +38,7 @@ use Rattle.pdl_pipe_law.proofs.WellFormedStages.{few_stages}
 use Rattle.pdl_pipe_law.proofs.Nothing.{nothing}
 use Rattle.pdl_pipe_law.proofs.FollowsMade.{has_mems}
 use Rattle.pdl_pipe_law.proofs.Standing.{used_after}
+use Rattle.pdl_pipe_law.proofs.AtOnce.{at_once}
 use Rattle.pdl_pipe.proofs.Accepted.{declared, follows_source}
 use Rattle.pdl_stagenets.specs.Locked.{Members, locks_in}
 use Rattle.pdl_stageregs.specs.Stages.{views_in}
@@ -143,7 +144,7 @@ module _ (p : tree.Pipe) (rules : KeepsRules p) (source : IsTrue (is_source p)) 
               let is_locked_here = sym ((locked_made l stays (form_of p) x d shown).locked m low) ∙ ap is_some e in
               subst (λ (g : Locks). IsUsed l (flat p) m y (step_of (flat p) vs (no_gates g) goes m) s st) again
               (used_lock l (flat p) shown.joined.first x.locks.items vs goes m y s st e
-              (used_after (flat p) is_fit (mem_names p.mems) ls vs (no_gates ls) goes n law.compiled beside has_mems_here done.follows.well_formed done.here image schedule (no_replies schedule) bits [] m
+              (used_after (flat p) is_fit (mem_names p.mems) ls vs (no_gates ls) goes n law.compiled beside has_mems_here done.follows.well_formed done.here (at_once p (comb_mems p can)) image schedule (no_replies schedule) bits [] m
               is_image (length-map schedule (λ (b : ℕ). [])) is_locked_here));
         }
 

@@ -14,7 +14,7 @@ use Rattle.pdl_net.specs.Circuit.{State}
 use Rattle.pdl_net.specs.Signal.{Signal, no_signal}
 use Rattle.pdl_lockapi.specs.Laws.{holds_ticket}
 use Rattle.pdl_machine_facts.specs.Slots.{LeadsOn, here, stage_moves, movers_from, moving, leads_to, ways_from, ways, passing_thread, thread_into, first_of, arriving_thread, act_at}
-use Rattle.pdl_machine_facts.specs.Cycle.{newborn, IsByStages, IsCalm}
+use Rattle.pdl_machine_facts.specs.Cycle.{newborn, IsByStages}
 use Rattle.pdl_machine_facts.specs.Use.{IsInUse}
 use Rattle.pdl_pipe_law.proofs.Stood.{Stood}
 use Rattle.pdl_pipe_law.specs.Lives.{row_uses, asks_held, forks_by, lives_from, held_from, verifies_from}
@@ -27,6 +27,10 @@ use Rattle.pdl_pipe_law.proofs.LockPorts.{both_is, moves_or_not, no_mover, one_m
 use Rattle.pdl_word.proofs.Lists.{zeros_at}
 use Rattle.pdl_semantics.proofs.Facts.{held_first}
 use Rattle.pdl_semantics.specs.PendingLists.{count_older}
+
+-- no thread that moves is removed by a squash
+abbrev pub Spares : Pipe → machine.State → List Bool → Type 0
+Spares p st bits = (k : ℕ) (t : Thread) → here p st bits k ≡ Some t → stage_moves p st bits k ≡ true → is_kept (squasher (moving p st bits)) t.number ≡ true
 
 -- WHAT LIVES ON LIVED BEFORE
 
@@ -116,7 +120,7 @@ args_at s [] n x = zeros_at n x
 args_at s (f ∷ fs) n zero = refl
 args_at s (f ∷ fs) n (suc x) = args_at s fs n x
 
-module _ (p : Pipe) (ls : Locks) (vs : ℕ → View) (moves : ℕ → Signal) (s : State) (st : machine.State) (bits : List Bool) (leads : LeadsOn p) (by : IsByStages p st bits) (used : IsInUse p st bits) (stands : StandsFor p ls vs s st) (seen : (j : ℕ) → j < length p.stages → IsSeen p vs moves s st bits j) (stood : (k : ℕ) (t : Thread) → here p st bits k ≡ Some t → Stood st k t) (calm : IsCalm p st bits) where
+module _ (p : Pipe) (ls : Locks) (vs : ℕ → View) (moves : ℕ → Signal) (s : State) (st : machine.State) (bits : List Bool) (leads : LeadsOn p) (by : IsByStages p st bits) (used : IsInUse p st bits) (stands : StandsFor p ls vs s st) (seen : (j : ℕ) → j < length p.stages → IsSeen p vs moves s st bits j) (stood : (k : ℕ) (t : Thread) → here p st bits k ≡ Some t → Stood st k t) (spared : Spares p st bits) where
   -- a thread that comes into stage q with what this brings
   pub record Brings (q : ℕ) (c : Comer) (u : Thread) : Type 0 where
     pub long : length u.env ≡ p.vars
@@ -236,7 +240,7 @@ module _ (p : Pipe) (ls : Locks) (vs : ℕ → View) (moves : ℕ → Signal) (s
         tickets = λ m e r high. (
           subst (λ n. holds_ticket (ls.bits m) ((vs j).tickets m) s ((stands.locks m e).base + count_older n (machine.lock_of st m))) u.number ((stands.locks m e).tickets j u.thread u.slot (omega (arith, low, high))),
           subst (λ n. count_older n (list_three st (moving p st bits) m) + bit (has_release m (moving p st bits)) ≡ count_older n (machine.lock_of st m)) u.number (used.shifts j u.thread m u.slot (leads.over j q m d.env l to r) (omega (arith, low, high)) (λ c. absurd (omega (arith, c, low, high)))),
-          calm.spared j t h g,
+          spared j t h g,
         );
       }
     where

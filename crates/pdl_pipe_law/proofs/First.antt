@@ -25,10 +25,11 @@ use Rattle.pdl_machine_facts.proofs.StagewisePorts.{at_stage, past_stage}
 use Rattle.pdl_pipe_law.specs.Lives.{lives_from, held_from}
 use Rattle.pdl_pipe_law.specs.Walk.{Locks, is_locked}
 use Rattle.pdl_pipe_law.specs.Views.{Gates, View}
-use Rattle.pdl_pipe_law.specs.Compiled.{IsCompiled}
+use Rattle.pdl_pipe_law.specs.Compiled.{IsCompiled, IsLaid}
 use Rattle.pdl_pipe_law.specs.Stands.{IsEnv, IsHolding, StandsLock, StandsFor, IsGuess}
 use Rattle.pdl_pipe_law.proofs.Comers.{signals_are}
 use Rattle.pdl_pipe_law.proofs.Next.{mem_there, lock_there}
+use Rattle.pdl_pipe_law.proofs.Laid.{laid}
 use Rattle.pdl_word.proofs.Lists.{zeros_at}
 use Rattle.pdl_net.proofs.Loaded.{loaded_at}
 use Rattle.pdl_semantics.proofs.Facts.{held_first}
@@ -80,44 +81,87 @@ is_first q image k u e = ⊎_elim
         let n : (suc k == 0) ≡ false = ne_eqb (suc k) 0 (λ h. omega (arith, h)) in
         absurd (none_some (ap (λ b. if b then born_thread q 1 (Some q.start) else None) (sym n) ∙ sym (slot_first q image (suc k) l) ∙ e))
 
-module _ (p : Pipe) (names : ℕ → List ℕ) (ls : Locks) (vs : ℕ → View) (gates : Gates) (moves : ℕ → Signal) (c : Circuit) (made : IsCompiled p names ls vs gates moves c) (in_order : (m : ℕ) → m < length p.mems → ls.array m ≡ m) (image : List (List ℕ)) (whole : (m : ℕ) → m < length p.mems → length (get_or image m []) ≡ (mem_at p m).depth) (s : State) (suits : Suits c s)
-    (regs : s.regs ≡ map (λ (r : Reg). r.reset) c.regs) (arrays : s.arrays ≡ loaded_arrays c.arrays image) where
-  abbrev st : machine.State
-  st = first p (arrays_of image)
+-- a lock stands at its start for the words that the image has for its memory
+pub record StartsWith (p : Pipe) (ls : Locks) (image : model.Arrays) (s : State) (m : ℕ) : Type 0 where
+  pub words : List ℕ
+  pub long : (mem_at p m).depth ≤ length words
+  pub same : (a : ℕ) → a < (mem_at p m).depth → image m a ≡ slice_index words a
+  pub stands : ls.stands m s (start words)
 
-  valid_first : (k : ℕ) → k < length p.stages → (vs k).valid.value s ≡ bit (is_some (slot st k))
-  valid_first k l = (made.stages k l).valid_start s regs ∙ holds_first p (k == 0) ∙ ap (λ o. bit (is_some o)) (sym (slot_first p (arrays_of image) k l))
+-- whatever the locks' first states are made of
+module _ (p : Pipe) (ls : Locks) (vs : ℕ → View) (gates : Gates) (moves : ℕ → Signal) (c : Circuit) (made : IsLaid p ls vs gates moves c) (image : model.Arrays) (s : State) (suits : Suits c s) (regs : s.regs ≡ map (λ (r : Reg). r.reset) c.regs)
+    (words : (m : ℕ) → is_locked p m ≡ false → (mem_at p m).delayed ≡ false → (a : ℕ) → a < (mem_at p m).depth → image m a ≡ slice_index (slice_index_or s.arrays (ls.array m) []) a)
+    (starts : (m : ℕ) → is_locked p m ≡ true → StartsWith p ls image s m) where
+  abbrev first_state : machine.State
+  first_state = first p image
 
-  long_first : (k : ℕ) (u : Thread) → slot st k ≡ Some u → length u.env ≡ p.vars
+  valid_first : (k : ℕ) → k < length p.stages → (vs k).valid.value s ≡ bit (is_some (slot first_state k))
+  valid_first k l = (made.stages k l).valid_start s regs ∙ holds_first p (k == 0) ∙ ap (λ o. bit (is_some o)) (sym (slot_first p image k l))
+
+  long_first : (k : ℕ) (u : Thread) → slot first_state k ≡ Some u → length u.env ≡ p.vars
   long_first k u h =
-      let f = is_first p (arrays_of image) k u h in
+      let f = is_first p image k u h in
       let short = made.begins.long in
       ap length f.1 ∙ (let e = length-append p.start (replicate (p.vars - length p.start) 0) in let z = length-replicate {A = ℕ} (p.vars - length p.start) 0 in omega (arith, e, z, short))
 
-  env_first : (k : ℕ) (u : Thread) → slot st k ≡ Some u → IsEnv p k s (vs k).kept (with_kept u.kept u.env)
+  env_first : (k : ℕ) (u : Thread) → slot first_state k ≡ Some u → IsEnv p k s (vs k).kept (with_kept u.kept u.env)
   env_first k u h x live =
-      let f = is_first p (arrays_of image) k u h in
+      let f = is_first p image k u h in
       ap (λ ks. slice_index (with_kept ks u.env) x) f.4
       ∙ ap (λ e. slice_index e x) f.1
       ∙ sym (made.begins.vars x (subst (λ i. lives_from p i x ≡ true) f.0 live) s regs)
       ∙ ap (λ i. ((vs i).kept x).value s) (sym f.0)
 
-  held_at_first : (k : ℕ) (u : Thread) → slot st k ≡ Some u → IsHolding p k s (vs k).begun.held (machine.held_before k u.env p.stmts [])
+  held_at_first : (k : ℕ) (u : Thread) → slot first_state k ≡ Some u → IsHolding p k s (vs k).begun.held (machine.held_before k u.env p.stmts [])
   held_at_first k u h m a live =
-      let f = is_first p (arrays_of image) k u h in
+      let f = is_first p image k u h in
       ap (λ i. ((vs i).begun.held m a).value s) f.0
       ∙ made.begins.held m a (subst (λ i. held_from p i m a ≡ true) f.0 live) s regs
       ∙ ap (λ l. bit (is_held l m a)) (sym (held_first u.env p.stmts []))
       ∙ ap (λ i. bit (is_held (machine.held_before i u.env p.stmts []) m a)) (sym f.0)
 
-  guess_first : (k : ℕ) (u : Thread) → slot st k ≡ Some u → IsGuess p k s (vs k).begun.guess u.guess
+  guess_first : (k : ℕ) (u : Thread) → slot first_state k ≡ Some u → IsGuess p k s (vs k).begun.guess u.guess
   guess_first k u h v long =
-      let f = is_first p (arrays_of image) k u h in
+      let f = is_first p image k u h in
       let none = ap length f.3 in
       let l : k < length p.stages = subst (λ i. i < length p.stages) (sym f.0) f.2 in
       signals_are s (vs k).begun.guess u.guess (long ∙ sym (made.stages k l).guess_long) (λ i m. absurd (let z = (made.stages k l).guess_long in omega (arith, m, z, long, none)))
 
-  word_first : (m a : ℕ) → m < length p.mems → st.arrays m a ≡ slice_index (slice_index_or s.arrays (ls.array m) []) a
+  lock_at_first : (m : ℕ) → is_locked p m ≡ true → StandsLock p ls vs s first_state m
+  lock_at_first m e =
+      let x = made.locks m e in
+      let none = lock_first p image m in
+      let y = starts m e in
+      record {
+        base = 0;
+        words = y.words;
+        long = y.long;
+        same = y.same;
+        stands = subst (λ es. ls.stands m s (lock_state_of 0 es y.words)) (sym none) y.stands;
+        few = (let z = ap length none in omega (arith, z));
+        tickets = λ k u h early.
+            (let f = is_first p image k u h in
+            let low : k ≤ reserve_stage p m = omega (arith, f.0) in
+            (made.stages k (subst (λ i. i < length p.stages) (sym f.0) f.2)).tickets_first m e low s suits
+            ∙ x.ticket.holds s (start y.words) y.stands
+            ∙ ap (λ es. (0 + count_older u.number es) % 2 ^ ls.bits m) (sym none));
+      }
+
+  pub stands_at_first : StandsFor p ls vs s (first p image)
+  stands_at_first = record {
+    valid = valid_first;
+    long = long_first;
+    env = env_first;
+    held = held_at_first;
+    guess = guess_first;
+    words = words;
+    locks = lock_at_first;
+  }
+
+-- where each memory has an array
+module _ (p : Pipe) (names : ℕ → List ℕ) (ls : Locks) (vs : ℕ → View) (gates : Gates) (moves : ℕ → Signal) (c : Circuit) (made : IsCompiled p names ls vs gates moves c) (in_order : (m : ℕ) → m < length p.mems → ls.array m ≡ m) (image : List (List ℕ)) (whole : (m : ℕ) → m < length p.mems → length (get_or image m []) ≡ (mem_at p m).depth) (s : State) (suits : Suits c s)
+    (regs : s.regs ≡ map (λ (r : Reg). r.reset) c.regs) (arrays : s.arrays ≡ loaded_arrays c.arrays image) where
+  word_first : (m a : ℕ) → m < length p.mems → arrays_of image m a ≡ slice_index (slice_index_or s.arrays (ls.array m) []) a
   unfolding HasArray
   word_first m a l =
       word_loaded c.arrays image m a (subst (λ i. i < length c.arrays) (in_order m l) (there m l))
@@ -139,36 +183,16 @@ module _ (p : Pipe) (names : ℕ → List ℕ) (ls : Locks) (vs : ℕ → View) 
       ∙ loaded_at c.arrays image m there
       ∙ ap (λ d. filled_words d (get_or image m [])) deep
 
-  lock_at_first : (m : ℕ) → is_locked p m ≡ true → StandsLock p ls vs s st m
-  lock_at_first m e =
+  starts_first : (m : ℕ) → is_locked p m ≡ true → StartsWith p ls (arrays_of image) s m
+  starts_first m e =
       let x = made.locks m e in
       let l = lock_there p m e in
-      let none = lock_first p (arrays_of image) m in
-      let reset = is_reset c (made.owns m).from (made.owns m).to s x.regs regs in
-      let words = get_or image m [] in
-      let stands = x.starts s words reset (whole m l) (image_there m e l) in
       record {
-        base = 0;
-        words = words;
+        words = get_or image m [];
         long = (let z = whole m l in omega (arith, z));
         same = λ a low. refl;
-        stands = subst (λ es. ls.stands m s (lock_state_of 0 es words)) (sym none) stands;
-        few = (let z = ap length none in omega (arith, z));
-        tickets = λ k u h early.
-            (let f = is_first p (arrays_of image) k u h in
-            let low : k ≤ reserve_stage p m = omega (arith, f.0) in
-            (made.stages k (subst (λ i. i < length p.stages) (sym f.0) f.2)).tickets_first m e low s suits
-            ∙ x.ticket.holds s (start words) stands
-            ∙ ap (λ es. (0 + count_older u.number es) % 2 ^ ls.bits m) (sym none));
+        stands = x.starts s (get_or image m []) (is_reset c (made.owns m).from (made.owns m).to s x.regs regs) (whole m l) (image_there m e l);
       }
 
-  pub stands_first : StandsFor p ls vs s st
-  stands_first = record {
-    valid = valid_first;
-    long = long_first;
-    env = env_first;
-    held = held_at_first;
-    guess = guess_first;
-    words = λ m e a low. word_first m a (mem_there p m a low);
-    locks = lock_at_first;
-  }
+  pub stands_first : StandsFor p ls vs s (first p (arrays_of image))
+  stands_first = stands_at_first p ls vs gates moves c (laid p names ls vs gates moves c made) (arrays_of image) s suits regs (λ m e comb a low. word_first m a (mem_there p m a low)) starts_first

@@ -21,6 +21,7 @@ use Rattle.pdl_pipe_law.proofs.WellFormedMems.{none_delayed}
 use Rattle.pdl_pipe_law.proofs.WellFormed.{ports, well_formed}
 use Rattle.pdl_pipe_law.proofs.Runs.{shows_beside}
 use Rattle.pdl_pipe_law.proofs.Lines.{shows_turns_made}
+use Rattle.pdl_pipe_law.proofs.AtOnce.{at_once}
 use Rattle.pdl_rules.specs.Memories.{info_of}
 
 -- memories in the flat form, and as they are told
@@ -54,7 +55,7 @@ module _ (p : tree.Pipe) (declared : AreDeclared p.mems) (most : length (flat p)
         ports = ports (flat p) p.mems declared refl fit.some most ls vs gates moves n made.well made.compiled in_order made.arrays made.wide made.commits made.mems;
         mems = made.mems;
         arrays = made.arrays;
-        shows = shows_beside (flat p) fit (mem_names p.mems) ls vs gates moves n made.compiled beside has_mems formed (none_delayed_here made.mems);
+        shows = shows_beside (flat p) fit (mem_names p.mems) ls vs gates moves n made.compiled beside has_mems formed (none_delayed_here made.mems) (at_once p declared.comb);
       }
     where
       none_delayed_here : n.mems ≡ map info_of p.mems → delayed_mems n ≡ []

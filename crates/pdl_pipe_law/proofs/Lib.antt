@@ -18,6 +18,7 @@ pub mod LockActs
 pub mod LockStep
 pub mod Comers
 pub mod Next
+pub mod Laid
 pub mod First
 pub mod Outputs
 pub mod Nothing
@@ -30,4 +31,5 @@ pub mod LinesColumns
 pub mod Lines
 pub mod Establish
 pub mod Stood
+pub mod AtOnce
 pub mod FollowsMade

@@ -40,7 +40,8 @@ module _ (p : Pipe) (ls : Locks) (vs : ℕ → View) (moves : ℕ → Signal) (s
   pub so_at : (k : ℕ) (t : Thread) → k < length p.stages → here p st bits k ≡ Some t → stage_moves p st bits k ≡ true → IsSo p k s (vs k).ended (deeds p st k t)
   so_at k t l h g = ((seen k l).follows t h).so (ready_of p st bits k t by l h g)
 
-  reserves_are : (n k : ℕ) → k + n ≡ length p.stages → addresses m (movers_from p st bits n k) ≡ asked_addresses s (all_reserves m vs moves n k)
+  -- the addresses that a cycle reserves are those that its ports ask
+  pub reserves_are : (n k : ℕ) → k + n ≡ length p.stages → addresses m (movers_from p st bits n k) ≡ asked_addresses s (all_reserves m vs moves n k)
   reserves_are zero k e = refl
   reserves_are (suc n) k e =
       let l : k < length p.stages = omega (arith, e) in

@@ -6,7 +6,7 @@ use Rattle.pdl_word.specs.Words.{bit}
 use Rattle.pdl_semantics.specs.Flat.{Next, Ends, Goes, Forks, Stage, Pipe}
 use Rattle.pdl_semantics.specs.Stages.{stage_at, goes_to, last_stage, list_any}
 use Rattle.pdl_semantics.specs.Machine as machine
-use Rattle.pdl_semantics.specs.Machine.{Thread, deeds}
+use Rattle.pdl_semantics.specs.Machine.{Thread, deeds, with_kept}
 use Rattle.pdl_semantics.specs.Moves.{is_empty, next_stage}
 use Rattle.pdl_net.specs.Circuit.{Circuit, State}
 use Rattle.pdl_net.specs.Signal.{Signal}
@@ -18,9 +18,10 @@ use Rattle.pdl_machine_facts.proofs.StagewiseActs.{some_here}
 use Rattle.pdl_pipe_law.specs.Lives.{forks_by, lives_from}
 use Rattle.pdl_pipe_law.specs.Walk.{Locks, one, both}
 use Rattle.pdl_pipe_law.specs.Views.{Gates, View, free, way_on, moves_where}
-use Rattle.pdl_pipe_law.specs.Compiled.{IsCompiled}
-use Rattle.pdl_pipe_law.specs.Stands.{StandsFor, IsSo, Follows, IsSeen}
-use Rattle.pdl_pipe_law.specs.Beside.{Beside}
+use Rattle.pdl_pipe_law.specs.Compiled.{IsLaid}
+use Rattle.pdl_pipe_law.specs.Reads.{AreAtOnce}
+use Rattle.pdl_pipe_law.specs.Stands.{StandsFor, IsEnv, IsSo, Follows, IsSeen}
+use Rattle.pdl_pipe_law.specs.Beside.{TellsGate}
 use Rattle.pdl_pipe_law.proofs.Signals.{mux_at, mux_by, both_at, one_is}
 use Rattle.pdl_pipe_law.proofs.StageLaw.{stage_follows}
 
@@ -48,12 +49,14 @@ ready_of p st bits k t by l h g = second (is_empty t.awaits) (locks_ready p st t
     second true false c e = absurd (cc e)
     second false b c e = absurd (cc e)
 
-module _ (p : Pipe) (names : ℕ → List ℕ) (ls : Locks) (vs : ℕ → View) (gates : Gates) (moves : ℕ → Signal) (c : Circuit) (made : IsCompiled p names ls vs gates moves c) (beside : Beside p ls c vs gates moves) (leads : LeadsOn p)
-    (s : State) (st : machine.State) (bits : List Bool) (suits : Suits c s) (stands : StandsFor p ls vs s st) (standing : beside.stands s st) (used : IsInUse p st bits) (by : IsByStages p st bits) where
+-- each stage in a cycle, where the walks begin with the answers of the cycle and the gates tell what they should
+module _ (p : Pipe) (ls : Locks) (vs : ℕ → View) (gates : Gates) (moves : ℕ → Signal) (c : Circuit) (made : IsLaid p ls vs gates moves c) (once : AreAtOnce p) (leads : LeadsOn p)
+    (s : State) (st : machine.State) (bits : List Bool) (suits : Suits c s) (stands : StandsFor p ls vs s st) (used : IsInUse p st bits) (by : IsByStages p st bits)
+    (answers : (k : ℕ) (t : Thread) → k < length p.stages → here p st bits k ≡ Some t → IsEnv p k s (vs k).begun.vars (with_kept t.kept t.env)) (tells : (k : ℕ) (t : Thread) → k < length p.stages → here p st bits k ≡ Some t → TellsGate p vs gates moves s st bits k t) where
   follows_at : (k : ℕ) (t : Thread) → k < length p.stages → here p st bits k ≡ Some t → Follows p k s st t.number (vs k).ended (deeds p st k t)
   follows_at k t l h =
       let x = made.stages k l in
-      stage_follows c p ls vs s st bits suits (λ m e. (made.locks m e).kind) (λ m e. (made.locks m e).room) stands used k t x.rows x.fresh x.guess_long (beside.answers s st bits k t suits standing stands l h) h
+      stage_follows c p ls vs s st bits suits (λ m e. (made.locks m e).kind) (λ m e. (made.locks m e).room) stands used once k t x.rows x.fresh x.guess_long (answers k t l h) h
 
   module _ (k : ℕ) (l : k < length p.stages) (later : (j : ℕ) → k < j → j < length p.stages → IsSeen p vs moves s st bits j) where
     free_is : (q : ℕ) → k < q → q < length p.stages → (free vs moves q).value s ≡ bit (is_none (slot st q) || stage_moves p st bits q)
@@ -106,7 +109,7 @@ module _ (p : Pipe) (names : ℕ → List ℕ) (ls : Locks) (vs : ℕ → View) 
             let none = is_empty t.awaits in
             both_at s (vs k).valid (both (vs k).ended.ready (both (gates.gate k) way)) true (ready && ((none && passes) && enters)) (valid ∙ ap (λ o. bit (is_some o)) e) (λ y.
             both_at s (vs k).ended.ready (both (gates.gate k) way) ready ((none && passes) && enters) f.ready (λ z.
-            both_at s (gates.gate k) way (none && passes) enters (beside.tells s st bits k t suits standing stands l e f z later) (λ u. way_is t (f.so z))))
+            both_at s (gates.gate k) way (none && passes) enters (tells k t l e f z later) (λ u. way_is t (f.so z))))
             ∙ ap bit (regroup ready none passes enters)
             ∙ ap bit (sym (by.goes_where k t l e))
 

@@ -20,19 +20,19 @@ use Rattle.pdl_lockapi.specs.Forget.{forget, lock_state_of}
 use Rattle.pdl_lockapi.proofs.Next.{is_next}
 use Rattle.pdl_machine_facts.specs.Slots.{LeadsOn, slot, here, stage_moves, moving, arriving_thread}
 use Rattle.pdl_machine_facts.specs.Slots as slots
-use Rattle.pdl_machine_facts.specs.Cycle.{newborn, IsByStages, IsCalm}
+use Rattle.pdl_machine_facts.specs.Cycle.{newborn, IsByStages}
 use Rattle.pdl_machine_facts.specs.Use.{IsInUse}
 use Rattle.pdl_machine_facts.proofs.StagewiseActs.{some_here}
 use Rattle.pdl_machine_facts.proofs.StagewisePorts.{then_then}
 use Rattle.pdl_pipe_law.proofs.Stood.{Stood}
 use Rattle.pdl_pipe_law.specs.Walk.{Locks, is_locked, one, zero_bit}
 use Rattle.pdl_pipe_law.specs.Views.{Gates, View, Comer, comers, first_coming}
-use Rattle.pdl_pipe_law.specs.Compiled.{IsCompiled, Becomes}
+use Rattle.pdl_pipe_law.specs.Compiled.{IsLaid, Becomes}
 use Rattle.pdl_pipe_law.specs.Stands.{IsEnv, IsHolding, StandsLock, StandsFor, IsSeen, IsSquashed, IsGuess}
 use Rattle.pdl_pipe_law.proofs.Signals.{mux_at, mux_by, one_is, zero_is}
 use Rattle.pdl_pipe_law.proofs.StageLooks.{plain_is}
 use Rattle.pdl_pipe_law.proofs.LockStep.{words_next, words_long, words_same, few_next, stands_next}
-use Rattle.pdl_pipe_law.proofs.Comers.{first_come, brought, picked_is, AreAlike, Brings, comers_alike, signal_at, signals_are}
+use Rattle.pdl_pipe_law.proofs.Comers.{first_come, brought, picked_is, AreAlike, Brings, comers_alike, signal_at, signals_are, Spares}
 use Rattle.pdl_semantics.specs.PendingLists.{count_older}
 
 -- a memory that has words, or a lock, is there
@@ -79,8 +79,8 @@ count_left sq n (e ∷ es) h = at sq (nat_lt e.thread n) refl h (count_left sq n
         by true = ap₂ (λ c k. if c then suc k else k) i g
         by false = g
 
-module _ (p : Pipe) (names : ℕ → List ℕ) (ls : Locks) (vs : ℕ → View) (gates : Gates) (moves : ℕ → Signal) (c : Circuit) (made : IsCompiled p names ls vs gates moves c) (leads : LeadsOn p)
-    (s : State) (st : machine.State) (bits : List Bool) (suits : Suits c s) (stands : StandsFor p ls vs s st) (used : IsInUse p st bits) (by : IsByStages p st bits) (calm : IsCalm p st bits)
+module _ (p : Pipe) (ls : Locks) (vs : ℕ → View) (gates : Gates) (moves : ℕ → Signal) (c : Circuit) (made : IsLaid p ls vs gates moves c) (leads : LeadsOn p)
+    (s : State) (st : machine.State) (bits : List Bool) (suits : Suits c s) (stands : StandsFor p ls vs s st) (used : IsInUse p st bits) (by : IsByStages p st bits) (spared : Spares p st bits)
     (seen : (j : ℕ) → j < length p.stages → IsSeen p vs moves s st bits j) (stood : (k : ℕ) (t : Thread) → here p st bits k ≡ Some t → Stood st k t) (squashed : IsSquashed p ls vs gates s st bits) (answers : (k : ℕ) (t : Thread) → k < length p.stages → here p st bits k ≡ Some t → IsEnv p k s (vs k).begun.vars (with_kept t.kept t.env)) where
   abbrev next : machine.State
   next = cycle p st bits
@@ -95,9 +95,9 @@ module _ (p : Pipe) (names : ℕ → List ℕ) (ls : Locks) (vs : ℕ → View) 
   abbrev stays : ℕ → Option Thread
   stays q = if_kept sq (if stage_moves p st bits q then None else here p st bits q)
 
-  spared : (q : ℕ) (js : List ℕ) (u : Thread) → slots.first_of p st bits q js ≡ Some u → removed sq u.number ≡ true
-  spared q [] u e = absurd (cc e)
-  spared q (j ∷ js) u e = at (stage_moves p st bits j) (here p st bits j) refl refl (λ i. spared q js u i) e
+  none_removed : (q : ℕ) (js : List ℕ) (u : Thread) → slots.first_of p st bits q js ≡ Some u → removed sq u.number ≡ true
+  none_removed q [] u e = absurd (cc e)
+  none_removed q (j ∷ js) u e = at (stage_moves p st bits j) (here p st bits j) refl refl (λ i. none_removed q js u i) e
     where
       at : (g : Bool) (o : Option Thread) → stage_moves p st bits j ≡ g → here p st bits j ≡ o → (slots.first_of p st bits q js ≡ Some u → removed sq u.number ≡ true) → or_then (slots.thread_into p st q j g o) (slots.first_of p st bits q js) ≡ Some u → removed sq u.number ≡ true
       at false o f h go i = go i
@@ -105,22 +105,22 @@ module _ (p : Pipe) (names : ℕ → List ℕ) (ls : Locks) (vs : ℕ → View) 
       at true (Some t) f h go i = taken (is_stage q (next_stage p j (machine.deeds p st j t))) i
         where
           taken : (b : Bool) → or_then (if b then Some (thread_after (slots.act_at p st j t)) else None) (slots.first_of p st bits q js) ≡ Some u → removed sq u.number ≡ true
-          taken true k = let same : thread_after (slots.act_at p st j t) ≡ u = cc k in subst (λ (v : Thread). removed sq v.number ≡ true) same (calm.spared j t h f)
+          taken true k = let same : thread_after (slots.act_at p st j t) ≡ u = cc k in subst (λ (v : Thread). removed sq v.number ≡ true) same (spared j t h f)
           taken false k = go k
 
   slot_next : (q : ℕ) → q < length p.stages → slot next q ≡ or_then (coming q) (stays q)
   slot_next q l =
       by.next q l
-      ∙ ap (or_then (newborn p st bits q)) (if_stays_then sq (arriving_thread p st bits q) (slots.staying_thread p st bits q) (λ u e. spared q (slots.ways p q) u e))
+      ∙ ap (or_then (newborn p st bits q)) (if_stays_then sq (arriving_thread p st bits q) (slots.staying_thread p st bits q) (λ u e. none_removed q (slots.ways p q) u e))
       ∙ sym (then_then (newborn p st bits q) (arriving_thread p st bits q) (if_kept sq (slots.staying_thread p st bits q)))
 
   -- a thread in a stage came into it with what a comer brings, or stayed
   pub data Came (q : ℕ) (u : Thread) : Type 0 where
-    came : (o : Comer) → first_come s (comers p vs moves q) ≡ Some o → Brings p ls vs moves s st bits leads by used stands seen stood calm q o u → Came q u
+    came : (o : Comer) → first_come s (comers p vs moves q) ≡ Some o → Brings p ls vs moves s st bits leads by used stands seen stood spared q o u → Came q u
     stayed : first_come s (comers p vs moves q) ≡ None → stage_moves p st bits q ≡ false → here p st bits q ≡ Some u → removed sq u.number ≡ true → Came q u
 
   came_how : (q : ℕ) (u : Thread) → q < length p.stages → slot next q ≡ Some u → Came q u
-  came_how q u l e = at (first_come s (comers p vs moves q)) refl (coming q) (stage_moves p st bits q) refl (comers_alike p ls vs moves s st bits leads by used stands seen stood calm q l) (sym (slot_next q l) ∙ e)
+  came_how q u l e = at (first_come s (comers p vs moves q)) refl (coming q) (stage_moves p st bits q) refl (comers_alike p ls vs moves s st bits leads by used stands seen stood spared q l) (sym (slot_next q l) ∙ e)
     where
       none_some : None ≡ Some u → ⊥
       none_some h = cc h
@@ -128,16 +128,16 @@ module _ (p : Pipe) (names : ℕ → List ℕ) (ls : Locks) (vs : ℕ → View) 
       same : (t : Thread) → Some t ≡ Some u → t ≡ u
       same t h = cc h
 
-      at : (o : Option Comer) → first_come s (comers p vs moves q) ≡ o → (a : Option Thread) (g : Bool) → stage_moves p st bits q ≡ g → AreAlike p ls vs moves s st bits leads by used stands seen stood calm q o a → or_then a (if_kept sq (if g then None else here p st bits q)) ≡ Some u → Came q u
+      at : (o : Option Comer) → first_come s (comers p vs moves q) ≡ o → (a : Option Thread) (g : Bool) → stage_moves p st bits q ≡ g → AreAlike p ls vs moves s st bits leads by used stands seen stood spared q o a → or_then a (if_kept sq (if g then None else here p st bits q)) ≡ Some u → Came q u
       at None f None true i h e = absurd (none_some e)
       at None f None false i h e = let z = if_stays_is sq (here p st bits q) u e in stayed f i z.0 z.1
       at None f (Some t) g i h e = absurd h
       at (Some o) f None g i h e = absurd h
-      at (Some o) f (Some t) g i h e = came o f (subst (Brings p ls vs moves s st bits leads by used stands seen stood calm q o) (same t e) h)
+      at (Some o) f (Some t) g i h e = came o f (subst (Brings p ls vs moves s st bits leads by used stands seen stood spared q o) (same t e) h)
 
   -- whether somebody stands in it
   holds_next : (q : ℕ) → q < length p.stages → brought s (λ (o : Comer). one) (mux_signal (moves q) zero_bit (mux_signal (gates.kill q) zero_bit (vs q).valid)) (first_come s (comers p vs moves q)) ≡ bit (is_some (slot next q))
-  holds_next q l = at (first_come s (comers p vs moves q)) (coming q) (comers_alike p ls vs moves s st bits leads by used stands seen stood calm q l) ∙ ap (λ o. bit (is_some o)) (sym (slot_next q l))
+  holds_next q l = at (first_come s (comers p vs moves q)) (coming q) (comers_alike p ls vs moves s st bits leads by used stands seen stood spared q l) ∙ ap (λ o. bit (is_some o)) (sym (slot_next q l))
     where
       still : Signal
       still = mux_signal (gates.kill q) zero_bit (vs q).valid
@@ -163,7 +163,7 @@ module _ (p : Pipe) (names : ℕ → List ℕ) (ls : Locks) (vs : ℕ → View) 
       settled true e = refl
       settled false e = is_left (here p st bits q) refl e
 
-      at : (o : Option Comer) (a : Option Thread) → AreAlike p ls vs moves s st bits leads by used stands seen stood calm q o a → brought s (λ (o : Comer). one) (mux_signal (moves q) zero_bit still) o ≡ bit (is_some (or_then a (stays q)))
+      at : (o : Option Comer) (a : Option Thread) → AreAlike p ls vs moves s st bits leads by used stands seen stood spared q o a → brought s (λ (o : Comer). one) (mux_signal (moves q) zero_bit still) o ≡ bit (is_some (or_then a (stays q)))
       at None None h =
           mux_at s (moves q) zero_bit still (stage_moves p st bits q) (seen q l).leaves
           ∙ ap (λ x. if stage_moves p st bits q then x else still.value s) (zero_is s)
@@ -243,14 +243,8 @@ module _ (p : Pipe) (names : ℕ → List ℕ) (ls : Locks) (vs : ℕ → View) 
 
     -- MEMORIES
 
-    own_next : (own : Own) (m : ℕ) → m < length p.mems → own.first ≡ ls.array m → own.last ≡ ls.array m + 1 → ((r : ℕ) → own.from ≤ r → r < own.to → HasReg c r) → IsNext c own s t
-    own_next own m l first last has =
-        is_next own c c s t (record {
-          has_reg = has;
-          nexts = λ k lo hi. refl;
-          has_array = λ i lo hi. (let e : ls.array m ≡ i = omega (arith, lo, hi, first, last) in subst (HasArray c) e (made.arrays m l));
-          writes = λ i lo hi. refl;
-        }) regs arrays
+    own_next : (own : Own) → ((r : ℕ) → own.from ≤ r → r < own.to → HasReg c r) → ((i : ℕ) → own.first ≤ i → i < own.last → HasArray c i) → IsNext c own s t
+    own_next own has has_array = is_next own c c s t (record { has_reg = has; nexts = λ k lo hi. refl; has_array = has_array; writes = λ i lo hi. refl }) regs arrays
 
     module _ (m : ℕ) (e : is_locked p m ≡ true) where
       abbrev stand : StandsLock p ls vs s st m
@@ -269,7 +263,7 @@ module _ (p : Pipe) (names : ℕ → List ℕ) (ls : Locks) (vs : ℕ → View) 
       stands' =
           let x = made.locks m e in
           subst (λ es. ls.stands m t (lock_state_of base es words)) (sym list)
-          (stands_next p ls vs moves s st bits by used seen stood m e stand gates squashed x.kind (made.owns m) c (made.commits m) x.step t (own_next (made.owns m) m (lock_there p m e) x.first x.last x.regs))
+          (stands_next p ls vs moves s st bits by used seen stood m e stand gates squashed x.kind (made.owns m) c (made.commits m) x.step t (own_next (made.owns m) x.regs x.arrays))
 
       -- the ticket of a thread is its place
       ticket_next : (q : ℕ) (u : Thread) → slot next q ≡ Some u → q ≤ commit_stage p m → holds_ticket (ls.bits m) ((vs q).tickets m) t (base + count_older u.number (machine.lock_of next m))
@@ -321,15 +315,15 @@ module _ (p : Pipe) (names : ℕ → List ℕ) (ls : Locks) (vs : ℕ → View) 
           }
 
     -- a memory without lock keeps its words
-    word_next : (m : ℕ) → is_locked p m ≡ false → (a : ℕ) → a < (mem_at p m).depth → next.arrays m a ≡ slice_index (slice_index_or t.arrays (ls.array m) []) a
-    word_next m e a low =
+    word_next : (m : ℕ) → is_locked p m ≡ false → (mem_at p m).delayed ≡ false → (a : ℕ) → a < (mem_at p m).depth → next.arrays m a ≡ slice_index (slice_index_or t.arrays (ls.array m) []) a
+    word_next m e comb a low =
         let l = mem_there p m a low in
         let own : Own = record { from = 0; to = 0; first = ls.array m; last = ls.array m + 1 } in
-        let kept = (own_next own m l refl refl (λ r lo hi. absurd (omega (arith, hi)))).arrays (ls.array m) (omega arith) (omega arith) in
+        let kept = (own_next own (λ r lo hi. absurd (omega (arith, hi))) (λ i lo hi. (let e : ls.array m ≡ i = omega (arith, lo, hi) in subst (HasArray c) e (made.arrays m l comb)))).arrays (ls.array m) (omega arith) (omega arith) in
         ap (λ (f : ℕ → ℕ). f a) (by.arrays m l)
         ∙ ap (λ b. with_commit st.arrays m (if b then oldest (list_two st (moving p st bits) m) else None) m a) (used.unreleased m (plain_is p m e))
-        ∙ stands.words m e a low
-        ∙ sym (ap (λ ws. slice_index ws a) (kept ∙ ap (λ ws. after_writes s ws (slice_index_or s.arrays (ls.array m) [])) (made.unwritten m l e)))
+        ∙ stands.words m e comb a low
+        ∙ sym (ap (λ ws. slice_index ws a) (kept ∙ ap (λ ws. after_writes s ws (slice_index_or s.arrays (ls.array m) [])) (made.unwritten m l e comb)))
 
     pub stands_after : StandsFor p ls vs t next
     stands_after = record {

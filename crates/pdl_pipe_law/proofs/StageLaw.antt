@@ -18,6 +18,8 @@ use Rattle.std.proofs.lemmas.List.{length-set}
 use Rattle.pdl_pipe_law.proofs.Stood.{stood}
 use Rattle.pdl_pipe_law.specs.Lives.{row_uses, asks_held, lives_from, held_from, verifies_from}
 use Rattle.pdl_pipe_law.specs.Walk.{Locks, Put, Birth, Walk, is_locked, IsFresh, walk_after, AreRows}
+use Rattle.pdl_pipe_law.specs.Reads.{IsAtOnce, AreAtOnce}
+use Rattle.pdl_word.specs.Each.{Each}
 use Rattle.pdl_pipe_law.specs.Views.{View}
 use Rattle.pdl_pipe_law.specs.Stands.{AddressesFit, AreBits, AreShort, StandsFor, Follows, reserved_in, written_in, let_in, child_in, asked_in, IsEnv, IsHolding, IsGuess}
 use Rattle.pdl_pipe_law.proofs.Signals.{one_is, zero_is}
@@ -32,9 +34,9 @@ abbrev pub AllLive : Pipe → ℕ → List Stmt → Type 0
 AllLive p k [] = Unit {0}
 AllLive p k (x ∷ xs) = (IsLive p k x × (x.stage ≡ k)) × AllLive p k xs
 
-live_from : (p : Pipe) (k : ℕ) (xs : List Stmt) → (list_any (λ (r : Stmt). nat_le k r.stage && is_verify r.op) xs ≡ true → verifies_from p k ≡ true) → ((y : ℕ) → list_any (λ (r : Stmt). nat_le k r.stage && row_uses r y) xs ≡ true → lives_from p k y ≡ true) → ((m a : ℕ) → list_any (λ (r : Stmt). nat_le k r.stage && asks_held r.op m a) xs ≡ true → held_from p k m a ≡ true) → AllLive p k (in_stage k xs)
-live_from p k [] v f g = tt
-live_from p k (x ∷ xs) v f g = at (x.stage == k) refl (live_from p k xs (λ e. v (or_right (nat_le k x.stage && is_verify x.op) _ e)) (λ y e. f y (or_right (nat_le k x.stage && row_uses x y) _ e)) (λ m a e. g m a (or_right (nat_le k x.stage && asks_held x.op m a) _ e)))
+live_from : (p : Pipe) (k : ℕ) (xs : List Stmt) → Each (λ (x : Stmt). IsAtOnce p x.op) xs → (list_any (λ (r : Stmt). nat_le k r.stage && is_verify r.op) xs ≡ true → verifies_from p k ≡ true) → ((y : ℕ) → list_any (λ (r : Stmt). nat_le k r.stage && row_uses r y) xs ≡ true → lives_from p k y ≡ true) → ((m a : ℕ) → list_any (λ (r : Stmt). nat_le k r.stage && asks_held r.op m a) xs ≡ true → held_from p k m a ≡ true) → AllLive p k (in_stage k xs)
+live_from p k [] once v f g = tt
+live_from p k (x ∷ xs) once v f g = at (x.stage == k) refl (live_from p k xs once.1 (λ e. v (or_right (nat_le k x.stage && is_verify x.op) _ e)) (λ y e. f y (or_right (nat_le k x.stage && row_uses x y) _ e)) (λ m a e. g m a (or_right (nat_le k x.stage && asks_held x.op m a) _ e)))
   where
     at : (b : Bool) → (x.stage == k) ≡ b → AllLive p k (in_stage k xs) → AllLive p k (cond b (x ∷ in_stage k xs) (in_stage k xs))
     at false e rest = rest
@@ -46,14 +48,15 @@ live_from p k (x ∷ xs) v f g = at (x.stage == k) refl (live_from p k xs (λ e.
               vars = λ y u. f y (or_left (nat_le k x.stage && row_uses x y) _ (ap₂ (λ a b. a && b) low u));
               held = λ m a u. g m a (or_left (nat_le k x.stage && asks_held x.op m a) _ (ap₂ (λ a b. a && b) low u));
               verify = λ u. v (or_left (nat_le k x.stage && is_verify x.op) _ (ap₂ (λ a b. a && b) low u));
+              at_once = once.0;
             },
             same,
           ),
           rest,
         )
 
-live_rows : (p : Pipe) (k : ℕ) → AllLive p k (in_stage k p.stmts)
-live_rows p k = live_from p k p.stmts (λ e. e) (λ y e. or_left _ _ e) (λ m a e. e)
+live_rows : (p : Pipe) (k : ℕ) → AreAtOnce p → AllLive p k (in_stage k p.stmts)
+live_rows p k once = live_from p k p.stmts once (λ e. e) (λ y e. or_left _ _ e) (λ m a e. e)
 
 -- ALL ROWS
 
@@ -73,7 +76,7 @@ long_kept (x ∷ ks) env = long_kept ks (slice_set env x.var x.word) ∙ length-
 
 module _ (c : Circuit) (p : Pipe) (ls : Locks) (vs : ℕ → View) (s : State) (st : machine.State) (bits : List Bool) (suits : Suits c s)
     (kind : (m : ℕ) → is_locked p m ≡ true → (mem_at p m).lock ≡ as_lock (ls.kind m) (ls.size m)) (room : (m : ℕ) → is_locked p m ≡ true → RoomLaw (ls.stands m) (ls.size m) (ls.room m))
-    (stands : StandsFor p ls vs s st) (used : IsInUse p st bits) where
+    (stands : StandsFor p ls vs s st) (used : IsInUse p st bits) (once : AreAtOnce p) where
   around_of : (k : ℕ) (t : Thread) → here p st bits k ≡ Some t → IsAround c p ls vs s st k t.number
   around_of k t h = record {
     suits = suits;
@@ -92,7 +95,7 @@ module _ (c : Circuit) (p : Pipe) (ls : Locks) (vs : ℕ → View) (s : State) (
       → IsEnv p k s (vs k).begun.vars (with_kept t.kept t.env) → here p st bits k ≡ Some t → Follows p k s st t.number (vs k).ended (deeds p st k t)
   stage_follows k t rows fresh guess_long env h =
       let u = stood p st bits k t h in
-      follows_all c p ls vs s st k t.number (around_of k t h) (in_stage k p.stmts) (vs k).begun (vs k).ended (before_stage p k t) (live_rows p k) rows (used.fine k t h)
+      follows_all c p ls vs s st k t.number (around_of k t h) (in_stage k p.stmts) (vs k).begun (vs k).ended (before_stage p k t) (live_rows p k once) rows (used.fine k t h)
       (record {
         ready = ap (λ (f : Signal). f.value s) fresh.ready ∙ one_is s;
         so = λ z. record {

@@ -1,5 +1,5 @@
 -- One row of a stage: what it may rest on, where its guards are taken and where they aren't.
-use Rattle.std.proofs.Common.{◌≡◌, ℕ, ◌+◌, ◌<◌, ◌≤◌, Bool, true, false, IsTrue, ◌&&◌, ◌||◌, List, [], ◌∷◌, ◌++◌, map, length, refl, sym, ap, ap₂, ◌∙◌, subst}
+use Rattle.std.proofs.Common.{◌≡◌, ℕ, ◌+◌, ◌<◌, ◌≤◌, Bool, true, false, IsTrue, ◌&&◌, ◌||◌, List, [], ◌∷◌, map, length, refl, sym, ap, ap₂, ◌∙◌, subst}
 use Rattle.std.specs.Prelude.{nat_le, slice_index, slice_set, slice_index_or, ◌==◌, if◌then◌else◌}
 use Rattle.std.proofs.lemmas.Bool.{or_left, or_right, and_parts, eqb-true, eqb-false, leb-true}
 use Rattle.std.proofs.lemmas.List.{get_or-set_same, get_or-set_other}
@@ -18,6 +18,7 @@ use Rattle.pdl_machine_facts.specs.Slots.{locks_ready}
 use Rattle.pdl_machine_facts.specs.Use.{is_early, IsOpFine}
 use Rattle.pdl_pipe_law.specs.Lives.{uses_var, are_using, guards_use, row_uses, asks_held, lives_from, held_from, verifies_from}
 use Rattle.pdl_pipe_law.specs.Walk.{Locks, Row, Walk, is_locked, taken_in, AgreeOn, HaveValues, IsWord, IsOp, both, if_on, with_var, with_held, walk_after}
+use Rattle.pdl_pipe_law.specs.Reads.{IsAtOnce}
 use Rattle.pdl_pipe_law.specs.Views.{View}
 use Rattle.pdl_pipe_law.specs.Stands.{IsEnv, IsHolding, StandsLock, IsSo, Follows}
 use Rattle.pdl_pipe_law.proofs.Signals.{both_at, if_on_at}
@@ -43,6 +44,7 @@ pub record IsLive (p : Pipe) (k : ℕ) (x : Stmt) : Type 0 where
   pub vars : (y : ℕ) → row_uses x y ≡ true → lives_from p k y ≡ true
   pub held : (m a : ℕ) → asks_held x.op m a ≡ true → held_from p k m a ≡ true
   pub verify : is_verify x.op ≡ true → verifies_from p k ≡ true
+  pub at_once : IsAtOnce p x.op
 
 -- the thread of a stage, in a state of the netlist that stands for the machine's
 pub record IsAround (c : Circuit) (p : Pipe) (ls : Locks) (vs : ℕ → View) (s : State) (st : machine.State) (k thread : ℕ) : Type 0 where
@@ -51,7 +53,7 @@ pub record IsAround (c : Circuit) (p : Pipe) (ls : Locks) (vs : ℕ → View) (s
   pub room : (m : ℕ) → is_locked p m ≡ true → RoomLaw (ls.stands m) (ls.size m) (ls.room m)
   pub ordered : (m : ℕ) → Rattle.pdl_semantics.specs.PendingLists.AreOrdered 0 (machine.lock_of st m)
   pub unlocked : (m : ℕ) → is_locked p m ≡ false → machine.lock_of st m ≡ []
-  pub words : (m : ℕ) → is_locked p m ≡ false → (a : ℕ) → a < (mem_at p m).depth → st.arrays m a ≡ slice_index (slice_index_or s.arrays (ls.array m) []) a
+  pub words : (m : ℕ) → is_locked p m ≡ false → (mem_at p m).delayed ≡ false → (a : ℕ) → a < (mem_at p m).depth → st.arrays m a ≡ slice_index (slice_index_or s.arrays (ls.array m) []) a
   pub locks : (m : ℕ) → is_locked p m ≡ true → StandsLock p ls vs s st m
   pub tickets : (m : ℕ) (e : is_locked p m ≡ true) → k ≤ commit_stage p m → holds_ticket (ls.bits m) ((vs k).tickets m) s ((locks m e).base + count_older thread (machine.lock_of st m))
 
@@ -128,12 +130,12 @@ module _ (c : Circuit) (p : Pipe) (ls : Locks) (vs : ℕ → View) (s : State) (
         at false g = h n b live ∙ ap bit (sym (other n b g))
 
     -- a memory's word
-    pub word_at : (m a : ℕ) → IsWord p ls m (w.vars a) ((vs k).tickets m) r.value s → k ≤ commit_stage p m → IsTrue (read_ready (mem_at p m).lock (older_write st thread m ((w.vars a).value s))) → r.value.value s ≡ word_for st thread m ((w.vars a).value s)
-    word_at m a word low ready = at (is_locked p m) refl
+    pub word_at : (m a : ℕ) → (mem_at p m).delayed ≡ false → IsWord p ls m (w.vars a) ((vs k).tickets m) r.value s → k ≤ commit_stage p m → IsTrue (read_ready (mem_at p m).lock (older_write st thread m ((w.vars a).value s))) → r.value.value s ≡ word_for st thread m ((w.vars a).value s)
+    word_at m a comb word low ready = at (is_locked p m) refl
       where
         at : (b : Bool) → is_locked p m ≡ b → r.value.value s ≡ word_for st thread m ((w.vars a).value s)
         at true e = read_is p ls vs s st m (around.kind m e) (around.locks m e) (around.ordered m) thread ((vs k).tickets m) (around.tickets m e low) (w.vars a) r.value word e ready
-        at false e = word_is p ls s st thread m (w.vars a) ((vs k).tickets m) r.value word e (around.unlocked m e) (around.words m e ((w.vars a).value s) word.reach)
+        at false e = word_is p ls s st thread m (w.vars a) ((vs k).tickets m) r.value word e (around.unlocked m e) (around.words m e comb ((w.vars a).value s) word.reach)
 
   pub values_same : (args : List Expr) (fs : List Signal) (w : Walk) (env : List ℕ) → HaveValues args w fs s → ((e : Expr) → ((y : ℕ) → uses_var e y ≡ true → are_using args y ≡ true) → AgreeOn e w s env) → values_of args env ≡ map (λ (f : Signal). f.value s) fs
   values_same [] [] w env h g = refl

@@ -25,6 +25,8 @@ use Rattle.pdl_machine_facts.specs.Cycle.{IsByStages, IsCalm}
 use Rattle.pdl_machine_facts.specs.Use.{IsInUse}
 use Rattle.pdl_machine_facts.specs.Fit.{IsFit}
 use Rattle.pdl_pipe_law.specs.Walk.{Locks, is_locked}
+use Rattle.pdl_pipe_law.specs.Reads.{AreAtOnce}
+use Rattle.pdl_pipe_law.proofs.Laid.{laid}
 use Rattle.pdl_pipe_law.specs.Views.{Gates, View}
 use Rattle.pdl_pipe_law.specs.Ports.{step_of}
 use Rattle.pdl_pipe_law.specs.Compiled.{IsCompiled}
@@ -79,7 +81,7 @@ pub record IsUsedLock (p : Pipe) (ls : Locks) (vs : ℕ → View) (gates : Gates
   pub releases : act.release ≡ has_release m (movers (all_acts p st bits))
 
 module _ (p : Pipe) (fit : IsFit p) (names : ℕ → List ℕ) (ls : Locks) (vs : ℕ → View) (gates : Gates) (moves : ℕ → Signal) (n : Netlist) (made : IsCompiled p names ls vs gates moves (circuit_of n)) (beside : Beside p ls (circuit_of n) vs gates moves)
-    (mems : HasMems p ls n) (formed : IsWellFormed n) (none : delayed_mems n ≡ []) (image : List (List ℕ)) where
+    (mems : HasMems p ls n) (formed : IsWellFormed n) (none : delayed_mems n ≡ []) (once : AreAtOnce p) (image : List (List ℕ)) where
   abbrev c : Circuit
   c = circuit_of n
 
@@ -111,7 +113,7 @@ module _ (p : Pipe) (fit : IsFit p) (names : ℕ → List ℕ) (ls : Locks) (vs 
     suits = suits_of c x.regs x.arrays x.holds (no_inputs n formed none)
 
     seen : (j : ℕ) → j < length p.stages → IsSeen p vs moves s st bits j
-    seen = all_seen p names ls vs gates moves c made beside fit.leads s st bits suits x.stands x.rest used by
+    seen = all_seen p ls vs gates moves c (laid p names ls vs gates moves c made) once fit.leads s st bits suits x.stands used by (λ k t l e. beside.answers s st bits k t suits x.rest x.stands l e) (λ k t l e. beside.tells s st bits k t suits x.rest x.stands l e)
 
     squashed : IsSquashed p ls vs gates s st bits
     squashed = beside.squashes s st bits suits x.rest x.stands by used seen
@@ -120,7 +122,7 @@ module _ (p : Pipe) (fit : IsFit p) (names : ℕ → List ℕ) (ls : Locks) (vs 
     pub shows_here : (b : ℕ) → seen_of (net_run.shown_ports n h b) ≡ had p (record { ports = stated.ports p st (all_acts p st bits); wait = is_wait p st bits })
     shows_here b =
         ap (λ y. seen_of (net_run.shown_ports n y b)) x.same
-        ∙ ap₂ (λ ps w. record { ports = ps; wait = w }) (ports_shown p names ls vs gates moves c made s st bits x.stands used by calm fit.some seen (stood p st bits) squashed) (sym calm.wait)
+        ∙ ap₂ (λ ps w. record { ports = ps; wait = w }) (ports_shown p names ls vs gates moves c made s st bits x.stands used by fit.some seen (stood p st bits) squashed) (sym calm.wait)
 
     pub used_here : (m : ℕ) → is_locked p m ≡ true → IsUsedLock p ls vs gates moves s st bits m
     used_here m e =
@@ -149,7 +151,7 @@ module _ (p : Pipe) (fit : IsFit p) (names : ℕ → List ℕ) (ls : Locks) (vs 
           same = ap (λ y. net_run.next n y b) x.same ∙ next_is n x.regs x.arrays b none;
           reached = later;
           holds = holds;
-          stands = stands_after p names ls vs gates moves c made fit.leads s st bits suits x.stands used by calm seen (stood p st bits) squashed (λ k u l e. beside.answers s st bits k u suits x.rest x.stands l e) t suits' refl refl used';
+          stands = stands_after p ls vs gates moves c (laid p names ls vs gates moves c made) fit.leads s st bits suits x.stands used by calm.spared seen (stood p st bits) squashed (λ k u l e. beside.answers s st bits k u suits x.rest x.stands l e) t suits' refl refl used';
           rest = beside.keeps s t st bits suits x.rest x.stands by used seen refl refl;
         }
 

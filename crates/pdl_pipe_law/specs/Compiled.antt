@@ -62,6 +62,25 @@ pub record HasLock (p : Pipe) (ls : Locks) (c : Circuit) (vs : ℕ → View) (ga
   pub ticket : TicketLaw (ls.stands m) (ls.bits m) (ls.ticket m)
   pub step : StepLaw (ls.stands m) (ls.size m) (ls.bits m) own c (step_of p vs gates moves m) commit.enable commit.addr commit.value
 
+-- of a memory's lock what a cycle rests on: its own registers and arrays are there, and the laws of its nets
+pub record GoesOn (p : Pipe) (ls : Locks) (c : Circuit) (vs : ℕ → View) (gates : Gates) (moves : ℕ → Signal) (own : Own) (commit : Commit) (m : ℕ) : Type 0 where
+  pub kind : (mem_at p m).lock ≡ as_lock (ls.kind m) (ls.size m)
+  pub regs : (r : ℕ) → own.from ≤ r → r < own.to → HasReg c r
+  pub arrays : (i : ℕ) → own.first ≤ i → i < own.last → HasArray c i
+  pub room : RoomLaw (ls.stands m) (ls.size m) (ls.room m)
+  pub ticket : TicketLaw (ls.stands m) (ls.bits m) (ls.ticket m)
+  pub step : StepLaw (ls.stands m) (ls.size m) (ls.bits m) own c (step_of p vs gates moves m) commit.enable commit.addr commit.value
+
+-- the stages and the locks, whatever stands beside them; a memory that answers at once has an array, which is never written where it has no lock
+pub record IsLaid (p : Pipe) (ls : Locks) (vs : ℕ → View) (gates : Gates) (moves : ℕ → Signal) (c : Circuit) : Type 0 where
+  pub stages : (k : ℕ) → k < length p.stages → IsStage p ls c vs gates moves k
+  pub begins : IsStart p c vs
+  pub owns : ℕ → Own
+  pub commits : ℕ → Commit
+  pub locks : (m : ℕ) → is_locked p m ≡ true → GoesOn p ls c vs gates moves (owns m) (commits m) m
+  pub arrays : (m : ℕ) → m < length p.mems → (mem_at p m).delayed ≡ false → HasArray c (ls.array m)
+  pub unwritten : (m : ℕ) → m < length p.mems → is_locked p m ≡ false → (mem_at p m).delayed ≡ false → write_signals c (ls.array m) ≡ []
+
 abbrev pub shown_in : Circuit → Output → Shown
 shown_in c o = record { name = o.name; signal = signal c o.net }
 

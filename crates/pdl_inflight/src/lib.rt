@@ -1,0 +1,2 @@
+//! Facts of the threads in flight that name no circuit.
+#![tactic(auto)]

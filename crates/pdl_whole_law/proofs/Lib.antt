@@ -1,0 +1,11 @@
+pub mod Forking
+pub mod Waiting
+pub mod WaitingStep
+pub mod PortSides
+pub mod PortsNext
+pub mod Removals
+pub mod OrderSides
+pub mod Tails
+pub mod Squashed
+pub mod WholeCycle
+pub mod Stores

@@ -1,0 +1,5 @@
+pub mod Sides
+pub mod HasSides
+pub mod Whole
+pub mod Standing
+pub mod Outside

@@ -1,0 +1,135 @@
+-- The netlist of a pipe of the whole language, in signals, and what it shows with its delayed memories outside.
+use Rattle.std.specs.Prelude.{◌≡◌, ℕ, zero, suc, ◌+◌, ◌*◌, ◌-◌, ◌/◌, ◌<◌, Bool, true, false, List, [], ◌∷◌, ◌++◌, Option, Some, None, if◌then◌else◌, length, map, codes, count_by, slice_index_or, take}
+use Rattle.pdl_word.specs.Words.{bit}
+use Rattle.pdl_kit.specs.declared.mem_info.MemInfo.{MemInfo}
+use Rattle.pdl_semantics.specs.Flat.{Mem, Pipe, arrays_of}
+use Rattle.pdl_semantics.specs.Stages.{mem_at, reply_place}
+use Rattle.pdl_semantics.specs.Cycle.{Ports, Turn, turns, for_mems}
+use Rattle.pdl_net.specs.declared.Dir.TheVariants.{In}
+use Rattle.pdl_net.specs.declared.Port.{Port}
+use Rattle.pdl_net.specs.declared.Netlist.{Netlist}
+use Rattle.pdl_net.specs.Circuit.{Circuit, State, Output, array_depth}
+use Rattle.pdl_net.specs.Signal.{Signal, input_signal}
+use Rattle.pdl_net.specs.Run.{reply, nports}
+use Rattle.pdl_image.specs.Images.{IsImage}
+use Rattle.pdl_lockapi.specs.Lock.{start}
+use Rattle.pdl_lockapi.specs.Laws.{IsReset, HasImage, words_of}
+use Rattle.pdl_machine_facts.specs.Ports.{stage_values, all_commit_values}
+use Rattle.pdl_pipe_law.specs.Walk.{Locks, is_locked, zero_bit}
+use Rattle.pdl_pipe_law.specs.Views.{View, Gates}
+use Rattle.pdl_pipe_law.specs.Ports.{Shown, shown_signal, Commit, stages_shown, commits_shown}
+use Rattle.pdl_pipe_law.specs.Compiled.{Same, IsLaid, shown_in, port_in}
+use Rattle.pdl_pipe_law.specs.Runs.{Seen, seen_of}
+use Rattle.pdl_inflight.specs.Readings.{Reading, reading}
+use Rattle.pdl_whole_law.specs.Sides.{Sides, asks_memory, asked_address}
+use Rattle.pdl_whole_law.specs.HasSides.{HasSides}
+
+-- ---- outside
+
+-- what the netlist asks of a delayed memory: whether, and where
+pub record Request : Type 0 where
+  pub enable : Signal
+  pub addr : Signal
+
+-- what a memory without delayed read asks, and one with
+abbrev pub request_of : (ℕ → View) → (ℕ → Signal) → ℕ → Option Reading → Request
+request_of vs moves m None = record { enable = zero_bit; addr = zero_bit }
+request_of vs moves m (Some r) = record { enable = asks_memory m (moves r.stage) (vs r.stage).ended.asks; addr = asked_address m (moves r.stage) (vs r.stage).ended.asks }
+
+-- its request has these values, and the port of its reads takes its two inputs
+pub record IsOutside (p : Pipe) (c : Circuit) (vs : ℕ → View) (moves : ℕ → Signal) (sides : Sides) (ask : Request) (m : ℕ) : Type 0 where
+  pub enable : Same c ask.enable (request_of vs moves m (reading p m)).enable
+  pub addr : Same c ask.addr (request_of vs moves m (reading p m)).addr
+  pub reply : Same c (sides.port m).reply (input_signal 1 (2 * reply_place p m))
+  pub word : Same c (sides.port m).word (input_signal (mem_at p m).width (2 * reply_place p m + 1))
+
+-- ---- the netlist
+
+abbrev pub request_shown : List ℕ → Request → List Shown
+request_shown name q = shown_signal (codes "q_" ++ name) q.enable ∷ shown_signal (codes "qa_" ++ name) q.addr ∷ []
+
+-- of each delayed memory, of which the first has the number m
+abbrev pub requests_shown : (ℕ → List ℕ) → (ℕ → Request) → ℕ → List Mem → List Shown
+requests_shown names asks m [] = []
+requests_shown names asks m (x ∷ xs) = (if x.delayed then request_shown (names m) (asks m) else []) ++ requests_shown names asks (suc m) xs
+
+abbrev pub whole_shown : Pipe → (ℕ → List ℕ) → (ℕ → Commit) → (ℕ → Request) → (ℕ → View) → Gates → (ℕ → Signal) → List Shown
+whole_shown p names commits asks vs gates moves =
+    stages_shown vs moves (length p.stages) 0
+    ++ commits_shown names commits 0 p.mems
+    ++ requests_shown names asks 0 p.mems
+    ++ shown_signal (codes "ended") (moves (length p.stages - 1)) ∷ shown_signal (codes "squash") gates.squash ∷ []
+
+-- the inputs of the delayed memories
+abbrev pub reply_ports : (ℕ → List ℕ) → ℕ → List Mem → List Port
+reply_ports names m [] = []
+reply_ports names m (x ∷ xs) =
+    (if x.delayed then record { name = codes "p_" ++ names m; width = 1; dir = In } ∷ record { name = codes "pd_" ++ names m; width = x.width; dir = In } ∷ [] else []) ++ reply_ports names (suc m) xs
+
+-- a memory's lock at the start: its array, where the memory answers at once, has the image in front
+pub record StartsLock (p : Pipe) (ls : Locks) (c : Circuit) (from to m : ℕ) : Type 0 where
+  pub deep : (mem_at p m).delayed ≡ false → array_depth c (ls.array m) ≡ words_of (ls.kind m) (mem_at p m).depth
+  pub starts : (s : State) (image : List ℕ) → IsReset c from to s → length image ≡ (mem_at p m).depth → ((mem_at p m).delayed ≡ false → HasImage (ls.kind m) (Some (ls.array m)) s image) → ls.stands m s (start image)
+
+pub record IsWhole (p : Pipe) (names : ℕ → List ℕ) (ls : Locks) (vs : ℕ → View) (gates : Gates) (moves : ℕ → Signal) (sides : Sides) (c : Circuit) : Type 0 where
+  pub laid : IsLaid p ls vs gates moves c
+  pub starts : (m : ℕ) → is_locked p m ≡ true → StartsLock p ls c (laid.owns m).from (laid.owns m).to m
+  pub beside : HasSides p ls c vs gates moves sides
+  pub asks : ℕ → Request
+  pub outside : (m : ℕ) → m < length p.mems → (mem_at p m).delayed ≡ true → IsOutside p c vs moves sides (asks m) m
+  -- ports: the inputs of the delayed memories, and outputs
+  pub outs : List Output
+  pub ports : c.ports ≡ reply_ports names 0 p.mems ++ map (port_in c) outs
+  pub shown : map (shown_in c) outs ≡ whole_shown p names laid.commits asks vs gates moves
+
+-- ---- runs
+
+-- how many memories are delayed, and the place of one that isn't among those that aren't
+abbrev pub delayed_count : Pipe → ℕ
+delayed_count p = count_by (λ (x : Mem). x.delayed) p.mems
+
+abbrev pub comb_place : Pipe → ℕ → ℕ
+comb_place p m = count_by (λ (x : Mem). if x.delayed then false else true) (take m p.mems)
+
+-- the place of a memory in a netlist, whose delayed memories stand first
+abbrev pub net_place : Pipe → ℕ → ℕ
+net_place p m = if (mem_at p m).delayed then reply_place p m else delayed_count p + comb_place p m
+
+-- an image for the netlist's memories, in the pipe's order
+abbrev pub in_order : Pipe → List (List ℕ) → List (List ℕ)
+in_order p image = for_mems (λ m. slice_index_or image (net_place p m) []) 0 p.mems
+
+-- the reply bits of a cycle for n delayed memories
+abbrev pub replies_of : ℕ → ℕ → List Bool
+replies_of zero b = []
+replies_of (suc n) b = reply b ∷ replies_of n (b / 2)
+
+-- whether there is a request, and its address, 0 where there is none
+abbrev pub request_values : Option ℕ → List ℕ
+request_values None = 0 ∷ 0 ∷ []
+request_values (Some a) = 1 ∷ a ∷ []
+
+abbrev pub all_request_values : List Mem → List (Option ℕ) → List ℕ
+all_request_values (m ∷ ms) (q ∷ qs) = (if m.delayed then request_values q else []) ++ all_request_values ms qs
+all_request_values _ _ = []
+
+-- the values of all ports of the machine, in the order of the netlist's outputs
+abbrev pub whole_values : Pipe → Ports → List ℕ
+whole_values p o = stage_values o.valid o.moves ++ all_commit_values p.mems o.commits ++ all_request_values p.mems o.requests ++ bit o.ended ∷ bit o.squash ∷ []
+
+abbrev pub whole_had : Pipe → Turn → Seen
+whole_had p t = record { ports = whole_values p t.ports; wait = t.wait }
+
+-- the netlist's memories are the pipe's, the delayed ones first, each with its depth
+pub record HasWholeMems (p : Pipe) (ls : Locks) (n : Netlist) : Type 0 where
+  pub in_order : (m : ℕ) → m < length p.mems → (mem_at p m).delayed ≡ false → ls.array m ≡ comb_place p m
+  pub count : length n.mems ≡ length p.mems
+  pub depth : (m : ℕ) (d : MemInfo) → m < length p.mems → (slice_index_or n.mems (net_place p m) d).depth ≡ (mem_at p m).depth
+  pub delayed : (m : ℕ) (d : MemInfo) → m < length p.mems → (slice_index_or n.mems (net_place p m) d).delayed ≡ (mem_at p m).delayed
+
+-- from each image and with each schedule of replies each port of each cycle is the machine's
+abbrev pub ShowsWhole : Pipe → Netlist → Type 0
+ShowsWhole p n =
+    (image : List (List ℕ)) (schedule : List ℕ)
+    → IsImage n.mems image
+    → map seen_of (nports n image schedule) ≡ map (whole_had p) (turns p (arrays_of (in_order p image)) (map (replies_of (delayed_count p)) schedule))
