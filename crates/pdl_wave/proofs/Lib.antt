@@ -1,0 +1,10 @@
+pub mod Digits
+pub mod Header
+pub mod Printed
+pub mod Read
+pub mod Codes
+pub mod Told
+pub mod Values
+pub mod Form
+pub mod WaveForm
+pub mod Examples
