@@ -83,8 +83,7 @@ module _ (p : Pipe) (reads : Reads p) (st : State) (d : Derived.State) (ls : Lis
   awaited_each l older x (r ∷ rs) f o w =
       let found = read_in p f.0.0 r.mem p.stmts reads.one f.0.2 in
       let var = var_of l older x r w.0 in
-      let same : record { stage = f.0.0; var = found.0 } ≡ record { stage = var.0; var = r.var } = some_is (sym found.1 ∙ var.1) in
-      (
+      let same : record { stage = f.0.0; var = found.0 } ≡ record { stage = var.0; var = r.var } = some_is (sym found.1 ∙ var.1) in (
         record {
           address = o.0.0;
           owned = o.0.1;

@@ -74,7 +74,7 @@ module _ (c : Circuit) (s : State) (w : IsWell c) (t : Suits c s) (name : List �
   port_fits q os h f rest =
       let P : Dir → Type 0 = λ d. q.dir ≡ d → Each Fits (cons_option (output_with d q.name) os) in
       (elim q.dir as P [
-        In ↦ (λ e. rest)
+        | In ↦ (λ e. rest)
         | Out x ↦ (λ e.
             let g = subst (λ (d : Dir). IsDriven c q.width d) e h.driven in
             let b = bounded c s w t x g.0 in
