@@ -1,5 +1,5 @@
 -- The definition of delay files at small ones.
-use Rattle.std.proofs.Common.{◌≡◌, ℕ, refl, List, [], ◌∷◌, ◌++◌, length, replicate, Some, None, Ok, Err, codes}
+use Rattle.std.proofs.Common.{◌≡◌, ℕ, refl, List, [], ◌∷◌, ◌++◌, Some, None, Ok, Err, codes}
 use Rattle.pdl_kit.specs.declared.rule.Rule.TheVariants.{Y1, Y2, Y3}
 use Rattle.pdl_image.specs.Lines.{lines}
 use Rattle.pdl_image.specs.Delays.{delays, bits_in, broken_row, first_wrong_row, row_word}

@@ -1,8 +1,9 @@
 -- Rows of a delay file taken one after another, and a row read from its last character to its first.
-use Rattle.std.proofs.Common.{◌≡◌, ℕ, suc, ◌+◌, ◌-◌, ◌*◌, ◌^◌, ◌<◌, ◌≤◌, ◌==◌, zero, refl, sym, ◌∙◌, ap, arith, Bool, true, false, if◌then◌else◌, List, [], ◌∷◌, ◌++◌, length, map, drop, get_or, Some, None, append_assoc, append-nil}
+use Rattle.std.proofs.Common.{◌≡◌, ℕ, suc, ◌+◌, ◌*◌, ◌^◌, ◌<◌, ◌≤◌, ◌==◌, zero, refl, sym, ◌∙◌, ap, arith, Bool, true, false, if◌then◌else◌, List, [], ◌∷◌, ◌++◌, length, map, drop, get_or, Some, None, append_assoc, append-nil}
 use Rattle.std.proofs.lemmas.List.{drop_more, length-drop}
 use Rattle.std.proofs.Math.Seq.{drop-length}
 use Rattle.std.proofs.Math.Nat.{two-pow-succ}
+use Rattle.std.proofs.lemmas.Nat.{pow_pos}
 use Rattle.pdl_kit.specs.declared.rule.Rule.{Rule}
 use Rattle.pdl_image.specs.Images.{at_line}
 use Rattle.pdl_image.specs.Delays.{broken_row, first_wrong_row, row_word}
@@ -14,14 +15,10 @@ bit_below : (b : Bool) (n p : ℕ) → n < p → (if b then 1 else 0) + 2 * n < 
 bit_below true n p h = omega (arith, h)
 bit_below false n p h = omega (arith, h)
 
-power_above : (n : ℕ) → 0 < 2 ^ n
-power_above zero = omega arith
-power_above (suc n) = let h : 0 < 2 ^ n = power_above n in let e : 2 ^ suc n ≡ 2 ^ n + 2 ^ n = two-pow-succ n in omega (arith, h, e)
-
 -- a row has a bit for each of its characters
 row_word_below : (row : List ℕ) (n : ℕ) → length row ≤ n → row_word row < 2 ^ n
 unfolding row_word
-row_word_below [] n h = power_above n
+row_word_below [] n h = pow_pos n
 row_word_below (c ∷ cs) zero h = absurd (omega (arith, h))
 row_word_below (c ∷ cs) (suc n) h = rw (two-pow-succ n) (bit_below (c == 49) (row_word cs) (2 ^ n) (row_word_below cs n (omega (arith, h))))
 

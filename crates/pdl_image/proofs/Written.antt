@@ -1,5 +1,5 @@
 -- Lines that give words, read back as an image.
-use Rattle.std.proofs.Common.{◌≡◌, ◌≢◌, ℕ, zero, suc, ◌+◌, ◌*◌, ◌^◌, ◌<◌, ◌≤◌, refl, sym, ◌∙◌, ap, subst, arith, inl, inr, Bool, true, false, cond, ◌&&◌, eqb, zero-add, List, [], ◌∷◌, ◌++◌, map, get_or, append_assoc, Option, Some, None, unwrap_or, Ok, codes}
+use Rattle.std.proofs.Common.{◌≡◌, ◌≢◌, ℕ, zero, suc, ◌+◌, ◌^◌, ◌<◌, ◌≤◌, refl, sym, ◌∙◌, ap, subst, arith, inl, inr, Bool, true, false, cond, eqb, zero-add, List, [], ◌∷◌, ◌++◌, map, get_or, append_assoc, Option, Some, None, unwrap_or, Ok, codes}
 use Rattle.std.specs.Prelude.{flat_map}
 use Rattle.std.specs.List.{range_with_len, list_all}
 use Rattle.std.specs.Str.Parse.{digits_value}

@@ -1,8 +1,8 @@
 -- What a delayed memory commits fits its words.
-use Rattle.std.proofs.Common.{◌≡◌, ℕ, zero, suc, ◌+◌, ◌^◌, ◌<◌, Bool, true, false, cond, List, [], ◌∷◌, ◌++◌, length, map, get_or, filter_map, flat_map, All, Contains, Option, Some, None, codes, decimal, bytes_eq, refl, sym, ap, ◌∙◌, subst, arith, append_assoc, length-append}
+use Rattle.std.proofs.Common.{◌≡◌, ℕ, suc, ◌+◌, ◌^◌, ◌<◌, Bool, true, false, cond, List, [], ◌∷◌, ◌++◌, length, map, get_or, filter_map, flat_map, Contains, Some, codes, bytes_eq, refl, sym, ap, ◌∙◌, subst, arith, append_assoc, length-append}
 use Rattle.std.specs.List.{cons_option, position_from, range_with_len, slice_get}
 use Rattle.std.proofs.lemmas.List.{get_or_at}
-use Rattle.std.proofs.Math.Nat.{two-pow-succ}
+use Rattle.std.proofs.lemmas.Nat.{pow_pos}
 use Rattle.std.proofs.lemmas.Slice.Eq.{bytes_eq-Decides}
 use Rattle.pdl_word.specs.Each.{Each}
 use Rattle.pdl_word.proofs.Each.{each_append, each_flat, each_unmapped}
@@ -11,7 +11,6 @@ use Rattle.pdl_net.specs.declared.Dir.TheVariants.{In, Out}
 use Rattle.pdl_net.specs.declared.Port.{Port}
 use Rattle.pdl_net.specs.declared.Netlist.{Netlist}
 use Rattle.pdl_net.specs.Circuit.{Circuit, State, Output, circuit_of, outputs_of, output_with, port_output}
-use Rattle.pdl_net.specs.Meaning.{signal}
 use Rattle.pdl_net.specs.Well.{IsWell, IsWellPort, IsDriven, Suits}
 use Rattle.pdl_net.specs.Cycle.{net_value, output_values}
 use Rattle.pdl_net.specs.Run.{port_value, value_at}
@@ -96,13 +95,9 @@ module _ (c : Circuit) (s : State) (w : IsWell c) (t : Suits c s) (name : List �
       let P : Bool → Type 0 = λ b. (b ≡ true → o.name ≡ name) → value_at values (cond b (Some i) (position_from (λ o. bytes_eq o.name name) (i + 1) os)) < 2 ^ bits in
       (elim (bytes_eq o.name name) as P [ true ↦ (λ g. subst (λ x. x < 2 ^ bits) (sym here) (f.0 (g refl))) | false ↦ (λ g. after) ]) ((bytes_eq-Decides o.name name).0)
 
-power_above : (n : ℕ) → 0 < 2 ^ n
-power_above zero = omega arith
-power_above (suc n) = let h : 0 < 2 ^ n = power_above n in let e : 2 ^ suc n ≡ 2 ^ n + 2 ^ n = two-pow-succ n in omega (arith, h, e)
-
 -- the value that a delayed memory commits, in each state that suits
 pub committed_fits : (n : Netlist) (w : IsWellFormed n) (d : PortMem) → Contains w.pipe.delayed d → (s : State) → Suits (circuit_of n) s → port_value (circuit_of n) (output_values (circuit_of n) s) (codes "cd_" ++ d.name) < 2 ^ d.width
 unfolding output_values
 committed_fits n w d c s t =
     let k = circuit_of n in
-    found_fits k s w.well t (codes "cd_" ++ d.name) d.width (outputs_of k) [] 0 refl (power_above d.width) (outputs_fit k s w.well t (codes "cd_" ++ d.name) d.width n.ports w.well.ports (heads_fit n w.pipe d c))
+    found_fits k s w.well t (codes "cd_" ++ d.name) d.width (outputs_of k) [] 0 refl (pow_pos d.width) (outputs_fit k s w.well t (codes "cd_" ++ d.name) d.width n.ports w.well.ports (heads_fit n w.pipe d c))

@@ -15,7 +15,7 @@ use Rattle.pdl_net.specs.declared.Netlist.{Netlist}
 use Rattle.pdl_net.specs.Circuit.{circuit_of, inputs_of, input_with, port_input, no_reg, array_at, no_array}
 use Rattle.pdl_net.specs.Well.{IsWell}
 use Rattle.pdl_net.specs.Run.{delayed_mems, filled_words, loaded_arrays, no_mem}
-use Rattle.pdl_net.specs.Pipe.{Head, head_of, is_input, PortMem, reply_ports, reply_widths, stage_ports, commit_ports, request_ports, pipe_ports, comb_info, delayed_info, mems_of, IsPipe, IsWellFormed}
+use Rattle.pdl_net.specs.Pipe.{Head, head_of, is_input, PortMem, reply_ports, reply_widths, stage_ports, commit_ports, request_ports, comb_info, delayed_info, IsPipe, IsWellFormed}
 use Rattle.pdl_word.proofs.Lists.{zeros_at}
 use Rattle.pdl_net.proofs.PipeMems.{none_delayed, delayed_told}
 use Rattle.pdl_net.specs.Holds.{Holds, ImageFits}

@@ -18,7 +18,7 @@ use Rattle.pdl_netrun.specs.Outside.{AreOutside, WordsFit, stores_of, stores_aft
 use Rattle.pdl_netrun.specs.Inside.{IsReady, run_of, seen_at}
 use Rattle.pdl_netrun.proofs.Arrays.{arrays_written, writes_fit}
 use Rattle.pdl_netrun.proofs.Environment.{stores_named, words_kept}
-use Rattle.pdl_netrun.proofs.Stepped.{state_now, suits_now, answered_values, answered_count, answers_count, begun_values, begun_count, walked_now, drivers_below, outputs_read, nexts_below, nexts_read}
+use Rattle.pdl_netrun.proofs.Stepped.{state_now, suits_now, answers_count, begun_values, begun_count, walked_now, drivers_below, outputs_read, nexts_below, nexts_read}
 
 -- the values after the walk
 abbrev pub walked_values : Inside → ℕ → List ℕ
@@ -101,9 +101,6 @@ outside_now a bits r new e f g =
 -- there is room for the inputs among the values
 pub answers_room : (a : Inside) (bits : ℕ) → IsReady a → (xs vs : List ℕ) → xs ≡ answers (stores_of a.outside.items) bits → vs ≡ a.values.items → 0 + length xs ≤ length vs
 answers_room a bits r xs vs e f = let n = answers_count a bits r in let l = r.room in let d = ap length e in let g = ap length f in omega (arith, n, l, d, g)
-
-pub regs_room : (a : Inside) (bits : ℕ) → IsReady a → (vs next : List ℕ) → vs ≡ answered_values a bits → next ≡ a.next.items → a.first_reg + length next ≤ length vs
-regs_room a bits r vs next e f = let n = answered_count a bits r in let l = r.room in let d = ap length e in let g = ap length f in let h = r.holds.reg_count in let q = r.first_reg in omega (arith, n, l, d, g, h, q)
 
 pub inputs_kept : (old new : List Outside) (n : ℕ) → map (λ (m : Outside). m.commits) new ≡ map (λ (m : Outside). m.commits) old → 2 * length old ≤ n → 2 * length new ≤ n
 inputs_kept old new n e h =

@@ -2,7 +2,7 @@
 use Rattle.std.proofs.Common.{◌≡◌, ◌≢◌, ℕ, zero, suc, ◌+◌, ◌/◌, ◌^◌, ◌<◌, ◌≤◌, ◌==◌, ⊎_elim, if◌then◌else◌, codes, flat_map, Option, Some, ap₂, Bool, true, false, ◌||◌, List, [], ◌∷◌, ◌++◌, length, get_or, take, drop, set, map, None, refl, sym, ap, ◌∙◌, subst, append_assoc, append-nil, length-append, arith}
 use Rattle.std.proofs.lemmas.List.{take_all, take_more, drop_all, map-append, take_more_set, drop-set-lt, length-set, length-map, length-take-le, get_or-drop, get_or-take, get_or-map, get_or_default, get_or-set_same, get_or-set_other, get_or_past}
 use Rattle.std.proofs.lemmas.Bool.{cases_lt, cases_eq}
-use Rattle.std.proofs.Math.Nat.{two-pow-succ}
+use Rattle.std.proofs.lemmas.Nat.{pow_pos}
 use Rattle.std.specs.Prelude.{slice_index}
 use Rattle.std.proofs.lemmas.Grind.{drop_more_same}
 use Rattle.std.proofs.Math.Seq.{map-set_same}
@@ -148,14 +148,10 @@ pair_fits r w x y ws inputs f g h = record { count = ap (λ n. suc (suc n)) h.co
     at (suc zero) l = g
     at (suc (suc i)) l = h.each i (omega (arith, l))
 
-power_above : (n : ℕ) → 0 < 2 ^ n
-power_above zero = omega arith
-power_above (suc n) = let h : 0 < 2 ^ n = power_above n in let e : 2 ^ suc n ≡ 2 ^ n + 2 ^ n = two-pow-succ n in omega (arith, h, e)
-
 answer_fits : (w : ℕ) (words : List ℕ) (o : Option ℕ) (b : Bool) (ws inputs : List ℕ) → ((a : ℕ) → slice_index words a < 2 ^ w) → InputsFit ws inputs → InputsFit (1 ∷ w ∷ ws) (answer words o b ++ inputs)
-answer_fits w words None b ws inputs f h = pair_fits 1 w 0 0 ws inputs (omega arith) (power_above w) h
+answer_fits w words None b ws inputs f h = pair_fits 1 w 0 0 ws inputs (omega arith) (pow_pos w) h
 answer_fits w words (Some a) true ws inputs f h = pair_fits 1 w 1 (slice_index words a) ws inputs (omega arith) (f a) h
-answer_fits w words (Some a) false ws inputs f h = pair_fits 1 w 0 0 ws inputs (omega arith) (power_above w) h
+answer_fits w words (Some a) false ws inputs f h = pair_fits 1 w 0 0 ws inputs (omega arith) (pow_pos w) h
 
 pub inputs_fit : (ws : List ℕ) (ms : List Store) (bits : ℕ) → WordsFit ws ms → InputsFit ws (answers ms bits)
 inputs_fit [] [] bits f = record { count = refl; each = λ i l. absurd (omega (arith, l)) }
