@@ -1,4 +1,4 @@
-//! What no row of the program asks of its parts: faults of files and sinks, forms that aren't compiled yet, delay files, each lock alone and in a netlist, simulated netlists, flat forms as registers and nets, and public calls that the program doesn't make.
+//! What no row of the program asks of its parts: faults of files and sinks, forms that aren't compiled yet, delay files, each lock alone and in a netlist, the circuits beside the stages, simulated netlists, flat forms as registers and nets, and public calls that the program doesn't make.
 //!
 //! It has tests alone, and nothing stands on it.
 #![tactic(auto)]
@@ -30,6 +30,8 @@ mod path_rows;
 mod pending_rows;
 #[cfg(test)]
 mod plan_rows;
+#[cfg(test)]
+mod sides;
 #[cfg(test)]
 mod stagenets_rows;
 #[cfg(test)]

@@ -2,8 +2,8 @@
 ghost use Rattle.std.specs.Prelude.{◌≡◌, false, IfOk};
 
 mod bench;
-mod board;
-mod drive;
+pub mod board;
+pub mod drive;
 mod model;
 
 use crate::locks::bench::{Bench, emit_bench};
