@@ -9,3 +9,8 @@ pub mod Tails
 pub mod Squashed
 pub mod WholeCycle
 pub mod Stores
+pub mod Requests
+pub mod Named
+pub mod WholeOutputs
+pub mod NextStores
+pub mod WholeRuns
