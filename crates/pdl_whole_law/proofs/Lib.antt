@@ -6,4 +6,7 @@ pub mod PortsNext
 pub mod Removals
 pub mod OrderSides
 pub mod Tails
-pub mod Squashed
+pub mod DelayedReads
+pub mod WholeCycle
+pub mod FromRules
+pub mod Known
