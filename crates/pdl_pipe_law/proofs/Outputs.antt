@@ -21,12 +21,12 @@ use Rattle.pdl_pipe_law.proofs.Stood.{Stood}
 use Rattle.pdl_pipe_law.specs.Walk.{Locks, is_locked}
 use Rattle.pdl_pipe_law.specs.Views.{Gates, View}
 use Rattle.pdl_pipe_law.specs.Ports.{Shown, Commit, stages_shown, commit_shown, commits_shown, all_shown}
-use Rattle.pdl_pipe_law.specs.Compiled.{shown_in, port_in, IsCompiled}
+use Rattle.pdl_pipe_law.specs.Compiled.{shown_in, port_in, IsLaid, IsCompiled}
 use Rattle.pdl_pipe_law.specs.Stands.{StandsFor, IsSeen, IsSquashed}
 use Rattle.pdl_pipe_law.proofs.LockStep.{commit_as, commit_is}
 
 -- the outputs of a circuit with these ports
-outputs_all : (c : Circuit) (outs : List Output) → filter_map port_output (map (port_in c) outs) ≡ outs
+pub outputs_all : (c : Circuit) (outs : List Output) → filter_map port_output (map (port_in c) outs) ≡ outs
 outputs_all c [] = refl
 outputs_all c (o ∷ outs) = ap (λ l. o ∷ l) (outputs_all c outs)
 
@@ -34,9 +34,57 @@ outputs_all c (o ∷ outs) = ap (λ l. o ∷ l) (outputs_all c outs)
 abbrev pub shown_value : State → Shown → ℕ
 shown_value s f = f.signal.value s
 
-values_shown : (c : Circuit) (s : State) (outs : List Output) → map (λ (o : Output). net_value c s o.net) outs ≡ map (shown_value s) (map (shown_in c) outs)
+pub values_shown : (c : Circuit) (s : State) (outs : List Output) → map (λ (o : Output). net_value c s o.net) outs ≡ map (shown_value s) (map (shown_in c) outs)
 values_shown c s [] = refl
 values_shown c s (o ∷ outs) = ap (λ l. net_value c s o.net ∷ l) (values_shown c s outs)
+
+-- of each stage, where all are as the machine's
+module _ (p : Pipe) (vs : ℕ → View) (moves : ℕ → Signal) (s : State) (st : machine.State) (bits : List Bool) (seen : (j : ℕ) → j < length p.stages → IsSeen p vs moves s st bits j) where
+  pub stages_are : (n k : ℕ) (xs : List Stage) → k + n ≡ length p.stages → n ≡ length xs
+      → map (shown_value s) (stages_shown vs moves n k) ≡ stage_values (for_stages (λ i. is_some (slot st i)) k xs) (for_stages (λ i. stage_moves p st bits i) k xs)
+  stages_are zero k [] e f = refl
+  stages_are zero k (x ∷ xs) e f = absurd (omega (arith, f))
+  stages_are (suc n) k [] e f = absurd (omega (arith, f))
+  stages_are (suc n) k (x ∷ xs) e f =
+      ap₂ (λ a l. a ∷ l) (seen k (omega (arith, e))).valid
+      (ap₂ (λ a l. a ∷ l) (seen k (omega (arith, e))).leaves (stages_are n (suc k) xs (omega (arith, e)) (omega (arith, f))))
+
+
+-- of each memory with a lock
+module _ (names : ℕ → List ℕ) (s : State) (st : machine.State) where
+  abbrev pub commit_words : Commit → List ℕ
+  commit_words x = x.enable.value s ∷ x.addr.value s ∷ x.value.value s ∷ []
+
+  pub commits_are : (ms : List Act) (commits : ℕ → Commit) (m : ℕ) (xs : List Mem)
+      → ((i : ℕ) → i < length xs → has_lock (slice_index_or xs i plain_mem).lock ≡ true → commit_words (commits (m + i)) ≡ commit_values (slice_index_or xs i plain_mem).lock (port_write (taken_out st ms (m + i))))
+      → map (shown_value s) (commits_shown names commits m xs) ≡ all_commit_values xs (for_mems (λ i. port_write (taken_out st ms i)) m xs)
+  commits_are ms commits m [] h = refl
+  commits_are ms commits m (x ∷ xs) h =
+      map-append (shown_value s) (if has_lock x.lock then commit_shown (names m) (commits m) else []) (commits_shown names commits (suc m) xs)
+      ∙ ap₂ (λ a b. a ++ b) (mine x.lock (λ e. at (h 0 (omega arith) e)))
+      (commits_are ms commits (suc m) xs (λ i l e. later i (h (suc i) (omega (arith, l)) e)))
+    where
+      at : commit_words (commits (m + 0)) ≡ commit_values x.lock (port_write (taken_out st ms (m + 0))) → commit_words (commits m) ≡ commit_values x.lock (port_write (taken_out st ms m))
+      at e = ap (λ i. commit_words (commits i)) (sym (add-zero m)) ∙ e ∙ ap (λ i. commit_values x.lock (port_write (taken_out st ms i))) (add-zero m)
+
+      mine : (l : Lock) → (has_lock l ≡ true → commit_words (commits m) ≡ commit_values l (port_write (taken_out st ms m))) → map (shown_value s) (if has_lock l then commit_shown (names m) (commits m) else []) ≡ commit_values l (port_write (taken_out st ms m))
+      mine l g = told (has_lock l) refl
+        where
+          told : (b : Bool) → has_lock l ≡ b → map (shown_value s) (if b then commit_shown (names m) (commits m) else []) ≡ commit_values l (port_write (taken_out st ms m))
+          told false e = ap (λ (x : Lock). commit_values x (port_write (taken_out st ms m))) (sym (plain_is l e))
+          told true e = g e
+
+      later : (i : ℕ) → commit_words (commits (m + suc i)) ≡ commit_values (slice_index_or xs i plain_mem).lock (port_write (taken_out st ms (m + suc i))) → commit_words (commits (suc m + i)) ≡ commit_values (slice_index_or xs i plain_mem).lock (port_write (taken_out st ms (suc m + i)))
+      later i e = let z : m + suc i ≡ suc m + i = omega arith in subst (λ j. commit_words (commits j) ≡ commit_values (slice_index_or xs i plain_mem).lock (port_write (taken_out st ms j))) z e
+
+
+-- what a lock commits
+pub commit_laid : (p : Pipe) (names : ℕ → List ℕ) (ls : Locks) (vs : ℕ → View) (gates : Gates) (moves : ℕ → Signal) (c : Circuit) (laid : IsLaid p ls vs gates moves c) (s : State) (st : machine.State) (bits : List Bool) → StandsFor p ls vs s st → IsInUse p st bits → IsByStages p st bits → ((j : ℕ) → j < length p.stages → IsSeen p vs moves s st bits j)
+    → ((k : ℕ) (t : Thread) → here p st bits k ≡ Some t → Stood st k t) → IsSquashed p ls vs gates s st bits → (m : ℕ) → is_locked p m ≡ true → commit_words names s st (laid.commits m) ≡ commit_values (mem_at p m).lock (port_write (taken_out st (moving p st bits) m))
+commit_laid p names ls vs gates moves c laid s st bits stands used by seen stood squashed m e =
+    let x = laid.locks m e in
+    commit_is p ls vs moves s st bits by used seen stood m e (stands.locks m e) gates squashed x.kind (laid.owns m) c (laid.commits m) x.step
+    ∙ sym (commit_as (ls.kind m) (ls.size m) (mem_at p m).lock (taken_out st (moving p st bits) m) x.kind)
 
 module _ (p : Pipe) (names : ℕ → List ℕ) (ls : Locks) (vs : ℕ → View) (gates : Gates) (moves : ℕ → Signal) (c : Circuit) (made : IsCompiled p names ls vs gates moves c) where
   pub outputs_made : outputs_of c ≡ made.outs
@@ -48,43 +96,7 @@ module _ (p : Pipe) (names : ℕ → List ℕ) (ls : Locks) (vs : ℕ → View) 
 
   module _ (s : State) (st : machine.State) (bits : List Bool) (stands : StandsFor p ls vs s st) (used : IsInUse p st bits) (by : IsByStages p st bits) (some : 1 ≤ length p.stages)
       (seen : (j : ℕ) → j < length p.stages → IsSeen p vs moves s st bits j) (stood : (k : ℕ) (t : Thread) → here p st bits k ≡ Some t → Stood st k t) (squashed : IsSquashed p ls vs gates s st bits) where
-    stages_are : (n k : ℕ) (xs : List Stage) → k + n ≡ length p.stages → n ≡ length xs
-        → map (shown_value s) (stages_shown vs moves n k) ≡ stage_values (for_stages (λ i. is_some (slot st i)) k xs) (for_stages (λ i. stage_moves p st bits i) k xs)
-    stages_are zero k [] e f = refl
-    stages_are zero k (x ∷ xs) e f = absurd (omega (arith, f))
-    stages_are (suc n) k [] e f = absurd (omega (arith, f))
-    stages_are (suc n) k (x ∷ xs) e f =
-        ap₂ (λ a l. a ∷ l) (seen k (omega (arith, e))).valid
-        (ap₂ (λ a l. a ∷ l) (seen k (omega (arith, e))).leaves (stages_are n (suc k) xs (omega (arith, e)) (omega (arith, f))))
-
-    -- COMMITS
-
-    abbrev commit_words : Commit → List ℕ
-    commit_words x = x.enable.value s ∷ x.addr.value s ∷ x.value.value s ∷ []
-
-    commits_are : (ms : List Act) (commits : ℕ → Commit) (m : ℕ) (xs : List Mem)
-        → ((i : ℕ) → i < length xs → has_lock (slice_index_or xs i plain_mem).lock ≡ true → commit_words (commits (m + i)) ≡ commit_values (slice_index_or xs i plain_mem).lock (port_write (taken_out st ms (m + i))))
-        → map (shown_value s) (commits_shown names commits m xs) ≡ all_commit_values xs (for_mems (λ i. port_write (taken_out st ms i)) m xs)
-    commits_are ms commits m [] h = refl
-    commits_are ms commits m (x ∷ xs) h =
-        map-append (shown_value s) (if has_lock x.lock then commit_shown (names m) (commits m) else []) (commits_shown names commits (suc m) xs)
-        ∙ ap₂ (λ a b. a ++ b) (mine x.lock (λ e. at (h 0 (omega arith) e)))
-        (commits_are ms commits (suc m) xs (λ i l e. later i (h (suc i) (omega (arith, l)) e)))
-      where
-        at : commit_words (commits (m + 0)) ≡ commit_values x.lock (port_write (taken_out st ms (m + 0))) → commit_words (commits m) ≡ commit_values x.lock (port_write (taken_out st ms m))
-        at e = ap (λ i. commit_words (commits i)) (sym (add-zero m)) ∙ e ∙ ap (λ i. commit_values x.lock (port_write (taken_out st ms i))) (add-zero m)
-
-        mine : (l : Lock) → (has_lock l ≡ true → commit_words (commits m) ≡ commit_values l (port_write (taken_out st ms m))) → map (shown_value s) (if has_lock l then commit_shown (names m) (commits m) else []) ≡ commit_values l (port_write (taken_out st ms m))
-        mine l g = told (has_lock l) refl
-          where
-            told : (b : Bool) → has_lock l ≡ b → map (shown_value s) (if b then commit_shown (names m) (commits m) else []) ≡ commit_values l (port_write (taken_out st ms m))
-            told false e = ap (λ (x : Lock). commit_values x (port_write (taken_out st ms m))) (sym (plain_is l e))
-            told true e = g e
-
-        later : (i : ℕ) → commit_words (commits (m + suc i)) ≡ commit_values (slice_index_or xs i plain_mem).lock (port_write (taken_out st ms (m + suc i))) → commit_words (commits (suc m + i)) ≡ commit_values (slice_index_or xs i plain_mem).lock (port_write (taken_out st ms (suc m + i)))
-        later i e = let z : m + suc i ≡ suc m + i = omega arith in subst (λ j. commit_words (commits j) ≡ commit_values (slice_index_or xs i plain_mem).lock (port_write (taken_out st ms j))) z e
-
-    commit_at : (m : ℕ) → is_locked p m ≡ true → commit_words (made.commits m) ≡ commit_values (mem_at p m).lock (port_write (taken_out st (moving p st bits) m))
+    commit_at : (m : ℕ) → is_locked p m ≡ true → commit_words names s st (made.commits m) ≡ commit_values (mem_at p m).lock (port_write (taken_out st (moving p st bits) m))
     commit_at m e =
         let x = made.locks m e in
         commit_is p ls vs moves s st bits by used seen stood m e (stands.locks m e) gates squashed x.kind (made.owns m) c (made.commits m) x.step
@@ -97,8 +109,8 @@ module _ (p : Pipe) (names : ℕ → List ℕ) (ls : Locks) (vs : ℕ → View) 
         let stages = stages_shown vs moves n 0 in
         let commits = commits_shown names made.commits 0 p.mems in
         let o = ports_of p st bits in
-        let valids = stages_are n 0 p.stages (omega arith) refl ∙ ap₂ stage_values (sym by.valid) (sym by.moves) in
-        let taken = commits_are (moving p st bits) made.commits 0 p.mems (λ i l e. zero_plus i (commit_at i e)) ∙ ap (all_commit_values p.mems) (sym by.commits) in
+        let valids = stages_are p vs moves s st bits seen n 0 p.stages (omega arith) refl ∙ ap₂ stage_values (sym by.valid) (sym by.moves) in
+        let taken = commits_are names s st (moving p st bits) made.commits 0 p.mems (λ i l e. zero_plus i (commit_at i e)) ∙ ap (all_commit_values p.mems) (sym by.commits) in
         let ended = (seen (n - 1) (omega (arith, some))).leaves ∙ ap bit (sym by.ended) in
         let squash : gates.squash.value s ≡ bit o.squash = squashed.squash ∙ ap bit (sym by.squash) in
         outputs_are s
@@ -106,6 +118,6 @@ module _ (p : Pipe) (names : ℕ → List ℕ) (ls : Locks) (vs : ℕ → View) 
         ∙ ap₂ (λ a b. a ++ b) valids (map-append value commits _ ∙ ap₂ (λ a b. a ++ b) taken (ap₂ (λ a b. a ∷ b ∷ []) ended squash))
         ∙ sym (append_assoc (stage_values o.valid o.moves) (all_commit_values p.mems o.commits) (bit o.ended ∷ bit o.squash ∷ []))
       where
-        zero_plus : (i : ℕ) → commit_words (made.commits i) ≡ commit_values (mem_at p i).lock (port_write (taken_out st (moving p st bits) i))
-            → commit_words (made.commits (0 + i)) ≡ commit_values (mem_at p i).lock (port_write (taken_out st (moving p st bits) (0 + i)))
-        zero_plus i e = let z : i ≡ 0 + i = omega arith in subst (λ j. commit_words (made.commits j) ≡ commit_values (mem_at p i).lock (port_write (taken_out st (moving p st bits) j))) z e
+        zero_plus : (i : ℕ) → commit_words names s st (made.commits i) ≡ commit_values (mem_at p i).lock (port_write (taken_out st (moving p st bits) i))
+            → commit_words names s st (made.commits (0 + i)) ≡ commit_values (mem_at p i).lock (port_write (taken_out st (moving p st bits) (0 + i)))
+        zero_plus i e = let z : i ≡ 0 + i = omega arith in subst (λ j. commit_words names s st (made.commits j) ≡ commit_values (mem_at p i).lock (port_write (taken_out st (moving p st bits) j))) z e

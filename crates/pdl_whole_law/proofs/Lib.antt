@@ -6,7 +6,8 @@ pub mod PortsNext
 pub mod Removals
 pub mod OrderSides
 pub mod Tails
-pub mod DelayedReads
 pub mod WholeCycle
+pub mod Stores
+pub mod DelayedReads
 pub mod FromRules
 pub mod Known

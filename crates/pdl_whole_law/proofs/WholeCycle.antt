@@ -33,16 +33,16 @@ use Rattle.pdl_whole_law.specs.Standing.{IsLawful, IsKnown}
 use Rattle.pdl_whole_law.proofs.WaitingStep.{here_low}
 use Rattle.pdl_whole_law.proofs.PortSides.{PortStands, IsGiven, awaits_told, variable_told, ports_told}
 use Rattle.pdl_whole_law.proofs.PortsNext.{ports_first, ports_next}
-use Rattle.pdl_whole_law.proofs.Removals.{removes, unsquashed_is, barrier_is, squash_is, kill_is, kill_here}
+use Rattle.pdl_whole_law.proofs.Removals.{removes, unsquashed_is, barrier_is, kill_is}
 use Rattle.pdl_whole_law.proofs.OrderSides.{order_starts, order_kept, merges_is}
-use Rattle.pdl_whole_law.proofs.Tails.{StandTails, tails_first, tail_is, tails_kept}
+use Rattle.pdl_whole_law.proofs.Squashed.{TailsStand, tails_start, squashed_is, tails_next}
 
 -- the stages and the locks, the ports, the orders, and the second tickets stand for the machine's
 pub record WholeStands (p : Pipe) (ls : Locks) (vs : ℕ → View) (sides : Sides) (s : State) (st : machine.State) : Type 0 where
   pub stands : StandsFor p ls vs s st
   pub ports : (m : ℕ) (r : Reading) → reading p m ≡ Some r → PortStands p sides s st m r
   pub orders : (f q : ℕ) → f < length p.stages → (stage_at p q).merges ≡ Some f → (sides.order f).stands s (fork_of st f)
-  pub tails : (v : ℕ) → verify_stage p.stmts ≡ Some v → StandTails p ls vs sides v s st
+  pub tails : TailsStand p ls vs sides s st
 
 module _ (p : Pipe) (lawful : IsLawful p) (ls : Locks) (vs : ℕ → View) (gates : Gates) (moves : ℕ → Signal) (sides : Sides) (c : Circuit) (laid : IsLaid p ls vs gates moves c) (beside : HasSides p ls c vs gates moves sides) where
   -- THE START
@@ -52,7 +52,7 @@ module _ (p : Pipe) (lawful : IsLawful p) (ls : Locks) (vs : ℕ → View) (gate
     stands = stands;
     ports = λ m r is. ports_first p c vs gates moves sides (beside.port_owns m) m r (beside.ports m r is) image s regs;
     orders = λ f q low e. order_starts p c vs gates moves sides (beside.order_owns f) f low (beside.orders f q low e) image s regs;
-    tails = λ v e. tails_first p ls vs sides v image s;
+    tails = tails_start p ls vs sides image s;
   }
 
   -- A CYCLE
@@ -93,22 +93,7 @@ module _ (p : Pipe) (lawful : IsLawful p) (ls : Locks) (vs : ℕ → View) (gate
 
     -- and squashes are
     pub squashed_whole : IsSquashed p ls vs gates s st bits
-    squashed_whole = record {
-      kill = λ k t h g. kill_here p lawful.sound c vs gates moves sides beside.removals s st bits suits known.flight known.by whole.stands.valid seen_whole k t (low k t h) h;
-      squash = squash_is p lawful.sound c vs gates moves sides beside.removals s st bits suits known.flight known.by whole.stands.valid seen_whole;
-      tail = λ m n locked stand e. at m n locked stand e (verify_stage p.stmts) refl;
-    }
-      where
-        low : (k : ℕ) (t : Thread) → here p st bits k ≡ Some t → k < length p.stages
-        low k t h = here_low p st bits known.flight.count k t h
-
-        none_some : (n : ℕ) → None ≡ Some n → ⊥
-        none_some n i = cc i
-
-        at : (m n : ℕ) (locked : is_locked p m ≡ true) (stand : StandsLock p ls vs s st m) → squasher (moving p st bits) ≡ Some n → (o : Option ℕ) → verify_stage p.stmts ≡ o
-            → holds_ticket (ls.bits m) (gates.tail m) s (stand.base + bit (has_release m (moving p st bits)) + count_older (suc n) (list_three st (moving p st bits) m))
-        at m n locked stand e None f = absurd (none_some n (sym (no_squasher p f st bits) ∙ e))
-        at m n locked stand e (Some v) f = tail_is p lawful.sound lawful.leads ls c vs gates moves laid sides v f (beside.tails v f) s st bits suits known.flight known.by known.used known.cut seen_whole (stood p st bits) (whole.tails v f) m locked stand n e
+    squashed_whole = squashed_is p lawful.sound lawful.leads ls c vs gates moves laid sides beside s st bits suits known.flight known.by known.used known.cut seen_whole whole.tails
 
     -- and the next state stands for the machine's
     pub whole_next : (t : State) → Suits c t → t.regs ≡ next_regs c s → t.arrays ≡ next_arrays c s → WholeStands p ls vs sides t (cycle p st bits)
@@ -120,5 +105,5 @@ module _ (p : Pipe) (lawful : IsLawful p) (ls : Locks) (vs : ℕ → View) (gate
           (λ k l. kill_is p lawful.sound c vs gates moves sides beside.removals s st bits suits known.flight known.by whole.stands.valid seen_whole k l)
           (λ k u e. ap (removes (squasher (moving p st bits))) e) whole.stands.long t regs arrays;
       orders = λ f q low e. order_kept p c vs gates moves sides (beside.order_owns f) f low (beside.orders f q low e) s st bits known.by seen_whole squashed_whole.squash lawful.sound lawful.leads known.flight.count known.next (whole.orders f q low e) t regs arrays;
-      tails = λ v e. tails_kept p lawful.sound lawful.leads ls c vs gates moves laid sides v e (beside.tails v e) s st bits suits known.flight known.by known.used known.cut seen_whole (stood p st bits) (whole.tails v e) whole.stands.locks squashed_whole t regs arrays;
+      tails = tails_next p lawful.sound lawful.leads ls c vs gates moves laid sides beside s st bits suits known.flight known.by known.used known.cut seen_whole whole.tails whole.stands.locks t regs arrays;
     }

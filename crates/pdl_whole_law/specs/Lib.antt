@@ -2,3 +2,4 @@ pub mod Sides
 pub mod HasSides
 pub mod Whole
 pub mod Standing
+pub mod Outside
