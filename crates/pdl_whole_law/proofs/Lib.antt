@@ -6,6 +6,7 @@ pub mod PortsNext
 pub mod Removals
 pub mod OrderSides
 pub mod Tails
+pub mod Squashed
 pub mod WholeCycle
 pub mod Stores
 pub mod DelayedReads

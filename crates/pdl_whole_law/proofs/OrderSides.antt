@@ -22,14 +22,14 @@ use Rattle.pdl_machine_facts.specs.Slots.{LeadsOn, here, slot_moves, stage_moves
 use Rattle.pdl_machine_facts.specs.Cycle.{IsByStages}
 use Rattle.pdl_machine_facts.proofs.StagewisePorts.{at_stage}
 use Rattle.pdl_pipe_law.specs.Lives.{forks_by}
-use Rattle.pdl_pipe_law.specs.Walk.{Walk, one, zero_bit, both}
+use Rattle.pdl_pipe_law.specs.Walk.{Locks, Walk, one, zero_bit, both}
 use Rattle.pdl_pipe_law.specs.Views.{View, Gates, way_on}
 use Rattle.pdl_pipe_law.specs.Stands.{IsSo, IsSeen}
 use Rattle.pdl_pipe_law.proofs.Signals.{mux_at, mux_by, one_is, zero_is}
 use Rattle.pdl_pipe_law.proofs.Moves.{ready_of, lives_fork}
 use Rattle.pdl_inflight.specs.InFlight.{InFlight}
 use Rattle.pdl_whole_law.specs.Sides.{Sides, OrderNets, into_first, into_second, merging, into_merge, leaves_fork, order_step, branch_turn, merge_turn, turn}
-use Rattle.pdl_whole_law.specs.HasSides.{HasOrder}
+use Rattle.pdl_whole_law.specs.HasSides.{HasOrder, HasSides}
 use Rattle.pdl_whole_law.proofs.Forking.{goes_first, goes_second, if_moves, order_act, step_is, proper_order}
 
 -- ---- WAYS
@@ -243,3 +243,23 @@ module _ (p : Pipe) (sound : Sound p) (c : Circuit) (vs : ℕ → View) (gates :
           at (Some f) m =
               let low = fork_low k q f d.env l e m in
               turn_is p c vs gates moves sides (owns f) f (orders f q low m) s st (stage_at p k).branch (stands f q low m)
+
+-- ---- ALL FORKS
+
+-- the order of each fork that is merged stands for its list
+abbrev pub OrdersStand : Pipe → Sides → State → machine.State → Type 0
+OrdersStand p sides s st = (f q : ℕ) → f < length p.stages → (stage_at p q).merges ≡ Some f → (sides.order f).stands s (fork_of st f)
+
+module _ (p : Pipe) (ls : Locks) (c : Circuit) (vs : ℕ → View) (gates : Gates) (moves : ℕ → Signal) (sides : Sides) (has : HasSides p ls c vs gates moves sides) where
+  pub orders_first : (image : Arrays) (s : State) → s.regs ≡ map (λ (r : Reg). r.reset) c.regs → OrdersStand p sides s (first p image)
+  orders_first image s regs f q low m = order_starts p c vs gates moves sides (has.order_owns f) f low (has.orders f q low m) image s regs
+
+  pub orders_next : Sound p → LeadsOn p → (s t : State) (st : machine.State) (bits : List Bool) → IsByStages p st bits → ((j : ℕ) → j < length p.stages → IsSeen p vs moves s st bits j) → gates.squash.value s ≡ bit (is_some (squasher (moving p st bits)))
+      → InFlight p st → InFlight p (cycle p st bits) → OrdersStand p sides s st → t.regs ≡ next_regs c s → t.arrays ≡ next_arrays c s → OrdersStand p sides t (cycle p st bits)
+  orders_next sound leads s t st bits by seen squash flight flight' stands regs arrays f q low m =
+      order_kept p c vs gates moves sides (has.order_owns f) f low (has.orders f q low m) s st bits by seen squash sound leads flight.count flight' (stands f q low m) t regs arrays
+
+  -- whether it is a thread's turn at a merge
+  pub merges_told : Sound p → (s : State) (st : machine.State) → OrdersStand p sides s st → (k : ℕ) (d : Deeds) → k < length p.stages → IsSo p k s (vs k).ended d
+      → (way_on (stage_at p k).next (turn p sides k) (vs k).ended).value s ≡ bit (merges_well p st k (next_stage p k d))
+  merges_told sound s st stands k d l so = merges_is p sound c vs gates moves sides has.order_owns has.orders s st stands k (vs k).ended d l (λ x e. so.env x (lives_fork p k x l e))
