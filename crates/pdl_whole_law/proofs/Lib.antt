@@ -14,3 +14,6 @@ pub mod Named
 pub mod WholeOutputs
 pub mod NextStores
 pub mod WholeRuns
+pub mod DelayedReads
+pub mod FromRules
+pub mod Known
