@@ -1,8 +1,8 @@
 -- Where a squash cuts each lock: the second tickets of threads up to V are carried from cycle to cycle, and that of V's thread is where its squash cuts.
-use Rattle.std.proofs.Common.{◌≡◌, refl, sym, ap, ap₂, ◌∙◌, subst, ℕ, zero, suc, ◌+◌, ◌-◌, ◌*◌, ◌%◌, ◌^◌, ◌<◌, ◌≤◌, ◌⊎◌, inl, inr, ⊎_elim, Bool, true, false, List, [], ◌∷◌, ◌++◌, length, map, Option, Some, None, arith, ◌==◌, ne_eqb}
+use Rattle.std.proofs.Common.{◌≡◌, refl, sym, ap, ap₂, ◌∙◌, subst, ℕ, zero, suc, ◌+◌, ◌-◌, ◌*◌, ◌%◌, ◌^◌, ◌<◌, ◌≤◌, ⊎_elim, Bool, true, false, List, [], ◌∷◌, ◌++◌, length, map, Option, Some, None, arith, ◌==◌, ne_eqb}
 use Rattle.std.specs.Prelude.{if◌then◌else◌, slice_index, ⊤}
 use Rattle.std.proofs.Math.Nat.{mod-add-mod, add-mul-mod_self_right, le-mul_of_pos_right}
-use Rattle.std.proofs.lemmas.Bool.{eqb-true, cases_lt, false≢true}
+use Rattle.std.proofs.lemmas.Bool.{cases_lt}
 use Rattle.std.proofs.lemmas.List.{length-map}
 use Rattle.std.proofs.lemmas.Nat.{pow_pos}
 use Rattle.pdl_word.specs.Words.{bit}
@@ -18,20 +18,19 @@ use Rattle.pdl_net.specs.Circuit.{Circuit, State}
 use Rattle.pdl_net.specs.Signal.{Signal}
 use Rattle.pdl_net.specs.Cycle.{next_regs, next_arrays}
 use Rattle.pdl_net.specs.Well.{Suits}
-use Rattle.pdl_lockapi.specs.Lock.{next_ticket}
 use Rattle.pdl_lockapi.specs.Laws.{holds_ticket}
-use Rattle.pdl_lockapi.specs.Forget.{forget, lock_state_of, addresses}
+use Rattle.pdl_lockapi.specs.Forget.{forget, lock_state_of}
 use Rattle.pdl_lockapi.proofs.Next.{is_next}
-use Rattle.pdl_machine_facts.specs.Slots.{LeadsOn, slot, here, slot_moves, stage_moves, moving, ways, ways_from, leads_to, act_at, thread_into, passing_thread, first_of, arriving_thread, staying_thread}
-use Rattle.pdl_machine_facts.specs.Cycle.{newborn, IsByStages}
+use Rattle.pdl_machine_facts.specs.Slots.{LeadsOn, slot, here, stage_moves, moving, ways, ways_from, leads_to, act_at, thread_into, passing_thread, first_of, arriving_thread, staying_thread}
+use Rattle.pdl_machine_facts.specs.Cycle.{IsByStages}
 use Rattle.pdl_machine_facts.specs.Use.{IsInUse}
 use Rattle.pdl_machine_facts.proofs.StagewisePorts.{at_stage, past_stage}
 use Rattle.pdl_lockuse.specs.Cut.{IsCut}
-use Rattle.pdl_pipe_law.specs.Walk.{Locks, Walk, is_locked, is_on, one, zero_bit, both}
-use Rattle.pdl_pipe_law.specs.Views.{View, Gates, Comer, branch, out_of, new_from, comers, first_coming}
+use Rattle.pdl_pipe_law.specs.Walk.{Locks, Walk, is_locked, is_on, one, zero_bit}
+use Rattle.pdl_pipe_law.specs.Views.{View, Gates, Comer, branch, out_of, new_from, comers}
 use Rattle.pdl_pipe_law.specs.Compiled.{IsLaid}
 use Rattle.pdl_pipe_law.specs.Stands.{StandsLock, IsSeen, IsSquashed}
-use Rattle.pdl_pipe_law.proofs.Signals.{mux_at, one_is, zero_is, on_is}
+use Rattle.pdl_pipe_law.proofs.Signals.{one_is, zero_is, on_is}
 use Rattle.pdl_pipe_law.proofs.Stood.{Stood}
 use Rattle.pdl_pipe_law.proofs.Moves.{ready_of, lives_fork}
 use Rattle.pdl_pipe_law.proofs.LockActs.{reserves_are, pending_count}
