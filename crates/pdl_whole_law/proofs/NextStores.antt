@@ -184,6 +184,7 @@ module _ (p : Pipe) (lawful : IsLawful p) (st : machine.State) (bits : List Bool
           λ j. record {
             words = committed_words y.words ((sym q.commit ∙ ap (commit_of c (output_values c s)) (sym n.0)) j);
             request = outstanding y.request (replied_here p bits m x xs b d r j) ((sym q.request ∙ ap (net_run.request_of c (output_values c s)) (sym n.0)) j);
-          } in
-          (subst (λ z. IsStore (cycle p st bits) m x z) told (subst (λ z. IsStore (cycle p st bits) m z (record { words = committed_words y.words (write_of (port_write (taken_out st (moving p st bits) m))); request = outstanding y.request (is_answered p bits m) (asked_in (moving p st bits) m) })) mem mine),
-          go is ys n.1 (b / 2) w.1 (replied_after p bits m x xs b true d r))
+          } in (
+            subst (λ z. IsStore (cycle p st bits) m x z) told (subst (λ z. IsStore (cycle p st bits) m z (record { words = committed_words y.words (write_of (port_write (taken_out st (moving p st bits) m))); request = outstanding y.request (is_answered p bits m) (asked_in (moving p st bits) m) })) mem mine),
+            go is ys n.1 (b / 2) w.1 (replied_after p bits m x xs b true d r),
+          )

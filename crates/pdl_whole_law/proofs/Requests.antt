@@ -177,8 +177,8 @@ module _ (p : Pipe) (reads : Reads p) (st : MachineState) (bits : List Bool) (m 
             let so = ((seen r.stage low).follows t f.1).so (ready_of p st bits r.stage t by low f.1 f.2) in
             let mine : asked_in (moving p st bits) m ≡ address_of m (stands.asked_in s (vs r.stage).ended.asks) None = asked ∙ ap₂ (λ b o. asked_there r e b o) f.2 f.1 ∙ ap (λ (qs : List Ask). address_of m qs None) so.asks in (
               asks_value s m (moves r.stage) true ((seen r.stage low).leaves ∙ ap bit f.2) (vs r.stage).ended.asks
-              ∙ ap bit (sym (some_address m (stands.asked_in s (vs r.stage).ended.asks)))
-              ∙ ap (λ (o : Option ℕ). bit (is_some o)) (sym mine),
+                  ∙ ap bit (sym (some_address m (stands.asked_in s (vs r.stage).ended.asks)))
+                  ∙ ap (λ (o : Option ℕ). bit (is_some o)) (sym mine),
               address_value s m (moves r.stage) true ((seen r.stage low).leaves ∙ ap bit f.2) (vs r.stage).ended.asks ∙ ap address_or (sym mine),
             )
 
