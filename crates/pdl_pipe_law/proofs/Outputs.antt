@@ -49,7 +49,6 @@ module _ (p : Pipe) (vs : ℕ → View) (moves : ℕ → Signal) (s : State) (st
       ap₂ (λ a l. a ∷ l) (seen k (omega (arith, e))).valid
       (ap₂ (λ a l. a ∷ l) (seen k (omega (arith, e))).leaves (stages_are n (suc k) xs (omega (arith, e)) (omega (arith, f))))
 
-
 -- of each memory with a lock
 module _ (names : ℕ → List ℕ) (s : State) (st : machine.State) where
   abbrev pub commit_words : Commit → List ℕ
@@ -76,7 +75,6 @@ module _ (names : ℕ → List ℕ) (s : State) (st : machine.State) where
 
       later : (i : ℕ) → commit_words (commits (m + suc i)) ≡ commit_values (slice_index_or xs i plain_mem).lock (port_write (taken_out st ms (m + suc i))) → commit_words (commits (suc m + i)) ≡ commit_values (slice_index_or xs i plain_mem).lock (port_write (taken_out st ms (suc m + i)))
       later i e = let z : m + suc i ≡ suc m + i = omega arith in subst (λ j. commit_words (commits j) ≡ commit_values (slice_index_or xs i plain_mem).lock (port_write (taken_out st ms j))) z e
-
 
 -- what a lock commits
 pub commit_laid : (p : Pipe) (names : ℕ → List ℕ) (ls : Locks) (vs : ℕ → View) (gates : Gates) (moves : ℕ → Signal) (c : Circuit) (laid : IsLaid p ls vs gates moves c) (s : State) (st : machine.State) (bits : List Bool) → StandsFor p ls vs s st → IsInUse p st bits → IsByStages p st bits → ((j : ℕ) → j < length p.stages → IsSeen p vs moves s st bits j)

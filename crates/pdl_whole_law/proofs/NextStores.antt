@@ -10,7 +10,7 @@ use Rattle.pdl_semantics.specs.Stages.{plain_mem, mem_at}
 use Rattle.pdl_semantics.specs.Locks.{commit_value}
 use Rattle.pdl_semantics.specs.Machine as machine
 use Rattle.pdl_semantics.specs.Machine.{Pending, Request, NoRequest, Owned, Orphan, is_answered, request_of}
-use Rattle.pdl_semantics.specs.Cycle.{cycle, squasher, taken_out, port_write, with_commit, oldest, list_two, asked_in, request_next, request_left, is_outstanding, waits_from, for_mems}
+use Rattle.pdl_semantics.specs.Cycle.{cycle, squasher, taken_out, port_write, with_commit, asked_in, request_next, request_left, is_outstanding, waits_from, for_mems}
 use Rattle.pdl_simulation.proofs.PerMemory.{at_mem}
 use Rattle.pdl_net.specs.Circuit.{Circuit, State}
 use Rattle.pdl_net.specs.Run.{Store, reply, committed_words, outstanding, next_stores, commit_of, is_waiting, some_waits}
@@ -18,8 +18,6 @@ use Rattle.pdl_net.specs.Run as net_run
 use Rattle.pdl_net.specs.Cycle.{output_values}
 use Rattle.pdl_machine_facts.specs.Slots.{moving}
 use Rattle.pdl_machine_facts.proofs.Stagewise.{next_is}
-use Rattle.pdl_pipe_law.specs.Walk.{is_locked}
-use Rattle.pdl_pipe_law.proofs.StageLooks.{plain_is}
 use Rattle.pdl_inflight.specs.Readings.{reading}
 use Rattle.pdl_whole_law.specs.Standing.{IsLawful, IsKnown}
 use Rattle.pdl_whole_law.specs.Outside.{address_asked, IsStore, StoreThen, AreStores}
@@ -184,6 +182,7 @@ module _ (p : Pipe) (lawful : IsLawful p) (st : machine.State) (bits : List Bool
           λ j. record {
             words = committed_words y.words ((sym q.commit ∙ ap (commit_of c (output_values c s)) (sym n.0)) j);
             request = outstanding y.request (replied_here p bits m x xs b d r j) ((sym q.request ∙ ap (net_run.request_of c (output_values c s)) (sym n.0)) j);
-          } in
-          (subst (λ z. IsStore (cycle p st bits) m x z) told (subst (λ z. IsStore (cycle p st bits) m z (record { words = committed_words y.words (write_of (port_write (taken_out st (moving p st bits) m))); request = outstanding y.request (is_answered p bits m) (asked_in (moving p st bits) m) })) mem mine),
-          go is ys n.1 (b / 2) w.1 (replied_after p bits m x xs b true d r))
+          } in (
+            subst (λ z. IsStore (cycle p st bits) m x z) told (subst (λ z. IsStore (cycle p st bits) m z (record { words = committed_words y.words (write_of (port_write (taken_out st (moving p st bits) m))); request = outstanding y.request (is_answered p bits m) (asked_in (moving p st bits) m) })) mem mine),
+            go is ys n.1 (b / 2) w.1 (replied_after p bits m x xs b true d r),
+          )

@@ -1,5 +1,5 @@
 -- The requests that a cycle makes, as the machine shows them and as the netlist does.
-use Rattle.std.proofs.Common.{◌≡◌, refl, sym, ap, ap₂, ◌∙◌, subst, ℕ, zero, suc, ◌+◌, ◌≤◌, ◌<◌, ◌⊎◌, inl, inr, Bool, true, false, ◌&&◌, ◌||◌, List, [], ◌∷◌, ◌++◌, length, Option, Some, None, is_some, arith, ◌==◌}
+use Rattle.std.proofs.Common.{◌≡◌, refl, sym, ap, ap₂, ◌∙◌, ℕ, zero, suc, ◌+◌, ◌≤◌, ◌<◌, ◌⊎◌, inl, inr, Bool, true, false, ◌||◌, List, [], ◌∷◌, ◌++◌, length, Option, Some, None, is_some, arith, ◌==◌}
 use Rattle.std.specs.Prelude.{if◌then◌else◌}
 use Rattle.std.proofs.lemmas.Bool.{eqb-true, eqb-false}
 use Rattle.pdl_word.specs.Words.{bit}
@@ -177,8 +177,8 @@ module _ (p : Pipe) (reads : Reads p) (st : MachineState) (bits : List Bool) (m 
             let so = ((seen r.stage low).follows t f.1).so (ready_of p st bits r.stage t by low f.1 f.2) in
             let mine : asked_in (moving p st bits) m ≡ address_of m (stands.asked_in s (vs r.stage).ended.asks) None = asked ∙ ap₂ (λ b o. asked_there r e b o) f.2 f.1 ∙ ap (λ (qs : List Ask). address_of m qs None) so.asks in (
               asks_value s m (moves r.stage) true ((seen r.stage low).leaves ∙ ap bit f.2) (vs r.stage).ended.asks
-              ∙ ap bit (sym (some_address m (stands.asked_in s (vs r.stage).ended.asks)))
-              ∙ ap (λ (o : Option ℕ). bit (is_some o)) (sym mine),
+                  ∙ ap bit (sym (some_address m (stands.asked_in s (vs r.stage).ended.asks)))
+                  ∙ ap (λ (o : Option ℕ). bit (is_some o)) (sym mine),
               address_value s m (moves r.stage) true ((seen r.stage low).leaves ∙ ap bit f.2) (vs r.stage).ended.asks ∙ ap address_or (sym mine),
             )
 
