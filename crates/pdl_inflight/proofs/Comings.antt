@@ -1,5 +1,5 @@
 -- Where the threads of the next state come from, by their stages.
-use Rattle.std.proofs.Common.{◌≡◌, refl, sym, ap, ap₂, ◌∙◌, subst, ℕ, ◌<◌, ◌≤◌, ◌⊎◌, inl, inr, ⊎_elim, ne_eqb, Bool, true, false, ◌&&◌, ◌||◌, List, [], ◌∷◌, length, Option, Some, None, is_none, arith, ◌==◌}
+use Rattle.std.proofs.Common.{◌≡◌, refl, sym, ap, ap₂, ◌∙◌, ℕ, ◌<◌, ◌≤◌, ◌⊎◌, inl, inr, ⊎_elim, ne_eqb, Bool, true, false, ◌&&◌, ◌||◌, List, [], ◌∷◌, length, Option, Some, None, is_none, arith, ◌==◌}
 use Rattle.std.specs.Prelude.{if◌then◌else◌}
 use Rattle.std.proofs.lemmas.Bool.{eqb-true, and_parts, false≢true, cases_lt}
 use Rattle.std.proofs.lemmas.List.{get_or_past}
@@ -9,7 +9,6 @@ use Rattle.pdl_semantics.specs.Moves.{next_stage, is_empty}
 use Rattle.pdl_semantics.specs.Cycle.{cycle, squasher, is_kept, if_kept, or_then, born_thread, child_of, thread_after, is_stage}
 use Rattle.pdl_machine_facts.specs.Slots.{slot, here, later_acts, locks_ready, may_pass, may_enter, stage_moves, moving, act_at, thread_into, passing_thread, first_of, ways, arriving_thread, staying_thread}
 use Rattle.pdl_machine_facts.specs.Cycle.{newborn, IsByStages}
-use Rattle.pdl_inflight.specs.InFlight.{InFlight}
 
 -- a thread of the next state is new, or moved there out of an earlier stage, or stayed
 pub data CameFrom (p : Pipe) (st : State) (bits : List Bool) (q : ℕ) (u : Thread) : Type 0 where

@@ -1,11 +1,11 @@
 -- What a stage's statements may do: they ask for the delayed reads of the stage, and only where the verifies stand does one fail.
-use Rattle.std.proofs.Common.{◌≡◌, refl, sym, ap, ◌∙◌, subst, ℕ, Bool, true, false, ◌&&◌, ◌||◌, not, List, [], ◌∷◌, ◌++◌, Option, Some, None, ◌==◌, cond, if◌then◌else◌}
-use Rattle.std.proofs.lemmas.Bool.{and_parts, eqb-true, false≢true}
+use Rattle.std.proofs.Common.{◌≡◌, refl, sym, ap, ◌∙◌, ℕ, Bool, true, false, ◌||◌, not, List, [], ◌∷◌, Some, None, ◌==◌, cond, if◌then◌else◌}
+use Rattle.std.proofs.lemmas.Bool.{and_parts, eqb-true}
 use Rattle.pdl_semantics.specs.Flat.{Op, Bind, CombRead, DelayedRead, Write, ReserveRead, ReserveWrite, Block, Release, Call, SpecCall, Verify, SpecCheck, SpecBarrier, Stmt, Pipe, values_of, all_hold}
 use Rattle.pdl_semantics.specs.Stages.{in_stage, is_verify, verify_stage}
 use Rattle.pdl_semantics.specs.Machine.{State, Thread, Ask, Deeds, same_args, deeds_after, deeds_after_all, deeds, word_for}
 use Rattle.pdl_facts.specs.Scans.{all_at}
-use Rattle.pdl_inflight.specs.Readings.{Reading, reading, IsTheReading, Reads}
+use Rattle.pdl_inflight.specs.Readings.{reading, IsTheReading, Reads}
 use Rattle.pdl_word.specs.Each.{Each}
 use Rattle.pdl_word.proofs.Each.{each_push}
 

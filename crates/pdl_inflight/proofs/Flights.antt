@@ -1,17 +1,15 @@
 -- What holds of the threads in flight in each state that a run comes to.
-use Rattle.std.proofs.Common.{◌≡◌, refl, sym, ap, ap₂, ◌∙◌, subst, ℕ, suc, ◌+◌, ◌<◌, ◌≤◌, ◌⊎◌, inl, inr, Bool, true, false, ◌&&◌, ◌||◌, List, [], ◌∷◌, length, Option, Some, None, ◌==◌, arith, nat_lt}
+use Rattle.std.proofs.Common.{◌≡◌, refl, sym, ap, ◌∙◌, subst, ℕ, inl, inr, Bool, true, false, ◌&&◌, ◌||◌, List, [], ◌∷◌, Some, ◌==◌, nat_lt}
 use Rattle.std.specs.Prelude.{if◌then◌else◌}
 use Rattle.std.proofs.lemmas.Bool.{eqb-true, and_parts}
 use Rattle.pdl_semantics.specs.Flat.{Arrays, Op, DelayedRead, Stmt, Pipe, all_hold}
-use Rattle.pdl_semantics.specs.Forms.{on_delayed_read}
 use Rattle.pdl_semantics.specs.Stages.{onpath, stage_at}
-use Rattle.pdl_semantics.specs.Machine.{Ask, Awaited, Thread, Request, NoRequest, Owned, Orphan, State, request_of}
+use Rattle.pdl_semantics.specs.Machine.{Ask, Awaited, Thread, Owned, State, request_of}
 use Rattle.pdl_semantics.specs.Cycle.{first, state_after}
 use Rattle.pdl_semantics.specs.Sound.{stages_before}
 use Rattle.pdl_facts.specs.Facts.{Sound}
 use Rattle.pdl_derived.specs.Derived
 use Rattle.pdl_derived.specs.Derived.{awaits_mem, asked_at}
-use Rattle.pdl_derived.proofs.Answering.{AllAsks}
 use Rattle.pdl_simulation.proofs.Stretches.{AllFetched, on_way}
 use Rattle.pdl_simulation.proofs.Seats.{Live, seat}
 use Rattle.pdl_simulation.proofs.Choices.{AllOwned, Matched, Seated}
@@ -19,11 +17,11 @@ use Rattle.pdl_simulation.proofs.Choices
 use Rattle.pdl_simulation.proofs.Simulated.{Sim}
 use Rattle.pdl_invariant.specs.Strict.{Strict}
 use Rattle.pdl_invariant.proofs.Past.{AnyOp, onto, AskedBy}
-use Rattle.pdl_invariant.proofs.Local.{AnyAsk, AllAwaited, past_of, any_of}
+use Rattle.pdl_invariant.proofs.Local.{AnyAsk, past_of, any_of}
 use Rattle.pdl_invariant.proofs.Lasting.{Owns, Lasting, Along}
 use Rattle.pdl_invariant.proofs.Reached.{Whole, reached}
 use Rattle.pdl_machine_facts.specs.Slots.{slot}
-use Rattle.pdl_inflight.specs.Readings.{Reading, reading, places, IsTheReading, Reads}
+use Rattle.pdl_inflight.specs.Readings.{Reading, reading, IsTheReading, Reads}
 use Rattle.pdl_inflight.specs.InFlight.{Some-of, Awaits, IsAwaited, InFlight}
 use Rattle.pdl_inflight.proofs.Seats.{Among, each_among, seated_in, seat_of, stage_count, same_stage, number_given, behind_older}
 use Rattle.pdl_inflight.proofs.ReadingFacts.{read_in, is_place}

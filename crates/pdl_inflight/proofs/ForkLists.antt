@@ -1,5 +1,5 @@
 -- A fork's list is no longer than its branches have stages.
-use Rattle.std.proofs.Common.{◌≡◌, refl, sym, ap, ap₂, ◌∙◌, subst, ℕ, zero, suc, ◌+◌, ◌<◌, ◌≤◌, ◌⊎◌, inl, inr, Bool, true, false, List, [], ◌∷◌, ◌++◌, length, Option, Some, None, is_some, ◌==◌, cond, arith, ne_eqb, eq-eqb, length-append}
+use Rattle.std.proofs.Common.{◌≡◌, refl, sym, ap, ap₂, ◌∙◌, subst, ℕ, zero, suc, ◌+◌, ◌<◌, ◌≤◌, Bool, true, false, List, [], ◌∷◌, length, Option, Some, None, is_some, ◌==◌, cond, arith, ne_eqb, eq-eqb, length-append}
 use Rattle.std.specs.Prelude.{if◌then◌else◌, slice_index_or, count_by}
 use Rattle.std.proofs.lemmas.Bool.{eqb-true, eqb-false}
 use Rattle.std.proofs.lemmas.List.Recursion.{is_count_by}
@@ -11,10 +11,8 @@ use Rattle.pdl_derived.specs.Derived
 use Rattle.pdl_simulation.proofs.Stretches.{Behind}
 use Rattle.pdl_simulation.proofs.Seats.{Live, seat, find, Ordered}
 use Rattle.pdl_simulation.proofs.Telling.{sides}
-use Rattle.pdl_simulation.proofs.Choices.{Seated}
 use Rattle.pdl_simulation.proofs.Simulated.{Sim}
 use Rattle.pdl_inflight.specs.Readings.{branch_stages}
-use Rattle.pdl_inflight.proofs.Seats.{Among, each_among}
 use Rattle.pdl_word.specs.Each.{Each}
 
 -- SUMS OVER STAGES

@@ -1,14 +1,12 @@
 -- Which statement a delayed read is, and to which stages a stage leads.
-use Rattle.std.proofs.Common.{◌≡◌, refl, sym, ap, ◌∙◌, subst, ℕ, zero, suc, ◌<◌, ◌⊎◌, inl, inr, Bool, true, false, ◌&&◌, List, [], ◌∷◌, length, Option, Some, None, ◌==◌, arith}
+use Rattle.std.proofs.Common.{◌≡◌, refl, sym, ap, ◌∙◌, subst, ℕ, zero, suc, ◌<◌, inl, inr, Bool, true, false, ◌&&◌, List, [], ◌∷◌, length, Some, ◌==◌, arith}
 use Rattle.std.specs.Prelude.{if◌then◌else◌, not, slice_index}
 use Rattle.std.proofs.lemmas.Bool.{eqb-true, false≢true}
 use Rattle.pdl_semantics.specs.Flat.{Op, Bind, CombRead, DelayedRead, Write, ReserveRead, ReserveWrite, Block, Release, Call, SpecCall, Verify, SpecCheck, SpecBarrier, Stmt, Next, Ends, Goes, Forks, Pipe}
-use Rattle.pdl_semantics.specs.Stages.{stage_at, in_stage, goes_to}
-use Rattle.pdl_semantics.specs.Machine.{Ask}
+use Rattle.pdl_semantics.specs.Stages.{in_stage, goes_to}
 use Rattle.pdl_semantics.specs.Sound.{is_delayed_read}
 use Rattle.pdl_facts.specs.Scans.{none_of}
-use Rattle.pdl_simulation.proofs.FlowFacts.{Leads}
-use Rattle.pdl_inflight.specs.Readings.{Reading, reading, places_of, places, place_to, IsTheReading, Reads}
+use Rattle.pdl_inflight.specs.Readings.{reading, places_of, place_to, IsTheReading}
 use Rattle.pdl_inflight.specs.InFlight.{Some-of}
 use Rattle.pdl_word.specs.Each.{Each}
 

@@ -5,11 +5,9 @@ use Rattle.std.proofs.lemmas.Bool.{eqb-true, cases_lt}
 use Rattle.pdl_semantics.specs.Flat.{Pipe}
 use Rattle.pdl_semantics.specs.Stages.{stage_at}
 use Rattle.pdl_semantics.specs.Machine.{State, Thread}
-use Rattle.pdl_semantics.specs.Cycle.{for_stages}
 use Rattle.pdl_derived.specs.Derived
 use Rattle.pdl_simulation.proofs.Stretches.{Behind}
-use Rattle.pdl_simulation.proofs.Seats.{Live, seat, find, Ordered, Falls, falls_each, each_map}
-use Rattle.pdl_simulation.proofs.Choices.{Seated}
+use Rattle.pdl_simulation.proofs.Seats.{Live, seat, find, Ordered, Falls, falls_each}
 use Rattle.pdl_simulation.proofs.Simulated.{Sim}
 use Rattle.pdl_machine_facts.specs.Slots.{slot}
 use Rattle.pdl_machine_facts.proofs.StagewisePorts.{at_stage, past_stage, stages_count}

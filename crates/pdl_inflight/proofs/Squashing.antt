@@ -1,5 +1,5 @@
 -- Who squashes, whom a squash removes, and for whom a barrier waits, by the stage V of the verifies.
-use Rattle.std.proofs.Common.{◌≡◌, refl, sym, ap, ap₂, ◌∙◌, subst, ℕ, zero, suc, ◌+◌, ◌≤◌, ◌<◌, ◌⊎◌, inl, inr, ⊎_elim, Bool, true, false, ◌&&◌, ◌||◌, not, List, [], ◌∷◌, ◌++◌, length, Option, Some, None, is_some, arith, ◌==◌, cond, nat_lt, nat_le, lt-ltb, le-leb}
+use Rattle.std.proofs.Common.{◌≡◌, refl, sym, ap, ◌∙◌, subst, ℕ, zero, suc, ◌+◌, ◌≤◌, ◌<◌, ⊎_elim, Bool, true, false, ◌&&◌, not, List, [], ◌∷◌, ◌++◌, length, Option, Some, None, is_some, arith, ◌==◌, nat_lt, nat_le, lt-ltb, le-leb}
 use Rattle.std.specs.Prelude.{if◌then◌else◌}
 use Rattle.std.proofs.lemmas.Bool.{eqb-true, eqb-false, cases_lt, le-ltb, and_parts, ltb-true}
 use Rattle.pdl_semantics.specs.Flat.{Stmt, Pipe, list_all}
@@ -12,7 +12,7 @@ use Rattle.pdl_turns.proofs.CourseOf
 use Rattle.pdl_machine_facts.specs.Slots.{slot, with_now, here, later_acts, stage_moves, mover, movers_from, moving}
 use Rattle.pdl_inflight.specs.InFlight.{InFlight}
 use Rattle.pdl_inflight.proofs.DeedsIn.{fails_not, fails_never}
-use Rattle.pdl_inflight.proofs.LaterActs.{act_in, all_later, not_all_later}
+use Rattle.pdl_inflight.proofs.LaterActs.{all_later, not_all_later}
 
 -- who stands in a stage with this cycle's answers stood there
 pub stood_in : (p : Pipe) (st : State) (bits : List Bool) (k : ℕ) (t : Thread) → here p st bits k ≡ Some t → (u : Thread) × (slot st k ≡ Some u) × (with_answers p st bits u ≡ t)
@@ -144,9 +144,6 @@ module _ (p : Pipe) (sound : Sound p) (st : State) (bits : List Bool) (flight : 
   pub fails_low : (k : ℕ) → k < v → no_failure (later_acts p st bits k) ≡ not (stage_moves p st bits v && failing p st v (here p st bits v))
   fails_low k low = at (here p st bits v) refl
     where
-      test : Act → Bool
-      test o = not (o.moves && o.does.fails)
-
       quiet : (stage_moves p st bits v && failing p st v (here p st bits v)) ≡ false → no_failure (later_acts p st bits k) ≡ true
       quiet h = all_later p st bits (λ (o : Act). not (o.moves && o.does.fails)) flight.count k each
         where

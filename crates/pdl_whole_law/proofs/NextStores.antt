@@ -10,7 +10,7 @@ use Rattle.pdl_semantics.specs.Stages.{plain_mem, mem_at}
 use Rattle.pdl_semantics.specs.Locks.{commit_value}
 use Rattle.pdl_semantics.specs.Machine as machine
 use Rattle.pdl_semantics.specs.Machine.{Pending, Request, NoRequest, Owned, Orphan, is_answered, request_of}
-use Rattle.pdl_semantics.specs.Cycle.{cycle, squasher, taken_out, port_write, with_commit, oldest, list_two, asked_in, request_next, request_left, is_outstanding, waits_from, for_mems}
+use Rattle.pdl_semantics.specs.Cycle.{cycle, squasher, taken_out, port_write, with_commit, asked_in, request_next, request_left, is_outstanding, waits_from, for_mems}
 use Rattle.pdl_simulation.proofs.PerMemory.{at_mem}
 use Rattle.pdl_net.specs.Circuit.{Circuit, State}
 use Rattle.pdl_net.specs.Run.{Store, reply, committed_words, outstanding, next_stores, commit_of, is_waiting, some_waits}
@@ -18,8 +18,6 @@ use Rattle.pdl_net.specs.Run as net_run
 use Rattle.pdl_net.specs.Cycle.{output_values}
 use Rattle.pdl_machine_facts.specs.Slots.{moving}
 use Rattle.pdl_machine_facts.proofs.Stagewise.{next_is}
-use Rattle.pdl_pipe_law.specs.Walk.{is_locked}
-use Rattle.pdl_pipe_law.proofs.StageLooks.{plain_is}
 use Rattle.pdl_inflight.specs.Readings.{reading}
 use Rattle.pdl_whole_law.specs.Standing.{IsLawful, IsKnown}
 use Rattle.pdl_whole_law.specs.Outside.{address_asked, IsStore, StoreThen, AreStores}

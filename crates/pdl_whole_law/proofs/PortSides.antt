@@ -1,16 +1,15 @@
 -- What the ports of delayed memories tell a stage, by their signals: whether its thread awaits an answer, its variables with the answers, and whether the ports of its requests are free.
-use Rattle.std.proofs.Common.{◌≡◌, refl, sym, ap, ap₂, ◌∙◌, subst, ℕ, zero, suc, ◌+◌, ◌≤◌, ◌<◌, ◌⊎◌, inl, inr, ⊎_elim, Bool, true, false, ◌&&◌, ◌||◌, not, List, [], ◌∷◌, ◌++◌, length, Option, Some, None, is_some, arith, ◌==◌, cond, eq-eqb}
+use Rattle.std.proofs.Common.{◌≡◌, refl, sym, ap, ap₂, ◌∙◌, subst, ℕ, zero, suc, ◌+◌, ◌≤◌, ◌<◌, ◌⊎◌, inl, inr, ⊎_elim, Bool, true, false, ◌&&◌, List, [], ◌∷◌, length, Option, Some, None, is_some, arith, ◌==◌}
 use Rattle.std.specs.Prelude.{if◌then◌else◌, slice_index}
-use Rattle.std.proofs.lemmas.Bool.{eqb-true, eqb-false, and_parts, false≢true, cases_lt}
+use Rattle.std.proofs.lemmas.Bool.{eqb-true, eqb-false, cases_lt}
 use Rattle.pdl_word.specs.Words.{bit}
 use Rattle.pdl_semantics.specs.Flat.{Pipe, list_all}
-use Rattle.pdl_semantics.specs.Stages.{stage_at}
 use Rattle.pdl_semantics.specs.Machine as machine
 use Rattle.pdl_semantics.specs.Machine.{Ask, Awaited, Thread, State as MachineState, request_of, is_answered, with_answers, with_kept, deeds}
 use Rattle.pdl_semantics.specs.Moves.{is_free, is_empty, ports_free}
 use Rattle.pdl_net.specs.Circuit.{Circuit, State}
 use Rattle.pdl_net.specs.Signal.{Signal, mux_signal}
-use Rattle.pdl_machine_facts.specs.Slots.{LeadsOn, slot, with_now, here, later_acts, stage_moves}
+use Rattle.pdl_machine_facts.specs.Slots.{LeadsOn, slot, later_acts, stage_moves}
 use Rattle.pdl_machine_facts.specs.Cycle.{IsByStages}
 use Rattle.pdl_port.specs.Port as port
 use Rattle.pdl_port.specs.Port.{PortState, answer}

@@ -1,14 +1,13 @@
 -- The ports of delayed memories at the start and from cycle to cycle, by their signals.
-use Rattle.std.proofs.Common.{◌≡◌, refl, sym, ap, ap₂, ◌∙◌, subst, ℕ, zero, suc, ◌+◌, ◌≤◌, ◌<◌, ◌⊎◌, inl, inr, ⊎_elim, Bool, true, false, ◌&&◌, ◌||◌, not, List, [], ◌∷◌, ◌++◌, length, map, Option, Some, None, arith, ◌==◌, eq-eqb, ne_eqb}
-use Rattle.std.specs.Prelude.{if◌then◌else◌, slice_index, slice_index_or}
-use Rattle.std.proofs.lemmas.Bool.{eqb-true, eqb-false}
+use Rattle.std.proofs.Common.{◌≡◌, refl, sym, ap, ap₂, ◌∙◌, subst, ℕ, zero, suc, ◌<◌, ◌⊎◌, inl, inr, Bool, true, false, ◌&&◌, ◌||◌, not, List, [], ◌∷◌, length, map, Option, Some, None, arith, ◌==◌, eq-eqb}
+use Rattle.std.specs.Prelude.{if◌then◌else◌, slice_index}
 use Rattle.pdl_word.specs.Words.{bit}
 use Rattle.pdl_semantics.specs.Flat.{Arrays, Next, Ends, Goes, Forks, Pipe}
 use Rattle.pdl_semantics.specs.Stages.{stage_at}
-use Rattle.pdl_semantics.specs.Machine.{Ask, Thread, NoRequest, State as MachineState, request_of, deeds}
+use Rattle.pdl_semantics.specs.Machine.{Ask, Thread, State as MachineState, deeds}
 use Rattle.pdl_semantics.specs.Cycle.{first, cycle, squasher, is_kept, address_of}
 use Rattle.pdl_net.specs.declared.Reg.{Reg}
-use Rattle.pdl_net.specs.Circuit.{Circuit, State, HasReg, HasArray}
+use Rattle.pdl_net.specs.Circuit.{Circuit, State}
 use Rattle.pdl_net.specs.Signal.{Signal, mux_signal}
 use Rattle.pdl_net.specs.Cycle.{next_regs, next_arrays}
 use Rattle.pdl_lockapi.specs.Laws.{IsNext}
@@ -23,13 +22,12 @@ use Rattle.pdl_pipe_law.specs.Lives.{forks_by}
 use Rattle.pdl_pipe_law.specs.Walk as walk
 use Rattle.pdl_pipe_law.specs.Walk.{Walk, one, zero_bit, both, is_on}
 use Rattle.pdl_pipe_law.specs.Views.{View, Gates}
-use Rattle.pdl_pipe_law.specs.Stands.{IsSo, IsSeen, asked_in}
+use Rattle.pdl_pipe_law.specs.Stands.{IsSeen, asked_in}
 use Rattle.pdl_pipe_law.proofs.Signals.{mux_by, both_at, one_is, zero_is}
 use Rattle.pdl_pipe_law.proofs.LockPorts.{both_is, moves_or_not}
 use Rattle.pdl_pipe_law.proofs.Moves.{lives_fork, ready_of}
 use Rattle.pdl_inflight.specs.Readings.{Reading, reading, places_of, places, place_at, place_to, Reads}
 use Rattle.pdl_inflight.specs.InFlight.{InFlight}
-use Rattle.pdl_inflight.proofs.Answers.{word_asked}
 use Rattle.pdl_whole_law.specs.Sides.{Sides, asks_memory, asked_address, goes_to_place, asked_into, port_step}
 use Rattle.pdl_whole_law.specs.HasSides.{HasOwn, HasPort}
 use Rattle.pdl_whole_law.proofs.Waiting.{SameRequest, SamePort, asks_of, asked_at, port_act}

@@ -1,18 +1,18 @@
 -- The delayed memories outside in a cycle: what the netlist reads of them, and whether the cycle is a wait.
-use Rattle.std.proofs.Common.{◌≡◌, refl, sym, ap, ap₂, ◌∙◌, subst, ℕ, zero, suc, ◌+◌, ◌*◌, ◌^◌, ◌/◌, ◌<◌, ◌≤◌, Bool, true, false, ◌&&◌, ◌||◌, not, List, [], ◌∷◌, ◌++◌, length, take, Option, Some, None, arith, ◌==◌, cond}
-use Rattle.std.specs.Prelude.{if◌then◌else◌, slice_index, slice_index_or, count_by, filter_map, ⊤}
+use Rattle.std.proofs.Common.{◌≡◌, refl, sym, ap, ◌∙◌, subst, ℕ, zero, suc, ◌+◌, ◌*◌, ◌^◌, ◌/◌, ◌<◌, Bool, true, false, ◌&&◌, List, [], ◌∷◌, ◌++◌, length, take, Option, Some, None, arith, cond}
+use Rattle.std.specs.Prelude.{if◌then◌else◌, slice_index, slice_index_or, count_by}
 use Rattle.std.proofs.lemmas.List.Recursion.{is_count_by}
 use Rattle.std.proofs.lemmas.Nat.{pow_pos}
 use Rattle.pdl_word.specs.Words.{bit}
-use Rattle.pdl_semantics.specs.Flat.{Mem, Pipe, word_at}
-use Rattle.pdl_semantics.specs.Stages.{plain_mem, mem_at, reply_place}
-use Rattle.pdl_semantics.specs.Machine.{Request, NoRequest, Owned, Orphan, State, request_of, is_answered}
-use Rattle.pdl_semantics.specs.Cycle.{is_outstanding, waits_from}
+use Rattle.pdl_semantics.specs.Flat.{Mem, word_at}
+use Rattle.pdl_semantics.specs.Stages.{plain_mem}
+use Rattle.pdl_semantics.specs.Machine.{Request, NoRequest, Owned, Orphan, State, request_of}
+use Rattle.pdl_semantics.specs.Cycle.{is_outstanding}
 use Rattle.pdl_semantics.specs.Sound.{request_address}
-use Rattle.pdl_net.specs.Run.{Store, reply, answer, answers, is_waiting, some_waits}
+use Rattle.pdl_net.specs.Run.{Store, reply, answer, answers}
 use Rattle.pdl_inflight.proofs.Answers.{word_asked}
 use Rattle.pdl_whole_law.specs.Outside.{address_asked, IsStore, StoreThen, AreStores}
-use Rattle.pdl_whole_law.specs.Whole.{delayed_count, replies_of}
+use Rattle.pdl_whole_law.specs.Whole.{replies_of}
 
 -- COUNTS
 

@@ -1,26 +1,23 @@
 -- A delayed memory's port and the machine's request: what is outstanding, for whom, and what is kept for him; over a cycle.
-use Rattle.std.proofs.Common.{◌≡◌, refl, sym, ap, ap₂, ◌∙◌, subst, ℕ, zero, suc, ◌+◌, ◌≤◌, ◌<◌, ◌⊎◌, inl, inr, Bool, true, false, ◌&&◌, ◌||◌, not, List, [], ◌∷◌, ◌++◌, length, Option, Some, None, is_some, arith, ◌==◌, cond, eq-eqb, ne_eqb}
+use Rattle.std.proofs.Common.{◌≡◌, refl, sym, ap, ap₂, ◌∙◌, subst, ℕ, ◌<◌, inl, inr, Bool, true, false, ◌&&◌, List, [], ◌∷◌, length, Option, Some, None, arith, ◌==◌, eq-eqb}
 use Rattle.std.specs.Prelude.{if◌then◌else◌, slice_index, ⊤}
-use Rattle.std.proofs.lemmas.Bool.{eqb-true, eqb-false, and_parts, false≢true}
+use Rattle.std.proofs.lemmas.Bool.{eqb-true}
 use Rattle.pdl_semantics.specs.Flat.{Pipe}
-use Rattle.pdl_semantics.specs.Stages.{stage_at, list_any, goes_to}
+use Rattle.pdl_semantics.specs.Stages.{stage_at, list_any}
 use Rattle.pdl_semantics.specs.Machine as machine
 use Rattle.pdl_semantics.specs.Machine.{Ask, Awaited, Thread, NoRequest, Owned, Orphan, State, request_of, is_answered, unanswered_reads, answered_reads, with_answers, with_kept, deeds}
-use Rattle.pdl_semantics.specs.Moves.{Act, next_stage, is_free, is_empty, ports_free, no_failure}
-use Rattle.pdl_semantics.specs.Cycle.{cycle, squasher, is_kept, is_outstanding, asked_of, asked_by, request_next, request_left, thread_after}
-use Rattle.pdl_machine_facts.specs.Slots.{LeadsOn, slot, with_now, here, later_acts, locks_ready, may_pass, may_enter, stage_moves, mover, movers_from, moving}
+use Rattle.pdl_semantics.specs.Moves.{Act, is_free, is_empty}
+use Rattle.pdl_semantics.specs.Cycle.{is_outstanding}
+use Rattle.pdl_machine_facts.specs.Slots.{LeadsOn, slot, with_now, here, later_acts, stage_moves}
 use Rattle.pdl_machine_facts.specs.Cycle.{IsByStages}
-use Rattle.pdl_machine_facts.proofs.Stagewise.{next_is}
 use Rattle.pdl_port.specs.Port as port
 use Rattle.pdl_port.specs.Port.{PortState, PortAct, Idle, owns, answer, leaves_free, asker, asked_request, left_request, next_request, next_kept, step, Proper}
 use Rattle.pdl_inflight.specs.Readings.{Reading, reading, places, place_at, place_to, Reads}
 use Rattle.pdl_inflight.specs.InFlight.{Some-of, Awaits, IsAwaited, InFlight}
-use Rattle.pdl_inflight.proofs.ReadingFacts.{goes_to_place, numbered, place_leads}
-use Rattle.pdl_inflight.proofs.DeedsIn.{AsksIn, asks_in}
-use Rattle.pdl_inflight.proofs.LaterActs.{act_in, none_later, some_later}
+use Rattle.pdl_inflight.proofs.ReadingFacts.{place_leads}
+use Rattle.pdl_inflight.proofs.LaterActs.{none_later, some_later}
 use Rattle.pdl_inflight.proofs.Squashing.{stood_in}
-use Rattle.pdl_inflight.proofs.Comings.{CameFrom, born, moved, stayed, came_from, stays}
-use Rattle.pdl_inflight.proofs.Answers.{word_asked, kept_append, kept_long, all_in, some_open, still_awaited, not_bound, bound}
+use Rattle.pdl_inflight.proofs.Answers.{word_asked, kept_append, kept_long, all_in, not_bound, bound}
 use Rattle.pdl_word.specs.Each.{Each}
 
 -- THE SAME REQUEST

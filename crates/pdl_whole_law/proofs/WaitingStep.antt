@@ -1,22 +1,22 @@
 -- A delayed memory's port after a cycle: its step agrees with the machine's next state, and its use is proper.
-use Rattle.std.proofs.Common.{◌≡◌, refl, sym, ap, ap₂, ◌∙◌, subst, ℕ, zero, suc, ◌+◌, ◌≤◌, ◌<◌, ◌⊎◌, inl, inr, ⊎_elim, Bool, true, false, ◌&&◌, ◌||◌, not, List, [], ◌∷◌, ◌++◌, length, Option, Some, None, is_some, arith, ◌==◌, cond, eq-eqb, ne_eqb}
-use Rattle.std.specs.Prelude.{if◌then◌else◌, slice_index, ⊤}
+use Rattle.std.proofs.Common.{◌≡◌, refl, sym, ap, ap₂, ◌∙◌, subst, ℕ, zero, suc, ◌+◌, ◌≤◌, ◌<◌, ⊎_elim, Bool, true, false, ◌&&◌, ◌||◌, not, List, [], ◌∷◌, ◌++◌, length, Option, Some, None, is_some, arith, ◌==◌, eq-eqb}
+use Rattle.std.specs.Prelude.{if◌then◌else◌, slice_index}
 use Rattle.std.proofs.lemmas.Bool.{eqb-true, eqb-false, and_parts, false≢true, cases_lt}
 use Rattle.std.proofs.lemmas.List.{get_or_past}
 use Rattle.pdl_semantics.specs.Flat.{Pipe, list_all}
-use Rattle.pdl_semantics.specs.Stages.{stage_at, list_any, goes_to}
+use Rattle.pdl_semantics.specs.Stages.{stage_at, goes_to}
 use Rattle.pdl_semantics.specs.Machine as machine
 use Rattle.pdl_semantics.specs.Machine.{Ask, Awaited, Thread, NoRequest, Owned, Orphan, State, request_of, is_answered, with_answers, with_kept, deeds}
 use Rattle.pdl_semantics.specs.Moves.{Act, next_stage, is_free, is_empty, ports_free, no_failure}
-use Rattle.pdl_semantics.specs.Cycle.{cycle, squasher, is_kept, is_outstanding, asked_of, asked_by, request_next, request_left, thread_after}
+use Rattle.pdl_semantics.specs.Cycle.{cycle, squasher, is_kept, is_outstanding, asked_of, asked_by, request_next, request_left}
 use Rattle.pdl_simulation.proofs.PerMemory.{at_mem}
-use Rattle.pdl_machine_facts.specs.Slots.{LeadsOn, slot, with_now, here, later_acts, locks_ready, may_pass, may_enter, stage_moves, mover, movers_from, moving}
+use Rattle.pdl_machine_facts.specs.Slots.{LeadsOn, slot, with_now, here, later_acts, locks_ready, may_pass, stage_moves, mover, movers_from, moving}
 use Rattle.pdl_machine_facts.specs.Cycle.{IsByStages}
 use Rattle.pdl_machine_facts.proofs.Stagewise.{next_is}
 use Rattle.pdl_port.specs.Port as port
 use Rattle.pdl_port.specs.Port.{PortState, PortAct, Idle, owns, leaves_free, asker, asked_request, left_request, next_request, next_kept, step, Proper}
 use Rattle.pdl_inflight.specs.Readings.{Reading, reading, places, place_at, place_to, Reads}
-use Rattle.pdl_inflight.specs.InFlight.{Some-of, Awaits, IsAwaited, InFlight}
+use Rattle.pdl_inflight.specs.InFlight.{Awaits, InFlight}
 use Rattle.pdl_inflight.proofs.ReadingFacts.{goes_to_place}
 use Rattle.pdl_inflight.proofs.DeedsIn.{AsksIn, asks_in}
 use Rattle.pdl_inflight.proofs.Squashing.{stood_in}

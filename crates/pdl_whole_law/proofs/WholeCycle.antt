@@ -1,5 +1,5 @@
 -- A netlist of a whole pipe in one cycle: each stage is as the machine's, squashes are as they should be, and the next state stands for the machine's next state.
-use Rattle.std.proofs.Common.{◌≡◌, refl, sym, ap, ap₂, ◌∙◌, subst, ℕ, suc, ◌+◌, ◌<◌, ◌≤◌, Bool, true, false, ◌&&◌, List, [], length, map, Option, Some, None, is_some, not}
+use Rattle.std.proofs.Common.{◌≡◌, sym, ap, ◌∙◌, subst, ℕ, ◌<◌, Bool, ◌&&◌, List, length, map, Some}
 use Rattle.std.specs.Prelude.{slice_index}
 use Rattle.pdl_word.specs.Words.{bit}
 use Rattle.pdl_semantics.specs.Flat.{Arrays, Pipe}
@@ -7,30 +7,27 @@ use Rattle.pdl_semantics.specs.Stages.{stage_at, verify_stage}
 use Rattle.pdl_semantics.specs.Machine as machine
 use Rattle.pdl_semantics.specs.Machine.{Thread, Deeds, deeds, fork_of, with_answers, with_kept}
 use Rattle.pdl_semantics.specs.Moves.{is_empty, no_failure, ports_free, barrier_clear, merges_well, next_stage}
-use Rattle.pdl_semantics.specs.Cycle.{first, cycle, squasher, is_kept, has_release, list_three}
-use Rattle.pdl_semantics.specs.PendingLists.{count_older}
-use Rattle.pdl_lockapi.specs.Laws.{holds_ticket}
+use Rattle.pdl_semantics.specs.Cycle.{first, cycle, squasher}
 use Rattle.pdl_net.specs.declared.Reg.{Reg}
 use Rattle.pdl_net.specs.Circuit.{Circuit, State}
 use Rattle.pdl_net.specs.Signal.{Signal}
 use Rattle.pdl_net.specs.Cycle.{next_regs, next_arrays}
 use Rattle.pdl_net.specs.Well.{Suits}
-use Rattle.pdl_machine_facts.specs.Slots.{slot, here, later_acts, locks_ready, may_pass, stage_moves, moving}
-use Rattle.pdl_pipe_law.specs.Walk.{Locks, is_locked, both}
+use Rattle.pdl_machine_facts.specs.Slots.{slot, here, later_acts, may_pass, moving}
+use Rattle.pdl_pipe_law.specs.Walk.{Locks, both}
 use Rattle.pdl_pipe_law.specs.Views.{View, Gates, way_on}
 use Rattle.pdl_pipe_law.specs.Compiled.{IsLaid}
 use Rattle.pdl_pipe_law.specs.Beside.{TellsGate}
-use Rattle.pdl_pipe_law.specs.Stands.{IsEnv, StandsFor, StandsLock, IsSeen, IsSquashed}
+use Rattle.pdl_pipe_law.specs.Stands.{IsEnv, StandsFor, IsSeen, IsSquashed}
 use Rattle.pdl_pipe_law.proofs.Signals.{both_at}
 use Rattle.pdl_pipe_law.proofs.Stood.{stood}
 use Rattle.pdl_pipe_law.proofs.Moves.{all_seen, lives_fork}
 use Rattle.pdl_pipe_law.proofs.Next.{stands_after}
 use Rattle.pdl_inflight.specs.Readings.{Reading, reading}
-use Rattle.pdl_inflight.proofs.Squashing.{stood_in, no_squasher}
-use Rattle.pdl_whole_law.specs.Sides.{Sides, with_answer, all_answered, unsquashed, ports_open, barrier_open, turn}
+use Rattle.pdl_inflight.proofs.Squashing.{stood_in}
+use Rattle.pdl_whole_law.specs.Sides.{Sides, all_answered, unsquashed, ports_open, barrier_open, turn}
 use Rattle.pdl_whole_law.specs.HasSides.{HasSides}
 use Rattle.pdl_whole_law.specs.Standing.{IsLawful, IsKnown}
-use Rattle.pdl_whole_law.proofs.WaitingStep.{here_low}
 use Rattle.pdl_whole_law.proofs.PortSides.{PortStands, IsGiven, awaits_told, variable_told, ports_told}
 use Rattle.pdl_whole_law.proofs.PortsNext.{ports_first, ports_next}
 use Rattle.pdl_whole_law.proofs.Removals.{removes, unsquashed_is, barrier_is, kill_is}

@@ -7,7 +7,6 @@ use Rattle.pdl_word.specs.Words.{bit}
 use Rattle.pdl_semantics.specs.Flat.{Mem, Pipe, has_lock}
 use Rattle.pdl_semantics.specs.Stages.{plain_mem, mem_at}
 use Rattle.pdl_semantics.specs.Machine as machine
-use Rattle.pdl_semantics.specs.Moves.{Act}
 use Rattle.pdl_semantics.specs.Cycle.{PortWrite, for_mems, taken_out, port_write, asked_in}
 use Rattle.pdl_net.specs.Circuit.{Circuit, State, Output, port_output, outputs_of}
 use Rattle.pdl_net.specs.Signal.{Signal}

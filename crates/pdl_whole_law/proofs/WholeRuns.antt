@@ -2,9 +2,8 @@
 use Rattle.std.proofs.Common.{◌≡◌, refl, sym, ap, ap₂, ◌∙◌, subst, ℕ, zero, suc, ◌+◌, ◌*◌, ◌^◌, ◌<◌, ◌≤◌, Bool, true, false, ◌&&◌, List, [], ◌∷◌, ◌++◌, length, map, take, Option, Some, None, codes, arith, ◌==◌}
 use Rattle.std.specs.Prelude.{if◌then◌else◌, slice_index, slice_index_or, filter_map}
 use Rattle.std.proofs.lemmas.List.Elements.{filter_map-append}
-use Rattle.pdl_word.specs.Words.{bit}
 use Rattle.pdl_semantics.specs.Flat.{Arrays, Mem, Pipe, Lock, arrays_of, has_lock}
-use Rattle.pdl_semantics.specs.Stages.{plain_mem, mem_at, reply_place}
+use Rattle.pdl_semantics.specs.Stages.{mem_at, reply_place}
 use Rattle.pdl_semantics.specs.Locks.{commit_value}
 use Rattle.pdl_semantics.specs.Machine as machine
 use Rattle.pdl_semantics.specs.Machine.{Pending, NoRequest, is_answered, request_of}
@@ -15,8 +14,7 @@ use Rattle.pdl_net.specs.declared.Netlist.{Netlist}
 use Rattle.pdl_net.specs.declared.Dir.TheVariants.{In}
 use Rattle.pdl_net.specs.Circuit.{Circuit, State, Output, circuit_of, inputs_of, port_input}
 use Rattle.pdl_net.specs.Signal.{Signal, input_value}
-use Rattle.pdl_net.specs.Meaning.{signal}
-use Rattle.pdl_net.specs.Cycle.{next_regs, next_arrays, output_values}
+use Rattle.pdl_net.specs.Cycle.{output_values}
 use Rattle.pdl_net.specs.Well.{IsWell, Suits}
 use Rattle.pdl_net.specs.Holds.{Holds}
 use Rattle.pdl_net.specs.Run as net_run
@@ -34,12 +32,10 @@ use Rattle.pdl_pipe_law.proofs.Standing.{after_more}
 use Rattle.pdl_pipe_law.proofs.StageLooks.{plain_is}
 use Rattle.pdl_pipe_law.proofs.Outputs.{commit_words}
 use Rattle.pdl_inflight.specs.Readings.{reading}
-use Rattle.pdl_inflight.proofs.Answers.{word_asked}
 use Rattle.pdl_whole_law.specs.Sides.{Sides}
 use Rattle.pdl_whole_law.specs.Standing.{IsLawful, IsKnown}
 use Rattle.pdl_whole_law.specs.Outside.{AreStores}
-use Rattle.pdl_whole_law.specs.Whole.{IsWhole, reply_ports, in_order, delayed_count, replies_of, whole_values, whole_had, HasWholeMems, ShowsWhole}
-use Rattle.pdl_whole_law.proofs.Waiting.{reply_bit}
+use Rattle.pdl_whole_law.specs.Whole.{IsWhole, reply_ports, in_order, delayed_count, replies_of, whole_had, HasWholeMems, ShowsWhole}
 use Rattle.pdl_whole_law.proofs.PortSides.{IsGiven}
 use Rattle.pdl_whole_law.proofs.PortsNext.{address_or}
 use Rattle.pdl_whole_law.proofs.WholeCycle.{WholeStands, seen_whole, squashed_whole, whole_next}

@@ -1,22 +1,15 @@
 -- A state of the netlist of a whole pipe that stands for a state of the machine, and what is known of a cycle of the machine.
 use Rattle.std.specs.Prelude.{◌≡◌, ℕ, ◌<◌, ◌≤◌, Bool, true, List, [], Some, length}
 use Rattle.pdl_semantics.specs.Flat.{Pipe}
-use Rattle.pdl_semantics.specs.Stages.{stage_at, reserve_stage, verify_stage}
-use Rattle.pdl_semantics.specs.PendingLists.{count_older}
 use Rattle.pdl_semantics.specs.Machine as machine
 use Rattle.pdl_semantics.specs.Machine.{Thread, fork_of, request_of}
 use Rattle.pdl_semantics.specs.Cycle.{cycle, squasher, is_kept}
 use Rattle.pdl_facts.specs.Facts.{Sound}
-use Rattle.pdl_net.specs.Circuit.{State}
-use Rattle.pdl_lockapi.specs.Laws.{holds_ticket}
-use Rattle.pdl_machine_facts.specs.Slots.{LeadsOn, slot, here, stage_moves, moving}
+use Rattle.pdl_machine_facts.specs.Slots.{LeadsOn, here, stage_moves, moving}
 use Rattle.pdl_machine_facts.specs.Cycle.{IsByStages}
 use Rattle.pdl_machine_facts.specs.Use.{IsInUse}
 use Rattle.pdl_lockuse.specs.Cut.{IsCut}
-use Rattle.pdl_pipe_law.specs.Walk.{Locks, is_locked}
 use Rattle.pdl_pipe_law.specs.Reads.{AreAtOnce}
-use Rattle.pdl_pipe_law.specs.Views.{View}
-use Rattle.pdl_pipe_law.specs.Stands.{StandsFor, StandsLock}
 use Rattle.pdl_inflight.specs.Readings.{Reading, reading, Reads}
 use Rattle.pdl_inflight.specs.InFlight.{InFlight}
 
