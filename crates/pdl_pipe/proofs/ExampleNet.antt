@@ -213,4 +213,4 @@ module _ (ls : Locks) where
   -- so it shows the machine
   pub shows : (names : ℕ → List ℕ) → IsWellFormed netlist → ShowsMachine guarded netlist
   shows names formed = shows_machine guarded simple names ls views leaving netlist (compiled names) (λ k x. refl)
-      (record { in_order = λ m l. absurd (omega (arith, l)); count = refl; depth = λ m d l. absurd (omega (arith, l)) }) formed refl (tt, tt, tt)
+      (record { in_order = λ m l. absurd (omega (arith, l)); count = refl; depth = λ m d l. absurd (omega (arith, l)) }) formed refl (tt, (tt, tt))
