@@ -12,3 +12,5 @@ pub mod Stores
 pub mod DelayedReads
 pub mod FromRules
 pub mod Known
+pub mod Places
+pub mod WholeStart

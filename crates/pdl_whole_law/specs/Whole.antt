@@ -1,5 +1,5 @@
 -- The netlist of a pipe of the whole language, in signals, and what it shows with its delayed memories outside.
-use Rattle.std.specs.Prelude.{◌≡◌, ℕ, zero, suc, ◌+◌, ◌*◌, ◌-◌, ◌/◌, ◌<◌, Bool, true, false, List, [], ◌∷◌, ◌++◌, Option, Some, None, if◌then◌else◌, length, map, codes, count_by, slice_index_or, take}
+use Rattle.std.specs.Prelude.{◌≡◌, ℕ, zero, suc, ◌+◌, ◌*◌, ◌-◌, ◌/◌, ◌^◌, ◌<◌, Bool, true, false, List, [], ◌∷◌, ◌++◌, Option, Some, None, if◌then◌else◌, length, map, codes, count_by, slice_index_or, take}
 use Rattle.pdl_word.specs.Words.{bit}
 use Rattle.pdl_kit.specs.declared.mem_info.MemInfo.{MemInfo}
 use Rattle.pdl_semantics.specs.Flat.{Mem, Pipe, arrays_of}
@@ -10,7 +10,9 @@ use Rattle.pdl_net.specs.declared.Port.{Port}
 use Rattle.pdl_net.specs.declared.Netlist.{Netlist}
 use Rattle.pdl_net.specs.Circuit.{Circuit, State, Output, array_depth}
 use Rattle.pdl_net.specs.Signal.{Signal, input_signal}
-use Rattle.pdl_net.specs.Run.{reply, nports}
+use Rattle.pdl_net.specs.declared.Net.{Net}
+use Rattle.pdl_net.specs.Meaning.{IsThere, signal}
+use Rattle.pdl_net.specs.Run.{reply, delayed_mems, nports}
 use Rattle.pdl_image.specs.Images.{IsImage}
 use Rattle.pdl_lockapi.specs.Lock.{start}
 use Rattle.pdl_lockapi.specs.Laws.{IsReset, HasImage, words_of}
@@ -43,6 +45,17 @@ pub record IsOutside (p : Pipe) (c : Circuit) (vs : ℕ → View) (moves : ℕ �
   pub reply : Same c (sides.port m).reply (input_signal 1 (2 * reply_place p m))
   pub word : Same c (sides.port m).word (input_signal (mem_at p m).width (2 * reply_place p m + 1))
 
+-- a signal is that of a net
+abbrev pub IsNet : Circuit → Signal → Type 0
+IsNet c f = (x : Net) × IsThere c x × (signal c x ≡ f)
+
+-- addresses that are asked, and words that are committed, are nets that fit a delayed memory
+pub record FitsOutside (p : Pipe) (c : Circuit) (ask : Request) (commit : Commit) (m : ℕ) : Type 0 where
+  pub addr : IsNet c ask.addr
+  pub reach : 2 ^ ask.addr.width ≡ (mem_at p m).depth
+  pub word : is_locked p m ≡ true → IsNet c commit.value
+  pub wide : is_locked p m ≡ true → commit.value.width ≡ (mem_at p m).width
+
 -- ---- the netlist
 
 abbrev pub request_shown : List ℕ → Request → List Shown
@@ -56,9 +69,7 @@ requests_shown names asks m (x ∷ xs) = (if x.delayed then request_shown (names
 abbrev pub whole_shown : Pipe → (ℕ → List ℕ) → (ℕ → Commit) → (ℕ → Request) → (ℕ → View) → Gates → (ℕ → Signal) → List Shown
 whole_shown p names commits asks vs gates moves =
     stages_shown vs moves (length p.stages) 0
-    ++ commits_shown names commits 0 p.mems
-    ++ requests_shown names asks 0 p.mems
-    ++ shown_signal (codes "ended") (moves (length p.stages - 1)) ∷ shown_signal (codes "squash") gates.squash ∷ []
+    ++ (commits_shown names commits 0 p.mems ++ (requests_shown names asks 0 p.mems ++ shown_signal (codes "ended") (moves (length p.stages - 1)) ∷ shown_signal (codes "squash") gates.squash ∷ []))
 
 -- the inputs of the delayed memories
 abbrev pub reply_ports : (ℕ → List ℕ) → ℕ → List Mem → List Port
@@ -77,6 +88,7 @@ pub record IsWhole (p : Pipe) (names : ℕ → List ℕ) (ls : Locks) (vs : ℕ 
   pub beside : HasSides p ls c vs gates moves sides
   pub asks : ℕ → Request
   pub outside : (m : ℕ) → m < length p.mems → (mem_at p m).delayed ≡ true → IsOutside p c vs moves sides (asks m) m
+  pub fits : (m : ℕ) → m < length p.mems → (mem_at p m).delayed ≡ true → FitsOutside p c (asks m) (laid.commits m) m
   -- ports: the inputs of the delayed memories, and outputs
   pub outs : List Output
   pub ports : c.ports ≡ reply_ports names 0 p.mems ++ map (port_in c) outs
@@ -115,16 +127,23 @@ all_request_values _ _ = []
 
 -- the values of all ports of the machine, in the order of the netlist's outputs
 abbrev pub whole_values : Pipe → Ports → List ℕ
-whole_values p o = stage_values o.valid o.moves ++ all_commit_values p.mems o.commits ++ all_request_values p.mems o.requests ++ bit o.ended ∷ bit o.squash ∷ []
+whole_values p o = stage_values o.valid o.moves ++ (all_commit_values p.mems o.commits ++ (all_request_values p.mems o.requests ++ bit o.ended ∷ bit o.squash ∷ []))
 
 abbrev pub whole_had : Pipe → Turn → Seen
 whole_had p t = record { ports = whole_values p t.ports; wait = t.wait }
 
--- the netlist's memories are the pipe's, the delayed ones first, each with its depth
-pub record HasWholeMems (p : Pipe) (ls : Locks) (n : Netlist) : Type 0 where
+-- the names of the delayed ones among these, of which the first has the number m
+abbrev pub names_delayed : (ℕ → List ℕ) → ℕ → List Mem → List (List ℕ)
+names_delayed names m [] = []
+names_delayed names m (x ∷ xs) = (if x.delayed then names m ∷ [] else []) ++ names_delayed names (suc m) xs
+
+-- the netlist's memories are the pipe's, the delayed ones first, each with its width and depth
+pub record HasWholeMems (p : Pipe) (names : ℕ → List ℕ) (ls : Locks) (n : Netlist) : Type 0 where
+  pub named : map (λ (i : MemInfo). i.name) (delayed_mems n) ≡ names_delayed names 0 p.mems
   pub in_order : (m : ℕ) → m < length p.mems → (mem_at p m).delayed ≡ false → ls.array m ≡ comb_place p m
   pub count : length n.mems ≡ length p.mems
   pub depth : (m : ℕ) (d : MemInfo) → m < length p.mems → (slice_index_or n.mems (net_place p m) d).depth ≡ (mem_at p m).depth
+  pub width : (m : ℕ) (d : MemInfo) → m < length p.mems → (slice_index_or n.mems (net_place p m) d).width ≡ (mem_at p m).width
   pub delayed : (m : ℕ) (d : MemInfo) → m < length p.mems → (slice_index_or n.mems (net_place p m) d).delayed ≡ (mem_at p m).delayed
 
 -- from each image and with each schedule of replies each port of each cycle is the machine's
