@@ -140,6 +140,7 @@ module _ (p : Pipe) (reads : Reads p) (st : State) (d : Derived.State) (ls : Lis
     behind = behind_older p st d ls sim;
     awaited = awaited_here;
     owner = owner_here;
+    listed = sim.requests;
     forked = list_few p st d ls sim;
   }
 

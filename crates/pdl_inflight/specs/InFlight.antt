@@ -4,6 +4,7 @@ use Rattle.pdl_word.specs.Each.{Each}
 use Rattle.pdl_semantics.specs.Flat.{Pipe}
 use Rattle.pdl_semantics.specs.Stages.{stage_at}
 use Rattle.pdl_semantics.specs.Machine.{Awaited, Thread, Owned, State, request_of, fork_of}
+use Rattle.pdl_semantics.specs.Cycle.{for_mems}
 use Rattle.pdl_machine_facts.specs.Slots.{slot}
 use Rattle.pdl_inflight.specs.Readings.{Reading, reading, places, branch_stages}
 
@@ -35,5 +36,7 @@ pub record InFlight (p : Pipe) (st : State) : Type 0 where
   -- what a thread awaits, and whose a request is
   pub awaited : (k : ℕ) (t : Thread) → slot st k ≡ Some t → Each (IsAwaited p st k t.number) t.awaits
   pub owner : (m n a : ℕ) → request_of st m ≡ Owned n a → (k : ℕ) × (t : Thread) × (slot st k ≡ Some t) × (t.number ≡ n) × Awaits t m
+  -- requests are those of the memories
+  pub listed : st.requests ≡ for_mems (request_of st) 0 p.mems
   -- a fork's list is no longer than its branches have stages
   pub forked : (f : ℕ) → length (fork_of st f) ≤ branch_stages p f

@@ -9,6 +9,11 @@ pub mod Tails
 pub mod Squashed
 pub mod WholeCycle
 pub mod Stores
+pub mod Requests
+pub mod Named
+pub mod WholeOutputs
+pub mod NextStores
+pub mod WholeRuns
 pub mod DelayedReads
 pub mod FromRules
 pub mod Known

@@ -133,12 +133,3 @@ inputs_fit st m (x ∷ xs) ys b h = at x.delayed ys h (λ zs k c. inputs_fit st 
     at false ys h go = go ys h b
     at true [] h go = absurd h
     at true (y ∷ ys) h go = let r = go ys h.1 (b / 2) in pair_bound x st m y h.0 (reply b) (answers ys (b / 2)) (input_widths xs) r.1 r.0
-
--- WAITS
-
-waits_one : (q : Request) (o : Option ℕ) (b : Bool) → o ≡ address_asked q → is_waiting o b ≡ (is_outstanding q && not b)
-waits_one NoRequest o b e = ap (λ o. is_waiting o b) e
-waits_one (Owned n a) o true e = ap (λ o. is_waiting o true) e
-waits_one (Owned n a) o false e = ap (λ o. is_waiting o false) e
-waits_one (Orphan a) o true e = ap (λ o. is_waiting o true) e
-waits_one (Orphan a) o false e = ap (λ o. is_waiting o false) e
