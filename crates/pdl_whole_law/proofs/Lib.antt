@@ -17,3 +17,5 @@ pub mod WholeRuns
 pub mod DelayedReads
 pub mod FromRules
 pub mod Known
+pub mod Places
+pub mod WholeStart
