@@ -19,3 +19,4 @@ pub mod FromRules
 pub mod Known
 pub mod Places
 pub mod WholeStart
+pub mod ShowsSource
