@@ -17,3 +17,6 @@ pub mod WholeRuns
 pub mod DelayedReads
 pub mod FromRules
 pub mod Known
+pub mod Places
+pub mod WholeStart
+pub mod ShowsSource

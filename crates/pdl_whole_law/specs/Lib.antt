@@ -3,3 +3,4 @@ pub mod HasSides
 pub mod Whole
 pub mod Standing
 pub mod Outside
+pub mod Made
