@@ -1,5 +1,6 @@
 pub mod Lives
 pub mod Walk
+pub mod Places
 pub mod Reads
 pub mod Views
 pub mod Ports

@@ -9,7 +9,7 @@ use Rattle.pdl_net.specs.Circuit.{State}
 use Rattle.pdl_net.specs.Signal.{Signal}
 use Rattle.pdl_pipe_law.specs.Views.{View}
 use Rattle.pdl_pipe_law.specs.Ports.{Shown, Commit, stages_shown, commit_shown, commits_shown}
-use Rattle.pdl_whole_law.specs.Whole.{Request, request_shown, requests_shown}
+use Rattle.pdl_sides.specs.Whole.{Request, request_shown, requests_shown}
 
 -- the value of the first output of this name, 0 where there is none
 abbrev pub look : State → List Shown → List ℕ → ℕ

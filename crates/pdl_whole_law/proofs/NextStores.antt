@@ -21,7 +21,7 @@ use Rattle.pdl_machine_facts.proofs.Stagewise.{next_is}
 use Rattle.pdl_inflight.specs.Readings.{reading}
 use Rattle.pdl_whole_law.specs.Standing.{IsLawful, IsKnown}
 use Rattle.pdl_whole_law.specs.Outside.{address_asked, IsStore, StoreThen, AreStores}
-use Rattle.pdl_whole_law.specs.Whole.{replies_of, names_delayed}
+use Rattle.pdl_sides.specs.Whole.{replies_of, names_delayed}
 use Rattle.pdl_whole_law.proofs.Requests.{or_old, address_next, never_asked}
 use Rattle.pdl_whole_law.proofs.WholeOutputs.{write_of}
 use Rattle.pdl_whole_law.proofs.Stores.{delayed_in}

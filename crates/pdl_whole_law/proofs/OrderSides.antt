@@ -28,8 +28,8 @@ use Rattle.pdl_pipe_law.specs.Stands.{IsSo, IsSeen}
 use Rattle.pdl_pipe_law.proofs.Signals.{mux_at, mux_by, one_is, zero_is}
 use Rattle.pdl_pipe_law.proofs.Moves.{ready_of, lives_fork}
 use Rattle.pdl_inflight.specs.InFlight.{InFlight}
-use Rattle.pdl_whole_law.specs.Sides.{Sides, OrderNets, into_first, into_second, merging, into_merge, leaves_fork, order_step, branch_turn, merge_turn, turn}
-use Rattle.pdl_whole_law.specs.HasSides.{HasOrder, HasSides}
+use Rattle.pdl_sides.specs.Sides.{Sides, OrderNets, into_first, into_second, merging, into_merge, leaves_fork, order_step, branch_turn, merge_turn, turn}
+use Rattle.pdl_sides.specs.HasSides.{HasOrder, HasSides}
 use Rattle.pdl_whole_law.proofs.Forking.{goes_first, goes_second, if_moves, order_act, step_is, proper_order}
 
 -- ---- WAYS

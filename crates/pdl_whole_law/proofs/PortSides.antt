@@ -23,8 +23,8 @@ use Rattle.pdl_inflight.specs.Readings.{Reading, reading, places, place_at, Read
 use Rattle.pdl_inflight.specs.InFlight.{Some-of, Awaits, IsAwaited, InFlight}
 use Rattle.pdl_inflight.proofs.DeedsIn.{AsksIn, asks_in}
 use Rattle.pdl_inflight.proofs.Answers.{word_asked, kept_append, some_open, not_bound}
-use Rattle.pdl_whole_law.specs.Sides.{Sides, place_answer, memory_answer, some_answer, with_answer, place_answered, memory_answered, all_answered, ports_open}
-use Rattle.pdl_whole_law.specs.HasSides.{HasPort}
+use Rattle.pdl_sides.specs.Sides.{Sides, answers_of, place_answer, memory_answer, some_answer, with_answer, place_answered, memory_answered, all_answered, ports_open}
+use Rattle.pdl_sides.specs.HasSides.{HasPort}
 use Rattle.pdl_whole_law.proofs.Waiting.{SamePort, reply_bit, answered_yes, answered_no, answer_right, answer_comes, free_is, place_up}
 use Rattle.pdl_word.specs.Each.{Each}
 
@@ -128,7 +128,7 @@ module _ (p : Pipe) (reads : Reads p) (leads : LeadsOn p) (inside : (m : ℕ) (r
         let a = Rattle.pdl_whole_law.proofs.Waiting.each_some (IsAwaited p st k u.number) (λ (q : Awaited). q.mem ≡ m) u.awaits (flight.awaited k u f) w in
         (a.1.read, ap (reading p) (sym a.2) ∙ a.1.is)
 
-    memory_told : (m : ℕ) (o : Option Reading) → reading p m ≡ o → Told (memory_answered p sides k m o) (Open m)
+    memory_told : (m : ℕ) (o : Option Reading) → reading p m ≡ o → Told (memory_answered p (answers_of sides) k m o) (Open m)
     memory_told m None e = record { told = true; value = one_is s; yes = λ z. refl; late = λ z. absurd (let y = read_of m z.0 in cc (sym e ∙ y.1)) }
     memory_told m (Some r) e =
         let t = places_told m r e (places p r) 0 (omega arith) (λ j l. ap (place_at p r) (let z : j ≡ 0 + j = omega arith in z)) in
@@ -139,7 +139,7 @@ module _ (p : Pipe) (reads : Reads p) (leads : LeadsOn p) (inside : (m : ℕ) (r
           late = λ z. (let o = answered_no p reads leads st bits flight by m r e (inside m r e) (stand m r e).state (stand m r e).same k u f z.0 z.1 in t.late (o.0, omega arith, o.1, o.2, o.3));
         }
 
-    all_told : (n m : ℕ) → Told (all_answered p sides k n m) ((i : ℕ) × (m ≤ i) × (i < m + n) × Open i)
+    all_told : (n m : ℕ) → Told (all_answered p (answers_of sides) k n m) ((i : ℕ) × (m ≤ i) × (i < m + n) × Open i)
     all_told zero m = record { told = true; value = one_is s; yes = λ z. refl; late = λ z. absurd (let l = z.1 in let g = z.2 in omega (arith, l, g)) }
     all_told (suc n) m = at (memory_told m (reading p m) refl) (all_told n (suc m))
       where
@@ -147,10 +147,10 @@ module _ (p : Pipe) (reads : Reads p) (leads : LeadsOn p) (inside : (m : ℕ) (r
         none true d g = g
         none false d g = refl
 
-        at : Told (memory_answered p sides k m (reading p m)) (Open m) → Told (all_answered p sides k n (suc m)) ((i : ℕ) × (suc m ≤ i) × (i < suc m + n) × Open i) → Told (all_answered p sides k (suc n) m) ((i : ℕ) × (m ≤ i) × (i < m + suc n) × Open i)
+        at : Told (memory_answered p (answers_of sides) k m (reading p m)) (Open m) → Told (all_answered p (answers_of sides) k n (suc m)) ((i : ℕ) × (suc m ≤ i) × (i < suc m + n) × Open i) → Told (all_answered p (answers_of sides) k (suc n) m) ((i : ℕ) × (m ≤ i) × (i < m + suc n) × Open i)
         at a b = record {
           told = a.told && b.told;
-          value = both_at s (memory_answered p sides k m (reading p m)) (all_answered p sides k n (suc m)) a.told b.told a.value (λ z. b.value);
+          value = both_at s (memory_answered p (answers_of sides) k m (reading p m)) (all_answered p (answers_of sides) k n (suc m)) a.told b.told a.value (λ z. b.value);
           yes = λ z. ap₂ (λ c d. c && d) (a.yes z) (b.yes z);
           late = λ z. by_place z (⊎_elim (λ (g : m < z.0). inr g) (λ (g : z.0 ≤ m). inl (let l = z.1 in omega (arith, l, g))) (cases_lt m z.0));
         }
@@ -159,7 +159,7 @@ module _ (p : Pipe) (reads : Reads p) (leads : LeadsOn p) (inside : (m : ℕ) (r
             by_place z (inl g) = ap (λ c. c && b.told) (a.late (subst (λ i. Awaits u i × (is_answered p bits i ≡ false)) g z.3))
             by_place z (inr g) = none a.told b.told (b.late (z.0, g, (let h = z.2 in omega (arith, h)), z.3))
 
-    pub awaits_told : (all_answered p sides k (length p.mems) 0).value s ≡ bit (is_empty (with_answers p st bits u).awaits)
+    pub awaits_told : (all_answered p (answers_of sides) k (length p.mems) 0).value s ≡ bit (is_empty (with_answers p st bits u).awaits)
     awaits_told = (all_told (length p.mems) 0).value ∙ ap bit (at (is_empty (with_answers p st bits u).awaits) refl)
       where
         at : (b : Bool) → is_empty (with_answers p st bits u).awaits ≡ b → (all_told (length p.mems) 0).told ≡ is_empty (with_answers p st bits u).awaits
@@ -258,7 +258,7 @@ module _ (p : Pipe) (reads : Reads p) (leads : LeadsOn p) (inside : (m : ℕ) (r
                       (cases_lt i z.0)
 
       memory_right : (m : ℕ) (o : Option Reading) → reading p m ≡ o → (rest : Signal) → (rest.value s ≡ slice_index (with_kept (with_answers p st bits u).kept u.env) v) ⊎ Comes m
-          → (memory_answer p sides k v m o rest).value s ≡ slice_index (with_kept (with_answers p st bits u).kept u.env) v
+          → (memory_answer p (answers_of sides) k v m o rest).value s ≡ slice_index (with_kept (with_answers p st bits u).kept u.env) v
       memory_right m None e rest (inl g) = g
       memory_right m None e rest (inr g) = absurd (cc (sym e ∙ g.is))
       memory_right m (Some r) e rest g = at (r.var == v) refl g
@@ -275,17 +275,17 @@ module _ (p : Pipe) (reads : Reads p) (leads : LeadsOn p) (inside : (m : ℕ) (r
               (places_answer m h.read h.is h.var rest (places p h.read) 0 (omega arith) (λ j l. ap (place_at p h.read) (let z : j ≡ 0 + j = omega arith in z)) (inr (h.place, h.word, omega arith, h.low, h.at_stage, h.gives)))
 
       chain_right : (n m : ℕ) (rest : Signal) → (rest.value s ≡ slice_index (with_kept (with_answers p st bits u).kept u.env) v) ⊎ ((i : ℕ) × (m ≤ i) × (i < m + n) × Comes i)
-          → (some_answer p sides k v n m rest).value s ≡ slice_index (with_kept (with_answers p st bits u).kept u.env) v
+          → (some_answer p (answers_of sides) k v n m rest).value s ≡ slice_index (with_kept (with_answers p st bits u).kept u.env) v
       chain_right zero m rest (inl g) = g
       chain_right zero m rest (inr g) = absurd (let l = g.1 in let h = g.2 in omega (arith, l, h))
-      chain_right (suc n) m rest (inl g) = memory_right m (reading p m) refl (some_answer p sides k v n (suc m) rest) (inl (chain_right n (suc m) rest (inl g)))
+      chain_right (suc n) m rest (inl g) = memory_right m (reading p m) refl (some_answer p (answers_of sides) k v n (suc m) rest) (inl (chain_right n (suc m) rest (inl g)))
       chain_right (suc n) m rest (inr g) = ⊎_elim
-          (λ (z : m < g.0). memory_right m (reading p m) refl (some_answer p sides k v n (suc m) rest) (inl (chain_right n (suc m) rest (inr (g.0, z, (let h = g.2 in omega (arith, h)), g.3)))))
-          (λ (z : g.0 ≤ m). memory_right m (reading p m) refl (some_answer p sides k v n (suc m) rest) (inr (subst (λ i. Comes i) (let l = g.1 in let same : g.0 ≡ m = omega (arith, z, l) in same) g.3)))
+          (λ (z : m < g.0). memory_right m (reading p m) refl (some_answer p (answers_of sides) k v n (suc m) rest) (inl (chain_right n (suc m) rest (inr (g.0, z, (let h = g.2 in omega (arith, h)), g.3)))))
+          (λ (z : g.0 ≤ m). memory_right m (reading p m) refl (some_answer p (answers_of sides) k v n (suc m) rest) (inr (subst (λ i. Comes i) (let l = g.1 in let same : g.0 ≡ m = omega (arith, z, l) in same) g.3)))
           (cases_lt m g.0)
 
       -- a variable with the answers of this cycle
-      pub variable_told : (kept : Signal) → kept.value s ≡ slice_index (with_kept u.kept u.env) v → (with_answer p sides k v kept).value s ≡ slice_index (with_kept (with_answers p st bits u).kept u.env) v
+      pub variable_told : (kept : Signal) → kept.value s ≡ slice_index (with_kept u.kept u.env) v → (with_answer p (answers_of sides) k v kept).value s ≡ slice_index (with_kept (with_answers p st bits u).kept u.env) v
       variable_told kept e = chain_right (length p.mems) 0 kept (at (bound_or_not p bits v u.awaits))
         where
           each : Each (IsAwaited p st k u.number) u.awaits

@@ -28,8 +28,8 @@ use Rattle.pdl_pipe_law.proofs.LockPorts.{both_is, moves_or_not}
 use Rattle.pdl_pipe_law.proofs.Moves.{lives_fork, ready_of}
 use Rattle.pdl_inflight.specs.Readings.{Reading, reading, places_of, places, place_at, place_to, Reads}
 use Rattle.pdl_inflight.specs.InFlight.{InFlight}
-use Rattle.pdl_whole_law.specs.Sides.{Sides, asks_memory, asked_address, goes_to_place, asked_into, port_step}
-use Rattle.pdl_whole_law.specs.HasSides.{HasOwn, HasPort}
+use Rattle.pdl_sides.specs.Sides.{Sides, asks_memory, asked_address, goes_to_place, asked_into, port_step}
+use Rattle.pdl_sides.specs.HasSides.{HasOwn, HasPort}
 use Rattle.pdl_whole_law.proofs.Waiting.{SameRequest, SamePort, asks_of, asked_at, port_act}
 use Rattle.pdl_whole_law.proofs.WaitingStep.{proper_port, owned_low, same_next}
 use Rattle.pdl_whole_law.proofs.PortSides.{PortStands, IsGiven}

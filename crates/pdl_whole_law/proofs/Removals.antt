@@ -23,8 +23,8 @@ use Rattle.pdl_pipe_law.proofs.Signals.{mux_at, if_on_at, one_is, zero_is}
 use Rattle.pdl_pipe_law.proofs.Moves.{ready_of}
 use Rattle.pdl_inflight.specs.InFlight.{InFlight}
 use Rattle.pdl_inflight.proofs.Squashing.{stood_in, failing, no_squasher, none_fails, v_low, some_squash, fails_high, fails_low, removed_low, kept_high, clear_high, clear_where, not_clear}
-use Rattle.pdl_whole_law.specs.Sides.{Sides, unsquashed, barrier_open}
-use Rattle.pdl_whole_law.specs.HasSides.{HasRemovals, squash_of}
+use Rattle.pdl_sides.specs.Sides.{Sides, unsquashed, barrier_open}
+use Rattle.pdl_sides.specs.HasSides.{HasRemovals, squash_of}
 
 -- whether this squasher removes who stands in a stage
 abbrev pub removes : Option ℕ → Option Thread → Bool

@@ -21,10 +21,10 @@ use Rattle.pdl_pipe_law.proofs.LockPorts.{moves_or_not}
 use Rattle.pdl_pipe_law.proofs.Moves.{ready_of}
 use Rattle.pdl_inflight.specs.Readings.{Reading, reading, Reads}
 use Rattle.pdl_inflight.proofs.DeedsIn.{AsksIn, asks_in}
-use Rattle.pdl_whole_law.specs.Sides.{Sides}
+use Rattle.pdl_sides.specs.Sides.{Sides}
 use Rattle.pdl_whole_law.specs.Outside.{address_asked}
-use Rattle.pdl_whole_law.specs.Whole as whole
-use Rattle.pdl_whole_law.specs.Whole.{IsOutside}
+use Rattle.pdl_sides.specs.Whole as whole
+use Rattle.pdl_sides.specs.Whole.{IsOutside}
 use Rattle.pdl_whole_law.proofs.Waiting.{asks_of}
 use Rattle.pdl_whole_law.proofs.PortsNext.{asks_value, address_or, address_value}
 use Rattle.pdl_word.specs.Each.{Each}

@@ -24,9 +24,9 @@ use Rattle.pdl_machine_facts.proofs.Still.{none_requested}
 use Rattle.pdl_pipe_law.specs.Walk.{Locks}
 use Rattle.pdl_pipe_law.specs.Views.{View, Gates}
 use Rattle.pdl_pipe_law.specs.Declared.{mem_names}
-use Rattle.pdl_whole_law.specs.Sides.{Sides}
+use Rattle.pdl_sides.specs.Sides.{Sides}
 use Rattle.pdl_whole_law.specs.Standing.{IsLawful, IsKnown}
-use Rattle.pdl_whole_law.specs.Whole.{in_order, ShowsWhole}
+use Rattle.pdl_sides.specs.Whole.{in_order, ShowsWhole}
 use Rattle.pdl_whole_law.specs.Made.{IsMadeWhole}
 use Rattle.pdl_whole_law.proofs.Named.{Apart}
 use Rattle.pdl_whole_law.proofs.WholeCycle.{whole_first}

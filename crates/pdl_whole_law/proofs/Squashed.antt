@@ -26,8 +26,8 @@ use Rattle.pdl_pipe_law.specs.Stands.{StandsLock, IsSeen, IsSquashed}
 use Rattle.pdl_pipe_law.proofs.Stood.{stood}
 use Rattle.pdl_inflight.specs.InFlight.{InFlight}
 use Rattle.pdl_inflight.proofs.Squashing.{stood_in, no_squasher}
-use Rattle.pdl_whole_law.specs.Sides.{Sides}
-use Rattle.pdl_whole_law.specs.HasSides.{HasSides}
+use Rattle.pdl_sides.specs.Sides.{Sides}
+use Rattle.pdl_sides.specs.HasSides.{HasSides}
 use Rattle.pdl_whole_law.proofs.Removals.{squash_is, kill_here}
 use Rattle.pdl_whole_law.proofs.Tails.{StandTails, tails_first, tail_is, tails_kept}
 

@@ -12,7 +12,7 @@ use Rattle.pdl_semantics.specs.Sound.{request_address}
 use Rattle.pdl_net.specs.Run.{Store, reply, answer, answers}
 use Rattle.pdl_inflight.proofs.Answers.{word_asked}
 use Rattle.pdl_whole_law.specs.Outside.{address_asked, IsStore, StoreThen, AreStores}
-use Rattle.pdl_whole_law.specs.Whole.{replies_of}
+use Rattle.pdl_sides.specs.Whole.{replies_of}
 
 -- COUNTS
 

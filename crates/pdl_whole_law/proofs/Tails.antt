@@ -41,8 +41,8 @@ use Rattle.pdl_pipe_law.proofs.Next.{lock_there}
 use Rattle.pdl_inflight.specs.InFlight.{InFlight}
 use Rattle.pdl_inflight.proofs.Squashing.{stood_in, squasher_in}
 use Rattle.pdl_inflight.proofs.Comings.{stage_low}
-use Rattle.pdl_whole_law.specs.Sides.{Sides, with_tickets}
-use Rattle.pdl_whole_law.specs.HasSides.{HasTails}
+use Rattle.pdl_sides.specs.Sides.{Sides, with_tickets}
+use Rattle.pdl_sides.specs.HasSides.{HasTails}
 use Rattle.pdl_whole_law.proofs.OrderSides.{Agrees, fork_at}
 
 -- a thread past a memory's reserves, no further than V, carries the ticket of the first pending write of a younger one

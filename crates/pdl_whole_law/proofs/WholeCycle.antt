@@ -25,8 +25,8 @@ use Rattle.pdl_pipe_law.proofs.Moves.{all_seen, lives_fork}
 use Rattle.pdl_pipe_law.proofs.Next.{stands_after}
 use Rattle.pdl_inflight.specs.Readings.{Reading, reading}
 use Rattle.pdl_inflight.proofs.Squashing.{stood_in}
-use Rattle.pdl_whole_law.specs.Sides.{Sides, all_answered, unsquashed, ports_open, barrier_open, turn}
-use Rattle.pdl_whole_law.specs.HasSides.{HasSides}
+use Rattle.pdl_sides.specs.Sides.{Sides, answers_of, all_answered, unsquashed, ports_open, barrier_open, turn}
+use Rattle.pdl_sides.specs.HasSides.{HasSides}
 use Rattle.pdl_whole_law.specs.Standing.{IsLawful, IsKnown}
 use Rattle.pdl_whole_law.proofs.PortSides.{PortStands, IsGiven, awaits_told, variable_told, ports_told}
 use Rattle.pdl_whole_law.proofs.PortsNext.{ports_first, ports_next}
@@ -74,7 +74,7 @@ module _ (p : Pipe) (lawful : IsLawful p) (ls : Locks) (vs : ℕ → View) (gate
         let acts = later_acts p st bits k in
         let pass = both (barrier_open v k w.barrier (sides.clear k)) (way_on (stage_at p k).next (turn p sides k) w) in
         beside.gate k l s suits
-        ∙ both_at s (all_answered p sides k (length p.mems) 0) (both (unsquashed v k gates.squash) (both (ports_open sides w.asks) pass)) (is_empty t.awaits) (may_pass p st bits acts k d)
+        ∙ both_at s (all_answered p (answers_of sides) k (length p.mems) 0) (both (unsquashed v k gates.squash) (both (ports_open sides w.asks) pass)) (is_empty t.awaits) (may_pass p st bits acts k d)
         (awaits_told p lawful.reads lawful.leads lawful.inside c vs gates moves sides beside.port_owns beside.ports s st bits known.flight known.by whole.ports given k y.0 y.1 ∙ ap (λ (u : Thread). bit (is_empty u.awaits)) y.2)
         (λ a. both_at s (unsquashed v k gates.squash) (both (ports_open sides w.asks) pass) (no_failure acts) (ports_free p st bits acts d && (barrier_clear p acts d && merges_well p st k (next_stage p k d)))
         (unsquashed_is p lawful.sound c vs gates moves sides beside.removals s st bits suits known.flight known.by whole.stands.valid k later)

@@ -25,9 +25,9 @@ use Rattle.pdl_pipe_law.proofs.Stood.{stood}
 use Rattle.pdl_pipe_law.proofs.LinesNames.{name_of_output}
 use Rattle.pdl_pipe_law.proofs.LinesPorts.{named_value, port_is}
 use Rattle.pdl_pipe_law.proofs.Outputs.{shown_value, outputs_all, values_shown, stages_are, commit_words, commits_are, commit_laid}
-use Rattle.pdl_whole_law.specs.Sides.{Sides}
+use Rattle.pdl_sides.specs.Sides.{Sides}
 use Rattle.pdl_whole_law.specs.Standing.{IsLawful, IsKnown}
-use Rattle.pdl_whole_law.specs.Whole.{Request, IsWhole, request_shown, requests_shown, whole_shown, reply_ports, request_values, all_request_values, whole_values}
+use Rattle.pdl_sides.specs.Whole.{Request, IsWhole, request_shown, requests_shown, whole_shown, reply_ports, request_values, all_request_values, whole_values}
 use Rattle.pdl_whole_law.proofs.PortsNext.{address_or}
 use Rattle.pdl_whole_law.proofs.Requests as requests
 use Rattle.pdl_whole_law.proofs.Named.{look, Apart, past_stages, pick, pick_at, pick_not, commit_flag, commit_addr, commit_word, request_flag, request_addr, past_commits_q, past_commits_qa, past_requests_c, past_requests_ca, past_requests_cd}

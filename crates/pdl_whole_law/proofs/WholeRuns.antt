@@ -32,10 +32,11 @@ use Rattle.pdl_pipe_law.proofs.Standing.{after_more}
 use Rattle.pdl_pipe_law.proofs.StageLooks.{plain_is}
 use Rattle.pdl_pipe_law.proofs.Outputs.{commit_words}
 use Rattle.pdl_inflight.specs.Readings.{reading}
-use Rattle.pdl_whole_law.specs.Sides.{Sides}
+use Rattle.pdl_sides.specs.Sides.{Sides}
 use Rattle.pdl_whole_law.specs.Standing.{IsLawful, IsKnown}
 use Rattle.pdl_whole_law.specs.Outside.{AreStores}
-use Rattle.pdl_whole_law.specs.Whole.{IsWhole, reply_ports, in_order, delayed_count, replies_of, whole_had, HasWholeMems, ShowsWhole}
+use Rattle.pdl_sides.specs.Whole.{IsWhole, reply_ports, in_order, replies_of, whole_had, HasWholeMems, ShowsWhole}
+use Rattle.pdl_pipe_law.specs.Places.{delayed_count}
 use Rattle.pdl_whole_law.proofs.PortSides.{IsGiven}
 use Rattle.pdl_whole_law.proofs.PortsNext.{address_or}
 use Rattle.pdl_whole_law.proofs.WholeCycle.{WholeStands, seen_whole, squashed_whole, whole_next}

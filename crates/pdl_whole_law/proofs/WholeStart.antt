@@ -33,7 +33,8 @@ use Rattle.pdl_pipe_law.specs.Stands.{StandsFor}
 use Rattle.pdl_pipe_law.proofs.Next.{mem_there, lock_there}
 use Rattle.pdl_pipe_law.proofs.First.{padded_at, StartsWith, stands_at_first}
 use Rattle.pdl_whole_law.specs.Outside.{IsStore, StoreThen, AreStores}
-use Rattle.pdl_whole_law.specs.Whole.{StartsLock, delayed_count, comb_place, net_place, in_order, HasWholeMems}
+use Rattle.pdl_pipe_law.specs.Places.{delayed_count, comb_place, net_place}
+use Rattle.pdl_sides.specs.Whole.{StartsLock, in_order, HasWholeMems}
 use Rattle.pdl_whole_law.proofs.Places.{is_delayed, count_yes, count_no, place_low, place_delayed, place_comb, reply_low, part_is, delayed_as_many}
 
 -- ---- STORES

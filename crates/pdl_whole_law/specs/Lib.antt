@@ -1,6 +1,3 @@
-pub mod Sides
-pub mod HasSides
-pub mod Whole
 pub mod Standing
 pub mod Outside
 pub mod Made

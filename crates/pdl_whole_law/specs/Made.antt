@@ -9,8 +9,8 @@ use Rattle.pdl_net.specs.Pipe.{IsWellFormed}
 use Rattle.pdl_pipe_law.specs.Walk.{Locks}
 use Rattle.pdl_pipe_law.specs.Views.{View, Gates}
 use Rattle.pdl_pipe_law.specs.Declared.{mem_names}
-use Rattle.pdl_whole_law.specs.Sides.{Sides}
-use Rattle.pdl_whole_law.specs.Whole.{IsWhole, HasWholeMems}
+use Rattle.pdl_sides.specs.Sides.{Sides}
+use Rattle.pdl_sides.specs.Whole.{IsWhole, HasWholeMems}
 
 pub record IsMadeWhole (p : tree.Pipe) (ls : Locks) (vs : ℕ → View) (gates : Gates) (moves : ℕ → Signal) (sides : Sides) (n : Netlist) : Type 1 where
   -- its stages, its locks, what stands beside them, and its ports, by their laws

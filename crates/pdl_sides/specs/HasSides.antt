@@ -16,7 +16,7 @@ use Rattle.pdl_pipe_law.specs.Views.{View, Gates, Comer, comers, first_coming}
 use Rattle.pdl_pipe_law.specs.Ports.{all_reserves}
 use Rattle.pdl_pipe_law.specs.Compiled.{Same, Becomes}
 use Rattle.pdl_inflight.specs.Readings.{Reading, reading, places, place_at, branch_stages}
-use Rattle.pdl_whole_law.specs.Sides.{Sides, with_answer, gate_where, port_step, order_step, with_tickets}
+use Rattle.pdl_sides.specs.Sides.{Sides, answers_of, with_answer, gate_where, port_step, order_step, with_tickets}
 
 -- a fragment without array has its own registers
 pub record HasOwn (c : Circuit) (own : Own) : Type 0 where
@@ -58,7 +58,7 @@ pub record HasTails (p : Pipe) (ls : Locks) (c : Circuit) (vs : ℕ → View) (g
 
 -- all of it, and how the stages take it: variables with the answers of this cycle, and gates
 pub record HasSides (p : Pipe) (ls : Locks) (c : Circuit) (vs : ℕ → View) (gates : Gates) (moves : ℕ → Signal) (sides : Sides) : Type 0 where
-  pub begun : (k x : ℕ) → k < length p.stages → Same c ((vs k).begun.vars x) (with_answer p sides k x ((vs k).kept x))
+  pub begun : (k x : ℕ) → k < length p.stages → Same c ((vs k).begun.vars x) (with_answer p (answers_of sides) k x ((vs k).kept x))
   pub gate : (k : ℕ) → k < length p.stages → Same c (gates.gate k) (gate_where p vs gates sides k)
   pub port_owns : ℕ → Own
   pub ports : (m : ℕ) (r : Reading) → reading p m ≡ Some r → HasPort p c vs gates moves sides (port_owns m) m r

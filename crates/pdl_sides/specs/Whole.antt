@@ -1,5 +1,5 @@
 -- The netlist of a pipe of the whole language, in signals, and what it shows with its delayed memories outside.
-use Rattle.std.specs.Prelude.{◌≡◌, ℕ, zero, suc, ◌+◌, ◌*◌, ◌-◌, ◌/◌, ◌^◌, ◌<◌, Bool, true, false, List, [], ◌∷◌, ◌++◌, Option, Some, None, if◌then◌else◌, length, map, codes, count_by, slice_index_or, take}
+use Rattle.std.specs.Prelude.{◌≡◌, ℕ, zero, suc, ◌+◌, ◌*◌, ◌-◌, ◌/◌, ◌^◌, ◌<◌, Bool, true, false, List, [], ◌∷◌, ◌++◌, Option, Some, None, if◌then◌else◌, length, map, codes, slice_index_or}
 use Rattle.pdl_word.specs.Words.{bit}
 use Rattle.pdl_kit.specs.declared.mem_info.MemInfo.{MemInfo}
 use Rattle.pdl_semantics.specs.Flat.{Mem, Pipe, arrays_of}
@@ -18,13 +18,14 @@ use Rattle.pdl_lockapi.specs.Lock.{start}
 use Rattle.pdl_lockapi.specs.Laws.{IsReset, HasImage, words_of}
 use Rattle.pdl_machine_facts.specs.Ports.{stage_values, all_commit_values}
 use Rattle.pdl_pipe_law.specs.Walk.{Locks, is_locked, zero_bit}
+use Rattle.pdl_pipe_law.specs.Places.{delayed_count, comb_place, net_place}
 use Rattle.pdl_pipe_law.specs.Views.{View, Gates}
 use Rattle.pdl_pipe_law.specs.Ports.{Shown, shown_signal, Commit, stages_shown, commits_shown}
 use Rattle.pdl_pipe_law.specs.Compiled.{Same, IsLaid, shown_in, port_in}
 use Rattle.pdl_pipe_law.specs.Runs.{Seen, seen_of}
 use Rattle.pdl_inflight.specs.Readings.{Reading, reading}
-use Rattle.pdl_whole_law.specs.Sides.{Sides, asks_memory, asked_address}
-use Rattle.pdl_whole_law.specs.HasSides.{HasSides}
+use Rattle.pdl_sides.specs.Sides.{Sides, asks_memory, asked_address}
+use Rattle.pdl_sides.specs.HasSides.{HasSides}
 
 -- ---- outside
 
@@ -95,17 +96,6 @@ pub record IsWhole (p : Pipe) (names : ℕ → List ℕ) (ls : Locks) (vs : ℕ 
   pub shown : map (shown_in c) outs ≡ whole_shown p names laid.commits asks vs gates moves
 
 -- ---- runs
-
--- how many memories are delayed, and the place of one that isn't among those that aren't
-abbrev pub delayed_count : Pipe → ℕ
-delayed_count p = count_by (λ (x : Mem). x.delayed) p.mems
-
-abbrev pub comb_place : Pipe → ℕ → ℕ
-comb_place p m = count_by (λ (x : Mem). if x.delayed then false else true) (take m p.mems)
-
--- the place of a memory in a netlist, whose delayed memories stand first
-abbrev pub net_place : Pipe → ℕ → ℕ
-net_place p m = if (mem_at p m).delayed then reply_place p m else delayed_count p + comb_place p m
 
 -- an image for the netlist's memories, in the pipe's order
 abbrev pub in_order : Pipe → List (List ℕ) → List (List ℕ)

@@ -34,6 +34,10 @@ pub record Sides : Type 1 where
   pub clear : ℕ → Signal
   pub tails : ℕ → ℕ → Signal
 
+-- the answers of each memory's port
+abbrev pub answers_of : Sides → ℕ → ℕ → AnswerSignals
+answers_of sides m = (sides.port m).answers
+
 -- ---- what a stage begins with
 
 -- the answer that comes into stage k through one of these places, of which the first has the number i, else this
@@ -41,19 +45,19 @@ abbrev pub place_answer : (ℕ → AnswerSignals) → ℕ → List ℕ → ℕ �
 place_answer f k [] i rest = rest
 place_answer f k (q ∷ qs) i rest = if q == k then mux_signal (f i).given (f i).value (place_answer f k qs (suc i) rest) else place_answer f k qs (suc i) rest
 
--- that of a memory whose delayed read binds x
-abbrev pub memory_answer : Pipe → Sides → ℕ → ℕ → ℕ → Option Reading → Signal → Signal
-memory_answer p sides k x m None rest = rest
-memory_answer p sides k x m (Some r) rest = if r.var == x then place_answer (sides.port m).answers k (places p r) 0 rest else rest
+-- that of a memory whose delayed read binds x, by the answers of each memory's port
+abbrev pub memory_answer : Pipe → (ℕ → ℕ → AnswerSignals) → ℕ → ℕ → ℕ → Option Reading → Signal → Signal
+memory_answer p answers k x m None rest = rest
+memory_answer p answers k x m (Some r) rest = if r.var == x then place_answer (answers m) k (places p r) 0 rest else rest
 
 -- that of one of n memories, of which the first is m
-abbrev pub some_answer : Pipe → Sides → ℕ → ℕ → ℕ → ℕ → Signal → Signal
-some_answer p sides k x zero m rest = rest
-some_answer p sides k x (suc n) m rest = memory_answer p sides k x m (reading p m) (some_answer p sides k x n (suc m) rest)
+abbrev pub some_answer : Pipe → (ℕ → ℕ → AnswerSignals) → ℕ → ℕ → ℕ → ℕ → Signal → Signal
+some_answer p answers k x zero m rest = rest
+some_answer p answers k x (suc n) m rest = memory_answer p answers k x m (reading p m) (some_answer p answers k x n (suc m) rest)
 
 -- a variable with this cycle's answers, where it was kept so
-abbrev pub with_answer : Pipe → Sides → ℕ → ℕ → Signal → Signal
-with_answer p sides k x kept = some_answer p sides k x (length p.mems) 0 kept
+abbrev pub with_answer : Pipe → (ℕ → ℕ → AnswerSignals) → ℕ → ℕ → Signal → Signal
+with_answer p answers k x kept = some_answer p answers k x (length p.mems) 0 kept
 
 -- ---- whether a thread may pass
 
@@ -62,13 +66,13 @@ abbrev pub place_answered : (ℕ → AnswerSignals) → ℕ → List ℕ → ℕ
 place_answered f k [] i = one
 place_answered f k (q ∷ qs) i = if q == k then both (f i).answered (place_answered f k qs (suc i)) else place_answered f k qs (suc i)
 
-abbrev pub memory_answered : Pipe → Sides → ℕ → ℕ → Option Reading → Signal
-memory_answered p sides k m None = one
-memory_answered p sides k m (Some r) = place_answered (sides.port m).answers k (places p r) 0
+abbrev pub memory_answered : Pipe → (ℕ → ℕ → AnswerSignals) → ℕ → ℕ → Option Reading → Signal
+memory_answered p answers k m None = one
+memory_answered p answers k m (Some r) = place_answered (answers m) k (places p r) 0
 
-abbrev pub all_answered : Pipe → Sides → ℕ → ℕ → ℕ → Signal
-all_answered p sides k zero m = one
-all_answered p sides k (suc n) m = both (memory_answered p sides k m (reading p m)) (all_answered p sides k n (suc m))
+abbrev pub all_answered : Pipe → (ℕ → ℕ → AnswerSignals) → ℕ → ℕ → ℕ → Signal
+all_answered p answers k zero m = one
+all_answered p answers k (suc n) m = both (memory_answered p answers k m (reading p m)) (all_answered p answers k n (suc m))
 
 -- a stage before V moves only where no squash happens
 abbrev pub unsquashed : Option ℕ → ℕ → Signal → Signal
@@ -100,7 +104,7 @@ turn p sides k q = merge_turn sides (stage_at p q).merges (stage_at p k).branch
 -- all of it
 abbrev pub gate_where : Pipe → (ℕ → View) → Gates → Sides → ℕ → Signal
 gate_where p vs gates sides k =
-    both (all_answered p sides k (length p.mems) 0)
+    both (all_answered p (answers_of sides) k (length p.mems) 0)
     (both (unsquashed (verify_stage p.stmts) k gates.squash)
     (both (ports_open sides (vs k).ended.asks)
     (both (barrier_open (verify_stage p.stmts) k (vs k).ended.barrier (sides.clear k)) (way_on (stage_at p k).next (turn p sides k) (vs k).ended))))
