@@ -1,0 +1,8 @@
+//! Which threads come into each stage of a pipe, and what the registers of the stages take next, whatever lets the threads move.
+//!
+//! The layer above may use `Line`, a pipe's stages with their moves, and `connect`.
+#![tactic(auto)]
+
+pub mod arrivals;
+
+pub use arrivals::{Arrival, Line, threads_into};
