@@ -19,11 +19,12 @@ use Rattle.pdl_stagenets.specs.declared.nets.LettingNet.{LettingNet}
 use Rattle.pdl_stagenets.specs.declared.nets.BirthNet.{BirthNet}
 use Rattle.pdl_stagenets.specs.declared.nets.WalkNets.{WalkNets}
 use Rattle.pdl_stagenets.specs.Parts.{Parts, held_of, reservation_in, letting_in, parts_in, IsThereWalk}
+use Rattle.pdl_stagenets.specs.Frames.{SameRest}
 use Rattle.pdl_stagenets.specs.Sized.{IsSized, IsWalk}
 use Rattle.pdl_stagenets.specs.Steps.{with_var, with_put, with_held, with_reserve, with_call}
 use Rattle.pdl_stagenets.proofs.Lists.{there_set}
 use Rattle.pdl_stagenets.proofs.Kept.{there_walk}
-use Rattle.pdl_stagenets.proofs.Updates.{vars_parts, ready_parts, held_parts, reserve_parts, put_parts, letting_parts, birth_parts, sized_var, sized_ready, sized_held, sized_put, sized_reserve, sized_letting, sized_call}
+use Rattle.pdl_stagenets.proofs.Updates.{there_rest, vars_parts, ready_parts, held_parts, reserve_parts, put_parts, letting_parts, birth_parts, sized_var, sized_ready, sized_held, sized_put, sized_reserve, sized_letting, sized_call}
 use Rattle.pdl_word.specs.Each.{Each}
 use Rattle.pdl_word.proofs.Each.{each_push}
 
@@ -37,54 +38,38 @@ module _ (a b : Circuit) (e : Extends a b) (p : Pipe) (ws : List ℕ) (w : WalkN
 
   -- another variable
   module _ (new : WalkNets) (x : ℕ) (n : Net) (on f : Signal) (m : Means b n (mux_signal on f (signal_at (signals_in a w.vars.items) x)))
-      (e1 : new.vars.items ≡ slice_set w.vars.items x n) (e2 : new.held ≡ w.held) (e3 : new.ready ≡ w.ready) (e4 : new.reserves ≡ w.reserves) (e5 : new.puts ≡ w.puts) (e6 : new.lettings ≡ w.lettings) (e7 : new.births ≡ w.births) (e8 : new.guess ≡ w.guess) where
+      (e1 : new.vars.items ≡ slice_set w.vars.items x n) (e2 : new.held ≡ w.held) (e3 : new.births ≡ w.births) (rest : SameRest w new) where
     pub set_parts : parts_in b new ≡ with_var x on f (parts_in a w)
-    set_parts = vars_parts a b (extends_keeps a b e) w h.there new x n (mux_signal on f (signal_at (signals_in a w.vars.items) x)) m.same e1 e2 e3 e4 e5 e6 e7 e8
+    set_parts = vars_parts a b (extends_keeps a b e) w h.there new x n (mux_signal on f (signal_at (signals_in a w.vars.items) x)) m.same e1 e2 e3 rest
 
     pub set_walk : f.width ≡ slice_index ws x → IsWalk b p ws new
     set_walk k = record {
-      there = record {
-        vars = subst (λ (l : List Net). NetsThere b l) (sym e1) (there_set b w.vars.items x n there.vars m.there);
-        held = subst (λ l. Each (λ (y : HeldNet). IsThere b y.net) l.items) (sym e2) there.held;
-        ready = subst (IsThere b) (sym e3) there.ready;
-        reserves = subst (λ (l : List ReserveNet). Each (λ (y : ReserveNet). IsThere b y.on × IsThere b y.addr) l) (sym e4) there.reserves;
-        puts = subst (λ (l : List PutNet). Each (λ (y : PutNet). IsThere b y.on × IsThere b y.value) l) (sym e5) there.puts;
-        lettings = subst (λ (l : List LettingNet). Each (λ (y : LettingNet). IsThere b y.on) l) (sym e6) there.lettings;
-        births = subst (λ l. Each (λ (y : BirthNet). IsThere b y.on × NetsThere b y.args) l.items) (sym e7) there.births;
-        guess = subst (λ (l : List Net). NetsThere b l) (sym e8) there.guess;
-      };
+      there = there_rest b w new there rest (subst (λ (l : List Net). NetsThere b l) (sym e1) (there_set b w.vars.items x n there.vars m.there)) (subst (λ l. Each (λ (y : HeldNet). IsThere b y.net) l.items) (sym e2) there.held)
+          (subst (λ l. Each (λ (y : BirthNet). IsThere b y.on × NetsThere b y.args) l.items) (sym e3) there.births);
       sized = as_sized p ws (parts_in b new) (with_var x on f (parts_in a w)) set_parts (sized_var p ws (parts_in a w) h.sized x on f k);
     }
 
   -- another ready net
   module _ (n : Net) (on f : Signal) (t : IsThere b n) (s : signal b n ≡ both (parts_in a w).ready (if_on on f)) where
     pub wait_parts : parts_in b (record w { ready = n }) ≡ record (parts_in a w) { ready = both (parts_in a w).ready (if_on on f) }
-    wait_parts = ready_parts a b (extends_keeps a b e) w h.there (record w { ready = n }) (both (parts_in a w).ready (if_on on f)) s refl refl refl refl refl refl refl
+    wait_parts = ready_parts a b (extends_keeps a b e) w h.there n (both (parts_in a w).ready (if_on on f)) s
 
     pub wait_walk : f.width ≡ 1 → IsWalk b p ws (record w { ready = n })
     wait_walk k = record {
-      there = record { vars = there.vars; held = there.held; ready = t; reserves = there.reserves; puts = there.puts; lettings = there.lettings; births = there.births; guess = there.guess };
+      there = record { vars = there.vars; held = there.held; ready = t; reserves = there.reserves; puts = there.puts; lettings = there.lettings; births = there.births; asks = there.asks; guess = there.guess; fails = there.fails; barrier = there.barrier };
       sized = as_sized p ws (parts_in b (record w { ready = n })) (record (parts_in a w) { ready = both (parts_in a w).ready (if_on on f) }) wait_parts (sized_ready p ws (parts_in a w) h.sized on f k);
     }
 
   -- one more held location
   module _ (new : WalkNets) (mem var : ℕ) (n : Net) (on bit : Signal) (m : Means b n (mux_signal on bit (held_of (parts_in a w).held mem var)))
-      (e1 : new.held.items ≡ record { mem = mem; var = var; net = n } ∷ w.held.items) (e2 : new.vars ≡ w.vars) (e3 : new.ready ≡ w.ready) (e4 : new.reserves ≡ w.reserves) (e5 : new.puts ≡ w.puts) (e6 : new.lettings ≡ w.lettings) (e7 : new.births ≡ w.births) (e8 : new.guess ≡ w.guess) where
+      (e1 : new.held.items ≡ record { mem = mem; var = var; net = n } ∷ w.held.items) (e2 : new.vars ≡ w.vars) (e3 : new.births ≡ w.births) (rest : SameRest w new) where
     pub hold_parts : parts_in b new ≡ with_held mem var on bit (parts_in a w)
-    hold_parts = held_parts a b (extends_keeps a b e) w h.there new mem var n (mux_signal on bit (held_of (parts_in a w).held mem var)) m.same e1 e2 e3 e4 e5 e6 e7 e8
+    hold_parts = held_parts a b (extends_keeps a b e) w h.there new mem var n (mux_signal on bit (held_of (parts_in a w).held mem var)) m.same e1 e2 e3 rest
 
     pub hold_walk : bit.width ≡ 1 → IsWalk b p ws new
     hold_walk k = record {
-      there = record {
-        vars = subst (λ l. NetsThere b l.items) (sym e2) there.vars;
-        held = subst (λ (l : List HeldNet). Each (λ (y : HeldNet). IsThere b y.net) l) (sym e1) (m.there, there.held);
-        ready = subst (IsThere b) (sym e3) there.ready;
-        reserves = subst (λ (l : List ReserveNet). Each (λ (y : ReserveNet). IsThere b y.on × IsThere b y.addr) l) (sym e4) there.reserves;
-        puts = subst (λ (l : List PutNet). Each (λ (y : PutNet). IsThere b y.on × IsThere b y.value) l) (sym e5) there.puts;
-        lettings = subst (λ (l : List LettingNet). Each (λ (y : LettingNet). IsThere b y.on) l) (sym e6) there.lettings;
-        births = subst (λ l. Each (λ (y : BirthNet). IsThere b y.on × NetsThere b y.args) l.items) (sym e7) there.births;
-        guess = subst (λ (l : List Net). NetsThere b l) (sym e8) there.guess;
-      };
+      there = there_rest b w new there rest (subst (λ l. NetsThere b l.items) (sym e2) there.vars) (subst (λ (l : List HeldNet). Each (λ (y : HeldNet). IsThere b y.net) l) (sym e1) (m.there, there.held))
+          (subst (λ l. Each (λ (y : BirthNet). IsThere b y.on × NetsThere b y.args) l.items) (sym e3) there.births);
       sized = as_sized p ws (parts_in b new) (with_held mem var on bit (parts_in a w)) hold_parts (sized_held p ws (parts_in a w) h.sized mem var on bit k);
     }
 
@@ -92,19 +77,19 @@ module _ (a b : Circuit) (e : Extends a b) (p : Pipe) (ws : List ℕ) (w : WalkN
 module _ (b : Circuit) (p : Pipe) (ws : List ℕ) (w : WalkNets) (h : IsWalk b p ws w) where
   pub put_walk : (m : ℕ) (on value : Net) → IsThere b on → IsThere b value → m < length p.mems → (signal b on).width ≡ 1 → (signal b value).width ≡ (mem_at p m).width → IsWalk b p ws (record w { puts = w.puts ++ record { mem = m; on = on; value = value } ∷ [] })
   put_walk m on value t u l o k = let n : PutNet = record { mem = m; on = on; value = value } in let s = h.there in record {
-    there = record { vars = s.vars; held = s.held; ready = s.ready; reserves = s.reserves; lettings = s.lettings; births = s.births; guess = s.guess; puts = each_push (λ (y : PutNet). IsThere b y.on × IsThere b y.value) w.puts n s.puts (t, u) };
+    there = record { vars = s.vars; held = s.held; ready = s.ready; reserves = s.reserves; lettings = s.lettings; births = s.births; asks = s.asks; guess = s.guess; fails = s.fails; barrier = s.barrier; puts = each_push (λ (y : PutNet). IsThere b y.on × IsThere b y.value) w.puts n s.puts (t, u) };
     sized = as_sized p ws (parts_in b (record w { puts = w.puts ++ n ∷ [] })) (with_put m (signal b on) (signal b value) (parts_in b w)) (put_parts b w n) (sized_put p ws (parts_in b w) h.sized m (signal b on) (signal b value) l o k);
   }
 
   pub reserve_walk : (m : ℕ) (on addr : Net) → IsThere b on → IsThere b addr → m < length p.mems → (signal b on).width ≡ 1 → 2 ^ (signal b addr).width ≡ (mem_at p m).depth → IsWalk b p ws (record w { reserves = w.reserves ++ record { mem = m; on = on; addr = addr } ∷ [] })
   reserve_walk m on addr t u l o k = let n : ReserveNet = record { mem = m; on = on; addr = addr } in let s = h.there in record {
-    there = record { vars = s.vars; held = s.held; ready = s.ready; puts = s.puts; lettings = s.lettings; births = s.births; guess = s.guess; reserves = each_push (λ (y : ReserveNet). IsThere b y.on × IsThere b y.addr) w.reserves n s.reserves (t, u) };
+    there = record { vars = s.vars; held = s.held; ready = s.ready; puts = s.puts; lettings = s.lettings; births = s.births; asks = s.asks; guess = s.guess; fails = s.fails; barrier = s.barrier; reserves = each_push (λ (y : ReserveNet). IsThere b y.on × IsThere b y.addr) w.reserves n s.reserves (t, u) };
     sized = as_sized p ws (parts_in b (record w { reserves = w.reserves ++ n ∷ [] })) (record (parts_in b w) { reserves = (parts_in b w).reserves ++ reservation_in b n ∷ [] }) (reserve_parts b w n) (sized_reserve p ws (parts_in b w) h.sized m (signal b on) (signal b addr) l o k);
   }
 
   pub letting_walk : (m : ℕ) (on : Net) → IsThere b on → (signal b on).width ≡ 1 → IsWalk b p ws (record w { lettings = w.lettings ++ record { mem = m; on = on } ∷ [] })
   letting_walk m on t o = let n : LettingNet = record { mem = m; on = on } in let s = h.there in record {
-    there = record { vars = s.vars; held = s.held; ready = s.ready; reserves = s.reserves; puts = s.puts; births = s.births; guess = s.guess; lettings = each_push (λ (y : LettingNet). IsThere b y.on) w.lettings n s.lettings t };
+    there = record { vars = s.vars; held = s.held; ready = s.ready; reserves = s.reserves; puts = s.puts; births = s.births; asks = s.asks; guess = s.guess; fails = s.fails; barrier = s.barrier; lettings = each_push (λ (y : LettingNet). IsThere b y.on) w.lettings n s.lettings t };
     sized = as_sized p ws (parts_in b (record w { lettings = w.lettings ++ n ∷ [] })) (record (parts_in b w) { lettings = (parts_in b w).lettings ++ letting_in b n ∷ [] }) (letting_parts b w n) (sized_letting p ws (parts_in b w) h.sized m (signal b on) o);
   }
 
@@ -126,23 +111,15 @@ wait_signal a b1 b2 ready asked r bit on f e t o m n = n.same ∙ ap₂ both (e.
 
 -- a result that goes well where both did
 pub birth_made : (b : Circuit) (r : Result (Unit {0}) NoMemory) (p : Pipe) (ws : List ℕ) (w new : WalkNets) (on : Net) (args : List Net) → IsWalk b p ws w → IsThere b on → (signal b on).width ≡ 1 → NetsThere b args → widths_of (signals_in b args) ≡ take (length p.start) ws
-    → OnOk r (new.births.items ≡ record { on = on; args = args } ∷ w.births.items) → new.vars ≡ w.vars → new.held ≡ w.held → new.ready ≡ w.ready → new.reserves ≡ w.reserves → new.puts ≡ w.puts → new.lettings ≡ w.lettings → new.guess ≡ w.guess
+    → OnOk r (new.births.items ≡ record { on = on; args = args } ∷ w.births.items) → new.vars ≡ w.vars → new.held ≡ w.held → SameRest w new
     → OnOk r (IsWalk b p ws new × (parts_in b new ≡ with_call (signal b on) (signals_in b args) (parts_in b w)))
-birth_made b (Err x) p ws w new on args h t o u k e1 e2 e3 e4 e5 e6 e7 e8 = e1
-birth_made b (Ok x) p ws w new on args h t o u k e1 e2 e3 e4 e5 e6 e7 e8 =
-    let same = birth_parts b w new (record { on = on; args = args }) e1 e2 e3 e4 e5 e6 e7 e8 in
+birth_made b (Err x) p ws w new on args h t o u k e1 e2 e3 rest = e1
+birth_made b (Ok x) p ws w new on args h t o u k e1 e2 e3 rest =
+    let same = birth_parts b w new (record { on = on; args = args }) e1 e2 e3 rest in
     let s = h.there in (
       record {
-        there = record {
-          vars = subst (λ l. NetsThere b l.items) (sym e2) s.vars;
-          held = subst (λ l. Each (λ (y : HeldNet). IsThere b y.net) l.items) (sym e3) s.held;
-          ready = subst (IsThere b) (sym e4) s.ready;
-          reserves = subst (λ (l : List ReserveNet). Each (λ (y : ReserveNet). IsThere b y.on × IsThere b y.addr) l) (sym e5) s.reserves;
-          puts = subst (λ (l : List PutNet). Each (λ (y : PutNet). IsThere b y.on × IsThere b y.value) l) (sym e6) s.puts;
-          lettings = subst (λ (l : List LettingNet). Each (λ (y : LettingNet). IsThere b y.on) l) (sym e7) s.lettings;
-          births = subst (λ (l : List BirthNet). Each (λ (y : BirthNet). IsThere b y.on × NetsThere b y.args) l) (sym e1) ((t, u), s.births);
-          guess = subst (λ (l : List Net). NetsThere b l) (sym e8) s.guess;
-        };
+        there = there_rest b w new s rest (subst (λ l. NetsThere b l.items) (sym e2) s.vars) (subst (λ l. Each (λ (y : HeldNet). IsThere b y.net) l.items) (sym e3) s.held)
+            (subst (λ (l : List BirthNet). Each (λ (y : BirthNet). IsThere b y.on × NetsThere b y.args) l) (sym e1) ((t, u), s.births));
         sized = as_sized p ws (parts_in b new) (with_call (signal b on) (signals_in b args) (parts_in b w)) same (sized_call p ws (parts_in b w) h.sized (signal b on) (signals_in b args) o k);
       },
       same,

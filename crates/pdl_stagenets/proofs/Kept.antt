@@ -16,8 +16,9 @@ use Rattle.pdl_stagenets.specs.declared.nets.ReserveNet.{ReserveNet}
 use Rattle.pdl_stagenets.specs.declared.nets.PutNet.{PutNet}
 use Rattle.pdl_stagenets.specs.declared.nets.LettingNet.{LettingNet}
 use Rattle.pdl_stagenets.specs.declared.nets.BirthNet.{BirthNet}
+use Rattle.pdl_stagenets.specs.declared.nets.AskNet.{AskNet}
 use Rattle.pdl_stagenets.specs.declared.nets.WalkNets.{WalkNets}
-use Rattle.pdl_stagenets.specs.Parts.{Held, Parts, held_of, held_in, reservation_in, put_in, letting_in, birth_in, parts_in, IsThereWalk}
+use Rattle.pdl_stagenets.specs.Parts.{Held, Parts, held_of, held_in, reservation_in, put_in, letting_in, birth_in, ask_in, parts_in, IsThereWalk}
 use Rattle.pdl_stagenets.specs.Finding.{held_net}
 use Rattle.pdl_stagenets.specs.Sized.{IsSized, IsWalk}
 use Rattle.pdl_stagenets.proofs.Lists.{map_each}
@@ -46,9 +47,12 @@ module _ (a b : Circuit) (e : Keeps a b) where
   births_keep : (xs : List BirthNet) → Each (λ (x : BirthNet). IsThere a x.on × NetsThere a x.args) xs → map (birth_in b) xs ≡ map (birth_in a) xs
   births_keep xs t = map_each (birth_in b) (birth_in a) (λ x. IsThere a x.on × NetsThere a x.args) (λ x k. ap₂ (λ f fs. record { on = f; args = fs }) (e.kept x.on k.0) (signals_keep a b x.args e k.1)) xs t
 
+  asks_keep : (xs : List AskNet) → Each (λ (x : AskNet). IsThere a x.on × IsThere a x.addr) xs → map (ask_in b) xs ≡ map (ask_in a) xs
+  asks_keep xs t = map_each (ask_in b) (ask_in a) (λ x. IsThere a x.on × IsThere a x.addr) (λ x k. ap₂ (λ f g. record { mem = x.mem; var = x.var; on = f; addr = g }) (e.kept x.on k.0) (e.kept x.addr k.1)) xs t
+
   pub parts_keep : (w : WalkNets) → IsThereWalk a w → parts_in b w ≡ parts_in a w
   parts_keep w t =
-      cc (signals_keep a b w.vars.items e t.vars, held_keep w.held.items t.held, e.kept w.ready t.ready, reserves_keep w.reserves t.reserves, puts_keep w.puts t.puts, lettings_keep w.lettings t.lettings, births_keep w.births.items t.births, signals_keep a b w.guess e t.guess)
+      cc (signals_keep a b w.vars.items e t.vars, held_keep w.held.items t.held, e.kept w.ready t.ready, reserves_keep w.reserves t.reserves, puts_keep w.puts t.puts, lettings_keep w.lettings t.lettings, births_keep w.births.items t.births, asks_keep w.asks t.asks, signals_keep a b w.guess e t.guess, e.kept w.fails t.fails, e.kept w.barrier t.barrier)
 
   pub there_walk : (w : WalkNets) → IsThereWalk a w → IsThereWalk b w
   there_walk w t = record {
@@ -59,7 +63,10 @@ module _ (a b : Circuit) (e : Keeps a b) where
     puts = each_weaker (λ (x : PutNet). IsThere a x.on × IsThere a x.value) (λ x. IsThere b x.on × IsThere b x.value) (λ x k. (e.there x.on k.0, e.there x.value k.1)) w.puts t.puts;
     lettings = each_weaker (λ (x : LettingNet). IsThere a x.on) (λ x. IsThere b x.on) (λ x k. e.there x.on k) w.lettings t.lettings;
     births = each_weaker (λ (x : BirthNet). IsThere a x.on × NetsThere a x.args) (λ x. IsThere b x.on × NetsThere b x.args) (λ x k. (e.there x.on k.0, there_keeps a b x.args e k.1)) w.births.items t.births;
+    asks = each_weaker (λ (x : AskNet). IsThere a x.on × IsThere a x.addr) (λ x. IsThere b x.on × IsThere b x.addr) (λ x k. (e.there x.on k.0, e.there x.addr k.1)) w.asks t.asks;
     guess = there_keeps a b w.guess e t.guess;
+    fails = e.there w.fails t.fails;
+    barrier = e.there w.barrier t.barrier;
   }
 
   pub walk_keep : (p : Pipe) (ws : List ℕ) (w : WalkNets) → IsWalk a p ws w → IsWalk b p ws w

@@ -7,6 +7,7 @@ pub mod Answered
 pub mod Conditions
 pub mod Values
 pub mod Made
+pub mod Arrays
 pub mod MadeLocks
 pub mod OneByOne
 pub mod Bare

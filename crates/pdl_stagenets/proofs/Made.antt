@@ -19,6 +19,7 @@ use Rattle.pdl_flatnets.specs.Values.{value_signal, value_signals, AreBounded}
 use Rattle.pdl_flatnets.proofs.NetLists.{there_keeps, signals_keep}
 use Rattle.pdl_lockapi.specs.Laws.{FitsIn}
 use Rattle.pdl_pipe_law.specs.Walk.{Locks, is_locked, taken_in, WhereNot, IsWord}
+use Rattle.pdl_pipe_law.specs.Places.{comb_place}
 use Rattle.pdl_pipe_law.proofs.Signals.{mux_at}
 use Rattle.pdl_pipe_law.proofs.Establish.{word_locked, word_plain}
 use Rattle.pdl_stagenets.specs.declared.nets.WalkNets.{WalkNets}
@@ -150,7 +151,7 @@ module _ (c : Circuit) (p : Pipe) (ws : List ℕ) (ls : Locks) (tickets : ℕ �
     next = ap walk_of h.next;
   }
 
-  word_is : (m a : ℕ) (f : Signal) → (ls.array m ≡ m) → IsLocation p ws m a → IsWordSignal p ls m (signal_at w.vars a) (tickets m) f → (d : Circuit) → Keeps c d → IsWell d → (s : State) → Suits d s → IsWord p ls m (signal_at w.vars a) (tickets m) f s
+  word_is : (m a : ℕ) (f : Signal) → (ls.array m ≡ comb_place p m) → IsLocation p ws m a → IsWordSignal p ls m (signal_at w.vars a) (tickets m) f → (d : Circuit) → Keeps c d → IsWell d → (s : State) → Suits d s → IsWord p ls m (signal_at w.vars a) (tickets m) f s
   unfolding read_value
   word_is m a f array at h d k well s suits = by (is_locked p m) refl
     where
@@ -168,7 +169,7 @@ module _ (c : Circuit) (p : Pipe) (ws : List ℕ) (ls : Locks) (tickets : ℕ �
     locked = λ u x t stands covered holds looked. e ∙ h.locked u x t stands covered holds looked;
   }
 
-  pub read_step : (x m a : ℕ) (w' : Parts) → ls.array m ≡ m → x < length ws → IsLocation p ws m a → IsRead p ls tickets (taken_signal w.vars gs) x m a w w' → IsStep c p ls tickets gs (flat.CombRead x m a) (walk_of w) (walk_of w')
+  pub read_step : (x m a : ℕ) (w' : Parts) → ls.array m ≡ comb_place p m → x < length ws → IsLocation p ws m a → IsRead p ls tickets (taken_signal w.vars gs) x m a w w' → IsStep c p ls tickets gs (flat.CombRead x m a) (walk_of w) (walk_of w')
   read_step x m a w' array l at h =
       let f = h.word in
       let on = taken_signal w.vars gs in

@@ -20,6 +20,7 @@ use Rattle.pdl_flatnets.proofs.NetLists.{there_keeps, signals_keep}
 use Rattle.pdl_pipe_law.specs.Walk.{Locks, is_locked, is_on, zero_bit}
 use Rattle.pdl_pipe_law.proofs.Signals.{one_is, zero_is}
 use Rattle.pdl_pipe_law.proofs.Establish.{block_one, block_two}
+use Rattle.pdl_pipe_law.specs.Places.{comb_place}
 use Rattle.pdl_stagenets.specs.declared.locks.MemLock.{MemLock}
 use Rattle.pdl_stagenets.specs.Locked.{Members, some_at, of_lock, locks_in, IsLockIn, AreLocked, AreTickets, room_net}
 use Rattle.pdl_stagenets.specs.Words.{IsWordSignal, IsLooked}
@@ -33,8 +34,8 @@ some_low (y ∷ ys) zero x e = omega arith
 some_low (y ∷ ys) (suc m) x e = let l = some_low ys m x e in omega (arith, l)
 
 module _ {T : Type 0} (l : Members T) (a b : Circuit) (e : Keeps a b) (stays : (t : T) (a b : Circuit) (r : LockRegs) → Keeps a b → l.placed t a r → l.placed t b r) (p : Pipe) (xs : List (Option (MemLock T))) (h : AreLocked l a p xs) where
-  lock_keep : (m : ℕ) (mem : Mem) (x : MemLock T) → IsLockIn l a m mem x → IsLockIn l b m mem x
-  lock_keep m mem x k = record {
+  lock_keep : (i : ℕ) (mem : Mem) (x : MemLock T) → IsLockIn l a i mem x → IsLockIn l b i mem x
+  lock_keep i mem x k = record {
     is_placed = stays x.lock a b x.regs e k.is_placed;
     room_there = e.there x.regs.room k.room_there;
     room_one = ap (λ (f : Signal). f.width) (e.kept x.regs.room k.room_there) ∙ k.room_one;
@@ -49,10 +50,10 @@ module _ {T : Type 0} (l : Members T) (a b : Circuit) (e : Keeps a b) (stays : (
   locked_keep = record {
     count = h.count;
     locked = h.locked;
-    locks = λ m x low s. lock_keep m (mem_at p m) x (h.locks m x low s);
-    has_array = λ m low. e.has_array m (h.has_array m low);
-    width = λ m low. e.word m (h.has_array m low) ∙ h.width m low;
-    depth = λ m low u. e.depth m (h.has_array m low) ∙ h.depth m low u;
+    locks = λ m x low s. lock_keep (comb_place p m) (mem_at p m) x (h.locks m x low s);
+    has_array = λ m low once. e.has_array (comb_place p m) (h.has_array m low once);
+    width = λ m low once. e.word (comb_place p m) (h.has_array m low once) ∙ h.width m low once;
+    depth = λ m low u once. e.depth (comb_place p m) (h.has_array m low once) ∙ h.depth m low u once;
   }
 
   same_net : (f : MemLock T → Net) → ((m : ℕ) (x : MemLock T) → m < length p.mems → some_at xs m ≡ Some x → IsThere a (f x)) → (m : ℕ) (o : Option (MemLock T)) → some_at xs m ≡ o → of_lock (λ x. signal b (f x)) zero_bit o ≡ of_lock (λ x. signal a (f x)) zero_bit o
@@ -60,9 +61,9 @@ module _ {T : Type 0} (l : Members T) (a b : Circuit) (e : Keeps a b) (stays : (
   same_net f t m (Some x) s = e.kept (f x) (t m x (let low = some_low xs m x s in omega (arith, low, h.count)) s)
 
   -- the locks are the same in both circuits
-  pub locks_same : locks_in l b xs ≡ locks_in l a xs
+  pub locks_same : locks_in l p b xs ≡ locks_in l p a xs
   locks_same =
-      ap₂ (λ (r t : ℕ → Signal). record (locks_in l a xs) { room = r; ticket = t })
+      ap₂ (λ (r t : ℕ → Signal). record (locks_in l p a xs) { room = r; ticket = t })
       (fun_ext (λ m. same_net (λ x. x.regs.room) (λ m x low s. (h.locks m x low s).room_there) m (some_at xs m) refl))
       (fun_ext (λ m. same_net (λ x. x.regs.ticket) (λ m x low s. (h.locks m x low s).ticket_there) m (some_at xs m) refl))
 
@@ -92,9 +93,9 @@ module _ (ls : Locks) (m : ℕ) (addr ticket : Signal) where
   looked_either held f g v u write read s = block_two ls m addr ticket f g held v u s write read
 
 -- the word of a memory without lock
-pub plain_word : (p : Pipe) (ls : Locks) (c : Circuit) (x : Net) (m : ℕ) (addr ticket : Signal) (w : ℕ) → is_locked p m ≡ false → w ≡ (mem_at p m).width → Means c x (read_signal w m addr) → IsWordSignal p ls m addr ticket (signal c x)
+pub plain_word : (p : Pipe) (ls : Locks) (c : Circuit) (x : Net) (m : ℕ) (addr ticket : Signal) (w : ℕ) → is_locked p m ≡ false → w ≡ (mem_at p m).width → Means c x (read_signal w (comb_place p m) addr) → IsWordSignal p ls m addr ticket (signal c x)
 plain_word p ls c x m addr ticket w e wide h = record {
-  plain = λ u. h.same ∙ ap (λ n. read_signal n m addr) wide;
+  plain = λ u. h.same ∙ ap (λ n. read_signal n (comb_place p m) addr) wide;
   ready = zero_bit;
   looked = λ u. absurd (false≢true (sym e ∙ u));
 }
@@ -120,7 +121,7 @@ word_as p ls m addr addr' ticket ticket' f g k l = subst (λ t. IsWordSignal p l
 
 module _ {T : Type 0} (l : Members T) (c : Circuit) (p : Pipe) (xs : List (Option (MemLock T))) (h : AreLocked l c p xs) (m : ℕ) (low : m < length p.mems) (locked : is_locked p m ≡ true) where
   -- a ticket has the bits of its lock's
-  pub ticket_bits : (ts : List Net) → AreTickets l c xs ts → (signal_at (signals_in c ts) m).width ≡ (locks_in l c xs).bits m
+  pub ticket_bits : (ts : List Net) → AreTickets l c xs ts → (signal_at (signals_in c ts) m).width ≡ (locks_in l p c xs).bits m
   ticket_bits ts t = by (some_at xs m) refl
     where
       by : (o : Option (MemLock T)) → some_at xs m ≡ o → (signal_at (signals_in c ts) m).width ≡ of_lock (λ x. l.tickets x.lock) 1 o
@@ -128,7 +129,7 @@ module _ {T : Type 0} (l : Members T) (c : Circuit) (p : Pipe) (xs : List (Optio
       by (Some x) e = t.wide m x (omega (arith, low, h.count)) e
 
   -- the net of its room
-  pub room_signal : signal c (room_net (some_at xs m)) ≡ (locks_in l c xs).room m
+  pub room_signal : signal c (room_net (some_at xs m)) ≡ (locks_in l p c xs).room m
   room_signal = by (some_at xs m) refl
     where
       by : (o : Option (MemLock T)) → some_at xs m ≡ o → signal c (room_net o) ≡ of_lock (λ x. signal c x.regs.room) zero_bit o

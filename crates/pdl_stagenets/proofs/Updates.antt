@@ -1,5 +1,5 @@
 -- The nets of a walk after a change.
-use Rattle.std.proofs.Common.{◌≡◌, ℕ, ◌<◌, ◌^◌, List, [], ◌∷◌, ◌++◌, map, length, sym, ap, ◌∙◌}
+use Rattle.std.proofs.Common.{◌≡◌, ℕ, ◌<◌, ◌^◌, List, [], ◌∷◌, ◌++◌, map, length, sym, ap, ap₂, ◌∙◌, subst}
 use Rattle.std.specs.Prelude.{take, slice_index, slice_set}
 use Rattle.std.proofs.lemmas.List.{map-append, map-set}
 use Rattle.pdl_semantics.specs.Flat.{Pipe}
@@ -7,55 +7,70 @@ use Rattle.pdl_semantics.specs.Stages.{mem_at}
 use Rattle.pdl_net.specs.declared.Net.{Net}
 use Rattle.pdl_net.specs.Circuit.{Circuit}
 use Rattle.pdl_net.specs.Signal.{Signal, mux_signal}
-use Rattle.pdl_net.specs.Meaning.{signal}
+use Rattle.pdl_net.specs.Meaning.{signal, IsThere}
 use Rattle.pdl_net.specs.Growth.{Keeps}
-use Rattle.pdl_flatnets.specs.Nets.{signals_in, signal_at, widths_of}
+use Rattle.pdl_flatnets.specs.Nets.{NetsThere, signals_in, signal_at, widths_of}
 use Rattle.pdl_pipe_law.specs.Walk.{Reservation, Put, Letting, Birth, both, if_on}
+use Rattle.pdl_stagenets.specs.declared.nets.HeldNet.{HeldNet}
 use Rattle.pdl_stagenets.specs.declared.nets.ReserveNet.{ReserveNet}
 use Rattle.pdl_stagenets.specs.declared.nets.PutNet.{PutNet}
 use Rattle.pdl_stagenets.specs.declared.nets.LettingNet.{LettingNet}
 use Rattle.pdl_stagenets.specs.declared.nets.BirthNet.{BirthNet}
+use Rattle.pdl_stagenets.specs.declared.nets.AskNet.{AskNet}
 use Rattle.pdl_stagenets.specs.declared.nets.WalkNets.{WalkNets}
-use Rattle.pdl_stagenets.specs.Parts.{Held, Parts, held_in, reservation_in, put_in, letting_in, birth_in, parts_in, IsThereWalk}
+use Rattle.pdl_stagenets.specs.Parts.{Held, Parts, held_in, reservation_in, put_in, letting_in, birth_in, ask_in, parts_in, IsThereWalk}
+use Rattle.pdl_stagenets.specs.Frames.{SameRest}
 use Rattle.pdl_stagenets.specs.Sized.{IsSized, IsSizedReserve, IsSizedPut}
 use Rattle.pdl_stagenets.specs.Steps.{with_var, with_put, with_held, with_call}
 use Rattle.pdl_stagenets.proofs.Lists.{widths_set}
 use Rattle.pdl_stagenets.proofs.Kept.{parts_keep, var_width}
+use Rattle.pdl_word.specs.Each.{Each}
 use Rattle.pdl_word.proofs.Each.{each_push}
 
 -- ---- parts by their lists
 
-pub same_parts : (b : Circuit) (new : WalkNets) (vars : List Signal) (held : List Held) (ready : Signal) (reserves : List Reservation) (puts : List Put) (lettings : List Letting) (births : List Birth) (guess : List Signal)
-    → signals_in b new.vars.items ≡ vars → map (held_in b) new.held.items ≡ held → signal b new.ready ≡ ready → map (reservation_in b) new.reserves ≡ reserves → map (put_in b) new.puts ≡ puts → map (letting_in b) new.lettings ≡ lettings → map (birth_in b) new.births.items ≡ births → signals_in b new.guess ≡ guess
-    → parts_in b new ≡ record { vars = vars; held = held; ready = ready; reserves = reserves; puts = puts; lettings = lettings; births = births; guess = guess }
-same_parts b new vars held ready reserves puts lettings births guess e1 e2 e3 e4 e5 e6 e7 e8 = cc (e1, e2, e3, e4, e5, e6, e7, e8)
+-- all but the three of a walk that has the rest of another one
+same_rest : (b : Circuit) (w new : WalkNets) (vars : List Signal) (held : List Held) (births : List Birth) → signals_in b new.vars.items ≡ vars → map (held_in b) new.held.items ≡ held → map (birth_in b) new.births.items ≡ births → SameRest w new
+    → parts_in b new ≡ record (parts_in b w) { vars = vars; held = held; births = births }
+same_rest b w new vars held births e1 e2 e3 r =
+    cc (e1, e2, e3, ap (signal b) r.ready, ap (map (reservation_in b)) r.reserves, ap (map (put_in b)) r.puts, ap (map (letting_in b)) r.lettings, ap (map (ask_in b)) r.asks, ap (signals_in b) r.guess, ap (signal b) r.fails, ap (signal b) r.barrier)
+
+-- its nets are there
+pub there_rest : (b : Circuit) (w new : WalkNets) → IsThereWalk b w → SameRest w new → NetsThere b new.vars.items → Each (λ (y : HeldNet). IsThere b y.net) new.held.items → Each (λ (y : BirthNet). IsThere b y.on × NetsThere b y.args) new.births.items → IsThereWalk b new
+there_rest b w new t r vars held births = record {
+  vars = vars;
+  held = held;
+  ready = subst (IsThere b) (sym r.ready) t.ready;
+  reserves = subst (λ (l : List ReserveNet). Each (λ (y : ReserveNet). IsThere b y.on × IsThere b y.addr) l) (sym r.reserves) t.reserves;
+  puts = subst (λ (l : List PutNet). Each (λ (y : PutNet). IsThere b y.on × IsThere b y.value) l) (sym r.puts) t.puts;
+  lettings = subst (λ (l : List LettingNet). Each (λ (y : LettingNet). IsThere b y.on) l) (sym r.lettings) t.lettings;
+  births = births;
+  asks = subst (λ (l : List AskNet). Each (λ (y : AskNet). IsThere b y.on × IsThere b y.addr) l) (sym r.asks) t.asks;
+  guess = subst (λ (l : List Net). NetsThere b l) (sym r.guess) t.guess;
+  fails = subst (IsThere b) (sym r.fails) t.fails;
+  barrier = subst (IsThere b) (sym r.barrier) t.barrier;
+}
 
 -- as they stand in an earlier circuit, with other variables, another ready net, more held locations
 module _ (a b : Circuit) (e : Keeps a b) (w : WalkNets) (t : IsThereWalk a w) where
   kept : parts_in b w ≡ parts_in a w
   kept = parts_keep a b e w t
 
-  pub vars_parts : (new : WalkNets) (x : ℕ) (n : Net) (f : Signal) → signal b n ≡ f → new.vars.items ≡ slice_set w.vars.items x n → new.held ≡ w.held → new.ready ≡ w.ready → new.reserves ≡ w.reserves → new.puts ≡ w.puts → new.lettings ≡ w.lettings → new.births ≡ w.births → new.guess ≡ w.guess
+  pub vars_parts : (new : WalkNets) (x : ℕ) (n : Net) (f : Signal) → signal b n ≡ f → new.vars.items ≡ slice_set w.vars.items x n → new.held ≡ w.held → new.births ≡ w.births → SameRest w new
       → parts_in b new ≡ record (parts_in a w) { vars = slice_set (signals_in a w.vars.items) x f }
-  vars_parts new x n f m v h2 h3 h4 h5 h6 h7 h8 =
-      same_parts b new (slice_set (signals_in b w.vars.items) x f) (parts_in b w).held (parts_in b w).ready (parts_in b w).reserves (parts_in b w).puts (parts_in b w).lettings (parts_in b w).births (parts_in b w).guess
-      (ap (signals_in b) v ∙ map-set (signal b) w.vars.items x n ∙ ap (λ g. slice_set (signals_in b w.vars.items) x g) m)
-      (ap (λ h. map (held_in b) h.items) h2) (ap (signal b) h3) (ap (map (reservation_in b)) h4) (ap (map (put_in b)) h5) (ap (map (letting_in b)) h6) (ap (λ h. map (birth_in b) h.items) h7) (ap (signals_in b) h8)
+  vars_parts new x n f m v h k r =
+      same_rest b w new (slice_set (signals_in b w.vars.items) x f) (parts_in b w).held (parts_in b w).births
+      (ap (signals_in b) v ∙ map-set (signal b) w.vars.items x n ∙ ap (λ g. slice_set (signals_in b w.vars.items) x g) m) (ap (λ h. map (held_in b) h.items) h) (ap (λ h. map (birth_in b) h.items) k) r
       ∙ ap (λ (q : Parts). record q { vars = slice_set q.vars x f }) kept
 
-  pub ready_parts : (new : WalkNets) (f : Signal) → signal b new.ready ≡ f → new.vars ≡ w.vars → new.held ≡ w.held → new.reserves ≡ w.reserves → new.puts ≡ w.puts → new.lettings ≡ w.lettings → new.births ≡ w.births → new.guess ≡ w.guess
-      → parts_in b new ≡ record (parts_in a w) { ready = f }
-  ready_parts new f m h1 h2 h4 h5 h6 h7 h8 =
-      same_parts b new (parts_in b w).vars (parts_in b w).held f (parts_in b w).reserves (parts_in b w).puts (parts_in b w).lettings (parts_in b w).births (parts_in b w).guess
-      (ap (λ h. signals_in b h.items) h1) (ap (λ h. map (held_in b) h.items) h2) m (ap (map (reservation_in b)) h4) (ap (map (put_in b)) h5) (ap (map (letting_in b)) h6) (ap (λ h. map (birth_in b) h.items) h7) (ap (signals_in b) h8)
-      ∙ ap (λ (q : Parts). record q { ready = f }) kept
+  pub ready_parts : (n : Net) (f : Signal) → signal b n ≡ f → parts_in b (record w { ready = n }) ≡ record (parts_in a w) { ready = f }
+  ready_parts n f m = ap₂ (λ (q : Parts) g. record q { ready = g }) kept m
 
-  pub held_parts : (new : WalkNets) (m v : ℕ) (n : Net) (f : Signal) → signal b n ≡ f → new.held.items ≡ record { mem = m; var = v; net = n } ∷ w.held.items → new.vars ≡ w.vars → new.ready ≡ w.ready → new.reserves ≡ w.reserves → new.puts ≡ w.puts → new.lettings ≡ w.lettings → new.births ≡ w.births → new.guess ≡ w.guess
+  pub held_parts : (new : WalkNets) (m v : ℕ) (n : Net) (f : Signal) → signal b n ≡ f → new.held.items ≡ record { mem = m; var = v; net = n } ∷ w.held.items → new.vars ≡ w.vars → new.births ≡ w.births → SameRest w new
       → parts_in b new ≡ record (parts_in a w) { held = record { mem = m; var = v; signal = f } ∷ (parts_in a w).held }
-  held_parts new m v n f s h h1 h3 h4 h5 h6 h7 h8 =
-      same_parts b new (parts_in b w).vars (record { mem = m; var = v; signal = f } ∷ (parts_in b w).held) (parts_in b w).ready (parts_in b w).reserves (parts_in b w).puts (parts_in b w).lettings (parts_in b w).births (parts_in b w).guess
-      (ap (λ h. signals_in b h.items) h1) (ap (map (held_in b)) h ∙ ap (λ g. record { mem = m; var = v; signal = g } ∷ (parts_in b w).held) s) (ap (signal b) h3) (ap (map (reservation_in b)) h4) (ap (map (put_in b)) h5) (ap (map (letting_in b)) h6)
-      (ap (λ h. map (birth_in b) h.items) h7) (ap (signals_in b) h8)
+  held_parts new m v n f s h h1 h2 r =
+      same_rest b w new (parts_in b w).vars (record { mem = m; var = v; signal = f } ∷ (parts_in b w).held) (parts_in b w).births
+      (ap (λ h. signals_in b h.items) h1) (ap (map (held_in b)) h ∙ ap (λ g. record { mem = m; var = v; signal = g } ∷ (parts_in b w).held) s) (ap (λ h. map (birth_in b) h.items) h2) r
       ∙ ap (λ (q : Parts). record q { held = record { mem = m; var = v; signal = f } ∷ q.held }) kept
 
 -- in the same circuit, with one more of each kind
@@ -69,11 +84,10 @@ module _ (b : Circuit) (w : WalkNets) where
   pub letting_parts : (n : LettingNet) → parts_in b (record w { lettings = w.lettings ++ n ∷ [] }) ≡ record (parts_in b w) { lettings = (parts_in b w).lettings ++ letting_in b n ∷ [] }
   letting_parts n = ap (λ l. record (parts_in b w) { lettings = l }) (map-append (letting_in b) w.lettings (n ∷ []))
 
-  pub birth_parts : (new : WalkNets) (n : BirthNet) → new.births.items ≡ n ∷ w.births.items → new.vars ≡ w.vars → new.held ≡ w.held → new.ready ≡ w.ready → new.reserves ≡ w.reserves → new.puts ≡ w.puts → new.lettings ≡ w.lettings → new.guess ≡ w.guess
+  pub birth_parts : (new : WalkNets) (n : BirthNet) → new.births.items ≡ n ∷ w.births.items → new.vars ≡ w.vars → new.held ≡ w.held → SameRest w new
       → parts_in b new ≡ record (parts_in b w) { births = birth_in b n ∷ (parts_in b w).births }
-  birth_parts new n h h1 h2 h3 h4 h5 h6 h8 =
-      same_parts b new (parts_in b w).vars (parts_in b w).held (parts_in b w).ready (parts_in b w).reserves (parts_in b w).puts (parts_in b w).lettings (birth_in b n ∷ (parts_in b w).births) (parts_in b w).guess
-      (ap (λ h. signals_in b h.items) h1) (ap (λ h. map (held_in b) h.items) h2) (ap (signal b) h3) (ap (map (reservation_in b)) h4) (ap (map (put_in b)) h5) (ap (map (letting_in b)) h6) (ap (map (birth_in b)) h) (ap (signals_in b) h8)
+  birth_parts new n h h1 h2 r =
+      same_rest b w new (parts_in b w).vars (parts_in b w).held (birth_in b n ∷ (parts_in b w).births) (ap (λ h. signals_in b h.items) h1) (ap (λ h. map (held_in b) h.items) h2) (ap (map (birth_in b)) h) r
 
 -- ---- widths after a change
 
@@ -87,13 +101,17 @@ module _ (p : Pipe) (ws : List ℕ) (w : Parts) (s : IsSized p ws w) where
     puts = s.puts;
     lettings = s.lettings;
     births = s.births;
+    asks = s.asks;
+    guess = s.guess;
+    fails = s.fails;
+    barrier = s.barrier;
   }
 
   pub sized_ready : (on f : Signal) → f.width ≡ 1 → IsSized p ws (record w { ready = both w.ready (if_on on f) })
-  sized_ready on f e = record { vars = s.vars; held = s.held; ready = e; reserves = s.reserves; puts = s.puts; lettings = s.lettings; births = s.births }
+  sized_ready on f e = record { vars = s.vars; held = s.held; ready = e; reserves = s.reserves; puts = s.puts; lettings = s.lettings; births = s.births; asks = s.asks; guess = s.guess; fails = s.fails; barrier = s.barrier }
 
   pub sized_held : (m a : ℕ) (on bit : Signal) → bit.width ≡ 1 → IsSized p ws (with_held m a on bit w)
-  sized_held m a on bit e = record { vars = s.vars; held = (e, s.held); ready = s.ready; reserves = s.reserves; puts = s.puts; lettings = s.lettings; births = s.births }
+  sized_held m a on bit e = record { vars = s.vars; held = (e, s.held); ready = s.ready; reserves = s.reserves; puts = s.puts; lettings = s.lettings; births = s.births; asks = s.asks; guess = s.guess; fails = s.fails; barrier = s.barrier }
 
   pub sized_put : (m : ℕ) (on f : Signal) → m < length p.mems → on.width ≡ 1 → f.width ≡ (mem_at p m).width → IsSized p ws (with_put m on f w)
   sized_put m on f l o e = record {
@@ -103,6 +121,10 @@ module _ (p : Pipe) (ws : List ℕ) (w : Parts) (s : IsSized p ws w) where
     reserves = s.reserves;
     lettings = s.lettings;
     births = s.births;
+    asks = s.asks;
+    guess = s.guess;
+    fails = s.fails;
+    barrier = s.barrier;
     puts = each_push (IsSizedPut p) w.puts (record { mem = m; on = on; value = f }) s.puts (l, o, e);
   }
 
@@ -114,6 +136,10 @@ module _ (p : Pipe) (ws : List ℕ) (w : Parts) (s : IsSized p ws w) where
     puts = s.puts;
     lettings = s.lettings;
     births = s.births;
+    asks = s.asks;
+    guess = s.guess;
+    fails = s.fails;
+    barrier = s.barrier;
     reserves = each_push (IsSizedReserve p) w.reserves (record { mem = m; on = on; addr = f }) s.reserves (l, o, e);
   }
 
@@ -125,8 +151,12 @@ module _ (p : Pipe) (ws : List ℕ) (w : Parts) (s : IsSized p ws w) where
     reserves = s.reserves;
     puts = s.puts;
     births = s.births;
+    asks = s.asks;
+    guess = s.guess;
+    fails = s.fails;
+    barrier = s.barrier;
     lettings = each_push (λ (x : Letting). x.on.width ≡ 1) w.lettings (record { mem = m; on = on }) s.lettings o;
   }
 
   pub sized_call : (on : Signal) (args : List Signal) → on.width ≡ 1 → widths_of args ≡ take (length p.start) ws → IsSized p ws (with_call on args w)
-  sized_call on args o k = record { vars = s.vars; held = s.held; ready = s.ready; reserves = s.reserves; puts = s.puts; lettings = s.lettings; births = ((o, k), s.births) }
+  sized_call on args o k = record { vars = s.vars; held = s.held; ready = s.ready; reserves = s.reserves; puts = s.puts; lettings = s.lettings; births = ((o, k), s.births); asks = s.asks; guess = s.guess; fails = s.fails; barrier = s.barrier }

@@ -3,5 +3,6 @@ pub mod Setting
 pub mod Locked
 pub mod Sized
 pub mod Finding
+pub mod Frames
 pub mod Steps
 pub mod Words

@@ -1,5 +1,5 @@
 -- The locks of a pipe in a circuit, by the numbers of their memories.
-use Rattle.std.specs.Prelude.{◌≡◌, ℕ, ◌^◌, ◌<◌, false, List, length, slice_index_or, Option, Some, None, is_some}
+use Rattle.std.specs.Prelude.{◌≡◌, ℕ, ◌^◌, ◌<◌, false, List, length, slice_index_or, Option, Some, None, is_some, if◌then◌else◌}
 use Rattle.pdl_semantics.specs.Tree.{LockKind, Queue}
 use Rattle.pdl_semantics.specs.Flat.{Mem, Pipe}
 use Rattle.pdl_semantics.specs.Stages.{mem_at}
@@ -13,6 +13,7 @@ use Rattle.pdl_lockapi.specs.declared.LockRegs.{LockRegs}
 use Rattle.pdl_lockapi.specs.Lock.{LockState}
 use Rattle.pdl_flatnets.specs.Nets.{NetsThere, signals_in, signal_at}
 use Rattle.pdl_pipe_law.specs.Walk.{Locks, is_locked, zero_bit}
+use Rattle.pdl_pipe_law.specs.Places.{comb_place}
 use Rattle.pdl_stagenets.specs.declared.locks.MemLock.{MemLock}
 
 -- what is needed of a lock module
@@ -45,9 +46,9 @@ abbrev pub room_net : {T : Type 0} → Option (MemLock T) → Net
 room_net None = Input 0
 room_net (Some x) = x.regs.room
 
--- the locks as a circuit has them; memory m has array m
-abbrev pub locks_in : {T : Type 0} → Members T → Circuit → List (Option (MemLock T)) → Locks
-locks_in l c xs =
+-- the locks as a circuit has them; memories that answer at once have their arrays in order
+abbrev pub locks_in : {T : Type 0} → Members T → Pipe → Circuit → List (Option (MemLock T)) → Locks
+locks_in l p c xs =
     record {
       stands = λ m. of_lock (λ x. l.stands x.lock x.regs) (λ s y. Unit {0}) (some_at xs m);
       kind = λ m. kind_in l (some_at xs m);
@@ -55,11 +56,15 @@ locks_in l c xs =
       bits = λ m. of_lock (λ x. l.tickets x.lock) 1 (some_at xs m);
       room = λ m. of_lock (λ x. signal c x.regs.room) zero_bit (some_at xs m);
       ticket = λ m. of_lock (λ x. signal c x.regs.ticket) zero_bit (some_at xs m);
-      array = λ m. m;
+      array = λ m. comb_place p m;
     }
 
+-- the array of a memory whose place among those that answer at once is i; a delayed one has none
+abbrev pub array_of : Mem → ℕ → Option ℕ
+array_of mem i = if mem.delayed then None else Some i
+
 -- a memory's lock that is in a circuit, and its array
-pub record IsLockIn {T : Type 0} (l : Members T) (c : Circuit) (m : ℕ) (mem : Mem) (x : MemLock T) : Type 0 where
+pub record IsLockIn {T : Type 0} (l : Members T) (c : Circuit) (i : ℕ) (mem : Mem) (x : MemLock T) : Type 0 where
   pub is_placed : l.placed x.lock c x.regs
   pub room_there : IsThere c x.regs.room
   pub room_one : (signal c x.regs.room).width ≡ 1
@@ -67,16 +72,16 @@ pub record IsLockIn {T : Type 0} (l : Members T) (c : Circuit) (m : ℕ) (mem : 
   pub ticket_wide : (signal c x.regs.ticket).width ≡ l.tickets x.lock
   pub wide : x.regs.width ≡ mem.width
   pub bits : 2 ^ x.regs.bits ≡ mem.depth
-  pub array : x.regs.array ≡ Some m
+  pub array : x.regs.array ≡ array_of mem i
 
--- each memory has its array, and those with a lock have one
+-- each memory that answers at once has its array, and those with a lock have one
 pub record AreLocked {T : Type 0} (l : Members T) (c : Circuit) (p : Pipe) (xs : List (Option (MemLock T))) : Type 0 where
   pub count : length xs ≡ length p.mems
   pub locked : (m : ℕ) → m < length p.mems → is_some (some_at xs m) ≡ is_locked p m
-  pub locks : (m : ℕ) (x : MemLock T) → m < length p.mems → some_at xs m ≡ Some x → IsLockIn l c m (mem_at p m) x
-  pub has_array : (m : ℕ) → m < length p.mems → HasArray c m
-  pub width : (m : ℕ) → m < length p.mems → array_width c m ≡ (mem_at p m).width
-  pub depth : (m : ℕ) → m < length p.mems → is_locked p m ≡ false → array_depth c m ≡ (mem_at p m).depth
+  pub locks : (m : ℕ) (x : MemLock T) → m < length p.mems → some_at xs m ≡ Some x → IsLockIn l c (comb_place p m) (mem_at p m) x
+  pub has_array : (m : ℕ) → m < length p.mems → (mem_at p m).delayed ≡ false → HasArray c (comb_place p m)
+  pub width : (m : ℕ) → m < length p.mems → (mem_at p m).delayed ≡ false → array_width c (comb_place p m) ≡ (mem_at p m).width
+  pub depth : (m : ℕ) → m < length p.mems → is_locked p m ≡ false → (mem_at p m).delayed ≡ false → array_depth c (comb_place p m) ≡ (mem_at p m).depth
 
 -- a ticket for each memory, which has the bits of its lock's tickets
 pub record AreTickets {T : Type 0} (l : Members T) (c : Circuit) (xs : List (Option (MemLock T))) (ts : List Net) : Type 0 where

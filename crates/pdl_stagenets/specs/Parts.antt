@@ -9,12 +9,13 @@ use Rattle.pdl_net.specs.Meaning.{signal, IsThere}
 use Rattle.pdl_flatnets.specs.Nets.{NetsThere, signals_in, signal_at}
 use Rattle.pdl_flatnets.specs.Conditions.{taken_signal}
 use Rattle.pdl_flatnets.specs.Values.{value_signal, value_signals}
-use Rattle.pdl_pipe_law.specs.Walk.{Reservation, Put, Letting, Birth, Walk, zero_bit}
+use Rattle.pdl_pipe_law.specs.Walk.{Reservation, Put, Letting, Birth, Ask, Walk, zero_bit}
 use Rattle.pdl_stagenets.specs.declared.nets.HeldNet.{HeldNet}
 use Rattle.pdl_stagenets.specs.declared.nets.ReserveNet.{ReserveNet}
 use Rattle.pdl_stagenets.specs.declared.nets.PutNet.{PutNet}
 use Rattle.pdl_stagenets.specs.declared.nets.LettingNet.{LettingNet}
 use Rattle.pdl_stagenets.specs.declared.nets.BirthNet.{BirthNet}
+use Rattle.pdl_stagenets.specs.declared.nets.AskNet.{AskNet}
 use Rattle.pdl_stagenets.specs.declared.nets.WalkNets.{WalkNets}
 use Rattle.pdl_word.specs.Each.{Each}
 
@@ -24,7 +25,7 @@ pub record Held : Type 0 where
   pub var : ℕ
   pub signal : Signal
 
--- a walk whose variables and held locations are lists; today it asks no delayed memory and verifies nothing
+-- a walk whose variables and held locations are lists
 pub record Parts : Type 0 where
   pub vars : List Signal
   pub held : List Held
@@ -33,7 +34,10 @@ pub record Parts : Type 0 where
   pub puts : List Put
   pub lettings : List Letting
   pub births : List Birth
+  pub asks : List Ask
   pub guess : List Signal
+  pub fails : Signal
+  pub barrier : Signal
 
 -- of two entries of one location the first counts
 abbrev pub held_of : List Held → ℕ → ℕ → Signal
@@ -50,10 +54,10 @@ walk_of w =
       puts = w.puts;
       lettings = w.lettings;
       births = w.births;
-      asks = [];
+      asks = w.asks;
       guess = w.guess;
-      fails = zero_bit;
-      barrier = zero_bit;
+      fails = w.fails;
+      barrier = w.barrier;
     }
 
 -- ---- nets
@@ -73,6 +77,9 @@ letting_in c x = record { mem = x.mem; on = signal c x.on }
 abbrev pub birth_in : Circuit → BirthNet → Birth
 birth_in c x = record { on = signal c x.on; args = signals_in c x.args }
 
+abbrev pub ask_in : Circuit → AskNet → Ask
+ask_in c x = record { mem = x.mem; var = x.var; on = signal c x.on; addr = signal c x.addr }
+
 abbrev pub parts_in : Circuit → WalkNets → Parts
 parts_in c w =
     record {
@@ -83,7 +90,10 @@ parts_in c w =
       puts = map (put_in c) w.puts;
       lettings = map (letting_in c) w.lettings;
       births = map (birth_in c) w.births.items;
+      asks = map (ask_in c) w.asks;
       guess = signals_in c w.guess;
+      fails = signal c w.fails;
+      barrier = signal c w.barrier;
     }
 
 -- the walk of a stage's nets
@@ -109,4 +119,7 @@ pub record IsThereWalk (c : Circuit) (w : WalkNets) : Type 0 where
   pub puts : Each (λ (x : PutNet). IsThere c x.on × IsThere c x.value) w.puts
   pub lettings : Each (λ (x : LettingNet). IsThere c x.on) w.lettings
   pub births : Each (λ (x : BirthNet). IsThere c x.on × NetsThere c x.args) w.births.items
+  pub asks : Each (λ (x : AskNet). IsThere c x.on × IsThere c x.addr) w.asks
   pub guess : NetsThere c w.guess
+  pub fails : IsThere c w.fails
+  pub barrier : IsThere c w.barrier

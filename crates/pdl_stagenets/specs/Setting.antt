@@ -20,7 +20,7 @@ HasTickets l c s = AreTickets l c s.locks.now s.tickets.now
 
 -- its locks as a circuit has them
 abbrev pub set_locks : {T : Type 0} → Members T → Circuit → Setting T → Locks
-set_locks l c s = locks_in l c s.locks.now
+set_locks l c s = locks_in l (form s.pipe.now).pipe c s.locks.now
 
 -- its tickets as a circuit has them
 abbrev pub set_tickets : {T : Type 0} → Circuit → Setting T → ℕ → Signal

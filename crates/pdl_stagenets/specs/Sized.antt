@@ -6,7 +6,8 @@ use Rattle.pdl_form.specs.Form.{Form, stmt_at}
 use Rattle.pdl_formtypes.specs.Stmts.{IsTypedStmt}
 use Rattle.pdl_net.specs.Circuit.{Circuit}
 use Rattle.pdl_flatnets.specs.Nets.{widths_of}
-use Rattle.pdl_pipe_law.specs.Walk.{Reservation, Put, Letting, Birth}
+use Rattle.pdl_pipe_law.specs.Walk.{Reservation, Put, Letting, Birth, Ask}
+use Rattle.pdl_pipe_law.specs.Reads.{IsAtOnce}
 use Rattle.pdl_stagenets.specs.declared.nets.WalkNets.{WalkNets}
 use Rattle.pdl_stagenets.specs.Parts.{Held, Parts, parts_in, IsThereWalk}
 use Rattle.pdl_word.specs.Each.{Each}
@@ -22,6 +23,9 @@ IsSizedPut p x = (x.mem < length p.mems) × (x.on.width ≡ 1) × (x.value.width
 abbrev pub IsSizedBirth : Pipe → List ℕ → Birth → Type 0
 IsSizedBirth p ws x = (x.on.width ≡ 1) × (widths_of x.args ≡ take (length p.start) ws)
 
+abbrev pub IsSizedAsk : Pipe → Ask → Type 0
+IsSizedAsk p x = (x.mem < length p.mems) × (x.on.width ≡ 1) × (2 ^ x.addr.width ≡ (mem_at p x.mem).depth)
+
 -- the variables have these widths
 pub record IsSized (p : Pipe) (ws : List ℕ) (w : Parts) : Type 0 where
   pub vars : widths_of w.vars ≡ ws
@@ -31,6 +35,10 @@ pub record IsSized (p : Pipe) (ws : List ℕ) (w : Parts) : Type 0 where
   pub puts : Each (IsSizedPut p) w.puts
   pub lettings : Each (λ (x : Letting). x.on.width ≡ 1) w.lettings
   pub births : Each (IsSizedBirth p ws) w.births
+  pub asks : Each (IsSizedAsk p) w.asks
+  pub guess : widths_of w.guess ≡ take (length p.start) ws
+  pub fails : w.fails.width ≡ 1
+  pub barrier : w.barrier.width ≡ 1
 
 -- a stage's nets are there, with their widths
 pub record IsWalk (c : Circuit) (p : Pipe) (ws : List ℕ) (w : WalkNets) : Type 0 where
@@ -60,7 +68,7 @@ is_walked SpecCheck = false
 is_walked SpecBarrier = false
 
 abbrev pub IsWalked : Form → Stmt → Type 0
-IsWalked f x = IsTypedStmt f x × (is_walked x.op ≡ true)
+IsWalked f x = IsTypedStmt f x × IsAtOnce f.pipe x.op × (is_walked x.op ≡ true)
 
 abbrev pub AreWalked : Form → List Stmt → Type 0
 AreWalked f xs = Each (IsWalked f) xs

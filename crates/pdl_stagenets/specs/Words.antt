@@ -11,6 +11,7 @@ use Rattle.pdl_lockapi.specs.Lock.{look_ready}
 use Rattle.pdl_lockapi.specs.Laws.{LookLaw}
 use Rattle.pdl_flatnets.specs.Nets.{signal_at}
 use Rattle.pdl_pipe_law.specs.Walk.{Locks, is_locked, is_on, look_of, ThroughLock, both, if_on}
+use Rattle.pdl_pipe_law.specs.Places.{comb_place}
 use Rattle.pdl_stagenets.specs.Parts.{Parts, held_of}
 use Rattle.pdl_stagenets.specs.Steps.{with_var}
 
@@ -20,7 +21,7 @@ IsLookOf ls m kind addr ticket ready value = LookLaw (ls.stands m) (ls.kind m) (
 
 -- of a memory without lock its array's word, of another what a look for reading gives
 pub record IsWordSignal (p : Pipe) (ls : Locks) (m : ℕ) (addr ticket f : Signal) : Type 0 where
-  pub plain : is_locked p m ≡ false → f ≡ read_signal (mem_at p m).width m addr
+  pub plain : is_locked p m ≡ false → f ≡ read_signal (mem_at p m).width (comb_place p m) addr
   pub ready : Signal
   pub looked : is_locked p m ≡ true → IsLookOf ls m look_kind.R addr ticket ready (Some f)
 

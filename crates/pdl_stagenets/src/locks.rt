@@ -1,5 +1,5 @@
 // Looks at the locks, and words of memories.
-ghost use Rattle.std.specs.Prelude.{◌≡◌, ◌^◌, ◌<◌, true, Some, IfOk, length, is_some, option_map};
+ghost use Rattle.std.specs.Prelude.{◌≡◌, ◌^◌, ◌<◌, ◌≤◌, true, false, not, Some, IfOk, length, count_by, is_some, option_map};
 ghost use Rattle.pdl_form.specs.Whole.{form};
 ghost use Rattle.pdl_semantics.specs.Stages.{mem_at};
 ghost use Rattle.pdl_net.specs.Meaning.{IsThere, Means, signal};
@@ -9,13 +9,14 @@ ghost use Rattle.pdl_lockapi.specs.Laws.{HasValueNet};
 ghost use Rattle.pdl_flatnets.specs.Nets.{signals_in, signal_at};
 ghost use Rattle.pdl_flatnets.specs.Conditions.{AreBits};
 ghost use Rattle.pdl_pipe_law.specs.Walk.{is_locked};
+ghost use Rattle.pdl_pipe_law.specs.Places.{comb_place};
 ghost use Rattle.pdl_stagenets.specs.Locked.{members, some_at, room_net};
 ghost use Rattle.pdl_stagenets.specs.Setting.{HasLocks, set_locks};
 ghost use Rattle.pdl_stagenets.specs.Words.{IsLookOf, IsWordSignal, IsLooked};
 
 use pdl_build::Builder;
 use pdl_flatnets::{Bits, are_same};
-use pdl_form::FlatPipe;
+use pdl_form::{FlatPipe, Mem};
 use pdl_kit::NoMemory;
 use pdl_lockapi::{Kind, LockModule, LockRegs, Look};
 use pdl_net::Net;
@@ -67,6 +68,21 @@ fn value_of(look: Look) -> Net
     }
 }
 
+// How many memories answer at once.
+fn count_at_once(mems: &[Mem]) -> usize
+    ensures { result ≡ count_by (λ (x : Mem). not x.delayed) mems.now }
+{
+    mems.iter().filter(|mem| !mem.delayed).count()
+}
+
+/// The number of a memory's array: memories that answer at once have theirs in order.
+pub fn array_of(pipe: &FlatPipe, m: usize) -> usize
+    requires { m ≤ length (form pipe.now).pipe.mems }
+    ensures { result ≡ comb_place (form pipe.now).pipe m }
+{
+    count_at_once(&pipe.mems()[..m])
+}
+
 /// A look through the lock of a memory, at an address with a ticket.
 pub(crate) fn look<L: LockModule>(
     b: &mut Builder,
@@ -87,7 +103,8 @@ pub(crate) fn look<L: LockModule>(
         ≡ (set_locks (members L.LockModule) b.old setting.now).bits m }
     ensures ready_there { IfOk result (λ l. IsThere b.new l.ready) }
     ensures ready_one { IfOk result (λ l. (signal b.new l.ready).width ≡ 1) }
-    ensures has_value { IfOk result (λ l. is_some l.value ≡ true) }
+    ensures has_value { IfOk result (λ l.
+        is_some l.value ≡ not (mem_at (form setting.now.pipe.now).pipe m).delayed) }
     ensures value { IfOk result (λ l.
         HasValueNet b.new (mem_at (form setting.now.pipe.now).pipe m).width l.value) }
     ensures law { IfOk result (λ l.
@@ -99,7 +116,7 @@ pub(crate) fn look<L: LockModule>(
     x.lock.emit_look(b, &x.regs, kind, addr, ticket)
 }
 
-/// The word of a memory at the address that a variable holds.
+/// The word at an address of a memory that answers at once.
 pub(crate) fn word<L: LockModule>(
     b: &mut Builder,
     setting: &Setting<'_, L>,
@@ -109,6 +126,7 @@ pub(crate) fn word<L: LockModule>(
 ) -> Result<Net, NoMemory>
     requires locks { HasLocks (members L.LockModule) b.old setting.now }
     requires low { m < length (form setting.now.pipe.now).pipe.mems }
+    requires at_once { (mem_at (form setting.now.pipe.now).pipe m).delayed ≡ false }
     requires addr_there { IsThere b.old addr }
     requires addr_reach { 2 ^ (signal b.old addr).width
         ≡ (mem_at (form setting.now.pipe.now).pipe m).depth }
@@ -128,7 +146,8 @@ pub(crate) fn word<L: LockModule>(
         let look = look(b, setting, m, Kind::R, addr, ticket)?;
         Ok(value_of(look))
     } else {
-        b.read(m, addr)
+        let array = array_of(setting.pipe, m);
+        b.read(array, addr)
     }
 }
 

@@ -33,6 +33,15 @@ pub struct LettingNet {
     pub on: Net,
 }
 
+/// A request of a delayed memory: whether it is made, 1 bit, its address, and the variable that the answer binds.
+#[derive(Clone, Copy)]
+pub struct AskNet {
+    pub mem: usize,
+    pub var: usize,
+    pub on: Net,
+    pub addr: Net,
+}
+
 /// A call: whether it is made, 1 bit, and its arguments.
 #[derive(Drop)]
 pub struct BirthNet {
@@ -51,8 +60,13 @@ pub struct WalkNets {
     pub lettings: Seq<LettingNet>,
     /// The latest first.
     pub births: Vec<BirthNet>,
+    pub asks: Seq<AskNet>,
     /// The arguments of the guess.
     pub guess: Seq<Net>,
+    /// Whether a verify fails, 1 bit.
+    pub fails: Net,
+    /// Whether the thread waits at a barrier, 1 bit.
+    pub barrier: Net,
 }
 
 // As the derive would, but by a call of its owners: docs/DECISIONS.md says why.
@@ -66,7 +80,10 @@ impl Drop for WalkNets {
             puts: _,
             lettings: _,
             births: _,
+            asks: _,
             guess: _,
+            fails: _,
+            barrier: _,
         } = self;
     }
 }

@@ -1,5 +1,5 @@
 // The statements of a stage, one after another.
-ghost use Rattle.std.specs.Prelude.{◌≡◌, ◌==◌, ◌<◌, ◌≤◌, ◌^◌, ◌++◌, ◌∷◌, [], true, IfOk, OnOk, length, map, slice_index};
+ghost use Rattle.std.specs.Prelude.{◌≡◌, ◌==◌, ◌<◌, ◌≤◌, ◌^◌, ◌++◌, ◌∷◌, [], true, false, IfOk, OnOk, length, map, slice_index};
 ghost use Rattle.pdl_semantics.specs.Stages.{mem_at, in_stage};
 ghost use Rattle.pdl_form.specs.Whole.{form};
 ghost use Rattle.pdl_form.specs.Form.{stmt_at};
@@ -86,6 +86,7 @@ impl WalkNets {
             ≡ (mem_at (form setting.now.pipe.now).pipe m).width }
         requires at { IsLocation (form setting.now.pipe.now).pipe
             (form setting.now.pipe.now).widths m a }
+        requires at_once { (mem_at (form setting.now.pipe.now).pipe m).delayed ≡ false }
         ensures walk { OnOk result (IsWalkOf (form setting.now.pipe.now) b.new self.new) }
         ensures parts { OnOk result (IsRead (form setting.now.pipe.now).pipe
             (set_locks (members L.LockModule) b.old setting.now) (set_tickets b.old setting.now)

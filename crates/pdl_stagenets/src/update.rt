@@ -7,6 +7,7 @@ ghost use Rattle.pdl_flatnets.specs.Conditions.{AreBits};
 ghost use Rattle.pdl_pipe_law.specs.Walk.{one, both, if_on};
 ghost use Rattle.pdl_stagenets.specs.Parts.{held_of, parts_in, IsThereWalk};
 ghost use Rattle.pdl_stagenets.specs.Sized.{IsWalkOf};
+ghost use Rattle.pdl_stagenets.specs.Frames.{SameRest};
 ghost use Rattle.pdl_stagenets.specs.Finding.{held_net as held_in};
 ghost use Rattle.pdl_stagenets.specs.Steps.{with_var, with_held};
 
@@ -45,12 +46,8 @@ impl WalkNets {
         requires { x < length self.old.vars.items }
         ensures vars { self.new.vars.items ≡ slice_set self.old.vars.items x net }
         ensures held { self.new.held ≡ self.old.held }
-        ensures ready { self.new.ready ≡ self.old.ready }
-        ensures reserves { self.new.reserves ≡ self.old.reserves }
-        ensures puts { self.new.puts ≡ self.old.puts }
-        ensures lettings { self.new.lettings ≡ self.old.lettings }
         ensures births { self.new.births ≡ self.old.births }
-        ensures guess { self.new.guess ≡ self.old.guess }
+        ensures rest { SameRest self.old self.new }
     {
         self.vars[x] = net;
     }
@@ -59,12 +56,8 @@ impl WalkNets {
     fn push_held(&mut self, held: HeldNet) -> Result<(), NoMemory>
         ensures held { OnOk result (self.new.held.items ≡ held ∷ self.old.held.items) }
         ensures vars { self.new.vars ≡ self.old.vars }
-        ensures ready { self.new.ready ≡ self.old.ready }
-        ensures reserves { self.new.reserves ≡ self.old.reserves }
-        ensures puts { self.new.puts ≡ self.old.puts }
-        ensures lettings { self.new.lettings ≡ self.old.lettings }
         ensures births { self.new.births ≡ self.old.births }
-        ensures guess { self.new.guess ≡ self.old.guess }
+        ensures rest { SameRest self.old self.new }
     {
         self.held.insert(0, held)?;
         Ok(())
@@ -201,11 +194,7 @@ impl WalkNets {
             ≡ record { on = on; args = args } ∷ self.old.births.items) }
         ensures vars { self.new.vars ≡ self.old.vars }
         ensures held { self.new.held ≡ self.old.held }
-        ensures ready { self.new.ready ≡ self.old.ready }
-        ensures reserves { self.new.reserves ≡ self.old.reserves }
-        ensures puts { self.new.puts ≡ self.old.puts }
-        ensures lettings { self.new.lettings ≡ self.old.lettings }
-        ensures guess { self.new.guess ≡ self.old.guess }
+        ensures rest { SameRest self.old self.new }
     {
         self.births.insert(0, BirthNet { on, args })?;
         Ok(())

@@ -1,8 +1,8 @@
 -- A stage before its statements, of the parts with which it begins.
-use Rattle.std.proofs.Common.{◌≡◌, ℕ, zero, suc, ◌+◌, ◌<◌, ◌≤◌, ◌⊎◌, inl, inr, Bool, true, false, ◌&&◌, List, [], ◌∷◌, ◌++◌, map, length, replicate, get_or, append_assoc, append-nil, refl, sym, ap, ap₂, ◌∙◌, subst, arith, leb}
+use Rattle.std.proofs.Common.{◌≡◌, ℕ, zero, suc, ◌<◌, ◌≤◌, ◌⊎◌, inl, inr, Bool, true, false, ◌&&◌, List, [], ◌∷◌, ◌++◌, map, length, take, get_or, append_assoc, append-nil, refl, sym, ap, ◌∙◌, subst, arith, leb}
 use Rattle.std.specs.Prelude.{nat_le}
 use Rattle.std.proofs.lemmas.Bool.Decides.{leb_tells}
-use Rattle.std.proofs.lemmas.List.{get_or_past}
+use Rattle.std.proofs.lemmas.List.{get_or_past, take-map}
 use Rattle.pdl_semantics.specs.Flat.{Pipe}
 use Rattle.pdl_semantics.specs.Stages.{reserve_stage, commit_stage}
 use Rattle.pdl_form.specs.Form.{Form}
@@ -12,9 +12,7 @@ use Rattle.pdl_net.specs.Signal.{Signal, no_signal, const_value, const_signal}
 use Rattle.pdl_net.specs.Meaning.{signal, IsThere}
 use Rattle.pdl_net.specs.Growth.{Keeps}
 use Rattle.pdl_net.proofs.Keeps.{keeps_refl, keeps_trans}
-use Rattle.pdl_flatnets.specs.declared.bits.Bits.{Bits}
 use Rattle.pdl_flatnets.specs.Nets.{NetsThere, signals_in, signal_at, widths_of}
-use Rattle.pdl_flatnets.specs.Conditions.{AreBits}
 use Rattle.pdl_flatnets.proofs.NetLists.{length_widths}
 use Rattle.pdl_pipe_law.specs.Walk.{is_locked, one, zero_bit}
 use Rattle.pdl_lives.specs.Needs.{goes_with}
@@ -23,15 +21,17 @@ use Rattle.pdl_stagenets.specs.declared.nets.ReserveNet.{ReserveNet}
 use Rattle.pdl_stagenets.specs.declared.nets.PutNet.{PutNet}
 use Rattle.pdl_stagenets.specs.declared.nets.LettingNet.{LettingNet}
 use Rattle.pdl_stagenets.specs.declared.nets.BirthNet.{BirthNet}
-use Rattle.pdl_stagenets.specs.Parts.{Held as HeldPart, held_in, reservation_in, put_in, letting_in, birth_in, parts_in, walk_of}
-use Rattle.pdl_stagenets.specs.Sized.{IsWalk, IsSizedReserve, IsSizedPut, IsSizedBirth}
+use Rattle.pdl_stagenets.specs.declared.nets.AskNet.{AskNet}
+use Rattle.pdl_stagenets.specs.Parts.{Held as HeldPart, held_in, reservation_in, put_in, letting_in, birth_in, ask_in, parts_in, walk_of}
+use Rattle.pdl_stagenets.specs.Sized.{IsWalk, IsSizedReserve, IsSizedPut, IsSizedBirth, IsSizedAsk}
 use Rattle.pdl_pipe_law.specs.Walk.{Letting}
 use Rattle.pdl_stageregs.specs.declared.nets.Item.{Item}
 use Rattle.pdl_stageregs.specs.declared.nets.Item.TheVariants.{Var, Held, Ticket}
+use Rattle.pdl_stageregs.specs.declared.nets.Shared.{Shared}
 use Rattle.pdl_stageregs.specs.declared.nets.StageNets.{StageNets}
 use Rattle.pdl_stageregs.specs.Items.{is_needed, begun_item, ended_item}
-use Rattle.pdl_stageregs.specs.Stages.{IsFrame, IsBegun, IsBegunBy, IsSettled, begun_parts, view_in, views_in}
-use Rattle.pdl_stageregs.specs.Begun.{IsBare, IsReady, IsAtFront, AreEnded, GainsHeld, IsLonger, HasVars, HasHeld, HasTicketNets}
+use Rattle.pdl_stageregs.specs.Stages.{zero_signal, IsFrame, IsBegun, IsBegunBy, IsSettled, begun_parts, view_in, views_in}
+use Rattle.pdl_stageregs.specs.Begun.{IsShared, IsBare, IsReady, IsAtFront, AreEnded, GainsHeld, IsLonger, HasVars, HasHeld, HasTicketNets}
 use Rattle.pdl_stageregs.proofs.Lists.{each_at, view_at, some_stage}
 use Rattle.pdl_stageregs.proofs.WholeBegun.{vars_keep, held_keep, tickets_keep}
 use Rattle.pdl_pipe_law.proofs.Next.{lock_there}
@@ -80,59 +80,76 @@ front_trans xs ys zs h k = (h.0 ++ k.0, k.1 ∙ ap (λ l. l ++ k.0) h.1 ∙ appe
 pub front_same : (xs ys zs : List Item) → zs ≡ ys → IsAtFront xs ys → IsAtFront xs zs
 front_same xs ys zs e h = subst (IsAtFront xs) (sym e) h
 
-zeros_there : (c : Circuit) (n : ℕ) (x : Net) → IsThere c x → NetsThere c (replicate n x)
-zeros_there c zero x t = tt
-zeros_there c (suc n) x t = (t, zeros_there c n x t)
+there_take : (c : Circuit) (n : ℕ) (xs : List Net) → NetsThere c xs → NetsThere c (take n xs)
+there_take c zero xs t = tt
+there_take c (suc n) [] t = tt
+there_take c (suc n) (x ∷ xs) t = (t.0, there_take c n xs t.1)
 
-zeros_are : (c : Circuit) (n : ℕ) (x : Net) (f : Signal) → signal c x ≡ f → signals_in c (replicate n x) ≡ replicate n f
-zeros_are c zero x f e = refl
-zeros_are c (suc n) x f e = ap₂ (λ (g : Signal) gs. g ∷ gs) e (zeros_are c n x f e)
+zeros_wide : (ws : List ℕ) → widths_of (map zero_signal ws) ≡ ws
+zeros_wide [] = refl
+zeros_wide (w ∷ ws) = ap (λ vs. w ∷ vs) (zeros_wide ws)
 
 -- the stage's walk has done nothing yet
-pub record IsIdle (d : Circuit) (bits : Bits) (n : ℕ) (t : StageNets) : Type 0 where
+pub record IsIdle (d : Circuit) (shared : Shared) (n : ℕ) (t : StageNets) : Type 0 where
   pub vars : t.end.vars.items ≡ t.vars
   pub held : t.end.held.items ≡ t.held
-  pub guess : t.end.guess ≡ replicate n bits.zero
-  pub ready : t.end.ready ≡ bits.one
+  pub guess : t.end.guess ≡ take n shared.zeros
+  pub ready : t.end.ready ≡ shared.bits.one
   pub reserves : t.end.reserves ≡ []
   pub puts : t.end.puts ≡ []
   pub lettings : t.end.lettings ≡ []
   pub births : t.end.births.items ≡ []
+  pub asks : t.end.asks ≡ []
+  pub fails : t.end.fails ≡ shared.bits.zero
+  pub barrier : t.end.barrier ≡ shared.bits.zero
 
-module _ (d : Circuit) (f : Form) (nexts : List Signal) (ss : List StageNets) (k : ℕ) (t : StageNets) (bits : Bits) (are : AreBits d bits) (idle : IsIdle d bits (length f.pipe.start) t)
+module _ (d : Circuit) (f : Form) (nexts : List Signal) (ss : List StageNets) (k : ℕ) (t : StageNets) (shared : Shared) (are : IsShared d f shared) (idle : IsIdle d shared (length f.pipe.start) t)
     (vars : HasVars d d f nexts ss k t) (held : HasHeld d d f nexts ss k t) where
+  guess_is : signals_in d t.end.guess ≡ take (length f.pipe.start) (map zero_signal f.widths)
+  guess_is = ap (signals_in d) idle.guess ∙ sym (take-map (signal d) (length f.pipe.start) shared.zeros) ∙ ap (take (length f.pipe.start)) are.zeros
+
   parts_are : parts_in d t.end ≡ begun_parts d (length f.pipe.start) t
   parts_are =
       let e1 : signals_in d t.end.vars.items ≡ signals_in d t.vars = ap (signals_in d) idle.vars in
       let e2 : map (held_in d) t.end.held.items ≡ map (held_in d) t.held = ap (map (held_in d)) idle.held in
-      let e3 : signal d t.end.ready ≡ one = ap (signal d) idle.ready ∙ are.one.same in
+      let e3 : signal d t.end.ready ≡ one = ap (signal d) idle.ready ∙ are.bits.one.same in
       let e4 : map (reservation_in d) t.end.reserves ≡ [] = ap (map (reservation_in d)) idle.reserves in
       let e5 : map (put_in d) t.end.puts ≡ [] = ap (map (put_in d)) idle.puts in
       let e6 : map (letting_in d) t.end.lettings ≡ [] = ap (map (letting_in d)) idle.lettings in
       let e7 : map (birth_in d) t.end.births.items ≡ [] = ap (map (birth_in d)) idle.births in
-      let e8 : signals_in d t.end.guess ≡ replicate (length f.pipe.start) zero_bit = ap (signals_in d) idle.guess ∙ zeros_are d (length f.pipe.start) bits.zero zero_bit are.zero.same in
-      cc (e1, e2, e3, e4, e5, e6, e7, e8)
+      let e8 : signals_in d t.end.guess ≡ take (length f.pipe.start) (map zero_signal (widths_of (signals_in d t.vars))) = guess_is ∙ ap (λ ws. take (length f.pipe.start) (map zero_signal ws)) (sym vars.wide) in
+      let e9 : map (ask_in d) t.end.asks ≡ [] = ap (map (ask_in d)) idle.asks in
+      let e10 : signal d t.end.fails ≡ zero_bit = ap (signal d) idle.fails ∙ are.bits.zero.same in
+      let e11 : signal d t.end.barrier ≡ zero_bit = ap (signal d) idle.barrier ∙ are.bits.zero.same in
+      cc (e1, e2, e3, e4, e5, e6, e7, e8, e9, e10, e11)
 
   pub walk_is : IsWalk d f.pipe f.widths t.end
   walk_is = record {
     there = record {
       vars = subst (NetsThere d) (sym idle.vars) vars.there;
       held = subst (λ (l : List HeldNet). Each (λ (h : HeldNet). IsThere d h.net) l) (sym idle.held) held.there;
-      ready = subst (IsThere d) (sym idle.ready) are.one.there;
+      ready = subst (IsThere d) (sym idle.ready) are.bits.one.there;
       reserves = subst (λ (l : List ReserveNet). Each (λ (r : ReserveNet). IsThere d r.on × IsThere d r.addr) l) (sym idle.reserves) tt;
       puts = subst (λ (l : List PutNet). Each (λ (x : PutNet). IsThere d x.on × IsThere d x.value) l) (sym idle.puts) tt;
       lettings = subst (λ (l : List LettingNet). Each (λ (x : LettingNet). IsThere d x.on) l) (sym idle.lettings) tt;
       births = subst (λ (l : List BirthNet). Each (λ (x : BirthNet). IsThere d x.on × NetsThere d x.args) l) (sym idle.births) tt;
-      guess = subst (NetsThere d) (sym idle.guess) (zeros_there d (length f.pipe.start) bits.zero are.zero.there);
+      asks = subst (λ (l : List AskNet). Each (λ (x : AskNet). IsThere d x.on × IsThere d x.addr) l) (sym idle.asks) tt;
+      guess = subst (NetsThere d) (sym idle.guess) (there_take d (length f.pipe.start) shared.zeros are.zeros_there);
+      fails = subst (IsThere d) (sym idle.fails) are.bits.zero.there;
+      barrier = subst (IsThere d) (sym idle.barrier) are.bits.zero.there;
     };
     sized = record {
       vars = ap (λ (l : List Net). widths_of (signals_in d l)) idle.vars ∙ vars.wide;
       held = subst (λ (l : List HeldNet). Each (λ (h : HeldPart). h.signal.width ≡ 1) (map (held_in d) l)) (sym idle.held) held.one;
-      ready = ap (λ (x : Net). (signal d x).width) idle.ready ∙ ap (λ (g : Signal). g.width) are.one.same;
+      ready = ap (λ (x : Net). (signal d x).width) idle.ready ∙ ap (λ (g : Signal). g.width) are.bits.one.same;
       reserves = subst (λ (l : List ReserveNet). Each (IsSizedReserve f.pipe) (map (reservation_in d) l)) (sym idle.reserves) tt;
       puts = subst (λ (l : List PutNet). Each (IsSizedPut f.pipe) (map (put_in d) l)) (sym idle.puts) tt;
       lettings = subst (λ (l : List LettingNet). Each (λ (x : Letting). x.on.width ≡ 1) (map (letting_in d) l)) (sym idle.lettings) tt;
       births = subst (λ (l : List BirthNet). Each (IsSizedBirth f.pipe f.widths) (map (birth_in d) l)) (sym idle.births) tt;
+      asks = subst (λ (l : List AskNet). Each (IsSizedAsk f.pipe) (map (ask_in d) l)) (sym idle.asks) tt;
+      guess = ap widths_of guess_is ∙ sym (take-map (λ (g : Signal). g.width) (length f.pipe.start) (map zero_signal f.widths)) ∙ ap (take (length f.pipe.start)) (zeros_wide f.widths);
+      fails = ap (λ (x : Net). (signal d x).width) idle.fails ∙ ap (λ (g : Signal). g.width) are.bits.zero.same;
+      barrier = ap (λ (x : Net). (signal d x).width) idle.barrier ∙ ap (λ (g : Signal). g.width) are.bits.zero.same;
     };
   }
 
@@ -159,9 +176,9 @@ module _ (d : Circuit) (f : Form) (nexts : List Signal) (ss : List StageNets) (k
 
 -- ---- the steps of a stage's beginning, one after the other
 
-module _ (a b c d : Circuit) (f : Form) (nexts : List Signal) (ss : List StageNets) (k : ℕ) (bits : Bits) (low : ℕ) (s0 s1 s2 s3 t : StageNets) (ab : Keeps a b) (bc : Keeps b c) (cd : Keeps c d)
-    (bare : IsBare low bits.one s0) (valid1 : s1.valid ≡ s0.valid) (end1 : s1.end ≡ s0.end) (gains : GainsHeld s1 s2) (longer : IsLonger s2 s3) (end3 : s3.end ≡ s2.end) (ready : IsReady bits.zero (length f.pipe.start) s3 t) where
-  idle : IsIdle d bits (length f.pipe.start) t
+module _ (a b c d : Circuit) (f : Form) (nexts : List Signal) (ss : List StageNets) (k : ℕ) (shared : Shared) (low : ℕ) (s0 s1 s2 s3 t : StageNets) (ab : Keeps a b) (bc : Keeps b c) (cd : Keeps c d)
+    (bare : IsBare low shared.bits s0) (valid1 : s1.valid ≡ s0.valid) (end1 : s1.end ≡ s0.end) (gains : GainsHeld s1 s2) (longer : IsLonger s2 s3) (end3 : s3.end ≡ s2.end) (ready : IsReady shared.zeros (length f.pipe.start) s3 t) where
+  idle : IsIdle d shared (length f.pipe.start) t
   idle =
       let e = end3 ∙ gains.end ∙ end1 in
       record {
@@ -173,12 +190,15 @@ module _ (a b c d : Circuit) (f : Form) (nexts : List Signal) (ss : List StageNe
         puts = ready.puts ∙ ap (λ w. w.puts) e ∙ bare.puts;
         lettings = ready.lettings ∙ ap (λ w. w.lettings) e ∙ bare.lettings;
         births = ap (λ v. v.items) ready.births ∙ ap (λ w. w.births.items) e ∙ bare.births;
+        asks = ready.asks ∙ ap (λ w. w.asks) e ∙ bare.asks;
+        fails = ready.fails ∙ ap (λ w. w.fails) e ∙ bare.fails;
+        barrier = ready.barrier ∙ ap (λ w. w.barrier) e ∙ bare.barrier;
       }
 
   pub place : t.valid ≡ low
   place = ready.valid ∙ longer.valid ∙ gains.valid ∙ valid1 ∙ bare.valid
 
-  module _ (ends_a : AreEnded a f nexts ss) (ends_b : AreEnded b f nexts ss) (ends_c : AreEnded c f nexts ss) (ends_d : AreEnded d f nexts ss) (under : k ≤ length ss) (are : AreBits d bits)
+  module _ (ends_a : AreEnded a f nexts ss) (ends_b : AreEnded b f nexts ss) (ends_c : AreEnded c f nexts ss) (ends_d : AreEnded d f nexts ss) (under : k ≤ length ss) (are : IsShared d f shared)
       (vars : HasVars a b f nexts ss k s1) (held : HasHeld b c f nexts ss k s2) (tickets : HasTicketNets c d f nexts ss k s3) where
     bd : Keeps b d
     bd = keeps_trans b c d bc cd
@@ -197,7 +217,7 @@ module _ (a b c d : Circuit) (f : Form) (nexts : List Signal) (ss : List StageNe
         tickets_keep c d d f nexts ss k s3 t cd (keeps_refl d) ends_c under ready.valid (front_same s3.kept s3.kept t.kept ready.kept ([], sym (append-nil s3.kept))) ready.tickets tickets
 
     pub begun_walk : IsWalk d f.pipe f.widths t.end
-    begun_walk = walk_is d f nexts ss k t bits are idle vars_d held_d
+    begun_walk = walk_is d f nexts ss k t shared are idle vars_d held_d
 
     pub begun_all : length f.pipe.start ≤ length f.widths → IsFrame d f nexts k s3 → IsBegun d f nexts ss k t
-    begun_all params frame = whole_begun d f nexts ss k t bits are idle vars_d held_d params ends_d under (frame_as d f nexts k s3 t ready.valid ready.kept frame) tickets_d
+    begun_all params frame = whole_begun d f nexts ss k t shared are idle vars_d held_d params ends_d under (frame_as d f nexts k s3 t ready.valid ready.kept frame) tickets_d

@@ -103,7 +103,7 @@ takes_later c d low s thread next e l all h = record {
 
 -- ---- the whole
 
-module _ (c : Circuit) (f : Form) (nexts : List Signal) (ls : Locks) (ss : List StageNets) (ms : List MoveNets) (low : ℕ) (plain : IsPlainLine f.pipe) (params : length f.pipe.start ≤ f.pipe.vars) (long : length ss ≡ length f.pipe.stages)
+module _ (c : Circuit) (f : Form) (nexts : List Signal) (ls : Locks) (ss : List StageNets) (ms : List MoveNets) (low : ℕ) (plain : IsPlainLine f.pipe) (params : length f.pipe.start ≤ f.pipe.vars) (wide : length f.pipe.start ≤ length f.widths) (long : length ss ≡ length f.pipe.stages)
     (next_is : (m : ℕ) → is_locked f.pipe m ≡ true → (m < length f.pipe.mems) × (signal_at nexts m ≡ ls.ticket m)) (all : AreStaged c f nexts ls ss) (apart : AreApart low (length c.regs) ss)
     (moved : (k : ℕ) → k < length f.pipe.stages → moves_in c ms k ≡ moves_on f.pipe (views_in c f.pipe ss) (moves_in c ms) k)
     (taken : (k : ℕ) (s : StageNets) → k < length ss → IsAt ss k s → IsConnected c f.pipe (views_in c f.pipe ss) (moves_in c ms) (length ss) k s) where
@@ -120,7 +120,7 @@ module _ (c : Circuit) (f : Form) (nexts : List Signal) (ls : Locks) (ss : List 
       stages k l =
           let at : k < length ss = omega (arith, l, long) in
           let some = some_stage ss k at in
-          is_stage c d f nexts ls ss ms plain e.keeps well long next_is all moved later k some.0 l at some.1
+          is_stage c d f nexts ls ss ms plain e.keeps well long next_is all wide moved later k some.0 l at some.1
 
 -- ---- one circuit after the other
 

@@ -1,8 +1,8 @@
 -- All stages meet the law, in each circuit in which they take next what they should.
-use Rattle.std.proofs.Common.{◌≡◌, ℕ, zero, suc, ◌<◌, ◌≤◌, ◌==◌, Bool, true, false, ◌&&◌, inl, inr, ◌⊎◌, List, [], ◌∷◌, length, take, refl, sym, ap, ap₂, ◌∙◌, subst, arith, get_or}
+use Rattle.std.proofs.Common.{◌≡◌, ℕ, zero, suc, ◌<◌, ◌≤◌, ◌==◌, Bool, true, false, ◌&&◌, inl, inr, List, [], ◌∷◌, map, length, take, refl, sym, ap, ap₂, ◌∙◌, subst, arith, get_or}
 use Rattle.std.specs.Prelude.{if◌then◌else◌, slice_index, nat_le}
 use Rattle.std.proofs.lemmas.Bool.{false≢true, le-leb, lt-leb}
-use Rattle.std.proofs.lemmas.List.{length-take, length-replicate}
+use Rattle.std.proofs.lemmas.List.{length-take, length-map}
 use Rattle.pdl_semantics.specs.Flat.{Pipe}
 use Rattle.pdl_semantics.specs.Stages.{in_stage, stage_at, reserve_stage, commit_stage}
 use Rattle.pdl_form.specs.Form.{Form}
@@ -12,7 +12,7 @@ use Rattle.pdl_net.specs.Signal.{Signal, reg_signal, mux_signal}
 use Rattle.pdl_net.specs.Meaning.{signal, next_signal}
 use Rattle.pdl_net.specs.Growth.{Keeps}
 use Rattle.pdl_net.specs.Well.{IsWell}
-use Rattle.pdl_flatnets.specs.Nets.{signal_at, widths_of}
+use Rattle.pdl_flatnets.specs.Nets.{signals_in, signal_at, widths_of}
 use Rattle.pdl_flatnets.proofs.NetLists.{length_widths}
 use Rattle.pdl_pipe_law.specs.Walk.{Locks, Birth, is_locked, one, zero_bit, both, IsFresh, AreRows}
 use Rattle.pdl_pipe_law.specs.Views.{View, Comer, no_gates, comers, first_coming, free, way_on}
@@ -25,7 +25,7 @@ use Rattle.pdl_stageregs.specs.declared.nets.Item.{Item}
 use Rattle.pdl_stageregs.specs.declared.nets.Item.TheVariants.{Var, Held, Ticket}
 use Rattle.pdl_stageregs.specs.declared.nets.StageNets.{StageNets}
 use Rattle.pdl_stageregs.specs.Items.{item_at, item_width, is_needed, begun_item, comer_item}
-use Rattle.pdl_stageregs.specs.Stages.{IsRegister, IsBegunBy, IsSettled, reg_of, view_in, views_in}
+use Rattle.pdl_stageregs.specs.Stages.{zero_signal, IsRegister, IsBegunBy, IsSettled, reg_of, view_in, views_in}
 use Rattle.pdl_stageregs.specs.Moves.{IsInLine, moves_in, moves_on}
 use Rattle.pdl_stageregs.specs.Comes.{IsAt, IsConnected, arriving}
 use Rattle.pdl_stageregs.specs.Staged.{IsStaged, AreStaged, IsPlainLine}
@@ -65,7 +65,7 @@ no_ticket p k m l =
 
 module _ (c d : Circuit) (f : Form) (nexts : List Signal) (ls : Locks) (ss : List StageNets) (ms : List MoveNets) (plain : IsPlainLine f.pipe) (keeps : Keeps c d) (well : IsWell d)
     (long : length ss ≡ length f.pipe.stages) (next_is : (m : ℕ) → is_locked f.pipe m ≡ true → (m < length f.pipe.mems) × (signal_at nexts m ≡ ls.ticket m))
-    (all : AreStaged c f nexts ls ss)
+    (all : AreStaged c f nexts ls ss) (wide : length f.pipe.start ≤ length f.widths)
     (moved : (k : ℕ) → k < length f.pipe.stages → moves_in c ms k ≡ moves_on f.pipe (views_in c f.pipe ss) (moves_in c ms) k)
     (taken : (k : ℕ) (s : StageNets) → k < length ss → IsAt ss k s → IsConnected d f.pipe (views_in c f.pipe ss) (moves_in c ms) (length f.pipe.stages) k s) where
   abbrev p : Pipe
@@ -152,7 +152,11 @@ module _ (c d : Circuit) (f : Form) (nexts : List Signal) (ls : Locks) (ss : Lis
       valid = subst (λ (u : View). Becomes d u.valid (first_coming (λ (o : Comer). one) (comers f.pipe (views_in c f.pipe ss) (moves_in c ms) k) (mux_signal (moves_in c ms k) zero_bit (mux_signal zero_bit zero_bit u.valid)))) (sym at) valid_next;
       vars = λ x need. subst (λ (u : View). Becomes d (u.kept x) (first_coming (λ (o : Comer). o.vars x) (comers f.pipe (views_in c f.pipe ss) (moves_in c ms) k) (u.begun.vars x))) (sym at) (item_next (Var x) need);
       held = λ m a need. subst (λ (u : View). Becomes d (u.begun.held m a) (first_coming (λ (o : Comer). o.held m a) (comers f.pipe (views_in c f.pipe ss) (moves_in c ms) k) (u.begun.held m a))) (sym at) (item_next (Held m a) need);
-      guess_long = subst (λ (u : View). length u.begun.guess ≡ length f.pipe.start) (sym at) (length-replicate (length f.pipe.start) zero_bit);
+      guess_long = subst (λ (u : View). length u.begun.guess ≡ length f.pipe.start) (sym at)
+          (let q = length-take (length f.pipe.start) (map zero_signal (widths_of (signals_in c s.vars))) in
+          let n = length-map (widths_of (signals_in c s.vars)) zero_signal in
+          let e = ap length st.nets.vars_wide in
+          omega (arith, q, n, e, wide));
       guess = λ i l e. absurd (false≢true (sym (plain.plain k) ∙ e));
       tickets_first = λ m e l. subst (λ (u : View). Same d (u.tickets m) (ls.ticket m)) (sym at) (λ t suits. ap (λ (g : Signal). g.value t) (let q = next_is m e in st.tickets m q.0 (no_ticket f.pipe k m l) ∙ q.1));
       tickets = λ m e under over. subst (λ (u : View). Becomes d (u.tickets m) (first_coming (λ (o : Comer). o.tickets m) (comers f.pipe (views_in c f.pipe ss) (moves_in c ms) k) (u.tickets m))) (sym at)

@@ -1,5 +1,5 @@
 -- A stage after its statements, and how it stays while the circuit and the list of stages grow.
-use Rattle.std.proofs.Common.{◌≡◌, ℕ, zero, suc, ◌+◌, ◌<◌, ◌≤◌, List, [], ◌∷◌, ◌++◌, map, length, get_or, sym, ap, ap₂, ◌∙◌, subst, arith}
+use Rattle.std.proofs.Common.{◌≡◌, ℕ, zero, suc, ◌<◌, ◌≤◌, List, [], ◌∷◌, ◌++◌, map, length, take, get_or, sym, ap, ap₂, ◌∙◌, subst, arith}
 use Rattle.std.proofs.lemmas.List.{get_or_append_left, length-append, length-map, map-append}
 use Rattle.std.proofs.Math.Seq.{get_or-append_seam}
 use Rattle.pdl_semantics.specs.Flat.{Pipe, Stmt}
@@ -24,7 +24,7 @@ use Rattle.pdl_stageregs.specs.declared.nets.Item.{Item}
 use Rattle.pdl_stageregs.specs.declared.nets.Item.TheVariants.{Var, Held, Ticket}
 use Rattle.pdl_stageregs.specs.declared.nets.StageNets.{StageNets}
 use Rattle.pdl_stageregs.specs.Items.{begun_item, ended_item, IsSameConstant}
-use Rattle.pdl_stageregs.specs.Stages.{begun_parts, view_in, views_in, no_view, HasRegisters, IsThereBegun, HasTickets, IsBegun, IsBegunBy, IsSettled}
+use Rattle.pdl_stageregs.specs.Stages.{zero_signal, begun_parts, view_in, views_in, no_view, HasRegisters, IsThereBegun, HasTickets, IsBegun, IsBegunBy, IsSettled}
 use Rattle.pdl_stageregs.specs.Begun.{AreEnded}
 use Rattle.pdl_stageregs.specs.Staged.{IsStaged, AreStaged}
 use Rattle.pdl_stageregs.specs.Comes.{IsAt}
@@ -52,7 +52,7 @@ module _ (c d : Circuit) (e : Keeps c d) where
   }
 
   pub begun_parts_keep : (f : Form) (nexts : List Signal) (n : ℕ) (s : StageNets) → IsThereBegun c f nexts s → begun_parts d n s ≡ begun_parts c n s
-  begun_parts_keep f nexts n s h = ap₂ (λ (vs : List Signal) (hs : List HeldPart). record (begun_parts c n s) { vars = vs; held = hs }) (signals_keep c d s.vars e h.vars) (held_keep c d e s.held h.held)
+  begun_parts_keep f nexts n s h = ap₂ (λ (vs : List Signal) (hs : List HeldPart). record (begun_parts c n s) { vars = vs; held = hs; guess = take n (map zero_signal (widths_of vs)) }) (signals_keep c d s.vars e h.vars) (held_keep c d e s.held h.held)
 
   begun_item_keep : (f : Form) (nexts : List Signal) (s : StageNets) (i : Item) → IsThereBegun c f nexts s → begun_item (view_in d f.pipe s) i ≡ begun_item (view_in c f.pipe s) i
   begun_item_keep f nexts s (Var x) h = ap (λ (w : Walk). w.vars x) (ap walk_of (begun_parts_keep f nexts (length f.pipe.start) s h))

@@ -1,5 +1,5 @@
 -- At the start the first stage holds the first thread's arguments, and nothing is held.
-use Rattle.std.proofs.Common.{◌≡◌, ℕ, ◌-◌, ◌<◌, ◌≤◌, true, inl, inr, List, [], ◌∷◌, ◌++◌, length, sym, ◌∙◌, subst}
+use Rattle.std.proofs.Common.{◌≡◌, ℕ, ◌-◌, ◌<◌, ◌≤◌, true, inl, inr, List, length, sym, ◌∙◌, subst}
 use Rattle.std.specs.Prelude.{slice_index}
 use Rattle.pdl_semantics.specs.Flat.{start_env}
 use Rattle.pdl_form.specs.Form.{Form}

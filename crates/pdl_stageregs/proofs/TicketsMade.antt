@@ -57,5 +57,5 @@ module _ {T : Type 0} (l : Members T) (a b : Circuit) (e : Keeps a b) where
   next_same p xs h = same_from xs (λ m x q s. (h.locks m x (let n = h.count in omega (arith, q, n)) s).ticket_there)
 
 -- the next ticket of a lock is that of the locks
-pub next_at : {T : Type 0} (l : Members T) (a : Circuit) (p : Pipe) (xs : List (Option (MemLock T))) → AreLocked l a p xs → (m : ℕ) → m < length p.mems → signal_at (next_signals a xs) m ≡ (locks_in l a xs).ticket m
+pub next_at : {T : Type 0} (l : Members T) (a : Circuit) (p : Pipe) (xs : List (Option (MemLock T))) → AreLocked l a p xs → (m : ℕ) → m < length p.mems → signal_at (next_signals a xs) m ≡ (locks_in l p a xs).ticket m
 next_at l a p xs h m low = get_or-map (of_lock (λ y. signal a y.regs.ticket) zero_bit) xs m None no_signal (let n = h.count in omega (arith, low, n))

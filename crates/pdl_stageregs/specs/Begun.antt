@@ -1,12 +1,13 @@
 -- A stage on the way to what it begins with.
-use Rattle.std.specs.Prelude.{◌≡◌, ℕ, ◌==◌, ◌<◌, Bool, true, false, ◌&&◌, ◌||◌, List, [], ◌∷◌, ◌++◌, length, map, replicate, slice_index, ◌⊎◌, Option}
+use Rattle.std.specs.Prelude.{◌≡◌, ℕ, ◌==◌, ◌<◌, Bool, true, false, ◌&&◌, ◌||◌, List, [], ◌∷◌, ◌++◌, length, map, take, slice_index, ◌⊎◌, Option}
 use Rattle.pdl_semantics.specs.Flat.{Pipe}
 use Rattle.pdl_form.specs.Form.{Form}
 use Rattle.pdl_net.specs.declared.Net.{Net}
 use Rattle.pdl_net.specs.declared.Net.TheVariants.{Reg as RegNet}
 use Rattle.pdl_net.specs.Circuit.{Circuit}
-use Rattle.pdl_net.specs.Signal.{Signal, const_signal}
+use Rattle.pdl_net.specs.Signal.{Signal}
 use Rattle.pdl_net.specs.Meaning.{signal, IsThere}
+use Rattle.pdl_flatnets.specs.declared.bits.Bits.{Bits}
 use Rattle.pdl_flatnets.specs.Nets.{NetsThere, signals_in, signal_at, widths_of}
 use Rattle.pdl_flatnets.specs.Conditions.{AreBits}
 use Rattle.pdl_pipe_law.specs.Lives.{lives_from, held_from}
@@ -21,11 +22,8 @@ use Rattle.pdl_stageregs.specs.declared.nets.Item.TheVariants.{Var, Held, Ticket
 use Rattle.pdl_stageregs.specs.declared.nets.Shared.{Shared}
 use Rattle.pdl_stageregs.specs.declared.nets.StageNets.{StageNets}
 use Rattle.pdl_stageregs.specs.Items.{first_value, IsOwn, IsSameConstant}
-use Rattle.pdl_stageregs.specs.Stages.{end_of, IsRegister, IsBegunBy, IsSettled, HasTickets}
+use Rattle.pdl_stageregs.specs.Stages.{zero_signal, end_of, IsRegister, IsBegunBy, IsSettled, HasTickets}
 use Rattle.pdl_word.specs.Each.{Each}
-
-abbrev pub zero_signal : ℕ → Signal
-zero_signal w = const_signal w 0
 
 -- the next ticket of a lock, and this where there is none
 abbrev pub ticket_net : {T : Type 0} → Net → Option (MemLock T) → Net
@@ -52,17 +50,20 @@ is_listed [] m a = false
 is_listed (h ∷ hs) m a = ((h.mem == m) && (h.var == a)) || is_listed hs m a
 
 -- a stage with nothing but its first register
-pub record IsBare (low : ℕ) (one : Net) (s : StageNets) : Type 0 where
+pub record IsBare (low : ℕ) (bits : Bits) (s : StageNets) : Type 0 where
   pub valid : s.valid ≡ low
   pub kept : s.kept ≡ []
   pub vars : s.vars ≡ []
   pub held : s.held ≡ []
   pub tickets : s.tickets ≡ []
-  pub ready : s.end.ready ≡ one
+  pub ready : s.end.ready ≡ bits.one
   pub reserves : s.end.reserves ≡ []
   pub puts : s.end.puts ≡ []
   pub lettings : s.end.lettings ≡ []
   pub births : s.end.births.items ≡ []
+  pub asks : s.end.asks ≡ []
+  pub fails : s.end.fails ≡ bits.zero
+  pub barrier : s.end.barrier ≡ bits.zero
 
 -- one register more, for this item
 pub record Adds (c : Circuit) (s s' : StageNets) (i : Item) (w v : ℕ) (net : Net) : Type 0 where
@@ -120,7 +121,7 @@ AddsHeld a c p k before s s' m v =
     ⊎ ((net : Net) × (t : StageNets) × MayAdd c s t (Held m v) 1 0 net (IsSameConstant (held_of (parts_in a before.end).held m v)) × (s' ≡ record t { held = t.held ++ record { mem = m; var = v; net = net } ∷ [] }) × (is_listed s.held m v ≡ false))
 
 -- the walk of a stage begins with its variables and held locations, and guesses zeros; all else stays
-pub record IsReady (none : Net) (n : ℕ) (s s' : StageNets) : Type 0 where
+pub record IsReady (zeros : List Net) (n : ℕ) (s s' : StageNets) : Type 0 where
   pub valid : s'.valid ≡ s.valid
   pub kept : s'.kept ≡ s.kept
   pub vars : s'.vars ≡ s.vars
@@ -128,12 +129,15 @@ pub record IsReady (none : Net) (n : ℕ) (s s' : StageNets) : Type 0 where
   pub tickets : s'.tickets ≡ s.tickets
   pub walk_vars : s'.end.vars.items ≡ s.vars
   pub walk_held : s'.end.held.items ≡ s.held
-  pub guess : s'.end.guess ≡ replicate n none
+  pub guess : s'.end.guess ≡ take n zeros
   pub ready : s'.end.ready ≡ s.end.ready
   pub reserves : s'.end.reserves ≡ s.end.reserves
   pub puts : s'.end.puts ≡ s.end.puts
   pub lettings : s'.end.lettings ≡ s.end.lettings
   pub births : s'.end.births ≡ s.end.births
+  pub asks : s'.end.asks ≡ s.end.asks
+  pub fails : s'.end.fails ≡ s.end.fails
+  pub barrier : s'.end.barrier ≡ s.end.barrier
 
 -- ---- the three parts, where the stages before are those of the first circuit
 

@@ -1,10 +1,10 @@
 -- The stages of a circuit by their nets, and what they begin with.
-use Rattle.std.specs.Prelude.{◌≡◌, ℕ, zero, suc, ◌+◌, ◌==◌, ◌<◌, true, false, List, [], length, map, slice_index_or, replicate, if◌then◌else◌, ◌⊎◌}
+use Rattle.std.specs.Prelude.{◌≡◌, ℕ, zero, suc, ◌+◌, ◌==◌, ◌<◌, true, false, List, [], length, map, slice_index_or, take, if◌then◌else◌, ◌⊎◌}
 use Rattle.pdl_semantics.specs.Flat.{Pipe}
 use Rattle.pdl_form.specs.Form.{Form}
 use Rattle.pdl_net.specs.declared.Net.TheVariants.{Reg as RegNet}
 use Rattle.pdl_net.specs.Circuit.{Circuit, HasReg, reg_width, reg_reset}
-use Rattle.pdl_net.specs.Signal.{Signal, no_signal, reg_signal}
+use Rattle.pdl_net.specs.Signal.{Signal, no_signal, reg_signal, const_signal}
 use Rattle.pdl_net.specs.Meaning.{signal, IsThere}
 use Rattle.pdl_flatnets.specs.Nets.{NetsThere, signals_in, signal_at, widths_of}
 use Rattle.pdl_pipe_law.specs.Walk.{Walk, one, zero_bit}
@@ -20,7 +20,10 @@ use Rattle.pdl_word.specs.Each.{Each}
 
 -- ---- views
 
--- a stage as it begins, in a pipe of so many parameters
+abbrev pub zero_signal : ℕ → Signal
+zero_signal w = const_signal w 0
+
+-- a stage as it begins, in a pipe of so many parameters; it guesses zeros
 abbrev pub begun_parts : Circuit → ℕ → StageNets → Parts
 begun_parts c n s =
     record {
@@ -31,7 +34,10 @@ begun_parts c n s =
       puts = [];
       lettings = [];
       births = [];
-      guess = replicate n zero_bit;
+      asks = [];
+      guess = take n (map zero_signal (widths_of (signals_in c s.vars)));
+      fails = zero_bit;
+      barrier = zero_bit;
     }
 
 abbrev pub view_in : Circuit → Pipe → StageNets → View
@@ -45,7 +51,7 @@ view_in c p s =
     }
 
 abbrev pub no_walk : Walk
-no_walk = walk_of (record { vars = []; held = []; ready = one; reserves = []; puts = []; lettings = []; births = []; guess = [] })
+no_walk = walk_of (record { vars = []; held = []; ready = one; reserves = []; puts = []; lettings = []; births = []; asks = []; guess = []; fails = zero_bit; barrier = zero_bit })
 
 abbrev pub no_view : View
 no_view = record { valid = zero_bit; kept = λ x. no_signal; tickets = λ m. no_signal; begun = no_walk; ended = no_walk }

@@ -34,7 +34,7 @@ pub(crate) fn bare(
     reset: u64,
 ) -> Result<StageNets, NoMemory>
     requires { reset < 2 }
-    ensures bare { IfOk result (λ s. IsBare (length b.old.regs) bits.one s) }
+    ensures bare { IfOk result (λ s. IsBare (length b.old.regs) bits s) }
     ensures last { IfOk result (λ s. end_of s ≡ length b.new.regs) }
     ensures register { OnOk result (IsRegister b.new (length b.old.regs) 1 reset) }
     ensures extends { Extends b.old b.new }
@@ -54,7 +54,10 @@ pub(crate) fn bare(
             puts: Seq::new(alloc),
             lettings: Seq::new(alloc),
             births: Vec::new(alloc),
+            asks: Seq::new(alloc),
             guess: Seq::new(alloc),
+            fails: bits.zero,
+            barrier: bits.zero,
         },
     })
 }
@@ -309,12 +312,13 @@ impl StageNets {
     }
 
     // The walk over the statements begins with what the stage begins with.
-    fn begin_walk(&mut self, alloc: Global, bits: Bits, params: usize) -> Result<(), NoMemory>
-        ensures { OnOk result (IsReady bits.zero params self.old self.new) }
+    fn begin_walk(&mut self, alloc: Global, zeros: &[Net], params: usize) -> Result<(), NoMemory>
+        requires { params ≤ length zeros.now }
+        ensures { OnOk result (IsReady zeros.now params self.old self.new) }
     {
         self.end.vars = Vec::from_slice(alloc, self.vars.as_slice())?;
         self.end.held = Vec::from_slice(alloc, self.held.as_slice())?;
-        let guess = vec![in alloc; bits.zero; params]?;
+        let guess = Vec::from_slice(alloc, &zeros[..params])?;
         self.end.guess = Seq::from_vec(guess);
         Ok(())
     }
@@ -337,7 +341,7 @@ impl StageNets {
             ≡ length (form pipe.now).pipe.mems }
         requires releases { length (form pipe.now).pipe.releases_at
             ≡ length (form pipe.now).pipe.mems }
-        requires bare { IsBare self.old.valid shared.now.bits.one self.old }
+        requires bare { IsBare self.old.valid shared.now.bits self.old }
         requires frame { IsFrame b.old (form pipe.now) (signals_in b.old shared.now.next)
             (length before.now) self.old }
         ensures begun { OnOk result (IsBegun b.new (form pipe.now)
@@ -351,7 +355,7 @@ impl StageNets {
         self.begin_vars(b, pipe, shared, before)?;
         self.begin_helds(b, pipe, shared, before)?;
         self.begin_tickets(b, pipe, shared, before)?;
-        self.begin_walk(alloc, shared.bits, pipe.start().len())?;
+        self.begin_walk(alloc, shared.zeros.as_slice(), pipe.start().len())?;
         Ok(())
     }
 }

@@ -7,8 +7,8 @@ ghost use Rattle.pdl_flatnets.specs.Conditions.{AreBits};
 ghost use Rattle.pdl_formtypes.specs.Stmts.{IsTypedForm};
 ghost use Rattle.pdl_stagenets.specs.Locked.{members, AreLocked, locks_in};
 ghost use Rattle.pdl_stagenets.specs.Sized.{AreWalked};
-ghost use Rattle.pdl_stageregs.specs.Stages.{end_of, AreOwn};
-ghost use Rattle.pdl_stageregs.specs.Begun.{IsShared, AreEnded, zero_signal};
+ghost use Rattle.pdl_stageregs.specs.Stages.{zero_signal, end_of, AreOwn};
+ghost use Rattle.pdl_stageregs.specs.Begun.{IsShared, AreEnded};
 ghost use Rattle.pdl_stageregs.specs.Staged.{IsStaged, AreStaged, AreApart, IsPlainLine, IsLine, Lasting, MeetsLaw, next_signals};
 ghost use Rattle.pdl_stageregs.specs.Comes.{regs_of};
 
@@ -69,7 +69,7 @@ fn stage<L: LockModule>(
     requires releases { length (form pipe.now).pipe.releases_at ≡ length (form pipe.now).pipe.mems }
     ensures staged { IfOk result (λ s.
         IsStaged b.new (form pipe.now) (signals_in b.old shared.now.next)
-        (locks_in (members L.LockModule) b.old locks.now) before.now (length before.now) s) }
+        (locks_in (members L.LockModule) (form pipe.now).pipe b.old locks.now) before.now (length before.now) s) }
     ensures own { IfOk result (λ s. AreOwn (form pipe.now) (length before.now) s) }
     ensures place { IfOk result (λ s. s.valid ≡ length b.old.regs) }
     ensures last { IfOk result (λ s. end_of s ≤ length b.new.regs) }
@@ -112,7 +112,7 @@ pub fn stages<L: LockModule>(
     ensures count { IfOk result (λ ss. length ss.items ≡ length (form pipe.now).pipe.stages) }
     ensures staged { IfOk result (λ ss.
         AreStaged b.new (form pipe.now) (next_signals b.old locks.now)
-        (locks_in (members L.LockModule) b.old locks.now) ss.items) }
+        (locks_in (members L.LockModule) (form pipe.now).pipe b.old locks.now) ss.items) }
     ensures own { IfOk result (λ ss. (k : ℕ) (s : StageNets) → k < length ss.items →
         slice_index_or ss.items k s ≡ s → AreOwn (form pipe.now) k s) }
     ensures apart { IfOk result (λ ss. AreApart (length b.old.regs) (length b.new.regs) ss.items) }
@@ -151,11 +151,11 @@ pub fn line<L: LockModule>(
     requires releases { length (form pipe.now).pipe.releases_at ≡ length (form pipe.now).pipe.mems }
     ensures line { IfOk result (λ x.
         IsLine b.new (form pipe.now) (next_signals b.old locks.now)
-        (locks_in (members L.LockModule) b.old locks.now) x.stages.items x.moves.items) }
+        (locks_in (members L.LockModule) (form pipe.now).pipe b.old locks.now) x.stages.items x.moves.items) }
     ensures law { IfOk result (λ x.
         Lasting (length b.old.regs) b.new
         (MeetsLaw (form pipe.now).pipe
-        (locks_in (members L.LockModule) b.old locks.now) x.stages.items x.moves.items b.new)) }
+        (locks_in (members L.LockModule) (form pipe.now).pipe b.old locks.now) x.stages.items x.moves.items b.new)) }
     ensures extends { ExtendsBut (regs_of (length b.old.regs) (length b.new.regs)) b.old b.new }
 {
     let all = stages(alloc, b, pipe, bits, locks)?;

@@ -2,6 +2,10 @@ use Rattle.std.proofs.Common.{◌∙◌, ℕ, sym, ap, subst}
 use Rattle.std.proofs.lemmas.Result.{IfOk-weaker}
 use Rattle.std.specs.Prelude.{is_some}
 use Rattle.pdl_lockapi.specs.Laws.{HasValueNet}
+use Rattle.pdl_form.specs.Whole.{form}
+use Rattle.pdl_semantics.specs.Stages.{mem_at}
+use Rattle.pdl_pipe_law.specs.Places.{comb_place}
+use Rattle.pdl_stagenets.proofs.Arrays.{some_array}
 use Rattle.pdl_stagenets.proofs.locks.look.Goals as goal
 use Rattle.pdl_pipe_law.proofs.WellFormedMems.{power_one}
 
@@ -13,7 +17,7 @@ emit_look-requires-clause-addr_width g c =
 pub returns-clause-has_value : goal.returns-clause-has_value
 returns-clause-has_value g c =
     let x = c.requires.locks.locks c.args.m c.lock_of-x.result.now c.requires.low c.lock_of-x.ensures in
-    IfOk-weaker c.emit_look.result _ _ (λ l h. h ∙ ap is_some x.array) c.emit_look.ensures.has_value
+    IfOk-weaker c.emit_look.result _ _ (λ l h. h ∙ ap is_some x.array ∙ some_array (mem_at (form c.args.setting.now.pipe.now).pipe c.args.m) (comb_place (form c.args.setting.now.pipe.now).pipe c.args.m)) c.emit_look.ensures.has_value
 
 pub returns-clause-value : goal.returns-clause-value
 returns-clause-value g c =

@@ -33,7 +33,7 @@ begin_parts-requires-clause-before c =
 pub begin_parts-requires-clause-bare : goal.begin_parts-requires-clause-bare
 begin_parts-requires-clause-bare c =
     let bare = c.in_ok-s.ensures.bare in
-    subst (λ n. IsBare n c.args.shared.now.bits.one c.in_ok-s.s) (sym bare.valid) bare
+    subst (λ n. IsBare n c.args.shared.now.bits c.in_ok-s.s) (sym bare.valid) bare
 
 pub returns-clause-begun : goal.returns-clause-begun
 returns-clause-begun c =

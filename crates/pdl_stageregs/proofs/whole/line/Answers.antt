@@ -44,7 +44,7 @@ stages_moving-requires-clause-gated g c =
     let l = members g.L.LockModule in
     let xs = c.args.locks.now in
     let nexts = next_signals a xs in
-    let ls = locks_in l a xs in
+    let ls = locks_in l f.pipe a xs in
     let ss = c.as_slice-made.result.now in
     let sv = c.as_slice-made.ensures.value in
     let all1 : AreStaged b1 f nexts ls ss = subst (AreStaged b1 f nexts ls) (sym sv) c.in_ok-all.ensures.staged in
@@ -69,7 +69,7 @@ connect-requires-clause-fit g c =
     let l = members g.L.LockModule in
     let xs = c.args.locks.now in
     let nexts = next_signals a xs in
-    let ls = locks_in l a xs in
+    let ls = locks_in l f.pipe a xs in
     let ss = c.as_slice-made.result.now in
     let low = length a.regs in
     let sv = c.as_slice-made.ensures.value in
@@ -116,7 +116,7 @@ returns-clause-line g c =
     let l = members g.L.LockModule in
     let xs = c.args.locks.now in
     let nexts = next_signals a xs in
-    let ls = locks_in l a xs in
+    let ls = locks_in l f.pipe a xs in
     let ss = c.as_slice-made.result.now in
     let low = length a.regs in
     let e1 : Keeps a b1 = extends_keeps a b1 c.stages.ensures.extends in
@@ -151,7 +151,7 @@ returns-clause-law g c =
     let l = members g.L.LockModule in
     let xs = c.args.locks.now in
     let nexts = next_signals a xs in
-    let ls = locks_in l a xs in
+    let ls = locks_in l f.pipe a xs in
     let ss = c.as_slice-made.result.now in
     let low = length a.regs in
     let sv = c.as_slice-made.ensures.value in
@@ -173,7 +173,7 @@ returns-clause-law g c =
     let e23 : Keeps b2 b3 = but_keeps (regs_of s.valid (length b2.regs)) b2 b3 grown in
     let all3 = all_d b1 b2 b3 f nexts ls ss ms e12 e23 grown.ports all1 there in
     let params : length p.start ≤ p.vars = (let q = c.requires.typed.params in let r = c.requires.typed.vars in omega (arith, q, r)) in
-    let whole = meets b3 f nexts ls ss ms low c.requires.plain params long (λ m e. let q = lock_there p m e in (q, next_at l a p xs c.requires.locks m q)) all3
+    let whole = meets b3 f nexts ls ss ms low c.requires.plain params c.requires.typed.params long (λ m e. let q = lock_there p m e in (q, next_at l a p xs c.requires.locks m q)) all3
     (apart_as low (length b1.regs) (length b3.regs) ss (regs_grow b1 b3 (keeps_trans b1 b2 b3 e12 e23)) apart1)
     (λ k q. moved_d b1 b2 b3 f nexts ls ss ms e12 e23 grown.ports all1 there (length ss) moved_b k (omega (arith, q, long)))
     (taken_d b1 b2 b3 f nexts ls ss ms e12 e23 grown.ports all1 there c.in_ok-connect.ensures.next) in

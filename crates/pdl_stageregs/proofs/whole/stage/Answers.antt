@@ -42,10 +42,10 @@ returns-clause-staged g c =
     let e : Keeps a b = extends_keeps a b c.begin.ensures.extends in
     let e2 : Keeps b d = extends_keeps b d c.walk.ensures.extends in
     let l = members g.L.LockModule in
-    let ls = locks_in l a c.args.locks.now in
+    let ls = locks_in l f.pipe a c.args.locks.now in
     let same = locks_same l a b e g.met.L.LockModule.stays f.pipe c.args.locks.now c.requires.locks in
     let steps = subst (λ (x : Locks). AreSteps d f.pipe x (tickets_in b s.tickets) (in_stage k f.pipe.stmts) (walk_in b s.end) (walk_in d c.walk.new.self)) same
-    (subst (λ ts. AreSteps d f.pipe (locks_in l b c.args.locks.now) (tickets_in b ts) (in_stage k f.pipe.stmts) (walk_in b s.end) (walk_in d c.walk.new.self)) c.as_slice-tickets.ensures c.in_ok-walk.ensures.steps) in
+    (subst (λ ts. AreSteps d f.pipe (locks_in l f.pipe b c.args.locks.now) (tickets_in b ts) (in_stage k f.pipe.stmts) (walk_in b s.end) (walk_in d c.walk.new.self)) c.as_slice-tickets.ensures c.in_ok-walk.ensures.steps) in
     staged_made b d e2 f nexts ls ss k s t (ended_all a b f nexts nexts ss e refl c.requires.before) (omega arith) refl c.in_ok-s.ensures.begun c.in_ok-walk.ensures.walk steps
 
 pub returns-clause-last : goal.returns-clause-last

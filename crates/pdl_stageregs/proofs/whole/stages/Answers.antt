@@ -32,8 +32,8 @@ loop-init g c =
     let long = ap length next in
     let n = c.requires.locks.count in
     let none : c.new-stages.result.items ≡ [] = search rules in
-    subst (λ ys. StagesSoFar a b f (next_signals a xs) (locks_in l a xs) (record { bits = c.args.bits; zeros = c.in_ok-blank.blank; next = c.in_ok-next.next }) ys 0) (sym none)
-    (stages_none a b f (next_signals a xs) (locks_in l a xs) (record { bits = c.args.bits; zeros = c.in_ok-blank.blank; next = c.in_ok-next.next }) c.zeros.ensures.extends
+    subst (λ ys. StagesSoFar a b f (next_signals a xs) (locks_in l f.pipe a xs) (record { bits = c.args.bits; zeros = c.in_ok-blank.blank; next = c.in_ok-next.next }) ys 0) (sym none)
+    (stages_none a b f (next_signals a xs) (locks_in l f.pipe a xs) (record { bits = c.args.bits; zeros = c.in_ok-blank.blank; next = c.in_ok-next.next }) c.zeros.ensures.extends
     (record {
       bits = bits;
       zeros_there = c.in_ok-blank.ensures.there;
@@ -80,12 +80,12 @@ loop-preserved g c =
     let inv = c.loop.invariant in
     let same = locks_same l a b (extends_keeps a b inv.extends) g.met.L.LockModule.stays f.pipe xs c.requires.locks in
     let new = subst (λ (z : Locks). IsStaged d f (next_signals a xs) z ss (length ss) t) same
-    (subst (λ fs. IsStaged d f fs (locks_in l b xs) ss (length ss) t) inv.next
-    (subst (λ ys. IsStaged d f (signals_in b c.in_ok-next.next) (locks_in l b xs) ys (length ys) t) c.as_slice.ensures.value c.in_ok-s.ensures.staged)) in
-    let more = stages_more a b d f (next_signals a xs) (locks_in l a xs)
+    (subst (λ fs. IsStaged d f fs (locks_in l f.pipe b xs) ss (length ss) t) inv.next
+    (subst (λ ys. IsStaged d f (signals_in b c.in_ok-next.next) (locks_in l f.pipe b xs) ys (length ys) t) c.as_slice.ensures.value c.in_ok-s.ensures.staged)) in
+    let more = stages_more a b d f (next_signals a xs) (locks_in l f.pipe a xs)
     (record { bits = c.args.bits; zeros = c.in_ok-blank.blank; next = c.in_ok-next.next }) ss c.loop.counter t c.stage.ensures.extends new c.in_ok-s.ensures.place c.in_ok-s.ensures.last
     (subst (λ ys. AreOwn f (length ys) t) c.as_slice.ensures.value c.in_ok-s.ensures.own) inv in
-    subst (λ ys. StagesSoFar a d f (next_signals a xs) (locks_in l a xs) (record { bits = c.args.bits; zeros = c.in_ok-blank.blank; next = c.in_ok-next.next }) ys (c.loop.counter + 1)) (sym c.in_ok-append.ensures) more
+    subst (λ ys. StagesSoFar a d f (next_signals a xs) (locks_in l f.pipe a xs) (record { bits = c.args.bits; zeros = c.in_ok-blank.blank; next = c.in_ok-next.next }) ys (c.loop.counter + 1)) (sym c.in_ok-append.ensures) more
 
 pub returns-clause-count : goal.returns-clause-count
 returns-clause-count g c =

@@ -1,4 +1,4 @@
-use Rattle.std.proofs.Common.{◌+◌, ◌<◌, ◌≤◌, ◌∷◌, ◌++◌, [], map, take, length, sym, ap, ap₂, ◌∙◌, subst, arith}
+use Rattle.std.proofs.Common.{◌<◌, ◌≤◌, ◌∷◌, ◌++◌, [], map, take, length, sym, ap, ap₂, ◌∙◌, subst, arith}
 use Rattle.std.proofs.lemmas.List.{take_more, take_all, map-append}
 use Rattle.std.specs.Prelude.{slice_index}
 use Rattle.pdl_form.specs.Whole.{form}
@@ -6,7 +6,7 @@ use Rattle.pdl_net.specs.Growth.{Keeps}
 use Rattle.pdl_net.proofs.Keeps.{extends_keeps, extends_trans}
 use Rattle.pdl_flatnets.specs.Nets.{NetsThere, signals_in}
 use Rattle.pdl_flatnets.proofs.NetLists.{there_keeps, signals_keep, net_more}
-use Rattle.pdl_stageregs.specs.Begun.{zero_signal}
+use Rattle.pdl_stageregs.specs.Stages.{zero_signal}
 use Rattle.pdl_stageregs.proofs.InLine.{wide_low, wide_high}
 use Rattle.pdl_stageregs.proofs.VarsBegun.{signals_more}
 use Rattle.pdl_stageregs.proofs.whole.zeros.Goals as goal

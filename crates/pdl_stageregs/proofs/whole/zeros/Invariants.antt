@@ -2,7 +2,7 @@ use Rattle.std.proofs.Common.{◌≡◌, map, take}
 use Rattle.pdl_form.specs.Whole.{form}
 use Rattle.pdl_net.specs.Growth.{Extends}
 use Rattle.pdl_flatnets.specs.Nets.{NetsThere, signals_in}
-use Rattle.pdl_stageregs.specs.Begun.{zero_signal}
+use Rattle.pdl_stageregs.specs.Stages.{zero_signal}
 use Rattle.pdl_stageregs.proofs.whole.zeros.Given as goal
 
 -- the first variables have their zeros

@@ -63,7 +63,7 @@ returns-clause-parts g c =
     on_ok c.wait.result
     (λ q. record {
       look = signal two c.in_ok-ready.ready;
-      is_look = looked_as (locks_in (members g.L.LockModule) a c.args.setting.now.locks.now) c.args.m (held_of (parts_in one w).held c.args.m c.args.a) (held_of (parts_in a w).held c.args.m c.args.a)
+      is_look = looked_as (locks_in (members g.L.LockModule) (form c.args.setting.now.pipe.now).pipe a c.args.setting.now.locks.now) c.args.m (held_of (parts_in one w).held c.args.m c.args.a) (held_of (parts_in a w).held c.args.m c.args.a)
           (signal_at (signals_in one w.vars.items) c.args.a) (signal_at fs c.args.a) (signal_at (signals_in one c.args.setting.now.tickets.now) c.args.m) (signal_at (signals_in a c.args.setting.now.tickets.now) c.args.m) (signal two c.in_ok-ready.ready)
           (ap (λ (k : Parts). held_of k.held c.args.m c.args.a) (parts_more a one first (form c.args.setting.now.pipe.now).pipe (form c.args.setting.now.pipe.now).widths w c.requires.walk))
           (ap (λ (l : List Signal). signal_at l c.args.a) (vars_same a one first (form c.args.setting.now.pipe.now).pipe (form c.args.setting.now.pipe.now).widths w c.requires.walk))

@@ -29,7 +29,7 @@ returns-clause-walk c =
     on_ok c.push_birth.result (λ q. q.0)
     (birth_made two c.push_birth.result (form c.args.pipe.now).pipe (form c.args.pipe.now).widths w c.push_birth.new.self c.in_ok-on.on c.in_ok-nets.nets (walk_more a two far (form c.args.pipe.now).pipe (form c.args.pipe.now).widths w c.requires.walk) (after.there c.in_ok-on.on c.in_ok-on.ensures.means.there)
     (ap (λ (f : Signal). f.width) (after.kept c.in_ok-on.on c.in_ok-on.ensures.means.there) ∙ c.in_ok-on.ensures.one) c.in_ok-nets.ensures.there wide
-    c.push_birth.ensures.births c.push_birth.ensures.vars c.push_birth.ensures.held c.push_birth.ensures.ready c.push_birth.ensures.reserves c.push_birth.ensures.puts c.push_birth.ensures.lettings c.push_birth.ensures.guess)
+    c.push_birth.ensures.births c.push_birth.ensures.vars c.push_birth.ensures.held c.push_birth.ensures.rest)
 
 pub returns-clause-parts : goal.returns-clause-parts
 returns-clause-parts c =
@@ -49,4 +49,4 @@ returns-clause-parts c =
     (parts_more a two far (form c.args.pipe.now).pipe (form c.args.pipe.now).widths w c.requires.walk))
     (birth_made two c.push_birth.result (form c.args.pipe.now).pipe (form c.args.pipe.now).widths w c.push_birth.new.self c.in_ok-on.on c.in_ok-nets.nets (walk_more a two far (form c.args.pipe.now).pipe (form c.args.pipe.now).widths w c.requires.walk) (after.there c.in_ok-on.on c.in_ok-on.ensures.means.there)
     (ap (λ (f : Signal). f.width) (after.kept c.in_ok-on.on c.in_ok-on.ensures.means.there) ∙ c.in_ok-on.ensures.one) c.in_ok-nets.ensures.there wide
-    c.push_birth.ensures.births c.push_birth.ensures.vars c.push_birth.ensures.held c.push_birth.ensures.ready c.push_birth.ensures.reserves c.push_birth.ensures.puts c.push_birth.ensures.lettings c.push_birth.ensures.guess)
+    c.push_birth.ensures.births c.push_birth.ensures.vars c.push_birth.ensures.held c.push_birth.ensures.rest)

@@ -18,7 +18,7 @@ returns-clause-parts c =
     let e = c.push_held.ensures in
     on_ok c.push_held.result
     (λ q. hold_parts a c.mux.new.self c.mux.ensures.extends (form c.args.pipe.now).pipe (form c.args.pipe.now).widths c.args.self.now c.requires.walk c.push_held.new.self c.args.mem c.args.var c.in_ok-net.net (signal a c.args.on) (signal a c.args.bit)
-    (set_means a c.mux.new.self c.in_ok-net.net (signal a c.args.on) (signal a c.args.bit) _ _ c.is_held-old.ensures.same c.in_ok-net.ensures.means) q e.vars e.ready e.reserves e.puts e.lettings e.births e.guess)
+    (set_means a c.mux.new.self c.in_ok-net.net (signal a c.args.on) (signal a c.args.bit) _ _ c.is_held-old.ensures.same c.in_ok-net.ensures.means) q e.vars e.births e.rest)
     e.held
 
 pub returns-clause-walk : goal.returns-clause-walk
@@ -27,5 +27,5 @@ returns-clause-walk c =
     let e = c.push_held.ensures in
     on_ok c.push_held.result
     (λ q. hold_walk a c.mux.new.self c.mux.ensures.extends (form c.args.pipe.now).pipe (form c.args.pipe.now).widths c.args.self.now c.requires.walk c.push_held.new.self c.args.mem c.args.var c.in_ok-net.net (signal a c.args.on) (signal a c.args.bit)
-    (set_means a c.mux.new.self c.in_ok-net.net (signal a c.args.on) (signal a c.args.bit) _ _ c.is_held-old.ensures.same c.in_ok-net.ensures.means) q e.vars e.ready e.reserves e.puts e.lettings e.births e.guess c.requires.one)
+    (set_means a c.mux.new.self c.in_ok-net.net (signal a c.args.on) (signal a c.args.bit) _ _ c.is_held-old.ensures.same c.in_ok-net.ensures.means) q e.vars e.births e.rest c.requires.one)
     e.held

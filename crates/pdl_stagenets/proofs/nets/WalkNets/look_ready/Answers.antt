@@ -22,7 +22,7 @@ pub returns-clause-looked : goal.returns-clause-looked
 returns-clause-looked g c =
     let a = c.args.b.now in
     let w = c.args.self.now in
-    let ls = locks_in (members g.L.LockModule) a c.args.setting.now.locks.now in
+    let ls = locks_in (members g.L.LockModule) (form c.args.setting.now.pipe.now).pipe a c.args.setting.now.locks.now in
     let held = held_of (parts_in a w).held c.args.m c.args.a in
     let addr = signal_at (signals_in a w.vars.items) c.args.a in
     let ticket = signal_at (signals_in a c.args.setting.now.tickets.now) c.args.m in

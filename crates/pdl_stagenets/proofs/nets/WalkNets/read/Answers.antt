@@ -82,7 +82,7 @@ returns-clause-parts g c =
     on_ok c.set.result
     (λ q. record {
       word = signal two c.in_ok-net.net;
-      is_word = word_as (form c.args.setting.now.pipe.now).pipe (locks_in (members g.L.LockModule) a c.args.setting.now.locks.now) c.args.m _ _ _ _ _
+      is_word = word_as (form c.args.setting.now.pipe.now).pipe (locks_in (members g.L.LockModule) (form c.args.setting.now.pipe.now).pipe a c.args.setting.now.locks.now) c.args.m _ _ _ _ _
           (c.variable-addr.ensures.same ∙ ap (λ (l : List Signal). signal_at l c.args.a) (vars_same a first_b first (form c.args.setting.now.pipe.now).pipe (form c.args.setting.now.pipe.now).widths w c.requires.walk))
           (c.variable-ticket.ensures.same ∙ ap (λ (l : List Signal). signal_at l c.args.m) (nets_kept a first_b c.args.setting.now.tickets.now first c.requires.tickets.there))
           (record { plain = c.in_ok-net.ensures.word.plain; ready = c.in_ok-net.ensures.word.ready; looked = c.in_ok-net.ensures.word.looked });

@@ -105,7 +105,7 @@ returns-clause-parts g c =
     on_ok c.push_reserve.result
     (λ q. ap (parts_in three) q ∙ reserve_parts three s (record { mem = c.args.m; on = c.in_ok-on.on; addr = c.variable-addr.result })
     ∙ reserve_made c.args.m c.args.a (parts_in three s) (parts_in two c.hold.new.self) (parts_in first_b w) (parts_in a w) (signal first_b c.in_ok-on.on) (signal two c.in_ok-on.on) (signal three c.in_ok-on.on) on
-    (signal two c.room.result) ((locks_in (members g.L.LockModule) a c.args.setting.now.locks.now).room c.args.m) (signal first_b c.args.setting.now.bits.one) (signal three c.variable-addr.result)
+    (signal two c.room.result) ((locks_in (members g.L.LockModule) (form c.args.setting.now.pipe.now).pipe a c.args.setting.now.locks.now).room c.args.m) (signal first_b c.args.setting.now.bits.one) (signal three c.variable-addr.result)
     c.in_ok-wait.ensures.parts c.in_ok-hold.ensures.parts (parts_more a first_b first (form c.args.setting.now.pipe.now).pipe (form c.args.setting.now.pipe.now).widths w c.requires.walk)
     on_same (after.kept c.in_ok-on.on on_there ∙ on_same) (on_at.kept c.in_ok-on.on on_there ∙ on_same)
     (far.kept c.room.result room_here ∙ ap (signal a) c.room.ensures ∙ room_signal (members g.L.LockModule) a (form c.args.setting.now.pipe.now).pipe c.args.setting.now.locks.now c.requires.locks c.args.m c.requires.at.memory c.requires.locked)

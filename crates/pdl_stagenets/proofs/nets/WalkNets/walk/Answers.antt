@@ -19,7 +19,7 @@ pub returns-clause-steps : goal.returns-clause-steps
 returns-clause-steps g c =
     let a = c.args.b.now in
     let b = c.walk_rows.new.b in
-    let ls = locks_in (members g.L.LockModule) a c.args.setting.now.locks.now in
+    let ls = locks_in (members g.L.LockModule) (form c.args.setting.now.pipe.now).pipe a c.args.setting.now.locks.now in
     let same = ap (λ (xs : List Stmt). map (stmt_at xs) c.rows-rows.result.now) c.stmts.ensures ∙ c.rows-rows.ensures.stmts in
     subst (λ (xs : List Stmt). OnOk c.walk_rows.result (AreSteps b (form c.args.setting.now.pipe.now).pipe ls (tickets_in a c.args.setting.now.tickets.now) xs (walk_in a c.args.self.now) (walk_in b c.walk_rows.new.self))) same
     c.walk_rows.ensures.steps

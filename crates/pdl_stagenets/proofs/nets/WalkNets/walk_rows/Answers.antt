@@ -45,7 +45,7 @@ loop-i-preserved g c =
     let i = c.loop-i.i-index in
     let low = c.loop-i-test.true in
     let k = get_or rows i 0 in
-    let ls = locks_in (members g.L.LockModule) a c.args.setting.now.locks.now in
+    let ls = locks_in (members g.L.LockModule) (form c.args.setting.now.pipe.now).pipe a c.args.setting.now.locks.now in
     let tickets = tickets_in a c.args.setting.now.tickets.now in
     let v = walk_in mid c.loop-i.self in
     let u = walk_in b c.statement.new.self in
@@ -53,7 +53,7 @@ loop-i-preserved g c =
     let at = stmt_at (stmts_view ss) k in
     let pick : List Signal → ℕ → Signal = λ fs m. signal_at fs m in
     let same = locks_same (members g.L.LockModule) a mid (extends_keeps a mid inv.extends) g.met.L.LockModule.stays (form c.args.setting.now.pipe.now).pipe c.args.setting.now.locks.now c.requires.locks in
-    let step = step_here b (form c.args.setting.now.pipe.now).pipe (stmt_view c.row-s.result.now) at c.row-s.ensures (locks_in (members g.L.LockModule) mid c.args.setting.now.locks.now) ls (tickets_in mid c.args.setting.now.tickets.now) tickets v u same
+    let step = step_here b (form c.args.setting.now.pipe.now).pipe (stmt_view c.row-s.result.now) at c.row-s.ensures (locks_in (members g.L.LockModule) (form c.args.setting.now.pipe.now).pipe mid c.args.setting.now.locks.now) ls (tickets_in mid c.args.setting.now.tickets.now) tickets v u same
     (ap pick (nets_kept a mid c.args.setting.now.tickets.now inv.extends c.requires.tickets.there)) c.in_ok-statement.ensures.step in
     record {
       walk = c.in_ok-statement.ensures.walk;

@@ -4,7 +4,6 @@ use Rattle.pdl_net.specs.Growth.{Keeps}
 use Rattle.pdl_net.proofs.Keeps.{extends_keeps, keeps_trans}
 use Rattle.pdl_flatnets.specs.Nets.{signals_in}
 use Rattle.pdl_flatnets.proofs.NetLists.{signals_keep}
-use Rattle.pdl_stagenets.proofs.Kept.{bits_keep}
 use Rattle.pdl_stageregs.specs.Items.{IsOwn, item_at}
 use Rattle.pdl_stageregs.specs.Stages.{IsFrame}
 use Rattle.pdl_stageregs.specs.Begun.{IsReady, HasHeld, HasTicketNets}
@@ -98,11 +97,11 @@ returns-clause-begun c =
     let d = c.begin_tickets.new.b in
     let ab3 : Keeps b2 d = extends_keeps b2 d c.begin_tickets.ensures.extends in
     let e3 : Keeps a d = keeps_trans a b2 d e2 ab3 in
-    begun_all a b1 b2 d f nexts ss k c.args.shared.now.bits s.valid s c.begin_vars.new.self c.begin_helds.new.self c.begin_tickets.new.self c.begin_walk.new.self ab1 ab2 ab3
+    begun_all a b1 b2 d f nexts ss k shared s.valid s c.begin_vars.new.self c.begin_helds.new.self c.begin_tickets.new.self c.begin_walk.new.self ab1 ab2 ab3
     c.requires.bare c.in_ok-begin_vars.ensures.place c.in_ok-begin_vars.ensures.end c.in_ok-begin_helds.ensures.gains c.in_ok-begin_tickets.ensures.longer c.in_ok-begin_tickets.ensures.end
-    (subst (λ ns. IsReady c.args.shared.now.bits.zero (length ns) c.begin_tickets.new.self c.begin_walk.new.self) c.start.ensures c.in_ok-begin_walk.ensures)
+    (subst (λ ns. IsReady shared.zeros (length ns) c.begin_tickets.new.self c.begin_walk.new.self) c.start.ensures (subst (λ zs. IsReady zs (length c.start.result.now) c.begin_tickets.new.self c.begin_walk.new.self) c.as_slice.ensures c.in_ok-begin_walk.ensures))
     c.requires.before (ended_all a b1 f nexts nexts ss ab1 refl c.requires.before) (ended_all a b2 f nexts nexts ss e2 refl c.requires.before) (ended_all a d f nexts nexts ss e3 refl c.requires.before)
-    (omega arith) (bits_keep a d shared.bits e3 c.requires.shared.bits) c.in_ok-begin_vars.ensures.vars
+    (omega arith) (shared_keep a d f shared e3 c.requires.shared) c.in_ok-begin_vars.ensures.vars
     (subst (λ fs. HasHeld b1 b2 f fs ss k c.begin_helds.new.self) n1 c.in_ok-begin_helds.ensures.held)
     (subst (λ fs. HasTicketNets b2 d f fs ss k c.begin_tickets.new.self) n2 c.in_ok-begin_tickets.ensures.tickets)
     c.requires.typed.params (subst (λ fs. IsFrame d f fs k c.begin_tickets.new.self) n2 c.in_ok-begin_tickets.ensures.frame)
@@ -127,11 +126,11 @@ returns-clause-walk c =
     let d = c.begin_tickets.new.b in
     let ab3 : Keeps b2 d = extends_keeps b2 d c.begin_tickets.ensures.extends in
     let e3 : Keeps a d = keeps_trans a b2 d e2 ab3 in
-    begun_walk a b1 b2 d f nexts ss k c.args.shared.now.bits s.valid s c.begin_vars.new.self c.begin_helds.new.self c.begin_tickets.new.self c.begin_walk.new.self ab1 ab2 ab3
+    begun_walk a b1 b2 d f nexts ss k shared s.valid s c.begin_vars.new.self c.begin_helds.new.self c.begin_tickets.new.self c.begin_walk.new.self ab1 ab2 ab3
     c.requires.bare c.in_ok-begin_vars.ensures.place c.in_ok-begin_vars.ensures.end c.in_ok-begin_helds.ensures.gains c.in_ok-begin_tickets.ensures.longer c.in_ok-begin_tickets.ensures.end
-    (subst (λ ns. IsReady c.args.shared.now.bits.zero (length ns) c.begin_tickets.new.self c.begin_walk.new.self) c.start.ensures c.in_ok-begin_walk.ensures)
+    (subst (λ ns. IsReady shared.zeros (length ns) c.begin_tickets.new.self c.begin_walk.new.self) c.start.ensures (subst (λ zs. IsReady zs (length c.start.result.now) c.begin_tickets.new.self c.begin_walk.new.self) c.as_slice.ensures c.in_ok-begin_walk.ensures))
     c.requires.before (ended_all a b1 f nexts nexts ss ab1 refl c.requires.before) (ended_all a b2 f nexts nexts ss e2 refl c.requires.before) (ended_all a d f nexts nexts ss e3 refl c.requires.before)
-    (omega arith) (bits_keep a d shared.bits e3 c.requires.shared.bits) c.in_ok-begin_vars.ensures.vars
+    (omega arith) (shared_keep a d f shared e3 c.requires.shared) c.in_ok-begin_vars.ensures.vars
     (subst (λ fs. HasHeld b1 b2 f fs ss k c.begin_helds.new.self) n1 c.in_ok-begin_helds.ensures.held)
     (subst (λ fs. HasTicketNets b2 d f fs ss k c.begin_tickets.new.self) n2 c.in_ok-begin_tickets.ensures.tickets)
 
@@ -140,7 +139,8 @@ returns-clause-place c =
     let a = c.args.b.now in
     let s = c.args.self.now in
     let f = form c.args.pipe.now in
-    let xs = c.args.shared.now.next in
+    let shared = c.args.shared.now in
+    let xs = shared.next in
     let nexts = signals_in a xs in
     let ss = c.args.before.now in
     let k = length ss in
@@ -150,9 +150,9 @@ returns-clause-place c =
     let ab2 : Keeps b1 b2 = extends_keeps b1 b2 c.begin_helds.ensures.extends in
     let d = c.begin_tickets.new.b in
     let ab3 : Keeps b2 d = extends_keeps b2 d c.begin_tickets.ensures.extends in
-    place a b1 b2 d f nexts ss k c.args.shared.now.bits s.valid s c.begin_vars.new.self c.begin_helds.new.self c.begin_tickets.new.self c.begin_walk.new.self ab1 ab2 ab3
+    place a b1 b2 d f nexts ss k shared s.valid s c.begin_vars.new.self c.begin_helds.new.self c.begin_tickets.new.self c.begin_walk.new.self ab1 ab2 ab3
     c.requires.bare c.in_ok-begin_vars.ensures.place c.in_ok-begin_vars.ensures.end c.in_ok-begin_helds.ensures.gains c.in_ok-begin_tickets.ensures.longer c.in_ok-begin_tickets.ensures.end
-    (subst (λ ns. IsReady c.args.shared.now.bits.zero (length ns) c.begin_tickets.new.self c.begin_walk.new.self) c.start.ensures c.in_ok-begin_walk.ensures)
+    (subst (λ ns. IsReady shared.zeros (length ns) c.begin_tickets.new.self c.begin_walk.new.self) c.start.ensures (subst (λ zs. IsReady zs (length c.start.result.now) c.begin_tickets.new.self c.begin_walk.new.self) c.as_slice.ensures c.in_ok-begin_walk.ensures))
 
 pub returns-clause-own : goal.returns-clause-own
 returns-clause-own c =
