@@ -1,10 +1,10 @@
 // What the statements from a stage on still need.
 ghost use Rattle.std.specs.Prelude.{◌≡◌, ◌<◌, ◌≤◌, ◌&&◌, drop, length, nat_le};
 ghost use Rattle.pdl_semantics.specs.Flat.{has_lock as locks};
-ghost use Rattle.pdl_semantics.specs.Stages.{list_any, mem_at, reserve_stage, commit_stage};
+ghost use Rattle.pdl_semantics.specs.Stages.{is_verify, list_any, mem_at, reserve_stage, commit_stage};
 ghost use Rattle.pdl_form.specs.Whole.{form};
 ghost use Rattle.pdl_form.specs.View.{act_view, lock_view, next_view, stages_view, stmt_view, stmts_view};
-ghost use Rattle.pdl_pipe_law.specs.Lives.{lives_from as is_live, held_from as is_asked, asks_held as asks_location, forks_by as goes_by};
+ghost use Rattle.pdl_pipe_law.specs.Lives.{lives_from as is_live, held_from as is_asked, asks_held as asks_location, forks_by as goes_by, verifies_from as is_verified};
 ghost use Rattle.pdl_pipe_law.specs.Walk.{is_locked};
 ghost use Rattle.pdl_lives.specs.Needs.{rows_use, any_forks_by, rows_ask, goes_with};
 
@@ -105,4 +105,28 @@ pub fn keeps_ticket(pipe: &FlatPipe, stage: usize, mem: usize) -> bool
     let from = pipe.reserved(mem).unwrap_or(0);
     let to = pipe.released(mem).unwrap_or(pipe.stages().len());
     has_lock(pipe, mem) && from < stage && stage <= to
+}
+
+// Whether an operation verifies the guess.
+fn verifies(op: &Op) -> bool
+    ensures { result ≡ is_verify (act_view op.now) }
+{
+    match op {
+        Op::Verify(_) => true,
+        Op::Bind { .. } | Op::CombRead { .. } | Op::DelayedRead { .. } | Op::Write { .. } => false,
+        Op::ReserveRead { .. } | Op::ReserveWrite { .. } | Op::Block { .. } => false,
+        Op::Release { .. } | Op::Call(_) | Op::SpecCall(_) | Op::SpecCheck | Op::SpecBarrier => false,
+    }
+}
+
+/// Whether a statement of the stage or a later one verifies the guess.
+pub fn verifies_from(pipe: &FlatPipe, stage: usize) -> bool
+    ensures { result ≡ is_verified (form pipe.now).pipe stage }
+{
+    for s in pipe.stmts() {
+        if stage <= s.stage && verifies(&s.op) {
+            return true;
+        }
+    }
+    false
 }

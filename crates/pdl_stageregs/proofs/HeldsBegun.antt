@@ -1,5 +1,5 @@
 -- The locations with which a stage begins as held, one after the other.
-use Rattle.std.proofs.Common.{◌≡◌, inl, inr, ◌⊎◌, ℕ, ◌<◌, ◌==◌, Bool, true, false, ◌&&◌, ◌||◌, List, [], ◌∷◌, ◌++◌, map, length, refl, sym, ap, ◌∙◌, subst}
+use Rattle.std.proofs.Common.{◌≡◌, inl, inr, ◌⊎◌, ℕ, ◌+◌, ◌<◌, ◌≤◌, ◌==◌, Bool, true, false, ◌&&◌, ◌||◌, List, [], ◌∷◌, ◌++◌, map, take, length, get_or, refl, sym, ap, ◌∙◌, subst, arith}
 use Rattle.std.specs.Prelude.{if◌then◌else◌}
 use Rattle.std.proofs.lemmas.Bool.{false≢true, and_parts, or_left, or_right}
 use Rattle.std.proofs.lemmas.Bool.{eqb-true}
@@ -8,20 +8,21 @@ use Rattle.pdl_net.specs.declared.Net.{Net}
 use Rattle.pdl_net.specs.Circuit.{Circuit}
 use Rattle.pdl_net.specs.Signal.{Signal}
 use Rattle.pdl_net.specs.Meaning.{signal, IsThere}
-use Rattle.pdl_net.specs.Growth.{Extends}
-use Rattle.pdl_net.proofs.Keeps.{extends_trans}
+use Rattle.pdl_net.specs.Growth.{Keeps, Extends}
+use Rattle.pdl_net.proofs.Keeps.{extends_keeps, extends_trans}
 use Rattle.pdl_pipe_law.specs.Lives.{held_from}
 use Rattle.pdl_pipe_law.specs.Walk.{zero_bit}
+use Rattle.pdl_pipe_law.specs.Views.{View}
 use Rattle.pdl_stagenets.specs.declared.nets.HeldNet.{HeldNet}
-use Rattle.pdl_stagenets.specs.Parts.{Held as HeldPart, held_in, held_of, parts_in}
+use Rattle.pdl_stagenets.specs.Parts.{Held as HeldPart, held_in, held_of}
 use Rattle.pdl_stagenets.proofs.Lists.{map_each}
 use Rattle.pdl_stageregs.specs.declared.nets.Item.TheVariants.{Held}
-use Rattle.pdl_stageregs.specs.declared.nets.StageNets.{StageNets}
-use Rattle.pdl_stageregs.specs.Items.{IsSameConstant}
-use Rattle.pdl_stageregs.specs.Stages.{end_of, IsFrame, IsBegunBy, AreOwn}
-use Rattle.pdl_stageregs.specs.Begun.{is_listed, MayAdd, AddsHeld, IsAtFront, HasHeldAfter}
-use Rattle.pdl_stageregs.proofs.Entered.{frame_kept, frame_may, own_more, own_held, keep_may, by_may, by_new, may_there, may_wide}
-use Rattle.pdl_stageregs.proofs.VarsBegun.{may_rest, front_may}
+use Rattle.pdl_stageregs.specs.declared.nets.Kept.{Kept}
+use Rattle.pdl_stageregs.specs.Stages.{end_of, IsFrame, IsBegunBy, IsSettled, AreOwn}
+use Rattle.pdl_stageregs.specs.Items.{ended_item, IsOwn}
+use Rattle.pdl_stageregs.specs.Begun.{is_listed, MayAdd, AddsHeld, IsLonger, AreHeldBegun, AreStillListed, HasAllHeld}
+use Rattle.pdl_stageregs.proofs.Keeping.{frame_may, own_more, longer_none, longer_trans, longer_may, by_longer, by_new, by_weaker, may_there, may_wide}
+use Rattle.pdl_stageregs.proofs.Begins.{settled_as, may_as}
 use Rattle.pdl_word.specs.Each.{Each}
 use Rattle.pdl_word.proofs.Each.{each_weaker, each_push}
 
@@ -30,7 +31,7 @@ use Rattle.pdl_word.proofs.Each.{each_weaker, each_push}
 abbrev is_it : HeldNet → ℕ → ℕ → Bool
 is_it h m v = (h.mem == m) && (h.var == v)
 
-listed_more : (xs : List HeldNet) (h : HeldNet) (m v : ℕ) → is_listed (xs ++ h ∷ []) m v ≡ (is_listed xs m v || is_it h m v)
+pub listed_more : (xs : List HeldNet) (h : HeldNet) (m v : ℕ) → is_listed (xs ++ h ∷ []) m v ≡ (is_listed xs m v || is_it h m v)
 listed_more [] h m v = at (is_it h m v)
   where
     at : (b : Bool) → (b || false) ≡ b
@@ -42,7 +43,6 @@ listed_more (x ∷ xs) h m v = ap (λ b. is_it x m v || b) (listed_more xs h m v
     at true b c = refl
     at false b c = refl
 
--- a listed location has the signal of its first entry
 held_old : (c : Circuit) (xs : List HeldNet) (h : HeldNet) (m v : ℕ) → is_listed xs m v ≡ true → held_of (map (held_in c) (xs ++ h ∷ [])) m v ≡ held_of (map (held_in c) xs) m v
 held_old c [] h m v e = absurd (false≢true e)
 held_old c (x ∷ xs) h m v e = at (is_it x m v) e (λ q. held_old c xs h m v q)
@@ -71,152 +71,151 @@ held_none c (x ∷ xs) m v e = at (is_it x m v) e (λ q. held_none c xs m v q)
 is_it_same : (h : HeldNet) (m v : ℕ) → is_it h m v ≡ true → (h.mem ≡ m) × (h.var ≡ v)
 is_it_same h m v e = let q = and_parts (h.mem == m) (h.var == v) e in (eqb-true h.mem m q.0, eqb-true h.var v q.1)
 
--- ---- the first of the locations that the stage before has
-
-abbrev pub with_held : StageNets → List HeldNet → StageNets
-with_held s hs = record s { held = hs }
-
-abbrev pub Settles : Circuit → StageNets → ℕ → ℕ → Signal → Type 0
-Settles a before m v g = IsSameConstant (held_of (parts_in a before.end).held m v) g
-
-pub record HeldsSoFar (a c : Circuit) (f : Form) (nexts : List Signal) (k : ℕ) (before s0 s : StageNets) (hs : List HeldNet) : Type 0 where
-  pub extends : Extends a c
-  pub frame : IsFrame c f nexts k s
-  pub there : Each (λ (h : HeldNet). IsThere c h.net) s.held
-  pub one : Each (λ (h : HeldNet). (signal c h.net).width ≡ 1) s.held
-  pub sound : (m v : ℕ) → is_listed s.held m v ≡ true → is_listed hs m v ≡ true
-  pub listed : (m v : ℕ) → held_from f.pipe k m v ≡ true → is_listed hs m v ≡ true → is_listed s.held m v ≡ true
-  pub begun : (m v : ℕ) → is_listed s.held m v ≡ true → IsBegunBy f nexts s (Held m v) (held_of (map (held_in c) s.held) m v) (Settles a before m v)
-  pub own : AreOwn f k s
-  pub valid : s.valid ≡ s0.valid
-  pub kept : IsAtFront s0.kept s.kept
-  pub vars : s.vars ≡ s0.vars
-  pub tickets : s.tickets ≡ s0.tickets
-  pub end : s.end ≡ s0.end
-
 or_cases : (a b : Bool) → (a || b) ≡ true → (a ≡ true) ⊎ ((a ≡ false) × (b ≡ true))
 or_cases true b e = inl refl
 or_cases false b e = inr (refl, e)
 
-module _ (a b c : Circuit) (f : Form) (nexts : List Signal) (k : ℕ) (before s0 s s' : StageNets) (hs : List HeldNet) (h : HeldNet) (bc : Extends b c) (last : end_of s' ≡ length c.regs)
-    (same : (m v : ℕ) → held_of (parts_in b before.end).held m v ≡ held_of (parts_in a before.end).held m v) (so : HeldsSoFar a b f nexts k before s0 s hs) (after : 0 < k) where
-  there_now : Each (λ (x : HeldNet). IsThere c x.net) s.held
-  there_now = each_weaker (λ (x : HeldNet). IsThere b x.net) (λ x. IsThere c x.net) (λ x t. bc.there x.net t) s.held so.there
+-- ---- they stay
 
-  one_now : (xs : List HeldNet) → Each (λ (x : HeldNet). IsThere b x.net) xs → Each (λ (x : HeldNet). (signal b x.net).width ≡ 1) xs → Each (λ (x : HeldNet). (signal c x.net).width ≡ 1) xs
-  one_now [] t o = tt
-  one_now (x ∷ xs) t o = (ap (λ (g : Signal). g.width) (bc.kept x.net t.0) ∙ o.0, one_now xs t.1 o.1)
+module _ (f : Form) (nexts : List Signal) (us : ℕ → View) (k : ℕ) (b c : Circuit) (e : Keeps b c) (hs : List HeldNet) where
+  held_now : Each (λ (h : HeldNet). IsThere b h.net) hs → (m v : ℕ) → held_of (map (held_in c) hs) m v ≡ held_of (map (held_in b) hs) m v
+  held_now there m v = ap (λ xs. held_of xs m v) (map_each (held_in c) (held_in b) (λ x. IsThere b x.net) (λ x t. ap (λ g. record { mem = x.mem; var = x.var; signal = g }) (e.kept x.net t)) hs there)
 
-  held_now : (m v : ℕ) → held_of (map (held_in b) s.held) m v ≡ held_of (map (held_in c) s.held) m v
-  held_now m v = ap (λ xs. held_of xs m v) (sym (map_each (held_in c) (held_in b) (λ x. IsThere b x.net) (λ x t. ap (λ g. record { mem = x.mem; var = x.var; signal = g }) (bc.kept x.net t)) s.held so.there))
+  there_now : Each (λ (h : HeldNet). IsThere b h.net) hs → Each (λ (h : HeldNet). IsThere c h.net) hs
+  there_now t = each_weaker (λ (x : HeldNet). IsThere b x.net) (λ x. IsThere c x.net) (λ x q. e.there x.net q) hs t
 
-  -- nothing was added, as it was listed or isn't asked for
-  helds_same : s' ≡ s → (held_from f.pipe k h.mem h.var ≡ true → is_listed s.held h.mem h.var ≡ true) → HeldsSoFar a c f nexts k before s0 s' (hs ++ h ∷ [])
-  helds_same e old = subst (λ (u : StageNets). HeldsSoFar a c f nexts k before s0 u (hs ++ h ∷ [])) (sym e) record {
-    extends = extends_trans a b c so.extends bc;
-    frame = frame_kept f nexts k b c s bc (ap end_of (sym e) ∙ last) so.frame;
-    there = there_now;
-    one = one_now s.held so.there so.one;
-    sound = λ m v q. listed_more hs h m v ∙ or_left (is_listed hs m v) (is_it h m v) (so.sound m v q);
-    listed = λ m v need q. seen m v need (or_cases (is_listed hs m v) (is_it h m v) (sym (listed_more hs h m v) ∙ q));
-    begun = λ m v q. subst (λ g. IsBegunBy f nexts s (Held m v) g (Settles a before m v)) (held_now m v) (so.begun m v q);
-    own = so.own;
-    valid = so.valid;
-    kept = so.kept;
-    vars = so.vars;
-    tickets = so.tickets;
-    end = so.end;
-  }
-    where
-      seen : (m v : ℕ) → held_from f.pipe k m v ≡ true → (is_listed hs m v ≡ true) ⊎ ((is_listed hs m v ≡ false) × (is_it h m v ≡ true)) → is_listed s.held m v ≡ true
-      seen m v need (inl q) = so.listed m v need q
-      seen m v need (inr q) =
-          let i = is_it_same h m v q.1 in
-          subst (λ n. is_listed s.held m n ≡ true) i.1 (subst (λ n. is_listed s.held n h.var ≡ true) i.0 (old (subst (λ n. held_from f.pipe k n h.var ≡ true) (sym i.0) (subst (λ n. held_from f.pipe k m n ≡ true) (sym i.1) need))))
+one_now : (b c : Circuit) → Keeps b c → (xs : List HeldNet) → Each (λ (x : HeldNet). IsThere b x.net) xs → Each (λ (x : HeldNet). (signal b x.net).width ≡ 1) xs → Each (λ (x : HeldNet). (signal c x.net).width ≡ 1) xs
+one_now b c e [] t o = tt
+one_now b c e (x ∷ xs) t o = (ap (λ (g : Signal). g.width) (e.kept x.net t.0) ∙ o.0, one_now b c e xs t.1 o.1)
 
-  module _ (net : Net) (t : StageNets) (may : MayAdd c s t (Held h.mem h.var) 1 0 net (IsSameConstant (held_of (parts_in b before.end).held h.mem h.var)))
-      (is : s' ≡ record t { held = t.held ++ record { mem = h.mem; var = h.var; net = net } ∷ [] }) (fresh : is_listed s.held h.mem h.var ≡ false) where
-    abbrev y : HeldNet
-    y = record { mem = h.mem; var = h.var; net = net }
-
-    held_same : t.held ≡ s.held
-    held_same = may_rest (λ u. u.held) c s t (Held h.mem h.var) 1 0 net _ (λ i. refl) may
-
-    last_t : end_of t ≡ length c.regs
-    last_t = sym (ap end_of is) ∙ last
-
-    again : (u : StageNets) (xs : List HeldNet) → IsFrame c f nexts k u → IsFrame c f nexts k (with_held u xs)
-    again u xs q = record { last = q.last; registers = record { valid = q.registers.valid; kept = q.registers.kept } }
-
-    here : (m v : ℕ) → is_listed s.held m v ≡ false → is_it h m v ≡ true → IsBegunBy f nexts (with_held t (s.held ++ y ∷ [])) (Held m v) (held_of (map (held_in c) (s.held ++ y ∷ [])) m v) (Settles a before m v)
-    here m v e q =
-        let i = is_it_same h m v q in
-        let begun : IsBegunBy f nexts t (Held h.mem h.var) (signal c net) (Settles b before h.mem h.var) = by_new f nexts c s t (Held h.mem h.var) 1 0 net (IsSameConstant (held_of (parts_in b before.end).held h.mem h.var)) may refl in
-        let begun_a : IsBegunBy f nexts t (Held h.mem h.var) (signal c net) (Settles a before h.mem h.var) = subst (λ g. IsBegunBy f nexts t (Held h.mem h.var) (signal c net) (IsSameConstant g)) (same h.mem h.var) begun in
-        let at_mv : IsBegunBy f nexts t (Held m v) (signal c net) (Settles a before m v) =
-        subst (λ n. IsBegunBy f nexts t (Held m n) (signal c net) (Settles a before m n)) i.1 (subst (λ n. IsBegunBy f nexts t (Held n h.var) (signal c net) (Settles a before n h.var)) i.0 begun_a) in
-        subst (λ g. IsBegunBy f nexts t (Held m v) g (Settles a before m v)) (sym (held_new c s.held y m v e q)) at_mv
-
-    there : (m v : ℕ) → is_listed s.held m v ≡ true → IsBegunBy f nexts (with_held t (s.held ++ y ∷ [])) (Held m v) (held_of (map (held_in c) (s.held ++ y ∷ [])) m v) (Settles a before m v)
-    there m v q =
-        subst (λ g. IsBegunBy f nexts t (Held m v) g (Settles a before m v)) (held_now m v ∙ sym (held_old c s.held y m v q))
-        (by_may f nexts c s t (Held m v) (Held h.mem h.var) 1 0 net (held_of (map (held_in b) s.held) m v) (IsSameConstant (held_of (parts_in b before.end).held h.mem h.var)) (Settles a before m v) may (so.begun m v q))
-
-    -- a location was added
-    helds_more : HeldsSoFar a c f nexts k before s0 s' (hs ++ h ∷ [])
-    helds_more =
-        subst (λ (u : StageNets). HeldsSoFar a c f nexts k before s0 u (hs ++ h ∷ [])) (sym (is ∙ ap (λ xs. with_held t (xs ++ y ∷ [])) held_same)) record {
-          extends = extends_trans a b c so.extends bc;
-          frame = again t (s.held ++ y ∷ []) (frame_may f nexts k b c s t (Held h.mem h.var) 1 0 net _ bc may refl refl last_t so.frame);
-          there = each_push (λ (x : HeldNet). IsThere c x.net) s.held y there_now (may_there c s t (Held h.mem h.var) 1 0 net _ may);
-          one = each_push (λ (x : HeldNet). (signal c x.net).width ≡ 1) s.held y (one_now s.held so.there so.one) (may_wide c s t (Held h.mem h.var) 1 0 net _ may);
-          sound = λ m v q. listed_more hs h m v ∙ sounds m v (or_cases (is_listed s.held m v) (is_it y m v) (sym (listed_more s.held y m v) ∙ q));
-          listed = λ m v need q. listed_more s.held y m v ∙ seen m v need (or_cases (is_listed hs m v) (is_it h m v) (sym (listed_more hs h m v) ∙ q));
-          begun = λ m v q. by m v (or_cases (is_listed s.held m v) (is_it y m v) (sym (listed_more s.held y m v) ∙ q));
-          own = own_more f k (Held h.mem h.var) s t (keep_may c f k (Held h.mem h.var) s t 1 0 net _ (own_held f k h.mem h.var after) may) so.own;
-          valid = may_rest (λ u. u.valid) c s t (Held h.mem h.var) 1 0 net _ (λ i. refl) may ∙ so.valid;
-          kept = front_may c s0.kept s t (Held h.mem h.var) 1 0 net _ may so.kept;
-          vars = may_rest (λ u. u.vars) c s t (Held h.mem h.var) 1 0 net _ (λ i. refl) may ∙ so.vars;
-          tickets = may_rest (λ u. u.tickets) c s t (Held h.mem h.var) 1 0 net _ (λ i. refl) may ∙ so.tickets;
-          end = may_rest (λ u. u.end) c s t (Held h.mem h.var) 1 0 net _ (λ i. refl) may ∙ so.end;
-        }
-      where
-        sounds : (m v : ℕ) → (is_listed s.held m v ≡ true) ⊎ ((is_listed s.held m v ≡ false) × (is_it y m v ≡ true)) → (is_listed hs m v || is_it h m v) ≡ true
-        sounds m v (inl q) = or_left (is_listed hs m v) (is_it h m v) (so.sound m v q)
-        sounds m v (inr q) = or_right (is_listed hs m v) (is_it h m v) q.1
-
-        seen : (m v : ℕ) → held_from f.pipe k m v ≡ true → (is_listed hs m v ≡ true) ⊎ ((is_listed hs m v ≡ false) × (is_it h m v ≡ true)) → (is_listed s.held m v || is_it y m v) ≡ true
-        seen m v need (inl q) = or_left (is_listed s.held m v) (is_it y m v) (so.listed m v need q)
-        seen m v need (inr q) = or_right (is_listed s.held m v) (is_it y m v) q.1
-
-        by : (m v : ℕ) → (is_listed s.held m v ≡ true) ⊎ ((is_listed s.held m v ≡ false) × (is_it y m v ≡ true)) → IsBegunBy f nexts (with_held t (s.held ++ y ∷ [])) (Held m v) (held_of (map (held_in c) (s.held ++ y ∷ [])) m v) (Settles a before m v)
-        by m v (inl q) = there m v q
-        by m v (inr q) = here m v q.0 q.1
-
--- either way
-pub helds_next : (a b c : Circuit) (f : Form) (nexts : List Signal) (k : ℕ) (before s0 s s' : StageNets) (hs : List HeldNet) (h : HeldNet) → Extends b c → end_of s' ≡ length c.regs
-    → ((m v : ℕ) → held_of (parts_in b before.end).held m v ≡ held_of (parts_in a before.end).held m v) → AddsHeld b c f.pipe k before s s' h.mem h.var
-    → HeldsSoFar a b f nexts k before s0 s hs → 0 < k → HeldsSoFar a c f nexts k before s0 s' (hs ++ h ∷ [])
-helds_next a b c f nexts k before s0 s s' hs h bc last same (inl q) so l = helds_same a b c f nexts k before s0 s s' hs h bc last same so l q.0 q.1
-helds_next a b c f nexts k before s0 s s' hs h bc last same (inr q) so l = helds_more a b c f nexts k before s0 s s' hs h bc last same so l q.0 q.1 q.2 q.3 q.4
-
-pub helds_all : (a c : Circuit) (f : Form) (nexts : List Signal) (k : ℕ) (before s0 s : StageNets) → HeldsSoFar a c f nexts k before s0 s before.end.held.items → HasHeldAfter a c f nexts k before s
-helds_all a c f nexts k before s0 s so = record {
-  there = so.there;
-  one = widths s.held so.one;
-  begun = λ m v need. by m v need (is_listed s.held m v) refl;
+pub helds_keep : (f : Form) (nexts : List Signal) (us : ℕ → View) (k : ℕ) (b c : Circuit) (r t : Kept) (hs : List HeldNet) → Keeps b c → IsLonger r t → AreHeldBegun b f nexts us k r hs → AreHeldBegun c f nexts us k t hs
+helds_keep f nexts us k b c r t hs e l h = record {
+  there = there_now f nexts us k b c e hs h.there;
+  one = one_now b c e hs h.there h.one;
+  begun = λ m v q. by_longer f nexts r t (Held m v) _ (IsSettled f.pipe us k (Held m v)) l
+      (subst (λ g. IsBegunBy f nexts r (Held m v) g (IsSettled f.pipe us k (Held m v))) (sym (held_now f nexts us k b c e hs h.there m v)) (h.begun m v q));
 }
+
+-- by other views that end alike
+pub adds_as : (c : Circuit) (f : Form) (nexts : List Signal) (us vs : ℕ → View) (k m v : ℕ) (r t : Kept) (hs xs : List HeldNet) → ((j : ℕ) → j < k → ended_item (vs j) (Held m v) ≡ ended_item (us j) (Held m v)) → AddsHeld c f nexts us k m v r hs t xs → AddsHeld c f nexts vs k m v r hs t xs
+adds_as c f nexts us vs k m v r t hs xs same (inl q) = inl q
+adds_as c f nexts us vs k m v r t hs xs same (inr q) =
+    inr (q.0, may_as c r t (Held m v) 1 0 q.0 (IsSettled f.pipe us k (Held m v)) (IsSettled f.pipe vs k (Held m v)) (λ g z. settled_as f.pipe us vs k (Held m v) g same z) q.1, q.2, q.3)
+
+-- ---- one more
+
+-- locations with their registers, and what they were
+pub record HeldsSoFar (a c : Circuit) (f : Form) (nexts : List Signal) (us : ℕ → View) (k : ℕ) (r0 : Kept) (hs0 : List HeldNet) (r : Kept) (hs : List HeldNet) : Type 0 where
+  pub extends : Extends a c
+  pub frame : IsFrame c f nexts k r
+  pub own : AreOwn f k r
+  pub longer : IsLonger r0 r
+  pub begun : AreHeldBegun c f nexts us k r hs
+  pub still : AreStillListed hs0 hs
+
+pub helds_first : (a : Circuit) (f : Form) (nexts : List Signal) (us : ℕ → View) (k : ℕ) (r : Kept) (hs : List HeldNet) → Extends a a → IsFrame a f nexts k r → AreOwn f k r → AreHeldBegun a f nexts us k r hs → HeldsSoFar a a f nexts us k r hs r hs
+helds_first a f nexts us k r hs x frame own begun = record { extends = x; frame = frame; own = own; longer = longer_none r; begun = begun; still = λ m v q. q }
+
+own_held : (f : Form) (k m v : ℕ) → 0 < k → IsOwn f k (Held m v)
+own_held f Rattle.std.proofs.Common.zero m v l = absurd (omega (arith, l))
+own_held f (Rattle.std.proofs.Common.suc k) m v l = tt
+
+module _ (a b c : Circuit) (f : Form) (nexts : List Signal) (us : ℕ → View) (k : ℕ) (r0 : Kept) (hs0 : List HeldNet) (r t : Kept) (hs xs : List HeldNet) (m0 v0 : ℕ) (after : 0 < k) (bc : Extends b c) (last : end_of t ≡ length c.regs)
+    (so : HeldsSoFar a b f nexts us k r0 hs0 r hs) where
+  same_case : (t ≡ r) × (xs ≡ hs) × (held_from f.pipe k m0 v0 ≡ true → is_listed hs m0 v0 ≡ true) → HeldsSoFar a c f nexts us k r0 hs0 t xs
+  same_case q =
+      let e = extends_keeps b c bc in
+      subst (λ (u : Kept). HeldsSoFar a c f nexts us k r0 hs0 u xs) (sym q.0) (subst (HeldsSoFar a c f nexts us k r0 hs0 r) (sym q.1) record {
+        extends = extends_trans a b c so.extends bc;
+        frame = record { last = ap end_of (sym q.0) ∙ last; registers = Rattle.pdl_stageregs.proofs.Keeping.registers_keep b c f nexts k r e so.frame.registers };
+        own = so.own;
+        longer = so.longer;
+        begun = helds_keep f nexts us k b c r r hs e (longer_none r) so.begun;
+        still = so.still;
+      })
+
+  module _ (net : Net) (may : MayAdd c r t (Held m0 v0) 1 0 net (IsSettled f.pipe us k (Held m0 v0))) (fresh : is_listed hs m0 v0 ≡ false) where
+    abbrev y : HeldNet
+    y = record { mem = m0; var = v0; net = net }
+
+    e : Keeps b c
+    e = extends_keeps b c bc
+
+    old : AreHeldBegun c f nexts us k t hs
+    old = helds_keep f nexts us k b c r t hs (extends_keeps b c bc) (longer_may c r t (Held m0 v0) 1 0 net (IsSettled f.pipe us k (Held m0 v0)) may) so.begun
+
+    here : (m v : ℕ) → is_listed hs m v ≡ false → is_it y m v ≡ true → IsBegunBy f nexts t (Held m v) (held_of (map (held_in c) (hs ++ y ∷ [])) m v) (IsSettled f.pipe us k (Held m v))
+    here m v un q =
+        let i = is_it_same y m v q in
+        let begun : IsBegunBy f nexts t (Held m0 v0) (signal c net) (IsSettled f.pipe us k (Held m0 v0)) = by_new f nexts c r t (Held m0 v0) 0 net (IsSettled f.pipe us k (Held m0 v0)) may in
+        let at_mv : IsBegunBy f nexts t (Held m v) (signal c net) (IsSettled f.pipe us k (Held m v)) =
+        subst (λ n. IsBegunBy f nexts t (Held m n) (signal c net) (IsSettled f.pipe us k (Held m n))) i.1 (subst (λ n. IsBegunBy f nexts t (Held n v0) (signal c net) (IsSettled f.pipe us k (Held n v0))) i.0 begun) in
+        subst (λ g. IsBegunBy f nexts t (Held m v) g (IsSettled f.pipe us k (Held m v))) (sym (held_new c hs y m v un q)) at_mv
+
+    by : (m v : ℕ) → (is_listed hs m v ≡ true) ⊎ ((is_listed hs m v ≡ false) × (is_it y m v ≡ true)) → IsBegunBy f nexts t (Held m v) (held_of (map (held_in c) (hs ++ y ∷ [])) m v) (IsSettled f.pipe us k (Held m v))
+    by m v (inl q) = subst (λ g. IsBegunBy f nexts t (Held m v) g (IsSettled f.pipe us k (Held m v))) (sym (held_old c hs y m v q)) (old.begun m v q)
+    by m v (inr q) = here m v q.0 q.1
+
+    more_case : HeldsSoFar a c f nexts us k r0 hs0 t (hs ++ y ∷ [])
+    more_case = record {
+      extends = extends_trans a b c so.extends bc;
+      frame = frame_may f nexts k b c r t (Held m0 v0) net (IsSettled f.pipe us k (Held m0 v0)) bc (may_zero k after may) last so.frame;
+      own = own_more c f k (Held m0 v0) r t 1 0 net (IsSettled f.pipe us k (Held m0 v0)) may (inr (own_held f k m0 v0 after)) so.own;
+      longer = longer_trans r0 r t so.longer (longer_may c r t (Held m0 v0) 1 0 net (IsSettled f.pipe us k (Held m0 v0)) may);
+      begun = record {
+        there = each_push (λ (x : HeldNet). IsThere c x.net) hs y old.there (may_there c r t (Held m0 v0) 1 0 net (IsSettled f.pipe us k (Held m0 v0)) may);
+        one = each_push (λ (x : HeldNet). (signal c x.net).width ≡ 1) hs y old.one (may_wide c r t (Held m0 v0) 1 0 net (IsSettled f.pipe us k (Held m0 v0)) may);
+        begun = λ m v q. by m v (or_cases (is_listed hs m v) (is_it y m v) (sym (listed_more hs y m v) ∙ q));
+      };
+      still = λ m v q. listed_more hs y m v ∙ or_left (is_listed hs m v) (is_it y m v) (so.still m v q);
+    }
+      where
+        may_zero : (n : ℕ) → 0 < n → MayAdd c r t (Held m0 v0) 1 0 net (IsSettled f.pipe us k (Held m0 v0)) → MayAdd c r t (Held m0 v0) 1 0 net (IsSettled f.pipe us k (Held m0 v0))
+        may_zero n l q = q
+
+  -- either way
+  pub helds_more : AddsHeld c f nexts us k m0 v0 r hs t xs → HeldsSoFar a c f nexts us k r0 hs0 t xs
+  helds_more (inl q) = same_case q
+  helds_more (inr q) = subst (HeldsSoFar a c f nexts us k r0 hs0 t) (sym q.2) (more_case q.0 q.1 q.3)
+
+  -- the location is listed now, where it is asked for
+  pub helds_listed : AddsHeld c f nexts us k m0 v0 r hs t xs → held_from f.pipe k m0 v0 ≡ true → is_listed xs m0 v0 ≡ true
+  helds_listed (inl q) need = subst (λ l. is_listed l m0 v0 ≡ true) (sym q.1) (q.2 need)
+  helds_listed (inr q) need =
+      subst (λ l. is_listed l m0 v0 ≡ true) (sym q.2)
+      (listed_more hs (record { mem = m0; var = v0; net = q.0 }) m0 v0 ∙ or_right (is_listed hs m0 v0) ((m0 == m0) && (v0 == v0)) (Rattle.std.proofs.Common.ap₂ (λ x z. x && z) (Rattle.std.proofs.Common.eq-eqb m0 m0 refl) (Rattle.std.proofs.Common.eq-eqb v0 v0 refl)))
+
+  -- and what was listed still is
+  pub helds_still : AddsHeld c f nexts us k m0 v0 r hs t xs → AreStillListed hs xs
+  helds_still (inl q) m v h = subst (λ l. is_listed l m v ≡ true) (sym q.1) h
+  helds_still (inr q) m v h = subst (λ l. is_listed l m v ≡ true) (sym q.2) (listed_more hs (record { mem = m0; var = v0; net = q.0 }) m v ∙ or_left (is_listed hs m v) ((m0 == m) && (v0 == v)) h)
+
+-- ---- all that a stage ends with
+
+-- those of these locations that are asked for are listed
+abbrev pub AreSeen : Form → ℕ → List HeldNet → List HeldNet → Type 0
+AreSeen f k items hs = (m v : ℕ) → held_from f.pipe k m v ≡ true → is_listed items m v ≡ true → is_listed hs m v ≡ true
+
+pub seen_more : (f : Form) (k : ℕ) (items hs xs : List HeldNet) (h : HeldNet) → AreStillListed hs xs → (held_from f.pipe k h.mem h.var ≡ true → is_listed xs h.mem h.var ≡ true) → AreSeen f k items hs → AreSeen f k (items ++ h ∷ []) xs
+seen_more f k items hs xs h still new seen m v need q = at (or_cases (is_listed items m v) (is_it h m v) (sym (listed_more items h m v) ∙ q))
   where
-    widths : (xs : List HeldNet) → Each (λ (h : HeldNet). (signal c h.net).width ≡ 1) xs → Each (λ (h : HeldPart). h.signal.width ≡ 1) (map (held_in c) xs)
-    widths [] o = tt
-    widths (x ∷ xs) o = (o.0, widths xs o.1)
+    at : (is_listed items m v ≡ true) ⊎ ((is_listed items m v ≡ false) × (is_it h m v ≡ true)) → is_listed xs m v ≡ true
+    at (inl z) = still m v (seen m v need z)
+    at (inr z) =
+        let i = is_it_same h m v z.1 in
+        subst (λ n. is_listed xs m n ≡ true) i.1 (subst (λ n. is_listed xs n h.var ≡ true) i.0 (new (subst (λ n. held_from f.pipe k n h.var ≡ true) (sym i.0) (subst (λ n. held_from f.pipe k m n ≡ true) (sym i.1) need))))
 
-    before_none : (m v : ℕ) → held_from f.pipe k m v ≡ true → is_listed s.held m v ≡ false → (b : Bool) → is_listed before.end.held.items m v ≡ b → held_of (parts_in a before.end).held m v ≡ zero_bit
-    before_none m v need e true q = absurd (false≢true (sym e ∙ so.listed m v need q))
-    before_none m v need e false q = held_none a before.end.held.items m v q
+-- so what isn't listed isn't held there
+pub all_seen : (c : Circuit) (f : Form) (k : ℕ) (items hs : List HeldNet) (m v : ℕ) → AreSeen f k items hs → held_from f.pipe k m v ≡ true → is_listed hs m v ≡ false → held_of (map (held_in c) items) m v ≡ zero_bit
+all_seen c f k items hs m v seen need un = at (is_listed items m v) refl
+  where
+    at : (b : Bool) → is_listed items m v ≡ b → held_of (map (held_in c) items) m v ≡ zero_bit
+    at true q = absurd (false≢true (sym un ∙ seen m v need q))
+    at false q = held_none c items m v q
 
-    by : (m v : ℕ) → held_from f.pipe k m v ≡ true → (b : Bool) → is_listed s.held m v ≡ b → IsBegunBy f nexts s (Held m v) (held_of (map (held_in c) s.held) m v) (Settles a before m v)
-    by m v need true q = so.begun m v q
-    by m v need false q =
-        let was = before_none m v need q (is_listed before.end.held.items m v) refl in
-        inr ((1, 0, was), held_none c s.held m v q ∙ sym was)
+pub all_held_more : (p : Rattle.pdl_semantics.specs.Flat.Pipe) (k : ℕ) (u : View) (hs xs : List HeldNet) → AreStillListed hs xs → HasAllHeld p k u hs → HasAllHeld p k u xs
+all_held_more p k u hs xs still h m v need un = h m v need (at (is_listed hs m v) refl)
+  where
+    at : (b : Bool) → is_listed hs m v ≡ b → is_listed hs m v ≡ false
+    at true q = absurd (false≢true (sym un ∙ still m v q))
+    at false q = q

@@ -1,107 +1,136 @@
--- What all stages share, and the ends of the earlier stages, stay while the circuit grows.
-use Rattle.std.proofs.Common.{◌≡◌, ℕ, zero, suc, ◌+◌, ◌<◌, ◌≤◌, List, length, map, get_or, ◌⊎◌, inl, inr, true, false, leb, refl, sym, ap, ◌∙◌, subst, arith}
-use Rattle.std.specs.Prelude.{Result, Ok, Err, IfOk, OnOk}
-use Rattle.std.proofs.lemmas.Bool.Decides.{leb_tells}
-use Rattle.pdl_kit.specs.declared.no_memory.NoMemory.{NoMemory}
-use Rattle.pdl_semantics.specs.Flat.{Pipe}
+-- The registers of a stage, one after the other, and what a stage begins with.
+use Rattle.std.proofs.Common.{◌≡◌, inl, inr, ◌⊎◌, ℕ, zero, suc, ◌+◌, ◌<◌, Bool, true, List, [], ◌∷◌, ◌++◌, length, append_assoc, append-nil, sym, ap, ◌∙◌, subst, arith}
+use Rattle.std.proofs.lemmas.List.{get_or_append_left, length-append}
+use Rattle.std.proofs.Math.Seq.{get_or-append_seam}
 use Rattle.pdl_form.specs.Form.{Form}
 use Rattle.pdl_net.specs.declared.Net.{Net}
+use Rattle.pdl_net.specs.declared.Net.TheVariants.{Reg as RegNet}
 use Rattle.pdl_net.specs.Circuit.{Circuit}
-use Rattle.pdl_net.specs.Signal.{Signal}
-use Rattle.pdl_net.specs.Meaning.{signal}
-use Rattle.pdl_net.specs.Growth.{Keeps}
-use Rattle.pdl_flatnets.specs.Nets.{NetsThere, signals_in, widths_of}
-use Rattle.pdl_flatnets.proofs.NetLists.{there_keeps, signals_keep}
-use Rattle.pdl_stagenets.specs.Parts.{held_in, held_of, parts_in}
-use Rattle.pdl_stagenets.specs.Sized.{IsWalk}
-use Rattle.pdl_stagenets.proofs.Kept.{bits_keep, walk_keep}
+use Rattle.pdl_net.specs.Signal.{Signal, reg_signal}
+use Rattle.pdl_net.specs.Meaning.{signal, IsThere}
+use Rattle.pdl_net.specs.Growth.{Keeps, Extends}
+use Rattle.pdl_net.proofs.Keeps.{extends_keeps}
+use Rattle.pdl_pipe_law.specs.Views.{View}
 use Rattle.pdl_stageregs.specs.declared.nets.Item.{Item}
-use Rattle.pdl_stageregs.specs.declared.nets.Item.TheVariants.{Var, Held}
-use Rattle.pdl_stageregs.specs.declared.nets.Shared.{Shared}
-use Rattle.pdl_stageregs.specs.declared.nets.StageNets.{StageNets}
-use Rattle.pdl_stageregs.specs.Items.{ended_item, first_value, IsSameConstant}
-use Rattle.pdl_stageregs.specs.Stages.{end_of, IsRegister, IsBegunBy, IsSettled, view_in, views_in}
-use Rattle.pdl_stageregs.specs.Begun.{IsShared, AreEnded, MayAdd, MayKeep, HasHeld, HasHeldAfter}
-use Rattle.pdl_stageregs.proofs.Lists.{each_at, each_map, view_at, some_stage}
-use Rattle.pdl_stageregs.proofs.Entered.{ended_keep, keep_may}
+use Rattle.pdl_stageregs.specs.declared.nets.Item.TheVariants.{Var}
+use Rattle.pdl_stageregs.specs.declared.nets.Kept.{Kept}
+use Rattle.pdl_stageregs.specs.Items.{item_at, item_width, first_value, IsOwn}
+use Rattle.pdl_stageregs.specs.Stages.{reg_of, end_of, IsRegister, IsFrame, HasRegisters, IsBegunBy, AreOwn}
+use Rattle.pdl_stageregs.specs.Begun.{with_item, MayAdd, MayBegin, IsAtFront, IsLonger}
+use Rattle.pdl_stageregs.proofs.Lists.{up_to}
 
-pub shared_keep : (a b : Circuit) (f : Form) (x : Shared) → Keeps a b → IsShared a f x → IsShared b f x
-shared_keep a b f x e h = record {
-  bits = bits_keep a b x.bits e h.bits;
-  zeros_there = there_keeps a b x.zeros e h.zeros_there;
-  zeros = signals_keep a b x.zeros e h.zeros_there ∙ h.zeros;
-  next_there = there_keeps a b x.next e h.next_there;
-  next_count = h.next_count;
+pub register_keep : (a b : Circuit) (r w v : ℕ) → Keeps a b → IsRegister a r w v → IsRegister b r w v
+register_keep a b r w v e h = record {
+  has = e.has_reg r h.has;
+  there = e.there (RegNet r) h.there;
+  same = e.kept (RegNet r) h.there ∙ h.same;
+  width = e.width r h.has ∙ h.width;
+  reset = e.reset r h.has ∙ h.reset;
 }
 
-pub ended_all : (a b : Circuit) (f : Form) (old new : List Signal) (ss : List StageNets) → Keeps a b → new ≡ old → AreEnded a f old ss → AreEnded b f new ss
-ended_all a b f old new ss e same h =
-    each_map (λ (s : StageNets). IsWalk a f.pipe f.widths s.end × NetsThere a s.tickets × (widths_of (signals_in a s.tickets) ≡ widths_of old))
-    (λ s. IsWalk b f.pipe f.widths s.end × NetsThere b s.tickets × (widths_of (signals_in b s.tickets) ≡ widths_of new)) ss
-    (λ s q. (walk_keep a b e f.pipe f.widths s.end q.0, there_keeps a b s.tickets e q.1, ap widths_of (signals_keep a b s.tickets e q.1) ∙ q.2 ∙ ap widths_of (sym same))) h
-
--- what an item of a later circuit is settled by it was settled by before
-pub settled_back : (a d : Circuit) (f : Form) (nexts : List Signal) (ss : List StageNets) (k : ℕ) (i : Item) (g : Signal) → Keeps a d → AreEnded a f nexts ss → k ≤ length ss → IsSettled d f.pipe ss k i g → IsSettled a f.pipe ss k i g
-settled_back a d f nexts ss zero i g e t l h = h
-settled_back a d f nexts ss (suc k) i g e t l h =
-    let some = some_stage ss k (omega (arith, l)) in
-    let s = some.0 in
-    let is : get_or ss k s ≡ s = some.1 in
-    let ends = each_at (λ (u : StageNets). IsWalk a f.pipe f.widths u.end × NetsThere a u.tickets × (widths_of (signals_in a u.tickets) ≡ widths_of nexts)) ss k s (omega (arith, l)) is t in
-    let same : ended_item (views_in d f.pipe ss k) i ≡ ended_item (views_in a f.pipe ss k) i =
-    ap (λ v. ended_item v i) (view_at d f.pipe ss k s (omega (arith, l)) is)
-    ∙ ended_keep a d f.pipe s i e ends.0.there ends.1
-    ∙ ap (λ v. ended_item v i) (sym (view_at a f.pipe ss k s (omega (arith, l)) is)) in
-    subst (λ x. IsSameConstant x g) same h
-
--- ---- after another stage
-
-pub settled_after : (a : Circuit) (p : Pipe) (ss : List StageNets) (n j : ℕ) (s : StageNets) (i : Item) (f g : Signal) → j + 1 ≡ n → n ≤ length ss → get_or ss j s ≡ s → f ≡ ended_item (view_in a p s) i → IsSameConstant f g → IsSettled a p ss n i g
-settled_after a p ss zero j s i f g e l is same h = absurd (omega (arith, e))
-settled_after a p ss (suc k) j s i f g e l is same h =
-    let at : j ≡ k = omega (arith, e) in
-    let here : get_or ss k s ≡ s = subst (λ n. get_or ss n s ≡ s) at is in
-    subst (λ x. IsSameConstant x g) (same ∙ ap (λ v. ended_item v i) (sym (view_at a p ss k s (omega (arith, l)) here))) h
-
--- what is held after a stage that ends so is held after all of them, of which it is the last
-pub held_after : (a c : Circuit) (f : Form) (nexts : List Signal) (ss : List StageNets) (k j : ℕ) (before s : StageNets) → j + 1 ≡ k → k ≤ length ss → get_or ss j before ≡ before → HasHeldAfter a c f nexts k before s → HasHeld a c f nexts ss k s
-held_after a c f nexts ss k j before s e l is h = record {
-  there = h.there;
-  one = h.one;
-  begun = λ m v need. by m v (held_of (map (held_in c) s.held) m v) (h.begun m v need);
+pub registers_keep : (a b : Circuit) (f : Form) (nexts : List Signal) (k : ℕ) (r : Kept) → Keeps a b → HasRegisters a f nexts k r → HasRegisters b f nexts k r
+registers_keep a b f nexts k r e h = record {
+  valid = register_keep a b r.valid 1 _ e h.valid;
+  kept = λ i l. register_keep a b (reg_of r i) _ _ e (h.kept i l);
 }
-  where
-    by : (m v : ℕ) (g : Signal) → IsBegunBy f nexts s (Held m v) g (IsSameConstant (held_of (parts_in a before.end).held m v)) → IsBegunBy f nexts s (Held m v) g (IsSettled a f.pipe ss k (Held m v))
-    by m v g (inl q) = inl q
-    by m v g (inr q) = inr (settled_after a f.pipe ss k j before (Held m v) (held_of (parts_in a before.end).held m v) g e l is refl q)
 
-pub first_zero : (p : Pipe) (n x : ℕ) → 0 < n → 0 ≡ first_value p n (Var x)
-first_zero p zero x l = absurd (omega (arith, l))
-first_zero p (suc k) x l = refl
+item_old : (xs : List Item) (i : Item) (j : ℕ) → j < length xs → item_at (xs ++ i ∷ []) j ≡ item_at xs j
+item_old xs i j l = get_or_append_left xs (i ∷ []) (Var 0) j l
 
-pub may_as : (c : Circuit) (s t : StageNets) (i : Item) (w w' v v' : ℕ) (net : Net) (S Settled : Signal → Type 0) → w ≡ w' → v ≡ v' → ((g : Signal) → S g → Settled g) → MayAdd c s t i w v net S → MayAdd c s t i w' v' net Settled
-may_as c s t i w w' v v' net S Settled e e' k (inl m) = inl record { stage = m.stage; net_is = m.net_is; register = subst (λ n. IsRegister c (end_of s) n v') e (subst (λ n. IsRegister c (end_of s) w n) e' m.register) }
-may_as c s t i w w' v v' net S Settled e e' k (inr m) = inr record { stage = m.stage; there = m.there; wide = m.wide ∙ e; settled = k (signal c net) m.settled }
+item_new : (xs : List Item) (i : Item) → item_at (xs ++ i ∷ []) (length xs) ≡ i
+item_new xs i = get_or-append_seam xs i [] (Var 0)
 
--- of two parts of a result that went well
-pub on_both : {A : Type 0} {B C L : Type 0} (r : Result A NoMemory) (P : A → Type 0) → ((x : A) → P x → (L → B) → C) → IfOk r P → (L → OnOk r B) → OnOk r C
-on_both (Ok x) P f h k = f x h k
-on_both (Err e) P f h k = h
+count_new : (xs : List Item) (i : Item) → length (xs ++ i ∷ []) ≡ length xs + 1
+count_new xs i = length-append xs (i ∷ [])
 
--- a parameter of the first stage
-pub first_keep : (c : Circuit) (f : Form) (k x : ℕ) (s t : StageNets) (w v : ℕ) (net : Net) (S : Signal → Type 0) → k ≡ 0 → MayAdd c s t (Var x) w v net S → (length f.pipe.start ≤ x → t ≡ s) → MayKeep f k (Var x) s t
-first_keep c f k x s t w v net S e may past = subst (λ n. MayKeep f n (Var x) s t) (sym e) (at (leb_tells (suc x) (length f.pipe.start)))
-  where
-    at : ((leb (suc x) (length f.pipe.start) ≡ true) × (suc x ≤ length f.pipe.start)) ⊎ ((leb (suc x) (length f.pipe.start) ≡ false) × (length f.pipe.start < suc x)) → MayKeep f 0 (Var x) s t
-    at (inl q) = let r = q.1 in keep_may c f 0 (Var x) s t w v net S (omega (arith, r)) may
-    at (inr q) = let r = q.1 in inl (past (omega (arith, r)))
+-- ---- registers
 
-pub on_ok : {A : Type 0} {B C : Type 0} (r : Result A NoMemory) → (B → C) → OnOk r B → OnOk r C
-on_ok (Ok x) f h = f h
-on_ok (Err e) f h = h
+abbrev IsKeptIn : Form → List Signal → ℕ → Circuit → Kept → List Item → ℕ → Type 0
+IsKeptIn f nexts k c r items j = IsRegister c (reg_of r j) (item_width f nexts (item_at items j)) (first_value f.pipe k (item_at items j))
 
-pub if_ok : {A : Type 0} (r : Result A NoMemory) (P Q : A → Type 0) → ((x : A) → P x → Q x) → IfOk r P → IfOk r Q
-if_ok (Ok x) P Q f h = f x h
-if_ok (Err e) P Q f h = h
+module _ (f : Form) (nexts : List Signal) (k : ℕ) where
+  frame_kept : (a b : Circuit) (r : Kept) → Extends a b → end_of r ≡ length b.regs → IsFrame a f nexts k r → IsFrame b f nexts k r
+  frame_kept a b r x last h = record { last = last; registers = registers_keep a b f nexts k r (extends_keeps a b x) h.registers }
 
--- ---- the registers grow
+  frame_more : (a b : Circuit) (r : Kept) (i : Item) → Extends a b → IsRegister b (end_of r) (item_width f nexts i) (first_value f.pipe k i) → end_of (with_item r i) ≡ length b.regs
+      → IsFrame a f nexts k r → IsFrame b f nexts k (with_item r i)
+  frame_more a b r i x new last h = record {
+    last = last;
+    registers = record {
+      valid = register_keep a b r.valid 1 _ (extends_keeps a b x) h.registers.valid;
+      kept = λ j l. all j (let e = count_new r.items i in omega (arith, l, e));
+    };
+  }
+    where
+      old : (j : ℕ) → j < length r.items → IsKeptIn f nexts k b r (r.items ++ i ∷ []) j
+      old j l = subst (λ (y : Item). IsRegister b (reg_of r j) (item_width f nexts y) (first_value f.pipe k y)) (sym (item_old r.items i j l)) (register_keep a b (reg_of r j) _ _ (extends_keeps a b x) (h.registers.kept j l))
+
+      here : IsKeptIn f nexts k b r (r.items ++ i ∷ []) (length r.items)
+      here = subst (λ (y : Item). IsRegister b (end_of r) (item_width f nexts y) (first_value f.pipe k y)) (sym (item_new r.items i)) new
+
+      all : (j : ℕ) → j < length r.items + 1 → IsKeptIn f nexts k b r (r.items ++ i ∷ []) j
+      all = up_to (IsKeptIn f nexts k b r (r.items ++ i ∷ [])) (length r.items) old here
+
+  -- whether one is added or none
+  pub frame_may : (a b : Circuit) (r t : Kept) (i : Item) (net : Net) (Settled : Signal → Type 0) → Extends a b → MayAdd b r t i (item_width f nexts i) (first_value f.pipe k i) net Settled → end_of t ≡ length b.regs
+      → IsFrame a f nexts k r → IsFrame b f nexts k t
+  frame_may a b r t i net Settled x (inl m) last h = subst (IsFrame b f nexts k) (sym m.regs) (frame_more a b r i x m.register (ap end_of (sym m.regs) ∙ last) h)
+  frame_may a b r t i net Settled x (inr m) last h = subst (IsFrame b f nexts k) (sym m.regs) (frame_kept a b r x (ap end_of (sym m.regs) ∙ last) h)
+
+-- ---- what they may keep
+
+pub own_more : (c : Circuit) (f : Form) (k : ℕ) (i : Item) (r t : Kept) (w v : ℕ) (net : Net) (S : Signal → Type 0) → MayAdd c r t i w v net S → ((t ≡ r) ⊎ IsOwn f k i) → AreOwn f k r → AreOwn f k t
+own_more c f k i r t w v net S may (inl e) h = subst (AreOwn f k) (sym e) h
+own_more c f k i r t w v net S (inr m) (inr o) h = subst (AreOwn f k) (sym m.regs) h
+own_more c f k i r t w v net S (inl m) (inr o) h =
+    subst (AreOwn f k) (sym m.regs)
+    (λ j l. up_to (λ n. IsOwn f k (item_at (r.items ++ i ∷ []) n)) (length r.items) (λ n q. subst (IsOwn f k) (sym (item_old r.items i n q)) (h n q)) (subst (IsOwn f k) (sym (item_new r.items i)) o) j
+    (let e = count_new r.items i in omega (arith, l, e)))
+
+-- ---- longer and longer
+
+pub longer_none : (r : Kept) → IsLonger r r
+longer_none r = record { valid = Rattle.std.proofs.Common.refl; items = ([], sym (append-nil r.items)) }
+
+pub longer_trans : (r s t : Kept) → IsLonger r s → IsLonger s t → IsLonger r t
+longer_trans r s t h k = record {
+  valid = k.valid ∙ h.valid;
+  items = let a = h.items in let b = k.items in (a.0 ++ b.0, b.1 ∙ ap (λ l. l ++ b.0) a.1 ∙ append_assoc r.items a.0 b.0);
+}
+
+pub longer_may : (c : Circuit) (r t : Kept) (i : Item) (w v : ℕ) (net : Net) (S : Signal → Type 0) → MayAdd c r t i w v net S → IsLonger r t
+longer_may c r t i w v net S (inl m) = subst (IsLonger r) (sym m.regs) record { valid = Rattle.std.proofs.Common.refl; items = (i ∷ [], Rattle.std.proofs.Common.refl) }
+longer_may c r t i w v net S (inr m) = subst (IsLonger r) (sym m.regs) (longer_none r)
+
+-- ---- items
+
+module _ (f : Form) (nexts : List Signal) where
+  -- an item stays where more follow
+  pub by_longer : (r t : Kept) (i : Item) (g : Signal) (S : Signal → Type 0) → IsLonger r t → IsBegunBy f nexts r i g S → IsBegunBy f nexts t i g S
+  by_longer r t i g S h (inr q) = inr q
+  by_longer r t i g S h (inl q) =
+      let j = q.0 in
+      let low : j < length r.items = q.1 in
+      let same : item_at r.items j ≡ i = q.2 in
+      let more = h.items.0 in
+      let long : length t.items ≡ length r.items + length more = ap length h.items.1 ∙ length-append r.items more in
+      inl (j, omega (arith, low, long), ap (λ xs. item_at xs j) h.items.1 ∙ get_or_append_left r.items more (Var 0) j low ∙ same, q.3 ∙ ap (λ n. reg_signal (item_width f nexts i) (suc (n + j))) (sym h.valid))
+
+  -- and the one that was added, or not, is so
+  pub by_new : (c : Circuit) (r t : Kept) (i : Item) (v : ℕ) (net : Net) (Settled : Signal → Type 0) → MayAdd c r t i (item_width f nexts i) v net Settled → IsBegunBy f nexts t i (signal c net) Settled
+  by_new c r t i v net Settled (inr m) = inr m.settled
+  by_new c r t i v net Settled (inl m) =
+      subst (λ (u : Kept). IsBegunBy f nexts u i (signal c net) Settled) (sym m.regs)
+      (inl (length r.items, (let e = count_new r.items i in omega (arith, e)), item_new r.items i, ap (signal c) m.net_is ∙ m.register.same))
+
+  pub by_weaker : (r : Kept) (i : Item) (g : Signal) (S Settled : Signal → Type 0) → (S g → Settled g) → IsBegunBy f nexts r i g S → IsBegunBy f nexts r i g Settled
+  by_weaker r i g S Settled k (inl h) = inl h
+  by_weaker r i g S Settled k (inr h) = inr (k h)
+
+pub may_there : (c : Circuit) (r t : Kept) (i : Item) (w v : ℕ) (net : Net) (S : Signal → Type 0) → MayAdd c r t i w v net S → IsThere c net
+may_there c r t i w v net S (inl m) = subst (IsThere c) (sym m.net_is) m.register.there
+may_there c r t i w v net S (inr m) = m.there
+
+pub may_wide : (c : Circuit) (r t : Kept) (i : Item) (w v : ℕ) (net : Net) (S : Signal → Type 0) → MayAdd c r t i w v net S → (signal c net).width ≡ w
+may_wide c r t i w v net S (inl m) = ap (λ (x : Net). (signal c x).width) m.net_is ∙ ap (λ (g : Signal). g.width) m.register.same
+may_wide c r t i w v net S (inr m) = m.wide

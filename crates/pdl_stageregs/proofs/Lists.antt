@@ -2,7 +2,6 @@
 use Rattle.std.proofs.Common.{◌≡◌, ℕ, zero, suc, ◌+◌, ◌<◌, ◌≤◌, true, false, ◌⊎◌, inl, inr, List, [], ◌∷◌, length, get_or, refl, ap, ◌∙◌, subst, arith, leb}
 use Rattle.std.proofs.lemmas.Bool.Decides.{leb_tells}
 use Rattle.std.proofs.lemmas.List.{get_or-map}
-use Rattle.pdl_semantics.specs.Flat.{Pipe}
 use Rattle.pdl_net.specs.Circuit.{Circuit}
 use Rattle.pdl_stageregs.specs.declared.nets.StageNets.{StageNets}
 use Rattle.pdl_stageregs.specs.Stages.{view_in, views_in, no_view}
@@ -17,8 +16,8 @@ pub each_map : {X : Type 0} (P Q : X → Type 0) (xs : List X) → ((x : X) → 
 each_map P Q [] f h = tt
 each_map P Q (x ∷ xs) f h = (f x h.0, each_map P Q xs f h.1)
 
-pub view_at : (c : Circuit) (p : Pipe) (ss : List StageNets) (k : ℕ) (s : StageNets) → k < length ss → get_or ss k s ≡ s → views_in c p ss k ≡ view_in c p s
-view_at c p ss k s l e = get_or-map (view_in c p) ss k s no_view l ∙ ap (view_in c p) e
+pub view_at : (c : Circuit) (ss : List StageNets) (k : ℕ) (s : StageNets) → k < length ss → get_or ss k s ≡ s → views_in c ss k ≡ view_in c s
+view_at c ss k s l e = get_or-map (view_in c) ss k s no_view l ∙ ap (view_in c) e
 
 -- below or at it
 pub below_or : (k n : ℕ) → k < n → (suc k < n) ⊎ (suc k ≡ n)
@@ -41,3 +40,11 @@ pub some_stage : (ss : List StageNets) (k : ℕ) → k < length ss → (s : Stag
 some_stage [] k l = absurd (omega (arith, l))
 some_stage (s ∷ ss) zero l = (s, refl)
 some_stage (s ∷ ss) (suc k) l = some_stage ss k (omega (arith, l))
+
+-- what holds below i and at i holds below i + 1
+pub up_to : (P : ℕ → Type 0) (i : ℕ) → ((j : ℕ) → j < i → P j) → P i → (j : ℕ) → j < i + 1 → P j
+up_to P i h k j l = at (leb_tells (j + 1) i)
+  where
+    at : ((leb (j + 1) i ≡ true) × (j + 1 ≤ i)) ⊎ ((leb (j + 1) i ≡ false) × (i < j + 1)) → P j
+    at (inl q) = let r = q.1 in h j (omega (arith, r))
+    at (inr q) = let r = q.1 in let e : i ≡ j = omega (arith, r, l) in subst P e k

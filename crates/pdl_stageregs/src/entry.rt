@@ -1,75 +1,80 @@
 // What a stage begins with: registers for what its thread keeps.
-ghost use Rattle.std.specs.Prelude.{◌≡◌, ◌<◌, ◌≤◌, ◌^◌, [], false, IsTrue, IfOk, OnOk, length, slice_index};
+ghost use Rattle.std.specs.Prelude.{◌≡◌, ℕ, ◌+◌, ◌<◌, ◌≤◌, ◌^◌, [], true, false, IsTrue, IfOk, OnOk, length, take, slice_index};
 ghost use Rattle.pdl_form.specs.Whole.{form};
-ghost use Rattle.pdl_net.specs.declared.Net.TheVariants.{Reg as RegNet};
 ghost use Rattle.pdl_net.specs.Signal.{const_signal};
 ghost use Rattle.pdl_net.specs.Meaning.{IsThere, Means, signal};
 ghost use Rattle.pdl_net.specs.Growth.{Extends};
-ghost use Rattle.pdl_flatnets.specs.Nets.{signals_in, signal_at};
-ghost use Rattle.pdl_flatnets.specs.Conditions.{AreBits};
+ghost use Rattle.pdl_flatnets.specs.Nets.{NetsThere, signals_in, signal_at, widths_of};
 ghost use Rattle.pdl_formtypes.specs.Stmts.{IsTypedForm};
 ghost use Rattle.pdl_lives.specs.Needs.{goes_with};
+ghost use Rattle.pdl_pipe_law.specs.Lives.{lives_from as is_live, verifies_from as is_verified};
+ghost use Rattle.pdl_stagenets.specs.Parts.{walk_of, walk_in};
 ghost use Rattle.pdl_stagenets.specs.Sized.{IsWalk};
-ghost use Rattle.pdl_stageregs.specs.declared.nets.Item.TheVariants.{Var, Ticket};
-ghost use Rattle.pdl_stageregs.specs.Items.{IsConstant, IsSameConstant, IsZero};
-ghost use Rattle.pdl_stageregs.specs.Stages.{end_of, IsRegister, IsFrame, IsBegun, AreOwn};
-ghost use Rattle.pdl_stageregs.specs.Begun.{with_item, IsBare, IsShared, AreEnded, MayAdd, MayAddVar, MayBeginVar, MayKeep, IsLonger, IsReady, HasVars, HasTicketNets};
+ghost use Rattle.pdl_answernets.specs.Ports.{answers_in};
+ghost use Rattle.pdl_stageregs.specs.declared.nets.Item.TheVariants.{Var, Guess};
+ghost use Rattle.pdl_stageregs.specs.Items.{IsConstant, IsZero, item_width, is_answered as gets_item};
+ghost use Rattle.pdl_stageregs.specs.Stages.{end_of, begun_parts, IsFrame, IsBegun, IsSettled, AreOwn};
+ghost use Rattle.pdl_stageregs.specs.Begun.{earlier_views, earlier_count, IsShared, IsEarlier, IsItem, IsLonger, MayAdd, MayBegin, AreBegun, BindWords, AreAnswered, IsFresh};
 
-use crate::nets::{Item, Shared, StageNets};
+use crate::helds::begin_helds;
+use crate::nets::{Earlier, Item, Kept, Shared, StageNets};
+use crate::registers::common;
+use crate::tickets::begin_tickets;
+use pdl_answernets::{gets_answer, with_answers};
 use pdl_build::Builder;
+use pdl_flatnets::Bits;
 use pdl_flatnets::exprs::variable;
-use pdl_flatnets::{Bits, are_same};
 use pdl_form::FlatPipe;
 use pdl_kit::{NoMemory, Seq};
-use pdl_lives::{keeps_ticket, lives_from};
+use pdl_lives::{lives_from, verifies_from};
 use pdl_net::Net;
-use pdl_stagenets::WalkNets;
+use pdl_stagenets::{HeldNet, WalkNets};
 use std::alloc::Global;
 
-// A stage with nothing but the register that tells whether it holds a thread, with this value at reset.
-pub(crate) fn bare(
-    alloc: Global,
-    b: &mut Builder,
-    bits: Bits,
-    reset: u64,
-) -> Result<StageNets, NoMemory>
-    requires { reset < 2 }
-    ensures bare { IfOk result (λ s. IsBare (length b.old.regs) bits s) }
-    ensures last { IfOk result (λ s. end_of s ≡ length b.new.regs) }
-    ensures register { OnOk result (IsRegister b.new (length b.old.regs) 1 reset) }
-    ensures extends { Extends b.old b.new }
+// Whether a thread may get an item in a stage by an answer.
+fn is_answered(pipe: &FlatPipe, stage: usize, item: Item) -> bool
+    ensures { result ≡ gets_item (form pipe.now).pipe stage item }
 {
-    let valid = b.reg(1, reset)?;
-    Ok(StageNets {
-        valid,
-        kept: Seq::new(alloc),
-        vars: Seq::new(alloc),
-        held: Seq::new(alloc),
-        tickets: Seq::new(alloc),
-        end: WalkNets {
-            vars: Vec::new(alloc),
-            held: Vec::new(alloc),
-            ready: bits.one,
-            reserves: Seq::new(alloc),
-            puts: Seq::new(alloc),
-            lettings: Seq::new(alloc),
-            births: Vec::new(alloc),
-            asks: Seq::new(alloc),
-            guess: Seq::new(alloc),
-            fails: bits.zero,
-            barrier: bits.zero,
-        },
-    })
+    match item {
+        Item::Var(x) => gets_answer(pipe, stage, x),
+        Item::Held { .. } | Item::Ticket(_) | Item::Guess(_) => false,
+    }
 }
 
-/// Whether a net is one of three that never change.
-pub fn is_fixed(b: &Builder, bits: Bits, zero: Net, net: Net) -> bool
-    requires bits { AreBits b.now bits }
-    requires zero { IsConstant (signal b.now zero) }
-    ensures { IsTrue result → IsConstant (signal b.now net) }
+// An item of a stage after other ones: what all that may lead here end with for it, where that never changes and no answer comes, else a register.
+pub(crate) fn begin_item(
+    b: &mut Builder,
+    pipe: &FlatPipe,
+    shared: &Shared<'_>,
+    earlier: &Earlier<'_>,
+    regs: &mut Kept,
+    item: Item,
+    width: u8,
+    zero: Net,
+) -> Result<Net, NoMemory>
+    requires shared { IsShared b.old (form pipe.now) shared.now }
+    requires earlier { IsEarlier b.old (form pipe.now)
+        (signals_in b.old shared.now.next) earlier.now }
+    requires after { 0 < earlier_count earlier.now }
+    requires item { IsItem (form pipe.now) item }
+    requires low { 1 ≤ width }
+    requires high { width ≤ 64 }
+    requires wide { width ≡ item_width (form pipe.now) (signals_in b.old shared.now.next) item }
+    requires zero { IsConstant (signal b.old zero) }
+    requires last { end_of regs.old ≡ length b.old.regs }
+    ensures may { IfOk result (λ net.
+        MayAdd b.new regs.old regs.new item width 0 net (IsSettled (form pipe.now).pipe
+        (earlier_views b.old earlier.now) (earlier_count earlier.now) item)) }
+    ensures last { OnOk result (end_of regs.new ≡ length b.new.regs) }
+    ensures extends { Extends b.old b.new }
 {
-    let _regs = b.reg_count();
-    are_same(net, zero) || are_same(net, bits.zero) || are_same(net, bits.one)
+    let stage = earlier.stages.len();
+    if !is_answered(pipe, stage, item) {
+        if let Some(net) = common(b, pipe, shared, earlier, zero, item) {
+            return Ok(net);
+        }
+    }
+    regs.keep(b, item, width, 0)
 }
 
 // The first thread's argument for a parameter.
@@ -80,284 +85,217 @@ fn start_of(pipe: &FlatPipe, x: usize) -> u64
     pipe.start()[x]
 }
 
-// The net of a variable after a stage.
-fn coming(b: &Builder, pipe: &FlatPipe, s: &StageNets, x: usize) -> Net
+// A variable of the first stage: parameters have the first thread's arguments at reset.
+fn first_var(
+    b: &mut Builder,
+    pipe: &FlatPipe,
+    regs: &mut Kept,
+    zero: Net,
+    x: usize,
+) -> Result<Net, NoMemory>
+    requires typed { IsTypedForm (form pipe.now) }
     requires low { x < length (form pipe.now).widths }
-    requires walk { IsWalk b.now (form pipe.now).pipe (form pipe.now).widths s.now.end }
-    ensures means { Means b.now result (signal_at (signals_in b.now s.now.end.vars.items) x) }
-    ensures wide { (signal b.now result).width ≡ slice_index (form pipe.now).widths x }
+    requires zero { Means b.old zero (const_signal (slice_index (form pipe.now).widths x) 0) }
+    requires last { end_of regs.old ≡ length b.old.regs }
+    ensures may { IfOk result (λ net.
+        MayAdd b.new regs.old regs.new (Var x) (slice_index (form pipe.now).widths x)
+        (slice_index (form pipe.now).pipe.start x) net (IsZero (form pipe.now).pipe (Var x))) }
+    ensures own { length (form pipe.now).pipe.start ≤ x → OnOk result (regs.new ≡ regs.old) }
+    ensures last { OnOk result (end_of regs.new ≡ length b.new.regs) }
+    ensures extends { Extends b.old b.new }
 {
-    variable(b, s.end.vars.as_slice(), x)
+    if x < pipe.start().len() {
+        regs.keep(b, Item::Var(x), pipe.width(x), start_of(pipe, x))
+    } else {
+        Ok(zero)
+    }
 }
 
-impl StageNets {
-    /// One more register, which keeps this.
-    pub fn keep(
-        &mut self,
-        b: &mut Builder,
-        item: Item,
-        width: u8,
-        reset: u64,
-    ) -> Result<Net, NoMemory>
-        requires low { 1 ≤ width }
-        requires high { width ≤ 64 }
-        requires fits { reset < 2 ^ width }
-        requires last { end_of self.old ≡ length b.old.regs }
-        ensures net { IfOk result (λ x. x ≡ RegNet (end_of self.old)) }
-        ensures item { OnOk result (self.new ≡ with_item self.old item) }
-        ensures last { OnOk result (end_of self.new ≡ length b.new.regs) }
-        ensures register { OnOk result (IsRegister b.new (end_of self.old) width reset) }
-        ensures extends { Extends b.old b.new }
-    {
-        let r = b.reg(width, reset)?;
-        self.kept.push(item)?;
-        Ok(Net::Reg(r))
+// A variable of a stage; one that doesn't live needs no register.
+fn begin_var(
+    b: &mut Builder,
+    pipe: &FlatPipe,
+    shared: &Shared<'_>,
+    earlier: &Earlier<'_>,
+    regs: &mut Kept,
+    x: usize,
+) -> Result<Net, NoMemory>
+    requires typed { IsTypedForm (form pipe.now) }
+    requires shared { IsShared b.old (form pipe.now) shared.now }
+    requires earlier { IsEarlier b.old (form pipe.now)
+        (signals_in b.old shared.now.next) earlier.now }
+    requires stage { earlier_count earlier.now < length (form pipe.now).pipe.stages }
+    requires low { x < length (form pipe.now).widths }
+    requires last { end_of regs.old ≡ length b.old.regs }
+    ensures begins { IfOk result (λ net.
+        MayBegin b.new (form pipe.now) (signals_in b.old shared.now.next)
+        (earlier_views b.old earlier.now) (earlier_count earlier.now)
+        (is_live (form pipe.now).pipe (earlier_count earlier.now) x) regs.old regs.new (Var x) net) }
+    ensures last { OnOk result (end_of regs.new ≡ length b.new.regs) }
+    ensures extends { Extends b.old b.new }
+{
+    let zero = variable(b, shared.zeros.as_slice(), x);
+    let stage = earlier.stages.len();
+    if !lives_from(pipe, stage, x) {
+        Ok(zero)
+    } else if stage == 0 {
+        first_var(b, pipe, regs, zero, x)
+    } else {
+        begin_item(b, pipe, shared, earlier, regs, Item::Var(x), pipe.width(x), zero)
     }
+}
 
-    // A variable of the first stage: parameters that live have the first thread's arguments at reset.
-    fn first_var(
-        &mut self,
-        b: &mut Builder,
-        pipe: &FlatPipe,
-        zero: Net,
-        x: usize,
-    ) -> Result<Net, NoMemory>
-        requires typed { IsTypedForm (form pipe.now) }
-        requires low { x < length (form pipe.now).widths }
-        requires zero { Means b.old zero (const_signal (slice_index (form pipe.now).widths x) 0) }
-        requires last { end_of self.old ≡ length b.old.regs }
-        ensures may { IfOk result (λ net.
-            MayAddVar b.new (form pipe.now) 0 x
-            (slice_index (form pipe.now).pipe.start x) self.old self.new net
-            (IsZero (form pipe.now).pipe (Var x))) }
-        ensures own { length (form pipe.now).pipe.start ≤ x → OnOk result (self.new ≡ self.old) }
-        ensures last { OnOk result (end_of self.new ≡ length b.new.regs) }
-        ensures extends { Extends b.old b.new }
-    {
-        if x < pipe.start().len() && lives_from(pipe, 0, x) {
-            self.keep(b, Item::Var(x), pipe.width(x), start_of(pipe, x))
-        } else {
-            Ok(zero)
-        }
+// The variables of a stage.
+fn begin_vars(
+    alloc: Global,
+    b: &mut Builder,
+    pipe: &FlatPipe,
+    shared: &Shared<'_>,
+    earlier: &Earlier<'_>,
+    regs: &mut Kept,
+) -> Result<Seq<Net>, NoMemory>
+    requires typed { IsTypedForm (form pipe.now) }
+    requires shared { IsShared b.old (form pipe.now) shared.now }
+    requires earlier { IsEarlier b.old (form pipe.now)
+        (signals_in b.old shared.now.next) earlier.now }
+    requires stage { earlier_count earlier.now < length (form pipe.now).pipe.stages }
+    requires frame { IsFrame b.old (form pipe.now) (signals_in b.old shared.now.next)
+        (earlier_count earlier.now) regs.old }
+    requires own { AreOwn (form pipe.now) (earlier_count earlier.now) regs.old }
+    ensures frame { OnOk result (IsFrame b.new (form pipe.now)
+        (signals_in b.old shared.now.next) (earlier_count earlier.now) regs.new) }
+    ensures own { OnOk result (AreOwn (form pipe.now) (earlier_count earlier.now) regs.new) }
+    ensures longer { OnOk result (IsLonger regs.old regs.new) }
+    ensures vars { IfOk result (λ xs. AreBegun b.new (form pipe.now)
+        (signals_in b.old shared.now.next) (earlier_views b.old earlier.now)
+        (earlier_count earlier.now) regs.new Var
+        (is_live (form pipe.now).pipe (earlier_count earlier.now)) (form pipe.now).widths xs) }
+    ensures extends { Extends b.old b.new }
+{
+    let mut nets = Seq::new(alloc);
+    for x in 0..pipe.vars() {
+        let net = begin_var(b, pipe, shared, earlier, regs, x)?;
+        nets.push(net)?;
     }
+    Ok(nets)
+}
 
-    // A variable of a stage after another one, from where it comes as `net`; one that doesn't live, or never changes, needs no register.
-    fn next_var(
-        &mut self,
-        b: &mut Builder,
-        pipe: &FlatPipe,
-        bits: Bits,
-        zero: Net,
-        net: Net,
-        stage: usize,
-        x: usize,
-    ) -> Result<Net, NoMemory>
-        requires typed { IsTypedForm (form pipe.now) }
-        requires low { x < length (form pipe.now).widths }
-        requires stage { stage ≤ length (form pipe.now).pipe.stages }
-        requires bits { AreBits b.old bits }
-        requires zero { Means b.old zero (const_signal (slice_index (form pipe.now).widths x) 0) }
-        requires there { IsThere b.old net }
-        requires wide { (signal b.old net).width ≡ slice_index (form pipe.now).widths x }
-        requires last { end_of self.old ≡ length b.old.regs }
-        ensures may { IfOk result (λ y.
-            MayAddVar b.new (form pipe.now) stage x 0 self.old self.new y
-            (IsSameConstant (signal b.old net))) }
-        ensures last { OnOk result (end_of self.new ≡ length b.new.regs) }
-        ensures extends { Extends b.old b.new }
-    {
-        if !lives_from(pipe, stage, x) {
-            return Ok(zero);
-        }
-        if is_fixed(b, bits, zero, net) {
-            return Ok(net);
-        }
-        self.keep(b, Item::Var(x), pipe.width(x), 0)
+// An argument of the guess, zero where no stage from here on verifies it.
+fn begin_argument(
+    b: &mut Builder,
+    pipe: &FlatPipe,
+    shared: &Shared<'_>,
+    earlier: &Earlier<'_>,
+    regs: &mut Kept,
+    i: usize,
+) -> Result<Net, NoMemory>
+    requires typed { IsTypedForm (form pipe.now) }
+    requires shared { IsShared b.old (form pipe.now) shared.now }
+    requires earlier { IsEarlier b.old (form pipe.now)
+        (signals_in b.old shared.now.next) earlier.now }
+    requires low { i < length (form pipe.now).pipe.start }
+    requires last { end_of regs.old ≡ length b.old.regs }
+    ensures begins { IfOk result (λ net.
+        MayBegin b.new (form pipe.now) (signals_in b.old shared.now.next)
+        (earlier_views b.old earlier.now) (earlier_count earlier.now)
+        (is_verified (form pipe.now).pipe (earlier_count earlier.now))
+        regs.old regs.new (Guess i) net) }
+    ensures last { OnOk result (end_of regs.new ≡ length b.new.regs) }
+    ensures extends { Extends b.old b.new }
+{
+    let zero = variable(b, shared.zeros.as_slice(), i);
+    let stage = earlier.stages.len();
+    if stage == 0 || !verifies_from(pipe, stage) {
+        return Ok(zero);
     }
+    begin_item(b, pipe, shared, earlier, regs, Item::Guess(i), pipe.width(i), zero)
+}
 
-    // A variable of the stage after these.
-    fn begin_var(
-        &mut self,
-        b: &mut Builder,
-        pipe: &FlatPipe,
-        shared: &Shared,
-        before: &[StageNets],
-        x: usize,
-    ) -> Result<Net, NoMemory>
-        requires typed { IsTypedForm (form pipe.now) }
-        requires shared { IsShared b.old (form pipe.now) shared.now }
-        requires before { AreEnded b.old (form pipe.now)
-            (signals_in b.old shared.now.next) before.now }
-        requires stage { length before.now < length (form pipe.now).pipe.stages }
-        requires low { x < length (form pipe.now).widths }
-        requires last { end_of self.old ≡ length b.old.regs }
-        ensures may { IfOk result (λ net.
-            MayBeginVar b.old b.new (form pipe.now) before.now x self.old self.new net) }
-        ensures own { OnOk result (MayKeep (form pipe.now) (length before.now)
-            (Var x) self.old self.new) }
-        ensures last { OnOk result (end_of self.new ≡ length b.new.regs) }
-        ensures extends { Extends b.old b.new }
-    {
-        let zero = variable(b, shared.zeros.as_slice(), x);
-        if before.is_empty() {
-            self.first_var(b, pipe, zero, x)
-        } else {
-            let last = &before[before.len() - 1];
-            let net = coming(b, pipe, last, x);
-            self.next_var(b, pipe, shared.bits, zero, net, before.len(), x)
-        }
+// The arguments of the guess.
+fn begin_guess(
+    alloc: Global,
+    b: &mut Builder,
+    pipe: &FlatPipe,
+    shared: &Shared<'_>,
+    earlier: &Earlier<'_>,
+    regs: &mut Kept,
+) -> Result<Seq<Net>, NoMemory>
+    requires typed { IsTypedForm (form pipe.now) }
+    requires shared { IsShared b.old (form pipe.now) shared.now }
+    requires earlier { IsEarlier b.old (form pipe.now)
+        (signals_in b.old shared.now.next) earlier.now }
+    requires frame { IsFrame b.old (form pipe.now) (signals_in b.old shared.now.next)
+        (earlier_count earlier.now) regs.old }
+    requires own { AreOwn (form pipe.now) (earlier_count earlier.now) regs.old }
+    ensures frame { OnOk result (IsFrame b.new (form pipe.now)
+        (signals_in b.old shared.now.next) (earlier_count earlier.now) regs.new) }
+    ensures own { OnOk result (AreOwn (form pipe.now) (earlier_count earlier.now) regs.new) }
+    ensures longer { OnOk result (IsLonger regs.old regs.new) }
+    ensures guess { IfOk result (λ xs. AreBegun b.new (form pipe.now)
+        (signals_in b.old shared.now.next) (earlier_views b.old earlier.now)
+        (earlier_count earlier.now) regs.new Guess
+        (λ i. is_verified (form pipe.now).pipe (earlier_count earlier.now))
+        (take (length (form pipe.now).pipe.start) (form pipe.now).widths) xs) }
+    ensures extends { Extends b.old b.new }
+{
+    let mut nets = Seq::new(alloc);
+    for i in 0..pipe.start().len() {
+        let net = begin_argument(b, pipe, shared, earlier, regs, i)?;
+        nets.push(net)?;
     }
+    Ok(nets)
+}
 
-    // The variables of the stage after these.
-    fn begin_vars(
-        &mut self,
-        b: &mut Builder,
-        pipe: &FlatPipe,
-        shared: &Shared,
-        before: &[StageNets],
-    ) -> Result<(), NoMemory>
-        requires typed { IsTypedForm (form pipe.now) }
-        requires shared { IsShared b.old (form pipe.now) shared.now }
-        requires before { AreEnded b.old (form pipe.now)
-            (signals_in b.old shared.now.next) before.now }
-        requires stage { length before.now < length (form pipe.now).pipe.stages }
-        requires frame { IsFrame b.old (form pipe.now) (signals_in b.old shared.now.next)
-            (length before.now) self.old }
-        requires own { AreOwn (form pipe.now) (length before.now) self.old }
-        requires none { self.old.vars ≡ [] }
-        ensures frame { OnOk result (IsFrame b.new (form pipe.now)
-            (signals_in b.old shared.now.next) (length before.now) self.new) }
-        ensures own { OnOk result (AreOwn (form pipe.now) (length before.now) self.new) }
-        ensures vars { OnOk result (HasVars b.old b.new (form pipe.now)
-            (signals_in b.old shared.now.next) before.now (length before.now) self.new) }
-        ensures place { OnOk result (self.new.valid ≡ self.old.valid) }
-        ensures held { OnOk result (self.new.held ≡ self.old.held) }
-        ensures tickets { OnOk result (self.new.tickets ≡ self.old.tickets) }
-        ensures end { OnOk result (self.new.end ≡ self.old.end) }
-        ensures extends { Extends b.old b.new }
-    {
-        for x in 0..pipe.vars() {
-            let net = self.begin_var(b, pipe, shared, before, x)?;
-            self.vars.push(net)?;
-        }
-        Ok(())
+// The variables with the answers of this cycle.
+fn begin_answers(
+    alloc: Global,
+    b: &mut Builder,
+    pipe: &FlatPipe,
+    shared: &Shared<'_>,
+    stage: usize,
+    vars: &[Net],
+) -> Result<Seq<Net>, NoMemory>
+    requires shared { IsShared b.old (form pipe.now) shared.now }
+    requires vars { NetsThere b.old vars.now }
+    requires wide { widths_of (signals_in b.old vars.now) ≡ (form pipe.now).widths }
+    requires reads { BindWords (form pipe.now) }
+    ensures answered { IfOk result (λ xs. AreAnswered b.new (form pipe.now)
+        (answers_in b.old shared.now.ports.now) stage vars.now xs) }
+    ensures extends { Extends b.old b.new }
+    ensures regs { b.new.regs ≡ b.old.regs }
+{
+    let mut nets = Seq::new(alloc);
+    for x in 0..vars.len() {
+        let kept = variable(b, vars, x);
+        let net = with_answers(b, pipe, shared.ports, stage, x, kept)?;
+        nets.push(net)?;
     }
+    Ok(nets)
+}
 
-    // The ticket of a memory's lock, of which `next` is the next one.
-    fn begin_ticket(
-        &mut self,
-        b: &mut Builder,
-        pipe: &FlatPipe,
-        stage: usize,
-        mem: usize,
-        next: Net,
-    ) -> Result<Net, NoMemory>
-        requires low { mem < length (form pipe.now).pipe.mems }
-        requires reserves { length (form pipe.now).pipe.reserves_at
-            ≡ length (form pipe.now).pipe.mems }
-        requires releases { length (form pipe.now).pipe.releases_at
-            ≡ length (form pipe.now).pipe.mems }
-        requires next { IsThere b.old next }
-        requires last { end_of self.old ≡ length b.old.regs }
-        ensures may { IfOk result (λ net.
-            MayAdd b.new self.old self.new (Ticket mem) (signal b.old next).width 0 net (λ g.
-            (goes_with (form pipe.now).pipe stage mem ≡ false) × (g ≡ signal b.old next))) }
-        ensures next { goes_with (form pipe.now).pipe stage mem ≡ false →
-            IfOk result (λ net. signal b.new net ≡ signal b.old next) }
-        ensures own { goes_with (form pipe.now).pipe stage mem ≡ false →
-            OnOk result (self.new ≡ self.old) }
-        ensures last { OnOk result (end_of self.new ≡ length b.new.regs) }
-        ensures extends { Extends b.old b.new }
-    {
-        if keeps_ticket(pipe, stage, mem) {
-            let width = b.width(next);
-            self.keep(b, Item::Ticket(mem), width, 0)
-        } else {
-            Ok(next)
-        }
-    }
-
-    // The tickets of all locks.
-    fn begin_tickets(
-        &mut self,
-        b: &mut Builder,
-        pipe: &FlatPipe,
-        shared: &Shared,
-        before: &[StageNets],
-    ) -> Result<(), NoMemory>
-        requires shared { IsShared b.old (form pipe.now) shared.now }
-        requires reserves { length (form pipe.now).pipe.reserves_at
-            ≡ length (form pipe.now).pipe.mems }
-        requires releases { length (form pipe.now).pipe.releases_at
-            ≡ length (form pipe.now).pipe.mems }
-        requires frame { IsFrame b.old (form pipe.now) (signals_in b.old shared.now.next)
-            (length before.now) self.old }
-        requires own { AreOwn (form pipe.now) (length before.now) self.old }
-        requires none { self.old.tickets ≡ [] }
-        ensures frame { OnOk result (IsFrame b.new (form pipe.now)
-            (signals_in b.old shared.now.next) (length before.now) self.new) }
-        ensures own { OnOk result (AreOwn (form pipe.now) (length before.now) self.new) }
-        ensures tickets { OnOk result (HasTicketNets b.old b.new (form pipe.now)
-            (signals_in b.old shared.now.next) before.now (length before.now) self.new) }
-        ensures longer { OnOk result (IsLonger self.old self.new) }
-        ensures end { OnOk result (self.new.end ≡ self.old.end) }
-        ensures extends { Extends b.old b.new }
-    {
-        for m in 0..shared.next.len() {
-            let next = variable(b, shared.next.as_slice(), m);
-            let net = self.begin_ticket(b, pipe, before.len(), m, next)?;
-            self.tickets.push(net)?;
-        }
-        Ok(())
-    }
-
-    // The walk over the statements begins with what the stage begins with.
-    fn begin_walk(&mut self, alloc: Global, zeros: &[Net], params: usize) -> Result<(), NoMemory>
-        requires { params ≤ length zeros.now }
-        ensures { OnOk result (IsReady zeros.now params self.old self.new) }
-    {
-        self.end.vars = Vec::from_slice(alloc, self.vars.as_slice())?;
-        self.end.held = Vec::from_slice(alloc, self.held.as_slice())?;
-        let guess = Vec::from_slice(alloc, &zeros[..params])?;
-        self.end.guess = Seq::from_vec(guess);
-        Ok(())
-    }
-
-    // What a bare stage begins with after these, with registers for what its thread keeps.
-    fn begin_parts(
-        &mut self,
-        alloc: Global,
-        b: &mut Builder,
-        pipe: &FlatPipe,
-        shared: &Shared,
-        before: &[StageNets],
-    ) -> Result<(), NoMemory>
-        requires typed { IsTypedForm (form pipe.now) }
-        requires shared { IsShared b.old (form pipe.now) shared.now }
-        requires before { AreEnded b.old (form pipe.now)
-            (signals_in b.old shared.now.next) before.now }
-        requires stage { length before.now < length (form pipe.now).pipe.stages }
-        requires reserves { length (form pipe.now).pipe.reserves_at
-            ≡ length (form pipe.now).pipe.mems }
-        requires releases { length (form pipe.now).pipe.releases_at
-            ≡ length (form pipe.now).pipe.mems }
-        requires bare { IsBare self.old.valid shared.now.bits self.old }
-        requires frame { IsFrame b.old (form pipe.now) (signals_in b.old shared.now.next)
-            (length before.now) self.old }
-        ensures begun { OnOk result (IsBegun b.new (form pipe.now)
-            (signals_in b.old shared.now.next) before.now (length before.now) self.new) }
-        ensures own { OnOk result (AreOwn (form pipe.now) (length before.now) self.new) }
-        ensures walk { OnOk result (IsWalk b.new (form pipe.now).pipe
-            (form pipe.now).widths self.new.end) }
-        ensures place { OnOk result (self.new.valid ≡ self.old.valid) }
-        ensures extends { Extends b.old b.new }
-    {
-        self.begin_vars(b, pipe, shared, before)?;
-        self.begin_helds(b, pipe, shared, before)?;
-        self.begin_tickets(b, pipe, shared, before)?;
-        self.begin_walk(alloc, shared.zeros.as_slice(), pipe.start().len())?;
-        Ok(())
-    }
+// The walk over the statements, before the first one.
+fn begin_walk(
+    alloc: Global,
+    bits: Bits,
+    vars: &[Net],
+    held: &[HeldNet],
+    guess: &[Net],
+) -> Result<WalkNets, NoMemory>
+    ensures { IfOk result (λ w. IsFresh bits vars.now held.now guess.now w) }
+{
+    Ok(WalkNets {
+        vars: Vec::from_slice(alloc, vars)?,
+        held: Vec::from_slice(alloc, held)?,
+        ready: bits.one,
+        reserves: Seq::new(alloc),
+        puts: Seq::new(alloc),
+        lettings: Seq::new(alloc),
+        births: Vec::new(alloc),
+        asks: Seq::new(alloc),
+        guess: Seq::from_vec(Vec::from_slice(alloc, guess)?),
+        fails: bits.zero,
+        barrier: bits.zero,
+    })
 }
 
 /// The stage after these, before its statements: at reset the first one holds the first thread with its arguments, and another none.
@@ -365,26 +303,45 @@ pub fn begin(
     alloc: Global,
     b: &mut Builder,
     pipe: &FlatPipe,
-    shared: &Shared,
-    before: &[StageNets],
+    shared: &Shared<'_>,
+    earlier: &Earlier<'_>,
 ) -> Result<StageNets, NoMemory>
     requires typed { IsTypedForm (form pipe.now) }
+    requires reads { BindWords (form pipe.now) }
     requires shared { IsShared b.old (form pipe.now) shared.now }
-    requires before { AreEnded b.old (form pipe.now) (signals_in b.old shared.now.next) before.now }
-    requires stage { length before.now < length (form pipe.now).pipe.stages }
+    requires earlier { IsEarlier b.old (form pipe.now)
+        (signals_in b.old shared.now.next) earlier.now }
+    requires stage { earlier_count earlier.now < length (form pipe.now).pipe.stages }
     requires reserves { length (form pipe.now).pipe.reserves_at ≡ length (form pipe.now).pipe.mems }
     requires releases { length (form pipe.now).pipe.releases_at ≡ length (form pipe.now).pipe.mems }
     ensures begun { IfOk result (λ s.
-        IsBegun b.new (form pipe.now) (signals_in b.old shared.now.next) before.now
-        (length before.now) s) }
-    ensures own { IfOk result (λ s. AreOwn (form pipe.now) (length before.now) s) }
-    ensures walk { IfOk result (λ s.
-        IsWalk b.new (form pipe.now).pipe (form pipe.now).widths s.end) }
-    ensures place { IfOk result (λ s. s.valid ≡ length b.old.regs) }
+        IsBegun b.new (form pipe.now) (signals_in b.old shared.now.next)
+        (answers_in b.old shared.now.ports.now) (earlier_views b.old earlier.now)
+        (earlier_count earlier.now) s) }
+    ensures place { IfOk result (λ s. s.regs.valid ≡ length b.old.regs) }
     ensures extends { Extends b.old b.new }
 {
-    let reset = if before.is_empty() { 1 } else { 0 };
-    let mut s = bare(alloc, b, shared.bits, reset)?;
-    s.begin_parts(alloc, b, pipe, shared, before)?;
-    Ok(s)
+    let stage = earlier.stages.len();
+    let mut regs = Kept::new(alloc, b, u64::from(stage == 0))?;
+    let vars = begin_vars(alloc, b, pipe, shared, earlier, &mut regs)?;
+    let held = begin_helds(alloc, b, pipe, shared, earlier, &mut regs)?;
+    let tickets = begin_tickets(alloc, b, pipe, shared, stage, &mut regs)?;
+    let guess = begin_guess(alloc, b, pipe, shared, earlier, &mut regs)?;
+    let begun = begin_answers(alloc, b, pipe, shared, stage, vars.as_slice())?;
+    let end = begin_walk(
+        alloc,
+        shared.bits,
+        begun.as_slice(),
+        held.as_slice(),
+        guess.as_slice(),
+    )?;
+    Ok(StageNets {
+        regs,
+        vars,
+        begun,
+        held,
+        tickets,
+        guess,
+        end,
+    })
 }

@@ -1,25 +1,21 @@
 // What a stage begins with as held.
-ghost use Rattle.std.specs.Prelude.{◌≡◌, ◌<◌, [], IfOk, OnOk, length, slice_index_or};
+ghost use Rattle.std.specs.Prelude.{◌≡◌, ◌<◌, ◌≤◌, IfOk, OnOk, length, slice_index_or};
 ghost use Rattle.pdl_form.specs.Whole.{form};
-ghost use Rattle.pdl_net.specs.Meaning.{IsThere, signal};
 ghost use Rattle.pdl_net.specs.Growth.{Extends};
 ghost use Rattle.pdl_flatnets.specs.Nets.{signals_in};
-ghost use Rattle.pdl_flatnets.specs.Conditions.{AreBits};
-ghost use Rattle.pdl_stagenets.specs.Sized.{IsWalk};
-ghost use Rattle.pdl_stageregs.specs.declared.nets.Item.TheVariants.{Held};
-ghost use Rattle.pdl_stageregs.specs.Items.{IsSameConstant};
+ghost use Rattle.pdl_word.specs.Each.{Each};
 ghost use Rattle.pdl_stageregs.specs.Stages.{end_of, IsFrame, AreOwn};
-ghost use Rattle.pdl_stageregs.specs.Begun.{is_listed as is_listed_in, IsShared, AreEnded, MayAdd, AddsHeld, GainsHeld, HasHeld, HasHeldAfter};
+ghost use Rattle.pdl_stageregs.specs.Begun.{is_listed as is_listed_in, earlier_views, earlier_count, IsShared, IsEarlier, IsLonger, AreStillListed, AreHeldBegun, HasAllHeld, AddsHeld};
 
-use crate::entry::is_fixed;
-use crate::nets::{Item, Shared, StageNets};
+use crate::entry::begin_item;
+use crate::nets::{Earlier, Item, Kept, Shared};
+use crate::registers::stage_at;
 use pdl_build::Builder;
-use pdl_flatnets::Bits;
 use pdl_form::FlatPipe;
-use pdl_kit::NoMemory;
+use pdl_kit::{NoMemory, Seq};
 use pdl_lives::held_from;
-use pdl_net::Net;
 use pdl_stagenets::HeldNet;
+use std::alloc::Global;
 
 // Whether a location is among these.
 fn is_listed(held: &[HeldNet], mem: usize, var: usize) -> bool
@@ -33,6 +29,38 @@ fn is_listed(held: &[HeldNet], mem: usize, var: usize) -> bool
     false
 }
 
+// A location that may come here as held, once, where a statement from here on asks for it.
+fn push_held(
+    b: &mut Builder,
+    pipe: &FlatPipe,
+    shared: &Shared<'_>,
+    earlier: &Earlier<'_>,
+    regs: &mut Kept,
+    held: &mut Seq<HeldNet>,
+    mem: usize,
+    var: usize,
+) -> Result<(), NoMemory>
+    requires shared { IsShared b.old (form pipe.now) shared.now }
+    requires earlier { IsEarlier b.old (form pipe.now)
+        (signals_in b.old shared.now.next) earlier.now }
+    requires after { 0 < earlier_count earlier.now }
+    requires last { end_of regs.old ≡ length b.old.regs }
+    ensures adds { OnOk result (AddsHeld b.new (form pipe.now)
+        (signals_in b.old shared.now.next) (earlier_views b.old earlier.now)
+        (earlier_count earlier.now) mem var regs.old held.old regs.new held.new) }
+    ensures last { OnOk result (end_of regs.new ≡ length b.new.regs) }
+    ensures extends { Extends b.old b.new }
+{
+    let stage = earlier.stages.len();
+    if is_listed(held.as_slice(), mem, var) || !held_from(pipe, stage, mem, var) {
+        return Ok(());
+    }
+    let item = Item::Held { mem, var };
+    let net = begin_item(b, pipe, shared, earlier, regs, item, 1, shared.bits.zero)?;
+    held.push(HeldNet { mem, var, net })?;
+    Ok(())
+}
+
 // The location of a number.
 fn entry_of(held: &[HeldNet], i: usize) -> HeldNet
     requires { i < length held.now }
@@ -41,120 +69,75 @@ fn entry_of(held: &[HeldNet], i: usize) -> HeldNet
     held[i]
 }
 
-impl StageNets {
-    // A location that comes as `net`, in a register unless that never changes.
-    fn begin_held(
-        &mut self,
-        b: &mut Builder,
-        bits: Bits,
-        mem: usize,
-        var: usize,
-        net: Net,
-    ) -> Result<Net, NoMemory>
-        requires bits { AreBits b.old bits }
-        requires there { IsThere b.old net }
-        requires one { (signal b.old net).width ≡ 1 }
-        requires last { end_of self.old ≡ length b.old.regs }
-        ensures may { IfOk result (λ y.
-            MayAdd b.new self.old self.new (Held mem var) 1 0 y
-            (IsSameConstant (signal b.old net))) }
-        ensures last { OnOk result (end_of self.new ≡ length b.new.regs) }
-        ensures extends { Extends b.old b.new }
-    {
-        if is_fixed(b, bits, bits.zero, net) {
-            Ok(net)
-        } else {
-            self.keep(b, Item::Held { mem, var }, 1, 0)
-        }
+// The locations that a thread may come with as held out of stage j.
+fn push_helds(
+    b: &mut Builder,
+    pipe: &FlatPipe,
+    shared: &Shared<'_>,
+    earlier: &Earlier<'_>,
+    regs: &mut Kept,
+    held: &mut Seq<HeldNet>,
+    j: usize,
+) -> Result<(), NoMemory>
+    requires shared { IsShared b.old (form pipe.now) shared.now }
+    requires earlier { IsEarlier b.old (form pipe.now)
+        (signals_in b.old shared.now.next) earlier.now }
+    requires low { j < earlier_count earlier.now }
+    requires frame { IsFrame b.old (form pipe.now) (signals_in b.old shared.now.next)
+        (earlier_count earlier.now) regs.old }
+    requires own { AreOwn (form pipe.now) (earlier_count earlier.now) regs.old }
+    requires begun { AreHeldBegun b.old (form pipe.now) (signals_in b.old shared.now.next)
+        (earlier_views b.old earlier.now) (earlier_count earlier.now) regs.old held.old }
+    ensures frame { OnOk result (IsFrame b.new (form pipe.now)
+        (signals_in b.old shared.now.next) (earlier_count earlier.now) regs.new) }
+    ensures own { OnOk result (AreOwn (form pipe.now) (earlier_count earlier.now) regs.new) }
+    ensures longer { OnOk result (IsLonger regs.old regs.new) }
+    ensures begun { OnOk result (AreHeldBegun b.new (form pipe.now)
+        (signals_in b.old shared.now.next) (earlier_views b.old earlier.now)
+        (earlier_count earlier.now) regs.new held.new) }
+    ensures more { OnOk result (AreStillListed held.old held.new) }
+    ensures whole { OnOk result (HasAllHeld (form pipe.now).pipe (earlier_count earlier.now)
+        (earlier_views b.old earlier.now j) held.new) }
+    ensures extends { Extends b.old b.new }
+{
+    let from = stage_at(earlier, j);
+    for i in 0..from.end.held.len() {
+        let h = entry_of(from.end.held.as_slice(), i);
+        push_held(b, pipe, shared, earlier, regs, held, h.mem, h.var)?;
     }
+    Ok(())
+}
 
-    // A location that the stage before has held, once, where a statement still asks for it.
-    fn next_held(
-        &mut self,
-        b: &mut Builder,
-        pipe: &FlatPipe,
-        bits: Bits,
-        before: &StageNets,
-        stage: usize,
-        mem: usize,
-        var: usize,
-    ) -> Result<(), NoMemory>
-        requires bits { AreBits b.old bits }
-        requires walk { IsWalk b.old (form pipe.now).pipe (form pipe.now).widths before.now.end }
-        requires last { end_of self.old ≡ length b.old.regs }
-        ensures next { OnOk result (AddsHeld b.old b.new
-            (form pipe.now).pipe stage before.now self.old self.new mem var) }
-        ensures last { OnOk result (end_of self.new ≡ length b.new.regs) }
-        ensures extends { Extends b.old b.new }
-    {
-        if is_listed(self.held.as_slice(), mem, var) || !held_from(pipe, stage, mem, var) {
-            return Ok(());
-        }
-        let net = before.end.is_held(b, bits, mem, var);
-        let net = self.begin_held(b, bits, mem, var, net)?;
-        self.held.push(HeldNet { mem, var, net })?;
-        Ok(())
+/// The locations that a thread may come with as held into a stage.
+pub(crate) fn begin_helds(
+    alloc: Global,
+    b: &mut Builder,
+    pipe: &FlatPipe,
+    shared: &Shared<'_>,
+    earlier: &Earlier<'_>,
+    regs: &mut Kept,
+) -> Result<Seq<HeldNet>, NoMemory>
+    requires shared { IsShared b.old (form pipe.now) shared.now }
+    requires earlier { IsEarlier b.old (form pipe.now)
+        (signals_in b.old shared.now.next) earlier.now }
+    requires frame { IsFrame b.old (form pipe.now) (signals_in b.old shared.now.next)
+        (earlier_count earlier.now) regs.old }
+    requires own { AreOwn (form pipe.now) (earlier_count earlier.now) regs.old }
+    ensures frame { OnOk result (IsFrame b.new (form pipe.now)
+        (signals_in b.old shared.now.next) (earlier_count earlier.now) regs.new) }
+    ensures own { OnOk result (AreOwn (form pipe.now) (earlier_count earlier.now) regs.new) }
+    ensures longer { OnOk result (IsLonger regs.old regs.new) }
+    ensures begun { IfOk result (λ hs. AreHeldBegun b.new (form pipe.now)
+        (signals_in b.old shared.now.next) (earlier_views b.old earlier.now)
+        (earlier_count earlier.now) regs.new hs) }
+    ensures whole { IfOk result (λ hs. Each (λ j.
+        HasAllHeld (form pipe.now).pipe (earlier_count earlier.now)
+        (earlier_views b.old earlier.now j) hs) earlier.now.ways.now) }
+    ensures extends { Extends b.old b.new }
+{
+    let mut held = Seq::new(alloc);
+    for j in earlier.ways {
+        push_helds(b, pipe, shared, earlier, regs, &mut held, *j)?;
     }
-
-    // The locations that a thread may come with as held out of this stage.
-    fn next_helds(
-        &mut self,
-        b: &mut Builder,
-        pipe: &FlatPipe,
-        shared: &Shared,
-        before: &StageNets,
-        stage: usize,
-    ) -> Result<(), NoMemory>
-        requires shared { IsShared b.old (form pipe.now) shared.now }
-        requires walk { IsWalk b.old (form pipe.now).pipe (form pipe.now).widths before.now.end }
-        requires after { 0 < stage }
-        requires frame { IsFrame b.old (form pipe.now)
-            (signals_in b.old shared.now.next) stage self.old }
-        requires own { AreOwn (form pipe.now) stage self.old }
-        requires none { self.old.held ≡ [] }
-        ensures frame { OnOk result (IsFrame b.new (form pipe.now)
-            (signals_in b.old shared.now.next) stage self.new) }
-        ensures own { OnOk result (AreOwn (form pipe.now) stage self.new) }
-        ensures held { OnOk result (HasHeldAfter b.old b.new (form pipe.now)
-            (signals_in b.old shared.now.next) stage before.now self.new) }
-        ensures gains { OnOk result (GainsHeld self.old self.new) }
-        ensures extends { Extends b.old b.new }
-    {
-        for i in 0..before.end.held.len() {
-            let h = entry_of(before.end.held.as_slice(), i);
-            self.next_held(b, pipe, shared.bits, before, stage, h.mem, h.var)?;
-        }
-        Ok(())
-    }
-
-    /// The locations that a thread may come with as held, after these stages: none in the first.
-    pub fn begin_helds(
-        &mut self,
-        b: &mut Builder,
-        pipe: &FlatPipe,
-        shared: &Shared,
-        before: &[StageNets],
-    ) -> Result<(), NoMemory>
-        requires shared { IsShared b.old (form pipe.now) shared.now }
-        requires before { AreEnded b.old (form pipe.now)
-            (signals_in b.old shared.now.next) before.now }
-        requires frame { IsFrame b.old (form pipe.now) (signals_in b.old shared.now.next)
-            (length before.now) self.old }
-        requires own { AreOwn (form pipe.now) (length before.now) self.old }
-        requires none { self.old.held ≡ [] }
-        ensures frame { OnOk result (IsFrame b.new (form pipe.now)
-            (signals_in b.old shared.now.next) (length before.now) self.new) }
-        ensures own { OnOk result (AreOwn (form pipe.now) (length before.now) self.new) }
-        ensures held { OnOk result (HasHeld b.old b.new (form pipe.now)
-            (signals_in b.old shared.now.next) before.now (length before.now) self.new) }
-        ensures gains { OnOk result (GainsHeld self.old self.new) }
-        ensures extends { Extends b.old b.new }
-    {
-        if before.is_empty() {
-            Ok(())
-        } else {
-            let last = &before[before.len() - 1];
-            self.next_helds(b, pipe, shared, last, before.len())
-        }
-    }
+    Ok(held)
 }

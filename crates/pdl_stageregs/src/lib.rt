@@ -1,18 +1,16 @@
-//! The registers of a pipe's stages, which threads move, and what comes into each stage.
+//! The registers of a pipe's stages, and what each stage begins with: its variables with the answers of a cycle, held locations, tickets and the guess.
 //!
-//! The layer above may use `line`, whose stages are those of the law in each later netlist that leaves their registers alone.
+//! The layer above may use `stages`, each with its nets after its statements, and `ended`.
 #![tactic(auto)]
 
-pub mod births;
 pub mod entry;
 pub mod helds;
-pub mod moving;
 pub mod nets;
-pub mod nexts;
+pub mod registers;
 pub mod tickets;
+pub mod ways;
 pub mod whole;
 
-pub use moving::{MoveNets, stages_moving};
-pub use nets::{Item, StageNets};
-pub use nexts::connect;
-pub use whole::{LineNets, line, stages};
+pub use nets::{Earlier, Item, Kept, Shared, StageNets};
+pub use registers::ended;
+pub use whole::stages;

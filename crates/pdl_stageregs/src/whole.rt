@@ -1,41 +1,34 @@
-// All stages of a pipe whose stages stand in a line.
-ghost use Rattle.std.specs.Prelude.{◌≡◌, ◌<◌, ◌≤◌, ◌++◌, ◌∷◌, [], ℕ, IfOk, OnOk, length, map, slice_index_or};
+// All stages of a pipe, one after the other.
+ghost use Rattle.std.specs.Prelude.{◌≡◌, ◌<◌, ◌≤◌, ◌++◌, ◌∷◌, [], IfOk, OnOk, length, map};
 ghost use Rattle.pdl_form.specs.Whole.{form};
-ghost use Rattle.pdl_net.specs.Growth.{Extends, ExtendsBut};
+ghost use Rattle.pdl_net.specs.Growth.{Extends};
 ghost use Rattle.pdl_flatnets.specs.Nets.{NetsThere, signals_in};
 ghost use Rattle.pdl_flatnets.specs.Conditions.{AreBits};
-ghost use Rattle.pdl_formtypes.specs.Stmts.{IsTypedForm};
+ghost use Rattle.pdl_formtypes.specs.Stmts.{IsTypedForm, AreWidths};
 ghost use Rattle.pdl_stagenets.specs.Locked.{members, AreLocked, locks_in};
 ghost use Rattle.pdl_stagenets.specs.Sized.{AreWalked};
-ghost use Rattle.pdl_stageregs.specs.Stages.{zero_signal, end_of, AreOwn};
-ghost use Rattle.pdl_stageregs.specs.Begun.{IsShared, AreEnded};
-ghost use Rattle.pdl_stageregs.specs.Staged.{IsStaged, AreStaged, AreApart, IsPlainLine, IsLine, Lasting, MeetsLaw, next_signals};
-ghost use Rattle.pdl_stageregs.specs.Comes.{regs_of};
+ghost use Rattle.pdl_answernets.specs.Ports.{HasAnswers, answers_in};
+ghost use Rattle.pdl_stageregs.specs.Stages.{zero_signal, end_of};
+ghost use Rattle.pdl_stageregs.specs.Begun.{IsShared, AreEnded, BindWords};
+ghost use Rattle.pdl_stageregs.specs.Staged.{IsStaged, AreStaged, AreApart, next_signals};
 
 use crate::entry::begin;
-use crate::moving::{MoveNets, stages_moving};
-use crate::nets::{Shared, StageNets};
-use crate::nexts::connect;
+use crate::nets::{Earlier, Shared, StageNets};
 use crate::tickets::next_tickets;
+use crate::ways::ways_into;
 use pdl_build::Builder;
 use pdl_flatnets::Bits;
 use pdl_form::FlatPipe;
 use pdl_kit::{NoMemory, Seq};
 use pdl_lockapi::LockModule;
 use pdl_net::Net;
+use pdl_port::PortRegs;
 use pdl_stagenets::{MemLock, Setting};
 use std::alloc::Global;
 
-/// The stages of a pipe, and whether their threads move.
-#[derive(Drop)]
-pub struct LineNets {
-    pub stages: Vec<StageNets>,
-    pub moves: Vec<MoveNets>,
-}
-
 // A zero of the width of each variable.
 fn zeros(alloc: Global, b: &mut Builder, pipe: &FlatPipe) -> Result<Seq<Net>, NoMemory>
-    requires { IsTypedForm (form pipe.now) }
+    requires wide { AreWidths (form pipe.now).widths }
     ensures there { IfOk result (λ xs. NetsThere b.new xs) }
     ensures means { IfOk result (λ xs.
         signals_in b.new xs ≡ map zero_signal (form pipe.now).widths) }
@@ -54,11 +47,12 @@ fn stage<L: LockModule>(
     alloc: Global,
     b: &mut Builder,
     pipe: &FlatPipe,
-    shared: &Shared,
+    shared: &Shared<'_>,
     locks: &[Option<MemLock<L>>],
     before: &[StageNets],
 ) -> Result<StageNets, NoMemory>
     requires typed { IsTypedForm (form pipe.now) }
+    requires reads { BindWords (form pipe.now) }
     requires walked { AreWalked (form pipe.now) (form pipe.now).pipe.stmts }
     requires shared { IsShared b.old (form pipe.now) shared.now }
     requires locks { AreLocked (members L.LockModule) b.old (form pipe.now).pipe locks.now }
@@ -69,13 +63,19 @@ fn stage<L: LockModule>(
     requires releases { length (form pipe.now).pipe.releases_at ≡ length (form pipe.now).pipe.mems }
     ensures staged { IfOk result (λ s.
         IsStaged b.new (form pipe.now) (signals_in b.old shared.now.next)
-        (locks_in (members L.LockModule) (form pipe.now).pipe b.old locks.now) before.now (length before.now) s) }
-    ensures own { IfOk result (λ s. AreOwn (form pipe.now) (length before.now) s) }
-    ensures place { IfOk result (λ s. s.valid ≡ length b.old.regs) }
-    ensures last { IfOk result (λ s. end_of s ≤ length b.new.regs) }
+        (answers_in b.old shared.now.ports.now)
+        (locks_in (members L.LockModule) (form pipe.now).pipe b.old locks.now) before.now
+        (length before.now) s) }
+    ensures place { IfOk result (λ s. s.regs.valid ≡ length b.old.regs) }
+    ensures last { IfOk result (λ s. end_of s.regs ≤ length b.new.regs) }
     ensures extends { Extends b.old b.new }
 {
-    let mut s = begin(alloc, b, pipe, shared, before)?;
+    let ways = ways_into(alloc, pipe, before.len())?;
+    let earlier = Earlier {
+        stages: before,
+        ways: ways.as_slice(),
+    };
+    let mut s = begin(alloc, b, pipe, shared, &earlier)?;
     let tickets = s.tickets.as_slice();
     let setting = Setting {
         pipe,
@@ -95,26 +95,28 @@ fn append<T: Drop>(items: &mut Vec<T>, item: T) -> Result<(), NoMemory>
     Ok(())
 }
 
-/// The stages of a pipe, one after the other.
+/// The stages of a pipe, one after the other, round these locks and ports.
 pub fn stages<L: LockModule>(
     alloc: Global,
     b: &mut Builder,
     pipe: &FlatPipe,
     bits: Bits,
     locks: &[Option<MemLock<L>>],
+    ports: &[Option<PortRegs>],
 ) -> Result<Vec<StageNets>, NoMemory>
     requires typed { IsTypedForm (form pipe.now) }
+    requires reads { BindWords (form pipe.now) }
     requires walked { AreWalked (form pipe.now) (form pipe.now).pipe.stmts }
     requires bits { AreBits b.old bits }
     requires locks { AreLocked (members L.LockModule) b.old (form pipe.now).pipe locks.now }
+    requires ports { HasAnswers b.old (form pipe.now).pipe ports.now }
     requires reserves { length (form pipe.now).pipe.reserves_at ≡ length (form pipe.now).pipe.mems }
     requires releases { length (form pipe.now).pipe.releases_at ≡ length (form pipe.now).pipe.mems }
     ensures count { IfOk result (λ ss. length ss.items ≡ length (form pipe.now).pipe.stages) }
     ensures staged { IfOk result (λ ss.
         AreStaged b.new (form pipe.now) (next_signals b.old locks.now)
+        (answers_in b.old ports.now)
         (locks_in (members L.LockModule) (form pipe.now).pipe b.old locks.now) ss.items) }
-    ensures own { IfOk result (λ ss. (k : ℕ) (s : StageNets) → k < length ss.items →
-        slice_index_or ss.items k s ≡ s → AreOwn (form pipe.now) k s) }
     ensures apart { IfOk result (λ ss. AreApart (length b.old.regs) (length b.new.regs) ss.items) }
     ensures extends { Extends b.old b.new }
 {
@@ -124,6 +126,7 @@ pub fn stages<L: LockModule>(
         bits,
         zeros: blank,
         next,
+        ports,
     };
     let mut stages = Vec::new(alloc);
     let line = pipe.stages();
@@ -132,39 +135,4 @@ pub fn stages<L: LockModule>(
         append(&mut stages, s)?;
     }
     Ok(stages)
-}
-
-/// The stages of a pipe in line, who moves, and what their registers take next: the stages of the law.
-pub fn line<L: LockModule>(
-    alloc: Global,
-    b: &mut Builder,
-    pipe: &FlatPipe,
-    bits: Bits,
-    locks: &[Option<MemLock<L>>],
-) -> Result<LineNets, NoMemory>
-    requires typed { IsTypedForm (form pipe.now) }
-    requires walked { AreWalked (form pipe.now) (form pipe.now).pipe.stmts }
-    requires plain { IsPlainLine (form pipe.now).pipe }
-    requires bits { AreBits b.old bits }
-    requires locks { AreLocked (members L.LockModule) b.old (form pipe.now).pipe locks.now }
-    requires reserves { length (form pipe.now).pipe.reserves_at ≡ length (form pipe.now).pipe.mems }
-    requires releases { length (form pipe.now).pipe.releases_at ≡ length (form pipe.now).pipe.mems }
-    ensures line { IfOk result (λ x.
-        IsLine b.new (form pipe.now) (next_signals b.old locks.now)
-        (locks_in (members L.LockModule) (form pipe.now).pipe b.old locks.now) x.stages.items x.moves.items) }
-    ensures law { IfOk result (λ x.
-        Lasting (length b.old.regs) b.new
-        (MeetsLaw (form pipe.now).pipe
-        (locks_in (members L.LockModule) (form pipe.now).pipe b.old locks.now) x.stages.items x.moves.items b.new)) }
-    ensures extends { ExtendsBut (regs_of (length b.old.regs) (length b.new.regs)) b.old b.new }
-{
-    let all = stages(alloc, b, pipe, bits, locks)?;
-    let made = all.as_slice();
-    let gates = stages_moving(alloc, b, pipe, bits, made)?;
-    let moving = gates.as_slice();
-    connect(b, pipe, bits, made, moving)?;
-    Ok(LineNets {
-        stages: all,
-        moves: gates,
-    })
 }

@@ -7,8 +7,8 @@ use Rattle.pdl_net.proofs.Keeps.{extends_keeps, extends_trans}
 use Rattle.pdl_flatnets.specs.Nets.{NetsThere, signals_in}
 use Rattle.pdl_flatnets.proofs.NetLists.{there_keeps, signals_keep, net_more}
 use Rattle.pdl_stageregs.specs.Stages.{zero_signal}
-use Rattle.pdl_stageregs.proofs.InLine.{wide_low, wide_high}
-use Rattle.pdl_stageregs.proofs.VarsBegun.{signals_more}
+use Rattle.pdl_stageregs.proofs.Widths.{wide_low, wide_high}
+use Rattle.pdl_stageregs.proofs.Begins.{signals_more}
 use Rattle.pdl_stageregs.proofs.whole.zeros.Goals as goal
 
 pub constant-requires-clause-low : goal.constant-requires-clause-low

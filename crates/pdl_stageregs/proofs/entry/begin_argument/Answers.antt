@@ -1,0 +1,10 @@
+use Rattle.std.proofs.Common.{◌≤◌, ◌<◌, length, take, sym, subst, arith}
+use Rattle.pdl_form.specs.Whole.{form}
+use Rattle.pdl_stageregs.proofs.Widths.{wide_low, wide_high}
+use Rattle.pdl_stageregs.proofs.entry.begin_argument.Goals as goal
+
+pub begin_item-requires-clause-low : goal.begin_item-requires-clause-low
+begin_item-requires-clause-low c = subst (λ n. 1 ≤ n) (sym c.width.ensures) (wide_low (form c.args.pipe.now).widths c.args.i (let l = c.requires.low in let p = c.requires.typed.params in omega (arith, l, p)) c.requires.typed.wide)
+
+pub begin_item-requires-clause-high : goal.begin_item-requires-clause-high
+begin_item-requires-clause-high c = subst (λ n. n ≤ 64) (sym c.width.ensures) (wide_high (form c.args.pipe.now).widths c.args.i (let l = c.requires.low in let p = c.requires.typed.params in omega (arith, l, p)) c.requires.typed.wide)
