@@ -112,3 +112,12 @@ module _ (a b : Circuit) (e : Keeps a b) where
               → (if r.var == x then place_answer (Rattle.pdl_answernets.specs.Ports.port_answers b o) k (places p r) 0 rest else rest) ≡ (if r.var == x then place_answer (Rattle.pdl_answernets.specs.Ports.port_answers a o) k (places p r) 0 rest else rest)
           by None q = absurd q
           by (Some y) q = ap (λ (g : Signal). if r.var == x then g else rest) (place_same (mem_at p m).width y k (stage_at p r.stage).next rest q.0 q.1)
+
+  some_same : (p : Pipe) (ports : List (Option PortRegs)) (k x n m : ℕ) (rest : Signal) → HasAnswers a p ports → some_answer p (answers_in b ports) k x n m rest ≡ some_answer p (answers_in a ports) k x n m rest
+  some_same p ports k x zero m rest h = refl
+  some_same p ports k x (suc n) m rest h =
+      memory_same p ports k x m (some_answer p (answers_in b ports) k x n (suc m) rest) h ∙ ap (memory_answer p (answers_in a ports) k x m (reading p m)) (some_same p ports k x n (suc m) rest h)
+
+  -- a variable has the same answers
+  pub answer_same : (p : Pipe) (ports : List (Option PortRegs)) (k x : ℕ) (kept : Signal) → HasAnswers a p ports → with_answer p (answers_in b ports) k x kept ≡ with_answer p (answers_in a ports) k x kept
+  answer_same p ports k x kept h = some_same p ports k x (length p.mems) 0 kept h

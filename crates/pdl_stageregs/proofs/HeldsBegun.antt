@@ -219,3 +219,26 @@ all_held_more p k u hs xs still h m v need un = h m v need (at (is_listed hs m v
     at : (b : Bool) → is_listed hs m v ≡ b → is_listed hs m v ≡ false
     at true q = absurd (false≢true (sym un ∙ still m v q))
     at false q = q
+
+-- by other views that end alike
+pub helds_as : (c : Circuit) (f : Form) (nexts : List Signal) (us vs : ℕ → View) (k : ℕ) (r : Kept) (hs : List HeldNet) → ((m v j : ℕ) → j < k → ended_item (vs j) (Held m v) ≡ ended_item (us j) (Held m v)) → AreHeldBegun c f nexts us k r hs → AreHeldBegun c f nexts vs k r hs
+helds_as c f nexts us vs k r hs same h = record {
+  there = h.there;
+  one = h.one;
+  begun = λ m v q. by_weaker f nexts r (Held m v) _ (IsSettled f.pipe us k (Held m v)) (IsSettled f.pipe vs k (Held m v)) (λ z. settled_as f.pipe us vs k (Held m v) (held_of (map (held_in c) hs) m v) (same m v) z) (h.begun m v q);
+}
+
+pub helds_none : (c : Circuit) (f : Form) (nexts : List Signal) (us : ℕ → View) (k : ℕ) (r : Kept) → AreHeldBegun c f nexts us k r []
+helds_none c f nexts us k r = record { there = tt; one = tt; begun = λ m v q. absurd (false≢true q) }
+
+-- what is listed on the way from one circuit to the next
+pub helds_then : (a b c : Circuit) (f : Form) (nexts : List Signal) (us : ℕ → View) (k : ℕ) (r0 : Kept) (hs0 : List HeldNet) (r t : Kept) (hs xs : List HeldNet) → HeldsSoFar a b f nexts us k r0 hs0 r hs → Extends b c → IsFrame c f nexts k t → AreOwn f k t → IsLonger r t → AreHeldBegun c f nexts us k t xs → AreStillListed hs xs
+    → HeldsSoFar a c f nexts us k r0 hs0 t xs
+helds_then a b c f nexts us k r0 hs0 r t hs xs so bc frame own longer begun still = record {
+  extends = extends_trans a b c so.extends bc;
+  frame = frame;
+  own = own;
+  longer = longer_trans r0 r t so.longer longer;
+  begun = begun;
+  still = λ m v q. still m v (so.still m v q);
+}

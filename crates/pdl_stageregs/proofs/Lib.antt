@@ -5,3 +5,6 @@ pub mod Begins
 pub mod Settling
 pub mod HeldsBegun
 pub mod TicketsMade
+pub mod WaysMade
+pub mod ReadWords
+pub mod BeginMade

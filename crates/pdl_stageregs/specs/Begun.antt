@@ -24,7 +24,7 @@ use Rattle.pdl_stagenets.specs.declared.nets.WalkNets.{WalkNets}
 use Rattle.pdl_lives.specs.Needs.{goes_with}
 use Rattle.pdl_port.specs.Laws.{AnswerSignals}
 use Rattle.pdl_sides.specs.Sides.{with_answer}
-use Rattle.pdl_answernets.specs.Ports.{HasAnswers, BindsWide}
+use Rattle.pdl_answernets.specs.Ports.{HasAnswers}
 use Rattle.pdl_stageregs.specs.declared.nets.Item.{Item}
 use Rattle.pdl_stageregs.specs.declared.nets.Item.TheVariants.{Var, Held, Ticket, Guess}
 use Rattle.pdl_stageregs.specs.declared.nets.Kept.{Kept}
@@ -153,10 +153,6 @@ AddsHeld c f nexts us k m v r hs r' hs' =
 -- where a thread has no ticket of its own it is the next one
 abbrev pub AreNextTickets : Circuit → Pipe → List Signal → ℕ → List Net → Type 0
 AreNextTickets c p nexts k xs = (m : ℕ) → m < length p.mems → goes_with p k m ≡ false → signal_at (signals_in c xs) m ≡ signal_at nexts m
-
--- the words of a delayed read's memory are as wide as the variable that it binds
-abbrev pub BindWords : Form → Type 0
-BindWords f = (x m : ℕ) → x < length f.widths → BindsWide f.pipe x (slice_index f.widths x) m
 
 -- each variable with the answers of this cycle
 pub record AreAnswered (c : Circuit) (f : Form) (answers : ℕ → ℕ → AnswerSignals) (k : ℕ) (vars xs : List Net) : Type 0 where

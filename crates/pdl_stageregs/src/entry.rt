@@ -14,7 +14,7 @@ ghost use Rattle.pdl_answernets.specs.Ports.{answers_in};
 ghost use Rattle.pdl_stageregs.specs.declared.nets.Item.TheVariants.{Var, Guess};
 ghost use Rattle.pdl_stageregs.specs.Items.{IsConstant, IsZero, item_width, is_answered as gets_item};
 ghost use Rattle.pdl_stageregs.specs.Stages.{end_of, begun_parts, IsFrame, IsBegun, IsSettled, AreOwn};
-ghost use Rattle.pdl_stageregs.specs.Begun.{earlier_views, earlier_count, IsShared, IsEarlier, IsItem, IsLonger, MayAdd, MayBegin, AreBegun, BindWords, AreAnswered, IsFresh};
+ghost use Rattle.pdl_stageregs.specs.Begun.{earlier_views, earlier_count, IsShared, IsEarlier, IsItem, IsLonger, MayAdd, MayBegin, AreBegun, AreAnswered, IsFresh};
 
 use crate::helds::begin_helds;
 use crate::nets::{Earlier, Item, Kept, Shared, StageNets};
@@ -256,9 +256,9 @@ fn begin_answers(
     vars: &[Net],
 ) -> Result<Seq<Net>, NoMemory>
     requires shared { IsShared b.old (form pipe.now) shared.now }
+    requires typed { IsTypedForm (form pipe.now) }
     requires vars { NetsThere b.old vars.now }
     requires wide { widths_of (signals_in b.old vars.now) ≡ (form pipe.now).widths }
-    requires reads { BindWords (form pipe.now) }
     ensures answered { IfOk result (λ xs. AreAnswered b.new (form pipe.now)
         (answers_in b.old shared.now.ports.now) stage vars.now xs) }
     ensures extends { Extends b.old b.new }
@@ -307,7 +307,6 @@ pub fn begin(
     earlier: &Earlier<'_>,
 ) -> Result<StageNets, NoMemory>
     requires typed { IsTypedForm (form pipe.now) }
-    requires reads { BindWords (form pipe.now) }
     requires shared { IsShared b.old (form pipe.now) shared.now }
     requires earlier { IsEarlier b.old (form pipe.now)
         (signals_in b.old shared.now.next) earlier.now }

@@ -9,7 +9,7 @@ ghost use Rattle.pdl_stagenets.specs.Locked.{members, AreLocked, locks_in};
 ghost use Rattle.pdl_stagenets.specs.Sized.{AreWalked};
 ghost use Rattle.pdl_answernets.specs.Ports.{HasAnswers, answers_in};
 ghost use Rattle.pdl_stageregs.specs.Stages.{zero_signal, end_of};
-ghost use Rattle.pdl_stageregs.specs.Begun.{IsShared, AreEnded, BindWords};
+ghost use Rattle.pdl_stageregs.specs.Begun.{IsShared, AreEnded};
 ghost use Rattle.pdl_stageregs.specs.Staged.{IsStaged, AreStaged, AreApart, next_signals};
 
 use crate::entry::begin;
@@ -52,7 +52,6 @@ fn stage<L: LockModule>(
     before: &[StageNets],
 ) -> Result<StageNets, NoMemory>
     requires typed { IsTypedForm (form pipe.now) }
-    requires reads { BindWords (form pipe.now) }
     requires walked { AreWalked (form pipe.now) (form pipe.now).pipe.stmts }
     requires shared { IsShared b.old (form pipe.now) shared.now }
     requires locks { AreLocked (members L.LockModule) b.old (form pipe.now).pipe locks.now }
@@ -105,7 +104,6 @@ pub fn stages<L: LockModule>(
     ports: &[Option<PortRegs>],
 ) -> Result<Vec<StageNets>, NoMemory>
     requires typed { IsTypedForm (form pipe.now) }
-    requires reads { BindWords (form pipe.now) }
     requires walked { AreWalked (form pipe.now) (form pipe.now).pipe.stmts }
     requires bits { AreBits b.old bits }
     requires locks { AreLocked (members L.LockModule) b.old (form pipe.now).pipe locks.now }
