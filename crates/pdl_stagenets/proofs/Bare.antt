@@ -26,7 +26,7 @@ use Rattle.pdl_word.specs.Each.{Each}
 pub call_walked : (f : Form) (k : ℕ) (xs : List Stmt) → xs ≡ record { stage = k; guards = []; op = Call [] } ∷ [] → f.pipe.start ≡ [] → AreWalked f xs
 call_walked f k xs e s =
     let none : AreArguments f.widths (take (length f.pipe.start) f.widths) [] = subst (λ (l : List ℕ). AreArguments f.widths (take (length l) f.widths) []) (sym s) tt in
-    subst (AreWalked f) (sym e) (((tt, none), tt, refl), tt)
+    subst (AreWalked f) (sym e) (((tt, none), tt), tt)
 
 -- no memories
 pub no_locks : {T : Type 0} (l : Members T) (c : Circuit) (p : Pipe) (xs : List (Option (MemLock T))) → xs ≡ [] → p.mems ≡ [] → AreLocked l c p xs
