@@ -59,7 +59,10 @@ fn begun(alloc: Global, b: &Builder, bits: Bits, pipe: &FlatPipe) -> WalkNets
         puts: Seq::new(alloc),
         lettings: Seq::new(alloc),
         births: Vec::new(alloc),
+        asks: Seq::new(alloc),
         guess: Seq::new(alloc),
+        fails: bits.zero,
+        barrier: bits.zero,
     }
 }
 
