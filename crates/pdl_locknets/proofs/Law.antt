@@ -7,7 +7,7 @@ use Rattle.pdl_semantics.specs.Stages.{mem_at}
 use Rattle.pdl_net.specs.declared.Net.{Net}
 use Rattle.pdl_net.specs.Circuit.{Circuit, State, HasReg, HasArray, array_depth}
 use Rattle.pdl_net.specs.Signal.{Signal}
-use Rattle.pdl_net.specs.Meaning.{signal, next_signal, write_signals}
+use Rattle.pdl_net.specs.Meaning.{signal, IsThere, next_signal, write_signals}
 use Rattle.pdl_net.specs.Growth.{Own, Outside, Keeps, ExtendsBut}
 use Rattle.pdl_lockapi.specs.declared.LockNets.{LockNets}
 use Rattle.pdl_lockapi.specs.Lock.{LockState, start}
@@ -167,6 +167,13 @@ module _ {T : Type 0} (l : Members T) (stays : Stays l) (p : Pipe) (xs : List (O
       let (x, e) = some_of (some_at xs m) (locked.locked m low ∙ h) in
       let (n, q) = some_of (some_at ns m) ((stepped.each m low).has ∙ locked.locked m low ∙ h) in
       fits_of x n e q
+
+  -- and the word is that of a net
+  pub commit_word : is_locked p m ≡ true → (w : Net) × IsThere c w × (signal c w ≡ (commits_in c ns m).value)
+  commit_word h =
+      let (x, e) = some_of (some_at xs m) (locked.locked m low ∙ h) in
+      let (n, q) = some_of (some_at ns m) ((stepped.each m low).has ∙ locked.locked m low ∙ h) in
+      (n.value, after.there n.value ((stepped.each m low).lock x n e q).value_there, ap (λ (o : Option LockNets). (commit_of c o).value) (sym q))
 
 -- ---- what the steps leave as it was
 
