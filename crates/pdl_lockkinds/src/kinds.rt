@@ -5,9 +5,9 @@ ghost use Rattle.pdl_form.specs.View.{lock_view};
 ghost use Rattle.pdl_formtypes.specs.Stmts.{AreTypedMems};
 ghost use Rattle.pdl_anylock.specs.declared.AnyLock.{AnyLock};
 ghost use Rattle.pdl_stagenets.specs.Locked.{members};
-ghost use Rattle.pdl_locknets.specs.Suited.{AreComb, AreSuited};
+ghost use Rattle.pdl_locknets.specs.Suited.{AreSuited};
 ghost use Rattle.pdl_anylock.specs.Asked.{lock_asked};
-ghost use Rattle.pdl_lockkinds.specs.Asked.{locks_asked, AreSizedLocks};
+ghost use Rattle.pdl_lockkinds.specs.Asked.{locks_asked, AreInTime, AreSizedLocks};
 
 use pdl_anylock::AnyLock;
 use pdl_bypass::BypassLock;
@@ -33,7 +33,7 @@ fn lock_of(lock: Lock) -> Option<AnyLock>
 /// The locks of the memories, in declared order.
 pub fn locks_of(alloc: Global, pipe: &FlatPipe) -> Result<Vec<Option<AnyLock>>, NoMemory>
     requires mems { AreTypedMems (form pipe.now).pipe.mems }
-    requires comb { AreComb (form pipe.now).pipe.mems }
+    requires in_time { AreInTime (form pipe.now).pipe.mems }
     requires sizes { AreSizedLocks (form pipe.now).pipe.mems }
     ensures asked { IfOk result (λ ls. ls.items ≡ locks_asked (form pipe.now).pipe.mems) }
     ensures suited { IfOk result (λ ls.

@@ -1,12 +1,12 @@
 -- The memories, one after the other.
-use Rattle.std.proofs.Common.{◌≡◌, ℕ, zero, suc, ◌+◌, ◌<◌, ◌≤◌, ◌∙◌, false, List, [], ◌∷◌, ◌++◌, length, length-append, map, drop, get_or, refl, sym, ap, ap₂, subst, arith, append_assoc, append-nil}
+use Rattle.std.proofs.Common.{◌≡◌, ℕ, zero, suc, ◌+◌, ◌<◌, ◌≤◌, ◌∙◌, false, List, [], ◌∷◌, ◌++◌, length, length-append, drop, get_or, refl, sym, ap, ap₂, subst, arith, append_assoc, append-nil}
 use borrow.Author.Count.{below_more}
 use Rattle.std.specs.Prelude.{Option, Some, is_some}
 use Rattle.std.proofs.lemmas.List.{get_or-map, drop_more, drop_all, length-map}
 use Rattle.pdl_kit.specs.declared.mem_info.MemInfo.{MemInfo}
 use Rattle.pdl_semantics.specs.Flat.{Mem, Pipe, has_lock}
 use Rattle.pdl_semantics.specs.Stages.{plain_mem, mem_at}
-use Rattle.pdl_net.specs.Circuit.{Circuit, Shape, shape_of, shapes_of, array_depth}
+use Rattle.pdl_net.specs.Circuit.{Circuit, Shape, shapes_of, HasArray, array_width, array_depth}
 use Rattle.pdl_net.specs.Meaning.{write_signals}
 use Rattle.pdl_net.specs.Growth.{Keeps, ExtendsArrays}
 use Rattle.pdl_net.proofs.Keeps.{arrays_keeps, arrays_trans, regs_grow}
@@ -18,14 +18,16 @@ use Rattle.pdl_form.specs.View.{mem_view, mems_view, mem_names}
 use Rattle.pdl_formtypes.specs.Stmts.{IsTypedMem, AreTypedMems}
 use Rattle.pdl_lockapi.specs.Sizes.{words_in}
 use Rattle.pdl_lockapi.proofs.LockKinds.{words_are, words_plain}
+use Rattle.pdl_pipe_law.specs.Places.{comb_place}
 use Rattle.pdl_stagenets.specs.declared.locks.MemLock.{MemLock}
 use Rattle.pdl_stagenets.specs.Locked.{Members, some_at, IsLockIn, AreLocked}
-use Rattle.pdl_locknets.specs.Suited.{shape_in, shapes_in, AreComb, AreSuited}
+use Rattle.pdl_locknets.specs.Suited.{shape_in, arrays_in, shapes_in, AreComb, AreSuited}
 use Rattle.pdl_locknets.specs.Lawful.{IsLawfulLock, AreLawful, AreUnwritten}
 use Rattle.pdl_locknets.specs.Made.{AreServed, IsNewMemory}
 use Rattle.pdl_locknets.proofs.LocksKept.{Stays, lock_kept, lawful_kept, regs_end}
 use Rattle.pdl_locknets.proofs.LockSteps.{some_before, some_last}
-use Rattle.pdl_locknets.proofs.NewLock.{array_count, array_more, there_by_shape, width_by_shape, depth_by_shape}
+use Rattle.pdl_locknets.proofs.NewLock.{array_more, one_array, new_there, new_width, new_depth}
+use Rattle.pdl_locknets.proofs.Places.{place_more}
 
 -- ---- the memory of a number
 
@@ -62,24 +64,31 @@ served_at {T} suits l f ls i name mem o s low a b e =
 
 -- ---- the first i memories
 
-pub record IsMadeLock {T : Type 0} (l : Members T) (a c : Circuit) (m : ℕ) (mem : Mem) (x : MemLock T) : Type 0 where
-  pub is_in : IsLockIn l c m mem x
+pub record IsMadeLock {T : Type 0} (l : Members T) (a c : Circuit) (i : ℕ) (mem : Mem) (x : MemLock T) : Type 0 where
+  pub is_in : IsLockIn l c i mem x
   pub laws : IsLawfulLock l c x
   pub kind : mem.lock ≡ as_lock (l.kind x.lock) (l.size x.lock)
   pub above : length a.regs ≤ first_reg x.regs
 
-pub record IsMadeMemory {T : Type 0} (l : Members T) (a c : Circuit) (m : ℕ) (mem : Mem) (o : Option (MemLock T)) : Type 0 where
+-- the array of a memory that answers at once
+pub record IsMadeArray (c : Circuit) (i : ℕ) (mem : Mem) : Type 0 where
+  pub there : HasArray c i
+  pub wide : array_width c i ≡ mem.width
+  pub deep : array_depth c i ≡ words_in mem.lock mem.depth
+  pub unwritten : write_signals c i ≡ []
+
+pub record IsMadeMemory {T : Type 0} (l : Members T) (a c : Circuit) (i : ℕ) (mem : Mem) (o : Option (MemLock T)) : Type 0 where
+  pub array : mem.delayed ≡ false → IsMadeArray c i mem
   pub locked : is_some o ≡ has_lock mem.lock
-  pub lock : (x : MemLock T) → o ≡ Some x → IsMadeLock l a c m mem x
+  pub lock : (x : MemLock T) → o ≡ Some x → IsMadeLock l a c i mem x
 
 pub record AreMadeTo {T : Type 0} (l : Members T) (a c : Circuit) (names : List (List ℕ)) (p : Pipe) (xs : List (Option (MemLock T))) (i : ℕ) : Type 0 where
   pub count : length xs ≡ i
-  pub arrays : length c.arrays ≡ i
+  pub arrays : length c.arrays ≡ comb_place p i
   pub added : List Shape
   pub extends : ExtendsArrays a c added
   pub whole : added ++ shapes_in (drop i names) (drop i p.mems) ≡ shapes_in names p.mems
-  pub unwritten : AreUnwritten c i
-  pub each : (m : ℕ) → m < i → IsMadeMemory l a c m (mem_at p m) (some_at xs m)
+  pub each : (m : ℕ) → m < i → IsMadeMemory l a c (comb_place p m) (mem_at p m) (some_at xs m)
   pub apart : (n : ℕ) → n < i → (m : ℕ) (x y : MemLock T) → m < n → some_at xs m ≡ Some x → some_at xs n ≡ Some y → end_reg x.regs ≤ first_reg y.regs
 
 arrays_refl : (c : Circuit) → ExtendsArrays c c []
@@ -105,14 +114,13 @@ made_none l a names p e = record {
   added = [];
   extends = arrays_refl a;
   whole = refl;
-  unwritten = λ m h. absurd (omega (arith, h));
   each = λ m h. absurd (omega (arith, h));
   apart = λ m h. absurd (omega (arith, h));
 }
 
-made_lock_kept : {T : Type 0} (l : Members T) (stays : Stays l) (a b c : Circuit) (m : ℕ) (mem : Mem) (x : MemLock T) → Keeps b c → IsMadeLock l a b m mem x → IsMadeLock l a c m mem x
-made_lock_kept l stays a b c m mem x k h = record {
-  is_in = lock_kept l b c m mem x k stays h.is_in;
+made_lock_kept : {T : Type 0} (l : Members T) (stays : Stays l) (a b c : Circuit) (i : ℕ) (mem : Mem) (x : MemLock T) → Keeps b c → IsMadeLock l a b i mem x → IsMadeLock l a c i mem x
+made_lock_kept l stays a b c i mem x k h = record {
+  is_in = lock_kept l b c i mem x k stays h.is_in;
   laws = lawful_kept (l.stands x.lock x.regs) (l.kind x.lock) (l.size x.lock) (l.tickets x.lock) b c x.regs k h.is_in.room_there h.is_in.ticket_there h.laws;
   kind = h.kind;
   above = h.above;
@@ -120,9 +128,9 @@ made_lock_kept l stays a b c m mem x k h = record {
 
 module _ {T : Type 0} (l : Members T) (stays : Stays l) (a b c : Circuit) (names : List (List ℕ)) (p : Pipe) (xs : List (Option (MemLock T))) (i : ℕ) (name : List ℕ) (mem : Mem) (o : Option (MemLock T))
     (low : i < length p.mems) (named : i < length names) (name_at : name ≡ get_or names i []) (at_mem : mem ≡ mem_at p i)
-    (grows : ExtendsArrays b c (shape_in name mem ∷ [])) (free : write_signals c (length b.arrays) ≡ []) (new : IsNewMemory l b c mem o) (h : AreMadeTo l a b names p xs i) where
+    (grows : ExtendsArrays b c (arrays_in name mem)) (free : mem.delayed ≡ false → write_signals c (length b.arrays) ≡ []) (new : IsNewMemory l b c mem o) (h : AreMadeTo l a b names p xs i) where
   keeps : Keeps b c
-  keeps = arrays_keeps b c (shape_in name mem ∷ []) grows
+  keeps = arrays_keeps b c (arrays_in name mem) grows
 
   before : (m : ℕ) → m < i → some_at (xs ++ o ∷ []) m ≡ some_at xs m
   before m k = some_before xs o m (omega (arith, k, h.count))
@@ -130,14 +138,14 @@ module _ {T : Type 0} (l : Members T) (stays : Stays l) (a b c : Circuit) (names
   here : some_at (xs ++ o ∷ []) i ≡ o
   here = some_last xs o i h.count
 
-  whole_here : (h.added ++ shape_in name mem ∷ []) ++ shapes_in (drop (i + 1) names) (drop (i + 1) p.mems) ≡ shapes_in names p.mems
+  whole_here : (h.added ++ arrays_in name mem) ++ shapes_in (drop (i + 1) names) (drop (i + 1) p.mems) ≡ shapes_in names p.mems
   whole_here =
       let rest = shapes_in (drop (i + 1) names) (drop (i + 1) p.mems) in
-      let e : shapes_in (drop i names) (drop i p.mems) ≡ shape_in name mem ∷ rest =
-      ap₂ shapes_in (drop_more names i [] named) (drop_more p.mems i plain_mem low) ∙ ap₂ (λ x y. shape_in x y ∷ rest) (sym name_at) (sym at_mem) in
-      append_assoc h.added (shape_in name mem ∷ []) rest ∙ ap (λ ys. h.added ++ ys) (sym e) ∙ h.whole
+      let e : shapes_in (drop i names) (drop i p.mems) ≡ arrays_in name mem ++ rest =
+      ap₂ shapes_in (drop_more names i [] named) (drop_more p.mems i plain_mem low) ∙ ap₂ (λ x y. arrays_in x y ++ rest) (sym name_at) (sym at_mem) in
+      append_assoc h.added (arrays_in name mem) rest ∙ ap (λ ys. h.added ++ ys) (sym e) ∙ h.whole
 
-  lock_here : (x : MemLock T) → o ≡ Some x → IsMadeLock l a c i mem x
+  lock_here : (x : MemLock T) → o ≡ Some x → IsMadeLock l a c (comb_place p i) mem x
   lock_here x e =
       let n = new.lock x e in
       record {
@@ -147,15 +155,35 @@ module _ {T : Type 0} (l : Members T) (stays : Stays l) (a b c : Circuit) (names
         above = let g = regs_grow a b (arrays_keeps a b h.added h.extends) in omega (arith, g, n.above);
       }
 
-  memory_here : IsMadeMemory l a c i (mem_at p i) (some_at (xs ++ o ∷ []) i)
-  memory_here =
-      let P : Mem → Type 0 = λ x. IsMadeMemory l a c i x o in
-      subst (λ (x : Option (MemLock T)). IsMadeMemory l a c i (mem_at p i) x) (sym here) (subst P at_mem (record { locked = new.locked; lock = lock_here }))
+  array_here : mem.delayed ≡ false → IsMadeArray c (comb_place p i) mem
+  array_here e =
+      let one : ExtendsArrays b c (shape_in name mem ∷ []) = subst (λ (fs : List Shape). ExtendsArrays b c fs) (one_array name mem e) grows in
+      let made : IsMadeArray c (length b.arrays) mem = record {
+        there = new_there b c (shape_in name mem) one;
+        wide = new_width b c (shape_in name mem) one;
+        deep = new_depth b c (shape_in name mem) one;
+        unwritten = free e;
+      } in
+      subst (λ k. IsMadeArray c k mem) h.arrays made
 
-  memory_before : (m : ℕ) → m < i → IsMadeMemory l a c m (mem_at p m) (some_at (xs ++ o ∷ []) m)
+  memory_here : IsMadeMemory l a c (comb_place p i) (mem_at p i) (some_at (xs ++ o ∷ []) i)
+  memory_here =
+      let P : Mem → Type 0 = λ x. IsMadeMemory l a c (comb_place p i) x o in
+      subst (λ (x : Option (MemLock T)). IsMadeMemory l a c (comb_place p i) (mem_at p i) x) (sym here) (subst P at_mem (record { array = array_here; locked = new.locked; lock = lock_here }))
+
+  array_before : (k : ℕ) (x : Mem) → IsMadeArray b k x → IsMadeArray c k x
+  array_before k x y = record {
+    there = keeps.has_array k y.there;
+    wide = keeps.word k y.there ∙ y.wide;
+    deep = keeps.depth k y.there ∙ y.deep;
+    unwritten = grows.writes k y.there ∙ y.unwritten;
+  }
+
+  memory_before : (m : ℕ) → m < i → IsMadeMemory l a c (comb_place p m) (mem_at p m) (some_at (xs ++ o ∷ []) m)
   memory_before m k =
       let x = h.each m k in
-      subst (λ (y : Option (MemLock T)). IsMadeMemory l a c m (mem_at p m) y) (sym (before m k)) (record { locked = x.locked; lock = λ y e. made_lock_kept l stays a b c m (mem_at p m) y keeps (x.lock y e) })
+      subst (λ (y : Option (MemLock T)). IsMadeMemory l a c (comb_place p m) (mem_at p m) y) (sym (before m k))
+      (record { array = λ e. array_before (comb_place p m) (mem_at p m) (x.array e); locked = x.locked; lock = λ y e. made_lock_kept l stays a b c (comb_place p m) (mem_at p m) y keeps (x.lock y e) })
 
   apart_here : (m : ℕ) (x y : MemLock T) → m < i → some_at (xs ++ o ∷ []) m ≡ Some x → some_at (xs ++ o ∷ []) i ≡ Some y → end_reg x.regs ≤ first_reg y.regs
   apart_here m x y k e f =
@@ -167,35 +195,18 @@ module _ {T : Type 0} (l : Members T) (stays : Stays l) (a b c : Circuit) (names
   pub made_more : AreMadeTo l a c names p (xs ++ o ∷ []) (i + 1)
   made_more = record {
     count = length-append xs (o ∷ []) ∙ ap (λ n. n + 1) h.count;
-    arrays = array_more b c (shape_in name mem) grows ∙ ap (λ n. n + 1) h.arrays;
-    added = h.added ++ shape_in name mem ∷ [];
-    extends = arrays_trans a b c h.added (shape_in name mem ∷ []) h.extends grows;
+    arrays = let n = array_more b c (arrays_in name mem) grows in let k = place_more p i name low in let e = ap (λ (x : Mem). length (arrays_in name x)) at_mem in omega (arith, n, k, e, h.arrays);
+    added = h.added ++ arrays_in name mem;
+    extends = arrays_trans a b c h.added (arrays_in name mem) h.extends grows;
     whole = whole_here;
-    unwritten = below_more (λ m. write_signals c m ≡ []) i (λ m k. grows.writes m (there_by_shape b m (omega (arith, k, h.arrays, array_count b))) ∙ h.unwritten m k) (subst (λ n. write_signals c n ≡ []) h.arrays free);
-    each = below_more (λ m. IsMadeMemory l a c m (mem_at p m) (some_at (xs ++ o ∷ []) m)) i memory_before memory_here;
+    each = below_more (λ m. IsMadeMemory l a c (comb_place p m) (mem_at p m) (some_at (xs ++ o ∷ []) m)) i memory_before memory_here;
     apart = below_more (λ n. (m : ℕ) (x y : MemLock T) → m < n → some_at (xs ++ o ∷ []) m ≡ Some x → some_at (xs ++ o ∷ []) n ≡ Some y → end_reg x.regs ≤ first_reg y.regs) i
         (λ n k m x y q e f. h.apart n k m x y q (sym (before m (omega (arith, q, k))) ∙ e) (sym (before n k) ∙ f)) (λ m x y k e f. apart_here m x y k e f);
   }
 
 -- ---- all memories
 
-shape_at : (names : List (List ℕ)) (ms : List Mem) (m : ℕ) (d : Shape) → length names ≡ length ms → m < length ms → get_or (shapes_in names ms) m d ≡ shape_in (get_or names m []) (get_or ms m plain_mem)
-shape_at names [] m d n h = absurd (omega (arith, h))
-shape_at [] (x ∷ ms) m d n h = absurd (omega (arith, n))
-shape_at (a ∷ names) (x ∷ ms) zero d n h = refl
-shape_at (a ∷ names) (x ∷ ms) (suc m) d n h = shape_at names ms m d (omega (arith, n)) (omega (arith, h))
-
-shapes_count : (names : List (List ℕ)) (ms : List Mem) → length names ≡ length ms → length (shapes_in names ms) ≡ length ms
-shapes_count [] [] n = refl
-shapes_count (a ∷ names) [] n = absurd (omega (arith, n))
-shapes_count [] (x ∷ ms) n = absurd (omega (arith, n))
-shapes_count (a ∷ names) (x ∷ ms) n = ap suc (shapes_count names ms (omega (arith, n)))
-
-no_shapes : (c : Circuit) → c.arrays ≡ [] → shapes_of c ≡ []
-unfolding shapes_of
-no_shapes c e = ap (map shape_of) e
-
-module _ {T : Type 0} (l : Members T) (a c : Circuit) (names : List (List ℕ)) (p : Pipe) (xs : List (Option (MemLock T))) (i : ℕ) (none : a.arrays ≡ []) (named : length names ≡ length p.mems) (all : i ≡ length p.mems)
+module _ {T : Type 0} (l : Members T) (a c : Circuit) (names : List (List ℕ)) (p : Pipe) (xs : List (Option (MemLock T))) (i : ℕ) (named : length names ≡ length p.mems) (all : i ≡ length p.mems)
     (h : AreMadeTo l a c names p xs i) where
   added_all : h.added ≡ shapes_in names p.mems
   added_all =
@@ -206,41 +217,29 @@ module _ {T : Type 0} (l : Members T) (a c : Circuit) (names : List (List ℕ)) 
   pub all_extends : ExtendsArrays a c (shapes_in names p.mems)
   all_extends = subst (λ (fs : List Shape). ExtendsArrays a c fs) added_all h.extends
 
-  shapes : shapes_of c ≡ shapes_in names p.mems
-  shapes = all_extends.shapes ∙ ap (λ fs. fs ++ shapes_in names p.mems) (no_shapes a none)
-
-  no_shape : Shape
-  no_shape = record { name = []; width = 0; depth = 0 }
-
-  in_shapes : (m : ℕ) → m < length p.mems → m < length (shapes_of c)
-  in_shapes m k = omega (arith, k, ap length shapes, shapes_count names p.mems named)
-
-  shape_is : (m : ℕ) → m < length p.mems → get_or (shapes_of c) m no_shape ≡ shape_in (get_or names m []) (mem_at p m)
-  shape_is m k = ap (λ fs. get_or fs m no_shape) shapes ∙ shape_at names p.mems m no_shape named k
-
-  deep_at : (m : ℕ) → m < length p.mems → array_depth c m ≡ words_in (mem_at p m).lock (mem_at p m).depth
-  deep_at m k = depth_by_shape c m no_shape (in_shapes m k) ∙ ap (λ (s : Shape). s.depth) (shape_is m k)
+  made : (m : ℕ) → m < length p.mems → IsMadeMemory l a c (comb_place p m) (mem_at p m) (some_at xs m)
+  made m k = h.each m (omega (arith, k, all))
 
   pub all_locked : AreLocked l c p xs
   all_locked = record {
     count = h.count ∙ all;
-    locked = λ m k. (h.each m (omega (arith, k, all))).locked;
-    locks = λ m x k e. ((h.each m (omega (arith, k, all))).lock x e).is_in;
-    has_array = λ m k. there_by_shape c m (in_shapes m k);
-    width = λ m k. width_by_shape c m no_shape (in_shapes m k) ∙ ap (λ (s : Shape). s.width) (shape_is m k);
-    depth = λ m k e. deep_at m k ∙ words_plain (mem_at p m).lock (mem_at p m).depth e;
+    locked = λ m k. (made m k).locked;
+    locks = λ m x k e. ((made m k).lock x e).is_in;
+    has_array = λ m k once. ((made m k).array once).there;
+    width = λ m k once. ((made m k).array once).wide;
+    depth = λ m k e once. ((made m k).array once).deep ∙ words_plain (mem_at p m).lock (mem_at p m).depth e;
   }
 
   pub all_lawful : AreLawful l c p xs
   all_lawful = record {
-    laws = λ m x k e. ((h.each m (omega (arith, k, all))).lock x e).laws;
-    kinds = λ m x k e. ((h.each m (omega (arith, k, all))).lock x e).kind;
-    deep = λ m x k e. deep_at m k ∙ ap (λ y. words_in y (mem_at p m).depth) ((h.each m (omega (arith, k, all))).lock x e).kind ∙ words_are (l.kind x.lock) (l.size x.lock) (mem_at p m).depth;
+    laws = λ m x k e. ((made m k).lock x e).laws;
+    kinds = λ m x k e. ((made m k).lock x e).kind;
+    deep = λ m x k once e. ((made m k).array once).deep ∙ ap (λ y. words_in y (mem_at p m).depth) ((made m k).lock x e).kind ∙ words_are (l.kind x.lock) (l.size x.lock) (mem_at p m).depth;
     apart = λ m n x y q k e f. h.apart n (omega (arith, k, all)) m x y q e f;
   }
 
-  pub all_unwritten : AreUnwritten c (length p.mems)
-  all_unwritten m k = h.unwritten m (omega (arith, k, all))
+  pub all_unwritten : AreUnwritten c p
+  all_unwritten m k once = ((made m k).array once).unwritten
 
   pub all_above : (m : ℕ) (x : MemLock T) → m < length p.mems → some_at xs m ≡ Some x → length a.regs ≤ first_reg x.regs
-  all_above m x k e = ((h.each m (omega (arith, k, all))).lock x e).above
+  all_above m x k e = ((made m k).lock x e).above

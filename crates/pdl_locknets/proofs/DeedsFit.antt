@@ -1,13 +1,15 @@
 -- What a lock takes of the stages' nets: they are there, with the widths of its memory.
-use Rattle.std.proofs.Common.{◌≡◌, ℕ, zero, suc, ◌^◌, ◌<◌, List, [], ◌∷◌, ◌++◌, map, length, refl, sym, ap, ◌∙◌, subst, arith, inl, inr}
+use Rattle.std.proofs.Common.{◌≡◌, ℕ, zero, suc, ◌^◌, ◌<◌, List, [], ◌∷◌, map, length, sym, ap, ◌∙◌, subst, arith, inl, inr}
 use Rattle.std.specs.Prelude.{Option, Some}
 use Rattle.std.proofs.lemmas.Bool.Decides.{eqb_tells}
 use Rattle.pdl_semantics.specs.Flat.{Pipe}
 use Rattle.pdl_semantics.specs.Stages.{mem_at}
+use Rattle.pdl_net.specs.declared.Net.{Net}
 use Rattle.pdl_net.specs.Circuit.{Circuit}
 use Rattle.pdl_net.specs.Signal.{Signal, no_signal}
 use Rattle.pdl_net.specs.Meaning.{signal, IsThere}
 use Rattle.pdl_pipe_law.specs.Walk.{Reservation, Put, Letting}
+use Rattle.pdl_pipe_law.specs.Places.{comb_place}
 use Rattle.pdl_pipe_law.specs.Views.{View}
 use Rattle.pdl_pipe_law.specs.Ports.{reserves_to, all_reserves, puts_to, all_puts}
 use Rattle.pdl_stagenets.specs.declared.nets.ReserveNet.{ReserveNet}
@@ -16,9 +18,9 @@ use Rattle.pdl_stagenets.specs.declared.nets.LettingNet.{LettingNet}
 use Rattle.pdl_stagenets.specs.declared.locks.MemLock.{MemLock}
 use Rattle.pdl_stagenets.specs.Parts.{reservation_in, put_in, letting_in, walk_of}
 use Rattle.pdl_stagenets.specs.Sized.{IsSizedReserve, IsSizedPut}
-use Rattle.pdl_stagenets.specs.Locked.{Members, some_at, IsLockIn}
+use Rattle.pdl_stagenets.specs.Locked.{Members, some_at, IsLockIn, tickets_in}
 use Rattle.pdl_locknets.specs.declared.deeds.StageDeeds.{StageDeeds}
-use Rattle.pdl_locknets.specs.Deeds.{no_parts, view_with, view_in, views_in, moves_in, IsDeed}
+use Rattle.pdl_locknets.specs.Deeds.{no_parts, view_with, view_in, views_in, moves_in, IsDeed, AreSquashNets}
 use Rattle.pdl_locknets.specs.Ports.{IsGivenReserve, IsGivenPut, IsGivenLetting, IsGiven, SignalsFit, signals_of}
 use Rattle.pdl_locknets.proofs.Releases.{released_one}
 use Rattle.pdl_pipe_law.proofs.WellFormedMems.{power_one}
@@ -99,15 +101,15 @@ module _ {T : Type 0} (l : Members T) (c : Circuit) (p : Pipe) (ws : List ℕ) (
   views_put m x f [] low e h = tt
   views_put m x f (d ∷ ds) low e h = (puts_fit p m (l.tickets x.lock) f ((view_in c d).tickets m) (map (put_in c) d.ended.now.puts) (h.0.tickets.wide m x low e) h.0.walk.sized.puts, views_put m x f ds low e h.1)
 
-  pub signals_fit : (m : ℕ) (x : MemLock T) (ds : List StageDeeds) → m < length xs → some_at xs m ≡ Some x → IsLockIn l c m (mem_at p m) x → Each (IsDeed l c p ws xs) ds
-      → SignalsFit x.regs.bits x.regs.width (l.tickets x.lock) (signals_of c ds m (signal c x.regs.ticket))
-  signals_fit m x ds low e i h = record {
+  pub signals_fit : (m : ℕ) (x : MemLock T) (ds : List StageDeeds) → m < length xs → some_at xs m ≡ Some x → IsLockIn l c (comb_place p m) (mem_at p m) x → Each (IsDeed l c p ws xs) ds → (squash : Net) (tails : List Net) → AreSquashNets l c xs squash tails
+      → SignalsFit x.regs.bits x.regs.width (l.tickets x.lock) (signals_of c ds m (signal c squash) (tickets_in c tails m))
+  signals_fit m x ds low e i h squash tails s = record {
     reserves = all_reserves_fit m x.regs.bits (views_in c ds) (moves_in c ds) (length ds) 0
         (λ j. views_have c (λ v. Each (ReserveFits x.regs.bits) (reserves_to m (moves_in c ds j) v.ended.reserves)) ds j tt (views_reserve m x.regs.bits (moves_in c ds j) ds i.bits h));
     writes = subst (λ w. Each (WriteFits w (l.tickets x.lock)) (all_puts m (views_in c ds) (moves_in c ds) (length ds) 0)) (sym i.wide)
         (all_puts_fit m (mem_at p m).width (l.tickets x.lock) (views_in c ds) (moves_in c ds) (length ds) 0
         (λ j. views_have c (λ v. Each (WriteFits (mem_at p m).width (l.tickets x.lock)) (puts_to m (moves_in c ds j) (v.tickets m) v.ended.puts)) ds j tt (views_put m x (moves_in c ds j) ds low e h)));
     release = released_one m (views_in c ds) (moves_in c ds) (length ds) 0;
-    squash = refl;
-    tail = i.ticket_wide;
+    squash = s.one;
+    tail = s.tails.wide m x low e;
   }

@@ -4,34 +4,35 @@ use Rattle.std.specs.Prelude.{Option, Some, None, is_some}
 use Rattle.std.proofs.lemmas.Bool.{cases_lt, false≢true}
 use Rattle.pdl_semantics.specs.Flat.{Pipe}
 use Rattle.pdl_semantics.specs.Stages.{mem_at}
-use Rattle.pdl_net.specs.Circuit.{Circuit, State, HasReg, HasArray}
+use Rattle.pdl_net.specs.declared.Net.{Net}
+use Rattle.pdl_net.specs.Circuit.{Circuit, State, HasReg, HasArray, array_depth}
 use Rattle.pdl_net.specs.Signal.{Signal}
-use Rattle.pdl_net.specs.Meaning.{signal, next_signal, write_signals}
+use Rattle.pdl_net.specs.Meaning.{signal, IsThere, next_signal, write_signals}
 use Rattle.pdl_net.specs.Growth.{Own, Outside, Keeps, ExtendsBut}
 use Rattle.pdl_lockapi.specs.declared.LockNets.{LockNets}
-use Rattle.pdl_lockapi.specs.Lock.{LockState}
-use Rattle.pdl_lockapi.specs.Laws.{first_array, end_array, own, words_of, OwnKept, StartLaw, RoomLaw, TicketLaw, StepLaw, ReserveSignal, TicketSignal, StepSignals}
+use Rattle.pdl_lockapi.specs.Lock.{LockState, start}
+use Rattle.pdl_lockapi.specs.Laws.{first_reg, end_reg, first_array, end_array, own, words_of, OwnKept, IsReset, HasImage, RoomLaw, TicketLaw, StepLaw, ReserveSignal, TicketSignal, StepSignals}
 use Rattle.pdl_lockapi.specs.Forget.{as_lock}
 use Rattle.pdl_pipe_law.specs.Walk.{Walk, is_locked, zero_bit}
-use Rattle.pdl_pipe_law.specs.Views.{View, no_gates}
+use Rattle.pdl_pipe_law.specs.Views.{View, Gates}
 use Rattle.pdl_pipe_law.specs.Ports.{Commit, step_of}
-use Rattle.pdl_pipe_law.specs.Compiled.{HasLock}
-use Rattle.pdl_pipe_law.proofs.Establish.{lock_made}
+use Rattle.pdl_pipe_law.specs.Compiled.{HasLock, GoesOn}
+use Rattle.pdl_pipe_law.specs.Places.{comb_place}
 use Rattle.pdl_stagenets.specs.declared.locks.MemLock.{MemLock}
 use Rattle.pdl_stagenets.specs.Locked.{Members, some_at, of_lock, kind_in, locks_in, AreLocked}
 use Rattle.pdl_locknets.specs.declared.deeds.StageDeeds.{StageDeeds}
 use Rattle.pdl_locknets.specs.Lawful.{AreLawful}
-use Rattle.pdl_locknets.specs.Deeds.{views_in, moves_in, AreOf}
+use Rattle.pdl_locknets.specs.Deeds.{views_in, moves_in, steps_in, AreOf, AreGatesOf}
 use Rattle.pdl_locknets.specs.Stepped.{own_of, IsSteppedMemory, AreStepped, ExtendsLocks, commit_of, commits_in}
 use Rattle.pdl_locknets.proofs.PortStages.{same_reserves, same_puts, same_released}
-use Rattle.pdl_locknets.proofs.LocksKept.{Stays, laws_kept, locked_kept, regs_end, ticket_kept}
+use Rattle.pdl_locknets.proofs.LocksKept.{Stays, laws_kept, locked_kept, regs_end}
+use Rattle.pdl_locknets.proofs.Places.{place_below, some_place, own_place, outside_place, image_place}
 use Rattle.pdl_locknets.proofs.LockSteps.{stepped_kept}
 
 -- the stages of a netlist do to a lock what their nets do
-pub step_is : {T : Type 0} (l : Members T) (a s : Circuit) (p : Pipe) (xs : List (Option (MemLock T))) (ds : List StageDeeds) (vs : ℕ → View) (goes : ℕ → Signal) (m : ℕ) → Keeps a s → AreLocked l a p xs
-    → length ds ≡ length p.stages → m < length p.mems → AreOf s ds vs goes
-    → step_of p (views_in s ds) (no_gates (locks_in l s xs)) (moves_in s ds) m ≡ step_of p vs (no_gates (locks_in l a xs)) goes m
-step_is l a s p xs ds vs goes m k h count low of =
+pub step_is : (s : Circuit) (p : Pipe) (ds : List StageDeeds) (squash : Net) (tails : List Net) (vs : ℕ → View) (gates : Gates) (goes : ℕ → Signal) (m : ℕ) → length ds ≡ length p.stages → m < length p.mems → AreOf s ds vs goes → AreGatesOf s p squash tails gates
+    → steps_in s p ds squash tails m ≡ step_of p vs gates goes m
+step_is s p ds squash tails vs gates goes m count low of beside =
     let n = length p.stages in
     let moves : (j : ℕ) → j < 0 + n → moves_in s ds j ≡ goes j = λ j u. sym (of.moves j (omega (arith, u, count))) in
     let ended : (j : ℕ) → j < 0 + n → (views_in s ds j).ended ≡ (vs j).ended = λ j u. sym (of.ended j (omega (arith, u, count))) in
@@ -39,19 +40,27 @@ step_is l a s p xs ds vs goes m k h count low of =
     let reserves = same_reserves m (views_in s ds) vs (moves_in s ds) goes n 0 moves (λ j u. ap (λ (w : Walk). w.reserves) (ended j u)) in
     let puts = same_puts m (views_in s ds) vs (moves_in s ds) goes n 0 moves tickets (λ j u. ap (λ (w : Walk). w.puts) (ended j u)) in
     let release = same_released m (views_in s ds) vs (moves_in s ds) goes n 0 moves (λ j u. ap (λ (w : Walk). w.lettings) (ended j u)) in
-    let F = λ (r : List ReserveSignal) (w : List TicketSignal) (x z : Signal). (let f : StepSignals = record { reserves = r; writes = w; release = x; squash = zero_bit; tail = z } in f) in
-    ap₂ (λ (r : List ReserveSignal) (w : List TicketSignal). F r w (step_of p (views_in s ds) (no_gates (locks_in l s xs)) (moves_in s ds) m).release ((locks_in l s xs).ticket m)) reserves puts
-    ∙ ap₂ (F (step_of p vs (no_gates (locks_in l a xs)) goes m).reserves (step_of p vs (no_gates (locks_in l a xs)) goes m).writes) release (ticket_kept l a s p xs m k h low)
+    let F = λ (r : List ReserveSignal) (w : List TicketSignal) (x y z : Signal). (let f : StepSignals = record { reserves = r; writes = w; release = x; squash = y; tail = z } in f) in
+    let f = steps_in s p ds squash tails m in
+    let g = step_of p vs gates goes m in
+    let same : F f.reserves f.writes f.release f.squash f.tail ≡ F g.reserves g.writes g.release g.squash g.tail = cc (reserves, puts, release, sym beside.squash, sym (beside.tail m low)) in
+    same
+
+some_of : {X : Type 0} (o : Option X) → is_some o ≡ true → (x : X) × (o ≡ Some x)
+some_of None e = absurd (cc e)
+some_of (Some x) e = (x, refl)
 
 -- the locks' signals as they are in the circuit a, their steps begun in s and made in b, and the whole netlist c
-module _ {T : Type 0} (l : Members T) (stays : Stays l) (p : Pipe) (xs : List (Option (MemLock T))) (ds : List StageDeeds) (ns : List (Option LockNets)) (vs : ℕ → View) (goes : ℕ → Signal) (a s b c : Circuit)
-    (locked : AreLocked l a p xs) (lawful : AreLawful l a p xs) (count : length ds ≡ length p.stages) (of : AreOf s ds vs goes) (before : Keeps a s)
-    (stepped : AreStepped l b p (step_of p (views_in s ds) (no_gates (locks_in l s xs)) (moves_in s ds)) xs ns (length p.mems))
+module _ {T : Type 0} (l : Members T) (stays : Stays l) (p : Pipe) (xs : List (Option (MemLock T))) (ds : List StageDeeds) (squash : Net) (tails : List Net) (ns : List (Option LockNets)) (vs : ℕ → View) (gates : Gates) (goes : ℕ → Signal) (a s b c : Circuit)
+    (locked : AreLocked l a p xs) (lawful : AreLawful l a p xs) (count : length ds ≡ length p.stages) (of : AreOf s ds vs goes) (beside : AreGatesOf s p squash tails gates)
+    (stepped : AreStepped l b p (steps_in s p ds squash tails) xs ns (length p.mems))
     (whole : Keeps a c) (after : Keeps b c) (m : ℕ) (low : m < length p.mems) (kept : OwnKept (own_of (some_at xs m)) b c) where
-  has_lock_of : (x : MemLock T) (n : LockNets) → some_at xs m ≡ Some x → some_at ns m ≡ Some n → HasLock p (locks_in l a xs) c vs (no_gates (locks_in l a xs)) goes (own_of (some_at xs m)) (commits_in c ns m) m
-  has_lock_of x n e q =
-      let ls = locks_in l a xs in
+  -- the laws of its nets
+  goes_on_of : (x : MemLock T) (n : LockNets) → some_at xs m ≡ Some x → some_at ns m ≡ Some n → GoesOn p (locks_in l p a xs) c vs gates goes (own_of (some_at xs m)) (commits_in c ns m) m
+  goes_on_of x n e q =
+      let ls = locks_in l p a xs in
       let it = (locked_kept l a c p xs whole stays locked).locks m x low e in
+      let has_array = (locked_kept l a c p xs whole stays locked).has_array m low in
       let law = (laws_kept l a c p xs whole locked lawful).laws m x low e in
       let own_is : own x.regs ≡ own_of (some_at xs m) = ap own_of (sym e) in
       let stands : l.stands x.lock x.regs ≡ ls.stands m = ap (of_lock (λ (y : MemLock T). l.stands y.lock y.regs) (λ s y. Unit {0})) (sym e) in
@@ -61,48 +70,85 @@ module _ {T : Type 0} (l : Members T) (stays : Stays l) (p : Pipe) (xs : List (O
       let room : signal c x.regs.room ≡ ls.room m = whole.kept x.regs.room (locked.locks m x low e).room_there ∙ ap (of_lock (λ (y : MemLock T). signal a y.regs.room) zero_bit) (sym e) in
       let ticket : signal c x.regs.ticket ≡ ls.ticket m = whole.kept x.regs.ticket (locked.locks m x low e).ticket_there ∙ ap (of_lock (λ (y : MemLock T). signal a y.regs.ticket) zero_bit) (sym e) in
       let commit : commit_of c (Some n) ≡ commits_in c ns m = ap (commit_of c) (sym q) in
-      let f = step_of p (views_in s ds) (no_gates (locks_in l s xs)) (moves_in s ds) m in
-      let same : f ≡ step_of p vs (no_gates ls) goes m = step_is l a s p xs ds vs goes m before locked count low of in
+      let f = steps_in s p ds squash tails m in
+      let same : f ≡ step_of p vs gates goes m = step_is s p ds squash tails vs gates goes m count low of beside in
       let own_kept : OwnKept (own x.regs) b c = subst (λ (o : Own). OwnKept o b c) (sym own_is) kept in
       let step = (stepped_kept l b c (mem_at p m) f x n after own_kept ((stepped.each m low).lock x n e q)).law in
       let S1 : (State → LockState → Type 0) → Type 0 = λ st. StepLaw st (l.size x.lock) (l.tickets x.lock) (own x.regs) c f (signal c n.commit) (signal c n.addr) (signal c n.value) in
       let S2 : ℕ → Type 0 = λ k. StepLaw (ls.stands m) k (l.tickets x.lock) (own x.regs) c f (signal c n.commit) (signal c n.addr) (signal c n.value) in
       let S3 : ℕ → Type 0 = λ k. StepLaw (ls.stands m) (ls.size m) k (own x.regs) c f (signal c n.commit) (signal c n.addr) (signal c n.value) in
       let S4 : StepSignals → Type 0 = λ g. StepLaw (ls.stands m) (ls.size m) (ls.bits m) (own x.regs) c g (signal c n.commit) (signal c n.addr) (signal c n.value) in
-      let S5 : Commit → Type 0 = λ y. StepLaw (ls.stands m) (ls.size m) (ls.bits m) (own x.regs) c (step_of p vs (no_gates ls) goes m) y.enable y.addr y.value in
+      let S5 : Commit → Type 0 = λ y. StepLaw (ls.stands m) (ls.size m) (ls.bits m) (own x.regs) c (step_of p vs gates goes m) y.enable y.addr y.value in
       let R1 : (State → LockState → Type 0) → Type 0 = λ st. RoomLaw st (l.size x.lock) (signal c x.regs.room) in
       let R2 : ℕ → Type 0 = λ k. RoomLaw (ls.stands m) k (signal c x.regs.room) in
       let R3 : Signal → Type 0 = λ g. RoomLaw (ls.stands m) (ls.size m) g in
       let T1 : (State → LockState → Type 0) → Type 0 = λ st. TicketLaw st (l.tickets x.lock) (signal c x.regs.ticket) in
       let T2 : ℕ → Type 0 = λ k. TicketLaw (ls.stands m) k (signal c x.regs.ticket) in
       let T3 : Signal → Type 0 = λ g. TicketLaw (ls.stands m) (ls.bits m) g in
-      let A1 : (State → LockState → Type 0) → Type 0 = λ st. StartLaw st (l.kind x.lock) c x.regs in
-      let start : StartLaw (ls.stands m) (ls.kind m) c x.regs = subst (λ k. StartLaw (ls.stands m) k c x.regs) kind (subst A1 stands law.start) in
-      let made = lock_made p ls c vs (no_gates ls) goes x.regs (commits_in c ns m) m
-      (lawful.kinds m x low e ∙ ap₂ as_lock kind size) law.regs it.array it.bits
-      ((laws_kept l a c p xs whole locked lawful).deep m x low e ∙ ap (λ k. words_of k (mem_at p m).depth) kind)
-      start
-      (subst R3 room (subst R2 size (subst R1 stands law.room)))
-      (subst T3 ticket (subst T2 bits (subst T1 stands law.ticket)))
-      (subst S5 commit (subst S4 same (subst S3 bits (subst S2 size (subst S1 stands step))))) in
-      subst (λ (o : Own). HasLock p ls c vs (no_gates ls) goes o (commits_in c ns m) m) own_is made
+      let made : GoesOn p ls c vs gates goes (own x.regs) (commits_in c ns m) m = record {
+        kind = lawful.kinds m x low e ∙ ap₂ as_lock kind size;
+        regs = law.regs;
+        arrays = λ i lo hi. (let u = own_place (mem_at p m) (comb_place p m) x.regs.array it.array i lo hi in subst (HasArray c) (sym u.1) (has_array u.0));
+        room = subst R3 room (subst R2 size (subst R1 stands law.room));
+        ticket = subst T3 ticket (subst T2 bits (subst T1 stands law.ticket));
+        step = subst S5 commit (subst S4 same (subst S3 bits (subst S2 size (subst S1 stands step))));
+      } in
+      subst (λ (o : Own). GoesOn p ls c vs gates goes o (commits_in c ns m) m) own_is made
 
-  some_of : {X : Type 0} (o : Option X) → is_some o ≡ true → (x : X) × (o ≡ Some x)
-  some_of None e = absurd (cc e)
-  some_of (Some x) e = (x, refl)
-
-  pub has_lock : is_locked p m ≡ true → HasLock p (locks_in l a xs) c vs (no_gates (locks_in l a xs)) goes (own_of (some_at xs m)) (commits_in c ns m) m
-  has_lock h =
+  pub goes_on : is_locked p m ≡ true → GoesOn p (locks_in l p a xs) c vs gates goes (own_of (some_at xs m)) (commits_in c ns m) m
+  goes_on h =
       let (x, e) = some_of (some_at xs m) (locked.locked m low ∙ h) in
       let (n, q) = some_of (some_at ns m) ((stepped.each m low).has ∙ locked.locked m low ∙ h) in
-      has_lock_of x n e q
+      goes_on_of x n e q
+
+  -- it stands for the lock at its start where its registers have their reset values, and its array, where it has one, the image
+  starts_of : (x : MemLock T) → some_at xs m ≡ Some x → (t : State) (image : List ℕ) → IsReset c (own_of (some_at xs m)).from (own_of (some_at xs m)).to t → length image ≡ (mem_at p m).depth
+      → ((mem_at p m).delayed ≡ false → HasImage ((locks_in l p a xs).kind m) (Some (comb_place p m)) t image) → (locks_in l p a xs).stands m t (start image)
+  starts_of x e t image reset long words =
+      let ls = locks_in l p a xs in
+      let it = locked.locks m x low e in
+      let law = (laws_kept l a c p xs whole locked lawful).laws m x low e in
+      let stands : l.stands x.lock x.regs ≡ ls.stands m = ap (of_lock (λ (y : MemLock T). l.stands y.lock y.regs) (λ s y. Unit {0})) (sym e) in
+      let kind : l.kind x.lock ≡ ls.kind m = ap (kind_in l) (sym e) in
+      let reset_here : IsReset c (first_reg x.regs) (end_reg x.regs) t = subst (λ (o : Own). IsReset c o.from o.to t) (ap own_of e) reset in
+      let image_here : HasImage (l.kind x.lock) x.regs.array t image = image_place (mem_at p m) (comb_place p m) x.regs.array it.array (l.kind x.lock) t image (λ u. subst (λ k. HasImage k (Some (comb_place p m)) t image) (sym kind) (words u)) in
+      let P : (State → LockState → Type 0) → Type 0 = λ st. st t (start image) in
+      subst P stands (law.start.starts t image reset_here (long ∙ sym it.bits) image_here)
+
+  pub starts : is_locked p m ≡ true → (t : State) (image : List ℕ) → IsReset c (own_of (some_at xs m)).from (own_of (some_at xs m)).to t → length image ≡ (mem_at p m).depth
+      → ((mem_at p m).delayed ≡ false → HasImage ((locks_in l p a xs).kind m) (Some (comb_place p m)) t image) → (locks_in l p a xs).stands m t (start image)
+  starts h = let (x, e) = some_of (some_at xs m) (locked.locked m low ∙ h) in starts_of x e
+
+  -- its array has the words that it keeps
+  pub deep : is_locked p m ≡ true → (mem_at p m).delayed ≡ false → array_depth c (comb_place p m) ≡ words_of ((locks_in l p a xs).kind m) (mem_at p m).depth
+  deep h once =
+      let (x, e) = some_of (some_at xs m) (locked.locked m low ∙ h) in
+      (laws_kept l a c p xs whole locked lawful).deep m x low once e ∙ ap (λ k. words_of k (mem_at p m).depth) (ap (kind_in l) (sym e))
+
+  -- the lock of a memory that answers at once, with its array
+  pub has_lock : is_locked p m ≡ true → (mem_at p m).delayed ≡ false → HasLock p (locks_in l p a xs) c vs gates goes (own_of (some_at xs m)) (commits_in c ns m) m
+  has_lock h once =
+      let (x, e) = some_of (some_at xs m) (locked.locked m low ∙ h) in
+      let on = goes_on h in
+      let array = some_place (mem_at p m) (comb_place p m) x.regs.array (locked.locks m x low e).array once in
+      record {
+        kind = on.kind;
+        regs = on.regs;
+        first = ap (λ (o : Own). o.first) (ap own_of e) ∙ ap first_array array;
+        last = ap (λ (o : Own). o.last) (ap own_of e) ∙ ap end_array array;
+        deep = deep h once;
+        starts = λ t image reset long words. starts h t image reset long (λ u. words);
+        room = on.room;
+        ticket = on.ticket;
+        step = on.step;
+      }
 
   -- its step in the whole netlist, by what the netlist's stages do
-  pub stepped_here : IsSteppedMemory l c (mem_at p m) (step_of p vs (no_gates (locks_in l a xs)) goes m) (some_at xs m) (some_at ns m)
+  pub stepped_here : IsSteppedMemory l c (mem_at p m) (step_of p vs gates goes m) (some_at xs m) (some_at ns m)
   stepped_here =
       let own_kept : (x : MemLock T) → some_at xs m ≡ Some x → OwnKept (own x.regs) b c = λ x e. subst (λ (o : Own). OwnKept o b c) (ap own_of e) kept in
-      let f = step_of p (views_in s ds) (no_gates (locks_in l s xs)) (moves_in s ds) m in
-      subst (λ (g : StepSignals). IsSteppedMemory l c (mem_at p m) g (some_at xs m) (some_at ns m)) (step_is l a s p xs ds vs goes m before locked count low of)
+      let f = steps_in s p ds squash tails m in
+      subst (λ (g : StepSignals). IsSteppedMemory l c (mem_at p m) g (some_at xs m) (some_at ns m)) (step_is s p ds squash tails vs gates goes m count low of beside)
       (record { has = (stepped.each m low).has; lock = λ x n e q. stepped_kept l b c (mem_at p m) f x n after (own_kept x e) ((stepped.each m low).lock x n e q) })
 
   -- what the memory commits has the memory's widths
@@ -122,6 +168,13 @@ module _ {T : Type 0} (l : Members T) (stays : Stays l) (p : Pipe) (xs : List (O
       let (n, q) = some_of (some_at ns m) ((stepped.each m low).has ∙ locked.locked m low ∙ h) in
       fits_of x n e q
 
+  -- and the word is that of a net
+  pub commit_word : is_locked p m ≡ true → (w : Net) × IsThere c w × (signal c w ≡ (commits_in c ns m).value)
+  commit_word h =
+      let (x, e) = some_of (some_at xs m) (locked.locked m low ∙ h) in
+      let (n, q) = some_of (some_at ns m) ((stepped.each m low).has ∙ locked.locked m low ∙ h) in
+      (n.value, after.there n.value ((stepped.each m low).lock x n e q).value_there, ap (λ (o : Option LockNets). (commit_of c o).value) (sym q))
+
 -- ---- what the steps leave as it was
 
 module _ {T : Type 0} (l : Members T) (a : Circuit) (p : Pipe) (xs : List (Option (MemLock T))) (locked : AreLocked l a p xs) (lawful : AreLawful l a p xs) where
@@ -138,22 +191,20 @@ module _ {T : Type 0} (l : Members T) (a : Circuit) (p : Pipe) (xs : List (Optio
   nexts_after b c k x h low = x.nexts k h (λ m u. let d = locks_end m u in inr (omega (arith, d, low)))
 
   -- nothing writes the array of a memory without lock
-  pub plain_unwritten : (b c : Circuit) (m : ℕ) → Keeps a b → ExtendsLocks xs (length p.mems) b c → write_signals b m ≡ [] → m < length p.mems → is_locked p m ≡ false → write_signals c m ≡ []
-  plain_unwritten b c m k x e low h = x.writes m (k.has_array m (locked.has_array m low)) (λ j u. outside j u (some_at xs j) refl) ∙ e
+  pub plain_unwritten : (b c : Circuit) (m : ℕ) → Keeps a b → ExtendsLocks xs (length p.mems) b c → (mem_at p m).delayed ≡ false → write_signals b (comb_place p m) ≡ [] → m < length p.mems → is_locked p m ≡ false → write_signals c (comb_place p m) ≡ []
+  plain_unwritten b c m k x once e low h = x.writes (comb_place p m) (k.has_array (comb_place p m) (locked.has_array m low once)) (λ j u. outside j u (some_at xs j) refl) ∙ e
     where
-      outside : (j : ℕ) → j < length p.mems → (o : Option (MemLock T)) → some_at xs j ≡ o → Outside (own_of o).first (own_of o).last m
+      outside : (j : ℕ) → j < length p.mems → (o : Option (MemLock T)) → some_at xs j ≡ o → Outside (own_of o).first (own_of o).last (comb_place p m)
       outside j u None f = inr (omega arith)
       outside j u (Some y) f =
-          let array = (locked.locks j y u f).array in
-          let P : Option ℕ → Type 0 = λ z. Outside (first_array z) (end_array z) m in
-          let differ : Outside j (j + 1) m = elim (cases_lt m j) [
-            | inl lt ↦ inl lt
+          outside_place (mem_at p j) (comb_place p j) y.regs.array (locked.locks j y u f).array (comb_place p m)
+          (λ v. elim (cases_lt m j) [
+            | inl lt ↦ inl (place_below p m j lt (omega (arith, u)) once)
             | inr ge ↦ elim (cases_lt j m) [
-              | inl lt ↦ inr (omega (arith, lt))
+              | inl lt ↦ inr (let n = place_below p j m lt (omega (arith, low)) v in omega (arith, n))
               | inr le ↦ let same : j ≡ m = omega (arith, ge, le) in absurd (false≢true (sym h ∙ sym (locked.locked m low) ∙ ap is_some (ap (some_at xs) (sym same) ∙ f)))
             ]
-          ] in
-          subst P (sym array) differ
+          ])
 
   -- a lock stays as it is while only registers after those of the locks change
   pub own_after : (m : ℕ) (b c : Circuit) (o : Own) → m < length p.mems → Keeps a b → ExtendsBut o b c → length a.regs ≤ o.from → o.last ≤ o.first → OwnKept (own_of (some_at xs m)) b c
@@ -171,9 +222,8 @@ module _ {T : Type 0} (l : Members T) (a : Circuit) (p : Pipe) (xs : List (Optio
           let it = locked.locks m y low e in
           let ends = regs_end (l.stands y.lock y.regs) (l.kind y.lock) (l.size y.lock) (l.tickets y.lock) a y.regs law in
           let there : (i : ℕ) → first_array y.regs.array ≤ i → i < end_array y.regs.array → HasArray a i = λ i lo hi.
-          let lo' : m ≤ i = subst (λ z. first_array z ≤ i) it.array lo in
-          let hi' : i < m + 1 = subst (λ z. i < end_array z) it.array hi in
-          locked.has_array i (omega (arith, lo', hi', low)) in
+          let u = own_place (mem_at p m) (comb_place p m) y.regs.array it.array i lo hi in
+          subst (HasArray a) (sym u.1) (locked.has_array m low u.0) in
           record {
             has_reg = λ i lo hi. x.has_reg i (k.has_reg i (law.regs i lo hi));
             nexts = λ i lo hi. x.nexts i (k.has_reg i (law.regs i lo hi)) (inl (omega (arith, hi, ends, from)));

@@ -5,6 +5,7 @@ pub mod PortsFit
 pub mod DeedsFit
 pub mod LocksKept
 pub mod LockSteps
+pub mod Places
 pub mod NewLock
 pub mod AllMade
 pub mod Law

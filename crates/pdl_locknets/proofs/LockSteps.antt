@@ -1,29 +1,31 @@
 -- The steps of the locks, one after the other.
-use Rattle.std.proofs.Common.{◌≡◌, ℕ, ◌+◌, ◌^◌, ◌<◌, ◌≤◌, ◌∙◌, List, [], ◌∷◌, ◌++◌, length, length-append, refl, sym, ap, subst, arith, inl, inr}
+use Rattle.std.proofs.Common.{◌≡◌, ℕ, ◌+◌, ◌^◌, ◌<◌, ◌≤◌, ◌∙◌, false, List, [], ◌∷◌, ◌++◌, length, length-append, refl, sym, ap, subst, arith, inl, inr}
 use borrow.Author.Count.{below_more}
 use Rattle.std.proofs.lemmas.List.{get_or_append_left, get_or_push}
-use Rattle.std.specs.Prelude.{Option, Some, None, is_some, slice_index_or}
+use Rattle.std.specs.Prelude.{Option, Some, None, is_some}
 use Rattle.pdl_semantics.specs.Flat.{Mem, Pipe}
 use Rattle.pdl_semantics.specs.Stages.{mem_at}
-use Rattle.pdl_net.specs.Circuit.{Circuit, State}
+use Rattle.pdl_net.specs.Circuit.{Circuit, State, HasArray}
 use Rattle.pdl_net.specs.Signal.{Signal}
 use Rattle.pdl_net.specs.Meaning.{signal, write_signals}
 use Rattle.pdl_net.specs.Growth.{Own, Outside, Keeps, ExtendsBut}
 use Rattle.pdl_net.proofs.Keeps.{but_keeps, keeps_refl, keeps_trans}
 use Rattle.pdl_lockapi.specs.declared.LockNets.{LockNets}
 use Rattle.pdl_lockapi.specs.Lock.{LockState}
-use Rattle.pdl_lockapi.specs.Laws.{first_reg, end_reg, first_array, end_array, own, after_writes, OwnKept, HasCommitNets, HidesLaw, StepLaw, StepSignals}
+use Rattle.pdl_lockapi.specs.Laws.{first_reg, end_reg, own, OwnKept, HasCommitNets, HidesLaw, StepLaw, StepSignals}
 use Rattle.pdl_lockapi.proofs.LockKinds.{next_kept, hides_kept}
+use Rattle.pdl_pipe_law.specs.Places.{comb_place}
 use Rattle.pdl_stagenets.specs.declared.locks.MemLock.{MemLock}
 use Rattle.pdl_stagenets.specs.Locked.{Members, some_at, IsLockIn, AreLocked}
 use Rattle.pdl_locknets.specs.Lawful.{AreLawful}
+use Rattle.pdl_locknets.proofs.Places.{place_below, own_place, outside_place}
 use Rattle.pdl_locknets.specs.Stepped.{own_of, IsStepped, IsSteppedMemory, AreStepped, ExtendsLocks}
 
 -- ---- the step of one lock
 
-pub is_stepped : {T : Type 0} (l : Members T) (a c : Circuit) (m : ℕ) (mem : Mem) (f : StepSignals) (x : MemLock T) (n : LockNets) → IsLockIn l a m mem x → HasCommitNets c x.regs.bits x.regs.width n.commit n.addr n.value
+pub is_stepped : {T : Type 0} (l : Members T) (a c : Circuit) (place : ℕ) (mem : Mem) (f : StepSignals) (x : MemLock T) (n : LockNets) → IsLockIn l a place mem x → HasCommitNets c x.regs.bits x.regs.width n.commit n.addr n.value
     → StepLaw (l.stands x.lock x.regs) (l.size x.lock) (l.tickets x.lock) (own x.regs) c f (signal c n.commit) (signal c n.addr) (signal c n.value) → HidesLaw (l.kind x.lock) c (own x.regs) f → IsStepped l c mem f x n
-is_stepped l a c m mem f x n i h law hides = record {
+is_stepped l a c place mem f x n i h law hides = record {
   law = law;
   hides = hides;
   commit_there = h.commit_there;
@@ -102,12 +104,6 @@ pub some_last : {X : Type 0} (xs : List (Option X)) (x : Option X) (i : ℕ) →
 some_last xs x i h = get_or_push xs x None i h
 
 module _ {T : Type 0} (l : Members T) (a : Circuit) (p : Pipe) (xs : List (Option (MemLock T))) (locked : AreLocked l a p xs) (lawful : AreLawful l a p xs) where
-  array_own : (j : ℕ) (x : MemLock T) (n : ℕ) → x.regs.array ≡ Some j → first_array x.regs.array ≤ n → n < end_array x.regs.array → n ≡ j
-  array_own j x n e lo hi =
-      let lo' : j ≤ n = subst (λ z. first_array z ≤ n) e lo in
-      let hi' : n < j + 1 = subst (λ z. n < end_array z) e hi in
-      omega (arith, lo', hi')
-
   -- the registers of an earlier lock are not those of a later one, nor is its array
   regs_apart : (j m : ℕ) (x : MemLock T) (k : ℕ) → j < m → m < length p.mems → some_at xs j ≡ Some x → first_reg x.regs ≤ k → k < end_reg x.regs → Outside (own_of (some_at xs m)).from (own_of (some_at xs m)).to k
   regs_apart j m x k h low e lo hi = at (some_at xs m) refl
@@ -116,23 +112,26 @@ module _ {T : Type 0} (l : Members T) (a : Circuit) (p : Pipe) (xs : List (Optio
       at None f = inr (omega arith)
       at (Some y) f = let d = lawful.apart j m x y h low e f in inl (omega (arith, hi, d))
 
-  array_apart : (n m : ℕ) → n < m → m < length p.mems → Outside (own_of (some_at xs m)).first (own_of (some_at xs m)).last n
-  array_apart n m h low = at (some_at xs m) refl
+  array_apart : (j m : ℕ) → j < m → m < length p.mems → (mem_at p j).delayed ≡ false → Outside (own_of (some_at xs m)).first (own_of (some_at xs m)).last (comb_place p j)
+  array_apart j m h low once = at (some_at xs m) refl
     where
-      at : (o : Option (MemLock T)) → some_at xs m ≡ o → Outside (own_of o).first (own_of o).last n
+      at : (o : Option (MemLock T)) → some_at xs m ≡ o → Outside (own_of o).first (own_of o).last (comb_place p j)
       at None f = inr (omega arith)
-      at (Some y) f = inl (subst (λ z. n < first_array z) (sym (locked.locks m y low f).array) h)
+      at (Some y) f = outside_place (mem_at p m) (comb_place p m) y.regs.array (locked.locks m y low f).array (comb_place p j) (λ u. inl (place_below p j m h (omega (arith, low)) once))
 
   pub own_apart : (j m : ℕ) (x : MemLock T) (b c : Circuit) → j < m → m < length p.mems → some_at xs j ≡ Some x → Keeps a b → ExtendsBut (own_of (some_at xs m)) b c → OwnKept (own x.regs) b c
   own_apart j m x b c h low e k d =
-      let it = locked.locks j x (omega (arith, h, low)) e in
-      let law = lawful.laws j x (omega (arith, h, low)) e in
-      let is : (n : ℕ) → first_array x.regs.array ≤ n → n < end_array x.regs.array → n < m = λ n lo hi. omega (arith, array_own j x n it.array lo hi, h) in
+      let under : j < length p.mems = omega (arith, h, low) in
+      let it = locked.locks j x under e in
+      let law = lawful.laws j x under e in
+      let is = own_place (mem_at p j) (comb_place p j) x.regs.array it.array in
       record {
         has_reg = λ n lo hi. d.has_reg n (k.has_reg n (law.regs n lo hi));
         nexts = λ n lo hi. d.nexts n (k.has_reg n (law.regs n lo hi)) (regs_apart j m x n h low e lo hi);
-        has_array = λ n lo hi. d.has_array n (k.has_array n (locked.has_array n (omega (arith, is n lo hi, low))));
-        writes = λ n lo hi. d.writes n (k.has_array n (locked.has_array n (omega (arith, is n lo hi, low)))) (array_apart n m (is n lo hi) low);
+        has_array = λ n lo hi. let q = is n lo hi in subst (HasArray c) (sym q.1) (d.has_array (comb_place p j) (k.has_array (comb_place p j) (locked.has_array j under q.0)));
+        writes = λ n lo hi.
+            let q = is n lo hi in
+            subst (λ i. write_signals c i ≡ write_signals b i) (sym q.1) (d.writes (comb_place p j) (k.has_array (comb_place p j) (locked.has_array j under q.0)) (array_apart j m h low q.0));
       }
 
   -- an earlier step stays
@@ -158,9 +157,10 @@ module _ {T : Type 0} (l : Members T) (a : Circuit) (p : Pipe) (xs : List (Optio
       }
 
   -- nothing writes the array of the next lock yet
-  pub still_unwritten : (m : ℕ) (b : Circuit) → m < length p.mems → ExtendsLocks xs m a b → write_signals a m ≡ [] → write_signals b m ≡ []
-  still_unwritten m b low x e = x.writes m (locked.has_array m low) (λ j h. outside j h (some_at xs j) refl) ∙ e
+  pub still_unwritten : (m : ℕ) (b : Circuit) → m < length p.mems → (mem_at p m).delayed ≡ false → ExtendsLocks xs m a b → write_signals a (comb_place p m) ≡ [] → write_signals b (comb_place p m) ≡ []
+  still_unwritten m b low once x e = x.writes (comb_place p m) (locked.has_array m low once) (λ j h. outside j h (some_at xs j) refl) ∙ e
     where
-      outside : (j : ℕ) → j < m → (o : Option (MemLock T)) → some_at xs j ≡ o → Outside (own_of o).first (own_of o).last m
+      outside : (j : ℕ) → j < m → (o : Option (MemLock T)) → some_at xs j ≡ o → Outside (own_of o).first (own_of o).last (comb_place p m)
       outside j h None f = inr (omega arith)
-      outside j h (Some y) f = inr (subst (λ z. end_array z ≤ m) (sym (locked.locks j y (omega (arith, h, low)) f).array) (omega (arith, h)))
+      outside j h (Some y) f =
+          outside_place (mem_at p j) (comb_place p j) y.regs.array (locked.locks j y (omega (arith, h, low)) f).array (comb_place p m) (λ u. inr (let l = place_below p j m h (omega (arith, low)) u in omega (arith, l)))

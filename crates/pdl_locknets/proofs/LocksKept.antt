@@ -1,6 +1,6 @@
 -- What is known of the locks stays while the circuit grows.
-use Rattle.std.proofs.Common.{◌≡◌, ℕ, ◌+◌, ◌-◌, ◌<◌, ◌≤◌, ◌∙◌, List, [], ◌∷◌, length, map, refl, sym, ap, ap₂, subst, arith}
-use Rattle.std.specs.Prelude.{Option, Some, None, slice_index_or}
+use Rattle.std.proofs.Common.{◌≡◌, ℕ, ◌+◌, ◌-◌, ◌≤◌, ◌∙◌, List, [], ◌∷◌, length, map, refl, sym, ap, ap₂, subst, arith}
+use Rattle.std.specs.Prelude.{Option, slice_index_or}
 use Rattle.pdl_semantics.specs.Tree.{LockKind}
 use Rattle.pdl_semantics.specs.Flat.{Mem, Pipe}
 use Rattle.pdl_semantics.specs.Stages.{mem_at}
@@ -12,18 +12,18 @@ use Rattle.pdl_net.specs.Growth.{Keeps}
 use Rattle.pdl_lockapi.specs.declared.LockRegs.{LockRegs}
 use Rattle.pdl_lockapi.specs.Lock.{LockState}
 use Rattle.pdl_lockapi.specs.Laws.{first_reg, end_reg, RoomLaw, TicketLaw, StepSignals}
-use Rattle.pdl_flatnets.specs.Nets.{signal_at}
+use Rattle.pdl_flatnets.specs.Nets.{signals_in, signal_at}
 use Rattle.pdl_flatnets.proofs.NetLists.{there_keeps, signals_keep}
-use Rattle.pdl_pipe_law.specs.Walk.{zero_bit}
-use Rattle.pdl_pipe_law.specs.Views.{View, no_gates}
-use Rattle.pdl_pipe_law.specs.Ports.{all_reserves, all_puts, release_signal, step_of}
+use Rattle.pdl_pipe_law.specs.Places.{comb_place}
+use Rattle.pdl_pipe_law.specs.Views.{View}
+use Rattle.pdl_pipe_law.specs.Ports.{all_reserves, all_puts, release_signal}
 use Rattle.pdl_stagenets.specs.declared.locks.MemLock.{MemLock}
 use Rattle.pdl_stagenets.specs.Parts.{Parts, walk_of}
-use Rattle.pdl_stagenets.specs.Locked.{Members, some_at, of_lock, locks_in, IsLockIn, AreLocked, AreTickets}
+use Rattle.pdl_stagenets.specs.Locked.{Members, IsLockIn, AreLocked, AreTickets, tickets_in}
 use Rattle.pdl_stagenets.proofs.Kept.{parts_keep, walk_keep}
 use Rattle.pdl_locknets.specs.declared.deeds.StageDeeds.{StageDeeds}
 use Rattle.pdl_locknets.specs.Lawful.{IsLawful, AreLawful}
-use Rattle.pdl_locknets.specs.Deeds.{no_parts, view_with, view_in, views_in, moves_in, IsDeed, AreDeeds}
+use Rattle.pdl_locknets.specs.Deeds.{no_parts, view_with, view_in, steps_in, IsDeed, AreDeeds, AreSquashNets}
 use Rattle.pdl_locknets.specs.Ports.{signals_of}
 use Rattle.pdl_word.specs.Each.{Each}
 
@@ -32,8 +32,8 @@ Stays {T} l = (x : T) (a b : Circuit) (r : LockRegs) → Keeps a b → l.placed 
 
 -- ---- one lock
 
-pub lock_kept : {T : Type 0} (l : Members T) (a b : Circuit) (m : ℕ) (mem : Mem) (x : MemLock T) → Keeps a b → Stays l → IsLockIn l a m mem x → IsLockIn l b m mem x
-lock_kept l a b m mem x k stays i = record {
+pub lock_kept : {T : Type 0} (l : Members T) (a b : Circuit) (place : ℕ) (mem : Mem) (x : MemLock T) → Keeps a b → Stays l → IsLockIn l a place mem x → IsLockIn l b place mem x
+lock_kept l a b place mem x k stays i = record {
   is_placed = stays x.lock a b x.regs k i.is_placed;
   room_there = k.there x.regs.room i.room_there;
   room_one = ap (λ (f : Signal). f.width) (k.kept x.regs.room i.room_there) ∙ i.room_one;
@@ -70,27 +70,19 @@ pub locked_kept : {T : Type 0} (l : Members T) (a b : Circuit) (p : Pipe) (xs : 
 locked_kept l a b p xs k stays h = record {
   count = h.count;
   locked = h.locked;
-  locks = λ m x low e. lock_kept l a b m (mem_at p m) x k stays (h.locks m x low e);
-  has_array = λ m low. k.has_array m (h.has_array m low);
-  width = λ m low. k.word m (h.has_array m low) ∙ h.width m low;
-  depth = λ m low e. k.depth m (h.has_array m low) ∙ h.depth m low e;
+  locks = λ m x low e. lock_kept l a b (comb_place p m) (mem_at p m) x k stays (h.locks m x low e);
+  has_array = λ m low once. k.has_array (comb_place p m) (h.has_array m low once);
+  width = λ m low once. k.word (comb_place p m) (h.has_array m low once) ∙ h.width m low once;
+  depth = λ m low e once. k.depth (comb_place p m) (h.has_array m low once) ∙ h.depth m low e once;
 }
 
 pub laws_kept : {T : Type 0} (l : Members T) (a b : Circuit) (p : Pipe) (xs : List (Option (MemLock T))) → Keeps a b → AreLocked l a p xs → AreLawful l a p xs → AreLawful l b p xs
 laws_kept l a b p xs k h x = record {
   laws = λ m y low e. lawful_kept (l.stands y.lock y.regs) (l.kind y.lock) (l.size y.lock) (l.tickets y.lock) a b y.regs k (h.locks m y low e).room_there (h.locks m y low e).ticket_there (x.laws m y low e);
   kinds = x.kinds;
-  deep = λ m y low e. k.depth m (h.has_array m low) ∙ x.deep m y low e;
+  deep = λ m y low once e. k.depth (comb_place p m) (h.has_array m low once) ∙ x.deep m y low once e;
   apart = x.apart;
 }
-
--- the next ticket of a memory's lock
-pub ticket_kept : {T : Type 0} (l : Members T) (a b : Circuit) (p : Pipe) (xs : List (Option (MemLock T))) (m : ℕ) → Keeps a b → AreLocked l a p xs → m < length p.mems → (locks_in l b xs).ticket m ≡ (locks_in l a xs).ticket m
-ticket_kept {T} l a b p xs m k h low = at (some_at xs m) refl
-  where
-    at : (x : Option (MemLock T)) → some_at xs m ≡ x → of_lock (λ (y : MemLock T). signal b y.regs.ticket) zero_bit x ≡ of_lock (λ (y : MemLock T). signal a y.regs.ticket) zero_bit x
-    at None e = refl
-    at (Some y) e = k.kept y.regs.ticket (h.locks m y low e).ticket_there
 
 -- ---- the stages
 
@@ -131,28 +123,35 @@ pub moves_kept : {T : Type 0} (l : Members T) (a b : Circuit) (p : Pipe) (ws : L
 moves_kept l a b p ws xs [] k h = refl
 moves_kept l a b p ws xs (d ∷ ds) k h = ap₂ (λ (f : Signal) (fs : List Signal). f ∷ fs) (k.kept d.moves h.0.moves) (moves_kept l a b p ws xs ds k h.1)
 
+-- the nets of a squash
+pub squash_kept : {T : Type 0} (l : Members T) (a b : Circuit) (xs : List (Option (MemLock T))) (x : Net) (ts : List Net) → Keeps a b → AreSquashNets l a xs x ts → AreSquashNets l b xs x ts
+squash_kept l a b xs x ts k h = record {
+  there = k.there x h.there;
+  one = ap (λ (f : Signal). f.width) (k.kept x h.there) ∙ h.one;
+  tails = tickets_kept l a b xs ts k h.tails;
+}
+
 -- the step's signals, by the lists of the stages and of their moves
-abbrev step_by : ℕ → ℕ → List View → List Signal → Signal → StepSignals
-step_by n m vs fs t =
+abbrev step_by : ℕ → ℕ → List View → List Signal → Signal → List Signal → StepSignals
+step_by n m vs fs squash tails =
     record {
       reserves = all_reserves m (λ k. slice_index_or vs k (view_with (λ m. no_signal) (walk_of no_parts))) (λ k. signal_at fs k) n 0;
       writes = all_puts m (λ k. slice_index_or vs k (view_with (λ m. no_signal) (walk_of no_parts))) (λ k. signal_at fs k) n 0;
       release = release_signal m (λ k. slice_index_or vs k (view_with (λ m. no_signal) (walk_of no_parts))) (λ k. signal_at fs k) n 0;
-      squash = zero_bit;
-      tail = t;
+      squash = squash;
+      tail = signal_at tails m;
     }
 
 -- they are the same in a circuit that grew
-pub step_same : {T : Type 0} (l : Members T) (a b : Circuit) (p : Pipe) (ws : List ℕ) (xs : List (Option (MemLock T))) (ds : List StageDeeds) (m : ℕ) → Keeps a b → AreLocked l a p xs → AreDeeds l a p ws xs ds → m < length p.mems
-    → step_of p (views_in b ds) (no_gates (locks_in l b xs)) (moves_in b ds) m ≡ step_of p (views_in a ds) (no_gates (locks_in l a xs)) (moves_in a ds) m
-step_same l a b p ws xs ds m k h d low =
+pub step_same : {T : Type 0} (l : Members T) (a b : Circuit) (p : Pipe) (ws : List ℕ) (xs : List (Option (MemLock T))) (ds : List StageDeeds) (x : Net) (ts : List Net) (m : ℕ) → Keeps a b → AreDeeds l a p ws xs ds → AreSquashNets l a xs x ts
+    → steps_in b p ds x ts m ≡ steps_in a p ds x ts m
+step_same l a b p ws xs ds x ts m k d s =
     let n = length p.stages in
     let vs = views_kept l a b p ws xs ds k d.each in
     let fs = moves_kept l a b p ws xs ds k d.each in
-    ap₂ (λ us gs. step_by n m us gs ((locks_in l b xs).ticket m)) vs fs ∙ ap (step_by n m (map (view_in a) ds) (map (move_in a) ds)) (ticket_kept l a b p xs m k h low)
+    ap₂ (λ us gs. step_by n m us gs (signal b x) (signals_in b ts)) vs fs ∙ ap₂ (step_by n m (map (view_in a) ds) (map (move_in a) ds)) (k.kept x s.there) (signals_keep a b ts k s.tails.there)
 
 -- and those of a lock's ports
-pub signals_are : {T : Type 0} (l : Members T) (c : Circuit) (p : Pipe) (ws : List ℕ) (xs : List (Option (MemLock T))) (ds : List StageDeeds) (m : ℕ) (x : MemLock T) → some_at xs m ≡ Some x → AreDeeds l c p ws xs ds
-    → signals_of c ds m (signal c x.regs.ticket) ≡ step_of p (views_in c ds) (no_gates (locks_in l c xs)) (moves_in c ds) m
-signals_are {T} l c p ws xs ds m x e d =
-    ap₂ (λ n t. step_by n m (map (view_in c) ds) (map (move_in c) ds) t) d.count (ap (of_lock (λ (y : MemLock T). signal c y.regs.ticket) zero_bit) (sym e))
+pub signals_are : {T : Type 0} (l : Members T) (c : Circuit) (p : Pipe) (ws : List ℕ) (xs : List (Option (MemLock T))) (ds : List StageDeeds) (x : Net) (ts : List Net) (m : ℕ) → AreDeeds l c p ws xs ds
+    → signals_of c ds m (signal c x) (tickets_in c ts m) ≡ steps_in c p ds x ts m
+signals_are l c p ws xs ds x ts m d = ap (λ n. step_by n m (map (view_in c) ds) (map (move_in c) ds) (signal c x) (signals_in c ts)) d.count

@@ -1,9 +1,9 @@
 -- The ports of a lock as its step takes them.
-use Rattle.std.proofs.Common.{◌≡◌, ℕ, ◌<◌, List, [], ◌∷◌, map, length, get_or, sym, ap, ◌∙◌, subst}
-use Rattle.std.specs.Prelude.{Option, Some}
+use Rattle.std.proofs.Common.{◌≡◌, ℕ, ◌<◌, List, [], ◌∷◌, map, length, get_or, refl, sym, ap, ◌∙◌, subst}
+use Rattle.std.specs.Prelude.{Option, Some, None}
 use Rattle.pdl_net.specs.Circuit.{Circuit, HasArray}
 use Rattle.pdl_net.specs.Signal.{Signal}
-use Rattle.pdl_net.specs.Meaning.{signal, write_signals}
+use Rattle.pdl_net.specs.Meaning.{signal}
 use Rattle.pdl_net.specs.Growth.{Extends}
 use Rattle.pdl_lockapi.specs.declared.Kind.{Kind}
 use Rattle.pdl_lockapi.specs.declared.Kind.TheVariants.{W}
@@ -68,5 +68,6 @@ ports_fit c bits width tickets p f h w = record {
     write k q l e = each_at (λ (q : TicketWrite). WriteFits width tickets (ticket_signal c q)) p.writes k q l (sym e) (of_map (ticket_signal c) (WriteFits width tickets) p.writes (subst (Each (WriteFits width tickets)) (sym h.writes.same) w.writes))
 
 -- nothing writes a lock's array while its ports are made
-pub unwritten_array : (o : Option ℕ) (m : ℕ) (a b : Circuit) → o ≡ Some m → Extends a b → HasArray a m → write_signals a m ≡ [] → HasNoPorts o b
-unwritten_array o m a b e x has h = subst (λ i. HasNoPorts i b) (sym e) (x.writes m has ∙ h)
+pub unwritten_still : (o : Option ℕ) (a b : Circuit) → Extends a b → ((i : ℕ) → o ≡ Some i → HasArray a i) → HasNoPorts o a → HasNoPorts o b
+unwritten_still None a b x has h = h
+unwritten_still (Some i) a b x has h = x.writes i (has i refl) ∙ h

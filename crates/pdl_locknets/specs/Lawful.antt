@@ -1,5 +1,5 @@
 -- The laws of the locks in a circuit, which hold as they are made and stay as it grows.
-use Rattle.std.specs.Prelude.{◌≡◌, ℕ, ◌<◌, ◌≤◌, List, [], length, Option, Some}
+use Rattle.std.specs.Prelude.{◌≡◌, ℕ, ◌<◌, ◌≤◌, false, List, [], length, Option, Some}
 use Rattle.pdl_semantics.specs.Tree.{LockKind}
 use Rattle.pdl_semantics.specs.Flat.{Pipe}
 use Rattle.pdl_semantics.specs.Stages.{mem_at}
@@ -9,6 +9,7 @@ use Rattle.pdl_lockapi.specs.declared.LockRegs.{LockRegs}
 use Rattle.pdl_lockapi.specs.Lock.{LockState}
 use Rattle.pdl_lockapi.specs.Laws.{first_reg, end_reg, words_of, StartLaw, PlacesLaw, RoomLaw, TicketLaw}
 use Rattle.pdl_lockapi.specs.Forget.{as_lock}
+use Rattle.pdl_pipe_law.specs.Places.{comb_place}
 use Rattle.pdl_stagenets.specs.declared.locks.MemLock.{MemLock}
 use Rattle.pdl_stagenets.specs.Locked.{Members, some_at}
 
@@ -28,13 +29,13 @@ IsLawfulLock l c x = IsLawful (l.stands x.lock x.regs) (l.kind x.lock) (l.size x
 pub record AreLawful {T : Type 0} (l : Members T) (c : Circuit) (p : Pipe) (xs : List (Option (MemLock T))) : Type 0 where
   pub laws : (m : ℕ) (x : MemLock T) → m < length p.mems → some_at xs m ≡ Some x → IsLawfulLock l c x
   pub kinds : (m : ℕ) (x : MemLock T) → m < length p.mems → some_at xs m ≡ Some x → (mem_at p m).lock ≡ as_lock (l.kind x.lock) (l.size x.lock)
-  pub deep : (m : ℕ) (x : MemLock T) → m < length p.mems → some_at xs m ≡ Some x → array_depth c m ≡ words_of (l.kind x.lock) (mem_at p m).depth
+  pub deep : (m : ℕ) (x : MemLock T) → m < length p.mems → (mem_at p m).delayed ≡ false → some_at xs m ≡ Some x → array_depth c (comb_place p m) ≡ words_of (l.kind x.lock) (mem_at p m).depth
   pub apart : (m n : ℕ) (x y : MemLock T) → m < n → n < length p.mems → some_at xs m ≡ Some x → some_at xs n ≡ Some y → end_reg x.regs ≤ first_reg y.regs
 
 -- the locks' registers are above those of a circuit
 abbrev pub AreAbove : {T : Type 0} → Circuit → Pipe → List (Option (MemLock T)) → Type 0
 AreAbove {T} c p xs = (m : ℕ) (x : MemLock T) → m < length p.mems → some_at xs m ≡ Some x → length c.regs ≤ first_reg x.regs
 
--- no port writes the first n arrays
-abbrev pub AreUnwritten : Circuit → ℕ → Type 0
-AreUnwritten c n = (m : ℕ) → m < n → write_signals c m ≡ []
+-- no port writes the memories' arrays
+abbrev pub AreUnwritten : Circuit → Pipe → Type 0
+AreUnwritten c p = (m : ℕ) → m < length p.mems → (mem_at p m).delayed ≡ false → write_signals c (comb_place p m) ≡ []

@@ -2,6 +2,6 @@ pub mod Suited
 pub mod Lawful
 pub mod Made
 pub mod Deeds
-pub mod Round
 pub mod Ports
+pub mod Round
 pub mod Stepped

@@ -9,7 +9,6 @@ use Rattle.pdl_lockapi.specs.declared.TicketWrite.{TicketWrite}
 use Rattle.pdl_lockapi.specs.declared.LockPorts.{LockPorts}
 use Rattle.pdl_lockapi.specs.Laws.{ReserveSignal, TicketSignal, StepSignals, reserve_signal, ticket_signal}
 use Rattle.pdl_flatnets.specs.Nets.{NetsThere}
-use Rattle.pdl_pipe_law.specs.Walk.{zero_bit}
 use Rattle.pdl_pipe_law.specs.Ports.{all_reserves, all_puts, release_signal}
 use Rattle.pdl_stagenets.specs.declared.nets.ReserveNet.{ReserveNet}
 use Rattle.pdl_stagenets.specs.declared.nets.PutNet.{PutNet}
@@ -81,15 +80,15 @@ pub record ArePorts (c : Circuit) (p : LockPorts) (f : StepSignals) : Type 0 whe
   pub squash : Means c p.squash f.squash
   pub tail : Means c p.tail f.tail
 
--- what the stages do to the lock of memory m, where nothing is squashed and the next ticket is this
-abbrev pub signals_of : Circuit → List StageDeeds → ℕ → Signal → StepSignals
-signals_of c ds m ticket =
+-- what the stages do to the lock of memory m, with what a squash does to it
+abbrev pub signals_of : Circuit → List StageDeeds → ℕ → Signal → Signal → StepSignals
+signals_of c ds m squash tail =
     record {
       reserves = all_reserves m (views_in c ds) (moves_in c ds) (length ds) 0;
       writes = all_puts m (views_in c ds) (moves_in c ds) (length ds) 0;
       release = release_signal m (views_in c ds) (moves_in c ds) (length ds) 0;
-      squash = zero_bit;
-      tail = ticket;
+      squash = squash;
+      tail = tail;
     }
 
 -- the widths that a lock takes: of addresses, words and tickets

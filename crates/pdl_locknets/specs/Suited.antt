@@ -1,5 +1,5 @@
 -- Memories as their locks and arrays take them, and locks that suit them.
-use Rattle.std.specs.Prelude.{◌≡◌, ℕ, ◌<◌, false, List, [], ◌∷◌, length, slice_index_or, Option, Some, is_some, ⊤}
+use Rattle.std.specs.Prelude.{◌≡◌, ℕ, ◌<◌, false, List, [], ◌∷◌, ◌++◌, if◌then◌else◌, length, slice_index_or, Option, Some, is_some, ⊤}
 use Rattle.pdl_kit.specs.declared.mem_info.MemInfo.{MemInfo}
 use Rattle.pdl_semantics.specs.Flat.{Mem}
 use Rattle.pdl_semantics.specs.Stages.{mem_at}
@@ -20,9 +20,13 @@ info_at f m = info_of (slice_index_or f.names m []) (mem_at f.pipe m)
 abbrev pub shape_in : List ℕ → Mem → Shape
 shape_in name m = record { name = name; width = m.width; depth = words_in m.lock m.depth }
 
+-- the array of a memory; a delayed one has none
+abbrev pub arrays_in : List ℕ → Mem → List Shape
+arrays_in name m = if m.delayed then [] else shape_in name m ∷ []
+
 -- the arrays of memories with these names
 abbrev pub shapes_in : List (List ℕ) → List Mem → List Shape
-shapes_in (name ∷ names) (m ∷ ms) = shape_in name m ∷ shapes_in names ms
+shapes_in (name ∷ names) (m ∷ ms) = arrays_in name m ++ shapes_in names ms
 shapes_in _ _ = []
 
 -- memories that answer at once

@@ -1,5 +1,5 @@
 // The arrays of the memories, and the registers of their locks.
-ghost use Rattle.std.specs.Prelude.{◌≡◌, ℕ, ◌<◌, ◌∷◌, [], Some, None, true, false, IfOk, OnOk, map, length, slice_index_or};
+ghost use Rattle.std.specs.Prelude.{◌≡◌, ℕ, ◌<◌, ◌∷◌, [], Some, None, false, IfOk, OnOk, map, length, slice_index_or};
 ghost use Rattle.pdl_form.specs.Whole.{form};
 ghost use Rattle.pdl_form.specs.View.{mem_view};
 ghost use Rattle.pdl_formtypes.specs.Stmts.{IsTypedMem, AreTypedMems};
@@ -8,7 +8,7 @@ ghost use Rattle.pdl_net.specs.Meaning.{write_signals};
 ghost use Rattle.pdl_net.specs.Growth.{ExtendsArrays};
 ghost use Rattle.pdl_lockapi.specs.Forget.{as_lock};
 ghost use Rattle.pdl_stagenets.specs.Locked.{members, some_at, AreLocked};
-ghost use Rattle.pdl_locknets.specs.Suited.{info_of, shape_in, shapes_in, AreComb, AreSuited};
+ghost use Rattle.pdl_locknets.specs.Suited.{info_of, arrays_in, shapes_in, AreSuited};
 ghost use Rattle.pdl_locknets.specs.Lawful.{AreLawful, AreAbove, AreUnwritten};
 ghost use Rattle.pdl_locknets.specs.Made.{IsServed, AreServed, IsNewLock, IsNewMemory};
 
@@ -43,27 +43,27 @@ fn plain(b: &mut Builder, m: &Mem) -> Result<(), NoMemory>
     Ok(())
 }
 
-// The registers of a memory's lock, and its array.
+// The registers of a memory's lock, and its array, where it answers at once.
 fn lock_registers<L: LockModule + Copy>(
     alloc: Global,
     b: &mut Builder,
     m: &Mem,
     lock: &L,
 ) -> Result<MemLock<L>, NoMemory>
-    requires comb { m.now.delayed ≡ false }
     requires served { IsServed L.suits (members L.LockModule) m.now.name (mem_view m.now) lock.now }
     ensures lock { IfOk result (λ x.
         IsNewLock (members L.LockModule) b.old b.new (mem_view m.now) x) }
-    ensures unwritten { OnOk result (write_signals b.new (length b.old.arrays) ≡ []) }
+    ensures unwritten { m.now.delayed ≡ false →
+        OnOk result (write_signals b.new (length b.old.arrays) ≡ []) }
     ensures extends { OnOk result (ExtendsArrays b.old b.new
-        (shape_in m.now.name (mem_view m.now) ∷ [])) }
+        (arrays_in m.now.name (mem_view m.now))) }
 {
     let info = info(m)?;
     let regs = lock.emit_state(alloc, b, &info)?;
     Ok(MemLock { lock: *lock, regs })
 }
 
-// The array of a memory, and its lock where it has one.
+// The array of a memory that answers at once, and the lock of one that has one.
 fn memory<L: LockModule + Copy>(
     alloc: Global,
     b: &mut Builder,
@@ -71,18 +71,20 @@ fn memory<L: LockModule + Copy>(
     lock: &Option<L>,
 ) -> Result<Option<MemLock<L>>, NoMemory>
     requires typed { IsTypedMem (mem_view m.now) }
-    requires comb { m.now.delayed ≡ false }
     requires served { AreServed L.suits (members L.LockModule) m.now.name
         (mem_view m.now) lock.now }
     ensures memory { IfOk result (λ x.
         IsNewMemory (members L.LockModule) b.old b.new (mem_view m.now) x) }
-    ensures unwritten { OnOk result (write_signals b.new (length b.old.arrays) ≡ []) }
+    ensures unwritten { m.now.delayed ≡ false →
+        OnOk result (write_signals b.new (length b.old.arrays) ≡ []) }
     ensures extends { OnOk result (ExtendsArrays b.old b.new
-        (shape_in m.now.name (mem_view m.now) ∷ [])) }
+        (arrays_in m.now.name (mem_view m.now))) }
 {
     match lock {
         None => {
-            plain(b, m)?;
+            if !m.delayed {
+                plain(b, m)?;
+            }
             Ok(None)
         }
         Some(l) => {
@@ -108,7 +110,7 @@ fn lock_at<L>(locks: &[Option<L>], m: usize) -> &Option<L>
     &locks[m]
 }
 
-/// An array for each memory, in order, and each lock's registers: the lock of each memory that has one, with its part of the circuit.
+/// An array for each memory that answers at once, in order, and each lock's registers: the lock of each memory that has one, with its part of the circuit.
 ///
 /// `locks` has for each memory the lock that serves it; the circuit has no array before.
 pub fn memories<L: LockModule + Copy>(
@@ -119,14 +121,13 @@ pub fn memories<L: LockModule + Copy>(
 ) -> Result<Vec<Option<MemLock<L>>>, NoMemory>
     requires none { b.old.arrays ≡ [] }
     requires mems { AreTypedMems (form pipe.now).pipe.mems }
-    requires comb { AreComb (form pipe.now).pipe.mems }
     requires suited { AreSuited L.suits (members L.LockModule) (form pipe.now) locks.now }
     ensures locked { IfOk result (λ xs.
         AreLocked (members L.LockModule) b.new (form pipe.now).pipe xs.items) }
     ensures lawful { IfOk result (λ xs.
         AreLawful (members L.LockModule) b.new (form pipe.now).pipe xs.items) }
     ensures above { IfOk result (λ xs. AreAbove b.old (form pipe.now).pipe xs.items) }
-    ensures unwritten { OnOk result (AreUnwritten b.new (length (form pipe.now).pipe.mems)) }
+    ensures unwritten { OnOk result (AreUnwritten b.new (form pipe.now).pipe) }
     ensures extends { OnOk result (ExtendsArrays b.old b.new
         (shapes_in (form pipe.now).names (form pipe.now).pipe.mems)) }
 {

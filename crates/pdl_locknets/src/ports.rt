@@ -297,20 +297,22 @@ fn release<'d>(
     Ok(net)
 }
 
-/// What a cycle does to the lock of a memory with this next ticket; nothing is squashed.
+/// What a cycle does to the lock of a memory; where `squash` is 1 it drops the pending writes from the ticket `tail` on.
 pub fn lock_ports<'d>(
     alloc: Global,
     b: &mut Builder,
     bits: Bits,
     deeds: &[StageDeeds<'d>],
     m: usize,
-    ticket: Net,
+    squash: Net,
+    tail: Net,
 ) -> Result<LockPorts, NoMemory>
     requires bits { AreBits b.old bits }
     requires given { Each (IsGiven b.old m) deeds.now }
-    requires ticket { IsThere b.old ticket }
+    requires squash { IsThere b.old squash }
+    requires tail { IsThere b.old tail }
     ensures ports { IfOk result (λ p.
-        ArePorts b.new p (signals_of b.old deeds.now m (signal b.old ticket))) }
+        ArePorts b.new p (signals_of b.old deeds.now m (signal b.old squash) (signal b.old tail))) }
     ensures extends { Extends b.old b.new }
 {
     let reserves = reserve_ports(alloc, b, bits, deeds, m)?;
@@ -320,7 +322,7 @@ pub fn lock_ports<'d>(
         reserves,
         writes,
         release,
-        squash: bits.zero,
-        tail: ticket,
+        squash,
+        tail,
     })
 }

@@ -1,16 +1,18 @@
 -- The netlist of an accepted pipe keeps all that is promised of it.
-use Rattle.std.proofs.Common.{◌≡◌, refl, sym, ap, ◌∙◌, subst, ℕ, ◌<◌, List, [], length, map, arith}
+use Rattle.std.proofs.Common.{◌≡◌, refl, sym, ap, ◌∙◌, subst, ℕ, ◌<◌, false, List, [], length, map, arith}
 use Rattle.std.specs.Prelude.{IsTrue, filter, is_some}
 use Rattle.std.proofs.lemmas.List.{length-map}
 use Rattle.pdl_kit.specs.declared.mem_info.MemInfo.{MemInfo}
 use Rattle.pdl_semantics.specs.Tree as tree
 use Rattle.pdl_semantics.specs.Flat.{arrays_of}
 use Rattle.pdl_semantics.specs.Flatten.{flat}
+use Rattle.pdl_semantics.specs.Stages.{mem_at}
 use Rattle.pdl_semantics.specs.Cycle.{first, state_after}
 use Rattle.pdl_theorems.proofs.Stated.{whole_refines}
 use Rattle.pdl_rules.specs.Refusal.{KeepsRules}
 use Rattle.pdl_pathfacts.specs.Source.{is_source, is_named}
 use Rattle.pdl_pathfacts.proofs.Whole.{of_source}
+use Rattle.pdl_pathfacts.proofs.Memories.{mems_length}
 use Rattle.pdl_form.specs.Form.{form_of}
 use Rattle.pdl_net.specs.declared.Netlist.{Netlist}
 use Rattle.pdl_net.specs.Circuit.{Circuit, circuit_of, shape_of, shapes_of}
@@ -45,6 +47,8 @@ use Rattle.pdl_stageregs.specs.Stages.{views_in}
 use Rattle.pdl_stageregs.specs.Moves.{moves_in}
 use Rattle.pdl_locknets.specs.Stepped.{AreStepped}
 use Rattle.pdl_locknets.proofs.LocksKept.{Stays}
+use Rattle.pdl_locknets.proofs.AllMade.{comb_at}
+use Rattle.pdl_locknets.proofs.Places.{place_all}
 use Rattle.pdl_pipe.specs.declared.netlist.Joined.{Joined}
 use Rattle.pdl_pipe.specs.Joined.{IsShown}
 use Rattle.pdl_pipe.specs.Finished.{IsFinished, IsWhole}
@@ -52,6 +56,7 @@ use Rattle.pdl_pipe.specs.Refined.{no_replies}
 use Rattle.pdl_pipe.specs.Locks.{IsUsed, HasLocks}
 use Rattle.pdl_pipe.proofs.Sequential.{refines_threads}
 use Rattle.pdl_pipe.proofs.Making.{IsLawful, locks_made, locked_made, lawful_made, stepped_made, fits_at, shapes_made, lawful}
+use Rattle.pdl_pipe.proofs.Lockable.{at_once as are_comb}
 use Rattle.pdl_pipe.proofs.Locking.{used_lock}
 use Rattle.pdl_pipe.proofs.Fitting.{same_shapes, same_names, commits_fit, same_begun, one_valid, one_moves}
 use Rattle.pdl_rules.specs.Memories.{infos_of}
@@ -90,7 +95,7 @@ module _ (p : tree.Pipe) (rules : KeepsRules p) (source : IsTrue (is_source p)) 
     b = shown.joined.second
 
     abbrev ls : Locks
-    ls = locks_in l shown.joined.first x.locks.items
+    ls = locks_in l (flat p) shown.joined.first x.locks.items
 
     abbrev vs : ℕ → View
     vs = views_in shown.joined.second (flat p) x.line.stages.items
@@ -98,8 +103,11 @@ module _ (p : tree.Pipe) (rules : KeepsRules p) (source : IsTrue (is_source p)) 
     abbrev goes : ℕ → Signal
     goes = moves_in shown.joined.second x.line.moves.items
 
+    comb : (m : ℕ) → m < length (flat p).mems → (mem_at (flat p) m).delayed ≡ false
+    comb m low = comb_at (flat p).mems m low (are_comb p.mems (comb_mems p can))
+
     law : IsLawful l (form_of p) x d (mem_names p.mems) shown.joined.first shown.joined.second
-    law = lawful l stays (form_of p) x d shown well (mem_names p.mems) (λ m low. same_names p.mems m)
+    law = lawful l stays (form_of p) x d shown comb well (mem_names p.mems) (λ m low. same_names p.mems m)
 
     made : IsMade p ls vs (no_gates ls) goes n
     made = record {
@@ -107,10 +115,10 @@ module _ (p : tree.Pipe) (rules : KeepsRules p) (source : IsTrue (is_source p)) 
       compiled = law.compiled;
       well = well;
       wide = record { stages = λ k low. (one_valid b (flat p) x.line.stages.items k, one_moves b x.line.moves.items k (let e = shown.joined.line.moves in omega (arith, low, e)) shown.joined.line.there); squash = refl };
-      commits = commits_fit law.compiled.commits p.mems (λ m h. rw law.commits (fits_at l stays (form_of p) x d shown m h));
-      in_order = λ m low. refl;
+      commits = commits_fit law.compiled.commits p.mems (λ m h. rw law.commits (fits_at l stays (form_of p) x d shown comb m h));
+      in_order = λ m low. place_all (flat p) comb m (omega (arith, low, mems_length p.mems));
       mems = mems;
-      arrays = shapes_listed n ∙ shapes_made l stays (form_of p) x d shown ∙ same_shapes p.mems;
+      arrays = shapes_listed n ∙ shapes_made l stays (form_of p) x d shown comb ∙ same_shapes p.mems (comb_mems p can);
     }
 
     same : (k y : ℕ) → (vs k).begun.vars y ≡ (vs k).kept y
@@ -128,20 +136,20 @@ module _ (p : tree.Pipe) (rules : KeepsRules p) (source : IsTrue (is_source p)) 
     -- its locks, which are used in each cycle as the machine's threads use them
     with_locks : HasLocks l p n
     with_locks =
-        let again = sym (locks_made l stays (form_of p) x d shown) in
+        let again = sym (locks_made l stays (form_of p) x d shown comb) in
         record {
           locks = x.locks.items;
-          locked = locked_made l stays (form_of p) x d shown;
-          lawful = lawful_made l stays (form_of p) x d shown;
+          locked = locked_made l stays (form_of p) x d shown comb;
+          lawful = lawful_made l stays (form_of p) x d shown comb;
           views = vs;
           moves = goes;
           stages = subst (λ (g : Locks). (k : ℕ) → k < length (flat p).stages → IsStage (flat p) g d vs (no_gates g) goes k) again law.compiled.stages;
           commits = x.commits.items;
-          stepped = subst (λ (g : Locks). AreStepped l d (flat p) (step_of (flat p) vs (no_gates g) goes) x.locks.items x.commits.items (length (flat p).mems)) again (stepped_made l stays (form_of p) x d shown);
+          stepped = subst (λ (g : Locks). AreStepped l d (flat p) (step_of (flat p) vs (no_gates g) goes) x.locks.items x.commits.items (length (flat p).mems)) again (stepped_made l stays (form_of p) x d shown comb);
           used = λ image schedule bits m y is_image low e.
               let s = state_in (held_after n (start n image) schedule) bits in
               let st = state_after (flat p) (first (flat p) (arrays_of image)) (no_replies schedule) in
-              let is_locked_here = sym ((locked_made l stays (form_of p) x d shown).locked m low) ∙ ap is_some e in
+              let is_locked_here = sym ((locked_made l stays (form_of p) x d shown comb).locked m low) ∙ ap is_some e in
               subst (λ (g : Locks). IsUsed l (flat p) m y (step_of (flat p) vs (no_gates g) goes m) s st) again
               (used_lock l (flat p) shown.joined.first x.locks.items vs goes m y s st e
               (used_after (flat p) is_fit (mem_names p.mems) ls vs (no_gates ls) goes n law.compiled beside has_mems_here done.follows.well_formed done.here (at_once p (comb_mems p can)) image schedule (no_replies schedule) bits [] m

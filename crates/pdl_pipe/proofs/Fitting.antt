@@ -1,6 +1,9 @@
 -- What is said of the memories of a flat form, said of the tree that it is made from.
-use Rattle.std.proofs.Common.{◌≡◌, refl, ap, ap₂, ◌∙◌, subst, ℕ, zero, suc, ◌+◌, ◌^◌, ◌<◌, true, List, [], ◌∷◌, map, length, arith}
-use Rattle.std.specs.Prelude.{Option, Some, None, slice_index_or}
+use Rattle.std.proofs.Common.{◌≡◌, refl, ap, ap₂, ◌∙◌, subst, ℕ, zero, suc, ◌+◌, ◌^◌, ◌<◌, true, Bool, List, [], ◌∷◌, ◌++◌, map, length, arith}
+use Rattle.std.specs.Prelude.{Option, Some, None, slice_index_or, if◌then◌else◌}
+use Rattle.std.specs.List.{list_all}
+use Rattle.std.proofs.lemmas.Bool.{and_parts, not-true}
+use Rattle.pdl_rules.specs.Refusal.{is_comb}
 use Rattle.pdl_semantics.specs.Tree.{LockDecl, Mem}
 use Rattle.pdl_semantics.specs.Flat as flat
 use Rattle.pdl_semantics.specs.Flatten.{flat_lock, mems_of}
@@ -25,9 +28,14 @@ same_words : (l : Option LockDecl) (d : ℕ) → words_in (flat_lock l) d ≡ ar
 same_words None d = refl
 same_words (Some l) d = ap (λ x. words_in x d) (lock_is l) ∙ words_are l.kind l.size.value d
 
-pub same_shapes : (ms : List Mem) → shapes_in (names_of ms) (mems_of ms) ≡ map shape_of_mem ms
-same_shapes [] = refl
-same_shapes (m ∷ ms) = ap₂ (λ (n : ℕ) (ss : List Shape). record { name = m.name.name; width = m.width.value; depth = n } ∷ ss) (same_words m.lock m.depth.value) (same_shapes ms)
+pub same_shapes : (ms : List Mem) → list_all is_comb ms ≡ true → shapes_in (names_of ms) (mems_of ms) ≡ map shape_of_mem ms
+same_shapes [] e = refl
+same_shapes (m ∷ ms) e =
+    let parts = and_parts (is_comb m) (list_all is_comb ms) e in
+    let rest = shapes_in (names_of ms) (mems_of ms) in
+    let shape : Shape = record { name = m.name.name; width = m.width.value; depth = words_in (flat_lock m.lock) m.depth.value } in
+    ap (λ (b : Bool). (if b then [] else shape ∷ []) ++ rest) (not-true m.delayed parts.0)
+    ∙ ap₂ (λ (n : ℕ) (ss : List Shape). record { name = m.name.name; width = m.width.value; depth = n } ∷ ss) (same_words m.lock m.depth.value) (same_shapes ms parts.1)
 
 pub same_names : (ms : List Mem) (m : ℕ) → mem_names ms m ≡ slice_index_or (names_of ms) m []
 same_names [] m = refl

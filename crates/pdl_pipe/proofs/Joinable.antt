@@ -43,7 +43,7 @@ can_join p rules source named can =
     record {
       typed = typed;
       comb = at_once p.mems (comb_mems p can);
-      walked = all_walk p (form_of p) can typed.stmts;
+      walked = all_walk p can typed.stmts;
       plain = record {
         line = record { goes_on = facts.linear.goes_on; ends = facts.linear.ends };
         some = some_stage p;

@@ -9,6 +9,7 @@ use Rattle.pdl_net.proofs.Keeps.{extends_keeps, but_keeps, means_keeps}
 use Rattle.pdl_build.specs.Change.{empty_circuit}
 use Rattle.pdl_flatnets.specs.Conditions.{AreBits}
 use Rattle.pdl_pipe_law.specs.Walk.{Locks, zero_bit}
+use Rattle.pdl_pipe_law.specs.Places.{comb_place}
 use Rattle.pdl_stagenets.specs.declared.locks.MemLock.{MemLock}
 use Rattle.pdl_stagenets.specs.Locked.{Members, locks_in, AreLocked}
 use Rattle.pdl_stagenets.proofs.Kept.{bits_keep}
@@ -30,7 +31,7 @@ no_shapes c e = ap shapes_of e
 
 -- after the memories, after the bits, and after the stages
 module _ {T : Type 0} (l : Members T) (stays : Stays l) (f : Form) (xs : List (Option (MemLock T))) (a b c : Circuit)
-    (locked : AreLocked l a f.pipe xs) (lawful : AreLawful l a f.pipe xs) (unwritten : AreUnwritten a (length f.pipe.mems)) (ab : Extends a b) (bc : ExtendsBut (regs_of (length b.regs) (length c.regs)) b c) where
+    (locked : AreLocked l a f.pipe xs) (lawful : AreLawful l a f.pipe xs) (unwritten : AreUnwritten a f.pipe) (ab : Extends a b) (bc : ExtendsBut (regs_of (length b.regs) (length c.regs)) b c) where
   kept_ab : Keeps a b
   kept_ab = extends_keeps a b ab
 
@@ -49,20 +50,21 @@ module _ {T : Type 0} (l : Members T) (stays : Stays l) (f : Form) (xs : List (O
   pub lawful_c : AreLawful l c f.pipe xs
   lawful_c = laws_kept l b c f.pipe xs kept_bc locked_b lawful_b
 
-  pub unwritten_c : AreUnwritten c (length f.pipe.mems)
-  unwritten_c m low = bc.writes m (locked_b.has_array m low) (inr (omega arith)) ∙ ab.writes m (locked.has_array m low) ∙ unwritten m low
+  pub unwritten_c : AreUnwritten c f.pipe
+  unwritten_c m low once =
+      bc.writes (comb_place f.pipe m) (locked_b.has_array m low once) (inr (omega arith)) ∙ ab.writes (comb_place f.pipe m) (locked.has_array m low once) ∙ unwritten m low once
 
   -- the locks say of themselves after the stages what they said before
-  pub line_c : (ss : List StageNets) (ms : List MoveNets) → IsLine c f (next_signals b xs) (locks_in l b xs) ss ms → IsLine c f (next_signals c xs) (locks_in l c xs) ss ms
+  pub line_c : (ss : List StageNets) (ms : List MoveNets) → IsLine c f (next_signals b xs) (locks_in l f.pipe b xs) ss ms → IsLine c f (next_signals c xs) (locks_in l f.pipe c xs) ss ms
   line_c ss ms h =
       subst (λ (ls : Locks). IsLine c f (next_signals c xs) ls ss ms) (sym (locks_same l b c kept_bc stays f.pipe xs locked_b))
-      (subst (λ (fs : List Signal). IsLine c f fs (locks_in l b xs) ss ms) (sym (next_same l b c kept_bc f.pipe xs locked_b)) h)
+      (subst (λ (fs : List Signal). IsLine c f fs (locks_in l f.pipe b xs) ss ms) (sym (next_same l b c kept_bc f.pipe xs locked_b)) h)
 
 module _ {T : Type 0} (l : Members T) (stays : Stays l) (f : Form) (x : Joined T) (o a b c d : Circuit)
-    (locked : AreLocked l a f.pipe x.locks.items) (lawful : AreLawful l a f.pipe x.locks.items) (unwritten : AreUnwritten a (length f.pipe.mems)) (ab : Extends a b) (bc : ExtendsBut (regs_of (length b.regs) (length c.regs)) b c) where
+    (locked : AreLocked l a f.pipe x.locks.items) (lawful : AreLawful l a f.pipe x.locks.items) (unwritten : AreUnwritten a f.pipe) (ab : Extends a b) (bc : ExtendsBut (regs_of (length b.regs) (length c.regs)) b c) where
   pub joined : o ≡ empty_circuit → ExtendsArrays o a (shapes_in f.names f.pipe.mems) → AreBits b x.bits
-      → IsLine c f (next_signals b x.locks.items) (locks_in l b x.locks.items) x.line.stages.items x.line.moves.items
-      → Lasting (length b.regs) c (MeetsLaw f.pipe (locks_in l b x.locks.items) x.line.stages.items x.line.moves.items c)
+      → IsLine c f (next_signals b x.locks.items) (locks_in l f.pipe b x.locks.items) x.line.stages.items x.line.moves.items
+      → Lasting (length b.regs) c (MeetsLaw f.pipe (locks_in l f.pipe b x.locks.items) x.line.stages.items x.line.moves.items c)
       → HasSteps l c d f.pipe x.locks.items x.line x.commits.items → IsJoined l d f x
   joined empty made bits line law steps = record {
     first = b;

@@ -1,6 +1,7 @@
 pub mod Sequential
 pub mod Lockable
 pub mod Walkable
+pub mod Unsquashed
 pub mod Joinable
 pub mod Deeding
 pub mod Joining

@@ -17,9 +17,9 @@ use Rattle.pdl_stagenets.specs.Locked.{Members, some_at, of_lock, locks_in}
 use Rattle.pdl_pipe.specs.Locks.{IsUsed}
 
 pub used_lock : {T : Type 0} (l : Members T) (p : Pipe) (a : Circuit) (xs : List (Option (MemLock T))) (vs : ℕ → View) (goes : ℕ → Signal) (m : ℕ) (y : MemLock T) (s : State) (st : machine.State) → some_at xs m ≡ Some y
-    → IsUsedLock p (locks_in l a xs) vs (no_gates (locks_in l a xs)) goes s st [] m → IsUsed l p m y (step_of p vs (no_gates (locks_in l a xs)) goes m) s st
+    → IsUsedLock p (locks_in l p a xs) vs (no_gates (locks_in l p a xs)) goes s st [] m → IsUsed l p m y (step_of p vs (no_gates (locks_in l p a xs)) goes m) s st
 used_lock {T} l p a xs vs goes m y s st e u =
-    let ls : Locks = locks_in l a xs in
+    let ls : Locks = locks_in l p a xs in
     let f = step_of p vs (no_gates ls) goes m in
     let x : LockState = lock_state_of u.stand.base (machine.lock_of st m) u.stand.words in
     let stands : ls.stands m ≡ l.stands y.lock y.regs = ap (of_lock (λ (z : MemLock T). l.stands z.lock z.regs) (λ s z. Unit {0})) e in

@@ -1,5 +1,5 @@
 -- The circuit with its outputs is that of the law, once it is known to be well.
-use Rattle.std.proofs.Common.{◌≡◌, refl, sym, ap, ap₂, ◌∙◌, subst, ℕ, ◌+◌, ◌^◌, ◌<◌, ◌≤◌, true, ◌⊎◌, inl, inr, List, [], ◌∷◌, ◌++◌, map, length, arith}
+use Rattle.std.proofs.Common.{◌≡◌, refl, sym, ap, ap₂, ◌∙◌, subst, ℕ, ◌^◌, ◌<◌, ◌≤◌, true, false, ◌⊎◌, inl, inr, List, [], ◌∷◌, ◌++◌, map, length, arith}
 use mathlib.Core.Path.{fun_ext}
 use Rattle.std.specs.Prelude.{Option, Some, None, is_some, slice_index_or}
 use Rattle.std.proofs.lemmas.Bool.{cases_lt, false≢true}
@@ -20,6 +20,7 @@ use Rattle.pdl_pipe_law.specs.Walk.{Locks, is_locked}
 use Rattle.pdl_pipe_law.specs.Views.{View, no_gates}
 use Rattle.pdl_pipe_law.specs.Ports.{Shown, Commit, all_shown, step_of}
 use Rattle.pdl_pipe_law.specs.Compiled.{HasLock, IsCompiled, port_in}
+use Rattle.pdl_pipe_law.specs.Places.{comb_place}
 use Rattle.pdl_stagenets.specs.declared.locks.MemLock.{MemLock}
 use Rattle.pdl_stagenets.specs.Locked.{Members, some_at, locks_in, AreLocked}
 use Rattle.pdl_stagenets.proofs.MadeLocks.{locks_same}
@@ -29,8 +30,9 @@ use Rattle.pdl_stageregs.specs.Staged.{KeepsFrom, MeetsLaw}
 use Rattle.pdl_locknets.specs.Suited.{shapes_in}
 use Rattle.pdl_locknets.specs.Lawful.{AreLawful}
 use Rattle.pdl_locknets.specs.Stepped.{own_of, AreStepped, commit_of, commits_in}
-use Rattle.pdl_locknets.specs.Deeds.{AreOf}
+use Rattle.pdl_locknets.specs.Deeds.{AreOf, AreGatesOf}
 use Rattle.pdl_locknets.proofs.LocksKept.{Stays, locked_kept, laws_kept}
+use Rattle.pdl_locknets.proofs.Places.{own_place}
 use Rattle.pdl_locknets.proofs.Law.{has_lock, stepped_here, commit_fits, nexts_after, plain_unwritten}
 use Rattle.pdl_outnets.specs.declared.outputs.OutNet.{OutNet}
 use Rattle.pdl_outnets.specs.Told.{output_of, OutsThere, shown_by}
@@ -55,10 +57,10 @@ ports_kept a c (o ∷ os) k h = ap₂ (λ (f : Signal) (rest : List Port). recor
 
 -- the law of a netlist, with what its memories commit
 pub record IsLawful {T : Type 0} (l : Members T) (f : Form) (x : Joined T) (d : Circuit) (names : ℕ → List ℕ) (first second : Circuit) : Type 0 where
-  pub compiled : IsCompiled f.pipe names (locks_in l first x.locks.items) (views_in second f.pipe x.line.stages.items) (no_gates (locks_in l first x.locks.items)) (moves_in second x.line.moves.items) d
+  pub compiled : IsCompiled f.pipe names (locks_in l f.pipe first x.locks.items) (views_in second f.pipe x.line.stages.items) (no_gates (locks_in l f.pipe first x.locks.items)) (moves_in second x.line.moves.items) d
   pub commits : compiled.commits ≡ commits_in d x.commits.items
 
-module _ {T : Type 0} (l : Members T) (stays : Stays l) (f : Form) (x : Joined T) (d : Circuit) (sh : IsShown l d f x) where
+module _ {T : Type 0} (l : Members T) (stays : Stays l) (f : Form) (x : Joined T) (d : Circuit) (sh : IsShown l d f x) (comb : (m : ℕ) → m < length f.pipe.mems → (mem_at f.pipe m).delayed ≡ false) where
   abbrev p : Pipe
   p = f.pipe
 
@@ -75,7 +77,7 @@ module _ {T : Type 0} (l : Members T) (stays : Stays l) (f : Form) (x : Joined T
   c = sh.before
 
   abbrev ls : Locks
-  ls = locks_in l sh.joined.first x.locks.items
+  ls = locks_in l f.pipe sh.joined.first x.locks.items
 
   abbrev vs : ℕ → View
   vs = views_in sh.joined.second f.pipe x.line.stages.items
@@ -125,9 +127,8 @@ module _ {T : Type 0} (l : Members T) (stays : Stays l) (f : Form) (x : Joined T
           let law = j.lawful.laws m y low e in
           let it = j.locked.locks m y low e in
           let there : (i : ℕ) → first_array y.regs.array ≤ i → i < end_array y.regs.array → HasArray c i = λ i lo hi.
-          let lo' : m ≤ i = subst (λ z. first_array z ≤ i) it.array lo in
-          let hi' : i < m + 1 = subst (λ z. i < end_array z) it.array hi in
-          kept_ac.has_array i (j.locked.has_array i (omega (arith, lo', hi', low))) in
+          let q = own_place (mem_at p m) (comb_place p m) y.regs.array it.array i lo hi in
+          subst (HasArray c) (sym q.1) (kept_ac.has_array (comb_place p m) (j.locked.has_array m low q.0)) in
           record {
             has_reg = λ i lo hi. kept_cd.has_reg i (kept_ac.has_reg i (law.regs i lo hi));
             nexts = λ i lo hi. sh.ports.nexts i (kept_ac.has_reg i (law.regs i lo hi));
@@ -144,13 +145,17 @@ module _ {T : Type 0} (l : Members T) (stays : Stays l) (f : Form) (x : Joined T
   of : AreOf b j.steps.deeds vs goes
   of = are_of b p x.line.stages.items x.line.moves.items j.steps.deeds count j.steps.told
 
+  -- nothing is squashed
+  beside : AreGatesOf b p j.steps.squash j.steps.tails (no_gates ls)
+  beside = subst (λ (g : Locks). AreGatesOf b p j.steps.squash j.steps.tails (no_gates g)) (locks_same l a b j.keeps stays p x.locks.items j.locked) j.steps.beside
+
   lock_at : (m : ℕ) → is_locked p m ≡ true → HasLock p ls d vs (no_gates ls) goes (own_at m) (commits_in d x.commits.items m) m
   lock_at m h =
       let low = lock_there p m h in
-      has_lock l stays p x.locks.items j.steps.deeds x.commits.items vs goes a b c d j.locked j.lawful deeds_count of j.keeps j.steps.stepped kept_ad kept_cd m low (own_kept m low) h
+      has_lock l stays p x.locks.items j.steps.deeds j.steps.squash j.steps.tails x.commits.items vs (no_gates ls) goes a b c d j.locked j.lawful deeds_count of beside j.steps.stepped kept_ad kept_cd m low (own_kept m low) h (comb m low)
 
   -- all of them are in the netlist, with their laws and their steps, and are what they were before the stages
-  pub locks_made : locks_in l d x.locks.items ≡ ls
+  pub locks_made : locks_in l f.pipe d x.locks.items ≡ ls
   locks_made = locks_same l a d kept_ad stays p x.locks.items j.locked
 
   pub locked_made : AreLocked l d p x.locks.items
@@ -163,14 +168,14 @@ module _ {T : Type 0} (l : Members T) (stays : Stays l) (f : Form) (x : Joined T
   stepped_made = record {
     count = j.steps.stepped.count;
     each = λ m low.
-        stepped_here l stays p x.locks.items j.steps.deeds x.commits.items vs goes a b c d j.locked j.lawful deeds_count of j.keeps j.steps.stepped kept_ad kept_cd m low (own_kept m low);
+        stepped_here l stays p x.locks.items j.steps.deeds j.steps.squash j.steps.tails x.commits.items vs (no_gates ls) goes a b c d j.locked j.lawful deeds_count of beside j.steps.stepped kept_ad kept_cd m low (own_kept m low);
   }
 
   -- what a memory commits has the memory's widths
   pub fits_at : (m : ℕ) → is_locked p m ≡ true → ((commits_in d x.commits.items m).enable.width ≡ 1) × (2 ^ (commits_in d x.commits.items m).addr.width ≡ (mem_at p m).depth) × ((commits_in d x.commits.items m).value.width ≡ (mem_at p m).width)
   fits_at m h =
       let low = lock_there p m h in
-      commit_fits l stays p x.locks.items j.steps.deeds x.commits.items vs goes a b c d j.locked j.lawful deeds_count of j.keeps j.steps.stepped kept_ad kept_cd m low (own_kept m low) h
+      commit_fits l stays p x.locks.items j.steps.deeds j.steps.squash j.steps.tails x.commits.items vs (no_gates ls) goes a b c d j.locked j.lawful deeds_count of beside j.steps.stepped kept_ad kept_cd m low (own_kept m low) h
 
   -- and is what it was before the outputs
   same_commits : commits_in d x.commits.items ≡ commits_in c x.commits.items
@@ -206,8 +211,10 @@ module _ {T : Type 0} (l : Members T) (stays : Stays l) (f : Form) (x : Joined T
           owns = own_at;
           commits = commits_in d x.commits.items;
           locks = lock_at;
-          arrays = λ m low. kept_ad.has_array m (j.locked.has_array m low);
-          unwritten = λ m low h. sh.ports.writes m (kept_ac.has_array m (j.locked.has_array m low)) ∙ plain_unwritten l a p x.locks.items j.locked j.lawful b c m j.keeps j.steps.extends (j.unwritten m low) low h;
+          arrays = λ m low. kept_ad.has_array (comb_place p m) (j.locked.has_array m low (comb m low));
+          unwritten = λ m low h.
+              sh.ports.writes (comb_place p m) (kept_ac.has_array (comb_place p m) (j.locked.has_array m low (comb m low)))
+              ∙ plain_unwritten l a p x.locks.items j.locked j.lawful b c m j.keeps j.steps.extends (comb m low) (j.unwritten m low (comb m low)) low h;
           outs = map output_of sh.outs;
           ports = sh.ports.ports ∙ ap (λ (ps : List Port). ps ++ map (port_in c) (map output_of sh.outs)) j.ports ∙ sym (ports_kept c d sh.outs kept_cd sh.there);
           shown =

@@ -92,7 +92,7 @@ module _ {T : Type 0} (l : Members T) (c : Circuit) (f : Form) (x : Joined T) (j
 
   -- the outputs are told what the law says
   pub joined_of : (names : ℕ → List ℕ) → ((m : ℕ) → m < length f.names → names m ≡ slice_index_or f.names m [])
-      → AreOf c (shown_of ss ms) x.bits.zero f.names (stage.views_in j.second f.pipe ss) (no_gates (locks_in l j.first x.locks.items)) (move.moves_in j.second ms) names
+      → AreOf c (shown_of ss ms) x.bits.zero f.names (stage.views_in j.second f.pipe ss) (no_gates (locks_in l f.pipe j.first x.locks.items)) (move.moves_in j.second ms) names
   joined_of names told =
       let n = shown_count ss ms count in
       record {

@@ -11,7 +11,7 @@ use Rattle.pdl_net.specs.Meaning.{Means}
 use Rattle.pdl_net.specs.Growth.{Keeps, ExtendsPorts}
 use Rattle.pdl_lockapi.specs.declared.LockNets.{LockNets}
 use Rattle.pdl_pipe_law.specs.Walk.{zero_bit}
-use Rattle.pdl_pipe_law.specs.Views.{View, Gates}
+use Rattle.pdl_pipe_law.specs.Views.{View, Gates, no_gates}
 use Rattle.pdl_pipe_law.specs.Ports.{all_shown}
 use Rattle.pdl_pipe_law.specs.Compiled.{port_in}
 use Rattle.pdl_stagenets.specs.declared.nets.WalkNets.{WalkNets}
@@ -25,7 +25,7 @@ use Rattle.pdl_stageregs.specs.Staged.{IsLine, IsPlainLine, Lasting, MeetsLaw, n
 use Rattle.pdl_locknets.specs.declared.deeds.StageDeeds.{StageDeeds}
 use Rattle.pdl_locknets.specs.Suited.{AreComb, shapes_in}
 use Rattle.pdl_locknets.specs.Lawful.{AreLawful, AreUnwritten}
-use Rattle.pdl_locknets.specs.Deeds.{steps_in}
+use Rattle.pdl_locknets.specs.Deeds.{steps_in, AreGatesOf}
 use Rattle.pdl_locknets.specs.Stepped.{AreStepped, ExtendsLocks, commits_in}
 use Rattle.pdl_outnets.specs.declared.outputs.StageNets as shown_nets
 use Rattle.pdl_outnets.specs.declared.outputs.OutNet.{OutNet}
@@ -69,7 +69,11 @@ pub record HasSteps {T : Type 0} (l : Members T) (b c : Circuit) (p : Pipe) (xs 
   pub extends : ExtendsLocks xs (length p.mems) b c
   pub deeds : List StageDeeds
   pub told : map deed_of deeds ≡ deeds_of y.stages.items y.moves.items
-  pub stepped : AreStepped l c p (steps_in l b p xs deeds) xs ns (length p.mems)
+  -- nothing is squashed
+  pub squash : Net
+  pub tails : List Net
+  pub beside : AreGatesOf b p squash tails (no_gates (locks_in l p b xs))
+  pub stepped : AreStepped l c p (steps_in b p deeds squash tails) xs ns (length p.mems)
 
 -- after the memories, after the stages, and the whole
 pub record IsJoined {T : Type 0} (l : Members T) (c : Circuit) (f : Form) (x : Joined T) : Type 0 where
@@ -78,10 +82,10 @@ pub record IsJoined {T : Type 0} (l : Members T) (c : Circuit) (f : Form) (x : J
   pub locked : AreLocked l first f.pipe x.locks.items
   pub lawful : AreLawful l first f.pipe x.locks.items
   pub keeps : Keeps first second
-  pub line : IsLine second f (next_signals first x.locks.items) (locks_in l first x.locks.items) x.line.stages.items x.line.moves.items
+  pub line : IsLine second f (next_signals first x.locks.items) (locks_in l f.pipe first x.locks.items) x.line.stages.items x.line.moves.items
   -- the law of the stages, whatever registers take next that stand before theirs
-  pub law : Lasting (length first.regs) second (MeetsLaw f.pipe (locks_in l first x.locks.items) x.line.stages.items x.line.moves.items second)
-  pub unwritten : AreUnwritten second (length f.pipe.mems)
+  pub law : Lasting (length first.regs) second (MeetsLaw f.pipe (locks_in l f.pipe first x.locks.items) x.line.stages.items x.line.moves.items second)
+  pub unwritten : AreUnwritten second f.pipe
   pub steps : HasSteps l second c f.pipe x.locks.items x.line x.commits.items
   pub zero : Means c x.bits.zero zero_bit
   pub ports : c.ports ≡ []

@@ -45,7 +45,7 @@ pub record IsUsed {T : Type 0} (l : Members T) (p : Pipe) (m : ℕ) (x : MemLock
 
 -- what the stages of a netlist do to the lock of each memory
 abbrev pub ports_of : {T : Type 0} → Members T → Netlist → Pipe → List (Option (MemLock T)) → (ℕ → View) → (ℕ → Signal) → ℕ → StepSignals
-ports_of l n p locks views moves = step_of p views (no_gates (locks_in l (circuit_of n) locks)) moves
+ports_of l n p locks views moves = step_of p views (no_gates (locks_in l p (circuit_of n) locks)) moves
 
 -- a netlist with the locks that a pipe asks for
 pub record HasLocks {T : Type 0} (l : Members T) (p : tree.Pipe) (n : Netlist) : Type 0 where
@@ -57,7 +57,7 @@ pub record HasLocks {T : Type 0} (l : Members T) (p : tree.Pipe) (n : Netlist) :
   -- the stages go by these locks: each of their blocks and reads asks the memory's lock
   pub views : ℕ → View
   pub moves : ℕ → Signal
-  pub stages : (k : ℕ) → k < length (flat p).stages → IsStage (flat p) (locks_in l (circuit_of n) locks) (circuit_of n) views (no_gates (locks_in l (circuit_of n) locks)) moves k
+  pub stages : (k : ℕ) → k < length (flat p).stages → IsStage (flat p) (locks_in l (flat p) (circuit_of n) locks) (circuit_of n) views (no_gates (locks_in l (flat p) (circuit_of n) locks)) moves k
   -- and so do their reservations, writes and releases: each lock keeps the laws of its step and of hidden values
   pub commits : List (Option LockNets)
   pub stepped : AreStepped l (circuit_of n) (flat p) (ports_of l n (flat p) locks views moves) locks commits (length (flat p).mems)

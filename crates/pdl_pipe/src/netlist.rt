@@ -34,6 +34,7 @@ use pdl_needed::needed_part;
 use pdl_net::Netlist;
 use pdl_outnets::show;
 use pdl_stagenets::MemLock;
+use pdl_stageregs::tickets::next_tickets;
 use pdl_stageregs::{LineNets, line};
 use std::alloc::Global;
 use std::mem::drop;
@@ -83,19 +84,22 @@ fn steps<L: LockModule>(
     requires bits { AreBits b.old bits }
     requires locked { AreLocked (members L.LockModule) b.old (form pipe.now).pipe locks.now }
     requires lawful { AreLawful (members L.LockModule) b.old (form pipe.now).pipe locks.now }
-    requires unwritten { AreUnwritten b.old (length (form pipe.now).pipe.mems) }
+    requires unwritten { AreUnwritten b.old (form pipe.now).pipe }
     requires line { IsLine b.old (form pipe.now) (next_signals b.old locks.now)
-        (locks_in (members L.LockModule) b.old locks.now) line.now.stages.items
-        line.now.moves.items }
+        (locks_in (members L.LockModule) (form pipe.now).pipe b.old locks.now)
+        line.now.stages.items line.now.moves.items }
     ensures { IfOk result (λ ns. HasSteps (members L.LockModule) b.old b.new
         (form pipe.now).pipe locks.now line.now ns.items) }
 {
     let deeds = deeds(alloc, line.stages.as_slice(), line.moves.as_slice())?;
+    let tails = next_tickets(alloc, locks, bits.zero)?;
     let round = Round {
         pipe,
         bits,
         locks,
         deeds: deeds.as_slice(),
+        squash: bits.zero,
+        tails: tails.as_slice(),
     };
     let nets = step(alloc, b, &round)?;
     Ok(nets)

@@ -17,14 +17,15 @@ use Rattle.pdl_stagenets.specs.declared.nets.ReserveNet.{ReserveNet}
 use Rattle.pdl_stagenets.specs.declared.nets.PutNet.{PutNet}
 use Rattle.pdl_stagenets.specs.declared.nets.LettingNet.{LettingNet}
 use Rattle.pdl_stagenets.specs.declared.nets.BirthNet.{BirthNet}
+use Rattle.pdl_stagenets.specs.declared.nets.AskNet.{AskNet}
 use Rattle.pdl_stagenets.specs.declared.nets.WalkNets.{WalkNets}
-use Rattle.pdl_stagenets.specs.Parts.{Parts, held_of, reservation_in, letting_in, parts_in, IsThereWalk}
+use Rattle.pdl_stagenets.specs.Parts.{Parts, held_of, reservation_in, letting_in, ask_in, parts_in, IsThereWalk}
 use Rattle.pdl_stagenets.specs.Frames.{SameRest}
 use Rattle.pdl_stagenets.specs.Sized.{IsSized, IsWalk}
-use Rattle.pdl_stagenets.specs.Steps.{with_var, with_put, with_held, with_reserve, with_call}
+use Rattle.pdl_stagenets.specs.Steps.{with_var, with_put, with_held, with_reserve, with_call, with_ask}
 use Rattle.pdl_stagenets.proofs.Lists.{there_set}
 use Rattle.pdl_stagenets.proofs.Kept.{there_walk}
-use Rattle.pdl_stagenets.proofs.Updates.{there_rest, vars_parts, ready_parts, held_parts, reserve_parts, put_parts, letting_parts, birth_parts, sized_var, sized_ready, sized_held, sized_put, sized_reserve, sized_letting, sized_call}
+use Rattle.pdl_stagenets.proofs.Updates.{there_rest, vars_parts, ready_parts, held_parts, reserve_parts, put_parts, letting_parts, ask_parts, birth_parts, fails_parts, barrier_parts, guess_parts, sized_var, sized_ready, sized_held, sized_put, sized_reserve, sized_letting, sized_ask, sized_fails, sized_barrier, sized_guess, sized_call}
 use Rattle.pdl_word.specs.Each.{Each}
 use Rattle.pdl_word.proofs.Each.{each_push}
 
@@ -60,6 +61,26 @@ module _ (a b : Circuit) (e : Extends a b) (p : Pipe) (ws : List ℕ) (w : WalkN
       sized = as_sized p ws (parts_in b (record w { ready = n })) (record (parts_in a w) { ready = both (parts_in a w).ready (if_on on f) }) wait_parts (sized_ready p ws (parts_in a w) h.sized on f k);
     }
 
+  -- another net of whether a verify fails, or of a barrier, and other nets of the guess
+  module _ (n : Net) (f : Signal) (t : IsThere b n) (s : signal b n ≡ f) (k : f.width ≡ 1) where
+    pub fails_walk : IsWalk b p ws (record w { fails = n })
+    fails_walk = record {
+      there = record { vars = there.vars; held = there.held; ready = there.ready; reserves = there.reserves; puts = there.puts; lettings = there.lettings; births = there.births; asks = there.asks; guess = there.guess; fails = t; barrier = there.barrier };
+      sized = as_sized p ws (parts_in b (record w { fails = n })) (record (parts_in a w) { fails = f }) (fails_parts a b (extends_keeps a b e) w h.there n f s) (sized_fails p ws (parts_in a w) h.sized f k);
+    }
+
+    pub barrier_walk : IsWalk b p ws (record w { barrier = n })
+    barrier_walk = record {
+      there = record { vars = there.vars; held = there.held; ready = there.ready; reserves = there.reserves; puts = there.puts; lettings = there.lettings; births = there.births; asks = there.asks; guess = there.guess; fails = there.fails; barrier = t };
+      sized = as_sized p ws (parts_in b (record w { barrier = n })) (record (parts_in a w) { barrier = f }) (barrier_parts a b (extends_keeps a b e) w h.there n f s) (sized_barrier p ws (parts_in a w) h.sized f k);
+    }
+
+  pub guess_walk : (ns : List Net) (fs : List Signal) → NetsThere b ns → signals_in b ns ≡ fs → widths_of fs ≡ take (length p.start) ws → IsWalk b p ws (record w { guess = ns })
+  guess_walk ns fs t s k = record {
+    there = record { vars = there.vars; held = there.held; ready = there.ready; reserves = there.reserves; puts = there.puts; lettings = there.lettings; births = there.births; asks = there.asks; guess = t; fails = there.fails; barrier = there.barrier };
+    sized = as_sized p ws (parts_in b (record w { guess = ns })) (record (parts_in a w) { guess = fs }) (guess_parts a b (extends_keeps a b e) w h.there ns fs s) (sized_guess p ws (parts_in a w) h.sized fs k);
+  }
+
   -- one more held location
   module _ (new : WalkNets) (mem var : ℕ) (n : Net) (on bit : Signal) (m : Means b n (mux_signal on bit (held_of (parts_in a w).held mem var)))
       (e1 : new.held.items ≡ record { mem = mem; var = var; net = n } ∷ w.held.items) (e2 : new.vars ≡ w.vars) (e3 : new.births ≡ w.births) (rest : SameRest w new) where
@@ -91,6 +112,12 @@ module _ (b : Circuit) (p : Pipe) (ws : List ℕ) (w : WalkNets) (h : IsWalk b p
   letting_walk m on t o = let n : LettingNet = record { mem = m; on = on } in let s = h.there in record {
     there = record { vars = s.vars; held = s.held; ready = s.ready; reserves = s.reserves; puts = s.puts; births = s.births; asks = s.asks; guess = s.guess; fails = s.fails; barrier = s.barrier; lettings = each_push (λ (y : LettingNet). IsThere b y.on) w.lettings n s.lettings t };
     sized = as_sized p ws (parts_in b (record w { lettings = w.lettings ++ n ∷ [] })) (record (parts_in b w) { lettings = (parts_in b w).lettings ++ letting_in b n ∷ [] }) (letting_parts b w n) (sized_letting p ws (parts_in b w) h.sized m (signal b on) o);
+  }
+
+  pub ask_walk : (m x : ℕ) (on addr : Net) → IsThere b on → IsThere b addr → m < length p.mems → (signal b on).width ≡ 1 → 2 ^ (signal b addr).width ≡ (mem_at p m).depth → IsWalk b p ws (record w { asks = w.asks ++ record { mem = m; var = x; on = on; addr = addr } ∷ [] })
+  ask_walk m x on addr t u l o k = let n : AskNet = record { mem = m; var = x; on = on; addr = addr } in let s = h.there in record {
+    there = record { vars = s.vars; held = s.held; ready = s.ready; reserves = s.reserves; puts = s.puts; lettings = s.lettings; births = s.births; guess = s.guess; fails = s.fails; barrier = s.barrier; asks = each_push (λ (y : AskNet). IsThere b y.on × IsThere b y.addr) w.asks n s.asks (t, u) };
+    sized = as_sized p ws (parts_in b (record w { asks = w.asks ++ n ∷ [] })) (record (parts_in b w) { asks = (parts_in b w).asks ++ ask_in b n ∷ [] }) (ask_parts b w n) (sized_ask p ws (parts_in b w) h.sized m x (signal b on) (signal b addr) l o k);
   }
 
 -- ---- what equal parts make of equal changes
@@ -138,3 +165,7 @@ release_same m a o o' z lets lets' q q' e l h =
 pub reserve_made : (m a : ℕ) (q3 q2 q1 q0 : Parts) (o1 o2 o3 on r room bit addr : Signal) → q3 ≡ record q2 { ready = both q2.ready (if_on o2 r) } → q2 ≡ with_held m a o1 bit q1 → q1 ≡ q0 → o1 ≡ on → o2 ≡ on → o3 ≡ on → r ≡ room → bit ≡ one → addr ≡ signal_at q0.vars a
     → record q3 { reserves = q3.reserves ++ record { mem = m; on = o3; addr = addr } ∷ [] } ≡ with_reserve m a on room q0
 reserve_made m a q3 q2 q1 q0 o1 o2 o3 on r room bit addr h3 h2 h1 e1 e2 e3 er eb ea = rw (h3, h2, h1, e1, e2, e3, er, eb, ea) refl
+
+pub ask_made : (m x a : ℕ) (q q' : Parts) (o o' f : Signal) → q ≡ q' → o ≡ o' → f ≡ signal_at q'.vars a → record q { asks = q.asks ++ record { mem = m; var = x; on = o; addr = f } ∷ [] } ≡ with_ask m x a o' q'
+ask_made m x a q q' o o' f e g k =
+    ap (λ (r : Parts). record r { asks = r.asks ++ record { mem = m; var = x; on = o; addr = f } ∷ [] }) e ∙ ap₂ (λ i j. record q' { asks = q'.asks ++ record { mem = m; var = x; on = i; addr = j } ∷ [] }) g k

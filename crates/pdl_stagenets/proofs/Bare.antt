@@ -1,7 +1,7 @@
 -- Pipes without variables and memories, as tests take them.
 use Rattle.std.proofs.Common.{◌≡◌, ℕ, zero, suc, List, [], ◌∷◌, map, length, refl, sym, ap, ◌∙◌, subst, arith}
 use Rattle.std.specs.Prelude.{Option, take}
-use Rattle.pdl_semantics.specs.Flat.{Call, Stmt, Pipe}
+use Rattle.pdl_semantics.specs.Flat.{Call, SpecCall, Verify, SpecBarrier, Stmt, Pipe}
 use Rattle.pdl_form.specs.Form.{Form}
 use Rattle.pdl_formtypes.specs.Stmts.{AreArguments}
 use Rattle.pdl_net.specs.declared.Net.{Net}
@@ -26,7 +26,13 @@ use Rattle.pdl_word.specs.Each.{Each}
 pub call_walked : (f : Form) (k : ℕ) (xs : List Stmt) → xs ≡ record { stage = k; guards = []; op = Call [] } ∷ [] → f.pipe.start ≡ [] → AreWalked f xs
 call_walked f k xs e s =
     let none : AreArguments f.widths (take (length f.pipe.start) f.widths) [] = subst (λ (l : List ℕ). AreArguments f.widths (take (length l) f.widths) []) (sym s) tt in
-    subst (AreWalked f) (sym e) (((tt, none), tt, refl), tt)
+    subst (AreWalked f) (sym e) (((tt, none), tt), tt)
+
+-- a guess without arguments, which is verified, and a barrier
+pub guess_walked : (f : Form) (xs : List Stmt) → xs ≡ record { stage = 0; guards = []; op = SpecCall [] } ∷ record { stage = 0; guards = []; op = Verify [] } ∷ record { stage = 0; guards = []; op = SpecBarrier } ∷ [] → f.pipe.start ≡ [] → AreWalked f xs
+guess_walked f xs e s =
+    let none : AreArguments f.widths (take (length f.pipe.start) f.widths) [] = subst (λ (l : List ℕ). AreArguments f.widths (take (length l) f.widths) []) (sym s) tt in
+    subst (AreWalked f) (sym e) (((tt, none), tt), (((tt, none), tt), (((tt, tt), tt), tt)))
 
 -- no memories
 pub no_locks : {T : Type 0} (l : Members T) (c : Circuit) (p : Pipe) (xs : List (Option (MemLock T))) → xs ≡ [] → p.mems ≡ [] → AreLocked l c p xs

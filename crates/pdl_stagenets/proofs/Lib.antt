@@ -6,7 +6,9 @@ pub mod Growing
 pub mod Answered
 pub mod Conditions
 pub mod Values
+pub mod Choices
 pub mod Made
+pub mod MadeGuesses
 pub mod Arrays
 pub mod MadeLocks
 pub mod OneByOne

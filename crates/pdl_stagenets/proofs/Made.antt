@@ -57,7 +57,7 @@ set_walk : (x : ℕ) (f : Signal) (w : Parts) → x < length w.vars → signal_a
 set_walk x f w l = fun_ext (λ y. signal_set w.vars x f y l)
 
 module _ (c : Circuit) (p : Pipe) (ws : List ℕ) (ls : Locks) (tickets : ℕ → Signal) (gs : List Guard) (w : Parts) (nets : HasNets c w.vars) (sized : IsSized p ws w) (vars : p.vars ≡ length ws) (guards : AreGuards ws gs) where
-  bounded_in : (d : Circuit) → Keeps c d → IsWell d → (s : State) → Suits d s → AreBounded s w.vars
+  pub bounded_in : (d : Circuit) → Keeps c d → IsWell d → (s : State) → Suits d s → AreBounded s w.vars
   bounded_in d k well s suits = are_bounded c d w.vars nets k well s suits
 
   guarded : AreGuards (widths_of w.vars) gs

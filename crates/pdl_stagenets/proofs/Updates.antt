@@ -10,7 +10,7 @@ use Rattle.pdl_net.specs.Signal.{Signal, mux_signal}
 use Rattle.pdl_net.specs.Meaning.{signal, IsThere}
 use Rattle.pdl_net.specs.Growth.{Keeps}
 use Rattle.pdl_flatnets.specs.Nets.{NetsThere, signals_in, signal_at, widths_of}
-use Rattle.pdl_pipe_law.specs.Walk.{Reservation, Put, Letting, Birth, both, if_on}
+use Rattle.pdl_pipe_law.specs.Walk.{Birth, Letting, both, if_on}
 use Rattle.pdl_stagenets.specs.declared.nets.HeldNet.{HeldNet}
 use Rattle.pdl_stagenets.specs.declared.nets.ReserveNet.{ReserveNet}
 use Rattle.pdl_stagenets.specs.declared.nets.PutNet.{PutNet}
@@ -20,7 +20,7 @@ use Rattle.pdl_stagenets.specs.declared.nets.AskNet.{AskNet}
 use Rattle.pdl_stagenets.specs.declared.nets.WalkNets.{WalkNets}
 use Rattle.pdl_stagenets.specs.Parts.{Held, Parts, held_in, reservation_in, put_in, letting_in, birth_in, ask_in, parts_in, IsThereWalk}
 use Rattle.pdl_stagenets.specs.Frames.{SameRest}
-use Rattle.pdl_stagenets.specs.Sized.{IsSized, IsSizedReserve, IsSizedPut}
+use Rattle.pdl_stagenets.specs.Sized.{IsSized, IsSizedReserve, IsSizedPut, IsSizedAsk}
 use Rattle.pdl_stagenets.specs.Steps.{with_var, with_put, with_held, with_call}
 use Rattle.pdl_stagenets.proofs.Lists.{widths_set}
 use Rattle.pdl_stagenets.proofs.Kept.{parts_keep, var_width}
@@ -73,6 +73,15 @@ module _ (a b : Circuit) (e : Keeps a b) (w : WalkNets) (t : IsThereWalk a w) wh
       (ap (λ h. signals_in b h.items) h1) (ap (map (held_in b)) h ∙ ap (λ g. record { mem = m; var = v; signal = g } ∷ (parts_in b w).held) s) (ap (λ h. map (birth_in b) h.items) h2) r
       ∙ ap (λ (q : Parts). record q { held = record { mem = m; var = v; signal = f } ∷ q.held }) kept
 
+  pub fails_parts : (n : Net) (f : Signal) → signal b n ≡ f → parts_in b (record w { fails = n }) ≡ record (parts_in a w) { fails = f }
+  fails_parts n f m = ap₂ (λ (q : Parts) g. record q { fails = g }) kept m
+
+  pub barrier_parts : (n : Net) (f : Signal) → signal b n ≡ f → parts_in b (record w { barrier = n }) ≡ record (parts_in a w) { barrier = f }
+  barrier_parts n f m = ap₂ (λ (q : Parts) g. record q { barrier = g }) kept m
+
+  pub guess_parts : (ns : List Net) (fs : List Signal) → signals_in b ns ≡ fs → parts_in b (record w { guess = ns }) ≡ record (parts_in a w) { guess = fs }
+  guess_parts ns fs m = ap₂ (λ (q : Parts) gs. record q { guess = gs }) kept m
+
 -- in the same circuit, with one more of each kind
 module _ (b : Circuit) (w : WalkNets) where
   pub reserve_parts : (n : ReserveNet) → parts_in b (record w { reserves = w.reserves ++ n ∷ [] }) ≡ record (parts_in b w) { reserves = (parts_in b w).reserves ++ reservation_in b n ∷ [] }
@@ -83,6 +92,9 @@ module _ (b : Circuit) (w : WalkNets) where
 
   pub letting_parts : (n : LettingNet) → parts_in b (record w { lettings = w.lettings ++ n ∷ [] }) ≡ record (parts_in b w) { lettings = (parts_in b w).lettings ++ letting_in b n ∷ [] }
   letting_parts n = ap (λ l. record (parts_in b w) { lettings = l }) (map-append (letting_in b) w.lettings (n ∷ []))
+
+  pub ask_parts : (n : AskNet) → parts_in b (record w { asks = w.asks ++ n ∷ [] }) ≡ record (parts_in b w) { asks = (parts_in b w).asks ++ ask_in b n ∷ [] }
+  ask_parts n = ap (λ l. record (parts_in b w) { asks = l }) (map-append (ask_in b) w.asks (n ∷ []))
 
   pub birth_parts : (new : WalkNets) (n : BirthNet) → new.births.items ≡ n ∷ w.births.items → new.vars ≡ w.vars → new.held ≡ w.held → SameRest w new
       → parts_in b new ≡ record (parts_in b w) { births = birth_in b n ∷ (parts_in b w).births }
@@ -157,6 +169,30 @@ module _ (p : Pipe) (ws : List ℕ) (w : Parts) (s : IsSized p ws w) where
     barrier = s.barrier;
     lettings = each_push (λ (x : Letting). x.on.width ≡ 1) w.lettings (record { mem = m; on = on }) s.lettings o;
   }
+
+  pub sized_ask : (m x : ℕ) (on f : Signal) → m < length p.mems → on.width ≡ 1 → 2 ^ f.width ≡ (mem_at p m).depth → IsSized p ws (record w { asks = w.asks ++ record { mem = m; var = x; on = on; addr = f } ∷ [] })
+  sized_ask m x on f l o e = record {
+    vars = s.vars;
+    held = s.held;
+    ready = s.ready;
+    reserves = s.reserves;
+    puts = s.puts;
+    lettings = s.lettings;
+    births = s.births;
+    guess = s.guess;
+    fails = s.fails;
+    barrier = s.barrier;
+    asks = each_push (IsSizedAsk p) w.asks (record { mem = m; var = x; on = on; addr = f }) s.asks (l, o, e);
+  }
+
+  pub sized_fails : (f : Signal) → f.width ≡ 1 → IsSized p ws (record w { fails = f })
+  sized_fails f e = record { vars = s.vars; held = s.held; ready = s.ready; reserves = s.reserves; puts = s.puts; lettings = s.lettings; births = s.births; asks = s.asks; guess = s.guess; fails = e; barrier = s.barrier }
+
+  pub sized_barrier : (f : Signal) → f.width ≡ 1 → IsSized p ws (record w { barrier = f })
+  sized_barrier f e = record { vars = s.vars; held = s.held; ready = s.ready; reserves = s.reserves; puts = s.puts; lettings = s.lettings; births = s.births; asks = s.asks; guess = s.guess; fails = s.fails; barrier = e }
+
+  pub sized_guess : (fs : List Signal) → widths_of fs ≡ take (length p.start) ws → IsSized p ws (record w { guess = fs })
+  sized_guess fs e = record { vars = s.vars; held = s.held; ready = s.ready; reserves = s.reserves; puts = s.puts; lettings = s.lettings; births = s.births; asks = s.asks; guess = e; fails = s.fails; barrier = s.barrier }
 
   pub sized_call : (on : Signal) (args : List Signal) → on.width ≡ 1 → widths_of args ≡ take (length p.start) ws → IsSized p ws (with_call on args w)
   sized_call on args o k = record { vars = s.vars; held = s.held; ready = s.ready; reserves = s.reserves; puts = s.puts; lettings = s.lettings; births = ((o, k), s.births); asks = s.asks; guess = s.guess; fails = s.fails; barrier = s.barrier }

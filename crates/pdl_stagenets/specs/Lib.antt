@@ -4,5 +4,6 @@ pub mod Locked
 pub mod Sized
 pub mod Finding
 pub mod Frames
+pub mod Guesses
 pub mod Steps
 pub mod Words

@@ -1,6 +1,6 @@
--- Widths of what stands in a stage, and statements that can be walked.
-use Rattle.std.specs.Prelude.{◌≡◌, ℕ, ◌^◌, ◌<◌, Bool, true, false, List, length, take}
-use Rattle.pdl_semantics.specs.Flat.{Op, Bind, CombRead, DelayedRead, Write, ReserveRead, ReserveWrite, Block, Release, Call, SpecCall, Verify, SpecCheck, SpecBarrier, Stmt, Pipe}
+-- Widths of what stands in a stage, and the statements of which nets are made.
+use Rattle.std.specs.Prelude.{◌≡◌, ℕ, ◌^◌, ◌<◌, List, length, take}
+use Rattle.pdl_semantics.specs.Flat.{Stmt, Pipe}
 use Rattle.pdl_semantics.specs.Stages.{mem_at}
 use Rattle.pdl_form.specs.Form.{Form, stmt_at}
 use Rattle.pdl_formtypes.specs.Stmts.{IsTypedStmt}
@@ -51,24 +51,9 @@ IsWalkOf f c w = IsWalk c f.pipe f.widths w
 
 -- ---- statements
 
--- statements of which nets are made here: none of them has to do with guesses or delayed memories
-abbrev pub is_walked : Op → Bool
-is_walked (Bind _ _) = true
-is_walked (CombRead _ _ _) = true
-is_walked (DelayedRead x m a) = false
-is_walked (Write _ _ _) = true
-is_walked (ReserveRead _ _) = true
-is_walked (ReserveWrite _ _) = true
-is_walked (Block _ _) = true
-is_walked (Release _ _) = true
-is_walked (Call _) = true
-is_walked (SpecCall args) = false
-is_walked (Verify args) = false
-is_walked SpecCheck = false
-is_walked SpecBarrier = false
-
+-- a typed statement; one that reads at once reads a memory that answers at once
 abbrev pub IsWalked : Form → Stmt → Type 0
-IsWalked f x = IsTypedStmt f x × IsAtOnce f.pipe x.op × (is_walked x.op ≡ true)
+IsWalked f x = IsTypedStmt f x × IsAtOnce f.pipe x.op
 
 abbrev pub AreWalked : Form → List Stmt → Type 0
 AreWalked f xs = Each (IsWalked f) xs

@@ -12,6 +12,7 @@ use Rattle.pdl_pipe_law.specs.Walk.{Locks, Walk, Row, IsOp, taken_in, walk_after
 use Rattle.pdl_stagenets.specs.declared.locks.MemLock.{MemLock}
 use Rattle.pdl_stagenets.specs.declared.nets.WalkNets.{WalkNets}
 use Rattle.pdl_stagenets.specs.Parts.{Parts, held_of, walk_in}
+use Rattle.pdl_stagenets.specs.Guesses.{choices, differ_signal}
 use Rattle.pdl_stagenets.specs.Locked.{Members, locks_in, tickets_in}
 
 -- ---- what statements change, each under its condition
@@ -38,6 +39,19 @@ with_release m a on w = record (with_held m a on zero_bit w) { lettings = w.lett
 
 abbrev pub with_call : Signal → List Signal → Parts → Parts
 with_call on args w = record w { births = record { on = on; args = args } ∷ w.births }
+
+abbrev pub with_ask : ℕ → ℕ → ℕ → Signal → Parts → Parts
+with_ask m x a on w = record w { asks = w.asks ++ record { mem = m; var = x; on = on; addr = signal_at w.vars a } ∷ [] }
+
+abbrev pub with_guess : Signal → List Signal → Parts → Parts
+with_guess on args w = record (with_call on args w) { guess = choices on args w.guess }
+
+-- a call with these arguments where they aren't those of the guess
+abbrev pub with_verify : Signal → List Signal → Parts → Parts
+with_verify on args w = record (with_call (both on (differ_signal args w.guess)) args w) { fails = mux_signal (both on (differ_signal args w.guess)) one w.fails }
+
+abbrev pub with_barrier : Signal → Parts → Parts
+with_barrier on w = record w { barrier = mux_signal on one w.barrier }
 
 -- ---- steps
 

@@ -16,10 +16,10 @@ ghost use Rattle.pdl_stagenets.specs.Locked.{members};
 ghost use Rattle.pdl_stagenets.specs.Setting.{HasLocks, HasTickets, set_locks, set_tickets, AreSetSteps};
 ghost use Rattle.pdl_stagenets.specs.Sized.{IsWalked, AreWalked, AreWalkedRows, IsWalkOf};
 ghost use Rattle.pdl_stagenets.specs.Words.{IsLooked, IsRead, IsBlocked};
-ghost use Rattle.pdl_stagenets.specs.Steps.{with_var, with_put, with_reserve, with_release, with_call, IsStep};
+ghost use Rattle.pdl_stagenets.specs.Steps.{with_var, with_put, with_reserve, with_release, with_call, with_ask, IsStep};
 
 use crate::locks::{Setting, look_held, room, word};
-use crate::nets::WalkNets;
+use crate::nets::{AskNet, WalkNets};
 use pdl_build::Builder;
 use pdl_flatnets::Bits;
 use pdl_flatnets::exprs::variable;
@@ -99,6 +99,36 @@ impl WalkNets {
         let ticket = variable(b, setting.tickets, m);
         let net = word(b, setting, m, addr, ticket)?;
         self.set(b, setting.pipe, setting.bits, on, x, net)
+    }
+
+    /// A request of a delayed memory: where its guards are taken it asks for the word, which a variable becomes later.
+    pub(crate) fn delayed_read(
+        &mut self,
+        b: &mut Builder,
+        pipe: &FlatPipe,
+        bits: Bits,
+        guards: &[Guard],
+        x: usize,
+        m: usize,
+        a: usize,
+    ) -> Result<(), NoMemory>
+        requires walk { IsWalkOf (form pipe.now) b.old self.old }
+        requires bits { AreBits b.old bits }
+        requires guards { AreGuards (form pipe.now).widths (guards_view guards.now) }
+        requires at { IsLocation (form pipe.now).pipe (form pipe.now).widths m a }
+        ensures walk { OnOk result (IsWalkOf (form pipe.now) b.new self.new) }
+        ensures parts { OnOk result (parts_in b.new self.new
+            ≡ with_ask m x a (taken_by b.old self.old guards.now) (parts_in b.old self.old)) }
+        ensures extends { Extends b.old b.new }
+    {
+        let on = self.all_taken(b, pipe, bits, guards)?;
+        let addr = self.variable(b, pipe, a);
+        self.push_ask(AskNet {
+            mem: m,
+            var: x,
+            on,
+            addr,
+        })
     }
 
     /// A write.
@@ -300,7 +330,11 @@ impl WalkNets {
             Op::Block { m, a } => self.block(b, setting, guards, *m, *a),
             Op::Release { m, a } => self.release(b, pipe, bits, guards, *m, *a),
             Op::Call(args) => self.call(alloc, b, pipe, bits, guards, args.as_slice()),
-            _ => unreachable!(),
+            Op::DelayedRead { x, m, a } => self.delayed_read(b, pipe, bits, guards, *x, *m, *a),
+            Op::SpecCall(args) => self.spec_call(alloc, b, pipe, bits, guards, args.as_slice()),
+            Op::Verify(args) => self.verify(alloc, b, pipe, bits, guards, args.as_slice()),
+            Op::SpecCheck => Ok(()),
+            Op::SpecBarrier => self.spec_barrier(b, pipe, bits, guards),
         }
     }
 

@@ -11,7 +11,7 @@ ghost use Rattle.pdl_stagenets.specs.Frames.{SameRest};
 ghost use Rattle.pdl_stagenets.specs.Finding.{held_net as held_in};
 ghost use Rattle.pdl_stagenets.specs.Steps.{with_var, with_held};
 
-use crate::nets::{BirthNet, HeldNet, LettingNet, PutNet, ReserveNet, WalkNets};
+use crate::nets::{AskNet, BirthNet, HeldNet, LettingNet, PutNet, ReserveNet, WalkNets};
 use pdl_build::Builder;
 use pdl_flatnets::Bits;
 use pdl_form::FlatPipe;
@@ -173,6 +173,13 @@ impl WalkNets {
             }) }
     {
         self.puts.push(PutNet { mem, on, value })
+    }
+
+    /// One more request of a delayed memory.
+    pub(crate) fn push_ask(&mut self, ask: AskNet) -> Result<(), NoMemory>
+        ensures { OnOk result (self.new ≡ record self.old { asks = self.old.asks ++ ask ∷ [] }) }
+    {
+        self.asks.push(ask)
     }
 
     /// One more release of a write reservation.

@@ -25,4 +25,4 @@ returns-clause-suited c =
     let l : Members AnyLock = record { placed = any_placed; stands = any_stands; kind = any_kind; size = any_size; tickets = any_tickets } in
     let asked : c.loop-m.locks.items ≡ locks_asked f.pipe.mems =
     sym (append-nil c.loop-m.locks.items) ∙ sym (ap (λ (xs : List r_mem.Mem). c.loop-m.locks.items ++ locks_asked (mems_view xs)) (drop_all c.loop-m.m-index ms c.loop-m-test.false)) ∙ c.loop-m.invariant ∙ ap locks_asked c.mems-mems.ensures.mems in
-    subst (λ (xs : List (Option AnyLock)). AreSuited any_suits l f xs) (sym asked) (are_suited l f refl refl c.requires.mems c.requires.comb c.requires.sizes)
+    subst (λ (xs : List (Option AnyLock)). AreSuited any_suits l f xs) (sym asked) (are_suited l f refl refl c.requires.mems c.requires.in_time c.requires.sizes)

@@ -1,12 +1,11 @@
-use Rattle.std.proofs.Common.{◌∙◌, ◌+◌, ◌<◌, List, length, sym, ap, arith, subst}
+use Rattle.std.proofs.Common.{◌+◌, ◌<◌, List, length, sym, arith, subst}
 use Rattle.std.specs.Prelude.{Option}
 use Rattle.pdl_form.specs.Whole.{form}
 use Rattle.pdl_form.specs.View.{mem_view}
 use Rattle.pdl_formtypes.specs.Stmts.{IsTypedMem}
-use Rattle.pdl_semantics.specs.Flat.{Mem}
 use Rattle.pdl_stagenets.specs.declared.locks.MemLock.{MemLock}
 use Rattle.pdl_stagenets.specs.Locked.{Members}
-use Rattle.pdl_locknets.proofs.AllMade.{AreMadeTo, mem_is, mem_count, name_is, name_count, typed_at, comb_at, served_at, made_none, made_more, all_extends, all_locked, all_lawful, all_unwritten, all_above}
+use Rattle.pdl_locknets.proofs.AllMade.{AreMadeTo, mem_is, mem_count, name_is, name_count, typed_at, served_at, made_none, made_more, all_extends, all_locked, all_lawful, all_unwritten, all_above}
 use Rattle.pdl_locknets.proofs.arrays.memories.Goals as goal
 
 pub loop-m-init : goal.loop-m-init
@@ -23,13 +22,6 @@ memory-requires-clause-typed g c =
     let ms = c.mems-mems.result.now in
     let is = mem_is p ms c.loop-m.m c.mem_at-mem.result.now c.mems-mems.ensures.mems c.loop-m-test.true c.mem_at-mem.ensures in
     subst IsTypedMem (sym is) (typed_at p.mems c.loop-m.m (omega (arith, c.loop-m-test.true, mem_count p ms c.mems-mems.ensures.mems)) c.requires.mems)
-
-pub memory-requires-clause-comb : goal.memory-requires-clause-comb
-memory-requires-clause-comb g c =
-    let p = (form c.args.pipe.now).pipe in
-    let ms = c.mems-mems.result.now in
-    let is = mem_is p ms c.loop-m.m c.mem_at-mem.result.now c.mems-mems.ensures.mems c.loop-m-test.true c.mem_at-mem.ensures in
-    ap (λ (m : Mem). m.delayed) is ∙ comb_at p.mems c.loop-m.m (omega (arith, c.loop-m-test.true, mem_count p ms c.mems-mems.ensures.mems)) c.requires.comb
 
 pub memory-requires-clause-served : goal.memory-requires-clause-served
 memory-requires-clause-served g c =
@@ -70,7 +62,7 @@ returns-clause-locked g c =
     let ms = c.mems-mems.result.now in
     let count = mem_count f.pipe ms c.mems-mems.ensures.mems in
     let named = name_count f.names f.pipe ms c.mems-mems.ensures.names c.mems-mems.ensures.mems in
-    all_locked l c.args.b.now c.loop-m.b f.names f.pipe c.loop-m.made.items c.loop-m.m c.requires.none named (omega (arith, c.loop-m-test.false, c.loop-m.auto.m-end, count)) c.loop-m.invariant.made
+    all_locked l c.args.b.now c.loop-m.b f.names f.pipe c.loop-m.made.items c.loop-m.m named (omega (arith, c.loop-m-test.false, c.loop-m.auto.m-end, count)) c.loop-m.invariant.made
 
 pub returns-clause-lawful : goal.returns-clause-lawful
 returns-clause-lawful g c =
@@ -80,7 +72,7 @@ returns-clause-lawful g c =
     let ms = c.mems-mems.result.now in
     let count = mem_count f.pipe ms c.mems-mems.ensures.mems in
     let named = name_count f.names f.pipe ms c.mems-mems.ensures.names c.mems-mems.ensures.mems in
-    all_lawful l c.args.b.now c.loop-m.b f.names f.pipe c.loop-m.made.items c.loop-m.m c.requires.none named (omega (arith, c.loop-m-test.false, c.loop-m.auto.m-end, count)) c.loop-m.invariant.made
+    all_lawful l c.args.b.now c.loop-m.b f.names f.pipe c.loop-m.made.items c.loop-m.m named (omega (arith, c.loop-m-test.false, c.loop-m.auto.m-end, count)) c.loop-m.invariant.made
 
 pub returns-clause-above : goal.returns-clause-above
 returns-clause-above g c =
@@ -90,7 +82,7 @@ returns-clause-above g c =
     let ms = c.mems-mems.result.now in
     let count = mem_count f.pipe ms c.mems-mems.ensures.mems in
     let named = name_count f.names f.pipe ms c.mems-mems.ensures.names c.mems-mems.ensures.mems in
-    all_above l c.args.b.now c.loop-m.b f.names f.pipe c.loop-m.made.items c.loop-m.m c.requires.none named (omega (arith, c.loop-m-test.false, c.loop-m.auto.m-end, count)) c.loop-m.invariant.made
+    all_above l c.args.b.now c.loop-m.b f.names f.pipe c.loop-m.made.items c.loop-m.m named (omega (arith, c.loop-m-test.false, c.loop-m.auto.m-end, count)) c.loop-m.invariant.made
 
 pub returns-clause-unwritten : goal.returns-clause-unwritten
 returns-clause-unwritten g c =
@@ -100,7 +92,7 @@ returns-clause-unwritten g c =
     let ms = c.mems-mems.result.now in
     let count = mem_count f.pipe ms c.mems-mems.ensures.mems in
     let named = name_count f.names f.pipe ms c.mems-mems.ensures.names c.mems-mems.ensures.mems in
-    all_unwritten l c.args.b.now c.loop-m.b f.names f.pipe c.loop-m.made.items c.loop-m.m c.requires.none named (omega (arith, c.loop-m-test.false, c.loop-m.auto.m-end, count)) c.loop-m.invariant.made
+    all_unwritten l c.args.b.now c.loop-m.b f.names f.pipe c.loop-m.made.items c.loop-m.m named (omega (arith, c.loop-m-test.false, c.loop-m.auto.m-end, count)) c.loop-m.invariant.made
 
 pub returns-clause-extends : goal.returns-clause-extends
 returns-clause-extends g c =
@@ -110,4 +102,4 @@ returns-clause-extends g c =
     let ms = c.mems-mems.result.now in
     let count = mem_count f.pipe ms c.mems-mems.ensures.mems in
     let named = name_count f.names f.pipe ms c.mems-mems.ensures.names c.mems-mems.ensures.mems in
-    all_extends l c.args.b.now c.loop-m.b f.names f.pipe c.loop-m.made.items c.loop-m.m c.requires.none named (omega (arith, c.loop-m-test.false, c.loop-m.auto.m-end, count)) c.loop-m.invariant.made
+    all_extends l c.args.b.now c.loop-m.b f.names f.pipe c.loop-m.made.items c.loop-m.m named (omega (arith, c.loop-m-test.false, c.loop-m.auto.m-end, count)) c.loop-m.invariant.made

@@ -3,10 +3,8 @@ use Rattle.pdl_tree.specs.View.{pipe_view}
 use Rattle.pdl_form.specs.Form.{Form}
 use Rattle.pdl_formtypes.proofs.Whole.{typed_whole}
 use Rattle.pdl_formtypes.specs.Stmts.{AreTypedMems}
-use Rattle.pdl_locknets.specs.Suited.{AreComb}
-use Rattle.pdl_lockkinds.specs.Asked.{AreSizedLocks}
-use Rattle.pdl_gated.proofs.Lines.{comb_mems}
-use Rattle.pdl_pipe.proofs.Lockable.{sized_locks, at_once, suited_as}
+use Rattle.pdl_lockkinds.specs.Asked.{AreInTime, AreSizedLocks}
+use Rattle.pdl_pipe.proofs.Lockable.{sized_locks, locks_in_time, suited_as}
 use Rattle.pdl_pipe.proofs.netlist.compile.Goals as goal
 
 pub locks_of-requires-clause-mems : goal.locks_of-requires-clause-mems
@@ -14,10 +12,10 @@ locks_of-requires-clause-mems c =
     let a = c.args.accepted.now in
     subst (λ (f : Form). AreTypedMems f.pipe.mems) (sym c.flat.ensures) (typed_whole (pipe_view a.typed.pipe) a.kept a.letters).mems
 
-pub locks_of-requires-clause-comb : goal.locks_of-requires-clause-comb
-locks_of-requires-clause-comb c =
+pub locks_of-requires-clause-in_time : goal.locks_of-requires-clause-in_time
+locks_of-requires-clause-in_time c =
     let a = c.args.accepted.now in
-    subst (λ (f : Form). AreComb f.pipe.mems) (sym c.flat.ensures) (at_once (pipe_view a.typed.pipe).mems (comb_mems (pipe_view a.typed.pipe) a.compiled))
+    subst (λ (f : Form). AreInTime f.pipe.mems) (sym c.flat.ensures) (locks_in_time (pipe_view a.typed.pipe) a.kept)
 
 pub locks_of-requires-clause-sizes : goal.locks_of-requires-clause-sizes
 locks_of-requires-clause-sizes c =

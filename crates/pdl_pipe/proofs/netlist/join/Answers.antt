@@ -18,9 +18,6 @@ memories-requires-clause-none g c = ap (λ (y : Circuit). y.arrays) c.requires.e
 pub memories-requires-clause-mems : goal.memories-requires-clause-mems
 memories-requires-clause-mems g c = c.requires.pipe.typed.mems
 
-pub memories-requires-clause-comb : goal.memories-requires-clause-comb
-memories-requires-clause-comb g c = c.requires.pipe.comb
-
 pub line-requires-clause-locks : goal.line-requires-clause-locks
 line-requires-clause-locks g c =
     let l = members g.L.LockModule in
@@ -43,14 +40,14 @@ steps-requires g c =
     let first = c.as_slice.ensures.value in
     let ss = c.in_ok-stages.stages.stages.items in
     let ms = c.in_ok-stages.stages.moves.items in
-    let told : IsLine d f (next_signals b xs) (locks_in l b xs) ss ms = subst (λ ys. IsLine d f (next_signals b ys) (locks_in l b ys) ss ms) first c.in_ok-stages.ensures.line in
+    let told : IsLine d f (next_signals b xs) (locks_in l f.pipe b xs) ss ms = subst (λ ys. IsLine d f (next_signals b ys) (locks_in l f.pipe b ys) ss ms) first c.in_ok-stages.ensures.line in
     let second = sym c.as_slice-2.ensures.value in
     record {
       bits = bits_keep b d c.in_ok-bits.bits (but_keeps (regs_of (length b.regs) (length d.regs)) b d bc) c.in_ok-bits.ensures.bits;
       locked = subst (AreLocked l d f.pipe) second (locked_c l stays f xs a b d m.locked m.lawful m.unwritten c.new.ensures.extends bc);
       lawful = subst (AreLawful l d f.pipe) second (lawful_c l stays f xs a b d m.locked m.lawful m.unwritten c.new.ensures.extends bc);
       unwritten = unwritten_c l stays f xs a b d m.locked m.lawful m.unwritten c.new.ensures.extends bc;
-      line = subst (λ ys. IsLine d f (next_signals d ys) (locks_in l d ys) ss ms) second (line_c l stays f xs a b d m.locked m.lawful m.unwritten c.new.ensures.extends bc ss ms told);
+      line = subst (λ ys. IsLine d f (next_signals d ys) (locks_in l f.pipe d ys) ss ms) second (line_c l stays f xs a b d m.locked m.lawful m.unwritten c.new.ensures.extends bc ss ms told);
     }
 
 pub returns : goal.returns
@@ -66,8 +63,8 @@ returns g c =
     let line = c.in_ok-stages.stages in
     let ss = line.stages.items in
     let ms = line.moves.items in
-    let told : IsLine d f (next_signals b xs) (locks_in l b xs) ss ms = subst (λ ys. IsLine d f (next_signals b ys) (locks_in l b ys) ss ms) first c.in_ok-stages.ensures.line in
-    let law : Lasting (length b.regs) d (MeetsLaw f.pipe (locks_in l b xs) ss ms d) = subst (λ ys. Lasting (length b.regs) d (MeetsLaw f.pipe (locks_in l b ys) ss ms d)) first c.in_ok-stages.ensures.law in
+    let told : IsLine d f (next_signals b xs) (locks_in l f.pipe b xs) ss ms = subst (λ ys. IsLine d f (next_signals b ys) (locks_in l f.pipe b ys) ss ms) first c.in_ok-stages.ensures.line in
+    let law : Lasting (length b.regs) d (MeetsLaw f.pipe (locks_in l f.pipe b xs) ss ms d) = subst (λ ys. Lasting (length b.regs) d (MeetsLaw f.pipe (locks_in l f.pipe b ys) ss ms d)) first c.in_ok-stages.ensures.law in
     let steps : HasSteps l d c.steps.new.b f.pipe xs line c.in_ok-commits.commits.items = subst (λ ys. HasSteps l d c.steps.new.b f.pipe ys line c.in_ok-commits.commits.items) c.as_slice-2.ensures.value c.in_ok-commits.ensures in
     joined l g.met.L.LockModule.stays f (record { locks = c.in_ok-made.made; line = line; commits = c.in_ok-commits.commits; bits = c.in_ok-bits.bits }) c.args.b.now a b d c.steps.new.b m.locked m.lawful m.unwritten c.new.ensures.extends c.line.ensures.extends
     c.requires.empty m.extends c.in_ok-bits.ensures.bits told law steps

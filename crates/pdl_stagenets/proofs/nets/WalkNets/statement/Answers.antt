@@ -9,9 +9,11 @@ use Rattle.pdl_stagenets.specs.Parts.{parts_in, walk_of}
 use Rattle.pdl_stagenets.specs.Locked.{members, locks_in, tickets_in}
 use Rattle.pdl_form.specs.declared.form.Expr as r_expr
 use Rattle.pdl_formtypes.specs.Stmts.{param_widths, AreArguments}
-use Rattle.pdl_stagenets.proofs.Arguments.{arguments_typed, arguments_few}
+use Rattle.pdl_stagenets.proofs.Arguments.{arguments_typed, arguments_few, arguments_wide}
 use Rattle.pdl_stagenets.proofs.Lists.{on_ok}
 use Rattle.pdl_stagenets.proofs.Made.{nets_of, has_keep, bind_step, read_step, write_step, idle_step, reserve_step, block_step, release_step, call_step}
+use Rattle.pdl_pipe_law.specs.Reads.{IsAtOnce}
+use Rattle.pdl_stagenets.proofs.MadeGuesses.{ask_step, check_step, barrier_step, guess_step, verify_step}
 use Rattle.pdl_stagenets.proofs.OneByOne.{typed_as, guards_as, step_as}
 use Rattle.pdl_stagenets.proofs.nets.WalkNets.statement.Goals as goal
 
@@ -32,6 +34,34 @@ read-requires-clause-at g c = (typed_as (form c.args.setting.now.pipe.now) c.arg
 
 pub read-requires-clause-wide : goal.read-requires-clause-wide
 read-requires-clause-wide g c = (typed_as (form c.args.setting.now.pipe.now) c.args.s.now _ c.requires.typed c.in-CombRead.is).2
+
+pub read-requires-clause-at_once : goal.read-requires-clause-at_once
+read-requires-clause-at_once g c = subst (λ (o : r_op.Op). IsAtOnce (form c.args.setting.now.pipe.now).pipe (act_view o)) c.in-CombRead.is c.requires.typed.1
+
+pub delayed_read-requires-clause-at : goal.delayed_read-requires-clause-at
+delayed_read-requires-clause-at g c = (typed_as (form c.args.setting.now.pipe.now) c.args.s.now _ c.requires.typed c.in-DelayedRead.is).1
+
+pub spec_call-requires-clause-typed : goal.spec_call-requires-clause-typed
+spec_call-requires-clause-typed g c =
+    let f = form c.args.setting.now.pipe.now in
+    subst (λ (es : List r_expr.Expr). AreArguments f.widths (param_widths f) (exprs_view es)) (sym c.as_slice-in-SpecCall.ensures) (typed_as f c.args.s.now _ c.requires.typed c.in-SpecCall.is)
+
+pub verify-requires-clause-typed : goal.verify-requires-clause-typed
+verify-requires-clause-typed g c =
+    let f = form c.args.setting.now.pipe.now in
+    subst (λ (es : List r_expr.Expr). AreArguments f.widths (param_widths f) (exprs_view es)) (sym c.as_slice-in-Verify.ensures) (typed_as f c.args.s.now _ c.requires.typed c.in-Verify.is)
+
+pub delayed_read-requires-clause-guards : goal.delayed_read-requires-clause-guards
+delayed_read-requires-clause-guards g c = guards_as (form c.args.setting.now.pipe.now) c.args.s.now c.as_slice-guards.result.now c.requires.typed c.as_slice-guards.ensures
+
+pub spec_call-requires-clause-guards : goal.spec_call-requires-clause-guards
+spec_call-requires-clause-guards g c = guards_as (form c.args.setting.now.pipe.now) c.args.s.now c.as_slice-guards.result.now c.requires.typed c.as_slice-guards.ensures
+
+pub verify-requires-clause-guards : goal.verify-requires-clause-guards
+verify-requires-clause-guards g c = guards_as (form c.args.setting.now.pipe.now) c.args.s.now c.as_slice-guards.result.now c.requires.typed c.as_slice-guards.ensures
+
+pub spec_barrier-requires-clause-guards : goal.spec_barrier-requires-clause-guards
+spec_barrier-requires-clause-guards g c = guards_as (form c.args.setting.now.pipe.now) c.args.s.now c.as_slice-guards.result.now c.requires.typed c.as_slice-guards.ensures
 
 pub write-requires-clause-low : goal.write-requires-clause-low
 write-requires-clause-low g c = (typed_as (form c.args.setting.now.pipe.now) c.args.s.now _ c.requires.typed c.in-Write.is).0.memory
@@ -220,3 +250,94 @@ returns-in-ReserveRead-clause-step g c =
     let op : flat.ReserveRead c.in-ReserveRead.m c.in-ReserveRead.a ≡ act_view c.args.s.now.op = sym (ap act_view c.in-ReserveRead.is) in
     step_as a (form c.args.setting.now.pipe.now).pipe ls tickets gs gs (flat.ReserveRead c.in-ReserveRead.m c.in-ReserveRead.a) (act_view c.args.s.now.op) (walk_of (parts_in a w)) (walk_of (parts_in a w)) refl op
     (idle_step a (form c.args.setting.now.pipe.now).pipe (form c.args.setting.now.pipe.now).widths ls tickets gs (parts_in a w) (nets_of a (form c.args.setting.now.pipe.now).pipe (form c.args.setting.now.pipe.now).widths w c.requires.walk) c.requires.walk.sized refl c.requires.typed.0.0 c.in-ReserveRead.m c.in-ReserveRead.a)
+
+pub returns-in-DelayedRead-clause-step : goal.returns-in-DelayedRead-clause-step
+returns-in-DelayedRead-clause-step g c =
+    let a = c.args.b.now in
+    let b = c.delayed_read.new.b in
+    let w = c.args.self.now in
+    let ls = locks_in (members g.L.LockModule) (form c.args.setting.now.pipe.now).pipe a c.args.setting.now.locks.now in
+    let tickets = tickets_in a c.args.setting.now.tickets.now in
+    let gs = guards_view c.as_slice-guards.result.now in
+    let same : gs ≡ guards_view c.args.s.now.guards = ap guards_view c.as_slice-guards.ensures in
+    let guards = subst (λ l. AreGuards (form c.args.setting.now.pipe.now).widths l) (sym same) c.requires.typed.0.0 in
+    let nets = has_keep a b (parts_in a w).vars (extends_keeps a b c.delayed_read.ensures.extends) (nets_of a (form c.args.setting.now.pipe.now).pipe (form c.args.setting.now.pipe.now).widths w c.requires.walk) in
+    let op = sym (ap act_view c.in-DelayedRead.is) in
+    on_ok c.delayed_read.result
+    (λ q. step_as b (form c.args.setting.now.pipe.now).pipe ls tickets gs (guards_view c.args.s.now.guards) (flat.DelayedRead c.in-DelayedRead.x c.in-DelayedRead.m c.in-DelayedRead.a) (act_view c.args.s.now.op) (walk_of (parts_in a w)) (walk_of (parts_in b c.delayed_read.new.self)) same op
+    (ask_step b (form c.args.setting.now.pipe.now).pipe (form c.args.setting.now.pipe.now).widths ls tickets gs (parts_in a w) nets c.requires.walk.sized refl guards c.in-DelayedRead.x c.in-DelayedRead.m c.in-DelayedRead.a (parts_in b c.delayed_read.new.self) q))
+    c.delayed_read.ensures.parts
+
+pub returns-in-SpecCall-clause-step : goal.returns-in-SpecCall-clause-step
+returns-in-SpecCall-clause-step g c =
+    let a = c.args.b.now in
+    let b = c.spec_call.new.b in
+    let w = c.args.self.now in
+    let ls = locks_in (members g.L.LockModule) (form c.args.setting.now.pipe.now).pipe a c.args.setting.now.locks.now in
+    let tickets = tickets_in a c.args.setting.now.tickets.now in
+    let gs = guards_view c.as_slice-guards.result.now in
+    let same : gs ≡ guards_view c.args.s.now.guards = ap guards_view c.as_slice-guards.ensures in
+    let guards = subst (λ l. AreGuards (form c.args.setting.now.pipe.now).widths l) (sym same) c.requires.typed.0.0 in
+    let nets = has_keep a b (parts_in a w).vars (extends_keeps a b c.spec_call.ensures.extends) (nets_of a (form c.args.setting.now.pipe.now).pipe (form c.args.setting.now.pipe.now).widths w c.requires.walk) in
+    let typed = subst (λ (o : r_op.Op). IsTypedOp (form c.args.setting.now.pipe.now) (act_view o)) c.in-SpecCall.is c.requires.typed.0.1 in
+    let es = exprs_view c.as_slice-in-SpecCall.result.now in
+    let op = ap (λ (l : List r_expr.Expr). flat.SpecCall (exprs_view l)) c.as_slice-in-SpecCall.ensures ∙ sym (ap act_view c.in-SpecCall.is) in
+    let args = subst (λ (l : List r_expr.Expr). AreArguments (form c.args.setting.now.pipe.now).widths (param_widths (form c.args.setting.now.pipe.now)) (exprs_view l)) (sym c.as_slice-in-SpecCall.ensures) typed in
+    let ws = (form c.args.setting.now.pipe.now).widths in
+    let n = length (form c.args.setting.now.pipe.now).pipe.start in
+    let wide = arguments_wide (parts_in a w).vars (param_widths (form c.args.setting.now.pipe.now)) es (subst (λ l. AreArguments l (param_widths (form c.args.setting.now.pipe.now)) es) (sym c.requires.walk.sized.vars) args) ∙ sym c.requires.walk.sized.guess in
+    on_ok c.spec_call.result
+    (λ q. step_as b (form c.args.setting.now.pipe.now).pipe ls tickets gs (guards_view c.args.s.now.guards) (flat.SpecCall es) (act_view c.args.s.now.op) (walk_of (parts_in a w)) (walk_of (parts_in b c.spec_call.new.self)) same op
+    (guess_step b (form c.args.setting.now.pipe.now).pipe (form c.args.setting.now.pipe.now).widths ls tickets gs (parts_in a w) nets c.requires.walk.sized refl guards es (arguments_few ws n es args) (arguments_typed ws (param_widths (form c.args.setting.now.pipe.now)) es args) wide (parts_in b c.spec_call.new.self) q))
+    c.spec_call.ensures.parts
+
+pub returns-in-Verify-clause-step : goal.returns-in-Verify-clause-step
+returns-in-Verify-clause-step g c =
+    let a = c.args.b.now in
+    let b = c.verify.new.b in
+    let w = c.args.self.now in
+    let ls = locks_in (members g.L.LockModule) (form c.args.setting.now.pipe.now).pipe a c.args.setting.now.locks.now in
+    let tickets = tickets_in a c.args.setting.now.tickets.now in
+    let gs = guards_view c.as_slice-guards.result.now in
+    let same : gs ≡ guards_view c.args.s.now.guards = ap guards_view c.as_slice-guards.ensures in
+    let guards = subst (λ l. AreGuards (form c.args.setting.now.pipe.now).widths l) (sym same) c.requires.typed.0.0 in
+    let nets = has_keep a b (parts_in a w).vars (extends_keeps a b c.verify.ensures.extends) (nets_of a (form c.args.setting.now.pipe.now).pipe (form c.args.setting.now.pipe.now).widths w c.requires.walk) in
+    let typed = subst (λ (o : r_op.Op). IsTypedOp (form c.args.setting.now.pipe.now) (act_view o)) c.in-Verify.is c.requires.typed.0.1 in
+    let es = exprs_view c.as_slice-in-Verify.result.now in
+    let op = ap (λ (l : List r_expr.Expr). flat.Verify (exprs_view l)) c.as_slice-in-Verify.ensures ∙ sym (ap act_view c.in-Verify.is) in
+    let args = subst (λ (l : List r_expr.Expr). AreArguments (form c.args.setting.now.pipe.now).widths (param_widths (form c.args.setting.now.pipe.now)) (exprs_view l)) (sym c.as_slice-in-Verify.ensures) typed in
+    let ws = (form c.args.setting.now.pipe.now).widths in
+    let n = length (form c.args.setting.now.pipe.now).pipe.start in
+    let wide = arguments_wide (parts_in a w).vars (param_widths (form c.args.setting.now.pipe.now)) es (subst (λ l. AreArguments l (param_widths (form c.args.setting.now.pipe.now)) es) (sym c.requires.walk.sized.vars) args) ∙ sym c.requires.walk.sized.guess in
+    on_ok c.verify.result
+    (λ q. step_as b (form c.args.setting.now.pipe.now).pipe ls tickets gs (guards_view c.args.s.now.guards) (flat.Verify es) (act_view c.args.s.now.op) (walk_of (parts_in a w)) (walk_of (parts_in b c.verify.new.self)) same op
+    (verify_step b (form c.args.setting.now.pipe.now).pipe (form c.args.setting.now.pipe.now).widths ls tickets gs (parts_in a w) nets c.requires.walk.sized refl guards es (arguments_few ws n es args) (arguments_typed ws (param_widths (form c.args.setting.now.pipe.now)) es args) wide (parts_in b c.verify.new.self) q))
+    c.verify.ensures.parts
+
+pub returns-in-SpecBarrier-clause-step : goal.returns-in-SpecBarrier-clause-step
+returns-in-SpecBarrier-clause-step g c =
+    let a = c.args.b.now in
+    let b = c.spec_barrier.new.b in
+    let w = c.args.self.now in
+    let ls = locks_in (members g.L.LockModule) (form c.args.setting.now.pipe.now).pipe a c.args.setting.now.locks.now in
+    let tickets = tickets_in a c.args.setting.now.tickets.now in
+    let gs = guards_view c.as_slice-guards.result.now in
+    let same : gs ≡ guards_view c.args.s.now.guards = ap guards_view c.as_slice-guards.ensures in
+    let guards = subst (λ l. AreGuards (form c.args.setting.now.pipe.now).widths l) (sym same) c.requires.typed.0.0 in
+    let nets = has_keep a b (parts_in a w).vars (extends_keeps a b c.spec_barrier.ensures.extends) (nets_of a (form c.args.setting.now.pipe.now).pipe (form c.args.setting.now.pipe.now).widths w c.requires.walk) in
+    let op = sym (ap act_view c.in-SpecBarrier.is) in
+    on_ok c.spec_barrier.result
+    (λ q. step_as b (form c.args.setting.now.pipe.now).pipe ls tickets gs (guards_view c.args.s.now.guards) flat.SpecBarrier (act_view c.args.s.now.op) (walk_of (parts_in a w)) (walk_of (parts_in b c.spec_barrier.new.self)) same op
+    (barrier_step b (form c.args.setting.now.pipe.now).pipe (form c.args.setting.now.pipe.now).widths ls tickets gs (parts_in a w) nets c.requires.walk.sized refl guards (parts_in b c.spec_barrier.new.self) q))
+    c.spec_barrier.ensures.parts
+
+pub returns-in-SpecCheck-clause-step : goal.returns-in-SpecCheck-clause-step
+returns-in-SpecCheck-clause-step g c =
+    let a = c.args.b.now in
+    let w = c.args.self.now in
+    let ls = locks_in (members g.L.LockModule) (form c.args.setting.now.pipe.now).pipe a c.args.setting.now.locks.now in
+    let tickets = tickets_in a c.args.setting.now.tickets.now in
+    let gs = guards_view c.args.s.now.guards in
+    let op : flat.SpecCheck ≡ act_view c.args.s.now.op = sym (ap act_view c.in-SpecCheck.is) in
+    step_as a (form c.args.setting.now.pipe.now).pipe ls tickets gs gs flat.SpecCheck (act_view c.args.s.now.op) (walk_of (parts_in a w)) (walk_of (parts_in a w)) refl op
+    (check_step a (form c.args.setting.now.pipe.now).pipe (form c.args.setting.now.pipe.now).widths ls tickets gs (parts_in a w) (nets_of a (form c.args.setting.now.pipe.now).pipe (form c.args.setting.now.pipe.now).widths w c.requires.walk) c.requires.walk.sized refl c.requires.typed.0.0)
