@@ -11,7 +11,8 @@ use Rattle.pdl_simulation.proofs.PerMemory.{at_mem}
 use Rattle.pdl_net.specs.declared.Netlist.{Netlist}
 use Rattle.pdl_net.specs.Run.{delayed_mems}
 use Rattle.pdl_pipe_law.specs.Walk.{Locks}
-use Rattle.pdl_sides.specs.Whole.{names_delayed, delayed_count, comb_place, net_place, in_order, HasWholeMems}
+use Rattle.pdl_pipe_law.specs.Places.{delayed_count, comb_place, net_place}
+use Rattle.pdl_sides.specs.Whole.{names_delayed, in_order, HasWholeMems}
 
 -- ---- COUNTS
 
