@@ -1,0 +1,3 @@
+pub mod Memories
+pub mod Follows
+pub mod Runs
