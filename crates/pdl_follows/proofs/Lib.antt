@@ -5,3 +5,5 @@ pub mod Arrays
 pub mod WellFormed
 pub mod HasMems
 pub mod FollowsMade
+pub mod LinesPorts
+pub mod Lines
