@@ -1,5 +1,5 @@
 -- The arrays of a netlist that is made of a pipe: one for each memory that answers at once, with its name and sizes, written only where the memory has a lock.
-use Rattle.std.proofs.Common.{◌≡◌, ◌≢◌, ◌⊎◌, inl, inr, ℕ, zero, suc, ◌+◌, ◌*◌, ◌^◌, ◌<◌, ◌≤◌, Bool, true, false, List, [], ◌∷◌, ◌++◌, length, get_or, map, All, Option, Some, None, refl, sym, ap, ap₂, ◌∙◌, subst, arith}
+use Rattle.std.proofs.Common.{◌≡◌, ◌≢◌, ◌⊎◌, inl, inr, ℕ, suc, ◌*◌, ◌^◌, ◌≤◌, Bool, true, false, List, [], ◌∷◌, ◌++◌, map, All, Option, Some, None, refl, sym, ap, ap₂, ◌∙◌, subst, arith}
 use Rattle.std.specs.Prelude.{if◌then◌else◌, Contains, filter}
 use Rattle.std.specs.Option.{is_some}
 use Rattle.std.specs.List.{AllByRecursion}
@@ -17,7 +17,7 @@ use Rattle.pdl_pipe_law.specs.Declared.{port_mem, locked_of, array_words, shape_
 use Rattle.pdl_pipe_law.proofs.WellFormedNames.{Among, among_one}
 use Rattle.pdl_pipe_law.proofs.WellFormedPorts.{locked_named, found}
 use Rattle.pdl_pipe_law.proofs.WellFormedMems.{Reaches, IsAddressed}
-use Rattle.pdl_pipe_law.proofs.WellFormedArrays.{locked_all, locked_at, shallow, info_with, info_same, info_if}
+use Rattle.pdl_pipe_law.proofs.WellFormedArrays.{locked_all, locked_at, shallow, info_same, info_if}
 use Rattle.pdl_follows.specs.Memories.{is_delayed, delayed_of, comb_of}
 use Rattle.pdl_follows.proofs.Memories.{among_some, some_among}
 

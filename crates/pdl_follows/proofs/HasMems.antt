@@ -4,10 +4,9 @@ use Rattle.std.specs.Prelude.{slice_index_or, take, count_by, filter, ifâ—Œthenâ
 use Rattle.std.proofs.lemmas.List.{length-map, length-append, get_or_append_left}
 use Rattle.std.proofs.lemmas.List.Elements.{filter-append}
 use Rattle.pdl_kit.specs.declared.mem_info.MemInfo.{MemInfo}
-use Rattle.pdl_semantics.specs.Tree as tree
 use Rattle.pdl_semantics.specs.Tree.{Mem}
 use Rattle.pdl_semantics.specs.Flat.{Pipe}
-use Rattle.pdl_semantics.specs.Flatten.{flat, mems_of}
+use Rattle.pdl_semantics.specs.Flatten.{mems_of}
 use Rattle.pdl_semantics.specs.Stages.{mem_at, plain_mem}
 use Rattle.pdl_pathfacts.proofs.Memories.{mems_length}
 use Rattle.pdl_rules.specs.Memories.{info_of}

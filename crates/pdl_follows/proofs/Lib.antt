@@ -7,3 +7,4 @@ pub mod HasMems
 pub mod FollowsMade
 pub mod LinesPorts
 pub mod Lines
+pub mod Sequential

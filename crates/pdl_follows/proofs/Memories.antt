@@ -1,5 +1,5 @@
 -- The memories of a pipe, those of its netlist, and where each stands.
-use Rattle.std.proofs.Common.{◌≡◌, inl, inr, ℕ, zero, suc, ◌+◌, ◌<◌, Bool, true, false, not, List, [], ◌∷◌, ◌++◌, length, get_or, map, take, refl, sym, ap, ◌∙◌, subst, arith}
+use Rattle.std.proofs.Common.{◌≡◌, inl, inr, ℕ, zero, suc, ◌+◌, ◌<◌, Bool, true, false, not, List, [], ◌∷◌, ◌++◌, length, map, take, refl, sym, ap, ◌∙◌, subst, arith}
 use Rattle.std.specs.Prelude.{if◌then◌else◌, slice_index_or, count_by, filter}
 use Rattle.std.proofs.lemmas.Bool.{or_parts}
 use Rattle.pdl_kit.specs.declared.mem_info.MemInfo.{MemInfo}
@@ -16,7 +16,7 @@ use Rattle.pdl_pipe_law.proofs.WellFormedNames.{Among}
 use Rattle.pdl_sides.specs.Whole.{names_delayed}
 use Rattle.pdl_whole_law.proofs.Places.{count_yes, count_no}
 use Rattle.pdl_whole_law.proofs.Places as places
-use Rattle.pdl_follows.specs.Memories.{is_delayed, delayed_of, comb_of, net_infos}
+use Rattle.pdl_follows.specs.Memories.{delayed_of, comb_of}
 
 -- ---- some of the memories
 

@@ -1,13 +1,12 @@
 -- The names of the ports of a pipe with delayed memories: no two of them are the same.
-use Rattle.std.proofs.Common.{◌≡◌, ◌≢◌, ℕ, zero, suc, ◌+◌, ◌<◌, ◌≤◌, Bool, true, false, if◌then◌else◌, List, [], ◌∷◌, ◌++◌, map, codes, decimal, arith}
-use Rattle.std.specs.Prelude.{⊤, filter}
-use Rattle.std.specs.Option.{is_some}
+use Rattle.std.proofs.Common.{◌≢◌, ℕ, zero, suc, ◌≤◌, Bool, true, false, if◌then◌else◌, List, [], ◌∷◌, ◌++◌, map, codes, arith}
+use Rattle.std.specs.Prelude.{filter}
 use Rattle.pdl_semantics.specs.Tree.{Mem}
 use Rattle.pdl_rules.specs.Typed.{AreDistinct}
 use Rattle.pdl_net.specs.Pipe.{PortMem}
 use Rattle.pdl_pipe_law.specs.Declared.{port_mem, locked_of}
 use Rattle.pdl_pipe_law.proofs.WellFormedNames.{IsNone, AllDiffer, name_of_mem, mem_none}
-use Rattle.pdl_pipe_law.proofs.WellFormedPorts.{heads_apart, tails_apart, IsFree, AreFree, stage_names, stages_differ, locked_free, all_free}
+use Rattle.pdl_pipe_law.proofs.WellFormedPorts.{heads_apart, tails_apart, IsFree, AreFree, stage_names, stages_differ, all_free}
 use Rattle.pdl_follows.specs.Memories.{delayed_of}
 
 -- ---- the names, each kind before others

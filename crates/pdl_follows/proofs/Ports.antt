@@ -10,20 +10,20 @@ use Rattle.pdl_semantics.specs.Stages.{plain_mem}
 use Rattle.pdl_net.specs.declared.Dir.{Dir}
 use Rattle.pdl_net.specs.declared.Dir.TheVariants.{In, Out}
 use Rattle.pdl_net.specs.declared.Port.{Port}
-use Rattle.pdl_net.specs.Circuit.{Circuit, outputs_of, port_output, output_with}
-use Rattle.pdl_net.specs.Pipe.{Head, PortMem, head_of, is_input, input, output, reply_ports, stage_ports, commit_ports, request_ports, pipe_ports}
+use Rattle.pdl_net.specs.Circuit.{Circuit, outputs_of, port_output}
+use Rattle.pdl_net.specs.Pipe.{Head, PortMem, head_of, input, output, reply_ports, stage_ports, commit_ports, request_ports, pipe_ports}
 use Rattle.pdl_net.specs.Signal.{Signal}
 use Rattle.pdl_pipe_law.specs.Views.{View, Gates}
 use Rattle.pdl_pipe_law.specs.Declared.{port_mem, locked_of, mem_names, CommitsFit, AreBitsWide}
 use Rattle.pdl_pipe_law.specs.Ports.{Commit, stages_shown, commits_shown}
 use Rattle.pdl_pipe_law.proofs.WellFormedNames.{Among}
 use Rattle.pdl_pipe_law.proofs.WellFormedMems.{Reaches, power_one}
-use Rattle.pdl_pipe_law.proofs.WellFormedPorts.{head_shown, heads_of, stages_heads, commit_heads, last_heads, name_of_head, names_of_heads, stage_names}
+use Rattle.pdl_pipe_law.proofs.WellFormedPorts.{head_shown, stages_heads, commit_heads, last_heads, name_of_head, names_of_heads, stage_names}
 use Rattle.pdl_pipe_law.proofs.LinesNames.{name_of_output}
 use Rattle.pdl_sides.specs.Whole as whole
 use Rattle.pdl_sides.specs.Whole.{Request, request_shown, requests_shown, whole_shown}
 use Rattle.pdl_follows.specs.Memories.{delayed_of}
-use Rattle.pdl_follows.proofs.PortNames.{reply_names, commit_names, request_names, last_names, output_names, port_names}
+use Rattle.pdl_follows.proofs.PortNames.{reply_names, commit_names, request_names, output_names, port_names}
 
 -- ---- delayed memories
 

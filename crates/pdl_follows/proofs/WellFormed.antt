@@ -13,7 +13,6 @@ use Rattle.pdl_semantics.specs.Stages.{mem_at, plain_mem}
 use Rattle.pdl_rules.specs.Memories.{info_of}
 use Rattle.pdl_rules.specs.Refusal.{is_comb}
 use Rattle.pdl_rules.specs.Typed.{AreDistinct, AreSized}
-use Rattle.pdl_net.specs.declared.Array.{Array}
 use Rattle.pdl_net.specs.declared.Netlist.{Netlist}
 use Rattle.pdl_net.specs.Circuit.{Shape, shape_of, circuit_of, no_array, array_at}
 use Rattle.pdl_net.specs.Signal.{Signal}
@@ -32,9 +31,8 @@ use Rattle.pdl_pipe_law.proofs.WellFormed.{name_of_array, array_names_are}
 use Rattle.pdl_sides.specs.Sides.{Sides}
 use Rattle.pdl_sides.specs.Whole.{IsWhole, reply_ports}
 use Rattle.pdl_follows.specs.Memories.{delayed_of, comb_of, net_infos}
-use Rattle.pdl_follows.proofs.Memories.{among_some, some_among, distinct_some, comb_delayed, as_many, IsCombAt, comb_at}
+use Rattle.pdl_follows.proofs.Memories.{among_some, some_among, distinct_some, comb_delayed, as_many, comb_at}
 use Rattle.pdl_follows.proofs.PortNames.{port_names_differ}
-use Rattle.pdl_follows.proofs.PortNames as port_names
 use Rattle.pdl_follows.proofs.Ports.{AreAsked, by_kinds, shown_heads, replies_heads, names_are}
 use Rattle.pdl_follows.proofs.Arrays.{delayed_all, delayed_contained, pipe_array, agree_all, infos_same}
 

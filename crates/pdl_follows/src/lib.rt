@@ -1,4 +1,25 @@
-//! What it means that a netlist follows a pipe of the whole language, and that a netlist which is made of an accepted source by the laws of its circuits does: with the lines of its runs, and what the threads write.
+//! What it means that a netlist follows a pipe of the whole language, and what such a netlist writes and prints.
 //!
-//! The layers above may use the definitions of `specs/` and the lemmas that the README of the layers names; no function of a program stands here.
+//! The function does nothing: its clauses are theorems on every netlist that follows an accepted source. That a netlist which is made of such a source by the laws of its circuits follows it, `follows` of `FollowsMade`, speaks of any locks and circuits by their laws, so it is no clause: the layers above show `IsMade` of a netlist and use it.
 #![tactic(auto)]
+
+ghost use Rattle.std.specs.Prelude.{IsTrue};
+ghost use Rattle.pdl_semantics.specs.Tree.{Pipe};
+ghost use Rattle.pdl_rules.specs.Refusal.{KeepsRules};
+ghost use Rattle.pdl_pathfacts.specs.Source.{is_source, is_named};
+ghost use Rattle.pdl_net.specs.declared.Netlist.{Netlist};
+ghost use Rattle.pdl_follows.specs.Follows.{Follows};
+ghost use Rattle.pdl_follows.specs.Runs.{ShowsTurns};
+ghost use Rattle.pdl_follows.specs.Refined.{RefinesThreads, MovesOldest, EndsThreads};
+
+/// What follows an accepted source: from each image and with each schedule of replies it has the lines of the source's machine, it writes what the threads write that run one after another, its oldest thread moves in each cycle that leaves no request unanswered, and enough threads end.
+pub fn followed()
+    ensures turns { (p : Pipe) → KeepsRules p → IsTrue (is_source p) → IsTrue (is_named p) →
+        (n : Netlist) → Follows p n → ShowsTurns p n }
+    ensures writes { (p : Pipe) → KeepsRules p → IsTrue (is_source p) → IsTrue (is_named p) →
+        (n : Netlist) → Follows p n → RefinesThreads p n }
+    ensures moves { (p : Pipe) → KeepsRules p → IsTrue (is_source p) → IsTrue (is_named p) →
+        (n : Netlist) → Follows p n → MovesOldest p n }
+    ensures ends { (p : Pipe) → KeepsRules p → IsTrue (is_source p) → IsTrue (is_named p) →
+        (n : Netlist) → Follows p n → EndsThreads p n }
+{}
