@@ -8,3 +8,4 @@ pub mod FollowsMade
 pub mod LinesPorts
 pub mod Lines
 pub mod Sequential
+pub mod Images

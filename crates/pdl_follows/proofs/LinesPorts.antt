@@ -165,7 +165,7 @@ found_left (x ∷ xs) ys port i e = at (bytes_eq port (codes "c_" ++ x.name)) e 
     at true h rest = h
     at false h rest = rest h
 
-found_right : (xs ys : List MemInfo) (port : List ℕ) → commit_mem xs port ≡ None → commit_mem (xs ++ ys) port ≡ commit_mem ys port
+pub found_right : (xs ys : List MemInfo) (port : List ℕ) → commit_mem xs port ≡ None → commit_mem (xs ++ ys) port ≡ commit_mem ys port
 found_right [] ys port e = refl
 found_right (x ∷ xs) ys port e = at (bytes_eq port (codes "c_" ++ x.name)) e (found_right xs ys port)
   where
@@ -173,7 +173,7 @@ found_right (x ∷ xs) ys port e = at (bytes_eq port (codes "c_" ++ x.name)) e (
     at true h rest = absurd (cc h)
     at false h rest = rest h
 
-none_found : (ms : List Mem) (x : List ℕ) → is_memory ms x ≡ false → commit_mem (map info_of ms) (codes "c_" ++ x) ≡ None
+pub none_found : (ms : List Mem) (x : List ℕ) → is_memory ms x ≡ false → commit_mem (map info_of ms) (codes "c_" ++ x) ≡ None
 none_found [] x e = refl
 none_found (m ∷ ms) x e =
     let parts = or_parts (bytes_eq m.name.name x) (is_memory ms x) e in
