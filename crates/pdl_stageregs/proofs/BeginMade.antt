@@ -1,5 +1,5 @@
 -- A stage before its statements, of the parts with which it begins.
-use Rattle.std.proofs.Common.{◌≡◌, ℕ, zero, suc, ◌<◌, ◌≤◌, ◌⊎◌, inl, inr, Bool, true, false, ◌&&◌, List, [], ◌∷◌, map, length, take, get_or, refl, sym, ap, ◌∙◌, subst, arith, leb}
+use Rattle.std.proofs.Common.{◌≡◌, ℕ, zero, suc, ◌<◌, ◌≤◌, ◌⊎◌, inl, inr, Bool, true, false, ◌&&◌, List, [], ◌∷◌, map, length, refl, sym, ap, ◌∙◌, subst, arith, leb}
 use Rattle.std.specs.Prelude.{nat_le, nat_lt}
 use Rattle.std.proofs.lemmas.Bool.{and_parts}
 use Rattle.std.proofs.lemmas.Bool.Decides.{leb_tells}
@@ -17,7 +17,7 @@ use Rattle.pdl_net.specs.Growth.{Keeps}
 use Rattle.pdl_flatnets.specs.Nets.{NetsThere, signals_in, signal_at, widths_of}
 use Rattle.pdl_flatnets.specs.declared.bits.Bits.{Bits}
 use Rattle.pdl_flatnets.specs.Conditions.{AreBits}
-use Rattle.pdl_flatnets.proofs.NetLists.{length_widths, there_keeps, signals_keep}
+use Rattle.pdl_flatnets.proofs.NetLists.{length_widths}
 use Rattle.pdl_port.specs.Laws.{AnswerSignals}
 use Rattle.pdl_pipe_law.specs.Lives.{lives_from, held_from, verifies_from}
 use Rattle.pdl_pipe_law.specs.Walk.{Letting, is_locked, one, zero_bit}
@@ -32,19 +32,18 @@ use Rattle.pdl_stagenets.specs.declared.nets.BirthNet.{BirthNet}
 use Rattle.pdl_stagenets.specs.declared.nets.AskNet.{AskNet}
 use Rattle.pdl_stagenets.specs.Parts.{Held as HeldPart, held_in, held_of, reservation_in, put_in, letting_in, birth_in, ask_in, parts_in, walk_of}
 use Rattle.pdl_stagenets.specs.Sized.{IsWalk, IsSizedReserve, IsSizedPut, IsSizedBirth, IsSizedAsk}
-use Rattle.pdl_answernets.specs.Ports.{answers_in}
 use Rattle.pdl_stageregs.specs.declared.nets.Item.{Item}
 use Rattle.pdl_stageregs.specs.declared.nets.Item.TheVariants.{Var, Held, Ticket, Guess}
 use Rattle.pdl_stageregs.specs.declared.nets.Kept.{Kept}
 use Rattle.pdl_stageregs.specs.declared.nets.Earlier.{Earlier}
 use Rattle.pdl_stageregs.specs.declared.nets.Shared.{Shared}
 use Rattle.pdl_stageregs.specs.declared.nets.StageNets.{StageNets}
-use Rattle.pdl_stageregs.specs.Items.{is_needed, kept_item, ended_item}
-use Rattle.pdl_stageregs.specs.Stages.{begun_parts, view_in, IsFrame, IsBegun, IsBegunBy, IsSettled, IsThereBegun, HasKept, AreOwn}
-use Rattle.pdl_stageregs.specs.Begun.{earlier_views, earlier_count, is_listed, IsShared, IsEnded, IsEarlier, AreBegun, AreHeldBegun, HasAllHeld, AreNextTickets, AreAnswered, IsFresh, IsLonger}
+use Rattle.pdl_stageregs.specs.Items.{is_needed, ended_item}
+use Rattle.pdl_stageregs.specs.Stages.{begun_parts, IsFrame, IsBegun, IsBegunBy, IsSettled, IsThereBegun, HasKept, AreOwn}
+use Rattle.pdl_stageregs.specs.Begun.{earlier_views, earlier_count, is_listed, IsShared, IsEnded, IsEarlier, AreBegun, AreHeldBegun, HasAllHeld, AreNextTickets, AreAnswered, IsFresh}
 use Rattle.pdl_stageregs.proofs.Lists.{each_at, each_map, view_at, some_stage}
 use Rattle.pdl_stageregs.proofs.Keeping.{by_weaker}
-use Rattle.pdl_stageregs.proofs.Begins.{begun_keep, next_keep, ends_same, each_way, settled_as}
+use Rattle.pdl_stageregs.proofs.Begins.{next_keep, ends_same, each_way, settled_as}
 use Rattle.pdl_stageregs.proofs.HeldsBegun.{held_none, helds_as}
 use Rattle.pdl_stageregs.proofs.ReadWords.{past_unanswered}
 use Rattle.pdl_word.specs.Each.{Each}

@@ -1,7 +1,6 @@
 -- What a stage begins with stays while the circuit grows, and nets for items of a kind, one after the other.
-use Rattle.std.proofs.Common.{◌≡◌, inl, inr, ◌⊎◌, ℕ, zero, suc, ◌+◌, ◌<◌, ◌≤◌, ◌==◌, Bool, true, false, ◌||◌, List, [], ◌∷◌, ◌++◌, length, map, take, get_or, refl, sym, ap, ap₂, ◌∙◌, subst, arith}
+use Rattle.std.proofs.Common.{◌≡◌, inl, inr, ℕ, zero, suc, ◌+◌, ◌<◌, Bool, true, false, List, [], ◌∷◌, ◌++◌, length, take, refl, sym, ap, ap₂, ◌∙◌, subst, arith}
 use Rattle.std.specs.Prelude.{slice_index, if◌then◌else◌}
-use Rattle.std.proofs.lemmas.Bool.{false≢true}
 use Rattle.std.proofs.lemmas.List.{get_or_append_left, take_more, length-take}
 use Rattle.std.proofs.Math.Seq.{get_or-append_seam}
 use Rattle.pdl_semantics.specs.Flat.{Pipe}
@@ -28,8 +27,8 @@ use Rattle.pdl_stageregs.specs.declared.nets.Shared.{Shared}
 use Rattle.pdl_stageregs.specs.declared.nets.Earlier.{Earlier}
 use Rattle.pdl_stageregs.specs.declared.nets.StageNets.{StageNets}
 use Rattle.pdl_stageregs.specs.Items.{ended_item, item_width, first_value}
-use Rattle.pdl_stageregs.specs.Stages.{end_of, view_in, views_in, IsFrame, IsBegunBy, IsSettled, IsCommon, AreOwn}
-use Rattle.pdl_stageregs.specs.Begun.{earlier_views, earlier_count, IsShared, IsEnded, AreEnded, IsEarlier, MayAdd, MayBegin, AreBegun, IsLonger}
+use Rattle.pdl_stageregs.specs.Stages.{end_of, view_in, views_in, IsFrame, IsBegunBy, IsSettled, AreOwn}
+use Rattle.pdl_stageregs.specs.Begun.{IsShared, IsEnded, AreEnded, IsEarlier, MayAdd, MayBegin, AreBegun, IsLonger}
 use Rattle.pdl_stageregs.proofs.Lists.{each_at, each_map, view_at, some_stage, up_to}
 use Rattle.pdl_stageregs.proofs.Keeping.{frame_may, own_more, longer_may, by_longer, by_new, by_weaker, may_there, may_wide}
 use Rattle.pdl_word.specs.Each.{Each}

@@ -14,7 +14,7 @@ use Rattle.pdl_pipe_law.specs.Lives.{held_from}
 use Rattle.pdl_pipe_law.specs.Walk.{zero_bit}
 use Rattle.pdl_pipe_law.specs.Views.{View}
 use Rattle.pdl_stagenets.specs.declared.nets.HeldNet.{HeldNet}
-use Rattle.pdl_stagenets.specs.Parts.{Held as HeldPart, held_in, held_of}
+use Rattle.pdl_stagenets.specs.Parts.{held_in, held_of}
 use Rattle.pdl_stagenets.proofs.Lists.{map_each}
 use Rattle.pdl_stageregs.specs.declared.nets.Item.TheVariants.{Held}
 use Rattle.pdl_stageregs.specs.declared.nets.Kept.{Kept}

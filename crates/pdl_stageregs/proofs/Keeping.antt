@@ -10,13 +10,12 @@ use Rattle.pdl_net.specs.Signal.{Signal, reg_signal}
 use Rattle.pdl_net.specs.Meaning.{signal, IsThere}
 use Rattle.pdl_net.specs.Growth.{Keeps, Extends}
 use Rattle.pdl_net.proofs.Keeps.{extends_keeps}
-use Rattle.pdl_pipe_law.specs.Views.{View}
 use Rattle.pdl_stageregs.specs.declared.nets.Item.{Item}
 use Rattle.pdl_stageregs.specs.declared.nets.Item.TheVariants.{Var}
 use Rattle.pdl_stageregs.specs.declared.nets.Kept.{Kept}
 use Rattle.pdl_stageregs.specs.Items.{item_at, item_width, first_value, IsOwn}
 use Rattle.pdl_stageregs.specs.Stages.{reg_of, end_of, IsRegister, IsFrame, HasRegisters, IsBegunBy, AreOwn}
-use Rattle.pdl_stageregs.specs.Begun.{with_item, MayAdd, MayBegin, IsAtFront, IsLonger}
+use Rattle.pdl_stageregs.specs.Begun.{with_item, MayAdd, IsLonger}
 use Rattle.pdl_stageregs.proofs.Lists.{up_to}
 
 pub register_keep : (a b : Circuit) (r w v : ℕ) → Keeps a b → IsRegister a r w v → IsRegister b r w v

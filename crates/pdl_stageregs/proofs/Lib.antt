@@ -8,3 +8,5 @@ pub mod TicketsMade
 pub mod WaysMade
 pub mod ReadWords
 pub mod BeginMade
+pub mod StagedMade
+pub mod StagesMade

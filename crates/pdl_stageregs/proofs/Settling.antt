@@ -1,7 +1,6 @@
 -- What needs no register: an item with which all stages that lead here end alike.
-use Rattle.std.proofs.Common.{◌≡◌, ℕ, zero, suc, ◌<◌, Bool, false, List, [], ◌∷◌, length, take, refl, sym, ap, ◌∙◌, subst, arith}
+use Rattle.std.proofs.Common.{◌≡◌, ℕ, zero, suc, ◌<◌, false, List, [], ◌∷◌, length, take, refl, sym, ap, ◌∙◌, subst, arith}
 use Rattle.std.specs.Prelude.{slice_index}
-use Rattle.std.proofs.lemmas.List.{length-take}
 use Rattle.pdl_semantics.specs.Flat.{Pipe}
 use Rattle.pdl_form.specs.Form.{Form}
 use Rattle.pdl_machine_facts.specs.Slots.{ways}
@@ -9,7 +8,7 @@ use Rattle.pdl_net.specs.declared.Net.{Net}
 use Rattle.pdl_net.specs.Circuit.{Circuit}
 use Rattle.pdl_net.specs.Signal.{Signal}
 use Rattle.pdl_net.specs.Meaning.{signal}
-use Rattle.pdl_flatnets.specs.Nets.{signals_in, signal_at, widths_of}
+use Rattle.pdl_flatnets.specs.Nets.{signals_in}
 use Rattle.pdl_flatnets.proofs.NetLists.{width_at}
 use Rattle.pdl_pipe_law.specs.Views.{View}
 use Rattle.pdl_stagenets.specs.Parts.{parts_in}

@@ -1,10 +1,10 @@
 -- The stages that may lead to a stage, one after the other.
-use Rattle.std.proofs.Common.{◌≡◌, ℕ, zero, suc, ◌+◌, ◌-◌, ◌<◌, ◌≤◌, Bool, true, false, List, [], ◌∷◌, ◌++◌, refl, sym, ap, ap₂, ◌∙◌, subst, append-nil, arith}
+use Rattle.std.proofs.Common.{◌≡◌, ℕ, suc, ◌+◌, ◌-◌, ◌<◌, ◌≤◌, true, false, List, [], ◌∷◌, ◌++◌, sym, ap, ◌∙◌, arith}
 use Rattle.std.specs.Prelude.{if◌then◌else◌}
 use Rattle.std.proofs.lemmas.List.{append_assoc}
 use Rattle.pdl_semantics.specs.Flat.{Pipe}
 use Rattle.pdl_semantics.specs.Stages.{stage_at}
-use Rattle.pdl_machine_facts.specs.Slots.{leads_to, ways, ways_from}
+use Rattle.pdl_machine_facts.specs.Slots.{leads_to, ways_from}
 
 -- those from j on
 abbrev pub ways_left : Pipe → ℕ → ℕ → List ℕ

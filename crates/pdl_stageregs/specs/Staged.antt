@@ -1,5 +1,5 @@
 -- The stages of a circuit after their rows.
-use Rattle.std.specs.Prelude.{◌≡◌, ℕ, ◌<◌, ◌≤◌, List, length, map, Option}
+use Rattle.std.specs.Prelude.{ℕ, ◌<◌, ◌≤◌, List, length, map, Option}
 use Rattle.pdl_semantics.specs.Stages.{in_stage}
 use Rattle.pdl_form.specs.Form.{Form}
 use Rattle.pdl_net.specs.Circuit.{Circuit}

@@ -20,7 +20,7 @@ use Rattle.pdl_stagenets.specs.Sized.{IsWalk}
 use Rattle.pdl_stageregs.specs.declared.nets.Item.{Item}
 use Rattle.pdl_stageregs.specs.declared.nets.Kept.{Kept}
 use Rattle.pdl_stageregs.specs.declared.nets.StageNets.{StageNets}
-use Rattle.pdl_stageregs.specs.Items.{item_at, is_needed, is_answered, kept_item, ended_item, item_width, first_value, IsOwn, IsConstant, IsSameConstant, IsZero}
+use Rattle.pdl_stageregs.specs.Items.{item_at, is_needed, is_answered, kept_item, ended_item, item_width, first_value, IsOwn, IsConstant, IsZero}
 use Rattle.pdl_word.specs.Each.{Each}
 
 -- ---- views

@@ -141,7 +141,16 @@ fn begin_var(
     } else if stage == 0 {
         first_var(b, pipe, regs, zero, x)
     } else {
-        begin_item(b, pipe, shared, earlier, regs, Item::Var(x), pipe.width(x), zero)
+        begin_item(
+            b,
+            pipe,
+            shared,
+            earlier,
+            regs,
+            Item::Var(x),
+            pipe.width(x),
+            zero,
+        )
     }
 }
 
@@ -208,7 +217,16 @@ fn begin_argument(
     if stage == 0 || !verifies_from(pipe, stage) {
         return Ok(zero);
     }
-    begin_item(b, pipe, shared, earlier, regs, Item::Guess(i), pipe.width(i), zero)
+    begin_item(
+        b,
+        pipe,
+        shared,
+        earlier,
+        regs,
+        Item::Guess(i),
+        pipe.width(i),
+        zero,
+    )
 }
 
 // The arguments of the guess.

@@ -25,8 +25,7 @@ loop-i-preserved c =
     let kept = signal a c.args.kept in
     let e = extends_keeps a b c.loop-i.invariant.0 in
     let m = length c.mems-count.result.now - 1 - i in
-    let means = c.in_ok-net.ensures.means in
-    (
+    let means = c.in_ok-net.ensures.means in (
       extends_trans a b d c.loop-i.invariant.0 c.memory_answer.ensures.extends,
       c.memory_answer.ensures.regs ∙ c.loop-i.invariant.1,
       c.in_ok-net.ensures.wide ∙ c.loop-i.invariant.2,

@@ -1,23 +1,17 @@
-use Rattle.std.proofs.Common.{◌≡◌, ℕ, ◌<◌, ◌==◌, [], Bool, true, false, length, take, refl, sym, ap, ◌∙◌, subst, arith}
-use Rattle.std.specs.Prelude.{if◌then◌else◌}
+use Rattle.std.proofs.Common.{length, sym, ap, ◌∙◌, subst}
 use Rattle.pdl_form.specs.Whole.{form}
-use Rattle.pdl_net.specs.Circuit.{Circuit}
-use Rattle.pdl_net.specs.Growth.{Keeps}
 use Rattle.pdl_net.proofs.Keeps.{extends_keeps, keeps_trans}
 use Rattle.pdl_flatnets.specs.Nets.{NetsThere, signals_in, signal_at, widths_of}
 use Rattle.pdl_flatnets.proofs.NetLists.{there_keeps, signals_keep}
 use Rattle.pdl_formtypes.specs.Stmts.{param_widths}
 use Rattle.pdl_lives.specs.Needs.{goes_with}
 use Rattle.pdl_pipe_law.specs.Lives.{lives_from, verifies_from}
-use Rattle.pdl_sides.specs.Sides.{with_answer}
 use Rattle.pdl_answernets.specs.Ports.{answers_in}
 use Rattle.pdl_answernets.proofs.Answered.{answer_same}
 use Rattle.pdl_stagenets.proofs.Kept.{bits_keep}
-use Rattle.pdl_stageregs.specs.declared.nets.Item.TheVariants.{Var, Held, Ticket, Guess}
-use Rattle.pdl_stageregs.specs.declared.nets.Kept.{Kept}
+use Rattle.pdl_stageregs.specs.declared.nets.Item.TheVariants.{Var, Ticket, Guess}
 use Rattle.pdl_stageregs.specs.declared.nets.StageNets.{StageNets}
-use Rattle.pdl_stageregs.specs.Stages.{end_of, IsFrame, IsRegister, AreOwn}
-use Rattle.pdl_stageregs.specs.Begun.{earlier_views, earlier_count, AreBegun, AreAnswered, AreNextTickets, IsFresh, IsLonger}
+use Rattle.pdl_stageregs.specs.Begun.{earlier_views, earlier_count, AreBegun, AreAnswered, AreNextTickets, IsFresh}
 use Rattle.pdl_stageregs.proofs.Keeping.{registers_keep, longer_none, longer_trans}
 use Rattle.pdl_stageregs.proofs.Begins.{shared_keep, next_keep, earlier_now, begun_keep}
 use Rattle.pdl_stageregs.proofs.HeldsBegun.{helds_keep}

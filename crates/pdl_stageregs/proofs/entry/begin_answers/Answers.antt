@@ -1,12 +1,12 @@
 use Rattle.std.proofs.Common.{◌≡◌, ℕ, ◌+◌, ◌<◌, ◌≤◌, ◌++◌, ◌∷◌, [], length, take, sym, ap, ◌∙◌, subst, arith}
-use Rattle.std.proofs.lemmas.List.{take_all, length-take}
+use Rattle.std.proofs.lemmas.List.{take_all}
 use Rattle.std.specs.Prelude.{slice_index}
 use Rattle.pdl_form.specs.Whole.{form}
 use Rattle.pdl_net.specs.Signal.{Signal}
 use Rattle.pdl_net.specs.Meaning.{signal}
 use Rattle.pdl_net.proofs.Keeps.{extends_keeps, extends_trans}
-use Rattle.pdl_flatnets.specs.Nets.{NetsThere, signals_in, signal_at, widths_of}
-use Rattle.pdl_flatnets.proofs.NetLists.{there_keeps, signals_keep, width_at, length_signals, length_widths}
+use Rattle.pdl_flatnets.specs.Nets.{signals_in, signal_at}
+use Rattle.pdl_flatnets.proofs.NetLists.{there_keeps, signals_keep, width_at}
 use Rattle.pdl_sides.specs.Sides.{with_answer}
 use Rattle.pdl_answernets.specs.Ports.{answers_in, BindsWide}
 use Rattle.pdl_answernets.proofs.Answered.{answers_keep, answer_same}
@@ -60,8 +60,7 @@ loop-x-preserved c =
     let means = c.in_ok-net.ensures.means in
     let pushed = c.in_ok-push.ensures.ok in
     let goal_at : ℕ → Type 0 = λ y. signal_at (signals_in d (xs ++ net ∷ [])) y ≡ with_answer f.pipe (answers_in a ports) k y (signal_at (signals_in a vars) y) in
-    let now = means.same ∙ answer_same a b e f.pipe ports k i (signal b c.variable-kept.result) c.requires.shared.ports ∙ ap (with_answer f.pipe (answers_in a ports) k i) same in
-    (
+    let now = means.same ∙ answer_same a b e f.pipe ports k i (signal b c.variable-kept.result) c.requires.shared.ports ∙ ap (with_answer f.pipe (answers_in a ports) k i) same in (
       extends_trans a b d c.loop-x.invariant.0 c.with_answers.ensures.extends,
       c.with_answers.ensures.regs ∙ c.loop-x.invariant.1,
       subst (HasNets d (take (i + 1) ws)) (sym pushed) (push_nets b d bd ws i xs net low nets.there nets.wide means.there wide),

@@ -1,4 +1,4 @@
-use Rattle.std.proofs.Common.{◌≡◌, ℕ, ◌<◌, take, length}
+use Rattle.std.proofs.Common.{◌≡◌, ℕ, ◌<◌, take}
 use Rattle.pdl_form.specs.Whole.{form}
 use Rattle.pdl_net.specs.Growth.{Extends}
 use Rattle.pdl_flatnets.specs.Nets.{signals_in, signal_at}

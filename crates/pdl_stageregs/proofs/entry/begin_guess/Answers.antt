@@ -1,12 +1,11 @@
-use Rattle.std.proofs.Common.{◌≡◌, ℕ, ◌+◌, ◌<◌, ◌++◌, ◌∷◌, [], Bool, length, take, refl, sym, ap, ◌∙◌, subst, arith}
-use Rattle.std.proofs.lemmas.List.{take_all, length-take}
-use Rattle.std.specs.Prelude.{slice_index}
+use Rattle.std.proofs.Common.{ℕ, ◌+◌, ◌<◌, Bool, length, take, sym, ap, subst, arith}
+use Rattle.std.proofs.lemmas.List.{length-take}
 use Rattle.pdl_form.specs.Whole.{form}
-use Rattle.pdl_net.proofs.Keeps.{extends_keeps, extends_trans}
+use Rattle.pdl_net.proofs.Keeps.{extends_keeps}
 use Rattle.pdl_flatnets.specs.Nets.{signals_in}
 use Rattle.pdl_pipe_law.specs.Lives.{verifies_from}
 use Rattle.pdl_stageregs.specs.declared.nets.Item.TheVariants.{Guess}
-use Rattle.pdl_stageregs.specs.Begun.{earlier_views, earlier_count, MayBegin, AreBegun}
+use Rattle.pdl_stageregs.specs.Begun.{earlier_views, earlier_count, MayBegin}
 use Rattle.pdl_stageregs.proofs.Begins.{SoFar, shared_keep, next_keep, earlier_now, ends_same, begin_as, sofar_more}
 use Rattle.pdl_stageregs.proofs.Settling.{take_index}
 use Rattle.pdl_stageregs.proofs.entry.begin_guess.Goals as goal

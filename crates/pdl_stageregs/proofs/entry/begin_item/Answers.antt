@@ -1,4 +1,4 @@
-use Rattle.std.proofs.Common.{◌≡◌, sym, ◌∙◌, inr}
+use Rattle.std.proofs.Common.{sym, ◌∙◌, inr}
 use Rattle.pdl_form.specs.Whole.{form}
 use Rattle.pdl_flatnets.specs.Nets.{signals_in}
 use Rattle.std.proofs.Common.{refl}

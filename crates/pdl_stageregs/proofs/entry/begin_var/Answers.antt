@@ -1,4 +1,4 @@
-use Rattle.std.proofs.Common.{◌≤◌, ◌<◌, length, take, sym, subst, arith}
+use Rattle.std.proofs.Common.{◌≤◌, sym, subst}
 use Rattle.pdl_form.specs.Whole.{form}
 use Rattle.pdl_stageregs.proofs.Widths.{wide_low, wide_high}
 use Rattle.pdl_stageregs.proofs.entry.begin_var.Goals as goal

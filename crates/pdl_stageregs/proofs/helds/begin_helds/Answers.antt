@@ -1,4 +1,4 @@
-use Rattle.std.proofs.Common.{◌≡◌, ℕ, ◌+◌, ◌<◌, ◌≤◌, ◌++◌, ◌∷◌, [], take, length, sym, ap, ◌∙◌, subst, arith}
+use Rattle.std.proofs.Common.{◌≡◌, ℕ, ◌<◌, [], take, length, sym, ◌∙◌, subst, arith}
 use Rattle.std.proofs.lemmas.List.{take_more, take_all}
 use Rattle.std.specs.Prelude.{slice_index}
 use Rattle.pdl_form.specs.Whole.{form}
@@ -68,8 +68,7 @@ loop-j-preserved c =
     let P : ℕ → Type 0 = λ j. HasAllHeld f.pipe k (us j) xs in
     let before = each_map (λ j. HasAllHeld f.pipe k (us j) hs) P (take i js) (λ j q. all_held_more f.pipe k (us j) hs xs done.more q) c.loop-j.invariant.1 in
     let way = slice_index js i in
-    let here : P way = λ m v need un. same m v way (each_in (λ j. j < length x.stages.now) js i 0 low c.requires.earlier.low) ∙ done.whole m v need un in
-    (
+    let here : P way = λ m v need un. same m v way (each_in (λ j. j < length x.stages.now) js i 0 low c.requires.earlier.low) ∙ done.whole m v need un in (
       helds_then a b d f nexts us k c.args.regs.now [] r t hs xs so c.push_helds.ensures.extends frame done.own done.longer begun done.more,
       subst (Each P) (sym (take_more js i 0 low)) (each_push P (take i js) way before here),
     )

@@ -1,4 +1,4 @@
-use Rattle.std.proofs.Common.{◌≡◌, ℕ, ◌+◌, ◌<◌, ◌≤◌, ◌++◌, ◌∷◌, [], true, false, take, get_or, length, sym, ap, ◌∙◌, subst, arith}
+use Rattle.std.proofs.Common.{◌≡◌, ◌+◌, ◌<◌, ◌≤◌, ◌++◌, ◌∷◌, [], take, get_or, length, sym, ap, ◌∙◌, subst, arith}
 use Rattle.std.proofs.lemmas.List.{take_more, take_all}
 use Rattle.pdl_form.specs.Whole.{form}
 use Rattle.pdl_net.proofs.Keeps.{extends_keeps}
@@ -45,8 +45,7 @@ loop-i-preserved c =
     let so = c.loop-i.invariant.0 in
     let r0 = c.args.regs.now in
     let hs0 = c.args.held.now in
-    let on : take i items ++ h ∷ [] ≡ take (i + 1) items = ap (λ y. take i items ++ y ∷ []) is ∙ sym (take_more items i h low) in
-    (
+    let on : take i items ++ h ∷ [] ≡ take (i + 1) items = ap (λ y. take i items ++ y ∷ []) is ∙ sym (take_more items i h low) in (
       helds_more a b d f nexts us k r0 hs0 r u hs xs h.mem h.var after c.push_held.ensures.extends c.in_ok-push_held.ensures.last so adds,
       subst (λ l. AreSeen f k l xs) on (seen_more f k (take i items) hs xs h (helds_still a b d f nexts us k r0 hs0 r u hs xs h.mem h.var after c.push_held.ensures.extends c.in_ok-push_held.ensures.last so adds)
           (helds_listed a b d f nexts us k r0 hs0 r u hs xs h.mem h.var after c.push_held.ensures.extends c.in_ok-push_held.ensures.last so adds) c.loop-i.invariant.1),

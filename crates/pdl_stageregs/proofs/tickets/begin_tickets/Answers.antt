@@ -1,9 +1,7 @@
-use Rattle.std.proofs.Common.{◌≡◌, ℕ, ◌+◌, ◌<◌, ◌++◌, ◌∷◌, [], Bool, false, length, take, refl, sym, ap, ◌∙◌, subst, arith}
-use Rattle.std.proofs.lemmas.List.{take_all, length-take}
+use Rattle.std.proofs.Common.{◌≡◌, ℕ, ◌+◌, ◌<◌, ◌++◌, ◌∷◌, [], Bool, false, length, take, sym, ap, ◌∙◌, subst, arith}
+use Rattle.std.proofs.lemmas.List.{take_all}
 use Rattle.std.specs.Prelude.{slice_index}
 use Rattle.pdl_form.specs.Whole.{form}
-use Rattle.pdl_net.specs.Circuit.{Circuit}
-use Rattle.pdl_net.specs.Growth.{Extends}
 use Rattle.pdl_net.proofs.Keeps.{extends_keeps, extends_trans}
 use Rattle.pdl_flatnets.specs.Nets.{NetsThere, signals_in, signal_at, widths_of}
 use Rattle.pdl_flatnets.proofs.NetLists.{width_at, length_signals, length_widths}
@@ -62,13 +60,12 @@ loop-m-preserved c =
     let may : (us : ℕ → View) → MayBegin d f nexts us k (needed i) r t (Ticket i) net = λ us. subst (λ fs. MayBegin d f fs us k (needed i) r t (Ticket i) net) is (c.in_ok-net.ensures.begins us) in
     let pushed = c.in_ok-push.ensures.ok in
     let wide : (signal_at nexts i).width ≡ slice_index ws i = sym (width_at nexts i) in
-    let next = c.variable-next.ensures.same ∙ ap (λ ys. signal_at (signals_in b ys) i) c.as_slice.ensures ∙ ap (λ fs. signal_at fs i) is in
-    (
+    let next = c.variable-next.ensures.same ∙ ap (λ ys. signal_at (signals_in b ys) i) c.as_slice.ensures ∙ ap (λ fs. signal_at fs i) is in (
       λ us. subst (λ ys. SoFar a d f nexts us k c.args.regs.now t Ticket needed (take (i + 1) ws) ys) (sym pushed) (sofar_more a f nexts us k c.args.regs.now Ticket needed ws b d r t i xs net low c.begin_ticket.ensures.extends (may us) c.in_ok-net.ensures.last wide (c.loop-m.invariant.0 us)),
       subst (λ ys. (y : ℕ) → y < i + 1 → needed y ≡ false → signal_at (signals_in d ys) y ≡ signal_at nexts y) (sym pushed)
           (up_to (λ y. needed y ≡ false → signal_at (signals_in d (xs ++ net ∷ [])) y ≡ signal_at nexts y) i
-              (λ y l no. push_old b d bd ws i xs net low first.begun.there first.begun.wide y l ∙ c.loop-m.invariant.1 y l no)
-              (λ no. push_new b d bd ws i xs net low first.begun.there first.begun.wide ∙ c.in_ok-net.ensures.same no ∙ next)),
+          (λ y l no. push_old b d bd ws i xs net low first.begun.there first.begun.wide y l ∙ c.loop-m.invariant.1 y l no)
+          (λ no. push_new b d bd ws i xs net low first.begun.there first.begun.wide ∙ c.in_ok-net.ensures.same no ∙ next)),
     )
 
 pub returns-clause-frame : goal.returns-clause-frame
