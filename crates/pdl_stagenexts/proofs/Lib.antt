@@ -1,1 +1,5 @@
-pub mod Coming
+pub mod LinesKept
+pub mod Arriving
+pub mod BirthsMade
+pub mod Bringing
+pub mod NextsMade

@@ -1,1 +1,4 @@
+pub mod Lines
 pub mod Arrivals
+pub mod Brings
+pub mod Nexts

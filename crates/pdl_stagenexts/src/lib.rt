@@ -4,5 +4,11 @@
 #![tactic(auto)]
 
 pub mod arrivals;
+pub mod births;
+pub mod coming;
+pub mod connecting;
+pub mod line;
+pub mod nexts;
 
-pub use arrivals::{Arrival, Line, threads_into};
+pub use connecting::connect;
+pub use line::Line;

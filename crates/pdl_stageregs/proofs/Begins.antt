@@ -129,12 +129,12 @@ widths_more : (fs : List Signal) (g : Signal) → widths_of (fs ++ g ∷ []) ≡
 widths_more [] g = refl
 widths_more (f ∷ fs) g = ap (λ l. f.width ∷ l) (widths_more fs g)
 
-signal_old : (c : Circuit) (xs : List Net) (x : Net) (i : ℕ) → i < length xs → signal_at (signals_in c (xs ++ x ∷ [])) i ≡ signal_at (signals_in c xs) i
+pub signal_old : (c : Circuit) (xs : List Net) (x : Net) (i : ℕ) → i < length xs → signal_at (signals_in c (xs ++ x ∷ [])) i ≡ signal_at (signals_in c xs) i
 signal_old c xs x i l =
     ap (λ fs. signal_at fs i) (signals_more c xs x)
     ∙ get_or_append_left (signals_in c xs) (signal c x ∷ []) no_signal i (let e = length_signals c xs in omega (arith, l, e))
 
-signal_new : (c : Circuit) (xs : List Net) (x : Net) (i : ℕ) → i ≡ length xs → signal_at (signals_in c (xs ++ x ∷ [])) i ≡ signal c x
+pub signal_new : (c : Circuit) (xs : List Net) (x : Net) (i : ℕ) → i ≡ length xs → signal_at (signals_in c (xs ++ x ∷ [])) i ≡ signal c x
 signal_new c xs x i e =
     ap₂ (λ fs n. signal_at fs n) (signals_more c xs x) (e ∙ sym (length_signals c xs))
     ∙ get_or-append_seam (signals_in c xs) (signal c x) [] no_signal

@@ -40,7 +40,7 @@ use Rattle.pdl_word.specs.Each.{Each}
 use Rattle.pdl_word.proofs.Each.{each_weaker}
 
 module _ (c d : Circuit) (e : Keeps c d) where
-  begun_keep : (f : Form) (nexts : List Signal) (s : StageNets) → IsThereBegun c f nexts s → IsThereBegun d f nexts s
+  pub begun_keep : (f : Form) (nexts : List Signal) (s : StageNets) → IsThereBegun c f nexts s → IsThereBegun d f nexts s
   begun_keep f nexts s h = record {
     vars = there_keeps c d s.vars e h.vars;
     vars_wide = ap widths_of (signals_keep c d s.vars e h.vars) ∙ h.vars_wide;

@@ -1,6 +1,6 @@
 //! The registers of a pipe's stages, and what each stage begins with: its variables with the answers of a cycle, held locations, tickets and the guess.
 //!
-//! The layer above may use `stages`, each with its nets after its statements, and `ended`.
+//! The layer above may use `stages`, each with its nets after its statements, `ended`, and `ways_into`.
 #![tactic(auto)]
 
 pub mod entry;
@@ -13,4 +13,5 @@ pub mod whole;
 
 pub use nets::{Earlier, Item, Kept, Shared, StageNets};
 pub use registers::ended;
+pub use ways::ways_into;
 pub use whole::stages;

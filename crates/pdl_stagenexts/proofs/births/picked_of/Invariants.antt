@@ -1,8 +1,8 @@
 use Rattle.std.proofs.Common.{◌≡◌, ◌-◌, length}
 use Rattle.pdl_net.specs.Meaning.{signal, Means}
 use Rattle.pdl_net.specs.Growth.{Extends}
-use Rattle.pdl_stageregs.proofs.BirthsMade.{from_call}
-use Rattle.pdl_stageregs.proofs.births.picked_of.Given as goal
+use Rattle.pdl_stagenexts.proofs.BirthsMade.{from_call}
+use Rattle.pdl_stagenexts.proofs.births.picked_of.Given as goal
 
 -- the last calls are there
 abbrev pub invariant-loop-i : goal.invariant-loop-i
