@@ -1,0 +1,3 @@
+pub mod PartLists
+pub mod PortParts
+pub mod OrderParts

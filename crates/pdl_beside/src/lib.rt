@@ -1,0 +1,18 @@
+//! What stands beside the stages of a pipe as nets: the ports of delayed memories and the orders of forks, their registers and their steps.
+//!
+//! The layers above may use `port_states` and `order_states`, and the definitions `Parts`, `Ports` and `Orders`.
+#![tactic(auto)]
+
+mod orders;
+mod ports;
+
+pub use orders::order_states;
+use pdl_net::Net;
+pub use ports::port_states;
+
+/// What comes from a delayed memory: whether its outstanding request is answered, 1 bit, and the word with which it is, of the memory's width.
+#[derive(Clone, Copy)]
+pub struct PortInput {
+    pub reply: Net,
+    pub word: Net,
+}
