@@ -1,3 +1,5 @@
 pub mod PartLists
 pub mod PortParts
 pub mod OrderParts
+pub mod EndsKept
+pub mod PortSteps

@@ -1,12 +1,13 @@
 -- Parts of a circuit, one after the other.
-use Rattle.std.proofs.Common.{◌≡◌, ℕ, ◌+◌, ◌<◌, ◌≤◌, ◌∙◌, List, [], ◌∷◌, ◌++◌, length, length-append, refl, sym, ap, subst, arith}
+use Rattle.std.proofs.Common.{◌≡◌, ℕ, ◌+◌, ◌<◌, ◌≤◌, ◌∙◌, List, [], ◌∷◌, ◌++◌, length, length-append, refl, sym, ap, subst, arith, inl, inr}
 use borrow.Author.Count.{below_more}
 use Rattle.std.proofs.lemmas.List.{get_or_append_left, get_or_push}
 use Rattle.std.specs.Prelude.{Option, Some, None}
 use Rattle.pdl_net.specs.Circuit.{Circuit}
-use Rattle.pdl_net.specs.Growth.{Own}
+use Rattle.pdl_net.specs.Growth.{Own, Outside, ExtendsBut}
+use Rattle.pdl_net.proofs.Keeps.{but_keeps, keeps_refl, keeps_trans}
 use Rattle.pdl_stagenets.specs.Locked.{some_at}
-use Rattle.pdl_beside.specs.Parts.{AreParts, IsNewPart}
+use Rattle.pdl_beside.specs.Parts.{AreParts, IsNewPart, own_of, own_at, ExtendsParts}
 
 pub some_before : {T : Type 0} (xs : List (Option T)) (o : Option T) (i : ℕ) → i < length xs → some_at (xs ++ o ∷ []) i ≡ some_at xs i
 some_before xs o i h = get_or_append_left xs (o ∷ []) None i h
@@ -48,3 +49,26 @@ module _ {T : Type 0} (own : T → Own) (A B : ℕ → Option T → Type 0) (low
         (λ j k y l f. let u : i < n = omega (arith, l, k) in h.apart i j x y l k (sym (old i u) ∙ e) (sym (old j k) ∙ f))
         (λ y l f. let g = h.to i x l (sym (old i l) ∙ e) in let w = new.from y (sym last ∙ f) in omega (arith, g, w)) j k y l f;
   }
+
+-- ---- what changes
+
+pub extends_none : (owns : ℕ → Own) (c : Circuit) → ExtendsParts owns 0 c c
+extends_none owns c = record { keeps = keeps_refl c; nexts = λ k h u. refl; writes = λ k h. refl; ports = refl; shapes = refl }
+
+-- one part more has changed, that has no array
+pub extends_more : (owns : ℕ → Own) (n : ℕ) (a b c : Circuit) → (owns n).last ≡ 0 → ExtendsParts owns n a b → ExtendsBut (owns n) b c → ExtendsParts owns (n + 1) a c
+extends_more owns n a b c none x y = record {
+  keeps = keeps_trans a b c x.keeps (but_keeps (owns n) b c y);
+  nexts = λ k h u. y.nexts k (x.keeps.has_reg k h) (u n (omega arith)) ∙ x.nexts k h (λ i l. u i (omega (arith, l)));
+  writes = λ k h. y.writes k (x.keeps.has_array k h) (inr (omega (arith, none))) ∙ x.writes k h;
+  ports = y.ports ∙ x.ports;
+  shapes = y.shapes ∙ x.shapes;
+}
+
+-- a part's registers are not those of a later one
+pub own_apart : {T : Type 0} (own : T → Own) (xs : List (Option T)) (i j : ℕ) (x : T) → ((y : T) → some_at xs j ≡ Some y → (own x).to ≤ (own y).from) → (k : ℕ) → k < (own x).to → Outside (own_at own xs j).from (own_at own xs j).to k
+own_apart {T} own xs i j x apart k l = at (some_at xs j) refl
+  where
+    at : (o : Option T) → some_at xs j ≡ o → Outside (own_of own o).from (own_of own o).to k
+    at None e = inr (omega arith)
+    at (Some y) e = let d = apart y e in inl (omega (arith, l, d))

@@ -1,3 +1,5 @@
 pub mod Parts
 pub mod Ports
 pub mod Orders
+pub mod Ends
+pub mod Steps

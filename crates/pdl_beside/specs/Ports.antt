@@ -1,5 +1,5 @@
 -- The ports of delayed memories, with their inputs.
-use Rattle.std.specs.Prelude.{◌≡◌, ℕ, ◌<◌, ◌≤◌, List, length, Option, Some, None, is_some, ⊤}
+use Rattle.std.specs.Prelude.{◌≡◌, ℕ, ◌<◌, ◌≤◌, List, length, Option, Some, None, true, is_some}
 use Rattle.pdl_semantics.specs.Flat.{Pipe}
 use Rattle.pdl_semantics.specs.Stages.{mem_at}
 use Rattle.pdl_net.specs.Circuit.{Circuit}
@@ -7,14 +7,16 @@ use Rattle.pdl_net.specs.Meaning.{IsThere, signal}
 use Rattle.pdl_port.specs.declared.PortRegs.{PortRegs}
 use Rattle.pdl_port.specs.Laws.{HasAnswerNets, StartLaw, AnswerLaw, own, answer_signals, places as port_places}
 use Rattle.pdl_port.specs.Places.{ArePlaced, stands}
-use Rattle.pdl_inflight.specs.Readings.{Reading, reading, places}
+use Rattle.pdl_inflight.specs.Readings.{Reading, reading, places, place_at}
 use Rattle.pdl_sides.specs.HasSides.{HasOwn}
 use Rattle.pdl_stagenets.specs.Locked.{some_at}
 use Rattle.pdl_beside.specs.declared.PortInput.{PortInput}
 
--- delayed reads are of memories of the pipe, and a stage that reads leads on
+-- delayed reads are of memories of the pipe, and a stage that reads leads on to stages of the pipe
 pub record ReadsLeadOn (p : Pipe) : Type 0 where
   pub known : (m : ℕ) (r : Reading) → reading p m ≡ Some r → m < length p.mems
+  pub stage : (m : ℕ) (r : Reading) → reading p m ≡ Some r → r.stage < length p.stages
+  pub to : (m : ℕ) (r : Reading) → reading p m ≡ Some r → (i : ℕ) → i < length (places p r) → place_at p r i < length p.stages
   pub onward : (m : ℕ) (r : Reading) → reading p m ≡ Some r → 1 ≤ length (places p r)
 
 -- ---- inputs
@@ -57,3 +59,10 @@ pub record HasPortOf (c : Circuit) (p : Pipe) (m : ℕ) (input : Option PortInpu
 -- that of each memory
 abbrev pub has_port : Circuit → Pipe → List (Option PortInput) → ℕ → Option PortRegs → Type 0
 has_port c p inputs m o = HasPortOf c p m (input_at inputs m) o
+
+-- each memory that is read delayed has a port, with registers of its own
+pub record StandPorts (c : Circuit) (p : Pipe) (qs : List (Option PortRegs)) : Type 0 where
+  pub count : length qs ≡ length p.mems
+  pub some : (m : ℕ) (r : Reading) → reading p m ≡ Some r → is_some (some_at qs m) ≡ true
+  pub each : (m : ℕ) (r : Reading) (q : PortRegs) → reading p m ≡ Some r → some_at qs m ≡ Some q → IsPort c p m r q
+  pub apart : (i j : ℕ) (x y : PortRegs) → i < j → j < length p.mems → some_at qs i ≡ Some x → some_at qs j ≡ Some y → (own x).to ≤ (own y).from

@@ -3,11 +3,16 @@
 //! The layers above may use `port_states` and `order_states`, and the definitions `Parts`, `Ports` and `Orders`.
 #![tactic(auto)]
 
+mod asks;
+pub mod ends;
 mod orders;
+mod port_round;
 mod ports;
 
+pub use ends::{Round, StageEnd};
 pub use orders::order_states;
 use pdl_net::Net;
+pub use port_round::port_steps;
 pub use ports::port_states;
 
 /// What comes from a delayed memory: whether its outstanding request is answered, 1 bit, and the word with which it is, of the memory's width.

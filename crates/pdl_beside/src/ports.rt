@@ -19,7 +19,7 @@ use pdl_port::{PortRegs, emit_port_state};
 use std::alloc::Global;
 
 // How many stages a stage leads to.
-fn place_count(next: Next) -> u8
+pub(crate) fn place_count(next: Next) -> u8
     ensures count { result ≡ length (places_of (next_view next)) }
     ensures few { result ≤ 2 }
 {
