@@ -1,9 +1,10 @@
 -- Stages after their statements, one by its number, and while the circuit grows.
 use Rattle.std.proofs.Common.{◌≡◌, ℕ, zero, suc, ◌+◌, ◌<◌, ◌∙◌, List, [], ◌∷◌, ◌++◌, length, length-append, map, get_or, refl, sym, ap, ap₂, subst, arith}
 use borrow.Author.Count.{below_more}
-use Rattle.std.specs.Prelude.{slice_index_or}
+use Rattle.std.specs.Prelude.{slice_index, slice_index_or}
 use Rattle.std.proofs.lemmas.List.{get_or-map, get_or_append_left, get_or_push}
-use Rattle.pdl_semantics.specs.Flat.{Stage, Pipe}
+use Rattle.pdl_semantics.specs.Flat as flat
+use Rattle.pdl_semantics.specs.Flat.{Stage, Next, Pipe}
 use Rattle.pdl_semantics.specs.Stages.{last_stage}
 use Rattle.pdl_form.specs.Form.{Form}
 use Rattle.pdl_formtypes.specs.Stmts.{IsFork, AreForks}
@@ -13,6 +14,7 @@ use Rattle.pdl_net.specs.Circuit.{Circuit}
 use Rattle.pdl_net.specs.Signal.{Signal, no_signal}
 use Rattle.pdl_net.specs.Meaning.{IsThere, signal}
 use Rattle.pdl_net.specs.Growth.{Keeps, Extends}
+use Rattle.pdl_net.proofs.Keeps.{extends_keeps}
 use Rattle.pdl_port.specs.Laws.{net_at, signal_at}
 use Rattle.pdl_port.proofs.Kept.{bits_kept}
 use Rattle.pdl_pipe_law.specs.Views.{View}
@@ -77,6 +79,13 @@ module _ (a b : Circuit) (k : Keeps a b) (f : Form) where
 
   pub kills_same : (es : List StageEnd) → AreEnds a f es → map (kill_in b) es ≡ map (kill_in a) es
   kills_same es h = map_each (kill_in b) (kill_in a) (IsEnd a f) (λ e x. k.kept e.killed x.killed) es h.each
+
+pub ends_kept : (f : Form) (es : List StageEnd) (a b : Circuit) → AreEnds a f es → Extends a b → AreEnds b f es
+ends_kept f es a b h e = ends_keep a b (extends_keeps a b e) f es h
+
+-- where a stage forks, by a variable of 1 bit
+pub fork_var : (ws : List ℕ) (n : Next) (x first second : ℕ) → n ≡ flat.Forks x first second → IsFork ws n → (x < length ws) × (slice_index ws x ≡ 1)
+fork_var ws n x first second e h = subst (IsFork ws) e h
 
 -- ---- nets of bits, one more
 

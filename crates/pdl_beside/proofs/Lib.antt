@@ -3,3 +3,4 @@ pub mod PortParts
 pub mod OrderParts
 pub mod EndsKept
 pub mod PortSteps
+pub mod OrderSteps

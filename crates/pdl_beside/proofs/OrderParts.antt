@@ -88,7 +88,7 @@ order_none c p f e = record { some = sym e; order = λ r q. absurd (cc q) }
 -- ---- orders stay
 
 module _ (a b : Circuit) (k : Keeps a b) where
-  order_stays : (p : Pipe) (f : ℕ) (r : OrderRegs) → IsOrder a p f r → IsOrder b p f r
+  pub order_stays : (p : Pipe) (f : ℕ) (r : OrderRegs) → IsOrder a p f r → IsOrder b p f r
   order_stays p f r x =
       let e = k.kept r.first x.nets.first_there in
       let g = k.kept r.empty x.nets.empty_there in

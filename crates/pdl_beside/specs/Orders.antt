@@ -1,5 +1,5 @@
 -- The orders of forks.
-use Rattle.std.specs.Prelude.{◌≡◌, ℕ, ◌≤◌, Bool, List, Option, Some, is_some, count_by}
+use Rattle.std.specs.Prelude.{◌≡◌, ℕ, ◌<◌, ◌≤◌, Bool, List, length, Option, Some, is_some, count_by}
 use Rattle.pdl_semantics.specs.Flat.{Stage, Pipe}
 use Rattle.pdl_semantics.specs.Stages.{stage_at, is_branch_of, list_any, merges_fork}
 use Rattle.pdl_net.specs.Circuit.{Circuit}
@@ -9,6 +9,7 @@ use Rattle.pdl_order.specs.Laws.{HasOrderNets, StartLaw, FirstLaw, own}
 use Rattle.pdl_order.specs.Words.{ArePlaced, stands}
 use Rattle.pdl_inflight.specs.Readings.{branch_stages}
 use Rattle.pdl_sides.specs.HasSides.{HasOwn}
+use Rattle.pdl_stagenets.specs.Locked.{some_at}
 
 -- whether some stage merges a fork
 abbrev pub merged_in : List Stage → ℕ → Bool
@@ -39,3 +40,10 @@ pub record IsOrder (c : Circuit) (p : Pipe) (f : ℕ) (r : OrderRegs) : Type 0 w
 pub record HasOrderOf (c : Circuit) (p : Pipe) (f : ℕ) (o : Option OrderRegs) : Type 0 where
   pub some : is_some o ≡ is_merged p f
   pub order : (r : OrderRegs) → o ≡ Some r → IsOrder c p f r
+
+-- each fork that is merged has an order, with registers of its own
+pub record StandOrders (c : Circuit) (p : Pipe) (rs : List (Option OrderRegs)) : Type 0 where
+  pub count : length rs ≡ length p.stages
+  pub some : (f : ℕ) → f < length p.stages → is_some (some_at rs f) ≡ is_merged p f
+  pub each : (f : ℕ) (r : OrderRegs) → f < length p.stages → some_at rs f ≡ Some r → IsOrder c p f r
+  pub apart : (i j : ℕ) (x y : OrderRegs) → i < j → j < length p.stages → some_at rs i ≡ Some x → some_at rs j ≡ Some y → (own x).to ≤ (own y).from

@@ -5,11 +5,13 @@
 
 mod asks;
 pub mod ends;
+mod order_round;
 mod orders;
 mod port_round;
 mod ports;
 
 pub use ends::{Round, StageEnd};
+pub use order_round::order_steps;
 pub use orders::order_states;
 use pdl_net::Net;
 pub use port_round::port_steps;

@@ -16,7 +16,7 @@ use pdl_order::{OrderRegs, emit_order_state};
 use std::alloc::Global;
 
 // Whether a stage merges a fork.
-fn merges(stage: &Stage, fork: usize) -> bool
+pub(crate) fn merges(stage: &Stage, fork: usize) -> bool
     ensures { result ≡ merges_fork stage.now.merges fork }
 {
     match stage.merges {
@@ -26,7 +26,7 @@ fn merges(stage: &Stage, fork: usize) -> bool
 }
 
 // Whether a stage stands in a branch of a fork.
-fn stands_in(stage: &Stage, fork: usize) -> bool
+pub(crate) fn stands_in(stage: &Stage, fork: usize) -> bool
     ensures { result ≡ is_branch_of (branch_view stage.now.branch) fork }
 {
     match stage.branch {
@@ -36,7 +36,7 @@ fn stands_in(stage: &Stage, fork: usize) -> bool
 }
 
 // Whether some stage merges a fork.
-fn is_merged(stages: &[Stage], fork: usize) -> bool
+pub(crate) fn is_merged(stages: &[Stage], fork: usize) -> bool
     ensures { result ≡ merged_in (stages_view stages.now) fork }
 {
     for stage in stages {
