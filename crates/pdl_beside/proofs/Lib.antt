@@ -4,3 +4,4 @@ pub mod OrderParts
 pub mod EndsKept
 pub mod PortSteps
 pub mod OrderSteps
+pub mod Asked

@@ -3,3 +3,4 @@ pub mod Ports
 pub mod Orders
 pub mod Ends
 pub mod Steps
+pub mod Requests

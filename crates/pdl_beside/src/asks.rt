@@ -20,7 +20,7 @@ use pdl_net::Net;
 use pdl_stagenets::{AskNet, WalkNets};
 
 // The request of a number.
-fn ask_at(asks: &[AskNet], i: usize) -> AskNet
+pub(crate) fn ask_at(asks: &[AskNet], i: usize) -> AskNet
     requires { i < length asks.now }
     ensures { result ≡ slice_index_or asks.now i result }
 {

@@ -7,12 +7,14 @@ mod asks;
 pub mod ends;
 mod order_round;
 mod orders;
+pub mod outside;
 mod port_round;
 mod ports;
 
 pub use ends::{Round, StageEnd};
 pub use order_round::order_steps;
 pub use orders::order_states;
+pub use outside::{RequestNets, requests};
 use pdl_net::Net;
 pub use port_round::port_steps;
 pub use ports::port_states;

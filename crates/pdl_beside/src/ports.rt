@@ -31,7 +31,7 @@ pub(crate) fn place_count(next: Next) -> u8
 }
 
 // The memory of a number.
-fn memory(pipe: &FlatPipe, m: usize) -> &Mem
+pub(crate) fn memory(pipe: &FlatPipe, m: usize) -> &Mem
     requires { m < length (form pipe.now).pipe.mems }
     ensures { mem_view result.now ≡ mem_at (form pipe.now).pipe m }
 {
