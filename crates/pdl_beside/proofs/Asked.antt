@@ -1,9 +1,8 @@
 -- What the stages ask of delayed memories, as nets.
 use Rattle.std.proofs.Common.{◌≡◌, ℕ, zero, suc, ◌+◌, ◌*◌, ◌-◌, ◌^◌, ◌<◌, ◌≤◌, ◌==◌, ◌∙◌, Bool, true, false, List, [], ◌∷◌, ◌++◌, length, length-append, map, refl, sym, ap, ap₂, subst, arith, ⊎_elim}
 use borrow.Author.Count.{below_more}
-use Rattle.std.specs.Prelude.{Option, Some, None, is_some, if◌then◌else◌, slice_index_or}
+use Rattle.std.specs.Prelude.{Option, Some, if◌then◌else◌, slice_index_or}
 use Rattle.std.proofs.lemmas.Bool.{cases_lt}
-use Rattle.std.proofs.lemmas.List.{get_or_append_left, get_or_push}
 use Rattle.std.proofs.lemmas.Nat.{pow_pos, pow-add}
 use Rattle.pdl_word.specs.Words as words
 use Rattle.pdl_semantics.specs.Flat.{Mem, Pipe}
@@ -15,7 +14,7 @@ use Rattle.pdl_net.specs.Signal.{Signal, const_signal, mux_signal, mux_value, co
 use Rattle.pdl_net.specs.Meaning.{IsThere, Means, signal}
 use Rattle.pdl_net.specs.Growth.{Keeps}
 use Rattle.pdl_inflight.specs.Readings.{Reading, reading}
-use Rattle.pdl_pipe_law.specs.Walk.{Ask, both, zero_bit}
+use Rattle.pdl_pipe_law.specs.Walk.{Ask, both}
 use Rattle.pdl_pipe_law.specs.Views.{View}
 use Rattle.pdl_flatnets.specs.Nets.{signal_at}
 use Rattle.pdl_sides.specs.Sides.{asks_memory, asked_address}
@@ -29,7 +28,7 @@ use Rattle.pdl_word.specs.Each.{Each}
 use Rattle.pdl_beside.specs.declared.ends.StageEnd.{StageEnd}
 use Rattle.pdl_beside.specs.declared.outside.RequestNets.{RequestNets}
 use Rattle.pdl_beside.specs.Ends.{no_view, view_in, ends_in, moves_in, IsEnd, AreEnds}
-use Rattle.pdl_beside.specs.Requests.{address_or, address_from, IsAddressNet, IsRequest, HasRequest, AreRequests}
+use Rattle.pdl_beside.specs.Requests.{address_from, IsAddressNet, IsRequest, HasRequest, AreRequests}
 use Rattle.pdl_beside.proofs.PartLists.{some_before, some_last}
 use Rattle.pdl_beside.proofs.EndsKept.{view_at, move_at, views_same, moves_same}
 

@@ -1,5 +1,5 @@
 -- Stages after their statements, one by its number, and while the circuit grows.
-use Rattle.std.proofs.Common.{◌≡◌, ℕ, zero, suc, ◌+◌, ◌<◌, ◌∙◌, List, [], ◌∷◌, ◌++◌, length, length-append, map, get_or, refl, sym, ap, ap₂, subst, arith}
+use Rattle.std.proofs.Common.{◌≡◌, ℕ, zero, suc, ◌+◌, ◌<◌, ◌∙◌, List, [], ◌∷◌, ◌++◌, length, length-append, map, sym, ap, subst, arith}
 use borrow.Author.Count.{below_more}
 use Rattle.std.specs.Prelude.{slice_index, slice_index_or}
 use Rattle.std.proofs.lemmas.List.{get_or-map, get_or_append_left, get_or_push}
@@ -17,9 +17,8 @@ use Rattle.pdl_net.specs.Growth.{Keeps, Extends}
 use Rattle.pdl_net.proofs.Keeps.{extends_keeps}
 use Rattle.pdl_port.specs.Laws.{net_at, signal_at}
 use Rattle.pdl_port.proofs.Kept.{bits_kept}
-use Rattle.pdl_pipe_law.specs.Views.{View}
 use Rattle.pdl_stagenets.specs.declared.nets.AskNet.{AskNet}
-use Rattle.pdl_stagenets.specs.Parts.{Parts, ask_in, walk_of, parts_in}
+use Rattle.pdl_stagenets.specs.Parts.{Parts, ask_in, walk_of}
 use Rattle.pdl_stagenets.specs.Sized.{IsSizedAsk}
 use Rattle.pdl_stagenets.proofs.Kept.{parts_keep, walk_keep}
 use Rattle.pdl_stagenets.proofs.Lists.{map_each}

@@ -5,3 +5,4 @@ pub mod EndsKept
 pub mod PortSteps
 pub mod OrderSteps
 pub mod Asked
+pub mod Beside

@@ -1,21 +1,20 @@
 -- The orders of forks, as they are made and while the circuit grows.
-use Rattle.std.proofs.Common.{◌≡◌, ℕ, zero, suc, ◌+◌, ◌-◌, ◌<◌, ◌≤◌, ◌==◌, ◌∙◌, Bool, true, false, ◌||◌, List, [], ◌∷◌, length, refl, sym, ap, ap₂, subst, arith, eqb-true}
-use Rattle.std.specs.Prelude.{Option, Some, None, is_some, slice_index_or}
+use Rattle.std.proofs.Common.{◌≡◌, ℕ, zero, suc, ◌+◌, ◌-◌, ◌≤◌, ◌==◌, ◌∙◌, Bool, true, false, ◌||◌, List, [], ◌∷◌, length, refl, sym, ap, subst, arith, eqb-true}
+use Rattle.std.specs.Prelude.{Option, Some, None, slice_index_or}
 use Rattle.std.proofs.lemmas.Bool.{false≢true}
 use Rattle.pdl_semantics.specs.Flat.{Stage, Pipe}
 use Rattle.pdl_semantics.specs.Stages.{stage_at, last_stage, merges_fork}
 use Rattle.pdl_net.specs.Circuit.{Circuit, HasReg}
 use Rattle.pdl_net.specs.Signal.{Signal}
 use Rattle.pdl_net.specs.Meaning.{signal}
-use Rattle.pdl_net.specs.Growth.{Own, Keeps}
+use Rattle.pdl_net.specs.Growth.{Keeps}
 use Rattle.pdl_order.specs.declared.OrderRegs.{OrderRegs}
 use Rattle.pdl_order.specs.Laws.{HasOrderNets, IsFragment, StartLaw, FirstLaw, first_reg, end_reg, own}
 use Rattle.pdl_order.specs.Words.{ArePlaced, stands}
 use Rattle.pdl_order.proofs.Kept.{order_keeps}
 use Rattle.pdl_inflight.specs.Readings.{branch_stages}
-use Rattle.pdl_sides.specs.HasSides.{HasOwn}
 use Rattle.pdl_beside.specs.Parts.{IsNewPart}
-use Rattle.pdl_beside.specs.Orders.{merged_in, is_merged, ForksMerge, IsOrder, HasOrderOf}
+use Rattle.pdl_beside.specs.Orders.{merged_in, is_merged, IsOrder, HasOrderOf}
 
 -- ---- which forks are merged
 

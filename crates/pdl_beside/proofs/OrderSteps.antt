@@ -1,15 +1,15 @@
 -- The steps of orders, one after the other.
-use Rattle.std.proofs.Common.{◌≡◌, ℕ, suc, ◌+◌, ◌-◌, ◌<◌, ◌≤◌, ◌∙◌, List, length, map, refl, sym, ap, ap₂, subst, arith}
+use Rattle.std.proofs.Common.{◌≡◌, ℕ, suc, ◌+◌, ◌-◌, ◌<◌, ◌∙◌, List, length, map, refl, sym, ap, ap₂, subst, arith}
 use borrow.Author.Count.{below_more}
-use Rattle.std.specs.Prelude.{Option, Some, None, is_some, slice_index_or, Bool, if◌then◌else◌}
+use Rattle.std.specs.Prelude.{Option, Some, None, slice_index_or}
 use Rattle.pdl_semantics.specs.Flat.{Pipe}
 use Rattle.pdl_form.specs.Form.{Form}
 use Rattle.pdl_net.specs.declared.Net.{Net}
-use Rattle.pdl_net.specs.Circuit.{Circuit, State}
+use Rattle.pdl_net.specs.Circuit.{Circuit}
 use Rattle.pdl_net.specs.Signal.{Signal, no_signal}
 use Rattle.pdl_net.specs.Meaning.{IsThere, signal}
-use Rattle.pdl_net.specs.Growth.{Own, Keeps, Extends, ExtendsBut}
-use Rattle.pdl_net.proofs.Keeps.{but_keeps, but_trans, but_extends, extends_refl}
+use Rattle.pdl_net.specs.Growth.{Keeps, Extends, ExtendsBut}
+use Rattle.pdl_net.proofs.Keeps.{but_trans, but_extends}
 use Rattle.pdl_lockapi.specs.Laws.{OwnKept}
 use Rattle.pdl_lockapi.proofs.LockKinds.{next_kept}
 use Rattle.pdl_order.specs.declared.OrderRegs.{OrderRegs}
@@ -17,15 +17,15 @@ use Rattle.pdl_order.specs.declared.OrderPorts.{OrderPorts}
 use Rattle.pdl_order.specs.Laws.{StepLaw, StepSignals, step_signals, own}
 use Rattle.pdl_order.specs.Words.{stands}
 use Rattle.pdl_inflight.specs.Readings.{branch_stages}
-use Rattle.pdl_pipe_law.specs.Walk.{one, zero_bit}
+use Rattle.pdl_pipe_law.specs.Walk.{one}
 use Rattle.pdl_pipe_law.specs.Views.{View}
 use Rattle.pdl_flatnets.specs.Nets.{signal_at}
 use Rattle.pdl_sides.specs.Sides.{leaves_fork, order_step}
 use Rattle.pdl_stagenets.specs.Locked.{some_at}
 use Rattle.pdl_beside.specs.declared.ends.StageEnd.{StageEnd}
-use Rattle.pdl_beside.specs.Parts.{own_of, own_at, ExtendsParts}
+use Rattle.pdl_beside.specs.Parts.{own_of, own_at}
 use Rattle.pdl_beside.specs.Orders.{IsOrder, StandOrders}
-use Rattle.pdl_beside.specs.Ends.{no_view, view_in, move_in, kill_in, ends_in, moves_in, kills_in, AreEnds}
+use Rattle.pdl_beside.specs.Ends.{no_view, view_in, move_in, kill_in, ends_in, moves_in, AreEnds}
 use Rattle.pdl_beside.specs.Steps.{leave_or, order_signals, IsOrderStepped}
 use Rattle.pdl_beside.proofs.EndsKept.{views_same, moves_same, kills_same}
 use Rattle.pdl_beside.proofs.PartLists.{own_apart}
@@ -57,6 +57,21 @@ pub ports_same : (a c : Circuit) (p : Pipe) (es : List StageEnd) (squash : Net) 
 ports_same a c p es squash k x first second left emptied =
     ap₂ (λ (g h : Signal × Signal). (let z : StepSignals = record { entered_first = g.0; entered_second = g.1; left = h.0; emptied = h.1 } in z))
     (ap₂ (λ (g h : Signal). (g, h)) first second) (ap₂ (λ (g h : Signal). (g, h)) left emptied)
+
+-- ---- the law of a step
+
+-- by other signals that are the same
+pub law_as : (r : OrderRegs) (n : ℕ) (c : Circuit) (f g : StepSignals) → f.entered_first ≡ g.entered_first → f.entered_second ≡ g.entered_second → f.left ≡ g.left → f.emptied ≡ g.emptied → StepLaw (stands r) n (own r) c f → StepLaw (stands r) n (own r) c g
+law_as r n c f g first second left emptied x = record {
+  next = λ s t xs d st dr pr nx. x.next s t xs d st
+      (record {
+        entered_first = ap (λ (z : Signal). z.value s) first ∙ dr.entered_first;
+        entered_second = ap (λ (z : Signal). z.value s) second ∙ dr.entered_second;
+        left = ap (λ (z : Signal). z.value s) left ∙ dr.left;
+        emptied = ap (λ (z : Signal). z.value s) emptied ∙ dr.emptied;
+      })
+      pr nx;
+}
 
 -- ---- one step
 
@@ -91,7 +106,7 @@ signals_same a b f es squash k e h t =
     ap₂ (λ vs ms. step_by f.pipe k vs ms (map (kill_in b) es) (signal b squash)) (views_same a b e f es h) (moves_same a b e f es h)
     ∙ ap₂ (step_by f.pipe k (map (view_in a) es) (map (move_in a) es)) (kills_same a b e f es h) (e.kept squash t)
 
-law_kept : (r : OrderRegs) (n : ℕ) (a b : Circuit) (f : StepSignals) → OwnKept (own r) a b → StepLaw (stands r) n (own r) a f → StepLaw (stands r) n (own r) b f
+pub law_kept : (r : OrderRegs) (n : ℕ) (a b : Circuit) (f : StepSignals) → OwnKept (own r) a b → StepLaw (stands r) n (own r) a f → StepLaw (stands r) n (own r) b f
 law_kept r n a b f k x = record { next = λ s t xs d st dr pr nx. x.next s t xs d st dr pr (next_kept (own r) a b s t k nx) }
 
 module _ (a : Circuit) (f : Form) (es : List StageEnd) (squash : Net) (rs : List (Option OrderRegs)) (there : IsThere a squash) (stand : StandOrders a f.pipe rs) (ends : AreEnds a f es) where

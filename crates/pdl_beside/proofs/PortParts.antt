@@ -1,5 +1,5 @@
 -- The ports of delayed memories, as they are made and while the circuit grows.
-use Rattle.std.proofs.Common.{◌≡◌, ℕ, ◌+◌, ◌-◌, ◌<◌, ◌≤◌, ◌∙◌, Bool, true, List, length, refl, sym, ap, ap₂, subst, arith}
+use Rattle.std.proofs.Common.{◌≡◌, ℕ, ◌+◌, ◌-◌, ◌≤◌, ◌∙◌, Bool, List, length, refl, sym, ap, subst, arith}
 use Rattle.std.specs.Prelude.{Option, Some, None, is_some}
 use Rattle.pdl_semantics.specs.Flat.{Pipe}
 use Rattle.pdl_semantics.specs.Stages.{mem_at, stage_at}
@@ -17,7 +17,7 @@ use Rattle.pdl_sides.specs.HasSides.{HasOwn}
 use Rattle.pdl_answernets.specs.Ports.{HasAnswers, IsPortFor, port_at}
 use Rattle.pdl_beside.specs.declared.PortInput.{PortInput}
 use Rattle.pdl_beside.specs.Parts.{AreParts, IsNewPart}
-use Rattle.pdl_beside.specs.Ports.{ReadsLeadOn, input_at, IsInput, AreInputs, IsPort, HasPortOf, has_port}
+use Rattle.pdl_beside.specs.Ports.{ReadsLeadOn, IsInput, AreInputs, IsPort, HasPortOf, has_port}
 
 -- ---- a new port
 

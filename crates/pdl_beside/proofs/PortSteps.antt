@@ -1,15 +1,14 @@
 -- The steps of ports, one after the other.
-use Rattle.std.proofs.Common.{◌≡◌, ℕ, ◌+◌, ◌<◌, ◌≤◌, ◌∙◌, List, length, map, refl, sym, ap, ap₂, subst, arith}
+use Rattle.std.proofs.Common.{◌≡◌, ℕ, ◌+◌, ◌<◌, ◌∙◌, List, length, map, refl, sym, ap, ap₂, subst, arith}
 use borrow.Author.Count.{below_more}
-use Rattle.std.specs.Prelude.{Option, Some, None, is_some, slice_index_or}
+use Rattle.std.specs.Prelude.{Option, Some, None, slice_index_or}
 use Rattle.pdl_semantics.specs.Flat.{Pipe}
-use Rattle.pdl_semantics.specs.Stages.{mem_at}
 use Rattle.pdl_form.specs.Form.{Form}
 use Rattle.pdl_net.specs.Circuit.{Circuit, State}
 use Rattle.pdl_net.specs.Signal.{Signal}
 use Rattle.pdl_net.specs.Meaning.{signal}
 use Rattle.pdl_net.specs.Growth.{Own, Keeps, Extends, ExtendsBut}
-use Rattle.pdl_net.proofs.Keeps.{but_keeps, but_trans, but_extends, extends_refl, keeps_trans}
+use Rattle.pdl_net.proofs.Keeps.{but_trans, but_extends, extends_refl}
 use Rattle.pdl_lockapi.specs.Laws.{OwnKept}
 use Rattle.pdl_lockapi.proofs.LockKinds.{next_kept}
 use Rattle.pdl_port.specs.declared.PortRegs.{PortRegs}
@@ -23,7 +22,7 @@ use Rattle.pdl_flatnets.specs.Nets.{signal_at}
 use Rattle.pdl_sides.specs.Sides.{asked_into}
 use Rattle.pdl_stagenets.specs.Locked.{some_at}
 use Rattle.pdl_beside.specs.declared.ends.StageEnd.{StageEnd}
-use Rattle.pdl_beside.specs.Parts.{own_of, own_at, ExtendsParts}
+use Rattle.pdl_beside.specs.Parts.{own_of, own_at}
 use Rattle.pdl_beside.specs.Ports.{ReadsLeadOn, IsPort, StandPorts}
 use Rattle.pdl_beside.specs.Ends.{no_view, view_in, move_in, kill_in, ends_in, moves_in, kills_in, AreEnds}
 use Rattle.pdl_beside.specs.Steps.{AreNetsOf, port_signals, IsPortStepped}

@@ -4,3 +4,4 @@ pub mod Orders
 pub mod Ends
 pub mod Steps
 pub mod Requests
+pub mod Beside

@@ -1,5 +1,5 @@
-use Rattle.std.proofs.Common.{◌≡◌, ◌+◌, suc, ◌∙◌, length, ap, sym, take, arith}
-use Rattle.std.proofs.lemmas.List.{take-map, take_all, length-map}
+use Rattle.std.proofs.Common.{◌≡◌, ◌+◌, suc, ◌∙◌, ap, sym, take, arith}
+use Rattle.std.proofs.lemmas.List.{take-map}
 use Rattle.pdl_form.specs.View.{stage_view, stages_view}
 use Rattle.pdl_beside.specs.Orders.{merged_in}
 use Rattle.pdl_beside.proofs.order_round.is_merged_by.Goals as goal

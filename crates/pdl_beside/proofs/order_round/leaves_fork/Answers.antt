@@ -1,4 +1,4 @@
-use Rattle.std.proofs.Common.{◌≡◌, ◌<◌, ◌-◌, ◌+◌, suc, ◌∙◌, length, refl, sym, ap, ap₂, arith}
+use Rattle.std.proofs.Common.{◌<◌, ◌-◌, ◌∙◌, length, ap, ap₂, arith}
 use Rattle.std.specs.Prelude.{slice_index_or}
 use Rattle.pdl_form.specs.Whole.{form}
 use Rattle.pdl_net.specs.Meaning.{signal}

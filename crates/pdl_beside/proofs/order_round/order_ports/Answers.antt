@@ -1,15 +1,12 @@
 use Rattle.std.proofs.Common.{◌∙◌, ap, ap₂, sym}
-use Rattle.std.specs.Prelude.{if◌then◌else◌, length}
+use Rattle.std.specs.Prelude.{if◌then◌else◌}
 use Rattle.pdl_form.specs.Whole.{form}
 use Rattle.pdl_semantics.specs.Stages.{stage_at}
-use Rattle.pdl_net.specs.Circuit.{Circuit}
-use Rattle.pdl_net.specs.Signal.{Signal}
 use Rattle.pdl_net.specs.Meaning.{signal}
-use Rattle.pdl_net.specs.Growth.{Extends}
 use Rattle.pdl_net.proofs.Keeps.{extends_keeps, extends_trans}
 use Rattle.pdl_pipe_law.specs.Walk.{zero_bit, both}
 use Rattle.pdl_pipe_law.specs.Views.{View}
-use Rattle.pdl_sides.specs.Sides.{into_first, into_second}
+use Rattle.pdl_sides.specs.Sides.{into_second}
 use Rattle.pdl_beside.proofs.EndsKept.{ends_kept}
 use Rattle.pdl_beside.proofs.OrderSteps.{move_same, view_same, leaves_same, ports_same}
 use Rattle.pdl_beside.proofs.order_round.order_ports.Goals as goal

@@ -1,10 +1,8 @@
-use Rattle.std.proofs.Common.{◌≡◌, ◌^◌, ◌<◌, ◌∙◌, List, length, ap, sym, subst, arith}
+use Rattle.std.proofs.Common.{◌≡◌, ◌<◌, ◌∙◌, List, length, ap, sym, subst, arith}
 use Rattle.std.specs.Prelude.{Some, option_map}
 use Rattle.pdl_form.specs.Whole.{form}
 use Rattle.pdl_semantics.specs.Flat.{Mem}
-use Rattle.pdl_semantics.specs.Stages.{mem_at}
 use Rattle.pdl_formtypes.specs.Stmts.{IsTypedMem}
-use Rattle.pdl_net.specs.Circuit.{Circuit}
 use Rattle.pdl_net.specs.Signal.{const_signal}
 use Rattle.pdl_net.specs.Meaning.{Means, signal}
 use Rattle.pdl_inflight.specs.Readings.{reading}

@@ -1,4 +1,4 @@
-use Rattle.std.proofs.Common.{◌≡◌, ◌+◌, ◌∙◌, List, sym, subst}
+use Rattle.std.proofs.Common.{◌+◌, List, sym, subst}
 use Rattle.std.specs.Prelude.{Option}
 use Rattle.pdl_form.specs.Whole.{form}
 use Rattle.pdl_net.proofs.Keeps.{extends_keeps, extends_trans}

@@ -1,6 +1,5 @@
 use Rattle.std.proofs.Common.{ℕ, List, sym, subst}
 use Rattle.pdl_form.specs.Whole.{form}
-use Rattle.pdl_semantics.specs.Flat.{Next}
 use Rattle.pdl_semantics.specs.Stages.{stage_at}
 use Rattle.pdl_formtypes.specs.Stmts.{IsFork}
 use Rattle.pdl_beside.proofs.EndsKept.{end_is, fork_at}

@@ -10,7 +10,7 @@ use Rattle.pdl_net.specs.Meaning.{signal}
 use Rattle.pdl_net.proofs.Keeps.{extends_keeps, extends_trans}
 use Rattle.pdl_inflight.specs.Readings.{places, places_of, place_at}
 use Rattle.pdl_answernets.specs.Readings.{reading_view}
-use Rattle.pdl_pipe_law.specs.Walk.{Walk, both}
+use Rattle.pdl_pipe_law.specs.Walk.{both}
 use Rattle.pdl_pipe_law.specs.Views.{View}
 use Rattle.pdl_sides.specs.Sides.{asked_into, goes_to_place}
 use Rattle.pdl_beside.specs.Ends.{no_view, ends_in, moves_in, kills_in}

@@ -1,8 +1,6 @@
 use Rattle.std.proofs.Common.{◌∙◌, ap}
 use Rattle.pdl_form.specs.Whole.{form}
-use Rattle.pdl_form.specs.View.{next_view}
 use Rattle.pdl_semantics.specs.Flat.{Mem, Next}
-use Rattle.pdl_semantics.specs.Stages.{stage_at}
 use Rattle.std.specs.Prelude.{length}
 use Rattle.pdl_inflight.specs.Readings.{places_of}
 use Rattle.pdl_beside.proofs.PortParts.{new_part, own_there, is_port}
