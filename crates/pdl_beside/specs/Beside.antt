@@ -19,20 +19,22 @@ use Rattle.pdl_stagenets.specs.Locked.{some_at}
 use Rattle.pdl_beside.specs.declared.ends.StageEnd.{StageEnd}
 use Rattle.pdl_beside.specs.Ends.{ends_in, moves_in, kills_in}
 
--- what the registers of a memory's port stand for, its reply and its word; of a memory without port nothing is known
+-- what comes from a delayed memory
+pub record Inputs : Type 0 where
+  pub reply : Signal
+  pub word : Signal
+
+-- each port takes what comes from its memory
+pub record AreTaken (c : Circuit) (qs : List (Option PortRegs)) (ins : ℕ → Inputs) : Type 0 where
+  pub reply : (m : ℕ) (q : PortRegs) → some_at qs m ≡ Some q → signal c q.reply ≡ (ins m).reply
+  pub word : (m : ℕ) (q : PortRegs) → some_at qs m ≡ Some q → signal c q.word ≡ (ins m).word
+
+-- what the registers of a memory's port stand for; of a memory without port nothing is known
 abbrev pub port_stands : Option PortRegs → State → PortState → Type 0
 port_stands None s x = Unit {0}
 port_stands (Some q) s x = port_places.stands q s x
 
-abbrev pub port_reply : Circuit → Option PortRegs → Signal
-port_reply c None = no_signal
-port_reply c (Some q) = signal c q.reply
-
-abbrev pub port_word : Circuit → Option PortRegs → Signal
-port_word c None = no_signal
-port_word c (Some q) = signal c q.word
-
--- and those of the order of a fork, its first entry, and whether it is empty
+-- what those of the order of a fork stand for, its first entry, and whether it is empty
 abbrev pub order_stands : Option OrderRegs → State → List Bool → Type 0
 order_stands None s xs = Unit {0}
 order_stands (Some r) s xs = order_words.stands r s xs
@@ -45,10 +47,10 @@ abbrev pub order_empty : Circuit → Option OrderRegs → Signal
 order_empty c None = no_signal
 order_empty c (Some r) = signal c r.empty
 
--- what stands beside the stages, where these ports are free as this says, and squashes go by the rest
-abbrev pub sides_in : Circuit → List (Option PortRegs) → (ℕ → Signal) → List (Option OrderRegs) → (ℕ → Signal) → (ℕ → ℕ → Signal) → Sides
-sides_in c qs frees rs clear tails = record {
-  port = λ m. record { stands = port_stands (some_at qs m); reply = port_reply c (some_at qs m); word = port_word c (some_at qs m); answers = port_answers c (some_at qs m); free = frees m };
+-- what stands beside the stages, where this comes from the delayed memories, these ports are free as this says, and squashes go by the rest
+abbrev pub sides_in : Circuit → List (Option PortRegs) → (ℕ → Inputs) → (ℕ → Signal) → List (Option OrderRegs) → (ℕ → Signal) → (ℕ → ℕ → Signal) → Sides
+sides_in c qs ins frees rs clear tails = record {
+  port = λ m. record { stands = port_stands (some_at qs m); reply = (ins m).reply; word = (ins m).word; answers = port_answers c (some_at qs m); free = frees m };
   order = λ f. record { stands = order_stands (some_at rs f); first = order_first c (some_at rs f); empty = order_empty c (some_at rs f) };
   clear = clear;
   tails = tails;
