@@ -5,6 +5,7 @@
 
 mod asks;
 pub mod ends;
+mod free;
 mod order_round;
 mod orders;
 pub mod outside;
@@ -12,6 +13,7 @@ mod port_round;
 mod ports;
 
 pub use ends::{Round, StageEnd};
+pub use free::port_free;
 pub use order_round::order_steps;
 pub use orders::order_states;
 pub use outside::{RequestNets, requests};

@@ -30,7 +30,7 @@ use pdl_port::{PortRegs, PortStep, emit_port_step};
 use std::alloc::Global;
 
 // The stage of the place of a number.
-fn place(next: Next, i: usize) -> usize
+pub(crate) fn place(next: Next, i: usize) -> usize
     requires { i < length (places_of (next_view next)) }
     ensures { result ≡ slice_index (places_of (next_view next)) i }
 {
