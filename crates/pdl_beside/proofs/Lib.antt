@@ -6,3 +6,4 @@ pub mod PortSteps
 pub mod OrderSteps
 pub mod Asked
 pub mod Beside
+pub mod Onward

@@ -18,7 +18,7 @@ use Rattle.pdl_beside.specs.Orders.{merged_in, is_merged, IsOrder, HasOrderOf}
 
 -- ---- which forks are merged
 
-same_number : (n : ℕ) → (n == n) ≡ true
+pub same_number : (n : ℕ) → (n == n) ≡ true
 same_number n = grind (arith)
 
 merges_is : (o : Option ℕ) (f : ℕ) → merges_fork o f ≡ true → o ≡ Some f
