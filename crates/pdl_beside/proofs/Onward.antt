@@ -2,6 +2,7 @@
 use Rattle.std.proofs.Common.{◌≡◌, ℕ, suc, ◌<◌, ◌≤◌, ◌==◌, ◌∙◌, Bool, true, false, ◌&&◌, List, [], ◌∷◌, length, refl, sym, ap, arith}
 use Rattle.std.specs.Prelude.{Option, Some, None, is_none, not, if◌then◌else◌}
 use Rattle.std.proofs.lemmas.Bool.{eqb-true, false≢true}
+use Rattle.pdl_word.proofs.Numbers.{eqb_self}
 use Rattle.pdl_semantics.specs.Flat as flat
 use Rattle.pdl_semantics.specs.Flat.{Op, Stmt, Next, Pipe}
 use Rattle.pdl_semantics.specs.Stages.{in_stage, stage_at, goes_to}
@@ -13,7 +14,6 @@ use Rattle.pdl_inflight.proofs.ReadingFacts.{place_leads}
 use Rattle.pdl_answernets.specs.Readings.{bound_by}
 use Rattle.pdl_answernets.proofs.Found.{found_or, reading_next}
 use Rattle.pdl_beside.specs.Ports.{ReadsLeadOn}
-use Rattle.pdl_beside.proofs.OrderParts.{same_number}
 
 bound_fetches : (m : ℕ) (op : Op) (x : ℕ) → bound_by m op ≡ Some x → is_fetch op ≡ true
 bound_fetches m (flat.Bind y e) x h = absurd (cc h)
@@ -43,7 +43,7 @@ none_later k s ss h = at (s.stage == k) h
 
 none_here : (s : Stmt) (ss : List Stmt) → is_fetch s.op ≡ true → none_of is_fetch (in_stage s.stage (s ∷ ss)) ≡ false
 none_here s ss e =
-    ap (λ (b : Bool). none_of is_fetch (if b then s ∷ in_stage s.stage ss else in_stage s.stage ss)) (same_number s.stage)
+    ap (λ (b : Bool). none_of is_fetch (if b then s ∷ in_stage s.stage ss else in_stage s.stage ss)) (eqb_self s.stage)
     ∙ ap (λ b. not b && none_of is_fetch (in_stage s.stage ss)) e
 
 -- where a memory is read delayed stands a delayed read

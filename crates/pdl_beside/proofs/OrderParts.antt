@@ -1,9 +1,11 @@
 -- The orders of forks, as they are made and while the circuit grows.
-use Rattle.std.proofs.Common.{◌≡◌, ℕ, zero, suc, ◌+◌, ◌-◌, ◌≤◌, ◌==◌, ◌∙◌, Bool, true, false, ◌||◌, List, [], ◌∷◌, length, refl, sym, ap, subst, arith, eqb-true}
+use Rattle.std.proofs.Common.{◌≡◌, ℕ, zero, suc, ◌+◌, ◌-◌, ◌≤◌, ◌∙◌, Bool, true, false, ◌||◌, List, [], ◌∷◌, length, refl, sym, ap, subst, arith, eqb-true}
 use Rattle.std.specs.Prelude.{Option, Some, None, slice_index_or}
+use Rattle.std.proofs.lemmas.List.Sums.{count_by-le-length}
 use Rattle.std.proofs.lemmas.Bool.{false≢true}
+use Rattle.pdl_word.proofs.Numbers.{eqb_self}
 use Rattle.pdl_semantics.specs.Flat.{Stage, Pipe}
-use Rattle.pdl_semantics.specs.Stages.{stage_at, last_stage, merges_fork}
+use Rattle.pdl_semantics.specs.Stages.{stage_at, last_stage, is_branch_of, merges_fork}
 use Rattle.pdl_net.specs.Circuit.{Circuit, HasReg}
 use Rattle.pdl_net.specs.Signal.{Signal}
 use Rattle.pdl_net.specs.Meaning.{signal}
@@ -14,12 +16,9 @@ use Rattle.pdl_order.specs.Words.{ArePlaced, stands}
 use Rattle.pdl_order.proofs.Kept.{order_keeps}
 use Rattle.pdl_inflight.specs.Readings.{branch_stages}
 use Rattle.pdl_beside.specs.Parts.{IsNewPart}
-use Rattle.pdl_beside.specs.Orders.{merged_in, is_merged, IsOrder, HasOrderOf}
+use Rattle.pdl_beside.specs.Orders.{ForksFit, merged_in, is_merged, IsOrder, HasOrderOf}
 
 -- ---- which forks are merged
-
-pub same_number : (n : ℕ) → (n == n) ≡ true
-same_number n = grind (arith)
 
 merges_is : (o : Option ℕ) (f : ℕ) → merges_fork o f ≡ true → o ≡ Some f
 merges_is None f e = absurd (false≢true e)
@@ -39,7 +38,7 @@ merged_by p f e = merged_here p.stages f e
 
 at_merged : (ss : List Stage) (f q : ℕ) → (slice_index_or ss q last_stage).merges ≡ Some f → merged_in ss f ≡ true
 at_merged [] f q e = absurd (cc e)
-at_merged (s ∷ ss) f zero e = ap (λ o. merges_fork o f || merged_in ss f) e ∙ ap (λ b. b || merged_in ss f) (same_number f)
+at_merged (s ∷ ss) f zero e = ap (λ o. merges_fork o f || merged_in ss f) e ∙ ap (λ b. b || merged_in ss f) (eqb_self f)
 at_merged (s ∷ ss) f (suc q) e = ap (λ b. merges_fork s.merges f || b) (at_merged ss f q e) ∙ or_true (merges_fork s.merges f)
   where
     or_true : (b : Bool) → (b || true) ≡ true
@@ -48,6 +47,10 @@ at_merged (s ∷ ss) f (suc q) e = ap (λ b. merges_fork s.merges f || b) (at_me
 
 pub is_merged_by : (p : Pipe) (f q : ℕ) → (stage_at p q).merges ≡ Some f → is_merged p f ≡ true
 is_merged_by p f q e = at_merged p.stages f q e
+
+-- a pipe of 64 stages at most has no longer branches
+pub forks_fit : (p : Pipe) → length p.stages ≤ 64 → ForksFit p
+forks_fit p h = record { few = λ f q e. let z = count_by-le-length (λ (x : Stage). is_branch_of x.branch f) p.stages in omega (arith, z, h) }
 
 -- ---- a new order
 
@@ -71,13 +74,13 @@ new_order a b r f = record {
       subst P same (fragment_end a b r f);
 }
 
-pub order_some : (a c : Circuit) (p : Pipe) (f n : ℕ) (r : OrderRegs) → is_merged p f ≡ true → n ≡ branch_stages p f → r.stages ≡ n → IsFragment a c r → HasOrderNets c r → ArePlaced c r → StartLaw (stands r) c (own r) → FirstLaw (stands r) (signal c r.first) (signal c r.empty)
+pub order_some : (a c : Circuit) (p : Pipe) (f : ℕ) (r : OrderRegs) → is_merged p f ≡ true → branch_stages p f ≤ r.stages → IsFragment a c r → HasOrderNets c r → ArePlaced c r → StartLaw (stands r) c (own r) → FirstLaw (stands r) (signal c r.first) (signal c r.empty)
     → HasOrderOf c p f (Some r)
-order_some a c p f n r merged are count fragment nets placed starts first = record {
+order_some a c p f r merged fits fragment nets placed starts first = record {
   some = sym merged;
   order = λ x e.
       let same : r ≡ x = cc e in
-      let here : IsOrder c p f r = record { stages = count ∙ are; nets = nets; placed = placed; owned = record { regs = fragment.has_reg; none = omega arith }; starts = starts; first = first } in
+      let here : IsOrder c p f r = record { stages = fits; nets = nets; placed = placed; owned = record { regs = fragment.has_reg; none = omega arith }; starts = starts; first = first } in
       subst (IsOrder c p f) same here;
 }
 

@@ -1,5 +1,5 @@
 -- The steps of orders, one after the other.
-use Rattle.std.proofs.Common.{◌≡◌, ℕ, suc, ◌+◌, ◌-◌, ◌<◌, ◌∙◌, List, length, map, refl, sym, ap, ap₂, subst, arith}
+use Rattle.std.proofs.Common.{◌≡◌, ℕ, suc, ◌+◌, ◌-◌, ◌<◌, ◌≤◌, ◌∙◌, List, length, map, refl, sym, ap, ap₂, subst, arith}
 use borrow.Author.Count.{below_more}
 use Rattle.std.specs.Prelude.{Option, Some, None, slice_index_or}
 use Rattle.pdl_semantics.specs.Flat.{Pipe}
@@ -73,6 +73,12 @@ law_as r n c f g first second left emptied x = record {
       pr nx;
 }
 
+-- for fewer threads
+law_fewer : (r : OrderRegs) (k n : ℕ) (c : Circuit) (g : StepSignals) → k ≤ n → StepLaw (stands r) n (own r) c g → StepLaw (stands r) k (own r) c g
+law_fewer r k n c g le x = record {
+  next = λ s t xs d st dr pr nx. x.next s t xs d st dr (record { one = pr.one; some = pr.some; room = let z = pr.room in omega (arith, z, le) }) nx;
+}
+
 -- ---- one step
 
 pub none_stepped : (a c : Circuit) (p : Pipe) (es : List StageEnd) (squash : Net) (rs : List (Option OrderRegs)) (f : ℕ) → some_at rs f ≡ None → IsOrderStepped a c p es squash rs f
@@ -83,9 +89,8 @@ pub some_stepped : (a c : Circuit) (p : Pipe) (es : List StageEnd) (squash : Net
 some_stepped a c p es squash rs f r g is order same law s e =
     let two : r ≡ s = cc (is, e) in
     let G : StepSignals → Type 0 = λ h. StepLaw (stands r) (branch_stages p f) (own r) c h in
-    let N : ℕ → Type 0 = λ n. StepLaw (stands r) n (own r) c g in
     let R : OrderRegs → Type 0 = λ t. StepLaw (stands t) (branch_stages p f) (own t) c (order_signals a p es squash f) in
-    subst R two (subst G same (subst N order.stages law))
+    subst R two (subst G same (law_fewer r (branch_stages p f) r.stages c g order.stages law))
 
 pub some_changed : (a b c : Circuit) (rs : List (Option OrderRegs)) (f : ℕ) (r : OrderRegs) → some_at rs f ≡ Some r → Extends a b → ExtendsBut (own r) b c → ExtendsBut (own_at own rs f) a c
 some_changed a b c rs f r at grows e =

@@ -22,14 +22,13 @@ is_merged p f = merged_in p.stages f
 abbrev pub branches_in : List Stage → ℕ → ℕ
 branches_in ss f = count_by (λ (s : Stage). is_branch_of s.branch f) ss
 
--- the branches of a fork that is merged have a stage, and no more than 64
-pub record ForksMerge (p : Pipe) : Type 0 where
-  pub some : (f q : ℕ) → (stage_at p q).merges ≡ Some f → 1 ≤ branch_stages p f
+-- the branches of a fork that is merged have no more than 64 stages
+pub record ForksFit (p : Pipe) : Type 0 where
   pub few : (f q : ℕ) → (stage_at p q).merges ≡ Some f → branch_stages p f ≤ 64
 
 -- the order of a fork: its registers are there, and the laws of its start and of its first entry hold
 pub record IsOrder (c : Circuit) (p : Pipe) (f : ℕ) (r : OrderRegs) : Type 0 where
-  pub stages : r.stages ≡ branch_stages p f
+  pub stages : branch_stages p f ≤ r.stages
   pub nets : HasOrderNets c r
   pub placed : ArePlaced c r
   pub owned : HasOwn c (own r)

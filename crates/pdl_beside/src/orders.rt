@@ -7,7 +7,7 @@ ghost use Rattle.pdl_net.specs.Growth.{Extends};
 ghost use Rattle.pdl_order.specs.Laws.{own as order_own};
 ghost use Rattle.pdl_inflight.specs.Readings.{branch_stages};
 ghost use Rattle.pdl_beside.specs.Parts.{AreParts, IsNewPart};
-ghost use Rattle.pdl_beside.specs.Orders.{merged_in, is_merged as merged, branches_in, ForksMerge, HasOrderOf};
+ghost use Rattle.pdl_beside.specs.Orders.{merged_in, is_merged as merged, branches_in, ForksFit, HasOrderOf};
 
 use pdl_build::Builder;
 use pdl_form::{FlatPipe, Stage};
@@ -60,6 +60,16 @@ fn branch_count(stages: &[Stage], fork: usize) -> usize
     count
 }
 
+// For how many threads an order is made: for one at least.
+fn order_size(count: usize) -> u8
+    requires { count ≤ 64 }
+    ensures low { 1 ≤ result }
+    ensures high { result ≤ 64 }
+    ensures fits { count ≤ result }
+{
+    if count == 0 { 1 } else { count as u8 }
+}
+
 // The order of a fork, where some stage merges it.
 fn fork_order(
     alloc: Global,
@@ -67,7 +77,7 @@ fn fork_order(
     pipe: &FlatPipe,
     fork: usize,
 ) -> Result<Option<OrderRegs>, NoMemory>
-    requires merge { ForksMerge (form pipe.now).pipe }
+    requires fit { ForksFit (form pipe.now).pipe }
     ensures order { IfOk result (λ r. HasOrderOf b.new (form pipe.now).pipe fork r) }
     ensures new { IfOk result (λ r. IsNewPart order_own b.old b.new r) }
     ensures extends { Extends b.old b.new }
@@ -75,8 +85,8 @@ fn fork_order(
     if !is_merged(pipe.stages(), fork) {
         return Ok(None);
     }
-    let count = branch_count(pipe.stages(), fork) as u8;
-    let order = emit_order_state(alloc, b, count)?;
+    let count = branch_count(pipe.stages(), fork);
+    let order = emit_order_state(alloc, b, order_size(count))?;
     Ok(Some(order))
 }
 
@@ -86,7 +96,7 @@ pub fn order_states(
     b: &mut Builder,
     pipe: &FlatPipe,
 ) -> Result<Vec<Option<OrderRegs>>, NoMemory>
-    requires merge { ForksMerge (form pipe.now).pipe }
+    requires fit { ForksFit (form pipe.now).pipe }
     ensures orders { IfOk result (λ rs.
         AreParts order_own (HasOrderOf b.new (form pipe.now).pipe)
         (length b.old.regs) (length b.new.regs) rs.items

@@ -1,34 +1,16 @@
-use Rattle.std.proofs.Common.{◌≡◌, ◌∙◌, true, ap, sym, arith}
+use Rattle.std.proofs.Common.{◌≡◌, ◌≤◌, ◌∙◌, true, ap, sym, arith}
 use Rattle.pdl_form.specs.Whole.{form}
 use Rattle.pdl_inflight.specs.Readings.{branch_stages}
 use Rattle.pdl_beside.specs.Orders.{merged_in, is_merged, branches_in}
 use Rattle.pdl_beside.proofs.OrderParts.{merged_by, new_order, order_some}
 use Rattle.pdl_beside.proofs.orders.fork_order.Goals as goal
 
-pub overflow_cast-count : goal.overflow_cast-count
-overflow_cast-count c =
+pub order_size-requires : goal.order_size-requires
+order_size-requires c =
     let p = (form c.args.pipe.now).pipe in
     let f = c.args.fork in
     let merged : is_merged p f ≡ true = sym (c.is_merged.ensures ∙ ap (λ ss. merged_in ss f) c.stages.ensures) ∙ c.if-not-is_merged.false in
-    let few = c.requires.merge.few f (merged_by p f merged).0 (merged_by p f merged).1 in
-    let is : c.branch_count-count.result ≡ branch_stages p f = c.branch_count-count.ensures ∙ ap (λ ss. branches_in ss f) c.stages-2.ensures in
-    omega (arith, few, is)
-
-pub emit_order_state-requires-clause-low : goal.emit_order_state-requires-clause-low
-emit_order_state-requires-clause-low c =
-    let p = (form c.args.pipe.now).pipe in
-    let f = c.args.fork in
-    let merged : is_merged p f ≡ true = sym (c.is_merged.ensures ∙ ap (λ ss. merged_in ss f) c.stages.ensures) ∙ c.if-not-is_merged.false in
-    let some = c.requires.merge.some f (merged_by p f merged).0 (merged_by p f merged).1 in
-    let is : c.branch_count-count.result ≡ branch_stages p f = c.branch_count-count.ensures ∙ ap (λ ss. branches_in ss f) c.stages-2.ensures in
-    omega (arith, some, is)
-
-pub emit_order_state-requires-clause-high : goal.emit_order_state-requires-clause-high
-emit_order_state-requires-clause-high c =
-    let p = (form c.args.pipe.now).pipe in
-    let f = c.args.fork in
-    let merged : is_merged p f ≡ true = sym (c.is_merged.ensures ∙ ap (λ ss. merged_in ss f) c.stages.ensures) ∙ c.if-not-is_merged.false in
-    let few = c.requires.merge.few f (merged_by p f merged).0 (merged_by p f merged).1 in
+    let few = c.requires.fit.few f (merged_by p f merged).0 (merged_by p f merged).1 in
     let is : c.branch_count-count.result ≡ branch_stages p f = c.branch_count-count.ensures ∙ ap (λ ss. branches_in ss f) c.stages-2.ensures in
     omega (arith, few, is)
 
@@ -42,4 +24,5 @@ returns-clause-order c =
     let s = c.in_ok-order.ensures in
     let merged : is_merged p f ≡ true = sym (c.is_merged.ensures ∙ ap (λ ss. merged_in ss f) c.stages.ensures) ∙ c.if-not-is_merged.false in
     let is : c.branch_count-count.result ≡ branch_stages p f = c.branch_count-count.ensures ∙ ap (λ ss. branches_in ss f) c.stages-2.ensures in
-    order_some c.args.b.now c.emit_order_state.new.b p f c.branch_count-count.result c.in_ok-order.order merged is s.stages s.fragment s.nets s.placed s.start s.first
+    let fits : branch_stages p f ≤ c.in_ok-order.order.stages = omega (arith, is, c.order_size.ensures.fits, s.stages) in
+    order_some c.args.b.now c.emit_order_state.new.b p f c.in_ok-order.order merged fits s.fragment s.nets s.placed s.start s.first
