@@ -147,9 +147,6 @@ request_as a b c f es m x k ends h =
       reach = h.reach;
     }
 
-pub requests_none : (a c : Circuit) (p : Pipe) (es : List StageEnd) → AreRequests a c p es [] 0
-requests_none a c p es = record { count = refl; each = λ m h. absurd (omega (arith, h)) }
-
 pub requests_more : (a b c : Circuit) (f : Form) (es : List StageEnd) (xs : List (Option RequestNets)) (o : Option RequestNets) (n : ℕ) → Keeps a b → Keeps b c → AreEnds a f es → HasRequest b c f.pipe es n o → AreRequests a b f.pipe es xs n → AreRequests a c f.pipe es (xs ++ o ∷ []) (n + 1)
 requests_more a b c f es xs o n k l ends new h =
     let P = λ (m : ℕ) (q : Option RequestNets). HasRequest a c f.pipe es m q in

@@ -84,9 +84,6 @@ order_some a c p f r merged fits fragment nets placed starts first = record {
       subst (IsOrder c p f) same here;
 }
 
-pub order_none : (c : Circuit) (p : Pipe) (f : ℕ) → is_merged p f ≡ false → HasOrderOf c p f None
-order_none c p f e = record { some = sym e; order = λ r q. absurd (cc q) }
-
 -- ---- orders stay
 
 module _ (a b : Circuit) (k : Keeps a b) where

@@ -1,5 +1,5 @@
 -- The steps of orders, one after the other.
-use Rattle.std.proofs.Common.{◌≡◌, ℕ, suc, ◌+◌, ◌-◌, ◌<◌, ◌≤◌, ◌∙◌, List, length, map, refl, sym, ap, ap₂, subst, arith}
+use Rattle.std.proofs.Common.{◌≡◌, ℕ, suc, ◌+◌, ◌-◌, ◌<◌, ◌≤◌, ◌∙◌, List, length, map, refl, ap, ap₂, subst, arith}
 use borrow.Author.Count.{below_more}
 use Rattle.std.specs.Prelude.{Option, Some, None, slice_index_or}
 use Rattle.pdl_semantics.specs.Flat.{Pipe}
@@ -8,8 +8,7 @@ use Rattle.pdl_net.specs.declared.Net.{Net}
 use Rattle.pdl_net.specs.Circuit.{Circuit}
 use Rattle.pdl_net.specs.Signal.{Signal, no_signal}
 use Rattle.pdl_net.specs.Meaning.{IsThere, signal}
-use Rattle.pdl_net.specs.Growth.{Keeps, Extends, ExtendsBut}
-use Rattle.pdl_net.proofs.Keeps.{but_trans, but_extends}
+use Rattle.pdl_net.specs.Growth.{Keeps, ExtendsBut}
 use Rattle.pdl_lockapi.specs.Laws.{OwnKept}
 use Rattle.pdl_lockapi.proofs.LockKinds.{next_kept}
 use Rattle.pdl_order.specs.declared.OrderRegs.{OrderRegs}
@@ -81,9 +80,6 @@ law_fewer r k n c g le x = record {
 
 -- ---- one step
 
-pub none_stepped : (a c : Circuit) (p : Pipe) (es : List StageEnd) (squash : Net) (rs : List (Option OrderRegs)) (f : ℕ) → some_at rs f ≡ None → IsOrderStepped a c p es squash rs f
-none_stepped a c p es squash rs f is r e = absurd (cc (is, e))
-
 pub some_stepped : (a c : Circuit) (p : Pipe) (es : List StageEnd) (squash : Net) (rs : List (Option OrderRegs)) (f : ℕ) (r : OrderRegs) (g : StepSignals) → some_at rs f ≡ Some r → IsOrder a p f r → g ≡ order_signals a p es squash f → StepLaw (stands r) r.stages (own r) c g
     → IsOrderStepped a c p es squash rs f
 some_stepped a c p es squash rs f r g is order same law s e =
@@ -91,11 +87,6 @@ some_stepped a c p es squash rs f r g is order same law s e =
     let G : StepSignals → Type 0 = λ h. StepLaw (stands r) (branch_stages p f) (own r) c h in
     let R : OrderRegs → Type 0 = λ t. StepLaw (stands t) (branch_stages p f) (own t) c (order_signals a p es squash f) in
     subst R two (subst G same (law_fewer r (branch_stages p f) r.stages c g order.stages law))
-
-pub some_changed : (a b c : Circuit) (rs : List (Option OrderRegs)) (f : ℕ) (r : OrderRegs) → some_at rs f ≡ Some r → Extends a b → ExtendsBut (own r) b c → ExtendsBut (own_at own rs f) a c
-some_changed a b c rs f r at grows e =
-    let P : Option OrderRegs → Type 0 = λ o. ExtendsBut (own_of own o) a c in
-    subst P (sym at) (but_trans (own r) a b c (but_extends (own r) a b grows) e)
 
 -- ---- all steps
 

@@ -5,7 +5,7 @@ use Rattle.std.proofs.lemmas.List.{get_or_append_left, get_or_push}
 use Rattle.std.specs.Prelude.{Option, Some, None}
 use Rattle.pdl_net.specs.Circuit.{Circuit}
 use Rattle.pdl_net.specs.Growth.{Own, Outside, ExtendsBut}
-use Rattle.pdl_net.proofs.Keeps.{but_keeps, keeps_refl, keeps_trans}
+use Rattle.pdl_net.proofs.Keeps.{but_keeps, keeps_trans}
 use Rattle.pdl_stagenets.specs.Locked.{some_at}
 use Rattle.pdl_beside.specs.Parts.{AreParts, IsNewPart, own_of, own_at, ExtendsParts}
 
@@ -14,15 +14,6 @@ some_before xs o i h = get_or_append_left xs (o ∷ []) None i h
 
 pub some_last : {T : Type 0} (xs : List (Option T)) (o : Option T) (n : ℕ) → length xs ≡ n → some_at (xs ++ o ∷ []) n ≡ o
 some_last xs o n h = get_or_push xs o None n h
-
-pub parts_none : {T : Type 0} (own : T → Own) (Has : ℕ → Option T → Type 0) (low : ℕ) → AreParts own Has low low [] 0
-parts_none own Has low = record {
-  count = refl;
-  each = λ i h. absurd (omega (arith, h));
-  from = λ i x h. absurd (omega (arith, h));
-  to = λ i x h. absurd (omega (arith, h));
-  apart = λ i j x y h k. absurd (omega (arith, k));
-}
 
 -- one part more, in a circuit that grew
 module _ {T : Type 0} (own : T → Own) (A B : ℕ → Option T → Type 0) (low : ℕ) (a b : Circuit) (xs : List (Option T)) (o : Option T) (n : ℕ)
@@ -51,9 +42,6 @@ module _ {T : Type 0} (own : T → Own) (A B : ℕ → Option T → Type 0) (low
   }
 
 -- ---- what changes
-
-pub extends_none : (owns : ℕ → Own) (c : Circuit) → ExtendsParts owns 0 c c
-extends_none owns c = record { keeps = keeps_refl c; nexts = λ k h u. refl; writes = λ k h. refl; ports = refl; shapes = refl }
 
 -- one part more has changed, that has no array
 pub extends_more : (owns : ℕ → Own) (n : ℕ) (a b c : Circuit) → (owns n).last ≡ 0 → ExtendsParts owns n a b → ExtendsBut (owns n) b c → ExtendsParts owns (n + 1) a c

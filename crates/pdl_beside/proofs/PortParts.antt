@@ -41,9 +41,6 @@ new_part a b q f = record {
       subst P same (fragment_end a b q f);
 }
 
-pub no_part : {T : Type 0} (own : T → Own) (a b : Circuit) → IsNewPart own a b None
-no_part own a b = record { from = λ x e. absurd (cc e); to = λ x e. absurd (cc e) }
-
 pub own_there : (a b : Circuit) (q : PortRegs) → IsFragment a b q → HasOwn b (own q)
 own_there a b q f = record { regs = f.has_reg; none = omega arith }
 
@@ -81,14 +78,6 @@ port_some c p m r i input q is at x reply word = record {
       subst P one (subst Q two x);
   reply = λ j z e f. cc (at, e, f, reply);
   word = λ j z e f. cc (at, e, f, word);
-}
-
-pub port_none : (c : Circuit) (p : Pipe) (m : ℕ) (input : Option PortInput) → reading p m ≡ None → HasPortOf c p m input None
-port_none c p m input is = record {
-  some = sym (ap is_some is);
-  port = λ r q e f. absurd (cc f);
-  reply = λ j z e f. absurd (cc f);
-  word = λ j z e f. absurd (cc f);
 }
 
 -- ---- inputs and ports stay

@@ -1,5 +1,5 @@
 -- The steps of ports, one after the other.
-use Rattle.std.proofs.Common.{◌≡◌, ℕ, ◌+◌, ◌<◌, ◌∙◌, List, length, map, refl, sym, ap, ap₂, subst, arith}
+use Rattle.std.proofs.Common.{◌≡◌, ℕ, ◌+◌, ◌<◌, ◌∙◌, List, length, map, refl, ap, ap₂, subst, arith}
 use borrow.Author.Count.{below_more}
 use Rattle.std.specs.Prelude.{Option, Some, None, slice_index_or}
 use Rattle.pdl_semantics.specs.Flat.{Pipe}
@@ -8,7 +8,6 @@ use Rattle.pdl_net.specs.Circuit.{Circuit, State}
 use Rattle.pdl_net.specs.Signal.{Signal}
 use Rattle.pdl_net.specs.Meaning.{signal}
 use Rattle.pdl_net.specs.Growth.{Own, Keeps, Extends, ExtendsBut}
-use Rattle.pdl_net.proofs.Keeps.{but_trans, but_extends, extends_refl}
 use Rattle.pdl_lockapi.specs.Laws.{OwnKept}
 use Rattle.pdl_lockapi.proofs.LockKinds.{next_kept}
 use Rattle.pdl_port.specs.declared.PortRegs.{PortRegs}
@@ -52,12 +51,6 @@ law_kept stands n o a b f k x = record { next = λ s t y d st dr pr nx. x.next s
 
 -- ---- one step
 
-pub none_stepped : (a c : Circuit) (p : Pipe) (es : List StageEnd) (qs : List (Option PortRegs)) (m : ℕ) → reading p m ≡ None → IsPortStepped a c p es qs m
-none_stepped a c p es qs m is r q e = absurd (cc (is, e))
-
-pub none_changed : (o : Own) (c : Circuit) → ExtendsBut o c c
-none_changed o c = but_extends o c c (extends_refl c)
-
 module _ (a b c : Circuit) (p : Pipe) (es : List StageEnd) (qs : List (Option PortRegs)) (m : ℕ) (r : Reading) (q : PortRegs) (x : PortStep) (is : reading p m ≡ Some r) (at : some_at qs m ≡ Some q) (port : IsPort a p m r q) (grows : Extends a b)
     (asked : AreNetsOf b x.asked (length (places p r)) (asked_into p (ends_in a es) (moves_in a es) m r)) (moves : AreNetsOf b x.moves (length (places p r)) (λ i. moves_in a es (place_at p r i))) (removed : AreNetsOf b x.removed (length (places p r)) (λ i. kills_in a es (place_at p r i)))
     (law : StepLaw (stands q) (port_places q) (own q) c (step_signals b q x)) where
@@ -73,11 +66,6 @@ module _ (a b c : Circuit) (p : Pipe) (es : List StageEnd) (qs : List (Option Po
       let P : Reading → Type 0 = λ t. StepLaw (stands z) (length (places p t)) (own z) c (port_signals a p es m t z) in
       let Q : PortRegs → Type 0 = λ t. StepLaw (stands t) (length (places p r)) (own t) c (port_signals a p es m r t) in
       subst P one (subst Q two here)
-
-pub some_changed : (a b c : Circuit) (qs : List (Option PortRegs)) (m : ℕ) (q : PortRegs) → some_at qs m ≡ Some q → Extends a b → ExtendsBut (own q) b c → ExtendsBut (own_at own qs m) a c
-some_changed a b c qs m q at grows e =
-    let P : Option PortRegs → Type 0 = λ o. ExtendsBut (own_of own o) a c in
-    subst P (sym at) (but_trans (own q) a b c (but_extends (own q) a b grows) e)
 
 -- ---- all steps
 
