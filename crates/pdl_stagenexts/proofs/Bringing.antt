@@ -1,5 +1,5 @@
 -- What the threads that come into a stage bring, the last first.
-use Rattle.std.proofs.Common.{◌≡◌, refl, sym, ap, ap₂, ◌∙◌, subst, ℕ, zero, suc, ◌+◌, ◌<◌, ◌==◌, Bool, true, false, List, [], ◌∷◌, ◌++◌, map, length, drop, get_or, append-nil, arith}
+use Rattle.std.proofs.Common.{◌≡◌, refl, sym, ap, ap₂, ◌∙◌, subst, ℕ, zero, suc, ◌+◌, ◌<◌, ◌==◌, Bool, false, List, [], ◌∷◌, ◌++◌, map, length, drop, get_or, append-nil, arith}
 use Rattle.std.specs.Prelude.{Option, Some, None, slice_index, if◌then◌else◌}
 use Rattle.std.proofs.lemmas.List.{drop_more}
 use Rattle.pdl_semantics.specs.Flat.{Pipe}
@@ -7,7 +7,7 @@ use Rattle.pdl_machine_facts.specs.Slots.{ways}
 use Rattle.pdl_net.specs.Circuit.{Circuit, State}
 use Rattle.pdl_net.specs.Signal.{Signal, mux_signal}
 use Rattle.pdl_pipe_law.specs.Walk.{is_on}
-use Rattle.pdl_pipe_law.specs.Views.{View, Comer, out_of, new_from, comers, first_coming}
+use Rattle.pdl_pipe_law.specs.Views.{View, out_of, new_from, comers, first_coming}
 use Rattle.pdl_pipe_law.proofs.Signals.{mux_by}
 use Rattle.pdl_stageregs.specs.declared.nets.Item.{Item}
 use Rattle.pdl_stageregs.specs.declared.nets.Item.TheVariants.{Var, Held, Ticket, Guess}
@@ -16,7 +16,6 @@ use Rattle.pdl_stagenexts.specs.declared.arrivals.Arrival.{Arrival}
 use Rattle.pdl_stagenexts.specs.Lines.{ValueAs}
 use Rattle.pdl_stagenexts.specs.Arrivals.{IsArrival, AreArrivals}
 use Rattle.pdl_stagenexts.specs.Brings.{brought_signal, brought_out}
-use Rattle.pdl_stagenexts.proofs.BirthsMade.{picked_append}
 
 -- ---- arrivals by their places
 

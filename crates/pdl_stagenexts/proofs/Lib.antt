@@ -3,3 +3,4 @@ pub mod Arriving
 pub mod BirthsMade
 pub mod Bringing
 pub mod NextsMade
+pub mod Setting

@@ -1,17 +1,16 @@
 -- What the registers of a stage take next, one after the other.
-use Rattle.std.proofs.Common.{◌≡◌, refl, sym, ap, ap₂, ◌∙◌, subst, ℕ, zero, suc, ◌+◌, ◌<◌, ◌≤◌, ◌==◌, List, [], ◌∷◌, ◌++◌, length, get_or, arith}
-use Rattle.std.specs.Prelude.{Option, Some, None, slice_index, if◌then◌else◌}
+use Rattle.std.proofs.Common.{◌≡◌, refl, sym, ap, ◌∙◌, ℕ, zero, suc, ◌+◌, ◌<◌, ◌≤◌, List, [], ◌∷◌, ◌++◌, length, arith}
+use Rattle.std.specs.Prelude.{Some, None, slice_index}
 use Rattle.std.proofs.lemmas.List.{length-append}
-use Rattle.pdl_semantics.specs.Flat.{Pipe}
 use Rattle.pdl_form.specs.Form.{Form}
 use Rattle.pdl_net.specs.declared.Net.{Net}
 use Rattle.pdl_net.specs.declared.Net.TheVariants.{Reg as RegNet}
-use Rattle.pdl_net.specs.Circuit.{Circuit, HasReg, State}
+use Rattle.pdl_net.specs.Circuit.{Circuit, HasReg}
 use Rattle.pdl_net.specs.Signal.{Signal}
 use Rattle.pdl_net.specs.Meaning.{signal, IsThere}
 use Rattle.pdl_net.specs.Growth.{Keeps}
 use Rattle.pdl_flatnets.specs.Nets.{NetsThere, signals_in, signal_at}
-use Rattle.pdl_flatnets.proofs.NetLists.{net_more, there_keeps, signals_keep, width_at, length_signals, length_widths}
+use Rattle.pdl_flatnets.proofs.NetLists.{net_more, there_keeps, signals_keep, width_at}
 use Rattle.pdl_stageregs.specs.declared.nets.Item.{Item}
 use Rattle.pdl_stageregs.specs.declared.nets.Item.TheVariants.{Var, Held, Ticket, Guess}
 use Rattle.pdl_stageregs.specs.declared.nets.StageNets.{StageNets}
@@ -76,7 +75,7 @@ module _ (c : Circuit) (f : Form) (nexts : List Signal) (k : ℕ) (s : StageNets
       at (Ticket m) e = e
       at (Guess j) e = e
 
-kept_signal_keep : (a b : Circuit) (f : Form) (nexts : List Signal) (k : ℕ) (s : StageNets) (i : ℕ) (j : Item) → Keeps a b → i < length s.regs.items → IsStageNow a f nexts k s → kept_signal b s i j ≡ kept_signal a s i j
+pub kept_signal_keep : (a b : Circuit) (f : Form) (nexts : List Signal) (k : ℕ) (s : StageNets) (i : ℕ) (j : Item) → Keeps a b → i < length s.regs.items → IsStageNow a f nexts k s → kept_signal b s i j ≡ kept_signal a s i j
 kept_signal_keep a b f nexts k s i (Var x) e l h = ap (λ fs. signal_at fs x) (signals_keep a b s.begun e h.nets.begun)
 kept_signal_keep a b f nexts k s i (Held m n) e l h = e.kept (RegNet (reg_of s.regs i)) (h.registers.kept i l).there
 kept_signal_keep a b f nexts k s i (Ticket m) e l h = e.kept (RegNet (reg_of s.regs i)) (h.registers.kept i l).there

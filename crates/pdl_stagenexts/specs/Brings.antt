@@ -1,5 +1,5 @@
 -- What a thread that comes brings: that it is there, or an item.
-use Rattle.std.specs.Prelude.{◌≡◌, ℕ, ◌<◌, Bool, List, length, Option, Some, None, ⊤}
+use Rattle.std.specs.Prelude.{◌≡◌, ℕ, ◌<◌, List, length, Option, Some, None, ⊤}
 use Rattle.pdl_semantics.specs.Flat.{Pipe}
 use Rattle.pdl_form.specs.Form.{Form}
 use Rattle.pdl_formtypes.specs.Stmts.{param_widths}

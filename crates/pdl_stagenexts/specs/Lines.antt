@@ -1,5 +1,5 @@
 -- The stages of a line in a circuit.
-use Rattle.std.specs.Prelude.{◌≡◌, ℕ, ◌==◌, ◌<◌, ◌≤◌, Bool, List, length, slice_index_or, if◌then◌else◌}
+use Rattle.std.specs.Prelude.{◌≡◌, ℕ, ◌<◌, ◌≤◌, Bool, List, length, if◌then◌else◌}
 use Rattle.pdl_word.specs.Each.{Each}
 use Rattle.pdl_semantics.specs.Flat.{Pipe}
 use Rattle.pdl_form.specs.Form.{Form}

@@ -3,7 +3,7 @@ use Rattle.std.specs.Prelude.{◌≡◌, ℕ, suc, ◌+◌, ◌<◌, List, lengt
 use Rattle.pdl_kit.specs.declared.seq.Seq.{Seq}
 use Rattle.pdl_net.specs.declared.Net.{Net}
 use Rattle.pdl_net.specs.declared.Net.TheVariants.{Reg as RegNet}
-use Rattle.pdl_net.specs.Circuit.{Circuit, HasReg, reg_width}
+use Rattle.pdl_net.specs.Circuit.{Circuit, reg_width}
 use Rattle.pdl_net.specs.Signal.{Signal, mux_signal, reg_signal}
 use Rattle.pdl_net.specs.Meaning.{signal, IsThere, next_signal}
 use Rattle.pdl_net.specs.Growth.{Own}
@@ -69,7 +69,7 @@ pub record AllNexts (a c : Circuit) (x : Line) (nexts : List (Seq Net)) : Type 0
 
 -- nets that fit the registers of a stage, and those take them
 abbrev pub FitsRegs : Circuit → StageNets → List Net → Type 0
-FitsRegs c s nets = (i : ℕ) → i < length nets → HasReg c (s.regs.valid + i) × ((signal_at (signals_in c nets) i).width ≡ reg_width c (s.regs.valid + i))
+FitsRegs c s nets = (i : ℕ) → i < length nets → (s.regs.valid + i < length c.regs) × ((signal_at (signals_in c nets) i).width ≡ reg_width c (s.regs.valid + i))
 
 abbrev pub AreSet : Circuit → Circuit → StageNets → List Net → Type 0
 AreSet a c s nets = (i : ℕ) → i < length nets → next_signal c (s.regs.valid + i) ≡ signal_at (signals_in a nets) i

@@ -36,13 +36,7 @@ fn bit(b: &Builder, bits: Bits, on: bool) -> Net
 }
 
 // Whether the thread of a stage that forks goes to stage q, by the net of its condition.
-fn way(
-    b: &mut Builder,
-    bits: Bits,
-    choice: Net,
-    first: bool,
-    second: bool,
-) -> Result<Net, NoMemory>
+fn way(b: &mut Builder, bits: Bits, choice: Net, first: bool, second: bool) -> Result<Net, NoMemory>
     requires bits { AreBits b.old bits }
     requires there { IsThere b.old choice }
     requires one { (signal b.old choice).width ≡ 1 }

@@ -97,7 +97,15 @@ pub(crate) fn new_coming(
         let k = line.stages.len() - 1 - i;
         let s = stage_of(line, k);
         let moves = variable(b, line.moves, k);
-        net = picked_of(b, line.pipe, bits, s.end.births.as_slice(), moves, what, net)?;
+        net = picked_of(
+            b,
+            line.pipe,
+            bits,
+            s.end.births.as_slice(),
+            moves,
+            what,
+            net,
+        )?;
     }
     Ok(net)
 }

@@ -48,8 +48,11 @@ fn set_stage(b: &mut Builder, s: &StageNets, nets: &[Net])
     ensures set { AreSet b.old b.new s.now nets.now }
     ensures extends { ExtendsBut (regs_of s.now.regs.valid (end_of s.now.regs)) b.old b.new }
 {
+    let regs = b.reg_count();
     for i in 0..nets.len() {
-        b.next(s.regs.valid + i, net_at(nets, i));
+        let r = s.regs.valid + i;
+        prove!(r < regs);
+        b.next(r, net_at(nets, i));
     }
 }
 

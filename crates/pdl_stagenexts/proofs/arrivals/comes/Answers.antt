@@ -1,14 +1,10 @@
-use Rattle.std.proofs.Common.{◌≡◌, refl, sym, ap, ◌∙◌, ◌<◌, length, subst, arith, eq-eqb, ne_eqb}
-use Rattle.pdl_net.specs.Meaning.{signal}
+use Rattle.std.proofs.Common.{sym, ap, ◌∙◌, length, arith, eq-eqb, ne_eqb}
 use Rattle.pdl_net.specs.Signal.{Signal}
-use Rattle.pdl_net.specs.Growth.{Extends}
 use Rattle.pdl_pipe_law.specs.Walk.{is_on}
-use Rattle.pdl_pipe_law.specs.Views.{View}
 use Rattle.pdl_flatnets.specs.Nets.{signals_in, signal_at}
 use Rattle.pdl_flatnets.proofs.NetLists.{length_signals}
 use Rattle.pdl_stagenets.specs.Parts.{parts_in}
 use Rattle.pdl_stagenets.proofs.Kept.{var_count, var_width}
-use Rattle.pdl_stageregs.proofs.Lists.{view_at}
 use Rattle.pdl_stagenexts.specs.Lines.{line_form, line_pipe, line_views, line_moves}
 use Rattle.pdl_stagenexts.proofs.LinesKept.{bits_there, bit_one}
 use Rattle.pdl_stagenexts.proofs.Arriving.{fork_at, straight, elsewhere, nowhere}

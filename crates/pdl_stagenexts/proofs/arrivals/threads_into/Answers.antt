@@ -1,4 +1,4 @@
-use Rattle.std.proofs.Common.{◌≡◌, sym, ap, ◌∙◌, ◌<◌, ◌+◌, ◌++◌, ◌∷◌, [], length, take, get_or, subst, arith, refl}
+use Rattle.std.proofs.Common.{sym, ◌∙◌, ◌<◌, ◌+◌, ◌++◌, ◌∷◌, [], length, take, subst, arith, refl}
 use Rattle.std.proofs.lemmas.List.{take_more}
 use Rattle.std.specs.Prelude.{slice_index}
 use Rattle.pdl_net.proofs.Keeps.{extends_keeps, extends_trans}
@@ -41,14 +41,13 @@ loop-j-preserved c =
     let line = c.requires.line in
     let under : j < length x.stages.now =
     (let n = line.count in let l = c.requires.low in
-      let is = c.as_slice-j-items.ensures.value ∙ c.in_ok-ways.ensures in
-      let all = subst (Each (λ k. k < length x.stages.now)) (sym is) (each_way p q (λ k. k < length x.stages.now) (λ k m. omega (arith, m, l, n))) in
-      each_in (λ k. k < length x.stages.now) js i 0 low all) in
+    let is = c.as_slice-j-items.ensures.value ∙ c.in_ok-ways.ensures in
+    let all = subst (Each (λ k. k < length x.stages.now)) (sym is) (each_way p q (λ k. k < length x.stages.now) (λ k m. omega (arith, m, l, n))) in
+    each_in (λ k. k < length x.stages.now) js i 0 low all) in
     let now = comes_as d p (line_views b x) (line_views a x) (line_moves b x) (line_moves a x) q j c.in_ok-net.net (ended_same a b x e line j under) (moves_same a b x e line j) c.in_ok-net.ensures.arrives in
     let old = arrivals_keep b d p (line_views a x) (line_moves a x) q (take i js) c.loop-j.list (extends_keeps b d c.comes.ensures.extends) c.loop-j.invariant.2 in
     let new : Arrival = record { from = j; comes = c.in_ok-net.net } in
-    let more = arrivals_push d p (line_views a x) (line_moves a x) q (take i js) c.loop-j.list j new old record { from = refl; comes = now } in
-    (
+    let more = arrivals_push d p (line_views a x) (line_moves a x) q (take i js) c.loop-j.list j new old record { from = refl; comes = now } in (
       extends_trans a b d c.loop-j.invariant.0 c.comes.ensures.extends,
       c.comes.ensures.regs ∙ c.loop-j.invariant.1,
       subst (λ ys. AreArrivals d p (line_views a x) (line_moves a x) q (take (i + 1) js) ys) (sym c.in_ok-push.ensures.ok)

@@ -1,9 +1,7 @@
-use Rattle.std.proofs.Common.{◌≡◌, ◌+◌, ◌-◌, ◌<◌, List, map, length, get_or, refl, sym, ap, ap₂, ◌∙◌, subst, arith}
+use Rattle.std.proofs.Common.{◌≡◌, ◌+◌, ◌-◌, ◌<◌, List, map, length, get_or, refl, sym, ap, ◌∙◌, subst, arith}
 use Rattle.pdl_net.specs.Signal.{Signal}
-use Rattle.pdl_net.specs.Meaning.{signal, IsThere}
+use Rattle.pdl_net.specs.Meaning.{signal}
 use Rattle.pdl_net.proofs.Keeps.{extends_keeps, extends_trans}
-use Rattle.pdl_flatnets.specs.Nets.{NetsThere, signals_in, signal_at}
-use Rattle.pdl_flatnets.proofs.NetLists.{signals_keep, there_keeps}
 use Rattle.pdl_pipe_law.specs.Walk.{Birth}
 use Rattle.pdl_pipe_law.specs.Views.{View, new_by, first_coming}
 use Rattle.pdl_stagenets.specs.declared.nets.BirthNet.{BirthNet}

@@ -1,4 +1,4 @@
-use Rattle.std.proofs.Common.{◌≡◌, sym, ap, ◌∙◌, ◌<◌, length, subst, arith}
+use Rattle.std.proofs.Common.{sym, ap, ◌∙◌, subst}
 use Rattle.pdl_net.specs.Signal.{Signal}
 use Rattle.pdl_flatnets.specs.Nets.{signals_in}
 use Rattle.pdl_stageregs.proofs.Settling.{ended_width}

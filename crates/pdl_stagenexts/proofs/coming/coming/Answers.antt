@@ -3,16 +3,14 @@ use Rattle.std.proofs.lemmas.List.{drop_all}
 use Rattle.std.specs.Prelude.{slice_index}
 use Rattle.pdl_machine_facts.specs.Slots.{ways}
 use Rattle.pdl_net.specs.Signal.{Signal}
-use Rattle.pdl_net.specs.Meaning.{signal, IsThere}
+use Rattle.pdl_net.specs.Meaning.{signal}
 use Rattle.pdl_net.proofs.Keeps.{extends_keeps, extends_trans}
-use Rattle.pdl_flatnets.specs.Nets.{signals_in}
 use Rattle.pdl_pipe_law.specs.Views.{first_coming}
 use Rattle.pdl_stageregs.proofs.Begins.{each_way, next_keep}
 use Rattle.pdl_stagenets.proofs.Lists.{each_at as each_in}
 use Rattle.pdl_stagenexts.specs.Lines.{line_form, line_pipe, line_views, line_moves}
 use Rattle.pdl_stagenexts.specs.Brings.{brought_width, brought_signal}
 use Rattle.pdl_stagenexts.proofs.LinesKept.{line_keep, ended_same, tickets_same}
-use Rattle.pdl_stagenexts.proofs.Arriving.{arrivals_keep}
 use Rattle.pdl_stagenexts.proofs.Bringing.{arrivals_count, arrival_nth, out_as, way_more}
 use Rattle.pdl_stagenexts.proofs.coming.coming.Goals as goal
 

@@ -1,14 +1,11 @@
-use Rattle.std.proofs.Common.{◌≡◌, ◌+◌, ◌<◌, ◌++◌, ◌∷◌, [], length, refl, sym, ap, ◌∙◌, subst, arith}
+use Rattle.std.proofs.Common.{◌≡◌, ◌+◌, ◌<◌, ◌++◌, ◌∷◌, [], length, sym, ap, ◌∙◌, subst, arith}
 use Rattle.std.specs.Prelude.{Some}
 use Rattle.pdl_machine_facts.specs.Slots.{ways}
 use Rattle.pdl_net.specs.Signal.{Signal}
 use Rattle.pdl_net.specs.Meaning.{signal}
-use Rattle.pdl_net.specs.Growth.{Keeps}
 use Rattle.pdl_net.proofs.Keeps.{extends_keeps, extends_trans, keeps_trans}
-use Rattle.pdl_flatnets.specs.Nets.{NetsThere, signals_in}
-use Rattle.pdl_stageregs.specs.declared.nets.StageNets.{StageNets}
+use Rattle.pdl_flatnets.specs.Nets.{signals_in}
 use Rattle.pdl_stageregs.specs.Items.{item_at}
-use Rattle.pdl_stageregs.specs.Stages.{IsAt}
 use Rattle.pdl_stagenexts.specs.Lines.{ValueAs, line_form, line_pipe, line_views, line_moves}
 use Rattle.pdl_stagenexts.specs.Arrivals.{AreArrivals}
 use Rattle.pdl_stagenexts.specs.Brings.{IsBrought, IsArgument, brought_width}
@@ -63,8 +60,7 @@ loop-i-init c =
     let means = c.in_ok-stays.ensures.means s (sym c.stage_of-s.ensures) in
     let db = extends_keeps b d c.staying.ensures.extends in
     let rest : signal d stays ≡ staying d x k s = means.same ∙ sym (staying_same b d x db line_b k s) in
-    let first = nexts_first a d z x k s stays valid (extends_keeps a d ad) c.requires.line c.in_ok-valid.ensures.there (c.in_ok-valid.ensures.wide ∙ c.in_ok-stays.ensures.wide) rest c.in_ok-valid.ensures.value in
-    (
+    let first = nexts_first a d z x k s stays valid (extends_keeps a d ad) c.requires.line c.in_ok-valid.ensures.there (c.in_ok-valid.ensures.wide ∙ c.in_ok-stays.ensures.wide) rest c.in_ok-valid.ensures.value in (
       extends_trans a d z ad c.coming.ensures.extends,
       c.coming.ensures.regs ∙ c.staying.ensures.regs ∙ c.threads_into.ensures.regs,
       subst (λ xs. AreArrivals z p (line_views a x) (line_moves a x) k (ways p k) xs) (sym c.as_slice-arrivals.ensures) list,
@@ -185,8 +181,7 @@ loop-i-preserved c =
     let now = c.requires.line.stages k s (omega (arith, l, n)) (sym c.stage_of-s.ensures) in
     let is = c.item_of.ensures ∙ ap (λ ys. item_at ys c.loop-i.i) c.as_slice.ensures in
     let value = subst (λ j. ValueAs (signal d c.in_ok-net.net) (arriving b x k (Some j) (signal b c.kept-rest.result))) is c.in_ok-net.ensures.value in
-    let more = nexts_more a b d x k s c.loop-i.nets c.loop-i.i c.kept-rest.result c.in_ok-net.net e bd c.requires.line now low c.kept-rest.ensures.same c.in_ok-net.ensures.there c.in_ok-net.ensures.wide value c.loop-i.invariant.3 in
-    (
+    let more = nexts_more a b d x k s c.loop-i.nets c.loop-i.i c.kept-rest.result c.in_ok-net.net e bd c.requires.line now low c.kept-rest.ensures.same c.in_ok-net.ensures.there c.in_ok-net.ensures.wide value c.loop-i.invariant.3 in (
       extends_trans a b d c.loop-i.invariant.0 c.coming-in-loop-i.ensures.extends,
       c.coming-in-loop-i.ensures.regs ∙ c.loop-i.invariant.1,
       arrivals_keep b d p (line_views a x) (line_moves a x) k (ways p k) c.as_slice-arrivals.result.now bd c.loop-i.invariant.2,

@@ -1,4 +1,4 @@
-use Rattle.std.proofs.Common.{◌≡◌, ap, ◌∙◌, length, arith}
+use Rattle.std.proofs.Common.{ap, ◌∙◌, arith}
 use Rattle.pdl_net.specs.Signal.{Signal}
 use Rattle.pdl_stagenexts.proofs.LinesKept.{bits_there, bit_one}
 use Rattle.pdl_stagenexts.proofs.nexts.staying.Goals as goal
