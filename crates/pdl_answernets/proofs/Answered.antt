@@ -1,6 +1,6 @@
 -- What the ports of delayed memories answer, memory by memory, while the circuit grows.
-use Rattle.std.proofs.Common.{◌≡◌, refl, sym, ap, ap₂, ◌∙◌, subst, ℕ, zero, suc, ◌+◌, ◌-◌, ◌<◌, ◌≤◌, ◌==◌, Bool, true, false, ◌&&◌, ◌||◌, List, [], ◌∷◌, length, arith}
-use Rattle.std.specs.Prelude.{Option, Some, None, is_some, if◌then◌else◌}
+use Rattle.std.proofs.Common.{◌≡◌, refl, sym, ap, ap₂, ◌∙◌, ℕ, zero, suc, ◌+◌, ◌-◌, ◌<◌, ◌==◌, Bool, true, false, ◌&&◌, ◌||◌, List, length, arith}
+use Rattle.std.specs.Prelude.{Option, Some, None, if◌then◌else◌}
 use Rattle.std.proofs.lemmas.Bool.{false≢true}
 use Rattle.pdl_semantics.specs.Flat as flat
 use Rattle.pdl_semantics.specs.Flat.{Next, Pipe}
@@ -8,7 +8,6 @@ use Rattle.pdl_semantics.specs.Stages.{mem_at, stage_at}
 use Rattle.pdl_machine_facts.specs.Slots.{leads_to}
 use Rattle.pdl_net.specs.Circuit.{Circuit}
 use Rattle.pdl_net.specs.Signal.{Signal, mux_signal}
-use Rattle.pdl_net.specs.Meaning.{signal}
 use Rattle.pdl_net.specs.Growth.{Keeps}
 use Rattle.pdl_port.specs.declared.PortRegs.{PortRegs}
 use Rattle.pdl_port.specs.Laws.{AnswerSignals, HasAnswerNets, answer_at, answer_signals, places as port_places}
@@ -89,7 +88,7 @@ module _ (a b : Circuit) (e : Keeps a b) where
   answers_keep p ports h = record { count = h.count; each = λ m r is. port_keep p m r (port_at ports m) (h.each m r is) }
 
   -- what each place is told is what it was
-  at_place : (w : ℕ) (r : PortRegs) (i : ℕ) → i < port_places r → HasAnswerNets a w r → answer_signals b r i ≡ answer_signals a r i
+  pub at_place : (w : ℕ) (r : PortRegs) (i : ℕ) → i < port_places r → HasAnswerNets a w r → answer_signals b r i ≡ answer_signals a r i
   at_place w r i l h =
       ap₂ (λ (f : Signal) (g : Signal × Signal). (let z : AnswerSignals = record { answered = f; given = g.0; value = g.1 } in z)) (e.kept (answer_at r i).answered (h.answered_there i l))
       (ap₂ (λ (f g : Signal). (f, g)) (e.kept (answer_at r i).given (h.given_there i l)) (e.kept (answer_at r i).value (h.value_there i l)))

@@ -2,11 +2,13 @@
 use Rattle.std.specs.Prelude.{◌≡◌, ℕ, Bool, List, length, slice_index_or, Option, Some, None, if◌then◌else◌}
 use Rattle.pdl_semantics.specs.Flat.{Pipe}
 use Rattle.pdl_semantics.specs.Stages.{mem_at}
+use Rattle.pdl_net.specs.declared.Net.{Net}
 use Rattle.pdl_net.specs.Circuit.{Circuit, State}
+use Rattle.pdl_net.specs.Meaning.{signal, IsThere}
 use Rattle.pdl_net.specs.Signal.{Signal, no_signal, mux_signal}
 use Rattle.pdl_port.specs.declared.PortRegs.{PortRegs}
 use Rattle.pdl_port.specs.Laws.{AnswerSignals, HasAnswerNets, answer_signals, places as port_places}
-use Rattle.pdl_pipe_law.specs.Walk.{is_on}
+use Rattle.pdl_pipe_law.specs.Walk.{both, is_on}
 use Rattle.pdl_inflight.specs.Readings.{Reading, reading, places}
 
 -- two signals are 1 in the same states
@@ -41,3 +43,16 @@ answer_where here a rest = if here then mux_signal a.given a.value rest else res
 -- where the delayed read of memory m binds x, the memory's words have this width
 abbrev pub BindsWide : Pipe → ℕ → ℕ → ℕ → Type 0
 BindsWide p x w m = (r : Reading) → reading p m ≡ Some r → r.var ≡ x → (mem_at p m).width ≡ w
+
+-- a net of 1 bit, and one that is 1 where this signal is
+abbrev pub IsBit : Circuit → Net → Type 0
+IsBit c x = IsThere c x × ((signal c x).width ≡ 1)
+
+pub record IsBitFor (c : Circuit) (x : Net) (f : Signal) : Type 0 where
+  pub there : IsThere c x
+  pub one : (signal c x).width ≡ 1
+  pub on : IsOnAs (signal c x) f
+
+-- where this is true both are 1, else the rest
+abbrev pub answered_where : Bool → AnswerSignals → Signal → Signal
+answered_where here a rest = if here then both a.answered rest else rest

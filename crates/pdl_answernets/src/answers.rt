@@ -17,7 +17,7 @@ use pdl_net::Net;
 use pdl_port::{Answer, PortRegs};
 
 // What a port tells of a place.
-fn answer_of(port: &PortRegs, i: usize) -> Answer
+pub(crate) fn answer_of(port: &PortRegs, i: usize) -> Answer
     requires { i < port_places port.now }
     ensures { result ≡ answer_at port.now i }
 {
@@ -77,7 +77,7 @@ fn place_answer(
 }
 
 // The port of a memory that has one.
-fn port_of(ports: &[Option<PortRegs>], m: usize) -> &PortRegs
+pub(crate) fn port_of(ports: &[Option<PortRegs>], m: usize) -> &PortRegs
     requires low { m < length ports.now }
     requires some { is_some (port_at ports.now m) ≡ true }
     ensures { port_at ports.now m ≡ Some result.now }

@@ -1,4 +1,4 @@
-use Rattle.std.proofs.Common.{◌≡◌, ◌<◌, ◌-◌, ◌+◌, refl, sym, ap, ◌∙◌, length, arith, rules}
+use Rattle.std.proofs.Common.{◌≡◌, ◌<◌, ◌-◌, sym, ap, ◌∙◌, length, arith}
 use Rattle.std.proofs.lemmas.List.{length-map}
 use Rattle.pdl_form.specs.Whole.{form}
 use Rattle.pdl_form.specs.View.{mem_view}
@@ -7,7 +7,7 @@ use Rattle.pdl_net.proofs.Keeps.{extends_keeps, extends_trans}
 use Rattle.pdl_inflight.specs.Readings.{reading}
 use Rattle.pdl_sides.specs.Sides.{memory_answer}
 use Rattle.pdl_answernets.specs.Ports.{answers_in}
-use Rattle.pdl_answernets.proofs.Answered.{answer_more, memory_same, answers_keep}
+use Rattle.pdl_answernets.proofs.Answered.{answer_more, memory_same}
 use Rattle.pdl_answernets.proofs.answers.with_answers.Goals as goal
 
 pub loop-i-preserved : goal.loop-i-preserved
