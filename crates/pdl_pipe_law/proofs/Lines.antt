@@ -32,16 +32,16 @@ use Rattle.pdl_pipe_law.proofs.LinesColumns.{AreFound, declared_found, locked_in
 use Rattle.pdl_rules.specs.Memories.{info_of}
 
 -- functions that are the same at each element
-map_same : {X Y : Type 0} (f g : X → Y) → ((x : X) → f x ≡ g x) → (xs : List X) → map f xs ≡ map g xs
+pub map_same : {X Y : Type 0} (f g : X → Y) → ((x : X) → f x ≡ g x) → (xs : List X) → map f xs ≡ map g xs
 map_same f g h [] = refl
 map_same f g h (x ∷ xs) = ap₂ (λ y ys. y ∷ ys) (h x) (map_same f g h xs)
 
-bit_one : (b : Bool) → (bit b == 1) ≡ b
+pub bit_one : (b : Bool) → (bit b == 1) ≡ b
 bit_one true = refl
 bit_one false = refl
 
 -- of a list that ends in two numbers the last but one, and the last
-last_two : (xs : List ℕ) (a b n : ℕ) → length (xs ++ a ∷ b ∷ []) ≡ n → (slice_index (xs ++ a ∷ b ∷ []) (n - 2) ≡ a) × (slice_index (xs ++ a ∷ b ∷ []) (n - 1) ≡ b)
+pub last_two : (xs : List ℕ) (a b n : ℕ) → length (xs ++ a ∷ b ∷ []) ≡ n → (slice_index (xs ++ a ∷ b ∷ []) (n - 2) ≡ a) × (slice_index (xs ++ a ∷ b ∷ []) (n - 1) ≡ b)
 last_two xs a b n e =
     let long : length (xs ++ a ∷ b ∷ []) ≡ length xs + 2 = length-append xs (a ∷ b ∷ []) in
     let more : length (xs ++ a ∷ []) ≡ length xs + 1 = length-append xs (a ∷ []) in (
@@ -50,7 +50,7 @@ last_two xs a b n e =
     )
 
 -- a cycle by its parts
-abbrev cycle : List (List Put) → Bool → Bool → Bool → Cycle
+abbrev pub cycle : List (List Put) → Bool → Bool → Bool → Cycle
 cycle puts ended wait squash = record { puts = puts; ended = ended; wait = wait; squash = squash }
 
 -- which memories are shown changes no count that doesn't ask them

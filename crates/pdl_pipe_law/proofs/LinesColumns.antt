@@ -50,20 +50,20 @@ other_port [] port h = refl
 other_port (m ∷ ms) port h = ap (λ b. if b then Some m else commit_mem ms port) (h m.name) ∙ other_port ms port h
 
 -- those among these names
-abbrev with_port : List MemInfo → List (List ℕ) → List MemInfo
+abbrev pub with_port : List MemInfo → List (List ℕ) → List MemInfo
 with_port infos names = filter_map (commit_mem infos) names
 
-skipped : (infos : List MemInfo) (port : List ℕ) (names : List (List ℕ)) → ((x : List ℕ) → bytes_eq port (codes "c_" ++ x) ≡ false) → with_port infos (port ∷ names) ≡ with_port infos names
+pub skipped : (infos : List MemInfo) (port : List ℕ) (names : List (List ℕ)) → ((x : List ℕ) → bytes_eq port (codes "c_" ++ x) ≡ false) → with_port infos (port ∷ names) ≡ with_port infos names
 skipped infos port names h = ap (λ o. cons_option o (with_port infos names)) (other_port infos port h)
 
-none_of_stages : (infos : List MemInfo) (k n : ℕ) (names : List (List ℕ)) → with_port infos (stage_names k n names) ≡ with_port infos names
+pub none_of_stages : (infos : List MemInfo) (k n : ℕ) (names : List (List ℕ)) → with_port infos (stage_names k n names) ≡ with_port infos names
 none_of_stages infos k zero names = refl
 none_of_stages infos k (suc n) names =
     skipped infos (codes "v_" ++ decimal k) ((codes "g_" ++ decimal k) ∷ stage_names (suc k) n names) (λ x. refl)
     ∙ skipped infos (codes "g_" ++ decimal k) (stage_names (suc k) n names) (λ x. refl)
     ∙ none_of_stages infos (suc k) n names
 
-one_of_locked : (infos : List MemInfo) (x : List ℕ) (i : MemInfo) (names : List (List ℕ)) → commit_mem infos (codes "c_" ++ x) ≡ Some i
+pub one_of_locked : (infos : List MemInfo) (x : List ℕ) (i : MemInfo) (names : List (List ℕ)) → commit_mem infos (codes "c_" ++ x) ≡ Some i
     → with_port infos ((codes "c_" ++ x) ∷ (codes "ca_" ++ x) ∷ (codes "cd_" ++ x) ∷ names) ≡ i ∷ with_port infos names
 one_of_locked infos x i names e =
     ap (λ o. cons_option o (with_port infos ((codes "ca_" ++ x) ∷ (codes "cd_" ++ x) ∷ names))) e
@@ -78,7 +78,7 @@ all_of_locked infos (m ∷ ms) h = go (is_some m.lock) (all_of_locked infos ms (
     go true rest = one_of_locked infos m.name.name (info_of m) (commit_names (locked_of ms)) (h m (inl refl)) ∙ ap (λ l. info_of m ∷ l) rest
     go false rest = rest
 
-by_names : (infos : List MemInfo) (outs : List Output) → filter_map (λ (o : Output). commit_mem infos o.name) outs ≡ with_port infos (map name_of_output outs)
+pub by_names : (infos : List MemInfo) (outs : List Output) → filter_map (λ (o : Output). commit_mem infos o.name) outs ≡ with_port infos (map name_of_output outs)
 by_names infos [] = refl
 by_names infos (o ∷ outs) = ap (cons_option (commit_mem infos o.name)) (by_names infos outs)
 

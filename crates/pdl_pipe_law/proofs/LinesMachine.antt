@@ -29,11 +29,11 @@ abbrev pub AllShaped : Flat.Pipe → List Turn → Type 0
 AllShaped q [] = ⊤
 AllShaped q (t ∷ ts) = IsShaped q t.ports × AllShaped q ts
 
-stages_long : {X : Type 0} (f : ℕ → X) (k : ℕ) (xs : List Flat.Stage) → length (for_stages f k xs) ≡ length xs
+pub stages_long : {X : Type 0} (f : ℕ → X) (k : ℕ) (xs : List Flat.Stage) → length (for_stages f k xs) ≡ length xs
 stages_long f k [] = refl
 stages_long f k (x ∷ xs) = ap suc (stages_long f (suc k) xs)
 
-commits_from : (f : ℕ → Option PortWrite) (k : ℕ) (ms : List Flat.Mem) → ((i : ℕ) → has_lock (slice_index_or ms i plain_mem).lock ≡ false → f (k + i) ≡ None) → AreCommits ms (for_mems f k ms)
+pub commits_from : (f : ℕ → Option PortWrite) (k : ℕ) (ms : List Flat.Mem) → ((i : ℕ) → has_lock (slice_index_or ms i plain_mem).lock ≡ false → f (k + i) ≡ None) → AreCommits ms (for_mems f k ms)
 commits_from f k [] h = tt
 commits_from f k (m ∷ ms) h = (
   λ e. let here : k ≡ k + 0 = omega arith in ap f here ∙ h 0 e,
@@ -41,7 +41,7 @@ commits_from f k (m ∷ ms) h = (
 )
 
 -- a cycle has such ports
-shaped : (q : Flat.Pipe) (st : State) (bits : List Bool) → IsByStages q st bits → IsInUse q st bits → IsShaped q (ports_of q st bits)
+pub shaped : (q : Flat.Pipe) (st : State) (bits : List Bool) → IsByStages q st bits → IsInUse q st bits → IsShaped q (ports_of q st bits)
 shaped q st bits by used = record {
   valid = stages_long _ 0 q.stages;
   moves = stages_long _ 0 q.stages;

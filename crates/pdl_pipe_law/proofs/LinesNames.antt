@@ -78,7 +78,7 @@ some_commits : (ls : List PortMem) → 2 ≤ length (commit_names ls)
 some_commits [] = omega arith
 some_commits (l ∷ ls) = let e = some_commits ls in omega arith
 
-some_stages : (k n : ℕ) (rest : List (List ℕ)) → length rest ≤ length (stage_names k n rest)
+pub some_stages : (k n : ℕ) (rest : List (List ℕ)) → length rest ≤ length (stage_names k n rest)
 some_stages k zero rest = omega arith
 some_stages k (suc n) rest = let e = some_stages (suc k) n rest in omega arith
 

@@ -90,10 +90,10 @@ word_of None = 0
 word_of (Some e) = e.value
 
 -- the values of its ports, if it has a lock
-abbrev commit_if : Bool → Option PortWrite → List ℕ
+abbrev pub commit_if : Bool → Option PortWrite → List ℕ
 commit_if b e = if b then flag_of e ∷ addr_of e ∷ word_of e ∷ [] else []
 
-commit_is : (l : Option LockDecl) (e : Option PortWrite) → commit_values (flat_lock l) e ≡ commit_if (is_some l) e
+pub commit_is : (l : Option LockDecl) (e : Option PortWrite) → commit_values (flat_lock l) e ≡ commit_if (is_some l) e
 commit_is l e = ap (λ (b : Bool). if b then shown_values e else []) (lock_declared l) ∙ at (is_some l) e
   where
     at : (b : Bool) (w : Option PortWrite) → (if b then shown_values w else []) ≡ commit_if b w
@@ -106,11 +106,11 @@ abbrev pub found : List Mem → List (Option PortWrite) → List ℕ → Option 
 found (m ∷ ms) (e ∷ es) x = if bytes_eq m.name.name x && is_some m.lock then e else found ms es x
 found _ _ x = None
 
-if_both : (g : Option PortWrite → ℕ) (t : Bool) (e rest : Option PortWrite) → (if t then g e else g rest) ≡ g (if t && true then e else rest)
+pub if_both : (g : Option PortWrite → ℕ) (t : Bool) (e rest : Option PortWrite) → (if t then g e else g rest) ≡ g (if t && true then e else rest)
 if_both g true e rest = refl
 if_both g false e rest = refl
 
-if_none : (g : Option PortWrite → ℕ) (t : Bool) (e rest : Option PortWrite) → g rest ≡ g (if t && false then e else rest)
+pub if_none : (g : Option PortWrite → ℕ) (t : Bool) (e rest : Option PortWrite) → g rest ≡ g (if t && false then e else rest)
 if_none g true e rest = refl
 if_none g false e rest = refl
 

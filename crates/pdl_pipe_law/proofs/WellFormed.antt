@@ -24,10 +24,10 @@ use Rattle.pdl_rules.specs.Memories.{info_of}
 -- ---- memories
 
 -- the name of an array
-abbrev name_of_array : Array → List ℕ
+abbrev pub name_of_array : Array → List ℕ
 name_of_array a = a.name
 
-array_names_are : (ars : List Array) (ms : List Mem) → map shape_of ars ≡ map shape_of_mem ms → map name_of_array ars ≡ map name_of_mem ms
+pub array_names_are : (ars : List Array) (ms : List Mem) → map shape_of ars ≡ map shape_of_mem ms → map name_of_array ars ≡ map name_of_mem ms
 array_names_are [] [] e = refl
 array_names_are [] (m ∷ ms) e = absurd (cc e)
 array_names_are (a ∷ ars) [] e = absurd (cc e)

@@ -63,7 +63,7 @@ mem_array (a ∷ ars) (x ∷ xs) e m (inr h) d =
 
 -- ---- writes
 
-no_write : (c : Circuit) (ws : List WritePort) → map (write_signal c) ws ≡ [] → ws ≡ []
+pub no_write : (c : Circuit) (ws : List WritePort) → map (write_signal c) ws ≡ [] → ws ≡ []
 no_write c [] e = refl
 no_write c (w ∷ ws) e = absurd (cc e)
 
@@ -100,7 +100,7 @@ locked_rec P (m ∷ ms) h = go (is_some m.lock) (h m (inl refl)) (locked_rec P m
 pub locked_all : (P : PortMem → Type 0) (ms : List Mem) → ((m : Mem) → Among m ms → P (port_mem m)) → All P (locked_of ms)
 locked_all P ms h = All-from_recursion P (locked_of ms) (locked_rec P ms h)
 
-locked_at : (P : PortMem → Type 0) (ms : List Mem) (m : Mem) → Among m ms → is_some m.lock ≡ true → AllByRecursion P (locked_of ms) → P (port_mem m)
+pub locked_at : (P : PortMem → Type 0) (ms : List Mem) (m : Mem) → Among m ms → is_some m.lock ≡ true → AllByRecursion P (locked_of ms) → P (port_mem m)
 locked_at P [] m a e h = absurd a
 locked_at P (x ∷ xs) m (inl s) e h = subst (λ (y : Mem). P (port_mem y)) s (go (is_some x.lock) (ap (λ (y : Mem). is_some y.lock) s ∙ e) h)
   where
@@ -114,7 +114,7 @@ locked_at P (x ∷ xs) m (inr a) e h = locked_at P xs m a e (go (is_some x.lock)
     go false g = g
 
 -- a memory without lock has an array of its own words
-shallow : (l : Option LockDecl) (d : ℕ) → is_some l ≡ false → array_words l d ≡ d
+pub shallow : (l : Option LockDecl) (d : ℕ) → is_some l ≡ false → array_words l d ≡ d
 shallow None d e = refl
 shallow (Some l) d e = absurd (false≢true (sym e))
 
@@ -153,13 +153,13 @@ pipe_array ms k a m distinct reach size free h = record {
 -- ---- memories as later steps are told them
 
 -- a memory as it is told, by its fields
-abbrev info_with : List ℕ → ℕ → ℕ → Bool → MemInfo
+abbrev pub info_with : List ℕ → ℕ → ℕ → Bool → MemInfo
 info_with x w d s = record { name = x; width = w; depth = d; delayed = s }
 
-info_same : (x y : List ℕ) (a b c d : ℕ) (s t : Bool) → x ≡ y → a ≡ b → c ≡ d → s ≡ t → info_with x a c s ≡ info_with y b d t
+pub info_same : (x y : List ℕ) (a b c d : ℕ) (s t : Bool) → x ≡ y → a ≡ b → c ≡ d → s ≡ t → info_with x a c s ≡ info_with y b d t
 info_same x y a b c d s t e f g h = cc
 
-info_if : (b : Bool) (a : Array) (m : Mem) → is_some m.lock ≡ b → shape_of a ≡ shape_of_mem m → Reaches m → m.delayed ≡ false → info_of m ≡ comb_info a (if b then Some (port_mem m) else None)
+pub info_if : (b : Bool) (a : Array) (m : Mem) → is_some m.lock ≡ b → shape_of a ≡ shape_of_mem m → Reaches m → m.delayed ≡ false → info_of m ≡ comb_info a (if b then Some (port_mem m) else None)
 info_if true a m l e r d = info_same m.name.name a.name m.width.value m.width.value m.depth.value _ m.delayed false (sym (ap (λ (s : Shape). s.name) e)) refl (sym r) d
 info_if false a m l e r d = info_same m.name.name a.name m.width.value a.width m.depth.value a.depth m.delayed false (sym (ap (λ (s : Shape). s.name) e)) (sym (ap (λ (s : Shape). s.width) e)) (sym (ap (λ (s : Shape). s.depth) e ∙ shallow m.lock m.depth.value l)) d
 

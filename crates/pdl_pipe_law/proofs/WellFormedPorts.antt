@@ -67,7 +67,7 @@ heads_of c (o ∷ outs) = ap (λ l. head_shown (shown_in c o) ∷ l) (heads_of c
 -- ---- stages
 
 -- the outputs of the stages are their ports
-stages_heads : (vs : ℕ → View) (gates : Gates) (moves : ℕ → Signal) (total n k : ℕ) → k + n ≡ total → AreBitsWide vs gates moves total → map head_shown (stages_shown vs moves n k) ≡ flat_map stage_ports (range_with_len k n)
+pub stages_heads : (vs : ℕ → View) (gates : Gates) (moves : ℕ → Signal) (total n k : ℕ) → k + n ≡ total → AreBitsWide vs gates moves total → map head_shown (stages_shown vs moves n k) ≡ flat_map stage_ports (range_with_len k n)
 stages_heads vs gates moves total zero k e h = refl
 stages_heads vs gates moves total (suc n) k e h =
     let next : suc k ≡ k + 1 = omega arith in
@@ -87,7 +87,7 @@ commit_heads_if : (b : Bool) (xs : List Shown) (l : PortMem) (rest : List Shown)
 commit_heads_if true xs l rest ls e f = map-append head_shown xs rest ∙ ap₂ (λ a b. a ++ b) (e refl) f
 commit_heads_if false xs l rest ls e f = f
 
-commit_heads : (names : ℕ → List ℕ) (commits : ℕ → Commit) (k : ℕ) (ms : List Mem) → ((i : ℕ) → i < length ms → names (k + i) ≡ mem_names ms i) → ((m : Mem) → Among m ms → Reaches m) → CommitsFit commits k ms → map head_shown (commits_shown names commits k (mems_of ms)) ≡ flat_map commit_ports (locked_of ms)
+pub commit_heads : (names : ℕ → List ℕ) (commits : ℕ → Commit) (k : ℕ) (ms : List Mem) → ((i : ℕ) → i < length ms → names (k + i) ≡ mem_names ms i) → ((m : Mem) → Among m ms → Reaches m) → CommitsFit commits k ms → map head_shown (commits_shown names commits k (mems_of ms)) ≡ flat_map commit_ports (locked_of ms)
 commit_heads names commits k [] f r h = refl
 commit_heads names commits k (x ∷ xs) f r h =
     let here : names k ≡ x.name.name = ap names (let z : k ≡ k + 0 = omega arith in z) ∙ f 0 (omega arith) in
@@ -98,7 +98,7 @@ commit_heads names commits k (x ∷ xs) f r h =
     (commit_heads names commits (suc k) xs (λ i l. ap names (let z : suc k + i ≡ k + suc i = omega arith in z) ∙ f (suc i) (omega (arith, l))) (λ m a. r m (inr a)) h.1)
 
 -- the last two ports
-abbrev last_heads : List Head
+abbrev pub last_heads : List Head
 last_heads = output (codes "ended") 1 ∷ output (codes "squash") 1 ∷ []
 
 -- the ports of a pipe without delayed memories
@@ -129,14 +129,14 @@ commit_names [] = codes "ended" ∷ codes "squash" ∷ []
 commit_names (l ∷ ls) = (codes "c_" ++ l.name) ∷ (codes "ca_" ++ l.name) ∷ (codes "cd_" ++ l.name) ∷ commit_names ls
 
 -- the name of a port
-abbrev name_of_head : Head → List ℕ
+abbrev pub name_of_head : Head → List ℕ
 name_of_head h = h.name
 
 commit_names_are : (ls : List PortMem) → map name_of_head (flat_map commit_ports ls ++ last_heads) ≡ commit_names ls
 commit_names_are [] = refl
 commit_names_are (l ∷ ls) = ap (λ n. (codes "c_" ++ l.name) ∷ (codes "ca_" ++ l.name) ∷ (codes "cd_" ++ l.name) ∷ n) (commit_names_are ls)
 
-names_of_heads : (ps : List Port) → map (λ (p : Port). p.name) ps ≡ map name_of_head (map head_of ps)
+pub names_of_heads : (ps : List Port) → map (λ (p : Port). p.name) ps ≡ map name_of_head (map head_of ps)
 names_of_heads [] = refl
 names_of_heads (p ∷ ps) = ap (λ l. p.name ∷ l) (names_of_heads ps)
 
@@ -145,7 +145,7 @@ abbrev pub stage_names : ℕ → ℕ → List (List ℕ) → List (List ℕ)
 stage_names k zero rest = rest
 stage_names k (suc n) rest = (codes "v_" ++ decimal k) ∷ (codes "g_" ++ decimal k) ∷ stage_names (suc k) n rest
 
-stage_names_are : (k n : ℕ) (hs : List Head) → map name_of_head (flat_map stage_ports (range_with_len k n) ++ hs) ≡ stage_names k n (map name_of_head hs)
+pub stage_names_are : (k n : ℕ) (hs : List Head) → map name_of_head (flat_map stage_ports (range_with_len k n) ++ hs) ≡ stage_names k n (map name_of_head hs)
 stage_names_are k zero hs = refl
 stage_names_are k (suc n) hs =
     let next : k + 1 ≡ suc k = omega arith in
@@ -160,10 +160,10 @@ names_are ps k locked e =
     ∙ ap (stage_names 0 k) (commit_names_are locked)
 
 -- a name that begins with other letters is no port's of these memories
-heads_apart : (a b : ℕ) (x y : List ℕ) → a ≢ b → a ∷ x ≢ b ∷ y
+pub heads_apart : (a b : ℕ) (x y : List ℕ) → a ≢ b → a ∷ x ≢ b ∷ y
 heads_apart a b x y d e = d (cc e)
 
-tails_apart : (a : ℕ) (x y : List ℕ) → x ≢ y → a ∷ x ≢ a ∷ y
+pub tails_apart : (a : ℕ) (x y : List ℕ) → x ≢ y → a ∷ x ≢ a ∷ y
 tails_apart a x y d e = d (cc e)
 
 letter_none : (a : ℕ) (x : List ℕ) (ls : List PortMem) → a ≢ 99 → a ∷ x ≢ codes "ended" → a ∷ x ≢ codes "squash" → IsNone (a ∷ x) (commit_names ls)
@@ -171,12 +171,12 @@ letter_none a x [] d e s = (e, (s, tt))
 letter_none a x (l ∷ ls) d e s = (heads_apart a 99 x _ d, (heads_apart a 99 x _ d, (heads_apart a 99 x _ d, letter_none a x ls d e s)))
 
 -- the names of these locked memories are none of them this one
-abbrev IsFree : List ℕ → List PortMem → Type 0
+abbrev pub IsFree : List ℕ → List PortMem → Type 0
 IsFree n [] = ⊤
 IsFree n (l ∷ ls) = (n ≢ l.name) × IsFree n ls
 
 -- no two of these locked memories have one name
-abbrev AreFree : List PortMem → Type 0
+abbrev pub AreFree : List PortMem → Type 0
 AreFree [] = ⊤
 AreFree (l ∷ ls) = IsFree l.name ls × AreFree ls
 
@@ -208,7 +208,7 @@ commits_differ (l ∷ ls) f = (
   ((tails_apart 99 _ _ (heads_apart 97 100 _ _ (λ e. omega arith)), address_none l.name ls f.0), (value_none l.name ls f.0, commits_differ ls f.1)),
 )
 
-locked_free : (n : List ℕ) (ms : List Mem) → IsNone n (map name_of_mem ms) → IsFree n (locked_of ms)
+pub locked_free : (n : List ℕ) (ms : List Mem) → IsNone n (map name_of_mem ms) → IsFree n (locked_of ms)
 locked_free n [] h = tt
 locked_free n (m ∷ ms) h = go (is_some m.lock) (locked_free n ms h.1)
   where
@@ -216,7 +216,7 @@ locked_free n (m ∷ ms) h = go (is_some m.lock) (locked_free n ms h.1)
     go true f = (h.0, f)
     go false f = f
 
-all_free : (ms : List Mem) → AreDistinct ms → AreFree (locked_of ms)
+pub all_free : (ms : List Mem) → AreDistinct ms → AreFree (locked_of ms)
 all_free [] h = tt
 all_free (m ∷ ms) h = go (is_some m.lock) (locked_free m.name.name ms (mem_none m.name.name ms h.0)) (all_free ms h.1)
   where
@@ -244,7 +244,7 @@ moves_none j k (suc n) rest l h r = (
   (tails_apart 103 _ _ (tails_apart 95 _ _ (stages_apart j k l (omega arith))), moves_none j (suc k) n rest (omega arith) (omega arith) r),
 )
 
-stages_differ : (k n : ℕ) (rest : List (List ℕ)) → k + n ≤ 64 → ((j : ℕ) → IsNone (codes "v_" ++ decimal j) rest) → ((j : ℕ) → IsNone (codes "g_" ++ decimal j) rest) → AllDiffer rest → AllDiffer (stage_names k n rest)
+pub stages_differ : (k n : ℕ) (rest : List (List ℕ)) → k + n ≤ 64 → ((j : ℕ) → IsNone (codes "v_" ++ decimal j) rest) → ((j : ℕ) → IsNone (codes "g_" ++ decimal j) rest) → AllDiffer rest → AllDiffer (stage_names k n rest)
 stages_differ k zero rest h v g r = r
 stages_differ k (suc n) rest h v g r = (
   (heads_apart 118 103 _ _ (λ e. omega arith), valid_none k (suc k) n rest (omega arith) (omega arith) (v k)),

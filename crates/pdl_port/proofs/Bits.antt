@@ -1,8 +1,8 @@
--- What a port's state and act say, as tests: of the owner, an orphan and the answers over a cycle.
+-- What a port's state and act say, as tests: of the owner and an orphan over a cycle.
 use Rattle.std.proofs.Common.{◌≡◌, ℕ, zero, suc, ◌<◌, ◌≤◌, Bool, true, false, refl, sym, ap, ◌∙◌, arith, ⊎_elim, subst}
-use Rattle.std.specs.Prelude.{◌&&◌, ◌||◌, ◌==◌, if◌then◌else◌, Option, Some, None, is_some}
+use Rattle.std.specs.Prelude.{◌&&◌, ◌==◌, if◌then◌else◌, Option, Some, None, is_some}
 use Rattle.std.proofs.lemmas.Bool.{cases_lt, eqb-true, eq-eqb, ne_eqb}
-use Rattle.pdl_port.specs.Port.{Request, Idle, Owned, Orphan, PortAct, owns, asker, asked_request, left_request, leaves_free}
+use Rattle.pdl_port.specs.Port.{PortState, Idle, Owned, Orphan, PortAct, owns, is_free, asker, asked_request, left_request}
 use Rattle.pdl_port.specs.Places.{is_orphan}
 
 -- the first that asks is there and asks
@@ -26,7 +26,7 @@ asker_none on (suc n) e k h = more (asker on n) (on n) refl refl e (λ q l. aske
     more None false p q r rest = ⊎_elim (λ (l : k < n). rest p l) (λ (g : n ≤ k). let i : n ≡ k = omega arith in let P : ℕ → Type 0 = λ m. on m ≡ false in subst P i q) (cases_lt k n)
 
 -- the owner of a place
-pub owned_is : (q : Request) (k : ℕ) → owns q k ≡ true → q ≡ Owned k
+pub owned_is : (q : PortState) (k : ℕ) → owns q k ≡ true → q ≡ Owned k
 owned_is Idle k e = absurd (cc e)
 owned_is (Owned j) k e = ap Owned (eqb-true j k e)
 owned_is Orphan k e = absurd (cc e)
@@ -63,7 +63,7 @@ other_left j k false true false e = e
 other_left j k false false false e = refl
 
 -- where no place asks
-left_owns : (a : PortAct) (q : Request) (k : ℕ) → still (a.removed k) a.reply (owns q k) ≡ owns (left_request a q) k
+left_owns : (a : PortAct) (q : PortState) (k : ℕ) → still (a.removed k) a.reply (owns q k) ≡ owns (left_request a q) k
 left_owns a Idle k = idle_left (a.removed k) a.reply
 left_owns a Orphan k = idle_left (a.removed k) a.reply ∙ orphan_left k a.reply
 left_owns a (Owned j) k = by_place (j == k) refl
@@ -75,7 +75,7 @@ left_owns a (Owned j) k = by_place (j == k) refl
     by_place false e = other_left j k (a.removed k) (a.removed j) a.reply e
 
 -- where the port is free no owner stays
-freed : (q : Request) (reply : Bool) (moves : ℕ → Bool) (k : ℕ) → leaves_free q reply moves ≡ true → (if reply then false else owns q k) ≡ false
+freed : (q : PortState) (reply : Bool) (moves : ℕ → Bool) (k : ℕ) → is_free q reply moves ≡ true → (if reply then false else owns q k) ≡ false
 freed Idle true moves k e = refl
 freed Idle false moves k e = refl
 freed (Owned j) true moves k e = refl
@@ -83,7 +83,7 @@ freed (Owned j) false moves k e = absurd (cc e)
 freed Orphan true moves k e = refl
 freed Orphan false moves k e = absurd (cc e)
 
-pub owns_after : (a : PortAct) (q : Request) (n k : ℕ) → k < n → ((i j : ℕ) → i < n → j < n → a.asked i ≡ true → a.asked j ≡ true → i ≡ j) → ((j : ℕ) → j < n → a.asked j ≡ true → leaves_free q a.reply a.moves ≡ true)
+pub owns_after : (a : PortAct) (q : PortState) (n k : ℕ) → k < n → ((i j : ℕ) → i < n → j < n → a.asked i ≡ true → a.asked j ≡ true → i ≡ j) → ((j : ℕ) → j < n → a.asked j ≡ true → is_free q a.reply a.moves ≡ true)
     → (if a.asked k then true else still (a.removed k) a.reply (owns q k)) ≡ owns (asked_request (asker a.asked n) (left_request a q)) k
 owns_after a q n k h one free = by_asker (asker a.asked n) refl
   where
@@ -98,7 +98,7 @@ owns_after a q n k h one free = by_asker (asker a.asked n) refl
     by_asker (Some j) p = let r = asker_some a.asked n j p in by_asked j r.0 r.1 (a.asked k) refl
 
 -- an orphan is left by the first n places
-abbrev pub lost : PortAct → Request → ℕ → Bool
+abbrev pub lost : PortAct → PortState → ℕ → Bool
 lost a q zero = if a.reply then false else is_orphan q
 lost a q (suc k) = if a.removed k then (if (if a.reply then false else owns q k) then true else lost a q k) else lost a q k
 
@@ -113,12 +113,12 @@ no_owner : (t o : Bool) → o ≡ false → (if t then false else o) ≡ false
 no_owner true o e = refl
 no_owner false o e = e
 
-lost_answered : (a : PortAct) (q : Request) (n : ℕ) → a.reply ≡ true → lost a q n ≡ false
+lost_answered : (a : PortAct) (q : PortState) (n : ℕ) → a.reply ≡ true → lost a q n ≡ false
 lost_answered a q zero e = answered_none a.reply (is_orphan q) e
 lost_answered a q (suc n) e = no_more (a.removed n) (if a.reply then false else owns q n) (lost a q n) (answered_none a.reply (owns q n) e) ∙ lost_answered a q n e
 
 -- no place below n owns the request
-lost_unowned : (a : PortAct) (q : Request) (n : ℕ) → ((k : ℕ) → k < n → owns q k ≡ false) → lost a q n ≡ (if a.reply then false else is_orphan q)
+lost_unowned : (a : PortAct) (q : PortState) (n : ℕ) → ((k : ℕ) → k < n → owns q k ≡ false) → lost a q n ≡ (if a.reply then false else is_orphan q)
 lost_unowned a q zero h = refl
 lost_unowned a q (suc n) h = no_more (a.removed n) (if a.reply then false else owns q n) (lost a q n) (no_owner a.reply (owns q n) (h n (omega arith))) ∙ lost_unowned a q n (λ k l. h k (omega arith))
 
@@ -137,7 +137,7 @@ lost_owned a j (suc n) h = ⊎_elim
     (cases_lt j n)
 
 -- where the port is free no orphan stays
-lost_freed : (a : PortAct) (q : Request) (n : ℕ) → leaves_free q a.reply a.moves ≡ true → lost a q n ≡ false
+lost_freed : (a : PortAct) (q : PortState) (n : ℕ) → is_free q a.reply a.moves ≡ true → lost a q n ≡ false
 lost_freed a Idle n e = lost_unowned a Idle n (λ k l. refl) ∙ no_owner a.reply false refl
 lost_freed a (Owned j) n e = lost_answered a (Owned j) n (replied a.reply e)
   where
@@ -159,12 +159,12 @@ orphan_owned true s j = refl
 orphan_owned false true j = refl
 orphan_owned false false j = refl
 
-lost_left : (a : PortAct) (q : Request) (n : ℕ) → ((k : ℕ) → q ≡ Owned k → k < n) → lost a q n ≡ is_orphan (left_request a q)
+lost_left : (a : PortAct) (q : PortState) (n : ℕ) → ((k : ℕ) → q ≡ Owned k → k < n) → lost a q n ≡ is_orphan (left_request a q)
 lost_left a Idle n h = lost_unowned a Idle n (λ k l. refl) ∙ orphan_idle a.reply
 lost_left a (Owned j) n h = lost_owned a j n (h j refl) ∙ orphan_owned a.reply (a.removed j) j
 lost_left a Orphan n h = lost_unowned a Orphan n (λ k l. refl) ∙ orphan_orphan a.reply
 
-pub orphan_after : (a : PortAct) (q : Request) (n : ℕ) → ((k : ℕ) → q ≡ Owned k → k < n) → ((j : ℕ) → j < n → a.asked j ≡ true → leaves_free q a.reply a.moves ≡ true)
+pub orphan_after : (a : PortAct) (q : PortState) (n : ℕ) → ((k : ℕ) → q ≡ Owned k → k < n) → ((j : ℕ) → j < n → a.asked j ≡ true → is_free q a.reply a.moves ≡ true)
     → lost a q n ≡ is_orphan (asked_request (asker a.asked n) (left_request a q))
 orphan_after a q n below free = by_asker (asker a.asked n) refl
   where
@@ -173,7 +173,7 @@ orphan_after a q n below free = by_asker (asker a.asked n) refl
     by_asker (Some j) p = let r = asker_some a.asked n j p in lost_freed a q n (free j r.0 r.1)
 
 -- an owner after a cycle stands in one of the n places
-left_below : (a : PortAct) (q : Request) (n k : ℕ) → ((j : ℕ) → q ≡ Owned j → j < n) → left_request a q ≡ Owned k → k < n
+left_below : (a : PortAct) (q : PortState) (n k : ℕ) → ((j : ℕ) → q ≡ Owned j → j < n) → left_request a q ≡ Owned k → k < n
 left_below a Idle n k h e = absurd (cc e)
 left_below a (Owned j) n k h e = by_left a.reply (a.removed j) e
   where
@@ -187,7 +187,7 @@ left_below a Orphan n k h e = by_left a.reply e
     by_left true p = absurd (cc p)
     by_left false p = absurd (cc p)
 
-pub below_after : (a : PortAct) (q : Request) (n k : ℕ) → ((j : ℕ) → q ≡ Owned j → j < n) → asked_request (asker a.asked n) (left_request a q) ≡ Owned k → k < n
+pub below_after : (a : PortAct) (q : PortState) (n k : ℕ) → ((j : ℕ) → q ≡ Owned j → j < n) → asked_request (asker a.asked n) (left_request a q) ≡ Owned k → k < n
 below_after a q n k h e = by_asker (asker a.asked n) refl e
   where
     by_asker : (o : Option ℕ) → asker a.asked n ≡ o → asked_request o (left_request a q) ≡ Owned k → k < n
@@ -195,7 +195,7 @@ below_after a q n k h e = by_asker (asker a.asked n) refl e
     by_asker (Some j) p i = let r = asker_some a.asked n j p in let g : j ≡ k = cc i in omega (arith, r.0)
 
 -- the port is free, by the first n places
-abbrev pub frees : Request → Bool → (ℕ → Bool) → ℕ → Bool
+abbrev pub frees : PortState → Bool → (ℕ → Bool) → ℕ → Bool
 frees q r on zero = if is_orphan q then r else true
 frees q r on (suc k) = if owns q k then r && on k else frees q r on k
 
@@ -214,32 +214,7 @@ frees_owned j r on (suc n) h = ⊎_elim
     (λ (g : n ≤ j). let i : n ≡ j = omega arith in ap (λ t. if t then r && on n else frees (Owned j) r on n) (eq-eqb j n (sym i)) ∙ ap (λ m. r && on m) i)
     (cases_lt j n)
 
-pub frees_is : (q : Request) (r : Bool) (on : ℕ → Bool) (n : ℕ) → ((k : ℕ) → q ≡ Owned k → k < n) → frees q r on n ≡ leaves_free q r on
+pub frees_is : (q : PortState) (r : Bool) (on : ℕ → Bool) (n : ℕ) → ((k : ℕ) → q ≡ Owned k → k < n) → frees q r on n ≡ is_free q r on
 frees_is Idle r on n h = frees_idle r on n
 frees_is (Owned j) r on n h = frees_owned j r on n (h j refl)
 frees_is Orphan r on n h = frees_orphan r on n
-
--- the answers of a place, now and after the cycle
-pub given_is : (o r : Bool) (kept : Option ℕ) (w : ℕ) → (if o then r else is_some kept) ≡ is_some (if o then (if r then Some w else None) else kept)
-given_is true true kept w = refl
-given_is true false kept w = refl
-given_is false r kept w = refl
-
-pub value_is : (o r : Bool) (kept : Option ℕ) (w v y z : ℕ) → (r ≡ true → y ≡ w) → ((n : ℕ) → kept ≡ Some n → z ≡ n) → (if o then (if r then Some w else None) else kept) ≡ Some v → (if o then y else z) ≡ v
-value_is true true kept w v y z f g e = let i : w ≡ v = cc e in f refl ∙ i
-value_is true false kept w v y z f g e = absurd (cc e)
-value_is false r kept w v y z f g e = g v e
-
-pub has_after : (m s o r : Bool) (kept : Option ℕ) (w : ℕ) → (o ≡ true → kept ≡ None) → (if m then false else (if s then false else (if o then r else is_some kept))) ≡ is_some (if m || s then None else (if o && r then Some w else kept))
-has_after true s o r kept w h = refl
-has_after false true o r kept w h = refl
-has_after false false true true kept w h = refl
-has_after false false true false kept w h = ap is_some (sym (h refl))
-has_after false false false r kept w h = refl
-
-pub word_after : (m s o r : Bool) (kept : Option ℕ) (w v y z : ℕ) → (r ≡ true → y ≡ w) → ((n : ℕ) → kept ≡ Some n → z ≡ n) → (o ≡ true → kept ≡ None) → (if m || s then None else (if o && r then Some w else kept)) ≡ Some v → (if o then y else z) ≡ v
-word_after true s o r kept w v y z f g h e = absurd (cc e)
-word_after false true o r kept w v y z f g h e = absurd (cc e)
-word_after false false true true kept w v y z f g h e = let i : w ≡ v = cc e in f refl ∙ i
-word_after false false true false kept w v y z f g h e = let n = h refl in absurd (cc (e, n))
-word_after false false false r kept w v y z f g h e = g v e

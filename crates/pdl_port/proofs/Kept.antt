@@ -11,7 +11,7 @@ use Rattle.pdl_port.specs.declared.PortRegs.{PortRegs}
 use Rattle.pdl_port.specs.declared.PortStep.{PortStep}
 use Rattle.pdl_port.specs.declared.layout.Layout.{Layout}
 use Rattle.pdl_port.specs.Laws.{places, own, IsFragment, HasBits, net_at}
-use Rattle.pdl_port.specs.Places.{HasPlaces, HasStep, AreReset, ArePlaced, layout_of, owns_at, has_at, kept_at}
+use Rattle.pdl_port.specs.Places.{HasPlaces, HasStep, AreReset, ArePlaced, layout_of, owns_at}
 
 pub places_keep : (a b : Circuit) (l : Layout) (n : ℕ) → HasPlaces a l n → Keeps a b → HasPlaces b l n
 places_keep a b l n x y = record {
@@ -23,14 +23,6 @@ places_keep a b l n x y = record {
   owner = λ k h. y.kept (Reg (owns_at l k)) (x.owns_there k h) ∙ x.owner k h;
   has_owns = λ k h. y.has_reg (owns_at l k) (x.has_owns k h);
   owns_one = λ k h. y.width (owns_at l k) (x.has_owns k h) ∙ x.owns_one k h;
-  has_there = λ k h. y.there (Reg (has_at l k)) (x.has_there k h);
-  holds = λ k h. y.kept (Reg (has_at l k)) (x.has_there k h) ∙ x.holds k h;
-  has_has = λ k h. y.has_reg (has_at l k) (x.has_has k h);
-  has_one = λ k h. y.width (has_at l k) (x.has_has k h) ∙ x.has_one k h;
-  kept_there = λ k h. y.there (Reg (kept_at l k)) (x.kept_there k h);
-  word = λ k h. y.kept (Reg (kept_at l k)) (x.kept_there k h) ∙ x.word k h;
-  has_kept = λ k h. y.has_reg (kept_at l k) (x.has_kept k h);
-  kept_width = λ k h. y.width (kept_at l k) (x.has_kept k h) ∙ x.kept_width k h;
 }
 
 pub places_kept : (a b : Circuit) (l : Layout) (n : ℕ) → HasPlaces a l n → Extends a b → HasPlaces b l n
@@ -43,7 +35,6 @@ pub reset_kept : (a b : Circuit) (l : Layout) (n : ℕ) → HasPlaces a l n → 
 reset_kept a b l n h x y = record {
   orphan = y.reset l.from h.has_orphan ∙ x.orphan;
   owns = λ k lt. y.reset (owns_at l k) (h.has_owns k lt) ∙ x.owns k lt;
-  has = λ k lt. y.reset (has_at l k) (h.has_has k lt) ∙ x.has k lt;
 }
 
 -- a port stands in a circuit that keeps what it was made in
@@ -53,8 +44,6 @@ port_keeps a b r k x = record {
   small = x.small;
   reply_there = k.there r.reply x.reply_there;
   reply_one = ap (λ (f : Signal). f.width) (k.kept r.reply x.reply_there) ∙ x.reply_one;
-  word_there = k.there r.word x.word_there;
-  word_width = ap (λ (f : Signal). f.width) (k.kept r.word x.word_there) ∙ x.word_width;
   regs = places_keep a b (layout_of r) (places r) x.regs k;
 }
 
@@ -78,12 +67,10 @@ own_here a b r f = record {
   writes = λ m lo hi. refl;
 }
 
-step_keeps : (a b : Circuit) (n width : ℕ) (r : PortRegs) (p : PortStep) → HasStep a n width r p → Keeps a b → HasStep b n width r p
-step_keeps a b n width r p x k = record {
+step_keeps : (a b : Circuit) (n : ℕ) (r : PortRegs) (p : PortStep) → HasStep a n r p → Keeps a b → HasStep b n r p
+step_keeps a b n r p x k = record {
   reply_there = k.there r.reply x.reply_there;
   reply_one = ap (λ (f : Signal). f.width) (k.kept r.reply x.reply_there) ∙ x.reply_one;
-  word_there = k.there r.word x.word_there;
-  word_width = ap (λ (f : Signal). f.width) (k.kept r.word x.word_there) ∙ x.word_width;
   asked_count = x.asked_count;
   asked_there = λ j h. k.there (net_at p.asked j) (x.asked_there j h);
   asked_one = λ j h. ap (λ (f : Signal). f.width) (k.kept (net_at p.asked j) (x.asked_there j h)) ∙ x.asked_one j h;
@@ -95,11 +82,11 @@ step_keeps a b n width r p x k = record {
   removed_one = λ j h. ap (λ (f : Signal). f.width) (k.kept (net_at p.removed j) (x.removed_there j h)) ∙ x.removed_one j h;
 }
 
-pub step_kept : (a b : Circuit) (n width : ℕ) (r : PortRegs) (p : PortStep) → HasStep a n width r p → Extends a b → HasStep b n width r p
-step_kept a b n width r p x e = step_keeps a b n width r p x (extends_keeps a b e)
+pub step_kept : (a b : Circuit) (n : ℕ) (r : PortRegs) (p : PortStep) → HasStep a n r p → Extends a b → HasStep b n r p
+step_kept a b n r p x e = step_keeps a b n r p x (extends_keeps a b e)
 
-pub step_kept_but : (o : Own) (a b : Circuit) (n width : ℕ) (r : PortRegs) (p : PortStep) → HasStep a n width r p → ExtendsBut o a b → HasStep b n width r p
-step_kept_but o a b n width r p x e = step_keeps a b n width r p x (but_keeps o a b e)
+pub step_kept_but : (o : Own) (a b : Circuit) (n : ℕ) (r : PortRegs) (p : PortStep) → HasStep a n r p → ExtendsBut o a b → HasStep b n r p
+step_kept_but o a b n r p x e = step_keeps a b n r p x (but_keeps o a b e)
 
 -- what stays but for a range of registers stays but for a wider range
 pub but_wider : (o w : Own) (a b : Circuit) → ((r : ℕ) → Outside w.from w.to r → Outside o.from o.to r) → ((m : ℕ) → Outside w.first w.last m → Outside o.first o.last m) → ExtendsBut o a b → ExtendsBut w a b

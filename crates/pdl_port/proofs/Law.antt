@@ -1,6 +1,6 @@
 -- The laws of a port, from what its nets mean and its registers take next.
-use Rattle.std.proofs.Common.{◌≡◌, ℕ, zero, suc, ◌+◌, ◌*◌, ◌<◌, ◌≤◌, Bool, true, false, refl, ap, ◌∙◌, arith}
-use Rattle.std.specs.Prelude.{◌&&◌, if◌then◌else◌, Some, is_some, slice_index}
+use Rattle.std.proofs.Common.{◌≡◌, ℕ, zero, suc, ◌+◌, ◌<◌, ◌≤◌, Bool, true, false, refl, ap, ◌∙◌, arith}
+use Rattle.std.specs.Prelude.{◌&&◌, if◌then◌else◌, slice_index}
 use Rattle.pdl_word.specs.Words.{bit, mux}
 use Rattle.pdl_net.specs.Circuit.{Circuit, State}
 use Rattle.pdl_net.specs.Signal.{Signal, reg_signal, const_signal, mux_signal, mux_value, const_value, reg_value}
@@ -9,9 +9,9 @@ use Rattle.pdl_lockapi.specs.Laws.{IsNext}
 use Rattle.pdl_port.specs.declared.layout.Layout.{Layout}
 use Rattle.pdl_port.specs.Port.{PortState, PortAct, owns}
 use Rattle.pdl_port.specs.Laws.{AnswerSignals, StepSignals, AreBits, Drives, StartLaw, AnswerLaw, FreeLaw, StepLaw}
-use Rattle.pdl_port.specs.Places.{AreReset, Stands, is_orphan, owns_at, has_at, kept_at}
-use Rattle.pdl_port.specs.Nets.{owns_signal, has_signal, kept_signal, given_signal, place_signals, free_signal, open_signal, next_owns, next_has, next_kept, orphan_signal, NextPort, own_all}
-use Rattle.pdl_port.proofs.Bits.{owned_is, still, owns_after, lost, orphan_after, below_after, frees, frees_is, given_is, value_is, has_after, word_after}
+use Rattle.pdl_port.specs.Places.{AreReset, Stands, is_orphan, owns_at}
+use Rattle.pdl_port.specs.Nets.{owns_signal, place_signals, free_signal, open_signal, next_owns, orphan_signal, NextPort, own_all}
+use Rattle.pdl_port.proofs.Bits.{still, owns_after, lost, orphan_after, below_after, frees, frees_is}
 
 -- a choice by a bit
 mux_bit : (t : Bool) (a b : ℕ) → mux (bit t) a b ≡ (if t then a else b)
@@ -41,21 +41,13 @@ unfolding const_value
 zero_at s = refl
 
 -- the registers as signals
-orphan_at : (l : Layout) (s : State) (x : PortState) → Stands l s x → (reg_signal 1 l.from).value s ≡ bit (is_orphan x.request)
+orphan_at : (l : Layout) (s : State) (x : PortState) → Stands l s x → (reg_signal 1 l.from).value s ≡ bit (is_orphan x)
 unfolding reg_value
 orphan_at l s x h = h.orphan
 
-owner_at : (l : Layout) (s : State) (x : PortState) (k : ℕ) → Stands l s x → k < l.places → (owns_signal l k).value s ≡ bit (owns x.request k)
+owner_at : (l : Layout) (s : State) (x : PortState) (k : ℕ) → Stands l s x → k < l.places → (owns_signal l k).value s ≡ bit (owns x k)
 unfolding reg_value
 owner_at l s x k h i = h.owner k i
-
-has_value : (l : Layout) (s : State) (x : PortState) (k : ℕ) → Stands l s x → k < l.places → (has_signal l k).value s ≡ bit (is_some (x.kept k))
-unfolding reg_value
-has_value l s x k h i = h.has k i
-
-kept_value : (l : Layout) (s : State) (x : PortState) (k v : ℕ) → Stands l s x → k < l.places → x.kept k ≡ Some v → (kept_signal l k).value s ≡ v
-unfolding reg_value
-kept_value l s x k v h i e = h.word k v i e
 
 -- registers at reset stand for a port at its start
 pub start_law : (c : Circuit) (l : Layout) → AreReset c l l.places → StartLaw (Stands l) c (own_all l)
@@ -64,28 +56,27 @@ start_law c l r = record {
     below = λ k e. absurd (cc e);
     orphan = h.regs l.from (omega arith) (omega arith) ∙ r.orphan;
     owner = λ k i. h.regs (owns_at l k) (omega arith) (omega arith) ∙ r.owns k i;
-    has = λ k i. h.regs (has_at l k) (omega arith) (omega arith) ∙ r.has k i;
-    word = λ k v i e. absurd (cc e);
   };
 }
 
 -- the nets of the answers
-given_value : (l : Layout) (reply : Signal) (s : State) (x : PortState) (r : Bool) (k : ℕ) → Stands l s x → reply.value s ≡ bit r → k < l.places → (given_signal l reply k).value s ≡ bit (if owns x.request k then r else is_some (x.kept k))
-given_value l reply s x r k h e i = choose (owns_signal l k) reply (has_signal l k) s (owns x.request k) r (is_some (x.kept k)) (owner_at l s x k h i) e (has_value l s x k h i)
-
 pub answer_law : (l : Layout) (reply word : Signal) (f : ℕ → AnswerSignals) → ((k : ℕ) → k < l.places → f k ≡ place_signals l reply word k) → AnswerLaw (Stands l) l.places reply word f
 answer_law l reply word f same = record {
-  answered = λ s x r w h p k i. ap (λ (g : AnswerSignals). g.answered.value s) (same k i) ∙ choose (owns_signal l k) reply (const_signal 1 1) s (owns x.request k) r true (owner_at l s x k h i) p.reply (one_at s);
-  given = λ s x r w h p k i. ap (λ (g : AnswerSignals). g.given.value s) (same k i) ∙ given_value l reply s x r k h p.reply i ∙ ap bit (given_is (owns x.request k) r (x.kept k) w);
-  value = λ s x r w h p k v i e. ap (λ (g : AnswerSignals). g.value.value s) (same k i) ∙ mux_at (owns_signal l k) word (kept_signal l k) s (owns x.request k) (owner_at l s x k h i) ∙ value_is (owns x.request k) r (x.kept k) w v (word.value s) ((kept_signal l k).value s) p.word (λ n j. kept_value l s x k n h i j) e;
+  answered = λ s x r w h p k i. ap (λ (g : AnswerSignals). g.answered.value s) (same k i) ∙ choose (owns_signal l k) reply (const_signal 1 1) s (owns x k) r true (owner_at l s x k h i) p.reply (one_at s);
+  given = λ s x r w h p k i. ap (λ (g : AnswerSignals). g.given.value s) (same k i) ∙ choose (owns_signal l k) reply (const_signal 1 0) s (owns x k) r false (owner_at l s x k h i) p.reply (zero_at s);
+  value = λ s x r w h p k i e. ap (λ (g : AnswerSignals). g.value.value s) (same k i) ∙ p.word (comes (owns x k) r e);
 }
+  where
+    comes : (b r : Bool) → (if b then r else false) ≡ true → r ≡ true
+    comes true r e = e
+    comes false r e = absurd (cc e)
 
 -- whether the port is free
-free_value : (l : Layout) (reply : Signal) (moves : ℕ → Signal) (s : State) (x : PortState) (r : Bool) (on : ℕ → Bool) → Stands l s x → reply.value s ≡ bit r → AreBits l.places s moves on → (n : ℕ) → n ≤ l.places → (free_signal l reply moves n).value s ≡ bit (frees x.request r on n)
+free_value : (l : Layout) (reply : Signal) (moves : ℕ → Signal) (s : State) (x : PortState) (r : Bool) (on : ℕ → Bool) → Stands l s x → reply.value s ≡ bit r → AreBits l.places s moves on → (n : ℕ) → n ≤ l.places → (free_signal l reply moves n).value s ≡ bit (frees x r on n)
 unfolding free_signal
-free_value l reply moves s x r on h e m zero i = choose (reg_signal 1 l.from) reply (const_signal 1 1) s (is_orphan x.request) r true (orphan_at l s x h) e (one_at s)
+free_value l reply moves s x r on h e m zero i = choose (reg_signal 1 l.from) reply (const_signal 1 1) s (is_orphan x) r true (orphan_at l s x h) e (one_at s)
 free_value l reply moves s x r on h e m (suc k) i =
-    choose (owns_signal l k) (mux_signal reply (moves k) (const_signal 1 0)) (free_signal l reply moves k) s (owns x.request k) (r && on k) (frees x.request r on k)
+    choose (owns_signal l k) (mux_signal reply (moves k) (const_signal 1 0)) (free_signal l reply moves k) s (owns x k) (r && on k) (frees x r on k)
     (owner_at l s x k h (omega arith))
     (choose reply (moves k) (const_signal 1 0) s r (on k) false e (m k (omega arith)) (zero_at s) ∙ ap bit (both r (on k)))
     (free_value l reply moves s x r on h e m k (omega arith))
@@ -94,48 +85,39 @@ free_value l reply moves s x r on h e m (suc k) i =
     both true b = refl
     both false b = refl
 
-pub free_law : (l : Layout) (reply word : Signal) (moves : ℕ → Signal) (free : Signal) → free ≡ free_signal l reply moves l.places → FreeLaw (Stands l) l.places reply word moves free
-free_law l reply word moves free same = record {
-  holds = λ s x r w on h p m. ap (λ (g : Signal). g.value s) same ∙ free_value l reply moves s x r on h p.reply m l.places (omega arith) ∙ ap bit (frees_is x.request r on l.places h.below);
+pub free_law : (l : Layout) (reply : Signal) (moves : ℕ → Signal) (free : Signal) → free ≡ free_signal l reply moves l.places → FreeLaw (Stands l) l.places reply moves free
+free_law l reply moves free same = record {
+  holds = λ s x r on h p m. ap (λ (g : Signal). g.value s) same ∙ free_value l reply moves s x r on h p m l.places (omega arith) ∙ ap bit (frees_is x r on l.places h.below);
 }
 
 -- what the registers take next
-open_value : (l : Layout) (f : StepSignals) (s : State) (x : PortState) (a : PortAct) (k : ℕ) → Stands l s x → Drives l.places f s a → k < l.places → (open_signal l f k).value s ≡ bit (if a.reply then false else owns x.request k)
-open_value l f s x a k h d i = choose f.reply (const_signal 1 0) (owns_signal l k) s a.reply false (owns x.request k) d.replies.reply (zero_at s) (owner_at l s x k h i)
+open_value : (l : Layout) (f : StepSignals) (s : State) (x : PortState) (a : PortAct) (k : ℕ) → Stands l s x → Drives l.places f s a → k < l.places → (open_signal l f k).value s ≡ bit (if a.reply then false else owns x k)
+open_value l f s x a k h d i = choose f.reply (const_signal 1 0) (owns_signal l k) s a.reply false (owns x k) d.reply (zero_at s) (owner_at l s x k h i)
 
-owns_value : (l : Layout) (f : StepSignals) (s : State) (x : PortState) (a : PortAct) (k : ℕ) → Stands l s x → Drives l.places f s a → k < l.places → (next_owns l f k).value s ≡ bit (if a.asked k then true else still (a.removed k) a.reply (owns x.request k))
+owns_value : (l : Layout) (f : StepSignals) (s : State) (x : PortState) (a : PortAct) (k : ℕ) → Stands l s x → Drives l.places f s a → k < l.places → (next_owns l f k).value s ≡ bit (if a.asked k then true else still (a.removed k) a.reply (owns x k))
 owns_value l f s x a k h d i =
-    choose (f.asked k) (const_signal 1 1) (mux_signal (f.removed k) (const_signal 1 0) (open_signal l f k)) s (a.asked k) true (still (a.removed k) a.reply (owns x.request k)) (d.asked k i) (one_at s)
-    (choose (f.removed k) (const_signal 1 0) (open_signal l f k) s (a.removed k) false (if a.reply then false else owns x.request k) (d.removed k i) (zero_at s) (open_value l f s x a k h d i))
+    choose (f.asked k) (const_signal 1 1) (mux_signal (f.removed k) (const_signal 1 0) (open_signal l f k)) s (a.asked k) true (still (a.removed k) a.reply (owns x k)) (d.asked k i) (one_at s)
+    (choose (f.removed k) (const_signal 1 0) (open_signal l f k) s (a.removed k) false (if a.reply then false else owns x k) (d.removed k i) (zero_at s) (open_value l f s x a k h d i))
 
-next_has_value : (l : Layout) (f : StepSignals) (s : State) (x : PortState) (a : PortAct) (k : ℕ) → Stands l s x → Drives l.places f s a → k < l.places
-    → (next_has l f k).value s ≡ bit (if a.moves k then false else (if a.removed k then false else (if owns x.request k then a.reply else is_some (x.kept k))))
-next_has_value l f s x a k h d i =
-    choose (f.moves k) (const_signal 1 0) (mux_signal (f.removed k) (const_signal 1 0) (given_signal l f.reply k)) s (a.moves k) false (if a.removed k then false else (if owns x.request k then a.reply else is_some (x.kept k))) (d.moves k i) (zero_at s)
-    (choose (f.removed k) (const_signal 1 0) (given_signal l f.reply k) s (a.removed k) false (if owns x.request k then a.reply else is_some (x.kept k)) (d.removed k i) (zero_at s) (given_value l f.reply s x a.reply k h d.replies.reply i))
-
-orphan_value : (l : Layout) (f : StepSignals) (s : State) (x : PortState) (a : PortAct) → Stands l s x → Drives l.places f s a → (n : ℕ) → n ≤ l.places → (orphan_signal l f n).value s ≡ bit (lost a x.request n)
+orphan_value : (l : Layout) (f : StepSignals) (s : State) (x : PortState) (a : PortAct) → Stands l s x → Drives l.places f s a → (n : ℕ) → n ≤ l.places → (orphan_signal l f n).value s ≡ bit (lost a x n)
 unfolding orphan_signal
-orphan_value l f s x a h d zero i = choose f.reply (const_signal 1 0) (reg_signal 1 l.from) s a.reply false (is_orphan x.request) d.replies.reply (zero_at s) (orphan_at l s x h)
+orphan_value l f s x a h d zero i = choose f.reply (const_signal 1 0) (reg_signal 1 l.from) s a.reply false (is_orphan x) d.reply (zero_at s) (orphan_at l s x h)
 orphan_value l f s x a h d (suc k) i =
     let before = orphan_value l f s x a h d k (omega arith) in
-    let left = if (if a.reply then false else owns x.request k) then true else lost a x.request k in
-    choose (f.removed k) (mux_signal (open_signal l f k) (const_signal 1 1) (orphan_signal l f k)) (orphan_signal l f k) s (a.removed k) left (lost a x.request k) (d.removed k (omega arith))
-    (choose (open_signal l f k) (const_signal 1 1) (orphan_signal l f k) s (if a.reply then false else owns x.request k) true (lost a x.request k) (open_value l f s x a k h d (omega arith)) (one_at s) before)
+    let left = if (if a.reply then false else owns x k) then true else lost a x k in
+    choose (f.removed k) (mux_signal (open_signal l f k) (const_signal 1 1) (orphan_signal l f k)) (orphan_signal l f k) s (a.removed k) left (lost a x k) (d.removed k (omega arith))
+    (choose (open_signal l f k) (const_signal 1 1) (orphan_signal l f k) s (if a.reply then false else owns x k) true (lost a x k) (open_value l f s x a k h d (omega arith)) (one_at s) before)
     before
 
 -- the register of a fragment after a cycle
-next_at : (c : Circuit) (l : Layout) (s t : State) (r : ℕ) (f : Signal) → IsNext c (own_all l) s t → l.from ≤ r → r < l.from + (3 * l.places + 1) → next_signal c r ≡ f → slice_index t.regs r ≡ f.value s
+next_at : (c : Circuit) (l : Layout) (s t : State) (r : ℕ) (f : Signal) → IsNext c (own_all l) s t → l.from ≤ r → r < l.from + (l.places + 1) → next_signal c r ≡ f → slice_index t.regs r ≡ f.value s
 next_at c l s t r f n lo hi e = n.regs r lo hi ∙ ap (λ (g : Signal). g.value s) e
 
 pub step_law : (c : Circuit) (l : Layout) (f : StepSignals) → NextPort c l f → StepLaw (Stands l) l.places (own_all l) c f
 step_law c l f p = record {
   next = λ s t x a h d u n. record {
-    below = λ k e. below_after a x.request l.places k h.below e;
-    orphan = next_at c l s t l.from (orphan_signal l f l.places) n (omega arith) (omega arith) p.orphan ∙ orphan_value l f s x a h d l.places (omega arith) ∙ ap bit (orphan_after a x.request l.places h.below u.free);
-    owner = λ k i. next_at c l s t (owns_at l k) (next_owns l f k) n (omega arith) (omega arith) (p.places.owns k i) ∙ owns_value l f s x a k h d i ∙ ap bit (owns_after a x.request l.places k i u.one u.free);
-    has = λ k i. next_at c l s t (has_at l k) (next_has l f k) n (omega arith) (omega arith) (p.places.has k i) ∙ next_has_value l f s x a k h d i ∙ ap bit (has_after (a.moves k) (a.removed k) (owns x.request k) a.reply (x.kept k) a.word (λ o. u.none_yet k (owned_is x.request k o)));
-    word = λ k v i e. next_at c l s t (kept_at l k) (next_kept l f k) n (omega arith) (omega arith) (p.places.kept k i) ∙ mux_at (owns_signal l k) f.word (kept_signal l k) s (owns x.request k) (owner_at l s x k h i)
-        ∙ word_after (a.moves k) (a.removed k) (owns x.request k) a.reply (x.kept k) a.word v (f.word.value s) ((kept_signal l k).value s) d.replies.word (λ m j. kept_value l s x k m h i j) (λ o. u.none_yet k (owned_is x.request k o)) e;
+    below = λ k e. below_after a x l.places k h.below e;
+    orphan = next_at c l s t l.from (orphan_signal l f l.places) n (omega arith) (omega arith) p.orphan ∙ orphan_value l f s x a h d l.places (omega arith) ∙ ap bit (orphan_after a x l.places h.below u.free);
+    owner = λ k i. next_at c l s t (owns_at l k) (next_owns l f k) n (omega arith) (omega arith) (p.places.owns k i) ∙ owns_value l f s x a k h d i ∙ ap bit (owns_after a x l.places k i u.one u.free);
   };
 }

@@ -12,8 +12,8 @@ use Rattle.pdl_build.specs.Change.{IsNewReg}
 use Rattle.pdl_port.specs.declared.Answer.{Answer}
 use Rattle.pdl_port.specs.declared.layout.Layout.{Layout}
 use Rattle.pdl_port.specs.Laws.{answer_in, no_answer}
-use Rattle.pdl_port.specs.Places.{HasPlaces, AreReset, owns_at, has_at, kept_at}
-use Rattle.pdl_port.specs.Nets.{AreAnswers, answered_signal, given_signal, value_signal}
+use Rattle.pdl_port.specs.Places.{HasPlaces, AreReset, owns_at}
+use Rattle.pdl_port.specs.Nets.{AreAnswers, answered_signal, given_signal}
 use Rattle.pdl_port.proofs.Kept.{places_kept, reset_kept}
 
 -- what holds of the first k places and of the next one
@@ -34,18 +34,10 @@ places_none c l b = record {
   owner = λ k h. absurd (omega arith);
   has_owns = λ k h. absurd (omega arith);
   owns_one = λ k h. absurd (omega arith);
-  has_there = λ k h. absurd (omega arith);
-  holds = λ k h. absurd (omega arith);
-  has_has = λ k h. absurd (omega arith);
-  has_one = λ k h. absurd (omega arith);
-  kept_there = λ k h. absurd (omega arith);
-  word = λ k h. absurd (omega arith);
-  has_kept = λ k h. absurd (omega arith);
-  kept_width = λ k h. absurd (omega arith);
 }
 
-pub places_more : (c d : Circuit) (l : Layout) (k : ℕ) → HasPlaces c l k → Extends c d → IsNewReg d (owns_at l k) 1 0 → IsNewReg d (has_at l k) 1 0 → IsNewReg d (kept_at l k) l.width 0 → HasPlaces d l (k + 1)
-places_more c d l k h e o f w =
+pub places_more : (c d : Circuit) (l : Layout) (k : ℕ) → HasPlaces c l k → Extends c d → IsNewReg d (owns_at l k) 1 0 → HasPlaces d l (k + 1)
+places_more c d l k h e o =
     let g = places_kept c d l k h e in
     record {
       orphan_there = g.orphan_there;
@@ -56,26 +48,17 @@ places_more c d l k h e o f w =
       owner = upto (λ j. signal d (Reg (owns_at l j)) ≡ reg_signal 1 (owns_at l j)) k o.same g.owner;
       has_owns = upto (λ j. HasReg d (owns_at l j)) k o.has g.has_owns;
       owns_one = upto (λ j. reg_width d (owns_at l j) ≡ 1) k o.width g.owns_one;
-      has_there = upto (λ j. IsThere d (Reg (has_at l j))) k f.there g.has_there;
-      holds = upto (λ j. signal d (Reg (has_at l j)) ≡ reg_signal 1 (has_at l j)) k f.same g.holds;
-      has_has = upto (λ j. HasReg d (has_at l j)) k f.has g.has_has;
-      has_one = upto (λ j. reg_width d (has_at l j) ≡ 1) k f.width g.has_one;
-      kept_there = upto (λ j. IsThere d (Reg (kept_at l j))) k w.there g.kept_there;
-      word = upto (λ j. signal d (Reg (kept_at l j)) ≡ reg_signal l.width (kept_at l j)) k w.same g.word;
-      has_kept = upto (λ j. HasReg d (kept_at l j)) k w.has g.has_kept;
-      kept_width = upto (λ j. reg_width d (kept_at l j) ≡ l.width) k w.width g.kept_width;
     }
 
 pub reset_none : (c : Circuit) (l : Layout) → IsNewReg c l.from 1 0 → AreReset c l 0
-reset_none c l b = record { orphan = b.reset; owns = λ k h. absurd (omega arith); has = λ k h. absurd (omega arith) }
+reset_none c l b = record { orphan = b.reset; owns = λ k h. absurd (omega arith) }
 
-pub reset_more : (c d : Circuit) (l : Layout) (k : ℕ) → HasPlaces c l k → AreReset c l k → Extends c d → IsNewReg d (owns_at l k) 1 0 → IsNewReg d (has_at l k) 1 0 → AreReset d l (k + 1)
-reset_more c d l k h a e o f =
+pub reset_more : (c d : Circuit) (l : Layout) (k : ℕ) → HasPlaces c l k → AreReset c l k → Extends c d → IsNewReg d (owns_at l k) 1 0 → AreReset d l (k + 1)
+reset_more c d l k h a e o =
     let g = reset_kept c d l k h a e in
     record {
       orphan = g.orphan;
       owns = upto (λ j. reg_reset d (owns_at l j) ≡ 0) k o.reset g.owns;
-      has = upto (λ j. reg_reset d (has_at l j) ≡ 0) k f.reset g.has;
     }
 
 -- the answers of one more place
@@ -87,13 +70,13 @@ answers_none c l reply word = record {
   value = λ k h. absurd (omega arith);
 }
 
-pub answers_more : (a b : Circuit) (l : Layout) (reply word : Signal) (xs : List Answer) (x : Answer) (n : ℕ) → AreAnswers a l reply word xs n → Extends a b → Means b x.answered (answered_signal l reply n) → Means b x.given (given_signal l reply n) → Means b x.value (value_signal l word n) → AreAnswers b l reply word (xs ++ x ∷ []) (n + 1)
+pub answers_more : (a b : Circuit) (l : Layout) (reply word : Signal) (xs : List Answer) (x : Answer) (n : ℕ) → AreAnswers a l reply word xs n → Extends a b → Means b x.answered (answered_signal l reply n) → Means b x.given (given_signal l reply n) → Means b x.value word → AreAnswers b l reply word (xs ++ x ∷ []) (n + 1)
 answers_more a b l reply word xs x n h e p q r =
     let here : answer_in (xs ++ x ∷ []) n ≡ x = get_or_push xs x no_answer n h.count in
     let before : (k : ℕ) → k < n → answer_in (xs ++ x ∷ []) k ≡ answer_in xs k = λ k lt. get_or_append_left xs (x ∷ []) no_answer k (omega (arith, h.count, lt)) in
     let P : ℕ → Answer → Type 0 = λ k y. Means b y.answered (answered_signal l reply k) in
     let Q : ℕ → Answer → Type 0 = λ k y. Means b y.given (given_signal l reply k) in
-    let R : ℕ → Answer → Type 0 = λ k y. Means b y.value (value_signal l word k) in
+    let R : ℕ → Answer → Type 0 = λ k y. Means b y.value word in
     record {
       count = length-append xs (x ∷ []) ∙ omega (arith, h.count);
       answered = upto (λ k. P k (answer_in (xs ++ x ∷ []) k)) n (subst (P n) (sym here) p) (λ k lt. subst (P k) (sym (before k lt)) (means_kept a b _ _ e (h.answered k lt)));

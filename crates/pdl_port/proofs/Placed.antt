@@ -1,5 +1,5 @@
 -- The registers of a port that has been made, by what its calls answer.
-use Rattle.std.proofs.Common.{◌≡◌, ℕ, ◌+◌, ◌*◌, ◌^◌, ◌<◌, length, sym, ap, ◌∙◌, subst, arith}
+use Rattle.std.proofs.Common.{◌≡◌, ℕ, ◌+◌, ◌^◌, ◌<◌, length, sym, ap, ◌∙◌, subst, arith}
 use Rattle.std.specs.Prelude.{slice_index}
 use Rattle.pdl_net.specs.Circuit.{Circuit, HasReg}
 use Rattle.pdl_net.specs.Meaning.{IsThere, signal}
@@ -12,40 +12,36 @@ use Rattle.pdl_port.specs.Nets.{AreAnswers, place_signals, own_all}
 
 -- the numbers of a port's registers
 pub record AreListed (l : Layout) (r : PortRegs) : Type 0 where
-  pub count : length r.regs ≡ 3 * l.places + 1
-  pub listed : (k : ℕ) → k < 3 * l.places + 1 → slice_index r.regs k ≡ l.from + k
+  pub count : length r.regs ≡ l.places + 1
+  pub listed : (k : ℕ) → k < l.places + 1 → slice_index r.regs k ≡ l.from + k
   pub answers : length r.answers ≡ l.places
-  pub width : r.width ≡ l.width
 
 first_is : (l : Layout) (r : PortRegs) → AreListed l r → first_reg r ≡ l.from
 first_is l r a = a.listed 0 (omega arith) ∙ omega arith
 
 pub layout_is : (l : Layout) (r : PortRegs) → AreListed l r → layout_of r ≡ l
 layout_is l r a =
-    let From : ℕ → Layout = λ m. record { from = m; places = places r; width = r.width } in
-    let Places : ℕ → Layout = λ m. record { from = l.from; places = m; width = r.width } in
-    let Width : ℕ → Layout = λ m. record { from = l.from; places = l.places; width = m } in
-    ap From (first_is l r a) ∙ ap Places a.answers ∙ ap Width a.width
+    let From : ℕ → Layout = λ m. record { from = m; places = places r } in
+    let Places : ℕ → Layout = λ m. record { from = l.from; places = m } in
+    ap From (first_is l r a) ∙ ap Places a.answers
 
-pub own_is : (r : PortRegs) → length r.regs ≡ 3 * places r + 1 → own_all (layout_of r) ≡ own r
+pub own_is : (r : PortRegs) → length r.regs ≡ places r + 1 → own_all (layout_of r) ≡ own r
 own_is r e = ap (λ (n : ℕ). record { from = first_reg r; to = first_reg r + n; first = 0; last = 0 }) (sym e)
 
-pub are_placed : (c : Circuit) (l : Layout) (r : PortRegs) → AreListed l r → l.from + 3 * l.places + 1 < 2 ^ 64 → HasPlaces c l l.places → IsThere c r.reply → (signal c r.reply).width ≡ 1 → IsThere c r.word → (signal c r.word).width ≡ l.width → ArePlaced c r
-are_placed c l r a small h p q t w =
+pub are_placed : (c : Circuit) (l : Layout) (r : PortRegs) → AreListed l r → l.from + l.places + 1 < 2 ^ 64 → HasPlaces c l l.places → IsThere c r.reply → (signal c r.reply).width ≡ 1 → ArePlaced c r
+are_placed c l r a small h p q =
     let P : Layout → Type 0 = λ y. HasPlaces c y y.places in
     let e = first_is l r a in
     let n = a.answers in
     record {
-      count = a.count ∙ ap (λ m. 3 * m + 1) (sym n);
+      count = a.count ∙ ap (λ m. m + 1) (sym n);
       small = omega (arith, e, n, small);
       reply_there = p;
       reply_one = q;
-      word_there = t;
-      word_width = w ∙ sym a.width;
       regs = subst P (sym (layout_is l r a)) h;
     }
 
-pub is_fragment : (a b c : Circuit) (l : Layout) (r : PortRegs) → AreListed l r → l.from ≡ length a.regs → length b.regs ≡ l.from + 3 * l.places + 1 → Extends b c → IsFragment a c r
+pub is_fragment : (a b c : Circuit) (l : Layout) (r : PortRegs) → AreListed l r → l.from ≡ length a.regs → length b.regs ≡ l.from + l.places + 1 → Extends b c → IsFragment a c r
 unfolding HasReg
 is_fragment a b c l r x f n e =
     let g = first_is l r x in

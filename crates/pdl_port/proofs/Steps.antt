@@ -7,12 +7,13 @@ use Rattle.pdl_net.specs.Circuit.{Circuit}
 use Rattle.pdl_net.specs.Signal.{Signal, reg_signal, const_signal, mux_signal}
 use Rattle.pdl_net.specs.Meaning.{signal, Means, next_signal}
 use Rattle.pdl_net.specs.Growth.{Keeps, Extends, ExtendsBut}
+use Rattle.pdl_build.specs.Change.{one_reg}
 use Rattle.pdl_port.specs.declared.PortRegs.{PortRegs}
 use Rattle.pdl_port.specs.declared.PortStep.{PortStep}
 use Rattle.pdl_port.specs.declared.layout.Layout.{Layout}
 use Rattle.pdl_port.specs.Laws.{StepSignals, step_signals, net_at}
-use Rattle.pdl_port.specs.Places.{HasPlaces, HasStep, owns_at, has_at, kept_at}
-use Rattle.pdl_port.specs.Nets.{owns_signal, free_signal, open_signal, orphan_signal, next_owns, next_has, next_kept, NextPlaces, own_place}
+use Rattle.pdl_port.specs.Places.{HasPlaces, HasStep, owns_at}
+use Rattle.pdl_port.specs.Nets.{owns_signal, free_signal, open_signal, orphan_signal, next_owns, NextPlaces}
 
 pub free_none : (l : Layout) (reply : Signal) (moves : ℕ → Signal) → free_signal l reply moves 0 ≡ mux_signal (reg_signal 1 l.from) reply (const_signal 1 1)
 unfolding free_signal
@@ -37,15 +38,13 @@ pub ruleset orphans = (orphan_none, orphan_more)
 -- the nets of a step mean what they meant
 pub record SameStep (n : ℕ) (f g : StepSignals) : Type 0 where
   pub reply : f.reply ≡ g.reply
-  pub word : f.word ≡ g.word
   pub moves : (k : ℕ) → k < n → f.moves k ≡ g.moves k
   pub removed : (k : ℕ) → k < n → f.removed k ≡ g.removed k
   pub asked : (k : ℕ) → k < n → f.asked k ≡ g.asked k
 
-pub same_step : (a b : Circuit) (n width : ℕ) (r : PortRegs) (p : PortStep) → HasStep a n width r p → Keeps a b → SameStep n (step_signals b r p) (step_signals a r p)
-same_step a b n width r p x k = record {
+pub same_step : (a b : Circuit) (n : ℕ) (r : PortRegs) (p : PortStep) → HasStep a n r p → Keeps a b → SameStep n (step_signals b r p) (step_signals a r p)
+same_step a b n r p x k = record {
   reply = k.kept r.reply x.reply_there;
-  word = k.kept r.word x.word_there;
   moves = λ j h. k.kept (net_at p.moves j) (x.moves_there j h);
   removed = λ j h. k.kept (net_at p.removed j) (x.removed_there j h);
   asked = λ j h. k.kept (net_at p.asked j) (x.asked_there j h);
@@ -54,45 +53,29 @@ same_step a b n width r p x k = record {
 pub owns_same : (l : Layout) (n : ℕ) (f g : StepSignals) (k : ℕ) → SameStep n f g → k < n → next_owns l f k ≡ next_owns l g k
 owns_same l n f g k s h = let a = s.asked k h in let b = s.removed k h in let e = s.reply in cc
 
-pub has_same : (l : Layout) (n : ℕ) (f g : StepSignals) (k : ℕ) → SameStep n f g → k < n → next_has l f k ≡ next_has l g k
-has_same l n f g k s h = let a = s.moves k h in let b = s.removed k h in let e = s.reply in cc
-
-pub kept_same : (l : Layout) (n : ℕ) (f g : StepSignals) (k : ℕ) → SameStep n f g → k < n → next_kept l f k ≡ next_kept l g k
-kept_same l n f g k s h = let e = s.word in cc
-
 pub places_same : (c : Circuit) (l : Layout) (n : ℕ) (f g : StepSignals) → SameStep n f g → NextPlaces c l f n → NextPlaces c l g n
-places_same c l n f g s x = record {
-  owns = λ k h. x.owns k h ∙ owns_same l n f g k s h;
-  has = λ k h. x.has k h ∙ has_same l n f g k s h;
-  kept = λ k h. x.kept k h ∙ kept_same l n f g k s h;
-}
+places_same c l n f g s x = record { owns = λ k h. x.owns k h ∙ owns_same l n f g k s h }
 
 -- what holds of the first k places and of the next one
 upto : (P : ℕ → Type 0) (k : ℕ) → P k → ((j : ℕ) → j < k → P j) → (j : ℕ) → j < k + 1 → P j
 upto P k here rest j lt = ⊎_elim (λ (h : j < k). rest j h) (λ (h : k ≤ j). let e : k ≡ j = omega arith in subst P e here) (cases_lt j k)
 
--- the registers of one more place take what they are to take
-pub places_next : (a b c : Circuit) (l : Layout) (n : ℕ) (f : StepSignals) (k : ℕ) → k < n → HasPlaces a l n → NextPlaces a l f k → Extends a b → ExtendsBut (own_place l k) b c → next_signal c (owns_at l k) ≡ next_owns l f k → next_signal c (has_at l k) ≡ next_has l f k → next_signal c (kept_at l k) ≡ next_kept l f k → NextPlaces c l f (k + 1)
-places_next a b c l n f k h x y e o p q r = record {
+-- the register of one more place takes what it is to take
+pub places_next : (a b c : Circuit) (l : Layout) (n : ℕ) (f : StepSignals) (k : ℕ) → k < n → HasPlaces a l n → NextPlaces a l f k → Extends a b → ExtendsBut (one_reg (owns_at l k)) b c → next_signal c (owns_at l k) ≡ next_owns l f k → NextPlaces c l f (k + 1)
+places_next a b c l n f k h x y e o p = record {
   owns = upto (λ j. next_signal c (owns_at l j) ≡ next_owns l f j) k p (λ j lt. let g = x.has_owns j (omega arith) in o.nexts (owns_at l j) (e.has_reg _ g) (inl (omega arith)) ∙ e.nexts (owns_at l j) g ∙ y.owns j lt);
-  has = upto (λ j. next_signal c (has_at l j) ≡ next_has l f j) k q (λ j lt. let g = x.has_has j (omega arith) in o.nexts (has_at l j) (e.has_reg _ g) (inl (omega arith)) ∙ e.nexts (has_at l j) g ∙ y.has j lt);
-  kept = upto (λ j. next_signal c (kept_at l j) ≡ next_kept l f j) k r (λ j lt. let g = x.has_kept j (omega arith) in o.nexts (kept_at l j) (e.has_reg _ g) (inl (omega arith)) ∙ e.nexts (kept_at l j) g ∙ y.kept j lt);
 }
 
 -- no place, so nothing to take
 pub places_nothing : (c : Circuit) (l : Layout) (f : StepSignals) → NextPlaces c l f 0
-places_nothing c l f = record { owns = λ k h. absurd (omega arith); has = λ k h. absurd (omega arith); kept = λ k h. absurd (omega arith) }
-
--- a net that means a signal means one that is equal to it
-pub means_as : (c : Circuit) (x : Net) (f g : Signal) → Means c x f → f ≡ g → Means c x g
-means_as c x f g m e = record { there = m.there; same = m.same ∙ e }
+places_nothing c l f = record { owns = λ k h. absurd (omega arith) }
 
 -- whether an orphan is left by one place more
-pub orphan_net : (a b m n d : Circuit) (l : Layout) (width : ℕ) (r : PortRegs) (p : PortStep) (k : ℕ) (one nought orphan open_net left removed next : Net) → HasPlaces a l l.places → HasStep a l.places width r p → k < l.places → Extends a b → Extends b m → Extends m n
+pub orphan_net : (a b m n d : Circuit) (l : Layout) (r : PortRegs) (p : PortStep) (k : ℕ) (one nought orphan open_net left removed next : Net) → HasPlaces a l l.places → HasStep a l.places r p → k < l.places → Extends a b → Extends b m → Extends m n
     → Means b one (const_signal 1 1) → Means b nought (const_signal 1 0) → Means b orphan (orphan_signal l (step_signals a r p) k) → removed ≡ net_at p.removed k
     → Means m open_net (mux_signal (signal b r.reply) (signal b nought) (signal b (Reg (owns_at l k)))) → Means n left (mux_signal (signal m open_net) (signal m one) (signal m orphan))
     → Means d next (mux_signal (signal n removed) (signal n left) (signal n orphan)) → Means d next (orphan_signal l (step_signals a r p) (k + 1))
-orphan_net a b m n d l width r p k one nought orphan open_net left removed next h g i x y z u v w e o q t =
+orphan_net a b m n d l r p k one nought orphan open_net left removed next h g i x y z u v w e o q t =
     let reply = x.kept r.reply g.reply_there in
     let none = v.same in
     let owns = x.kept (Reg (owns_at l k)) (h.owns_there k i) ∙ h.owner k i in

@@ -1,5 +1,5 @@
 -- What the calls of a port ensure.
-use Rattle.std.specs.Prelude.{◌≡◌, ℕ, ◌+◌, ◌<◌, ◌≤◌, Bool, true, List, length, slice_index, slice_index_or, Some, is_some}
+use Rattle.std.specs.Prelude.{◌≡◌, ℕ, ◌+◌, ◌<◌, ◌≤◌, Bool, true, List, length, slice_index, slice_index_or}
 use Rattle.pdl_word.specs.Words.{bit}
 use Rattle.pdl_net.specs.declared.Net.{Net}
 use Rattle.pdl_net.specs.declared.Net.TheVariants.{Input}
@@ -11,7 +11,7 @@ use Rattle.pdl_lockapi.specs.Laws.{IsReset, IsNext}
 use Rattle.pdl_port.specs.declared.Answer.{Answer}
 use Rattle.pdl_port.specs.declared.PortRegs.{PortRegs}
 use Rattle.pdl_port.specs.declared.PortStep.{PortStep}
-use Rattle.pdl_port.specs.Port.{PortState, PortAct, start, step, Proper, is_answered, answer, is_free}
+use Rattle.pdl_port.specs.Port.{PortState, Idle, PortAct, step, Proper, is_answered, is_given, is_free}
 
 -- how many places a port has
 abbrev pub places : PortRegs → ℕ
@@ -53,9 +53,9 @@ pub record HasAnswerNets (c : Circuit) (width : ℕ) (r : PortRegs) : Type 0 whe
   pub value_there : (k : ℕ) → k < places r → IsThere c (answer_at r k).value
   pub value_width : (k : ℕ) → k < places r → (signal c (answer_at r k).value).width ≡ width
 
--- registers at reset stand for the port at its start
+-- registers at reset stand for a port without request
 pub record StartLaw (stands : State → PortState → Type 0) (c : Circuit) (o : Own) : Type 0 where
-  pub starts : (s : State) → IsReset c o.from o.to s → stands s start
+  pub starts : (s : State) → IsReset c o.from o.to s → stands s Idle
 
 -- in this state the first net, a reply, is this bit, and where it is 1 the second one, its word, has this value
 pub record Replies (f g : Signal) (s : State) (r : Bool) (w : ℕ) : Type 0 where
@@ -71,11 +71,11 @@ pub record AnswerSignals : Type 0 where
 abbrev pub answer_signals : Circuit → PortRegs → ℕ → AnswerSignals
 answer_signals c r k = record { answered = signal c (answer_at r k).answered; given = signal c (answer_at r k).given; value = signal c (answer_at r k).value }
 
--- the nets of a place say whether its thread waits for no answer, whether there is an answer for it, and that answer
+-- the nets of a place say whether its thread waits for no answer, whether the answer that comes now is for it, and that answer
 pub record AnswerLaw (stands : State → PortState → Type 0) (n : ℕ) (reply word : Signal) (f : ℕ → AnswerSignals) : Type 0 where
   pub answered : (s : State) (x : PortState) (r : Bool) (w : ℕ) → stands s x → Replies reply word s r w → (k : ℕ) → k < n → (f k).answered.value s ≡ bit (is_answered x r k)
-  pub given : (s : State) (x : PortState) (r : Bool) (w : ℕ) → stands s x → Replies reply word s r w → (k : ℕ) → k < n → (f k).given.value s ≡ bit (is_some (answer x r w k))
-  pub value : (s : State) (x : PortState) (r : Bool) (w : ℕ) → stands s x → Replies reply word s r w → (k v : ℕ) → k < n → answer x r w k ≡ Some v → (f k).value.value s ≡ v
+  pub given : (s : State) (x : PortState) (r : Bool) (w : ℕ) → stands s x → Replies reply word s r w → (k : ℕ) → k < n → (f k).given.value s ≡ bit (is_given x r k)
+  pub value : (s : State) (x : PortState) (r : Bool) (w : ℕ) → stands s x → Replies reply word s r w → (k : ℕ) → k < n → is_given x r k ≡ true → (f k).value.value s ≡ w
 
 -- the k-th of some nets, and its signal
 abbrev pub net_at : List Net → ℕ → Net
@@ -95,13 +95,12 @@ abbrev pub AreBits : ℕ → State → (ℕ → Signal) → (ℕ → Bool) → T
 AreBits n s f on = (k : ℕ) → k < n → (f k).value s ≡ bit (on k)
 
 -- the net of a port says whether it is free
-pub record FreeLaw (stands : State → PortState → Type 0) (n : ℕ) (reply word : Signal) (moves : ℕ → Signal) (free : Signal) : Type 0 where
-  pub holds : (s : State) (x : PortState) (r : Bool) (w : ℕ) (on : ℕ → Bool) → stands s x → Replies reply word s r w → AreBits n s moves on → free.value s ≡ bit (is_free x r on)
+pub record FreeLaw (stands : State → PortState → Type 0) (n : ℕ) (reply : Signal) (moves : ℕ → Signal) (free : Signal) : Type 0 where
+  pub holds : (s : State) (x : PortState) (r : Bool) (on : ℕ → Bool) → stands s x → reply.value s ≡ bit r → AreBits n s moves on → free.value s ≡ bit (is_free x r on)
 
 -- what the nets of a step mean
 pub record StepSignals : Type 0 where
   pub reply : Signal
-  pub word : Signal
   pub moves : ℕ → Signal
   pub removed : ℕ → Signal
   pub asked : ℕ → Signal
@@ -109,7 +108,6 @@ pub record StepSignals : Type 0 where
 abbrev pub step_signals : Circuit → PortRegs → PortStep → StepSignals
 step_signals c r p = record {
   reply = signal c r.reply;
-  word = signal c r.word;
   moves = signal_at c p.moves;
   removed = signal_at c p.removed;
   asked = signal_at c p.asked;
@@ -117,7 +115,7 @@ step_signals c r p = record {
 
 -- in this state the nets of a step do this to a port of n places
 pub record Drives (n : ℕ) (f : StepSignals) (s : State) (a : PortAct) : Type 0 where
-  pub replies : Replies f.reply f.word s a.reply a.word
+  pub reply : f.reply.value s ≡ bit a.reply
   pub moves : AreBits n s f.moves a.moves
   pub removed : AreBits n s f.removed a.removed
   pub asked : AreBits n s f.asked a.asked

@@ -1,5 +1,5 @@
 -- The nets of a port as signals.
-use Rattle.std.specs.Prelude.{◌≡◌, ℕ, zero, suc, ◌+◌, ◌*◌, ◌<◌, List, length}
+use Rattle.std.specs.Prelude.{◌≡◌, ℕ, zero, suc, ◌+◌, ◌<◌, List, length}
 use Rattle.pdl_net.specs.Circuit.{Circuit}
 use Rattle.pdl_net.specs.Signal.{Signal, reg_signal, const_signal, mux_signal}
 use Rattle.pdl_net.specs.Meaning.{Means, next_signal}
@@ -7,37 +7,28 @@ use Rattle.pdl_net.specs.Growth.{Own}
 use Rattle.pdl_port.specs.declared.Answer.{Answer}
 use Rattle.pdl_port.specs.declared.layout.Layout.{Layout}
 use Rattle.pdl_port.specs.Laws.{AnswerSignals, StepSignals, answer_in}
-use Rattle.pdl_port.specs.Places.{owns_at, has_at, kept_at}
+use Rattle.pdl_port.specs.Places.{owns_at}
 
--- the thread of place k owns the outstanding request; an answer is kept for it, and which one
+-- the thread of place k owns the outstanding request
 abbrev pub owns_signal : Layout → ℕ → Signal
 owns_signal l k = reg_signal 1 (owns_at l k)
 
-abbrev pub has_signal : Layout → ℕ → Signal
-has_signal l k = reg_signal 1 (has_at l k)
-
-abbrev pub kept_signal : Layout → ℕ → Signal
-kept_signal l k = reg_signal l.width (kept_at l k)
-
--- an owner has what comes now, any other thread what is kept for it
+-- an owner waits for a reply, and has what comes now
 abbrev pub answered_signal : Layout → Signal → ℕ → Signal
 answered_signal l reply k = mux_signal (owns_signal l k) reply (const_signal 1 1)
 
 abbrev pub given_signal : Layout → Signal → ℕ → Signal
-given_signal l reply k = mux_signal (owns_signal l k) reply (has_signal l k)
-
-abbrev pub value_signal : Layout → Signal → ℕ → Signal
-value_signal l word k = mux_signal (owns_signal l k) word (kept_signal l k)
+given_signal l reply k = mux_signal (owns_signal l k) reply (const_signal 1 0)
 
 abbrev pub place_signals : Layout → Signal → Signal → ℕ → AnswerSignals
-place_signals l reply word k = record { answered = answered_signal l reply k; given = given_signal l reply k; value = value_signal l word k }
+place_signals l reply word k = record { answered = answered_signal l reply k; given = given_signal l reply k; value = word }
 
 -- the nets of the first n places say this
 pub record AreAnswers (c : Circuit) (l : Layout) (reply word : Signal) (answers : List Answer) (n : ℕ) : Type 0 where
   pub count : length answers ≡ n
   pub answered : (k : ℕ) → k < n → Means c (answer_in answers k).answered (answered_signal l reply k)
   pub given : (k : ℕ) → k < n → Means c (answer_in answers k).given (given_signal l reply k)
-  pub value : (k : ℕ) → k < n → Means c (answer_in answers k).value (value_signal l word k)
+  pub value : (k : ℕ) → k < n → Means c (answer_in answers k).value word
 
 -- the port is free: an orphan is answered, the owner among the first n places is answered and moves, or there is neither
 unfoldable pub free_signal : Layout → Signal → (ℕ → Signal) → ℕ → Signal
@@ -48,15 +39,9 @@ free_signal l reply moves (suc k) = mux_signal (owns_signal l k) (mux_signal rep
 abbrev pub open_signal : Layout → StepSignals → ℕ → Signal
 open_signal l f k = mux_signal f.reply (const_signal 1 0) (owns_signal l k)
 
--- what the registers of place k take next
+-- what the register of place k takes next
 abbrev pub next_owns : Layout → StepSignals → ℕ → Signal
 next_owns l f k = mux_signal (f.asked k) (const_signal 1 1) (mux_signal (f.removed k) (const_signal 1 0) (open_signal l f k))
-
-abbrev pub next_has : Layout → StepSignals → ℕ → Signal
-next_has l f k = mux_signal (f.moves k) (const_signal 1 0) (mux_signal (f.removed k) (const_signal 1 0) (given_signal l f.reply k))
-
-abbrev pub next_kept : Layout → StepSignals → ℕ → Signal
-next_kept l f k = value_signal l f.word k
 
 -- an orphan is left: one that isn't answered, or the unanswered request of a thread in the first n places that is removed
 unfoldable pub orphan_signal : Layout → StepSignals → ℕ → Signal
@@ -66,20 +51,15 @@ orphan_signal l f (suc k) = mux_signal (f.removed k) (mux_signal (open_signal l 
 -- what the registers of the first n places take next
 pub record NextPlaces (c : Circuit) (l : Layout) (f : StepSignals) (n : ℕ) : Type 0 where
   pub owns : (k : ℕ) → k < n → next_signal c (owns_at l k) ≡ next_owns l f k
-  pub has : (k : ℕ) → k < n → next_signal c (has_at l k) ≡ next_has l f k
-  pub kept : (k : ℕ) → k < n → next_signal c (kept_at l k) ≡ next_kept l f k
 
 -- what all registers take next
 pub record NextPort (c : Circuit) (l : Layout) (f : StepSignals) : Type 0 where
   pub places : NextPlaces c l f l.places
   pub orphan : next_signal c l.from ≡ orphan_signal l f l.places
 
--- the registers of a port, those of its places, and those of one place
+-- the registers of a port, and those of its places
 abbrev pub own_all : Layout → Own
-own_all l = record { from = l.from; to = l.from + (3 * l.places + 1); first = 0; last = 0 }
+own_all l = record { from = l.from; to = l.from + (l.places + 1); first = 0; last = 0 }
 
 abbrev pub own_places : Layout → Own
-own_places l = record { from = l.from + 1; to = l.from + 3 * l.places + 1; first = 0; last = 0 }
-
-abbrev pub own_place : Layout → ℕ → Own
-own_place l k = record { from = owns_at l k; to = kept_at l k + 1; first = 0; last = 0 }
+own_places l = record { from = l.from + 1; to = l.from + l.places + 1; first = 0; last = 0 }

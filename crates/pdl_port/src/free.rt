@@ -1,5 +1,5 @@
 //! Whether a port is free.
-ghost use Rattle.std.specs.Prelude.{◌≡◌, ◌+◌, ◌*◌, ◌^◌, ◌<◌, length, IfOk};
+ghost use Rattle.std.specs.Prelude.{◌≡◌, ◌+◌, ◌^◌, ◌<◌, length, IfOk};
 ghost use Rattle.pdl_net.specs.Meaning.{IsThere, Means, signal};
 ghost use Rattle.pdl_net.specs.Growth.{Extends};
 ghost use Rattle.pdl_port.specs.Laws.{places, net_at, signal_at, HasBits, FreeLaw};
@@ -23,7 +23,7 @@ pub fn net(nets: &Seq<Net>, k: usize) -> Net
 /// Whether the port is free, over the places from the first on.
 #[tactic(auto, using(crate::proofs::Steps::frees, crate::proofs::Kept::places_kept, crate::proofs::Kept::bits_kept))]
 fn emit_free(b: &mut Builder, l: Layout, reply: Net, moves: &Seq<Net>) -> Result<Net, NoMemory>
-    requires small { l.from + 3 * l.places + 1 < 2 ^ 64 }
+    requires small { l.from + l.places + 1 < 2 ^ 64 }
     requires places { HasPlaces b.old l l.places }
     requires reply_there { IsThere b.old reply }
     requires reply_one { (signal b.old reply).width ≡ 1 }
@@ -38,7 +38,7 @@ fn emit_free(b: &mut Builder, l: Layout, reply: Net, moves: &Seq<Net>) -> Result
     let mut free = b.mux(Net::Reg(l.from), reply, one)?;
     for k in 0..l.places {
         let leaves = b.mux(reply, net(moves, k), zero)?;
-        free = b.mux(Net::Reg(l.from + 3 * k + 1), leaves, free)?;
+        free = b.mux(Net::Reg(l.from + k + 1), leaves, free)?;
     }
     Ok(free)
 }
@@ -51,7 +51,7 @@ pub fn emit_port_free(b: &mut Builder, r: &PortRegs, moves: &Seq<Net>) -> Result
     ensures one { IfOk result (λ x. (signal b.new x).width ≡ 1) }
     ensures law { IfOk result (λ x.
         FreeLaw (stands r.now) (places r.now) (signal b.old r.now.reply)
-        (signal b.old r.now.word) (signal_at b.old moves.now) (signal b.new x)) }
+        (signal_at b.old moves.now) (signal b.new x)) }
     ensures extends { Extends b.old b.new }
 {
     let l = Layout::of(r);

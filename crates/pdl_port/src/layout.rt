@@ -4,15 +4,13 @@ ghost use Rattle.pdl_port.specs.Places.{layout_of};
 
 use crate::PortRegs;
 
-/// The registers of a port: whether an orphan is outstanding, then three of each place.
+/// The registers of a port: whether an orphan is outstanding, then one of each place.
 #[derive(Clone, Copy)]
 pub struct Layout {
     /// The first register.
     pub from: usize,
     /// How many places there are.
     pub places: usize,
-    /// The bits of a word.
-    pub width: u8,
 }
 
 impl Layout {
@@ -24,7 +22,6 @@ impl Layout {
         Layout {
             from: r.regs.as_slice()[0],
             places: r.answers.len(),
-            width: r.width,
         }
     }
 }

@@ -1,4 +1,4 @@
-//! The circuit of a delayed memory's port: whose request is outstanding, and which answers are kept until their threads move.
+//! The circuit of a delayed memory's port: whose request is outstanding, and for whom an answer is.
 //!
 //! The layers above may use the calls that emit its state, whether it is free and its step, and know their nets by the laws of `specs/Laws` alone. A place is one of the stages that follow the reading stage, by its position among them.
 #![tactic(auto)]
@@ -19,9 +19,9 @@ pub use step::emit_port_step;
 pub struct Answer {
     /// Whether the place's thread waits for no answer, 1 bit.
     pub answered: Net,
-    /// Whether there is an answer for it, 1 bit.
+    /// Whether the answer that comes now is for it, 1 bit.
     pub given: Net,
-    /// The answer, where there is one; of the memory's width.
+    /// That answer, where it is; of the memory's width.
     pub value: Net,
 }
 
@@ -36,8 +36,6 @@ pub struct PortRegs {
     pub word: Net,
     /// What it tells of each place.
     pub answers: Seq<Answer>,
-    /// The bits of a word of its memory, 1 to 64.
-    pub width: u8,
 }
 
 /// What a cycle does to a port: of each place three nets of 1 bit.

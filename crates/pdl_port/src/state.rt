@@ -1,11 +1,10 @@
 //! The registers of a port, and the nets that tell of each place whether its thread has its answer.
-ghost use Rattle.std.specs.Prelude.{◌≡◌, ℕ, ◌+◌, ◌*◌, ◌^◌, ◌<◌, ◌≤◌, length, slice_index, IfOk, OnOk};
+ghost use Rattle.std.specs.Prelude.{◌≡◌, ℕ, ◌+◌, ◌^◌, ◌<◌, ◌≤◌, length, slice_index, IfOk, OnOk};
 ghost use Rattle.pdl_net.specs.Meaning.{IsThere, Means, signal};
 ghost use Rattle.pdl_net.specs.Growth.{Extends};
-ghost use Rattle.pdl_build.specs.Change.{IsNewReg};
 ghost use Rattle.pdl_port.specs.Laws.{places, own, IsFragment, HasAnswerNets, StartLaw, AnswerLaw, answer_signals};
 ghost use Rattle.pdl_port.specs.Places.{HasPlaces, AreReset, ArePlaced, stands};
-ghost use Rattle.pdl_port.specs.Nets.{answered_signal, given_signal, value_signal, AreAnswers};
+ghost use Rattle.pdl_port.specs.Nets.{answered_signal, given_signal, AreAnswers};
 
 use crate::layout::Layout;
 use crate::{Answer, PortRegs};
@@ -27,37 +26,19 @@ fn numbers(alloc: Global, from: usize, count: usize) -> Result<Seq<usize>, NoMem
     Ok(found)
 }
 
-/// The registers of one more place, which owns no request and keeps nothing at first.
-fn emit_place(b: &mut Builder, width: u8) -> Result<(), NoMemory>
-    requires low { 1 ≤ width }
-    requires high { width ≤ 64 }
-    ensures owns { OnOk result (IsNewReg b.new (length b.old.regs) 1 0) }
-    ensures has { OnOk result (IsNewReg b.new (length b.old.regs + 1) 1 0) }
-    ensures kept { OnOk result (IsNewReg b.new (length b.old.regs + 2) width 0) }
-    ensures count { OnOk result (length b.new.regs ≡ length b.old.regs + 3) }
-    ensures extends { Extends b.old b.new }
-{
-    b.reg(1, 0)?;
-    b.reg(1, 0)?;
-    b.reg(width, 0)?;
-    Ok(())
-}
-
 /// The registers of a port.
 #[tactic(auto, using(crate::proofs::Made::places_none, crate::proofs::Made::places_more, crate::proofs::Made::reset_none, crate::proofs::Made::reset_more))]
 fn emit_registers(b: &mut Builder, l: Layout) -> Result<(), NoMemory>
     requires from { l.from ≡ length b.old.regs }
-    requires low { 1 ≤ l.width }
-    requires high { l.width ≤ 64 }
-    ensures small { OnOk result (l.from + 3 * l.places + 1 < 2 ^ 64) }
-    ensures count { OnOk result (length b.new.regs ≡ l.from + 3 * l.places + 1) }
+    ensures small { OnOk result (l.from + l.places + 1 < 2 ^ 64) }
+    ensures count { OnOk result (length b.new.regs ≡ l.from + l.places + 1) }
     ensures places { OnOk result (HasPlaces b.new l l.places) }
     ensures reset { OnOk result (AreReset b.new l l.places) }
     ensures extends { Extends b.old b.new }
 {
     b.reg(1, 0)?;
     for _k in 0..l.places {
-        emit_place(b, l.width)?;
+        b.reg(1, 0)?;
     }
     let _count = b.reg_count();
     Ok(())
@@ -71,29 +52,28 @@ fn emit_answer(
     word: Net,
     k: usize,
 ) -> Result<Answer, NoMemory>
-    requires small { l.from + 3 * l.places + 1 < 2 ^ 64 }
+    requires small { l.from + l.places + 1 < 2 ^ 64 }
     requires places { HasPlaces b.old l l.places }
     requires within { k < l.places }
     requires reply_there { IsThere b.old reply }
     requires reply_one { (signal b.old reply).width ≡ 1 }
     requires word_there { IsThere b.old word }
-    requires word_width { (signal b.old word).width ≡ l.width }
     ensures answered { IfOk result (λ x.
         Means b.new x.answered (answered_signal l (signal b.old reply) k)) }
     ensures given { IfOk result (λ x.
         Means b.new x.given (given_signal l (signal b.old reply) k)) }
-    ensures value { IfOk result (λ x. Means b.new x.value (value_signal l (signal b.old word) k)) }
+    ensures value { IfOk result (λ x. Means b.new x.value (signal b.old word)) }
     ensures extends { Extends b.old b.new }
 {
     let one = b.constant(1, 1)?;
-    let owns = Net::Reg(l.from + 3 * k + 1);
+    let zero = b.constant(1, 0)?;
+    let owns = Net::Reg(l.from + k + 1);
     let answered = b.mux(owns, reply, one)?;
-    let given = b.mux(owns, reply, Net::Reg(l.from + 3 * k + 2))?;
-    let value = b.mux(owns, word, Net::Reg(l.from + 3 * k + 3))?;
+    let given = b.mux(owns, reply, zero)?;
     Ok(Answer {
         answered,
         given,
-        value,
+        value: word,
     })
 }
 
@@ -106,12 +86,11 @@ fn emit_answers(
     reply: Net,
     word: Net,
 ) -> Result<Seq<Answer>, NoMemory>
-    requires small { l.from + 3 * l.places + 1 < 2 ^ 64 }
+    requires small { l.from + l.places + 1 < 2 ^ 64 }
     requires places { HasPlaces b.old l l.places }
     requires reply_there { IsThere b.old reply }
     requires reply_one { (signal b.old reply).width ≡ 1 }
     requires word_there { IsThere b.old word }
-    requires word_width { (signal b.old word).width ≡ l.width }
     ensures answers { IfOk result (λ xs.
         AreAnswers b.new l (signal b.old reply) (signal b.old word) xs l.places) }
     ensures extends { Extends b.old b.new }
@@ -140,7 +119,6 @@ pub fn emit_port_state(
     requires few { next_stages ≤ 2 }
     ensures reply { IfOk result (λ r. r.reply ≡ reply) }
     ensures word { IfOk result (λ r. r.word ≡ word) }
-    ensures width { IfOk result (λ r. r.width ≡ mem.now.width) }
     ensures count { IfOk result (λ r. places r ≡ next_stages) }
     ensures placed { IfOk result (λ r. ArePlaced b.new r) }
     ensures fragment { IfOk result (λ r. IsFragment b.old b.new r) }
@@ -151,20 +129,17 @@ pub fn emit_port_state(
         (answer_signals b.new r)) }
     ensures extends { Extends b.old b.new }
 {
-    let width = b.width(word);
     let l = Layout {
         from: b.reg_count(),
         places: next_stages as usize,
-        width,
     };
     emit_registers(b, l)?;
-    let regs = numbers(alloc, l.from, 3 * l.places + 1)?;
+    let regs = numbers(alloc, l.from, l.places + 1)?;
     let answers = emit_answers(alloc, b, l, reply, word)?;
     Ok(PortRegs {
         regs,
         reply,
         word,
         answers,
-        width: mem.width,
     })
 }

@@ -28,7 +28,7 @@ pub record HasPort (p : Pipe) (c : Circuit) (vs : ℕ → View) (gates : Gates) 
   pub owned : HasOwn c own
   pub starts : port_laws.StartLaw (sides.port m).stands c own
   pub answers : port_laws.AnswerLaw (sides.port m).stands (length (places p r)) (sides.port m).reply (sides.port m).word (sides.port m).answers
-  pub free : port_laws.FreeLaw (sides.port m).stands (length (places p r)) (sides.port m).reply (sides.port m).word (λ i. moves (place_at p r i)) (sides.port m).free
+  pub free : port_laws.FreeLaw (sides.port m).stands (length (places p r)) (sides.port m).reply (λ i. moves (place_at p r i)) (sides.port m).free
   pub step : port_laws.StepLaw (sides.port m).stands (length (places p r)) own c (port_step p vs gates moves sides m r)
 
 -- the order of a fork

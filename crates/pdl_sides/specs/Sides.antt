@@ -133,7 +133,6 @@ asked_into p vs moves m r i = both (asks_memory m (moves r.stage) (vs r.stage).e
 abbrev pub port_step : Pipe → (ℕ → View) → Gates → (ℕ → Signal) → Sides → ℕ → Reading → port_laws.StepSignals
 port_step p vs gates moves sides m r = record {
   reply = (sides.port m).reply;
-  word = (sides.port m).word;
   moves = λ i. moves (place_at p r i);
   removed = λ i. gates.kill (place_at p r i);
   asked = asked_into p vs moves m r;

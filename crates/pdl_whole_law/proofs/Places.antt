@@ -1,17 +1,17 @@
 -- Where a netlist has the memories of a pipe: the delayed ones first, then those that answer at once.
-use Rattle.std.proofs.Common.{◌≡◌, refl, sym, ap, ap₂, ◌∙◌, subst, ℕ, zero, suc, ◌+◌, ◌<◌, ◌≤◌, Bool, true, false, List, [], ◌∷◌, ◌++◌, length, map, take, drop, filter, arith, cond, length-append}
-use Rattle.std.specs.Prelude.{if◌then◌else◌, slice_index, slice_index_or, count_by}
-use Rattle.std.proofs.lemmas.List.Sums.{sum_by-cons, length-filter}
+use Rattle.std.proofs.Common.{◌≡◌, refl, sym, ap, ◌∙◌, ℕ, zero, suc, ◌+◌, ◌<◌, Bool, true, false, List, [], ◌∷◌, ◌++◌, length, take, arith, cond}
+use Rattle.std.specs.Prelude.{if◌then◌else◌, slice_index_or, count_by}
+use Rattle.std.proofs.lemmas.List.Sums.{sum_by-cons}
 use Rattle.std.proofs.lemmas.List.{length-map}
 use Rattle.pdl_kit.specs.declared.mem_info.MemInfo.{MemInfo}
-use Rattle.pdl_semantics.specs.Flat.{Mem, Pipe, arrays_of}
+use Rattle.pdl_semantics.specs.Flat.{Mem, Pipe}
 use Rattle.pdl_semantics.specs.Stages.{mem_at, plain_mem, reply_place}
-use Rattle.pdl_semantics.specs.Cycle.{for_mems}
 use Rattle.pdl_simulation.proofs.PerMemory.{at_mem}
 use Rattle.pdl_net.specs.declared.Netlist.{Netlist}
 use Rattle.pdl_net.specs.Run.{delayed_mems}
 use Rattle.pdl_pipe_law.specs.Walk.{Locks}
-use Rattle.pdl_sides.specs.Whole.{names_delayed, delayed_count, comb_place, net_place, in_order, HasWholeMems}
+use Rattle.pdl_pipe_law.specs.Places.{delayed_count, comb_place, net_place}
+use Rattle.pdl_sides.specs.Whole.{names_delayed, in_order, HasWholeMems}
 
 -- ---- COUNTS
 

@@ -1,7 +1,7 @@
 -- What the ports of delayed memories tell a stage, by their signals: whether its thread awaits an answer, its variables with the answers, and whether the ports of its requests are free.
-use Rattle.std.proofs.Common.{◌≡◌, refl, sym, ap, ap₂, ◌∙◌, subst, ℕ, zero, suc, ◌+◌, ◌≤◌, ◌<◌, ◌⊎◌, inl, inr, ⊎_elim, Bool, true, false, ◌&&◌, List, [], ◌∷◌, length, Option, Some, None, is_some, arith, ◌==◌}
+use Rattle.std.proofs.Common.{◌≡◌, refl, sym, ap, ap₂, ◌∙◌, subst, ℕ, zero, suc, ◌+◌, ◌≤◌, ◌<◌, ◌⊎◌, inl, inr, ⊎_elim, Bool, true, false, ◌&&◌, List, [], ◌∷◌, length, Option, Some, None, arith, ◌==◌}
 use Rattle.std.specs.Prelude.{if◌then◌else◌, slice_index}
-use Rattle.std.proofs.lemmas.Bool.{eqb-true, eqb-false, cases_lt}
+use Rattle.std.proofs.lemmas.Bool.{eqb-true, eqb-false, false≢true, cases_lt}
 use Rattle.pdl_word.specs.Words.{bit}
 use Rattle.pdl_semantics.specs.Flat.{Pipe, list_all}
 use Rattle.pdl_semantics.specs.Machine as machine
@@ -12,7 +12,7 @@ use Rattle.pdl_net.specs.Signal.{Signal, mux_signal}
 use Rattle.pdl_machine_facts.specs.Slots.{LeadsOn, slot, later_acts, stage_moves}
 use Rattle.pdl_machine_facts.specs.Cycle.{IsByStages}
 use Rattle.pdl_port.specs.Port as port
-use Rattle.pdl_port.specs.Port.{PortState, answer}
+use Rattle.pdl_port.specs.Port.{PortState, is_given}
 use Rattle.pdl_port.specs.Laws.{Replies, AnswerSignals}
 use Rattle.pdl_pipe_law.specs.Walk as walk
 use Rattle.pdl_pipe_law.specs.Walk.{one, both, if_on, is_on}
@@ -25,7 +25,7 @@ use Rattle.pdl_inflight.proofs.DeedsIn.{AsksIn, asks_in}
 use Rattle.pdl_inflight.proofs.Answers.{word_asked, kept_append, some_open, not_bound}
 use Rattle.pdl_sides.specs.Sides.{Sides, answers_of, place_answer, memory_answer, some_answer, with_answer, place_answered, memory_answered, all_answered, ports_open}
 use Rattle.pdl_sides.specs.HasSides.{HasPort}
-use Rattle.pdl_whole_law.proofs.Waiting.{SamePort, reply_bit, answered_yes, answered_no, answer_right, answer_comes, free_is, place_up}
+use Rattle.pdl_whole_law.proofs.Waiting.{SamePort, reply_bit, answered_yes, answered_no, given_right, given_comes, free_is, place_up}
 use Rattle.pdl_word.specs.Each.{Each}
 
 -- in a state of the circuit each port stands for one that agrees with the machine
@@ -190,14 +190,13 @@ module _ (p : Pipe) (reads : Reads p) (leads : LeadsOn p) (inside : (m : ℕ) (r
         pub place : ℕ
         pub low : place < length (places p read)
         pub at_stage : place_at p read place ≡ k
-        pub word : ℕ
-        pub gives : answer (stand m read is).state (reply_bit p st bits m) (word_asked st m) place ≡ Some word
+        pub gives : is_given (stand m read is).state (reply_bit p st bits m) place ≡ true
 
       places_answer : (m : ℕ) (r : Reading) (is : reading p m ≡ Some r) → r.var ≡ v → (rest : Signal) (qs : List ℕ) (i : ℕ) → i + length qs ≡ length (places p r) → ((j : ℕ) → j < length qs → slice_index qs j ≡ place_at p r (i + j))
-          → (rest.value s ≡ slice_index (with_kept (with_answers p st bits u).kept u.env) v) ⊎ ((j : ℕ) × (w : ℕ) × (i ≤ j) × (j < length (places p r)) × (place_at p r j ≡ k) × (answer (stand m r is).state (reply_bit p st bits m) (word_asked st m) j ≡ Some w))
+          → (rest.value s ≡ slice_index (with_kept (with_answers p st bits u).kept u.env) v) ⊎ ((j : ℕ) × (i ≤ j) × (j < length (places p r)) × (place_at p r j ≡ k) × (is_given (stand m r is).state (reply_bit p st bits m) j ≡ true))
           → (place_answer (sides.port m).answers k qs i rest).value s ≡ slice_index (with_kept (with_answers p st bits u).kept u.env) v
       places_answer m r is var rest [] i e h (inl g) = g
-      places_answer m r is var rest [] i e h (inr g) = absurd (let l = g.2 in let z = g.3 in omega (arith, l, z, e))
+      places_answer m r is var rest [] i e h (inr g) = absurd (let l = g.1 in let z = g.2 in omega (arith, l, z, e))
       places_answer m r is var rest (q ∷ qs) i e h g =
           at (q == k) refl (λ z. places_answer m r is var rest qs (suc i) (omega (arith, e)) (λ j l. h (suc j) (omega (arith, l)) ∙ ap (place_at p r) (let y : i + suc j ≡ suc i + j = omega arith in y)) z)
         where
@@ -211,50 +210,50 @@ module _ (p : Pipe) (reads : Reads p) (leads : LeadsOn p) (inside : (m : ℕ) (r
           low = omega (arith, e)
 
           Later : Type 0
-          Later = (j : ℕ) × (w : ℕ) × (suc i ≤ j) × (j < length (places p r)) × (place_at p r j ≡ k) × (answer (stand m r is).state (reply_bit p st bits m) (word_asked st m) j ≡ Some w)
+          Later = (j : ℕ) × (suc i ≤ j) × (j < length (places p r)) × (place_at p r j ≡ k) × (is_given (stand m r is).state (reply_bit p st bits m) j ≡ true)
 
           tail : Signal
           tail = place_answer (sides.port m).answers k qs (suc i) rest
 
           at : (b : Bool) → (q == k) ≡ b
-              → ((rest.value s ≡ slice_index (with_kept (with_answers p st bits u).kept u.env) v) ⊎ ((j : ℕ) × (w : ℕ) × (suc i ≤ j) × (j < length (places p r)) × (place_at p r j ≡ k) × (answer (stand m r is).state (reply_bit p st bits m) (word_asked st m) j ≡ Some w)) → (place_answer (sides.port m).answers k qs (suc i) rest).value s ≡ slice_index (with_kept (with_answers p st bits u).kept u.env) v)
+              → ((rest.value s ≡ slice_index (with_kept (with_answers p st bits u).kept u.env) v) ⊎ ((j : ℕ) × (suc i ≤ j) × (j < length (places p r)) × (place_at p r j ≡ k) × (is_given (stand m r is).state (reply_bit p st bits m) j ≡ true)) → (place_answer (sides.port m).answers k qs (suc i) rest).value s ≡ slice_index (with_kept (with_answers p st bits u).kept u.env) v)
               → (if b then mux_signal ((sides.port m).answers i).given ((sides.port m).answers i).value (place_answer (sides.port m).answers k qs (suc i) rest) else place_answer (sides.port m).answers k qs (suc i) rest).value s ≡ slice_index (with_kept (with_answers p st bits u).kept u.env) v
           at false d go = go (pass g)
             where
-              pass : (rest.value s ≡ slice_index (with_kept (with_answers p st bits u).kept u.env) v) ⊎ ((j : ℕ) × (w : ℕ) × (i ≤ j) × (j < length (places p r)) × (place_at p r j ≡ k) × (answer (stand m r is).state (reply_bit p st bits m) (word_asked st m) j ≡ Some w))
-                  → (rest.value s ≡ slice_index (with_kept (with_answers p st bits u).kept u.env) v) ⊎ ((j : ℕ) × (w : ℕ) × (suc i ≤ j) × (j < length (places p r)) × (place_at p r j ≡ k) × (answer (stand m r is).state (reply_bit p st bits m) (word_asked st m) j ≡ Some w))
+              pass : (rest.value s ≡ slice_index (with_kept (with_answers p st bits u).kept u.env) v) ⊎ ((j : ℕ) × (i ≤ j) × (j < length (places p r)) × (place_at p r j ≡ k) × (is_given (stand m r is).state (reply_bit p st bits m) j ≡ true))
+                  → (rest.value s ≡ slice_index (with_kept (with_answers p st bits u).kept u.env) v) ⊎ ((j : ℕ) × (suc i ≤ j) × (j < length (places p r)) × (place_at p r j ≡ k) × (is_given (stand m r is).state (reply_bit p st bits m) j ≡ true))
               pass (inl y) = inl y
               pass (inr y) = ⊎_elim
-                  (λ (z : i < y.0). inr (y.0, y.1, z, y.3, y.4, y.5))
-                  (λ (z : y.0 ≤ i). absurd (eqb-false q k d (here_is ∙ ap (place_at p r) (let l = y.2 in let n : i ≡ y.0 = omega (arith, z, l) in n) ∙ y.4)))
+                  (λ (z : i < y.0). inr (y.0, z, y.2, y.3, y.4))
+                  (λ (z : y.0 ≤ i). absurd (eqb-false q k d (here_is ∙ ap (place_at p r) (let l = y.1 in let n : i ≡ y.0 = omega (arith, z, l) in n) ∙ y.3)))
                   (cases_lt i y.0)
-          at true d go = by_answer (answer (stand m r is).state (reply_bit p st bits m) (word_asked st m) i) refl
+          at true d go = by_answer (is_given (stand m r is).state (reply_bit p st bits m) i) refl
             where
               stands : (sides.port m).stands s (stand m r is).state
               stands = (stand m r is).stands
 
               mux_is : (mux_signal ((sides.port m).answers i).given ((sides.port m).answers i).value (place_answer (sides.port m).answers k qs (suc i) rest)).value s
-                  ≡ (if is_some (answer (stand m r is).state (reply_bit p st bits m) (word_asked st m) i) then ((sides.port m).answers i).value.value s else (place_answer (sides.port m).answers k qs (suc i) rest).value s)
+                  ≡ (if is_given (stand m r is).state (reply_bit p st bits m) i then ((sides.port m).answers i).value.value s else (place_answer (sides.port m).answers k qs (suc i) rest).value s)
               mux_is =
-                  mux_at s ((sides.port m).answers i).given ((sides.port m).answers i).value (place_answer (sides.port m).answers k qs (suc i) rest) (is_some (answer (stand m r is).state (reply_bit p st bits m) (word_asked st m) i))
+                  mux_at s ((sides.port m).answers i).given ((sides.port m).answers i).value (place_answer (sides.port m).answers k qs (suc i) rest) (is_given (stand m r is).state (reply_bit p st bits m) i)
                   ((ports m r is).answers.given s (stand m r is).state (reply_bit p st bits m) (word_asked st m) stands (given m r is) i low)
 
-              by_answer : (o : Option ℕ) → answer (stand m r is).state (reply_bit p st bits m) (word_asked st m) i ≡ o
+              by_answer : (b : Bool) → is_given (stand m r is).state (reply_bit p st bits m) i ≡ b
                   → (mux_signal ((sides.port m).answers i).given ((sides.port m).answers i).value (place_answer (sides.port m).answers k qs (suc i) rest)).value s ≡ slice_index (with_kept (with_answers p st bits u).kept u.env) v
-              by_answer (Some w) y =
-                  mux_is ∙ ap (λ (o : Option ℕ). if is_some o then ((sides.port m).answers i).value.value s else (place_answer (sides.port m).answers k qs (suc i) rest).value s) y
-                  ∙ (ports m r is).answers.value s (stand m r is).state (reply_bit p st bits m) (word_asked st m) stands (given m r is) i w low y
-                  ∙ sym (answer_right p reads leads st bits flight by m r is (inside m r is) (stand m r is).state (stand m r is).same k u f long i w low (sym here_is ∙ eqb-true q k d) y)
+              by_answer true y =
+                  mux_is ∙ ap (λ b. if b then ((sides.port m).answers i).value.value s else (place_answer (sides.port m).answers k qs (suc i) rest).value s) y
+                  ∙ (ports m r is).answers.value s (stand m r is).state (reply_bit p st bits m) (word_asked st m) stands (given m r is) i low y
+                  ∙ sym (given_right p reads leads st bits flight by m r is (inside m r is) (stand m r is).state (stand m r is).same k u f long i (sym here_is ∙ eqb-true q k d) y)
                   ∙ ap (slice_index (with_kept (with_answers p st bits u).kept u.env)) var
-              by_answer None y =
-                  mux_is ∙ ap (λ (o : Option ℕ). if is_some o then ((sides.port m).answers i).value.value s else (place_answer (sides.port m).answers k qs (suc i) rest).value s) y ∙ go (pass g)
+              by_answer false y =
+                  mux_is ∙ ap (λ b. if b then ((sides.port m).answers i).value.value s else (place_answer (sides.port m).answers k qs (suc i) rest).value s) y ∙ go (pass g)
                 where
-                  pass : (rest.value s ≡ slice_index (with_kept (with_answers p st bits u).kept u.env) v) ⊎ ((j : ℕ) × (w : ℕ) × (i ≤ j) × (j < length (places p r)) × (place_at p r j ≡ k) × (answer (stand m r is).state (reply_bit p st bits m) (word_asked st m) j ≡ Some w))
-                      → (rest.value s ≡ slice_index (with_kept (with_answers p st bits u).kept u.env) v) ⊎ ((j : ℕ) × (w : ℕ) × (suc i ≤ j) × (j < length (places p r)) × (place_at p r j ≡ k) × (answer (stand m r is).state (reply_bit p st bits m) (word_asked st m) j ≡ Some w))
+                  pass : (rest.value s ≡ slice_index (with_kept (with_answers p st bits u).kept u.env) v) ⊎ ((j : ℕ) × (i ≤ j) × (j < length (places p r)) × (place_at p r j ≡ k) × (is_given (stand m r is).state (reply_bit p st bits m) j ≡ true))
+                      → (rest.value s ≡ slice_index (with_kept (with_answers p st bits u).kept u.env) v) ⊎ ((j : ℕ) × (suc i ≤ j) × (j < length (places p r)) × (place_at p r j ≡ k) × (is_given (stand m r is).state (reply_bit p st bits m) j ≡ true))
                   pass (inl z) = inl z
                   pass (inr z) = ⊎_elim
-                      (λ (n : i < z.0). inr (z.0, z.1, n, z.3, z.4, z.5))
-                      (λ (n : z.0 ≤ i). absurd (let l = z.2 in let same : z.0 ≡ i = omega (arith, n, l) in cc (sym z.5 ∙ ap (answer (stand m r is).state (reply_bit p st bits m) (word_asked st m)) same ∙ y)))
+                      (λ (n : i < z.0). inr (z.0, n, z.2, z.3, z.4))
+                      (λ (n : z.0 ≤ i). absurd (let l = z.1 in let same : z.0 ≡ i = omega (arith, n, l) in false≢true (sym y ∙ ap (is_given (stand m r is).state (reply_bit p st bits m)) (sym same) ∙ z.4)))
                       (cases_lt i z.0)
 
       memory_right : (m : ℕ) (o : Option Reading) → reading p m ≡ o → (rest : Signal) → (rest.value s ≡ slice_index (with_kept (with_answers p st bits u).kept u.env) v) ⊎ Comes m
@@ -272,7 +271,7 @@ module _ (p : Pipe) (reads : Reads p) (leads : LeadsOn p) (inside : (m : ℕ) (r
           at true d (inl h) = places_answer m r e (eqb-true r.var v d) rest (places p r) 0 (omega arith) (λ j l. ap (place_at p r) (let z : j ≡ 0 + j = omega arith in z)) (inl h)
           at true d (inr h) =
               subst (λ (y : Reading). (place_answer (sides.port m).answers k (places p y) 0 rest).value s ≡ slice_index (with_kept (with_answers p st bits u).kept u.env) v) (some_is (sym h.is ∙ e))
-              (places_answer m h.read h.is h.var rest (places p h.read) 0 (omega arith) (λ j l. ap (place_at p h.read) (let z : j ≡ 0 + j = omega arith in z)) (inr (h.place, h.word, omega arith, h.low, h.at_stage, h.gives)))
+              (places_answer m h.read h.is h.var rest (places p h.read) 0 (omega arith) (λ j l. ap (place_at p h.read) (let z : j ≡ 0 + j = omega arith in z)) (inr (h.place, omega arith, h.low, h.at_stage, h.gives)))
 
       chain_right : (n m : ℕ) (rest : Signal) → (rest.value s ≡ slice_index (with_kept (with_answers p st bits u).kept u.env) v) ⊎ ((i : ℕ) × (m ≤ i) × (i < m + n) × Comes i)
           → (some_answer p (answers_of sides) k v n m rest).value s ≡ slice_index (with_kept (with_answers p st bits u).kept u.env) v
@@ -304,8 +303,8 @@ module _ (p : Pipe) (reads : Reads p) (leads : LeadsOn p) (inside : (m : ℕ) (r
               let z = found u.awaits each h in
               let m = z.0.mem in
               let r = z.2.read in
-              let o = answer_comes p reads leads st bits flight by m r z.2.is (inside m r z.2.is) (stand m r z.2.is).state (stand m r z.2.is).same k u f z.1 z.4 in
-              inr (m, omega arith, (let l = (reads.known m r z.2.is).0 in omega (arith, l)), record { read = r; is = z.2.is; var = z.2.var ∙ z.3; place = o.0; low = o.1; at_stage = o.2; word = word_asked st m; gives = o.3 })
+              let o = given_comes p reads leads st bits flight by m r z.2.is (inside m r z.2.is) (stand m r z.2.is).state (stand m r z.2.is).same k u f z.1 z.4 in
+              inr (m, omega arith, (let l = (reads.known m r z.2.is).0 in omega (arith, l)), record { read = r; is = z.2.is; var = z.2.var ∙ z.3; place = o.0; low = o.1; at_stage = o.2; gives = o.3 })
 
   -- ITS REQUESTS
 
@@ -313,7 +312,7 @@ module _ (p : Pipe) (reads : Reads p) (leads : LeadsOn p) (inside : (m : ℕ) (r
   free_told : (m : ℕ) (r : Reading) (is : reading p m ≡ Some r) → ((j : ℕ) → r.stage < j → j < length p.stages → IsSeen p vs moves s st bits j) → (sides.port m).free.value s ≡ bit (is_free (request_of st m) (is_answered p bits m) (later_acts p st bits r.stage))
   free_told m r is later =
       let y = stand m r is in
-      (ports m r is).free.holds s y.state (reply_bit p st bits m) (word_asked st m) (λ i. stage_moves p st bits (place_at p r i)) y.stands (given m r is) (λ i l. (let z = place_up p reads leads st bits flight by m r is (inside m r is) y.state y.same i l in later (place_at p r i) z.0 z.1).leaves)
+      (ports m r is).free.holds s y.state (reply_bit p st bits m) (λ i. stage_moves p st bits (place_at p r i)) y.stands (given m r is).reply (λ i l. (let z = place_up p reads leads st bits flight by m r is (inside m r is) y.state y.same i l in later (place_at p r i) z.0 z.1).leaves)
       ∙ ap bit (sym (free_is p reads leads st bits flight by m r is (inside m r is) y.state y.same))
 
   requests_told : (k : ℕ) → ((j : ℕ) → k < j → j < length p.stages → IsSeen p vs moves s st bits j) → (qs : List walk.Ask) → Each (AsksIn p k) (asked_in s qs)

@@ -15,8 +15,7 @@ use Rattle.pdl_lockapi.proofs.Next.{is_next, is_reset}
 use Rattle.pdl_machine_facts.specs.Slots.{LeadsOn, slot, here, stage_moves, moving}
 use Rattle.pdl_machine_facts.specs.Cycle.{IsByStages}
 use Rattle.pdl_machine_facts.proofs.Still.{none_requested}
-use Rattle.pdl_port.specs.Port as port
-use Rattle.pdl_port.specs.Port.{PortState, PortAct, start, step}
+use Rattle.pdl_port.specs.Port.{PortAct, Idle, step}
 use Rattle.pdl_port.specs.Laws.{Drives}
 use Rattle.pdl_pipe_law.specs.Lives.{forks_by}
 use Rattle.pdl_pipe_law.specs.Walk as walk
@@ -31,7 +30,7 @@ use Rattle.pdl_inflight.specs.InFlight.{InFlight}
 use Rattle.pdl_sides.specs.Sides.{Sides, asks_memory, asked_address, goes_to_place, asked_into, port_step}
 use Rattle.pdl_sides.specs.HasSides.{HasOwn, HasPort}
 use Rattle.pdl_whole_law.proofs.Waiting.{SameRequest, SamePort, asks_of, asked_at, port_act}
-use Rattle.pdl_whole_law.proofs.WaitingStep.{proper_port, owned_low, same_next}
+use Rattle.pdl_whole_law.proofs.WaitingStep.{proper_port, same_next}
 use Rattle.pdl_whole_law.proofs.PortSides.{PortStands, IsGiven}
 
 -- SIGNALS
@@ -126,12 +125,9 @@ own_next c own s t h regs arrays = is_next own c c s t (record { has_reg = h.reg
 
 pub ports_first : (p : Pipe) (c : Circuit) (vs : ℕ → View) (gates : Gates) (moves : ℕ → Signal) (sides : Sides) (own : Rattle.pdl_net.specs.Growth.Own) (m : ℕ) (r : Reading) → HasPort p c vs gates moves sides own m r → (image : Arrays) (s : State) → s.regs ≡ map (λ (x : Reg). x.reset) c.regs → PortStands p sides s (first p image) m r
 ports_first p c vs gates moves sides own m r h image s regs = record {
-  state = start;
+  state = Idle;
   stands = h.starts.starts s (is_reset c own.from own.to s h.owned.regs regs);
-  same = record {
-    request = subst (λ q. SameRequest p (first p image) r q port.Idle) (sym (none_requested 0 m p.mems)) tt;
-    kept = λ i w l e. absurd (cc e);
-  };
+  same = subst (λ q. SameRequest p (first p image) r q Idle) (sym (none_requested 0 m p.mems)) tt;
 }
 
 -- FROM CYCLE TO CYCLE
@@ -139,7 +135,7 @@ ports_first p c vs gates moves sides own m r h image s regs = record {
 module _ (p : Pipe) (reads : Reads p) (leads : LeadsOn p) (some : 0 < length p.stages) (c : Circuit) (vs : ℕ → View) (gates : Gates) (moves : ℕ → Signal) (sides : Sides) (own : Rattle.pdl_net.specs.Growth.Own) (m : ℕ) (r : Reading) (is : reading p m ≡ Some r) (r_low : r.stage < length p.stages) (has : HasPort p c vs gates moves sides own m r)
     (s : State) (st : MachineState) (bits : List Bool) (flight : InFlight p st) (flight' : InFlight p (cycle p st bits)) (by : IsByStages p st bits) (stand : PortStands p sides s st m r) (given : IsGiven p sides s st bits) (seen : (j : ℕ) → j < length p.stages → IsSeen p vs moves s st bits j)
     (spared : (k : ℕ) (t : Thread) → here p st bits k ≡ Some t → stage_moves p st bits k ≡ true → is_kept (squasher (moving p st bits)) t.number ≡ true)
-    (removed : ℕ → Bool) (kills : (k : ℕ) → k < length p.stages → (gates.kill k).value s ≡ bit (removed k)) (removes : (k : ℕ) (u : Thread) → slot st k ≡ Some u → removed k ≡ not (is_kept (squasher (moving p st bits)) u.number)) (long : (k : ℕ) (t : Thread) → slot st k ≡ Some t → length t.env ≡ p.vars) where
+    (removed : ℕ → Bool) (kills : (k : ℕ) → k < length p.stages → (gates.kill k).value s ≡ bit (removed k)) (removes : (k : ℕ) (u : Thread) → slot st k ≡ Some u → removed k ≡ not (is_kept (squasher (moving p st bits)) u.number)) where
   asked_is : (i : ℕ) → i < length (places p r) → (asked_into p vs moves m r i).value s ≡ bit (asked_at p st m r (stage_moves p st bits r.stage) (here p st bits r.stage) i)
   asked_is i l = at (moves_or_not p st bits r.stage)
     where
@@ -171,7 +167,7 @@ module _ (p : Pipe) (reads : Reads p) (leads : LeadsOn p) (some : 0 < length p.s
 
   drives : Drives (length (places p r)) (port_step p vs gates moves sides m r) s (port_act p st bits m r (λ i. removed (place_at p r i)))
   drives = record {
-    replies = given m r is;
+    reply = (given m r is).reply;
     moves = λ i l. (seen (place_at p r i) (place_low i l)).leaves;
     removed = λ i l. kills (place_at p r i) (place_low i l);
     asked = asked_is;
@@ -181,7 +177,7 @@ module _ (p : Pipe) (reads : Reads p) (leads : LeadsOn p) (some : 0 < length p.s
   ports_next t regs arrays = record {
     state = step (length (places p r)) stand.state (port_act p st bits m r (λ i. removed (place_at p r i)));
     stands = has.step.next s t stand.state (port_act p st bits m r (λ i. removed (place_at p r i))) stand.stands drives
-        (proper_port p reads leads some st bits flight by m r is r_low stand.state stand.same (owned_low p reads leads some st bits flight by m r is r_low stand.state stand.same) (λ i. removed (place_at p r i)))
+        (proper_port p reads leads some st bits flight by m r is r_low stand.state stand.same (λ i. removed (place_at p r i)))
         (own_next c own s t has.owned regs arrays);
-    same = same_next p reads leads some st bits flight by m r is r_low stand.state stand.same flight' spared (λ i. removed (place_at p r i)) (λ i u l e. removes (place_at p r i) u e) long;
+    same = same_next p reads leads some st bits flight by m r is r_low stand.state stand.same flight' spared (λ i. removed (place_at p r i)) (λ i u l e. removes (place_at p r i) u e);
   }

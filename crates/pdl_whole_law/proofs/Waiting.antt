@@ -1,4 +1,4 @@
--- A delayed memory's port and the machine's request: what is outstanding, for whom, and what is kept for him; over a cycle.
+-- A delayed memory's port and the machine's request: what is outstanding, and for whom.
 use Rattle.std.proofs.Common.{◌≡◌, refl, sym, ap, ap₂, ◌∙◌, subst, ℕ, ◌<◌, inl, inr, Bool, true, false, ◌&&◌, List, [], ◌∷◌, length, Option, Some, None, arith, ◌==◌, eq-eqb}
 use Rattle.std.specs.Prelude.{if◌then◌else◌, slice_index, ⊤}
 use Rattle.std.proofs.lemmas.Bool.{eqb-true}
@@ -11,13 +11,13 @@ use Rattle.pdl_semantics.specs.Cycle.{is_outstanding}
 use Rattle.pdl_machine_facts.specs.Slots.{LeadsOn, slot, with_now, here, later_acts, stage_moves}
 use Rattle.pdl_machine_facts.specs.Cycle.{IsByStages}
 use Rattle.pdl_port.specs.Port as port
-use Rattle.pdl_port.specs.Port.{PortState, PortAct, Idle, owns, answer, leaves_free, asker, asked_request, left_request, next_request, next_kept, step, Proper}
+use Rattle.pdl_port.specs.Port.{PortState, PortAct, Idle, owns}
 use Rattle.pdl_inflight.specs.Readings.{Reading, reading, places, place_at, place_to, Reads}
 use Rattle.pdl_inflight.specs.InFlight.{Some-of, Awaits, IsAwaited, InFlight}
 use Rattle.pdl_inflight.proofs.ReadingFacts.{place_leads}
 use Rattle.pdl_inflight.proofs.LaterActs.{none_later, some_later}
 use Rattle.pdl_inflight.proofs.Squashing.{stood_in}
-use Rattle.pdl_inflight.proofs.Answers.{word_asked, kept_append, kept_long, all_in, not_bound, bound}
+use Rattle.pdl_inflight.proofs.Answers.{word_asked, kept_append, kept_long, all_in, bound}
 use Rattle.pdl_word.specs.Each.{Each}
 
 -- THE SAME REQUEST
@@ -30,7 +30,7 @@ pub record StandsAt (p : Pipe) (st : State) (r : Reading) (n i : ℕ) : Type 0 w
   pub number : thread.number ≡ n
 
 -- both have none, both have an orphan, or both have one, and its owner stands in the port's place
-abbrev pub SameRequest : Pipe → State → Reading → machine.Request → port.Request → Type 0
+abbrev pub SameRequest : Pipe → State → Reading → machine.Request → PortState → Type 0
 SameRequest p st r NoRequest Idle = ⊤
 SameRequest p st r NoRequest (port.Owned i) = ⊥
 SameRequest p st r NoRequest port.Orphan = ⊥
@@ -41,16 +41,9 @@ SameRequest p st r (Orphan a) Idle = ⊥
 SameRequest p st r (Orphan a) (port.Owned i) = ⊥
 SameRequest p st r (Orphan a) port.Orphan = ⊤
 
--- what is kept for a place is the value of the thread that stands there, and awaits the memory no more
-pub record HasKept (p : Pipe) (st : State) (m : ℕ) (r : Reading) (i w : ℕ) : Type 0 where
-  pub thread : Thread
-  pub slot : slot st (place_at p r i) ≡ Some thread
-  pub value : slice_index (with_kept thread.kept thread.env) r.var ≡ w
-  pub done : Awaits thread m → ⊥
-
-pub record SamePort (p : Pipe) (st : State) (m : ℕ) (r : Reading) (x : PortState) : Type 0 where
-  pub request : SameRequest p st r (request_of st m) x.request
-  pub kept : (i w : ℕ) → i < length (places p r) → x.kept i ≡ Some w → HasKept p st m r i w
+-- a port that agrees with the machine's request
+abbrev pub SamePort : Pipe → State → ℕ → Reading → PortState → Type 0
+SamePort p st m r x = SameRequest p st r (request_of st m) x
 
 -- the reply to a memory's request
 abbrev pub reply_bit : Pipe → State → List Bool → ℕ → Bool
@@ -69,7 +62,6 @@ asked_at p st m r true (Some t) i = asks_of m (deeds p st r.stage t).asks && (pl
 abbrev pub port_act : Pipe → State → List Bool → ℕ → Reading → (ℕ → Bool) → PortAct
 port_act p st bits m r removed = record {
   reply = reply_bit p st bits m;
-  word = word_asked st m;
   moves = λ i. stage_moves p st bits (place_at p r i);
   removed = removed;
   asked = asked_at p st m r (stage_moves p st bits r.stage) (here p st bits r.stage);
@@ -98,22 +90,22 @@ module _ (p : Pipe) (reads : Reads p) (leads : LeadsOn p) (st : State) (bits : L
       some_is z = cc z
 
   -- an owner stands in one place alone
-  pub owned_by : (number a i : ℕ) → request_of st m ≡ Owned number a → x.request ≡ port.Owned i → StandsAt p st r number i
-  owned_by number a i e f = subst (λ q. SameRequest p st r (Owned number a) q) f (subst (λ q. SameRequest p st r q x.request) e same.request)
+  pub owned_by : (number a i : ℕ) → request_of st m ≡ Owned number a → x ≡ port.Owned i → StandsAt p st r number i
+  owned_by number a i e f = subst (λ q. SameRequest p st r (Owned number a) q) f (subst (λ q. SameRequest p st r q x) e same)
 
   -- and so the request of a place's owner
-  pub owner_of : (i : ℕ) → x.request ≡ port.Owned i → (number : ℕ) × (a : ℕ) × (request_of st m ≡ Owned number a) × StandsAt p st r number i
-  owner_of i f = at (request_of st m) refl (subst (λ q. SameRequest p st r (request_of st m) q) f same.request)
+  pub owner_of : (i : ℕ) → x ≡ port.Owned i → (number : ℕ) × (a : ℕ) × (request_of st m ≡ Owned number a) × StandsAt p st r number i
+  owner_of i f = at (request_of st m) refl (subst (λ q. SameRequest p st r (request_of st m) q) f same)
     where
       at : (q : machine.Request) → request_of st m ≡ q → SameRequest p st r (request_of st m) (port.Owned i) → (number : ℕ) × (a : ℕ) × (request_of st m ≡ Owned number a) × StandsAt p st r number i
       at NoRequest e h = absurd (subst (λ q. SameRequest p st r q (port.Owned i)) e h)
       at (Orphan a) e h = absurd (subst (λ q. SameRequest p st r q (port.Owned i)) e h)
       at (Owned number a) e h = (number, a, e, subst (λ q. SameRequest p st r q (port.Owned i)) e h)
 
-  place_of : (number a : ℕ) → request_of st m ≡ Owned number a → (i : ℕ) × (x.request ≡ port.Owned i) × StandsAt p st r number i
-  place_of number a e = at x.request refl (subst (λ q. SameRequest p st r q x.request) e same.request)
+  place_of : (number a : ℕ) → request_of st m ≡ Owned number a → (i : ℕ) × (x ≡ port.Owned i) × StandsAt p st r number i
+  place_of number a e = at x refl (subst (λ q. SameRequest p st r q x) e same)
     where
-      at : (q : port.Request) → x.request ≡ q → SameRequest p st r (Owned number a) x.request → (i : ℕ) × (x.request ≡ port.Owned i) × StandsAt p st r number i
+      at : (q : PortState) → x ≡ q → SameRequest p st r (Owned number a) x → (i : ℕ) × (x ≡ port.Owned i) × StandsAt p st r number i
       at Idle f h = absurd (subst (λ q. SameRequest p st r (Owned number a) q) f h)
       at port.Orphan f h = absurd (subst (λ q. SameRequest p st r (Owned number a) q) f h)
       at (port.Owned i) f h = (i, f, subst (λ q. SameRequest p st r (Owned number a) q) f h)
@@ -124,14 +116,14 @@ module _ (p : Pipe) (reads : Reads p) (leads : LeadsOn p) (st : State) (bits : L
   -- ANSWERED
 
   -- who awaits the memory has its request, and stands in a place
-  pub waits_at : (k : ℕ) (u : Thread) → slot st k ≡ Some u → Awaits u m → (a : ℕ) × (i : ℕ) × (request_of st m ≡ Owned u.number a) × (x.request ≡ port.Owned i) × (i < length (places p r)) × (place_at p r i ≡ k)
+  pub waits_at : (k : ℕ) (u : Thread) → slot st k ≡ Some u → Awaits u m → (a : ℕ) × (i : ℕ) × (request_of st m ≡ Owned u.number a) × (x ≡ port.Owned i) × (i < length (places p r)) × (place_at p r i ≡ k)
   waits_at k u e w =
       let a = each_some (IsAwaited p st k u.number) (λ (q : Awaited). q.mem ≡ m) u.awaits (flight.awaited k u e) w in
       let owned : request_of st m ≡ Owned u.number a.1.address = subst (λ j. request_of st j ≡ Owned u.number a.1.address) a.2 a.1.owned in
       let o = place_of u.number a.1.address owned in
       (a.1.address, o.0, owned, o.1, o.2.low, flight.same (place_at p r o.0) k o.2.thread u o.2.slot e o.2.number)
 
-  owns_is : (q : port.Request) (i : ℕ) → owns q i ≡ true → q ≡ port.Owned i
+  owns_is : (q : PortState) (i : ℕ) → owns q i ≡ true → q ≡ port.Owned i
   owns_is Idle i e = absurd (cc e)
   owns_is port.Orphan i e = absurd (cc e)
   owns_is (port.Owned j) i e = ap (λ k. port.Owned k) (eqb-true j i e)
@@ -143,19 +135,19 @@ module _ (p : Pipe) (reads : Reads p) (leads : LeadsOn p) (st : State) (bits : L
       some_is z = cc z
 
   -- the thread of a place that the port owns
-  pub owner_here : (k i : ℕ) (u : Thread) → place_at p r i ≡ k → slot st k ≡ Some u → x.request ≡ port.Owned i → Awaits u m × ((number : ℕ) × (a : ℕ) × (request_of st m ≡ Owned number a) × (u.number ≡ number))
+  pub owner_here : (k i : ℕ) (u : Thread) → place_at p r i ≡ k → slot st k ≡ Some u → x ≡ port.Owned i → Awaits u m × ((number : ℕ) × (a : ℕ) × (request_of st m ≡ Owned number a) × (u.number ≡ number))
   owner_here k i u e f g =
       let o = owner_of i g in
       let same' = thread_is k i u o.0 e f o.3 in
       (subst (λ (t : Thread). Awaits t m) same' (owner_awaits o.0 o.1 i o.2 o.3), (o.0, o.1, o.2, sym (ap (λ (t : Thread). t.number) same') ∙ o.3.number))
 
   pub answered_yes : (i k : ℕ) (u : Thread) → place_at p r i ≡ k → slot st k ≡ Some u → is_empty (with_answers p st bits u).awaits ≡ true → port.is_answered x (reply_bit p st bits m) i ≡ true
-  answered_yes i k u e f none = at (owns x.request i) refl
+  answered_yes i k u e f none = at (owns x i) refl
     where
-      at : (b : Bool) → owns x.request i ≡ b → (if b then reply_bit p st bits m else true) ≡ true
+      at : (b : Bool) → owns x i ≡ b → (if b then reply_bit p st bits m else true) ≡ true
       at false g = refl
       at true g =
-          let o = owner_here k i u e f (owns_is x.request i g) in
+          let o = owner_here k i u e f (owns_is x i g) in
           owned_reply o.1.0 o.1.1 o.1.2 ∙ all_in p st bits k u.number u.awaits (flight.awaited k u f) none m o.0
 
   pub answered_no : (k : ℕ) (u : Thread) → slot st k ≡ Some u → Awaits u m → is_answered p bits m ≡ false → (i : ℕ) × (i < length (places p r)) × (place_at p r i ≡ k) × (port.is_answered x (reply_bit p st bits m) i ≡ false)
@@ -183,10 +175,6 @@ module _ (p : Pipe) (reads : Reads p) (leads : LeadsOn p) (st : State) (bits : L
     mine [] h = tt
     mine (q ∷ rs) h = ((λ e. reads.apart q.mem m h.0.read r h.0.is is (h.0.var ∙ e)), mine rs h.1)
 
-    none_mine : (rs : List Awaited) → Each (λ (q : Awaited). q.var ≡ r.var → q.mem ≡ m) rs → (Some-of (λ (q : Awaited). q.mem ≡ m) rs → ⊥) → Each (λ (q : Awaited). q.var ≡ r.var → is_answered p bits q.mem ≡ false) rs
-    none_mine [] h n = tt
-    none_mine (q ∷ rs) h n = ((λ e. absurd (n (inl (h.0 e)))), none_mine rs h.1 (λ i. n (inr i)))
-
     with_var : (rs : List Awaited) → Each (IsAwaited p st k u.number) rs → Some-of (λ (q : Awaited). q.mem ≡ m) rs → Some-of (λ (q : Awaited). (q.mem ≡ m) × (q.var ≡ r.var)) rs
     with_var [] h i = absurd i
     with_var (q ∷ rs) h (inl e) = inl (e, sym h.0.var ∙ ap (λ (y : Reading). y.var) (some_is (sym h.0.is ∙ ap (reading p) e ∙ is)))
@@ -201,56 +189,31 @@ module _ (p : Pipe) (reads : Reads p) (leads : LeadsOn p) (st : State) (bits : L
         let each = flight.awaited k u f in
         ap (λ e. slice_index e r.var) now_is ∙ bound p st bits k u.number r.var m u.awaits raw each (mine u.awaits each) var_low a (with_var u.awaits each w)
 
-    -- where none is awaited the value is kept
-    pub keeps_now : (Awaits u m → ⊥) → slice_index (with_kept (with_answers p st bits u).kept u.env) r.var ≡ slice_index (with_kept u.kept u.env) r.var
-    keeps_now n =
-        let each = flight.awaited k u f in
-        ap (λ e. slice_index e r.var) now_is ∙ not_bound p st bits k u.number r.var u.awaits raw each (none_mine u.awaits (mine u.awaits each) n)
-
     -- what the port gives for a place is the thread's value
-    pub answer_right : (i w : ℕ) → i < length (places p r) → place_at p r i ≡ k → answer x (reply_bit p st bits m) (word_asked st m) i ≡ Some w → slice_index (with_kept (with_answers p st bits u).kept u.env) r.var ≡ w
-    answer_right i w l e g = at (owns x.request i) refl g
+    pub given_right : (i : ℕ) → place_at p r i ≡ k → port.is_given x (reply_bit p st bits m) i ≡ true → slice_index (with_kept (with_answers p st bits u).kept u.env) r.var ≡ word_asked st m
+    given_right i e g = at (owns x i) refl g
       where
-        some_is : {a b : ℕ} → Some a ≡ Some b → a ≡ b
-        some_is z = cc z
-
-        thread_same : {a b : Thread} → Some a ≡ Some b → a ≡ b
-        thread_same z = cc z
-
-        replied : (b : Bool) → reply_bit p st bits m ≡ b → x.request ≡ port.Owned i → (if b then Some (word_asked st m) else None) ≡ Some w → slice_index (with_kept (with_answers p st bits u).kept u.env) r.var ≡ w
-        replied false h o j = absurd (cc j)
-        replied true h o j = let z = owner_here k i u e f o in comes_now z.0 (sym (owned_reply z.1.0 z.1.1 z.1.2) ∙ h) ∙ some_is j
-
-        at : (b : Bool) → owns x.request i ≡ b → (if b then (if reply_bit p st bits m then Some (word_asked st m) else None) else x.kept i) ≡ Some w → slice_index (with_kept (with_answers p st bits u).kept u.env) r.var ≡ w
-        at true h j = replied (reply_bit p st bits m) refl (owns_is x.request i h) j
-        at false h j =
-            let y = same.kept i w l j in
-            let t = thread_same (sym y.slot ∙ ap (slot st) e ∙ f) in
-            keeps_now (subst (λ (t : Thread). Awaits t m → ⊥) t y.done) ∙ ap (λ (v : Thread). slice_index (with_kept v.kept v.env) r.var) (sym t) ∙ y.value
+        at : (b : Bool) → owns x i ≡ b → (if b then reply_bit p st bits m else false) ≡ true → slice_index (with_kept (with_answers p st bits u).kept u.env) r.var ≡ word_asked st m
+        at false h j = absurd (cc j)
+        at true h j = let z = owner_here k i u e f (owns_is x i h) in comes_now z.0 (sym (owned_reply z.1.0 z.1.1 z.1.2) ∙ j)
 
   -- and it gives what comes
-  pub answer_comes : (k : ℕ) (u : Thread) → slot st k ≡ Some u → Awaits u m → is_answered p bits m ≡ true → (i : ℕ) × (i < length (places p r)) × (place_at p r i ≡ k) × (answer x (reply_bit p st bits m) (word_asked st m) i ≡ Some (word_asked st m))
-  answer_comes k u f w a =
-      let o = waits_at k u f w in (
-        o.1,
-        o.4,
-        o.5,
-        ap (λ q. if owns q o.1 then (if reply_bit p st bits m then Some (word_asked st m) else None) else x.kept o.1) o.3
-            ∙ ap (λ b. if b then (if reply_bit p st bits m then Some (word_asked st m) else None) else x.kept o.1) (eq-eqb o.1 o.1 refl)
-            ∙ ap (λ b. if b then Some (word_asked st m) else None) (owned_reply u.number o.0 o.2 ∙ a),
-      )
+  pub given_comes : (k : ℕ) (u : Thread) → slot st k ≡ Some u → Awaits u m → is_answered p bits m ≡ true → (i : ℕ) × (i < length (places p r)) × (place_at p r i ≡ k) × (port.is_given x (reply_bit p st bits m) i ≡ true)
+  given_comes k u f w a =
+      let o = waits_at k u f w in
+      (o.1, o.4, o.5, ap (λ q. if owns q o.1 then reply_bit p st bits m else false) o.3 ∙ ap (λ b. if b then reply_bit p st bits m else false) (eq-eqb o.1 o.1 refl) ∙ owned_reply u.number o.0 o.2 ∙ a)
 
   -- FREE
 
-  free_of : (q : machine.Request) → request_of st m ≡ q → (g : port.Request) → x.request ≡ g → is_free q (is_answered p bits m) (later_acts p st bits r.stage) ≡ leaves_free g (is_outstanding q && is_answered p bits m) (λ i. stage_moves p st bits (place_at p r i))
+  free_of : (q : machine.Request) → request_of st m ≡ q → (g : PortState) → x ≡ g → is_free q (is_answered p bits m) (later_acts p st bits r.stage) ≡ port.is_free g (is_outstanding q && is_answered p bits m) (λ i. stage_moves p st bits (place_at p r i))
   free_of NoRequest e Idle f = refl
   free_of (Orphan a) e port.Orphan f = refl
-  free_of NoRequest e (port.Owned i) f = absurd (subst (λ q. SameRequest p st r NoRequest q) f (subst (λ q. SameRequest p st r q x.request) e same.request))
-  free_of NoRequest e port.Orphan f = absurd (subst (λ q. SameRequest p st r NoRequest q) f (subst (λ q. SameRequest p st r q x.request) e same.request))
-  free_of (Orphan a) e (port.Owned i) f = absurd (subst (λ q. SameRequest p st r (Orphan a) q) f (subst (λ q. SameRequest p st r q x.request) e same.request))
-  free_of (Orphan a) e Idle f = absurd (subst (λ q. SameRequest p st r (Orphan a) q) f (subst (λ q. SameRequest p st r q x.request) e same.request))
-  free_of (Owned number a) e Idle f = absurd (subst (λ q. SameRequest p st r (Owned number a) q) f (subst (λ q. SameRequest p st r q x.request) e same.request))
-  free_of (Owned number a) e port.Orphan f = absurd (subst (λ q. SameRequest p st r (Owned number a) q) f (subst (λ q. SameRequest p st r q x.request) e same.request))
+  free_of NoRequest e (port.Owned i) f = absurd (subst (λ q. SameRequest p st r NoRequest q) f (subst (λ q. SameRequest p st r q x) e same))
+  free_of NoRequest e port.Orphan f = absurd (subst (λ q. SameRequest p st r NoRequest q) f (subst (λ q. SameRequest p st r q x) e same))
+  free_of (Orphan a) e (port.Owned i) f = absurd (subst (λ q. SameRequest p st r (Orphan a) q) f (subst (λ q. SameRequest p st r q x) e same))
+  free_of (Orphan a) e Idle f = absurd (subst (λ q. SameRequest p st r (Orphan a) q) f (subst (λ q. SameRequest p st r q x) e same))
+  free_of (Owned number a) e Idle f = absurd (subst (λ q. SameRequest p st r (Owned number a) q) f (subst (λ q. SameRequest p st r q x) e same))
+  free_of (Owned number a) e port.Orphan f = absurd (subst (λ q. SameRequest p st r (Owned number a) q) f (subst (λ q. SameRequest p st r q x) e same))
   free_of (Owned number a) e (port.Owned i) f = ap (λ b. is_answered p bits m && b) (at (stage_moves p st bits (place_at p r i)) refl)
     where
       o : StandsAt p st r number i
@@ -281,14 +244,4 @@ module _ (p : Pipe) (reads : Reads p) (leads : LeadsOn p) (st : State) (bits : L
                   ap (stage_moves p st bits) j_is ∙ g
 
   pub free_is : is_free (request_of st m) (is_answered p bits m) (later_acts p st bits r.stage) ≡ port.is_free x (reply_bit p st bits m) (λ i. stage_moves p st bits (place_at p r i))
-  free_is = free_of (request_of st m) refl x.request refl
-
-  -- nothing is kept for an owner
-  pub none_yet : (i : ℕ) → i < length (places p r) → x.request ≡ port.Owned i → x.kept i ≡ None
-  none_yet i l e = at (x.kept i) refl
-    where
-      at : (o : Option ℕ) → x.kept i ≡ o → x.kept i ≡ None
-      at None f = f
-      at (Some w) f =
-          let y = same.kept i w l f in
-          absurd (y.done (owner_here (place_at p r i) i y.thread refl y.slot e).0)
+  free_is = free_of (request_of st m) refl x refl

@@ -1,6 +1,6 @@
 -- A delayed memory's port after a cycle: its step agrees with the machine's next state, and its use is proper.
 use Rattle.std.proofs.Common.{◌≡◌, refl, sym, ap, ap₂, ◌∙◌, subst, ℕ, zero, suc, ◌+◌, ◌≤◌, ◌<◌, ⊎_elim, Bool, true, false, ◌&&◌, ◌||◌, not, List, [], ◌∷◌, ◌++◌, length, Option, Some, None, is_some, arith, ◌==◌, eq-eqb}
-use Rattle.std.specs.Prelude.{if◌then◌else◌, slice_index}
+use Rattle.std.specs.Prelude.{if◌then◌else◌}
 use Rattle.std.proofs.lemmas.Bool.{eqb-true, eqb-false, and_parts, false≢true, cases_lt}
 use Rattle.std.proofs.lemmas.List.{get_or_past}
 use Rattle.pdl_semantics.specs.Flat.{Pipe, list_all}
@@ -14,15 +14,15 @@ use Rattle.pdl_machine_facts.specs.Slots.{LeadsOn, slot, with_now, here, later_a
 use Rattle.pdl_machine_facts.specs.Cycle.{IsByStages}
 use Rattle.pdl_machine_facts.proofs.Stagewise.{next_is}
 use Rattle.pdl_port.specs.Port as port
-use Rattle.pdl_port.specs.Port.{PortState, PortAct, Idle, owns, leaves_free, asker, asked_request, left_request, next_request, next_kept, step, Proper}
+use Rattle.pdl_port.specs.Port.{PortState, PortAct, Idle, asker, asked_request, left_request, step, Proper}
 use Rattle.pdl_inflight.specs.Readings.{Reading, reading, places, place_at, place_to, Reads}
 use Rattle.pdl_inflight.specs.InFlight.{Awaits, InFlight}
 use Rattle.pdl_inflight.proofs.ReadingFacts.{goes_to_place}
 use Rattle.pdl_inflight.proofs.DeedsIn.{AsksIn, asks_in}
 use Rattle.pdl_inflight.proofs.Squashing.{stood_in}
-use Rattle.pdl_inflight.proofs.Comings.{CameFrom, born, moved, stayed, came_from, stays}
+use Rattle.pdl_inflight.proofs.Comings.{CameFrom, born, moved, stayed, came_from}
 use Rattle.pdl_inflight.proofs.Answers.{word_asked, still_awaited}
-use Rattle.pdl_whole_law.proofs.Waiting.{StandsAt, SameRequest, HasKept, SamePort, reply_bit, asks_of, asked_at, port_act, owner_here, owned_by, owned_reply, free_is, none_yet, comes_now, keeps_now, place_up}
+use Rattle.pdl_whole_law.proofs.Waiting.{StandsAt, SameRequest, SamePort, reply_bit, asks_of, asked_at, port_act, owner_here, free_is}
 use Rattle.pdl_word.specs.Each.{Each}
 
 -- WHO ASKS
@@ -169,25 +169,16 @@ module _ (p : Pipe) (reads : Reads p) (leads : LeadsOn p) (some : 0 < length p.s
       let to = place_to (stage_at p r.stage).next (deeds p st r.stage t).env in
       sym (eqb-true to j (and_parts (asks_of m (deeds p st r.stage t).asks) _ e).1) ∙ eqb-true to k (and_parts (asks_of m (deeds p st r.stage t).asks) _ f).1
 
-  pub proper_port : ((i : ℕ) → x.request ≡ port.Owned i → i < length (places p r)) → (removed : ℕ → Bool) → Proper (length (places p r)) x (port_act p st bits m r removed)
-  proper_port low removed = record {
+  pub proper_port : (removed : ℕ → Bool) → Proper (length (places p r)) x (port_act p st bits m r removed)
+  proper_port removed = record {
     one = λ j k l h e f. one_place (stage_moves p st bits r.stage) (here p st bits r.stage) j k e f;
     free = λ k l e. sym (free_is p reads leads st bits flight by m r is r_low x same) ∙ free_where k (stage_moves p st bits r.stage) refl (here p st bits r.stage) refl e;
-    none_yet = λ k e. none_yet p reads leads st bits flight by m r is r_low x same k (low k e) e;
   }
-
-  pub owned_low : (i : ℕ) → x.request ≡ port.Owned i → i < length (places p r)
-  owned_low i e = at (request_of st m) (subst (λ q. SameRequest p st r (request_of st m) q) e same.request)
-    where
-      at : (q : machine.Request) → SameRequest p st r q (port.Owned i) → i < length (places p r)
-      at NoRequest h = absurd h
-      at (Orphan a) h = absurd h
-      at (Owned n a) h = h.low
 
   -- AFTER THE CYCLE
 
   module _ (flight' : InFlight p (cycle p st bits)) (spared : (k : ℕ) (t : Thread) → here p st bits k ≡ Some t → stage_moves p st bits k ≡ true → is_kept (squasher (moving p st bits)) t.number ≡ true) (removed : ℕ → Bool)
-      (removes : (i : ℕ) (u : Thread) → i < length (places p r) → slot st (place_at p r i) ≡ Some u → removed i ≡ not (is_kept (squasher (moving p st bits)) u.number)) (long : (k : ℕ) (t : Thread) → slot st k ≡ Some t → length t.env ≡ p.vars) where
+      (removes : (i : ℕ) (u : Thread) → i < length (places p r) → slot st (place_at p r i) ≡ Some u → removed i ≡ not (is_kept (squasher (moving p st bits)) u.number)) where
     abbrev after : State
     after = cycle p st bits
 
@@ -233,7 +224,7 @@ module _ (p : Pipe) (reads : Reads p) (leads : LeadsOn p) (some : 0 < length p.s
             record { low = place.0; thread = o.1; slot = ap (slot (cycle p st bits)) place.1 ∙ o.2; number = o.3 }
 
     -- an owner that is not answered stays in its place
-    owner_stays : (n a i : ℕ) → request_of st m ≡ Owned n a → StandsAt p st r n i → x.request ≡ port.Owned i → is_answered p bits m ≡ false → request_of (cycle p st bits) m ≡ Owned n a → StandsAt p (cycle p st bits) r n i
+    owner_stays : (n a i : ℕ) → request_of st m ≡ Owned n a → StandsAt p st r n i → x ≡ port.Owned i → is_answered p bits m ≡ false → request_of (cycle p st bits) m ≡ Owned n a → StandsAt p (cycle p st bits) r n i
     owner_stays n a i e h f late g = at (came_from p st bits by o.0 o.1 o.2)
       where
         o : (k : ℕ) × (u : Thread) × (slot (cycle p st bits) k ≡ Some u) × (u.number ≡ n) × Awaits u m
@@ -257,7 +248,7 @@ module _ (p : Pipe) (reads : Reads p) (leads : LeadsOn p) (some : 0 < length p.s
             absurd (false≢true (sym late ∙ Rattle.pdl_inflight.proofs.Answers.all_in p st bits (place_at p r i) h.thread.number h.thread.awaits (flight.awaited (place_at p r i) h.thread h.slot) empty m waits))
 
     -- the request, where nobody asks
-    left_same : (q : machine.Request) → request_of st m ≡ q → (g : port.Request) → x.request ≡ g → SameRequest p st r q g
+    left_same : (q : machine.Request) → request_of st m ≡ q → (g : PortState) → x ≡ g → SameRequest p st r q g
         → ((b : Bool) → is_answered p bits m ≡ b → request_of (cycle p st bits) m ≡ request_left sq (if b then NoRequest else q))
         → SameRequest p (cycle p st bits) r (request_of (cycle p st bits) m) (left_request (port_act p st bits m r removed) g)
     left_same q e g f h next = at (is_answered p bits m) refl q e g f h (next (is_answered p bits m) refl)
@@ -265,10 +256,10 @@ module _ (p : Pipe) (reads : Reads p) (leads : LeadsOn p) (some : 0 < length p.s
         reply_is : (b : Bool) → is_answered p bits m ≡ b → (q : machine.Request) → request_of st m ≡ q → reply_bit p st bits m ≡ (is_outstanding q && b)
         reply_is b i q j = ap₂ (λ y c. is_outstanding y && c) j i
 
-        Same : machine.Request → port.Request → Type 0
+        Same : machine.Request → PortState → Type 0
         Same a b = SameRequest p (cycle p st bits) r a b
 
-        at : (b : Bool) → is_answered p bits m ≡ b → (q : machine.Request) → request_of st m ≡ q → (g : port.Request) → x.request ≡ g → SameRequest p st r q g → request_of (cycle p st bits) m ≡ request_left sq (if b then NoRequest else q)
+        at : (b : Bool) → is_answered p bits m ≡ b → (q : machine.Request) → request_of st m ≡ q → (g : PortState) → x ≡ g → SameRequest p st r q g → request_of (cycle p st bits) m ≡ request_left sq (if b then NoRequest else q)
             → SameRequest p (cycle p st bits) r (request_of (cycle p st bits) m) (left_request (port_act p st bits m r removed) g)
         at true i NoRequest j Idle k h n = subst (λ a. SameRequest p (cycle p st bits) r a Idle) (sym n) tt
         at false i NoRequest j Idle k h n = subst (λ a. SameRequest p (cycle p st bits) r a Idle) (sym n) tt
@@ -299,21 +290,21 @@ module _ (p : Pipe) (reads : Reads p) (leads : LeadsOn p) (some : 0 < length p.s
                 (subst (λ z. SameRequest p (cycle p st bits) r z port.Orphan) (sym req) tt)
 
     quiet_same : ((i : ℕ) → i < length (places p r) → (port_act p st bits m r removed).asked i ≡ false) → asked_one p st m r (stage_moves p st bits r.stage) (here p st bits r.stage) (if is_answered p bits m then NoRequest else request_of st m) ≡ (if is_answered p bits m then NoRequest else request_of st m)
-        → SameRequest p (cycle p st bits) r (request_of (cycle p st bits) m) (next_request (length (places p r)) x (port_act p st bits m r removed))
+        → SameRequest p (cycle p st bits) r (request_of (cycle p st bits) m) (step (length (places p r)) x (port_act p st bits m r removed))
     quiet_same none e =
-        subst (λ (o : Option ℕ). SameRequest p (cycle p st bits) r (request_of (cycle p st bits) m) (asked_request o (left_request (port_act p st bits m r removed) x.request))) (sym (asker_none (port_act p st bits m r removed).asked (length (places p r)) none))
-        (left_same (request_of st m) refl x.request refl same.request (λ b i. request_is ∙ ap (request_left sq) (e ∙ ap (λ c. if c then NoRequest else request_of st m) i)))
+        subst (λ (o : Option ℕ). SameRequest p (cycle p st bits) r (request_of (cycle p st bits) m) (asked_request o (left_request (port_act p st bits m r removed) x))) (sym (asker_none (port_act p st bits m r removed).asked (length (places p r)) none))
+        (left_same (request_of st m) refl x refl same (λ b i. request_is ∙ ap (request_left sq) (e ∙ ap (λ c. if c then NoRequest else request_of st m) i)))
 
-    request_same : SameRequest p (cycle p st bits) r (request_of (cycle p st bits) m) (next_request (length (places p r)) x (port_act p st bits m r removed))
-    request_same = at (stage_moves p st bits r.stage) (here p st bits r.stage) refl refl
+    pub same_next : SameRequest p (cycle p st bits) r (request_of (cycle p st bits) m) (step (length (places p r)) x (port_act p st bits m r removed))
+    same_next = at (stage_moves p st bits r.stage) (here p st bits r.stage) refl refl
       where
         old : machine.Request
         old = if is_answered p bits m then NoRequest else request_of st m
 
         Goal : Type 0
-        Goal = SameRequest p (cycle p st bits) r (request_of (cycle p st bits) m) (next_request (length (places p r)) x (port_act p st bits m r removed))
+        Goal = SameRequest p (cycle p st bits) r (request_of (cycle p st bits) m) (step (length (places p r)) x (port_act p st bits m r removed))
 
-        at : (b : Bool) (o : Option Thread) → stage_moves p st bits r.stage ≡ b → here p st bits r.stage ≡ o → SameRequest p (cycle p st bits) r (request_of (cycle p st bits) m) (next_request (length (places p r)) x (port_act p st bits m r removed))
+        at : (b : Bool) (o : Option Thread) → stage_moves p st bits r.stage ≡ b → here p st bits r.stage ≡ o → SameRequest p (cycle p st bits) r (request_of (cycle p st bits) m) (step (length (places p r)) x (port_act p st bits m r removed))
         at false o e f = quiet_same (λ i l. ap (λ b. asked_at p st m r b (here p st bits r.stage) i) e) (ap (λ b. asked_one p st m r b (here p st bits r.stage) (if is_answered p bits m then NoRequest else request_of st m)) e)
         at true None e f = quiet_same (λ i l. ap₂ (λ b o. asked_at p st m r b o i) e f) (ap₂ (λ b o. asked_one p st m r b o (if is_answered p bits m then NoRequest else request_of st m)) e f)
         at true (Some t) e f = asks (asks_of m (deeds p st r.stage t).asks) refl
@@ -321,7 +312,7 @@ module _ (p : Pipe) (reads : Reads p) (leads : LeadsOn p) (some : 0 < length p.s
             to : ℕ
             to = place_to (stage_at p r.stage).next (deeds p st r.stage t).env
 
-            asks : (c : Bool) → asks_of m (deeds p st r.stage t).asks ≡ c → SameRequest p (cycle p st bits) r (request_of (cycle p st bits) m) (next_request (length (places p r)) x (port_act p st bits m r removed))
+            asks : (c : Bool) → asks_of m (deeds p st r.stage t).asks ≡ c → SameRequest p (cycle p st bits) r (request_of (cycle p st bits) m) (step (length (places p r)) x (port_act p st bits m r removed))
             asks false g =
                 quiet_same (λ i l. ap₂ (λ b o. asked_at p st m r b o i) e f ∙ ap (λ c. c && (place_to (stage_at p r.stage).next (deeds p st r.stage t).env == i)) g)
                 (ap₂ (λ b o. asked_one p st m r b o (if is_answered p bits m then NoRequest else request_of st m)) e f ∙ asked_none m t.number (deeds p st r.stage t).asks (if is_answered p bits m then NoRequest else request_of st m) g)
@@ -331,65 +322,7 @@ module _ (p : Pipe) (reads : Reads p) (leads : LeadsOn p) (some : 0 < length p.s
                 request_is ∙ ap (request_left sq) (ap₂ (λ b o. asked_one p st m r b o (if is_answered p bits m then NoRequest else request_of st m)) e f ∙ a.1) ∙ ap (λ c. if c then Owned t.number a.0 else Orphan a.0) (spared r.stage t f e) in
                 let stands = made_stands t a.0 f e req in
                 let mine : (i : ℕ) → asked_at p st m r (stage_moves p st bits r.stage) (here p st bits r.stage) i ≡ (place_to (stage_at p r.stage).next (deeds p st r.stage t).env == i) = λ i. ap₂ (λ b o. asked_at p st m r b o i) e f ∙ ap (λ c. c && (place_to (stage_at p r.stage).next (deeds p st r.stage t).env == i)) g in
-                subst (λ (o : Option ℕ). SameRequest p (cycle p st bits) r (request_of (cycle p st bits) m) (asked_request o (left_request (port_act p st bits m r removed) x.request)))
+                subst (λ (o : Option ℕ). SameRequest p (cycle p st bits) r (request_of (cycle p st bits) m) (asked_request o (left_request (port_act p st bits m r removed) x)))
                 (sym (asker_one (port_act p st bits m r removed).asked (length (places p r)) (place_to (stage_at p r.stage).next (deeds p st r.stage t).env) stands.low (mine (place_to (stage_at p r.stage).next (deeds p st r.stage t).env) ∙ eq-eqb (place_to (stage_at p r.stage).next (deeds p st r.stage t).env) (place_to (stage_at p r.stage).next (deeds p st r.stage t).env) refl)
                 (λ j l h. sym (eqb-true (place_to (stage_at p r.stage).next (deeds p st r.stage t).env) j (sym (mine j) ∙ h)))))
                 (subst (λ q. SameRequest p (cycle p st bits) r q (port.Owned (place_to (stage_at p r.stage).next (deeds p st r.stage t).env))) (sym req) stands)
-
-    -- what is kept
-    kept_same : (i w : ℕ) → i < length (places p r) → next_kept x (port_act p st bits m r removed) i ≡ Some w → HasKept p (cycle p st bits) m r i w
-    kept_same i w l e = at (stage_moves p st bits (place_at p r i)) refl (removed i) refl e
-      where
-        k : ℕ
-        k = place_at p r i
-
-        some_is : {a b : ℕ} → Some a ≡ Some b → a ≡ b
-        some_is z = cc z
-
-        -- the thread of the place, with its answers, stays there
-        holds : (u : Thread) → slot st (place_at p r i) ≡ Some u → stage_moves p st bits (place_at p r i) ≡ false → removed i ≡ false → slice_index (with_kept (with_answers p st bits u).kept u.env) r.var ≡ w → (Awaits (with_answers p st bits u) m → ⊥) → HasKept p (cycle p st bits) m r i w
-        holds u f still left v n =
-            let up = place_up p reads leads st bits flight by m r is r_low x same i l in
-            let kept : is_kept sq u.number ≡ true = back (is_kept sq u.number) (sym (removes i u l f) ∙ left) in
-            record {
-              thread = with_answers p st bits u;
-              slot = stays p st bits by flight.count (place_at p r i) (with_answers p st bits u) (ap (with_now p st bits) f) still (let z = up.0 in omega (arith, z)) kept;
-              value = v;
-              done = n;
-            }
-          where
-            back : (b : Bool) → not b ≡ false → b ≡ true
-            back true g = refl
-            back false g = absurd (cc g)
-
-        at : (b : Bool) → stage_moves p st bits (place_at p r i) ≡ b → (c : Bool) → removed i ≡ c → (if b || c then None else (if owns x.request i && reply_bit p st bits m then Some (word_asked st m) else x.kept i)) ≡ Some w → HasKept p (cycle p st bits) m r i w
-        at true f c g h = absurd (cc h)
-        at false f true g h = absurd (cc h)
-        at false f false g h = by' (owns x.request i) refl (reply_bit p st bits m) refl h
-          where
-            old : x.kept i ≡ Some w → HasKept p (cycle p st bits) m r i w
-            old j =
-                let y = same.kept i w l j in
-                holds y.thread y.slot f g (keeps_now p reads leads st bits flight by m r is r_low x same (place_at p r i) y.thread y.slot (long (place_at p r i) y.thread y.slot) y.done ∙ y.value)
-                (λ a. y.done (still_awaited p st bits (place_at p r i) y.thread.number m y.thread.awaits (flight.awaited (place_at p r i) y.thread y.slot) a).0)
-
-            owned : (q : port.Request) → owns q i ≡ true → q ≡ port.Owned i
-            owned Idle j = absurd (cc j)
-            owned port.Orphan j = absurd (cc j)
-            owned (port.Owned j) z = ap (λ n. port.Owned n) (eqb-true j i z)
-
-            by' : (b : Bool) → owns x.request i ≡ b → (c : Bool) → reply_bit p st bits m ≡ c → (if b && c then Some (word_asked st m) else x.kept i) ≡ Some w → HasKept p (cycle p st bits) m r i w
-            by' false j c z h = old h
-            by' true j false z h = old h
-            by' true j true z h = given (Rattle.pdl_whole_law.proofs.Waiting.owner_of p reads leads st bits flight by m r is r_low x same i (owned x.request j))
-              where
-                given : (n : ℕ) × (a : ℕ) × (request_of st m ≡ Owned n a) × StandsAt p st r n i → HasKept p (cycle p st bits) m r i w
-                given o =
-                    let u = o.3.thread in
-                    let answered : is_answered p bits m ≡ true = sym (owned_reply p reads leads st bits flight by m r is r_low x same o.0 o.1 o.2) ∙ z in
-                    let waits = (owner_here p reads leads st bits flight by m r is r_low x same (place_at p r i) i u refl o.3.slot (owned x.request j)).0 in
-                    holds u o.3.slot f g (comes_now p reads leads st bits flight by m r is r_low x same (place_at p r i) u o.3.slot (long (place_at p r i) u o.3.slot) waits answered ∙ some_is h)
-                    (λ a. false≢true (sym (still_awaited p st bits (place_at p r i) u.number m u.awaits (flight.awaited (place_at p r i) u o.3.slot) a).1 ∙ answered))
-
-    pub same_next : SamePort p (cycle p st bits) m r (step (length (places p r)) x (port_act p st bits m r removed))
-    same_next = record { request = request_same; kept = kept_same }

@@ -1,5 +1,5 @@
 -- The first cycle: registers at reset, and an image in the arrays and in the delayed memories outside, stand for the machine's first state.
-use Rattle.std.proofs.Common.{◌≡◌, refl, sym, ap, ap₂, ◌∙◌, subst, ℕ, zero, suc, ◌+◌, ◌-◌, ◌*◌, ◌^◌, ◌<◌, ◌≤◌, ◌⊎◌, inl, inr, ⊎_elim, Bool, true, false, List, [], ◌∷◌, ◌++◌, length, map, take, drop, filter, find, All, Option, Some, None, cond, bytes_eq, arith, length-append}
+use Rattle.std.proofs.Common.{◌≡◌, refl, sym, ap, ap₂, ◌∙◌, subst, ℕ, zero, suc, ◌+◌, ◌-◌, ◌*◌, ◌^◌, ◌<◌, ◌≤◌, ◌⊎◌, ⊎_elim, Bool, true, false, List, [], ◌∷◌, ◌++◌, length, map, take, drop, filter, find, All, Option, Some, None, cond, bytes_eq, arith, length-append}
 use Rattle.std.specs.Prelude.{slice_index, slice_index_or, count_by, ⊤}
 use Rattle.std.proofs.lemmas.List.{get_or-map, get_or-take, get_or-drop, length-map, length-take, length-drop, get_or-append_right}
 use Rattle.std.proofs.lemmas.List.Elements.{filter-append}
@@ -14,15 +14,14 @@ use Rattle.pdl_image.specs.Images.{IsImage}
 use Rattle.pdl_net.specs.declared.Reg.{Reg}
 use Rattle.pdl_net.specs.declared.Array.{Array}
 use Rattle.pdl_net.specs.declared.Netlist.{Netlist}
-use Rattle.pdl_net.specs.Circuit.{Circuit, State, circuit_of, array_at, array_depth, no_array, HasArray}
+use Rattle.pdl_net.specs.Circuit.{State, circuit_of, array_depth, no_array, HasArray}
 use Rattle.pdl_net.specs.Signal.{Signal}
 use Rattle.pdl_net.specs.Well.{Suits}
 use Rattle.pdl_net.specs.Holds.{Holds, ImageFits}
-use Rattle.pdl_net.specs.Pipe.{PortMem, delayed_info, comb_info, mems_of, IsWellFormed}
+use Rattle.pdl_net.specs.Pipe.{PortMem, delayed_info, comb_info, IsWellFormed}
 use Rattle.pdl_net.specs.Run as net_run
 use Rattle.pdl_net.specs.Run.{Store, delayed_mems, filled_words, loaded_arrays, no_mem}
 use Rattle.pdl_net.proofs.Loaded.{loaded_at, holds_start}
-use Rattle.pdl_lockapi.specs.Lock.{start}
 use Rattle.pdl_lockapi.specs.Laws.{words_of, HasImage}
 use Rattle.pdl_lockapi.proofs.Next.{is_reset}
 use Rattle.pdl_machine_facts.proofs.Still.{none_requested}
@@ -33,7 +32,7 @@ use Rattle.pdl_pipe_law.specs.Stands.{StandsFor}
 use Rattle.pdl_pipe_law.proofs.Next.{mem_there, lock_there}
 use Rattle.pdl_pipe_law.proofs.First.{padded_at, StartsWith, stands_at_first}
 use Rattle.pdl_whole_law.specs.Outside.{IsStore, StoreThen, AreStores}
-use Rattle.pdl_pipe_law.specs.Places.{delayed_count, comb_place, net_place}
+use Rattle.pdl_pipe_law.specs.Places.{comb_place, net_place}
 use Rattle.pdl_sides.specs.Whole.{StartsLock, in_order, HasWholeMems}
 use Rattle.pdl_whole_law.proofs.Places.{is_delayed, count_yes, count_no, place_low, place_delayed, place_comb, reply_low, part_is, delayed_as_many}
 

@@ -1,5 +1,5 @@
 -- A netlist that is made of a source of the whole language.
-use Rattle.std.specs.Prelude.{◌≡◌, ℕ}
+use Rattle.std.specs.Prelude.{ℕ}
 use Rattle.pdl_semantics.specs.Tree as tree
 use Rattle.pdl_semantics.specs.Flatten.{flat}
 use Rattle.pdl_net.specs.declared.Netlist.{Netlist}

@@ -1,6 +1,6 @@
 -- The netlist of a source has names of PDL, and what is written of it reads as it.
-use Rattle.std.proofs.Common.{◌≡◌, ℕ, true, List, [], ◌∷◌, map, Option, refl, sym, ap, ◌∙◌, subst}
-use Rattle.std.specs.Prelude.{⊤}
+use Rattle.std.proofs.Common.{◌≡◌, ℕ, Bool, true, false, List, [], ◌∷◌, ◌++◌, map, Option, refl, sym, ap, ◌∙◌, subst}
+use Rattle.std.specs.Prelude.{⊤, if◌then◌else◌, filter}
 use Rattle.std.specs.List.{AllByRecursion}
 use Rattle.std.proofs.lemmas.List.Elements.{All-from_recursion}
 use Rattle.pdl_kit.specs.declared.mem_info.MemInfo.{MemInfo}
@@ -11,6 +11,9 @@ use Rattle.pdl_grammar.specs.Grammar.{Listed, last, further, Memory, memory, Par
 use Rattle.pdl_grammar.specs.Text.{IsText}
 use Rattle.pdl_net.specs.declared.Netlist.{Netlist}
 use Rattle.pdl_pipe_law.specs.Follows.{Follows}
+use Rattle.pdl_rules.specs.Refusal.{is_comb}
+use Rattle.pdl_follows.specs.Memories.{is_delayed, net_infos}
+use Rattle.pdl_follows.specs.Follows as whole
 use Rattle.pdl_vtext.specs.Words.{is_name}
 use Rattle.pdl_vlog.specs.Layout.{verilog}
 use Rattle.pdl_vread.specs.Reads.{Reads}
@@ -59,3 +62,32 @@ names source p n t f =
 
 pub reads : (source : List ℕ) (p : Pipe) (n : Netlist) → IsText source p → Follows p n → IsCounted n → Reads (verilog n) n
 reads source p n t f few = round_trip n f.well_formed (names source p n t f) few
+
+-- ---- the whole language
+
+-- a told memory has a name of PDL
+abbrev IsTold : MemInfo → Type 0
+IsTold m = is_name m.name ≡ true
+
+some_named : (test : Mem → Bool) (ms : List Mem) → HaveNames ms → AllByRecursion IsTold (map info_of (filter test ms))
+some_named test [] h = tt
+some_named test (m ∷ ms) h = at (test m) (some_named test ms h.1)
+  where
+    at : (b : Bool) → AllByRecursion IsTold (map info_of (filter test ms)) → AllByRecursion IsTold (map info_of (if b then m ∷ filter test ms else filter test ms))
+    at true g = (h.0, g)
+    at false g = g
+
+both_named : (xs ys : List MemInfo) → AllByRecursion IsTold xs → AllByRecursion IsTold ys → AllByRecursion IsTold (xs ++ ys)
+both_named [] ys h g = g
+both_named (x ∷ xs) ys h g = (h.0, both_named xs ys h.1 g)
+
+pub whole_names : (source : List ℕ) (p : Pipe) (n : Netlist) → IsText source p → whole.Follows p n → HasNames n
+whole_names source p n t f =
+    let h = whole_named p (tokens source) [] t.text (tokens_named 0 0 1 source) in
+    record {
+      netlist = ap is_name f.name ∙ h.0;
+      mems = All-from_recursion IsTold n.mems (subst (AllByRecursion IsTold) (sym f.mems) (both_named _ _ (some_named is_delayed p.mems h.1) (some_named is_comb p.mems h.1)));
+    }
+
+pub whole_reads : (source : List ℕ) (p : Pipe) (n : Netlist) → IsText source p → whole.Follows p n → IsCounted n → Reads (verilog n) n
+whole_reads source p n t f few = round_trip n f.well_formed (whole_names source p n t f) few

@@ -105,19 +105,12 @@ fn emit_bench(alloc: Global, places: u8) -> Result<Bench, NoMemory>
     })
 }
 
-/// Whose the outstanding request is.
+/// A port by hand, of at most two places: whose the outstanding request is.
 #[derive(Clone, Copy, PartialEq)]
-enum Request {
+enum Port {
     Idle,
     Owned(usize),
     Orphan,
-}
-
-/// A port by hand, of at most two places.
-#[derive(Clone, Copy)]
-struct Port {
-    request: Request,
-    kept: [Option<u64>; 2],
 }
 
 /// What a cycle does at one place.
@@ -136,73 +129,59 @@ struct Act {
 }
 
 impl Port {
-    /// The answer for the thread of a place.
+    /// The answer that comes for the thread of a place.
     fn answer(&self, act: Act, k: usize) -> Option<u64> {
-        if self.request == Request::Owned(k) {
-            return act.reply;
-        }
-        match self.kept.get(k) {
-            Some(kept) => *kept,
-            None => None,
+        if *self == Port::Owned(k) {
+            act.reply
+        } else {
+            None
         }
     }
 
     /// Whether the thread of a place waits for nothing.
     fn is_answered(&self, act: Act, k: usize) -> bool {
-        self.request != Request::Owned(k) || act.reply.is_some()
+        *self != Port::Owned(k) || act.reply.is_some()
     }
 
     /// Whether the port is free.
     fn is_free(&self, act: Act) -> bool {
-        match self.request {
-            Request::Idle => true,
-            Request::Owned(k) => {
+        match *self {
+            Port::Idle => true,
+            Port::Owned(k) => {
                 let moves = match act.places.get(k) {
                     Some(place) => place.moves,
                     None => false,
                 };
                 act.reply.is_some() & moves
             }
-            Request::Orphan => act.reply.is_some(),
-        }
-    }
-
-    /// What is kept for the thread of a place after a cycle.
-    fn kept_after(&self, act: Act, k: usize) -> Option<u64> {
-        match act.places.get(k) {
-            Some(place) if !place.moves & !place.removed => self.answer(act, k),
-            _ => None,
+            Port::Orphan => act.reply.is_some(),
         }
     }
 
     /// Whose the request is after a cycle, before a new one.
-    fn left_after(&self, act: Act) -> Request {
-        match self.request {
-            _ if act.reply.is_some() => Request::Idle,
-            Request::Owned(k) => match act.places.get(k) {
-                Some(place) if place.removed => Request::Orphan,
-                _ => self.request,
+    fn left_after(&self, act: Act) -> Port {
+        match *self {
+            _ if act.reply.is_some() => Port::Idle,
+            Port::Owned(k) => match act.places.get(k) {
+                Some(place) if place.removed => Port::Orphan,
+                _ => *self,
             },
             other => other,
         }
     }
 
     fn after(&self, act: Act) -> Port {
-        let request = match (act.places[0].asked, act.places[1].asked) {
-            (true, _) => Request::Owned(0),
-            (false, true) => Request::Owned(1),
+        match (act.places[0].asked, act.places[1].asked) {
+            (true, _) => Port::Owned(0),
+            (false, true) => Port::Owned(1),
             (false, false) => self.left_after(act),
-        };
-        Port {
-            request,
-            kept: [self.kept_after(act, 0), self.kept_after(act, 1)],
         }
     }
 }
 
 /// Whether a thread of a place moves or is removed: an owner moves only where it is answered.
 fn random_place(random: &mut Random, port: &Port, reply: Option<u64>, k: usize) -> PlaceAct {
-    let may_move = port.request != Request::Owned(k) || reply.is_some();
+    let may_move = *port != Port::Owned(k) || reply.is_some();
     let moves = random.once_in(2) & may_move;
     let removed = random.once_in(6) & !moves;
     PlaceAct {
@@ -212,9 +191,9 @@ fn random_place(random: &mut Random, port: &Port, reply: Option<u64>, k: usize) 
     }
 }
 
-/// Proper use: a reply where a request is outstanding, and a new request where the port is free, of a thread for which nothing is kept.
+/// Proper use: a reply where a request is outstanding, and a new request where the port is free.
 fn random_act(random: &mut Random, port: &Port, places: u8) -> Act {
-    let outstanding = port.request != Request::Idle;
+    let outstanding = *port != Port::Idle;
     let word = random.below(256);
     let reply = if random.once_in(3) & outstanding {
         Some(word)
@@ -228,9 +207,8 @@ fn random_act(random: &mut Random, port: &Port, places: u8) -> Act {
         places: [first, second],
     };
     let k = random.below(places as u64) as usize;
-    let may_ask = port.is_free(act) && port.kept_after(act, k).is_none();
     if k < 2 {
-        act.places[k].asked = random.once_in(2) & may_ask;
+        act.places[k].asked = random.once_in(2) & port.is_free(act);
     }
     act
 }
@@ -274,10 +252,7 @@ fn shows(board: &Board, bench: &Bench, port: &Port, act: Act) -> bool {
 fn agreed(alloc: Global, bench: &Bench, places: u8) -> Result<u32, NoMemory> {
     let mut board = Board::new(alloc, &bench.netlist, &[])?;
     let mut random = Random::new(88172645463325252);
-    let mut port = Port {
-        request: Request::Idle,
-        kept: [None, None],
-    };
+    let mut port = Port::Idle;
     let mut count: u32 = 0;
     for _ in 0..400u32 {
         let act = random_act(&mut random, &port, places);

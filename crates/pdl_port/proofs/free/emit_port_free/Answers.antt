@@ -15,4 +15,4 @@ returns-clause-law c =
     let moves = signal_at a c.args.moves.now in
     let P : Layout → Type 0 = λ l. Means d c.in_ok-free.free (free_signal l (signal a r.reply) moves l.places) in
     let m = subst P c.of-l.ensures c.in_ok-free.ensures.means in
-    free_law (layout_of r) (signal a r.reply) (signal a r.word) moves (signal d c.in_ok-free.free) m.same
+    free_law (layout_of r) (signal a r.reply) moves (signal d c.in_ok-free.free) m.same

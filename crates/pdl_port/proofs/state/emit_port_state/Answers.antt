@@ -18,25 +18,22 @@ returns-clause-placed c =
     let b = c.emit_registers.new.b in
     let d = c.emit_answers.new.b in
     let q = c.requires in
-    let w = c.width-width.ensures.value in
-    let l : Layout = record { from = c.reg_count.result; places = c.args.next_stages; width = c.width-width.result } in
-    let r : PortRegs = record { regs = c.in_ok-regs.regs; reply = c.args.reply; word = c.args.word; answers = c.in_ok-answers.answers; width = c.args.mem.now.width } in
-    let listed : AreListed l r = record { count = c.in_ok-regs.ensures.count; listed = c.in_ok-regs.ensures.listed; answers = c.in_ok-answers.ensures.answers.count; width = sym (w ∙ q.word_width) } in
+    let l : Layout = record { from = c.reg_count.result; places = c.args.next_stages } in
+    let r : PortRegs = record { regs = c.in_ok-regs.regs; reply = c.args.reply; word = c.args.word; answers = c.in_ok-answers.answers } in
+    let listed : AreListed l r = record { count = c.in_ok-regs.ensures.count; listed = c.in_ok-regs.ensures.listed; answers = c.in_ok-answers.ensures.answers.count } in
     let y = c.in_ok-answers.ensures.extends in
     let x : Extends a d = extends_trans a b d c.in_ok-emit_registers.ensures.extends y in
     are_placed d l r listed c.in_ok-emit_registers.ensures.small (places_kept b d l l.places c.in_ok-emit_registers.ensures.places y)
     (x.there r.reply q.reply_there) (ap (λ (f : Signal). f.width) (x.kept r.reply q.reply_there) ∙ q.reply_one)
-    (x.there r.word q.word_there) (ap (λ (f : Signal). f.width) (x.kept r.word q.word_there) ∙ sym w)
 
 pub returns-clause-fragment : goal.returns-clause-fragment
 returns-clause-fragment c =
     let a = c.args.b.now in
     let b = c.emit_registers.new.b in
     let d = c.emit_answers.new.b in
-    let w = c.width-width.ensures.value in
-    let l : Layout = record { from = c.reg_count.result; places = c.args.next_stages; width = c.width-width.result } in
-    let r : PortRegs = record { regs = c.in_ok-regs.regs; reply = c.args.reply; word = c.args.word; answers = c.in_ok-answers.answers; width = c.args.mem.now.width } in
-    let listed : AreListed l r = record { count = c.in_ok-regs.ensures.count; listed = c.in_ok-regs.ensures.listed; answers = c.in_ok-answers.ensures.answers.count; width = sym (w ∙ c.requires.word_width) } in
+    let l : Layout = record { from = c.reg_count.result; places = c.args.next_stages } in
+    let r : PortRegs = record { regs = c.in_ok-regs.regs; reply = c.args.reply; word = c.args.word; answers = c.in_ok-answers.answers } in
+    let listed : AreListed l r = record { count = c.in_ok-regs.ensures.count; listed = c.in_ok-regs.ensures.listed; answers = c.in_ok-answers.ensures.answers.count } in
     is_fragment a b d l r listed c.reg_count.ensures c.in_ok-emit_registers.ensures.count c.in_ok-answers.ensures.extends
 
 pub returns-clause-answers : goal.returns-clause-answers
@@ -45,10 +42,9 @@ returns-clause-answers c =
     let b = c.emit_registers.new.b in
     let d = c.emit_answers.new.b in
     let q = c.requires in
-    let w = c.width-width.ensures.value in
-    let l : Layout = record { from = c.reg_count.result; places = c.args.next_stages; width = c.width-width.result } in
-    let r : PortRegs = record { regs = c.in_ok-regs.regs; reply = c.args.reply; word = c.args.word; answers = c.in_ok-answers.answers; width = c.args.mem.now.width } in
-    let listed : AreListed l r = record { count = c.in_ok-regs.ensures.count; listed = c.in_ok-regs.ensures.listed; answers = c.in_ok-answers.ensures.answers.count; width = sym (w ∙ q.word_width) } in
+    let l : Layout = record { from = c.reg_count.result; places = c.args.next_stages } in
+    let r : PortRegs = record { regs = c.in_ok-regs.regs; reply = c.args.reply; word = c.args.word; answers = c.in_ok-answers.answers } in
+    let listed : AreListed l r = record { count = c.in_ok-regs.ensures.count; listed = c.in_ok-regs.ensures.listed; answers = c.in_ok-answers.ensures.answers.count } in
     let x = c.in_ok-emit_registers.ensures.extends in
     let y = c.in_ok-answers.ensures.extends in
     let P : Layout → Type 0 = λ g. AnswerLaw (Stands g) c.args.next_stages (signal d r.reply) (signal d r.word) (answer_signals d r) in

@@ -1,4 +1,4 @@
-use Rattle.std.proofs.Common.{◌≡◌, ◌+◌, ◌*◌, length}
+use Rattle.std.proofs.Common.{◌≡◌, ◌+◌, length}
 use Rattle.pdl_net.specs.Growth.{Extends}
 use Rattle.pdl_port.specs.Places.{HasPlaces, AreReset}
 use Rattle.pdl_port.proofs.state.emit_registers.Given as goal
@@ -6,7 +6,7 @@ use Rattle.pdl_port.proofs.state.emit_registers.Given as goal
 abbrev pub invariant-loop-k : goal.invariant-loop-k
 invariant-loop-k l = record {
   extends : Extends l.fn.b l.b;
-  place : length l.b.regs ≡ l.l.from + 3 * l._k + 1;
-  places : HasPlaces l.b l.l l._k;
-  reset : AreReset l.b l.l l._k;
+  place : length l.b.regs ≡ l.fn.l.from + l._k + 1;
+  places : HasPlaces l.b l.fn.l l._k;
+  reset : AreReset l.b l.fn.l l._k;
 }

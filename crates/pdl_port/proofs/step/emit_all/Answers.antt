@@ -17,7 +17,7 @@ returns c =
     let y = c.next.ensures.extends in
     let z = c.in_ok-emit_places.ensures.extends in
     let k = keeps_trans a b m (extends_keeps a b x) (but_keeps (one_reg l.from) b m y) in
-    let s = same_step a m l.places l.width c.args.r.now c.args.p.now c.requires.nets k in
+    let s = same_step a m l.places c.args.r.now c.args.p.now c.requires.nets k in
     let there = k.has_reg l.from c.requires.places.has_orphan in
     record {
       next = record {

@@ -1,0 +1,11 @@
+pub mod Memories
+pub mod PortNames
+pub mod Ports
+pub mod Arrays
+pub mod WellFormed
+pub mod HasMems
+pub mod FollowsMade
+pub mod LinesPorts
+pub mod Lines
+pub mod Sequential
+pub mod Images

@@ -1,0 +1,4 @@
+pub mod Memories
+pub mod Follows
+pub mod Runs
+pub mod Refined
