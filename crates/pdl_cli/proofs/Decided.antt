@@ -27,7 +27,8 @@ use Rattle.pdl_failure.specs.Failures.{status_of}
 use Rattle.pdl_commands.specs.Assembled.{IsTabled, IsWrongTable, IsWrongText, IsAssembled}
 use Rattle.pdl_commands.specs.Simulated.{NetlistRefused, HoldsNetlist, IsWrongNetlist, IsWrongStart, IsWrongSim, IsSimulated}
 use Rattle.pdl_commands.specs.Commands.{SourceRefused, IsAccepted, IsLoaded, IsWrongSource, IsWrongImage, IsWrong, IsWrongFor, Writes}
-use Rattle.pdl_cli.specs.Top.{Seen, Explains, IsDecided, Decides}
+use Rattle.pdl_commands.specs.Outcomes.{Seen, Explains}
+use Rattle.pdl_cli.specs.Top.{IsDecided, Decides}
 use Rattle.pdl_cli.proofs.OneNetlist.{one_netlist, read_right}
 use Rattle.pdl_rules.specs.Memories.{infos_of}
 
