@@ -8,7 +8,9 @@ ghost use Rattle.pdl_commands.specs.Outcomes.{seen_of, Explains, Streamed};
 ghost use Rattle.pdl_cli.specs.Top.{Allows, IsFew, Answers, Decides};
 
 use pdl_args::{Line, read_line};
-use pdl_commands::{assembly_text, build, generate, run_in_turn, run_source, simulate, verdict};
+use pdl_commands::{
+    assembly_text, build, generate, run_in_turn, run_source, simulate, verdict, wave,
+};
 use pdl_failure::{Failure, report, status_of};
 use pdl_kit::files::Files;
 use pdl_kit::sink::{Sink, write_whole};
@@ -68,6 +70,11 @@ fn obey_line<F: Files, O: Sink>(
             image,
             cycles,
         } => simulate(alloc, files, netlist, image, cycles, out),
+        Line::Wave {
+            source,
+            image,
+            cycles,
+        } => wave(alloc, files, source, image, cycles, out),
     }
 }
 

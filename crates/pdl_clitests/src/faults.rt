@@ -70,3 +70,28 @@ fn writes_while_it_runs(rt: HostRuntime) {
     assert!(rt; pieces(rt.alloc(), 3) == Some((4, 8192)));
     assert!(rt; pieces(rt.alloc(), 4) == Some((0, 10939)));
 }
+
+// The status of a dump of two cycles, and how much of its text there is, where the call of the output with this number fails.
+fn dumped(alloc: Global, call: u64) -> Option<(u8, usize)> {
+    let mut failing = Vec::new(alloc);
+    let _ = failing.push(call);
+    match (
+        MemSink::new(alloc, 65536, 100, failing),
+        MemSink::unfailing(alloc, 1000),
+    ) {
+        (Ok(mut out), Ok(mut err)) => {
+            let words = ["wave", "a.pdl", "e.img", "2"];
+            let status = ran(alloc, &words, COUNTER, b"image 1\n", &mut out, &mut err);
+            Some((status, out.written().len()))
+        }
+        _ => None,
+    }
+}
+
+// A dump goes the same way.
+#[test]
+fn dumps_while_it_runs(rt: HostRuntime) {
+    assert!(rt; dumped(rt.alloc(), 1) == Some((4, 0)));
+    assert!(rt; dumped(rt.alloc(), 2) == Some((4, 100)));
+    assert!(rt; dumped(rt.alloc(), 9) == Some((0, 319)));
+}

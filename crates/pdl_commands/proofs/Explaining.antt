@@ -1,12 +1,11 @@
 -- What explains the outcome of a command, from what its parts say.
-use Rattle.std.proofs.Common.{◌≡◌, ℕ, ◌≤◌, List, Option, Vec, Global, Some, inl, inr, refl, sym, subst, arith}
+use Rattle.std.proofs.Common.{◌≡◌, ℕ, ◌≤◌, List, Option, Vec, Global, Some, inl, inr, sym, subst}
 use Rattle.std.specs.Prelude.{Result, Ok, Err, IfOk, IfErr, MatchResult}
 use Rattle.pdl_kit.specs.declared.rule.Rule.{Rule}
 use Rattle.pdl_kit.specs.Counts.{HasCause}
 use Rattle.pdl_kit.specs.declared.sink.WriteFailed.{WriteFailed}
-use Rattle.pdl_kit.specs.Files.{Held, Gives}
+use Rattle.pdl_kit.specs.Files.{Held}
 use Rattle.pdl_net.specs.declared.Netlist.{Netlist}
-use Rattle.pdl_failure.specs.declared.failure.Position.{Position}
 use Rattle.pdl_failure.specs.declared.failure.Position.TheVariants.{Line, Insn}
 use Rattle.pdl_failure.specs.declared.failure.Failure.{Failure}
 use Rattle.pdl_failure.specs.declared.failure.Failure.TheVariants.{Usage, Refused, ReadFault, WriteFault, NoMemory}
@@ -15,8 +14,8 @@ use Rattle.pdl_trace.specs.declared.text_error.TextError.{TextError}
 use Rattle.pdl_trace.specs.declared.text_error.TextError.TheVariants as error
 use Rattle.pdl_trace.specs.Passed.{Streams, WritesText}
 use Rattle.pdl_args.specs.Line.{Command, sim}
-use Rattle.pdl_commands.specs.Commands.{AtLine, IsWrongSource, IsWrongFor, Writes, SourceFails, ImageFails, NetlistFails, Fails}
-use Rattle.pdl_commands.specs.Simulated.{HoldsNetlist, IsWrongNetlist, IsWrongSim}
+use Rattle.pdl_commands.specs.Commands.{IsWrongSource, IsWrongFor, Writes, SourceFails, ImageFails, NetlistFails, Fails}
+use Rattle.pdl_commands.specs.Simulated.{HoldsNetlist}
 use Rattle.pdl_commands.specs.Outcomes.{Seen, seen_of, FailsAs, Explains, Streamed}
 use Rattle.pdl_commands.proofs.Preparing.{rose_before}
 

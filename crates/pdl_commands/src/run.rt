@@ -38,8 +38,8 @@ pub fn accept<F: Files>(alloc: Global, files: &mut F, name: &str) -> Result<Acce
     Ok(check(alloc, source.as_slice())?)
 }
 
-// Reads an image for the memories of a pipe.
-fn load<F: Files>(
+/// Reads an image for the memories of a pipe.
+pub fn load<F: Files>(
     alloc: Global,
     files: &mut F,
     name: &str,

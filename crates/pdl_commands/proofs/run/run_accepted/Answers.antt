@@ -1,6 +1,5 @@
-use Rattle.std.proofs.Common.{◌≡◌, refl, arith}
+use Rattle.std.proofs.Common.{refl, arith}
 use Rattle.pdl_tree.specs.View.{pipe_view}
-use Rattle.pdl_semantics.specs.Lines.{seq_lines}
 use Rattle.pdl_args.specs.Line.{run}
 use Rattle.pdl_commands.specs.Commands.{IsOutput}
 use Rattle.pdl_commands.specs.Outcomes.{seen_of}

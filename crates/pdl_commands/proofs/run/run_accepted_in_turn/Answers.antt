@@ -2,7 +2,6 @@ use Rattle.std.proofs.Common.{◌≡◌, refl, arith}
 use Rattle.pdl_tree.specs.View.{pipe_view}
 use Rattle.pdl_semantics.specs.Lines.{seq_lines}
 use Rattle.pdl_args.specs.Line.{seq}
-use Rattle.pdl_commands.specs.Commands.{IsOutput}
 use Rattle.pdl_commands.specs.Outcomes.{seen_of}
 use Rattle.pdl_commands.proofs.Preparing.{is_loaded, image_fails}
 use Rattle.pdl_commands.proofs.Explaining.{silent, streamed_explains}

@@ -1,5 +1,4 @@
 use Rattle.std.proofs.Common.{inl, refl, subst, sym}
-use Rattle.pdl_tree.specs.View.{pipe_view}
 use Rattle.pdl_args.specs.Line.{seq}
 use Rattle.pdl_kit.specs.Files.{Gives}
 use Rattle.pdl_commands.specs.Outcomes.{seen_of}

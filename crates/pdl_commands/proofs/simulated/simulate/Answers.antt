@@ -1,4 +1,4 @@
-use Rattle.std.proofs.Common.{◌≡◌, refl, subst, sym}
+use Rattle.std.proofs.Common.{refl, subst, sym}
 use Rattle.pdl_args.specs.Line.{sim}
 use Rattle.pdl_commands.specs.Simulated.{HoldsNetlist}
 use Rattle.pdl_commands.specs.Outcomes.{seen_of}
