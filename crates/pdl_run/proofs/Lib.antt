@@ -10,3 +10,9 @@ pub mod Rows
 pub mod Carrying
 pub mod Counted
 pub mod Deciding
+pub mod Memories
+pub mod Cycling
+pub mod Keeping
+pub mod Lasting
+pub mod Roomy
+pub mod Turns
