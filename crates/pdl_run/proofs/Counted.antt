@@ -1,5 +1,5 @@
 -- How many values the ports have.
-use Rattle.std.proofs.Common.{◌≡◌, refl, ap₂, ◌∙◌, ℕ, suc, ◌+◌, ◌*◌, ◌≤◌, Bool, true, false, if◌then◌else◌, List, [], ◌∷◌, ◌++◌, Option, Some, None, length, length-append, arith}
+use Rattle.std.proofs.Common.{◌≡◌, refl, ℕ, suc, ◌+◌, ◌*◌, ◌≤◌, Bool, true, false, if◌then◌else◌, List, [], ◌∷◌, ◌++◌, Option, Some, None, length, length-append, arith}
 use Rattle.pdl_semantics.specs.Flat.{Lock, Mem, Stage, Pipe, has_lock}
 use Rattle.pdl_semantics.specs.Machine.{State}
 use Rattle.pdl_semantics.specs.Moves.{Act}

@@ -4,7 +4,7 @@ use Rattle.std.proofs.lemmas.List.{length-set, get_or-set_same, get_or-set_other
 use Rattle.std.proofs.lemmas.Bool.{eqb-true}
 use Rattle.pdl_semantics.specs.Flat.{Expr, Op, Bind, CombRead, DelayedRead, Write, ReserveRead, ReserveWrite, Block, Release, Call, SpecCall, Verify, SpecCheck, SpecBarrier, Stmt, Pipe, all_hold, value_of, values_of}
 use Rattle.pdl_semantics.specs.Stages.{in_stage, mem_at}
-use Rattle.pdl_semantics.specs.Machine.{Ask, Deeds, Reserved, Written, same_args, after_verify, deeds_after, deeds_after_all}
+use Rattle.pdl_semantics.specs.Machine.{Ask, Deeds, Reserved, Written, same_args, deeds_after, deeds_after_all}
 use Rattle.pdl_form.specs.Form.{Form, stmt_at}
 use Rattle.pdl_formtypes.specs.Stmts.{param_widths, AreWidths, AreArguments, IsTypedOp, AreTypedStmts}
 use Rattle.pdl_values.specs.Widths.{Fit}

@@ -22,7 +22,7 @@ use Rattle.pdl_run.specs.declared.beside.Beside as r_beside
 use Rattle.pdl_run.specs.View.{deeds_view, thread_of, thread_if, thread_in}
 use Rattle.pdl_run.specs.Outside.{outside}
 use Rattle.pdl_run.specs.Typed.{IsFine, AreReserved, AreWritten, AreFit}
-use Rattle.pdl_run.specs.Acts.{act_of, acts_of, mover_of, IsCarried, goes, AreDecided, both, left_of, out_of, memory_after}
+use Rattle.pdl_run.specs.Acts.{act_of, acts_of, IsCarried, goes, AreDecided, both, left_of, out_of, memory_after}
 use Rattle.pdl_run.proofs.Carrying.{stage_few}
 
 -- HOW OFTEN A STAGE ASKS
@@ -89,9 +89,10 @@ module _ (f : Form) where
     all_acted k [] [] n c = tt
     all_acted k [] (z ∷ zs) n c = absurd (omega arith)
     all_acted k (y ∷ ys) [] n c = absurd (omega arith)
-    all_acted k (y ∷ ys) (z ∷ zs) n c =
-        (carried_acted (k + 0) (thread_in y.slot) z.slot.number z refl (c 0 z (omega arith)),
-        all_acted (suc k) ys zs (omega arith) (λ i e less. let same : k + suc i ≡ suc k + i = omega arith in subst (λ j. IsCarried f b bits j (thread_in (get_or ys i e).slot) (get_or zs i e)) same (c (suc i) e (omega (arith, less)))))
+    all_acted k (y ∷ ys) (z ∷ zs) n c = (
+      carried_acted (k + 0) (thread_in y.slot) z.slot.number z refl (c 0 z (omega arith)),
+      all_acted (suc k) ys zs (omega arith) (λ i e less. let same : k + suc i ≡ suc k + i = omega arith in subst (λ j. IsCarried f b bits j (thread_in (get_or ys i e).slot) (get_or zs i e)) same (c (suc i) e (omega (arith, less)))),
+    )
 
   pub acted_at : (zs : List r_stage.Stage) (i : ℕ) (d : r_stage.Stage) → AllActed zs → i < length zs → HasActed (get_or zs i d).slot.number (get_or zs i d)
   acted_at [] i d h less = absurd (omega arith)

@@ -1,9 +1,9 @@
 -- What holds of the threads before a cycle holds after it.
-use Rattle.std.proofs.Common.{◌≡◌, refl, sym, ap, ◌∙◌, subst, ℕ, zero, suc, ◌+◌, ◌-◌, ◌^◌, ◌<◌, ◌≤◌, Bool, true, false, ◌==◌, if◌then◌else◌, List, [], ◌∷◌, ◌++◌, Option, Some, None, is_some, length, length-append, take, replicate, slice_index, get_or, arith}
-use Rattle.std.specs.Prelude.{⊤, IfSome, vec_len, vec_capacity}
+use Rattle.std.proofs.Common.{◌≡◌, refl, sym, ap, subst, ℕ, zero, suc, ◌+◌, ◌-◌, ◌^◌, ◌<◌, ◌≤◌, Bool, true, false, ◌==◌, if◌then◌else◌, List, [], ◌∷◌, ◌++◌, Option, Some, None, is_some, length, length-append, take, replicate, slice_index, get_or, arith}
+use Rattle.std.specs.Prelude.{IfSome, vec_len, vec_capacity}
 use Rattle.std.proofs.lemmas.List.{length-replicate, length-map}
 use Rattle.std.proofs.lemmas.Nat.{pow_pos}
-use Rattle.pdl_semantics.specs.Flat.{Pipe, start_env}
+use Rattle.pdl_semantics.specs.Flat.{start_env}
 use Rattle.pdl_semantics.specs.Machine.{Thread, Ask}
 use Rattle.pdl_semantics.specs.Moves.{Act, next_stage}
 use Rattle.pdl_semantics.specs.Cycle.{is_stage, child_of, born_thread, awaited_of, thread_after, coming_thread, next_thread, or_then, if_kept, is_kept}
@@ -14,7 +14,7 @@ use Rattle.pdl_word.proofs.Lists.{take_few}
 use Rattle.pdl_run.specs.declared.stage.Stage as r_stage
 use Rattle.pdl_run.specs.View.{deeds_view, ask_view, thread_of}
 use Rattle.pdl_run.specs.Typed.{AreAsked, AreAwaited, IsFine, AreFit}
-use Rattle.pdl_run.specs.Acts.{act_here, all_of, act_of, acts_of, mover_of}
+use Rattle.pdl_run.specs.Acts.{act_here, all_of, act_of, acts_of}
 use Rattle.pdl_run.specs.Ready.{IsStage, HasAwaits}
 use Rattle.pdl_run.proofs.Keeping.{HasActed, AllActed, acted_at}
 

@@ -5,6 +5,7 @@ pub mod Answering
 pub mod Moving
 pub mod Showing
 pub mod First
+pub mod Typing
 pub mod Fitting
 pub mod Rows
 pub mod Carrying

@@ -3,11 +3,11 @@ use Rattle.std.proofs.Common.{◌≡◌, refl, sym, ap, ap₂, ◌∙◌, ℕ, z
 use mathlib.Core.Path.{fun_ext}
 use Rattle.std.proofs.lemmas.Bool.{eqb-true, false_from_ne_true, both_ways}
 use Rattle.std.specs.Prelude.{IfSome, ⊤}
-use Rattle.pdl_semantics.specs.Flat.{Mem, Array, Arrays, arrays_of, with_value}
+use Rattle.pdl_semantics.specs.Flat.{Mem, Array, Arrays, with_value}
 use Rattle.pdl_semantics.specs.Locks.{commit_value}
 use Rattle.pdl_semantics.specs.Machine.{Pending, State, lock_of}
 use Rattle.pdl_semantics.specs.Moves.{Act}
-use Rattle.pdl_semantics.specs.Cycle.{with_reserves, with_all_writes, has_release, oldest, but_oldest, list_two, list_three, taken_out, port_write, with_commit, with_commits, entries_left, for_mems}
+use Rattle.pdl_semantics.specs.Cycle.{list_three, taken_out, port_write, with_commit, with_commits, entries_left, for_mems}
 use Rattle.pdl_machine_facts.specs.Ports.{commit_values, all_commit_values}
 use Rattle.pdl_pending.specs.Memory.{Memory, committed_to}
 use Rattle.pdl_run.specs.Doing.{memory_at}

@@ -1,14 +1,12 @@
 -- The memories and the orders of forks before a cycle can take it, and have their widths and their room after it.
 use Rattle.std.proofs.Common.{◌≡◌, refl, sym, ap, ap₂, ◌∙◌, subst, ℕ, zero, suc, ◌+◌, ◌^◌, ◌<◌, ◌≤◌, Bool, true, false, if◌then◌else◌, List, [], ◌∷◌, ◌++◌, Option, None, is_some, map, length, get_or, slice_index_or, ◌⊎◌, inl, inr, arith}
 use Rattle.std.specs.Prelude.{IfSome, vec_capacity}
-use Rattle.std.proofs.lemmas.List.{length-map}
 use Rattle.pdl_semantics.specs.Flat.{Lock, Plain, Pipe}
 use Rattle.pdl_semantics.specs.Stages.{mem_at}
-use Rattle.pdl_semantics.specs.Machine.{Thread, Pending, State, lock_of, fork_of}
-use Rattle.pdl_semantics.specs.Moves.{Act, all_acts}
-use Rattle.pdl_semantics.specs.Moves as model
+use Rattle.pdl_semantics.specs.Machine.{Pending, State, lock_of, fork_of}
+use Rattle.pdl_semantics.specs.Moves.{Act}
 use Rattle.pdl_semantics.specs.Cycle.{has_release, oldest, entries_left, list_three, cycle, first, state_after, squasher, branches_left, fork_next}
-use Rattle.pdl_lockapi.specs.Forget.{addresses_of, addresses}
+use Rattle.pdl_lockapi.specs.Forget.{addresses}
 use Rattle.pdl_machine_facts.specs.Slots.{moving}
 use Rattle.pdl_machine_facts.specs.Cycle.{IsByStages}
 use Rattle.pdl_machine_facts.specs.Use.{IsInUse}

@@ -1,5 +1,5 @@
 -- What the ports show, one memory after the other.
-use Rattle.std.proofs.Common.{◌≡◌, refl, sym, ap, ap₂, ◌∙◌, ℕ, suc, ◌+◌, ◌<◌, Bool, List, [], ◌∷◌, ◌++◌, drop, length, Option, None, if◌then◌else◌, get_or, arith, append_assoc}
+use Rattle.std.proofs.Common.{◌≡◌, sym, ap, ap₂, ◌∙◌, ℕ, suc, ◌+◌, ◌<◌, List, [], ◌++◌, drop, length, Option, None, if◌then◌else◌, get_or, arith, append_assoc}
 use Rattle.pdl_semantics.specs.Moves.{Act}
 use Rattle.pdl_form.specs.declared.form.Mem as r_mem
 use Rattle.pdl_form.specs.View.{mems_view}

@@ -1,17 +1,16 @@
 -- What a cycle makes of what the program holds.
-use Rattle.std.proofs.Common.{◌≡◌, refl, sym, ap, ap₂, ◌∙◌, subst, ℕ, suc, ◌+◌, ◌*◌, ◌<◌, ◌≤◌, Bool, if◌then◌else◌, ◌==◌, List, [], ◌∷◌, ◌++◌, map, Option, Some, None, is_some, length, length-append, get_or, arith, append_assoc}
+use Rattle.std.proofs.Common.{◌≡◌, refl, sym, ap, ◌∙◌, subst, ℕ, suc, ◌<◌, ◌≤◌, Bool, if◌then◌else◌, ◌==◌, List, [], ◌∷◌, ◌++◌, map, Option, Some, None, is_some, length, get_or, arith, append_assoc}
 use Rattle.std.specs.Prelude.{IfSome, vec_capacity}
 use Rattle.std.proofs.Math.ListN.{get_or-map}
 use Rattle.std.proofs.lemmas.List.{length-map}
 use Rattle.pdl_word.specs.Words.{bit}
-use Rattle.pdl_semantics.specs.Flat.{Pipe, Mem}
-use Rattle.pdl_semantics.specs.Machine.{Thread, Request, State}
+use Rattle.pdl_semantics.specs.Flat.{Pipe}
+use Rattle.pdl_semantics.specs.Machine.{Thread, Request}
 use Rattle.pdl_semantics.specs.Moves.{Act, all_acts}
 use Rattle.pdl_semantics.specs.Cycle.{or_then, if_kept, born_thread, child_of, squasher, next_thread, cycle}
 use Rattle.pdl_semantics.specs.Cycle as stated
 use Rattle.pdl_machine_facts.specs.Ports.{stage_values}
 use Rattle.pdl_form.specs.Form.{Form}
-use Rattle.pdl_pending.specs.Memory.{Memory}
 use Rattle.pdl_run.specs.declared.stage.Slot as r_slot
 use Rattle.pdl_run.specs.declared.stage.Stage as r_stage
 use Rattle.pdl_run.specs.declared.deeds.Deeds as r_deeds

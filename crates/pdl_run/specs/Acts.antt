@@ -1,10 +1,10 @@
 -- The threads in the stages: what they do, which move, and what stands in each stage after them.
-use Rattle.std.specs.Prelude.{◌≡◌, ℕ, suc, Bool, true, false, ◌&&◌, ◌||◌, not, if◌then◌else◌, ◌==◌, List, [], ◌∷◌, ◌++◌, map, length, Option, Some, None, is_none, is_some, ⊤}
+use Rattle.std.specs.Prelude.{◌≡◌, ℕ, suc, Bool, true, false, ◌&&◌, if◌then◌else◌, ◌==◌, List, [], ◌∷◌, ◌++◌, map, length, Option, Some, None, is_none, is_some, ⊤}
 use Rattle.pdl_semantics.specs.Flat.{Pipe}
-use Rattle.pdl_semantics.specs.Stages.{list_any, verify_stage}
+use Rattle.pdl_semantics.specs.Stages.{list_any}
 use Rattle.pdl_semantics.specs.Locks.{read_ready, write_ready, has_room}
 use Rattle.pdl_semantics.specs.Machine.{Thread, Pending, Blocked, Deeds, State, deeds, with_answers}
-use Rattle.pdl_semantics.specs.Moves.{Act, next_stage, may_move, no_failure, is_empty, ports_free, barrier_clear, can_enter, merges_well, blocks_ready, have_room}
+use Rattle.pdl_semantics.specs.Moves.{Act, next_stage, no_failure, is_empty, ports_free, barrier_clear, can_enter, merges_well, blocks_ready, have_room}
 use Rattle.pdl_semantics.specs.Cycle.{with_reserves, with_all_writes, has_release, but_oldest, oldest, port_write, entries_left, is_stage, thread_after}
 use Rattle.pdl_form.specs.Form.{Form}
 use Rattle.pdl_pending.specs.Memory.{Memory, committed_to}

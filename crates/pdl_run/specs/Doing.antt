@@ -1,5 +1,5 @@
 -- What a stage's statements find in the memories, and what they do.
-use Rattle.std.specs.Prelude.{ℕ, ◌≤◌, false, List, [], ◌∷◌, None, slice_index, slice_index_or, length, ⊤}
+use Rattle.std.specs.Prelude.{ℕ, ◌≤◌, false, List, [], None, slice_index, slice_index_or, length, ⊤}
 use Rattle.pdl_semantics.specs.Flat.{Op, Bind, CombRead, DelayedRead, Write, ReserveRead, ReserveWrite, Block, Release, Call, SpecCall, Verify, SpecCheck, SpecBarrier, Plain}
 use Rattle.pdl_semantics.specs.Locks.{Latest, Nothing, value_or}
 use Rattle.pdl_semantics.specs.Machine.{Deeds, youngest}

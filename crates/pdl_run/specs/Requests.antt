@@ -1,5 +1,5 @@
 -- The requests of memories, as acts change and show them.
-use Rattle.std.specs.Prelude.{ℕ, suc, Bool, if◌then◌else◌, List, [], ◌∷◌, ◌++◌, Option, None}
+use Rattle.std.specs.Prelude.{ℕ, suc, Bool, if◌then◌else◌, List, [], ◌∷◌, ◌++◌, Option}
 use Rattle.pdl_semantics.specs.Flat.{Mem, Pipe}
 use Rattle.pdl_semantics.specs.Machine.{Request, NoRequest, is_answered}
 use Rattle.pdl_semantics.specs.Moves.{Act}

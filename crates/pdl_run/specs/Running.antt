@@ -1,8 +1,8 @@
 -- A machine that runs, between two cycles.
-use Rattle.std.specs.Prelude.{◌≡◌, ℕ, ◌+◌, ◌<◌, ◌≤◌, ◌^◌, Bool, List, [], Option, IfSome, length, slice_index, slice_index_or}
+use Rattle.std.specs.Prelude.{◌≡◌, ℕ, ◌+◌, ◌<◌, ◌≤◌, ◌^◌, Bool, List, [], IfSome, length, slice_index, slice_index_or}
 use Rattle.pdl_semantics.specs.Flat.{Lock, Arrays, Pipe}
 use Rattle.pdl_semantics.specs.Stages.{mem_at}
-use Rattle.pdl_semantics.specs.Machine.{Thread, State, fork_of}
+use Rattle.pdl_semantics.specs.Machine.{State, fork_of}
 use Rattle.pdl_semantics.specs.Cycle.{first, state_after}
 use Rattle.pdl_lockapi.specs.Sizes.{size_of}
 use Rattle.pdl_machine_facts.specs.Slots.{LeadsOn}
@@ -11,13 +11,12 @@ use Rattle.pdl_machine_facts.specs.Use.{IsInUse}
 use Rattle.pdl_form.specs.Form.{Form}
 use Rattle.pdl_formtypes.specs.Stmts.{IsTypedForm}
 use Rattle.pdl_pending.specs.Memory.{Memory}
-use Rattle.pdl_run.specs.declared.stage.Slot as r_slot
 use Rattle.pdl_run.specs.declared.stage.Stage as r_stage
 use Rattle.pdl_run.specs.declared.beside.Beside as r_beside
-use Rattle.pdl_run.specs.View.{seats, thread_in}
+use Rattle.pdl_run.specs.View.{thread_in}
 use Rattle.pdl_run.specs.Doing.{memory_at}
 use Rattle.pdl_run.specs.Typed.{IsFine, AreMemories}
-use Rattle.pdl_run.specs.Ready.{IsWide, AreStages, AreOrders}
+use Rattle.pdl_run.specs.Ready.{AreStages, AreOrders}
 
 -- a pipe that this machine runs: its flat form is typed, threads go on to later stages, and in each state of a run the locks are used as they ask, and a fork's list is no longer than there are stages
 pub record IsRunnable (f : Form) : Type 0 where

@@ -1,5 +1,5 @@
 -- What values of the program stand for: what a thread holds, what a stage does, who stands in it, and what stands beside the stages.
-use Rattle.std.specs.Prelude.{ℕ, Bool, true, false, List, [], map, Option, Some, None}
+use Rattle.std.specs.Prelude.{ℕ, Bool, true, false, List, map, Option, Some, None}
 use Rattle.pdl_semantics.specs.Machine.{Awaited, Kept, Thread, HeldLocation, Blocked, Ask, Deeds, Request, NoRequest, Owned, Orphan}
 use Rattle.pdl_pending.specs.View.{reserved_view, written_view}
 use Rattle.pdl_run.specs.declared.place.Place as r_place

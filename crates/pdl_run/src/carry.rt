@@ -28,7 +28,13 @@ fn carry_out(pipe: &FlatPipe, beside: &Beside, replies: &[bool], k: usize, stage
     if let Some(thread) = stage.slot.number {
         give_answers(pipe, beside, replies, thread, &mut stage.slot);
         stage.deeds.begin(pipe, k, &stage.slot);
-        run_stage(pipe, beside.memories.as_slice(), thread, k, &mut stage.deeds);
+        run_stage(
+            pipe,
+            beside.memories.as_slice(),
+            thread,
+            k,
+            &mut stage.deeds,
+        );
     }
 }
 

@@ -61,8 +61,19 @@ fn step_beside(
 {
     step_memories(beside.memories.as_mut_slice(), stages, squasher, shown);
     show_requests(pipe.mems(), stages, shown);
-    step_orders(pipe, stages, squasher.is_some(), beside.orders.as_mut_slice());
-    step_requests(pipe, replies, stages, squasher, beside.requests.as_mut_slice());
+    step_orders(
+        pipe,
+        stages,
+        squasher.is_some(),
+        beside.orders.as_mut_slice(),
+    );
+    step_requests(
+        pipe,
+        replies,
+        stages,
+        squasher,
+        beside.requests.as_mut_slice(),
+    );
 }
 
 // The stages after a cycle, of which the first takes a new thread.

@@ -309,13 +309,7 @@ fn may_follow(
 }
 
 // Whether the thread in stage k, if there is one, moves.
-fn may_move(
-    pipe: &FlatPipe,
-    beside: &Beside,
-    replies: &[bool],
-    stages: &[Stage],
-    k: usize,
-) -> bool
+fn may_move(pipe: &FlatPipe, beside: &Beside, replies: &[bool], stages: &[Stage], k: usize) -> bool
     requires stage { k < length stages.now }
     requires memories { AreMemories (form pipe.now).pipe beside.now.memories.items }
     ensures { (d : r_stage.Stage) → result ≡ goes (form pipe.now).pipe beside.now replies.now k

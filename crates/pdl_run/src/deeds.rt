@@ -167,11 +167,6 @@ impl Deeds {
         self.values.copy_from_slice(slot.values.as_slice());
         put_answers(slot.kept.as_slice(), self.values.as_mut_slice());
         copy_words(slot.guess.as_slice(), &mut self.guess);
-        hold_before(
-            pipe.stmts(),
-            stage,
-            slot.values.as_slice(),
-            &mut self.held,
-        );
+        hold_before(pipe.stmts(), stage, slot.values.as_slice(), &mut self.held);
     }
 }

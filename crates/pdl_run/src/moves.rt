@@ -155,7 +155,11 @@ pub fn squasher(stages: &[Stage]) -> Option<u64>
 fn squashes(stage: &Stage) -> Option<u64>
     ensures { (k : ℕ) → result ≡ stated.squasher (act_of k (mover_of stage.now) stage.now) }
 {
-    if stage.deeds.fails { mover(stage) } else { None }
+    if stage.deeds.fails {
+        mover(stage)
+    } else {
+        None
+    }
 }
 
 /// Whether a squash, if there is one, leaves a thread.

@@ -90,7 +90,11 @@ fn has_left(pipe: &FlatPipe, stages: &[Stage], f: usize) -> bool
 fn stages_to(stages: &[PipeStage], last: usize) -> &[PipeStage]
     ensures { stages_view result.now ≡ take (suc last) (stages_view stages.now) }
 {
-    if last < stages.len() { &stages[..last + 1] } else { stages }
+    if last < stages.len() {
+        &stages[..last + 1]
+    } else {
+        stages
+    }
 }
 
 // Whether one of these stages merges fork f.

@@ -4,6 +4,7 @@ ghost use Rattle.pdl_word.specs.Words.{bit};
 ghost use Rattle.pdl_machine_facts.specs.Ports.{stage_values};
 ghost use Rattle.pdl_form.specs.Whole.{form};
 ghost use Rattle.pdl_run.specs.Acts.{mover_of, act_of, acts_of, are_held, are_moving, one_ends};
+
 use crate::stage::Stage;
 use crate::step::mover;
 use crate::ways::next_stage;

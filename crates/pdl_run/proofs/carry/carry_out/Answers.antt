@@ -1,6 +1,6 @@
-use Rattle.std.proofs.Common.{◌≡◌, ◌∙◌, sym, ap, subst, ℕ, Bool, List, Option, Some, length}
+use Rattle.std.proofs.Common.{◌≡◌, ◌∙◌, sym, ap, subst, ℕ, Option, Some, length}
 use Rattle.std.specs.Prelude.{IfSome}
-use Rattle.pdl_semantics.specs.Machine.{Thread, Deeds, with_answers}
+use Rattle.pdl_semantics.specs.Machine.{Thread, with_answers}
 use Rattle.pdl_form.specs.Whole.{form}
 use Rattle.pdl_machine_facts.specs.Use.{before_stage}
 use Rattle.pdl_run.specs.View.{thread_of, thread_if, thread_in, deeds_view}

@@ -1,13 +1,9 @@
-use Rattle.std.proofs.Common.{◌≡◌, ◌≤◌, ◌<◌, ◌+◌, ◌*◌, ◌++◌, ◌∷◌, ◌∙◌, [], sym, ap, ap₂, subst, ℕ, Bool, List, Option, is_some, map, length, length-append, arith}
-use Rattle.std.proofs.lemmas.List.{length-map}
-use Rattle.std.specs.Prelude.{vec_len, vec_capacity}
+use Rattle.std.proofs.Common.{◌≡◌, ◌++◌, ◌∷◌, ◌∙◌, [], sym, ap, ap₂, ℕ, Bool, List, is_some, length, length-append, arith}
 use Rattle.pdl_word.specs.Words.{bit}
-use Rattle.pdl_semantics.specs.Flat.{Mem}
-use Rattle.pdl_semantics.specs.Machine.{Thread}
 use Rattle.pdl_semantics.specs.Cycle as stated
 use Rattle.pdl_machine_facts.specs.Ports.{stage_values}
 use Rattle.pdl_form.specs.Whole.{form}
-use Rattle.pdl_run.specs.View.{thread_in, seats}
+use Rattle.pdl_run.specs.View.{thread_in}
 use Rattle.pdl_run.specs.Acts.{acts_of, are_held, are_moving, one_ends, commits_shown}
 use Rattle.pdl_run.specs.Requests.{requests_shown}
 use Rattle.pdl_run.proofs.Counted.{stages_shown, commits_most, requests_most}

@@ -1,4 +1,4 @@
-use Rattle.std.proofs.Common.{◌≡◌, ◌<◌, ◌+◌, ◌-◌, ◌∙◌, refl, length, set, get_or, arith}
+use Rattle.std.proofs.Common.{◌≡◌, ◌<◌, ◌+◌, ◌-◌, ◌∙◌, refl, length, get_or, arith}
 use Rattle.std.proofs.lemmas.List.{length-set}
 use Rattle.pdl_form.specs.Whole.{form}
 use Rattle.pdl_run.specs.declared.stage.Stage as r_stage

@@ -1,5 +1,4 @@
 use Rattle.std.proofs.Common.{◌<◌, sym, subst, length, arith}
-use Rattle.std.proofs.lemmas.List.Edits.{length-swap}
 use Rattle.pdl_run.specs.Ready.{AreStages}
 use Rattle.pdl_run.proofs.Moving.{stages_set, stages_swap}
 use Rattle.pdl_run.proofs.moves.go.Goals as goal

@@ -1,13 +1,11 @@
-use Rattle.std.proofs.Common.{rules, ◌≡◌, ◌≢◌, ◌∙◌, ◌<◌, sym, ap, ap₂, subst, ℕ, Option, if◌then◌else◌, true, false, is_none, length, get_or, set, arith}
+use Rattle.std.proofs.Common.{rules, ◌≡◌, ◌≢◌, ◌∙◌, sym, ap, ap₂, ℕ, Option, if◌then◌else◌, true, false, is_none, get_or, arith}
 use Rattle.std.proofs.lemmas.List.{get_or-set_same, get_or-set_other, get_or_default}
-use Rattle.pdl_semantics.specs.Machine.{Thread}
 use Rattle.pdl_semantics.specs.Moves.{next_stage}
 use Rattle.pdl_semantics.specs.Cycle.{is_stage, thread_after}
 use Rattle.pdl_form.specs.Whole.{form}
 use Rattle.pdl_run.specs.declared.stage.Stage as r_stage
 use Rattle.pdl_run.specs.View.{deeds_view, thread_of, thread_in}
 use Rattle.pdl_run.specs.Acts.{mover_of}
-use Rattle.pdl_run.specs.Ready.{IsStage}
 use Rattle.pdl_run.proofs.Moving.{passed, stages_set}
 use Rattle.pdl_run.proofs.moves.pass.Goals as goal
 

@@ -1,4 +1,4 @@
-use Rattle.std.proofs.Common.{◌≡◌, ◌∙◌, ◌++◌, ap, List, ℕ, Option, if◌then◌else◌, [], arith}
+use Rattle.std.proofs.Common.{◌∙◌, ◌++◌, ap, ℕ, Option, if◌then◌else◌, [], arith}
 use Rattle.pdl_run.specs.Acts.{acts_of}
 use Rattle.pdl_run.specs.Outputs.{request_values}
 use Rattle.pdl_run.specs.Requests.{requests_shown}

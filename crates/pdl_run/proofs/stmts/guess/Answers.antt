@@ -4,7 +4,6 @@ use Rattle.std.proofs.lemmas.List.{length-map}
 use Rattle.pdl_form.specs.View.{expr_view, exprs_view}
 use Rattle.pdl_values.proofs.Fitting.{values_count}
 use Rattle.pdl_run.specs.Room.{Capacities}
-use Rattle.pdl_run.specs.View.{deeds_view}
 use Rattle.pdl_run.proofs.stmts.guess.Goals as goal
 
 pub copy_words-requires : goal.copy_words-requires

@@ -6,7 +6,7 @@ use Rattle.pdl_form.specs.Form.{stmt_at}
 use Rattle.pdl_form.specs.Whole.{form}
 use Rattle.pdl_form.specs.View.{stmt_view}
 use Rattle.pdl_run.specs.View.{deeds_view}
-use Rattle.pdl_run.specs.Room.{Capacities, HasRoomFor, IsLarge}
+use Rattle.pdl_run.specs.Room.{HasRoomFor, IsLarge}
 use Rattle.pdl_run.specs.Doing.{word_of}
 use Rattle.pdl_run.proofs.Fitting.{safe_op, fit_more}
 use Rattle.pdl_run.proofs.Rows.{row_typed, row_split}
