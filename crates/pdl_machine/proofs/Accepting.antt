@@ -14,7 +14,6 @@ use Rattle.pdl_facts.specs.Facts.{Sound}
 use Rattle.pdl_invariant.specs.Strict.{Strict}
 use Rattle.pdl_invariant.proofs.Reached.{reached}
 use Rattle.pdl_simulation.proofs.Joined.{sound_flows}
-use Rattle.pdl_inflight.specs.Readings.{branch_stages}
 use Rattle.pdl_inflight.proofs.ForkLists.{list_few}
 use Rattle.pdl_lockuse.proofs.InUse.{leads_sound}
 use Rattle.pdl_lockuse.proofs.InRuns.{in_use_here, stages_here}

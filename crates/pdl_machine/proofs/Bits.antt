@@ -1,5 +1,5 @@
 -- Replies, bit after bit.
-use Rattle.std.proofs.Common.{◌≡◌, sym, ap, ap₂, ◌∙◌, ℕ, suc, ◌+◌, ◌<◌, ◌/◌, ◌%◌, ◌==◌, Bool, List, [], ◌∷◌, ◌++◌, take, drop, length, set, arith, append_assoc}
+use Rattle.std.proofs.Common.{◌≡◌, ap, ap₂, ◌∙◌, ℕ, suc, ◌+◌, ◌<◌, ◌/◌, ◌%◌, ◌==◌, Bool, List, [], ◌∷◌, ◌++◌, take, drop, length, set, arith, append_assoc}
 use Rattle.std.proofs.lemmas.List.{length-drop, take_more_set, drop-set-lt}
 use Rattle.pdl_run.specs.Outputs.{replies_of}
 
