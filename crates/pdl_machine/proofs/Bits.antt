@@ -1,7 +1,7 @@
 -- Replies, bit after bit.
 use Rattle.std.proofs.Common.{◌≡◌, ap, ap₂, ◌∙◌, ℕ, suc, ◌+◌, ◌<◌, ◌/◌, ◌%◌, ◌==◌, Bool, List, [], ◌∷◌, ◌++◌, take, drop, length, set, arith, append_assoc}
 use Rattle.std.proofs.lemmas.List.{length-drop, take_more_set, drop-set-lt}
-use Rattle.pdl_run.specs.Outputs.{replies_of}
+use Rattle.pdl_machine_facts.specs.Ports.{replies_of}
 
 pub bits_more : (now : List Bool) (i left : ℕ) (all : List Bool) → i < length now → take i now ++ replies_of (length (drop i now)) left ≡ all
     → take (i + 1) (set now i (left % 2 == 1)) ++ replies_of (length (drop (i + 1) (set now i (left % 2 == 1)))) (left / 2) ≡ all

@@ -8,7 +8,8 @@ ghost use Rattle.pdl_semantics.specs.Promises.{Refines, Advances, KeepsPace};
 ghost use Rattle.pdl_semantics.specs.Sound.{is_sound};
 ghost use Rattle.pdl_tree.specs.View.{pipe_view};
 ghost use Rattle.pdl_image.specs.Images.{IsImage};
-ghost use Rattle.pdl_run.specs.Outputs.{output_count, whole_values};
+ghost use Rattle.pdl_machine_facts.specs.Ports.{whole_values};
+ghost use Rattle.pdl_run.specs.Outputs.{output_count};
 ghost use Rattle.pdl_machine.specs.Running.{flat_of, state_of, replies_to, HasRun};
 ghost use Rattle.pdl_rules.specs.Memories.{infos_of};
 

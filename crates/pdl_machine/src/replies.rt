@@ -2,7 +2,7 @@
 ghost use Rattle.std.specs.Prelude.{◌≡◌, IfOk, length, count_by};
 ghost use Rattle.pdl_semantics.specs.Flat as flat;
 ghost use Rattle.pdl_form.specs.View.{mems_view};
-ghost use Rattle.pdl_run.specs.Outputs.{replies_of};
+ghost use Rattle.pdl_machine_facts.specs.Ports.{replies_of};
 
 use pdl_form::Mem;
 use pdl_kit::NoMemory;

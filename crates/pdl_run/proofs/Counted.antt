@@ -6,12 +6,12 @@ use Rattle.pdl_semantics.specs.Moves.{Act}
 use Rattle.pdl_semantics.specs.Cycle.{PortWrite, port_write, for_stages, for_mems, asked_in}
 use Rattle.pdl_semantics.specs.Cycle as stated
 use Rattle.pdl_word.specs.Words.{bit}
-use Rattle.pdl_machine_facts.specs.Ports.{stage_values, shown_values, commit_values, all_commit_values}
+use Rattle.pdl_machine_facts.specs.Ports.{stage_values, shown_values, commit_values, all_commit_values, request_values, all_request_values, whole_values}
 use Rattle.pdl_pending.specs.Memory.{Memory}
 use Rattle.pdl_run.specs.declared.stage.Stage as r_stage
 use Rattle.pdl_run.specs.Acts.{out_of, commits_shown, are_held, are_moving}
 use Rattle.pdl_run.specs.Requests.{requests_shown}
-use Rattle.pdl_run.specs.Outputs.{request_values, all_request_values, whole_values, all_memory_count, output_count}
+use Rattle.pdl_run.specs.Outputs.{all_memory_count, output_count}
 
 stages_counted : (f g : ℕ → Bool) (k : ℕ) (ys : List Stage) → length (stage_values (for_stages f k ys) (for_stages g k ys)) ≡ 2 * length ys
 stages_counted f g k [] = refl

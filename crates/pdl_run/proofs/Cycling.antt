@@ -8,7 +8,7 @@ use Rattle.pdl_semantics.specs.Machine.{Thread, Request, NoRequest, State, Pendi
 use Rattle.pdl_semantics.specs.Moves.{Act, all_acts, movers}
 use Rattle.pdl_semantics.specs.Cycle.{for_mems, for_stages, or_then, if_kept, born_thread, child_of, squasher, next_thread, stage_next, with_commits, entries_left, list_three, taken_out, port_write, fork_next, branches_left, request_next, request_left, after_these, after_acts, cycle, Ports, ports_these, asked_in}
 use Rattle.pdl_semantics.specs.Cycle as stated
-use Rattle.pdl_machine_facts.specs.Ports.{stage_values, all_commit_values}
+use Rattle.pdl_machine_facts.specs.Ports.{stage_values, all_commit_values, request_values, all_request_values, whole_values}
 use Rattle.pdl_form.specs.Form.{Form}
 use Rattle.pdl_pending.specs.Memory.{Memory}
 use Rattle.pdl_run.specs.declared.stage.Stage as r_stage
@@ -19,7 +19,6 @@ use Rattle.pdl_run.specs.Doing.{memory_at}
 use Rattle.pdl_run.specs.Acts.{act_here, all_of, acts_of, are_held, are_moving, goes, AreDecided, IsCarried, one_ends, memories_after, commits_shown}
 use Rattle.pdl_run.specs.Orders.{order_after, orders_after}
 use Rattle.pdl_run.specs.Requests.{request_after, requests_after, requests_shown}
-use Rattle.pdl_run.specs.Outputs.{request_values, all_request_values, whole_values}
 use Rattle.pdl_run.specs.Running.{IsBeside}
 use Rattle.pdl_run.proofs.Carrying.{lock_listed, word_listed}
 use Rattle.pdl_run.proofs.Deciding.{acts_are, movers_are}

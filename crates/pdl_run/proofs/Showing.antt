@@ -4,7 +4,7 @@ use Rattle.pdl_semantics.specs.Moves.{Act}
 use Rattle.pdl_form.specs.declared.form.Mem as r_mem
 use Rattle.pdl_form.specs.View.{mems_view}
 use Rattle.pdl_word.proofs.Lists.{drop_next}
-use Rattle.pdl_run.specs.Outputs.{request_values}
+use Rattle.pdl_machine_facts.specs.Ports.{request_values}
 use Rattle.pdl_run.specs.Requests.{address_by, requests_shown}
 use Rattle.pdl_run.proofs.Acting.{address_is}
 

@@ -9,7 +9,7 @@ use Rattle.pdl_semantics.specs.Machine.{Thread, Request}
 use Rattle.pdl_semantics.specs.Moves.{Act, all_acts}
 use Rattle.pdl_semantics.specs.Cycle.{or_then, if_kept, born_thread, child_of, squasher, next_thread, cycle}
 use Rattle.pdl_semantics.specs.Cycle as stated
-use Rattle.pdl_machine_facts.specs.Ports.{stage_values}
+use Rattle.pdl_machine_facts.specs.Ports.{stage_values, whole_values}
 use Rattle.pdl_form.specs.Form.{Form}
 use Rattle.pdl_run.specs.declared.stage.Slot as r_slot
 use Rattle.pdl_run.specs.declared.stage.Stage as r_stage
@@ -22,7 +22,6 @@ use Rattle.pdl_run.specs.Typed.{IsFine, AreFit}
 use Rattle.pdl_run.specs.Acts.{acts_of, all_of, are_held, are_moving, IsCarried, AreDecided, one_ends, memories_after, commits_shown}
 use Rattle.pdl_run.specs.Orders.{order_after, orders_after}
 use Rattle.pdl_run.specs.Requests.{requests_after, requests_shown}
-use Rattle.pdl_run.specs.Outputs.{whole_values}
 use Rattle.pdl_run.specs.Ready.{IsWide, IsStage, AreStages, AreOrders, AllCanStep, HasAwaits}
 use Rattle.pdl_run.specs.Running.{IsRunnable, IsReached, IsBeside, AreRoomy, AreReady}
 use Rattle.pdl_run.proofs.Cycling.{next_state, next_ports}

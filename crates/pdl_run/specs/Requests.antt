@@ -4,7 +4,7 @@ use Rattle.pdl_semantics.specs.Flat.{Mem, Pipe}
 use Rattle.pdl_semantics.specs.Machine.{Request, NoRequest, is_answered}
 use Rattle.pdl_semantics.specs.Moves.{Act}
 use Rattle.pdl_semantics.specs.Cycle.{asked_by, request_left, address_of, asked_in}
-use Rattle.pdl_run.specs.Outputs.{request_values}
+use Rattle.pdl_machine_facts.specs.Ports.{request_values}
 
 -- the request of memory m after a cycle, in which it is answered or not
 abbrev pub request_after : ℕ → List Act → Option ℕ → Bool → Request → Request

@@ -10,7 +10,7 @@ ghost use Rattle.pdl_run.specs.Outside.{state_of};
 ghost use Rattle.pdl_run.specs.Acts.{acts_of, all_of, memories_after, commits_shown};
 ghost use Rattle.pdl_run.specs.Orders.{orders_after, order_after};
 ghost use Rattle.pdl_run.specs.Requests.{requests_after, requests_shown};
-ghost use Rattle.pdl_run.specs.Outputs.{whole_values};
+ghost use Rattle.pdl_machine_facts.specs.Ports.{whole_values};
 ghost use Rattle.pdl_run.specs.Ready.{IsWide, AreStages, AreOrders, AllCanStep, HasAwaits};
 ghost use Rattle.pdl_run.specs.Running.{IsRunnable, IsReached, IsBeside, AreReady};
 ghost use Rattle.pdl_run.specs.declared.stage.Stage as r_stage;

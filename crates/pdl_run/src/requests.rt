@@ -5,7 +5,7 @@ ghost use Rattle.pdl_form.specs.View.{mems_view};
 ghost use Rattle.pdl_form.specs.Whole.{form};
 ghost use Rattle.pdl_run.specs.View.{ask_view, request_view};
 ghost use Rattle.pdl_run.specs.Acts.{mover_of, act_of, acts_of};
-ghost use Rattle.pdl_run.specs.Outputs.{request_values};
+ghost use Rattle.pdl_machine_facts.specs.Ports.{request_values};
 ghost use Rattle.pdl_run.specs.Requests.{address_by, request_after, requests_after, requests_shown};
 
 use crate::answers::is_answered;

@@ -5,7 +5,8 @@ ghost use Rattle.pdl_semantics.specs.Moves.{all_acts};
 ghost use Rattle.pdl_semantics.specs.Cycle as stated;
 ghost use Rattle.pdl_form.specs.Whole.{form};
 ghost use Rattle.pdl_run.specs.Running.{IsRunnable, AreImages};
-ghost use Rattle.pdl_run.specs.Outputs.{output_count, whole_values};
+ghost use Rattle.pdl_machine_facts.specs.Ports.{whole_values};
+ghost use Rattle.pdl_run.specs.Outputs.{output_count};
 ghost use Rattle.pdl_run.specs.Runs.{state_in, IsRunning};
 
 use crate::beside::Beside;

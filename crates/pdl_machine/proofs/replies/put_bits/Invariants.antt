@@ -1,5 +1,5 @@
 use Rattle.std.proofs.Common.{◌≡◌, ◌++◌, take, drop, length}
-use Rattle.pdl_run.specs.Outputs.{replies_of}
+use Rattle.pdl_machine_facts.specs.Ports.{replies_of}
 use Rattle.pdl_machine.proofs.replies.put_bits.Given as goal
 
 -- the bits so far are put

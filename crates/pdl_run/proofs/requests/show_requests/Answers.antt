@@ -1,6 +1,6 @@
 use Rattle.std.proofs.Common.{◌∙◌, ◌++◌, ap, ℕ, Option, if◌then◌else◌, [], arith}
 use Rattle.pdl_run.specs.Acts.{acts_of}
-use Rattle.pdl_run.specs.Outputs.{request_values}
+use Rattle.pdl_machine_facts.specs.Ports.{request_values}
 use Rattle.pdl_run.specs.Requests.{requests_shown}
 use Rattle.pdl_form.specs.View.{mems_view}
 use Rattle.pdl_run.proofs.Showing.{requests_more}

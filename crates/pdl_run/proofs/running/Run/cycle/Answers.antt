@@ -9,7 +9,7 @@ use Rattle.pdl_word.proofs.Lists.{items_written}
 use Rattle.pdl_run.specs.declared.stage.Stage as r_stage
 use Rattle.pdl_run.specs.View.{seats}
 use Rattle.pdl_run.specs.Outside.{state_of}
-use Rattle.pdl_run.specs.Outputs.{whole_values}
+use Rattle.pdl_machine_facts.specs.Ports.{whole_values}
 use Rattle.pdl_run.specs.Running.{IsReached, AreReady}
 use Rattle.pdl_run.specs.Runs.{state_in}
 use Rattle.pdl_run.proofs.Roomy.{reached_next}
