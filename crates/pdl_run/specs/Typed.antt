@@ -1,5 +1,5 @@
 -- Threads and deeds whose values, answers, reservations, writes, requests and arguments have their widths; memories of the widths and kinds of a pipe.
-use Rattle.std.specs.Prelude.{◌≡◌, ℕ, ◌+◌, ◌^◌, ◌<◌, ◌≤◌, List, [], ◌∷◌, length, slice_index, Option, IfSome, ⊤}
+use Rattle.std.specs.Prelude.{◌≡◌, ℕ, ◌+◌, ◌^◌, ◌<◌, ◌≤◌, List, [], ◌∷◌, length, slice_index, IfSome, ⊤}
 use Rattle.pdl_semantics.specs.Flat.{Pipe}
 use Rattle.pdl_semantics.specs.Stages.{mem_at}
 use Rattle.pdl_semantics.specs.Machine.{Awaited, Kept, Thread, Ask, Deeds, Reserved, Written}
@@ -44,11 +44,6 @@ pub record IsFine (f : Form) (t : Thread) : Type 0 where
   pub awaits : AreAwaited f t.awaits
   pub kept : AreAnswers f t.kept
   pub few : length t.kept + length t.awaits ≤ length f.pipe.stmts
-
--- who stands in some stages
-abbrev pub AllFine : Form → List (Option Thread) → Type 0
-AllFine f [] = ⊤
-AllFine f (o ∷ os) = IfSome o (IsFine f) × AllFine f os
 
 -- deeds whose values, reservations, writes, requests and arguments have their widths
 pub record AreFit (f : Form) (d : Deeds) : Type 0 where
