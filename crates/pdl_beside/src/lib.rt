@@ -1,0 +1,29 @@
+//! What stands beside the stages of a pipe as nets: the ports of delayed memories and the orders of forks, their registers and their steps.
+//!
+//! The layers above may use `port_states` and `order_states`, which make registers, `port_steps`, `order_steps` and `requests` round a `Round`, the definitions in specs/, and the lemmas `Beside`, by which ports and orders are what the law of a netlist takes.
+#![tactic(auto)]
+
+mod asks;
+pub mod ends;
+mod free;
+mod order_round;
+mod orders;
+pub mod outside;
+mod port_round;
+mod ports;
+
+pub use ends::{Round, StageEnd};
+pub use free::port_free;
+pub use order_round::order_steps;
+pub use orders::order_states;
+pub use outside::{RequestNets, requests};
+use pdl_net::Net;
+pub use port_round::port_steps;
+pub use ports::port_states;
+
+/// What comes from a delayed memory: whether its outstanding request is answered, 1 bit, and the word with which it is, of the memory's width.
+#[derive(Clone, Copy)]
+pub struct PortInput {
+    pub reply: Net,
+    pub word: Net,
+}
