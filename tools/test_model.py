@@ -3,7 +3,7 @@
 
 import sys
 
-from pdl_model import files, rules
+from pdl_model import dump, files, rules
 from pdl_model.syntax import Refused
 
 A = """pipe p(n: uint<4>)[m: uint<8>[4] comb lock queue(1)] { a = n[1:0]; v = zext(n, 8); reserve(m[a], W); block(m[a]);
@@ -157,6 +157,51 @@ CHECKS = [
     (GUARDS.replace("(h)", "(g)").replace("call(n + 2'd1)", "call(n + 8'd1)"), "refused W1 line 5"),
 ]
 
+# A dump of two cycles, what it says, and texts that say nothing.
+DUMP = """$timescale 1 ns $end
+$scope module pdl_p $end
+$var wire 1 ! v_0 $end
+$var wire 2 " ca_m $end
+$upscope $end
+$enddefinitions $end
+#1
+b1 !
+b00 "
+#3
+b01 "
+#5
+"""
+SAID = "p: v_0 1, ca_m 2: 1 0, 1 0, 1 1, 1 1"
+NO_DUMPS = [
+    DUMP[:-1],
+    DUMP.replace("#5\n", ""),
+    DUMP.replace("#5", "#3"),
+    DUMP.replace("#5", "#05"),
+    DUMP.replace("#5\n", "#5\nb0 !\n"),
+    DUMP.replace('b01 "\n', ""),
+    DUMP.replace('b01 "', 'b00 "'),
+    DUMP.replace('b01 "', 'b1 "'),
+    DUMP.replace('b01 "', 'b01 !'),
+    DUMP.replace('b01 "', 'b01 #'),
+    DUMP.replace('b1 !\nb00 "', 'b00 "\nb1 !'),
+    DUMP.replace('b1 !\n', ""),
+    DUMP.replace("#1", "#2"),
+    DUMP.replace('2 " ca_m', '2 # ca_m'),
+    DUMP.replace('2 " ca_m', '129 " ca_m'),
+    DUMP.replace("$upscope", "$scope"),
+    DUMP.replace(" ns", "  ns"),
+]
+
+
+def says(text):
+    """What a dump says: its name, its ports, and their values in each cycle."""
+    try:
+        wave = dump.Wave(text)
+    except dump.NoDump:
+        return "nothing"
+    ports = ", ".join(f"{name} {width}" for name, width in wave.ports)
+    return f"{wave.name}: {ports}: " + ", ".join(" ".join(map(str, row)) for row in wave.rows())
+
 
 def shown(make, *given):
     """What a command prints, or its refusal, as lines joined by commas."""
@@ -201,6 +246,10 @@ def rows():
         yield f"seq {number}", shown(sequential, source, threads), f"{lines}, end threads {threads}"
     for number, (source, answer) in enumerate(CHECKS, 1):
         yield f"check {number}", shown(check, source), answer
+    yield "dump", says(DUMP), SAID
+    for number, text in enumerate(NO_DUMPS, 1):
+        yield f"no dump {number}", says(text), "nothing"
+    yield "codes", " ".join(map(dump.code, [0, 93, 94, 95, 187, 188, 8929])), "! ~ !! !\" !~ \"! ~~"
     wrapped = shown(run, A, EMPTY, 17, "").split(", ")
     yield "arguments wrap", ", ".join(wrapped[15:17]), "16 m 3 0f, 17 m 0 00"
 

@@ -1,7 +1,7 @@
 -- What single lists of words are.
 use Rattle.std.proofs.Common.{◌≡◌, [], ◌∷◌, Some, None, codes, refl}
 use Rattle.clap.proofs.OnLiterals.{clap_on_literals}
-use Rattle.pdl_args.specs.Line.{line, check, run, seq, asm, gen, build, sim}
+use Rattle.pdl_args.specs.Line.{line, check, run, seq, asm, gen, build, sim, wave}
 
 ran : line (codes "run" ∷ codes "a.pdl" ∷ codes "e.img" ∷ codes "17" ∷ []) ≡ Some (run (codes "a.pdl") (codes "e.img") 17)
 unfolding clap_on_literals line
@@ -238,3 +238,19 @@ above_most_simulated = refl
 sim_two : line (codes "sim" ∷ codes "v" ∷ codes "i" ∷ []) ≡ None
 unfolding clap_on_literals line
 sim_two = refl
+
+dumped : line (codes "wave" ∷ codes "a.pdl" ∷ codes "e.img" ∷ codes "17" ∷ []) ≡ Some (wave (codes "a.pdl") (codes "e.img") 17)
+unfolding clap_on_literals line
+dumped = refl
+
+most_dumped : line (codes "wave" ∷ codes "a" ∷ codes "b" ∷ codes "1000000" ∷ []) ≡ Some (wave (codes "a") (codes "b") 1000000)
+unfolding clap_on_literals line
+most_dumped = refl
+
+above_most_dumped : line (codes "wave" ∷ codes "a" ∷ codes "b" ∷ codes "1000001" ∷ []) ≡ None
+unfolding clap_on_literals line
+above_most_dumped = refl
+
+wave_two : line (codes "wave" ∷ codes "a" ∷ codes "b" ∷ []) ≡ None
+unfolding clap_on_literals line
+wave_two = refl

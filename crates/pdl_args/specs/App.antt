@@ -42,6 +42,12 @@ sim_app =
     with_rule (with_rule (with_rule (new_app (codes "sim"))
     (word_rule (codes "netlist"))) (word_rule (codes "image"))) (word_rule (codes "cycles"))
 
+-- `wave SRC IMG CYCLES`
+abbrev pub wave_app : App
+wave_app =
+    with_rule (with_rule (with_rule (new_app (codes "wave"))
+    (word_rule (codes "source"))) (word_rule (codes "image"))) (word_rule (codes "cycles"))
+
 -- the command without its subcommands, over the words after the program's name
 abbrev pub bare_app : App
 bare_app = on_top (λ s. record s { no_binary_name = true }) (new_app (codes "pdl"))
@@ -50,5 +56,5 @@ bare_app = on_top (λ s. record s { no_binary_name = true }) (new_app (codes "pd
 abbrev pub pdl_app : App
 pdl_app =
     with_subcommand (with_subcommand (with_subcommand (with_subcommand (with_subcommand
-    (with_subcommand (with_subcommand bare_app
-    check_app.top) run_app.top) seq_app.top) asm_app.top) gen_app.top) build_app.top) sim_app.top
+    (with_subcommand (with_subcommand (with_subcommand bare_app
+    check_app.top) run_app.top) seq_app.top) asm_app.top) gen_app.top) build_app.top) sim_app.top) wave_app.top

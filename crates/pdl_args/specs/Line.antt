@@ -17,6 +17,7 @@ pub data Command : Type 0 where
   gen : (number : ℕ) → Command
   build : (source : Text) → Command
   sim : (netlist image : Text) (cycles : ℕ) → Command
+  wave : (source image : Text) (cycles : ℕ) → Command
 
 -- `check`
 abbrev pub check_of : Option Text → Option Command
@@ -53,7 +54,12 @@ abbrev pub sim_of : Option Text → Option Text → Option Text → Option Comma
 sim_of (Some netlist) (Some image) (Some cycles) = option_map (sim netlist image) (number_of 7 1000000 cycles)
 sim_of _ _ _ = None
 
--- the command of a subcommand that writes or reads a netlist's text, by its name, with the words that it was given
+-- `wave`, with a number of cycles up to 1,000,000
+abbrev pub wave_of : Option Text → Option Text → Option Text → Option Command
+wave_of (Some source) (Some image) (Some cycles) = option_map (wave source image) (number_of 7 1000000 cycles)
+wave_of _ _ _ = None
+
+-- the command of a subcommand that shows or reads a netlist, by its name, with the words that it was given
 abbrev pub netlist_command_of : Text × List Row → Option Command
 netlist_command_of (name, rows) =
     if bytes_eq name (codes "build")
@@ -61,6 +67,9 @@ netlist_command_of (name, rows) =
     else
     if bytes_eq name (codes "sim")
     then sim_of (first_of (codes "netlist") rows) (first_of (codes "image") rows) (first_of (codes "cycles") rows)
+    else
+    if bytes_eq name (codes "wave")
+    then wave_of (first_of (codes "source") rows) (first_of (codes "image") rows) (first_of (codes "cycles") rows)
     else None
 
 -- the command of a subcommand's name with the words that it was given

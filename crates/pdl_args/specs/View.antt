@@ -1,5 +1,5 @@
 -- The program's commands as those of the definition.
-use Rattle.pdl_args.specs.Line.{Command, check, run, seq, asm, gen, build, sim}
+use Rattle.pdl_args.specs.Line.{Command, check, run, seq, asm, gen, build, sim, wave}
 use Rattle.pdl_args.specs.declared.line.Line as rust
 use Rattle.pdl_args.specs.declared.line.Line.TheVariants as code
 
@@ -12,3 +12,4 @@ view (code.Asm table text) = asm table.now text.now
 view (code.Gen number) = gen number
 view (code.Build source) = build source.now
 view (code.Sim netlist image cycles) = sim netlist.now image.now cycles
+view (code.Wave source image cycles) = wave source.now image.now cycles

@@ -1,7 +1,7 @@
 // The command that a list of words is.
 ghost use Rattle.std.specs.Prelude.{◌≡◌, map, IfOk, Some, None, IsErrOf, string_bytes, option_and_then, option_map, codes};
 ghost use Rattle.clap.specs.Words.{found_of, rows_of, first_of, subcommand_rows_of};
-ghost use Rattle.pdl_args.specs.Line.{line, command_of, netlist_command_of, check_of, run_of, seq_of, asm_of, gen_of, build_of, sim_of};
+ghost use Rattle.pdl_args.specs.Line.{line, command_of, netlist_command_of, check_of, run_of, seq_of, asm_of, gen_of, build_of, sim_of, wave_of};
 ghost use Rattle.pdl_args.specs.View.{view};
 ghost use Rattle.pdl_args.specs.declared.line.LineError.TheVariants.{NoMemory as no_memory};
 
@@ -46,6 +46,12 @@ pub enum Line<'a> {
     /// `sim V IMG CYCLES`: the names of a netlist's text and of an image, and how many cycles to run, up to 1,000,000.
     Sim {
         netlist: &'a str,
+        image: &'a str,
+        cycles: u32,
+    },
+    /// `wave SRC IMG CYCLES`: the names of two files, and how many cycles to run, up to 1,000,000.
+    Wave {
+        source: &'a str,
         image: &'a str,
         cycles: u32,
     },
@@ -119,7 +125,7 @@ fn command_line<'a>(name: &str, inner: &ArgMatches<'a>) -> Option<Line<'a>>
     netlist_line(name, inner)
 }
 
-// The command that the matches of a subcommand are that writes or reads a netlist's text.
+// The command that the matches of a subcommand are that shows or reads a netlist.
 fn netlist_line<'a>(name: &str, inner: &ArgMatches<'a>) -> Option<Line<'a>>
     ensures { option_map view result
         ≡ netlist_command_of (name.now, rows_of (found_of inner.now)) }
@@ -129,6 +135,9 @@ fn netlist_line<'a>(name: &str, inner: &ArgMatches<'a>) -> Option<Line<'a>>
     }
     if name == "sim" {
         return sim_line(inner);
+    }
+    if name == "wave" {
+        return wave_line(inner);
     }
     None
 }
@@ -257,6 +266,31 @@ fn sim_line<'a>(inner: &ArgMatches<'a>) -> Option<Line<'a>>
     };
     Some(Line::Sim {
         netlist,
+        image,
+        cycles,
+    })
+}
+
+fn wave_line<'a>(inner: &ArgMatches<'a>) -> Option<Line<'a>>
+    ensures { option_map view result
+        ≡ wave_of (first_of (codes "source") (rows_of (found_of inner.now)))
+        (first_of (codes "image") (rows_of (found_of inner.now)))
+        (first_of (codes "cycles") (rows_of (found_of inner.now))) }
+{
+    let Some(source) = value(inner, "source") else {
+        return None;
+    };
+    let Some(image) = value(inner, "image") else {
+        return None;
+    };
+    let Some(cycles) = value(inner, "cycles") else {
+        return None;
+    };
+    let Some(cycles) = number(cycles, 7, 1_000_000) else {
+        return None;
+    };
+    Some(Line::Wave {
+        source,
         image,
         cycles,
     })

@@ -18,7 +18,7 @@ use Rattle.pdl_asmtable.specs.Documents as documents
 use Rattle.pdl_asm.specs.declared.asm_error.AsmError.TheVariants as asm_error
 use Rattle.pdl_asm.specs.Assembly as assembly
 use Rattle.pdl_gen.specs.Generated.{source}
-use Rattle.pdl_args.specs.Line.{Command, check, run, seq, asm, gen, build, sim}
+use Rattle.pdl_args.specs.Line.{Command, check, run, seq, asm, gen, build, sim, wave}
 use Rattle.pdl_failure.specs.declared.failure.Position.{Position}
 use Rattle.pdl_failure.specs.declared.failure.Position.TheVariants.{Line, Insn}
 use Rattle.pdl_failure.specs.declared.failure.Failure.{Failure}
@@ -27,7 +27,8 @@ use Rattle.pdl_failure.specs.Failures.{status_of}
 use Rattle.pdl_commands.specs.Assembled.{IsTabled, IsWrongTable, IsWrongText, IsAssembled}
 use Rattle.pdl_commands.specs.Simulated.{NetlistRefused, HoldsNetlist, IsWrongNetlist, IsWrongStart, IsWrongSim, IsSimulated}
 use Rattle.pdl_commands.specs.Commands.{SourceRefused, IsAccepted, IsLoaded, IsWrongSource, IsWrongImage, IsWrong, IsWrongFor, Writes}
-use Rattle.pdl_cli.specs.Top.{Seen, Explains, IsDecided, Decides}
+use Rattle.pdl_commands.specs.Outcomes.{Seen, Explains}
+use Rattle.pdl_cli.specs.Top.{IsDecided, Decides}
 use Rattle.pdl_cli.proofs.OneNetlist.{one_netlist, read_right}
 use Rattle.pdl_rules.specs.Memories.{infos_of}
 
@@ -123,6 +124,8 @@ exclusive_told held (build source) text rule (Line n) o w = source_right held so
 exclusive_told held (build source) text rule (Insn n) o w = w
 exclusive_told held (sim v image' cycles) text rule (Line n) o w = sim_right held v image' cycles text rule n o w
 exclusive_told held (sim v image' cycles) text rule (Insn n) o w = w
+exclusive_told held (wave source image' cycles) text rule (Line n) o w = none_wrong held source image' rule n o.pipe o.words o.loaded w
+exclusive_told held (wave source image' cycles) text rule (Insn n) o w = w
 exclusive_told held (asm table program) text rule (Line n) o (inl w) = w
 exclusive_told held (asm table program) text rule (Line n) o (inr w) = program_right held table program text rule n o w
 exclusive_told held (asm table program) text rule (Insn n) o (inl w) = table_right held table rule n o.value o.tabled w

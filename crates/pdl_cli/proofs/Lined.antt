@@ -11,7 +11,7 @@ use Rattle.clap.specs.Kinds.{Kinds}
 use Rattle.pdl_args.specs.App.{pdl_app}
 use Rattle.pdl_args.specs.Number.{number_of, is_numeral_of}
 use Rattle.pdl_cli.specs.Top.{IsFew}
-use Rattle.pdl_args.specs.Line.{Command, check, run, seq, asm, gen, build, sim, check_of, run_of, seq_of, asm_of, gen_of, build_of, sim_of, netlist_command_of, command_of, where_taken, line}
+use Rattle.pdl_args.specs.Line.{Command, check, run, seq, asm, gen, build, sim, wave, check_of, run_of, seq_of, asm_of, gen_of, build_of, sim_of, wave_of, netlist_command_of, command_of, where_taken, line}
 
 tested : (a b : Bool) (n m : ℕ) → (b ≡ true → n ≤ m) → (c : ℕ) → (if a && b then Some n else None) ≡ Some c → c ≤ m
 tested true true n m h c e = let s : n ≡ c = cc e in rw (← s) (h refl)
@@ -63,6 +63,12 @@ of_sim (Some v) None t c e = absurd (cc e)
 of_sim (Some v) (Some i) None c e = absurd (cc e)
 of_sim (Some v) (Some i) (Some t) c e = few_mapped (sim v i) (number_of 7 1000000 t) c (number_small 7 1000000 t) e
 
+of_wave : (s i t : Option Text) (c : Command) → wave_of s i t ≡ Some c → IsFew c
+of_wave None i t c e = absurd (cc e)
+of_wave (Some s) None t c e = absurd (cc e)
+of_wave (Some s) (Some i) None c e = absurd (cc e)
+of_wave (Some s) (Some i) (Some t) c e = few_mapped (wave s i) (number_of 7 1000000 t) c (number_small 7 1000000 t) e
+
 of_none : (c : Command) → None ≡ Some c → IsFew c
 of_none c e = absurd (cc e)
 
@@ -76,9 +82,11 @@ of_netlist f c e =
     let netlist : Option Text = first_of (codes "netlist") f.1 in
     let image : Option Text = first_of (codes "image") f.1 in
     let cycles : Option Text = first_of (codes "cycles") f.1 in
-    let simulated : Option Command = if bytes_eq f.0 (codes "sim") then sim_of netlist image cycles else None in
+    let dumped : Option Command = if bytes_eq f.0 (codes "wave") then wave_of source image cycles else None in
+    let simulated : Option Command = if bytes_eq f.0 (codes "sim") then sim_of netlist image cycles else dumped in
     of_if (bytes_eq f.0 (codes "build")) (build_of source) simulated c (of_build source c)
-    (of_if (bytes_eq f.0 (codes "sim")) (sim_of netlist image cycles) None c (of_sim netlist image cycles c) (of_none c)) e
+    (of_if (bytes_eq f.0 (codes "sim")) (sim_of netlist image cycles) dumped c (of_sim netlist image cycles c)
+    (of_if (bytes_eq f.0 (codes "wave")) (wave_of source image cycles) None c (of_wave source image cycles c) (of_none c))) e
 
 of_found : (found : Option (Text × List Row)) (c : Command) → option_and_then command_of found ≡ Some c → IsFew c
 of_found None c e = absurd (cc e)

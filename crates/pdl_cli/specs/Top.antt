@@ -1,15 +1,14 @@
 -- What the whole program does: a line of words, files to read, and two sinks.
-use Rattle.std.specs.Prelude.{◌≡◌, ◌≤◌, ℕ, ◌⊎◌, Bool, IsTrue, List, Option, Some, None, Result, Ok, Err, ⊤}
+use Rattle.std.specs.Prelude.{◌≡◌, ◌≤◌, ℕ, ◌⊎◌, Bool, IsTrue, List, Option, Some, None, Result, ⊤}
 use Rattle.pdl_kit.specs.declared.rule.Rule.{Rule}
 use Rattle.pdl_kit.specs.Counts.{Rose}
 use Rattle.pdl_kit.specs.Files.{Held}
-use Rattle.pdl_kit.specs.Sinks.{TakesPrefix, with_bytes}
-use Rattle.pdl_args.specs.Line.{Command, check, run, seq, asm, gen, build, sim}
+use Rattle.pdl_args.specs.Line.{Command, check, run, seq, asm, gen, build, sim, wave}
 use Rattle.pdl_failure.specs.declared.failure.Position.{Position}
 use Rattle.pdl_failure.specs.declared.failure.Failure.{Failure}
-use Rattle.pdl_failure.specs.declared.failure.Failure.TheVariants.{Usage, Refused, ReadFault, WriteFault, NoMemory}
 use Rattle.pdl_failure.specs.Failures.{status_of, text_of}
-use Rattle.pdl_commands.specs.Commands.{IsWrongFor, Writes}
+use Rattle.pdl_commands.specs.Commands.{IsWrongFor}
+use Rattle.pdl_commands.specs.Outcomes.{Seen, Explains}
 
 -- the files that a command names may be read
 abbrev pub Allows : (List ℕ → Bool) → Option Command → Type 0
@@ -21,6 +20,7 @@ Allows may (Some (asm table program)) = IsTrue (may table) × IsTrue (may progra
 Allows may (Some (gen number)) = ⊤
 Allows may (Some (build source)) = IsTrue (may source)
 Allows may (Some (sim v image cycles)) = IsTrue (may v) × IsTrue (may image)
+Allows may (Some (wave source image cycles)) = IsTrue (may source) × IsTrue (may image)
 
 -- a run is of at most 1,000,000 cycles
 abbrev pub IsFew : Command → Type 0
@@ -31,55 +31,7 @@ IsFew (asm table program) = ⊤
 IsFew (gen number) = ⊤
 IsFew (build source) = ⊤
 IsFew (sim v image cycles) = cycles ≤ 1000000
-
--- what is seen from outside, before and after: what the files hold and their count of faults, what out has and its count of faults
-pub record Seen : Type 0 where
-  pub holds : Option Held
-  pub reads : ℕ
-  pub reads_now : ℕ
-  pub written : Option (List ℕ)
-  pub written_now : Option (List ℕ)
-  pub writes : ℕ
-  pub writes_now : ℕ
-
-abbrev pub seen_of : Option Held → ℕ → ℕ → Option (List ℕ) → Option (List ℕ) → ℕ → ℕ → Seen
-seen_of holds reads reads_now written written_now writes writes_now = record {
-  holds = holds;
-  reads = reads;
-  reads_now = reads_now;
-  written = written;
-  written_now = written_now;
-  writes = writes;
-  writes_now = writes_now;
-}
-
--- all is done: the named files are read to their ends and accepted, and out has the whole text
-abbrev pub IsDone : Option Command → Seen → Type 0
-IsDone None s = ⊥
-IsDone (Some command) s =
-    (text : List ℕ) × Writes s.holds command text × (s.written_now ≡ with_bytes text s.written)
-
--- out has what it had
-abbrev pub IsSilent : Seen → Type 0
-IsSilent s = s.written_now ≡ s.written
-
--- a failure comes where its cause is seen: words that are no command; the first wrong file; a fault of the files; a fault of out, which then has a prefix of the text. Want of memory is free
-abbrev pub FailsAs : Option Command → Seen → Failure → Type 0
-FailsAs None s Usage = IsSilent s
-FailsAs None s NoMemory = IsSilent s
-FailsAs (Some command) s (Refused rule position) =
-    IsWrongFor s.holds command rule position × IsSilent s
-FailsAs (Some command) s ReadFault = Rose s.reads s.reads_now × IsSilent s
-FailsAs (Some command) s WriteFault =
-    Rose s.writes s.writes_now
-    × (text : List ℕ) × Writes s.holds command text × TakesPrefix s.written s.written_now text
-FailsAs (Some command) s NoMemory = IsSilent s
-FailsAs _ s _ = ⊥
-
--- what came of a command is explained by what is seen
-abbrev pub Explains : {T : Type 0} → Option Command → Seen → Result T Failure → Type 0
-Explains command s (Ok x) = IsDone command s
-Explains command s (Err f) = FailsAs command s f
+IsFew (wave source image cycles) = cycles ≤ 1000000
 
 -- the status is that of an outcome, done or a failure, that what is seen explains, and its text is said
 abbrev pub Answers : Option Command → Seen → (List ℕ → Type 0) → ℕ → Type 0

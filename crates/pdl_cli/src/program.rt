@@ -1,55 +1,39 @@
 // The whole program.
 ghost use Rattle.std.specs.Prelude.{◌≡◌, ◌≤◌, ℕ, List, Option, IsTrue, IfOk, IfErr, map, string_bytes};
-ghost use Rattle.std.specs.Prelude.{Some};
+ghost use Rattle.std.specs.Prelude.{Some, Err};
 ghost use Rattle.pdl_args.specs.Line.{line};
 ghost use Rattle.pdl_args.specs.View.{view};
 ghost use Rattle.pdl_failure.specs.Texts.{Says};
-ghost use Rattle.pdl_commands.specs.Commands.{Writes, Fails};
-ghost use Rattle.pdl_cli.specs.Top.{Allows, IsFew, seen_of, Explains, Answers, Decides};
+ghost use Rattle.pdl_commands.specs.Outcomes.{seen_of, Explains, Streamed};
+ghost use Rattle.pdl_cli.specs.Top.{Allows, IsFew, Answers, Decides};
 
 use pdl_args::{Line, read_line};
-use pdl_commands::{assembly_text, build, generate, prepare, run_in_turn, simulate, verdict};
+use pdl_commands::{
+    assembly_text, build, generate, run_in_turn, run_source, simulate, verdict, wave,
+};
 use pdl_failure::{Failure, report, status_of};
 use pdl_kit::files::Files;
 use pdl_kit::sink::{Sink, write_whole};
 use std::alloc::Global;
 
-// The text of what a command asks for.
-#[tactic(auto, using(pdl_commands::proofs::Preparing::text_fails))]
-fn text_of<F: Files>(alloc: Global, line: Line<'_>, files: &mut F) -> Result<Vec<u8>, Failure>
-    requires allowed { Allows (F.may files.old) (Some (view line)) }
-    requires few { IsFew (view line) }
-    ensures ok { IfOk result (λ t. Writes (F.holds files.old) (view line.entry) t.items) }
-    ensures err { IfErr result
-        (Fails (F.holds files.old) (F.faults files.old) (F.faults files.new) (view line.entry)) }
-    ensures held { F.holds files.new ≡ F.holds files.old }
-    ensures allowed { (n : List ℕ) → F.may files.new n ≡ F.may files.old n }
-    ensures later { F.faults files.old ≤ F.faults files.new }
+// Writes a text that was made whole, if it was.
+fn write_text<O: Sink>(text: Result<Vec<u8>, Failure>, out: &mut O) -> Result<(), Failure>
+    ensures made { IfOk text (λ t. Streamed (λ bytes. bytes ≡ t.items) (O.written out.old)
+        (O.written out.new) (O.faults out.old) (O.faults out.new) result) }
+    ensures failed { IfErr text (λ f. (result ≡ Err f) × (O.written out.new ≡ O.written out.old)) }
+    ensures written { O.faults out.old ≤ O.faults out.new }
 {
-    match line {
-        Line::Check { source } => verdict(alloc, files, source),
-        Line::Run {
-            source,
-            image,
-            cycles,
-        } => prepare(alloc, files, source, image, cycles),
-        Line::Seq {
-            source,
-            image,
-            threads,
-        } => run_in_turn(alloc, files, source, image, threads),
-        Line::Asm { table, text } => assembly_text(alloc, files, table, text),
-        Line::Gen { number } => generate(alloc, number),
-        Line::Build { source } => build(alloc, files, source),
-        Line::Sim {
-            netlist,
-            image,
-            cycles,
-        } => simulate(alloc, files, netlist, image, cycles),
+    match text {
+        Ok(text) => match write_whole(out, text.as_slice()) {
+            Ok(()) => Ok(()),
+            Err(_) => Err(Failure::WriteFault),
+        },
+        Err(failure) => Err(failure),
     }
 }
 
 // Does what a command asks for.
+#[tactic(auto, using(pdl_commands::proofs::Explaining::text_explains))]
 fn obey_line<F: Files, O: Sink>(
     alloc: Global,
     line: Line<'_>,
@@ -66,12 +50,31 @@ fn obey_line<F: Files, O: Sink>(
     ensures later { F.faults files.old ≤ F.faults files.new }
     ensures written { O.faults out.old ≤ O.faults out.new }
 {
-    match text_of(alloc, line, files) {
-        Ok(text) => match write_whole(out, text.as_slice()) {
-            Ok(()) => Ok(()),
-            Err(_) => Err(Failure::WriteFault),
-        },
-        Err(failure) => Err(failure),
+    match line {
+        Line::Check { source } => write_text(verdict(alloc, files, source), out),
+        Line::Run {
+            source,
+            image,
+            cycles,
+        } => run_source(alloc, files, source, image, cycles, out),
+        Line::Seq {
+            source,
+            image,
+            threads,
+        } => run_in_turn(alloc, files, source, image, threads, out),
+        Line::Asm { table, text } => write_text(assembly_text(alloc, files, table, text), out),
+        Line::Gen { number } => write_text(generate(alloc, number), out),
+        Line::Build { source } => write_text(build(alloc, files, source), out),
+        Line::Sim {
+            netlist,
+            image,
+            cycles,
+        } => simulate(alloc, files, netlist, image, cycles, out),
+        Line::Wave {
+            source,
+            image,
+            cycles,
+        } => wave(alloc, files, source, image, cycles, out),
     }
 }
 

@@ -18,6 +18,8 @@ mod plans;
 #[cfg(test)]
 mod random;
 #[cfg(test)]
+mod threads;
+#[cfg(test)]
 mod verilog;
 #[cfg(test)]
 mod widths;

@@ -17,6 +17,8 @@ use Rattle.pdl_check.specs.Gate.{gated_line}
 use Rattle.pdl_check.specs.Answers.{source_refusal}
 use Rattle.pdl_net.specs.declared.Netlist.{Netlist}
 use Rattle.pdl_net.specs.Run.{nports}
+use Rattle.pdl_wave.specs.Wave.{IsWaveOf}
+use Rattle.pdl_waverun.specs.Dumped.{wave_ports, rows_of, run_dump}
 use Rattle.pdl_pipe_law.specs.Follows.{Follows}
 use Rattle.pdl_pipe_law.specs.Runs.{cycle_of}
 use Rattle.pdl_pipe.specs.Refined.{RefinesThreads}
@@ -25,7 +27,7 @@ use Rattle.pdl_image.specs.Images.{IsImage, image}
 use Rattle.pdl_image.specs.declared.file_error.FileError.TheVariants as file
 use Rattle.pdl_vlog.specs.Layout.{verilog}
 use Rattle.pdl_gen.specs.Generated as generated
-use Rattle.pdl_args.specs.Line.{Command, check, run, seq, asm, gen, build, sim}
+use Rattle.pdl_args.specs.Line.{Command, check, run, seq, asm, gen, build, sim, wave}
 use Rattle.pdl_failure.specs.declared.failure.Position.{Position}
 use Rattle.pdl_failure.specs.declared.failure.Position.TheVariants.{Line, Insn}
 use Rattle.pdl_failure.specs.declared.failure.Failure.{Failure}
@@ -205,6 +207,24 @@ pub record IsSequential (holds : Option Held) (source image' : List ℕ) (thread
   pub loaded : IsLoaded holds source image' pipe words
   pub lines : text ≡ seq_lines pipe words threads
 
+-- the text that `wave` writes where all is well: the dump of the output ports of a netlist of the pipe, and what it says
+pub record IsDumped (holds : Option Held) (source image' : List ℕ) (cycles : ℕ) (text : List ℕ)
+    : Type 0 where
+  pub pipe : Pipe
+  pub words : List (List ℕ)
+  pub loaded : IsLoaded holds source image' pipe words
+  -- the netlist has the ports, memories and arrays of the pipe, and each port in each cycle the machine's value, for each image and schedule
+  pub netlist : Netlist
+  pub follows : Follows pipe netlist
+  -- it writes what the threads write that run one after another, and has the locks that the pipe asks for
+  pub writes : RefinesThreads pipe netlist
+  pub locks : HasLocksOf any_lock pipe netlist
+  -- the text is the dump of the netlist's run, byte for byte
+  pub dumped : text ≡ run_dump netlist words (schedule cycles)
+  -- and says the netlist's name, its output ports with their widths, the number of cycles, and in each of them the value that each port shows
+  pub says : IsWaveOf text netlist.name (wave_ports netlist)
+      (rows_of (nports netlist words (schedule cycles)))
+
 -- the end line of a run of a source's pipe, of so many cycles from these words in each memory
 pub record IsSummary (source words : List ℕ) (cycles : ℕ) (line : List ℕ) : Type 0 where
   pub pipe : Pipe
@@ -234,6 +254,7 @@ Writes holds (asm table program) text = IsAssembled holds table program text
 Writes holds (gen number) text = IsGenerated number text
 Writes holds (build source) text = IsBuilt holds source text
 Writes holds (sim v image' cycles) text = IsSimulated holds v image' cycles text
+Writes holds (wave source image' cycles) text = IsDumped holds source image' cycles text
 
 -- of the files that a command names, in order, the first wrong one is refused by the rule at the position; `gen` names none, and its source is asked
 abbrev pub IsWrongFor : Option Held → Command → Rule → Position → Type 0
@@ -250,6 +271,8 @@ IsWrongFor holds (gen number) rule position =
 IsWrongFor holds (build source) rule position = AtLine (IsWrongSource holds source rule) position
 IsWrongFor holds (sim v image' cycles) rule position =
     AtLine (IsWrongSim holds v image' rule) position
+IsWrongFor holds (wave source image' cycles) rule position =
+    AtLine (IsWrong holds source image' rule) position
 
 -- why a netlist is not there
 abbrev pub NetlistFails : Option Held → ℕ → ℕ → List ℕ → Failure → Type 0

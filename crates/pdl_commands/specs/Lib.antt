@@ -2,3 +2,4 @@ pub mod Summaries
 pub mod Assembled
 pub mod Simulated
 pub mod Commands
+pub mod Outcomes

@@ -1,8 +1,9 @@
-//! What each command of the program writes, from the files that it names, or why it fails. The layer above chooses the command and writes the text.
+//! What each command of the program writes, from the files that it names, or why it fails: `run`, `sim`, `seq` and `wave` write while they run, the text of the others is made whole. The layer above chooses the command, and writes the texts that are made.
 #![tactic(auto)]
 
 mod assembly;
 mod built;
+mod dumped;
 mod generated;
 mod run;
 mod sequential;
@@ -11,6 +12,7 @@ mod summary;
 
 pub use assembly::assembly_text;
 pub use built::build;
+pub use dumped::wave;
 pub use generated::generate;
-pub use run::{prepare, run_in_turn, verdict};
+pub use run::{run_in_turn, run_source, verdict};
 pub use simulated::simulate;

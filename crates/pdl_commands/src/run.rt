@@ -1,20 +1,22 @@
-// The texts that the commands `check`, `run` and `seq` write.
-ghost use Rattle.std.specs.Prelude.{◌≡◌, ◌≤◌, IsTrue, IfOk, IfErr, ℕ, List, Option, length};
+// What the commands `check`, `run` and `seq` do.
+ghost use Rattle.std.specs.Prelude.{◌≡◌, ◌≤◌, IsTrue, IfOk, IfErr, ℕ, List, Option, Some, length};
 ghost use Rattle.pdl_kit.specs.Files.{Held, Gives};
 ghost use Rattle.pdl_tree.specs.View.{pipe_view};
 ghost use Rattle.pdl_semantics.specs.Lines.{accepted_line as accepted_text};
 ghost use Rattle.pdl_image.specs.Images.{IsImage, IsRefusal, image as image_words};
 ghost use Rattle.pdl_args.specs.Line as command;
-ghost use Rattle.pdl_commands.specs.Commands.{IsAccepted, SourceFails, ImageFails, IsTaken, IsLoaded, IsVerdict, IsOutput, IsSequential, Fails};
+ghost use Rattle.pdl_commands.specs.Commands.{IsAccepted, SourceFails, ImageFails, IsTaken, IsLoaded, IsVerdict, IsOutput, Fails};
+ghost use Rattle.pdl_commands.specs.Outcomes.{seen_of, Explains, Streamed};
 ghost use Rattle.pdl_rules.specs.Memories.{infos_of};
 
 use crate::sequential::sequential;
 use pdl_check::Accepted;
 use pdl_check::check::check;
-use pdl_failure::{Failure, in_memory};
+use pdl_failure::{Failure, in_memory, in_text};
 use pdl_image::{FileError, Image, read_image};
 use pdl_kit::NoMemory;
 use pdl_kit::files::{Files, LONGEST_FILE};
+use pdl_kit::sink::Sink;
 use pdl_pipe::compile;
 use pdl_runs::run;
 use pdl_trace::accepted_line;
@@ -36,8 +38,8 @@ pub fn accept<F: Files>(alloc: Global, files: &mut F, name: &str) -> Result<Acce
     Ok(check(alloc, source.as_slice())?)
 }
 
-// Reads an image for the memories of a pipe.
-fn load<F: Files>(
+/// Reads an image for the memories of a pipe.
+pub fn load<F: Files>(
     alloc: Global,
     files: &mut F,
     name: &str,
@@ -71,22 +73,27 @@ pub fn image_of(alloc: Global, accepted: &Accepted, text: &[u8]) -> Result<Image
     read_image(alloc, accepted.mems(), text)
 }
 
-// The text of a run of an accepted pipe: the output for whatever files give the pipe and the image.
-fn text_of(
+// Writes the text of a run of an accepted pipe while it runs: the output for whatever files give the pipe and the image.
+fn print_run<O: Sink>(
     alloc: Global,
     accepted: &Accepted,
     image: &Image,
     cycles: u32,
-) -> Result<Vec<u8>, NoMemory>
+    out: &mut O,
+) -> Result<(), Failure>
     requires accepted { (b : List ℕ) × IsAccepted b (pipe_view accepted.now.typed.pipe) }
     requires image { IsImage (infos_of (pipe_view accepted.now.typed.pipe).mems) image.now }
     requires few { cycles ≤ 1000000 }
-    ensures { IfOk result (λ t. (holds : Option Held) (source image' : List ℕ)
+    ensures text { (holds : Option Held) (source image' : List ℕ)
         → IsLoaded holds source image' (pipe_view accepted.now.typed.pipe) image.now
-        → IsOutput holds source image' cycles t.items) }
+        → Streamed (IsOutput holds source image' cycles) (O.written out.old) (O.written out.new)
+        (O.faults out.old) (O.faults out.new) result }
+    ensures written { O.faults out.old ≤ O.faults out.new }
 {
-    let netlist = compile(alloc, accepted)?;
-    run(alloc, &netlist, image, cycles)
+    match compile(alloc, accepted) {
+        Ok(netlist) => in_text(run(alloc, &netlist, image, cycles, out)),
+        Err(_) => Err(Failure::NoMemory),
+    }
 }
 
 // What is said of an accepted pipe.
@@ -115,100 +122,108 @@ pub fn verdict<F: Files>(alloc: Global, files: &mut F, source: &str) -> Result<V
     text
 }
 
-// The text of a run of an accepted pipe from the image with this name: the output for whatever source gives the pipe.
-fn run_accepted<F: Files>(
+// Runs an accepted pipe from the image with this name, and writes what it prints: as the command does for whatever source gives the pipe.
+fn run_accepted<F: Files, O: Sink>(
     alloc: Global,
     files: &mut F,
     accepted: &Accepted,
     image: &str,
     cycles: u32,
-) -> Result<Vec<u8>, Failure>
+    out: &mut O,
+) -> Result<(), Failure>
     requires image { IsTrue (F.may files.old image.now) }
     requires accepted { (b : List ℕ) × IsAccepted b (pipe_view accepted.now.typed.pipe) }
     requires few { cycles ≤ 1000000 }
-    ensures ok { IfOk result (λ t. (source b : List ℕ) → Gives (F.holds files.old) source b
+    ensures explained { (source b : List ℕ) → Gives (F.holds files.old) source b
         → IsAccepted b (pipe_view accepted.now.typed.pipe)
-        → IsOutput (F.holds files.old) source image.now cycles t.items) }
-    ensures err { IfErr result
-        (ImageFails (F.holds files.old) (F.faults files.old) (F.faults files.new) image.now
-        (infos_of (pipe_view accepted.now.typed.pipe).mems)) }
+        → Explains (Some (command.run source image.now cycles))
+        (seen_of (F.holds files.old) (F.faults files.old) (F.faults files.new)
+        (O.written out.old) (O.written out.new) (O.faults out.old) (O.faults out.new)) result }
     ensures held { F.holds files.new ≡ F.holds files.old }
     ensures allowed { (n : List ℕ) → F.may files.new n ≡ F.may files.old n }
     ensures later { F.faults files.old ≤ F.faults files.new }
+    ensures written { O.faults out.old ≤ O.faults out.new }
 {
-    let words = load(alloc, files, image, accepted)?;
-    in_memory(text_of(alloc, accepted, &words, cycles))
+    match load(alloc, files, image, accepted) {
+        Ok(words) => print_run(alloc, accepted, &words, cycles, out),
+        Err(failure) => Err(failure),
+    }
 }
 
-// The text of a sequential run of an accepted pipe from the image with this name, likewise.
-fn run_accepted_in_turn<F: Files>(
+// Runs the threads of an accepted pipe one after another from the image with this name, likewise.
+fn run_accepted_in_turn<F: Files, O: Sink>(
     alloc: Global,
     files: &mut F,
     accepted: &Accepted,
     image: &str,
     threads: u32,
-) -> Result<Vec<u8>, Failure>
+    out: &mut O,
+) -> Result<(), Failure>
     requires image { IsTrue (F.may files.old image.now) }
     requires accepted { (b : List ℕ) × IsAccepted b (pipe_view accepted.now.typed.pipe) }
-    ensures ok { IfOk result (λ t. (source b : List ℕ) → Gives (F.holds files.old) source b
+    ensures explained { (source b : List ℕ) → Gives (F.holds files.old) source b
         → IsAccepted b (pipe_view accepted.now.typed.pipe)
-        → IsSequential (F.holds files.old) source image.now threads t.items) }
-    ensures err { IfErr result
-        (ImageFails (F.holds files.old) (F.faults files.old) (F.faults files.new) image.now
-        (infos_of (pipe_view accepted.now.typed.pipe).mems)) }
+        → Explains (Some (command.seq source image.now threads))
+        (seen_of (F.holds files.old) (F.faults files.old) (F.faults files.new)
+        (O.written out.old) (O.written out.new) (O.faults out.old) (O.faults out.new)) result }
     ensures held { F.holds files.new ≡ F.holds files.old }
     ensures allowed { (n : List ℕ) → F.may files.new n ≡ F.may files.old n }
     ensures later { F.faults files.old ≤ F.faults files.new }
+    ensures written { O.faults out.old ≤ O.faults out.new }
 {
-    let words = load(alloc, files, image, accepted)?;
-    in_memory(sequential(alloc, accepted, &words, threads))
+    match load(alloc, files, image, accepted) {
+        Ok(words) => sequential(alloc, accepted, &words, threads, out),
+        Err(failure) => Err(failure),
+    }
 }
 
-/// The text that `run` writes for a source and an image with these names, and so many cycles.
-pub fn prepare<F: Files>(
+/// Does what `run` asks for, with a source and an image of these names, and so many cycles: all memory is taken before the first byte is written.
+pub fn run_source<F: Files, O: Sink>(
     alloc: Global,
     files: &mut F,
     source: &str,
     image: &str,
     cycles: u32,
-) -> Result<Vec<u8>, Failure>
+    out: &mut O,
+) -> Result<(), Failure>
     requires source { IsTrue (F.may files.old source.now) }
     requires image { IsTrue (F.may files.old image.now) }
     requires few { cycles ≤ 1000000 }
-    ensures ok { IfOk result
-        (λ t. IsOutput (F.holds files.old) source.now image.now cycles t.items) }
-    ensures err { IfErr result (Fails (F.holds files.old) (F.faults files.old) (F.faults files.new)
-        (command.run source.now image.now cycles)) }
+    ensures explained { Explains (Some (command.run source.now image.now cycles))
+        (seen_of (F.holds files.old) (F.faults files.old) (F.faults files.new)
+        (O.written out.old) (O.written out.new) (O.faults out.old) (O.faults out.new)) result }
     ensures held { F.holds files.new ≡ F.holds files.old }
     ensures allowed { (n : List ℕ) → F.may files.new n ≡ F.may files.old n }
     ensures later { F.faults files.old ≤ F.faults files.new }
+    ensures written { O.faults out.old ≤ O.faults out.new }
 {
-    let accepted = accept(alloc, files, source)?;
-    let text = run_accepted(alloc, files, &accepted, image, cycles);
-    drop(accepted);
-    text
+    match accept(alloc, files, source) {
+        Ok(accepted) => run_accepted(alloc, files, &accepted, image, cycles, out),
+        Err(failure) => Err(failure),
+    }
 }
 
-/// The text that `seq` writes for a source and an image with these names, and so many threads.
-pub fn run_in_turn<F: Files>(
+/// Does what `seq` asks for, with a source and an image of these names, and so many threads: all memory is taken before the first byte is written.
+pub fn run_in_turn<F: Files, O: Sink>(
     alloc: Global,
     files: &mut F,
     source: &str,
     image: &str,
     threads: u32,
-) -> Result<Vec<u8>, Failure>
+    out: &mut O,
+) -> Result<(), Failure>
     requires source { IsTrue (F.may files.old source.now) }
     requires image { IsTrue (F.may files.old image.now) }
-    ensures ok { IfOk result
-        (λ t. IsSequential (F.holds files.old) source.now image.now threads t.items) }
-    ensures err { IfErr result (Fails (F.holds files.old) (F.faults files.old) (F.faults files.new)
-        (command.seq source.now image.now threads)) }
+    ensures explained { Explains (Some (command.seq source.now image.now threads))
+        (seen_of (F.holds files.old) (F.faults files.old) (F.faults files.new)
+        (O.written out.old) (O.written out.new) (O.faults out.old) (O.faults out.new)) result }
     ensures held { F.holds files.new ≡ F.holds files.old }
     ensures allowed { (n : List ℕ) → F.may files.new n ≡ F.may files.old n }
     ensures later { F.faults files.old ≤ F.faults files.new }
+    ensures written { O.faults out.old ≤ O.faults out.new }
 {
-    let accepted = accept(alloc, files, source)?;
-    let text = run_accepted_in_turn(alloc, files, &accepted, image, threads);
-    drop(accepted);
-    text
+    match accept(alloc, files, source) {
+        Ok(accepted) => run_accepted_in_turn(alloc, files, &accepted, image, threads, out),
+        Err(failure) => Err(failure),
+    }
 }

@@ -1,5 +1,5 @@
-// The text that the command `sim` writes.
-ghost use Rattle.std.specs.Prelude.{◌≡◌, ◌≢◌, ◌≤◌, IsTrue, IfOk, IfErr, ℕ, List, [], length};
+// What the command `sim` does.
+ghost use Rattle.std.specs.Prelude.{◌≡◌, ◌≢◌, ◌≤◌, IsTrue, IfOk, IfErr, ℕ, List, [], Some, length};
 ghost use Rattle.std.specs.List.{list_any};
 ghost use Rattle.pdl_kit.specs.Files.{Gives};
 ghost use Rattle.pdl_net.specs.declared.Netlist.{Netlist as Netlist'};
@@ -7,20 +7,21 @@ ghost use Rattle.pdl_net.specs.Run.{delayed_mems};
 ghost use Rattle.pdl_image.specs.Images.{IsImage, image as image_words};
 ghost use Rattle.pdl_vread.specs.Reads.{Reads};
 ghost use Rattle.pdl_args.specs.Line as command;
-ghost use Rattle.pdl_commands.specs.Commands.{Fails, ImageFails, NetlistFails, NetlistTextFails};
+ghost use Rattle.pdl_commands.specs.Commands.{ImageFails, NetlistFails, NetlistTextFails};
+ghost use Rattle.pdl_commands.specs.Outcomes.{seen_of, Explains, Streamed};
 ghost use Rattle.pdl_runs.specs.Printed.{run_text, schedule};
-ghost use Rattle.pdl_commands.specs.Simulated.{HoldsNetlist, IsSimulated, IsTextOf};
+ghost use Rattle.pdl_commands.specs.Simulated.{HoldsNetlist, IsTextOf};
 
-use pdl_failure::{Failure, Position};
+use pdl_failure::{Failure, Position, in_text};
 use pdl_image::{Image, read_image};
+use pdl_kit::Rule;
 use pdl_kit::files::{Files, LONGEST_FILE};
-use pdl_kit::{NoMemory, Rule};
+use pdl_kit::sink::Sink;
 use pdl_net::Netlist;
 use pdl_runs::run;
 use pdl_vread::read_verilog;
 use pdl_vtext::read_file;
 use std::alloc::Global;
-use std::mem::drop;
 
 // Whether some memory of a netlist is delayed.
 fn has_delayed(netlist: &Netlist) -> bool
@@ -94,48 +95,73 @@ fn image_of_file<F: Files>(
     Ok(read_image(alloc, netlist.mems.as_slice(), text.as_slice())?)
 }
 
-// The text of a run of a netlist that was read.
-fn text_of(
+// Writes the text of a run of a netlist that was read while it runs.
+fn print_run<O: Sink>(
     alloc: Global,
     netlist: &Netlist,
     image: &Image,
     cycles: u32,
-) -> Result<Vec<u8>, NoMemory>
+    out: &mut O,
+) -> Result<(), Failure>
     requires read { (text : List ℕ) × IsTextOf text netlist.now }
     requires image { IsImage netlist.now.mems image.now }
     requires few { cycles ≤ 1000000 }
-    ensures { IfOk result (λ t. t.items ≡ run_text netlist.now image.now (schedule cycles)) }
+    ensures text { Streamed (λ t. t ≡ run_text netlist.now image.now (schedule cycles))
+        (O.written out.old) (O.written out.new) (O.faults out.old) (O.faults out.new) result }
+    ensures written { O.faults out.old ≤ O.faults out.new }
 {
-    run(alloc, netlist, image, cycles)
+    in_text(run(alloc, netlist, image, cycles, out))
 }
 
-/// The text that `sim` writes for a netlist and an image with these names, and so many cycles.
-pub fn simulate<F: Files>(
+// Runs a netlist that was read from the image with this name, and writes what it prints: as the command does for whatever file gives the netlist.
+fn simulate_read<F: Files, O: Sink>(
+    alloc: Global,
+    files: &mut F,
+    netlist: &Netlist,
+    image: &str,
+    cycles: u32,
+    out: &mut O,
+) -> Result<(), Failure>
+    requires image { IsTrue (F.may files.old image.now) }
+    requires read { (text : List ℕ) × IsTextOf text netlist.now }
+    requires few { cycles ≤ 1000000 }
+    ensures explained { (v : List ℕ) → HoldsNetlist (F.holds files.old) v netlist.now
+        → Explains (Some (command.sim v image.now cycles))
+        (seen_of (F.holds files.old) (F.faults files.old) (F.faults files.new)
+        (O.written out.old) (O.written out.new) (O.faults out.old) (O.faults out.new)) result }
+    ensures held { F.holds files.new ≡ F.holds files.old }
+    ensures allowed { (n : List ℕ) → F.may files.new n ≡ F.may files.old n }
+    ensures later { F.faults files.old ≤ F.faults files.new }
+    ensures written { O.faults out.old ≤ O.faults out.new }
+{
+    match image_of_file(alloc, files, image, netlist) {
+        Ok(words) => print_run(alloc, netlist, &words, cycles, out),
+        Err(failure) => Err(failure),
+    }
+}
+
+/// Does what `sim` asks for, with a netlist and an image of these names, and so many cycles: all memory is taken before the first byte is written.
+pub fn simulate<F: Files, O: Sink>(
     alloc: Global,
     files: &mut F,
     netlist: &str,
     image: &str,
     cycles: u32,
-) -> Result<Vec<u8>, Failure>
+    out: &mut O,
+) -> Result<(), Failure>
     requires netlist { IsTrue (F.may files.old netlist.now) }
     requires image { IsTrue (F.may files.old image.now) }
     requires few { cycles ≤ 1000000 }
-    ensures ok { IfOk result
-        (λ t. IsSimulated (F.holds files.old) netlist.now image.now cycles t.items) }
-    ensures err { IfErr result (Fails (F.holds files.old) (F.faults files.old) (F.faults files.new)
-        (command.sim netlist.now image.now cycles)) }
+    ensures explained { Explains (Some (command.sim netlist.now image.now cycles))
+        (seen_of (F.holds files.old) (F.faults files.old) (F.faults files.new)
+        (O.written out.old) (O.written out.new) (O.faults out.old) (O.faults out.new)) result }
     ensures held { F.holds files.new ≡ F.holds files.old }
     ensures allowed { (n : List ℕ) → F.may files.new n ≡ F.may files.old n }
     ensures later { F.faults files.old ≤ F.faults files.new }
+    ensures written { O.faults out.old ≤ O.faults out.new }
 {
-    let read = netlist_of_file(alloc, files, netlist)?;
-    let text = match image_of_file(alloc, files, image, &read) {
-        Ok(words) => match text_of(alloc, &read, &words, cycles) {
-            Ok(text) => Ok(text),
-            Err(_) => Err(Failure::NoMemory),
-        },
+    match netlist_of_file(alloc, files, netlist) {
+        Ok(read) => simulate_read(alloc, files, &read, image, cycles, out),
         Err(failure) => Err(failure),
-    };
-    drop(read);
-    text
+    }
 }

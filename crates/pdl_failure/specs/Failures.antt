@@ -19,6 +19,8 @@ use Rattle.pdl_vread.specs.declared.read.VError.{VError}
 use Rattle.pdl_vread.specs.declared.read.VError.TheVariants as netlist
 use Rattle.pdl_args.specs.declared.line.LineError.{LineError}
 use Rattle.pdl_args.specs.declared.line.LineError.TheVariants as line
+use Rattle.pdl_trace.specs.declared.text_error.TextError.{TextError}
+use Rattle.pdl_trace.specs.declared.text_error.TextError.TheVariants as text
 use Rattle.pdl_failure.specs.Texts.{refusal_text, refused_insn_text}
 
 -- why a file was not read
@@ -79,3 +81,9 @@ of_netlist netlist.NoMemory = NoMemory
 abbrev pub of_line : LineError → Failure
 of_line line.Usage = Usage
 of_line line.NoMemory = NoMemory
+
+-- what came of a text that was written while it was made
+abbrev pub of_text : Result (Unit {0}) TextError → Result (Unit {0}) Failure
+of_text (Ok x) = Ok x
+of_text (Err text.NoMemory) = Err NoMemory
+of_text (Err text.WriteFailed) = Err WriteFault

@@ -13,7 +13,7 @@ use pdl_image::FileError;
 use pdl_kit::files::ReadError;
 use pdl_kit::sink::{Sink, WriteFailed, write_whole};
 use pdl_kit::{NoMemory, Refusal, Rule};
-use pdl_trace::{refused_insn, refused_line};
+use pdl_trace::{TextError, refused_insn, refused_line};
 use pdl_vread::VError;
 
 /// Where a file breaks a rule.
@@ -47,6 +47,17 @@ pub fn in_memory<T>(made: Result<T, NoMemory>) -> Result<T, Failure>
     match made {
         Ok(t) => Ok(t),
         Err(_) => Err(Failure::NoMemory),
+    }
+}
+
+/// What came of a text that was written while it was made.
+pub fn in_text(outcome: Result<(), TextError>) -> Result<(), Failure>
+    ensures { result ≡ spec.of_text outcome }
+{
+    match outcome {
+        Ok(()) => Ok(()),
+        Err(TextError::NoMemory) => Err(Failure::NoMemory),
+        Err(TextError::WriteFailed) => Err(Failure::WriteFault),
     }
 }
 

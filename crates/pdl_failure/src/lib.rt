@@ -3,4 +3,4 @@
 
 mod failure;
 
-pub use failure::{Failure, Position, in_memory, report, status_of};
+pub use failure::{Failure, Position, in_memory, in_text, report, status_of};

@@ -9,3 +9,4 @@ pub mod LinesPorts
 pub mod Lines
 pub mod Sequential
 pub mod Images
+pub mod FollowsLike

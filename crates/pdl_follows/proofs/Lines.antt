@@ -31,8 +31,8 @@ use Rattle.pdl_pipe_law.proofs.LinesMachine.{AreCommits, IsShaped, shaped}
 use Rattle.pdl_pipe_law.proofs.LinesNames.{name_of_output}
 use Rattle.pdl_pipe_law.proofs.LinesPorts.{named_value, port_is, past_stages, stages_same, found, put_in, put_cases, same_put, each_found}
 use Rattle.pdl_pipe_law.proofs.LinesColumns.{AreFound, locked_infos, locked_lines}
-use Rattle.pdl_pipe_law.proofs.Lines.{map_same, bit_one, last_two, end_of, same_end}
-use Rattle.pdl_pipe_law.proofs.Lines as line
+use Rattle.pdl_pipe_law.proofs.LinesEnds.{map_same, bit_one, last_two, end_of, same_end}
+use Rattle.pdl_pipe_law.proofs.LinesEnds as line
 use Rattle.pdl_sides.specs.Whole.{in_order, all_request_values, whole_values, whole_had}
 use Rattle.pdl_whole_law.specs.Standing.{IsKnown}
 use Rattle.pdl_whole_law.proofs.ShowsSource.{known_source}

@@ -1,6 +1,6 @@
 -- A netlist that follows an accepted source writes what its machine writes, and so the writes of the threads one after another; its oldest thread moves, and enough threads end.
 use Rattle.std.proofs.Common.{◌≡◌, refl, sym, ap, ap₂, ◌∙◌, subst, ℕ, zero, suc, ◌+◌, ◌-◌, ◌≤◌, Bool, true, false, List, [], ◌∷◌, ◌++◌, length, map, slice_index_or, Option, Some, None, arith}
-use Rattle.std.specs.Prelude.{if◌then◌else◌, count_by, ◌/◌}
+use Rattle.std.specs.Prelude.{if◌then◌else◌, count_by, ◌/◌, take, slice_index}
 use Rattle.std.proofs.lemmas.List.{length-map}
 use Rattle.std.proofs.lemmas.List.Sums.{sum_by-cons}
 use Rattle.pdl_semantics.specs.Tree as tree
@@ -17,6 +17,7 @@ use Rattle.pdl_pathfacts.specs.Source.{is_source, is_named}
 use Rattle.pdl_pathfacts.proofs.Whole.{of_source}
 use Rattle.pdl_rules.specs.Refusal.{KeepsRules}
 use Rattle.pdl_net.specs.declared.Netlist.{Netlist}
+use Rattle.pdl_image.specs.Images.{IsImage}
 use Rattle.pdl_net.specs.Run.{Held, start, next, nports_from, some_waits}
 use Rattle.pdl_pipe_law.specs.Places.{delayed_count}
 use Rattle.pdl_pipe_law.specs.Runs.{Seen, seen_of}
@@ -26,6 +27,7 @@ use Rattle.pdl_follows.specs.Memories.{replies_in}
 use Rattle.pdl_follows.specs.Follows.{Follows}
 use Rattle.pdl_follows.specs.Runs.{ShowsTurns}
 use Rattle.pdl_follows.specs.Refined.{writes_to, commits_in, ended_in, waits_in, AreSequential, RefinesThreads, MovesOldest, EndsThreads}
+use Rattle.pdl_follows.specs.Promised.{IsRunOf}
 use Rattle.pdl_follows.proofs.Lines.{shows_turns}
 
 -- ---- what is written
@@ -112,3 +114,14 @@ module _ (p : tree.Pipe) (rules : KeepsRules p) (source : is_source p ≡ true) 
       let ts = turns (flat p) words replies in
       subst (λ cs. (length schedule - waits_in cs) / depth (flat p) ≤ ended_in cs) (sym (turned.cycles image schedule is_image))
       (rw (ended_same ts) (rw (waits_same ts) (subst (λ k. (k - stated.waits_in ts) / depth (flat p) ≤ stated.ended_in ts) (length-map schedule (replies_of (delayed_count (flat p)))) (whole_paces (flat p) (of_source p rules source named) words replies))))
+
+  pub runs : (image : List (List ℕ)) (schedule : List ℕ) → IsImage n.mems image → IsRunOf p n image schedule
+  runs image schedule is_image =
+      let words = arrays_of (in_order (flat p) image) in
+      let sound = of_source p rules source named in
+      record {
+        lines = turned.lines image schedule is_image;
+        refines = whole_refines (flat p) sound words (replies_in (flat p) schedule);
+        moves = λ k low. whole_advances (flat p) sound words (replies_in (flat p) (take k schedule)) (replies_of (delayed_count (flat p)) (slice_index schedule k));
+        pace = whole_paces (flat p) sound words (replies_in (flat p) schedule);
+      }

@@ -26,8 +26,7 @@ use Rattle.pdl_pipe_law.specs.Declared.{port_mem, locked_of, mem_names, shape_of
 use Rattle.pdl_pipe_law.proofs.WellFormedNames.{Among, name_of_mem, all_pairs, mem_names_differ}
 use Rattle.pdl_pipe_law.proofs.WellFormedPorts.{heads_of, head_shown}
 use Rattle.pdl_pipe_law.proofs.WellFormedMems.{Reaches, reaches_all, sized_among, IsAddressed, addressed}
-use Rattle.pdl_pipe_law.proofs.WellFormedArrays.{IsArrayOf, array_mem, mem_array, no_write, locked_all}
-use Rattle.pdl_pipe_law.proofs.WellFormed.{name_of_array, array_names_are}
+use Rattle.pdl_pipe_law.proofs.WellFormedArrays.{name_of_array, array_names_are, IsArrayOf, array_mem, mem_array, no_write, locked_all}
 use Rattle.pdl_sides.specs.Sides.{Sides}
 use Rattle.pdl_sides.specs.Whole.{IsWhole, reply_ports}
 use Rattle.pdl_follows.specs.Memories.{delayed_of, comb_of, net_infos}

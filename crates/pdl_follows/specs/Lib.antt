@@ -2,3 +2,4 @@ pub mod Memories
 pub mod Follows
 pub mod Runs
 pub mod Refined
+pub mod Promised

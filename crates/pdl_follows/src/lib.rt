@@ -7,7 +7,7 @@ ghost use Rattle.std.specs.Prelude.{◌≡◌, ℕ, IsTrue, List};
 ghost use Rattle.pdl_semantics.specs.Tree.{Pipe};
 ghost use Rattle.pdl_semantics.specs.Flatten.{flat};
 ghost use Rattle.pdl_rules.specs.Memories.{infos_of};
-ghost use Rattle.pdl_image.specs.Images.{image};
+ghost use Rattle.pdl_image.specs.Images.{IsImage, image as words_in};
 ghost use Rattle.pdl_rules.specs.Refusal.{KeepsRules};
 ghost use Rattle.pdl_pathfacts.specs.Source.{is_source, is_named};
 ghost use Rattle.pdl_net.specs.declared.Netlist.{Netlist};
@@ -15,6 +15,7 @@ ghost use Rattle.pdl_follows.specs.Memories.{taken_in_order};
 ghost use Rattle.pdl_follows.specs.Follows.{Follows};
 ghost use Rattle.pdl_follows.specs.Runs.{ShowsTurns};
 ghost use Rattle.pdl_follows.specs.Refined.{RefinesThreads, MovesOldest, EndsThreads};
+ghost use Rattle.pdl_follows.specs.Promised.{IsRunOf};
 
 /// What follows an accepted source: from each image and with each schedule of replies it has the lines of the source's machine, it writes what the threads write that run one after another, its oldest thread moves in each cycle that leaves no request unanswered, and enough threads end. An image file gives its memories what it gives the source's, in another order, or is refused as it is for these.
 pub fn followed()
@@ -26,6 +27,9 @@ pub fn followed()
         (n : Netlist) → Follows p n → MovesOldest p n }
     ensures ends { (p : Pipe) → KeepsRules p → IsTrue (is_source p) → IsTrue (is_named p) →
         (n : Netlist) → Follows p n → EndsThreads p n }
+    ensures runs { (p : Pipe) → KeepsRules p → IsTrue (is_source p) → IsTrue (is_named p) →
+        (n : Netlist) → Follows p n → (image : List (List ℕ)) (schedule : List ℕ) →
+        IsImage n.mems image → IsRunOf p n image schedule }
     ensures images { (p : Pipe) → KeepsRules p → (n : Netlist) → Follows p n → (text : List ℕ) →
-        image (infos_of p.mems) text ≡ taken_in_order (flat p) (image n.mems text) }
+        words_in (infos_of p.mems) text ≡ taken_in_order (flat p) (words_in n.mems text) }
 {}

@@ -1,32 +1,56 @@
 -- The machine runs each accepted pipe, with each image of it.
-use Rattle.std.proofs.Common.{◌≡◌, refl, sym, ◌∙◌, subst, ℕ, zero, suc, ◌^◌, ◌<◌, false, List, [], ◌∷◌, length, slice_index, slice_index_or, arith}
+use Rattle.std.proofs.Common.{◌≡◌, refl, sym, ◌∙◌, subst, ℕ, zero, suc, ◌^◌, ◌<◌, ◌≤◌, false, Bool, List, [], ◌∷◌, length, slice_index, slice_index_or, arith}
 use Rattle.std.specs.Prelude.{IsTrue}
+use Rattle.std.proofs.lemmas.List.Sums.{count_by-le-length}
 use Rattle.pdl_semantics.specs.Tree.{Mem, Pipe}
+use Rattle.pdl_semantics.specs.Flat as Flats
+use Rattle.pdl_semantics.specs.Flat.{Arrays}
 use Rattle.pdl_semantics.specs.Flatten.{mems_of, flat}
-use Rattle.pdl_semantics.specs.Stages.{plain_mem}
+use Rattle.pdl_semantics.specs.Stages.{plain_mem, is_branch_of}
+use Rattle.pdl_semantics.specs.Machine.{fork_of}
+use Rattle.pdl_semantics.specs.Cycle.{first, state_after}
+use Rattle.pdl_derived.specs.Derived
+use Rattle.pdl_facts.specs.Facts.{Sound}
+use Rattle.pdl_invariant.specs.Strict.{Strict}
+use Rattle.pdl_invariant.proofs.Reached.{reached}
+use Rattle.pdl_simulation.proofs.Joined.{sound_flows}
+use Rattle.pdl_inflight.proofs.ForkLists.{list_few}
+use Rattle.pdl_lockuse.proofs.InUse.{leads_sound}
+use Rattle.pdl_lockuse.proofs.InRuns.{in_use_here, stages_here}
+use Rattle.pdl_lockuse.proofs.FromRules.{careful_source}
 use Rattle.pdl_rules.specs.Refusal.{KeepsRules}
 use Rattle.pdl_pathfacts.specs.Source.{is_source, is_named}
+use Rattle.pdl_pathfacts.proofs.Whole.{of_source}
 use Rattle.pdl_strict.proofs.Paths.{paths_strict}
 use Rattle.pdl_form.specs.Form.{form_of}
 use Rattle.pdl_formtypes.specs.Stmts.{IsTypedForm}
 use Rattle.pdl_kit.specs.declared.mem_info.MemInfo.{MemInfo}
 use Rattle.pdl_image.specs.Images.{IsImage}
-use Rattle.pdl_check.specs.Compiled.{can_compile}
-use Rattle.pdl_gated.proofs.Guesses.{no_guess}
-use Rattle.pdl_gated.proofs.Simple.{simple}
 use Rattle.pdl_run.specs.Running.{IsRunnable, AreImages}
 use Rattle.pdl_rules.specs.Memories.{infos_of}
 use Rattle.pdl_rules.proofs.ToldMemories.{infos_count}
 
 -- THE PIPE
 
-pub runnable : (p : Pipe) → KeepsRules p → IsTrue (is_source p) → IsTrue (is_named p) → IsTrue (can_compile p) → IsTypedForm (form_of p) → IsRunnable (form_of p)
-runnable p kept source letters can typed =
+-- a fork's list is no longer than there are stages
+few_inside : (p : Flats.Pipe) → Sound p → Strict p → (image : Arrays) (before : List (List Bool)) (f : ℕ) → length (fork_of (state_after p (first p image) before) f) ≤ length p.stages
+few_inside p sound strict image before f =
+    let r = reached p sound strict image before in
+    let few = list_few p (state_after p (first p image) before) (Derived.state_after p (Derived.first p image) before) r.0 r.1 f in
+    let most = count_by-le-length (λ (x : Flats.Stage). is_branch_of x.branch f) p.stages in
+    omega (arith, few, most)
+
+pub runnable : (p : Pipe) → KeepsRules p → IsTrue (is_source p) → IsTrue (is_named p) → IsTypedForm (form_of p) → IsRunnable (form_of p)
+runnable p kept source letters typed =
+    let sound : Sound (flat p) = of_source p kept source letters in
+    let strict : Strict (flat p) = paths_strict p kept source in
     record {
-      simple = simple p kept source letters can;
-      strict = paths_strict p kept source;
-      no_guess = no_guess p can;
       typed = typed;
+      leads = leads_sound (flat p) sound;
+      some = (sound_flows (flat p) sound).graph.some_stage;
+      by = stages_here (flat p) sound strict;
+      used = λ image before bits. in_use_here (flat p) sound strict image before bits (careful_source p kept source);
+      forked = few_inside (flat p) sound strict;
     }
 
 -- IMAGES

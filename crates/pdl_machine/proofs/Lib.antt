@@ -1,3 +1,4 @@
 mod Seen
 mod Accepting
 mod Promised
+mod Bits

@@ -4,5 +4,6 @@
 #![tactic(auto)]
 
 mod machine;
+mod replies;
 
 pub use machine::Machine;

@@ -1,5 +1,5 @@
 // The machine of an accepted pipe.
-ghost use Rattle.std.specs.Prelude.{◌≡◌, ◌<◌, ◌+◌, ◌^◌, ℕ, Bool, IsTrue, List, [], ◌∷◌, ◌++◌, IfOk, length, replicate, slice_index};
+ghost use Rattle.std.specs.Prelude.{◌≡◌, ◌<◌, ◌+◌, ◌^◌, ℕ, Bool, false, IsTrue, List, [], ◌∷◌, ◌++◌, IfOk, length, replicate, slice_index};
 ghost use Rattle.pdl_semantics.specs.Flat.{arrays_of};
 ghost use Rattle.pdl_semantics.specs.Flatten.{flat};
 ghost use Rattle.pdl_semantics.specs.Moves.{all_acts};
@@ -8,11 +8,12 @@ ghost use Rattle.pdl_semantics.specs.Promises.{Refines, Advances, KeepsPace};
 ghost use Rattle.pdl_semantics.specs.Sound.{is_sound};
 ghost use Rattle.pdl_tree.specs.View.{pipe_view};
 ghost use Rattle.pdl_image.specs.Images.{IsImage};
-ghost use Rattle.pdl_machine_facts.specs.Ports.{port_values};
+ghost use Rattle.pdl_machine_facts.specs.Ports.{whole_values};
 ghost use Rattle.pdl_run.specs.Outputs.{output_count};
-ghost use Rattle.pdl_machine.specs.Running.{flat_of, state_of, HasRun};
+ghost use Rattle.pdl_machine.specs.Running.{flat_of, state_of, replies_to, HasRun};
 ghost use Rattle.pdl_rules.specs.Memories.{infos_of};
 
+use crate::replies::{no_replies, put_bits};
 use pdl_check::Accepted;
 use pdl_image::Image;
 use pdl_kit::NoMemory;
@@ -20,11 +21,12 @@ use pdl_run::Run;
 use std::alloc::Global;
 use std::marker::Model;
 
-/// An accepted pipe that runs, and how many cycles it has run.
+/// An accepted pipe that runs, with room for the replies of a cycle, and how many cycles it has run.
 #[derive(Drop)]
 pub struct Machine<'a> {
     accepted: &'a Accepted,
     run: Run,
+    replies: Vec<bool>,
     cycles: u64,
 }
 
@@ -64,34 +66,37 @@ impl<'a> Machine<'a> {
     {
         pdl_formtypes::typed_form();
         let run = Run::new(alloc, &accepted.flat, image)?;
+        let replies = no_replies(alloc, accepted.flat.mems())?;
         Ok(Machine {
             accepted,
             run,
+            replies,
             cycles: 0,
         })
     }
 
-    /// One clock cycle, of the first 2^32.
-    pub fn cycle(&mut self, _replies: u16)
+    /// One clock cycle, of the first 2^32, in which bit j of the replies is that of the j-th delayed memory.
+    pub fn cycle(&mut self, replies: u16)
         requires { self.old.cycles < 2 ^ 32 }
-        // The replies of delayed memories, of which the pipe has none, make no difference.
-        ensures state { (bits : List Bool) →
-            state_of self.new ≡ stated.cycle (flat_of self.old) (state_of self.old) bits }
-        ensures ports { (bits : List Bool) →
-            self.new.shown ≡ port_values (flat_of self.old)
+        ensures state { state_of self.new
+            ≡ stated.cycle (flat_of self.old) (state_of self.old) (replies_to self.old replies) }
+        ensures ports { self.new.shown ≡ whole_values (flat_of self.old)
             (stated.ports (flat_of self.old) (state_of self.old)
-            (all_acts (flat_of self.old) (state_of self.old) bits)) }
+            (all_acts (flat_of self.old) (state_of self.old) (replies_to self.old replies))) }
+        ensures waited { self.new.waited
+            ≡ stated.is_wait (flat_of self.old) (state_of self.old) (replies_to self.old replies) }
         ensures pipe { self.new.pipe ≡ self.old.pipe }
         ensures cycles { self.new.cycles ≡ self.old.cycles + 1 }
         // Whatever the machine has run with, it runs on with.
-        ensures run { (image : List (List ℕ)) (schedule : List (List Bool)) (bits : List Bool) →
-            HasRun self.old image schedule → HasRun self.new image (schedule ++ bits ∷ []) }
-        // What its memories have received are the writes of the sequential run, the oldest thread moved, and enough threads have ended.
+        ensures run { (image : List (List ℕ)) (schedule : List (List Bool)) →
+            HasRun self.old image schedule →
+            HasRun self.new image (schedule ++ replies_to self.old replies ∷ []) }
+        // What its memories have received are the writes of the sequential run, the oldest thread moved where the cycle is no wait, and enough threads have ended.
         ensures refines { (image : List (List ℕ)) (schedule : List (List Bool)) →
             HasRun self.new image schedule → Refines (flat_of self.new) (arrays_of image) schedule }
-        ensures moves { (image : List (List ℕ)) (schedule : List (List Bool)) (bits : List Bool) →
+        ensures moves { (image : List (List ℕ)) (schedule : List (List Bool)) →
             HasRun self.old image schedule →
-            Advances (flat_of self.old) (arrays_of image) schedule bits }
+            Advances (flat_of self.old) (arrays_of image) schedule (replies_to self.old replies) }
         ensures pace { (image : List (List ℕ)) (schedule : List (List Bool)) →
             HasRun self.new image schedule →
             KeepsPace (flat_of self.new) (arrays_of image) schedule }
@@ -102,11 +107,12 @@ impl<'a> Machine<'a> {
             (stated.ended_in (stated.turns (flat_of self.new) (arrays_of image) schedule))
             (state_of self.new)) }
     {
-        self.run.cycle(&self.accepted.flat);
+        put_bits(self.replies.as_mut_slice(), replies);
+        self.run.cycle(&self.accepted.flat, self.replies.as_slice());
         self.cycles += 1;
     }
 
-    /// How many output ports there are: two for each stage, three for each memory with a lock, and two more.
+    /// How many output ports there are: two for each stage, three for each memory with a lock, two for each delayed memory, and two more.
     pub fn port_count(&self) -> usize
         ensures count { result ≡ output_count (flat_of self.now) }
         ensures shown { result ≡ length self.now.shown }
@@ -120,5 +126,12 @@ impl<'a> Machine<'a> {
         ensures { result ≡ slice_index self.now.shown i }
     {
         self.run.shown()[i]
+    }
+
+    /// Whether the last cycle was a wait: some request was outstanding at its start and wasn't answered in it; false before the first.
+    pub fn waited(&self) -> bool
+        ensures { result ≡ self.now.waited }
+    {
+        self.run.waited()
     }
 }

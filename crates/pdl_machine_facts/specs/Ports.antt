@@ -1,5 +1,5 @@
--- The values of the ports of a pipe without delayed memories, in their order.
-use Rattle.std.specs.Prelude.{ℕ, Bool, if◌then◌else◌, List, [], ◌∷◌, ◌++◌, Option, Some, None}
+-- The values of the ports of a pipe, in their order, and the replies of its delayed memories.
+use Rattle.std.specs.Prelude.{ℕ, zero, suc, ◌/◌, ◌%◌, ◌==◌, Bool, if◌then◌else◌, List, [], ◌∷◌, ◌++◌, Option, Some, None, count_by}
 use Rattle.pdl_word.specs.Words.{bit}
 use Rattle.pdl_semantics.specs.Flat.{Lock, Mem, Pipe, has_lock}
 use Rattle.pdl_semantics.specs.Cycle.{PortWrite, Ports}
@@ -22,6 +22,29 @@ abbrev pub all_commit_values : List Mem → List (Option PortWrite) → List ℕ
 all_commit_values (m ∷ ms) (e ∷ es) = commit_values m.lock e ++ all_commit_values ms es
 all_commit_values _ _ = []
 
+-- the values of all ports of a pipe without delayed memories
 abbrev pub port_values : Pipe → Ports → List ℕ
 port_values p o =
     stage_values o.valid o.moves ++ all_commit_values p.mems o.commits ++ bit o.ended ∷ bit o.squash ∷ []
+
+-- how many memories are delayed
+abbrev pub delayed_count : Pipe → ℕ
+delayed_count p = count_by (λ (x : Mem). x.delayed) p.mems
+
+-- the reply bits of a cycle for n delayed memories
+abbrev pub replies_of : ℕ → ℕ → List Bool
+replies_of zero b = []
+replies_of (suc n) b = (b % 2 == 1) ∷ replies_of n (b / 2)
+
+-- whether there is a request, and its address, 0 where there is none
+abbrev pub request_values : Option ℕ → List ℕ
+request_values None = 0 ∷ 0 ∷ []
+request_values (Some a) = 1 ∷ a ∷ []
+
+abbrev pub all_request_values : List Mem → List (Option ℕ) → List ℕ
+all_request_values (m ∷ ms) (q ∷ qs) = (if m.delayed then request_values q else []) ++ all_request_values ms qs
+all_request_values _ _ = []
+
+-- the values of all ports, in the order of a netlist's outputs
+abbrev pub whole_values : Pipe → Ports → List ℕ
+whole_values p o = stage_values o.valid o.moves ++ (all_commit_values p.mems o.commits ++ (all_request_values p.mems o.requests ++ bit o.ended ∷ bit o.squash ∷ []))

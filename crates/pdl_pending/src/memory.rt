@@ -1,5 +1,5 @@
 // A memory as it runs.
-ghost use Rattle.std.specs.Prelude.{◌≡◌, ◌≤◌, ◌<◌, ◌+◌, ◌++◌, [], if◌then◌else◌, length, map, slice_index, IfOk, IfSome};
+ghost use Rattle.std.specs.Prelude.{◌≡◌, ◌≤◌, ◌<◌, ◌+◌, ◌++◌, [], Some, if◌then◌else◌, length, map, slice_index, IfOk, IfSome};
 ghost use Rattle.pdl_semantics.specs.Locks as locks;
 ghost use Rattle.pdl_semantics.specs.Machine as machine;
 ghost use Rattle.pdl_semantics.specs.Cycle as cycle;
@@ -9,7 +9,7 @@ ghost use Rattle.pdl_semantics.specs.Flat.{has_lock};
 ghost use Rattle.pdl_pending.specs.Memory.{committed_to};
 
 use crate::latest::{Latest, youngest};
-use crate::pending::{Pending, Reserved, Written, append, fill};
+use crate::pending::{Pending, Reserved, Written, append, drop_younger, fill};
 use pdl_form::Lock;
 use pdl_kit::NoMemory;
 use std::alloc::Global;
@@ -155,5 +155,13 @@ impl Memory {
         let entry = self.pending.remove(0);
         self.words[entry.address as usize] = entry.value.unwrap_or(0);
         Some(entry)
+    }
+
+    /// Drops the pending writes of threads younger than this one, as its squash does.
+    pub fn squash(&mut self, thread: u64)
+        ensures { self.new ≡ record self.old
+            { pending = cycle.entries_left (Some thread) self.old.pending } }
+    {
+        drop_younger(&mut self.pending, thread);
     }
 }

@@ -1,5 +1,5 @@
 // Pending writes of a lock, oldest first, and what threads do to them.
-ghost use Rattle.std.specs.Prelude.{◌≡◌, ◌≤◌, ◌+◌, ◌++◌, ◌==◌, if◌then◌else◌, [], ◌∷◌, map, length, vec_len, vec_capacity};
+ghost use Rattle.std.specs.Prelude.{◌≡◌, ◌≤◌, ◌+◌, ◌++◌, ◌==◌, if◌then◌else◌, [], ◌∷◌, Some, map, length, vec_len, vec_capacity};
 ghost use Rattle.pdl_semantics.specs.Cycle as cycle;
 ghost use Rattle.pdl_pending.specs.View.{pending_view, reserved_view, written_view};
 
@@ -104,4 +104,13 @@ pub fn fill(pending: &mut [Pending], m: usize, thread: u64, writes: &[Written])
     for written in writes {
         fill_one(pending, m, thread, *written);
     }
+}
+
+/// Drops the entries of threads younger than this one.
+pub fn drop_younger(pending: &mut Vec<Pending>, thread: u64)
+    ensures entries { map pending_view pending.new.items
+        ≡ cycle.entries_left (Some thread) (map pending_view pending.old.items) }
+    ensures capacity { vec_capacity pending.new ≡ vec_capacity pending.old }
+{
+    pending.retain(|entry| entry.thread <= thread);
 }

@@ -28,6 +28,7 @@ pub mod LinesMachine
 pub mod LinesNames
 pub mod LinesPorts
 pub mod LinesColumns
+pub mod LinesEnds
 pub mod Lines
 pub mod Establish
 pub mod Stood

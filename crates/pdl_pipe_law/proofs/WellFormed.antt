@@ -1,11 +1,10 @@
 -- The netlist of a compiled pipe is well formed.
-use Rattle.std.proofs.Common.{◌≡◌, ◌≢◌, inr, ℕ, ◌<◌, ◌≤◌, List, [], ◌∷◌, length, get_or, map, AllPairs, refl, sym, ap, ap₂, ◌∙◌, subst, arith}
+use Rattle.std.proofs.Common.{◌≡◌, ◌≢◌, inr, ℕ, ◌<◌, ◌≤◌, List, [], length, get_or, map, AllPairs, sym, ap, ◌∙◌, subst, arith}
 use Rattle.std.proofs.lemmas.List.{length-map, get_or-map}
 use Rattle.std.proofs.lemmas.List.Elements.{All-from_get_or}
 use Rattle.pdl_semantics.specs.Tree.{Mem}
 use Rattle.pdl_semantics.specs.Flat.{Pipe}
 use Rattle.pdl_semantics.specs.Flatten.{mems_of}
-use Rattle.pdl_net.specs.declared.Array.{Array}
 use Rattle.pdl_net.specs.declared.Netlist.{Netlist}
 use Rattle.pdl_net.specs.Circuit.{Shape, shape_of, circuit_of, no_array}
 use Rattle.pdl_net.specs.Signal.{Signal}
@@ -18,23 +17,8 @@ use Rattle.pdl_pipe_law.specs.Compiled.{IsCompiled}
 use Rattle.pdl_pipe_law.proofs.WellFormedNames.{Among, name_of_mem, all_pairs, mem_names_differ}
 use Rattle.pdl_pipe_law.proofs.WellFormedPorts.{heads_of, head_shown, all_heads, names_are, stage_names, commit_names, port_names_differ}
 use Rattle.pdl_pipe_law.proofs.WellFormedMems.{never_delayed, Reaches, reaches_all, sized_among, IsAddressed, addressed}
-use Rattle.pdl_pipe_law.proofs.WellFormedArrays.{array_mem, mem_array, never_written, locked_all, pipe_array, infos_same}
+use Rattle.pdl_pipe_law.proofs.WellFormedArrays.{name_of_array, array_names_are, array_mem, mem_array, never_written, locked_all, pipe_array, infos_same}
 use Rattle.pdl_rules.specs.Memories.{info_of}
-
--- ---- memories
-
--- the name of an array
-abbrev pub name_of_array : Array → List ℕ
-name_of_array a = a.name
-
-pub array_names_are : (ars : List Array) (ms : List Mem) → map shape_of ars ≡ map shape_of_mem ms → map name_of_array ars ≡ map name_of_mem ms
-array_names_are [] [] e = refl
-array_names_are [] (m ∷ ms) e = absurd (cc e)
-array_names_are (a ∷ ars) [] e = absurd (cc e)
-array_names_are (a ∷ ars) (m ∷ ms) e =
-    let here : shape_of a ≡ shape_of_mem m = cc e in
-    let rest : map shape_of ars ≡ map shape_of_mem ms = cc e in
-    ap₂ (λ x xs. x ∷ xs) (ap (λ (s : Shape). s.name) here) (array_names_are ars ms rest)
 
 -- ---- the whole
 

@@ -24,12 +24,27 @@ use Rattle.pdl_pipe_law.specs.Walk.{Locks}
 use Rattle.pdl_pipe_law.specs.Views.{Gates, View}
 use Rattle.pdl_pipe_law.specs.Declared.{port_mem, locked_of, has_lock, array_words, shape_of_mem}
 use Rattle.pdl_pipe_law.specs.Compiled.{IsCompiled}
-use Rattle.pdl_pipe_law.proofs.WellFormedNames.{Among, among_one}
+use Rattle.pdl_pipe_law.proofs.WellFormedNames.{Among, name_of_mem, among_one}
 use Rattle.pdl_pipe_law.proofs.WellFormedPorts.{locked_named, found}
 use Rattle.pdl_pipe_law.proofs.WellFormedMems.{Reaches, IsAddressed}
 use Rattle.pdl_pathfacts.proofs.Memories.{mems_length}
 use Rattle.pdl_semantics.proofs.Facts.{lock_declared}
 use Rattle.pdl_rules.specs.Memories.{info_of}
+
+-- ---- names
+
+-- the name of an array
+abbrev pub name_of_array : Array → List ℕ
+name_of_array a = a.name
+
+pub array_names_are : (ars : List Array) (ms : List Mem) → map shape_of ars ≡ map shape_of_mem ms → map name_of_array ars ≡ map name_of_mem ms
+array_names_are [] [] e = refl
+array_names_are [] (m ∷ ms) e = absurd (cc e)
+array_names_are (a ∷ ars) [] e = absurd (cc e)
+array_names_are (a ∷ ars) (m ∷ ms) e =
+    let here : shape_of a ≡ shape_of_mem m = cc e in
+    let rest : map shape_of ars ≡ map shape_of_mem ms = cc e in
+    ap₂ (λ x xs. x ∷ xs) (ap (λ (s : Shape). s.name) here) (array_names_are ars ms rest)
 
 -- ---- the array of a memory
 

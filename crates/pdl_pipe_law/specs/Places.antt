@@ -2,11 +2,9 @@
 use Rattle.std.specs.Prelude.{ℕ, ◌+◌, true, false, if◌then◌else◌, count_by, take}
 use Rattle.pdl_semantics.specs.Flat.{Mem, Pipe}
 use Rattle.pdl_semantics.specs.Stages.{mem_at, reply_place}
+pub use Rattle.pdl_machine_facts.specs.Ports.{delayed_count}
 
--- how many memories are delayed, and the place of one that isn't among those that aren't: the number of its array
-abbrev pub delayed_count : Pipe → ℕ
-delayed_count p = count_by (λ (x : Mem). x.delayed) p.mems
-
+-- the place of one that isn't delayed among those that aren't: the number of its array
 abbrev pub comb_place : Pipe → ℕ → ℕ
 comb_place p m = count_by (λ (x : Mem). if x.delayed then false else true) (take m p.mems)
 

@@ -1,94 +1,71 @@
--- The acts of those who move, by the stated machine and as the program keeps them, and what depends on no more of them than the program keeps.
-use Rattle.std.proofs.Common.{◌≡◌, refl, sym, ap, ap₂, ◌∙◌, ℕ, suc, Bool, true, false, ◌||◌, if◌then◌else◌, ◌==◌, List, [], ◌∷◌, ◌++◌, map, Option, Some, None, is_some, length}
-use Rattle.std.proofs.lemmas.List.{map-append}
-use Rattle.pdl_semantics.specs.Stages.{list_any}
-use Rattle.pdl_semantics.specs.Machine.{Pending, Request, Thread, State, Deeds}
-use Rattle.pdl_semantics.specs.Moves.{Act}
-use Rattle.pdl_semantics.specs.Cycle.{new_entries, with_reserves, with_writes_of, with_all_writes, has_release, squasher, child_of, asked_of, asked_by}
-use Rattle.pdl_machine_facts.specs.Slots.{slot, here, stage_moves, with_now, mover, movers_from}
-use Rattle.pdl_form.specs.Form.{Form}
-use Rattle.pdl_pending.specs.Memory.{Memory}
+-- Lists of acts, and what depends on one of them.
+use Rattle.std.proofs.Common.{◌≡◌, refl, sym, ap, ap₂, ◌∙◌, ℕ, zero, suc, ◌+◌, ◌<◌, Bool, true, false, if◌then◌else◌, ◌==◌, List, [], ◌∷◌, ◌++◌, map, Option, Some, None, length, get_or, arith, append-nil, ne_eqb}
+use Rattle.pdl_semantics.specs.Flat.{Pipe}
+use Rattle.pdl_semantics.specs.Machine.{Pending}
+use Rattle.pdl_semantics.specs.Moves.{Act, is_empty}
+use Rattle.pdl_semantics.specs.Cycle.{squasher, entries_left, entered_branches, address_of, asked_in}
+use Rattle.pdl_run.specs.declared.stage.Awaited as r_awaited
 use Rattle.pdl_run.specs.declared.stage.Stage as r_stage
-use Rattle.pdl_run.specs.View.{place_view, deeds_view, Standing, as_standing, seats, thread_of, thread_in}
-use Rattle.pdl_run.specs.Doing.{strip}
-use Rattle.pdl_run.specs.Typed.{AreServed}
-use Rattle.pdl_run.specs.Acts.{is_free, IsDone, AreDone, mover_of, act_of, acts_of}
-use Rattle.pdl_run.specs.Ready.{IsHolding, AllHold}
-use Rattle.pdl_machine_facts.specs.Linear.{IsLinear}
-use Rattle.pdl_run.proofs.Readiness.{Shows, deeds_are}
-use Rattle.pdl_run.proofs.Going.{At, at_next, at_here, AllGo}
+use Rattle.pdl_run.specs.View.{awaited_view}
+use Rattle.pdl_run.specs.Acts.{mover_of, act_of, acts_of}
+use Rattle.pdl_run.specs.Requests.{address_by}
 
--- an act with as much of its deeds as the program keeps
-abbrev pub kept_of : Act → Act
-kept_of a = record a { does = strip a.does }
+-- whom no squash removes
+pub none_leaves : (es : List Pending) → entries_left None es ≡ es
+none_leaves [] = refl
+none_leaves (e ∷ es) = ap (λ (xs : List Pending). e ∷ xs) (none_leaves es)
 
-abbrev pub all_kept : List Act → List Act
-all_kept ms = map kept_of ms
+-- no read is awaited where the list has none
+pub nothing_awaited : (xs : List r_awaited.Awaited) (n : ℕ) → n ≡ length xs → (n == 0) ≡ is_empty (map awaited_view xs)
+nothing_awaited [] n e = ap (λ i. i == 0) e
+nothing_awaited (x ∷ xs) n e = ne_eqb n 0 (λ z. absurd (omega (arith, e, z)))
 
--- WHAT THE PROGRAM KEEPS IS ENOUGH
+-- where the thread of a stage squashes nothing, one of the others does or none
+pub squasher_on : (k : ℕ) (o : Option ℕ) (x : r_stage.Stage) (more : List Act) → squasher (act_of k o x) ≡ None → squasher (act_of k o x ++ more) ≡ squasher more
+squasher_on k None x more e = refl
+squasher_on k (Some n) x more e = at x.deeds.fails e
+  where
+    at : (b : Bool) → (if b then Some n else None) ≡ None → (if b then Some n else squasher more) ≡ squasher more
+    at true e = absurd (cc e)
+    at false e = refl
 
-pub appended_kept : (m : ℕ) (ms : List Act) (list : List Pending) → with_reserves m (all_kept ms) list ≡ with_reserves m ms list
-appended_kept m [] list = refl
-appended_kept m (a ∷ ms) list = ap (λ (es : List Pending). es ++ new_entries m a.thread.number a.does.reserves) (appended_kept m ms list)
+-- the address that is asked for is that of the port
+pub address_is : (m : ℕ) (ms : List Act) → address_by m ms None ≡ asked_in ms m
+address_is m [] = refl
+address_is m (a ∷ ms) = ap (address_of m a.does.asks) (address_is m ms)
 
-pub filled_kept : (m : ℕ) (ms : List Act) (list : List Pending) → with_all_writes m (all_kept ms) list ≡ with_all_writes m ms list
-filled_kept m [] list = refl
-filled_kept m (a ∷ ms) list = ap (with_writes_of m a.thread.number a.does.writes) (filled_kept m ms list)
+-- WHO GOES INTO A FORK'S BRANCHES
 
-pub releases_kept : (m : ℕ) (ms : List Act) → has_release m (all_kept ms) ≡ has_release m ms
-releases_kept m [] = refl
-releases_kept m (a ∷ ms) = ap (λ b. list_any (λ n. n == m) a.does.releases || b) (releases_kept m ms)
+module _ (p : Pipe) (f : ℕ) where
+  entered_more : (k : ℕ) (o : Option ℕ) (x : r_stage.Stage) (more : List Act) → entered_branches p f (act_of k o x ++ more) ≡ entered_branches p f more ++ entered_branches p f (act_of k o x)
+  entered_more k None x more = sym (append-nil (entered_branches p f more))
+  entered_more k (Some n) x more = refl
 
-pub squasher_kept : (ms : List Act) → squasher (all_kept ms) ≡ squasher ms
-squasher_kept [] = refl
-squasher_kept (a ∷ ms) = ap (λ (o : Option ℕ). if a.does.fails then Some a.thread.number else o) (squasher_kept ms)
+  entered_apart : (k : ℕ) (o : Option ℕ) (x : r_stage.Stage) → (k == f) ≡ false → entered_branches p f (act_of k o x) ≡ []
+  entered_apart k None x e = refl
+  entered_apart k (Some n) x e = rw e refl
 
-pub child_kept : (ms : List Act) → child_of (all_kept ms) ≡ child_of ms
-child_kept [] = refl
-child_kept (a ∷ ms) = ap (λ (o : Option (List ℕ)). if is_some a.does.child then a.does.child else o) (child_kept ms)
+  entered_none : (k : ℕ) (zs : List r_stage.Stage) → f < k → entered_branches p f (acts_of k zs) ≡ []
+  entered_none k [] h = refl
+  entered_none k (z ∷ zs) h =
+      let apart : (k == f) ≡ false = ne_eqb k f (λ e. absurd (omega (arith, e))) in
+      entered_more k (mover_of z) z (acts_of (suc k) zs)
+      ∙ ap₂ (λ (a b : List Bool). a ++ b) (entered_none (suc k) zs (omega arith)) (entered_apart k (mover_of z) z apart)
 
-pub asked_kept : (m : ℕ) (ms : List Act) (old : Request) → asked_by m (all_kept ms) old ≡ asked_by m ms old
-asked_kept m [] old = refl
-asked_kept m (a ∷ ms) old = ap (asked_of m a.thread.number a.does.asks) (asked_kept m ms old)
+  -- it is who moves out of the stage of the fork
+  pub entered_at : (i k : ℕ) (zs : List r_stage.Stage) (d : r_stage.Stage) → k + i ≡ f → i < length zs
+      → entered_branches p f (acts_of k zs) ≡ entered_branches p f (act_of f (mover_of (get_or zs i d)) (get_or zs i d))
+  entered_at i k [] d e h = absurd (omega arith)
+  entered_at zero k (z ∷ zs) d e h =
+      let same : k ≡ f = omega arith in
+      entered_more k (mover_of z) z (acts_of (suc k) zs)
+      ∙ ap (λ (a : List Bool). a ++ entered_branches p f (act_of k (mover_of z) z)) (entered_none (suc k) zs (omega arith))
+      ∙ ap (λ j. entered_branches p f (act_of j (mover_of z) z)) same
+  entered_at (suc i) k (z ∷ zs) d e h =
+      let apart : (k == f) ≡ false = ne_eqb k f (λ same. absurd (omega (arith, e, same))) in
+      entered_more k (mover_of z) z (acts_of (suc k) zs)
+      ∙ ap₂ (λ (a b : List Bool). a ++ b) (entered_at i (suc k) zs d (omega arith) (omega arith)) (entered_apart k (mover_of z) z apart)
+      ∙ append-nil _
 
--- NO SQUASH, NO REQUEST
-
-module _ (k : ℕ) (x : r_stage.Stage) (more : List Act) where
-  none_squashes : (o : Option ℕ) → squasher more ≡ None → squasher (act_of k o x ++ more) ≡ None
-  none_squashes None e = e
-  none_squashes (Some n) e = e
-
-  none_asks : (m : ℕ) (old : Request) (o : Option ℕ) → asked_by m more old ≡ old → asked_by m (act_of k o x ++ more) old ≡ old
-  none_asks m old None e = e
-  none_asks m old (Some n) e = e
-
-pub no_squasher : (k : ℕ) (xs : List r_stage.Stage) → squasher (acts_of k xs) ≡ None
-no_squasher k [] = refl
-no_squasher k (x ∷ xs) = none_squashes k x (acts_of (suc k) xs) (mover_of x) (no_squasher (suc k) xs)
-
-pub none_asked : (m k : ℕ) (xs : List r_stage.Stage) (old : Request) → asked_by m (acts_of k xs) old ≡ old
-none_asked m k [] old = refl
-none_asked m k (x ∷ xs) old = none_asks k x (acts_of (suc k) xs) m old (mover_of x) (none_asked m (suc k) xs old)
-
--- THE ACTS
-
-module _ (f : Form) (typed : AreServed f f.pipe.stmts) (linear : IsLinear f.pipe) (st : State) (bits : List Bool) (xs : List Memory) (shows : Shows f.pipe xs st) where
-  act_one : (k : ℕ) (y : r_stage.Stage) (o : Option ℕ) (b free : Bool) → slot st k ≡ thread_in (as_standing o y.slot.values.items (map place_view y.slot.held.items))
-      → IsDone f xs k (as_standing o y.slot.values.items (map place_view y.slot.held.items)) (deeds_view y.deeds) free b → IsHolding f.pipe k (as_standing o y.slot.values.items (map place_view y.slot.held.items))
-      → all_kept (mover f.pipe st k b (here f.pipe st bits k)) ≡ act_of k (if b then o else None) y
-  act_one k y o false free h done held = refl
-  act_one k y None true free h done held = ap (λ (s : Option Thread). all_kept (mover f.pipe st k true (with_now f.pipe st bits s))) h
-  act_one k y (Some number) true free h done held =
-      let s : Standing = record { number = number; env = y.slot.values.items; held = map place_view y.slot.held.items } in
-      ap (λ (o : Option Thread). all_kept (mover f.pipe st k true (with_now f.pipe st bits o))) h
-      ∙ ap (λ (d : Deeds). record { stage = k; thread = thread_of number y.slot.values.items; does = d; moves = true } ∷ [])
-      (ap strip (deeds_are f xs st shows k s held) ∙ sym done.0)
-
-  pub acts_all : (k : ℕ) (ys : List r_stage.Stage) → At st k ys → AreDone f xs k ys → AllHold f.pipe k (seats ys) → AllGo f typed linear st bits k ys
-      → all_kept (movers_from f.pipe st bits (length ys) k) ≡ acts_of k ys
-  acts_all k [] at done hold go = refl
-  acts_all k (y ∷ ys) at done hold go =
-      map-append kept_of (mover f.pipe st k (stage_moves f.pipe st bits k) (here f.pipe st bits k)) (movers_from f.pipe st bits (length ys) (suc k))
-      ∙ ap₂ (λ (a b : List Act). a ++ b)
-      (ap (λ (b : Bool). all_kept (mover f.pipe st k b (here f.pipe st bits k))) go.0 ∙ act_one k y y.slot.number y.moves (is_free ys) (at_here st k y ys at) done.0 hold.0)
-      (acts_all (suc k) ys (at_next st k y ys at) done.1 hold.1 go.1)
+pub entered_here : (p : Pipe) (f : ℕ) (zs : List r_stage.Stage) (x : r_stage.Stage) → f < length zs → x ≡ get_or zs f x → entered_branches p f (acts_of 0 zs) ≡ entered_branches p f (act_of f (mover_of x) x)
+entered_here p f zs x h e = entered_at p f f 0 zs x (omega arith) h ∙ ap (λ (y : r_stage.Stage). entered_branches p f (act_of f (mover_of y) y)) (sym e)

@@ -1,51 +1,60 @@
 -- What a machine begins with.
-use Rattle.std.proofs.Common.{◌≡◌, refl, sym, ap, ap₂, ◌∙◌, subst, ℕ, zero, suc, ◌+◌, ◌^◌, ◌<◌, ◌≤◌, Bool, false, if◌then◌else◌, ◌==◌, List, [], ◌∷◌, ◌++◌, map, Option, Some, None, length, replicate, slice_index, slice_index_or, get_or, ◌⊎◌, inl, inr, arith}
+use Rattle.std.proofs.Common.{◌≡◌, refl, sym, ap, ap₂, ◌∙◌, subst, ℕ, zero, suc, ◌+◌, ◌^◌, ◌<◌, ◌≤◌, Bool, false, if◌then◌else◌, ◌==◌, List, [], ◌∷◌, ◌++◌, map, Option, Some, None, length, replicate, get_or, slice_index, slice_index_or, ◌⊎◌, inl, inr, arith}
+use Rattle.std.specs.Prelude.{IfSome}
 use Rattle.std.proofs.lemmas.List.{length-map, length-replicate}
-use Rattle.pdl_semantics.specs.Flat.{Lock, Mem, Stage, Pipe, arrays_of, start_env}
+use Rattle.pdl_semantics.specs.Flat.{Lock, Mem, Stage, Pipe, arrays_of}
 use Rattle.pdl_semantics.specs.Stages.{plain_mem, mem_at}
-use Rattle.pdl_semantics.specs.Machine.{Thread, Pending, NoRequest}
+use Rattle.pdl_semantics.specs.Machine.{Thread, Pending, Request, NoRequest}
 use Rattle.pdl_semantics.specs.Cycle.{born_thread, first, for_mems, for_stages}
 use Rattle.pdl_form.specs.declared.form.Mem as r_mem
 use Rattle.pdl_form.specs.View.{mem_view, mems_view, lock_view}
 use Rattle.pdl_form.specs.Form.{Form}
 use Rattle.pdl_pending.specs.Memory.{Memory}
 use Rattle.pdl_pending.specs.Kept.{AreKept, IsKept}
-use Rattle.pdl_run.specs.declared.stage.Slot as r_slot
-use Rattle.pdl_run.specs.declared.stage.Stage as r_stage
-use Rattle.pdl_run.specs.View.{Standing, place_view, as_standing, standing_view, seats, thread_of, thread_in}
-use Rattle.pdl_run.specs.Acts.{called_by}
-use Rattle.pdl_run.specs.Doing.{no_memory, memory_at}
-use Rattle.pdl_run.specs.Ready.{IsWide, IsStage, AreStages, AllFine, AllHold}
 use Rattle.pdl_lockapi.specs.Sizes.{size_of}
-use Rattle.pdl_run.specs.Running.{IsRunnable, state_of, AreRoomy, AreImages, IsFirst, seats_first, AreReady}
+use Rattle.pdl_run.specs.declared.stage.Stage as r_stage
+use Rattle.pdl_run.specs.declared.beside.Beside as r_beside
+use Rattle.pdl_run.specs.declared.beside.Order as r_order
+use Rattle.pdl_run.specs.View.{thread_if, thread_in, seats, request_view, order_views}
+use Rattle.pdl_run.specs.Outside.{state_of}
+use Rattle.pdl_run.specs.Doing.{no_memory, memory_at}
+use Rattle.pdl_run.specs.Typed.{IsFine}
+use Rattle.pdl_run.specs.Ready.{IsStage, AreStages}
+use Rattle.pdl_run.specs.Running.{IsRunnable, AreRoomy, AreImages, IsFirst, IsBeside, AreReady}
+use Rattle.pdl_run.specs.Firsts.{seats_first, IsFirstBeside}
 use Rattle.pdl_run.proofs.Rows.{seen_at}
-use Rattle.pdl_run.proofs.Lasting.{called_fine, called_hold}
 use Rattle.pdl_run.proofs.Typing.{start_fit}
+use Rattle.pdl_run.proofs.Lasting.{born_fine}
 
-none_stands : (x : r_stage.Stage) (o : Option ℕ) → o ≡ None → as_standing o x.slot.values.items (map place_view x.slot.held.items) ≡ None
-none_stands x o e = ap (λ (n : Option ℕ). as_standing n x.slot.values.items (map place_view x.slot.held.items)) e
+none_stands : (x : r_stage.Stage) (o : Option ℕ) → o ≡ None → thread_if o x.slot ≡ None
+none_stands x o e = ap (λ (n : Option ℕ). thread_if n x.slot) e
 
 pub seats_push : (p : Pipe) (xs : List r_stage.Stage) (x : r_stage.Stage) (n : ℕ) → seats xs ≡ seats_first p n → 1 ≤ n → x.slot.number ≡ None → seats (xs ++ x ∷ []) ≡ seats_first p (n + 1)
 seats_push p xs x n e some f =
-    seats_both xs x ∙ ap₂ (λ (os : List (Option Standing)) (o : Option Standing). os ++ o ∷ []) e (none_stands x x.slot.number f) ∙ one_more n some
+    seats_both xs x ∙ ap₂ (λ (os : List (Option Thread)) (o : Option Thread). os ++ o ∷ []) e (none_stands x x.slot.number f) ∙ one_more n some
   where
-    seats_both : (ys : List r_stage.Stage) (y : r_stage.Stage) → seats (ys ++ y ∷ []) ≡ seats ys ++ standing_view y.slot ∷ []
+    seats_both : (ys : List r_stage.Stage) (y : r_stage.Stage) → seats (ys ++ y ∷ []) ≡ seats ys ++ thread_in y.slot ∷ []
     seats_both [] y = refl
-    seats_both (z ∷ ys) y = ap (λ (os : List (Option Standing)). standing_view z.slot ∷ os) (seats_both ys y)
+    seats_both (z ∷ ys) y = ap (λ (os : List (Option Thread)). thread_in z.slot ∷ os) (seats_both ys y)
 
-    more : (k : ℕ) → replicate k (as_standing None [] []) ++ as_standing None [] [] ∷ [] ≡ replicate (suc k) (as_standing None [] [])
+    none : Option Thread
+    none = None
+
+    more : (k : ℕ) → replicate k none ++ none ∷ [] ≡ replicate (suc k) none
     more zero = refl
-    more (suc k) = ap (λ (os : List (Option Standing)). as_standing None [] [] ∷ os) (more k)
+    more (suc k) = ap (λ (os : List (Option Thread)). none ∷ os) (more k)
 
-    one_more : (k : ℕ) → 1 ≤ k → seats_first p k ++ as_standing None [] [] ∷ [] ≡ seats_first p (k + 1)
+    one_more : (k : ℕ) → 1 ≤ k → seats_first p k ++ None ∷ [] ≡ seats_first p (k + 1)
     one_more zero h = absurd (omega arith)
     one_more (suc k) h =
         let same : suc (suc k) ≡ suc k + 1 = omega arith in
-        ap (λ (os : List (Option Standing)). called_by p 1 (Some p.start) ∷ os) (more k) ∙ ap (seats_first p) same
+        ap (λ (os : List (Option Thread)). born_thread p 1 (Some p.start) ∷ os) (more k) ∙ ap (seats_first p) same
 
 pub stages_push : (f : Form) (xs : List r_stage.Stage) (x : r_stage.Stage) → AreStages f xs → IsStage f x → AreStages f (xs ++ x ∷ [])
-stages_push f [] x h i = (i, tt)
-stages_push f (y ∷ xs) x h i = (h.0, stages_push f xs x h.1 i)
+stages_push f [] x h i zero d less = i
+stages_push f [] x h i (suc k) d less = absurd (omega arith)
+stages_push f (y ∷ xs) x h i zero d less = h 0 d (omega arith)
+stages_push f (y ∷ xs) x h i (suc k) d less = stages_push f xs x (λ j e l. h (suc j) e (omega arith)) i k d (omega arith)
 
 -- MEMORIES
 
@@ -84,18 +93,23 @@ lock_at p mems m x seen h is = ap (λ (d : Mem). d.lock) (seen_at mem_view mems 
 
 -- THE FIRST STATE
 
-pub first_stages_are : (p : Pipe) (ss : List Stage) → map thread_in (seats_first p (length ss)) ≡ for_stages (λ q. if q == 0 then born_thread p 1 (Some p.start) else None) 0 ss
+first_stages_are : (p : Pipe) (ss : List Stage) → seats_first p (length ss) ≡ for_stages (λ q. if q == 0 then born_thread p 1 (Some p.start) else None) 0 ss
 first_stages_are p [] = refl
-first_stages_are p (s ∷ ss) = ap (λ (ts : List (Option Thread)). Some (thread_of 1 (start_env p p.start)) ∷ ts) (others 1 ss (omega arith))
+first_stages_are p (s ∷ ss) = ap (λ (ts : List (Option Thread)). born_thread p 1 (Some p.start) ∷ ts) (others 1 ss (omega arith))
   where
-    others : (k : ℕ) (ys : List Stage) → 1 ≤ k → map thread_in (replicate (length ys) (as_standing None [] [])) ≡ for_stages (λ q. if q == 0 then born_thread p 1 (Some p.start) else None) k ys
+    others : (k : ℕ) (ys : List Stage) → 1 ≤ k → replicate (length ys) None ≡ for_stages (λ q. if q == 0 then born_thread p 1 (Some p.start) else None) k ys
     others k [] h = refl
     others k (y ∷ ys) h =
         let none : (k == 0) ≡ false = grind (arith) in
         ap₂ (λ (t : Option Thread) (ts : List (Option Thread)). t ∷ ts) (ap (λ (b : Bool). if b then born_thread p 1 (Some p.start) else None) (sym none)) (others (suc k) ys (omega arith))
 
-abbrev pub AllFirst : Pipe → List (List ℕ) → List Memory → Type 0
-AllFirst p image xs = (m : ℕ) → m < length p.mems → IsFirst (mem_at p m).lock (slice_index_or image m []) (memory_at xs m)
+same_stages : {X : Type 0} → (x : X) (k : ℕ) (ss : List Stage) → replicate (length ss) x ≡ for_stages (λ i. x) k ss
+same_stages {X} x k [] = refl
+same_stages {X} x k (s ∷ ss) = ap (λ (xs : List X). x ∷ xs) (same_stages x (suc k) ss)
+
+same_mems : {X : Type 0} → (x : X) (k : ℕ) (ds : List Mem) → replicate (length ds) x ≡ for_mems (λ i. x) k ds
+same_mems {X} x k [] = refl
+same_mems {X} x k (d ∷ ds) = ap (λ (xs : List X). x ∷ xs) (same_mems x (suc k) ds)
 
 first_words : (k : ℕ) (image : List (List ℕ)) (xs : List Memory) → length image ≡ length xs → ((i : ℕ) → i < length xs → (memory_at xs i).words ≡ slice_index_or image i []) → map (λ (x : Memory). x.words) xs ≡ image
 first_words k [] [] n h = refl
@@ -119,20 +133,32 @@ no_mem [] m h = refl
 no_mem (d ∷ ds) zero h = absurd (omega arith)
 no_mem (d ∷ ds) (suc m) h = no_mem ds m (omega arith)
 
-module _ (f : Form) (run : IsRunnable f) (image : List (List ℕ)) (images : AreImages f.pipe image) (xs : List Memory) (count : length xs ≡ length f.pipe.mems) (each : AllFirst f.pipe image xs) where
+module _ (f : Form) (run : IsRunnable f) (image : List (List ℕ)) (images : AreImages f.pipe image) (b : r_beside.Beside) (begun : IsFirstBeside f.pipe image b) where
   abbrev pub p : Pipe
   p = f.pipe
+
+  abbrev xs : List Memory
+  xs = b.memories.items
+
+  count : length xs ≡ length p.mems
+  count = begun.count
+
+  each : (m : ℕ) → m < length p.mems → IsFirst (mem_at p m).lock (slice_index_or image m []) (memory_at xs m)
+  each = begun.each
 
   there : (m : ℕ) → m < length xs → m < length p.mems
   there m less = subst (λ n. m < n) count less
 
-  pub first_is : (os : List (Option Standing)) → os ≡ seats_first p (length p.stages) → state_of p os xs 2 ≡ first p (arrays_of image)
+  pub first_is : (os : List (Option Thread)) → os ≡ seats_first p (length p.stages) → state_of os b 2 ≡ first p (arrays_of image)
   first_is os e =
       let words = first_words 0 image xs (images.count ∙ sym count) (λ i less. (each i (there i less)).words_are) in
       let locks = first_locks 0 p.mems xs count (λ i less. (each i (there i less)).pending) in
-      let stages = ap (map thread_in) e ∙ first_stages_are p p.stages in
-      ap (λ (ts : List (Option Thread)). record { stages = ts; arrays = arrays_of (map (λ (x : Memory). x.words) xs); locks = map (λ (x : Memory). x.pending) xs; forks = for_stages (λ i. []) 0 p.stages; requests = for_mems (λ m. NoRequest) 0 p.mems; next = 2 }) stages
-      ∙ ap₂ (λ (ws : List (List ℕ)) (ls : List (List Pending)). record { stages = (first p (arrays_of image)).stages; arrays = arrays_of ws; locks = ls; forks = for_stages (λ i. []) 0 p.stages; requests = for_mems (λ m. NoRequest) 0 p.mems; next = 2 }) words locks
+      let stages = e ∙ first_stages_are p p.stages in
+      let forks = begun.orders ∙ same_stages {X = List Bool} [] 0 p.stages in
+      let requests = begun.requests ∙ same_mems NoRequest 0 p.mems in
+      ap₂ (λ (ts : List (Option Thread)) (ws : List (List ℕ)). record { stages = ts; arrays = arrays_of ws; locks = map (λ (x : Memory). x.pending) xs; forks = order_views b.orders.items; requests = map request_view b.requests.items; next = 2 }) stages words
+      ∙ ap₂ (λ (ls : List (List Pending)) (fs : List (List Bool)). record { stages = (first p (arrays_of image)).stages; arrays = arrays_of image; locks = ls; forks = fs; requests = map request_view b.requests.items; next = 2 }) locks forks
+      ∙ ap (λ (qs : List Request). record { stages = (first p (arrays_of image)).stages; arrays = arrays_of image; locks = for_mems (λ m. []) 0 p.mems; forks = for_stages (λ i. []) 0 p.stages; requests = qs; next = 2 }) requests
 
   kinds_by : (m : ℕ) → (m < length p.mems) ⊎ (length p.mems ≤ m) → (mem_at p m).lock ≡ (memory_at xs m).lock
   kinds_by m (inl h) = sym (each m h).lock
@@ -150,8 +176,7 @@ module _ (f : Form) (run : IsRunnable f) (image : List (List ℕ)) (images : Are
   pub first_roomy : AreRoomy p xs
   first_roomy =
       record {
-        memories = record { count = count; kept = kept };
-        kinds = λ m. kinds_by m (below_or m (length p.mems));
+        memories = record { count = count; kept = kept; kinds = λ m. kinds_by m (below_or m (length p.mems)) };
         room = λ m less. subst (λ (l : Lock). size_of l + 1 ≤ (memory_at xs m).capacity) (sym (each m less).lock) (each m less).room;
         few = λ m less. subst (λ (es : List Pending). length es ≤ size_of (memory_at xs m).lock) (sym (each m less).pending) (omega arith);
       }
@@ -165,31 +190,46 @@ module _ (f : Form) (run : IsRunnable f) (image : List (List ℕ)) (images : Are
             pending = subst (λ (es : List Pending). AreKept (2 ^ (mem_at p m).width) (mem_at p m).depth es) (sym one.pending) tt;
           }
 
-  empty_good : (k n : ℕ) → AllFine f (replicate n (as_standing None [] [])) × AllHold p k (replicate n (as_standing None [] []))
-  empty_good k zero = (tt, tt)
-  empty_good k (suc n) = let rest = empty_good (suc k) n in ((tt, rest.0), (tt, rest.1))
+  pub first_beside : IsBeside p b
+  first_beside =
+      let rs = ap (λ (l : List Request). length l) begun.requests in
+      let ra = length-map b.requests.items request_view in
+      let rb = length-replicate (length p.mems) NoRequest in
+      let os = ap (λ (l : List (List Bool)). length l) begun.orders in
+      let oa = length-map b.orders.items (λ (o : r_order.Order). o.branches.items) in
+      let ob = length-replicate {A = List Bool} (length p.stages) [] in
+      record { roomy = first_roomy; requests = omega (arith, rs, ra, rb); orders = omega (arith, os, oa, ob); long = begun.long }
 
-  first_good : (n : ℕ) → AllFine f (seats_first p n) × AllHold p 0 (seats_first p n)
-  first_good zero = (tt, tt)
-  first_good (suc n) =
-      let rest = empty_good 1 n in
-      ((called_fine f run.typed.vars 1 (Some p.start) (start_fit f run), rest.0), (called_hold f run.typed.vars 1 (Some p.start), rest.1))
+  abbrev none_at : ℕ → Option Thread
+  none_at k = None
+
+  none_fine : (n : ℕ) (k : ℕ) → IfSome (slice_index_or (replicate n (none_at 0)) k None) (IsFine f)
+  none_fine zero k = tt
+  none_fine (suc n) zero = tt
+  none_fine (suc n) (suc k) = none_fine n k
+
+  first_fine : (n k : ℕ) → IfSome (slice_index_or (seats_first p n) k None) (IsFine f)
+  first_fine zero k = tt
+  first_fine (suc n) zero = born_fine f run.typed.vars 1 (Some p.start) (start_fit f run)
+  first_fine (suc n) (suc k) = none_fine n k
 
   first_count : (n : ℕ) → length (seats_first p n) ≡ n
   first_count zero = refl
-  first_count (suc n) = ap suc (length-replicate n (as_standing None [] []))
+  first_count (suc n) = ap suc (length-replicate n (none_at 0))
 
-  pub first_ready : (zs : List r_stage.Stage) (way : r_slot.Slot) → seats zs ≡ seats_first p (length p.stages) → AreStages f zs → IsWide f way → AreReady f zs way xs
-  first_ready zs way e wide ahead =
+  seat_at : (zs : List r_stage.Stage) (k : ℕ) (d : r_stage.Stage) → k < length zs → slice_index_or (seats zs) k None ≡ thread_in (get_or zs k d).slot
+  seat_at [] k d less = absurd (omega arith)
+  seat_at (z ∷ zs) zero d less = refl
+  seat_at (z ∷ zs) (suc k) d less = seat_at zs k d (omega arith)
+
+  pub first_ready : (zs : List r_stage.Stage) → seats zs ≡ seats_first p (length p.stages) → AreStages f zs → AreReady f zs
+  first_ready zs e wide =
       let these : length (seats zs) ≡ length zs = length-map _ _ in
-      let long = ap (λ (os : List (Option Standing)). length os) e in
+      let long = ap (λ (os : List (Option Thread)). length os) e in
       let all = first_count (length p.stages) in
-      let good = first_good (length p.stages) in
       record {
         count = omega arith;
         wide = wide;
-        ahead = ahead;
-        fine = subst (λ (os : List (Option Standing)). AllFine f os) (sym e) good.0;
-        hold = subst (λ (os : List (Option Standing)). AllHold p 0 os) (sym e) good.1;
-        roomy = first_roomy;
+        fine = λ k d less.
+            subst (λ (o : Option Thread). IfSome o (IsFine f)) (ap (λ (os : List (Option Thread)). slice_index_or os k None) (sym e) ∙ seat_at zs k d less) (first_fine (length p.stages) k);
       }

@@ -3,45 +3,20 @@ use Rattle.std.proofs.Common.{◌≡◌, refl, sym, ap, ap₂, ◌∙◌, ℕ, z
 use mathlib.Core.Path.{fun_ext}
 use Rattle.std.proofs.lemmas.Bool.{eqb-true, false_from_ne_true, both_ways}
 use Rattle.std.specs.Prelude.{IfSome, ⊤}
-use Rattle.pdl_semantics.specs.Flat.{Mem, Array, Arrays, arrays_of, with_value}
+use Rattle.pdl_semantics.specs.Flat.{Mem, Array, Arrays, with_value}
 use Rattle.pdl_semantics.specs.Locks.{commit_value}
 use Rattle.pdl_semantics.specs.Machine.{Pending, State, lock_of}
 use Rattle.pdl_semantics.specs.Moves.{Act}
-use Rattle.pdl_semantics.specs.Cycle.{with_reserves, with_all_writes, has_release, oldest, but_oldest, list_two, list_three, taken_out, port_write, with_commit, with_commits, entries_left, for_mems}
+use Rattle.pdl_semantics.specs.Cycle.{list_three, taken_out, port_write, with_commit, with_commits, entries_left, for_mems}
 use Rattle.pdl_machine_facts.specs.Ports.{commit_values, all_commit_values}
 use Rattle.pdl_pending.specs.Memory.{Memory, committed_to}
 use Rattle.pdl_run.specs.Doing.{memory_at}
-use Rattle.pdl_run.specs.Acts.{both, left_of, out_of, memories_after, commits_shown}
-use Rattle.pdl_run.proofs.Acting.{all_kept, appended_kept, filled_kept, releases_kept}
+use Rattle.pdl_run.specs.Outside.{arrays_in}
+use Rattle.pdl_run.specs.Acts.{left_of, out_of, memories_after, commits_shown}
+use Rattle.pdl_run.proofs.Carrying.{word_listed}
 use Rattle.pdl_word.proofs.Numbers.{eqb_self}
 
-pub none_leaves : (es : List Pending) → entries_left None es ≡ es
-none_leaves [] = refl
-none_leaves (e ∷ es) = ap (λ (xs : List Pending). e ∷ xs) (none_leaves es)
-
-pub for_mems-same : {X : Type 0} (f g : ℕ → X) (k : ℕ) (ds : List Mem) → ((m : ℕ) → f m ≡ g m) → for_mems f k ds ≡ for_mems g k ds
-for_mems-same {X} f g k [] h = refl
-for_mems-same {X} f g k (d ∷ ds) h = ap₂ (λ (x : X) (xs : List X). x ∷ xs) (h k) (for_mems-same f g (suc k) ds h)
-
--- those who move, and their acts as the program keeps them
-module _ (st : State) (all ms : List Act) (kept : all_kept all ≡ ms) where
-  -- ONE MEMORY
-
-  pub two_is : (m : ℕ) → list_two st all m ≡ both m ms (lock_of st m)
-  two_is m =
-      sym (filled_kept m all (with_reserves m all (lock_of st m)))
-      ∙ ap (with_all_writes m (all_kept all)) (sym (appended_kept m all (lock_of st m)))
-      ∙ ap (λ (as' : List Act). with_all_writes m as' (with_reserves m as' (lock_of st m))) kept
-
-  releases_are : (m : ℕ) → has_release m all ≡ has_release m ms
-  releases_are m = sym (releases_kept m all) ∙ ap (has_release m) kept
-
-  pub three_is : (m : ℕ) → list_three st all m ≡ left_of m ms (lock_of st m)
-  three_is m = ap₂ (λ (b : Bool) (es : List Pending). if b then but_oldest es else es) (releases_are m) (two_is m)
-
-  pub out_is : (m : ℕ) → taken_out st all m ≡ out_of m ms (lock_of st m)
-  out_is m = ap₂ (λ (b : Bool) (es : List Pending). if b then oldest es else None) (releases_are m) (two_is m)
-
+module _ (st : State) (ms : List Act) where
   -- ALL MEMORIES
 
   shift : (m i : ℕ) → suc m + i ≡ m + suc i
@@ -53,21 +28,20 @@ module _ (st : State) (all ms : List Act) (kept : all_kept all ≡ ms) where
   abbrev Locked : ℕ → List Memory → Type 0
   Locked m xs = (i : ℕ) → lock_of st (m + i) ≡ (memory_at xs i).pending
 
-  pub locks_after : (m : ℕ) (ds : List Mem) (xs : List Memory) → length ds ≡ length xs → Locked m xs
-      → for_mems (λ n. entries_left None (list_three st all n)) m ds ≡ map (λ (x : Memory). x.pending) (memories_after m ms xs)
-  locks_after m [] [] n h = refl
-  locks_after m [] (x ∷ xs) n h = absurd (omega arith)
-  locks_after m (d ∷ ds) [] n h = absurd (omega arith)
-  locks_after m (d ∷ ds) (x ∷ xs) n h =
-      ap₂ (λ (es : List Pending) (ls : List (List Pending)). es ∷ ls)
-      (none_leaves (list_three st all m) ∙ three_is m ∙ ap (λ es. left_of m ms es) (ap (lock_of st) (still m) ∙ h 0))
-      (locks_after (suc m) ds xs (omega arith) (λ i. ap (lock_of st) (shift m i) ∙ h (suc i)))
+  pub locks_after : (sq : Option ℕ) (m : ℕ) (ds : List Mem) (xs : List Memory) → length ds ≡ length xs → Locked m xs
+      → for_mems (λ n. entries_left sq (list_three st ms n)) m ds ≡ map (λ (x : Memory). x.pending) (memories_after m ms sq xs)
+  locks_after sq m [] [] n h = refl
+  locks_after sq m [] (x ∷ xs) n h = absurd (omega arith)
+  locks_after sq m (d ∷ ds) [] n h = absurd (omega arith)
+  locks_after sq m (d ∷ ds) (x ∷ xs) n h =
+      ap₂ (λ (es : List Pending) (ls : List (List Pending)). entries_left sq (left_of m ms es) ∷ ls) (ap (lock_of st) (still m) ∙ h 0)
+      (locks_after sq (suc m) ds xs (omega arith) (λ i. ap (lock_of st) (shift m i) ∙ h (suc i)))
 
-  out_at : (m : ℕ) (x : Memory) → lock_of st m ≡ x.pending → taken_out st all m ≡ out_of m ms x.pending
-  out_at m x h = out_is m ∙ ap (λ es. out_of m ms es) h
+  out_at : (m : ℕ) (x : Memory) → lock_of st m ≡ x.pending → taken_out st ms m ≡ out_of m ms x.pending
+  out_at m x h = ap (λ es. out_of m ms es) h
 
   pub commits_after : (m : ℕ) (ds : List Mem) (xs : List Memory) → length ds ≡ length xs → Locked m xs → ((i : ℕ) (d : Mem) → i < length ds → (slice_index_or ds i d).lock ≡ (memory_at xs i).lock)
-      → all_commit_values ds (for_mems (λ n. port_write (taken_out st all n)) m ds) ≡ commits_shown m ms xs
+      → all_commit_values ds (for_mems (λ n. port_write (taken_out st ms n)) m ds) ≡ commits_shown m ms xs
   commits_after m [] [] n h k = refl
   commits_after m [] (x ∷ xs) n h k = absurd (omega arith)
   commits_after m (d ∷ ds) [] n h k = absurd (omega arith)
@@ -88,10 +62,10 @@ module _ (st : State) (all ms : List Act) (kept : all_kept all ≡ ms) where
   differs_up : (n m : ℕ) → m < n → (n == m) ≡ false
   differs_up n m h = false_from_ne_true _ (λ t. let same = eqb-true n m t in absurd (omega arith))
 
-  before_all : (m n : ℕ) (ds : List Mem) (arrays : Arrays) → n < m → with_commits st all m ds arrays n ≡ arrays n
+  before_all : (m n : ℕ) (ds : List Mem) (arrays : Arrays) → n < m → with_commits st ms m ds arrays n ≡ arrays n
   before_all m n [] arrays h = refl
   before_all m n (d ∷ ds) arrays h =
-      before_all (suc m) n ds (with_commit arrays m (taken_out st all m)) (omega arith) ∙ other_array arrays m n (taken_out st all m) (differs n m h)
+      before_all (suc m) n ds (with_commit arrays m (taken_out st ms m)) (omega arith) ∙ other_array arrays m n (taken_out st ms m) (differs n m h)
 
   -- a write to a word that is there
   set_hit : (ws : List ℕ) (a v : ℕ) → a < length ws → v ≡ slice_index (slice_set ws a v) a
@@ -127,31 +101,25 @@ module _ (st : State) (all ms : List Act) (kept : all_kept all ≡ ms) where
   Within m [] = ⊤
   Within m (x ∷ xs) = IfSome (out_of m ms x.pending) (λ e. e.address < length x.words) × Within (suc m) xs
 
-  pub words_after : (m : ℕ) (ds : List Mem) (xs : List Memory) (arrays : Arrays) → length ds ≡ length xs → Locked m xs → Worded arrays m xs → Within m xs
-      → Worded (with_commits st all m ds arrays) m (memories_after m ms xs)
-  words_after m [] [] arrays n h w k i a = w i a
-  words_after m [] (x ∷ xs) arrays n h w k i a = absurd (omega arith)
-  words_after m (d ∷ ds) [] arrays n h w k i a = absurd (omega arith)
-  words_after m (d ∷ ds) (x ∷ xs) arrays n h w k zero a =
+  pub words_after : (sq : Option ℕ) (m : ℕ) (ds : List Mem) (xs : List Memory) (arrays : Arrays) → length ds ≡ length xs → Locked m xs → Worded arrays m xs → Within m xs
+      → Worded (with_commits st ms m ds arrays) m (memories_after m ms sq xs)
+  words_after sq m [] [] arrays n h w k i a = w i a
+  words_after sq m [] (x ∷ xs) arrays n h w k i a = absurd (omega arith)
+  words_after sq m (d ∷ ds) [] arrays n h w k i a = absurd (omega arith)
+  words_after sq m (d ∷ ds) (x ∷ xs) arrays n h w k zero a =
       let out = out_at m x (ap (lock_of st) (still m) ∙ h 0) in
-      ap (λ j. with_commits st all (suc m) ds (with_commit arrays m (taken_out st all m)) j a) (sym (still m))
-      ∙ ap (λ (ws : Array). ws a) (before_all (suc m) m ds (with_commit arrays m (taken_out st all m)) (omega arith))
+      ap (λ j. with_commits st ms (suc m) ds (with_commit arrays m (taken_out st ms m)) j a) (sym (still m))
+      ∙ ap (λ (ws : Array). ws a) (before_all (suc m) m ds (with_commit arrays m (taken_out st ms m)) (omega arith))
       ∙ ap (λ (e : Option Pending). with_commit arrays m e m a) out
       ∙ this_array arrays m x.words (out_of m ms x.pending) (λ b. ap (λ j. arrays j b) (still m) ∙ w 0 b) k.0 a
-  words_after m (d ∷ ds) (x ∷ xs) arrays n h w k (suc i) a =
-      ap (λ j. with_commits st all (suc m) ds (with_commit arrays m (taken_out st all m)) j a) (sym (shift m i))
-      ∙ words_after (suc m) ds xs (with_commit arrays m (taken_out st all m)) (omega arith) (λ j. ap (lock_of st) (shift m j) ∙ h (suc j))
+  words_after sq m (d ∷ ds) (x ∷ xs) arrays n h w k (suc i) a =
+      ap (λ j. with_commits st ms (suc m) ds (with_commit arrays m (taken_out st ms m)) j a) (sym (shift m i))
+      ∙ words_after sq (suc m) ds xs (with_commit arrays m (taken_out st ms m)) (omega arith) (λ j. ap (lock_of st) (shift m j) ∙ h (suc j))
       (λ j b.
-      ap (λ (ws : Array). ws b) (other_array arrays m (suc m + j) (taken_out st all m) (differs_up (suc m + j) m (omega arith)))
+      ap (λ (ws : Array). ws b) (other_array arrays m (suc m + j) (taken_out st ms m) (differs_up (suc m + j) m (omega arith)))
       ∙ ap (λ l. arrays l b) (shift m j)
       ∙ w (suc j) b)
       k.1 i a
 
--- arrays by the words of memories
-words_listed : (xs : List Memory) (m a : ℕ) → slice_index (memory_at xs m).words a ≡ arrays_of (map (λ (x : Memory). x.words) xs) m a
-words_listed [] m a = refl
-words_listed (x ∷ xs) zero a = refl
-words_listed (x ∷ xs) (suc m) a = words_listed xs m a
-
-pub arrays_listed : (arrays : Arrays) (xs : List Memory) → ((m a : ℕ) → arrays m a ≡ slice_index (memory_at xs m).words a) → arrays ≡ arrays_of (map (λ (x : Memory). x.words) xs)
-arrays_listed arrays xs h = fun_ext (λ m. fun_ext (λ a. h m a ∙ words_listed xs m a))
+pub arrays_listed : (arrays : Arrays) (xs : List Memory) → ((m a : ℕ) → arrays m a ≡ slice_index (memory_at xs m).words a) → arrays ≡ arrays_in xs
+arrays_listed arrays xs h = fun_ext (λ m. fun_ext (λ a. h m a ∙ sym (word_listed xs m a)))

@@ -1,20 +1,13 @@
 -- The statement of a row, as the program holds it.
-use Rattle.std.proofs.Common.{◌≡◌, sym, ap, ◌∙◌, subst, ℕ, ◌+◌, ◌<◌, ◌≤◌, List, [], ◌∷◌, map, drop, length, get_or, slice_index, Option, Some, arith}
-use Rattle.std.specs.Prelude.{vec_len, vec_capacity}
+use Rattle.std.proofs.Common.{◌≡◌, sym, ap, ◌∙◌, subst, ℕ, ◌+◌, ◌<◌, List, [], ◌∷◌, map, drop, length, get_or, slice_index, arith}
 use Rattle.std.proofs.Math.ListN.{get_or-map}
 use Rattle.std.proofs.lemmas.List.{get_or_default, length-map, drop_more}
 use Rattle.pdl_semantics.specs.Flat.{Stmt, SpecCheck}
-use Rattle.pdl_semantics.specs.Stages.{in_stage}
-use Rattle.pdl_semantics.specs.Machine.{HeldLocation}
 use Rattle.pdl_form.specs.declared.form.Stmt as r_stmt
 use Rattle.pdl_form.specs.View.{stmt_view, stmts_view}
 use Rattle.pdl_form.specs.Form.{Form, stmt_at}
-use Rattle.pdl_run.specs.declared.deeds.Deeds as r_deeds
-use Rattle.pdl_run.specs.View.{as_standing}
-use Rattle.pdl_run.specs.Room.{Capacities, capacities, HasRoomFor, IsLarge}
-use Rattle.pdl_run.specs.Ready.{IsFine}
-use Rattle.pdl_run.specs.Typed.{IsServed, AreServed}
-use Rattle.pdl_run.proofs.Fitting.{typed_at, stage_few}
+use Rattle.pdl_formtypes.specs.Stmts.{IsTypedOp, AreTypedStmts}
+use Rattle.pdl_run.proofs.Fitting.{typed_at}
 
 -- an element, as it is seen
 pub seen_at : {X Y : Type 0} (view : X → Y) (xs : List X) (i : ℕ) (x : X) (d : Y) → i < length xs → x ≡ get_or xs i x → view x ≡ get_or (map view xs) i d
@@ -23,7 +16,7 @@ seen_at view xs i x d h e =
     let within : i < length (map view xs) = omega arith in
     ap view e ∙ sym (get_or-map view xs i x) ∙ get_or_default (map view xs) i (view x) d within
 
-module _ (f : Form) (stmts : List r_stmt.Stmt) (seen : stmts_view stmts ≡ f.pipe.stmts) (typed : AreServed f f.pipe.stmts) (rows : List ℕ) (within : (j : ℕ) → j < length rows → slice_index rows j < length f.pipe.stmts)
+module _ (f : Form) (stmts : List r_stmt.Stmt) (seen : stmts_view stmts ≡ f.pipe.stmts) (typed : AreTypedStmts f f.pipe.stmts) (rows : List ℕ) (within : (j : ℕ) → j < length rows → slice_index rows j < length f.pipe.stmts)
     (j : ℕ) (there : j < length rows) (x : r_stmt.Stmt) (is : x ≡ get_or stmts (get_or rows j 0) x) where
   pub row_there : get_or rows j 0 < length stmts
   row_there =
@@ -35,30 +28,9 @@ module _ (f : Form) (stmts : List r_stmt.Stmt) (seen : stmts_view stmts ≡ f.pi
   pub row_stmt : stmt_view x ≡ stmt_at f.pipe.stmts (get_or rows j 0)
   row_stmt = seen_at stmt_view stmts (get_or rows j 0) x (record { stage = 0; guards = []; op = SpecCheck }) row_there is ∙ ap (λ (ss : List Stmt). stmt_at ss (get_or rows j 0)) seen
 
-  pub row_typed : IsServed f (stmt_view x).op
-  row_typed = subst (λ (s : Stmt). IsServed f s.op) (sym row_stmt) (typed_at f f.pipe.stmts (get_or rows j 0) typed (within j there))
+  pub row_typed : IsTypedOp f (stmt_view x).op
+  row_typed = subst (λ (s : Stmt). IsTypedOp f s.op) (sym row_stmt) (typed_at f f.pipe.stmts (get_or rows j 0) typed (within j there))
 
   pub row_split : map (stmt_at f.pipe.stmts) (drop j rows) ≡ stmt_view x ∷ map (stmt_at f.pipe.stmts) (drop (j + 1) rows)
   row_split =
       ap (map (stmt_at f.pipe.stmts)) (drop_more rows j 0 there) ∙ ap (λ (s : Stmt). s ∷ map (stmt_at f.pipe.stmts) (drop (j + 1) rows)) (sym row_stmt)
-
--- ROOM
-
-few_held : (f : Form) (o : Option ℕ) (thread : ℕ) (env : List ℕ) (ls : List HeldLocation) → o ≡ Some thread → IsFine f (as_standing o env ls) → length ls ≤ length f.pipe.stmts
-few_held f o thread env ls e h = (subst (λ (n : Option ℕ). IsFine f (as_standing n env ls)) e h).1
-
--- room for the statements of a stage, after a thread that stands there
-pub room_begun : (f : Form) (k thread : ℕ) (o : Option ℕ) (env : List ℕ) (ls : List HeldLocation) (r : r_deeds.Deeds) (c : Capacities) → o ≡ Some thread → IsFine f (as_standing o env ls) → capacities r ≡ c
-    → IsLarge (length f.pipe.stmts) (length f.pipe.start) c → vec_len r.held ≡ length ls → vec_len r.reserves ≡ 0 → vec_len r.writes ≡ 0 → vec_len r.releases ≡ 0 → HasRoomFor (length (in_stage k f.pipe.stmts)) r
-room_begun f k thread o env ls r c e fine same large held reserves writes releases =
-    let few = stage_few k f.pipe.stmts in
-    let most = few_held f o thread env ls e fine in
-    let h : vec_capacity r.held ≡ c.held = ap (λ (x : Capacities). x.held) same in
-    let i : vec_capacity r.reserves ≡ c.reserves = ap (λ (x : Capacities). x.reserves) same in
-    let j : vec_capacity r.writes ≡ c.writes = ap (λ (x : Capacities). x.writes) same in
-    let l : vec_capacity r.releases ≡ c.releases = ap (λ (x : Capacities). x.releases) same in
-    let lh = large.held in
-    let lr = large.reserves in
-    let lw = large.writes in
-    let le = large.releases in
-    record { held = omega arith; reserves = omega arith; writes = omega arith; releases = omega arith }

@@ -1,10 +1,14 @@
 pub mod View
 pub mod Places
-pub mod Doing
 pub mod Room
+pub mod Doing
+pub mod Outside
 pub mod Typed
 pub mod Acts
 pub mod Ready
 pub mod Running
 pub mod Outputs
+pub mod Requests
+pub mod Orders
+pub mod Firsts
 pub mod Runs

@@ -1,15 +1,15 @@
--- How many outputs a pipe without delayed memories has.
+-- How many outputs a pipe has.
 use Rattle.std.specs.Prelude.{ℕ, ◌+◌, ◌*◌, if◌then◌else◌, List, [], ◌∷◌, length}
-use Rattle.pdl_semantics.specs.Flat.{Lock, Mem, Pipe, has_lock}
+use Rattle.pdl_semantics.specs.Flat.{Mem, Pipe, has_lock}
 
--- three for the commits of a memory with a lock
-abbrev pub commit_count : Lock → ℕ
-commit_count l = if has_lock l then 3 else 0
+-- three for the commits of a memory with a lock, two for the requests of a delayed one
+abbrev pub memory_count : Mem → ℕ
+memory_count m = (if has_lock m.lock then 3 else 0) + (if m.delayed then 2 else 0)
 
-abbrev pub all_commit_count : List Mem → ℕ
-all_commit_count [] = 0
-all_commit_count (m ∷ ms) = commit_count m.lock + all_commit_count ms
+abbrev pub all_memory_count : List Mem → ℕ
+all_memory_count [] = 0
+all_memory_count (m ∷ ms) = memory_count m + all_memory_count ms
 
 -- two for each stage, those of the memories, `ended` and `squash`
 abbrev pub output_count : Pipe → ℕ
-output_count p = 2 * length p.stages + all_commit_count p.mems + 2
+output_count p = 2 * length p.stages + all_memory_count p.mems + 2

@@ -1,43 +1,31 @@
 -- A machine that runs, between two cycles.
-use Rattle.std.specs.Prelude.{◌≡◌, ℕ, zero, suc, ◌+◌, ◌<◌, ◌≤◌, Bool, true, List, [], ◌∷◌, map, Option, Some, None, replicate, length, slice_index, slice_index_or, ◌^◌}
-use Rattle.pdl_semantics.specs.Flat.{Lock, Arrays, arrays_of, Pipe}
+use Rattle.std.specs.Prelude.{◌≡◌, ℕ, ◌+◌, ◌<◌, ◌≤◌, ◌^◌, Bool, List, [], IfSome, length, slice_index, slice_index_or}
+use Rattle.pdl_semantics.specs.Flat.{Lock, Arrays, Pipe}
 use Rattle.pdl_semantics.specs.Stages.{mem_at}
-use Rattle.pdl_semantics.specs.Machine.{NoRequest, State}
-use Rattle.pdl_semantics.specs.Cycle.{first, for_mems, for_stages, state_after}
-use Rattle.pdl_invariant.specs.Strict.{Strict}
+use Rattle.pdl_semantics.specs.Machine.{State, fork_of}
+use Rattle.pdl_semantics.specs.Cycle.{first, state_after}
 use Rattle.pdl_lockapi.specs.Sizes.{size_of}
-use Rattle.pdl_facts.specs.Scans.{none_of}
-use Rattle.pdl_facts.specs.Checks.{is_guess}
-use Rattle.pdl_machine_facts.specs.Linear.{IsSimple}
+use Rattle.pdl_machine_facts.specs.Slots.{LeadsOn}
+use Rattle.pdl_machine_facts.specs.Cycle.{IsByStages}
+use Rattle.pdl_machine_facts.specs.Use.{IsInUse}
 use Rattle.pdl_form.specs.Form.{Form}
 use Rattle.pdl_formtypes.specs.Stmts.{IsTypedForm}
 use Rattle.pdl_pending.specs.Memory.{Memory}
-use Rattle.pdl_run.specs.declared.stage.Slot as r_slot
 use Rattle.pdl_run.specs.declared.stage.Stage as r_stage
-use Rattle.pdl_run.specs.View.{Standing, seats, thread_in}
+use Rattle.pdl_run.specs.declared.beside.Beside as r_beside
+use Rattle.pdl_run.specs.View.{thread_in}
 use Rattle.pdl_run.specs.Doing.{memory_at}
-use Rattle.pdl_run.specs.Typed.{AreMemories}
-use Rattle.pdl_run.specs.Acts.{called_by}
-use Rattle.pdl_run.specs.Ready.{IsWide, AreStages, AllFine, AllHold}
+use Rattle.pdl_run.specs.Typed.{IsFine, AreMemories}
+use Rattle.pdl_run.specs.Ready.{AreStages, AreOrders}
 
--- a pipe that this machine runs: it has the facts of an accepted pipe, its stages stand in a line, its memories answer at once, it guesses nothing, and its flat form is typed
+-- a pipe that this machine runs: its flat form is typed, threads go on to later stages, and in each state of a run the locks are used as they ask, and a fork's list is no longer than there are stages
 pub record IsRunnable (f : Form) : Type 0 where
-  pub simple : IsSimple f.pipe
-  pub strict : Strict f.pipe
-  pub no_guess : none_of is_guess f.pipe.stmts ≡ true
   pub typed : IsTypedForm f
-
--- the state in which these stand in the stages and the memories are these, where the next thread has this number: no thread is inside a fork, and no request is outstanding
-abbrev pub state_of : Pipe → List (Option Standing) → List Memory → ℕ → State
-state_of p os xs next =
-    record {
-      stages = map thread_in os;
-      arrays = arrays_of (map (λ (x : Memory). x.words) xs);
-      locks = map (λ (x : Memory). x.pending) xs;
-      forks = for_stages (λ f. []) 0 p.stages;
-      requests = for_mems (λ m. NoRequest) 0 p.mems;
-      next = next;
-    }
+  pub leads : LeadsOn f.pipe
+  pub some : 1 ≤ length f.pipe.stages
+  pub by : (image : Arrays) (before : List (List Bool)) (bits : List Bool) → IsByStages f.pipe (state_after f.pipe (first f.pipe image) before) bits
+  pub used : (image : Arrays) (before : List (List Bool)) (bits : List Bool) → IsInUse f.pipe (state_after f.pipe (first f.pipe image) before) bits
+  pub forked : (image : Arrays) (before : List (List Bool)) (k : ℕ) → length (fork_of (state_after f.pipe (first f.pipe image) before) k) ≤ length f.pipe.stages
 
 -- a state that a run comes to
 abbrev pub IsReached : Pipe → State → Type 0
@@ -46,7 +34,6 @@ IsReached p st = (image : Arrays) × (schedule : List (List Bool)) × (st ≡ st
 -- memories with room for what may be pending and one reservation more
 pub record AreRoomy (p : Pipe) (xs : List Memory) : Type 0 where
   pub memories : AreMemories p xs
-  pub kinds : (m : ℕ) → (mem_at p m).lock ≡ (memory_at xs m).lock
   pub room : (m : ℕ) → m < length p.mems → size_of (memory_at xs m).lock + 1 ≤ (memory_at xs m).capacity
   pub few : (m : ℕ) → m < length p.mems → length (memory_at xs m).pending ≤ size_of (memory_at xs m).lock
 
@@ -63,16 +50,15 @@ pub record IsFirst (l : Lock) (words : List ℕ) (x : Memory) : Type 0 where
   pub pending : x.pending ≡ []
   pub room : size_of l + 1 ≤ x.capacity
 
--- of so many stages the first holds thread 1
-abbrev pub seats_first : Pipe → ℕ → List (Option Standing)
-seats_first p zero = []
-seats_first p (suc n) = called_by p 1 (Some p.start) ∷ replicate n None
+-- what stands beside the stages of a pipe, with room for a cycle
+pub record IsBeside (p : Pipe) (b : r_beside.Beside) : Type 0 where
+  pub roomy : AreRoomy p b.memories.items
+  pub requests : length b.requests.items ≡ length p.mems
+  pub orders : length b.orders.items ≡ length p.stages
+  pub long : AreOrders (length p.stages) b.orders.items
 
--- stages that are wide enough, with threads that fit, and memories with room
-pub record AreReady (f : Form) (zs : List r_stage.Stage) (way : r_slot.Slot) (xs : List Memory) : Type 0 where
+-- stages that are wide enough, with threads that fit
+pub record AreReady (f : Form) (zs : List r_stage.Stage) : Type 0 where
   pub count : length zs ≡ length f.pipe.stages
   pub wide : AreStages f zs
-  pub ahead : IsWide f way
-  pub fine : AllFine f (seats zs)
-  pub hold : AllHold f.pipe 0 (seats zs)
-  pub roomy : AreRoomy f.pipe xs
+  pub fine : (k : ℕ) (d : r_stage.Stage) → k < length zs → IfSome (thread_in (slice_index_or zs k d).slot) (IsFine f)

@@ -1,17 +1,24 @@
-//! Runs of pipes in flat form, cycle by cycle as the stated machine says, with guards and any locks, where stages are linear, no read is delayed and nothing is guessed.
+//! Runs of pipes in flat form, cycle by cycle as the stated machine says: with delayed memories, guesses, forks and any locks.
 //!
-//! The layer above may use `Run`, which it begins with `new`, steps with `cycle` and reads with `shown`.
+//! The layer above may use `Run`, which it begins with `new`, steps with `cycle` and reads with `shown` and `waited`.
 #![tactic(auto)]
 
+mod answers;
+mod beside;
+mod carry;
 mod cycle;
 mod decide;
 mod deeds;
 mod moves;
+mod orders;
 mod place;
+mod requests;
 mod running;
 mod setup;
+mod shown;
 mod stage;
 mod step;
 mod stmts;
+mod ways;
 
 pub use running::Run;

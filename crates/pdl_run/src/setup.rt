@@ -1,17 +1,21 @@
 // What a machine begins with.
-ghost use Rattle.std.specs.Prelude.{◌≡◌, ◌≤◌, ◌<◌, ◌+◌, ◌*◌, ℕ, [], None, Some, length, replicate, slice_index_or, vec_capacity, IfOk};
+ghost use Rattle.std.specs.Prelude.{◌≡◌, ◌≤◌, ◌<◌, ◌+◌, ◌*◌, ℕ, [], None, Some, length, replicate, map, slice_index_or, vec_capacity, IfOk};
 ghost use Rattle.pdl_semantics.specs.Stages.{mem_at};
-ghost use Rattle.pdl_form.specs.View.{lock_view, mems_view};
+ghost use Rattle.pdl_semantics.specs.Machine as machine;
+ghost use Rattle.pdl_semantics.specs.Cycle.{born_thread};
+ghost use Rattle.pdl_form.specs.View.{lock_view, mem_view, mems_view};
 ghost use Rattle.pdl_form.specs.Whole.{form};
-ghost use Rattle.pdl_run.specs.View.{standing_view, seats};
+ghost use Rattle.pdl_formtypes.specs.Stmts.{IsTypedForm};
+ghost use Rattle.pdl_run.specs.View.{thread_in, seats, request_view, order_views};
 ghost use Rattle.pdl_run.specs.Room.{capacities, IsLarge};
-ghost use Rattle.pdl_run.specs.Acts.{called_by};
 ghost use Rattle.pdl_run.specs.Doing.{memory_at};
-ghost use Rattle.pdl_run.specs.Ready.{IsWide, IsStage, AreStages};
+ghost use Rattle.pdl_run.specs.Ready.{IsWide, IsStage, AreStages, AreOrders};
 ghost use Rattle.pdl_lockapi.specs.Sizes.{size_of};
-ghost use Rattle.pdl_run.specs.Running.{IsRunnable, AreImages, IsFirst, seats_first};
-ghost use Rattle.pdl_run.specs.Outputs.{commit_count, all_commit_count, output_count};
+ghost use Rattle.pdl_run.specs.Running.{AreImages, IsFirst, IsBeside};
+ghost use Rattle.pdl_run.specs.Firsts.{seats_first, IsFirstBeside};
+ghost use Rattle.pdl_run.specs.Outputs.{memory_count, all_memory_count, output_count};
 
+use crate::beside::{Beside, Order, Request};
 use crate::deeds::Deeds;
 use crate::moves::begin;
 use crate::stage::{Slot, Stage};
@@ -52,7 +56,7 @@ fn memory(alloc: Global, words: &[u64], lock: Lock) -> Result<Memory, NoMemory>
 }
 
 /// The memories with the words of an image.
-#[tactic(auto, using(crate::proofs::First::first_push, crate::proofs::First::lock_at))]
+
 pub fn memories(alloc: Global, pipe: &FlatPipe, image: &Image) -> Result<Vec<Memory>, NoMemory>
     requires { length image.now ≡ length (form pipe.now).pipe.mems }
     ensures count { IfOk result (λ v. length v.items ≡ length (form pipe.now).pipe.mems) }
@@ -74,11 +78,13 @@ pub fn slot(alloc: Global, pipe: &FlatPipe) -> Result<Slot, NoMemory>
     ensures wide { IfOk result (λ s. IsWide (form pipe.now) s) }
 {
     let vars = pipe.vars();
-    let room = 2 * pipe.stmts().len();
+    let count = pipe.stmts().len();
     Ok(Slot {
         number: None,
         values: zeros(alloc, vars, vars)?,
-        held: Vec::with_capacity(alloc, room)?,
+        guess: Vec::with_capacity(alloc, pipe.start().len())?,
+        awaits: Vec::with_capacity(alloc, count)?,
+        kept: Vec::with_capacity(alloc, count)?,
     })
 }
 
@@ -90,16 +96,22 @@ fn deeds(alloc: Global, pipe: &FlatPipe) -> Result<Deeds, NoMemory>
         (capacities r)) }
 {
     let vars = pipe.vars();
+    let args = pipe.start().len();
     let count = pipe.stmts().len();
     Ok(Deeds {
         values: zeros(alloc, vars, vars)?,
+        guess: Vec::with_capacity(alloc, args)?,
         held: Vec::with_capacity(alloc, 2 * count)?,
-        ready: false,
+        blocks: Vec::with_capacity(alloc, count)?,
         reserves: Vec::with_capacity(alloc, count)?,
         writes: Vec::with_capacity(alloc, count)?,
         releases: Vec::with_capacity(alloc, count)?,
+        asks: Vec::with_capacity(alloc, count)?,
+        barrier: false,
         called: false,
-        args: Vec::with_capacity(alloc, pipe.start().len())?,
+        args: Vec::with_capacity(alloc, args)?,
+        fails: false,
+        verified: Vec::with_capacity(alloc, args)?,
     })
 }
 
@@ -117,9 +129,10 @@ fn stage(alloc: Global, pipe: &FlatPipe) -> Result<Stage, NoMemory>
 
 // The first stage, in which thread 1 stands.
 fn first_stage(alloc: Global, pipe: &FlatPipe) -> Result<Stage, NoMemory>
+    requires vars { (form pipe.now).pipe.vars ≡ length (form pipe.now).widths }
     requires few { length (form pipe.now).pipe.start ≤ length (form pipe.now).widths }
     ensures stands { IfOk result (λ x.
-        standing_view x.slot ≡ called_by (form pipe.now).pipe 1 (Some (form pipe.now).pipe.start)) }
+        thread_in x.slot ≡ born_thread (form pipe.now).pipe 1 (Some (form pipe.now).pipe.start)) }
     ensures wide { IfOk result (λ x. IsStage (form pipe.now) x) }
 {
     let mut first = stage(alloc, pipe)?;
@@ -128,9 +141,10 @@ fn first_stage(alloc: Global, pipe: &FlatPipe) -> Result<Stage, NoMemory>
 }
 
 /// Stages of which the first holds thread 1.
-#[tactic(auto, using(crate::proofs::First::seats_push, crate::proofs::First::stages_push))]
+
 pub fn first_stages(alloc: Global, pipe: &FlatPipe) -> Result<Vec<Stage>, NoMemory>
     requires some { 1 ≤ length (form pipe.now).pipe.stages }
+    requires vars { (form pipe.now).pipe.vars ≡ length (form pipe.now).widths }
     requires few { length (form pipe.now).pipe.start ≤ length (form pipe.now).widths }
     ensures seats { IfOk result (λ v.
         seats v.items ≡ seats_first (form pipe.now).pipe (length (form pipe.now).pipe.stages)) }
@@ -145,25 +159,65 @@ pub fn first_stages(alloc: Global, pipe: &FlatPipe) -> Result<Vec<Stage>, NoMemo
     Ok(stages)
 }
 
-// How many outputs show the commits of a memory.
-fn commit_output(lock: Lock) -> usize
-    ensures value { result ≡ commit_count (lock_view lock) }
-    ensures most { result ≤ 3 }
+/// No requests of so many memories.
+pub fn no_requests(alloc: Global, count: usize) -> Result<Vec<Request>, NoMemory>
+    ensures { IfOk result (λ v. map request_view v.items ≡ replicate count machine.NoRequest) }
 {
-    match lock {
-        Lock::Plain => 0,
-        Lock::Queue(_) | Lock::Bypass(_) | Lock::Rename(_) => 3,
+    let mut requests = Vec::new(alloc);
+    while requests.len() < count {
+        requests.push(Request::NoRequest)?;
     }
+    Ok(requests)
 }
 
-// How many outputs show the commits of memories.
-fn commit_outputs(mems: &[Mem]) -> usize
-    ensures value { result ≡ all_commit_count (mems_view mems.now) }
-    ensures most { result ≤ 3 * length mems.now }
+/// Empty orders of so many forks, with room for as many branches.
+pub fn no_orders(alloc: Global, count: usize) -> Result<Vec<Order>, NoMemory>
+    ensures empty { IfOk result (λ v. order_views v.items ≡ replicate count []) }
+    ensures room { IfOk result (λ v. AreOrders count v.items) }
+{
+    let mut orders = Vec::new(alloc);
+    while orders.len() < count {
+        let branches = Vec::with_capacity(alloc, count)?;
+        orders.push(Order { branches })?;
+    }
+    Ok(orders)
+}
+
+/// What stands beside the stages at first: memories with the words of an image, no requests, and nobody inside a fork.
+pub fn first_beside(alloc: Global, pipe: &FlatPipe, image: &Image) -> Result<Beside, NoMemory>
+    requires { length image.now ≡ length (form pipe.now).pipe.mems }
+    ensures { IfOk result (IsFirstBeside (form pipe.now).pipe image.now) }
+{
+    let memories = memories(alloc, pipe, image)?;
+    let requests = no_requests(alloc, pipe.mems().len())?;
+    let orders = no_orders(alloc, pipe.stages().len())?;
+    Ok(Beside {
+        memories,
+        requests,
+        orders,
+    })
+}
+
+// How many outputs show a memory: its commits where it has a lock, and its requests where it is delayed.
+fn memory_output(mem: &Mem) -> usize
+    ensures value { result ≡ memory_count (mem_view mem.now) }
+    ensures most { result ≤ 5 }
+{
+    let commits = match mem.lock {
+        Lock::Plain => 0,
+        Lock::Queue(_) | Lock::Bypass(_) | Lock::Rename(_) => 3,
+    };
+    if mem.delayed { commits + 2 } else { commits }
+}
+
+// How many outputs show memories.
+fn memory_outputs(mems: &[Mem]) -> usize
+    ensures value { result ≡ all_memory_count (mems_view mems.now) }
+    ensures most { result ≤ 5 * length mems.now }
 {
     let mut count = 0;
     for mem in mems {
-        count += commit_output(mem.lock);
+        count += memory_output(mem);
     }
     count
 }
@@ -172,5 +226,5 @@ fn commit_outputs(mems: &[Mem]) -> usize
 pub fn outputs(pipe: &FlatPipe) -> usize
     ensures { result ≡ output_count (form pipe.now).pipe }
 {
-    2 * pipe.stages().len() + commit_outputs(pipe.mems()) + 2
+    2 * pipe.stages().len() + memory_outputs(pipe.mems()) + 2
 }

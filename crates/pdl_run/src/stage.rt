@@ -1,13 +1,28 @@
 // Stages and the threads in them.
 use crate::deeds::Deeds;
-use crate::place::Place;
 
-/// A place for a thread: its number or none, its values, and what it holds for writing.
+/// A read that awaits its answer: the numbers of its memory and of the variable that it binds.
+#[derive(Clone, Copy)]
+pub struct Awaited {
+    pub mem: usize,
+    pub var: usize,
+}
+
+/// An answer that came while its thread couldn't move: the number of the variable that it is for, and its word.
+#[derive(Clone, Copy)]
+pub struct Kept {
+    pub var: usize,
+    pub word: u64,
+}
+
+/// A place for a thread: its number or none, its values, the arguments of its guess, the reads that it awaits, and its kept answers.
 #[derive(Drop)]
 pub struct Slot {
     pub number: Option<u64>,
     pub values: Vec<u64>,
-    pub held: Vec<Place>,
+    pub guess: Vec<u64>,
+    pub awaits: Vec<Awaited>,
+    pub kept: Vec<Kept>,
 }
 
 /// A stage: who stands in it, what its statements do in this cycle, and whether its thread moves.

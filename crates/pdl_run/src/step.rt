@@ -4,7 +4,8 @@ ghost use Rattle.pdl_semantics.specs.Stages.{list_any};
 ghost use Rattle.pdl_semantics.specs.Cycle as stated;
 ghost use Rattle.pdl_machine_facts.specs.Ports.{commit_values};
 ghost use Rattle.pdl_pending.specs.View.{entry_view};
-ghost use Rattle.pdl_run.specs.Acts.{mover_of, act_of, acts_of, out_of, memory_after, memories_after, commits_shown};
+ghost use Rattle.pdl_pending.specs.Memory.{committed_to};
+ghost use Rattle.pdl_run.specs.Acts.{mover_of, act_of, acts_of, out_of, left_of, memory_after, memories_after, commits_shown};
 ghost use Rattle.pdl_run.specs.Ready.{CanStep, AllCanStep};
 
 use crate::stage::Stage;
@@ -103,10 +104,14 @@ fn is_released(m: usize, stages: &[Stage]) -> bool
     false
 }
 
-// What the threads that move do to memory m; the pending write that is released.
-fn step_memory(memory: &mut Memory, m: usize, stages: &[Stage]) -> Option<Pending>
+// The pending write that the threads that move release of memory m, after their reservations and writes.
+fn commit(memory: &mut Memory, m: usize, stages: &[Stage]) -> Option<Pending>
     requires { CanStep m (acts_of 0 stages.now) memory.old }
-    ensures memory { memory.new ≡ memory_after m (acts_of 0 stages.now) memory.old }
+    ensures memory { memory.new ≡ record memory.old {
+      words = committed_to memory.old.words
+          (out_of m (acts_of 0 stages.now) memory.old.pending);
+      pending = left_of m (acts_of 0 stages.now) memory.old.pending;
+    } }
     ensures result { entry_view result ≡ out_of m (acts_of 0 stages.now) memory.old.pending }
 {
     reserve_all(memory, m, stages);
@@ -116,6 +121,25 @@ fn step_memory(memory: &mut Memory, m: usize, stages: &[Stage]) -> Option<Pendin
     } else {
         None
     }
+}
+
+// What the threads that move, of which one may squash, do to memory m; the pending write that is released.
+#[tactic(auto, using(crate::proofs::Acting::none_leaves))]
+fn step_memory(
+    memory: &mut Memory,
+    m: usize,
+    stages: &[Stage],
+    squasher: Option<u64>,
+) -> Option<Pending>
+    requires { CanStep m (acts_of 0 stages.now) memory.old }
+    ensures memory { memory.new ≡ memory_after m (acts_of 0 stages.now) squasher memory.old }
+    ensures result { entry_view result ≡ out_of m (acts_of 0 stages.now) memory.old.pending }
+{
+    let entry = commit(memory, m, stages);
+    if let Some(thread) = squasher {
+        memory.squash(thread);
+    }
+    entry
 }
 
 // Shows three values.
@@ -144,18 +168,24 @@ fn show_commit(memory: &Memory, entry: Option<Pending>, shown: &mut Vec<u64>)
     }
 }
 
-/// What the threads that move do to the memories, whose commits are shown.
-pub fn step_memories(memories: &mut [Memory], stages: &[Stage], shown: &mut Vec<u64>)
+/// What the threads that move, of which one may squash, do to the memories, whose commits are shown.
+pub fn step_memories(
+    memories: &mut [Memory],
+    stages: &[Stage],
+    squasher: Option<u64>,
+    shown: &mut Vec<u64>,
+)
     requires step { AllCanStep 0 (acts_of 0 stages.now) memories.old }
     requires room { vec_len shown.old + 3 * length memories.old ≤ vec_capacity shown.old }
-    ensures memories { memories.new ≡ memories_after 0 (acts_of 0 stages.now) memories.old }
+    ensures memories { memories.new
+        ≡ memories_after 0 (acts_of 0 stages.now) squasher memories.old }
     ensures shown { shown.new.items
         ≡ shown.old.items ++ commits_shown 0 (acts_of 0 stages.now) memories.old }
     ensures capacity { vec_capacity shown.new ≡ vec_capacity shown.old }
 {
     for m in 0..memories.len() {
         let memory = &mut memories[m];
-        let entry = step_memory(memory, m, stages);
+        let entry = step_memory(memory, m, stages, squasher);
         show_commit(memory, entry, shown);
     }
 }

@@ -21,10 +21,11 @@ left_step n h done cycles lt =
     let e : cycles - done ≡ suc (cycles - (done + 1)) = omega arith in
     rw e refl
 
-pub text_step : (number : ℕ) (ms : List Column) (c : Cycle) (cs rest : List Cycle) (old new all : List ℕ) → cs ≡ c ∷ rest
-    → new ≡ old ++ cycle_lines number ms c.puts → old ++ lines_from number ms cs ≡ all → new ++ lines_from (number + 1) ms rest ≡ all
-text_step number ms c cs rest old new all e n a =
-    rw (n, append_assoc, add-one) (ap (λ xs. old ++ lines_from number ms xs) (sym e) ∙ a)
+-- the lines of the next cycle, and of those after it
+pub lines_step : (number : ℕ) (ms : List Column) (c : Cycle) (cs rest : List Cycle) → cs ≡ c ∷ rest → lines_from number ms cs ≡ cycle_lines number ms c.puts ++ lines_from (number + 1) ms rest
+lines_step number ms c cs rest e =
+    let s : suc number ≡ number + 1 = omega arith in
+    ap (lines_from number ms) e ∙ ap (λ k. cycle_lines number ms c.puts ++ lines_from k ms rest) s
 
 count_step : (test : Cycle → Bool) (c : Cycle) (cs rest : List Cycle) (old new all : ℕ) → cs ≡ c ∷ rest → new ≡ old + one_if (test c) → old + count_by test cs ≡ all → new + count_by test rest ≡ all
 count_step test c cs rest old new all e n a =

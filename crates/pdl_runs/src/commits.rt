@@ -1,13 +1,16 @@
 // The lines of what the memories commit in a cycle, in the order of their commit ports.
-ghost use Rattle.std.specs.Prelude.{◌≡◌, ◌≤◌, ◌<◌, ◌++◌, All, IfOk, IfSome, OnOk, length, map, position, bytes_eq, codes};
+ghost use Rattle.std.specs.Prelude.{◌≡◌, ◌≤◌, ◌<◌, ◌++◌, All, IfOk, IfSome, length, map, position, bytes_eq, codes};
+ghost use Rattle.pdl_kit.specs.Counts.{HasCause};
 ghost use Rattle.pdl_semantics.specs.Lines.{mem_lines, cycle_lines};
 ghost use Rattle.pdl_pipe_law.specs.Runs.{column_of, puts_of, cycle_of, commit_mems};
 ghost use Rattle.pdl_runs.specs.Printed.{AreOrdered};
+ghost use Rattle.pdl_trace.specs.Passed.{Passes};
 
+use pdl_kit::sink::{Sink, WriteFailed};
 use pdl_kit::{MemInfo, Name, NoMemory};
 use pdl_net::{Dir, Netlist};
 use pdl_netrun::Sim;
-use pdl_trace::commit_line;
+use pdl_trace::{LineOut, commit_line};
 use std::alloc::Global;
 
 // Whether a port of this name is the one by which a memory of that name commits.
@@ -44,42 +47,49 @@ pub fn commit_order(alloc: Global, net: &Netlist) -> Result<Vec<usize>, NoMemory
 }
 
 // The line of what one memory commits in a cycle of this number, if it does.
-fn push_commit(
-    text: &mut Vec<u8>,
+#[tactic(auto, using(pdl_trace::proofs::Passing::nothing_more))]
+fn push_commit<S: Sink>(
+    out: &mut LineOut,
+    sink: &mut S,
     cycle: u32,
     mem: &MemInfo,
     commit: Option<(u64, u64)>,
-) -> Result<(), NoMemory>
+) -> Result<(), WriteFailed>
     requires name { length mem.now.name ≤ 32 }
     requires width { mem.now.width ≤ 64 }
-    ensures { OnOk result (text.new.items
-        ≡ text.old.items ++ mem_lines cycle (column_of mem.now) (puts_of commit)) }
+    ensures bytes { Passes (S.written sink.old) (S.written sink.new) result
+        (out.old ++ mem_lines cycle (column_of mem.now) (puts_of commit)) out.new }
+    ensures cause { HasCause (S.faults sink.old) (S.faults sink.new) result }
 {
-    if let Some((address, value)) = commit {
-        let line = commit_line(cycle, &mem.name, address, value, mem.width);
-        text.extend_from_slice(line.as_bytes())?;
+    match commit {
+        Some((address, value)) => {
+            let line = commit_line(cycle, &mem.name, address, value, mem.width);
+            out.push(sink, line.as_bytes())
+        }
+        None => Ok(()),
     }
-    Ok(())
 }
 
 /// The lines of what the memories commit in the last cycle, which has this number.
-pub fn push_commits(
-    text: &mut Vec<u8>,
+pub fn push_commits<S: Sink>(
+    out: &mut LineOut,
+    sink: &mut S,
     cycle: u32,
     mems: &[MemInfo],
     order: &[usize],
     sim: &Sim,
-) -> Result<(), NoMemory>
+) -> Result<(), WriteFailed>
     requires mems { mems.now ≡ sim.now.netlist.mems }
     requires order { AreOrdered sim.now.netlist order.now }
     requires names { All (λ m. length m.name ≤ 32) mems.now }
     requires widths { All (λ m. m.width ≤ 64) mems.now }
-    ensures { OnOk result (text.new.items ≡ text.old.items ++ cycle_lines cycle
-        (map column_of (commit_mems sim.now.netlist))
-        (cycle_of sim.now.netlist sim.now.last).puts) }
+    ensures bytes { Passes (S.written sink.old) (S.written sink.new) result
+        (out.old ++ cycle_lines cycle (map column_of (commit_mems sim.now.netlist))
+        (cycle_of sim.now.netlist sim.now.last).puts) out.new }
+    ensures cause { HasCause (S.faults sink.old) (S.faults sink.new) result }
 {
     for i in order {
-        push_commit(text, cycle, &mems[*i], sim.commit(*i))?;
+        push_commit(out, sink, cycle, &mems[*i], sim.commit(*i))?;
     }
     Ok(())
 }

@@ -1,5 +1,5 @@
-// The text of a run.
-ghost use Rattle.std.specs.Prelude.{◌≡◌, ◌≤◌, ◌<◌, ◌+◌, ◌-◌, ◌++◌, ℕ, List, All, IfOk, OnOk, length, map, replicate, [], vec_len, if◌then◌else◌};
+// A run that is printed while it goes on, and one that is counted.
+ghost use Rattle.std.specs.Prelude.{◌≡◌, ◌≤◌, ◌<◌, ◌+◌, ◌-◌, ◌++◌, ℕ, List, All, IfOk, length, map, replicate, [], vec_len, if◌then◌else◌};
 ghost use Rattle.pdl_semantics.specs.Lines.{lines_from, lines, end_line as end_text};
 ghost use Rattle.pdl_net.specs.Circuit.{circuit_of, outputs_of};
 ghost use Rattle.pdl_pipe_law.specs.Runs.{column_of, cycle_of, commit_mems, output_count};
@@ -8,13 +8,16 @@ ghost use Rattle.pdl_net.specs.Pipe.{IsWellFormed};
 ghost use Rattle.pdl_net.specs.Run.{delayed_mems, nports};
 ghost use Rattle.pdl_image.specs.Images.{IsImage};
 ghost use Rattle.pdl_runs.specs.Tally.{tallied_of, counts_of};
+ghost use Rattle.pdl_kit.specs.Counts.{HasCause};
+ghost use Rattle.pdl_trace.specs.Passed.{Passes, Streams};
 
 use crate::commits::{commit_order, push_commits};
 use pdl_image::Image;
+use pdl_kit::sink::{Sink, WriteFailed};
 use pdl_kit::{MemInfo, NoMemory};
 use pdl_net::{Dir, Netlist};
 use pdl_netrun::Sim;
-use pdl_trace::end_line;
+use pdl_trace::{LineOut, TextError, end_line};
 use std::alloc::Global;
 
 /// How many cycles a run has had, in how many a thread ended, a request stayed unanswered, and a squash happened.
@@ -47,15 +50,16 @@ fn with_cycle(counts: Counts, sim: &Sim, outputs: usize) -> Counts
     }
 }
 
-// Runs cycles numbered from 1, with every reply bit 1, and adds the lines of what they commit.
-fn run_cycles(
-    text: &mut Vec<u8>,
+// Runs cycles numbered from 1, with every reply bit 1, and passes on the lines of what they commit.
+fn run_cycles<S: Sink>(
+    out: &mut LineOut,
+    sink: &mut S,
     sim: &mut Sim,
     mems: &[MemInfo],
     order: &[usize],
     outputs: usize,
     cycles: u32,
-) -> Result<Counts, NoMemory>
+) -> Result<Counts, WriteFailed>
     requires mems { mems.now ≡ sim.old.netlist.mems }
     requires order { AreOrdered sim.old.netlist order.now }
     requires names { All (λ m. length m.name ≤ 32) mems.now }
@@ -63,11 +67,12 @@ fn run_cycles(
     requires outputs { outputs ≡ output_count sim.old.netlist }
     requires two { 2 ≤ outputs }
     requires few { cycles ≤ 1000000 }
-    ensures text { OnOk result (text.new.items ≡ text.old.items
+    ensures bytes { Passes (S.written sink.old) (S.written sink.new) result (out.old
         ++ lines_from 1 (map column_of (commit_mems sim.old.netlist))
-        (cycles_from sim.old.netlist sim.old.held (schedule cycles))) }
+        (cycles_from sim.old.netlist sim.old.held (schedule cycles))) out.new }
     ensures counts { IfOk result
         (λ c. c ≡ counts_of (cycles_from sim.old.netlist sim.old.held (schedule cycles))) }
+    ensures cause { HasCause (S.faults sink.old) (S.faults sink.new) result }
 {
     let mut counts = Counts {
         ended: 0,
@@ -76,22 +81,23 @@ fn run_cycles(
     };
     for done in 0..cycles {
         sim.cycle(u16::MAX);
-        push_commits(text, done + 1, mems, order, sim)?;
+        push_commits(out, sink, done + 1, mems, order, sim)?;
         counts = with_cycle(counts, sim, outputs);
     }
     Ok(counts)
 }
 
-// The text of a run of so many cycles.
+// Passes on the lines of a run of so many cycles.
 #[tactic(auto, using(crate::proofs::Running::left_length))]
-fn print_run(
-    alloc: Global,
+fn push_run<S: Sink>(
+    out: &mut LineOut,
+    sink: &mut S,
     sim: &mut Sim,
     mems: &[MemInfo],
     order: &[usize],
     outputs: usize,
     cycles: u32,
-) -> Result<Vec<u8>, NoMemory>
+) -> Result<(), WriteFailed>
     requires mems { mems.now ≡ sim.old.netlist.mems }
     requires order { AreOrdered sim.old.netlist order.now }
     requires names { All (λ m. length m.name ≤ 32) mems.now }
@@ -99,15 +105,44 @@ fn print_run(
     requires outputs { outputs ≡ output_count sim.old.netlist }
     requires two { 2 ≤ outputs }
     requires few { cycles ≤ 1000000 }
-    ensures { IfOk result (λ t. t.items
-        ≡ lines (map column_of (commit_mems sim.old.netlist))
-        (cycles_from sim.old.netlist sim.old.held (schedule cycles))) }
+    ensures bytes { Passes (S.written sink.old) (S.written sink.new) result (out.old
+        ++ lines (map column_of (commit_mems sim.old.netlist))
+        (cycles_from sim.old.netlist sim.old.held (schedule cycles))) out.new }
+    ensures cause { HasCause (S.faults sink.old) (S.faults sink.new) result }
 {
-    let mut text = Vec::new(alloc);
-    let counts = run_cycles(&mut text, sim, mems, order, outputs, cycles)?;
+    let counts = run_cycles(out, sink, sim, mems, order, outputs, cycles)?;
     let line = end_line(cycles, counts.ended, counts.waits, counts.squashes);
-    text.extend_from_slice(line.as_bytes())?;
-    Ok(text)
+    out.push(sink, line.as_bytes())
+}
+
+// Writes the text of a run of so many cycles while it runs, and takes no memory.
+fn print_run<S: Sink>(
+    sink: &mut S,
+    sim: &mut Sim,
+    mems: &[MemInfo],
+    order: &[usize],
+    outputs: usize,
+    cycles: u32,
+) -> Result<(), TextError>
+    requires mems { mems.now ≡ sim.old.netlist.mems }
+    requires order { AreOrdered sim.old.netlist order.now }
+    requires names { All (λ m. length m.name ≤ 32) mems.now }
+    requires widths { All (λ m. m.width ≤ 64) mems.now }
+    requires outputs { outputs ≡ output_count sim.old.netlist }
+    requires two { 2 ≤ outputs }
+    requires few { cycles ≤ 1000000 }
+    ensures text { Streams (S.written sink.old) (S.written sink.new)
+        (S.faults sink.old) (S.faults sink.new)
+        (lines (map column_of (commit_mems sim.old.netlist))
+        (cycles_from sim.old.netlist sim.old.held (schedule cycles))) result }
+    ensures later { S.faults sink.old ≤ S.faults sink.new }
+{
+    let mut out = LineOut::new();
+    push_run(&mut out, sink, sim, mems, order, outputs, cycles)?;
+    match out.finish(sink) {
+        Ok(()) => Ok(()),
+        Err(_) => Err(TextError::WriteFailed),
+    }
 }
 
 // Runs cycles with every reply bit 1, and counts them.
@@ -142,8 +177,16 @@ fn count_outputs(net: &Netlist) -> usize
     count
 }
 
-/// The text of a run of a netlist without delayed memories, with this image, for so many cycles.
-pub fn run(alloc: Global, net: &Netlist, image: &Image, cycles: u32) -> Result<Vec<u8>, NoMemory>
+/// Writes the text of a run of a netlist without delayed memories, with this image, for so many cycles, while it runs: all memory is taken before the first byte.
+///
+/// `WriteFailed` comes only where the sink's count of faults rose, or stands at the last value of a `u64`; the sink then has a prefix of the text. On `NoMemory` it has what it had.
+pub fn run<S: Sink>(
+    alloc: Global,
+    net: &Netlist,
+    image: &Image,
+    cycles: u32,
+    sink: &mut S,
+) -> Result<(), TextError>
     requires well { IsWellFormed net.now }
     requires image { IsImage net.now.mems image.now }
     requires here { delayed_mems net.now ≡ [] }
@@ -151,18 +194,15 @@ pub fn run(alloc: Global, net: &Netlist, image: &Image, cycles: u32) -> Result<V
     requires widths { All (λ m. m.width ≤ 64) net.now.mems }
     requires two { 2 ≤ output_count net.now }
     requires few { cycles ≤ 1000000 }
-    ensures { IfOk result (λ t. t.items ≡ run_text net.now image.now (schedule cycles)) }
+    ensures text { Streams (S.written sink.old) (S.written sink.new)
+        (S.faults sink.old) (S.faults sink.new)
+        (run_text net.now image.now (schedule cycles)) result }
+    ensures later { S.faults sink.old ≤ S.faults sink.new }
 {
     let order = commit_order(alloc, net)?;
     let mut sim = Sim::new(alloc, net, image)?;
-    print_run(
-        alloc,
-        &mut sim,
-        net.mems.as_slice(),
-        &order,
-        count_outputs(net),
-        cycles,
-    )
+    let outputs = count_outputs(net);
+    print_run(sink, &mut sim, net.mems.as_slice(), &order, outputs, cycles)
 }
 
 /// The counts of a run of a netlist without delayed memories, with this image, for so many cycles.

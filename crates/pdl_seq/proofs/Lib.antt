@@ -9,4 +9,5 @@ pub mod Putting
 pub mod Limits
 pub mod First
 pub mod Telling
+pub mod Rooms
 pub mod Imaging

@@ -1,5 +1,5 @@
 -- Writes with the numbers of their threads: they are to words that are there, and their lines are those of the threads.
-use Rattle.std.proofs.Common.{◌≡◌, refl, ap, ap₂, ◌∙◌, ℕ, suc, List, [], ◌∷◌, ◌++◌, map, codes}
+use Rattle.std.proofs.Common.{◌≡◌, refl, ap, ap₂, ◌∙◌, ℕ, suc, Bool, true, false, if◌then◌else◌, List, [], ◌∷◌, ◌++◌, map, codes}
 use Rattle.std.specs.Prelude.{decimal}
 use Rattle.std.specs.List.{flat_map}
 use Rattle.std.proofs.lemmas.List.Elements.{All-append, All-map, All-nil, All-same}
@@ -37,3 +37,8 @@ pub none_told : (p : Pipe) (ws : List r_write.Write) → ws ≡ [] → AreWrites
 none_told p ws e =
     let P = λ (w : r_write.Write). IsWord p w.mem w.addr w.value in
     All-same P ws [] e (All-nil P)
+
+-- and those of a run that forgets what it told, where it streams
+pub told_less : (p : Pipe) (streams : Bool) (ws left : List r_write.Write) → left ≡ (if streams then [] else ws) → AreWrites p ws → AreWrites p left
+told_less p true ws left e told = none_told p left e
+told_less p false ws left e told = All-same (λ (w : r_write.Write). IsWord p w.mem w.addr w.value) left ws e told

@@ -1,6 +1,6 @@
 -- What a sequential run has done after some threads.
-use Rattle.std.specs.Prelude.{◌≡◌, ℕ, suc, ◌≤◌, List, [], ◌∷◌, ◌++◌, map, length}
-use Rattle.pdl_semantics.specs.Flat.{Commit, arrays_of}
+use Rattle.std.specs.Prelude.{◌≡◌, ℕ, suc, ◌-◌, ◌≤◌, Bool, true, false, List, [], ◌∷◌, ◌++◌, drop, map, length}
+use Rattle.pdl_semantics.specs.Flat.{Arrays, Commit, Pipe, arrays_of}
 use Rattle.pdl_semantics.specs.Sequential.{threads, after_turns}
 use Rattle.pdl_semantics.specs.Lines.{Column, column_at, put_line}
 use Rattle.pdl_facts.specs.Facts.{Sound}
@@ -29,7 +29,7 @@ numbered_writes n (cs ∷ rest) = map (numbered_write n) cs ++ numbered_writes (
 abbrev pub write_line : List Column → r_write.Write → List ℕ
 write_line ms w = put_line w.thread (column_at ms w.mem) (record { address = w.addr; value = w.value })
 
--- a run: its pipe, the words of the memories, the next thread's arguments, the writes, and how many threads were run, and may be
+-- a run: its pipe, the words of the memories, the next thread's arguments, the writes that it tells, how many threads were run, and may be, and whether it streams, and so tells the last thread's writes alone
 pub record Running : Type 0 where
   pub pipe : r_pipe.FlatPipe
   pub memories : List (List ℕ)
@@ -37,9 +37,19 @@ pub record Running : Type 0 where
   pub writes : List r_write.Write
   pub run : ℕ
   pub threads : ℕ
+  pub streams : Bool
 
--- it has run its threads from this image: its writes are theirs, and it stands where they have come to
+-- of how many threads the writes are told no more, after k threads: of all but the last where a run streams, else of none
+abbrev pub forgotten : Bool → ℕ → ℕ
+forgotten true k = k - 1
+forgotten false k = 0
+
+-- the writes that are told after k threads, with the numbers of their threads
+abbrev pub told_writes : Bool → Pipe → Arrays → ℕ → List r_write.Write
+told_writes streams p image k = numbered_writes (suc (forgotten streams k)) (drop (forgotten streams k) (threads p image k))
+
+-- it has run its threads from this image: the writes that it tells are theirs, and it stands where they have come to
 pub record HasRun (r : Running) (image : List (List ℕ)) : Type 0 where
-  pub writes : r.writes ≡ numbered_writes 1 (threads (form r.pipe).pipe (arrays_of image) r.run)
+  pub writes : r.writes ≡ told_writes r.streams (form r.pipe).pipe (arrays_of image) r.run
   pub memories : arrays_of r.memories ≡ (after_turns (form r.pipe).pipe (arrays_of image) r.run).arrays
   pub next : r.next ≡ (after_turns (form r.pipe).pipe (arrays_of image) r.run).next

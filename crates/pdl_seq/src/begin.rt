@@ -1,5 +1,5 @@
 // How a thread begins, and how its writes are told in the end.
-ghost use Rattle.std.specs.Prelude.{◌≡◌, ◌≤◌, ◌+◌, ◌++◌, map, length, vec_len, vec_capacity};
+ghost use Rattle.std.specs.Prelude.{◌≡◌, ◌≤◌, ◌+◌, ◌++◌, [], map, length, vec_len, vec_capacity, if◌then◌else◌};
 ghost use Rattle.pdl_form.specs.Form.{Form};
 ghost use Rattle.pdl_seq.specs.Turns.{begun_run, run_view, commits_view, rooms};
 ghost use Rattle.pdl_seq.specs.Fits.{IsFit};
@@ -21,6 +21,17 @@ pub fn begin(turn: &mut Turn)
     fill(turn.values.as_mut_slice(), turn.next.as_slice());
     turn.next.clear();
     turn.commits.clear();
+}
+
+/// Where a run streams, the writes that it has told are forgotten.
+pub fn forget(streams: bool, writes: &mut Vec<Write>)
+    ensures writes { writes.new.items ≡ (if streams then [] else writes.old.items) }
+    ensures count { vec_len writes.new ≡ (if streams then 0 else vec_len writes.old) }
+    ensures room { vec_capacity writes.new ≡ vec_capacity writes.old }
+{
+    if streams {
+        writes.clear();
+    }
 }
 
 /// The writes of a thread of this number are told after those of earlier ones.

@@ -1,5 +1,5 @@
 // A sequential run.
-ghost use Rattle.std.specs.Prelude.{◌≡◌, ◌<◌, ◌+◌, [], List, ℕ, IfOk};
+ghost use Rattle.std.specs.Prelude.{◌≡◌, ◌<◌, ◌+◌, ◌-◌, ◌^◌, [], List, ℕ, true, false, IfOk};
 ghost use Rattle.pdl_tree.specs.View.{pipe_view};
 ghost use Rattle.pdl_rules.specs.Memories.{infos_of};
 ghost use Rattle.pdl_form.specs.Form.{form_of};
@@ -9,9 +9,9 @@ ghost use Rattle.pdl_seq.specs.Fits.{IsImageFor, AreWrites};
 ghost use Rattle.pdl_seq.specs.Runs.{IsRunnable, HasRun};
 
 use crate::accepted::runnable;
-use crate::begin::{begin, tell};
+use crate::begin::{begin, forget, tell};
 use crate::commit::Write;
-use crate::setup::{MOST_WRITES, before_all};
+use crate::setup::{before_all, room_for};
 use crate::turn::{Turn, run_turn};
 use pdl_check::Accepted;
 use pdl_form::FlatPipe;
@@ -20,7 +20,7 @@ use pdl_kit::NoMemory;
 use std::alloc::Global;
 use std::marker::Model;
 
-/// A run of a pipe's threads, one after another.
+/// A run of a pipe's threads, one after another, which keeps the writes of all of them or, where it streams, those of the last one alone.
 #[derive(Drop)]
 pub struct SeqRun<'p> {
     pipe: &'p FlatPipe,
@@ -28,6 +28,7 @@ pub struct SeqRun<'p> {
     writes: Vec<Write>,
     run: u32,
     threads: u32,
+    streams: bool,
 }
 
 impl<'p> Model for SeqRun<'p> {
@@ -47,7 +48,7 @@ impl<'p> Model for SeqRun<'p> {
 }
 
 impl<'p> SeqRun<'p> {
-    /// The run of an accepted pipe whose memories hold the image, with room for so many threads, of which none was run.
+    /// The run of an accepted pipe whose memories hold the image, with room for the writes of so many threads, of which none was run.
     pub fn new(
         alloc: Global,
         accepted: &'p Accepted,
@@ -60,18 +61,39 @@ impl<'p> SeqRun<'p> {
             form r.pipe ≡ form_of (pipe_view accepted.now.typed.pipe)) }
         ensures count { IfOk result (λ r. r.run ≡ 0) }
         ensures threads { IfOk result (λ r. r.threads ≡ threads) }
+        ensures keeps { IfOk result (λ r. r.streams ≡ false) }
         ensures writes { IfOk result (λ r. r.writes ≡ []) }
     {
         runnable();
-        SeqRun::of_flat(alloc, accepted.flat(), image, threads)
+        SeqRun::of_flat(alloc, accepted.flat(), image, threads, false)
     }
 
-    // The same of a pipe in flat form, of the whole language.
+    /// The same with room for the writes of one thread, which streams: up to 2^32 - 1 threads can be run, and each forgets the writes of the one before.
+    pub fn streaming(
+        alloc: Global,
+        accepted: &'p Accepted,
+        image: &Image,
+    ) -> Result<SeqRun<'p>, NoMemory>
+        requires { IsImage (infos_of (pipe_view accepted.now.typed.pipe).mems) image.now }
+        ensures run { IfOk result (λ r. HasRun r image.now) }
+        ensures pipe { IfOk result (λ r.
+            form r.pipe ≡ form_of (pipe_view accepted.now.typed.pipe)) }
+        ensures count { IfOk result (λ r. r.run ≡ 0) }
+        ensures threads { IfOk result (λ r. r.threads ≡ 2 ^ 32 - 1) }
+        ensures streams { IfOk result (λ r. r.streams ≡ true) }
+        ensures writes { IfOk result (λ r. r.writes ≡ []) }
+    {
+        runnable();
+        SeqRun::of_flat(alloc, accepted.flat(), image, u32::MAX, true)
+    }
+
+    // The run of a pipe in flat form, of the whole language.
     fn of_flat(
         alloc: Global,
         pipe: &'p FlatPipe,
         image: &Image,
         threads: u32,
+        streams: bool,
     ) -> Result<SeqRun<'p>, NoMemory>
         requires run { IsRunnable (form pipe.now) }
         requires image { IsImageFor (form pipe.now).pipe image.now }
@@ -79,16 +101,18 @@ impl<'p> SeqRun<'p> {
         ensures pipe { IfOk result (λ r. r.pipe ≡ pipe.now) }
         ensures count { IfOk result (λ r. r.run ≡ 0) }
         ensures threads { IfOk result (λ r. r.threads ≡ threads) }
+        ensures streams { IfOk result (λ r. r.streams ≡ streams) }
         ensures writes { IfOk result (λ r. r.writes ≡ []) }
     {
         let turn = before_all(alloc, pipe, image)?;
-        let writes = Vec::with_capacity(alloc, MOST_WRITES * threads as usize)?;
+        let writes = Vec::with_capacity(alloc, room_for(threads, streams))?;
         Ok(SeqRun {
             pipe,
             turn,
             writes,
             run: 0,
             threads,
+            streams,
         })
     }
 
@@ -100,14 +124,16 @@ impl<'p> SeqRun<'p> {
         ensures pipe { self.new.pipe ≡ self.old.pipe }
         ensures count { self.new.run ≡ self.old.run + 1 }
         ensures threads { self.new.threads ≡ self.old.threads }
+        ensures streams { self.new.streams ≡ self.old.streams }
     {
         begin(&mut self.turn);
         run_turn(self.pipe, &mut self.turn);
         self.run += 1;
+        forget(self.streams, &mut self.writes);
         tell(self.run, self.turn.commits.as_slice(), &mut self.writes);
     }
 
-    /// Lends the writes of the threads that were run, thread by thread, each thread's in text order.
+    /// Lends the writes of the threads that were run, thread by thread, each thread's in text order; of a run that streams those of the last thread.
     pub fn writes(&self) -> &[Write]
         ensures writes { result.now ≡ self.now.writes }
         ensures words { AreWrites (form self.now.pipe).pipe result.now }

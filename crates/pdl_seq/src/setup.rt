@@ -1,5 +1,5 @@
 // What a run begins with.
-ghost use Rattle.std.specs.Prelude.{◌≡◌, ◌≤◌, [], length, replicate, IfOk, vec_capacity};
+ghost use Rattle.std.specs.Prelude.{◌≡◌, ◌≤◌, ◌*◌, [], length, replicate, IfOk, vec_capacity, if◌then◌else◌};
 ghost use Rattle.pdl_form.specs.Whole.{form};
 ghost use Rattle.pdl_seq.specs.Turns.{rooms};
 
@@ -12,6 +12,17 @@ use std::alloc::Global;
 
 /// How many writes a thread has at most.
 pub const MOST_WRITES: usize = 16;
+
+/// For how many writes a run of so many threads has room: for those of one thread where it streams, and of all where it doesn't.
+pub fn room_for(threads: u32, streams: bool) -> usize
+    ensures { result ≡ (if streams then 16 else 16 * threads) }
+{
+    if streams {
+        MOST_WRITES
+    } else {
+        MOST_WRITES * threads as usize
+    }
+}
 
 // The memories with the words of an image.
 fn memories(alloc: Global, image: &Image, count: usize) -> Result<Vec<Words>, NoMemory>

@@ -1,10 +1,9 @@
 -- The netlist of a pipe of the whole language, in signals, and what it shows with its delayed memories outside.
-use Rattle.std.specs.Prelude.{◌≡◌, ℕ, zero, suc, ◌+◌, ◌*◌, ◌-◌, ◌/◌, ◌^◌, ◌<◌, Bool, true, false, List, [], ◌∷◌, ◌++◌, Option, Some, None, if◌then◌else◌, length, map, codes, slice_index_or}
-use Rattle.pdl_word.specs.Words.{bit}
+use Rattle.std.specs.Prelude.{◌≡◌, ℕ, suc, ◌+◌, ◌*◌, ◌-◌, ◌^◌, ◌<◌, true, false, List, [], ◌∷◌, ◌++◌, Option, Some, None, if◌then◌else◌, length, map, codes, slice_index_or}
 use Rattle.pdl_kit.specs.declared.mem_info.MemInfo.{MemInfo}
 use Rattle.pdl_semantics.specs.Flat.{Mem, Pipe, arrays_of}
 use Rattle.pdl_semantics.specs.Stages.{mem_at, reply_place}
-use Rattle.pdl_semantics.specs.Cycle.{Ports, Turn, turns, for_mems}
+use Rattle.pdl_semantics.specs.Cycle.{Turn, turns, for_mems}
 use Rattle.pdl_net.specs.declared.Dir.TheVariants.{In}
 use Rattle.pdl_net.specs.declared.Port.{Port}
 use Rattle.pdl_net.specs.declared.Netlist.{Netlist}
@@ -12,11 +11,11 @@ use Rattle.pdl_net.specs.Circuit.{Circuit, State, Output, array_depth}
 use Rattle.pdl_net.specs.Signal.{Signal, input_signal}
 use Rattle.pdl_net.specs.declared.Net.{Net}
 use Rattle.pdl_net.specs.Meaning.{IsThere, signal}
-use Rattle.pdl_net.specs.Run.{reply, delayed_mems, nports}
+use Rattle.pdl_net.specs.Run.{delayed_mems, nports}
 use Rattle.pdl_image.specs.Images.{IsImage}
 use Rattle.pdl_lockapi.specs.Lock.{start}
 use Rattle.pdl_lockapi.specs.Laws.{IsReset, HasImage, words_of}
-use Rattle.pdl_machine_facts.specs.Ports.{stage_values, all_commit_values}
+pub use Rattle.pdl_machine_facts.specs.Ports.{replies_of, request_values, all_request_values, whole_values}
 use Rattle.pdl_pipe_law.specs.Walk.{Locks, is_locked, zero_bit}
 use Rattle.pdl_pipe_law.specs.Places.{delayed_count, comb_place, net_place}
 use Rattle.pdl_pipe_law.specs.Views.{View, Gates}
@@ -100,24 +99,6 @@ pub record IsWhole (p : Pipe) (names : ℕ → List ℕ) (ls : Locks) (vs : ℕ 
 -- an image for the netlist's memories, in the pipe's order
 abbrev pub in_order : Pipe → List (List ℕ) → List (List ℕ)
 in_order p image = for_mems (λ m. slice_index_or image (net_place p m) []) 0 p.mems
-
--- the reply bits of a cycle for n delayed memories
-abbrev pub replies_of : ℕ → ℕ → List Bool
-replies_of zero b = []
-replies_of (suc n) b = reply b ∷ replies_of n (b / 2)
-
--- whether there is a request, and its address, 0 where there is none
-abbrev pub request_values : Option ℕ → List ℕ
-request_values None = 0 ∷ 0 ∷ []
-request_values (Some a) = 1 ∷ a ∷ []
-
-abbrev pub all_request_values : List Mem → List (Option ℕ) → List ℕ
-all_request_values (m ∷ ms) (q ∷ qs) = (if m.delayed then request_values q else []) ++ all_request_values ms qs
-all_request_values _ _ = []
-
--- the values of all ports of the machine, in the order of the netlist's outputs
-abbrev pub whole_values : Pipe → Ports → List ℕ
-whole_values p o = stage_values o.valid o.moves ++ (all_commit_values p.mems o.commits ++ (all_request_values p.mems o.requests ++ bit o.ended ∷ bit o.squash ∷ []))
 
 abbrev pub whole_had : Pipe → Turn → Seen
 whole_had p t = record { ports = whole_values p t.ports; wait = t.wait }

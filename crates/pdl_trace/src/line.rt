@@ -36,7 +36,8 @@ impl Line {
 
     /// The line's bytes.
     pub fn as_bytes(&self) -> &[u8]
-        ensures { result.now ≡ self.now }
+        ensures bytes { result.now ≡ self.now }
+        ensures short { length result.now ≤ 128 }
     {
         &self.bytes[..self.len]
     }

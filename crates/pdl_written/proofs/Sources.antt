@@ -12,7 +12,7 @@ use Rattle.pdl_grammar.specs.Text.{IsText}
 use Rattle.pdl_net.specs.declared.Netlist.{Netlist}
 use Rattle.pdl_pipe_law.specs.Follows.{Follows}
 use Rattle.pdl_rules.specs.Refusal.{is_comb}
-use Rattle.pdl_follows.specs.Memories.{is_delayed, net_infos}
+use Rattle.pdl_follows.specs.Memories.{is_delayed}
 use Rattle.pdl_follows.specs.Follows as whole
 use Rattle.pdl_vtext.specs.Words.{is_name}
 use Rattle.pdl_vlog.specs.Layout.{verilog}

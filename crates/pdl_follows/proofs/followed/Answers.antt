@@ -3,7 +3,7 @@ use Rattle.pdl_semantics.specs.Flatten.{flat}
 use Rattle.pdl_image.specs.Images.{image}
 use Rattle.pdl_follows.specs.Memories.{taken_in_order}
 use Rattle.pdl_follows.proofs.Lines.{shows_turns}
-use Rattle.pdl_follows.proofs.Sequential.{refines, moves, ends}
+use Rattle.pdl_follows.proofs.Sequential.{refines, moves, ends, runs}
 use Rattle.pdl_follows.proofs.FollowsMade.{declared}
 use Rattle.pdl_follows.proofs.Images.{same_image}
 use Rattle.pdl_follows.proofs.followed.Goals as goal
@@ -14,5 +14,6 @@ returns c = record {
   writes = refines;
   moves = moves;
   ends = ends;
+  runs = runs;
   images = λ p rules n follows text. same_image p (declared p rules).distinct text ∙ ap (λ ms. taken_in_order (flat p) (image ms text)) (sym follows.mems);
 }

@@ -8,4 +8,5 @@ returns c =
     let four = c.joined-four.ensures _ _ three c.asm_command.ensures in
     let five = c.joined-five.ensures _ _ four c.gen_command.ensures in
     let six = c.joined-six.ensures _ _ five c.build_command.ensures in
-    c.joined.ensures _ _ six c.sim_command.ensures
+    let seven = c.joined-seven.ensures _ _ six c.sim_command.ensures in
+    c.joined.ensures _ _ seven c.wave_command.ensures

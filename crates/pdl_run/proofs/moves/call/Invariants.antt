@@ -1,6 +1,6 @@
 use Rattle.std.proofs.Common.{◌≡◌, drop}
-use Rattle.pdl_semantics.specs.Cycle as stated
 use Rattle.pdl_run.specs.Acts.{acts_of}
+use Rattle.pdl_semantics.specs.Cycle as stated
 use Rattle.pdl_run.proofs.moves.call.Given as goal
 
 -- the stages left decide
@@ -8,5 +8,5 @@ abbrev pub invariant-loop-stage : goal.invariant-loop-stage
 invariant-loop-stage l =
     record {
       left : stated.child_of (acts_of l.stage-index (drop l.stage-index l.stages)) ≡ stated.child_of (acts_of 0 l.stages);
-      way : l.way ≡ l.initial.way;
+      place : l.place ≡ l.initial.place;
     }

@@ -1,26 +1,30 @@
-use Rattle.std.proofs.Common.{◌≡◌, ◌<◌, length, get_or, arith}
-use Rattle.pdl_run.specs.View.{standing_view}
-use Rattle.pdl_run.specs.Acts.{first_of, comes_of, stays_of, stages_after}
-use Rattle.pdl_run.proofs.Ways.{stages_set, stage_in, left_more, ways_more}
+use Rattle.std.proofs.Common.{◌≡◌, ◌≤◌, ◌<◌, ◌+◌, ◌-◌, ◌∙◌, ap, ℕ, length, drop, get_or, arith}
+use Rattle.pdl_semantics.specs.Cycle.{next_thread}
+use Rattle.pdl_form.specs.Whole.{form}
+use Rattle.pdl_run.specs.declared.stage.Stage as r_stage
+use Rattle.pdl_run.specs.View.{thread_in}
+use Rattle.pdl_run.specs.Acts.{all_of}
+use Rattle.pdl_run.proofs.Moving.{moved}
 use Rattle.pdl_run.proofs.moves.move_on.Goals as goal
 
 pub loop-k-preserved : goal.loop-k-preserved
 loop-k-preserved c =
+    let p = (form c.args.pipe.now).pipe in
+    let init = c.args.stages.now in
     let now = c.loop-k.stages in
-    let all = c.args.stages.now in
-    let k = c.loop-k.k in
-    let x = c.index-stages-k.result in
-    let y = c.pass.new.stage in
-    let here : k < length now = omega arith in
-    let stands : standing_view y.slot ≡ first_of (standing_view c.loop-k.way) (stays_of (get_or now k x)) = c.pass.ensures.stage in
-    let comes : standing_view c.pass.new.way ≡ comes_of (get_or now k x) = c.pass.ensures.way in
+    let new = c.pass.new.stages in
+    let j = c.loop-k.k - 1 in
+    let next : c.loop-k.k ≡ j + 1 = omega arith in
+    let long = c.loop-k.invariant.count in
+    let same = c.pass.auto.stages in
+    let less : j < length init = omega arith in
+    let done : (q : ℕ) (d : r_stage.Stage) → j + 1 ≤ q → q < length now → thread_in (get_or now q d).slot ≡ next_thread p q (all_of (j + 1) (drop (j + 1) init)) =
+    λ q d low high. c.loop-k.invariant.done q d (omega (arith, low, next)) high ∙ ap (λ i. next_thread p q (all_of i (drop i init))) next in
+    let left : (i : ℕ) (d : r_stage.Stage) → i < j + 1 → get_or now i d ≡ get_or init i d = λ i d low. c.loop-k.invariant.left i d (omega (arith, low, next)) in
     record {
-      done =
-          ways_more now all k x y here c.loop-k.auto.stages c.loop-k.invariant.left (standing_view c.loop-k.way) (standing_view c.pass.new.way) (stages_after (standing_view c.args.way.now) all) stands comes c.loop-k.invariant.done;
-      left = left_more now all k x y here c.loop-k.auto.stages c.loop-k.invariant.left;
-      wide = λ f wide way.
-          let these = c.loop-k.invariant.wide f wide way in
-          stages_set f now k y these (c.pass.ensures.wide f (stage_in f now k x these here) (c.loop-k.invariant.way_wide f wide way));
-      way_wide = λ f wide way.
-          c.pass.ensures.way_wide f (stage_in f now k x (c.loop-k.invariant.wide f wide way) here) (c.loop-k.invariant.way_wide f wide way);
+      small = omega arith;
+      count = omega arith;
+      done = λ q d low high. moved p c.requires.leads j init now new less c.requires.count long left done c.pass.ensures.there c.pass.ensures.here q d low (omega (arith, high, same));
+      left = λ q d low. c.pass.ensures.before q d low ∙ left q d (omega (arith, low));
+      wide = λ f h. c.pass.ensures.wide f (c.loop-k.invariant.wide f h);
     }

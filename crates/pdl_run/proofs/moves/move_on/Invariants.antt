@@ -1,16 +1,23 @@
-use Rattle.std.proofs.Common.{◌≡◌, ◌++◌, take, drop}
+use Rattle.std.proofs.Common.{◌≡◌, ◌≤◌, ◌<◌, ℕ, drop, length, get_or}
+use Rattle.pdl_form.specs.Whole.{form}
+use Rattle.pdl_run.specs.View.{thread_in}
+use Rattle.pdl_run.specs.Acts.{all_of}
+use Rattle.pdl_run.specs.Ready.{AreStages}
 use Rattle.pdl_form.specs.Form.{Form}
-use Rattle.pdl_run.specs.View.{standing_view, seats}
-use Rattle.pdl_run.specs.Acts.{stages_after}
-use Rattle.pdl_run.specs.Ready.{IsWide, AreStages}
+use Rattle.pdl_semantics.specs.Cycle as stated
+use Rattle.pdl_run.specs.declared.stage.Stage as r_stage
 use Rattle.pdl_run.proofs.moves.move_on.Given as goal
 
--- who comes into the stages so far stands there, the others are as they were
+-- who comes into the stages from this one on, or stays there, stands there
 abbrev pub invariant-loop-k : goal.invariant-loop-k
 invariant-loop-k l =
     record {
-      done : seats (take l.k l.stages) ++ stages_after (standing_view l.way) (drop l.k l.initial.stages) ≡ stages_after (standing_view l.initial.way) l.initial.stages;
-      left : drop l.k l.stages ≡ drop l.k l.initial.stages;
-      wide : (f : Form) → AreStages f l.initial.stages → IsWide f l.initial.way → AreStages f l.stages;
-      way_wide : (f : Form) → AreStages f l.initial.stages → IsWide f l.initial.way → IsWide f l.way;
+      small : l.k ≤ length l.stages;
+      count : length l.stages ≡ length l.initial.stages;
+      done : (q : ℕ) (d : r_stage.Stage) → l.k ≤ q → q < length l.stages → thread_in (get_or l.stages q d).slot ≡ stated.next_thread (form l.pipe).pipe q (all_of l.k (drop l.k l.initial.stages));
+      left : (q : ℕ) (d : r_stage.Stage) → q < l.k → get_or l.stages q d ≡ get_or l.initial.stages q d;
+      wide : (f : Form) → AreStages f l.initial.stages → AreStages f l.stages;
     }
+
+abbrev pub decreases-loop-k : goal.decreases-loop-k
+decreases-loop-k l = l.k

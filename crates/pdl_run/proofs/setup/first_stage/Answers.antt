@@ -1,12 +1,12 @@
 use Rattle.std.proofs.Common.{◌∙◌, sym, ap, ℕ, List, Some}
+use Rattle.pdl_semantics.specs.Cycle.{born_thread}
 use Rattle.pdl_form.specs.Whole.{form}
-use Rattle.pdl_run.specs.Acts.{called_by}
 use Rattle.pdl_run.proofs.setup.first_stage.Goals as goal
 
 pub returns-clause-stands : goal.returns-clause-stands
 returns-clause-stands c =
     let p = (form c.args.pipe.now).pipe in
-    c.begin.ensures.thread p (sym c.in_ok-first.ensures.wide.slot.count) ∙ ap (λ (args : List ℕ). called_by p 1 (Some args)) c.start.ensures
+    c.begin.ensures.thread p (sym c.in_ok-first.ensures.wide.slot.count) ∙ ap (λ (args : List ℕ). born_thread p 1 (Some args)) c.start.ensures
 
 pub returns-clause-wide : goal.returns-clause-wide
 returns-clause-wide c =

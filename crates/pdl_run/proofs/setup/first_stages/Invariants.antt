@@ -3,7 +3,7 @@ use Rattle.std.specs.Prelude.{vec_len}
 use Rattle.pdl_form.specs.Whole.{form}
 use Rattle.pdl_run.specs.View.{seats}
 use Rattle.pdl_run.specs.Ready.{AreStages}
-use Rattle.pdl_run.specs.Running.{seats_first}
+use Rattle.pdl_run.specs.Firsts.{seats_first}
 use Rattle.pdl_run.proofs.setup.first_stages.Given as goal
 
 -- those after the first are empty so far

@@ -1,6 +1,6 @@
 use Rattle.std.proofs.Common.{◌≡◌, drop}
-use Rattle.pdl_semantics.specs.Cycle as stated
 use Rattle.pdl_run.specs.Acts.{acts_of}
+use Rattle.pdl_semantics.specs.Cycle as stated
 use Rattle.pdl_run.proofs.step.is_released.Given as goal
 
 -- the stages left decide

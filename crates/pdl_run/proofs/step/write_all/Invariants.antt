@@ -1,6 +1,6 @@
 use Rattle.std.proofs.Common.{◌≡◌, ◌≤◌, drop, length}
-use Rattle.pdl_semantics.specs.Cycle as stated
 use Rattle.pdl_run.specs.Acts.{acts_of}
+use Rattle.pdl_semantics.specs.Cycle as stated
 use Rattle.pdl_run.proofs.step.write_all.Given as goal
 
 -- the stages from this one on have made their writes

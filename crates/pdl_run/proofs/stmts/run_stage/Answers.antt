@@ -1,28 +1,24 @@
-use Rattle.std.proofs.Common.{◌≡◌, ◌≤◌, ◌+◌, ◌∙◌, sym, ap, subst, ℕ, suc, List, ◌∷◌, ◌&&◌, map, drop, length, arith}
-use Rattle.std.specs.Prelude.{vec_capacity}
+use Rattle.std.proofs.Common.{◌≡◌, ◌+◌, ◌∙◌, sym, ap, subst, ℕ, suc, List, ◌∷◌, map, drop, length, arith}
 use Rattle.std.proofs.lemmas.List.{length-drop}
 use Rattle.pdl_semantics.specs.Flat.{Stmt}
-use Rattle.pdl_semantics.specs.Machine.{deeds_after_all}
+use Rattle.pdl_semantics.specs.Machine.{Deeds, deeds_after_all}
 use Rattle.pdl_form.specs.Form.{stmt_at}
 use Rattle.pdl_form.specs.Whole.{form}
 use Rattle.pdl_form.specs.View.{stmt_view}
 use Rattle.pdl_run.specs.View.{deeds_view}
-use Rattle.pdl_run.specs.Room.{Capacities, HasRoomFor}
-use Rattle.pdl_run.specs.Doing.{word_of, strip, all_let_move}
-use Rattle.pdl_run.proofs.Doing.{deeds_more, ready_more}
+use Rattle.pdl_run.specs.Room.{HasRoomFor, IsLarge}
+use Rattle.pdl_run.specs.Doing.{word_of}
 use Rattle.pdl_run.proofs.Fitting.{safe_op, fit_more}
 use Rattle.pdl_run.proofs.Rows.{row_typed, row_split}
-use Rattle.pdl_run.proofs.Typing.{served}
 use Rattle.pdl_run.proofs.stmts.run_stage.Goals as goal
 
 pub run_stmt-requires-clause-safe : goal.run_stmt-requires-clause-safe
 run_stmt-requires-clause-safe c on =
     let f = form c.args.pipe.now in
     let x = c.index-stmts-row.result in
-    let typed = row_typed f c.stmts-stmts.result.now c.stmts-stmts.ensures (served f c.requires.run) c.rows-row-items.result.now c.rows-row-items.ensures.within c.loop-row.row-index c.loop-row-test.true x c.index-stmts-row.is in
-    let same : vec_capacity c.loop-row.deeds.args ≡ vec_capacity c.args.deeds.now.args = ap (λ (r : Capacities). r.args) c.loop-row.invariant.capacities in
-    let room : length f.pipe.start ≤ vec_capacity c.args.deeds.now.args = c.requires.args in
-    safe_op f c.requires.run.typed.wide c.args.memories.now c.requires.memories (stmt_view x).op (deeds_view c.loop-row.deeds) (vec_capacity c.loop-row.deeds.args) typed c.loop-row.invariant.fit (omega arith)
+    let typed = row_typed f c.stmts-stmts.result.now c.stmts-stmts.ensures c.requires.typed.stmts c.rows-row-items.result.now c.rows-row-items.ensures.within c.loop-row.row-index c.loop-row-test.true x c.index-stmts-row.is in
+    let large = subst (IsLarge 0 (length f.pipe.start)) (sym c.loop-row.invariant.capacities) c.requires.large in
+    safe_op f c.requires.typed.wide c.args.memories.now c.requires.memories (stmt_view x).op (deeds_view c.loop-row.deeds) _ 0 typed c.loop-row.invariant.fit large
 
 pub loop-row-preserved : goal.loop-row-preserved
 loop-row-preserved c =
@@ -35,19 +31,15 @@ loop-row-preserved c =
     let old = deeds_view c.loop-row.deeds in
     let new = deeds_view c.run_stmt.new.deeds in
     let rest = map (stmt_at f.pipe.stmts) (drop (j + 1) rows) in
-    let typed = row_typed f c.stmts-stmts.result.now c.stmts-stmts.ensures (served f c.requires.run) rows c.rows-row-items.ensures.within j c.loop-row-test.true x c.index-stmts-row.is in
-    let split : map (stmt_at f.pipe.stmts) (drop j rows) ≡ s ∷ rest = row_split f c.stmts-stmts.result.now c.stmts-stmts.ensures (served f c.requires.run) rows c.rows-row-items.ensures.within j c.loop-row-test.true x c.index-stmts-row.is in
+    let typed = row_typed f c.stmts-stmts.result.now c.stmts-stmts.ensures c.requires.typed.stmts rows c.rows-row-items.ensures.within j c.loop-row-test.true x c.index-stmts-row.is in
+    let split : map (stmt_at f.pipe.stmts) (drop j rows) ≡ s ∷ rest = row_split f c.stmts-stmts.result.now c.stmts-stmts.ensures c.requires.typed.stmts rows c.rows-row-items.ensures.within j c.loop-row-test.true x c.index-stmts-row.is in
     let one : length (drop j rows) ≡ suc (length (drop (j + 1) rows)) = omega (arith, length-drop {A = ℕ}) in
     record {
       deeds =
-          deeds_more ms c.args.thread s rest old new c.run_stmt.ensures.deeds
-          ∙ ap (λ (ss : List Stmt). strip (deeds_after_all (word_of ms c.args.thread) ss old)) (sym split)
+          ap (λ (d : Deeds). deeds_after_all (word_of ms c.args.thread) rest d) c.run_stmt.ensures.deeds
+          ∙ ap (λ (ss : List Stmt). deeds_after_all (word_of ms c.args.thread) ss old) (sym split)
           ∙ c.loop-row.invariant.deeds;
-      ready =
-          ready_more ms c.args.thread s rest old new c.run_stmt.ensures.deeds c.loop-row.deeds.ready c.run_stmt.new.deeds.ready c.run_stmt.ensures.ready
-          ∙ ap (λ (ss : List Stmt). c.loop-row.deeds.ready && all_let_move ms c.args.thread ss old) (sym split)
-          ∙ c.loop-row.invariant.ready;
-      fit = fit_more f c.requires.run.typed.wide ms c.requires.memories c.args.thread s old new c.run_stmt.ensures.deeds typed c.loop-row.invariant.fit;
+      fit = fit_more f c.requires.typed.wide ms c.requires.memories c.args.thread s old new c.run_stmt.ensures.deeds typed c.loop-row.invariant.fit;
       room = c.run_stmt.ensures.room (length (drop (j + 1) rows)) (subst (λ n. HasRoomFor n c.loop-row.deeds) one c.loop-row.invariant.room);
       capacities = c.run_stmt.ensures.capacities ∙ c.loop-row.invariant.capacities;
     }

@@ -1,4 +1,6 @@
-use Rattle.std.proofs.Common.{◌≡◌, sym, subst, replicate, arith}
+use Rattle.std.proofs.Common.{◌≡◌, ◌∙◌, sym, ap, subst, List, replicate, arith}
+use Rattle.std.specs.Prelude.{count_by}
+use Rattle.pdl_semantics.specs.Flat.{Mem}
 use Rattle.pdl_semantics.specs.Flat.{arrays_of}
 use Rattle.pdl_semantics.specs.Cycle as stated
 use Rattle.pdl_tree.specs.View.{pipe_view}
@@ -13,7 +15,7 @@ use Rattle.pdl_machine.proofs.machine.Machine.new.Goals as goal
 pub new-requires-clause-run : goal.new-requires-clause-run
 new-requires-clause-run c =
     let a = c.args.accepted.now in
-    subst IsRunnable (sym (form_is a)) (runnable (pipe_view a.typed.pipe) a.kept a.source a.letters a.compiled (c.typed_form.ensures (pipe_view a.typed.pipe) a.kept a.letters))
+    subst IsRunnable (sym (form_is a)) (runnable (pipe_view a.typed.pipe) a.kept a.source a.letters (c.typed_form.ensures (pipe_view a.typed.pipe) a.kept a.letters))
 
 pub new-requires-clause-image : goal.new-requires-clause-image
 new-requires-clause-image c =
@@ -22,11 +24,11 @@ new-requires-clause-image c =
 
 pub returns-clause-first : goal.returns-clause-first
 returns-clause-first c =
-    subst (λ (f : Form). state_in f.pipe c.in_ok-run.run' ≡ stated.first f.pipe (arrays_of c.args.image.now)) (form_is c.args.accepted.now) c.in_ok-run.ensures.first
+    subst (λ (f : Form). state_in c.in_ok-run.run' ≡ stated.first f.pipe (arrays_of c.args.image.now)) (form_is c.args.accepted.now) c.in_ok-run.ensures.first
 
 pub returns-clause-run : goal.returns-clause-run
 returns-clause-run c =
-    subst (λ (f : Form). state_in f.pipe c.in_ok-run.run' ≡ stated.first f.pipe (arrays_of c.args.image.now)) (form_is c.args.accepted.now) c.in_ok-run.ensures.first
+    subst (λ (f : Form). state_in c.in_ok-run.run' ≡ stated.first f.pipe (arrays_of c.args.image.now)) (form_is c.args.accepted.now) c.in_ok-run.ensures.first
 
 pub returns-clause-shown : goal.returns-clause-shown
 returns-clause-shown c =
@@ -37,7 +39,8 @@ invariant_of-result c =
     let a = c.args.accepted.now in
     let first : c.in_ok-run.run'.next ≡ 2 = c.in_ok-run.ensures.next in
     record {
-      runnable = subst IsRunnable (sym (form_is a)) (runnable (pipe_view a.typed.pipe) a.kept a.source a.letters a.compiled (c.typed_form.ensures (pipe_view a.typed.pipe) a.kept a.letters));
+      runnable = subst IsRunnable (sym (form_is a)) (runnable (pipe_view a.typed.pipe) a.kept a.source a.letters (c.typed_form.ensures (pipe_view a.typed.pipe) a.kept a.letters));
       runs = c.in_ok-run.ensures.runs;
+      replies = c.in_ok-replies.ensures ∙ ap (λ (ms : List Mem). count_by (λ (x : Mem). x.delayed) ms) c.mems.ensures.mems;
       next = omega arith;
     }

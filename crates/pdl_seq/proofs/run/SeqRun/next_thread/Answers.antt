@@ -1,5 +1,5 @@
-use Rattle.std.proofs.Common.{◌≡◌, ◌≤◌, ◌+◌, ◌++◌, ◌∙◌, List, refl, sym, ap, subst, suc, map, length, arith}
-use Rattle.std.specs.Prelude.{vec_capacity}
+use Rattle.std.proofs.Common.{◌≡◌, ◌≤◌, ◌+◌, ◌-◌, ◌++◌, ◌∙◌, List, refl, sym, ap, ap₂, subst, suc, map, length, arith}
+use Rattle.std.specs.Prelude.{vec_len, vec_capacity}
 use Rattle.pdl_semantics.specs.Flat.{arrays_of}
 use Rattle.pdl_semantics.specs.Sequential.{Run, run_all, thread}
 use Rattle.pdl_form.specs.Whole.{form}
@@ -7,8 +7,10 @@ use Rattle.pdl_seq.specs.Turns.{Rooms, rooms, commits_view, run_view}
 use Rattle.pdl_seq.specs.Runs.{Running, HasRun, numbered_write}
 use Rattle.pdl_seq.specs.declared.commit.Commit as r_commit
 use Rattle.pdl_seq.proofs.Few.{few, few_lent}
-use Rattle.pdl_seq.proofs.Telling.{told_more}
-use Rattle.pdl_seq.proofs.Threads.{arrays_next, args_next, writes_next}
+use Rattle.pdl_seq.specs.declared.commit.Write.{Write}
+use Rattle.pdl_seq.proofs.Telling.{told_more, told_less}
+use Rattle.pdl_seq.proofs.Rooms.{room_next, room_left, room_same}
+use Rattle.pdl_seq.proofs.Threads.{arrays_next, args_next, told_next}
 use Rattle.pdl_seq.proofs.run.SeqRun.next_thread.Goals as goal
 
 pub begin-requires : goal.begin-requires
@@ -38,8 +40,10 @@ tell-requires c =
     let run : c.self.inside.run ≡ c.args.self.now.run = ap (λ (r : Running). r.run) c.self.view_is in
     let threads : c.self.inside.threads ≡ c.args.self.now.threads = ap (λ (r : Running). r.threads) c.self.view_is in
     let left = c.requires in
-    let room = c.self.invariant.writes in
-    record { room = omega arith }
+    let fits =
+    room_next c.self.inside.streams (vec_len c.self.inside.writes) (vec_len c.forget.new.writes) (c.self.inside.threads - c.self.inside.run) (c.self.inside.threads - (c.self.inside.run + 1)) (vec_capacity c.self.inside.writes)
+    (length c.as_slice.result.now) c.self.invariant.writes (omega arith) c.forget.ensures.count most in
+    record { room = omega (arith, fits, c.forget.ensures.room) }
 
 pub invariant_of-self : goal.invariant_of-self
 invariant_of-self c =
@@ -49,20 +53,22 @@ invariant_of-self c =
     let run : c.self.inside.run ≡ c.args.self.now.run = ap (λ (r : Running). r.run) c.self.view_is in
     let threads : c.self.inside.threads ≡ c.args.self.now.threads = ap (λ (r : Running). r.threads) c.self.view_is in
     let left = c.requires in
-    let room = c.self.invariant.writes in
-    let count = c.tell.ensures.count in
-    let capacity = c.tell.ensures.room in
+    let kept =
+    room_left c.self.inside.streams (vec_len c.self.inside.writes) (vec_len c.forget.new.writes) (c.self.inside.threads - c.self.inside.run) (c.self.inside.threads - (c.self.inside.run + 1)) (vec_capacity c.self.inside.writes)
+    (length c.as_slice.result.now) c.self.invariant.writes (omega arith) c.forget.ensures.count most in
     let same : rooms c.run_turn.new.turn ≡ rooms c.self.inside.turn = c.run_turn.ensures.rooms ∙ c.begin.ensures.rooms in
     record {
       runnable = c.self.invariant.runnable;
       fit = c.run_turn.ensures.fit;
       next = subst (λ (r : Rooms). length f.pipe.start ≤ r.next) (sym same) c.self.invariant.next;
       commits = subst (λ (r : Rooms). 16 ≤ r.commits) (sym same) c.self.invariant.commits;
-      writes = omega arith;
+      writes =
+          room_same c.self.inside.streams (vec_len c.tell.new.writes) (vec_len c.forget.new.writes + length c.as_slice.result.now) (c.self.inside.threads - (c.self.inside.run + 1)) (vec_capacity c.tell.new.writes) (vec_capacity c.self.inside.writes) kept
+          c.tell.ensures.count (c.tell.ensures.room ∙ c.forget.ensures.room);
       count = omega arith;
       told =
-          told_more f.pipe (c.self.inside.run + 1) c.self.inside.writes.items c.tell.new.writes.items c.as_slice.result.now c.run_turn.new.turn.commits.items c.tell.ensures.writes c.as_slice.ensures.value c.self.invariant.told
-          c.run_turn.ensures.fit.fitting.commits;
+          told_more f.pipe (c.self.inside.run + 1) c.forget.new.writes.items c.tell.new.writes.items c.as_slice.result.now c.run_turn.new.turn.commits.items c.tell.ensures.writes c.as_slice.ensures.value
+          (told_less f.pipe c.self.inside.streams c.self.inside.writes.items c.forget.new.writes.items c.forget.ensures.writes c.self.invariant.told) c.run_turn.ensures.fit.fitting.commits;
     }
 
 pub returns-clause-run : goal.returns-clause-run
@@ -77,8 +83,9 @@ returns-clause-run c = λ image h.
     let ran : run_view c.run_turn.new.turn ≡ thread p arrays args = c.run_turn.ensures.run ∙ ap (run_all p.stmts) (c.begin.ensures.run (form c.self.inside.pipe.now) c.self.invariant.runnable c.self.invariant.fit) in
     record {
       writes =
-          writes_next p start k (k + 1) more arrays args (run_view c.run_turn.new.turn) old.memories old.next ran c.self.inside.writes.items c.tell.new.writes.items old.writes
-          (c.tell.ensures.writes ∙ ap (λ (cs : List r_commit.Commit). c.self.inside.writes.items ++ map (numbered_write (k + 1)) (commits_view cs)) c.as_slice.ensures.value);
+          told_next p start k (k + 1) more arrays args (run_view c.run_turn.new.turn) old.memories old.next ran c.self.inside.streams c.self.inside.writes.items c.tell.new.writes.items old.writes
+          (c.tell.ensures.writes
+          ∙ ap₂ (λ (ws : List Write) (cs : List r_commit.Commit). ws ++ map (numbered_write (k + 1)) (commits_view cs)) c.forget.ensures.writes c.as_slice.ensures.value);
       memories = arrays_next p start k (k + 1) more arrays args (run_view c.run_turn.new.turn) old.memories old.next ran;
       next = args_next p start k (k + 1) more arrays args (run_view c.run_turn.new.turn) old.memories old.next ran;
     }

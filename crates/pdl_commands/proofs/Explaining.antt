@@ -1,0 +1,113 @@
+-- What explains the outcome of a command, from what its parts say.
+use Rattle.std.proofs.Common.{◌≡◌, ℕ, ◌≤◌, List, Option, Vec, Global, Some, inl, inr, sym, subst}
+use Rattle.std.specs.Prelude.{Result, Ok, Err, IfOk, IfErr, MatchResult}
+use Rattle.pdl_kit.specs.declared.rule.Rule.{Rule}
+use Rattle.pdl_kit.specs.Counts.{HasCause}
+use Rattle.pdl_kit.specs.declared.sink.WriteFailed.{WriteFailed}
+use Rattle.pdl_kit.specs.Files.{Held}
+use Rattle.pdl_net.specs.declared.Netlist.{Netlist}
+use Rattle.pdl_failure.specs.declared.failure.Position.TheVariants.{Line, Insn}
+use Rattle.pdl_failure.specs.declared.failure.Failure.{Failure}
+use Rattle.pdl_failure.specs.declared.failure.Failure.TheVariants.{Usage, Refused, ReadFault, WriteFault, NoMemory}
+use Rattle.pdl_failure.specs.Failures.{of_text}
+use Rattle.pdl_trace.specs.declared.text_error.TextError.{TextError}
+use Rattle.pdl_trace.specs.declared.text_error.TextError.TheVariants as error
+use Rattle.pdl_trace.specs.Passed.{Streams, WritesText}
+use Rattle.pdl_args.specs.Line.{Command, sim}
+use Rattle.pdl_commands.specs.Commands.{IsWrongSource, IsWrongFor, Writes, SourceFails, ImageFails, NetlistFails, Fails}
+use Rattle.pdl_commands.specs.Simulated.{HoldsNetlist}
+use Rattle.pdl_commands.specs.Outcomes.{Seen, seen_of, FailsAs, Explains, Streamed}
+use Rattle.pdl_commands.proofs.Preparing.{rose_before}
+
+-- ---- texts that are written while they are made
+
+-- a text that is streamed is one of its kind
+pub streamed : (IsText : List ℕ → Type 0) (text : List ℕ) (old new : Option (List ℕ)) (before now : ℕ) (r : Result (Unit {0}) TextError) (o : Result (Unit {0}) Failure) → o ≡ of_text r → IsText text → Streams old new before now text r
+    → Streamed IsText old new before now o
+streamed IsText text old new before now r o e is w = subst (Streamed IsText old new before now) (sym e) (go r w)
+  where
+    go : (r : Result (Unit {0}) TextError) → Streams old new before now text r → Streamed IsText old new before now (of_text r)
+    go (Ok x) w = (text, is, w)
+    go (Err error.NoMemory) w = w
+    go (Err error.WriteFailed) w = (w.0, text, is, w.1)
+
+-- and one that is written once its memory is there
+pub written_streamed : (IsText : List ℕ → Type 0) (text : List ℕ) (old new : Option (List ℕ)) (before now : ℕ) (r : Result (Unit {0}) WriteFailed) (o : Result (Unit {0}) Failure) → MatchResult r (λ x. o ≡ Ok x) (λ e. o ≡ Err WriteFault) → IsText text
+    → WritesText old new r text → HasCause before now r → Streamed IsText old new before now o
+written_streamed IsText text old new before now (Ok x) o e is w cause = subst (Streamed IsText old new before now) (sym e) (text, is, w)
+written_streamed IsText text old new before now (Err f) o e is w cause = subst (Streamed IsText old new before now) (sym e) (cause.failed, text, is, w)
+
+-- a command that streams what it writes where all is well
+pub streamed_explains : {T : Type 0} (command : Command) (s : Seen) (r : Result T Failure) (IsText : List ℕ → Type 0) → ((text : List ℕ) → IsText text → Writes s.holds command text) → Streamed IsText s.written s.written_now s.writes s.writes_now r
+    → Explains (Some command) s r
+streamed_explains command s (Ok x) IsText is w = (w.0, is w.0 w.1, w.2)
+streamed_explains command s (Err Usage) IsText is w = absurd w
+streamed_explains command s (Err (Refused rule position)) IsText is w = absurd w
+streamed_explains command s (Err ReadFault) IsText is w = absurd w
+streamed_explains command s (Err WriteFault) IsText is w = (w.0, w.1, is w.1 w.2, w.3)
+streamed_explains command s (Err NoMemory) IsText is w = w
+
+-- ---- failures before anything is written
+
+-- out has what it had
+pub silent : (command : Command) (s : Seen) (f : Failure) → Fails s.holds s.reads s.reads_now command f → s.written_now ≡ s.written → FailsAs (Some command) s f
+silent command s Usage w e = w
+silent command s (Refused rule position) w e = (w, e)
+silent command s ReadFault w e = (w, e)
+silent command s WriteFault w e = absurd w
+silent command s NoMemory w e = e
+
+-- the source fails
+pub source_fails : (holds : Option Held) (before now : ℕ) (source : List ℕ) (command : Command) → ((rule : Rule) (line : ℕ) → IsWrongSource holds source rule line → IsWrongFor holds command rule (Line line))
+    → (f : Failure) → SourceFails holds before now source f → Fails holds before now command f
+source_fails holds before now source command wrong Usage w = w
+source_fails holds before now source command wrong (Refused rule (Line n)) w = wrong rule n w
+source_fails holds before now source command wrong (Refused rule (Insn n)) w = absurd w
+source_fails holds before now source command wrong ReadFault w = w
+source_fails holds before now source command wrong WriteFault w = w
+source_fails holds before now source command wrong NoMemory w = w
+
+-- the netlist fails
+pub netlist_fails : (holds : Option Held) (before now : ℕ) (v image' : List ℕ) (cycles : ℕ) (f : Failure) → NetlistFails holds before now v f → Fails holds before now (sim v image' cycles) f
+netlist_fails holds before now v image' cycles Usage w = w
+netlist_fails holds before now v image' cycles (Refused rule (Line n)) w = inl w
+netlist_fails holds before now v image' cycles (Refused rule (Insn n)) w = absurd w
+netlist_fails holds before now v image' cycles ReadFault w = w
+netlist_fails holds before now v image' cycles WriteFault w = w
+netlist_fails holds before now v image' cycles NoMemory w = w
+
+-- its image fails
+pub start_fails : (holds : Option Held) (before now : ℕ) (v image' : List ℕ) (cycles : ℕ) (n : Netlist) → HoldsNetlist holds v n → (f : Failure) → ImageFails holds before now image' n.mems f → Fails holds before now (sim v image' cycles) f
+start_fails holds before now v image' cycles n held Usage w = w
+start_fails holds before now v image' cycles n held (Refused rule (Line k)) w = inr (record { netlist = n; held = held; image_text = w.0; image_given = w.1; refused = w.2 })
+start_fails holds before now v image' cycles n held (Refused rule (Insn k)) w = absurd w
+start_fails holds before now v image' cycles n held ReadFault w = w
+start_fails holds before now v image' cycles n held WriteFault w = w
+start_fails holds before now v image' cycles n held NoMemory w = w
+
+-- ---- what is seen from a later moment on
+
+-- what is seen from after a file was read, and so from before it was
+pub explained_before : {T : Type 0} (holds after : Option Held) (before mid now : ℕ) (old new : Option (List ℕ)) (writes writes_now : ℕ) (command : Command) (r : Result T Failure) → after ≡ holds → before ≤ mid
+    → Explains (Some command) (seen_of after mid now old new writes writes_now) r → Explains (Some command) (seen_of holds before now old new writes writes_now) r
+explained_before holds after before mid now old new writes writes_now command r e h w =
+    earlier r (subst (λ (k : Option Held). Explains (Some command) (seen_of k mid now old new writes writes_now) r) e w)
+  where
+    earlier : {T : Type 0} (r : Result T Failure) → Explains (Some command) (seen_of holds mid now old new writes writes_now) r → Explains (Some command) (seen_of holds before now old new writes writes_now) r
+    earlier (Ok x) w = w
+    earlier (Err Usage) w = w
+    earlier (Err (Refused rule position)) w = w
+    earlier (Err ReadFault) w = (rose_before before mid now h w.0, w.1)
+    earlier (Err WriteFault) w = w
+    earlier (Err NoMemory) w = w
+
+-- ---- texts that are made whole
+
+-- one that is there is written, and where it isn't nothing is
+pub text_explains : {T : Type 0} (command : Command) (s : Seen) (text : Result (Vec ℕ Global) Failure) (r : Result T Failure)
+    → IfOk text (λ t. Writes s.holds command t.items) → IfErr text (Fails s.holds s.reads s.reads_now command)
+    → IfOk text (λ t. Streamed (λ bytes. bytes ≡ t.items) s.written s.written_now s.writes s.writes_now r)
+    → IfErr text (λ f. (r ≡ Err f) × (s.written_now ≡ s.written)) → Explains (Some command) s r
+text_explains command s (Ok t) r is wrong made failed = streamed_explains command s r (λ bytes. bytes ≡ t.items) (λ bytes e. subst (Writes s.holds command) (sym e) is) made
+text_explains {T} command s (Err f) r is wrong made failed =
+    subst (λ (x : Result T Failure). Explains (Some command) s x) (sym failed.0) (silent command s f wrong failed.1)

@@ -1,0 +1,75 @@
+-- What is dumped of the netlist of a source says its run.
+use Rattle.std.proofs.Common.{◌≡◌, ap, ℕ, zero, suc, ◌≤◌, List, [], ◌∷◌, length, replicate, All, arith}
+use Rattle.std.proofs.lemmas.List.{length-map}
+use Rattle.pdl_word.specs.Each.{Each}
+use Rattle.pdl_word.proofs.Each.{each_get}
+use Rattle.pdl_semantics.specs.Tree.{Pipe}
+use Rattle.pdl_semantics.specs.Flatten.{flat}
+use Rattle.pdl_grammar.specs.Text.{IsText}
+use Rattle.pdl_rules.specs.Memories.{info_of}
+use Rattle.pdl_rules.specs.Refusal.{KeepsRules}
+use Rattle.pdl_image.specs.Images.{IsImage}
+use Rattle.pdl_net.specs.declared.Netlist.{Netlist}
+use Rattle.pdl_net.specs.Run.{Held, delayed_mems, nports, nports_from, next, start}
+use Rattle.pdl_pipe_law.specs.Follows.{Follows}
+use Rattle.pdl_pipe_law.proofs.WellFormedStages.{few_stages}
+use Rattle.pdl_written.proofs.Sources.{names}
+use Rattle.pdl_wave.specs.declared.port.WavePort.{WavePort}
+use Rattle.pdl_wave.specs.Dump.{IsPort, IsRow}
+use Rattle.pdl_wave.specs.Wave.{IsWaveOf}
+use Rattle.pdl_wave.proofs.WaveForm.{wave_form}
+use Rattle.pdl_waverun.specs.Cycles.{IsFit}
+use Rattle.pdl_waverun.specs.Dumped.{CanBeDumped, wave_ports, rows_of, run_dump}
+use Rattle.pdl_waverun.proofs.Fitting.{fit_next, fit_row, fit_start, port_widths}
+use Rattle.pdl_waverun.proofs.Running.{left_length}
+use Rattle.pdl_dumped.proofs.Names.{IsShortWord, name_word}
+use Rattle.pdl_dumped.proofs.Ports.{named_by, pipe_words, pipe_count, wave_words, wave_count}
+
+module _ (source : List ℕ) (p : Pipe) (n : Netlist) (t : IsText source p) (kept : KeepsRules p) (f : Follows p n) where
+  few : length (flat p).stages ≤ 64
+  few = few_stages p kept
+
+  mems : length p.mems ≤ 16
+  mems = let k = f.well_formed.pipe.count in let m = length-map p.mems info_of in omega (arith, k, m, ap length f.mems)
+
+  port_words : Each (λ (q : WavePort). IsShortWord 64 q.name) (wave_ports n)
+  port_words = wave_words n.ports _ f.ports (pipe_words (length (flat p).stages) p.mems few (named_by p.mems n.mems f.mems (names source p n t f).mems))
+
+  own_name : IsShortWord 32 n.name
+  own_name = name_word n.name (names source p n t f).netlist
+
+  few_ports : length (wave_ports n) ≤ 178
+  few_ports = let a = wave_count n.ports _ f.ports in let b = pipe_count (length (flat p).stages) p.mems few mems in omega (arith, a, b)
+
+  -- its names are short, and its ports few
+  pub dumpable : CanBeDumped n
+  dumpable = record {
+    name = let s = own_name.short in omega (arith, s);
+    names = λ k d l. (each_get (λ (q : WavePort). IsShortWord 64 q.name) (wave_ports n) k d l port_words).short;
+    few = let m = few_ports in omega (arith, m);
+  }
+
+  ports_well : (ps : List WavePort) → Each (λ (q : WavePort). IsShortWord 64 q.name) ps → All (λ (q : WavePort). (1 ≤ q.width) × (q.width ≤ 64)) ps → Each IsPort ps
+  ports_well [] h w = tt
+  ports_well (q ∷ qs) h w =
+      let here = w 0 q (omega arith) in
+      let high = here.1 in
+      (record { name = h.0.word; low = here.0; high = omega (arith, high) }, ports_well qs h.1 (λ k d l. w (suc k) d (omega (arith, l))))
+
+  rows_fit : (h : Held) (k : ℕ) → IsFit n h → Each (IsRow (wave_ports n)) (rows_of (nports_from n h (replicate k 65535)))
+  rows_fit h zero fit = tt
+  rows_fit h (suc k) fit = (fit_row n h 65535 fit, rows_fit (next n h 65535) k (fit_next n h 65535 fit))
+
+  -- each of its runs can be dumped, and the dump says it
+  pub says : (image : List (List ℕ)) (cycles : ℕ) → IsImage n.mems image → delayed_mems n ≡ [] → cycles ≤ 1000000 →
+      IsWaveOf (run_dump n image (replicate cycles 65535)) n.name (wave_ports n) (rows_of (nports n image (replicate cycles 65535)))
+  says image cycles i here few_cycles =
+      let m = few_ports in
+      let count = left_length n (start n image) cycles in
+      wave_form n.name (wave_ports n) (rows_of (nports n image (replicate cycles 65535))) (record {
+        named = own_name.word;
+        declared = ports_well (wave_ports n) port_words (port_widths n f.well_formed.well);
+        few = omega (arith, m);
+        fits = rows_fit (start n image) cycles (fit_start n image f.well_formed i here);
+        counted = omega (arith, count, few_cycles);
+      })

@@ -1,0 +1,18 @@
+use Rattle.std.proofs.Common.{◌≡◌, ◌≤◌, ◌+◌, ◌-◌, ◌++◌, length, replicate}
+use Rattle.pdl_net.specs.Run.{nports_from}
+use Rattle.pdl_trace.proofs.Passing.{IsUnderWay}
+use Rattle.pdl_waverun.specs.Cycles.{cycles_text, IsFit}
+use Rattle.pdl_waverun.specs.Dumped.{rows_of}
+use Rattle.pdl_waverun.proofs.run.push_cycles.Given as goal
+
+-- what was done, with what is left, is the whole
+abbrev pub invariant-loop-done : goal.invariant-loop-done
+invariant-loop-done g l = record {
+  netlist : l.sim.netlist ≡ l.fn.sim.netlist;
+  fit : IsFit l.sim.netlist l.sim.held;
+  count : length l.before ≡ length l.ports;
+  way : IsUnderWay (g.S.Sink.written l.fn.sink) (g.S.Sink.written l.sink)
+      (l.fn.out ++ cycles_text l.ports 1 l.fn.before (rows_of (nports_from l.fn.sim.netlist l.fn.sim.held (replicate l.cycles 65535))))
+      (cycles_text l.ports (l.done + 1) l.before (rows_of (nports_from l.sim.netlist l.sim.held (replicate (l.cycles - l.done) 65535)))) l.out;
+  later : g.S.Sink.faults l.fn.sink ≤ g.S.Sink.faults l.sink;
+}
