@@ -1,111 +1,88 @@
 // Which threads move.
-ghost use Rattle.std.specs.Prelude.{◌≡◌, ◌<◌, suc, ℕ, IfOk, length};
-ghost use Rattle.pdl_form.specs.Whole.{form};
-ghost use Rattle.pdl_semantics.specs.Flat.{Ends, Goes};
-ghost use Rattle.pdl_net.specs.Signal.{mux_signal, reg_signal};
-ghost use Rattle.pdl_net.specs.Meaning.{IsThere, Means, signal};
+ghost use Rattle.std.specs.Prelude.{◌≡◌, ◌<◌, ◌≤◌, IfOk, length};
+ghost use Rattle.pdl_semantics.specs.Stages.{stage_at};
 ghost use Rattle.pdl_net.specs.Growth.{Extends};
-ghost use Rattle.pdl_flatnets.specs.Conditions.{AreBits};
-ghost use Rattle.pdl_pipe_law.specs.Walk.{one, both as both_signal};
-ghost use Rattle.pdl_stageregs.specs.Stages.{views_in};
-ghost use Rattle.pdl_word.specs.Each.{Each};
-ghost use Rattle.pdl_stageregs.specs.Moves.{IsInLine, IsGated, IsMoved, moves_at};
+ghost use Rattle.pdl_net.specs.Meaning.{Means, signal};
+ghost use Rattle.pdl_pipe_law.specs.Views.{free as free_signal, way_on as way_signal, moves_where};
+ghost use Rattle.pdl_answernets.specs.Ports.{IsBit, IsBitFor};
+ghost use Rattle.pdl_stagenexts.specs.Lines.{line_pipe, line_views, line_moves, IsLineIn};
+ghost use Rattle.pdl_stagemoves.specs.Inside.{LeadsInside};
 
-use crate::nets::StageNets;
+use pdl_answernets::{both_bits, next_of};
 use pdl_build::Builder;
-use pdl_flatnets::Bits;
-use pdl_form::{FlatPipe, Next};
+use pdl_flatnets::exprs::variable;
+use pdl_form::Next;
 use pdl_kit::NoMemory;
 use pdl_net::Net;
-use std::alloc::Global;
+use pdl_stagenexts::Line;
+use pdl_stagenexts::line::stage_of;
 
-/// Whether the thread of a stage moves, and whether the stage is free for another one, 1 bit each.
-#[derive(Clone, Copy)]
-pub struct MoveNets {
-    pub moves: Net,
-    pub free: Net,
-}
-
-/// The nets of a stage's moves.
-pub fn moves_of(nets: &[MoveNets], k: usize) -> MoveNets
-    requires { k < length nets.now }
-    ensures { result ≡ moves_at nets.now k }
-{
-    nets[k]
-}
-
-// Whether the stage that comes next is free; after the last one all is.
-fn way_on(pipe: &FlatPipe, k: usize, later: &[MoveNets], bits: Bits) -> Net
-    requires line { IsInLine (form pipe.now).pipe }
-    requires low { k < length (form pipe.now).pipe.stages }
-    requires count { length later.now ≡ length (form pipe.now).pipe.stages }
-    ensures last { suc k ≡ length (form pipe.now).pipe.stages → result ≡ bits.one }
-    ensures next { suc k < length (form pipe.now).pipe.stages →
-        result ≡ (moves_at later.now (suc k)).free }
-{
-    let stage = &pipe.stages()[k];
-    match stage.next {
-        Next::Ends => bits.one,
-        Next::Goes(to) => moves_of(later, to).free,
-        Next::Forks { .. } => unreachable!(),
-    }
-}
-
-// The nets of one stage, where `way` tells whether its thread may go on.
-fn stage_moves(b: &mut Builder, bits: Bits, s: &StageNets, way: Net) -> Result<MoveNets, NoMemory>
-    requires bits { AreBits b.old bits }
-    requires gated { IsGated b.old s.now }
-    requires way { IsThere b.old way }
-    requires way_one { (signal b.old way).width ≡ 1 }
-    ensures moves { IfOk result (λ x.
-        Means b.new x.moves (both_signal (reg_signal 1 s.now.valid)
-        (both_signal (signal b.old s.now.end.ready) (signal b.old way)))) }
-    ensures free { IfOk result (λ x.
-        Means b.new x.free (mux_signal (reg_signal 1 s.now.valid)
-        (both_signal (reg_signal 1 s.now.valid)
-        (both_signal (signal b.old s.now.end.ready) (signal b.old way))) one)) }
-    ensures moves_one { IfOk result (λ x. (signal b.new x.moves).width ≡ 1) }
-    ensures free_one { IfOk result (λ x. (signal b.new x.free).width ≡ 1) }
+// Whether stage q is free for a thread: it is empty, or its own moves.
+fn free(b: &mut Builder, line: &Line<'_>, q: usize) -> Result<Net, NoMemory>
+    requires line { IsLineIn b.old line.now }
+    requires low { q < length (line_pipe line.now).stages }
+    ensures means { IfOk result (λ y. Means b.new y
+        (free_signal (line_views b.old line.now) (line_moves b.old line.now) q)) }
+    ensures one { IfOk result (λ y. (signal b.new y).width ≡ 1) }
     ensures extends { Extends b.old b.new }
     ensures regs { b.new.regs ≡ b.old.regs }
 {
-    let valid = Net::Reg(s.valid);
-    let ready = bits.both(b, s.end.ready, way)?;
-    let moves = bits.both(b, valid, ready)?;
-    let free = b.mux(valid, moves, bits.one)?;
-    Ok(MoveNets { moves, free })
+    let s = stage_of(line, q);
+    let moves = variable(b, line.moves, q);
+    let net = b.mux(Net::Reg(s.regs.valid), moves, line.shared.bits.one)?;
+    Ok(net)
 }
 
-/// Of each stage whether its thread moves, and whether it is free.
-pub fn stages_moving(
-    alloc: Global,
+// Whether the stage to which the thread of stage k goes next is free; after the last one all is.
+fn way_on(b: &mut Builder, line: &Line<'_>, k: usize) -> Result<Net, NoMemory>
+    requires line { IsLineIn b.old line.now }
+    requires inside { LeadsInside (line_pipe line.now) }
+    requires low { k < length (line_pipe line.now).stages }
+    ensures means { IfOk result (λ y. Means b.new y (way_signal (stage_at (line_pipe line.now) k).next
+        (free_signal (line_views b.old line.now) (line_moves b.old line.now))
+        (line_views b.old line.now k).ended)) }
+    ensures one { IfOk result (λ y. (signal b.new y).width ≡ 1) }
+    ensures extends { Extends b.old b.new }
+    ensures regs { b.new.regs ≡ b.old.regs }
+{
+    match next_of(line.pipe, k) {
+        Next::Ends => Ok(line.shared.bits.one),
+        Next::Goes(to) => {
+            let net = free(b, line, to)?;
+            Ok(net)
+        }
+        Next::Forks { x, first, second } => {
+            let s = stage_of(line, k);
+            let choice = variable(b, s.end.vars.as_slice(), x);
+            let yes = free(b, line, first)?;
+            let no = free(b, line, second)?;
+            let net = b.mux(choice, yes, no)?;
+            Ok(net)
+        }
+    }
+}
+
+/// Whether the thread of stage k moves, 1 bit: it is there, the locks let it, its gate is open, and its next stage is free.
+pub fn stage_moves(
     b: &mut Builder,
-    pipe: &FlatPipe,
-    bits: Bits,
-    stages: &[StageNets],
-) -> Result<Vec<MoveNets>, NoMemory>
-    requires bits { AreBits b.old bits }
-    requires line { IsInLine (form pipe.now).pipe }
-    requires count { length stages.now ≡ length (form pipe.now).pipe.stages }
-    requires gated { Each (IsGated b.old) stages.now }
-    ensures count { IfOk result (λ ms. length ms.items ≡ length stages.now) }
-    ensures moves { IfOk result (λ ms. (k : ℕ) → k < length stages.now →
-        IsMoved b.new (form pipe.now).pipe
-        (views_in b.old (form pipe.now).pipe stages.now) ms.items k) }
+    line: &Line<'_>,
+    k: usize,
+    gate: Net,
+) -> Result<Net, NoMemory>
+    requires line { IsLineIn b.old line.now }
+    requires inside { LeadsInside (line_pipe line.now) }
+    requires low { k < length (line_pipe line.now).stages }
+    requires gate { IsBit b.old gate }
+    ensures moves { IfOk result (λ y. IsBitFor b.new y (moves_where (line_pipe line.now)
+        (line_views b.old line.now) (λ j. signal b.old gate) (line_moves b.old line.now) k)) }
     ensures extends { Extends b.old b.new }
     ensures regs { b.new.regs ≡ b.old.regs }
 {
-    let none = MoveNets {
-        moves: bits.zero,
-        free: bits.one,
-    };
-    let mut nets = vec![in alloc; none; stages.len()]?;
-    for i in 0..stages.len() {
-        let k = stages.len() - 1 - i;
-        let way = way_on(pipe, k, nets.as_slice(), bits);
-        let s = &stages[k];
-        let gate = stage_moves(b, bits, s, way)?;
-        nets[k] = gate;
-    }
-    Ok(nets)
+    let bits = line.shared.bits;
+    let s = stage_of(line, k);
+    let way = way_on(b, line, k)?;
+    let open = both_bits(b, bits, gate, way)?;
+    let ready = both_bits(b, bits, s.end.ready, open)?;
+    let moves = both_bits(b, bits, Net::Reg(s.regs.valid), ready)?;
+    Ok(moves)
 }

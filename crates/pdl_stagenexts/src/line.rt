@@ -17,7 +17,7 @@ pub struct Line<'a> {
 }
 
 /// The stage of a number.
-pub(crate) fn stage_of<'a>(line: &Line<'a>, k: usize) -> &'a StageNets
+pub fn stage_of<'a>(line: &Line<'a>, k: usize) -> &'a StageNets
     requires { k < length line.now.stages.now }
     ensures { result.now ≡ slice_index_or line.now.stages.now k result.now }
 {
