@@ -63,12 +63,7 @@ fn way_on(b: &mut Builder, line: &Line<'_>, k: usize) -> Result<Net, NoMemory>
 }
 
 /// Whether the thread of stage k moves, 1 bit: it is there, the locks let it, its gate is open, and its next stage is free.
-pub fn stage_moves(
-    b: &mut Builder,
-    line: &Line<'_>,
-    k: usize,
-    gate: Net,
-) -> Result<Net, NoMemory>
+pub fn stage_moves(b: &mut Builder, line: &Line<'_>, k: usize, gate: Net) -> Result<Net, NoMemory>
     requires line { IsLineIn b.old line.now }
     requires inside { LeadsInside (line_pipe line.now) }
     requires low { k < length (line_pipe line.now).stages }
