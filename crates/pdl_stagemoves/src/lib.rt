@@ -1,8 +1,10 @@
 //! Which threads of a pipe move.
 //!
-//! The layer above may use `stage_moves`, a stage's move by those of the later ones and the gate of what stands beside.
+//! The layer above may use `stage_moves`, a stage's move by those of the later ones and the gate of what stands beside, and the parts of that gate.
 #![tactic(auto)]
 
+pub mod gates;
 pub mod moving;
 
+pub use gates::{barrier_open, ports_open, unsquashed};
 pub use moving::stage_moves;
