@@ -5,6 +5,8 @@
 
 pub mod gates;
 pub mod moving;
+pub mod turns;
 
 pub use gates::{barrier_open, ports_open, unsquashed};
 pub use moving::stage_moves;
+pub use turns::branch_turn;

@@ -1,11 +1,11 @@
-use Rattle.std.proofs.Common.{◌≡◌, ◌+◌, ◌-◌, ◌<◌, ◌∷◌, List, map, drop, length, get_or, refl, rules, sym, ap, ap₂, ◌∙◌, subst, arith}
-use Rattle.std.proofs.lemmas.List.{drop_more, drop_all}
+use Rattle.std.proofs.Common.{◌≡◌, ◌+◌, ◌-◌, ◌<◌, ◌∷◌, List, map, drop, length, get_or, sym, ap, ap₂, ◌∙◌, subst, arith}
+use Rattle.std.proofs.lemmas.List.{drop_more}
 use Rattle.pdl_net.specs.Signal.{Signal, mux_signal}
 use Rattle.pdl_net.specs.Meaning.{signal}
 use Rattle.pdl_net.proofs.Keeps.{extends_keeps, extends_trans}
 use Rattle.pdl_flatnets.specs.Nets.{signals_in, signal_at}
 use Rattle.pdl_flatnets.proofs.NetLists.{there_keeps, signals_keep}
-use Rattle.pdl_pipe_law.specs.Walk.{Ask, one, both, if_on, is_on}
+use Rattle.pdl_pipe_law.specs.Walk.{both, if_on, is_on}
 use Rattle.pdl_stagenets.specs.declared.nets.AskNet.{AskNet}
 use Rattle.pdl_stagenets.specs.Parts.{ask_in}
 use Rattle.pdl_stageregs.proofs.Lists.{each_at}
@@ -91,8 +91,7 @@ loop-i-preserved c =
     let old = c.mux.ensures.extends.kept c.loop-i.net c.loop-i.invariant.2.there in
     let net = c.in_ok-net.ensures.on in
     let more : both (if_on (signal a ask.on) (f ask.mem)) rest ≡ opens_by f (map (ask_in a) (drop k xs)) =
-    sym (ap (λ (ys : List AskNet). opens_by f (map (ask_in a) ys)) (drop_more xs k ask low) ∙ ap (λ (y : AskNet). opens_by f (map (ask_in a) (y ∷ drop (k + 1) xs))) (sym is)) in
-    (
+    sym (ap (λ (ys : List AskNet). opens_by f (map (ask_in a) ys)) (drop_more xs k ask low) ∙ ap (λ (y : AskNet). opens_by f (map (ask_in a) (y ∷ drop (k + 1) xs))) (sym is)) in (
       extends_trans a b d c.loop-i.invariant.0 (extends_trans b m d c.mux.ensures.extends c.both_bits.ensures.extends),
       c.both_bits.ensures.regs ∙ c.mux.ensures.regs ∙ c.loop-i.invariant.1,
       record {

@@ -1,0 +1,59 @@
+// Whose turn it is where branches meet.
+ghost use Rattle.std.specs.Prelude.{◌≡◌, Bool, IfOk, if◌then◌else◌};
+ghost use Rattle.pdl_form.specs.View.{branch_view};
+ghost use Rattle.pdl_net.specs.Signal.{mux_signal};
+ghost use Rattle.pdl_net.specs.Growth.{Extends};
+ghost use Rattle.pdl_net.specs.Meaning.{Means, signal};
+ghost use Rattle.pdl_flatnets.specs.Conditions.{AreBits};
+ghost use Rattle.pdl_pipe_law.specs.Walk.{one, zero_bit};
+ghost use Rattle.pdl_order.specs.Laws.{HasOrderNets};
+ghost use Rattle.pdl_answernets.specs.Ports.{IsBitFor};
+ghost use Rattle.pdl_stagemoves.specs.Gates.{turn_by};
+
+use pdl_build::Builder;
+use pdl_flatnets::Bits;
+use pdl_form::Branch;
+use pdl_kit::NoMemory;
+use pdl_net::Net;
+use pdl_order::OrderRegs;
+
+// Whether the oldest thread inside took this branch.
+fn took(b: &mut Builder, bits: Bits, order: &OrderRegs, first: bool) -> Result<Net, NoMemory>
+    requires bits { AreBits b.old bits }
+    requires nets { HasOrderNets b.old order.now }
+    ensures means { IfOk result (λ y. Means b.new y (if first then signal b.old order.now.first
+        else mux_signal (signal b.old order.now.first) zero_bit one)) }
+    ensures wide { IfOk result (λ y. (signal b.new y).width ≡ 1) }
+    ensures extends { Extends b.old b.new }
+    ensures regs { b.new.regs ≡ b.old.regs }
+{
+    if first {
+        return Ok(order.first);
+    }
+    let net = b.mux(order.first, bits.zero, bits.one)?;
+    Ok(net)
+}
+
+/// Whether a thread that comes from this branch of a fork, or straight from it, may go into the merge: it is the oldest of those that the fork sent on.
+pub fn branch_turn(
+    b: &mut Builder,
+    bits: Bits,
+    order: &OrderRegs,
+    from: Option<Branch>,
+) -> Result<Net, NoMemory>
+    requires bits { AreBits b.old bits }
+    requires nets { HasOrderNets b.old order.now }
+    ensures on { IfOk result (λ y. IsBitFor b.new y (turn_by (signal b.old order.now.first)
+        (signal b.old order.now.empty) (branch_view from))) }
+    ensures extends { Extends b.old b.new }
+    ensures regs { b.new.regs ≡ b.old.regs }
+{
+    match from {
+        None => Ok(order.empty),
+        Some(branch) => {
+            let own = took(b, bits, order, branch.first)?;
+            let net = b.mux(order.empty, bits.zero, own)?;
+            Ok(net)
+        }
+    }
+}
