@@ -1,6 +1,11 @@
 -- What stands beside the stages and lets a thread move, by what it is.
-use Rattle.std.specs.Prelude.{ℕ, ◌<◌, List, [], ◌∷◌, length, Option, Some, None, if◌then◌else◌}
-use Rattle.pdl_semantics.specs.Flat.{Branch}
+use Rattle.std.specs.Prelude.{◌≡◌, ℕ, ◌<◌, List, [], ◌∷◌, length, ⊤, Option, Some, None, if◌then◌else◌}
+use Rattle.pdl_semantics.specs.Flat.{Branch, Pipe}
+use Rattle.pdl_semantics.specs.Stages.{stage_at}
+use Rattle.pdl_order.specs.declared.OrderRegs.{OrderRegs}
+use Rattle.pdl_order.specs.Laws.{HasOrderNets}
+use Rattle.pdl_beside.specs.Beside.{order_first, order_empty}
+use Rattle.pdl_stagenets.specs.Locked.{some_at}
 use Rattle.pdl_net.specs.Circuit.{Circuit}
 use Rattle.pdl_net.specs.Signal.{Signal, mux_signal}
 use Rattle.pdl_net.specs.declared.Net.{Net}
@@ -22,3 +27,19 @@ pub record IsAsked (c : Circuit) (frees : List Net) (q : AskNet) : Type 0 where
 abbrev pub turn_by : Signal → Signal → Option Branch → Signal
 turn_by first empty None = empty
 turn_by first empty (Some b) = mux_signal empty zero_bit (if b.first then first else mux_signal first zero_bit one)
+
+-- into stage q out of stage k, by the orders of the forks
+abbrev pub merge_by : Circuit → List (Option OrderRegs) → Option ℕ → Option Branch → Signal
+merge_by c rs None from = one
+merge_by c rs (Some f) from = turn_by (order_first c (some_at rs f)) (order_empty c (some_at rs f)) from
+
+abbrev pub turn_in : Circuit → Pipe → List (Option OrderRegs) → ℕ → ℕ → Signal
+turn_in c p rs k q = merge_by c rs (stage_at p q).merges (stage_at p k).branch
+
+-- a fork whose branches meet has its order
+abbrev pub IsOrderThere : Circuit → Option OrderRegs → Type 0
+IsOrderThere c None = ⊥
+IsOrderThere c (Some r) = HasOrderNets c r
+
+abbrev pub HasTurns : Circuit → Pipe → List (Option OrderRegs) → Type 0
+HasTurns c p rs = (q f : ℕ) → q < length p.stages → (stage_at p q).merges ≡ Some f → (f < length rs) × IsOrderThere c (some_at rs f)

@@ -9,4 +9,4 @@ pub mod turns;
 
 pub use gates::{barrier_open, ports_open, unsquashed};
 pub use moving::stage_moves;
-pub use turns::branch_turn;
+pub use turns::{branch_turn, turn};

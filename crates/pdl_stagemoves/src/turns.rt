@@ -1,6 +1,8 @@
 // Whose turn it is where branches meet.
-ghost use Rattle.std.specs.Prelude.{◌≡◌, Bool, IfOk, if◌then◌else◌};
-ghost use Rattle.pdl_form.specs.View.{branch_view};
+ghost use Rattle.std.specs.Prelude.{◌≡◌, ◌<◌, true, IfOk, Some, is_some, length, if◌then◌else◌};
+ghost use Rattle.pdl_form.specs.Whole.{form};
+ghost use Rattle.pdl_semantics.specs.Stages.{stage_at};
+ghost use Rattle.pdl_form.specs.View.{branch_view, stage_view};
 ghost use Rattle.pdl_net.specs.Signal.{mux_signal};
 ghost use Rattle.pdl_net.specs.Growth.{Extends};
 ghost use Rattle.pdl_net.specs.Meaning.{Means, signal};
@@ -8,11 +10,12 @@ ghost use Rattle.pdl_flatnets.specs.Conditions.{AreBits};
 ghost use Rattle.pdl_pipe_law.specs.Walk.{one, zero_bit};
 ghost use Rattle.pdl_order.specs.Laws.{HasOrderNets};
 ghost use Rattle.pdl_answernets.specs.Ports.{IsBitFor};
-ghost use Rattle.pdl_stagemoves.specs.Gates.{turn_by};
+ghost use Rattle.pdl_stagemoves.specs.Gates.{turn_by, turn_in, HasTurns};
+ghost use Rattle.pdl_stagenets.specs.Locked.{some_at};
 
 use pdl_build::Builder;
 use pdl_flatnets::Bits;
-use pdl_form::Branch;
+use pdl_form::{Branch, FlatPipe, Stage};
 use pdl_kit::NoMemory;
 use pdl_net::Net;
 use pdl_order::OrderRegs;
@@ -53,6 +56,53 @@ pub fn branch_turn(
         Some(branch) => {
             let own = took(b, bits, order, branch.first)?;
             let net = b.mux(order.empty, bits.zero, own)?;
+            Ok(net)
+        }
+    }
+}
+
+// A stage of a pipe.
+fn pipe_stage(pipe: &FlatPipe, k: usize) -> Stage
+    requires { k < length (form pipe.now).pipe.stages }
+    ensures { stage_view result ≡ stage_at (form pipe.now).pipe k }
+{
+    pipe.stages()[k]
+}
+
+// The order of a fork.
+fn order_of(orders: &[Option<OrderRegs>], f: usize) -> &OrderRegs
+    requires low { f < length orders.now }
+    requires some { is_some (some_at orders.now f) ≡ true }
+    ensures { some_at orders.now f ≡ Some result.now }
+{
+    match &orders[f] {
+        Some(order) => order,
+        None => unreachable!(),
+    }
+}
+
+/// Whether it is the turn of the thread of stage k to go into stage q.
+pub fn turn(
+    b: &mut Builder,
+    pipe: &FlatPipe,
+    bits: Bits,
+    orders: &[Option<OrderRegs>],
+    k: usize,
+    q: usize,
+) -> Result<Net, NoMemory>
+    requires bits { AreBits b.old bits }
+    requires turns { HasTurns b.old (form pipe.now).pipe orders.now }
+    requires k { k < length (form pipe.now).pipe.stages }
+    requires q { q < length (form pipe.now).pipe.stages }
+    ensures on { IfOk result (λ y.
+        IsBitFor b.new y (turn_in b.old (form pipe.now).pipe orders.now k q)) }
+    ensures extends { Extends b.old b.new }
+    ensures regs { b.new.regs ≡ b.old.regs }
+{
+    match pipe_stage(pipe, q).merges {
+        None => Ok(bits.one),
+        Some(f) => {
+            let net = branch_turn(b, bits, order_of(orders, f), pipe_stage(pipe, k).branch)?;
             Ok(net)
         }
     }
