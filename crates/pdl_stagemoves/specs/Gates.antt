@@ -1,5 +1,5 @@
 -- What stands beside the stages and lets a thread move, by what it is.
-use Rattle.std.specs.Prelude.{◌≡◌, ℕ, ◌<◌, List, [], ◌∷◌, length, ⊤, Option, Some, None, if◌then◌else◌}
+use Rattle.std.specs.Prelude.{◌≡◌, ℕ, ◌<◌, List, [], ◌∷◌, length, Option, Some, None, if◌then◌else◌}
 use Rattle.pdl_semantics.specs.Flat.{Branch, Pipe}
 use Rattle.pdl_semantics.specs.Stages.{stage_at}
 use Rattle.pdl_order.specs.declared.OrderRegs.{OrderRegs}

@@ -6,7 +6,9 @@
 pub mod gates;
 pub mod moving;
 pub mod turns;
+pub mod ways;
 
 pub use gates::{barrier_open, ports_open, unsquashed};
 pub use moving::stage_moves;
 pub use turns::{branch_turn, turn};
+pub use ways::way_turn;
