@@ -1,11 +1,10 @@
 -- Whether ports are free, by nets of the stages.
 use Rattle.std.proofs.Common.{◌≡◌, ◌<◌, ◌≤◌, ℕ, zero, suc, ◌+◌, refl, sym, ap, ap₂, ◌∙◌, subst, length, slice_index, List, [], ◌∷◌, ◌++◌, inl, inr, arith}
-use Rattle.std.specs.Prelude.{◌⊎◌, Option, Some, None}
+use Rattle.std.specs.Prelude.{◌⊎◌, Some}
 use Rattle.std.proofs.lemmas.Bool.{cases_lt}
 use Rattle.std.proofs.lemmas.List.{length-append}
 use Rattle.pdl_word.specs.Each.{Each}
 use Rattle.pdl_word.proofs.Each.{each_push}
-use Rattle.pdl_semantics.specs.Flat.{Next, Pipe}
 use Rattle.pdl_semantics.specs.Stages.{stage_at}
 use Rattle.pdl_net.specs.declared.Net.{Net}
 use Rattle.pdl_net.specs.Circuit.{Circuit}
@@ -16,7 +15,7 @@ use Rattle.pdl_port.specs.declared.PortRegs.{PortRegs}
 use Rattle.pdl_port.specs.Laws as port_laws
 use Rattle.pdl_port.specs.Laws.{FreeLaw}
 use Rattle.pdl_port.specs.Places.{stands}
-use Rattle.pdl_inflight.specs.Readings.{Reading, reading, places, places_of, place_at}
+use Rattle.pdl_inflight.specs.Readings.{places, places_of, place_at}
 use Rattle.pdl_flatnets.specs.Nets.{signals_in, signal_at}
 use Rattle.pdl_stagenets.specs.Locked.{some_at}
 use Rattle.pdl_beside.specs.Ports.{StandPorts}

@@ -1,25 +1,24 @@
 -- Parts of a gate that are made one after another.
-use Rattle.std.proofs.Common.{◌≡◌, ◌<◌, ℕ, zero, suc, ◌+◌, refl, sym, ap, ap₂, ◌∙◌, length, List, [], ◌∷◌, map, arith}
-use Rattle.std.specs.Prelude.{Option, Some, None}
+use Rattle.std.proofs.Common.{◌≡◌, ◌<◌, ℕ, zero, suc, refl, ap, ap₂, ◌∙◌, length, List, [], ◌∷◌, map, arith}
+use Rattle.std.specs.Prelude.{Option}
 use Rattle.pdl_word.specs.Each.{Each}
 use Rattle.pdl_semantics.specs.Flat as flat
 use Rattle.pdl_semantics.specs.Flat.{Next, Pipe}
 use Rattle.pdl_semantics.specs.Stages.{stage_at}
 use Rattle.pdl_net.specs.declared.Net.{Net}
-use Rattle.pdl_net.specs.Circuit.{Circuit, State}
+use Rattle.pdl_net.specs.Circuit.{Circuit}
 use Rattle.pdl_net.specs.Signal.{Signal, mux_signal}
 use Rattle.pdl_net.specs.Meaning.{signal, IsThere}
 use Rattle.pdl_net.specs.Growth.{Keeps}
 use Rattle.pdl_order.specs.declared.OrderRegs.{OrderRegs}
 use Rattle.pdl_port.specs.declared.PortRegs.{PortRegs}
-use Rattle.pdl_port.specs.Laws.{AnswerSignals}
 use Rattle.pdl_pipe_law.specs.Walk.{Walk, both, is_on}
 use Rattle.pdl_pipe_law.specs.Views.{way_on}
 use Rattle.pdl_sides.specs.Sides.{all_answered}
 use Rattle.pdl_stagenets.specs.declared.nets.AskNet.{AskNet}
 use Rattle.pdl_stagenets.specs.Parts.{ask_in}
 use Rattle.pdl_stagenets.specs.Sized.{IsSizedAsk}
-use Rattle.pdl_answernets.specs.Ports.{HasAnswers, IsBit, IsBitFor, IsOnAs, answers_in}
+use Rattle.pdl_answernets.specs.Ports.{HasAnswers, IsBit, IsBitFor, answers_in}
 use Rattle.pdl_answernets.proofs.Bits.{both_as, memory_answered_same}
 use Rattle.pdl_stagemoves.specs.Inside.{LeadsInside}
 use Rattle.pdl_stagemoves.specs.Gates.{turn_in, IsAsked, HasTurns}

@@ -1,5 +1,5 @@
 -- The moves of all stages, with the squash of one.
-use Rattle.std.proofs.Common.{◌≡◌, ◌≢◌, ◌<◌, ◌≤◌, ℕ, zero, suc, ◌+◌, Bool, true, false, refl, sym, ap, ap₂, ◌∙◌, subst, length, List, [], ◌∷◌, ◌++◌, arith}
+use Rattle.std.proofs.Common.{◌≡◌, ◌≢◌, ◌<◌, ◌≤◌, ℕ, zero, suc, ◌+◌, Bool, false, refl, sym, ap, ap₂, ◌∙◌, subst, length, List, [], ◌∷◌, ◌++◌, arith}
 use Rattle.std.specs.Prelude.{◌⊎◌, Option, Some, None, nat_lt, if◌then◌else◌, slice_set}
 use Rattle.std.proofs.lemmas.Bool.{cases_lt, lt-leb}
 use Rattle.std.proofs.Common.{inl, inr}
@@ -9,7 +9,7 @@ use Rattle.pdl_kit.specs.declared.seq.Seq.{Seq}
 use Rattle.pdl_semantics.specs.Flat.{Pipe}
 use Rattle.pdl_semantics.specs.Stages.{stage_at, verify_stage}
 use Rattle.pdl_net.specs.declared.Net.{Net}
-use Rattle.pdl_net.specs.declared.Net.TheVariants.{Input, Reg as RegNet}
+use Rattle.pdl_net.specs.declared.Net.TheVariants.{Input}
 use Rattle.pdl_net.specs.Circuit.{Circuit, State}
 use Rattle.pdl_net.specs.Signal.{Signal, mux_signal}
 use Rattle.pdl_net.specs.Meaning.{signal, IsThere}

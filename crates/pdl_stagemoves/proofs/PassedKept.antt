@@ -1,9 +1,8 @@
 -- Stages of which it is known whether their threads move stay so, while the circuit grows and earlier stages are asked.
-use Rattle.std.proofs.Common.{◌≡◌, ◌<◌, ◌≤◌, ◌==◌, ℕ, zero, suc, ◌+◌, Bool, true, false, refl, sym, ap, ap₂, ◌∙◌, subst, length, ◌||◌, slice_index, List, [], ◌∷◌, map, arith}
-use Rattle.std.specs.Prelude.{Option, Some, None, slice_set, if◌then◌else◌}
-use Rattle.std.proofs.lemmas.Bool.{eq-eqb, eqb-true, false≢true}
+use Rattle.std.proofs.Common.{◌≡◌, ◌<◌, ◌==◌, ℕ, zero, suc, Bool, true, false, refl, sym, ap, ap₂, ◌∙◌, subst, length, ◌||◌, slice_index, List, [], ◌∷◌, arith}
+use Rattle.std.specs.Prelude.{slice_set, if◌then◌else◌}
+use Rattle.std.proofs.lemmas.Bool.{eq-eqb, eqb-true}
 use Rattle.pdl_word.specs.Each.{Each}
-use Rattle.pdl_kit.specs.declared.seq.Seq.{Seq}
 use Rattle.pdl_semantics.specs.Flat as flat
 use Rattle.pdl_semantics.specs.Flat.{Next, Pipe}
 use Rattle.pdl_semantics.specs.Stages.{stage_at}
@@ -13,16 +12,14 @@ use Rattle.pdl_net.specs.Signal.{Signal, mux_signal}
 use Rattle.pdl_net.specs.Meaning.{signal}
 use Rattle.pdl_net.specs.Growth.{Keeps}
 use Rattle.pdl_port.specs.Port.{PortState}
-use Rattle.pdl_port.specs.declared.PortRegs.{PortRegs}
 use Rattle.pdl_port.specs.Laws.{FreeLaw}
 use Rattle.pdl_port.specs.Places.{stands}
-use Rattle.pdl_inflight.specs.Readings.{Reading, reading, places, places_of, place_at}
+use Rattle.pdl_inflight.specs.Readings.{places, places_of, place_at}
 use Rattle.pdl_machine_facts.specs.Slots.{leads_to}
 use Rattle.pdl_pipe_law.specs.Walk.{Walk, both, one, is_on}
 use Rattle.pdl_pipe_law.specs.Views.{View, free, way_on, moves_where}
 use Rattle.pdl_flatnets.specs.Nets.{signals_in, signal_at}
 use Rattle.pdl_flatnets.proofs.NetLists.{signals_keep, length_signals}
-use Rattle.pdl_stagenets.specs.Locked.{some_at}
 use Rattle.pdl_stagenets.proofs.Lists.{signal_set}
 use Rattle.pdl_beside.specs.Ports.{StandPorts}
 use Rattle.pdl_answernets.specs.Ports.{IsBit, IsOnAs}
@@ -32,7 +29,7 @@ use Rattle.pdl_stagenexts.specs.Lines.{line_pipe, line_views, line_moves, IsLine
 use Rattle.pdl_stagenexts.proofs.LinesKept.{views_same, bits_there}
 use Rattle.pdl_stagemoves.specs.Inside.{LeadsInside}
 use Rattle.pdl_stagemoves.specs.Signs.{Signs, gate_by}
-use Rattle.pdl_stagemoves.specs.Passed.{IsFreeBy, HaveFree, IsMovedBy, IsPassage, IsPassed, ArePassed, frees_at}
+use Rattle.pdl_stagemoves.specs.Passed.{IsFreeBy, HaveFree, IsMovedBy, IsPassed}
 
 -- ---- what a stage goes by
 

@@ -1,26 +1,22 @@
 -- A gate stays while the circuit grows, and goes by what it asks alone.
-use Rattle.std.proofs.Common.{◌≡◌, ◌<◌, ◌≤◌, ℕ, suc, Bool, true, false, refl, sym, ap, ap₂, ◌∙◌, length, List, [], ◌∷◌, map, arith}
-use Rattle.std.specs.Prelude.{Option, Some, None, nat_lt}
-use Rattle.pdl_semantics.specs.Flat as flat
-use Rattle.pdl_semantics.specs.Flat.{Next, Pipe}
-use Rattle.pdl_semantics.specs.Stages.{stage_at, verify_stage}
-use Rattle.pdl_net.specs.declared.Net.{Net}
+use Rattle.std.proofs.Common.{◌≡◌, ◌<◌, ℕ, ap, ◌∙◌, length}
+use Rattle.pdl_semantics.specs.Flat.{Pipe}
+use Rattle.pdl_semantics.specs.Stages.{verify_stage}
 use Rattle.pdl_net.specs.Circuit.{Circuit}
-use Rattle.pdl_net.specs.Signal.{Signal, mux_signal}
-use Rattle.pdl_net.specs.Meaning.{signal}
+use Rattle.pdl_net.specs.Signal.{Signal}
 use Rattle.pdl_net.specs.Growth.{Keeps}
 use Rattle.pdl_flatnets.specs.Nets.{signals_in, signal_at}
 use Rattle.pdl_flatnets.proofs.NetLists.{signals_keep}
-use Rattle.pdl_pipe_law.specs.Walk.{Walk, Ask, both}
-use Rattle.pdl_pipe_law.specs.Views.{View, free, way_on, moves_where}
-use Rattle.pdl_sides.specs.Sides.{all_answered, unsquashed, barrier_open}
+use Rattle.pdl_pipe_law.specs.Walk.{both}
+use Rattle.pdl_pipe_law.specs.Views.{View}
+use Rattle.pdl_sides.specs.Sides.{unsquashed, barrier_open}
 use Rattle.pdl_stagenexts.specs.declared.line.Line.{Line}
 use Rattle.pdl_stagenexts.specs.Lines.{line_pipe, line_views, IsLineIn}
 use Rattle.pdl_stagenexts.proofs.LinesKept.{views_same, bits_there}
 use Rattle.pdl_stagemoves.specs.declared.controls.Controls.{Controls}
 use Rattle.pdl_stagemoves.specs.Inside.{LeadsInside}
-use Rattle.pdl_stagemoves.specs.Gates.{opens_by, turn_in}
-use Rattle.pdl_stagemoves.specs.Signs.{Signs, gate_by, path_by, signs_in, signs_by, IsControlled}
+use Rattle.pdl_stagemoves.specs.Gates.{opens_by}
+use Rattle.pdl_stagemoves.specs.Signs.{gate_by, signs_by, IsControlled}
 use Rattle.pdl_stagemoves.proofs.Gating.{answered_same, turns_way}
 
 -- a gate by its parts

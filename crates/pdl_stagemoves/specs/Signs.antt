@@ -1,5 +1,5 @@
 -- What the gates of stages go by, in signals, and a gate.
-use Rattle.std.specs.Prelude.{◌≡◌, ℕ, ◌<◌, List, length, Option}
+use Rattle.std.specs.Prelude.{◌≡◌, ℕ, List, length, Option}
 use Rattle.pdl_word.specs.Each.{Each}
 use Rattle.pdl_semantics.specs.Flat.{Pipe}
 use Rattle.pdl_semantics.specs.Stages.{stage_at, verify_stage}

@@ -1,4 +1,4 @@
-use Rattle.std.proofs.Common.{length, ap, ap₂, ◌∙◌, subst}
+use Rattle.std.proofs.Common.{length, ap, subst}
 use Rattle.pdl_net.specs.Signal.{Signal}
 use Rattle.pdl_net.specs.Meaning.{signal}
 use Rattle.pdl_net.proofs.Keeps.{extends_keeps, extends_trans}

@@ -1,11 +1,10 @@
-use Rattle.std.proofs.Common.{◌≡◌, ◌<◌, length, refl, sym, ap, ap₂, ◌∙◌, subst, map, arith}
+use Rattle.std.proofs.Common.{◌<◌, length, sym, ap, ap₂, ◌∙◌, subst, map, arith}
 use Rattle.pdl_net.specs.Signal.{Signal}
-use Rattle.pdl_net.specs.Meaning.{signal}
 use Rattle.pdl_net.proofs.Keeps.{extends_keeps, extends_trans}
 use Rattle.pdl_flatnets.specs.Nets.{signals_in, signal_at}
 use Rattle.pdl_flatnets.proofs.NetLists.{signals_keep}
 use Rattle.pdl_semantics.specs.Stages.{stage_at, verify_stage}
-use Rattle.pdl_pipe_law.specs.Walk.{both, is_on}
+use Rattle.pdl_pipe_law.specs.Walk.{both}
 use Rattle.pdl_pipe_law.specs.Views.{View, way_on}
 use Rattle.pdl_sides.specs.Sides.{barrier_open}
 use Rattle.pdl_stagenets.specs.Parts.{ask_in}
@@ -16,7 +15,7 @@ use Rattle.pdl_word.specs.Each.{Each}
 use Rattle.pdl_answernets.specs.Ports.{IsBitFor}
 use Rattle.pdl_stagenets.proofs.Kept.{walk_keep}
 use Rattle.pdl_stagemoves.specs.Gates.{opens_by, turn_in, IsAsked}
-use Rattle.pdl_stagemoves.proofs.Gating.{bit_keep, bits_keep, both_after, asks_same, are_asked}
+use Rattle.pdl_stagemoves.proofs.Gating.{bits_keep, both_after, asks_same, are_asked}
 use Rattle.pdl_stagemoves.proofs.controls.path_open.Goals as goal
 
 pub variable-clear-requires-clause-there : goal.variable-clear-requires-clause-there

@@ -22,4 +22,4 @@ loop-m-preserved c =
     let e = extends_keeps a b c.loop-m.invariant.0 in
     let more = free_more d x c.args.k c.loop-m.nets c.loop-m.m c.in_ok-free.free
     (have_keep b d (extends_keeps b d c.memory_free.ensures.extends) x (line_keep a b x e c.requires.line) c.requires.inside (ports_stand a b (line_pipe x) x.shared.now.ports.now e c.requires.stand) c.args.k c.requires.low c.loop-m.nets c.loop-m.m c.loop-m.invariant.1) c.in_ok-free.ensures.free in
-    (extends_trans a b d c.loop-m.invariant.0 c.memory_free.ensures.extends, subst (λ ys. HaveFree d x c.args.k ys (c.loop-m.m + 1)) (sym {! !}) more)
+    (extends_trans a b d c.loop-m.invariant.0 c.memory_free.ensures.extends, subst (λ ys. HaveFree d x c.args.k ys (c.loop-m.m + 1)) (sym c.in_ok-push.ensures.ok) more)

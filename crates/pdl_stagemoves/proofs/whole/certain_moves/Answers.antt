@@ -1,10 +1,7 @@
-use Rattle.std.proofs.Common.{◌≡◌, sym, ap, ◌∙◌, subst, length, arith}
+use Rattle.std.proofs.Common.{◌≡◌, sym, ◌∙◌, arith}
 use Rattle.std.specs.Prelude.{Some, None}
 use Rattle.pdl_net.proofs.Keeps.{extends_keeps}
-use Rattle.pdl_stagenexts.specs.Lines.{line_pipe}
 use Rattle.pdl_stagenets.proofs.Kept.{bits_keep}
-use Rattle.pdl_stagemoves.specs.Signs.{signs_in}
-use Rattle.pdl_stagemoves.specs.Passed.{ArePassed}
 use Rattle.pdl_stagemoves.proofs.MovedWhole.{filled_at, filled_bits, zero_bits, passed_certain}
 use Rattle.pdl_stagemoves.proofs.whole.certain_moves.Goals as goal
 

@@ -1,11 +1,8 @@
-use Rattle.std.proofs.Common.{◌≡◌, ◌<◌, ◌≤◌, ℕ, refl, sym, ap, ◌∙◌, subst, length, arith}
+use Rattle.std.proofs.Common.{◌≡◌, ℕ, sym, ap, ◌∙◌, subst, length, arith}
 use Rattle.std.specs.Prelude.{Some, None}
 use Rattle.pdl_word.specs.Each.{Each}
 use Rattle.pdl_answernets.specs.Ports.{IsBit}
 use Rattle.pdl_stagemoves.specs.declared.controls.Controls.{Controls}
-use Rattle.pdl_semantics.specs.Stages.{verify_stage}
-use Rattle.pdl_net.specs.declared.Net.TheVariants.{Input}
-use Rattle.pdl_net.specs.Signal.{Signal}
 use Rattle.pdl_net.specs.Meaning.{signal}
 use Rattle.pdl_net.proofs.Keeps.{extends_keeps, extends_trans}
 use Rattle.pdl_flatnets.specs.Nets.{signals_in, signal_at}
@@ -16,7 +13,7 @@ use Rattle.pdl_sides.specs.HasSides.{squash_of}
 use Rattle.pdl_stagenets.proofs.Kept.{bits_keep}
 use Rattle.pdl_stagenexts.specs.Lines.{line_pipe, line_views}
 use Rattle.pdl_stagenexts.proofs.LinesKept.{line_keep, views_same}
-use Rattle.pdl_stagemoves.specs.Signs.{signs_in, signs_by, IsControlled}
+use Rattle.pdl_stagemoves.specs.Signs.{signs_in, IsControlled}
 use Rattle.pdl_stagemoves.specs.Passed.{ArePassed}
 use Rattle.pdl_stagemoves.proofs.Gating.{bit_keep}
 use Rattle.pdl_stagemoves.proofs.Turning.{turns_keep}

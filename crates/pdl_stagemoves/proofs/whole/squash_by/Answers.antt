@@ -1,4 +1,4 @@
-use Rattle.std.proofs.Common.{◌≡◌, ◌<◌, ◌≤◌, refl, sym, ap, ◌∙◌, length, arith}
+use Rattle.std.proofs.Common.{refl, sym, ap, arith}
 use Rattle.pdl_net.specs.Meaning.{signal}
 use Rattle.pdl_squash.specs.Laws.{signal_at as squash_net}
 use Rattle.pdl_pipe_law.specs.Views.{View}

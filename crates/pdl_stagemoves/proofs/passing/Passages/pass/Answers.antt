@@ -3,8 +3,6 @@ use Rattle.std.specs.Prelude.{slice_set}
 use Rattle.std.proofs.lemmas.List.{get_or-set_other}
 use Rattle.pdl_net.specs.declared.Net.TheVariants.{Input}
 use Rattle.pdl_squash.specs.Laws.{net_at}
-use Rattle.pdl_kit.specs.declared.seq.Seq.{Seq}
-use Rattle.pdl_net.specs.declared.Net.{Net}
 use Rattle.pdl_net.proofs.Keeps.{extends_keeps}
 use Rattle.pdl_stagemoves.specs.Signs.{signs_by}
 use Rattle.pdl_stagemoves.specs.Passed.{ArePassed}
