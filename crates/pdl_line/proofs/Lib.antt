@@ -1,0 +1,4 @@
+pub mod Later
+pub mod Settled
+pub mod StageMade
+pub mod StartMade
