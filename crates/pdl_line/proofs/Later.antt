@@ -2,6 +2,8 @@
 use Rattle.std.proofs.Common.{◌≡◌, ℕ, suc, ◌+◌, ◌<◌, ◌≤◌, List, map, length, get_or, ap, ◌∙◌, arith}
 use mathlib.Core.Path.{fun_ext}
 use Rattle.std.proofs.lemmas.List.{get_or_default}
+use Rattle.std.specs.Prelude.{Option}
+use Rattle.pdl_semantics.specs.Flat.{Pipe}
 use Rattle.pdl_form.specs.Form.{Form}
 use Rattle.pdl_net.specs.Circuit.{Circuit, State}
 use Rattle.pdl_net.specs.Signal.{Signal}
@@ -11,17 +13,21 @@ use Rattle.pdl_net.specs.Well.{IsWell}
 use Rattle.pdl_net.proofs.Keeps.{keeps_trans}
 use Rattle.pdl_port.specs.Laws.{AnswerSignals}
 use Rattle.pdl_pipe_law.specs.Walk.{Locks}
+use Rattle.pdl_pipe_law.proofs.Next.{lock_there}
+use Rattle.pdl_stagenets.specs.declared.locks.MemLock.{MemLock}
+use Rattle.pdl_stagenets.specs.Locked.{Members, AreLocked, locks_in}
 use Rattle.pdl_stagenets.proofs.Lists.{map_each}
 use Rattle.pdl_stageregs.specs.declared.nets.StageNets.{StageNets}
 use Rattle.pdl_stageregs.specs.Stages.{reg_of, view_in, views_in, no_view, IsAt}
 use Rattle.pdl_stageregs.specs.Begun.{IsEnded, AreEnded}
-use Rattle.pdl_stageregs.specs.Staged.{IsStaged, AreStaged, AreApart}
+use Rattle.pdl_stageregs.specs.Staged.{IsStaged, AreStaged, AreApart, next_signals}
 use Rattle.pdl_stageregs.proofs.StagedMade.{staged_keep}
+use Rattle.pdl_stageregs.proofs.TicketsMade.{next_at}
 use Rattle.pdl_stagenexts.specs.declared.line.Line.{Line}
-use Rattle.pdl_stagenexts.specs.Lines.{IsStageNow, IsLineIn, line_form, line_kills}
+use Rattle.pdl_stagenexts.specs.Lines.{IsStageNow, IsLineIn, line_form, line_views, line_moves, line_kills}
 use Rattle.pdl_stagenexts.specs.Nexts.{TakesNext}
-use Rattle.pdl_stagenexts.proofs.LinesKept.{kills_same, stage_now, view_same}
-use Rattle.pdl_line.specs.Made.{IsLineMade}
+use Rattle.pdl_stagenexts.proofs.LinesKept.{all_moves_same, kills_same, stage_now, view_same, views_same}
+use Rattle.pdl_line.specs.Made.{AreNextTickets, IsLineMade}
 use Rattle.pdl_word.specs.Each.{Each}
 use Rattle.pdl_word.proofs.Each.{each_from_all}
 
@@ -51,6 +57,12 @@ module _ (f : Form) (nexts : List Signal) (answers : ℕ → ℕ → AnswerSigna
 pub all_kills_same : (a b : Circuit) (x : Line) → Keeps a b → IsLineIn a x → line_kills b x ≡ line_kills a x
 all_kills_same a b x e h = fun_ext (kills_same a b x e h)
 
+-- ---- next tickets
+
+-- those of the locks are where they are made so
+pub locks_next : {T : Type 0} (l : Members T) (a : Circuit) (p : Pipe) (xs : List (Option (MemLock T))) → AreLocked l a p xs → AreNextTickets p (locks_in l p a xs) (next_signals a xs)
+locks_next l a p xs h = λ m e. (lock_there p m e, next_at l a p xs h m (lock_there p m e))
+
 -- ---- what registers take
 
 -- a stage's registers still take it where they were left alone
@@ -76,3 +88,18 @@ line_made a c e d x nexts answers ls low high staged apart ac line ce takes ed w
   well = well;
   takes = λ k s l is. takes_later c e d x k s low high apart l is same (takes k s l is);
 }
+
+-- ---- a made line looks the same in all its circuits
+
+module _ (a c d : Circuit) (x : Line) (nexts : List Signal) (answers : ℕ → ℕ → AnswerSignals) (ls : Locks) (made : IsLineMade a c d x nexts answers ls) where
+  pub views_before : line_views c x ≡ line_views a x
+  views_before = made_views_same (line_form x) nexts answers ls x.stages.now a c made.before made.staged
+
+  pub views_after : line_views d x ≡ line_views c x
+  views_after = views_same c d x made.after made.line
+
+  pub moves_after : line_moves d x ≡ line_moves c x
+  moves_after = all_moves_same c d x made.after made.line
+
+  pub kills_after : line_kills d x ≡ line_kills c x
+  kills_after = all_kills_same c d x made.after made.line

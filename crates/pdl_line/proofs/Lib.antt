@@ -1,3 +1,4 @@
+pub mod Begins
 pub mod Later
 pub mod Settled
 pub mod StageMade

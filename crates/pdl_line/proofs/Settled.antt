@@ -1,19 +1,16 @@
 -- What needs no register stays: a constant with which all that come into a stage come.
-use Rattle.std.proofs.Common.{◌≡◌, ℕ, zero, suc, ◌+◌, ◌<◌, ◌≤◌, ◌==◌, Bool, true, false, ◌&&◌, ◌||◌, ◌⊎◌, inl, inr, leb, List, [], ◌∷◌, ◌++◌, map, length, refl, sym, ap, ap₂, ◌∙◌, subst, arith, ne_eqb}
-use Rattle.std.specs.Prelude.{Option, Some, None}
+use Rattle.std.proofs.Common.{◌≡◌, ℕ, zero, suc, ◌+◌, ◌<◌, ◌≤◌, true, false, ◌⊎◌, inl, inr, leb, List, [], ◌∷◌, ◌++◌, map, length, refl, sym, ap, ◌∙◌, subst, arith, ne_eqb}
 use Rattle.std.proofs.lemmas.Bool.Decides.{leb_tells}
 use Rattle.std.proofs.lemmas.List.{get_or_past, length-take}
-use Rattle.pdl_semantics.specs.Flat.{Next, Pipe, Stage}
-use Rattle.pdl_semantics.specs.Stages.{stage_at, last_stage}
+use Rattle.pdl_semantics.specs.Flat.{Pipe}
 use Rattle.pdl_form.specs.Form.{Form}
-use Rattle.pdl_machine_facts.specs.Slots.{leads_to, ways}
+use Rattle.pdl_machine_facts.specs.Slots.{ways}
 use Rattle.pdl_net.specs.Circuit.{Circuit, State}
 use Rattle.pdl_net.specs.Signal.{Signal, no_signal, const_value, const_signal}
 use Rattle.pdl_flatnets.specs.Nets.{signals_in, signal_at, widths_of}
 use Rattle.pdl_flatnets.proofs.NetLists.{length_widths}
 use Rattle.pdl_port.specs.Laws.{AnswerSignals}
-use Rattle.pdl_inflight.specs.Readings.{Reading, reading}
-use Rattle.pdl_answernets.specs.Readings.{gets_one, gets_some, gets_answer}
+use Rattle.pdl_answernets.specs.Readings.{gets_answer}
 use Rattle.pdl_answernets.proofs.Answered.{answer_none}
 use Rattle.pdl_pipe_law.specs.Walk.{Birth}
 use Rattle.pdl_pipe_law.specs.Views.{View, Comer, new_by, new_from, out_of, comers, first_coming}
@@ -28,6 +25,7 @@ use Rattle.pdl_stageregs.specs.Items.{ended_item, kept_item, comer_item, is_answ
 use Rattle.pdl_stageregs.specs.Stages.{view_in, IsThereBegun, HasAnswered, IsCommon, IsSettled}
 use Rattle.pdl_stagenexts.proofs.Bringing.{none_left, after_first}
 use Rattle.pdl_line.specs.Made.{BeginsFirst}
+use Rattle.pdl_line.proofs.Begins.{first_unanswered}
 use Rattle.pdl_word.specs.Each.{Each}
 
 const_is : (s : State) (w v : ℕ) (f : Signal) → f ≡ const_signal w v → f.value s ≡ v
@@ -119,33 +117,13 @@ held_item v (Held m a) = v.begun.held m a
 held_item v (Ticket m) = v.tickets m
 held_item v (Guess i) = signal_at v.begun.guess i
 
-module _ (p : Pipe) (begins : BeginsFirst p) where
-  none_to_first : (j : ℕ) → leads_to (stage_at p j).next 0 ≡ false
-  none_to_first j = at (leb_tells (suc j) (length p.stages))
-    where
-      at : ((leb (suc j) (length p.stages) ≡ true) × (suc j ≤ length p.stages)) ⊎ ((leb (suc j) (length p.stages) ≡ false) × (length p.stages < suc j)) → leads_to (stage_at p j).next 0 ≡ false
-      at (inl q) = let r = q.1 in begins.first j (omega (arith, r))
-      at (inr q) = let r = q.1 in ap (λ (s : Stage). leads_to s.next 0) (get_or_past p.stages j last_stage (omega (arith, r)))
-
-  one_not_first : (x : ℕ) (o : Option Reading) → gets_one p 0 x o ≡ false
-  one_not_first x None = refl
-  one_not_first x (Some r) = ap (λ b. (r.var == x) && b) (none_to_first r.stage) ∙ never (r.var == x)
-    where
-      never : (b : Bool) → (b && false) ≡ false
-      never true = refl
-      never false = refl
-
-  some_not_first : (x n m : ℕ) → gets_some p 0 x n m ≡ false
-  some_not_first x zero m = refl
-  some_not_first x (suc n) m = ap₂ (λ a b. a || b) (one_not_first x (reading p m)) (some_not_first x n (suc m))
-
-  -- what needs no register gets no answer
-  pub settled_unanswered : (us : ℕ → View) (k : ℕ) (i : Item) (f : Signal) → IsSettled p us k i f → is_answered p k i ≡ false
-  settled_unanswered us zero (Var x) f h = some_not_first x (length p.mems) 0
-  settled_unanswered us zero (Held m a) f h = refl
-  settled_unanswered us zero (Ticket m) f h = refl
-  settled_unanswered us zero (Guess i) f h = refl
-  settled_unanswered us (suc k) i f h = h.unanswered
+-- what needs no register gets no answer
+pub settled_unanswered : (p : Pipe) → BeginsFirst p → (us : ℕ → View) (k : ℕ) (i : Item) (f : Signal) → IsSettled p us k i f → is_answered p k i ≡ false
+settled_unanswered p begins us zero (Var x) f h = first_unanswered p begins x
+settled_unanswered p begins us zero (Held m a) f h = refl
+settled_unanswered p begins us zero (Ticket m) f h = refl
+settled_unanswered p begins us zero (Guess i) f h = refl
+settled_unanswered p begins us (suc k) i f h = h.unanswered
 
 module _ (c : Circuit) (f : Form) (nexts : List Signal) (answers : ℕ → ℕ → AnswerSignals) (k : ℕ) (s : StageNets) (there : IsThereBegun c f nexts s) (answered : HasAnswered c f answers k s) where
   variable_unanswered : (x : ℕ) → gets_answer f.pipe k x ≡ false → signal_at (signals_in c s.begun) x ≡ signal_at (signals_in c s.vars) x

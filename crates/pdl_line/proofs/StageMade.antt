@@ -95,9 +95,6 @@ module _ (a c d : Circuit) (x : Line) (nexts : List Signal) (answers : ℕ → �
     item_next : (i : Item) → is_needed (line_pipe x) k i ≡ true → Becomes d (kept_item (view_in c s) i) (first_coming (comer_item i) (comers (line_pipe x) (line_views c x) (line_moves c x) k) (held_item (view_in c s) i))
     item_next i need = by (st.kept i need)
       where
-        abbrev into : Signal → Signal
-        into rest = first_coming (comer_item i) (comers (line_pipe x) (line_views c x) (line_moves c x) k) rest
-
         by : IsBegunBy (line_form x) nexts s.regs i (kept_item (view_in c s) i) (IsSettled (line_pipe x) (line_views c x) k i)
             → Becomes d (kept_item (view_in c s) i) (first_coming (comer_item i) (comers (line_pipe x) (line_views c x) (line_moves c x) k) (held_item (view_in c s) i))
         by (inr h) =
