@@ -1,8 +1,7 @@
 -- No stage leads to the first one, so no answer comes there.
-use Rattle.std.proofs.Common.{◌≡◌, refl, sym, ap, ap₂, ◌∙◌, subst, ℕ, zero, suc, ◌<◌, ◌≤◌, ◌==◌, Bool, true, false, ◌&&◌, ◌||◌, ◌⊎◌, inl, inr, leb, length, replicate, arith}
+use Rattle.std.proofs.Common.{◌≡◌, refl, ap, ap₂, ◌∙◌, ℕ, zero, suc, ◌<◌, ◌≤◌, ◌==◌, Bool, true, false, ◌&&◌, ◌||◌, ◌⊎◌, inl, inr, length, replicate, arith}
 use Rattle.std.specs.Prelude.{List, Option, Some, None, if◌then◌else◌}
-use Rattle.std.proofs.lemmas.Bool.{eqb-true, false≢true}
-use Rattle.std.proofs.lemmas.Bool.Decides.{leb_tells}
+use Rattle.std.proofs.lemmas.Bool.{eqb-true, false≢true, cases_lt}
 use Rattle.std.proofs.lemmas.List.{get_or_past, get_or-replicate}
 use Rattle.pdl_semantics.specs.Flat as flat
 use Rattle.pdl_semantics.specs.Flat.{Next, Pipe, Stage}
@@ -37,11 +36,11 @@ begins_first p on some params = record { some = some; params = params; first = �
 
 module _ (p : Pipe) (begins : BeginsFirst p) where
   none_leads : (j : ℕ) → leads_to (stage_at p j).next 0 ≡ false
-  none_leads j = at (leb_tells (suc j) (length p.stages))
+  none_leads j = at (cases_lt j (length p.stages))
     where
-      at : ((leb (suc j) (length p.stages) ≡ true) × (suc j ≤ length p.stages)) ⊎ ((leb (suc j) (length p.stages) ≡ false) × (length p.stages < suc j)) → leads_to (stage_at p j).next 0 ≡ false
-      at (inl q) = let r = q.1 in begins.first j (omega (arith, r))
-      at (inr q) = let r = q.1 in ap (λ (s : Stage). leads_to s.next 0) (get_or_past p.stages j last_stage (omega (arith, r)))
+      at : (j < length p.stages) ⊎ (length p.stages ≤ j) → leads_to (stage_at p j).next 0 ≡ false
+      at (inl low) = begins.first j low
+      at (inr high) = ap (λ (s : Stage). leads_to s.next 0) (get_or_past p.stages j last_stage high)
 
   one_none : (x : ℕ) (o : Option Reading) → gets_one p 0 x o ≡ false
   one_none x None = refl

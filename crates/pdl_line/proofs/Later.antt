@@ -1,11 +1,11 @@
 -- Stages, their views and what their registers take stay while the circuit grows.
-use Rattle.std.proofs.Common.{◌≡◌, ℕ, suc, ◌+◌, ◌<◌, ◌≤◌, List, map, length, get_or, ap, ◌∙◌, arith}
+use Rattle.std.proofs.Common.{◌≡◌, ℕ, ◌<◌, ◌≤◌, List, length, get_or, ap, ◌∙◌, arith}
 use mathlib.Core.Path.{fun_ext}
 use Rattle.std.proofs.lemmas.List.{get_or_default}
 use Rattle.std.specs.Prelude.{Option}
 use Rattle.pdl_semantics.specs.Flat.{Pipe}
 use Rattle.pdl_form.specs.Form.{Form}
-use Rattle.pdl_net.specs.Circuit.{Circuit, State}
+use Rattle.pdl_net.specs.Circuit.{Circuit}
 use Rattle.pdl_net.specs.Signal.{Signal}
 use Rattle.pdl_net.specs.Meaning.{next_signal}
 use Rattle.pdl_net.specs.Growth.{Keeps}
@@ -60,13 +60,15 @@ all_kills_same a b x e h = fun_ext (kills_same a b x e h)
 -- ---- next tickets
 
 -- those of the locks are where they are made so
-pub locks_next : {T : Type 0} (l : Members T) (a : Circuit) (p : Pipe) (xs : List (Option (MemLock T))) → AreLocked l a p xs → AreNextTickets p (locks_in l p a xs) (next_signals a xs)
+pub locks_next : {T : Type 0} (l : Members T) (a : Circuit) (p : Pipe) (xs : List (Option (MemLock T))) → AreLocked l a p xs
+    → AreNextTickets p (locks_in l p a xs) (next_signals a xs)
 locks_next l a p xs h = λ m e. (lock_there p m e, next_at l a p xs h m (lock_there p m e))
 
 -- ---- what registers take
 
 -- a stage's registers still take it where they were left alone
-pub takes_later : (c e d : Circuit) (x : Line) (k : ℕ) (s : StageNets) (low high : ℕ) → AreApart low high x.stages.now → k < length x.stages.now → IsAt x.stages.now k s → ((r : ℕ) → low ≤ r → r < high → next_signal d r ≡ next_signal e r)
+pub takes_later : (c e d : Circuit) (x : Line) (k : ℕ) (s : StageNets) (low high : ℕ) → AreApart low high x.stages.now → k < length x.stages.now
+    → IsAt x.stages.now k s → ((r : ℕ) → low ≤ r → r < high → next_signal d r ≡ next_signal e r)
     → TakesNext c e x k s → TakesNext c d x k s
 takes_later c e d x k s low high apart l is same h =
     let from = apart.from k s l is in
@@ -77,7 +79,8 @@ takes_later c e d x k s low high apart l is same h =
     }
 
 -- a line that was connected in circuit e, and whose registers were left alone then
-pub line_made : (a c e d : Circuit) (x : Line) (nexts : List Signal) (answers : ℕ → ℕ → AnswerSignals) (ls : Locks) (low high : ℕ) → AreStaged a (line_form x) nexts answers ls x.stages.now → AreApart low high x.stages.now → Keeps a c → IsLineIn c x
+pub line_made : (a c e d : Circuit) (x : Line) (nexts : List Signal) (answers : ℕ → ℕ → AnswerSignals) (ls : Locks) (low high : ℕ)
+    → AreStaged a (line_form x) nexts answers ls x.stages.now → AreApart low high x.stages.now → Keeps a c → IsLineIn c x
     → Keeps c e → ((k : ℕ) (s : StageNets) → k < length x.stages.now → IsAt x.stages.now k s → TakesNext c e x k s) → Keeps e d → IsWell d → ((r : ℕ) → low ≤ r → r < high → next_signal d r ≡ next_signal e r)
     → IsLineMade a c d x nexts answers ls
 line_made a c e d x nexts answers ls low high staged apart ac line ce takes ed well same = record {

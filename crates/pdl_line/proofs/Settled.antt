@@ -1,13 +1,13 @@
 -- What needs no register stays: a constant with which all that come into a stage come.
-use Rattle.std.proofs.Common.{◌≡◌, ℕ, zero, suc, ◌+◌, ◌<◌, ◌≤◌, true, false, ◌⊎◌, inl, inr, leb, List, [], ◌∷◌, ◌++◌, map, length, refl, sym, ap, ◌∙◌, subst, arith, ne_eqb}
-use Rattle.std.proofs.lemmas.Bool.Decides.{leb_tells}
+use Rattle.std.proofs.Common.{◌≡◌, ℕ, zero, suc, ◌+◌, ◌<◌, ◌≤◌, false, ◌⊎◌, inl, inr, List, [], ◌∷◌, ◌++◌, map, length, refl, sym, ap, ◌∙◌, subst, arith, ne_eqb}
+use Rattle.std.proofs.lemmas.Bool.{cases_lt}
 use Rattle.std.proofs.lemmas.List.{get_or_past, length-take}
 use Rattle.pdl_semantics.specs.Flat.{Pipe}
 use Rattle.pdl_form.specs.Form.{Form}
 use Rattle.pdl_machine_facts.specs.Slots.{ways}
 use Rattle.pdl_net.specs.Circuit.{Circuit, State}
 use Rattle.pdl_net.specs.Signal.{Signal, no_signal, const_value, const_signal}
-use Rattle.pdl_flatnets.specs.Nets.{signals_in, signal_at, widths_of}
+use Rattle.pdl_flatnets.specs.Nets.{signals_in, signal_at}
 use Rattle.pdl_flatnets.proofs.NetLists.{length_widths}
 use Rattle.pdl_port.specs.Laws.{AnswerSignals}
 use Rattle.pdl_answernets.specs.Readings.{gets_answer}
@@ -33,7 +33,8 @@ unfolding const_value
 const_is s w v f e = ap (λ (y : Signal). y.value s) e
 
 -- a constant that all bring stays
-constant_stays : (c : Circuit) (of : Comer → Signal) (w v : ℕ) (f : Signal) (os : List Comer) → f ≡ const_signal w v → AllBring of v os → Becomes c f (first_coming of os f)
+constant_stays : (c : Circuit) (of : Comer → Signal) (w v : ℕ) (f : Signal) (os : List Comer) → f ≡ const_signal w v → AllBring of v os
+    → Becomes c f (first_coming of os f)
 constant_stays c of w v f os e h = subst (λ (g : Signal). Becomes c g (first_coming of os g)) (sym e) (becomes_const c w v of os h)
 
 -- ---- new threads
@@ -57,7 +58,8 @@ zero_const p (Ticket m) f h = (1, h)
 zero_const p (Guess i) f h = h
 
 -- a new thread comes with zero for what is zero in stage 0
-call_brings : (p : Pipe) (i : Item) (f moves : Signal) (b : Birth) → IsZero p i f → length b.args ≤ length p.start → (s : State) → (comer_item i (new_by moves b)).value s ≡ 0
+call_brings : (p : Pipe) (i : Item) (f moves : Signal) (b : Birth) → IsZero p i f → length b.args ≤ length p.start → (s : State)
+    → (comer_item i (new_by moves b)).value s ≡ 0
 call_brings p (Var x) f moves b h l s = ap (λ (g : Signal). g.value s) (get_or_past b.args x no_signal (let q = h.0 in omega (arith, l, q)))
 call_brings p (Held m a) f moves b h l s = zero_is s
 call_brings p (Ticket m) f moves b h l s = refl
@@ -67,19 +69,22 @@ bring_append : (of : Comer → Signal) (v : ℕ) (xs ys : List Comer) → AllBri
 bring_append of v [] ys h k = k
 bring_append of v (x ∷ xs) ys h k = (h.0, bring_append of v xs ys h.1 k)
 
-calls_bring : (p : Pipe) (i : Item) (f moves : Signal) (bs : List Birth) → IsZero p i f → AreShort (length p.start) bs → AllBring (comer_item i) 0 (map (new_by moves) bs)
+calls_bring : (p : Pipe) (i : Item) (f moves : Signal) (bs : List Birth) → IsZero p i f → AreShort (length p.start) bs
+    → AllBring (comer_item i) 0 (map (new_by moves) bs)
 calls_bring p i f moves [] h l = tt
 calls_bring p i f moves (b ∷ bs) h l = (call_brings p i f moves b h l.0, calls_bring p i f moves bs h l.1)
 
 module _ (p : Pipe) (vs : ℕ → View) (moves : ℕ → Signal) where
-  new_bring : (i : Item) (f : Signal) (n k : ℕ) → IsZero p i f → ((j : ℕ) → k ≤ j → j < k + n → AreShort (length p.start) (vs j).ended.births) → AllBring (comer_item i) 0 (new_from vs moves n k)
+  new_bring : (i : Item) (f : Signal) (n k : ℕ) → IsZero p i f → ((j : ℕ) → k ≤ j → j < k + n → AreShort (length p.start) (vs j).ended.births)
+      → AllBring (comer_item i) 0 (new_from vs moves n k)
   new_bring i f zero k h short = tt
   new_bring i f (suc n) k h short =
       bring_append (comer_item i) 0 (map (new_by (moves k)) (vs k).ended.births) (new_from vs moves n (suc k)) (calls_bring p i f (moves k) (vs k).ended.births h (short k (omega arith) (omega arith)))
       (new_bring i f n (suc k) h (λ j m q. short j (omega (arith, m)) (omega (arith, q))))
 
   -- into stage 0 new threads alone come
-  pub zero_stays : (c : Circuit) → ((j : ℕ) → j < length p.stages → AreShort (length p.start) (vs j).ended.births) → (i : Item) (f : Signal) → IsZero p i f → Becomes c f (first_coming (comer_item i) (comers p vs moves 0) f)
+  pub zero_stays : (c : Circuit) → ((j : ℕ) → j < length p.stages → AreShort (length p.start) (vs j).ended.births) → (i : Item) (f : Signal) → IsZero p i f
+      → Becomes c f (first_coming (comer_item i) (comers p vs moves 0) f)
   zero_stays c short i f h =
       let const = zero_const p i f h in
       subst (λ os. Becomes c f (first_coming (comer_item i) os f)) (none_left p vs moves (length p.stages) refl)
@@ -94,17 +99,20 @@ module _ (p : Pipe) (vs : ℕ → View) (moves : ℕ → Signal) where
   way_brings q j (Ticket m) w v e s = const_is s w v ((vs j).tickets m) e
   way_brings q j (Guess i) w v e s = const_is s w v (signal_at (vs j).ended.guess i) e
 
-  ways_bring : (q : ℕ) (js : List ℕ) (i : Item) (w v : ℕ) (g : Signal) → g ≡ const_signal w v → Each (λ j. ended_item (vs j) i ≡ g) js → AllBring (comer_item i) v (map (out_of p vs moves q) js)
+  ways_bring : (q : ℕ) (js : List ℕ) (i : Item) (w v : ℕ) (g : Signal) → g ≡ const_signal w v → Each (λ j. ended_item (vs j) i ≡ g) js
+      → AllBring (comer_item i) v (map (out_of p vs moves q) js)
   ways_bring q [] i w v g e h = tt
   ways_bring q (j ∷ js) i w v g e h = (way_brings q j i w v (h.0 ∙ e), ways_bring q js i w v g e h.1)
 
-  pub common_stays : (c : Circuit) (k : ℕ) (i : Item) (f : Signal) → IsCommon p vs (suc k) i f → Becomes c f (first_coming (comer_item i) (comers p vs moves (suc k)) f)
+  pub common_stays : (c : Circuit) (k : ℕ) (i : Item) (f : Signal) → IsCommon p vs (suc k) i f
+      → Becomes c f (first_coming (comer_item i) (comers p vs moves (suc k)) f)
   common_stays c k i f h =
       let const = h.constant in
       subst (λ os. Becomes c f (first_coming (comer_item i) os f)) (after_first p vs moves (suc k) (ne_eqb (suc k) 0 (λ e. omega (arith, e))))
       (constant_stays c (comer_item i) const.0 const.1 f (map (out_of p vs moves (suc k)) (ways p (suc k))) const.2 (ways_bring (suc k) (ways p (suc k)) i const.0 const.1 f const.2 h.same))
 
-  pub settled_stays : (c : Circuit) → ((j : ℕ) → j < length p.stages → AreShort (length p.start) (vs j).ended.births) → (k : ℕ) (i : Item) (f : Signal) → IsSettled p vs k i f → Becomes c f (first_coming (comer_item i) (comers p vs moves k) f)
+  pub settled_stays : (c : Circuit) → ((j : ℕ) → j < length p.stages → AreShort (length p.start) (vs j).ended.births) → (k : ℕ) (i : Item) (f : Signal)
+      → IsSettled p vs k i f → Becomes c f (first_coming (comer_item i) (comers p vs moves k) f)
   settled_stays c short zero i f h = zero_stays c short i f h
   settled_stays c short (suc k) i f h = common_stays c k i f h
 
@@ -127,17 +135,16 @@ settled_unanswered p begins us (suc k) i f h = h.unanswered
 
 module _ (c : Circuit) (f : Form) (nexts : List Signal) (answers : ℕ → ℕ → AnswerSignals) (k : ℕ) (s : StageNets) (there : IsThereBegun c f nexts s) (answered : HasAnswered c f answers k s) where
   variable_unanswered : (x : ℕ) → gets_answer f.pipe k x ≡ false → signal_at (signals_in c s.begun) x ≡ signal_at (signals_in c s.vars) x
-  variable_unanswered x e = at (leb_tells (suc x) (length f.widths))
+  variable_unanswered x e = at (cases_lt x (length f.widths))
     where
-      at : ((leb (suc x) (length f.widths) ≡ true) × (suc x ≤ length f.widths)) ⊎ ((leb (suc x) (length f.widths) ≡ false) × (length f.widths < suc x)) → signal_at (signals_in c s.begun) x ≡ signal_at (signals_in c s.vars) x
-      at (inl q) = let r = q.1 in answered x (omega (arith, r)) ∙ answer_none f.pipe answers k x (signal_at (signals_in c s.vars) x) e
-      at (inr q) =
-          let r = q.1 in
+      at : (x < length f.widths) ⊎ (length f.widths ≤ x) → signal_at (signals_in c s.begun) x ≡ signal_at (signals_in c s.vars) x
+      at (inl low) = answered x low ∙ answer_none f.pipe answers k x (signal_at (signals_in c s.vars) x) e
+      at (inr high) =
           let n = length_widths (signals_in c s.begun) in
           let n' = ap length there.begun_wide in
           let m = length_widths (signals_in c s.vars) in
           let m' = ap length there.vars_wide in
-          get_or_past (signals_in c s.begun) x no_signal (omega (arith, r, n, n')) ∙ sym (get_or_past (signals_in c s.vars) x no_signal (omega (arith, r, m, m')))
+          get_or_past (signals_in c s.begun) x no_signal (omega (arith, high, n, n')) ∙ sym (get_or_past (signals_in c s.vars) x no_signal (omega (arith, high, m, m')))
 
   -- so it is held as it was kept
   pub held_as_kept : (i : Item) → is_answered f.pipe k i ≡ false → held_item (view_in c s) i ≡ kept_item (view_in c s) i

@@ -1,5 +1,5 @@
 -- At the start the first stage of a line holds the first thread's arguments, and nothing is held.
-use Rattle.std.proofs.Common.{◌≡◌, ℕ, ◌-◌, ◌<◌, ◌≤◌, true, inl, inr, List, length, sym, ap, ◌∙◌, subst, arith}
+use Rattle.std.proofs.Common.{◌≡◌, ℕ, ◌-◌, ◌<◌, true, inl, inr, List, length, sym, subst, arith}
 use Rattle.std.specs.Prelude.{slice_index}
 use Rattle.std.proofs.lemmas.List.{get_or_past}
 use Rattle.pdl_semantics.specs.Flat.{Pipe, start_env}
@@ -38,7 +38,8 @@ module _ (c d : Circuit) (f : Form) (nexts : List Signal) (answers : ℕ → ℕ
   starts_item : (i : Item) → is_needed f.pipe 0 i ≡ true → StartsAs d (kept_item (view_in c s) i) (first_value f.pipe 0 i)
   starts_item i need = by (st.kept i need)
     where
-      by : IsBegunBy f nexts s.regs i (kept_item (view_in c s) i) (IsSettled f.pipe (views_in c ss) 0 i) → StartsAs d (kept_item (view_in c s) i) (first_value f.pipe 0 i)
+      by : IsBegunBy f nexts s.regs i (kept_item (view_in c s) i) (IsSettled f.pipe (views_in c ss) 0 i)
+          → StartsAs d (kept_item (view_in c s) i) (first_value f.pipe 0 i)
       by (inr h) = starts_zero d f.pipe i (kept_item (view_in c s) i) h
       by (inl h) =
           let j = h.0 in
@@ -49,7 +50,8 @@ module _ (c d : Circuit) (f : Form) (nexts : List Signal) (answers : ℕ → ℕ
           (subst (λ (y : Item). StartsAs d (reg_signal (item_width f nexts y) (reg_of s.regs j)) (first_value f.pipe 0 y)) same
           (starts_at c d keeps (item_width f nexts (item_at s.regs.items j)) (reg_of s.regs j) (first_value f.pipe 0 (item_at s.regs.items j)) (st.registers.kept j l)))
 
-pub is_start : (a c d : Circuit) (x : Line) (nexts : List Signal) (answers : ℕ → ℕ → AnswerSignals) (ls : Locks) → BeginsFirst (line_pipe x) → IsLineMade a c d x nexts answers ls → IsStart (line_pipe x) d (line_views c x)
+pub is_start : (a c d : Circuit) (x : Line) (nexts : List Signal) (answers : ℕ → ℕ → AnswerSignals) (ls : Locks) → BeginsFirst (line_pipe x)
+    → IsLineMade a c d x nexts answers ls → IsStart (line_pipe x) d (line_views c x)
 is_start a c d x nexts answers ls begins made =
     let p = line_pipe x in
     let ss = x.stages.now in
