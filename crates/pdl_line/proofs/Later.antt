@@ -1,16 +1,18 @@
 -- Stages, their views and what their registers take stay while the circuit grows.
-use Rattle.std.proofs.Common.{◌≡◌, ℕ, ◌<◌, ◌≤◌, List, length, get_or, ap, ◌∙◌, arith}
+use Rattle.std.proofs.Common.{◌≡◌, ℕ, ◌<◌, ◌≤◌, List, length, get_or, sym, ap, ◌∙◌, subst, arith}
 use mathlib.Core.Path.{fun_ext}
 use Rattle.std.proofs.lemmas.List.{get_or_default}
 use Rattle.std.specs.Prelude.{Option}
 use Rattle.pdl_semantics.specs.Flat.{Pipe}
 use Rattle.pdl_form.specs.Form.{Form}
+use Rattle.pdl_formtypes.specs.Stmts.{AreForks}
 use Rattle.pdl_net.specs.Circuit.{Circuit}
 use Rattle.pdl_net.specs.Signal.{Signal}
 use Rattle.pdl_net.specs.Meaning.{next_signal}
 use Rattle.pdl_net.specs.Growth.{Keeps}
 use Rattle.pdl_net.specs.Well.{IsWell}
 use Rattle.pdl_net.proofs.Keeps.{keeps_trans}
+use Rattle.pdl_flatnets.specs.Nets.{signals_in}
 use Rattle.pdl_port.specs.Laws.{AnswerSignals}
 use Rattle.pdl_pipe_law.specs.Walk.{Locks}
 use Rattle.pdl_pipe_law.proofs.Next.{lock_there}
@@ -19,12 +21,12 @@ use Rattle.pdl_stagenets.specs.Locked.{Members, AreLocked, locks_in}
 use Rattle.pdl_stagenets.proofs.Lists.{map_each}
 use Rattle.pdl_stageregs.specs.declared.nets.StageNets.{StageNets}
 use Rattle.pdl_stageregs.specs.Stages.{reg_of, view_in, views_in, no_view, IsAt}
-use Rattle.pdl_stageregs.specs.Begun.{IsEnded, AreEnded}
+use Rattle.pdl_stageregs.specs.Begun.{IsShared, IsEnded, AreEnded}
 use Rattle.pdl_stageregs.specs.Staged.{IsStaged, AreStaged, AreApart, next_signals}
 use Rattle.pdl_stageregs.proofs.StagedMade.{staged_keep}
 use Rattle.pdl_stageregs.proofs.TicketsMade.{next_at}
 use Rattle.pdl_stagenexts.specs.declared.line.Line.{Line}
-use Rattle.pdl_stagenexts.specs.Lines.{IsStageNow, IsLineIn, line_form, line_views, line_moves, line_kills}
+use Rattle.pdl_stagenexts.specs.Lines.{IsBit, IsStageNow, IsLineIn, line_form, line_pipe, line_views, line_moves, line_kills}
 use Rattle.pdl_stagenexts.specs.Nexts.{TakesNext}
 use Rattle.pdl_stagenexts.proofs.LinesKept.{all_moves_same, kills_same, stage_now, view_same, views_same}
 use Rattle.pdl_line.specs.Made.{AreNextTickets, IsLineMade}
@@ -52,6 +54,26 @@ module _ (f : Form) (nexts : List Signal) (answers : ℕ → ℕ → AnswerSigna
     -- and are as they were made
     pub made_keep : AreStaged b f nexts answers ls ss
     made_keep = λ k s l is. staged_keep a b e f nexts answers ls ss k s (are_ended a all) (omega (arith, l)) (all k s l is)
+
+-- a line of stages that were made, with nets for its moves and removals
+pub line_there : (a c : Circuit) (x : Line) (nexts : List Signal) (answers : ℕ → ℕ → AnswerSignals) (ls : Locks)
+    → AreStaged a (line_form x) nexts answers ls x.stages.now → Keeps a c → length x.stages.now ≡ length (line_pipe x).stages
+    → IsShared c (line_form x) x.shared.now → signals_in c x.shared.now.next ≡ nexts → AreForks (line_form x).widths (line_pipe x).stages
+    → length (line_pipe x).start ≤ length (line_form x).widths → length x.moves.now ≡ length x.stages.now → Each (IsBit c) x.moves.now
+    → length x.kills.now ≡ length x.stages.now → Each (IsBit c) x.kills.now → IsLineIn c x
+line_there a c x nexts answers ls all e count shared next forks params moves_count moves kills_count kills = record {
+  shared = shared;
+  count = count;
+  stages = λ k s l is.
+      subst (λ fs. IsStageNow c (line_form x) fs k s) (sym next)
+      (stage_is (line_form x) nexts answers ls x.stages.now c k s (made_keep (line_form x) nexts answers ls x.stages.now a c e all k s l is));
+  moves_count = moves_count;
+  moves = moves;
+  kills_count = kills_count;
+  kills = kills;
+  forks = forks;
+  params = params;
+}
 
 -- whether threads are removed is what it was
 pub all_kills_same : (a b : Circuit) (x : Line) → Keeps a b → IsLineIn a x → line_kills b x ≡ line_kills a x
