@@ -1,1 +1,4 @@
-
+pub mod Reserving
+pub mod Carrying
+pub mod Rows
+pub mod Tailed

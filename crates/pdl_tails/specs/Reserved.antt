@@ -4,6 +4,7 @@ use Rattle.pdl_net.specs.declared.BinOp.TheVariants.{Add}
 use Rattle.pdl_net.specs.declared.Net.{Net}
 use Rattle.pdl_net.specs.Circuit.{Circuit, State}
 use Rattle.pdl_net.specs.Signal.{Signal, const_signal, bin_signal, mux_signal}
+use Rattle.pdl_net.specs.Meaning.{IsThere}
 use Rattle.pdl_lockapi.specs.Laws.{ReserveSignal, holds_ticket, asked_addresses}
 use Rattle.pdl_flatnets.specs.Nets.{NetsThere, signals_in, signal_at}
 use Rattle.pdl_pipe_law.specs.Ports.{all_reserves}
@@ -15,9 +16,9 @@ use Rattle.pdl_stagenexts.specs.Lines.{line_pipe, line_views, line_moves, IsBit}
 abbrev pub one_more : Signal → Signal → Signal
 one_more on f = mux_signal on (bin_signal Add f (const_signal f.width 1)) f
 
--- a reservation's condition is there, with 1 bit
-abbrev pub HasBit : Circuit → ReserveNet → Type 0
-HasBit c r = IsBit c r.on
+-- a reservation's nets are there, its condition with 1 bit
+abbrev pub IsReserve : Circuit → ReserveNet → Type 0
+IsReserve c r = IsBit c r.on × IsThere c r.addr
 
 -- a ticket as wide as another one, by so many later as reservations are made of these
 pub record IsAfter (f g : Signal) (rs : List ReserveSignal) : Type 0 where

@@ -1,12 +1,12 @@
 // The next ticket of each lock after what this cycle's threads reserve.
-ghost use Rattle.std.specs.Prelude.{◌≡◌, ◌<◌, ◌≤◌, IfOk, length, map};
+ghost use Rattle.std.specs.Prelude.{◌≡◌, ◌<◌, [], ◌∷◌, IfOk, length, map};
 ghost use Rattle.pdl_net.specs.Meaning.{IsThere, Means, signal};
 ghost use Rattle.pdl_net.specs.Growth.{Extends};
 ghost use Rattle.pdl_flatnets.specs.Conditions.{AreBits};
 ghost use Rattle.pdl_pipe_law.specs.Ports.{reserves_to};
 ghost use Rattle.pdl_stagenets.specs.Parts.{reservation_in};
 ghost use Rattle.pdl_stagenexts.specs.Lines.{IsBit, IsLineIn};
-ghost use Rattle.pdl_tails.specs.Reserved.{one_more as one_more_signal, IsAfter, IsAfterAll, AreAfterAll, HasBit};
+ghost use Rattle.pdl_tails.specs.Reserved.{one_more as one_more_signal, IsAfter, IsAfterAll, AreAfterAll, IsReserve};
 ghost use Rattle.pdl_word.specs.Each.{Each};
 
 use pdl_build::Builder;
@@ -57,7 +57,8 @@ fn after_reserve(
         return Ok(ticket);
     }
     let on = bits.both(b, moves, reserve.on)?;
-    one_more(b, on, ticket)
+    let net = one_more(b, on, ticket)?;
+    Ok(net)
 }
 
 // The ticket after all that a stage's thread reserves of the memory, where it moves.
@@ -70,7 +71,7 @@ fn after_stage(
     ticket: Net,
 ) -> Result<Net, NoMemory>
     requires bits { AreBits b.old bits }
-    requires reserves { Each (HasBit b.old) reserves.now }
+    requires reserves { Each (IsReserve b.old) reserves.now }
     requires moves { IsBit b.old moves }
     requires ticket { IsThere b.old ticket }
     ensures there { IfOk result (λ x. IsThere b.new x) }
