@@ -1,22 +1,19 @@
 -- Registers of tails, and what comes into them.
-use Rattle.std.proofs.Common.{◌≡◌, inl, inr, refl, sym, ap, ap₂, ◌∙◌, subst, ℕ, zero, suc, ◌+◌, ◌<◌, ◌≤◌, Bool, List, [], ◌∷◌, length, drop, get_or, arith}
-use Rattle.std.specs.Prelude.{if◌then◌else◌}
+use Rattle.std.proofs.Common.{◌≡◌, inl, inr, refl, sym, ap, ap₂, ◌∙◌, subst, ℕ, ◌+◌, ◌<◌, ◌≤◌, List, [], ◌∷◌, length, drop, get_or, arith}
 use Rattle.std.proofs.lemmas.List.{drop_more}
-use Rattle.pdl_word.specs.Each.{Each}
 use Rattle.pdl_word.proofs.Each.{each_get}
 use Rattle.pdl_kit.specs.declared.seq.Seq.{Seq}
-use Rattle.pdl_semantics.specs.Flat.{Pipe}
 use Rattle.pdl_net.specs.declared.Net.{Net}
 use Rattle.pdl_net.specs.Circuit.{Circuit, State, HasReg}
 use Rattle.pdl_net.specs.Signal.{Signal, mux_signal}
-use Rattle.pdl_net.specs.Meaning.{signal, IsThere, Means}
+use Rattle.pdl_net.specs.Meaning.{signal}
 use Rattle.pdl_net.specs.Growth.{Keeps, Extends, ExtendsBut}
 use Rattle.pdl_build.specs.Change.{one_reg}
-use Rattle.pdl_flatnets.specs.Nets.{signals_in, signal_at}
+use Rattle.pdl_flatnets.specs.Nets.{signal_at}
 use Rattle.pdl_flatnets.proofs.NetLists.{there_keeps, signals_keep}
 use Rattle.pdl_stagenexts.specs.declared.arrivals.Arrival.{Arrival}
 use Rattle.pdl_stagenexts.specs.Lines.{IsBit}
-use Rattle.pdl_tails.specs.Carried.{tail_in, brought_tail, HasTail, HaveTails, AreComing, IsCarried}
+use Rattle.pdl_tails.specs.Carried.{tail_in, brought_tail, HaveTails, AreComing, IsCarried}
 
 -- ---- threads that may come, and the tails of earlier stages
 

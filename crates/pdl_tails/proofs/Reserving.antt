@@ -1,5 +1,5 @@
 -- Tickets after reservations, one after the other.
-use Rattle.std.proofs.Common.{◌≡◌, ◌≢◌, refl, sym, ap, ap₂, ◌∙◌, subst, ℕ, zero, suc, ◌+◌, ◌%◌, ◌^◌, ◌<◌, ◌==◌, Bool, true, false, List, [], ◌∷◌, ◌++◌, map, length, take, get_or, arith, ⊎_elim}
+use Rattle.std.proofs.Common.{◌≡◌, ◌≢◌, refl, sym, ap, ap₂, ◌∙◌, subst, ℕ, zero, suc, ◌+◌, ◌%◌, ◌^◌, ◌<◌, ◌==◌, Bool, true, false, List, [], ◌∷◌, ◌++◌, map, length, take, get_or, arith}
 use Rattle.std.specs.Prelude.{if◌then◌else◌}
 use Rattle.std.proofs.lemmas.Bool.{eq-eqb, ne_eqb}
 use Rattle.std.proofs.lemmas.List.{length-append, take_more, map-append}
@@ -14,7 +14,6 @@ use Rattle.pdl_net.specs.Signal.{Signal, const_signal, bin_signal, bin_value, co
 use Rattle.pdl_net.specs.Meaning.{signal, IsThere}
 use Rattle.pdl_net.specs.Growth.{Keeps}
 use Rattle.pdl_lockapi.specs.Laws.{ReserveSignal, asked_addresses}
-use Rattle.pdl_flatnets.specs.Nets.{signals_in, signal_at}
 use Rattle.pdl_pipe_law.specs.Walk.{Reservation, both}
 use Rattle.pdl_pipe_law.specs.Views.{View}
 use Rattle.pdl_pipe_law.specs.Ports.{reserves_to, all_reserves}

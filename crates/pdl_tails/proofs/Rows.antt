@@ -1,5 +1,5 @@
 -- The tails of a stage, one after the other, and how they stay while the circuit grows.
-use Rattle.std.proofs.Common.{◌≡◌, refl, sym, ap, ap₂, ◌∙◌, subst, ℕ, zero, suc, ◌+◌, ◌<◌, ◌≤◌, Bool, List, [], ◌∷◌, ◌++◌, map, length, get_or, arith}
+use Rattle.std.proofs.Common.{◌≡◌, refl, sym, ap, ap₂, ◌∙◌, subst, ℕ, ◌+◌, ◌<◌, Bool, List, [], ◌∷◌, ◌++◌, map, length, arith}
 use Rattle.std.specs.Prelude.{if◌then◌else◌}
 use Rattle.pdl_word.specs.Each.{Each}
 use Rattle.pdl_kit.specs.declared.seq.Seq.{Seq}
@@ -26,7 +26,7 @@ use Rattle.pdl_stagenexts.specs.Lines.{line_form, line_pipe, line_views, line_mo
 use Rattle.pdl_stagenexts.specs.Arrivals.{AreArrivals}
 use Rattle.pdl_stagenexts.proofs.LinesKept.{views_same, all_moves_same}
 use Rattle.pdl_tails.specs.Reserved.{IsAfter, IsAfterAll, AreAfterAll}
-use Rattle.pdl_tails.specs.Carried.{tail_in, brought_tail, coming_tail, HaveTails, AreComing, IsCarried}
+use Rattle.pdl_tails.specs.Carried.{tail_in, brought_tail, coming_tail, HaveTails, AreComing}
 use Rattle.pdl_tails.specs.Tails.{IsTail, IsStageTail, AreStageTails}
 use Rattle.pdl_tails.proofs.Carrying.{tail_keep, brought_keep, carried_keep, carried_as}
 

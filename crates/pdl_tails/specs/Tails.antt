@@ -3,8 +3,11 @@ use Rattle.std.specs.Prelude.{◌≡◌, ℕ, ◌<◌, ◌≤◌, true, false, L
 use Rattle.pdl_kit.specs.declared.seq.Seq.{Seq}
 use Rattle.pdl_semantics.specs.Flat.{Pipe}
 use Rattle.pdl_net.specs.declared.Net.{Net}
-use Rattle.pdl_net.specs.Circuit.{Circuit}
+use Rattle.pdl_net.specs.Circuit.{Circuit, HasReg}
 use Rattle.pdl_net.specs.Signal.{Signal}
+use Rattle.pdl_net.specs.Meaning.{next_signal}
+use Rattle.pdl_lockapi.specs.Laws.{TicketLaw}
+use Rattle.pdl_pipe_law.specs.Walk.{Locks}
 use Rattle.pdl_flatnets.specs.Nets.{NetsThere, signals_in, signal_at, widths_of}
 use Rattle.pdl_stagenexts.specs.declared.arrivals.Arrival.{Arrival}
 use Rattle.pdl_stagenexts.specs.declared.line.Line.{Line}
@@ -49,3 +52,13 @@ HasCut a c x t (Some v) = AreTails a c x t v
 pub record IsRow (a c : Circuit) (x : Line) (nets : List Net) : Type 0 where
   pub there : NetsThere c nets
   pub wide : widths_of (signals_in c nets) ≡ widths_of (signals_in a x.shared.now.next)
+
+-- a line's next ticket of memory m is that of its lock, with the bits of its tickets
+pub record IsNextOf (a : Circuit) (x : Line) (ls : Locks) (m : ℕ) : Type 0 where
+  pub ticket : signal_at (signals_in a x.shared.now.next) m ≡ ls.ticket m
+  pub wide : (ls.ticket m).width ≡ ls.bits m
+  pub law : TicketLaw (ls.stands m) (ls.bits m) (ls.ticket m)
+
+-- a later circuit lets the registers that came since a take what they took
+abbrev pub GoOn : Circuit → Circuit → Circuit → Type 0
+GoOn a c d = (r : ℕ) → length a.regs ≤ r → HasReg c r → next_signal d r ≡ next_signal c r

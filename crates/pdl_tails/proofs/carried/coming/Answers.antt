@@ -1,10 +1,8 @@
 use Rattle.std.proofs.Common.{◌≡◌, ◌+◌, ◌-◌, ◌<◌, ◌∙◌, [], length, drop, get_or, refl, sym, ap, ap₂, subst, arith}
 use Rattle.std.proofs.lemmas.List.{drop_all}
-use Rattle.pdl_net.specs.declared.Net.{Net}
 use Rattle.pdl_net.specs.Signal.{Signal, mux_signal}
 use Rattle.pdl_net.specs.Meaning.{signal}
 use Rattle.pdl_net.proofs.Keeps.{extends_keeps, extends_refl, extends_trans}
-use Rattle.pdl_kit.specs.declared.seq.Seq.{Seq}
 use Rattle.pdl_flatnets.specs.Nets.{NetsThere, signals_in, signal_at}
 use Rattle.pdl_tails.specs.Carried.{brought_tail, tail_in}
 use Rattle.pdl_tails.proofs.Carrying.{coming_nth, tail_keep, tails_keep, brought_more}

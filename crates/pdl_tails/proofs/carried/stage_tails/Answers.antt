@@ -1,4 +1,4 @@
-use Rattle.std.proofs.Common.{◌≡◌, ◌+◌, ◌∙◌, ◌++◌, ◌∷◌, [], ℕ, ◌<◌, length, sym, ap, subst, arith}
+use Rattle.std.proofs.Common.{◌+◌, ◌∙◌, ◌∷◌, [], ℕ, ◌<◌, length, sym, ap, subst, arith}
 use Rattle.std.proofs.lemmas.List.{length-append}
 use Rattle.pdl_machine_facts.specs.Slots.{ways}
 use Rattle.pdl_net.specs.Meaning.{signal}
@@ -8,7 +8,6 @@ use Rattle.pdl_flatnets.proofs.NetLists.{net_more, there_keeps, signals_keep}
 use Rattle.pdl_stageregs.proofs.Begins.{each_way}
 use Rattle.pdl_stagenexts.specs.Lines.{line_pipe, line_views, line_moves}
 use Rattle.pdl_stagenexts.specs.Arrivals.{AreArrivals}
-use Rattle.pdl_stagenexts.specs.declared.arrivals.Arrival.{Arrival}
 use Rattle.pdl_tails.specs.Carried.{HaveTails, AreComing}
 use Rattle.pdl_tails.specs.Tails.{IsTail}
 use Rattle.pdl_tails.proofs.Carrying.{coming_keep, tails_keep}

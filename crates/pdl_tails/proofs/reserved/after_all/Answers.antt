@@ -1,4 +1,4 @@
-use Rattle.std.proofs.Common.{◌≡◌, ◌+◌, ◌∙◌, List, map, length, get_or, sym, ap, subst, arith}
+use Rattle.std.proofs.Common.{◌≡◌, ◌∙◌, List, map, sym, ap, subst, arith}
 use Rattle.pdl_word.specs.Each.{Each}
 use Rattle.pdl_net.specs.Signal.{Signal}
 use Rattle.pdl_net.specs.Meaning.{signal}
@@ -6,14 +6,14 @@ use Rattle.pdl_net.proofs.Keeps.{extends_keeps, extends_trans}
 use Rattle.pdl_flatnets.specs.Nets.{signals_in, signal_at}
 use Rattle.pdl_pipe_law.specs.Walk.{Walk, Reservation}
 use Rattle.pdl_pipe_law.specs.Views.{View}
-use Rattle.pdl_pipe_law.specs.Ports.{reserves_to, all_reserves}
+use Rattle.pdl_pipe_law.specs.Ports.{reserves_to}
 use Rattle.pdl_stagenets.specs.declared.nets.ReserveNet.{ReserveNet}
 use Rattle.pdl_stagenets.specs.Parts.{reservation_in}
 use Rattle.pdl_stageregs.proofs.Lists.{view_at}
 use Rattle.pdl_stagenexts.specs.Lines.{line_pipe, line_views, line_moves}
 use Rattle.pdl_stagenexts.proofs.LinesKept.{bits_there, bit_one, line_keep, ended_same, moves_same}
 use Rattle.pdl_tails.specs.Reserved.{IsReserve, IsAfter}
-use Rattle.pdl_tails.proofs.Reserving.{after_none, reserves_of, stages_more}
+use Rattle.pdl_tails.proofs.Reserving.{reserves_of, stages_more}
 use Rattle.pdl_tails.proofs.reserved.after_all.Goals as goal
 
 pub variable-moves-requires-clause-there : goal.variable-moves-requires-clause-there

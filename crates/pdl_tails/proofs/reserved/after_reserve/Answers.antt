@@ -1,7 +1,5 @@
 use Rattle.std.proofs.Common.{sym, ap₂, ◌∙◌, subst}
-use Rattle.pdl_net.specs.Signal.{Signal}
 use Rattle.pdl_net.specs.Meaning.{signal}
-use Rattle.pdl_pipe_law.specs.Walk.{Reservation}
 use Rattle.pdl_pipe_law.specs.Ports.{reserves_to}
 use Rattle.std.proofs.Common.{◌∷◌, []}
 use Rattle.pdl_stagenets.specs.Parts.{reservation_in}

@@ -1,6 +1,5 @@
 use Rattle.std.proofs.Common.{◌+◌, ◌∙◌, map, refl, ap, subst, arith}
 use Rattle.std.proofs.lemmas.List.{take_all}
-use Rattle.pdl_word.specs.Each.{Each}
 use Rattle.pdl_word.proofs.Each.{each_get}
 use Rattle.pdl_net.specs.declared.Net.TheVariants.{Input}
 use Rattle.pdl_net.specs.Signal.{Signal}

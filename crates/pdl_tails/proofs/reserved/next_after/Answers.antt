@@ -5,8 +5,7 @@ use Rattle.pdl_net.proofs.Keeps.{extends_keeps, extends_trans}
 use Rattle.pdl_flatnets.specs.Nets.{NetsThere, signals_in, signal_at}
 use Rattle.pdl_flatnets.proofs.NetLists.{net_more, there_keeps, signals_keep}
 use Rattle.pdl_stageregs.proofs.Lists.{up_to}
-use Rattle.pdl_stageregs.proofs.Begins.{signal_old, signal_new, next_keep}
-use Rattle.pdl_stagenexts.specs.Lines.{line_form}
+use Rattle.pdl_stageregs.proofs.Begins.{signal_old, signal_new}
 use Rattle.pdl_stagenexts.proofs.LinesKept.{line_keep}
 use Rattle.pdl_tails.specs.Reserved.{IsAfterAll}
 use Rattle.pdl_tails.proofs.Rows.{after_from}

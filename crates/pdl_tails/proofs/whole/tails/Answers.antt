@@ -1,7 +1,5 @@
 use Rattle.std.proofs.Common.{◌≡◌, ◌+◌, ◌∙◌, ◌++◌, ◌∷◌, [], ℕ, ◌<◌, List, length, sym, ap, subst, arith}
 use Rattle.std.proofs.lemmas.List.{length-append}
-use Rattle.pdl_kit.specs.declared.seq.Seq.{Seq}
-use Rattle.pdl_net.specs.declared.Net.{Net}
 use Rattle.pdl_net.proofs.Keeps.{extends_keeps, extends_trans, keeps_trans}
 use Rattle.pdl_flatnets.specs.Nets.{signals_in, signal_at}
 use Rattle.pdl_stagenexts.proofs.LinesKept.{line_keep}
