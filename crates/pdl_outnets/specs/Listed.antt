@@ -2,6 +2,7 @@
 use Rattle.std.specs.Prelude.{ℕ, suc, List, [], ◌∷◌, ◌++◌, Option, Some, None, codes, decimal}
 use Rattle.pdl_net.specs.declared.Net.{Net}
 use Rattle.pdl_lockapi.specs.declared.LockNets.{LockNets}
+use Rattle.pdl_beside.specs.declared.outside.RequestNets.{RequestNets}
 use Rattle.pdl_outnets.specs.declared.outputs.StageNets.{StageNets}
 use Rattle.pdl_outnets.specs.declared.outputs.OutNet.{OutNet}
 
@@ -22,10 +23,20 @@ abbrev pub commits_outs : List (List ℕ) → List (Option LockNets) → List Ou
 commits_outs (name ∷ names) (n ∷ ns) = commit_outs name n ++ commits_outs names ns
 commits_outs _ _ = []
 
+-- what is asked of a delayed memory
+abbrev pub request_outs : List ℕ → Option RequestNets → List OutNet
+request_outs name None = []
+request_outs name (Some r) = out (codes "q_" ++ name) r.enable ∷ out (codes "qa_" ++ name) r.addr ∷ []
+
+abbrev pub requests_outs : List (List ℕ) → List (Option RequestNets) → List OutNet
+requests_outs (name ∷ names) (r ∷ rs) = request_outs name r ++ requests_outs names rs
+requests_outs _ _ = []
+
 -- whether a thread ends: that of the last stage moves
 abbrev pub last_moves : List StageNets → Net → Net
 last_moves [] x = x
 last_moves (s ∷ ss) x = last_moves ss s.moves
 
-abbrev pub all_outs : List (List ℕ) → List StageNets → List (Option LockNets) → Net → List OutNet
-all_outs names ss ns squash = (stages_outs 0 ss ++ commits_outs names ns) ++ out (codes "ended") (last_moves ss squash) ∷ out (codes "squash") squash ∷ []
+abbrev pub all_outs : List (List ℕ) → List StageNets → List (Option LockNets) → List (Option RequestNets) → Net → List OutNet
+all_outs names ss ns rs squash =
+    ((stages_outs 0 ss ++ commits_outs names ns) ++ requests_outs names rs) ++ out (codes "ended") (last_moves ss squash) ∷ out (codes "squash") squash ∷ []

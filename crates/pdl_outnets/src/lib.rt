@@ -1,8 +1,10 @@
-//! The outputs of a pipe's netlist, with their names.
+//! The ports of a pipe's netlist, with their names: the inputs of its delayed memories, and its outputs.
 //!
-//! The layer above may use `all_outputs` and `show`.
+//! The layer above may use `reply_inputs` and `read_inputs`, `all_outputs` and `show`.
 #![tactic(auto)]
 
+pub mod inputs;
 pub mod outputs;
 
+pub use inputs::{read_inputs, reply_inputs};
 pub use outputs::{OutNet, StageNets, all_outputs, show};

@@ -6,9 +6,10 @@ ghost use Rattle.pdl_net.specs.Circuit.{Circuit};
 ghost use Rattle.pdl_net.specs.Growth.{ExtendsPorts};
 ghost use Rattle.pdl_pipe_law.specs.Compiled.{port_in};
 ghost use Rattle.pdl_outnets.specs.Told.{AreTold, output_of, OutsThere, ShowAll};
-ghost use Rattle.pdl_outnets.specs.Listed.{stages_outs, commit_outs, commits_outs, last_moves, all_outs};
+ghost use Rattle.pdl_outnets.specs.Listed.{stages_outs, commit_outs, commits_outs, request_outs, requests_outs, last_moves, all_outs};
 
 use itoa::Buffer;
+use pdl_beside::RequestNets;
 use pdl_build::Builder;
 use pdl_form::{FlatPipe, Mem};
 use pdl_kit::{Name, NoMemory, Seq};
@@ -31,7 +32,7 @@ pub struct OutNet {
 }
 
 // A name with a prefix.
-fn with_prefix(alloc: Global, prefix: &[u8], name: &Name) -> Result<Name, NoMemory>
+pub(crate) fn with_prefix(alloc: Global, prefix: &[u8], name: &Name) -> Result<Name, NoMemory>
     ensures { IfOk result (λ n. n ≡ prefix.now ++ name.now) }
 {
     let mut bytes = Vec::from_slice(alloc, prefix)?;
@@ -138,6 +139,61 @@ fn push_memories(
     Ok(())
 }
 
+// The two outputs of a delayed memory: whether something is asked of it, and the address.
+fn push_request(
+    alloc: Global,
+    outs: &mut Seq<OutNet>,
+    name: &Name,
+    nets: RequestNets,
+) -> Result<(), NoMemory>
+    ensures { OnOk result (outs.new ≡ outs.old ++ request_outs name.now (Some nets)) }
+{
+    let asks = with_prefix(alloc, b"q_", name)?;
+    push(outs, asks, nets.enable)?;
+    let address = with_prefix(alloc, b"qa_", name)?;
+    push(outs, address, nets.addr)
+}
+
+// The outputs of a memory of which something is asked; another one has none.
+fn push_asked(
+    alloc: Global,
+    outs: &mut Seq<OutNet>,
+    m: &Mem,
+    nets: Option<RequestNets>,
+) -> Result<(), NoMemory>
+    ensures { OnOk result (outs.new ≡ outs.old ++ request_outs m.now.name nets) }
+{
+    match nets {
+        Some(nets) => push_request(alloc, outs, &m.name, nets),
+        None => Ok(()),
+    }
+}
+
+// What is asked of the memory of a number.
+fn request_at(requests: &[Option<RequestNets>], m: usize) -> Option<RequestNets>
+    requires { m < length requests.now }
+    ensures { result ≡ slice_index_or requests.now m result }
+{
+    requests[m]
+}
+
+// The outputs of all delayed memories, in order.
+fn push_requests(
+    alloc: Global,
+    outs: &mut Seq<OutNet>,
+    mems: &[Mem],
+    requests: &[Option<RequestNets>],
+) -> Result<(), NoMemory>
+    requires { length requests.now ≡ length mems.now }
+    ensures { OnOk result (outs.new ≡ outs.old
+        ++ requests_outs (mem_names mems.now) requests.now) }
+{
+    for (i, m) in mems.iter().enumerate() {
+        push_asked(alloc, outs, m, request_at(requests, i))?;
+    }
+    Ok(())
+}
+
 // Whether the thread of the last stage moves, `none` where there is no stage.
 fn last_of(stages: &[StageNets], none: Net) -> Net
     ensures { result ≡ last_moves stages.now none }
@@ -163,39 +219,47 @@ fn all(
     mems: &[Mem],
     stages: &[StageNets],
     nets: &[Option<LockNets>],
+    requests: &[Option<RequestNets>],
     squash: Net,
 ) -> Result<Seq<OutNet>, NoMemory>
-    requires { length nets.now ≡ length mems.now }
-    ensures { IfOk result (λ os. os ≡ all_outs (mem_names mems.now) stages.now nets.now squash) }
+    requires nets { length nets.now ≡ length mems.now }
+    requires asks { length requests.now ≡ length mems.now }
+    ensures { IfOk result (λ os.
+        os ≡ all_outs (mem_names mems.now) stages.now nets.now requests.now squash) }
 {
     let mut outs = Seq::new(alloc);
     push_stages(alloc, &mut outs, stages)?;
     push_memories(alloc, &mut outs, mems, nets)?;
+    push_requests(alloc, &mut outs, mems, requests)?;
     push_named(alloc, &mut outs, b"ended", last_of(stages, squash))?;
     push_named(alloc, &mut outs, b"squash", squash)?;
     Ok(outs)
 }
 
-/// The outputs of a pipe: of each stage whether it holds a thread and whether that moves, of each memory with a lock what it commits, whether a thread ends, and whether one is squashed.
+/// The outputs of a pipe: of each stage whether it holds a thread and whether that moves, of each memory with a lock what it commits, of each delayed memory what is asked of it, whether a thread ends, and whether one is squashed.
 ///
-/// `stages` has one for each stage and `nets` one for each memory, in order.
+/// `stages` has one for each stage, `nets` and `requests` one for each memory, in order.
 pub fn all_outputs(
     alloc: Global,
     pipe: &FlatPipe,
     stages: &[StageNets],
     nets: &[Option<LockNets>],
+    requests: &[Option<RequestNets>],
     squash: Net,
 ) -> Result<Seq<OutNet>, NoMemory>
     requires some { 1 ≤ length stages.now }
     requires count { length stages.now ≡ length (form pipe.now).pipe.stages }
     requires mems { length nets.now ≡ length (form pipe.now).pipe.mems }
+    requires asks { length requests.now ≡ length (form pipe.now).pipe.mems }
     // In each circuit in which what is told is there, so are the outputs, and they show it.
-    ensures there { (c : Circuit) → AreTold c (form pipe.now).pipe stages.now nets.now squash →
-        IfOk result (λ os. OutsThere c os) }
-    ensures shown { (c : Circuit) → AreTold c (form pipe.now).pipe stages.now nets.now squash →
-        IfOk result (ShowAll c (form pipe.now) stages.now squash nets.now) }
+    ensures there { (c : Circuit)
+        → AreTold c (form pipe.now).pipe stages.now nets.now requests.now squash
+        → IfOk result (λ os. OutsThere c os) }
+    ensures shown { (c : Circuit)
+        → AreTold c (form pipe.now).pipe stages.now nets.now requests.now squash
+        → IfOk result (ShowAll c (form pipe.now) stages.now squash nets.now requests.now) }
 {
-    all(alloc, pipe.mems(), stages, nets, squash)
+    all(alloc, pipe.mems(), stages, nets, requests, squash)
 }
 
 /// Adds the outputs to the netlist, in order.
