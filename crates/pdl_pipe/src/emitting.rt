@@ -1,0 +1,181 @@
+// All nets of a pipe, one after the other.
+ghost use Rattle.std.specs.Prelude.{◌≡◌, [], IfOk, OnOk, length, map};
+ghost use Rattle.pdl_word.specs.Each.{Each};
+ghost use Rattle.pdl_formtypes.specs.Stmts.{AreWidths};
+ghost use Rattle.pdl_stageregs.specs.Stages.{zero_signal};
+ghost use Rattle.pdl_form.specs.Whole.{form};
+ghost use Rattle.pdl_build.specs.Change.{empty_circuit};
+ghost use Rattle.pdl_net.specs.Growth.{Extends};
+ghost use Rattle.pdl_flatnets.specs.Nets.{signals_in, NetsThere};
+ghost use Rattle.pdl_stagenets.specs.Locked.{members};
+ghost use Rattle.pdl_stagenexts.specs.Lines.{line_form, IsLineIn};
+ghost use Rattle.pdl_locknets.specs.Suited.{AreSuited};
+ghost use Rattle.pdl_emitted.specs.Emitted.{CanEmit};
+ghost use Rattle.pdl_pipe.specs.Emitted.{HasMemoriesIn, HasMoves, IsEmitted, IsLaidOut};
+
+use crate::deeds::{stage_ends, stage_ports};
+use crate::steps::{Standing, set_registers};
+use pdl_beside::{Round, order_states, port_states, requests};
+use pdl_build::Builder;
+use pdl_flatnets::Bits;
+use pdl_form::FlatPipe;
+use pdl_kit::{NoMemory, Seq};
+use pdl_lockapi::LockModule;
+use pdl_locknets::memories;
+use pdl_net::Net;
+use pdl_order::OrderRegs;
+use pdl_outnets::{all_outputs, read_inputs, reply_inputs, show};
+use pdl_port::PortRegs;
+use pdl_stagemoves::{MoveNets, all_moves};
+use pdl_stagenets::MemLock;
+use pdl_stagenexts::Line;
+use pdl_stageregs::tickets::next_tickets;
+use pdl_stageregs::{Shared, stages};
+use std::alloc::Global;
+
+// What is asked of delayed memories, what the registers take next, and the outputs.
+fn emit_steps<L: LockModule>(
+    alloc: Global,
+    b: &mut Builder,
+    line: &Line<'_>,
+    locks: &[Option<MemLock<L>>],
+    orders: &[Option<OrderRegs>],
+    moves: &MoveNets,
+) -> Result<(), NoMemory>
+    requires can { CanEmit (line_form line.now) }
+    requires line { IsLineIn b.old line.now }
+    requires moved { HasMoves (members L.LockModule) b.old line.now locks.now orders.now moves.now }
+    ensures { OnOk result (IsEmitted (members L.LockModule) b.new (line_form line.now)) }
+{
+    let ends = stage_ends(alloc, line)?;
+    let round = Round {
+        pipe: line.pipe,
+        bits: line.shared.bits,
+        ends: ends.as_slice(),
+    };
+    let asked = requests(alloc, b, &round)?;
+    let all = Standing {
+        line,
+        locks,
+        orders,
+        squash: moves.squash,
+    };
+    let steps = set_registers(alloc, b, &all, ends.as_slice())?;
+    let shown = stage_ports(alloc, line)?;
+    let outs = all_outputs(
+        alloc,
+        line.pipe,
+        shown.as_slice(),
+        steps.commits.as_slice(),
+        asked.as_slice(),
+        moves.squash,
+    )?;
+    show(b, outs.as_slice())?;
+    Ok(())
+}
+
+// Who moves, and all that follows from it; of the line neither moves nor removals are looked at.
+fn emit_moves<L: LockModule>(
+    alloc: Global,
+    b: &mut Builder,
+    line: &Line<'_>,
+    locks: &[Option<MemLock<L>>],
+    orders: &[Option<OrderRegs>],
+) -> Result<(), NoMemory>
+    requires can { CanEmit (line_form line.now) }
+    requires line { IsLineIn b.old line.now }
+    requires laid { IsLaidOut (members L.LockModule) b.old line.now locks.now orders.now }
+    ensures { OnOk result (IsEmitted (members L.LockModule) b.new (line_form line.now)) }
+{
+    let moves = all_moves(alloc, b, line, orders)?;
+    let moving = Line {
+        pipe: line.pipe,
+        shared: line.shared,
+        stages: line.stages,
+        moves: moves.moves.as_slice(),
+        kills: moves.kills.as_slice(),
+    };
+    emit_steps(alloc, b, &moving, locks, orders, &moves)?;
+    Ok(())
+}
+
+// A zero of the width of each variable.
+fn zeros(alloc: Global, b: &mut Builder, pipe: &FlatPipe) -> Result<Seq<Net>, NoMemory>
+    requires wide { AreWidths (form pipe.now).widths }
+    ensures there { IfOk result (λ xs. NetsThere b.new xs) }
+    ensures means { IfOk result (λ xs.
+        signals_in b.new xs ≡ map zero_signal (form pipe.now).widths) }
+    ensures extends { Extends b.old b.new }
+{
+    let mut nets = Seq::new(alloc);
+    for x in 0..pipe.vars() {
+        let net = b.constant(pipe.width(x), 0)?;
+        nets.push(net)?;
+    }
+    Ok(nets)
+}
+
+// A bit that is 0 for each stage.
+fn blank(alloc: Global, bits: Bits, count: usize) -> Result<Vec<Net>, NoMemory>
+    ensures count { IfOk result (λ xs. length xs.items ≡ count) }
+    ensures each { IfOk result (λ xs. Each (λ x. x ≡ bits.zero) xs.items) }
+{
+    let nets = vec![in alloc; bits.zero; count]?;
+    Ok(nets)
+}
+
+// The orders of forks, the stages, and all that follows from them.
+fn emit_stages<L: LockModule>(
+    alloc: Global,
+    b: &mut Builder,
+    pipe: &FlatPipe,
+    bits: Bits,
+    locks: &[Option<MemLock<L>>],
+    ports: &[Option<PortRegs>],
+) -> Result<(), NoMemory>
+    requires can { CanEmit (form pipe.now) }
+    requires memories { HasMemoriesIn (members L.LockModule) b.old (form pipe.now) bits locks.now ports.now }
+    ensures { OnOk result (IsEmitted (members L.LockModule) b.new (form pipe.now)) }
+{
+    let orders = order_states(alloc, b, pipe)?;
+    let stages = stages(alloc, b, pipe, bits, locks, ports)?;
+    let zeros = zeros(alloc, b, pipe)?;
+    let next = next_tickets(alloc, locks, bits.zero)?;
+    let shared = Shared {
+        bits,
+        zeros,
+        next,
+        ports,
+    };
+    let blank = blank(alloc, bits, stages.len())?;
+    let line = Line {
+        pipe,
+        shared: &shared,
+        stages: stages.as_slice(),
+        moves: blank.as_slice(),
+        kills: blank.as_slice(),
+    };
+    emit_moves(alloc, b, &line, locks, orders.as_slice())?;
+    Ok(())
+}
+
+/// All nets of a pipe in an empty netlist, with these locks for its memories: inputs, memories with their locks, ports, and what follows from them.
+pub fn emit_all<L: LockModule + Copy>(
+    alloc: Global,
+    b: &mut Builder,
+    pipe: &FlatPipe,
+    locks: &[Option<L>],
+) -> Result<(), NoMemory>
+    requires empty { b.old ≡ empty_circuit }
+    requires can { CanEmit (form pipe.now) }
+    requires suited { AreSuited L.suits (members L.LockModule) (form pipe.now) locks.now }
+    ensures { OnOk result (IsEmitted (members L.LockModule) b.new (form pipe.now)) }
+{
+    let inputs = reply_inputs(alloc, b, pipe)?;
+    let reads = read_inputs(alloc, pipe, inputs.as_slice())?;
+    let made = memories(alloc, b, pipe, locks)?;
+    let bits = Bits::new(b)?;
+    let ports = port_states(alloc, b, pipe, reads.as_slice())?;
+    emit_stages(alloc, b, pipe, bits, made.as_slice(), ports.as_slice())?;
+    Ok(())
+}
