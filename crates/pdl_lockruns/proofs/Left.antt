@@ -35,7 +35,7 @@ squashed (Some n) tail base es h =
 -- what is left of filled pending writes after a release and a squash, which drops those from the tail on
 pub left : (release : Bool) (squash : Option ℕ) (tail base : ℕ) (xs : List Entry) (es : List Pending) → xs ≡ forgotten_entries es
     → ((n : ℕ) → squash ≡ Some n → (tail ≡ base + bit release + count_older (suc n) (if release then but_oldest es else es))
-        × (entries_left (Some n) (if release then but_oldest es else es) ≡ take (count_older (suc n) (if release then but_oldest es else es)) (if release then but_oldest es else es)))
+    × (entries_left (Some n) (if release then but_oldest es else es) ≡ take (count_older (suc n) (if release then but_oldest es else es)) (if release then but_oldest es else es)))
     → (if is_some squash then take (tail - (if release then base + 1 else base)) (if release then drop 1 xs else xs) else (if release then drop 1 xs else xs)) ≡ forgotten_entries (entries_left squash (if release then but_oldest es else es))
 left release squash tail base xs es e h =
     let at = if release then base + 1 else base in

@@ -1,7 +1,8 @@
--- A lock of a netlist in one cycle, as the machine's threads use it.
-use Rattle.std.specs.Prelude.{◌≡◌, ℕ, ◌<◌, Bool, List, slice_index, is_some}
+-- The locks and the stages of a netlist in one cycle, as the machine's threads use and go through them.
+use Rattle.std.specs.Prelude.{◌≡◌, ℕ, ◌<◌, ◌==◌, Bool, List, None, slice_index, slice_index_or, is_some}
+use Rattle.pdl_word.specs.Words.{bit}
 use Rattle.pdl_semantics.specs.Flat.{Pipe}
-use Rattle.pdl_semantics.specs.Stages.{mem_at}
+use Rattle.pdl_semantics.specs.Stages.{mem_at, list_any}
 use Rattle.pdl_semantics.specs.Machine as machine
 use Rattle.pdl_semantics.specs.Machine.{lock_of}
 use Rattle.pdl_semantics.specs.Moves.{all_acts, movers}
@@ -32,7 +33,7 @@ pub record IsUsedAs (for_state : State → LockState → Type 0) (size bits : �
   pub releases : act.release ≡ has_release m (movers (all_acts p st replies))
   -- whether there is a squash, and the pending writes that are left at the end
   pub squashes : act.squash ≡ is_some (squasher (movers (all_acts p st replies)))
-  pub leaves : (step (lock_state_of base (lock_of st m) words) act).entries ≡ forgotten_entries (lock_of (cycle p st replies) m)
+  pub left : (step (lock_state_of base (lock_of st m) words) act).entries ≡ forgotten_entries (lock_of (cycle p st replies) m)
 
 -- the lock of memory m, of locks that are known by the numbers of their memories
 abbrev pub IsUsedLock : Pipe → Locks → (ℕ → View) → Gates → (ℕ → Signal) → State → machine.State → List Bool → ℕ → Type 0
@@ -41,3 +42,8 @@ IsUsedLock p ls vs gates moves s st replies m = IsUsedAs (ls.stands m) (ls.size 
 -- a lock of a lock module
 abbrev pub IsUsed : {T : Type 0} → Members T → Pipe → ℕ → MemLock T → StepSignals → State → machine.State → List Bool → Type 0
 IsUsed l p m x ports s st replies = IsUsedAs (l.stands x.lock x.regs) (l.size x.lock) (l.tickets x.lock) p m ports s st replies
+
+-- in a cycle with these replies stage k of a netlist holds a thread where the machine's does, and a thread moves out of it where one moves there
+pub record IsStageAs (view : View) (leaves : Signal) (s : State) (p : Pipe) (st : machine.State) (replies : List Bool) (k : ℕ) : Type 0 where
+  pub holds : view.valid.value s ≡ bit (is_some (slice_index_or st.stages k None))
+  pub moves : leaves.value s ≡ bit (list_any (λ a. a.stage == k) (movers (all_acts p st replies)))
