@@ -5,6 +5,7 @@ use Rattle.std.proofs.lemmas.Slice.Eq.{bytes_eq-Decides}
 use Rattle.pdl_semantics.specs.Tree as tree
 use Rattle.pdl_semantics.specs.Flat.{Arrays, arrays_of}
 use Rattle.pdl_semantics.specs.Flatten.{flat, mems_of}
+use Rattle.pdl_semantics.specs.Machine as machine
 use Rattle.pdl_semantics.specs.Cycle.{first, state_after}
 use Rattle.pdl_word.proofs.Bytes.{bytes_refl}
 use Rattle.pdl_rules.specs.Places.{Parameter}
@@ -17,7 +18,7 @@ use Rattle.pdl_lockuse.proofs.FromRules.{careful_source}
 use Rattle.pdl_net.specs.declared.Netlist.{Netlist}
 use Rattle.pdl_net.specs.Circuit.{circuit_of}
 use Rattle.pdl_net.specs.Signal.{Signal}
-use Rattle.pdl_net.specs.Run.{start, state_in}
+use Rattle.pdl_net.specs.Run.{Held, start, state_in}
 use Rattle.pdl_image.specs.Images.{IsImage}
 use Rattle.pdl_machine_facts.proofs.Still.{none_requested}
 use Rattle.pdl_pipe_law.specs.Walk.{Locks}
@@ -78,23 +79,28 @@ known_source p rules source named =
     known_here (flat p) lawful.sound (paths_strict p rules source) (careful_source p rules source) lawful.reads
 
 module _ (p : tree.Pipe) (rules : KeepsRules p) (source : is_source p ≡ true) (named : is_named p ≡ true) (ls : Locks) (vs : ℕ → View) (gates : Gates) (moves : ℕ → Signal) (sides : Sides) (n : Netlist) (made : IsMadeWhole p ls vs gates moves sides n) where
-  lawful : IsLawful (flat p)
+  pub lawful : IsLawful (flat p)
   lawful = lawful_source p rules source named
 
-  apart : Apart (mem_names p.mems) (length (flat p).mems)
+  pub apart : Apart (mem_names p.mems) (length (flat p).mems)
   apart = subst (Apart (mem_names p.mems)) (sym (same_count p.mems)) (names_apart p.mems (distinct p rules p.mems (map Parameter p.params) (all_after p)))
 
+  -- what the netlist holds and a state of the machine of a run from this image, for which it stands
+  abbrev pub IsStandingFor : List (List ℕ) → Held → machine.State → Type 0
+  IsStandingFor image h st =
+      IsStanding (flat p) (mem_names p.mems) apart lawful (known_source p rules source named) ls vs gates moves sides n made.compiled made.formed.well made.mems (arrays_of (in_order (flat p) image)) h st
+
+  pub stands_source : (image : List (List ℕ)) → IsImage n.mems image → IsStandingFor image (start n image) (first (flat p) (arrays_of (in_order (flat p) image)))
+  stands_source image is_image = record {
+    before = [];
+    reached = refl;
+    holds = holds_whole n made.formed image is_image;
+    stores = stores_start (flat p) (mem_names p.mems) ls n made.mems image is_image;
+    quiet = λ m l e. none_requested 0 m (flat p).mems;
+    whole = λ b suits.
+        whole_first (flat p) lawful ls vs gates moves sides (circuit_of n) made.compiled.laid made.compiled.beside (arrays_of (in_order (flat p) image)) (state_in (start n image) b) refl
+        (stands_start (flat p) (mem_names p.mems) ls n made.mems image is_image vs gates moves made.compiled.laid made.compiled.starts (state_in (start n image) b) suits refl refl);
+  }
+
   pub shows_source : ShowsWhole (flat p) n
-  shows_source = shows_whole (flat p) (mem_names p.mems) apart lawful (known_source p rules source named) ls vs gates moves sides n made.compiled made.formed.well made.mems starts
-    where
-      starts : (image : List (List ℕ)) → IsImage n.mems image → IsStanding (flat p) (mem_names p.mems) apart lawful (known_source p rules source named) ls vs gates moves sides n made.compiled made.formed.well made.mems (arrays_of (in_order (flat p) image)) (start n image) (first (flat p) (arrays_of (in_order (flat p) image)))
-      starts image is_image = record {
-        before = [];
-        reached = refl;
-        holds = holds_whole n made.formed image is_image;
-        stores = stores_start (flat p) (mem_names p.mems) ls n made.mems image is_image;
-        quiet = λ m l e. none_requested 0 m (flat p).mems;
-        whole = λ b suits.
-            whole_first (flat p) lawful ls vs gates moves sides (circuit_of n) made.compiled.laid made.compiled.beside (arrays_of (in_order (flat p) image)) (state_in (start n image) b) refl
-            (stands_start (flat p) (mem_names p.mems) ls n made.mems image is_image vs gates moves made.compiled.laid made.compiled.starts (state_in (start n image) b) suits refl refl);
-      }
+  shows_source = shows_whole (flat p) (mem_names p.mems) apart lawful (known_source p rules source named) ls vs gates moves sides n made.compiled made.formed.well made.mems stands_source

@@ -96,7 +96,8 @@ module _ (p : Pipe) (names : ℕ → List ℕ) (apart : Apart names (length p.me
       abbrev bits : List Bool
       bits = replies_of (delayed_count p) b
 
-      suits : Suits (circuit_of n) (state_in h b)
+      -- what is known of this cycle, and how its stages and squashes are seen
+      pub suits : Suits (circuit_of n) (state_in h b)
       suits =
           let f = inputs_fit st 0 p.mems h.stores b x.stores in
           record {
@@ -109,7 +110,7 @@ module _ (p : Pipe) (names : ℕ → List ℕ) (apart : Apart names (length p.me
             words = x.holds.words;
           }
 
-      knows : IsKnown p st (replies_of (delayed_count p) b)
+      pub knows : IsKnown p st (replies_of (delayed_count p) b)
       knows = subst (λ y. IsKnown p y (replies_of (delayed_count p) b)) (sym x.reached) (known image x.before (replies_of (delayed_count p) b))
 
       reads_at : (m : ℕ) → m < length p.mems → (mem_at p m).delayed ≡ true → ReadsStore st m (replies_of (delayed_count p) b) (Rattle.pdl_net.specs.Run.answers h.stores b) (reply_place p m)
@@ -130,10 +131,10 @@ module _ (p : Pipe) (names : ℕ → List ℕ) (apart : Apart names (length p.me
             word = λ e. o.word (state_in h b) suits ∙ y.word e;
           }
 
-      seen : (j : ℕ) → j < length p.stages → IsSeen p vs moves (state_in h b) st (replies_of (delayed_count p) b) j
+      pub seen : (j : ℕ) → j < length p.stages → IsSeen p vs moves (state_in h b) st (replies_of (delayed_count p) b) j
       seen = seen_whole p lawful ls vs gates moves sides (circuit_of n) made.laid made.beside (state_in h b) st (replies_of (delayed_count p) b) suits knows (x.whole b suits) given
 
-      squashed : IsSquashed p ls vs gates (state_in h b) st (replies_of (delayed_count p) b)
+      pub squashed : IsSquashed p ls vs gates (state_in h b) st (replies_of (delayed_count p) b)
       squashed = squashed_whole p lawful ls vs gates moves sides (circuit_of n) made.laid made.beside (state_in h b) st (replies_of (delayed_count p) b) suits knows (x.whole b suits) given
 
       -- the cycle is a wait of both
