@@ -1,2 +1,3 @@
 pub mod Locks
+pub mod Infos
 pub mod Emitted

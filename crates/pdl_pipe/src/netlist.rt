@@ -1,5 +1,5 @@
 // The netlist of a pipe.
-ghost use Rattle.std.specs.Prelude.{◌≡◌, ◌≢◌, ◌++◌, AllPairs, IfOk, OnOk, filter, not};
+ghost use Rattle.std.specs.Prelude.{◌≡◌, ◌≢◌, ◌++◌, true, false, AllPairs, IfOk, OnOk, filter};
 ghost use Rattle.pdl_tree.specs.View.{pipe_view};
 ghost use Rattle.pdl_form.specs.Form.{form_of};
 ghost use Rattle.pdl_net.specs.Circuit.{circuit_of};
@@ -8,6 +8,7 @@ ghost use Rattle.pdl_needed.specs.Needed.{AllNeeded};
 ghost use Rattle.pdl_stagenets.specs.Locked.{members};
 ghost use Rattle.pdl_locknets.specs.Suited.{AreSuited};
 ghost use Rattle.pdl_follows.specs.Follows.{Follows};
+ghost use Rattle.pdl_pipe.specs.Infos.{is_told};
 ghost use Rattle.pdl_pipe.specs.Locks.{HasLocks, HasLocksOf, any_lock};
 
 use crate::emitting::emit_all;
@@ -23,7 +24,7 @@ use std::mem::drop;
 
 // Copies of these memories that are delayed, or that answer at once, after some others.
 fn add_infos(infos: &mut Seq<MemInfo>, mems: &[MemInfo], delayed: bool) -> Result<(), NoMemory>
-    ensures { OnOk result (infos.new ≡ infos.old ++ filter (λ m. bool_eq m.delayed delayed) mems.now) }
+    ensures { OnOk result (infos.new ≡ infos.old ++ filter (is_told delayed) mems.now) }
 {
     for m in mems {
         if m.delayed == delayed {
@@ -36,7 +37,7 @@ fn add_infos(infos: &mut Seq<MemInfo>, mems: &[MemInfo], delayed: bool) -> Resul
 
 // The memories as a netlist has them, the delayed ones first.
 fn infos_of(alloc: Global, mems: &[MemInfo]) -> Result<Seq<MemInfo>, NoMemory>
-    ensures { IfOk result (λ ms. ms ≡ filter (λ m. m.delayed) mems.now ++ filter (λ m. not m.delayed) mems.now) }
+    ensures { IfOk result (λ ms. ms ≡ filter (is_told true) mems.now ++ filter (is_told false) mems.now) }
 {
     let mut infos = Seq::new(alloc);
     add_infos(&mut infos, mems, true)?;
