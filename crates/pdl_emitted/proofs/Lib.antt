@@ -1,1 +1,4 @@
 pub mod SidesGrown
+pub mod SidesBegun
+pub mod SidesStages
+pub mod SidesPorts
