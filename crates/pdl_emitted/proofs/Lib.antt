@@ -4,3 +4,6 @@ pub mod SidesStages
 pub mod SidesPorts
 pub mod SidesRemoved
 pub mod SidesHeld
+pub mod SidesAsks
+pub mod SidesGates
+pub mod SidesLeaves
