@@ -1,8 +1,8 @@
 -- How the circuits of an emission grow, one into the next, and which registers are left alone from where on.
-use Rattle.std.proofs.Common.{◌≡◌, refl, sym, ap, ◌∙◌, subst, ℕ, zero, suc, ◌+◌, ◌<◌, ◌≤◌, ◌⊎◌, inl, inr, List, length, arith}
+use Rattle.std.proofs.Common.{◌≡◌, refl, ◌∙◌, ℕ, ◌<◌, ◌≤◌, inl, inr, length, arith}
 use Rattle.std.specs.Prelude.{Option, Some, None}
 use Rattle.pdl_semantics.specs.Flat.{Pipe}
-use Rattle.pdl_net.specs.Circuit.{Circuit, HasReg}
+use Rattle.pdl_net.specs.Circuit.{HasReg}
 use Rattle.pdl_net.specs.Meaning.{next_signal}
 use Rattle.pdl_net.specs.Growth.{Own, Outside, Keeps}
 use Rattle.pdl_net.proofs.Keeps.{keeps_trans, extends_keeps, but_keeps, regs_grow}
@@ -14,18 +14,19 @@ use Rattle.pdl_order.specs.Laws as order_laws
 use Rattle.pdl_sides.specs.HasSides.{HasOwn}
 use Rattle.pdl_stagenets.specs.Locked.{Members, some_at}
 use Rattle.pdl_beside.specs.Parts as parts
-use Rattle.pdl_locknets.specs.Stepped as stepped
 use Rattle.pdl_stagenexts.specs.Lines.{line_pipe}
 use Rattle.pdl_stagenexts.specs.Nexts.{regs_of}
 use Rattle.pdl_tails.specs.Tails.{GoOn}
 use Rattle.pdl_emitted.specs.Emitted.{Nets, Emission}
 
 -- what is so from some place on is outside each part that ends there or before, and each part that begins there or later leaves it out below
-part_below : {X : Type 0} (own : X → Own) (o : Option X) (low r : ℕ) → ((x : X) → o ≡ Some x → (own x).to ≤ low) → low ≤ r → Outside (parts.own_of own o).from (parts.own_of own o).to r
+part_below : {X : Type 0} (own : X → Own) (o : Option X) (low r : ℕ) → ((x : X) → o ≡ Some x → (own x).to ≤ low)
+    → low ≤ r → Outside (parts.own_of own o).from (parts.own_of own o).to r
 part_below own None low r h l = inr (omega arith)
 part_below own (Some x) low r h l = let e = h x refl in inr (omega (arith, e, l))
 
-part_above : {X : Type 0} (own : X → Own) (o : Option X) (high r : ℕ) → ((x : X) → o ≡ Some x → high ≤ (own x).from) → r < high → Outside (parts.own_of own o).from (parts.own_of own o).to r
+part_above : {X : Type 0} (own : X → Own) (o : Option X) (high r : ℕ) → ((x : X) → o ≡ Some x → high ≤ (own x).from)
+    → r < high → Outside (parts.own_of own o).from (parts.own_of own o).to r
 part_above own None high r h l = inr (omega arith)
 part_above own (Some x) high r h l = let e = h x refl in inl (omega (arith, e, l))
 
@@ -123,8 +124,10 @@ module _ {T : Type 0} (l : Members T) (n : Nets T) (em : Emission l n) where
       let first = order.0 in
       let second = order.1 in
       after_orders r (omega (arith, first, second, low)) (keeps_gh.has_reg r (keeps_fg.has_reg r has))
-      ∙ em.to_orders.nexts r (keeps_fg.has_reg r has) (λ i k. part_below order_laws.own (some_at n.orders i) em.high r (λ x e. em.layout.orders_to i x k e) low)
-      ∙ em.to_ports.nexts r has (λ m k. part_below port_laws.own (some_at n.line.shared.now.ports.now m) em.mid r (λ x e. em.layout.ports_to m x k e) (omega (arith, second, low)))
+      ∙ em.to_orders.nexts r (keeps_fg.has_reg r has)
+      (λ i k. part_below order_laws.own (some_at n.orders i) em.high r (λ x e. em.layout.orders_to i x k e) low)
+      ∙ em.to_ports.nexts r has
+      (λ m k. part_below port_laws.own (some_at n.line.shared.now.ports.now m) em.mid r (λ x e. em.layout.ports_to m x k e) (omega (arith, second, low)))
 
   -- registers of tails are later ones
   pub tails_alone : GoOn em.e em.f em.d
@@ -136,7 +139,8 @@ module _ {T : Type 0} (l : Members T) (n : Nets T) (em : Emission l n) where
 
   -- ---- ports and orders keep what their registers take next
 
-  pub port_kept : (m : ℕ) (q : PortRegs) → m < length p.mems → some_at n.line.shared.now.ports.now m ≡ Some q → HasOwn em.a (port_laws.own q) → OwnKept (port_laws.own q) em.g em.d
+  pub port_kept : (m : ℕ) (q : PortRegs) → m < length p.mems → some_at n.line.shared.now.ports.now m ≡ Some q
+      → HasOwn em.a (port_laws.own q) → OwnKept (port_laws.own q) em.g em.d
   port_kept m q k e own =
       let low = em.layout.ports_from m q k e in
       let high = em.layout.ports_to m q k e in
@@ -147,7 +151,8 @@ module _ {T : Type 0} (l : Members T) (n : Nets T) (em : Emission l n) where
         writes = λ i from to. absurd (omega (arith, to));
       }
 
-  pub order_kept : (i : ℕ) (q : OrderRegs) → i < length p.stages → some_at n.orders i ≡ Some q → HasOwn em.a (order_laws.own q) → OwnKept (order_laws.own q) em.h em.d
+  pub order_kept : (i : ℕ) (q : OrderRegs) → i < length p.stages → some_at n.orders i ≡ Some q
+      → HasOwn em.a (order_laws.own q) → OwnKept (order_laws.own q) em.h em.d
   order_kept i q k e own =
       let low = em.layout.orders_from i q k e in
       record {

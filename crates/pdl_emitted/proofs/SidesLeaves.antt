@@ -1,5 +1,5 @@
 -- Threads of an emission move as the law of a netlist has them move.
-use Rattle.std.proofs.Common.{◌≡◌, refl, sym, ap, ◌∙◌, subst, ℕ, zero, suc, ◌<◌, ◌≤◌, ◌==◌, ◌⊎◌, inl, inr, Bool, true, false, List, length, arith}
+use Rattle.std.proofs.Common.{◌≡◌, refl, sym, ap, ◌∙◌, subst, ℕ, zero, suc, ◌<◌, ◌≤◌, ◌==◌, ◌⊎◌, inl, inr, Bool, true, false, length, arith}
 use mathlib.Core.Path.{fun_ext}
 use Rattle.std.specs.Prelude.{if◌then◌else◌}
 use Rattle.std.proofs.lemmas.Bool.{cases_lt, false≢true}
@@ -15,7 +15,7 @@ use Rattle.pdl_net.proofs.Bounds.{bounded}
 use Rattle.pdl_flatnets.specs.Nets.{signals_in, signal_at}
 use Rattle.pdl_flatnets.proofs.NetLists.{length_signals}
 use Rattle.pdl_pipe_law.specs.Walk.{Walk, one, zero_bit, both, is_on}
-use Rattle.pdl_pipe_law.specs.Views.{View, free, way_on, moves_where}
+use Rattle.pdl_pipe_law.specs.Views.{View, free, way_on, moves_where, Gates}
 use Rattle.pdl_pipe_law.specs.Compiled.{Same}
 use Rattle.pdl_pipe_law.proofs.Signals.{mux_by, one_is, zero_is}
 use Rattle.pdl_stagenets.specs.Locked.{Members}
@@ -25,7 +25,7 @@ use Rattle.pdl_stageregs.proofs.Lists.{each_at}
 use Rattle.pdl_stagenexts.specs.Lines.{line_pipe, line_views, line_moves}
 use Rattle.pdl_stagenexts.proofs.LinesKept.{line_keep, moves_same}
 use Rattle.pdl_stagemoves.specs.Signs.{signs_in, gate_by}
-use Rattle.pdl_stagemoves.specs.Passed.{IsMovedBy, frees_at}
+use Rattle.pdl_stagemoves.specs.Passed.{frees_at}
 use Rattle.pdl_emitted.specs.Emitted.{Nets, Emission, views_of, moves_of, gates_of}
 use Rattle.pdl_emitted.proofs.SidesGrown.{keeps_cd}
 use Rattle.pdl_emitted.proofs.SidesStages.{some_of, at_signal}
@@ -77,20 +77,34 @@ module _ {T : Type 0} (l : Members T) (n : Nets T) (em : Emission l n) (well : I
   abbrev p : Pipe
   p = line_pipe n.line
 
-  moves_low : (s : State) → Suits em.d s → (k : ℕ) → (moves_of l n em k).value s < 2
+  abbrev vs : ℕ → View
+  vs = views_of l n em
+
+  abbrev moves : ℕ → Signal
+  moves = moves_of l n em
+
+  abbrev gates : Gates
+  gates = gates_of l n em
+
+  -- whether the law lets a thread move
+  abbrev allowed : ℕ → Signal
+  allowed k = moves_where p vs gates.gate moves k
+
+  moves_low : (s : State) → Suits em.d s → (k : ℕ) → (moves k).value s < 2
   moves_low s suits k = subst (λ (f : Signal). f.value s < 2) (moves_same em.c em.d n.line (keeps_cd l n em) em.line k) (at (cases_lt k (length n.line.moves.now)))
     where
       at : (k < length n.line.moves.now) ⊎ (length n.line.moves.now ≤ k) → (line_moves em.d n.line k).value s < 2
       at (inl low) =
           let m = some_of n.line.moves.now k low in
           let bit = each_at (IsBit em.d) n.line.moves.now k m.0 low m.1 (line_keep em.c em.d n.line (keeps_cd l n em) em.line).moves in
-          subst (λ (f : Signal). f.value s < 2) (at_signal em.d n.line.moves.now k m.0 low m.1) (below_two s (signal em.d m.0) bit.1 (bounded em.d s well suits m.0 bit.0))
+          subst (λ (f : Signal). f.value s < 2) (at_signal em.d n.line.moves.now k m.0 low m.1)
+          (below_two s (signal em.d m.0) bit.1 (bounded em.d s well suits m.0 bit.0))
       at (inr high) =
           let count = length_signals em.d n.line.moves.now in
           subst (λ (f : Signal). f.value s < 2) (sym (get_or_past (signals_in em.d n.line.moves.now) k no_signal (omega (arith, count, high)))) (omega arith)
 
   -- a thread's net is on where the law lets it move
-  on_together : (k : ℕ) → k < length p.stages → IsOnAs (moves_of l n em k) (moves_where p (views_of l n em) (gates_of l n em).gate (moves_of l n em) k)
+  on_together : (k : ℕ) → k < length p.stages → IsOnAs (moves k) (allowed k)
   on_together k low =
       let signs = signs_in em.b n.line n.orders n.moves.squash n.moves.clear.items in
       let frees = signal_at (signals_in em.b (frees_at n.moves.frees.items k)) in
@@ -98,13 +112,13 @@ module _ {T : Type 0} (l : Members T) (n : Nets T) (em : Emission l n) (well : I
       let where_by : (ℕ → View) → (ℕ → Signal) → Signal = λ vs ms. moves_where p vs (λ j. gate_by p vs signs frees k) ms k in
       let moved : IsOnAs (first k) (where_by (line_views em.b n.line) first) = (em.moved.passed.each k (omega arith) low).moves in
       λ s.
-          subst (λ (ms : ℕ → Signal). is_on (ms k) s ≡ is_on (where_by (views_of l n em) ms) s) (fun_ext (moves_first l n em))
-          (subst (λ (vs : ℕ → View). is_on (first k) s ≡ is_on (where_by vs first) s) (views_first l n em) (moved s))
-          ∙ ap (λ (g : Signal). is_on (moves_where p (views_of l n em) (λ j. g) (moves_of l n em) k) s) (gate_is l n em well k low)
+      subst (λ (ms : ℕ → Signal). is_on (ms k) s ≡ is_on (where_by vs ms) s) (fun_ext (moves_first l n em))
+      (subst (λ (vs : ℕ → View). is_on (first k) s ≡ is_on (where_by vs first) s) (views_first l n em) (moved s))
+      ∙ ap (λ (g : Signal). is_on (moves_where p vs (λ j. g) moves k) s) (gate_is l n em well k low)
 
   -- and has its value in each state of the circuit
-  pub leaves : (k : ℕ) → k < length p.stages → Same em.d (moves_of l n em k) (moves_where p (views_of l n em) (gates_of l n em).gate (moves_of l n em) k)
+  pub leaves : (k : ℕ) → k < length p.stages → Same em.d (moves k) (allowed k)
   leaves k low s suits =
-      let moves = moves_low s suits in
-      same_bit ((moves_of l n em k).value s) ((moves_where p (views_of l n em) (gates_of l n em).gate (moves_of l n em) k).value s) (moves k) (where_low s p (views_of l n em) (gates_of l n em).gate (moves_of l n em) k moves)
+      let bits = moves_low s suits in
+      same_bit ((moves k).value s) ((allowed k).value s) (bits k) (where_low s p vs gates.gate moves k bits)
       (on_together k low s)

@@ -9,7 +9,6 @@ use Rattle.pdl_net.specs.Growth.{Keeps}
 use Rattle.pdl_net.proofs.Keeps.{keeps_trans}
 use Rattle.pdl_flatnets.specs.Nets.{signals_in, signal_at}
 use Rattle.pdl_flatnets.proofs.NetLists.{signal_of}
-use Rattle.pdl_pipe_law.specs.Walk.{Walk}
 use Rattle.pdl_pipe_law.specs.Views.{View}
 use Rattle.pdl_stagenets.specs.Locked.{Members}
 use Rattle.pdl_stagenets.specs.Parts.{walk_in}
@@ -20,7 +19,7 @@ use Rattle.pdl_beside.proofs.EndsKept as ends_kept
 use Rattle.pdl_stageregs.specs.declared.nets.StageNets.{StageNets}
 use Rattle.pdl_stageregs.specs.Stages.{IsAt}
 use Rattle.pdl_stageregs.proofs.Lists.{view_at}
-use Rattle.pdl_stagenexts.specs.Lines.{line_pipe, line_views, line_moves, line_kills}
+use Rattle.pdl_stagenexts.specs.Lines.{line_pipe}
 use Rattle.pdl_stagenexts.proofs.LinesKept.{ended_same, moves_same, kills_same}
 use Rattle.pdl_emitted.specs.Emitted.{Nets, Emission, views_of, moves_of, gates_of}
 use Rattle.pdl_emitted.proofs.SidesGrown.{keeps_bc}
