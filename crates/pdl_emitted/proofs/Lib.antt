@@ -4,3 +4,12 @@ pub mod LaidGrowth
 pub mod LaidLocks
 pub mod LaidStages
 pub mod LaidWidths
+pub mod SidesGrown
+pub mod SidesBegun
+pub mod SidesStages
+pub mod SidesPorts
+pub mod SidesRemoved
+pub mod SidesHeld
+pub mod SidesAsks
+pub mod SidesGates
+pub mod SidesLeaves
