@@ -115,7 +115,8 @@ fn verifies(op: &Op) -> bool
         Op::Verify(_) => true,
         Op::Bind { .. } | Op::CombRead { .. } | Op::DelayedRead { .. } | Op::Write { .. } => false,
         Op::ReserveRead { .. } | Op::ReserveWrite { .. } | Op::Block { .. } => false,
-        Op::Release { .. } | Op::Call(_) | Op::SpecCall(_) | Op::SpecCheck | Op::SpecBarrier => false,
+        Op::Release { .. } | Op::Call(_) | Op::SpecCall(_) | Op::SpecCheck | Op::SpecBarrier =>
+            false,
     }
 }
 

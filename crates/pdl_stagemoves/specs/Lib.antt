@@ -1,2 +1,4 @@
 pub mod Inside
 pub mod Gates
+pub mod Signs
+pub mod Passed
