@@ -8,8 +8,7 @@ use Rattle.pdl_net.specs.declared.Net.{Net}
 use Rattle.pdl_net.specs.declared.Net.TheVariants.{Reg as RegNet}
 use Rattle.pdl_net.specs.Circuit.{Circuit, shapes_of}
 use Rattle.pdl_net.specs.Signal.{Signal}
-use Rattle.pdl_net.specs.Meaning.{signal}
-use Rattle.pdl_net.specs.Growth.{Extends, ExtendsBut, ExtendsPorts}
+use Rattle.pdl_net.specs.Growth.{Extends, ExtendsBut, ExtendsPorts, Keeps}
 use Rattle.pdl_lockapi.specs.declared.LockNets.{LockNets}
 use Rattle.pdl_port.specs.declared.PortRegs.{PortRegs}
 use Rattle.pdl_port.specs.Laws as port_laws
@@ -26,6 +25,7 @@ use Rattle.pdl_beside.specs.declared.ends.StageEnd.{StageEnd}
 use Rattle.pdl_beside.specs.declared.outside.RequestNets.{RequestNets}
 use Rattle.pdl_beside.specs.Ports.{StandPorts}
 use Rattle.pdl_beside.specs.Parts.{own_at, ExtendsParts}
+use Rattle.pdl_beside.specs.Beside.{AreTaken}
 use Rattle.pdl_beside.specs.Steps.{IsPortStepped, IsOrderStepped}
 use Rattle.pdl_stageregs.specs.declared.nets.StageNets.{StageNets}
 use Rattle.pdl_stageregs.specs.Stages.{IsAt}
@@ -67,8 +67,8 @@ pub record HasMemories {T : Type 0} (l : Members T) (c : Circuit) (f : Form) (bi
   pub ports_from : (m : ℕ) (q : PortRegs) → m < length f.pipe.mems → some_at ports m ≡ Some q → low ≤ (port_laws.own q).from
   pub ports_to : (m : ℕ) (q : PortRegs) → m < length f.pipe.mems → some_at ports m ≡ Some q → (port_laws.own q).to ≤ mid
   pub order : (low ≤ mid) × (mid ≤ length c.regs)
-  pub reply : (m : ℕ) (q : PortRegs) → some_at ports m ≡ Some q → signal c q.reply ≡ (inputs_of f.pipe m).reply
-  pub word : (m : ℕ) (q : PortRegs) → some_at ports m ≡ Some q → signal c q.word ≡ (inputs_of f.pipe m).word
+  -- and in each later circuit ports take what comes from outside
+  pub taken : (d : Circuit) → Keeps c d → AreTaken d ports (inputs_of f.pipe)
   pub inputs : c.ports ≡ reply_ports (name_in f) 0 f.pipe.mems
   pub shapes : shapes_of c ≡ shapes_in f.names f.pipe.mems
 

@@ -1,0 +1,184 @@
+use Rattle.std.proofs.Common.{◌≡◌, sym, ap, ◌∙◌, subst, length, inr, arith}
+use Rattle.pdl_net.proofs.Keeps.{but_keeps, extends_keeps, keeps_trans}
+use Rattle.pdl_flatnets.specs.Nets.{signals_in}
+use Rattle.pdl_flatnets.proofs.NetLists.{there_keeps, signals_keep}
+use Rattle.pdl_stagenets.specs.Locked.{members, AreTickets}
+use Rattle.pdl_locknets.proofs.LocksKept.{locked_kept, laws_kept}
+use Rattle.pdl_beside.proofs.EndsKept.{ends_keep}
+use Rattle.pdl_beside.proofs.PortSteps.{ports_stand}
+use Rattle.pdl_beside.proofs.OrderSteps.{orders_stand}
+use Rattle.pdl_stagenexts.specs.Lines.{line_form, line_pipe}
+use Rattle.pdl_stagenexts.specs.Nexts.{regs_of}
+use Rattle.pdl_stagenexts.proofs.LinesKept.{line_keep}
+use Rattle.pdl_pipe.proofs.Stepping.{next_kept, cut_fits, unwritten_kept}
+use Rattle.pdl_pipe.proofs.steps.set_registers.Goals as goal
+
+pub tails-requires-clause-line : goal.tails-requires-clause-line
+tails-requires-clause-line g c =
+    let b = c.args.b.now in
+    let e = c.connect.new.b in
+    let x = c.args.all.now.line.now in
+    let be = but_keeps (regs_of 0 (length b.regs)) b e (c.connect.ensures.extends 0 c.requires.apart) in
+    line_keep b e x be c.requires.line
+
+pub port_steps-requires-clause-ends : goal.port_steps-requires-clause-ends
+port_steps-requires-clause-ends g c =
+    let b = c.args.b.now in
+    let e = c.connect.new.b in
+    let x = c.args.all.now.line.now in
+    let be = but_keeps (regs_of 0 (length b.regs)) b e (c.connect.ensures.extends 0 c.requires.apart) in
+    let f = c.tails.new.b in
+    let bf = keeps_trans b e f be (extends_keeps e f c.tails.ensures.extends) in
+    ends_keep b f bf (line_form x) c.args.ends.now c.requires.ends
+
+pub port_steps-requires-clause-ports : goal.port_steps-requires-clause-ports
+port_steps-requires-clause-ports g c =
+    let b = c.args.b.now in
+    let e = c.connect.new.b in
+    let x = c.args.all.now.line.now in
+    let be = but_keeps (regs_of 0 (length b.regs)) b e (c.connect.ensures.extends 0 c.requires.apart) in
+    let f = c.tails.new.b in
+    let bf = keeps_trans b e f be (extends_keeps e f c.tails.ensures.extends) in
+    ports_stand b f (line_pipe x) x.shared.now.ports.now bf c.requires.ports
+
+pub order_steps-requires-clause-ends : goal.order_steps-requires-clause-ends
+order_steps-requires-clause-ends g c =
+    let b = c.args.b.now in
+    let e = c.connect.new.b in
+    let x = c.args.all.now.line.now in
+    let be = but_keeps (regs_of 0 (length b.regs)) b e (c.connect.ensures.extends 0 c.requires.apart) in
+    let f = c.tails.new.b in
+    let bf = keeps_trans b e f be (extends_keeps e f c.tails.ensures.extends) in
+    let i = c.port_steps.new.b in
+    let fi = c.in_ok-port_steps.ensures.extends.keeps in
+    let bi = keeps_trans b f i bf fi in
+    ends_keep b i bi (line_form x) c.args.ends.now c.requires.ends
+
+pub order_steps-requires-clause-orders : goal.order_steps-requires-clause-orders
+order_steps-requires-clause-orders g c =
+    let b = c.args.b.now in
+    let e = c.connect.new.b in
+    let x = c.args.all.now.line.now in
+    let be = but_keeps (regs_of 0 (length b.regs)) b e (c.connect.ensures.extends 0 c.requires.apart) in
+    let f = c.tails.new.b in
+    let bf = keeps_trans b e f be (extends_keeps e f c.tails.ensures.extends) in
+    let i = c.port_steps.new.b in
+    let fi = c.in_ok-port_steps.ensures.extends.keeps in
+    let bi = keeps_trans b f i bf fi in
+    orders_stand b i (line_pipe x) c.args.all.now.orders.now bi c.requires.orders
+
+pub lock_steps-requires-clause-line : goal.lock_steps-requires-clause-line
+lock_steps-requires-clause-line g c =
+    let b = c.args.b.now in
+    let e = c.connect.new.b in
+    let x = c.args.all.now.line.now in
+    let be = but_keeps (regs_of 0 (length b.regs)) b e (c.connect.ensures.extends 0 c.requires.apart) in
+    let f = c.tails.new.b in
+    let bf = keeps_trans b e f be (extends_keeps e f c.tails.ensures.extends) in
+    let i = c.port_steps.new.b in
+    let fi = c.in_ok-port_steps.ensures.extends.keeps in
+    let bi = keeps_trans b f i bf fi in
+    let h = c.order_steps.new.b in
+    let ih = c.in_ok-order_steps.ensures.extends.keeps in
+    let bh = keeps_trans b i h bi ih in
+    let l = members g.L.LockModule in
+    let locks = c.args.all.now.locks.now in
+    line_keep b h x bh c.requires.line
+
+pub lock_steps-requires-clause-locked : goal.lock_steps-requires-clause-locked
+lock_steps-requires-clause-locked g c =
+    let b = c.args.b.now in
+    let e = c.connect.new.b in
+    let x = c.args.all.now.line.now in
+    let be = but_keeps (regs_of 0 (length b.regs)) b e (c.connect.ensures.extends 0 c.requires.apart) in
+    let f = c.tails.new.b in
+    let bf = keeps_trans b e f be (extends_keeps e f c.tails.ensures.extends) in
+    let i = c.port_steps.new.b in
+    let fi = c.in_ok-port_steps.ensures.extends.keeps in
+    let bi = keeps_trans b f i bf fi in
+    let h = c.order_steps.new.b in
+    let ih = c.in_ok-order_steps.ensures.extends.keeps in
+    let bh = keeps_trans b i h bi ih in
+    let l = members g.L.LockModule in
+    let locks = c.args.all.now.locks.now in
+    locked_kept l b h (line_pipe x) locks bh g.met.L.LockModule.stays c.requires.locked
+
+pub lock_steps-requires-clause-lawful : goal.lock_steps-requires-clause-lawful
+lock_steps-requires-clause-lawful g c =
+    let b = c.args.b.now in
+    let e = c.connect.new.b in
+    let x = c.args.all.now.line.now in
+    let be = but_keeps (regs_of 0 (length b.regs)) b e (c.connect.ensures.extends 0 c.requires.apart) in
+    let f = c.tails.new.b in
+    let bf = keeps_trans b e f be (extends_keeps e f c.tails.ensures.extends) in
+    let i = c.port_steps.new.b in
+    let fi = c.in_ok-port_steps.ensures.extends.keeps in
+    let bi = keeps_trans b f i bf fi in
+    let h = c.order_steps.new.b in
+    let ih = c.in_ok-order_steps.ensures.extends.keeps in
+    let bh = keeps_trans b i h bi ih in
+    let l = members g.L.LockModule in
+    let locks = c.args.all.now.locks.now in
+    laws_kept l b h (line_pipe x) locks bh c.requires.locked c.requires.lawful
+
+pub lock_steps-requires-clause-unwritten : goal.lock_steps-requires-clause-unwritten
+lock_steps-requires-clause-unwritten g c =
+    let b = c.args.b.now in
+    let e = c.connect.new.b in
+    let x = c.args.all.now.line.now in
+    let be = but_keeps (regs_of 0 (length b.regs)) b e (c.connect.ensures.extends 0 c.requires.apart) in
+    let f = c.tails.new.b in
+    let bf = keeps_trans b e f be (extends_keeps e f c.tails.ensures.extends) in
+    let i = c.port_steps.new.b in
+    let fi = c.in_ok-port_steps.ensures.extends.keeps in
+    let bi = keeps_trans b f i bf fi in
+    let h = c.order_steps.new.b in
+    let ih = c.in_ok-order_steps.ensures.extends.keeps in
+    let bh = keeps_trans b i h bi ih in
+    let l = members g.L.LockModule in
+    let locks = c.args.all.now.locks.now in
+    unwritten_kept b h (line_pipe x)
+    (λ k has. c.in_ok-order_steps.ensures.extends.writes k (bi.has_array k has) ∙ c.in_ok-port_steps.ensures.extends.writes k (bf.has_array k has) ∙ c.tails.ensures.extends.writes k (be.has_array k has) ∙ (c.connect.ensures.extends 0 c.requires.apart).writes k has (inr (omega arith)))
+    c.requires.locked.has_array c.requires.unwritten
+
+pub lock_steps-requires-clause-next : goal.lock_steps-requires-clause-next
+lock_steps-requires-clause-next g c =
+    let b = c.args.b.now in
+    let e = c.connect.new.b in
+    let x = c.args.all.now.line.now in
+    let be = but_keeps (regs_of 0 (length b.regs)) b e (c.connect.ensures.extends 0 c.requires.apart) in
+    let f = c.tails.new.b in
+    let bf = keeps_trans b e f be (extends_keeps e f c.tails.ensures.extends) in
+    let i = c.port_steps.new.b in
+    let fi = c.in_ok-port_steps.ensures.extends.keeps in
+    let bi = keeps_trans b f i bf fi in
+    let h = c.order_steps.new.b in
+    let ih = c.in_ok-order_steps.ensures.extends.keeps in
+    let bh = keeps_trans b i h bi ih in
+    let l = members g.L.LockModule in
+    let locks = c.args.all.now.locks.now in
+    next_kept l b h (line_pipe x) locks x.shared.now.next bh c.requires.locked c.requires.line.shared.next_there c.requires.next
+
+pub lock_steps-requires-clause-cut : goal.lock_steps-requires-clause-cut
+lock_steps-requires-clause-cut g c =
+    let b = c.args.b.now in
+    let e = c.connect.new.b in
+    let x = c.args.all.now.line.now in
+    let be = but_keeps (regs_of 0 (length b.regs)) b e (c.connect.ensures.extends 0 c.requires.apart) in
+    let f = c.tails.new.b in
+    let bf = keeps_trans b e f be (extends_keeps e f c.tails.ensures.extends) in
+    let i = c.port_steps.new.b in
+    let fi = c.in_ok-port_steps.ensures.extends.keeps in
+    let bi = keeps_trans b f i bf fi in
+    let h = c.order_steps.new.b in
+    let ih = c.in_ok-order_steps.ensures.extends.keeps in
+    let bh = keeps_trans b i h bi ih in
+    let l = members g.L.LockModule in
+    let locks = c.args.all.now.locks.now in
+    let fh = keeps_trans f i h fi ih in
+    let eh = keeps_trans e f h (extends_keeps e f c.tails.ensures.extends) fh in
+    let row = c.in_ok-tails.ensures.row in
+    subst (AreTickets l h locks) (sym c.as_slice.ensures)
+    (cut_fits l e f h (line_pipe x) locks c.in_ok-tails.tails.cut x.shared.now.next fh (locked_kept l b h (line_pipe x) locks bh g.met.L.LockModule.stays c.requires.locked) row.there row.wide
+    (signals_keep e h x.shared.now.next eh (there_keeps b e x.shared.now.next be c.requires.line.shared.next_there)) (next_kept l b h (line_pipe x) locks x.shared.now.next bh c.requires.locked c.requires.line.shared.next_there c.requires.next))
+
