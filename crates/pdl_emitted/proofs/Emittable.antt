@@ -1,5 +1,5 @@
 -- The flat form of a source that breaks no rule is one of which nets can be emitted.
-use Rattle.std.proofs.Common.{◌≡◌, refl, sym, ap, subst, ℕ, suc, ◌≤◌, Bool, true, List, [], ◌∷◌, length}
+use Rattle.std.proofs.Common.{◌≡◌, sym, ◌∙◌, subst, ℕ, ◌≤◌, Bool, true, List, [], ◌∷◌, length}
 use Rattle.pdl_semantics.specs.Tree.{Mem, Pipe}
 use Rattle.pdl_semantics.specs.Flat.{Op, Stmt}
 use Rattle.pdl_semantics.specs.Flatten.{flat, first_stages, mems_of}
@@ -7,6 +7,7 @@ use Rattle.pdl_semantics.specs.Stages.{is_reserve, is_release}
 use Rattle.pdl_rules.specs.Refusal.{KeepsRules}
 use Rattle.pdl_stagefacts.proofs.Facts.{stage_facts}
 use Rattle.pdl_pathfacts.specs.Source.{is_source, is_named}
+use Rattle.pdl_pathfacts.proofs.Memories.{mems_length, stages_length}
 use Rattle.pdl_form.specs.Form.{Form, form_of}
 use Rattle.pdl_formtypes.specs.Stmts.{AreTypedStmts, IsTypedForm}
 use Rattle.pdl_formtypes.proofs.Whole.{typed_whole}
@@ -23,10 +24,10 @@ use Rattle.pdl_emitted.proofs.MergedForks.{merged_low}
 use Rattle.pdl_word.specs.Each.{Each}
 
 -- one entry for each memory
-stages_count : (test : ℕ → Op → Bool) (xs : List Stmt) (k : ℕ) (ms : List Mem) → length (first_stages test xs k ms) ≡ length (mems_of ms)
-stages_count test xs k [] = refl
-stages_count test xs k (m ∷ ms) = ap suc (stages_count test xs (suc k) ms)
+one_each : (test : ℕ → Op → Bool) (xs : List Stmt) (ms : List Mem) → length (first_stages test xs 0 ms) ≡ length (mems_of ms)
+one_each test xs ms = stages_length test xs 0 ms ∙ sym (mems_length ms)
 
+-- statements that are typed, and read at once where they say so
 both_walked : (f : Form) (xs : List Stmt) → AreTypedStmts f xs → Each (λ (x : Stmt). IsAtOnce f.pipe x.op) xs → AreWalked f xs
 both_walked f [] t h = tt
 both_walked f (x ∷ xs) t h = ((t.0, h.0), both_walked f xs t.1 h.1)
@@ -35,8 +36,8 @@ pub can_emit : (p : Pipe) → KeepsRules p → is_source p ≡ true → is_named
 can_emit p rules source named = record {
   typed = typed;
   walked = both_walked (form_of p) (flat p).stmts typed.stmts lawful.at_once;
-  reserves = stages_count is_reserve (flat p).stmts 0 p.mems;
-  releases = stages_count is_release (flat p).stmts 0 p.mems;
+  reserves = one_each is_reserve (flat p).stmts p.mems;
+  releases = one_each is_release (flat p).stmts p.mems;
   leads = lawful.leads;
   inside = leads_up (flat p) lawful.leads;
   reads = lawful.reads;
