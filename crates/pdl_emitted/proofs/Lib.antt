@@ -13,3 +13,5 @@ pub mod SidesHeld
 pub mod SidesAsks
 pub mod SidesGates
 pub mod SidesLeaves
+pub mod MergedForks
+pub mod Emittable

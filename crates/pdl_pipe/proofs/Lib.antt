@@ -4,3 +4,12 @@ pub mod Showing
 pub mod Moving
 pub mod Laying
 pub mod Beginning
+pub mod Emittable
+pub mod LocksAllowed
+pub mod MadeMemories
+pub mod MadeOutputs
+pub mod MadeRequests
+pub mod MadeLaw
+pub mod MadeNetlist
+pub mod NeededPart
+pub mod NeededFolded

@@ -1,0 +1,91 @@
+-- The netlist that is finished from all nets of an accepted pipe follows the pipe, and has its locks.
+use Rattle.std.proofs.Common.{◌≡◌, refl, ◌∙◌, subst, ℕ, true, List, map}
+use mathlib.Core.Path.{fun_ext}
+use Rattle.std.specs.Prelude.{Option}
+use Rattle.pdl_semantics.specs.Tree as tree
+use Rattle.pdl_semantics.specs.Flatten.{flat}
+use Rattle.pdl_rules.specs.Refusal.{KeepsRules}
+use Rattle.pdl_pathfacts.specs.Source.{is_source, is_named}
+use Rattle.pdl_form.specs.Form.{form_of}
+use Rattle.pdl_net.specs.declared.Netlist.{Netlist}
+use Rattle.pdl_net.specs.Circuit.{Circuit, circuit_of, shape_of, shapes_of}
+use Rattle.pdl_net.specs.Signal.{Signal}
+use Rattle.pdl_net.specs.Well.{IsWell}
+use Rattle.pdl_pipe_law.specs.Walk.{Locks}
+use Rattle.pdl_pipe_law.specs.Views.{View, Gates}
+use Rattle.pdl_pipe_law.specs.Declared.{mem_names}
+use Rattle.pdl_sides.specs.Sides.{Sides}
+use Rattle.pdl_stagenets.specs.declared.locks.MemLock.{MemLock}
+use Rattle.pdl_stagenets.specs.Locked.{Members, locks_in}
+use Rattle.pdl_locknets.proofs.LocksKept.{Stays}
+use Rattle.pdl_follows.specs.Follows.{Follows, IsMade}
+use Rattle.pdl_follows.specs.Memories.{net_infos}
+use Rattle.pdl_follows.proofs.FollowsMade.{follows}
+use Rattle.pdl_lockruns.proofs.UsedMade.{stages_made}
+use Rattle.pdl_lockruns.proofs.Locking.{used_locks}
+use Rattle.pdl_emitted.specs.Emitted.{name_in, views_of, moves_of, gates_of, sides_of}
+use Rattle.pdl_pipe.specs.Emitted.{IsEmitted}
+use Rattle.pdl_pipe.specs.Locks.{HasLocks}
+use Rattle.pdl_pipe.proofs.MadeMemories.{same_names, same_shapes, commits_fit}
+use Rattle.pdl_pipe.proofs.MadeLaw.{KeepsLaw, keeps_law}
+
+shapes_listed : (n : Netlist) → map shape_of n.arrays ≡ shapes_of (circuit_of n)
+unfolding shapes_of
+shapes_listed n = refl
+
+module _ {T : Type 0} (l : Members T) (stays : Stays l) (p : tree.Pipe) (n : Netlist) (emitted : IsEmitted l (circuit_of n) (form_of p)) (name : n.name ≡ p.name.name) (mems : n.mems ≡ net_infos p.mems) (well : IsWell (circuit_of n)) where
+  abbrev locks : List (Option (MemLock T))
+  locks = emitted.nets.locks
+
+  abbrev ls : Locks
+  ls = locks_in l (flat p) (circuit_of n) locks
+
+  abbrev vs : ℕ → View
+  vs = views_of l emitted.nets emitted.emission
+
+  abbrev gates : Gates
+  gates = gates_of l emitted.nets emitted.emission
+
+  abbrev moves : ℕ → Signal
+  moves = moves_of l emitted.nets emitted.emission
+
+  abbrev sides : Sides
+  sides = sides_of l emitted.nets emitted.emission
+
+  law : KeepsLaw l (form_of p) (mem_names p.mems) ls vs gates moves sides (circuit_of n) locks emitted.nets.commits
+  law =
+      subst (λ (names : ℕ → List ℕ). KeepsLaw l (form_of p) names ls vs gates moves sides (circuit_of n) locks emitted.nets.commits) (fun_ext (same_names p.mems))
+      (keeps_law l stays (circuit_of n) (form_of p) emitted well)
+
+  made : IsMade p ls vs gates moves sides n
+  made = record {
+    name = name;
+    compiled = law.compiled;
+    well = well;
+    wide = law.wide;
+    commits = commits_fit law.compiled.laid.commits p.mems law.commits;
+    requests = law.requests;
+    in_order = law.in_order;
+    mems = mems;
+    arrays = shapes_listed n ∙ law.shapes ∙ same_shapes p.mems;
+  }
+
+  module _ (rules : KeepsRules p) (source : is_source p ≡ true) (named : is_named p ≡ true) where
+    pub follows_made : Follows p n
+    follows_made = follows p rules source named ls vs gates moves sides n made
+
+    -- in each cycle its stages are as the machine's, and its locks are used as the machine's threads use them
+    pub locks_made : HasLocks l p n
+    locks_made = record {
+      locks = locks;
+      locked = law.locked;
+      lawful = law.lawful;
+      views = vs;
+      gates = gates;
+      moves = moves;
+      stages = law.compiled.laid.stages;
+      commits = emitted.nets.commits;
+      stepped = law.stepped;
+      alike = stages_made p rules source named ls vs gates moves sides n made;
+      used = used_locks l p rules source named n (circuit_of n) locks law.locked.locked vs gates moves sides made;
+    }

@@ -1,0 +1,26 @@
+use Rattle.std.proofs.Common.{sym, subst}
+use Rattle.pdl_tree.specs.View.{pipe_view}
+use Rattle.pdl_form.specs.Form.{Form}
+use Rattle.pdl_formtypes.proofs.Whole.{typed_whole}
+use Rattle.pdl_formtypes.specs.Stmts.{AreTypedMems}
+use Rattle.pdl_lockkinds.specs.Asked.{AreInTime, AreSizedLocks}
+use Rattle.pdl_pipe.proofs.LocksAllowed.{sized_locks, locks_in_time, suited_as}
+use Rattle.pdl_pipe.proofs.netlist.compile.Goals as goal
+
+pub locks_of-requires-clause-mems : goal.locks_of-requires-clause-mems
+locks_of-requires-clause-mems c =
+    let a = c.args.accepted.now in
+    subst (λ (f : Form). AreTypedMems f.pipe.mems) (sym c.flat.ensures) (typed_whole (pipe_view a.typed.pipe) a.kept a.letters).mems
+
+pub locks_of-requires-clause-in_time : goal.locks_of-requires-clause-in_time
+locks_of-requires-clause-in_time c =
+    let a = c.args.accepted.now in
+    subst (λ (f : Form). AreInTime f.pipe.mems) (sym c.flat.ensures) (locks_in_time (pipe_view a.typed.pipe) a.kept)
+
+pub locks_of-requires-clause-sizes : goal.locks_of-requires-clause-sizes
+locks_of-requires-clause-sizes c =
+    let a = c.args.accepted.now in
+    subst (λ (f : Form). AreSizedLocks f.pipe.mems) (sym c.flat.ensures) (sized_locks (pipe_view a.typed.pipe) a.kept)
+
+pub needed_with-requires : goal.needed_with-requires
+needed_with-requires c = record { suited = suited_as _ _ _ _ _ _ c.flat.ensures c.as_slice.ensures.value c.in_ok-locks.ensures.suited }
