@@ -10,7 +10,7 @@ use Rattle.pdl_follows.specs.Memories.{net_infos}
 use Rattle.pdl_emitted.specs.Emitted.{CanEmit}
 use Rattle.pdl_pipe.specs.Infos.{is_told}
 use Rattle.pdl_pipe.specs.Emitted.{IsEmitted}
-use Rattle.pdl_pipe.proofs.Emittable.{can_emit}
+use Rattle.pdl_emitted.proofs.Emittable.{can_emit}
 use Rattle.pdl_pipe.proofs.MadeMemories.{told_infos}
 use Rattle.pdl_pipe.proofs.MadeNetlist.{follows_made, locks_made}
 use Rattle.pdl_pipe.proofs.netlist.compile_with.Goals as goal
