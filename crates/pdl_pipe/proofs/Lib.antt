@@ -1,4 +1,3 @@
-pub mod Emittable
 pub mod LocksAllowed
 pub mod MadeMemories
 pub mod MadeOutputs
