@@ -4,7 +4,6 @@ pub mod Showing
 pub mod Moving
 pub mod Laying
 pub mod Beginning
-pub mod Emittable
 pub mod LocksAllowed
 pub mod MadeMemories
 pub mod MadeOutputs

@@ -65,16 +65,19 @@ time_allowed tree.Queue size depth m e = tt
 time_allowed tree.Bypass size depth m e = not-true m.delayed e
 time_allowed tree.Rename size depth m e = not-true m.delayed (and_parts (not m.delayed) _ e).0
 
-lock_in_time : (m : Mem) (l : Option LockDecl) (x : flat.Mem) → x.delayed ≡ m.delayed → is_some_and (is_wrong_lock m) l ≡ false → IsInTime (flat_lock l) x
+lock_in_time : (m : Mem) (l : Option LockDecl) (x : flat.Mem) → x.delayed ≡ m.delayed → is_some_and (is_wrong_lock m) l ≡ false
+    → IsInTime (flat_lock l) x
 lock_in_time m None x d e = tt
 lock_in_time m (Some l) x d e =
     let parts = and_parts (is_size l.size.value) (allows_lock m.depth.value m.delayed l.kind l.size.value) (not-false _ e) in
-    subst (λ k. IsInTime k x) (sym (lock_is l)) (time_allowed l.kind l.size.value m.depth.value x (ap (λ b. allows_lock m.depth.value b l.kind l.size.value) d ∙ parts.1))
+    subst (λ k. IsInTime k x) (sym (lock_is l))
+    (time_allowed l.kind l.size.value m.depth.value x (ap (λ b. allows_lock m.depth.value b l.kind l.size.value) d ∙ parts.1))
 
 abbrev IsRight : Mem → Type 0
 IsRight m = is_some_and (is_wrong_lock m) m.lock ≡ false
 
-all_right : (p : Pipe) → KeepsRules p → (ms : List Mem) (before later : List Place) → places p ≡ before ++ (map Memory ms ++ later) → Each IsRight ms
+all_right : (p : Pipe) → KeepsRules p → (ms : List Mem) (before later : List Place) → places p ≡ before ++ (map Memory ms ++ later)
+    → Each IsRight ms
 all_right p rules [] before later e = tt
 all_right p rules (m ∷ ms) before later e = (
   (or_parts (not (is_width m.width.value && is_depth m.depth.value)) _ (rules Z7 before (Memory m) _ e)).1,
@@ -104,5 +107,6 @@ locks_in_time p rules = all_in_time p.mems (right_locks p rules)
 -- ---- locks
 
 -- locks that suit a form suit the same form
-pub suited_as : {T : Type 0} (suits : T → MemInfo → Type 0) (l : Members T) (f g : Form) (xs ys : List (Option T)) → f ≡ g → ys ≡ xs → AreSuited suits l f xs → AreSuited suits l g ys
+pub suited_as : {T : Type 0} (suits : T → MemInfo → Type 0) (l : Members T) (f g : Form) (xs ys : List (Option T)) → f ≡ g → ys ≡ xs
+    → AreSuited suits l f xs → AreSuited suits l g ys
 suited_as suits l f g xs ys e s h = subst (λ k. AreSuited suits l k ys) e (subst (AreSuited suits l f) (sym s) h)

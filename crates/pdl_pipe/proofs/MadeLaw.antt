@@ -39,7 +39,8 @@ use Rattle.pdl_pipe.proofs.MadeOutputs.{shown_made, ports_made, shapes_made}
 use Rattle.pdl_pipe.proofs.MadeRequests.{outside, request_one, fits_outside}
 
 -- a circuit that keeps the law with these locks, whose steps have these nets: the widths of what it shows, the places and shapes of its arrays, and its locks
-pub record KeepsLaw {T : Type 0} (l : Members T) (f : Form) (names : ℕ → List ℕ) (ls : Locks) (vs : ℕ → View) (gates : Gates) (moves : ℕ → Signal) (sides : Sides) (d : Circuit) (locks : List (Option (MemLock T))) (nets : List (Option LockNets)) : Type 1 where
+pub record KeepsLaw {T : Type 0} (l : Members T) (f : Form) (names : ℕ → List ℕ) (ls : Locks) (vs : ℕ → View) (gates : Gates) (moves : ℕ → Signal)
+    (sides : Sides) (d : Circuit) (locks : List (Option (MemLock T))) (nets : List (Option LockNets)) : Type 1 where
   pub compiled : IsWhole f.pipe names ls vs gates moves sides d
   pub wide : AreBitsWide vs gates moves (length f.pipe.stages)
   pub commits : (m : ℕ) → is_locked f.pipe m ≡ true → Fits (mem_at f.pipe m) (compiled.laid.commits m)
@@ -52,15 +53,29 @@ pub record KeepsLaw {T : Type 0} (l : Members T) (f : Form) (names : ℕ → Lis
 
 -- ---- of an emission
 
-module _ {T : Type 0} (l : Members T) (stays : Stays l) (n : Nets T) (em : Emission l n) (well : IsWell em.d) (stages : List ShownNets) (shown_of : AreShownOf n.line stages)
-    (outs : List OutNet) (there : OutsThere em.i outs) (ports : ExtendsPorts em.i em.d (map (port_in em.i) (map output_of outs))) (shown : ShowAll em.i (line_form n.line) stages n.moves.squash n.commits n.requests outs) where
+module _ {T : Type 0} (l : Members T) (stays : Stays l) (n : Nets T) (em : Emission l n) (well : IsWell em.d)
+    (stages : List ShownNets) (shown_of : AreShownOf n.line stages) (outs : List OutNet) (there : OutsThere em.i outs)
+    (ports : ExtendsPorts em.i em.d (map (port_in em.i) (map output_of outs)))
+    (shown : ShowAll em.i (line_form n.line) stages n.moves.squash n.commits n.requests outs) where
   abbrev p : Pipe
   p = line_pipe n.line
 
   abbrev f : Form
   f = line_form n.line
 
-  abbrev whole : IsWhole p (name_in f) (locks_of l n em) (views_of l n em) (gates_of l n em) (moves_of l n em) (sides_of l n em) em.d
+  abbrev vs : ℕ → View
+  vs = views_of l n em
+
+  abbrev gates : Gates
+  gates = gates_of l n em
+
+  abbrev moves : ℕ → Signal
+  moves = moves_of l n em
+
+  abbrev sides : Sides
+  sides = sides_of l n em
+
+  abbrev whole : IsWhole p (name_in f) (locks_of l n em) vs gates moves sides em.d
   whole = record {
     laid = laid l stays n em well (leaves l n em well);
     starts = starts_lock l stays n em;
@@ -73,9 +88,9 @@ module _ {T : Type 0} (l : Members T) (stays : Stays l) (n : Nets T) (em : Emiss
     shown = shown_made l n em stages shown_of outs there shown;
   }
 
-  emitted_keeps : KeepsLaw l f (name_in f) (locks_in l p em.d n.locks) (views_of l n em) (gates_of l n em) (moves_of l n em) (sides_of l n em) em.d n.locks n.commits
+  emitted_keeps : KeepsLaw l f (name_in f) (locks_in l p em.d n.locks) vs gates moves sides em.d n.locks n.commits
   emitted_keeps =
-      subst (λ (ls : Locks). KeepsLaw l f (name_in f) ls (views_of l n em) (gates_of l n em) (moves_of l n em) (sides_of l n em) em.d n.locks n.commits) (sym (locks_made l stays n em))
+      subst (λ (ls : Locks). KeepsLaw l f (name_in f) ls vs gates moves sides em.d n.locks n.commits) (sym (locks_made l stays n em))
       (record {
         compiled = whole;
         wide = bits_wide l n em;
@@ -98,7 +113,8 @@ module _ {T : Type 0} (l : Members T) (stays : Stays l) (c : Circuit) (f : Form)
   em = h.emission
 
   abbrev KeepsIt : Form → Circuit → Type 1
-  KeepsIt g d = KeepsLaw l g (name_in g) (locks_in l g.pipe d n.locks) (views_of l n em) (gates_of l n em) (moves_of l n em) (sides_of l n em) d n.locks n.commits
+  KeepsIt g d =
+      KeepsLaw l g (name_in g) (locks_in l g.pipe d n.locks) (views_of l n em) (gates_of l n em) (moves_of l n em) (sides_of l n em) d n.locks n.commits
 
   pub keeps_law : KeepsIt f c
   keeps_law =

@@ -36,9 +36,11 @@ same_shapes (m ∷ ms) = at m.delayed (same_shapes ms)
     shape : Shape
     shape = record { name = m.name.name; width = m.width.value; depth = words_in (flat_lock m.lock) m.depth.value }
 
-    at : (b : Bool) → rest ≡ map shape_of_mem (comb_of ms) → (if b then [] else shape ∷ []) ++ rest ≡ map shape_of_mem (if not b then m ∷ comb_of ms else comb_of ms)
+    at : (b : Bool) → rest ≡ map shape_of_mem (comb_of ms)
+        → (if b then [] else shape ∷ []) ++ rest ≡ map shape_of_mem (if not b then m ∷ comb_of ms else comb_of ms)
     at true h = h
-    at false h = ap₂ (λ (n : ℕ) (ss : List Shape). record { name = m.name.name; width = m.width.value; depth = n } ∷ ss) (same_words m.lock m.depth.value) h
+    at false h =
+        ap₂ (λ (n : ℕ) (ss : List Shape). record { name = m.name.name; width = m.width.value; depth = n } ∷ ss) (same_words m.lock m.depth.value) h
 
 -- ---- names
 
@@ -56,7 +58,8 @@ told_delayed (m ∷ ms) = at m.delayed (told_delayed ms)
     rest : List MemInfo
     rest = filter (is_told true) (infos_of ms)
 
-    at : (b : Bool) → rest ≡ map info_of (delayed_of ms) → (if b then info_of m ∷ rest else rest) ≡ map info_of (if b then m ∷ delayed_of ms else delayed_of ms)
+    at : (b : Bool) → rest ≡ map info_of (delayed_of ms)
+        → (if b then info_of m ∷ rest else rest) ≡ map info_of (if b then m ∷ delayed_of ms else delayed_of ms)
     at true h = ap (λ is. info_of m ∷ is) h
     at false h = h
 
@@ -67,25 +70,37 @@ told_comb (m ∷ ms) = at m.delayed (told_comb ms)
     rest : List MemInfo
     rest = filter (is_told false) (infos_of ms)
 
-    at : (b : Bool) → rest ≡ map info_of (comb_of ms) → (if not b then info_of m ∷ rest else rest) ≡ map info_of (if not b then m ∷ comb_of ms else comb_of ms)
+    at : (b : Bool) → rest ≡ map info_of (comb_of ms)
+        → (if not b then info_of m ∷ rest else rest) ≡ map info_of (if not b then m ∷ comb_of ms else comb_of ms)
     at true h = h
     at false h = ap (λ is. info_of m ∷ is) h
 
 -- the delayed ones first
-pub told_infos : (ms : List Mem) → filter (is_told true) (infos_of ms) ++ filter (is_told false) (infos_of ms) ≡ net_infos ms
+told_infos : (ms : List Mem) → filter (is_told true) (infos_of ms) ++ filter (is_told false) (infos_of ms) ≡ net_infos ms
 told_infos ms = ap₂ (λ (xs ys : List MemInfo). xs ++ ys) (told_delayed ms) (told_comb ms)
+
+-- so a netlist has them that is told these
+pub mems_as : (ms : List Mem) (told copies mems : List MemInfo) → mems ≡ copies
+    → copies ≡ filter (is_told true) told ++ filter (is_told false) told → told ≡ infos_of ms → mems ≡ net_infos ms
+mems_as ms told copies mems e copied is = e ∙ copied ∙ ap (λ is. filter (is_told true) is ++ filter (is_told false) is) is ∙ told_infos ms
 
 -- ---- commits
 
 abbrev pub Fits : flat.Mem → Commit → Type 0
 Fits m x = (x.enable.width ≡ 1) × (2 ^ x.addr.width ≡ m.depth) × (x.value.width ≡ m.width)
 
-fits_from : (commits : ℕ → Commit) (k : ℕ) (ms : List Mem) → ((i j : ℕ) → j ≡ k + i → has_lock (slice_index_or (mems_of ms) i plain_mem).lock ≡ true → Fits (slice_index_or (mems_of ms) i plain_mem) (commits j)) → CommitsFit commits k ms
+abbrev mem_in : List Mem → ℕ → flat.Mem
+mem_in ms i = slice_index_or (mems_of ms) i plain_mem
+
+fits_from : (commits : ℕ → Commit) (k : ℕ) (ms : List Mem)
+    → ((i j : ℕ) → j ≡ k + i → has_lock (mem_in ms i).lock ≡ true → Fits (mem_in ms i) (commits j)) → CommitsFit commits k ms
 fits_from commits k [] h = tt
 fits_from commits k (m ∷ ms) h = (
   λ s. let q = h 0 k (omega arith) (lock_declared m.lock ∙ s) in record { enable = q.0; reach = q.1; value = q.2 },
   fits_from commits (suc k) ms (λ i j e s. h (suc i) j (omega (arith, e)) s),
 )
 
-pub commits_fit : (commits : ℕ → Commit) (ms : List Mem) → ((m : ℕ) → has_lock (slice_index_or (mems_of ms) m plain_mem).lock ≡ true → Fits (slice_index_or (mems_of ms) m plain_mem) (commits m)) → CommitsFit commits 0 ms
-commits_fit commits ms h = fits_from commits 0 ms (λ i j e s. subst (λ n. Fits (slice_index_or (mems_of ms) i plain_mem) (commits n)) (let z : i ≡ j = omega (arith, e) in z) (h i s))
+pub commits_fit : (commits : ℕ → Commit) (ms : List Mem)
+    → ((m : ℕ) → has_lock (mem_in ms m).lock ≡ true → Fits (mem_in ms m) (commits m)) → CommitsFit commits 0 ms
+commits_fit commits ms h =
+    fits_from commits 0 ms (λ i j e s. subst (λ n. Fits (mem_in ms i) (commits n)) (let z : i ≡ j = omega (arith, e) in z) (h i s))

@@ -6,7 +6,7 @@ use Rattle.pdl_semantics.specs.Tree as tree
 use Rattle.pdl_semantics.specs.Flatten.{flat}
 use Rattle.pdl_rules.specs.Refusal.{KeepsRules}
 use Rattle.pdl_pathfacts.specs.Source.{is_source, is_named}
-use Rattle.pdl_form.specs.Form.{form_of}
+use Rattle.pdl_form.specs.Form.{Form, form_of}
 use Rattle.pdl_net.specs.declared.Netlist.{Netlist}
 use Rattle.pdl_net.specs.Circuit.{Circuit, circuit_of, shape_of, shapes_of}
 use Rattle.pdl_net.specs.Signal.{Signal}
@@ -33,7 +33,12 @@ shapes_listed : (n : Netlist) → map shape_of n.arrays ≡ shapes_of (circuit_o
 unfolding shapes_of
 shapes_listed n = refl
 
-module _ {T : Type 0} (l : Members T) (stays : Stays l) (p : tree.Pipe) (n : Netlist) (emitted : IsEmitted l (circuit_of n) (form_of p)) (name : n.name ≡ p.name.name) (mems : n.mems ≡ net_infos p.mems) (well : IsWell (circuit_of n)) where
+-- nets of one form in one circuit are nets of the same form in the same circuit
+pub emitted_as : {T : Type 0} (l : Members T) (b c : Circuit) (f g : Form) → b ≡ c → f ≡ g → IsEmitted l b f → IsEmitted l c g
+emitted_as l b c f g same is h = subst (λ (y : Circuit). IsEmitted l y g) same (subst (IsEmitted l b) is h)
+
+module _ {T : Type 0} (l : Members T) (stays : Stays l) (p : tree.Pipe) (n : Netlist) (emitted : IsEmitted l (circuit_of n) (form_of p))
+    (name : n.name ≡ p.name.name) (mems : n.mems ≡ net_infos p.mems) (well : IsWell (circuit_of n)) where
   abbrev locks : List (Option (MemLock T))
   locks = emitted.nets.locks
 
@@ -54,7 +59,8 @@ module _ {T : Type 0} (l : Members T) (stays : Stays l) (p : tree.Pipe) (n : Net
 
   law : KeepsLaw l (form_of p) (mem_names p.mems) ls vs gates moves sides (circuit_of n) locks emitted.nets.commits
   law =
-      subst (λ (names : ℕ → List ℕ). KeepsLaw l (form_of p) names ls vs gates moves sides (circuit_of n) locks emitted.nets.commits) (fun_ext (same_names p.mems))
+      subst (λ (names : ℕ → List ℕ). KeepsLaw l (form_of p) names ls vs gates moves sides (circuit_of n) locks emitted.nets.commits)
+      (fun_ext (same_names p.mems))
       (keeps_law l stays (circuit_of n) (form_of p) emitted well)
 
   made : IsMade p ls vs gates moves sides n

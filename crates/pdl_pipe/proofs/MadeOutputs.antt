@@ -26,6 +26,7 @@ use Rattle.pdl_beside.specs.declared.outside.RequestNets.{RequestNets}
 use Rattle.pdl_stageregs.specs.Stages.{view_in}
 use Rattle.pdl_stageregs.proofs.Lists.{view_at, some_stage}
 use Rattle.pdl_stagenexts.specs.Lines.{line_form, line_pipe}
+use Rattle.pdl_stagenexts.proofs.LinesKept as lines
 use Rattle.pdl_locknets.specs.Stepped.{commit_of, commits_in}
 use Rattle.pdl_locknets.specs.Suited.{shapes_in}
 use Rattle.pdl_outnets.specs.declared.outputs.StageNets.{StageNets as ShownNets}
@@ -40,11 +41,13 @@ use Rattle.pdl_pipe.specs.Emitted.{AreShownOf}
 
 shown_kept : (a c : Circuit) (os : List OutNet) → Keeps a c → OutsThere a os → shown_by c os ≡ shown_by a os
 shown_kept a c [] k h = refl
-shown_kept a c (o ∷ os) k h = ap₂ (λ (f : Signal) (rest : List Shown). record { name = o.name; signal = f } ∷ rest) (k.kept o.net h.0) (shown_kept a c os k h.1)
+shown_kept a c (o ∷ os) k h =
+    ap₂ (λ (f : Signal) (rest : List Shown). record { name = o.name; signal = f } ∷ rest) (k.kept o.net h.0) (shown_kept a c os k h.1)
 
 ports_kept : (a c : Circuit) (os : List OutNet) → Keeps a c → OutsThere a os → map (port_in c) (map output_of os) ≡ map (port_in a) (map output_of os)
 ports_kept a c [] k h = refl
-ports_kept a c (o ∷ os) k h = ap₂ (λ (f : Signal) (rest : List Port). record { name = o.name; width = f.width; dir = Out o.net } ∷ rest) (k.kept o.net h.0) (ports_kept a c os k h.1)
+ports_kept a c (o ∷ os) k h =
+    ap₂ (λ (f : Signal) (rest : List Port). record { name = o.name; width = f.width; dir = Out o.net } ∷ rest) (k.kept o.net h.0) (ports_kept a c os k h.1)
 
 module _ {T : Type 0} (l : Members T) (n : Nets T) (em : Emission l n) where
   abbrev p : Pipe
@@ -52,6 +55,15 @@ module _ {T : Type 0} (l : Members T) (n : Nets T) (em : Emission l n) where
 
   abbrev f : Form
   f = line_form n.line
+
+  abbrev vs : ℕ → View
+  vs = views_of l n em
+
+  abbrev gates : Gates
+  gates = gates_of l n em
+
+  abbrev moves : ℕ → Signal
+  moves = moves_of l n em
 
   keeps_ci : Keeps em.c em.i
   keeps_ci = keeps_trans em.c em.h em.i (keeps_ch l n em) (keeps_hi l n em)
@@ -61,12 +73,14 @@ module _ {T : Type 0} (l : Members T) (n : Nets T) (em : Emission l n) where
   commits_same : commits_in em.d n.commits ≡ commits_in em.i n.commits
   commits_same = fun_ext (λ m. at m (cases_lt m (length p.mems)))
     where
-      by : (m : ℕ) → m < length p.mems → (o : Option LockNets) → some_at n.commits m ≡ o → (y : Option (MemLock T)) → some_at n.locks m ≡ y → commit_of em.d o ≡ commit_of em.i o
+      by : (m : ℕ) → m < length p.mems → (o : Option LockNets) → some_at n.commits m ≡ o → (y : Option (MemLock T)) → some_at n.locks m ≡ y
+          → commit_of em.d o ≡ commit_of em.i o
       by m low None e y g = refl
       by m low (Some x) e None g = absurd (false≢true (ap is_some (sym g) ∙ sym (em.stepped.each m low).has ∙ ap is_some e))
       by m low (Some x) e (Some y) g =
           let it = (em.stepped.each m low).lock y x g e in
-          ap₂ (λ (q : Signal) (r : Signal × Signal). (let z : Commit = record { enable = q; addr = r.0; value = r.1 } in z)) (em.keeps.kept x.commit it.commit_there)
+          ap₂ (λ (q : Signal) (r : Signal × Signal). (let z : Commit = record { enable = q; addr = r.0; value = r.1 } in z))
+          (em.keeps.kept x.commit it.commit_there)
           (ap₂ (λ (q r : Signal). (q, r)) (em.keeps.kept x.addr it.addr_there) (em.keeps.kept x.value it.value_there))
 
       at : (m : ℕ) → (m < length p.mems) ⊎ (length p.mems ≤ m) → commits_in em.d n.commits m ≡ commits_in em.i n.commits m
@@ -85,7 +99,8 @@ module _ {T : Type 0} (l : Members T) (n : Nets T) (em : Emission l n) where
           let it = (em.asked.each m low).asks x e in
           let after = keeps_ci in
           let later = keeps_cd l n em in
-          ap₂ (λ (q r : Signal). (let z : Request = record { enable = q; addr = r } in z)) (later.kept x.enable it.enable_there ∙ sym (after.kept x.enable it.enable_there))
+          ap₂ (λ (q r : Signal). (let z : Request = record { enable = q; addr = r } in z))
+          (later.kept x.enable it.enable_there ∙ sym (after.kept x.enable it.enable_there))
           (later.kept x.addr it.addr_there ∙ sym (after.kept x.addr it.addr_there))
 
       at : (m : ℕ) → (m < length p.mems) ⊎ (length p.mems ≤ m) → asks_in em.d n.requests m ≡ asks_in em.i n.requests m
@@ -98,7 +113,7 @@ module _ {T : Type 0} (l : Members T) (n : Nets T) (em : Emission l n) where
   -- ---- the outputs are told of these stages
 
   module _ (stages : List ShownNets) (shown_of : AreShownOf n.line stages) where
-    valid_same : (k : ℕ) → k < length stages → (views_of l n em k).valid ≡ valid_in em.i stages k
+    valid_same : (k : ℕ) → k < length stages → (vs k).valid ≡ valid_in em.i stages k
     valid_same k low =
         let count = shown_of.count in
         let inside : k < length n.line.stages.now = omega (arith, low, count) in
@@ -111,19 +126,19 @@ module _ {T : Type 0} (l : Members T) (n : Nets T) (em : Emission l n) where
         ∙ ap (signal em.i) (sym (shown_of.valid k s y low is here))
         ∙ sym (get_or-map (λ (z : ShownNets). signal em.i z.valid) stages k y no_signal low ∙ ap (λ (z : ShownNets). signal em.i z.valid) here)
 
-    moves_same : (k : ℕ) → k < length stages → moves_of l n em k ≡ moves_in em.i stages k
+    moves_same : (k : ℕ) → k < length stages → moves k ≡ moves_in em.i stages k
     moves_same k low =
         let count = shown_of.count in
-        let moves = em.line.moves_count in
-        let inside : k < length n.line.moves.now = omega (arith, low, count, moves) in
+        let as_many = em.line.moves_count in
+        let inside : k < length n.line.moves.now = omega (arith, low, count, as_many) in
         let (z, is) = some_of n.line.moves.now k inside in
         let (y, here) = some_of stages k low in
-        sym (Rattle.pdl_stagenexts.proofs.LinesKept.moves_same em.c em.i n.line keeps_ci em.line k)
+        sym (lines.moves_same em.c em.i n.line keeps_ci em.line k)
         ∙ sym (at_signal em.i n.line.moves.now k z inside is)
         ∙ ap (signal em.i) (sym (shown_of.moves k z y low is here))
         ∙ sym (get_or-map (λ (z : ShownNets). signal em.i z.moves) stages k y no_signal low ∙ ap (λ (z : ShownNets). signal em.i z.moves) here)
 
-    are_of : AreOf em.i stages n.moves.squash f.names (views_of l n em) (gates_of l n em) (moves_of l n em) (name_in f)
+    are_of : AreOf em.i stages n.moves.squash f.names vs gates moves (name_in f)
     are_of = record {
       valid = valid_same;
       moves = moves_same;
@@ -133,11 +148,11 @@ module _ {T : Type 0} (l : Members T) (n : Nets T) (em : Emission l n) where
 
     -- they show the whole
     pub shown_made : (outs : List OutNet) → OutsThere em.i outs → ShowAll em.i f stages n.moves.squash n.commits n.requests outs
-        → shown_by em.d outs ≡ whole_shown p (name_in f) (commits_in em.d n.commits) (asks_in em.d n.requests) (views_of l n em) (gates_of l n em) (moves_of l n em)
+        → shown_by em.d outs ≡ whole_shown p (name_in f) (commits_in em.d n.commits) (asks_in em.d n.requests) vs gates moves
     shown_made outs there shown =
         shown_kept em.i em.d outs em.keeps there
-        ∙ shown (views_of l n em) (gates_of l n em) (moves_of l n em) (name_in f) are_of
-        ∙ sym (ap₂ (λ (g : ℕ → Commit) (q : ℕ → Request). whole_shown p (name_in f) g q (views_of l n em) (gates_of l n em) (moves_of l n em)) commits_same asks_same)
+        ∙ shown vs gates moves (name_in f) are_of
+        ∙ sym (ap₂ (λ (g : ℕ → Commit) (q : ℕ → Request). whole_shown p (name_in f) g q vs gates moves) commits_same asks_same)
 
   -- ---- ports and arrays
 
@@ -147,10 +162,24 @@ module _ {T : Type 0} (l : Members T) (n : Nets T) (em : Emission l n) where
   ports_made outs there added =
       added.ports
       ∙ ap (λ (ps : List Port). ps ++ map (port_in em.i) (map output_of outs))
-      (em.to_locks.ports ∙ em.to_orders.ports ∙ em.to_ports.ports ∙ em.to_tails.ports ∙ em.to_nexts.ports ∙ em.to_requests.ports ∙ em.to_moves.ports ∙ em.layout.inputs)
+      (em.to_locks.ports
+      ∙ em.to_orders.ports
+      ∙ em.to_ports.ports
+      ∙ em.to_tails.ports
+      ∙ em.to_nexts.ports
+      ∙ em.to_requests.ports
+      ∙ em.to_moves.ports
+      ∙ em.layout.inputs)
       ∙ ap (λ (ps : List Port). reply_ports (name_in f) 0 p.mems ++ ps) (sym (ports_kept em.i em.d outs em.keeps there))
 
   pub shapes_made : shapes_of em.d ≡ shapes_in f.names p.mems
   shapes_made =
-      em.shapes ∙ em.to_locks.shapes ∙ em.to_orders.shapes ∙ em.to_ports.shapes ∙ em.to_tails.shapes ∙ em.to_nexts.shapes ∙ em.to_requests.shapes ∙ em.to_moves.shapes
+      em.shapes
+      ∙ em.to_locks.shapes
+      ∙ em.to_orders.shapes
+      ∙ em.to_ports.shapes
+      ∙ em.to_tails.shapes
+      ∙ em.to_nexts.shapes
+      ∙ em.to_requests.shapes
+      ∙ em.to_moves.shapes
       ∙ em.layout.shapes

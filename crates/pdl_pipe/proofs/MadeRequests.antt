@@ -120,7 +120,8 @@ module _ {T : Type 0} (l : Members T) (n : Nets T) (em : Emission l n) where
     pub outside : IsOutside p em.d vs moves sides (asks_in em.d n.requests m) m
     outside =
         subst (λ (o : Option RequestNets). IsOutside p em.d vs moves sides (ask_of em.d o) m) (sym here.1)
-        (is_outside em.b em.d p n.ends n.moves.squash vs first_gates moves n.line.shared.now.ports.now (inputs_of p) (λ j. free_of l n em (reading p j) j) n.orders (clear_of l n em) (tails_in em.f n.tails)
+        (is_outside em.b em.d p n.ends n.moves.squash vs first_gates moves
+        n.line.shared.now.ports.now (inputs_of p) (λ j. free_of l n em (reading p j) j) n.orders (clear_of l n em) (tails_in em.f n.tails)
         (keeps_bd l n em) stages_first em.can.onward m here.0 now refl refl)
 
     -- by a bit

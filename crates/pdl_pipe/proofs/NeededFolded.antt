@@ -28,13 +28,15 @@ const_moved k (Rep n a) = refl
 const_moved k (Read m a) = refl
 
 -- a kept net is a constant as much as before
-constant_moved : (k : Choice) (n : Netlist) → IsClosed (circuit_of n) k → (x : Net) → IsKept k x → is_constant (pruned k n).cells (moved_net k x) ≡ is_constant n.cells x
+constant_moved : (k : Choice) (n : Netlist) → IsClosed (circuit_of n) k → (x : Net) → IsKept k x
+    → is_constant (pruned k n).cells (moved_net k x) ≡ is_constant n.cells x
 constant_moved k n h (Input i) e = refl
 constant_moved k n h (RegNet r) e = refl
 constant_moved k n h (CellNet j) e = ap is_const (cell_moved k n h j e) ∙ const_moved k (cell_at (circuit_of n) j)
 
 -- and so a kept cell could be a constant as much as before
-foldable_moved : (k : Choice) (n : Netlist) → IsClosed (circuit_of n) k → (g : Cell) → Each (IsKept k) (reads_of g) → is_foldable (pruned k n).cells (moved_cell k g) ≡ is_foldable n.cells g
+foldable_moved : (k : Choice) (n : Netlist) → IsClosed (circuit_of n) k → (g : Cell) → Each (IsKept k) (reads_of g)
+    → is_foldable (pruned k n).cells (moved_cell k g) ≡ is_foldable n.cells g
 foldable_moved k n h (Const w v) e = refl
 foldable_moved k n h (Not a) e = constant_moved k n h a e.0
 foldable_moved k n h (Bin op a b) e = ap₂ (λ s t. s && t) (constant_moved k n h a e.0) (constant_moved k n h b e.1.0)
@@ -67,6 +69,7 @@ pub needed_folded : {E : Type 0} (n : Netlist) (r : Result Netlist E) → AreFol
 needed_folded n (Ok q) f i = folded_part n q i f
 needed_folded n (Err e) f i = tt
 
-pub needed_different : {E : Type 0} (n : Netlist) (r : Result Netlist E) → AllPairs (λ a b. a ≢ b) n.cells → IfOk r (λ q. AllPairs (λ a b. a ≢ b) n.cells → AllPairs (λ a b. a ≢ b) q.cells) → IfOk r (λ q. AllPairs (λ a b. a ≢ b) q.cells)
+pub needed_different : {E : Type 0} (n : Netlist) (r : Result Netlist E) → AllPairs (λ a b. a ≢ b) n.cells
+    → IfOk r (λ q. AllPairs (λ a b. a ≢ b) n.cells → AllPairs (λ a b. a ≢ b) q.cells) → IfOk r (λ q. AllPairs (λ a b. a ≢ b) q.cells)
 needed_different n (Ok q) d i = i d
 needed_different n (Err e) d i = tt

@@ -20,10 +20,13 @@ abbrev pub ShowsSame : Netlist → Netlist → Type 0
 ShowsSame n q = (image : List (List ℕ)) (schedule : List ℕ) → nports q image schedule ≡ nports n image schedule
 
 -- where there is memory for it
-pub needed_follows : {E : Type 0} (p : tree.Pipe) (n : Netlist) (r : Result Netlist E) → Follows p n → IfOk r (λ q. IsWellFormed q) → IfOk r (ShowsSame n) → IfOk r (HasSameFrame n) → IfOk r (Follows p)
-needed_follows p n (Ok q) h well shows frame = follows_like p n q well frame.name frame.ports frame.mems (arrays_same n q frame) shows h
+pub needed_follows : {E : Type 0} (p : tree.Pipe) (n : Netlist) (r : Result Netlist E) → Follows p n
+    → IfOk r (λ q. IsWellFormed q) → IfOk r (ShowsSame n) → IfOk r (HasSameFrame n) → IfOk r (Follows p)
+needed_follows p n (Ok q) h well shows frame =
+    follows_like p n q well frame.name frame.ports frame.mems (arrays_same n q frame) shows h
 needed_follows p n (Err e) h well shows frame = tt
 
-pub needed_locks : {T E : Type 0} (l : Members T) (p : tree.Pipe) (n : Netlist) (r : Result Netlist E) → HasLocks l p n → IfOk r (IsPruned n) → IfOk r (HasLocksOf l p)
+pub needed_locks : {T E : Type 0} (l : Members T) (p : tree.Pipe) (n : Netlist) (r : Result Netlist E) → HasLocks l p n
+    → IfOk r (IsPruned n) → IfOk r (HasLocksOf l p)
 needed_locks l p n (Ok q) h part = record { whole = n; locks = h; part = part }
 needed_locks l p n (Err e) h part = tt
