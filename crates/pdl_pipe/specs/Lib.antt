@@ -1,4 +1,2 @@
 pub mod Refined
-pub mod Joined
 pub mod Locks
-pub mod Finished
