@@ -1,4 +1,4 @@
-use Rattle.std.proofs.Common.{◌≡◌, ◌-◌}
+use Rattle.std.proofs.Common.{◌≡◌}
 use Rattle.pdl_runs.proofs.Running.{Counted, left}
 use Rattle.pdl_runs.proofs.print.count_cycles.Given as goal
 
@@ -6,5 +6,5 @@ use Rattle.pdl_runs.proofs.print.count_cycles.Given as goal
 abbrev pub invariant-loop-done : goal.invariant-loop-done
 invariant-loop-done l = record {
   netlist : l.sim.netlist ≡ l.fn.sim.netlist;
-  counted : Counted l.counts (left l.sim.netlist l.sim.held (l.cycles - l._done)) (left l.fn.sim.netlist l.fn.sim.held l.cycles) l._done;
+  counted : Counted l.counts (left l.sim.netlist l.sim.held l.delays.now l.done l.cycles) (left l.fn.sim.netlist l.fn.sim.held l.delays.now 0 l.cycles) l.done;
 }
