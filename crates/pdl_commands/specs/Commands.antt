@@ -113,7 +113,7 @@ pub record IsBegun (holds : Option Held) (image' : List ℕ) (delays : Option (L
 abbrev pub StartFails : Option Held → ℕ → ℕ → List ℕ → Option (List ℕ) → Netlist → Failure → Type 0
 StartFails holds before now image' delays n f =
     ImageFails holds before now image' n.mems f
-    ⊎ ((text : List ℕ) (words : List (List ℕ)) × Gives holds image' text × (image n.mems text ≡ Ok words)
+    ⊎ ((text : List ℕ) × (words : List (List ℕ)) × Gives holds image' text × (image n.mems text ≡ Ok words)
     × DelaysFails holds before now delays (length (delayed_mems n)) f)
 
 -- why a text gives no netlist to run

@@ -19,7 +19,7 @@ all_answered cycles = replicate cycles 65535
 abbrev pub IsSchedule : Option Held → Option (List ℕ) → ℕ → ℕ → List ℕ → Type 0
 IsSchedule holds None count cycles schedule = schedule ≡ all_answered cycles
 IsSchedule holds (Some name) count cycles schedule =
-    (text rows : List ℕ) × Gives holds name text × (delays count text ≡ Ok rows) × (schedule ≡ scheduled rows cycles)
+    (text : List ℕ) × (rows : List ℕ) × Gives holds name text × (delays count text ≡ Ok rows) × (schedule ≡ scheduled rows cycles)
 
 -- the delay file, where one is named, is refused by the rule at the line
 abbrev pub DelaysRefused : Option Held → Option (List ℕ) → ℕ → Rule → ℕ → Type 0

@@ -50,8 +50,8 @@ pub record IsWrongReplies (holds : Option Held) (v image' : List ℕ) (delays : 
 -- of netlist, image and delay file the first wrong one is refused by the rule at the line
 abbrev pub IsWrongSim : Option Held → List ℕ → List ℕ → Option (List ℕ) → Rule → ℕ → Type 0
 IsWrongSim holds v image' delays rule line =
-    IsWrongNetlist holds v rule line ⊎ IsWrongStart holds v image' rule line
-    ⊎ IsWrongReplies holds v image' delays rule line
+    IsWrongNetlist holds v rule line
+    ⊎ (IsWrongStart holds v image' rule line ⊎ IsWrongReplies holds v image' delays rule line)
 
 -- the text that `sim` writes where all is well: what the netlist that is read commits from the image with the replies, and the end line
 pub record IsSimulated (holds : Option Held) (v image' : List ℕ) (cycles : ℕ) (delays : Option (List ℕ)) (text : List ℕ)

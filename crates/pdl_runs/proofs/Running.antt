@@ -15,6 +15,10 @@ use Rattle.pdl_runs.specs.Printed.{cycles_from, replies_from, schedule}
 use Rattle.pdl_runs.specs.declared.print.Counts.{Counts}
 use Rattle.pdl_runs.specs.Tally.{one_if, tallied_of}
 
+-- the cycles of a run
+abbrev pub whole : Netlist → Held → List ℕ → ℕ → List Cycle
+whole n h rows cycles = cycles_from n h (schedule rows cycles)
+
 -- the cycles that are left of a run of so many cycles, where some are done
 abbrev pub left : Netlist → Held → List ℕ → ℕ → ℕ → List Cycle
 left n h rows done cycles = cycles_from n h (replies_from rows (done + 1) (cycles - done))

@@ -14,6 +14,10 @@ use Rattle.pdl_waverun.specs.Dumped.{wave_ports, rows_of}
 use Rattle.pdl_waverun.specs.Cycles.{cycle_text, cycles_text, IsFit, IsShownBy}
 use Rattle.pdl_waverun.proofs.Fitting.{fit_next, fit_row}
 
+-- the rows of a run
+abbrev pub whole : Run → List ℕ → ℕ → List (List ℕ)
+whole r delays cycles = rows_of (nports_from r.netlist r.held (schedule delays cycles))
+
 -- the rows that are left of a run of so many cycles, where some are done
 abbrev pub left : Run → List ℕ → ℕ → ℕ → List (List ℕ)
 left r delays done cycles = rows_of (nports_from r.netlist r.held (replies_from delays (done + 1) (cycles - done)))

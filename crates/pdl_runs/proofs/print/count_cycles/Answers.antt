@@ -1,6 +1,6 @@
 use Rattle.std.proofs.Common.{◌+◌, ap, ◌∙◌}
 use Rattle.pdl_pipe_law.specs.Runs.{cycle_of}
-use Rattle.pdl_runs.proofs.Running.{left, sim_step, counted_more}
+use Rattle.pdl_runs.proofs.Running.{whole, left, sim_step, counted_more}
 use Rattle.pdl_runs.proofs.print.count_cycles.Goals as goal
 
 pub loop-done-preserved : goal.loop-done-preserved
@@ -12,7 +12,7 @@ loop-done-preserved c =
     let rows = c.args.delays.now in
     let before = left old.netlist old.held rows done cycles in
     let after = left new.netlist new.held rows (done + 1) cycles in
-    let all = left c.args.sim.now.netlist c.args.sim.now.held rows 0 cycles in
+    let all = whole c.args.sim.now.netlist c.args.sim.now.held rows cycles in
     let more = sim_step old new rows done cycles c.run_cycle.ensures c.loop-done-test.true in
     let i = c.loop-done.invariant in
     record {

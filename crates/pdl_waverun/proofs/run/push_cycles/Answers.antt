@@ -4,7 +4,7 @@ use Rattle.pdl_trace.proofs.Passing.{faulted, step_off, step_on}
 use Rattle.pdl_wave.proofs.Form.{row_length}
 use Rattle.pdl_waverun.specs.Cycles.{cycle_text, cycles_text}
 use Rattle.pdl_waverun.specs.Dumped.{wave_ports}
-use Rattle.pdl_waverun.proofs.Running.{left, shown, fit_after, cycle_step}
+use Rattle.pdl_waverun.proofs.Running.{whole, left, shown, fit_after, cycle_step}
 use Rattle.pdl_waverun.proofs.run.push_cycles.Goals as goal
 
 pub push_cycle-requires-clause-shown : goal.push_cycle-requires-clause-shown
@@ -23,7 +23,7 @@ returns-in_err-push_cycle-clause-bytes g c =
     let done = c.loop-done.done in
     let cycles = c.args.cycles in
     let delays = c.args.delays.now in
-    let all = c.args.out.now ++ cycles_text ports 1 c.args.before.now (left c.args.sim.now delays 0 cycles) in
+    let all = c.args.out.now ++ cycles_text ports 1 c.args.before.now (whole c.args.sim.now delays cycles) in
     let piece = cycle_text ports (done + 1) c.loop-done.before new.last.ports in
     let after = cycles_text ports (done + 1 + 1) new.last.ports (left new delays (done + 1) cycles) in
     let e = cycle_step old new c.bits.result c.cycle.ensures ports delays done cycles c.loop-done.before c.bits.ensures c.loop-done-test.true in
@@ -42,7 +42,7 @@ loop-done-preserved g c =
     let cycles = c.args.cycles in
     let delays = c.args.delays.now in
     let i = c.loop-done.invariant in
-    let all = c.args.out.now ++ cycles_text ports 1 c.args.before.now (left c.args.sim.now delays 0 cycles) in
+    let all = c.args.out.now ++ cycles_text ports 1 c.args.before.now (whole c.args.sim.now delays cycles) in
     let piece = cycle_text ports (done + 1) c.loop-done.before new.last.ports in
     let before = c.push_cycle.new.before in
     let same : new.last.ports ≡ before = sym c.in_ok-push_cycle.ensures.before in

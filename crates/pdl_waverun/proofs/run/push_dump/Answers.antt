@@ -3,7 +3,7 @@ use Rattle.pdl_trace.proofs.Passing.{at_first, faulted, step_off, step_on}
 use Rattle.pdl_wave.specs.Dump.{dump, ended, header, time_text}
 use Rattle.pdl_waverun.specs.Cycles.{cycles_text}
 use Rattle.pdl_waverun.proofs.Texts.{dump_text}
-use Rattle.pdl_waverun.proofs.Running.{left, left_length, finish_on}
+use Rattle.pdl_waverun.proofs.Running.{whole, left_length, finish_on}
 use Rattle.pdl_waverun.proofs.run.push_dump.Goals as goal
 
 pub returns-in_err-push_header-clause-bytes : goal.returns-in_err-push_header-clause-bytes
@@ -11,7 +11,7 @@ returns-in_err-push_header-clause-bytes g c =
     let o = g.S.Sink.written c.args.sink.now in
     let a = g.S.Sink.written c.push_header.new.sink in
     let ports = c.args.ports.now in
-    let rows = left c.args.sim.now c.args.delays.now 0 c.args.cycles in
+    let rows = whole c.args.sim.now c.args.delays.now c.args.cycles in
     let text = dump c.args.name.now ports rows in
     let all = c.args.out.now ++ text in
     let head = flat_map ended (header c.args.name.now ports) in
@@ -25,7 +25,7 @@ returns-in_err-push_cycles-clause-bytes g c =
     let a = g.S.Sink.written c.push_header.new.sink in
     let b = g.S.Sink.written c.push_cycles.new.sink in
     let ports = c.args.ports.now in
-    let rows = left c.args.sim.now c.args.delays.now 0 c.args.cycles in
+    let rows = whole c.args.sim.now c.args.delays.now c.args.cycles in
     let text = dump c.args.name.now ports rows in
     let all = c.args.out.now ++ text in
     let head = flat_map ended (header c.args.name.now ports) in
@@ -43,7 +43,7 @@ returns-clause-bytes g c =
     let d = g.S.Sink.written c.push.new.sink in
     let ports = c.args.ports.now in
     let sim = c.args.sim.now in
-    let rows = left sim c.args.delays.now 0 c.args.cycles in
+    let rows = whole sim c.args.delays.now c.args.cycles in
     let text = dump c.args.name.now ports rows in
     let all = c.args.out.now ++ text in
     let head = flat_map ended (header c.args.name.now ports) in
