@@ -1,13 +1,14 @@
 -- What is known of the netlist of an accepted pipe, and so of its runs, its text and its dumps.
-use Rattle.std.proofs.Common.{◌≡◌, ℕ, zero, suc, ◌+◌, ◌≤◌, [], ◌∷◌, List, length, map, arith, refl, sym, ap, ◌∙◌, subst}
-use Rattle.std.specs.Prelude.{Option, Result, Ok, Err, IfOk, replicate}
+use Rattle.std.proofs.Common.{◌≡◌, ℕ, zero, suc, ◌+◌, ◌≤◌, [], ◌∷◌, ◌++◌, List, length, map, arith, refl, sym, ap, ◌∙◌, subst}
+use Rattle.std.specs.Prelude.{Option, Some, None, Result, Ok, Err, IfOk, Bool, true, false, if◌then◌else◌, replicate}
+use Rattle.pdl_kit.specs.declared.rule.Rule.TheVariants.{Z1}
 use Rattle.pdl_kit.specs.Files.{Held, Gives}
 use Rattle.pdl_semantics.specs.Tree.{Mem, Pipe}
 use Rattle.pdl_semantics.specs.Flatten.{flat}
 use Rattle.pdl_semantics.specs.Lines.{columns}
-use Rattle.pdl_grammar.specs.Text.{IsText}
 use Rattle.pdl_rules.specs.Memories.{infos_of}
-use Rattle.pdl_rules.specs.Refusal.{KeepsRules}
+use Rattle.pdl_rules.specs.Refusal.{KeepsRules, is_too_long, limits, after_limits, first_broken}
+use Rattle.pdl_rules.proofs.Unbroken.{keeps_unbroken}
 use Rattle.pdl_sources.proofs.Texts.{source_of, named_of}
 use Rattle.pdl_image.specs.Images.{IsImage, image}
 use Rattle.pdl_net.specs.declared.Netlist.{Netlist}
@@ -55,20 +56,28 @@ pub both_ok : {X Y : Type 0} (r : Result X Y) (P Q R : X → Type 0) → ((x : X
 both_ok (Ok x) P Q R f p q = f x p q
 both_ok (Err e) P Q R f p q = tt
 
-module _ (b : List ℕ) (p : Pipe) (n : Netlist) (text : IsText b p) (kept : KeepsRules p) (follows : Follows p n) where
+kept_by : (t : Bool) (p : Pipe) → (if t then Some (record { rule = Z1; line = 1 }) else first_broken (limits ++ after_limits) p) ≡ None → KeepsRules p
+kept_by true p e = absurd (cc e)
+kept_by false p e = keeps_unbroken p e
+
+-- an accepted source keeps the rules
+pub keeps_rules : (b : List ℕ) (p : Pipe) → IsAccepted b p → KeepsRules p
+keeps_rules b p accepted = kept_by (is_too_long b) p accepted.kept
+
+module _ (b : List ℕ) (p : Pipe) (n : Netlist) (accepted : IsAccepted b p) (follows : Follows p n) where
   pub writes : RefinesThreads p n
-  writes = refines p kept (source_of b p text) (named_of b p text) n follows
+  writes = refines p (keeps_rules b p accepted) (source_of b p accepted.text) (named_of b p accepted.text) n follows
 
   pub promised : (start : List (List ℕ)) (schedule : List ℕ) → IsImage n.mems start → IsRunOf p n start schedule
-  promised start schedule is_image = runs p kept (source_of b p text) (named_of b p text) n follows start schedule is_image
+  promised start schedule is_image = runs p (keeps_rules b p accepted) (source_of b p accepted.text) (named_of b p accepted.text) n follows start schedule is_image
 
   -- an image file gives the pipe's memories what it gives the netlist's
   pub images : (file : List ℕ) → image (infos_of p.mems) file ≡ taken_in_order (flat p) (image n.mems file)
-  images file = same_image p (declared p kept).distinct file ∙ ap (λ ms. taken_in_order (flat p) (image ms file)) (sym follows.mems)
+  images file = same_image p (declared p (keeps_rules b p accepted)).distinct file ∙ ap (λ ms. taken_in_order (flat p) (image ms file)) (sym follows.mems)
 
 -- ---- what a command writes of a source that is given
 
-module _ (holds : Option Held) (source b : List ℕ) (p : Pipe) (n : Netlist) (given : Gives holds source b) (accepted : IsAccepted b p) (kept : KeepsRules p) (follows : Follows p n) where
+module _ (holds : Option Held) (source b : List ℕ) (p : Pipe) (n : Netlist) (given : Gives holds source b) (accepted : IsAccepted b p) (follows : Follows p n) where
   -- what the netlist's run starts from is what the source's does
   module _ (image' : List ℕ) (words : List (List ℕ)) (file : List ℕ) (file_given : Gives holds image' file) (taken : image n.mems file ≡ Ok words) where
     pub loaded : IsLoaded holds source image' p (in_order (flat p) words)
@@ -78,7 +87,7 @@ module _ (holds : Option Held) (source b : List ℕ) (p : Pipe) (n : Netlist) (g
       accepted = accepted;
       image_text = file;
       image_given = file_given;
-      taken = images b p n accepted.text kept follows file ∙ ap (taken_in_order (flat p)) taken;
+      taken = images b p n accepted follows file ∙ ap (taken_in_order (flat p)) taken;
     }
 
   module _ (image' : List ℕ) (delays : Option (List ℕ)) (words : List (List ℕ)) (rows : List ℕ) (begun : IsBegun holds image' delays n words rows) (cycles : ℕ) where
@@ -88,7 +97,7 @@ module _ (holds : Option Held) (source b : List ℕ) (p : Pipe) (n : Netlist) (g
     -- what the netlist prints is the output of the source
     pub is_output : IsOutput holds source image' cycles delays (run_text n words (schedule rows cycles))
     is_output =
-        let promise = promised b p n accepted.text kept follows words (schedule rows cycles) begun.fits in
+        let promise = promised b p n accepted follows words (schedule rows cycles) begun.fits in
         record {
           pipe = p;
           words = in_order (flat p) words;
@@ -98,7 +107,7 @@ module _ (holds : Option Held) (source b : List ℕ) (p : Pipe) (n : Netlist) (g
           lines = promise.lines;
           netlist = n;
           follows = follows;
-          writes = writes b p n accepted.text kept follows;
+          writes = writes b p n accepted follows;
           start = words;
           started = record { fits = begun.fits; ordered = refl };
           printed = refl;
@@ -115,12 +124,12 @@ module _ (holds : Option Held) (source b : List ℕ) (p : Pipe) (n : Netlist) (g
       replies = replies;
       netlist = n;
       follows = follows;
-      writes = writes b p n accepted.text kept follows;
+      writes = writes b p n accepted follows;
       locks = locks;
       start = words;
       started = record { fits = begun.fits; ordered = refl };
       dumped = refl;
-      says = says b p n accepted.text kept follows words (schedule rows cycles) begun.fits (let k = schedule_length rows 1 cycles in omega (arith, k, few));
+      says = says b p n accepted.text (keeps_rules b p accepted) follows words (schedule rows cycles) begun.fits (let k = schedule_length rows 1 cycles in omega (arith, k, few));
     }
 
   -- its text is what is built of the source
@@ -132,9 +141,9 @@ module _ (holds : Option Held) (source b : List ℕ) (p : Pipe) (n : Netlist) (g
     accepted = accepted;
     netlist = n;
     follows = follows;
-    writes = writes b p n accepted.text kept follows;
+    writes = writes b p n accepted follows;
     locks = locks;
     written = written;
     read = read;
-    runs = promised b p n accepted.text kept follows;
+    runs = promised b p n accepted follows;
   }

@@ -7,7 +7,6 @@ use Rattle.pdl_kit.specs.declared.sink.WriteFailed.{WriteFailed}
 use Rattle.pdl_kit.specs.Files.{Held, Gives}
 use Rattle.pdl_semantics.specs.Tree.{Pipe}
 use Rattle.pdl_semantics.specs.Flatten.{flat}
-use Rattle.pdl_rules.specs.Refusal.{KeepsRules}
 use Rattle.pdl_net.specs.declared.Netlist.{Netlist}
 use Rattle.pdl_sides.specs.Whole.{in_order}
 use Rattle.pdl_follows.specs.Memories.{taken_in_order}
@@ -101,7 +100,7 @@ start_fails holds before now v image' cycles delays n held WriteFault (inr w) = 
 start_fails holds before now v image' cycles delays n held NoMemory w = tt
 
 -- of a netlist that follows a source
-module _ (holds : Option Held) (before now : ℕ) (source b image' : List ℕ) (delays : Option (List ℕ)) (p : Pipe) (n : Netlist) (given : Gives holds source b) (accepted : IsAccepted b p) (kept : KeepsRules p) (follows : Follows p n)
+module _ (holds : Option Held) (before now : ℕ) (source b image' : List ℕ) (delays : Option (List ℕ)) (p : Pipe) (n : Netlist) (given : Gives holds source b) (accepted : IsAccepted b p) (follows : Follows p n)
     (command : Command) (wrong : (rule : Rule) (line : ℕ) → IsWrongRun holds source image' delays rule line → IsWrongFor holds command rule (Line line)) where
   pub source_start_fails : (f : Failure) → StartFails holds before now image' delays n f → Fails holds before now command f
   source_start_fails Usage (inl w) = w
@@ -114,13 +113,13 @@ module _ (holds : Option Held) (before now : ℕ) (source b image' : List ℕ) (
         accepted = accepted;
         image_text = w.0;
         image_given = w.1;
-        refused = images b p n accepted.text kept follows w.0 ∙ ap (taken_in_order (flat p)) w.2;
+        refused = images b p n accepted follows w.0 ∙ ap (taken_in_order (flat p)) w.2;
       })))
   source_start_fails (Refused rule (Line k)) (inr w) =
       wrong rule k (inr (record {
         pipe = p;
         words = in_order (flat p) w.1;
-        loaded = loaded holds source b p n given accepted kept follows image' w.1 w.0 w.2 w.3;
+        loaded = loaded holds source b p n given accepted follows image' w.1 w.0 w.2 w.3;
         refused = subst (λ c. DelaysRefused holds delays c rule k) (delayed_as_many p n follows) w.4;
       }))
   source_start_fails (Refused rule (Insn k)) (inl w) = absurd w

@@ -11,7 +11,6 @@ use Rattle.pdl_semantics.specs.Flat.{arrays_of}
 use Rattle.pdl_semantics.specs.Flatten.{flat}
 use Rattle.pdl_semantics.specs.Cycle
 use Rattle.pdl_semantics.specs.Lines.{turn_cycles}
-use Rattle.pdl_rules.specs.Refusal.{KeepsRules}
 use Rattle.pdl_rules.specs.Memories.{infos_of}
 use Rattle.pdl_image.specs.Images.{IsImage}
 use Rattle.pdl_sources.proofs.Promised.{paces}
@@ -32,7 +31,7 @@ use Rattle.pdl_runs.proofs.Running.{left_length}
 use Rattle.pdl_commands.specs.Replies.{all_answered}
 use Rattle.pdl_commands.specs.Commands.{IsAccepted, IsSummary}
 use Rattle.pdl_commands.specs.Summaries.{words_in, image_of, line_of, end_of}
-use Rattle.pdl_commands.proofs.Accepting.{none_given}
+use Rattle.pdl_commands.proofs.Accepting.{none_given, keeps_rules}
 
 -- ---- its image
 
@@ -68,11 +67,12 @@ is_image ws ms = record { count = length-map ms (words_in ws); depth = depths ws
 
 -- the counts of a netlist that follows the pipe of a source
 pub is_summary : (p : Pipe) (n : Netlist) (words : List ℕ) (start : List (List ℕ)) (cycles : ℕ) (counts : Counts) (line : List ℕ)
-    → KeepsRules p → Follows p n → start ≡ image_of words n.mems
+    → Follows p n → start ≡ image_of words n.mems
     → counts ≡ counts_of (map (cycle_of n) (nports n start (schedule [] cycles))) → line ≡ line_of cycles counts
     → (source : List ℕ) → IsAccepted source p → IsSummary source words cycles line
-is_summary p n words start cycles counts line kept follows filled e said source accepted =
+is_summary p n words start cycles counts line follows filled e said source accepted =
     let all = all_answered cycles in
+    let kept = keeps_rules source p accepted in
     let cs = map (cycle_of n) (nports n start all) in
     let many : length cs ≡ cycles = left_length n (begin n start) all ∙ length-replicate cycles 65535 in
     let shown : line ≡ end_of cs =

@@ -2,7 +2,6 @@
 ghost use Rattle.std.specs.Prelude.{◌≡◌, ◌≤◌, IsTrue, ℕ, List, Some};
 ghost use Rattle.pdl_kit.specs.Files.{Gives};
 ghost use Rattle.pdl_semantics.specs.Tree.{Pipe as pipes};
-ghost use Rattle.pdl_rules.specs.Refusal.{KeepsRules};
 ghost use Rattle.pdl_tree.specs.View.{pipe_view};
 ghost use Rattle.pdl_net.specs.Pipe.{IsWellFormed};
 ghost use Rattle.pdl_follows.specs.Follows.{Follows};
@@ -63,7 +62,7 @@ fn dump_netlist<F: Files, O: Sink>(
     requires dumpable { CanBeDumped netlist.now }
     requires few { cycles ≤ 1000000 }
     ensures explained { (source b : List ℕ) (p : pipes) → Gives (F.holds files.old) source b
-        → IsAccepted b p → KeepsRules p → Follows p netlist.now
+        → IsAccepted b p → Follows p netlist.now
         → HasLocksOf any_lock p netlist.now
         → Explains (Some (command.wave source image.now cycles (text_of delays)))
         (seen_of (F.holds files.old) (F.faults files.old) (F.faults files.new)

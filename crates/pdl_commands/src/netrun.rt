@@ -2,7 +2,6 @@
 ghost use Rattle.std.specs.Prelude.{◌≡◌, ◌≤◌, IsTrue, ℕ, List, All, Some, length};
 ghost use Rattle.pdl_kit.specs.Files.{Gives};
 ghost use Rattle.pdl_semantics.specs.Tree.{Pipe as pipes};
-ghost use Rattle.pdl_rules.specs.Refusal.{KeepsRules};
 ghost use Rattle.pdl_net.specs.Pipe.{IsWellFormed};
 ghost use Rattle.pdl_follows.specs.Follows.{Follows};
 ghost use Rattle.pdl_image.specs.Images.{IsImage};
@@ -59,7 +58,7 @@ pub fn run_netlist<F: Files, O: Sink>(
     requires short { All (λ m. length m.name ≤ 32) netlist.now.mems }
     requires few { cycles ≤ 1000000 }
     ensures source { (source b : List ℕ) (p : pipes) → Gives (F.holds files.old) source b
-        → IsAccepted b p → KeepsRules p → Follows p netlist.now
+        → IsAccepted b p → Follows p netlist.now
         → Explains (Some (command.run source image.now cycles (text_of delays)))
         (seen_of (F.holds files.old) (F.faults files.old) (F.faults files.new)
         (O.written out.old) (O.written out.new) (O.faults out.old) (O.faults out.new)) result }
