@@ -90,11 +90,11 @@ last_named (m ∷ ms) h = (All-head IsTold (info_of m) (map info_of ms) h, last_
 -- each memory is a delayed one, or answers at once
 both_named : (ms : List Mem) → Each IsNamed (delayed_of ms) → Each IsNamed (comb_of ms) → Each IsNamed ms
 both_named [] h k = tt
-both_named (m ∷ ms) h k = at m.delayed h k
+both_named (m ∷ ms) h k = at m.delayed (λ a b. both_named ms a b) h k
   where
-    at : (b : Bool) → Each IsNamed (if b then m ∷ delayed_of ms else delayed_of ms) → Each IsNamed (if not b then m ∷ comb_of ms else comb_of ms) → Each IsNamed (m ∷ ms)
-    at true h k = (h.0, both_named ms h.1 k)
-    at false h k = (k.0, both_named ms h k.1)
+    at : (b : Bool) → (Each IsNamed (delayed_of ms) → Each IsNamed (comb_of ms) → Each IsNamed ms) → Each IsNamed (if b then m ∷ delayed_of ms else delayed_of ms) → Each IsNamed (if not b then m ∷ comb_of ms else comb_of ms) → Each IsNamed (m ∷ ms)
+    at true rest h k = (h.0, rest h.1 k)
+    at false rest h k = (k.0, rest h k.1)
 
 -- the names of the delayed memories, and of all
 pub named_by : (ms : List Mem) (infos : List MemInfo) → infos ≡ net_infos ms → All (λ (m : MemInfo). is_name m.name ≡ true) infos → Each (λ (m : Mem). is_name m.name.name ≡ true) (delayed_of ms) × Each (λ (m : Mem). is_name m.name.name ≡ true) ms
