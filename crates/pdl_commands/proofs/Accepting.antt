@@ -7,7 +7,8 @@ use Rattle.pdl_semantics.specs.Tree.{Mem, Pipe}
 use Rattle.pdl_semantics.specs.Flatten.{flat}
 use Rattle.pdl_semantics.specs.Lines.{columns}
 use Rattle.pdl_rules.specs.Memories.{infos_of}
-use Rattle.pdl_rules.specs.Refusal.{KeepsRules, is_too_long, limits, after_limits, first_broken}
+use Rattle.pdl_rules.specs.Limits.{is_too_long}
+use Rattle.pdl_rules.specs.Refusal.{KeepsRules, limits, after_limits, first_broken}
 use Rattle.pdl_rules.proofs.Unbroken.{keeps_unbroken}
 use Rattle.pdl_sources.proofs.Texts.{source_of, named_of}
 use Rattle.pdl_image.specs.Images.{IsImage, image}

@@ -1,5 +1,5 @@
 -- A netlist that is read has at least two outputs.
-use Rattle.std.proofs.Common.{◌≡◌, ℕ, suc, ◌≤◌, Bool, true, false, cond, List, [], ◌∷◌, ◌++◌, length, map, filter_map, Option, Some, None, codes, ap, ◌∙◌, arith}
+use Rattle.std.proofs.Common.{◌≡◌, ℕ, suc, ◌≤◌, Bool, true, false, cond, List, [], ◌∷◌, ◌++◌, length, map, filter_map, Option, Some, None, codes, refl, ap, ◌∙◌, arith}
 use Rattle.std.specs.List.{cons_option, flat_map, range_with_len}
 use Rattle.pdl_net.specs.declared.Dir.{Dir}
 use Rattle.pdl_net.specs.declared.Dir.TheVariants.{In, Out}

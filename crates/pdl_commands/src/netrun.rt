@@ -59,11 +59,11 @@ pub fn run_netlist<F: Files, O: Sink>(
     requires few { cycles ≤ 1000000 }
     ensures source { (source b : List ℕ) (p : pipes) → Gives (F.holds files.old) source b
         → IsAccepted b p → Follows p netlist.now
-        → Explains (Some (command.run source image.now cycles (text_of delays)))
+        → Explains (Some (command.run source image.now cycles (text_of delays.entry)))
         (seen_of (F.holds files.old) (F.faults files.old) (F.faults files.new)
         (O.written out.old) (O.written out.new) (O.faults out.old) (O.faults out.new)) result }
     ensures netlist { (v : List ℕ) → HoldsNetlist (F.holds files.old) v netlist.now
-        → Explains (Some (command.sim v image.now cycles (text_of delays)))
+        → Explains (Some (command.sim v image.now cycles (text_of delays.entry)))
         (seen_of (F.holds files.old) (F.faults files.old) (F.faults files.new)
         (O.written out.old) (O.written out.new) (O.faults out.old) (O.faults out.new)) result }
     ensures held { F.holds files.new ≡ F.holds files.old }

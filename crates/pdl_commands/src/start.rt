@@ -78,10 +78,10 @@ fn replies<F: Files>(
     requires may { AllowsFile (F.may files.old) (text_of name) }
     requires few { count ≤ 16 }
     ensures ok { IfOk result (λ d. (cycles : ℕ)
-        → IsSchedule (F.holds files.old) (text_of name) count cycles (schedule d cycles)) }
+        → IsSchedule (F.holds files.old) (text_of name.entry) count cycles (schedule d cycles)) }
     ensures err { IfErr result
         (DelaysFails (F.holds files.old) (F.faults files.old) (F.faults files.new)
-        (text_of name) count) }
+        (text_of name.entry) count) }
     ensures held { F.holds files.new ≡ F.holds files.old }
     ensures allowed { (n : List ℕ) → F.may files.new n ≡ F.may files.old n }
     ensures later { F.faults files.old ≤ F.faults files.new }
@@ -103,10 +103,10 @@ pub fn start_of<F: Files>(
     requires image { IsTrue (F.may files.old image.now) }
     requires delays { AllowsFile (F.may files.old) (text_of delays) }
     requires well { IsWellFormed netlist.now }
-    ensures ok { IfOk result (λ s. IsBegun (F.holds files.old) image.now (text_of delays)
+    ensures ok { IfOk result (λ s. IsBegun (F.holds files.old) image.now (text_of delays.entry)
         netlist.now s.image s.delays) }
     ensures err { IfErr result (StartFails (F.holds files.old) (F.faults files.old)
-        (F.faults files.new) image.now (text_of delays) netlist.now) }
+        (F.faults files.new) image.now (text_of delays.entry) netlist.now) }
     ensures held { F.holds files.new ≡ F.holds files.old }
     ensures allowed { (n : List ℕ) → F.may files.new n ≡ F.may files.old n }
     ensures later { F.faults files.old ≤ F.faults files.new }

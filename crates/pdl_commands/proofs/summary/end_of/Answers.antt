@@ -1,6 +1,10 @@
-use Rattle.std.proofs.Common.{◌≡◌, ◌∙◌, ◌≤◌, All, ap, sym, subst, ℕ, List}
+use Rattle.std.proofs.Common.{◌≡◌, ◌∙◌, ◌≤◌, All, ap, map, sym, subst, ℕ, List}
 use Rattle.pdl_tree.specs.View.{pipe_view}
 use Rattle.pdl_image.specs.Images.{IsImage}
+use Rattle.pdl_net.specs.Run.{nports}
+use Rattle.pdl_pipe_law.specs.Runs.{cycle_of}
+use Rattle.pdl_runs.specs.Printed.{schedule}
+use Rattle.pdl_runs.specs.Tally.{counts_of}
 use Rattle.pdl_vread.proofs.Memories.{mems_wide}
 use Rattle.pdl_commands.specs.Summaries.{image_of}
 use Rattle.pdl_commands.proofs.Simulating.{two_outputs}
@@ -30,4 +34,5 @@ returns c =
     let n = c.in_ok-netlist in
     let filled : c.in_ok-image.image ≡ image_of c.args.words.now n.netlist.mems = c.in_ok-image.ensures ∙ ap (image_of c.args.words.now) c.as_slice.ensures in
     is_summary (pipe_view c.args.accepted.now.typed.pipe) n.netlist c.args.words.now c.in_ok-image.image c.args.cycles c.in_ok-counts.counts c.end_line.result
-    n.ensures.follows filled c.in_ok-counts.ensures c.end_line.ensures
+    n.ensures.follows filled
+    (c.in_ok-counts.ensures ∙ ap (λ rows. counts_of (map (cycle_of n.netlist) (nports n.netlist c.in_ok-image.image (schedule rows c.args.cycles)))) c.none-delays.ensures) c.end_line.ensures
