@@ -1,5 +1,5 @@
 -- What is known of the netlist of an accepted pipe, and so of its runs, its text and its dumps.
-use Rattle.std.proofs.Common.{◌≡◌, ℕ, zero, suc, ◌+◌, ◌≤◌, [], ◌∷◌, ◌++◌, List, length, map, arith, refl, sym, ap, ◌∙◌, subst}
+use Rattle.std.proofs.Common.{◌≡◌, ℕ, zero, suc, ◌+◌, ◌≤◌, [], ◌∷◌, ◌++◌, List, map, arith, refl, sym, ap, ◌∙◌, subst}
 use Rattle.std.specs.Prelude.{Option, Some, None, Result, Ok, Err, IfOk, Bool, true, false, if◌then◌else◌, replicate}
 use Rattle.pdl_kit.specs.declared.rule.Rule.TheVariants.{Z1}
 use Rattle.pdl_kit.specs.Files.{Held, Gives}

@@ -1,5 +1,5 @@
 -- The memories of a netlist that is read have names of at most 32 characters: those of its arrays, and of the inputs of its delayed memories.
-use Rattle.std.proofs.Common.{◌≡◌, ℕ, zero, suc, ◌<◌, ◌≤◌, Bool, true, false, ◌&&◌, ◌||◌, List, [], ◌∷◌, ◌++◌, length, map, drop, flat_map, find, bytes_eq, All, Some, slice_get, codes, inl, inr, refl, sym, ap, ◌∙◌, subst, append_assoc, arith}
+use Rattle.std.proofs.Common.{◌≡◌, ℕ, zero, suc, ◌≤◌, Bool, true, false, ◌&&◌, ◌||◌, List, [], ◌∷◌, ◌++◌, length, map, drop, flat_map, find, bytes_eq, All, Some, slice_get, codes, inl, inr, refl, sym, ◌∙◌, subst, append_assoc, arith}
 use Rattle.std.specs.Prelude.{nat_lt, not}
 use Rattle.std.specs.List.{AllByRecursion, list_all, range_with_len}
 use Rattle.std.proofs.lemmas.Bool.{and_parts, or_cases, ltb-true}

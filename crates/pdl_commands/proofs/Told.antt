@@ -1,6 +1,6 @@
 -- The memories of an accepted source as they are told, in declared order and in a netlist's: their names differ and are short, and their words have 1 to 64 bits.
-use Rattle.std.proofs.Common.{◌≡◌, ◌≢◌, ℕ, zero, suc, [], ◌∷◌, ◌++◌, ◌≤◌, ◌<◌, Bool, false, List, length, map, get_or, All, AllPairs, append-nil, refl, sym, ap, ◌∙◌, subst, inl, inr, bytes_eq, arith}
-use Rattle.std.specs.Prelude.{filter, count_by}
+use Rattle.std.proofs.Common.{◌≡◌, ◌≢◌, ℕ, zero, suc, [], ◌∷◌, ◌++◌, ◌≤◌, ◌<◌, false, List, length, map, get_or, All, AllPairs, append-nil, refl, sym, ap, ◌∙◌, subst, inl, inr, bytes_eq, arith}
+use Rattle.std.specs.Prelude.{filter}
 use Rattle.std.specs.List.{AllByRecursion}
 use Rattle.std.proofs.lemmas.Bool.{or_parts}
 use Rattle.std.proofs.lemmas.List.{length-map}

@@ -1,5 +1,5 @@
 -- What is dumped of the netlist of a source says its run.
-use Rattle.std.proofs.Common.{◌≡◌, ap, ℕ, suc, ◌≤◌, List, [], ◌∷◌, ◌++◌, length, map, All, arith}
+use Rattle.std.proofs.Common.{ap, ℕ, suc, ◌≤◌, List, [], ◌∷◌, length, map, All, arith}
 use Rattle.std.proofs.lemmas.List.{length-map, length-append}
 use Rattle.pdl_word.specs.Each.{Each}
 use Rattle.pdl_word.proofs.Each.{each_get}

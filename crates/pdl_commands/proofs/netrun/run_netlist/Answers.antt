@@ -1,4 +1,4 @@
-use Rattle.std.proofs.Common.{◌≡◌, inl, inr, refl, sym, subst}
+use Rattle.std.proofs.Common.{◌≡◌, refl, sym, subst}
 use Rattle.pdl_args.specs.Line.{run, sim}
 use Rattle.pdl_args.specs.View.{text_of}
 use Rattle.pdl_runs.specs.Printed.{run_text, schedule}

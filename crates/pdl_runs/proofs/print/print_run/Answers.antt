@@ -1,4 +1,4 @@
-use Rattle.std.proofs.Common.{◌++◌, Err, arith, map, subst}
+use Rattle.std.proofs.Common.{◌++◌, arith, map, subst}
 use Rattle.pdl_semantics.specs.Lines.{lines}
 use Rattle.pdl_pipe_law.specs.Runs.{column_of, commit_mems}
 use Rattle.pdl_trace.specs.Passed.{HasPassed}
