@@ -3,19 +3,19 @@ use Rattle.std.proofs.Common.{◌≡◌, [], ◌∷◌, Some, None, codes, refl}
 use Rattle.clap.proofs.OnLiterals.{clap_on_literals}
 use Rattle.pdl_args.specs.Line.{line, check, run, seq, asm, gen, build, sim, wave}
 
-ran : line (codes "run" ∷ codes "a.pdl" ∷ codes "e.img" ∷ codes "17" ∷ []) ≡ Some (run (codes "a.pdl") (codes "e.img") 17)
+ran : line (codes "run" ∷ codes "a.pdl" ∷ codes "e.img" ∷ codes "17" ∷ []) ≡ Some (run (codes "a.pdl") (codes "e.img") 17 None)
 unfolding clap_on_literals line
 ran = refl
 
-most_cycles : line (codes "run" ∷ codes "a" ∷ codes "b" ∷ codes "1000000" ∷ []) ≡ Some (run (codes "a") (codes "b") 1000000)
+most_cycles : line (codes "run" ∷ codes "a" ∷ codes "b" ∷ codes "1000000" ∷ []) ≡ Some (run (codes "a") (codes "b") 1000000 None)
 unfolding clap_on_literals line
 most_cycles = refl
 
-no_cycles : line (codes "run" ∷ codes "a" ∷ codes "b" ∷ codes "0" ∷ []) ≡ Some (run (codes "a") (codes "b") 0)
+no_cycles : line (codes "run" ∷ codes "a" ∷ codes "b" ∷ codes "0" ∷ []) ≡ Some (run (codes "a") (codes "b") 0 None)
 unfolding clap_on_literals line
 no_cycles = refl
 
-seven_digits : line (codes "run" ∷ codes "a" ∷ codes "b" ∷ codes "0000000" ∷ []) ≡ Some (run (codes "a") (codes "b") 0)
+seven_digits : line (codes "run" ∷ codes "a" ∷ codes "b" ∷ codes "0000000" ∷ []) ≡ Some (run (codes "a") (codes "b") 0 None)
 unfolding clap_on_literals line
 seven_digits = refl
 
@@ -43,23 +43,23 @@ empty_number : line (codes "run" ∷ codes "a" ∷ codes "b" ∷ codes "" ∷ []
 unfolding clap_on_literals line
 empty_number = refl
 
-empty_names : line (codes "run" ∷ codes "" ∷ codes "" ∷ codes "5" ∷ []) ≡ Some (run (codes "") (codes "") 5)
+empty_names : line (codes "run" ∷ codes "" ∷ codes "" ∷ codes "5" ∷ []) ≡ Some (run (codes "") (codes "") 5 None)
 unfolding clap_on_literals line
 empty_names = refl
 
-dash_names : line (codes "run" ∷ codes "-" ∷ codes "-" ∷ codes "5" ∷ []) ≡ Some (run (codes "-") (codes "-") 5)
+dash_names : line (codes "run" ∷ codes "-" ∷ codes "-" ∷ codes "5" ∷ []) ≡ Some (run (codes "-") (codes "-") 5 None)
 unfolding clap_on_literals line
 dash_names = refl
 
-after_dashes : line (codes "run" ∷ codes "--" ∷ codes "-a" ∷ codes "--b" ∷ codes "5" ∷ []) ≡ Some (run (codes "-a") (codes "--b") 5)
+after_dashes : line (codes "run" ∷ codes "--" ∷ codes "-a" ∷ codes "--b" ∷ codes "5" ∷ []) ≡ Some (run (codes "-a") (codes "--b") 5 None)
 unfolding clap_on_literals line
 after_dashes = refl
 
-dashes_between : line (codes "run" ∷ codes "a" ∷ codes "--" ∷ codes "-b" ∷ codes "5" ∷ []) ≡ Some (run (codes "a") (codes "-b") 5)
+dashes_between : line (codes "run" ∷ codes "a" ∷ codes "--" ∷ codes "-b" ∷ codes "5" ∷ []) ≡ Some (run (codes "a") (codes "-b") 5 None)
 unfolding clap_on_literals line
 dashes_between = refl
 
-dashes_at_the_end : line (codes "run" ∷ codes "a" ∷ codes "b" ∷ codes "5" ∷ codes "--" ∷ []) ≡ Some (run (codes "a") (codes "b") 5)
+dashes_at_the_end : line (codes "run" ∷ codes "a" ∷ codes "b" ∷ codes "5" ∷ codes "--" ∷ []) ≡ Some (run (codes "a") (codes "b") 5 None)
 unfolding clap_on_literals line
 dashes_at_the_end = refl
 
@@ -135,13 +135,33 @@ four_words : line (codes "run" ∷ codes "a" ∷ codes "b" ∷ codes "5" ∷ cod
 unfolding clap_on_literals line
 four_words = refl
 
-an_option : line (codes "run" ∷ codes "a" ∷ codes "b" ∷ codes "5" ∷ codes "--delays" ∷ []) ≡ None
+option_without_value : line (codes "run" ∷ codes "a" ∷ codes "b" ∷ codes "5" ∷ codes "--delays" ∷ []) ≡ None
 unfolding clap_on_literals line
-an_option = refl
+option_without_value = refl
 
-an_option_with_value : line (codes "run" ∷ codes "--delays=f" ∷ codes "a" ∷ codes "b" ∷ codes "5" ∷ []) ≡ None
+option_before : line (codes "run" ∷ codes "--delays=f" ∷ codes "a" ∷ codes "b" ∷ codes "5" ∷ []) ≡ Some (run (codes "a") (codes "b") 5 (Some (codes "f")))
 unfolding clap_on_literals line
-an_option_with_value = refl
+option_before = refl
+
+option_between : line (codes "sim" ∷ codes "a" ∷ codes "--delays" ∷ codes "f" ∷ codes "b" ∷ codes "5" ∷ []) ≡ Some (sim (codes "a") (codes "b") 5 (Some (codes "f")))
+unfolding clap_on_literals line
+option_between = refl
+
+option_after : line (codes "wave" ∷ codes "a" ∷ codes "b" ∷ codes "5" ∷ codes "--delays" ∷ codes "f" ∷ []) ≡ Some (wave (codes "a") (codes "b") 5 (Some (codes "f")))
+unfolding clap_on_literals line
+option_after = refl
+
+option_twice : line (codes "run" ∷ codes "a" ∷ codes "b" ∷ codes "5" ∷ codes "--delays" ∷ codes "f" ∷ codes "--delays" ∷ codes "g" ∷ []) ≡ None
+unfolding clap_on_literals line
+option_twice = refl
+
+option_of_seq : line (codes "seq" ∷ codes "a" ∷ codes "b" ∷ codes "5" ∷ codes "--delays" ∷ codes "f" ∷ []) ≡ None
+unfolding clap_on_literals line
+option_of_seq = refl
+
+start_of_the_option : line (codes "run" ∷ codes "a" ∷ codes "b" ∷ codes "5" ∷ codes "--delay" ∷ codes "f" ∷ []) ≡ None
+unfolding clap_on_literals line
+start_of_the_option = refl
 
 a_letter : line (codes "run" ∷ codes "-x" ∷ codes "a" ∷ codes "b" ∷ codes "5" ∷ []) ≡ None
 unfolding clap_on_literals line
@@ -223,11 +243,11 @@ build_two : line (codes "build" ∷ codes "a.pdl" ∷ codes "e.img" ∷ []) ≡ 
 unfolding clap_on_literals line
 build_two = refl
 
-simulated : line (codes "sim" ∷ codes "a.v" ∷ codes "e.img" ∷ codes "17" ∷ []) ≡ Some (sim (codes "a.v") (codes "e.img") 17)
+simulated : line (codes "sim" ∷ codes "a.v" ∷ codes "e.img" ∷ codes "17" ∷ []) ≡ Some (sim (codes "a.v") (codes "e.img") 17 None)
 unfolding clap_on_literals line
 simulated = refl
 
-most_simulated : line (codes "sim" ∷ codes "v" ∷ codes "i" ∷ codes "1000000" ∷ []) ≡ Some (sim (codes "v") (codes "i") 1000000)
+most_simulated : line (codes "sim" ∷ codes "v" ∷ codes "i" ∷ codes "1000000" ∷ []) ≡ Some (sim (codes "v") (codes "i") 1000000 None)
 unfolding clap_on_literals line
 most_simulated = refl
 
@@ -239,11 +259,11 @@ sim_two : line (codes "sim" ∷ codes "v" ∷ codes "i" ∷ []) ≡ None
 unfolding clap_on_literals line
 sim_two = refl
 
-dumped : line (codes "wave" ∷ codes "a.pdl" ∷ codes "e.img" ∷ codes "17" ∷ []) ≡ Some (wave (codes "a.pdl") (codes "e.img") 17)
+dumped : line (codes "wave" ∷ codes "a.pdl" ∷ codes "e.img" ∷ codes "17" ∷ []) ≡ Some (wave (codes "a.pdl") (codes "e.img") 17 None)
 unfolding clap_on_literals line
 dumped = refl
 
-most_dumped : line (codes "wave" ∷ codes "a" ∷ codes "b" ∷ codes "1000000" ∷ []) ≡ Some (wave (codes "a") (codes "b") 1000000)
+most_dumped : line (codes "wave" ∷ codes "a" ∷ codes "b" ∷ codes "1000000" ∷ []) ≡ Some (wave (codes "a") (codes "b") 1000000 None)
 unfolding clap_on_literals line
 most_dumped = refl
 

@@ -8,15 +8,19 @@ use Rattle.clap.specs.declared.builder.action.ArgAction.TheVariants.{Set}
 abbrev pub word_rule : Text → Rule
 word_rule id = record (new_rule id) { required = true; action = Some Set }
 
+-- an option with a value, as `--delays F`, that may be left out
+abbrev pub option_rule : Text → Rule
+option_rule name = record (new_rule name) { long = Some name; action = Some Set }
+
 -- `check SRC`
 abbrev pub check_app : App
 check_app = with_rule (new_app (codes "check")) (word_rule (codes "source"))
 
--- `run SRC IMG CYCLES`
+-- `run SRC IMG CYCLES [--delays F]`
 abbrev pub run_app : App
 run_app =
-    with_rule (with_rule (with_rule (new_app (codes "run"))
-    (word_rule (codes "source"))) (word_rule (codes "image"))) (word_rule (codes "cycles"))
+    with_rule (with_rule (with_rule (with_rule (new_app (codes "run"))
+    (word_rule (codes "source"))) (word_rule (codes "image"))) (word_rule (codes "cycles"))) (option_rule (codes "delays"))
 
 -- `seq SRC IMG THREADS`
 abbrev pub seq_app : App
@@ -36,17 +40,17 @@ gen_app = with_rule (new_app (codes "gen")) (word_rule (codes "number"))
 abbrev pub build_app : App
 build_app = with_rule (new_app (codes "build")) (word_rule (codes "source"))
 
--- `sim V IMG CYCLES`
+-- `sim V IMG CYCLES [--delays F]`
 abbrev pub sim_app : App
 sim_app =
-    with_rule (with_rule (with_rule (new_app (codes "sim"))
-    (word_rule (codes "netlist"))) (word_rule (codes "image"))) (word_rule (codes "cycles"))
+    with_rule (with_rule (with_rule (with_rule (new_app (codes "sim"))
+    (word_rule (codes "netlist"))) (word_rule (codes "image"))) (word_rule (codes "cycles"))) (option_rule (codes "delays"))
 
--- `wave SRC IMG CYCLES`
+-- `wave SRC IMG CYCLES [--delays F]`
 abbrev pub wave_app : App
 wave_app =
-    with_rule (with_rule (with_rule (new_app (codes "wave"))
-    (word_rule (codes "source"))) (word_rule (codes "image"))) (word_rule (codes "cycles"))
+    with_rule (with_rule (with_rule (with_rule (new_app (codes "wave"))
+    (word_rule (codes "source"))) (word_rule (codes "image"))) (word_rule (codes "cycles"))) (option_rule (codes "delays"))
 
 -- the command without its subcommands, over the words after the program's name
 abbrev pub bare_app : App

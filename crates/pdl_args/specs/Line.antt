@@ -8,26 +8,26 @@ use Rattle.clap.specs.Kinds.{Kinds}
 use Rattle.pdl_args.specs.App.{pdl_app}
 use Rattle.pdl_args.specs.Number.{number_of}
 
--- a command with its words
+-- a command with its words, of which the last may be left out where it is optional: the name of a delay file
 pub data Command : Type 0 where
   check : (source : Text) → Command
-  run : (source image : Text) (cycles : ℕ) → Command
+  run : (source image : Text) (cycles : ℕ) (delays : Option Text) → Command
   seq : (source image : Text) (threads : ℕ) → Command
   asm : (table text : Text) → Command
   gen : (number : ℕ) → Command
   build : (source : Text) → Command
-  sim : (netlist image : Text) (cycles : ℕ) → Command
-  wave : (source image : Text) (cycles : ℕ) → Command
+  sim : (netlist image : Text) (cycles : ℕ) (delays : Option Text) → Command
+  wave : (source image : Text) (cycles : ℕ) (delays : Option Text) → Command
 
 -- `check`
 abbrev pub check_of : Option Text → Option Command
 check_of (Some source) = Some (check source)
 check_of None = None
 
--- `run`, with a number of cycles up to 1,000,000
-abbrev pub run_of : Option Text → Option Text → Option Text → Option Command
-run_of (Some source) (Some image) (Some cycles) = option_map (run source image) (number_of 7 1000000 cycles)
-run_of _ _ _ = None
+-- `run`, with a number of cycles up to 1,000,000, and a delay file or none
+abbrev pub run_of : Option Text → Option Text → Option Text → Option Text → Option Command
+run_of (Some source) (Some image) (Some cycles) delays = option_map (λ k. run source image k delays) (number_of 7 1000000 cycles)
+run_of _ _ _ _ = None
 
 -- `seq`, with a number of threads up to 1,000,000
 abbrev pub seq_of : Option Text → Option Text → Option Text → Option Command
@@ -49,15 +49,15 @@ abbrev pub build_of : Option Text → Option Command
 build_of (Some source) = Some (build source)
 build_of None = None
 
--- `sim`, with a number of cycles up to 1,000,000
-abbrev pub sim_of : Option Text → Option Text → Option Text → Option Command
-sim_of (Some netlist) (Some image) (Some cycles) = option_map (sim netlist image) (number_of 7 1000000 cycles)
-sim_of _ _ _ = None
+-- `sim`, with a number of cycles up to 1,000,000, and a delay file or none
+abbrev pub sim_of : Option Text → Option Text → Option Text → Option Text → Option Command
+sim_of (Some netlist) (Some image) (Some cycles) delays = option_map (λ k. sim netlist image k delays) (number_of 7 1000000 cycles)
+sim_of _ _ _ _ = None
 
--- `wave`, with a number of cycles up to 1,000,000
-abbrev pub wave_of : Option Text → Option Text → Option Text → Option Command
-wave_of (Some source) (Some image) (Some cycles) = option_map (wave source image) (number_of 7 1000000 cycles)
-wave_of _ _ _ = None
+-- `wave`, with a number of cycles up to 1,000,000, and a delay file or none
+abbrev pub wave_of : Option Text → Option Text → Option Text → Option Text → Option Command
+wave_of (Some source) (Some image) (Some cycles) delays = option_map (λ k. wave source image k delays) (number_of 7 1000000 cycles)
+wave_of _ _ _ _ = None
 
 -- the command of a subcommand that shows or reads a netlist, by its name, with the words that it was given
 abbrev pub netlist_command_of : Text × List Row → Option Command
@@ -66,10 +66,10 @@ netlist_command_of (name, rows) =
     then build_of (first_of (codes "source") rows)
     else
     if bytes_eq name (codes "sim")
-    then sim_of (first_of (codes "netlist") rows) (first_of (codes "image") rows) (first_of (codes "cycles") rows)
+    then sim_of (first_of (codes "netlist") rows) (first_of (codes "image") rows) (first_of (codes "cycles") rows) (first_of (codes "delays") rows)
     else
     if bytes_eq name (codes "wave")
-    then wave_of (first_of (codes "source") rows) (first_of (codes "image") rows) (first_of (codes "cycles") rows)
+    then wave_of (first_of (codes "source") rows) (first_of (codes "image") rows) (first_of (codes "cycles") rows) (first_of (codes "delays") rows)
     else None
 
 -- the command of a subcommand's name with the words that it was given
@@ -79,7 +79,7 @@ command_of (name, rows) =
     then check_of (first_of (codes "source") rows)
     else
     if bytes_eq name (codes "run")
-    then run_of (first_of (codes "source") rows) (first_of (codes "image") rows) (first_of (codes "cycles") rows)
+    then run_of (first_of (codes "source") rows) (first_of (codes "image") rows) (first_of (codes "cycles") rows) (first_of (codes "delays") rows)
     else
     if bytes_eq name (codes "seq")
     then seq_of (first_of (codes "source") rows) (first_of (codes "image") rows) (first_of (codes "threads") rows)

@@ -3,7 +3,7 @@ ghost use Rattle.std.specs.Prelude.{◌≡◌, false};
 ghost use Rattle.clap.specs.Walk.{rule_of};
 ghost use Rattle.clap.specs.Simple.{App, new_app, with_rule, with_subcommand};
 ghost use Rattle.clap.specs.Words.{app_of};
-ghost use Rattle.pdl_args.specs.App.{pdl_app, bare_app, check_app, run_app, seq_app, asm_app, gen_app, build_app, sim_app, wave_app, word_rule};
+ghost use Rattle.pdl_args.specs.App.{pdl_app, bare_app, check_app, run_app, seq_app, asm_app, gen_app, build_app, sim_app, wave_app, word_rule, option_rule};
 ghost use Rattle.pdl_args.specs.Told.{IsTold, IsToldAlone};
 
 use clap::{Arg, ArgAction, Command};
@@ -15,6 +15,14 @@ fn word<'a>(alloc: Global, id: &'a str) -> Arg<'a>
     ensures local { result.global ≡ false }
 {
     Arg::new(alloc, id).required(true).action(ArgAction::Set)
+}
+
+// An option with a value, that may be left out.
+fn option<'a>(alloc: Global, name: &'a str) -> Arg<'a>
+    ensures rule { rule_of result ≡ option_rule name.entry.now }
+    ensures local { result.global ≡ false }
+{
+    Arg::new(alloc, name).long(name).action(ArgAction::Set)
 }
 
 // A command without words.
@@ -35,6 +43,21 @@ fn with_word<'a>(
 {
     match command {
         Ok(command) => command.arg(word(alloc, id)),
+        Err(error) => Err(error),
+    }
+}
+
+// The command with one option more, that may be left out.
+fn with_option<'a>(
+    command: Result<Command<'a>, AllocError>,
+    alloc: Global,
+    name: &'a str,
+) -> Result<Command<'a>, AllocError>
+    ensures { (app : App) → IsToldAlone app command.entry
+        → IsToldAlone (with_rule app (option_rule name.entry.now)) result }
+{
+    match command {
+        Ok(command) => command.arg(option(alloc, name)),
         Err(error) => Err(error),
     }
 }
@@ -60,13 +83,14 @@ fn check_command<'a>(alloc: Global) -> Result<Command<'a>, AllocError>
     with_word(named(alloc, "check"), alloc, "source")
 }
 
-// `run SRC IMG CYCLES`
+// `run SRC IMG CYCLES [--delays F]`
 fn run_command<'a>(alloc: Global) -> Result<Command<'a>, AllocError>
     ensures { IsToldAlone run_app result }
 {
     let one = with_word(named(alloc, "run"), alloc, "source");
     let two = with_word(one, alloc, "image");
-    with_word(two, alloc, "cycles")
+    let three = with_word(two, alloc, "cycles");
+    with_option(three, alloc, "delays")
 }
 
 // `seq SRC IMG THREADS`
@@ -100,22 +124,24 @@ fn build_command<'a>(alloc: Global) -> Result<Command<'a>, AllocError>
     with_word(named(alloc, "build"), alloc, "source")
 }
 
-// `sim V IMG CYCLES`
+// `sim V IMG CYCLES [--delays F]`
 fn sim_command<'a>(alloc: Global) -> Result<Command<'a>, AllocError>
     ensures { IsToldAlone sim_app result }
 {
     let one = with_word(named(alloc, "sim"), alloc, "netlist");
     let two = with_word(one, alloc, "image");
-    with_word(two, alloc, "cycles")
+    let three = with_word(two, alloc, "cycles");
+    with_option(three, alloc, "delays")
 }
 
-// `wave SRC IMG CYCLES`
+// `wave SRC IMG CYCLES [--delays F]`
 fn wave_command<'a>(alloc: Global) -> Result<Command<'a>, AllocError>
     ensures { IsToldAlone wave_app result }
 {
     let one = with_word(named(alloc, "wave"), alloc, "source");
     let two = with_word(one, alloc, "image");
-    with_word(two, alloc, "cycles")
+    let three = with_word(two, alloc, "cycles");
+    with_option(three, alloc, "delays")
 }
 
 // The command without its subcommands.

@@ -18,11 +18,12 @@ pub enum Line<'a> {
     Check {
         source: &'a str,
     },
-    /// `run SRC IMG CYCLES`: the names of two files, and how many cycles to run, up to 1,000,000.
+    /// `run SRC IMG CYCLES [--delays F]`: the names of two files, how many cycles to run, up to 1,000,000, and the name of a delay file, if there is one.
     Run {
         source: &'a str,
         image: &'a str,
         cycles: u32,
+        delays: Option<&'a str>,
     },
     /// `seq SRC IMG THREADS`: the names of two files, and how many threads to run, up to 1,000,000.
     Seq {
@@ -43,17 +44,19 @@ pub enum Line<'a> {
     Build {
         source: &'a str,
     },
-    /// `sim V IMG CYCLES`: the names of a netlist's text and of an image, and how many cycles to run, up to 1,000,000.
+    /// `sim V IMG CYCLES [--delays F]`: the names of a netlist's text and of an image, how many cycles to run, up to 1,000,000, and the name of a delay file, if there is one.
     Sim {
         netlist: &'a str,
         image: &'a str,
         cycles: u32,
+        delays: Option<&'a str>,
     },
-    /// `wave SRC IMG CYCLES`: the names of two files, and how many cycles to run, up to 1,000,000.
+    /// `wave SRC IMG CYCLES [--delays F]`: the names of two files, how many cycles to run, up to 1,000,000, and the name of a delay file, if there is one.
     Wave {
         source: &'a str,
         image: &'a str,
         cycles: u32,
+        delays: Option<&'a str>,
     },
 }
 
@@ -163,7 +166,8 @@ fn run_line<'a>(inner: &ArgMatches<'a>) -> Option<Line<'a>>
     ensures { option_map view result
         ≡ run_of (first_of (codes "source") (rows_of (found_of inner.now)))
         (first_of (codes "image") (rows_of (found_of inner.now)))
-        (first_of (codes "cycles") (rows_of (found_of inner.now))) }
+        (first_of (codes "cycles") (rows_of (found_of inner.now)))
+        (first_of (codes "delays") (rows_of (found_of inner.now))) }
 {
     let Some(source) = value(inner, "source") else {
         return None;
@@ -181,6 +185,7 @@ fn run_line<'a>(inner: &ArgMatches<'a>) -> Option<Line<'a>>
         source,
         image,
         cycles,
+        delays: value(inner, "delays"),
     })
 }
 
@@ -250,7 +255,8 @@ fn sim_line<'a>(inner: &ArgMatches<'a>) -> Option<Line<'a>>
     ensures { option_map view result
         ≡ sim_of (first_of (codes "netlist") (rows_of (found_of inner.now)))
         (first_of (codes "image") (rows_of (found_of inner.now)))
-        (first_of (codes "cycles") (rows_of (found_of inner.now))) }
+        (first_of (codes "cycles") (rows_of (found_of inner.now)))
+        (first_of (codes "delays") (rows_of (found_of inner.now))) }
 {
     let Some(netlist) = value(inner, "netlist") else {
         return None;
@@ -268,6 +274,7 @@ fn sim_line<'a>(inner: &ArgMatches<'a>) -> Option<Line<'a>>
         netlist,
         image,
         cycles,
+        delays: value(inner, "delays"),
     })
 }
 
@@ -275,7 +282,8 @@ fn wave_line<'a>(inner: &ArgMatches<'a>) -> Option<Line<'a>>
     ensures { option_map view result
         ≡ wave_of (first_of (codes "source") (rows_of (found_of inner.now)))
         (first_of (codes "image") (rows_of (found_of inner.now)))
-        (first_of (codes "cycles") (rows_of (found_of inner.now))) }
+        (first_of (codes "cycles") (rows_of (found_of inner.now)))
+        (first_of (codes "delays") (rows_of (found_of inner.now))) }
 {
     let Some(source) = value(inner, "source") else {
         return None;
@@ -293,5 +301,6 @@ fn wave_line<'a>(inner: &ArgMatches<'a>) -> Option<Line<'a>>
         source,
         image,
         cycles,
+        delays: value(inner, "delays"),
     })
 }

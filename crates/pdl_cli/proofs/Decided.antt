@@ -1,17 +1,21 @@
 -- Where the files are told, a command that writes its text has no wrong file; so what is seen decides the status, but for want of memory.
-use Rattle.std.proofs.Common.{◌≡◌, ℕ, List, Option, Some, None, Result, Ok, Err, inl, inr, refl, sym, ap, subst, ◌∙◌}
+use Rattle.std.proofs.Common.{◌≡◌, ℕ, List, Option, Some, None, Result, Ok, Err, length, inl, inr, refl, sym, ap, subst, ◌∙◌}
 use Rattle.pdl_kit.specs.declared.rule.Rule.{Rule}
 use Rattle.pdl_kit.specs.declared.rule.Rule.TheVariants.{G1}
 use Rattle.pdl_kit.specs.Files.{Held, Gives}
 use Rattle.pdl_semantics.specs.Tree.{Pipe}
+use Rattle.pdl_semantics.specs.Flatten.{flat}
 use Rattle.pdl_grammar.specs.Text.{IsText}
 use Rattle.pdl_grammar.proofs.Places.{one_tree}
 use Rattle.pdl_rules.specs.Refusal.{refused_at, refusal}
 use Rattle.pdl_check.specs.Answers.{source_refusal}
 use Rattle.pdl_net.specs.declared.Netlist.{Netlist}
+use Rattle.pdl_net.specs.Run.{delayed_mems}
+use Rattle.pdl_pipe_law.specs.Places.{delayed_count}
 use Rattle.pdl_image.specs.Images.{image}
+use Rattle.pdl_image.specs.Delays.{delays as delay_rows}
 use Rattle.pdl_image.specs.declared.file_error.FileError.TheVariants as file
-use Rattle.pdl_vread.specs.Reads.{Reads}
+use Rattle.pdl_vread.specs.Reads.{Reads, Breaks}
 use Rattle.pdl_asmtable.specs.declared.table_error.TableError.TheVariants as table_error
 use Rattle.pdl_asmtable.specs.Tables.{TableValue}
 use Rattle.pdl_asmtable.specs.Documents as documents
@@ -25,8 +29,9 @@ use Rattle.pdl_failure.specs.declared.failure.Failure.{Failure}
 use Rattle.pdl_failure.specs.declared.failure.Failure.TheVariants.{Usage, Refused, ReadFault, WriteFault, NoMemory}
 use Rattle.pdl_failure.specs.Failures.{status_of}
 use Rattle.pdl_commands.specs.Assembled.{IsTabled, IsWrongTable, IsWrongText, IsAssembled}
-use Rattle.pdl_commands.specs.Simulated.{NetlistRefused, HoldsNetlist, IsWrongNetlist, IsWrongStart, IsWrongSim, IsSimulated}
-use Rattle.pdl_commands.specs.Commands.{SourceRefused, IsAccepted, IsLoaded, IsWrongSource, IsWrongImage, IsWrong, IsWrongFor, Writes}
+use Rattle.pdl_commands.specs.Replies.{IsSchedule, DelaysRefused}
+use Rattle.pdl_commands.specs.Simulated.{HoldsNetlist, IsStarted, IsWrongNetlist, IsWrongStart, IsWrongSim, IsSimulated}
+use Rattle.pdl_commands.specs.Commands.{SourceRefused, IsAccepted, IsLoaded, IsWrongSource, IsWrongImage, IsWrong, IsWrongRun, IsWrongFor, Writes}
 use Rattle.pdl_commands.specs.Outcomes.{Seen, Explains}
 use Rattle.pdl_cli.specs.Top.{IsDecided, Decides}
 use Rattle.pdl_cli.proofs.OneNetlist.{one_netlist, read_right}
@@ -59,7 +64,7 @@ image_right held source image' rule line p words l w =
     (subst (λ (o : Pipe). image (infos_of o.mems) w.image_text ≡ Err (file.Refused rule line)) q w.refused) in
     let k : image (infos_of p.mems) l.image_text ≡ Ok words = l.taken in absurd cc
 
-none_wrong : (held : Held) (source image' : List ℕ) (rule : Rule) (line : ℕ) (p : Pipe) (words : List (List ℕ))
+pub none_wrong : (held : Held) (source image' : List ℕ) (rule : Rule) (line : ℕ) (p : Pipe) (words : List (List ℕ))
     → IsLoaded (Some held) source image' p words → IsWrong (Some held) source image' rule line → ⊥
 none_wrong held source image' rule line p words l (inl w) = source_right held source rule line l.source_text p l.source_given l.accepted w
 none_wrong held source image' rule line p words l (inr w) = image_right held source image' rule line p words l w
@@ -86,46 +91,66 @@ program_right held table program text rule line a w =
     (subst (λ (x : List ℕ). assembly.image w.value x ≡ Err (asm_error.Refused rule line)) t w.refused) in
     let l : assembly.image a.value a.program_text ≡ Ok text = a.made in absurd cc
 
+-- the delay file that replies are taken from isn't refused
+pub replies_right : (held : Held) (delays : Option (List ℕ)) (count cycles : ℕ) (schedule : List ℕ) (rule : Rule) (line : ℕ) → IsSchedule (Some held) delays count cycles schedule → DelaysRefused (Some held) delays count rule line → ⊥
+replies_right held None count cycles schedule rule line a w = w
+replies_right held (Some name) count cycles schedule rule line a w =
+    let t : w.0 ≡ a.0 = one_text held name w.0 a.0 w.1 a.2 in
+    let k : delay_rows count a.0 ≡ Err (file.Refused rule line) = subst (λ (x : List ℕ). delay_rows count x ≡ Err (file.Refused rule line)) t w.2 in
+    let l : delay_rows count a.0 ≡ Ok a.1 = a.3 in absurd cc
+
+run_right : (held : Held) (source image' : List ℕ) (delays : Option (List ℕ)) (cycles : ℕ) (schedule : List ℕ) (rule : Rule) (line : ℕ) (p : Pipe) (words : List (List ℕ))
+    → IsLoaded (Some held) source image' p words → IsSchedule (Some held) delays (delayed_count (flat p)) cycles schedule → IsWrongRun (Some held) source image' delays rule line → ⊥
+run_right held source image' delays cycles schedule rule line p words l a (inl w) = none_wrong held source image' rule line p words l w
+run_right held source image' delays cycles schedule rule line p words l a (inr w) =
+    let b : w.loaded.source_text ≡ l.source_text = one_text held source w.loaded.source_text l.source_text w.loaded.source_given l.source_given in
+    let t : IsText l.source_text w.pipe = subst (λ (s : List ℕ). IsText s w.pipe) b w.loaded.accepted.text in
+    let q : w.pipe ≡ p = one_tree l.source_text w.pipe p t l.accepted.text in
+    replies_right held delays (delayed_count (flat p)) cycles schedule rule line a (subst (λ (o : Pipe). DelaysRefused (Some held) delays (delayed_count (flat o)) rule line) q w.refused)
+
 -- a file holds one netlist
 pub one_held : (held : Held) (v : List ℕ) (n m : Netlist) → HoldsNetlist (Some held) v n → HoldsNetlist (Some held) v m → n ≡ m
 one_held held v n m a b =
     let t : a.netlist_text ≡ b.netlist_text = one_text held v a.netlist_text b.netlist_text a.netlist_given b.netlist_given in
-    one_netlist a.netlist_text n m a.read.reads (subst (λ (x : List ℕ). Reads x m) (sym t) b.read.reads)
+    one_netlist a.netlist_text n m a.read (subst (λ (x : List ℕ). Reads x m) (sym t) b.read)
 
 pub netlist_right : (held : Held) (v : List ℕ) (rule : Rule) (line : ℕ) (n : Netlist) → HoldsNetlist (Some held) v n → IsWrongNetlist (Some held) v rule line → ⊥
 netlist_right held v rule line n a w =
     let t : w.netlist_text ≡ a.netlist_text = one_text held v w.netlist_text a.netlist_text w.netlist_given a.netlist_given in
-    read_right a.netlist_text n rule line a.read (subst (λ (x : List ℕ). NetlistRefused x rule line) t w.refused)
+    read_right a.netlist_text n rule line a.read (subst (λ (x : List ℕ). Breaks x rule line) t w.refused)
 
-start_right : (held : Held) (v image' : List ℕ) (cycles : ℕ) (text : List ℕ) (rule : Rule) (line : ℕ) → IsSimulated (Some held) v image' cycles text → IsWrongStart (Some held) v image' rule line → ⊥
-start_right held v image' cycles text rule line s w =
-    let n : w.netlist ≡ s.netlist = one_held held v w.netlist s.netlist w.held s.held in
+pub start_right : (held : Held) (v image' : List ℕ) (n : Netlist) (words : List (List ℕ)) (rule : Rule) (line : ℕ) → IsStarted (Some held) v image' n words → IsWrongStart (Some held) v image' rule line → ⊥
+start_right held v image' m words rule line s w =
+    let n : w.netlist ≡ m = one_held held v w.netlist m w.held s.held in
     let i : w.image_text ≡ s.image_text = one_text held image' w.image_text s.image_text w.image_given s.image_given in
-    let r : image s.netlist.mems s.image_text ≡ Err (file.Refused rule line) =
-    subst (λ (x : List ℕ). image s.netlist.mems x ≡ Err (file.Refused rule line)) i
-    (subst (λ (m : Netlist). image m.mems w.image_text ≡ Err (file.Refused rule line)) n w.refused) in
-    let k : image s.netlist.mems s.image_text ≡ Ok s.words = s.taken in absurd cc
+    let r : image m.mems s.image_text ≡ Err (file.Refused rule line) =
+    subst (λ (x : List ℕ). image m.mems x ≡ Err (file.Refused rule line)) i
+    (subst (λ (k : Netlist). image k.mems w.image_text ≡ Err (file.Refused rule line)) n w.refused) in
+    let k : image m.mems s.image_text ≡ Ok words = s.taken in absurd cc
 
-sim_right : (held : Held) (v image' : List ℕ) (cycles : ℕ) (text : List ℕ) (rule : Rule) (line : ℕ) → IsSimulated (Some held) v image' cycles text → IsWrongSim (Some held) v image' rule line → ⊥
-sim_right held v image' cycles text rule line s (inl w) = netlist_right held v rule line s.netlist s.held w
-sim_right held v image' cycles text rule line s (inr w) = start_right held v image' cycles text rule line s w
+sim_right : (held : Held) (v image' : List ℕ) (cycles : ℕ) (delays : Option (List ℕ)) (text : List ℕ) (rule : Rule) (line : ℕ) → IsSimulated (Some held) v image' cycles delays text → IsWrongSim (Some held) v image' delays rule line → ⊥
+sim_right held v image' cycles delays text rule line s (inl w) = netlist_right held v rule line s.netlist s.started.held w
+sim_right held v image' cycles delays text rule line s (inr (inl w)) = start_right held v image' s.netlist s.words rule line s.started w
+sim_right held v image' cycles delays text rule line s (inr (inr w)) =
+    let n : w.netlist ≡ s.netlist = one_held held v w.netlist s.netlist w.started.held s.started.held in
+    replies_right held delays (length (delayed_mems s.netlist)) cycles s.schedule rule line s.replies (subst (λ (k : Netlist). DelaysRefused (Some held) delays (length (delayed_mems k)) rule line) n w.refused)
 
 -- a command that writes its text has no wrong file
 exclusive_told : (held : Held) (command : Command) (text : List ℕ) (rule : Rule) (position : Position) → Writes (Some held) command text → IsWrongFor (Some held) command rule position → ⊥
 exclusive_told held (check source) text rule (Line n) o w = source_right held source rule n o.source_text o.pipe o.source_given o.accepted w
 exclusive_told held (check source) text rule (Insn n) o w = w
-exclusive_told held (run source image' cycles) text rule (Line n) o w = none_wrong held source image' rule n o.pipe o.words o.loaded w
-exclusive_told held (run source image' cycles) text rule (Insn n) o w = w
+exclusive_told held (run source image' cycles delays) text rule (Line n) o w = run_right held source image' delays cycles o.schedule rule n o.pipe o.words o.loaded o.replies w
+exclusive_told held (run source image' cycles delays) text rule (Insn n) o w = w
 exclusive_told held (seq source image' threads) text rule (Line n) o w = none_wrong held source image' rule n o.pipe o.words o.loaded w
 exclusive_told held (seq source image' threads) text rule (Insn n) o w = w
 exclusive_told held (gen number) text rule (Line n) o w = kept_unrefused (source number) o.summary.pipe rule n o.summary.accepted w
 exclusive_told held (gen number) text rule (Insn n) o w = w
 exclusive_told held (build source) text rule (Line n) o w = source_right held source rule n o.source_text o.pipe o.source_given o.accepted w
 exclusive_told held (build source) text rule (Insn n) o w = w
-exclusive_told held (sim v image' cycles) text rule (Line n) o w = sim_right held v image' cycles text rule n o w
-exclusive_told held (sim v image' cycles) text rule (Insn n) o w = w
-exclusive_told held (wave source image' cycles) text rule (Line n) o w = none_wrong held source image' rule n o.pipe o.words o.loaded w
-exclusive_told held (wave source image' cycles) text rule (Insn n) o w = w
+exclusive_told held (sim v image' cycles delays) text rule (Line n) o w = sim_right held v image' cycles delays text rule n o w
+exclusive_told held (sim v image' cycles delays) text rule (Insn n) o w = w
+exclusive_told held (wave source image' cycles delays) text rule (Line n) o w = run_right held source image' delays cycles o.schedule rule n o.pipe o.words o.loaded o.replies w
+exclusive_told held (wave source image' cycles delays) text rule (Insn n) o w = w
 exclusive_told held (asm table program) text rule (Line n) o (inl w) = w
 exclusive_told held (asm table program) text rule (Line n) o (inr w) = program_right held table program text rule n o w
 exclusive_told held (asm table program) text rule (Insn n) o (inl w) = table_right held table rule n o.value o.tabled w

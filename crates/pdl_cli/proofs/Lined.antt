@@ -32,11 +32,11 @@ of_check : (s : Option Text) (c : Command) → check_of s ≡ Some c → IsFew c
 of_check None c e = absurd (cc e)
 of_check (Some s) c e = few_same (check s) c tt e
 
-of_run : (s i t : Option Text) (c : Command) → run_of s i t ≡ Some c → IsFew c
-of_run None i t c e = absurd (cc e)
-of_run (Some s) None t c e = absurd (cc e)
-of_run (Some s) (Some i) None c e = absurd (cc e)
-of_run (Some s) (Some i) (Some t) c e = few_mapped (run s i) (number_of 7 1000000 t) c (number_small 7 1000000 t) e
+of_run : (s i t d : Option Text) (c : Command) → run_of s i t d ≡ Some c → IsFew c
+of_run None i t d c e = absurd (cc e)
+of_run (Some s) None t d c e = absurd (cc e)
+of_run (Some s) (Some i) None d c e = absurd (cc e)
+of_run (Some s) (Some i) (Some t) d c e = few_mapped (λ k. run s i k d) (number_of 7 1000000 t) c (number_small 7 1000000 t) e
 
 of_seq : (s i t : Option Text) (c : Command) → seq_of s i t ≡ Some c → IsFew c
 of_seq None i t c e = absurd (cc e)
@@ -57,17 +57,17 @@ of_build : (s : Option Text) (c : Command) → build_of s ≡ Some c → IsFew c
 of_build None c e = absurd (cc e)
 of_build (Some s) c e = few_same (build s) c tt e
 
-of_sim : (v i t : Option Text) (c : Command) → sim_of v i t ≡ Some c → IsFew c
-of_sim None i t c e = absurd (cc e)
-of_sim (Some v) None t c e = absurd (cc e)
-of_sim (Some v) (Some i) None c e = absurd (cc e)
-of_sim (Some v) (Some i) (Some t) c e = few_mapped (sim v i) (number_of 7 1000000 t) c (number_small 7 1000000 t) e
+of_sim : (v i t d : Option Text) (c : Command) → sim_of v i t d ≡ Some c → IsFew c
+of_sim None i t d c e = absurd (cc e)
+of_sim (Some v) None t d c e = absurd (cc e)
+of_sim (Some v) (Some i) None d c e = absurd (cc e)
+of_sim (Some v) (Some i) (Some t) d c e = few_mapped (λ k. sim v i k d) (number_of 7 1000000 t) c (number_small 7 1000000 t) e
 
-of_wave : (s i t : Option Text) (c : Command) → wave_of s i t ≡ Some c → IsFew c
-of_wave None i t c e = absurd (cc e)
-of_wave (Some s) None t c e = absurd (cc e)
-of_wave (Some s) (Some i) None c e = absurd (cc e)
-of_wave (Some s) (Some i) (Some t) c e = few_mapped (wave s i) (number_of 7 1000000 t) c (number_small 7 1000000 t) e
+of_wave : (s i t d : Option Text) (c : Command) → wave_of s i t d ≡ Some c → IsFew c
+of_wave None i t d c e = absurd (cc e)
+of_wave (Some s) None t d c e = absurd (cc e)
+of_wave (Some s) (Some i) None d c e = absurd (cc e)
+of_wave (Some s) (Some i) (Some t) d c e = few_mapped (λ k. wave s i k d) (number_of 7 1000000 t) c (number_small 7 1000000 t) e
 
 of_none : (c : Command) → None ≡ Some c → IsFew c
 of_none c e = absurd (cc e)
@@ -82,11 +82,12 @@ of_netlist f c e =
     let netlist : Option Text = first_of (codes "netlist") f.1 in
     let image : Option Text = first_of (codes "image") f.1 in
     let cycles : Option Text = first_of (codes "cycles") f.1 in
-    let dumped : Option Command = if bytes_eq f.0 (codes "wave") then wave_of source image cycles else None in
-    let simulated : Option Command = if bytes_eq f.0 (codes "sim") then sim_of netlist image cycles else dumped in
+    let delays : Option Text = first_of (codes "delays") f.1 in
+    let dumped : Option Command = if bytes_eq f.0 (codes "wave") then wave_of source image cycles delays else None in
+    let simulated : Option Command = if bytes_eq f.0 (codes "sim") then sim_of netlist image cycles delays else dumped in
     of_if (bytes_eq f.0 (codes "build")) (build_of source) simulated c (of_build source c)
-    (of_if (bytes_eq f.0 (codes "sim")) (sim_of netlist image cycles) dumped c (of_sim netlist image cycles c)
-    (of_if (bytes_eq f.0 (codes "wave")) (wave_of source image cycles) None c (of_wave source image cycles c) (of_none c))) e
+    (of_if (bytes_eq f.0 (codes "sim")) (sim_of netlist image cycles delays) dumped c (of_sim netlist image cycles delays c)
+    (of_if (bytes_eq f.0 (codes "wave")) (wave_of source image cycles delays) None c (of_wave source image cycles delays c) (of_none c))) e
 
 of_found : (found : Option (Text × List Row)) (c : Command) → option_and_then command_of found ≡ Some c → IsFew c
 of_found None c e = absurd (cc e)
@@ -94,6 +95,7 @@ of_found (Some f) c e =
     let source : Option Text = first_of (codes "source") f.1 in
     let image : Option Text = first_of (codes "image") f.1 in
     let cycles : Option Text = first_of (codes "cycles") f.1 in
+    let delays : Option Text = first_of (codes "delays") f.1 in
     let table : Option Text = first_of (codes "table") f.1 in
     let text : Option Text = first_of (codes "text") f.1 in
     let threads : Option Text = first_of (codes "threads") f.1 in
@@ -101,9 +103,9 @@ of_found (Some f) c e =
     let generated : Option Command = if bytes_eq f.0 (codes "gen") then gen_of number else netlist_command_of f in
     let assembled : Option Command = if bytes_eq f.0 (codes "asm") then asm_of table text else generated in
     let in_turn : Option Command = if bytes_eq f.0 (codes "seq") then seq_of source image threads else assembled in
-    let ran : Option Command = if bytes_eq f.0 (codes "run") then run_of source image cycles else in_turn in
+    let ran : Option Command = if bytes_eq f.0 (codes "run") then run_of source image cycles delays else in_turn in
     of_if (bytes_eq f.0 (codes "check")) (check_of source) ran c (of_check source c)
-    (of_if (bytes_eq f.0 (codes "run")) (run_of source image cycles) in_turn c (of_run source image cycles c)
+    (of_if (bytes_eq f.0 (codes "run")) (run_of source image cycles delays) in_turn c (of_run source image cycles delays c)
     (of_if (bytes_eq f.0 (codes "seq")) (seq_of source image threads) assembled c (of_seq source image threads c)
     (of_if (bytes_eq f.0 (codes "asm")) (asm_of table text) generated c (of_asm table text c)
     (of_if (bytes_eq f.0 (codes "gen")) (gen_of number) (netlist_command_of f) c (of_gen number c) (of_netlist f c))))) e

@@ -1,15 +1,20 @@
 -- Over told files a command has one refusal: of the first wrong file, by one rule, at one position.
-use Rattle.std.proofs.Common.{◌≡◌, ℕ, List, Option, Some, Err, inl, inr, sym, ap, subst, ◌∙◌}
+use Rattle.std.proofs.Common.{◌≡◌, ℕ, List, Option, Some, None, Err, length, inl, inr, sym, ap, subst, ◌∙◌}
 use Rattle.pdl_kit.specs.declared.rule.Rule.{Rule}
 use Rattle.pdl_kit.specs.Files.{Held}
 use Rattle.pdl_semantics.specs.Tree.{Pipe}
+use Rattle.pdl_semantics.specs.Flatten.{flat}
 use Rattle.pdl_grammar.specs.Text.{IsText}
 use Rattle.pdl_grammar.proofs.Places.{one_tree, one_place}
 use Rattle.pdl_rules.specs.Refusal.{Refused}
 use Rattle.pdl_check.specs.Answers.{source_refusal}
 use Rattle.pdl_net.specs.declared.Netlist.{Netlist}
+use Rattle.pdl_net.specs.Run.{delayed_mems}
+use Rattle.pdl_pipe_law.specs.Places.{delayed_count}
 use Rattle.pdl_image.specs.Images.{image}
+use Rattle.pdl_image.specs.Delays.{delays as delay_rows}
 use Rattle.pdl_image.specs.declared.file_error.FileError.TheVariants as file
+use Rattle.pdl_vread.specs.Reads.{Breaks}
 use Rattle.pdl_asmtable.specs.declared.table_error.TableError.TheVariants as table_error
 use Rattle.pdl_asmtable.specs.Tables.{TableValue}
 use Rattle.pdl_asmtable.specs.Documents as documents
@@ -20,10 +25,11 @@ use Rattle.pdl_args.specs.Line.{Command, check, run, seq, asm, gen, build, sim, 
 use Rattle.pdl_failure.specs.declared.failure.Position.{Position}
 use Rattle.pdl_failure.specs.declared.failure.Position.TheVariants.{Line, Insn}
 use Rattle.pdl_commands.specs.Assembled.{IsWrongTable, IsWrongText}
-use Rattle.pdl_commands.specs.Simulated.{NetlistRefused, IsWrongNetlist, IsWrongStart, IsWrongSim}
-use Rattle.pdl_commands.specs.Commands.{SourceRefused, IsWrongSource, IsWrongImage, IsWrong, IsWrongFor}
+use Rattle.pdl_commands.specs.Replies.{DelaysRefused}
+use Rattle.pdl_commands.specs.Simulated.{IsWrongNetlist, IsWrongStart, IsWrongReplies, IsWrongSim}
+use Rattle.pdl_commands.specs.Commands.{SourceRefused, IsWrongSource, IsWrongImage, IsWrong, IsWrongDelays, IsWrongRun, IsWrongFor}
 use Rattle.pdl_cli.proofs.OneNetlist.{one_netlist_refusal}
-use Rattle.pdl_cli.proofs.Decided.{one_text, source_right, one_table, table_right, one_held, netlist_right}
+use Rattle.pdl_cli.proofs.Decided.{one_text, source_right, none_wrong, one_table, table_right, one_held, netlist_right, start_right}
 use Rattle.pdl_rules.specs.Memories.{infos_of}
 
 -- a refusal of a source, an image, a table or a text is one
@@ -66,6 +72,26 @@ wrong_run held source image' r s n m (inl v) (inr w) = absurd (source_right held
 wrong_run held source image' r s n m (inr v) (inl w) = absurd (source_right held source s m v.source_text v.pipe v.source_given v.accepted w)
 wrong_run held source image' r s n m (inr v) (inr w) = wrong_image held source image' r s n m v w
 
+one_delays : (held : Held) (delays : Option (List ℕ)) (count : ℕ) (r s : Rule) (n m : ℕ) → DelaysRefused (Some held) delays count r n → DelaysRefused (Some held) delays count s m → (r ≡ s) × (n ≡ m)
+one_delays held None count r s n m v w = absurd v
+one_delays held (Some name) count r s n m v w =
+    let t : v.0 ≡ w.0 = one_text held name v.0 w.0 v.1 w.1 in
+    let k : delay_rows count w.0 ≡ Err (file.Refused r n) = subst (λ (x : List ℕ). delay_rows count x ≡ Err (file.Refused r n)) t v.2 in
+    let l : delay_rows count w.0 ≡ Err (file.Refused s m) = w.2 in
+    (cc, cc)
+
+wrong_delays : (held : Held) (source image' : List ℕ) (delays : Option (List ℕ)) (r s : Rule) (n m : ℕ) → IsWrongDelays (Some held) source image' delays r n → IsWrongDelays (Some held) source image' delays s m → (r ≡ s) × (n ≡ m)
+wrong_delays held source image' delays r s n m v w =
+    let b : v.loaded.source_text ≡ w.loaded.source_text = one_text held source v.loaded.source_text w.loaded.source_text v.loaded.source_given w.loaded.source_given in
+    let q : v.pipe ≡ w.pipe = one_tree w.loaded.source_text v.pipe w.pipe (subst (λ (x : List ℕ). IsText x v.pipe) b v.loaded.accepted.text) w.loaded.accepted.text in
+    one_delays held delays (delayed_count (flat w.pipe)) r s n m (subst (λ (p : Pipe). DelaysRefused (Some held) delays (delayed_count (flat p)) r n) q v.refused) w.refused
+
+wrong_replies : (held : Held) (source image' : List ℕ) (delays : Option (List ℕ)) (r s : Rule) (n m : ℕ) → IsWrongRun (Some held) source image' delays r n → IsWrongRun (Some held) source image' delays s m → (r ≡ s) × (n ≡ m)
+wrong_replies held source image' delays r s n m (inl v) (inl w) = wrong_run held source image' r s n m v w
+wrong_replies held source image' delays r s n m (inl v) (inr w) = absurd (none_wrong held source image' r n w.pipe w.words w.loaded v)
+wrong_replies held source image' delays r s n m (inr v) (inl w) = absurd (none_wrong held source image' s m v.pipe v.words v.loaded w)
+wrong_replies held source image' delays r s n m (inr v) (inr w) = wrong_delays held source image' delays r s n m v w
+
 wrong_table : (held : Held) (table : List ℕ) (r s : Rule) (n m : ℕ) → IsWrongTable (Some held) table r n → IsWrongTable (Some held) table s m → (r ≡ s) × (n ≡ m)
 wrong_table held table r s n m v w =
     let t : v.table_text ≡ w.table_text = one_text held table v.table_text w.table_text v.table_given w.table_given in
@@ -86,7 +112,7 @@ wrong_text held table program r s n m v w =
 wrong_netlist : (held : Held) (v : List ℕ) (r s : Rule) (n m : ℕ) → IsWrongNetlist (Some held) v r n → IsWrongNetlist (Some held) v s m → (r ≡ s) × (n ≡ m)
 wrong_netlist held v r s n m a b =
     let t : a.netlist_text ≡ b.netlist_text = one_text held v a.netlist_text b.netlist_text a.netlist_given b.netlist_given in
-    one_netlist_refusal b.netlist_text r s n m (subst (λ (x : List ℕ). NetlistRefused x r n) t a.refused) b.refused
+    one_netlist_refusal b.netlist_text r s n m (subst (λ (x : List ℕ). Breaks x r n) t a.refused) b.refused
 
 wrong_start : (held : Held) (v image' : List ℕ) (r s : Rule) (n m : ℕ) → IsWrongStart (Some held) v image' r n → IsWrongStart (Some held) v image' s m → (r ≡ s) × (n ≡ m)
 wrong_start held v image' r s n m a b =
@@ -98,11 +124,21 @@ wrong_start held v image' r s n m a b =
     let l : image b.netlist.mems b.image_text ≡ Err (file.Refused s m) = b.refused in
     (cc, cc)
 
-wrong_sim : (held : Held) (v image' : List ℕ) (r s : Rule) (n m : ℕ) → IsWrongSim (Some held) v image' r n → IsWrongSim (Some held) v image' s m → (r ≡ s) × (n ≡ m)
-wrong_sim held v image' r s n m (inl a) (inl b) = wrong_netlist held v r s n m a b
-wrong_sim held v image' r s n m (inl a) (inr b) = absurd (netlist_right held v r n b.netlist b.held a)
-wrong_sim held v image' r s n m (inr a) (inl b) = absurd (netlist_right held v s m a.netlist a.held b)
-wrong_sim held v image' r s n m (inr a) (inr b) = wrong_start held v image' r s n m a b
+wrong_sim_replies : (held : Held) (v image' : List ℕ) (delays : Option (List ℕ)) (r s : Rule) (n m : ℕ) → IsWrongReplies (Some held) v image' delays r n → IsWrongReplies (Some held) v image' delays s m → (r ≡ s) × (n ≡ m)
+wrong_sim_replies held v image' delays r s n m a b =
+    let q : a.netlist ≡ b.netlist = one_held held v a.netlist b.netlist a.started.held b.started.held in
+    one_delays held delays (length (delayed_mems b.netlist)) r s n m (subst (λ (x : Netlist). DelaysRefused (Some held) delays (length (delayed_mems x)) r n) q a.refused) b.refused
+
+wrong_sim : (held : Held) (v image' : List ℕ) (delays : Option (List ℕ)) (r s : Rule) (n m : ℕ) → IsWrongSim (Some held) v image' delays r n → IsWrongSim (Some held) v image' delays s m → (r ≡ s) × (n ≡ m)
+wrong_sim held v image' delays r s n m (inl a) (inl b) = wrong_netlist held v r s n m a b
+wrong_sim held v image' delays r s n m (inl a) (inr (inl b)) = absurd (netlist_right held v r n b.netlist b.held a)
+wrong_sim held v image' delays r s n m (inl a) (inr (inr b)) = absurd (netlist_right held v r n b.netlist b.started.held a)
+wrong_sim held v image' delays r s n m (inr (inl a)) (inl b) = absurd (netlist_right held v s m a.netlist a.held b)
+wrong_sim held v image' delays r s n m (inr (inr a)) (inl b) = absurd (netlist_right held v s m a.netlist a.started.held b)
+wrong_sim held v image' delays r s n m (inr (inl a)) (inr (inl b)) = wrong_start held v image' r s n m a b
+wrong_sim held v image' delays r s n m (inr (inl a)) (inr (inr b)) = absurd (start_right held v image' b.netlist b.words r n b.started a)
+wrong_sim held v image' delays r s n m (inr (inr a)) (inr (inl b)) = absurd (start_right held v image' a.netlist a.words s m a.started b)
+wrong_sim held v image' delays r s n m (inr (inr a)) (inr (inr b)) = wrong_sim_replies held v image' delays r s n m a b
 
 -- THE COMMANDS
 
@@ -122,9 +158,9 @@ pub one_refusal : (held : Held) (command : Command) (r s : Rule) (p q : Position
 one_refusal held (check source) r s (Insn n) q v w = absurd v
 one_refusal held (check source) r s (Line n) (Insn m) v w = absurd w
 one_refusal held (check source) r s (Line n) (Line m) v w = let h = wrong_source held source r s n m v w in (h.0, ap Line h.1)
-one_refusal held (run source image' cycles) r s (Insn n) q v w = absurd v
-one_refusal held (run source image' cycles) r s (Line n) (Insn m) v w = absurd w
-one_refusal held (run source image' cycles) r s (Line n) (Line m) v w = let h = wrong_run held source image' r s n m v w in (h.0, ap Line h.1)
+one_refusal held (run source image' cycles delays) r s (Insn n) q v w = absurd v
+one_refusal held (run source image' cycles delays) r s (Line n) (Insn m) v w = absurd w
+one_refusal held (run source image' cycles delays) r s (Line n) (Line m) v w = let h = wrong_replies held source image' delays r s n m v w in (h.0, ap Line h.1)
 one_refusal held (seq source image' threads) r s (Insn n) q v w = absurd v
 one_refusal held (seq source image' threads) r s (Line n) (Insn m) v w = absurd w
 one_refusal held (seq source image' threads) r s (Line n) (Line m) v w = let h = wrong_run held source image' r s n m v w in (h.0, ap Line h.1)
@@ -132,12 +168,12 @@ one_refusal held (asm table program) r s p q v w = wrong_asm held table program 
 one_refusal held (build source) r s (Insn n) q v w = absurd v
 one_refusal held (build source) r s (Line n) (Insn m) v w = absurd w
 one_refusal held (build source) r s (Line n) (Line m) v w = let h = wrong_source held source r s n m v w in (h.0, ap Line h.1)
-one_refusal held (sim netlist image' cycles) r s (Insn n) q v w = absurd v
-one_refusal held (sim netlist image' cycles) r s (Line n) (Insn m) v w = absurd w
-one_refusal held (sim netlist image' cycles) r s (Line n) (Line m) v w = let h = wrong_sim held netlist image' r s n m v w in (h.0, ap Line h.1)
-one_refusal held (wave source image' cycles) r s (Insn n) q v w = absurd v
-one_refusal held (wave source image' cycles) r s (Line n) (Insn m) v w = absurd w
-one_refusal held (wave source image' cycles) r s (Line n) (Line m) v w = let h = wrong_run held source image' r s n m v w in (h.0, ap Line h.1)
+one_refusal held (sim netlist image' cycles delays) r s (Insn n) q v w = absurd v
+one_refusal held (sim netlist image' cycles delays) r s (Line n) (Insn m) v w = absurd w
+one_refusal held (sim netlist image' cycles delays) r s (Line n) (Line m) v w = let h = wrong_sim held netlist image' delays r s n m v w in (h.0, ap Line h.1)
+one_refusal held (wave source image' cycles delays) r s (Insn n) q v w = absurd v
+one_refusal held (wave source image' cycles delays) r s (Line n) (Insn m) v w = absurd w
+one_refusal held (wave source image' cycles delays) r s (Line n) (Line m) v w = let h = wrong_replies held source image' delays r s n m v w in (h.0, ap Line h.1)
 one_refusal held (gen number) r s (Insn n) q v w = absurd v
 one_refusal held (gen number) r s (Line n) (Insn m) v w = absurd w
 one_refusal held (gen number) r s (Line n) (Line m) v w = let h = source_one (source number) r s n m v w in (h.0, ap Line h.1)

@@ -7,6 +7,7 @@ use Rattle.pdl_args.specs.Line.{Command, check, run, seq, asm, gen, build, sim, 
 use Rattle.pdl_failure.specs.declared.failure.Position.{Position}
 use Rattle.pdl_failure.specs.declared.failure.Failure.{Failure}
 use Rattle.pdl_failure.specs.Failures.{status_of, text_of}
+use Rattle.pdl_commands.specs.Replies.{AllowsFile}
 use Rattle.pdl_commands.specs.Commands.{IsWrongFor}
 use Rattle.pdl_commands.specs.Outcomes.{Seen, Explains}
 
@@ -14,24 +15,24 @@ use Rattle.pdl_commands.specs.Outcomes.{Seen, Explains}
 abbrev pub Allows : (List ℕ → Bool) → Option Command → Type 0
 Allows may None = ⊤
 Allows may (Some (check source)) = IsTrue (may source)
-Allows may (Some (run source image cycles)) = IsTrue (may source) × IsTrue (may image)
+Allows may (Some (run source image cycles delays)) = IsTrue (may source) × IsTrue (may image) × AllowsFile may delays
 Allows may (Some (seq source image threads)) = IsTrue (may source) × IsTrue (may image)
 Allows may (Some (asm table program)) = IsTrue (may table) × IsTrue (may program)
 Allows may (Some (gen number)) = ⊤
 Allows may (Some (build source)) = IsTrue (may source)
-Allows may (Some (sim v image cycles)) = IsTrue (may v) × IsTrue (may image)
-Allows may (Some (wave source image cycles)) = IsTrue (may source) × IsTrue (may image)
+Allows may (Some (sim v image cycles delays)) = IsTrue (may v) × IsTrue (may image) × AllowsFile may delays
+Allows may (Some (wave source image cycles delays)) = IsTrue (may source) × IsTrue (may image) × AllowsFile may delays
 
 -- a run is of at most 1,000,000 cycles
 abbrev pub IsFew : Command → Type 0
 IsFew (check source) = ⊤
-IsFew (run source image cycles) = cycles ≤ 1000000
+IsFew (run source image cycles delays) = cycles ≤ 1000000
 IsFew (seq source image threads) = ⊤
 IsFew (asm table program) = ⊤
 IsFew (gen number) = ⊤
 IsFew (build source) = ⊤
-IsFew (sim v image cycles) = cycles ≤ 1000000
-IsFew (wave source image cycles) = cycles ≤ 1000000
+IsFew (sim v image cycles delays) = cycles ≤ 1000000
+IsFew (wave source image cycles delays) = cycles ≤ 1000000
 
 -- the status is that of an outcome, done or a failure, that what is seen explains, and its text is said
 abbrev pub Answers : Option Command → Seen → (List ℕ → Type 0) → ℕ → Type 0

@@ -56,7 +56,8 @@ fn obey_line<F: Files, O: Sink>(
             source,
             image,
             cycles,
-        } => run_source(alloc, files, source, image, cycles, out),
+            delays,
+        } => run_source(alloc, files, source, image, cycles, delays, out),
         Line::Seq {
             source,
             image,
@@ -69,12 +70,14 @@ fn obey_line<F: Files, O: Sink>(
             netlist,
             image,
             cycles,
-        } => simulate(alloc, files, netlist, image, cycles, out),
+            delays,
+        } => simulate(alloc, files, netlist, image, cycles, delays, out),
         Line::Wave {
             source,
             image,
             cycles,
-        } => wave(alloc, files, source, image, cycles, out),
+            delays,
+        } => wave(alloc, files, source, image, cycles, delays, out),
     }
 }
 

@@ -62,7 +62,12 @@ fn push_commits(
     Ok(at)
 }
 
-// Puts the lines of so many cycles of the machine of a pipe, from its first on. Of its outputs two of each stage stand first, then three of each memory with a lock, then whether a thread ended.
+// How many memories are delayed.
+fn count_delayed(mems: &[Mem]) -> usize {
+    mems.iter().filter(|mem| mem.delayed).count()
+}
+
+// Puts the lines of so many cycles of the machine of a pipe, from its first on, with all requests answered. Of its outputs two of each stage stand first, then three of each memory with a lock, then two of each delayed memory, then whether a thread ended.
 fn put_lines(
     text: &mut Vec<u8>,
     machine: &mut Machine<'_>,
@@ -74,11 +79,12 @@ fn put_lines(
 {
     let first = accepted.graph().count().saturating_mul(2);
     let mems = accepted.flat().mems();
+    let requests = count_delayed(mems).saturating_mul(2);
     let mut ended: u32 = 0;
     for done in 0..cycles {
         machine.cycle(u16::MAX);
-        let last = push_commits(text, done + 1, machine, mems, first)?;
-        if shown(machine, last) == 1 {
+        let asked = push_commits(text, done + 1, machine, mems, first)?;
+        if shown(machine, asked.saturating_add(requests)) == 1 {
             ended += 1;
         }
     }

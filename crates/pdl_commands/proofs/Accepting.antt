@@ -1,94 +1,150 @@
--- What an accepted pipe gives the run of its netlist.
-use Rattle.std.proofs.Common.{◌≡◌, ℕ, zero, suc, [], ◌∷◌, ◌≤◌, List, length, map, All, refl, ap, ◌∙◌, subst, inl, inr}
-use Rattle.std.specs.Prelude.{Option, Result, Ok, Err, IfOk}
-use Rattle.pdl_kit.specs.declared.mem_info.MemInfo.{MemInfo}
+-- What is known of the netlist of an accepted pipe, and so of its runs, its text and its dumps.
+use Rattle.std.proofs.Common.{◌≡◌, ℕ, zero, suc, ◌+◌, ◌≤◌, [], ◌∷◌, ◌++◌, List, map, arith, refl, sym, ap, ◌∙◌, subst}
+use Rattle.std.specs.Prelude.{Option, Some, None, Result, Ok, Err, IfOk, Bool, true, false, if◌then◌else◌, replicate}
+use Rattle.pdl_kit.specs.declared.rule.Rule.TheVariants.{Z1}
 use Rattle.pdl_kit.specs.Files.{Held, Gives}
 use Rattle.pdl_semantics.specs.Tree.{Mem, Pipe}
-use Rattle.pdl_semantics.specs.Flat.{arrays_of}
-use Rattle.pdl_semantics.specs.Lines.{columns, run_lines}
-use Rattle.pdl_rules.specs.Refusal.{KeepsRules}
-use Rattle.pdl_image.specs.Images.{IsImage}
+use Rattle.pdl_semantics.specs.Flatten.{flat}
+use Rattle.pdl_semantics.specs.Lines.{columns}
+use Rattle.pdl_rules.specs.Memories.{infos_of}
+use Rattle.pdl_rules.specs.Limits.{is_too_long}
+use Rattle.pdl_rules.specs.Refusal.{KeepsRules, limits, after_limits, first_broken}
+use Rattle.pdl_rules.proofs.Unbroken.{keeps_unbroken}
+use Rattle.pdl_sources.proofs.Texts.{source_of, named_of}
+use Rattle.pdl_image.specs.Images.{IsImage, image}
 use Rattle.pdl_net.specs.declared.Netlist.{Netlist}
-use Rattle.pdl_sources.proofs.Promised.{refines, advances, paces}
-use Rattle.pdl_pipe_law.specs.Runs.{column_of, ShowsTurns}
-use Rattle.pdl_pipe_law.specs.Follows.{Follows}
-use Rattle.pdl_pipe_law.proofs.WellFormedNames.{Among}
-use Rattle.pdl_pipe.proofs.Told.{told_all}
-use Rattle.pdl_pipe.specs.Refined.{RefinesThreads}
+use Rattle.pdl_pipe_law.specs.Places.{delayed_count}
+use Rattle.pdl_pipe_law.specs.Runs.{column_of}
+use Rattle.pdl_sides.specs.Whole.{in_order}
+use Rattle.pdl_follows.specs.Memories.{taken_in_order}
+use Rattle.pdl_follows.specs.Follows.{Follows}
+use Rattle.pdl_follows.specs.Refined.{RefinesThreads}
+use Rattle.pdl_follows.specs.Promised.{IsRunOf}
+use Rattle.pdl_follows.proofs.FollowsMade.{declared}
+use Rattle.pdl_follows.proofs.Images.{same_image}
+use Rattle.pdl_follows.proofs.Sequential.{refines, runs}
 use Rattle.pdl_pipe.specs.Locks.{HasLocksOf, any_lock}
 use Rattle.pdl_vlog.specs.Layout.{verilog}
-use Rattle.pdl_commands.specs.Commands.{IsAccepted, IsLoaded, IsOutput, IsBuilt, replies}
-use Rattle.pdl_runs.specs.Printed.{run_text, schedule}
-use Rattle.pdl_commands.specs.Simulated.{IsTextOf}
-use Rattle.pdl_commands.proofs.ShortNames.{HaveShortNames, short_names}
-use Rattle.pdl_rules.specs.Memories.{infos_of}
+use Rattle.pdl_vread.specs.Reads.{Reads}
+use Rattle.pdl_waverun.specs.Dumped.{run_dump}
+use Rattle.pdl_dumped.proofs.Dumped.{says}
+use Rattle.pdl_runs.specs.Printed.{run_text, schedule, replies_from}
+use Rattle.pdl_runs.proofs.Running.{schedule_length}
+use Rattle.pdl_commands.specs.Replies.{all_answered, IsSchedule}
+use Rattle.pdl_commands.specs.Commands.{IsAccepted, IsLoaded, IsBegun, IsOutput, IsBuilt, IsDumped}
+use Rattle.pdl_commands.proofs.Told.{delayed_as_many}
 
--- ---- its memories
-
-short_one : (ms : List Mem) → HaveShortNames ms → (m : Mem) → Among m ms → length m.name.name ≤ 32
-short_one [] h m a = absurd a
-short_one (x ∷ ms) h m (inl e) = subst (λ (y : Mem). length y.name.name ≤ 32) e h.0
-short_one (x ∷ ms) h m (inr a) = short_one ms h.1 m a
-
-pub names_short : (b : List ℕ) (p : Pipe) (ms : List MemInfo) → IsAccepted b p → ms ≡ infos_of p.mems → All (λ m. length m.name ≤ 32) ms
-names_short b p ms a e = told_all (λ m. length m.name ≤ 32) p ms e (short_one p.mems (short_names b p a.text))
-
--- ---- its lines
+-- ---- lines
 
 pub told_columns : (ms : List Mem) → map column_of (infos_of ms) ≡ columns ms
 told_columns [] = refl
 told_columns (m ∷ ms) = ap (λ cs. record { name = m.name.name; width = m.width.value } ∷ cs) (told_columns ms)
 
-pub same_length : (k : ℕ) → length (replies k) ≡ length (schedule k)
-same_length zero = refl
-same_length (suc k) = ap suc (same_length k)
+-- ---- replies
 
--- a netlist that shows the turns of the machine of the pipe prints its lines
-prints : (p : Pipe) (n : Netlist) (image : List (List ℕ)) (cycles : ℕ) → IsImage n.mems image → ShowsTurns p n
-    → run_text n image (schedule cycles) ≡ run_lines p image (replies cycles)
-prints p n image cycles i h = h.lines image (schedule cycles) (replies cycles) i (same_length cycles)
+none_from : (first cycles : ℕ) → replies_from [] first cycles ≡ replicate cycles 65535
+none_from first zero = refl
+none_from first (suc k) = ap (λ l. 65535 ∷ l) (none_from (first + 1) k)
 
--- and what it prints is the output of a run of the pipe
-pub is_output : (p : Pipe) (n : Netlist) (words : List (List ℕ)) (cycles : ℕ) (text : List ℕ) → KeepsRules p → Follows p n → RefinesThreads p n → ShowsTurns p n
-    → IsImage n.mems words → text ≡ run_text n words (schedule cycles)
-    → (holds : Option Held) (source image' : List ℕ) → IsLoaded holds source image' p words → IsOutput holds source image' cycles text
-is_output p n words cycles text kept follows writes turns image printed holds source image' loaded =
-    let read = loaded.accepted.text in
-    record {
-      pipe = p;
-      words = words;
-      loaded = loaded;
-      lines = printed ∙ prints p n words cycles image turns;
-      netlist = n;
-      follows = follows;
-      writes = writes;
-      printed = printed;
-      refines = refines loaded.source_text p read kept (arrays_of words) (replies cycles);
-      moves = λ k low. advances loaded.source_text p read kept (arrays_of words) (replies k) [];
-      pace = paces loaded.source_text p read kept (arrays_of words) (replies cycles);
-    }
+-- without rows all requests are answered
+pub none_given : (cycles : ℕ) → schedule [] cycles ≡ all_answered cycles
+none_given cycles = none_from 1 cycles
+
+-- ---- the netlist of a source
 
 -- two facts of what a call gives, together
 pub both_ok : {X Y : Type 0} (r : Result X Y) (P Q R : X → Type 0) → ((x : X) → P x → Q x → R x) → IfOk r P → IfOk r Q → IfOk r R
 both_ok (Ok x) P Q R f p q = f x p q
 both_ok (Err e) P Q R f p q = tt
 
--- its text is what is built of the pipe
-pub is_built : (p : Pipe) (n : Netlist) (text : List ℕ) → KeepsRules p → Follows p n → RefinesThreads p n → ShowsTurns p n → text ≡ verilog n → IsTextOf text n
-    → HasLocksOf any_lock p n → (holds : Option Held) (source b : List ℕ) → Gives holds source b → IsAccepted b p → IsBuilt holds source text
-is_built p n text kept follows writes turns written read locks holds source b given accepted = record {
-  pipe = p;
-  source_text = b;
-  source_given = given;
-  accepted = accepted;
-  netlist = n;
-  follows = follows;
-  writes = writes;
-  locks = locks;
-  written = written;
-  read = read;
-  lines = λ words cycles image. prints p n words cycles image turns;
-  refines = λ words cycles. refines b p accepted.text kept (arrays_of words) (replies cycles);
-  moves = λ words cycles. advances b p accepted.text kept (arrays_of words) (replies cycles) [];
-  pace = λ words cycles. paces b p accepted.text kept (arrays_of words) (replies cycles);
-}
+kept_by : (t : Bool) (p : Pipe) → (if t then Some (record { rule = Z1; line = 1 }) else first_broken (limits ++ after_limits) p) ≡ None → KeepsRules p
+kept_by true p e = absurd (cc e)
+kept_by false p e = keeps_unbroken p e
+
+-- an accepted source keeps the rules
+pub keeps_rules : (b : List ℕ) (p : Pipe) → IsAccepted b p → KeepsRules p
+keeps_rules b p accepted = kept_by (is_too_long b) p accepted.kept
+
+module _ (b : List ℕ) (p : Pipe) (n : Netlist) (accepted : IsAccepted b p) (follows : Follows p n) where
+  pub writes : RefinesThreads p n
+  writes = refines p (keeps_rules b p accepted) (source_of b p accepted.text) (named_of b p accepted.text) n follows
+
+  pub promised : (start : List (List ℕ)) (schedule : List ℕ) → IsImage n.mems start → IsRunOf p n start schedule
+  promised start schedule is_image = runs p (keeps_rules b p accepted) (source_of b p accepted.text) (named_of b p accepted.text) n follows start schedule is_image
+
+  -- an image file gives the pipe's memories what it gives the netlist's
+  pub images : (file : List ℕ) → image (infos_of p.mems) file ≡ taken_in_order (flat p) (image n.mems file)
+  images file = same_image p (declared p (keeps_rules b p accepted)).distinct file ∙ ap (λ ms. taken_in_order (flat p) (image ms file)) (sym follows.mems)
+
+-- ---- what a command writes of a source that is given
+
+module _ (holds : Option Held) (source b : List ℕ) (p : Pipe) (n : Netlist) (given : Gives holds source b) (accepted : IsAccepted b p) (follows : Follows p n) where
+  -- what the netlist's run starts from is what the source's does
+  module _ (image' : List ℕ) (words : List (List ℕ)) (file : List ℕ) (file_given : Gives holds image' file) (taken : image n.mems file ≡ Ok words) where
+    pub loaded : IsLoaded holds source image' p (in_order (flat p) words)
+    loaded = record {
+      source_text = b;
+      source_given = given;
+      accepted = accepted;
+      image_text = file;
+      image_given = file_given;
+      taken = images b p n accepted follows file ∙ ap (taken_in_order (flat p)) taken;
+    }
+
+  module _ (image' : List ℕ) (delays : Option (List ℕ)) (words : List (List ℕ)) (rows : List ℕ) (begun : IsBegun holds image' delays n words rows) (cycles : ℕ) where
+    replies : IsSchedule holds delays (delayed_count (flat p)) cycles (schedule rows cycles)
+    replies = subst (λ k. IsSchedule holds delays k cycles (schedule rows cycles)) (delayed_as_many p n follows) (begun.replies cycles)
+
+    -- what the netlist prints is the output of the source
+    pub is_output : IsOutput holds source image' cycles delays (run_text n words (schedule rows cycles))
+    is_output =
+        let promise = promised b p n accepted follows words (schedule rows cycles) begun.fits in
+        record {
+          pipe = p;
+          words = in_order (flat p) words;
+          loaded = loaded image' words begun.image_text begun.image_given begun.taken;
+          schedule = schedule rows cycles;
+          replies = replies;
+          lines = promise.lines;
+          netlist = n;
+          follows = follows;
+          writes = writes b p n accepted follows;
+          start = words;
+          started = record { fits = begun.fits; ordered = refl };
+          printed = refl;
+          promised = promise;
+        }
+
+    -- and its dump is the source's
+    pub is_dumped : HasLocksOf any_lock p n → cycles ≤ 1000000 → IsDumped holds source image' cycles delays (run_dump n words (schedule rows cycles))
+    is_dumped locks few = record {
+      pipe = p;
+      words = in_order (flat p) words;
+      loaded = loaded image' words begun.image_text begun.image_given begun.taken;
+      schedule = schedule rows cycles;
+      replies = replies;
+      netlist = n;
+      follows = follows;
+      writes = writes b p n accepted follows;
+      locks = locks;
+      start = words;
+      started = record { fits = begun.fits; ordered = refl };
+      dumped = refl;
+      says = says b p n accepted.text (keeps_rules b p accepted) follows words (schedule rows cycles) begun.fits (let k = schedule_length rows 1 cycles in omega (arith, k, few));
+    }
+
+  -- its text is what is built of the source
+  pub is_built : (text : List ℕ) → HasLocksOf any_lock p n → text ≡ verilog n → Reads text n → IsBuilt holds source text
+  is_built text locks written read = record {
+    pipe = p;
+    source_text = b;
+    source_given = given;
+    accepted = accepted;
+    netlist = n;
+    follows = follows;
+    writes = writes b p n accepted follows;
+    locks = locks;
+    written = written;
+    read = read;
+    runs = promised b p n accepted follows;
+  }

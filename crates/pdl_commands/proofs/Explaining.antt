@@ -1,11 +1,16 @@
 -- What explains the outcome of a command, from what its parts say.
-use Rattle.std.proofs.Common.{◌≡◌, ℕ, ◌≤◌, List, Option, Vec, Global, Some, inl, inr, sym, subst}
+use Rattle.std.proofs.Common.{◌≡◌, ℕ, ◌≤◌, List, Option, Vec, Global, Some, inl, inr, sym, ap, ◌∙◌, subst}
 use Rattle.std.specs.Prelude.{Result, Ok, Err, IfOk, IfErr, MatchResult}
 use Rattle.pdl_kit.specs.declared.rule.Rule.{Rule}
 use Rattle.pdl_kit.specs.Counts.{HasCause}
 use Rattle.pdl_kit.specs.declared.sink.WriteFailed.{WriteFailed}
-use Rattle.pdl_kit.specs.Files.{Held}
+use Rattle.pdl_kit.specs.Files.{Held, Gives}
+use Rattle.pdl_semantics.specs.Tree.{Pipe}
+use Rattle.pdl_semantics.specs.Flatten.{flat}
 use Rattle.pdl_net.specs.declared.Netlist.{Netlist}
+use Rattle.pdl_sides.specs.Whole.{in_order}
+use Rattle.pdl_follows.specs.Memories.{taken_in_order}
+use Rattle.pdl_follows.specs.Follows.{Follows}
 use Rattle.pdl_failure.specs.declared.failure.Position.TheVariants.{Line, Insn}
 use Rattle.pdl_failure.specs.declared.failure.Failure.{Failure}
 use Rattle.pdl_failure.specs.declared.failure.Failure.TheVariants.{Usage, Refused, ReadFault, WriteFault, NoMemory}
@@ -14,10 +19,13 @@ use Rattle.pdl_trace.specs.declared.text_error.TextError.{TextError}
 use Rattle.pdl_trace.specs.declared.text_error.TextError.TheVariants as error
 use Rattle.pdl_trace.specs.Passed.{Streams, WritesText}
 use Rattle.pdl_args.specs.Line.{Command, sim}
-use Rattle.pdl_commands.specs.Commands.{IsWrongSource, IsWrongFor, Writes, SourceFails, ImageFails, NetlistFails, Fails}
+use Rattle.pdl_commands.specs.Replies.{DelaysRefused}
+use Rattle.pdl_commands.specs.Commands.{IsAccepted, IsWrongSource, IsWrongRun, IsWrongFor, Writes, SourceFails, StartFails, NetlistFails, Fails}
 use Rattle.pdl_commands.specs.Simulated.{HoldsNetlist}
 use Rattle.pdl_commands.specs.Outcomes.{Seen, seen_of, FailsAs, Explains, Streamed}
 use Rattle.pdl_commands.proofs.Preparing.{rose_before}
+use Rattle.pdl_commands.proofs.Told.{delayed_as_many}
+use Rattle.pdl_commands.proofs.Accepting.{images, loaded}
 
 -- ---- texts that are written while they are made
 
@@ -68,22 +76,59 @@ source_fails holds before now source command wrong WriteFault w = w
 source_fails holds before now source command wrong NoMemory w = w
 
 -- the netlist fails
-pub netlist_fails : (holds : Option Held) (before now : ℕ) (v image' : List ℕ) (cycles : ℕ) (f : Failure) → NetlistFails holds before now v f → Fails holds before now (sim v image' cycles) f
-netlist_fails holds before now v image' cycles Usage w = w
-netlist_fails holds before now v image' cycles (Refused rule (Line n)) w = inl w
-netlist_fails holds before now v image' cycles (Refused rule (Insn n)) w = absurd w
-netlist_fails holds before now v image' cycles ReadFault w = w
-netlist_fails holds before now v image' cycles WriteFault w = w
-netlist_fails holds before now v image' cycles NoMemory w = w
+pub netlist_fails : (holds : Option Held) (before now : ℕ) (v image' : List ℕ) (cycles : ℕ) (delays : Option (List ℕ)) (f : Failure) → NetlistFails holds before now v f → Fails holds before now (sim v image' cycles delays) f
+netlist_fails holds before now v image' cycles delays Usage w = w
+netlist_fails holds before now v image' cycles delays (Refused rule (Line n)) w = inl w
+netlist_fails holds before now v image' cycles delays (Refused rule (Insn n)) w = absurd w
+netlist_fails holds before now v image' cycles delays ReadFault w = w
+netlist_fails holds before now v image' cycles delays WriteFault w = w
+netlist_fails holds before now v image' cycles delays NoMemory w = w
 
--- its image fails
-pub start_fails : (holds : Option Held) (before now : ℕ) (v image' : List ℕ) (cycles : ℕ) (n : Netlist) → HoldsNetlist holds v n → (f : Failure) → ImageFails holds before now image' n.mems f → Fails holds before now (sim v image' cycles) f
-start_fails holds before now v image' cycles n held Usage w = w
-start_fails holds before now v image' cycles n held (Refused rule (Line k)) w = inr (record { netlist = n; held = held; image_text = w.0; image_given = w.1; refused = w.2 })
-start_fails holds before now v image' cycles n held (Refused rule (Insn k)) w = absurd w
-start_fails holds before now v image' cycles n held ReadFault w = w
-start_fails holds before now v image' cycles n held WriteFault w = w
-start_fails holds before now v image' cycles n held NoMemory w = w
+-- its image fails, or its delay file does
+pub start_fails : (holds : Option Held) (before now : ℕ) (v image' : List ℕ) (cycles : ℕ) (delays : Option (List ℕ)) (n : Netlist) → HoldsNetlist holds v n → (f : Failure) → StartFails holds before now image' delays n f → Fails holds before now (sim v image' cycles delays) f
+start_fails holds before now v image' cycles delays n held Usage (inl w) = w
+start_fails holds before now v image' cycles delays n held Usage (inr w) = w.4
+start_fails holds before now v image' cycles delays n held (Refused rule (Line k)) (inl w) = inr (inl (record { netlist = n; held = held; image_text = w.0; image_given = w.1; refused = w.2 }))
+start_fails holds before now v image' cycles delays n held (Refused rule (Line k)) (inr w) =
+    inr (inr (record { netlist = n; words = w.1; started = record { held = held; image_text = w.0; image_given = w.2; taken = w.3 }; refused = w.4 }))
+start_fails holds before now v image' cycles delays n held (Refused rule (Insn k)) (inl w) = absurd w
+start_fails holds before now v image' cycles delays n held (Refused rule (Insn k)) (inr w) = absurd w.4
+start_fails holds before now v image' cycles delays n held ReadFault (inl w) = w
+start_fails holds before now v image' cycles delays n held ReadFault (inr w) = w.4
+start_fails holds before now v image' cycles delays n held WriteFault (inl w) = w
+start_fails holds before now v image' cycles delays n held WriteFault (inr w) = w.4
+start_fails holds before now v image' cycles delays n held NoMemory w = tt
+
+-- of a netlist that follows a source
+module _ (holds : Option Held) (before now : ℕ) (source b image' : List ℕ) (delays : Option (List ℕ)) (p : Pipe) (n : Netlist) (given : Gives holds source b) (accepted : IsAccepted b p) (follows : Follows p n)
+    (command : Command) (wrong : (rule : Rule) (line : ℕ) → IsWrongRun holds source image' delays rule line → IsWrongFor holds command rule (Line line)) where
+  pub source_start_fails : (f : Failure) → StartFails holds before now image' delays n f → Fails holds before now command f
+  source_start_fails Usage (inl w) = w
+  source_start_fails Usage (inr w) = w.4
+  source_start_fails (Refused rule (Line k)) (inl w) =
+      wrong rule k (inl (inr (record {
+        source_text = b;
+        source_given = given;
+        pipe = p;
+        accepted = accepted;
+        image_text = w.0;
+        image_given = w.1;
+        refused = images b p n accepted follows w.0 ∙ ap (taken_in_order (flat p)) w.2;
+      })))
+  source_start_fails (Refused rule (Line k)) (inr w) =
+      wrong rule k (inr (record {
+        pipe = p;
+        words = in_order (flat p) w.1;
+        loaded = loaded holds source b p n given accepted follows image' w.1 w.0 w.2 w.3;
+        refused = subst (λ c. DelaysRefused holds delays c rule k) (delayed_as_many p n follows) w.4;
+      }))
+  source_start_fails (Refused rule (Insn k)) (inl w) = absurd w
+  source_start_fails (Refused rule (Insn k)) (inr w) = absurd w.4
+  source_start_fails ReadFault (inl w) = w
+  source_start_fails ReadFault (inr w) = w.4
+  source_start_fails WriteFault (inl w) = w
+  source_start_fails WriteFault (inr w) = w.4
+  source_start_fails NoMemory w = tt
 
 -- ---- what is seen from a later moment on
 

@@ -1,3 +1,4 @@
+pub mod Told
 pub mod Accepting
 pub mod ShortNames
 pub mod Simulating

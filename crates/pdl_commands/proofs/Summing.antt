@@ -1,29 +1,37 @@
 -- The summary of a run from given words.
-use Rattle.std.proofs.Common.{◌≡◌, ◌∙◌, ap, sym, arith, ℕ, zero, suc, ◌+◌, ◌%◌, ◌^◌, ◌<◌, List, [], ◌∷◌, ◌++◌, map, length, slice_index, slice_index_or}
+use Rattle.std.proofs.Common.{◌≡◌, ◌∙◌, ap, sym, refl, subst, arith, ℕ, zero, suc, ◌+◌, ◌%◌, ◌^◌, ◌<◌, List, [], ◌∷◌, ◌++◌, map, length, slice_index, slice_index_or}
 use Rattle.std.specs.List.{range_with_len}
 use Rattle.std.proofs.Math.Nat.{mod-lt}
 use Rattle.std.proofs.lemmas.Nat.{pow_pos}
-use Rattle.std.proofs.lemmas.List.{length-map}
+use Rattle.std.proofs.lemmas.List.{length-map, length-replicate}
 use Rattle.std.proofs.lemmas.List.FromFn.{length-range_with_len, map-range_with_len_more}
 use Rattle.pdl_kit.specs.declared.mem_info.MemInfo.{MemInfo}
 use Rattle.pdl_semantics.specs.Tree.{Pipe}
 use Rattle.pdl_semantics.specs.Flat.{arrays_of}
-use Rattle.pdl_rules.specs.Refusal.{KeepsRules}
+use Rattle.pdl_semantics.specs.Flatten.{flat}
+use Rattle.pdl_semantics.specs.Cycle
+use Rattle.pdl_semantics.specs.Lines.{turn_cycles}
+use Rattle.pdl_rules.specs.Memories.{infos_of}
 use Rattle.pdl_image.specs.Images.{IsImage}
 use Rattle.pdl_sources.proofs.Promised.{paces}
+use Rattle.pdl_sources.proofs.Texts.{source_of, named_of}
 use Rattle.pdl_net.specs.declared.Netlist.{Netlist}
 use Rattle.pdl_net.specs.Run.{start as begin, nports}
-use Rattle.pdl_pipe_law.specs.Runs.{cycle_of, commit_mems, ShowsTurns}
-use Rattle.pdl_pipe_law.specs.Follows.{Follows}
-use Rattle.pdl_pipe_law.proofs.Lines.{same_end}
+use Rattle.pdl_pipe_law.specs.Runs.{cycle_of, commit_mems}
+use Rattle.pdl_pipe_law.proofs.LinesEnds.{same_end}
+use Rattle.pdl_sides.specs.Whole.{in_order}
+use Rattle.pdl_follows.specs.Memories.{replies_in}
+use Rattle.pdl_follows.specs.Follows.{Follows}
+use Rattle.pdl_follows.proofs.Images.{told_in_order}
+use Rattle.pdl_follows.proofs.Lines.{shows_turns}
 use Rattle.pdl_runs.specs.declared.print.Counts.{Counts}
-use Rattle.pdl_commands.specs.Commands.{IsAccepted, IsSummary, replies}
 use Rattle.pdl_runs.specs.Printed.{schedule}
 use Rattle.pdl_runs.specs.Tally.{counts_of}
-use Rattle.pdl_commands.specs.Summaries.{words_in, image_of, line_of, end_of}
-use Rattle.pdl_commands.proofs.Accepting.{same_length}
 use Rattle.pdl_runs.proofs.Running.{left_length}
-use Rattle.pdl_rules.specs.Memories.{infos_of}
+use Rattle.pdl_commands.specs.Replies.{all_answered}
+use Rattle.pdl_commands.specs.Commands.{IsAccepted, IsSummary}
+use Rattle.pdl_commands.specs.Summaries.{words_in, image_of, line_of, end_of}
+use Rattle.pdl_commands.proofs.Accepting.{none_given, keeps_rules}
 
 -- ---- its image
 
@@ -57,25 +65,36 @@ is_image ws ms = record { count = length-map ms (words_in ws); depth = depths ws
 
 -- ---- its line
 
--- the counts of a netlist that shows the turns of the machine of the pipe
+-- the counts of a netlist that follows the pipe of a source
 pub is_summary : (p : Pipe) (n : Netlist) (words : List ℕ) (start : List (List ℕ)) (cycles : ℕ) (counts : Counts) (line : List ℕ)
-    → KeepsRules p → Follows p n → ShowsTurns p n → IsImage n.mems start → start ≡ image_of words (infos_of p.mems)
-    → counts ≡ counts_of (map (cycle_of n) (nports n start (schedule cycles))) → line ≡ line_of cycles counts
+    → Follows p n → start ≡ image_of words n.mems
+    → counts ≡ counts_of (map (cycle_of n) (nports n start (schedule [] cycles))) → line ≡ line_of cycles counts
     → (source : List ℕ) → IsAccepted source p → IsSummary source words cycles line
-is_summary p n words start cycles counts line kept follows turns image filled e said source accepted =
-    let cs = map (cycle_of n) (nports n start (schedule cycles)) in
-    let shown : line ≡ end_of cs = said ∙ ap (line_of cycles) e ∙ ap (λ k. line_of k (counts_of cs)) (sym (left_length n (begin n start) cycles)) in
+is_summary p n words start cycles counts line follows filled e said source accepted =
+    let all = all_answered cycles in
+    let kept = keeps_rules source p accepted in
+    let cs = map (cycle_of n) (nports n start all) in
+    let many : length cs ≡ cycles = left_length n (begin n start) all ∙ length-replicate cycles 65535 in
+    let shown : line ≡ end_of cs =
+    said ∙ ap (line_of cycles) (e ∙ ap (λ bits. counts_of (map (cycle_of n) (nports n start bits))) (none_given cycles)) ∙ ap (λ k. line_of k (counts_of cs)) (sym many) in
+    let is_image : IsImage n.mems start = subst (IsImage n.mems) (sym filled) (is_image words n.mems) in
+    let ordered : image_of words (infos_of p.mems) ≡ in_order (flat p) start =
+    sym (told_in_order (flat p) p.mems refl (words_in words)) ∙ ap (λ ms. in_order (flat p) (image_of words ms)) (sym follows.mems) ∙ ap (in_order (flat p)) (sym filled) in
+    let turns = shows_turns p kept (source_of source p accepted.text) (named_of source p accepted.text) n follows in
     record {
       pipe = p;
       accepted = accepted;
-      start = start;
-      filled = filled;
+      filled = image_of words (infos_of p.mems);
+      same = refl;
       counted =
           shown
-          ∙ same_end n (commit_mems n) (infos_of p.mems) (nports n start (schedule cycles))
-          ∙ ap end_of (turns.cycles start (schedule cycles) (replies cycles) image (same_length cycles));
+          ∙ same_end n (commit_mems n) (infos_of p.mems) (nports n start all)
+          ∙ ap end_of (turns.cycles start all is_image)
+          ∙ ap (λ image. end_of (turn_cycles (Cycle.turns (flat p) (arrays_of image) (replies_in (flat p) all)))) (sym ordered);
       netlist = n;
       follows = follows;
+      start = start;
+      started = record { fits = is_image; ordered = ordered };
       shown = shown;
-      pace = paces source p accepted.text kept (arrays_of start) (replies cycles);
+      pace = paces source p accepted.text kept (arrays_of (image_of words (infos_of p.mems))) (replies_in (flat p) all);
     }

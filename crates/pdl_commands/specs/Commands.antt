@@ -1,5 +1,5 @@
 -- What the commands do with the files that they name.
-use Rattle.std.specs.Prelude.{◌≡◌, ℕ, ◌<◌, ◌⊎◌, ◌++◌, Bool, List, [], map, replicate, Option, Some, None, Ok, Err}
+use Rattle.std.specs.Prelude.{◌≡◌, ℕ, ◌⊎◌, ◌++◌, List, length, map, Option, Some, None, Ok, Err}
 use Rattle.pdl_kit.specs.declared.rule.Rule.{Rule}
 use Rattle.pdl_kit.specs.declared.rule.Rule.TheVariants.{G1}
 use Rattle.pdl_kit.specs.Files.{Held, Gives}
@@ -10,22 +10,27 @@ use Rattle.pdl_semantics.specs.Flat.{arrays_of}
 use Rattle.pdl_semantics.specs.Flatten.{flat}
 use Rattle.pdl_semantics.specs.Cycle.{turns}
 use Rattle.pdl_semantics.specs.Lines.{accepted_line, run_lines, seq_lines, turn_cycles}
-use Rattle.pdl_semantics.specs.Promises.{Refines, Advances, KeepsPace}
+use Rattle.pdl_semantics.specs.Promises.{KeepsPace}
 use Rattle.pdl_grammar.specs.Text.{IsText, IsOutOfPlace}
 use Rattle.pdl_rules.specs.Refusal.{refusal}
 use Rattle.pdl_check.specs.Gate.{gated_line}
 use Rattle.pdl_check.specs.Answers.{source_refusal}
 use Rattle.pdl_net.specs.declared.Netlist.{Netlist}
-use Rattle.pdl_net.specs.Run.{nports}
+use Rattle.pdl_net.specs.Run.{delayed_mems, nports}
 use Rattle.pdl_wave.specs.Wave.{IsWaveOf}
 use Rattle.pdl_waverun.specs.Dumped.{wave_ports, rows_of, run_dump}
-use Rattle.pdl_pipe_law.specs.Follows.{Follows}
+use Rattle.pdl_pipe_law.specs.Places.{delayed_count}
 use Rattle.pdl_pipe_law.specs.Runs.{cycle_of}
-use Rattle.pdl_pipe.specs.Refined.{RefinesThreads}
+use Rattle.pdl_sides.specs.Whole.{in_order}
+use Rattle.pdl_follows.specs.Memories.{replies_in}
+use Rattle.pdl_follows.specs.Follows.{Follows}
+use Rattle.pdl_follows.specs.Refined.{RefinesThreads}
+use Rattle.pdl_follows.specs.Promised.{IsRunOf}
 use Rattle.pdl_pipe.specs.Locks.{HasLocksOf, any_lock}
 use Rattle.pdl_image.specs.Images.{IsImage, image}
 use Rattle.pdl_image.specs.declared.file_error.FileError.TheVariants as file
 use Rattle.pdl_vlog.specs.Layout.{verilog}
+use Rattle.pdl_vread.specs.Reads.{Reads, Breaks}
 use Rattle.pdl_gen.specs.Generated as generated
 use Rattle.pdl_args.specs.Line.{Command, check, run, seq, asm, gen, build, sim, wave}
 use Rattle.pdl_failure.specs.declared.failure.Position.{Position}
@@ -33,9 +38,10 @@ use Rattle.pdl_failure.specs.declared.failure.Position.TheVariants.{Line, Insn}
 use Rattle.pdl_failure.specs.declared.failure.Failure.{Failure}
 use Rattle.pdl_failure.specs.declared.failure.Failure.TheVariants as failure
 use Rattle.pdl_commands.specs.Assembled.{IsWrongTable, IsWrongText, IsAssembled}
-use Rattle.pdl_runs.specs.Printed.{run_text, schedule}
+use Rattle.pdl_runs.specs.Printed.{run_text, schedule as scheduled}
 use Rattle.pdl_commands.specs.Summaries.{image_of, end_of}
-use Rattle.pdl_commands.specs.Simulated.{IsTextOf, NetlistRefused, IsWrongNetlist, IsWrongSim, IsSimulated}
+use Rattle.pdl_commands.specs.Replies.{all_answered, IsSchedule, DelaysRefused}
+use Rattle.pdl_commands.specs.Simulated.{IsWrongNetlist, IsWrongSim, IsSimulated}
 use Rattle.pdl_rules.specs.Memories.{infos_of}
 
 -- ONE FILE
@@ -85,10 +91,35 @@ ImageFails holds before now name mems failure.ReadFault = Rose before now
 ImageFails holds before now name mems failure.WriteFault = ⊥
 ImageFails holds before now name mems failure.NoMemory = Unit {0}
 
+-- why a delay file for so many delayed memories is not there
+abbrev pub DelaysFails : Option Held → ℕ → ℕ → Option (List ℕ) → ℕ → Failure → Type 0
+DelaysFails holds before now delays count failure.Usage = ⊥
+DelaysFails holds before now delays count (failure.Refused rule position) =
+    AtLine (DelaysRefused holds delays count rule) position
+DelaysFails holds before now delays count failure.ReadFault = Rose before now
+DelaysFails holds before now delays count failure.WriteFault = ⊥
+DelaysFails holds before now delays count failure.NoMemory = Unit {0}
+
+-- an image file gives a netlist's memories these words, and its delayed memories have the replies of these rows
+pub record IsBegun (holds : Option Held) (image' : List ℕ) (delays : Option (List ℕ)) (n : Netlist)
+    (words : List (List ℕ)) (rows : List ℕ) : Type 0 where
+  pub image_text : List ℕ
+  pub image_given : Gives holds image' image_text
+  pub taken : image n.mems image_text ≡ Ok words
+  pub fits : IsImage n.mems words
+  pub replies : (cycles : ℕ) → IsSchedule holds delays (length (delayed_mems n)) cycles (scheduled rows cycles)
+
+-- why these are not there: the image isn't, or it is taken, and the delay file isn't
+abbrev pub StartFails : Option Held → ℕ → ℕ → List ℕ → Option (List ℕ) → Netlist → Failure → Type 0
+StartFails holds before now image' delays n f =
+    ImageFails holds before now image' n.mems f
+    ⊎ ((text : List ℕ) × (words : List (List ℕ)) × Gives holds image' text × (image n.mems text ≡ Ok words)
+    × DelaysFails holds before now delays (length (delayed_mems n)) f)
+
 -- why a text gives no netlist to run
 abbrev pub NetlistTextFails : List ℕ → Failure → Type 0
 NetlistTextFails text failure.Usage = ⊥
-NetlistTextFails text (failure.Refused rule position) = AtLine (NetlistRefused text rule) position
+NetlistTextFails text (failure.Refused rule position) = AtLine (Breaks text rule) position
 NetlistTextFails text failure.ReadFault = ⊥
 NetlistTextFails text failure.WriteFault = ⊥
 NetlistTextFails text failure.NoMemory = Unit {0}
@@ -137,11 +168,25 @@ abbrev pub IsWrong : Option Held → List ℕ → List ℕ → Rule → ℕ → 
 IsWrong holds source image' rule line =
     IsWrongSource holds source rule line ⊎ IsWrongImage holds source image' rule line
 
+-- source and image are taken, and the delay file for the delayed memories of the source is wrong
+pub record IsWrongDelays (holds : Option Held) (source image' : List ℕ) (delays : Option (List ℕ)) (rule : Rule) (line : ℕ)
+    : Type 0 where
+  pub pipe : Pipe
+  pub words : List (List ℕ)
+  pub loaded : IsLoaded holds source image' pipe words
+  pub refused : DelaysRefused holds delays (delayed_count (flat pipe)) rule line
+
+-- of source, image and delay file the first wrong one is refused by the rule at the line
+abbrev pub IsWrongRun : Option Held → List ℕ → List ℕ → Option (List ℕ) → Rule → ℕ → Type 0
+IsWrongRun holds source image' delays rule line =
+    IsWrong holds source image' rule line ⊎ IsWrongDelays holds source image' delays rule line
+
 -- WHAT A COMMAND DOES
 
--- the replies of some cycles: the pipe has no delayed memory, so each cycle has no reply bit
-abbrev pub replies : ℕ → List (List Bool)
-replies cycles = replicate cycles []
+-- these words of each memory of a netlist are those of the pipe's memories, which the pipe declares in another order
+pub record AreWordsOf (p : Pipe) (n : Netlist) (words : List (List ℕ)) (start : List (List ℕ)) : Type 0 where
+  pub fits : IsImage n.mems start
+  pub ordered : words ≡ in_order (flat p) start
 
 -- the text that `check` writes where all is well: how many stages the pipe of the source has, and the greatest number of them on a path
 pub record IsVerdict (holds : Option Held) (source : List ℕ) (text : List ℕ) : Type 0 where
@@ -152,25 +197,25 @@ pub record IsVerdict (holds : Option Held) (source : List ℕ) (text : List ℕ)
   pub line : text ≡ accepted_line pipe
 
 -- the text that `run` writes where all is well: the lines of the machine of the pipe, which a netlist shows
-pub record IsOutput (holds : Option Held) (source image' : List ℕ) (cycles : ℕ) (text : List ℕ)
+pub record IsOutput (holds : Option Held) (source image' : List ℕ) (cycles : ℕ) (delays : Option (List ℕ)) (text : List ℕ)
     : Type 0 where
   pub pipe : Pipe
   pub words : List (List ℕ)
   pub loaded : IsLoaded holds source image' pipe words
+  pub schedule : List ℕ
+  pub replies : IsSchedule holds delays (delayed_count (flat pipe)) cycles schedule
   -- the text has the lines of the machine's ports
-  pub lines : text ≡ run_lines pipe words (replies cycles)
+  pub lines : text ≡ run_lines pipe words (replies_in (flat pipe) schedule)
   -- and is what a netlist commits that follows the pipe: its ports by name, its memories and arrays, and each port in each cycle the machine's, for each image and schedule
   pub netlist : Netlist
   pub follows : Follows pipe netlist
   -- what the netlist writes to each memory are the writes of the threads run one after another, for each image and schedule
   pub writes : RefinesThreads pipe netlist
-  pub printed : text ≡ run_text netlist words (schedule cycles)
-  -- each memory's commits have the sequential writes of the threads that ended, and are a prefix of the sequential writes
-  pub refines : Refines (flat pipe) (arrays_of words) (replies cycles)
-  -- in each cycle that is no wait the oldest thread moves
-  pub moves : (n : ℕ) → n < cycles → Advances (flat pipe) (arrays_of words) (replies n) []
-  -- and so enough threads end
-  pub pace : KeepsPace (flat pipe) (arrays_of words) (replies cycles)
+  pub start : List (List ℕ)
+  pub started : AreWordsOf pipe netlist words start
+  pub printed : text ≡ run_text netlist start schedule
+  -- each memory's commits have the sequential writes of the threads that ended, and are a prefix of the sequential writes; in each cycle that is no wait the oldest thread moves; and so enough threads end
+  pub promised : IsRunOf pipe netlist start schedule
 
 -- the text that `build` writes where all is well: a netlist that follows the pipe, as text that reads as it
 pub record IsBuilt (holds : Option Held) (source : List ℕ) (text : List ℕ) : Type 0 where
@@ -187,17 +232,9 @@ pub record IsBuilt (holds : Option Held) (source : List ℕ) (text : List ℕ) :
   pub locks : HasLocksOf any_lock pipe netlist
   -- the text is that of the netlist, byte for byte, and reads as it
   pub written : text ≡ verilog netlist
-  pub read : IsTextOf text netlist
-  -- what is printed of the netlist are the lines of the machine, from each image for so many cycles
-  pub lines : (words : List (List ℕ)) (cycles : ℕ) → IsImage netlist.mems words
-      → run_text netlist words (schedule cycles) ≡ run_lines pipe words (replies cycles)
-  -- and of each such run holds what is promised of `run`
-  pub refines : (words : List (List ℕ)) (cycles : ℕ)
-      → Refines (flat pipe) (arrays_of words) (replies cycles)
-  pub moves : (words : List (List ℕ)) (cycles : ℕ)
-      → Advances (flat pipe) (arrays_of words) (replies cycles) []
-  pub pace : (words : List (List ℕ)) (cycles : ℕ)
-      → KeepsPace (flat pipe) (arrays_of words) (replies cycles)
+  pub read : Reads text netlist
+  -- from each image with each schedule what is printed of the netlist are the lines of the machine, and all holds that is promised of `run`
+  pub runs : (start : List (List ℕ)) (schedule : List ℕ) → IsImage netlist.mems start → IsRunOf pipe netlist start schedule
 
 -- the text that `seq` writes where all is well: the writes of the threads, run one after another from the image, and how many they are
 pub record IsSequential (holds : Option Held) (source image' : List ℕ) (threads : ℕ) (text : List ℕ)
@@ -208,36 +245,41 @@ pub record IsSequential (holds : Option Held) (source image' : List ℕ) (thread
   pub lines : text ≡ seq_lines pipe words threads
 
 -- the text that `wave` writes where all is well: the dump of the output ports of a netlist of the pipe, and what it says
-pub record IsDumped (holds : Option Held) (source image' : List ℕ) (cycles : ℕ) (text : List ℕ)
+pub record IsDumped (holds : Option Held) (source image' : List ℕ) (cycles : ℕ) (delays : Option (List ℕ)) (text : List ℕ)
     : Type 0 where
   pub pipe : Pipe
   pub words : List (List ℕ)
   pub loaded : IsLoaded holds source image' pipe words
+  pub schedule : List ℕ
+  pub replies : IsSchedule holds delays (delayed_count (flat pipe)) cycles schedule
   -- the netlist has the ports, memories and arrays of the pipe, and each port in each cycle the machine's value, for each image and schedule
   pub netlist : Netlist
   pub follows : Follows pipe netlist
   -- it writes what the threads write that run one after another, and has the locks that the pipe asks for
   pub writes : RefinesThreads pipe netlist
   pub locks : HasLocksOf any_lock pipe netlist
+  pub start : List (List ℕ)
+  pub started : AreWordsOf pipe netlist words start
   -- the text is the dump of the netlist's run, byte for byte
-  pub dumped : text ≡ run_dump netlist words (schedule cycles)
+  pub dumped : text ≡ run_dump netlist start schedule
   -- and says the netlist's name, its output ports with their widths, the number of cycles, and in each of them the value that each port shows
-  pub says : IsWaveOf text netlist.name (wave_ports netlist)
-      (rows_of (nports netlist words (schedule cycles)))
+  pub says : IsWaveOf text netlist.name (wave_ports netlist) (rows_of (nports netlist start schedule))
 
--- the end line of a run of a source's pipe, of so many cycles from these words in each memory
+-- the end line of a run of a source's pipe, of so many cycles from these words in each memory, with all requests answered
 pub record IsSummary (source words : List ℕ) (cycles : ℕ) (line : List ℕ) : Type 0 where
   pub pipe : Pipe
   pub accepted : IsAccepted source pipe
-  pub start : List (List ℕ)
-  pub filled : start ≡ image_of words (infos_of pipe.mems)
-  pub counted : line ≡ end_of (turn_cycles (turns (flat pipe) (arrays_of start) (replies cycles)))
+  pub filled : List (List ℕ)
+  pub same : filled ≡ image_of words (infos_of pipe.mems)
+  pub counted : line ≡ end_of (turn_cycles (turns (flat pipe) (arrays_of filled) (replies_in (flat pipe) (all_answered cycles))))
   -- the counts are those of a netlist that follows the pipe
   pub netlist : Netlist
   pub follows : Follows pipe netlist
-  pub shown : line ≡ end_of (map (cycle_of netlist) (nports netlist start (schedule cycles)))
+  pub start : List (List ℕ)
+  pub started : AreWordsOf pipe netlist filled start
+  pub shown : line ≡ end_of (map (cycle_of netlist) (nports netlist start (all_answered cycles)))
   -- and enough threads end
-  pub pace : KeepsPace (flat pipe) (arrays_of start) (replies cycles)
+  pub pace : KeepsPace (flat pipe) (arrays_of filled) (replies_in (flat pipe) (all_answered cycles))
 
 -- the text that `gen` writes where all is well: the first line of the generated run, and its end line
 pub record IsGenerated (number : ℕ) (text : List ℕ) : Type 0 where
@@ -248,19 +290,19 @@ pub record IsGenerated (number : ℕ) (text : List ℕ) : Type 0 where
 -- the text that a command writes where all is well
 abbrev pub Writes : Option Held → Command → List ℕ → Type 0
 Writes holds (check source) text = IsVerdict holds source text
-Writes holds (run source image' cycles) text = IsOutput holds source image' cycles text
+Writes holds (run source image' cycles delays) text = IsOutput holds source image' cycles delays text
 Writes holds (seq source image' threads) text = IsSequential holds source image' threads text
 Writes holds (asm table program) text = IsAssembled holds table program text
 Writes holds (gen number) text = IsGenerated number text
 Writes holds (build source) text = IsBuilt holds source text
-Writes holds (sim v image' cycles) text = IsSimulated holds v image' cycles text
-Writes holds (wave source image' cycles) text = IsDumped holds source image' cycles text
+Writes holds (sim v image' cycles delays) text = IsSimulated holds v image' cycles delays text
+Writes holds (wave source image' cycles delays) text = IsDumped holds source image' cycles delays text
 
 -- of the files that a command names, in order, the first wrong one is refused by the rule at the position; `gen` names none, and its source is asked
 abbrev pub IsWrongFor : Option Held → Command → Rule → Position → Type 0
 IsWrongFor holds (check source) rule position = AtLine (IsWrongSource holds source rule) position
-IsWrongFor holds (run source image' cycles) rule position =
-    AtLine (IsWrong holds source image' rule) position
+IsWrongFor holds (run source image' cycles delays) rule position =
+    AtLine (IsWrongRun holds source image' delays rule) position
 IsWrongFor holds (seq source image' threads) rule position =
     AtLine (IsWrong holds source image' rule) position
 IsWrongFor holds (asm table program) rule position =
@@ -269,10 +311,10 @@ IsWrongFor holds (asm table program) rule position =
 IsWrongFor holds (gen number) rule position =
     AtLine (SourceRefused (generated.source number) rule) position
 IsWrongFor holds (build source) rule position = AtLine (IsWrongSource holds source rule) position
-IsWrongFor holds (sim v image' cycles) rule position =
-    AtLine (IsWrongSim holds v image' rule) position
-IsWrongFor holds (wave source image' cycles) rule position =
-    AtLine (IsWrong holds source image' rule) position
+IsWrongFor holds (sim v image' cycles delays) rule position =
+    AtLine (IsWrongSim holds v image' delays rule) position
+IsWrongFor holds (wave source image' cycles delays) rule position =
+    AtLine (IsWrongRun holds source image' delays rule) position
 
 -- why a netlist is not there
 abbrev pub NetlistFails : Option Held → ℕ → ℕ → List ℕ → Failure → Type 0

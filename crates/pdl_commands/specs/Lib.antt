@@ -1,5 +1,6 @@
 pub mod Summaries
 pub mod Assembled
+pub mod Replies
 pub mod Simulated
 pub mod Commands
 pub mod Outcomes

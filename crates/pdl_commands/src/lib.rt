@@ -5,9 +5,11 @@ mod assembly;
 mod built;
 mod dumped;
 mod generated;
+mod netrun;
 mod run;
 mod sequential;
 mod simulated;
+mod start;
 mod summary;
 
 pub use assembly::assembly_text;

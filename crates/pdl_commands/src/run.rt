@@ -1,24 +1,26 @@
 // What the commands `check`, `run` and `seq` do.
 ghost use Rattle.std.specs.Prelude.{◌≡◌, ◌≤◌, IsTrue, IfOk, IfErr, ℕ, List, Option, Some, length};
-ghost use Rattle.pdl_kit.specs.Files.{Held, Gives};
+ghost use Rattle.pdl_kit.specs.Files.{Gives};
 ghost use Rattle.pdl_tree.specs.View.{pipe_view};
 ghost use Rattle.pdl_semantics.specs.Lines.{accepted_line as accepted_text};
 ghost use Rattle.pdl_image.specs.Images.{IsImage, IsRefusal, image as image_words};
 ghost use Rattle.pdl_args.specs.Line as command;
-ghost use Rattle.pdl_commands.specs.Commands.{IsAccepted, SourceFails, ImageFails, IsTaken, IsLoaded, IsVerdict, IsOutput, Fails};
-ghost use Rattle.pdl_commands.specs.Outcomes.{seen_of, Explains, Streamed};
+ghost use Rattle.pdl_args.specs.View.{text_of};
+ghost use Rattle.pdl_commands.specs.Replies.{AllowsFile};
+ghost use Rattle.pdl_commands.specs.Commands.{IsAccepted, SourceFails, ImageFails, IsTaken, IsVerdict, Fails};
+ghost use Rattle.pdl_commands.specs.Outcomes.{seen_of, Explains};
 ghost use Rattle.pdl_rules.specs.Memories.{infos_of};
 
+use crate::netrun::run_netlist;
 use crate::sequential::sequential;
 use pdl_check::Accepted;
 use pdl_check::check::check;
-use pdl_failure::{Failure, in_memory, in_text};
+use pdl_failure::{Failure, in_memory};
 use pdl_image::{FileError, Image, read_image};
 use pdl_kit::NoMemory;
 use pdl_kit::files::{Files, LONGEST_FILE};
 use pdl_kit::sink::Sink;
 use pdl_pipe::compile;
-use pdl_runs::run;
 use pdl_trace::accepted_line;
 use std::alloc::Global;
 use std::mem::drop;
@@ -73,29 +75,6 @@ pub fn image_of(alloc: Global, accepted: &Accepted, text: &[u8]) -> Result<Image
     read_image(alloc, accepted.mems(), text)
 }
 
-// Writes the text of a run of an accepted pipe while it runs: the output for whatever files give the pipe and the image.
-fn print_run<O: Sink>(
-    alloc: Global,
-    accepted: &Accepted,
-    image: &Image,
-    cycles: u32,
-    out: &mut O,
-) -> Result<(), Failure>
-    requires accepted { (b : List ℕ) × IsAccepted b (pipe_view accepted.now.typed.pipe) }
-    requires image { IsImage (infos_of (pipe_view accepted.now.typed.pipe).mems) image.now }
-    requires few { cycles ≤ 1000000 }
-    ensures text { (holds : Option Held) (source image' : List ℕ)
-        → IsLoaded holds source image' (pipe_view accepted.now.typed.pipe) image.now
-        → Streamed (IsOutput holds source image' cycles) (O.written out.old) (O.written out.new)
-        (O.faults out.old) (O.faults out.new) result }
-    ensures written { O.faults out.old ≤ O.faults out.new }
-{
-    match compile(alloc, accepted) {
-        Ok(netlist) => in_text(run(alloc, &netlist, image, cycles, out)),
-        Err(_) => Err(Failure::NoMemory),
-    }
-}
-
 // What is said of an accepted pipe.
 fn verdict_of(alloc: Global, accepted: &Accepted) -> Result<Vec<u8>, NoMemory>
     ensures { IfOk result (λ t. t.items ≡ accepted_text (pipe_view accepted.now.typed.pipe)) }
@@ -122,21 +101,23 @@ pub fn verdict<F: Files>(alloc: Global, files: &mut F, source: &str) -> Result<V
     text
 }
 
-// Runs an accepted pipe from the image with this name, and writes what it prints: as the command does for whatever source gives the pipe.
+// Runs the netlist of an accepted pipe from the image with this name, with the replies of the delay file, if one is named: as the command does for whatever source gives the pipe.
 fn run_accepted<F: Files, O: Sink>(
     alloc: Global,
     files: &mut F,
     accepted: &Accepted,
     image: &str,
     cycles: u32,
+    delays: Option<&str>,
     out: &mut O,
 ) -> Result<(), Failure>
     requires image { IsTrue (F.may files.old image.now) }
+    requires delays { AllowsFile (F.may files.old) (text_of delays) }
     requires accepted { (b : List ℕ) × IsAccepted b (pipe_view accepted.now.typed.pipe) }
     requires few { cycles ≤ 1000000 }
     ensures explained { (source b : List ℕ) → Gives (F.holds files.old) source b
         → IsAccepted b (pipe_view accepted.now.typed.pipe)
-        → Explains (Some (command.run source image.now cycles))
+        → Explains (Some (command.run source image.now cycles (text_of delays.entry)))
         (seen_of (F.holds files.old) (F.faults files.old) (F.faults files.new)
         (O.written out.old) (O.written out.new) (O.faults out.old) (O.faults out.new)) result }
     ensures held { F.holds files.new ≡ F.holds files.old }
@@ -144,9 +125,9 @@ fn run_accepted<F: Files, O: Sink>(
     ensures later { F.faults files.old ≤ F.faults files.new }
     ensures written { O.faults out.old ≤ O.faults out.new }
 {
-    match load(alloc, files, image, accepted) {
-        Ok(words) => print_run(alloc, accepted, &words, cycles, out),
-        Err(failure) => Err(failure),
+    match compile(alloc, accepted) {
+        Ok(netlist) => run_netlist(alloc, files, &netlist, image, cycles, delays, out),
+        Err(_) => Err(Failure::NoMemory),
     }
 }
 
@@ -177,19 +158,21 @@ fn run_accepted_in_turn<F: Files, O: Sink>(
     }
 }
 
-/// Does what `run` asks for, with a source and an image of these names, and so many cycles: all memory is taken before the first byte is written.
+/// Does what `run` asks for, with a source and an image of these names, a delay file, if one is named, and so many cycles: all memory is taken before the first byte is written.
 pub fn run_source<F: Files, O: Sink>(
     alloc: Global,
     files: &mut F,
     source: &str,
     image: &str,
     cycles: u32,
+    delays: Option<&str>,
     out: &mut O,
 ) -> Result<(), Failure>
     requires source { IsTrue (F.may files.old source.now) }
     requires image { IsTrue (F.may files.old image.now) }
+    requires delays { AllowsFile (F.may files.old) (text_of delays) }
     requires few { cycles ≤ 1000000 }
-    ensures explained { Explains (Some (command.run source.now image.now cycles))
+    ensures explained { Explains (Some (command.run source.now image.now cycles (text_of delays.entry)))
         (seen_of (F.holds files.old) (F.faults files.old) (F.faults files.new)
         (O.written out.old) (O.written out.new) (O.faults out.old) (O.faults out.new)) result }
     ensures held { F.holds files.new ≡ F.holds files.old }
@@ -198,7 +181,7 @@ pub fn run_source<F: Files, O: Sink>(
     ensures written { O.faults out.old ≤ O.faults out.new }
 {
     match accept(alloc, files, source) {
-        Ok(accepted) => run_accepted(alloc, files, &accepted, image, cycles, out),
+        Ok(accepted) => run_accepted(alloc, files, &accepted, image, cycles, delays, out),
         Err(failure) => Err(failure),
     }
 }

@@ -8,7 +8,7 @@ ghost use Rattle.pdl_commands.specs.Summaries as spec;
 use pdl_check::Accepted;
 use pdl_check::check::check;
 use pdl_failure::{Failure, in_memory};
-use pdl_image::Image;
+use pdl_image::{Delays, Image};
 use pdl_kit::{MemInfo, NoMemory, Seq};
 use pdl_pipe::compile;
 use pdl_runs::count;
@@ -70,13 +70,14 @@ fn end_of(alloc: Global, accepted: &Accepted, words: &[u64], cycles: u32) -> Res
         → IsAccepted source (pipe_view accepted.now.typed.pipe)
         → IsSummary source words.now cycles line) }
 {
-    let image = image_of(alloc, words, accepted.mems())?;
     let netlist = compile(alloc, accepted)?;
-    let counts = count(alloc, &netlist, &image, cycles)?;
+    let image = image_of(alloc, words, netlist.mems.as_slice())?;
+    let delays = Delays::none(alloc);
+    let counts = count(alloc, &netlist, &image, &delays, cycles)?;
     Ok(end_line(cycles, counts.ended, counts.waits, counts.squashes))
 }
 
-/// The end line of a run of a source of at most `LONGEST_FILE` bytes: of so many cycles, from these words in each memory of its pipe.
+/// The end line of a run of a source of at most `LONGEST_FILE` bytes: of so many cycles, from these words in each memory of its pipe, with all requests answered.
 pub fn summary(alloc: Global, source: &[u8], words: &[u64], cycles: u32) -> Result<Line, Failure>
     requires short { length source.now ≤ LONGEST_FILE }
     requires few { cycles ≤ 1000000 }

@@ -1,6 +1,6 @@
 -- What is dumped of the netlist of a source says its run.
-use Rattle.std.proofs.Common.{◌≡◌, ap, ℕ, zero, suc, ◌≤◌, List, [], ◌∷◌, length, replicate, All, arith}
-use Rattle.std.proofs.lemmas.List.{length-map}
+use Rattle.std.proofs.Common.{ap, ℕ, suc, ◌≤◌, List, [], ◌∷◌, length, map, All, arith}
+use Rattle.std.proofs.lemmas.List.{length-map, length-append}
 use Rattle.pdl_word.specs.Each.{Each}
 use Rattle.pdl_word.proofs.Each.{each_get}
 use Rattle.pdl_semantics.specs.Tree.{Pipe}
@@ -10,10 +10,12 @@ use Rattle.pdl_rules.specs.Memories.{info_of}
 use Rattle.pdl_rules.specs.Refusal.{KeepsRules}
 use Rattle.pdl_image.specs.Images.{IsImage}
 use Rattle.pdl_net.specs.declared.Netlist.{Netlist}
-use Rattle.pdl_net.specs.Run.{Held, delayed_mems, nports, nports_from, next, start}
-use Rattle.pdl_pipe_law.specs.Follows.{Follows}
+use Rattle.pdl_net.specs.Run.{Held, nports, nports_from, next, start}
+use Rattle.pdl_follows.specs.Memories.{delayed_of, comb_of}
+use Rattle.pdl_follows.specs.Follows.{Follows}
+use Rattle.pdl_follows.proofs.Memories.{as_many}
 use Rattle.pdl_pipe_law.proofs.WellFormedStages.{few_stages}
-use Rattle.pdl_written.proofs.Sources.{names}
+use Rattle.pdl_written.proofs.Sources.{whole_names}
 use Rattle.pdl_wave.specs.declared.port.WavePort.{WavePort}
 use Rattle.pdl_wave.specs.Dump.{IsPort, IsRow}
 use Rattle.pdl_wave.specs.Wave.{IsWaveOf}
@@ -21,7 +23,7 @@ use Rattle.pdl_wave.proofs.WaveForm.{wave_form}
 use Rattle.pdl_waverun.specs.Cycles.{IsFit}
 use Rattle.pdl_waverun.specs.Dumped.{CanBeDumped, wave_ports, rows_of, run_dump}
 use Rattle.pdl_waverun.proofs.Fitting.{fit_next, fit_row, fit_start, port_widths}
-use Rattle.pdl_waverun.proofs.Running.{left_length}
+use Rattle.pdl_waverun.proofs.Running.{rows_length}
 use Rattle.pdl_dumped.proofs.Names.{IsShortWord, name_word}
 use Rattle.pdl_dumped.proofs.Ports.{named_by, pipe_words, pipe_count, wave_words, wave_count}
 
@@ -30,15 +32,21 @@ module _ (source : List ℕ) (p : Pipe) (n : Netlist) (t : IsText source p) (kep
   few = few_stages p kept
 
   mems : length p.mems ≤ 16
-  mems = let k = f.well_formed.pipe.count in let m = length-map p.mems info_of in omega (arith, k, m, ap length f.mems)
+  mems =
+      let k = f.well_formed.pipe.count in
+      let delayed = length-map (delayed_of p.mems) info_of in
+      let comb = length-map (comb_of p.mems) info_of in
+      let all = length-append (map info_of (delayed_of p.mems)) (map info_of (comb_of p.mems)) in
+      let both = as_many p.mems in
+      omega (arith, k, delayed, comb, all, both, ap length f.mems)
 
   port_words : Each (λ (q : WavePort). IsShortWord 64 q.name) (wave_ports n)
-  port_words = wave_words n.ports _ f.ports (pipe_words (length (flat p).stages) p.mems few (named_by p.mems n.mems f.mems (names source p n t f).mems))
+  port_words = wave_words n.ports _ f.ports (pipe_words (length (flat p).stages) p.mems few (named_by p.mems n.mems f.mems (whole_names source p n t f).mems))
 
   own_name : IsShortWord 32 n.name
-  own_name = name_word n.name (names source p n t f).netlist
+  own_name = name_word n.name (whole_names source p n t f).netlist
 
-  few_ports : length (wave_ports n) ≤ 178
+  few_ports : length (wave_ports n) ≤ 242
   few_ports = let a = wave_count n.ports _ f.ports in let b = pipe_count (length (flat p).stages) p.mems few mems in omega (arith, a, b)
 
   -- its names are short, and its ports few
@@ -56,20 +64,19 @@ module _ (source : List ℕ) (p : Pipe) (n : Netlist) (t : IsText source p) (kep
       let high = here.1 in
       (record { name = h.0.word; low = here.0; high = omega (arith, high) }, ports_well qs h.1 (λ k d l. w (suc k) d (omega (arith, l))))
 
-  rows_fit : (h : Held) (k : ℕ) → IsFit n h → Each (IsRow (wave_ports n)) (rows_of (nports_from n h (replicate k 65535)))
-  rows_fit h zero fit = tt
-  rows_fit h (suc k) fit = (fit_row n h 65535 fit, rows_fit (next n h 65535) k (fit_next n h 65535 fit))
+  rows_fit : (h : Held) (schedule : List ℕ) → IsFit n h → Each (IsRow (wave_ports n)) (rows_of (nports_from n h schedule))
+  rows_fit h [] fit = tt
+  rows_fit h (bits ∷ schedule) fit = (fit_row n h bits fit, rows_fit (next n h bits) schedule (fit_next n h bits fit))
 
   -- each of its runs can be dumped, and the dump says it
-  pub says : (image : List (List ℕ)) (cycles : ℕ) → IsImage n.mems image → delayed_mems n ≡ [] → cycles ≤ 1000000 →
-      IsWaveOf (run_dump n image (replicate cycles 65535)) n.name (wave_ports n) (rows_of (nports n image (replicate cycles 65535)))
-  says image cycles i here few_cycles =
+  pub says : (image : List (List ℕ)) (schedule : List ℕ) → IsImage n.mems image → length schedule ≤ 1000000 → IsWaveOf (run_dump n image schedule) n.name (wave_ports n) (rows_of (nports n image schedule))
+  says image schedule i few_cycles =
       let m = few_ports in
-      let count = left_length n (start n image) cycles in
-      wave_form n.name (wave_ports n) (rows_of (nports n image (replicate cycles 65535))) (record {
+      let count = rows_length n (start n image) schedule in
+      wave_form n.name (wave_ports n) (rows_of (nports n image schedule)) (record {
         named = own_name.word;
         declared = ports_well (wave_ports n) port_words (port_widths n f.well_formed.well);
         few = omega (arith, m);
-        fits = rows_fit (start n image) cycles (fit_start n image f.well_formed i here);
+        fits = rows_fit (start n image) schedule (fit_start n image f.well_formed i);
         counted = omega (arith, count, few_cycles);
       })

@@ -231,13 +231,13 @@ few_delayed n p =
     let few = p.count in
     (omega (arith, told, all), omega (arith, told, all, few))
 
--- those of a well formed netlist stand outside it
-pub stand_outside : (n : Netlist) (image : List (List ℕ)) (ms : List Outside) → IsWellFormed n → IsImage n.mems image
-    → stores_of ms ≡ first_stores (take (length (delayed_mems n)) image)
-    → map (λ (m : Outside). m.commits) ms ≡ map (λ (i : MemInfo). places_of (circuit_of n) i.name) (delayed_mems n)
-    → map (λ (m : Outside). m.requests) ms ≡ map (λ (i : MemInfo). requests_of (circuit_of n) i.name) (delayed_mems n)
-    → AreOutside (circuit_of n) (delayed_mems n) ms
-stand_outside n image ms w i e f g =
+-- what the delayed memories of a netlist hold at the start, and what they commit, fits their inputs
+pub record FitAtStart (n : Netlist) (image : List (List ℕ)) : Type 0 where
+  pub words : WordsFit (inputs_of (circuit_of n)) (first_stores (take (length (delayed_mems n)) image))
+  pub commits : CommitsFit (circuit_of n) (inputs_of (circuit_of n)) (delayed_mems n)
+
+pub fit_at_start : (n : Netlist) (image : List (List ℕ)) → IsWellFormed n → IsImage n.mems image → FitAtStart n image
+fit_at_start n image w i =
     let c = circuit_of n in
     let p = w.pipe in
     let ds = p.delayed in
@@ -256,8 +256,21 @@ stand_outside n image ms w i e f g =
     let values : (k : ℕ) (d : PortMem) → k < length ds → (s : State) → Suits c s → port_value c (output_values c s) (codes "cd_" ++ (get_or ds k d).name) < 2 ^ (get_or ds k d).width =
     λ k d l s t. committed_fits n w (get_or ds k d) (k, l, get_or_default ds k (get_or ds k d) d l) s t in
     record {
+      words = subst (λ (ws : List ℕ). WordsFit ws (first_stores (take (length (delayed_mems n)) image))) (sym (inputs_told n p)) (words_first ds (take (length (delayed_mems n)) image) part words);
+      commits = subst (λ (is : List MemInfo). CommitsFit c (inputs_of c) is) (sym told) (subst (λ (ws : List ℕ). CommitsFit c ws (map delayed_info ds)) (sym (inputs_told n p)) (commits_first c ds values));
+    }
+
+-- those of a well formed netlist stand outside it
+pub stand_outside : (n : Netlist) (image : List (List ℕ)) (ms : List Outside) → IsWellFormed n → IsImage n.mems image
+    → stores_of ms ≡ first_stores (take (length (delayed_mems n)) image)
+    → map (λ (m : Outside). m.commits) ms ≡ map (λ (i : MemInfo). places_of (circuit_of n) i.name) (delayed_mems n)
+    → map (λ (m : Outside). m.requests) ms ≡ map (λ (i : MemInfo). requests_of (circuit_of n) i.name) (delayed_mems n)
+    → AreOutside (circuit_of n) (delayed_mems n) ms
+stand_outside n image ms w i e f g =
+    let fit = fit_at_start n image w i in
+    record {
       commits = f;
       requests = g;
-      fit = subst (WordsFit (inputs_of c)) (sym e) (subst (λ (ws : List ℕ). WordsFit ws (first_stores (take (length (delayed_mems n)) image))) (sym (inputs_told n p)) (words_first ds (take (length (delayed_mems n)) image) part words));
-      wide = subst (λ (is : List MemInfo). CommitsFit c (inputs_of c) is) (sym told) (subst (λ (ws : List ℕ). CommitsFit c ws (map delayed_info ds)) (sym (inputs_told n p)) (commits_first c ds values));
+      fit = subst (WordsFit (inputs_of (circuit_of n))) (sym e) fit.words;
+      wide = fit.commits;
     }

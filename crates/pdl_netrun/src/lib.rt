@@ -1,6 +1,6 @@
 //! Runs a netlist cycle by cycle, by walking its cells in an order of its own: `Sim` keeps what the meaning of netlists says of registers, arrays, ports and the delayed memories outside.
 //!
-//! The layer above may use `Sim` alone; its plan of places and runs is its own affair.
+//! The layer above may use `Sim`, and `count_delayed`; its plan of places and runs is its own affair.
 #![tactic(auto)]
 
 mod kinds;
@@ -17,3 +17,4 @@ mod widths;
 mod writes;
 
 pub use sim::Sim;
+pub use start::count_delayed;

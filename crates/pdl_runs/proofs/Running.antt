@@ -1,23 +1,31 @@
 -- One cycle more of a run.
-use Rattle.std.proofs.Common.{◌≡◌, ℕ, zero, suc, ◌+◌, ◌-◌, ◌<◌, List, ◌∷◌, ◌++◌, length, ◌≤◌, true, false, refl, sym, ap, subst, ◌∙◌, append_assoc, add-one, arith}
-use Rattle.std.specs.Prelude.{Bool, replicate, count_by, if◌then◌else◌}
+use Rattle.std.proofs.Common.{◌≡◌, ℕ, suc, ◌+◌, ◌-◌, ◌<◌, List, [], ◌∷◌, ◌++◌, length, ◌≤◌, true, false, refl, sym, ap, subst, ◌∙◌, arith}
+use Rattle.std.specs.Prelude.{Bool, count_by, if◌then◌else◌}
+use Rattle.std.specs.List.{range_with_len}
 use Rattle.std.proofs.lemmas.List.{length-map}
+use Rattle.std.proofs.lemmas.List.FromFn.{length-range_with_len}
 use Rattle.std.proofs.lemmas.List.Sums.{sum_by-cons}
 use Rattle.pdl_semantics.specs.Lines.{Column, Cycle, cycle_lines, lines_from}
 use Rattle.pdl_net.specs.declared.Netlist.{Netlist}
 use Rattle.pdl_net.specs.Run.{Held, shown_ports, next, nports_from}
 use Rattle.pdl_netrun.specs.Sim.{Run, run_after}
 use Rattle.pdl_pipe_law.specs.Runs.{cycle_of}
-use Rattle.pdl_runs.specs.Printed.{cycles_from}
+use Rattle.pdl_image.specs.Delays.{bits_in}
+use Rattle.pdl_runs.specs.Printed.{cycles_from, replies_from, schedule}
 use Rattle.pdl_runs.specs.declared.print.Counts.{Counts}
 use Rattle.pdl_runs.specs.Tally.{one_if, tallied_of}
 
--- the cycles that are left of a run
-abbrev pub left : Netlist → Held → ℕ → List Cycle
-left n h k = cycles_from n h (replicate k 65535)
+-- the cycles of a run
+abbrev pub whole : Netlist → Held → List ℕ → ℕ → List Cycle
+whole n h rows cycles = cycles_from n h (schedule rows cycles)
 
-pub left_step : (n : Netlist) (h : Held) (done cycles : ℕ) → done < cycles → left n h (cycles - done) ≡ cycle_of n (shown_ports n h 65535) ∷ left n (next n h 65535) (cycles - (done + 1))
-left_step n h done cycles lt =
+-- the cycles that are left of a run of so many cycles, where some are done
+abbrev pub left : Netlist → Held → List ℕ → ℕ → ℕ → List Cycle
+left n h rows done cycles = cycles_from n h (replies_from rows (done + 1) (cycles - done))
+
+pub left_step : (n : Netlist) (h : Held) (rows : List ℕ) (done cycles : ℕ) → done < cycles
+    → left n h rows done cycles ≡ cycle_of n (shown_ports n h (bits_in rows (done + 1))) ∷ left n (next n h (bits_in rows (done + 1))) rows (done + 1) cycles
+left_step n h rows done cycles lt =
     let e : cycles - done ≡ suc (cycles - (done + 1)) = omega arith in
     rw e refl
 
@@ -32,10 +40,10 @@ count_step test c cs rest old new all e n a =
     omega (arith, n, a, ap (count_by test) e, sum_by-cons (λ x. if test x then 1 else 0) c rest)
 
 -- the cycles that are left where a simulator has run one more
-pub sim_step : (old new : Run) (done cycles : ℕ) → new ≡ run_after old 65535 → done < cycles
-    → left old.netlist old.held (cycles - done) ≡ cycle_of new.netlist new.last ∷ left new.netlist new.held (cycles - (done + 1))
-sim_step old new done cycles e lt =
-    subst (λ (r : Run). left old.netlist old.held (cycles - done) ≡ cycle_of r.netlist r.last ∷ left r.netlist r.held (cycles - (done + 1))) (sym e) (left_step old.netlist old.held done cycles lt)
+pub sim_step : (old new : Run) (rows : List ℕ) (done cycles : ℕ) → new ≡ run_after old (bits_in rows (done + 1)) → done < cycles
+    → left old.netlist old.held rows done cycles ≡ cycle_of new.netlist new.last ∷ left new.netlist new.held rows (done + 1) cycles
+sim_step old new rows done cycles e lt =
+    subst (λ (r : Run). left old.netlist old.held rows done cycles ≡ cycle_of r.netlist r.last ∷ left r.netlist r.held rows (done + 1) cycles) (sym e) (left_step old.netlist old.held rows done cycles lt)
 
 at_most_one : (b : Bool) → one_if b ≤ 1
 at_most_one true = omega arith
@@ -69,10 +77,17 @@ counted_more old new c cs rest all done more e h =
       few_squashes = few_more c.squash old.squashes new.squashes done squashes h.few_squashes;
     }
 
-shown_length : (n : Netlist) (h : Held) (k : ℕ) → length (nports_from n h (replicate k 65535)) ≡ k
-shown_length n h zero = refl
-shown_length n h (suc k) = ap suc (shown_length n (next n h 65535) k)
+shown_length : (n : Netlist) (h : Held) (bits : List ℕ) → length (nports_from n h bits) ≡ length bits
+shown_length n h [] = refl
+shown_length n h (b ∷ bits) = ap suc (shown_length n (next n h b) bits)
+
+pub schedule_length : (rows : List ℕ) (first cycles : ℕ) → length (replies_from rows first cycles) ≡ cycles
+schedule_length rows first cycles = length-map (range_with_len first cycles) (bits_in rows) ∙ length-range_with_len first cycles
 
 -- as many cycles as reply bits
-pub left_length : (n : Netlist) (h : Held) (k : ℕ) → length (cycles_from n h (replicate k 65535)) ≡ k
-left_length n h k = length-map (nports_from n h (replicate k 65535)) (cycle_of n) ∙ shown_length n h k
+pub left_length : (n : Netlist) (h : Held) (bits : List ℕ) → length (cycles_from n h bits) ≡ length bits
+left_length n h bits = length-map (nports_from n h bits) (cycle_of n) ∙ shown_length n h bits
+
+-- and so as many as were asked for
+pub run_length : (n : Netlist) (h : Held) (rows : List ℕ) (cycles : ℕ) → length (cycles_from n h (schedule rows cycles)) ≡ cycles
+run_length n h rows cycles = left_length n h (schedule rows cycles) ∙ schedule_length rows 1 cycles

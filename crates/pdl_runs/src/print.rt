@@ -1,18 +1,20 @@
 // A run that is printed while it goes on, and one that is counted.
-ghost use Rattle.std.specs.Prelude.{◌≡◌, ◌≤◌, ◌<◌, ◌+◌, ◌-◌, ◌++◌, ℕ, List, All, IfOk, length, map, replicate, [], vec_len, if◌then◌else◌};
+ghost use Rattle.std.specs.Prelude.{◌≡◌, ◌≤◌, ◌<◌, ◌+◌, ◌-◌, ◌++◌, ℕ, List, All, IfOk, length, map, vec_len, if◌then◌else◌};
 ghost use Rattle.pdl_semantics.specs.Lines.{lines_from, lines, end_line as end_text};
 ghost use Rattle.pdl_net.specs.Circuit.{circuit_of, outputs_of};
 ghost use Rattle.pdl_pipe_law.specs.Runs.{column_of, cycle_of, commit_mems, output_count};
 ghost use Rattle.pdl_runs.specs.Printed.{AreOrdered, cycles_from, run_text, schedule};
 ghost use Rattle.pdl_net.specs.Pipe.{IsWellFormed};
-ghost use Rattle.pdl_net.specs.Run.{delayed_mems, nports};
+ghost use Rattle.pdl_net.specs.Run.{nports};
+ghost use Rattle.pdl_image.specs.Delays.{bits_in};
 ghost use Rattle.pdl_image.specs.Images.{IsImage};
+ghost use Rattle.pdl_netrun.specs.Sim.{run_after};
 ghost use Rattle.pdl_runs.specs.Tally.{tallied_of, counts_of};
 ghost use Rattle.pdl_kit.specs.Counts.{HasCause};
 ghost use Rattle.pdl_trace.specs.Passed.{Passes, Streams};
 
 use crate::commits::{commit_order, push_commits};
-use pdl_image::Image;
+use pdl_image::{Delays, Image};
 use pdl_kit::sink::{Sink, WriteFailed};
 use pdl_kit::{MemInfo, NoMemory};
 use pdl_net::{Dir, Netlist};
@@ -50,7 +52,16 @@ fn with_cycle(counts: Counts, sim: &Sim, outputs: usize) -> Counts
     }
 }
 
-// Runs cycles numbered from 1, with every reply bit 1, and passes on the lines of what they commit.
+// Runs the cycle of this number, with its reply bits.
+fn run_cycle(sim: &mut Sim, delays: &Delays, number: u32)
+    requires first { 1 ≤ number }
+    requires few { number ≤ 1000000 }
+    ensures { sim.new ≡ run_after sim.old (bits_in delays.now number) }
+{
+    sim.cycle(delays.bits(number));
+}
+
+// Runs cycles numbered from 1, with the reply bits of each, and passes on the lines of what they commit.
 fn run_cycles<S: Sink>(
     out: &mut LineOut,
     sink: &mut S,
@@ -58,6 +69,7 @@ fn run_cycles<S: Sink>(
     mems: &[MemInfo],
     order: &[usize],
     outputs: usize,
+    delays: &Delays,
     cycles: u32,
 ) -> Result<Counts, WriteFailed>
     requires mems { mems.now ≡ sim.old.netlist.mems }
@@ -69,9 +81,9 @@ fn run_cycles<S: Sink>(
     requires few { cycles ≤ 1000000 }
     ensures bytes { Passes (S.written sink.old) (S.written sink.new) result (out.old
         ++ lines_from 1 (map column_of (commit_mems sim.old.netlist))
-        (cycles_from sim.old.netlist sim.old.held (schedule cycles))) out.new }
+        (cycles_from sim.old.netlist sim.old.held (schedule delays.now cycles))) out.new }
     ensures counts { IfOk result
-        (λ c. c ≡ counts_of (cycles_from sim.old.netlist sim.old.held (schedule cycles))) }
+        (λ c. c ≡ counts_of (cycles_from sim.old.netlist sim.old.held (schedule delays.now cycles))) }
     ensures cause { HasCause (S.faults sink.old) (S.faults sink.new) result }
 {
     let mut counts = Counts {
@@ -80,7 +92,7 @@ fn run_cycles<S: Sink>(
         squashes: 0,
     };
     for done in 0..cycles {
-        sim.cycle(u16::MAX);
+        run_cycle(sim, delays, done + 1);
         push_commits(out, sink, done + 1, mems, order, sim)?;
         counts = with_cycle(counts, sim, outputs);
     }
@@ -88,7 +100,7 @@ fn run_cycles<S: Sink>(
 }
 
 // Passes on the lines of a run of so many cycles.
-#[tactic(auto, using(crate::proofs::Running::left_length))]
+#[tactic(auto, using(crate::proofs::Running::run_length))]
 fn push_run<S: Sink>(
     out: &mut LineOut,
     sink: &mut S,
@@ -96,6 +108,7 @@ fn push_run<S: Sink>(
     mems: &[MemInfo],
     order: &[usize],
     outputs: usize,
+    delays: &Delays,
     cycles: u32,
 ) -> Result<(), WriteFailed>
     requires mems { mems.now ≡ sim.old.netlist.mems }
@@ -107,10 +120,10 @@ fn push_run<S: Sink>(
     requires few { cycles ≤ 1000000 }
     ensures bytes { Passes (S.written sink.old) (S.written sink.new) result (out.old
         ++ lines (map column_of (commit_mems sim.old.netlist))
-        (cycles_from sim.old.netlist sim.old.held (schedule cycles))) out.new }
+        (cycles_from sim.old.netlist sim.old.held (schedule delays.now cycles))) out.new }
     ensures cause { HasCause (S.faults sink.old) (S.faults sink.new) result }
 {
-    let counts = run_cycles(out, sink, sim, mems, order, outputs, cycles)?;
+    let counts = run_cycles(out, sink, sim, mems, order, outputs, delays, cycles)?;
     let line = end_line(cycles, counts.ended, counts.waits, counts.squashes);
     out.push(sink, line.as_bytes())
 }
@@ -122,6 +135,7 @@ fn print_run<S: Sink>(
     mems: &[MemInfo],
     order: &[usize],
     outputs: usize,
+    delays: &Delays,
     cycles: u32,
 ) -> Result<(), TextError>
     requires mems { mems.now ≡ sim.old.netlist.mems }
@@ -134,31 +148,31 @@ fn print_run<S: Sink>(
     ensures text { Streams (S.written sink.old) (S.written sink.new)
         (S.faults sink.old) (S.faults sink.new)
         (lines (map column_of (commit_mems sim.old.netlist))
-        (cycles_from sim.old.netlist sim.old.held (schedule cycles))) result }
+        (cycles_from sim.old.netlist sim.old.held (schedule delays.now cycles))) result }
     ensures later { S.faults sink.old ≤ S.faults sink.new }
 {
     let mut out = LineOut::new();
-    push_run(&mut out, sink, sim, mems, order, outputs, cycles)?;
+    push_run(&mut out, sink, sim, mems, order, outputs, delays, cycles)?;
     match out.finish(sink) {
         Ok(()) => Ok(()),
         Err(_) => Err(TextError::WriteFailed),
     }
 }
 
-// Runs cycles with every reply bit 1, and counts them.
-fn count_cycles(sim: &mut Sim, outputs: usize, cycles: u32) -> Counts
+// Runs cycles with the reply bits of each, and counts them.
+fn count_cycles(sim: &mut Sim, outputs: usize, delays: &Delays, cycles: u32) -> Counts
     requires outputs { outputs ≡ output_count sim.old.netlist }
     requires two { 2 ≤ outputs }
     requires few { cycles ≤ 1000000 }
-    ensures { result ≡ counts_of (cycles_from sim.old.netlist sim.old.held (schedule cycles)) }
+    ensures { result ≡ counts_of (cycles_from sim.old.netlist sim.old.held (schedule delays.now cycles)) }
 {
     let mut counts = Counts {
         ended: 0,
         waits: 0,
         squashes: 0,
     };
-    for _done in 0..cycles {
-        sim.cycle(u16::MAX);
+    for done in 0..cycles {
+        run_cycle(sim, delays, done + 1);
         counts = with_cycle(counts, sim, outputs);
     }
     counts
@@ -177,44 +191,50 @@ fn count_outputs(net: &Netlist) -> usize
     count
 }
 
-/// Writes the text of a run of a netlist without delayed memories, with this image, for so many cycles, while it runs: all memory is taken before the first byte.
+/// Writes the text of a run of a netlist, with this image and the reply bits of these delays, for so many cycles, while it runs: all memory is taken before the first byte.
 ///
 /// `WriteFailed` comes only where the sink's count of faults rose, or stands at the last value of a `u64`; the sink then has a prefix of the text. On `NoMemory` it has what it had.
 pub fn run<S: Sink>(
     alloc: Global,
     net: &Netlist,
     image: &Image,
+    delays: &Delays,
     cycles: u32,
     sink: &mut S,
 ) -> Result<(), TextError>
     requires well { IsWellFormed net.now }
     requires image { IsImage net.now.mems image.now }
-    requires here { delayed_mems net.now ≡ [] }
     requires names { All (λ m. length m.name ≤ 32) net.now.mems }
     requires widths { All (λ m. m.width ≤ 64) net.now.mems }
     requires two { 2 ≤ output_count net.now }
     requires few { cycles ≤ 1000000 }
     ensures text { Streams (S.written sink.old) (S.written sink.new)
         (S.faults sink.old) (S.faults sink.new)
-        (run_text net.now image.now (schedule cycles)) result }
+        (run_text net.now image.now (schedule delays.now cycles)) result }
     ensures later { S.faults sink.old ≤ S.faults sink.new }
 {
     let order = commit_order(alloc, net)?;
     let mut sim = Sim::new(alloc, net, image)?;
     let outputs = count_outputs(net);
-    print_run(sink, &mut sim, net.mems.as_slice(), &order, outputs, cycles)
+    let mems = net.mems.as_slice();
+    print_run(sink, &mut sim, mems, &order, outputs, delays, cycles)
 }
 
-/// The counts of a run of a netlist without delayed memories, with this image, for so many cycles.
-pub fn count(alloc: Global, net: &Netlist, image: &Image, cycles: u32) -> Result<Counts, NoMemory>
+/// The counts of a run of a netlist, with this image and the reply bits of these delays, for so many cycles.
+pub fn count(
+    alloc: Global,
+    net: &Netlist,
+    image: &Image,
+    delays: &Delays,
+    cycles: u32,
+) -> Result<Counts, NoMemory>
     requires well { IsWellFormed net.now }
     requires image { IsImage net.now.mems image.now }
-    requires here { delayed_mems net.now ≡ [] }
     requires two { 2 ≤ output_count net.now }
     requires few { cycles ≤ 1000000 }
     ensures { IfOk result (λ c. c ≡ counts_of
-        (map (cycle_of net.now) (nports net.now image.now (schedule cycles)))) }
+        (map (cycle_of net.now) (nports net.now image.now (schedule delays.now cycles)))) }
 {
     let mut sim = Sim::new(alloc, net, image)?;
-    Ok(count_cycles(&mut sim, count_outputs(net), cycles))
+    Ok(count_cycles(&mut sim, count_outputs(net), delays, cycles))
 }

@@ -119,7 +119,8 @@ module _ (n : Netlist) (h : IsWellFormed n) where
       let b : j < length n.arrays = omega arith in
       (h.pipe.arrays j no_array b).inside i mem a (sym (get_mapped (λ (m : PortMem). m.name) delayed i d mem a) ∙ (q ∙ get_mapped (λ (a : Array). a.name) n.arrays j e no_array b))
 
-  mems_differ : NamesDiffer (λ (m : MemInfo). m.name) n.mems
+  -- their names differ
+  pub mems_differ : AllPairs (λ a b. a.name ≢ b.name) n.mems
   mems_differ =
       let front = delayed_names delayed later (subst (NamesDiffer (λ (p : Head). p.name)) ports_split ports_differ) in
       let fronts : AllPairs (λ a b. a ≢ b) (map (λ (m : PortMem). m.name) delayed) = λ i j d l m q.
@@ -134,7 +135,8 @@ module _ (n : Netlist) (h : IsWellFormed n) where
       ∙ (delayed_front delayed (map (told locked) n.arrays) ∙ ap (λ z. map (λ (m : PortMem). m.name) delayed ++ z) (told_names locked n.arrays)) in
       names_differ (λ (m : MemInfo). m.name) n.mems (subst (AllPairs (λ (a b : List ℕ). a ≢ b)) (sym e) apart)
 
-  mems_wide : All (λ (m : MemInfo). IsWide m.width) n.mems
+  -- and their words have 1 to 64 bits
+  pub mems_wide : All (λ (m : MemInfo). IsWide m.width) n.mems
   mems_wide =
       let front = delayed_wide delayed later (subst (All (λ (p : Head). IsWide p.width)) ports_split ports_wide) in
       let back : All (λ (a : Array). IsWide (told locked a).width) n.arrays = λ k d l.

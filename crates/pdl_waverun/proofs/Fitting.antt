@@ -1,24 +1,23 @@
 -- The values that a netlist shows fit its ports, in each cycle of a run.
-use Rattle.std.proofs.Common.{◌≡◌, refl, sym, ◌∙◌, ap, subst, ℕ, suc, ◌+◌, ◌^◌, ◌<◌, ◌≤◌, List, [], ◌∷◌, ◌++◌, append_assoc, length, map, take, drop, get_or, All, Some, None, slice_get, arith}
+use Rattle.std.proofs.Common.{◌≡◌, refl, sym, ◌∙◌, ap, subst, ℕ, suc, ◌+◌, ◌^◌, ◌<◌, ◌≤◌, List, [], ◌∷◌, ◌++◌, append_assoc, length, map, drop, get_or, All, Some, slice_get, arith}
 use Rattle.std.specs.Prelude.{filter_map}
 use Rattle.std.specs.List.{cons_option}
 use Rattle.std.proofs.lemmas.List.{drop_more}
 use Rattle.std.proofs.lemmas.List.Elements.{All-nil, All-cons}
-use Rattle.pdl_kit.specs.declared.mem_info.MemInfo.{MemInfo}
 use Rattle.pdl_net.specs.declared.Dir.{Dir}
 use Rattle.pdl_net.specs.declared.Dir.TheVariants.{In, Out}
 use Rattle.pdl_net.specs.declared.Net.{Net}
 use Rattle.pdl_net.specs.declared.Port.{Port}
 use Rattle.pdl_net.specs.declared.Netlist.{Netlist}
-use Rattle.pdl_net.specs.Circuit.{Circuit, State, Output, circuit_of, outputs_of, output_with, port_output}
+use Rattle.pdl_net.specs.Circuit.{Circuit, State, Output, circuit_of, inputs_of, outputs_of, output_with, port_output}
 use Rattle.pdl_net.specs.Cycle.{net_value, output_values}
-use Rattle.pdl_net.specs.Holds.{Holds}
 use Rattle.pdl_net.specs.Pipe.{IsWellFormed}
-use Rattle.pdl_net.specs.Run.{Held, Store, answers, state_in, shown_ports, delayed_mems, loaded_arrays, next, next_stores, start}
+use Rattle.pdl_net.specs.Run.{Held, state_in, shown_ports, delayed_mems, loaded_arrays, next, start}
 use Rattle.pdl_net.specs.Well.{IsWell, IsWellPort, IsDriven, Suits}
 use Rattle.pdl_net.proofs.Bounds.{bounded}
-use Rattle.pdl_net.proofs.Holds.{suits_of, next_holds}
-use Rattle.pdl_net.proofs.Loaded.{image_fits, no_inputs, holds_start}
+use Rattle.pdl_net.proofs.Holds.{next_holds}
+use Rattle.pdl_net.proofs.Loaded.{image_part_fits, holds_start}
+use Rattle.pdl_netrun.proofs.Environment.{inputs_fit, words_kept, fit_at_start}
 use Rattle.pdl_image.specs.Images.{IsImage}
 use Rattle.pdl_wave.specs.declared.port.WavePort.{WavePort}
 use Rattle.pdl_wave.specs.Dump.{IsRow}
@@ -49,8 +48,9 @@ module _ (c : Circuit) (s : State) (well : IsWell c) (suits : Suits c s) where
 
 suits_now : (n : Netlist) (h : Held) (bits : ℕ) → IsFit n h → Suits (circuit_of n) (state_in h bits)
 suits_now n h bits f =
-    let P : List Store → Type 0 = λ stores. Suits (circuit_of n) (record { inputs = answers stores bits; regs = h.regs; arrays = h.arrays }) in
-    subst P (sym f.stores) (suits_of (circuit_of n) h.regs h.arrays f.holds f.inputs)
+    let k = f.holds in
+    let i = inputs_fit (inputs_of (circuit_of n)) h.stores bits f.words in
+    record { input_count = i.count; inputs = i.each; reg_count = k.reg_count; regs = k.each; array_count = k.array_count; depth = k.depth; words = k.words }
 
 -- what is shown fits the ports
 pub fit_row : (n : Netlist) (h : Held) (bits : ℕ) → IsFit n h → IsRow (wave_ports n) (shown_ports n h bits).ports
@@ -58,28 +58,24 @@ fit_row n h bits f = outputs_fit (circuit_of n) (state_in h bits) f.well (suits_
 
 -- ---- from cycle to cycle
 
-no_stores : (c : Circuit) (ports : List ℕ) (infos : List MemInfo) (bits : ℕ) → next_stores c ports infos [] bits ≡ []
-no_stores c ports [] bits = refl
-no_stores c ports (i ∷ infos) bits = refl
-
 pub fit_next : (n : Netlist) (h : Held) (bits : ℕ) → IsFit n h → IsFit n (next n h bits)
 fit_next n h bits f = record {
   well = f.well;
-  inputs = f.inputs;
   holds = next_holds (circuit_of n) (state_in h bits) f.well (suits_now n h bits f);
-  stores = ap (λ stores. next_stores (circuit_of n) (shown_ports n h bits).ports (delayed_mems n) stores bits) f.stores ∙ no_stores (circuit_of n) (shown_ports n h bits).ports (delayed_mems n) bits;
+  words = words_kept (circuit_of n) (state_in h bits) (inputs_of (circuit_of n)) (delayed_mems n) h.stores bits (suits_now n h bits f) f.commits f.words;
+  commits = f.commits;
 }
 
-pub fit_start : (n : Netlist) (image : List (List ℕ)) → IsWellFormed n → IsImage n.mems image → delayed_mems n ≡ [] → IsFit n (start n image)
-fit_start n image w i e =
-    let fits = image_fits n image w e i.count i.depth i.width in
-    let regs = map (λ r. r.reset) n.regs in
-    let P : List MemInfo → Type 0 = λ ds. Holds (circuit_of n) regs (loaded_arrays n.arrays (drop (length ds) image)) in
+pub fit_start : (n : Netlist) (image : List (List ℕ)) → IsWellFormed n → IsImage n.mems image → IsFit n (start n image)
+fit_start n image w i =
+    let fits = image_part_fits n image w i.count i.depth i.width in
+    let outside = fit_at_start n image w i in
+    let arrays = drop (length (delayed_mems n)) image in
     record {
       well = w.well;
-      inputs = no_inputs n w e;
-      holds = subst P (sym e) (holds_start n image regs (loaded_arrays n.arrays image) w.well fits refl refl);
-      stores = ap (λ (ds : List MemInfo). map (λ words. record { words = words; request = None }) (take (length ds) image)) e;
+      holds = holds_start n arrays (map (λ r. r.reset) n.regs) (loaded_arrays n.arrays arrays) w.well fits refl refl;
+      words = outside.words;
+      commits = outside.commits;
     }
 
 -- ---- ports

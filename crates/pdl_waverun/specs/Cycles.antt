@@ -3,8 +3,9 @@ use Rattle.std.specs.Prelude.{◌≡◌, ℕ, suc, ◌<◌, ◌≤◌, ◌==◌,
 use Rattle.pdl_net.specs.declared.Netlist.{Netlist}
 use Rattle.pdl_net.specs.Circuit.{circuit_of, inputs_of}
 use Rattle.pdl_net.specs.Holds.{Holds}
-use Rattle.pdl_net.specs.Run.{Held}
+use Rattle.pdl_net.specs.Run.{Held, delayed_mems}
 use Rattle.pdl_net.specs.Well.{IsWell}
+use Rattle.pdl_netrun.specs.Outside.{WordsFit, CommitsFit}
 use Rattle.pdl_netrun.specs.Sim.{Run}
 use Rattle.pdl_wave.specs.declared.port.WavePort.{WavePort}
 use Rattle.pdl_wave.specs.Moments.{Change, Moment, changes, with_moment}
@@ -51,9 +52,9 @@ pub record IsShownBy (ports : List WavePort) (run : Run) : Type 0 where
   pub own : ports ≡ wave_ports run.netlist
   pub row : IsRow ports run.last.ports
 
--- a netlist in a state whose registers and arrays fit it, with nothing outside
+-- a netlist in a state whose registers and arrays fit it, and whose delayed memories fit their inputs, whatever they commit
 pub record IsFit (n : Netlist) (h : Held) : Type 0 where
   pub well : IsWell (circuit_of n)
-  pub inputs : inputs_of (circuit_of n) ≡ []
   pub holds : Holds (circuit_of n) h.regs h.arrays
-  pub stores : h.stores ≡ []
+  pub words : WordsFit (inputs_of (circuit_of n)) h.stores
+  pub commits : CommitsFit (circuit_of n) (inputs_of (circuit_of n)) (delayed_mems n)

@@ -1,17 +1,18 @@
 // The dump of a run.
-ghost use Rattle.std.specs.Prelude.{◌≡◌, ◌≤◌, ◌<◌, ◌+◌, ◌++◌, All, length, flat_map, replicate, []};
+ghost use Rattle.std.specs.Prelude.{◌≡◌, ◌≤◌, ◌<◌, ◌+◌, ◌++◌, All, length, flat_map};
 ghost use Rattle.pdl_kit.specs.Counts.{HasCause};
 ghost use Rattle.pdl_trace.specs.Passed.{Passes, Streams};
 ghost use Rattle.pdl_image.specs.Images.{IsImage};
 ghost use Rattle.pdl_net.specs.Pipe.{IsWellFormed};
-ghost use Rattle.pdl_net.specs.Run.{delayed_mems, nports_from};
+ghost use Rattle.pdl_net.specs.Run.{nports_from};
+ghost use Rattle.pdl_runs.specs.Printed.{schedule};
 ghost use Rattle.pdl_wave.specs.Dump.{dump as dump_of, ended, header};
 ghost use Rattle.pdl_waverun.specs.Cycles.{cycles_text, AreDumpable, IsFit};
 ghost use Rattle.pdl_waverun.specs.Dumped.{wave_ports as ports_of, rows_of, run_dump, CanBeDumped};
 
 use crate::cycles::push_cycle;
 use crate::ports::wave_ports;
-use pdl_image::Image;
+use pdl_image::{Delays, Image};
 use pdl_kit::Name;
 use pdl_kit::sink::{Sink, WriteFailed};
 use pdl_net::Netlist;
@@ -41,13 +42,14 @@ fn push_header<S: Sink>(
     Ok(())
 }
 
-// Runs cycles numbered from 1, with every reply bit 1, and passes on what is dumped of them.
+// Runs cycles numbered from 1, with the reply bits of each, and passes on what is dumped of them.
 fn push_cycles<S: Sink>(
     out: &mut LineOut,
     sink: &mut S,
     ports: &[WavePort],
     before: &mut [u64],
     sim: &mut Sim,
+    delays: &Delays,
     cycles: u32,
 ) -> Result<(), WriteFailed>
     requires dumpable { AreDumpable ports.now }
@@ -56,11 +58,11 @@ fn push_cycles<S: Sink>(
     requires before { length before.old ≡ length ports.now }
     ensures bytes { Passes (S.written sink.old) (S.written sink.new) result
         (out.old ++ cycles_text ports.now 1 before.old
-        (rows_of (nports_from sim.old.netlist sim.old.held (replicate cycles 65535)))) out.new }
+        (rows_of (nports_from sim.old.netlist sim.old.held (schedule delays.now cycles)))) out.new }
     ensures cause { HasCause (S.faults sink.old) (S.faults sink.new) result }
 {
     for done in 0..cycles {
-        sim.cycle(u16::MAX);
+        sim.cycle(delays.bits(done + 1));
         push_cycle(out, sink, ports, done + 1, before, sim)?;
     }
     Ok(())
@@ -74,6 +76,7 @@ fn push_dump<S: Sink>(
     ports: &[WavePort],
     before: &mut [u64],
     sim: &mut Sim,
+    delays: &Delays,
     cycles: u32,
 ) -> Result<(), WriteFailed>
     requires name { length name.now ≤ 64 }
@@ -84,11 +87,11 @@ fn push_dump<S: Sink>(
     requires before { length before.old ≡ length ports.now }
     ensures bytes { Passes (S.written sink.old) (S.written sink.new) result
         (out.old ++ dump_of name.now ports.now
-        (rows_of (nports_from sim.old.netlist sim.old.held (replicate cycles 65535)))) out.new }
+        (rows_of (nports_from sim.old.netlist sim.old.held (schedule delays.now cycles)))) out.new }
     ensures cause { HasCause (S.faults sink.old) (S.faults sink.new) result }
 {
     push_header(out, sink, name, ports)?;
-    push_cycles(out, sink, ports, before, sim, cycles)?;
+    push_cycles(out, sink, ports, before, sim, delays, cycles)?;
     let line = time_line(u64::from(cycles) + 1);
     out.push(sink, line.as_bytes())
 }
@@ -100,6 +103,7 @@ fn print_dump<S: Sink>(
     ports: &[WavePort],
     before: &mut [u64],
     sim: &mut Sim,
+    delays: &Delays,
     cycles: u32,
 ) -> Result<(), TextError>
     requires name { length name.now ≤ 64 }
@@ -111,38 +115,39 @@ fn print_dump<S: Sink>(
     ensures text { Streams (S.written sink.old) (S.written sink.new)
         (S.faults sink.old) (S.faults sink.new)
         (dump_of name.now ports.now
-        (rows_of (nports_from sim.old.netlist sim.old.held (replicate cycles 65535)))) result }
+        (rows_of (nports_from sim.old.netlist sim.old.held (schedule delays.now cycles)))) result }
     ensures later { S.faults sink.old ≤ S.faults sink.new }
 {
     let mut out = LineOut::new();
-    push_dump(&mut out, sink, name, ports, before, sim, cycles)?;
+    push_dump(&mut out, sink, name, ports, before, sim, delays, cycles)?;
     match out.finish(sink) {
         Ok(()) => Ok(()),
         Err(_) => Err(TextError::WriteFailed),
     }
 }
 
-/// Writes the value change dump of a run of a netlist without delayed memories, with this image, for so many cycles, while it runs: all memory is taken before the first byte.
+/// Writes the value change dump of a run of a netlist, with this image and the reply bits of these delays, for so many cycles, while it runs: all memory is taken before the first byte.
 ///
 /// The netlist has fewer than 8,930 output ports, and the names of these and its own have at most 64 bytes. `WriteFailed` comes only where the sink's count of faults rose, or stands at the last value of a `u64`; the sink then has a prefix of the dump. On `NoMemory` it has what it had.
 pub fn dump<S: Sink>(
     alloc: Global,
     net: &Netlist,
     image: &Image,
+    delays: &Delays,
     cycles: u32,
     sink: &mut S,
 ) -> Result<(), TextError>
     requires well { IsWellFormed net.now }
     requires image { IsImage net.now.mems image.now }
-    requires here { delayed_mems net.now ≡ [] }
     requires dumpable { CanBeDumped net.now }
     ensures text { Streams (S.written sink.old) (S.written sink.new)
         (S.faults sink.old) (S.faults sink.new)
-        (run_dump net.now image.now (replicate cycles 65535)) result }
+        (run_dump net.now image.now (schedule delays.now cycles)) result }
     ensures later { S.faults sink.old ≤ S.faults sink.new }
 {
     let ports = wave_ports(alloc, net)?;
     let mut before = vec![in alloc; 0; ports.len()]?;
     let mut sim = Sim::new(alloc, net, image)?;
-    print_dump(sink, &net.name, &ports, &mut before, &mut sim, cycles)
+    let name = &net.name;
+    print_dump(sink, name, &ports, &mut before, &mut sim, delays, cycles)
 }

@@ -9,5 +9,5 @@ pub returns : goal.returns
 returns c =
     let n = c.in_ok-netlist in
     both_ok c.verilog_text-text.result _ _ _
-    (λ t text reads. is_built (pipe_view c.args.accepted.now.typed.pipe) n.netlist t.items c.args.accepted.now.kept n.ensures.follows n.ensures.refines n.ensures.turns text (record { reads = reads; here = n.ensures.here }) n.ensures.locks)
+    (λ t text reads holds source b given accepted. is_built holds source b (pipe_view c.args.accepted.now.typed.pipe) n.netlist given accepted n.ensures.follows t.items n.ensures.locks text reads)
     c.verilog_text-text.ensures.text c.verilog_text-text.ensures.reads

@@ -6,18 +6,17 @@ use Rattle.pdl_semantics.specs.Lines.{seq_lines}
 use Rattle.pdl_form.specs.Form.{Form}
 use Rattle.pdl_form.specs.Whole.{form}
 use Rattle.pdl_rules.proofs.ToldMemories.{infos_count}
-use Rattle.pdl_pipe.proofs.Told.{widths_high}
+use Rattle.pdl_commands.proofs.Told.{names_short, widths_high}
 use Rattle.pdl_pipe_law.specs.Runs.{column_of}
-use Rattle.pdl_commands.proofs.Accepting.{names_short}
 use Rattle.pdl_commands.proofs.Explaining.{written_streamed}
 use Rattle.pdl_commands.proofs.InTurn.{texts, printed}
 use Rattle.pdl_commands.proofs.sequential.sequential.Goals as goal
 
 pub print_run-requires-clause-names : goal.print_run-requires-clause-names
-print_run-requires-clause-names g c = names_short c.requires.accepted.0 (pipe_view c.args.accepted.now.typed.pipe) c.mems.result.now c.requires.accepted.1 c.mems.ensures
+print_run-requires-clause-names g c = names_short c.requires.accepted.0 (pipe_view c.args.accepted.now.typed.pipe) c.mems.result.now c.requires.accepted.1.text c.mems.ensures
 
 pub print_run-requires-clause-widths : goal.print_run-requires-clause-widths
-print_run-requires-clause-widths g c = widths_high (pipe_view c.args.accepted.now.typed.pipe) c.mems.result.now c.args.accepted.now.compiled c.args.accepted.now.kept c.mems.ensures
+print_run-requires-clause-widths g c = widths_high (pipe_view c.args.accepted.now.typed.pipe) c.mems.result.now c.args.accepted.now.kept c.mems.ensures
 
 pub print_run-requires-clause-mems : goal.print_run-requires-clause-mems
 print_run-requires-clause-mems g c =

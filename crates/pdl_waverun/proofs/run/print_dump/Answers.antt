@@ -2,7 +2,7 @@ use Rattle.std.proofs.Common.{◌++◌, arith, subst}
 use Rattle.pdl_trace.specs.Passed.{HasPassed}
 use Rattle.pdl_trace.proofs.Passing.{prefix_off}
 use Rattle.pdl_wave.specs.Dump.{dump}
-use Rattle.pdl_waverun.proofs.Running.{left}
+use Rattle.pdl_waverun.proofs.Running.{whole}
 use Rattle.pdl_waverun.proofs.run.print_dump.Goals as goal
 
 pub returns-in-Err-clause-text : goal.returns-in-Err-clause-text
@@ -10,7 +10,7 @@ returns-in-Err-clause-text g c =
     let o = g.S.Sink.written c.args.sink.now in
     let a = g.S.Sink.written c.push_dump.new.sink in
     let b = g.S.Sink.written c.finish.new.sink in
-    let text = dump c.args.name.now c.args.ports.now (left c.args.sim.now c.args.cycles) in
+    let text = dump c.args.name.now c.args.ports.now (whole c.args.sim.now c.args.delays.now c.args.cycles) in
     let held = c.push_dump.new.out in
     let passed = subst (λ l. HasPassed o a (l ++ text) held) c.new-out.ensures c.in_ok-push_dump.ensures.bytes in
     let failed = c.in-Err.ensures.cause.failed in

@@ -1,5 +1,6 @@
-use Rattle.std.proofs.Common.{◌≡◌, ◌≤◌, ◌+◌, ◌-◌, ◌++◌, length, replicate}
+use Rattle.std.proofs.Common.{◌≡◌, ◌≤◌, ◌+◌, ◌-◌, ◌++◌, length}
 use Rattle.pdl_net.specs.Run.{nports_from}
+use Rattle.pdl_runs.specs.Printed.{replies_from, schedule}
 use Rattle.pdl_trace.proofs.Passing.{IsUnderWay}
 use Rattle.pdl_waverun.specs.Cycles.{cycles_text, IsFit}
 use Rattle.pdl_waverun.specs.Dumped.{rows_of}
@@ -12,7 +13,7 @@ invariant-loop-done g l = record {
   fit : IsFit l.sim.netlist l.sim.held;
   count : length l.before ≡ length l.ports;
   way : IsUnderWay (g.S.Sink.written l.fn.sink) (g.S.Sink.written l.sink)
-      (l.fn.out ++ cycles_text l.ports 1 l.fn.before (rows_of (nports_from l.fn.sim.netlist l.fn.sim.held (replicate l.cycles 65535))))
-      (cycles_text l.ports (l.done + 1) l.before (rows_of (nports_from l.sim.netlist l.sim.held (replicate (l.cycles - l.done) 65535)))) l.out;
+      (l.fn.out ++ cycles_text l.ports 1 l.fn.before (rows_of (nports_from l.fn.sim.netlist l.fn.sim.held (schedule l.delays l.cycles))))
+      (cycles_text l.ports (l.done + 1) l.before (rows_of (nports_from l.sim.netlist l.sim.held (replies_from l.delays (l.done + 1) (l.cycles - l.done))))) l.out;
   later : g.S.Sink.faults l.fn.sink ≤ g.S.Sink.faults l.sink;
 }

@@ -3,7 +3,7 @@ use Rattle.pdl_trace.proofs.Passing.{at_first, faulted, step_off, step_on}
 use Rattle.pdl_wave.specs.Dump.{dump, ended, header, time_text}
 use Rattle.pdl_waverun.specs.Cycles.{cycles_text}
 use Rattle.pdl_waverun.proofs.Texts.{dump_text}
-use Rattle.pdl_waverun.proofs.Running.{left, left_length, finish_on}
+use Rattle.pdl_waverun.proofs.Running.{whole, left_length, finish_on}
 use Rattle.pdl_waverun.proofs.run.push_dump.Goals as goal
 
 pub returns-in_err-push_header-clause-bytes : goal.returns-in_err-push_header-clause-bytes
@@ -11,7 +11,7 @@ returns-in_err-push_header-clause-bytes g c =
     let o = g.S.Sink.written c.args.sink.now in
     let a = g.S.Sink.written c.push_header.new.sink in
     let ports = c.args.ports.now in
-    let rows = left c.args.sim.now c.args.cycles in
+    let rows = whole c.args.sim.now c.args.delays.now c.args.cycles in
     let text = dump c.args.name.now ports rows in
     let all = c.args.out.now ++ text in
     let head = flat_map ended (header c.args.name.now ports) in
@@ -25,7 +25,7 @@ returns-in_err-push_cycles-clause-bytes g c =
     let a = g.S.Sink.written c.push_header.new.sink in
     let b = g.S.Sink.written c.push_cycles.new.sink in
     let ports = c.args.ports.now in
-    let rows = left c.args.sim.now c.args.cycles in
+    let rows = whole c.args.sim.now c.args.delays.now c.args.cycles in
     let text = dump c.args.name.now ports rows in
     let all = c.args.out.now ++ text in
     let head = flat_map ended (header c.args.name.now ports) in
@@ -43,7 +43,7 @@ returns-clause-bytes g c =
     let d = g.S.Sink.written c.push.new.sink in
     let ports = c.args.ports.now in
     let sim = c.args.sim.now in
-    let rows = left sim c.args.cycles in
+    let rows = whole sim c.args.delays.now c.args.cycles in
     let text = dump c.args.name.now ports rows in
     let all = c.args.out.now ++ text in
     let head = flat_map ended (header c.args.name.now ports) in
@@ -52,6 +52,6 @@ returns-clause-bytes g c =
     let one = step_on o o a all text c.args.out.now head (cycles ++ end) (dump_text c.args.name.now ports rows c.args.before.now) (at_first o c.args.out.now text) c.push_header.new.out c.in_ok-push_header.ensures.bytes in
     let two = step_on o a b all (cycles ++ end) c.push_header.new.out cycles end refl one c.push_cycles.new.out c.in_ok-push_cycles.ensures.bytes in
     let line : end ≡ c.as_bytes.result.now =
-    ap (λ k. ended (time_text (k + 1))) (left_length sim.netlist sim.held c.args.cycles ∙ sym c.from.ensures)
+    ap (λ k. ended (time_text (k + 1))) (left_length sim.netlist sim.held c.args.delays.now c.args.cycles ∙ sym c.from.ensures)
     ∙ sym (c.as_bytes.ensures.bytes ∙ c.time_line-line.ensures) in
     finish_on o b d all end c.push_cycles.new.out c.as_bytes.result.now line two c.push.result c.push.new.self c.push.ensures.bytes
