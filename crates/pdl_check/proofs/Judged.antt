@@ -1,5 +1,5 @@
--- From what the reader and the scan answer to what the check answers.
-use Rattle.std.proofs.Common.{◌≡◌, [], map, IfOk, IsTrue, refl, sym, ap, ◌∙◌, subst, ℕ, ◌++◌, Bool, true, false, not, cond, nat_le, nat_lt, List, length, Option, Some, None, Result, Ok, Err, inl, inr, if◌then◌else◌, arith}
+-- From what the parser and the rules answer to what the check answers.
+use Rattle.std.proofs.Common.{◌≡◌, IfOk, refl, sym, ap, ◌∙◌, subst, ℕ, ◌++◌, Bool, true, false, not, cond, nat_le, nat_lt, List, length, Option, Some, None, Result, Ok, Err, inl, inr, if◌then◌else◌, arith}
 use Rattle.std.proofs.lemmas.Bool.Decides.{leb_tells}
 use Rattle.pdl_kit.specs.declared.rule.Rule.{Rule}
 use Rattle.pdl_kit.specs.declared.rule.Rule.TheVariants.{Z1, G1}
@@ -11,15 +11,12 @@ use Rattle.pdl_grammar.proofs.Places.{one_tree, apart, one_place}
 use Rattle.pdl_syntax.specs.declared.error.ParseError.TheVariants as parse_error
 use Rattle.pdl_syntax.specs.Text as text
 use Rattle.pdl_rules.specs.Limits.{is_too_long}
-use Rattle.pdl_rules.specs.Refusal.{Refused, refused_at, refusal, first_broken, limits, after_limits}
+use Rattle.pdl_rules.specs.Refusal.{Refused, refusal, first_broken, limits, after_limits}
 use Rattle.pdl_check.specs.declared.accepted.Accepted.{Accepted}
 use Rattle.pdl_kit.specs.declared.refusal.Refusal.{Refusal}
 use Rattle.pdl_kit.specs.declared.refusal.Refusal.TheVariants as error
 use Rattle.pdl_locks.specs.Plan.{Tells}
-use Rattle.pdl_check.specs.Gate.{gated_line}
-use Rattle.pdl_check.specs.Compiled.{can_compile}
-use Rattle.pdl_check.proofs.Passed.{only_others}
-use Rattle.pdl_check.specs.Answers.{source_refusal, Refuses, answer_of, check_answer, Gives, IsCause, IsRefused, IsChecked, IsRead, IsBroken, IsJudged}
+use Rattle.pdl_check.specs.Answers.{Refuses, answer_of, check_answer, Gives, IsCause, IsRefused, IsChecked, IsRead, IsBroken, IsJudged}
 
 -- THE LENGTH
 
@@ -53,73 +50,51 @@ too_long source p rule line e =
     ap (λ b. unless_long b (first_broken (limits ++ after_limits) p)) (over (length source))
     ∙ long_unless (nat_le (length source) 1048576) rule line (first_broken (limits ++ after_limits) p) e
 
--- THE GATE
-
-gated : (source : List ℕ) (p : Pipe) (line : ℕ) → Some line ≡ gated_line source → source_refusal source p ≡ Some (record { rule = G1; line = line })
-gated source p line e = ap (λ o. refused_at G1 o (refusal source p)) (sym e)
-
-ungated : (source : List ℕ) (p : Pipe) → None ≡ gated_line source → source_refusal source p ≡ refusal source p
-ungated source p e = ap (λ o. refused_at G1 o (refusal source p)) (sym e)
-
-neither : (o : Option ℕ) (later : Option Refused) → refused_at G1 o later ≡ None → (o ≡ None) × (later ≡ None)
-neither None later e = (refl, e)
-neither (Some line) later e = absurd (cc e)
-
 -- THE READER'S ANSWERS
 
-pub read_pipe : (source : List ℕ) (p : r_pipe.Pipe) → IsText source (pipe_view p) → text.broken_limit source (pipe_view p) ≡ None → None ≡ gated_line source → IsRead source (Ok p)
-read_pipe source p t w e = (t, sym e, not_too_long source (pipe_view p) w)
-
-pub read_compiled : (source : List ℕ) (p : r_pipe.Pipe) → IsText source (pipe_view p) → text.broken_limit source (pipe_view p) ≡ None → can_compile (pipe_view p) ≡ true → IsRead source (Ok p)
-read_compiled source p t w e = read_pipe source p t w (sym (only_others source (pipe_view p) t e))
-
-pub read_gated : (source : List ℕ) (p : Pipe) (line : ℕ) → IsText source p → Some line ≡ gated_line source → IsCause source (error.Refused G1 line)
-read_gated source p line t e = inr (p, t, gated source p line e)
+pub read_pipe : (source : List ℕ) (p : r_pipe.Pipe) → IsText source (pipe_view p) → text.broken_limit source (pipe_view p) ≡ None → IsRead source (Ok p)
+read_pipe source p t w = (t, not_too_long source (pipe_view p) w)
 
 pub read_misplaced : (source : List ℕ) (line : ℕ) → IsOutOfPlace source line → IsCause source (error.Refused G1 line)
 read_misplaced source line h = inl (refl, h)
 
-pub read_long : (source : List ℕ) (rule : Rule) (line : ℕ) → text.IsRefusal source (parse_error.Limit rule line) → None ≡ gated_line source → IsCause source (error.Refused rule line)
-read_long source rule line h e = inr (h.0, h.1, ungated source h.0 e ∙ too_long source h.0 rule line h.2)
+pub read_long : (source : List ℕ) (rule : Rule) (line : ℕ) → text.IsRefusal source (parse_error.Limit rule line) → IsCause source (error.Refused rule line)
+read_long source rule line h = inr (h.0, h.1, too_long source h.0 rule line h.2)
 
 -- WHAT IS CHECKED
 
-short : (source : List ℕ) (p : Pipe) → gated_line source ≡ None → is_too_long source ≡ false → source_refusal source p ≡ first_broken (limits ++ after_limits) p
-short source p g e = ungated source p (sym g) ∙ ap (λ b. unless_long b (first_broken (limits ++ after_limits) p)) e
+short : (source : List ℕ) (p : Pipe) → is_too_long source ≡ false → refusal source p ≡ first_broken (limits ++ after_limits) p
+short source p e = ap (λ b. unless_long b (first_broken (limits ++ after_limits) p)) e
 
-pub judged_checked : (source : List ℕ) (p : Pipe) (r : Result Accepted Refusal) → IsText source p → gated_line source ≡ None → is_too_long source ≡ false → IsJudged p r → IsChecked source r
-judged_checked source p (Ok a) t g e j =
-    let P : Pipe → Type 0 = λ q. IsText source q × (source_refusal source q ≡ None) in
-    subst P (sym j.0) (t, short source p g e ∙ j.1)
-judged_checked source p (Err error.NoMemory) t g e j = tt
-judged_checked source p (Err (error.Refused rule line)) t g e j = inr (p, t, short source p g e ∙ j)
+pub judged_checked : (source : List ℕ) (p : Pipe) (r : Result Accepted Refusal) → IsText source p → is_too_long source ≡ false → IsJudged p r → IsChecked source r
+judged_checked source p (Ok a) t e j =
+    let P : Pipe → Type 0 = λ q. IsText source q × (refusal source q ≡ None) in
+    subst P (sym j.0) (t, short source p e ∙ j.1)
+judged_checked source p (Err error.NoMemory) t e j = tt
+judged_checked source p (Err (error.Refused rule line)) t e j = inr (p, t, short source p e ∙ j)
 
 pub checked_found : (source : List ℕ) (r : Result Accepted Refusal) → IsChecked source r → IfOk r (λ a. IsText source (pipe_view a.typed.pipe))
 checked_found source (Ok a) h = h.0
 checked_found source (Err e) h = tt
 
-pub checked_passed : (source : List ℕ) (r : Result Accepted Refusal) → IsChecked source r → IfOk r (λ _. gated_line source ≡ None)
-checked_passed source (Ok a) h = (neither _ _ h.1).0
-checked_passed source (Err e) h = tt
-
 pub checked_kept : (source : List ℕ) (r : Result Accepted Refusal) → IsChecked source r → IfOk r (λ a. refusal source (pipe_view a.typed.pipe) ≡ None)
-checked_kept source (Ok a) h = (neither _ _ h.1).1
+checked_kept source (Ok a) h = h.1
 checked_kept source (Err e) h = tt
 
-gives_refusal : (source : List ℕ) (p : Pipe) (rule : Rule) (line : ℕ) → source_refusal source p ≡ Some (record { rule = rule; line = line }) → Gives (check_answer source p) (Err (error.Refused rule line))
+gives_refusal : (source : List ℕ) (p : Pipe) (rule : Rule) (line : ℕ) → refusal source p ≡ Some (record { rule = rule; line = line }) → Gives (check_answer source p) (Err (error.Refused rule line))
 gives_refusal source p rule line e = let P : Option Refused → Type 0 = λ o. Gives (answer_of p o) (Err (error.Refused rule line)) in subst P (sym e) refl
 
-gives_pipe : (source : List ℕ) (p : Pipe) (a : Accepted) → source_refusal source p ≡ None → pipe_view a.typed.pipe ≡ p → Gives (check_answer source p) (Ok a)
+gives_pipe : (source : List ℕ) (p : Pipe) (a : Accepted) → refusal source p ≡ None → pipe_view a.typed.pipe ≡ p → Gives (check_answer source p) (Ok a)
 gives_pipe source p a e same = let P : Option Refused → Type 0 = λ o. Gives (answer_of p o) (Ok a) in subst P (sym e) same
 
 pub checked_only : (source : List ℕ) (r : Result Accepted Refusal) (p : Pipe) → IsChecked source r → IsText source p → Gives (check_answer source p) r
 checked_only source (Ok a) p h t =
     let same : pipe_view a.typed.pipe ≡ p = one_tree source (pipe_view a.typed.pipe) p h.0 t in
-    gives_pipe source p a (subst (λ q. source_refusal source q ≡ None) same h.1) same
+    gives_pipe source p a (subst (λ q. refusal source q ≡ None) same h.1) same
 checked_only source (Err error.NoMemory) p h t = tt
 checked_only source (Err (error.Refused rule line)) p (inl h) t = absurd (apart source p line t h.1)
 checked_only source (Err (error.Refused rule line)) p (inr h) t =
-    let P : Pipe → Type 0 = λ q. source_refusal source q ≡ Some (record { rule = rule; line = line }) in
+    let P : Pipe → Type 0 = λ q. refusal source q ≡ Some (record { rule = rule; line = line }) in
     gives_refusal source p rule line (subst P (one_tree source h.0 p h.1 t) h.2)
 
 pub checked_exact : (source : List ℕ) (r : Result Accepted Refusal) (line : ℕ) → IsChecked source r → IsOutOfPlace source line → Gives (Refuses (record { rule = G1; line = line })) r

@@ -3,7 +3,7 @@ use Rattle.std.proofs.Common.{◌≡◌, refl, ℕ, List, [], ◌∷◌, ◌++�
 use Rattle.pdl_kit.specs.declared.rule.Rule.{Rule}
 use Rattle.pdl_semantics.specs.Tree.{Pipe}
 use Rattle.pdl_rules.specs.Places.{places}
-use Rattle.pdl_rules.specs.Refusal.{Refused, broken_line, refused_at, first_broken}
+use Rattle.pdl_rules.specs.Refusal.{broken_line, refused_at, first_broken}
 
 pub kept_parts : (rs others : List Rule) (p : Pipe) → first_broken (rs ++ others) p ≡ None → (first_broken rs p ≡ None) × (first_broken others p ≡ None)
 kept_parts [] others p e = (refl, e)

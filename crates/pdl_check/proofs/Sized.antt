@@ -1,5 +1,5 @@
 -- A memory's width and depth fit their types.
-use Rattle.std.proofs.Common.{◌≡◌, ℕ, zero, suc, ◌^◌, ◌<◌, ◌≤◌, List, [], ◌∷◌, map, length, get_or, sym, subst, arith}
+use Rattle.std.proofs.Common.{◌≡◌, ℕ, zero, suc, ◌<◌, List, [], ◌∷◌, map, length, get_or, sym, subst, arith}
 use Rattle.pdl_tree.specs.declared.tree.Mem as r_mem
 use Rattle.pdl_tree.specs.View.{mem_view}
 use Rattle.pdl_flat.specs.Sized.{IsSizedMem, AreSizedMems}

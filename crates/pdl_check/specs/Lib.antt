@@ -1,5 +1,2 @@
-pub mod Gate
 pub mod Answers
-pub mod Compiled
-pub mod Passing
 pub mod Made

@@ -11,7 +11,6 @@ ghost use Rattle.pdl_form.specs.Form.{form_of};
 ghost use Rattle.pdl_form.specs.Whole.{form};
 ghost use Rattle.pdl_formtypes.specs.Same.{same_form};
 ghost use Rattle.pdl_stagegraph.specs.Graph.{graph_of};
-ghost use Rattle.pdl_check.specs.Compiled.{can_compile};
 ghost use Rattle.pdl_pathfacts.specs.Source.{is_source, is_named};
 ghost use Rattle.pdl_rules.specs.Memories.{infos_of};
 
@@ -36,7 +35,6 @@ pub struct Accepted {
     pub ghost source: { IsTrue (is_source (pipe_view typed.pipe)) },
     pub ghost letters: { IsTrue (is_named (pipe_view typed.pipe)) },
     pub ghost kept: { KeepsRules (pipe_view typed.pipe) },
-    pub ghost compiled: { IsTrue (can_compile (pipe_view typed.pipe)) },
     pub ghost guarded: { guards ≡ guards_in (places (pipe_view typed.pipe)) },
     pub ghost told: { mems ≡ infos_of (pipe_view typed.pipe).mems },
     pub ghost planned: { plans.locks ≡ plan_of (pipe_view typed.pipe) },

@@ -10,9 +10,7 @@ ghost use Rattle.pdl_rules.specs.Speculation.{verify_stage};
 ghost use Rattle.pdl_locks.specs.Plan.{plan_of};
 ghost use Rattle.pdl_form.specs.Whole.{form};
 ghost use Rattle.pdl_stagegraph.specs.Graph.{graph_of};
-ghost use Rattle.pdl_check.specs.Compiled.{can_compile};
 ghost use Rattle.pdl_pathfacts.specs.Source.{is_source, is_named};
-ghost use Rattle.pdl_check.specs.Gate.{gated_line as first_gated};
 ghost use Rattle.pdl_check.specs.Made.{IsMadeOf};
 ghost use Rattle.pdl_check.specs.Answers.{check_answer, Gives, Refuses, IsRefused, IsChecked, IsJudged};
 
@@ -29,15 +27,14 @@ use pdl_tree::Pipe;
 use pdl_typed::TypedPipe;
 use std::alloc::Global;
 
-/// Checks a source of at most 268,435,456 bytes. A text that is no pipe is refused at its first token out of place (G1), and that of a pipe at its first form that isn't compiled yet (G1). Any other is asked all rules: it is accepted where it breaks none, and else refused by the lowest rule that it breaks, at the line of that rule's lowest place.
-#[tactic(auto, using(crate::proofs::Judged::checked_found, crate::proofs::Judged::checked_passed, crate::proofs::Judged::checked_kept, crate::proofs::Judged::checked_only, crate::proofs::Judged::checked_exact, crate::proofs::Judged::checked_refused))]
+/// Checks a source of at most 268,435,456 bytes. A text that is no pipe is refused at its first token out of place (G1). That of a pipe is asked all rules: it is accepted where it breaks none, and else refused by the lowest rule that it breaks, at the line of that rule's lowest place.
+#[tactic(auto, using(crate::proofs::Judged::checked_found, crate::proofs::Judged::checked_kept, crate::proofs::Judged::checked_only, crate::proofs::Judged::checked_exact, crate::proofs::Judged::checked_refused))]
 pub fn check(alloc: Global, source: &[u8]) -> Result<Accepted, Refusal>
     requires { length source.now ≤ 268435456 }
-    // What is accepted is the pipe of the text, passes the gate, and breaks no rule.
+    // What is accepted is the pipe of the text, and breaks no rule.
     ensures found { IfOk result (λ a. IsText source.now (pipe_view a.typed.pipe)) }
-    ensures passed { IfOk result (λ _. first_gated source.now ≡ None) }
     ensures kept { IfOk result (λ a. refusal source.now (pipe_view a.typed.pipe) ≡ None) }
-    // The text of a pipe is accepted or refused, by the gate or else by the rules, unless memory runs out.
+    // The text of a pipe is accepted, or refused by the rules, unless memory runs out.
     ensures only { (p : tree.Pipe) → IsText source.now p →
         Gives (check_answer source.now p) result }
     // Any other text is refused at the first token out of place, unless memory runs out.
@@ -60,11 +57,10 @@ fn read_and_check(alloc: Global, source: &[u8]) -> Result<Accepted, Refusal>
     }
 }
 
-// Asks a pipe that passed the gate the rules of the tree.
+// Asks the pipe of a text the rules of the tree.
 fn judge(alloc: Global, pipe: Pipe) -> Result<Accepted, Refusal>
     requires source { IsTrue (is_source (pipe_view pipe)) }
     requires letters { IsTrue (is_named (pipe_view pipe)) }
-    requires compiled { IsTrue (can_compile (pipe_view pipe)) }
     ensures { IsJudged (pipe_view pipe) result }
 {
     match plan(alloc, &pipe) {
@@ -86,7 +82,6 @@ pub struct Made {
 fn accept(alloc: Global, pipe: Pipe, plans: Plans) -> Result<Accepted, NoMemory>
     requires source { IsTrue (is_source (pipe_view pipe)) }
     requires letters { IsTrue (is_named (pipe_view pipe)) }
-    requires compiled { IsTrue (can_compile (pipe_view pipe)) }
     requires kept { first_broken (limits ++ after_limits) (pipe_view pipe) ≡ None }
     requires locks { plans.locks ≡ plan_of (pipe_view pipe) }
     requires spec { plans.spec ≡ verify_stage (pipe_view pipe) }

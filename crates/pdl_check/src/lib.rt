@@ -1,14 +1,11 @@
-//! Whether a source is accepted: its grammar, the forms that aren't compiled yet, its length and the rules of its tree, of which the first that fails refuses it.
+//! Whether a source is accepted: its grammar, its length and the rules of its tree, of which the first that fails refuses it.
 //!
 //! The layers above may use `check`, and read an `Accepted` by its calls, with the facts that it keeps of its pipe.
 #![tactic(auto)]
 
 pub mod accepted;
 pub mod check;
-mod compiled;
-mod gate;
 mod infos;
-mod long;
 mod read;
 
 pub use accepted::Accepted;

@@ -1,9 +1,9 @@
-use Rattle.std.proofs.Common.{◌≡◌, ap, ◌∙◌, map, ◌++◌, subst, sym}
+use Rattle.std.proofs.Common.{◌≡◌, ap, subst, sym}
 use Rattle.std.specs.Prelude.{IsTrue}
 use Rattle.pdl_semantics.specs.Tree as tree
 use Rattle.pdl_semantics.specs.Flatten.{flat}
 use Rattle.pdl_tree.specs.declared.tree.Pipe as r_pipe
-use Rattle.pdl_tree.specs.View.{pipe_view, mem_view}
+use Rattle.pdl_tree.specs.View.{pipe_view}
 use Rattle.pdl_rules.specs.Refusal.{KeepsRules, limits, after_limits}
 use Rattle.pdl_rules.specs.Speculation.{verify_stage}
 use Rattle.pdl_locks.specs.Plan.{plan_of}
@@ -12,12 +12,9 @@ use Rattle.pdl_rules.proofs.Unbroken.{keeps_unbroken}
 use Rattle.pdl_names.specs.Order.{name_rules}
 use Rattle.pdl_widths.specs.Order.{width_rules}
 use Rattle.pdl_judge.specs.Told.{after_names, after_widths}
-use Rattle.pdl_flat.specs.Sized.{AreSizedMems}
-use Rattle.pdl_flat.proofs.Accepted.{keeps_lowered}
-use Rattle.pdl_form.specs.Form.{Form, form_of}
+use Rattle.pdl_form.specs.Form.{form_of}
 use Rattle.pdl_form.specs.Whole.{form}
 use Rattle.pdl_formtypes.specs.Same.{same_form}
-use Rattle.pdl_check.specs.Compiled.{can_compile}
 use Rattle.pdl_formtypes.proofs.Same.{forms_pass}
 use Rattle.pdl_stagegraph.specs.Graph.{graph_of}
 use Rattle.pdl_rules.specs.Places.{places, guards}
@@ -44,7 +41,6 @@ invariant_of-result c =
       source = at (λ p. IsTrue (is_source p)) c.requires.source;
       letters = at (λ p. IsTrue (is_named p)) c.requires.letters;
       kept = at KeepsRules (keeps_unbroken (pipe_view c.args.pipe) c.requires.kept);
-      compiled = at (λ p. IsTrue (can_compile p)) c.requires.compiled;
       guarded = at (λ p. c.in_ok-made.made.guards ≡ guards (places p)) c.in_ok-made.ensures.guarded;
       told = at (λ p. c.in_ok-made.made.mems ≡ infos_of p.mems) c.in_ok-made.ensures.told;
       planned = at (λ p. c.args.plans.locks ≡ plan_of p) c.requires.locks;

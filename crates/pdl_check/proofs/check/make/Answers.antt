@@ -1,4 +1,4 @@
-use Rattle.std.proofs.Common.{◌≡◌, ap, ◌∙◌, map, subst, sym}
+use Rattle.std.proofs.Common.{ap, ◌∙◌, map, subst, sym}
 use Rattle.pdl_tree.specs.View.{pipe_view, mem_view}
 use Rattle.pdl_rules.specs.Memories.{infos_of}
 use Rattle.pdl_rules.specs.Places.{places}

@@ -1,6 +1,5 @@
 use Rattle.pdl_tree.specs.View.{pipe_view}
 use Rattle.pdl_sources.proofs.Texts.{source_of, named_of}
-use Rattle.pdl_check.proofs.Passed.{passed}
 use Rattle.pdl_check.proofs.Judged.{judged_checked}
 use Rattle.pdl_check.proofs.check.read_and_check.Goals as goal
 
@@ -10,8 +9,7 @@ judge-requires c =
     record {
       source = source_of c.args.source.now (pipe_view c.in-Ok.pipe) read.0;
       letters = named_of c.args.source.now (pipe_view c.in-Ok.pipe) read.0;
-      compiled = passed c.args.source.now (pipe_view c.in-Ok.pipe) read.0 read.1;
     }
 
 pub returns-in-Ok : goal.returns-in-Ok
-returns-in-Ok c = let read = c.in-Ok.ensures in judged_checked c.args.source.now (pipe_view c.in-Ok.pipe) c.judge.result read.0 read.1 read.2 c.judge.ensures
+returns-in-Ok c = let read = c.in-Ok.ensures in judged_checked c.args.source.now (pipe_view c.in-Ok.pipe) c.judge.result read.0 read.1 c.judge.ensures

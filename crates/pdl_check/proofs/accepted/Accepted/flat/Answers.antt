@@ -1,4 +1,3 @@
-use Rattle.pdl_form.specs.Whole.{form}
 use Rattle.pdl_formtypes.proofs.Same.{same_forms}
 use Rattle.pdl_check.proofs.accepted.Accepted.flat.Goals as goal
 
