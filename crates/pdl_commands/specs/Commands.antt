@@ -13,7 +13,6 @@ use Rattle.pdl_semantics.specs.Lines.{accepted_line, run_lines, seq_lines, turn_
 use Rattle.pdl_semantics.specs.Promises.{KeepsPace}
 use Rattle.pdl_grammar.specs.Text.{IsText, IsOutOfPlace}
 use Rattle.pdl_rules.specs.Refusal.{refusal}
-use Rattle.pdl_check.specs.Gate.{gated_line}
 use Rattle.pdl_check.specs.Answers.{source_refusal}
 use Rattle.pdl_net.specs.declared.Netlist.{Netlist}
 use Rattle.pdl_net.specs.Run.{delayed_mems, nports}
@@ -56,17 +55,16 @@ abbrev pub AtInsn : (ℕ → Type 0) → Position → Type 0
 AtInsn refused (Line n) = ⊥
 AtInsn refused (Insn n) = refused n
 
--- the source is refused by the rule at the line: it is no text of the grammar, or one with a form that isn't compiled yet, or one that breaks the rule
+-- the source is refused by the rule at the line: it is no text of the grammar, or one that breaks the rule
 abbrev pub SourceRefused : List ℕ → Rule → ℕ → Type 0
 SourceRefused source rule line =
     ((rule ≡ G1) × IsOutOfPlace source line)
     ⊎ ((p : Pipe) × IsText source p
     × (source_refusal source p ≡ Some (record { rule = rule; line = line })))
 
--- the source is the text of the pipe, which passes the gate and breaks no rule
+-- the source is the text of the pipe, which breaks no rule
 pub record IsAccepted (source : List ℕ) (p : Pipe) : Type 0 where
   pub text : IsText source p
-  pub passed : gated_line source ≡ None
   pub kept : refusal source p ≡ None
 
 -- the image text gives these words for the pipe's memories
