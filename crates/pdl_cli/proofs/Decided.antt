@@ -8,7 +8,6 @@ use Rattle.pdl_semantics.specs.Flatten.{flat}
 use Rattle.pdl_grammar.specs.Text.{IsText}
 use Rattle.pdl_grammar.proofs.Places.{one_tree}
 use Rattle.pdl_rules.specs.Refusal.{refused_at, refusal}
-use Rattle.pdl_check.specs.Answers.{source_refusal}
 use Rattle.pdl_net.specs.declared.Netlist.{Netlist}
 use Rattle.pdl_net.specs.Run.{delayed_mems}
 use Rattle.pdl_pipe_law.specs.Places.{delayed_count}
@@ -43,9 +42,9 @@ one_text held name b c g h = let k : Some b ≡ Some c = sym g ∙ h in cc
 kept_unrefused : (b : List ℕ) (p : Pipe) (rule : Rule) (line : ℕ) → IsAccepted b p → SourceRefused b rule line → ⊥
 kept_unrefused b p rule line a (inl w) = w.1.no_text p a.text
 kept_unrefused b p rule line a (inr w) =
-    let k : source_refusal b p ≡ Some (record { rule = rule; line = line }) =
-    subst (λ (q : Pipe). source_refusal b q ≡ Some (record { rule = rule; line = line })) (one_tree b w.0 p w.1 a.text) w.2 in
-    let n : source_refusal b p ≡ None = ap (λ o. refused_at G1 o (refusal b p)) a.passed ∙ a.kept in absurd cc
+    let k : refusal b p ≡ Some (record { rule = rule; line = line }) =
+    subst (λ (q : Pipe). refusal b q ≡ Some (record { rule = rule; line = line })) (one_tree b w.0 p w.1 a.text) w.2 in
+    let n : refusal b p ≡ None = a.kept in absurd cc
 
 pub source_right : (held : Held) (source : List ℕ) (rule : Rule) (line : ℕ) (b : List ℕ) (p : Pipe)
     → Gives (Some held) source b → IsAccepted b p → IsWrongSource (Some held) source rule line → ⊥

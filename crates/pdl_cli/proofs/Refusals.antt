@@ -7,7 +7,6 @@ use Rattle.pdl_semantics.specs.Flatten.{flat}
 use Rattle.pdl_grammar.specs.Text.{IsText}
 use Rattle.pdl_grammar.proofs.Places.{one_tree, one_place}
 use Rattle.pdl_rules.specs.Refusal.{Refused}
-use Rattle.pdl_check.specs.Answers.{source_refusal}
 use Rattle.pdl_net.specs.declared.Netlist.{Netlist}
 use Rattle.pdl_net.specs.Run.{delayed_mems}
 use Rattle.pdl_pipe_law.specs.Places.{delayed_count}
@@ -47,8 +46,8 @@ source_one b r s n m (inl x) (inr y) = absurd (x.1.no_text y.0 y.1)
 source_one b r s n m (inr x) (inl y) = absurd (y.1.no_text x.0 x.1)
 source_one b r s n m (inr x) (inr y) =
     let q : x.0 ≡ y.0 = one_tree b x.0 y.0 x.1 y.1 in
-    let k : source_refusal b y.0 ≡ Some (record { rule = r; line = n }) = subst (λ (p : Pipe). source_refusal b p ≡ Some (record { rule = r; line = n })) q x.2 in
-    one_refused (source_refusal b y.0) r s n m k y.2
+    let k : refusal b y.0 ≡ Some (record { rule = r; line = n }) = subst (λ (p : Pipe). refusal b p ≡ Some (record { rule = r; line = n })) q x.2 in
+    one_refused (refusal b y.0) r s n m k y.2
 
 wrong_source : (held : Held) (source : List ℕ) (r s : Rule) (n m : ℕ) → IsWrongSource (Some held) source r n → IsWrongSource (Some held) source s m → (r ≡ s) × (n ≡ m)
 wrong_source held source r s n m v w =

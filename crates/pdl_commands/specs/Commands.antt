@@ -13,7 +13,6 @@ use Rattle.pdl_semantics.specs.Lines.{accepted_line, run_lines, seq_lines, turn_
 use Rattle.pdl_semantics.specs.Promises.{KeepsPace}
 use Rattle.pdl_grammar.specs.Text.{IsText, IsOutOfPlace}
 use Rattle.pdl_rules.specs.Refusal.{refusal}
-use Rattle.pdl_check.specs.Answers.{source_refusal}
 use Rattle.pdl_net.specs.declared.Netlist.{Netlist}
 use Rattle.pdl_net.specs.Run.{delayed_mems, nports}
 use Rattle.pdl_wave.specs.Wave.{IsWaveOf}
@@ -60,7 +59,7 @@ abbrev pub SourceRefused : List ℕ → Rule → ℕ → Type 0
 SourceRefused source rule line =
     ((rule ≡ G1) × IsOutOfPlace source line)
     ⊎ ((p : Pipe) × IsText source p
-    × (source_refusal source p ≡ Some (record { rule = rule; line = line })))
+    × (refusal source p ≡ Some (record { rule = rule; line = line })))
 
 -- the source is the text of the pipe, which breaks no rule
 pub record IsAccepted (source : List ℕ) (p : Pipe) : Type 0 where
