@@ -6,7 +6,7 @@ use Rattle.pdl_semantics.specs.Tree.{Pipe}
 use Rattle.pdl_semantics.specs.Flatten.{flat}
 use Rattle.pdl_grammar.specs.Text.{IsText}
 use Rattle.pdl_grammar.proofs.Places.{one_tree, one_place}
-use Rattle.pdl_rules.specs.Refusal.{Refused}
+use Rattle.pdl_rules.specs.Refusal.{Refused, refusal}
 use Rattle.pdl_net.specs.declared.Netlist.{Netlist}
 use Rattle.pdl_net.specs.Run.{delayed_mems}
 use Rattle.pdl_pipe_law.specs.Places.{delayed_count}
