@@ -181,4 +181,3 @@ lock_steps-requires-clause-cut g c =
     subst (AreTickets l h locks) (sym c.as_slice.ensures)
     (cut_fits l e f h (line_pipe x) locks c.in_ok-tails.tails.cut x.shared.now.next fh (locked_kept l b h (line_pipe x) locks bh g.met.L.LockModule.stays c.requires.locked) row.there row.wide
     (signals_keep e h x.shared.now.next eh (there_keeps b e x.shared.now.next be c.requires.line.shared.next_there)) (next_kept l b h (line_pipe x) locks x.shared.now.next bh c.requires.locked c.requires.line.shared.next_there c.requires.next))
-
