@@ -1,4 +1,4 @@
-// Sources with forms that aren't compiled yet, of which the program tells no more than that: those that break each rule on these forms, and others.
+// Sources with guesses, forks and delayed memories: those that break each rule on these forms, and others.
 use pdl_judge::judge;
 use pdl_kit::{Refusal, Rule};
 use pdl_syntax::parse::parse;
@@ -132,7 +132,7 @@ fn ask(rt: &impl Abort, alloc: Global, rows: &[Row]) {
 }
 
 #[test]
-fn forms_that_are_not_compiled(rt: HostRuntime) {
+fn forms_that_break_rules(rt: HostRuntime) {
     ask(&rt, rt.alloc(), &BY_RULE);
     ask(&rt, rt.alloc(), &BESIDE);
 }

@@ -1,4 +1,4 @@
-//! What no row of the program asks of its parts: faults of files and sinks, forms that aren't compiled yet, delay files, each lock alone and in a netlist, the circuits beside the stages, simulated netlists, flat forms as registers and nets, and public calls that the program doesn't make.
+//! What no row of the program asks of its parts: faults of files and sinks, forms that break rules, delay files, each lock alone and in a netlist, the circuits beside the stages, simulated netlists, flat forms as nets, and public calls that the program doesn't make.
 //!
 //! It has tests alone, and nothing stands on it.
 #![tactic(auto)]
@@ -35,7 +35,6 @@ mod sides;
 #[cfg(test)]
 mod stagenets_rows;
 #[cfg(test)]
-mod stageregs_rows;
 #[cfg(test)]
 mod text_rows;
 #[cfg(test)]
