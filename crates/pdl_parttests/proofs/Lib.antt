@@ -1,3 +1,2 @@
 pub mod Memory
-pub mod Short
 pub mod OneBit
