@@ -1,4 +1,4 @@
-//! What no row of the program asks of its parts: faults of files and sinks, forms that break rules, delay files, each lock alone and in a netlist, the circuits beside the stages, simulated netlists, flat forms as nets, and public calls that the program doesn't make.
+//! What no row of the program asks of its parts: faults of files and sinks, delay files, each lock alone and in a netlist, the circuits beside the stages, simulated netlists, flat forms as nets, and public calls that the program doesn't make.
 //!
 //! It has tests alone, and nothing stands on it.
 #![tactic(auto)]
@@ -12,8 +12,6 @@ pub mod drives;
 mod flatnets_rows;
 #[cfg(test)]
 mod form_rows;
-#[cfg(test)]
-mod judge_rows;
 #[cfg(test)]
 mod kit_rows;
 #[cfg(test)]
@@ -34,7 +32,6 @@ mod plan_rows;
 mod sides;
 #[cfg(test)]
 mod stagenets_rows;
-#[cfg(test)]
 #[cfg(test)]
 mod text_rows;
 #[cfg(test)]
