@@ -43,12 +43,11 @@ def same(line, head="", tail=""):
 def counted(line, head="", tail=lambda count: "", share=1.0):
     """A file of this length, or a share of it before the tail, of lines with a number each."""
     def pieces(size):
-        left, number = int(size * share) - len(head), 0
+        left, number = int(size * share) - len(head) - 4096, 0
         yield head
-        while left > 0:
-            some = "".join(line(it) for it in range(number, number + 10000))
+        while len(some := "".join(line(it) for it in range(number, number + 1000))) <= left:
             yield some
-            left, number = left - len(some), number + 10000
+            left, number = left - len(some), number + 1000
         yield tail(number)
     return pieces
 
@@ -81,6 +80,8 @@ FILES = {  # the words, in which _ is the file, and what it is made of
     "netlist of registers": ("sim _ e.img 1", counted(
         lambda it: f"reg [0:0] r{it};\n", MODULE, lambda count: WIRE + ENDS + "".join(
             f"always @(posedge clk) r{it} <= rst ? 1'h0 : n0;\n" for it in range(count)) + "endmodule\n", 15 / 67)),
+    "netlist of dense wires": ("sim _ e.img 1", counted(lambda it: f"wire[0:0]n{it};assign n{it}=~r0;", MODULE + "reg [0:0] r0;\n",
+                                                        lambda _: ENDS + "always @(posedge clk) r0 <= rst ? 1'h0 : n0;\nendmodule\n")),
     "netlist of outputs": ("sim _ e.img 1", counted(lambda it: f",output wire [0:0] a{it}\n", "module pdl_p(input wire clk", lambda _: ");")),
     "netlist of blanks": ("sim _ e.img 1", same(" ", MODULE + WIRE + ENDS, "endmodule\n")),
     "netlist of comments": ("sim _ e.img 1", same(COMMENT, MODULE + WIRE + ENDS, "endmodule\n")),
