@@ -14,7 +14,8 @@ import sys
 import tempfile
 
 BOUND = 10 << 30
-HEAD = "pipe p(n: uint<4>)[m: uint<8>[4] comb lock queue(1)] { a = n[1:0]; v = zext(n, 8); reserve(m[a], W); block(m[a]); m[a] <- v; release(m[a]); "
+HEAD = ("pipe p(n: uint<4>)[m: uint<8>[4] comb lock queue(1)] { a = n[1:0]; v = zext(n, 8); reserve(m[a], W); block(m[a]); "
+        "m[a] <- v; release(m[a]); ")
 CALL = "call(n + 4'd1); } start p(4'd0);"
 WIDE = "pipe p(n: uint<16>)[" + ", ".join(f"m{it}: uint<64>[65536] comb" for it in range(16)) + "] { call(n + 16'd1); } start p(16'd0);"
 MODULE = ("module pdl_p(input wire clk, input wire [0:0] rst, output wire [0:0] v_0, output wire [0:0] g_0, "
@@ -80,8 +81,8 @@ FILES = {  # the words, in which _ is the file, and what it is made of
     "netlist of registers": ("sim _ e.img 1", counted(
         lambda it: f"reg [0:0] r{it};\n", MODULE, lambda count: WIRE + ENDS + "".join(
             f"always @(posedge clk) r{it} <= rst ? 1'h0 : n0;\n" for it in range(count)) + "endmodule\n", 15 / 67)),
-    "netlist of dense wires": ("sim _ e.img 1", counted(lambda it: f"wire[0:0]n{it};assign n{it}=~r0;", MODULE + "reg [0:0] r0;\n",
-                                                        lambda _: ENDS + "always @(posedge clk) r0 <= rst ? 1'h0 : n0;\nendmodule\n")),
+    "netlist of dense wires": ("sim _ e.img 1", counted(
+        lambda it: f"wire[0:0]n{it};assign n{it}=~r0;", MODULE + "reg [0:0] r0;\n", lambda _: ENDS + "always @(posedge clk) r0 <= rst ? 1'h0 : n0;\nendmodule\n")),
     "netlist of outputs": ("sim _ e.img 1", counted(lambda it: f",output wire [0:0] a{it}\n", "module pdl_p(input wire clk", lambda _: ");")),
     "netlist of blanks": ("sim _ e.img 1", same(" ", MODULE + WIRE + ENDS, "endmodule\n")),
     "netlist of comments": ("sim _ e.img 1", same(COMMENT, MODULE + WIRE + ENDS, "endmodule\n")),

@@ -119,8 +119,9 @@ def main(program):
                         wrong += 1
                         print(f"WRONG: {answer} where call {number} of {case} {'and the later ones are' if more else 'is'} refused")
             calls += len(answers)
-            print(f"{len(answers):6} calls, {counts[0]} and {counts[1]} done with less, status {ran.returncode}: {case or 'no words'}", flush=True)
-    print(f"{calls} calls, {others[0]} done with less where one was refused, {others[1]} where the later ones were too, {wrong} wrong")
+            told = f"{counts[0]} and {counts[1]} done with less, status {ran.returncode}: {case or 'no words'}"
+            print(f"{len(answers):6} calls, {told}", flush=True)
+    print(f"{calls} calls, {others[0]} done with less where one was refused, {others[1]} where all later ones were, {wrong} wrong")
     sys.exit(wrong > 0)
 
 
