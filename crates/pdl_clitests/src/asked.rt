@@ -29,6 +29,27 @@ fn put_words(alloc: Global, texts: &mut Vec<String>, words: &[&str]) {
     }
 }
 
+/// Files a.pdl and e.img with these bytes, of which the reads with these numbers fail, counted from 1.
+pub fn files_of(alloc: Global, source: &[u8], image: &[u8], failing: Vec<u64>) -> MemFiles {
+    let mut files = Vec::new(alloc);
+    put_file(alloc, &mut files, b"a.pdl", source);
+    put_file(alloc, &mut files, b"e.img", image);
+    MemFiles::new(files, failing)
+}
+
+/// The status for words over these files.
+pub fn asked(
+    alloc: Global,
+    words: &[&str],
+    files: &mut MemFiles,
+    out: &mut MemSink,
+    err: &mut MemSink,
+) -> u8 {
+    let mut texts = Vec::new(alloc);
+    put_words(alloc, &mut texts, words);
+    top(alloc, &texts, files, out, err)
+}
+
 /// The status for words, over files a.pdl and e.img with these bytes.
 pub fn ran(
     alloc: Global,
@@ -38,13 +59,8 @@ pub fn ran(
     out: &mut MemSink,
     err: &mut MemSink,
 ) -> u8 {
-    let mut texts = Vec::new(alloc);
-    put_words(alloc, &mut texts, words);
-    let mut files = Vec::new(alloc);
-    put_file(alloc, &mut files, b"a.pdl", source);
-    put_file(alloc, &mut files, b"e.img", image);
-    let mut files = MemFiles::new(files, Vec::new(alloc));
-    top(alloc, &texts, &mut files, out, err)
+    let mut files = files_of(alloc, source, image, Vec::new(alloc));
+    asked(alloc, words, &mut files, out, err)
 }
 
 /// Whether the status is 0, and nothing is written beside the output.

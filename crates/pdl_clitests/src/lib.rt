@@ -6,6 +6,8 @@
 #[cfg(test)]
 mod asked;
 #[cfg(test)]
+mod cuts;
+#[cfg(test)]
 mod faults;
 #[cfg(test)]
 mod generated;
