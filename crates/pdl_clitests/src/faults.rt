@@ -129,7 +129,7 @@ fn stops_at_each_byte(rt: HostRuntime) {
     let mut call: u64 = 1;
     for before in 0..67 {
         assert!(rt; byte_by_byte(rt.alloc(), call) == Some((4, before)));
-        call += 1;
+        call = call.saturating_add(1);
     }
     assert!(rt; byte_by_byte(rt.alloc(), call) == Some((0, 67)));
 }
