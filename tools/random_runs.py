@@ -11,7 +11,7 @@ each whole run what has to hold (pdl_model/sound.py and promises.py). A pipe tha
 `program` takes the runs of examples/ and random pipes of the forms that the program PDL compiles. What `pdl check`, `run`
 and `seq` print has to be what the model says, of a pipe that is refused the rule and the line; so each pipe is asked once
 more with a line left out, said twice, moved or changed. `whole` does the same with pipes of the whole base language and
-with delay files, for a program that compiles it.
+with delay files, and what `pdl wave` says of each port in each cycle has to be what the model says too.
 
 PIPES is 200 and SEED is 1 where they aren't given. A pipe runs for 100 cycles.
 """
@@ -27,6 +27,7 @@ from collections import Counter
 import random_pipes
 import random_whole
 from pdl_model import files, promises, rules
+from pdl_model.dump import NoDump, Wave
 from pdl_model.syntax import Refused
 
 CYCLES = 100
@@ -129,6 +130,18 @@ def due(layout, image, delays, cycles, threads):
     ]
 
 
+def port_lines(program, cycles, delays, folder):
+    """All ports of each cycle as a dump says them, or what is wrong with the dump."""
+    option = ["--delays", "pipe.delays"] if delays else []
+    ran = subprocess.run([program, "wave", "pipe.pdl", "pipe.img", str(cycles), *option], cwd=folder,
+                         capture_output=True, text=True)
+    try:
+        wave = Wave(ran.stdout)
+    except NoDump as reason:
+        return [f"no dump: {reason}"]
+    return [" ".join(f"{name}={value:x}" for (name, _), value in zip(wave.ports, row)) for row in wave.rows()]
+
+
 def differences(program, source, image, delays, cycles, threads, folder):
     """The commands whose answers differ; None where the source is refused, and rightly."""
     (folder / "pipe.pdl").write_text(source)
@@ -138,8 +151,11 @@ def differences(program, source, image, delays, cycles, threads, folder):
         layout = rules.checked(source)
     except Refused as refusal:
         return None if answer(program, ["check", "pipe.pdl"], folder) == [str(refusal)] else ["check pipe.pdl"]
-    return [" ".join(command) for command, lines in due(layout, image, delays, cycles, threads)
-            if answer(program, command, folder) != lines]
+    found = [" ".join(command) for command, lines in due(layout, image, delays, cycles, threads)
+             if answer(program, command, folder) != lines]
+    words, rows = files.read_image(layout.pipe, image), files.read_delays(layout.pipe, delays)
+    ports = [files.port_line(layout, it) for it in files.turns(layout, words, cycles, rows)]
+    return found + (["wave pipe.pdl"] if port_lines(program, cycles, delays, folder) != ports else [])
 
 
 def spoiled(chance, source):

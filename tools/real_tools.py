@@ -3,20 +3,24 @@
 
     real_tools.py PDL [PIPES [SEED]]
 
-PDL is the program. The pipe of each run of examples/ and PIPES random ones (200 where none is given) are built. Each text
-is read by `iverilog -g2005 -Wall`, `verilator --lint-only -Wall` and `yosys check`, which have to say nothing.
-Then Icarus runs it in a test bench that shows all ports in each cycle: no port may be unknown, and the commits,
-the ended threads and the squashes among them have to be the lines of `pdl sim`, and those of `pdl run`.
+PDL is the program. The pipe of each run of examples/ and PIPES random ones of the whole language (200 where none is
+given) are built. Each text is read by those of `iverilog -g2005 -Wall`, `verilator --lint-only -Wall` and `yosys check`
+that are installed; they have to say nothing.
+Then Icarus runs it in a test bench that answers the delayed memories as a random delay file says and shows all ports in
+each cycle. No port may be unknown, and each is that of the machine of tools/pdl_model; the commits, the waits, the ended
+threads and the squashes among them have to be the lines of `pdl sim`, and those of `pdl run`.
 """
 
 import pathlib
 import random
 import re
+import shutil
 import subprocess
 import sys
 import tempfile
 
-from random_pipes import source_and_image
+from pdl_model import files, rules
+from random_whole import RandomPipe, random_features
 
 EXAMPLES = pathlib.Path(__file__).resolve().parent.parent / "examples"
 CYCLES = 60
@@ -41,11 +45,12 @@ def lint(file, folder):
     """What the tools have against a text."""
     without = [f"-Wno-{it}" for it in VERILATOR_WITHOUT]
     yosys = f"read_verilog {file}; hierarchy -check; proc; check -assert"
-    return [
-        *quiet("iverilog", ["iverilog", "-g2005", "-Wall", "-o", "lint.vvp", file], folder),
-        *quiet("verilator", ["verilator", "--lint-only", "-Wall", *without, file], folder),
-        *quiet("yosys", ["yosys", "-q", "-p", yosys], folder),
+    asked = [
+        ["iverilog", "-g2005", "-Wall", "-o", "lint.vvp", file],
+        ["verilator", "--lint-only", "-Wall", *without, file],
+        ["yosys", "-q", "-p", yosys],
     ]
+    return [it for words in asked if shutil.which(words[0]) for it in quiet(words[0], words, folder)]
 
 
 class Module:
@@ -56,6 +61,7 @@ class Module:
         self.name = re.match(r"module (\w+)\(", head)[1]
         self.file = f"{self.name}.v"
         self.outputs = [(name, int(high) + 1) for high, name in re.findall(r"output wire \[(\d+):0\] (\w+)", head)]
+        self.words = {name: int(high) + 1 for high, name in re.findall(r"input wire \[(\d+):0\] pd_(\w+)", head)}
         found = re.findall(r"^reg \[(\d+):0\] a_(\w+) \[0:(\d+)\];$", text, re.M)
         self.arrays = {name: (int(high) + 1, int(last) + 1) for high, name, last in found}
         self.width = dict(self.outputs)
@@ -64,6 +70,10 @@ class Module:
         """The memories that commit."""
         return [name[2:] for name, _ in self.outputs if name.startswith("c_")]
 
+    def delayed(self):
+        """The delayed memories: a name, the width of a word, and that of an address."""
+        return [(name, width, self.width[f"qa_{name}"]) for name, width in self.words.items()]
+
 
 def words_of(image):
     """The words of an image text."""
@@ -71,15 +81,47 @@ def words_of(image):
     return [(name, int(address), int(value, 16)) for name, address, value in map(str.split, lines)]
 
 
-def bench(module, image, cycles):
-    """A test bench: one reset cycle, the image, and in each cycle a line with all ports."""
+def kept_outside(name, width, address, commits):
+    """A delayed memory of the test bench: what declares it, its answer in a cycle, and what the cycle leaves."""
+    declared = [
+        f"  reg p_{name} = 0;",
+        f"  reg [{width - 1}:0] pd_{name} = 0;",
+        f"  reg asked_{name} = 0;",
+        f"  reg [{address - 1}:0] at_{name} = 0;",
+        f"  reg [{width - 1}:0] m_{name} [0:{(1 << address) - 1}];",
+    ]
+    answered = [
+        f"      p_{name} = asked_{name} && replies_{name}[cycle];",
+        f"      pd_{name} = p_{name} ? m_{name}[at_{name}] : 0;",
+    ]
+    left = [f"      if (c_{name}) m_{name}[ca_{name}] = cd_{name};"] if commits else []
+    left += [
+        f"      if (p_{name}) asked_{name} = 0;",
+        f"      if (q_{name}) begin asked_{name} = 1; at_{name} = qa_{name}; end",
+    ]
+    return declared, answered, left
+
+
+def loads(module, image):
+    """The words of an image as they are put into the arrays and the delayed memories."""
     given = {(name, address): value for name, address, value in words_of(image)}
-    loads = [
-        f"    dut.a_{name}[{address}] = {width}'h{given.get((name, address), 0):x};"
-        for name, (width, depth) in module.arrays.items()
+    inside = [(f"dut.a_{name}", name, width, depth) for name, (width, depth) in module.arrays.items()]
+    outside = [(f"m_{name}", name, width, 1 << address) for name, width, address in module.delayed()]
+    return [
+        f"    {array}[{address}] = {width}'h{given.get((name, address), 0):x};"
+        for array, name, width, depth in inside + outside
         for address in range(depth)
     ]
+
+
+def bench(module, image, replies, cycles):
+    """A test bench: one reset cycle, the image, and in each cycle the answers, and a line with all ports."""
+    outside = [kept_outside(*it, it[0] in module.memories()) for it in module.delayed()]
+    rows = [replies(cycle) for cycle in range(1, cycles + 1)]
+    bits = {name: "".join(str(int(name in row)) for row in rows) for name in module.words}
+    declared = [f"  wire [1:{cycles}] replies_{name} = {cycles}'b{row};" for name, row in bits.items()]
     wires = [f"  wire [{width - 1}:0] {name};" for name, width in module.outputs]
+    inputs = "".join(f", .p_{name}(p_{name}), .pd_{name}(pd_{name})" for name in module.words)
     ports = "".join(f", .{name}({name})" for name, _ in module.outputs)
     form = " ".join("%h" for _ in module.outputs)
     shown = "".join(f", {name}" for name, _ in module.outputs)
@@ -90,14 +132,18 @@ def bench(module, image, cycles):
             "  reg rst = 1;",
             "  integer cycle;",
             *wires,
-            f"  {module.name} dut(.clk(clk), .rst(rst){ports});",
+            *declared,
+            *[line for it in outside for line in it[0]],
+            f"  {module.name} dut(.clk(clk), .rst(rst){inputs}{ports});",
             "  initial begin",
             "    #1 clk = 1;",
             "    #1 clk = 0;",
             "    rst = 0;",
-            *loads,
+            *loads(module, image),
             f"    for (cycle = 1; cycle <= {cycles}; cycle = cycle + 1) begin",
+            *[line for it in outside for line in it[1]],
             f'      #1 $display("{form}"{shown});',
+            *[line for it in outside for line in it[2]],
             "      clk = 1;",
             "      #1 clk = 0;",
             "    end",
@@ -109,23 +155,15 @@ def bench(module, image, cycles):
     )
 
 
-def lines_of(module, shown, cycles):
-    """The lines that `pdl sim` has to print for these ports."""
-    lines, ended, squashes = [], 0, 0
-    for cycle, row in enumerate(shown, 1):
-        port = dict(zip([name for name, _ in module.outputs], row))
-        for memory in module.memories():
-            if port[f"c_{memory}"] == 1:
-                digits = (module.width[f"cd_{memory}"] + 3) // 4
-                lines.append(f"{cycle} {memory} {port[f'ca_{memory}']} {port[f'cd_{memory}']:0{digits}x}")
-        ended += port["ended"]
-        squashes += port["squash"]
-    return "\n".join([*lines, f"end cycles {cycles} ended {ended} waits 0 squashes {squashes}", ""])
+def port_lines(module, shown):
+    """The ports of each cycle as the model says them."""
+    names = [name for name, _ in module.outputs]
+    return [" ".join(f"{name}={value:x}" for name, value in zip(names, row)) for row in shown]
 
 
-def ports_shown(module, image, cycles, folder):
+def ports_shown(module, image, replies, cycles, folder):
     """The values of all ports in each cycle by Icarus, or what it has against the test bench."""
-    (folder / "bench.v").write_text(bench(module, image, cycles))
+    (folder / "bench.v").write_text(bench(module, image, replies, cycles))
     status, text = said(["iverilog", "-g2005", "-o", "bench.vvp", "bench.v", module.file], folder)
     if status:
         return None, f"iverilog: {text}"
@@ -136,30 +174,39 @@ def ports_shown(module, image, cycles, folder):
     return [[int(it, 16) for it in row] for row in rows], None
 
 
-def simulated(module, image, cycles, folder):
-    """The lines by Icarus, or what it has against the test bench."""
-    shown, complaint = ports_shown(module, image, cycles, folder)
-    return complaint or lines_of(module, shown, cycles)
+def differing(by_icarus, by_model):
+    """The first cycle in which a port differs."""
+    for cycle, (icarus, model) in enumerate(zip(by_icarus, by_model), 1):
+        if icarus != model:
+            return [f"cycle {cycle}: vvp and the model differ:\n{icarus}\n{model}"]
+    return []
 
 
-def judged(program, source, image, cycles, folder):
-    """All that is wrong with the netlist of a source, run from an image."""
+def judged(program, source, image, delays, cycles, folder):
+    """All that is wrong with the netlist of a source, run from an image with a delay file."""
     (folder / "source.pdl").write_text(source)
     (folder / "image.img").write_text(image)
+    (folder / "delays").write_text(delays)
     status, text = said([program, "build", "source.pdl"], folder)
     if status:
         return [f"pdl build (status {status}): {text}"]
+    layout = rules.checked(source)
+    words, rows = files.read_image(layout.pipe, image), files.read_delays(layout.pipe, delays)
     module = Module(text)
     (folder / module.file).write_text(text)
-    sim = said([program, "sim", module.file, "image.img", str(cycles)], folder)
-    run = said([program, "run", "source.pdl", "image.img", str(cycles)], folder)
-    by_icarus = simulated(module, image, cycles, folder)
+    option = ["--delays", "delays"] if delays else []
+    sim = said([program, "sim", module.file, "image.img", str(cycles), *option], folder)
+    run = said([program, "run", "source.pdl", "image.img", str(cycles), *option], folder)
     wrong = lint(module.file, folder)
     if sim[0] or sim != run:
         wrong.append(f"pdl sim and pdl run differ: {sim} {run}")
-    if by_icarus != sim[1]:
-        wrong.append(f"vvp and pdl sim differ:\n{by_icarus}\n{sim[1]}")
-    return wrong
+    if run[1].splitlines() != files.run_lines(layout, words, cycles, rows):
+        wrong.append(f"pdl run and the model differ: {run}")
+    shown, complaint = ports_shown(module, image, lambda cycle: files.replies_of(layout.pipe, rows, cycle), cycles, folder)
+    if complaint:
+        return [*wrong, complaint]
+    by_model = [files.port_line(layout, ports) for ports in files.turns(layout, words, cycles, rows)]
+    return wrong + differing(port_lines(module, shown), by_model)
 
 
 def examples():
@@ -167,18 +214,20 @@ def examples():
     for line in (EXAMPLES / "runs").read_text().splitlines():
         words = line.split()
         if words[1] == "run":
-            yield " ".join(words[2:4]), (EXAMPLES / words[2]).read_text(), (EXAMPLES / words[3]).read_text()
+            yield " ".join(words[2:4]), (EXAMPLES / words[2]).read_text(), (EXAMPLES / words[3]).read_text(), ""
 
 
 def random_pipes(program, count, seed, folder):
     """Random pipes that the program accepts."""
     made, number = 0, 0
     while made < count:
-        source, image = source_and_image(random.Random(f"{seed} {number}"))
+        chance = random.Random(f"{seed} {number}")
+        pipe = RandomPipe(chance, random_features(chance))
+        source = pipe.source()
         (folder / "maybe.pdl").write_text(source)
         if said([program, "check", "maybe.pdl"], folder)[0] == 0:
             made += 1
-            yield f"random pipe {seed} {number}", source, image
+            yield f"random pipe {seed} {number}", source, pipe.image(), pipe.delay_rows(CYCLES)
         number += 1
 
 
@@ -188,12 +237,12 @@ def main():
     seed = int(sys.argv[3]) if len(sys.argv) > 3 else 1
     asked = wrong = 0
     for words in (["iverilog", "-V"], ["verilator", "--version"], ["yosys", "-V"]):
-        print(said(words, ".")[1].splitlines()[0])
+        print(said(words, ".")[1].splitlines()[0] if shutil.which(words[0]) else f"{words[0]} is not installed")
     with tempfile.TemporaryDirectory() as name:
         folder = pathlib.Path(name)
-        for what, source, image in [*examples(), *random_pipes(program, count, seed, folder)]:
+        for what, source, image, delays in [*examples(), *random_pipes(program, count, seed, folder)]:
             asked += 1
-            found = judged(program, source, image, CYCLES, folder)
+            found = judged(program, source, image, delays, CYCLES, folder)
             wrong += bool(found)
             for it in found:
                 print(f"{what}: {it}")

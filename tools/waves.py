@@ -17,7 +17,7 @@ import sys
 import tempfile
 
 from pdl_model.dump import NoDump, Wave
-from real_tools import Module, examples, lines_of, ports_shown, said
+from real_tools import Module, examples, ports_shown, said
 
 # How many cycles are held against `run` and `sim`.
 LONG = 10000
@@ -104,6 +104,20 @@ def dumped(program, module, cycles, folder):
     return text, wave.rows(), None
 
 
+def lines_of(module, shown, cycles):
+    """The lines that `pdl sim` has to print for these ports, of a pipe whose memories answer at once."""
+    lines, ended, squashes = [], 0, 0
+    for cycle, row in enumerate(shown, 1):
+        port = dict(zip([name for name, _ in module.outputs], row))
+        for memory in module.memories():
+            if port[f"c_{memory}"] == 1:
+                digits = (module.width[f"cd_{memory}"] + 3) // 4
+                lines.append(f"{cycle} {memory} {port[f'ca_{memory}']} {port[f'cd_{memory}']:0{digits}x}")
+        ended += port["ended"]
+        squashes += port["squash"]
+    return "\n".join([*lines, f"end cycles {cycles} ended {ended} waits 0 squashes {squashes}", ""])
+
+
 def printed(program, module, folder):
     """What is wrong with a long dump, held against the lines of `run` and `sim`."""
     _, rows, complaint = dumped(program, module, LONG, folder)
@@ -120,7 +134,7 @@ def printed(program, module, folder):
 def opened(program, module, image, cycles, folder):
     """What is wrong with a dump, held against Icarus and the readers of GTKWave."""
     text, rows, complaint = dumped(program, module, cycles, folder)
-    shown, unshown = ports_shown(module, image, cycles, folder)
+    shown, unshown = ports_shown(module, image, lambda _: set(), cycles, folder)
     if complaint or unshown:
         return [complaint or unshown]
     wrong = [] if rows == shown else ["the dump and Icarus differ"]
@@ -149,7 +163,7 @@ def main():
     cycles = int(sys.argv[2]) if len(sys.argv) > 2 else 60
     asked = compared = bad = 0
     print(said(["iverilog", "-V"], ".")[1].splitlines()[0])
-    for what, source, image in examples():
+    for what, source, image, _ in examples():
         with tempfile.TemporaryDirectory() as name:
             wrong, values = judged(program, source, image, cycles, pathlib.Path(name))
         asked, compared, bad = asked + 1, compared + values, bad + bool(wrong)
