@@ -173,12 +173,13 @@ def spoiled(chance, source):
 
 
 def example_runs():
-    """The runs of examples/: source, image and count of each."""
+    """The runs of examples/: source, image, delays and count of each."""
     for line in (EXAMPLES / "runs").read_text().splitlines():
         command, *words = line.split(": ")[1].split()
         if command in ("run", "seq"):
-            source, image, count = words
-            yield (EXAMPLES / source).read_text(), (EXAMPLES / image).read_text(), int(count)
+            source, image, count, *option = words
+            delays = (EXAMPLES / option[1]).read_text() if option else ""
+            yield (EXAMPLES / source).read_text(), (EXAMPLES / image).read_text(), delays, int(count)
 
 
 def plain_pipe(chance):
@@ -212,8 +213,8 @@ def compare_all(program, make_pipe, count, seed):
     chance = random.Random(seed)
     with tempfile.TemporaryDirectory() as folder:
         beside = Comparison(program, folder)
-        wrong = any(beside.differs("examples", source, image, "", number, number)
-                    for source, image, number in example_runs())
+        wrong = any(beside.differs("examples", source, image, delays, number, number)
+                    for source, image, delays, number in example_runs())
         while beside.done["pipes"] < count and not wrong:
             source, image, delays = make_pipe(chance)
             wrong = (beside.differs("pipes", source, image, delays)
