@@ -108,14 +108,11 @@ def explained(refusal, words):
     rule, kind, number = found[1], found[2], int(found[3])
     file = refused_file(rule, words)
     lines = []
-    if file:
-        try:
-            text = pathlib.Path(file).read_bytes().decode("utf-8", "replace")
-        except OSError:
-            text = None
-        if text is not None:
-            lines.append(f"{file}:")
-            lines += around(text, number) if kind == "line" else instruction(text, number)
+    # What is no regular file, as a pipe, was read by the program already, and can't be read again.
+    if file and pathlib.Path(file).is_file():
+        text = pathlib.Path(file).read_bytes().decode("utf-8", "replace")
+        lines.append(f"{file}:")
+        lines += around(text, number) if kind == "line" else instruction(text, number)
     page, says, mending = told(rule)
     if page:
         lines.append(f"{rule}: {says}")
