@@ -271,7 +271,130 @@ fn choose(
     })
 }
 
-/// An expression over the variables' numbers, with its width.
+// An inverted expression.
+#[cycle(flat)]
+#[inline(never)]
+fn flat_not(alloc: Global, vars: &Vars, a: &Tree) -> Result<Wide, NoMemory>
+    requires a { IsSized (tree_view a.now) }
+    ensures form { IfOk result (λ r. expr_view r.e ≡ flat.Not (spec.width_of vars.now (tree_view a.now)) (spec.flat_expr vars.now (tree_view a.now))) }
+    ensures width { IfOk result (λ r. r.width ≡ (spec.width_of vars.now (tree_view a.now))) }
+    ensures small { IfOk result (λ r. r.width ≤ 64) }
+{
+    not(alloc, flat_expr(alloc, vars, a))
+}
+
+// An extension by zeros.
+#[cycle(flat)]
+#[inline(never)]
+fn flat_zero_extend(alloc: Global, vars: &Vars, wide: u64, a: &Tree) -> Result<Wide, NoMemory>
+    requires a { IsSized (tree_view a.now) }
+    requires wide { wide ≤ 64 }
+    ensures form { IfOk result (λ r. expr_view r.e ≡ flat.ZeroExtend wide (spec.flat_expr vars.now (tree_view a.now))) }
+    ensures width { IfOk result (λ r. r.width ≡ wide) }
+    ensures small { IfOk result (λ r. r.width ≤ 64) }
+{
+    zero_extend(alloc, flat_expr(alloc, vars, a), wide)
+}
+
+// An extension by the sign.
+#[cycle(flat)]
+#[inline(never)]
+fn flat_sign_extend(alloc: Global, vars: &Vars, wide: u64, a: &Tree) -> Result<Wide, NoMemory>
+    requires a { IsSized (tree_view a.now) }
+    requires wide { wide ≤ 64 }
+    ensures form { IfOk result (λ r. expr_view r.e ≡ flat.SignExtend (spec.width_of vars.now (tree_view a.now)) wide (spec.flat_expr vars.now (tree_view a.now))) }
+    ensures width { IfOk result (λ r. r.width ≡ wide) }
+    ensures small { IfOk result (λ r. r.width ≤ 64) }
+{
+    sign_extend(alloc, flat_expr(alloc, vars, a), wide)
+}
+
+// An operator and its right operand, after the left one.
+#[cycle(flat)]
+#[inline(never)]
+fn binary_with(
+    alloc: Global,
+    vars: &Vars,
+    op: BinaryOp,
+    a: Result<Wide, NoMemory>,
+    b: &Tree,
+) -> Result<Wide, NoMemory>
+    requires b { IsSized (tree_view b.now) }
+    requires a_small { IfOk a (λ a. a.width ≤ 64) }
+    ensures form { (x : flat.Expr) (w : ℕ) → IfOk a (λ a. expr_view a.e ≡ x) →
+        IfOk a (λ a. a.width ≡ w) → IfOk result (λ r.
+        expr_view r.e ≡ flat.Binary (op_view op) w x (spec.flat_expr vars.now (tree_view b.now))) }
+    ensures width { (w : ℕ) → IfOk a (λ a. a.width ≡ w) →
+        IfOk result (λ r. r.width ≡ spec.op_width (op_view op) w) }
+    ensures small { IfOk result (λ r. r.width ≤ 64) }
+{
+    let b = flat_expr(alloc, vars, b);
+    binary(alloc, op, a, b)
+}
+
+// The lower one of two expressions side by side, after the upper one.
+#[cycle(flat)]
+#[inline(never)]
+fn cat_with(
+    alloc: Global,
+    vars: &Vars,
+    a: Result<Wide, NoMemory>,
+    b: &Tree,
+) -> Result<Wide, NoMemory>
+    requires b { IsSized (tree_view b.now) }
+    requires a_small { IfOk a (λ a. a.width ≤ 64) }
+    ensures form { (x : flat.Expr) → IfOk a (λ a. expr_view a.e ≡ x) → IfOk result (λ r.
+        expr_view r.e ≡ flat.Cat x (spec.width_of vars.now (tree_view b.now)) (spec.flat_expr vars.now (tree_view b.now))) }
+    ensures width { (v : ℕ) → IfOk a (λ a. a.width ≡ v) → IfOk result (λ r. r.width ≡
+        (if nat_lt 64 (v + (spec.width_of vars.now (tree_view b.now))) then 1 else v + (spec.width_of vars.now (tree_view b.now)))) }
+    ensures small { IfOk result (λ r. r.width ≤ 64) }
+{
+    let b = flat_expr(alloc, vars, b);
+    cat(alloc, a, b)
+}
+
+// The right side of a comparison of signed numbers, after the left one.
+#[cycle(flat)]
+#[inline(never)]
+fn less_with(
+    alloc: Global,
+    vars: &Vars,
+    a: Result<Wide, NoMemory>,
+    b: &Tree,
+) -> Result<Wide, NoMemory>
+    requires b { IsSized (tree_view b.now) }
+    ensures form { (x : flat.Expr) (w : ℕ) → IfOk a (λ a. expr_view a.e ≡ x) →
+        IfOk a (λ a. a.width ≡ w) → IfOk result (λ r. expr_view r.e ≡ flat.LessSigned w x (spec.flat_expr vars.now (tree_view b.now))) }
+    ensures width { IfOk result (λ r. r.width ≡ 1) }
+    ensures small { IfOk result (λ r. r.width ≤ 64) }
+{
+    let b = flat_expr(alloc, vars, b);
+    less_signed(alloc, a, b)
+}
+
+// The second arm of a choice, after its condition and its first arm.
+#[cycle(flat)]
+#[inline(never)]
+fn choice_with(
+    alloc: Global,
+    vars: &Vars,
+    c: Result<Wide, NoMemory>,
+    a: Result<Wide, NoMemory>,
+    b: &Tree,
+) -> Result<Wide, NoMemory>
+    requires b { IsSized (tree_view b.now) }
+    ensures form { (z x : flat.Expr) → IfOk c (λ c. expr_view c.e ≡ z) →
+        IfOk a (λ a. expr_view a.e ≡ x) → IfOk result (λ r. expr_view r.e ≡ flat.Choose z x (spec.flat_expr vars.now (tree_view b.now))) }
+    ensures width { (w : ℕ) → IfOk a (λ a. a.width ≡ w) → IfOk result (λ r. r.width ≡ w) }
+    ensures small { IfOk a (λ a. a.width ≤ 64) → IfOk result (λ r. r.width ≤ 64) }
+{
+    let b = flat_expr(alloc, vars, b);
+    choose(alloc, c, a, b)
+}
+
+/// An expression over the variables' numbers, with its width. What comes after a first operand has a function of its own, so that expressions in one another take little stack.
+#[cycle(flat)]
+#[inline(never)]
 pub fn flat_expr(alloc: Global, vars: &Vars, e: &Tree) -> Result<Wide, NoMemory>
     requires { IsSized (tree_view e.now) }
     ensures form { IfOk result (λ r. expr_view r.e ≡ spec.flat_expr vars.now (tree_view e.now)) }
@@ -282,33 +405,25 @@ pub fn flat_expr(alloc: Global, vars: &Vars, e: &Tree) -> Result<Wide, NoMemory>
         Tree::Constant(l) => Ok(constant(l)),
         Tree::Variable(x) => Ok(variable(vars, &x.name)),
         Tree::Slice { x, high, low } => Ok(slice(vars, &x.name, high.value, low.value)),
-        Tree::Not(a) => not(alloc, flat_expr(alloc, vars, a.get())),
+        Tree::Not(a) => flat_not(alloc, vars, a.get()),
         Tree::Binary { op, a, b } => {
             let a = flat_expr(alloc, vars, a.get());
-            let b = flat_expr(alloc, vars, b.get());
-            binary(alloc, *op, a, b)
+            binary_with(alloc, vars, *op, a, b.get())
         }
         Tree::Cat(a, b) => {
             let a = flat_expr(alloc, vars, a.get());
-            let b = flat_expr(alloc, vars, b.get());
-            cat(alloc, a, b)
+            cat_with(alloc, vars, a, b.get())
         }
         Tree::LessSigned(a, b) => {
             let a = flat_expr(alloc, vars, a.get());
-            let b = flat_expr(alloc, vars, b.get());
-            less_signed(alloc, a, b)
+            less_with(alloc, vars, a, b.get())
         }
-        Tree::ZeroExtend(a, wide) => {
-            zero_extend(alloc, flat_expr(alloc, vars, a.get()), wide.value)
-        }
-        Tree::SignExtend(a, wide) => {
-            sign_extend(alloc, flat_expr(alloc, vars, a.get()), wide.value)
-        }
+        Tree::ZeroExtend(a, wide) => flat_zero_extend(alloc, vars, wide.value, a.get()),
+        Tree::SignExtend(a, wide) => flat_sign_extend(alloc, vars, wide.value, a.get()),
         Tree::Choose(c, a, b) => {
             let c = flat_expr(alloc, vars, c.get());
             let a = flat_expr(alloc, vars, a.get());
-            let b = flat_expr(alloc, vars, b.get());
-            choose(alloc, c, a, b)
+            choice_with(alloc, vars, c, a, b.get())
         }
     }
 }

@@ -1,5 +1,5 @@
 // Expressions.
-ghost use Rattle.std.specs.Prelude.{◌≡◌, ◌≤◌, ◌++◌, ◌∷◌, [], MatchResult, OnOk, map};
+ghost use Rattle.std.specs.Prelude.{◌≡◌, ◌≤◌, ◌<◌, ◌++◌, ◌∷◌, [], MatchResult, OnOk, map};
 ghost use Rattle.pdl_semantics.specs.Tree as tree;
 ghost use Rattle.pdl_grammar.specs.Grammar.{operator_of, loose, levels};
 ghost use Rattle.pdl_grammar.specs.Read.{Reads, bounds_view, pair_view, sized_view};
@@ -265,27 +265,47 @@ fn operator_at(tokens: &Cursor<'_>, n: u32) -> Option<BinaryOp>
     }
 }
 
-// Operands, and the operators that bind tighter than looseness n, which group to the left.
+// The operators of looseness n that come with the operands after them, which group to the left.
 #[cycle(expr)]
-#[tactic(auto, using(crate::proofs::Inside::level_none, crate::proofs::Inside::level_more, crate::proofs::Inside::level_fails), unfolding(crate::specs::ReadingExprs::chain))]
+#[inline(never)]
+#[tactic(auto, unfolding(crate::specs::ReadingExprs::chain))]
+fn chain(
+    alloc: Global,
+    tokens: &mut Cursor<'_>,
+    room: usize,
+    n: u32,
+    first: Boxed<Expr>,
+) -> Result<Boxed<Expr>, Stop>
+    requires { n < levels }
+    ensures { Reads expr_view (spec.chain (spec.level (spec.operand (spec.inside room)) room n) n
+        room (expr_view first) tokens.old) result tokens.new }
+{
+    let mut left = first;
+    for _turn in 0..room {
+        match operator_at(tokens, n) {
+            Some(op) => {
+                tokens.skip();
+                let right = level(alloc, tokens, room, n)?;
+                left = binary(alloc, op, left, right)?;
+            }
+            None => return Ok(left),
+        }
+    }
+    Ok(left)
+}
+
+// Operands, and the operators that bind tighter than looseness n, which group to the left. It goes from the tightest operators to the loosest without a call for each in the other, so that brackets in one another take little stack.
+#[cycle(expr)]
+#[inline(never)]
+#[tactic(auto, using(crate::proofs::Inside::level_first, crate::proofs::Inside::level_next, crate::proofs::Inside::level_fails_first, crate::proofs::Inside::level_fails_later))]
 fn level(alloc: Global, tokens: &mut Cursor<'_>, room: usize, n: u32) -> Result<Boxed<Expr>, Stop>
     requires { n ≤ levels }
     ensures { Reads expr_view (spec.level (spec.operand (spec.inside room)) room n tokens.old)
         result tokens.new }
 {
-    if n == 0 {
-        return operand(alloc, tokens, room);
-    }
-    let mut left = level(alloc, tokens, room, n - 1)?;
-    for _turn in 0..room {
-        match operator_at(tokens, n - 1) {
-            Some(op) => {
-                tokens.skip();
-                let right = level(alloc, tokens, room, n - 1)?;
-                left = binary(alloc, op, left, right)?;
-            }
-            None => return Ok(left),
-        }
+    let mut left = operand(alloc, tokens, room)?;
+    for k in 0..n {
+        left = chain(alloc, tokens, room, k, left)?;
     }
     Ok(left)
 }
