@@ -93,25 +93,13 @@ fn boxed(alloc: Global, of: Result<Wide, NoMemory>) -> Result<Operand, NoMemory>
     })
 }
 
-// Two expressions as operands, where memory held for each.
-fn both_boxed(
-    alloc: Global,
-    a: Result<Wide, NoMemory>,
-    b: Result<Wide, NoMemory>,
-) -> Result<(Operand, Operand), NoMemory>
-    ensures a { IfOk result (λ r. a ≡ Ok (record { e = r.0.e; width = r.0.width })) }
-    ensures b { IfOk result (λ r. b ≡ Ok (record { e = r.1.e; width = r.1.width })) }
-{
-    both(boxed(alloc, a), boxed(alloc, b))
-}
-
-fn not(alloc: Global, a: Result<Wide, NoMemory>) -> Result<Wide, NoMemory>
+fn not(alloc: Global, a: Result<Operand, NoMemory>) -> Result<Wide, NoMemory>
     ensures form { (x : flat.Expr) (w : ℕ) → IfOk a (λ a. expr_view a.e ≡ x) →
         IfOk a (λ a. a.width ≡ w) → IfOk result (λ r. expr_view r.e ≡ flat.Not w x) }
     ensures width { (w : ℕ) → IfOk a (λ a. a.width ≡ w) → IfOk result (λ r. r.width ≡ w) }
     ensures small { IfOk a (λ a. a.width ≤ 64) → IfOk result (λ r. r.width ≤ 64) }
 {
-    let Operand { e, width } = boxed(alloc, a)?;
+    let Operand { e, width } = a?;
     Ok(Wide {
         e: Expr::Not { width, a: e },
         width,
@@ -135,8 +123,8 @@ fn op_width(op: BinaryOp, width: u8) -> u8
 fn binary(
     alloc: Global,
     op: BinaryOp,
-    a: Result<Wide, NoMemory>,
-    b: Result<Wide, NoMemory>,
+    a: Result<Operand, NoMemory>,
+    b: Result<Operand, NoMemory>,
 ) -> Result<Wide, NoMemory>
     requires { IfOk a (λ a. a.width ≤ 64) }
     ensures form { (x y : flat.Expr) (w : ℕ) → IfOk a (λ a. expr_view a.e ≡ x) →
@@ -146,7 +134,7 @@ fn binary(
         IfOk result (λ r. r.width ≡ spec.op_width (op_view op) w) }
     ensures small { IfOk result (λ r. r.width ≤ 64) }
 {
-    let (a, b) = both_boxed(alloc, a, b)?;
+    let (a, b) = both(a, b)?;
     let width = a.width;
     Ok(Wide {
         e: Expr::Binary {
@@ -172,8 +160,8 @@ fn cat_width(above: u8, below: u8) -> u8
 
 fn cat(
     alloc: Global,
-    a: Result<Wide, NoMemory>,
-    b: Result<Wide, NoMemory>,
+    a: Result<Operand, NoMemory>,
+    b: Result<Operand, NoMemory>,
 ) -> Result<Wide, NoMemory>
     requires a_small { IfOk a (λ a. a.width ≤ 64) }
     requires b_small { IfOk b (λ b. b.width ≤ 64) }
@@ -184,7 +172,7 @@ fn cat(
         IfOk result (λ r. r.width ≡ (if nat_lt 64 (v + w) then 1 else v + w)) }
     ensures small { IfOk result (λ r. r.width ≤ 64) }
 {
-    let (a, b) = both_boxed(alloc, a, b)?;
+    let (a, b) = both(a, b)?;
     let width = b.width;
     Ok(Wide {
         e: Expr::Cat {
@@ -198,15 +186,15 @@ fn cat(
 
 fn less_signed(
     alloc: Global,
-    a: Result<Wide, NoMemory>,
-    b: Result<Wide, NoMemory>,
+    a: Result<Operand, NoMemory>,
+    b: Result<Operand, NoMemory>,
 ) -> Result<Wide, NoMemory>
     ensures form { (x y : flat.Expr) (w : ℕ) → IfOk a (λ a. expr_view a.e ≡ x) →
         IfOk b (λ b. expr_view b.e ≡ y) → IfOk a (λ a. a.width ≡ w) →
         IfOk result (λ r. expr_view r.e ≡ flat.LessSigned w x y) }
     ensures width { IfOk result (λ r. r.width ≡ 1) }
 {
-    let (a, b) = both_boxed(alloc, a, b)?;
+    let (a, b) = both(a, b)?;
     let width = a.width;
     Ok(Wide {
         e: Expr::LessSigned {
@@ -218,28 +206,28 @@ fn less_signed(
     })
 }
 
-fn zero_extend(alloc: Global, a: Result<Wide, NoMemory>, wide: u64) -> Result<Wide, NoMemory>
+fn zero_extend(alloc: Global, a: Result<Operand, NoMemory>, wide: u64) -> Result<Wide, NoMemory>
     requires { wide ≤ 64 }
     ensures form { (x : flat.Expr) → IfOk a (λ a. expr_view a.e ≡ x) →
         IfOk result (λ r. expr_view r.e ≡ flat.ZeroExtend wide x) }
     ensures width { IfOk result (λ r. r.width ≡ wide) }
 {
     let wide = wide as u8;
-    let a = boxed(alloc, a)?.e;
+    let a = a?.e;
     Ok(Wide {
         e: Expr::ZeroExtend { wide, a },
         width: wide,
     })
 }
 
-fn sign_extend(alloc: Global, a: Result<Wide, NoMemory>, wide: u64) -> Result<Wide, NoMemory>
+fn sign_extend(alloc: Global, a: Result<Operand, NoMemory>, wide: u64) -> Result<Wide, NoMemory>
     requires { wide ≤ 64 }
     ensures form { (x : flat.Expr) (w : ℕ) → IfOk a (λ a. expr_view a.e ≡ x) →
         IfOk a (λ a. a.width ≡ w) → IfOk result (λ r. expr_view r.e ≡ flat.SignExtend w wide x) }
     ensures width { IfOk result (λ r. r.width ≡ wide) }
 {
     let wide = wide as u8;
-    let Operand { e, width } = boxed(alloc, a)?;
+    let Operand { e, width } = a?;
     Ok(Wide {
         e: Expr::SignExtend { width, wide, a: e },
         width: wide,
@@ -248,9 +236,9 @@ fn sign_extend(alloc: Global, a: Result<Wide, NoMemory>, wide: u64) -> Result<Wi
 
 fn choose(
     alloc: Global,
-    c: Result<Wide, NoMemory>,
-    a: Result<Wide, NoMemory>,
-    b: Result<Wide, NoMemory>,
+    c: Result<Operand, NoMemory>,
+    a: Result<Operand, NoMemory>,
+    b: Result<Operand, NoMemory>,
 ) -> Result<Wide, NoMemory>
     ensures form { (z x y : flat.Expr) → IfOk c (λ c. expr_view c.e ≡ z) →
         IfOk a (λ a. expr_view a.e ≡ x) → IfOk b (λ b. expr_view b.e ≡ y) →
@@ -258,7 +246,7 @@ fn choose(
     ensures width { (w : ℕ) → IfOk a (λ a. a.width ≡ w) → IfOk result (λ r. r.width ≡ w) }
     ensures small { IfOk a (λ a. a.width ≤ 64) → IfOk result (λ r. r.width ≤ 64) }
 {
-    let (c, arms) = both(boxed(alloc, c), both_boxed(alloc, a, b))?;
+    let (c, arms) = both(c, both(a, b))?;
     let (a, b) = arms;
     let width = a.width;
     Ok(Wide {
@@ -271,6 +259,18 @@ fn choose(
     })
 }
 
+// An expression as an operand in a place of its own, which takes less of the stack than the expression.
+#[cycle(flat)]
+#[inline(never)]
+fn flat_operand(alloc: Global, vars: &Vars, e: &Tree) -> Result<Operand, NoMemory>
+    requires e { IsSized (tree_view e.now) }
+    ensures form { IfOk result (λ r. expr_view r.e ≡ spec.flat_expr vars.now (tree_view e.now)) }
+    ensures width { IfOk result (λ r. r.width ≡ spec.width_of vars.now (tree_view e.now)) }
+    ensures small { IfOk result (λ r. r.width ≤ 64) }
+{
+    boxed(alloc, flat_expr(alloc, vars, e))
+}
+
 // An inverted expression.
 #[cycle(flat)]
 #[inline(never)]
@@ -280,7 +280,7 @@ fn flat_not(alloc: Global, vars: &Vars, a: &Tree) -> Result<Wide, NoMemory>
     ensures width { IfOk result (λ r. r.width ≡ (spec.width_of vars.now (tree_view a.now))) }
     ensures small { IfOk result (λ r. r.width ≤ 64) }
 {
-    not(alloc, flat_expr(alloc, vars, a))
+    not(alloc, flat_operand(alloc, vars, a))
 }
 
 // An extension by zeros.
@@ -293,7 +293,7 @@ fn flat_zero_extend(alloc: Global, vars: &Vars, wide: u64, a: &Tree) -> Result<W
     ensures width { IfOk result (λ r. r.width ≡ wide) }
     ensures small { IfOk result (λ r. r.width ≤ 64) }
 {
-    zero_extend(alloc, flat_expr(alloc, vars, a), wide)
+    zero_extend(alloc, flat_operand(alloc, vars, a), wide)
 }
 
 // An extension by the sign.
@@ -306,7 +306,7 @@ fn flat_sign_extend(alloc: Global, vars: &Vars, wide: u64, a: &Tree) -> Result<W
     ensures width { IfOk result (λ r. r.width ≡ wide) }
     ensures small { IfOk result (λ r. r.width ≤ 64) }
 {
-    sign_extend(alloc, flat_expr(alloc, vars, a), wide)
+    sign_extend(alloc, flat_operand(alloc, vars, a), wide)
 }
 
 // An operator and its right operand, after the left one.
@@ -316,7 +316,7 @@ fn binary_with(
     alloc: Global,
     vars: &Vars,
     op: BinaryOp,
-    a: Result<Wide, NoMemory>,
+    a: Result<Operand, NoMemory>,
     b: &Tree,
 ) -> Result<Wide, NoMemory>
     requires b { IsSized (tree_view b.now) }
@@ -328,7 +328,7 @@ fn binary_with(
         IfOk result (λ r. r.width ≡ spec.op_width (op_view op) w) }
     ensures small { IfOk result (λ r. r.width ≤ 64) }
 {
-    let b = flat_expr(alloc, vars, b);
+    let b = flat_operand(alloc, vars, b);
     binary(alloc, op, a, b)
 }
 
@@ -338,7 +338,7 @@ fn binary_with(
 fn cat_with(
     alloc: Global,
     vars: &Vars,
-    a: Result<Wide, NoMemory>,
+    a: Result<Operand, NoMemory>,
     b: &Tree,
 ) -> Result<Wide, NoMemory>
     requires b { IsSized (tree_view b.now) }
@@ -349,7 +349,7 @@ fn cat_with(
         (if nat_lt 64 (v + (spec.width_of vars.now (tree_view b.now))) then 1 else v + (spec.width_of vars.now (tree_view b.now)))) }
     ensures small { IfOk result (λ r. r.width ≤ 64) }
 {
-    let b = flat_expr(alloc, vars, b);
+    let b = flat_operand(alloc, vars, b);
     cat(alloc, a, b)
 }
 
@@ -359,7 +359,7 @@ fn cat_with(
 fn less_with(
     alloc: Global,
     vars: &Vars,
-    a: Result<Wide, NoMemory>,
+    a: Result<Operand, NoMemory>,
     b: &Tree,
 ) -> Result<Wide, NoMemory>
     requires b { IsSized (tree_view b.now) }
@@ -368,7 +368,7 @@ fn less_with(
     ensures width { IfOk result (λ r. r.width ≡ 1) }
     ensures small { IfOk result (λ r. r.width ≤ 64) }
 {
-    let b = flat_expr(alloc, vars, b);
+    let b = flat_operand(alloc, vars, b);
     less_signed(alloc, a, b)
 }
 
@@ -378,8 +378,8 @@ fn less_with(
 fn choice_with(
     alloc: Global,
     vars: &Vars,
-    c: Result<Wide, NoMemory>,
-    a: Result<Wide, NoMemory>,
+    c: Result<Operand, NoMemory>,
+    a: Result<Operand, NoMemory>,
     b: &Tree,
 ) -> Result<Wide, NoMemory>
     requires b { IsSized (tree_view b.now) }
@@ -388,7 +388,7 @@ fn choice_with(
     ensures width { (w : ℕ) → IfOk a (λ a. a.width ≡ w) → IfOk result (λ r. r.width ≡ w) }
     ensures small { IfOk a (λ a. a.width ≤ 64) → IfOk result (λ r. r.width ≤ 64) }
 {
-    let b = flat_expr(alloc, vars, b);
+    let b = flat_operand(alloc, vars, b);
     choose(alloc, c, a, b)
 }
 
@@ -407,22 +407,22 @@ pub fn flat_expr(alloc: Global, vars: &Vars, e: &Tree) -> Result<Wide, NoMemory>
         Tree::Slice { x, high, low } => Ok(slice(vars, &x.name, high.value, low.value)),
         Tree::Not(a) => flat_not(alloc, vars, a.get()),
         Tree::Binary { op, a, b } => {
-            let a = flat_expr(alloc, vars, a.get());
+            let a = flat_operand(alloc, vars, a.get());
             binary_with(alloc, vars, *op, a, b.get())
         }
         Tree::Cat(a, b) => {
-            let a = flat_expr(alloc, vars, a.get());
+            let a = flat_operand(alloc, vars, a.get());
             cat_with(alloc, vars, a, b.get())
         }
         Tree::LessSigned(a, b) => {
-            let a = flat_expr(alloc, vars, a.get());
+            let a = flat_operand(alloc, vars, a.get());
             less_with(alloc, vars, a, b.get())
         }
         Tree::ZeroExtend(a, wide) => flat_zero_extend(alloc, vars, wide.value, a.get()),
         Tree::SignExtend(a, wide) => flat_sign_extend(alloc, vars, wide.value, a.get()),
         Tree::Choose(c, a, b) => {
-            let c = flat_expr(alloc, vars, c.get());
-            let a = flat_expr(alloc, vars, a.get());
+            let c = flat_operand(alloc, vars, c.get());
+            let a = flat_operand(alloc, vars, a.get());
             choice_with(alloc, vars, c, a, b.get())
         }
     }
