@@ -83,6 +83,7 @@ struct Operand {
 }
 
 // An expression as an operand, where memory held for it.
+#[inline(never)]
 fn boxed(alloc: Global, of: Result<Wide, NoMemory>) -> Result<Operand, NoMemory>
     ensures { IfOk result (λ r. of ≡ Ok (record { e = r.e; width = r.width })) }
 {
@@ -234,6 +235,7 @@ fn sign_extend(alloc: Global, a: Result<Operand, NoMemory>, wide: u64) -> Result
     })
 }
 
+#[inline(never)]
 fn choose(
     alloc: Global,
     c: Result<Operand, NoMemory>,
@@ -384,7 +386,8 @@ fn choice_with(
 ) -> Result<Wide, NoMemory>
     requires b { IsSized (tree_view b.now) }
     ensures form { (z x : flat.Expr) → IfOk c (λ c. expr_view c.e ≡ z) →
-        IfOk a (λ a. expr_view a.e ≡ x) → IfOk result (λ r. expr_view r.e ≡ flat.Choose z x (spec.flat_expr vars.now (tree_view b.now))) }
+        IfOk a (λ a. expr_view a.e ≡ x) → IfOk result (λ r.
+        expr_view r.e ≡ flat.Choose z x (spec.flat_expr vars.now (tree_view b.now))) }
     ensures width { (w : ℕ) → IfOk a (λ a. a.width ≡ w) → IfOk result (λ r. r.width ≡ w) }
     ensures small { IfOk a (λ a. a.width ≤ 64) → IfOk result (λ r. r.width ≤ 64) }
 {
