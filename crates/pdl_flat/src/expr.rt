@@ -278,7 +278,8 @@ fn flat_operand(alloc: Global, vars: &Vars, e: &Tree) -> Result<Operand, NoMemor
 #[inline(never)]
 fn flat_not(alloc: Global, vars: &Vars, a: &Tree) -> Result<Wide, NoMemory>
     requires a { IsSized (tree_view a.now) }
-    ensures form { IfOk result (λ r. expr_view r.e ≡ flat.Not (spec.width_of vars.now (tree_view a.now)) (spec.flat_expr vars.now (tree_view a.now))) }
+    ensures form { IfOk result (λ r. expr_view r.e
+        ≡ flat.Not (spec.width_of vars.now (tree_view a.now)) (spec.flat_expr vars.now (tree_view a.now))) }
     ensures width { IfOk result (λ r. r.width ≡ (spec.width_of vars.now (tree_view a.now))) }
     ensures small { IfOk result (λ r. r.width ≤ 64) }
 {
@@ -291,7 +292,8 @@ fn flat_not(alloc: Global, vars: &Vars, a: &Tree) -> Result<Wide, NoMemory>
 fn flat_zero_extend(alloc: Global, vars: &Vars, wide: u64, a: &Tree) -> Result<Wide, NoMemory>
     requires a { IsSized (tree_view a.now) }
     requires wide { wide ≤ 64 }
-    ensures form { IfOk result (λ r. expr_view r.e ≡ flat.ZeroExtend wide (spec.flat_expr vars.now (tree_view a.now))) }
+    ensures form { IfOk result (λ r. expr_view r.e
+        ≡ flat.ZeroExtend wide (spec.flat_expr vars.now (tree_view a.now))) }
     ensures width { IfOk result (λ r. r.width ≡ wide) }
     ensures small { IfOk result (λ r. r.width ≤ 64) }
 {
@@ -304,7 +306,9 @@ fn flat_zero_extend(alloc: Global, vars: &Vars, wide: u64, a: &Tree) -> Result<W
 fn flat_sign_extend(alloc: Global, vars: &Vars, wide: u64, a: &Tree) -> Result<Wide, NoMemory>
     requires a { IsSized (tree_view a.now) }
     requires wide { wide ≤ 64 }
-    ensures form { IfOk result (λ r. expr_view r.e ≡ flat.SignExtend (spec.width_of vars.now (tree_view a.now)) wide (spec.flat_expr vars.now (tree_view a.now))) }
+    ensures form { IfOk result (λ r. expr_view r.e
+        ≡ flat.SignExtend (spec.width_of vars.now (tree_view a.now)) wide
+        (spec.flat_expr vars.now (tree_view a.now))) }
     ensures width { IfOk result (λ r. r.width ≡ wide) }
     ensures small { IfOk result (λ r. r.width ≤ 64) }
 {
@@ -366,7 +370,8 @@ fn less_with(
 ) -> Result<Wide, NoMemory>
     requires b { IsSized (tree_view b.now) }
     ensures form { (x : flat.Expr) (w : ℕ) → IfOk a (λ a. expr_view a.e ≡ x) →
-        IfOk a (λ a. a.width ≡ w) → IfOk result (λ r. expr_view r.e ≡ flat.LessSigned w x (spec.flat_expr vars.now (tree_view b.now))) }
+        IfOk a (λ a. a.width ≡ w) → IfOk result (λ r.
+        expr_view r.e ≡ flat.LessSigned w x (spec.flat_expr vars.now (tree_view b.now))) }
     ensures width { IfOk result (λ r. r.width ≡ 1) }
     ensures small { IfOk result (λ r. r.width ≤ 64) }
 {
