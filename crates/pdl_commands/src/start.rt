@@ -92,6 +92,15 @@ fn replies<F: Files>(
     }
 }
 
+// How many memories of a netlist are delayed: at most 16.
+fn few_delayed(netlist: &Netlist) -> u8
+    requires { IsWellFormed netlist.now }
+    ensures count { result ≡ length (delayed_mems netlist.now) }
+    ensures few { result ≤ 16 }
+{
+    count_delayed(netlist) as u8
+}
+
 /// Reads an image of this name for the memories of a netlist, and after it the delay file for its delayed ones, if one is named.
 pub fn start_of<F: Files>(
     alloc: Global,
@@ -112,7 +121,6 @@ pub fn start_of<F: Files>(
     ensures later { F.faults files.old ≤ F.faults files.new }
 {
     let image = read_words(alloc, files, image, netlist)?;
-    let count = count_delayed(netlist) as u8;
-    let delays = replies(alloc, files, delays, count)?;
+    let delays = replies(alloc, files, delays, few_delayed(netlist))?;
     Ok(Start { image, delays })
 }
