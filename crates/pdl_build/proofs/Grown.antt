@@ -17,7 +17,8 @@ use Rattle.pdl_net.specs.Growth.{Grows, KeepsNets, Extends, ExtendsPorts}
 use Rattle.pdl_net.proofs.Signals.{keeps_nets_grown, signal_added}
 use Rattle.pdl_net.proofs.Well.{all_fit_added, all_fit_grown, port_stays, reg_stays, array_stays, KeepsParts, extends_kept, extends_ports_kept}
 use Rattle.pdl_build.specs.Change.{with_cell, with_port, input_port, output_port}
-use Rattle.pdl_build.specs.Parts.{HasWidths}
+use Rattle.pdl_build.specs.declared.Extent.{Extent}
+use Rattle.pdl_build.specs.Parts.{IsExtent, HaveExtents, no_cell, extent_in}
 
 -- growth that adds no cell
 pub all_fit_still : (old new : Circuit) → Grows old new → IsWell old → new.cells ≡ old.cells → AllFit new new.cells []
@@ -25,15 +26,17 @@ all_fit_still old new g w e =
     let P : List Cell → Type 0 = λ gs. AllFit new gs [] in
     subst P (sym e) (all_fit_grown old new g old.cells [] w.cells)
 
--- where no input and no cell is added the widths stay
-pub widths_still : (old new : Circuit) (ins ws : List ℕ) → KeepsNets old new → inputs_of new ≡ inputs_of old → new.cells ≡ old.cells → HasWidths old ins ws → HasWidths new ins ws
+-- where no input and no cell is added, what is known stays true
+pub extents_still : (old new : Circuit) (ins : List ℕ) (ns : List Extent) → KeepsNets old new → inputs_of new ≡ inputs_of old → new.cells ≡ old.cells → HaveExtents old ins ns → HaveExtents new ins ns
 unfolding IsThere
-widths_still old new ins ws k i e h =
+extents_still old new ins ns k i e h =
     let n : length new.cells ≡ length old.cells = ap length e in
     record {
       inputs = h.inputs ∙ sym i;
       count = h.count ∙ sym n;
-      cells = λ j l. let lt : j < length old.cells = omega (arith, n) in h.cells j lt ∙ sym (ap (λ (f : Signal). f.width) (k.nets (CellNet j) lt).same);
+      cells = λ j l.
+          let lt : j < length old.cells = omega (arith, n) in
+          subst (λ (f : Signal). IsExtent f (extent_in ns j)) (sym (k.nets (CellNet j) lt).same) (h.cells j lt);
     }
 
 -- an element of a list with one more
@@ -81,22 +84,23 @@ means_cell c g w f = record {
   same = signal_added c (with_cell c g) g (cell_grows c g) w.cells f refl;
 }
 
-pub widths_cell : (c : Circuit) (g : Cell) (ins ws : List ℕ) (v : ℕ) → IsWell c → Fits c g → HasWidths c ins ws → v ≡ (cell_signal c (signal c) g).width → HasWidths (with_cell c g) ins (ws ++ v ∷ [])
+pub extents_cell : (c : Circuit) (g : Cell) (ins : List ℕ) (ns : List Extent) (v : Extent) → IsWell c → Fits c g → HaveExtents c ins ns → IsExtent (cell_signal c (signal c) g) v → HaveExtents (with_cell c g) ins (ns ++ v ∷ [])
 unfolding IsThere
-widths_cell c g ins ws v w f h e =
+extents_cell c g ins ns v w f h e =
+    let d = with_cell c g in
     let n = length-append c.cells (g ∷ []) in
-    let m = length-append ws (v ∷ []) in
+    let m = length-append ns (v ∷ []) in
     record {
       inputs = h.inputs;
       count = omega (arith, n, m, h.count);
       cells = λ k l. ⊎_elim
           (λ (lt : k < length c.cells).
-          get_or_append_left ws (v ∷ []) 0 k (omega (arith, h.count)) ∙ h.cells k lt
-          ∙ sym (ap (λ (s : Signal). s.width) ((cell_keeps c g w).nets (CellNet k) lt).same))
+          subst (IsExtent (signal d (CellNet k))) (sym (get_or_append_left ns (v ∷ []) no_cell k (omega (arith, h.count))))
+          (subst (λ (s : Signal). IsExtent s (extent_in ns k)) (sym ((cell_keeps c g w).nets (CellNet k) lt).same) (h.cells k lt)))
           (λ (ge : length c.cells ≤ k).
           let i : length c.cells ≡ k = omega (arith, n) in
-          get_or_push ws v 0 k (h.count ∙ i) ∙ e
-          ∙ sym (ap (λ (s : Signal). s.width) (ap (λ j. signal (with_cell c g) (CellNet j)) (sym i) ∙ (means_cell c g w f).same)))
+          subst (IsExtent (signal d (CellNet k))) (sym (get_or_push ns v no_cell k (h.count ∙ i)))
+          (subst (λ (s : Signal). IsExtent s v) (sym (ap (λ j. signal d (CellNet j)) (sym i) ∙ (means_cell c g w f).same)) e))
           (cases_lt k (length c.cells));
     }
 
@@ -152,22 +156,22 @@ means_input c n w =
     let m = ap length e ∙ length-append (inputs_of c) (w ∷ []) in
     record {
       there = omega (arith, m);
-      same = ap (λ v. input_signal v (length (inputs_of c))) (ap (λ ws. get_or ws (length (inputs_of c)) 0) e ∙ get_or_push (inputs_of c) w 0 (length (inputs_of c)) refl);
+      same = ap (λ v. input_signal v (length (inputs_of c))) (ap (λ ns. get_or ns (length (inputs_of c)) 0) e ∙ get_or_push (inputs_of c) w 0 (length (inputs_of c)) refl);
     }
 
-pub widths_input : (c : Circuit) (n : List ℕ) (w : ℕ) (ins ws : List ℕ) → IsWell c → HasWidths c ins ws → HasWidths (with_port c (input_port n w)) (ins ++ w ∷ []) ws
+pub extents_input : (c : Circuit) (n : List ℕ) (w : ℕ) (ins : List ℕ) (ns : List Extent) → IsWell c → HaveExtents c ins ns → HaveExtents (with_port c (input_port n w)) (ins ++ w ∷ []) ns
 unfolding IsThere
-widths_input c n w ins ws h x = record {
+extents_input c n w ins ns h x = record {
   inputs = ap (λ l. l ++ w ∷ []) x.inputs ∙ sym (inputs_pushed c (input_port n w));
   count = x.count;
-  cells = λ k l. x.cells k l ∙ sym (ap (λ (s : Signal). s.width) ((port_keeps c (input_port n w) h).nets (CellNet k) l).same);
+  cells = λ k l. subst (λ (s : Signal). IsExtent s (extent_in ns k)) (sym ((port_keeps c (input_port n w) h).nets (CellNet k) l).same) (x.cells k l);
 }
 
 pub well_output : (c : Circuit) (n : List ℕ) (x : Net) → IsWell c → IsThere c x → 1 ≤ (signal c x).width → (signal c x).width ≤ 64 → IsWell (with_port c (output_port c n x))
 well_output c n x w t low high = well_port c (output_port c n x) w (record { low = low; high = high; driven = (t, refl) })
 
-pub widths_output : (c : Circuit) (n : List ℕ) (x : Net) (ins ws : List ℕ) → IsWell c → HasWidths c ins ws → HasWidths (with_port c (output_port c n x)) ins ws
-widths_output c n x ins ws w h = widths_still c (with_port c (output_port c n x)) ins ws (port_keeps c (output_port c n x) w) (inputs_pushed c (output_port c n x) ∙ append-nil (inputs_of c)) refl h
+pub extents_output : (c : Circuit) (n : List ℕ) (x : Net) (ins : List ℕ) (ns : List Extent) → IsWell c → HaveExtents c ins ns → HaveExtents (with_port c (output_port c n x)) ins ns
+extents_output c n x ins ns w h = extents_still c (with_port c (output_port c n x)) ins ns (port_keeps c (output_port c n x) w) (inputs_pushed c (output_port c n x) ∙ append-nil (inputs_of c)) refl h
 
 -- each port is an input or an output
 pub count_ports : (ps : List Port) → length (filter_map port_input ps) + length (filter_map port_output ps) ≡ length ps

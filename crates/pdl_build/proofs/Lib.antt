@@ -8,4 +8,6 @@ pub mod Choices
 pub mod Found
 pub mod Known
 pub mod Folds
+pub mod Below
+pub mod OneBit
 pub mod Simpler

@@ -1,49 +1,20 @@
 -- What stands for a cell by a rule means what the cell would.
-use Rattle.std.proofs.Common.{◌≡◌, ℕ, ◌+◌, ◌-◌, ◌*◌, ◌^◌, ◌<◌, ◌≤◌, Bool, true, IsTrue, [], sym, ap, ◌∙◌, subst, arith, lit≤}
+use Rattle.std.proofs.Common.{◌≡◌, ℕ, ◌+◌, ◌-◌, ◌*◌, ◌^◌, ◌<◌, ◌≤◌, Bool, IsTrue, [], sym, ap, ◌∙◌, subst, arith, lit≤}
 use mathlib.Core.Path.{fun_ext}
 use Rattle.pdl_word.specs.Words as words
 use Rattle.pdl_word.proofs.Laws.{complement_twice, slice_whole, slice_twice, mux_one, mux_other}
 use Rattle.pdl_word.proofs.Copies.{rep_once}
 use Rattle.pdl_word.proofs.Numbers.{as_wide}
-use Rattle.pdl_word.proofs.Bounds.{add_below, sub_below, mul_below, complement_below, equal_below, differ_below, less_below, shl_below, slice_below}
+use Rattle.pdl_build.proofs.OneBit.{mux_turned}
 use Rattle.pdl_net.specs.declared.BinOp.{BinOp}
 use Rattle.pdl_net.specs.declared.BinOp.TheVariants.{Add, Sub, Mul, And, Or, Xor, Eq, Ne, Lt, Shl, Shr}
-use Rattle.pdl_net.specs.declared.Cell.{Cell}
-use Rattle.pdl_net.specs.declared.Cell.TheVariants.{Const, Not, Bin, Mux, Slice, Cat, Rep, Read}
+use Rattle.pdl_net.specs.declared.Cell.TheVariants.{Const}
 use Rattle.pdl_net.specs.Circuit.{Circuit, State}
 use Rattle.pdl_net.specs.Signal.{Signal, Value, const_value, const_signal, not_value, not_signal, bin_width, bin_value, bin_signal, mux_value, mux_signal, slice_value, slice_signal, rep_value, rep_signal}
-use Rattle.pdl_net.specs.Meaning.{cell_signal, signal}
 use Rattle.pdl_net.specs.Well.{Fits, IsWidth}
 use Rattle.pdl_build.specs.declared.rules.Rule.{Rule}
-use Rattle.pdl_build.specs.declared.rules.Rule.TheVariants.{First, Second, Number}
-use Rattle.pdl_build.specs.Rules.{Gives, IsBelow, is_cut, is_cut_by}
-
--- BELOW THE POWER OF TWO OF THE WIDTH
-
-bin_below : (op : BinOp) (a b : Signal) → is_cut_by op ≡ true → IsBelow (bin_signal op a b)
-unfolding bin_value
-bin_below Add a b e s = add_below a.width (a.value s) (b.value s)
-bin_below Sub a b e s = sub_below a.width (a.value s) (b.value s)
-bin_below Mul a b e s = mul_below a.width (a.value s) (b.value s)
-bin_below And a b e s = absurd (cc)
-bin_below Or a b e s = absurd (cc)
-bin_below Xor a b e s = absurd (cc)
-bin_below Eq a b e s = equal_below (a.value s) (b.value s)
-bin_below Ne a b e s = differ_below (a.value s) (b.value s)
-bin_below Lt a b e s = less_below (a.value s) (b.value s)
-bin_below Shl a b e s = shl_below a.width (a.value s) (b.value s)
-bin_below Shr a b e s = absurd (cc)
-
-pub cut_below : (c : Circuit) (g : Cell) → Fits c g → is_cut g ≡ true → IsBelow (cell_signal c (signal c) g)
-unfolding const_value not_value slice_value
-cut_below c (Const w v) f e s = f.2
-cut_below c (Not a) f e s = complement_below (signal c a).width ((signal c a).value s)
-cut_below c (Bin op a b) f e s = bin_below op (signal c a) (signal c b) e s
-cut_below c (Slice a high low) f e s = slice_below high low ((signal c a).value s)
-cut_below c (Mux x a b) f e s = absurd (cc)
-cut_below c (Cat a b) f e s = absurd (cc)
-cut_below c (Rep k a) f e s = absurd (cc)
-cut_below c (Read m a) f e s = absurd (cc)
+use Rattle.pdl_build.specs.declared.rules.Rule.TheVariants.{First, Second, Complement, Number}
+use Rattle.pdl_build.specs.Rules.{Gives, IsBelow}
 
 -- OPERATORS
 
@@ -56,6 +27,16 @@ on_constant_at r op w v t a b e f g h s =
     let Q : ℕ → Type 0 = λ y. Gives r op w (a.value s) y in
     let y : b.value s ≡ v = ap (λ (z : Value). z s) f in
     subst P e (subst Q (sym y) (g (a.value s) (λ i. as_wide (a.value s) a.width w (sym e) (h i s))))
+
+-- likewise, where the first operand is the constant
+pub after_constant_at : (r : Rule) (op : BinOp) (w v : ℕ) (t : Bool) (a b : Signal) → w ≡ a.width → a.width ≡ b.width → a.value ≡ const_value v
+    → ((y : ℕ) → (IsTrue t → y < 2 ^ w) → Gives r op w v y) → (IsTrue t → IsBelow b) → (s : State) → Gives r op a.width (a.value s) (b.value s)
+unfolding const_value
+after_constant_at r op w v t a b e wide f g h s =
+    let P : ℕ → Type 0 = λ n. Gives r op n (a.value s) (b.value s) in
+    let Q : ℕ → Type 0 = λ x. Gives r op w x (b.value s) in
+    let x : a.value s ≡ v = ap (λ (z : Value). z s) f in
+    subst P e (subst Q (sym x) (g (b.value s) (λ i. as_wide (b.value s) b.width w (sym (e ∙ wide)) (h i s))))
 
 abbrev pub at_rest : State
 at_rest = record { inputs = []; regs = []; arrays = [] }
@@ -73,6 +54,13 @@ module _ (op : BinOp) (a b : Signal) where
   second_same e g =
       let n : bin_width op a.width ≡ b.width = (g at_rest).0 ∙ e in
       ap (λ (v : Value). record { width = b.width; value = v }) (fun_ext (λ s. sym (g s).1))
+      ∙ ap (λ (m : ℕ). record { width = m; value = bin_value op a.width a.value b.value }) (sym n)
+
+  pub complement_same : ((s : State) → Gives Complement op a.width (a.value s) (b.value s)) → not_signal a ≡ bin_signal op a b
+  unfolding bin_value not_value
+  complement_same g =
+      let n : bin_width op a.width ≡ a.width = (g at_rest).0 in
+      ap (λ (v : Value). record { width = a.width; value = v }) (fun_ext (λ s. sym (g s).1))
       ∙ ap (λ (m : ℕ). record { width = m; value = bin_value op a.width a.value b.value }) (sym n)
 
   pub number_same : (w n : ℕ) → w ≡ bin_width op a.width → ((s : State) → Gives (Number n) op a.width (a.value s) (b.value s)) → const_signal w n ≡ bin_signal op a b
@@ -126,6 +114,18 @@ choice_other c a b n m below e f =
     let v : not_value c.width c.value ≡ mux_value c.value a.value b.value = ap (λ k. not_value k c.value) n ∙ fun_ext (λ s. sym (mux_other (c.value s) (two s))) ∙ ap (λ (u : Value). mux_value c.value u (const_value 1)) (sym e) ∙ ap (mux_value c.value a.value) (sym f) in
     ap (λ (u : Value). record { width = c.width; value = u }) v
     ∙ ap (λ (k : ℕ). record { width = k; value = mux_value c.value a.value b.value }) (n ∙ sym m)
+
+-- the choice of a complement, with its arms exchanged
+pub choice_turned : (c x a b : Signal) → c ≡ not_signal x → c.width ≡ 1 → IsBelow x → a.width ≡ b.width → mux_signal x b a ≡ mux_signal c a b
+unfolding mux_value not_value
+choice_turned c x a b e n below w =
+    let one : x.width ≡ 1 = sym (ap (λ (f : Signal). f.width) e) ∙ n in
+    let P : ℕ → Type 0 = λ k. (s : State) → x.value s < 2 ^ k in
+    let two = subst P one below in
+    let v : mux_value x.value b.value a.value ≡ mux_value (not_value x.width x.value) a.value b.value = fun_ext (λ s. mux_turned (x.value s) (a.value s) (b.value s) (two s)) ∙ ap (λ k. mux_value (not_value k x.value) a.value b.value) (sym one) in
+    ap (λ (u : Value). record { width = b.width; value = u }) v
+    ∙ ap (λ (k : ℕ). record { width = k; value = mux_value (not_value x.width x.value) a.value b.value }) (sym w)
+    ∙ ap (λ (f : Signal). mux_signal f a b) (sym e)
 
 -- PARTS AND COPIES
 

@@ -18,8 +18,9 @@ use Rattle.pdl_net.specs.Growth.{Grows, KeepsNets, Extends, ExtendsBut, ExtendsA
 use Rattle.pdl_net.proofs.Signals.{keeps_nets_grown}
 use Rattle.pdl_net.proofs.Well.{port_stays, reg_stays, write_stays, array_stays, writes_stay, KeepsParts, extends_kept, extends_arrays_kept}
 use Rattle.pdl_build.specs.Change.{new_reg, with_reg, next_reg, with_next, new_shape, new_array, with_array, written_array, with_write, one_reg, one_array, IsNewReg, IsNewArray}
-use Rattle.pdl_build.specs.Parts.{HasWidths}
-use Rattle.pdl_build.proofs.Grown.{all_fit_still, widths_still, get_pushed}
+use Rattle.pdl_build.specs.declared.Extent.{Extent}
+use Rattle.pdl_build.specs.Parts.{HaveExtents}
+use Rattle.pdl_build.proofs.Grown.{all_fit_still, extents_still, get_pushed}
 
 -- a register
 
@@ -46,8 +47,8 @@ pub extends_reg : (c : Circuit) (w v : ℕ) → IsWell c → Extends c (with_reg
 unfolding shapes_of
 extends_reg c w v h = extends_kept c (with_reg c w v) (reg_keeps c w v h) h (reg_parts c w v) refl refl
 
-pub widths_reg : (c : Circuit) (w v : ℕ) (ins ws : List ℕ) → IsWell c → HasWidths c ins ws → HasWidths (with_reg c w v) ins ws
-widths_reg c w v ins ws h x = widths_still c (with_reg c w v) ins ws (reg_keeps c w v h) refl refl x
+pub extents_reg : (c : Circuit) (w v : ℕ) (ins : List ℕ) (ns : List Extent) → IsWell c → HaveExtents c ins ns → HaveExtents (with_reg c w v) ins ns
+extents_reg c w v ins ns h x = extents_still c (with_reg c w v) ins ns (reg_keeps c w v h) refl refl x
 
 reg_here : (c : Circuit) (w v : ℕ) → reg_at (with_reg c w v) (length c.regs) ≡ new_reg c w v
 reg_here c w v = get_or_push c.regs (new_reg c w v) no_reg (length c.regs) refl
@@ -137,9 +138,9 @@ extends_next c r x h w =
       shapes = refl;
     }
 
-pub widths_next : (c : Circuit) (r : ℕ) (x : Net) (ins ws : List ℕ) → HasReg c r → IsWell c → HasWidths c ins ws → HasWidths (with_next c r x) ins ws
+pub extents_next : (c : Circuit) (r : ℕ) (x : Net) (ins : List ℕ) (ns : List Extent) → HasReg c r → IsWell c → HaveExtents c ins ns → HaveExtents (with_next c r x) ins ns
 unfolding HasReg
-widths_next c r x ins ws h w i = widths_still c (with_next c r x) ins ws (next_keeps c r x h w) refl refl i
+extents_next c r x ins ns h w i = extents_still c (with_next c r x) ins ns (next_keeps c r x h w) refl refl i
 
 pub next_set : (c : Circuit) (r : ℕ) (x : Net) → HasReg c r → IsThere c x → IsWell c → next_signal (with_next c r x) r ≡ signal c x
 unfolding HasReg next_signal
@@ -195,8 +196,8 @@ pub extends_array : (c : Circuit) (n : List ℕ) (w d : ℕ) → IsWell c → Ex
 unfolding shapes_of
 extends_array c n w d h = extends_arrays_kept c (with_array c n w d) (new_shape n w d ∷ []) (array_keeps c n w d h) h (array_parts c n w d) refl (map-append shape_of c.arrays (new_array n w d ∷ []))
 
-pub widths_array : (c : Circuit) (n : List ℕ) (w d : ℕ) (ins ws : List ℕ) → IsWell c → HasWidths c ins ws → HasWidths (with_array c n w d) ins ws
-widths_array c n w d ins ws h x = widths_still c (with_array c n w d) ins ws (array_keeps c n w d h) refl refl x
+pub extents_array : (c : Circuit) (n : List ℕ) (w d : ℕ) (ins : List ℕ) (ns : List Extent) → IsWell c → HaveExtents c ins ns → HaveExtents (with_array c n w d) ins ns
+extents_array c n w d ins ns h x = extents_still c (with_array c n w d) ins ns (array_keeps c n w d h) refl refl x
 
 array_here : (c : Circuit) (n : List ℕ) (w d : ℕ) → array_at (with_array c n w d) (length c.arrays) ≡ new_array n w d
 array_here c n w d = get_or_push c.arrays (new_array n w d) no_array (length c.arrays) refl
@@ -278,9 +279,9 @@ extends_write c m p h w =
       shapes = write_shapes c m p h;
     }
 
-pub widths_write : (c : Circuit) (m : ℕ) (p : WritePort) (ins ws : List ℕ) → HasArray c m → IsWell c → HasWidths c ins ws → HasWidths (with_write c m p) ins ws
+pub extents_write : (c : Circuit) (m : ℕ) (p : WritePort) (ins : List ℕ) (ns : List Extent) → HasArray c m → IsWell c → HaveExtents c ins ns → HaveExtents (with_write c m p) ins ns
 unfolding HasArray
-widths_write c m p ins ws h w x = widths_still c (with_write c m p) ins ws (write_keeps c m p h w) refl refl x
+extents_write c m p ins ns h w x = extents_still c (with_write c m p) ins ns (write_keeps c m p h w) refl refl x
 
 only_write : (c : Circuit) (a : Array) (p : WritePort) → IsWellWrite c a p → (i : ℕ) (q : WritePort) → slice_get (p ∷ []) i ≡ Some q → IsWellWrite c a q
 only_write c a p f zero q e = let s : p ≡ q = cc in subst (λ x. IsWellWrite c a x) s f

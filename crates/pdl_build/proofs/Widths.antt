@@ -1,5 +1,5 @@
--- The widths of nets, as the builder keeps them beside its circuit.
-use Rattle.std.proofs.Common.{◌≡◌, ℕ, zero, ◌+◌, ◌-◌, ◌^◌, ◌<◌, List, [], map, length, get_or, refl, sym, ap, ◌∙◌, subst, arith, replicate}
+-- The widths of nets, and which are below, as the builder keeps that beside its circuit.
+use Rattle.std.proofs.Common.{◌≡◌, ℕ, true, zero, ◌+◌, ◌-◌, ◌^◌, ◌<◌, List, [], map, length, get_or, refl, sym, ap, ◌∙◌, subst, arith, replicate}
 use Rattle.std.specs.Prelude.{slice_index, slice_index_or}
 use Rattle.std.proofs.lemmas.List.{get_or-map, length-map, length-replicate}
 use Rattle.std.proofs.lemmas.Nat.{pow_pos}
@@ -13,7 +13,9 @@ use Rattle.pdl_net.specs.Circuit.{Circuit, State, inputs_of, reg_at, array_at, n
 use Rattle.pdl_net.specs.Meaning.{IsThere, signal}
 use Rattle.pdl_net.specs.Well.{Fits, IsWell, IsWidth, Suits}
 use Rattle.pdl_net.proofs.Bounds.{bounded}
-use Rattle.pdl_build.specs.Parts.{HasWidths}
+use Rattle.pdl_build.specs.declared.Extent.{Extent}
+use Rattle.pdl_build.specs.Rules.{IsBelow}
+use Rattle.pdl_build.specs.Parts.{HaveExtents, extent_in}
 use Rattle.pdl_net.proofs.Widths.{there_reg}
 use Rattle.pdl_word.proofs.Lists.{zeros_at}
 
@@ -24,43 +26,49 @@ there_as c v x y e f t = subst (λ z. IsThere c z) f (subst (λ d. IsThere d x) 
 width_as : (c v : Circuit) (x y : Net) → c ≡ v → x ≡ y → (signal c y).width ≡ (signal v x).width
 width_as c v x y e f = cc (e, f)
 
-input_below : (c : Circuit) (ins ws : List ℕ) (i : ℕ) → HasWidths c ins ws → IsThere c (Input i) → i < length ins
+input_below : (c : Circuit) (ins : List ℕ) (ns : List Extent) (i : ℕ) → HaveExtents c ins ns → IsThere c (Input i) → i < length ins
 unfolding IsThere
-input_below c ins ws i h t = let n = ap length h.inputs in omega (arith, n)
+input_below c ins ns i h t = let n = ap length h.inputs in omega (arith, n)
 
-input_width : (c : Circuit) (ins ws : List ℕ) (i : ℕ) → HasWidths c ins ws → get_or ins i 0 ≡ (signal c (Input i)).width
+input_width : (c : Circuit) (ins : List ℕ) (ns : List Extent) (i : ℕ) → HaveExtents c ins ns → get_or ins i 0 ≡ (signal c (Input i)).width
 unfolding signal
-input_width c ins ws i h = ap (λ l. get_or l i 0) h.inputs
+input_width c ins ns i h = ap (λ l. get_or l i 0) h.inputs
 
 reg_width : (c : Circuit) (r : ℕ) → (reg_at c r).width ≡ (signal c (RegNet r)).width
 unfolding signal
 reg_width c r = refl
 
-cell_below : (c : Circuit) (ins ws : List ℕ) (k : ℕ) → HasWidths c ins ws → IsThere c (CellNet k) → k < length ws
+cell_placed : (c : Circuit) (ins : List ℕ) (ns : List Extent) (k : ℕ) → HaveExtents c ins ns → IsThere c (CellNet k) → k < length ns
 unfolding IsThere
-cell_below c ins ws k h t = omega (arith, h.count)
+cell_placed c ins ns k h t = omega (arith, h.count)
 
-cell_width : (c : Circuit) (ins ws : List ℕ) (k : ℕ) → HasWidths c ins ws → IsThere c (CellNet k) → get_or ws k 0 ≡ (signal c (CellNet k)).width
+cell_width : (c : Circuit) (ins : List ℕ) (ns : List Extent) (k : ℕ) → HaveExtents c ins ns → IsThere c (CellNet k) → (extent_in ns k).width ≡ (signal c (CellNet k)).width
 unfolding IsThere
-cell_width c ins ws k h t = h.cells k t
+cell_width c ins ns k h t = (h.cells k t).width
 
-pub input_in : (c v : Circuit) (ins ws : List ℕ) (x : Net) (i : ℕ) → HasWidths c ins ws → c ≡ v → x ≡ Input i → IsThere v x → i < length ins
-input_in c v ins ws x i h e f t = input_below c ins ws i h (there_as c v x (Input i) e f t)
+pub input_in : (c v : Circuit) (ins : List ℕ) (ns : List Extent) (x : Net) (i : ℕ) → HaveExtents c ins ns → c ≡ v → x ≡ Input i → IsThere v x → i < length ins
+input_in c v ins ns x i h e f t = input_below c ins ns i h (there_as c v x (Input i) e f t)
 
 pub reg_in : (c v : Circuit) (x : Net) (r : ℕ) → c ≡ v → x ≡ RegNet r → IsThere v x → r < length c.regs
 reg_in c v x r e f t = there_reg c r (there_as c v x (RegNet r) e f t)
 
-pub cell_in : (c v : Circuit) (ins ws : List ℕ) (x : Net) (k : ℕ) → HasWidths c ins ws → c ≡ v → x ≡ CellNet k → IsThere v x → k < length ws
-cell_in c v ins ws x k h e f t = cell_below c ins ws k h (there_as c v x (CellNet k) e f t)
+pub cell_in : (c v : Circuit) (ins : List ℕ) (ns : List Extent) (x : Net) (k : ℕ) → HaveExtents c ins ns → c ≡ v → x ≡ CellNet k → IsThere v x → k < length ns
+cell_in c v ins ns x k h e f t = cell_placed c ins ns k h (there_as c v x (CellNet k) e f t)
 
-pub input_is : (c v : Circuit) (ins ws : List ℕ) (x : Net) (i : ℕ) → HasWidths c ins ws → c ≡ v → x ≡ Input i → get_or ins i 0 ≡ (signal v x).width
-input_is c v ins ws x i h e f = input_width c ins ws i h ∙ width_as c v x (Input i) e f
+pub input_is : (c v : Circuit) (ins : List ℕ) (ns : List Extent) (x : Net) (i : ℕ) → HaveExtents c ins ns → c ≡ v → x ≡ Input i → get_or ins i 0 ≡ (signal v x).width
+input_is c v ins ns x i h e f = input_width c ins ns i h ∙ width_as c v x (Input i) e f
 
 pub reg_is : (c v : Circuit) (x : Net) (r : ℕ) → c ≡ v → x ≡ RegNet r → (reg_at c r).width ≡ (signal v x).width
 reg_is c v x r e f = reg_width c r ∙ width_as c v x (RegNet r) e f
 
-pub cell_is : (c v : Circuit) (ins ws : List ℕ) (x : Net) (k : ℕ) → HasWidths c ins ws → c ≡ v → x ≡ CellNet k → IsThere v x → get_or ws k 0 ≡ (signal v x).width
-cell_is c v ins ws x k h e f t = cell_width c ins ws k h (there_as c v x (CellNet k) e f t) ∙ width_as c v x (CellNet k) e f
+pub cell_is : (c v : Circuit) (ins : List ℕ) (ns : List Extent) (x : Net) (k : ℕ) → HaveExtents c ins ns → c ≡ v → x ≡ CellNet k → IsThere v x → (extent_in ns k).width ≡ (signal v x).width
+cell_is c v ins ns x k h e f t = cell_width c ins ns k h (there_as c v x (CellNet k) e f t) ∙ width_as c v x (CellNet k) e f
+
+pub cell_below : (c v : Circuit) (ins : List ℕ) (ns : List Extent) (x : Net) (k : ℕ) → HaveExtents c ins ns → c ≡ v → x ≡ CellNet k → IsThere v x → (extent_in ns k).is_below ≡ true → IsBelow (signal v x)
+unfolding IsThere
+cell_below c v ins ns x k h e f t b =
+    let s : signal c (CellNet k) ≡ signal v x = cc (e, f) in
+    subst IsBelow s ((h.cells k (there_as c v x (CellNet k) e f t)).below b)
 
 -- a state in which all is 0
 abbrev pub nothing : Circuit → State

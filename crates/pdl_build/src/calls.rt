@@ -8,8 +8,8 @@ ghost use Rattle.pdl_net.specs.Growth.{Extends};
 ghost use Rattle.pdl_build.specs.Change.{with_cell};
 ghost use Rattle.pdl_build.specs.Folded.{is_foldable};
 
-use crate::Builder;
 use crate::simplify::Simple;
+use crate::{Builder, Extent};
 use pdl_kit::NoMemory;
 use pdl_net::{BinOp, Cell, Net};
 
@@ -72,11 +72,12 @@ impl Builder {
     {
         let at = self.cells.len();
         let width = self.cell_width(cell);
-        self.cell_widths.push(width)?;
+        let is_below = self.cell_below(cell);
+        self.extents.push(Extent { width, is_below })?;
         match self.cells.push(cell) {
             Ok(()) => Ok(Net::Cell(at)),
             Err(_) => {
-                self.cell_widths.pop();
+                self.extents.pop();
                 Err(NoMemory)
             }
         }

@@ -26,6 +26,13 @@ use pdl_net::{Array, BinOp, Cell, Dir, Net, Netlist, Port, Reg, WritePort};
 use std::alloc::Global;
 use std::marker::Model;
 
+/// What is known of a cell: its width in bits, and whether its value is below the power of two of that whatever it reads, also in a state that doesn't suit.
+#[derive(Clone, Copy)]
+struct Extent {
+    width: u8,
+    is_below: bool,
+}
+
 /// A netlist that grows.
 pub struct Builder {
     alloc: Global,
@@ -33,9 +40,9 @@ pub struct Builder {
     regs: Vec<Reg>,
     arrays: Vec<Array>,
     cells: DistinctCells,
-    /// The width of each input and of each cell, in bits.
+    /// The width of each input, in bits, and what is known of each cell.
     input_widths: Vec<u8>,
-    cell_widths: Vec<u8>,
+    extents: Vec<Extent>,
 }
 
 // As the derive would, but by a call of its owners: docs/DECISIONS.md says why.
@@ -48,7 +55,7 @@ impl Drop for Builder {
             arrays: _,
             cells: _,
             input_widths: _,
-            cell_widths: _,
+            extents: _,
         } = self;
     }
 }
@@ -77,7 +84,7 @@ impl Builder {
             arrays: Vec::new(alloc),
             cells: DistinctCells::new(alloc),
             input_widths: Vec::new(alloc),
-            cell_widths: Vec::new(alloc),
+            extents: Vec::new(alloc),
         }
     }
 
@@ -105,7 +112,7 @@ impl Builder {
         match net {
             Net::Input(i) => self.input_widths[i],
             Net::Reg(r) => self.regs[r].width,
-            Net::Cell(k) => self.cell_widths[k],
+            Net::Cell(k) => self.extents[k].width,
         }
     }
 
@@ -268,7 +275,7 @@ impl Builder {
             arrays,
             cells,
             input_widths: _,
-            cell_widths: _,
+            extents: _,
         } = self;
         Netlist {
             name,

@@ -7,7 +7,7 @@ ghost use Rattle.pdl_net.specs.Well.{Fits};
 ghost use Rattle.pdl_build.specs.Folded.{is_const, is_constant};
 ghost use Rattle.pdl_build.specs.Rules.{Gives, StandsFor, IsBelow, is_cut as cut};
 
-use crate::rules::{Rule, on_constant, on_one_word};
+use crate::rules::{Rule, after_constant, on_constant, on_one_word};
 use crate::same::is_same_net;
 use crate::{Builder, bin_width};
 use pdl_net::{BinOp, Cell, Net};
@@ -57,6 +57,7 @@ impl Builder {
         match self.rule(op, a, b) {
             Rule::First => Simple::Net(a),
             Rule::Second => Simple::Net(b),
+            Rule::Complement => self.simple_not(a),
             Rule::Number(value) => Simple::Cell(Cell::Const { width, value }),
             Rule::Itself => Simple::Cell(Cell::Bin(op, a, b)),
         }
@@ -66,20 +67,40 @@ impl Builder {
     fn rule(&self, op: BinOp, a: Net, b: Net) -> Rule
         requires a_there { IsThere self.now a }
         requires b_there { IsThere self.now b }
+        requires widths { (signal self.now a).width ≡ (signal self.now b).width }
         ensures { (s : State) → Gives result op (signal self.now a).width
             ((signal self.now a).value s) ((signal self.now b).value s) }
     {
         if is_same_net(a, b) {
             return on_one_word(op);
         }
-        match self.constant_of(b) {
-            Some(value) => on_constant(op, self.width(a), value, self.is_below(a)),
+        if let Some(value) = self.constant_of(b) {
+            return on_constant(op, self.width(a), value, self.is_below(a));
+        }
+        match self.constant_of(a) {
+            Some(value) => after_constant(op, self.width(a), value, self.is_below(b)),
             None => Rule::Itself,
         }
     }
 
-    /// A choice; none where the arms are one net or the choice is known, and of 1 by 1 the choice itself or its complement.
+    /// A choice; of a complement the choice of what is below, with the arms exchanged.
     fn simple_mux(&self, choice: Net, a: Net, b: Net) -> Simple
+        requires choice_there { IsThere self.now choice }
+        requires a_there { IsThere self.now a }
+        requires b_there { IsThere self.now b }
+        requires one { (signal self.now choice).width ≡ 1 }
+        requires widths { (signal self.now a).width ≡ (signal self.now b).width }
+        ensures { StandsFor self.now
+            (mux_signal (signal self.now choice) (signal self.now a) (signal self.now b)) result }
+    {
+        match self.cell_of(choice) {
+            Some(Cell::Not(x)) if self.is_below(x) => self.simple_choice(x, b, a),
+            _ => self.simple_choice(choice, a, b),
+        }
+    }
+
+    /// A choice; none where the arms are one net or the choice is known, and of 1 by 1 the choice itself or its complement.
+    fn simple_choice(&self, choice: Net, a: Net, b: Net) -> Simple
         requires choice_there { IsThere self.now choice }
         requires a_there { IsThere self.now a }
         requires b_there { IsThere self.now b }
@@ -163,14 +184,44 @@ impl Builder {
     }
 
     /// Whether a net is known to be below the power of two of its width in every state, also in one that doesn't suit.
-    #[tactic(auto, using(crate::proofs::Simpler::cut_below))]
     fn is_below(&self, net: Net) -> bool
         requires { IsThere self.now net }
         ensures { IsTrue result → IsBelow (signal self.now net) }
     {
-        match self.cell_of(net) {
-            Some(cell) => is_cut(cell),
-            None => false,
+        match net {
+            Net::Cell(k) => self.extents[k].is_below,
+            _ => false,
+        }
+    }
+
+    /// Whether a cell is known to be so: it cuts its value to its width, or what it reads is below.
+    pub fn cell_below(&self, cell: Cell) -> bool
+        requires { Fits self.now cell }
+        ensures { IsTrue result → IsBelow (cell_signal self.now (signal self.now) cell) }
+    {
+        match cell {
+            Cell::Const { .. } => true,
+            Cell::Not(_) => true,
+            Cell::Bin(op, a, b) => self.bin_below(op, a, b),
+            Cell::Mux(_, a, b) => self.is_below(a) && self.is_below(b),
+            Cell::Slice { .. } => true,
+            Cell::Cat(a, b) => self.is_below(a) && self.is_below(b),
+            Cell::Rep { a, .. } => self.is_below(a),
+            Cell::Read { .. } => false,
+        }
+    }
+
+    /// Whether an operator on two nets is known to be so.
+    fn bin_below(&self, op: BinOp, a: Net, b: Net) -> bool
+        requires a_there { IsThere self.now a }
+        requires b_there { IsThere self.now b }
+        requires widths { (signal self.now a).width ≡ (signal self.now b).width }
+        ensures { IsTrue result → IsBelow (bin_signal op (signal self.now a) (signal self.now b)) }
+    {
+        match op {
+            BinOp::And => self.is_below(a) || self.is_below(b),
+            BinOp::Shr => self.is_below(a),
+            _ => is_cut(op) || self.is_below(a) && self.is_below(b),
         }
     }
 
@@ -190,13 +241,9 @@ impl Builder {
     }
 }
 
-/// Whether a cell is below the power of two of its width whatever it reads.
-fn is_cut(cell: Cell) -> bool
-    ensures { result ≡ cut cell }
+/// Whether an operator gives what is below the power of two of its width whatever it reads.
+fn is_cut(op: BinOp) -> bool
+    ensures { result ≡ cut op }
 {
-    match cell {
-        Cell::Const { .. } | Cell::Not(_) | Cell::Slice { .. } => true,
-        Cell::Bin(op, _, _) => !matches!(op, BinOp::And | BinOp::Or | BinOp::Xor | BinOp::Shr),
-        _ => false,
-    }
+    !matches!(op, BinOp::And | BinOp::Or | BinOp::Xor | BinOp::Shr)
 }

@@ -1,11 +1,12 @@
-use Rattle.std.proofs.Common.{◌≡◌, false, sym, subst, ap, ◌∙◌}
+use Rattle.std.proofs.Common.{◌≡◌, false, IsTrue, sym, subst, ap, ◌∙◌}
 use Rattle.pdl_net.specs.Circuit.{Circuit}
 use Rattle.pdl_net.specs.Meaning.{cell_signal, signal}
 use Rattle.pdl_net.specs.Well.{Fits}
 use Rattle.pdl_build.specs.Folded.{is_foldable}
+use Rattle.pdl_build.specs.Rules.{IsBelow}
 use Rattle.pdl_build.proofs.Folds.{folded_pushed}
 use Rattle.pdl_build.specs.Parts.{circuit_of_parts}
-use Rattle.pdl_build.proofs.Grown.{well_cell, widths_cell, means_cell, extends_cell}
+use Rattle.pdl_build.proofs.Grown.{well_cell, extents_cell, means_cell, extends_cell}
 use Rattle.pdl_build.proofs.Builder.add.Goals as goal
 
 pub invariant_of-self-in-Ok : goal.invariant_of-self-in-Ok
@@ -17,10 +18,12 @@ invariant_of-self-in-Ok c =
     let H : Circuit → Type 0 = λ v. is_foldable v.cells g ≡ false in
     let f = subst F (sym c.self.view_is) c.requires.fits in
     let e = c.cell_width-width.ensures ∙ ap (λ (v : Circuit). (cell_signal v (signal v) g).width) (sym c.self.view_is) in
+    let P : Circuit → Type 0 = λ v. IsTrue c.cell_below-is_below.result → IsBelow (cell_signal v (signal v) g) in
+    let low = subst P (sym c.self.view_is) c.cell_below-is_below.ensures in
     record {
       well = rw c.in-Ok.ensures.ok (well_cell k g c.self.invariant.well f);
       folded = rw c.in-Ok.ensures.ok (folded_pushed b.cells g c.self.invariant.folded (subst H (sym c.self.view_is) c.requires.folded));
-      widths = rw (c.in-Ok.ensures.ok, c.in_ok-push.ensures.items) (widths_cell k g b.input_widths.items b.cell_widths.items c.cell_width-width.result c.self.invariant.well f c.self.invariant.widths e);
+      extents = rw (c.in-Ok.ensures.ok, c.in_ok-push.ensures.items) (extents_cell k g b.input_widths.items b.extents.items (record { width = c.cell_width-width.result; is_below = c.cell_below-is_below.result }) c.self.invariant.well f c.self.invariant.extents (record { width = e; below = low }));
     }
 
 pub returns-in-Ok-clause-means : goal.returns-in-Ok-clause-means

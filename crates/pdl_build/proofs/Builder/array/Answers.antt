@@ -1,5 +1,5 @@
 use Rattle.pdl_build.specs.Parts.{circuit_of_parts}
-use Rattle.pdl_build.proofs.Stored.{well_array, widths_array, is_new_array, extends_array}
+use Rattle.pdl_build.proofs.Stored.{well_array, extents_array, is_new_array, extends_array}
 use Rattle.pdl_build.proofs.Builder.array.Goals as goal
 
 pub invariant_of-self-2 : goal.invariant_of-self-2
@@ -8,7 +8,7 @@ invariant_of-self-2 c =
     let k = circuit_of_parts b in
     record {
       well = rw (c.in_ok-push.ensures.items, c.in_ok-name.ensures.cases, c.new-writes.ensures) (well_array k c.args.name.now c.args.width c.args.depth c.self.invariant.well c.requires.low c.requires.high c.requires.depth);
-      widths = rw (c.in_ok-push.ensures.items, c.in_ok-name.ensures.cases, c.new-writes.ensures) (widths_array k c.args.name.now c.args.width c.args.depth b.input_widths.items b.cell_widths.items c.self.invariant.well c.self.invariant.widths);
+      extents = rw (c.in_ok-push.ensures.items, c.in_ok-name.ensures.cases, c.new-writes.ensures) (extents_array k c.args.name.now c.args.width c.args.depth b.input_widths.items b.extents.items c.self.invariant.well c.self.invariant.extents);
       folded = c.self.invariant.folded;
     }
 

@@ -4,8 +4,8 @@ use Rattle.pdl_net.specs.Meaning.{IsThere, signal, next_signal}
 use Rattle.pdl_net.specs.Well.{IsWell}
 use Rattle.pdl_net.specs.Growth.{ExtendsBut}
 use Rattle.pdl_build.specs.Change.{one_reg}
-use Rattle.pdl_build.specs.Parts.{circuit_of_parts, HasWidths}
-use Rattle.pdl_build.proofs.Stored.{well_next, widths_next, next_set, extends_next, next_same, has_reg_below}
+use Rattle.pdl_build.specs.Parts.{circuit_of_parts, HaveExtents}
+use Rattle.pdl_build.proofs.Stored.{well_next, extents_next, next_set, extends_next, next_same, has_reg_below}
 use Rattle.pdl_build.proofs.Builder.next.Goals as goal
 
 pub index_mut-requires : goal.index_mut-requires
@@ -22,12 +22,12 @@ invariant_of-self c =
     let H : Circuit → Type 0 = λ v. HasReg v c.args.reg in
     let T : Circuit → Type 0 = λ v. IsThere v c.args.net in
     let W : Circuit → Type 0 = λ v. (signal v c.args.net).width ≡ reg_width v c.args.reg in
-    let D : Circuit → Type 0 = λ v. HasWidths v b.input_widths.items b.cell_widths.items in
+    let D : Circuit → Type 0 = λ v. HaveExtents v b.input_widths.items b.extents.items in
     let h = subst H e c.requires.has in
     let same = sym (next_same k c.args.reg c.args.net c.index_mut.result.now h c.index_mut.ensures.value) in
     record {
       well = subst IsWell same (well_next k c.args.reg c.args.net h (subst T e c.requires.there) (subst W e c.requires.width) w);
-      widths = subst D same (widths_next k c.args.reg c.args.net b.input_widths.items b.cell_widths.items h w c.self.invariant.widths);
+      extents = subst D same (extents_next k c.args.reg c.args.net b.input_widths.items b.extents.items h w c.self.invariant.extents);
       folded = c.self.invariant.folded;
     }
 

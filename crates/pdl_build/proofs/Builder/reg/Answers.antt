@@ -1,5 +1,5 @@
 use Rattle.pdl_build.specs.Parts.{circuit_of_parts}
-use Rattle.pdl_build.proofs.Stored.{well_reg, widths_reg, is_new_reg, extends_reg}
+use Rattle.pdl_build.proofs.Stored.{well_reg, extents_reg, is_new_reg, extends_reg}
 use Rattle.pdl_build.proofs.Builder.reg.Goals as goal
 
 pub invariant_of-self-2 : goal.invariant_of-self-2
@@ -8,7 +8,7 @@ invariant_of-self-2 c =
     let k = circuit_of_parts b in
     record {
       well = rw (c.in_ok-push.ensures.items, c.len-at.ensures, b.regs.ok.0) (well_reg k c.args.width c.args.reset c.self.invariant.well c.requires.low c.requires.high c.requires.fits);
-      widths = rw (c.in_ok-push.ensures.items, c.len-at.ensures, b.regs.ok.0) (widths_reg k c.args.width c.args.reset b.input_widths.items b.cell_widths.items c.self.invariant.well c.self.invariant.widths);
+      extents = rw (c.in_ok-push.ensures.items, c.len-at.ensures, b.regs.ok.0) (extents_reg k c.args.width c.args.reset b.input_widths.items b.extents.items c.self.invariant.well c.self.invariant.extents);
       folded = c.self.invariant.folded;
     }
 

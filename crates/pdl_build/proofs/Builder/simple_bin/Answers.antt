@@ -1,10 +1,10 @@
 use Rattle.std.proofs.Common.{ℕ, sym, subst, ap, ◌∙◌, ◌<◌, ◌^◌}
 use Rattle.pdl_net.specs.Circuit.{State}
 use Rattle.pdl_net.specs.Meaning.{signal}
-use Rattle.pdl_net.specs.Signal.{bin_width}
+use Rattle.pdl_net.specs.Signal.{Signal, bin_width}
 use Rattle.pdl_build.specs.declared.rules.Rule.{Rule}
-use Rattle.pdl_build.specs.Rules.{Gives}
-use Rattle.pdl_build.proofs.Simpler.{first_same, second_same, number_same, number_fits, at_rest}
+use Rattle.pdl_build.specs.Rules.{Gives, StandsFor}
+use Rattle.pdl_build.proofs.Simpler.{first_same, second_same, complement_same, number_same, number_fits, at_rest}
 use Rattle.pdl_build.proofs.Builder.simple_bin.Goals as goal
 
 pub returns-in-First : goal.returns-in-First
@@ -32,3 +32,12 @@ returns-in-Number c =
       number_fits c.args.self.now c.args.op c.bin_width-width.result c.in-Number.value c.width.result c.bin_width-width.ensures c.width.ensures.low c.width.ensures.high (subst L (ap (bin_width c.args.op) (sym c.width.ensures.value)) (g at_rest).0),
       number_same c.args.op a b c.bin_width-width.result c.in-Number.value w g,
     )
+
+pub returns-in-Complement : goal.returns-in-Complement
+returns-in-Complement c =
+    let v = c.args.self.now in
+    let a = signal v c.args.a in
+    let b = signal v c.args.b in
+    let P : Rule → Type 0 = λ r. (s : State) → Gives r c.args.op a.width (a.value s) (b.value s) in
+    let S : Signal → Type 0 = λ f. StandsFor v f c.simple_not.result in
+    subst S (complement_same c.args.op a b (subst P c.in-Complement.is c.rule.ensures)) c.simple_not.ensures

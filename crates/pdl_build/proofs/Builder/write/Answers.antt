@@ -6,8 +6,8 @@ use Rattle.pdl_net.specs.Meaning.{write_signal, write_signals}
 use Rattle.pdl_net.specs.Well.{IsWell, IsWellWrite}
 use Rattle.pdl_net.specs.Growth.{ExtendsBut}
 use Rattle.pdl_build.specs.Change.{one_array, write_port}
-use Rattle.pdl_build.specs.Parts.{circuit_of_parts, HasWidths}
-use Rattle.pdl_build.proofs.Stored.{well_write, widths_write, writes_more, extends_write, write_same, well_port_write, has_array_below}
+use Rattle.pdl_build.specs.Parts.{circuit_of_parts, HaveExtents}
+use Rattle.pdl_build.proofs.Stored.{well_write, extents_write, writes_more, extends_write, write_same, well_port_write, has_array_below}
 use Rattle.pdl_build.proofs.Builder.write.Goals as goal
 
 pub index_mut-written-requires : goal.index_mut-written-requires
@@ -26,10 +26,10 @@ invariant_of-self-2 c =
     let h = subst H e c.requires.has in
     let f = subst F e (well_port_write c.args.self.now c.args.array p c.requires.enable_there c.requires.addr_there c.requires.value_there c.requires.enable_one c.requires.addr_reach c.requires.value_width) in
     let same = write_same k c.args.array p c.index_mut-written.result.now h c.index_mut-written.ensures.value in
-    let D : Circuit → Type 0 = λ v. HasWidths v b.input_widths.items b.cell_widths.items in
+    let D : Circuit → Type 0 = λ v. HaveExtents v b.input_widths.items b.extents.items in
     record {
       well = rw c.in_ok-push.ensures.ok (subst IsWell (sym same) (well_write k c.args.array p h f c.self.invariant.well));
-      widths = rw c.in_ok-push.ensures.ok (subst D (sym same) (widths_write k c.args.array p b.input_widths.items b.cell_widths.items h c.self.invariant.well c.self.invariant.widths));
+      extents = rw c.in_ok-push.ensures.ok (subst D (sym same) (extents_write k c.args.array p b.input_widths.items b.extents.items h c.self.invariant.well c.self.invariant.extents));
       folded = c.self.invariant.folded;
     }
 
