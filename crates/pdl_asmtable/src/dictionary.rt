@@ -1,5 +1,5 @@
 // Values by name.
-ghost use Rattle.std.specs.Prelude.{◌≡◌, ℕ, List, [], OnOk};
+ghost use Rattle.std.specs.Prelude.{◌≡◌, ℕ, List, [], OnOk, OnErr};
 ghost use Rattle.std.specs.Option.{option_copied};
 ghost use Rattle.pdl_asmtable.specs.Dictionaries.{value_of, with_definition};
 
@@ -50,9 +50,10 @@ impl<T> Dictionary<T> {
 }
 
 impl<T: Drop> Dictionary<T> {
-    /// Defines a name, unless it is defined. Where memory runs out, the value is dropped.
+    /// Defines a name, unless it is defined. Where memory runs out the value is dropped, and the definitions stay as they were.
     pub fn define(&mut self, name: Name, value: T) -> Result<(), NoMemory>
-        ensures { OnOk result (self.new ≡ with_definition self.old name value) }
+        ensures ok { OnOk result (self.new ≡ with_definition self.old name value) }
+        ensures err { OnErr result (self.new ≡ self.old) }
     {
         if self.values.get(&name).is_some() {
             return Ok(());

@@ -37,7 +37,7 @@ pub trait PathRule {
             stands self.now path before state.now →
             result ≡ breaks_on self.now path before (place_view place.now) };
 
-    /// Passes a place on the path, the k-th of the text.
+    /// Passes a place on the path, the k-th of the text. Where memory runs out the state is of no path any more.
     fn step(&self, state: &mut Self::State, k: usize, place: &Place<'_>) -> Result<(), NoMemory>
         ensures { OnOk result ((gs path : List rules.Guard) (before later : List rules.Place) →
             suits self.now gs (before ++ place_view place.now ∷ later) → k ≡ length before →

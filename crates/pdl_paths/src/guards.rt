@@ -1,5 +1,5 @@
 // The guards of a pipe.
-ghost use Rattle.std.specs.Prelude.{◌≡◌, ◌^◌, ◌≤◌, [], IfOk, OnOk, length, map};
+ghost use Rattle.std.specs.Prelude.{◌≡◌, ◌^◌, ◌≤◌, [], IfOk, OnOk, OnErr, length, map};
 ghost use Rattle.pdl_rules.specs.Places as rules;
 ghost use Rattle.pdl_paths.specs.Actions.{place_view};
 ghost use Rattle.pdl_paths.specs.Guards.{guard_view};
@@ -57,9 +57,10 @@ impl Guards {
         Ok(guards)
     }
 
-    /// Adds the guard of an `if`, unless it is there; any other place has none.
+    /// Adds the guard of an `if`, unless it is there; any other place has none. Where memory runs out the guards stay as they were.
     pub fn add(&mut self, place: &Place<'_>) -> Result<(), NoMemory>
-        ensures { OnOk result (self.new ≡ rules.with_guard self.old (place_view place.now)) }
+        ensures ok { OnOk result (self.new ≡ rules.with_guard self.old (place_view place.now)) }
+        ensures err { OnErr result (self.new ≡ self.old) }
     {
         match place.action {
             Action::If(condition, _, _) => self.define(guard_of(place.span, condition)),
@@ -77,7 +78,8 @@ impl Guards {
 
     // Adds a guard, unless it is there.
     fn define(&mut self, guard: Guard<'_>) -> Result<(), NoMemory>
-        ensures { OnOk result (self.new ≡ with_new (guard_view guard.entry) self.old) }
+        ensures ok { OnOk result (self.new ≡ with_new (guard_view guard.entry) self.old) }
+        ensures err { OnErr result (self.new ≡ self.old) }
     {
         if self.number(guard) < self.len() {
             return Ok(());

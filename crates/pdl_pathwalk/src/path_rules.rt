@@ -47,7 +47,7 @@ pub trait PathRules {
             suits self.now gs xs
             → found self.now gs xs path.bits lowest → stand self.now gs xs path.bits 0 courses) };
 
-    /// Passes a place on the path, the k-th of the text.
+    /// Passes a place on the path, the k-th of the text. Where memory runs out the courses are of no path any more.
     fn pass(&self, courses: &mut Self::Courses, k: usize, place: &Place<'_>) -> Result<(), NoMemory>
         ensures { OnOk result ((gs : List spec.Guard) (xs : List spec.Place) (bits : ℕ) →
             suits self.now gs xs

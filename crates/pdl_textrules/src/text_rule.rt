@@ -37,7 +37,7 @@ pub trait TextRule {
         requires stands { stands self.now (take k (map place_view places.now)) state.now }
         ensures { result ≡ breaks_at (breaks_on self.now) (map place_view places.now) k };
 
-    /// Passes the k-th place.
+    /// Passes the k-th place. Where memory runs out the state is of no text any more.
     fn step(
         &self,
         alloc: Global,

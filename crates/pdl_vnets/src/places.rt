@@ -1,5 +1,5 @@
 //! Where each name was first declared.
-ghost use Rattle.std.specs.Prelude.{◌≡◌, ◌++◌, ◌∷◌, ◌<◌, ◌+◌, ◌^◌, [], ℕ, List, OnOk, length};
+ghost use Rattle.std.specs.Prelude.{◌≡◌, ◌++◌, ◌∷◌, ◌<◌, ◌+◌, ◌^◌, [], ℕ, List, OnOk, OnErr, length};
 ghost use Rattle.pdl_vnets.specs.Places.{AreFirsts};
 ghost use Rattle.pdl_vnets.specs.Wired.{place};
 
@@ -25,12 +25,15 @@ impl Places {
         }
     }
 
-    /// Adds a declaration of a name.
+    /// Adds a declaration of a name. Where memory runs out all declarations stay as they were.
     pub fn add(&mut self, name: &Name) -> Result<(), NoMemory>
         requires { self.old.count + 1 < 2 ^ 64 }
         ensures names { OnOk result ((names : List (List ℕ)) → AreFirsts names self.old →
             AreFirsts (names ++ name.now ∷ []) self.new) }
         ensures count { OnOk result (self.new.count ≡ self.old.count + 1) }
+        ensures err { OnErr result ((names : List (List ℕ)) → AreFirsts names self.old →
+            AreFirsts names self.new) }
+        ensures err_count { OnErr result (self.new.count ≡ self.old.count) }
     {
         if self.firsts.get(name).is_some() {
             self.count += 1;

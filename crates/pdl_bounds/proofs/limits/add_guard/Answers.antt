@@ -11,4 +11,4 @@ returns-then-is_some c = λ e. absurd (true≢false (c.if-is_some.ensures ∙ ap
 pub returns : goal.returns
 returns c = λ e.
     guards_next (map place_view c.args.places.now) c.args.k (place_view c.index-places-k.result) _ _
-    (nth place_view c.args.places.now c.args.k c.index-places-k.result c.requires.here c.index-places-k.is) c.in_ok-add.ensures (c.requires.guards e)
+    (nth place_view c.args.places.now c.args.k c.index-places-k.result c.requires.here c.index-places-k.is) c.in_ok-add.ensures.ok (c.requires.guards e)

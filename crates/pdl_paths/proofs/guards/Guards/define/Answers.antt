@@ -5,14 +5,14 @@ use Rattle.pdl_paths.specs.Kept.{kept_view}
 use Rattle.pdl_paths.proofs.Numbers.{there, missing}
 use Rattle.pdl_paths.proofs.guards.Guards.define.Goals as goal
 
-pub returns-then-number-len : goal.returns-then-number-len
-returns-then-number-len c =
+pub returns-then-number-len-clause-ok : goal.returns-then-number-len-clause-ok
+returns-then-number-len-clause-ok c =
     let g = guard_view c.args.guard in
     let gs = c.args.self.now in
     sym (ap (λ b. if b then gs else gs ++ g ∷ []) (there g gs (omega (arith, c.number.ensures, c.len.ensures, c.if-number-len.true))))
 
-pub returns : goal.returns
-returns c =
+pub returns-clause-ok : goal.returns-clause-ok
+returns-clause-ok c =
     let g = guard_view c.args.guard in
     let gs = c.args.self.now in
     ap (map kept_view) c.in_ok-push.ensures.items
