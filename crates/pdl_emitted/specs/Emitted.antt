@@ -1,11 +1,10 @@
 -- All nets of a pipe in one circuit, emitted one after the other.
 use Rattle.std.specs.Prelude.{◌≡◌, ℕ, ◌+◌, ◌*◌, ◌<◌, ◌≤◌, List, [], length, Option, Some, None, slice_index_or}
-use Rattle.pdl_kit.specs.declared.seq.Seq.{Seq}
 use Rattle.pdl_semantics.specs.Flat.{Pipe}
 use Rattle.pdl_semantics.specs.Stages.{stage_at, mem_at, verify_stage, reply_place}
 use Rattle.pdl_machine_facts.specs.Slots.{LeadsOn}
 use Rattle.pdl_form.specs.Form.{Form}
-use Rattle.pdl_formtypes.specs.Stmts.{IsTypedForm, AreForks}
+use Rattle.pdl_formtypes.specs.Stmts.{IsTypedForm}
 use Rattle.pdl_net.specs.declared.Net.{Net}
 use Rattle.pdl_net.specs.Circuit.{Circuit, HasReg, HasArray, shapes_of}
 use Rattle.pdl_net.specs.Signal.{Signal, input_signal}

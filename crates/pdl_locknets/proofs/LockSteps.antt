@@ -96,6 +96,16 @@ locks_more xs m a b c x y = record {
   shapes = y.shapes ∙ x.shapes;
 }
 
+-- those of more locks may have changed
+pub locks_wider : {T : Type 0} (xs : List (Option (MemLock T))) (m n : ℕ) (a b : Circuit) → m ≤ n → ExtendsLocks xs m a b → ExtendsLocks xs n a b
+locks_wider xs m n a b h x = record {
+  keeps = x.keeps;
+  nexts = λ k r o. x.nexts k r (λ j l. o j (omega (arith, h, l)));
+  writes = λ k r o. x.writes k r (λ j l. o j (omega (arith, h, l)));
+  ports = x.ports;
+  shapes = x.shapes;
+}
+
 -- an element of a list with one more
 pub some_before : {X : Type 0} (xs : List (Option X)) (x : Option X) (m : ℕ) → m < length xs → some_at (xs ++ x ∷ []) m ≡ some_at xs m
 some_before xs x m h = get_or_append_left xs (x ∷ []) None m h

@@ -5,7 +5,7 @@ ghost use Rattle.pdl_form.specs.View.{mem_view};
 ghost use Rattle.pdl_formtypes.specs.Stmts.{IsTypedMem, AreTypedMems};
 ghost use Rattle.pdl_net.specs.Circuit.{shapes_of};
 ghost use Rattle.pdl_net.specs.Meaning.{write_signals};
-ghost use Rattle.pdl_net.specs.Growth.{ExtendsArrays};
+ghost use Rattle.pdl_net.specs.Growth.{ExtendsArrays, Keeps};
 ghost use Rattle.pdl_lockapi.specs.Forget.{as_lock};
 ghost use Rattle.pdl_stagenets.specs.Locked.{members, some_at, AreLocked};
 ghost use Rattle.pdl_locknets.specs.Suited.{info_of, arrays_in, shapes_in, AreSuited};
@@ -38,6 +38,7 @@ fn plain(b: &mut Builder, m: &Mem) -> Result<(), NoMemory>
     ensures unwritten { OnOk result (write_signals b.new (length b.old.arrays) ≡ []) }
     ensures extends { OnOk result (ExtendsArrays b.old b.new
         (record { name = m.now.name; width = m.now.width; depth = m.now.depth } ∷ [])) }
+    ensures keeps { Keeps b.old b.new }
 {
     b.array(&m.name, m.width, m.depth)?;
     Ok(())
@@ -57,6 +58,7 @@ fn lock_registers<L: LockModule + Copy>(
         OnOk result (write_signals b.new (length b.old.arrays) ≡ []) }
     ensures extends { OnOk result (ExtendsArrays b.old b.new
         (arrays_in m.now.name (mem_view m.now))) }
+    ensures keeps { Keeps b.old b.new }
 {
     let info = info(m)?;
     let regs = lock.emit_state(alloc, b, &info)?;
@@ -79,6 +81,7 @@ fn memory<L: LockModule + Copy>(
         OnOk result (write_signals b.new (length b.old.arrays) ≡ []) }
     ensures extends { OnOk result (ExtendsArrays b.old b.new
         (arrays_in m.now.name (mem_view m.now))) }
+    ensures keeps { Keeps b.old b.new }
 {
     match lock {
         None => {
@@ -130,6 +133,7 @@ pub fn memories<L: LockModule + Copy>(
     ensures unwritten { OnOk result (AreUnwritten b.new (form pipe.now).pipe) }
     ensures extends { OnOk result (ExtendsArrays b.old b.new
         (shapes_in (form pipe.now).names (form pipe.now).pipe.mems)) }
+    ensures keeps { Keeps b.old b.new }
 {
     let mut made = Vec::new(alloc);
     let mems = pipe.mems();

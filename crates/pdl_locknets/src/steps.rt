@@ -67,7 +67,7 @@ fn lock_step<L: LockModule>(
         (signal b.new n.commit) (signal b.new n.addr) (signal b.new n.value)) }
     ensures hides { OnOk result (HidesLaw (L.kind_of x.now.lock) b.new (own x.now.regs)
         (round_signals b.old round.now m)) }
-    ensures extends { OnOk result (ExtendsBut (own x.now.regs) b.old b.new) }
+    ensures extends { ExtendsBut (own x.now.regs) b.old b.new }
 {
     let tail = variable(b, round.tails, m);
     let ports = lock_ports(alloc, b, round.bits, round.deeds, m, round.squash, tail)?;
@@ -100,8 +100,7 @@ fn memory_step<L: LockModule>(
     ensures stepped { IfOk result (λ n.
         IsSteppedMemory (members L.LockModule) b.new (mem_at (form round.now.pipe.now).pipe m)
         (round_steps b.old round.now m) (some_at round.now.locks.now m) n) }
-    ensures extends { OnOk result (ExtendsBut
-        (own_of (some_at round.now.locks.now m)) b.old b.new) }
+    ensures extends { ExtendsBut (own_of (some_at round.now.locks.now m)) b.old b.new }
 {
     match lock_at(round.locks, m) {
         None => Ok(None),
@@ -131,8 +130,8 @@ pub fn step<L: LockModule>(
         AreStepped (members L.LockModule) b.new (form round.now.pipe.now).pipe
         (round_steps b.old round.now) round.now.locks.now ns.items
         (length (form round.now.pipe.now).pipe.mems)) }
-    ensures extends { OnOk result (ExtendsLocks round.now.locks.now
-        (length (form round.now.pipe.now).pipe.mems) b.old b.new) }
+    ensures extends { ExtendsLocks round.now.locks.now
+        (length (form round.now.pipe.now).pipe.mems) b.old b.new }
 {
     let mut nets = Vec::new(alloc);
     for m in 0..round.pipe.mems().len() {

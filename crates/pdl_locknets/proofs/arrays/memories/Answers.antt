@@ -3,6 +3,7 @@ use Rattle.std.specs.Prelude.{Option}
 use Rattle.pdl_form.specs.Whole.{form}
 use Rattle.pdl_form.specs.View.{mem_view}
 use Rattle.pdl_formtypes.specs.Stmts.{IsTypedMem}
+use Rattle.pdl_net.proofs.Keeps.{arrays_keeps, keeps_trans}
 use Rattle.pdl_stagenets.specs.declared.locks.MemLock.{MemLock}
 use Rattle.pdl_stagenets.specs.Locked.{Members}
 use Rattle.pdl_locknets.proofs.AllMade.{AreMadeTo, mem_is, mem_count, name_is, name_count, typed_at, served_at, made_none, made_more, all_extends, all_locked, all_lawful, all_unwritten, all_above}
@@ -103,3 +104,18 @@ returns-clause-extends g c =
     let count = mem_count f.pipe ms c.mems-mems.ensures.mems in
     let named = name_count f.names f.pipe ms c.mems-mems.ensures.names c.mems-mems.ensures.mems in
     all_extends l c.args.b.now c.loop-m.b f.names f.pipe c.loop-m.made.items c.loop-m.m named (omega (arith, c.loop-m-test.false, c.loop-m.auto.m-end, count)) c.loop-m.invariant.made
+
+pub returns-in_err-one-clause-keeps : goal.returns-in_err-one-clause-keeps
+returns-in_err-one-clause-keeps g c =
+    let h = c.loop-m.invariant.made in
+    keeps_trans c.args.b.now c.loop-m.b c.memory.new.b (arrays_keeps c.args.b.now c.loop-m.b h.added h.extends) c.memory.ensures.keeps
+
+pub returns-in_err-push-clause-keeps : goal.returns-in_err-push-clause-keeps
+returns-in_err-push-clause-keeps g c =
+    let h = c.loop-m.invariant.made in
+    keeps_trans c.args.b.now c.loop-m.b c.memory.new.b (arrays_keeps c.args.b.now c.loop-m.b h.added h.extends) c.memory.ensures.keeps
+
+pub returns-clause-keeps : goal.returns-clause-keeps
+returns-clause-keeps g c =
+    let h = c.loop-m.invariant.made in
+    arrays_keeps c.args.b.now c.loop-m.b h.added h.extends

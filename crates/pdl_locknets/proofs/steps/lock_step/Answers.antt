@@ -1,7 +1,7 @@
 use Rattle.std.proofs.Common.{subst}
 use Rattle.pdl_net.specs.Signal.{Signal}
 use Rattle.pdl_net.specs.Meaning.{signal}
-use Rattle.pdl_net.proofs.Keeps.{extends_keeps}
+use Rattle.pdl_net.proofs.Keeps.{extends_keeps, but_extends, but_trans}
 use Rattle.pdl_lockapi.specs.Laws.{own, HidesLaw, StepLaw, StepSignals}
 use Rattle.pdl_stagenets.specs.Locked.{tickets_in}
 use Rattle.pdl_locknets.specs.Ports.{ArePorts, signals_of}
@@ -56,3 +56,8 @@ returns-clause-hides g c =
     let are : ArePorts d c.in_ok-ports.ports f = subst (λ (g : Signal). ArePorts d c.in_ok-ports.ports (signals_of a r.deeds.now c.args.m (signal a r.squash) g)) c.variable-tail.ensures.same c.in_ok-ports.ensures.ports in
     let x = c.args.x.now in
     subst (λ (s : StepSignals). HidesLaw (g.L.LockModule.kind_of x.lock) c.emit_step.new.b (own x.regs) s) (ports_mean d c.in_ok-ports.ports f are) c.in_ok-nets.ensures.hides
+
+pub returns-in_err-nets-clause-extends : goal.returns-in_err-nets-clause-extends
+returns-in_err-nets-clause-extends g c =
+    let o = own c.args.x.now.regs in
+    but_trans o c.args.b.now c.lock_ports.new.b c.emit_step.new.b (but_extends o c.args.b.now c.lock_ports.new.b c.lock_ports.ensures.extends) c.emit_step.ensures.extends

@@ -8,7 +8,7 @@ use Rattle.pdl_locknets.specs.Deeds.{steps_in}
 use Rattle.pdl_locknets.specs.Stepped.{AreStepped, ExtendsLocks}
 use Rattle.pdl_locknets.proofs.AllMade.{mem_count}
 use Rattle.pdl_locknets.proofs.LocksKept.{locked_kept, deeds_kept, squash_kept, step_same}
-use Rattle.pdl_locknets.proofs.LockSteps.{locks_none, locks_more, stepped_none, stepped_more, still_unwritten}
+use Rattle.pdl_locknets.proofs.LockSteps.{locks_none, locks_more, locks_wider, stepped_none, stepped_more, still_unwritten}
 use Rattle.pdl_locknets.proofs.steps.step.Goals as goal
 
 pub loop-m-init : goal.loop-m-init
@@ -96,3 +96,19 @@ returns-clause-extends g c =
     let p = (form c.args.round.now.pipe.now).pipe in
     let n : c.loop-m.m ≡ length p.mems = omega (arith, c.loop-m-test.false, c.loop-m.auto.m-end, mem_count p c.mems-m-end.result.now c.mems-m-end.ensures.mems) in
     subst (λ i. ExtendsLocks c.args.round.now.locks.now i c.args.b.now c.loop-m.b) n c.loop-m.invariant.extends
+
+pub returns-in_err-net-clause-extends : goal.returns-in_err-net-clause-extends
+returns-in_err-net-clause-extends g c =
+    let p = (form c.args.round.now.pipe.now).pipe in
+    let xs = c.args.round.now.locks.now in
+    let m = c.loop-m.m in
+    let low : m < length p.mems = omega (arith, c.loop-m-test.true, mem_count p c.mems-m-end.result.now c.mems-m-end.ensures.mems) in
+    locks_wider xs (m + 1) (length p.mems) c.args.b.now c.memory_step.new.b (omega (arith, low)) (locks_more xs m c.args.b.now c.loop-m.b c.memory_step.new.b c.loop-m.invariant.extends c.memory_step.ensures.extends)
+
+pub returns-in_err-push-clause-extends : goal.returns-in_err-push-clause-extends
+returns-in_err-push-clause-extends g c =
+    let p = (form c.args.round.now.pipe.now).pipe in
+    let xs = c.args.round.now.locks.now in
+    let m = c.loop-m.m in
+    let low : m < length p.mems = omega (arith, c.loop-m-test.true, mem_count p c.mems-m-end.result.now c.mems-m-end.ensures.mems) in
+    locks_wider xs (m + 1) (length p.mems) c.args.b.now c.memory_step.new.b (omega (arith, low)) (locks_more xs m c.args.b.now c.loop-m.b c.memory_step.new.b c.loop-m.invariant.extends c.memory_step.ensures.extends)
