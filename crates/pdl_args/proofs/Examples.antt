@@ -1,7 +1,7 @@
 -- What single lists of words are.
 use Rattle.std.proofs.Common.{◌≡◌, [], ◌∷◌, Some, None, codes, refl}
 use Rattle.clap.proofs.OnLiterals.{clap_on_literals}
-use Rattle.pdl_args.specs.Line.{line, check, run, seq, asm, gen, build, sim, wave}
+use Rattle.pdl_args.specs.Line.{line, check, run, seq, asm, gen, build, sim, wave, view}
 
 ran : line (codes "run" ∷ codes "a.pdl" ∷ codes "e.img" ∷ codes "17" ∷ []) ≡ Some (run (codes "a.pdl") (codes "e.img") 17 None)
 unfolding clap_on_literals line
@@ -274,3 +274,23 @@ above_most_dumped = refl
 wave_two : line (codes "wave" ∷ codes "a" ∷ codes "b" ∷ []) ≡ None
 unfolding clap_on_literals line
 wave_two = refl
+
+viewed : line (codes "view" ∷ codes "a.pdl" ∷ codes "e.img" ∷ codes "17" ∷ []) ≡ Some (view (codes "a.pdl") (codes "e.img") 17 None)
+unfolding clap_on_literals line
+viewed = refl
+
+viewed_late : line (codes "view" ∷ codes "a" ∷ codes "b" ∷ codes "5" ∷ codes "--delays" ∷ codes "f" ∷ []) ≡ Some (view (codes "a") (codes "b") 5 (Some (codes "f")))
+unfolding clap_on_literals line
+viewed_late = refl
+
+most_viewed : line (codes "view" ∷ codes "a" ∷ codes "b" ∷ codes "1000000" ∷ []) ≡ Some (view (codes "a") (codes "b") 1000000 None)
+unfolding clap_on_literals line
+most_viewed = refl
+
+above_most_viewed : line (codes "view" ∷ codes "a" ∷ codes "b" ∷ codes "1000001" ∷ []) ≡ None
+unfolding clap_on_literals line
+above_most_viewed = refl
+
+view_two : line (codes "view" ∷ codes "a" ∷ codes "b" ∷ []) ≡ None
+unfolding clap_on_literals line
+view_two = refl

@@ -52,6 +52,12 @@ wave_app =
     with_rule (with_rule (with_rule (with_rule (new_app (codes "wave"))
     (word_rule (codes "source"))) (word_rule (codes "image"))) (word_rule (codes "cycles"))) (option_rule (codes "delays"))
 
+-- `view SRC IMG CYCLES [--delays F]`
+abbrev pub view_app : App
+view_app =
+    with_rule (with_rule (with_rule (with_rule (new_app (codes "view"))
+    (word_rule (codes "source"))) (word_rule (codes "image"))) (word_rule (codes "cycles"))) (option_rule (codes "delays"))
+
 -- the command without its subcommands, over the words after the program's name
 abbrev pub bare_app : App
 bare_app = on_top (λ s. record s { no_binary_name = true }) (new_app (codes "pdl"))
@@ -60,5 +66,5 @@ bare_app = on_top (λ s. record s { no_binary_name = true }) (new_app (codes "pd
 abbrev pub pdl_app : App
 pdl_app =
     with_subcommand (with_subcommand (with_subcommand (with_subcommand (with_subcommand
-    (with_subcommand (with_subcommand (with_subcommand bare_app
-    check_app.top) run_app.top) seq_app.top) asm_app.top) gen_app.top) build_app.top) sim_app.top) wave_app.top
+    (with_subcommand (with_subcommand (with_subcommand (with_subcommand bare_app
+    check_app.top) run_app.top) seq_app.top) asm_app.top) gen_app.top) build_app.top) sim_app.top) wave_app.top) view_app.top

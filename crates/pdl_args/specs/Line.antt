@@ -18,6 +18,7 @@ pub data Command : Type 0 where
   build : (source : Text) → Command
   sim : (netlist image : Text) (cycles : ℕ) (delays : Option Text) → Command
   wave : (source image : Text) (cycles : ℕ) (delays : Option Text) → Command
+  view : (source image : Text) (cycles : ℕ) (delays : Option Text) → Command
 
 -- `check`
 abbrev pub check_of : Option Text → Option Command
@@ -59,6 +60,11 @@ abbrev pub wave_of : Option Text → Option Text → Option Text → Option Text
 wave_of (Some source) (Some image) (Some cycles) delays = option_map (λ k. wave source image k delays) (number_of 7 1000000 cycles)
 wave_of _ _ _ _ = None
 
+-- `view`, with a number of cycles up to 1,000,000, and a delay file or none
+abbrev pub view_of : Option Text → Option Text → Option Text → Option Text → Option Command
+view_of (Some source) (Some image) (Some cycles) delays = option_map (λ k. view source image k delays) (number_of 7 1000000 cycles)
+view_of _ _ _ _ = None
+
 -- the command of a subcommand that shows or reads a netlist, by its name, with the words that it was given
 abbrev pub netlist_command_of : Text × List Row → Option Command
 netlist_command_of (name, rows) =
@@ -89,6 +95,9 @@ command_of (name, rows) =
     else
     if bytes_eq name (codes "gen")
     then gen_of (first_of (codes "number") rows)
+    else
+    if bytes_eq name (codes "view")
+    then view_of (first_of (codes "source") rows) (first_of (codes "image") rows) (first_of (codes "cycles") rows) (first_of (codes "delays") rows)
     else netlist_command_of (name, rows)
 
 -- the command of a subcommand, where `clap` has no fault to name

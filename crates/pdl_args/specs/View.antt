@@ -1,6 +1,7 @@
 -- The program's commands as those of the definition.
 use Rattle.std.specs.Prelude.{ℕ, List, Option, option_map}
 use Rattle.std.specs.Borrow.{Bor}
+use Rattle.pdl_args.specs.Line as spec
 use Rattle.pdl_args.specs.Line.{Command, check, run, seq, asm, gen, build, sim, wave}
 use Rattle.pdl_args.specs.declared.line.Line as rust
 use Rattle.pdl_args.specs.declared.line.Line.TheVariants as code
@@ -19,3 +20,4 @@ view (code.Gen number) = gen number
 view (code.Build source) = build source.now
 view (code.Sim netlist image cycles delays) = sim netlist.now image.now cycles (text_of delays)
 view (code.Wave source image cycles delays) = wave source.now image.now cycles (text_of delays)
+view (code.View source image cycles delays) = spec.view source.now image.now cycles (text_of delays)

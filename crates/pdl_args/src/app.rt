@@ -3,7 +3,7 @@ ghost use Rattle.std.specs.Prelude.{◌≡◌, false};
 ghost use Rattle.clap.specs.Walk.{rule_of};
 ghost use Rattle.clap.specs.Simple.{App, new_app, with_rule, with_subcommand};
 ghost use Rattle.clap.specs.Words.{app_of};
-ghost use Rattle.pdl_args.specs.App.{pdl_app, bare_app, check_app, run_app, seq_app, asm_app, gen_app, build_app, sim_app, wave_app, word_rule, option_rule};
+ghost use Rattle.pdl_args.specs.App.{pdl_app, bare_app, check_app, run_app, seq_app, asm_app, gen_app, build_app, sim_app, wave_app, view_app, word_rule, option_rule};
 ghost use Rattle.pdl_args.specs.Told.{IsTold, IsToldAlone};
 
 use clap::{Arg, ArgAction, Command};
@@ -144,6 +144,16 @@ fn wave_command<'a>(alloc: Global) -> Result<Command<'a>, AllocError>
     with_option(three, alloc, "delays")
 }
 
+// `view SRC IMG CYCLES [--delays F]`
+fn view_command<'a>(alloc: Global) -> Result<Command<'a>, AllocError>
+    ensures { IsToldAlone view_app result }
+{
+    let one = with_word(named(alloc, "view"), alloc, "source");
+    let two = with_word(one, alloc, "image");
+    let three = with_word(two, alloc, "cycles");
+    with_option(three, alloc, "delays")
+}
+
 // The command without its subcommands.
 fn bare_command<'a>(alloc: Global) -> Command<'a>
     ensures { app_of result ≡ bare_app }
@@ -161,5 +171,6 @@ pub(crate) fn command<'a>(alloc: Global) -> Result<Command<'a>, AllocError>
     let five = joined(four, gen_command(alloc));
     let six = joined(five, build_command(alloc));
     let seven = joined(six, sim_command(alloc));
-    joined(seven, wave_command(alloc))
+    let eight = joined(seven, wave_command(alloc));
+    joined(eight, view_command(alloc))
 }

@@ -1,7 +1,7 @@
 // The command that a list of words is.
 ghost use Rattle.std.specs.Prelude.{◌≡◌, map, IfOk, Some, None, IsErrOf, string_bytes, option_and_then, option_map, codes};
 ghost use Rattle.clap.specs.Words.{found_of, rows_of, first_of, subcommand_rows_of};
-ghost use Rattle.pdl_args.specs.Line.{line, command_of, netlist_command_of, check_of, run_of, seq_of, asm_of, gen_of, build_of, sim_of, wave_of};
+ghost use Rattle.pdl_args.specs.Line.{line, command_of, netlist_command_of, check_of, run_of, seq_of, asm_of, gen_of, build_of, sim_of, wave_of, view_of};
 ghost use Rattle.pdl_args.specs.View.{view};
 ghost use Rattle.pdl_args.specs.declared.line.LineError.TheVariants.{NoMemory as no_memory};
 
@@ -53,6 +53,13 @@ pub enum Line<'a> {
     },
     /// `wave SRC IMG CYCLES [--delays F]`: the names of two files, how many cycles to run, up to 1,000,000, and the name of a delay file, if there is one.
     Wave {
+        source: &'a str,
+        image: &'a str,
+        cycles: u32,
+        delays: Option<&'a str>,
+    },
+    /// `view SRC IMG CYCLES [--delays F]`: the names of two files, how many cycles to run, up to 1,000,000, and the name of a delay file, if there is one.
+    View {
         source: &'a str,
         image: &'a str,
         cycles: u32,
@@ -124,6 +131,9 @@ fn command_line<'a>(name: &str, inner: &ArgMatches<'a>) -> Option<Line<'a>>
     }
     if name == "gen" {
         return gen_line(inner);
+    }
+    if name == "view" {
+        return view_line(inner);
     }
     netlist_line(name, inner)
 }
@@ -298,6 +308,33 @@ fn wave_line<'a>(inner: &ArgMatches<'a>) -> Option<Line<'a>>
         return None;
     };
     Some(Line::Wave {
+        source,
+        image,
+        cycles,
+        delays: value(inner, "delays"),
+    })
+}
+
+fn view_line<'a>(inner: &ArgMatches<'a>) -> Option<Line<'a>>
+    ensures { option_map view result
+        ≡ view_of (first_of (codes "source") (rows_of (found_of inner.now)))
+        (first_of (codes "image") (rows_of (found_of inner.now)))
+        (first_of (codes "cycles") (rows_of (found_of inner.now)))
+        (first_of (codes "delays") (rows_of (found_of inner.now))) }
+{
+    let Some(source) = value(inner, "source") else {
+        return None;
+    };
+    let Some(image) = value(inner, "image") else {
+        return None;
+    };
+    let Some(cycles) = value(inner, "cycles") else {
+        return None;
+    };
+    let Some(cycles) = number(cycles, 7, 1_000_000) else {
+        return None;
+    };
+    Some(Line::View {
         source,
         image,
         cycles,

@@ -21,7 +21,7 @@ use Rattle.pdl_asmtable.specs.Documents as documents
 use Rattle.pdl_asm.specs.declared.asm_error.AsmError.TheVariants as asm_error
 use Rattle.pdl_asm.specs.Assembly as assembly
 use Rattle.pdl_gen.specs.Generated.{source}
-use Rattle.pdl_args.specs.Line.{Command, check, run, seq, asm, gen, build, sim, wave}
+use Rattle.pdl_args.specs.Line.{Command, check, run, seq, asm, gen, build, sim, wave, view}
 use Rattle.pdl_failure.specs.declared.failure.Position.{Position}
 use Rattle.pdl_failure.specs.declared.failure.Position.TheVariants.{Line, Insn}
 use Rattle.pdl_failure.specs.declared.failure.Failure.{Failure}
@@ -150,6 +150,8 @@ exclusive_told held (sim v image' cycles delays) text rule (Line n) o w = sim_ri
 exclusive_told held (sim v image' cycles delays) text rule (Insn n) o w = w
 exclusive_told held (wave source image' cycles delays) text rule (Line n) o w = run_right held source image' delays cycles o.schedule rule n o.pipe o.words o.loaded o.replies w
 exclusive_told held (wave source image' cycles delays) text rule (Insn n) o w = w
+exclusive_told held (view source image' cycles delays) text rule (Line n) o w = run_right held source image' delays cycles o.schedule rule n o.pipe o.words o.loaded o.replies w
+exclusive_told held (view source image' cycles delays) text rule (Insn n) o w = w
 exclusive_told held (asm table program) text rule (Line n) o (inl w) = w
 exclusive_told held (asm table program) text rule (Line n) o (inr w) = program_right held table program text rule n o w
 exclusive_told held (asm table program) text rule (Insn n) o (inl w) = table_right held table rule n o.value o.tabled w

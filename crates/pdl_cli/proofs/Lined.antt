@@ -11,7 +11,7 @@ use Rattle.clap.specs.Kinds.{Kinds}
 use Rattle.pdl_args.specs.App.{pdl_app}
 use Rattle.pdl_args.specs.Number.{number_of, is_numeral_of}
 use Rattle.pdl_cli.specs.Top.{IsFew}
-use Rattle.pdl_args.specs.Line.{Command, check, run, seq, asm, gen, build, sim, wave, check_of, run_of, seq_of, asm_of, gen_of, build_of, sim_of, wave_of, netlist_command_of, command_of, where_taken, line}
+use Rattle.pdl_args.specs.Line.{Command, check, run, seq, asm, gen, build, sim, wave, view, check_of, run_of, seq_of, asm_of, gen_of, build_of, sim_of, wave_of, view_of, netlist_command_of, command_of, where_taken, line}
 
 tested : (a b : Bool) (n m : ℕ) → (b ≡ true → n ≤ m) → (c : ℕ) → (if a && b then Some n else None) ≡ Some c → c ≤ m
 tested true true n m h c e = let s : n ≡ c = cc e in rw (← s) (h refl)
@@ -69,6 +69,12 @@ of_wave (Some s) None t d c e = absurd (cc e)
 of_wave (Some s) (Some i) None d c e = absurd (cc e)
 of_wave (Some s) (Some i) (Some t) d c e = few_mapped (λ k. wave s i k d) (number_of 7 1000000 t) c (number_small 7 1000000 t) e
 
+of_view : (s i t d : Option Text) (c : Command) → view_of s i t d ≡ Some c → IsFew c
+of_view None i t d c e = absurd (cc e)
+of_view (Some s) None t d c e = absurd (cc e)
+of_view (Some s) (Some i) None d c e = absurd (cc e)
+of_view (Some s) (Some i) (Some t) d c e = few_mapped (λ k. view s i k d) (number_of 7 1000000 t) c (number_small 7 1000000 t) e
+
 of_none : (c : Command) → None ≡ Some c → IsFew c
 of_none c e = absurd (cc e)
 
@@ -100,7 +106,8 @@ of_found (Some f) c e =
     let text : Option Text = first_of (codes "text") f.1 in
     let threads : Option Text = first_of (codes "threads") f.1 in
     let number : Option Text = first_of (codes "number") f.1 in
-    let generated : Option Command = if bytes_eq f.0 (codes "gen") then gen_of number else netlist_command_of f in
+    let viewed : Option Command = if bytes_eq f.0 (codes "view") then view_of source image cycles delays else netlist_command_of f in
+    let generated : Option Command = if bytes_eq f.0 (codes "gen") then gen_of number else viewed in
     let assembled : Option Command = if bytes_eq f.0 (codes "asm") then asm_of table text else generated in
     let in_turn : Option Command = if bytes_eq f.0 (codes "seq") then seq_of source image threads else assembled in
     let ran : Option Command = if bytes_eq f.0 (codes "run") then run_of source image cycles delays else in_turn in
@@ -108,7 +115,8 @@ of_found (Some f) c e =
     (of_if (bytes_eq f.0 (codes "run")) (run_of source image cycles delays) in_turn c (of_run source image cycles delays c)
     (of_if (bytes_eq f.0 (codes "seq")) (seq_of source image threads) assembled c (of_seq source image threads c)
     (of_if (bytes_eq f.0 (codes "asm")) (asm_of table text) generated c (of_asm table text c)
-    (of_if (bytes_eq f.0 (codes "gen")) (gen_of number) (netlist_command_of f) c (of_gen number c) (of_netlist f c))))) e
+    (of_if (bytes_eq f.0 (codes "gen")) (gen_of number) viewed c (of_gen number c)
+    (of_if (bytes_eq f.0 (codes "view")) (view_of source image cycles delays) (netlist_command_of f) c (of_view source image cycles delays c) (of_netlist f c)))))) e
 
 of_taken : (kinds : Kinds) (found : Option (Text × List Row)) (c : Command) → where_taken kinds found ≡ Some c → IsFew c
 of_taken [] found c e = of_found found c e

@@ -20,7 +20,7 @@ use Rattle.pdl_asmtable.specs.Documents as documents
 use Rattle.pdl_asm.specs.declared.asm_error.AsmError.TheVariants as asm_error
 use Rattle.pdl_asm.specs.Assembly as assembly
 use Rattle.pdl_gen.specs.Generated.{source}
-use Rattle.pdl_args.specs.Line.{Command, check, run, seq, asm, gen, build, sim, wave}
+use Rattle.pdl_args.specs.Line.{Command, check, run, seq, asm, gen, build, sim, wave, view}
 use Rattle.pdl_failure.specs.declared.failure.Position.{Position}
 use Rattle.pdl_failure.specs.declared.failure.Position.TheVariants.{Line, Insn}
 use Rattle.pdl_commands.specs.Assembled.{IsWrongTable, IsWrongText}
@@ -173,6 +173,9 @@ one_refusal held (sim netlist image' cycles delays) r s (Line n) (Line m) v w = 
 one_refusal held (wave source image' cycles delays) r s (Insn n) q v w = absurd v
 one_refusal held (wave source image' cycles delays) r s (Line n) (Insn m) v w = absurd w
 one_refusal held (wave source image' cycles delays) r s (Line n) (Line m) v w = let h = wrong_replies held source image' delays r s n m v w in (h.0, ap Line h.1)
+one_refusal held (view source image' cycles delays) r s (Insn n) q v w = absurd v
+one_refusal held (view source image' cycles delays) r s (Line n) (Insn m) v w = absurd w
+one_refusal held (view source image' cycles delays) r s (Line n) (Line m) v w = let h = wrong_replies held source image' delays r s n m v w in (h.0, ap Line h.1)
 one_refusal held (gen number) r s (Insn n) q v w = absurd v
 one_refusal held (gen number) r s (Line n) (Insn m) v w = absurd w
 one_refusal held (gen number) r s (Line n) (Line m) v w = let h = source_one (source number) r s n m v w in (h.0, ap Line h.1)

@@ -3,7 +3,7 @@ use Rattle.std.specs.Prelude.{◌≡◌, ◌≤◌, ℕ, ◌⊎◌, Bool, IsTrue
 use Rattle.pdl_kit.specs.declared.rule.Rule.{Rule}
 use Rattle.pdl_kit.specs.Counts.{Rose}
 use Rattle.pdl_kit.specs.Files.{Held}
-use Rattle.pdl_args.specs.Line.{Command, check, run, seq, asm, gen, build, sim, wave}
+use Rattle.pdl_args.specs.Line.{Command, check, run, seq, asm, gen, build, sim, wave, view}
 use Rattle.pdl_failure.specs.declared.failure.Position.{Position}
 use Rattle.pdl_failure.specs.declared.failure.Failure.{Failure}
 use Rattle.pdl_failure.specs.Failures.{status_of, text_of}
@@ -22,6 +22,7 @@ Allows may (Some (gen number)) = ⊤
 Allows may (Some (build source)) = IsTrue (may source)
 Allows may (Some (sim v image cycles delays)) = IsTrue (may v) × IsTrue (may image) × AllowsFile may delays
 Allows may (Some (wave source image cycles delays)) = IsTrue (may source) × IsTrue (may image) × AllowsFile may delays
+Allows may (Some (view source image cycles delays)) = IsTrue (may source) × IsTrue (may image) × AllowsFile may delays
 
 -- a run is of at most 1,000,000 cycles
 abbrev pub IsFew : Command → Type 0
@@ -33,6 +34,7 @@ IsFew (gen number) = ⊤
 IsFew (build source) = ⊤
 IsFew (sim v image cycles delays) = cycles ≤ 1000000
 IsFew (wave source image cycles delays) = cycles ≤ 1000000
+IsFew (view source image cycles delays) = cycles ≤ 1000000
 
 -- the status is that of an outcome, done or a failure, that what is seen explains, and its text is said
 abbrev pub Answers : Option Command → Seen → (List ℕ → Type 0) → ℕ → Type 0

@@ -9,7 +9,7 @@ ghost use Rattle.pdl_cli.specs.Top.{Allows, IsFew, Answers, Decides};
 
 use pdl_args::{Line, read_line};
 use pdl_commands::{
-    assembly_text, build, generate, run_in_turn, run_source, simulate, verdict, wave,
+    assembly_text, build, generate, run_in_turn, run_source, simulate, verdict, view_source, wave,
 };
 use pdl_failure::{Failure, report, status_of};
 use pdl_kit::files::Files;
@@ -78,6 +78,12 @@ fn obey_line<F: Files, O: Sink>(
             cycles,
             delays,
         } => wave(alloc, files, source, image, cycles, delays, out),
+        Line::View {
+            source,
+            image,
+            cycles,
+            delays,
+        } => view_source(alloc, files, source, image, cycles, delays, out),
     }
 }
 

@@ -9,7 +9,7 @@ use Rattle.pdl_semantics.specs.Tree.{Pipe}
 use Rattle.pdl_semantics.specs.Flat.{arrays_of}
 use Rattle.pdl_semantics.specs.Flatten.{flat}
 use Rattle.pdl_semantics.specs.Cycle.{turns}
-use Rattle.pdl_semantics.specs.Lines.{accepted_line, run_lines, seq_lines, turn_cycles}
+use Rattle.pdl_semantics.specs.Lines.{accepted_line, run_lines, seq_lines, turn_cycles, view_lines}
 use Rattle.pdl_semantics.specs.Promises.{KeepsPace}
 use Rattle.pdl_grammar.specs.Text.{IsText, IsOutOfPlace}
 use Rattle.pdl_rules.specs.Refusal.{refusal}
@@ -30,7 +30,7 @@ use Rattle.pdl_image.specs.declared.file_error.FileError.TheVariants as file
 use Rattle.pdl_vlog.specs.Layout.{verilog}
 use Rattle.pdl_vread.specs.Reads.{Reads, Breaks}
 use Rattle.pdl_gen.specs.Generated as generated
-use Rattle.pdl_args.specs.Line.{Command, check, run, seq, asm, gen, build, sim, wave}
+use Rattle.pdl_args.specs.Line.{Command, check, run, seq, asm, gen, build, sim, wave, view}
 use Rattle.pdl_failure.specs.declared.failure.Position.{Position}
 use Rattle.pdl_failure.specs.declared.failure.Position.TheVariants.{Line, Insn}
 use Rattle.pdl_failure.specs.declared.failure.Failure.{Failure}
@@ -97,21 +97,21 @@ DelaysFails holds before now delays count failure.ReadFault = Rose before now
 DelaysFails holds before now delays count failure.WriteFault = ⊥
 DelaysFails holds before now delays count failure.NoMemory = Unit {0}
 
--- an image file gives a netlist's memories these words, and its delayed memories have the replies of these rows
-pub record IsBegun (holds : Option Held) (image' : List ℕ) (delays : Option (List ℕ)) (n : Netlist)
-    (words : List (List ℕ)) (rows : List ℕ) : Type 0 where
+-- an image file gives these memories these words, and the delayed ones, so many, have the replies of these rows
+pub record IsBegun (holds : Option Held) (image' : List ℕ) (delays : Option (List ℕ)) (mems : List MemInfo)
+    (count : ℕ) (words : List (List ℕ)) (rows : List ℕ) : Type 0 where
   pub image_text : List ℕ
   pub image_given : Gives holds image' image_text
-  pub taken : image n.mems image_text ≡ Ok words
-  pub fits : IsImage n.mems words
-  pub replies : (cycles : ℕ) → IsSchedule holds delays (length (delayed_mems n)) cycles (scheduled rows cycles)
+  pub taken : image mems image_text ≡ Ok words
+  pub fits : IsImage mems words
+  pub replies : (cycles : ℕ) → IsSchedule holds delays count cycles (scheduled rows cycles)
 
 -- why these are not there: the image isn't, or it is taken, and the delay file isn't
-abbrev pub StartFails : Option Held → ℕ → ℕ → List ℕ → Option (List ℕ) → Netlist → Failure → Type 0
-StartFails holds before now image' delays n f =
-    ImageFails holds before now image' n.mems f
-    ⊎ ((text : List ℕ) × (words : List (List ℕ)) × Gives holds image' text × (image n.mems text ≡ Ok words)
-    × DelaysFails holds before now delays (length (delayed_mems n)) f)
+abbrev pub StartFails : Option Held → ℕ → ℕ → List ℕ → Option (List ℕ) → List MemInfo → ℕ → Failure → Type 0
+StartFails holds before now image' delays mems count f =
+    ImageFails holds before now image' mems f
+    ⊎ ((text : List ℕ) × (words : List (List ℕ)) × Gives holds image' text × (image mems text ≡ Ok words)
+    × DelaysFails holds before now delays count f)
 
 -- why a text gives no netlist to run
 abbrev pub NetlistTextFails : List ℕ → Failure → Type 0
@@ -262,6 +262,16 @@ pub record IsDumped (holds : Option Held) (source image' : List ℕ) (cycles : �
   -- and says the netlist's name, its output ports with their widths, the number of cycles, and in each of them the value that each port shows
   pub says : IsWaveOf text netlist.name (wave_ports netlist) (rows_of (nports netlist start schedule))
 
+-- the text that `view` writes where all is well: of each cycle of the pipe's machine the stages that hold a thread, and of these the ones whose thread moves
+pub record IsViewed (holds : Option Held) (source image' : List ℕ) (cycles : ℕ) (delays : Option (List ℕ)) (text : List ℕ)
+    : Type 0 where
+  pub pipe : Pipe
+  pub words : List (List ℕ)
+  pub loaded : IsLoaded holds source image' pipe words
+  pub schedule : List ℕ
+  pub replies : IsSchedule holds delays (delayed_count (flat pipe)) cycles schedule
+  pub lines : text ≡ view_lines pipe words (replies_in (flat pipe) schedule)
+
 -- the end line of a run of a source's pipe, of so many cycles from these words in each memory, with all requests answered
 pub record IsSummary (source words : List ℕ) (cycles : ℕ) (line : List ℕ) : Type 0 where
   pub pipe : Pipe
@@ -294,6 +304,7 @@ Writes holds (gen number) text = IsGenerated number text
 Writes holds (build source) text = IsBuilt holds source text
 Writes holds (sim v image' cycles delays) text = IsSimulated holds v image' cycles delays text
 Writes holds (wave source image' cycles delays) text = IsDumped holds source image' cycles delays text
+Writes holds (view source image' cycles delays) text = IsViewed holds source image' cycles delays text
 
 -- of the files that a command names, in order, the first wrong one is refused by the rule at the position; `gen` names none, and its source is asked
 abbrev pub IsWrongFor : Option Held → Command → Rule → Position → Type 0
@@ -311,6 +322,8 @@ IsWrongFor holds (build source) rule position = AtLine (IsWrongSource holds sour
 IsWrongFor holds (sim v image' cycles delays) rule position =
     AtLine (IsWrongSim holds v image' delays rule) position
 IsWrongFor holds (wave source image' cycles delays) rule position =
+    AtLine (IsWrongRun holds source image' delays rule) position
+IsWrongFor holds (view source image' cycles delays) rule position =
     AtLine (IsWrongRun holds source image' delays rule) position
 
 -- why a netlist is not there

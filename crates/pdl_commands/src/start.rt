@@ -1,4 +1,4 @@
-// What the run of a netlist starts from: the words of its memories, and the replies of its delayed ones.
+// What a run starts from: the words of the memories, and the replies of the delayed ones.
 ghost use Rattle.std.specs.Prelude.{◌≡◌, ◌≤◌, IsTrue, IfOk, IfErr, ℕ, List, Some, length};
 ghost use Rattle.pdl_kit.specs.Files.{Gives};
 ghost use Rattle.pdl_net.specs.Pipe.{IsWellFormed};
@@ -17,7 +17,7 @@ use pdl_net::Netlist;
 use pdl_netrun::count_delayed;
 use std::alloc::Global;
 
-/// The words of a netlist's memories at the start, and the replies of its delayed ones.
+/// The words of memories at the start, and the replies of the delayed ones.
 #[derive(Drop)]
 pub struct Start {
     pub image: Image,
@@ -68,8 +68,8 @@ fn read_rows<F: Files>(
     Ok(read_delays(alloc, count, text.as_slice())?)
 }
 
-// The replies of so many delayed memories, by the delay file of this name; without one all requests are answered.
-fn replies<F: Files>(
+/// The replies of so many delayed memories, by the delay file of this name; without one all requests are answered.
+pub fn replies<F: Files>(
     alloc: Global,
     files: &mut F,
     name: Option<&str>,
@@ -113,9 +113,10 @@ pub fn start_of<F: Files>(
     requires delays { AllowsFile (F.may files.old) (text_of delays) }
     requires well { IsWellFormed netlist.now }
     ensures ok { IfOk result (λ s. IsBegun (F.holds files.old) image.now (text_of delays.entry)
-        netlist.now s.image s.delays) }
+        netlist.now.mems (length (delayed_mems netlist.now)) s.image s.delays) }
     ensures err { IfErr result (StartFails (F.holds files.old) (F.faults files.old)
-        (F.faults files.new) image.now (text_of delays.entry) netlist.now) }
+        (F.faults files.new) image.now (text_of delays.entry) netlist.now.mems
+        (length (delayed_mems netlist.now))) }
     ensures held { F.holds files.new ≡ F.holds files.old }
     ensures allowed { (n : List ℕ) → F.may files.new n ≡ F.may files.old n }
     ensures later { F.faults files.old ≤ F.faults files.new }

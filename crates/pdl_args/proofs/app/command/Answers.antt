@@ -9,4 +9,5 @@ returns c =
     let five = c.joined-five.ensures _ _ four c.gen_command.ensures in
     let six = c.joined-six.ensures _ _ five c.build_command.ensures in
     let seven = c.joined-seven.ensures _ _ six c.sim_command.ensures in
-    c.joined.ensures _ _ seven c.wave_command.ensures
+    let eight = c.joined-eight.ensures _ _ seven c.wave_command.ensures in
+    c.joined.ensures _ _ eight c.view_command.ensures
