@@ -62,9 +62,11 @@ class Edge:
         broad = self.put("broad.pdl", HEAD + "".join(f"x{it} = n; " for it in range(505)) + CALL)
         self.netlist = self.start(["build", self.counter]).communicate()[0]
         self.short, self.run = (["run", self.counter, self.image, str(it)] for it in (3, CYCLES))
-        self.commands = {"run": self.run, "seq": ["seq", *self.run[1:]], "gen": ["gen", "5"], "check": ["check", broad],
-                         "build": ["build", broad], "check of the deepest": ["check", deep], "build of the deepest": ["build", deep],
+        self.commands = {"run": self.run, "view": ["view", *self.run[1:]], "seq": ["seq", *self.run[1:]], "gen": ["gen", "5"],
+                         "check": ["check", broad], "build": ["build", broad],
+                         "check of the deepest": ["check", deep], "build of the deepest": ["build", deep],
                          "run of the deepest": ["run", deep, self.image, "3"],
+                         "view of the deepest": ["view", deep, self.image, "3"],
                          "sim": ["sim", self.put("a.v", self.netlist), self.image, "300"],
                          "asm": ["asm", self.put("t.toml", TABLE), self.put("t.asm", ".word 1\n" * 5000)]}
         self.texts = {name: self.start(words).communicate()[0] for name, words in self.commands.items()}

@@ -66,9 +66,10 @@ FILES = {"a.pdl": COUNTER, "chain.pdl": CHAIN, "guess.pdl": GUESS, "fetch.pdl": 
          "d.rows": "1\n1\n0\n0\n1\n", "t.toml": TABLE, "t.asm": "top: add r1, -2\nb top\n", "wrong.asm": "add r2, 0\n"}
 CASES = ["run a.pdl e.img 3", "run chain.pdl e.img 8", "run fetch.pdl d.img 7 --delays d.rows", "seq a.pdl e.img 2",
          "seq guess.pdl e.img 3", "asm t.toml t.asm", "build a.pdl", "sim a.v e.img 3", "check chain.pdl", "gen 0", "gen 1",
-         "wave a.pdl e.img 2", "run wrong.pdl e.img 3", "run a.pdl wrong.img 3", "seq a.pdl wrong.img 2", "asm t.toml wrong.asm",
-         "asm wrong.asm t.asm", "build wrong.pdl", "sim a.pdl e.img 3", "sim a.v wrong.img 3", "check wrong.pdl",
-         "wave wrong.pdl e.img 2", "run none.pdl e.img 3", "run a.pdl", "gen x", ""]
+         "wave a.pdl e.img 2", "view a.pdl e.img 3", "view fetch.pdl d.img 7 --delays d.rows", "run wrong.pdl e.img 3",
+         "run a.pdl wrong.img 3", "seq a.pdl wrong.img 2", "asm t.toml wrong.asm", "asm wrong.asm t.asm", "build wrong.pdl",
+         "sim a.pdl e.img 3", "sim a.v wrong.img 3", "check wrong.pdl", "wave wrong.pdl e.img 2", "view a.pdl wrong.img 3",
+         "run none.pdl e.img 3", "run a.pdl", "gen x", ""]
 NO_MEMORY = (5, b"", b"no memory\n")
 
 

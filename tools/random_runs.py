@@ -8,9 +8,9 @@
 `promises` takes random pipes of the whole base language, with random images and replies, and asks of each cycle and of
 each whole run what has to hold (pdl_model/sound.py and promises.py). A pipe that fails is made smaller and printed.
 
-`program` takes the runs of examples/ and random pipes of the forms that the program PDL compiles. What `pdl check`, `run`
-and `seq` print has to be what the model says, of a pipe that is refused the rule and the line; so each pipe is asked once
-more with a line left out, said twice, moved or changed. `whole` does the same with pipes of the whole base language and
+`program` takes the runs of examples/ and random pipes of the forms that the program PDL compiles. What `pdl check`, `run`,
+`view` and `seq` print has to be what the model says, of a pipe that is refused the rule and the line; so each pipe is asked
+once more with a line left out, said twice, moved or changed. `whole` does the same with pipes of the whole base language and
 with delay files, and what `pdl wave` says of each port in each cycle has to be what the model says too.
 
 PIPES is 200 and SEED is 1 where they aren't given. A pipe runs for 100 cycles.
@@ -126,6 +126,7 @@ def due(layout, image, delays, cycles, threads):
     return [
         (["check", "pipe.pdl"], [f"accepted stages {layout.count} depth {layout.depth()}"]),
         (["run", "pipe.pdl", "pipe.img", str(cycles), *option], files.run_lines(layout, words, cycles, rows)),
+        (["view", "pipe.pdl", "pipe.img", str(cycles), *option], files.view_lines(layout, words, cycles, rows)),
         (["seq", "pipe.pdl", "pipe.img", str(threads)], files.seq_lines(layout, words, threads)),
     ]
 
@@ -176,7 +177,7 @@ def example_runs():
     """The runs of examples/: source, image, delays and count of each."""
     for line in (EXAMPLES / "runs").read_text().splitlines():
         command, *words = line.split(": ")[1].split()
-        if command in ("run", "seq"):
+        if command in ("run", "view", "seq"):
             source, image, count, *option = words
             delays = (EXAMPLES / option[1]).read_text() if option else ""
             yield (EXAMPLES / source).read_text(), (EXAMPLES / image).read_text(), delays, int(count)

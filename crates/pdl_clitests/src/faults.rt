@@ -72,8 +72,8 @@ fn writes_while_it_runs(rt: HostRuntime) {
     assert!(rt; pieces(rt.alloc(), 4) == Some((0, 10939)));
 }
 
-// The status of a dump of two cycles, and how much of its text there is, where the call of the output with this number fails.
-fn dumped(alloc: Global, call: u64) -> Option<(u8, usize)> {
+// The status of a command that shows two cycles, and how much of its text there is, where the call of the output with this number fails.
+fn shown(alloc: Global, command: &str, call: u64) -> Option<(u8, usize)> {
     let mut failing = Vec::new(alloc);
     let _ = failing.push(call);
     match (
@@ -81,7 +81,7 @@ fn dumped(alloc: Global, call: u64) -> Option<(u8, usize)> {
         MemSink::unfailing(alloc, 1000),
     ) {
         (Ok(mut out), Ok(mut err)) => {
-            let words = ["wave", "a.pdl", "e.img", "2"];
+            let words = [command, "a.pdl", "e.img", "2"];
             let status = ran(alloc, &words, COUNTER, b"image 1\n", &mut out, &mut err);
             Some((status, out.written().len()))
         }
@@ -92,9 +92,16 @@ fn dumped(alloc: Global, call: u64) -> Option<(u8, usize)> {
 // A dump goes the same way.
 #[test]
 fn dumps_while_it_runs(rt: HostRuntime) {
-    assert!(rt; dumped(rt.alloc(), 1) == Some((4, 0)));
-    assert!(rt; dumped(rt.alloc(), 2) == Some((4, 100)));
-    assert!(rt; dumped(rt.alloc(), 9) == Some((0, 319)));
+    assert!(rt; shown(rt.alloc(), "wave", 1) == Some((4, 0)));
+    assert!(rt; shown(rt.alloc(), "wave", 2) == Some((4, 100)));
+    assert!(rt; shown(rt.alloc(), "wave", 9) == Some((0, 319)));
+}
+
+// So does a view, of which the two lines are one piece.
+#[test]
+fn views_while_it_runs(rt: HostRuntime) {
+    assert!(rt; shown(rt.alloc(), "view", 1) == Some((4, 0)));
+    assert!(rt; shown(rt.alloc(), "view", 2) == Some((0, 8)));
 }
 
 // What the counter prints in three cycles, 67 bytes.

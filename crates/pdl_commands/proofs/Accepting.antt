@@ -1,5 +1,5 @@
 -- What is known of the netlist of an accepted pipe, and so of its runs, its text and its dumps.
-use Rattle.std.proofs.Common.{◌≡◌, ℕ, zero, suc, ◌+◌, ◌≤◌, [], ◌∷◌, ◌++◌, List, map, arith, refl, sym, ap, ◌∙◌, subst}
+use Rattle.std.proofs.Common.{◌≡◌, ℕ, zero, suc, ◌+◌, ◌≤◌, [], ◌∷◌, ◌++◌, List, length, map, arith, refl, sym, ap, ◌∙◌, subst}
 use Rattle.std.specs.Prelude.{Option, Some, None, Result, Ok, Err, IfOk, Bool, true, false, if◌then◌else◌, replicate}
 use Rattle.pdl_kit.specs.declared.rule.Rule.TheVariants.{Z1}
 use Rattle.pdl_kit.specs.Files.{Held, Gives}
@@ -13,6 +13,7 @@ use Rattle.pdl_rules.proofs.Unbroken.{keeps_unbroken}
 use Rattle.pdl_sources.proofs.Texts.{source_of, named_of}
 use Rattle.pdl_image.specs.Images.{IsImage, image}
 use Rattle.pdl_net.specs.declared.Netlist.{Netlist}
+use Rattle.pdl_net.specs.Run.{delayed_mems}
 use Rattle.pdl_pipe_law.specs.Places.{delayed_count}
 use Rattle.pdl_pipe_law.specs.Runs.{column_of}
 use Rattle.pdl_sides.specs.Whole.{in_order}
@@ -91,7 +92,7 @@ module _ (holds : Option Held) (source b : List ℕ) (p : Pipe) (n : Netlist) (g
       taken = images b p n accepted follows file ∙ ap (taken_in_order (flat p)) taken;
     }
 
-  module _ (image' : List ℕ) (delays : Option (List ℕ)) (words : List (List ℕ)) (rows : List ℕ) (begun : IsBegun holds image' delays n words rows) (cycles : ℕ) where
+  module _ (image' : List ℕ) (delays : Option (List ℕ)) (words : List (List ℕ)) (rows : List ℕ) (begun : IsBegun holds image' delays n.mems (length (delayed_mems n)) words rows) (cycles : ℕ) where
     replies : IsSchedule holds delays (delayed_count (flat p)) cycles (schedule rows cycles)
     replies = subst (λ k. IsSchedule holds delays k cycles (schedule rows cycles)) (delayed_as_many p n follows) (begun.replies cycles)
 

@@ -1,5 +1,5 @@
 -- What explains the outcome of a command, from what its parts say.
-use Rattle.std.proofs.Common.{◌≡◌, ℕ, ◌≤◌, List, Option, Vec, Global, Some, inl, inr, sym, ap, ◌∙◌, subst}
+use Rattle.std.proofs.Common.{◌≡◌, ℕ, ◌≤◌, List, length, Option, Vec, Global, Some, inl, inr, sym, ap, ◌∙◌, subst}
 use Rattle.std.specs.Prelude.{Result, Ok, Err, IfOk, IfErr, MatchResult}
 use Rattle.pdl_kit.specs.declared.rule.Rule.{Rule}
 use Rattle.pdl_kit.specs.Counts.{HasCause}
@@ -8,6 +8,9 @@ use Rattle.pdl_kit.specs.Files.{Held, Gives}
 use Rattle.pdl_semantics.specs.Tree.{Pipe}
 use Rattle.pdl_semantics.specs.Flatten.{flat}
 use Rattle.pdl_net.specs.declared.Netlist.{Netlist}
+use Rattle.pdl_net.specs.Run.{delayed_mems}
+use Rattle.pdl_pipe_law.specs.Places.{delayed_count}
+use Rattle.pdl_rules.specs.Memories.{infos_of}
 use Rattle.pdl_sides.specs.Whole.{in_order}
 use Rattle.pdl_follows.specs.Memories.{taken_in_order}
 use Rattle.pdl_follows.specs.Follows.{Follows}
@@ -85,7 +88,7 @@ netlist_fails holds before now v image' cycles delays WriteFault w = w
 netlist_fails holds before now v image' cycles delays NoMemory w = w
 
 -- its image fails, or its delay file does
-pub start_fails : (holds : Option Held) (before now : ℕ) (v image' : List ℕ) (cycles : ℕ) (delays : Option (List ℕ)) (n : Netlist) → HoldsNetlist holds v n → (f : Failure) → StartFails holds before now image' delays n f → Fails holds before now (sim v image' cycles delays) f
+pub start_fails : (holds : Option Held) (before now : ℕ) (v image' : List ℕ) (cycles : ℕ) (delays : Option (List ℕ)) (n : Netlist) → HoldsNetlist holds v n → (f : Failure) → StartFails holds before now image' delays n.mems (length (delayed_mems n)) f → Fails holds before now (sim v image' cycles delays) f
 start_fails holds before now v image' cycles delays n held Usage (inl w) = w
 start_fails holds before now v image' cycles delays n held Usage (inr w) = w.4
 start_fails holds before now v image' cycles delays n held (Refused rule (Line k)) (inl w) = inr (inl (record { netlist = n; held = held; image_text = w.0; image_given = w.1; refused = w.2 }))
@@ -102,7 +105,7 @@ start_fails holds before now v image' cycles delays n held NoMemory w = tt
 -- of a netlist that follows a source
 module _ (holds : Option Held) (before now : ℕ) (source b image' : List ℕ) (delays : Option (List ℕ)) (p : Pipe) (n : Netlist) (given : Gives holds source b) (accepted : IsAccepted b p) (follows : Follows p n)
     (command : Command) (wrong : (rule : Rule) (line : ℕ) → IsWrongRun holds source image' delays rule line → IsWrongFor holds command rule (Line line)) where
-  pub source_start_fails : (f : Failure) → StartFails holds before now image' delays n f → Fails holds before now command f
+  pub source_start_fails : (f : Failure) → StartFails holds before now image' delays n.mems (length (delayed_mems n)) f → Fails holds before now command f
   source_start_fails Usage (inl w) = w
   source_start_fails Usage (inr w) = w.4
   source_start_fails (Refused rule (Line k)) (inl w) =
@@ -129,6 +132,29 @@ module _ (holds : Option Held) (before now : ℕ) (source b image' : List ℕ) (
   source_start_fails WriteFault (inl w) = w
   source_start_fails WriteFault (inr w) = w.4
   source_start_fails NoMemory w = tt
+
+-- of the memories of a source
+module _ (holds : Option Held) (before now : ℕ) (source b image' : List ℕ) (delays : Option (List ℕ)) (p : Pipe) (given : Gives holds source b) (accepted : IsAccepted b p)
+    (command : Command) (wrong : (rule : Rule) (line : ℕ) → IsWrongRun holds source image' delays rule line → IsWrongFor holds command rule (Line line)) where
+  pub pipe_start_fails : (f : Failure) → StartFails holds before now image' delays (infos_of p.mems) (delayed_count (flat p)) f → Fails holds before now command f
+  pipe_start_fails Usage (inl w) = w
+  pipe_start_fails Usage (inr w) = w.4
+  pipe_start_fails (Refused rule (Line k)) (inl w) =
+      wrong rule k (inl (inr (record { source_text = b; source_given = given; pipe = p; accepted = accepted; image_text = w.0; image_given = w.1; refused = w.2 })))
+  pipe_start_fails (Refused rule (Line k)) (inr w) =
+      wrong rule k (inr (record {
+        pipe = p;
+        words = w.1;
+        loaded = record { source_text = b; source_given = given; accepted = accepted; image_text = w.0; image_given = w.2; taken = w.3 };
+        refused = w.4;
+      }))
+  pipe_start_fails (Refused rule (Insn k)) (inl w) = absurd w
+  pipe_start_fails (Refused rule (Insn k)) (inr w) = absurd w.4
+  pipe_start_fails ReadFault (inl w) = w
+  pipe_start_fails ReadFault (inr w) = w.4
+  pipe_start_fails WriteFault (inl w) = w
+  pipe_start_fails WriteFault (inr w) = w.4
+  pipe_start_fails NoMemory w = tt
 
 -- ---- what is seen from a later moment on
 

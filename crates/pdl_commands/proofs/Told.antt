@@ -1,13 +1,15 @@
 -- The memories of an accepted source as they are told, in declared order and in a netlist's: their names differ and are short, and their words have 1 to 64 bits.
-use Rattle.std.proofs.Common.{◌≡◌, ◌≢◌, ℕ, zero, suc, [], ◌∷◌, ◌++◌, ◌≤◌, ◌<◌, false, List, length, map, get_or, All, AllPairs, append-nil, refl, sym, ap, ◌∙◌, subst, inl, inr, bytes_eq, arith}
-use Rattle.std.specs.Prelude.{filter}
+use Rattle.std.proofs.Common.{◌≡◌, ◌≢◌, ℕ, zero, suc, [], ◌∷◌, ◌++◌, ◌+◌, ◌≤◌, ◌<◌, false, cond, List, length, map, get_or, All, AllPairs, append-nil, refl, sym, ap, ◌∙◌, subst, inl, inr, bytes_eq, arith}
+use Rattle.std.specs.Prelude.{filter, count_by}
 use Rattle.std.specs.List.{AllByRecursion}
 use Rattle.std.proofs.lemmas.Bool.{or_parts}
 use Rattle.std.proofs.lemmas.List.{length-map}
+use Rattle.std.proofs.lemmas.List.Sums.{sum_by-cons, count_by-le-length}
 use Rattle.std.proofs.lemmas.List.Elements.{All-append, All-from_recursion, filter-append}
 use Rattle.pdl_kit.specs.declared.mem_info.MemInfo.{MemInfo}
 use Rattle.pdl_semantics.specs.Tree.{Mem, Pipe}
-use Rattle.pdl_semantics.specs.Flatten.{flat}
+use Rattle.pdl_semantics.specs.Flat
+use Rattle.pdl_semantics.specs.Flatten.{flat, flat_lock, mems_of}
 use Rattle.pdl_grammar.specs.Text.{IsText}
 use Rattle.pdl_rules.specs.Memories.{infos_of, info_of}
 use Rattle.pdl_rules.specs.Refusal.{KeepsRules, is_comb}
@@ -16,7 +18,7 @@ use Rattle.pdl_net.specs.declared.Netlist.{Netlist}
 use Rattle.pdl_net.specs.Run.{delayed_mems}
 use Rattle.pdl_pipe_law.specs.Places.{delayed_count}
 use Rattle.pdl_pipe_law.proofs.WellFormedNames.{Among, name_apart}
-use Rattle.pdl_pipe_law.proofs.WellFormedMems.{sized_among}
+use Rattle.pdl_pipe_law.proofs.WellFormedMems.{sized_among, few_mems}
 use Rattle.pdl_whole_law.proofs.Places as places
 use Rattle.pdl_follows.specs.Memories.{is_delayed, delayed_of, comb_of, net_infos}
 use Rattle.pdl_follows.specs.Follows.{Follows}
@@ -92,3 +94,23 @@ delayed_as_many p n f =
     ∙ ap length (delayed_told p.mems)
     ∙ length-map (delayed_of p.mems) info_of
     ∙ some_count is_delayed places.is_delayed (λ m. refl) p.mems
+
+-- ---- how many are delayed
+
+counted : (ms : List Mem) → count_by (λ (i : MemInfo). i.delayed) (infos_of ms) ≡ count_by (λ (x : Flat.Mem). x.delayed) (mems_of ms)
+counted [] = refl
+counted (m ∷ ms) =
+    sum_by-cons (λ (i : MemInfo). cond i.delayed 1 0) (info_of m) (infos_of ms)
+    ∙ ap (λ n. cond m.delayed 1 0 + n) (counted ms)
+    ∙ sym (sum_by-cons (λ (x : Flat.Mem). cond x.delayed 1 0) (record { width = m.width.value; depth = m.depth.value; delayed = m.delayed; lock = flat_lock m.lock }) (mems_of ms))
+
+-- as many of the memories that are told as of the pipe's
+pub told_count : (p : Pipe) → count_by (λ (i : MemInfo). i.delayed) (infos_of p.mems) ≡ delayed_count (flat p)
+told_count p = counted p.mems
+
+pub few_told : (p : Pipe) → KeepsRules p → count_by (λ (i : MemInfo). i.delayed) (infos_of p.mems) ≤ 16
+few_told p kept =
+    let most = count_by-le-length (λ (i : MemInfo). i.delayed) (infos_of p.mems) in
+    let same : length (infos_of p.mems) ≡ length p.mems = length-map p.mems info_of in
+    let few = few_mems p kept in
+    omega (arith, most, same, few)

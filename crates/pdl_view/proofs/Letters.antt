@@ -1,5 +1,5 @@
 -- The letters of stages, by the values of their ports.
-use Rattle.std.proofs.Common.{◌≡◌, refl, ap, ap₂, ◌∙◌, ℕ, zero, suc, ◌+◌, ◌*◌, ◌≤◌, ◌==◌, Bool, true, false, List, [], ◌∷◌, ◌++◌, length, length-append, arith}
+use Rattle.std.proofs.Common.{◌≡◌, refl, ap, ap₂, ◌∙◌, ℕ, zero, suc, ◌+◌, ◌-◌, ◌*◌, ◌<◌, ◌≤◌, ◌==◌, Bool, true, false, List, [], ◌∷◌, ◌++◌, length, length-append, arith}
 use Rattle.std.specs.Prelude.{slice_index}
 use Rattle.pdl_word.specs.Words.{bit}
 use Rattle.pdl_semantics.specs.Flat.{Stage, Pipe}
@@ -39,3 +39,11 @@ two_each f g k (x ∷ xs) rest = let h = two_each f g (suc k) xs rest in omega (
 pub has_stages : (p : Pipe) (st : State) (these : List Act) → 2 * length p.stages ≤ length (whole_values p (ports p st these))
 has_stages p st these =
     two_each (λ s. list_any (λ (a : Act). a.stage == s) these) (λ s. list_any (λ (a : Act). a.stage == s) (movers these)) 0 p.stages _
+
+-- one stage more
+pub letters_step : (shown : List ℕ) (stage stages : ℕ) → stage < stages → letters_from shown stage (stages - stage) ≡ letter_at shown stage ∷ letters_from shown (stage + 1) (stages - (stage + 1))
+letters_step shown stage stages l = let more : stages - stage ≡ suc (stages - (stage + 1)) = omega arith in rw more refl
+
+-- and none
+pub letters_end : (shown : List ℕ) (stage stages : ℕ) → stages ≤ stage → letters_from shown stage (stages - stage) ≡ []
+letters_end shown stage stages l = let none : stages - stage ≡ 0 = omega arith in rw none refl

@@ -1,16 +1,20 @@
 -- A machine that runs on, cycle by cycle, as it is viewed.
 use Rattle.std.proofs.Common.{◌≡◌, refl, sym, ap, ◌∙◌, subst, ℕ, suc, ◌+◌, ◌-◌, ◌<◌, ◌≤◌, List, [], ◌∷◌, ◌++◌, append_assoc, map, length, codes, arith}
 use Rattle.std.specs.Prelude.{decimal, Bool}
-use Rattle.pdl_semantics.specs.Flat.{Pipe}
+use Rattle.pdl_semantics.specs.Flat.{Pipe, arrays_of}
+use Rattle.pdl_semantics.specs.Flatten.{flat}
 use Rattle.pdl_semantics.specs.Machine.{State}
 use Rattle.pdl_semantics.specs.Moves.{all_acts}
 use Rattle.pdl_semantics.specs.Cycle as stated
 use Rattle.pdl_semantics.specs.Cycle.{letters, ports, turns_from, view}
 use Rattle.pdl_semantics.specs.Lines.{view_from}
+use Rattle.pdl_tree.specs.declared.tree.Pipe as r_pipe
+use Rattle.pdl_tree.specs.View.{pipe_view}
 use Rattle.pdl_image.specs.Delays.{bits_in}
 use Rattle.pdl_runs.specs.Printed.{replies_from}
 use Rattle.pdl_machine_facts.specs.Ports.{delayed_count, replies_of, whole_values}
 use Rattle.pdl_machine.specs.Running.{Running, flat_of, state_of, replies_to}
+use Rattle.pdl_view.specs.Viewed.{view_text}
 use Rattle.pdl_view.specs.Lines.{letters_from, cycle_line, lines_from}
 use Rattle.pdl_view.proofs.Letters.{letters_shown, has_stages}
 
@@ -55,3 +59,18 @@ module _ (old new : Running) (bits : ℕ) (state : state_of new ≡ stated.cycle
       ∙ ap (λ n. cycle_line (done + 1) new.shown stages ++ rest n p (stated.cycle p st (replies_to old bits))) number
       ∙ ap (λ (s : State). cycle_line (done + 1) new.shown stages ++ rest (done + 1 + 1) p s) (sym state)
       ∙ ap (λ q. cycle_line (done + 1) new.shown stages ++ rest (done + 1 + 1) (flat_of (record new { pipe = q })) (state_of new)) (sym pipe)
+
+-- no cycle is left
+pub left_none : (m : Running) (delays : List ℕ) (done cycles : ℕ) → cycles ≤ done → left m delays done cycles ≡ []
+left_none m delays done cycles l = let none : cycles - done ≡ 0 = omega arith in rw none refl
+
+-- as many stages as before
+pub same_stages : (new old : Running) → new.pipe ≡ old.pipe → length (flat_of new).stages ≡ length (flat_of old).stages
+same_stages new old pipe = ap (λ q. length (flat (pipe_view q)).stages) pipe
+
+-- the lines of a machine that begins are the view of its pipe
+pub begun : (m : Running) (q : r_pipe.Pipe) (image : List (List ℕ)) (schedule : List ℕ) → m.pipe ≡ q → state_of m ≡ stated.first (flat (pipe_view q)) (arrays_of image)
+    → lines_from 1 m schedule ≡ view_text (pipe_view q) image schedule
+begun m q image schedule pipe state =
+    ap (λ (s : State). view_from 1 (view (turns_from (flat_of m) s (map (replies_to m) schedule)))) state
+    ∙ ap (λ r. view_from 1 (view (turns_from (flat (pipe_view r)) (stated.first (flat (pipe_view q)) (arrays_of image)) (map (replies_of (delayed_count (flat (pipe_view r)))) schedule)))) pipe

@@ -1,0 +1,21 @@
+use Rattle.std.proofs.Common.{◌≡◌, ◌∙◌, ap, length, subst, sym}
+use Rattle.pdl_tree.specs.View.{pipe_view}
+use Rattle.pdl_semantics.specs.Flatten.{flat}
+use Rattle.pdl_stagegraph.specs.Graph.{Graph}
+use Rattle.pdl_runs.specs.Printed.{schedule}
+use Rattle.pdl_trace.specs.Passed.{Streams}
+use Rattle.pdl_view.proofs.Running.{begun}
+use Rattle.pdl_view.proofs.view.view.Goals as goal
+
+pub print_view-requires-clause-stages : goal.print_view-requires-clause-stages
+print_view-requires-clause-stages g c =
+    c.count-stages.ensures
+    ∙ ap (λ (graph : Graph). length graph.stages) c.graph.ensures
+    ∙ sym (ap (λ q. length (flat (pipe_view q)).stages) c.in_ok-machine.ensures.pipe)
+
+pub returns-clause-text : goal.returns-clause-text
+returns-clause-text g c =
+    let m = c.in_ok-machine.machine in
+    let shown = begun m c.args.accepted.now.typed.pipe c.args.image.now (schedule c.args.delays.now c.args.cycles) c.in_ok-machine.ensures.pipe c.in_ok-machine.ensures.first in
+    subst (λ text. Streams (g.S.Sink.written c.args.sink.now) (g.S.Sink.written c.print_view.new.sink) (g.S.Sink.faults c.args.sink.now) (g.S.Sink.faults c.print_view.new.sink) text c.print_view.result) shown
+    c.print_view.ensures.text
