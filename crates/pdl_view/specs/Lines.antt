@@ -1,8 +1,10 @@
 -- The lines of a view, of a machine that runs on.
 use Rattle.std.specs.Prelude.{ℕ, zero, suc, ◌+◌, ◌*◌, ◌==◌, List, [], ◌∷◌, ◌++◌, map, codes, decimal, slice_index}
+use Rattle.pdl_semantics.specs.Flat.{Pipe}
+use Rattle.pdl_semantics.specs.Machine.{State}
 use Rattle.pdl_semantics.specs.Cycle.{letter, turns_from, view}
 use Rattle.pdl_semantics.specs.Lines.{view_from}
-use Rattle.pdl_machine.specs.Running.{Running, flat_of, state_of, replies_to}
+use Rattle.pdl_machine_facts.specs.Ports.{delayed_count, replies_of}
 
 -- the letter of a stage, by its two ports: whether it holds a thread, and whether that moves
 abbrev pub letter_at : List ℕ → ℕ → ℕ
@@ -17,6 +19,6 @@ letters_from shown stage (suc left) = letter_at shown stage ∷ letters_from sho
 abbrev pub cycle_line : ℕ → List ℕ → ℕ → List ℕ
 cycle_line cycle shown stages = (decimal cycle ++ codes " ") ++ (letters_from shown 0 stages ++ codes "\n")
 
--- the lines of a machine that runs on from its state, of which the first has this number
-abbrev pub lines_from : ℕ → Running → List ℕ → List ℕ
-lines_from cycle m schedule = view_from cycle (view (turns_from (flat_of m) (state_of m) (map (replies_to m) schedule)))
+-- the lines of the stated machine of a pipe that runs on from a state with these reply bits, of which the first has this number
+abbrev pub lines_from : ℕ → Pipe → State → List ℕ → List ℕ
+lines_from cycle p st schedule = view_from cycle (view (turns_from p st (map (replies_of (delayed_count p)) schedule)))

@@ -11,7 +11,8 @@ use pdl_trace::LineOut;
 
 // The letter of a stage in the last cycle: `.` where it held no thread, `M` where its thread moved, `S` where that stood.
 fn letter(machine: &Machine<'_>, stage: usize) -> u8
-    requires { 2 * stage + 1 < length machine.now.shown }
+    requires shown { 2 * stage + 1 < length machine.now.shown }
+    requires few { stage < 64 }
     ensures { result ≡ letter_at machine.now.shown stage }
 {
     let holds = machine.port(2 * stage) == 1;
@@ -41,7 +42,8 @@ fn push_letters<S: Sink>(
     machine: &Machine<'_>,
     stages: usize,
 ) -> Result<(), WriteFailed>
-    requires { 2 * stages ≤ length machine.now.shown }
+    requires shown { 2 * stages ≤ length machine.now.shown }
+    requires few { stages ≤ 64 }
     ensures bytes { Passes (S.written sink.old) (S.written sink.new) result
         (out.old ++ letters_from machine.now.shown 0 stages) out.new }
     ensures cause { HasCause (S.faults sink.old) (S.faults sink.new) result }
@@ -59,7 +61,8 @@ fn push_stages<S: Sink>(
     machine: &Machine<'_>,
     stages: usize,
 ) -> Result<(), WriteFailed>
-    requires { 2 * stages ≤ length machine.now.shown }
+    requires shown { 2 * stages ≤ length machine.now.shown }
+    requires few { stages ≤ 64 }
     ensures bytes { Passes (S.written sink.old) (S.written sink.new) result
         (out.old ++ (letters_from machine.now.shown 0 stages ++ codes "\n")) out.new }
     ensures cause { HasCause (S.faults sink.old) (S.faults sink.new) result }
@@ -76,7 +79,8 @@ pub fn push_line<S: Sink>(
     machine: &Machine<'_>,
     stages: usize,
 ) -> Result<(), WriteFailed>
-    requires { 2 * stages ≤ length machine.now.shown }
+    requires shown { 2 * stages ≤ length machine.now.shown }
+    requires few { stages ≤ 64 }
     ensures bytes { Passes (S.written sink.old) (S.written sink.new) result
         (out.old ++ cycle_line cycle machine.now.shown stages) out.new }
     ensures cause { HasCause (S.faults sink.old) (S.faults sink.new) result }

@@ -6,7 +6,7 @@ ghost use Rattle.pdl_tree.specs.View.{pipe_view};
 ghost use Rattle.pdl_rules.specs.Memories.{infos_of};
 ghost use Rattle.pdl_image.specs.Images.{IsImage};
 ghost use Rattle.pdl_runs.specs.Printed.{schedule};
-ghost use Rattle.pdl_machine.specs.Running.{flat_of};
+ghost use Rattle.pdl_machine.specs.Running.{flat_of, state_of};
 ghost use Rattle.pdl_view.specs.Lines.{lines_from};
 ghost use Rattle.pdl_view.specs.Viewed.{view_text};
 
@@ -29,9 +29,11 @@ fn push_cycles<S: Sink>(
 ) -> Result<(), WriteFailed>
     requires start { machine.old.cycles ≡ 0 }
     requires stages { stages ≡ length (flat_of machine.old).stages }
+    requires few_stages { stages ≤ 64 }
     requires few { cycles ≤ 1000000 }
     ensures bytes { Passes (S.written sink.old) (S.written sink.new) result
-        (out.old ++ lines_from 1 machine.old (schedule delays.now cycles)) out.new }
+        (out.old ++ lines_from 1 (flat_of machine.old) (state_of machine.old)
+        (schedule delays.now cycles)) out.new }
     ensures cause { HasCause (S.faults sink.old) (S.faults sink.new) result }
 {
     for done in 0..cycles {
@@ -51,10 +53,12 @@ fn print_view<S: Sink>(
 ) -> Result<(), TextError>
     requires start { machine.old.cycles ≡ 0 }
     requires stages { stages ≡ length (flat_of machine.old).stages }
+    requires few_stages { stages ≤ 64 }
     requires few { cycles ≤ 1000000 }
     ensures text { Streams (S.written sink.old) (S.written sink.new)
         (S.faults sink.old) (S.faults sink.new)
-        (lines_from 1 machine.old (schedule delays.now cycles)) result }
+        (lines_from 1 (flat_of machine.old) (state_of machine.old) (schedule delays.now cycles))
+        result }
     ensures later { S.faults sink.old ≤ S.faults sink.new }
 {
     let mut out = LineOut::new();

@@ -1,11 +1,8 @@
 use Rattle.std.proofs.Common.{◌≡◌, ◌∙◌, ◌+◌, ◌-◌, ◌++◌, [], ◌∷◌, ap, arith, sym}
-use Rattle.pdl_trace.proofs.Passing.{at_last, faulted, step_off, step_on}
+use Rattle.pdl_trace.proofs.Passing.{faulted, step_off, step_on}
 use Rattle.pdl_view.specs.Lines.{letters_from}
-use Rattle.pdl_view.proofs.Letters.{letters_step, letters_end}
+use Rattle.pdl_view.proofs.Letters.{letters_step}
 use Rattle.pdl_view.proofs.lines.push_letters.Goals as goal
-
-pub letter-requires : goal.letter-requires
-letter-requires g c = omega (arith, c.requires, c.loop-stage-test.true)
 
 pub returns-in_err-push-clause-bytes : goal.returns-in_err-push-clause-bytes
 returns-in_err-push-clause-bytes g c =
@@ -38,11 +35,3 @@ loop-stage-preserved g c =
       way = step_on o a b all rest c.loop-stage.out (c.letter.result ∷ []) after e c.loop-stage.invariant.way c.push.new.self c.in_ok-push.ensures.bytes;
       later = omega (arith, c.loop-stage.invariant.later, c.push.ensures.cause.later);
     }
-
-pub returns-clause-bytes : goal.returns-clause-bytes
-returns-clause-bytes g c =
-    let shown = c.args.machine.now.shown in
-    let stage = c.loop-stage.stage in
-    let stages = c.args.stages in
-    at_last (g.S.Sink.written c.args.sink.now) (g.S.Sink.written c.loop-stage.sink) (c.args.out.now ++ letters_from shown 0 stages) (letters_from shown stage (stages - stage)) c.loop-stage.out
-    (letters_end shown stage stages (omega (arith, c.loop-stage-test.false))) c.loop-stage.invariant.way

@@ -1,17 +1,8 @@
 use Rattle.std.proofs.Common.{◌++◌, codes}
 use Rattle.std.specs.Prelude.{decimal}
-use Rattle.pdl_trace.proofs.Passing.{both_on, faulted, prefix_front}
+use Rattle.pdl_trace.proofs.Passing.{both_on}
 use Rattle.pdl_view.specs.Lines.{letters_from}
 use Rattle.pdl_view.proofs.lines.push_line.Goals as goal
-
-pub returns-in_err-push_number-clause-bytes : goal.returns-in_err-push_number-clause-bytes
-returns-in_err-push_number-clause-bytes g c =
-    let o = g.S.Sink.written c.args.sink.now in
-    let a = g.S.Sink.written c.push_number.new.sink in
-    let number = decimal c.args.cycle ++ codes " " in
-    let stages = letters_from c.args.machine.now.shown 0 c.args.stages ++ codes "\n" in
-    faulted c.from_residual.result o a (c.args.out.now ++ (number ++ stages)) c.push_number.new.out c.from_residual.ensures.0
-    (prefix_front o a c.args.out.now number stages c.in_err-push_number.ensures.bytes)
 
 pub returns-clause-bytes : goal.returns-clause-bytes
 returns-clause-bytes g c =

@@ -1,15 +1,7 @@
 use Rattle.std.proofs.Common.{◌++◌, codes}
-use Rattle.pdl_trace.proofs.Passing.{both_on, faulted, prefix_front}
+use Rattle.pdl_trace.proofs.Passing.{both_on}
 use Rattle.pdl_view.specs.Lines.{letters_from}
 use Rattle.pdl_view.proofs.lines.push_stages.Goals as goal
-
-pub returns-in_err-push_letters-clause-bytes : goal.returns-in_err-push_letters-clause-bytes
-returns-in_err-push_letters-clause-bytes g c =
-    let o = g.S.Sink.written c.args.sink.now in
-    let a = g.S.Sink.written c.push_letters.new.sink in
-    let letters = letters_from c.args.machine.now.shown 0 c.args.stages in
-    faulted c.from_residual.result o a (c.args.out.now ++ (letters ++ codes "\n")) c.push_letters.new.out c.from_residual.ensures.0
-    (prefix_front o a c.args.out.now letters (codes "\n") c.in_err-push_letters.ensures.bytes)
 
 pub returns-clause-bytes : goal.returns-clause-bytes
 returns-clause-bytes g c =

@@ -1,6 +1,7 @@
 use Rattle.std.proofs.Common.{◌≡◌, ◌≤◌, ◌+◌, ◌++◌}
 use Rattle.pdl_runs.specs.Printed.{schedule}
 use Rattle.pdl_trace.proofs.Passing.{IsUnderWay}
+use Rattle.pdl_machine.specs.Running.{flat_of, state_of}
 use Rattle.pdl_view.specs.Lines.{lines_from}
 use Rattle.pdl_view.proofs.Running.{left}
 use Rattle.pdl_view.proofs.view.push_cycles.Given as goal
@@ -11,6 +12,6 @@ invariant-loop-done g l = record {
   pipe : l.machine.pipe ≡ l.fn.machine.pipe;
   few : l.machine.cycles ≤ l.done + 1;
   way : IsUnderWay (g.S.Sink.written l.fn.sink) (g.S.Sink.written l.sink)
-      (l.fn.out ++ lines_from 1 l.fn.machine (schedule l.delays l.cycles)) (left l.machine l.delays l.done l.cycles) l.out;
+      (l.fn.out ++ lines_from 1 (flat_of l.fn.machine) (state_of l.fn.machine) (schedule l.delays l.cycles)) (left (flat_of l.machine) (state_of l.machine) l.delays l.done l.cycles) l.out;
   later : g.S.Sink.faults l.fn.sink ≤ g.S.Sink.faults l.sink;
 }

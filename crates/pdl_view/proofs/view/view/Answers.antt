@@ -1,7 +1,8 @@
-use Rattle.std.proofs.Common.{◌≡◌, ◌∙◌, ap, length, subst, sym}
+use Rattle.std.proofs.Common.{◌≡◌, ◌∙◌, ap, arith, length, subst, sym}
 use Rattle.pdl_tree.specs.View.{pipe_view}
 use Rattle.pdl_semantics.specs.Flatten.{flat}
 use Rattle.pdl_stagegraph.specs.Graph.{Graph}
+use Rattle.pdl_pipe_law.proofs.WellFormedStages.{few_stages}
 use Rattle.pdl_runs.specs.Printed.{schedule}
 use Rattle.pdl_trace.specs.Passed.{Streams}
 use Rattle.pdl_view.proofs.Running.{begun}
@@ -12,6 +13,12 @@ print_view-requires-clause-stages g c =
     c.count-stages.ensures
     ∙ ap (λ (graph : Graph). length graph.stages) c.graph.ensures
     ∙ sym (ap (λ q. length (flat (pipe_view q)).stages) c.in_ok-machine.ensures.pipe)
+
+pub print_view-requires-clause-few_stages : goal.print_view-requires-clause-few_stages
+print_view-requires-clause-few_stages g c =
+    let a = c.args.accepted.now in
+    let count = c.count-stages.ensures ∙ ap (λ (graph : Graph). length graph.stages) c.graph.ensures in
+    omega (arith, count, few_stages (pipe_view a.typed.pipe) a.kept)
 
 pub returns-clause-text : goal.returns-clause-text
 returns-clause-text g c =
