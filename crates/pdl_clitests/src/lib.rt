@@ -8,6 +8,12 @@ mod asked;
 #[cfg(test)]
 mod cuts;
 #[cfg(test)]
+mod delayed;
+#[cfg(test)]
+mod delayed_chances;
+#[cfg(test)]
+mod delayed_runs;
+#[cfg(test)]
 mod faults;
 #[cfg(test)]
 mod generated;
