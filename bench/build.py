@@ -1,0 +1,55 @@
+#!/usr/bin/env python3
+"""Times `pdl check`, `build` and `run` on the largest pipes, and counts what `build` writes: build.py PDL.
+
+A pipe has 8, 16, 32 or 64 stages and 16 memories behind `bypass(16)`, of which each thread reads and writes a word of each:
+it reads them one after another on its way through the stages, and writes all in the last stage. A line has the cells, the
+registers and the bytes of its text, and the seconds of a processor for each command, the least of five runs; `run` has
+10,000 cycles.
+"""
+
+import pathlib
+import re
+import sys
+import tempfile
+
+from sim import EMPTY, run, seconds
+
+MEMORIES = range(16)
+CYCLES = 10000
+
+
+def large_pipe(stages):
+    """The pipe with so many stages."""
+    memories = ", ".join(f"m{k}: uint<32>[256] comb lock bypass(16)" for k in MEMORIES)
+    texts = [[] for _ in range(stages)]
+    texts[0] += ["a = n[7:0];", "b = n[7:0];", "call(n + 32'd7);"]
+    texts[0] += [f"reserve(m{k}[a], R); reserve(m{k}[b], W);" for k in MEMORIES]
+    for k in MEMORIES:
+        texts[1 + k * (stages - 2) // len(MEMORIES)] += [f"block(m{k}[a]); x{k} = m{k}[a];"]
+        texts[-1] += [f"block(m{k}[b]); m{k}[b] <- x{k} + n; release(m{k}[a]); release(m{k}[b]);"]
+    body = "\n---\n".join("\n".join(lines) for lines in texts)
+    return f"pipe p(n: uint<32>)[{memories}] {{\n{body}\n}} start p(32'd0);\n"
+
+
+def measure(program, stages, folder):
+    """Prints the line of a pipe."""
+    (folder / "source.pdl").write_text(large_pipe(stages))
+    (folder / "image.img").write_text(EMPTY)
+    text = run([program, "build", "source.pdl"], folder)
+    registers, cells = (len(re.findall(form, text, re.M)) for form in (r"^reg .* r\d+;$", r"^assign n\d+ = "))
+    commands = [["check", "source.pdl"], ["build", "source.pdl"], ["run", "source.pdl", "image.img", str(CYCLES)]]
+    times = "  ".join(f"{words[0]} {seconds([program, *words], folder):.3f} s" for words in commands)
+    print(f"{stages:2} stages {cells:6} cells {registers:6} registers {len(text):7} bytes  {times}", flush=True)
+
+
+def main():
+    if len(sys.argv) != 2:
+        sys.exit(__doc__)
+    program = str(pathlib.Path(sys.argv[1]).resolve())
+    with tempfile.TemporaryDirectory() as path:
+        for stages in (8, 16, 32, 64):
+            measure(program, stages, pathlib.Path(path))
+
+
+if __name__ == "__main__":
+    main()
