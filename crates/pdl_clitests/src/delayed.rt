@@ -140,13 +140,14 @@ fn counted_with(
     requires well { IsWellFormed netlist.now }
     requires short { length run.now.image.now ≤ LONGEST_FILE }
 {
-    let words = words_of(alloc, netlist, run.image);
-    let image = image_of(alloc, accepted, run.image);
-    match (words, image) {
-        (Ok(words), Ok(image)) => {
-            counted_from(alloc, netlist, &words, accepted, &image, run.replies).ok()?
-        }
-        _ => None,
+    match words_of(alloc, netlist, run.image) {
+        Ok(words) => match image_of(alloc, accepted, run.image) {
+            Ok(image) => {
+                counted_from(alloc, netlist, &words, accepted, &image, run.replies).ok()?
+            }
+            Err(_) => None,
+        },
+        Err(_) => None,
     }
 }
 
