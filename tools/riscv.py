@@ -4,12 +4,16 @@
     tools/riscv.py make                   compiles each program of examples/riscv/c at -O2 and -Os, and writes its image
                                           and its line of examples/riscv/expected
     tools/riscv.py check PDL [LEVEL ..]   compiles each at these levels (-O0 -O1 -O2 -Os where none is named), and runs it
-                                          by the program PDL on both cores
-    tools/riscv.py locks PDL              prints how many instructions a cycle the core of five stages does with each lock
+                                          by the program PDL on each version of the core
+    tools/riscv.py verilator PDL          runs the prebuilt images on the netlists of all versions by Verilator, which has
+                                          to print each line that PDL prints
+    tools/riscv.py figures PDL            runs the prebuilt images with each lock, and writes the tables of docs/riscv.md anew
 
-Four things have to agree on each program: what `main` returns on this computer, the whole memory at the end of a run by
-qemu, the model (examples/riscv/rv32i_model.py), and, for `check`, each write of each memory in the run by PDL.
+Five things have to agree on each program: what `main` returns on this computer, the whole memory at the end of a run by
+qemu, the model (examples/riscv/rv32i_model.py), and, for `check`, each write of each memory in the run by PDL and the
+memory at its end. The last two commands need no compiler for RISC-V.
 """
+
 import hashlib
 import os
 import re
@@ -17,20 +21,28 @@ import subprocess
 import sys
 import tempfile
 
-HERE = os.path.join(os.path.dirname(os.path.abspath(__file__)), "..", "examples", "riscv")
-sys.path.insert(0, HERE)
+import riscv_cores
+import riscv_verilator
+from riscv_cores import CORES, SLOW, VERSIONS
+
+sys.path.insert(0, str(CORES))
 import elf_image
 import rv32i_model
 
 NAMES = "access compares crc fib float jumps loops matrix queens sha256 sort strings".split()
 FLAGS = ("-march=rv32i -mabi=ilp32 -ffreestanding -fno-builtin -nostdlib -nostartfiles -static -Wall -Wextra "
          "-Wl,--build-id=none -Wl,--no-warn-rwx-segments -T link.ld crt0.S lib.c").split()
-CORES = ("rv32i.pdl", "rv32i_single.pdl")
-LOCKS = ("queue(4)", "bypass(1)", "bypass(2)", "bypass(4)", "bypass(8)", "rename(4)")
+COMPILER = "riscv64-unknown-elf-gcc"
 
 
-def run(words, folder="c", **more):
-    return subprocess.run(words, cwd=os.path.join(HERE, folder), check=True, **more)
+def run(words, **more):
+    return subprocess.run(words, cwd=CORES / "c", check=True, **more)
+
+
+def say_versions(*tools):
+    """Prints the first line that each tool says of its version."""
+    for tool in tools:
+        print(run([tool, "--version"], capture_output=True, text=True).stdout.splitlines()[0])
 
 
 def native(name, folder):
@@ -38,7 +50,7 @@ def native(name, folder):
     source = os.path.join(folder, name + ".native.c")
     with open(source, "w") as out:
         out.write('#define main its_main\n#include "%s"\n#undef main\n#include <stdio.h>\n'
-                  'int main(void) { printf("%%08x", (unsigned)its_main()); }\n' % os.path.join(HERE, "c", name + ".c"))
+                  'int main(void) { printf("%%08x", (unsigned)its_main()); }\n' % (CORES / "c" / (name + ".c")))
     run(["gcc", "-O1", "-fwrapv", "-w", source, "-o", source[:-2]])
     return int(run([source[:-2]], capture_output=True, text=True).stdout, 16)
 
@@ -48,7 +60,7 @@ class Program:
 
     def __init__(self, name, level, folder):
         stem = os.path.join(folder, "%s_%s" % (name, level))
-        run(["riscv64-unknown-elf-gcc", "-" + level] + FLAGS + [name + ".c", "-lgcc", "-o", stem])
+        run([COMPILER, "-" + level] + FLAGS + [name + ".c", "-lgcc", "-o", stem])
         with open(stem, "rb") as stream:
             self.memory = elf_image.memory_of(stream.read())
         self.name, self.level, self.model = name, level, rv32i_model.Model(self.memory).run()
@@ -56,6 +68,7 @@ class Program:
         self.place = next(int(line.split()[0], 16) for line in symbols.splitlines() if line.endswith(" result")) % 65536 // 4
         end = run(["qemu-riscv32", stem], capture_output=True).stdout
         self.result = int.from_bytes(end[4 * self.place:4 * self.place + 4], "little")
+        self.end = end
         if end != bytes(self.model.memory):
             raise SystemExit("%s at -%s: the model's memory is not qemu's" % (name, level))
         if self.result != native(name, folder):
@@ -72,74 +85,81 @@ class Program:
     def expected(self):
         return "%s_%s %d %d %08x %s" % (self.name, self.level, self.model.count, self.place, self.result, self.digest())
 
-
-def commits(text):
-    """The writes of each memory in a run, and the cycle of the last one."""
-    writes, last = {"x": [], "data": []}, 0
-    for line in text.splitlines()[:-1]:
-        cycle, mem, address, value = line.split(" ")
-        writes[mem].append((int(address), int(value, 16)))
-        last = int(cycle)
-    return writes, last
-
-
-def run_core(pdl, source, program, folder):
-    """The cycle of the last write, where each write of the run is the model's; and none where one isn't."""
-    image = os.path.join(folder, "now.img")
-    with open(image, "w") as out:
-        out.write(program.image())
-    cycles = min(1000000, 4 * program.model.count + 100)
-    text = run([pdl, "run", source, image, str(cycles)], ".", capture_output=True, text=True).stdout
-    writes, last = commits(text)
-    return last if writes == program.model.writes else None
+    def is_right(self, run):
+        """Whether each write of a run is the model's, and the memory at its end qemu's."""
+        words = bytearray(self.memory)
+        for address, value in run.writes("data"):
+            words[4 * address:4 * address + 4] = value.to_bytes(4, "little")
+        return all(run.writes(memory) == writes for memory, writes in self.model.writes.items()) and words == self.end
 
 
 def make(folder):
-    with open(os.path.join(HERE, "expected"), "w") as table:
+    with open(CORES / "expected", "w") as table:
         print("# a program and its level, its instructions, where its result stands in data, the result, and SHA-256 of its writes", file=table)
         for name in NAMES:
             for level in ("O2", "Os"):
                 program = Program(name, level, folder)
-                with open(os.path.join(HERE, "images", "%s_%s.img" % (name, level)), "w") as out:
-                    out.write(program.image())
+                (CORES / "images" / f"{name}_{level}.img").write_text(program.image())
                 print(program.expected(), file=table)
 
 
 def check(pdl, levels, folder):
-    wrong = 0
+    say_versions(COMPILER, "qemu-riscv32")
+    wrong = runs = 0
     for name in NAMES:
         for level in levels or ("O0", "O1", "O2", "Os"):
             program = Program(name, level, folder)
-            for core in CORES:
-                last = run_core(pdl, core, program, folder)
-                wrong += last is None
-                print("%-9s -%s on %-17s %s" % (name, level, core, "WRONG" if last is None else
-                      "right: %d instructions in %d cycles" % (program.model.count, last)), flush=True)
+            for version in VERSIONS:
+                runs += 1
+                stem = os.path.join(folder, "run%d" % runs)
+                found = riscv_cores.run_core(pdl, version, program.image(), 6 * program.model.count + 100, stem)
+                right = program.is_right(found)
+                wrong += not right
+                says = f"right: {program.model.count} instructions in {found.last()} cycles" if right else "WRONG"
+                print(f"{name:9} -{level} {version.name:22} {says}", flush=True)
+    print(f"runs {runs} wrong {wrong}")
     return wrong
 
 
-def locks(pdl, folder):
-    programs = [Program(name, level, folder) for name in NAMES for level in ("O2", "Os")]
-    with open(os.path.join(HERE, CORES[0])) as stream:
-        text = stream.read()
-    for lock in LOCKS:
-        source = os.path.join(folder, "core.pdl")
-        with open(source, "w") as out:
-            out.write(re.sub(r"(x: uint<32>\[32\] comb lock )\w+\(\d+\)", r"\g<1>" + lock, text))
-        lasts = [run_core(pdl, source, program, folder) for program in programs]
-        if None in lasts:
-            raise SystemExit("wrong with " + lock)
-        print("%-9s %.2f" % (lock, sum(program.model.count for program in programs) / sum(lasts)), flush=True)
+def by_verilator(pdl, folder):
+    """Runs the prebuilt images on the netlist of each version, and compares each line with that of `pdl run`."""
+    say_versions("verilator")
+    slow = os.path.join(folder, "slow.delays")
+    with open(slow, "w") as out:
+        out.write("\n".join(SLOW) + "\n")
+    wrong = runs = lines = 0
+    netlists = {}
+    for version in VERSIONS:
+        if version.source not in netlists:
+            place = os.path.join(folder, version.source + ".netlist")
+            netlists[version.source] = riscv_verilator.Verilated(pdl, CORES / version.source, place)
+        for program in riscv_cores.expected():
+            runs += 1
+            cycles = 3 * program.instructions
+            stem = os.path.join(folder, "run%d" % runs)
+            wanted = riscv_cores.text_of_run(pdl, version, program.image(), cycles, stem)
+            found = netlists[version.source].run(program.image(), cycles, slow if version.slow else None)
+            lines += len(found.splitlines())
+            if found != wanted:
+                wrong += 1
+                print(f"{program.name} on {version.source}: Verilator prints other lines")
+    print(f"runs {runs} lines {lines} wrong {wrong}")
+    return wrong
 
 
 def main(words):
     with tempfile.TemporaryDirectory() as folder:
+        pdl = os.path.abspath(words[1]) if len(words) > 1 else None
         if words[:1] == ["make"] and len(words) == 1:
             make(folder)
-        elif words[:1] == ["check"] and len(words) > 1:
-            return 1 if check(os.path.abspath(words[1]), words[2:], folder) else 0
-        elif words[:1] == ["locks"] and len(words) == 2:
-            locks(os.path.abspath(words[1]), folder)
+        elif words[:1] == ["check"] and pdl:
+            return 1 if check(pdl, words[2:], folder) else 0
+        elif words[:1] == ["verilator"] and len(words) == 2:
+            return 1 if by_verilator(pdl, folder) else 0
+        elif words[:1] == ["figures"] and len(words) == 2:
+            figures = riscv_cores.Figures(pdl, folder)
+            for table in (figures.versions, figures.guesses, figures.locks):
+                riscv_cores.put_table(table())
         else:
             sys.exit(__doc__)
     return 0

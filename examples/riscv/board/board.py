@@ -1,12 +1,12 @@
 #!/usr/bin/env python3
 """Puts the RV32I core on a board with an iCE40-HX8K, where yosys, nextpnr-ice40, icestorm and iverilog are installed.
 
-    board.py make PDL IMAGE LAMPS FOLDER      writes top.bin, the bitstream, and what it took
+    board.py make PDL CORE IMAGE LAMPS FOLDER   writes top.bin, the bitstream, and what it took
     board.py try PDL IMAGE LAMPS CYCLES FOLDER  runs the netlist that `make` left, and compares it with `pdl run`
     board.py contents NETLIST IMAGE FOLDER    adds the words of an image to the arrays of any text of `pdl build`
 
-PDL is the program, IMAGE an image of examples/riscv, LAMPS the word of `data` whose low byte the lamps show, and FOLDER a
-folder for what is made. The core is rv32i.pdl with memories of 4 KiB in place of 64: eight block memories each.
+PDL is the program, CORE a key of WRAPPERS, IMAGE an image of examples/riscv, LAMPS the word of `data` whose low byte the
+lamps show, and FOLDER a folder for what is made. The core has memories of 4 KiB in place of 64: eight block memories each.
 """
 import pathlib
 import re
@@ -15,6 +15,8 @@ import sys
 
 HERE = pathlib.Path(__file__).resolve().parent
 WORDS = 1024
+# A core, and the module round it.
+WRAPPERS = {"rv32i": "top.v", "rv32i_guess": "top.v", "rv32i_delayed": "top_delayed.v"}
 CELLS = "/usr/share/yosys/ice40/cells_sim.v"
 
 
@@ -28,9 +30,9 @@ def run(words, folder, log=None):
     return ran.stdout
 
 
-def core(folder):
-    """The source of the core with small memories: their depths, and the bits of an address that name a word."""
-    text = (HERE.parent / "rv32i.pdl").read_text()
+def write_core(name, folder):
+    """The source of a core with small memories: their depths, and the bits of an address that name a word."""
+    text = (HERE.parent / (name + ".pdl")).read_text()
     high = WORDS.bit_length()
     text = text.replace("[16384]", "[%d]" % WORDS).replace("[15:2]", "[%d:2]" % high)
     (folder / "core.pdl").write_text(text)
@@ -42,28 +44,33 @@ def words_of(image):
     return {(memory, int(address)): value for memory, address, value in lines}
 
 
+def write_words(name, depth, image, folder):
+    """The words of a memory as NAME.hex, one a line; those that the image doesn't give are 0."""
+    given = {address: value for (memory, address), value in words_of(image).items() if memory == name}
+    if max(given, default=0) >= depth:
+        raise SystemExit("%s has %d words, and the image gives word %d" % (name, depth, max(given)))
+    (folder / (name + ".hex")).write_text("".join(given.get(at, "0") + "\n" for at in range(depth)))
+
+
 def with_contents(text, image, folder):
     """A text of `pdl build` whose arrays begin with the words of an image: one line for each before its `endmodule`.
 
-    The words of the array a_m stand in m.hex. Words that the image doesn't give are 0.
+    The words of the array a_m stand in m.hex, and those of a delayed memory, which stands outside, in a file of its name.
     """
-    given = words_of(image)
     loads = []
     for name, last in re.findall(r"^reg \[\d+:0\] a_(\w+) \[0:(\d+)\];$", text, re.M):
-        depth = int(last) + 1
-        (folder / (name + ".hex")).write_text("".join(given.get((name, at), "0") + "\n" for at in range(depth)))
+        write_words(name, int(last) + 1, image, folder)
         loads.append('initial $readmemh("%s.hex", a_%s);\n' % (name, name))
-        outside = [at for memory, at in given if memory == name and at >= depth]
-        if outside:
-            raise SystemExit("%s has %d words, and the image gives word %d" % (name, depth, max(outside)))
+    for high, name in re.findall(r"output wire \[(\d+):0\] qa_(\w+)", text):
+        write_words(name, 2 << int(high), image, folder)
     return text.replace("endmodule", "".join(loads) + "endmodule")
 
 
-def make(pdl, image, lamps, folder):
-    core(folder)
+def make(pdl, core, image, lamps, folder):
+    write_core(core, folder)
     text = run([pdl, "build", "core.pdl"], folder)
     (folder / "core.v").write_text(with_contents(text, image, folder))
-    (folder / "top.v").write_text((HERE / "top.v").read_text())
+    (folder / "top.v").write_text((HERE / WRAPPERS[core]).read_text())
     synthesis = ("read_verilog top.v core.v; chparam -set LAMPS %d top; synth_ice40 -top top -json top.json; "
                  "write_verilog -noattr netlist.v; tee -o cells.txt stat" % lamps)
     run(["yosys", "-p", synthesis], folder, "yosys.log")
@@ -117,10 +124,10 @@ def attempt(pdl, image, lamps, cycles, folder):
 
 
 def main(words):
-    if words[:1] == ["make"] and len(words) == 5:
-        folder = pathlib.Path(words[4])
+    if words[:1] == ["make"] and len(words) == 6 and words[2] in WRAPPERS:
+        folder = pathlib.Path(words[5])
         folder.mkdir(parents=True, exist_ok=True)
-        make(pathlib.Path(words[1]).resolve(), pathlib.Path(words[2]).read_text(), int(words[3]), folder)
+        make(pathlib.Path(words[1]).resolve(), words[2], pathlib.Path(words[3]).read_text(), int(words[4]), folder)
     elif words[:1] == ["try"] and len(words) == 6:
         attempt(pathlib.Path(words[1]).resolve(), pathlib.Path(words[2]).read_text(), int(words[3]), int(words[4]), pathlib.Path(words[5]))
     elif words[:1] == ["contents"] and len(words) == 4:

@@ -1,0 +1,187 @@
+"""The versions of the RISC-V core of examples/riscv, their runs, and the tables of docs/riscv.md that are made of them."""
+
+import hashlib
+import os
+import pathlib
+import re
+import subprocess
+from concurrent.futures import ThreadPoolExecutor
+from dataclasses import dataclass, replace
+
+TOP = pathlib.Path(__file__).resolve().parent.parent
+CORES = TOP / "examples" / "riscv"
+PAGE = TOP / "docs" / "riscv.md"
+
+# In which cycles `code` and `data` answer where they are slow: in three of four, and in every third.
+SLOW = [f"{int(cycle % 4 > 0)}{int(cycle % 3 == 0)}" for cycle in range(1, 400001)]
+
+LOCKS = [f"{kind}({size})" for kind in ("queue", "bypass", "rename") for size in (1, 2, 4, 8, 16)]
+LOCK_OF_X = r"(x: uint<32>\[32\] comb lock )\w+\(\d+\)"
+
+
+@dataclass(frozen=True)
+class Version:
+    """A way to run a program: what the page calls it, a source, whether its memories are slow, and what is changed in it.
+
+    A change is a regular expression, which the source matches once, and what stands there instead.
+    """
+
+    name: str
+    source: str
+    slow: bool = False
+    change: tuple | None = None
+
+    def text(self):
+        """The text of the source, with the change."""
+        text = (CORES / self.source).read_text()
+        if not self.change:
+            return text
+        changed, count = re.subn(*self.change, text)
+        if count != 1:
+            raise SystemExit(f"{self.source} has {count} places of {self.change[0]}")
+        return changed
+
+    def with_change(self, old, new):
+        return replace(self, change=(old, new))
+
+
+VERSIONS = (
+    Version("one stage", "rv32i_single.pdl"),
+    Version("five stages", "rv32i.pdl"),
+    Version("with a guess", "rv32i_guess.pdl"),
+    Version("with delayed memories", "rv32i_delayed.pdl"),
+    Version("the same, slow", "rv32i_delayed.pdl", slow=True),
+)
+SINGLE, FIVE, GUESS, DELAYED, LATE = VERSIONS
+
+# What can be guessed, and the line that guesses it.
+GUESS_LINE = r"(?m)^    next = spec_call\(.*\);$"
+GUESSES = (
+    ("the instruction behind", "next = spec_call(pc + 32'd4);"),
+    ("and where a JAL goes", "next = spec_call(is_jal ? pc + imm_j : pc + 32'd4);"),
+    ("and that a branch backward is taken",
+     "next = spec_call(is_jal ? pc + imm_j : is_branch & word[31:31] ? pc + imm_b : pc + 32'd4);"),
+)
+
+
+@dataclass(frozen=True)
+class Expected:
+    """A line of `expected`: a program at a level, its instructions, its result in a word of `data`, and its writes."""
+
+    name: str
+    instructions: int
+    place: int
+    result: int
+    digest: str
+
+    def image(self):
+        return (CORES / "images" / f"{self.name}.img").read_text()
+
+
+def expected():
+    """The prebuilt programs."""
+    lines = [line.split() for line in (CORES / "expected").read_text().splitlines() if not line.startswith("#")]
+    return [Expected(name, int(count), int(place), int(result, 16), digest) for name, count, place, result, digest in lines]
+
+
+@dataclass
+class Run:
+    """What a run printed: its lines without the last, and how many cycles it took up to the last write."""
+
+    lines: list
+
+    def __init__(self, text):
+        self.lines = text.splitlines()[:-1]
+
+    def last(self):
+        return int(self.lines[-1].split(" ")[0]) if self.lines else 0
+
+    def writes(self, memory):
+        """The writes of a memory in order, a pair of address and word each."""
+        found = [line.split(" ") for line in self.lines if f" {memory} " in line]
+        return [(int(address), int(value, 16)) for _, _, address, value in found]
+
+    def digest(self):
+        """SHA-256 of the lines `x ADDRESS VALUE` of all writes to x, and then those of data."""
+        parts = [[line.split(" ", 1)[1] for line in self.lines if f" {memory} " in line] for memory in ("x", "data")]
+        return hashlib.sha256("".join(line + "\n" for part in parts for line in part).encode()).hexdigest()
+
+
+def text_of_run(pdl, version, image, cycles, folder):
+    """What `pdl run` prints of a version and an image; the files stand in a new folder."""
+    folder = pathlib.Path(folder)
+    folder.mkdir()
+    (folder / "core.pdl").write_text(version.text())
+    (folder / "now.img").write_text(image)
+    words = [pdl, "run", "core.pdl", "now.img", str(min(cycles, 1000000))]
+    if version.slow:
+        (folder / "slow.delays").write_text("\n".join(SLOW[:cycles]) + "\n")
+        words += ["--delays", "slow.delays"]
+    return subprocess.run(words, cwd=folder, check=True, capture_output=True, text=True).stdout
+
+
+def run_core(pdl, version, image, cycles, folder):
+    """The run of a version from an image."""
+    return Run(text_of_run(pdl, version, image, cycles, folder))
+
+
+class Figures:
+    """What the tables say: how many instructions a cycle each source ends over all prebuilt programs together."""
+
+    def __init__(self, pdl, folder):
+        self.pdl, self.folder, self.count = pdl, pathlib.Path(folder), 0
+        self.programs = [(it, it.image()) for it in expected()]
+
+    def per_cycle(self, version):
+        """Instructions a cycle, of a version all of whose writes are the expected ones."""
+        self.count += 1
+        stem = self.folder / f"figure{self.count}"
+        stem.mkdir()
+
+        def cycles(pair):
+            program, image = pair
+            run = run_core(self.pdl, version, image, 6 * program.instructions + 100, stem / program.name)
+            if run.digest() != program.digest:
+                raise SystemExit(f"{program.name}: other writes than the model's, of {version}")
+            return run.last()
+
+        with ThreadPoolExecutor(os.cpu_count()) as workers:
+            lasts = list(workers.map(cycles, self.programs))
+        return f"{sum(program.instructions for program, _ in self.programs) / sum(lasts):.2f}"
+
+    def size(self, version):
+        """The registers of a version's netlist, their bits, and its cells."""
+        source = self.folder / "size.pdl"
+        source.write_text(version.text())
+        built = subprocess.run([self.pdl, "build", str(source)], check=True, capture_output=True, text=True).stdout
+        registers = [int(high) + 1 for high in re.findall(r"^reg \[(\d+):0\] r\d+;$", built, re.M)]
+        return f"{len(registers)} | {sum(registers)} | {len(re.findall('^assign n[0-9]+ = ', built, re.M))}"
+
+    def versions(self):
+        """The table of the versions as they stand."""
+        rows = ["| version | source | instructions a cycle | registers | their bits | cells |", "|---|---|---|---|---|---|"]
+        return rows + [f"| {it.name} | `{it.source}` | {self.per_cycle(it)} | {self.size(it)} |" for it in VERSIONS]
+
+    def locks(self):
+        """The table of each lock and size of the registers' memory."""
+        shown = (FIVE, GUESS, DELAYED, LATE)
+        rows = ["| lock of `x` | " + " | ".join(it.name for it in shown) + " |", "|---" * (len(shown) + 1) + "|"]
+        for lock in LOCKS:
+            figures = (self.per_cycle(it.with_change(LOCK_OF_X, r"\g<1>" + lock)) for it in shown)
+            rows.append(f"| `{lock}` | " + " | ".join(figures) + " |")
+        return rows
+
+    def guesses(self):
+        """The table of what can be guessed."""
+        rows = ["| what is guessed | the line | instructions a cycle |", "|---|---|---|"]
+        for what, line in GUESSES:
+            rows.append(f"| {what} | `{line}` | {self.per_cycle(GUESS.with_change(GUESS_LINE, '    ' + line))} |")
+        return rows
+
+
+def put_table(rows):
+    """Puts a table into the page, in place of the one that has its first line."""
+    lines = PAGE.read_text().split("\n")
+    begin = lines.index(rows[0])
+    end = lines.index("", begin)
+    PAGE.write_text("\n".join(lines[:begin] + rows + lines[end:]))
