@@ -1,13 +1,13 @@
 #!/usr/bin/env python3
 """Makes and checks the programs of examples/riscv, where riscv64-unknown-elf-gcc, qemu-riscv32 and gcc are installed.
 
-    tools/riscv.py make                   compiles each program of examples/riscv/c at -O2 and -Os, and writes its image
-                                          and its line of examples/riscv/expected
-    tools/riscv.py check PDL [LEVEL ..]   compiles each at these levels (-O0 -O1 -O2 -Os where none is named), and runs it
-                                          by the program PDL on each version of the core
-    tools/riscv.py verilator PDL          runs the prebuilt images on the netlists of all versions by Verilator, which has
-                                          to print each line that PDL prints
-    tools/riscv.py figures PDL            runs the prebuilt images with each lock, and writes the tables of docs/riscv.md anew
+    riscv.py make                   compiles each program of examples/riscv/c at -O2 and -Os, and writes its image
+                                    and its line of examples/riscv/expected
+    riscv.py check PDL [LEVEL ..]   compiles each at these levels (-O0 -O1 -O2 -Os where none is named), and runs it
+                                    by the program PDL on each version of the core
+    riscv.py verilator PDL          runs the prebuilt images on the netlists of all versions by Verilator, which has
+                                    to print each line that PDL prints
+    riscv.py figures PDL            runs the prebuilt images with each lock, and writes the tables of docs/riscv.md
 
 Five things have to agree on each program: what `main` returns on this computer, the whole memory at the end of a run by
 qemu, the model (examples/riscv/rv32i_model.py), and, for `check`, each write of each memory in the run by PDL and the
@@ -65,7 +65,8 @@ class Program:
             self.memory = elf_image.memory_of(stream.read())
         self.name, self.level, self.model = name, level, rv32i_model.Model(self.memory).run()
         symbols = run(["riscv64-unknown-elf-nm", stem], capture_output=True, text=True).stdout
-        self.place = next(int(line.split()[0], 16) for line in symbols.splitlines() if line.endswith(" result")) % 65536 // 4
+        address = next(int(line.split()[0], 16) for line in symbols.splitlines() if line.endswith(" result"))
+        self.place = address % 65536 // 4
         end = run(["qemu-riscv32", stem], capture_output=True).stdout
         self.result = int.from_bytes(end[4 * self.place:4 * self.place + 4], "little")
         self.end = end
@@ -95,7 +96,8 @@ class Program:
 
 def make(folder):
     with open(CORES / "expected", "w") as table:
-        print("# a program and its level, its instructions, where its result stands in data, the result, and SHA-256 of its writes", file=table)
+        print("# a program and its level, its instructions, where its result stands in data, the result, "
+              "and SHA-256 of its writes", file=table)
         for name in NAMES:
             for level in ("O2", "Os"):
                 program = Program(name, level, folder)
@@ -112,7 +114,7 @@ def check(pdl, levels, folder):
             for version in VERSIONS:
                 runs += 1
                 stem = os.path.join(folder, "run%d" % runs)
-                found = riscv_cores.run_core(pdl, version, program.image(), 6 * program.model.count + 100, stem)
+                found = riscv_cores.run_core(pdl, version, program.image(), 10 * program.model.count, stem)
                 right = program.is_right(found)
                 wrong += not right
                 says = f"right: {program.model.count} instructions in {found.last()} cycles" if right else "WRONG"

@@ -1,4 +1,4 @@
-"""The versions of the RISC-V core of examples/riscv, their runs, and the tables of docs/riscv.md that are made of them."""
+"""The versions of the RISC-V core of examples/riscv, their runs, and the tables of docs/riscv.md that these make."""
 
 import hashlib
 import os
@@ -13,7 +13,7 @@ CORES = TOP / "examples" / "riscv"
 PAGE = TOP / "docs" / "riscv.md"
 
 # In which cycles `code` and `data` answer where they are slow: in three of four, and in every third.
-SLOW = [f"{int(cycle % 4 > 0)}{int(cycle % 3 == 0)}" for cycle in range(1, 400001)]
+SLOW = [f"{int(cycle % 4 > 0)}{int(cycle % 3 == 0)}" for cycle in range(1, 1000001)]
 
 LOCKS = [f"{kind}({size})" for kind in ("queue", "bypass", "rename") for size in (1, 2, 4, 8, 16)]
 LOCK_OF_X = r"(x: uint<32>\[32\] comb lock )\w+\(\d+\)"
@@ -21,7 +21,7 @@ LOCK_OF_X = r"(x: uint<32>\[32\] comb lock )\w+\(\d+\)"
 
 @dataclass(frozen=True)
 class Version:
-    """A way to run a program: what the page calls it, a source, whether its memories are slow, and what is changed in it.
+    """A way to run a program: what the page calls it, a source, whether its memories are slow, and a change.
 
     A change is a regular expression, which the source matches once, and what stands there instead.
     """
@@ -80,20 +80,18 @@ class Expected:
 
 def expected():
     """The prebuilt programs."""
-    lines = [line.split() for line in (CORES / "expected").read_text().splitlines() if not line.startswith("#")]
-    return [Expected(name, int(count), int(place), int(result, 16), digest) for name, count, place, result, digest in lines]
+    lines = [it.split() for it in (CORES / "expected").read_text().splitlines() if not it.startswith("#")]
+    return [Expected(name, int(count), int(place), int(word, 16), digest) for name, count, place, word, digest in lines]
 
 
-@dataclass
 class Run:
-    """What a run printed: its lines without the last, and how many cycles it took up to the last write."""
-
-    lines: list
+    """What a run printed: its lines without the last one."""
 
     def __init__(self, text):
         self.lines = text.splitlines()[:-1]
 
     def last(self):
+        """The cycle of the last write."""
         return int(self.lines[-1].split(" ")[0]) if self.lines else 0
 
     def writes(self, memory):
@@ -140,7 +138,7 @@ class Figures:
 
         def cycles(pair):
             program, image = pair
-            run = run_core(self.pdl, version, image, 6 * program.instructions + 100, stem / program.name)
+            run = run_core(self.pdl, version, image, 10 * program.instructions, stem / program.name)
             if run.digest() != program.digest:
                 raise SystemExit(f"{program.name}: other writes than the model's, of {version}")
             return run.last()
@@ -159,7 +157,7 @@ class Figures:
 
     def versions(self):
         """The table of the versions as they stand."""
-        rows = ["| version | source | instructions a cycle | registers | their bits | cells |", "|---|---|---|---|---|---|"]
+        rows = ["| version | source | instructions a cycle | registers | their bits | cells |", "|---" * 6 + "|"]
         return rows + [f"| {it.name} | `{it.source}` | {self.per_cycle(it)} | {self.size(it)} |" for it in VERSIONS]
 
     def locks(self):

@@ -1,7 +1,7 @@
 """A netlist of `pdl build` as a program, by Verilator, which prints the lines that `pdl run` prints of its source.
 
-The arrays of the netlist take their words from files `NAME.hex` of the folder in which it runs, so it is compiled once for
-all images. Its delayed memories stand outside of it, in the program, and answer as a delay file says.
+The arrays of the netlist take their words from files `NAME.hex` of the folder in which it runs, so it is compiled once
+for all images. Its delayed memories stand outside of it, in the program, and answer as a delay file says.
 """
 
 import pathlib
@@ -13,6 +13,7 @@ START = """#include "Vpdl.h"
 #include "verilated.h"
 #include <cstdio>
 #include <cstdlib>
+#include <string>
 #include <vector>
 
 struct Delayed {
@@ -91,21 +92,23 @@ def answer(number, name):
 def keep(module, number, name):
     """What a delayed memory keeps of a cycle: the write that it receives and what it is asked."""
     it = f"outside[{number}]"
-    lines = [f"        if (top->c_{name}) {it}.words[top->ca_{name}] = top->cd_{name};"] if name in module.memories() else []
-    asked = f"if (top->q_{name}) {{ {it}.asked = true; {it}.at = top->qa_{name}; }}"
-    return [*lines, f"        if (answered[{number}]) {it}.asked = false;", f"        {asked}"]
+    written = f"        if (top->c_{name}) {it}.words[top->ca_{name}] = top->cd_{name};"
+    over = f"        if (answered[{number}]) {it}.asked = false;"
+    asked = f"        if (top->q_{name}) {{ {it}.asked = true; {it}.at = top->qa_{name}; }}"
+    return ([written] if name in module.memories() else []) + [over, asked]
 
 
 def main_text(module):
     """The program round the netlist, in C++."""
-    delayed = list(enumerate(module.delayed()))
+    outside = [f'    outside.push_back(delayed("{name}", {1 << bits}));' for name, _, bits in module.delayed()]
+    names = list(enumerate(name for name, _, _ in module.delayed()))
     return "\n".join(
         [
-            START + "\n".join(f'    outside.push_back(delayed("{name}", {1 << bits}));' for _, (name, _, bits) in delayed),
-            CYCLE + "\n".join(answer(number, name) for number, (name, _, _) in delayed),
+            START + "\n".join(outside),
+            CYCLE + "\n".join(answer(number, name) for number, name in names),
             "        top->eval();",
             *(commit(module, name) for name in module.memories()),
-            *(line for number, (name, _, _) in delayed for line in keep(module, number, name)),
+            *(line for number, name in names for line in keep(module, number, name)),
             END,
         ]
     )
@@ -121,8 +124,9 @@ class Verilated:
         self.module = Module(text)
         loads = [f'initial $readmemh("{name}.hex", a_{name});\n' for name in self.module.arrays]
         (self.folder / "pdl.v").write_text(text.replace("endmodule", "".join(loads) + "endmodule"))
-        (self.folder / "main.cpp").write_text("#include <string>\n" + main_text(self.module))
-        self.said(["verilator", "--cc", "--exe", "--build", "-O3", "--prefix", "Vpdl", "-Wno-fatal", "main.cpp", "pdl.v"])
+        (self.folder / "main.cpp").write_text(main_text(self.module))
+        flags = ["--cc", "--exe", "--build", "-O3", "--prefix", "Vpdl", "-Wno-fatal"]
+        self.said(["verilator", *flags, "main.cpp", "pdl.v"])
 
     def said(self, words):
         """What a command prints; it has to end well."""
