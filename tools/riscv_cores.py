@@ -63,6 +63,10 @@ GUESSES = (
      "next = spec_call(is_jal ? pc + imm_j : is_branch & word[31:31] ? pc + imm_b : pc + 32'd4);"),
 )
 
+# The line of `verify` moved from execute into memory, and that of `spec_check` in decode turned into a barrier.
+VERIFY_LATER = (r"(?s)(    verify\([^\n]*\n)(.*?\n    // memory [^\n]*\n)", r"\2\1")
+BARRIER = (r"spec_check\(\);( +// who)", r"spec_barrier();\1")
+
 
 @dataclass(frozen=True)
 class Expected:
@@ -170,10 +174,15 @@ class Figures:
         return rows
 
     def guesses(self):
-        """The table of what can be guessed."""
+        """The table of what can be guessed, and of what else a line can change there."""
         rows = ["| what is guessed | the line | instructions a cycle |", "|---|---|---|"]
         for what, line in GUESSES:
             rows.append(f"| {what} | `{line}` | {self.per_cycle(GUESS.with_change(GUESS_LINE, '    ' + line))} |")
+        for what, line, change in (
+            ("the same, verified a stage later", "`verify(next, ..);` in memory", VERIFY_LATER),
+            ("the same, and none reserves before it is right", "`spec_barrier();` in decode", BARRIER),
+        ):
+            rows.append(f"| {what} | {line} | {self.per_cycle(GUESS.with_change(*change))} |")
         return rows
 
 
