@@ -114,7 +114,7 @@ def check(pdl, levels, folder):
             for version in VERSIONS:
                 runs += 1
                 stem = os.path.join(folder, "run%d" % runs)
-                found = riscv_cores.run_core(pdl, version, program.image(), 10 * program.model.count, stem)
+                found = riscv_cores.run_core(pdl, version, program.image(), version.cycles * program.model.count, stem)
                 right = program.is_right(found)
                 wrong += not right
                 says = f"right: {program.model.count} instructions in {found.last()} cycles" if right else "WRONG"
@@ -137,7 +137,7 @@ def by_verilator(pdl, folder):
             netlists[version.source] = riscv_verilator.Verilated(pdl, CORES / version.source, place)
         for program in riscv_cores.expected():
             runs += 1
-            cycles = 3 * program.instructions
+            cycles = version.cycles * program.instructions
             stem = os.path.join(folder, "run%d" % runs)
             wanted = riscv_cores.text_of_run(pdl, version, program.image(), cycles, stem)
             found = netlists[version.source].run(program.image(), cycles, slow if version.slow else None)
