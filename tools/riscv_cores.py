@@ -69,6 +69,9 @@ GUESSES = (
 VERIFY_LATER = (r"(?s)(    verify\([^\n]*\n)(.*?\n    // memory [^\n]*\n)", r"\2\1")
 BARRIER = (r"spec_check\(\);( +// who)", r"spec_barrier();\1")
 
+# A stage for the operands.
+OPERANDS = (r"(?m)^    xt = x\[t\];$", r"\g<0>\n    ---")
+
 
 @dataclass(frozen=True)
 class Expected:
@@ -158,7 +161,9 @@ class Figures:
     def versions(self):
         """The table of the versions as they stand."""
         rows = ["| version | source | instructions a cycle |", "|---|---|---|"]
-        return rows + [f"| {it.name} | `{it.source}` | {self.per_cycle(it)} |" for it in VERSIONS]
+        rows += [f"| {it.name} | `{it.source}` | {self.per_cycle(it)} |" for it in VERSIONS]
+        six = self.per_cycle(FIVE.with_change(*OPERANDS))
+        return [*rows, f"| five stages, and one for the operands | `{FIVE.source}` with one `---` more | {six} |"]
 
     def locks(self):
         """The table of each lock and size of the registers' memory."""
