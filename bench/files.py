@@ -18,6 +18,7 @@ HEAD = ("pipe p(n: uint<4>)[m: uint<8>[4] comb lock queue(1)] { a = n[1:0]; v = 
         "m[a] <- v; release(m[a]); ")
 CALL = "call(n + 4'd1); } start p(4'd0);"
 WIDE = "pipe p(n: uint<16>)[" + ", ".join(f"m{it}: uint<64>[65536] comb" for it in range(16)) + "] { call(n + 16'd1); } start p(16'd0);"
+FETCH = "pipe p(n: uint<2>)[d: uint<8>[4] delayed] { x <- d[n]; call(n + 2'd1); --- y = x; } start p(2'd0);"
 MODULE = ("module pdl_p(input wire clk, input wire [0:0] rst, output wire [0:0] v_0, output wire [0:0] g_0, "
           "output wire [0:0] ended, output wire [0:0] squash);\n")
 WIRE = "wire [0:0] n0;\nassign n0 = 1'h1;\n"
@@ -76,6 +77,8 @@ FILES = {  # the words, in which _ is the file, and what it is made of
     "image of comments": ("run a.pdl _ 1", same(COMMENT, "image 1\n")),
     "image of one line": ("run a.pdl _ 1", same("m", "image 1\n")),
     "image of all words": ("run wide.pdl _ 1", all_words),
+    "delays of rows": ("run fetch.pdl e.img 1 --delays _", same("1\n")),
+    "delays of one row": ("run fetch.pdl e.img 1 --delays _", same("1")),
     "netlist of wires": ("sim _ e.img 1", counted(lambda it: f"wire [0:0] n{it};\nassign n{it} = 1'h1;\n", MODULE,
                                                   lambda _: ENDS + "endmodule\n")),
     "netlist of registers": ("sim _ e.img 1", counted(
@@ -122,7 +125,7 @@ def ask(program, words, folder):
 def main(program, mebibytes=256, *kinds):
     with tempfile.TemporaryDirectory() as name:
         folder = pathlib.Path(name)
-        for path, text in {"a.pdl": HEAD + CALL, "wide.pdl": WIDE, "e.img": "image 1\n", "t.toml": TABLE, "t.asm": ".word 1\n"}.items():
+        for path, text in {"a.pdl": HEAD + CALL, "wide.pdl": WIDE, "fetch.pdl": FETCH, "e.img": "image 1\n", "t.toml": TABLE, "t.asm": ".word 1\n"}.items():
             (folder / path).write_text(text)
         print("| file | bytes | s | MB | bytes a byte | answer |\n|---|---|---|---|---|---|")
         for file, (words, pieces) in FILES.items():
