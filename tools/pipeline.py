@@ -1,0 +1,164 @@
+#!/usr/bin/env python3
+"""Draws the run of a pipe as books on processors do: a row for each thread, a column for each cycle.
+
+    pipeline.py PDL SOURCE IMAGE CYCLES [--delays FILE] [--konata FILE]
+
+PDL is the program. Which stages hold a thread in each cycle, and which of these threads move, are what `pdl view` prints;
+in which cycles younger threads are squashed is the port `squash` of `pdl wave`. A cell has the number of the stage in which
+the thread stands, with `*` where it doesn't move and `x` where it is squashed in that cycle. With --konata the same goes
+into a file that the viewer Konata opens.
+"""
+
+import argparse
+import pathlib
+import subprocess
+import sys
+
+from pdl_model import rules
+from pdl_model.dump import Wave
+
+
+class Thread:
+    """A thread: its number from 1 in the order in which threads begin, and its stage in each cycle."""
+
+    def __init__(self, number, begun):
+        self.number = number
+        self.begun = begun
+        self.stages = []
+        self.moves = []
+        self.is_squashed = False
+
+    def stands(self, stage, moves):
+        self.stages.append(stage)
+        self.moves.append(moves)
+
+    def cells(self):
+        """What is shown of each cycle from the first one on."""
+        shown = [f"{stage}{'' if moves else '*'}" for stage, moves in zip(self.stages, self.moves)]
+        if self.is_squashed:
+            shown[-1] = f"{self.stages[-1]}x"
+        return [""] * (self.begun - 1) + shown
+
+
+def ways_on(layout, stage):
+    """The stages to which threads go from a stage; none from the last one."""
+    if stage == layout.count - 1:
+        return []
+    fork = None if stage in layout.branch_stages else layout.fork_of(stage)
+    if fork is None:
+        return [layout.next_stage(stage, {})]
+    return [(fork.stages_of(taken) or [fork.merge])[0] for taken in (True, False)]
+
+
+def after(layout, row, squashes, next_row):
+    """Where each stage's thread of a cycle stands in the next one: its stage, or None where it has ended or is squashed."""
+    verify = layout.verify_stage()
+    found, taken = {}, set()
+    forks = []
+    for stage, letter in enumerate(row):
+        if letter == ".":
+            continue
+        ways = ways_on(layout, stage) if letter == "M" else [stage]
+        if squashes and stage < verify or not ways:
+            found[stage] = None
+        elif len(set(ways)) == 1:
+            found[stage] = ways[0]
+            taken.add(ways[0])
+        else:
+            forks.append((stage, ways))
+    for stage, ways in forks:
+        found[stage] = next(it for it in ways if next_row[it] != "." and it not in taken)
+        taken.add(found[stage])
+    return found
+
+
+def followed(layout, rows, squashes):
+    """The threads of a run, from what stands in its stages in each cycle and whether that squashes."""
+    threads, standing = [], {}
+    for cycle, row in enumerate(rows, 1):
+        if row[0] != "." and 0 not in standing:
+            standing[0] = Thread(len(threads) + 1, cycle)
+            threads.append(standing[0])
+        if set(standing) != {stage for stage, letter in enumerate(row) if letter != "."}:
+            raise ValueError(f"the stages of cycle {cycle} are not those that the threads before it lead to")
+        for stage, thread in standing.items():
+            thread.stands(stage, row[stage] == "M")
+        if cycle == len(rows):
+            break
+        places = after(layout, row, squashes[cycle - 1], rows[cycle])
+        for stage, place in places.items():
+            standing[stage].is_squashed = place is None and row[stage] == "S"
+        standing = {place: standing[stage] for stage, place in places.items() if place is not None}
+    return threads
+
+
+def chart(threads, cycles):
+    """The lines of the drawing."""
+    width = max([len(str(cycles)), *(len(cell) for it in threads for cell in it.cells())]) + 1
+    first = max(len("thread"), len(str(len(threads))))
+    lines = [f"{'thread':<{first}}" + "".join(f"{cycle:>{width}}" for cycle in range(1, cycles + 1))]
+    for it in threads:
+        lines.append(f"{it.number:<{first}}" + "".join(f"{cell:>{width}}" for cell in it.cells()))
+    return lines
+
+
+def konata(threads, cycles):
+    """The lines of a file for the viewer Konata: threads with their stages, ends and squashes."""
+    at = {cycle: [] for cycle in range(1, cycles + 2)}
+    retired = 0
+    for it in threads:
+        name = it.number - 1
+        at[it.begun] += [f"I\t{name}\t{name}\t0", f"L\t{name}\t0\tthread {it.number}"]
+        last = it.begun + len(it.stages)
+        for cycle, stage in enumerate(it.stages, it.begun):
+            before = it.stages[cycle - it.begun - 1] if cycle > it.begun else None
+            if stage != before:
+                at[cycle].append(f"S\t{name}\t0\t{stage}")
+        if last <= cycles:
+            at[last].append(f"R\t{name}\t{retired}\t{1 if it.is_squashed else 0}")
+            retired += 0 if it.is_squashed else 1
+    lines = ["Kanata\t0004", "C=\t1"]
+    for cycle in range(1, cycles + 2):
+        lines += at[cycle]
+        lines.append("C\t1")
+    return lines
+
+
+def said(words):
+    """What a command prints; where it fails, its error output and status are this program's own."""
+    ran = subprocess.run(words, capture_output=True, text=True)
+    if ran.returncode:
+        sys.stderr.write(ran.stderr)
+        sys.exit(ran.returncode)
+    return ran.stdout
+
+
+def squashes_of(program, layout, words, cycles):
+    """Whether younger threads are squashed, cycle by cycle."""
+    if layout.verify_stage() is None:
+        return [False] * cycles
+    wave = Wave(said([program, "wave", *words]))
+    port = [name for name, _ in wave.ports].index("squash")
+    return [wave.value(port, cycle) == 1 for cycle in range(1, cycles + 1)]
+
+
+def main():
+    asked = argparse.ArgumentParser(description=__doc__, formatter_class=argparse.RawDescriptionHelpFormatter)
+    asked.add_argument("program")
+    asked.add_argument("source")
+    asked.add_argument("image")
+    asked.add_argument("cycles", type=int)
+    asked.add_argument("--delays")
+    asked.add_argument("--konata")
+    it = asked.parse_args()
+    words = [it.source, it.image, str(it.cycles), *(["--delays", it.delays] if it.delays else [])]
+    rows = [line.split(" ")[1] for line in said([it.program, "view", *words]).splitlines()]
+    layout = rules.checked(pathlib.Path(it.source).read_bytes().decode("latin-1"))
+    threads = followed(layout, rows, squashes_of(it.program, layout, words, it.cycles))
+    print("\n".join(chart(threads, it.cycles)))
+    if it.konata:
+        pathlib.Path(it.konata).write_text("\n".join(konata(threads, it.cycles)) + "\n")
+
+
+if __name__ == "__main__":
+    main()
