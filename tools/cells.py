@@ -2,8 +2,10 @@
 """Counts the cells of netlists, and what Yosys leaves of the same texts: cells.py PDL SOURCE ..
 
 Of each SOURCE the text that `PDL build` writes is counted: its registers, its cells, and its gates, which are the cells
-without constants and without parts, joined and repeated nets: these are wires in Yosys. Beside them stand the gates of
-Yosys after `proc; opt -full`, without registers and memories. It needs `yosys`.
+without constants and without parts, joined and repeated nets: these are wires in Yosys. Beside them stand the gates that
+Yosys leaves by the steps of `opt -full` that leave registers as they are, without registers and memories. The choice of
+each register between its reset and its next value is a part of the register, and left out of the text for Yosys. It needs
+`yosys`.
 """
 import pathlib
 import re
@@ -13,12 +15,16 @@ import tempfile
 
 WIRE = re.compile(r"^(\d+'h[0-9a-f]+|\w+\[\d+:\d+\]|\{.*\})$")
 STATE = re.compile(r"^\$(a?l?s?d?ffs?r?e?|s?dffc?e?|mem\w*)$")
-SCRIPT = "read_verilog net.v; hierarchy -auto-top; proc; opt -full; tee -q -o stat.txt stat"
+RESET = re.compile(r"<= rst \? \d+'h[0-9a-f]+ : ")
+
+# What `opt -full` does until nothing changes any more, but for the steps that change registers.
+ROUND = "opt_muxtree; opt_reduce -full; opt_merge; opt_share; opt_clean; opt_expr -full; "
+SCRIPT = f"read_verilog net.v; hierarchy -auto-top; proc; opt_expr -full; opt_merge; {ROUND * 6} tee -q -o stat.txt stat"
 
 
 def gates_left(text, folder):
     """How many gates Yosys is left with."""
-    (folder / "net.v").write_text(text)
+    (folder / "net.v").write_text(RESET.sub("<= ", text))
     subprocess.run(["yosys", "-q", "-p", SCRIPT], cwd=folder, check=True, capture_output=True)
     kinds = re.findall(r"^\s+(\$\w+)\s+(\d+)$", (folder / "stat.txt").read_text(), re.M)
     return sum(int(count) for kind, count in kinds if not STATE.match(kind))
