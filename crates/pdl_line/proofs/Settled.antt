@@ -1,12 +1,12 @@
 -- What needs no register stays: a constant with which all that come into a stage come.
-use Rattle.std.proofs.Common.{◌≡◌, ℕ, zero, suc, ◌+◌, ◌<◌, ◌≤◌, false, ◌⊎◌, inl, inr, List, [], ◌∷◌, ◌++◌, map, length, refl, sym, ap, ◌∙◌, subst, arith, ne_eqb}
+use Rattle.std.proofs.Common.{◌≡◌, ℕ, zero, suc, ◌+◌, ◌<◌, ◌≤◌, false, ◌⊎◌, inl, inr, List, [], ◌∷◌, ◌++◌, map, length, refl, sym, ap, ap₂, ◌∙◌, subst, arith, ne_eqb}
 use Rattle.std.proofs.lemmas.Bool.{cases_lt}
 use Rattle.std.proofs.lemmas.List.{get_or_past, length-take}
 use Rattle.pdl_semantics.specs.Flat.{Pipe}
 use Rattle.pdl_form.specs.Form.{Form}
 use Rattle.pdl_machine_facts.specs.Slots.{ways}
 use Rattle.pdl_net.specs.Circuit.{Circuit, State}
-use Rattle.pdl_net.specs.Signal.{Signal, no_signal, const_value, const_signal}
+use Rattle.pdl_net.specs.Signal.{Signal, no_signal, const_value, const_signal, mux_signal}
 use Rattle.pdl_flatnets.specs.Nets.{signals_in, signal_at}
 use Rattle.pdl_flatnets.proofs.NetLists.{length_widths}
 use Rattle.pdl_port.specs.Laws.{AnswerSignals}
@@ -115,6 +115,30 @@ module _ (p : Pipe) (vs : ℕ → View) (moves : ℕ → Signal) where
       → IsSettled p vs k i f → Becomes c f (first_coming (comer_item i) (comers p vs moves k) f)
   settled_stays c short zero i f h = zero_stays c short i f h
   settled_stays c short (suc k) i f h = common_stays c k i f h
+
+  -- ---- items that all come with alike
+
+  way_alike : (q j : ℕ) (i i' : Item) → ended_item (vs j) i ≡ ended_item (vs j) i' → comer_item i (out_of p vs moves q j) ≡ comer_item i' (out_of p vs moves q j)
+  way_alike q j i i' e = comer_ends q j i ∙ e ∙ sym (comer_ends q j i')
+    where
+      comer_ends : (q j : ℕ) (i : Item) → comer_item i (out_of p vs moves q j) ≡ ended_item (vs j) i
+      comer_ends q j (Var x) = refl
+      comer_ends q j (Held m a) = refl
+      comer_ends q j (Ticket m) = refl
+      comer_ends q j (Guess i) = refl
+
+  ways_alike : (q : ℕ) (js : List ℕ) (i i' : Item) (f : Signal) → Each (λ j. ended_item (vs j) i ≡ ended_item (vs j) i') js
+      → first_coming (comer_item i) (map (out_of p vs moves q) js) f ≡ first_coming (comer_item i') (map (out_of p vs moves q) js) f
+  ways_alike q [] i i' f h = refl
+  ways_alike q (j ∷ js) i i' f h = ap₂ (λ g r. mux_signal (out_of p vs moves q j).comes g r) (way_alike q j i i' h.0) (ways_alike q js i i' f h.1)
+
+  -- into a later stage than the first the same comes for both
+  pub arrives_alike : (k : ℕ) (i i' : Item) (f : Signal) → 0 < k → Each (λ j. ended_item (vs j) i ≡ ended_item (vs j) i') (ways p k)
+      → first_coming (comer_item i) (comers p vs moves k) f ≡ first_coming (comer_item i') (comers p vs moves k) f
+  arrives_alike zero i i' f l h = absurd (omega (arith, l))
+  arrives_alike (suc k) i i' f l h =
+      subst (λ os. first_coming (comer_item i) os f ≡ first_coming (comer_item i') os f) (after_first p vs moves (suc k) (ne_eqb (suc k) 0 (λ e. omega (arith, e))))
+      (ways_alike (suc k) (ways p (suc k)) i i' f h)
 
 -- ---- answers
 

@@ -23,7 +23,7 @@ use Rattle.pdl_stageregs.specs.declared.nets.Item.{Item}
 use Rattle.pdl_stageregs.specs.declared.nets.Item.TheVariants.{Var, Held, Ticket, Guess}
 use Rattle.pdl_stageregs.specs.declared.nets.StageNets.{StageNets}
 use Rattle.pdl_stageregs.specs.Items.{item_at, item_width, is_needed, kept_item}
-use Rattle.pdl_stageregs.specs.Stages.{reg_of, view_in, IsAt, IsRegister, IsBegunBy, IsSettled}
+use Rattle.pdl_stageregs.specs.Stages.{reg_of, view_in, IsAt, IsRegister, IsBegunBy, IsSettled, IsAsVariable, IsSpared}
 use Rattle.pdl_stageregs.specs.Staged.{IsStaged, AreStaged}
 use Rattle.pdl_stageregs.proofs.Lists.{view_at, some_stage}
 use Rattle.pdl_stagenexts.specs.declared.line.Line.{Line}
@@ -31,7 +31,7 @@ use Rattle.pdl_stagenexts.specs.Lines.{line_form, line_pipe, line_views, line_mo
 use Rattle.pdl_stagenexts.specs.Nexts.{arriving, kept_signal, staying}
 use Rattle.pdl_line.specs.Made.{BeginsFirst, AreNextTickets, IsLineMade}
 use Rattle.pdl_line.proofs.Later.{made_keep}
-use Rattle.pdl_line.proofs.Settled.{AreShort, calls_short, held_item, settled_stays, settled_unanswered, held_as_kept}
+use Rattle.pdl_line.proofs.Settled.{AreShort, calls_short, held_item, settled_stays, arrives_alike, settled_unanswered, held_as_kept}
 
 -- ---- registers
 
@@ -108,17 +108,42 @@ module _ (a c d : Circuit) (x : Line) (nexts : List Signal) (answers : ℕ → �
           subst (λ (g : Signal). Becomes d g (arriving c x k (Some i) (held_item (view_in c s) i))) (sym reg)
           (becomes_next d (item_width (line_form x) nexts i) (reg_of s.regs j) (arriving c x k (Some i) (held_item (view_in c s) i)) (made.after.has_reg (reg_of s.regs j) (st.registers.kept j l).has) takes)
 
-    -- each item that is needed becomes what the comers bring
-    item_next : (i : Item) → is_needed (line_pipe x) k i ≡ true → Becomes d (kept_item (view_in c s) i) (arriving c x k (Some i) (held_item (view_in c s) i))
-    item_next i need = by (st.kept i need)
+    -- what an item becomes: what the comers bring, else what the stage holds
+    abbrev Goes : Item → Type 0
+    Goes i = Becomes d (kept_item (view_in c s) i) (arriving c x k (Some i) (held_item (view_in c s) i))
+
+    settled_next : (i : Item) → IsSettled (line_pipe x) (line_views c x) k i (kept_item (view_in c s) i) → Goes i
+    settled_next i h =
+        let un = settled_unanswered (line_pipe x) begins (line_views c x) k i (kept_item (view_in c s) i) h in
+        subst (λ (g : Signal). Becomes d (kept_item (view_in c s) i) (arriving c x k (Some i) g)) (sym (held_as_kept c (line_form x) nexts answers k s st.nets st.answered i un))
+        (settled_stays (line_pipe x) (line_views c x) (line_moves c x) d short k i (kept_item (view_in c s) i) h)
+
+    begun_next : (i : Item) → IsBegunBy (line_form x) nexts s.regs i (kept_item (view_in c s) i) (IsSettled (line_pipe x) (line_views c x) k i) → Goes i
+    begun_next i (inl h) = reg_next i h.0 h.1 h.2 h.3
+    begun_next i (inr h) = settled_next i h
+
+    -- an argument of the guess that is as a variable becomes what this becomes
+    alike_next : (i : ℕ) → IsAsVariable (line_pipe x) (line_views c x) k (signals_in c s.vars) i (kept_item (view_in c s) (Guess i)) → Goes (Guess i)
+    alike_next i h =
+        let y = h.x in
+        let twin = h.twin in
+        let held : held_item (view_in c s) (Var y) ≡ kept_item (view_in c s) (Guess i) = held_as_kept c (line_form x) nexts answers k s st.nets st.answered (Var y) twin.unanswered ∙ sym h.is in
+        let comes = arrives_alike (line_pipe x) (line_views c x) (line_moves c x) k (Guess i) (Var y) (held_item (view_in c s) (Guess i)) twin.later twin.same in
+        subst (λ (g : Signal). Becomes d (kept_item (view_in c s) (Guess i)) g) (sym comes)
+        (subst (λ (g : Signal). Becomes d (kept_item (view_in c s) (Guess i)) (arriving c x k (Some (Var y)) g)) held
+        (subst (λ (g : Signal). Becomes d g (arriving c x k (Some (Var y)) (held_item (view_in c s) (Var y)))) (sym h.is) (begun_next (Var y) (st.kept (Var y) twin.needed))))
+
+    -- each item that is needed becomes so
+    item_next : (i : Item) → is_needed (line_pipe x) k i ≡ true → Goes i
+    item_next (Var y) need = begun_next (Var y) (st.kept (Var y) need)
+    item_next (Held m v) need = begun_next (Held m v) (st.kept (Held m v) need)
+    item_next (Ticket m) need = begun_next (Ticket m) (st.kept (Ticket m) need)
+    item_next (Guess i) need = by (st.kept (Guess i) need)
       where
-        by : IsBegunBy (line_form x) nexts s.regs i (kept_item (view_in c s) i) (IsSettled (line_pipe x) (line_views c x) k i)
-            → Becomes d (kept_item (view_in c s) i) (arriving c x k (Some i) (held_item (view_in c s) i))
-        by (inl h) = reg_next i h.0 h.1 h.2 h.3
-        by (inr h) =
-            let un = settled_unanswered (line_pipe x) begins (line_views c x) k i (kept_item (view_in c s) i) h in
-            subst (λ (g : Signal). Becomes d (kept_item (view_in c s) i) (arriving c x k (Some i) g)) (sym (held_as_kept c (line_form x) nexts answers k s st.nets st.answered i un))
-            (settled_stays (line_pipe x) (line_views c x) (line_moves c x) d short k i (kept_item (view_in c s) i) h)
+        by : IsBegunBy (line_form x) nexts s.regs (Guess i) (kept_item (view_in c s) (Guess i)) (IsSpared (line_pipe x) (line_views c x) k (signals_in c s.vars) (Guess i)) → Goes (Guess i)
+        by (inl h) = reg_next (Guess i) h.0 h.1 h.2 h.3
+        by (inr (inl h)) = settled_next (Guess i) h
+        by (inr (inr h)) = alike_next i h
 
     -- whether it holds a thread becomes whether one comes, else whether its own stays
     valid_next : Becomes d (reg_signal 1 s.regs.valid) (arriving c x k None (staying c x k s))

@@ -7,6 +7,7 @@ use Rattle.pdl_form.specs.Form.{Form}
 use Rattle.pdl_net.specs.Circuit.{Circuit}
 use Rattle.pdl_net.specs.Signal.{Signal, const_signal, reg_signal}
 use Rattle.pdl_net.specs.Growth.{Keeps}
+use Rattle.pdl_flatnets.specs.Nets.{signals_in}
 use Rattle.pdl_port.specs.Laws.{AnswerSignals}
 use Rattle.pdl_pipe_law.specs.Walk.{Locks}
 use Rattle.pdl_pipe_law.specs.Views.{View}
@@ -17,7 +18,7 @@ use Rattle.pdl_stageregs.specs.declared.nets.Item.{Item}
 use Rattle.pdl_stageregs.specs.declared.nets.Item.TheVariants.{Var, Held, Ticket, Guess}
 use Rattle.pdl_stageregs.specs.declared.nets.StageNets.{StageNets}
 use Rattle.pdl_stageregs.specs.Items.{item_at, item_width, first_value, is_needed, kept_item, IsZero}
-use Rattle.pdl_stageregs.specs.Stages.{reg_of, view_in, views_in, IsBegunBy, IsSettled}
+use Rattle.pdl_stageregs.specs.Stages.{reg_of, view_in, views_in, IsBegunBy, IsSettled, IsSpared}
 use Rattle.pdl_stageregs.specs.Staged.{IsStaged}
 use Rattle.pdl_stageregs.proofs.Lists.{view_at, some_stage}
 use Rattle.pdl_stagenexts.specs.declared.line.Line.{Line}
@@ -34,13 +35,21 @@ starts_zero d p (Held m v) g h = subst (λ (y : Signal). StartsAs d y 0) (sym h)
 starts_zero d p (Ticket m) g h = subst (λ (y : Signal). StartsAs d y 0) (sym h) (starts_const d 1 0)
 starts_zero d p (Guess i) g h = subst (λ (y : Signal). StartsAs d y 0) (sym h.1) (starts_const d h.0 0)
 
+-- in stage 0 nothing is as a variable
+first_settled : (p : Pipe) (us : ℕ → View) (vars : List Signal) (i : Item) (g : Signal) → IsSpared p us 0 vars i g → IsSettled p us 0 i g
+first_settled p us vars (Var x) g h = h
+first_settled p us vars (Held m v) g h = h
+first_settled p us vars (Ticket m) g h = h
+first_settled p us vars (Guess i) g (inl h) = h
+first_settled p us vars (Guess i) g (inr h) = let l = h.twin.later in absurd (omega (arith, l))
+
 module _ (c d : Circuit) (f : Form) (nexts : List Signal) (answers : ℕ → ℕ → AnswerSignals) (ls : Locks) (ss : List StageNets) (keeps : Keeps c d) (s : StageNets) (st : IsStaged c f nexts answers ls ss 0 s) where
   starts_item : (i : Item) → is_needed f.pipe 0 i ≡ true → StartsAs d (kept_item (view_in c s) i) (first_value f.pipe 0 i)
   starts_item i need = by (st.kept i need)
     where
-      by : IsBegunBy f nexts s.regs i (kept_item (view_in c s) i) (IsSettled f.pipe (views_in c ss) 0 i)
+      by : IsBegunBy f nexts s.regs i (kept_item (view_in c s) i) (IsSpared f.pipe (views_in c ss) 0 (signals_in c s.vars) i)
           → StartsAs d (kept_item (view_in c s) i) (first_value f.pipe 0 i)
-      by (inr h) = starts_zero d f.pipe i (kept_item (view_in c s) i) h
+      by (inr h) = starts_zero d f.pipe i (kept_item (view_in c s) i) (first_settled f.pipe (views_in c ss) (signals_in c s.vars) i (kept_item (view_in c s) i) h)
       by (inl h) =
           let j = h.0 in
           let l : j < length s.regs.items = h.1 in

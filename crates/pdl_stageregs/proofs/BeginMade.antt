@@ -39,11 +39,11 @@ use Rattle.pdl_stageregs.specs.declared.nets.Earlier.{Earlier}
 use Rattle.pdl_stageregs.specs.declared.nets.Shared.{Shared}
 use Rattle.pdl_stageregs.specs.declared.nets.StageNets.{StageNets}
 use Rattle.pdl_stageregs.specs.Items.{is_needed, ended_item}
-use Rattle.pdl_stageregs.specs.Stages.{begun_parts, IsFrame, IsBegun, IsBegunBy, IsSettled, IsThereBegun, HasKept, AreOwn}
-use Rattle.pdl_stageregs.specs.Begun.{earlier_views, earlier_count, is_listed, IsShared, IsEnded, IsEarlier, AreBegun, AreHeldBegun, HasAllHeld, AreNextTickets, AreAnswered, IsFresh}
+use Rattle.pdl_stageregs.specs.Stages.{begun_parts, IsFrame, IsBegun, IsBegunBy, IsSettled, IsSpared, IsThereBegun, HasKept, AreOwn}
+use Rattle.pdl_stageregs.specs.Begun.{earlier_views, earlier_count, is_listed, IsShared, IsEnded, IsEarlier, IsSettledAfter, IsSparedAfter, AreBegun, AreHeldBegun, HasAllHeld, AreNextTickets, AreAnswered, IsFresh}
 use Rattle.pdl_stageregs.proofs.Lists.{each_at, each_map, view_at, some_stage}
 use Rattle.pdl_stageregs.proofs.Keeping.{by_weaker}
-use Rattle.pdl_stageregs.proofs.Begins.{next_keep, ends_same, each_way, settled_as}
+use Rattle.pdl_stageregs.proofs.Begins.{next_keep, ends_same, each_way, settled_as, spared_as}
 use Rattle.pdl_stageregs.proofs.HeldsBegun.{held_none, helds_as}
 use Rattle.pdl_stageregs.proofs.ReadWords.{past_unanswered}
 use Rattle.pdl_word.specs.Each.{Each}
@@ -101,16 +101,25 @@ module _ (a : Circuit) (f : Form) (x : Earlier) (s : Shared) (shared : IsShared 
   ends : (i : Item) (j : ℕ) → j < earlier_count x → ended_item (earlier_views a x j) i ≡ ended_item (earlier_views b x j) i
   ends i j l = sym (ends_same a b f (signals_in a s.next) x.stages.now i e earlier.ended j l)
 
-  pub begun_from : (c : Circuit) (r : Kept) (item : ℕ → Item) (needed : ℕ → Bool) (ws : List ℕ) (xs : List Net) → AreBegun c f (signals_in b s.next) (earlier_views b x) (earlier_count x) r item needed ws xs → AreBegun c f (signals_in a s.next) (earlier_views a x) (earlier_count x) r item needed ws xs
-  begun_from c r item needed ws xs h =
-      let k = earlier_count x in
-      let now = subst (λ fs. AreBegun c f fs (earlier_views b x) k r item needed ws xs) nexts_same h in
+  begun_from : (c : Circuit) (r : Kept) (item : ℕ → Item) (needed : ℕ → Bool) (S T : ℕ → Signal → Type 0) (ws : List ℕ) (xs : List Net) → ((i : ℕ) (g : Signal) → S i g → T i g) → AreBegun c f (signals_in b s.next) r item needed S ws xs → AreBegun c f (signals_in a s.next) r item needed T ws xs
+  begun_from c r item needed S T ws xs weaker h =
+      let now = subst (λ fs. AreBegun c f fs r item needed S ws xs) nexts_same h in
       record {
         there = now.there;
         wide = now.wide;
-        begun = λ i l need. by_weaker f (signals_in a s.next) r (item i) (signal_at (signals_in c xs) i) (IsSettled f.pipe (earlier_views b x) k (item i)) (IsSettled f.pipe (earlier_views a x) k (item i))
-            (λ z. settled_as f.pipe (earlier_views b x) (earlier_views a x) k (item i) (signal_at (signals_in c xs) i) (ends (item i)) z) (now.begun i l need);
+        begun = λ i l need. by_weaker f (signals_in a s.next) r (item i) (signal_at (signals_in c xs) i) (S i) (T i) (λ z. weaker i (signal_at (signals_in c xs) i) z) (now.begun i l need);
       }
+
+  pub vars_from : (c : Circuit) (r : Kept) (needed : ℕ → Bool) (ws : List ℕ) (xs : List Net) → AreBegun c f (signals_in b s.next) r Var needed (λ y. IsSettledAfter b f x (Var y)) ws xs → AreBegun c f (signals_in a s.next) r Var needed (λ y. IsSettledAfter a f x (Var y)) ws xs
+  vars_from c r needed ws xs h =
+      begun_from c r Var needed (λ y. IsSettledAfter b f x (Var y)) (λ y. IsSettledAfter a f x (Var y)) ws xs (λ y g z. settled_as f.pipe (earlier_views b x) (earlier_views a x) (earlier_count x) (Var y) g (ends (Var y)) z) h
+
+  -- where the variables have the same signals in another circuit
+  pub guess_from : (c d : Circuit) (r : Kept) (needed : ℕ → Bool) (ws : List ℕ) (vars xs : List Net) → signals_in d vars ≡ signals_in b vars → AreBegun c f (signals_in b s.next) r Guess needed (λ i. IsSparedAfter b f x vars (Guess i)) ws xs
+      → AreBegun c f (signals_in a s.next) r Guess needed (λ i. IsSpared f.pipe (earlier_views a x) (earlier_count x) (signals_in d vars) (Guess i)) ws xs
+  guess_from c d r needed ws vars xs same h =
+      begun_from c r Guess needed (λ i. IsSparedAfter b f x vars (Guess i)) (λ i. IsSpared f.pipe (earlier_views a x) (earlier_count x) (signals_in d vars) (Guess i)) ws xs
+      (λ i g z. spared_as f.pipe (earlier_views b x) (earlier_views a x) (earlier_count x) (signals_in b vars) (signals_in d vars) (Guess i) g ends same z) h
 
   pub helds_from : (c : Circuit) (r : Kept) (hs : List HeldNet) → AreHeldBegun c f (signals_in b s.next) (earlier_views b x) (earlier_count x) r hs → AreHeldBegun c f (signals_in a s.next) (earlier_views a x) (earlier_count x) r hs
   helds_from c r hs h =
@@ -128,12 +137,12 @@ module _ (a : Circuit) (f : Form) (x : Earlier) (s : Shared) (shared : IsShared 
 pub record HasParts (c : Circuit) (f : Form) (nexts : List Signal) (answers : ℕ → ℕ → AnswerSignals) (us : ℕ → View) (k : ℕ) (bits : Bits) (s : StageNets) : Type 0 where
   pub frame : IsFrame c f nexts k s.regs
   pub own : AreOwn f k s.regs
-  pub vars : AreBegun c f nexts us k s.regs Var (lives_from f.pipe k) f.widths s.vars
+  pub vars : AreBegun c f nexts s.regs Var (lives_from f.pipe k) (λ x. IsSettled f.pipe us k (Var x)) f.widths s.vars
   pub held : AreHeldBegun c f nexts us k s.regs s.held
   pub all : Each (λ j. HasAllHeld f.pipe k (us j) s.held) (ways f.pipe k)
-  pub tickets : AreBegun c f nexts us k s.regs Ticket (goes_with f.pipe k) (widths_of nexts) s.tickets
+  pub tickets : AreBegun c f nexts s.regs Ticket (goes_with f.pipe k) (λ m. IsSettled f.pipe us k (Ticket m)) (widths_of nexts) s.tickets
   pub next : AreNextTickets c f.pipe nexts k s.tickets
-  pub guess : AreBegun c f nexts us k s.regs Guess (λ i. verifies_from f.pipe k) (param_widths f) s.guess
+  pub guess : AreBegun c f nexts s.regs Guess (λ i. verifies_from f.pipe k) (λ i. IsSpared f.pipe us k (signals_in c s.vars) (Guess i)) (param_widths f) s.guess
   pub answered : AreAnswered c f answers k s.vars s.begun
   pub bits_are : AreBits c bits
   pub fresh : IsFresh bits s.begun s.held s.guess s.end

@@ -27,7 +27,7 @@ use Rattle.pdl_stageregs.specs.declared.nets.Shared.{Shared}
 use Rattle.pdl_stageregs.specs.declared.nets.Earlier.{Earlier}
 use Rattle.pdl_stageregs.specs.declared.nets.StageNets.{StageNets}
 use Rattle.pdl_stageregs.specs.Items.{ended_item, item_width, first_value}
-use Rattle.pdl_stageregs.specs.Stages.{end_of, view_in, views_in, IsFrame, IsBegunBy, IsSettled, AreOwn}
+use Rattle.pdl_stageregs.specs.Stages.{end_of, view_in, views_in, IsFrame, IsBegunBy, IsSettled, IsTwin, IsSpared, AreOwn}
 use Rattle.pdl_stageregs.specs.Begun.{IsShared, IsEnded, AreEnded, IsEarlier, MayAdd, MayBegin, AreBegun, IsLonger}
 use Rattle.pdl_stageregs.proofs.Lists.{each_at, each_map, view_at, some_stage, up_to}
 use Rattle.pdl_stageregs.proofs.Keeping.{frame_may, own_more, longer_may, by_longer, by_new, by_weaker, may_there, may_wide}
@@ -112,12 +112,36 @@ pub may_as : (c : Circuit) (r t : Kept) (i : Item) (w v : ℕ) (net : Net) (S Se
 may_as c r t i w v net S Settled k (inl m) = inl record { regs = m.regs; net_is = m.net_is; register = m.register }
 may_as c r t i w v net S Settled k (inr m) = inr record { regs = m.regs; there = m.there; wide = m.wide; settled = k (signal c net) m.settled }
 
-pub begin_as : (c : Circuit) (f : Form) (nexts : List Signal) (us vs : ℕ → View) (k : ℕ) (needed : Bool) (r t : Kept) (i : Item) (net : Net) → ((j : ℕ) → j < k → ended_item (vs j) i ≡ ended_item (us j) i) → MayBegin c f nexts us k needed r t i net
-    → MayBegin c f nexts vs k needed r t i net
-begin_as c f nexts us vs k needed r t i net same h = record {
-  may = may_as c r t i (item_width f nexts i) (first_value f.pipe k i) net (λ g. needed ≡ true → IsSettled f.pipe us k i g) (λ g. needed ≡ true → IsSettled f.pipe vs k i g) (λ g q e. settled_as f.pipe us vs k i g same (q e)) h.may;
+pub begin_as : (c : Circuit) (f : Form) (nexts : List Signal) (k : ℕ) (needed : Bool) (r t : Kept) (i : Item) (net : Net) (S Settled : Signal → Type 0) → ((g : Signal) → S g → Settled g) → MayBegin c f nexts k needed r t i net S
+    → MayBegin c f nexts k needed r t i net Settled
+begin_as c f nexts k needed r t i net S Settled weaker h = record {
+  may = may_as c r t i (item_width f nexts i) (first_value f.pipe k i) net (λ g. needed ≡ true → S g) (λ g. needed ≡ true → Settled g) (λ g q e. weaker g (q e)) h.may;
   own = h.own;
 }
+
+-- and what needs no register, where the variables have the same signals
+twin_as : (p : Pipe) (us vs : ℕ → View) (k i x : ℕ) → ((i : Item) (j : ℕ) → j < k → ended_item (vs j) i ≡ ended_item (us j) i) → IsTwin p us k i x → IsTwin p vs k i x
+twin_as p us vs k i x same h = record {
+  later = h.later;
+  some = h.some;
+  same = each_both (λ j. j < k) (λ j. ended_item (us j) (Guess i) ≡ ended_item (us j) (Var x)) (λ j. ended_item (vs j) (Guess i) ≡ ended_item (vs j) (Var x)) (ways p k) (λ j l e. same (Guess i) j l ∙ e ∙ sym (same (Var x) j l)) (each_way p k (λ j. j < k) (λ j l. l)) h.same;
+  needed = h.needed;
+  unanswered = h.unanswered;
+}
+
+pub spared_as : (p : Pipe) (us vs : ℕ → View) (k : ℕ) (fs gs : List Signal) (i : Item) (g : Signal) → ((i : Item) (j : ℕ) → j < k → ended_item (vs j) i ≡ ended_item (us j) i) → gs ≡ fs → IsSpared p us k fs i g → IsSpared p vs k gs i g
+spared_as p us vs k fs gs (Var x) g same e h = settled_as p us vs k (Var x) g (same (Var x)) h
+spared_as p us vs k fs gs (Held m a) g same e h = settled_as p us vs k (Held m a) g (same (Held m a)) h
+spared_as p us vs k fs gs (Ticket m) g same e h = settled_as p us vs k (Ticket m) g (same (Ticket m)) h
+spared_as p us vs k fs gs (Guess i) g same e (inl h) = inl (settled_as p us vs k (Guess i) g (same (Guess i)) h)
+spared_as p us vs k fs gs (Guess i) g same e (inr h) = inr record { x = h.x; twin = twin_as p us vs k i h.x same h.twin; is = h.is ∙ ap (λ l. signal_at l h.x) (sym e) }
+
+-- what is settled needs none
+pub settled_spared : (p : Pipe) (us : ℕ → View) (k : ℕ) (fs : List Signal) (i : Item) (g : Signal) → IsSettled p us k i g → IsSpared p us k fs i g
+settled_spared p us k fs (Var x) g h = h
+settled_spared p us k fs (Held m a) g h = h
+settled_spared p us k fs (Ticket m) g h = h
+settled_spared p us k fs (Guess i) g h = inl h
 
 -- ---- lists of nets
 
@@ -169,70 +193,70 @@ module _ (b c : Circuit) (e : Keeps b c) (ws : List ℕ) (i : ℕ) (xs : List Ne
 
 -- ---- items of a kind
 
-module _ (f : Form) (nexts : List Signal) (us : ℕ → View) (k : ℕ) (item : ℕ → Item) (needed : ℕ → Bool) (ws : List ℕ) where
+module _ (f : Form) (nexts : List Signal) (item : ℕ → Item) (needed : ℕ → Bool) (S : ℕ → Signal → Type 0) (ws : List ℕ) where
   -- they stay
-  pub begun_keep : (b c : Circuit) (r t : Kept) (xs : List Net) → Keeps b c → IsLonger r t → AreBegun b f nexts us k r item needed ws xs → AreBegun c f nexts us k t item needed ws xs
+  pub begun_keep : (b c : Circuit) (r t : Kept) (xs : List Net) → Keeps b c → IsLonger r t → AreBegun b f nexts r item needed S ws xs → AreBegun c f nexts t item needed S ws xs
   begun_keep b c r t xs e l h =
       let same = signals_keep b c xs e h.there in
       record {
         there = there_keeps b c xs e h.there;
         wide = ap widths_of same ∙ h.wide;
-        begun = λ i low need. by_longer f nexts r t (item i) (signal_at (signals_in c xs) i) (IsSettled f.pipe us k (item i)) l
-            (subst (λ fs. IsBegunBy f nexts r (item i) (signal_at fs i) (IsSettled f.pipe us k (item i))) (sym same) (h.begun i low need));
+        begun = λ i low need. by_longer f nexts r t (item i) (signal_at (signals_in c xs) i) (S i) l
+            (subst (λ fs. IsBegunBy f nexts r (item i) (signal_at fs i) (S i)) (sym same) (h.begun i low need));
       }
 
-module _ (f : Form) (nexts : List Signal) (us : ℕ → View) (k : ℕ) (item : ℕ → Item) (needed : ℕ → Bool) (ws : List ℕ) where
-  pub begun_none : (c : Circuit) (r : Kept) → AreBegun c f nexts us k r item needed (take 0 ws) []
+module _ (f : Form) (nexts : List Signal) (k : ℕ) (item : ℕ → Item) (needed : ℕ → Bool) (S : ℕ → Signal → Type 0) (ws : List ℕ) where
+  pub begun_none : (c : Circuit) (r : Kept) → AreBegun c f nexts r item needed S (take 0 ws) []
   begun_none c r = record { there = tt; wide = refl; begun = λ i low. absurd (omega (arith, low)) }
 
   -- one more
-  pub begun_more : (b c : Circuit) (r t : Kept) (i : ℕ) (xs : List Net) (net : Net) → i < length ws → Extends b c → MayBegin c f nexts us k (needed i) r t (item i) net → item_width f nexts (item i) ≡ slice_index ws i
-      → AreBegun b f nexts us k r item needed (take i ws) xs → AreBegun c f nexts us k t item needed (take (i + 1) ws) (xs ++ net ∷ [])
+  pub begun_more : (b c : Circuit) (r t : Kept) (i : ℕ) (xs : List Net) (net : Net) → i < length ws → Extends b c → MayBegin c f nexts k (needed i) r t (item i) net (S i) → item_width f nexts (item i) ≡ slice_index ws i
+      → AreBegun b f nexts r item needed S (take i ws) xs → AreBegun c f nexts t item needed S (take (i + 1) ws) (xs ++ net ∷ [])
   begun_more b c r t i xs net low bc may wide h =
       let e = extends_keeps b c bc in
       let W = item_width f nexts (item i) in
       let V = first_value f.pipe k (item i) in
-      let S = λ (g : Signal). needed i ≡ true → IsSettled f.pipe us k (item i) g in
-      let nets = push_nets b c e ws i xs net low h.there h.wide (may_there c r t (item i) W V net S may.may) (may_wide c r t (item i) W V net S may.may ∙ wide) in
+      let N = λ (g : Signal). needed i ≡ true → S i g in
+      let nets = push_nets b c e ws i xs net low h.there h.wide (may_there c r t (item i) W V net N may.may) (may_wide c r t (item i) W V net N may.may ∙ wide) in
       record {
         there = nets.there;
         wide = nets.wide;
-        begun = λ y l need. up_to (λ y. needed y ≡ true → IsBegunBy f nexts t (item y) (signal_at (signals_in c (xs ++ net ∷ [])) y) (IsSettled f.pipe us k (item y))) i
-            (λ y q n. by_longer f nexts r t (item y) _ (IsSettled f.pipe us k (item y)) (longer_may c r t (item i) W V net S may.may)
-            (subst (λ g. IsBegunBy f nexts r (item y) g (IsSettled f.pipe us k (item y))) (sym (push_old b c e ws i xs net low h.there h.wide y q)) (h.begun y (let m = length-take i ws in omega (arith, q, m, low)) n)))
-            (λ n. subst (λ g. IsBegunBy f nexts t (item i) g (IsSettled f.pipe us k (item i))) (sym (push_new b c e ws i xs net low h.there h.wide))
-            (by_weaker f nexts t (item i) (signal c net) S (IsSettled f.pipe us k (item i)) (λ q. q n) (by_new f nexts c r t (item i) V net S may.may)))
+        begun = λ y l need. up_to (λ y. needed y ≡ true → IsBegunBy f nexts t (item y) (signal_at (signals_in c (xs ++ net ∷ [])) y) (S y)) i
+            (λ y q n. by_longer f nexts r t (item y) _ (S y) (longer_may c r t (item i) W V net N may.may)
+            (subst (λ g. IsBegunBy f nexts r (item y) g (S y)) (sym (push_old b c e ws i xs net low h.there h.wide y q)) (h.begun y (let m = length-take i ws in omega (arith, q, m, low)) n)))
+            (λ n. subst (λ g. IsBegunBy f nexts t (item i) g (S i)) (sym (push_new b c e ws i xs net low h.there h.wide))
+            (by_weaker f nexts t (item i) (signal c net) N (S i) (λ q. q n) (by_new f nexts c r t (item i) V net N may.may)))
             y (let m = length-take (i + 1) ws in omega (arith, l, m, low)) need;
       }
 
 -- the first of them, with the registers
-pub record SoFar (a c : Circuit) (f : Form) (nexts : List Signal) (us : ℕ → View) (k : ℕ) (r0 r : Kept) (item : ℕ → Item) (needed : ℕ → Bool) (ws : List ℕ) (xs : List Net) : Type 0 where
+pub record SoFar (a c : Circuit) (f : Form) (nexts : List Signal) (k : ℕ) (r0 r : Kept) (item : ℕ → Item) (needed : ℕ → Bool) (Settled : ℕ → Signal → Type 0) (ws : List ℕ) (xs : List Net) : Type 0 where
   pub extends : Extends a c
   pub frame : IsFrame c f nexts k r
   pub own : AreOwn f k r
   pub longer : IsLonger r0 r
-  pub begun : AreBegun c f nexts us k r item needed ws xs
+  pub begun : AreBegun c f nexts r item needed Settled ws xs
 
-module _ (a : Circuit) (f : Form) (nexts : List Signal) (us : ℕ → View) (k : ℕ) (r0 : Kept) (item : ℕ → Item) (needed : ℕ → Bool) (ws : List ℕ) where
-  pub sofar_none : IsFrame a f nexts k r0 → AreOwn f k r0 → Extends a a → SoFar a a f nexts us k r0 r0 item needed (take 0 ws) []
+module _ (a : Circuit) (f : Form) (nexts : List Signal) (k : ℕ) (r0 : Kept) (item : ℕ → Item) (needed : ℕ → Bool) (S : ℕ → Signal → Type 0) (ws : List ℕ) where
+  pub sofar_none : IsFrame a f nexts k r0 → AreOwn f k r0 → Extends a a → SoFar a a f nexts k r0 r0 item needed S (take 0 ws) []
   sofar_none frame own none = record {
     extends = none;
     frame = frame;
     own = own;
     longer = Rattle.pdl_stageregs.proofs.Keeping.longer_none r0;
-    begun = begun_none f nexts us k item needed ws a r0;
+    begun = begun_none f nexts k item needed S ws a r0;
   }
 
-  pub sofar_more : (b c : Circuit) (r t : Kept) (i : ℕ) (xs : List Net) (net : Net) → i < length ws → Extends b c → MayBegin c f nexts us k (needed i) r t (item i) net → end_of t ≡ length c.regs → item_width f nexts (item i) ≡ slice_index ws i
-      → SoFar a b f nexts us k r0 r item needed (take i ws) xs → SoFar a c f nexts us k r0 t item needed (take (i + 1) ws) (xs ++ net ∷ [])
+  pub sofar_more : (b c : Circuit) (r t : Kept) (i : ℕ) (xs : List Net) (net : Net) → i < length ws → Extends b c → MayBegin c f nexts k (needed i) r t (item i) net (S i) → end_of t ≡ length c.regs → item_width f nexts (item i) ≡ slice_index ws i
+      → SoFar a b f nexts k r0 r item needed S (take i ws) xs → SoFar a c f nexts k r0 t item needed S (take (i + 1) ws) (xs ++ net ∷ [])
   sofar_more b c r t i xs net low bc may last wide h =
       let W = item_width f nexts (item i) in
       let V = first_value f.pipe k (item i) in
-      let S = λ (g : Signal). needed i ≡ true → IsSettled f.pipe us k (item i) g in
+      let N = λ (g : Signal). needed i ≡ true → S i g in
       record {
         extends = Rattle.pdl_net.proofs.Keeps.extends_trans a b c h.extends bc;
-        frame = frame_may f nexts k b c r t (item i) net S bc may.may last h.frame;
-        own = own_more c f k (item i) r t W V net S may.may may.own h.own;
-        longer = Rattle.pdl_stageregs.proofs.Keeping.longer_trans r0 r t h.longer (longer_may c r t (item i) W V net S may.may);
-        begun = begun_more f nexts us k item needed ws b c r t i xs net low bc may wide h.begun;
+        frame = frame_may f nexts k b c r t (item i) net N bc may.may last h.frame;
+        own = own_more c f k (item i) r t W V net N may.may may.own h.own;
+        longer = Rattle.pdl_stageregs.proofs.Keeping.longer_trans r0 r t h.longer (longer_may c r t (item i) W V net N may.may);
+        begun = begun_more f nexts k item needed S ws b c r t i xs net low bc may wide h.begun;
       }

@@ -5,8 +5,8 @@ use Rattle.pdl_semantics.specs.Flat.{Pipe}
 use Rattle.pdl_form.specs.Form.{Form}
 use Rattle.pdl_machine_facts.specs.Slots.{ways}
 use Rattle.pdl_net.specs.declared.Net.{Net}
-use Rattle.pdl_net.specs.Circuit.{Circuit}
-use Rattle.pdl_net.specs.Signal.{Signal}
+use Rattle.pdl_net.specs.Circuit.{Circuit, State}
+use Rattle.pdl_net.specs.Signal.{Signal, const_value}
 use Rattle.pdl_net.specs.Meaning.{signal}
 use Rattle.pdl_flatnets.specs.Nets.{signals_in}
 use Rattle.pdl_flatnets.proofs.NetLists.{width_at}
@@ -17,12 +17,19 @@ use Rattle.pdl_stageregs.specs.declared.nets.Item.{Item}
 use Rattle.pdl_stageregs.specs.declared.nets.Item.TheVariants.{Var, Held, Ticket, Guess}
 use Rattle.pdl_stageregs.specs.declared.nets.Earlier.{Earlier}
 use Rattle.pdl_stageregs.specs.declared.nets.StageNets.{StageNets}
-use Rattle.pdl_stageregs.specs.Items.{ended_item, item_width, is_answered}
-use Rattle.pdl_stageregs.specs.Stages.{view_in, IsSettled}
+use Rattle.pdl_stageregs.specs.Items.{ended_item, item_width, is_answered, IsConstant}
+use Rattle.pdl_stageregs.specs.Stages.{view_in, IsSettled, IsTwin}
 use Rattle.pdl_stageregs.specs.Begun.{earlier_views, earlier_count, IsEnded, IsEarlier, IsItem, IsCommonNet}
 use Rattle.pdl_stageregs.proofs.Lists.{each_at, view_at, some_stage}
 use Rattle.pdl_stagenets.proofs.Lists.{each_at as each_in}
 use Rattle.pdl_word.specs.Each.{Each}
+
+abbrev signal_of : ℕ → (State → ℕ) → Signal
+signal_of w x = record { width = w; value = x }
+
+-- a signal of one value is a constant
+pub constant_is : (g : Signal) (v : ℕ) → g.value ≡ const_value v → IsConstant g
+constant_is g v e = (g.width, v, ap (λ (x : State → ℕ). signal_of g.width x) e)
 
 pub take_index : (n x : ℕ) (ws : List ℕ) → x < length (take n ws) → slice_index (take n ws) x ≡ slice_index ws x
 take_index zero x ws l = absurd (omega (arith, l))
@@ -48,7 +55,16 @@ common_width c f nexts x i net h item common =
     ap (λ (g : Signal). g.width) (sym (common.same 0 common.some))
     ∙ coming_width c f nexts x (slice_index x.ways.now 0) i h (each_in (λ j. j < length x.stages.now) x.ways.now 0 0 common.some h.low) item
 
-each_from : (P : ℕ → Type 0) (js : List ℕ) → ((k : ℕ) → k < length js → P (slice_index js k)) → Each P js
+-- a variable that is a twin is as wide
+pub twin_width : (c : Circuit) (f : Form) (nexts : List Signal) (e : Earlier) (i x : ℕ) → IsEarlier c f nexts e → IsItem f (Guess i) → IsItem f (Var x) → IsTwin f.pipe (earlier_views c e) (earlier_count e) i x → slice_index f.widths x ≡ slice_index f.widths i
+twin_width c f nexts e i x h guess var twin =
+    let js = ways f.pipe (earlier_count e) in
+    let j = slice_index js 0 in
+    let same = each_in (λ j. ended_item (earlier_views c e j) (Guess i) ≡ ended_item (earlier_views c e j) (Var x)) js 0 0 twin.some twin.same in
+    let low = each_in (λ j. j < length e.stages.now) js 0 0 twin.some (subst (Each (λ j. j < length e.stages.now)) h.ways h.low) in
+    sym (coming_width c f nexts e j (Var x) h low var) ∙ ap (λ (g : Signal). g.width) (sym same) ∙ coming_width c f nexts e j (Guess i) h low guess
+
+pub each_from : (P : ℕ → Type 0) (js : List ℕ) → ((k : ℕ) → k < length js → P (slice_index js k)) → Each P js
 each_from P [] h = tt
 each_from P (j ∷ js) h = (h 0 (omega arith), each_from P js (λ k l. h (suc k) (omega (arith, l))))
 

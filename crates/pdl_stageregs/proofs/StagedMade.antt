@@ -1,5 +1,5 @@
 -- A stage after its statements, and how it stays while the circuit and the list of stages grow.
-use Rattle.std.proofs.Common.{◌≡◌, ℕ, zero, suc, ◌<◌, ◌≤◌, List, [], ◌∷◌, ◌++◌, map, length, get_or, sym, ap, ap₂, ◌∙◌, subst, arith}
+use Rattle.std.proofs.Common.{◌≡◌, ℕ, zero, suc, ◌<◌, ◌≤◌, List, [], ◌∷◌, ◌++◌, map, length, get_or, refl, sym, ap, ap₂, ◌∙◌, subst, arith}
 use Rattle.std.proofs.lemmas.List.{get_or_append_left, length-append, length-map, map-append}
 use Rattle.std.proofs.Math.Seq.{get_or-append_seam}
 use Rattle.pdl_semantics.specs.Flat.{Pipe, Stmt}
@@ -30,12 +30,12 @@ use Rattle.pdl_stageregs.specs.declared.nets.Item.{Item}
 use Rattle.pdl_stageregs.specs.declared.nets.Item.TheVariants.{Var, Held, Ticket, Guess}
 use Rattle.pdl_stageregs.specs.declared.nets.StageNets.{StageNets}
 use Rattle.pdl_stageregs.specs.Items.{kept_item, ended_item}
-use Rattle.pdl_stageregs.specs.Stages.{begun_parts, view_in, views_in, no_view, IsThereBegun, HasTickets, HasKept, HasAnswered, IsBegun, IsBegunBy, IsSettled, IsAt}
+use Rattle.pdl_stageregs.specs.Stages.{begun_parts, view_in, views_in, no_view, IsThereBegun, HasTickets, HasKept, HasAnswered, IsBegun, IsBegunBy, IsSpared, IsAt}
 use Rattle.pdl_stageregs.specs.Begun.{AreEnded}
 use Rattle.pdl_stageregs.specs.Staged.{IsStaged, AreStaged}
 use Rattle.pdl_stageregs.proofs.Lists.{up_to}
 use Rattle.pdl_stageregs.proofs.Keeping.{registers_keep, by_weaker}
-use Rattle.pdl_stageregs.proofs.Begins.{ends_same, settled_as}
+use Rattle.pdl_stageregs.proofs.Begins.{ends_same, spared_as}
 use Rattle.pdl_word.specs.Each.{Each}
 use Rattle.pdl_word.proofs.Each.{each_weaker}
 
@@ -75,13 +75,14 @@ module _ (c d : Circuit) (e : Keeps c d) where
       ap (λ fs. signal_at fs x) (signals_keep c d s.begun e t.begun) ∙ h x l ∙ ap (λ fs. with_answer f.pipe answers k x (signal_at fs x)) (sym (signals_keep c d s.vars e t.vars))
 
   -- what it needs no register for, by the views of the stages before it, as they stood in an earlier circuit
-  kept_keep : (a : Circuit) (f : Form) (nexts : List Signal) (ss : List StageNets) (k : ℕ) (s t : StageNets) → Keeps a d → AreEnded a f nexts ss → k ≤ length ss → ((i : Item) → kept_item (view_in d t) i ≡ kept_item (view_in c s) i) → t.regs ≡ s.regs
+  kept_keep : (a : Circuit) (f : Form) (nexts : List Signal) (ss : List StageNets) (k : ℕ) (s t : StageNets) → Keeps a d → AreEnded a f nexts ss → k ≤ length ss → ((i : Item) → kept_item (view_in d t) i ≡ kept_item (view_in c s) i) → signals_in d t.vars ≡ signals_in c s.vars → t.regs ≡ s.regs
       → HasKept c f nexts (views_in a ss) k s → HasKept d f nexts (views_in d ss) k t
-  kept_keep a f nexts ss k s t ad ends low same regs h = λ i need.
-      subst (λ g. IsBegunBy f nexts t.regs i g (IsSettled f.pipe (views_in d ss) k i)) (sym (same i))
-      (subst (λ r. IsBegunBy f nexts r i (kept_item (view_in c s) i) (IsSettled f.pipe (views_in d ss) k i)) (sym regs)
-      (by_weaker f nexts s.regs i (kept_item (view_in c s) i) (IsSettled f.pipe (views_in a ss) k i) (IsSettled f.pipe (views_in d ss) k i)
-      (λ z. settled_as f.pipe (views_in a ss) (views_in d ss) k i (kept_item (view_in c s) i) (λ j l. ends_same a d f nexts ss i ad ends j (omega (arith, l, low))) z) (h i need)))
+  kept_keep a f nexts ss k s t ad ends low same vars regs h = λ i need.
+      let S = IsSpared f.pipe (views_in d ss) k (signals_in d t.vars) i in
+      subst (λ g. IsBegunBy f nexts t.regs i g S) (sym (same i))
+      (subst (λ r. IsBegunBy f nexts r i (kept_item (view_in c s) i) S) (sym regs)
+      (by_weaker f nexts s.regs i (kept_item (view_in c s) i) (IsSpared f.pipe (views_in a ss) k (signals_in c s.vars) i) S
+      (λ z. spared_as f.pipe (views_in a ss) (views_in d ss) k (signals_in c s.vars) (signals_in d t.vars) i (kept_item (view_in c s) i) (λ y j l. ends_same a d f nexts ss y ad ends j (omega (arith, l, low))) vars z) (h i need)))
 
   rows_keep : (f : Form) (nexts : List Signal) (ls : Locks) (xs : List Stmt) (s : StageNets) → IsThereBegun c f nexts s → IsWalk c f.pipe f.widths s.end
       → AreSteps c f.pipe ls (tickets_in c s.tickets) xs (view_in c s).begun (walk_in c s.end) → (z : Circuit) → Keeps d z → IsWell z → AreRows z f.pipe ls (tickets_in d s.tickets) xs (view_in d s).begun (walk_in d s.end)
@@ -96,7 +97,7 @@ module _ (c d : Circuit) (e : Keeps c d) where
     own = h.own;
     nets = begun_keep f nexts s h.nets;
     tickets = next_keep f.pipe nexts k s h.nets.tickets h.tickets;
-    kept = kept_keep c f nexts ss k s s e ends low (λ i. kept_item_keep f nexts s i h.nets) Rattle.std.proofs.Common.refl h.kept;
+    kept = kept_keep c f nexts ss k s s e ends low (λ i. kept_item_keep f nexts s i h.nets) (signals_keep c d s.vars e h.nets.vars) refl h.kept;
     answered = answered_keep f nexts answers k s h.nets h.answered;
     rows = rows_keep f nexts ls (in_stage k f.pipe.stmts) s h.nets h.walk h.rows;
     walk = walk_keep c d e f.pipe f.widths s.end h.walk;
@@ -135,7 +136,7 @@ module _ (a c d : Circuit) (ad : Keeps a d) (e : Keeps c d) (f : Form) (nexts : 
           guess_wide = q.guess_wide;
         };
         tickets = next_keep c d e f.pipe nexts k s h.nets.tickets h.tickets;
-        kept = kept_keep c d e a f nexts ss k s (with_end s t) ad ends low kept_at Rattle.std.proofs.Common.refl h.kept;
+        kept = kept_keep c d e a f nexts ss k s (with_end s t) ad ends low kept_at (signals_keep c d s.vars e h.nets.vars) refl h.kept;
         answered = answered_keep c d e f nexts answers k s h.nets h.answered;
         rows = λ z q well.
             subst (λ (fs : List Signal). AreRows z f.pipe ls (λ m. signal_at fs m) (in_stage k f.pipe.stmts) (walk_of (begun_parts d s)) (walk_in d t.end)) (sym (signals_keep c d s.tickets e h.nets.tickets))
@@ -156,8 +157,8 @@ staged_front c f nexts answers ls ss t k s l h = record {
   nets = h.nets;
   tickets = h.tickets;
   kept = λ i need.
-      by_weaker f nexts s.regs i _ (IsSettled f.pipe (views_in c ss) k i) (IsSettled f.pipe (views_in c (ss ++ t ∷ [])) k i)
-      (λ z. settled_as f.pipe (views_in c ss) (views_in c (ss ++ t ∷ [])) k i (kept_item (view_in c s) i) (λ j q. ap (λ v. ended_item v i) (view_front c ss t j (omega (arith, q, l)))) z) (h.kept i need);
+      by_weaker f nexts s.regs i _ (IsSpared f.pipe (views_in c ss) k (signals_in c s.vars) i) (IsSpared f.pipe (views_in c (ss ++ t ∷ [])) k (signals_in c s.vars) i)
+      (λ z. spared_as f.pipe (views_in c ss) (views_in c (ss ++ t ∷ [])) k (signals_in c s.vars) (signals_in c s.vars) i (kept_item (view_in c s) i) (λ y j q. ap (λ v. ended_item v y) (view_front c ss t j (omega (arith, q, l)))) refl z) (h.kept i need);
   answered = h.answered;
   rows = h.rows;
   walk = h.walk;

@@ -32,7 +32,7 @@ use Rattle.pdl_stageregs.specs.declared.nets.Shared.{Shared}
 use Rattle.pdl_stageregs.specs.declared.nets.Earlier.{Earlier}
 use Rattle.pdl_stageregs.specs.declared.nets.StageNets.{StageNets}
 use Rattle.pdl_stageregs.specs.Items.{IsOwn, IsConstant, item_width, first_value, ended_item}
-use Rattle.pdl_stageregs.specs.Stages.{zero_signal, end_of, views_in, IsRegister, IsBegunBy, IsSettled}
+use Rattle.pdl_stageregs.specs.Stages.{zero_signal, end_of, views_in, IsRegister, IsBegunBy, IsSettled, IsSpared}
 use Rattle.pdl_word.specs.Each.{Each}
 
 -- the next ticket of a lock, and this where there is none
@@ -110,9 +110,9 @@ pub record Leaves (c : Circuit) (r r' : Kept) (w : ℕ) (net : Net) (Settled : S
 abbrev pub MayAdd : Circuit → Kept → Kept → Item → ℕ → ℕ → Net → (Signal → Type 0) → Type 0
 MayAdd c r r' i w v net Settled = Adds c r r' i w v net ⊎ Leaves c r r' w net Settled
 
--- for an item of stage k that is needed where this is true: a register that it may have, or what it is settled as
-pub record MayBegin (c : Circuit) (f : Form) (nexts : List Signal) (us : ℕ → View) (k : ℕ) (needed : Bool) (r r' : Kept) (i : Item) (net : Net) : Type 0 where
-  pub may : MayAdd c r r' i (item_width f nexts i) (first_value f.pipe k i) net (λ g. needed ≡ true → IsSettled f.pipe us k i g)
+-- for an item of stage k that is needed where this is true: a register that it may have, or none and the signal is so
+pub record MayBegin (c : Circuit) (f : Form) (nexts : List Signal) (k : ℕ) (needed : Bool) (r r' : Kept) (i : Item) (net : Net) (Settled : Signal → Type 0) : Type 0 where
+  pub may : MayAdd c r r' i (item_width f nexts i) (first_value f.pipe k i) net (λ g. needed ≡ true → Settled g)
   pub own : (r' ≡ r) ⊎ IsOwn f k i
 
 -- a list begins with another one
@@ -124,11 +124,19 @@ pub record IsLonger (r r' : Kept) : Type 0 where
   pub valid : r'.valid ≡ r.valid
   pub items : IsAtFront r.items r'.items
 
--- nets of these widths, one for each item of a kind; those that are needed are begun
-pub record AreBegun (c : Circuit) (f : Form) (nexts : List Signal) (us : ℕ → View) (k : ℕ) (r : Kept) (item : ℕ → Item) (needed : ℕ → Bool) (ws : List ℕ) (xs : List Net) : Type 0 where
+-- what an item is settled as after these stages
+abbrev pub IsSettledAfter : Circuit → Form → Earlier → Item → Signal → Type 0
+IsSettledAfter c f x i g = IsSettled f.pipe (earlier_views c x) (earlier_count x) i g
+
+-- and what needs no register after them, where the variables have these nets
+abbrev pub IsSparedAfter : Circuit → Form → Earlier → List Net → Item → Signal → Type 0
+IsSparedAfter c f x vars i g = IsSpared f.pipe (earlier_views c x) (earlier_count x) (signals_in c vars) i g
+
+-- nets of these widths, one for each item of a kind; those that are needed are registers, or their signals are so
+pub record AreBegun (c : Circuit) (f : Form) (nexts : List Signal) (r : Kept) (item : ℕ → Item) (needed : ℕ → Bool) (Settled : ℕ → Signal → Type 0) (ws : List ℕ) (xs : List Net) : Type 0 where
   pub there : NetsThere c xs
   pub wide : widths_of (signals_in c xs) ≡ ws
-  pub begun : (i : ℕ) → i < length ws → needed i ≡ true → IsBegunBy f nexts r (item i) (signal_at (signals_in c xs) i) (IsSettled f.pipe us k (item i))
+  pub begun : (i : ℕ) → i < length ws → needed i ≡ true → IsBegunBy f nexts r (item i) (signal_at (signals_in c xs) i) (Settled i)
 
 -- a location that was listed still is
 abbrev pub AreStillListed : List HeldNet → List HeldNet → Type 0

@@ -18,6 +18,7 @@ use Rattle.pdl_stagenets.specs.Parts.{Parts, Held as HeldPart, walk_of, held_in,
 use Rattle.pdl_stagenets.specs.Locked.{tickets_in}
 use Rattle.pdl_stagenets.specs.Sized.{IsWalk}
 use Rattle.pdl_stageregs.specs.declared.nets.Item.{Item}
+use Rattle.pdl_stageregs.specs.declared.nets.Item.TheVariants.{Var, Held, Ticket, Guess}
 use Rattle.pdl_stageregs.specs.declared.nets.Kept.{Kept}
 use Rattle.pdl_stageregs.specs.declared.nets.StageNets.{StageNets}
 use Rattle.pdl_stageregs.specs.Items.{item_at, is_needed, is_answered, kept_item, ended_item, item_width, first_value, IsOwn, IsConstant, IsZero}
@@ -131,10 +132,31 @@ pub record IsCommon (p : Pipe) (us : ℕ → View) (k : ℕ) (i : Item) (g : Sig
   pub same : Each (λ j. ended_item (us j) i ≡ g) (ways p k)
   pub unanswered : is_answered p k i ≡ false
 
--- without a register of its own: in the first stage a zero, in another so
+-- in the first stage a zero, in another so
 abbrev pub IsSettled : Pipe → (ℕ → View) → ℕ → Item → Signal → Type 0
 IsSettled p us zero i g = IsZero p i g
 IsSettled p us (suc k) i g = IsCommon p us (suc k) i g
+
+-- of stage k: all that lead here, at least one, end with one signal for an argument of the guess and for a variable that is needed and gets no answer
+pub record IsTwin (p : Pipe) (us : ℕ → View) (k i x : ℕ) : Type 0 where
+  pub later : 0 < k
+  pub some : 0 < length (ways p k)
+  pub same : Each (λ j. ended_item (us j) (Guess i) ≡ ended_item (us j) (Var x)) (ways p k)
+  pub needed : is_needed p k (Var x) ≡ true
+  pub unanswered : is_answered p k (Var x) ≡ false
+
+-- an argument of the guess that has the signal of such a variable among these
+pub record IsAsVariable (p : Pipe) (us : ℕ → View) (k : ℕ) (vars : List Signal) (i : ℕ) (g : Signal) : Type 0 where
+  pub x : ℕ
+  pub twin : IsTwin p us k i x
+  pub is : g ≡ signal_at vars x
+
+-- without a register of its own, where the variables have these signals
+abbrev pub IsSpared : Pipe → (ℕ → View) → ℕ → List Signal → Item → Signal → Type 0
+IsSpared p us k vars (Var x) g = IsSettled p us k (Var x) g
+IsSpared p us k vars (Held m a) g = IsSettled p us k (Held m a) g
+IsSpared p us k vars (Ticket m) g = IsSettled p us k (Ticket m) g
+IsSpared p us k vars (Guess i) g = IsSettled p us k (Guess i) g ⊎ IsAsVariable p us k vars i g
 
 -- the variables of stage k with the answers of these ports
 abbrev pub HasAnswered : Circuit → Form → (ℕ → ℕ → AnswerSignals) → ℕ → StageNets → Type 0
@@ -144,7 +166,7 @@ HasAnswered c f answers k s =
 -- what stage k keeps, and what it needs no register for, after stages with these views
 abbrev pub HasKept : Circuit → Form → List Signal → (ℕ → View) → ℕ → StageNets → Type 0
 HasKept c f nexts us k s =
-    (i : Item) → is_needed f.pipe k i ≡ true → IsBegunBy f nexts s.regs i (kept_item (view_in c s) i) (IsSettled f.pipe us k i)
+    (i : Item) → is_needed f.pipe k i ≡ true → IsBegunBy f nexts s.regs i (kept_item (view_in c s) i) (IsSpared f.pipe us k (signals_in c s.vars) i)
 
 -- stage k before its rows
 pub record IsBegun (c : Circuit) (f : Form) (nexts : List Signal) (answers : ℕ → ℕ → AnswerSignals) (us : ℕ → View) (k : ℕ) (s : StageNets) : Type 0 where

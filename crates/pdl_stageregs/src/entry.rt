@@ -7,15 +7,16 @@ ghost use Rattle.pdl_net.specs.Growth.{Extends};
 ghost use Rattle.pdl_flatnets.specs.Nets.{NetsThere, signals_in, signal_at, widths_of};
 ghost use Rattle.pdl_formtypes.specs.Stmts.{IsTypedForm};
 ghost use Rattle.pdl_lives.specs.Needs.{goes_with};
-ghost use Rattle.pdl_pipe_law.specs.Lives.{lives_from as is_live, verifies_from as is_verified};
+ghost use Rattle.pdl_pipe_law.specs.Lives.{lives_from as is_live};
 ghost use Rattle.pdl_stagenets.specs.Parts.{walk_of, walk_in};
 ghost use Rattle.pdl_stagenets.specs.Sized.{IsWalk};
 ghost use Rattle.pdl_answernets.specs.Ports.{answers_in};
-ghost use Rattle.pdl_stageregs.specs.declared.nets.Item.TheVariants.{Var, Guess};
-ghost use Rattle.pdl_stageregs.specs.Items.{IsConstant, IsZero, item_width, is_answered as gets_item};
-ghost use Rattle.pdl_stageregs.specs.Stages.{end_of, begun_parts, IsFrame, IsBegun, IsSettled, AreOwn};
-ghost use Rattle.pdl_stageregs.specs.Begun.{earlier_views, earlier_count, IsShared, IsEarlier, IsItem, IsLonger, MayAdd, MayBegin, AreBegun, AreAnswered, IsFresh};
+ghost use Rattle.pdl_stageregs.specs.declared.nets.Item.TheVariants.{Var};
+ghost use Rattle.pdl_stageregs.specs.Items.{IsZero, item_width, is_answered as gets_item};
+ghost use Rattle.pdl_stageregs.specs.Stages.{end_of, begun_parts, IsFrame, IsBegun, AreOwn};
+ghost use Rattle.pdl_stageregs.specs.Begun.{earlier_views, earlier_count, IsShared, IsEarlier, IsItem, IsSettledAfter, IsLonger, MayAdd, MayBegin, AreBegun, AreAnswered, IsFresh};
 
+use crate::guess::begin_guess;
 use crate::helds::begin_helds;
 use crate::nets::{Earlier, Item, Kept, Shared, StageNets};
 use crate::registers::common;
@@ -26,7 +27,7 @@ use pdl_flatnets::Bits;
 use pdl_flatnets::exprs::variable;
 use pdl_form::FlatPipe;
 use pdl_kit::{NoMemory, Seq};
-use pdl_lives::{lives_from, verifies_from};
+use pdl_lives::lives_from;
 use pdl_net::Net;
 use pdl_stagenets::{HeldNet, WalkNets};
 use std::alloc::Global;
@@ -50,7 +51,6 @@ pub(crate) fn begin_item(
     regs: &mut Kept,
     item: Item,
     width: u8,
-    zero: Net,
 ) -> Result<Net, NoMemory>
     requires shared { IsShared b.old (form pipe.now) shared.now }
     requires earlier { IsEarlier b.old (form pipe.now)
@@ -60,17 +60,16 @@ pub(crate) fn begin_item(
     requires low { 1 ≤ width }
     requires high { width ≤ 64 }
     requires wide { width ≡ item_width (form pipe.now) (signals_in b.old shared.now.next) item }
-    requires zero { IsConstant (signal b.old zero) }
     requires last { end_of regs.old ≡ length b.old.regs }
     ensures may { IfOk result (λ net.
-        MayAdd b.new regs.old regs.new item width 0 net (IsSettled (form pipe.now).pipe
-        (earlier_views b.old earlier.now) (earlier_count earlier.now) item)) }
+        MayAdd b.new regs.old regs.new item width 0 net
+        (IsSettledAfter b.old (form pipe.now) earlier.now item)) }
     ensures last { OnOk result (end_of regs.new ≡ length b.new.regs) }
     ensures extends { Extends b.old b.new }
 {
     let stage = earlier.stages.len();
     if !is_answered(pipe, stage, item) {
-        if let Some(net) = common(b, pipe, shared, earlier, zero, item) {
+        if let Some(net) = common(b, pipe, shared, earlier, item) {
             return Ok(net);
         }
     }
@@ -128,9 +127,9 @@ fn begin_var(
     requires low { x < length (form pipe.now).widths }
     requires last { end_of regs.old ≡ length b.old.regs }
     ensures begins { IfOk result (λ net.
-        MayBegin b.new (form pipe.now) (signals_in b.old shared.now.next)
-        (earlier_views b.old earlier.now) (earlier_count earlier.now)
-        (is_live (form pipe.now).pipe (earlier_count earlier.now) x) regs.old regs.new (Var x) net) }
+        MayBegin b.new (form pipe.now) (signals_in b.old shared.now.next) (earlier_count earlier.now)
+        (is_live (form pipe.now).pipe (earlier_count earlier.now) x) regs.old regs.new (Var x) net
+        (IsSettledAfter b.old (form pipe.now) earlier.now (Var x))) }
     ensures last { OnOk result (end_of regs.new ≡ length b.new.regs) }
     ensures extends { Extends b.old b.new }
 {
@@ -141,16 +140,7 @@ fn begin_var(
     } else if stage == 0 {
         first_var(b, pipe, regs, zero, x)
     } else {
-        begin_item(
-            b,
-            pipe,
-            shared,
-            earlier,
-            regs,
-            Item::Var(x),
-            pipe.width(x),
-            zero,
-        )
+        begin_item(b, pipe, shared, earlier, regs, Item::Var(x), pipe.width(x))
     }
 }
 
@@ -176,89 +166,14 @@ fn begin_vars(
     ensures own { OnOk result (AreOwn (form pipe.now) (earlier_count earlier.now) regs.new) }
     ensures longer { OnOk result (IsLonger regs.old regs.new) }
     ensures vars { IfOk result (λ xs. AreBegun b.new (form pipe.now)
-        (signals_in b.old shared.now.next) (earlier_views b.old earlier.now)
-        (earlier_count earlier.now) regs.new Var
-        (is_live (form pipe.now).pipe (earlier_count earlier.now)) (form pipe.now).widths xs) }
+        (signals_in b.old shared.now.next) regs.new Var
+        (is_live (form pipe.now).pipe (earlier_count earlier.now))
+        (λ x. IsSettledAfter b.old (form pipe.now) earlier.now (Var x)) (form pipe.now).widths xs) }
     ensures extends { Extends b.old b.new }
 {
     let mut nets = Seq::new(alloc);
     for x in 0..pipe.vars() {
         let net = begin_var(b, pipe, shared, earlier, regs, x)?;
-        nets.push(net)?;
-    }
-    Ok(nets)
-}
-
-// An argument of the guess, zero where no stage from here on verifies it.
-fn begin_argument(
-    b: &mut Builder,
-    pipe: &FlatPipe,
-    shared: &Shared<'_>,
-    earlier: &Earlier<'_>,
-    regs: &mut Kept,
-    i: usize,
-) -> Result<Net, NoMemory>
-    requires typed { IsTypedForm (form pipe.now) }
-    requires shared { IsShared b.old (form pipe.now) shared.now }
-    requires earlier { IsEarlier b.old (form pipe.now)
-        (signals_in b.old shared.now.next) earlier.now }
-    requires low { i < length (form pipe.now).pipe.start }
-    requires last { end_of regs.old ≡ length b.old.regs }
-    ensures begins { IfOk result (λ net.
-        MayBegin b.new (form pipe.now) (signals_in b.old shared.now.next)
-        (earlier_views b.old earlier.now) (earlier_count earlier.now)
-        (is_verified (form pipe.now).pipe (earlier_count earlier.now))
-        regs.old regs.new (Guess i) net) }
-    ensures last { OnOk result (end_of regs.new ≡ length b.new.regs) }
-    ensures extends { Extends b.old b.new }
-{
-    let zero = variable(b, shared.zeros.as_slice(), i);
-    let stage = earlier.stages.len();
-    if stage == 0 || !verifies_from(pipe, stage) {
-        return Ok(zero);
-    }
-    begin_item(
-        b,
-        pipe,
-        shared,
-        earlier,
-        regs,
-        Item::Guess(i),
-        pipe.width(i),
-        zero,
-    )
-}
-
-// The arguments of the guess.
-fn begin_guess(
-    alloc: Global,
-    b: &mut Builder,
-    pipe: &FlatPipe,
-    shared: &Shared<'_>,
-    earlier: &Earlier<'_>,
-    regs: &mut Kept,
-) -> Result<Seq<Net>, NoMemory>
-    requires typed { IsTypedForm (form pipe.now) }
-    requires shared { IsShared b.old (form pipe.now) shared.now }
-    requires earlier { IsEarlier b.old (form pipe.now)
-        (signals_in b.old shared.now.next) earlier.now }
-    requires frame { IsFrame b.old (form pipe.now) (signals_in b.old shared.now.next)
-        (earlier_count earlier.now) regs.old }
-    requires own { AreOwn (form pipe.now) (earlier_count earlier.now) regs.old }
-    ensures frame { OnOk result (IsFrame b.new (form pipe.now)
-        (signals_in b.old shared.now.next) (earlier_count earlier.now) regs.new) }
-    ensures own { OnOk result (AreOwn (form pipe.now) (earlier_count earlier.now) regs.new) }
-    ensures longer { OnOk result (IsLonger regs.old regs.new) }
-    ensures guess { IfOk result (λ xs. AreBegun b.new (form pipe.now)
-        (signals_in b.old shared.now.next) (earlier_views b.old earlier.now)
-        (earlier_count earlier.now) regs.new Guess
-        (λ i. is_verified (form pipe.now).pipe (earlier_count earlier.now))
-        (take (length (form pipe.now).pipe.start) (form pipe.now).widths) xs) }
-    ensures extends { Extends b.old b.new }
-{
-    let mut nets = Seq::new(alloc);
-    for i in 0..pipe.start().len() {
-        let net = begin_argument(b, pipe, shared, earlier, regs, i)?;
         nets.push(net)?;
     }
     Ok(nets)
@@ -343,7 +258,7 @@ pub fn begin(
     let vars = begin_vars(alloc, b, pipe, shared, earlier, &mut regs)?;
     let held = begin_helds(alloc, b, pipe, shared, earlier, &mut regs)?;
     let tickets = begin_tickets(alloc, b, pipe, shared, stage, &mut regs)?;
-    let guess = begin_guess(alloc, b, pipe, shared, earlier, &mut regs)?;
+    let guess = begin_guess(alloc, b, pipe, shared, earlier, &mut regs, vars.as_slice())?;
     let begun = begin_answers(alloc, b, pipe, shared, stage, vars.as_slice())?;
     let end = begin_walk(
         alloc,

@@ -56,7 +56,7 @@ fn push_held(
         return Ok(());
     }
     let item = Item::Held { mem, var };
-    let net = begin_item(b, pipe, shared, earlier, regs, item, 1, shared.bits.zero)?;
+    let net = begin_item(b, pipe, shared, earlier, regs, item, 1)?;
     held.push(HeldNet { mem, var, net })?;
     Ok(())
 }

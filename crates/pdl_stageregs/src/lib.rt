@@ -4,6 +4,7 @@
 #![tactic(auto)]
 
 pub mod entry;
+pub mod guess;
 pub mod helds;
 pub mod nets;
 pub mod registers;

@@ -5,7 +5,6 @@ ghost use Rattle.pdl_word.specs.Each.{Each};
 ghost use Rattle.pdl_net.specs.declared.Net.TheVariants.{Reg as RegNet};
 ghost use Rattle.pdl_net.specs.Meaning.{IsThere, Means, signal};
 ghost use Rattle.pdl_net.specs.Growth.{Extends};
-ghost use Rattle.pdl_flatnets.specs.Conditions.{AreBits};
 ghost use Rattle.pdl_flatnets.specs.Nets.{signals_in};
 ghost use Rattle.pdl_stageregs.specs.Items.{IsConstant, ended_item};
 ghost use Rattle.pdl_stageregs.specs.Stages.{end_of, view_in, IsRegister};
@@ -13,8 +12,8 @@ ghost use Rattle.pdl_stageregs.specs.Begun.{earlier_views, with_item, IsShared, 
 
 use crate::nets::{Earlier, Item, Kept, Shared, StageNets};
 use pdl_build::Builder;
+use pdl_flatnets::are_same;
 use pdl_flatnets::exprs::variable;
-use pdl_flatnets::{Bits, are_same};
 use pdl_form::FlatPipe;
 use pdl_kit::{NoMemory, Seq};
 use pdl_net::Net;
@@ -61,14 +60,15 @@ impl Kept {
     }
 }
 
-/// Whether a net is one of three that never change.
-pub fn is_fixed(b: &Builder, bits: Bits, zero: Net, net: Net) -> bool
-    requires bits { AreBits b.now bits }
-    requires zero { IsConstant (signal b.now zero) }
+/// Whether a net is a constant.
+pub fn is_fixed(b: &Builder, net: Net) -> bool
+    requires { IsThere b.now net }
     ensures { IsTrue result → IsConstant (signal b.now net) }
 {
-    let _regs = b.reg_count();
-    are_same(net, zero) || are_same(net, bits.zero) || are_same(net, bits.one)
+    match b.constant_of(net) {
+        Some(_) => true,
+        None => false,
+    }
 }
 
 /// What a stage ends with for an item.
@@ -106,7 +106,7 @@ pub(crate) fn way_at(earlier: &Earlier<'_>, i: usize) -> usize
 }
 
 // What one of the stages that may lead here ends with for an item.
-fn coming(
+pub(crate) fn coming(
     b: &Builder,
     pipe: &FlatPipe,
     shared: &Shared<'_>,
@@ -132,13 +132,11 @@ pub fn common(
     pipe: &FlatPipe,
     shared: &Shared<'_>,
     earlier: &Earlier<'_>,
-    zero: Net,
     item: Item,
 ) -> Option<Net>
     requires shared { IsShared b.now (form pipe.now) shared.now }
     requires earlier { IsEarlier b.now (form pipe.now)
         (signals_in b.now shared.now.next) earlier.now }
-    requires zero { IsConstant (signal b.now zero) }
     requires item { IsItem (form pipe.now) item }
     ensures { IfSome result (λ x.
         IsCommonNet b.now (earlier_views b.now earlier.now) earlier.now.ways.now item x) }
@@ -148,7 +146,7 @@ pub fn common(
         return None;
     }
     let net = coming(b, pipe, shared, earlier, 0, item);
-    if !is_fixed(b, shared.bits, zero, net) {
+    if !is_fixed(b, net) {
         return None;
     }
     for i in 1..count {

@@ -8,7 +8,7 @@ ghost use Rattle.pdl_flatnets.specs.Nets.{signals_in, signal_at, widths_of};
 ghost use Rattle.pdl_lives.specs.Needs.{goes_with};
 ghost use Rattle.pdl_pipe_law.specs.Views.{View};
 ghost use Rattle.pdl_stageregs.specs.declared.nets.Item.TheVariants.{Ticket};
-ghost use Rattle.pdl_stageregs.specs.Stages.{end_of, IsFrame, AreOwn};
+ghost use Rattle.pdl_stageregs.specs.Stages.{end_of, IsFrame, IsSettled, AreOwn};
 ghost use Rattle.pdl_stageregs.specs.Begun.{ticket_net, IsShared, IsLonger, MayBegin, AreBegun, AreNextTickets};
 
 use crate::nets::{Item, Kept, Shared};
@@ -64,8 +64,9 @@ fn begin_ticket(
     requires next { IsThere b.old next }
     requires last { end_of regs.old ≡ length b.old.regs }
     ensures begins { (us : ℕ → View) → IfOk result (λ net.
-        MayBegin b.new (form pipe.now) (signals_in b.old shared.now.next) us stage
-        (goes_with (form pipe.now).pipe stage mem) regs.old regs.new (Ticket mem) net) }
+        MayBegin b.new (form pipe.now) (signals_in b.old shared.now.next) stage
+        (goes_with (form pipe.now).pipe stage mem) regs.old regs.new (Ticket mem) net
+        (IsSettled (form pipe.now).pipe us stage (Ticket mem))) }
     ensures same { goes_with (form pipe.now).pipe stage mem ≡ false →
         IfOk result (λ net. signal b.new net ≡ signal b.old next) }
     ensures last { OnOk result (end_of regs.new ≡ length b.new.regs) }
@@ -98,8 +99,9 @@ pub(crate) fn begin_tickets(
     ensures own { OnOk result (AreOwn (form pipe.now) stage regs.new) }
     ensures longer { OnOk result (IsLonger regs.old regs.new) }
     ensures tickets { (us : ℕ → View) → IfOk result (λ xs. AreBegun b.new (form pipe.now)
-        (signals_in b.old shared.now.next) us stage regs.new Ticket
-        (goes_with (form pipe.now).pipe stage) (widths_of (signals_in b.old shared.now.next)) xs) }
+        (signals_in b.old shared.now.next) regs.new Ticket (goes_with (form pipe.now).pipe stage)
+        (λ m. IsSettled (form pipe.now).pipe us stage (Ticket m))
+        (widths_of (signals_in b.old shared.now.next)) xs) }
     ensures same { IfOk result (λ xs. AreNextTickets b.new (form pipe.now).pipe
         (signals_in b.old shared.now.next) stage xs) }
     ensures extends { Extends b.old b.new }

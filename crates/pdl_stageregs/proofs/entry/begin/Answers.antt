@@ -1,6 +1,7 @@
-use Rattle.std.proofs.Common.{length, sym, ap, ◌∙◌, subst}
+use Rattle.std.proofs.Common.{ℕ, length, sym, ap, ◌∙◌, subst}
 use Rattle.pdl_form.specs.Whole.{form}
 use Rattle.pdl_net.proofs.Keeps.{extends_keeps, keeps_trans}
+use Rattle.pdl_net.specs.Signal.{Signal}
 use Rattle.pdl_flatnets.specs.Nets.{NetsThere, signals_in, signal_at, widths_of}
 use Rattle.pdl_flatnets.proofs.NetLists.{there_keeps, signals_keep}
 use Rattle.pdl_formtypes.specs.Stmts.{param_widths}
@@ -11,11 +12,12 @@ use Rattle.pdl_answernets.proofs.Answered.{answer_same}
 use Rattle.pdl_stagenets.proofs.Kept.{bits_keep}
 use Rattle.pdl_stageregs.specs.declared.nets.Item.TheVariants.{Var, Ticket, Guess}
 use Rattle.pdl_stageregs.specs.declared.nets.StageNets.{StageNets}
-use Rattle.pdl_stageregs.specs.Begun.{earlier_views, earlier_count, AreBegun, AreAnswered, AreNextTickets, IsFresh}
+use Rattle.pdl_stageregs.specs.Stages.{IsSettled, IsSpared}
+use Rattle.pdl_stageregs.specs.Begun.{earlier_views, earlier_count, IsSparedAfter, AreBegun, AreAnswered, AreNextTickets, IsFresh}
 use Rattle.pdl_stageregs.proofs.Keeping.{registers_keep, longer_none, longer_trans}
 use Rattle.pdl_stageregs.proofs.Begins.{shared_keep, next_keep, earlier_now, begun_keep}
 use Rattle.pdl_stageregs.proofs.HeldsBegun.{helds_keep}
-use Rattle.pdl_stageregs.proofs.BeginMade.{frame_from, frame_to, begun_from, helds_from, all_held_from, past_ended, HasParts, begun_is}
+use Rattle.pdl_stageregs.proofs.BeginMade.{frame_from, frame_to, vars_from, guess_from, helds_from, all_held_from, past_ended, HasParts, begun_is}
 use Rattle.pdl_stageregs.proofs.entry.begin.Goals as goal
 
 pub begin_vars-requires-clause-shared : goal.begin_vars-requires-clause-shared
@@ -102,6 +104,22 @@ begin_guess-requires-clause-frame c =
     let r = c.begin_tickets.new.regs in
     frame_to a f c.args.earlier.now c.args.shared.now c.requires.shared c.requires.earlier b3 e3 b3 r (frame_from a f c.args.earlier.now c.args.shared.now c.requires.shared c.requires.earlier b2 e2 b3 r c.in_ok-tickets.ensures.frame)
 
+pub begin_guess-requires-clause-vars : goal.begin_guess-requires-clause-vars
+begin_guess-requires-clause-vars c =
+    let b1 = c.begin_vars.new.b in
+    let b2 = c.begin_helds.new.b in
+    let b3 = c.begin_tickets.new.b in
+    let e13 = keeps_trans b1 b2 b3 (extends_keeps b1 b2 c.begin_helds.ensures.extends) (extends_keeps b2 b3 c.begin_tickets.ensures.extends) in
+    subst (NetsThere b3) (sym c.as_slice.ensures) (there_keeps b1 b3 c.in_ok-vars.vars e13 c.in_ok-vars.ensures.vars.there)
+
+pub begin_guess-requires-clause-wide : goal.begin_guess-requires-clause-wide
+begin_guess-requires-clause-wide c =
+    let b1 = c.begin_vars.new.b in
+    let b2 = c.begin_helds.new.b in
+    let b3 = c.begin_tickets.new.b in
+    let e13 = keeps_trans b1 b2 b3 (extends_keeps b1 b2 c.begin_helds.ensures.extends) (extends_keeps b2 b3 c.begin_tickets.ensures.extends) in
+    ap (λ xs. widths_of (signals_in b3 xs)) c.as_slice.ensures ∙ ap widths_of (signals_keep b1 b3 c.in_ok-vars.vars e13 c.in_ok-vars.ensures.vars.there) ∙ c.in_ok-vars.ensures.vars.wide
+
 pub begin_answers-requires-clause-shared : goal.begin_answers-requires-clause-shared
 begin_answers-requires-clause-shared c =
     let a = c.args.b.now in
@@ -123,7 +141,7 @@ begin_answers-requires-clause-vars c =
     let b4 = c.begin_guess.new.b in
     let e13 = keeps_trans b1 b2 b3 (extends_keeps b1 b2 c.begin_helds.ensures.extends) (extends_keeps b2 b3 c.begin_tickets.ensures.extends) in
     let e14 = keeps_trans b1 b3 b4 e13 (extends_keeps b3 b4 c.begin_guess.ensures.extends) in
-    subst (NetsThere b4) (sym c.as_slice.ensures) (there_keeps b1 b4 c.in_ok-vars.vars e14 c.in_ok-vars.ensures.vars.there)
+    subst (NetsThere b4) (sym c.as_slice-2.ensures) (there_keeps b1 b4 c.in_ok-vars.vars e14 c.in_ok-vars.ensures.vars.there)
 
 pub begin_answers-requires-clause-wide : goal.begin_answers-requires-clause-wide
 begin_answers-requires-clause-wide c =
@@ -133,7 +151,7 @@ begin_answers-requires-clause-wide c =
     let b4 = c.begin_guess.new.b in
     let e13 = keeps_trans b1 b2 b3 (extends_keeps b1 b2 c.begin_helds.ensures.extends) (extends_keeps b2 b3 c.begin_tickets.ensures.extends) in
     let e14 = keeps_trans b1 b3 b4 e13 (extends_keeps b3 b4 c.begin_guess.ensures.extends) in
-    ap (λ xs. widths_of (signals_in b4 xs)) c.as_slice.ensures ∙ ap widths_of (signals_keep b1 b4 c.in_ok-vars.vars e14 c.in_ok-vars.ensures.vars.there) ∙ c.in_ok-vars.ensures.vars.wide
+    ap (λ xs. widths_of (signals_in b4 xs)) c.as_slice-2.ensures ∙ ap widths_of (signals_keep b1 b4 c.in_ok-vars.vars e14 c.in_ok-vars.ensures.vars.there) ∙ c.in_ok-vars.ensures.vars.wide
 
 pub returns-clause-begun : goal.returns-clause-begun
 returns-clause-begun c =
@@ -175,26 +193,30 @@ returns-clause-begun c =
     let begun = c.in_ok-begun.begun in
     let same3 = next_keep a b2 f sh e2 shared in
     let frame4 = frame_from a f x sh shared earlier b3 e3 b4 r4 c.in_ok-guess.ensures.frame in
-    let vars1 = begun_from a f x sh shared earlier b0 e0 b1 r1 Var (lives_from f.pipe k) f.widths vars c.in_ok-vars.ensures.vars in
+    let vars1 = vars_from a f x sh shared earlier b0 e0 b1 r1 (lives_from f.pipe k) f.widths vars c.in_ok-vars.ensures.vars in
     let held2 = helds_from a f x sh shared earlier b1 e1 b2 r2 held c.in_ok-held.ensures.begun in
-    let tickets3 = subst (λ fs. AreBegun b3 f fs us k r3 Ticket (goes_with f.pipe k) (widths_of fs) tickets) same3 (c.in_ok-tickets.ensures.tickets us) in
-    let guess4 = begun_from a f x sh shared earlier b3 e3 b4 r4 Guess (λ i. verifies_from f.pipe k) (param_widths f) guess c.in_ok-guess.ensures.guess in
+    let tickets3 = subst (λ fs. AreBegun b3 f fs r3 Ticket (goes_with f.pipe k) (λ m. IsSettled f.pipe us k (Ticket m)) (widths_of fs) tickets) same3 (c.in_ok-tickets.ensures.tickets us) in
+    let k13 = keeps_trans b1 b2 b3 (extends_keeps b1 b2 c.begin_helds.ensures.extends) (extends_keeps b2 b3 c.begin_tickets.ensures.extends) in
+    let there3 = there_keeps b1 b3 vars k13 c.in_ok-vars.ensures.vars.there in
+    let spared : ℕ → Signal → Type 0 = (λ i. IsSpared f.pipe us k (signals_in d vars) (Guess i)) in
+    let guess0 = subst (λ ys. AreBegun b4 f (signals_in b3 sh.next) r4 Guess (λ i. verifies_from f.pipe k) (λ i. IsSparedAfter b3 f x ys (Guess i)) (param_widths f) guess) c.as_slice.ensures c.in_ok-guess.ensures.guess in
+    let guess4 = guess_from a f x sh shared earlier b3 e3 b4 d r4 (λ i. verifies_from f.pipe k) (param_widths f) vars guess (signals_keep b3 d vars k3 there3) guess0 in
     let next3 = subst (λ fs. AreNextTickets b3 f.pipe fs k tickets) same3 c.in_ok-tickets.ensures.same in
     let now3 = signals_keep b3 d tickets k3 tickets3.there in
-    let answered = subst (λ ys. AreAnswered d f (answers_in b4 sh.ports.now) k ys begun) c.as_slice.ensures c.in_ok-begun.ensures.answered in
+    let answered = subst (λ ys. AreAnswered d f (answers_in b4 sh.ports.now) k ys begun) c.as_slice-2.ensures c.in_ok-begun.ensures.answered in
     let s : StageNets = record { regs = r4; vars = vars; begun = begun; held = held; tickets = tickets; guess = guess; end = c.in_ok-end.end } in
-    let fresh0 = subst (λ ys. IsFresh sh.bits ys c.as_slice-3.result.now c.as_slice-4.result.now c.in_ok-end.end) c.as_slice-2.ensures c.in_ok-end.ensures in
-    let fresh1 = subst (λ hs. IsFresh sh.bits begun hs c.as_slice-4.result.now c.in_ok-end.end) c.as_slice-3.ensures fresh0 in
-    let fresh = subst (λ gs. IsFresh sh.bits begun held gs c.in_ok-end.end) c.as_slice-4.ensures fresh1 in
+    let fresh0 = subst (λ ys. IsFresh sh.bits ys c.as_slice-4.result.now c.as_slice-5.result.now c.in_ok-end.end) c.as_slice-3.ensures c.in_ok-end.ensures in
+    let fresh1 = subst (λ hs. IsFresh sh.bits begun hs c.as_slice-5.result.now c.in_ok-end.end) c.as_slice-4.ensures fresh0 in
+    let fresh = subst (λ gs. IsFresh sh.bits begun held gs c.in_ok-end.end) c.as_slice-5.ensures fresh1 in
     let parts : HasParts d f nexts (answers_in a sh.ports.now) us k sh.bits s = record {
       frame = record { last = frame4.last ∙ sym (ap length c.begin_answers.ensures.regs); registers = registers_keep b4 d f nexts k r4 k4 frame4.registers };
       own = c.in_ok-guess.ensures.own;
-      vars = begun_keep f nexts us k Var (lives_from f.pipe k) f.widths b1 d r1 r4 vars k1 l1 vars1;
+      vars = begun_keep f nexts Var (lives_from f.pipe k) (λ y. IsSettled f.pipe us k (Var y)) f.widths b1 d r1 r4 vars k1 l1 vars1;
       held = helds_keep f nexts us k b2 d r2 r4 held k2 l2 held2;
       all = all_held_from a f x sh shared earlier b1 e1 held c.in_ok-held.ensures.whole;
-      tickets = begun_keep f nexts us k Ticket (goes_with f.pipe k) (widths_of nexts) b3 d r3 r4 tickets k3 l3 tickets3;
+      tickets = begun_keep f nexts Ticket (goes_with f.pipe k) (λ m. IsSettled f.pipe us k (Ticket m)) (widths_of nexts) b3 d r3 r4 tickets k3 l3 tickets3;
       next = λ m low no. ap (λ fs. signal_at fs m) now3 ∙ next3 m low no;
-      guess = begun_keep f nexts us k Guess (λ i. verifies_from f.pipe k) (param_widths f) b4 d r4 r4 guess k4 (longer_none r4) guess4;
+      guess = begun_keep f nexts Guess (λ i. verifies_from f.pipe k) spared (param_widths f) b4 d r4 r4 guess k4 (longer_none r4) guess4;
       answered = record {
         there = answered.there;
         wide = answered.wide;

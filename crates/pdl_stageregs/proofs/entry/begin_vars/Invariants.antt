@@ -3,11 +3,11 @@ use Rattle.pdl_form.specs.Whole.{form}
 use Rattle.pdl_flatnets.specs.Nets.{signals_in}
 use Rattle.pdl_pipe_law.specs.Lives.{lives_from}
 use Rattle.pdl_stageregs.specs.declared.nets.Item.TheVariants.{Var}
-use Rattle.pdl_stageregs.specs.Begun.{earlier_views, earlier_count}
+use Rattle.pdl_stageregs.specs.Begun.{earlier_count, IsSettledAfter}
 use Rattle.pdl_stageregs.proofs.Begins.{SoFar}
 use Rattle.pdl_stageregs.proofs.entry.begin_vars.Given as goal
 
 -- the first variables are begun
 abbrev pub invariant-loop-x : goal.invariant-loop-x
 invariant-loop-x l =
-    SoFar l.fn.b l.b (form l.pipe) (signals_in l.fn.b l.shared.next) (earlier_views l.fn.b l.earlier) (earlier_count l.earlier) l.fn.regs l.regs Var (lives_from (form l.pipe).pipe (earlier_count l.earlier)) (take l.x (form l.pipe).widths) l.nets
+    SoFar l.fn.b l.b (form l.pipe) (signals_in l.fn.b l.shared.next) (earlier_count l.earlier) l.fn.regs l.regs Var (lives_from (form l.pipe).pipe (earlier_count l.earlier)) (λ x. IsSettledAfter l.fn.b (form l.pipe) l.earlier (Var x)) (take l.x (form l.pipe).widths) l.nets

@@ -3,12 +3,13 @@ use Rattle.std.proofs.lemmas.List.{take_all}
 use Rattle.std.specs.Prelude.{slice_index}
 use Rattle.pdl_form.specs.Whole.{form}
 use Rattle.pdl_net.proofs.Keeps.{extends_keeps, extends_trans}
+use Rattle.pdl_net.specs.Signal.{Signal}
 use Rattle.pdl_flatnets.specs.Nets.{NetsThere, signals_in, signal_at, widths_of}
 use Rattle.pdl_flatnets.proofs.NetLists.{width_at, length_signals, length_widths}
 use Rattle.pdl_lives.specs.Needs.{goes_with}
 use Rattle.pdl_pipe_law.specs.Views.{View}
 use Rattle.pdl_stageregs.specs.declared.nets.Item.TheVariants.{Ticket}
-use Rattle.pdl_stageregs.specs.Stages.{no_view}
+use Rattle.pdl_stageregs.specs.Stages.{no_view, IsSettled}
 use Rattle.pdl_stageregs.specs.Begun.{MayBegin, AreBegun}
 use Rattle.pdl_stageregs.proofs.Lists.{up_to}
 use Rattle.pdl_stageregs.proofs.Begins.{SoFar, shared_keep, next_keep, sofar_more, push_old, push_new}
@@ -57,11 +58,12 @@ loop-m-preserved c =
     let xs = c.loop-m.nets in
     let needed : ℕ → Bool = goes_with f.pipe k in
     let low : i < length ws = (let q = c.loop-m-test.true in let n = c.len-m-end.ensures in let s = length_signals a c.args.shared.now.next in let w = length_widths nexts in omega (arith, q, n, s, w)) in
-    let may : (us : ℕ → View) → MayBegin d f nexts us k (needed i) r t (Ticket i) net = λ us. subst (λ fs. MayBegin d f fs us k (needed i) r t (Ticket i) net) is (c.in_ok-net.ensures.begins us) in
+    let settled : (ℕ → View) → ℕ → Signal → Type 0 = (λ us m. IsSettled f.pipe us k (Ticket m)) in
+    let may : (us : ℕ → View) → MayBegin d f nexts k (needed i) r t (Ticket i) net (settled us i) = λ us. subst (λ fs. MayBegin d f fs k (needed i) r t (Ticket i) net (settled us i)) is (c.in_ok-net.ensures.begins us) in
     let pushed = c.in_ok-push.ensures.ok in
     let wide : (signal_at nexts i).width ≡ slice_index ws i = sym (width_at nexts i) in
     let next = c.variable-next.ensures.same ∙ ap (λ ys. signal_at (signals_in b ys) i) c.as_slice.ensures ∙ ap (λ fs. signal_at fs i) is in (
-      λ us. subst (λ ys. SoFar a d f nexts us k c.args.regs.now t Ticket needed (take (i + 1) ws) ys) (sym pushed) (sofar_more a f nexts us k c.args.regs.now Ticket needed ws b d r t i xs net low c.begin_ticket.ensures.extends (may us) c.in_ok-net.ensures.last wide (c.loop-m.invariant.0 us)),
+      λ us. subst (λ ys. SoFar a d f nexts k c.args.regs.now t Ticket needed (settled us) (take (i + 1) ws) ys) (sym pushed) (sofar_more a f nexts k c.args.regs.now Ticket needed (settled us) ws b d r t i xs net low c.begin_ticket.ensures.extends (may us) c.in_ok-net.ensures.last wide (c.loop-m.invariant.0 us)),
       subst (λ ys. (y : ℕ) → y < i + 1 → needed y ≡ false → signal_at (signals_in d ys) y ≡ signal_at nexts y) (sym pushed)
           (up_to (λ y. needed y ≡ false → signal_at (signals_in d (xs ++ net ∷ [])) y ≡ signal_at nexts y) i
           (λ y l no. push_old b d bd ws i xs net low first.begun.there first.begun.wide y l ∙ c.loop-m.invariant.1 y l no)
@@ -85,7 +87,7 @@ returns-clause-tickets c = λ us.
     let n = c.len-m-end.ensures in
     let s = length_signals c.args.b.now c.args.shared.now.next in
     let w = length_widths nexts in
-    subst (λ vs. AreBegun c.loop-m.b f nexts us c.args.stage c.loop-m.regs Ticket (goes_with f.pipe c.args.stage) vs c.loop-m.nets) (take_all c.loop-m.m (widths_of nexts) (omega (arith, t, n, s, w))) (c.loop-m.invariant.0 us).begun
+    subst (λ vs. AreBegun c.loop-m.b f nexts c.loop-m.regs Ticket (goes_with f.pipe c.args.stage) (λ m. IsSettled f.pipe us c.args.stage (Ticket m)) vs c.loop-m.nets) (take_all c.loop-m.m (widths_of nexts) (omega (arith, t, n, s, w))) (c.loop-m.invariant.0 us).begun
 
 pub returns-clause-extends : goal.returns-clause-extends
 returns-clause-extends c = (c.loop-m.invariant.0 none).extends

@@ -3,12 +3,13 @@ use Rattle.pdl_form.specs.Whole.{form}
 use Rattle.pdl_flatnets.specs.Nets.{signals_in}
 use Rattle.pdl_pipe_law.specs.Lives.{verifies_from}
 use Rattle.pdl_stageregs.specs.declared.nets.Item.TheVariants.{Guess}
-use Rattle.pdl_stageregs.specs.Begun.{earlier_views, earlier_count}
+use Rattle.pdl_stageregs.specs.Begun.{earlier_count, IsSparedAfter}
 use Rattle.pdl_stageregs.proofs.Begins.{SoFar}
-use Rattle.pdl_stageregs.proofs.entry.begin_guess.Given as goal
+use Rattle.pdl_stageregs.proofs.guess.begin_guess.Given as goal
 
 -- the first arguments are begun
 abbrev pub invariant-loop-i : goal.invariant-loop-i
 invariant-loop-i l =
-    SoFar l.fn.b l.b (form l.pipe) (signals_in l.fn.b l.shared.next) (earlier_views l.fn.b l.earlier) (earlier_count l.earlier) l.fn.regs l.regs Guess (λ i. verifies_from (form l.pipe).pipe (earlier_count l.earlier))
+    SoFar l.fn.b l.b (form l.pipe) (signals_in l.fn.b l.shared.next) (earlier_count l.earlier) l.fn.regs l.regs Guess (λ i. verifies_from (form l.pipe).pipe (earlier_count l.earlier))
+    (λ i. IsSparedAfter l.fn.b (form l.pipe) l.earlier l.vars (Guess i))
     (take l.i (take (length (form l.pipe).pipe.start) (form l.pipe).widths)) l.nets
