@@ -11,7 +11,8 @@ each whole run what has to hold (pdl_model/sound.py and promises.py). A pipe tha
 `program` takes the runs of examples/ and random pipes of the forms that the program PDL compiles. What `pdl check`, `run`,
 `view` and `seq` print has to be what the model says, of a pipe that is refused the rule and the line; so each pipe is asked
 once more with a line left out, said twice, moved or changed. `whole` does the same with pipes of the whole base language and
-with delay files, and what `pdl wave` says of each port in each cycle has to be what the model says too.
+with delay files, and what `pdl wave` says of each port in each cycle has to be what the model says too. Of each pipe the
+writes that a memory receives by `run` have to be the first ones that it receives by `seq`.
 
 PIPES is 200 and SEED is 1 where they aren't given. A pipe runs for 100 cycles.
 """
@@ -143,6 +144,24 @@ def port_lines(program, cycles, delays, folder):
     return [" ".join(f"{name}={value:x}" for (name, _), value in zip(wave.ports, row)) for row in wave.rows()]
 
 
+def writes_of(lines):
+    """The writes of each memory that `run` or `seq` prints, in order."""
+    found = {}
+    for line in lines[:-1]:
+        _, memory, address, value = line.split()
+        found.setdefault(memory, []).append((address, value))
+    return found
+
+
+def is_in_order(program, layout, cycles, delays, folder):
+    """Whether each memory receives of the run the first writes that it receives of threads one after another."""
+    option = ["--delays", "pipe.delays"] if delays else []
+    ran = answer(program, ["run", "pipe.pdl", "pipe.img", str(cycles), *option], folder)
+    ended = int(ran[-1].split()[4])
+    apart = writes_of(answer(program, ["seq", "pipe.pdl", "pipe.img", str(ended + layout.count)], folder))
+    return all(apart.get(memory, [])[: len(writes)] == writes for memory, writes in writes_of(ran).items())
+
+
 def differences(program, source, image, delays, cycles, threads, folder):
     """The commands whose answers differ; None where the source is refused, and rightly."""
     (folder / "pipe.pdl").write_text(source)
@@ -156,7 +175,8 @@ def differences(program, source, image, delays, cycles, threads, folder):
              if answer(program, command, folder) != lines]
     words, rows = files.read_image(layout.pipe, image), files.read_delays(layout.pipe, delays)
     ports = [files.port_line(layout, it) for it in files.turns(layout, words, cycles, rows)]
-    return found + (["wave pipe.pdl"] if port_lines(program, cycles, delays, folder) != ports else [])
+    found += ["wave pipe.pdl"] if port_lines(program, cycles, delays, folder) != ports else []
+    return found + ([] if is_in_order(program, layout, cycles, delays, folder) else ["run and seq"])
 
 
 def spoiled(chance, source):
