@@ -1,14 +1,14 @@
 -- The letters of stages, by the values of their ports.
-use Rattle.std.proofs.Common.{◌≡◌, refl, ap, ap₂, ◌∙◌, ℕ, zero, suc, ◌+◌, ◌-◌, ◌*◌, ◌<◌, ◌≤◌, ◌==◌, Bool, List, [], ◌∷◌, ◌++◌, length, length-append, arith}
+use Rattle.std.proofs.Common.{◌≡◌, refl, ap, ap₂, ◌∙◌, ℕ, suc, ◌+◌, ◌-◌, ◌*◌, ◌<◌, ◌≤◌, ◌==◌, Bool, List, [], ◌∷◌, ◌++◌, length, arith}
 use Rattle.std.specs.Prelude.{slice_index}
 use Rattle.pdl_word.specs.Words.{bit}
 use Rattle.pdl_semantics.specs.Flat.{Stage, Pipe}
 use Rattle.pdl_semantics.specs.Machine.{State}
 use Rattle.pdl_semantics.specs.Moves.{Act, movers}
 use Rattle.pdl_semantics.specs.Stages.{list_any}
-use Rattle.pdl_semantics.specs.Cycle.{letter, letters, for_stages, Ports, ports}
+use Rattle.pdl_semantics.specs.Cycle.{letter, letters, for_stages, ports}
 use Rattle.pdl_pipe_law.proofs.LinesEnds.{bit_one}
-use Rattle.pdl_machine_facts.specs.Ports.{stage_values, all_commit_values, all_request_values, whole_values}
+use Rattle.pdl_machine_facts.specs.Ports.{stage_values, whole_values}
 use Rattle.pdl_view.specs.Lines.{letter_at, letters_from}
 
 -- the letters of the stages from one on, by the values from its ports on

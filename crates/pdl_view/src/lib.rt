@@ -3,7 +3,7 @@
 //! The layer above gives the accepted pipe, an image of its memories, the replies of its delayed ones, a number of cycles and the sink.
 #![tactic(auto)]
 
+mod cycles;
 mod lines;
-mod view;
 
-pub use view::view;
+pub use cycles::view;

@@ -1,4 +1,4 @@
-use Rattle.std.proofs.Common.{◌++◌, codes}
+use Rattle.std.proofs.Common.{codes}
 use Rattle.pdl_trace.proofs.Passing.{both_on}
 use Rattle.pdl_view.specs.Lines.{letters_from}
 use Rattle.pdl_view.proofs.lines.push_stages.Goals as goal

@@ -4,7 +4,7 @@ use Rattle.pdl_trace.proofs.Passing.{IsUnderWay}
 use Rattle.pdl_machine.specs.Running.{flat_of, state_of}
 use Rattle.pdl_view.specs.Lines.{lines_from}
 use Rattle.pdl_view.proofs.Running.{left}
-use Rattle.pdl_view.proofs.view.push_cycles.Given as goal
+use Rattle.pdl_view.proofs.cycles.push_cycles.Given as goal
 
 -- what was done, with what is left, is the whole
 abbrev pub invariant-loop-done : goal.invariant-loop-done

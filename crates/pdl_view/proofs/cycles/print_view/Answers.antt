@@ -4,7 +4,7 @@ use Rattle.pdl_trace.specs.Passed.{HasPassed}
 use Rattle.pdl_trace.proofs.Passing.{prefix_off}
 use Rattle.pdl_machine.specs.Running.{flat_of, state_of}
 use Rattle.pdl_view.specs.Lines.{lines_from}
-use Rattle.pdl_view.proofs.view.print_view.Goals as goal
+use Rattle.pdl_view.proofs.cycles.print_view.Goals as goal
 
 pub returns-in-Err-clause-text : goal.returns-in-Err-clause-text
 returns-in-Err-clause-text g c =

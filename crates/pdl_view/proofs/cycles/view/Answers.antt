@@ -1,4 +1,4 @@
-use Rattle.std.proofs.Common.{◌≡◌, ◌∙◌, ap, arith, length, subst, sym}
+use Rattle.std.proofs.Common.{◌∙◌, ap, arith, length, subst, sym}
 use Rattle.pdl_tree.specs.View.{pipe_view}
 use Rattle.pdl_semantics.specs.Flatten.{flat}
 use Rattle.pdl_stagegraph.specs.Graph.{Graph}
@@ -6,7 +6,7 @@ use Rattle.pdl_pipe_law.proofs.WellFormedStages.{few_stages}
 use Rattle.pdl_runs.specs.Printed.{schedule}
 use Rattle.pdl_trace.specs.Passed.{Streams}
 use Rattle.pdl_view.proofs.Running.{begun}
-use Rattle.pdl_view.proofs.view.view.Goals as goal
+use Rattle.pdl_view.proofs.cycles.view.Goals as goal
 
 pub print_view-requires-clause-stages : goal.print_view-requires-clause-stages
 print_view-requires-clause-stages g c =
