@@ -1,5 +1,5 @@
 -- What the commands do with the files that they name.
-use Rattle.std.specs.Prelude.{◌≡◌, ℕ, ◌⊎◌, ◌++◌, List, length, map, Option, Some, None, Ok, Err}
+use Rattle.std.specs.Prelude.{◌≡◌, ℕ, ◌⊎◌, ◌++◌, List, map, Option, Some, None, Ok, Err}
 use Rattle.pdl_kit.specs.declared.rule.Rule.{Rule}
 use Rattle.pdl_kit.specs.declared.rule.Rule.TheVariants.{G1}
 use Rattle.pdl_kit.specs.Files.{Held, Gives}
@@ -14,7 +14,7 @@ use Rattle.pdl_semantics.specs.Promises.{KeepsPace}
 use Rattle.pdl_grammar.specs.Text.{IsText, IsOutOfPlace}
 use Rattle.pdl_rules.specs.Refusal.{refusal}
 use Rattle.pdl_net.specs.declared.Netlist.{Netlist}
-use Rattle.pdl_net.specs.Run.{delayed_mems, nports}
+use Rattle.pdl_net.specs.Run.{nports}
 use Rattle.pdl_wave.specs.Wave.{IsWaveOf}
 use Rattle.pdl_waverun.specs.Dumped.{wave_ports, rows_of, run_dump}
 use Rattle.pdl_pipe_law.specs.Places.{delayed_count}
