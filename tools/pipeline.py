@@ -83,12 +83,11 @@ def followed(layout, rows, squashes):
             raise ValueError(f"the stages of cycle {cycle} are not those that the threads before it lead to")
         for stage, thread in standing.items():
             thread.stands(stage, row[stage] == "M")
-        if cycle == len(rows):
-            break
-        places = after(layout, row, squashes[cycle - 1], rows[cycle])
-        for stage, place in places.items():
-            standing[stage].is_squashed = place is None and row[stage] == "S"
-        standing = {place: standing[stage] for stage, place in places.items() if place is not None}
+        for stage, thread in standing.items():
+            thread.is_squashed = squashes[cycle - 1] and stage < layout.verify_stage()
+        if cycle < len(rows):
+            places = after(layout, row, squashes[cycle - 1], rows[cycle])
+            standing = {place: standing[stage] for stage, place in places.items() if place is not None}
     return threads
 
 
