@@ -53,6 +53,16 @@ extends_more owns n a b c none x y = record {
   shapes = y.shapes ∙ x.shapes;
 }
 
+-- those of more parts may have changed
+pub parts_wider : (owns : ℕ → Own) (i n : ℕ) (a b : Circuit) → i ≤ n → ExtendsParts owns i a b → ExtendsParts owns n a b
+parts_wider owns i n a b h x = record {
+  keeps = x.keeps;
+  nexts = λ k r u. x.nexts k r (λ j l. u j (omega (arith, h, l)));
+  writes = x.writes;
+  ports = x.ports;
+  shapes = x.shapes;
+}
+
 -- a part's registers are not those of a later one
 pub own_apart : {T : Type 0} (own : T → Own) (xs : List (Option T)) (i j : ℕ) (x : T) → ((y : T) → some_at xs j ≡ Some y → (own x).to ≤ (own y).from) → (k : ℕ) → k < (own x).to → Outside (own_at own xs j).from (own_at own xs j).to k
 own_apart {T} own xs i j x apart k l = at (some_at xs j) refl

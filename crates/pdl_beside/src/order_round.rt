@@ -312,7 +312,7 @@ fn fork_step(
     requires orders { StandOrders b.old (form round.now.pipe.now).pipe orders.now }
     ensures stepped { OnOk result (IsOrderStepped b.old b.new (form round.now.pipe.now).pipe
         round.now.ends.now squash orders.now fork) }
-    ensures extends { OnOk result (ExtendsBut (own_at order_own orders.now fork) b.old b.new) }
+    ensures extends { ExtendsBut (own_at order_own orders.now fork) b.old b.new }
 {
     match order_at(orders, fork) {
         None => Ok(()),
@@ -340,8 +340,8 @@ pub fn order_steps(
     ensures stepped { OnOk result ((f : ℕ) → f < length (form round.now.pipe.now).pipe.stages →
         IsOrderStepped b.old b.new (form round.now.pipe.now).pipe
         round.now.ends.now squash orders.now f) }
-    ensures extends { OnOk result (ExtendsParts (own_at order_own orders.now)
-        (length (form round.now.pipe.now).pipe.stages) b.old b.new) }
+    ensures extends { ExtendsParts (own_at order_own orders.now)
+        (length (form round.now.pipe.now).pipe.stages) b.old b.new }
 {
     for fork in 0..round.pipe.stages().len() {
         fork_step(b, round, squash, orders, fork)?;

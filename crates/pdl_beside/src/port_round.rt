@@ -162,7 +162,7 @@ fn memory_step(
     requires ports { StandPorts b.old (form round.now.pipe.now).pipe ports.now }
     ensures stepped { OnOk result (IsPortStepped b.old b.new (form round.now.pipe.now).pipe
         round.now.ends.now ports.now m) }
-    ensures extends { OnOk result (ExtendsBut (own_at port_own ports.now m) b.old b.new) }
+    ensures extends { ExtendsBut (own_at port_own ports.now m) b.old b.new }
 {
     match read_delayed(round.pipe, m) {
         None => Ok(()),
@@ -188,8 +188,8 @@ pub fn port_steps(
     requires ports { StandPorts b.old (form round.now.pipe.now).pipe ports.now }
     ensures stepped { OnOk result ((m : ℕ) → IsPortStepped b.old b.new
         (form round.now.pipe.now).pipe round.now.ends.now ports.now m) }
-    ensures extends { OnOk result (ExtendsParts (own_at port_own ports.now)
-        (length (form round.now.pipe.now).pipe.mems) b.old b.new) }
+    ensures extends { ExtendsParts (own_at port_own ports.now)
+        (length (form round.now.pipe.now).pipe.mems) b.old b.new }
 {
     for m in 0..round.pipe.mems().len() {
         memory_step(alloc, b, round, ports, m)?;

@@ -37,6 +37,21 @@ pub fn files_of(alloc: Global, source: &[u8], image: &[u8], failing: Vec<u64>) -
     MemFiles::new(files, failing)
 }
 
+/// The same with a file d.rows besides, of delays.
+pub fn files_with_delays(
+    alloc: Global,
+    source: &[u8],
+    image: &[u8],
+    delays: &[u8],
+    failing: Vec<u64>,
+) -> MemFiles {
+    let mut files = Vec::new(alloc);
+    put_file(alloc, &mut files, b"a.pdl", source);
+    put_file(alloc, &mut files, b"e.img", image);
+    put_file(alloc, &mut files, b"d.rows", delays);
+    MemFiles::new(files, failing)
+}
+
 /// The status for words over these files.
 pub fn asked(
     alloc: Global,

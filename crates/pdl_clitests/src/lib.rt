@@ -18,6 +18,8 @@ mod faults;
 #[cfg(test)]
 mod generated;
 #[cfg(test)]
+mod late;
+#[cfg(test)]
 mod lines;
 #[cfg(test)]
 mod machine;

@@ -15,7 +15,7 @@ use Rattle.pdl_follows.specs.Memories.{delayed_of, comb_of}
 use Rattle.pdl_follows.specs.Follows.{Follows}
 use Rattle.pdl_follows.proofs.Memories.{as_many}
 use Rattle.pdl_pipe_law.proofs.WellFormedStages.{few_stages}
-use Rattle.pdl_written.proofs.Sources.{whole_names}
+use Rattle.pdl_written.proofs.Sources.{names as names_written}
 use Rattle.pdl_wave.specs.declared.port.WavePort.{WavePort}
 use Rattle.pdl_wave.specs.Dump.{IsPort, IsRow}
 use Rattle.pdl_wave.specs.Wave.{IsWaveOf}
@@ -41,10 +41,10 @@ module _ (source : List ℕ) (p : Pipe) (n : Netlist) (t : IsText source p) (kep
       omega (arith, k, delayed, comb, all, both, ap length f.mems)
 
   port_words : Each (λ (q : WavePort). IsShortWord 64 q.name) (wave_ports n)
-  port_words = wave_words n.ports _ f.ports (pipe_words (length (flat p).stages) p.mems few (named_by p.mems n.mems f.mems (whole_names source p n t f).mems))
+  port_words = wave_words n.ports _ f.ports (pipe_words (length (flat p).stages) p.mems few (named_by p.mems n.mems f.mems (names_written source p n t f).mems))
 
   own_name : IsShortWord 32 n.name
-  own_name = name_word n.name (whole_names source p n t f).netlist
+  own_name = name_word n.name (names_written source p n t f).netlist
 
   few_ports : length (wave_ports n) ≤ 242
   few_ports = let a = wave_count n.ports _ f.ports in let b = pipe_count (length (flat p).stages) p.mems few mems in omega (arith, a, b)

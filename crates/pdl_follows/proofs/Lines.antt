@@ -26,7 +26,7 @@ use Rattle.pdl_machine_facts.specs.Use.{IsInUse}
 use Rattle.pdl_pipe_law.specs.Declared.{port_mem, locked_of}
 use Rattle.pdl_pipe_law.specs.Runs.{Seen, seen_of, column_of, puts_of, output_count, cycle_by, cycle_of, commit_mems}
 use Rattle.pdl_pipe_law.proofs.WellFormedPorts.{stage_names}
-use Rattle.pdl_pipe_law.proofs.Standing.{after_more}
+use Rattle.pdl_pipe_law.proofs.After.{after_more}
 use Rattle.pdl_pipe_law.proofs.LinesMachine.{AreCommits, IsShaped, shaped}
 use Rattle.pdl_pipe_law.proofs.LinesNames.{name_of_output}
 use Rattle.pdl_pipe_law.proofs.LinesPorts.{named_value, port_is, past_stages, stages_same, found, put_in, put_cases, same_put, each_found}

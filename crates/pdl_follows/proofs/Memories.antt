@@ -58,9 +58,6 @@ distinct_some test (m ∷ ms) h = at (test m) (distinct_some test ms h.1)
     at false d = d
 
 -- each memory is among one of both
-comb_not : (m : Mem) → m.delayed ≡ false → is_comb m ≡ true
-comb_not m e = ap not e
-
 pub comb_delayed : (m : Mem) → is_comb m ≡ true → m.delayed ≡ false
 comb_delayed m e = at m.delayed e
   where

@@ -2,16 +2,12 @@
 use Rattle.std.proofs.Common.{◌≡◌, refl, true, [], ◌∷◌, length, Some}
 use Rattle.pdl_word.specs.Words.{add}
 use Rattle.pdl_semantics.specs.Flatten.{flat}
-use Rattle.pdl_semantics.proofs.Pipes.{one_stage, two_stages, under_guard, shared_guard, count_queue, count_bypass, count_rename, count_late, guess, guess_reserved, far_barrier, copy, copy_guessed, count_slow, two_branches, one_branch}
+use Rattle.pdl_semantics.proofs.Pipes.{one_stage, two_stages, under_guard, shared_guard, count_queue, count_late, guess, guess_reserved, far_barrier, copy, copy_guessed, count_slow, two_branches, one_branch}
 use Rattle.pdl_semantics.specs.Flat.{Pipe}
 use Rattle.pdl_semantics.specs.Machine.{State, lock_of}
 use Rattle.pdl_semantics.specs.Cycle.{squasher, has_release, cycle, first, state_after}
 use Rattle.pdl_invariant.specs.Use.{moving, with_new, with_release}
-use Rattle.pdl_machine_facts.specs.Fit.{IsFit}
-use Rattle.pdl_machine_facts.specs.Linear.{IsSimple}
-use Rattle.pdl_machine_facts.proofs.LinearSources.{linear_source}
 use Rattle.pdl_lockuse.specs.Careful.{is_careful}
-use Rattle.pdl_lockuse.proofs.Tried.{fit_tested, simple_tested}
 use Rattle.pdl_semantics.specs.PendingLists.{count_older}
 
 one_stage_careful : is_careful (flat one_stage) ≡ true
@@ -55,52 +51,6 @@ branches_careful = refl
 
 straight_careful : is_careful (flat one_branch) ≡ true
 straight_careful = refl
-
--- FIT FOR A NETLIST
-
-guess_fits : IsFit (flat (guess 3))
-guess_fits = fit_tested (flat (guess 3)) refl refl refl refl
-
-reserved_fits : IsFit (flat (guess_reserved 2))
-reserved_fits = fit_tested (flat (guess_reserved 2)) refl refl refl refl
-
-barrier_fits : IsFit (flat far_barrier)
-barrier_fits = fit_tested (flat far_barrier) refl refl refl refl
-
-branches_fit : IsFit (flat two_branches)
-branches_fit = fit_tested (flat two_branches) refl refl refl refl
-
-straight_fits : IsFit (flat one_branch)
-straight_fits = fit_tested (flat one_branch) refl refl refl refl
-
-two_stages_fit : IsFit (flat two_stages)
-two_stages_fit = fit_tested (flat two_stages) refl refl refl refl
-
-guard_fits : IsFit (flat under_guard)
-guard_fits = fit_tested (flat under_guard) refl refl refl refl
-
-guards_fit : IsFit (flat shared_guard)
-guards_fit = fit_tested (flat shared_guard) refl refl refl refl
-
-queue_fits : IsFit (flat (count_queue 1))
-queue_fits = fit_tested (flat (count_queue 1)) refl refl refl refl
-
-bypass_fits : IsFit (flat (count_bypass 4))
-bypass_fits = fit_tested (flat (count_bypass 4)) refl refl refl refl
-
-rename_fits : IsFit (flat (count_rename 2))
-rename_fits = fit_tested (flat (count_rename 2)) refl refl refl refl
-
-late_fits : IsFit (flat count_late)
-late_fits = fit_tested (flat count_late) refl refl refl refl
-
--- and simple, with guards and with a lock
-
-guards_simple : IsSimple (flat shared_guard)
-guards_simple = simple_tested (flat shared_guard) refl refl refl refl refl (linear_source shared_guard refl)
-
-rename_simple : IsSimple (flat (count_rename 2))
-rename_simple = simple_tested (flat (count_rename 2)) refl refl refl refl refl (linear_source (count_rename 2) refl)
 
 -- A SQUASH
 

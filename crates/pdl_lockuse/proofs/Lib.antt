@@ -14,8 +14,6 @@ pub mod InUse
 pub mod InRuns
 pub mod BlockedFirst
 pub mod FromRules
-pub mod Fits
-pub mod Sources
 pub mod Tried
 mod Examples
 pub mod Slotwise

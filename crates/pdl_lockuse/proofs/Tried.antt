@@ -1,20 +1,13 @@
--- A pipe that passes the tests has the facts, and is fit where it has no delayed reads.
+-- A pipe that passes the test has the facts.
 use Rattle.std.proofs.Common.{◌≡◌, sym, ap, ◌∙◌, ℕ, Bool, true, ◌&&◌, ◌||◌, List, [], length, nat_lt}
 use Rattle.pdl_semantics.specs.Flat.{Pipe, Stmt, list_all, start_env}
-use Rattle.pdl_semantics.specs.Stages.{onpath, fork_guards, is_verify}
+use Rattle.pdl_semantics.specs.Stages.{onpath, fork_guards}
 use Rattle.pdl_facts.specs.Checks.{guard_vars}
-use Rattle.pdl_facts.specs.Scans.{none_of}
-use Rattle.pdl_facts.specs.SoundChecks.{passes_tests, all_paths, all_guards}
+use Rattle.pdl_facts.specs.SoundChecks.{all_paths, all_guards}
 use Rattle.pdl_derived.proofs.Writes.{and_left, and_right}
 use Rattle.pdl_progress.proofs.Rates.{picks, among, among_append}
 use Rattle.pdl_progress.proofs.Tried.{all_picks, path_agree, agree_picks}
-use Rattle.pdl_progress.proofs.Sounded.{sounded}
-use Rattle.pdl_machine_facts.specs.Fit.{IsFit}
-use Rattle.pdl_machine_facts.specs.Linear.{IsLinear, IsSimple}
-use Rattle.pdl_invariant.specs.Strict.{Strict, is_strict, all_new, all_let_go}
 use Rattle.pdl_lockuse.specs.Careful.{Careful, is_careful, all_keep_kind, all_let_in}
-use Rattle.pdl_lockuse.proofs.Fits.{fit_sound}
-use Rattle.pdl_semantics.specs.Sound.{is_fetch}
 
 module _ (p : Pipe) (low : list_all (λ g. nat_lt g (length (start_env p []))) (all_guards p) ≡ true) where
   guard_among : (g : ℕ) → among g (guard_vars p.stmts) ≡ true → among g (all_guards p) ≡ true
@@ -28,11 +21,6 @@ module _ (p : Pipe) (low : list_all (λ g. nat_lt g (length (start_env p []))) (
       (sym (path_agree (all_guards p) (picks path (all_guards p) (start_env p [])) path p.stmts (agree_picks path (all_guards p) (start_env p []) low) guard_among))
       ∙ all_picks (λ path. test (onpath path p.stmts)) path (all_guards p) (start_env p []) h
 
-  strict_tested : is_strict p ≡ true → Strict p
-  strict_tested h =
-      let both = each_path (λ xs. all_new p.vars [] xs && all_let_go xs) h in
-      record { names = λ path. and_left _ _ (both path); blocks = λ path. and_right (all_new p.vars [] (onpath path p.stmts)) _ (both path) }
-
   careful_tested : is_careful p ≡ true → Careful p
   careful_tested h =
       let rest = and_left _ _ h in
@@ -45,18 +33,6 @@ module _ (p : Pipe) (low : list_all (λ g. nat_lt g (length (start_env p []))) (
             (list_all (λ g. nat_lt g (length (start_env p []))) (all_guards p) && all_paths (all_guards p) (λ path. all_keep_kind (onpath path p.stmts) && all_let_in [] (onpath path p.stmts)) (start_env p [])) _ h;
       }
 
-pub fit_tested : (p : Pipe) → passes_tests p ≡ true → is_strict p ≡ true → is_careful p ≡ true → none_of is_fetch p.stmts ≡ true → IsFit p
-fit_tested p facts strict careful answered =
-    let low = and_left _ _ (and_left _ _ careful) in
-    fit_sound p (sounded p facts) (strict_tested p low strict) (careful_tested p low careful) answered
-
--- and simple where it has no verifies and its stages stand in a line
-pub simple_tested : (p : Pipe) → passes_tests p ≡ true → is_strict p ≡ true → is_careful p ≡ true → none_of is_fetch p.stmts ≡ true → none_of is_verify p.stmts ≡ true → IsLinear p → IsSimple p
-simple_tested p facts strict careful answered certain linear =
-    record {
-      sound = sounded p facts;
-      linear = linear;
-      fit = fit_tested p facts strict careful answered;
-      no_fetch = answered;
-      no_verify = certain;
-    }
+-- the facts of a pipe that passes the test
+pub tested : (p : Pipe) → is_careful p ≡ true → Careful p
+tested p h = careful_tested p (and_left _ _ (and_left _ _ h)) h

@@ -3,23 +3,17 @@
 //! The functions do nothing: each clause is a theorem on the runs of the machine of `pdl_semantics`, of any flat pipe with the facts of an accepted one (`Sound`, `Strict` and `Careful`), any image and any replies of delayed memories.
 #![tactic(auto)]
 
-ghost use Rattle.std.specs.Prelude.{◌≡◌, IsTrue, ℕ, false};
-ghost use Rattle.std.specs.List.{list_all};
+ghost use Rattle.std.specs.Prelude.{IsTrue, ℕ};
 ghost use Rattle.pdl_semantics.specs.Tree;
 ghost use Rattle.pdl_semantics.specs.Flat.{Pipe};
 ghost use Rattle.pdl_semantics.specs.Flatten.{flat};
-ghost use Rattle.pdl_semantics.specs.Cycle.{is_wait};
-ghost use Rattle.pdl_rules.specs.Refusal.{KeepsRules, is_comb};
-ghost use Rattle.pdl_facts.specs.Scans.{none_of};
-ghost use Rattle.pdl_semantics.specs.Sound.{is_fetch};
-ghost use Rattle.pdl_facts.specs.SoundChecks.{passes_tests};
+ghost use Rattle.pdl_rules.specs.Refusal.{KeepsRules};
 ghost use Rattle.pdl_facts.specs.Facts.{Sound};
 ghost use Rattle.pdl_pathfacts.specs.Source.{is_source, is_named};
-ghost use Rattle.pdl_invariant.specs.Strict.{Strict, is_strict};
+ghost use Rattle.pdl_invariant.specs.Strict.{Strict};
 ghost use Rattle.pdl_invariant.specs.Use.{ReleasesWritten, ShiftsTail};
 ghost use Rattle.pdl_machine_facts.specs.Slots.{LeadsOn};
-ghost use Rattle.pdl_machine_facts.specs.Cycle.{IsByStages, IsCalm};
-ghost use Rattle.pdl_machine_facts.specs.Fit.{IsFit};
+ghost use Rattle.pdl_machine_facts.specs.Cycle.{IsByStages};
 ghost use Rattle.pdl_machine_facts.specs.Use.{IsInUse};
 ghost use Rattle.pdl_lockuse.specs.Careful.{Careful, is_careful};
 ghost use Rattle.pdl_lockuse.specs.Use.{HasRoom, ReleasesOwn, ReleasesOlder, FindsAll, KeepsTail, LeavesTail, Cuts, IsSpared, WritesOnce, IsLet, UsesOlder, AwaitsOlder};
@@ -76,9 +70,10 @@ pub fn squashes()
     ensures by_stages { (p : Pipe) → Sound p → Strict p → InEachCycle p (IsCut p) }
 {}
 
-/// What the use of the locks takes beside Sound and Strict holds of every accepted pipe, no two `if`s on expressions of which begin at one byte, as in every tree that is read from a source.
+/// What the use of the locks takes beside Sound and Strict holds of every accepted pipe, no two `if`s on expressions of which begin at one byte, as in every tree that is read from a source; and of every flat pipe that passes its test.
 pub fn careful()
-    ensures { (p : Tree.Pipe) → KeepsRules p → IsTrue (is_source p) → Careful (flat p) }
+    ensures source { (p : Tree.Pipe) → KeepsRules p → IsTrue (is_source p) → Careful (flat p) }
+    ensures tested { (p : Pipe) → IsTrue (is_careful p) → Careful p }
 {}
 
 /// Proper use of the locks in each run of an accepted pipe, where no variable has the empty name.
@@ -91,15 +86,3 @@ pub fn accepted()
     careful();
     in_use();
 }
-
-/// A cycle that is no wait is calm; so pipes without delayed reads are fit for a netlist, whatever their guesses, forks, guards and locks, and so are accepted pipes whose memories answer at once.
-pub fn fit()
-    ensures calm { (p : Pipe) → Sound p → Strict p →
-        InEachCycle p (λ st bits. is_wait p st bits ≡ false → IsCalm p st bits) }
-    ensures by_facts { (p : Pipe) → Sound p → Strict p → Careful p →
-        IsTrue (none_of is_fetch p.stmts) → IsFit p }
-    ensures by_tests { (p : Pipe) → IsTrue (passes_tests p) → IsTrue (is_strict p) →
-        IsTrue (is_careful p) → IsTrue (none_of is_fetch p.stmts) → IsFit p }
-    ensures by_rules { (p : Tree.Pipe) → KeepsRules p → IsTrue (is_source p) → IsTrue (is_named p) →
-        IsTrue (list_all is_comb p.mems) → IsFit (flat p) }
-{}

@@ -1,8 +1,5 @@
-pub mod StagewiseDeeds
 pub mod StagewiseActs
 pub mod StagewisePorts
 pub mod Stagewise
-pub mod Still
+pub mod Requests
 pub mod UsingTurn
-pub mod LinearSources
-pub mod Answered

@@ -1,10 +1,10 @@
 -- What a cycle does, stage by stage and memory by memory.
-use Rattle.std.specs.Prelude.{◌≡◌, ℕ, ◌-◌, ◌<◌, Bool, true, false, ◌&&◌, List, Option, Some, None, is_some, length, if◌then◌else◌, ◌==◌}
+use Rattle.std.specs.Prelude.{◌≡◌, ℕ, ◌-◌, ◌<◌, Bool, ◌&&◌, List, Option, Some, None, is_some, length, if◌then◌else◌, ◌==◌}
 use Rattle.pdl_semantics.specs.Flat.{Pipe}
 use Rattle.pdl_semantics.specs.Machine.{Thread, State, lock_of, deeds}
 use Rattle.pdl_semantics.specs.Moves.{next_stage, is_empty, all_acts}
 use Rattle.pdl_semantics.specs.Moves as model
-use Rattle.pdl_semantics.specs.Cycle.{Ports, cycle, for_mems, for_stages, list_three, taken_out, port_write, with_commit, entries_left, or_then, if_kept, born_thread, child_of, squasher, is_wait}
+use Rattle.pdl_semantics.specs.Cycle.{Ports, cycle, for_mems, for_stages, list_three, taken_out, port_write, with_commit, entries_left, or_then, if_kept, born_thread, child_of, squasher}
 use Rattle.pdl_semantics.specs.Cycle as model_cycle
 use Rattle.pdl_machine_facts.specs.Slots.{slot, here, later_acts, locks_ready, may_pass, stage_moves, may_enter, moving, arriving_thread, staying_thread}
 
@@ -33,8 +33,3 @@ pub record IsByStages (p : Pipe) (st : State) (bits : List Bool) : Type 0 where
       → slot (cycle p st bits) k ≡ or_then (newborn p st bits k) (if_kept (squasher (moving p st bits)) (or_then (arriving_thread p st bits k) (staying_thread p st bits k)))
   pub locks : (m : ℕ) → m < length p.mems → lock_of (cycle p st bits) m ≡ entries_left (squasher (moving p st bits)) (list_three st (moving p st bits) m)
   pub arrays : (m : ℕ) → m < length p.mems → (cycle p st bits).arrays m ≡ with_commit st.arrays m (taken_out st (moving p st bits) m) m
-
--- a cycle that is no wait, and in which a squash removes none that moves
-pub record IsCalm (p : Pipe) (st : State) (bits : List Bool) : Type 0 where
-  pub spared : (k : ℕ) (t : Thread) → here p st bits k ≡ Some t → stage_moves p st bits k ≡ true → model_cycle.is_kept (squasher (moving p st bits)) t.number ≡ true
-  pub wait : is_wait p st bits ≡ false

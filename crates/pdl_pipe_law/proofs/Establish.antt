@@ -1,28 +1,25 @@
 -- How the parts of a compiled netlist are established: registers, constants, conditions, values, looks.
-use Rattle.std.proofs.Common.{◌≡◌, refl, sym, ap, ap₂, ◌∙◌, subst, ℕ, ◌<◌, Bool, true, false, ◌&&◌, ◌||◌, not, List, [], ◌∷◌, ◌++◌, ◌==◌}
+use Rattle.std.proofs.Common.{◌≡◌, refl, sym, ap, ap₂, ◌∙◌, subst, ℕ, ◌<◌, Bool, true, false, ◌&&◌, ◌||◌, List, [], ◌∷◌, ◌++◌, ◌==◌}
 use Rattle.std.specs.Prelude.{Option, Some, if◌then◌else◌, slice_index, slice_index_or, ◌^◌, ◌≤◌}
 use Rattle.std.proofs.lemmas.List.{get_or-map}
 use Rattle.std.proofs.lemmas.Bool.{false≢true, or_left, or_right}
 use Rattle.pdl_word.specs.Words as words
-use Rattle.pdl_word.specs.Words.{bit, mux}
-use Rattle.pdl_semantics.specs.Flat.{Expr, Constant, Variable, Slice, Not, Binary, Cat, LessSigned, ZeroExtend, SignExtend, Choose, Guard, Pipe, operator_value, takes_branch, value_of}
+use Rattle.pdl_word.specs.Words.{bit}
+use Rattle.pdl_semantics.specs.Flat.{Expr, Constant, Variable, Slice, Not, Binary, Cat, LessSigned, ZeroExtend, SignExtend, Choose, Pipe, operator_value, value_of}
 use Rattle.pdl_semantics.specs.Stages.{mem_at}
 use Rattle.pdl_net.specs.declared.Reg.{Reg}
-use Rattle.pdl_net.specs.Circuit.{Circuit, State, HasReg, reg_reset, no_reg, array_depth}
-use Rattle.pdl_net.specs.Signal.{Signal, const_value, reg_value, mux_value, const_signal, reg_signal, mux_signal}
+use Rattle.pdl_net.specs.Circuit.{Circuit, State, HasReg, reg_reset, no_reg}
+use Rattle.pdl_net.specs.Signal.{Signal, const_value, reg_value, const_signal, reg_signal, mux_signal}
 use Rattle.pdl_net.specs.Meaning.{next_signal}
 use Rattle.pdl_net.proofs.Keeps.{next_reg}
 use Rattle.pdl_lockapi.specs.declared.Kind.TheVariants as look_kind
 use Rattle.pdl_lockapi.specs.Lock.{look_ready}
-use Rattle.pdl_lockapi.specs.declared.LockRegs.{LockRegs}
-use Rattle.pdl_lockapi.specs.Forget.{as_lock}
-use Rattle.pdl_lockapi.specs.Laws.{first_reg, end_reg, first_array, end_array, own, words_of, HasImage, FitsIn, StartLaw, RoomLaw, TicketLaw, LookLaw, StepLaw}
+use Rattle.pdl_lockapi.specs.Laws.{FitsIn, LookLaw}
 use Rattle.pdl_pipe_law.specs.Lives.{uses_var}
-use Rattle.pdl_pipe_law.specs.Walk.{Locks, Walk, is_locked, one, zero_bit, both, is_on, taken_in, look_of, ThroughLock, IsWord}
-use Rattle.pdl_pipe_law.specs.Views.{View, Gates, Comer, first_coming}
-use Rattle.pdl_pipe_law.specs.Compiled.{Becomes, StartsAs, HasLock}
-use Rattle.pdl_pipe_law.specs.Ports.{Commit, step_of}
-use Rattle.pdl_pipe_law.proofs.Signals.{mux_by, both_at, one_is, zero_is}
+use Rattle.pdl_pipe_law.specs.Walk.{Locks, is_locked, one, is_on, look_of, ThroughLock, IsWord}
+use Rattle.pdl_pipe_law.specs.Views.{Comer, first_coming}
+use Rattle.pdl_pipe_law.specs.Compiled.{Becomes, StartsAs}
+use Rattle.pdl_pipe_law.proofs.Signals.{mux_by}
 
 -- REGISTERS AND CONSTANTS
 
@@ -57,38 +54,7 @@ pub starts_const : (c : Circuit) (w v : ℕ) → StartsAs c (const_signal w v) v
 unfolding const_value
 starts_const c w v s regs = refl
 
--- CONDITIONS THAT COST NO CELL
-
-pub mux_one : (a b : Signal) → mux_signal one a b ≡ a
-unfolding mux_value const_value mux
-mux_one a b = refl
-
-pub both_one : (f : Signal) → both one f ≡ f
-both_one f = mux_one f zero_bit
-
 -- GUARDS
-
--- whether a branch is taken
-abbrev pub literal : Bool → Signal → Signal
-literal true f = mux_signal f one zero_bit
-literal false f = mux_signal f zero_bit one
-
-pub literal_is : (first : Bool) (f : Signal) (s : State) → (literal first f).value s ≡ bit (takes_branch first (f.value s))
-literal_is true f s = mux_by s f one zero_bit ∙ ap₂ (λ a b. if f.value s == 1 then a else b) (one_is s) (zero_is s)
-literal_is false f s = mux_by s f zero_bit one ∙ ap₂ (λ a b. if f.value s == 1 then a else b) (zero_is s) (one_is s) ∙ at (f.value s == 1)
-  where
-    at : (b : Bool) → (if b then 0 else 1) ≡ bit (not b)
-    at true = refl
-    at false = refl
-
--- and whether all are
-abbrev pub all_taken : List Guard → Walk → Signal
-all_taken [] w = one
-all_taken (g ∷ gs) w = both (literal g.first (w.vars g.var)) (all_taken gs w)
-
-pub taken_is : (gs : List Guard) (w : Walk) (s : State) → (all_taken gs w).value s ≡ bit (taken_in gs w s)
-taken_is [] w s = one_is s
-taken_is (g ∷ gs) w s = both_at s (literal g.first (w.vars g.var)) (all_taken gs w) (takes_branch g.first ((w.vars g.var).value s)) (taken_in gs w s) (literal_is g.first (w.vars g.var) s) (λ e. taken_is gs w s)
 
 -- VALUES
 
@@ -138,23 +104,4 @@ word_plain p ls m addr ticket f s e word deep fits = record {
   reach = subst (λ n. addr.value s < n) deep fits;
   plain = λ g. word;
   locked = λ g. absurd (false≢true (sym e ∙ g));
-}
-
--- LOCKS
-
--- what is asked of a memory's lock are the laws of its module
-pub lock_made : (p : Pipe) (ls : Locks) (c : Circuit) (vs : ℕ → View) (gates : Gates) (moves : ℕ → Signal) (r : LockRegs) (commit : Commit) (m : ℕ) → (mem_at p m).lock ≡ as_lock (ls.kind m) (ls.size m)
-    → ((k : ℕ) → first_reg r ≤ k → k < end_reg r → HasReg c k) → r.array ≡ Some (ls.array m) → 2 ^ r.bits ≡ (mem_at p m).depth → array_depth c (ls.array m) ≡ words_of (ls.kind m) (mem_at p m).depth
-    → StartLaw (ls.stands m) (ls.kind m) c r → RoomLaw (ls.stands m) (ls.size m) (ls.room m) → TicketLaw (ls.stands m) (ls.bits m) (ls.ticket m) → StepLaw (ls.stands m) (ls.size m) (ls.bits m) (own r) c (step_of p vs gates moves m) commit.enable commit.addr commit.value
-    → HasLock p ls c vs gates moves (own r) commit m
-lock_made p ls c vs gates moves r commit m kind regs array bits deep start room ticket step = record {
-  kind = kind;
-  regs = regs;
-  first = ap first_array array;
-  last = ap end_array array;
-  deep = deep;
-  starts = λ s image reset long has. start.starts s image reset (long ∙ sym bits) (subst (λ o. HasImage (ls.kind m) o s image) (sym array) has);
-  room = room;
-  ticket = ticket;
-  step = step;
 }

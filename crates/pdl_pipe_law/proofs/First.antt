@@ -1,37 +1,30 @@
 -- The first state of a compiled netlist stands for the machine's first state.
-use Rattle.std.proofs.Common.{◌≡◌, refl, sym, ap, ◌∙◌, subst, ℕ, zero, suc, ◌+◌, ◌-◌, ◌%◌, ◌^◌, ◌==◌, ◌<◌, ◌≤◌, Bool, true, false, List, [], ◌∷◌, ◌++◌, length, map, get_or, Some, None, is_some, arith, ⊎_elim, length-append}
+use Rattle.std.proofs.Common.{◌≡◌, refl, sym, ap, ◌∙◌, subst, ℕ, zero, suc, ◌+◌, ◌-◌, ◌%◌, ◌^◌, ◌==◌, ◌<◌, ◌≤◌, Bool, true, false, List, [], ◌∷◌, ◌++◌, length, map, Some, None, is_some, arith, ⊎_elim, length-append}
 use Rattle.std.specs.Prelude.{if◌then◌else◌, slice_index, slice_index_or, replicate}
 use Rattle.std.proofs.lemmas.Bool.{cases_lt, ne_eqb}
 use Rattle.std.proofs.lemmas.List.{length-replicate}
 use Rattle.pdl_word.specs.Words.{bit}
 use Rattle.pdl_semantics.specs.Flat as model
-use Rattle.pdl_semantics.specs.Flat.{Pipe, arrays_of, start_env}
+use Rattle.pdl_semantics.specs.Flat.{Pipe, start_env}
 use Rattle.pdl_semantics.specs.Stages.{mem_at, reserve_stage}
 use Rattle.pdl_semantics.specs.Machine as machine
 use Rattle.pdl_semantics.specs.Machine.{Thread, Pending, is_held, with_kept}
 use Rattle.pdl_semantics.specs.Cycle.{first, born_thread, for_mems}
 use Rattle.pdl_net.specs.declared.Reg.{Reg}
-use Rattle.pdl_net.specs.declared.Array.{Array}
-use Rattle.pdl_net.specs.Circuit.{Circuit, State, HasArray, array_depth, no_array}
+use Rattle.pdl_net.specs.Circuit.{Circuit, State}
 use Rattle.pdl_net.specs.Signal.{Signal}
 use Rattle.pdl_net.specs.Well.{Suits}
-use Rattle.pdl_net.specs.Run.{filled_words, loaded_arrays}
 use Rattle.pdl_lockapi.specs.Lock.{start}
-use Rattle.pdl_lockapi.specs.Laws.{words_of, HasImage}
 use Rattle.pdl_lockapi.specs.Forget.{lock_state_of}
-use Rattle.pdl_lockapi.proofs.Next.{is_reset}
 use Rattle.pdl_machine_facts.specs.Slots.{slot}
 use Rattle.pdl_machine_facts.proofs.StagewisePorts.{at_stage, past_stage}
 use Rattle.pdl_pipe_law.specs.Lives.{lives_from, held_from}
 use Rattle.pdl_pipe_law.specs.Walk.{Locks, is_locked}
 use Rattle.pdl_pipe_law.specs.Views.{Gates, View}
-use Rattle.pdl_pipe_law.specs.Compiled.{IsCompiled, IsLaid}
+use Rattle.pdl_pipe_law.specs.Compiled.{IsLaid}
 use Rattle.pdl_pipe_law.specs.Stands.{IsEnv, IsHolding, StandsLock, StandsFor, IsGuess}
 use Rattle.pdl_pipe_law.proofs.Comers.{signals_are}
-use Rattle.pdl_pipe_law.proofs.Next.{mem_there, lock_there}
-use Rattle.pdl_pipe_law.proofs.Laid.{laid}
 use Rattle.pdl_word.proofs.Lists.{zeros_at}
-use Rattle.pdl_net.proofs.Loaded.{loaded_at}
 use Rattle.pdl_semantics.proofs.Facts.{held_first}
 use Rattle.pdl_semantics.specs.PendingLists.{count_older}
 
@@ -41,12 +34,6 @@ pub padded_at : (xs : List ℕ) (n i : ℕ) → slice_index (xs ++ replicate n 0
 padded_at [] n i = zeros_at n i
 padded_at (x ∷ xs) n zero = refl
 padded_at (x ∷ xs) n (suc i) = padded_at xs n i
-
--- each array has the words of the image
-word_loaded : (rest : List Array) (image : List (List ℕ)) (m a : ℕ) → m < length rest → arrays_of image m a ≡ slice_index (get_or (loaded_arrays rest image) m []) a
-word_loaded rest image m a l =
-    let ws = get_or image m [] in
-    sym (ap (λ xs. slice_index xs a) (loaded_at rest image m l) ∙ padded_at ws ((get_or rest m no_array).depth - length ws) a)
 
 -- THE MACHINE'S FIRST STATE
 
@@ -157,42 +144,3 @@ module _ (p : Pipe) (ls : Locks) (vs : ℕ → View) (gates : Gates) (moves : �
     words = words;
     locks = lock_at_first;
   }
-
--- where each memory has an array
-module _ (p : Pipe) (names : ℕ → List ℕ) (ls : Locks) (vs : ℕ → View) (gates : Gates) (moves : ℕ → Signal) (c : Circuit) (made : IsCompiled p names ls vs gates moves c) (in_order : (m : ℕ) → m < length p.mems → ls.array m ≡ m) (image : List (List ℕ)) (whole : (m : ℕ) → m < length p.mems → length (get_or image m []) ≡ (mem_at p m).depth) (s : State) (suits : Suits c s)
-    (regs : s.regs ≡ map (λ (r : Reg). r.reset) c.regs) (arrays : s.arrays ≡ loaded_arrays c.arrays image) where
-  word_first : (m a : ℕ) → m < length p.mems → arrays_of image m a ≡ slice_index (slice_index_or s.arrays (ls.array m) []) a
-  unfolding HasArray
-  word_first m a l =
-      word_loaded c.arrays image m a (subst (λ i. i < length c.arrays) (in_order m l) (there m l))
-      ∙ ap (λ xs. slice_index (get_or xs m []) a) (sym arrays)
-      ∙ ap (λ i. slice_index (slice_index_or s.arrays i []) a) (sym (in_order m l))
-    where
-      there : (m : ℕ) → m < length p.mems → ls.array m < length c.arrays
-      there m l = made.arrays m l
-
-  -- the array of a lock has the image in front
-  image_there : (m : ℕ) → (e : is_locked p m ≡ true) → m < length p.mems → HasImage (ls.kind m) (Some (ls.array m)) s (get_or image m [])
-  unfolding HasArray array_depth
-  image_there m e l =
-      let there : m < length c.arrays = subst (λ i. i < length c.arrays) (in_order m l) (made.arrays m l) in
-      let deep : (get_or c.arrays m no_array).depth ≡ words_of (ls.kind m) (length (get_or image m [])) =
-      ap (λ i. (get_or c.arrays i no_array).depth) (sym (in_order m l)) ∙ (made.locks m e).deep ∙ ap (words_of (ls.kind m)) (sym (whole m l)) in
-      ap (λ xs. get_or xs (ls.array m) []) arrays
-      ∙ ap (λ i. get_or (loaded_arrays c.arrays image) i []) (in_order m l)
-      ∙ loaded_at c.arrays image m there
-      ∙ ap (λ d. filled_words d (get_or image m [])) deep
-
-  starts_first : (m : ℕ) → is_locked p m ≡ true → StartsWith p ls (arrays_of image) s m
-  starts_first m e =
-      let x = made.locks m e in
-      let l = lock_there p m e in
-      record {
-        words = get_or image m [];
-        long = (let z = whole m l in omega (arith, z));
-        same = λ a low. refl;
-        stands = x.starts s (get_or image m []) (is_reset c (made.owns m).from (made.owns m).to s x.regs regs) (whole m l) (image_there m e l);
-      }
-
-  pub stands_first : StandsFor p ls vs s (first p (arrays_of image))
-  stands_first = stands_at_first p ls vs gates moves c (laid p names ls vs gates moves c made) (arrays_of image) s suits regs (λ m e comb a low. word_first m a (mem_there p m a low)) starts_first

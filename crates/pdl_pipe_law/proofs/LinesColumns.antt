@@ -10,12 +10,11 @@ use Rattle.pdl_semantics.specs.Cycle.{PortWrite}
 use Rattle.pdl_semantics.specs.Lines.{column, columns, cycle_lines, mem_lines, put_of, puts_in}
 use Rattle.pdl_rules.specs.Typed.{AreDistinct}
 use Rattle.pdl_rules.specs.Memories.{info_of}
-use Rattle.pdl_net.specs.declared.Netlist.{Netlist}
-use Rattle.pdl_net.specs.Circuit.{Output, circuit_of, outputs_of}
-use Rattle.pdl_pipe_law.specs.Declared.{port_mem, if_locked, locked_of}
-use Rattle.pdl_pipe_law.specs.Runs.{column_of, commit_mem, commit_mems}
+use Rattle.pdl_net.specs.Circuit.{Output}
+use Rattle.pdl_pipe_law.specs.Declared.{if_locked}
+use Rattle.pdl_pipe_law.specs.Runs.{column_of, commit_mem}
 use Rattle.pdl_pipe_law.proofs.WellFormedNames.{Among, name_turned, among_other}
-use Rattle.pdl_pipe_law.proofs.WellFormedPorts.{stage_names, commit_names}
+use Rattle.pdl_pipe_law.proofs.WellFormedPorts.{stage_names}
 use Rattle.pdl_pipe_law.proofs.LinesMachine.{AreCommits}
 use Rattle.pdl_pipe_law.proofs.LinesNames.{name_of_output}
 use Rattle.pdl_pipe_law.proofs.LinesPorts.{found, found_first}
@@ -69,26 +68,9 @@ one_of_locked infos x i names e =
     ap (λ o. cons_option o (with_port infos ((codes "ca_" ++ x) ∷ (codes "cd_" ++ x) ∷ names))) e
     ∙ ap (λ l. i ∷ l) (skipped infos (codes "ca_" ++ x) ((codes "cd_" ++ x) ∷ names) (λ y. refl) ∙ skipped infos (codes "cd_" ++ x) names (λ y. refl))
 
-all_of_locked : (infos : List MemInfo) (ms : List Mem) → AreFound ms infos → with_port infos (commit_names (locked_of ms)) ≡ locked_infos ms
-all_of_locked infos [] h = skipped infos (codes "ended") (codes "squash" ∷ []) (λ x. refl) ∙ skipped infos (codes "squash") [] (λ x. refl)
-all_of_locked infos (m ∷ ms) h = go (is_some m.lock) (all_of_locked infos ms (λ k a. h k (inr a)))
-  where
-    go : (b : Bool) → with_port infos (commit_names (locked_of ms)) ≡ locked_infos ms
-        → with_port infos (commit_names ((if b then port_mem m ∷ [] else []) ++ locked_of ms)) ≡ (if b then info_of m ∷ [] else []) ++ locked_infos ms
-    go true rest = one_of_locked infos m.name.name (info_of m) (commit_names (locked_of ms)) (h m (inl refl)) ∙ ap (λ l. info_of m ∷ l) rest
-    go false rest = rest
-
 pub by_names : (infos : List MemInfo) (outs : List Output) → filter_map (λ (o : Output). commit_mem infos o.name) outs ≡ with_port infos (map name_of_output outs)
 by_names infos [] = refl
 by_names infos (o ∷ outs) = ap (cons_option (commit_mem infos o.name)) (by_names infos outs)
-
--- where the outputs have the names of the ports of a pipe, the memories with a commit port are those with a lock
-pub locked_shown : (n : Netlist) (ms : List Mem) (stages : ℕ) → map name_of_output (outputs_of (circuit_of n)) ≡ stage_names 0 stages (commit_names (locked_of ms)) → AreFound ms n.mems → commit_mems n ≡ locked_infos ms
-locked_shown n ms stages named h =
-    by_names n.mems (outputs_of (circuit_of n))
-    ∙ ap (with_port n.mems) named
-    ∙ none_of_stages n.mems 0 stages (commit_names (locked_of ms))
-    ∙ all_of_locked n.mems ms h
 
 -- ---- the lines of a cycle
 

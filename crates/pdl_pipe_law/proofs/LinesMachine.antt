@@ -2,16 +2,14 @@
 use Rattle.std.proofs.Common.{◌≡◌, refl, sym, ap, ◌∙◌, subst, ℕ, suc, ◌+◌, Bool, false, List, [], ◌∷◌, ◌++◌, length, Option, None, if◌then◌else◌, arith}
 use Rattle.std.specs.Prelude.{⊤, slice_index_or}
 use Rattle.pdl_semantics.specs.Flat
-use Rattle.pdl_semantics.specs.Flat.{Arrays, has_lock}
+use Rattle.pdl_semantics.specs.Flat.{has_lock}
 use Rattle.pdl_semantics.specs.Stages.{mem_at, plain_mem}
 use Rattle.pdl_semantics.specs.Machine.{State}
-use Rattle.pdl_semantics.specs.Cycle.{PortWrite, oldest, list_two, taken_out, port_write, for_mems, for_stages, Ports, Turn, turns_from, turns, cycle, first, state_after}
+use Rattle.pdl_semantics.specs.Cycle.{PortWrite, oldest, list_two, taken_out, port_write, for_mems, for_stages, Ports, cycle}
 use Rattle.pdl_machine_facts.specs.Slots.{moving}
 use Rattle.pdl_machine_facts.specs.Cycle.{ports_of, IsByStages}
 use Rattle.pdl_machine_facts.specs.Use.{IsInUse}
-use Rattle.pdl_machine_facts.specs.Fit.{IsFit}
 use Rattle.pdl_lockapi.proofs.LockKinds.{plain_is}
-use Rattle.pdl_pipe_law.proofs.Standing.{after_more}
 
 -- what each memory commits, where one without lock commits nothing
 abbrev pub AreCommits : List Flat.Mem → List (Option PortWrite) → Type 0
@@ -24,10 +22,6 @@ pub record IsShaped (q : Flat.Pipe) (o : Ports) : Type 0 where
   pub valid : length o.valid ≡ length q.stages
   pub moves : length o.moves ≡ length q.stages
   pub commits : AreCommits q.mems o.commits
-
-abbrev pub AllShaped : Flat.Pipe → List Turn → Type 0
-AllShaped q [] = ⊤
-AllShaped q (t ∷ ts) = IsShaped q t.ports × AllShaped q ts
 
 pub stages_long : {X : Type 0} (f : ℕ → X) (k : ℕ) (xs : List Flat.Stage) → length (for_stages f k xs) ≡ length xs
 stages_long f k [] = refl
@@ -47,14 +41,3 @@ shaped q st bits by used = record {
   moves = stages_long _ 0 q.stages;
   commits = subst (AreCommits q.mems) (sym by.commits) (commits_from (λ m. port_write (taken_out st (moving q st bits) m)) 0 q.mems (λ i e. let z : 0 + i ≡ i = omega arith in ap port_write (ap (taken_out st (moving q st bits)) z ∙ ap (λ b. if b then oldest (list_two st (moving q st bits) i) else None) (used.unreleased i (plain_is (mem_at q i).lock e)))));
 }
-
--- each turn of a run has such ports
-shaped_from : (q : Flat.Pipe) → IsFit q → (image : Arrays) (before : List (List Bool)) (st : State) (schedule : List (List Bool)) → st ≡ state_after q (first q image) before → AllShaped q (turns_from q st schedule)
-shaped_from q fit image before st [] e = tt
-shaped_from q fit image before st (bits ∷ schedule) e = (
-  subst (λ x. IsShaped q (ports_of q x bits)) (sym e) (shaped q (state_after q (first q image) before) bits (fit.by image before bits) (fit.used image before bits)),
-  shaped_from q fit image (before ++ bits ∷ []) (cycle q st bits) schedule (ap (λ x. cycle q x bits) e ∙ sym (after_more q (first q image) before bits)),
-)
-
-pub turns_shaped : (q : Flat.Pipe) → IsFit q → (image : Arrays) (schedule : List (List Bool)) → AllShaped q (turns q image schedule)
-turns_shaped q fit image schedule = shaped_from q fit image [] (first q image) schedule refl

@@ -1,5 +1,5 @@
 -- What the values of the ports of a pipe say of each memory, by the names of the ports.
-use Rattle.std.proofs.Common.{◌≡◌, inl, inr, ℕ, zero, suc, ◌+◌, Bool, true, false, ◌&&◌, if◌then◌else◌, cond, List, [], ◌∷◌, ◌++◌, length, map, Option, Some, None, codes, decimal, bytes_eq, refl, sym, ap, ap₂, ◌∙◌, arith, append_assoc}
+use Rattle.std.proofs.Common.{◌≡◌, inl, inr, ℕ, zero, suc, ◌+◌, Bool, true, false, ◌&&◌, if◌then◌else◌, cond, List, [], ◌∷◌, ◌++◌, length, map, Option, Some, None, codes, decimal, bytes_eq, refl, sym, ap, ap₂, ◌∙◌, arith}
 use Rattle.std.specs.Prelude.{slice_index, ◌==◌}
 use Rattle.std.specs.List.{position_from}
 use Rattle.std.specs.Option.{is_some}
@@ -14,11 +14,10 @@ use Rattle.pdl_semantics.specs.Lines.{Put, put_of, puts_in}
 use Rattle.pdl_rules.specs.Typed.{is_memory, AreDistinct}
 use Rattle.pdl_net.specs.Circuit.{Circuit, Output, outputs_of}
 use Rattle.pdl_net.specs.Run.{value_at, port_value}
-use Rattle.pdl_machine_facts.specs.Ports.{stage_values, shown_values, commit_values, all_commit_values}
-use Rattle.pdl_pipe_law.specs.Declared.{port_mem, locked_of}
+use Rattle.pdl_machine_facts.specs.Ports.{stage_values, shown_values, commit_values}
 use Rattle.pdl_pipe_law.specs.Runs.{puts_of}
 use Rattle.pdl_pipe_law.proofs.WellFormedNames.{Among, name_turned, among_other}
-use Rattle.pdl_pipe_law.proofs.WellFormedPorts.{stage_names, commit_names}
+use Rattle.pdl_pipe_law.proofs.WellFormedPorts.{stage_names}
 use Rattle.pdl_pipe_law.proofs.LinesMachine.{AreCommits}
 use Rattle.pdl_pipe_law.proofs.LinesNames.{name_of_output}
 use Rattle.pdl_word.proofs.Bytes.{bytes_refl}
@@ -113,70 +112,6 @@ if_both g false e rest = refl
 pub if_none : (g : Option PortWrite → ℕ) (t : Bool) (e rest : Option PortWrite) → g rest ≡ g (if t && false then e else rest)
 if_none g true e rest = refl
 if_none g false e rest = refl
-
--- a look-up passes the ports of a memory without lock, and those of another name
-abbrev names_if : Bool → Mem → List Mem → List (List ℕ)
-names_if b m ms = commit_names ((if b then port_mem m ∷ [] else []) ++ locked_of ms)
-
-flag_step : (m : Mem) (ms : List Mem) (b : Bool) (e rest : Option PortWrite) (vals : List ℕ) (x : List ℕ) → named_value (commit_names (locked_of ms)) vals (codes "c_" ++ x) ≡ flag_of rest
-    → named_value (names_if b m ms) (commit_if b e ++ vals) (codes "c_" ++ x) ≡ flag_of (if bytes_eq m.name.name x && b then e else rest)
-flag_step m ms true e rest vals x h = ap (λ n. if bytes_eq m.name.name x then flag_of e else n) h ∙ if_both flag_of (bytes_eq m.name.name x) e rest
-flag_step m ms false e rest vals x h = h ∙ if_none flag_of (bytes_eq m.name.name x) e rest
-
-addr_step : (m : Mem) (ms : List Mem) (b : Bool) (e rest : Option PortWrite) (vals : List ℕ) (x : List ℕ) → named_value (commit_names (locked_of ms)) vals (codes "ca_" ++ x) ≡ addr_of rest
-    → named_value (names_if b m ms) (commit_if b e ++ vals) (codes "ca_" ++ x) ≡ addr_of (if bytes_eq m.name.name x && b then e else rest)
-addr_step m ms true e rest vals x h = ap (λ n. if bytes_eq m.name.name x then addr_of e else n) h ∙ if_both addr_of (bytes_eq m.name.name x) e rest
-addr_step m ms false e rest vals x h = h ∙ if_none addr_of (bytes_eq m.name.name x) e rest
-
-word_step : (m : Mem) (ms : List Mem) (b : Bool) (e rest : Option PortWrite) (vals : List ℕ) (x : List ℕ) → named_value (commit_names (locked_of ms)) vals (codes "cd_" ++ x) ≡ word_of rest
-    → named_value (names_if b m ms) (commit_if b e ++ vals) (codes "cd_" ++ x) ≡ word_of (if bytes_eq m.name.name x && b then e else rest)
-word_step m ms true e rest vals x h = ap (λ n. if bytes_eq m.name.name x then word_of e else n) h ∙ if_both word_of (bytes_eq m.name.name x) e rest
-word_step m ms false e rest vals x h = h ∙ if_none word_of (bytes_eq m.name.name x) e rest
-
--- the values of the ports of the memories, and of two ports after them
-abbrev pub after : List Mem → List (Option PortWrite) → ℕ → ℕ → List ℕ
-after ms es a b = all_commit_values (mems_of ms) es ++ a ∷ b ∷ []
-
--- those of the first memory come first
-after_first : (m : Mem) (ms : List Mem) (e : Option PortWrite) (es : List (Option PortWrite)) (a b : ℕ) → after (m ∷ ms) (e ∷ es) a b ≡ commit_if (is_some m.lock) e ++ after ms es a b
-after_first m ms e es a b =
-    append_assoc (commit_values (flat_lock m.lock) e) (all_commit_values (mems_of ms) es) (a ∷ b ∷ [])
-    ∙ ap (λ l. l ++ after ms es a b) (commit_is m.lock e)
-
-pub flag_is : (ms : List Mem) (es : List (Option PortWrite)) (a b : ℕ) (x : List ℕ) → AreCommits (mems_of ms) es → named_value (commit_names (locked_of ms)) (after ms es a b) (codes "c_" ++ x) ≡ flag_of (found ms es x)
-flag_is [] [] a b x h = refl
-flag_is [] (e ∷ es) a b x h = absurd h
-flag_is (m ∷ ms) [] a b x h = absurd h
-flag_is (m ∷ ms) (e ∷ es) a b x h =
-    ap (λ l. named_value (commit_names (locked_of (m ∷ ms))) l (codes "c_" ++ x)) (after_first m ms e es a b)
-    ∙ flag_step m ms (is_some m.lock) e (found ms es x) (after ms es a b) x (flag_is ms es a b x h.1)
-
-pub addr_is : (ms : List Mem) (es : List (Option PortWrite)) (a b : ℕ) (x : List ℕ) → AreCommits (mems_of ms) es → named_value (commit_names (locked_of ms)) (after ms es a b) (codes "ca_" ++ x) ≡ addr_of (found ms es x)
-addr_is [] [] a b x h = refl
-addr_is [] (e ∷ es) a b x h = absurd h
-addr_is (m ∷ ms) [] a b x h = absurd h
-addr_is (m ∷ ms) (e ∷ es) a b x h =
-    ap (λ l. named_value (commit_names (locked_of (m ∷ ms))) l (codes "ca_" ++ x)) (after_first m ms e es a b)
-    ∙ addr_step m ms (is_some m.lock) e (found ms es x) (after ms es a b) x (addr_is ms es a b x h.1)
-
-pub word_is : (ms : List Mem) (es : List (Option PortWrite)) (a b : ℕ) (x : List ℕ) → AreCommits (mems_of ms) es → named_value (commit_names (locked_of ms)) (after ms es a b) (codes "cd_" ++ x) ≡ word_of (found ms es x)
-word_is [] [] a b x h = refl
-word_is [] (e ∷ es) a b x h = absurd h
-word_is (m ∷ ms) [] a b x h = absurd h
-word_is (m ∷ ms) (e ∷ es) a b x h =
-    ap (λ l. named_value (commit_names (locked_of (m ∷ ms))) l (codes "cd_" ++ x)) (after_first m ms e es a b)
-    ∙ word_step m ms (is_some m.lock) e (found ms es x) (after ms es a b) x (word_is ms es a b x h.1)
-
--- as many values as names
-same_step : (b : Bool) (m : Mem) (ms : List Mem) (e : Option PortWrite) (vals : List ℕ) → length vals ≡ length (commit_names (locked_of ms)) → length (commit_if b e ++ vals) ≡ length (names_if b m ms)
-same_step true m ms e vals h = ap (λ i. suc (suc (suc i))) h
-same_step false m ms e vals h = h
-
-pub after_same : (ms : List Mem) (es : List (Option PortWrite)) (a b : ℕ) → AreCommits (mems_of ms) es → length (after ms es a b) ≡ length (commit_names (locked_of ms))
-after_same [] [] a b h = refl
-after_same [] (e ∷ es) a b h = absurd h
-after_same (m ∷ ms) [] a b h = absurd h
-after_same (m ∷ ms) (e ∷ es) a b h = ap length (after_first m ms e es a b) ∙ same_step (is_some m.lock) m ms e (after ms es a b) (after_same ms es a b h.1)
 
 -- ---- all memories
 

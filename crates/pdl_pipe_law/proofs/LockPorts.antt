@@ -7,10 +7,10 @@ use Rattle.pdl_semantics.specs.Flat.{Pipe, list_all}
 use Rattle.pdl_semantics.specs.Stages.{mem_at, list_any}
 use Rattle.pdl_semantics.specs.Locks as locks
 use Rattle.pdl_semantics.specs.Machine as machine
-use Rattle.pdl_semantics.specs.Machine.{Thread, Pending, Reserved, Written, deeds}
+use Rattle.pdl_semantics.specs.Machine.{Thread, Reserved}
 use Rattle.pdl_net.specs.Circuit.{State}
 use Rattle.pdl_net.specs.Signal.{Signal, mux_signal}
-use Rattle.pdl_lockapi.specs.Lock.{WriteAct, LockAct, LockState, with_writes, entry_at, Proper}
+use Rattle.pdl_lockapi.specs.Lock.{WriteAct}
 use Rattle.pdl_lockapi.specs.Lock as lock
 use Rattle.pdl_lockapi.specs.Laws.{ReserveSignal, TicketSignal, FitsIn, holds_ticket, reserve_at, ticket_at, asked_addresses}
 use Rattle.pdl_lockapi.specs.Forget.{addresses_of}

@@ -1,27 +1,26 @@
 -- The outputs of a compiled netlist have the values of the machine's ports.
-use Rattle.std.proofs.Common.{◌≡◌, refl, sym, ap, ap₂, ◌∙◌, subst, ℕ, zero, suc, ◌+◌, ◌-◌, ◌<◌, ◌≤◌, Bool, true, false, List, [], ◌∷◌, ◌++◌, length, map, Some, is_some, arith, append_assoc, add-zero}
+use Rattle.std.proofs.Common.{◌≡◌, refl, sym, ap, ap₂, ◌∙◌, subst, ℕ, zero, suc, ◌+◌, ◌-◌, ◌<◌, ◌≤◌, Bool, true, false, List, [], ◌∷◌, ◌++◌, length, map, Some, is_some, arith, add-zero}
 use Rattle.std.specs.Prelude.{if◌then◌else◌, slice_index_or, filter_map}
 use Rattle.std.proofs.lemmas.List.{map-append}
-use Rattle.pdl_word.specs.Words.{bit}
 use Rattle.pdl_semantics.specs.Flat.{Lock, Mem, Stage, Pipe, has_lock}
 use Rattle.pdl_semantics.specs.Stages.{plain_mem, mem_at}
 use Rattle.pdl_semantics.specs.Machine as machine
 use Rattle.pdl_semantics.specs.Machine.{Thread}
 use Rattle.pdl_semantics.specs.Moves.{Act}
 use Rattle.pdl_semantics.specs.Cycle.{for_stages, for_mems, taken_out, port_write}
-use Rattle.pdl_net.specs.Circuit.{Circuit, State, Output, port_output, outputs_of}
+use Rattle.pdl_net.specs.Circuit.{Circuit, State, Output, port_output}
 use Rattle.pdl_net.specs.Signal.{Signal}
-use Rattle.pdl_net.specs.Cycle.{net_value, output_values}
+use Rattle.pdl_net.specs.Cycle.{net_value}
 use Rattle.pdl_machine_facts.specs.Slots.{slot, here, stage_moves, moving}
-use Rattle.pdl_machine_facts.specs.Ports.{stage_values, commit_values, all_commit_values, port_values}
-use Rattle.pdl_machine_facts.specs.Cycle.{ports_of, IsByStages}
+use Rattle.pdl_machine_facts.specs.Ports.{stage_values, commit_values, all_commit_values}
+use Rattle.pdl_machine_facts.specs.Cycle.{IsByStages}
 use Rattle.pdl_machine_facts.specs.Use.{IsInUse}
 use Rattle.pdl_lockapi.proofs.LockKinds.{plain_is}
 use Rattle.pdl_pipe_law.proofs.Stood.{Stood}
 use Rattle.pdl_pipe_law.specs.Walk.{Locks, is_locked}
 use Rattle.pdl_pipe_law.specs.Views.{Gates, View}
-use Rattle.pdl_pipe_law.specs.Ports.{Shown, Commit, stages_shown, commit_shown, commits_shown, all_shown}
-use Rattle.pdl_pipe_law.specs.Compiled.{shown_in, port_in, IsLaid, IsCompiled}
+use Rattle.pdl_pipe_law.specs.Ports.{Shown, Commit, stages_shown, commit_shown, commits_shown}
+use Rattle.pdl_pipe_law.specs.Compiled.{shown_in, port_in, IsLaid}
 use Rattle.pdl_pipe_law.specs.Stands.{StandsFor, IsSeen, IsSquashed}
 use Rattle.pdl_pipe_law.proofs.LockStep.{commit_as, commit_is}
 
@@ -83,39 +82,3 @@ commit_laid p names ls vs gates moves c laid s st bits stands used by seen stood
     let x = laid.locks m e in
     commit_is p ls vs moves s st bits by used seen stood m e (stands.locks m e) gates squashed x.kind (laid.owns m) c (laid.commits m) x.step
     ∙ sym (commit_as (ls.kind m) (ls.size m) (mem_at p m).lock (taken_out st (moving p st bits) m) x.kind)
-
-module _ (p : Pipe) (names : ℕ → List ℕ) (ls : Locks) (vs : ℕ → View) (gates : Gates) (moves : ℕ → Signal) (c : Circuit) (made : IsCompiled p names ls vs gates moves c) where
-  pub outputs_made : outputs_of c ≡ made.outs
-  outputs_made = ap (filter_map port_output) made.ports ∙ outputs_all c made.outs
-
-  outputs_are : (s : State) → output_values c s ≡ map (shown_value s) (all_shown p names made.commits vs gates moves)
-  unfolding output_values
-  outputs_are s = ap (map (λ (o : Output). net_value c s o.net)) outputs_made ∙ values_shown c s made.outs ∙ ap (map (shown_value s)) made.shown
-
-  module _ (s : State) (st : machine.State) (bits : List Bool) (stands : StandsFor p ls vs s st) (used : IsInUse p st bits) (by : IsByStages p st bits) (some : 1 ≤ length p.stages)
-      (seen : (j : ℕ) → j < length p.stages → IsSeen p vs moves s st bits j) (stood : (k : ℕ) (t : Thread) → here p st bits k ≡ Some t → Stood st k t) (squashed : IsSquashed p ls vs gates s st bits) where
-    commit_at : (m : ℕ) → is_locked p m ≡ true → commit_words names s st (made.commits m) ≡ commit_values (mem_at p m).lock (port_write (taken_out st (moving p st bits) m))
-    commit_at m e =
-        let x = made.locks m e in
-        commit_is p ls vs moves s st bits by used seen stood m e (stands.locks m e) gates squashed x.kind (made.owns m) c (made.commits m) x.step
-        ∙ sym (commit_as (ls.kind m) (ls.size m) (mem_at p m).lock (taken_out st (moving p st bits) m) x.kind)
-
-    pub ports_shown : output_values c s ≡ port_values p (ports_of p st bits)
-    ports_shown =
-        let value = shown_value s in
-        let n = length p.stages in
-        let stages = stages_shown vs moves n 0 in
-        let commits = commits_shown names made.commits 0 p.mems in
-        let o = ports_of p st bits in
-        let valids = stages_are p vs moves s st bits seen n 0 p.stages (omega arith) refl ∙ ap₂ stage_values (sym by.valid) (sym by.moves) in
-        let taken = commits_are names s st (moving p st bits) made.commits 0 p.mems (λ i l e. zero_plus i (commit_at i e)) ∙ ap (all_commit_values p.mems) (sym by.commits) in
-        let ended = (seen (n - 1) (omega (arith, some))).leaves ∙ ap bit (sym by.ended) in
-        let squash : gates.squash.value s ≡ bit o.squash = squashed.squash ∙ ap bit (sym by.squash) in
-        outputs_are s
-        ∙ map-append value stages _
-        ∙ ap₂ (λ a b. a ++ b) valids (map-append value commits _ ∙ ap₂ (λ a b. a ++ b) taken (ap₂ (λ a b. a ∷ b ∷ []) ended squash))
-        ∙ sym (append_assoc (stage_values o.valid o.moves) (all_commit_values p.mems o.commits) (bit o.ended ∷ bit o.squash ∷ []))
-      where
-        zero_plus : (i : ℕ) → commit_words names s st (made.commits i) ≡ commit_values (mem_at p i).lock (port_write (taken_out st (moving p st bits) i))
-            → commit_words names s st (made.commits (0 + i)) ≡ commit_values (mem_at p i).lock (port_write (taken_out st (moving p st bits) (0 + i)))
-        zero_plus i e = let z : i ≡ 0 + i = omega arith in subst (λ j. commit_words names s st (made.commits j) ≡ commit_values (mem_at p i).lock (port_write (taken_out st (moving p st bits) j))) z e

@@ -2,7 +2,7 @@
 use Rattle.std.proofs.Common.{◌≡◌, ℕ, Bool, true, false, ◌&&◌, List, [], ◌∷◌, length, refl, sym, ap, ap₂, ◌∙◌, subst, arith, cond, ◌+◌}
 use Rattle.std.specs.Prelude.{Some, ◌==◌, nat_le, if◌then◌else◌, slice_set}
 use Rattle.std.proofs.lemmas.Bool.{or_left, or_right, eqb-true}
-use Rattle.std.proofs.Common.{le-leb}
+use Rattle.std.proofs.Common.{[]}
 use Rattle.pdl_semantics.specs.Flat.{Stmt, Pipe, all_hold}
 use Rattle.pdl_semantics.specs.Stages.{in_stage, mem_at, list_any, is_verify}
 use Rattle.pdl_semantics.specs.Machine as machine

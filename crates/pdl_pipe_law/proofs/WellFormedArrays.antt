@@ -1,34 +1,22 @@
 -- The arrays of a compiled pipe: one for each memory, with its name and sizes, written only where the memory has a lock.
 use Rattle.std.proofs.Common.{◌≡◌, ◌≢◌, ◌⊎◌, inl, inr, ℕ, zero, suc, ◌*◌, ◌^◌, ◌<◌, ◌≤◌, Bool, true, false, if◌then◌else◌, List, [], ◌∷◌, ◌++◌, length, get_or, map, All, Option, Some, None, refl, sym, ap, ap₂, ◌∙◌, subst, arith}
 use Rattle.std.specs.Option.{is_some}
-use Rattle.std.specs.Prelude.{slice_index_or}
 use Rattle.std.specs.List.{AllByRecursion}
 use Rattle.std.proofs.lemmas.Bool.{false≢true}
 use Rattle.std.proofs.lemmas.List.Elements.{All-from_recursion, recursion_from_All}
-use Rattle.std.proofs.lemmas.List.{length-map}
 use Rattle.pdl_kit.specs.declared.mem_info.MemInfo.{MemInfo}
 use Rattle.pdl_semantics.specs.Tree.{LockDecl, Mem}
 use Rattle.pdl_semantics.specs.Flat as flat
-use Rattle.pdl_semantics.specs.Flat.{Pipe}
-use Rattle.pdl_semantics.specs.Flatten.{mems_of}
-use Rattle.pdl_semantics.specs.Stages.{plain_mem}
 use Rattle.pdl_rules.specs.Typed.{AreDistinct}
 use Rattle.pdl_net.specs.declared.Array.{Array}
 use Rattle.pdl_net.specs.declared.WritePort.{WritePort}
-use Rattle.pdl_net.specs.Circuit.{Circuit, Shape, shape_of, array_at}
-use Rattle.pdl_net.specs.Meaning.{write_signal, write_signals}
+use Rattle.pdl_net.specs.Circuit.{Circuit, Shape, shape_of}
+use Rattle.pdl_net.specs.Meaning.{write_signal}
 use Rattle.pdl_net.specs.Pipe.{PortMem, IsPipeArray, comb_info}
-use Rattle.pdl_net.specs.Signal.{Signal}
 use Rattle.pdl_lockapi.proofs.LockKinds.{once_or_twice}
-use Rattle.pdl_pipe_law.specs.Walk.{Locks}
-use Rattle.pdl_pipe_law.specs.Views.{Gates, View}
 use Rattle.pdl_pipe_law.specs.Declared.{port_mem, locked_of, has_lock, array_words, shape_of_mem}
-use Rattle.pdl_pipe_law.specs.Compiled.{IsCompiled}
 use Rattle.pdl_pipe_law.proofs.WellFormedNames.{Among, name_of_mem, among_one}
-use Rattle.pdl_pipe_law.proofs.WellFormedPorts.{locked_named, found}
 use Rattle.pdl_pipe_law.proofs.WellFormedMems.{Reaches, IsAddressed}
-use Rattle.pdl_pathfacts.proofs.Memories.{mems_length}
-use Rattle.pdl_semantics.proofs.Facts.{lock_declared}
 use Rattle.pdl_rules.specs.Memories.{info_of}
 
 -- ---- names
@@ -81,27 +69,6 @@ mem_array (a ∷ ars) (x ∷ xs) e m (inr h) d =
 pub no_write : (c : Circuit) (ws : List WritePort) → map (write_signal c) ws ≡ [] → ws ≡ []
 no_write c [] e = refl
 no_write c (w ∷ ws) e = absurd (cc e)
-
--- a memory's lock by its number
-pub lock_same : (ms : List Mem) (k : ℕ) → flat.has_lock (slice_index_or (mems_of ms) k plain_mem).lock ≡ has_lock ms k
-lock_same [] k = refl
-lock_same (m ∷ ms) zero = lock_declared m.lock
-lock_same (m ∷ ms) (suc k) = lock_same ms k
-
-module _ (p : Pipe) (ms : List Mem) (names : ℕ → List ℕ) (ls : Locks) (vs : ℕ → View) (gates : Gates) (moves : ℕ → Signal) (c : Circuit) (made : IsCompiled p names ls vs gates moves c) (same : p.mems ≡ mems_of ms) (in_order : (m : ℕ) → m < length p.mems → ls.array m ≡ m) (shapes : map shape_of c.arrays ≡ map shape_of_mem ms) where
-  -- there are as many arrays as memories
-  pub as_many : length c.arrays ≡ length ms
-  as_many = sym (length-map c.arrays shape_of) ∙ ap length shapes ∙ length-map ms shape_of_mem
-
-  -- an array whose memory has no lock has no write port
-  pub never_written : (k : ℕ) (m : Mem) → k < length c.arrays → IsArrayOf ms k (array_at c k) m → is_some m.lock ≡ false → (array_at c k).writes ≡ []
-  unfolding write_signals
-  never_written k m l h e =
-      let n = as_many in
-      let long = ap length same ∙ mems_length ms in
-      let low : k < length p.mems = omega (arith, n, long, l) in
-      let none = made.unwritten k low (ap (λ l. flat.has_lock (slice_index_or l k plain_mem).lock) same ∙ lock_same ms k ∙ h.lock ∙ e) in
-      no_write c (array_at c k).writes (ap (λ i. map (write_signal c) (array_at c i).writes) (sym (in_order k low)) ∙ none)
 
 -- what holds of each locked memory
 locked_rec : (P : PortMem → Type 0) (ms : List Mem) → ((m : Mem) → Among m ms → P (port_mem m)) → AllByRecursion P (locked_of ms)
@@ -177,21 +144,3 @@ info_same x y a b c d s t e f g h = cc
 pub info_if : (b : Bool) (a : Array) (m : Mem) → is_some m.lock ≡ b → shape_of a ≡ shape_of_mem m → Reaches m → m.delayed ≡ false → info_of m ≡ comb_info a (if b then Some (port_mem m) else None)
 info_if true a m l e r d = info_same m.name.name a.name m.width.value m.width.value m.depth.value _ m.delayed false (sym (ap (λ (s : Shape). s.name) e)) refl (sym r) d
 info_if false a m l e r d = info_same m.name.name a.name m.width.value a.width m.depth.value a.depth m.delayed false (sym (ap (λ (s : Shape). s.name) e)) (sym (ap (λ (s : Shape). s.width) e)) (sym (ap (λ (s : Shape). s.depth) e ∙ shallow m.lock m.depth.value l)) d
-
-infos_from : (all : List Mem) (ars : List Array) (ms : List Mem) → AreDistinct all → ((m : Mem) → Among m all → Reaches m) → ((m : Mem) → Among m all → m.delayed ≡ false) → ((m : Mem) → Among m ms → Among m all) → map shape_of ars ≡ map shape_of_mem ms
-    → map info_of ms ≡ map (λ (a : Array). comb_info a (locked_named all a.name)) ars
-infos_from all [] [] h r d i e = refl
-infos_from all [] (m ∷ ms) h r d i e = absurd (cc e)
-infos_from all (a ∷ ars) [] h r d i e = absurd (cc e)
-infos_from all (a ∷ ars) (m ∷ ms) h r d i e =
-    let here : shape_of a ≡ shape_of_mem m = cc e in
-    let rest : map shape_of ars ≡ map shape_of_mem ms = cc e in
-    let am = i m (inl refl) in
-    let one : info_of m ≡ comb_info a (locked_named all a.name) =
-    info_if (is_some m.lock) a m refl here (r m am) (d m am) ∙ ap (comb_info a) (sym (found all h m am) ∙ ap (locked_named all) (sym (ap (λ (s : Shape). s.name) here))) in
-    ap₂ (λ x xs. x ∷ xs) one (infos_from all ars ms h r d (λ y g. i y (inr g)) rest)
-
--- the memories are what the ports and arrays tell
-pub infos_same : (ars : List Array) (ms : List Mem) → AreDistinct ms → ((m : Mem) → Among m ms → Reaches m) → ((m : Mem) → Among m ms → m.delayed ≡ false) → map shape_of ars ≡ map shape_of_mem ms
-    → map info_of ms ≡ map (λ (a : Array). comb_info a (locked_named ms a.name)) ars
-infos_same ars ms h r d e = infos_from ms ars ms h r d (λ m g. g) e

@@ -1,41 +1,20 @@
 -- The memories of a pipe that breaks no rule: how many, and their sizes.
-use Rattle.std.proofs.Common.{◌≡◌, inl, inr, ⊎_elim, ℕ, ◌+◌, ◌^◌, ◌<◌, ◌≤◌, Bool, true, false, if◌then◌else◌, List, [], ◌∷◌, ◌++◌, length, map, count_by, filter, refl, sym, ap, ◌∙◌, subst, arith}
+use Rattle.std.proofs.Common.{◌≡◌, inl, inr, ⊎_elim, ℕ, ◌+◌, ◌^◌, ◌<◌, ◌≤◌, true, false, if◌then◌else◌, List, [], ◌∷◌, ◌++◌, length, map, count_by, refl, sym, ap, ◌∙◌, subst, arith}
 use Rattle.std.specs.List.{list_all}
 use Rattle.std.proofs.Math.Pow.{pow_mono, pow-lt}
-use Rattle.std.proofs.lemmas.Bool.{and_parts, cases_lt, eqb-false, not-true}
-use Rattle.pdl_kit.specs.declared.mem_info.MemInfo.{MemInfo}
+use Rattle.std.proofs.lemmas.Bool.{and_parts, cases_lt, eqb-false}
 use Rattle.pdl_kit.specs.declared.rule.Rule.TheVariants.{Z4}
 use Rattle.pdl_semantics.specs.Tree.{Param, Mem, Pipe}
 use Rattle.pdl_rules.specs.Places.{Place, Parameter, Memory, statements, places}
 use Rattle.pdl_rules.specs.Limits.{breaks_z4}
 use Rattle.pdl_rules.specs.Limits as limits
 use Rattle.pdl_rules.specs.Widths.{address_bits}
-use Rattle.pdl_rules.specs.Refusal.{KeepsRules, is_comb}
+use Rattle.pdl_rules.specs.Refusal.{KeepsRules}
 use Rattle.pdl_rules.specs.Typed.{IsSized, AreSized}
 use Rattle.pdl_rules.proofs.EachPlace.{Each, each_from, each_front, each_back, closing}
 use Rattle.pdl_rules.proofs.Once.{count_push, count_cons}
 use Rattle.pdl_rules.proofs.Memories.{has_depth, bits_reach}
 use Rattle.pdl_pipe_law.proofs.WellFormedNames.{Among}
-use Rattle.pdl_rules.specs.Memories.{info_of}
-
--- ---- linear sources
-
--- no memory is delayed
-pub never_delayed : (ms : List Mem) → list_all is_comb ms ≡ true → (m : Mem) → Among m ms → m.delayed ≡ false
-never_delayed [] e m a = absurd a
-never_delayed (x ∷ xs) e m (inl s) = ap (λ (y : Mem). y.delayed) (sym s) ∙ not-true x.delayed (and_parts (is_comb x) (list_all is_comb xs) e).0
-never_delayed (x ∷ xs) e m (inr a) = never_delayed xs (and_parts (is_comb x) (list_all is_comb xs) e).1 m a
-
--- whether a memory is told as delayed
-abbrev is_delayed : MemInfo → Bool
-is_delayed m = m.delayed
-
--- none is told as delayed
-pub none_delayed : (ms : List Mem) → list_all is_comb ms ≡ true → filter is_delayed (map info_of ms) ≡ []
-none_delayed [] e = refl
-none_delayed (m ∷ ms) e =
-    let parts = and_parts (is_comb m) (list_all is_comb ms) e in
-    ap (λ b. if b then info_of m ∷ filter is_delayed (map info_of ms) else filter is_delayed (map info_of ms)) (not-true m.delayed parts.0) ∙ none_delayed ms parts.1
 
 -- ---- how many
 

@@ -1,22 +1,21 @@
 -- The ports of a pipe without delayed memories: their names, directions and widths.
-use Rattle.std.proofs.Common.{◌≡◌, ◌≢◌, inl, inr, ℕ, zero, suc, ◌+◌, ◌-◌, ◌<◌, ◌≤◌, Bool, true, false, if◌then◌else◌, List, [], ◌∷◌, ◌++◌, length, map, Option, Some, None, codes, decimal, bytes_eq, refl, sym, ap, ap₂, ◌∙◌, subst, arith, append_assoc, append-nil}
+use Rattle.std.proofs.Common.{◌≡◌, ◌≢◌, inl, inr, ℕ, zero, suc, ◌+◌, ◌-◌, ◌<◌, ◌≤◌, Bool, true, false, if◌then◌else◌, List, [], ◌∷◌, ◌++◌, length, map, Option, Some, None, codes, decimal, bytes_eq, refl, sym, ap, ap₂, ◌∙◌, subst, arith}
 use Rattle.std.specs.Prelude.{⊤, flat_map, find}
 use Rattle.std.specs.List.{range_with_len}
 use Rattle.std.specs.Option.{is_some}
 use Rattle.std.proofs.lemmas.List.{map-append}
 use Rattle.std.proofs.lemmas.Fmt.{decimal_injective}
 use Rattle.pdl_semantics.specs.Tree.{Mem}
-use Rattle.pdl_semantics.specs.Flat.{Pipe}
 use Rattle.pdl_semantics.specs.Flatten.{mems_of}
 use Rattle.pdl_rules.specs.Typed.{AreDistinct}
 use Rattle.pdl_net.specs.declared.Port.{Port}
 use Rattle.pdl_net.specs.Circuit.{Circuit, Output}
-use Rattle.pdl_net.specs.Pipe.{Head, PortMem, head_of, output, stage_ports, commit_ports, pipe_ports}
+use Rattle.pdl_net.specs.Pipe.{Head, PortMem, head_of, output, stage_ports, commit_ports}
 use Rattle.pdl_net.specs.Signal.{Signal}
 use Rattle.pdl_pipe_law.specs.Views.{Gates, View}
 use Rattle.pdl_pipe_law.specs.Declared.{port_mem, locked_of, mem_names, FitsMem, CommitsFit, AreBitsWide}
 use Rattle.pdl_pipe_law.proofs.WellFormedMems.{Reaches, power_one}
-use Rattle.pdl_pipe_law.specs.Ports.{Shown, Commit, stages_shown, commit_shown, commits_shown, all_shown}
+use Rattle.pdl_pipe_law.specs.Ports.{Shown, Commit, stages_shown, commit_shown, commits_shown}
 use Rattle.pdl_pipe_law.specs.Compiled.{shown_in, port_in}
 use Rattle.pdl_pipe_law.proofs.WellFormedNames.{Among, IsNone, AllDiffer, name_of_mem, name_turned, among_other, mem_none}
 use Rattle.pdl_word.proofs.Bytes.{bytes_refl, bytes_differ}
@@ -101,26 +100,6 @@ commit_heads names commits k (x ∷ xs) f r h =
 abbrev pub last_heads : List Head
 last_heads = output (codes "ended") 1 ∷ output (codes "squash") 1 ∷ []
 
--- the ports of a pipe without delayed memories
-ports_plain : (k : ℕ) (locked : List PortMem) → pipe_ports k [] locked ≡ flat_map stage_ports (range_with_len 0 k) ++ (flat_map commit_ports locked ++ last_heads)
-ports_plain k locked =
-    ap (λ l. l ++ last_heads) (append-nil (flat_map stage_ports (range_with_len 0 k) ++ flat_map commit_ports locked))
-    ∙ append_assoc (flat_map stage_ports (range_with_len 0 k)) (flat_map commit_ports locked) last_heads
-
--- the outputs of the stages and of the memories are the ports of a pipe
-pub all_heads : (p : Pipe) (ms : List Mem) → p.mems ≡ mems_of ms → 1 ≤ length p.stages → (commits : ℕ → Commit) (vs : ℕ → View) (gates : Gates) (moves : ℕ → Signal) → AreBitsWide vs gates moves (length p.stages) → ((m : Mem) → Among m ms → Reaches m) → CommitsFit commits 0 ms
-    → map head_shown (all_shown p (mem_names ms) commits vs gates moves) ≡ pipe_ports (length p.stages) [] (locked_of ms)
-all_heads p ms same some commits vs gates moves wide r h =
-    let n = length p.stages in
-    map-append head_shown (stages_shown vs moves n 0) _
-    ∙ ap₂ (λ a b. a ++ b) (stages_heads vs gates moves n n 0 (omega arith) wide)
-    (map-append head_shown (commits_shown (mem_names ms) commits 0 p.mems) _
-    ∙ ap (λ w. map head_shown (commits_shown (mem_names ms) commits 0 p.mems) ++ output (codes "ended") (moves (n - 1)).width ∷ output (codes "squash") w ∷ []) wide.squash
-    ∙ ap₂ (λ a w. a ++ output (codes "ended") w ∷ output (codes "squash") 1 ∷ [])
-    (ap (λ l. map head_shown (commits_shown (mem_names ms) commits 0 l)) same ∙ commit_heads (mem_names ms) commits 0 ms (λ i l. ap (mem_names ms) (let z : 0 + i ≡ i = omega arith in z)) r h)
-    (wide.stages (n - 1) (omega (arith, some))).1)
-    ∙ sym (ports_plain n (locked_of ms))
-
 -- ---- names
 
 -- the names of the ports after those of the stages, by the names of the locked memories
@@ -132,10 +111,6 @@ commit_names (l ∷ ls) = (codes "c_" ++ l.name) ∷ (codes "ca_" ++ l.name) ∷
 abbrev pub name_of_head : Head → List ℕ
 name_of_head h = h.name
 
-commit_names_are : (ls : List PortMem) → map name_of_head (flat_map commit_ports ls ++ last_heads) ≡ commit_names ls
-commit_names_are [] = refl
-commit_names_are (l ∷ ls) = ap (λ n. (codes "c_" ++ l.name) ∷ (codes "ca_" ++ l.name) ∷ (codes "cd_" ++ l.name) ∷ n) (commit_names_are ls)
-
 pub names_of_heads : (ps : List Port) → map (λ (p : Port). p.name) ps ≡ map name_of_head (map head_of ps)
 names_of_heads [] = refl
 names_of_heads (p ∷ ps) = ap (λ l. p.name ∷ l) (names_of_heads ps)
@@ -145,30 +120,12 @@ abbrev pub stage_names : ℕ → ℕ → List (List ℕ) → List (List ℕ)
 stage_names k zero rest = rest
 stage_names k (suc n) rest = (codes "v_" ++ decimal k) ∷ (codes "g_" ++ decimal k) ∷ stage_names (suc k) n rest
 
-pub stage_names_are : (k n : ℕ) (hs : List Head) → map name_of_head (flat_map stage_ports (range_with_len k n) ++ hs) ≡ stage_names k n (map name_of_head hs)
-stage_names_are k zero hs = refl
-stage_names_are k (suc n) hs =
-    let next : k + 1 ≡ suc k = omega arith in
-    ap (λ l. (codes "v_" ++ decimal k) ∷ (codes "g_" ++ decimal k) ∷ l)
-    (ap (λ j. map name_of_head (flat_map stage_ports (range_with_len j n) ++ hs)) next ∙ stage_names_are (suc k) n hs)
-
--- the names of such ports
-pub names_are : (ps : List Port) (k : ℕ) (locked : List PortMem) → map head_of ps ≡ pipe_ports k [] locked → map (λ (p : Port). p.name) ps ≡ stage_names 0 k (commit_names locked)
-names_are ps k locked e =
-    names_of_heads ps ∙ ap (map name_of_head) (e ∙ ports_plain k locked)
-    ∙ stage_names_are 0 k (flat_map commit_ports locked ++ last_heads)
-    ∙ ap (stage_names 0 k) (commit_names_are locked)
-
 -- a name that begins with other letters is no port's of these memories
 pub heads_apart : (a b : ℕ) (x y : List ℕ) → a ≢ b → a ∷ x ≢ b ∷ y
 heads_apart a b x y d e = d (cc e)
 
 pub tails_apart : (a : ℕ) (x y : List ℕ) → x ≢ y → a ∷ x ≢ a ∷ y
 tails_apart a x y d e = d (cc e)
-
-letter_none : (a : ℕ) (x : List ℕ) (ls : List PortMem) → a ≢ 99 → a ∷ x ≢ codes "ended" → a ∷ x ≢ codes "squash" → IsNone (a ∷ x) (commit_names ls)
-letter_none a x [] d e s = (e, (s, tt))
-letter_none a x (l ∷ ls) d e s = (heads_apart a 99 x _ d, (heads_apart a 99 x _ d, (heads_apart a 99 x _ d, letter_none a x ls d e s)))
 
 -- the names of these locked memories are none of them this one
 abbrev pub IsFree : List ℕ → List PortMem → Type 0
@@ -179,34 +136,6 @@ IsFree n (l ∷ ls) = (n ≢ l.name) × IsFree n ls
 abbrev pub AreFree : List PortMem → Type 0
 AreFree [] = ⊤
 AreFree (l ∷ ls) = IsFree l.name ls × AreFree ls
-
-commit_none : (n : List ℕ) (ls : List PortMem) → IsFree n ls → IsNone (codes "c_" ++ n) (commit_names ls)
-commit_none n [] f = (heads_apart 99 101 _ _ (λ e. omega arith), (heads_apart 99 115 _ _ (λ e. omega arith), tt))
-commit_none n (l ∷ ls) f = (
-  tails_apart 99 _ _ (tails_apart 95 _ _ f.0),
-  (tails_apart 99 _ _ (heads_apart 95 97 _ _ (λ e. omega arith)), (tails_apart 99 _ _ (heads_apart 95 100 _ _ (λ e. omega arith)), commit_none n ls f.1)),
-)
-
-address_none : (n : List ℕ) (ls : List PortMem) → IsFree n ls → IsNone (codes "ca_" ++ n) (commit_names ls)
-address_none n [] f = (heads_apart 99 101 _ _ (λ e. omega arith), (heads_apart 99 115 _ _ (λ e. omega arith), tt))
-address_none n (l ∷ ls) f = (
-  tails_apart 99 _ _ (heads_apart 97 95 _ _ (λ e. omega arith)),
-  (tails_apart 99 _ _ (tails_apart 97 _ _ (tails_apart 95 _ _ f.0)), (tails_apart 99 _ _ (heads_apart 97 100 _ _ (λ e. omega arith)), address_none n ls f.1)),
-)
-
-value_none : (n : List ℕ) (ls : List PortMem) → IsFree n ls → IsNone (codes "cd_" ++ n) (commit_names ls)
-value_none n [] f = (heads_apart 99 101 _ _ (λ e. omega arith), (heads_apart 99 115 _ _ (λ e. omega arith), tt))
-value_none n (l ∷ ls) f = (
-  tails_apart 99 _ _ (heads_apart 100 95 _ _ (λ e. omega arith)),
-  (tails_apart 99 _ _ (heads_apart 100 97 _ _ (λ e. omega arith)), (tails_apart 99 _ _ (tails_apart 100 _ _ (tails_apart 95 _ _ f.0)), value_none n ls f.1)),
-)
-
-commits_differ : (ls : List PortMem) → AreFree ls → AllDiffer (commit_names ls)
-commits_differ [] f = ((heads_apart 101 115 _ _ (λ e. omega arith), tt), (tt, tt))
-commits_differ (l ∷ ls) f = (
-  (tails_apart 99 _ _ (heads_apart 95 97 _ _ (λ e. omega arith)), (tails_apart 99 _ _ (heads_apart 95 100 _ _ (λ e. omega arith)), commit_none l.name ls f.0)),
-  ((tails_apart 99 _ _ (heads_apart 97 100 _ _ (λ e. omega arith)), address_none l.name ls f.0), (value_none l.name ls f.0, commits_differ ls f.1)),
-)
 
 pub locked_free : (n : List ℕ) (ms : List Mem) → IsNone n (map name_of_mem ms) → IsFree n (locked_of ms)
 locked_free n [] h = tt
@@ -250,11 +179,3 @@ stages_differ k (suc n) rest h v g r = (
   (heads_apart 118 103 _ _ (λ e. omega arith), valid_none k (suc k) n rest (omega arith) (omega arith) (v k)),
   (moves_none k (suc k) n rest (omega arith) (omega arith) (g k), stages_differ (suc k) n rest (omega arith) v g r),
 )
-
--- no two ports have one name
-pub port_names_differ : (n : ℕ) (ms : List Mem) → n ≤ 64 → AreDistinct ms → AllDiffer (stage_names 0 n (commit_names (locked_of ms)))
-port_names_differ n ms l h =
-    stages_differ 0 n (commit_names (locked_of ms)) (omega arith)
-    (λ j. letter_none 118 _ (locked_of ms) (λ e. omega arith) (heads_apart 118 101 _ _ (λ e. omega arith)) (heads_apart 118 115 _ _ (λ e. omega arith)))
-    (λ j. letter_none 103 _ (locked_of ms) (λ e. omega arith) (heads_apart 103 101 _ _ (λ e. omega arith)) (heads_apart 103 115 _ _ (λ e. omega arith)))
-    (commits_differ (locked_of ms) (all_free ms h))

@@ -1,23 +1,23 @@
 -- The netlist of a pipe, in signals.
-use Rattle.std.specs.Prelude.{◌≡◌, ℕ, ◌+◌, ◌==◌, ◌<◌, ◌≤◌, true, false, List, [], Some, map, length, slice_index, slice_index_or, if◌then◌else◌}
+use Rattle.std.specs.Prelude.{◌≡◌, ℕ, ◌+◌, ◌==◌, ◌<◌, ◌≤◌, true, false, [], map, length, slice_index, slice_index_or, if◌then◌else◌}
 use Rattle.pdl_semantics.specs.Flat.{Pipe, start_env}
 use Rattle.pdl_semantics.specs.Stages.{in_stage, mem_at, reserve_stage, commit_stage}
 use Rattle.pdl_net.specs.declared.Dir.TheVariants.{Out}
 use Rattle.pdl_net.specs.declared.Port.{Port}
 use Rattle.pdl_net.specs.declared.Reg.{Reg}
-use Rattle.pdl_net.specs.Circuit.{Circuit, State, Output, HasReg, HasArray, array_depth}
+use Rattle.pdl_net.specs.Circuit.{Circuit, State, Output, HasReg, HasArray}
 use Rattle.pdl_net.specs.Signal.{Signal, no_signal, mux_signal}
 use Rattle.pdl_net.specs.Meaning.{signal, write_signals}
 use Rattle.pdl_net.specs.Cycle.{next_regs}
 use Rattle.pdl_net.specs.Well.{Suits}
 use Rattle.pdl_net.specs.Growth.{Own}
 use Rattle.pdl_lockapi.specs.Lock.{start}
-use Rattle.pdl_lockapi.specs.Laws.{IsReset, words_of, HasImage, RoomLaw, TicketLaw, StepLaw}
+use Rattle.pdl_lockapi.specs.Laws.{RoomLaw, TicketLaw, StepLaw}
 use Rattle.pdl_lockapi.specs.Forget.{as_lock}
 use Rattle.pdl_pipe_law.specs.Lives.{lives_from, held_from, verifies_from}
 use Rattle.pdl_pipe_law.specs.Walk.{Locks, is_locked, one, zero_bit, IsFresh, AreRows}
 use Rattle.pdl_pipe_law.specs.Views.{View, Gates, Comer, moves_where, comers, first_coming}
-use Rattle.pdl_pipe_law.specs.Ports.{Shown, Commit, step_of, all_shown}
+use Rattle.pdl_pipe_law.specs.Ports.{Shown, Commit, step_of}
 
 -- two signals have the same value; one has in the next cycle the value of the other; one begins with a value
 abbrev pub Same : Circuit → Signal → Signal → Type 0
@@ -50,18 +50,6 @@ pub record IsStart (p : Pipe) (c : Circuit) (vs : ℕ → View) : Type 0 where
   pub vars : (x : ℕ) → lives_from p 0 x ≡ true → StartsAs c ((vs 0).kept x) (slice_index (start_env p p.start) x)
   pub held : (m a : ℕ) → held_from p 0 m a ≡ true → StartsAs c ((vs 0).begun.held m a) 0
 
--- a memory's lock: its own registers, its array with as many words as the lock keeps, the laws of its nets, and what it commits
-pub record HasLock (p : Pipe) (ls : Locks) (c : Circuit) (vs : ℕ → View) (gates : Gates) (moves : ℕ → Signal) (own : Own) (commit : Commit) (m : ℕ) : Type 0 where
-  pub kind : (mem_at p m).lock ≡ as_lock (ls.kind m) (ls.size m)
-  pub regs : (r : ℕ) → own.from ≤ r → r < own.to → HasReg c r
-  pub first : own.first ≡ ls.array m
-  pub last : own.last ≡ ls.array m + 1
-  pub deep : array_depth c (ls.array m) ≡ words_of (ls.kind m) (mem_at p m).depth
-  pub starts : (s : State) (image : List ℕ) → IsReset c own.from own.to s → length image ≡ (mem_at p m).depth → HasImage (ls.kind m) (Some (ls.array m)) s image → ls.stands m s (start image)
-  pub room : RoomLaw (ls.stands m) (ls.size m) (ls.room m)
-  pub ticket : TicketLaw (ls.stands m) (ls.bits m) (ls.ticket m)
-  pub step : StepLaw (ls.stands m) (ls.size m) (ls.bits m) own c (step_of p vs gates moves m) commit.enable commit.addr commit.value
-
 -- of a memory's lock what a cycle rests on: its own registers and arrays are there, and the laws of its nets
 pub record GoesOn (p : Pipe) (ls : Locks) (c : Circuit) (vs : ℕ → View) (gates : Gates) (moves : ℕ → Signal) (own : Own) (commit : Commit) (m : ℕ) : Type 0 where
   pub kind : (mem_at p m).lock ≡ as_lock (ls.kind m) (ls.size m)
@@ -86,18 +74,3 @@ shown_in c o = record { name = o.name; signal = signal c o.net }
 
 abbrev pub port_in : Circuit → Output → Port
 port_in c o = record { name = o.name; width = (signal c o.net).width; dir = Out o.net }
-
--- the whole, with what stands beside the stages
-pub record IsCompiled (p : Pipe) (names : ℕ → List ℕ) (ls : Locks) (vs : ℕ → View) (gates : Gates) (moves : ℕ → Signal) (c : Circuit) : Type 0 where
-  pub stages : (k : ℕ) → k < length p.stages → IsStage p ls c vs gates moves k
-  pub begins : IsStart p c vs
-  pub owns : ℕ → Own
-  pub commits : ℕ → Commit
-  pub locks : (m : ℕ) → is_locked p m ≡ true → HasLock p ls c vs gates moves (owns m) (commits m) m
-  -- arrays: each memory has one, which no other has; one without lock is never written
-  pub arrays : (m : ℕ) → m < length p.mems → HasArray c (ls.array m)
-  pub unwritten : (m : ℕ) → m < length p.mems → is_locked p m ≡ false → write_signals c (ls.array m) ≡ []
-  -- ports: outputs alone
-  pub outs : List Output
-  pub ports : c.ports ≡ map (port_in c) outs
-  pub shown : map (shown_in c) outs ≡ all_shown p names commits vs gates moves

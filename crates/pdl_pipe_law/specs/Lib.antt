@@ -10,4 +10,3 @@ pub mod Beside
 pub mod Declared
 pub mod Runs
 pub mod States
-pub mod Follows

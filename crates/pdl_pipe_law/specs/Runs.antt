@@ -1,19 +1,11 @@
 -- A netlist shows what the machine of a pipe shows.
-use Rattle.std.specs.Prelude.{◌≡◌, ℕ, ◌-◌, ◌==◌, ◌<◌, Bool, List, [], ◌∷◌, ◌++◌, Option, Some, None, map, filter_map, find, length, slice_index, slice_index_or, codes, bytes_eq}
+use Rattle.std.specs.Prelude.{◌≡◌, ℕ, ◌-◌, ◌==◌, ◌<◌, Bool, List, [], ◌∷◌, ◌++◌, Option, Some, None, map, filter_map, find, length, slice_index, codes, bytes_eq}
 use Rattle.pdl_kit.specs.declared.mem_info.MemInfo.{MemInfo}
 use Rattle.pdl_semantics.specs.Tree as tree
-use Rattle.pdl_semantics.specs.Flat.{Pipe, arrays_of}
-use Rattle.pdl_semantics.specs.Flatten.{flat}
-use Rattle.pdl_semantics.specs.Stages.{mem_at}
-use Rattle.pdl_semantics.specs.Cycle.{Turn, turns}
-use Rattle.pdl_semantics.specs.Lines.{Column, Put, Cycle, turn_cycles, lines, run_lines}
+use Rattle.pdl_semantics.specs.Lines.{Column, Put, Cycle, lines}
 use Rattle.pdl_net.specs.declared.Netlist.{Netlist}
 use Rattle.pdl_net.specs.Circuit.{Output, circuit_of, outputs_of}
 use Rattle.pdl_net.specs.Run.{Shown, nports, commit_of}
-use Rattle.pdl_image.specs.Images.{IsImage}
-use Rattle.pdl_machine_facts.specs.Ports.{port_values}
-use Rattle.pdl_rules.specs.Memories.{infos_of}
-use Rattle.pdl_pipe_law.specs.Walk.{Locks}
 
 -- what is seen of a cycle, and what the machine has
 pub record Seen : Type 0 where
@@ -22,23 +14,6 @@ pub record Seen : Type 0 where
 
 abbrev pub seen_of : Shown → Seen
 seen_of x = record { ports = x.ports; wait = x.waited }
-
-abbrev pub had : Pipe → Turn → Seen
-had p t = record { ports = port_values p t.ports; wait = t.wait }
-
--- the netlist's memories are the pipe's, with their depths, and each has the array of its number
-pub record HasMems (p : Pipe) (ls : Locks) (n : Netlist) : Type 0 where
-  pub in_order : (m : ℕ) → m < length p.mems → ls.array m ≡ m
-  pub count : length n.mems ≡ length p.mems
-  pub depth : (m : ℕ) (d : MemInfo) → m < length p.mems → (slice_index_or n.mems m d).depth ≡ (mem_at p m).depth
-
--- from each image and with each schedule each port of each cycle is the machine's
-abbrev pub ShowsMachine : Pipe → Netlist → Type 0
-ShowsMachine p n =
-    (image : List (List ℕ)) (schedule : List ℕ) (replies : List (List Bool))
-    → IsImage n.mems image
-    → length replies ≡ length schedule
-    → map seen_of (nports n image schedule) ≡ map (had p) (turns p (arrays_of image) replies)
 
 -- a memory as lines show it
 abbrev pub column_of : MemInfo → Column
@@ -78,15 +53,3 @@ cycle_of n seen = cycle_by n (commit_mems n) seen
 abbrev pub shown_lines : Netlist → List (List ℕ) → List ℕ → List ℕ
 shown_lines n image schedule =
     lines (map column_of (commit_mems n)) (map (cycle_of n) (nports n image schedule))
-
--- and so from each image and with each schedule, in each cycle each memory commits what the machine's does, and the lines are the machine's
-pub record ShowsTurns (p : tree.Pipe) (n : Netlist) : Type 0 where
-  pub cycles : (image : List (List ℕ)) (schedule : List ℕ) (replies : List (List Bool))
-      → IsImage n.mems image
-      → length replies ≡ length schedule
-      → map (cycle_by n (infos_of p.mems)) (nports n image schedule)
-      ≡ turn_cycles (turns (flat p) (arrays_of image) replies)
-  pub lines : (image : List (List ℕ)) (schedule : List ℕ) (replies : List (List Bool))
-      → IsImage n.mems image
-      → length replies ≡ length schedule
-      → shown_lines n image schedule ≡ run_lines p image replies

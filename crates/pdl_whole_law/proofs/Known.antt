@@ -10,7 +10,7 @@ use Rattle.pdl_lockuse.specs.Use.{IsSpared}
 use Rattle.pdl_lockuse.proofs.Acts.{at_here}
 use Rattle.pdl_lockuse.proofs.InRuns.{stages_here, in_use_here, spared_here}
 use Rattle.pdl_lockuse.proofs.Slotwise.{cut_here}
-use Rattle.pdl_pipe_law.proofs.Standing.{after_more}
+use Rattle.pdl_pipe_law.proofs.After.{after_more}
 use Rattle.pdl_inflight.specs.Readings.{Reads}
 use Rattle.pdl_inflight.specs.InFlight.{InFlight}
 use Rattle.pdl_inflight.proofs.Flights.{flights}

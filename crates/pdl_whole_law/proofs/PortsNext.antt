@@ -14,7 +14,7 @@ use Rattle.pdl_lockapi.specs.Laws.{IsNext}
 use Rattle.pdl_lockapi.proofs.Next.{is_next, is_reset}
 use Rattle.pdl_machine_facts.specs.Slots.{LeadsOn, slot, here, stage_moves, moving}
 use Rattle.pdl_machine_facts.specs.Cycle.{IsByStages}
-use Rattle.pdl_machine_facts.proofs.Still.{none_requested}
+use Rattle.pdl_machine_facts.proofs.Requests.{none_requested}
 use Rattle.pdl_port.specs.Port.{PortAct, Idle, step}
 use Rattle.pdl_port.specs.Laws.{Drives}
 use Rattle.pdl_pipe_law.specs.Lives.{forks_by}

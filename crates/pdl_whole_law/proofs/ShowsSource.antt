@@ -20,7 +20,7 @@ use Rattle.pdl_net.specs.Circuit.{circuit_of}
 use Rattle.pdl_net.specs.Signal.{Signal}
 use Rattle.pdl_net.specs.Run.{Held, start, state_in}
 use Rattle.pdl_image.specs.Images.{IsImage}
-use Rattle.pdl_machine_facts.proofs.Still.{none_requested}
+use Rattle.pdl_machine_facts.proofs.Requests.{none_requested}
 use Rattle.pdl_pipe_law.specs.Walk.{Locks}
 use Rattle.pdl_pipe_law.specs.Views.{View, Gates}
 use Rattle.pdl_pipe_law.specs.Declared.{mem_names}

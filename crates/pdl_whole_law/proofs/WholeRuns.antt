@@ -28,7 +28,7 @@ use Rattle.pdl_pipe_law.specs.Views.{View, Gates}
 use Rattle.pdl_pipe_law.specs.Compiled.{port_in}
 use Rattle.pdl_pipe_law.specs.Runs.{Seen, seen_of}
 use Rattle.pdl_pipe_law.specs.Stands.{IsSeen, IsSquashed}
-use Rattle.pdl_pipe_law.proofs.Standing.{after_more}
+use Rattle.pdl_pipe_law.proofs.After.{after_more}
 use Rattle.pdl_pipe_law.proofs.StageLooks.{plain_is}
 use Rattle.pdl_pipe_law.proofs.Outputs.{commit_words}
 use Rattle.pdl_inflight.specs.Readings.{reading}

@@ -24,7 +24,7 @@ use Rattle.pdl_net.specs.Run.{Store, delayed_mems, filled_words, loaded_arrays, 
 use Rattle.pdl_net.proofs.Loaded.{loaded_at, holds_start}
 use Rattle.pdl_lockapi.specs.Laws.{words_of, HasImage}
 use Rattle.pdl_lockapi.proofs.Next.{is_reset}
-use Rattle.pdl_machine_facts.proofs.Still.{none_requested}
+use Rattle.pdl_machine_facts.proofs.Requests.{none_requested}
 use Rattle.pdl_pipe_law.specs.Walk.{Locks, is_locked}
 use Rattle.pdl_pipe_law.specs.Views.{View, Gates}
 use Rattle.pdl_pipe_law.specs.Compiled.{IsLaid}

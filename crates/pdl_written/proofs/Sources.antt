@@ -10,10 +10,9 @@ use Rattle.pdl_tokens.specs.Tokens.{Row, tokens}
 use Rattle.pdl_grammar.specs.Grammar.{Listed, last, further, Memory, memory, Parameter, parameter, Lock, unlocked, locked, Text, text}
 use Rattle.pdl_grammar.specs.Text.{IsText}
 use Rattle.pdl_net.specs.declared.Netlist.{Netlist}
-use Rattle.pdl_pipe_law.specs.Follows.{Follows}
 use Rattle.pdl_rules.specs.Refusal.{is_comb}
 use Rattle.pdl_follows.specs.Memories.{is_delayed}
-use Rattle.pdl_follows.specs.Follows as whole
+use Rattle.pdl_follows.specs.Follows.{Follows}
 use Rattle.pdl_vtext.specs.Words.{is_name}
 use Rattle.pdl_vlog.specs.Layout.{verilog}
 use Rattle.pdl_vread.specs.Reads.{Reads}
@@ -48,23 +47,6 @@ parameters_rest c xs a r (further k l) t = parameters_rest c _ _ r l (parameter_
 whole_named : (p : Pipe) (a r : Row) → Text p a r → AreNamed a → (is_name p.name.name ≡ true) × HaveNames p.mems
 whole_named p a r (text params mems body start) t = (t.1.0 refl, memories_named _ _ _ _ mems (parameters_rest _ _ _ _ params t.1.1.1).1)
 
-each_named : (ms : List Mem) → HaveNames ms → AllByRecursion (λ (m : MemInfo). is_name m.name ≡ true) (map info_of ms)
-each_named [] h = tt
-each_named (m ∷ ms) h = (h.0, each_named ms h.1)
-
-pub names : (source : List ℕ) (p : Pipe) (n : Netlist) → IsText source p → Follows p n → HasNames n
-names source p n t f =
-    let h = whole_named p (tokens source) [] t.text (tokens_named 0 0 1 source) in
-    record {
-      netlist = ap is_name f.name ∙ h.0;
-      mems = All-from_recursion (λ (m : MemInfo). is_name m.name ≡ true) n.mems (subst (AllByRecursion (λ (m : MemInfo). is_name m.name ≡ true)) (sym f.mems) (each_named p.mems h.1));
-    }
-
-pub reads : (source : List ℕ) (p : Pipe) (n : Netlist) → IsText source p → Follows p n → IsCounted n → Reads (verilog n) n
-reads source p n t f few = round_trip n f.well_formed (names source p n t f) few
-
--- ---- the whole language
-
 -- a told memory has a name of PDL
 abbrev IsTold : MemInfo → Type 0
 IsTold m = is_name m.name ≡ true
@@ -81,13 +63,13 @@ both_named : (xs ys : List MemInfo) → AllByRecursion IsTold xs → AllByRecurs
 both_named [] ys h g = g
 both_named (x ∷ xs) ys h g = (h.0, both_named xs ys h.1 g)
 
-pub whole_names : (source : List ℕ) (p : Pipe) (n : Netlist) → IsText source p → whole.Follows p n → HasNames n
-whole_names source p n t f =
+pub names : (source : List ℕ) (p : Pipe) (n : Netlist) → IsText source p → Follows p n → HasNames n
+names source p n t f =
     let h = whole_named p (tokens source) [] t.text (tokens_named 0 0 1 source) in
     record {
       netlist = ap is_name f.name ∙ h.0;
       mems = All-from_recursion IsTold n.mems (subst (AllByRecursion IsTold) (sym f.mems) (both_named _ _ (some_named is_delayed p.mems h.1) (some_named is_comb p.mems h.1)));
     }
 
-pub whole_reads : (source : List ℕ) (p : Pipe) (n : Netlist) → IsText source p → whole.Follows p n → IsCounted n → Reads (verilog n) n
-whole_reads source p n t f few = round_trip n f.well_formed (whole_names source p n t f) few
+pub reads : (source : List ℕ) (p : Pipe) (n : Netlist) → IsText source p → Follows p n → IsCounted n → Reads (verilog n) n
+reads source p n t f few = round_trip n f.well_formed (names source p n t f) few

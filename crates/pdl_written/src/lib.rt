@@ -7,20 +7,15 @@ ghost use Rattle.std.specs.Prelude.{ℕ, List};
 ghost use Rattle.pdl_semantics.specs.Tree.{Pipe};
 ghost use Rattle.pdl_grammar.specs.Text.{IsText};
 ghost use Rattle.pdl_net.specs.declared.Netlist.{Netlist};
-ghost use Rattle.pdl_pipe_law.specs.Follows.{Follows};
-ghost use Rattle.pdl_follows.specs.Follows as whole;
+ghost use Rattle.pdl_follows.specs.Follows.{Follows};
 ghost use Rattle.pdl_vlog.specs.Layout.{verilog};
 ghost use Rattle.pdl_vread.specs.Reads.{Reads};
 ghost use Rattle.pdl_declared.specs.Names.{HasNames, IsCounted};
 
-/// A netlist that follows the pipe of a text, of the whole language too, has the text's names, which are names of PDL; so what is written of it reads as it, where its registers and cells are fewer than 2^64 each.
+/// A netlist that follows the pipe of a text has the text's names, which are names of PDL; so what is written of it reads as it, where its registers and cells are fewer than 2^64 each.
 pub fn sources_read_back()
     ensures names { (source : List ℕ) (p : Pipe) (n : Netlist) → IsText source p → Follows p n
         → HasNames n }
     ensures reads { (source : List ℕ) (p : Pipe) (n : Netlist) → IsText source p → Follows p n
         → IsCounted n → Reads (verilog n) n }
-    ensures whole_names { (source : List ℕ) (p : Pipe) (n : Netlist) → IsText source p
-        → whole.Follows p n → HasNames n }
-    ensures whole_reads { (source : List ℕ) (p : Pipe) (n : Netlist) → IsText source p
-        → whole.Follows p n → IsCounted n → Reads (verilog n) n }
 {}

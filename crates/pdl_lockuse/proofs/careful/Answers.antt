@@ -1,5 +1,9 @@
 use Rattle.pdl_lockuse.proofs.FromRules.{careful_source}
+use Rattle.pdl_lockuse.proofs.Tried.{tested}
 use Rattle.pdl_lockuse.proofs.careful.Goals as goal
 
-pub returns : goal.returns
-returns c = careful_source
+pub returns-clause-source : goal.returns-clause-source
+returns-clause-source c = careful_source
+
+pub returns-clause-tested : goal.returns-clause-tested
+returns-clause-tested c = tested

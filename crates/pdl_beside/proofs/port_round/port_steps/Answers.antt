@@ -1,11 +1,11 @@
-use Rattle.std.proofs.Common.{◌≡◌, ◌<◌, ◌∙◌, length, sym, ap, arith, subst}
+use Rattle.std.proofs.Common.{◌≡◌, ◌+◌, ◌<◌, ◌∙◌, length, sym, ap, arith, subst}
 use Rattle.std.proofs.lemmas.List.{length-map}
 use Rattle.pdl_form.specs.Whole.{form}
 use Rattle.pdl_form.specs.View.{mem_view}
 use Rattle.pdl_port.specs.Laws.{own as port_own}
 use Rattle.pdl_stagenets.proofs.Kept.{bits_keep}
 use Rattle.pdl_beside.specs.Parts.{own_at, ExtendsParts}
-use Rattle.pdl_beside.proofs.PartLists.{extends_more}
+use Rattle.pdl_beside.proofs.PartLists.{extends_more, parts_wider}
 use Rattle.pdl_beside.proofs.EndsKept.{ends_keep}
 use Rattle.pdl_beside.proofs.PortSteps.{ports_stand, stepped_more, all_stepped, no_arrays}
 use Rattle.pdl_beside.proofs.port_round.port_steps.Goals as goal
@@ -49,3 +49,13 @@ returns-clause-extends c =
     let count : length c.mems-m-end.result.now ≡ length f.pipe.mems = sym (length-map c.mems-m-end.result.now mem_view) ∙ ap length c.mems-m-end.ensures.mems in
     let n : c.loop-m.m ≡ length f.pipe.mems = omega (arith, c.loop-m-test.false, c.loop-m.auto.m-end, count) in
     subst (λ i. ExtendsParts (own_at port_own c.args.ports.now) i c.args.b.now c.loop-m.b) n c.loop-m.invariant.extends
+
+pub returns-in_err-memory_step-clause-extends : goal.returns-in_err-memory_step-clause-extends
+returns-in_err-memory_step-clause-extends c =
+    let f = form c.args.round.now.pipe.now in
+    let owns = own_at port_own c.args.ports.now in
+    let m = c.loop-m.m in
+    let count : length c.mems-m-end.result.now ≡ length f.pipe.mems = sym (length-map c.mems-m-end.result.now mem_view) ∙ ap length c.mems-m-end.ensures.mems in
+    let low : m < length f.pipe.mems = omega (arith, c.loop-m-test.true, count) in
+    parts_wider owns (m + 1) (length f.pipe.mems) c.args.b.now c.memory_step.new.b (omega (arith, low))
+    (extends_more owns m c.args.b.now c.loop-m.b c.memory_step.new.b (no_arrays c.args.ports.now m) c.loop-m.invariant.extends c.memory_step.ensures.extends)
