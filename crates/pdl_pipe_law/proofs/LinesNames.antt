@@ -1,18 +1,10 @@
 -- The names of the outputs of a compiled pipe.
-use Rattle.std.proofs.Common.{◌≡◌, ℕ, zero, suc, ◌+◌, ◌-◌, ◌<◌, ◌≤◌, if◌then◌else◌, List, ◌∷◌, ◌++◌, length, map, ◌∙◌, arith}
-use Rattle.pdl_semantics.specs.Tree.{Mem}
-use Rattle.pdl_semantics.specs.Flat.{Pipe}
-use Rattle.pdl_net.specs.declared.Netlist.{Netlist}
-use Rattle.pdl_net.specs.Circuit.{Output, circuit_of, outputs_of}
-use Rattle.pdl_pipe_law.specs.Declared.{locked_of}
-use Rattle.pdl_pipe_law.proofs.WellFormedPorts.{stage_names, commit_names}
+use Rattle.std.proofs.Common.{◌≡◌, ℕ, zero, suc, ◌+◌, ◌-◌, ◌<◌, ◌≤◌, if◌then◌else◌, List, ◌∷◌, ◌++◌, length, ◌∙◌, arith}
+use Rattle.pdl_net.specs.Circuit.{Output}
+use Rattle.pdl_pipe_law.proofs.WellFormedPorts.{stage_names}
 
 abbrev pub name_of_output : Output → List ℕ
 name_of_output o = o.name
-
--- the outputs of the netlist have the names of the ports of this pipe
-pub record HasNames (p : Pipe) (ms : List Mem) (n : Netlist) : Type 0 where
-  pub names : map name_of_output (outputs_of (circuit_of n)) ≡ stage_names 0 (length p.stages) (commit_names (locked_of ms))
 
 -- ---- how many
 

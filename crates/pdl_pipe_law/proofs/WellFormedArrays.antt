@@ -3,20 +3,18 @@ use Rattle.std.proofs.Common.{◌≡◌, ◌≢◌, ◌⊎◌, inl, inr, ℕ, ze
 use Rattle.std.specs.Option.{is_some}
 use Rattle.std.specs.List.{AllByRecursion}
 use Rattle.std.proofs.lemmas.Bool.{false≢true}
-use Rattle.std.proofs.lemmas.List.Elements.{All-from_recursion, recursion_from_All}
+use Rattle.std.proofs.lemmas.List.Elements.{All-from_recursion}
 use Rattle.pdl_kit.specs.declared.mem_info.MemInfo.{MemInfo}
 use Rattle.pdl_semantics.specs.Tree.{LockDecl, Mem}
 use Rattle.pdl_semantics.specs.Flat as flat
-use Rattle.pdl_rules.specs.Typed.{AreDistinct}
 use Rattle.pdl_net.specs.declared.Array.{Array}
 use Rattle.pdl_net.specs.declared.WritePort.{WritePort}
 use Rattle.pdl_net.specs.Circuit.{Circuit, Shape, shape_of}
 use Rattle.pdl_net.specs.Meaning.{write_signal}
-use Rattle.pdl_net.specs.Pipe.{PortMem, IsPipeArray, comb_info}
-use Rattle.pdl_lockapi.proofs.LockKinds.{once_or_twice}
+use Rattle.pdl_net.specs.Pipe.{PortMem, comb_info}
 use Rattle.pdl_pipe_law.specs.Declared.{port_mem, locked_of, has_lock, array_words, shape_of_mem}
-use Rattle.pdl_pipe_law.proofs.WellFormedNames.{Among, name_of_mem, among_one}
-use Rattle.pdl_pipe_law.proofs.WellFormedMems.{Reaches, IsAddressed}
+use Rattle.pdl_pipe_law.proofs.WellFormedNames.{Among, name_of_mem}
+use Rattle.pdl_pipe_law.proofs.WellFormedMems.{Reaches}
 use Rattle.pdl_rules.specs.Memories.{info_of}
 
 -- ---- names
@@ -99,38 +97,6 @@ locked_at P (x ∷ xs) m (inr a) e h = locked_at P xs m a e (go (is_some x.lock)
 pub shallow : (l : Option LockDecl) (d : ℕ) → is_some l ≡ false → array_words l d ≡ d
 shallow None d e = refl
 shallow (Some l) d e = absurd (false≢true (sym e))
-
--- an array of a memory is one of a pipe
-pub pipe_array : (ms : List Mem) (k : ℕ) (a : Array) (m : Mem) → AreDistinct ms → ((y : Mem) → Among y ms → Reaches y) → IsAddressed m → (is_some m.lock ≡ false → a.writes ≡ []) → IsArrayOf ms k a m → IsPipeArray [] (locked_of ms) a
-pipe_array ms k a m distinct reach size free h = record {
-  inside = λ j d l. absurd (omega arith);
-  width = locked_all (λ l. l.name ≡ a.name → a.width ≡ l.width) ms (λ y among e. width ∙ ap (λ (x : Mem). x.width.value) (sym (same y among e)));
-  depth = locked_all (λ l. l.name ≡ a.name → (a.depth ≡ 2 ^ l.bits) ⊎ (a.depth ≡ 2 * 2 ^ l.bits)) ms (λ y among e. deep m.lock (2 ^ (port_mem y).bits) (sym (reach y among ∙ ap (λ (x : Mem). x.depth.value) (same y among e))) depth);
-  unlocked = λ none. let e = lockless (is_some m.lock) refl none in (subst (λ n. n ≤ 65536) (sym (depth ∙ shallow m.lock m.depth.value e)) size.shallow, free e);
-}
-  where
-    name : a.name ≡ m.name.name
-    name = ap (λ (s : Shape). s.name) h.shape
-
-    width : a.width ≡ m.width.value
-    width = ap (λ (s : Shape). s.width) h.shape
-
-    depth : a.depth ≡ array_words m.lock m.depth.value
-    depth = ap (λ (s : Shape). s.depth) h.shape
-
-    deep : (l : Option LockDecl) (n : ℕ) → m.depth.value ≡ n → a.depth ≡ array_words l m.depth.value → (a.depth ≡ n) ⊎ (a.depth ≡ 2 * n)
-    deep None n e f = inl (f ∙ e)
-    deep (Some l) n e f = elim (once_or_twice l.kind m.depth.value) [
-      | inl g ↦ inl (f ∙ g ∙ e)
-      | inr g ↦ inr (f ∙ g ∙ ap (λ i. 2 * i) e)
-    ]
-
-    same : (y : Mem) → Among y ms → y.name.name ≡ a.name → y ≡ m
-    same y among e = among_one ms distinct y m among h.among (e ∙ name)
-
-    lockless : (b : Bool) → is_some m.lock ≡ b → All (λ l. l.name ≢ a.name) (locked_of ms) → is_some m.lock ≡ false
-    lockless true e none = absurd (locked_at (λ l. l.name ≢ a.name) ms m h.among e (recursion_from_All (λ l. l.name ≢ a.name) (locked_of ms) none) (sym name))
-    lockless false e none = e
 
 -- ---- memories as later steps are told them
 

@@ -102,11 +102,6 @@ last_heads = output (codes "ended") 1 ∷ output (codes "squash") 1 ∷ []
 
 -- ---- names
 
--- the names of the ports after those of the stages, by the names of the locked memories
-abbrev pub commit_names : List PortMem → List (List ℕ)
-commit_names [] = codes "ended" ∷ codes "squash" ∷ []
-commit_names (l ∷ ls) = (codes "c_" ++ l.name) ∷ (codes "ca_" ++ l.name) ∷ (codes "cd_" ++ l.name) ∷ commit_names ls
-
 -- the name of a port
 abbrev pub name_of_head : Head → List ℕ
 name_of_head h = h.name
