@@ -16,7 +16,7 @@ use Rattle.pdl_lockapi.specs.Forget.{as_lock}
 use Rattle.pdl_pipe_law.specs.Walk.{Walk, is_locked, zero_bit}
 use Rattle.pdl_pipe_law.specs.Views.{View, Gates}
 use Rattle.pdl_pipe_law.specs.Ports.{Commit, step_of}
-use Rattle.pdl_pipe_law.specs.Compiled.{HasLock, GoesOn}
+use Rattle.pdl_pipe_law.specs.Compiled.{GoesOn}
 use Rattle.pdl_pipe_law.specs.Places.{comb_place}
 use Rattle.pdl_stagenets.specs.declared.locks.MemLock.{MemLock}
 use Rattle.pdl_stagenets.specs.Locked.{Members, some_at, of_lock, kind_in, locks_in, AreLocked}
@@ -26,7 +26,7 @@ use Rattle.pdl_locknets.specs.Deeds.{views_in, moves_in, steps_in, AreOf, AreGat
 use Rattle.pdl_locknets.specs.Stepped.{own_of, IsSteppedMemory, AreStepped, ExtendsLocks, commit_of, commits_in}
 use Rattle.pdl_locknets.proofs.PortStages.{same_reserves, same_puts, same_released}
 use Rattle.pdl_locknets.proofs.LocksKept.{Stays, laws_kept, locked_kept, regs_end}
-use Rattle.pdl_locknets.proofs.Places.{place_below, some_place, own_place, outside_place, image_place}
+use Rattle.pdl_locknets.proofs.Places.{place_below, own_place, outside_place, image_place}
 use Rattle.pdl_locknets.proofs.LockSteps.{stepped_kept}
 
 -- the stages of a netlist do to a lock what their nets do
@@ -124,24 +124,6 @@ module _ {T : Type 0} (l : Members T) (stays : Stays l) (p : Pipe) (xs : List (O
   deep h once =
       let (x, e) = some_of (some_at xs m) (locked.locked m low ∙ h) in
       (laws_kept l a c p xs whole locked lawful).deep m x low once e ∙ ap (λ k. words_of k (mem_at p m).depth) (ap (kind_in l) (sym e))
-
-  -- the lock of a memory that answers at once, with its array
-  pub has_lock : is_locked p m ≡ true → (mem_at p m).delayed ≡ false → HasLock p (locks_in l p a xs) c vs gates goes (own_of (some_at xs m)) (commits_in c ns m) m
-  has_lock h once =
-      let (x, e) = some_of (some_at xs m) (locked.locked m low ∙ h) in
-      let on = goes_on h in
-      let array = some_place (mem_at p m) (comb_place p m) x.regs.array (locked.locks m x low e).array once in
-      record {
-        kind = on.kind;
-        regs = on.regs;
-        first = ap (λ (o : Own). o.first) (ap own_of e) ∙ ap first_array array;
-        last = ap (λ (o : Own). o.last) (ap own_of e) ∙ ap end_array array;
-        deep = deep h once;
-        starts = λ t image reset long words. starts h t image reset long (λ u. words);
-        room = on.room;
-        ticket = on.ticket;
-        step = on.step;
-      }
 
   -- its step in the whole netlist, by what the netlist's stages do
   pub stepped_here : IsSteppedMemory l c (mem_at p m) (step_of p vs gates goes m) (some_at xs m) (some_at ns m)

@@ -47,15 +47,6 @@ place_below p m n l h once =
     let after = place_grows p (m + 1) k (omega (arith, e, h)) in
     subst (λ j. comb_place p m < comb_place p j) e (omega (arith, here, after))
 
--- where no memory is delayed an array has the number of its memory
-pub place_all : (p : Pipe) → ((m : ℕ) → m < length p.mems → (mem_at p m).delayed ≡ false) → (m : ℕ) → m ≤ length p.mems → comb_place p m ≡ m
-place_all p h zero l = refl
-place_all p h (suc m) l =
-    let before = place_all p h m (omega (arith, l)) in
-    let more = place_comb p m (omega (arith, l)) (h m (omega (arith, l))) in
-    let e : m + 1 ≡ suc m = omega arith in
-    subst (λ n. comb_place p n ≡ suc m) e (omega (arith, before, more))
-
 -- ---- the array of a lock
 
 module _ (mem : Mem) (i : ℕ) (o : Option ℕ) (is : o ≡ array_of mem i) where
