@@ -1,6 +1,6 @@
 #!/usr/bin/env bash
 # Times `check` of a program `pdl`, which is given, on sources that ask most of it; prints each answer with its seconds.
-# The last source has 256 MiB; its memory is measured too where GNU time is there.
+# The last source has 256 MiB; its memory is measured too where GNU time is there. docs/measured.md has the figures.
 set -u
 program=$(realpath "$1") || exit 1
 folder=$(mktemp -d) || exit 1

@@ -6,7 +6,7 @@
 To be run at the top of a clone, on a machine with nothing else to do. It runs `rt ci` from nothing, looks once a second at
 the provers that this starts, and adds up the processor seconds of each crate: of its proof, of that of its tests, and
 of its edits with the checks that these begin and end with. With --sizes nothing is proved: the lines and edits are
-counted anew, and the seconds stay as they stand in the table.
+counted anew, and the seconds stay as they stand in the table. docs/measured.md has the time of the whole.
 """
 
 import os

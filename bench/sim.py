@@ -8,6 +8,7 @@ load/store machine of five stages with a bypass lock, one of 64 stages, and one 
 read and written in each thread; then each SOURCE, with the words of its IMAGE. All three have to end as many threads.
 The start of a program is measured by a run of no cycle, and taken off. A time is that of a processor, the least of
 five runs, and the instructions of `pdl sim` are counted by `valgrind`, over fewer cycles.
+docs/measured.md has the figures.
 """
 
 import pathlib
