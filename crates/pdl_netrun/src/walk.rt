@@ -1,7 +1,7 @@
 // The walk of a cycle: runs of cells of one kind, one after another, each cell's value going to the next place.
 
 ghost use Rattle.std.specs.Prelude.{◌≡◌, ◌+◌, ◌<◌, ◌≤◌, length, map, slice_index};
-ghost use Rattle.pdl_netrun.specs.Steps.{KindFits, StepsFit, AreBelow, steps_with, steps_of, after_kind, after_steps, array_words};
+ghost use Rattle.pdl_netrun.specs.Steps.{StepsFit, AreBelow, steps_with, steps_of, after_steps, array_words};
 
 use crate::operation::{Kind, Operands, Operation};
 use crate::operations::{
@@ -16,23 +16,7 @@ pub struct CellRun {
     pub operands: Vec<Operands>,
 }
 
-// Gives a cell its value, which goes to a place.
-fn put_value<K: Operation>(
-    operands: &Operands,
-    place: usize,
-    arrays: &[Vec<u64>],
-    values: &mut [u64],
-)
-    requires room { place < length values.old }
-    requires fit { KindFits K.kind operands.now values.old (array_words arrays.now) }
-    ensures { values.new ≡ after_kind K.kind operands.now place values.old (array_words arrays.now) }
-{
-    values[place] = K::value(operands, values, arrays);
-}
-
 /// Gives cells of one kind their values, the first of which goes to a place and the others to those after it.
-///
-/// Two cells a turn, since the loop's own instructions are a fifth of what a cell takes.
 #[tactic(auto, using(crate::proofs::Steps::walks))]
 fn walk<K: Operation>(operands: &[Operands], first: usize, arrays: &[Vec<u64>], values: &mut [u64])
     requires room { first + length operands.now ≤ length values.old }
@@ -41,14 +25,8 @@ fn walk<K: Operation>(operands: &[Operands], first: usize, arrays: &[Vec<u64>], 
     ensures { values.new ≡ after_steps (steps_with K.kind operands.now) first values.old
         (array_words arrays.now) }
 {
-    let mut k = 0;
-    while operands.len() - k > 1 {
-        put_value::<K>(&operands[k], first + k, arrays, values);
-        put_value::<K>(&operands[k + 1], first + (k + 1), arrays, values);
-        k += 2;
-    }
-    if k < operands.len() {
-        put_value::<K>(&operands[k], first + k, arrays, values);
+    for k in 0..operands.len() {
+        values[first + k] = K::value(&operands[k], values, arrays);
     }
 }
 

@@ -1,4 +1,4 @@
-use Rattle.std.proofs.Common.{◌≡◌, ◌+◌, ◌-◌, ◌≤◌, drop, length}
+use Rattle.std.proofs.Common.{◌≡◌, ◌+◌, drop, length}
 use Rattle.pdl_netrun.specs.Steps.{StepsFit, steps_with, after_steps, array_words}
 use Rattle.pdl_netrun.proofs.walk.walk.Given as goal
 
@@ -6,9 +6,5 @@ abbrev pub invariant-loop-k : goal.invariant-loop-k
 invariant-loop-k g l = record {
   rest : after_steps (steps_with g.K.Operation.kind (drop l.k l.operands)) (l.first + l.k) l.values (array_words l.arrays) ≡ after_steps (steps_with g.K.Operation.kind l.operands) l.first l.initial.values (array_words l.arrays);
   fit : StepsFit (steps_with g.K.Operation.kind (drop l.k l.operands)) (l.first + l.k) l.values (array_words l.arrays);
-  within : l.k ≤ length l.operands;
   count : length l.values ≡ length l.initial.values;
 }
-
-abbrev pub decreases-loop-k : goal.decreases-loop-k
-decreases-loop-k g l = length l.operands - l.k
